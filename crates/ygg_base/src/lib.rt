@@ -1,0 +1,20 @@
+//! What every crate of the verifier stands on: texts, tokens, refusals, and the outside (files and
+//! output) with implementations in memory.
+#![tactic(auto)]
+
+mod failure;
+mod lists;
+mod outside;
+mod shelf;
+mod sink;
+mod status;
+mod token;
+
+pub use failure::{Refusal, Refuse};
+pub use lists::{Bits, Files, Held, Numbers, Text};
+pub use outside::{Fetch, Library, Moved, Sink};
+pub use shelf::Shelf;
+pub use sink::TextSink;
+pub use status::{Status, status_number};
+pub use token::{Keyword, Mark, Symbol, Token};
+pub use ygg_list::{Duplicate, NoMemory, Sequence};

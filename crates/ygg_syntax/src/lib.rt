@@ -1,0 +1,4 @@
+//! The trees of layer files.
+#![tactic(auto)]
+
+pub mod flag;
