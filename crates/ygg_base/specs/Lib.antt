@@ -1,2 +1,4 @@
+pub mod Lexing
 pub mod Outside
+pub mod Spelling
 pub mod Status
