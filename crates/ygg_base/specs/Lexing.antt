@@ -58,10 +58,10 @@ abbrev pub has_leading_zero : List ℕ → Bool
 has_leading_zero [] = false
 has_leading_zero (digit ∷ digits) = digit == 48 && not (is_empty digits)
 
--- the number of these digits: without a leading zero, and below 2 ^ 64
-abbrev pub number_of : List ℕ → Option Mark
+-- the number of these digits, which has no leading zero and is below 2 ^ 64
+abbrev pub number_of : List ℕ → Option ℕ
 number_of digits =
-    if not (has_leading_zero digits) && nat_lt (value_after 0 digits) (2 ^ 64) then Some (mark.Num (value_after 0 digits)) else None
+    if not (has_leading_zero digits) && nat_lt (value_after 0 digits) (2 ^ 64) then Some (value_after 0 digits) else None
 
 -- the keyword of these bytes, or else their name
 abbrev pub word_of : List ℕ → Mark
@@ -82,7 +82,7 @@ abbrev pub recognized : List ℕ → Option Mark
 recognized [] = None
 recognized (first ∷ others) =
     if is_lower first then Some (word_of (first ∷ others))
-    else if is_digit first then number_of (first ∷ others)
+    else if is_digit first then option_map (λ number. mark.Num number) (number_of (first ∷ others))
     else option_map (λ symbol. mark.Symbol symbol) (symbol_of (first ∷ others))
 
 -- tokens with the end of the text, or a refusal

@@ -1,0 +1,9 @@
+//! The tokens of a text of the layer language.
+#![tactic(auto)]
+
+mod recognize;
+mod scanner;
+mod spelling;
+
+pub use scanner::tokens;
+pub use spelling::Spelled;
