@@ -1,11 +1,11 @@
 -- What one byte and the end of a token do.
-use Rattle.std.proofs.Common.{◌≡◌, ◌≢◌, ℕ, ◌+◌, ◌-◌, ◌<◌, ◌≤◌, Bool, true, false, List, [], ◌∷◌, ◌++◌, length, get_or, drop, slice_range, if◌then◌else◌, Option, Some, None, Ok, Err, refl, ap, sym, ◌∙◌, append_assoc, arith}
+use Rattle.std.proofs.Common.{◌≡◌, ◌≢◌, ℕ, ◌+◌, ◌-◌, ◌<◌, ◌≤◌, Bool, true, false, List, [], ◌∷◌, ◌++◌, length, get_or, drop, slice_range, if◌then◌else◌, Some, Ok, Err, refl, ap, sym, ◌∙◌, append_assoc, arith}
 use Rattle.std.proofs.lemmas.Bool.Decides.{nat_tests}
 use Rattle.std.proofs.lemmas.List.{drop_more}
 use Rattle.std.proofs.lemmas.List.Edits.{between_more}
 use Rattle.ygg_base.specs.declared.token.Token.{Token}
 use Rattle.ygg_base.specs.declared.token.Mark.{Mark}
-use Rattle.ygg_base.specs.Lexing.{Lexed, after_these, token_before, closed, recognized, refused, is_past_ascii, is_blank, extends, begin, line_after, column_after, lex}
+use Rattle.ygg_base.specs.Lexing.{Lexed, after_these, token_before, closed, recognized, is_past_ascii, is_blank, extends, begin, line_after, column_after, lex}
 
 pub after_both : (these those : List Token) (others : Lexed) → after_these these (after_these those others) ≡ after_these (these ++ those) others
 after_both these those (Ok others) = ap (λ (items : List Token). Ok (record others { items = items })) (sym (append_assoc these those others.items))

@@ -1,10 +1,7 @@
 -- Which bytes are symbols.
-use Rattle.std.proofs.Common.{◌≡◌, ◌≢◌, ℕ, ◌+◌, ◌<◌, ◌≤◌, Bool, true, false, not, ◌||◌, ◌&&◌, ◌==◌, is_some, List, [], ◌∷◌, ◌++◌, length, Option, Some, None, arith, refl, ap, sym, ◌∙◌}
+use Rattle.std.proofs.Common.{◌≡◌, ◌≢◌, ℕ, ◌<◌, Bool, false, ◌||◌, ◌&&◌, ◌==◌, is_some, List, [], ◌∷◌, ◌++◌, length, None, arith}
 use Rattle.std.proofs.Math.Bool.{and-false}
 use Rattle.std.proofs.lemmas.Bool.Decides.{nat_tests}
-use Rattle.ygg_base.specs.declared.token.Symbol.{Symbol}
-use Rattle.ygg_base.specs.declared.token.Symbol.TheVariants as symbol
-use Rattle.ygg_base.specs.Spelling.{symbol_bytes}
 use Rattle.ygg_base.specs.Lexing.{is_lower, is_digit, symbol_of, extends}
 
 -- whether the two bytes are a symbol, by the second

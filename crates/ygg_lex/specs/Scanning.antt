@@ -1,5 +1,5 @@
 -- What a scanner within a text still gives.
-use Rattle.std.specs.Prelude.{◌≡◌, ℕ, ◌+◌, ◌≤◌, List, slice_range, drop}
+use Rattle.std.specs.Prelude.{ℕ, ◌+◌, ◌≤◌, List, slice_range, drop}
 use Rattle.ygg_base.specs.Lexing.{Lexed, lex, after_these}
 use Rattle.ygg_lex.specs.declared.scanner.Scanner.{Scanner}
 

@@ -4,6 +4,8 @@
 mod recognize;
 mod scanner;
 mod spelling;
+#[cfg(test)]
+mod tests;
 
 pub use scanner::tokens;
 pub use spelling::Spelled;

@@ -1,4 +1,4 @@
-use Rattle.std.proofs.Common.{◌≡◌, refl, ap, sym, ◌∙◌}
+use Rattle.std.proofs.Common.{refl, ap, sym, ◌∙◌}
 use Rattle.ygg_base.specs.Lexing.{after_these}
 use Rattle.ygg_lex.proofs.Steps.{longer, ends}
 use Rattle.ygg_lex.proofs.scanner.Scanner.read.Goals as goal
