@@ -1,0 +1,4 @@
+pub mod Marks
+pub mod Refused
+pub mod Taking
+pub mod Unambiguous
