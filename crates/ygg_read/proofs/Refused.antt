@@ -1,5 +1,6 @@
 -- What doesn't begin with an expression.
 use Rattle.std.proofs.Common.{◌≡◌, ℕ, Bool, true, false, List, [], ◌∷◌, ◌++◌, Result, Ok, Err, codes, refl, sym, ap, ◌∙◌, subst, append_assoc, arith, IfErr}
+use Rattle.std.specs.Result.{IsErrAnd}
 use Rattle.ygg_base.specs.declared.token.Keyword.TheVariants as word
 use Rattle.ygg_base.specs.declared.token.Symbol.TheVariants as sign
 use Rattle.ygg_base.specs.declared.token.Mark.{Mark}
@@ -55,3 +56,8 @@ equality_refused a from now read no_right e rest h =
 pub refused_weaker : {T P Q : Type 0} (result : Result T Unread) → (P → Q) → IfErr result (λ unread. IfNotBuilt unread P) → IfErr result (λ unread. IfNotBuilt unread Q)
 refused_weaker (Ok x) f h = tt
 refused_weaker (Err unread) f h = not_built_weaker unread f h
+
+-- the same at the exit of a `?`
+pub passed_on : {T P Q : Type 0} (result : Result T Unread) (unread : Unread) → IsErrAnd result (λ u. u ≡ unread) → (P → Q) → IfNotBuilt unread P → IfErr result (λ u. IfNotBuilt u Q)
+passed_on (Ok x) unread h f p = tt
+passed_on (Err u) unread h f p = rw h (not_built_weaker unread f p)

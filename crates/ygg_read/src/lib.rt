@@ -3,6 +3,7 @@
 #![tactic(auto)]
 
 mod expected;
+mod file;
 mod formula;
 mod reader;
 mod unread;
