@@ -1,0 +1,2 @@
+pub mod FlagGrammar
+pub mod FlagNames

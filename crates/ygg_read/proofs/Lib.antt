@@ -1,0 +1,6 @@
+pub mod Files
+pub mod Marks
+pub mod Refused
+pub mod Taking
+pub mod Unambiguous
+pub mod Writing

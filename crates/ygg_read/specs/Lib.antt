@@ -1,0 +1,3 @@
+pub mod Expecting
+pub mod Parts
+pub mod Refusing
