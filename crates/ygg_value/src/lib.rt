@@ -10,3 +10,6 @@ pub use operation::Op;
 pub use row::{Row, Table, Value};
 pub use shape::Shape;
 pub use word::Word;
+
+/// No memory was left.
+pub use ygg_list::NoMemory as NoRoom;

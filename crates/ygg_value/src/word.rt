@@ -89,7 +89,7 @@ pub fn apply(op: Op, a: Word, b: Word) -> Word
         Op::Le => digit(a.bits <= b.bits),
         Op::Gt => digit(a.bits > b.bits),
         Op::Ge => digit(a.bits >= b.bits),
-        Op::Imp => digit(a.bits <= b.bits),
+        Op::Imp => digit(a.bits == 0 || b.bits == 1),
     }
 }
 
