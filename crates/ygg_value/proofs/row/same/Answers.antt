@@ -1,5 +1,5 @@
 use Rattle.std.proofs.lemmas.Bool.Decides.{same_from_decides, Decides-like}
-use Rattle.ygg_value.proofs.Same.{same_value-iff}
+use Rattle.ygg_value.proofs.Equality.{same_value-iff}
 use Rattle.ygg_value.specs.declared.row.Value.TheVariants.{Table}
 use Rattle.ygg_value.proofs.row.same.Goals as goal
 
