@@ -1,0 +1,4 @@
+//! The syntax of layer files.
+#![tactic(auto)]
+
+pub mod tree;
