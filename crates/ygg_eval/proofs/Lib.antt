@@ -1,1 +1,4 @@
 pub mod Extends
+pub mod Uses
+pub mod Exact
+pub mod Finishing
