@@ -2,3 +2,4 @@ pub mod Extends
 pub mod Uses
 pub mod Exact
 pub mod Finishing
+pub mod Listed

@@ -4,3 +4,4 @@ pub mod Search
 pub mod Totals
 pub mod Refined
 pub mod Composed
+pub mod Listed

@@ -218,7 +218,7 @@ module _ (M N : Machine) (R : State → State → Type 0) (U : Under M N R) wher
           fails = h.fails;
           to = y.to;
           woken = lift h.woken.0 h.fallen lower y.to h.woken.1 (λ g q wakes.
-              (y.fallen ∷ y.woken.0, (q ++ all, inr (record { lower = lower; first = q; second = all; wakes = wakes; next = broken; takes = refl }), y.woken.1)));
+              (y.fallen ∷ y.woken.0, (q ++ all, inr (record { lower = lower; first = q; second = all; wakes = wakes; next = broken; takes = refl {a = q ++ all} }), y.woken.1)));
           related = y.related;
         }
 

@@ -1,11 +1,11 @@
 -- What can have happened to a machine since it was formatted.
 use Rattle.std.specs.Prelude.{◌≡◌, List, [], ◌∷◌}
 use Rattle.ygg_value.specs.declared.row.Value.{Value}
-use Rattle.ygg_syntax.specs.declared.tree.DiskText.{DiskText}
+use Rattle.ygg_syntax.specs.declared.tree.File.{File}
 use Rattle.ygg_eval.specs.Environments.{Name, Env}
 use Rattle.ygg_eval.specs.Progress.{Answer}
 use Rattle.ygg_eval.specs.Machine.{Picks, State, based, TickName, Machine}
-use Rattle.ygg_machine.specs.Stack.{Layers, Top, Linked}
+use Rattle.ygg_machine.specs.Stack.{Linked, TopOf, layers_of}
 use Rattle.ygg_machine.specs.Under.{InCall, InTick, Between, Survives}
 
 -- one thing that has happened; after power has failed the machine was woken
@@ -38,6 +38,6 @@ Goes M s (e ∷ es) s' = (next : State) × Step M e s next × Goes M next es s'
 abbrev pub History : Machine → List Entry → State → Type 0
 History M es s = (start : State) × (picks : Picks) × M.Starts start picks × Goes M start es s
 
--- the topmost specification has this history too, and each layer's relation holds of the state reached
-abbrev pub Allows : DiskText → Layers → List Entry → State → Type 0
-Allows disk layers es s = (vars : Env) × History (Top disk layers) es (based vars) × Linked layers vars s
+-- the topmost specification of a file has this history too, and each layer's relation holds of the state reached
+abbrev pub Allows : File → List Entry → State → Type 0
+Allows f es s = (vars : Env) × History (TopOf f) es (based vars) × Linked (layers_of f) vars s

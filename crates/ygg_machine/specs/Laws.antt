@@ -1,5 +1,5 @@
 -- The laws of layers on layers.
-use Rattle.std.specs.Prelude.{◌≡◌, List, [], ◌∷◌}
+use Rattle.std.specs.Prelude.{◌≡◌, ◌↔◌, All, List, [], ◌∷◌}
 use Rattle.ygg_value.specs.declared.row.Value.{Value}
 use Rattle.ygg_syntax.specs.declared.tree.DiskText.{DiskText}
 use Rattle.ygg_syntax.specs.declared.tree.File.{File}
@@ -10,7 +10,8 @@ use Rattle.ygg_eval.specs.Machine.{Picks, State, Fallen, based, on, Machine}
 use Rattle.ygg_eval.specs.Runs.{WholeCall, Reaches, answers_of}
 use Rattle.ygg_eval.specs.Layer.{ClosedLayer, Layered, asked_by}
 use Rattle.ygg_eval.specs.Refines.{Below, machine_below}
-use Rattle.ygg_machine.specs.Stack.{Layers, Bottom, Top, Linked, AllRefine, below_of, layers_of}
+use Rattle.ygg_machine.specs.Stack.{Layers, Bottom, Top, BottomOf, Linked, AllRefine, FileRefines, below_of, layers_of}
+use Rattle.ygg_machine.specs.Claims.{ClaimHolds, claims_of}
 use Rattle.ygg_machine.specs.Under.{Under, Failure, FailsBy}
 use Rattle.ygg_machine.specs.History.{Entry, History, Allows}
 
@@ -63,8 +64,15 @@ Compose =
     (disk : DiskText) (layers : Layers) → AllRefine disk layers → AllAnswered disk layers →
     Under (Bottom disk layers) (Top disk layers) (ByLinks layers)
 
+-- the same of each layer of a file
+abbrev pub FileAnswered : File → Type 0
+FileAnswered f = AllAnswered f.disk (layers_of f)
+
 -- where each layer of a file refines its specification, the topmost specification allows every history of the bottom implementation
 abbrev pub Histories : Type 0
 Histories =
-    (f : File) → AllRefine f.disk (layers_of f) → AllAnswered f.disk (layers_of f) → (es : List Entry) (s : State) →
-    History (Bottom f.disk (layers_of f)) es s → Allows f.disk (layers_of f) es s
+    (f : File) → FileRefines f → FileAnswered f → (es : List Entry) (s : State) → History (BottomOf f) es s → Allows f es s
+
+-- each layer of a file refines its specification exactly where each obligation in the file's list holds
+abbrev pub RefinesByList : Type 0
+RefinesByList = (f : File) → All ClaimHolds (claims_of f) ↔ FileRefines f

@@ -1,6 +1,6 @@
 //! What holds of the layers of every file.
 
-ghost use Rattle.ygg_machine.specs.Laws.{Monotone, Compose, Histories};
+ghost use Rattle.ygg_machine.specs.Laws.{Monotone, Compose, Histories, RefinesByList};
 
 /// A better machine below gives a better layer.
 pub fn monotone()
@@ -17,4 +17,9 @@ pub fn compose()
 /// same places, and each layer's relation holds of the state reached.
 pub fn history()
     ensures { Histories }
+{}
+
+/// Each layer of a file refines its specification exactly where each obligation in the file's list holds.
+pub fn refines_by_list()
+    ensures { RefinesByList }
 {}
