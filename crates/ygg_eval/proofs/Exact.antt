@@ -9,7 +9,7 @@ use Rattle.ygg_eval.specs.Progress.{Run, Answer, Point, Waits, Goes, in_turn, ru
 use Rattle.ygg_eval.specs.Machine.{Picks}
 use Rattle.ygg_eval.specs.Layer.{ClosedLayer, eval_of}
 use Rattle.ygg_eval.specs.Shapes.{zeros_of}
-use Rattle.ygg_eval.specs.Spec.{Outcome, told, outcome_at, block_outcome, then_block, call_outcome, fall_outcome, fall_with, crash_outcome, start_outcome}
+use Rattle.ygg_eval.specs.Spec.{Outcome, chosen, outcome_at, block_outcome, then_block, call_outcome, fall_outcome, fall_with, crash_outcome, start_outcome}
 use Rattle.ygg_eval.proofs.Uses.{Good, statements_good}
 
 abbrev pub Step : Type 0
@@ -95,26 +95,26 @@ abbrev rest_of : List Answer → List Answer
 rest_of [] = []
 rest_of (a ∷ rest) = rest
 
--- what is told is told of some picks
-told_front : (front left : List Answer) (picks : Picks) → told picks ≡ front ++ left → (before : Picks) × (front ≡ told before)
-told_front [] left picks h = ([], refl)
-told_front (a ∷ front) left [] h = absurd (cc)
-told_front (a ∷ front) left (p ∷ picks) h =
-    let (before, e) = told_front front left picks (ap rest_of h) in
+-- what is chosen is chosen of some picks
+chosen_front : (front left : List Answer) (picks : Picks) → chosen picks ≡ front ++ left → (before : Picks) × (front ≡ chosen before)
+chosen_front [] left picks h = ([], refl)
+chosen_front (a ∷ front) left [] h = absurd (cc)
+chosen_front (a ∷ front) left (p ∷ picks) h =
+    let (before, e) = chosen_front front left picks (ap rest_of h) in
     (p ∷ before, ap (λ x. x ∷ front) (sym (ap (first_of None) h)) ∙ ap (λ r. Some (digit p) ∷ r) e)
 
-pub exact_picks : (F : Step) → Exact F → (picks : Picks) (o : Outcome) → F (told picks) ≡ Some o → (before : Picks) × (F (told before) ≡ Some (record o { left = [] }))
+pub exact_picks : (F : Step) → Exact F → (picks : Picks) (o : Outcome) → F (chosen picks) ≡ Some o → (before : Picks) × (F (chosen before) ≡ Some (record o { left = [] }))
 exact_picks F exact picks o h =
-    let u = exact.uses (told picks) o h in
-    let (before, e) = told_front u.front o.left picks u.is in
+    let u = exact.uses (chosen picks) o h in
+    let (before, e) = chosen_front u.front o.left picks u.is in
     (before, ap F (sym e) ∙ u.gives)
 
-pub call_picks_exact : (L : ClosedLayer) (op : Operation) (vars : Env) (args : List Value) (picks : Picks) (o : Outcome) → call_outcome L op vars args (told picks) ≡ Some o →
-    (before : Picks) × (call_outcome L op vars args (told before) ≡ Some (record o { left = [] }))
+pub call_picks_exact : (L : ClosedLayer) (op : Operation) (vars : Env) (args : List Value) (picks : Picks) (o : Outcome) → call_outcome L op vars args (chosen picks) ≡ Some o →
+    (before : Picks) × (call_outcome L op vars args (chosen before) ≡ Some (record o { left = [] }))
 call_picks_exact L op vars args picks o h = exact_picks (call_outcome L op vars args) (block_exact L op.spec vars (bind op.arguments args)) picks o h
 
-pub crash_picks_exact : (L : ClosedLayer) (vars : Env) (picks : Picks) (o : Outcome) → crash_outcome L vars (told picks) ≡ Some o →
-    (before : Picks) × (crash_outcome L vars (told before) ≡ Some (record o { left = [] }))
+pub crash_picks_exact : (L : ClosedLayer) (vars : Env) (picks : Picks) (o : Outcome) → crash_outcome L vars (chosen picks) ≡ Some o →
+    (before : Picks) × (crash_outcome L vars (chosen before) ≡ Some (record o { left = [] }))
 crash_picks_exact L vars picks o h = exact_picks (crash_outcome L vars) (block_exact L L.layer.crash vars []) picks o h
 
 pub fall_picks_exact : (L : ClosedLayer) (op : Operation) (vars : Env) (args : List Value) (picks : Picks) (o : Outcome) → fall_outcome L op vars args picks ≡ Some o →

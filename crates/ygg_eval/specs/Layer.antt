@@ -43,8 +43,8 @@ abbrev pub tick_of : ClosedLayer → Name → Option Tick
 tick_of L = tick_in L.layer.ticks
 
 -- a block of the layer over variables and arguments
-abbrev pub asked_by : ClosedLayer → Block → Env → Env → Dialogue
-asked_by L b vars args = after (eval_of L) b (vars ++ args)
+abbrev pub dialogue_of : ClosedLayer → Block → Env → Env → Dialogue
+dialogue_of L b vars args = after (eval_of L) b (vars ++ args)
 
 -- a whole run of a block of the layer, over its memory and the machine below
 pub record BlockRuns (L : ClosedLayer) (M : Machine) (b : Block) (args : Env) (from : State) (picks : Picks) (answer : Answer) (to : State) : Type 0 where
@@ -53,7 +53,7 @@ pub record BlockRuns (L : ClosedLayer) (M : Machine) (b : Block) (args : Env) (f
   pub from_is : from ≡ on memory lower
   pub env' : Env
   pub lower' : State
-  pub run : WholeRun M (asked_by L b memory args) lower picks env' answer lower'
+  pub run : WholeRun M (dialogue_of L b memory args) lower picks env' answer lower'
   pub to_is : to ≡ on (take (length memory) env') lower'
 
 -- a run of a block of the layer up to some point, where power fails
@@ -61,7 +61,7 @@ pub record BlockFalls (L : ClosedLayer) (M : Machine) (b : Block) (args : Env) (
   pub memory : Env
   pub lower : State
   pub from_is : from ≡ on memory lower
-  pub run : FallenRun M (asked_by L b memory args) lower picks fallen
+  pub run : FallenRun M (dialogue_of L b memory args) lower picks fallen
 
 -- a step of an operation that the layer has, with arguments of the declared shapes
 pub record OfOperation (L : ClosedLayer) (name : Name) (args : List Value) (Step : Operation → Type 0) : Type 0 where

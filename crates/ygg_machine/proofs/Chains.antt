@@ -2,7 +2,7 @@
 use Rattle.std.proofs.Common.{List, [], ◌∷◌, refl, subst}
 use Rattle.ygg_eval.specs.Machine.{State, Machine}
 use Rattle.ygg_machine.specs.Under.{Under, InCall, InTick, Between}
-use Rattle.ygg_machine.specs.History.{Entry, Called, Cut, Ticked, CutTick, Lost, Step, Goes, History}
+use Rattle.ygg_machine.specs.History.{Entry, Called, Cut, Ticked, CutTick, Lost, Step, Steps, History}
 
 module _ (M N : Machine) (R : State → State → Type 0) (U : Under M N R) where
   step_under : (e : Entry) (t s s' : State) → R t s → Step M e s s' → (t' : State) × Step N e t t' × R t' s'
@@ -14,7 +14,7 @@ module _ (M N : Machine) (R : State → State → Type 0) (U : Under M N R) wher
   step_under (CutTick name) t s s' r h = U.survives t s s' (InTick name) r h
   step_under Lost t s s' r h = U.survives t s s' Between r h
 
-  goes_under : (es : List Entry) (t s s' : State) → R t s → Goes M s es s' → (t' : State) × Goes N t es t' × R t' s'
+  goes_under : (es : List Entry) (t s s' : State) → R t s → Steps M s es s' → (t' : State) × Steps N t es t' × R t' s'
   goes_under [] t s s' r h = (t, refl, subst (λ x. R t x) h r)
   goes_under (e ∷ es) t s s' r (next, h, rest) =
       let (t1, h', r1) = step_under e t s next r h in

@@ -5,7 +5,7 @@ use Rattle.ygg_eval.specs.Environments.{Env, bind}
 use Rattle.ygg_eval.specs.Progress.{Answer}
 use Rattle.ygg_eval.specs.Machine.{Picks, State, Fallen, on, TickName, Machine}
 use Rattle.ygg_eval.specs.Runs.{Dialogue, WholeCall, answers_of, picks_of, Reaches, WholeRun, FallsAt, FallenRun}
-use Rattle.ygg_eval.specs.Layer.{ClosedLayer, asked_by, BlockRuns, BlockFalls, FallsBelow, Layered}
+use Rattle.ygg_eval.specs.Layer.{ClosedLayer, dialogue_of, BlockRuns, BlockFalls, FallsBelow, Layered}
 use Rattle.ygg_eval.specs.Shapes.{zeros_of}
 use Rattle.ygg_machine.specs.Under.{Under, Failure, InCall, InTick, Between, FailsBy, WakesAfter, Woken, Survives}
 use Rattle.ygg_machine.specs.Laws.{OnTop}
@@ -136,7 +136,7 @@ module _ (M N : Machine) (R : State → State → Type 0) (U : Under M N R) wher
         (t' : State) × (picks' : Picks) × BlockRuns L N b args t picks' y t' × OnTop R t' s'
     block_under b args t s picks y s' r h =
         let o = opened t s h.memory h.lower r h.from_is in
-        let (upper', picks', w, r') = whole_under (asked_by L b h.memory args) o.upper h.lower picks h.env' y h.lower' o.related h.run in
+        let (upper', picks', w, r') = whole_under (dialogue_of L b h.memory args) o.upper h.lower picks h.env' y h.lower' o.related h.run in
         let memory' = take (length h.memory) h.env' in (
           on memory' upper',
           picks',
@@ -157,7 +157,7 @@ module _ (M N : Machine) (R : State → State → Type 0) (U : Under M N R) wher
     block_breaks_off : (b : Block) (args : Env) (t s : State) (picks : Picks) (f : Fallen) → OnTop R t s → BlockFalls L M b args s picks f → BlockBreaksOff b args t f
     block_breaks_off b args t s picks f r h =
         let o = opened t s h.memory h.lower r h.from_is in
-        let x = breaks_off (asked_by L b h.memory args) o.upper h.lower picks f o.related h.run in
+        let x = breaks_off (dialogue_of L b h.memory args) o.upper h.lower picks f o.related h.run in
         record {
           at = x.at;
           at' = x.at';

@@ -11,13 +11,13 @@ use Rattle.ygg_eval.specs.Environments.{Name, Env, bind, same_env}
 use Rattle.ygg_eval.specs.Progress.{Answer}
 use Rattle.ygg_eval.specs.Machine.{Picks, State, Fallen, based, on, TickName, Machine, memory_in}
 use Rattle.ygg_eval.specs.Runs.{Dialogue, WholeCall, Reaches, answers_of, FallsAt}
-use Rattle.ygg_eval.specs.Layer.{ClosedLayer, Layered, BlockRuns, BlockFalls, asked_by}
+use Rattle.ygg_eval.specs.Layer.{ClosedLayer, Layered, BlockRuns, BlockFalls, dialogue_of}
 use Rattle.ygg_eval.specs.Shapes.{zeros_of, env_fits}
-use Rattle.ygg_eval.specs.Spec.{Outcome, told, call_outcome, fall_outcome, crash_outcome, start_outcome, Spec, SpecLoses}
-use Rattle.ygg_eval.specs.DiskMachine.{machine_of, Kind, kind_of, zeros_on}
+use Rattle.ygg_eval.specs.Spec.{Outcome, chosen, call_outcome, fall_outcome, crash_outcome, start_outcome, Spec, SpecLoses}
+use Rattle.ygg_eval.specs.DiskMachine.{machine_of, DiskModel, model_of, zeros_on}
 use Rattle.ygg_eval.specs.Refines.{Below, OnDisk, OnSpec, machine_below, Refines}
 use Rattle.ygg_eval.specs.Related.{related, settled}
-use Rattle.ygg_eval.specs.Obligations.{Init, CallOf, CutOf, TickOf, CutTickOf, Idle, Again, call_picks, crash_picks, fall_picks, Fails}
+use Rattle.ygg_eval.specs.Obligations.{Init, CallOf, CutOf, TickOf, CutTickOf, Idle, Again, call_picks, crash_picks, fall_picks, NoPicksPass}
 use Rattle.ygg_eval.specs.Violates.{related_after, answers_alike, same_answer, recovered, same_state}
 use Rattle.ygg_machine.specs.Under.{Under, Failure, InCall, InTick, Between, FailsBy, WakesAfter, Woken, Survives}
 use Rattle.ygg_eval.proofs.Exact.{call_picks_exact, crash_picks_exact, fall_picks_exact, start_exact}
@@ -66,11 +66,11 @@ flat_by s m l e b = e ∙ ap (on m) b ∙ sym (ap (λ (x : State). on (memory_in
 
 -- the ground's states are bases
 
-disk_calls_base : (K : Kind) (zeros : Grid) (s : State) (name : Name) (args : List Value) (picks : Picks) (y : Answer) (s' : State) → (machine_of K zeros).Calls s name args picks y s' → IsBase s'
+disk_calls_base : (K : DiskModel) (zeros : Grid) (s : State) (name : Name) (args : List Value) (picks : Picks) (y : Answer) (s' : State) → (machine_of K zeros).Calls s name args picks y s' → IsBase s'
 disk_calls_base K zeros s name args picks y s' (d, d', call, reply, named, from, step, answer, to) = base_by s' (K.shown d') to
 
 pub calls_base : (g : Below) (s : State) (name : Name) (args : List Value) (picks : Picks) (y : Answer) (s' : State) → (machine_below g).Calls s name args picks y s' → IsBase s'
-calls_base (OnDisk d) s name args picks y s' h = disk_calls_base (kind_of d.kind) (zeros_on d) s name args picks y s' h
+calls_base (OnDisk d) s name args picks y s' h = disk_calls_base (model_of d.kind) (zeros_on d) s name args picks y s' h
 calls_base (OnSpec Q) s name args picks y s' h = base_by s' h.vars' h.to_is
 
 pub wakes_base : (g : Below) (f : Fallen) (picks : Picks) (s : State) → (machine_below g).Wakes f picks s → s ≡ based f
@@ -111,7 +111,7 @@ module _ (L : ClosedLayer) (g : Below) where
   runs_flat : (b : Block) (args : Env) (m : Env) (l : State) (s : State) (picks : Picks) (y : Answer) (s' : State) → s ≡ on m l → IsBase l → BlockRuns L M b args s picks y s' → IsFlat s'
   runs_flat b args m l s picks y s' e base h =
       let lower_base = subst IsBase (same_lower m h.memory l h.lower (sym e ∙ h.from_is)) base in
-      flat_by s' _ h.lower' h.to_is (path_base g (asked_by L b h.memory args) [] h.lower h.run.calls h.lower' lower_base h.run.path)
+      flat_by s' _ h.lower' h.to_is (path_base g (dialogue_of L b h.memory args) [] h.lower h.run.calls h.lower' lower_base h.run.path)
 
   wakes_flat : (f : Fallen) (picks : Picks) (s' : State) → Impl.Wakes f picks s' → IsFlat s'
   wakes_flat f picks s' w =
@@ -131,7 +131,7 @@ module _ (L : ClosedLayer) (g : Below) where
   failed_in : (b : Block) (args : Env) (s : State) (picks : Picks) (f : Fallen) → BlockFalls L M b args s picks f → Failed f
   failed_in b args s picks f h = by_within h.run.within h.run.falls
     where
-      by_within : (within : Bool) → FallsAt within M (asked_by L b h.memory args) (answers_of h.run.calls) h.run.at h.run.last f → Failed f
+      by_within : (within : Bool) → FallsAt within M (dialogue_of L b h.memory args) (answers_of h.run.calls) h.run.at h.run.last f → Failed f
       by_within true x = record { at = h.run.at; how = InCall x.name x.args; picks = h.run.last; fails = x.falls }
       by_within false x = record { at = h.run.at; how = Between; picks = h.run.last; fails = x }
 
@@ -172,12 +172,12 @@ module _ (L : ClosedLayer) (g : Below) where
         by_search (find_picks (call_picks h.operation) (λ p. answers_alike answer (outcome p) && related_after L s' (outcome p)))
       where
         outcome : Picks → Option Outcome
-        outcome p = call_outcome L h.operation r.vars args (told p)
+        outcome p = call_outcome L h.operation r.vars args (chosen p)
 
         flat : IsFlat s'
         flat = runs_flat _ _ r.memory (based r.low) s picks answer s' r.lower_is refl h.step
 
-        by_outcome : (p : Picks) (out : Option Outcome) → call_outcome L h.operation r.vars args (told p) ≡ out → answers_alike answer out ≡ true → related_after L s' out ≡ true →
+        by_outcome : (p : Picks) (out : Option Outcome) → call_outcome L h.operation r.vars args (chosen p) ≡ out → answers_alike answer out ≡ true → related_after L s' out ≡ true →
             (t' : State) × (picks' : Picks) × (Spec L).Calls t name args picks' answer t' × RelatedBy t' s'
         by_outcome p None e alike after = absurd (cc)
         by_outcome p (Some o) e alike after =
@@ -199,7 +199,7 @@ module _ (L : ClosedLayer) (g : Below) where
             )
 
         by_search : Passes (call_picks h.operation) (λ p. answers_alike answer (outcome p) && related_after L s' (outcome p))
-            ⊎ Fails (call_picks h.operation) (λ p. answers_alike answer (outcome p) && related_after L s' (outcome p)) →
+            ⊎ NoPicksPass (call_picks h.operation) (λ p. answers_alike answer (outcome p) && related_after L s' (outcome p)) →
             (t' : State) × (picks' : Picks) × (Spec L).Calls t name args picks' answer t' × RelatedBy t' s'
         by_search (inl x) = let (alike, after) = both _ _ x.yes in by_outcome x.picks _ refl alike after
         by_search (inr none) = absurd (ok (CallOf name)
@@ -360,7 +360,7 @@ module _ (L : ClosedLayer) (g : Below) where
           each : (wake : Picks) (to : State) → Impl.Wakes h.fallen wake to → (p : Picks) × (recovered L h.fallen to (outcome p) ≡ true)
           each wake to run = by_search (find_picks (fall_picks L.layer op) (λ p. recovered L h.fallen to (outcome p)))
             where
-              by_search : Passes (fall_picks L.layer op) (λ p. recovered L h.fallen to (outcome p)) ⊎ Fails (fall_picks L.layer op) (λ p. recovered L h.fallen to (outcome p)) →
+              by_search : Passes (fall_picks L.layer op) (λ p. recovered L h.fallen to (outcome p)) ⊎ NoPicksPass (fall_picks L.layer op) (λ p. recovered L h.fallen to (outcome p)) →
                   (p : Picks) × (recovered L h.fallen to (outcome p) ≡ true)
               by_search (inl found) = (found.picks, found.yes)
               by_search (inr none) = absurd (ok (CutOf name)
@@ -382,10 +382,10 @@ module _ (L : ClosedLayer) (g : Below) where
 
       -- the same where the specification's own failure is the loss of power between calls
       lost_under : (t s s' : State) (f : Fallen) (x : Failed f) (r : RelatedBy t s) →
-          ((wake : Picks) (to : State) → Impl.Wakes f wake to → ¬ (Fails (crash_picks L.layer) (λ p. recovered L f to (crash_outcome L r.vars (told p))))) → Woken Impl f s' →
+          ((wake : Picks) (to : State) → Impl.Wakes f wake to → ¬ (NoPicksPass (crash_picks L.layer) (λ p. recovered L f to (crash_outcome L r.vars (chosen p))))) → Woken Impl f s' →
           (fallen : Fallen) × (picks : Picks) × SpecLoses L t picks fallen × RelatedBy (based fallen) s'
       lost_under t s s' f x r held woken =
-          let (p, y) = follows f x s' (λ p. crash_outcome L r.vars (told p)) each woken in
+          let (p, y) = follows f x s' (λ p. crash_outcome L r.vars (chosen p)) each woken in
           let (before, gives) = crash_picks_exact L r.vars p y.outcome y.is in (
             y.outcome.vars,
             before,
@@ -393,17 +393,17 @@ module _ (L : ClosedLayer) (g : Below) where
             related_to s' y.outcome.vars (woken_flat f woken.0 s' woken.1) y.here,
           )
         where
-          each : (wake : Picks) (to : State) → Impl.Wakes f wake to → (p : Picks) × (recovered L f to (crash_outcome L r.vars (told p)) ≡ true)
-          each wake to run = by_search (find_picks (crash_picks L.layer) (λ p. recovered L f to (crash_outcome L r.vars (told p))))
+          each : (wake : Picks) (to : State) → Impl.Wakes f wake to → (p : Picks) × (recovered L f to (crash_outcome L r.vars (chosen p)) ≡ true)
+          each wake to run = by_search (find_picks (crash_picks L.layer) (λ p. recovered L f to (crash_outcome L r.vars (chosen p))))
             where
-              by_search : Passes (crash_picks L.layer) (λ p. recovered L f to (crash_outcome L r.vars (told p)))
-                  ⊎ Fails (crash_picks L.layer) (λ p. recovered L f to (crash_outcome L r.vars (told p))) →
-                  (p : Picks) × (recovered L f to (crash_outcome L r.vars (told p)) ≡ true)
+              by_search : Passes (crash_picks L.layer) (λ p. recovered L f to (crash_outcome L r.vars (chosen p)))
+                  ⊎ NoPicksPass (crash_picks L.layer) (λ p. recovered L f to (crash_outcome L r.vars (chosen p))) →
+                  (p : Picks) × (recovered L f to (crash_outcome L r.vars (chosen p)) ≡ true)
               by_search (inl found) = (found.picks, found.yes)
               by_search (inr none) = absurd (held wake to run none)
 
       idle_held : (t s : State) (r : RelatedBy t s) (f : Fallen) (picks : Picks) → M.Loses (based r.low) picks f → (wake : Picks) (to : State) → Impl.Wakes f wake to →
-          ¬ (Fails (crash_picks L.layer) (λ p. recovered L f to (crash_outcome L r.vars (told p))))
+          ¬ (NoPicksPass (crash_picks L.layer) (λ p. recovered L f to (crash_outcome L r.vars (chosen p))))
       idle_held t s r f picks h wake to run none = ok Idle
           (record { state = r.vars; memory = r.memory; low = r.low; args = []; stop = None; picks = picks; wake = wake; other = [] })
           (record {

@@ -2,17 +2,17 @@
 use Rattle.std.proofs.Common.{◌≡◌, ℕ, zero, suc, Bool, true, false, [], ◌∷◌, length, replicate, ◌⊎◌, inl, inr, refl, sym, arith}
 use Rattle.std.proofs.Math.Seq.{take-append_seam}
 use Rattle.ygg_eval.specs.Machine.{Picks}
-use Rattle.ygg_eval.specs.Obligations.{Fails, IsRead}
+use Rattle.ygg_eval.specs.Obligations.{NoPicksPass, IsRead}
 
 pub record Passes (most : ℕ) (test : Picks → Bool) : Type 0 where
   pub picks : Picks
   pub count : length picks ≡ most
   pub yes : test picks ≡ true
 
-pub find_picks : (most : ℕ) (test : Picks → Bool) → Passes most test ⊎ Fails most test
+pub find_picks : (most : ℕ) (test : Picks → Bool) → Passes most test ⊎ NoPicksPass most test
 find_picks zero test = at_none (test []) refl
   where
-    at_none : (b : Bool) → test [] ≡ b → Passes zero test ⊎ Fails zero test
+    at_none : (b : Bool) → test [] ≡ b → Passes zero test ⊎ NoPicksPass zero test
     at_none true e = inl (record { picks = []; count = refl; yes = e })
     at_none false e = inr none
       where
@@ -24,8 +24,8 @@ find_picks (suc most) test = by_first (find_picks most (λ picks. test (true ∷
     longer : (p : Bool) → Passes most (λ picks. test (p ∷ picks)) → Passes (suc most) test
     longer p h = record { picks = p ∷ h.picks; count = omega (arith, h.count); yes = h.yes }
 
-    by_first : Passes most (λ picks. test (true ∷ picks)) ⊎ Fails most (λ picks. test (true ∷ picks)) →
-        Passes most (λ picks. test (false ∷ picks)) ⊎ Fails most (λ picks. test (false ∷ picks)) → Passes (suc most) test ⊎ Fails (suc most) test
+    by_first : Passes most (λ picks. test (true ∷ picks)) ⊎ NoPicksPass most (λ picks. test (true ∷ picks)) →
+        Passes most (λ picks. test (false ∷ picks)) ⊎ NoPicksPass most (λ picks. test (false ∷ picks)) → Passes (suc most) test ⊎ NoPicksPass (suc most) test
     by_first (inl h) g = inl (longer true h)
     by_first (inr f) (inl h) = inl (longer false h)
     by_first (inr f) (inr g) = inr none

@@ -4,7 +4,7 @@ use Rattle.ygg_eval.specs.Environments.{Env}
 use Rattle.ygg_eval.specs.Progress.{Answer, Run, Point, Progress, ended, in_turn, run_of, answer_of}
 use Rattle.ygg_eval.specs.Machine.{Picks, State, Fallen, based, on, Machine}
 use Rattle.ygg_eval.specs.Runs.{WholeCall, Dialogue, Reaches, picks_of}
-use Rattle.ygg_eval.specs.Layer.{ClosedLayer, Layered, BlockRuns, asked_by, eval_of}
+use Rattle.ygg_eval.specs.Layer.{ClosedLayer, Layered, BlockRuns, dialogue_of, eval_of}
 use Rattle.ygg_eval.specs.Shapes.{zeros_of}
 use Rattle.ygg_eval.specs.Refines.{Below, OnDisk, OnSpec, machine_below}
 use Rattle.ygg_machine.specs.Under.{Failure, FailsBy}
@@ -34,7 +34,7 @@ module _ (L : ClosedLayer) (g : Below) where
   turns_of = in_turn (map (run_of (eval_of L)) L.layer.recover.statements)
 
   abbrev asked : Dialogue
-  asked = asked_by L L.layer.recover zeros []
+  asked = dialogue_of L L.layer.recover zeros []
 
   abbrev at_end : Point → Progress
   at_end = ended (eval_of L) L.layer.recover.answer vars

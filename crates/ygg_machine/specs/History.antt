@@ -30,13 +30,13 @@ Step M (CutTick name) s s' = Survives M (InTick name) s s'
 Step M Lost s s' = Survives M Between s s'
 
 -- the entries in turn lead from one running state to another
-abbrev pub Goes : Machine → State → List Entry → State → Type 0
-Goes M s [] s' = s ≡ s'
-Goes M s (e ∷ es) s' = (next : State) × Step M e s next × Goes M next es s'
+abbrev pub Steps : Machine → State → List Entry → State → Type 0
+Steps M s [] s' = s ≡ s'
+Steps M s (e ∷ es) s' = (next : State) × Step M e s next × Steps M next es s'
 
 -- the entries are a history of the machine, from a formatted state to this one
 abbrev pub History : Machine → List Entry → State → Type 0
-History M es s = (start : State) × (picks : Picks) × M.Starts start picks × Goes M start es s
+History M es s = (start : State) × (picks : Picks) × M.Starts start picks × Steps M start es s
 
 -- the topmost specification of a file has this history too, and each layer's relation holds of the state reached
 abbrev pub Allows : File → List Entry → State → Type 0

@@ -8,7 +8,7 @@ use Rattle.ygg_eval.specs.Shapes.{zeros_of}
 use Rattle.ygg_eval.specs.Progress.{Question, Call, Answer, Asks}
 use Rattle.ygg_eval.specs.Machine.{Picks, State, Fallen, based, on, Machine}
 use Rattle.ygg_eval.specs.Runs.{WholeCall, Reaches, answers_of}
-use Rattle.ygg_eval.specs.Layer.{ClosedLayer, Layered, asked_by}
+use Rattle.ygg_eval.specs.Layer.{ClosedLayer, Layered, dialogue_of}
 use Rattle.ygg_eval.specs.Refines.{Below, machine_below}
 use Rattle.ygg_machine.specs.Stack.{Layers, Bottom, Top, BottomOf, Linked, AllRefine, FileRefines, below_of, layers_of}
 use Rattle.ygg_machine.specs.Claims.{ClaimHolds, claims_of}
@@ -37,7 +37,7 @@ Monotone =
     Under (Layered L (Bottom disk lower)) (Layered L (Top disk lower)) (OnTop (ByLinks lower))
 
 -- the machine answers what a block asks
-pub record Reply (M : Machine) (s : State) (q : Question) : Type 0 where
+pub record IsAnswered (M : Machine) (s : State) (q : Question) : Type 0 where
   pub name : Name
   pub args : List Value
   pub picks : Picks
@@ -50,8 +50,8 @@ pub record Reply (M : Machine) (s : State) (q : Question) : Type 0 where
 pub record Answered (L : ClosedLayer) (g : Below) : Type 0 where
   pub answers : (s : State) (how : Failure) (picks : Picks) (f : Fallen) → FailsBy (machine_below g) how s picks f →
       (calls : List WholeCall) (at : State) (q : Question) →
-      Reaches (machine_below g) (asked_by L L.layer.recover (zeros_of L.layer.memory) []) [] (based f) calls at →
-      asked_by L L.layer.recover (zeros_of L.layer.memory) [] (answers_of calls) ≡ Asks q → Reply (machine_below g) at q
+      Reaches (machine_below g) (dialogue_of L L.layer.recover (zeros_of L.layer.memory) []) [] (based f) calls at →
+      dialogue_of L L.layer.recover (zeros_of L.layer.memory) [] (answers_of calls) ≡ Asks q → IsAnswered (machine_below g) at q
 
 -- the same of each layer, which holds of every typed file
 abbrev pub AllAnswered : DiskText → Layers → Type 0
