@@ -4,7 +4,7 @@ use Rattle.std.specs.Str.{bytes_eq}
 use Rattle.std.proofs.lemmas.Slice.Eq.{bytes_eq-Decides}
 use Rattle.ygg_value.specs.declared.row.Value.{Value}
 use Rattle.ygg_value.specs.Number.{Grid}
-use Rattle.ygg_value.proofs.Same.{both, same_is}
+use Rattle.ygg_value.proofs.Equality.{both, same_is}
 use Rattle.ygg_syntax.specs.declared.tree.Block.{Block}
 use Rattle.ygg_syntax.specs.declared.tree.Operation.{Operation}
 use Rattle.ygg_eval.specs.Environments.{Name, Env, bind, same_env}
