@@ -14,7 +14,7 @@ use Rattle.ygg_machine.proofs.Monotone.{layered_under, same_lower, same_memory}
 use Rattle.ygg_machine.proofs.Totals.{total}
 use Rattle.ygg_machine.proofs.Refined.{IsBase, calls_base, wakes_base, starts_base, no_wake_falls, RelatedBy, refines_under}
 
--- the ground is under itself
+-- a disk is under itself
 
 wake_base : (g : Below) (f : Fallen) (fs : List Fallen) (s : State) → WakesAfter (machine_below g) f fs s → IsBase s
 wake_base g f [] s h = let e = wakes_base g f h.0 s h.1 in e ∙ sym (ap (λ (x : State). based x.base) e)

@@ -64,7 +64,7 @@ base_by s b e = e ∙ sym (ap (λ (x : State). based x.base) e)
 flat_by : (s : State) (m : Env) (l : State) → s ≡ on m l → IsBase l → IsFlat s
 flat_by s m l e b = e ∙ ap (on m) b ∙ sym (ap (λ (x : State). on (memory_in x) (based x.base)) e)
 
--- the ground's states are bases
+-- a disk's states and a specification's are bases without memories
 
 disk_calls_base : (K : DiskModel) (zeros : Grid) (s : State) (name : Name) (args : List Value) (picks : Picks) (y : Answer) (s' : State) → (machine_of K zeros).Calls s name args picks y s' → IsBase s'
 disk_calls_base K zeros s name args picks y s' (d, d', call, reply, named, from, step, answer, to) = base_by s' (K.shown d') to
@@ -85,9 +85,9 @@ pub no_wake_falls : (g : Below) (f : Fallen) (picks : Picks) (f' : Fallen) → (
 no_wake_falls (OnDisk d) f picks f' h = h
 no_wake_falls (OnSpec Q) f picks f' h = h
 
-ground_ticks : (g : Below) (s : State) (name : TickName) (picks : Picks) (s' : State) → (machine_below g).Ticks s name picks s' → s' ≡ s
-ground_ticks (OnDisk d) s name picks s' h = absurd h
-ground_ticks (OnSpec Q) s name picks s' h = h.1
+below_ticks : (g : Below) (s : State) (name : TickName) (picks : Picks) (s' : State) → (machine_below g).Ticks s name picks s' → s' ≡ s
+below_ticks (OnDisk d) s name picks s' h = absurd h
+below_ticks (OnSpec Q) s name picks s' h = h.1
 
 tick_loses : (g : Below) (s : State) (name : TickName) (picks : Picks) (f : Fallen) → (machine_below g).TickFalls s name picks f → (machine_below g).Loses s picks f
 tick_loses (OnDisk d) s name picks f h = absurd h
@@ -121,7 +121,7 @@ module _ (L : ClosedLayer) (g : Below) where
   woken_flat f [] s' h = wakes_flat f h.0 s' h.1
   woken_flat f (f' ∷ fs) s' (q, falls, rest) = woken_flat f' fs s' rest
 
-  -- where a block breaks off, the ground has failed
+  -- where a block breaks off, power has failed on the machine below
   pub record Failed (f : Fallen) : Type 0 where
     pub at : State
     pub how : Failure
@@ -267,7 +267,7 @@ module _ (L : ClosedLayer) (g : Below) where
         memory = r.memory;
         low = r.low;
         upper_is = r.upper_is;
-        lower_is = x.to_is ∙ ap (λ l. on x.memory l) (ground_ticks g x.lower name picks x.lower' x.step) ∙ sym x.from_is ∙ r.lower_is;
+        lower_is = x.to_is ∙ ap (λ l. on x.memory l) (below_ticks g x.lower name picks x.lower' x.step) ∙ sym x.from_is ∙ r.lower_is;
         here = r.here;
       },
     )

@@ -11,7 +11,7 @@ use Rattle.ygg_machine.specs.Under.{Failure, FailsBy}
 use Rattle.ygg_machine.specs.Laws.{Answered}
 use Rattle.ygg_eval.proofs.Finishing.{Walks, Serve, statements_ending}
 
--- whenever power has failed on the ground, a recovery can go on to its end
+-- whenever power has failed on the machine below, a recovery can go on to its end
 pub record Total (L : ClosedLayer) (g : Below) : Type 0 where
   pub recovers : (s : State) (how : Failure) (picks : Picks) (f : Fallen) → FailsBy (machine_below g) how s picks f →
       (wake : Picks) × (to : State) × (Layered L (machine_below g)).Wakes f wake to
