@@ -22,7 +22,8 @@ fn uses_only(e: &Formula, names: &[&[u8]]) -> bool
         Formula::Name(name) => is_among(name.as_slice(), names),
         Formula::Not(negated) => uses_only(negated.get(), names),
         Formula::Stored => true,
-        Formula::Equal(left, right) => uses_only(left.get(), names) && uses_only(right.get(), names),
+        Formula::Equal(left, right) => uses_only(left.get(), names)
+            && uses_only(right.get(), names),
     }
 }
 

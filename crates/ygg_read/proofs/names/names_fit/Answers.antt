@@ -3,8 +3,8 @@ use Rattle.ygg_syntax.specs.FlagNames.{UsesOnly}
 use Rattle.ygg_read.proofs.names.names_fit.Goals as goal
 
 pub returns-then-writes_fit : goal.returns-then-writes_fit
-returns-then-writes_fit c =
-    ((λ t.
+returns-then-writes_fit c = (
+  (λ t.
       record {
         differ = search rules;
         assigned = search rules;
@@ -12,4 +12,5 @@ returns-then-writes_fit c =
         writes = search rules;
         relate = subst (λ (state : List ℕ). UsesOnly (state ∷ []) c.args.file.now.relate) c.as_slice-state.ensures (c.uses_only.ensures.0 t);
       }),
-    (λ f. c.uses_only.ensures.1 (subst (λ (state : List ℕ). UsesOnly (state ∷ []) c.args.file.now.relate) (sym c.as_slice-state.ensures) f.relate)))
+  (λ f. c.uses_only.ensures.1 (subst (λ (state : List ℕ). UsesOnly (state ∷ []) c.args.file.now.relate) (sym c.as_slice-state.ensures) f.relate)),
+)

@@ -1,4 +1,4 @@
-use Rattle.std.proofs.Common.{List, [], ◌∷◌, take}
+use Rattle.std.proofs.Common.{[], ◌∷◌, take}
 use Rattle.std.specs.List.{All}
 use Rattle.ygg_syntax.specs.FlagNames.{DependsOnly}
 use Rattle.ygg_read.proofs.names.writes_fit.Given as goal

@@ -1,4 +1,4 @@
-use Rattle.std.proofs.Common.{rules, ◌≡◌, false, sym, subst}
+use Rattle.std.proofs.Common.{rules, ◌≡◌, false, subst}
 use Rattle.ygg_syntax.specs.FlagNames.{FitsNames}
 use Rattle.ygg_read.proofs.Refused.{passed_on}
 use Rattle.ygg_read.proofs.reading.built.Goals as goal
