@@ -1,5 +1,6 @@
 pub mod Files
 pub mod Marks
+pub mod Naming
 pub mod Refused
 pub mod Taking
 pub mod Unambiguous

@@ -1,7 +1,6 @@
 -- The marks of an expression, before others.
-use Rattle.std.proofs.Common.{◌≡◌, ℕ, Bool, List, [], ◌∷◌, ◌++◌, codes, refl, sym, ap, ◌∙◌, append_assoc}
+use Rattle.std.proofs.Common.{◌≡◌, ℕ, Bool, List, ◌∷◌, ◌++◌, sym, ap, ◌∙◌, append_assoc}
 use Rattle.std.proofs.lemmas.List.{append-nil}
-use Rattle.ygg_base.specs.declared.token.Keyword.TheVariants as word
 use Rattle.ygg_base.specs.declared.token.Symbol.TheVariants as sign
 use Rattle.ygg_base.specs.declared.token.Mark.{Mark}
 use Rattle.ygg_base.specs.declared.token.Mark.TheVariants as mark
@@ -9,7 +8,7 @@ use Rattle.ygg_syntax.specs.declared.flag.Formula.{Formula, roll-Formula, map-Fo
 use Rattle.ygg_syntax.specs.declared.flag.Formula.TheVariants as formula
 use Rattle.ygg_syntax.specs.declared.flag.Formula.TheOpen.{Formula-F}
 use Rattle.ygg_syntax.specs.declared.flag.Formula.TheFolds.{fold-roll-Formula}
-use Rattle.ygg_syntax.specs.FlagGrammar.{in_turn, digit, formula_rule, formula_marks}
+use Rattle.ygg_syntax.specs.FlagGrammar.{digit, formula_rule, formula_marks}
 
 -- the marks of an opened expression
 pub opened_marks : (x : Formula-F Formula) → formula_marks (roll-Formula x) ≡ formula_rule (map-Formula Formula (List Mark) formula_marks x)

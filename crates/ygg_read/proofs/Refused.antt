@@ -1,13 +1,13 @@
 -- What doesn't begin with an expression.
-use Rattle.std.proofs.Common.{◌≡◌, ℕ, Bool, true, false, List, [], ◌∷◌, ◌++◌, Result, Ok, Err, codes, refl, sym, ap, ◌∙◌, subst, append_assoc, arith, IfErr}
+use Rattle.std.proofs.Common.{◌≡◌, List, [], ◌∷◌, ◌++◌, Result, Ok, Err, codes, sym, ap, ◌∙◌, append_assoc, IfErr}
 use Rattle.std.specs.Result.{IsErrAnd}
 use Rattle.ygg_base.specs.declared.token.Keyword.TheVariants as word
 use Rattle.ygg_base.specs.declared.token.Symbol.TheVariants as sign
 use Rattle.ygg_base.specs.declared.token.Mark.{Mark}
 use Rattle.ygg_base.specs.declared.token.Mark.TheVariants as mark
-use Rattle.ygg_syntax.specs.declared.flag.Formula.{Formula, roll-Formula, map-Formula, out-Formula, roll-out-Formula}
+use Rattle.ygg_syntax.specs.declared.flag.Formula.{Formula, out-Formula, roll-out-Formula}
 use Rattle.ygg_syntax.specs.declared.flag.Formula.TheOpen.{Formula-F}
-use Rattle.ygg_syntax.specs.FlagGrammar.{digit, formula_rule, formula_marks}
+use Rattle.ygg_syntax.specs.FlagGrammar.{formula_marks}
 use Rattle.ygg_read.specs.declared.unread.Unread.{Unread}
 use Rattle.ygg_read.specs.declared.unread.Unread.TheVariants.{NotBuilt, Memory}
 use Rattle.ygg_read.specs.Refusing.{IfNotBuilt, NoFormula, NoFormulaBefore}

@@ -1,14 +1,13 @@
 -- At most one file has given marks.
-use Rattle.std.proofs.Common.{◌≡◌, ℕ, Bool, true, false, List, [], ◌∷◌, ◌++◌, refl, sym, ap, ◌∙◌, subst, append_assoc, arith}
-use Rattle.std.proofs.lemmas.List.{append-nil}
+use Rattle.std.proofs.Common.{◌≡◌, Bool, true, false, List, [], ◌∷◌, ◌++◌, refl, sym, ap, ◌∙◌, subst, append_assoc, arith}
 use Rattle.ygg_base.specs.declared.token.Symbol.TheVariants as sign
 use Rattle.ygg_base.specs.declared.token.Mark.{Mark}
 use Rattle.ygg_base.specs.declared.token.Mark.TheVariants as mark
 use Rattle.ygg_syntax.specs.declared.flag.Formula.{Formula, roll-Formula, map-Formula, out-Formula, roll-out-Formula}
 use Rattle.ygg_syntax.specs.declared.flag.Formula.TheVariants as formula
 use Rattle.ygg_syntax.specs.declared.flag.Formula.TheOpen.{Formula-F}
-use Rattle.ygg_syntax.specs.declared.flag.Formula.TheFolds.{ind-Formula, fold-roll-Formula}
-use Rattle.ygg_syntax.specs.FlagGrammar.{in_turn, digit, formula_rule, formula_marks}
+use Rattle.ygg_syntax.specs.declared.flag.Formula.TheFolds.{ind-Formula}
+use Rattle.ygg_syntax.specs.FlagGrammar.{digit, formula_rule, formula_marks}
 use Rattle.ygg_read.proofs.Marks.{opened_marks}
 
 -- the same expression, and the same marks after it

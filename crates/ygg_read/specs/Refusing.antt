@@ -1,5 +1,5 @@
 -- What it means that nothing is read.
-use Rattle.std.specs.Prelude.{◌≡◌, List, ◌∷◌, ◌++◌}
+use Rattle.std.specs.Prelude.{◌≡◌, List, ◌++◌}
 use Rattle.ygg_base.specs.declared.token.Mark.{Mark}
 use Rattle.ygg_syntax.specs.declared.flag.Formula.{Formula}
 use Rattle.ygg_syntax.specs.FlagGrammar.{formula_marks}

@@ -34,17 +34,19 @@ impl<'a> Reader<'a> {
         ensures refused { IfErr result (λ unread. IfNotBuilt unread ((file : FlagFile) → self.old ≡ file_marks file → ⊥)) }
     {
         let names = self.header()?;
-        let spec = self.formula_before(&[
+        let after_spec = [
             Expected::Symbol(Symbol::Semicolon),
             Expected::Symbol(Symbol::BraceClose),
             Expected::Keyword(Keyword::Impl),
             Expected::Symbol(Symbol::BraceOpen),
-        ])?;
+        ];
+        let spec = self.formula_before(&after_spec)?;
         let writes = self.writes()?;
-        let relate = self.formula_before(&[
+        let after_relate = [
             Expected::Symbol(Symbol::Semicolon),
             Expected::Symbol(Symbol::BraceClose),
-        ])?;
+        ];
+        let relate = self.formula_before(&after_relate)?;
         if !self.is_done() {
             return Err(Unread::NotBuilt);
         }
@@ -150,10 +152,11 @@ impl<'a> Reader<'a> {
         if !self.take_all(&before) {
             return Err(Unread::NotBuilt);
         }
-        self.formula_before(&[
+        let after = [
             Expected::Symbol(Symbol::RoundClose),
             Expected::Symbol(Symbol::RoundClose),
             Expected::Symbol(Symbol::Semicolon),
-        ])
+        ];
+        self.formula_before(&after)
     }
 }
