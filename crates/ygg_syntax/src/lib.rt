@@ -1,4 +1,5 @@
-//! The trees of layer files.
+//! The syntax of layer files.
 #![tactic(auto)]
 
 pub mod flag;
+pub mod tree;

@@ -1,0 +1,4 @@
+//! Disks: synchronous, asynchronous, and with a write-back cache.
+#![tactic(auto)]
+
+pub mod law;

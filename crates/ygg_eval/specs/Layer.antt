@@ -1,0 +1,129 @@
+-- A layer on a machine.
+use Rattle.std.specs.Prelude.{◌≡◌, IsTrue, if◌then◌else◌, List, [], ◌∷◌, ◌++◌, length, take, Option, Some, None, ◌⊎◌}
+use Rattle.std.specs.Str.{bytes_eq}
+use Rattle.ygg_value.specs.declared.row.Value.{Value}
+use Rattle.ygg_syntax.specs.declared.tree.Block.{Block}
+use Rattle.ygg_syntax.specs.declared.tree.Operation.{Operation}
+use Rattle.ygg_syntax.specs.declared.tree.Tick.{Tick}
+use Rattle.ygg_syntax.specs.declared.tree.Layer.{Layer}
+use Rattle.ygg_syntax.specs.declared.tree.Declared.{Declared}
+use Rattle.ygg_eval.specs.Environments.{Name, Env, bind}
+use Rattle.ygg_eval.specs.Meaning.{Functions, value_with}
+use Rattle.ygg_eval.specs.Shapes.{values_fit, zeros_of}
+use Rattle.ygg_eval.specs.Progress.{Eval, Answer, after}
+use Rattle.ygg_eval.specs.Machine.{Picks, State, Fallen, on, TickName, Machine}
+use Rattle.ygg_eval.specs.Runs.{Dialogue, WholeRun, FallenRun}
+
+-- a layer with all that it speaks of: what its file's definitions give, and the variables of the base below, which `low` names
+pub record ClosedLayer : Type 0 where
+  pub functions : Functions
+  pub layer : Layer
+  pub low : List Declared
+
+-- the value of an expression of a block, which sees nothing of the machine below
+abbrev pub eval_of : ClosedLayer → Eval
+eval_of L e env = value_with L.functions e (record { own = env; low = [] })
+
+-- the first operation of a name
+abbrev pub operation_in : List Operation → Name → Option Operation
+operation_in [] name = None
+operation_in (o ∷ os) name = if bytes_eq o.name.text name then Some o else operation_in os name
+
+-- the layer's operation of a name
+abbrev pub operation_of : ClosedLayer → Name → Option Operation
+operation_of L = operation_in L.layer.operations
+
+-- the first background step of a name
+abbrev pub tick_in : List Tick → Name → Option Tick
+tick_in [] name = None
+tick_in (t ∷ ts) name = if bytes_eq t.name.text name then Some t else tick_in ts name
+
+-- the layer's background step of a name
+abbrev pub tick_of : ClosedLayer → Name → Option Tick
+tick_of L = tick_in L.layer.ticks
+
+-- a block of the layer over variables and arguments
+abbrev pub asked_by : ClosedLayer → Block → Env → Env → Dialogue
+asked_by L b vars args = after (eval_of L) b (vars ++ args)
+
+-- a whole run of a block of the layer, over its memory and the machine below
+pub record BlockRuns (L : ClosedLayer) (M : Machine) (b : Block) (args : Env) (from : State) (picks : Picks) (answer : Answer) (to : State) : Type 0 where
+  pub memory : Env
+  pub lower : State
+  pub from_is : from ≡ on memory lower
+  pub env' : Env
+  pub lower' : State
+  pub run : WholeRun M (asked_by L b memory args) lower picks env' answer lower'
+  pub to_is : to ≡ on (take (length memory) env') lower'
+
+-- a run of a block of the layer up to some point, where power fails
+pub record BlockFalls (L : ClosedLayer) (M : Machine) (b : Block) (args : Env) (from : State) (picks : Picks) (fallen : Fallen) : Type 0 where
+  pub memory : Env
+  pub lower : State
+  pub from_is : from ≡ on memory lower
+  pub run : FallenRun M (asked_by L b memory args) lower picks fallen
+
+-- a step of an operation that the layer has, with arguments of the declared shapes
+pub record OfOperation (L : ClosedLayer) (name : Name) (args : List Value) (Step : Operation → Type 0) : Type 0 where
+  pub operation : Operation
+  pub is : operation_of L name ≡ Some operation
+  pub fit : IsTrue (values_fit operation.arguments args)
+  pub step : Step operation
+
+-- a step of a background step that the layer has
+pub record OfTick (L : ClosedLayer) (name : TickName) (Step : Tick → Type 0) : Type 0 where
+  pub tick : Tick
+  pub here : name.layer ≡ L.layer.name.text
+  pub is : tick_of L name.name ≡ Some tick
+  pub step : Step tick
+
+-- a background step of the machine below, while memory stays
+pub record TicksBelow (M : Machine) (from : State) (name : TickName) (picks : Picks) (to : State) : Type 0 where
+  pub memory : Env
+  pub lower : State
+  pub from_is : from ≡ on memory lower
+  pub lower' : State
+  pub step : M.Ticks lower name picks lower'
+  pub to_is : to ≡ on memory lower'
+
+-- power fails while the machine below does something by itself
+pub record FallsBelow (from : State) (Falls : State → Type 0) : Type 0 where
+  pub memory : Env
+  pub lower : State
+  pub from_is : from ≡ on memory lower
+  pub falls : Falls lower
+
+-- the machine below wakes, memory becomes zeros, and then the layer does something
+pub record WakesAndRuns (L : ClosedLayer) (M : Machine) (fallen : Fallen) (picks : Picks) (Then : State → Picks → Type 0) : Type 0 where
+  pub lower : State
+  pub first : Picks
+  pub second : Picks
+  pub wakes : M.Wakes fallen first lower
+  pub next : Then (on (zeros_of L.layer.memory) lower) second
+  pub takes : picks ≡ first ++ second
+
+-- the machine below is in a start state, memory is zeros, and the `format` block is run
+pub record StartsAndFormats (L : ClosedLayer) (M : Machine) (to : State) (picks : Picks) : Type 0 where
+  pub lower : State
+  pub first : Picks
+  pub second : Picks
+  pub answer : Answer
+  pub starts : M.Starts lower first
+  pub formats : BlockRuns L M L.layer.format [] (on (zeros_of L.layer.memory) lower) second answer to
+  pub takes : picks ≡ first ++ second
+
+-- The machine that a layer is on a machine below. Its fallen states are those of the machine below.
+abbrev pub Layered : ClosedLayer → Machine → Machine
+Layered L M = record {
+  Starts = λ s picks. StartsAndFormats L M s picks;
+  Calls = λ s name args picks answer s'. OfOperation L name args (λ o. BlockRuns L M o.implementation (bind o.arguments args) s picks answer s');
+  Falls = λ s name args picks f. OfOperation L name args (λ o. BlockFalls L M o.implementation (bind o.arguments args) s picks f);
+  Ticks = λ s name picks s'.
+      OfTick L name (λ t. (answer : Answer) × BlockRuns L M t.body [] s picks answer s') ⊎ TicksBelow M s name picks s';
+  TickFalls = λ s name picks f.
+      OfTick L name (λ t. BlockFalls L M t.body [] s picks f) ⊎ FallsBelow s (λ lower. M.TickFalls lower name picks f);
+  Loses = λ s picks f. FallsBelow s (λ lower. M.Loses lower picks f);
+  Wakes = λ f picks s. WakesAndRuns L M f picks (λ from second. (answer : Answer) × BlockRuns L M L.layer.recover [] from second answer s);
+  WakeFalls = λ f picks f'.
+      M.WakeFalls f picks f' ⊎ WakesAndRuns L M f picks (λ from second. BlockFalls L M L.layer.recover [] from second f');
+}

@@ -1,0 +1,70 @@
+-- The laws of layers on layers.
+use Rattle.std.specs.Prelude.{◌≡◌, List, [], ◌∷◌}
+use Rattle.ygg_value.specs.declared.row.Value.{Value}
+use Rattle.ygg_syntax.specs.declared.tree.DiskText.{DiskText}
+use Rattle.ygg_syntax.specs.declared.tree.File.{File}
+use Rattle.ygg_eval.specs.Environments.{Name, Env}
+use Rattle.ygg_eval.specs.Shapes.{zeros_of}
+use Rattle.ygg_eval.specs.Progress.{Question, Call, Answer, Asks}
+use Rattle.ygg_eval.specs.Machine.{Picks, State, Fallen, based, on, Machine}
+use Rattle.ygg_eval.specs.Runs.{WholeCall, Reaches, answers_of}
+use Rattle.ygg_eval.specs.Layer.{ClosedLayer, Layered, asked_by}
+use Rattle.ygg_eval.specs.Refines.{Below, machine_below}
+use Rattle.ygg_machine.specs.Stack.{Layers, Bottom, Top, Linked, AllRefine, below_of, layers_of}
+use Rattle.ygg_machine.specs.Under.{Under, Failure, FailsBy}
+use Rattle.ygg_machine.specs.History.{Entry, History, Allows}
+
+-- a base without memories and the state of the layers, linked by the layers' relations
+pub record ByLinks (layers : Layers) (t s : State) : Type 0 where
+  pub base : Env
+  pub is : t ≡ based base
+  pub linked : Linked layers base s
+
+-- equal memories on related states
+pub record OnTop (R : State → State → Type 0) (t s : State) : Type 0 where
+  pub memory : Env
+  pub upper : State
+  pub lower : State
+  pub upper_is : t ≡ on memory upper
+  pub lower_is : s ≡ on memory lower
+  pub related : R upper lower
+
+-- a better machine below gives a better layer: whatever the bottom implementation of the layers is under, the next layer on it is under the next layer on that
+abbrev pub Monotone : Type 0
+Monotone =
+    (disk : DiskText) (L : ClosedLayer) (lower : Layers) → Under (Bottom disk lower) (Top disk lower) (ByLinks lower) →
+    Under (Layered L (Bottom disk lower)) (Layered L (Top disk lower)) (OnTop (ByLinks lower))
+
+-- the machine answers what a block asks
+pub record Reply (M : Machine) (s : State) (q : Question) : Type 0 where
+  pub name : Name
+  pub args : List Value
+  pub picks : Picks
+  pub answer : Answer
+  pub after : State
+  pub is : q ≡ Call name args
+  pub call : M.Calls s name args picks answer after
+
+-- after power has failed on what the layer is specified over, each call that a recovery makes there is answered
+pub record Answered (L : ClosedLayer) (g : Below) : Type 0 where
+  pub answers : (s : State) (how : Failure) (picks : Picks) (f : Fallen) → FailsBy (machine_below g) how s picks f →
+      (calls : List WholeCall) (at : State) (q : Question) →
+      Reaches (machine_below g) (asked_by L L.layer.recover (zeros_of L.layer.memory) []) [] (based f) calls at →
+      asked_by L L.layer.recover (zeros_of L.layer.memory) [] (answers_of calls) ≡ Asks q → Reply (machine_below g) at q
+
+-- the same of each layer, which holds of every typed file
+abbrev pub AllAnswered : DiskText → Layers → Type 0
+AllAnswered disk [] = Unit {0}
+AllAnswered disk (L ∷ lower) = Answered L (below_of disk lower) × AllAnswered disk lower
+
+-- where each layer refines its specification, the bottom implementation is under the topmost specification
+abbrev pub Compose : Type 0
+Compose =
+    (disk : DiskText) (layers : Layers) → AllRefine disk layers → AllAnswered disk layers →
+    Under (Bottom disk layers) (Top disk layers) (ByLinks layers)
+
+-- where each layer of a file refines its specification, the topmost specification allows every history of the bottom implementation
+abbrev pub Histories : Type 0
+Histories =
+    (f : File) → AllRefine f.disk (layers_of f) → AllAnswered f.disk (layers_of f) → (es : List Entry) (s : State) →
+    History (Bottom f.disk (layers_of f)) es s → Allows f.disk (layers_of f) es s

@@ -1,0 +1,4 @@
+pub mod Stack
+pub mod Under
+pub mod History
+pub mod Laws

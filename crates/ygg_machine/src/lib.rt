@@ -1,0 +1,2 @@
+//! Layers on layers, their histories, and the laws that reach from each layer to the whole stack.
+#![tactic(auto)]

@@ -1,0 +1,5 @@
+pub mod Number
+pub mod Words
+pub mod Values
+pub mod Shapes
+pub mod Flat

@@ -1,0 +1,131 @@
+ghost use Rattle.std.specs.Prelude.{◌≡◌, ◌≤◌, ◌^◌, ◌-◌, ◌%◌};
+ghost use Rattle.ygg_value.specs.Words.{apply_to, CanApply, not_of, resized, bit_of, word};
+
+use crate::operation::Op;
+use std::marker::Model;
+
+/// A number of 1 to 64 binary digits, below 2 to its width.
+#[derive(Clone, Copy, Debug, PartialEq, Eq)]
+pub struct Word {
+    /// How many binary digits the word has.
+    pub width: u8,
+    /// The number.
+    pub bits: u64,
+}
+
+impl Model for Word {
+    ghost use Rattle.ygg_value.specs.Number.{Number, IsWord};
+
+    ghost Value = { Number };
+
+    ghost view = { λ w. record { width = w.width; bits = w.bits } };
+
+    ghost invariant = { λ w. IsWord (record { width = w.width; bits = w.bits }) };
+
+    ghost inverse = { λ n. record { width = n.width; bits = n.bits } };
+}
+
+/// A number cut to the width.
+fn cut(width: u8, bits: u64) -> Word
+    requires least { 1 ≤ width }
+    requires most { width ≤ 64 }
+    ensures { result ≡ word width (bits % 2 ^ width) }
+{
+    Word {
+        width,
+        bits: bits & ones(width),
+    }
+}
+
+/// A single digit.
+fn digit(test: bool) -> Word
+    ensures { result ≡ word 1 (bit_of test) }
+{
+    Word {
+        width: 1,
+        bits: if test { 1 } else { 0 },
+    }
+}
+
+/// The greatest number of the width.
+fn ones(width: u8) -> u64
+    requires least { 1 ≤ width }
+    requires most { width ≤ 64 }
+    ensures { result ≡ 2 ^ width - 1 }
+{
+    if width == 64 {
+        u64::MAX
+    } else {
+        (1 << width) - 1
+    }
+}
+
+#[tactic(auto, using(crate::proofs::Cut::or_word, crate::proofs::Cut::xor_word))]
+pub fn apply(op: Op, a: Word, b: Word) -> Word
+    requires { CanApply op a b }
+    ensures { result ≡ apply_to op a b }
+{
+    match op {
+        Op::Add => cut(a.width, a.bits.wrapping_add(b.bits)),
+        Op::Sub => cut(a.width, a.bits.wrapping_sub(b.bits)),
+        Op::Mul => cut(a.width, a.bits.wrapping_mul(b.bits)),
+        Op::And => Word {
+            width: a.width,
+            bits: a.bits & b.bits,
+        },
+        Op::Or => Word {
+            width: a.width,
+            bits: a.bits | b.bits,
+        },
+        Op::Xor => Word {
+            width: a.width,
+            bits: a.bits ^ b.bits,
+        },
+        Op::Shl => shift_left(a, b),
+        Op::Shr => shift_right(a, b),
+        Op::Eq => digit(a.bits == b.bits),
+        Op::Ne => digit(a.bits != b.bits),
+        Op::Lt => digit(a.bits < b.bits),
+        Op::Le => digit(a.bits <= b.bits),
+        Op::Gt => digit(a.bits > b.bits),
+        Op::Ge => digit(a.bits >= b.bits),
+        Op::Imp => digit(a.bits <= b.bits),
+    }
+}
+
+fn shift_left(a: Word, b: Word) -> Word
+    ensures { result ≡ apply_to Op.Shl a b }
+{
+    if b.bits < a.width as u64 {
+        cut(a.width, a.bits << b.bits)
+    } else {
+        cut(a.width, 0)
+    }
+}
+
+fn shift_right(a: Word, b: Word) -> Word
+    ensures { result ≡ apply_to Op.Shr a b }
+{
+    if b.bits < a.width as u64 {
+        cut(a.width, a.bits >> b.bits)
+    } else {
+        cut(a.width, 0)
+    }
+}
+
+pub fn not(a: Word) -> Word
+    ensures { result ≡ not_of a }
+{
+    Word {
+        width: a.width,
+        bits: ones(a.width) - a.bits,
+    }
+}
+
+pub fn resize(a: Word, width: u8) -> Word
+    requires least { 1 ≤ width }
+    requires most { width ≤ 64 }
+    ensures { result ≡ resized a width }
+{
+    cut(width, a.bits)
+}
