@@ -1,1 +1,3 @@
 pub mod Choices
+pub mod FlagGrammar
+pub mod FlagNames

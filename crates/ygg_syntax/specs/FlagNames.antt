@@ -1,0 +1,49 @@
+-- Which names may stand where in a flag file.
+use Rattle.std.specs.Prelude.{◌≡◌, ◌≢◌, ℕ, Bool, true, false, ◌||◌, List, [], ◌∷◌, ◌++◌}
+use Rattle.std.specs.List.{All, Contains}
+use Rattle.ygg_syntax.specs.declared.flag.FlagFile.{FlagFile}
+use Rattle.ygg_syntax.specs.declared.flag.Formula.{Formula}
+use Rattle.ygg_syntax.specs.declared.flag.Formula.TheOpen.{Formula-F}
+use Rattle.ygg_syntax.specs.declared.flag.Formula.TheFolds.{fold-Formula}
+
+-- the names of an expression, those of its parts in their places
+abbrev pub names_node : Formula-F (List (List ℕ)) → List (List ℕ)
+names_node (Formula-F.Bit bit) = []
+names_node (Formula-F.Name text) = text ∷ []
+names_node (Formula-F.Not e) = e
+names_node Formula-F.Stored = []
+names_node (Formula-F.Equal a b) = a ++ b
+
+-- the names in an expression, in the order of the text
+abbrev pub names_in : Formula → List (List ℕ)
+names_in = fold-Formula (List (List ℕ)) names_node
+
+-- whether the stored bit stands in an expression, or in one of its parts
+abbrev pub stored_node : Formula-F Bool → Bool
+stored_node (Formula-F.Bit bit) = false
+stored_node (Formula-F.Name text) = false
+stored_node (Formula-F.Not e) = e
+stored_node Formula-F.Stored = true
+stored_node (Formula-F.Equal a b) = a || b
+
+-- whether the stored bit stands in an expression
+abbrev pub has_stored : Formula → Bool
+has_stored = fold-Formula Bool stored_node
+
+-- each name in the expression is one of these
+abbrev pub UsesOnly : List (List ℕ) → Formula → Type 0
+UsesOnly names e = All (Contains names) (names_in e)
+
+-- the expression doesn't look at the disk
+abbrev pub IsBlind : Formula → Type 0
+IsBlind e = has_stored e ≡ false
+
+-- the names differ where they must, each stands where it is known, and the relation alone looks at the disk
+pub record FitsNames (file : FlagFile) : Type 0 where
+  pub differ : file.state ≢ file.argument
+  pub assigned : file.assigned ≡ file.state
+  pub spec : UsesOnly (file.state ∷ file.argument ∷ []) file.spec
+  pub writes : All (UsesOnly (file.argument ∷ [])) file.writes
+  pub relate : UsesOnly (file.state ∷ []) file.relate
+  pub blind_spec : IsBlind file.spec
+  pub blind_writes : All IsBlind file.writes
