@@ -1,0 +1,4 @@
+//! The obligations of flag files, decided.
+#![tactic(auto)]
+
+pub mod law;
