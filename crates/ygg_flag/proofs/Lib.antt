@@ -1,3 +1,12 @@
 pub mod Expressions
 pub mod Blocks
 pub mod Runs
+pub mod Shapes
+pub mod Layers
+pub mod Steps
+pub mod Stops
+pub mod Violated
+pub mod Kept
+pub mod Others
+pub mod Deciding
+pub mod Allowed

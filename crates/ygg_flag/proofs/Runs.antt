@@ -104,6 +104,13 @@ answer_in (Asks q) = None
 answer_in (Ends env answer) = answer
 answer_in Stray = None
 
+-- a fall leaves what some of the writes leave
+pub record LeavesSome (bits : List Bool) (stored : Bool) (fallen : Fallen) : Type 0 where
+  pub front : List Bool
+  pub back : List Bool
+  pub is : bits ≡ front ++ back
+  pub fallen_is : fallen ≡ tables (stored_after stored front)
+
 module _ (eval : Eval) (env : Env) where
   -- after what it was told, the block goes on to write these bits
   abbrev pub WritesNext : Dialogue → List Answer → List Bool → Type 0
@@ -165,26 +172,19 @@ module _ (eval : Eval) (env : Env) where
           }
       at front (b ∷ back) is to_is no_picks next = absurd (let e = sym r.ends ∙ now block (answers_of r.calls) (b ∷ back) next in cc)
 
-  -- a fall leaves what some of the writes leave
-  pub record Broke (bits : List Bool) (stored : Bool) (fallen : Fallen) : Type 0 where
-    pub front : List Bool
-    pub back : List Bool
-    pub is : bits ≡ front ++ back
-    pub fallen_is : fallen ≡ tables (stored_after stored front)
-
-  pub broken_writes : (block : Dialogue) (bits : List Bool) (stored : Bool) (picks : Picks) (fallen : Fallen) → WritesNext block [] bits →
-      FallenRun machine block (based (tables stored)) picks fallen → Broke bits stored fallen
-  broken_writes block bits stored picks fallen next r =
+  pub fallen_writes : (block : Dialogue) (bits : List Bool) (stored : Bool) (picks : Picks) (fallen : Fallen) → WritesNext block [] bits →
+      FallenRun machine block (based (tables stored)) picks fallen → LeavesSome bits stored fallen
+  fallen_writes block bits stored picks fallen next r =
       let x = reached block [] bits stored r.calls r.at next r.path in
       at r.within x.front x.back x.is x.next (subst (λ s. FallsAt r.within machine block (answers_of r.calls) s r.last fallen) x.to_is r.falls)
     where
-      kept_or_not : (front back : List Bool) (b : Bool) → bits ≡ front ++ (b ∷ back) → (kept : Bool) → fallen ≡ tables (if kept then b else stored_after stored front) → Broke bits stored fallen
+      kept_or_not : (front back : List Bool) (b : Bool) → bits ≡ front ++ (b ∷ back) → (kept : Bool) → fallen ≡ tables (if kept then b else stored_after stored front) → LeavesSome bits stored fallen
       kept_or_not front back b is true fallen_is =
           record { front = front ++ b ∷ []; back = back; is = is ∙ sym (append_assoc front (b ∷ []) back); fallen_is = fallen_is ∙ ap tables (sym (last_write stored b front)) }
       kept_or_not front back b is false fallen_is = record { front = front; back = b ∷ back; is = is; fallen_is = fallen_is }
 
       at : (within : Bool) (front back : List Bool) → bits ≡ front ++ back → WritesNext block (answers_of r.calls) back →
-          FallsAt within machine block (answers_of r.calls) (based (tables (stored_after stored front))) r.last fallen → Broke bits stored fallen
+          FallsAt within machine block (answers_of r.calls) (based (tables (stored_after stored front))) r.last fallen → LeavesSome bits stored fallen
       at true front [] is next h = absurd (let e = sym (now block (answers_of r.calls) [] next) ∙ h.asks in cc)
       at true front (b ∷ back) is next h =
           let q = ap question_in (sym (now block (answers_of r.calls) (b ∷ back) next) ∙ h.asks) in
