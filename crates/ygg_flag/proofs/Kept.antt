@@ -16,6 +16,7 @@ use Rattle.ygg_eval.specs.Layer.{ClosedLayer, Layered, operation_of, BlockRuns, 
 use Rattle.ygg_eval.specs.Spec.{Outcome, told, call_outcome, fall_outcome}
 use Rattle.ygg_eval.specs.Obligations.{Schedule, Init, CallOf, CutOf, Fails, call_picks, fall_picks}
 use Rattle.ygg_eval.specs.Violates.{answers_alike, related_after, recovered}
+use Rattle.ygg_flag.specs.declared.decide.Bits.{Bits}
 use Rattle.ygg_flag.specs.Bits.{related, specified, written, stored_after, stops, relates_either, call_keeps, cut_keeps}
 use Rattle.ygg_flag.specs.Trees.{bit_named, operation}
 use Rattle.ygg_flag.specs.Obligations.{closed, FlagHolds}
@@ -66,7 +67,7 @@ module _ (f : FlagFile) (fit : FitsNames f) where
       let e = sym (start_related f fit v.to to_is) ∙ v.fails in
       absurd (cc)
 
-  pub call_kept : ((s d a : Bool) → call_keeps f s d a ≡ true) → FlagHolds f (CallOf f.operation)
+  pub call_kept : ((bits : Bits) → call_keeps f bits ≡ true) → FlagHolds f (CallOf f.operation)
   call_kept keeps x v =
       let r = related_bits f fit x.state x.memory x.low v.before in
       let s = r.state in
@@ -89,5 +90,38 @@ module _ (f : FlagFile) (fit : FitsNames f) where
       let fails3 = ap (λ vars. test (operation f) vars x.args) (sym r.vars_are) ∙ fails2 in
       let fails4 = ap (λ args. test (operation f) (state_of f s) args) (sym arg.is) ∙ fails3 in
       let e = sym (call_test f fit s a (stored_after d (written f a)) [] v.answer v.to ran.no_answer ran.to_is) ∙ fails4 in
-      let k = passes (related f s d) (related f (specified f s a) (stored_after d (written f a))) r.bits (keeps s d a) in
+      let k = passes (related f s d) (related f (specified f s a) (stored_after d (written f a))) r.bits (keeps (record { state = s; argument = a; stored = d })) in
       absurd (cc)
+
+  -- a fall, and a recovery, keep state and disk related to one of the specification's outcomes
+  cut_relates : (s d a : Bool) → related f s d ≡ true → cut_keeps f (record { state = s; argument = a; stored = d }) ≡ true → (front back : List Bool) → written f a ≡ front ++ back →
+      (related f s (stored_after d front) || related f (specified f s a) (stored_after d front)) ≡ true
+  cut_relates s d a before keeps front back is =
+      let test = relates_either f s (specified f s a) in
+      at_each test front back d (ap (λ l. list_all test (stops d l)) (sym is) ∙ passes (related f s d) (list_all test (stops d (written f a))) before keeps)
+
+  pub cut_kept : ((bits : Bits) → cut_keeps f bits ≡ true) → FlagHolds f (CutOf f.operation)
+  cut_kept keeps x v =
+      let r = related_bits f fit x.state x.memory x.low v.before in
+      let s = r.state in
+      let d = r.stored in
+      let the = the_operation f f.operation v.operation v.is in
+      let arg = one_bit_of f v.operation x.args the.is v.fit in
+      let a = arg.bit in
+      let impl = (operation f).implementation in
+      let step1 = subst (λ o. BlockFalls L machine o.implementation (bind o.arguments x.args) (on x.memory (based x.low)) v.taken v.fallen) (sym the.is) v.run in
+      let step2 = subst (λ args. BlockFalls L machine impl (bind (bit_named f.argument ∷ []) args) (on x.memory (based x.low)) v.taken v.fallen) arg.is step1 in
+      let step3 = subst (λ m. BlockFalls L machine impl (argument_of f a) (on m (based x.low)) v.taken v.fallen) r.no_memory step2 in
+      let step4 = subst (λ l. BlockFalls L machine impl (argument_of f a) (on [] (based l)) v.taken v.fallen) r.low_is step3 in
+      let left = block_falls L impl (argument_of f a) (written f a) (writes f fit a) d v.taken v.fallen step4 in
+      let k = stored_after d left.front in
+      let to_is = recovers_to f k v.recovers.taken v.to (subst (λ g. (Layered L machine).Wakes g v.recovers.taken v.to) left.fallen_is v.recovers.run) in
+      let test : Operation → Env → List Value → Picks → Bool = λ o vars args picks. recovered L v.fallen v.to (fall_outcome L o vars args picks) in
+      let fails1 = subst (λ o. Fails (fall_picks L.layer o) (test o x.state x.args)) (sym the.is) v.fails in
+      let fails2 = subst (λ vars. Fails (fall_picks L.layer (operation f)) (test (operation f) vars x.args)) r.vars_are fails1 in
+      let fails3 = subst (λ args. Fails (fall_picks L.layer (operation f)) (test (operation f) (state_of f s) args)) arg.is fails2 in
+      let count = sym (ap (λ n. 1 + n + 0) (no_choices f)) in
+      let changed = sym (cut_test f fit s a k true [] v.fallen v.to left.fallen_is to_is) ∙ fails3 (true ∷ []) count in
+      let unchanged = sym (cut_test f fit s a k false [] v.fallen v.to left.fallen_is to_is) ∙ fails3 (false ∷ []) count in
+      let either = cut_relates s d a r.bits (keeps (record { state = s; argument = a; stored = d })) left.front left.back left.is in
+      absurd (let e = sym either ∙ ap (λ t. t || related f (specified f s a) k) unchanged ∙ changed in cc)

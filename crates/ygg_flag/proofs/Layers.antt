@@ -26,7 +26,8 @@ use Rattle.ygg_eval.specs.Machine.{Picks, State, Fallen, based, on}
 use Rattle.ygg_eval.specs.Layer.{ClosedLayer, eval_of, asked_by, BlockRuns, BlockFalls}
 use Rattle.ygg_eval.specs.Spec.{Outcome, outcome_at, told, call_outcome, crash_outcome, fall_outcome, start_outcome}
 use Rattle.ygg_eval.specs.Related as author
-use Rattle.ygg_flag.specs.Bits.{Bits, bit_in, value, related, specified, written, stored_after}
+use Rattle.ygg_flag.specs.declared.decide.Bits.{Bits}
+use Rattle.ygg_flag.specs.Bits.{bit_in, value, related, specified, written, stored_after}
 use Rattle.ygg_machine.specs.Stack.{tables_of}
 use Rattle.ygg_flag.specs.Trees.{one_bit, named, expression, block, write_of, assignment, operation}
 use Rattle.ygg_flag.specs.Obligations.{closed}

@@ -82,7 +82,7 @@ module _ (stored new : Bool) (name : Name) (args : List Value) (q : write_questi
       after true view from = ap (λ v. table_write v 0 (row_of_bit new)) from
       after false view from = from
 
-loses_nothing : (stored : Bool) (picks : Picks) (fallen : Fallen) → machine.Loses (based (tables stored)) picks fallen → fallen ≡ tables stored
+pub loses_nothing : (stored : Bool) (picks : Picks) (fallen : Fallen) → machine.Loses (based (tables stored)) picks fallen → fallen ≡ tables stored
 loses_nothing stored picks fallen (view, no_picks, from_is, fallen_is) = fallen_is ∙ ap (λ v. (codes "view", Table v) ∷ []) (sym (same_grid stored view from_is))
 
 last_write : (stored new : Bool) (front : List Bool) → stored_after stored (front ++ new ∷ []) ≡ new

@@ -76,7 +76,7 @@ module _ (f : FlagFile) where
   abbrev Impl : Machine
   Impl = Layered L machine
 
-  writes_nothing : WritesNext (eval_of L) [] (asked_by L (block []) [] []) [] []
+  pub writes_nothing : WritesNext (eval_of L) [] (asked_by L (block []) [] []) [] []
   writes_nothing more = refl
 
   pub starts_at : (taken : Picks) (to : State) → Impl.Starts to taken → to ≡ at_disk false

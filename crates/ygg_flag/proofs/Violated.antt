@@ -5,15 +5,15 @@ use Rattle.ygg_value.specs.Values.{digit}
 use Rattle.ygg_value.specs.declared.row.Value.{Value}
 use Rattle.ygg_syntax.specs.declared.flag.FlagFile.{FlagFile}
 use Rattle.ygg_syntax.specs.FlagNames.{FitsNames}
-use Rattle.ygg_syntax.specs.Choices.{choices_of}
 use Rattle.ygg_eval.specs.Environments.{Env, Name}
 use Rattle.ygg_eval.specs.Progress.{Answer}
 use Rattle.ygg_eval.specs.Machine.{Picks, State, Fallen}
 use Rattle.ygg_eval.specs.Layer.{ClosedLayer, eval_of, asked_by, operation_of}
 use Rattle.ygg_eval.specs.Spec.{Outcome, told, call_outcome, fall_outcome, start_outcome, then_block}
 use Rattle.ygg_eval.specs.Related.{settled}
-use Rattle.ygg_eval.specs.Obligations.{Halt, Schedule, Init, CallOf, CutOf}
+use Rattle.ygg_eval.specs.Obligations.{Halt, Schedule, Init, CallOf, CutOf, fall_picks}
 use Rattle.ygg_eval.specs.Violates.{related_after, answers_alike, recovered}
+use Rattle.ygg_flag.specs.declared.decide.Bits.{Bits}
 use Rattle.ygg_flag.specs.Bits.{related, specified, written, stored_after, stops, relates_either, call_keeps, cut_keeps}
 use Rattle.ygg_flag.specs.Trees.{operation}
 use Rattle.ygg_flag.specs.Obligations.{closed, FlagViolates}
@@ -39,13 +39,13 @@ module _ (f : FlagFile) (fit : FitsNames f) where
   pub operation_found : operation_of L f.operation ≡ Some (operation f)
   operation_found = ap (λ t. if t then Some (operation f) else None) (bytes_same f.operation)
 
-  -- from these two bits, with this argument
-  abbrev pub schedule : Bool → Bool → Bool → Option Halt → Schedule
-  schedule s d a stop = record {
-    state = state_of f s;
+  -- from these bits, with these picks of 0
+  abbrev pub schedule : Bits → Option Halt → Schedule
+  schedule bits stop = record {
+    state = state_of f bits.state;
     memory = [];
-    low = tables d;
-    args = digit a ∷ [];
+    low = tables bits.stored;
+    args = digit bits.argument ∷ [];
     stop = stop;
     picks = [];
     wake = [];
@@ -55,8 +55,8 @@ module _ (f : FlagFile) (fit : FitsNames f) where
   pub start_related : (to : State) → to ≡ at_disk false → related_after L to (start_outcome L) ≡ related f false false
   start_related to e = ap (λ s. related_after L s (start_outcome L)) e ∙ related_is f fit false false
 
-  pub init_violated : related f false false ≡ false → FlagViolates f Init (schedule false false false None)
-  init_violated h = record { to = at_disk false; taken = []; run = starts f; read = refl; fails = start_related (at_disk false) refl ∙ h }
+  pub init_violated : related f false false ≡ false → (x : Schedule) × FlagViolates f Init x
+  init_violated h = (schedule (record { state = false; argument = false; stored = false }) None, record { to = at_disk false; taken = []; run = starts f; read = refl; fails = start_related (at_disk false) refl ∙ h })
 
   -- what the conclusion of `call` comes to
   pub call_test : (s a d : Bool) (picks : Picks) (answer : Answer) (to : State) → answer ≡ None → to ≡ at_disk d →
@@ -69,8 +69,11 @@ module _ (f : FlagFile) (fit : FitsNames f) where
       ∙ ap (λ o. answers_alike None o && related_after L (at_disk d) o) (spec_gives f fit s a (told picks))
       ∙ related_is f fit (specified f s a) d
 
-  pub call_violated : (s d a : Bool) → call_keeps f s d a ≡ false → FlagViolates f (CallOf f.operation) (schedule s d a None)
-  call_violated s d a h =
+  pub call_violated : (bits : Bits) → call_keeps f bits ≡ false → FlagViolates f (CallOf f.operation) (schedule bits None)
+  call_violated bits h =
+      let s = bits.state in
+      let d = bits.stored in
+      let a = bits.argument in
       let (before, after) = skipped (related f s d) (related f (specified f s a) (stored_after d (written f a))) h in
       record {
         before = related_is f fit s d ∙ before;
@@ -102,14 +105,24 @@ module _ (f : FlagFile) (fit : FitsNames f) where
       by_pick true = ap (λ o. related_after L (at_disk d) (then_block L L.layer.crash o)) (spec_gives f fit s a (told picks)) ∙ related_is f fit (specified f s a) d
       by_pick false = related_is f fit s d
 
-  pub cut_violated : (s d a : Bool) → cut_keeps f s d a ≡ false → (x : Schedule) × FlagViolates f (CutOf f.operation) x
-  cut_violated s d a h =
+  -- no pick of the specification is related to a disk that is related to neither state
+  no_pick : (s a d : Bool) → related f s d ≡ false → related f (specified f s a) d ≡ false → (picks : Picks) → length picks ≡ fall_picks L.layer (operation f) →
+      recovered L (tables d) (at_disk d) (fall_outcome L (operation f) (state_of f s) (digit a ∷ []) picks) ≡ false
+  no_pick s a d unchanged changed [] count = absurd (omega (arith, count))
+  no_pick s a d unchanged changed (true ∷ picks) count = cut_test s a d true picks (tables d) (at_disk d) refl refl ∙ changed
+  no_pick s a d unchanged changed (false ∷ picks) count = cut_test s a d false picks (tables d) (at_disk d) refl refl ∙ unchanged
+
+  pub cut_violated : (bits : Bits) → cut_keeps f bits ≡ false → (x : Schedule) × FlagViolates f (CutOf f.operation) x
+  cut_violated bits h =
+      let s = bits.state in
+      let d = bits.stored in
+      let a = bits.argument in
       let (before, after) = skipped (related f s d) (list_all (relates_either f s (specified f s a)) (stops d (written f a))) h in
       let x = at_some (relates_either f s (specified f s a)) (written f a) d after in
       let k = stored_after d x.front in
       let (unchanged, changed) = neither (related f s k) (related f (specified f s a) k) x.fails in
       let stopped = block_stops L (operation f).implementation (argument_of f a) x.front x.back d (subst (WritesNext (eval_of L) (argument_of f a) (asked_by L (operation f).implementation [] (argument_of f a)) []) x.is (writes f fit a)) in
-      (schedule s d a (Some (record { within = false; event = length x.front })), record {
+      (schedule bits (Some (record { within = false; event = length x.front })), record {
         before = related_is f fit s d ∙ before;
         operation = operation f;
         is = operation_found;
@@ -121,11 +134,5 @@ module _ (f : FlagFile) (fit : FitsNames f) where
         read = refl;
         to = at_disk k;
         recovers = record { taken = []; run = recovery f k; read = refl };
-        fails = no_pick k unchanged changed;
+        fails = no_pick s a k unchanged changed;
       })
-    where
-      no_pick : (k : Bool) → related f s k ≡ false → related f (specified f s a) k ≡ false → (picks : Picks) → length picks ≡ 1 + choices_of (operation f).spec + 0 →
-          recovered L (tables k) (at_disk k) (fall_outcome L (operation f) (state_of f s) (digit a ∷ []) picks) ≡ false
-      no_pick k unchanged changed [] count = absurd (omega (arith, count))
-      no_pick k unchanged changed (true ∷ picks) count = cut_test s a k true picks (tables k) (at_disk k) refl refl ∙ changed
-      no_pick k unchanged changed (false ∷ picks) count = cut_test s a k false picks (tables k) (at_disk k) refl refl ∙ unchanged

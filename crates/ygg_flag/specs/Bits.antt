@@ -6,12 +6,7 @@ use Rattle.ygg_syntax.specs.declared.flag.FlagFile.{FlagFile}
 use Rattle.ygg_syntax.specs.declared.flag.Formula.{Formula}
 use Rattle.ygg_syntax.specs.declared.flag.Formula.TheOpen.{Formula-F}
 use Rattle.ygg_syntax.specs.declared.flag.Formula.TheFolds.{fold-Formula}
-
--- the bits that an expression may look at: the state, the argument, and what the disk holds
-pub record Bits : Type 0 where
-  pub state : Bool
-  pub argument : Bool
-  pub stored : Bool
+use Rattle.ygg_flag.specs.declared.decide.Bits.{Bits}
 
 -- whether two bits are equal
 abbrev pub same_bit : Bool → Bool → Bool
@@ -56,16 +51,20 @@ abbrev pub stops : Bool → List Bool → List Bool
 stops stored [] = stored ∷ []
 stops stored (b ∷ bits) = stored ∷ stops b bits
 
--- whether the whole operation keeps state and disk related
-abbrev pub call_keeps : FlagFile → Bool → Bool → Bool → Bool
-call_keeps f state stored argument =
-    if related f state stored then related f (specified f state argument) (stored_after stored (written f argument)) else true
+-- whether the whole operation keeps state and disk related, from these bits
+abbrev pub call_keeps : FlagFile → Bits → Bool
+call_keeps f bits =
+    if related f bits.state bits.stored
+    then related f (specified f bits.state bits.argument) (stored_after bits.stored (written f bits.argument))
+    else true
 
 -- whether the disk is related to the state before the operation or to the one after it
 abbrev pub relates_either : FlagFile → Bool → Bool → Bool → Bool
 relates_either f before after stored = related f before stored || related f after stored
 
--- whether the operation keeps them related wherever power fails in it
-abbrev pub cut_keeps : FlagFile → Bool → Bool → Bool → Bool
-cut_keeps f state stored argument =
-    if related f state stored then list_all (relates_either f state (specified f state argument)) (stops stored (written f argument)) else true
+-- whether the operation keeps state and disk related, from these bits, wherever power fails in it
+abbrev pub cut_keeps : FlagFile → Bits → Bool
+cut_keeps f bits =
+    if related f bits.state bits.stored
+    then list_all (relates_either f bits.state (specified f bits.state bits.argument)) (stops bits.stored (written f bits.argument))
+    else true
