@@ -1,1 +1,5 @@
 pub mod Extends
+pub mod Uses
+pub mod Exact
+pub mod Finishing
+pub mod Listed

@@ -26,7 +26,7 @@ answer_to None = None
 answer_to (Some row) = Some (Row row)
 
 -- a kind of disk: its states, how they show as named tables, and its steps
-pub record Kind : Type 1 where
+pub record DiskModel : Type 1 where
   pub Disk : Type 0
   pub shown : Disk → Env
   -- the disk whose tables all are this one
@@ -36,8 +36,8 @@ pub record Kind : Type 1 where
   pub lost : Disk → Disk
 
 -- a synchronous disk shows one table
-abbrev pub sync_kind : Kind
-sync_kind = record {
+abbrev pub sync_model : DiskModel
+sync_model = record {
   Disk = Grid;
   shown = λ view. (codes "view", Table view) ∷ [];
   start = λ zeros. zeros;
@@ -47,8 +47,8 @@ sync_kind = record {
 }
 
 -- an asynchronous disk shows what reads see and what power loss leaves
-abbrev pub async_kind : Kind
-async_kind = record {
+abbrev pub async_model : DiskModel
+async_model = record {
   Disk = disk.Tables;
   shown = λ d. (codes "view", Table d.view) ∷ (codes "stable", Table d.stable) ∷ [];
   start = λ zeros. record { view = zeros; stable = zeros };
@@ -57,17 +57,17 @@ async_kind = record {
   lost = disk.lost;
 }
 
--- the kind that a file names
-abbrev pub kind_of : DiskKind → Kind
-kind_of Sync = sync_kind
-kind_of Async = async_kind
+-- the kind of disk that a file names
+abbrev pub model_of : DiskKind → DiskModel
+model_of Sync = sync_model
+model_of Async = async_model
 
 -- a table of zeros of the disk's size
 abbrev pub zeros_on : DiskText → Grid
 zeros_on d = record { width = d.width.value; words = d.words.value; rows = replicate d.rows.value (replicate d.words.value 0) }
 
 -- The machine of a kind of disk that starts with this table. It has no background steps, and waking it makes no call.
-abbrev pub machine_of : Kind → Grid → Machine
+abbrev pub machine_of : DiskModel → Grid → Machine
 machine_of K zeros = record {
   Starts = λ s picks. (picks ≡ []) × (s ≡ based (K.shown (K.start zeros)));
   Calls = λ s name args picks y s'. (d d' : K.Disk) × (call : disk.Call) × (reply : disk.Reply) × (disk_call name args ≡ Some call)
@@ -83,4 +83,4 @@ machine_of K zeros = record {
 
 -- the machine of the disk that a file names, which starts with zeros
 abbrev pub DiskMachine : DiskText → Machine
-DiskMachine d = machine_of (kind_of d.kind) (zeros_on d)
+DiskMachine d = machine_of (model_of d.kind) (zeros_on d)

@@ -43,8 +43,8 @@ abbrev pub tick_of : ClosedLayer → Name → Option Tick
 tick_of L = tick_in L.layer.ticks
 
 -- a block of the layer over variables and arguments
-abbrev pub asked_by : ClosedLayer → Block → Env → Env → Dialogue
-asked_by L b vars args = after (eval_of L) b (vars ++ args)
+abbrev pub dialogue_of : ClosedLayer → Block → Env → Env → Dialogue
+dialogue_of L b vars args = after (eval_of L) b (vars ++ args)
 
 -- a whole run of a block of the layer, over its memory and the machine below
 pub record BlockRuns (L : ClosedLayer) (M : Machine) (b : Block) (args : Env) (from : State) (picks : Picks) (answer : Answer) (to : State) : Type 0 where
@@ -53,7 +53,7 @@ pub record BlockRuns (L : ClosedLayer) (M : Machine) (b : Block) (args : Env) (f
   pub from_is : from ≡ on memory lower
   pub env' : Env
   pub lower' : State
-  pub run : WholeRun M (asked_by L b memory args) lower picks env' answer lower'
+  pub run : WholeRun M (dialogue_of L b memory args) lower picks env' answer lower'
   pub to_is : to ≡ on (take (length memory) env') lower'
 
 -- a run of a block of the layer up to some point, where power fails
@@ -61,16 +61,16 @@ pub record BlockFalls (L : ClosedLayer) (M : Machine) (b : Block) (args : Env) (
   pub memory : Env
   pub lower : State
   pub from_is : from ≡ on memory lower
-  pub run : FallenRun M (asked_by L b memory args) lower picks fallen
+  pub run : FallenRun M (dialogue_of L b memory args) lower picks fallen
 
--- a step of an operation that the layer has, with arguments of the declared shapes
+-- something that happens in an operation that the layer has, with arguments of the declared shapes
 pub record OfOperation (L : ClosedLayer) (name : Name) (args : List Value) (Step : Operation → Type 0) : Type 0 where
   pub operation : Operation
   pub is : operation_of L name ≡ Some operation
   pub fit : IsTrue (values_fit operation.arguments args)
   pub step : Step operation
 
--- a step of a background step that the layer has
+-- something that happens in one of the layer's own background steps
 pub record OfTick (L : ClosedLayer) (name : TickName) (Step : Tick → Type 0) : Type 0 where
   pub tick : Tick
   pub here : name.layer ≡ L.layer.name.text
@@ -86,14 +86,14 @@ pub record TicksBelow (M : Machine) (from : State) (name : TickName) (picks : Pi
   pub step : M.Ticks lower name picks lower'
   pub to_is : to ≡ on memory lower'
 
--- power fails while the machine below does something by itself
+-- power fails while the layer itself does nothing
 pub record FallsBelow (from : State) (Falls : State → Type 0) : Type 0 where
   pub memory : Env
   pub lower : State
   pub from_is : from ≡ on memory lower
   pub falls : Falls lower
 
--- the machine below wakes, memory becomes zeros, and then the layer does something
+-- the machine below wakes, memory becomes zeros, and then the layer goes on
 pub record WakesAndRuns (L : ClosedLayer) (M : Machine) (fallen : Fallen) (picks : Picks) (Then : State → Picks → Type 0) : Type 0 where
   pub lower : State
   pub first : Picks

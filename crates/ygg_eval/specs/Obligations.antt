@@ -73,5 +73,5 @@ abbrev pub fall_picks : Layer → Operation → ℕ
 fall_picks l o = elim o.on_crash [ None ↦ 1 + choices_of o.spec + crash_picks l | Some b ↦ choices_of b + crash_picks l ]
 
 -- no list of as many picks as the specification takes at most passes the test
-abbrev pub Fails : ℕ → (Picks → Bool) → Type 0
-Fails most test = (picks : Picks) → length picks ≡ most → test picks ≡ false
+abbrev pub NoPicksPass : ℕ → (Picks → Bool) → Type 0
+NoPicksPass most test = (picks : Picks) → length picks ≡ most → test picks ≡ false

@@ -17,8 +17,8 @@ pub record Outcome : Type 0 where
   pub left : List Answer
 
 -- each choice is answered by a pick, as a word of width 1
-abbrev pub told : Picks → List Answer
-told = map (λ pick. Some (digit pick))
+abbrev pub chosen : Picks → List Answer
+chosen = map (λ pick. Some (digit pick))
 
 -- the outcome of a block that has got to a point; none where it waits for more picks
 abbrev pub outcome_at : Eval → Block → Env → Point → Option Outcome
@@ -47,12 +47,12 @@ call_outcome L o vars args answers = block_outcome L o.spec vars (bind o.argumen
 abbrev pub maybe_call : ClosedLayer → Operation → Env → List Value → Picks → Option Outcome
 maybe_call L o vars args [] = None
 maybe_call L o vars args (happened ∷ picks) =
-    if happened then then_block L L.layer.crash (call_outcome L o vars args (told picks)) else crash_outcome L vars (told picks)
+    if happened then then_block L L.layer.crash (call_outcome L o vars args (chosen picks)) else crash_outcome L vars (chosen picks)
 
 -- an operation that power has cut: its own `on crash` block and then the `crash` block, or without one all of it or nothing
 abbrev pub fall_with : ClosedLayer → Operation → Option Block → Env → List Value → Picks → Option Outcome
 fall_with L o None vars args picks = maybe_call L o vars args picks
-fall_with L o (Some b) vars args picks = then_block L L.layer.crash (block_outcome L b vars (bind o.arguments args) (told picks))
+fall_with L o (Some b) vars args picks = then_block L L.layer.crash (block_outcome L b vars (bind o.arguments args) (chosen picks))
 
 -- an operation that power has cut
 abbrev pub fall_outcome : ClosedLayer → Operation → Env → List Value → Picks → Option Outcome
@@ -71,7 +71,7 @@ pub record SpecCalls (L : ClosedLayer) (from : State) (name : Name) (args : List
   pub from_is : from ≡ based vars
   pub shaped : IsTrue (env_fits L.layer.state vars)
   pub vars' : Env
-  pub gives : call_outcome L operation vars args (told picks) ≡ Some (record { vars = vars'; answer = answer; left = [] })
+  pub gives : call_outcome L operation vars args (chosen picks) ≡ Some (record { vars = vars'; answer = answer; left = [] })
   pub to_is : to ≡ based vars'
 
 -- an operation that power has cut, from variables of the declared shapes, with exactly these picks
@@ -91,7 +91,7 @@ pub record SpecLoses (L : ClosedLayer) (from : State) (picks : Picks) (fallen : 
   pub from_is : from ≡ based vars
   pub shaped : IsTrue (env_fits L.layer.state vars)
   pub answer : Answer
-  pub gives : crash_outcome L vars (told picks) ≡ Some (record { vars = fallen; answer = answer; left = [] })
+  pub gives : crash_outcome L vars (chosen picks) ≡ Some (record { vars = fallen; answer = answer; left = [] })
 
 -- the start state
 pub record SpecStarts (L : ClosedLayer) (to : State) : Type 0 where

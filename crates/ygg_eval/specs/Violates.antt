@@ -8,9 +8,9 @@ use Rattle.ygg_eval.specs.Shapes.{values_fit, zeros_of}
 use Rattle.ygg_eval.specs.Progress.{Answer}
 use Rattle.ygg_eval.specs.Machine.{Picks, State, Fallen, based, on, memory_in, Machine}
 use Rattle.ygg_eval.specs.Layer.{ClosedLayer, Layered, operation_of, tick_of, BlockRuns, BlockFalls}
-use Rattle.ygg_eval.specs.Spec.{Outcome, told, call_outcome, fall_outcome, crash_outcome, start_outcome}
+use Rattle.ygg_eval.specs.Spec.{Outcome, chosen, call_outcome, fall_outcome, crash_outcome, start_outcome}
 use Rattle.ygg_eval.specs.Related.{related, settled}
-use Rattle.ygg_eval.specs.Obligations.{Schedule, Obligation, Init, CallOf, CutOf, TickOf, CutTickOf, Idle, Again, IsRead, StopsAt, call_picks, crash_picks, fall_picks, Fails}
+use Rattle.ygg_eval.specs.Obligations.{Schedule, Obligation, Init, CallOf, CutOf, TickOf, CutTickOf, Idle, Again, IsRead, StopsAt, call_picks, crash_picks, fall_picks, NoPicksPass}
 
 -- whether a step of the specification has ended, in variables that are related to this state of the layer
 abbrev pub related_after : ClosedLayer → State → Option Outcome → Bool
@@ -67,8 +67,8 @@ module _ (L : ClosedLayer) (M : Machine) where
     pub to : State
     pub run : Impl.Calls (start_at x) name x.args taken answer to
     pub read : IsRead x.picks taken
-    pub fails : Fails (call_picks operation) (λ picks.
-        let o = call_outcome L operation x.state x.args (told picks) in answers_alike answer o && related_after L to o)
+    pub fails : NoPicksPass (call_picks operation) (λ picks.
+        let o = call_outcome L operation x.state x.args (chosen picks) in answers_alike answer o && related_after L to o)
 
   -- one whole recovery with the schedule's picks
   pub record Recovers (x : Schedule) (f : Fallen) (to : State) : Type 0 where
@@ -89,7 +89,7 @@ module _ (L : ClosedLayer) (M : Machine) where
     pub read : IsRead x.picks taken
     pub to : State
     pub recovers : Recovers x fallen to
-    pub fails : Fails (fall_picks L.layer operation) (λ picks. recovered L fallen to (fall_outcome L operation x.state x.args picks))
+    pub fails : NoPicksPass (fall_picks L.layer operation) (λ picks. recovered L fallen to (fall_outcome L operation x.state x.args picks))
 
   -- a whole background step ends in a state that is not related to the same variables
   pub record ViolatesTick (name : Name) (x : Schedule) : Type 0 where
@@ -115,7 +115,7 @@ module _ (L : ClosedLayer) (M : Machine) where
     pub read : IsRead x.picks taken
     pub to : State
     pub recovers : Recovers x fallen to
-    pub fails : Fails (crash_picks L.layer) (λ picks. recovered L fallen to (crash_outcome L x.state (told picks)))
+    pub fails : NoPicksPass (crash_picks L.layer) (λ picks. recovered L fallen to (crash_outcome L x.state (chosen picks)))
 
   -- power loss between operations, and a recovery, leave what the specification's power loss can't leave
   pub record ViolatesIdle (x : Schedule) : Type 0 where
@@ -126,7 +126,7 @@ module _ (L : ClosedLayer) (M : Machine) where
     pub read : IsRead x.picks taken
     pub to : State
     pub recovers : Recovers x fallen to
-    pub fails : Fails (crash_picks L.layer) (λ picks. recovered L fallen to (crash_outcome L x.state (told picks)))
+    pub fails : NoPicksPass (crash_picks L.layer) (λ picks. recovered L fallen to (crash_outcome L x.state (chosen picks)))
 
   -- power loss within a recovery leaves a base that is not settled, or a recovery from it ends elsewhere than one from the first base
   pub record ViolatesAgain (x : Schedule) : Type 0 where

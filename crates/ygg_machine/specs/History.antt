@@ -1,11 +1,11 @@
 -- What can have happened to a machine since it was formatted.
 use Rattle.std.specs.Prelude.{◌≡◌, List, [], ◌∷◌}
 use Rattle.ygg_value.specs.declared.row.Value.{Value}
-use Rattle.ygg_syntax.specs.declared.tree.DiskText.{DiskText}
+use Rattle.ygg_syntax.specs.declared.tree.File.{File}
 use Rattle.ygg_eval.specs.Environments.{Name, Env}
 use Rattle.ygg_eval.specs.Progress.{Answer}
 use Rattle.ygg_eval.specs.Machine.{Picks, State, based, TickName, Machine}
-use Rattle.ygg_machine.specs.Stack.{Layers, Top, Linked}
+use Rattle.ygg_machine.specs.Stack.{Linked, TopOf, layers_of}
 use Rattle.ygg_machine.specs.Under.{InCall, InTick, Between, Survives}
 
 -- one thing that has happened; after power has failed the machine was woken
@@ -30,14 +30,14 @@ Step M (CutTick name) s s' = Survives M (InTick name) s s'
 Step M Lost s s' = Survives M Between s s'
 
 -- the entries in turn lead from one running state to another
-abbrev pub Goes : Machine → State → List Entry → State → Type 0
-Goes M s [] s' = s ≡ s'
-Goes M s (e ∷ es) s' = (next : State) × Step M e s next × Goes M next es s'
+abbrev pub Steps : Machine → State → List Entry → State → Type 0
+Steps M s [] s' = s ≡ s'
+Steps M s (e ∷ es) s' = (next : State) × Step M e s next × Steps M next es s'
 
 -- the entries are a history of the machine, from a formatted state to this one
 abbrev pub History : Machine → List Entry → State → Type 0
-History M es s = (start : State) × (picks : Picks) × M.Starts start picks × Goes M start es s
+History M es s = (start : State) × (picks : Picks) × M.Starts start picks × Steps M start es s
 
--- the topmost specification has this history too, and each layer's relation holds of the state reached
-abbrev pub Allows : DiskText → Layers → List Entry → State → Type 0
-Allows disk layers es s = (vars : Env) × History (Top disk layers) es (based vars) × Linked layers vars s
+-- the topmost specification of a file has this history too, and each layer's relation holds of the state reached
+abbrev pub Allows : File → List Entry → State → Type 0
+Allows f es s = (vars : Env) × History (TopOf f) es (based vars) × Linked (layers_of f) vars s

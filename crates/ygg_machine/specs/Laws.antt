@@ -1,5 +1,5 @@
 -- The laws of layers on layers.
-use Rattle.std.specs.Prelude.{◌≡◌, List, [], ◌∷◌}
+use Rattle.std.specs.Prelude.{◌≡◌, ◌↔◌, All, List, [], ◌∷◌}
 use Rattle.ygg_value.specs.declared.row.Value.{Value}
 use Rattle.ygg_syntax.specs.declared.tree.DiskText.{DiskText}
 use Rattle.ygg_syntax.specs.declared.tree.File.{File}
@@ -8,9 +8,10 @@ use Rattle.ygg_eval.specs.Shapes.{zeros_of}
 use Rattle.ygg_eval.specs.Progress.{Question, Call, Answer, Asks}
 use Rattle.ygg_eval.specs.Machine.{Picks, State, Fallen, based, on, Machine}
 use Rattle.ygg_eval.specs.Runs.{WholeCall, Reaches, answers_of}
-use Rattle.ygg_eval.specs.Layer.{ClosedLayer, Layered, asked_by}
+use Rattle.ygg_eval.specs.Layer.{ClosedLayer, Layered, dialogue_of}
 use Rattle.ygg_eval.specs.Refines.{Below, machine_below}
-use Rattle.ygg_machine.specs.Stack.{Layers, Bottom, Top, Linked, AllRefine, below_of, layers_of}
+use Rattle.ygg_machine.specs.Stack.{Layers, Bottom, Top, BottomOf, Linked, AllRefine, FileRefines, below_of, layers_of}
+use Rattle.ygg_machine.specs.Claims.{ClaimHolds, claims_of}
 use Rattle.ygg_machine.specs.Under.{Under, Failure, FailsBy}
 use Rattle.ygg_machine.specs.History.{Entry, History, Allows}
 
@@ -36,7 +37,7 @@ Monotone =
     Under (Layered L (Bottom disk lower)) (Layered L (Top disk lower)) (OnTop (ByLinks lower))
 
 -- the machine answers what a block asks
-pub record Reply (M : Machine) (s : State) (q : Question) : Type 0 where
+pub record IsAnswered (M : Machine) (s : State) (q : Question) : Type 0 where
   pub name : Name
   pub args : List Value
   pub picks : Picks
@@ -49,8 +50,8 @@ pub record Reply (M : Machine) (s : State) (q : Question) : Type 0 where
 pub record Answered (L : ClosedLayer) (g : Below) : Type 0 where
   pub answers : (s : State) (how : Failure) (picks : Picks) (f : Fallen) → FailsBy (machine_below g) how s picks f →
       (calls : List WholeCall) (at : State) (q : Question) →
-      Reaches (machine_below g) (asked_by L L.layer.recover (zeros_of L.layer.memory) []) [] (based f) calls at →
-      asked_by L L.layer.recover (zeros_of L.layer.memory) [] (answers_of calls) ≡ Asks q → Reply (machine_below g) at q
+      Reaches (machine_below g) (dialogue_of L L.layer.recover (zeros_of L.layer.memory) []) [] (based f) calls at →
+      dialogue_of L L.layer.recover (zeros_of L.layer.memory) [] (answers_of calls) ≡ Asks q → IsAnswered (machine_below g) at q
 
 -- the same of each layer, which holds of every typed file
 abbrev pub AllAnswered : DiskText → Layers → Type 0
@@ -63,8 +64,15 @@ Compose =
     (disk : DiskText) (layers : Layers) → AllRefine disk layers → AllAnswered disk layers →
     Under (Bottom disk layers) (Top disk layers) (ByLinks layers)
 
+-- the same of each layer of a file
+abbrev pub FileAnswered : File → Type 0
+FileAnswered f = AllAnswered f.disk (layers_of f)
+
 -- where each layer of a file refines its specification, the topmost specification allows every history of the bottom implementation
 abbrev pub Histories : Type 0
 Histories =
-    (f : File) → AllRefine f.disk (layers_of f) → AllAnswered f.disk (layers_of f) → (es : List Entry) (s : State) →
-    History (Bottom f.disk (layers_of f)) es s → Allows f.disk (layers_of f) es s
+    (f : File) → FileRefines f → FileAnswered f → (es : List Entry) (s : State) → History (BottomOf f) es s → Allows f es s
+
+-- each layer of a file refines its specification exactly where each obligation in the file's list holds
+abbrev pub RefinesByList : Type 0
+RefinesByList = (f : File) → All ClaimHolds (claims_of f) ↔ FileRefines f

@@ -1,4 +1,5 @@
 pub mod Stack
+pub mod Claims
 pub mod Under
 pub mod History
 pub mod Laws

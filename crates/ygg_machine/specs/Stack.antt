@@ -76,3 +76,15 @@ layers_on functions low (l ∷ ls) lower = layers_on functions l.state ls (recor
 -- the layers of a file, the topmost first
 abbrev pub layers_of : File → Layers
 layers_of f = layers_on (functions_of f.defs) (tables_of f.disk) f.layers []
+
+-- the bottom implementation of a file
+abbrev pub BottomOf : File → Machine
+BottomOf f = Bottom f.disk (layers_of f)
+
+-- the topmost specification of a file
+abbrev pub TopOf : File → Machine
+TopOf f = Top f.disk (layers_of f)
+
+-- each layer of a file refines its specification on what it is specified over
+abbrev pub FileRefines : File → Type 0
+FileRefines f = AllRefine f.disk (layers_of f)

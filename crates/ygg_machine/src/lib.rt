@@ -1,2 +1,4 @@
 //! Layers on layers, their histories, and the laws that reach from each layer to the whole stack.
 #![tactic(auto)]
+
+pub mod law;

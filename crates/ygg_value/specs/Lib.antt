@@ -3,3 +3,4 @@ pub mod Words
 pub mod Values
 pub mod Shapes
 pub mod Flat
+pub mod Laws

@@ -1,5 +1,6 @@
 -- Shapes: what a shape may be, its zeros, and the shape of a value.
 use Rattle.std.specs.Prelude.{ℕ, ◌≤◌, ◌*◌, length, replicate}
+use Rattle.ygg_value.specs.Number.{IsWord, IsRow, IsTable}
 use Rattle.ygg_value.specs.declared.row.Value.{Value}
 use Rattle.ygg_value.specs.declared.row.Value.TheVariants.{Word, Row, Table}
 use Rattle.ygg_value.specs.declared.shape.Shape.{Shape}
@@ -26,3 +27,9 @@ abbrev pub shape_of : Value → Shape
 shape_of (Word w) = shape.Word w.width
 shape_of (Row r) = shape.Row (length r.words) r.width
 shape_of (Table t) = shape.Table (length t.rows) t.words t.width
+
+-- the value keeps the limits: its shape may be, each of its rows has as many numbers, and each number fits its width
+abbrev pub IsValue : Value → Type 0
+IsValue (Word w) = IsWord w
+IsValue (Row r) = IsRow r
+IsValue (Table t) = IsTable t

@@ -53,11 +53,7 @@ fn ones(width: u8) -> u64
     requires most { width ≤ 64 }
     ensures { result ≡ 2 ^ width - 1 }
 {
-    if width == 64 {
-        u64::MAX
-    } else {
-        (1 << width) - 1
-    }
+    u64::MAX >> (64 - width)
 }
 
 #[tactic(auto, using(crate::proofs::Cut::or_word, crate::proofs::Cut::xor_word))]
@@ -89,7 +85,7 @@ pub fn apply(op: Op, a: Word, b: Word) -> Word
         Op::Le => digit(a.bits <= b.bits),
         Op::Gt => digit(a.bits > b.bits),
         Op::Ge => digit(a.bits >= b.bits),
-        Op::Imp => digit(a.bits <= b.bits),
+        Op::Imp => digit(a.bits == 0 || b.bits == 1),
     }
 }
 
