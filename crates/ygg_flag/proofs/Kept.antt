@@ -13,8 +13,8 @@ use Rattle.ygg_eval.specs.Shapes.{values_fit}
 use Rattle.ygg_eval.specs.Progress.{Answer}
 use Rattle.ygg_eval.specs.Machine.{Picks, State, Fallen, based, on}
 use Rattle.ygg_eval.specs.Layer.{ClosedLayer, Layered, operation_of, BlockRuns, BlockFalls}
-use Rattle.ygg_eval.specs.Spec.{Outcome, told, call_outcome, fall_outcome}
-use Rattle.ygg_eval.specs.Obligations.{Schedule, Init, CallOf, CutOf, Fails, call_picks, fall_picks}
+use Rattle.ygg_eval.specs.Spec.{Outcome, chosen, call_outcome, fall_outcome}
+use Rattle.ygg_eval.specs.Obligations.{Schedule, Init, CallOf, CutOf, NoPicksPass, call_picks, fall_picks}
 use Rattle.ygg_eval.specs.Violates.{answers_alike, related_after, recovered}
 use Rattle.ygg_flag.specs.declared.decide.Bits.{Bits}
 use Rattle.ygg_flag.specs.Bits.{related, specified, written, stored_after, stops, relates_either, call_keeps, cut_keeps}
@@ -83,8 +83,8 @@ module _ (f : FlagFile) (fit : FitsNames f) where
       let ran = block_runs L impl (argument_of f a) (written f a) (writes f fit a) d v.taken v.answer v.to step4 in
       let test : Operation → Env → List Value → Bool = λ o vars args.
       answers_alike v.answer (call_outcome L o vars args []) && related_after L v.to (call_outcome L o vars args []) in
-      let fails1 = subst (λ o. Fails (call_picks o) (λ picks.
-      let g = call_outcome L o x.state x.args (told picks) in answers_alike v.answer g && related_after L v.to g))
+      let fails1 = subst (λ o. NoPicksPass (call_picks o) (λ picks.
+      let g = call_outcome L o x.state x.args (chosen picks) in answers_alike v.answer g && related_after L v.to g))
       (sym (the_operation f f.operation v.operation v.is).is) v.fails in
       let fails2 : test (operation f) x.state x.args ≡ false = fails1 [] (sym (no_choices f)) in
       let fails3 = ap (λ vars. test (operation f) vars x.args) (sym r.vars_are) ∙ fails2 in
@@ -117,9 +117,9 @@ module _ (f : FlagFile) (fit : FitsNames f) where
       let k = stored_after d left.front in
       let to_is = recovers_to f k v.recovers.taken v.to (subst (λ g. (Layered L machine).Wakes g v.recovers.taken v.to) left.fallen_is v.recovers.run) in
       let test : Operation → Env → List Value → Picks → Bool = λ o vars args picks. recovered L v.fallen v.to (fall_outcome L o vars args picks) in
-      let fails1 = subst (λ o. Fails (fall_picks L.layer o) (test o x.state x.args)) (sym the.is) v.fails in
-      let fails2 = subst (λ vars. Fails (fall_picks L.layer (operation f)) (test (operation f) vars x.args)) r.vars_are fails1 in
-      let fails3 = subst (λ args. Fails (fall_picks L.layer (operation f)) (test (operation f) (state_of f s) args)) arg.is fails2 in
+      let fails1 = subst (λ o. NoPicksPass (fall_picks L.layer o) (test o x.state x.args)) (sym the.is) v.fails in
+      let fails2 = subst (λ vars. NoPicksPass (fall_picks L.layer (operation f)) (test (operation f) vars x.args)) r.vars_are fails1 in
+      let fails3 = subst (λ args. NoPicksPass (fall_picks L.layer (operation f)) (test (operation f) (state_of f s) args)) arg.is fails2 in
       let count = sym (ap (λ n. 1 + n + 0) (no_choices f)) in
       let changed = sym (cut_test f fit s a k true [] v.fallen v.to left.fallen_is to_is) ∙ fails3 (true ∷ []) count in
       let unchanged = sym (cut_test f fit s a k false [] v.fallen v.to left.fallen_is to_is) ∙ fails3 (false ∷ []) count in

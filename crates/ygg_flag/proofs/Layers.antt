@@ -23,8 +23,8 @@ use Rattle.ygg_eval.specs.Meaning.{Scope, is_one}
 use Rattle.ygg_eval.specs.Shapes.{env_fits, zeros_of}
 use Rattle.ygg_eval.specs.Progress.{Eval, Run, Answer, Point, Goes, and_then, in_turn, run_of, stmt_run, block_run, from_source, assigned, ended}
 use Rattle.ygg_eval.specs.Machine.{Picks, State, Fallen, based, on}
-use Rattle.ygg_eval.specs.Layer.{ClosedLayer, eval_of, asked_by, BlockRuns, BlockFalls}
-use Rattle.ygg_eval.specs.Spec.{Outcome, outcome_at, told, call_outcome, crash_outcome, fall_outcome, start_outcome}
+use Rattle.ygg_eval.specs.Layer.{ClosedLayer, eval_of, dialogue_of, BlockRuns, BlockFalls}
+use Rattle.ygg_eval.specs.Spec.{Outcome, outcome_at, chosen, call_outcome, crash_outcome, fall_outcome, start_outcome}
 use Rattle.ygg_eval.specs.Related as author
 use Rattle.ygg_flag.specs.declared.decide.Bits.{Bits}
 use Rattle.ygg_flag.specs.Bits.{bit_in, value, related, specified, written, stored_after}
@@ -140,7 +140,7 @@ module _ (f : FlagFile) (fit : FitsNames f) where
 
   -- The blocks
 
-  pub writes : (a : Bool) → WritesNext (eval_of L) (argument_of f a) (asked_by L (operation f).implementation [] (argument_of f a)) [] (written f a)
+  pub writes : (a : Bool) → WritesNext (eval_of L) (argument_of f a) (dialogue_of L (operation f).implementation [] (argument_of f a)) [] (written f a)
   writes a more =
       ap (ended (eval_of L) None (argument_of f a))
       (writes_in_turn L.functions (argument_of f a) (λ e. value f e false a false) (λ e. UsesOnly (f.argument ∷ []) e × IsBlind e) worth f.writes

@@ -4,13 +4,16 @@ use Rattle.ygg_syntax.specs.declared.flag.FlagFile.{FlagFile}
 use Rattle.ygg_syntax.specs.declared.tree.Tick.{Tick}
 use Rattle.ygg_syntax.specs.FlagNames.{FitsNames}
 use Rattle.ygg_eval.specs.Environments.{Env, Name, same_env}
+use Rattle.ygg_eval.specs.Progress.{Answer, Question, Asks}
+use Rattle.ygg_eval.specs.Runs.{answers_of}
 use Rattle.ygg_eval.specs.Machine.{Picks, State, Fallen, based, on}
-use Rattle.ygg_eval.specs.Layer.{ClosedLayer, Layered, BlockRuns, BlockFalls}
+use Rattle.ygg_eval.specs.Layer.{ClosedLayer, Layered, dialogue_of, BlockRuns, BlockFalls}
 use Rattle.ygg_eval.specs.Spec.{crash_outcome}
 use Rattle.ygg_eval.specs.Related.{settled}
 use Rattle.ygg_eval.specs.Obligations.{Obligation, Schedule, Init, CallOf, CutOf, TickOf, CutTickOf, Idle, Again}
 use Rattle.ygg_eval.specs.Violates.{same_state, related_after, recovered, ViolatesCall, ViolatesCut}
 use Rattle.ygg_eval.specs.Refines.{Refines}
+use Rattle.ygg_machine.specs.Laws.{Answered}
 use Rattle.ygg_flag.specs.Bits.{related}
 use Rattle.ygg_flag.specs.Trees.{block}
 use Rattle.ygg_flag.specs.Obligations.{closed, below, FlagHolds}
@@ -30,7 +33,7 @@ module _ (f : FlagFile) (fit : FitsNames f) where
   L = closed f
 
   -- power loss alone changes neither the state nor the disk
-  idle_holds : FlagHolds f Idle
+  pub idle_holds : FlagHolds f Idle
   idle_holds x v =
       let r = related_bits f fit x.state x.memory x.low v.before in
       let s = r.state in
@@ -44,7 +47,7 @@ module _ (f : FlagFile) (fit : FitsNames f) where
       absurd (let e = sym keeps ∙ there in cc)
 
   -- a recovery makes no call, so where power fails in it changes nothing
-  again_holds : FlagHolds f Again
+  pub again_holds : FlagHolds f Again
   again_holds x v =
       let (d, low_is) = tables_are x.low (and_first _ true v.before) in
       let fallen_is = recovery_falls f d v.taken v.fallen (subst (λ l. BlockFalls L machine (block []) [] (on [] (based l)) v.taken v.fallen) low_is v.run) in
@@ -58,11 +61,19 @@ module _ (f : FlagFile) (fit : FitsNames f) where
   no_tick : {t : Tick} → None ≡ Some t → ⊥
   no_tick e = absurd (cc)
 
-  pub others_hold : DecidedHold f → Refines L below
-  others_hold h Init x v = h.init x v
-  others_hold h (CallOf name) x v = h.call x (subst (λ n. ViolatesCall L machine n x) (sym (the_operation f name v.operation v.is).named) v)
-  others_hold h (CutOf name) x v = h.cut x (subst (λ n. ViolatesCut L machine n x) (sym (the_operation f name v.operation v.is).named) v)
-  others_hold h (TickOf name) x v = no_tick v.is
-  others_hold h (CutTickOf name) x v = no_tick v.is
-  others_hold h Idle x v = idle_holds x v
-  others_hold h Again x v = again_holds x v
+  pub refines : DecidedHold f → Refines L below
+  refines h Init x v = h.init x v
+  refines h (CallOf name) x v = h.call x (subst (λ n. ViolatesCall L machine n x) (sym (the_operation f name v.operation v.is).named) v)
+  refines h (CutOf name) x v = h.cut x (subst (λ n. ViolatesCut L machine n x) (sym (the_operation f name v.operation v.is).named) v)
+  refines h (TickOf name) x v = no_tick v.is
+  refines h (CutTickOf name) x v = no_tick v.is
+  refines h Idle x v = idle_holds x v
+  refines h Again x v = again_holds x v
+
+  -- a recovery makes no call
+  pub answered : Answered L below
+  answered = record { answers = λ s how picks f fails calls at q path asks. absurd (asks_nothing (answers_of calls) q asks) }
+    where
+      asks_nothing : (told : List Answer) (q : Question) → dialogue_of L (block []) [] [] told ≡ Asks q → ⊥
+      asks_nothing [] q e = absurd (cc)
+      asks_nothing (a ∷ told) q e = absurd (cc)

@@ -7,7 +7,7 @@ use Rattle.ygg_eval.specs.Environments.{Env}
 use Rattle.ygg_eval.specs.Progress.{Answer}
 use Rattle.ygg_eval.specs.Machine.{Picks, State, Fallen, based, on, memory_in, Machine}
 use Rattle.ygg_eval.specs.Runs.{WholeRun, FallenRun}
-use Rattle.ygg_eval.specs.Layer.{ClosedLayer, Layered, eval_of, asked_by, BlockRuns, BlockFalls, StartsAndFormats}
+use Rattle.ygg_eval.specs.Layer.{ClosedLayer, Layered, eval_of, dialogue_of, BlockRuns, BlockFalls, StartsAndFormats}
 use Rattle.ygg_flag.specs.Bits.{stored_after}
 use Rattle.ygg_flag.specs.Trees.{block}
 use Rattle.ygg_flag.specs.Obligations.{closed}
@@ -20,7 +20,7 @@ at_disk stored = on [] (based (tables stored))
 abbrev lower_in : State → State
 lower_in s = record { memories = elim s.memories [ [] ↦ [] | m ∷ ms ↦ ms ]; base = s.base }
 
-module _ (L : ClosedLayer) (b : Block) (args : Env) (bits : List Bool) (next : WritesNext (eval_of L) args (asked_by L b [] args) [] bits) where
+module _ (L : ClosedLayer) (b : Block) (args : Env) (bits : List Bool) (next : WritesNext (eval_of L) args (dialogue_of L b [] args) [] bits) where
   -- a whole run of a block that writes these bits
   pub record Ran (stored : Bool) (picks : Picks) (answer : Answer) (to : State) : Type 0 where
     pub no_picks : picks ≡ []
@@ -31,9 +31,9 @@ module _ (L : ClosedLayer) (b : Block) (args : Env) (bits : List Bool) (next : W
   block_runs stored picks answer to h =
       let memory = sym (ap memory_in h.from_is) in
       let lower = sym (ap lower_in h.from_is) in
-      let here = subst (λ m. WholeRun machine (asked_by L b m args) h.lower picks h.env' answer h.lower') memory h.run in
-      let run = subst (λ l. WholeRun machine (asked_by L b [] args) l picks h.env' answer h.lower') lower here in
-      let w = whole_writes (eval_of L) args (asked_by L b [] args) bits stored picks h.env' answer h.lower' next run in
+      let here = subst (λ m. WholeRun machine (dialogue_of L b m args) h.lower picks h.env' answer h.lower') memory h.run in
+      let run = subst (λ l. WholeRun machine (dialogue_of L b [] args) l picks h.env' answer h.lower') lower here in
+      let w = whole_writes (eval_of L) args (dialogue_of L b [] args) bits stored picks h.env' answer h.lower' next run in
       record {
         no_picks = w.no_picks;
         no_answer = w.no_answer;
@@ -47,15 +47,15 @@ module _ (L : ClosedLayer) (b : Block) (args : Env) (bits : List Bool) (next : W
     from_is = refl;
     env' = take (length args) args;
     lower' = based (tables (stored_after stored bits));
-    run = writes_whole (eval_of L) args (asked_by L b [] args) bits stored next;
+    run = writes_whole (eval_of L) args (dialogue_of L b [] args) bits stored next;
     to_is = refl;
   }
 
   pub block_falls : (stored : Bool) (picks : Picks) (fallen : Fallen) → BlockFalls L machine b args (at_disk stored) picks fallen → LeavesSome bits stored fallen
   block_falls stored picks fallen h =
-      let here = subst (λ m. FallenRun machine (asked_by L b m args) h.lower picks fallen) (sym (ap memory_in h.from_is)) h.run in
-      let run = subst (λ l. FallenRun machine (asked_by L b [] args) l picks fallen) (sym (ap lower_in h.from_is)) here in
-      fallen_writes (eval_of L) args (asked_by L b [] args) bits stored picks fallen next run
+      let here = subst (λ m. FallenRun machine (dialogue_of L b m args) h.lower picks fallen) (sym (ap memory_in h.from_is)) h.run in
+      let run = subst (λ l. FallenRun machine (dialogue_of L b [] args) l picks fallen) (sym (ap lower_in h.from_is)) here in
+      fallen_writes (eval_of L) args (dialogue_of L b [] args) bits stored picks fallen next run
 
 -- power fails in the block after it has written some bits, with no call begun
 pub record BlockStops (L : ClosedLayer) (b : Block) (args : Env) (front : List Bool) (stored : Bool) : Type 0 where
@@ -64,9 +64,9 @@ pub record BlockStops (L : ClosedLayer) (b : Block) (args : Env) (front : List B
   pub count : length run.run.calls ≡ length front
 
 pub block_stops : (L : ClosedLayer) (b : Block) (args : Env) (front back : List Bool) (stored : Bool) →
-    WritesNext (eval_of L) args (asked_by L b [] args) [] (front ++ back) → BlockStops L b args front stored
+    WritesNext (eval_of L) args (dialogue_of L b [] args) [] (front ++ back) → BlockStops L b args front stored
 block_stops L b args front back stored next =
-    let x = writes_stopped (eval_of L) args (asked_by L b [] args) front back stored next in
+    let x = writes_stopped (eval_of L) args (dialogue_of L b [] args) front back stored next in
     record { run = record { memory = []; lower = based (tables stored); from_is = refl; run = x.run }; between = x.between; count = x.count }
 
 module _ (f : FlagFile) where
@@ -76,7 +76,7 @@ module _ (f : FlagFile) where
   abbrev Impl : Machine
   Impl = Layered L machine
 
-  pub writes_nothing : WritesNext (eval_of L) [] (asked_by L (block []) [] []) [] []
+  pub writes_nothing : WritesNext (eval_of L) [] (dialogue_of L (block []) [] []) [] []
   writes_nothing more = refl
 
   pub starts_at : (taken : Picks) (to : State) → Impl.Starts to taken → to ≡ at_disk false

@@ -8,8 +8,8 @@ use Rattle.ygg_syntax.specs.FlagNames.{FitsNames}
 use Rattle.ygg_eval.specs.Environments.{Env, Name}
 use Rattle.ygg_eval.specs.Progress.{Answer}
 use Rattle.ygg_eval.specs.Machine.{Picks, State, Fallen}
-use Rattle.ygg_eval.specs.Layer.{ClosedLayer, eval_of, asked_by, operation_of}
-use Rattle.ygg_eval.specs.Spec.{Outcome, told, call_outcome, fall_outcome, start_outcome, then_block}
+use Rattle.ygg_eval.specs.Layer.{ClosedLayer, eval_of, dialogue_of, operation_of}
+use Rattle.ygg_eval.specs.Spec.{Outcome, chosen, call_outcome, fall_outcome, start_outcome, then_block}
 use Rattle.ygg_eval.specs.Related.{settled}
 use Rattle.ygg_eval.specs.Obligations.{Halt, Schedule, Init, CallOf, CutOf, fall_picks}
 use Rattle.ygg_eval.specs.Violates.{related_after, answers_alike, recovered}
@@ -60,13 +60,13 @@ module _ (f : FlagFile) (fit : FitsNames f) where
 
   -- what the conclusion of `call` comes to
   pub call_test : (s a d : Bool) (picks : Picks) (answer : Answer) (to : State) → answer ≡ None → to ≡ at_disk d →
-      (answers_alike answer (call_outcome L (operation f) (state_of f s) (digit a ∷ []) (told picks))
-      && related_after L to (call_outcome L (operation f) (state_of f s) (digit a ∷ []) (told picks))) ≡ related f (specified f s a) d
+      (answers_alike answer (call_outcome L (operation f) (state_of f s) (digit a ∷ []) (chosen picks))
+      && related_after L to (call_outcome L (operation f) (state_of f s) (digit a ∷ []) (chosen picks))) ≡ related f (specified f s a) d
   call_test s a d picks answer to answer_is to_is =
-      let gives = call_outcome L (operation f) (state_of f s) (digit a ∷ []) (told picks) in
+      let gives = call_outcome L (operation f) (state_of f s) (digit a ∷ []) (chosen picks) in
       ap (λ y. answers_alike y gives && related_after L to gives) answer_is
       ∙ ap (λ t. answers_alike None gives && related_after L t gives) to_is
-      ∙ ap (λ o. answers_alike None o && related_after L (at_disk d) o) (spec_gives f fit s a (told picks))
+      ∙ ap (λ o. answers_alike None o && related_after L (at_disk d) o) (spec_gives f fit s a (chosen picks))
       ∙ related_is f fit (specified f s a) d
 
   pub call_violated : (bits : Bits) → call_keeps f bits ≡ false → FlagViolates f (CallOf f.operation) (schedule bits None)
@@ -102,7 +102,7 @@ module _ (f : FlagFile) (fit : FitsNames f) where
       ∙ by_pick happened
     where
       by_pick : (happened : Bool) → related_after L (at_disk d) (fall_outcome L (operation f) (state_of f s) (digit a ∷ []) (happened ∷ picks)) ≡ related f (if happened then specified f s a else s) d
-      by_pick true = ap (λ o. related_after L (at_disk d) (then_block L L.layer.crash o)) (spec_gives f fit s a (told picks)) ∙ related_is f fit (specified f s a) d
+      by_pick true = ap (λ o. related_after L (at_disk d) (then_block L L.layer.crash o)) (spec_gives f fit s a (chosen picks)) ∙ related_is f fit (specified f s a) d
       by_pick false = related_is f fit s d
 
   -- no pick of the specification is related to a disk that is related to neither state
@@ -121,7 +121,7 @@ module _ (f : FlagFile) (fit : FitsNames f) where
       let x = at_some (relates_either f s (specified f s a)) (written f a) d after in
       let k = stored_after d x.front in
       let (unchanged, changed) = neither (related f s k) (related f (specified f s a) k) x.fails in
-      let stopped = block_stops L (operation f).implementation (argument_of f a) x.front x.back d (subst (WritesNext (eval_of L) (argument_of f a) (asked_by L (operation f).implementation [] (argument_of f a)) []) x.is (writes f fit a)) in
+      let stopped = block_stops L (operation f).implementation (argument_of f a) x.front x.back d (subst (WritesNext (eval_of L) (argument_of f a) (dialogue_of L (operation f).implementation [] (argument_of f a)) []) x.is (writes f fit a)) in
       (schedule bits (Some (record { within = false; event = length x.front })), record {
         before = related_is f fit s d ∙ before;
         operation = operation f;

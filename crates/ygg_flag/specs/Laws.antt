@@ -3,27 +3,26 @@ use Rattle.std.specs.Prelude.{List}
 use Rattle.ygg_syntax.specs.declared.flag.FlagFile.{FlagFile}
 use Rattle.ygg_syntax.specs.FlagNames.{FitsNames}
 use Rattle.ygg_eval.specs.Machine.{State}
-use Rattle.ygg_eval.specs.Obligations.{Init, CallOf, CutOf}
-use Rattle.ygg_eval.specs.Refines.{Refines}
-use Rattle.ygg_machine.specs.Stack.{Bottom, layers_of}
+use Rattle.ygg_eval.specs.Obligations.{Init, CallOf, CutOf, Idle, Again}
+use Rattle.ygg_machine.specs.Stack.{BottomOf, FileRefines}
 use Rattle.ygg_machine.specs.History.{Entry, History, Allows}
 use Rattle.ygg_flag.specs.Trees.{file_of}
-use Rattle.ygg_flag.specs.Obligations.{closed, below, FlagHolds}
+use Rattle.ygg_flag.specs.Obligations.{FlagHolds}
 
--- the three obligations that are decided
+-- power loss between operations and within recovery does no harm, whatever the file says
+abbrev pub IdleAndAgain : Type 0
+IdleAndAgain = (f : FlagFile) → FitsNames f → FlagHolds f Idle × FlagHolds f Again
+
+-- the obligations that are decided hold
 pub record DecidedHold (f : FlagFile) : Type 0 where
   pub init : FlagHolds f Init
   pub call : FlagHolds f (CallOf f.operation)
   pub cut : FlagHolds f (CutOf f.operation)
 
--- all other obligations hold of every flag file
-abbrev pub OthersHold : Type 0
-OthersHold = (f : FlagFile) → FitsNames f → DecidedHold f → Refines (closed f) below
+-- where they hold, the file's layer refines its specification
+abbrev pub FlagRefines : Type 0
+FlagRefines = (f : FlagFile) → FitsNames f → DecidedHold f → FileRefines (file_of f)
 
--- the specification allows every history of the implementation on its disk
-abbrev pub AllAllowed : FlagFile → Type 0
-AllAllowed f = (es : List Entry) (s : State) → History (Bottom (file_of f).disk (layers_of (file_of f))) es s → Allows (file_of f).disk (layers_of (file_of f)) es s
-
--- where the three obligations hold, every history is allowed
+-- where they hold, the specification allows every history of the implementation on its disk
 abbrev pub FlagHistories : Type 0
-FlagHistories = (f : FlagFile) → FitsNames f → DecidedHold f → AllAllowed f
+FlagHistories = (f : FlagFile) → FitsNames f → DecidedHold f → (es : List Entry) (s : State) → History (BottomOf (file_of f)) es s → Allows (file_of f) es s

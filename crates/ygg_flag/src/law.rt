@@ -1,16 +1,25 @@
 //! What holds of every flag file.
 
-ghost use Rattle.ygg_flag.specs.Laws.{OthersHold, FlagHistories};
+ghost use Rattle.ygg_flag.specs.Laws.{IdleAndAgain, FlagRefines, FlagHistories};
 
-/// Where `init`, `call` and `cut` hold, so do all other obligations.
-pub fn others_hold()
-    ensures { OthersHold }
+use ygg_machine::law::history;
+
+/// Power loss between operations and within recovery does no harm, whatever the file says.
+pub fn idle_and_again()
+    ensures { IdleAndAgain }
 {
 }
 
-/// Where `init`, `call` and `cut` hold, the specification allows every history of the implementation on its disk: all
-/// calls, interrupted calls and power losses.
+/// Where the obligations hold that are decided, the file's layer refines its specification.
+pub fn refines()
+    ensures { FlagRefines }
+{
+}
+
+/// Where the obligations hold that are decided, the specification allows every history of the implementation on its
+/// disk: calls, calls that power cuts, and power losses, with a recovery after each.
 pub fn histories()
     ensures { FlagHistories }
 {
+    history();
 }
