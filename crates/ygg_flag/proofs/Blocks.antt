@@ -18,11 +18,8 @@ use Rattle.ygg_eval.specs.Environments.{Env}
 use Rattle.ygg_eval.specs.Meaning.{Scope, Functions, value_with, row_of}
 use Rattle.ygg_eval.specs.Progress.{Eval, Run, Answer, Question, Call, Point, Waits, Goes, Progress, and_then, ask, in_turn, run_of, stmt_run, block_run, ended}
 use Rattle.ygg_flag.specs.Trees.{somewhere, named, constant, expression, write_of}
+use Rattle.ygg_flag.proofs.Disk.{write_question}
 use Rattle.ygg_flag.proofs.Expressions.{constant_value, row_value}
-
--- the row of one bit is to be written
-abbrev pub write_question : Bool → Question
-write_question b = Call (codes "write") (Word (word 8 0) ∷ Row (record { width = 1; words = bit_of b ∷ [] }) ∷ [])
 
 -- the calls are made in turn, and nothing is done with what they answer
 abbrev pub calling : List Question → Env → List Answer → Point

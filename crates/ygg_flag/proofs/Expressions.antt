@@ -3,7 +3,6 @@ use Rattle.std.proofs.Common.{◌≡◌, ℕ, Bool, true, false, not, ◌||◌, 
 use Rattle.std.specs.List.{All, Contains}
 use Rattle.std.specs.Str.{bytes_eq}
 use Rattle.std.proofs.lemmas.List.Elements.{All-head, All-weaker, All-contains, All-contains_itself, Contains-append_left, Contains-append_right}
-use Rattle.ygg_value.specs.Number.{Grid}
 use Rattle.ygg_value.specs.Words.{word, bit_of, not_of}
 use Rattle.ygg_value.specs.Values.{digit, word_in, apply_value, part_of}
 use Rattle.ygg_value.specs.declared.operation.Op.TheVariants.{Eq}
@@ -22,10 +21,7 @@ use Rattle.ygg_flag.specs.declared.decide.Bits.{Bits}
 use Rattle.ygg_flag.specs.Bits.{same_bit, bit_node, bit_in}
 use Rattle.ygg_syntax.specs.FlagNames.{names_node, names_in, stored_node, has_stored}
 use Rattle.ygg_flag.specs.Trees.{numeral, named, somewhere, constant, low_view, expression_node, expression}
-
--- the table of a disk of one bit
-abbrev pub grid : Bool → Grid
-grid b = record { width = 1; words = 1; rows = (bit_of b ∷ []) ∷ [] }
+use Rattle.ygg_flag.proofs.Disk.{grid}
 
 -- facts on each element of two lists
 all_left : {X : Type 0} (P : X → Type 0) (xs ys : List X) → All P (xs ++ ys) → All P xs

@@ -20,7 +20,7 @@ use Rattle.ygg_flag.specs.declared.decide.Bits.{Bits}
 use Rattle.ygg_flag.specs.Bits.{related, specified, written, stored_after, stops, relates_either, call_keeps, cut_keeps}
 use Rattle.ygg_flag.specs.Trees.{bit_named, operation}
 use Rattle.ygg_flag.specs.Obligations.{closed, FlagHolds}
-use Rattle.ygg_flag.proofs.Runs.{machine, tables}
+use Rattle.ygg_flag.proofs.Disk.{machine, tables}
 use Rattle.ygg_flag.proofs.Shapes.{argument_is}
 use Rattle.ygg_flag.proofs.Layers.{state_of, argument_of, no_choices, related_bits, writes}
 use Rattle.ygg_flag.proofs.Steps.{at_disk, block_runs, block_falls, starts_at, recovers_to}

@@ -31,9 +31,10 @@ use Rattle.ygg_flag.specs.Bits.{bit_in, value, related, specified, written, stor
 use Rattle.ygg_machine.specs.Stack.{tables_of}
 use Rattle.ygg_flag.specs.Trees.{one_bit, named, expression, block, write_of, assignment, operation}
 use Rattle.ygg_flag.specs.Obligations.{closed}
-use Rattle.ygg_flag.proofs.Expressions.{grid, expression_agrees, IsKnown, HoldsBit}
-use Rattle.ygg_flag.proofs.Blocks.{write_question, calling, writes_in_turn}
-use Rattle.ygg_flag.proofs.Runs.{tables, WritesNext}
+use Rattle.ygg_flag.proofs.Expressions.{expression_agrees, IsKnown, HoldsBit}
+use Rattle.ygg_flag.proofs.Blocks.{calling, writes_in_turn}
+use Rattle.ygg_flag.proofs.Disk.{grid, tables, write_question}
+use Rattle.ygg_flag.proofs.Runs.{WritesNext}
 use Rattle.ygg_flag.proofs.Shapes.{bytes_same, variable_is, tables_are, no_names, variable_fits, tables_fit, and_first, and_second}
 
 one_of_digit : (b : Bool) → is_one (digit b) ≡ b

@@ -1,3 +1,4 @@
+pub mod Disk
 pub mod Expressions
 pub mod Blocks
 pub mod Runs
@@ -9,4 +10,3 @@ pub mod Violated
 pub mod Kept
 pub mod Others
 pub mod Deciding
-pub mod Allowed

@@ -18,7 +18,7 @@ use Rattle.ygg_flag.specs.Bits.{related}
 use Rattle.ygg_flag.specs.Trees.{block}
 use Rattle.ygg_flag.specs.Obligations.{closed, below, FlagHolds}
 use Rattle.ygg_flag.specs.Laws.{DecidedHold}
-use Rattle.ygg_flag.proofs.Runs.{machine, tables, loses_nothing}
+use Rattle.ygg_flag.proofs.Disk.{machine, tables, loses_nothing}
 use Rattle.ygg_flag.proofs.Shapes.{tables_are, and_first}
 use Rattle.ygg_flag.proofs.Layers.{state_of, related_bits, related_is, settled_is}
 use Rattle.ygg_flag.proofs.Steps.{at_disk, block_runs, writes_nothing, recovers_to, recovery_falls}

@@ -1,108 +1,23 @@
 -- Whole runs and falls, on a disk of one bit, of a block that writes one row after another.
-use Rattle.std.proofs.Common.{◌≡◌, ℕ, zero, suc, Bool, true, false, List, [], ◌∷◌, ◌++◌, map, length, take, codes, Option, Some, None, if◌then◌else◌, refl, sym, ap, ◌∙◌, subst, append-nil, append_assoc}
-use Rattle.ygg_value.specs.Number.{Digits, Grid}
-use Rattle.ygg_value.specs.Words.{word, bit_of}
-use Rattle.ygg_value.specs.Values.{table_write}
-use Rattle.ygg_value.specs.declared.row.Value.{Value}
-use Rattle.ygg_value.specs.declared.row.Value.TheVariants.{Word, Row, Table}
+use Rattle.std.proofs.Common.{◌≡◌, ℕ, zero, suc, Bool, true, false, List, [], ◌∷◌, ◌++◌, map, length, take, codes, None, if◌then◌else◌, refl, sym, ap, ◌∙◌, subst, append-nil, append_assoc}
+use Rattle.ygg_value.specs.Words.{word}
+use Rattle.ygg_value.specs.declared.row.Value.TheVariants.{Word, Row}
 use Rattle.ygg_disk.specs.Disk as disk
-use Rattle.ygg_eval.specs.Environments.{Name, Env}
-use Rattle.ygg_eval.specs.Progress.{Eval, Answer, Question, Choice, Call, Progress, Asks, Ends, Stray, ended}
-use Rattle.ygg_eval.specs.Machine.{Picks, State, Fallen, based, Machine}
+use Rattle.ygg_eval.specs.Environments.{Env}
+use Rattle.ygg_eval.specs.Progress.{Eval, Answer, Question, Call, Asks, Ends, ended}
+use Rattle.ygg_eval.specs.Machine.{Picks, State, Fallen, based}
 use Rattle.ygg_eval.specs.Runs.{Dialogue, WholeCall, Reaches, WholeRun, FallenRun, FallsInCall, FallsAt, answers_of, picks_of}
-use Rattle.ygg_eval.specs.DiskMachine.{DiskMachine, disk_call, answer_to}
 use Rattle.ygg_flag.specs.Bits.{stored_after}
-use Rattle.ygg_flag.specs.Trees.{one_bit}
-use Rattle.ygg_flag.proofs.Expressions.{grid}
-use Rattle.ygg_flag.proofs.Blocks.{write_question, calling}
+use Rattle.ygg_flag.proofs.Blocks.{calling}
+use Rattle.ygg_flag.proofs.Disk.{grid, tables, machine, row_of_bit, write_question, writes_once, falls_once, loses_nothing}
 
--- the tables of the disk of one bit
-abbrev pub tables : Bool → Env
-tables b = (codes "view", Table (grid b)) ∷ []
-
-abbrev pub machine : Machine
-machine = DiskMachine one_bit
-
--- One write
-
-abbrev name_in : Question → Name
-name_in Choice = []
-name_in (Call name args) = name
-
-abbrev args_in : Question → List Value
-args_in Choice = []
-args_in (Call name args) = args
-
-abbrev table_in : Env → Grid
-table_in [] = grid false
-table_in (b ∷ env) = elim b.1 [ Word w ↦ grid false | Row r ↦ grid false | Table t ↦ t ]
-
-abbrev row_of_bit : Bool → Digits
-row_of_bit b = record { width = 1; words = bit_of b ∷ [] }
-
--- the disk that shows these tables
-same_grid : (stored : Bool) (view : Grid) → based (tables stored) ≡ based ((codes "view", Table view) ∷ []) → grid stored ≡ view
-same_grid stored view h = ap (λ (s : State). table_in s.base) h
-
-record WritesOnce (stored new : Bool) (picks : Picks) (answer : Answer) (to : State) : Type 0 where
-  no_picks : picks ≡ []
-  no_answer : answer ≡ None
-  to_is : to ≡ based (tables new)
-
-named_write : (new : Bool) → disk_call (codes "write") (Word (word 8 0) ∷ Row (row_of_bit new) ∷ []) ≡ Some (disk.Write 0 (row_of_bit new))
-named_write new = refl
-
-written_grid : (stored new : Bool) → table_write (grid stored) 0 (row_of_bit new) ≡ grid new
-written_grid stored new = refl
-
-abbrev call_in : Option disk.Call → disk.Call
-call_in None = disk.Flush
-call_in (Some call) = call
-
--- what is called is the write that was block for
-called_write : (new : Bool) (name : Name) (args : List Value) (call : disk.Call) → write_question new ≡ Call name args → disk_call name args ≡ Some call →
-    call ≡ disk.Write 0 (row_of_bit new)
-called_write new name args call q is = ap call_in (sym is) ∙ ap (λ x. call_in (disk_call (name_in x) (args_in x))) (sym q)
-
-module _ (stored new : Bool) (name : Name) (args : List Value) (q : write_question new ≡ Call name args) where
-  writes_once : (picks : Picks) (answer : Answer) (to : State) → machine.Calls (based (tables stored)) name args picks answer to → WritesOnce stored new picks answer to
-  writes_once picks answer to (view, view', call, reply, is, from_is, step, answer_is, to_is) =
-      let done = subst (λ c. disk.sync_calls view c picks reply view') (called_write new name args call q is) step in
-      let view_is = done.2 ∙ ap (λ v. table_write v 0 (row_of_bit new)) (sym (same_grid stored view from_is)) in
-      record { no_picks = done.0; no_answer = answer_is ∙ ap answer_to done.1; to_is = to_is ∙ ap (λ v. based ((codes "view", Table v) ∷ [])) view_is }
-
-  falls_once : (picks : Picks) (fallen : Fallen) → machine.Falls (based (tables stored)) name args picks fallen →
-      (kept : Bool) × (fallen ≡ tables (if kept then new else stored))
-  falls_once picks fallen (view, view', call, is, from_is, step, fallen_is) =
-      let done = subst (λ c. disk.sync_falls view c picks view') (called_write new name args call q is) step in
-      let from = sym (same_grid stored view from_is) in
-      (done.0, fallen_is ∙ ap (λ v. (codes "view", Table v) ∷ []) (done.2 ∙ after done.0 view from))
-    where
-      after : (kept : Bool) (view : Grid) → view ≡ grid stored → (if kept then table_write view 0 (row_of_bit new) else view) ≡ grid (if kept then new else stored)
-      after true view from = ap (λ v. table_write v 0 (row_of_bit new)) from
-      after false view from = from
-
-pub loses_nothing : (stored : Bool) (picks : Picks) (fallen : Fallen) → machine.Loses (based (tables stored)) picks fallen → fallen ≡ tables stored
-loses_nothing stored picks fallen (view, no_picks, from_is, fallen_is) = fallen_is ∙ ap (λ v. (codes "view", Table v) ∷ []) (sym (same_grid stored view from_is))
-
+-- the last of some writes is what the disk holds then
 last_write : (stored new : Bool) (front : List Bool) → stored_after stored (front ++ new ∷ []) ≡ new
 last_write stored new [] = refl
 last_write stored new (b ∷ front) = last_write b new front
 
-abbrev question_in : Progress → Question
-question_in (Asks q) = q
-question_in (Ends env answer) = Choice
-question_in Stray = Choice
-
-abbrev env_in : Progress → Env
-env_in (Asks q) = []
-env_in (Ends env answer) = env
-env_in Stray = []
-
-abbrev answer_in : Progress → Answer
-answer_in (Asks q) = None
-answer_in (Ends env answer) = answer
-answer_in Stray = None
+asked : {p q : Question} → Asks p ≡ Asks q → p ≡ q
+asked e = cc
 
 -- a fall leaves what some of the writes leave
 pub record LeavesSome (bits : List Bool) (stored : Bool) (fallen : Fallen) : Type 0 where
@@ -137,7 +52,7 @@ module _ (eval : Eval) (env : Env) where
       record { front = []; back = bits; is = refl; no_picks = refl; to_is = sym path; next = subst (λ l. WritesNext block l bits) (sym (append-nil told)) next }
   reached block told [] stored (c ∷ cs) to next (asks, call, rest) = absurd (let e = sym (now block told [] next) ∙ asks in cc)
   reached block told (b ∷ bits) stored (c ∷ cs) to next (asks, call, rest) =
-      let q = ap question_in (sym (now block told (b ∷ bits) next) ∙ asks) in
+      let q : write_question b ≡ Call c.name c.args = asked (sym (now block told (b ∷ bits) next) ∙ asks) in
       let w = writes_once stored b c.name c.args q c.picks c.answer c.after call in
       let x = reached block (told ++ c.answer ∷ []) bits b cs to (answered block told b bits c.answer next) (subst (λ s. Reaches machine block (told ++ c.answer ∷ []) s cs to) w.to_is rest) in
       record {
@@ -166,8 +81,8 @@ module _ (eval : Eval) (env : Env) where
           let e = sym r.ends ∙ now block (answers_of r.calls) [] next in
           record {
             no_picks = r.takes ∙ no_picks;
-            env_is = ap env_in e;
-            no_answer = ap answer_in e;
+            env_is = cc;
+            no_answer = cc;
             to_is = to_is ∙ ap (λ l. based (tables (stored_after stored l))) (sym (is ∙ append-nil front));
           }
       at front (b ∷ back) is to_is no_picks next = absurd (let e = sym r.ends ∙ now block (answers_of r.calls) (b ∷ back) next in cc)
@@ -187,7 +102,7 @@ module _ (eval : Eval) (env : Env) where
           FallsAt within machine block (answers_of r.calls) (based (tables (stored_after stored front))) r.last fallen → LeavesSome bits stored fallen
       at true front [] is next h = absurd (let e = sym (now block (answers_of r.calls) [] next) ∙ h.asks in cc)
       at true front (b ∷ back) is next h =
-          let q = ap question_in (sym (now block (answers_of r.calls) (b ∷ back) next) ∙ h.asks) in
+          let q = asked (sym (now block (answers_of r.calls) (b ∷ back) next) ∙ h.asks) in
           let x = falls_once (stored_after stored front) b h.name h.args q r.last fallen h.falls in
           kept_or_not front back b is x.0 x.1
       at false front back is next h = record { front = front; back = back; is = is; fallen_is = loses_nothing (stored_after stored front) r.last fallen h }

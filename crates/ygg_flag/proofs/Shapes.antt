@@ -15,8 +15,7 @@ use Rattle.ygg_eval.specs.Environments.{Env}
 use Rattle.ygg_eval.specs.Shapes.{shape_in, words_fit, fits, values_fit, env_fits}
 use Rattle.ygg_machine.specs.Stack.{table_named, tables_of}
 use Rattle.ygg_flag.specs.Trees.{bit_named, one_bit}
-use Rattle.ygg_flag.proofs.Expressions.{grid}
-use Rattle.ygg_flag.proofs.Runs.{tables}
+use Rattle.ygg_flag.proofs.Disk.{grid, tables}
 
 pub and_first : (a b : Bool) → (a && b) ≡ true → a ≡ true
 and_first true b h = refl

@@ -11,7 +11,8 @@ use Rattle.ygg_eval.specs.Layer.{ClosedLayer, Layered, eval_of, dialogue_of, Blo
 use Rattle.ygg_flag.specs.Bits.{stored_after}
 use Rattle.ygg_flag.specs.Trees.{block}
 use Rattle.ygg_flag.specs.Obligations.{closed}
-use Rattle.ygg_flag.proofs.Runs.{machine, tables, WritesNext, LeavesSome, whole_writes, fallen_writes, writes_whole, writes_stopped}
+use Rattle.ygg_flag.proofs.Disk.{machine, tables}
+use Rattle.ygg_flag.proofs.Runs.{WritesNext, LeavesSome, whole_writes, fallen_writes, writes_whole, writes_stopped}
 
 -- the layer on the disk, which has no memory
 abbrev pub at_disk : Bool → State

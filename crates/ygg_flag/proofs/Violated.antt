@@ -17,7 +17,8 @@ use Rattle.ygg_flag.specs.declared.decide.Bits.{Bits}
 use Rattle.ygg_flag.specs.Bits.{related, specified, written, stored_after, stops, relates_either, call_keeps, cut_keeps}
 use Rattle.ygg_flag.specs.Trees.{operation}
 use Rattle.ygg_flag.specs.Obligations.{closed, FlagViolates}
-use Rattle.ygg_flag.proofs.Runs.{tables, WritesNext}
+use Rattle.ygg_flag.proofs.Disk.{grid, tables, write_question}
+use Rattle.ygg_flag.proofs.Runs.{WritesNext}
 use Rattle.ygg_flag.proofs.Shapes.{bytes_same, argument_fits}
 use Rattle.ygg_flag.proofs.Layers.{state_of, argument_of, related_is, settled_is, writes, spec_gives}
 use Rattle.ygg_flag.proofs.Steps.{at_disk, runs_block, block_stops, starts, recovery}
