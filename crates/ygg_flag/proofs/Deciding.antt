@@ -11,7 +11,8 @@ use Rattle.ygg_flag.specs.declared.decide.TheConstants.{ALL}
 use Rattle.ygg_flag.specs.Bits.{related, call_keeps, cut_keeps}
 use Rattle.ygg_flag.specs.Obligations.{Decided, FlagHolds, FlagViolates}
 use Rattle.ygg_flag.proofs.Shapes.{and_first, and_second}
-use Rattle.ygg_flag.proofs.Violated.{schedule, init_violated, call_violated, cut_violated}
+use Rattle.ygg_flag.proofs.Schedules.{schedule}
+use Rattle.ygg_flag.proofs.Violated.{init_violated, call_violated, cut_violated}
 use Rattle.ygg_flag.proofs.Kept.{init_kept, call_kept, cut_kept}
 
 -- a test that passes for every combination passes for all bits
@@ -49,7 +50,7 @@ module _ (f : FlagFile) (fit : FitsNames f) where
 
   pub call_decided : (result : Bool) → result ≡ list_all (call_keeps f) ALL → Decided f (CallOf f.operation) result
   call_decided true e = call_kept f fit (λ bits. for_all (call_keeps f) (sym e) bits.state bits.argument bits.stored)
-  call_decided false e = let x = for_some (call_keeps f) ALL (sym e) in (schedule f fit x.bits None, call_violated f fit x.bits x.fails)
+  call_decided false e = let x = for_some (call_keeps f) ALL (sym e) in (schedule f x.bits None, call_violated f fit x.bits x.fails)
 
   pub cut_decided : (result : Bool) → result ≡ list_all (cut_keeps f) ALL → Decided f (CutOf f.operation) result
   cut_decided true e = cut_kept f fit (λ bits. for_all (cut_keeps f) (sym e) bits.state bits.argument bits.stored)

@@ -6,6 +6,7 @@ pub mod Shapes
 pub mod Layers
 pub mod Steps
 pub mod Stops
+pub mod Schedules
 pub mod Violated
 pub mod Kept
 pub mod Others

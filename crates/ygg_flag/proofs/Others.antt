@@ -22,7 +22,7 @@ use Rattle.ygg_flag.proofs.Disk.{machine, tables, loses_nothing}
 use Rattle.ygg_flag.proofs.Shapes.{tables_are, and_first}
 use Rattle.ygg_flag.proofs.Layers.{state_of, related_bits, related_is, settled_is}
 use Rattle.ygg_flag.proofs.Steps.{at_disk, block_runs, writes_nothing, recovers_to, recovery_falls}
-use Rattle.ygg_flag.proofs.Kept.{the_operation}
+use Rattle.ygg_flag.proofs.Schedules.{the_operation}
 
 same_tables : (d : Bool) → same_env (tables d) (tables d) ≡ true
 same_tables true = refl

@@ -22,6 +22,7 @@ use Rattle.ygg_flag.proofs.Runs.{WritesNext}
 use Rattle.ygg_flag.proofs.Shapes.{bytes_same, argument_fits}
 use Rattle.ygg_flag.proofs.Layers.{state_of, argument_of, related_is, settled_is, writes, spec_gives}
 use Rattle.ygg_flag.proofs.Steps.{at_disk, runs_block, block_stops, starts, recovery}
+use Rattle.ygg_flag.proofs.Schedules.{operation_found, schedule}
 use Rattle.ygg_flag.proofs.Stops.{at_some, FailsAfter}
 
 -- a test that is skipped passes
@@ -37,27 +38,11 @@ module _ (f : FlagFile) (fit : FitsNames f) where
   abbrev L : ClosedLayer
   L = closed f
 
-  pub operation_found : operation_of L f.operation ≡ Some (operation f)
-  operation_found = ap (λ t. if t then Some (operation f) else None) (bytes_same f.operation)
-
-  -- from these bits, with these picks of 0
-  abbrev pub schedule : Bits → Option Halt → Schedule
-  schedule bits stop = record {
-    state = state_of f bits.state;
-    memory = [];
-    low = tables bits.stored;
-    args = digit bits.argument ∷ [];
-    stop = stop;
-    picks = [];
-    wake = [];
-    other = [];
-  }
-
   pub start_related : (to : State) → to ≡ at_disk false → related_after L to (start_outcome L) ≡ related f false false
   start_related to e = ap (λ s. related_after L s (start_outcome L)) e ∙ related_is f fit false false
 
   pub init_violated : related f false false ≡ false → (x : Schedule) × FlagViolates f Init x
-  init_violated h = (schedule (record { state = false; argument = false; stored = false }) None, record { to = at_disk false; taken = []; run = starts f; read = refl; fails = start_related (at_disk false) refl ∙ h })
+  init_violated h = (schedule f (record { state = false; argument = false; stored = false }) None, record { to = at_disk false; taken = []; run = starts f; read = refl; fails = start_related (at_disk false) refl ∙ h })
 
   -- what the conclusion of `call` comes to
   pub call_test : (s a d : Bool) (picks : Picks) (answer : Answer) (to : State) → answer ≡ None → to ≡ at_disk d →
@@ -70,7 +55,7 @@ module _ (f : FlagFile) (fit : FitsNames f) where
       ∙ ap (λ o. answers_alike None o && related_after L (at_disk d) o) (spec_gives f fit s a (chosen picks))
       ∙ related_is f fit (specified f s a) d
 
-  pub call_violated : (bits : Bits) → call_keeps f bits ≡ false → FlagViolates f (CallOf f.operation) (schedule bits None)
+  pub call_violated : (bits : Bits) → call_keeps f bits ≡ false → FlagViolates f (CallOf f.operation) (schedule f bits None)
   call_violated bits h =
       let s = bits.state in
       let d = bits.stored in
@@ -79,13 +64,13 @@ module _ (f : FlagFile) (fit : FitsNames f) where
       record {
         before = related_is f fit s d ∙ before;
         operation = operation f;
-        is = operation_found;
+        is = operation_found f;
         taken = [];
         answer = None;
         to = at_disk (stored_after d (written f a));
         run = record {
           operation = operation f;
-          is = operation_found;
+          is = operation_found f;
           fit = argument_fits f.argument a;
           step = runs_block L (operation f).implementation (argument_of f a) (written f a) (writes f fit a) d;
         };
@@ -123,10 +108,10 @@ module _ (f : FlagFile) (fit : FitsNames f) where
       let k = stored_after d x.front in
       let (unchanged, changed) = neither (related f s k) (related f (specified f s a) k) x.fails in
       let stopped = block_stops L (operation f).implementation (argument_of f a) x.front x.back d (subst (WritesNext (eval_of L) (argument_of f a) (dialogue_of L (operation f).implementation [] (argument_of f a)) []) x.is (writes f fit a)) in
-      (schedule bits (Some (record { within = false; event = length x.front })), record {
+      (schedule f bits (Some (record { within = false; event = length x.front })), record {
         before = related_is f fit s d ∙ before;
         operation = operation f;
-        is = operation_found;
+        is = operation_found f;
         fit = argument_fits f.argument a;
         taken = [];
         fallen = tables k;
