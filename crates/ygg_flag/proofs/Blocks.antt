@@ -45,7 +45,6 @@ module _ (functions : Functions) where
   -- where each expression is worth its bit, the writes ask for those bits in turn
   module _ (env : Env) (bit : Formula → Bool) (Fits : Formula → Type 0)
       (worth : (e : Formula) → Fits e → eval (expression e) env ≡ digit (bit e)) where
-
     asked_for : (e : Formula) → Fits e →
         ◌≡◌ {A = Question} (Call (codes "write") (map (λ x. eval x env) (constant 0 8 ∷ expr.Row somewhere (expression e ∷ []) ∷ []))) (write_question (bit e))
     asked_for e h =

@@ -107,18 +107,20 @@ module _ (f : FlagFile) (fit : FitsNames f) where
       let x = at_some (relates_either f s (specified f s a)) (written f a) d after in
       let k = stored_after d x.front in
       let (unchanged, changed) = neither (related f s k) (related f (specified f s a) k) x.fails in
-      let stopped = block_stops L (operation f).implementation (argument_of f a) x.front x.back d (subst (WritesNext (eval_of L) (argument_of f a) (dialogue_of L (operation f).implementation [] (argument_of f a)) []) x.is (writes f fit a)) in
-      (schedule f bits (Some (record { within = false; event = length x.front })), record {
-        before = related_is f fit s d ∙ before;
-        operation = operation f;
-        is = operation_found f;
-        fit = argument_fits f.argument a;
-        taken = [];
-        fallen = tables k;
-        run = stopped.run;
-        stop = (sym stopped.between, sym stopped.count);
-        read = refl;
-        to = at_disk k;
-        recovers = record { taken = []; run = recovery f k; read = refl };
-        fails = no_pick s a k unchanged changed;
-      })
+      let stopped = block_stops L (operation f).implementation (argument_of f a) x.front x.back d (subst (WritesNext (eval_of L) (argument_of f a) (dialogue_of L (operation f).implementation [] (argument_of f a)) []) x.is (writes f fit a)) in (
+        schedule f bits (Some (record { within = false; event = length x.front })),
+        record {
+          before = related_is f fit s d ∙ before;
+          operation = operation f;
+          is = operation_found f;
+          fit = argument_fits f.argument a;
+          taken = [];
+          fallen = tables k;
+          run = stopped.run;
+          stop = (sym stopped.between, sym stopped.count);
+          read = refl;
+          to = at_disk k;
+          recovers = record { taken = []; run = recovery f k; read = refl };
+          fails = no_pick s a k unchanged changed;
+        },
+      )

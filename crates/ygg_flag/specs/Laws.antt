@@ -1,13 +1,18 @@
 -- What holds of every flag file.
-use Rattle.std.specs.Prelude.{List}
+use Rattle.std.specs.Prelude.{◌≡◌, List, map}
 use Rattle.ygg_syntax.specs.declared.flag.FlagFile.{FlagFile}
 use Rattle.ygg_syntax.specs.FlagNames.{FitsNames}
 use Rattle.ygg_eval.specs.Machine.{State}
 use Rattle.ygg_eval.specs.Obligations.{Init, CallOf, CutOf, Idle, Again}
 use Rattle.ygg_machine.specs.Stack.{BottomOf, FileRefines}
+use Rattle.ygg_machine.specs.Claims.{claims_of}
 use Rattle.ygg_machine.specs.History.{Entry, History, Allows}
 use Rattle.ygg_flag.specs.Trees.{file_of}
-use Rattle.ygg_flag.specs.Obligations.{FlagHolds}
+use Rattle.ygg_flag.specs.Obligations.{claim_of, obligations, FlagHolds}
+
+-- the obligations of the layer file that a flag file stands for are these five, in this order
+abbrev pub FiveObligations : Type 0
+FiveObligations = (f : FlagFile) → claims_of (file_of f) ≡ map (claim_of f) (obligations f)
 
 -- power loss between operations and within recovery does no harm, whatever the file says
 abbrev pub IdleAndAgain : Type 0

@@ -27,9 +27,11 @@ use Rattle.ygg_syntax.specs.declared.tree.File.{File}
 abbrev pub somewhere : Place
 somewhere = record { line = 1; column = 1 }
 
+-- a name of these bytes
 abbrev pub named : List ℕ → Name
 named text = record { text = text; place = somewhere }
 
+-- a number
 abbrev pub numeral : ℕ → Numeral
 numeral n = record { value = n; place = somewhere }
 
@@ -69,6 +71,7 @@ write_of e = stmt.Call (named (codes "write")) (constant 0 8 ∷ expr.Row somewh
 abbrev pub assignment : FlagFile → Stmt
 assignment f = stmt.Assign (named f.assigned) [] (source.Value (expression f.spec))
 
+-- the one operation
 abbrev pub operation : FlagFile → Operation
 operation f = record {
   name = named f.operation;
@@ -79,6 +82,7 @@ operation f = record {
   implementation = block (map write_of f.writes);
 }
 
+-- the one layer, whose optional blocks are all empty
 abbrev pub layer : FlagFile → Layer
 layer f = record {
   place = somewhere;

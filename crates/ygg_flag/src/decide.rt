@@ -11,23 +11,55 @@ use ygg_syntax::flag::{FlagFile, Formula};
 
 /// The bits that an expression may look at.
 #[derive(Clone, Copy)]
-pub struct Bits {
-    pub state: bool,
-    pub argument: bool,
+struct Bits {
+    state: bool,
+    argument: bool,
     /// What the disk holds.
-    pub stored: bool,
+    stored: bool,
 }
 
 /// Every combination of bits.
 const ALL: [Bits; 8] = [
-    Bits { state: false, argument: false, stored: false },
-    Bits { state: false, argument: false, stored: true },
-    Bits { state: false, argument: true, stored: false },
-    Bits { state: false, argument: true, stored: true },
-    Bits { state: true, argument: false, stored: false },
-    Bits { state: true, argument: false, stored: true },
-    Bits { state: true, argument: true, stored: false },
-    Bits { state: true, argument: true, stored: true },
+    Bits {
+        state: false,
+        argument: false,
+        stored: false,
+    },
+    Bits {
+        state: false,
+        argument: false,
+        stored: true,
+    },
+    Bits {
+        state: false,
+        argument: true,
+        stored: false,
+    },
+    Bits {
+        state: false,
+        argument: true,
+        stored: true,
+    },
+    Bits {
+        state: true,
+        argument: false,
+        stored: false,
+    },
+    Bits {
+        state: true,
+        argument: false,
+        stored: true,
+    },
+    Bits {
+        state: true,
+        argument: true,
+        stored: false,
+    },
+    Bits {
+        state: true,
+        argument: true,
+        stored: true,
+    },
 ];
 
 /// The bit that an expression is worth.
@@ -45,7 +77,8 @@ fn value_of(file: &FlagFile, e: &Formula, bits: Bits) -> bool
         }
         Formula::Not(inner) => !value_of(file, inner.get(), bits),
         Formula::Stored => bits.stored,
-        Formula::Equal(left, right) => value_of(file, left.get(), bits) == value_of(file, right.get(), bits),
+        Formula::Equal(left, right) => value_of(file, left.get(), bits)
+            == value_of(file, right.get(), bits),
     }
 }
 
@@ -53,21 +86,45 @@ fn value_of(file: &FlagFile, e: &Formula, bits: Bits) -> bool
 fn relates(file: &FlagFile, state: bool, stored: bool) -> bool
     ensures { result ≡ related file.now state stored }
 {
-    value_of(file, &file.relate, Bits { state, argument: false, stored })
+    value_of(
+        file,
+        &file.relate,
+        Bits {
+            state,
+            argument: false,
+            stored,
+        },
+    )
 }
 
 /// The state after the operation, as the specification says.
-fn specifies(file: &FlagFile, state: bool, argument: bool) -> bool
+fn state_after(file: &FlagFile, state: bool, argument: bool) -> bool
     ensures { result ≡ specified file.now state argument }
 {
-    value_of(file, &file.spec, Bits { state, argument, stored: false })
+    value_of(
+        file,
+        &file.spec,
+        Bits {
+            state,
+            argument,
+            stored: false,
+        },
+    )
 }
 
 /// The bit that an expression of the implementation is worth.
-fn writes(file: &FlagFile, e: &Formula, argument: bool) -> bool
+fn written_bit(file: &FlagFile, e: &Formula, argument: bool) -> bool
     ensures { result ≡ bit_in file.now.state e.now (record { state = false; argument = argument; stored = false }) }
 {
-    value_of(file, e, Bits { state: false, argument, stored: false })
+    value_of(
+        file,
+        e,
+        Bits {
+            state: false,
+            argument,
+            stored: false,
+        },
+    )
 }
 
 /// The bit on the disk after the whole operation.
@@ -75,7 +132,7 @@ fn stored_at_end(file: &FlagFile, stored: bool, argument: bool) -> bool
     ensures { result ≡ stored_after stored (written file.now argument) }
 {
     match file.writes.as_slice().last() {
-        Some(write) => writes(file, write, argument),
+        Some(write) => written_bit(file, write, argument),
         None => stored,
     }
 }
@@ -87,7 +144,7 @@ fn keeps_whole(file: &FlagFile, bits: Bits) -> bool
     if !relates(file, bits.state, bits.stored) {
         return true;
     }
-    let after = specifies(file, bits.state, bits.argument);
+    let after = state_after(file, bits.state, bits.argument);
     relates(file, after, stored_at_end(file, bits.stored, bits.argument))
 }
 
@@ -99,7 +156,13 @@ fn relates_one(file: &FlagFile, before: bool, after: bool, stored: bool) -> bool
 }
 
 /// Whether that is so wherever power fails.
-fn relates_at_stops(file: &FlagFile, before: bool, after: bool, stored: bool, argument: bool) -> bool
+fn relates_at_stops(
+    file: &FlagFile,
+    before: bool,
+    after: bool,
+    stored: bool,
+    argument: bool,
+) -> bool
     ensures { result ≡ list_all (relates_either file.now before after) (stops stored (written file.now argument)) }
 {
     let mut held = stored;
@@ -107,7 +170,7 @@ fn relates_at_stops(file: &FlagFile, before: bool, after: bool, stored: bool, ar
         if !relates_one(file, before, after, held) {
             return false;
         }
-        held = writes(file, write, argument);
+        held = written_bit(file, write, argument);
     }
     relates_one(file, before, after, held)
 }
@@ -119,7 +182,7 @@ fn keeps_cut(file: &FlagFile, bits: Bits) -> bool
     if !relates(file, bits.state, bits.stored) {
         return true;
     }
-    let after = specifies(file, bits.state, bits.argument);
+    let after = state_after(file, bits.state, bits.argument);
     relates_at_stops(file, bits.state, after, bits.stored, bits.argument)
 }
 

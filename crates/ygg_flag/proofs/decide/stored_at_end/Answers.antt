@@ -14,4 +14,4 @@ returns-in-Some c =
     let found : slice_get file.writes (length file.writes - 1) ≡ Some c.in-Some.write.now = subst (λ ws. slice_get ws (length ws - 1) ≡ Some c.in-Some.write.now) c.as_slice.ensures last in
     let within : length file.writes - 1 < length file.writes = slice_get_within file.writes (length file.writes - 1) c.in-Some.write.now found in
     let count : suc (length file.writes - 1) ≡ length file.writes = omega arith in
-    c.writes.ensures ∙ sym (last_stored (λ e. value file e false c.args.argument false) c.args.stored file.writes (length file.writes - 1) c.in-Some.write.now count found)
+    c.written_bit.ensures ∙ sym (last_stored (λ e. value file e false c.args.argument false) c.args.stored file.writes (length file.writes - 1) c.in-Some.write.now count found)
