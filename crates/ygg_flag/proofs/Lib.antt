@@ -1,0 +1,13 @@
+pub mod Disk
+pub mod Expressions
+pub mod Blocks
+pub mod Runs
+pub mod Shapes
+pub mod Layers
+pub mod Steps
+pub mod Stops
+pub mod Schedules
+pub mod Violated
+pub mod Kept
+pub mod Others
+pub mod Deciding

@@ -1,0 +1,40 @@
+-- The bits on the disk where power may fail.
+use Rattle.std.proofs.Common.{◌≡◌, ℕ, zero, suc, ◌+◌, Bool, true, false, ◌&&◌, List, [], ◌∷◌, ◌++◌, map, length, Option, Some, refl, sym, ap, ◌∙◌, arith}
+use Rattle.std.specs.Prelude.{unwrap_or}
+use Rattle.std.specs.List.{list_all, slice_get}
+use Rattle.std.proofs.Math.Bool.{and-true}
+use Rattle.ygg_flag.specs.Bits.{stored_after, stops}
+use Rattle.ygg_flag.proofs.Shapes.{and_first, and_second}
+
+-- what holds at each stop holds after some of the writes
+pub at_each : (test : Bool → Bool) (front back : List Bool) (stored : Bool) → list_all test (stops stored (front ++ back)) ≡ true →
+    test (stored_after stored front) ≡ true
+at_each test [] [] stored h = and_first (test stored) true h
+at_each test [] (b ∷ back) stored h = and_first (test stored) (list_all test (stops b back)) h
+at_each test (b ∷ front) back stored h = at_each test front back b (and_second (test stored) (list_all test (stops b (front ++ back))) h)
+
+-- the test fails after some of the writes
+pub record FailsAfter (test : Bool → Bool) (bits : List Bool) (stored : Bool) : Type 0 where
+  pub front : List Bool
+  pub back : List Bool
+  pub is : bits ≡ front ++ back
+  pub fails : test (stored_after stored front) ≡ false
+
+-- the test fails here or further on
+here_or_on : (test : Bool → Bool) (b : Bool) (bits : List Bool) (stored here : Bool) → test stored ≡ here → (here && list_all test (stops b bits)) ≡ false →
+    (list_all test (stops b bits) ≡ false → FailsAfter test bits b) → FailsAfter test (b ∷ bits) stored
+here_or_on test b bits stored true e h further = let x = further h in record { front = b ∷ x.front; back = x.back; is = ap (λ l. b ∷ l) x.is; fails = x.fails }
+here_or_on test b bits stored false e h further = record { front = []; back = b ∷ bits; is = refl; fails = e }
+
+pub at_some : (test : Bool → Bool) (bits : List Bool) (stored : Bool) → list_all test (stops stored bits) ≡ false → FailsAfter test bits stored
+at_some test [] stored h = record { front = []; back = []; is = refl; fails = sym (and-true (test stored)) ∙ h }
+at_some test (b ∷ bits) stored h = here_or_on test b bits stored (test stored) refl h (at_some test bits b)
+
+-- the last write is what the disk holds in the end
+pub last_stored : {X : Type 0} (bit : X → Bool) (stored : Bool) (xs : List X) (n : ℕ) (x : X) → suc n ≡ length xs → slice_get xs n ≡ Some x →
+    stored_after stored (map bit xs) ≡ bit x
+last_stored bit stored [] n x count found = absurd (omega (arith, count))
+last_stored bit stored (y ∷ []) zero x count found = ap bit (ap (λ o. unwrap_or o y) found)
+last_stored bit stored (y ∷ []) (suc n) x count found = absurd (omega (arith, count))
+last_stored bit stored (y ∷ z ∷ xs) zero x count found = absurd (omega (arith, count))
+last_stored bit stored (y ∷ z ∷ xs) (suc n) x count found = last_stored bit (bit y) (z ∷ xs) n x (omega (arith, count)) found

@@ -1,0 +1,4 @@
+pub mod Bits
+pub mod Trees
+pub mod Obligations
+pub mod Laws
