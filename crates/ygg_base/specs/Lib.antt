@@ -1,3 +1,4 @@
+pub mod Failure
 pub mod Lexing
 pub mod Outside
 pub mod Spelling

@@ -1,6 +1,6 @@
 ghost use Rattle.std.specs.Prelude.{◌≡◌, ◌<◌, ◌≤◌, ◌+◌, ◌^◌, length, if◌then◌else◌, Ok, Err, IfOk, IfErr, OnOk};
 ghost use Rattle.ygg_base.specs.Lexing.{Lexed, tokens_of, is_blank, closed, after_these, line_after, column_after};
-ghost use Rattle.ygg_lex.specs.Refusing.{IfRefused};
+ghost use Rattle.ygg_base.specs.Failure.{IfRefused};
 
 use crate::recognize::{extends, is_blank, is_past_ascii, recognized};
 use std::alloc::Global;
