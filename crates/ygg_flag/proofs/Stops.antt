@@ -1,8 +1,9 @@
 -- The bits on the disk where power may fail.
-use Rattle.std.proofs.Common.{◌≡◌, ℕ, zero, suc, ◌+◌, Bool, true, false, ◌&&◌, List, [], ◌∷◌, ◌++◌, map, length, Option, Some, refl, sym, ap, ◌∙◌, arith}
+use Rattle.std.proofs.Common.{◌≡◌, ℕ, zero, suc, ◌+◌, ◌-◌, ◌<◌, Bool, true, false, ◌&&◌, List, [], ◌∷◌, ◌++◌, map, length, Option, Some, refl, sym, ap, ◌∙◌, subst, arith}
 use Rattle.std.specs.Prelude.{unwrap_or}
 use Rattle.std.specs.List.{list_all, slice_get}
 use Rattle.std.proofs.Math.Bool.{and-true}
+use Rattle.std.proofs.lemmas.Option.{slice_get_within}
 use Rattle.ygg_flag.specs.Bits.{stored_after, stops}
 use Rattle.ygg_flag.proofs.Shapes.{and_first, and_second}
 
@@ -30,11 +31,17 @@ pub at_some : (test : Bool → Bool) (bits : List Bool) (stored : Bool) → list
 at_some test [] stored h = record { front = []; back = []; is = refl; fails = sym (and-true (test stored)) ∙ h }
 at_some test (b ∷ bits) stored h = here_or_on test b bits stored (test stored) refl h (at_some test bits b)
 
--- the last write is what the disk holds in the end
-pub last_stored : {X : Type 0} (bit : X → Bool) (stored : Bool) (xs : List X) (n : ℕ) (x : X) → suc n ≡ length xs → slice_get xs n ≡ Some x →
+last_at : {X : Type 0} (bit : X → Bool) (stored : Bool) (xs : List X) (n : ℕ) (x : X) → suc n ≡ length xs → slice_get xs n ≡ Some x →
     stored_after stored (map bit xs) ≡ bit x
-last_stored bit stored [] n x count found = absurd (omega (arith, count))
-last_stored bit stored (y ∷ []) zero x count found = ap bit (ap (λ o. unwrap_or o y) found)
-last_stored bit stored (y ∷ []) (suc n) x count found = absurd (omega (arith, count))
-last_stored bit stored (y ∷ z ∷ xs) zero x count found = absurd (omega (arith, count))
-last_stored bit stored (y ∷ z ∷ xs) (suc n) x count found = last_stored bit (bit y) (z ∷ xs) n x (omega (arith, count)) found
+last_at bit stored [] n x count found = absurd (omega (arith, count))
+last_at bit stored (y ∷ []) zero x count found = ap bit (ap (λ o. unwrap_or o y) found)
+last_at bit stored (y ∷ []) (suc n) x count found = absurd (omega (arith, count))
+last_at bit stored (y ∷ z ∷ xs) zero x count found = absurd (omega (arith, count))
+last_at bit stored (y ∷ z ∷ xs) (suc n) x count found = last_at bit (bit y) (z ∷ xs) n x (omega (arith, count)) found
+
+-- the last write is what the disk holds in the end
+pub last_stored : {X : Type 0} (bit : X → Bool) (stored : Bool) (xs ys : List X) (x : X) → ys ≡ xs → slice_get ys (length ys - 1) ≡ Some x → stored_after stored (map bit xs) ≡ bit x
+last_stored bit stored xs ys x same found =
+    let there : slice_get xs (length xs - 1) ≡ Some x = subst (λ zs. slice_get zs (length zs - 1) ≡ Some x) same found in
+    let within : length xs - 1 < length xs = slice_get_within xs (length xs - 1) x there in
+    last_at bit stored xs (length xs - 1) x (omega arith) there

@@ -128,6 +128,7 @@ fn written_bit(file: &FlagFile, e: &Formula, argument: bool) -> bool
 }
 
 /// The bit on the disk after the whole operation.
+#[tactic(auto, using(crate::proofs::Stops::last_stored))]
 fn stored_at_end(file: &FlagFile, stored: bool, argument: bool) -> bool
     ensures { result ≡ stored_after stored (written file.now argument) }
 {
