@@ -1,16 +1,12 @@
 -- The first obligation of a flag file that is violated.
-use Rattle.std.proofs.Common.{List, [], ◌∷◌, refl}
+use Rattle.std.proofs.Common.{[], ◌∷◌, refl}
 use Rattle.std.proofs.lemmas.List.Elements.{All-nil, All-cons}
 use Rattle.ygg_syntax.specs.declared.flag.FlagFile.{FlagFile}
-use Rattle.ygg_eval.specs.Obligations.{Obligation, Init, CallOf, CutOf, Idle, Again, Schedule}
-use Rattle.ygg_machine.specs.Claims.{Claim, ClaimHolds}
-use Rattle.ygg_flag.specs.Obligations.{closed, below, FlagHolds, FlagViolates}
+use Rattle.ygg_eval.specs.Obligations.{Init, CallOf, CutOf, Idle, Again, Schedule}
+use Rattle.ygg_machine.specs.Claims.{ClaimHolds}
+use Rattle.ygg_flag.specs.Obligations.{claim_of, FlagHolds, FlagViolates}
 use Rattle.ygg_flag.specs.Trees.{file_of}
 use Rattle.ygg_top.specs.Verdict.{FirstViolated}
-
--- the claim that a flag file makes by one of its obligations
-abbrev pub claim_of : FlagFile → Obligation → Claim
-claim_of f o = record { layer = closed f; below = below; obligation = o }
 
 pub first_init : (f : FlagFile) → (x : Schedule) × FlagViolates f Init x → FirstViolated (file_of f) (claim_of f Init)
 first_init f violated = record {

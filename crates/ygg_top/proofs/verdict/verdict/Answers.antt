@@ -1,8 +1,9 @@
 use Rattle.std.specs.Prelude.{codes}
 use Rattle.ygg_eval.specs.Obligations.{Init, CallOf, CutOf}
 use Rattle.ygg_flag.specs.Laws.{DecidedHold}
+use Rattle.ygg_flag.specs.Obligations.{claim_of}
 use Rattle.ygg_flag.specs.Trees.{file_of}
-use Rattle.ygg_top.proofs.First.{claim_of, first_init, first_call, first_cut}
+use Rattle.ygg_top.proofs.First.{first_init, first_call, first_cut}
 use Rattle.ygg_top.proofs.Found.{named, named_alone}
 use Rattle.ygg_top.proofs.verdict.verdict.Goals as goal
 
