@@ -36,8 +36,8 @@ first_cut f init call violated = record {
   others = claim_of f Idle ∷ claim_of f Again ∷ [];
   among = refl;
   held =
-    All-cons ClaimHolds (claim_of f Init) (claim_of f (CallOf f.operation) ∷ []) init
-    (All-cons ClaimHolds (claim_of f (CallOf f.operation)) [] call (All-nil ClaimHolds));
+      All-cons ClaimHolds (claim_of f Init) (claim_of f (CallOf f.operation) ∷ []) init
+      (All-cons ClaimHolds (claim_of f (CallOf f.operation)) [] call (All-nil ClaimHolds));
   schedule = violated.0;
   violates = violated.1;
 }

@@ -9,8 +9,7 @@ use Rattle.ygg_top.proofs.verdict.verdict.Goals as goal
 
 pub returns-then-not-init_holds : goal.returns-then-not-init_holds
 returns-then-not-init_holds c =
-    let f = c.args.file.now in
-    (
+    let f = c.args.file.now in (
       claim_of f Init,
       first_init f c.if-not-init_holds.ensures,
       named_alone _ _ f.layer (codes ".init") c.as_slice-layer.ensures c.in_ok-text.ensures,
@@ -18,8 +17,7 @@ returns-then-not-init_holds c =
 
 pub returns-then-not-call_holds : goal.returns-then-not-call_holds
 returns-then-not-call_holds c =
-    let f = c.args.file.now in
-    (
+    let f = c.args.file.now in (
       claim_of f (CallOf f.operation),
       first_call f c.if-not-init_holds.ensures c.if-not-call_holds.ensures,
       named _ _ f.layer (codes ".call.") _ f.operation c.as_slice-layer.ensures c.as_slice-operation.ensures c.in_ok-text-2.ensures,
@@ -27,8 +25,7 @@ returns-then-not-call_holds c =
 
 pub returns-then-not-cut_holds : goal.returns-then-not-cut_holds
 returns-then-not-cut_holds c =
-    let f = c.args.file.now in
-    (
+    let f = c.args.file.now in (
       claim_of f (CutOf f.operation),
       first_cut f c.if-not-init_holds.ensures c.if-not-call_holds.ensures c.if-not-cut_holds.ensures,
       named _ _ f.layer (codes ".cut.") _ f.operation c.as_slice-layer.ensures c.as_slice-operation.ensures c.in_ok-text-3.ensures,
@@ -37,8 +34,7 @@ returns-then-not-cut_holds c =
 pub returns : goal.returns
 returns c =
     let f = c.args.file.now in
-    let held : DecidedHold f = record { init = c.if-not-init_holds.ensures; call = c.if-not-call_holds.ensures; cut = c.if-not-cut_holds.ensures } in
-    (
+    let held : DecidedHold f = record { init = c.if-not-init_holds.ensures; call = c.if-not-call_holds.ensures; cut = c.if-not-cut_holds.ensures } in (
       (c.refines_by_list.ensures (file_of f)).1 (c.refines.ensures f c.requires held),
       c.histories.ensures f c.requires held,
       c.in_ok-text-4.ensures,
