@@ -9,12 +9,12 @@ ygg verifies storage software that must survive power failure.
   ygg --help        prints this text
   ygg --version     prints the version
 
-verify prints one line and ends with a status:
+How verify ends, and the line that it prints:
 
-  verified N                   0  all N obligations hold
-  refuted NAME                 1  the first obligation that fails
-  refused NUMBER LINE:COLUMN   2  the words or the file are refused there
-  fault library                4  the file could not be read
-                               4  nothing more, where the output failed
-                               5  nothing, where no memory was left
+  0  verified N                   all N obligations hold
+  1  refuted NAME                 the first obligation that fails
+  2  refused NUMBER LINE:COLUMN   the words or the file are refused there
+  4  fault library                the file could not be read
+  4  (no line)                    the output failed
+  5  (no line)                    no memory was left
 ";
