@@ -1,8 +1,7 @@
-ghost use Rattle.std.specs.Prelude.{◌≡◌, IfOk, IfErr};
-ghost use Rattle.ygg_syntax.specs.declared.flag.FlagFile.{FlagFile};
+ghost use Rattle.std.specs.Prelude.{IfOk, IfErr};
 ghost use Rattle.ygg_syntax.specs.FlagGrammar.{Derives};
 ghost use Rattle.ygg_syntax.specs.FlagNames.{FitsNames};
-ghost use Rattle.ygg_read.specs.Refusing.{IfNotBuilt};
+ghost use Rattle.ygg_read.specs.Refusing.{IfNotBuilt, NoFile, NoFittingFile, IsOnlyFile};
 
 use crate::names::names_fit;
 use crate::reader::Reader;
@@ -15,8 +14,8 @@ use ygg_syntax::flag::FlagFile;
 /// them.
 pub fn read(alloc: Global, tokens: &[Token]) -> Result<FlagFile, Unread>
     ensures derives { IfOk result (λ file. Derives file tokens.now) }
-    ensures only { IfOk result (λ file. (other : FlagFile) → Derives other tokens.now → other ≡ file) }
-    ensures refused { IfErr result (λ unread. IfNotBuilt unread ((file : FlagFile) → Derives file tokens.now → ⊥)) }
+    ensures only { IfOk result (λ file. IsOnlyFile file tokens.now) }
+    ensures refused { IfErr result (λ unread. IfNotBuilt unread (NoFile tokens.now)) }
 {
     Reader::new(alloc, tokens).file()
 }
@@ -26,8 +25,8 @@ pub fn read(alloc: Global, tokens: &[Token]) -> Result<FlagFile, Unread>
 pub fn built(alloc: Global, tokens: &[Token]) -> Result<FlagFile, Unread>
     ensures derives { IfOk result (λ file. Derives file tokens.now) }
     ensures fits { IfOk result (λ file. FitsNames file) }
-    ensures only { IfOk result (λ file. (other : FlagFile) → Derives other tokens.now → other ≡ file) }
-    ensures refused { IfErr result (λ unread. IfNotBuilt unread ((file : FlagFile) → Derives file tokens.now → FitsNames file → ⊥)) }
+    ensures only { IfOk result (λ file. IsOnlyFile file tokens.now) }
+    ensures refused { IfErr result (λ unread. IfNotBuilt unread (NoFittingFile tokens.now)) }
 {
     let file = read(alloc, tokens)?;
     if !names_fit(&file) {
