@@ -21,6 +21,7 @@ get_or-All P xs at d each default = go (cases_lt at (length xs)) where
   go (inl h) = All-get_or P xs at d h each
   go (inr h) = rw (get_or_past xs at d h) default
 
+-- a read gives a word or a row, and a write leaves a row or a table
 pub row_read-IsWord : (row : Digits) (at : ℕ) → IsRow row → IsWord (row_read row at)
 row_read-IsWord row at x = rw (row_read-get_or row at) (record { least = x.least; most = x.most; fits = get_or-All (λ n. n < 2 ^ row.width) row.words at 0 x.fits (pow_pos row.width) })
 
@@ -75,6 +76,7 @@ shape_of-row_write row at new = ap (λ n. shape.Row n row.width) (length-set row
 pub shape_of-table_write : (table : Grid) (at : ℕ) (new : Digits) → shape_of (Table (table_write table at new)) ≡ shape_of (Table table)
 shape_of-table_write table at new = ap (λ n. shape.Table n table.words table.width) (length-set table.rows at new.words)
 
+-- zeros of a shape that may be are a value
 pub zero_of-IsValue : (s : Shape) → IsShape s → IsValue (zero_of s)
 zero_of-IsValue (shape.Word width) x = record { least = x.0; most = x.1; fits = pow_pos width }
 zero_of-IsValue (shape.Row words width) (h, w) = record {

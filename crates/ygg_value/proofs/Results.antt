@@ -10,17 +10,21 @@ use Rattle.ygg_value.specs.Words.{word, bit_of, apply_to, result_width, CanApply
 use Rattle.ygg_value.specs.declared.operation.Op.{Op}
 use Rattle.ygg_value.specs.declared.operation.Op.TheVariants.{Add, Sub, Mul, And, Or, Xor, Shl, Shr, Eq, Ne, Lt, Le, Gt, Ge, Imp}
 
+-- what comes of a test is a single digit
 pub bit_of-lt : (test : Bool) → bit_of test < 2 ^ 1
 bit_of-lt true = omega arith
 bit_of-lt false = omega arith
 
+-- a cut fits
 cut-lt : (n w : ℕ) → n % 2 ^ w < 2 ^ w
 cut-lt n w = mod-lt n (pow_pos w)
 
+-- 0 fits where a shift is too far
 shifted-lt : (test : Bool) (n w : ℕ) → n < 2 ^ w → (if test then n else 0) < 2 ^ w
 shifted-lt true n w h = h
 shifted-lt false n w h = pow_pos w
 
+-- what fits a width fits an equal one
 of_width : (w v n : ℕ) → w ≡ v → n < 2 ^ v → n < 2 ^ w
 of_width w v n e h = let P : ℕ → Type 0 = λ x. n < 2 ^ x in subst P (sym e) h
 
@@ -60,6 +64,7 @@ result_width-within Gt w p q = (omega arith, omega arith)
 result_width-within Ge w p q = (omega arith, omega arith)
 result_width-within Imp w p q = (omega arith, omega arith)
 
+-- what is made of words is a word
 pub apply_to-IsWord : (op : Op) (a b : Number) → IsWord a → IsWord b → CanApply op a b → IsWord (apply_to op a b)
 apply_to-IsWord op a b x y h =
     let (least, most) = result_width-within op a.width x.least x.most in
@@ -72,7 +77,7 @@ pub resized-IsWord : (a : Number) (width : ℕ) → 1 ≤ width → width ≤ 64
 resized-IsWord a width least most = record { least = least; most = most; fits = cut-lt a.bits width }
 
 -- a cut to n digits and then to no more
-cut-narrower : (a n m : ℕ) → m ≤ n → a % 2 ^ n % 2 ^ m ≡ a % 2 ^ m
+pub cut-narrower : (a n m : ℕ) → m ≤ n → a % 2 ^ n % 2 ^ m ≡ a % 2 ^ m
 cut-narrower a n m h =
     let whole : (n - m) + m ≡ n = omega arith in
     subst (λ k. a % 2 ^ k % 2 ^ m ≡ a % 2 ^ m) whole (mod-mod-pow a (n - m) m)
@@ -88,6 +93,7 @@ cut-cut a n m = go (cases_lt n m) where
   go (inl h) = cut-wider a n m (omega arith) ∙ ap (λ k. a % 2 ^ k) (sym (min-eq_left (omega arith)))
   go (inr h) = cut-narrower a n m h ∙ ap (λ k. a % 2 ^ k) (sym (min-eq_right h))
 
+-- two resizes keep as many low digits as the narrower
 pub resized-resized : (a : Number) (first second : ℕ) → resized (resized a first) second ≡ word second (a.bits % 2 ^ min first second)
 resized-resized a first second = ap (word second) (cut-cut a.bits first second)
 
@@ -100,5 +106,6 @@ pub resized-wider : (a : Number) (first second : ℕ) → a.bits < 2 ^ a.width �
 resized-wider a first second h wide =
     ap (λ n. word second (n % 2 ^ second)) (mod-eq_of_lt (lt_of_lt_of_le h (pow-le-pow_right {n = 2} (omega arith) wide)))
 
+-- a resize to a word's own width changes nothing
 pub resized-own : (a : Number) → IsWord a → resized a a.width ≡ a
 resized-own a x = ap (word a.width) (mod-eq_of_lt x.fits)

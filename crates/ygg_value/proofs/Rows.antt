@@ -18,6 +18,7 @@ use Rattle.ygg_value.specs.Shapes.{IsShape, zero_of}
 use Rattle.ygg_value.specs.declared.row.Value.TheVariants.{Table}
 use Rattle.ygg_value.specs.declared.shape.Shape.TheVariants as shape
 
+-- there are as many rows as were cut
 pub length-first_chunks : (n k : ℕ) (xs : List ℕ) → length (first_chunks n k xs) ≡ k
 length-first_chunks n zero xs = refl
 length-first_chunks n (suc k) xs = ap (λ (j : ℕ). suc j) (length-first_chunks n k (drop n xs))
@@ -110,6 +111,7 @@ same_grids width words rows others xs ys f g = (forth, back) where
       let same : first_chunks words others xs ≡ first_chunks words others ys = ap (λ k. first_chunks words k xs) (sym counts) ∙ ap (λ (t : Grid). t.rows) e in
       same_from_chunks words others xs ys (f.laid ∙ ap (λ k. k * words) counts) g.laid same
 
+-- a row that lies within ends within
 row_ends : (at rows words : ℕ) → at < rows → at * words + words ≤ rows * words
 row_ends at rows words h =
     let more : suc at * words ≤ rows * words = mul-le-mul_right words h in

@@ -134,7 +134,7 @@ fn same_row(a: &Row, b: &Row) -> bool
 fn same_table(a: &Table, b: &Table) -> bool
     ensures { IsTrue result ↔ (a.now ≡ b.now) }
 {
-    // so many numbers make as many rows
+    // rows of one length with the same numbers are as many
     a.width == b.width && a.words == b.words && a.numbers == b.numbers
 }
 

@@ -12,257 +12,61 @@ fn word(rt: &impl Abort, width: u8, bits: u64) -> Word
     resize(Word { width: 64, bits }, width)
 }
 
-/// A width, two numbers, and what the operations but the implication give of them, in order, by Python's integers.
-fn results() -> [(u8, u64, u64, [u64; 14]); 18] {
+// Each line has a width, two numbers and what the operations but the implication give of them, in the order of `Op`,
+// all in base 16. They were worked out with Python's integers.
+const RESULTS: &str = "\
+1 0 0 0 0 0 0 0 0 0 0 1 0 0 1 0 1
+1 0 1 1 1 0 0 1 1 0 0 0 1 1 1 0 0
+1 1 0 1 1 0 0 1 1 1 1 0 1 0 0 1 1
+1 1 1 0 0 1 1 1 0 0 0 1 0 0 1 0 1
+8 0 ff ff 1 0 0 ff ff 0 0 0 1 1 1 0 0
+8 ff 1 0 fe ff 1 ff fe fe 7f 0 1 0 0 1 1
+8 80 7f ff 1 80 0 ff ff 0 0 0 1 0 0 1 1
+8 a5 7 ac 9e 83 5 a7 a2 80 1 0 1 0 0 1 1
+8 a5 8 ad 9d 28 0 ad ad 0 0 0 1 0 0 1 1
+21 1ffffffff 1ffffffff 1fffffffe 0 1 1ffffffff 1ffffffff 0 0 0 1 0 0 1 0 1
+21 100000000 ffffffff 1ffffffff 1 100000000 0 1ffffffff 1ffffffff 0 0 0 1 0 0 1 1
+21 123456789 20 1234567a9 123456769 68acf120 0 1234567a9 1234567a9 100000000 1 0 1 0 0 1 1
+21 123456789 21 1234567aa 123456768 18bf258a9 1 1234567a9 1234567a8 0 0 0 1 0 0 1 1
+40 ffffffffffffffff 1 0 fffffffffffffffe ffffffffffffffff 1 ffffffffffffffff fffffffffffffffe fffffffffffffffe 7fffffffffffffff 0 1 0 0 1 1
+40 ffffffffffffffff ffffffffffffffff fffffffffffffffe 0 1 ffffffffffffffff ffffffffffffffff 0 0 0 1 0 0 1 0 1
+40 8000000000000000 7fffffffffffffff ffffffffffffffff 1 8000000000000000 0 ffffffffffffffff ffffffffffffffff 0 0 0 1 0 0 1 1
+40 fedcba9876543211 3f fedcba9876543250 fedcba98765431d2 b851eb851eb8522f 11 fedcba987654323f fedcba987654322e 8000000000000000 1 0 1 0 0 1 1
+40 fedcba9876543211 40 fedcba9876543251 fedcba98765431d1 b72ea61d950c8440 0 fedcba9876543251 fedcba9876543251 0 0 0 1 0 0 1 1";
+
+/// What the operations but the implication give of two words, in order.
+fn given(a: Word, b: Word) -> [u64; 14]
+    requires { a.width ≡ b.width }
+{
     [
-        (1, 0, 0, [0, 0, 0, 0, 0, 0, 0, 0, 1, 0, 0, 1, 0, 1]),
-        (1, 0, 1, [1, 1, 0, 0, 1, 1, 0, 0, 0, 1, 1, 1, 0, 0]),
-        (1, 1, 0, [1, 1, 0, 0, 1, 1, 1, 1, 0, 1, 0, 0, 1, 1]),
-        (1, 1, 1, [0, 0, 1, 1, 1, 0, 0, 0, 1, 0, 0, 1, 0, 1]),
-        (
-            8,
-            0,
-            0xff,
-            [0xff, 1, 0, 0, 0xff, 0xff, 0, 0, 0, 1, 1, 1, 0, 0],
-        ),
-        (
-            8,
-            0xff,
-            1,
-            [0, 0xfe, 0xff, 1, 0xff, 0xfe, 0xfe, 0x7f, 0, 1, 0, 0, 1, 1],
-        ),
-        (
-            8,
-            0x80,
-            0x7f,
-            [0xff, 1, 0x80, 0, 0xff, 0xff, 0, 0, 0, 1, 0, 0, 1, 1],
-        ),
-        (
-            8,
-            0xa5,
-            7,
-            [0xac, 0x9e, 0x83, 5, 0xa7, 0xa2, 0x80, 1, 0, 1, 0, 0, 1, 1],
-        ),
-        (
-            8,
-            0xa5,
-            8,
-            [0xad, 0x9d, 0x28, 0, 0xad, 0xad, 0, 0, 0, 1, 0, 0, 1, 1],
-        ),
-        (
-            33,
-            0x1ffffffff,
-            0x1ffffffff,
-            [
-                0x1fffffffe,
-                0,
-                1,
-                0x1ffffffff,
-                0x1ffffffff,
-                0,
-                0,
-                0,
-                1,
-                0,
-                0,
-                1,
-                0,
-                1,
-            ],
-        ),
-        (
-            33,
-            0x100000000,
-            0xffffffff,
-            [
-                0x1ffffffff,
-                1,
-                0x100000000,
-                0,
-                0x1ffffffff,
-                0x1ffffffff,
-                0,
-                0,
-                0,
-                1,
-                0,
-                0,
-                1,
-                1,
-            ],
-        ),
-        (
-            33,
-            0x123456789,
-            0x20,
-            [
-                0x1234567a9,
-                0x123456769,
-                0x68acf120,
-                0,
-                0x1234567a9,
-                0x1234567a9,
-                0x100000000,
-                1,
-                0,
-                1,
-                0,
-                0,
-                1,
-                1,
-            ],
-        ),
-        (
-            33,
-            0x123456789,
-            0x21,
-            [
-                0x1234567aa,
-                0x123456768,
-                0x18bf258a9,
-                1,
-                0x1234567a9,
-                0x1234567a8,
-                0,
-                0,
-                0,
-                1,
-                0,
-                0,
-                1,
-                1,
-            ],
-        ),
-        (
-            64,
-            0xffffffffffffffff,
-            1,
-            [
-                0,
-                0xfffffffffffffffe,
-                0xffffffffffffffff,
-                1,
-                0xffffffffffffffff,
-                0xfffffffffffffffe,
-                0xfffffffffffffffe,
-                0x7fffffffffffffff,
-                0,
-                1,
-                0,
-                0,
-                1,
-                1,
-            ],
-        ),
-        (
-            64,
-            0xffffffffffffffff,
-            0xffffffffffffffff,
-            [
-                0xfffffffffffffffe,
-                0,
-                1,
-                0xffffffffffffffff,
-                0xffffffffffffffff,
-                0,
-                0,
-                0,
-                1,
-                0,
-                0,
-                1,
-                0,
-                1,
-            ],
-        ),
-        (
-            64,
-            0x8000000000000000,
-            0x7fffffffffffffff,
-            [
-                0xffffffffffffffff,
-                1,
-                0x8000000000000000,
-                0,
-                0xffffffffffffffff,
-                0xffffffffffffffff,
-                0,
-                0,
-                0,
-                1,
-                0,
-                0,
-                1,
-                1,
-            ],
-        ),
-        (
-            64,
-            0xfedcba9876543211,
-            0x3f,
-            [
-                0xfedcba9876543250,
-                0xfedcba98765431d2,
-                0xb851eb851eb8522f,
-                0x11,
-                0xfedcba987654323f,
-                0xfedcba987654322e,
-                0x8000000000000000,
-                1,
-                0,
-                1,
-                0,
-                0,
-                1,
-                1,
-            ],
-        ),
-        (
-            64,
-            0xfedcba9876543211,
-            0x40,
-            [
-                0xfedcba9876543251,
-                0xfedcba98765431d1,
-                0xb72ea61d950c8440,
-                0,
-                0xfedcba9876543251,
-                0xfedcba9876543251,
-                0,
-                0,
-                0,
-                1,
-                0,
-                0,
-                1,
-                1,
-            ],
-        ),
+        apply(Op::Add, a, b).bits,
+        apply(Op::Sub, a, b).bits,
+        apply(Op::Mul, a, b).bits,
+        apply(Op::And, a, b).bits,
+        apply(Op::Or, a, b).bits,
+        apply(Op::Xor, a, b).bits,
+        apply(Op::Shl, a, b).bits,
+        apply(Op::Shr, a, b).bits,
+        apply(Op::Eq, a, b).bits,
+        apply(Op::Ne, a, b).bits,
+        apply(Op::Lt, a, b).bits,
+        apply(Op::Le, a, b).bits,
+        apply(Op::Gt, a, b).bits,
+        apply(Op::Ge, a, b).bits,
     ]
 }
 
 #[test]
-fn operations(rt: HostRuntime) {
-    for (width, left, right, wanted) in results() {
-        let a = word(&rt, width, left);
-        let b = word(&rt, width, right);
-        let given = [
-            apply(Op::Add, a, b).bits,
-            apply(Op::Sub, a, b).bits,
-            apply(Op::Mul, a, b).bits,
-            apply(Op::And, a, b).bits,
-            apply(Op::Or, a, b).bits,
-            apply(Op::Xor, a, b).bits,
-            apply(Op::Shl, a, b).bits,
-            apply(Op::Shr, a, b).bits,
-            apply(Op::Eq, a, b).bits,
-            apply(Op::Ne, a, b).bits,
-            apply(Op::Lt, a, b).bits,
-            apply(Op::Le, a, b).bits,
-            apply(Op::Gt, a, b).bits,
-            apply(Op::Ge, a, b).bits,
-        ];
-        assert_eq!(rt; given, wanted, "{left} and {right} at width {width}");
+fn operations(rt: HostRuntime) -> Result<(), Fail> {
+    for line in RESULTS.lines() {
+        let mut numbers = Vec::new(rt.alloc());
+        for number in line.split_whitespace() {
+            numbers.push(u64::from_str_radix(number, 16)?)?;
+        }
+        assert!(rt; numbers.len() == 17 && numbers[0] <= 64);
+        let width = numbers[0] as u8;
+        let results = given(word(&rt, width, numbers[1]), word(&rt, width, numbers[2]));
+        assert_eq!(rt; results.as_slice(), &numbers[3..], "{line}");
     }
     for (left, right, wanted) in [(0, 0, 1), (0, 1, 1), (1, 0, 0), (1, 1, 1)] {
         let given = apply(Op::Imp, word(&rt, 1, left), word(&rt, 1, right));
@@ -281,6 +85,7 @@ fn operations(rt: HostRuntime) {
     assert_eq!(rt; not(word(&rt, 64, 1)), word(&rt, 64, 0xfffffffffffffffe));
     assert_eq!(rt; resize(eight, 1), word(&rt, 1, 1));
     assert_eq!(rt; resize(eight, 64), word(&rt, 64, 0x81));
+    Ok(())
 }
 
 #[test]

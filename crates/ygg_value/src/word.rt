@@ -1,8 +1,11 @@
 ghost use Rattle.std.specs.Prelude.{◌≡◌, ◌≤◌, ◌^◌, ◌-◌, ◌%◌};
 ghost use Rattle.ygg_value.specs.Words.{apply_to, apply_bits, CanApply, not_of, resized, bit_of, word};
 
+use crate::NoRoom;
 use crate::operation::Op;
+use std::alloc::Global;
 use std::marker::Model;
+use ygg_list::Duplicate;
 
 /// A number of 1 to 64 binary digits, below 2 to its width.
 #[derive(Clone, Copy, Debug, PartialEq, Eq)]
@@ -23,6 +26,12 @@ impl Model for Word {
     ghost invariant = { λ w. IsWord (record { width = w.width; bits = w.bits }) };
 
     ghost inverse = { λ n. record { width = n.width; bits = n.bits } };
+}
+
+impl Duplicate for Word {
+    fn duplicate(&self, _alloc: Global) -> Result<Word, NoRoom> {
+        Ok(*self)
+    }
 }
 
 /// A number cut to the width.
