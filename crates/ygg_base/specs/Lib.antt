@@ -1,2 +1,5 @@
+pub mod Failure
+pub mod Lexing
 pub mod Outside
+pub mod Spelling
 pub mod Status

@@ -9,6 +9,7 @@ mod shelf;
 mod sink;
 mod status;
 mod token;
+mod tokens;
 
 pub use failure::{Refusal, Refuse};
 pub use lists::{Bits, Files, Held, Numbers, Text};
@@ -17,4 +18,5 @@ pub use shelf::Shelf;
 pub use sink::TextSink;
 pub use status::{Status, status_number};
 pub use token::{Keyword, Mark, Symbol, Token};
+pub use tokens::Tokens;
 pub use ygg_list::{Duplicate, NoMemory, Sequence};

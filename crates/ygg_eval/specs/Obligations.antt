@@ -1,5 +1,5 @@
 -- The obligations of a layer, and schedules.
-use Rattle.std.specs.Prelude.{◌≡◌, ℕ, ◌+◌, Bool, false, List, [], ◌∷◌, ◌++◌, length, take, replicate, Option, Some, None}
+use Rattle.std.specs.Prelude.{◌≡◌, ℕ, ◌+◌, Bool, false, List, [], ◌∷◌, ◌++◌, length, take, replicate, Option, Some, None, codes}
 use Rattle.std.specs.List.{flat_map}
 use Rattle.ygg_value.specs.declared.row.Value.{Value}
 use Rattle.ygg_syntax.specs.declared.tree.Operation.{Operation}
@@ -31,6 +31,16 @@ abbrev pub obligations_of : Layer → List Obligation
 obligations_of l =
     Init ∷ flat_map (λ (o : Operation). CallOf o.name.text ∷ CutOf o.name.text ∷ []) l.operations
     ++ flat_map (λ (t : Tick). TickOf t.name.text ∷ CutTickOf t.name.text ∷ []) l.ticks ++ Idle ∷ Again ∷ []
+
+-- the name of an obligation of a layer of this name
+abbrev pub name_of : List ℕ → Obligation → List ℕ
+name_of layer Init = layer ++ codes ".init"
+name_of layer (CallOf operation) = layer ++ (codes ".call." ++ operation)
+name_of layer (CutOf operation) = layer ++ (codes ".cut." ++ operation)
+name_of layer (TickOf tick) = layer ++ (codes ".tick." ++ tick)
+name_of layer (CutTickOf tick) = layer ++ (codes ".cuttick." ++ tick)
+name_of layer Idle = layer ++ codes ".idle"
+name_of layer Again = layer ++ codes ".again"
 
 -- where a run stops: within a call or before it, and how many calls are whole by then
 pub record Halt : Type 0 where

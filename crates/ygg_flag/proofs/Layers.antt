@@ -8,7 +8,7 @@ use Rattle.std.proofs.Math.Bool.{and-true}
 use Rattle.ygg_value.specs.Values.{digit}
 use Rattle.ygg_syntax.specs.declared.flag.FlagFile.{FlagFile}
 use Rattle.ygg_syntax.specs.declared.flag.Formula.{Formula}
-use Rattle.ygg_syntax.specs.FlagNames.{FitsNames, UsesOnly, IsBlind, names_in, has_stored}
+use Rattle.ygg_syntax.specs.FlagNames.{FitsNames, UsesOnly, DependsOnly, names_in, has_stored}
 use Rattle.ygg_syntax.specs.Choices.{choices_of, node_choices, block_choices}
 use Rattle.ygg_syntax.specs.declared.tree.Name.{Name}
 use Rattle.ygg_syntax.specs.declared.tree.Source.{Source}
@@ -41,11 +41,8 @@ one_of_digit false = refl
 known_of : (P : List ℕ → Type 0) (names : List (List ℕ)) (e : Formula) → All P names → UsesOnly names e → All P (names_in e)
 known_of P names e known uses = All-weaker (Contains names) P (λ x c. All-contains P names x known c) (names_in e) uses
 
-blind_never : (e : Formula) → IsBlind e → {P : Type 0} → has_stored e ≡ true → P
+blind_never : (e : Formula) → has_stored e ≡ false → {P : Type 0} → has_stored e ≡ true → P
 blind_never e blind looks = absurd (cc)
-
-both_of : {X : Type 0} (P Q : X → Type 0) (xs : List X) → All P xs → All Q xs → All (λ x. P x × Q x) xs
-both_of P Q xs p q = All-weaker (Contains xs) (λ x. P x × Q x) (λ x c. (All-contains P xs x p c, All-contains Q xs x q c)) xs (All-contains_itself xs)
 
 -- one assignment of a whole variable
 assign_run : (eval : Eval) (x : Name) (s : Source) (env : Env) (answers : List Answer) →
@@ -140,16 +137,15 @@ module _ (f : FlagFile) (fit : FitsNames f) where
   pub writes : (a : Bool) → WritesNext (eval_of L) (argument_of f a) (dialogue_of L (operation f).implementation [] (argument_of f a)) [] (written f a)
   writes a more =
       ap (ended (eval_of L) None (argument_of f a))
-      (writes_in_turn L.functions (argument_of f a) (λ e. value f e false a false) (λ e. UsesOnly (f.argument ∷ []) e × IsBlind e) worth f.writes
-      (both_of (UsesOnly (f.argument ∷ [])) IsBlind f.writes fit.writes fit.blind_writes) more)
+      (writes_in_turn L.functions (argument_of f a) (λ e. value f e false a false) (DependsOnly (f.argument ∷ [])) worth f.writes fit.writes more)
     where
-      worth : (e : Formula) → UsesOnly (f.argument ∷ []) e × IsBlind e → eval_of L (expression e) (argument_of f a) ≡ digit (value f e false a false)
+      worth : (e : Formula) → DependsOnly (f.argument ∷ []) e → eval_of L (expression e) (argument_of f a) ≡ digit (value f e false a false)
       worth e h =
           let scope : Scope = record { own = argument_of f a; low = [] } in
           let bits : Bits = record { state = false; argument = a; stored = false } in
           let known = IsKnown L.functions f.state scope bits in
           let argument : All known (f.argument ∷ []) = All-cons known f.argument [] (argument_known false a false []) (All-nil known) in
-          expression_agrees L.functions f.state scope bits e (known_of known (f.argument ∷ []) e argument h.0) (blind_never e h.1)
+          expression_agrees L.functions f.state scope bits e (known_of known (f.argument ∷ []) e argument h.uses) (blind_never e h.blind)
 
   pub spec_gives : (s a : Bool) (answers : List Answer) →
       call_outcome L (operation f) (state_of f s) (digit a ∷ []) answers ≡ Some (record { vars = state_of f (specified f s a); answer = None; left = answers })
@@ -170,4 +166,4 @@ module _ (f : FlagFile) (fit : FitsNames f) where
           let argument = argument_after s a false [] in
           let both : All known (f.state ∷ f.argument ∷ []) =
           All-cons known f.state (f.argument ∷ []) (state_known s a false (argument_of f a) []) (All-cons known f.argument [] argument (All-nil known)) in
-          expression_agrees L.functions f.state scope bits f.spec (known_of known (f.state ∷ f.argument ∷ []) f.spec both fit.spec) (blind_never f.spec fit.blind_spec)
+          expression_agrees L.functions f.state scope bits f.spec (known_of known (f.state ∷ f.argument ∷ []) f.spec both fit.spec.uses) (blind_never f.spec fit.spec.blind)

@@ -36,13 +36,3 @@ FlagViolates f o = ClaimViolated (claim_of f o)
 -- true where no schedule violates the obligation, and false where some does
 abbrev pub Decided : FlagFile → Obligation → Bool → Type 0
 Decided f o result = MatchBool result (FlagHolds f o) ((x : Schedule) × FlagViolates f o x)
-
--- the name of an obligation, of a layer of this name
-abbrev pub name_of : List ℕ → Obligation → List ℕ
-name_of layer Init = layer ++ codes ".init"
-name_of layer (CallOf operation) = layer ++ codes ".call." ++ operation
-name_of layer (CutOf operation) = layer ++ codes ".cut." ++ operation
-name_of layer (TickOf tick) = layer ++ codes ".tick." ++ tick
-name_of layer (CutTickOf tick) = layer ++ codes ".cuttick." ++ tick
-name_of layer Idle = layer ++ codes ".idle"
-name_of layer Again = layer ++ codes ".again"

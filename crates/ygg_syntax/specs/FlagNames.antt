@@ -34,16 +34,15 @@ has_stored = fold-Formula Bool stored_node
 abbrev pub UsesOnly : List (List ℕ) → Formula → Type 0
 UsesOnly names e = All (Contains names) (names_in e)
 
--- the expression doesn't look at the disk
-abbrev pub IsBlind : Formula → Type 0
-IsBlind e = has_stored e ≡ false
+-- the value of the expression depends on these names alone: it uses no others, and doesn't look at the disk
+pub record DependsOnly (names : List (List ℕ)) (e : Formula) : Type 0 where
+  pub uses : UsesOnly names e
+  pub blind : has_stored e ≡ false
 
--- the names differ where they must, each stands where it is known, and the relation alone looks at the disk
+-- the state and the argument differ, the specification assigns to the state, and each expression uses what its place knows
 pub record FitsNames (file : FlagFile) : Type 0 where
   pub differ : file.state ≢ file.argument
   pub assigned : file.assigned ≡ file.state
-  pub spec : UsesOnly (file.state ∷ file.argument ∷ []) file.spec
-  pub writes : All (UsesOnly (file.argument ∷ [])) file.writes
+  pub spec : DependsOnly (file.state ∷ file.argument ∷ []) file.spec
+  pub writes : All (DependsOnly (file.argument ∷ [])) file.writes
   pub relate : UsesOnly (file.state ∷ []) file.relate
-  pub blind_spec : IsBlind file.spec
-  pub blind_writes : All IsBlind file.writes

@@ -1,4 +1,4 @@
-//! The syntax of layer files.
+//! The trees of layer files.
 #![tactic(auto)]
 
 pub mod flag;

@@ -4,11 +4,8 @@
 //! trees keep each place at which a file may be refused.
 
 use sqlite_items::{Boxed, Items};
-use ygg_list::Sequence;
+use ygg_base::Text;
 use ygg_value::Op;
-
-/// Bytes of a name.
-pub type Text = Sequence<u8>;
 
 /// Where a token begins. Lines and columns are counted from 1, columns in bytes.
 #[derive(Clone, Copy, Debug, PartialEq, Eq)]

@@ -1,5 +1,5 @@
 -- What an operation gives fits its width, and what a width cuts off.
-use Rattle.std.proofs.Common.{◌≡◌, ℕ, ◌+◌, ◌-◌, ◌%◌, ◌/◌, ◌*◌, ◌^◌, ◌<◌, ◌≤◌, Bool, true, false, if◌then◌else◌, nat_lt, min, ◌⊎◌, inl, inr, refl, sym, ap, subst, ◌∙◌, arith, mod-lt, mod-eq_of_lt}
+use Rattle.std.proofs.Common.{◌≡◌, ℕ, ◌+◌, ◌-◌, ◌%◌, ◌/◌, ◌*◌, ◌^◌, ◌<◌, ◌≤◌, Bool, true, false, if◌then◌else◌, nat_lt, min, ◌⊎◌, inl, inr, sym, ap, subst, ◌∙◌, arith, mod-lt, mod-eq_of_lt}
 use Rattle.std.proofs.lemmas.Nat.{or_lt, xor_lt, pow_pos}
 use Rattle.std.specs.Int.Bits.{and_lt}
 use Rattle.std.proofs.Math.Nat.{div-le_self, min-eq_left, min-eq_right, pow-le-pow_right, lt_of_lt_of_le}

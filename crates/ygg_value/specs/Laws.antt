@@ -1,5 +1,5 @@
 -- Laws of values, which hold at all widths and places.
-use Rattle.std.specs.Prelude.{ℕ, ◌≡◌, ◌≢◌, ◌<◌, ◌≤◌, ◌+◌, ◌-◌, ◌%◌, ◌^◌, min, max, length}
+use Rattle.std.specs.Prelude.{ℕ, ◌≡◌, ◌≢◌, ◌<◌, ◌+◌, ◌-◌, ◌%◌, ◌^◌, min, max, length}
 use Rattle.std.specs.Int.{bit_at}
 use Rattle.ygg_value.specs.Number.{Number, IsWord, Digits, Grid}
 use Rattle.ygg_value.specs.Values.{row_read, row_write, table_read, table_write}

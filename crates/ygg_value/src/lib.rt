@@ -5,12 +5,17 @@ pub mod law;
 pub mod operation;
 pub mod row;
 pub mod shape;
+#[cfg(test)]
+mod tests;
 pub mod word;
 
 pub use operation::Op;
-pub use row::{copy_value, row_read, row_write, same, shape_of, table_read, table_write, zero, Row, Table, Value, Values};
+pub use row::{
+    Row, Table, Value, Values, copy_value, row_read, row_write, same, shape_of, table_read,
+    table_write, zero,
+};
 pub use shape::Shape;
-pub use word::{apply, not, resize, Word};
+pub use word::{Word, apply, not, resize};
 
 /// No memory was left.
 pub use ygg_list::NoMemory as NoRoom;

@@ -73,7 +73,8 @@ pub fn row_read(row: &Row, at: Word) -> Word
 /// Puts a word at a place of a row, counted from 0. Past the end nothing changes.
 pub fn row_write(row: &mut Row, at: Word, word: Word)
     requires { word.width ≡ row.old.width }
-    ensures { row.new ≡ row_write row.old at.bits word }
+    ensures value { row.new ≡ row_write row.old at.bits word }
+    ensures words { length row.new.words ≡ length row.old.words }
 {
     if let Some(place) = row.words.get_mut(at.bits as usize) {
         *place = word.bits;
@@ -84,7 +85,8 @@ pub fn row_write(row: &mut Row, at: Word, word: Word)
 pub fn table_read(table: &Table, at: Word, into: &mut Row)
     requires width { into.old.width ≡ table.now.width }
     requires words { length into.old.words ≡ table.now.words }
-    ensures { into.new ≡ table_read table.now at.bits }
+    ensures value { into.new ≡ table_read table.now at.bits }
+    ensures words { length into.new.words ≡ length into.old.words }
 {
     let words = table.words as usize;
     if at.bits < table.rows as u64 {
@@ -100,7 +102,8 @@ pub fn table_read(table: &Table, at: Word, into: &mut Row)
 pub fn table_write(table: &mut Table, at: Word, row: &Row)
     requires width { row.now.width ≡ table.old.width }
     requires words { length row.now.words ≡ table.old.words }
-    ensures { table.new ≡ table_write table.old at.bits row.now }
+    ensures value { table.new ≡ table_write table.old at.bits row.now }
+    ensures rows { length table.new.rows ≡ length table.old.rows }
 {
     let words = table.words as usize;
     if at.bits < table.rows as u64 {
@@ -169,6 +172,7 @@ pub fn copy_value(alloc: Global, value: &Value) -> Result<Value, NoRoom>
 /// The shape of a value.
 pub fn shape_of(value: &Value) -> Shape
     ensures shape { result ≡ shape_of value.now }
+    ensures limits { IsShape result }
     ensures value { IsValue value.now }
 {
     match value {

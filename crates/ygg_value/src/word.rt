@@ -1,5 +1,5 @@
 ghost use Rattle.std.specs.Prelude.{◌≡◌, ◌≤◌, ◌^◌, ◌-◌, ◌%◌};
-ghost use Rattle.ygg_value.specs.Words.{apply_to, CanApply, not_of, resized, bit_of, word};
+ghost use Rattle.ygg_value.specs.Words.{apply_to, apply_bits, CanApply, not_of, resized, bit_of, word};
 
 use crate::operation::Op;
 use std::marker::Model;
@@ -56,6 +56,7 @@ fn ones(width: u8) -> u64
     u64::MAX >> (64 - width)
 }
 
+/// What an operation gives of two words of one width, which is 1 for `Imp`; the words of a shift may differ in width.
 #[tactic(auto, using(crate::proofs::Cut::or_word, crate::proofs::Cut::xor_word))]
 pub fn apply(op: Op, a: Word, b: Word) -> Word
     requires { CanApply op a b }
@@ -77,8 +78,8 @@ pub fn apply(op: Op, a: Word, b: Word) -> Word
             width: a.width,
             bits: a.bits ^ b.bits,
         },
-        Op::Shl => shift_left(a, b),
-        Op::Shr => shift_right(a, b),
+        Op::Shl => shift_left(a, b.bits),
+        Op::Shr => shift_right(a, b.bits),
         Op::Eq => digit(a.bits == b.bits),
         Op::Ne => digit(a.bits != b.bits),
         Op::Lt => digit(a.bits < b.bits),
@@ -89,26 +90,29 @@ pub fn apply(op: Op, a: Word, b: Word) -> Word
     }
 }
 
-fn shift_left(a: Word, b: Word) -> Word
-    ensures { result ≡ apply_to Op.Shl a b }
+/// The word shifted towards its high digits; 0 from its width on.
+fn shift_left(a: Word, amount: u64) -> Word
+    ensures { result ≡ word a.width (apply_bits Op.Shl a.width a.bits amount) }
 {
-    if b.bits < a.width as u64 {
-        cut(a.width, a.bits << b.bits)
+    if amount < a.width as u64 {
+        cut(a.width, a.bits << amount)
     } else {
         cut(a.width, 0)
     }
 }
 
-fn shift_right(a: Word, b: Word) -> Word
-    ensures { result ≡ apply_to Op.Shr a b }
+/// The word shifted towards its low digits; 0 from its width on.
+fn shift_right(a: Word, amount: u64) -> Word
+    ensures { result ≡ word a.width (apply_bits Op.Shr a.width a.bits amount) }
 {
-    if b.bits < a.width as u64 {
-        cut(a.width, a.bits >> b.bits)
+    if amount < a.width as u64 {
+        cut(a.width, a.bits >> amount)
     } else {
         cut(a.width, 0)
     }
 }
 
+/// The word with each digit turned round.
 pub fn not(a: Word) -> Word
     ensures { result ≡ not_of a }
 {
@@ -118,6 +122,7 @@ pub fn not(a: Word) -> Word
     }
 }
 
+/// The word at a width from 1 to 64: high digits are dropped, or zeros are put before them.
 pub fn resize(a: Word, width: u8) -> Word
     requires least { 1 ≤ width }
     requires most { width ≤ 64 }

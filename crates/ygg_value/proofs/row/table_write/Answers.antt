@@ -2,7 +2,7 @@ use Rattle.std.proofs.Common.{◌≡◌, ◌<◌, ◌^◌, All, subst, ◌+◌, 
 use Rattle.std.specs.Vec.{with_items}
 use borrow.Rule.Slice.PartMut.{put_mid}
 use Rattle.ygg_value.specs.Number.{Digits, Grid}
-use Rattle.ygg_value.proofs.Rows.{written_slice, grid, grid-write, grid-write_past, flat_from_write}
+use Rattle.ygg_value.proofs.Rows.{length-first_chunks, written_slice, grid, grid-write, grid-write_past, flat_from_write}
 use Rattle.ygg_value.proofs.row.table_write.Goals as goal
 
 -- the row is as long as the table's
@@ -26,11 +26,14 @@ invariant_of-table c =
     let Fit : ℕ → Type 0 = λ width. All (λ n. n < 2 ^ width) c.row.inside.words.items in
     rw (written c) (flat_from_write _ _ _ _ _ _ c.table.invariant c.if-at-table.true (long_row c) (subst Fit wide c.row.invariant.fits))
 
-pub returns-then-at-table : goal.returns-then-at-table
-returns-then-at-table c =
+pub returns-then-at-table-clause-value : goal.returns-then-at-table-clause-value
+returns-then-at-table-clause-value c =
     let row : Digits = record { width = c.row.inside.width; words = c.row.inside.words.items } in
     rw (← c.table.view_is, ← c.at.view_is, ← c.row.view_is)
     (ap (grid c.table.inside.width c.table.inside.words c.table.inside.rows) (written c) ∙ grid-write _ _ _ _ _ row c.if-at-table.true c.table.invariant.laid (long_row c))
 
-pub returns-else-at-table : goal.returns-else-at-table
-returns-else-at-table c = rw (← c.table.view_is, ← c.at.view_is) (grid-write_past _ _ _ _ _ c.args.row.now c.if-at-table.false)
+pub returns-else-at-table-clause-value : goal.returns-else-at-table-clause-value
+returns-else-at-table-clause-value c = rw (← c.table.view_is, ← c.at.view_is) (grid-write_past _ _ _ _ _ c.args.row.now c.if-at-table.false)
+
+pub returns-then-at-table-clause-rows : goal.returns-then-at-table-clause-rows
+returns-then-at-table-clause-rows c = rw (← c.table.view_is) (length-first_chunks _ _ _ ∙ sym (length-first_chunks _ _ _))

@@ -1,0 +1,30 @@
+use crate::outside::{FileLibrary, OutSink};
+use std::fs;
+use std::test::Fail;
+use ygg_base::{Fetch, Library, Moved, Sink, Text};
+
+#[test]
+fn reads_files(rt: HostRuntime) -> Result<(), Fail> {
+    fs::write(&rt, "stored", "four")?;
+    let mut library = FileLibrary::new(&rt);
+    let stored = Text::from_slice(rt.alloc(), b"stored")?;
+    let absent = Text::from_slice(rt.alloc(), b"absent")?;
+    let folder = Text::from_slice(rt.alloc(), b".")?;
+    match library.fetch(&stored, 4) {
+        Fetch::Found(text) => assert_eq!(rt; text.as_slice(), b"four".as_slice()),
+        _ => assert!(rt; false, "the file has four bytes"),
+    }
+    assert!(rt; matches!(library.fetch(&stored, 3), Fetch::TooLarge));
+    assert!(rt; matches!(library.fetch(&absent, 4), Fetch::Absent));
+    assert!(rt; matches!(library.fetch(&folder, 4), Fetch::Failed));
+    Ok(())
+}
+
+#[test]
+fn writes_all_bytes(rt: HostRuntime) -> Result<(), Fail> {
+    let mut sink = OutSink::new(Vec::new(rt.alloc()));
+    assert!(rt; sink.put(b"one ") == Moved::Done);
+    assert!(rt; sink.put(b"two") == Moved::Done);
+    assert_eq!(rt; sink.out().as_slice(), b"one two".as_slice());
+    Ok(())
+}

@@ -1,0 +1,6 @@
+use Rattle.std.proofs.Common.{◌≡◌, ◌<◌, ◌^◌, drop}
+use Rattle.ygg_base.specs.Lexing.{value_after}
+use Rattle.ygg_lex.proofs.recognize.number_of.Given as goal
+
+abbrev pub invariant-loop-digit : goal.invariant-loop-digit
+invariant-loop-digit l = (l.number < 2 ^ 64) × (value_after l.number (drop l.digit-index l.digits) ≡ value_after 0 l.digits)

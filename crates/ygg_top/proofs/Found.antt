@@ -1,0 +1,64 @@
+-- From what is found of a file to how its command ends.
+use Rattle.std.proofs.Common.{◌≡◌, ◌⊎◌, inl, inr, ℕ, zero, suc, ◌+◌, ◌<◌, ◌≤◌, List, [], ◌∷◌, ◌++◌, Option, Some, None, length, refl, sym, ap, subst, ◌∙◌, arith}
+use Rattle.std.specs.Prelude.{codes, IfSome}
+use Rattle.ygg_base.specs.declared.failure.Refusal.{Refusal}
+use Rattle.ygg_base.specs.declared.lists.Held.{Held}
+use Rattle.ygg_base.specs.declared.outside.Fetch.TheVariants.{TooLarge}
+use Rattle.ygg_base.specs.declared.status.Status.{Status}
+use Rattle.ygg_base.specs.declared.status.Status.TheVariants.{Done, Refuted, Refused, Undecided, Fault, NoMemory}
+use Rattle.ygg_base.specs.Outside.{bytes_of, FitsFile}
+use Rattle.ygg_syntax.specs.declared.flag.FlagFile.{FlagFile}
+use Rattle.ygg_top.specs.Refusing.{IsBuilt, RefusesFile, refusal, refused_line, most_bytes}
+use Rattle.ygg_flag.specs.Trees.{file_of}
+use Rattle.ygg_top.specs.Verdict.{Verdict, line}
+use Rattle.ygg_top.specs.Ending.{Verifies, Stands, IsTextOf, IsVerified}
+use Rattle.ygg_top.specs.declared.answer.Answer.{Answer}
+use Rattle.ygg_top.specs.declared.answer.Answer.TheVariants as answer
+
+-- the verdict of a built file is how `verify` ends for its bytes
+pub verdict_verifies : (bytes : List ℕ) (f : FlagFile) (status : Status) (text : List ℕ) → IsBuilt bytes f → Verdict (file_of f) status text
+    → Verifies (Some bytes) status text
+verdict_verifies bytes f Done text built verdict = (bytes, f, refl, built, verdict)
+verdict_verifies bytes f Refuted text built verdict = (bytes, f, refl, built, verdict)
+verdict_verifies bytes f Refused text built verdict = absurd verdict
+verdict_verifies bytes f Undecided text built verdict = absurd verdict
+verdict_verifies bytes f Fault text built verdict = absurd verdict
+verdict_verifies bytes f NoMemory text built verdict = absurd verdict
+
+refused_as : (bytes : List ℕ) (at : Refusal) (status : Status) (text : List ℕ) → RefusesFile (Some bytes) at → status ≡ Refused
+    → text ≡ refused_line at → Verifies (Some bytes) status text
+refused_as bytes at status text refuses same says =
+    let P : Status → Type 0 = λ (s : Status). Verifies (Some bytes) s text in
+    subst P (sym same) (at, refuses, says)
+
+some_longer : (n : ℕ) → (bytes : List ℕ) × (n < length bytes)
+some_longer zero = (0 ∷ [], omega arith)
+some_longer (suc n) = let shorter = some_longer n in (0 ∷ shorter.0, omega (arith, shorter.1))
+
+-- a library that says that a file is too large holds such a file, or may hold one
+pub too_large : (files : Option (List Held)) (name : List ℕ) (at : Refusal) (found : Answer)
+    → IfSome files (λ held. FitsFile (bytes_of held name) most_bytes TooLarge) → at ≡ refusal 11 0 1 → IsTextOf Refused (refused_line at) found
+    → IsVerified files name found
+too_large files name at answer.NoMemory told same is = tt
+too_large files name at answer.LibraryFailed told same is = absurd is
+too_large None name at (answer.Ends status line) told same is =
+    let long = some_longer most_bytes in
+    (Some long.0, tt, refused_as _ at _ _ (inl (long.1, same)) is.0 is.1)
+too_large (Some held) name at (answer.Ends status line) told same is =
+    (Some told.0, sym told.1, refused_as _ at _ _ (inl (told.2, same)) is.0 is.1)
+
+append_nil : (xs : List ℕ) → xs ++ [] ≡ xs
+append_nil [] = refl
+append_nil (x ∷ xs) = ap (λ (ys : List ℕ). x ∷ ys) (append_nil xs)
+
+-- the line that names an obligation, of the layer's name, its kind and the operation's
+pub named : (text layer first kind operation last : List ℕ) → layer ≡ first → operation ≡ last
+    → text ≡ line (codes "refuted " ++ (layer ++ (kind ++ (operation ++ [])))) → text ≡ line (codes "refuted " ++ (first ++ (kind ++ last)))
+named text layer first kind operation last same_layer same_operation says =
+    says ∙ ap (λ (xs : List ℕ). line (codes "refuted " ++ (layer ++ (kind ++ xs)))) (append_nil operation ∙ same_operation)
+    ∙ ap (λ (xs : List ℕ). line (codes "refuted " ++ (xs ++ (kind ++ last)))) same_layer
+
+-- the same without an operation
+pub named_alone : (text layer first kind : List ℕ) → layer ≡ first
+    → text ≡ line (codes "refuted " ++ (layer ++ kind)) → text ≡ line (codes "refuted " ++ (first ++ kind))
+named_alone text layer first kind same_layer says = says ∙ ap (λ (xs : List ℕ). line (codes "refuted " ++ (xs ++ kind))) same_layer

@@ -1,0 +1,4 @@
+mod First
+mod Found
+mod Printing
+mod Refused

@@ -1,0 +1,14 @@
+//! The top call: words in, status and printed lines out.
+#![tactic(auto)]
+
+mod answer;
+mod command;
+mod file;
+mod help;
+mod line;
+#[cfg(test)]
+mod tests;
+mod verdict;
+mod words;
+
+pub use command::ygg;
