@@ -1,22 +1,19 @@
 -- A block that writes, one row after another.
-use Rattle.std.proofs.Common.{◌≡◌, ℕ, Bool, true, false, ◌&&◌, List, [], ◌∷◌, ◌++◌, map, codes, Option, Some, None, if◌then◌else◌, refl, sym, ap, ◌∙◌, subst}
+use Rattle.std.proofs.Common.{◌≡◌, Bool, List, [], ◌∷◌, map, codes, refl, sym, ap, ◌∙◌}
 use Rattle.std.specs.List.{All}
 use Rattle.std.proofs.lemmas.List.Elements.{All-head, All-tail}
-use Rattle.ygg_value.specs.Words.{word, bit_of}
+use Rattle.ygg_value.specs.Words.{word}
 use Rattle.ygg_value.specs.Values.{digit}
-use Rattle.ygg_value.specs.declared.row.Value.{Value}
-use Rattle.ygg_value.specs.declared.row.Value.TheVariants.{Word, Row, Table}
+use Rattle.ygg_value.specs.declared.row.Value.TheVariants.{Word, Row}
 use Rattle.ygg_syntax.specs.declared.flag.Formula.{Formula}
 use Rattle.ygg_syntax.specs.declared.tree.Expr.{Expr}
 use Rattle.ygg_syntax.specs.declared.tree.Expr.TheVariants as expr
 use Rattle.ygg_syntax.specs.declared.tree.Name.{Name}
-use Rattle.ygg_syntax.specs.declared.tree.Stmt.{Stmt}
-use Rattle.ygg_syntax.specs.declared.tree.Stmt.TheOpen.{Stmt-F}
 use Rattle.ygg_syntax.specs.declared.tree.Stmt.TheFolds.{fold-roll-Stmt}
 use Rattle.ygg_syntax.specs.declared.tree.Stmt.TheVariants as stmt
 use Rattle.ygg_eval.specs.Environments.{Env}
 use Rattle.ygg_eval.specs.Meaning.{Scope, Functions, value_with, row_of}
-use Rattle.ygg_eval.specs.Progress.{Eval, Run, Answer, Question, Call, Point, Waits, Goes, Progress, and_then, ask, in_turn, run_of, stmt_run, block_run, ended}
+use Rattle.ygg_eval.specs.Progress.{Eval, Run, Answer, Question, Call, Point, Waits, Goes, and_then, ask, in_turn, run_of, stmt_run, block_run}
 use Rattle.ygg_flag.specs.Trees.{somewhere, named, constant, expression, write_of}
 use Rattle.ygg_flag.proofs.Disk.{write_question}
 use Rattle.ygg_flag.proofs.Expressions.{constant_value, row_value}

@@ -1,16 +1,15 @@
 -- From tests of bits to obligations.
-use Rattle.std.proofs.Common.{◌≡◌, Bool, true, false, ◌&&◌, List, [], ◌∷◌, None, refl, sym, ap, ◌∙◌}
+use Rattle.std.proofs.Common.{◌≡◌, Bool, true, false, ◌&&◌, List, [], ◌∷◌, None, refl, sym}
 use Rattle.std.specs.List.{list_all, AllByRecursion}
 use Rattle.std.proofs.lemmas.List.Elements.{recursion_from_All}
 use Rattle.std.proofs.lemmas.List.Sums.{AllPass-from_list_all}
 use Rattle.ygg_syntax.specs.declared.flag.FlagFile.{FlagFile}
 use Rattle.ygg_syntax.specs.FlagNames.{FitsNames}
-use Rattle.ygg_eval.specs.Obligations.{Schedule, Init, CallOf, CutOf}
+use Rattle.ygg_eval.specs.Obligations.{Init, CallOf, CutOf}
 use Rattle.ygg_flag.specs.declared.decide.Bits.{Bits}
 use Rattle.ygg_flag.specs.declared.decide.TheConstants.{ALL}
 use Rattle.ygg_flag.specs.Bits.{related, call_keeps, cut_keeps}
-use Rattle.ygg_flag.specs.Obligations.{Decided, FlagHolds, FlagViolates}
-use Rattle.ygg_flag.proofs.Shapes.{and_first, and_second}
+use Rattle.ygg_flag.specs.Obligations.{Decided}
 use Rattle.ygg_flag.proofs.Schedules.{schedule}
 use Rattle.ygg_flag.proofs.Violated.{init_violated, call_violated, cut_violated}
 use Rattle.ygg_flag.proofs.Kept.{init_kept, call_kept, cut_kept}

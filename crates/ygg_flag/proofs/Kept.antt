@@ -1,5 +1,5 @@
 -- Obligations of a flag file that hold where its bits are kept related.
-use Rattle.std.proofs.Common.{◌≡◌, ◌+◌, ◌&&◌, ◌||◌, Bool, true, false, if◌then◌else◌, [], ◌∷◌, ◌++◌, List, sym, refl, ap, ◌∙◌, subst}
+use Rattle.std.proofs.Common.{◌≡◌, ◌+◌, ◌&&◌, ◌||◌, Bool, true, false, if◌then◌else◌, [], ◌∷◌, ◌++◌, List, sym, ap, ◌∙◌, subst}
 use Rattle.std.specs.List.{list_all}
 use Rattle.ygg_syntax.specs.declared.flag.FlagFile.{FlagFile}
 use Rattle.ygg_syntax.specs.FlagNames.{FitsNames}
@@ -7,15 +7,15 @@ use Rattle.ygg_eval.specs.Environments.{bind}
 use Rattle.ygg_eval.specs.Machine.{based, on}
 use Rattle.ygg_eval.specs.Layer.{ClosedLayer, Layered, BlockRuns, BlockFalls}
 use Rattle.ygg_eval.specs.Spec.{chosen, call_outcome, fall_outcome}
-use Rattle.ygg_eval.specs.Obligations.{Schedule, Init, CallOf, CutOf, NoPicksPass, call_picks, fall_picks}
+use Rattle.ygg_eval.specs.Obligations.{Init, CallOf, CutOf, NoPicksPass, call_picks, fall_picks}
 use Rattle.ygg_eval.specs.Violates.{answers_alike, related_after, recovered}
 use Rattle.ygg_flag.specs.declared.decide.Bits.{Bits}
 use Rattle.ygg_flag.specs.Bits.{related, specified, written, stored_after, stops, relates_either, call_keeps, cut_keeps}
 use Rattle.ygg_flag.specs.Trees.{operation}
 use Rattle.ygg_flag.specs.Obligations.{closed, FlagHolds}
-use Rattle.ygg_flag.proofs.Disk.{machine, tables}
-use Rattle.ygg_flag.proofs.Layers.{state_of, argument_of, no_choices, writes}
-use Rattle.ygg_flag.proofs.Steps.{at_disk, block_runs, block_falls, starts_at, recovers_to}
+use Rattle.ygg_flag.proofs.Disk.{machine}
+use Rattle.ygg_flag.proofs.Layers.{argument_of, no_choices, writes}
+use Rattle.ygg_flag.proofs.Steps.{block_runs, block_falls, starts_at, recovers_to}
 use Rattle.ygg_flag.proofs.Stops.{at_each}
 use Rattle.ygg_flag.proofs.Schedules.{the_operation, from_bits, at_bits}
 use Rattle.ygg_flag.proofs.Violated.{call_test, cut_test, start_related}

@@ -1,18 +1,15 @@
 -- What the blocks of a flag file's layer do.
-use Rattle.std.proofs.Common.{◌≡◌, ◌≢◌, ℕ, ◌+◌, ◌&&◌, Bool, true, false, not, if◌then◌else◌, List, [], ◌∷◌, ◌++◌, map, length, take, codes, sum, Option, Some, None, refl, sym, ap, ◌∙◌, subst, append-nil}
+use Rattle.std.proofs.Common.{◌≡◌, ◌≢◌, ℕ, ◌+◌, ◌&&◌, Bool, true, false, if◌then◌else◌, List, [], ◌∷◌, take, Option, Some, None, refl, sym, ap, ◌∙◌}
 use Rattle.std.specs.List.{All, Contains, list_all}
 use Rattle.std.specs.Str.{bytes_eq}
 use Rattle.std.proofs.lemmas.Slice.Eq.{bytes_eq-Decides}
 use Rattle.std.proofs.lemmas.List.Elements.{All-nil, All-cons, All-weaker, All-contains, All-contains_itself}
 use Rattle.std.proofs.Math.Bool.{and-true}
-use Rattle.ygg_value.specs.Words.{bit_of}
 use Rattle.ygg_value.specs.Values.{digit}
-use Rattle.ygg_value.specs.declared.row.Value.{Value}
 use Rattle.ygg_syntax.specs.declared.flag.FlagFile.{FlagFile}
 use Rattle.ygg_syntax.specs.declared.flag.Formula.{Formula}
 use Rattle.ygg_syntax.specs.FlagNames.{FitsNames, UsesOnly, DependsOnly, names_in, has_stored}
 use Rattle.ygg_syntax.specs.Choices.{choices_of, node_choices, block_choices}
-use Rattle.ygg_syntax.specs.declared.tree.Block.{Block}
 use Rattle.ygg_syntax.specs.declared.tree.Name.{Name}
 use Rattle.ygg_syntax.specs.declared.tree.Source.{Source}
 use Rattle.ygg_syntax.specs.declared.tree.Source.TheVariants as source
@@ -20,20 +17,19 @@ use Rattle.ygg_syntax.specs.declared.tree.Stmt.TheVariants as stmt
 use Rattle.ygg_syntax.specs.declared.tree.Stmt.TheFolds.{fold-Stmt, fold-roll-Stmt}
 use Rattle.ygg_eval.specs.Environments.{Env, nothing, look_up, assign}
 use Rattle.ygg_eval.specs.Meaning.{Scope, is_one}
-use Rattle.ygg_eval.specs.Shapes.{env_fits, zeros_of}
-use Rattle.ygg_eval.specs.Progress.{Eval, Run, Answer, Point, Goes, and_then, in_turn, run_of, stmt_run, block_run, from_source, assigned, ended}
-use Rattle.ygg_eval.specs.Machine.{Picks, State, Fallen, based, on}
-use Rattle.ygg_eval.specs.Layer.{ClosedLayer, eval_of, dialogue_of, BlockRuns, BlockFalls}
-use Rattle.ygg_eval.specs.Spec.{Outcome, outcome_at, chosen, call_outcome, crash_outcome, fall_outcome, start_outcome}
+use Rattle.ygg_eval.specs.Shapes.{env_fits}
+use Rattle.ygg_eval.specs.Progress.{Eval, Run, Answer, Goes, and_then, in_turn, run_of, stmt_run, block_run, from_source, assigned, ended}
+use Rattle.ygg_eval.specs.Layer.{ClosedLayer, eval_of, dialogue_of}
+use Rattle.ygg_eval.specs.Spec.{Outcome, outcome_at, call_outcome}
 use Rattle.ygg_eval.specs.Related as author
 use Rattle.ygg_flag.specs.declared.decide.Bits.{Bits}
-use Rattle.ygg_flag.specs.Bits.{bit_in, value, related, specified, written, stored_after}
+use Rattle.ygg_flag.specs.Bits.{value, related, specified, written}
 use Rattle.ygg_machine.specs.Stack.{tables_of}
-use Rattle.ygg_flag.specs.Trees.{one_bit, named, expression, block, write_of, assignment, operation}
+use Rattle.ygg_flag.specs.Trees.{one_bit, named, expression, operation}
 use Rattle.ygg_flag.specs.Obligations.{closed}
-use Rattle.ygg_flag.proofs.Expressions.{expression_agrees, IsKnown, HoldsBit}
-use Rattle.ygg_flag.proofs.Blocks.{calling, writes_in_turn}
-use Rattle.ygg_flag.proofs.Disk.{grid, tables, write_question}
+use Rattle.ygg_flag.proofs.Expressions.{expression_agrees, IsKnown}
+use Rattle.ygg_flag.proofs.Blocks.{writes_in_turn}
+use Rattle.ygg_flag.proofs.Disk.{tables}
 use Rattle.ygg_flag.proofs.Runs.{WritesNext}
 use Rattle.ygg_flag.proofs.Shapes.{bytes_same, variable_is, tables_are, no_names, variable_fits, tables_fit, and_first, and_second}
 

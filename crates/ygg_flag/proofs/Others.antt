@@ -1,20 +1,19 @@
 -- Obligations that hold of every flag file.
-use Rattle.std.proofs.Common.{◌≡◌, ◌&&◌, Bool, true, false, List, [], ◌∷◌, Option, Some, None, refl, sym, ap, ◌∙◌, subst}
+use Rattle.std.proofs.Common.{◌≡◌, ◌&&◌, Bool, true, false, List, [], ◌∷◌, Some, None, refl, sym, ap, ◌∙◌, subst}
 use Rattle.ygg_syntax.specs.declared.flag.FlagFile.{FlagFile}
 use Rattle.ygg_syntax.specs.declared.tree.Tick.{Tick}
 use Rattle.ygg_syntax.specs.FlagNames.{FitsNames}
-use Rattle.ygg_eval.specs.Environments.{Env, Name, same_env}
+use Rattle.ygg_eval.specs.Environments.{same_env}
 use Rattle.ygg_eval.specs.Progress.{Answer, Question, Asks}
 use Rattle.ygg_eval.specs.Runs.{answers_of}
-use Rattle.ygg_eval.specs.Machine.{Picks, State, Fallen, based, on}
+use Rattle.ygg_eval.specs.Machine.{based, on}
 use Rattle.ygg_eval.specs.Layer.{ClosedLayer, Layered, dialogue_of, BlockRuns, BlockFalls}
 use Rattle.ygg_eval.specs.Spec.{crash_outcome}
 use Rattle.ygg_eval.specs.Related.{settled}
-use Rattle.ygg_eval.specs.Obligations.{Obligation, Schedule, Init, CallOf, CutOf, TickOf, CutTickOf, Idle, Again}
+use Rattle.ygg_eval.specs.Obligations.{Init, CallOf, CutOf, TickOf, CutTickOf, Idle, Again}
 use Rattle.ygg_eval.specs.Violates.{same_state, related_after, recovered, ViolatesCall, ViolatesCut}
 use Rattle.ygg_eval.specs.Refines.{Refines}
 use Rattle.ygg_machine.specs.Laws.{Answered}
-use Rattle.ygg_flag.specs.Bits.{related}
 use Rattle.ygg_flag.specs.Trees.{block}
 use Rattle.ygg_flag.specs.Obligations.{closed, below, FlagHolds}
 use Rattle.ygg_flag.specs.Laws.{DecidedHold}

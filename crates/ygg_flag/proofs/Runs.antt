@@ -1,12 +1,12 @@
 -- Whole runs and falls, on a disk of one bit, of a block that writes one row after another.
-use Rattle.std.proofs.Common.{◌≡◌, ℕ, zero, suc, Bool, true, false, List, [], ◌∷◌, ◌++◌, map, length, take, codes, None, if◌then◌else◌, refl, sym, ap, ◌∙◌, subst, append-nil, append_assoc}
+use Rattle.std.proofs.Common.{◌≡◌, suc, Bool, true, false, List, [], ◌∷◌, ◌++◌, map, length, take, codes, None, if◌then◌else◌, refl, sym, ap, ◌∙◌, subst, append-nil, append_assoc}
 use Rattle.ygg_value.specs.Words.{word}
 use Rattle.ygg_value.specs.declared.row.Value.TheVariants.{Word, Row}
 use Rattle.ygg_disk.specs.Disk as disk
 use Rattle.ygg_eval.specs.Environments.{Env}
-use Rattle.ygg_eval.specs.Progress.{Eval, Answer, Question, Call, Asks, Ends, ended}
+use Rattle.ygg_eval.specs.Progress.{Eval, Answer, Question, Call, Asks, ended}
 use Rattle.ygg_eval.specs.Machine.{Picks, State, Fallen, based}
-use Rattle.ygg_eval.specs.Runs.{Dialogue, WholeCall, Reaches, WholeRun, FallenRun, FallsInCall, FallsAt, answers_of, picks_of}
+use Rattle.ygg_eval.specs.Runs.{Dialogue, WholeCall, Reaches, WholeRun, FallenRun, FallsAt, answers_of, picks_of}
 use Rattle.ygg_flag.specs.Bits.{stored_after}
 use Rattle.ygg_flag.proofs.Blocks.{calling}
 use Rattle.ygg_flag.proofs.Disk.{grid, tables, machine, row_of_bit, write_question, writes_once, falls_once, loses_nothing}

@@ -1,13 +1,12 @@
 -- What a flag file's layer does on its disk.
-use Rattle.std.proofs.Common.{◌≡◌, ℕ, Bool, true, false, IsTrue, List, [], ◌∷◌, ◌++◌, length, take, Option, Some, None, refl, sym, ap, ◌∙◌, subst}
-use Rattle.ygg_value.specs.declared.row.Value.{Value}
+use Rattle.std.proofs.Common.{◌≡◌, Bool, false, List, [], ◌∷◌, ◌++◌, length, take, None, refl, sym, ap, ◌∙◌, subst}
 use Rattle.ygg_syntax.specs.declared.flag.FlagFile.{FlagFile}
 use Rattle.ygg_syntax.specs.declared.tree.Block.{Block}
 use Rattle.ygg_eval.specs.Environments.{Env}
 use Rattle.ygg_eval.specs.Progress.{Answer}
 use Rattle.ygg_eval.specs.Machine.{Picks, State, Fallen, based, on, memory_in, Machine}
 use Rattle.ygg_eval.specs.Runs.{WholeRun, FallenRun}
-use Rattle.ygg_eval.specs.Layer.{ClosedLayer, Layered, eval_of, dialogue_of, BlockRuns, BlockFalls, StartsAndFormats}
+use Rattle.ygg_eval.specs.Layer.{ClosedLayer, Layered, eval_of, dialogue_of, BlockRuns, BlockFalls}
 use Rattle.ygg_flag.specs.Bits.{stored_after}
 use Rattle.ygg_flag.specs.Trees.{block}
 use Rattle.ygg_flag.specs.Obligations.{closed}

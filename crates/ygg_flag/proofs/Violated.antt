@@ -1,29 +1,26 @@
 -- Schedules that violate an obligation of a flag file.
-use Rattle.std.proofs.Common.{◌≡◌, ℕ, ◌+◌, ◌&&◌, Bool, true, false, if◌then◌else◌, List, [], ◌∷◌, ◌++◌, length, Option, Some, None, refl, sym, ap, ◌∙◌, subst, ◌||◌, arith}
+use Rattle.std.proofs.Common.{◌≡◌, ◌&&◌, Bool, true, false, if◌then◌else◌, [], ◌∷◌, length, Some, None, refl, sym, ap, ◌∙◌, subst, ◌||◌, arith}
 use Rattle.std.specs.List.{list_all}
 use Rattle.ygg_value.specs.Values.{digit}
-use Rattle.ygg_value.specs.declared.row.Value.{Value}
 use Rattle.ygg_syntax.specs.declared.flag.FlagFile.{FlagFile}
 use Rattle.ygg_syntax.specs.FlagNames.{FitsNames}
-use Rattle.ygg_eval.specs.Environments.{Env, Name}
 use Rattle.ygg_eval.specs.Progress.{Answer}
 use Rattle.ygg_eval.specs.Machine.{Picks, State, Fallen}
-use Rattle.ygg_eval.specs.Layer.{ClosedLayer, eval_of, dialogue_of, operation_of}
-use Rattle.ygg_eval.specs.Spec.{Outcome, chosen, call_outcome, fall_outcome, start_outcome, then_block}
-use Rattle.ygg_eval.specs.Related.{settled}
-use Rattle.ygg_eval.specs.Obligations.{Halt, Schedule, Init, CallOf, CutOf, fall_picks}
+use Rattle.ygg_eval.specs.Layer.{ClosedLayer, eval_of, dialogue_of}
+use Rattle.ygg_eval.specs.Spec.{chosen, call_outcome, fall_outcome, start_outcome, then_block}
+use Rattle.ygg_eval.specs.Obligations.{Schedule, Init, CallOf, CutOf, fall_picks}
 use Rattle.ygg_eval.specs.Violates.{related_after, answers_alike, recovered}
 use Rattle.ygg_flag.specs.declared.decide.Bits.{Bits}
 use Rattle.ygg_flag.specs.Bits.{related, specified, written, stored_after, stops, relates_either, call_keeps, cut_keeps}
 use Rattle.ygg_flag.specs.Trees.{operation}
 use Rattle.ygg_flag.specs.Obligations.{closed, FlagViolates}
-use Rattle.ygg_flag.proofs.Disk.{grid, tables, write_question}
+use Rattle.ygg_flag.proofs.Disk.{tables}
 use Rattle.ygg_flag.proofs.Runs.{WritesNext}
-use Rattle.ygg_flag.proofs.Shapes.{bytes_same, argument_fits}
+use Rattle.ygg_flag.proofs.Shapes.{argument_fits}
 use Rattle.ygg_flag.proofs.Layers.{state_of, argument_of, related_is, settled_is, writes, spec_gives}
 use Rattle.ygg_flag.proofs.Steps.{at_disk, runs_block, block_stops, starts, recovery}
 use Rattle.ygg_flag.proofs.Schedules.{operation_found, schedule}
-use Rattle.ygg_flag.proofs.Stops.{at_some, FailsAfter}
+use Rattle.ygg_flag.proofs.Stops.{at_some}
 
 -- a test that is skipped passes
 skipped : (here test : Bool) → (if here then test else true) ≡ false → (here ≡ true) × (test ≡ false)

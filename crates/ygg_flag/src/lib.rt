@@ -3,3 +3,5 @@
 
 pub mod decide;
 pub mod law;
+#[cfg(test)]
+mod tests;
