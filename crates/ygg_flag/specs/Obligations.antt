@@ -1,10 +1,10 @@
 -- The obligations of a flag file.
-use Rattle.std.specs.Prelude.{ℕ, Bool, List, [], ◌∷◌, ◌++◌, codes, MatchBool}
+use Rattle.std.specs.Prelude.{Bool, List, [], ◌∷◌, MatchBool}
 use Rattle.ygg_syntax.specs.declared.flag.FlagFile.{FlagFile}
 use Rattle.ygg_eval.specs.Meaning.{functions_of}
 use Rattle.ygg_eval.specs.Layer.{ClosedLayer}
 use Rattle.ygg_eval.specs.Refines.{Below, OnDisk}
-use Rattle.ygg_eval.specs.Obligations.{Obligation, Init, CallOf, CutOf, TickOf, CutTickOf, Idle, Again, Schedule}
+use Rattle.ygg_eval.specs.Obligations.{Obligation, Init, CallOf, CutOf, Idle, Again, Schedule}
 use Rattle.ygg_machine.specs.Stack.{tables_of}
 use Rattle.ygg_machine.specs.Claims.{Claim, ClaimHolds, ClaimViolated}
 use Rattle.ygg_flag.specs.Trees.{layer, one_bit}

@@ -1,19 +1,18 @@
 ghost use Rattle.std.specs.Prelude.{◌≡◌, List, [], ◌∷◌, ◌++◌, codes, IfOk, false};
 ghost use Rattle.std.specs.List.{All};
-ghost use Rattle.ygg_syntax.specs.FlagNames.{FitsNames, UsesOnly, IsBlind};
+ghost use Rattle.ygg_syntax.specs.FlagNames.{FitsNames, UsesOnly, DependsOnly};
 
 use crate::decide::{call_holds, cut_holds, init_holds};
 use crate::law::{five_obligations, histories, idle_and_again, refines};
 use sqlite_items::{Boxed, Items};
 use std::alloc::Global;
 use std::test::Fail;
-use ygg_list::{NoMemory, Sequence};
+use ygg_base::{NoMemory, Sequence};
 use ygg_syntax::flag::{FlagFile, Formula};
 
 /// The argument's name, negated or not.
 fn argument(alloc: Global, negated: bool) -> Result<Formula, NoMemory>
-    ensures names { IfOk result (UsesOnly (codes "v" ∷ [])) }
-    ensures blind { IfOk result IsBlind }
+    ensures { IfOk result (DependsOnly (codes "v" ∷ [])) }
 {
     let name = Formula::Name(Sequence::from_slice(alloc, b"v")?);
     if negated {
@@ -25,8 +24,7 @@ fn argument(alloc: Global, negated: bool) -> Result<Formula, NoMemory>
 
 /// Writes of the argument, each negated or not.
 fn writes_of(alloc: Global, negated: &[bool]) -> Result<Items<Formula>, NoMemory>
-    ensures names { IfOk result (All (UsesOnly (codes "v" ∷ []))) }
-    ensures blind { IfOk result (All IsBlind) }
+    ensures { IfOk result (All (DependsOnly (codes "v" ∷ []))) }
 {
     let mut writes = Items::new(alloc);
     for negated in negated {
@@ -48,8 +46,7 @@ fn stored_is_state(alloc: Global) -> Result<Formula, NoMemory>
 
 /// A flag `f` that `set(v)` sets.
 fn flag(alloc: Global, writes: Items<Formula>, relate: Formula) -> Result<FlagFile, NoMemory>
-    requires names { All (UsesOnly (codes "v" ∷ [])) writes }
-    requires blind { All IsBlind writes }
+    requires writes { All (DependsOnly (codes "v" ∷ [])) writes }
     requires relate { UsesOnly (codes "f" ∷ []) relate }
     ensures { IfOk result FitsNames }
 {

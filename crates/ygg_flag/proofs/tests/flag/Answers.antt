@@ -3,7 +3,7 @@ use Rattle.std.specs.List.{All, Contains}
 use Rattle.std.proofs.lemmas.Slice.Eq.{bytes_eq-Decides}
 use Rattle.std.proofs.lemmas.List.Elements.{All-weaker, Contains-append_right}
 use Rattle.ygg_syntax.specs.declared.flag.Formula.{Formula}
-use Rattle.ygg_syntax.specs.FlagNames.{UsesOnly, names_in}
+use Rattle.ygg_syntax.specs.FlagNames.{UsesOnly, DependsOnly, names_in}
 use Rattle.ygg_flag.proofs.tests.flag.Goals as goal
 
 differ : (s a : List ℕ) → s ≡ codes "f" → a ≡ codes "v" → s ≢ a
@@ -24,9 +24,7 @@ returns c =
     record {
       differ = differ state argument state_is argument_is;
       assigned = assigned_is ∙ sym state_is;
-      spec = spec_uses state argument c.in_ok-argument.field-0 argument_is c.in_ok-argument.ensures.names;
-      writes = subst (λ x. All (UsesOnly (x ∷ [])) c.args.writes) (sym argument_is) c.requires.names;
+      spec = record { uses = spec_uses state argument c.in_ok-argument.field-0 argument_is c.in_ok-argument.ensures.uses; blind = c.in_ok-argument.ensures.blind };
+      writes = subst (λ x. All (DependsOnly (x ∷ [])) c.args.writes) (sym argument_is) c.requires.writes;
       relate = subst (λ x. UsesOnly (x ∷ []) c.args.relate) (sym state_is) c.requires.relate;
-      blind_spec = c.in_ok-argument.ensures.blind;
-      blind_writes = c.requires.blind;
     }
