@@ -15,6 +15,7 @@ use Rattle.ygg_read.specs.Refusing.{NoFormulaBefore}
 use Rattle.ygg_read.proofs.Unambiguous.{same_formula}
 use Rattle.ygg_read.proofs.Writing.{same_writes}
 
+-- the names in a file's header
 abbrev pub names_of : FlagFile → Names
 names_of file = record { layer = file.layer; state = file.state; operation = file.operation; argument = file.argument; assigned = file.assigned }
 
@@ -38,6 +39,7 @@ named_same before text other rest others h = let e = append_cancel_left before (
 pub named_rest : (before : List Mark) (text other : List ℕ) (from rest others : List Mark) → from ≡ named before text rest → from ≡ named before other others → rest ≡ others
 named_rest before text other from rest others h k = (named_same before text other rest others (sym h ∙ k)).1
 
+-- the same names in a header, and the same marks after it
 header_same : (m n : Names) (rest others : List Mark) → header m rest ≡ header n others → (m ≡ n) × (rest ≡ others)
 header_same m n rest others h =
     let layer = named_same before_layer m.layer n.layer (after_layer m rest) (after_layer n others) h in
@@ -55,6 +57,7 @@ writes_from names e from after now h k file f =
     let same = same_formula e file.spec (before_writes now) (before_writes (writes_before file.writes (from_relate file))) (sym k ∙ (header_same names (names_of file) after (from_spec file) (sym h ∙ f)).1) in
     (same.formula, let r = same.rest in cc)
 
+-- the header and an expression were read, and the writes aren't
 pub writes_refused : (names : Names) (e : Formula) (from after now : List Mark) → from ≡ header names after → after ≡ formula_marks e ++ before_writes now
     → ((writes : List Formula) (rest : List Mark) → now ≡ writes_before writes rest → ⊥) → (file : FlagFile) → from ≡ file_marks file → ⊥
 writes_refused names e from after now h k none file f = none file.writes (from_relate file) (writes_from names e from after now h k file f).1
@@ -66,6 +69,7 @@ relate_from names e writes from after now last h k w file f =
     let same = same_writes writes file.writes last (from_relate file) (sym w ∙ (writes_from names e from after now h k file f).1) in
     (same.writes, same.rest)
 
+-- the writes were read too, and the relation's expression isn't
 pub relate_refused : (names : Names) (e : Formula) (writes : List Formula) (from after now last : List Mark) → from ≡ header names after → after ≡ formula_marks e ++ before_writes now → now ≡ writes_before writes last
     → NoFormulaBefore (mark.Symbol sign.Semicolon ∷ mark.Symbol sign.BraceClose ∷ []) last → (file : FlagFile) → from ≡ file_marks file → ⊥
 relate_refused names e writes from after now last h k w none file f = none file.relate [] (relate_from names e writes from after now last h k w file f).1

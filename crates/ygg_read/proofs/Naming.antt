@@ -12,6 +12,7 @@ use Rattle.ygg_syntax.specs.declared.flag.Formula.TheFolds.{fold-roll-Formula}
 use Rattle.ygg_syntax.specs.FlagNames.{names_node, names_in, UsesOnly}
 use Rattle.ygg_read.specs.Naming.{texts, is_in}
 
+-- one name more to compare with
 one_more : (name text : List ℕ) (others : List (List ℕ)) (here rest : Bool) → bytes_eq text name ≡ here → IsTrue rest ↔ Contains others name → IsTrue (here || rest) ↔ Contains (text ∷ others) name
 one_more name text others true rest e h = (λ t. subst (λ x. Contains (text ∷ others) x) ((bytes_eq-Decides text name).0 e) (Contains-append_left (text ∷ []) others text (Contains-push [] text)), λ c. refl)
 one_more name text others false rest e h = (λ t. Contains-append_right (text ∷ []) others name (h.0 t), λ c. later (Contains-append_cases (text ∷ []) others name c))
@@ -29,6 +30,7 @@ pub among : (name : List ℕ) (names : List (Bor (List ℕ))) → IsTrue (is_in 
 among name [] = (λ t. absurd (cc), λ c. absurd (omega (arith, c.1)))
 among name (n ∷ ns) = one_more name n.now (texts ns) (bytes_eq n.now name) (is_in name ns) refl (among name ns)
 
+-- the names of each construct that has some
 names_name : (text : List ℕ) → names_in (formula.Name text) ≡ text ∷ []
 names_name text = ap names_in (sym (formula.rolls-Name text)) ∙ fold-roll-Formula (List (List ℕ)) names_node (Formula-F.Name text)
 

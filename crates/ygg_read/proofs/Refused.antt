@@ -35,6 +35,7 @@ after_low rest =
     mark.Symbol sign.Dot ∷ mark.Name (codes "view") ∷ mark.Symbol sign.SquareOpen ∷ mark.Num 0 ∷ mark.Symbol sign.Colon ∷ mark.Num 8 ∷ mark.Symbol sign.SquareClose
     ∷ mark.Symbol sign.SquareOpen ∷ mark.Num 0 ∷ mark.Symbol sign.Colon ∷ mark.Num 1 ∷ mark.Symbol sign.SquareClose ∷ rest
 
+-- an opened expression that begins with that keyword is the stored bit
 low_opened : (x : Formula-F Formula) (from rest : List Mark) → mark.Keyword word.Low ∷ from ≡ marks_in x ++ rest → from ≡ after_low rest
 low_opened Formula-F.Stored from rest h = cc
 low_opened x from rest h = absurd (cc)
