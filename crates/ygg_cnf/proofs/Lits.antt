@@ -1,0 +1,33 @@
+-- Literals as values, and true ones.
+use Rattle.std.proofs.Common.{◌≡◌, ◌≢◌, ℕ, Bool, true, false, not, ◌⊎◌, inl, inr, ⊎_elim, refl, sym, ap, ◌∙◌, arith, Contains, List}
+use Rattle.std.proofs.lemmas.Bool.{cases_eq, false≢true}
+use Rattle.ygg_cnf.specs.declared.lit.Lit.{Lit}
+use Rattle.ygg_cnf.specs.Literals.{complement, Satisfies, SatisfiesClause}
+
+pub same_lit : (x y : Lit) → x.var ≡ y.var → x.negated ≡ y.negated → x ≡ y
+same_lit x y e f = grind arith
+
+bool_cases : (a b : Bool) → (a ≡ b) ⊎ (a ≢ b)
+bool_cases true true = inl refl
+bool_cases true false = inr (λ e. false≢true (sym e))
+bool_cases false true = inr false≢true
+bool_cases false false = inl refl
+
+-- literals are told apart
+pub lit_cases : (x y : Lit) → (x ≡ y) ⊎ (x ≢ y)
+lit_cases x y =
+    ⊎_elim (λ e. ⊎_elim (λ f. inl (same_lit x y e f)) (λ n. inr (λ q. n (ap (λ z. z.negated) q))) (bool_cases x.negated y.negated))
+      (λ n. inr (λ q. n (ap (λ z. z.var) q))) (cases_eq x.var y.var)
+
+pub complement_twice : (x : Lit) → complement (complement x) ≡ x
+complement_twice x = same_lit (complement (complement x)) x refl (elim x.negated as (λ b. not (not b) ≡ b) [ true ↦ refl | false ↦ refl ])
+
+-- a literal and its complement aren't both true
+pub not_both : (value : ℕ → Bool) (x : Lit) → Satisfies value x → Satisfies value (complement x) → ⊥
+not_both value x p q =
+    elim x.negated as (λ b. value x.var ≡ not b → value x.var ≡ not (not b) → ⊥) [
+      true ↦ λ p q. false≢true (sym p ∙ q)
+    | false ↦ λ p q. false≢true (sym q ∙ p) ] p q
+
+pub satisfied_by : (value : ℕ → Bool) (clause : List Lit) (x : Lit) → Contains clause x → Satisfies value x → SatisfiesClause value clause
+satisfied_by value clause x (place, within, is) true' = (place, x, within, is, true')
