@@ -1,5 +1,6 @@
 -- Literals as values, and true ones.
-use Rattle.std.proofs.Common.{◌≡◌, ◌≢◌, ℕ, Bool, true, false, not, ◌⊎◌, inl, inr, ⊎_elim, refl, sym, ap, ◌∙◌, arith, Contains, List}
+use Rattle.std.proofs.Common.{◌≡◌, ◌≢◌, ℕ, Bool, true, false, not, ◌&&◌, eqb, ◌⊎◌, inl, inr, ⊎_elim, refl, sym, ap, ◌∙◌, arith, Contains, List}
+use Rattle.std.specs.Bool.{beq}
 use Rattle.std.proofs.lemmas.Bool.{cases_eq, false≢true}
 use Rattle.ygg_cnf.specs.declared.lit.Lit.{Lit}
 use Rattle.ygg_cnf.specs.Literals.{complement, Satisfies, SatisfiesClause}
@@ -31,3 +32,10 @@ not_both value x p q =
 
 pub satisfied_by : (value : ℕ → Bool) (clause : List Lit) (x : Lit) → Contains clause x → Satisfies value x → SatisfiesClause value clause
 satisfied_by value clause x (place, within, is) true' = (place, x, within, is, true')
+
+-- what the derived comparison answers
+pub same_from_ne : (x y : Lit) (b : Bool) → b ≡ not (eqb x.var y.var && beq x.negated y.negated) → b ≡ false → x ≡ y
+same_from_ne x y b e f = grind arith
+
+pub differ_from_ne : (x y : Lit) (b : Bool) → b ≡ not (eqb x.var y.var && beq x.negated y.negated) → b ≡ true → x ≢ y
+differ_from_ne x y b e f = grind arith
