@@ -1,7 +1,7 @@
 -- Steps of a chain over clauses that are kept by places.
 use Rattle.std.proofs.Common.{◌≡◌, ◌≢◌, ℕ, zero, suc, ◌<◌, ◌≤◌, ◌+◌, ◌*◌, Bool, true, false, not, List, [], ◌∷◌, ◌++◌, length, map, get_or, take, drop, Contains, All, Option, Some, None, option_map, slice_get, IsTrue, MatchOption, ◌⊎◌, ◌↔◌, inl, inr, ⊎_elim, refl, sym, ap, subst, ◌∙◌, arith, add-one, drop-cons}
 use Rattle.std.proofs.lemmas.List.{get_or_append_left}
-use Rattle.std.proofs.lemmas.List.Elements.{All-contains, All-weaker, All-head, All-tail, Contains-get_or}
+use Rattle.std.proofs.lemmas.List.Elements.{All-contains, All-weaker, All-head, All-tail, Contains-get_or, Contains-append_left, Contains-append_right, Contains-push}
 use Rattle.std.proofs.lemmas.Option.{slice_get-map, slice_get-get_or, slice_get_within, same_Some}
 use Rattle.ygg_cnf.specs.declared.lit.Lit.{Lit}
 use Rattle.ygg_cnf.specs.Literals.{complement}
@@ -44,6 +44,17 @@ pub fits_numbered : (variables : List ℕ) (clauses : List (List Lit)) (marks : 
 fits_numbered variables clauses marks id kept k h =
     All-weaker (IsPlaced variables) (Fits marks) (λ x p. omega (arith, p, k.room)) kept
       (placed_numbered variables clauses marks id kept k h)
+
+nothing_of_map : {X Y : Type 0} (f : X → Y) (xs : List X) → map f xs ≡ [] → xs ≡ []
+nothing_of_map f [] e = refl
+nothing_of_map f (x ∷ xs) e = cc
+
+-- an empty clause is held where one is kept
+pub empty_held : (variables : List ℕ) (clauses : List (List Lit)) → Contains clauses [] ↔ Contains (clauses_at variables clauses) []
+empty_held variables clauses =
+    ((λ c. contains_map (clause_at variables) clauses [] c),
+     (λ c. let (kept, (there, is)) = contains_of_map (clause_at variables) clauses [] c in
+       subst (Contains clauses) (nothing_of_map (literal_at variables) kept is) there))
 
 -- ---- one step, by places and by variables
 
@@ -152,3 +163,66 @@ named_front clauses ids i y (id, (c, n)) = (id, (contains_front ids i id c, n))
 
 pub named_all : (clauses : List (List Lit)) (ids : List ℕ) (i : ℕ) (y : Lit) → length ids ≤ i → IsNamed clauses ids y → IsNamed clauses (take i ids) y
 named_all clauses ids i y l (id, (c, n)) = (id, ((contains_all ids i l id).1 c, n))
+
+-- ---- what is left at the end of a chain
+
+pub unmark_as_more : (variables : List ℕ) (before now after : List Bool) (xs : List Lit) (i : ℕ) (d : Lit) → i < length xs
+    → HasMarks now (λ x. Marked before x × ((y : Lit) → Contains (take i xs) y → StandsFor variables x y → ⊥))
+    → HasMarks after (λ x. Marked now x × (StandsFor variables x (get_or xs i d) → ⊥))
+    → HasMarks after (λ x. Marked before x × ((y : Lit) → Contains (take (i + 1) xs) y → StandsFor variables x y → ⊥))
+unmark_as_more variables before now after xs i d l was new x =
+    ((λ m. let n = (new x).0 m in let b = (was x).0 n.0 in
+        (b.0, λ y c s. ⊎_elim (λ a. b.1 y a s) (λ e. n.1 (subst (StandsFor variables x) e s)) ((contains_more xs i d l y).0 c))),
+     (λ p. (new x).1 ((was x).1 (p.0, λ y c s. p.1 y ((contains_more xs i d l y).1 (inl c)) s),
+        λ s. p.1 (get_or xs i d) ((contains_more xs i d l (get_or xs i d)).1 (inr refl)) s)))
+
+module _ (clauses : List (List Lit)) (ids : List ℕ) (i : ℕ) (within : i < length ids) (before now after : List Bool)
+    (was : HasMarks now (λ y. Marked before y × (IsNamed clauses (take i ids) y → ⊥))) where
+  pub take_more_named : HasMarks after (λ y. Marked now y × (IsNumbered clauses (get_or ids i 0) y → ⊥))
+      → HasMarks after (λ y. Marked before y × (IsNamed clauses (take (i + 1) ids) y → ⊥))
+  take_more_named new y =
+      ((λ m. let n = (new y).0 m in let b = (was y).0 n.0 in (b.0, λ named. ⊎_elim b.1 n.1 ((named_more clauses ids i y within).0 named))),
+       (λ p. (new y).1 ((was y).1 (p.0, λ named. p.1 ((named_more clauses ids i y within).1 (inl named))),
+         λ numbered. p.1 ((named_more clauses ids i y within).1 (inr numbered)))))
+
+  pub none_more_named : ((y : Lit) → Marked before y → IsNamed clauses (take i ids) y → ⊥)
+      → ((y : Lit) → Marked now y → IsNumbered clauses (get_or ids i 0) y → ⊥)
+      → (y : Lit) → Marked before y → IsNamed clauses (take (i + 1) ids) y → ⊥
+  none_more_named none here y m named =
+      ⊎_elim (none y m) (here y ((was y).1 (m, none y m))) ((named_more clauses ids i y within).0 named)
+
+  pub none_less_named : ((y : Lit) → Marked before y → IsNamed clauses (take (i + 1) ids) y → ⊥)
+      → ((y : Lit) → Marked before y → IsNamed clauses (take i ids) y → ⊥) × ((y : Lit) → Marked now y → IsNumbered clauses (get_or ids i 0) y → ⊥)
+  none_less_named none =
+      ((λ y m named. none y m ((named_more clauses ids i y within).1 (inl named))),
+       (λ y m numbered. none y ((was y).0 m).0 ((named_more clauses ids i y within).1 (inr numbered))))
+
+module _ (variables : List ℕ) (clauses : List (List Lit)) (room : ℕ) (kept : IsKept variables clauses room) (ids : List ℕ) (clause : List Lit)
+    (before after : List Bool) (named : (y : Lit) → Marked before y → IsNamed clauses ids y)
+    (left : HasMarks after (λ x. Marked before x × ((y : Lit) → Contains clause y → StandsFor variables x y → ⊥))) where
+  -- with no mark left, a marked literal is one of the clause
+  pub among_clause : ((y : Lit) → Marked after y → ⊥) → (y : Lit) → IsMarkedAs variables before y → Contains clause y
+  among_clause none y (x, (stands, m)) =
+      ⊎_elim (λ c. c)
+        (λ n. absurd (none x ((left x).1 (m, λ z c s. n (subst (Contains clause) (sym s.1 ∙ stands.1) c)))))
+        (contains_cases clause y)
+
+  -- and where all marked literals are of the clause, none is left
+  pub none_left : ((y : Lit) → IsMarkedAs variables before y → Contains clause y) → (y : Lit) → Marked after y → ⊥
+  none_left all x m =
+      let (was, free) = (left x).0 m in
+      let (id, (among, (next, (at, there)))) = named x was in
+      let inside : IsPlaced variables x = All-contains (IsPlaced variables) next x (placed_numbered variables clauses room id next kept at) there in
+      free (literal_at variables x) (all (literal_at variables x) (x, ((inside, refl), was))) (inside, refl)
+
+-- ---- the first number of a chain
+
+pub no_first : (variables : List ℕ) (clauses : List (List Lit)) (id : ℕ) (ids : List ℕ) (clause : List Lit)
+    → ((next : List Lit) → HasClause clauses id next → ⊥) → DerivesClause (HasClause (clauses_at variables clauses)) (id ∷ ids) clause → ⊥
+no_first variables clauses id ids clause none (first, (at, r)) =
+    let (found, there) = kept_numbered variables clauses id first at in none found there
+
+pub named_first : (clauses : List (List Lit)) (id : ℕ) (ids : List ℕ) (y : Lit) → IsNumbered clauses id y ⊎ IsNamed clauses ids y → IsNamed clauses (id ∷ ids) y
+named_first clauses id ids y =
+    ⊎_elim (λ n. (id, (Contains-append_left (id ∷ []) ids id (Contains-push [] id), n)))
+      (λ (k, (c, n)). (k, (Contains-append_right (id ∷ []) ids k c, n)))

@@ -1,11 +1,11 @@
 -- Places of variables, and what stands for a literal.
-use Rattle.std.proofs.Common.{◌≡◌, ◌≢◌, ℕ, zero, suc, ◌<◌, ◌≤◌, ◌+◌, ◌*◌, Bool, true, false, List, [], ◌∷◌, ◌++◌, length, map, get_or, take, drop, ◌⊎◌, ◌↔◌, inl, inr, position, Contains, All, AllPairs, Option, Some, None, ⊎_elim, refl, sym, ap, subst, ◌∙◌, arith, nat_eq, slice_get, length-append}
+use Rattle.std.proofs.Common.{◌≡◌, ◌≢◌, ℕ, zero, suc, ◌<◌, ◌≤◌, ◌+◌, ◌*◌, Bool, true, false, List, [], ◌∷◌, ◌++◌, length, map, get_or, take, drop, ◌⊎◌, ◌↔◌, inl, inr, position, Contains, All, AllPairs, Option, Some, None, ⊎_elim, refl, sym, ap, subst, ◌∙◌, arith, nat_eq, slice_get, length-append, Result, Ok, Err, OnOk, OnErr}
 use Rattle.std.specs.List.{IsDistinct as IsDistinctBy}
 use Rattle.std.proofs.lemmas.Bool.{eqb-false, eqb-true, cases_lt, true≢false}
 use Rattle.std.proofs.lemmas.List.Quantifiers.{position-Some}
 use Rattle.std.proofs.lemmas.Map.Keys.{apart_from_distinct, any_passes_from_place}
-use Rattle.std.proofs.lemmas.List.{get_or-map, take_more, take_all, length-map, get_or_append_left}
-use Rattle.std.proofs.lemmas.List.Elements.{Contains-push_cases, Contains-append_left, Contains-push, Contains-get_or, All-head, All-tail, All-weaker}
+use Rattle.std.proofs.lemmas.List.{get_or-map, take_more, take_all, length-map, get_or_append_left, map-append}
+use Rattle.std.proofs.lemmas.List.Elements.{Contains-push_cases, Contains-append_left, Contains-push, Contains-get_or, All-head, All-tail, All-weaker, All-push}
 use Rattle.std.proofs.lemmas.Grind.{common_steps}
 use Rattle.std.proofs.lemmas.Option.{slice_get_within, get_or_from_slice_get, same_Some}
 use Rattle.ygg_cnf.specs.declared.lit.Lit.{Lit}
@@ -105,3 +105,37 @@ clauses_more variables more clauses placed =
 
 pub all_placed_more : (variables more : List ℕ) (clause : List Lit) → All (IsPlaced variables) clause → All (IsPlaced (variables ++ more)) clause
 all_placed_more variables more clause placed = All-weaker (IsPlaced variables) (IsPlaced (variables ++ more)) (placed_more variables more) clause placed
+
+-- a clause of places with one more literal
+pub entered : (variables after more : List ℕ) → after ≡ variables ++ more → (kept clause : List Lit) (i : ℕ) (d placed : Lit) → i < length clause
+    → All (IsPlaced variables) kept → clause_at variables kept ≡ take i clause → StandsFor after placed (get_or clause i d)
+    → All (IsPlaced after) (kept ++ placed ∷ []) × (clause_at after (kept ++ placed ∷ []) ≡ take (i + 1) clause)
+entered variables after more grows kept clause i d placed within all same (inside, is) =
+    let moved : All (IsPlaced after) kept =
+      subst (λ (l : List ℕ). All (IsPlaced l) kept) (sym grows) (all_placed_more variables more kept all) in
+    let stays : clause_at after kept ≡ clause_at variables kept =
+      ap (λ (l : List ℕ). clause_at l kept) grows ∙ clause_more variables more kept all in
+    (All-push (IsPlaced after) kept placed moved inside,
+     map-append (literal_at after) kept (placed ∷ []) ∙ ap (λ l. l ++ literal_at after placed ∷ []) (stays ∙ same)
+       ∙ ap (λ x. take i clause ++ x ∷ []) is ∙ sym (take_more clause i d within))
+
+-- clauses of places after more variables have come
+pub kept_more : (variables after more : List ℕ) → after ≡ variables ++ more → (clauses : List (List Lit)) → All (All (IsPlaced variables)) clauses
+    → All (All (IsPlaced after)) clauses × (clauses_at after clauses ≡ clauses_at variables clauses)
+kept_more variables after more grows clauses placed =
+    (subst (λ (l : List ℕ). All (All (IsPlaced l)) clauses) (sym grows)
+       (All-weaker (All (IsPlaced variables)) (All (IsPlaced (variables ++ more))) (all_placed_more variables more) clauses placed),
+     ap (λ (l : List ℕ). clauses_at l clauses) grows ∙ clauses_more variables more clauses placed)
+
+-- whatever a push answers, the clauses that it leaves are of places
+pub pushed_placed : {T E : Type 0} (answer : Result T E) (variables : List ℕ) (clauses pushed : List (List Lit)) (kept : List Lit)
+    → OnOk answer (pushed ≡ clauses ++ kept ∷ []) → OnErr answer (pushed ≡ clauses)
+    → All (All (IsPlaced variables)) clauses → All (IsPlaced variables) kept → All (All (IsPlaced variables)) pushed
+pushed_placed (Ok x) variables clauses pushed kept ok err all one =
+    subst (λ (l : List (List Lit)). All (All (IsPlaced variables)) l) (sym ok) (All-push (All (IsPlaced variables)) clauses kept all one)
+pushed_placed (Err e) variables clauses pushed kept ok err all one =
+    subst (λ (l : List (List Lit)). All (All (IsPlaced variables)) l) (sym err) all
+
+pub on_err_always : {T E P : Type 0} (answer : Result T E) → P → OnErr answer P
+on_err_always (Ok x) p = tt
+on_err_always (Err e) p = p

@@ -63,8 +63,7 @@ impl Checker {
         ensures err { OnErr result (self.new ≡ self.old) }
     {
         let alloc = *self.marks.allocator();
-        let kept = enter_all(alloc, &mut self.store.variables, clause.as_slice())?;
-        make_room(&mut self.marks, 2 * self.store.variables.len())?;
+        let kept = enter_all(alloc, &mut self.marks, &mut self.store.variables, clause.as_slice())?;
         self.store.clauses.push(kept)
     }
 
@@ -83,18 +82,6 @@ impl Checker {
     {
         self.store.has_empty()
     }
-}
-
-/// Makes room for so many marks. None of the new ones is set.
-fn make_room(marks: &mut Vec<bool>, room: usize) -> Result<(), NoMemory>
-    ensures ok { OnOk result (room ≤ length marks.new.items) }
-    ensures longer { length marks.old.items ≤ length marks.new.items }
-    ensures same { (y : Lit) → Marked marks.new.items y ↔ Marked marks.old.items y }
-{
-    if marks.len() < room {
-        marks.resize(room, false)?;
-    }
-    Ok(())
 }
 
 /// Whether the chain derives the clause from the clauses kept. All marks that it sets it takes away.
@@ -187,7 +174,12 @@ fn all_marked_as(marks: &[bool], variables: &Variables, clause: &[Lit]) -> bool
     requires { 2 * length variables.now ≤ length marks.now }
     ensures { IsTrue result ↔ All (IsMarkedAs variables.now marks.now) clause.now }
 {
-    clause.iter().all(|lit| is_marked_as(marks, variables, *lit))
+    for lit in clause {
+        if !is_marked_as(marks, variables, *lit) {
+            return false;
+        }
+    }
+    true
 }
 
 /// Takes the literal's mark away, if it has one.

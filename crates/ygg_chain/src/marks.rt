@@ -1,10 +1,11 @@
 //! A set of literals as marks, two for each variable.
 
-ghost use Rattle.std.specs.Prelude.{◌≡◌, ◌≢◌, ◌<◌, ◌^◌, length, All, Any, IsTrue, ◌↔◌, MatchOption, Contains, ◌⊎◌};
+ghost use Rattle.std.specs.Prelude.{◌≡◌, ◌≢◌, ◌<◌, ◌≤◌, ◌^◌, length, All, Any, IsTrue, ◌↔◌, OnOk, MatchOption, Contains, ◌⊎◌};
 ghost use Rattle.ygg_cnf.specs.Derivations.{IsPivot, Resolvent};
 ghost use Rattle.ygg_chain.specs.Marks.{code_of, Fits, Marked, HasMarks};
 
 use ygg_cnf::Lit;
+use ygg_list::NoMemory;
 
 /// The place of a literal's mark.
 fn code(lit: Lit) -> usize
@@ -12,6 +13,18 @@ fn code(lit: Lit) -> usize
     ensures { result ≡ code_of lit }
 {
     2 * lit.var as usize + lit.negated as usize
+}
+
+/// Makes room for so many marks. None of the new ones is set. Its only error is want of memory.
+pub fn make_room(marks: &mut Vec<bool>, room: usize) -> Result<(), NoMemory>
+    ensures ok { OnOk result (room ≤ length marks.new.items) }
+    ensures longer { length marks.old.items ≤ length marks.new.items }
+    ensures same { HasMarks marks.new.items (Marked marks.old.items) }
+{
+    if marks.len() < room {
+        marks.resize(room, false)?;
+    }
+    Ok(())
 }
 
 /// Whether the literal is marked.

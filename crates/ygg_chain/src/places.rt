@@ -1,4 +1,4 @@
-ghost use Rattle.std.specs.Prelude.{◌≡◌, ◌<◌, ◌^◌, [], ◌++◌, length, List, ℕ, ◌↔◌, IfOk, OnErr};
+ghost use Rattle.std.specs.Prelude.{◌≡◌, ◌<◌, ◌≤◌, ◌+◌, ◌^◌, [], ◌++◌, length, List, ℕ, ◌↔◌, IfOk, OnErr};
 ghost use Rattle.ygg_cnf.specs.declared.lit.Lit.{Lit};
 ghost use Rattle.ygg_chain.specs.Places.{IsDistinct, StandsFor};
 
@@ -62,6 +62,7 @@ impl Variables {
     pub fn enter(&mut self, lit: Lit) -> Result<Lit, NoMemory>
         ensures ok { IfOk result (λ placed. StandsFor self.new placed lit) }
         ensures grows { (more : List ℕ) × (self.new ≡ self.old ++ more) }
+        ensures one { length self.new ≤ length self.old + 1 }
         ensures err { OnErr result (self.new ≡ self.old) }
         ensures distinct { IsDistinct self.new }
     {

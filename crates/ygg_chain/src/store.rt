@@ -1,14 +1,16 @@
 //! Clauses kept with the places of their variables.
 
-ghost use Rattle.std.specs.Prelude.{◌≡◌, ℕ, List, [], ◌++◌, All, Contains, IsTrue, ◌↔◌, MatchOption, IfOk};
+ghost use Rattle.std.specs.Prelude.{◌≡◌, ℕ, ◌≤◌, ◌*◌, List, [], ◌++◌, length, All, Contains, IsTrue, ◌↔◌, MatchOption, IfOk};
 ghost use Rattle.ygg_cnf.specs.declared.lit.Lit.{Lit};
 ghost use Rattle.ygg_cnf.specs.Derivations.{HasClause};
-ghost use Rattle.ygg_chain.specs.Places.{IsDistinct, IsPlaced, clause_at};
+ghost use Rattle.ygg_chain.specs.Places.{IsDistinct, IsPlaced, StandsFor, clause_at};
+ghost use Rattle.ygg_chain.specs.Marks.{Marked, HasMarks};
 
 use std::alloc::Global;
 use ygg_cnf::{Clause, Clauses, Lit};
 use ygg_list::NoMemory;
 
+use crate::marks::make_room;
 use crate::places::Variables;
 
 /// Clauses in which each variable is replaced by its place among the variables, so that marks are a table by place and no
@@ -50,18 +52,36 @@ impl Store {
     }
 }
 
-/// The clause with the places of its variables, after those that had none have been given one. After want of memory some
-/// of them may have been given one.
-pub fn enter_all(alloc: Global, variables: &mut Variables, clause: &[Lit]) -> Result<Clause, NoMemory>
-    requires { IsDistinct variables.old }
+/// The clause with the places of its variables, after those that had none have been given one, and two marks each. After want
+/// of memory some of them may have been given one.
+pub fn enter_all(alloc: Global, marks: &mut Vec<bool>, variables: &mut Variables, clause: &[Lit]) -> Result<Clause, NoMemory>
+    requires distinct { IsDistinct variables.old }
+    requires room { 2 * length variables.old ≤ length marks.old.items }
     ensures placed { IfOk result (λ kept. All (IsPlaced variables.new) kept) }
     ensures same { IfOk result (λ kept. clause_at variables.new kept ≡ clause.now) }
     ensures grows { (more : List ℕ) × (variables.new ≡ variables.old ++ more) }
     ensures distinct { IsDistinct variables.new }
+    ensures room { 2 * length variables.new ≤ length marks.new.items }
+    ensures marks { HasMarks marks.new.items (Marked marks.old.items) }
 {
     let mut kept = Clause::new(alloc);
     for lit in clause {
-        kept.push(variables.enter(*lit)?)?;
+        kept.push(enter(marks, variables, *lit)?)?;
     }
     Ok(kept)
+}
+
+/// The literal with its variable's place, after the variable has been given one, and two marks, where it had none.
+fn enter(marks: &mut Vec<bool>, variables: &mut Variables, lit: Lit) -> Result<Lit, NoMemory>
+    requires distinct { IsDistinct variables.old }
+    requires room { 2 * length variables.old ≤ length marks.old.items }
+    ensures ok { IfOk result (λ placed. StandsFor variables.new placed lit) }
+    ensures grows { (more : List ℕ) × (variables.new ≡ variables.old ++ more) }
+    ensures distinct { IsDistinct variables.new }
+    ensures room { 2 * length variables.new ≤ length marks.new.items }
+    ensures marks { HasMarks marks.new.items (Marked marks.old.items) }
+{
+    // The room comes first, so that it is there for each variable whatever fails.
+    make_room(marks, 2 * variables.len() + 2)?;
+    variables.enter(lit)
 }
