@@ -1,8 +1,7 @@
 -- Steps of a chain over clauses that are kept by places.
-use Rattle.std.proofs.Common.{◌≡◌, ◌≢◌, ℕ, zero, suc, ◌<◌, ◌≤◌, ◌+◌, ◌*◌, Bool, true, false, not, List, [], ◌∷◌, ◌++◌, length, map, get_or, take, drop, Contains, All, Option, Some, None, option_map, slice_get, IsTrue, MatchOption, ◌⊎◌, ◌↔◌, inl, inr, ⊎_elim, refl, sym, ap, subst, ◌∙◌, arith, add-one, drop-cons}
-use Rattle.std.proofs.lemmas.List.{get_or_append_left}
-use Rattle.std.proofs.lemmas.List.Elements.{All-contains, All-weaker, All-head, All-tail, Contains-get_or, Contains-append_left, Contains-append_right, Contains-push}
-use Rattle.std.proofs.lemmas.Option.{slice_get-map, slice_get-get_or, slice_get_within, same_Some}
+use Rattle.std.proofs.Common.{◌≡◌, ℕ, zero, suc, ◌<◌, ◌≤◌, ◌+◌, Bool, List, [], ◌∷◌, length, map, get_or, take, drop, Contains, All, Option, Some, None, option_map, slice_get, ◌⊎◌, ◌↔◌, inl, inr, ⊎_elim, refl, sym, ap, subst, ◌∙◌, arith, add-one, drop-cons}
+use Rattle.std.proofs.lemmas.List.Elements.{All-contains, All-weaker, Contains-append_left, Contains-append_right, Contains-push}
+use Rattle.std.proofs.lemmas.Option.{slice_get-map}
 use Rattle.ygg_cnf.specs.declared.lit.Lit.{Lit}
 use Rattle.ygg_cnf.specs.Literals.{complement}
 use Rattle.ygg_cnf.specs.Derivations.{IsPivot, Resolvent, HasClause, Resolves, DerivesClause}
@@ -10,7 +9,7 @@ use Rattle.ygg_cnf.proofs.Steps.{one_clause, resolves_step, stuck_number, stuck_
 use Rattle.ygg_cnf.proofs.Soundness.{numbered_among}
 use Rattle.ygg_chain.specs.Places.{IsDistinct, IsPlaced, literal_at, StandsFor, clause_at, clauses_at}
 use Rattle.ygg_chain.specs.Marks.{Fits, Marked, HasMarks}
-use Rattle.ygg_chain.specs.Held.{IsKept, IsMarkedAs, IsNumbered, IsNamed}
+use Rattle.ygg_chain.specs.Held.{Holds, IsKept, IsMarkedAs, IsNumbered, IsNamed}
 use Rattle.ygg_chain.proofs.PlaceLemmas.{contains_more, contains_all, contains_front, contains_map, contains_of_map, stands_once}
 use Rattle.ygg_chain.proofs.MarkLemmas.{contains_cases}
 
@@ -43,7 +42,7 @@ pub fits_numbered : (variables : List ℕ) (clauses : List (List Lit)) (marks : 
     → IsKept variables clauses marks → HasClause clauses id kept → All (Fits marks) kept
 fits_numbered variables clauses marks id kept k h =
     All-weaker (IsPlaced variables) (Fits marks) (λ x p. omega (arith, p, k.room)) kept
-      (placed_numbered variables clauses marks id kept k h)
+    (placed_numbered variables clauses marks id kept k h)
 
 nothing_of_map : {X Y : Type 0} (f : X → Y) (xs : List X) → map f xs ≡ [] → xs ≡ []
 nothing_of_map f [] e = refl
@@ -51,10 +50,11 @@ nothing_of_map f (x ∷ xs) e = cc
 
 -- an empty clause is held where one is kept
 pub empty_held : (variables : List ℕ) (clauses : List (List Lit)) → Contains clauses [] ↔ Contains (clauses_at variables clauses) []
-empty_held variables clauses =
-    ((λ c. contains_map (clause_at variables) clauses [] c),
-     (λ c. let (kept, (there, is)) = contains_of_map (clause_at variables) clauses [] c in
-       subst (Contains clauses) (nothing_of_map (literal_at variables) kept is) there))
+empty_held variables clauses = (
+  (λ c. contains_map (clause_at variables) clauses [] c),
+  (λ c. let (kept, (there, is)) = contains_of_map (clause_at variables) clauses [] c in
+      subst (Contains clauses) (nothing_of_map (literal_at variables) kept is) there),
+)
 
 -- ---- one step, by places and by variables
 
@@ -70,9 +70,9 @@ module _ (variables : List ℕ) (distinct : IsDistinct variables) (marks : List 
     here = (x, ((All-contains (IsPlaced variables) next (complement x) placed p.there, refl), p.here));
     there = contains_map (literal_at variables) next (complement x) p.there;
     only = λ y (z, ((inside, is), m)) c.
-      let there : Contains next (complement z) =
+        let there : Contains next (complement z) =
         stands_among (complement z) inside (subst (λ l. Contains (clause_at variables next) (complement l)) (sym is) c) in
-      sym is ∙ ap (literal_at variables) (p.only z m there);
+        sym is ∙ ap (literal_at variables) (p.only z m there);
   }
 
   pub no_placed_pivot : ((x : Lit) → IsPivot (Marked marks) next x → ⊥) → (y : Lit) → IsPivot (IsMarkedAs variables marks) (clause_at variables next) y → ⊥
@@ -82,69 +82,78 @@ module _ (variables : List ℕ) (distinct : IsDistinct variables) (marks : List 
         here = m;
         there = stands_among (complement x) inside (subst (λ l. Contains (clause_at variables next) (complement l)) (sym is) p.there);
         only = λ z n c.
-          let within : IsPlaced variables z = All-contains (IsPlaced variables) next (complement z) placed c in
-          let same : literal_at variables z ≡ y =
+            let within : IsPlaced variables z = All-contains (IsPlaced variables) next (complement z) placed c in
+            let same : literal_at variables z ≡ y =
             p.only (literal_at variables z) (z, ((within, refl), n)) (contains_map (literal_at variables) next (complement z) c) in
-          stands_once variables distinct z x y (within, same) (inside, is);
+            stands_once variables distinct z x y (within, same) (inside, is);
       })
 
   pub placed_resolvent : (after : List Bool) (x : Lit) → IsPlaced variables x → HasMarks after (Resolvent (Marked marks) next x)
       → (y : Lit) → IsMarkedAs variables after y ↔ Resolvent (IsMarkedAs variables marks) (clause_at variables next) (literal_at variables x) y
-  placed_resolvent after x within new y =
-      ((λ (z, ((inside, is), m)).
-          ⊎_elim
-            (λ a. inl ((z, ((inside, is), a.0)), λ e. a.1 (stands_once variables distinct z x y (inside, is) (within, sym e))))
-            (λ b. inr (subst (Contains (clause_at variables next)) is (contains_map (literal_at variables) next z b.0),
-              λ e. b.1 (stands_once variables distinct z (complement x) y (inside, is) (within, sym e))))
-            ((new z).0 m)),
-       ⊎_elim
-         (λ ((z, ((inside, is), m)), differs). (z, ((inside, is), (new z).1 (inl (m, λ e. differs (sym is ∙ ap (literal_at variables) e))))))
-         (λ (c, differs).
-           let (z, (there, is)) = contains_of_map (literal_at variables) next y c in
-           (z, ((All-contains (IsPlaced variables) next z placed there, is),
-             (new z).1 (inr (there, λ e. differs (sym is ∙ ap (literal_at variables) e)))))))
+  placed_resolvent after x within new y = (
+    (λ (z, ((inside, is), m)).
+        ⊎_elim
+        (λ a. inl ((z, ((inside, is), a.0)), λ e. a.1 (stands_once variables distinct z x y (inside, is) (within, sym e))))
+        (λ b. inr (
+          subst (Contains (clause_at variables next)) is (contains_map (literal_at variables) next z b.0),
+          λ e. b.1 (stands_once variables distinct z (complement x) y (inside, is) (within, sym e)),
+        ))
+        ((new z).0 m)),
+    ⊎_elim
+        (λ ((z, ((inside, is), m)), differs). (z, ((inside, is), (new z).1 (inl (m, λ e. differs (sym is ∙ ap (literal_at variables) e))))))
+        (λ (c, differs).
+        let (z, (there, is)) = contains_of_map (literal_at variables) next y c in (
+          z,
+          (
+            (All-contains (IsPlaced variables) next z placed there, is),
+            (new z).1 (inr (there, λ e. differs (sym is ∙ ap (literal_at variables) e))),
+          ),
+        )),
+  )
 
 -- ---- one number of a chain
 
 module _ (variables : List ℕ) (clauses : List (List Lit)) (room : ℕ) (kept : IsKept variables clauses room) where
   pub no_number : (set : Lit → Type 0) (id : ℕ) (ids : List ℕ) (clause : List Lit)
-      → ((next : List Lit) → HasClause clauses id next → ⊥) → Resolves (HasClause (clauses_at variables clauses)) set (id ∷ ids) clause → ⊥
+      → ((next : List Lit) → HasClause clauses id next → ⊥) → Resolves (Holds variables clauses) set (id ∷ ids) clause → ⊥
   no_number set id ids clause none =
-      stuck_number (HasClause (clauses_at variables clauses)) set id ids clause
-        (λ next at. let (found, there) = kept_numbered variables clauses id next at in none found there)
+      stuck_number (Holds variables clauses) set id ids clause
+      (λ next at. let (found, there) = kept_numbered variables clauses id next at in none found there)
 
   pub no_pivot : (marks : List Bool) (id : ℕ) (ids : List ℕ) (next clause : List Lit)
       → HasClause clauses id next → ((x : Lit) → IsPivot (Marked marks) next x → ⊥)
-      → Resolves (HasClause (clauses_at variables clauses)) (IsMarkedAs variables marks) (id ∷ ids) clause → ⊥
+      → Resolves (Holds variables clauses) (IsMarkedAs variables marks) (id ∷ ids) clause → ⊥
   no_pivot marks id ids next clause at none =
-      stuck_pivot (HasClause (clauses_at variables clauses)) (one_clause (clauses_at variables clauses)) (IsMarkedAs variables marks) id ids
-        (clause_at variables next) clause (held_numbered variables clauses id next at)
-        (no_placed_pivot variables kept.distinct marks next (placed_numbered variables clauses room id next kept at) none)
+      stuck_pivot (Holds variables clauses) (one_clause (clauses_at variables clauses)) (IsMarkedAs variables marks) id ids
+      (clause_at variables next) clause (held_numbered variables clauses id next at)
+      (no_placed_pivot variables kept.distinct marks next (placed_numbered variables clauses room id next kept at) none)
 
   pub kept_step : (marks after : List Bool) (id : ℕ) (ids : List ℕ) (next : List Lit) (x : Lit) (clause : List Lit)
       → HasClause clauses id next → IsPivot (Marked marks) next x → HasMarks after (Resolvent (Marked marks) next x)
-      → Resolves (HasClause (clauses_at variables clauses)) (IsMarkedAs variables marks) (id ∷ ids) clause
-        ↔ Resolves (HasClause (clauses_at variables clauses)) (IsMarkedAs variables after) ids clause
+      → Resolves (Holds variables clauses) (IsMarkedAs variables marks) (id ∷ ids) clause
+      ↔ Resolves (Holds variables clauses) (IsMarkedAs variables after) ids clause
   kept_step marks after id ids next x clause at p new =
       let placed : All (IsPlaced variables) next = placed_numbered variables clauses room id next kept at in
-      resolves_step (HasClause (clauses_at variables clauses)) (one_clause (clauses_at variables clauses))
-        (IsMarkedAs variables marks) (IsMarkedAs variables after) id ids (clause_at variables next) (literal_at variables x) clause
-        (held_numbered variables clauses id next at)
-        (placed_pivot variables kept.distinct marks next placed x p)
-        (placed_resolvent variables kept.distinct marks next placed after x (All-contains (IsPlaced variables) next (complement x) placed p.there) new)
+      resolves_step (Holds variables clauses) (one_clause (clauses_at variables clauses))
+      (IsMarkedAs variables marks) (IsMarkedAs variables after) id ids (clause_at variables next) (literal_at variables x) clause
+      (held_numbered variables clauses id next at)
+      (placed_pivot variables kept.distinct marks next placed x p)
+      (placed_resolvent variables kept.distinct marks next placed after x (All-contains (IsPlaced variables) next (complement x) placed p.there) new)
 
   -- the marks of a kept clause are the clause's literals
   pub kept_first : (marks : List Bool) (id : ℕ) (ids : List ℕ) (first clause : List Lit)
       → HasClause clauses id first → HasMarks marks (Contains first)
-      → DerivesClause (HasClause (clauses_at variables clauses)) (id ∷ ids) clause
-        ↔ Resolves (HasClause (clauses_at variables clauses)) (IsMarkedAs variables marks) ids clause
+      → DerivesClause (Holds variables clauses) (id ∷ ids) clause
+      ↔ Resolves (Holds variables clauses) (IsMarkedAs variables marks) ids clause
   kept_first marks id ids first clause at new =
       let placed : All (IsPlaced variables) first = placed_numbered variables clauses room id first kept at in
-      first_step (HasClause (clauses_at variables clauses)) (one_clause (clauses_at variables clauses)) (IsMarkedAs variables marks) id ids
-        (clause_at variables first) clause (held_numbered variables clauses id first at)
-        (λ y. ((λ (z, ((inside, is), m)). subst (Contains (clause_at variables first)) is (contains_map (literal_at variables) first z ((new z).0 m))),
-          (λ c. let (z, (there, is)) = contains_of_map (literal_at variables) first y c in
-            (z, ((All-contains (IsPlaced variables) first z placed there, is), (new z).1 there)))))
+      first_step (Holds variables clauses) (one_clause (clauses_at variables clauses)) (IsMarkedAs variables marks) id ids
+      (clause_at variables first) clause (held_numbered variables clauses id first at)
+      (λ y. (
+        (λ (z, ((inside, is), m)). subst (Contains (clause_at variables first)) is (contains_map (literal_at variables) first z ((new z).0 m))),
+        (λ c. let (z, (there, is)) = contains_of_map (literal_at variables) first y c in
+            (z, ((All-contains (IsPlaced variables) first z placed there, is), (new z).1 there))),
+      ))
 
 -- ---- chains, number by number
 
@@ -153,10 +162,11 @@ next_number ids i h = rw (add-one, drop-cons ids i 0)
 
 pub named_more : (clauses : List (List Lit)) (ids : List ℕ) (i : ℕ) (y : Lit) → i < length ids
     → IsNamed clauses (take (i + 1) ids) y ↔ (IsNamed clauses (take i ids) y ⊎ IsNumbered clauses (get_or ids i 0) y)
-named_more clauses ids i y l =
-    ((λ (id, (c, n)). ⊎_elim (λ a. inl (id, (a, n))) (λ e. inr (subst (λ k. IsNumbered clauses k y) e n)) ((contains_more ids i 0 l id).0 c)),
-     ⊎_elim (λ (id, (c, n)). (id, ((contains_more ids i 0 l id).1 (inl c), n)))
-       (λ n. (get_or ids i 0, ((contains_more ids i 0 l (get_or ids i 0)).1 (inr refl), n))))
+named_more clauses ids i y l = (
+  (λ (id, (c, n)). ⊎_elim (λ a. inl (id, (a, n))) (λ e. inr (subst (λ k. IsNumbered clauses k y) e n)) ((contains_more ids i 0 l id).0 c)),
+  ⊎_elim (λ (id, (c, n)). (id, ((contains_more ids i 0 l id).1 (inl c), n)))
+      (λ n. (get_or ids i 0, ((contains_more ids i 0 l (get_or ids i 0)).1 (inr refl), n))),
+)
 
 pub named_front : (clauses : List (List Lit)) (ids : List ℕ) (i : ℕ) (y : Lit) → IsNamed clauses (take i ids) y → IsNamed clauses ids y
 named_front clauses ids i y (id, (c, n)) = (id, (contains_front ids i id c, n))
@@ -170,20 +180,26 @@ pub unmark_as_more : (variables : List ℕ) (before now after : List Bool) (xs :
     → HasMarks now (λ x. Marked before x × ((y : Lit) → Contains (take i xs) y → StandsFor variables x y → ⊥))
     → HasMarks after (λ x. Marked now x × (StandsFor variables x (get_or xs i d) → ⊥))
     → HasMarks after (λ x. Marked before x × ((y : Lit) → Contains (take (i + 1) xs) y → StandsFor variables x y → ⊥))
-unmark_as_more variables before now after xs i d l was new x =
-    ((λ m. let n = (new x).0 m in let b = (was x).0 n.0 in
-        (b.0, λ y c s. ⊎_elim (λ a. b.1 y a s) (λ e. n.1 (subst (StandsFor variables x) e s)) ((contains_more xs i d l y).0 c))),
-     (λ p. (new x).1 ((was x).1 (p.0, λ y c s. p.1 y ((contains_more xs i d l y).1 (inl c)) s),
-        λ s. p.1 (get_or xs i d) ((contains_more xs i d l (get_or xs i d)).1 (inr refl)) s)))
+unmark_as_more variables before now after xs i d l was new x = (
+  (λ m. let n = (new x).0 m in let b = (was x).0 n.0 in
+      (b.0, λ y c s. ⊎_elim (λ a. b.1 y a s) (λ e. n.1 (subst (StandsFor variables x) e s)) ((contains_more xs i d l y).0 c))),
+  (λ p. (new x).1 (
+    (was x).1 (p.0, λ y c s. p.1 y ((contains_more xs i d l y).1 (inl c)) s),
+    λ s. p.1 (get_or xs i d) ((contains_more xs i d l (get_or xs i d)).1 (inr refl)) s,
+  )),
+)
 
 module _ (clauses : List (List Lit)) (ids : List ℕ) (i : ℕ) (within : i < length ids) (before now after : List Bool)
     (was : HasMarks now (λ y. Marked before y × (IsNamed clauses (take i ids) y → ⊥))) where
   pub take_more_named : HasMarks after (λ y. Marked now y × (IsNumbered clauses (get_or ids i 0) y → ⊥))
       → HasMarks after (λ y. Marked before y × (IsNamed clauses (take (i + 1) ids) y → ⊥))
-  take_more_named new y =
-      ((λ m. let n = (new y).0 m in let b = (was y).0 n.0 in (b.0, λ named. ⊎_elim b.1 n.1 ((named_more clauses ids i y within).0 named))),
-       (λ p. (new y).1 ((was y).1 (p.0, λ named. p.1 ((named_more clauses ids i y within).1 (inl named))),
-         λ numbered. p.1 ((named_more clauses ids i y within).1 (inr numbered)))))
+  take_more_named new y = (
+    (λ m. let n = (new y).0 m in let b = (was y).0 n.0 in (b.0, λ named. ⊎_elim b.1 n.1 ((named_more clauses ids i y within).0 named))),
+    (λ p. (new y).1 (
+      (was y).1 (p.0, λ named. p.1 ((named_more clauses ids i y within).1 (inl named))),
+      λ numbered. p.1 ((named_more clauses ids i y within).1 (inr numbered)),
+    )),
+  )
 
   pub none_more_named : ((y : Lit) → Marked before y → IsNamed clauses (take i ids) y → ⊥)
       → ((y : Lit) → Marked now y → IsNumbered clauses (get_or ids i 0) y → ⊥)
@@ -193,9 +209,10 @@ module _ (clauses : List (List Lit)) (ids : List ℕ) (i : ℕ) (within : i < le
 
   pub none_less_named : ((y : Lit) → Marked before y → IsNamed clauses (take (i + 1) ids) y → ⊥)
       → ((y : Lit) → Marked before y → IsNamed clauses (take i ids) y → ⊥) × ((y : Lit) → Marked now y → IsNumbered clauses (get_or ids i 0) y → ⊥)
-  none_less_named none =
-      ((λ y m named. none y m ((named_more clauses ids i y within).1 (inl named))),
-       (λ y m numbered. none y ((was y).0 m).0 ((named_more clauses ids i y within).1 (inr numbered))))
+  none_less_named none = (
+    (λ y m named. none y m ((named_more clauses ids i y within).1 (inl named))),
+    (λ y m numbered. none y ((was y).0 m).0 ((named_more clauses ids i y within).1 (inr numbered))),
+  )
 
 module _ (variables : List ℕ) (clauses : List (List Lit)) (room : ℕ) (kept : IsKept variables clauses room) (ids : List ℕ) (clause : List Lit)
     (before after : List Bool) (named : (y : Lit) → Marked before y → IsNamed clauses ids y)
@@ -204,8 +221,8 @@ module _ (variables : List ℕ) (clauses : List (List Lit)) (room : ℕ) (kept :
   pub among_clause : ((y : Lit) → Marked after y → ⊥) → (y : Lit) → IsMarkedAs variables before y → Contains clause y
   among_clause none y (x, (stands, m)) =
       ⊎_elim (λ c. c)
-        (λ n. absurd (none x ((left x).1 (m, λ z c s. n (subst (Contains clause) (sym s.1 ∙ stands.1) c)))))
-        (contains_cases clause y)
+      (λ n. absurd (none x ((left x).1 (m, λ z c s. n (subst (Contains clause) (sym s.1 ∙ stands.1) c)))))
+      (contains_cases clause y)
 
   -- and where all marked literals are of the clause, none is left
   pub none_left : ((y : Lit) → IsMarkedAs variables before y → Contains clause y) → (y : Lit) → Marked after y → ⊥
@@ -218,11 +235,11 @@ module _ (variables : List ℕ) (clauses : List (List Lit)) (room : ℕ) (kept :
 -- ---- the first number of a chain
 
 pub no_first : (variables : List ℕ) (clauses : List (List Lit)) (id : ℕ) (ids : List ℕ) (clause : List Lit)
-    → ((next : List Lit) → HasClause clauses id next → ⊥) → DerivesClause (HasClause (clauses_at variables clauses)) (id ∷ ids) clause → ⊥
+    → ((next : List Lit) → HasClause clauses id next → ⊥) → DerivesClause (Holds variables clauses) (id ∷ ids) clause → ⊥
 no_first variables clauses id ids clause none (first, (at, r)) =
     let (found, there) = kept_numbered variables clauses id first at in none found there
 
 pub named_first : (clauses : List (List Lit)) (id : ℕ) (ids : List ℕ) (y : Lit) → IsNumbered clauses id y ⊎ IsNamed clauses ids y → IsNamed clauses (id ∷ ids) y
 named_first clauses id ids y =
     ⊎_elim (λ n. (id, (Contains-append_left (id ∷ []) ids id (Contains-push [] id), n)))
-      (λ (k, (c, n)). (k, (Contains-append_right (id ∷ []) ids k c, n)))
+    (λ (k, (c, n)). (k, (Contains-append_right (id ∷ []) ids k c, n)))

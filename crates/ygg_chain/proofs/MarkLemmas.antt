@@ -1,12 +1,10 @@
 -- Reads and writes of marks, by literal.
-use Rattle.std.proofs.Common.{◌≡◌, ◌≢◌, ℕ, ◌<◌, ◌≤◌, ◌*◌, ◌+◌, Bool, true, false, not, cond, get_or, set, take, drop, length, List, [], ◌∷◌, ◌++◌, Contains, ◌⊎◌, ◌↔◌, inl, inr, ⊎_elim, refl, sym, ap, subst, arith, rules, get_or-set_same, get_or-set_other, ◌∙◌, MatchOption, Option, Some, None, All, eqb, ◌/◌, ◌%◌}
-use Rattle.std.proofs.lemmas.Grind.{common_steps}
-use Rattle.std.proofs.lemmas.List.Elements.{Contains-push_cases, Contains-append_left, Contains-push, Contains-append_right, Contains-append_cases, Contains-get_or, All-get_or, All-from_get_or, All-more, All-weaker}
-use Rattle.std.proofs.lemmas.List.{take_more, take_all, get_or_past}
-use Rattle.std.proofs.lemmas.Bool.{cases_eq, cases_lt, cases_Bool, ne_eqb, false≢true}
+use Rattle.std.proofs.Common.{◌≡◌, ◌≢◌, ℕ, ◌<◌, ◌≤◌, ◌*◌, ◌+◌, Bool, true, false, cond, get_or, set, take, length, List, [], ◌∷◌, Contains, ◌⊎◌, inl, inr, ⊎_elim, refl, sym, ap, subst, arith, get_or-set_same, get_or-set_other, ◌∙◌, MatchOption, Option, Some, None}
+use Rattle.std.proofs.lemmas.List.Elements.{Contains-push_cases, Contains-append_left, Contains-push, Contains-append_right, Contains-append_cases, Contains-get_or}
+use Rattle.std.proofs.lemmas.List.{take_all}
 use Rattle.ygg_cnf.specs.declared.lit.Lit.{Lit}
 use Rattle.ygg_cnf.specs.Literals.{complement}
-use Rattle.ygg_cnf.specs.Derivations.{IsPivot, Resolvent}
+use Rattle.ygg_cnf.specs.Derivations.{IsPivot}
 use Rattle.ygg_cnf.proofs.Lits.{same_lit, lit_cases, complement_twice}
 use Rattle.ygg_chain.proofs.PlaceLemmas.{contains_more, contains_front}
 use Rattle.ygg_chain.specs.Marks.{code_of, Fits, Marked, HasMarks}
@@ -14,12 +12,15 @@ use Rattle.ygg_chain.specs.Marks.{code_of, Fits, Marked, HasMarks}
 pub same_code : (x y : Lit) → code_of x ≡ code_of y → x ≡ y
 same_code x y e =
     elim x.negated as (λ b. x.negated ≡ b → x ≡ y) [
-      true ↦ λ p. elim y.negated as (λ b. y.negated ≡ b → x ≡ y) [
-        true ↦ λ q. same_lit x y (omega (arith, rw (p, q) at e)) (p ∙ sym q)
-      | false ↦ λ q. absurd (omega (arith, rw (p, q) at e)) ] refl
-    | false ↦ λ p. elim y.negated as (λ b. y.negated ≡ b → x ≡ y) [
-        true ↦ λ q. absurd (omega (arith, rw (p, q) at e))
-      | false ↦ λ q. same_lit x y (omega (arith, rw (p, q) at e)) (p ∙ sym q) ] refl ] refl
+      | true ↦ λ p. elim y.negated as (λ b. y.negated ≡ b → x ≡ y) [
+        | true ↦ λ q. same_lit x y (omega (arith, rw (p, q) at e)) (p ∙ sym q)
+        | false ↦ λ q. absurd (omega (arith, rw (p, q) at e))
+      ] refl
+      | false ↦ λ p. elim y.negated as (λ b. y.negated ≡ b → x ≡ y) [
+        | true ↦ λ q. absurd (omega (arith, rw (p, q) at e))
+        | false ↦ λ q. same_lit x y (omega (arith, rw (p, q) at e)) (p ∙ sym q)
+      ] refl
+    ] refl
 
 code_below : (room : ℕ) (x : Lit) → Fits room x → code_of x < room
 code_below room x h = elim x.negated as (λ b. 2 * x.var + cond b 1 0 < room) [ true ↦ h | false ↦ omega (arith, h) ]
@@ -38,10 +39,11 @@ pub mark_more : (before now : List Bool) (xs : List Lit) (i : ℕ) (d : Lit) (af
     → HasMarks after (λ y. Marked now y ⊎ (y ≡ get_or xs i d))
     → HasMarks after (λ y. Marked before y ⊎ Contains (take (i + 1) xs) y)
 mark_more before now xs i d after l was new y =
-    let more = contains_more xs i d l y in
-    ((λ m. ⊎_elim (λ n. ⊎_elim (λ b. inl b) (λ c. inr (more.1 (inl c))) ((was y).0 n)) (λ q. inr (more.1 (inr q))) ((new y).0 m)),
-     ⊎_elim (λ b. (new y).1 (inl ((was y).1 (inl b))))
-       (λ c. ⊎_elim (λ d. (new y).1 (inl ((was y).1 (inr d)))) (λ q. (new y).1 (inr q)) (more.0 c)))
+    let more = contains_more xs i d l y in (
+      (λ m. ⊎_elim (λ n. ⊎_elim (λ b. inl b) (λ c. inr (more.1 (inl c))) ((was y).0 n)) (λ q. inr (more.1 (inr q))) ((new y).0 m)),
+      ⊎_elim (λ b. (new y).1 (inl ((was y).1 (inl b))))
+          (λ c. ⊎_elim (λ d. (new y).1 (inl ((was y).1 (inr d)))) (λ q. (new y).1 (inr q)) (more.0 c)),
+    )
 
 -- one more literal is marked, unless it is z
 pub mark_more_but : (before now : List Bool) (xs : List Lit) (i : ℕ) (d z : Lit) (after : List Bool) → i < length xs
@@ -50,21 +52,23 @@ pub mark_more_but : (before now : List Bool) (xs : List Lit) (i : ℕ) (d z : Li
     → HasMarks after (λ y. Marked now y ⊎ (y ≡ get_or xs i d))
     → HasMarks after (λ y. Marked before y ⊎ (Contains (take (i + 1) xs) y × (y ≢ z)))
 mark_more_but before now xs i d z after l was differs new y =
-    let more = contains_more xs i d l y in
-    ((λ m. ⊎_elim (λ n. ⊎_elim (λ b. inl b) (λ c. inr (more.1 (inl c.0), c.1)) ((was y).0 n))
-        (λ q. inr (more.1 (inr q), λ e. differs (sym q ∙ e))) ((new y).0 m)),
-     ⊎_elim (λ b. (new y).1 (inl ((was y).1 (inl b))))
-       (λ c. ⊎_elim (λ d. (new y).1 (inl ((was y).1 (inr (d, c.1))))) (λ q. (new y).1 (inr q)) (more.0 c.0)))
+    let more = contains_more xs i d l y in (
+      (λ m. ⊎_elim (λ n. ⊎_elim (λ b. inl b) (λ c. inr (more.1 (inl c.0), c.1)) ((was y).0 n))
+          (λ q. inr (more.1 (inr q), λ e. differs (sym q ∙ e))) ((new y).0 m)),
+      ⊎_elim (λ b. (new y).1 (inl ((was y).1 (inl b))))
+          (λ c. ⊎_elim (λ d. (new y).1 (inl ((was y).1 (inr (d, c.1))))) (λ q. (new y).1 (inr q)) (more.0 c.0)),
+    )
 
 pub keep_more_but : (before now : List Bool) (xs : List Lit) (i : ℕ) (d z : Lit) → i < length xs
     → HasMarks now (λ y. Marked before y ⊎ (Contains (take i xs) y × (y ≢ z)))
     → get_or xs i d ≡ z
     → HasMarks now (λ y. Marked before y ⊎ (Contains (take (i + 1) xs) y × (y ≢ z)))
 keep_more_but before now xs i d z l was same y =
-    let more = contains_more xs i d l y in
-    ((λ m. ⊎_elim (λ b. inl b) (λ c. inr (more.1 (inl c.0), c.1)) ((was y).0 m)),
-     ⊎_elim (λ b. (was y).1 (inl b))
-       (λ c. ⊎_elim (λ d. (was y).1 (inr (d, c.1))) (λ q. absurd (c.1 (q ∙ same))) (more.0 c.0)))
+    let more = contains_more xs i d l y in (
+      (λ m. ⊎_elim (λ b. inl b) (λ c. inr (more.1 (inl c.0), c.1)) ((was y).0 m)),
+      ⊎_elim (λ b. (was y).1 (inl b))
+          (λ c. ⊎_elim (λ d. (was y).1 (inr (d, c.1))) (λ q. absurd (c.1 (q ∙ same))) (more.0 c.0)),
+    )
 
 -- no pivot yet, and the next literal is none
 pub no_pivot_more : (held : Lit → Type 0) (xs : List Lit) (i : ℕ) (d : Lit) → i < length xs
@@ -106,8 +110,8 @@ pub two_pivots : (held : Lit → Type 0) (xs : List Lit) (i : ℕ) (d x : Lit) �
     → (y : Lit) → IsPivot held xs y → ⊥
 two_pivots held xs i d x l was here differs y p =
     differs (p.only (complement (get_or xs i d)) here
-        (subst (Contains xs) (sym (complement_twice (get_or xs i d))) (Contains-get_or xs i d l))
-      ∙ sym (p.only x was.here (contains_front xs i (complement x) was.there)))
+    (subst (Contains xs) (sym (complement_twice (get_or xs i d))) (Contains-get_or xs i d l))
+    ∙ sym (p.only x was.here (contains_front xs i (complement x) was.there)))
 
 pub keep_pivot : (held : Lit → Type 0) (xs : List Lit) (i : ℕ) (d : Lit) (found : Option Lit) → i < length xs
     → (held (complement (get_or xs i d)) → ⊥)
@@ -128,9 +132,10 @@ pub unmark_more : (before now : List Bool) (xs : List Lit) (i : ℕ) (d : Lit) (
     → HasMarks after (λ y. Marked now y × (y ≢ get_or xs i d))
     → HasMarks after (λ y. Marked before y × (Contains (take (i + 1) xs) y → ⊥))
 unmark_more before now xs i d after l was new y =
-    let more = contains_more xs i d l y in
-    ((λ m. let n = (new y).0 m in let b = (was y).0 n.0 in (b.0, λ c. ⊎_elim b.1 n.1 (more.0 c))),
-     (λ p. (new y).1 ((was y).1 (p.0, λ c. p.1 (more.1 (inl c))), λ e. p.1 (more.1 (inr e)))))
+    let more = contains_more xs i d l y in (
+      (λ m. let n = (new y).0 m in let b = (was y).0 n.0 in (b.0, λ c. ⊎_elim b.1 n.1 (more.0 c))),
+      (λ p. (new y).1 ((was y).1 (p.0, λ c. p.1 (more.1 (inl c))), λ e. p.1 (more.1 (inr e)))),
+    )
 
 -- a list has a literal, or has it not
 pub contains_cases : (xs : List Lit) (y : Lit) → Contains xs y ⊎ (Contains xs y → ⊥)
@@ -138,7 +143,7 @@ contains_cases [] y = inr (λ (k, l, e). absurd (omega (arith, l)))
 contains_cases (x ∷ xs) y =
     ⊎_elim (λ e. inl (rw e (Contains-append_left (x ∷ []) xs x (Contains-push [] x))))
     (λ n. ⊎_elim (λ c. inl (Contains-append_right (x ∷ []) xs y c))
-      (λ m. inr (λ c. ⊎_elim (λ h. ⊎_elim (λ (k, l, e). absurd (omega (arith, l))) (λ e. n (sym e)) (Contains-push_cases [] x y h)) m
-        (Contains-append_cases (x ∷ []) xs y c)))
-      (contains_cases xs y))
+    (λ m. inr (λ c. ⊎_elim (λ h. ⊎_elim (λ (k, l, e). absurd (omega (arith, l))) (λ e. n (sym e)) (Contains-push_cases [] x y h)) m
+    (Contains-append_cases (x ∷ []) xs y c)))
+    (contains_cases xs y))
     (lit_cases y x)

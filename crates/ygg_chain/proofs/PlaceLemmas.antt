@@ -1,15 +1,14 @@
 -- Places of variables, and what stands for a literal.
-use Rattle.std.proofs.Common.{◌≡◌, ◌≢◌, ℕ, zero, suc, ◌<◌, ◌≤◌, ◌+◌, ◌*◌, Bool, true, false, List, [], ◌∷◌, ◌++◌, length, map, get_or, take, drop, ◌⊎◌, ◌↔◌, inl, inr, position, Contains, All, AllPairs, Option, Some, None, ⊎_elim, refl, sym, ap, subst, ◌∙◌, arith, nat_eq, slice_get, length-append, Result, Ok, Err, OnOk, OnErr}
+use Rattle.std.proofs.Common.{◌≡◌, ℕ, ◌<◌, ◌≤◌, ◌+◌, true, List, [], ◌∷◌, ◌++◌, length, map, get_or, take, drop, ◌⊎◌, ◌↔◌, inl, inr, position, Contains, All, Some, ⊎_elim, refl, sym, ap, subst, ◌∙◌, arith, nat_eq, slice_get, length-append, Result, Ok, Err, OnOk, OnErr}
 use Rattle.std.specs.List.{IsDistinct as IsDistinctBy}
-use Rattle.std.proofs.lemmas.Bool.{eqb-false, eqb-true, cases_lt, true≢false}
+use Rattle.std.proofs.lemmas.Bool.{eqb-false, eqb-true, cases_lt}
 use Rattle.std.proofs.lemmas.List.Quantifiers.{position-Some}
-use Rattle.std.proofs.lemmas.Map.Keys.{apart_from_distinct, any_passes_from_place}
+use Rattle.std.proofs.lemmas.Map.Keys.{apart_from_distinct}
 use Rattle.std.proofs.lemmas.List.{get_or-map, take_more, take_all, length-map, get_or_append_left, map-append}
 use Rattle.std.proofs.lemmas.List.Elements.{Contains-push_cases, Contains-append_left, Contains-push, Contains-get_or, All-head, All-tail, All-weaker, All-push}
 use Rattle.std.proofs.lemmas.Grind.{common_steps}
 use Rattle.std.proofs.lemmas.Option.{slice_get_within, get_or_from_slice_get, same_Some}
 use Rattle.ygg_cnf.specs.declared.lit.Lit.{Lit}
-use Rattle.ygg_cnf.specs.Literals.{complement}
 use Rattle.ygg_cnf.proofs.Lits.{same_lit}
 use Rattle.ygg_chain.specs.Places.{IsDistinct, IsPlaced, literal_at, StandsFor, clause_at, clauses_at}
 
@@ -18,8 +17,10 @@ pub contains_more : {X : Type 0} (xs : List X) (i : ℕ) (d : X) → i < length 
     → Contains (take (i + 1) xs) y ↔ (Contains (take i xs) y ⊎ (y ≡ get_or xs i d))
 contains_more {X} xs i d h y =
     let x : X = get_or xs i d in
-    rw (take_more xs i d h) ((λ c. ⊎_elim (λ a. inl a) (λ e. inr (sym e)) (Contains-push_cases (take i xs) x y c)),
-     ⊎_elim (Contains-append_left (take i xs) (x ∷ []) y) (λ e. subst (λ z. Contains (take i xs ++ x ∷ []) z) (sym e) (Contains-push (take i xs) x)))
+    rw (take_more xs i d h) (
+      (λ c. ⊎_elim (λ a. inl a) (λ e. inr (sym e)) (Contains-push_cases (take i xs) x y c)),
+      ⊎_elim (Contains-append_left (take i xs) (x ∷ []) y) (λ e. subst (λ z. Contains (take i xs ++ x ∷ []) z) (sym e) (Contains-push (take i xs) x)),
+    )
 
 pub contains_all : {X : Type 0} (xs : List X) (i : ℕ) → length xs ≤ i → (y : X) → Contains (take i xs) y ↔ Contains xs y
 contains_all xs i h y = rw (take_all i xs h) ((λ c. c), (λ c. c))
@@ -48,8 +49,8 @@ place_of_same : (variables : List ℕ) → IsDistinct variables → (i j : ℕ) 
     → get_or variables i 0 ≡ get_or variables j 0 → i ≡ j
 place_of_same variables distinct i j inside within same =
     ⊎_elim (λ l. absurd (distinct i j 0 l within same))
-      (λ g. ⊎_elim (λ l. absurd (distinct j i 0 l inside (sym same))) (λ h. omega (arith, g, h)) (cases_lt j i))
-      (cases_lt i j)
+    (λ g. ⊎_elim (λ l. absurd (distinct j i 0 l inside (sym same))) (λ h. omega (arith, g, h)) (cases_lt j i))
+    (cases_lt i j)
 
 -- places that stand for one literal are one
 pub stands_once : (variables : List ℕ) → IsDistinct variables → (x z y : Lit) → StandsFor variables x y → StandsFor variables z y → x ≡ z
@@ -67,17 +68,19 @@ found_place variables lit place found =
 -- the place that an equal key has
 pub stored_place : (variables : List ℕ) (lit : Lit) (place key : ℕ) → slice_get variables place ≡ Some key → nat_eq lit.var key ≡ true
     → StandsFor variables (record { var = place; negated = lit.negated }) lit
-stored_place variables lit place key at same =
-    (slice_get_within variables place key at,
-     same_lit (record { var = get_or variables place 0; negated = lit.negated }) lit
-       (get_or_from_slice_get variables place key 0 at ∙ sym (eqb-true lit.var key same)) refl)
+stored_place variables lit place key at same = (
+  slice_get_within variables place key at,
+  same_lit (record { var = get_or variables place 0; negated = lit.negated }) lit
+      (get_or_from_slice_get variables place key 0 at ∙ sym (eqb-true lit.var key same)) refl,
+)
 
 -- the one place that stands for a literal
 pub exact_place : (variables : List ℕ) → IsDistinct variables → (lit x : Lit) → StandsFor variables x lit
     → (placed : Lit) → (Some x ≡ Some placed) ↔ StandsFor variables placed lit
-exact_place variables distinct lit x stands placed =
-    ((λ e. subst (λ z. StandsFor variables z lit) (same_Some x placed e) stands),
-     (λ other. ap Some (stands_once variables distinct x placed lit stands other)))
+exact_place variables distinct lit x stands placed = (
+  (λ e. subst (λ z. StandsFor variables z lit) (same_Some x placed e) stands),
+  (λ other. ap Some (stands_once variables distinct x placed lit stands other)),
+)
 
 -- more variables leave each place its variable
 literal_more : (variables more : List ℕ) (x : Lit) → IsPlaced variables x → literal_at (variables ++ more) x ≡ literal_at variables x
@@ -95,13 +98,13 @@ pub clause_more : (variables more : List ℕ) (clause : List Lit) → All (IsPla
     → clause_at (variables ++ more) clause ≡ clause_at variables clause
 clause_more variables more clause placed =
     same_map (literal_at (variables ++ more)) (literal_at variables) clause
-      (All-weaker (IsPlaced variables) (λ x. literal_at (variables ++ more) x ≡ literal_at variables x) (literal_more variables more) clause placed)
+    (All-weaker (IsPlaced variables) (λ x. literal_at (variables ++ more) x ≡ literal_at variables x) (literal_more variables more) clause placed)
 
 pub clauses_more : (variables more : List ℕ) (clauses : List (List Lit)) → All (All (IsPlaced variables)) clauses
     → clauses_at (variables ++ more) clauses ≡ clauses_at variables clauses
 clauses_more variables more clauses placed =
     same_map (clause_at (variables ++ more)) (clause_at variables) clauses
-      (All-weaker (All (IsPlaced variables)) (λ c. clause_at (variables ++ more) c ≡ clause_at variables c) (clause_more variables more) clauses placed)
+    (All-weaker (All (IsPlaced variables)) (λ c. clause_at (variables ++ more) c ≡ clause_at variables c) (clause_more variables more) clauses placed)
 
 pub all_placed_more : (variables more : List ℕ) (clause : List Lit) → All (IsPlaced variables) clause → All (IsPlaced (variables ++ more)) clause
 all_placed_more variables more clause placed = All-weaker (IsPlaced variables) (IsPlaced (variables ++ more)) (placed_more variables more) clause placed
@@ -112,20 +115,22 @@ pub entered : (variables after more : List ℕ) → after ≡ variables ++ more 
     → All (IsPlaced after) (kept ++ placed ∷ []) × (clause_at after (kept ++ placed ∷ []) ≡ take (i + 1) clause)
 entered variables after more grows kept clause i d placed within all same (inside, is) =
     let moved : All (IsPlaced after) kept =
-      subst (λ (l : List ℕ). All (IsPlaced l) kept) (sym grows) (all_placed_more variables more kept all) in
+    subst (λ (l : List ℕ). All (IsPlaced l) kept) (sym grows) (all_placed_more variables more kept all) in
     let stays : clause_at after kept ≡ clause_at variables kept =
-      ap (λ (l : List ℕ). clause_at l kept) grows ∙ clause_more variables more kept all in
-    (All-push (IsPlaced after) kept placed moved inside,
-     map-append (literal_at after) kept (placed ∷ []) ∙ ap (λ l. l ++ literal_at after placed ∷ []) (stays ∙ same)
-       ∙ ap (λ x. take i clause ++ x ∷ []) is ∙ sym (take_more clause i d within))
+    ap (λ (l : List ℕ). clause_at l kept) grows ∙ clause_more variables more kept all in (
+      All-push (IsPlaced after) kept placed moved inside,
+      map-append (literal_at after) kept (placed ∷ []) ∙ ap (λ l. l ++ literal_at after placed ∷ []) (stays ∙ same)
+          ∙ ap (λ x. take i clause ++ x ∷ []) is ∙ sym (take_more clause i d within),
+    )
 
 -- clauses of places after more variables have come
 pub kept_more : (variables after more : List ℕ) → after ≡ variables ++ more → (clauses : List (List Lit)) → All (All (IsPlaced variables)) clauses
     → All (All (IsPlaced after)) clauses × (clauses_at after clauses ≡ clauses_at variables clauses)
-kept_more variables after more grows clauses placed =
-    (subst (λ (l : List ℕ). All (All (IsPlaced l)) clauses) (sym grows)
-       (All-weaker (All (IsPlaced variables)) (All (IsPlaced (variables ++ more))) (all_placed_more variables more) clauses placed),
-     ap (λ (l : List ℕ). clauses_at l clauses) grows ∙ clauses_more variables more clauses placed)
+kept_more variables after more grows clauses placed = (
+  subst (λ (l : List ℕ). All (All (IsPlaced l)) clauses) (sym grows)
+      (All-weaker (All (IsPlaced variables)) (All (IsPlaced (variables ++ more))) (all_placed_more variables more) clauses placed),
+  ap (λ (l : List ℕ). clauses_at l clauses) grows ∙ clauses_more variables more clauses placed,
+)
 
 -- whatever a push answers, the clauses that it leaves are of places
 pub pushed_placed : {T E : Type 0} (answer : Result T E) (variables : List ℕ) (clauses pushed : List (List Lit)) (kept : List Lit)

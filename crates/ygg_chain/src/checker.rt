@@ -3,16 +3,15 @@ ghost use Rattle.ygg_cnf.specs.declared.lit.Lit.{Lit};
 ghost use Rattle.ygg_cnf.specs.Derivations.{HasClause, Resolves, DerivesClause};
 ghost use Rattle.ygg_chain.specs.Places.{StandsFor, clauses_at};
 ghost use Rattle.ygg_chain.specs.Marks.{Marked, HasMarks};
-ghost use Rattle.ygg_chain.specs.Held.{IsKept, IsMarkedAs, IsNumbered, IsNamed};
-
-use std::alloc::Global;
-use std::marker::Model;
-use ygg_cnf::{Clause, Clauses, Lit};
-use ygg_list::NoMemory;
+ghost use Rattle.ygg_chain.specs.Held.{Holds, IsKept, IsMarkedAs, HasMarksAs, IsNumbered, IsNamed};
 
 use crate::marks::{any_marked, is_marked, mark_all, pivot, resolve, unmark, unmark_all};
 use crate::places::Variables;
 use crate::store::{Store, enter_all};
+use std::alloc::Global;
+use std::marker::Model;
+use ygg_cnf::{Clause, Clauses, Lit};
+use ygg_list::NoMemory;
 
 /// Holds clauses, numbered from 1, and judges chains over them. Its memory is for the clauses and for the variables that
 /// occur in them, whatever their numbers are.
@@ -63,7 +62,12 @@ impl Checker {
         ensures err { OnErr result (self.new ≡ self.old) }
     {
         let alloc = *self.marks.allocator();
-        let kept = enter_all(alloc, &mut self.marks, &mut self.store.variables, clause.as_slice())?;
+        let kept = enter_all(
+            alloc,
+            &mut self.marks,
+            &mut self.store.variables,
+            clause.as_slice(),
+        )?;
         self.store.clauses.push(kept)
     }
 
@@ -88,7 +92,7 @@ impl Checker {
 fn judge(marks: &mut [bool], store: &Store, chain: &[u64], clause: &[Lit]) -> bool
     requires kept { IsKept store.now.variables store.now.clauses (length marks.old) }
     requires clear { HasMarks marks.old (λ _. ⊥) }
-    ensures answer { IsTrue result ↔ DerivesClause (HasClause (clauses_at store.now.variables store.now.clauses)) chain.now clause.now }
+    ensures answer { IsTrue result ↔ DerivesClause (Holds store.now.variables store.now.clauses) chain.now clause.now }
     ensures clear { HasMarks marks.new (λ _. ⊥) }
 {
     let resolved = resolve_chain(marks, store, chain);
@@ -101,7 +105,7 @@ fn judge(marks: &mut [bool], store: &Store, chain: &[u64], clause: &[Lit]) -> bo
 fn resolve_chain(marks: &mut [bool], store: &Store, chain: &[u64]) -> bool
     requires kept { IsKept store.now.variables store.now.clauses (length marks.old) }
     requires clear { HasMarks marks.old (λ _. ⊥) }
-    ensures exact { (clause : List Lit) → DerivesClause (HasClause (clauses_at store.now.variables store.now.clauses)) chain.now clause ↔ (IsTrue result × ((y : Lit) → IsMarkedAs store.now.variables marks.new y ↔ Contains clause y)) }
+    ensures exact { (clause : List Lit) → DerivesClause (Holds store.now.variables store.now.clauses) chain.now clause ↔ (IsTrue result × HasMarksAs store.now.variables marks.new clause) }
     ensures named { (y : Lit) → Marked marks.new y → IsNamed store.now.clauses chain.now y }
 {
     let Some((first, rest)) = chain.split_first() else {
@@ -117,7 +121,7 @@ fn resolve_chain(marks: &mut [bool], store: &Store, chain: &[u64]) -> bool
 /// Resolves the marked literals with the clauses of the numbers in turn, as far as each step has one pivot.
 fn resolve_rest(marks: &mut [bool], store: &Store, ids: &[u64]) -> bool
     requires { IsKept store.now.variables store.now.clauses (length marks.old) }
-    ensures exact { (clause : List Lit) → Resolves (HasClause (clauses_at store.now.variables store.now.clauses)) (IsMarkedAs store.now.variables marks.old) ids.now clause ↔ (IsTrue result × ((y : Lit) → IsMarkedAs store.now.variables marks.new y ↔ Contains clause y)) }
+    ensures exact { (clause : List Lit) → Resolves (Holds store.now.variables store.now.clauses) (IsMarkedAs store.now.variables marks.old) ids.now clause ↔ (IsTrue result × HasMarksAs store.now.variables marks.new clause) }
     ensures named { (y : Lit) → Marked marks.new y → Marked marks.old y ⊎ IsNamed store.now.clauses ids.now y }
 {
     for id in ids {
@@ -131,7 +135,7 @@ fn resolve_rest(marks: &mut [bool], store: &Store, ids: &[u64]) -> bool
 /// Resolves the marked literals with the clause of the number, where it has one pivot.
 fn resolve_next(marks: &mut [bool], store: &Store, id: u64) -> bool
     requires { IsKept store.now.variables store.now.clauses (length marks.old) }
-    ensures exact { (ids : List ℕ) (clause : List Lit) → Resolves (HasClause (clauses_at store.now.variables store.now.clauses)) (IsMarkedAs store.now.variables marks.old) (id ∷ ids) clause ↔ (IsTrue result × Resolves (HasClause (clauses_at store.now.variables store.now.clauses)) (IsMarkedAs store.now.variables marks.new) ids clause) }
+    ensures exact { (ids : List ℕ) (clause : List Lit) → Resolves (Holds store.now.variables store.now.clauses) (IsMarkedAs store.now.variables marks.old) (id ∷ ids) clause ↔ (IsTrue result × Resolves (Holds store.now.variables store.now.clauses) (IsMarkedAs store.now.variables marks.new) ids clause) }
     ensures named { (y : Lit) → Marked marks.new y → Marked marks.old y ⊎ IsNumbered store.now.clauses id y }
 {
     let Some(next) = store.numbered(id) else {
@@ -149,7 +153,7 @@ fn resolve_next(marks: &mut [bool], store: &Store, id: u64) -> bool
 fn take_set(marks: &mut [bool], store: &Store, chain: &[u64], clause: &[Lit]) -> bool
     requires kept { IsKept store.now.variables store.now.clauses (length marks.old) }
     requires named { (y : Lit) → Marked marks.old y → IsNamed store.now.clauses chain.now y }
-    ensures answer { IsTrue result ↔ ((y : Lit) → IsMarkedAs store.now.variables marks.old y ↔ Contains clause.now y) }
+    ensures answer { IsTrue result ↔ HasMarksAs store.now.variables marks.old clause.now }
     ensures clear { HasMarks marks.new (λ _. ⊥) }
 {
     let all = all_marked_as(marks, &store.variables, clause);

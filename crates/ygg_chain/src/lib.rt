@@ -5,6 +5,8 @@ mod checker;
 pub mod marks;
 mod places;
 mod store;
+#[cfg(test)]
+mod tests;
 
 pub use checker::Checker;
 pub use places::Variables;

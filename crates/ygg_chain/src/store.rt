@@ -6,12 +6,11 @@ ghost use Rattle.ygg_cnf.specs.Derivations.{HasClause};
 ghost use Rattle.ygg_chain.specs.Places.{IsDistinct, IsPlaced, StandsFor, clause_at};
 ghost use Rattle.ygg_chain.specs.Marks.{Marked, HasMarks};
 
+use crate::marks::make_room;
+use crate::places::Variables;
 use std::alloc::Global;
 use ygg_cnf::{Clause, Clauses, Lit};
 use ygg_list::NoMemory;
-
-use crate::marks::make_room;
-use crate::places::Variables;
 
 /// Clauses in which each variable is replaced by its place among the variables, so that marks are a table by place and no
 /// look-up is made while chains are followed.
@@ -48,13 +47,21 @@ impl Store {
     pub fn has_empty(&self) -> bool
         ensures { IsTrue result ↔ Contains self.now.clauses [] }
     {
-        self.clauses.as_slice().iter().any(|clause| clause.is_empty())
+        self.clauses
+            .as_slice()
+            .iter()
+            .any(|clause| clause.is_empty())
     }
 }
 
 /// The clause with the places of its variables, after those that had none have been given one, and two marks each. After want
 /// of memory some of them may have been given one.
-pub fn enter_all(alloc: Global, marks: &mut Vec<bool>, variables: &mut Variables, clause: &[Lit]) -> Result<Clause, NoMemory>
+pub fn enter_all(
+    alloc: Global,
+    marks: &mut Vec<bool>,
+    variables: &mut Variables,
+    clause: &[Lit],
+) -> Result<Clause, NoMemory>
     requires distinct { IsDistinct variables.old }
     requires room { 2 * length variables.old ≤ length marks.old.items }
     ensures placed { IfOk result (λ kept. All (IsPlaced variables.new) kept) }

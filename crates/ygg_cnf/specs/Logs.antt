@@ -34,7 +34,7 @@ abbrev pub IsOpen : List Lit → List Lit → Type 0
 IsOpen set clause =
     Any (Contains set) clause
     ⊎ ((x : Lit) × ((y : Lit) × (Contains clause x × Contains clause y × (x ≢ y)
-        × (Contains set (complement x) → ⊥) × (Contains set (complement y) → ⊥))))
+    × (Contains set (complement x) → ⊥) × (Contains set (complement y) → ⊥))))
 
 -- under the literals of the set, none of them together with its complement, the clause leaves x alone, x is undecided, and
 -- each clause before has a true literal or two that aren't false: so unit propagation gives x only now

@@ -1,11 +1,10 @@
 ghost use Rattle.std.specs.Prelude.{◌≡◌, ◌<◌, ◌↔◌, [], ◌∷◌, ◌++◌, length, slice_get, IsTrue, OnOk, OnErr, IfOk};
 
+use crate::lit::Lit;
 use smallvec::SmallVec;
 use std::alloc::Global;
 use std::marker::Model;
 use ygg_list::{Duplicate, NoMemory, Sequence};
-
-use crate::lit::Lit;
 
 /// A clause: a list of literals, which is read as a set. Order and repetition don't matter, and a clause with a literal and
 /// its complement is true under every assignment.

@@ -1,7 +1,7 @@
 ghost use Rattle.std.specs.Prelude.{◌≡◌, ◌≢◌, ◌<◌, ◌≤◌, ℕ, Bool, List, Option, Some, Contains, All, length};
 ghost use Rattle.ygg_cnf.specs.declared.lit.Lit.{Lit};
 ghost use Rattle.ygg_cnf.specs.declared.log.Step.{Step};
-ghost use Rattle.ygg_cnf.specs.Literals.{SatisfiesClause, SatisfiesAll};
+ghost use Rattle.ygg_cnf.specs.Literals.{complement, IsSameSet, SatisfiesClause, SatisfiesAll};
 ghost use Rattle.ygg_cnf.specs.Derivations.{HasClause, DerivesClause};
 ghost use Rattle.ygg_cnf.specs.Logs.{Refutes, Teaches};
 
@@ -18,5 +18,13 @@ pub fn derivations_are_sound()
 
     // A clause that teaches contains none of the clauses before it.
     ensures taught { (clauses : List (List Lit)) (clause given : List Lit) → Teaches clauses clause → Contains clauses given → ((x : Lit) → Contains given x → Contains clause x) → ⊥ }
-{
-}
+{}
+
+/// That clauses are read as sets. It does nothing: its contract is the theorem.
+pub fn clauses_are_sets()
+    // Order and repetition don't matter: what a chain derives it derives in every form.
+    ensures same { (held : ℕ → Option (List Lit)) (chain : List ℕ) (clause other : List Lit) → IsSameSet clause other → DerivesClause (λ id named. held id ≡ Some named) chain clause → DerivesClause (λ id named. held id ≡ Some named) chain other }
+
+    // A clause with a literal and its complement is true under every assignment.
+    ensures tautology { (clause : List Lit) (x : Lit) (value : ℕ → Bool) → Contains clause x → Contains clause (complement x) → SatisfiesClause value clause }
+{}

@@ -6,9 +6,11 @@ mod clause;
 mod law;
 mod lit;
 mod log;
+#[cfg(test)]
+mod tests;
 
 pub use assignment::{Assignment, truth};
 pub use clause::{Clause, Clauses};
-pub use law::derivations_are_sound;
+pub use law::{clauses_are_sets, derivations_are_sound};
 pub use lit::Lit;
-pub use log::{Log, Numbers, Step};
+pub use log::{Log, Step};

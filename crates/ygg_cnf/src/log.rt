@@ -1,16 +1,16 @@
+use crate::clause::Clause;
 use std::alloc::Global;
 use ygg_list::{Duplicate, NoMemory, Sequence};
-
-use crate::clause::Clause;
-
-/// Numbers of clauses, counted from 1.
-pub type Numbers = Sequence<u64>;
 
 /// An entry of a log.
 #[derive(Debug, Drop)]
 pub enum Step {
-    /// A clause, and the chain of clause numbers that derives it. It takes the number after all clauses before it.
-    Added { clause: Clause, chain: Numbers },
+    /// A clause, and the numbers, counted from 1, of the clauses that it is derived from, in the order of the steps. It takes the
+    /// number after all clauses before it.
+    Added {
+        clause: Clause,
+        chain: Sequence<u64>,
+    },
 }
 
 /// Derived clauses in order, numbered on from the clauses that they are derived from.

@@ -1,4 +1,4 @@
-use Rattle.std.proofs.Common.{rules, arith, refl, ◌↔◌, ⊎_elim, inl, inr}
+use Rattle.std.proofs.Common.{⊎_elim, inl, inr}
 use Rattle.ygg_chain.proofs.MarkLemmas.{mark_more}
 use Rattle.ygg_chain.proofs.PlaceLemmas.{contains_all}
 use Rattle.ygg_chain.proofs.marks.mark_all.Goals as goal
@@ -9,6 +9,7 @@ loop-lit-preserved c =
 
 pub returns : goal.returns
 returns c y =
-    let all = contains_all c.args.clause.now c.loop-lit.lit-index c.loop-lit-test.false y in
-    ((λ m. ⊎_elim (λ b. inl b) (λ d. inr (all.0 d)) ((c.loop-lit.invariant y).0 m)),
-     (λ m. (c.loop-lit.invariant y).1 (⊎_elim (λ b. inl b) (λ d. inr (all.1 d)) m)))
+    let all = contains_all c.args.clause.now c.loop-lit.lit-index c.loop-lit-test.false y in (
+      (λ m. ⊎_elim (λ b. inl b) (λ d. inr (all.0 d)) ((c.loop-lit.invariant y).0 m)),
+      (λ m. (c.loop-lit.invariant y).1 (⊎_elim (λ b. inl b) (λ d. inr (all.1 d)) m)),
+    )

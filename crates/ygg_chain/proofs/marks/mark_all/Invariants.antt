@@ -1,4 +1,4 @@
-use Rattle.std.proofs.Common.{◌≡◌, ℕ, take, length, Contains, ◌⊎◌}
+use Rattle.std.proofs.Common.{take, Contains, ◌⊎◌}
 use Rattle.ygg_chain.specs.Marks.{Marked, HasMarks}
 use Rattle.ygg_chain.proofs.marks.mark_all.Given as goal
 

@@ -1,7 +1,7 @@
-use Rattle.std.proofs.Common.{◌≡◌, ◌≢◌, take, length, Contains, ◌⊎◌, MatchOption}
+use Rattle.std.proofs.Common.{take, Contains, MatchOption}
 use Rattle.ygg_cnf.specs.Literals.{complement}
 use Rattle.ygg_cnf.specs.Derivations.{IsPivot}
-use Rattle.ygg_chain.specs.Marks.{Marked, HasMarks}
+use Rattle.ygg_chain.specs.Marks.{Marked}
 use Rattle.ygg_chain.proofs.marks.pivot.Given as goal
 
 abbrev pub invariant-loop-lit : goal.invariant-loop-lit

@@ -1,4 +1,4 @@
-use Rattle.std.proofs.Common.{◌≡◌, ◌≢◌, take, length, Contains, ◌⊎◌}
+use Rattle.std.proofs.Common.{◌≢◌, take, Contains, ◌⊎◌}
 use Rattle.ygg_chain.specs.Marks.{Marked, HasMarks}
 use Rattle.ygg_chain.proofs.marks.resolve.Given as goal
 

@@ -1,4 +1,3 @@
-use Rattle.std.proofs.Common.{◌↔◌}
 use Rattle.ygg_chain.proofs.MarkLemmas.{unmark_more}
 use Rattle.ygg_chain.proofs.PlaceLemmas.{contains_all}
 use Rattle.ygg_chain.proofs.marks.unmark_all.Goals as goal
@@ -9,6 +8,7 @@ loop-lit-preserved c =
 
 pub returns : goal.returns
 returns c y =
-    let all = contains_all c.args.clause.now c.loop-lit.lit-index c.loop-lit-test.false y in
-    ((λ m. let p = (c.loop-lit.invariant y).0 m in (p.0, λ d. p.1 (all.1 d))),
-     (λ p. (c.loop-lit.invariant y).1 (p.0, λ d. p.1 (all.0 d))))
+    let all = contains_all c.args.clause.now c.loop-lit.lit-index c.loop-lit-test.false y in (
+      (λ m. let p = (c.loop-lit.invariant y).0 m in (p.0, λ d. p.1 (all.1 d))),
+      (λ p. (c.loop-lit.invariant y).1 (p.0, λ d. p.1 (all.0 d))),
+    )

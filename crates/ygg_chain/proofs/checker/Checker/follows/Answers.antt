@@ -6,4 +6,4 @@ use Rattle.ygg_chain.proofs.checker.Checker.follows.Goals as goal
 pub returns-clause-answer : goal.returns-clause-answer
 returns-clause-answer c =
     subst (λ (l : List (List Lit)). IsTrue c.judge.result ↔ DerivesClause (HasClause l) c.args.chain.now c.args.clause.now) c.self.view_is
-      c.judge.ensures.answer
+    c.judge.ensures.answer
