@@ -1,0 +1,146 @@
+-- Places of variables, and what stands for a literal.
+use Rattle.std.proofs.Common.{◌≡◌, ℕ, ◌<◌, ◌≤◌, ◌+◌, true, List, [], ◌∷◌, ◌++◌, length, map, get_or, take, drop, ◌⊎◌, ◌↔◌, inl, inr, position, Contains, All, Some, ⊎_elim, refl, sym, ap, subst, ◌∙◌, arith, nat_eq, slice_get, length-append, Result, Ok, Err, OnOk, OnErr}
+use Rattle.std.specs.List.{IsDistinct as IsDistinctBy}
+use Rattle.std.proofs.lemmas.Bool.{eqb-false, eqb-true, cases_lt}
+use Rattle.std.proofs.lemmas.List.Quantifiers.{position-Some}
+use Rattle.std.proofs.lemmas.Map.Keys.{apart_from_distinct}
+use Rattle.std.proofs.lemmas.List.{get_or-map, take_more, take_all, length-map, get_or_append_left, map-append}
+use Rattle.std.proofs.lemmas.List.Elements.{Contains-push_cases, Contains-append_left, Contains-push, Contains-get_or, All-head, All-tail, All-weaker, All-push}
+use Rattle.std.proofs.lemmas.Grind.{common_steps}
+use Rattle.std.proofs.lemmas.Option.{slice_get_within, get_or_from_slice_get, same_Some}
+use Rattle.ygg_cnf.specs.declared.lit.Lit.{Lit}
+use Rattle.ygg_cnf.proofs.Lits.{same_lit}
+use Rattle.ygg_chain.specs.Places.{IsDistinct, IsPlaced, literal_at, StandsFor, clause_at, clauses_at}
+
+-- a list with one more item
+pub contains_more : {X : Type 0} (xs : List X) (i : ℕ) (d : X) → i < length xs → (y : X)
+    → Contains (take (i + 1) xs) y ↔ (Contains (take i xs) y ⊎ (y ≡ get_or xs i d))
+contains_more {X} xs i d h y =
+    let x : X = get_or xs i d in
+    rw (take_more xs i d h) (
+      (λ c. ⊎_elim (λ a. inl a) (λ e. inr (sym e)) (Contains-push_cases (take i xs) x y c)),
+      ⊎_elim (Contains-append_left (take i xs) (x ∷ []) y) (λ e. subst (λ z. Contains (take i xs ++ x ∷ []) z) (sym e) (Contains-push (take i xs) x)),
+    )
+
+pub contains_all : {X : Type 0} (xs : List X) (i : ℕ) → length xs ≤ i → (y : X) → Contains (take i xs) y ↔ Contains xs y
+contains_all xs i h y = rw (take_all i xs h) ((λ c. c), (λ c. c))
+
+pub contains_front : {X : Type 0} (xs : List X) (i : ℕ) (y : X) → Contains (take i xs) y → Contains xs y
+contains_front xs i y c =
+    let e : take i xs ++ drop i xs ≡ xs = grind (arith, common_steps) in
+    subst (λ l. Contains l y) e (Contains-append_left (take i xs) (drop i xs) y c)
+
+pub contains_map : {X Y : Type 0} (f : X → Y) (xs : List X) (x : X) → Contains xs x → Contains (map f xs) (f x)
+contains_map f xs x (k, within, is) =
+    (k, omega (arith, within, length-map xs f), get_or-map f xs k x (f x) within ∙ ap f is)
+
+pub contains_of_map : {X Y : Type 0} (f : X → Y) (xs : List X) (y : Y) → Contains (map f xs) y → (x : X) × (Contains xs x × (f x ≡ y))
+contains_of_map f [] y (k, within, is) = absurd (omega (arith, within))
+contains_of_map f (x ∷ xs) y (k, within, is) =
+    let inside : k < length (x ∷ xs) = omega (arith, within, length-map (x ∷ xs) f) in
+    (get_or (x ∷ xs) k x, (Contains-get_or (x ∷ xs) k x inside, sym (get_or-map f (x ∷ xs) k x y inside) ∙ is))
+
+pub distinct_keys : (keys : List ℕ) → IsDistinctBy nat_eq keys → IsDistinct keys
+distinct_keys keys u i j d below within same =
+    eqb-false (get_or keys i d) (get_or keys j d) (apart_from_distinct nat_eq keys i j d u below within) same
+
+-- places of the same variable are the same
+place_of_same : (variables : List ℕ) → IsDistinct variables → (i j : ℕ) → i < length variables → j < length variables
+    → get_or variables i 0 ≡ get_or variables j 0 → i ≡ j
+place_of_same variables distinct i j inside within same =
+    ⊎_elim (λ l. absurd (distinct i j 0 l within same))
+    (λ g. ⊎_elim (λ l. absurd (distinct j i 0 l inside (sym same))) (λ h. omega (arith, g, h)) (cases_lt j i))
+    (cases_lt i j)
+
+-- places that stand for one literal are one
+pub stands_once : (variables : List ℕ) → IsDistinct variables → (x z y : Lit) → StandsFor variables x y → StandsFor variables z y → x ≡ z
+stands_once variables distinct x z y (inside, is) (within, other) =
+    let same : literal_at variables x ≡ literal_at variables z = is ∙ sym other in
+    same_lit x z (place_of_same variables distinct x.var z.var inside within (ap (λ l. l.var) same)) (ap (λ l. l.negated) same)
+
+-- the place at which a look-up found the variable
+pub found_place : (variables : List ℕ) (lit : Lit) (place : ℕ) → position (nat_eq lit.var) variables ≡ Some place
+    → StandsFor variables (record { var = place; negated = lit.negated }) lit
+found_place variables lit place found =
+    let at = position-Some (nat_eq lit.var) variables place 0 found in
+    (at.0, same_lit (record { var = get_or variables place 0; negated = lit.negated }) lit (sym (eqb-true lit.var (get_or variables place 0) at.1)) refl)
+
+-- the place that an equal key has
+pub stored_place : (variables : List ℕ) (lit : Lit) (place key : ℕ) → slice_get variables place ≡ Some key → nat_eq lit.var key ≡ true
+    → StandsFor variables (record { var = place; negated = lit.negated }) lit
+stored_place variables lit place key at same = (
+  slice_get_within variables place key at,
+  same_lit (record { var = get_or variables place 0; negated = lit.negated }) lit
+      (get_or_from_slice_get variables place key 0 at ∙ sym (eqb-true lit.var key same)) refl,
+)
+
+-- the one place that stands for a literal
+pub exact_place : (variables : List ℕ) → IsDistinct variables → (lit x : Lit) → StandsFor variables x lit
+    → (placed : Lit) → (Some x ≡ Some placed) ↔ StandsFor variables placed lit
+exact_place variables distinct lit x stands placed = (
+  (λ e. subst (λ z. StandsFor variables z lit) (same_Some x placed e) stands),
+  (λ other. ap Some (stands_once variables distinct x placed lit stands other)),
+)
+
+-- more variables leave each place its variable
+literal_more : (variables more : List ℕ) (x : Lit) → IsPlaced variables x → literal_at (variables ++ more) x ≡ literal_at variables x
+literal_more variables more x inside =
+    same_lit (literal_at (variables ++ more) x) (literal_at variables x) (get_or_append_left variables more 0 x.var inside) refl
+
+pub placed_more : (variables more : List ℕ) (x : Lit) → IsPlaced variables x → IsPlaced (variables ++ more) x
+placed_more variables more x inside = omega (arith, inside, length-append variables more)
+
+same_map : {X Y : Type 0} (f g : X → Y) (xs : List X) → All (λ x. f x ≡ g x) xs → map f xs ≡ map g xs
+same_map f g [] all = refl
+same_map f g (x ∷ xs) all = rw (All-head (λ x. f x ≡ g x) x xs all, same_map f g xs (All-tail (λ x. f x ≡ g x) x xs all)) refl
+
+pub clause_more : (variables more : List ℕ) (clause : List Lit) → All (IsPlaced variables) clause
+    → clause_at (variables ++ more) clause ≡ clause_at variables clause
+clause_more variables more clause placed =
+    same_map (literal_at (variables ++ more)) (literal_at variables) clause
+    (All-weaker (IsPlaced variables) (λ x. literal_at (variables ++ more) x ≡ literal_at variables x) (literal_more variables more) clause placed)
+
+pub clauses_more : (variables more : List ℕ) (clauses : List (List Lit)) → All (All (IsPlaced variables)) clauses
+    → clauses_at (variables ++ more) clauses ≡ clauses_at variables clauses
+clauses_more variables more clauses placed =
+    same_map (clause_at (variables ++ more)) (clause_at variables) clauses
+    (All-weaker (All (IsPlaced variables)) (λ c. clause_at (variables ++ more) c ≡ clause_at variables c) (clause_more variables more) clauses placed)
+
+pub all_placed_more : (variables more : List ℕ) (clause : List Lit) → All (IsPlaced variables) clause → All (IsPlaced (variables ++ more)) clause
+all_placed_more variables more clause placed = All-weaker (IsPlaced variables) (IsPlaced (variables ++ more)) (placed_more variables more) clause placed
+
+-- a clause of places with one more literal
+pub entered : (variables after more : List ℕ) → after ≡ variables ++ more → (kept clause : List Lit) (i : ℕ) (d placed : Lit) → i < length clause
+    → All (IsPlaced variables) kept → clause_at variables kept ≡ take i clause → StandsFor after placed (get_or clause i d)
+    → All (IsPlaced after) (kept ++ placed ∷ []) × (clause_at after (kept ++ placed ∷ []) ≡ take (i + 1) clause)
+entered variables after more grows kept clause i d placed within all same (inside, is) =
+    let moved : All (IsPlaced after) kept =
+    subst (λ (l : List ℕ). All (IsPlaced l) kept) (sym grows) (all_placed_more variables more kept all) in
+    let stays : clause_at after kept ≡ clause_at variables kept =
+    ap (λ (l : List ℕ). clause_at l kept) grows ∙ clause_more variables more kept all in (
+      All-push (IsPlaced after) kept placed moved inside,
+      map-append (literal_at after) kept (placed ∷ []) ∙ ap (λ l. l ++ literal_at after placed ∷ []) (stays ∙ same)
+          ∙ ap (λ x. take i clause ++ x ∷ []) is ∙ sym (take_more clause i d within),
+    )
+
+-- clauses of places after more variables have come
+pub kept_more : (variables after more : List ℕ) → after ≡ variables ++ more → (clauses : List (List Lit)) → All (All (IsPlaced variables)) clauses
+    → All (All (IsPlaced after)) clauses × (clauses_at after clauses ≡ clauses_at variables clauses)
+kept_more variables after more grows clauses placed = (
+  subst (λ (l : List ℕ). All (All (IsPlaced l)) clauses) (sym grows)
+      (All-weaker (All (IsPlaced variables)) (All (IsPlaced (variables ++ more))) (all_placed_more variables more) clauses placed),
+  ap (λ (l : List ℕ). clauses_at l clauses) grows ∙ clauses_more variables more clauses placed,
+)
+
+-- whatever a push answers, the clauses that it leaves are of places
+pub pushed_placed : {T E : Type 0} (answer : Result T E) (variables : List ℕ) (clauses pushed : List (List Lit)) (kept : List Lit)
+    → OnOk answer (pushed ≡ clauses ++ kept ∷ []) → OnErr answer (pushed ≡ clauses)
+    → All (All (IsPlaced variables)) clauses → All (IsPlaced variables) kept → All (All (IsPlaced variables)) pushed
+pushed_placed (Ok x) variables clauses pushed kept ok err all one =
+    subst (λ (l : List (List Lit)). All (All (IsPlaced variables)) l) (sym ok) (All-push (All (IsPlaced variables)) clauses kept all one)
+pushed_placed (Err e) variables clauses pushed kept ok err all one =
+    subst (λ (l : List (List Lit)). All (All (IsPlaced variables)) l) (sym err) all
+
+pub on_err_always : {T E P : Type 0} (answer : Result T E) → P → OnErr answer P
+on_err_always (Ok x) p = tt
+on_err_always (Err e) p = p

@@ -1,0 +1,43 @@
+use Rattle.std.proofs.Common.{[], ◌∷◌, ◌++◌, ap, ◌∙◌}
+use Rattle.std.proofs.lemmas.List.{map-append}
+use Rattle.std.proofs.lemmas.Result.{on_ok_weaker, on_err_weaker}
+use Rattle.ygg_chain.specs.Places.{clause_at, clauses_at}
+use Rattle.ygg_chain.proofs.PlaceLemmas.{kept_more, pushed_placed, on_err_always}
+use Rattle.ygg_chain.proofs.checker.Checker.add.Goals as goal
+
+pub returns-in_err-kept-clause-err : goal.returns-in_err-kept-clause-err
+returns-in_err-kept-clause-err c =
+    let (more, grew) = c.enter_all.ensures.grows in
+    let kept = kept_more c.self.inside.store.variables c.enter_all.new.variables more grew c.self.inside.store.clauses c.self.invariant.kept.placed in
+    on_err_always c.from_residual.result (kept.1 ∙ c.self.view_is)
+
+pub invariant_of-self-2 : goal.invariant_of-self-2
+invariant_of-self-2 c =
+    let (more, grew) = c.enter_all.ensures.grows in
+    let kept = kept_more c.self.inside.store.variables c.enter_all.new.variables more grew c.self.inside.store.clauses c.self.invariant.kept.placed in
+    record {
+      kept = record {
+        distinct = c.enter_all.ensures.distinct;
+        placed = pushed_placed c.push.result c.enter_all.new.variables c.self.inside.store.clauses c.push.new.self c.in_ok-kept.kept
+            c.push.ensures.ok c.push.ensures.err kept.0 c.in_ok-kept.ensures.placed;
+        room = c.enter_all.ensures.room;
+      };
+      clear = λ y. ((λ m. (c.self.invariant.clear y).0 ((c.enter_all.ensures.marks y).0 m)), (λ none. absurd none));
+    }
+
+pub returns-clause-ok : goal.returns-clause-ok
+returns-clause-ok c =
+    let (more, grew) = c.enter_all.ensures.grows in
+    let kept = kept_more c.self.inside.store.variables c.enter_all.new.variables more grew c.self.inside.store.clauses c.self.invariant.kept.placed in
+    on_ok_weaker c.push.result
+    (λ e. ap (clauses_at c.enter_all.new.variables) e
+    ∙ map-append (clause_at c.enter_all.new.variables) c.self.inside.store.clauses (c.in_ok-kept.kept ∷ [])
+    ∙ ap (λ l. l ++ clause_at c.enter_all.new.variables c.in_ok-kept.kept ∷ []) (kept.1 ∙ c.self.view_is)
+    ∙ ap (λ x. c.args.self.now ++ x ∷ []) (c.in_ok-kept.ensures.same ∙ c.as_slice.ensures))
+    c.push.ensures.ok
+
+pub returns-clause-err : goal.returns-clause-err
+returns-clause-err c =
+    let (more, grew) = c.enter_all.ensures.grows in
+    let kept = kept_more c.self.inside.store.variables c.enter_all.new.variables more grew c.self.inside.store.clauses c.self.invariant.kept.placed in
+    on_err_weaker c.push.result (λ e. ap (clauses_at c.enter_all.new.variables) e ∙ kept.1 ∙ c.self.view_is) c.push.ensures.err

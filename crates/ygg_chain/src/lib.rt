@@ -1,0 +1,12 @@
+//! The checker of derivations: it holds clauses and says whether a chain of resolution steps derives a clause from them.
+#![tactic(auto)]
+
+mod checker;
+pub mod marks;
+mod places;
+mod store;
+#[cfg(test)]
+mod tests;
+
+pub use checker::Checker;
+pub use places::Variables;

@@ -1,0 +1,94 @@
+//! Clauses kept with the places of their variables.
+
+ghost use Rattle.std.specs.Prelude.{◌≡◌, ℕ, ◌≤◌, ◌*◌, List, [], ◌++◌, length, All, Contains, IsTrue, ◌↔◌, MatchOption, IfOk};
+ghost use Rattle.ygg_cnf.specs.declared.lit.Lit.{Lit};
+ghost use Rattle.ygg_cnf.specs.Derivations.{HasClause};
+ghost use Rattle.ygg_chain.specs.Places.{IsDistinct, IsPlaced, StandsFor, clause_at};
+ghost use Rattle.ygg_chain.specs.Marks.{Marked, HasMarks};
+
+use crate::marks::make_room;
+use crate::places::Variables;
+use std::alloc::Global;
+use ygg_cnf::{Clause, Clauses, Lit};
+use ygg_list::NoMemory;
+
+/// Clauses in which each variable is replaced by its place among the variables, so that marks are a table by place and no
+/// look-up is made while chains are followed.
+#[derive(Drop)]
+pub struct Store {
+    pub variables: Variables,
+    pub clauses: Clauses,
+}
+
+impl Store {
+    /// No clauses and no variables. It takes no memory.
+    pub fn new(alloc: Global) -> Store
+        ensures clauses { result.clauses ≡ [] }
+        ensures variables { result.variables ≡ [] }
+    {
+        Store {
+            variables: Variables::new(alloc),
+            clauses: Clauses::new(alloc),
+        }
+    }
+
+    /// The kept clause of a number, where clauses are numbered from 1.
+    pub fn numbered(&self, id: u64) -> Option<&[Lit]>
+        ensures { MatchOption result ((kept : List Lit) → HasClause self.now.clauses id kept → ⊥) (λ kept. HasClause self.now.clauses id kept.now) }
+    {
+        if id == 0 {
+            return None;
+        }
+        let clause = self.clauses.as_slice().get((id - 1) as usize)?;
+        Some(clause.as_slice())
+    }
+
+    /// Whether an empty clause is kept.
+    pub fn has_empty(&self) -> bool
+        ensures { IsTrue result ↔ Contains self.now.clauses [] }
+    {
+        self.clauses
+            .as_slice()
+            .iter()
+            .any(|clause| clause.is_empty())
+    }
+}
+
+/// The clause with the places of its variables, after those that had none have been given one, and two marks each. After want
+/// of memory some of them may have been given one.
+pub fn enter_all(
+    alloc: Global,
+    marks: &mut Vec<bool>,
+    variables: &mut Variables,
+    clause: &[Lit],
+) -> Result<Clause, NoMemory>
+    requires distinct { IsDistinct variables.old }
+    requires room { 2 * length variables.old ≤ length marks.old.items }
+    ensures placed { IfOk result (λ kept. All (IsPlaced variables.new) kept) }
+    ensures same { IfOk result (λ kept. clause_at variables.new kept ≡ clause.now) }
+    ensures grows { (more : List ℕ) × (variables.new ≡ variables.old ++ more) }
+    ensures distinct { IsDistinct variables.new }
+    ensures room { 2 * length variables.new ≤ length marks.new.items }
+    ensures marks { HasMarks marks.new.items (Marked marks.old.items) }
+{
+    let mut kept = Clause::new(alloc);
+    for lit in clause {
+        kept.push(enter(marks, variables, *lit)?)?;
+    }
+    Ok(kept)
+}
+
+/// The literal with its variable's place, after the variable has been given one, and two marks, where it had none.
+fn enter(marks: &mut Vec<bool>, variables: &mut Variables, lit: Lit) -> Result<Lit, NoMemory>
+    requires distinct { IsDistinct variables.old }
+    requires room { 2 * length variables.old ≤ length marks.old.items }
+    ensures ok { IfOk result (λ placed. StandsFor variables.new placed lit) }
+    ensures grows { (more : List ℕ) × (variables.new ≡ variables.old ++ more) }
+    ensures distinct { IsDistinct variables.new }
+    ensures room { 2 * length variables.new ≤ length marks.new.items }
+    ensures marks { HasMarks marks.new.items (Marked marks.old.items) }
+{
+    // The room comes first, so that it is there for each variable whatever fails.
+    make_room(marks, 2 * variables.len() + 2)?;
+    variables.enter(lit)
+}

@@ -1,0 +1,3 @@
+pub mod Lits
+pub mod Steps
+pub mod Soundness

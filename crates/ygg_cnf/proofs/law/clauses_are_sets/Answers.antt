@@ -1,0 +1,12 @@
+use Rattle.std.proofs.Common.{◌≡◌, Some, ⊎_elim}
+use Rattle.ygg_cnf.specs.Literals.{complement}
+use Rattle.ygg_cnf.proofs.Lits.{one_of_both, satisfied_by}
+use Rattle.ygg_cnf.proofs.Steps.{derives_set}
+use Rattle.ygg_cnf.proofs.law.clauses_are_sets.Goals as goal
+
+pub returns : goal.returns
+returns c = record {
+  same = λ held. derives_set (λ id named. held id ≡ Some named);
+  tautology = λ clause x value here there.
+      ⊎_elim (satisfied_by value clause x here) (satisfied_by value clause (complement x) there) (one_of_both value x);
+}

@@ -1,0 +1,97 @@
+ghost use Rattle.std.specs.Prelude.{◌≡◌, ◌<◌, ◌↔◌, [], ◌∷◌, ◌++◌, length, slice_get, IsTrue, OnOk, OnErr, IfOk};
+
+use crate::lit::Lit;
+use smallvec::SmallVec;
+use std::alloc::Global;
+use std::marker::Model;
+use ygg_list::{Duplicate, NoMemory, Sequence};
+
+/// A clause: a list of literals, which is read as a set. Order and repetition don't matter, and a clause with a literal and
+/// its complement is true under every assignment.
+#[derive(Debug, Drop)]
+pub struct Clause {
+    lits: SmallVec<Lit, 4>,
+}
+
+/// Clauses in order. The first has the number 1.
+pub type Clauses = Sequence<Clause>;
+
+impl Model for Clause {
+    ghost use Rattle.std.specs.Prelude.{List};
+    ghost use Rattle.ygg_cnf.specs.declared.lit.Lit.{Lit};
+
+    ghost Value = { List Lit };
+
+    ghost view = { λ c. c.lits.items };
+}
+
+impl Clause {
+    /// The empty clause. It takes no memory.
+    pub fn new(alloc: Global) -> Clause
+        ensures { result ≡ [] }
+    {
+        Clause {
+            lits: SmallVec::new(alloc),
+        }
+    }
+
+    /// A clause of these literals. Its only error is want of memory.
+    pub fn from_slice(alloc: Global, lits: &[Lit]) -> Result<Clause, NoMemory>
+        ensures { IfOk result (λ clause. clause ≡ lits.now) }
+    {
+        Ok(Clause {
+            lits: SmallVec::from_slice(alloc, lits)?,
+        })
+    }
+
+    /// Adds a literal at the end. After want of memory the clause is as before.
+    pub fn push(&mut self, lit: Lit) -> Result<(), NoMemory>
+        ensures ok { OnOk result (self.new ≡ self.old ++ lit ∷ []) }
+        ensures err { OnErr result (self.new ≡ self.old) }
+    {
+        self.lits.push(lit)?;
+        Ok(())
+    }
+
+    /// An equal clause. Its only error is want of memory.
+    pub fn copy(&self, alloc: Global) -> Result<Clause, NoMemory>
+        ensures { IfOk result (λ copy. copy ≡ self.now) }
+    {
+        Clause::from_slice(alloc, self.as_slice())
+    }
+
+    /// How many literals stand in the clause, repeated ones counted each time.
+    pub fn len(&self) -> usize
+        ensures { result ≡ length self.now }
+    {
+        self.lits.len()
+    }
+
+    /// Whether the clause has no literal. Such a clause is false under every assignment.
+    pub fn is_empty(&self) -> bool
+        ensures { IsTrue result ↔ (self.now ≡ []) }
+    {
+        self.as_slice().is_empty()
+    }
+
+    /// The literal at a place, counted from 0.
+    pub fn at(&self, place: usize) -> Lit
+        requires { place < length self.now }
+        ensures { slice_get self.now place ≡ Some result }
+    {
+        self.as_slice()[place]
+    }
+
+    /// All literals in order.
+    pub fn as_slice(&self) -> &[Lit]
+        ensures { result.now ≡ self.now }
+    {
+        self.lits.as_slice()
+    }
+}
+
+impl Duplicate for Clause {
+    fn duplicate(&self, alloc: Global) -> Result<Clause, NoMemory> {
+        self.copy(alloc)
+    }
+}
