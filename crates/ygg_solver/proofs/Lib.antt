@@ -1,0 +1,5 @@
+pub mod LeftLemmas
+pub mod ReadyLemmas
+pub mod LogLemmas
+pub mod ModelLemmas
+pub mod RenameLemmas
