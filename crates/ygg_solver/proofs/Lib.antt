@@ -3,3 +3,4 @@ pub mod ReadyLemmas
 pub mod LogLemmas
 pub mod ModelLemmas
 pub mod RenameLemmas
+pub mod NameLemmas

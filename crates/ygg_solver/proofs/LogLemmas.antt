@@ -1,5 +1,6 @@
 -- One more entry of a log.
-use Rattle.std.proofs.Common.{◌≡◌, ℕ, List, [], ◌∷◌, ◌++◌, map, sym, subst, ap, arith, refl, append_assoc, ◌<◌, ◌≤◌, ◌+◌, ◌*◌}
+use Rattle.std.proofs.lemmas.List.Elements.{All-tail}
+use Rattle.std.proofs.Common.{All, ◌≡◌, ℕ, List, [], ◌∷◌, ◌++◌, map, sym, subst, ap, arith, refl, append_assoc, ◌<◌, ◌≤◌, ◌+◌, ◌*◌}
 use Rattle.ygg_chain.specs.Marks.{Fits}
 use Rattle.ygg_cnf.specs.Derivations.{HasClause, DerivesClause}
 use Rattle.ygg_cnf.specs.Logs.{Derives, EachTeaches, Teaches, clause_of, chain_of, EndsEmpty}
@@ -45,3 +46,7 @@ learned_more given held after log longer step kept e f h k =
 
 pub fits_room : (n room : ℕ) (y : Lit) → y.var < room → 2 * room ≤ n → Fits n y
 fits_room n room y l le = omega (arith, l, le)
+
+pub all_back : {X : Type 0} (P : X → Type 0) (xs ys : List X) → All P (xs ++ ys) → All P ys
+all_back P [] ys a = a
+all_back P (x ∷ xs) ys a = all_back P xs ys (All-tail P x (xs ++ ys) a)

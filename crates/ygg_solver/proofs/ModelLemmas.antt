@@ -1,5 +1,5 @@
 -- With every variable assigned and no clause a unit or false, the trail satisfies each clause.
-use Rattle.std.proofs.Common.{◌≡◌, ◌≢◌, ℕ, zero, suc, ◌<◌, ◌+◌, Bool, true, false, not, cond, List, [], ◌∷◌, ◌++◌, length, ◌⊎◌, ⊎_elim, sym, subst, ap, ◌∙◌, arith, refl, eqb, All, Contains, get_or, set, take, get_or-set_same, get_or-set_other}
+use Rattle.std.proofs.Common.{inl, inr, ◌≡◌, ◌≢◌, ℕ, zero, suc, ◌<◌, ◌+◌, Bool, true, false, not, cond, List, [], ◌∷◌, ◌++◌, length, ◌⊎◌, ⊎_elim, sym, subst, ap, ◌∙◌, arith, refl, eqb, All, Contains, get_or, set, take, get_or-set_same, get_or-set_other}
 use Rattle.std.proofs.lemmas.Bool.{false≢true, cases_eq, cases_Bool, eq-eqb, ne_eqb, eqb-true}
 use Rattle.std.proofs.lemmas.List.{take_more}
 use Rattle.std.proofs.lemmas.List.Elements.{All-contains, All-cons, All-head, All-tail}
@@ -94,22 +94,6 @@ front_at (d ∷ trail) zero q e h = cc
 front_at (d ∷ trail) (suc n) zero e h = (omega arith, h)
 front_at (d ∷ trail) (suc n) (suc q) e h = let r = front_at trail n q e h in (omega (arith, r.0), r.1)
 
--- one more value is written
-pub values_more : (trail : List Entry) (i : ℕ) (e : Entry) (values after : List Bool) → IsAt trail i e
-    → ((p q : ℕ) (d c : Entry) → IsAt trail p d → IsAt trail q c → d.lit.var ≡ c.lit.var → p ≡ q) → e.lit.var < length values
-    → ((k : ℕ) → get_or values k false ≡ trail_value (take i trail) k) → after ≡ set values e.lit.var (not e.lit.negated)
-    → (k : ℕ) → get_or after k false ≡ trail_value (take (i + 1) trail) k
-values_more trail i e values after h distinct l was is k =
-    let more : take (i + 1) trail ≡ take i trail ++ e ∷ [] = take_more trail i e (entry_within trail i e h) ∙ ap (λ (z : Entry). take i trail ++ z ∷ []) (get_or_from_slice_get trail i e e h) in
-    let fresh : is_assigned (take i trail) e.lit.var ≡ false = not_at (take i trail) e.lit.var (λ q d g v.
-      let a = front_at trail i q d g in let p : q ≡ i = distinct q i d e a.1 h v in let b = a.0 in omega (arith, p, b)) in
-    subst (λ (t : List Entry). get_or after k false ≡ trail_value t k) (sym more) (subst (λ (w : List Bool). get_or w k false ≡ trail_value (take i trail ++ e ∷ []) k) (sym is)
-      (⊎_elim
-        (λ s. subst (λ n. get_or (set values e.lit.var (not e.lit.negated)) n false ≡ trail_value (take i trail ++ e ∷ []) n) s
-          (get_or-set_same values e.lit.var (not e.lit.negated) false l ∙ sym (value_last (take i trail) e fresh)))
-        (λ d. get_or-set_other values e.lit.var k (not e.lit.negated) false (λ q. d (sym q)) ∙ (was k ∙ sym (value_other (take i trail) e k d)))
-        (cases_eq e.lit.var k)))
-
 -- an assigned variable passes the test
 pub assigned_test : (trail : List Entry) (v : ℕ) → IsAssigned trail v → is_assigned trail v ≡ true
 assigned_test trail v (k, e, l, at, is) =
@@ -119,3 +103,24 @@ assigned_test trail v (k, e, l, at, is) =
 
 pub value_assigned : (trail : List Entry) (var : ℕ) (value : Assigned) → HasValue trail var value → IsAssigned trail var
 value_assigned trail var value (q, (e, (h, (s, r)))) = fresh_place trail q e var h (ap (λ (z : Lit). z.var) s)
+
+-- a variable without entry has the value false
+value_none : (trail : List Entry) (v : ℕ) → is_assigned trail v ≡ false → trail_value trail v ≡ false
+value_none [] v n = refl
+value_none (x ∷ trail) v n =
+    ⊎_elim (λ t. let m = rw t at n in absurd (false≢true (sym m))) (λ f. let m = rw f at n in rw f (value_none trail v m)) (cases_Bool (eqb x.lit.var v))
+
+-- what one more entry makes of the value of a variable
+pub value_more : (trail : List Entry) (i : ℕ) (e : Entry) → IsAt trail i e
+    → ((p q : ℕ) (d c : Entry) → IsAt trail p d → IsAt trail q c → d.lit.var ≡ c.lit.var → p ≡ q) → (v : ℕ)
+    → ((e.lit.var ≢ v) × (trail_value (take (i + 1) trail) v ≡ trail_value (take i trail) v))
+    ⊎ ((e.lit.var ≡ v) × ((trail_value (take (i + 1) trail) v ≡ not e.lit.negated) × (trail_value (take i trail) v ≡ false)))
+value_more trail i e h distinct v =
+    let more : take (i + 1) trail ≡ take i trail ++ e ∷ [] = take_more trail i e (entry_within trail i e h) ∙ ap (λ (z : Entry). take i trail ++ z ∷ []) (get_or_from_slice_get trail i e e h) in
+    let fresh : is_assigned (take i trail) e.lit.var ≡ false = not_at (take i trail) e.lit.var (λ q d g s.
+      let a = front_at trail i q d g in let p : q ≡ i = distinct q i d e a.1 h s in let b = a.0 in omega (arith, p, b)) in
+    ⊎_elim
+      (λ s. inr (s, (subst (λ n. trail_value (take (i + 1) trail) n ≡ not e.lit.negated) s (ap (λ (t : List Entry). trail_value t e.lit.var) more ∙ value_last (take i trail) e fresh),
+        subst (λ n. trail_value (take i trail) n ≡ false) s (value_none (take i trail) e.lit.var fresh))))
+      (λ d. inl (d, ap (λ (t : List Entry). trail_value t v) more ∙ value_other (take i trail) e v d))
+      (cases_eq e.lit.var v)

@@ -2,7 +2,10 @@
 #![tactic(auto)]
 
 mod answer;
+mod names;
 mod run;
 mod search;
+mod solving;
 
 pub use answer::Answer;
+pub use solving::solve;

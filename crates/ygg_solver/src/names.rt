@@ -1,12 +1,11 @@
 //! Numbering the variables that occur by their places, from 0 on, and the way back.
 
-ghost use Rattle.std.specs.Prelude.{◌≡◌, ◌≢◌, ◌<◌, ℕ, List, [], ◌++◌, All, map, length, IfOk, OnOk};
+ghost use Rattle.std.specs.Prelude.{◌≡◌, ◌≢◌, ◌<◌, ◌≤◌, ℕ, List, ◌++◌, All, map, length, get_or, true, false, IfOk, OnOk};
 ghost use Rattle.ygg_cnf.specs.Literals.{truth_of};
 ghost use Rattle.ygg_cnf.specs.Logs.{clause_of};
 ghost use Rattle.ygg_chain.specs.Places.{IsDistinct, IsPlaced, literal_at, clause_at, clauses_at};
 ghost use Rattle.ygg_trail.specs.Assignments.{IsTrail};
-ghost use Rattle.ygg_solver.specs.Search.{trail_value};
-ghost use Rattle.ygg_solver.specs.Names.{log_at};
+ghost use Rattle.ygg_solver.specs.Names.{step_at, log_at, GivesValues};
 
 use std::alloc::Global;
 use ygg_chain::Variables;
@@ -63,6 +62,18 @@ fn name_clause(alloc: Global, variables: &Variables, clause: &[Lit]) -> Result<C
     Ok(named)
 }
 
+/// The entry of the variables that have its clause's places. Its only error is want of memory.
+fn name_step(alloc: Global, variables: &Variables, step: &Step) -> Result<Step, NoMemory>
+    requires { All (IsPlaced variables.now) (clause_of step.now) }
+    ensures { IfOk result (λ named. named ≡ step_at variables.now step.now) }
+{
+    let Step::Added { clause, chain } = step;
+    Ok(Step::Added {
+        clause: name_clause(alloc, variables, clause.as_slice())?,
+        chain: chain.copy(alloc)?,
+    })
+}
+
 /// The log of the variables that have its places. Its only error is want of memory.
 pub fn name_log(alloc: Global, variables: &Variables, log: &Log) -> Result<Log, NoMemory>
     requires { All (All (IsPlaced variables.now)) (map clause_of log.now) }
@@ -70,13 +81,20 @@ pub fn name_log(alloc: Global, variables: &Variables, log: &Log) -> Result<Log, 
 {
     let mut named = Log::new(alloc);
     for step in log.as_slice() {
-        let Step::Added { clause, chain } = step;
-        named.push(Step::Added {
-            clause: name_clause(alloc, variables, clause.as_slice())?,
-            chain: chain.copy(alloc)?,
-        })?;
+        named.push(name_step(alloc, variables, step)?)?;
     }
     Ok(named)
+}
+
+/// Makes the list at least so long, with false values at the end. After want of memory it is as before.
+fn grow(values: &mut Vec<bool>, size: usize) -> Result<(), NoMemory>
+    ensures ok { OnOk result (size ≤ length values.new.items) }
+    ensures same { (place : ℕ) → get_or values.new.items place false ≡ get_or values.old.items place false }
+{
+    if values.len() < size {
+        values.resize(size, false)?;
+    }
+    Ok(())
 }
 
 /// Makes a variable true. After want of memory the values are as before, but for false ones past the end.
@@ -85,24 +103,23 @@ fn set_true(values: &mut Vec<bool>, variable: u64) -> Result<(), NoMemory>
     ensures here { OnOk result (truth_of values.new.items variable ≡ true) }
     ensures others { OnOk result ((v : ℕ) → v ≢ variable → truth_of values.new.items v ≡ truth_of values.old.items v) }
 {
-    let place = (variable - 1) as usize;
     grow(values, variable as usize)?;
-    set_place(values.as_mut_slice(), place);
+    values[(variable - 1) as usize] = true;
     Ok(())
 }
 
-/// The assignment that gives each variable the value that the trail gives its place. Its only error is want of memory: it is as
-/// long as the greatest variable that is true.
+/// The assignment that gives each variable the value that the trail gives its place. It is as long as the greatest variable
+/// that is true. Its only error is want of memory.
 pub fn assignment_of(alloc: Global, variables: &Variables, trail: &[Entry]) -> Result<Assignment, NoMemory>
     requires distinct { IsDistinct variables.now }
-    requires numbered { All (λ v. 0 < v) variables.now }
     requires trail { IsTrail trail.now (length variables.now) }
-    ensures { IfOk result (λ values. (place : ℕ) → place < length variables.now → truth_of values (get_or variables.now place 0) ≡ trail_value trail.now place) }
+    ensures { IfOk result (GivesValues variables.now trail.now) }
 {
     let mut values = Vec::new(alloc);
     for entry in trail {
-        if !entry.lit.negated {
-            set_true(&mut values, variables.variable(entry.lit.var as usize))?;
+        let variable = variables.variable(entry.lit.var as usize);
+        if variable > 0 && !entry.lit.negated {
+            set_true(&mut values, variable)?;
         }
     }
     Ok(Assignment::from_vec(values))

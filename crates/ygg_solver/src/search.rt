@@ -5,9 +5,9 @@ ghost use Rattle.ygg_solver.specs.Search.{IsReady};
 ghost use Rattle.ygg_solver.specs.Answers.{IsEnd};
 
 use std::alloc::Global;
-use ygg_cnf::{Clause, Log, Numbers, Step};
+use ygg_cnf::{Clause, Log, Step};
 use ygg_learn::{Learned, Removal, analyze, last_decision, refute};
-use ygg_list::NoMemory;
+use ygg_list::{NoMemory, Sequence};
 use ygg_order::{Order, Restarts};
 use ygg_trail::Entry;
 use ygg_watch::Trail;
@@ -83,7 +83,7 @@ pub fn search<P: Trail>(alloc: Global, propagation: &mut P, order: &mut Order, c
             let chain = refute(alloc, marks, held, trail, conflict)?;
             log.push(Step::Added {
                 clause: Clause::new(alloc),
-                chain: Numbers::from_vec(chain),
+                chain: Sequence::from_vec(chain),
             })?;
             return Ok(End::Refuted(log));
         };
@@ -102,7 +102,7 @@ pub fn search<P: Trail>(alloc: Global, propagation: &mut P, order: &mut Order, c
         clauses.push(kept)?;
         log.push(Step::Added {
             clause,
-            chain: Numbers::from_vec(chain),
+            chain: Sequence::from_vec(chain),
         })?;
         if log.len() == budget as usize {
             return Ok(End::Spent(log));

@@ -7,8 +7,8 @@ use Rattle.ygg_cnf.specs.declared.lit.Lit.{Lit}
 use Rattle.ygg_cnf.specs.declared.log.Step.{Step}
 use Rattle.ygg_cnf.specs.declared.log.Step.TheVariants.{Added}
 use Rattle.ygg_learn.specs.Learning.{IsLastDecision, IsJump}
-use Rattle.ygg_propagate.specs.Propagation.{Propagation, with_clause, back_to}
-use Rattle.ygg_solver.proofs.LogLemmas.{derives_push, teaches_push, derives_as, ends_empty, learned_more, fits_room}
+use Rattle.ygg_propagate.specs.Propagation.{IsWithin, Propagation, with_clause, back_to}
+use Rattle.ygg_solver.proofs.LogLemmas.{map_push, all_back, derives_push, teaches_push, derives_as, ends_empty, learned_more, fits_room}
 use Rattle.ygg_solver.proofs.ModelLemmas.{satisfies_front, assigned_test}
 use Rattle.ygg_solver.proofs.ReadyLemmas.{conflict_in, quiet_at, false_within, ready_jump, jump_low, jump_or, decision_within}
 use Rattle.ygg_solver.specs.Search.{IsReady}
@@ -28,10 +28,14 @@ returns-in_default-last_decision g c =
     let step : Step = Added c.new.result c.from_vec.result in
     let d : DerivesClause (HasClause (c.args.clauses.now.items ++ map clause_of log)) c.from_vec.result c.new.result
       = derives_as _ c.as_slice-held.result.now _ c.in_ok-chain.chain.items [] _ (c.as_slice-held.ensures.value ∙ c.loop-conflict.invariant.learned) (sym c.from_vec.ensures) (sym c.new.ensures) c.in_ok-chain.ensures in
-    subst (λ (l : List Step). Refutes c.args.clauses.now.items l × (length l ≤ c.args.budget)) (sym c.in_ok-push.ensures.ok)
+    subst (λ (l : List Step). Refutes c.args.clauses.now.items l × ((length l ≤ c.args.budget) × All (IsWithin c.args.room) (map clause_of l))) (sym c.in_ok-push.ensures.ok)
       (record { derives = derives_push c.args.clauses.now.items log step c.loop-conflict.invariant.derives d;
                 empty = inr (ends_empty log c.new.result c.from_vec.result c.new.ensures) },
-       (let k = c.loop-conflict.invariant.left in omega (arith, length-append {A = Step}, k)))
+       ((let k = c.loop-conflict.invariant.left in omega (arith, length-append {A = Step}, k)),
+        subst (All (IsWithin c.args.room)) (sym (map_push log step))
+          (All-push (IsWithin c.args.room) (map clause_of log) c.new.result
+            (all_back (IsWithin c.args.room) c.args.clauses.now.items (map clause_of log) (subst (All (IsWithin c.args.room)) c.loop-conflict.invariant.learned c.loop-conflict.invariant.variables))
+            (subst (IsWithin c.args.room) (sym c.new.ensures) (λ k d l. absurd (omega (arith, l)))))))
 
 pub analyze-requires-clause-quiet : goal.analyze-requires-clause-quiet
 analyze-requires-clause-quiet g c =
@@ -61,12 +65,22 @@ returns-then-len-budget g c =
     let held : c.as_slice-held.result.now ≡ c.args.clauses.now.items ++ map clause_of log = c.as_slice-held.ensures.value ∙ c.loop-conflict.invariant.learned in
     let d : DerivesClause (HasClause (c.args.clauses.now.items ++ map clause_of log)) c.from_vec-in-loop-conflict.result clause
       = derives_as _ c.as_slice-held.result.now _ c.in_ok-clause.field-0.chain.items clause clause held (sym c.from_vec-in-loop-conflict.ensures) refl c.in_ok-clause.ensures.derived in
-    record {
+    (record {
       derives = subst (Derives c.args.clauses.now.items) (sym c.in_ok-push-3.ensures.ok) (derives_push c.args.clauses.now.items log step c.loop-conflict.invariant.derives d);
       count = sym c.len.ensures ∙ c.if-len-budget.true;
       teach = subst (EachTeaches c.args.clauses.now.items) (sym c.in_ok-push-3.ensures.ok) (teaches_push c.args.clauses.now.items log step c.loop-conflict.invariant.teach
         (subst (λ (l : List (List Lit)). Teaches l clause) held c.in_ok-clause.ensures.teaches));
-    }
+    },
+     subst (λ (l : List Step). All (IsWithin c.args.room) (map clause_of l)) (sym c.in_ok-push-3.ensures.ok)
+       (subst (All (IsWithin c.args.room)) (sym (map_push log step))
+         (All-push (IsWithin c.args.room) (map clause_of log) clause
+           (all_back (IsWithin c.args.room) c.args.clauses.now.items (map clause_of log) (subst (All (IsWithin c.args.room)) c.loop-conflict.invariant.learned c.loop-conflict.invariant.variables))
+           (λ k d l. let y : Lit = get_or clause k d in
+             let now : Propagation = g.P.Propagate.state c.to_conflict.new.propagation in
+             let r : c.args.room ≡ now.room = c.loop-conflict.invariant.room ∙ sym c.to_conflict.ensures.room in
+             let w : y.var < now.room = false_within now c.trail-trail.result.now (length c.trail-trail.result.now) y (sym c.trail-trail.ensures) c.to_conflict.ensures.ready
+                 (c.in_ok-clause.ensures.falses y (Contains-get_or clause k d l)) in
+             omega (arith, r, w)))))
 
 pub loop-conflict-preserved : goal.loop-conflict-preserved
 loop-conflict-preserved g c =
