@@ -6,6 +6,8 @@ mod names;
 mod run;
 mod search;
 mod solving;
+#[cfg(test)]
+mod tests;
 
 pub use answer::Answer;
 pub use solving::solve;
