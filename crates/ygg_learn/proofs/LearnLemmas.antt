@@ -76,9 +76,9 @@ pub marked_step : (clauses : List (List Lit)) (trail : List Entry) (held after :
     → (y : Lit) → after y → (held y × ((e : Entry) → IsAt trail at e → y ≢ complement e.lit)) ⊎ IsFalseBefore trail at y
 marked_step clauses trail held after at id entry clause h r step y a =
     ⊎_elim
-      (λ p. inl (p.0, λ e k q. p.1 (q ∙ ap (λ (x : Entry). complement x.lit) (one_entry trail at e entry k h))))
-      (λ p. inr (r.others y p.0 (λ e. p.1 (e ∙ sym (complement_twice entry.lit)))))
-      (step y a)
+    (λ p. inl (p.0, λ e k q. p.1 (q ∙ ap (λ (x : Entry). complement x.lit) (one_entry trail at e entry k h))))
+    (λ p. inr (r.others y p.0 (λ e. p.1 (e ∙ sym (complement_twice entry.lit)))))
+    (step y a)
 
 pub marked_entry : (marks : List Bool) (trail : List Entry) (at : ℕ) (entry : Entry) → IsMarkedAt marks trail at → IsAt trail at entry → Marked marks (complement entry.lit)
 marked_entry marks trail at entry (e, (h, m)) k = subst (λ (x : Entry). Marked marks (complement x.lit)) (one_entry trail at e entry h k) m
@@ -87,14 +87,14 @@ pub not_here : (trail : List Entry) (at : ℕ) (entry : Entry) (y : Lit) → IsA
     → ((e : Entry) → IsAt trail at e → y ≢ complement e.lit) → IsFalseBefore trail at y
 not_here trail at entry y h (q, (e, (l, (k, same)))) other =
     ⊎_elim (λ p. absurd (other e (subst (λ i. IsAt trail i e) p k) (sym (complement_twice y) ∙ ap complement (sym same))))
-      (λ n. (q, (e, (omega arith, (k, same))))) (cases_eq q at)
+    (λ n. (q, (e, (omega arith, (k, same))))) (cases_eq q at)
 
 pub lower : (marks : List Bool) (trail : List Entry) (m n : ℕ) (y : Lit) → ((q : ℕ) → m ≤ q → q < n → IsMarkedAt marks trail q → ⊥)
     → Marked marks y → IsFalseBefore trail n y → IsFalseBefore trail m y
 lower marks trail m n y none k (q, (e, (l, (h, same)))) =
     ⊎_elim (λ b. (q, (e, (b, (h, same)))))
-      (λ g. absurd (none q g l (e, (h, subst (Marked marks) (sym (complement_twice y) ∙ ap complement (sym same)) k))))
-      (cases_lt q m)
+    (λ g. absurd (none q g l (e, (h, subst (Marked marks) (sym (complement_twice y) ∙ ap complement (sym same)) k))))
+    (cases_lt q m)
 
 -- a marked set that is false before a place and one after it, without the literal of the place, is false before it
 pub falses_step : (clauses : List (List Lit)) (trail : List Entry) (held after : Lit → Type 0) (at : ℕ) (entry : Entry) → IsSound clauses trail
@@ -118,10 +118,15 @@ pub marked_stays : (clauses : List (List Lit)) (marks after : List Bool) (trail 
     → other < at → IsMarkedAt marks trail other
     → ((y : Lit) → Marked marks y → ((e : Entry) → IsAt trail at e → y ≢ complement e.lit) → Marked after y)
     → IsMarkedAt after trail other
-marked_stays clauses marks after trail at other s l (e, (h, m)) kept =
-    (e, (h, kept (complement e.lit) m (λ d k q.
-      let v : e.lit.var ≡ d.lit.var = ap (λ (x : Lit). x.var) q in
-      let p : other ≡ at = s.distinct other at e d h k v in omega arith)))
+marked_stays clauses marks after trail at other s l (e, (h, m)) kept = (
+  e,
+  (
+    h,
+    kept (complement e.lit) m (λ d k q.
+        let v : e.lit.var ≡ d.lit.var = ap (λ (x : Lit). x.var) q in
+        let p : other ≡ at = s.distinct other at e d h k v in omega arith),
+  ),
+)
 
 -- one more number at the end of the chain
 pub chain_more : (clauses : List (List Lit)) (before after : List Bool) (chain : List ℕ) (id : ℕ)
@@ -140,7 +145,7 @@ pub here_or_before : (trail : List Entry) (at : ℕ) (entry : Entry) (y : Lit) �
     → (y ≡ complement entry.lit) ⊎ IsFalseBefore trail at y
 here_or_before trail at entry y h (q, (e, (l, (k, same)))) =
     ⊎_elim (λ p. inl (sym (complement_twice y) ∙ (ap complement (sym same) ∙ ap (λ (x : Entry). complement x.lit) (one_entry trail at e entry (subst (λ i. IsAt trail i e) p k) h))))
-      (λ n. inr (q, (e, (omega arith, (k, same))))) (cases_eq q at)
+    (λ n. inr (q, (e, (omega arith, (k, same))))) (cases_eq q at)
 
 pub marked_apart : (clauses : List (List Lit)) (marks after : List Bool) (trail : List Entry) (at other : ℕ) → IsSound clauses trail
     → other ≢ at → IsMarkedAt marks trail other

@@ -33,8 +33,10 @@ teaches_at clauses trail at start entry clause s h le quiet here others = record
       (false_before trail start y d) (false_before trail start (complement y) (subst (Contains (assigned_before trail start)) (sym (complement_twice y)) c));
   here = here;
   others = λ y c n. in_before trail start y (others y c n);
-  undecided = (not_before clauses trail at start entry (complement entry.lit) s h le refl,
-    not_before clauses trail at start entry (complement (complement entry.lit)) s h le refl);
+  undecided = (
+    not_before clauses trail at start entry (complement entry.lit) s h le refl,
+    not_before clauses trail at start entry (complement (complement entry.lit)) s h le refl,
+  );
   opens = quiet;
 }
 
@@ -50,9 +52,13 @@ numbered_all Q clauses (suc i) clause a h = all_got Q clauses i clause a h
 from_false : (marks : List Bool) (trail : List Entry) (start : ℕ) (x : Lit) → Marked marks x
     → (Contains (assigned_before trail start) (complement x) → ⊥) → IsFalseBefore trail (length trail) x
     → (q : ℕ) × ((start ≤ q) × IsMarkedAt marks trail q)
-from_false marks trail start x m n (q, (e, (l, (h, same)))) =
-    (q, (⊎_elim (λ b. absurd (n (in_before trail start x (q, (e, (b, (h, same))))))) (λ g. g) (cases_lt q start),
-      (e, (h, subst (Marked marks) (sym (complement_twice x) ∙ ap complement (sym same)) m))))
+from_false marks trail start x m n (q, (e, (l, (h, same)))) = (
+  q,
+  (
+    ⊎_elim (λ b. absurd (n (in_before trail start x (q, (e, (b, (h, same))))))) (λ g. g) (cases_lt q start),
+    (e, (h, subst (Marked marks) (sym (complement_twice x) ∙ ap complement (sym same)) m)),
+  ),
+)
 
 -- a false clause that was open before a place has a literal that is false from there on
 pub conflict_from : (clauses : List (List Lit)) (marks : List Bool) (trail : List Entry) (start : ℕ) (clause : List Lit) → IsSound clauses trail
@@ -62,10 +68,10 @@ pub conflict_from : (clauses : List (List Lit)) (marks : List Bool) (trail : Lis
     → (q : ℕ) × ((start ≤ q) × IsMarkedAt marks trail q)
 conflict_from clauses marks trail start clause s o falses marked =
     ⊎_elim
-      (λ (k, x, l, e, t). absurd (not_both clauses trail (length trail) start x s (falses x (k, l, e))
-        (false_before trail start (complement x) (subst (Contains (assigned_before trail start)) (sym (complement_twice x)) t))))
-      (λ (x, (y, (cx, cy, d, nx, ny))). from_false marks trail start x (marked x cx) nx (falses x cx))
-      o
+    (λ (k, x, l, e, t). absurd (not_both clauses trail (length trail) start x s (falses x (k, l, e))
+    (false_before trail start (complement x) (subst (Contains (assigned_before trail start)) (sym (complement_twice x)) t))))
+    (λ (x, (y, (cx, cy, d, nx, ny))). from_false marks trail start x (marked x cx) nx (falses x cx))
+    o
 
 pub first_number : (none one : List ℕ) (id : ℕ) → none ≡ [] → one ≡ none ++ id ∷ [] → one ≡ id ∷ []
 first_number none one id e f = rw e at f

@@ -1,4 +1,4 @@
--- The trail: the assigned literals in order.
+-- Analysis of a conflict: marked literals are those of the clause so far, and each of them is false.
 use Rattle.std.specs.Prelude.{◌≡◌, ◌≢◌, ℕ, ◌<◌, ◌≤◌, ◌+◌, Bool, List, ◌++◌, Contains, ◌⊎◌, Some, None, IsSome, length}
 use Rattle.ygg_chain.specs.Marks.{Marked}
 use Rattle.ygg_cnf.specs.Derivations.{HasClause, Resolves, DerivesClause}
@@ -7,7 +7,7 @@ use Rattle.ygg_cnf.specs.declared.lit.Lit.{Lit}
 use Rattle.ygg_trail.specs.declared.entry.Entry.{Entry}
 use Rattle.ygg_trail.specs.Trail.{IsAt, IsFalseBefore, IsReason}
 
--- no variable is assigned twice, and each reason is one
+-- no variable is assigned twice, and the clause of each reason has the literal, its others false by earlier entries
 pub record IsSound (clauses : List (List Lit)) (trail : List Entry) : Type 0 where
   pub distinct : (p q : ℕ) (d e : Entry) → IsAt trail p d → IsAt trail q e → d.lit.var ≡ e.lit.var → p ≡ q
   pub reasons : (q : ℕ) (e : Entry) (id : ℕ) → IsAt trail q e → e.reason ≡ Some id
@@ -34,7 +34,7 @@ pub record IsLastDecision (trail : List Entry) (at : ℕ) : Type 0 where
   pub decision : (e : Entry) × (IsAt trail at e × (e.reason ≡ None))
   pub implied : (q : ℕ) (e : Entry) → at < q → IsAt trail q e → IsSome e.reason
 
--- the clause is false but for a literal from the start on, and has another one of the level
+-- the clause has a literal that is false from the start on, and another one that became false at the level
 pub record IsAsserting (trail : List Entry) (clause : List Lit) (start level : ℕ) : Type 0 where
   pub one : Lit
   pub two : Lit
@@ -52,7 +52,7 @@ pub record IsAsserting (trail : List Entry) (clause : List Lit) (start level : �
   pub after : start ≤ at
   pub same : other.level ≡ level
 
--- where the search may go back to once it has the clause
+-- where the search may go back to once it has the clause: to the level at which another of its literals became false, or to 0
 abbrev pub IsJump : List Entry → List Lit → ℕ → ℕ → Type 0
 IsJump trail clause start level = (level ≡ 0) ⊎ IsAsserting trail clause start level
 

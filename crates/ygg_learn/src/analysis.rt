@@ -6,14 +6,13 @@ ghost use Rattle.ygg_chain.specs.Marks.{Fits, Marked, HasMarks};
 ghost use Rattle.ygg_trail.specs.Trail.{IsAt, IsFalseBefore, IsQuietBefore};
 ghost use Rattle.ygg_learn.specs.Learning.{IsSound, IsMarkedAt, ChainReaches, IsJump, IsReduced};
 
+use crate::marked::{entry_at, has_mark, is_marked_at, marked_below, marked_from};
+use crate::removal::{Removal, find};
 use std::alloc::Global;
 use ygg_chain::marks::{mark_all, resolve, unmark_all};
 use ygg_cnf::{Clause, Lit};
 use ygg_list::NoMemory;
 use ygg_trail::Entry;
-
-use crate::marked::{entry_at, has_mark, is_marked_at, marked_below, marked_from};
-use crate::removal::{Removal, find};
 
 /// The clause of a number, where clauses are numbered from 1.
 fn clause_at(clauses: &[Clause], id: u64) -> &Clause
@@ -41,7 +40,13 @@ fn resolve_at(marks: &mut [bool], clauses: &[Clause], trail: &[Entry], at: usize
 }
 
 /// Resolves the marked set with reasons, from the end of the trail on, until one place from `start` on is marked.
-fn resolve_to_one(marks: &mut [bool], clauses: &[Clause], trail: &[Entry], start: usize, chain: &mut Vec<u64>) -> Result<usize, NoMemory>
+fn resolve_to_one(
+    marks: &mut [bool],
+    clauses: &[Clause],
+    trail: &[Entry],
+    start: usize,
+    chain: &mut Vec<u64>,
+) -> Result<usize, NoMemory>
     requires sound { IsSound clauses.now trail.now }
     requires fits { All (All (Fits (length marks.old))) clauses.now }
     requires falses { (y : _) → Marked marks.old y → IsFalseBefore trail.now (length trail.now) y }
@@ -92,7 +97,16 @@ pub struct Learned {
 }
 
 /// Analyses a conflict: the clause of the given number is false on the trail.
-pub fn analyze(alloc: Global, marks: &mut [bool], clauses: &[Clause], trail: &[Entry], start: usize, conflict: u64, places: &[usize], removal: &mut Removal) -> Result<Learned, NoMemory>
+pub fn analyze(
+    alloc: Global,
+    marks: &mut [bool],
+    clauses: &[Clause],
+    trail: &[Entry],
+    start: usize,
+    conflict: u64,
+    places: &[usize],
+    removal: &mut Removal,
+) -> Result<Learned, NoMemory>
     requires sound { IsSound clauses.now trail.now }
     requires fits { All (All (Fits (length marks.old))) clauses.now }
     requires clear { HasMarks marks.old (λ _. ⊥) }
@@ -107,13 +121,24 @@ pub fn analyze(alloc: Global, marks: &mut [bool], clauses: &[Clause], trail: &[E
     ensures jump { IfOk result (λ learned. IsJump trail.now learned.clause start learned.level) }
     ensures clear { OnOk result (HasMarks marks.new (λ _. ⊥)) }
 {
-    let learned = learn(alloc, marks, clauses, trail, start, conflict, places, removal)?;
+    let learned = learn(
+        alloc, marks, clauses, trail, start, conflict, places, removal,
+    )?;
     unmark_all(marks, learned.clause.as_slice());
     Ok(learned)
 }
 
 /// Analyses a conflict, and leaves the literals of the learned clause marked.
-fn learn(alloc: Global, marks: &mut [bool], clauses: &[Clause], trail: &[Entry], start: usize, conflict: u64, places: &[usize], removal: &mut Removal) -> Result<Learned, NoMemory>
+fn learn(
+    alloc: Global,
+    marks: &mut [bool],
+    clauses: &[Clause],
+    trail: &[Entry],
+    start: usize,
+    conflict: u64,
+    places: &[usize],
+    removal: &mut Removal,
+) -> Result<Learned, NoMemory>
     requires sound { IsSound clauses.now trail.now }
     requires fits { All (All (Fits (length marks.old))) clauses.now }
     requires clear { HasMarks marks.old (λ _. ⊥) }
@@ -149,7 +174,12 @@ fn learn(alloc: Global, marks: &mut [bool], clauses: &[Clause], trail: &[Entry],
 }
 
 /// Resolves the marked set with reasons until nothing is marked.
-fn resolve_rest(marks: &mut [bool], clauses: &[Clause], trail: &[Entry], chain: &mut Vec<u64>) -> Result<(), NoMemory>
+fn resolve_rest(
+    marks: &mut [bool],
+    clauses: &[Clause],
+    trail: &[Entry],
+    chain: &mut Vec<u64>,
+) -> Result<(), NoMemory>
     requires sound { IsSound clauses.now trail.now }
     requires fits { All (All (Fits (length marks.old))) clauses.now }
     requires falses { (y : _) → Marked marks.old y → IsFalseBefore trail.now (length trail.now) y }
@@ -171,7 +201,13 @@ fn resolve_rest(marks: &mut [bool], clauses: &[Clause], trail: &[Entry], chain: 
 }
 
 /// The chain that derives the empty clause, where the clause of the given number is false and each literal is implied.
-pub fn refute(alloc: Global, marks: &mut [bool], clauses: &[Clause], trail: &[Entry], conflict: u64) -> Result<Vec<u64>, NoMemory>
+pub fn refute(
+    alloc: Global,
+    marks: &mut [bool],
+    clauses: &[Clause],
+    trail: &[Entry],
+    conflict: u64,
+) -> Result<Vec<u64>, NoMemory>
     requires sound { IsSound clauses.now trail.now }
     requires fits { All (All (Fits (length marks.old))) clauses.now }
     requires clear { HasMarks marks.old (λ _. ⊥) }
@@ -188,7 +224,16 @@ pub fn refute(alloc: Global, marks: &mut [bool], clauses: &[Clause], trail: &[En
 }
 
 /// Resolves the marked set with the reason of a marked place below `start`.
-fn remove_at(marks: &mut [bool], clauses: &[Clause], trail: &[Entry], start: usize, at: usize, place: usize, id: u64, chain: &mut Vec<u64>) -> Result<(), NoMemory>
+fn remove_at(
+    marks: &mut [bool],
+    clauses: &[Clause],
+    trail: &[Entry],
+    start: usize,
+    at: usize,
+    place: usize,
+    id: u64,
+    chain: &mut Vec<u64>,
+) -> Result<(), NoMemory>
     requires sound { IsSound clauses.now trail.now }
     requires fits { All (All (Fits (length marks.old))) clauses.now }
     requires below { place < start }
@@ -203,7 +248,15 @@ fn remove_at(marks: &mut [bool], clauses: &[Clause], trail: &[Entry], start: usi
 }
 
 /// Takes removable literals out of the marked set, whatever places are said to be removable.
-fn minimize(marks: &mut [bool], clauses: &[Clause], trail: &[Entry], start: usize, at: usize, removal: &Removal, chain: &mut Vec<u64>) -> Result<(), NoMemory>
+fn minimize(
+    marks: &mut [bool],
+    clauses: &[Clause],
+    trail: &[Entry],
+    start: usize,
+    at: usize,
+    removal: &Removal,
+    chain: &mut Vec<u64>,
+) -> Result<(), NoMemory>
     requires sound { IsSound clauses.now trail.now }
     requires within { start ≤ length trail.now }
     requires fits { All (All (Fits (length marks.old))) clauses.now }

@@ -1,30 +1,35 @@
 //! Which literals of a learned clause the others imply. All of it is advice: no proof rests on what it says.
 
+use crate::marked::has_mark;
 use std::alloc::Global;
 use ygg_cnf::Clause;
 use ygg_list::NoMemory;
 use ygg_trail::Entry;
 
-use crate::marked::has_mark;
-
 /// What is known of a place: nothing, that marked literals imply its literal, or that it was not found so.
 #[derive(Clone, Copy, Debug, PartialEq, Eq)]
-pub enum Known {
+enum Known {
     Nothing,
     Implied,
     Other,
 }
 
-/// Finds the places that the marked literals imply. What it says is advice: no proof rests on it.
+/// Finds the places of the trail whose literals follow from the other literals of a learned clause, as in the recursive
+/// minimization of Sörensson and Biere, with a stack in place of the recursion.
 #[derive(Drop)]
 pub struct Removal {
+    /// By place.
     known: Vec<Known>,
+    /// The places of which something is known, to forget them again.
     touched: Vec<usize>,
+    /// The places that are being asked for, each because of the one below it.
     stack: Vec<usize>,
+    /// By level, whether a marked literal is of it. A literal of another level is not implied.
     levels: Vec<bool>,
 }
 
 impl Removal {
+    /// Nothing is known. It takes no memory.
     pub fn new(alloc: Global) -> Removal {
         Removal {
             known: Vec::new(alloc),
@@ -39,8 +44,8 @@ impl Removal {
         known_at(self.known.as_slice(), place) == Known::Implied
     }
 
-    /// Forgets what was found, with room for so many places.
-    pub fn clear(&mut self, size: usize) -> Result<(), NoMemory> {
+    /// Forgets what was found, and makes room for so many places.
+    fn clear(&mut self, size: usize) -> Result<(), NoMemory> {
         for place in &self.touched {
             write_known(self.known.as_mut_slice(), *place, Known::Nothing);
         }
@@ -70,6 +75,7 @@ impl Removal {
         }
     }
 
+    /// Keeps what is known of a place.
     fn settle(&mut self, place: usize, known: Known) -> Result<(), NoMemory> {
         write_known(self.known.as_mut_slice(), place, known);
         self.touched.push(place)?;
@@ -77,7 +83,15 @@ impl Removal {
     }
 
     /// Asks for one marked place, in at most so many steps.
-    pub fn ask(&mut self, marks: &[bool], clauses: &[Clause], trail: &[Entry], places: &[usize], place: usize, steps: usize) -> Result<(), NoMemory> {
+    fn ask(
+        &mut self,
+        marks: &[bool],
+        clauses: &[Clause],
+        trail: &[Entry],
+        places: &[usize],
+        place: usize,
+        steps: usize,
+    ) -> Result<(), NoMemory> {
         self.stack.clear();
         self.stack.push(place)?;
         for _ in 0..steps {
@@ -103,7 +117,14 @@ impl Removal {
     }
 
     /// Looks at the reason of a place.
-    fn step(&self, marks: &[bool], clauses: &[Clause], trail: &[Entry], places: &[usize], place: usize) -> Next {
+    fn step(
+        &self,
+        marks: &[bool],
+        clauses: &[Clause],
+        trail: &[Entry],
+        places: &[usize],
+        place: usize,
+    ) -> Next {
         let Some(entry) = trail.get(place) else {
             return Next::Other;
         };
@@ -139,7 +160,7 @@ impl Removal {
     }
 }
 
-/// What to do with a place.
+/// What the look at a place's reason came to: its literal is implied, is not found to be, or hangs on another place.
 #[derive(Clone, Copy, Debug)]
 enum Next {
     Implied,
@@ -147,6 +168,7 @@ enum Next {
     Ask(usize),
 }
 
+/// What is known of a place.
 fn known_at(known: &[Known], place: usize) -> Known {
     match known.get(place) {
         Some(is) => *is,
@@ -154,14 +176,22 @@ fn known_at(known: &[Known], place: usize) -> Known {
     }
 }
 
+/// Keeps what is known of a place that has room.
 fn write_known(known: &mut [Known], place: usize, now: Known) {
     if let Some(slot) = known.get_mut(place) {
         *slot = now;
     }
 }
 
-/// Asks for each marked place below `start`.
-pub fn find(removal: &mut Removal, marks: &[bool], clauses: &[Clause], trail: &[Entry], places: &[usize], start: usize) -> Result<(), NoMemory> {
+/// Finds which marked places below `start` are implied. Its only error is want of memory.
+pub fn find(
+    removal: &mut Removal,
+    marks: &[bool],
+    clauses: &[Clause],
+    trail: &[Entry],
+    places: &[usize],
+    start: usize,
+) -> Result<(), NoMemory> {
     removal.clear(trail.len())?;
     for entry in trail {
         if has_mark(marks, entry.lit.complement()) {

@@ -58,7 +58,12 @@ impl Order {
         }
         let place = read_place(self.places.as_slice(), var);
         if place < self.heap.len() {
-            rise(self.activity.as_slice(), self.heap.as_mut_slice(), self.places.as_mut_slice(), place);
+            rise(
+                self.activity.as_slice(),
+                self.heap.as_mut_slice(),
+                self.places.as_mut_slice(),
+                place,
+            );
         }
     }
 
@@ -86,7 +91,12 @@ impl Order {
         let place = self.heap.len();
         self.heap.push(var)?;
         write_place(self.places.as_mut_slice(), var, place);
-        rise(self.activity.as_slice(), self.heap.as_mut_slice(), self.places.as_mut_slice(), place);
+        rise(
+            self.activity.as_slice(),
+            self.heap.as_mut_slice(),
+            self.places.as_mut_slice(),
+            place,
+        );
         Ok(())
     }
 
@@ -98,12 +108,17 @@ impl Order {
         if let Some(slot) = self.heap.first_mut() {
             *slot = last;
             write_place(self.places.as_mut_slice(), last, 0);
-            sink(self.activity.as_slice(), self.heap.as_mut_slice(), self.places.as_mut_slice());
+            sink(
+                self.activity.as_slice(),
+                self.heap.as_mut_slice(),
+                self.places.as_mut_slice(),
+            );
         }
         Some(first)
     }
 }
 
+/// The number at a place, or 0 past the end.
 fn read(numbers: &[u64], at: usize) -> u64 {
     match numbers.get(at) {
         Some(number) => *number,
@@ -111,6 +126,7 @@ fn read(numbers: &[u64], at: usize) -> u64 {
     }
 }
 
+/// The value at a place, or false past the end.
 fn read_bool(values: &[bool], at: usize) -> bool {
     match values.get(at) {
         Some(value) => *value,
@@ -118,6 +134,7 @@ fn read_bool(values: &[bool], at: usize) -> bool {
     }
 }
 
+/// The place of a variable in the heap, or `usize::MAX` where it has none.
 fn read_place(places: &[usize], at: usize) -> usize {
     match places.get(at) {
         Some(place) => *place,
@@ -125,12 +142,14 @@ fn read_place(places: &[usize], at: usize) -> usize {
     }
 }
 
+/// Writes a number, where there is room for it.
 fn write(numbers: &mut [u64], at: usize, number: u64) {
     if let Some(slot) = numbers.get_mut(at) {
         *slot = number;
     }
 }
 
+/// Writes a place, where there is room for it.
 fn write_place(places: &mut [usize], at: usize, place: usize) {
     if let Some(slot) = places.get_mut(at) {
         *slot = place;

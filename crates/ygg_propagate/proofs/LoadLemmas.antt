@@ -14,5 +14,5 @@ pub bound_more : (clauses : List (List Lit)) (i : ℕ) (d : List Lit) (old new :
     → All (λ w. All (λ (x : Lit). x.var ≤ new) w) (take (i + 1) clauses)
 bound_more clauses i d old new l le a h =
     All-more (λ w. All (λ (x : Lit). x.var ≤ new) w) clauses i d l
-      (All-weaker (λ w. All (λ (x : Lit). x.var ≤ old) w) (λ w. All (λ (x : Lit). x.var ≤ new) w)
-        (λ w b. All-weaker (λ (x : Lit). x.var ≤ old) (λ (x : Lit). x.var ≤ new) (λ x k. omega (arith, k, le)) w b) (take i clauses) a) h
+    (All-weaker (λ w. All (λ (x : Lit). x.var ≤ old) w) (λ w. All (λ (x : Lit). x.var ≤ new) w)
+    (λ w b. All-weaker (λ (x : Lit). x.var ≤ old) (λ (x : Lit). x.var ≤ new) (λ x k. omega (arith, k, le)) w b) (take i clauses) a) h

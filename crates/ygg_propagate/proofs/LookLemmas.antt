@@ -52,16 +52,22 @@ spreads_none p = ([], (tt, subst (λ (t : List Entry). let q : Propagation = rec
 
 implies_more : (p : Propagation) (added : List Entry) (e : Entry) → Implies p added → IsImplied (record p { trail = p.trail ++ added }) e → Implies p (added ++ e ∷ [])
 implies_more p [] e i is = (subst (λ (t : List Entry). IsImplied (record p { trail = t }) e) (append-nil p.trail) is, tt)
-implies_more p (d ∷ added) e (first, i) is =
-    (first, implies_more (record p { trail = p.trail ++ d ∷ [] }) added e i
-      (subst (λ (t : List Entry). IsImplied (record p { trail = t }) e) (sym (append_assoc p.trail (d ∷ []) added)) is))
+implies_more p (d ∷ added) e (first, i) is = (
+  first,
+  implies_more (record p { trail = p.trail ++ d ∷ [] }) added e i
+      (subst (λ (t : List Entry). IsImplied (record p { trail = t }) e) (sym (append_assoc p.trail (d ∷ []) added)) is),
+)
 
 -- one more literal is implied
 pub spreads_more : (old now : Propagation) (e : Entry) → Spreads old now → IsImplied now e → Spreads old (record now { trail = now.trail ++ e ∷ [] })
-spreads_more old now e (added, (i, is)) implied =
-    (added ++ e ∷ [], (implies_more old added e i (subst (λ (p : Propagation). IsImplied p e) is implied),
-      ap (λ (p : Propagation). let q : Propagation = record p { trail = p.trail ++ e ∷ [] } in q) is
-        ∙ ap (λ (t : List Entry). let q : Propagation = record old { trail = t } in q) (append_assoc old.trail added (e ∷ []))))
+spreads_more old now e (added, (i, is)) implied = (
+  added ++ e ∷ [],
+  (
+    implies_more old added e i (subst (λ (p : Propagation). IsImplied p e) is implied),
+    ap (λ (p : Propagation). let q : Propagation = record p { trail = p.trail ++ e ∷ [] } in q) is
+        ∙ ap (λ (t : List Entry). let q : Propagation = record old { trail = t } in q) (append_assoc old.trail added (e ∷ [])),
+  ),
+)
 
 -- the literal of a unit clause is implied
 pub unit_implied : (p : Propagation) (id : ℕ) (x : Lit) (clause : List Lit) → HasClause p.clauses id clause → IsUnit clause p.trail x → x.var < p.room
@@ -96,7 +102,7 @@ pub part_first : (clause : List Lit) (trail : List Entry) (i : ℕ) (d : Lit) �
 part_first clause trail i d l was f = record {
   seen = λ y c. ⊎_elim (λ b. ⊎_elim (λ n. inl n) (λ e. absurd (none_not y e)) (was.seen y b)) (λ e. inr (ap Some (sym e))) ((contains_more clause i d l y).0 c);
   found = λ x e. let s : get_or clause i d ≡ x = same_Some (get_or clause i d) x e in
-    (subst (Contains clause) s (Contains-get_or clause i d l), subst (IsFree trail) s f);
+      (subst (Contains clause) s (Contains-get_or clause i d l), subst (IsFree trail) s f);
 }
 
 pub part_same : (clause : List Lit) (trail : List Entry) (i : ℕ) (d : Lit) (free : Option Lit) (x : Lit) → i < length clause → IsPart clause trail i free → free ≡ Some x
@@ -127,8 +133,8 @@ within_of clauses room zero clause x a h c = absurd h
 within_of clauses room (suc i) clause x a h c =
     let l : i < length clauses = slice_get_within clauses i clause h in
     All-contains (λ (y : Lit). y.var < room) clause x
-      (subst (λ (w : List Lit). All (λ (y : Lit). y.var < room) w) (get_or_from_slice_get clauses i clause clause h)
-        (All-get_or (λ w. All (λ (y : Lit). y.var < room) w) clauses i clause l a)) c
+    (subst (λ (w : List Lit). All (λ (y : Lit). y.var < room) w) (get_or_from_slice_get clauses i clause clause h)
+    (All-get_or (λ w. All (λ (y : Lit). y.var < room) w) clauses i clause l a)) c
 
 -- the step of a unit clause
 pub step_spreads : (old now : Propagation) (id : ℕ) (x : Lit) (clause : List Lit) → Spreads old now → HasClause now.clauses id clause → IsUnit clause now.trail x
@@ -151,10 +157,10 @@ open_not_false : (clause : List Lit) (trail : List Entry) (room : ℕ) → IsTra
     → ((y : Lit) → Contains clause y → IsFalse trail y) → ⊥
 open_not_false clause trail room t o f =
     ⊎_elim
-      (λ (k, x, l, e, h). let (q, (d, (w, (is, same)))) = assigned_at trail (length trail) x h in
-        not_both_on trail room x t (q, (d, (is, same))) (on_of_false trail x (f x (k, l, e))))
-      (λ (x, (y, (cx, cy, d, nx, ny))). nx (in_before trail (length trail) x (f x cx)))
-      o
+    (λ (k, x, l, e, h). let (q, (d, (w, (is, same)))) = assigned_at trail (length trail) x h in
+    not_both_on trail room x t (q, (d, (is, same))) (on_of_false trail x (f x (k, l, e))))
+    (λ (x, (y, (cx, cy, d, nx, ny))). nx (in_before trail (length trail) x (f x cx)))
+    o
 
 open_at : (clauses : List (List Lit)) (set : List Lit) (id : ℕ) (clause : List Lit) → All (IsOpen set) clauses → HasClause clauses id clause → IsOpen set clause
 open_at clauses set zero clause a h = absurd h
@@ -176,6 +182,17 @@ conflict_exact clauses trail found id e k = ((λ q. absurd (let both = sym e ∙
 -- an entry gives its variable's value
 pub has_value : (trail : List Entry) (var : ℕ) (e : Entry) → e.lit.var ≡ var → (q : ℕ) × IsAt trail q e
     → HasValue trail var (record { value = not e.lit.negated; level = e.level; reason = e.reason })
-has_value trail var e v (q, h) =
-    (q, (e, (h, (same_lit e.lit (record { var = var; negated = not (not e.lit.negated) }) v
-      (elim e.lit.negated as (λ b. b ≡ not (not b)) [ true ↦ refl | false ↦ refl ]), (refl, refl)))))
+has_value trail var e v (q, h) = (
+  q,
+  (
+    e,
+    (
+      h,
+      (
+        same_lit e.lit (record { var = var; negated = not (not e.lit.negated) }) v
+            (elim e.lit.negated as (λ b. b ≡ not (not b)) [ true ↦ refl | false ↦ refl ]),
+        (refl, refl),
+      ),
+    ),
+  ),
+)

@@ -65,4 +65,4 @@ IsConflict clauses trail id = (clause : List Lit) × (HasClause clauses id claus
 abbrev pub HasValue : List Entry → ℕ → Assigned → Type 0
 HasValue trail var assigned =
     (q : ℕ) × ((e : Entry) × (IsAt trail q e
-        × ((e.lit ≡ record { var = var; negated = not assigned.value }) × ((e.level ≡ assigned.level) × (e.reason ≡ assigned.reason)))))
+    × ((e.lit ≡ record { var = var; negated = not assigned.value }) × ((e.level ≡ assigned.level) × (e.reason ≡ assigned.reason)))))

@@ -1,10 +1,9 @@
 ghost use Rattle.std.specs.Prelude.{◌≡◌, ◌≤◌, [], All, IfOk, OnOk};
 ghost use Rattle.ygg_propagate.specs.Propagation.{IsWithin, IsFresh};
 
+use crate::propagate::Propagate;
 use ygg_cnf::{Clauses, Lit};
 use ygg_list::NoMemory;
-
-use crate::propagate::Propagate;
 
 /// The greatest variable of a clause, or the given one where that is greater.
 fn greatest(clause: &[Lit], least: u64) -> u64

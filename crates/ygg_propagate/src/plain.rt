@@ -2,15 +2,14 @@ ghost use Rattle.std.specs.Prelude.{◌≡◌, [], All, IfOk};
 ghost use Rattle.ygg_propagate.specs.Propagation.{IsWithin, IsFresh};
 ghost use Rattle.ygg_propagate.specs.Look.{state_of};
 
-use std::alloc::Global;
-use ygg_cnf::{Clause, Clauses, Lit};
-use ygg_list::NoMemory;
-use ygg_trail::{Assignments, Entry};
-
 use crate::found::{Assigned, Found};
 use crate::loading::{load, room_for};
 use crate::propagate::{Propagate, Trail};
 use crate::spreading::spread;
+use std::alloc::Global;
+use ygg_cnf::{Clause, Clauses, Lit};
+use ygg_list::NoMemory;
+use ygg_trail::{Assignments, Entry};
 
 /// Propagation that looks at every clause for each literal that it finds.
 #[derive(Drop)]

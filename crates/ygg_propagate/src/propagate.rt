@@ -2,11 +2,10 @@ ghost use Rattle.std.specs.Prelude.{◌≡◌, ◌<◌, ◌≤◌, ◌↔◌, �
 ghost use Rattle.ygg_trail.specs.Trail.{IsAssigned, IsQuietBefore};
 ghost use Rattle.ygg_propagate.specs.Propagation.{Propagation, IsWithin, with_clause, decided, Spreads, back_to, IsConflict, HasValue};
 
+use crate::found::{Assigned, Found};
 use ygg_cnf::{Clause, Lit};
 use ygg_list::NoMemory;
 use ygg_trail::Entry;
-
-use crate::found::{Assigned, Found};
 
 /// Holds clauses and assigned literals, and finds what they imply. Its calls may come in any order that their conditions
 /// allow. All but `add` take no memory.

@@ -3,11 +3,10 @@ ghost use Rattle.ygg_trail.specs.Trail.{IsQuietBefore};
 ghost use Rattle.ygg_propagate.specs.Propagation.{IsWithin, Spreads, IsConflict};
 ghost use Rattle.ygg_propagate.specs.Look.{IsScanned, state_of};
 
-use ygg_cnf::{Clause, Lit};
-use ygg_trail::Assignments;
-
 use crate::found::Found;
 use crate::look::{Look, look_at};
+use ygg_cnf::{Clause, Lit};
+use ygg_trail::Assignments;
 
 /// The first clause that is false or has a single literal left, with its number.
 #[derive(Clone, Copy, Debug)]

@@ -19,19 +19,19 @@ failing_le f g zero h = omega arith
 failing_le f g (suc n) h =
     let r = failing_le f g n h in
     ⊎_elim (λ t. rw (t, h n t) (omega (arith, r)))
-      (λ u. rw u (elim (g n) as (λ b. cond b 0 1 + failing g n ≤ 1 + failing f n) [ true ↦ omega (arith, r) | false ↦ omega (arith, r) ])) (cases_Bool (f n))
+    (λ u. rw u (elim (g n) as (λ b. cond b 0 1 + failing g n ≤ 1 + failing f n) [ true ↦ omega (arith, r) | false ↦ omega (arith, r) ])) (cases_Bool (f n))
 
 -- and less often where it passes once more
 pub failing_lt : (f g : ℕ → Bool) (n v : ℕ) → ((w : ℕ) → f w ≡ true → g w ≡ true) → v < n → f v ≡ false → g v ≡ true → failing g n < failing f n
 failing_lt f g zero v h l u t = absurd (omega arith)
 failing_lt f g (suc n) v h l u t =
     ⊎_elim
-      (λ e. let a : f n ≡ false = subst (λ w. f w ≡ false) e u in let b : g n ≡ true = subst (λ w. g w ≡ true) e t in
-        rw (a, b) (let r = failing_le f g n h in omega (arith, r)))
-      (λ d. let r = failing_lt f g n v h (omega arith) u t in
-        ⊎_elim (λ y. rw (y, h n y) (omega (arith, r)))
-          (λ z. rw z (elim (g n) as (λ b. cond b 0 1 + failing g n < 1 + failing f n) [ true ↦ omega (arith, r) | false ↦ omega (arith, r) ])) (cases_Bool (f n)))
-      (cases_eq v n)
+    (λ e. let a : f n ≡ false = subst (λ w. f w ≡ false) e u in let b : g n ≡ true = subst (λ w. g w ≡ true) e t in
+    rw (a, b) (let r = failing_le f g n h in omega (arith, r)))
+    (λ d. let r = failing_lt f g n v h (omega arith) u t in
+    ⊎_elim (λ y. rw (y, h n y) (omega (arith, r)))
+    (λ z. rw z (elim (g n) as (λ b. cond b 0 1 + failing g n < 1 + failing f n) [ true ↦ omega (arith, r) | false ↦ omega (arith, r) ])) (cases_Bool (f n)))
+    (cases_eq v n)
 
 assigned_push : (trail : List Entry) (e : Entry) (v : ℕ) → is_assigned trail v ≡ true → is_assigned (trail ++ e ∷ []) v ≡ true
 assigned_push [] e v h = absurd (false≢true h)
@@ -47,7 +47,7 @@ pub left_decided : (p : Propagation) (x : Lit) → x.var < p.room → (IsAssigne
 unfolding left
 left_decided p x l n =
     failing_lt (is_assigned p.trail) (is_assigned (decided p x).trail) p.room x.var
-      (λ w. assigned_push p.trail _ w) l (not_assigned p.trail x.var n) (assigned_last p.trail _)
+    (λ w. assigned_push p.trail _ w) l (not_assigned p.trail x.var n) (assigned_last p.trail _)
 
 pub left_implied : (p : Propagation) (added : List Entry) → Implies p added → left (record p { trail = p.trail ++ added }) ≤ left p
 unfolding left

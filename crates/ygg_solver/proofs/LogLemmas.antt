@@ -15,16 +15,20 @@ append-nil (x ∷ xs) = ap (λ l. x ∷ l) (append-nil xs)
 pub derives_push : (clauses : List (List Lit)) (log : List Step) (step : Step) → Derives clauses log
     → DerivesClause (HasClause (clauses ++ map clause_of log)) (chain_of step) (clause_of step) → Derives clauses (log ++ step ∷ [])
 derives_push clauses [] step h d = (subst (λ l. DerivesClause (HasClause l) (chain_of step) (clause_of step)) (append-nil clauses) d, tt)
-derives_push clauses (s ∷ log) step h d =
-    (h.0, derives_push (clauses ++ clause_of s ∷ []) log step h.1
-      (subst (λ l. DerivesClause (HasClause l) (chain_of step) (clause_of step)) (sym (append_assoc clauses (clause_of s ∷ []) (map clause_of log))) d))
+derives_push clauses (s ∷ log) step h d = (
+  h.0,
+  derives_push (clauses ++ clause_of s ∷ []) log step h.1
+      (subst (λ l. DerivesClause (HasClause l) (chain_of step) (clause_of step)) (sym (append_assoc clauses (clause_of s ∷ []) (map clause_of log))) d),
+)
 
 pub teaches_push : (clauses : List (List Lit)) (log : List Step) (step : Step) → EachTeaches clauses log
     → Teaches (clauses ++ map clause_of log) (clause_of step) → EachTeaches clauses (log ++ step ∷ [])
 teaches_push clauses [] step h d = (subst (λ l. Teaches l (clause_of step)) (append-nil clauses) d, tt)
-teaches_push clauses (s ∷ log) step h d =
-    (h.0, teaches_push (clauses ++ clause_of s ∷ []) log step h.1
-      (subst (λ l. Teaches l (clause_of step)) (sym (append_assoc clauses (clause_of s ∷ []) (map clause_of log))) d))
+teaches_push clauses (s ∷ log) step h d = (
+  h.0,
+  teaches_push (clauses ++ clause_of s ∷ []) log step h.1
+      (subst (λ l. Teaches l (clause_of step)) (sym (append_assoc clauses (clause_of s ∷ []) (map clause_of log))) d),
+)
 
 pub map_push : (log : List Step) (step : Step) → map clause_of (log ++ step ∷ []) ≡ map clause_of log ++ clause_of step ∷ []
 map_push [] step = refl

@@ -22,9 +22,9 @@ found_entry : (trail : List Entry) (v : ℕ) → is_assigned trail v ≡ true
 found_entry [] v h = absurd (false≢true h)
 found_entry (d ∷ trail) v h =
     ⊎_elim
-      (λ t. (0, (d, (refl, (eqb-true d.lit.var v t, rw t refl)))))
-      (λ u. let (q, (e, (k, (s, w)))) = found_entry trail v (rw u at h) in (suc q, (e, (k, (s, rw u w)))))
-      (cases_Bool (eqb d.lit.var v))
+    (λ t. (0, (d, (refl, (eqb-true d.lit.var v t, rw t refl)))))
+    (λ u. let (q, (e, (k, (s, w)))) = found_entry trail v (rw u at h) in (suc q, (e, (k, (s, rw u w)))))
+    (cases_Bool (eqb d.lit.var v))
 
 satisfied_at : (clauses : List (List Lit)) (trail : List Entry) (q : ℕ) (e : Entry) → IsSound clauses trail → IsAt trail q e → Satisfies (trail_value trail) e.lit
 satisfied_at clauses trail q e s h =
@@ -38,16 +38,16 @@ pub satisfies_open : (clauses : List (List Lit)) (trail : List Entry) (clause : 
     → IsOpen (assigned_before trail (length trail)) clause → SatisfiesClause (trail_value trail) clause
 satisfies_open clauses trail clause s all o =
     ⊎_elim
-      (λ (k, x, l, e, t). let (q, (d, (w, (h, same)))) = assigned_at trail (length trail) x t in
-        (k, x, l, e, subst (Satisfies (trail_value trail)) same (satisfied_at clauses trail q d s h)))
-      (λ (x, (y, (cx, cy, d, nx, ny))).
-        let (q, (e, (h, (v, w)))) = found_entry trail x.var (all x cx) in
-        let l = entry_within trail q e h in
-        let is : e.lit ≡ x = ⊎_elim (λ i. i)
-            (λ i. absurd (nx (subst (Contains (assigned_before trail (length trail))) i (assigned_has trail q (length trail) e l h))))
-            (same_or_complement e.lit x v) in
-        (cx.0, x, cx.1, cx.2, subst (Satisfies (trail_value trail)) is (satisfied_at clauses trail q e s h)))
-      o
+    (λ (k, x, l, e, t). let (q, (d, (w, (h, same)))) = assigned_at trail (length trail) x t in
+    (k, x, l, e, subst (Satisfies (trail_value trail)) same (satisfied_at clauses trail q d s h)))
+    (λ (x, (y, (cx, cy, d, nx, ny))).
+    let (q, (e, (h, (v, w)))) = found_entry trail x.var (all x cx) in
+    let l = entry_within trail q e h in
+    let is : e.lit ≡ x = ⊎_elim (λ i. i)
+    (λ i. absurd (nx (subst (Contains (assigned_before trail (length trail))) i (assigned_has trail q (length trail) e l h))))
+    (same_or_complement e.lit x v) in
+    (cx.0, x, cx.1, cx.2, subst (Satisfies (trail_value trail)) is (satisfied_at clauses trail q e s h)))
+    o
 
 all_front : {X : Type 0} (P : X → Type 0) (xs ys : List X) → All P (xs ++ ys) → All P xs
 all_front P [] ys a = λ k d l. absurd (omega arith)
@@ -59,11 +59,11 @@ satisfies_each : (clauses : List (List Lit)) (trail : List Entry) (room : ℕ) (
 satisfies_each clauses trail room [] s v o all = λ k d l. absurd (omega arith)
 satisfies_each clauses trail room (c ∷ cs) s v o all =
     All-cons (SatisfiesClause (trail_value trail)) c cs
-      (satisfies_open clauses trail c s
-        (λ x h. all x.var (All-contains (λ (z : Lit). z.var < room) c x (All-head (λ w. All (λ (z : Lit). z.var < room) w) c cs v) h))
-        (All-head (IsOpen (assigned_before trail (length trail))) c cs o))
-      (satisfies_each clauses trail room cs s (All-tail (λ w. All (λ (z : Lit). z.var < room) w) c cs v)
-        (All-tail (IsOpen (assigned_before trail (length trail))) c cs o) all)
+    (satisfies_open clauses trail c s
+    (λ x h. all x.var (All-contains (λ (z : Lit). z.var < room) c x (All-head (λ w. All (λ (z : Lit). z.var < room) w) c cs v) h))
+    (All-head (IsOpen (assigned_before trail (length trail))) c cs o))
+    (satisfies_each clauses trail room cs s (All-tail (λ w. All (λ (z : Lit). z.var < room) w) c cs v)
+    (All-tail (IsOpen (assigned_before trail (length trail))) c cs o) all)
 
 pub satisfies_front : (p : Propagation) (given learned : List (List Lit)) (room : ℕ) → p.clauses ≡ given ++ learned → IsReady p
     → All (λ w. All (λ (x : Lit). x.var < room) w) (given ++ learned)
@@ -71,8 +71,8 @@ pub satisfies_front : (p : Propagation) (given learned : List (List Lit)) (room 
     → SatisfiesAll (trail_value p.trail) given
 satisfies_front p given learned room e r v q all =
     all_front (SatisfiesClause (trail_value p.trail)) given learned
-      (satisfies_each p.clauses p.trail room (given ++ learned) r.sound v
-        (subst (λ (l : List (List Lit)). All (IsOpen (assigned_before p.trail (length p.trail))) l) e q) all)
+    (satisfies_each p.clauses p.trail room (given ++ learned) r.sound v
+    (subst (λ (l : List (List Lit)). All (IsOpen (assigned_before p.trail (length p.trail))) l) e q) all)
 
 not_at : (trail : List Entry) (v : ℕ) → ((q : ℕ) (e : Entry) → IsAt trail q e → e.lit.var ≢ v) → is_assigned trail v ≡ false
 not_at [] v n = refl
@@ -118,9 +118,14 @@ pub value_more : (trail : List Entry) (i : ℕ) (e : Entry) → IsAt trail i e
 value_more trail i e h distinct v =
     let more : take (i + 1) trail ≡ take i trail ++ e ∷ [] = take_more trail i e (entry_within trail i e h) ∙ ap (λ (z : Entry). take i trail ++ z ∷ []) (get_or_from_slice_get trail i e e h) in
     let fresh : is_assigned (take i trail) e.lit.var ≡ false = not_at (take i trail) e.lit.var (λ q d g s.
-      let a = front_at trail i q d g in let p : q ≡ i = distinct q i d e a.1 h s in let b = a.0 in omega (arith, p, b)) in
+    let a = front_at trail i q d g in let p : q ≡ i = distinct q i d e a.1 h s in let b = a.0 in omega (arith, p, b)) in
     ⊎_elim
-      (λ s. inr (s, (subst (λ n. trail_value (take (i + 1) trail) n ≡ not e.lit.negated) s (ap (λ (t : List Entry). trail_value t e.lit.var) more ∙ value_last (take i trail) e fresh),
-        subst (λ n. trail_value (take i trail) n ≡ false) s (value_none (take i trail) e.lit.var fresh))))
-      (λ d. inl (d, ap (λ (t : List Entry). trail_value t v) more ∙ value_other (take i trail) e v d))
-      (cases_eq e.lit.var v)
+    (λ s. inr (
+      s,
+      (
+        subst (λ n. trail_value (take (i + 1) trail) n ≡ not e.lit.negated) s (ap (λ (t : List Entry). trail_value t e.lit.var) more ∙ value_last (take i trail) e fresh),
+        subst (λ n. trail_value (take i trail) n ≡ false) s (value_none (take i trail) e.lit.var fresh),
+      ),
+    ))
+    (λ d. inl (d, ap (λ (t : List Entry). trail_value t v) more ∙ value_other (take i trail) e v d))
+    (cases_eq e.lit.var v)

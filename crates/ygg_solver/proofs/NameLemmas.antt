@@ -53,7 +53,7 @@ placed_same variables x l = same_lit (renamed variables x) (literal_at variables
 once_placed : (variables : List ℕ) → IsDistinct variables → (x y : Lit) → IsPlaced variables x → IsPlaced variables y → renamed variables x ≡ renamed variables y → x ≡ y
 once_placed variables distinct x y l m e =
     stands_once variables distinct x y (literal_at variables y)
-      (l, sym (placed_same variables x l) ∙ (e ∙ placed_same variables y m)) (m, refl)
+    (l, sym (placed_same variables x l) ∙ (e ∙ placed_same variables y m)) (m, refl)
 
 apart : (variables : List ℕ) (v w : ℕ) → v < length variables → length variables ≤ w → new_name variables v ≡ new_name variables w → ⊥
 apart variables v w l g e =
@@ -62,12 +62,12 @@ apart variables v w l g e =
 pub is_renaming : (variables : List ℕ) → IsDistinct variables → IsRenaming (renamed variables)
 is_renaming variables distinct = record {
   once = λ x y e.
-    let v : new_name variables x.var ≡ new_name variables y.var = ap (λ (z : Lit). z.var) e in
-    ⊎_elim
+      let v : new_name variables x.var ≡ new_name variables y.var = ap (λ (z : Lit). z.var) e in
+      ⊎_elim
       (λ l. ⊎_elim (λ m. once_placed variables distinct x y l m e) (λ g. absurd (apart variables x.var y.var l g v)) (cases_lt y.var (length variables)))
       (λ g. ⊎_elim (λ m. absurd (apart variables y.var x.var m g (sym v)))
-        (λ h. let a = name_past variables x.var g in let b = name_past variables y.var h in
-          same_lit x y (omega (arith, a, b, v)) (ap (λ (z : Lit). z.negated) e)) (cases_lt y.var (length variables)))
+      (λ h. let a = name_past variables x.var g in let b = name_past variables y.var h in
+      same_lit x y (omega (arith, a, b, v)) (ap (λ (z : Lit). z.negated) e)) (cases_lt y.var (length variables)))
       (cases_lt x.var (length variables));
   turns = λ x. refl;
 }
@@ -92,15 +92,15 @@ pub refutes_named : (variables : List ℕ) → IsDistinct variables → (clauses
     → All (All (IsPlaced variables)) (map clause_of log) → Refutes clauses log → Refutes (clauses_at variables clauses) (log_at variables log)
 refutes_named variables distinct clauses log a b f =
     subst (λ (l : List Step). Refutes (clauses_at variables clauses) l) (log_same variables log b)
-      (subst (λ (c : List (List Lit)). Refutes c (map (renamed_step (renamed variables)) log)) (clauses_same variables clauses a)
-        (refutes_renamed (renamed variables) (is_renaming variables distinct) clauses log f))
+    (subst (λ (c : List (List Lit)). Refutes c (map (renamed_step (renamed variables)) log)) (clauses_same variables clauses a)
+    (refutes_renamed (renamed variables) (is_renaming variables distinct) clauses log f))
 
 pub spent_named : (variables : List ℕ) → IsDistinct variables → (clauses : List (List Lit)) (log : List Step) (budget : ℕ) → All (All (IsPlaced variables)) clauses
     → All (All (IsPlaced variables)) (map clause_of log) → SpentLog clauses log budget → SpentLog (clauses_at variables clauses) (log_at variables log) budget
 spent_named variables distinct clauses log budget a b s =
     subst (λ (l : List Step). SpentLog (clauses_at variables clauses) l budget) (log_same variables log b)
-      (subst (λ (c : List (List Lit)). SpentLog c (map (renamed_step (renamed variables)) log) budget) (clauses_same variables clauses a)
-        (spent_renamed (renamed variables) (is_renaming variables distinct) clauses log budget s))
+    (subst (λ (c : List (List Lit)). SpentLog c (map (renamed_step (renamed variables)) log) budget) (clauses_same variables clauses a)
+    (spent_renamed (renamed variables) (is_renaming variables distinct) clauses log budget s))
 
 -- values by place and values by variable satisfy the same
 clause_satisfied : (variables : List ℕ) (f g : ℕ → Bool) → ((v : ℕ) → v < length variables → 0 < get_or variables v 0 → g (get_or variables v 0) ≡ f v) → (clause : List Lit) → All (IsPlaced variables) clause
@@ -115,8 +115,8 @@ pub satisfied_named : (variables : List ℕ) (f g : ℕ → Bool) → ((v : ℕ)
 satisfied_named variables f g e [] a n s = λ k d l. absurd (omega (arith, l))
 satisfied_named variables f g e (c ∷ cs) a n s =
     All-cons (SatisfiesClause g) (clause_at variables c) (clauses_at variables cs)
-      (clause_satisfied variables f g e c (All-head (All (IsPlaced variables)) c cs a) (All-head (All (λ (x : Lit). 0 < x.var)) (clause_at variables c) (clauses_at variables cs) n) (All-head (SatisfiesClause f) c cs s))
-      (satisfied_named variables f g e cs (All-tail (All (IsPlaced variables)) c cs a) (All-tail (All (λ (x : Lit). 0 < x.var)) (clause_at variables c) (clauses_at variables cs) n) (All-tail (SatisfiesClause f) c cs s))
+    (clause_satisfied variables f g e c (All-head (All (IsPlaced variables)) c cs a) (All-head (All (λ (x : Lit). 0 < x.var)) (clause_at variables c) (clauses_at variables cs) n) (All-head (SatisfiesClause f) c cs s))
+    (satisfied_named variables f g e cs (All-tail (All (IsPlaced variables)) c cs a) (All-tail (All (λ (x : Lit). 0 < x.var)) (clause_at variables c) (clauses_at variables cs) n) (All-tail (SatisfiesClause f) c cs s))
 
 -- clauses of places with one more
 pub numbered_more : (variables after more : List ℕ) → after ≡ variables ++ more → (kept clauses : List (List Lit)) (i : ℕ) (given new : List Lit) → i < length clauses
@@ -124,10 +124,11 @@ pub numbered_more : (variables after more : List ℕ) → after ≡ variables ++
     → All (IsPlaced after) new → clause_at after new ≡ given
     → All (All (IsPlaced after)) (kept ++ new ∷ []) × (clauses_at after (kept ++ new ∷ []) ≡ take (i + 1) clauses)
 numbered_more variables after more grows kept clauses i given new l placed same at here is =
-    let (stay, names) = kept_more variables after more grows kept placed in
-    (All-push (All (IsPlaced after)) kept new stay here,
-     map-append (clause_at after) kept (new ∷ []) ∙ (ap (λ l. l ++ clause_at after new ∷ []) (names ∙ same)
-       ∙ (ap (λ x. take i clauses ++ x ∷ []) (is ∙ at) ∙ sym (take_more clauses i given l))))
+    let (stay, names) = kept_more variables after more grows kept placed in (
+      All-push (All (IsPlaced after)) kept new stay here,
+      map-append (clause_at after) kept (new ∷ []) ∙ (ap (λ l. l ++ clause_at after new ∷ []) (names ∙ same)
+          ∙ (ap (λ x. take i clauses ++ x ∷ []) (is ∙ at) ∙ sym (take_more clauses i given l))),
+    )
 
 -- an entry's clause is among those of its log
 pub placed_entry : (P : List Lit → Type 0) (log : List Step) (i : ℕ) (step : Step) → All P (map clause_of log) → i < length log → step ≡ get_or log i step → P (clause_of step)
@@ -146,15 +147,15 @@ module _ (variables : List ℕ) (distinct : IsDistinct variables) (trail : List 
       → (e.lit.negated ≡ true) ⊎ (get_or variables e.lit.var 0 ≡ 0) → GivesValues variables (take (i + 1) trail) values
   values_kept i e values at was none place l positive =
       ⊎_elim (λ a. was place l positive ∙ sym a.1)
-        (λ b. ⊎_elim (λ n. was place l positive ∙ (b.1.1 ∙ (ap not (sym n) ∙ sym b.1.0)))
-          (λ z. absurd (let same : get_or variables e.lit.var 0 ≡ get_or variables place 0 = ap (λ v. get_or variables v 0) b.0 in omega (arith, z, same, positive))) none)
-        (value_more trail i e at is.distinct place)
+      (λ b. ⊎_elim (λ n. was place l positive ∙ (b.1.1 ∙ (ap not (sym n) ∙ sym b.1.0)))
+      (λ z. absurd (let same : get_or variables e.lit.var 0 ≡ get_or variables place 0 = ap (λ v. get_or variables v 0) b.0 in omega (arith, z, same, positive))) none)
+      (value_more trail i e at is.distinct place)
 
   pub values_set : (i : ℕ) (e : Entry) (values after : List Bool) (variable : ℕ) → IsAt trail i e → GivesValues variables (take i trail) values
       → e.lit.negated ≡ false → variable ≡ get_or variables e.lit.var 0 → truth_of after variable ≡ true
       → ((v : ℕ) → v ≢ variable → truth_of after v ≡ truth_of values v) → GivesValues variables (take (i + 1) trail) after
   values_set i e values after variable at was n name here others place l positive =
       ⊎_elim
-        (λ a. others (get_or variables place 0) (λ q. apart_names place e.lit.var l (is.within i e at) (λ s. a.0 (sym s)) (q ∙ name)) ∙ (was place l positive ∙ sym a.1))
-        (λ b. ap (truth_of after) (ap (λ v. get_or variables v 0) (sym b.0) ∙ sym name) ∙ (here ∙ (ap not (sym n) ∙ sym b.1.0)))
-        (value_more trail i e at is.distinct place)
+      (λ a. others (get_or variables place 0) (λ q. apart_names place e.lit.var l (is.within i e at) (λ s. a.0 (sym s)) (q ∙ name)) ∙ (was place l positive ∙ sym a.1))
+      (λ b. ap (truth_of after) (ap (λ v. get_or variables v 0) (sym b.0) ∙ sym name) ∙ (here ∙ (ap not (sym n) ∙ sym b.1.0)))
+      (value_more trail i e at is.distinct place)

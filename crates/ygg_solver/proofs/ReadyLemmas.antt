@@ -41,32 +41,34 @@ ready_push : (p : Propagation) (e : Entry) (level : ℕ) → IsReady p → (IsAs
 ready_push p e level r fresh reason quiet above up within room = record {
   sound = record {
     distinct = λ i j c d h k v. ⊎_elim
-      (λ a. ⊎_elim (λ b. r.sound.distinct i j c d a b v)
+        (λ a. ⊎_elim (λ b. r.sound.distinct i j c d a b v)
         (λ b. absurd (fresh (fresh_place p.trail i c e.lit.var a (v ∙ ap (λ (z : Entry). z.lit.var) (sym b.1))))) (at_push p.trail e d j k))
-      (λ a. ⊎_elim (λ b. absurd (fresh (fresh_place p.trail j d e.lit.var b (sym v ∙ ap (λ (z : Entry). z.lit.var) (sym a.1)))))
+        (λ a. ⊎_elim (λ b. absurd (fresh (fresh_place p.trail j d e.lit.var b (sym v ∙ ap (λ (z : Entry). z.lit.var) (sym a.1)))))
         (λ b. a.0 ∙ sym b.0) (at_push p.trail e d j k))
-      (at_push p.trail e c i h);
+        (at_push p.trail e c i h);
     reasons = λ q d id h s. ⊎_elim
-      (λ a. let (clause, is) = r.sound.reasons q d id a s in (clause, reason_front p.clauses p.trail (e ∷ []) q id d.lit clause is))
-      (λ a. let (clause, is) = reason id (ap (λ (z : Entry). z.reason) a.1 ∙ s) in
-        (clause, subst (λ (z : Entry). IsReason p.clauses (p.trail ++ e ∷ []) q id z.lit clause) a.1
-          (subst (λ n. IsReason p.clauses (p.trail ++ e ∷ []) n id e.lit clause) (sym a.0) (reason_front p.clauses p.trail (e ∷ []) (length p.trail) id e.lit clause is))))
-      (at_push p.trail e d q h);
+        (λ a. let (clause, is) = r.sound.reasons q d id a s in (clause, reason_front p.clauses p.trail (e ∷ []) q id d.lit clause is))
+        (λ a. let (clause, is) = reason id (ap (λ (z : Entry). z.reason) a.1 ∙ s) in (
+          clause,
+          subst (λ (z : Entry). IsReason p.clauses (p.trail ++ e ∷ []) q id z.lit clause) a.1
+              (subst (λ n. IsReason p.clauses (p.trail ++ e ∷ []) n id e.lit clause) (sym a.0) (reason_front p.clauses p.trail (e ∷ []) (length p.trail) id e.lit clause is)),
+        ))
+        (at_push p.trail e d q h);
   };
   quiet = λ q d h n. ⊎_elim
-    (λ a. let l = entry_within p.trail q d a in quiet_front p.clauses p.trail (e ∷ []) q (omega (arith, l)) (r.quiet q d a n))
-    (λ a. subst (λ m. IsQuietBefore p.clauses (p.trail ++ e ∷ []) m) (sym a.0)
+      (λ a. let l = entry_within p.trail q d a in quiet_front p.clauses p.trail (e ∷ []) q (omega (arith, l)) (r.quiet q d a n))
+      (λ a. subst (λ m. IsQuietBefore p.clauses (p.trail ++ e ∷ []) m) (sym a.0)
       (quiet_front p.clauses p.trail (e ∷ []) (length p.trail) (omega arith) (quiet (ap (λ (z : Entry). z.reason) a.1 ∙ n))))
-    (at_push p.trail e d q h);
+      (at_push p.trail e d q h);
   rises = λ q s c d h k l n. ⊎_elim
-    (λ b. ⊎_elim (λ a. r.rises q s c d a b l n) (λ a. let w = entry_within p.trail s d b in absurd (omega (arith, a.0, w))) (at_push p.trail e c q h))
-    (λ b. ⊎_elim
+      (λ b. ⊎_elim (λ a. r.rises q s c d a b l n) (λ a. let w = entry_within p.trail s d b in absurd (omega (arith, a.0, w))) (at_push p.trail e c q h))
+      (λ b. ⊎_elim
       (λ a. let low = r.low q c a in let over = above (ap (λ (z : Entry). z.reason) b.1 ∙ n) in let same = ap (λ (z : Entry). z.level) b.1 in omega (arith, low, over, same))
       (λ a. absurd (omega (arith, a.0, b.0))) (at_push p.trail e c q h))
-    (at_push p.trail e d s k);
+      (at_push p.trail e d s k);
   low = λ q d h. ⊎_elim (λ a. let low = r.low q d a in omega (arith, low)) (λ a. subst (λ (z : Entry). z.level ≤ level) a.1 within) (at_push p.trail e d q h);
   above = λ q d h n. ⊎_elim (λ a. r.above q d a n)
-    (λ a. let over = above (ap (λ (z : Entry). z.reason) a.1 ∙ n) in let same = ap (λ (z : Entry). z.level) a.1 in omega (arith, over, same)) (at_push p.trail e d q h);
+      (λ a. let over = above (ap (λ (z : Entry). z.reason) a.1 ∙ n) in let same = ap (λ (z : Entry). z.level) a.1 in omega (arith, over, same)) (at_push p.trail e d q h);
   within = λ q d h. ⊎_elim (λ a. r.within q d a) (λ a. subst (λ (z : Entry). z.lit.var < p.room) a.1 room) (at_push p.trail e d q h);
 }
 
@@ -89,9 +91,9 @@ ready_implied p (e ∷ es) r (is, i) =
     let (id, (clause, (has, reason))) = is.reason in
     let p1 : Propagation = record p { trail = p.trail ++ e ∷ [] } in
     let one : IsReady p1 = ready_push p e p.level r is.fresh
-        (λ k h. (clause, subst (λ n. IsReason p.clauses p.trail (length p.trail) n e.lit clause) (same_Some id k (sym has ∙ h)) reason))
-        (λ n. absurd (reason_not_none e.reason id has n)) (λ n. absurd (reason_not_none e.reason id has n)) (omega arith)
-        (let same = is.level in omega (arith, same)) is.within in
+    (λ k h. (clause, subst (λ n. IsReason p.clauses p.trail (length p.trail) n e.lit clause) (same_Some id k (sym has ∙ h)) reason))
+    (λ n. absurd (reason_not_none e.reason id has n)) (λ n. absurd (reason_not_none e.reason id has n)) (omega arith)
+    (let same = is.level in omega (arith, same)) is.within in
     subst (λ (t : List Entry). IsReady (record p { trail = t })) (append_assoc p.trail (e ∷ []) es) (ready_implied p1 es one i)
 
 pub ready_spreads : (old new : Propagation) → IsReady old → Spreads old new → IsReady new
@@ -114,7 +116,7 @@ ready_with p clause r o = record {
   sound = record {
     distinct = r.sound.distinct;
     reasons = λ q e id h s. let (c, is) = r.sound.reasons q e id h s in
-      (c, record { numbered = has_front p.clauses (clause ∷ []) id c is.numbered; here = is.here; others = is.others });
+        (c, record { numbered = has_front p.clauses (clause ∷ []) id c is.numbered; here = is.here; others = is.others });
   };
   quiet = λ q e h n. All-push (IsOpen (assigned_before p.trail q)) p.clauses clause (r.quiet q e h n) (o q e h n);
   rises = r.rises;
@@ -130,12 +132,22 @@ pub learned_open : (p : Propagation) (at first : ℕ) (entry other : Entry) (cla
     → (q : ℕ) (e : Entry) → IsAt p.trail q e → e.reason ≡ None → q ≤ at → e.level ≤ other.level
     → IsOpen (assigned_before p.trail q) clause
 learned_open p at first entry other clause x y r h s k t cx cy d q e a n below low =
-    inr (x, (y, (cx, cy, d,
-      (λ c. let (i, (z, (l, (b, v)))) = assigned_at p.trail q (complement x) c in
-        let same : i ≡ at = r.sound.distinct i at z entry b h (ap (λ (w : Lit). w.var) (v ∙ sym s)) in omega arith),
-      (λ c. let (i, (z, (l, (b, v)))) = assigned_at p.trail q (complement y) c in
-        let same : i ≡ first = r.sound.distinct i first z other b k (ap (λ (w : Lit). w.var) (v ∙ sym t)) in
-        let up = r.rises first q other e k a (omega arith) n in omega (arith, up)))))
+    inr (
+      x,
+      (
+        y,
+        (
+          cx,
+          cy,
+          d,
+          (λ c. let (i, (z, (l, (b, v)))) = assigned_at p.trail q (complement x) c in
+              let same : i ≡ at = r.sound.distinct i at z entry b h (ap (λ (w : Lit). w.var) (v ∙ sym s)) in omega arith),
+          (λ c. let (i, (z, (l, (b, v)))) = assigned_at p.trail q (complement y) c in
+              let same : i ≡ first = r.sound.distinct i first z other b k (ap (λ (w : Lit). w.var) (v ∙ sym t)) in
+              let up = r.rises first q other e k a (omega arith) n in omega (arith, up)),
+        ),
+      ),
+    )
 
 first_or : (level : ℕ) (e : Entry) (es : List Entry) (q : ℕ) (d : Entry) → e.level ≤ level
     → ((r : ℕ) (c : Entry) → IsAt es r c → c.level ≤ level) → IsAt (e ∷ es) q d → d.level ≤ level
@@ -147,10 +159,10 @@ pub keep_split : (level : ℕ) (trail : List Entry) → (rest : List Entry) × (
 keep_split level [] = ([], (refl, λ q e h. cc))
 keep_split level (e ∷ es) =
     ⊎_elim
-      (λ t. let (rest, (s, l)) = keep_split level es in
-        rw t (rest, (ap (λ r. e ∷ r) s, λ q d h. first_or level e (keep_level level es) q d (leb-true e.level level t) l h)))
-      (λ f. rw f (e ∷ es, (refl, λ q d h. cc)))
-      (cases_Bool (leb e.level level))
+    (λ t. let (rest, (s, l)) = keep_split level es in
+    rw t (rest, (ap (λ r. e ∷ r) s, λ q d h. first_or level e (keep_level level es) q d (leb-true e.level level t) l h)))
+    (λ f. rw f (e ∷ es, (refl, λ q d h. cc)))
+    (cases_Bool (leb e.level level))
 
 pub false_in : (xs ys : List Entry) (n : ℕ) (y : Lit) → n ≤ length xs → IsFalseBefore (xs ++ ys) n y → IsFalseBefore xs n y
 false_in xs ys n y le (q, (e, (l, (h, s)))) = (q, (e, (l, (at_in xs ys q e h (omega arith), s))))
@@ -167,12 +179,17 @@ ready_first p xs ys level s l r =
       sound = record {
         distinct = λ i j c d h k v. r.sound.distinct i j c d (at i c h) (at j d k) v;
         reasons = λ q e id h n. let (clause, is) = r.sound.reasons q e id (at q e h) n in
-          let w = entry_within xs q e h in
-          (clause, record { numbered = is.numbered; here = is.here;
-            others = λ y c d. false_in xs ys q y (omega (arith, w)) (subst (λ (t : List Entry). IsFalseBefore t q y) (sym s) (is.others y c d)) });
+            let w = entry_within xs q e h in (
+              clause,
+              record {
+                numbered = is.numbered;
+                here = is.here;
+                others = λ y c d. false_in xs ys q y (omega (arith, w)) (subst (λ (t : List Entry). IsFalseBefore t q y) (sym s) (is.others y c d));
+              },
+            );
       };
       quiet = λ q e h n. let w = entry_within xs q e h in
-        quiet_in p.clauses xs ys q (omega (arith, w)) (subst (λ (t : List Entry). IsQuietBefore p.clauses t q) (sym s) (r.quiet q e (at q e h) n));
+          quiet_in p.clauses xs ys q (omega (arith, w)) (subst (λ (t : List Entry). IsQuietBefore p.clauses t q) (sym s) (r.quiet q e (at q e h) n));
       rises = λ q j d e h k o n. r.rises q j d e (at q d h) (at j e k) o n;
       low = l;
       above = λ q e h n. r.above q e (at q e h) n;
@@ -195,7 +212,7 @@ pub quiet_at : (p : Propagation) (clauses : List (List Lit)) (trail : List Entry
 quiet_at p clauses trail start e f r d =
     let (entry, (h, n)) = d.decision in
     subst (λ (l : List (List Lit)). IsQuietBefore l trail start) e
-      (subst (λ (t : List Entry). IsQuietBefore p.clauses t start) f (r.quiet start entry (subst (λ (t : List Entry). IsAt t start entry) (sym f) h) n))
+    (subst (λ (t : List Entry). IsQuietBefore p.clauses t start) f (r.quiet start entry (subst (λ (t : List Entry). IsAt t start entry) (sym f) h) n))
 
 pub false_within : (p : Propagation) (trail : List Entry) (n : ℕ) (y : Lit) → p.trail ≡ trail → IsReady p → IsFalseBefore trail n y → y.var < p.room
 false_within p trail n y f r (q, (e, (l, (h, s)))) =
@@ -216,22 +233,22 @@ pub ready_jump : (p : Propagation) (clause : List Lit) (start level : ℕ) → I
     → IsReady (with_clause (back_to p level) clause)
 ready_jump p clause start level r d j =
     ⊎_elim
-      (λ z. subst (λ n. IsReady (with_clause (back_to p n) clause)) (sym z) (ready_restart p clause r))
-      (λ a. let (rest, (s, l)) = keep_split level p.trail in
-        let kept : List Entry = keep_level level p.trail in
-        ready_with (back_to p level) clause (ready_back p level r) (λ q e h n.
-          let at : IsAt p.trail q e = subst (λ (t : List Entry). IsAt t q e) s (at_front kept rest e q h) in
-          let w : q < length kept = entry_within kept q e h in
-          let up : q ≤ start = ⊎_elim (λ o. absurd (none_some e.reason n (d.implied q e o at))) (λ o. o) (cases_lt start q) in
-          let low : e.level ≤ level = l q e h in
-          let same : a.other.level ≡ level = a.same in
-          let after : start ≤ a.at = a.after in
-          let open_before : IsOpen (assigned_before p.trail q) clause
-            = learned_open p a.at a.first a.entry a.other clause a.one a.two r a.at_is a.one_is a.first_is a.two_is a.here a.there a.differ q e at n
-                (omega (arith, up, after)) (omega (arith, low, same)) in
-          subst (λ (t : List Entry). IsOpen (map (λ (x : Entry). x.lit) t) clause) (take-append-le q kept rest (omega (arith, w)))
-            (subst (λ (t : List Entry). IsOpen (assigned_before t q) clause) (sym s) open_before)))
-      j
+    (λ z. subst (λ n. IsReady (with_clause (back_to p n) clause)) (sym z) (ready_restart p clause r))
+    (λ a. let (rest, (s, l)) = keep_split level p.trail in
+    let kept : List Entry = keep_level level p.trail in
+    ready_with (back_to p level) clause (ready_back p level r) (λ q e h n.
+    let at : IsAt p.trail q e = subst (λ (t : List Entry). IsAt t q e) s (at_front kept rest e q h) in
+    let w : q < length kept = entry_within kept q e h in
+    let up : q ≤ start = ⊎_elim (λ o. absurd (none_some e.reason n (d.implied q e o at))) (λ o. o) (cases_lt start q) in
+    let low : e.level ≤ level = l q e h in
+    let same : a.other.level ≡ level = a.same in
+    let after : start ≤ a.at = a.after in
+    let open_before : IsOpen (assigned_before p.trail q) clause
+    = learned_open p a.at a.first a.entry a.other clause a.one a.two r a.at_is a.one_is a.first_is a.two_is a.here a.there a.differ q e at n
+    (omega (arith, up, after)) (omega (arith, low, same)) in
+    subst (λ (t : List Entry). IsOpen (map (λ (x : Entry). x.lit) t) clause) (take-append-le q kept rest (omega (arith, w)))
+    (subst (λ (t : List Entry). IsOpen (assigned_before t q) clause) (sym s) open_before)))
+    j
 
 pub jump_low : (p : Propagation) (clause : List Lit) (start level : ℕ) → IsReady p → IsJump p.trail clause start level → level ≤ p.level
 jump_low p clause start level r j =

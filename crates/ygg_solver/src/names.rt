@@ -15,7 +15,11 @@ use ygg_trail::Entry;
 
 /// The clause with the places of its variables, after those that had none have been given one. After want of memory some of
 /// them may have been given one.
-fn number_clause(alloc: Global, variables: &mut Variables, clause: &[Lit]) -> Result<Clause, NoMemory>
+fn number_clause(
+    alloc: Global,
+    variables: &mut Variables,
+    clause: &[Lit],
+) -> Result<Clause, NoMemory>
     ensures placed { IfOk result (λ kept. All (IsPlaced variables.new) kept) }
     ensures same { IfOk result (λ kept. clause_at variables.new kept ≡ clause.now) }
     ensures grows { (more : List ℕ) × (variables.new ≡ variables.old ++ more) }
@@ -28,7 +32,11 @@ fn number_clause(alloc: Global, variables: &mut Variables, clause: &[Lit]) -> Re
 }
 
 /// The clauses with the places of their variables, after those that had none have been given one.
-pub fn number_all(alloc: Global, variables: &mut Variables, clauses: &Clauses) -> Result<Clauses, NoMemory>
+pub fn number_all(
+    alloc: Global,
+    variables: &mut Variables,
+    clauses: &Clauses,
+) -> Result<Clauses, NoMemory>
     ensures placed { IfOk result (λ kept. All (All (IsPlaced variables.new)) kept) }
     ensures same { IfOk result (λ kept. clauses_at variables.new kept ≡ clauses.now) }
 {
@@ -110,7 +118,11 @@ fn set_true(values: &mut Vec<bool>, variable: u64) -> Result<(), NoMemory>
 
 /// The assignment that gives each variable the value that the trail gives its place. It is as long as the greatest variable
 /// that is true. Its only error is want of memory.
-pub fn assignment_of(alloc: Global, variables: &Variables, trail: &[Entry]) -> Result<Assignment, NoMemory>
+pub fn assignment_of(
+    alloc: Global,
+    variables: &Variables,
+    trail: &[Entry],
+) -> Result<Assignment, NoMemory>
     requires distinct { IsDistinct variables.now }
     requires trail { IsTrail trail.now (length variables.now) }
     ensures { IfOk result (GivesValues variables.now trail.now) }

@@ -39,7 +39,8 @@ fn pick<P: Propagate>(propagation: &P, order: &mut Order, room: u64) -> Option<u
     None
 }
 
-/// Decides and propagates until a clause is false, whose number it gives, or each variable is assigned.
+/// Decides and propagates until a clause is false, whose number it gives, or each variable is assigned. It ends since each
+/// turn assigns a variable.
 pub fn to_conflict<P: Propagate>(propagation: &mut P, order: &mut Order, room: u64) -> Option<u64>
     requires room { room ≡ (P.state propagation.old).room }
     requires ready { IsReady (P.state propagation.old) }
@@ -60,10 +61,7 @@ pub fn to_conflict<P: Propagate>(propagation: &mut P, order: &mut Order, room: u
                 }
                 Some(var) => {
                     let negated = !order.phase(var as usize);
-                    propagation.decide(Lit {
-                        var,
-                        negated,
-                    });
+                    propagation.decide(Lit { var, negated });
                 }
             },
         }

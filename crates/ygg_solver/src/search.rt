@@ -4,6 +4,7 @@ ghost use Rattle.ygg_propagate.specs.Propagation.{IsWithin};
 ghost use Rattle.ygg_solver.specs.Search.{IsReady};
 ghost use Rattle.ygg_solver.specs.Answers.{IsEnd};
 
+use crate::run::to_conflict;
 use std::alloc::Global;
 use ygg_cnf::{Clause, Log, Step};
 use ygg_learn::{Learned, Removal, analyze, last_decision, refute};
@@ -11,8 +12,6 @@ use ygg_list::{NoMemory, Sequence};
 use ygg_order::{Order, Restarts};
 use ygg_trail::Entry;
 use ygg_watch::Trail;
-
-use crate::run::to_conflict;
 
 /// How a search ended.
 #[derive(Drop)]
@@ -59,7 +58,15 @@ fn release(order: &mut Order, trail: &[Entry], level: u64) -> Result<(), NoMemor
 /// Learns clauses until each variable is assigned, the empty clause is learned, or the budget is spent. `clauses` are those
 /// that the propagation holds, and the learned ones are added to both. The search ends since each turn of its loop adds a
 /// clause to the log, and each turn within one assigns a variable.
-pub fn search<P: Trail>(alloc: Global, propagation: &mut P, order: &mut Order, clauses: &mut Vec<Clause>, marks: &mut [bool], room: u64, budget: u32) -> Result<End, NoMemory>
+pub fn search<P: Trail>(
+    alloc: Global,
+    propagation: &mut P,
+    order: &mut Order,
+    clauses: &mut Vec<Clause>,
+    marks: &mut [bool],
+    room: u64,
+    budget: u32,
+) -> Result<End, NoMemory>
     requires room { room ≡ (P.state propagation.old).room }
     requires marks { 2 * room ≤ length marks.old }
     requires budget { 0 < budget }
@@ -92,7 +99,16 @@ pub fn search<P: Trail>(alloc: Global, propagation: &mut P, order: &mut Order, c
             chain,
             level,
             ..
-        } = analyze(alloc, marks, held, trail, start, conflict, propagation.places(), &mut removal)?;
+        } = analyze(
+            alloc,
+            marks,
+            held,
+            trail,
+            start,
+            conflict,
+            propagation.places(),
+            &mut removal,
+        )?;
         let level = level_after(&mut restarts, level);
         raise(order, held, chain.as_slice());
         release(order, trail, level)?;

@@ -2,6 +2,9 @@ ghost use Rattle.std.specs.Prelude.{◌≡◌, ◌<◌, ◌↔◌, [], All, Cont
 ghost use Rattle.ygg_chain.specs.Places.{IsDistinct, IsPlaced, clauses_at};
 ghost use Rattle.ygg_solver.specs.Answers.{IsNumbered, IsAnswer};
 
+use crate::answer::Answer;
+use crate::names::{assignment_of, name_log, number_all};
+use crate::search::{End, search};
 use std::alloc::Global;
 use ygg_chain::Variables;
 use ygg_cnf::{Clauses, Log};
@@ -9,10 +12,6 @@ use ygg_list::NoMemory;
 use ygg_order::Order;
 use ygg_propagate::load;
 use ygg_watch::{Trail, Watch};
-
-use crate::answer::Answer;
-use crate::names::{assignment_of, name_log, number_all};
-use crate::search::{End, search};
 
 /// Whether a clause is empty.
 fn has_empty(clauses: &Clauses) -> bool
@@ -39,7 +38,12 @@ pub fn solve(alloc: Global, clauses: &Clauses, budget: u32) -> Result<Answer, No
 }
 
 /// The same of clauses whose variables are places, read by the variables that have the places.
-fn solve_numbered(alloc: Global, variables: &Variables, clauses: Clauses, budget: u32) -> Result<Answer, NoMemory>
+fn solve_numbered(
+    alloc: Global,
+    variables: &Variables,
+    clauses: Clauses,
+    budget: u32,
+) -> Result<Answer, NoMemory>
     requires budget { 0 < budget }
     requires placed { All (All (IsPlaced variables.now)) clauses }
     requires numbered { IsNumbered (clauses_at variables.now clauses) }
@@ -52,7 +56,15 @@ fn solve_numbered(alloc: Global, variables: &Variables, clauses: Clauses, budget
     let mut order = Order::new(alloc, size)?;
     let mut marks = Vec::from_elem(alloc, false, 2 * size)?;
     let mut held = clauses.into_vec();
-    match search(alloc, &mut propagation, &mut order, &mut held, marks.as_mut_slice(), room, budget)? {
+    match search(
+        alloc,
+        &mut propagation,
+        &mut order,
+        &mut held,
+        marks.as_mut_slice(),
+        room,
+        budget,
+    )? {
         End::Model => Ok(Answer::Sat(assignment_of(alloc, variables, propagation.trail())?)),
         End::Refuted(log) => Ok(Answer::Unsat(name_log(alloc, variables, &log)?)),
         End::Spent(log) => Ok(Answer::Spent(name_log(alloc, variables, &log)?)),

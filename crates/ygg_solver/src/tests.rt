@@ -1,14 +1,13 @@
 ghost use Rattle.std.specs.Prelude.{◌<◌, All, IfOk, OnOk};
 ghost use Rattle.ygg_solver.specs.Answers.{IsNumbered};
 
+use crate::answer::Answer;
+use crate::solving::solve;
 use std::alloc::Global;
 use std::test::Fail;
 use ygg_chain::Checker;
 use ygg_cnf::{Assignment, Clause, Clauses, Lit, Log, Step, truth};
 use ygg_list::NoMemory;
-
-use crate::answer::Answer;
-use crate::solving::solve;
 
 /// The clause of literals that are written as in texts: the variable, with `-` before it where it is negated.
 fn clause_of(alloc: Global, numbers: &[i64]) -> Result<Clause, NoMemory>
@@ -56,7 +55,10 @@ fn kind_of(answer: &Answer) -> Wanted {
 /// Whether the assignment makes a literal of each clause true.
 fn satisfies(assignment: &Assignment, clauses: &Clauses) -> bool {
     clauses.as_slice().iter().all(|clause| {
-        clause.as_slice().iter().any(|lit| truth(assignment, lit.var) != lit.negated)
+        clause
+            .as_slice()
+            .iter()
+            .any(|lit| truth(assignment, lit.var) != lit.negated)
     })
 }
 
@@ -120,7 +122,13 @@ fn housed(alloc: Global, pigeon: u64, holes: u64) -> Result<Clause, NoMemory>
 }
 
 /// Adds that the two pigeons are in no hole both.
-fn part(alloc: Global, clauses: &mut Clauses, pigeon: u64, other: u64, holes: u64) -> Result<(), NoMemory>
+fn part(
+    alloc: Global,
+    clauses: &mut Clauses,
+    pigeon: u64,
+    other: u64,
+    holes: u64,
+) -> Result<(), NoMemory>
     requires pigeon { pigeon < 20 }
     requires other { other < 20 }
     requires holes { holes < 20 }

@@ -23,9 +23,9 @@ pub trail_push : (trail : List Entry) (e : Entry) (room : ℕ) → IsTrail trail
 trail_push trail e room t fresh l = record {
   distinct = λ i j c d h k v. ⊎_elim
       (λ a. ⊎_elim (λ b. t.distinct i j c d a b v)
-        (λ b. absurd (fresh (fresh_place trail i c e.lit.var a (v ∙ ap (λ (z : Entry). z.lit.var) (sym b.1))))) (at_push trail e d j k))
+      (λ b. absurd (fresh (fresh_place trail i c e.lit.var a (v ∙ ap (λ (z : Entry). z.lit.var) (sym b.1))))) (at_push trail e d j k))
       (λ a. ⊎_elim (λ b. absurd (fresh (fresh_place trail j d e.lit.var b (sym v ∙ ap (λ (z : Entry). z.lit.var) (sym a.1)))))
-        (λ b. a.0 ∙ sym b.0) (at_push trail e d j k))
+      (λ b. a.0 ∙ sym b.0) (at_push trail e d j k))
       (at_push trail e c i h);
   within = λ q d h. ⊎_elim (λ a. t.within q d a) (λ a. subst (λ (z : Entry). z.lit.var < room) a.1 l) (at_push trail e d q h);
 }
@@ -44,9 +44,9 @@ start_cases : (starts : List ℕ) (n j : ℕ) → j < length (starts ++ n ∷ []
     → ((j < length starts) × (get_or (starts ++ n ∷ []) j 0 ≡ get_or starts j 0)) ⊎ ((j ≡ length starts) × (get_or (starts ++ n ∷ []) j 0 ≡ n))
 start_cases starts n j l =
     ⊎_elim (λ k. inl (k, get_or_append_left starts (n ∷ []) 0 j k))
-      (λ g. let m = simp length-append at l in let e : j ≡ length starts = omega arith in
-        inr (e, rw e (get_or-append_seam starts n [] 0)))
-      (cases_lt j (length starts))
+    (λ g. let m = simp length-append at l in let e : j ≡ length starts = omega arith in
+    inr (e, rw e (get_or-append_seam starts n [] 0)))
+    (cases_lt j (length starts))
 
 -- the levels are at most as many as the entries
 pub levels_within : (trail : List Entry) (starts : List ℕ) → IsLevelled trail starts → length starts ≤ length trail
@@ -64,26 +64,26 @@ levelled_decide trail starts e t same =
     let longer : length (trail ++ e ∷ []) ≡ n + 1 = simp length-append (omega arith) in
     record {
       rising = λ i j l k. ⊎_elim
-        (λ b. let below : i < length (starts ++ n ∷ []) = omega (arith, l, k) in
+          (λ b. let below : i < length (starts ++ n ∷ []) = omega (arith, l, k) in
           ⊎_elim (λ a. let r = t.rising i j l b.0 in rw (a.1, b.1) r) (λ a. absurd (omega (arith, a.0, b.0, l))) (start_cases starts n i below))
-        (λ b. let below : i < length (starts ++ n ∷ []) = omega (arith, l, k) in
+          (λ b. let below : i < length (starts ++ n ∷ []) = omega (arith, l, k) in
           ⊎_elim (λ a. let w = t.within i a.0 in rw (a.1, b.1) w) (λ a. absurd (omega (arith, a.0, b.0, l))) (start_cases starts n i below))
-        (start_cases starts n j k);
+          (start_cases starts n j k);
       count = λ j l. ⊎_elim (λ a. rw a.1 (t.count j a.0)) (λ a. rw a.1 (omega (arith, a.0, le))) (start_cases starts n j l);
       within = λ j l. ⊎_elim (λ a. let w = t.within j a.0 in rw a.1 (omega (arith, w, longer))) (λ a. rw a.1 (omega (arith, longer))) (start_cases starts n j l);
       below = λ j q d l h b. ⊎_elim
-        (λ s. let b1 : q < get_or starts j 0 = rw s.1 at b in
+          (λ s. let b1 : q < get_or starts j 0 = rw s.1 at b in
           ⊎_elim (λ a. t.below j q d s.0 a b1) (λ a. let w = t.within j s.0 in absurd (omega (arith, w, a.0, b1))) (at_push trail e d q h))
-        (λ s. let b1 : q < n = rw s.1 at b in
+          (λ s. let b1 : q < n = rw s.1 at b in
           ⊎_elim (λ a. let low = t.low q d a in omega (arith, low, s.0)) (λ a. absurd (omega (arith, a.0, b1))) (at_push trail e d q h))
-        (start_cases starts n j l);
+          (start_cases starts n j l);
       from = λ j q d l h b. ⊎_elim
-        (λ s. let b1 : get_or starts j 0 ≤ q = rw s.1 at b in
+          (λ s. let b1 : get_or starts j 0 ≤ q = rw s.1 at b in
           ⊎_elim (λ a. t.from j q d s.0 a b1) (λ a. let k = ap (λ (z : Entry). z.level) a.1 in omega (arith, k, same, s.0)) (at_push trail e d q h))
-        (λ s. let b1 : n ≤ q = rw s.1 at b in
+          (λ s. let b1 : n ≤ q = rw s.1 at b in
           ⊎_elim (λ a. let w = entry_within trail q d a in absurd (omega (arith, w, b1)))
-            (λ a. let k = ap (λ (z : Entry). z.level) a.1 in omega (arith, k, same, s.0)) (at_push trail e d q h))
-        (start_cases starts n j l);
+          (λ a. let k = ap (λ (z : Entry). z.level) a.1 in omega (arith, k, same, s.0)) (at_push trail e d q h))
+          (start_cases starts n j l);
       low = λ q d h. ⊎_elim (λ a. let low = t.low q d a in omega (arith, low, more)) (λ a. let k = ap (λ (z : Entry). z.level) a.1 in omega (arith, k, same, more)) (at_push trail e d q h);
     }
 
@@ -116,14 +116,14 @@ levelled_take trail starts level t l =
     let count : length (take n trail) ≡ n = simp length-take (omega arith) in
     record {
       rising = λ i j k m. let j1 : j < level = omega (arith, m, size) in let i1 : i < level = omega (arith, k, j1) in
-        rw (get_or-take level starts i 0 i1, get_or-take level starts j 0 j1) (t.rising i j k (omega (arith, j1, l)));
+          rw (get_or-take level starts i 0 i1, get_or-take level starts j 0 j1) (t.rising i j k (omega (arith, j1, l)));
       count = λ j m. let j1 : j < level = omega (arith, m, size) in rw (get_or-take level starts j 0 j1) (t.count j (omega (arith, j1, l)));
       within = λ j m. let j1 : j < level = omega (arith, m, size) in let r = t.rising j level j1 l in
-        rw (get_or-take level starts j 0 j1) (omega (arith, r, count));
+          rw (get_or-take level starts j 0 j1) (omega (arith, r, count));
       below = λ j q e m h b. let j1 : j < level = omega (arith, m, size) in
-        t.below j q e (omega (arith, j1, l)) (at_take trail n q e h).1 (rw (get_or-take level starts j 0 j1) at b);
+          t.below j q e (omega (arith, j1, l)) (at_take trail n q e h).1 (rw (get_or-take level starts j 0 j1) at b);
       from = λ j q e m h b. let j1 : j < level = omega (arith, m, size) in
-        t.from j q e (omega (arith, j1, l)) (at_take trail n q e h).1 (rw (get_or-take level starts j 0 j1) at b);
+          t.from j q e (omega (arith, j1, l)) (at_take trail n q e h).1 (rw (get_or-take level starts j 0 j1) at b);
       low = λ q e h. let a = at_take trail n q e h in let b = t.below level q e l a.1 a.0 in omega (arith, b, size);
     }
 
@@ -143,7 +143,7 @@ keep_take level [] (suc n) w below over = absurd (omega arith)
 keep_take level (e ∷ trail) zero w below over = rw (not_leb level e.level (over e refl)) refl
 keep_take level (e ∷ trail) (suc n) w below over =
     rw (is_leb e.level level (below 0 e refl (omega arith)))
-      (ap (λ t. e ∷ t) (keep_take level trail n (omega arith) (λ q d h l. below (suc q) d h (omega arith)) over))
+    (ap (λ t. e ∷ t) (keep_take level trail n (omega arith) (λ q d h l. below (suc q) d h (omega arith)) over))
 
 pub keep_all : (level : ℕ) (trail : List Entry) → ((q : ℕ) (e : Entry) → IsAt trail q e → e.level ≤ level) → keep_level level trail ≡ trail
 keep_all level [] low = refl
@@ -158,7 +158,7 @@ at_start trail starts level t l =
 fresh_tail : (e : Entry) (trail : List Entry) (room : ℕ) → IsTrail (e ∷ trail) room → IsAssigned trail e.lit.var → ⊥
 fresh_tail e trail room t (k, x, l, at, v) =
     let p : 0 ≡ suc k = t.distinct 0 (suc k) e (get_or trail k x) refl (slice_get-get_or trail k x l)
-      (sym v ∙ ap (λ (z : Entry). z.lit.var) (sym at)) in omega (arith, p)
+    (sym v ∙ ap (λ (z : Entry). z.lit.var) (sym at)) in omega (arith, p)
 
 tail_trail : (e : Entry) (trail : List Entry) (room : ℕ) → IsTrail (e ∷ trail) room → IsTrail trail room
 tail_trail e trail room t = record {
@@ -176,9 +176,9 @@ filled [] room t = let r = none_failing room in omega (arith, r)
 filled (e ∷ trail) room t =
     let r : length trail + failing (is_assigned trail) room ≡ room = filled trail room (tail_trail e trail room t) in
     let one : suc (failing (is_assigned (e ∷ trail)) room) ≡ failing (is_assigned trail) room
-      = failing_one (is_assigned trail) (is_assigned (e ∷ trail)) room e.lit.var (t.within 0 e refl)
-          (not_assigned trail e.lit.var (fresh_tail e trail room t)) (rw (eq-eqb e.lit.var e.lit.var refl) refl)
-          (λ w n. let d : e.lit.var ≢ w = λ q. n (sym q) in rw (ne_eqb e.lit.var w d) refl) in
+    = failing_one (is_assigned trail) (is_assigned (e ∷ trail)) room e.lit.var (t.within 0 e refl)
+    (not_assigned trail e.lit.var (fresh_tail e trail room t)) (rw (eq-eqb e.lit.var e.lit.var refl) refl)
+    (λ w n. let d : e.lit.var ≢ w = λ q. n (sym q) in rw (ne_eqb e.lit.var w d) refl) in
     omega (arith, r, one)
 
 -- there is room for one more entry
@@ -193,31 +193,35 @@ fits_below x room size l s = elim x.negated as (λ b. 2 * x.var + cond b 1 0 < s
 -- marks
 pub marks_push : (trail : List Entry) (truth after : List Bool) (e : Entry) → HasMarks truth (IsOnTrail trail)
     → HasMarks after (λ y. Marked truth y ⊎ (y ≡ e.lit)) → HasMarks after (IsOnTrail (trail ++ e ∷ []))
-marks_push trail truth after e was now y =
-    ((λ m. ⊎_elim (λ a. let (q, (d, (h, s))) = (was y).0 a in (q, (d, (at_front trail (e ∷ []) d q h, s))))
-        (λ s. (length trail, (e, (at_last trail e, sym s)))) ((now y).0 m)),
-     (λ (q, (d, (h, s))). (now y).1 (⊎_elim (λ a. inl ((was y).1 (q, (d, (a, s))))) (λ a. inr (sym s ∙ ap (λ (z : Entry). z.lit) (sym a.1))) (at_push trail e d q h))))
+marks_push trail truth after e was now y = (
+  (λ m. ⊎_elim (λ a. let (q, (d, (h, s))) = (was y).0 a in (q, (d, (at_front trail (e ∷ []) d q h, s))))
+      (λ s. (length trail, (e, (at_last trail e, sym s)))) ((now y).0 m)),
+  (λ (q, (d, (h, s))). (now y).1 (⊎_elim (λ a. inl ((was y).1 (q, (d, (a, s))))) (λ a. inr (sym s ∙ ap (λ (z : Entry). z.lit) (sym a.1))) (at_push trail e d q h))),
+)
 
 pub marks_pop : (trail : List Entry) (truth after : List Bool) (e : Entry)
     → ((p q : ℕ) (c d : Entry) → IsAt (trail ++ e ∷ []) p c → IsAt (trail ++ e ∷ []) q d → c.lit.var ≡ d.lit.var → p ≡ q)
     → HasMarks truth (IsOnTrail (trail ++ e ∷ []))
     → HasMarks after (λ y. Marked truth y × (y ≢ e.lit)) → HasMarks after (IsOnTrail trail)
-marks_pop trail truth after e distinct was now y =
-    ((λ m. let p = (now y).0 m in let (q, (d, (h, s))) = (was y).0 p.0 in
-        ⊎_elim (λ a. (q, (d, (a, s)))) (λ a. absurd (p.1 (sym s ∙ ap (λ (z : Entry). z.lit) (sym a.1)))) (at_push trail e d q h)),
-     (λ (q, (d, (h, s))). (now y).1 ((was y).1 (q, (d, (at_front trail (e ∷ []) d q h, s))),
-        λ t. let w = entry_within trail q d h in
-          let p : q ≡ length trail = distinct q (length trail) d e (at_front trail (e ∷ []) d q h) (at_last trail e) (ap (λ (z : Lit). z.var) (s ∙ t)) in omega (arith, w, p))))
+marks_pop trail truth after e distinct was now y = (
+  (λ m. let p = (now y).0 m in let (q, (d, (h, s))) = (was y).0 p.0 in
+      ⊎_elim (λ a. (q, (d, (a, s)))) (λ a. absurd (p.1 (sym s ∙ ap (λ (z : Entry). z.lit) (sym a.1)))) (at_push trail e d q h)),
+  (λ (q, (d, (h, s))). (now y).1 (
+    (was y).1 (q, (d, (at_front trail (e ∷ []) d q h, s))),
+    λ t. let w = entry_within trail q d h in
+        let p : q ≡ length trail = distinct q (length trail) d e (at_front trail (e ∷ []) d q h) (at_last trail e) (ap (λ (z : Lit). z.var) (s ∙ t)) in omega (arith, w, p),
+  )),
+)
 
 pub placed_push : (trail : List Entry) (places : List ℕ) (e : Entry) → (IsAssigned trail e.lit.var → ⊥) → e.lit.var < length places
     → ((q : ℕ) (d : Entry) → IsAt trail q d → get_or places d.lit.var 0 ≡ q)
     → (q : ℕ) (d : Entry) → IsAt (trail ++ e ∷ []) q d → get_or (set places e.lit.var (length trail)) d.lit.var 0 ≡ q
 placed_push trail places e fresh l was q d h =
     ⊎_elim
-      (λ a. get_or-set_other places e.lit.var d.lit.var (length trail) 0 (λ s. fresh (fresh_place trail q d e.lit.var a s)) ∙ was q d a)
-      (λ a. let v = ap (λ (z : Entry). z.lit.var) a.1 in subst (λ w. get_or (set places e.lit.var (length trail)) w 0 ≡ q) v
-        (get_or-set_same places e.lit.var (length trail) 0 l ∙ sym a.0))
-      (at_push trail e d q h)
+    (λ a. get_or-set_other places e.lit.var d.lit.var (length trail) 0 (λ s. fresh (fresh_place trail q d e.lit.var a s)) ∙ was q d a)
+    (λ a. let v = ap (λ (z : Entry). z.lit.var) a.1 in subst (λ w. get_or (set places e.lit.var (length trail)) w 0 ≡ q) v
+    (get_or-set_same places e.lit.var (length trail) 0 l ∙ sym a.0))
+    (at_push trail e d q h)
 
 mapped : (o : Option Entry) (y : Lit) → option_map (λ (e : Entry). e.lit) o ≡ Some y → (e : Entry) × ((o ≡ Some e) × (e.lit ≡ y))
 mapped None y h = cc
@@ -229,17 +233,18 @@ pub place_is : (trail : List Entry) (truth : List Bool) (places : List ℕ) (roo
 place_is trail truth places room y k m = mapped (slice_get trail (get_or places y.var 0)) y (k.there y m)
 
 pub marks_of : (trail : List Entry) (truth : List Bool) (places : List ℕ) (room : ℕ) → IsKept trail truth places room → HasMarks truth (IsOnTrail trail)
-marks_of trail truth places room k y =
-    ((λ m. let (e, (h, s)) = place_is trail truth places room y k m in (get_or places y.var 0, (e, (h, s)))),
-     (λ (q, (e, (h, s))). subst (Marked truth) s (k.here q e h)))
+marks_of trail truth places room k y = (
+  (λ m. let (e, (h, s)) = place_is trail truth places room y k m in (get_or places y.var 0, (e, (h, s)))),
+  (λ (q, (e, (h, s))). subst (Marked truth) s (k.here q e h)),
+)
 
 pub kept_of : (trail : List Entry) (truth : List Bool) (places : List ℕ) (room : ℕ) → HasMarks truth (IsOnTrail trail) → length truth ≡ 2 * room → length places ≡ room
     → ((q : ℕ) (e : Entry) → IsAt trail q e → get_or places e.lit.var 0 ≡ q) → IsKept trail truth places room
 kept_of trail truth places room m size places_size placed = record {
   here = λ q e h. (m e.lit).1 (q, (e, (h, refl)));
   there = λ y h. let (q, (e, (k, s))) = (m y).0 h in
-    let p : get_or places y.var 0 ≡ q = subst (λ (z : Lit). get_or places z.var 0 ≡ q) s (placed q e k) in
-    subst (λ n. option_map (λ (d : Entry). d.lit) (slice_get trail n) ≡ Some y) (sym p)
+      let p : get_or places y.var 0 ≡ q = subst (λ (z : Lit). get_or places z.var 0 ≡ q) s (placed q e k) in
+      subst (λ n. option_map (λ (d : Entry). d.lit) (slice_get trail n) ≡ Some y) (sym p)
       (subst (λ (o : Option Entry). option_map (λ (d : Entry). d.lit) o ≡ Some y) (sym k) (ap Some s));
   size = size;
   places_size = places_size;
@@ -253,9 +258,9 @@ pub kept_push : (trail : List Entry) (truth after : List Bool) (places : List �
     → IsKept (trail ++ e ∷ []) after (set places e.lit.var (length trail)) room
 kept_push trail truth after places room e k fresh l same now =
     kept_of (trail ++ e ∷ []) after (set places e.lit.var (length trail)) room
-      (marks_push trail truth after e (marks_of trail truth places room k) now)
-      (same ∙ k.size) (simp length-set k.places_size)
-      (placed_push trail places e fresh (let s = k.places_size in omega (arith, s, l)) k.placed)
+    (marks_push trail truth after e (marks_of trail truth places room k) now)
+    (same ∙ k.size) (simp length-set k.places_size)
+    (placed_push trail places e fresh (let s = k.places_size in omega (arith, s, l)) k.placed)
 
 pub kept_take : (trail : List Entry) (truth after : List Bool) (places : List ℕ) (room n : ℕ) → IsKept trail truth places room
     → length after ≡ length truth → HasMarks after (IsOnTrail (take n trail)) → IsKept (take n trail) after places room

@@ -23,8 +23,8 @@ pub failing_one : (f g : ℕ → Bool) (n v : ℕ) → v < n → f v ≡ false �
 failing_one f g zero v l u t h = absurd (omega arith)
 failing_one f g (suc n) v l u t h =
     ⊎_elim
-      (λ e. let a : f n ≡ false = subst (λ w. f w ≡ false) e u in let b : g n ≡ true = subst (λ w. g w ≡ true) e t in
-        let r : failing g n ≡ failing f n = failing_same f g n (λ w k. h w (let below : w < n = k in omega (arith, below))) in rw (a, b, r) (omega arith))
-      (λ d. let k : v < n = omega arith in let r : suc (failing g n) ≡ failing f n = failing_one f g n v k u t h in
-        let e : g n ≡ f n = h n (λ q. d (sym q)) in rw e (omega (arith, r)))
-      (cases_eq v n)
+    (λ e. let a : f n ≡ false = subst (λ w. f w ≡ false) e u in let b : g n ≡ true = subst (λ w. g w ≡ true) e t in
+    let r : failing g n ≡ failing f n = failing_same f g n (λ w k. h w (let below : w < n = k in omega (arith, below))) in rw (a, b, r) (omega arith))
+    (λ d. let k : v < n = omega arith in let r : suc (failing g n) ≡ failing f n = failing_one f g n v k u t h in
+    let e : g n ≡ f n = h n (λ q. d (sym q)) in rw e (omega (arith, r)))
+    (cases_eq v n)

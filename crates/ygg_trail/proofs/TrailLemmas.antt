@@ -43,7 +43,7 @@ pub not_assigned : (trail : List Entry) (v : ℕ) → (IsAssigned trail v → �
 not_assigned [] v n = refl
 not_assigned (d ∷ trail) v n =
     ⊎_elim (λ t. absurd (n (0, d, omega arith, refl, eqb-true d.lit.var v t)))
-      (λ u. rw u (not_assigned trail v (λ (k, x, l, e, p). n (suc k, x, omega arith, e, p)))) (cases_Bool (eqb d.lit.var v))
+    (λ u. rw u (not_assigned trail v (λ (k, x, l, e, p). n (suc k, x, omega arith, e, p)))) (cases_Bool (eqb d.lit.var v))
 
 contains_first : (x : Lit) (xs : List Lit) → Contains (x ∷ xs) x
 contains_first x xs = Contains-append_left (x ∷ []) xs x (Contains-push [] x)
@@ -57,7 +57,7 @@ contains_none y (k, l, e) = omega arith
 contains_cons : (x : Lit) (xs : List Lit) (y : Lit) → Contains (x ∷ xs) y → (x ≡ y) ⊎ Contains xs y
 contains_cons x xs y c =
     ⊎_elim (λ h. ⊎_elim (λ n. absurd (contains_none y n)) (λ e. inl e) (Contains-push_cases [] x y h)) (λ r. inr r)
-      (Contains-append_cases (x ∷ []) xs y c)
+    (Contains-append_cases (x ∷ []) xs y c)
 
 -- an assigned literal
 pub assigned_has : (trail : List Entry) (q n : ℕ) (e : Entry) → q < n → IsAt trail q e → Contains (assigned_before trail n) e.lit
@@ -74,8 +74,8 @@ assigned_at [] (suc n) x c = absurd (contains_none x c)
 assigned_at (d ∷ trail) zero x c = absurd (contains_none x c)
 assigned_at (d ∷ trail) (suc n) x c =
     ⊎_elim (λ e. (0, (d, (omega arith, (refl, e)))))
-      (λ r. let (q, (e, (l, (h, s)))) = assigned_at trail n x r in (suc q, (e, (omega arith, (h, s)))))
-      (contains_cons d.lit (assigned_before trail n) x c)
+    (λ r. let (q, (e, (l, (h, s)))) = assigned_at trail n x r in (suc q, (e, (omega arith, (h, s)))))
+    (contains_cons d.lit (assigned_before trail n) x c)
 
 pub false_before : (trail : List Entry) (n : ℕ) (y : Lit) → Contains (assigned_before trail n) (complement y) → IsFalseBefore trail n y
 false_before trail n y c = assigned_at trail n (complement y) c
@@ -92,9 +92,12 @@ assigned_of (d ∷ trail) (suc q) e h =
 pub same_or_complement : (x y : Lit) → x.var ≡ y.var → (x ≡ y) ⊎ (x ≡ complement y)
 same_or_complement x y e =
     elim x.negated as (λ b. x.negated ≡ b → (x ≡ y) ⊎ (x ≡ complement y)) [
-      true ↦ λ p. elim y.negated as (λ c. y.negated ≡ c → (x ≡ y) ⊎ (x ≡ complement y)) [
-        true ↦ λ q. inl (same_lit x y e (p ∙ sym q))
-      | false ↦ λ q. inr (same_lit x (complement y) e (p ∙ sym (ap not q))) ] refl
-    | false ↦ λ p. elim y.negated as (λ c. y.negated ≡ c → (x ≡ y) ⊎ (x ≡ complement y)) [
-        true ↦ λ q. inr (same_lit x (complement y) e (p ∙ sym (ap not q)))
-      | false ↦ λ q. inl (same_lit x y e (p ∙ sym q)) ] refl ] refl
+      | true ↦ λ p. elim y.negated as (λ c. y.negated ≡ c → (x ≡ y) ⊎ (x ≡ complement y)) [
+        | true ↦ λ q. inl (same_lit x y e (p ∙ sym q))
+        | false ↦ λ q. inr (same_lit x (complement y) e (p ∙ sym (ap not q)))
+      ] refl
+      | false ↦ λ p. elim y.negated as (λ c. y.negated ≡ c → (x ≡ y) ⊎ (x ≡ complement y)) [
+        | true ↦ λ q. inr (same_lit x (complement y) e (p ∙ sym (ap not q)))
+        | false ↦ λ q. inl (same_lit x y e (p ∙ sym q))
+      ] refl
+    ] refl

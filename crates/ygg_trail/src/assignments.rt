@@ -3,12 +3,11 @@ ghost use Rattle.ygg_chain.specs.Marks.{code_of, HasMarks, Fits};
 ghost use Rattle.ygg_trail.specs.Assignments.{IsTrail, IsLevelled, IsKept};
 ghost use Rattle.ygg_trail.specs.Trail.{IsAt, IsFalseBefore, IsAssigned, keep_level, IsOnTrail};
 
+use crate::entry::Entry;
 use std::alloc::Global;
 use ygg_chain::marks::{mark, unmark};
 use ygg_cnf::Lit;
 use ygg_list::NoMemory;
-
-use crate::entry::Entry;
 
 /// The assigned literals in order, their truth by literal, their places by variable, and the place at which each level
 /// begins. All tables are made for the variables below `room`, so that no call but `new` takes memory.
@@ -132,10 +131,7 @@ impl Assignments {
             var,
             negated: false,
         });
-        let negative = self.is_true(Lit {
-            var,
-            negated: true,
-        });
+        let negative = self.is_true(Lit { var, negated: true });
         if !positive && !negative {
             return None;
         }
@@ -152,11 +148,7 @@ impl Assignments {
     {
         let place = self.entries.len();
         let level = self.starts.len() as u64;
-        self.entries.push_reserved(Entry {
-            lit,
-            level,
-            reason,
-        });
+        self.entries.push_reserved(Entry { lit, level, reason });
         mark(self.truth.as_mut_slice(), lit);
         self.places[lit.var as usize] = place;
     }

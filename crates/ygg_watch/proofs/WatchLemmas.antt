@@ -29,7 +29,7 @@ use Rattle.ygg_propagate.proofs.PropagationLemmas.{append-nil}
 pub false_cases : (trail : List Entry) (x : Lit) → IsFalse trail x ⊎ (IsFalse trail x → ⊥)
 false_cases trail x =
     ⊎_elim (λ c. inl (assigned_at trail (length trail) (complement x) c)) (λ n. inr (λ f. n (in_before trail (length trail) x f)))
-      (contains_cases (assigned_before trail (length trail)) (complement x))
+    (contains_cases (assigned_before trail (length trail)) (complement x))
 
 -- a literal that is on the trail, where no frame meets the guard
 pub held_now : (trail : List Entry) (frames : List Frame) (guard : Frame → Type 0) (x : Lit) → IsOnTrail trail x
@@ -48,9 +48,9 @@ pub watching_push : (clauses : List (List Lit)) (watched : List Lit) (trail : Li
     → IsWatching clauses watched trail frames head seen → IsWatching clauses watched (trail ++ e ∷ []) frames head seen
 watching_push clauses watched trail frames head seen e w h k clause l is =
     ⊎_elim
-      (λ p. inl (p.0, (half_push trail frames head k _ _ e w p.1.0, half_push trail frames head k _ _ e w p.1.1)))
-      (λ s. inr (s.0, (s.1.0, held_push trail frames (λ f. k < f.seen) s.0 e s.1.1)))
-      (h k clause l is)
+    (λ p. inl (p.0, (half_push trail frames head k _ _ e w p.1.0, half_push trail frames head k _ _ e w p.1.1)))
+    (λ s. inr (s.0, (s.1.0, held_push trail frames (λ f. k < f.seen) s.0 e s.1.1)))
+    (h k clause l is)
 
 pub framed_push : (trail : List Entry) (frames : List Frame) (head seen : ℕ) (e : Entry) → IsFramed trail frames head seen → IsFramed (trail ++ e ∷ []) frames head seen
 framed_push trail frames head seen e f = record {
@@ -66,7 +66,12 @@ pub live_push : (clauses : List (List Lit)) (watched : List Lit) (next firsts pe
     → IsLive clauses watched next firsts pending trail room frames head seen → after ≡ trail ++ e ∷ [] → IsLive clauses watched next firsts pending after room frames head seen
 live_push clauses watched next firsts pending trail after room frames head seen e v is =
     subst (λ (t : List Entry). IsLive clauses watched next firsts pending t room frames head seen) (sym is) (record {
-      variables = v.variables; watched_size = v.watched_size; next_size = v.next_size; firsts_size = v.firsts_size; lists = v.lists; member = v.member;
+      variables = v.variables;
+      watched_size = v.watched_size;
+      next_size = v.next_size;
+      firsts_size = v.firsts_size;
+      lists = v.lists;
+      member = v.member;
       framed = framed_push trail frames head seen e v.framed;
       watching = watching_push clauses watched trail frames head seen e v.framed.head_within v.watching;
     })
@@ -75,10 +80,14 @@ pub live_linked : (clauses : List (List Lit)) (watched : List Lit) (next firsts 
     → IsLive clauses watched next firsts (node ∷ rest) trail room frames head seen → IsOwn watched c node → c < length firsts → (Among rest node → ⊥)
     → IsLive clauses watched (set next node (get_or firsts c 0)) (set firsts c (node + 1)) rest trail room frames head seen
 live_linked clauses watched next firsts rest trail room frames head seen node c v own within out = record {
-  variables = v.variables; watched_size = v.watched_size; next_size = length-set next node (get_or firsts c 0) ∙ v.next_size;
+  variables = v.variables;
+  watched_size = v.watched_size;
+  next_size = length-set next node (get_or firsts c 0) ∙ v.next_size;
   firsts_size = length-set firsts c (node + 1) ∙ v.firsts_size;
   lists = lists_linked next watched firsts rest node c v.lists own within (let a = v.watched_size in let b = v.next_size in let o = own.0 in omega (arith, a, b, o)) out;
-  member = v.member; framed = v.framed; watching = v.watching;
+  member = v.member;
+  framed = v.framed;
+  watching = v.watching;
 }
 
 -- another literal at a node whose literal is false
@@ -91,9 +100,10 @@ lit_now watched node y l = get_or-set_same watched node y no_lit l
 -- the watches of one clause after the move of its first, and of its second
 pair_moved : (trail : List Entry) (room : ℕ) (frames : List Frame) (head k : ℕ) (a b y : Lit) → IsTrail trail room → IsFalse trail a → (IsFalse trail y → ⊥)
     → IsHalf trail frames head k b a → (IsHalf trail frames head k y b) × (IsHalf trail frames head k b y)
-pair_moved trail room frames head k a b y t fa fy hb =
-    ((λ q e l h s. absurd (fy (q, (e, (entry_within trail q e h, (h, s)))))),
-     (λ q e l h s. let r = hb q e l h s in absurd (not_both_on trail room a t (r.at, (r.entry, (r.is, r.same))) (on_of_false trail a fa))))
+pair_moved trail room frames head k a b y t fa fy hb = (
+  (λ q e l h s. absurd (fy (q, (e, (entry_within trail q e h, (h, s)))))),
+  (λ q e l h s. let r = hb q e l h s in absurd (not_both_on trail room a t (r.at, (r.entry, (r.is, r.same))) (on_of_false trail a fa))),
+)
 
 pub watching_moved : (clauses : List (List Lit)) (watched : List Lit) (trail : List Entry) (room : ℕ) (frames : List Frame) (head seen node : ℕ) (y : Lit) → IsTrail trail room
     → node < length watched → IsFalse trail (lit_of watched node) → (IsFalse trail y → ⊥) → y ≢ lit_of watched (sibling node)
@@ -102,45 +112,57 @@ watching_moved clauses watched trail room frames head seen node y t l fa fy diff
     let after : List Lit = set watched node y in
     let half : Lit → Lit → Type 0 = IsHalf trail frames head k in
     ⊎_elim
-      (λ p. ⊎_elim
-        (λ e. let here : lit_of after (2 * k) ≡ y = ap (lit_of after) e ∙ lit_now watched node y l in
-          let there : lit_of after (2 * k + 1) ≡ lit_of watched (2 * k + 1) = lit_moved watched node (2 * k + 1) y (λ s. let z : 2 * k ≡ 2 * k + 1 = e ∙ sym s in omega (arith, z)) in
-          let b : lit_of watched (sibling node) ≡ lit_of watched (2 * k + 1) = ap (lit_of watched) (ap sibling (sym e) ∙ sibling_first k) in
-          let m = pair_moved trail room frames head k (lit_of watched (2 * k)) (lit_of watched (2 * k + 1)) y t (subst (λ n. IsFalse trail (lit_of watched n)) (sym e) fa) fy p.1.1 in
-          inl ((λ q. differs (sym here ∙ (q ∙ (ap (lit_of after) (sibling_first k) ∙ (there ∙ sym b))))),
-            (subst (λ (z : Lit). half z (lit_of after (2 * k + 1))) (sym here) (subst (λ (z : Lit). half y z) (sym there) m.0),
-             subst (λ (z : Lit). half (lit_of after (2 * k + 1)) z) (sym here) (subst (λ (z : Lit). half z y) (sym there) m.1))))
-        (λ n. ⊎_elim
-          (λ e. let here : lit_of after (2 * k + 1) ≡ y = ap (lit_of after) e ∙ lit_now watched node y l in
-            let there : lit_of after (2 * k) ≡ lit_of watched (2 * k) = lit_moved watched node (2 * k) y n in
-            let b : lit_of watched (sibling node) ≡ lit_of watched (2 * k) = ap (lit_of watched) (ap sibling (sym e) ∙ sibling_second k) in
-            let m = pair_moved trail room frames head k (lit_of watched (2 * k + 1)) (lit_of watched (2 * k)) y t (subst (λ n. IsFalse trail (lit_of watched n)) (sym e) fa) fy p.1.0 in
-            inl ((λ q. differs (sym here ∙ (sym (ap (lit_of after) (sibling_first k)) ∙ (sym q ∙ (there ∙ sym b))))),
-              (subst (λ (z : Lit). half (lit_of after (2 * k)) z) (sym here) (subst (λ (z : Lit). half z y) (sym there) m.1),
-               subst (λ (z : Lit). half z (lit_of after (2 * k))) (sym here) (subst (λ (z : Lit). half y z) (sym there) m.0))))
-          (λ d. let first : lit_of after (2 * k) ≡ lit_of watched (2 * k) = lit_moved watched node (2 * k) y n in
-            let second : lit_of after (2 * k + 1) ≡ lit_of watched (2 * k + 1) = lit_moved watched node (2 * k + 1) y d in
-            inl ((λ q. p.0 (sym first ∙ (q ∙ (ap (lit_of after) (sibling_first k) ∙ (second ∙ sym (ap (lit_of watched) (sibling_first k))))))),
-              (subst (λ (z : Lit). half z (lit_of after (2 * k + 1))) (sym first) (subst (λ (z : Lit). half (lit_of watched (2 * k)) z) (sym second) p.1.0),
-               subst (λ (z : Lit). half (lit_of after (2 * k + 1)) z) (sym first) (subst (λ (z : Lit). half z (lit_of watched (2 * k))) (sym second) p.1.1))))
-          (cases_eq (2 * k + 1) node))
-        (cases_eq (2 * k) node))
-      (λ s. inr s)
-      (h k clause w is)
+    (λ p. ⊎_elim
+    (λ e. let here : lit_of after (2 * k) ≡ y = ap (lit_of after) e ∙ lit_now watched node y l in
+    let there : lit_of after (2 * k + 1) ≡ lit_of watched (2 * k + 1) = lit_moved watched node (2 * k + 1) y (λ s. let z : 2 * k ≡ 2 * k + 1 = e ∙ sym s in omega (arith, z)) in
+    let b : lit_of watched (sibling node) ≡ lit_of watched (2 * k + 1) = ap (lit_of watched) (ap sibling (sym e) ∙ sibling_first k) in
+    let m = pair_moved trail room frames head k (lit_of watched (2 * k)) (lit_of watched (2 * k + 1)) y t (subst (λ n. IsFalse trail (lit_of watched n)) (sym e) fa) fy p.1.1 in
+    inl (
+      (λ q. differs (sym here ∙ (q ∙ (ap (lit_of after) (sibling_first k) ∙ (there ∙ sym b))))),
+      (
+        subst (λ (z : Lit). half z (lit_of after (2 * k + 1))) (sym here) (subst (λ (z : Lit). half y z) (sym there) m.0),
+        subst (λ (z : Lit). half (lit_of after (2 * k + 1)) z) (sym here) (subst (λ (z : Lit). half z y) (sym there) m.1),
+      ),
+    ))
+    (λ n. ⊎_elim
+    (λ e. let here : lit_of after (2 * k + 1) ≡ y = ap (lit_of after) e ∙ lit_now watched node y l in
+    let there : lit_of after (2 * k) ≡ lit_of watched (2 * k) = lit_moved watched node (2 * k) y n in
+    let b : lit_of watched (sibling node) ≡ lit_of watched (2 * k) = ap (lit_of watched) (ap sibling (sym e) ∙ sibling_second k) in
+    let m = pair_moved trail room frames head k (lit_of watched (2 * k + 1)) (lit_of watched (2 * k)) y t (subst (λ n. IsFalse trail (lit_of watched n)) (sym e) fa) fy p.1.0 in
+    inl (
+      (λ q. differs (sym here ∙ (sym (ap (lit_of after) (sibling_first k)) ∙ (sym q ∙ (there ∙ sym b))))),
+      (
+        subst (λ (z : Lit). half (lit_of after (2 * k)) z) (sym here) (subst (λ (z : Lit). half z y) (sym there) m.1),
+        subst (λ (z : Lit). half z (lit_of after (2 * k))) (sym here) (subst (λ (z : Lit). half y z) (sym there) m.0),
+      ),
+    ))
+    (λ d. let first : lit_of after (2 * k) ≡ lit_of watched (2 * k) = lit_moved watched node (2 * k) y n in
+    let second : lit_of after (2 * k + 1) ≡ lit_of watched (2 * k + 1) = lit_moved watched node (2 * k + 1) y d in
+    inl (
+      (λ q. p.0 (sym first ∙ (q ∙ (ap (lit_of after) (sibling_first k) ∙ (second ∙ sym (ap (lit_of watched) (sibling_first k))))))),
+      (
+        subst (λ (z : Lit). half z (lit_of after (2 * k + 1))) (sym first) (subst (λ (z : Lit). half (lit_of watched (2 * k)) z) (sym second) p.1.0),
+        subst (λ (z : Lit). half (lit_of after (2 * k + 1)) z) (sym first) (subst (λ (z : Lit). half z (lit_of watched (2 * k))) (sym second) p.1.1),
+      ),
+    ))
+    (cases_eq (2 * k + 1) node))
+    (cases_eq (2 * k) node))
+    (λ s. inr s)
+    (h k clause w is)
 
 pub member_moved : (clauses : List (List Lit)) (watched : List Lit) (node : ℕ) (y : Lit) (clause : List Lit) → IsMember clauses watched → node < length watched → IsLinked watched node
     → slice_get clauses (node / 2) ≡ Some clause → Contains clause y → IsMember clauses (set watched node y)
 member_moved clauses watched node y clause m l linked is c n other w k has =
     ⊎_elim
-      (λ e. let same : clause ≡ other = same_Some clause other (sym is ∙ (ap (λ i. slice_get clauses (i / 2)) (sym e) ∙ has)) in
-        subst (λ (z : Lit). Contains other z) (sym (ap (lit_of (set watched node y)) e ∙ lit_now watched node y l)) (subst (λ (z : List Lit). Contains z y) same c))
-      (λ d. let here : lit_of (set watched node y) n ≡ lit_of watched n = lit_moved watched node n y d in
-        subst (λ (z : Lit). Contains other z) (sym here)
-          (m n other (simp length-set at w) (⊎_elim
-            (λ s. let q : n ≡ sibling node = sym (sibling_twice n) ∙ ap sibling s in λ e. linked (ap (lit_of watched) (sym s) ∙ (sym e ∙ ap (lit_of watched) q)))
-            (λ s e. k (here ∙ (e ∙ sym (lit_moved watched node (sibling n) y s))))
-            (cases_eq (sibling n) node)) has))
-      (cases_eq n node)
+    (λ e. let same : clause ≡ other = same_Some clause other (sym is ∙ (ap (λ i. slice_get clauses (i / 2)) (sym e) ∙ has)) in
+    subst (λ (z : Lit). Contains other z) (sym (ap (lit_of (set watched node y)) e ∙ lit_now watched node y l)) (subst (λ (z : List Lit). Contains z y) same c))
+    (λ d. let here : lit_of (set watched node y) n ≡ lit_of watched n = lit_moved watched node n y d in
+    subst (λ (z : Lit). Contains other z) (sym here)
+    (m n other (simp length-set at w) (⊎_elim
+    (λ s. let q : n ≡ sibling node = sym (sibling_twice n) ∙ ap sibling s in λ e. linked (ap (lit_of watched) (sym s) ∙ (sym e ∙ ap (lit_of watched) q)))
+    (λ s e. k (here ∙ (e ∙ sym (lit_moved watched node (sibling n) y s))))
+    (cases_eq (sibling n) node)) has))
+    (cases_eq n node)
 
 pub live_moved : (clauses : List (List Lit)) (watched : List Lit) (next firsts rest : List ℕ) (trail : List Entry) (room : ℕ) (frames : List Frame) (head seen node : ℕ) (y : Lit) (clause : List Lit)
     → IsTrail trail room → IsLive clauses watched next firsts (node ∷ rest) trail room frames head seen
@@ -148,7 +170,10 @@ pub live_moved : (clauses : List (List Lit)) (watched : List Lit) (next firsts r
     → slice_get clauses (node / 2) ≡ Some clause → Contains clause y
     → IsLive clauses (set watched node y) next firsts (node ∷ rest) trail room frames head seen
 live_moved clauses watched next firsts rest trail room frames head seen node y clause t v l linked fa fy differs is c = record {
-  variables = v.variables; watched_size = length-set watched node y ∙ v.watched_size; next_size = v.next_size; firsts_size = v.firsts_size;
+  variables = v.variables;
+  watched_size = length-set watched node y ∙ v.watched_size;
+  next_size = v.next_size;
+  firsts_size = v.firsts_size;
   lists = lists_moved next watched firsts rest node y v.lists l linked differs;
   member = member_moved clauses watched node y clause v.member l linked is c;
   framed = v.framed;
@@ -162,41 +187,51 @@ pub watching_head : (clauses : List (List Lit)) (watched : List Lit) (trail : Li
 watching_head clauses watched trail frames head seen e x size f at is done h k clause l has =
     let within : k < length clauses = slice_get_within clauses k clause has in
     let same : (a : Lit) (d : Entry) → IsAt trail head d → d.lit ≡ complement a → code_of a ≡ code_of x = λ a d g s.
-      let de : d ≡ e = one_entry trail head d e g at in
-      ap code_of (sym (complement_twice a) ∙ (ap complement (sym s ∙ (ap (λ (z : Entry). z.lit) de ∙ is)) ∙ complement_twice x)) in
+    let de : d ≡ e = one_entry trail head d e g at in
+    ap code_of (sym (complement_twice a) ∙ (ap complement (sym s ∙ (ap (λ (z : Entry). z.lit) de ∙ is)) ∙ complement_twice x)) in
     let now : (n : ℕ) (d : Entry) → n < length watched → IsLinked watched n → IsAt trail head d → d.lit ≡ complement (lit_of watched n) → IsHeldTrue trail frames (λ g. (head < g.head) × (k < g.seen)) (lit_of watched (sibling n))
-      = λ n d w linked g s. held_now trail frames (λ z. (head < z.head) × (k < z.seen)) (lit_of watched (sibling n)) (done n (w, (linked, same (lit_of watched n) d g s)) (λ z. z))
-          (λ j w2 g2. let r = f.heads j w2 in let r2 = g2.0 in omega (arith, r, r2)) in
+    = λ n d w linked g s. held_now trail frames (λ z. (head < z.head) × (k < z.seen)) (lit_of watched (sibling n)) (done n (w, (linked, same (lit_of watched n) d g s)) (λ z. z))
+    (λ j w2 g2. let r = f.heads j w2 in let r2 = g2.0 in omega (arith, r, r2)) in
     ⊎_elim
-      (λ p. inl (p.0,
-        ((λ q d b g s. ⊎_elim (λ c. p.1.0 q d c g s)
+    (λ p. inl (
+      p.0,
+      (
+        (λ q d b g s. ⊎_elim (λ c. p.1.0 q d c g s)
             (λ c. let qe : q ≡ head = omega arith in
-              subst (λ m. IsHeldTrue trail frames (λ z. (m < z.head) × (k < z.seen)) (lit_of watched (2 * k + 1))) (sym qe)
-                (subst (λ m. IsHeldTrue trail frames (λ z. (head < z.head) × (k < z.seen)) (lit_of watched m)) (sibling_first k)
-                  (now (2 * k) d (omega (arith, size, within)) p.0 (subst (λ m. IsAt trail m d) qe g) s))) (cases_lt q head)),
-         (λ q d b g s. ⊎_elim (λ c. p.1.1 q d c g s)
+            subst (λ m. IsHeldTrue trail frames (λ z. (m < z.head) × (k < z.seen)) (lit_of watched (2 * k + 1))) (sym qe)
+            (subst (λ m. IsHeldTrue trail frames (λ z. (head < z.head) × (k < z.seen)) (lit_of watched m)) (sibling_first k)
+            (now (2 * k) d (omega (arith, size, within)) p.0 (subst (λ m. IsAt trail m d) qe g) s))) (cases_lt q head)),
+        (λ q d b g s. ⊎_elim (λ c. p.1.1 q d c g s)
             (λ c. let qe : q ≡ head = omega arith in
-              subst (λ m. IsHeldTrue trail frames (λ z. (m < z.head) × (k < z.seen)) (lit_of watched (2 * k))) (sym qe)
-                (subst (λ m. IsHeldTrue trail frames (λ z. (head < z.head) × (k < z.seen)) (lit_of watched m)) (sibling_second k)
-                  (now (2 * k + 1) d (omega (arith, size, within))
-                    (λ q2. p.0 (sym (ap (lit_of watched) (sibling_second k)) ∙ (sym q2 ∙ ap (lit_of watched) (sym (sibling_first k)))))
-                    (subst (λ m. IsAt trail m d) qe g) s))) (cases_lt q head)))))
-      (λ s. inr s)
-      (h k clause l has)
+            subst (λ m. IsHeldTrue trail frames (λ z. (m < z.head) × (k < z.seen)) (lit_of watched (2 * k))) (sym qe)
+            (subst (λ m. IsHeldTrue trail frames (λ z. (head < z.head) × (k < z.seen)) (lit_of watched m)) (sibling_second k)
+            (now (2 * k + 1) d (omega (arith, size, within))
+            (λ q2. p.0 (sym (ap (lit_of watched) (sibling_second k)) ∙ (sym q2 ∙ ap (lit_of watched) (sym (sibling_first k)))))
+            (subst (λ m. IsAt trail m d) qe g) s))) (cases_lt q head)),
+      ),
+    ))
+    (λ s. inr s)
+    (h k clause l has)
 
 pub framed_head : (trail : List Entry) (frames : List Frame) (head seen : ℕ) → IsFramed trail frames head seen → head < length trail → IsFramed trail frames (head + 1) seen
 framed_head trail frames head seen f l = record {
   head_within = omega arith;
   heads = λ j w. let r = f.heads j w in omega (arith, r);
-  seens = f.seens; heads_rise = f.heads_rise; seens_rise = f.seens_rise; low = f.low;
+  seens = f.seens;
+  heads_rise = f.heads_rise;
+  seens_rise = f.seens_rise;
+  low = f.low;
 }
 
 -- one more clause was looked at
 pub framed_seen : (trail : List Entry) (frames : List Frame) (head seen : ℕ) → IsFramed trail frames head seen → IsFramed trail frames head (seen + 1)
 framed_seen trail frames head seen f = record {
-  head_within = f.head_within; heads = f.heads;
+  head_within = f.head_within;
+  heads = f.heads;
   seens = λ j w. let r = f.seens j w in omega (arith, r);
-  heads_rise = f.heads_rise; seens_rise = f.seens_rise; low = f.low;
+  heads_rise = f.heads_rise;
+  seens_rise = f.seens_rise;
+  low = f.low;
 }
 
 pub watching_seen : (clauses : List (List Lit)) (watched : List Lit) (trail : List Entry) (frames : List Frame) (head seen : ℕ)
@@ -204,9 +239,9 @@ pub watching_seen : (clauses : List (List Lit)) (watched : List Lit) (trail : Li
     → IsWatching clauses watched trail frames head (seen + 1)
 watching_seen clauses watched trail frames head seen h here k clause l is =
     ⊎_elim (λ b. h k clause b is)
-      (λ g. let e : k ≡ seen = omega arith in
-        subst (λ m. IsWatchedAt watched trail frames head m clause) (sym e) (here clause (subst (λ m. slice_get clauses m ≡ Some clause) e is)))
-      (cases_lt k seen)
+    (λ g. let e : k ≡ seen = omega arith in
+    subst (λ m. IsWatchedAt watched trail frames head m clause) (sym e) (here clause (subst (λ m. slice_get clauses m ≡ Some clause) e is)))
+    (cases_lt k seen)
 
 -- where no clause is left to be looked at, and no entry, each clause is open
 pub quiet_of : (clauses : List (List Lit)) (watched : List Lit) (trail : List Entry) (frames : List Frame) (head seen : ℕ)
@@ -218,19 +253,19 @@ quiet_of clauses watched trail frames head seen size member all every h k d l =
     let a : Lit = lit_of watched (2 * k) in
     let b : Lit = lit_of watched (2 * k + 1) in
     let held : (x y : Lit) → IsHalf trail frames head k x y → IsFalse trail x → IsOnTrail trail y
-      = λ x y half (q, (e, (w, (g, s)))). let r = half q e (omega arith) g s in (r.at, (r.entry, (r.is, r.same))) in
+    = λ x y half (q, (e, (w, (g, s)))). let r = half q e (omega arith) g s in (r.at, (r.entry, (r.is, r.same))) in
     ⊎_elim
-      (λ p. let other : IsLinked watched (2 * k + 1) = λ q. p.0 (sym (ap (lit_of watched) (sibling_second k)) ∙ (sym q ∙ ap (lit_of watched) (sym (sibling_first k)))) in
-        let ca : Contains clause a = member (2 * k) clause (omega (arith, size, l)) p.0 (subst (λ m. slice_get clauses m ≡ Some clause) (omega arith) is) in
-        let cb : Contains clause b = member (2 * k + 1) clause (omega (arith, size, l)) other (subst (λ m. slice_get clauses m ≡ Some clause) (omega arith) is) in
-        ⊎_elim
-          (λ f. open_true clause trail b cb (held a b p.1.0 f))
-          (λ n. ⊎_elim (λ f. open_true clause trail a ca (held b a p.1.1 f))
-            (λ m. open_two clause trail a b ca cb (λ q. p.0 (q ∙ ap (lit_of watched) (sym (sibling_first k)))) n m)
-            (false_cases trail b))
-          (false_cases trail a))
-      (λ s. open_true clause trail s.0 s.1.0 (s.1.1.at, (s.1.1.entry, (s.1.1.is, s.1.1.same))))
-      (h k clause (omega (arith, l, every)) is)
+    (λ p. let other : IsLinked watched (2 * k + 1) = λ q. p.0 (sym (ap (lit_of watched) (sibling_second k)) ∙ (sym q ∙ ap (lit_of watched) (sym (sibling_first k)))) in
+    let ca : Contains clause a = member (2 * k) clause (omega (arith, size, l)) p.0 (subst (λ m. slice_get clauses m ≡ Some clause) (omega arith) is) in
+    let cb : Contains clause b = member (2 * k + 1) clause (omega (arith, size, l)) other (subst (λ m. slice_get clauses m ≡ Some clause) (omega arith) is) in
+    ⊎_elim
+    (λ f. open_true clause trail b cb (held a b p.1.0 f))
+    (λ n. ⊎_elim (λ f. open_true clause trail a ca (held b a p.1.1 f))
+    (λ m. open_two clause trail a b ca cb (λ q. p.0 (q ∙ ap (lit_of watched) (sym (sibling_first k)))) n m)
+    (false_cases trail b))
+    (false_cases trail a))
+    (λ s. open_true clause trail s.0 s.1.0 (s.1.1.at, (s.1.1.entry, (s.1.1.is, s.1.1.same))))
+    (h k clause (omega (arith, l, every)) is)
 
 -- how a clause comes to be watched
 pub watched_loose : (watched : List Lit) (trail : List Entry) (frames : List Frame) (head k : ℕ) (clause : List Lit) → IsLinked watched (2 * k)
@@ -278,7 +313,7 @@ pub other_here : (clauses : List (List Lit)) (watched : List Lit) (node c : ℕ)
 other_here clauses watched node c clause size m own is =
     let w : sibling node < length watched = let k = sibling_within node (length clauses) (let o = own.0 in omega (arith, o, size)) in omega (arith, k, size) in
     m (sibling node) clause w (λ e. own.1.0 (sym (e ∙ ap (lit_of watched) (sibling_twice node))))
-      (subst (λ i. slice_get clauses i ≡ Some clause) (sym (sibling_half node)) is)
+    (subst (λ i. slice_get clauses i ≡ Some clause) (sym (sibling_half node)) is)
 
 pub done_kept : (watched : List Lit) (trail : List Entry) (c node : ℕ) (rest : List ℕ) → IsDone watched trail c (node ∷ rest) → IsOnTrail trail (lit_of watched (sibling node)) → IsDone watched trail c rest
 done_kept watched trail c node rest done on n own none =
@@ -295,15 +330,15 @@ pub done_moved : (watched : List Lit) (trail : List Entry) (room c node : ℕ) (
     → (IsFalse trail y → ⊥) → IsDone watched trail c (node ∷ rest) → IsDone (set watched node y) trail c rest
 done_moved watched trail room c node rest y t l here fa fy done n own none =
     ⊎_elim
-      (λ e. let code : code_of y ≡ c = ap code_of (sym (lit_now watched node y l)) ∙ (ap (λ m. code_of (lit_of (set watched node y) m)) (sym e) ∙ own.1.1) in
-        absurd (fy (subst (IsFalse trail) (same_code (lit_of watched node) y (here.1.1 ∙ sym code)) fa)))
-      (λ d. let before : IsOwn watched c n = own_before watched node n c y l d here.1.0 own in
-        let on : IsOnTrail trail (lit_of watched (sibling n)) = done n before (λ a. ⊎_elim (λ q. d (sym q)) none a) in
-        ⊎_elim
-          (λ s. absurd (not_both_on trail room (lit_of watched node) t (subst (λ m. IsOnTrail trail (lit_of watched m)) s on) (on_of_false trail (lit_of watched node) fa)))
-          (λ s. subst (IsOnTrail trail) (sym (lit_moved watched node (sibling n) y s)) on)
-          (cases_eq (sibling n) node))
-      (cases_eq n node)
+    (λ e. let code : code_of y ≡ c = ap code_of (sym (lit_now watched node y l)) ∙ (ap (λ m. code_of (lit_of (set watched node y) m)) (sym e) ∙ own.1.1) in
+    absurd (fy (subst (IsFalse trail) (same_code (lit_of watched node) y (here.1.1 ∙ sym code)) fa)))
+    (λ d. let before : IsOwn watched c n = own_before watched node n c y l d here.1.0 own in
+    let on : IsOnTrail trail (lit_of watched (sibling n)) = done n before (λ a. ⊎_elim (λ q. d (sym q)) none a) in
+    ⊎_elim
+    (λ s. absurd (not_both_on trail room (lit_of watched node) t (subst (λ m. IsOnTrail trail (lit_of watched m)) s on) (on_of_false trail (lit_of watched node) fa)))
+    (λ s. subst (IsOnTrail trail) (sym (lit_moved watched node (sibling n) y s)) on)
+    (cases_eq (sibling n) node))
+    (cases_eq n node)
 
 pub false_at : (watched : List Lit) (trail : List Entry) (c node : ℕ) (x : Lit) (head : ℕ) → c ≡ code_of x → IsOwn watched c node → (e : Entry) × (IsAt trail head e × (e.lit ≡ complement x)) → IsFalse trail (lit_of watched node)
 false_at watched trail c node x head ce own (e, (h, s)) =
@@ -337,7 +372,7 @@ after_move clauses watched next firsts trail room frames head seen c at count y 
     let w : List Lit = set watched node y in
     let l : node < length watched = n.own.0 in
     let moved : IsLive clauses w next firsts (node ∷ n.rest) trail room frames head seen
-      = live_moved clauses watched next firsts n.rest trail room frames head seen node y clause t n.live l n.own.1.0 fa fy differs is has in
+    = live_moved clauses watched next firsts n.rest trail room frames head seen node y clause t n.live l n.own.1.0 fa fy differs is has in
     let own : IsOwn w (code_of y) node = (rw length-set l, ((λ e. differs (sym (lit_now watched node y l) ∙ (e ∙ lit_moved watched node (sibling node) y (sibling_differs node)))), ap code_of (lit_now watched node y l))) in
     record {
       rest = n.rest;
@@ -363,7 +398,7 @@ pub clause_within : (clauses : List (List Lit)) (room i : ℕ) (clause : List Li
     → All (λ (y : Lit). y.var < room) clause
 clause_within clauses room i clause a h =
     subst (λ (w : List Lit). All (λ (y : Lit). y.var < room) w) (get_or_from_slice_get clauses i clause clause h)
-      (All-get_or (λ w. All (λ (y : Lit). y.var < room) w) clauses i clause (slice_get_within clauses i clause h) a)
+    (All-get_or (λ w. All (λ (y : Lit). y.var < room) w) clauses i clause (slice_get_within clauses i clause h) a)
 
 pub lit_within : (clauses : List (List Lit)) (room i : ℕ) (clause : List Lit) (x : Lit) → All (λ w. All (λ (y : Lit). y.var < room) w) clauses → slice_get clauses i ≡ Some clause
     → Contains clause x → x.var < room
@@ -388,11 +423,25 @@ pub visit_begins : (clauses : List (List Lit)) (watched : List Lit) (next firsts
     → (rest : List ℕ) × (IsPending next watched at c rest × (IsLive clauses watched next now rest trail room frames head seen × IsDone watched trail c rest))
 visit_begins clauses watched next firsts now trail room frames head seen c at v within is taken =
     let (rest, (p, ls)) = lists_taken next watched firsts c v.lists within in
-    let size : length (set firsts c 0) ≡ length firsts = length-set firsts c 0 in
-    (rest, (subst (λ m. IsPending next watched m c rest) (sym is) p,
-      (subst (λ (f : List ℕ). IsLive clauses watched next f rest trail room frames head seen) (sym taken) (record {
-        variables = v.variables; watched_size = v.watched_size; next_size = v.next_size; firsts_size = size ∙ v.firsts_size; lists = ls; member = v.member; framed = v.framed; watching = v.watching }),
-       λ n own none. absurd (drained next watched rest (get_or (set firsts c 0) c 0) c n (ls c (omega (arith, size, within))) (get_or-set_same firsts c 0 0 within) own none))))
+    let size : length (set firsts c 0) ≡ length firsts = length-set firsts c 0 in (
+      rest,
+      (
+        subst (λ m. IsPending next watched m c rest) (sym is) p,
+        (
+          subst (λ (f : List ℕ). IsLive clauses watched next f rest trail room frames head seen) (sym taken) (record {
+            variables = v.variables;
+            watched_size = v.watched_size;
+            next_size = v.next_size;
+            firsts_size = size ∙ v.firsts_size;
+            lists = ls;
+            member = v.member;
+            framed = v.framed;
+            watching = v.watching;
+          }),
+          λ n own none. absurd (drained next watched rest (get_or (set firsts c 0) c 0) c n (ls c (omega (arith, size, within))) (get_or-set_same firsts c 0 0 within) own none),
+        ),
+      ),
+    )
 
 pub visit_ends : (clauses : List (List Lit)) (watched : List Lit) (next firsts : List ℕ) (trail : List Entry) (room : ℕ) (frames : List Frame) (head seen c at : ℕ)
     → (rest : List ℕ) × (IsPending next watched at c rest × (IsLive clauses watched next firsts rest trail room frames head seen × IsDone watched trail c rest)) → at ≡ 0
@@ -419,7 +468,15 @@ pub live_back : (clauses : List (List Lit)) (watched : List Lit) (next firsts pe
     → IsLive clauses watched next firsts pending trail room frames head seen → length next2 ≡ length next → length firsts2 ≡ length firsts → IsLists next2 watched firsts2 []
     → IsLive clauses watched next2 firsts2 [] trail room frames head seen
 live_back clauses watched next firsts pending trail room frames head seen next2 firsts2 v e1 e2 ls = record {
-  variables = v.variables; watched_size = v.watched_size; next_size = e1 ∙ v.next_size; firsts_size = e2 ∙ v.firsts_size; lists = ls; member = v.member; framed = v.framed; watching = v.watching }
+  variables = v.variables;
+  watched_size = v.watched_size;
+  next_size = e1 ∙ v.next_size;
+  firsts_size = e2 ∙ v.firsts_size;
+  lists = ls;
+  member = v.member;
+  framed = v.framed;
+  watching = v.watching;
+}
 
 pub entry_push : (trail after : List Entry) (head : ℕ) (x : Lit) (e : Entry) → after ≡ trail ++ e ∷ [] → (d : Entry) × (IsAt trail head d × (d.lit ≡ complement x)) → (d : Entry) × (IsAt after head d × (d.lit ≡ complement x))
 entry_push trail after head x e is (d, (h, s)) = (d, (subst (λ (t : List Entry). IsAt t head d) (sym is) (at_front trail (e ∷ []) d head h), s))
@@ -428,11 +485,12 @@ pub watched_standing : (watched : List Lit) (trail : List Entry) (room : ℕ) (f
     → IsStanding watched trail seen → IsWatchedAt watched trail frames head seen clause
 watched_standing watched trail room frames head seen clause t f (linked, s) =
     let a : Lit = lit_of watched (2 * seen) in let b : Lit = lit_of watched (2 * seen + 1) in
-    let one : (x y : Lit) → IsOnTrail trail x → IsHalf trail frames head seen x y × IsHalf trail frames head seen y x = λ x y on.
-      ((λ q e l h r. absurd (not_both_on trail room x t on (q, (e, (h, r))))),
-       (λ q e l h r. held_now trail frames (λ z. (q < z.head) × (seen < z.seen)) x on (λ j w g. not_seen trail frames head seen f j w g.1))) in
+    let one : (x y : Lit) → IsOnTrail trail x → IsHalf trail frames head seen x y × IsHalf trail frames head seen y x = λ x y on. (
+      (λ q e l h r. absurd (not_both_on trail room x t on (q, (e, (h, r))))),
+      (λ q e l h r. held_now trail frames (λ z. (q < z.head) × (seen < z.seen)) x on (λ j w g. not_seen trail frames head seen f j w g.1)),
+    ) in
     ⊎_elim (λ p. watched_loose watched trail frames head seen clause linked p.0 p.1)
-      (λ p. ⊎_elim (λ on. inl (linked, one a b on)) (λ on. let r = one b a on in inl (linked, (r.1, r.0))) p) s
+    (λ p. ⊎_elim (λ on. inl (linked, one a b on)) (λ on. let r = one b a on in inl (linked, (r.1, r.0))) p) s
 
 pub linked_from : (watched : List Lit) (k : ℕ) → lit_of watched (2 * k) ≢ lit_of watched (2 * k + 1) → IsLinked watched (2 * k)
 linked_from watched k d e = d (e ∙ ap (lit_of watched) (sibling_first k))
@@ -468,19 +526,19 @@ member_attached clauses watched k x y clause m l is cx cy n other w linked has =
     let after : List Lit = set (set watched (2 * k) x) (2 * k + 1) y in
     let size : length after ≡ length watched = length-set (set watched (2 * k) x) (2 * k + 1) y ∙ length-set watched (2 * k) x in
     ⊎_elim
-      (λ e. let i : n / 2 ≡ k = omega (arith, e) in
-        let same : clause ≡ other = same_Some clause other (sym is ∙ (ap (slice_get clauses) (sym i) ∙ has)) in
-        subst (λ (z : Lit). Contains other z) (sym (ap (lit_of after) e ∙ first_lit watched k x y l)) (subst (λ (z : List Lit). Contains z x) same cx))
-      (λ d0. ⊎_elim
-        (λ e. let i : n / 2 ≡ k = omega (arith, e) in
-          let same : clause ≡ other = same_Some clause other (sym is ∙ (ap (slice_get clauses) (sym i) ∙ has)) in
-          subst (λ (z : Lit). Contains other z) (sym (ap (lit_of after) e ∙ second_lit watched k x y l)) (subst (λ (z : List Lit). Contains z y) same cy))
-        (λ d1. let here : lit_of after n ≡ lit_of watched n = other_lits watched k n x y d0 d1 in
-          let there : lit_of after (sibling n) ≡ lit_of watched (sibling n) = other_lits watched k (sibling n) x y
-            (λ q. d1 (sym (sibling_twice n) ∙ (ap sibling q ∙ sibling_first k))) (λ q. d0 (sym (sibling_twice n) ∙ (ap sibling q ∙ sibling_second k))) in
-          subst (λ (z : Lit). Contains other z) (sym here) (m n other (omega (arith, size, w)) (λ e. linked (here ∙ (e ∙ sym there))) has))
-        (cases_eq n (2 * k + 1)))
-      (cases_eq n (2 * k))
+    (λ e. let i : n / 2 ≡ k = omega (arith, e) in
+    let same : clause ≡ other = same_Some clause other (sym is ∙ (ap (slice_get clauses) (sym i) ∙ has)) in
+    subst (λ (z : Lit). Contains other z) (sym (ap (lit_of after) e ∙ first_lit watched k x y l)) (subst (λ (z : List Lit). Contains z x) same cx))
+    (λ d0. ⊎_elim
+    (λ e. let i : n / 2 ≡ k = omega (arith, e) in
+    let same : clause ≡ other = same_Some clause other (sym is ∙ (ap (slice_get clauses) (sym i) ∙ has)) in
+    subst (λ (z : Lit). Contains other z) (sym (ap (lit_of after) e ∙ second_lit watched k x y l)) (subst (λ (z : List Lit). Contains z y) same cy))
+    (λ d1. let here : lit_of after n ≡ lit_of watched n = other_lits watched k n x y d0 d1 in
+    let there : lit_of after (sibling n) ≡ lit_of watched (sibling n) = other_lits watched k (sibling n) x y
+    (λ q. d1 (sym (sibling_twice n) ∙ (ap sibling q ∙ sibling_first k))) (λ q. d0 (sym (sibling_twice n) ∙ (ap sibling q ∙ sibling_second k))) in
+    subst (λ (z : Lit). Contains other z) (sym here) (m n other (omega (arith, size, w)) (λ e. linked (here ∙ (e ∙ sym there))) has))
+    (cases_eq n (2 * k + 1)))
+    (cases_eq n (2 * k))
 
 watching_attached : (clauses : List (List Lit)) (watched : List Lit) (trail : List Entry) (frames : List Frame) (head k : ℕ) (x y : Lit) → IsWatching clauses watched trail frames head k
     → IsWatching clauses (set (set watched (2 * k) x) (2 * k + 1) y) trail frames head k
@@ -492,11 +550,15 @@ watching_attached clauses watched trail frames head k x y h i clause l is =
     let a : lit_of after (2 * i) ≡ lit_of watched (2 * i) = other_lits watched k (2 * i) x y d0 d1 in
     let b : lit_of after (2 * i + 1) ≡ lit_of watched (2 * i + 1) = other_lits watched k (2 * i + 1) x y d2 d3 in
     ⊎_elim
-      (λ p. inl (linked_from after i (λ q. p.0 (sym a ∙ (q ∙ (b ∙ ap (lit_of watched) (sym (sibling_first i)))))),
-        (subst (λ (z : Lit). half z (lit_of after (2 * i + 1))) (sym a) (subst (λ (z : Lit). half (lit_of watched (2 * i)) z) (sym b) p.1.0),
-         subst (λ (z : Lit). half (lit_of after (2 * i + 1)) z) (sym a) (subst (λ (z : Lit). half z (lit_of watched (2 * i))) (sym b) p.1.1))))
-      (λ s. inr s)
-      (h i clause l is)
+    (λ p. inl (
+      linked_from after i (λ q. p.0 (sym a ∙ (q ∙ (b ∙ ap (lit_of watched) (sym (sibling_first i)))))),
+      (
+        subst (λ (z : Lit). half z (lit_of after (2 * i + 1))) (sym a) (subst (λ (z : Lit). half (lit_of watched (2 * i)) z) (sym b) p.1.0),
+        subst (λ (z : Lit). half (lit_of after (2 * i + 1)) z) (sym a) (subst (λ (z : Lit). half z (lit_of watched (2 * i))) (sym b) p.1.1),
+      ),
+    ))
+    (λ s. inr s)
+    (h i clause l is)
 
 pub live_attached : (clauses : List (List Lit)) (watched : List Lit) (next firsts : List ℕ) (trail : List Entry) (room : ℕ) (frames : List Frame) (head k : ℕ) (x y : Lit) (clause : List Lit)
     → IsLive clauses watched next firsts [] trail room frames head k → lit_of watched (2 * k) ≡ lit_of watched (2 * k + 1) → slice_get clauses k ≡ Some clause
@@ -523,9 +585,10 @@ live_attached clauses watched next firsts trail room frames head k x y clause v 
     let n1 : length next1 ≡ length next = length-set next (2 * k) (get_or firsts (code_of x) 0) in
     let f1 : length firsts1 ≡ length firsts = length-set firsts (code_of x) (2 * k + 1) in
     let ls2 : IsLists (set next1 (2 * k + 1) (get_or firsts1 (code_of y) 0)) after (set firsts1 (code_of y) (2 * k + 1 + 1)) []
-      = lists_linked next1 after firsts1 [] (2 * k + 1) (code_of y) ls1 own1 (omega (arith, f1, fy)) (omega (arith, n1, ns, within)) (λ z. z) in
+    = lists_linked next1 after firsts1 [] (2 * k + 1) (code_of y) ls1 own1 (omega (arith, f1, fy)) (omega (arith, n1, ns, within)) (λ z. z) in
     record {
-      variables = v.variables; watched_size = size ∙ ws;
+      variables = v.variables;
+      watched_size = size ∙ ws;
       next_size = ap (λ (z : List ℕ). length z) en ∙ (length-set next1 (2 * k + 1) (get_or firsts1 (code_of y) 0) ∙ (n1 ∙ ns));
       firsts_size = ap (λ (z : List ℕ). length z) ef ∙ (length-set firsts1 (code_of y) (2 * k + 1 + 1) ∙ (f1 ∙ fs));
       lists = rw (en, ef) ls2;
@@ -539,14 +602,17 @@ frame_cases : (frames : List Frame) (f : Frame) (j : ℕ) → j < length (frames
     → ((j < length frames) × (frame_of (frames ++ f ∷ []) j ≡ frame_of frames j)) ⊎ ((j ≡ length frames) × (frame_of (frames ++ f ∷ []) j ≡ f))
 frame_cases frames f j l =
     ⊎_elim (λ k. inl (k, get_or_append_left frames (f ∷ []) (record { head = 0; seen = 0 }) j k))
-      (λ g. let m = simp length-append at l in let e : j ≡ length frames = omega arith in
-        inr (e, rw e (get_or-append_seam frames f [] (record { head = 0; seen = 0 }))))
-      (cases_lt j (length frames))
+    (λ g. let m = simp length-append at l in let e : j ≡ length frames = omega arith in
+    inr (e, rw e (get_or-append_seam frames f [] (record { head = 0; seen = 0 }))))
+    (cases_lt j (length frames))
 
 held_decided : (trail : List Entry) (frames : List Frame) (guard : Frame → Type 0) (x : Lit) (e : Entry) (f : Frame)
     → ((q : ℕ) (d : Entry) → IsAt trail q d → d.level ≤ length frames) → IsHeldTrue trail frames guard x → IsHeldTrue (trail ++ e ∷ []) (frames ++ f ∷ []) guard x
 held_decided trail frames guard x e f low h = record {
-  at = h.at; entry = h.entry; is = at_front trail (e ∷ []) h.entry h.at h.is; same = h.same;
+  at = h.at;
+  entry = h.entry;
+  is = at_front trail (e ∷ []) h.entry h.at h.is;
+  same = h.same;
   stays = λ j l g. ⊎_elim (λ a. h.stays j a.0 (subst guard a.1 g)) (λ a. let r = low h.at h.entry h.is in omega (arith, r, a.0)) (frame_cases frames f j l);
 }
 
@@ -561,19 +627,19 @@ framed_decided trail frames head seen e low f =
       heads = λ j l. ⊎_elim (λ a. rw a.1 (f.heads j a.0)) (λ a. rw a.1 (omega arith)) (frame_cases frames new j l);
       seens = λ j l. ⊎_elim (λ a. rw a.1 (f.seens j a.0)) (λ a. rw a.1 (omega arith)) (frame_cases frames new j l);
       heads_rise = λ i j l k. ⊎_elim
-        (λ a. ⊎_elim (λ b. rw (a.1, b.1) (f.heads_rise i j l a.0)) (λ b. absurd (omega (arith, a.0, b.0, l))) (frame_cases frames new i (below i j l k)))
-        (λ a. ⊎_elim (λ b. rw (a.1, b.1) (f.heads i b.0)) (λ b. absurd (omega (arith, a.0, b.0, l))) (frame_cases frames new i (below i j l k)))
-        (frame_cases frames new j k);
+          (λ a. ⊎_elim (λ b. rw (a.1, b.1) (f.heads_rise i j l a.0)) (λ b. absurd (omega (arith, a.0, b.0, l))) (frame_cases frames new i (below i j l k)))
+          (λ a. ⊎_elim (λ b. rw (a.1, b.1) (f.heads i b.0)) (λ b. absurd (omega (arith, a.0, b.0, l))) (frame_cases frames new i (below i j l k)))
+          (frame_cases frames new j k);
       seens_rise = λ i j l k. ⊎_elim
-        (λ a. ⊎_elim (λ b. rw (a.1, b.1) (f.seens_rise i j l a.0)) (λ b. absurd (omega (arith, a.0, b.0, l))) (frame_cases frames new i (below i j l k)))
-        (λ a. ⊎_elim (λ b. rw (a.1, b.1) (f.seens i b.0)) (λ b. absurd (omega (arith, a.0, b.0, l))) (frame_cases frames new i (below i j l k)))
-        (frame_cases frames new j k);
+          (λ a. ⊎_elim (λ b. rw (a.1, b.1) (f.seens_rise i j l a.0)) (λ b. absurd (omega (arith, a.0, b.0, l))) (frame_cases frames new i (below i j l k)))
+          (λ a. ⊎_elim (λ b. rw (a.1, b.1) (f.seens i b.0)) (λ b. absurd (omega (arith, a.0, b.0, l))) (frame_cases frames new i (below i j l k)))
+          (frame_cases frames new j k);
       low = λ j q d l h b. ⊎_elim
-        (λ a. let b1 : q < (frame_of frames j).head = subst (λ (z : Frame). q < z.head) a.1 b in let r = f.heads j a.0 in
+          (λ a. let b1 : q < (frame_of frames j).head = subst (λ (z : Frame). q < z.head) a.1 b in let r = f.heads j a.0 in
           f.low j q d a.0 (at_in trail (e ∷ []) q d h (omega (arith, b1, r, within))) b1)
-        (λ a. let b1 : q < head = subst (λ (z : Frame). q < z.head) a.1 b in
+          (λ a. let b1 : q < head = subst (λ (z : Frame). q < z.head) a.1 b in
           let r = low q d (at_in trail (e ∷ []) q d h (omega (arith, b1, within))) in omega (arith, r, a.0))
-        (frame_cases frames new j l);
+          (frame_cases frames new j l);
     }
 
 pub live_decided : (clauses : List (List Lit)) (watched : List Lit) (next firsts : List ℕ) (trail after : List Entry) (room : ℕ) (frames frames2 : List Frame) (head seen : ℕ) (e : Entry)
@@ -583,15 +649,20 @@ pub live_decided : (clauses : List (List Lit)) (watched : List Lit) (next firsts
 live_decided clauses watched next firsts trail after room frames frames2 head seen e v low is fs =
     let new : Frame = record { head = head; seen = seen } in
     let more : (k : ℕ) (a b : Lit) → IsHalf trail frames head k a b → IsHalf (trail ++ e ∷ []) (frames ++ new ∷ []) head k a b = λ k a b half q d l h s.
-      let w = v.framed.head_within in
-      held_decided trail frames (λ z. (q < z.head) × (k < z.seen)) b e new low (half q d l (at_in trail (e ∷ []) q d h (omega (arith, w, l))) s) in
+    let w = v.framed.head_within in
+    held_decided trail frames (λ z. (q < z.head) × (k < z.seen)) b e new low (half q d l (at_in trail (e ∷ []) q d h (omega (arith, w, l))) s) in
     rw (is, fs) (record {
-      variables = v.variables; watched_size = v.watched_size; next_size = v.next_size; firsts_size = v.firsts_size; lists = v.lists; member = v.member;
+      variables = v.variables;
+      watched_size = v.watched_size;
+      next_size = v.next_size;
+      firsts_size = v.firsts_size;
+      lists = v.lists;
+      member = v.member;
       framed = framed_decided trail frames head seen e low v.framed;
       watching = λ k clause l has. ⊎_elim
-        (λ p. inl (p.0, (more k (lit_of watched (2 * k)) (lit_of watched (2 * k + 1)) p.1.0, more k (lit_of watched (2 * k + 1)) (lit_of watched (2 * k)) p.1.1)))
-        (λ s. inr (s.0, (s.1.0, held_decided trail frames (λ z. k < z.seen) s.0 e new low s.1.1)))
-        (v.watching k clause l has);
+          (λ p. inl (p.0, (more k (lit_of watched (2 * k)) (lit_of watched (2 * k + 1)) p.1.0, more k (lit_of watched (2 * k + 1)) (lit_of watched (2 * k)) p.1.1)))
+          (λ s. inr (s.0, (s.1.0, held_decided trail frames (λ z. k < z.seen) s.0 e new low s.1.1)))
+          (v.watching k clause l has);
     })
 
 -- a level is gone back to
@@ -608,26 +679,34 @@ live_gone_back clauses watched next firsts trail after starts room frames frames
     let frame : Frame = frame_of frames level in
     let before : (q : ℕ) (d : Entry) → IsAt kept q d → IsAt trail q d = λ q d h. (at_take trail n q d (subst (λ (z : List Entry). IsAt z q d) cut h)).1 in
     let stay : (q : ℕ) (d : Entry) → IsAt trail q d → d.level ≤ level → IsAt kept q d = λ q d h w.
-      subst (λ (z : List Entry). IsAt z q d) (sym cut) (take_at trail n q d (⊎_elim (λ b. b) (λ g. let r = t.from level q d within h g in absurd (omega (arith, r, w))) (cases_lt q n)) h) in
+    subst (λ (z : List Entry). IsAt z q d) (sym cut) (take_at trail n q d (⊎_elim (λ b. b) (λ g. let r = t.from level q d within h g in absurd (omega (arith, r, w))) (cases_lt q n)) h) in
     let count : length (take level frames) ≡ level = simp length-take (omega (arith, l)) in
     let at : (j : ℕ) → j < length (take level frames) → (j < level) × (frame_of (take level frames) j ≡ frame_of frames j) = λ j w.
-      let j1 : j < level = omega (arith, w, count) in (j1, get_or-take level frames j (record { head = 0; seen = 0 }) j1) in
+    let j1 : j < level = omega (arith, w, count) in (j1, get_or-take level frames j (record { head = 0; seen = 0 }) j1) in
     let held : (guard : Frame → Type 0) (x : Lit) → guard frame → IsHeldTrue trail frames guard x → IsHeldTrue kept (take level frames) guard x = λ guard x g h. record {
-      at = h.at; entry = h.entry; is = stay h.at h.entry h.is (h.stays level l g); same = h.same;
+      at = h.at;
+      entry = h.entry;
+      is = stay h.at h.entry h.is (h.stays level l g);
+      same = h.same;
       stays = λ j w g2. let a = at j w in h.stays j (omega (arith, a.0, l)) (subst guard a.1 g2);
     } in
     let half : (k : ℕ) (a b : Lit) → k < frame.seen → IsHalf trail frames head k a b → IsHalf kept (take level frames) frame.head k a b = λ k a b w h q d m g s.
-      let r = v.framed.heads level l in held (λ z. (q < z.head) × (k < z.seen)) b (m, w) (h q d (omega (arith, m, r)) (before q d g) s) in
+    let r = v.framed.heads level l in held (λ z. (q < z.head) × (k < z.seen)) b (m, w) (h q d (omega (arith, m, r)) (before q d g) s) in
     let size : length kept ≡ n = ap (λ (z : List Entry). length z) cut ∙ simp length-take (omega (arith, long)) in
     rw (is, fs) (record {
-      variables = v.variables; watched_size = v.watched_size; next_size = v.next_size; firsts_size = v.firsts_size; lists = v.lists; member = v.member;
+      variables = v.variables;
+      watched_size = v.watched_size;
+      next_size = v.next_size;
+      firsts_size = v.firsts_size;
+      lists = v.lists;
+      member = v.member;
       framed = record {
         head_within = ⊎_elim
-          (λ b. let d : Entry = get_or trail n (record { lit = no_lit; level = 0; reason = None }) in
+            (λ b. let d : Entry = get_or trail n (record { lit = no_lit; level = 0; reason = None }) in
             let h : IsAt trail n d = slice_get-get_or trail n (record { lit = no_lit; level = 0; reason = None }) long in
             let low : d.level ≤ level = v.framed.low level n d l h b in
             let up : level < d.level = t.from level n d within h (omega arith) in absurd (omega (arith, low, up)))
-          (λ g. omega (arith, g, size)) (cases_lt n frame.head);
+            (λ g. omega (arith, g, size)) (cases_lt n frame.head);
         heads = λ j w. let a = at j w in rw a.1 (v.framed.heads_rise j level a.0 l);
         seens = λ j w. let a = at j w in rw a.1 (v.framed.seens_rise j level a.0 l);
         heads_rise = λ i j m w. let a = at j w in let b = at i (omega (arith, m, w)) in rw (a.1, b.1) (v.framed.heads_rise i j m (omega (arith, a.0, l)));
@@ -635,9 +714,9 @@ live_gone_back clauses watched next firsts trail after starts room frames frames
         low = λ j q d w h b. let a = at j w in v.framed.low j q d (omega (arith, a.0, l)) (before q d h) (subst (λ (z : Frame). q < z.head) a.1 b);
       };
       watching = λ k clause w has. let r = v.framed.seens level l in ⊎_elim
-        (λ p. inl (p.0, (half k (lit_of watched (2 * k)) (lit_of watched (2 * k + 1)) w p.1.0, half k (lit_of watched (2 * k + 1)) (lit_of watched (2 * k)) w p.1.1)))
-        (λ s. inr (s.0, (s.1.0, held (λ z. k < z.seen) s.0 w s.1.1)))
-        (v.watching k clause (omega (arith, w, r)) has);
+          (λ p. inl (p.0, (half k (lit_of watched (2 * k)) (lit_of watched (2 * k + 1)) w p.1.0, half k (lit_of watched (2 * k + 1)) (lit_of watched (2 * k)) w p.1.1)))
+          (λ s. inr (s.0, (s.1.0, held (λ z. k < z.seen) s.0 w s.1.1)))
+          (v.watching k clause (omega (arith, w, r)) has);
     })
 
 implies_append : (p : Propagation) (a b : List Entry) → Implies p a → Implies (record p { trail = p.trail ++ a }) b → Implies p (a ++ b)
@@ -646,16 +725,20 @@ implies_append p (e ∷ a) b (first, i) j =
     (first, implies_append (record p { trail = p.trail ++ e ∷ [] }) a b i (subst (λ (t : List Entry). Implies (record p { trail = t }) b) (sym (append_assoc p.trail (e ∷ []) a)) j))
 
 pub spreads_on : (old mid new : Propagation) → Spreads old mid → Spreads mid new → Spreads old new
-spreads_on old mid new (a, (i, e)) (b, (j, f)) =
-    (a ++ b, (implies_append old a b i (subst (λ (p : Propagation). Implies p b) e j),
-      f ∙ (ap (λ (p : Propagation). let q : Propagation = record p { trail = p.trail ++ b } in q) e ∙ ap (λ (t : List Entry). let q : Propagation = record old { trail = t } in q) (append_assoc old.trail a b))))
+spreads_on old mid new (a, (i, e)) (b, (j, f)) = (
+  a ++ b,
+  (
+    implies_append old a b i (subst (λ (p : Propagation). Implies p b) e j),
+    f ∙ (ap (λ (p : Propagation). let q : Propagation = record p { trail = p.trail ++ b } in q) e ∙ ap (λ (t : List Entry). let q : Propagation = record old { trail = t } in q) (append_assoc old.trail a b)),
+  ),
+)
 
 live_more : (clauses : List (List Lit)) (watched : List Lit) (next firsts pending : List ℕ) (trail added : List Entry) (room : ℕ) (frames : List Frame) (head seen : ℕ)
     → IsLive clauses watched next firsts pending trail room frames head seen → IsLive clauses watched next firsts pending (trail ++ added) room frames head seen
 live_more clauses watched next firsts pending trail [] room frames head seen v = subst (λ (t : List Entry). IsLive clauses watched next firsts pending t room frames head seen) (sym (append-nil trail)) v
 live_more clauses watched next firsts pending trail (e ∷ added) room frames head seen v =
     subst (λ (t : List Entry). IsLive clauses watched next firsts pending t room frames head seen) (append_assoc trail (e ∷ []) added)
-      (live_more clauses watched next firsts pending (trail ++ e ∷ []) added room frames head seen (live_push clauses watched next firsts pending trail (trail ++ e ∷ []) room frames head seen e v refl))
+    (live_more clauses watched next firsts pending (trail ++ e ∷ []) added room frames head seen (live_push clauses watched next firsts pending trail (trail ++ e ∷ []) room frames head seen e v refl))
 
 pub live_spread : (clauses : List (List Lit)) (watched : List Lit) (next firsts pending : List ℕ) (old new : Propagation) (frames : List Frame) (head seen : ℕ)
     → IsLive clauses watched next firsts pending old.trail old.room frames head seen → Spreads old new → IsLive clauses watched next firsts pending new.trail new.room frames head seen
@@ -666,7 +749,12 @@ pub live_seen : (clauses : List (List Lit)) (watched : List Lit) (next firsts : 
     → IsLive clauses watched next firsts [] trail room frames head seen → ((clause : List Lit) → slice_get clauses seen ≡ Some clause → IsWatchedAt watched trail frames head seen clause)
     → IsLive clauses watched next firsts [] trail room frames head (seen + 1)
 live_seen clauses watched next firsts trail room frames head seen v here = record {
-  variables = v.variables; watched_size = v.watched_size; next_size = v.next_size; firsts_size = v.firsts_size; lists = v.lists; member = v.member;
+  variables = v.variables;
+  watched_size = v.watched_size;
+  next_size = v.next_size;
+  firsts_size = v.firsts_size;
+  lists = v.lists;
+  member = v.member;
   framed = framed_seen trail frames head seen v.framed;
   watching = watching_seen clauses watched trail frames head seen v.watching here;
 }
@@ -675,7 +763,12 @@ pub live_head : (clauses : List (List Lit)) (watched : List Lit) (next firsts : 
     → IsLive clauses watched next firsts [] trail room frames head seen → IsAt trail head e → e.lit ≡ complement x → IsDone watched trail (code_of x) []
     → IsLive clauses watched next firsts [] trail room frames (head + 1) seen
 live_head clauses watched next firsts old trail room frames head seen e x v h is done = record {
-  variables = v.variables; watched_size = v.watched_size; next_size = v.next_size; firsts_size = v.firsts_size; lists = v.lists; member = v.member;
+  variables = v.variables;
+  watched_size = v.watched_size;
+  next_size = v.next_size;
+  firsts_size = v.firsts_size;
+  lists = v.lists;
+  member = v.member;
   framed = framed_head trail frames head seen v.framed (entry_within trail head e h);
   watching = watching_head clauses watched trail frames head seen e x v.watched_size v.framed h is done v.watching;
 }
@@ -717,13 +810,15 @@ live_added clauses watched next firsts trail room frames head seen clause v le f
     let inside : (n : ℕ) → n < length watched → lit_of after n ≡ lit_of watched n = λ n l. get_or_append_left watched (no_lit ∷ no_lit ∷ []) no_lit n l in
     let near : (n : ℕ) → n < length watched → sibling n < length watched = λ n l. let k = sibling_within n (length clauses) (omega (arith, l, ws)) in omega (arith, k, ws) in
     let below : (n : ℕ) → IsLinked after n → n < length watched = λ n linked. ⊎_elim (λ l. l)
-      (λ g. absurd (linked (tail_lits watched n g ∙ sym (tail_lits watched (sibling n)
-        (⊎_elim (λ l. let k = near (sibling n) l in let t = sibling_twice n in absurd (omega (arith, k, t, g))) (λ z. z) (cases_lt (sibling n) (length watched)))))))
-      (cases_lt n (length watched)) in
-    let forth : (d n : ℕ) → IsOwn watched d n → IsOwn after d n = λ d n o. (let l = o.0 in omega (arith, l, long),
-      ((λ e. o.1.0 (sym (inside n o.0) ∙ (e ∙ inside (sibling n) (near n o.0)))), ap code_of (inside n o.0) ∙ o.1.1)) in
+    (λ g. absurd (linked (tail_lits watched n g ∙ sym (tail_lits watched (sibling n)
+    (⊎_elim (λ l. let k = near (sibling n) l in let t = sibling_twice n in absurd (omega (arith, k, t, g))) (λ z. z) (cases_lt (sibling n) (length watched)))))))
+    (cases_lt n (length watched)) in
+    let forth : (d n : ℕ) → IsOwn watched d n → IsOwn after d n = λ d n o. (
+      let l = o.0 in omega (arith, l, long),
+      ((λ e. o.1.0 (sym (inside n o.0) ∙ (e ∙ inside (sibling n) (near n o.0)))), ap code_of (inside n o.0) ∙ o.1.1),
+    ) in
     let back : (d n : ℕ) → IsOwn after d n → IsOwn watched d n = λ d n o. let l = below n o.1.0 in
-      (l, ((λ e. o.1.0 (inside n l ∙ (e ∙ sym (inside (sibling n) (near n l))))), sym (ap code_of (inside n l)) ∙ o.1.1)) in
+    (l, ((λ e. o.1.0 (inside n l ∙ (e ∙ sym (inside (sibling n) (near n l))))), sym (ap code_of (inside n l)) ∙ o.1.1)) in
     let count : length (clauses ++ clause ∷ []) ≡ length clauses + 1 = length-append clauses (clause ∷ []) in
     let half : Lit → Lit → ℕ → Type 0 = λ a b k. IsHalf trail frames head k a b in
     record {
@@ -740,17 +835,21 @@ live_added clauses watched next firsts trail room frames head seen clause v le f
         whole = λ n o none. one.whole n (back d n o) none;
       };
       member = λ n other l linked has. let w = below n linked in
-        subst (λ (z : Lit). Contains other z) (sym (inside n w))
+          subst (λ (z : Lit). Contains other z) (sym (inside n w))
           (v.member n other w (λ e. linked (inside n w ∙ (e ∙ sym (inside (sibling n) (near n w))))) (sym (clause_in clauses (clause ∷ []) (n / 2) (omega (arith, w, ws))) ∙ has));
       framed = v.framed;
       watching = λ k other l has.
-        let within : k < length clauses = omega (arith, l, le) in
-        let a = inside (2 * k) (omega (arith, within, ws)) in
-        let b = inside (2 * k + 1) (omega (arith, within, ws)) in
-        ⊎_elim
-          (λ p. inl (linked_from after k (λ q. p.0 (sym a ∙ (q ∙ (b ∙ ap (lit_of watched) (sym (sibling_first k)))))),
-            (subst (λ (z : Lit). half z (lit_of after (2 * k + 1)) k) (sym a) (subst (λ (z : Lit). half (lit_of watched (2 * k)) z k) (sym b) p.1.0),
-             subst (λ (z : Lit). half (lit_of after (2 * k + 1)) z k) (sym a) (subst (λ (z : Lit). half z (lit_of watched (2 * k)) k) (sym b) p.1.1))))
+          let within : k < length clauses = omega (arith, l, le) in
+          let a = inside (2 * k) (omega (arith, within, ws)) in
+          let b = inside (2 * k + 1) (omega (arith, within, ws)) in
+          ⊎_elim
+          (λ p. inl (
+            linked_from after k (λ q. p.0 (sym a ∙ (q ∙ (b ∙ ap (lit_of watched) (sym (sibling_first k)))))),
+            (
+              subst (λ (z : Lit). half z (lit_of after (2 * k + 1)) k) (sym a) (subst (λ (z : Lit). half (lit_of watched (2 * k)) z k) (sym b) p.1.0),
+              subst (λ (z : Lit). half (lit_of after (2 * k + 1)) z k) (sym a) (subst (λ (z : Lit). half z (lit_of watched (2 * k)) k) (sym b) p.1.1),
+            ),
+          ))
           (λ s. inr s)
           (v.watching k other l (sym (clause_in clauses (clause ∷ []) k within) ∙ has));
     }
@@ -772,7 +871,7 @@ pub closed : (clauses given : List (List Lit)) (watched watched2 : List Lit) (ne
 closed clauses given watched watched2 next next2 firsts firsts2 trail starts room frames frames2 capacity head seen v e1 e2 e3 e4 e5 l c w =
     record {
       live = subst (λ (z : List (List Lit)). IsLive z watched next firsts [] trail room frames head seen) e1
-        (subst (λ (z : List Frame). IsLive given watched next firsts [] trail room z head seen) e2 (rw (e3, e4, e5) v));
+          (subst (λ (z : List Frame). IsLive given watched next firsts [] trail room z head seen) e2 (rw (e3, e4, e5) v));
       levels = l;
       capacity_is = c;
       seen_within = subst (λ (z : List (List Lit)). seen ≤ length z) e1 w;

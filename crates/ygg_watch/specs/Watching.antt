@@ -43,7 +43,7 @@ pub record IsFramed (trail : List Entry) (frames : List Frame) (head seen : ℕ)
 abbrev pub IsWatchedAt : List Lit → List Entry → List Frame → ℕ → ℕ → List Lit → Type 0
 IsWatchedAt watched trail frames head k clause =
     (IsLinked watched (2 * k) × (IsHalf trail frames head k (lit_of watched (2 * k)) (lit_of watched (2 * k + 1))
-        × IsHalf trail frames head k (lit_of watched (2 * k + 1)) (lit_of watched (2 * k))))
+    × IsHalf trail frames head k (lit_of watched (2 * k + 1)) (lit_of watched (2 * k))))
     ⊎ IsSatisfied trail frames k clause
 
 abbrev pub IsWatching : List (List Lit) → List Lit → List Entry → List Frame → ℕ → ℕ → Type 0
@@ -65,4 +65,4 @@ abbrev pub IsStanding : List Lit → List Entry → ℕ → Type 0
 IsStanding watched trail k =
     IsLinked watched (2 * k)
     × (((IsFalse trail (lit_of watched (2 * k)) → ⊥) × (IsFalse trail (lit_of watched (2 * k + 1)) → ⊥))
-        ⊎ (IsOnTrail trail (lit_of watched (2 * k)) ⊎ IsOnTrail trail (lit_of watched (2 * k + 1))))
+    ⊎ (IsOnTrail trail (lit_of watched (2 * k)) ⊎ IsOnTrail trail (lit_of watched (2 * k + 1))))

@@ -5,12 +5,11 @@ ghost use Rattle.ygg_watch.specs.Lists.{IsMember, lit_of};
 ghost use Rattle.ygg_watch.specs.State.{IsLive};
 ghost use Rattle.ygg_watch.specs.Watching.{IsStanding, IsWatchedAt};
 
+use crate::frame::Frame;
+use crate::links::{link, lits_of, set_watch, watch_of};
 use ygg_cnf::{Clause, Lit};
 use ygg_propagate::{Look, look_at};
 use ygg_trail::Assignments;
-
-use crate::frame::Frame;
-use crate::links::{link, lits_of, set_watch, watch_of};
 
 /// A literal of the clause other than the given one: one that is not false, or else the one that became so last, which
 /// going back makes free first.
@@ -75,7 +74,18 @@ fn stands(clauses: &[Clause], watched: &[Lit], trail: &Assignments, at: usize) -
 }
 
 /// Begins to watch two literals of a clause that is not watched.
-fn attach(clauses: &[Clause], watched: &mut [Lit], next: &mut [usize], firsts: &mut [usize], trail: &Assignments, frames: &[Frame], head: usize, seen: usize, first: Lit, other: Lit)
+fn attach(
+    clauses: &[Clause],
+    watched: &mut [Lit],
+    next: &mut [usize],
+    firsts: &mut [usize],
+    trail: &Assignments,
+    frames: &[Frame],
+    head: usize,
+    seen: usize,
+    first: Lit,
+    other: Lit,
+)
     requires live { IsLive clauses.now watched.old next.old firsts.old [] trail.now.entries.items trail.now.room frames.now head seen }
     requires free { lit_of watched.old (2 * seen) ≡ lit_of watched.old (2 * seen + 1) }
     requires pair { (clause : _) × ((slice_get clauses.now seen ≡ Some clause) × (Contains clause first × (Contains clause other × (first ≢ other)))) }
@@ -91,7 +101,17 @@ fn attach(clauses: &[Clause], watched: &mut [Lit], next: &mut [usize], firsts: &
 }
 
 /// Begins to watch a literal and another one of its clause, where it has one and is not watched.
-fn settle(clauses: &[Clause], watched: &mut [Lit], next: &mut [usize], firsts: &mut [usize], trail: &Assignments, frames: &[Frame], head: usize, seen: usize, first: Lit)
+fn settle(
+    clauses: &[Clause],
+    watched: &mut [Lit],
+    next: &mut [usize],
+    firsts: &mut [usize],
+    trail: &Assignments,
+    frames: &[Frame],
+    head: usize,
+    seen: usize,
+    first: Lit,
+)
     requires live { IsLive clauses.now watched.old next.old firsts.old [] trail.now.entries.items trail.now.room frames.now head seen }
     requires here { (clause : _) × ((slice_get clauses.now seen ≡ Some clause) × Contains clause first) }
     ensures live { IsLive clauses.now watched.new next.new firsts.new [] trail.now.entries.items trail.now.room frames.now head seen }
@@ -100,12 +120,23 @@ fn settle(clauses: &[Clause], watched: &mut [Lit], next: &mut [usize], firsts: &
         return;
     }
     if let Some(other) = second(lits_of(clauses, seen), first, trail) {
-        attach(clauses, watched, next, firsts, trail, frames, head, seen, first, other);
+        attach(
+            clauses, watched, next, firsts, trail, frames, head, seen, first, other,
+        );
     }
 }
 
 /// Looks at a clause that was not looked at since a level below was gone back to.
-fn examine(clauses: &[Clause], watched: &mut [Lit], next: &mut [usize], firsts: &mut [usize], trail: &mut Assignments, frames: &[Frame], head: usize, seen: usize) -> Examined
+fn examine(
+    clauses: &[Clause],
+    watched: &mut [Lit],
+    next: &mut [usize],
+    firsts: &mut [usize],
+    trail: &mut Assignments,
+    frames: &[Frame],
+    head: usize,
+    seen: usize,
+) -> Examined
     requires live { IsLive clauses.now watched.old next.old firsts.old [] trail.old.entries.items trail.old.room frames.now head seen }
     requires at { seen < length clauses.now }
     ensures live { IsLive clauses.now watched.new next.new firsts.new [] trail.new.entries.items trail.new.room frames.now head seen }
@@ -121,11 +152,15 @@ fn examine(clauses: &[Clause], watched: &mut [Lit], next: &mut [usize], firsts: 
     match look_at(lits_of(clauses, seen), trail) {
         Look::False => Examined::False,
         Look::True(lit) => {
-            settle(clauses, watched, next, firsts, trail, frames, head, seen, lit);
+            settle(
+                clauses, watched, next, firsts, trail, frames, head, seen, lit,
+            );
             Examined::Fine
         }
         Look::Unit(lit) => {
-            settle(clauses, watched, next, firsts, trail, frames, head, seen, lit);
+            settle(
+                clauses, watched, next, firsts, trail, frames, head, seen, lit,
+            );
             trail.push(lit, Some(seen as u64 + 1));
             Examined::Fine
         }
@@ -133,14 +168,25 @@ fn examine(clauses: &[Clause], watched: &mut [Lit], next: &mut [usize], firsts: 
             if !is_unwatched(watched, seen) {
                 return Examined::Stuck;
             }
-            attach(clauses, watched, next, firsts, trail, frames, head, seen, lit, other);
+            attach(
+                clauses, watched, next, firsts, trail, frames, head, seen, lit, other,
+            );
             Examined::Fine
         }
     }
 }
 
 /// Looks at each clause that was not looked at.
-pub fn examine_all(clauses: &[Clause], watched: &mut [Lit], next: &mut [usize], firsts: &mut [usize], trail: &mut Assignments, frames: &[Frame], head: usize, seen: &mut usize) -> Examined
+pub fn examine_all(
+    clauses: &[Clause],
+    watched: &mut [Lit],
+    next: &mut [usize],
+    firsts: &mut [usize],
+    trail: &mut Assignments,
+    frames: &[Frame],
+    head: usize,
+    seen: &mut usize,
+) -> Examined
     requires live { IsLive clauses.now watched.old next.old firsts.old [] trail.old.entries.items trail.old.room frames.now head seen.old }
     requires within { seen.old ≤ length clauses.now }
     ensures live { IsLive clauses.now watched.new next.new firsts.new [] trail.new.entries.items trail.new.room frames.now head seen.new }

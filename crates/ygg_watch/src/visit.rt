@@ -8,11 +8,10 @@ ghost use Rattle.ygg_watch.specs.Lists.{IsLists, IsPending};
 ghost use Rattle.ygg_watch.specs.State.{IsLive};
 ghost use Rattle.ygg_watch.specs.Watching.{IsDone, IsJudged};
 
-use ygg_cnf::{Clause, Lit};
-use ygg_trail::Assignments;
-
 use crate::frame::Frame;
 use crate::links::{link, lits_of, next_of, set_watch, sibling_of, take_first, watch_of};
+use ygg_cnf::{Clause, Lit};
+use ygg_trail::Assignments;
 
 /// A literal of the clause that is not false, other than the given one.
 fn replacement(clause: &[Lit], other: Lit, trail: &Assignments) -> Option<Lit>
@@ -78,7 +77,17 @@ fn put_back(watched: &[Lit], next: &mut [usize], firsts: &mut [usize], from: usi
 }
 
 /// Looks at each watch of a literal that is false. Gives the number of a clause that is false, if it finds one.
-fn visit(clauses: &[Clause], watched: &mut [Lit], next: &mut [usize], firsts: &mut [usize], trail: &mut Assignments, frames: &[Frame], head: usize, seen: usize, lit: Lit) -> Option<u64>
+fn visit(
+    clauses: &[Clause],
+    watched: &mut [Lit],
+    next: &mut [usize],
+    firsts: &mut [usize],
+    trail: &mut Assignments,
+    frames: &[Frame],
+    head: usize,
+    seen: usize,
+    lit: Lit,
+) -> Option<u64>
     requires live { IsLive clauses.now watched.old next.old firsts.old [] trail.old.entries.items trail.old.room frames.now head seen }
     requires entry { (e : _) × (IsAt trail.old.entries.items head e × (e.lit ≡ complement lit)) }
     ensures live { IsLive clauses.now watched.new next.new firsts.new [] trail.new.entries.items trail.new.room frames.now head seen }
@@ -116,7 +125,16 @@ fn visit(clauses: &[Clause], watched: &mut [Lit], next: &mut [usize], firsts: &m
 }
 
 /// Looks at each entry that was not looked at. Gives the number of a clause that is false, if it finds one.
-pub fn visit_all(clauses: &[Clause], watched: &mut [Lit], next: &mut [usize], firsts: &mut [usize], trail: &mut Assignments, frames: &[Frame], head: &mut usize, seen: usize) -> Option<u64>
+pub fn visit_all(
+    clauses: &[Clause],
+    watched: &mut [Lit],
+    next: &mut [usize],
+    firsts: &mut [usize],
+    trail: &mut Assignments,
+    frames: &[Frame],
+    head: &mut usize,
+    seen: usize,
+) -> Option<u64>
     requires live { IsLive clauses.now watched.old next.old firsts.old [] trail.old.entries.items trail.old.room frames.now head.old seen }
     ensures live { IsLive clauses.now watched.new next.new firsts.new [] trail.new.entries.items trail.new.room frames.now head.new seen }
     ensures spreads { Spreads (state_of clauses.now trail.old) (state_of clauses.now trail.new) }
@@ -127,7 +145,9 @@ pub fn visit_all(clauses: &[Clause], watched: &mut [Lit], next: &mut [usize], fi
 {
     while *head < trail.len() {
         let lit = trail.at(*head).lit.complement();
-        if let Some(id) = visit(clauses, watched, next, firsts, trail, frames, *head, seen, lit) {
+        if let Some(id) = visit(
+            clauses, watched, next, firsts, trail, frames, *head, seen, lit,
+        ) {
             return Some(id);
         }
         *head += 1;

@@ -1,15 +1,14 @@
 ghost use Rattle.std.specs.Prelude.{◌≡◌, [], IfOk};
 
+use crate::examine::{Examined, examine_all};
+use crate::frame::Frame;
+use crate::visit::visit_all;
 use std::alloc::Global;
 use std::marker::Model;
 use ygg_cnf::{Clause, Lit};
 use ygg_list::NoMemory;
 use ygg_propagate::{Assigned, Found, Propagate, Trail, spread};
 use ygg_trail::{Assignments, Entry};
-
-use crate::examine::{Examined, examine_all};
-use crate::frame::Frame;
-use crate::visit::visit_all;
 
 /// Propagation that watches two literals of each clause, and reads a clause only where a watched one becomes false.
 ///
@@ -92,7 +91,16 @@ impl Propagate for Watch {
     }
 
     fn spread(&mut self) -> Found {
-        match examine_all(self.clauses.as_slice(), self.watched.as_mut_slice(), self.next.as_mut_slice(), self.firsts.as_mut_slice(), &mut self.trail, self.frames.as_slice(), self.head, &mut self.seen) {
+        match examine_all(
+            self.clauses.as_slice(),
+            self.watched.as_mut_slice(),
+            self.next.as_mut_slice(),
+            self.firsts.as_mut_slice(),
+            &mut self.trail,
+            self.frames.as_slice(),
+            self.head,
+            &mut self.seen,
+        ) {
             Examined::Fine => {}
             Examined::False => {
                 return Found::False(self.seen as u64 + 1);
@@ -101,7 +109,16 @@ impl Propagate for Watch {
                 return spread(self.clauses.as_slice(), &mut self.trail);
             }
         }
-        match visit_all(self.clauses.as_slice(), self.watched.as_mut_slice(), self.next.as_mut_slice(), self.firsts.as_mut_slice(), &mut self.trail, self.frames.as_slice(), &mut self.head, self.seen) {
+        match visit_all(
+            self.clauses.as_slice(),
+            self.watched.as_mut_slice(),
+            self.next.as_mut_slice(),
+            self.firsts.as_mut_slice(),
+            &mut self.trail,
+            self.frames.as_slice(),
+            &mut self.head,
+            self.seen,
+        ) {
             Some(id) => Found::False(id),
             None => Found::Quiet,
         }

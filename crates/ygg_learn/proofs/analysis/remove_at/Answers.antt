@@ -15,5 +15,5 @@ returns c =
       alone = λ y m n. ⊎_elim (λ p. r.alone y p.0 n) (λ f. later c.args.trail.now c.args.place c.args.start y (omega (arith, c.requires.below)) f) (c.resolve_at.ensures.marked y m);
       falses = λ y m. ⊎_elim (λ p. r.falses y p.0) (λ f. later c.args.trail.now c.args.place (length c.args.trail.now) y (omega (arith, w)) f) (c.resolve_at.ensures.marked y m);
       reached = subst (λ (l : List ℕ). ChainReaches c.args.clauses.now c.resolve_at.new.marks l) (sym c.in_ok-push.ensures.items)
-        (chain_more c.args.clauses.now c.args.marks.now c.resolve_at.new.marks c.args.chain.now.items c.args.id r.reached c.resolve_at.ensures.step);
+          (chain_more c.args.clauses.now c.args.marks.now c.resolve_at.new.marks c.args.chain.now.items c.args.id r.reached c.resolve_at.ensures.step);
     }

@@ -22,7 +22,7 @@ clause_at-clause-requires-clause-last c =
 pub resolve-requires-clause-fits : goal.resolve-requires-clause-fits
 resolve-requires-clause-fits c =
     subst (All (Fits (length c.args.marks.now))) (sym c.as_slice.ensures)
-      (numbered_all (All (Fits (length c.args.marks.now))) c.args.clauses.now c.args.id c.clause_at-clause.result.now c.requires.fits c.clause_at-clause.ensures)
+    (numbered_all (All (Fits (length c.args.marks.now))) c.args.clauses.now c.args.id c.clause_at-clause.result.now c.requires.fits c.clause_at-clause.ensures)
 
 pub returns-clause-step : goal.returns-clause-step
 returns-clause-step c rest clause d =
@@ -30,12 +30,12 @@ returns-clause-step c rest clause d =
     let lits = c.clause_at-clause.result.now in
     let entry = c.entry_at-entry.result in
     let reason = reason_at clauses c.args.trail.now c.args.at c.args.id entry lits c.requires.sound c.entry_at-entry.ensures
-        (c.requires.reason entry c.entry_at-entry.ensures) c.clause_at-clause.ensures in
+    (c.requires.reason entry c.entry_at-entry.ensures) c.clause_at-clause.ensures in
     let pivot = reason_pivot clauses c.args.trail.now (Marked c.args.marks.now) c.args.at (length c.args.trail.now) c.args.id entry.lit lits c.requires.sound reason
-        c.requires.falses (marked_entry c.args.marks.now c.args.trail.now c.args.at entry c.requires.marked c.entry_at-entry.ensures) in
+    c.requires.falses (marked_entry c.args.marks.now c.args.trail.now c.args.at entry c.requires.marked c.entry_at-entry.ensures) in
     (resolves_step (HasClause clauses) (one_clause clauses) (Marked c.args.marks.now) (Marked c.resolve.new.marks) c.args.id rest lits (complement entry.lit) clause c.clause_at-clause.ensures pivot
-      (λ y. subst (λ x. Marked c.resolve.new.marks y ↔ Resolvent (Marked c.args.marks.now) lits x y) c.complement.ensures
-          (subst (λ (l : List Lit). Marked c.resolve.new.marks y ↔ Resolvent (Marked c.args.marks.now) l c.complement.result y) c.as_slice.ensures (c.resolve.ensures y)))).1 d
+    (λ y. subst (λ x. Marked c.resolve.new.marks y ↔ Resolvent (Marked c.args.marks.now) lits x y) c.complement.ensures
+    (subst (λ (l : List Lit). Marked c.resolve.new.marks y ↔ Resolvent (Marked c.args.marks.now) l c.complement.result y) c.as_slice.ensures (c.resolve.ensures y)))).1 d
 
 pub returns-clause-marked : goal.returns-clause-marked
 returns-clause-marked c y m =
@@ -43,10 +43,10 @@ returns-clause-marked c y m =
     let lits = c.clause_at-clause.result.now in
     let entry = c.entry_at-entry.result in
     let reason = reason_at clauses c.args.trail.now c.args.at c.args.id entry lits c.requires.sound c.entry_at-entry.ensures
-        (c.requires.reason entry c.entry_at-entry.ensures) c.clause_at-clause.ensures in
+    (c.requires.reason entry c.entry_at-entry.ensures) c.clause_at-clause.ensures in
     marked_step clauses c.args.trail.now (Marked c.args.marks.now) (Marked c.resolve.new.marks) c.args.at c.args.id entry lits c.entry_at-entry.ensures reason
-      (λ z k. subst (λ x. Resolvent (Marked c.args.marks.now) lits x z) c.complement.ensures
-          (subst (λ (l : List Lit). Resolvent (Marked c.args.marks.now) l c.complement.result z) c.as_slice.ensures ((c.resolve.ensures z).0 k))) y m
+    (λ z k. subst (λ x. Resolvent (Marked c.args.marks.now) lits x z) c.complement.ensures
+    (subst (λ (l : List Lit). Resolvent (Marked c.args.marks.now) l c.complement.result z) c.as_slice.ensures ((c.resolve.ensures z).0 k))) y m
 
 pub resolve-requires-clause-pivot : goal.resolve-requires-clause-pivot
 resolve-requires-clause-pivot c =
@@ -54,7 +54,7 @@ resolve-requires-clause-pivot c =
     let lits = c.clause_at-clause.result.now in
     let entry = c.entry_at-entry.result in
     let reason = reason_at clauses c.args.trail.now c.args.at c.args.id entry lits c.requires.sound c.entry_at-entry.ensures
-        (c.requires.reason entry c.entry_at-entry.ensures) c.clause_at-clause.ensures in
+    (c.requires.reason entry c.entry_at-entry.ensures) c.clause_at-clause.ensures in
     let fits : Fits (length c.args.marks.now) entry.lit = All-contains (Fits (length c.args.marks.now)) lits entry.lit
-        (numbered_all (All (Fits (length c.args.marks.now))) clauses c.args.id lits c.requires.fits c.clause_at-clause.ensures) reason.here in
+    (numbered_all (All (Fits (length c.args.marks.now))) clauses c.args.id lits c.requires.fits c.clause_at-clause.ensures) reason.here in
     subst (λ (z : Lit). Fits (length c.args.marks.now) z) (sym c.complement.ensures) fits

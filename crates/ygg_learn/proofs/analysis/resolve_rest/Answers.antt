@@ -17,7 +17,7 @@ loop-at-preserved c = record {
       c.resolve_at.ensures.marked;
   reached = subst (λ (l : List ℕ). ChainReaches c.args.clauses.now c.resolve_at.new.marks l) (sym c.in_ok-push.ensures.items)
       (chain_more c.args.clauses.now c.loop-at.marks c.resolve_at.new.marks c.loop-at.chain.items c.in-Some-reason.id
-        c.loop-at.invariant.reached c.resolve_at.ensures.step);
+      c.loop-at.invariant.reached c.resolve_at.ensures.step);
 }
 
 pub returns-clause-none : goal.returns-clause-none

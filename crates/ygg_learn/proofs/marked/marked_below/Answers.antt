@@ -5,9 +5,11 @@ use Rattle.ygg_learn.specs.Learning.{IsMarkedAt}
 use Rattle.ygg_learn.proofs.marked.marked_below.Goals as goal
 
 pub loop-at-preserved : goal.loop-at-preserved
-loop-at-preserved c =
-    (omega arith, none_more (IsMarkedAt c.args.marks.now c.args.trail.now) (c.loop-at.at - 1) c.args.end
-      (λ m. false≢true (sym c.if-is_marked_at.false ∙ c.is_marked_at.ensures.1 m)) (λ q l. c.loop-at.invariant.1 q (omega arith)))
+loop-at-preserved c = (
+  omega arith,
+  none_more (IsMarkedAt c.args.marks.now c.args.trail.now) (c.loop-at.at - 1) c.args.end
+      (λ m. false≢true (sym c.if-is_marked_at.false ∙ c.is_marked_at.ensures.1 m)) (λ q l. c.loop-at.invariant.1 q (omega arith)),
+)
 
 pub returns : goal.returns
 returns c q l k = c.loop-at.invariant.1 q (omega arith) k

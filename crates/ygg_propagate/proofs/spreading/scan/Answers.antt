@@ -13,9 +13,10 @@ loop-at-preserved c =
     let trail = c.args.trail.now.entries.items in
     let clause : List Lit = c.index-clauses-at.result in
     let open_now : IsOpen (assigned_before trail (length trail)) clause =
-      elim c.match-look_at.branch [
-        in-True w ↦ let s = rw w.in-True.is at c.look_at.ensures in subst (λ (l : List Lit). IsOpen (assigned_before trail (length trail)) l) c.as_slice.ensures (open_true c.as_slice.result.now trail _ s.0 s.1)
-      | in-Open w ↦ let s = rw w.in-Open.is at c.look_at.ensures in subst (λ (l : List Lit). IsOpen (assigned_before trail (length trail)) l) c.as_slice.ensures (open_loose c.as_slice.result.now trail _ _ s) ] in
+    elim c.match-look_at.branch [
+      | in-True w ↦ let s = rw w.in-True.is at c.look_at.ensures in subst (λ (l : List Lit). IsOpen (assigned_before trail (length trail)) l) c.as_slice.ensures (open_true c.as_slice.result.now trail _ s.0 s.1)
+      | in-Open w ↦ let s = rw w.in-Open.is at c.look_at.ensures in subst (λ (l : List Lit). IsOpen (assigned_before trail (length trail)) l) c.as_slice.ensures (open_loose c.as_slice.result.now trail _ _ s)
+    ] in
     All-more (IsOpen (assigned_before trail (length trail))) c.args.clauses.now c.loop-at.at clause c.loop-at-test.true c.loop-at.invariant (rw (← c.index-clauses-at.is) open_now)
 
 pub returns : goal.returns

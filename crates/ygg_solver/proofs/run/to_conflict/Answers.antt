@@ -11,12 +11,12 @@ pub loop-id-smaller : goal.loop-id-smaller
 loop-id-smaller g c =
     let state = g.P.Propagate.state in
     let le : left (state c.spread.new.self) ≤ left (state c.loop-id.propagation)
-        = left_spreads (state c.loop-id.propagation) (state c.spread.new.self) c.spread.ensures.spreads in
+    = left_spreads (state c.loop-id.propagation) (state c.spread.new.self) c.spread.ensures.spreads in
     let some = c.in-Some.ensures.some in
     let room : c.args.room ≡ (state c.spread.new.self).room
-        = c.loop-id.invariant.room ∙ room_spreads (state c.loop-id.propagation) (state c.spread.new.self) c.spread.ensures.spreads in
+    = c.loop-id.invariant.room ∙ room_spreads (state c.loop-id.propagation) (state c.spread.new.self) c.spread.ensures.spreads in
     let lt : left (decided (state c.spread.new.self) (record { var = c.in-Some.var; negated = not c.phase-negated.result })) < left (state c.spread.new.self)
-        = left_decided (state c.spread.new.self) (record { var = c.in-Some.var; negated = not c.phase-negated.result }) (omega (arith, some.0, room)) some.1 in
+    = left_decided (state c.spread.new.self) (record { var = c.in-Some.var; negated = not c.phase-negated.result }) (omega (arith, some.0, room)) some.1 in
     subst (λ (p : Propagation). left p < left (state c.loop-id.propagation)) (sym c.decide.ensures) (omega (arith, le, lt))
 
 pub returns-in-False-clause-ready : goal.returns-in-False-clause-ready

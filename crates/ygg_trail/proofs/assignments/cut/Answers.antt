@@ -10,8 +10,8 @@ unmark-requires c =
     let now : List Entry = c.loop-entries.entries.items in
     let next : List Entry = c.take_last-entry.new.self.items in
     fits_front now c.args.entries.now.items (length c.loop-entries.truth) c.loop-entries.invariant.items
-      (λ q e h. let f = c.requires.fits q e h in let s = c.loop-entries.invariant.size in omega (arith, f, s)) (length next) c.take_last-entry.result
-      (subst (λ (t : List Entry). IsAt t (length next) c.take_last-entry.result) (sym c.take_last-entry.ensures.items) (at_last next c.take_last-entry.result))
+    (λ q e h. let f = c.requires.fits q e h in let s = c.loop-entries.invariant.size in omega (arith, f, s)) (length next) c.take_last-entry.result
+    (subst (λ (t : List Entry). IsAt t (length next) c.take_last-entry.result) (sym c.take_last-entry.ensures.items) (at_last next c.take_last-entry.result))
 
 pub loop-entries-preserved : goal.loop-entries-preserved
 loop-entries-preserved c =
@@ -24,9 +24,9 @@ loop-entries-preserved c =
       size = c.unmark.auto.marks ∙ c.loop-entries.invariant.size;
       capacity = c.take_last-entry.ensures.capacity ∙ c.loop-entries.invariant.capacity;
       marks = marks_pop next c.loop-entries.truth c.unmark.new.marks c.take_last-entry.result
-        (distinct_front (next ++ c.take_last-entry.result ∷ []) c.args.entries.now.items
+          (distinct_front (next ++ c.take_last-entry.result ∷ []) c.args.entries.now.items
           (subst (λ (t : List Entry). (rest : List Entry) × (t ++ rest ≡ c.args.entries.now.items)) c.take_last-entry.ensures.items c.loop-entries.invariant.items) c.requires.distinct)
-        (subst (λ (t : List Entry). HasMarks c.loop-entries.truth (IsOnTrail t)) c.take_last-entry.ensures.items c.loop-entries.invariant.marks) c.unmark.ensures;
+          (subst (λ (t : List Entry). HasMarks c.loop-entries.truth (IsOnTrail t)) c.take_last-entry.ensures.items c.loop-entries.invariant.marks) c.unmark.ensures;
     }
 
 pub returns-clause-entries : goal.returns-clause-entries

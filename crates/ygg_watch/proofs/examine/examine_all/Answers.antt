@@ -6,7 +6,7 @@ use Rattle.ygg_watch.proofs.examine.examine_all.Goals as goal
 pub loop-seen-preserved : goal.loop-seen-preserved
 loop-seen-preserved c = record {
   live = live_seen c.args.clauses.now c.examine.new.watched c.examine.new.next c.examine.new.firsts c.examine.new.trail.entries.items c.examine.new.trail.room c.args.frames.now c.args.head c.loop-seen.seen
-    c.examine.ensures.live (c.in-Fine.ensures.fine refl);
+      c.examine.ensures.live (c.in-Fine.ensures.fine refl);
   within = omega arith;
   spreads = spreads_on (state_of c.args.clauses.now c.args.trail.now) (state_of c.args.clauses.now c.loop-seen.trail) (state_of c.args.clauses.now c.examine.new.trail) c.loop-seen.invariant.spreads c.examine.ensures.spreads;
   starts = c.examine.ensures.starts ∙ c.loop-seen.invariant.starts;

@@ -17,8 +17,8 @@ loop-head-smaller c =
 pub loop-head-preserved : goal.loop-head-preserved
 loop-head-preserved c = record {
   live = live_head c.args.clauses.now c.visit.new.watched c.visit.new.next c.visit.new.firsts c.loop-head.trail.entries.items c.visit.new.trail.entries.items c.visit.new.trail.room c.args.frames.now c.loop-head.head c.args.seen
-    c.at.result c.complement-lit.result c.visit.ensures.live (at_spread (state_of c.args.clauses.now c.loop-head.trail) (state_of c.args.clauses.now c.visit.new.trail) c.loop-head.head c.at.result c.visit.ensures.spreads c.at.ensures)
-    (sym (complement_twice c.at.result.lit) ∙ ap complement (sym c.complement-lit.ensures)) c.in_default.ensures.done;
+      c.at.result c.complement-lit.result c.visit.ensures.live (at_spread (state_of c.args.clauses.now c.loop-head.trail) (state_of c.args.clauses.now c.visit.new.trail) c.loop-head.head c.at.result c.visit.ensures.spreads c.at.ensures)
+      (sym (complement_twice c.at.result.lit) ∙ ap complement (sym c.complement-lit.ensures)) c.in_default.ensures.done;
   spreads = spreads_on (state_of c.args.clauses.now c.args.trail.now) (state_of c.args.clauses.now c.loop-head.trail) (state_of c.args.clauses.now c.visit.new.trail) c.loop-head.invariant.spreads c.visit.ensures.spreads;
   starts = c.visit.ensures.starts ∙ c.loop-head.invariant.starts;
   room = c.visit.ensures.room ∙ c.loop-head.invariant.room;

@@ -12,5 +12,5 @@ pub returns-clause-quiet : goal.returns-clause-quiet
 returns-clause-quiet c =
     let trail = c.spread.new.trail.entries.items in
     quiet_exact c.args.self.now.clauses.items trail c.spread.new.trail.room c.spread.result c.spread.new.trail.trail
-      (λ q. subst (λ (l : List (List Lit)). IsQuietBefore l trail (length trail)) c.as_slice.ensures.value (c.spread.ensures.quiet q))
-      (λ id e. subst (λ (l : List (List Lit)). IsConflict l trail id) c.as_slice.ensures.value (c.spread.ensures.found id e))
+    (λ q. subst (λ (l : List (List Lit)). IsQuietBefore l trail (length trail)) c.as_slice.ensures.value (c.spread.ensures.quiet q))
+    (λ id e. subst (λ (l : List (List Lit)). IsConflict l trail id) c.as_slice.ensures.value (c.spread.ensures.found id e))

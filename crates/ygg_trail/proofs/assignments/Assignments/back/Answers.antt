@@ -15,12 +15,12 @@ cut-requires-clause-place c =
 pub cut-requires-clause-fits : goal.cut-requires-clause-fits
 cut-requires-clause-fits c q e h =
     fits_at c.args.self.now.entries.items c.args.self.now.room _ c.args.self.now.trail
-      (ap (λ (l : List Bool). length l) c.as_mut_slice.ensures.value ∙ c.args.self.now.kept.size) q e h
+    (ap (λ (l : List Bool). length l) c.as_mut_slice.ensures.value ∙ c.args.self.now.kept.size) q e h
 
 pub cut-requires-clause-marks : goal.cut-requires-clause-marks
 cut-requires-clause-marks c =
     subst (λ (l : List Bool). HasMarks l (IsOnTrail c.args.self.now.entries.items)) (sym c.as_mut_slice.ensures.value)
-      (marks_of c.args.self.now.entries.items c.args.self.now.truth.items c.args.self.now.places.items c.args.self.now.room c.args.self.now.kept)
+    (marks_of c.args.self.now.entries.items c.args.self.now.truth.items c.args.self.now.places.items c.args.self.now.room c.args.self.now.kept)
 
 pub invariant_of-self-clause-trail : goal.invariant_of-self-clause-trail
 invariant_of-self-clause-trail c = subst (λ (t : List Entry). IsTrail t c.args.self.now.room) (sym c.cut.ensures.entries) (trail_take c.args.self.now.entries.items _ c.args.self.now.room c.args.self.now.trail)
@@ -34,7 +34,7 @@ invariant_of-self-clause-levelled c =
 pub invariant_of-self-clause-kept : goal.invariant_of-self-clause-kept
 invariant_of-self-clause-kept c =
     kept_cut c.args.self.now.entries.items _ _ c.args.self.now.truth.items _ c.args.self.now.places.items c.args.self.now.room _ c.args.self.now.kept
-      (c.cut.auto.truth ∙ ap (λ (l : List Bool). length l) c.as_mut_slice.ensures.value) c.args.self.now.truth.ok.0 c.cut.ensures.marks c.cut.ensures.entries
+    (c.cut.auto.truth ∙ ap (λ (l : List Bool). length l) c.as_mut_slice.ensures.value) c.args.self.now.truth.ok.0 c.cut.ensures.marks c.cut.ensures.entries
 
 pub returns-then-level-len-clause-entries : goal.returns-then-level-len-clause-entries
 returns-then-level-len-clause-entries c =

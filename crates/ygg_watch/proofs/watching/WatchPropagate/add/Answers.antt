@@ -9,9 +9,9 @@ invariant_of-self-2 c =
     let i = c.self.inside in let v = c.self.invariant in
     let clauses : c.push.new.self.items ≡ i.clauses.items ++ c.in_ok-kept.kept ∷ [] = c.in_ok-push.ensures.items in
     let watched : c.push_reserved-2.new.self.items ≡ i.watched.items ++ no_lit ∷ no_lit ∷ []
-      = c.push_reserved-2.ensures.items ∙ (ap (λ (l : List Lit). l ++ no_lit ∷ []) (c.push_reserved.ensures.items ∙ ap (λ (l : List Lit). l ++ no_lit ∷ []) c.reserve.ensures.items) ∙ append_assoc i.watched.items (no_lit ∷ []) (no_lit ∷ [])) in
+    = c.push_reserved-2.ensures.items ∙ (ap (λ (l : List Lit). l ++ no_lit ∷ []) (c.push_reserved.ensures.items ∙ ap (λ (l : List Lit). l ++ no_lit ∷ []) c.reserve.ensures.items) ∙ append_assoc i.watched.items (no_lit ∷ []) (no_lit ∷ [])) in
     let next : c.push_reserved-4.new.self.items ≡ i.next.items ++ 0 ∷ 0 ∷ []
-      = c.push_reserved-4.ensures.items ∙ (ap (λ (l : List ℕ). l ++ 0 ∷ []) (c.push_reserved-3.ensures.items ∙ ap (λ (l : List ℕ). l ++ 0 ∷ []) c.reserve-2.ensures.items) ∙ append_assoc i.next.items (0 ∷ []) (0 ∷ [])) in
+    = c.push_reserved-4.ensures.items ∙ (ap (λ (l : List ℕ). l ++ 0 ∷ []) (c.push_reserved-3.ensures.items ∙ ap (λ (l : List ℕ). l ++ 0 ∷ []) c.reserve-2.ensures.items) ∙ append_assoc i.next.items (0 ∷ []) (0 ∷ [])) in
     let r = rw (← c.self.view_is) at c.requires in
     let fits : All (λ (x : Lit). x.var < i.trail.room) c.in_ok-kept.kept = subst (λ (w : List Lit). All (λ (x : Lit). x.var < i.trail.room) w) (sym c.in_ok-kept.ensures) r in
     record {

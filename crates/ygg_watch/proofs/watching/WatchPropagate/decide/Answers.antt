@@ -19,7 +19,7 @@ invariant_of-self c =
     let l = v.levels in let more = ap (λ (z : List Frame). length z) c.push_reserved.ensures.items in
     record {
       live = subst (λ m. IsLive i.clauses.items i.watched.items i.next.items i.firsts.items [] c.decide.new.self.entries.items m c.push_reserved.new.self.items i.head i.seen) (sym c.decide.ensures.room)
-        (live_decided i.clauses.items i.watched.items i.next.items i.firsts.items i.trail.entries.items c.decide.new.self.entries.items i.trail.room i.frames.items c.push_reserved.new.self.items i.head i.seen _ v.live
+          (live_decided i.clauses.items i.watched.items i.next.items i.firsts.items i.trail.entries.items c.decide.new.self.entries.items i.trail.room i.frames.items c.push_reserved.new.self.items i.head i.seen _ v.live
           (λ q d h. let w = i.trail.levelled.low q d h in omega (arith, w, l)) c.decide.ensures.entries c.push_reserved.ensures.items);
       levels = let s = c.decide.ensures.starts in omega (arith, more, s, l, length-append {A = Frame});
       capacity_is = let m = v.capacity_is in let e = c.push_reserved.ensures.capacity in let r = c.decide.ensures.room in omega (arith, m, e, r);
