@@ -1,5 +1,5 @@
 -- The trail: no literal is false together with its complement, and a reason gives a pivot.
-use Rattle.std.proofs.Common.{get_or, All, ◌*◌, ◌≡◌, ◌≢◌, ℕ, zero, suc, ◌<◌, ◌≤◌, ◌+◌, Bool, true, false, not, List, [], ◌∷◌, ◌++◌, length, Contains, ◌⊎◌, inl, inr, ⊎_elim, sym, subst, ap, ◌∙◌, Option, Some, None, arith, slice_get, append_assoc, IsSome}
+use Rattle.std.proofs.Common.{get_or, All, ◌≡◌, ◌≢◌, ℕ, zero, suc, ◌<◌, ◌≤◌, ◌+◌, Bool, true, false, not, List, [], ◌∷◌, ◌++◌, length, Contains, ◌⊎◌, inl, inr, ⊎_elim, sym, subst, ap, ◌∙◌, Option, Some, None, arith, slice_get, append_assoc, IsSome}
 use Rattle.std.proofs.lemmas.Bool.{false≢true, cases_eq, cases_lt}
 use Rattle.std.proofs.lemmas.List.Elements.{Contains-get_or}
 use Rattle.ygg_chain.specs.Marks.{Marked, Fits}

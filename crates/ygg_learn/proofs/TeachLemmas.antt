@@ -1,5 +1,5 @@
 -- A clause that is false but for one literal of the last level teaches.
-use Rattle.std.proofs.Common.{◌≡◌, ◌≢◌, ℕ, zero, suc, ◌<◌, ◌≤◌, ◌+◌, List, [], ◌∷◌, ◌++◌, length, Contains, ◌⊎◌, ⊎_elim, sym, subst, ap, ◌∙◌, Some, arith, slice_get, All, refl, Bool}
+use Rattle.std.proofs.Common.{◌≡◌, ◌≢◌, ℕ, zero, suc, ◌<◌, ◌≤◌, List, [], ◌∷◌, ◌++◌, length, Contains, ⊎_elim, sym, subst, ap, ◌∙◌, Some, arith, slice_get, All, refl, Bool}
 use Rattle.std.proofs.lemmas.Bool.{cases_lt}
 use Rattle.std.proofs.lemmas.List.Elements.{All-head, All-tail}
 use Rattle.std.proofs.lemmas.Option.{same_Some}
@@ -9,7 +9,7 @@ use Rattle.ygg_cnf.specs.Derivations.{HasClause}
 use Rattle.ygg_cnf.specs.Literals.{complement}
 use Rattle.ygg_cnf.specs.Logs.{IsOpen, TeachesAt}
 use Rattle.ygg_cnf.specs.declared.lit.Lit.{Lit}
-use Rattle.ygg_learn.proofs.LearnLemmas.{not_both, later}
+use Rattle.ygg_learn.proofs.LearnLemmas.{not_both}
 use Rattle.ygg_learn.specs.Learning.{IsSound, IsAsserting, IsMarkedAt}
 use Rattle.ygg_trail.proofs.TrailLemmas.{assigned_at, false_before, in_before}
 use Rattle.ygg_trail.specs.Trail.{IsAt, IsFalseBefore, assigned_before, IsQuietBefore}

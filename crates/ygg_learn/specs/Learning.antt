@@ -1,5 +1,5 @@
 -- Analysis of a conflict: marked literals are those of the clause so far, and each of them is false.
-use Rattle.std.specs.Prelude.{◌≡◌, ◌≢◌, ℕ, ◌<◌, ◌≤◌, ◌+◌, Bool, List, ◌++◌, Contains, ◌⊎◌, Some, None, IsSome, length}
+use Rattle.std.specs.Prelude.{◌≡◌, ◌≢◌, ℕ, ◌<◌, ◌≤◌, Bool, List, ◌++◌, Contains, ◌⊎◌, Some, None, IsSome, length}
 use Rattle.ygg_chain.specs.Marks.{Marked}
 use Rattle.ygg_cnf.specs.Derivations.{HasClause, Resolves, DerivesClause}
 use Rattle.ygg_cnf.specs.Literals.{complement}

@@ -1,6 +1,6 @@
 -- What is left of a clause, and steps of propagation.
 use Rattle.ygg_cnf.proofs.Lits.{same_lit}
-use Rattle.std.proofs.Common.{◌↔◌, ◌≡◌, ◌≢◌, ℕ, zero, suc, ◌<◌, ◌≤◌, ◌+◌, ◌-◌, true, false, not, List, [], ◌∷◌, ◌++◌, length, take, ◌⊎◌, inl, inr, ⊎_elim, sym, subst, ap, ◌∙◌, arith, refl, Option, Some, None, get_or, All, Contains, append_assoc}
+use Rattle.std.proofs.Common.{◌↔◌, ◌≡◌, ◌≢◌, ℕ, zero, suc, ◌<◌, ◌≤◌, ◌+◌, true, false, not, List, [], ◌∷◌, ◌++◌, length, take, ◌⊎◌, inl, inr, ⊎_elim, sym, subst, ap, ◌∙◌, arith, refl, Option, Some, None, get_or, All, Contains, append_assoc}
 use Rattle.std.proofs.lemmas.List.Elements.{Contains-get_or, All-contains, All-get_or}
 use Rattle.std.proofs.lemmas.Option.{same_Some, slice_get-get_or, slice_get_within, get_or_from_slice_get}
 use Rattle.ygg_chain.proofs.PlaceLemmas.{contains_more, contains_all}

@@ -1,5 +1,5 @@
 -- The number of unassigned variables falls as literals are assigned.
-use Rattle.std.proofs.Common.{◌≡◌, ◌+◌, List, [], ◌∷◌, ◌++◌, sym, ap, refl}
+use Rattle.std.proofs.Common.{◌≡◌, List, [], ◌∷◌, ◌++◌, sym, ap, refl}
 use Rattle.ygg_propagate.specs.Propagation.{Propagation, Spreads}
 use Rattle.ygg_trail.specs.declared.entry.Entry.{Entry}
 

@@ -1,5 +1,5 @@
 -- What the assigned literals leave of a clause.
-use Rattle.std.specs.Prelude.{◌≢◌, ℕ, List, length, Contains}
+use Rattle.std.specs.Prelude.{◌≢◌, List, length, Contains}
 use Rattle.ygg_cnf.specs.Derivations.{HasClause}
 use Rattle.ygg_cnf.specs.declared.lit.Lit.{Lit}
 use Rattle.ygg_trail.specs.Trail.{IsQuietBefore, IsAssigned, IsOnTrail}

@@ -1,5 +1,5 @@
 -- What a propagation holds, and what its calls make of it.
-use Rattle.std.specs.Prelude.{◌≡◌, ◌≢◌, ℕ, ◌<◌, ◌+◌, not, List, [], ◌∷◌, ◌++◌, length, Contains, All, Some, None}
+use Rattle.std.specs.Prelude.{◌≡◌, ℕ, ◌<◌, ◌+◌, not, List, [], ◌∷◌, ◌++◌, length, Contains, All, Some, None}
 use Rattle.ygg_cnf.specs.Derivations.{HasClause}
 use Rattle.ygg_cnf.specs.declared.lit.Lit.{Lit}
 use Rattle.ygg_trail.specs.Trail.{IsAt, IsFalseBefore, IsReason, IsAssigned, keep_level}

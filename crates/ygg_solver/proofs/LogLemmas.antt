@@ -1,6 +1,6 @@
 -- One more entry of a log.
 use Rattle.std.proofs.lemmas.List.Elements.{All-tail}
-use Rattle.std.proofs.Common.{All, ◌≡◌, ℕ, List, [], ◌∷◌, ◌++◌, map, sym, subst, ap, arith, refl, append_assoc, ◌<◌, ◌≤◌, ◌+◌, ◌*◌}
+use Rattle.std.proofs.Common.{All, ◌≡◌, ℕ, List, [], ◌∷◌, ◌++◌, map, sym, subst, ap, arith, refl, append_assoc, ◌<◌, ◌≤◌, ◌*◌}
 use Rattle.ygg_chain.specs.Marks.{Fits}
 use Rattle.ygg_cnf.specs.Derivations.{HasClause, DerivesClause}
 use Rattle.ygg_cnf.specs.Logs.{Derives, EachTeaches, Teaches, clause_of, chain_of, EndsEmpty}

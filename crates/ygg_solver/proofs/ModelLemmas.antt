@@ -1,5 +1,5 @@
 -- With every variable assigned and no clause a unit or false, the trail satisfies each clause.
-use Rattle.std.proofs.Common.{inl, inr, ◌≡◌, ◌≢◌, ℕ, zero, suc, ◌<◌, ◌+◌, Bool, true, false, not, cond, List, [], ◌∷◌, ◌++◌, length, ◌⊎◌, ⊎_elim, sym, subst, ap, ◌∙◌, arith, refl, eqb, All, Contains, get_or, set, take, get_or-set_same, get_or-set_other}
+use Rattle.std.proofs.Common.{inl, inr, ◌≡◌, ◌≢◌, ℕ, zero, suc, ◌<◌, ◌+◌, true, false, not, cond, List, [], ◌∷◌, ◌++◌, length, ◌⊎◌, ⊎_elim, sym, subst, ap, ◌∙◌, arith, refl, eqb, All, Contains, get_or, take}
 use Rattle.std.proofs.lemmas.Bool.{false≢true, cases_eq, cases_Bool, eq-eqb, ne_eqb, eqb-true}
 use Rattle.std.proofs.lemmas.List.{take_more}
 use Rattle.std.proofs.lemmas.List.Elements.{All-contains, All-cons, All-head, All-tail}

@@ -1,5 +1,5 @@
 -- The variables of places as new names: a renaming of all literals that agrees with them at each place.
-use Rattle.std.proofs.Common.{take, ◌≡◌, ◌≢◌, ℕ, zero, suc, ◌<◌, ◌≤◌, ◌+◌, Bool, true, false, not, cond, leb, List, [], ◌∷◌, ◌++◌, length, map, get_or, Contains, ◌⊎◌, inl, inr, ⊎_elim, sym, subst, ap, ◌∙◌, arith, All, refl}
+use Rattle.std.proofs.Common.{take, ◌≡◌, ◌≢◌, ℕ, zero, suc, ◌<◌, ◌≤◌, ◌+◌, Bool, true, false, not, cond, leb, List, [], ◌∷◌, ◌++◌, length, map, get_or, ◌⊎◌, ⊎_elim, sym, subst, ap, ◌∙◌, arith, All, refl}
 use Rattle.std.proofs.lemmas.Bool.{cases_lt, cases_Bool, leb-true}
 use Rattle.std.proofs.lemmas.List.Elements.{All-push, All-get_or, All-head, All-tail, All-cons, All-contains}
 use Rattle.std.proofs.lemmas.List.{map-append, take_more, length-map, get_or-map}
@@ -7,11 +7,11 @@ use Rattle.ygg_cnf.specs.declared.lit.Lit.{Lit}
 use Rattle.ygg_cnf.specs.declared.log.Step.{Step}
 use Rattle.ygg_cnf.specs.declared.log.Step.TheVariants.{Added}
 use Rattle.ygg_cnf.proofs.Lits.{same_lit}
-use Rattle.ygg_cnf.specs.Literals.{truth_of, complement, Satisfies, SatisfiesClause, SatisfiesAll}
+use Rattle.ygg_cnf.specs.Literals.{truth_of, SatisfiesClause, SatisfiesAll}
 use Rattle.ygg_cnf.specs.Logs.{clause_of, Refutes, SpentLog}
-use Rattle.ygg_chain.specs.Places.{IsDistinct, IsPlaced, literal_at, clause_at, clauses_at, StandsFor}
+use Rattle.ygg_chain.specs.Places.{IsDistinct, IsPlaced, literal_at, clause_at, clauses_at}
 use Rattle.ygg_chain.proofs.PlaceLemmas.{kept_more, stands_once, contains_map}
-use Rattle.ygg_solver.specs.Names.{step_at, log_at, GivesValues}
+use Rattle.ygg_solver.specs.Names.{log_at, GivesValues}
 use Rattle.ygg_trail.specs.declared.entry.Entry.{Entry}
 use Rattle.ygg_trail.specs.Trail.{IsAt}
 use Rattle.ygg_trail.specs.Assignments.{IsTrail}

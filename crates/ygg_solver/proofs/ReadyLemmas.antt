@@ -8,7 +8,7 @@ use Rattle.ygg_cnf.specs.Derivations.{HasClause}
 use Rattle.ygg_cnf.specs.Literals.{complement}
 use Rattle.ygg_cnf.specs.Logs.{IsOpen}
 use Rattle.ygg_cnf.specs.declared.lit.Lit.{Lit}
-use Rattle.ygg_learn.proofs.LearnLemmas.{none_is_some, lower}
+use Rattle.ygg_learn.proofs.LearnLemmas.{none_is_some}
 use Rattle.ygg_learn.specs.Learning.{IsLastDecision, IsJump}
 use Rattle.ygg_propagate.specs.Propagation.{Propagation, decided, Implies, Spreads, with_clause, back_to}
 use Rattle.ygg_solver.specs.Search.{IsReady}

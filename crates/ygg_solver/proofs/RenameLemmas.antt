@@ -1,5 +1,5 @@
 -- Chains, teaching clauses and logs under other names of the variables.
-use Rattle.std.proofs.Common.{◌≡◌, ◌≢◌, ℕ, zero, suc, ◌<◌, List, [], ◌∷◌, ◌++◌, length, map, Contains, ◌⊎◌, ◌↔◌, inl, inr, ⊎_elim, sym, subst, ap, ◌∙◌, Some, arith, All, refl}
+use Rattle.std.proofs.Common.{◌≡◌, ℕ, zero, suc, List, [], ◌∷◌, ◌++◌, map, Contains, ◌↔◌, inl, inr, ⊎_elim, sym, subst, ap, ◌∙◌, arith, All, refl}
 use Rattle.std.specs.Prelude.{option_map}
 use Rattle.std.proofs.lemmas.Option.{slice_get-map}
 use Rattle.std.proofs.lemmas.List.{map-append, length-map}
@@ -9,7 +9,7 @@ use Rattle.ygg_cnf.specs.declared.log.Step.{Step}
 use Rattle.ygg_cnf.specs.declared.log.Step.TheVariants.{Added}
 use Rattle.ygg_cnf.specs.Literals.{complement}
 use Rattle.ygg_cnf.specs.Derivations.{IsPivot, Resolvent, Resolves, DerivesClause, HasClause}
-use Rattle.ygg_cnf.specs.Logs.{clause_of, Derives, EndsEmpty, Refutes, IsOpen, TeachesAt, Teaches, EachTeaches, SpentLog}
+use Rattle.ygg_cnf.specs.Logs.{clause_of, Derives, Refutes, IsOpen, Teaches, EachTeaches, SpentLog}
 use Rattle.ygg_chain.proofs.PlaceLemmas.{contains_map, contains_of_map}
 
 -- no two literals get one name, and complements get complements

@@ -1,5 +1,5 @@
 -- Assigned variables as a test, and how many numbers fail a test.
-use Rattle.std.proofs.Common.{List, [], ◌∷◌, cond, eqb, ◌+◌, ◌≡◌, ◌≢◌, ℕ, zero, suc, ◌<◌, Bool, true, false, ◌⊎◌, ⊎_elim, sym, subst, arith, refl}
+use Rattle.std.proofs.Common.{List, [], ◌∷◌, cond, eqb, ◌+◌, ◌≡◌, ◌≢◌, ℕ, zero, suc, ◌<◌, Bool, true, false, ⊎_elim, sym, subst, arith, refl}
 use Rattle.std.proofs.lemmas.Bool.{cases_eq}
 use Rattle.ygg_trail.specs.declared.entry.Entry.{Entry}
 

@@ -1,5 +1,5 @@
 -- Lists of watches last.
-use Rattle.std.proofs.Common.{◌≡◌, ◌≢◌, ℕ, zero, suc, ◌<◌, ◌≤◌, ◌+◌, ◌-◌, ◌*◌, ◌%◌, ◌/◌, Bool, true, false, cond, eqb, List, [], ◌∷◌, length, get_or, set, ◌⊎◌, inl, inr, ⊎_elim, sym, subst, ap, ◌∙◌, arith, refl, get_or-set_same, get_or-set_other, length-set}
+use Rattle.std.proofs.Common.{◌≡◌, ◌≢◌, ℕ, zero, suc, ◌<◌, ◌≤◌, ◌+◌, ◌-◌, ◌*◌, ◌%◌, ◌/◌, Bool, true, false, cond, eqb, List, [], ◌∷◌, length, get_or, set, inl, inr, ⊎_elim, sym, subst, ap, ◌∙◌, arith, refl, get_or-set_same, get_or-set_other, length-set}
 use Rattle.std.proofs.lemmas.Bool.{cases_eq, eq-eqb, ne_eqb}
 use Rattle.ygg_chain.specs.Marks.{code_of}
 use Rattle.ygg_cnf.specs.declared.lit.Lit.{Lit}

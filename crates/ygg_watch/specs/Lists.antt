@@ -1,5 +1,5 @@
 -- Lists of watches. Node 2 * k and node 2 * k + 1 are the two watches of clause k, and a list goes from each node to the next by its number plus 1.
-use Rattle.std.specs.Prelude.{◌≡◌, ◌≢◌, ℕ, suc, ◌<◌, ◌+◌, ◌-◌, ◌*◌, ◌%◌, ◌/◌, false, cond, eqb, List, [], ◌∷◌, length, get_or, Contains, ◌⊎◌, slice_get, Some}
+use Rattle.std.specs.Prelude.{◌≡◌, ◌≢◌, ℕ, suc, ◌<◌, ◌+◌, ◌-◌, ◌%◌, ◌/◌, false, cond, eqb, List, [], ◌∷◌, length, get_or, Contains, ◌⊎◌, slice_get, Some}
 use Rattle.ygg_chain.specs.Marks.{code_of}
 use Rattle.ygg_cnf.specs.declared.lit.Lit.{Lit}
 

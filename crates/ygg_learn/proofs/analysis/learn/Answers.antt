@@ -1,4 +1,4 @@
-use Rattle.std.proofs.Common.{◌≡◌, length, arith, ◌↔◌, ◌⊎◌, ⊎_elim, inr, inl, sym, subst, Contains, ℕ, List, ◌++◌, [], ◌∙◌, ap}
+use Rattle.std.proofs.Common.{◌≡◌, length, arith, ◌↔◌, ⊎_elim, inr, inl, sym, subst, Contains, ℕ, List, ◌++◌, [], ◌∙◌, ap}
 use Rattle.ygg_chain.specs.Marks.{Marked}
 use Rattle.ygg_cnf.proofs.Steps.{first_step, one_clause}
 use Rattle.ygg_cnf.specs.Derivations.{HasClause, DerivesClause}

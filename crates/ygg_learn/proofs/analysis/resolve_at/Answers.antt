@@ -1,5 +1,5 @@
 use Rattle.std.proofs.lemmas.List.Elements.{All-contains}
-use Rattle.std.proofs.Common.{◌-◌, sym, subst, List, length, All, ◌↔◌}
+use Rattle.std.proofs.Common.{sym, subst, List, length, All, ◌↔◌}
 use Rattle.ygg_chain.specs.Marks.{Fits, Marked}
 use Rattle.ygg_cnf.proofs.Steps.{one_clause, resolves_step}
 use Rattle.ygg_cnf.specs.Derivations.{HasClause, Resolvent}

@@ -1,4 +1,4 @@
-use Rattle.std.proofs.Common.{arith, ◌-◌, ◌+◌, ℕ, sym, subst, List, length, IsSome}
+use Rattle.std.proofs.Common.{arith, ◌+◌, ℕ, sym, subst, List, length, IsSome}
 use Rattle.ygg_chain.specs.Marks.{Marked}
 use Rattle.ygg_learn.proofs.LearnLemmas.{marked_within, none_is_some, marked_stays, chain_more, falses_step, falses_down, not_here, lower, later}
 use Rattle.ygg_learn.specs.Learning.{ChainReaches}

@@ -1,4 +1,4 @@
-use Rattle.std.proofs.Common.{◌-◌, ◌<◌, ◌≤◌, ◌+◌, length}
+use Rattle.std.proofs.Common.{◌<◌, ◌≤◌, ◌+◌, length}
 use Rattle.ygg_chain.specs.Marks.{Marked}
 use Rattle.ygg_learn.specs.Learning.{IsMarkedAt, ChainReaches}
 use Rattle.ygg_trail.specs.Trail.{IsFalseBefore}

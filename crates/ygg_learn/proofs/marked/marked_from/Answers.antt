@@ -1,4 +1,4 @@
-use Rattle.std.proofs.Common.{arith, ◌-◌, sym, ◌∙◌}
+use Rattle.std.proofs.Common.{arith, sym, ◌∙◌}
 use Rattle.std.proofs.lemmas.Bool.{false≢true}
 use Rattle.ygg_learn.proofs.LearnLemmas.{none_more}
 use Rattle.ygg_learn.specs.Learning.{IsMarkedAt}

@@ -1,4 +1,4 @@
-use Rattle.std.proofs.Common.{◌<◌, ◌-◌, ◌∙◌, ap, List, length, arith, Some, length-append}
+use Rattle.std.proofs.Common.{◌<◌, ◌∙◌, ap, List, length, arith, Some, length-append}
 use Rattle.ygg_cnf.specs.declared.lit.Lit.{Lit}
 use Rattle.ygg_propagate.proofs.LookLemmas.{step_spreads, state_same, within_of}
 use Rattle.ygg_propagate.specs.Look.{state_of}

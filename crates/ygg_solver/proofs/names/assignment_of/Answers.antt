@@ -1,8 +1,7 @@
-use Rattle.std.proofs.Common.{◌≡◌, sym, ap, ◌∙◌, inl, inr, arith, get_or, false, None, ℕ}
+use Rattle.std.proofs.Common.{◌≡◌, sym, inl, inr, arith, get_or, false, None}
 use Rattle.std.proofs.lemmas.Option.{get_or_from_slice_get, slice_get-get_or}
 use Rattle.ygg_trail.specs.declared.entry.Entry.{Entry}
 use Rattle.ygg_trail.specs.Trail.{IsAt}
-use Rattle.ygg_solver.specs.Names.{GivesValues}
 use Rattle.ygg_solver.proofs.NameLemmas.{values_kept, values_set}
 use Rattle.ygg_solver.proofs.names.assignment_of.Goals as goal
 use Rattle.ygg_solver.proofs.names.assignment_of.Goals.{then-variable-gt0+then-not-entry+in_ok-set_true, else-variable-gt0, else-variable-gt0-via-then-variable-gt0+else-not-entry, else-variable-gt0-via-else-variable-gt0}

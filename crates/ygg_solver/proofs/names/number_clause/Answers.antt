@@ -1,4 +1,4 @@
-use Rattle.std.proofs.Common.{◌≡◌, List, ◌∷◌, [], ◌++◌, take, ◌+◌, All, sym, subst, ◌∙◌, ap, append_assoc}
+use Rattle.std.proofs.Common.{List, ◌++◌, All, sym, subst, ◌∙◌, ap, append_assoc}
 use Rattle.ygg_cnf.specs.declared.lit.Lit.{Lit}
 use Rattle.ygg_chain.specs.Places.{IsPlaced, clause_at}
 use Rattle.ygg_chain.proofs.PlaceLemmas.{entered}

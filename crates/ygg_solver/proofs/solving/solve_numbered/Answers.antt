@@ -1,10 +1,10 @@
-use Rattle.std.proofs.Common.{◌≡◌, ◌<◌, ◌≤◌, List, All, length, map, sym, subst, ap, ◌∙◌, arith}
+use Rattle.std.proofs.Common.{◌≡◌, List, All, length, map, sym, subst, ap, arith}
 use Rattle.std.proofs.lemmas.List.{length-map}
 use Rattle.ygg_cnf.specs.declared.lit.Lit.{Lit}
 use Rattle.ygg_cnf.specs.declared.log.Step.{Step}
 use Rattle.ygg_cnf.specs.Literals.{SatisfiesAll, truth_of}
 use Rattle.ygg_cnf.specs.Logs.{clause_of, Refutes, SpentLog}
-use Rattle.ygg_chain.specs.Places.{IsPlaced, clauses_at}
+use Rattle.ygg_chain.specs.Places.{clauses_at}
 use Rattle.ygg_propagate.specs.Propagation.{IsWithin}
 use Rattle.ygg_trail.specs.declared.entry.Entry.{Entry}
 use Rattle.ygg_solver.specs.Search.{trail_value}

@@ -3,7 +3,7 @@ use Rattle.ygg_cnf.proofs.Lits.{complement_twice}
 use Rattle.ygg_cnf.specs.Literals.{complement}
 use Rattle.ygg_propagate.specs.Look.{state_of}
 use Rattle.ygg_trail.proofs.AssignmentLemmas.{filled}
-use Rattle.ygg_watch.proofs.WatchLemmas.{live_head, spreads_on, at_spread}
+use Rattle.ygg_watch.proofs.StepLemmas.{live_head, spreads_on, at_spread}
 use Rattle.ygg_watch.proofs.visit.visit_all.Goals as goal
 
 pub returns-in-Some-clause-spreads : goal.returns-in-Some-clause-spreads

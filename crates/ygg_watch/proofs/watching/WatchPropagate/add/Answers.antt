@@ -1,6 +1,6 @@
 use Rattle.std.proofs.Common.{◌≡◌, ◌<◌, ◌++◌, ◌∷◌, ℕ, length, arith, sym, ap, subst, List, [], ◌∙◌, append_assoc, length-append, All}
 use Rattle.ygg_cnf.specs.declared.lit.Lit.{Lit}
-use Rattle.ygg_watch.proofs.WatchLemmas.{live_added}
+use Rattle.ygg_watch.proofs.StepLemmas.{live_added}
 use Rattle.ygg_watch.specs.Lists.{no_lit}
 use Rattle.ygg_watch.proofs.watching.WatchPropagate.add.Goals as goal
 

@@ -1,5 +1,5 @@
 use Rattle.std.proofs.Common.{◌≡◌, ◌<◌, length, arith, sym, ap, subst, List, [], ◌∙◌, length-take}
-use Rattle.ygg_watch.proofs.WatchLemmas.{live_gone_back, frame_is, back_same}
+use Rattle.ygg_watch.proofs.StepLemmas.{live_gone_back, frame_is, back_same}
 use Rattle.ygg_watch.specs.State.{IsLive}
 use Rattle.ygg_watch.specs.Watching.{frame_of}
 use Rattle.ygg_watch.specs.declared.frame.Frame.{Frame}

@@ -1,6 +1,6 @@
 use Rattle.std.proofs.Common.{length, arith, sym, ap, subst, List, [], None, length-append}
 use Rattle.ygg_trail.proofs.AssignmentLemmas.{has_place, levels_within}
-use Rattle.ygg_watch.proofs.WatchLemmas.{live_decided}
+use Rattle.ygg_watch.proofs.StepLemmas.{live_decided}
 use Rattle.ygg_watch.specs.State.{IsLive}
 use Rattle.ygg_watch.specs.declared.frame.Frame.{Frame}
 use Rattle.ygg_watch.proofs.watching.WatchPropagate.decide.Goals as goal
