@@ -1,4 +1,4 @@
-ghost use Rattle.std.specs.Prelude.{◌≡◌, ◌<◌, ◌≤◌, ◌+◌, ◌^◌, [], ◌++◌, length, List, ℕ, ◌↔◌, IfOk, OnErr};
+ghost use Rattle.std.specs.Prelude.{◌≡◌, ◌<◌, ◌≤◌, ◌+◌, ◌^◌, [], ◌++◌, length, slice_get, List, ℕ, ◌↔◌, IfOk, OnErr};
 ghost use Rattle.ygg_cnf.specs.declared.lit.Lit.{Lit};
 ghost use Rattle.ygg_chain.specs.Places.{IsDistinct, StandsFor};
 
@@ -44,6 +44,17 @@ impl Variables {
         ensures distinct { IsDistinct self.now }
     {
         self.places.len()
+    }
+
+    /// The variable that has the place.
+    pub fn variable(&self, place: usize) -> u64
+        requires { place < length self.now }
+        ensures { slice_get self.now place ≡ Some result }
+    {
+        match self.places.get_index(place) {
+            Some(variable) => *variable,
+            None => unreachable!(),
+        }
     }
 
     /// The literal with its variable's place in place of the variable, where the variable has one.

@@ -1,0 +1,2 @@
+pub mod LearnLemmas
+pub mod TeachLemmas

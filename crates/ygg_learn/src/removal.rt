@@ -1,0 +1,215 @@
+//! Which literals of a learned clause the others imply. All of it is advice: no proof rests on what it says.
+
+use crate::marked::has_mark;
+use std::alloc::Global;
+use ygg_cnf::Clause;
+use ygg_list::NoMemory;
+use ygg_trail::Entry;
+
+/// What is known of a place: nothing, that marked literals imply its literal, or that it was not found so.
+#[derive(Clone, Copy, Debug, PartialEq, Eq)]
+enum Known {
+    Nothing,
+    Implied,
+    Other,
+}
+
+/// Finds the places of the trail whose literals follow from the other literals of a learned clause, as in the recursive
+/// minimization of Sörensson and Biere, with a stack in place of the recursion.
+#[derive(Drop)]
+pub struct Removal {
+    /// By place.
+    known: Vec<Known>,
+    /// The places of which something is known, to forget them again.
+    touched: Vec<usize>,
+    /// The places that are being asked for, each because of the one below it.
+    stack: Vec<usize>,
+    /// By level, whether a marked literal is of it. A literal of another level is not implied.
+    levels: Vec<bool>,
+}
+
+impl Removal {
+    /// Nothing is known. It takes no memory.
+    pub fn new(alloc: Global) -> Removal {
+        Removal {
+            known: Vec::new(alloc),
+            touched: Vec::new(alloc),
+            stack: Vec::new(alloc),
+            levels: Vec::new(alloc),
+        }
+    }
+
+    /// Whether the literal of the place was found to be implied.
+    pub fn is_implied(&self, place: usize) -> bool {
+        known_at(self.known.as_slice(), place) == Known::Implied
+    }
+
+    /// Forgets what was found, and makes room for so many places.
+    fn clear(&mut self, size: usize) -> Result<(), NoMemory> {
+        for place in &self.touched {
+            write_known(self.known.as_mut_slice(), *place, Known::Nothing);
+        }
+        self.touched.clear();
+        self.stack.clear();
+        if self.known.len() < size {
+            self.known.resize(size, Known::Nothing)?;
+        }
+        if self.levels.len() <= size && size < usize::MAX {
+            self.levels.resize(size + 1, false)?;
+        }
+        Ok(())
+    }
+
+    /// Says whether a level has a marked literal.
+    fn note_level(&mut self, level: u64, has: bool) {
+        if let Some(slot) = self.levels.get_mut(level as usize) {
+            *slot = has;
+        }
+    }
+
+    /// Whether the place is of level 0 or of a level that has a marked literal.
+    fn is_near(&self, trail: &[Entry], place: usize) -> bool {
+        match trail.get(place) {
+            Some(entry) => entry.level == 0 || self.levels.get(entry.level as usize) == Some(&true),
+            None => false,
+        }
+    }
+
+    /// Keeps what is known of a place.
+    fn settle(&mut self, place: usize, known: Known) -> Result<(), NoMemory> {
+        write_known(self.known.as_mut_slice(), place, known);
+        self.touched.push(place)?;
+        Ok(())
+    }
+
+    /// Asks for one marked place, in at most so many steps.
+    fn ask(
+        &mut self,
+        marks: &[bool],
+        clauses: &[Clause],
+        trail: &[Entry],
+        places: &[usize],
+        place: usize,
+        steps: usize,
+    ) -> Result<(), NoMemory> {
+        self.stack.clear();
+        self.stack.push(place)?;
+        for _ in 0..steps {
+            let Some(top) = self.stack.last() else {
+                return Ok(());
+            };
+            let now = *top;
+            match self.step(marks, clauses, trail, places, now) {
+                Next::Implied => {
+                    self.settle(now, Known::Implied)?;
+                    let _ = self.stack.pop();
+                }
+                Next::Other => {
+                    self.settle(now, Known::Other)?;
+                    let _ = self.stack.pop();
+                }
+                Next::Ask(other) => {
+                    self.stack.push(other)?;
+                }
+            }
+        }
+        Ok(())
+    }
+
+    /// Looks at the reason of a place.
+    fn step(
+        &self,
+        marks: &[bool],
+        clauses: &[Clause],
+        trail: &[Entry],
+        places: &[usize],
+        place: usize,
+    ) -> Next {
+        let Some(entry) = trail.get(place) else {
+            return Next::Other;
+        };
+        let Some(id) = entry.reason else {
+            return Next::Other;
+        };
+        let Some(clause) = clauses.get((id as usize).wrapping_sub(1)) else {
+            return Next::Other;
+        };
+        for lit in clause.as_slice() {
+            if lit.var != entry.lit.var && !has_mark(marks, *lit) {
+                let Some(other) = places.get(lit.var as usize) else {
+                    return Next::Other;
+                };
+                if *other >= place {
+                    return Next::Other;
+                }
+                match known_at(self.known.as_slice(), *other) {
+                    Known::Implied => {}
+                    Known::Other => {
+                        return Next::Other;
+                    }
+                    Known::Nothing => {
+                        if !self.is_near(trail, *other) {
+                            return Next::Other;
+                        }
+                        return Next::Ask(*other);
+                    }
+                }
+            }
+        }
+        Next::Implied
+    }
+}
+
+/// What the look at a place's reason came to: its literal is implied, is not found to be, or hangs on another place.
+#[derive(Clone, Copy, Debug)]
+enum Next {
+    Implied,
+    Other,
+    Ask(usize),
+}
+
+/// What is known of a place.
+fn known_at(known: &[Known], place: usize) -> Known {
+    match known.get(place) {
+        Some(is) => *is,
+        None => Known::Nothing,
+    }
+}
+
+/// Keeps what is known of a place that has room.
+fn write_known(known: &mut [Known], place: usize, now: Known) {
+    if let Some(slot) = known.get_mut(place) {
+        *slot = now;
+    }
+}
+
+/// Finds which marked places below `start` are implied. Its only error is want of memory.
+pub fn find(
+    removal: &mut Removal,
+    marks: &[bool],
+    clauses: &[Clause],
+    trail: &[Entry],
+    places: &[usize],
+    start: usize,
+) -> Result<(), NoMemory> {
+    removal.clear(trail.len())?;
+    for entry in trail {
+        if has_mark(marks, entry.lit.complement()) {
+            removal.note_level(entry.level, true);
+        }
+    }
+    let mut place = 0;
+    for entry in trail {
+        if place >= start {
+            break;
+        }
+        if has_mark(marks, entry.lit.complement()) {
+            removal.ask(marks, clauses, trail, places, place, trail.len())?;
+        }
+        place += 1;
+    }
+    for entry in trail {
+        removal.note_level(entry.level, false);
+    }
+    Ok(())
+}

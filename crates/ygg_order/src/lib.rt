@@ -1,0 +1,8 @@
+//! The order in which variables are decided, and when to begin again. All of it is advice: no proof rests on it.
+#![tactic(auto)]
+
+mod heap;
+mod restarts;
+
+pub use heap::Order;
+pub use restarts::Restarts;

@@ -1,0 +1,3 @@
+pub mod PropagationLemmas
+pub mod LookLemmas
+pub mod LoadLemmas

@@ -1,0 +1,16 @@
+//! Unit propagation: the calls of a propagation with their meaning, and the plain one that looks at every clause.
+#![tactic(auto)]
+
+mod found;
+mod loading;
+mod look;
+mod plain;
+mod propagate;
+mod spreading;
+
+pub use found::{Assigned, Found};
+pub use loading::{load, room_for};
+pub use look::{Look, look_at};
+pub use plain::{PlainSpread, plain_spread};
+pub use propagate::{Propagate, Trail};
+pub use spreading::spread;

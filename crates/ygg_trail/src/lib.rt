@@ -1,0 +1,8 @@
+//! The assigned literals of a search in order, each with its level and its reason.
+#![tactic(auto)]
+
+mod assignments;
+mod entry;
+
+pub use assignments::Assignments;
+pub use entry::Entry;

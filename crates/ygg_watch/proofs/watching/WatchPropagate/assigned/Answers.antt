@@ -1,0 +1,7 @@
+use Rattle.ygg_propagate.proofs.LookLemmas.{has_value}
+use Rattle.ygg_watch.proofs.watching.WatchPropagate.assigned.Goals as goal
+
+pub returns-clause-some : goal.returns-clause-some
+returns-clause-some c =
+    let s = c.in_ok-entry.ensures.some in
+    rw (← c.self.view_is) (has_value c.self.inside.trail.entries.items c.args.var _ s.0 s.1)

@@ -1,0 +1,214 @@
+ghost use Rattle.std.specs.Prelude.{◌≡◌, ◌≢◌, ◌<◌, ◌≤◌, ◌+◌, ◌*◌, ◌↔◌, length, All, Contains, IfSome, IsTrue, slice_get, Some, [], set};
+ghost use Rattle.ygg_propagate.specs.Propagation.{IsWithin, Spreads, IsConflict};
+ghost use Rattle.ygg_propagate.specs.Look.{state_of};
+ghost use Rattle.ygg_watch.specs.Lists.{IsMember, lit_of};
+ghost use Rattle.ygg_watch.specs.State.{IsLive};
+ghost use Rattle.ygg_watch.specs.Watching.{IsStanding, IsWatchedAt};
+
+use crate::frame::Frame;
+use crate::links::{link, lits_of, set_watch, watch_of};
+use ygg_cnf::{Clause, Lit};
+use ygg_propagate::{Look, look_at};
+use ygg_trail::Assignments;
+
+/// A literal of the clause other than the given one: one that is not false, or else the one that became so last, which
+/// going back makes free first.
+fn second(clause: &[Lit], first: Lit, trail: &Assignments) -> Option<Lit>
+    requires { IsWithin trail.now.room clause.now }
+    ensures { IfSome result (λ y. Contains clause.now y × (y ≢ first)) }
+{
+    let mut best = None;
+    let mut level = 0;
+    for lit in clause {
+        if *lit != first {
+            let now = match trail.entry_of(lit.var) {
+                None => u64::MAX,
+                Some(entry) => entry.level,
+            };
+            if best.is_none() || now > level {
+                best = Some(*lit);
+                level = now;
+            }
+        }
+    }
+    best
+}
+
+/// How the look at a clause ended.
+#[derive(Clone, Copy, Debug)]
+pub enum Examined {
+    /// The clause is watched, or has a literal that is true for as long as the clause counts as looked at.
+    Fine,
+    /// The clause is false.
+    False,
+    /// The clause is watched by two literals that serve no longer, though it has two others that would. It was never seen to
+    /// happen, and no proof rules it out: all clauses are looked at then.
+    Stuck,
+}
+
+/// Whether the clause is not watched: its two watches are of one literal.
+fn is_unwatched(watched: &[Lit], at: usize) -> bool
+    requires { 2 * at + 1 < length watched.now }
+    ensures { IsTrue result ↔ (lit_of watched.now (2 * at) ≡ lit_of watched.now (2 * at + 1)) }
+{
+    watch_of(watched, 2 * at) == watch_of(watched, 2 * at + 1)
+}
+
+/// Whether a clause's watches need no look: neither is false, or one is true.
+fn stands(clauses: &[Clause], watched: &[Lit], trail: &Assignments, at: usize) -> bool
+    requires member { IsMember clauses.now watched.now }
+    requires size { length watched.now ≡ 2 * length clauses.now }
+    requires at { at < length clauses.now }
+    requires variables { All (IsWithin trail.now.room) clauses.now }
+    ensures { IsTrue result → IsStanding watched.now trail.now.entries.items at }
+{
+    if is_unwatched(watched, at) {
+        return false;
+    }
+    let first = watch_of(watched, 2 * at);
+    let other = watch_of(watched, 2 * at + 1);
+    if trail.is_true(first) || trail.is_true(other) {
+        return true;
+    }
+    !trail.is_false(first) && !trail.is_false(other)
+}
+
+/// Begins to watch two literals of a clause that is not watched.
+fn attach(
+    clauses: &[Clause],
+    watched: &mut [Lit],
+    next: &mut [usize],
+    firsts: &mut [usize],
+    trail: &Assignments,
+    frames: &[Frame],
+    head: usize,
+    seen: usize,
+    first: Lit,
+    other: Lit,
+)
+    requires live { IsLive clauses.now watched.old next.old firsts.old [] trail.now.entries.items trail.now.room frames.now head seen }
+    requires free { lit_of watched.old (2 * seen) ≡ lit_of watched.old (2 * seen + 1) }
+    requires pair { (clause : _) × ((slice_get clauses.now seen ≡ Some clause) × (Contains clause first × (Contains clause other × (first ≢ other)))) }
+    ensures live { IsLive clauses.now watched.new next.new firsts.new [] trail.now.entries.items trail.now.room frames.now head seen }
+    ensures watched { watched.new ≡ set (set watched.old (2 * seen) first) (2 * seen + 1) other }
+{
+    set_watch(watched, 2 * seen, first);
+    set_watch(watched, 2 * seen + 1, other);
+    let code_first = trail.code(first);
+    let code_other = trail.code(other);
+    link(next, firsts, 2 * seen, code_first);
+    link(next, firsts, 2 * seen + 1, code_other);
+}
+
+/// Begins to watch a literal and another one of its clause, where it has one and is not watched.
+fn settle(
+    clauses: &[Clause],
+    watched: &mut [Lit],
+    next: &mut [usize],
+    firsts: &mut [usize],
+    trail: &Assignments,
+    frames: &[Frame],
+    head: usize,
+    seen: usize,
+    first: Lit,
+)
+    requires live { IsLive clauses.now watched.old next.old firsts.old [] trail.now.entries.items trail.now.room frames.now head seen }
+    requires here { (clause : _) × ((slice_get clauses.now seen ≡ Some clause) × Contains clause first) }
+    ensures live { IsLive clauses.now watched.new next.new firsts.new [] trail.now.entries.items trail.now.room frames.now head seen }
+{
+    if !is_unwatched(watched, seen) {
+        return;
+    }
+    if let Some(other) = second(lits_of(clauses, seen), first, trail) {
+        attach(
+            clauses, watched, next, firsts, trail, frames, head, seen, first, other,
+        );
+    }
+}
+
+/// Looks at a clause that was not looked at since a level below was gone back to.
+fn examine(
+    clauses: &[Clause],
+    watched: &mut [Lit],
+    next: &mut [usize],
+    firsts: &mut [usize],
+    trail: &mut Assignments,
+    frames: &[Frame],
+    head: usize,
+    seen: usize,
+) -> Examined
+    requires live { IsLive clauses.now watched.old next.old firsts.old [] trail.old.entries.items trail.old.room frames.now head seen }
+    requires at { seen < length clauses.now }
+    ensures live { IsLive clauses.now watched.new next.new firsts.new [] trail.new.entries.items trail.new.room frames.now head seen }
+    ensures fine { result ≡ Examined.Fine → (clause : _) → slice_get clauses.now seen ≡ Some clause → IsWatchedAt watched.new trail.new.entries.items frames.now head seen clause }
+    ensures conflict { result ≡ Examined.False → IsConflict clauses.now trail.new.entries.items (seen + 1) }
+    ensures spreads { Spreads (state_of clauses.now trail.old) (state_of clauses.now trail.new) }
+    ensures starts { trail.new.starts.items ≡ trail.old.starts.items }
+    ensures room { trail.new.room ≡ trail.old.room }
+{
+    if stands(clauses, watched, trail, seen) {
+        return Examined::Fine;
+    }
+    match look_at(lits_of(clauses, seen), trail) {
+        Look::False => Examined::False,
+        Look::True(lit) => {
+            settle(
+                clauses, watched, next, firsts, trail, frames, head, seen, lit,
+            );
+            Examined::Fine
+        }
+        Look::Unit(lit) => {
+            settle(
+                clauses, watched, next, firsts, trail, frames, head, seen, lit,
+            );
+            trail.push(lit, Some(seen as u64 + 1));
+            Examined::Fine
+        }
+        Look::Open(lit, other) => {
+            if !is_unwatched(watched, seen) {
+                return Examined::Stuck;
+            }
+            attach(
+                clauses, watched, next, firsts, trail, frames, head, seen, lit, other,
+            );
+            Examined::Fine
+        }
+    }
+}
+
+/// Looks at each clause that was not looked at.
+pub fn examine_all(
+    clauses: &[Clause],
+    watched: &mut [Lit],
+    next: &mut [usize],
+    firsts: &mut [usize],
+    trail: &mut Assignments,
+    frames: &[Frame],
+    head: usize,
+    seen: &mut usize,
+) -> Examined
+    requires live { IsLive clauses.now watched.old next.old firsts.old [] trail.old.entries.items trail.old.room frames.now head seen.old }
+    requires within { seen.old ≤ length clauses.now }
+    ensures live { IsLive clauses.now watched.new next.new firsts.new [] trail.new.entries.items trail.new.room frames.now head seen.new }
+    ensures within { seen.new ≤ length clauses.now }
+    ensures fine { result ≡ Examined.Fine → length clauses.now ≤ seen.new }
+    ensures conflict { result ≡ Examined.False → IsConflict clauses.now trail.new.entries.items (seen.new + 1) }
+    ensures spreads { Spreads (state_of clauses.now trail.old) (state_of clauses.now trail.new) }
+    ensures starts { trail.new.starts.items ≡ trail.old.starts.items }
+    ensures room { trail.new.room ≡ trail.old.room }
+{
+    while *seen < clauses.len() {
+        match examine(clauses, watched, next, firsts, trail, frames, head, *seen) {
+            Examined::Fine => {
+                *seen += 1;
+            }
+            Examined::False => {
+                return Examined::False;
+            }
+            Examined::Stuck => {
+                return Examined::Stuck;
+            }
+        }
+    }
+    Examined::Fine
+}

@@ -1,0 +1,13 @@
+//! Propagation by watched literals, and the calls of a propagation with their meaning.
+#![tactic(auto)]
+
+mod examine;
+mod frame;
+mod links;
+mod maker;
+mod visit;
+mod watching;
+
+pub use maker::watch;
+pub use watching::Watch;
+pub use ygg_propagate::{Assigned, Found, PlainSpread, Propagate, Trail, plain_spread};

@@ -1,0 +1,156 @@
+ghost use Rattle.std.specs.Prelude.{◌≡◌, [], IfOk};
+
+use crate::examine::{Examined, examine_all};
+use crate::frame::Frame;
+use crate::visit::visit_all;
+use std::alloc::Global;
+use std::marker::Model;
+use ygg_cnf::{Clause, Lit};
+use ygg_list::NoMemory;
+use ygg_propagate::{Assigned, Found, Propagate, Trail, spread};
+use ygg_trail::{Assignments, Entry};
+
+/// Propagation that watches two literals of each clause, and reads a clause only where a watched one becomes false.
+///
+/// Node 2 * k and node 2 * k + 1 are the two watches of the clause with the number k + 1. `watched` has the literal of each
+/// node. The nodes of a literal form a chain: `firsts` has the first one by literal and `next` the one after by node, each plus
+/// 1, and 0 at the end. A clause both of whose watches are one literal is in no chain.
+///
+/// The first `head` assigned literals and the first `seen` clauses have been looked at. A clause that was looked at has a true
+/// literal beside each watched one that is false by such a literal. `frames` has both numbers as they were when each level
+/// was opened, so that calls may come in any order.
+#[derive(Drop)]
+pub struct Watch {
+    clauses: Vec<Clause>,
+    watched: Vec<Lit>,
+    next: Vec<usize>,
+    firsts: Vec<usize>,
+    trail: Assignments,
+    frames: Vec<Frame>,
+    head: usize,
+    seen: usize,
+}
+
+impl Model for Watch {
+    ghost use Rattle.std.specs.Prelude.{vec_capacity};
+    ghost use Rattle.ygg_propagate.specs.Propagation.{Propagation};
+    ghost use Rattle.ygg_propagate.specs.Look.{state_of};
+    ghost use Rattle.ygg_watch.specs.State.{IsState};
+
+    ghost Value = { Propagation };
+
+    ghost view = { λ s. state_of s.clauses.items s.trail };
+
+    ghost invariant = { λ s. IsState s.clauses.items s.watched.items s.next.items s.firsts.items s.trail.entries.items s.trail.starts.items s.trail.room s.frames.items (vec_capacity s.frames) s.head s.seen };
+}
+
+impl Watch {
+    /// No clause is held, and variables are those below `room`. Its only error is want of memory.
+    pub fn new(alloc: Global, room: u64) -> Result<Watch, NoMemory>
+        ensures { IfOk result (λ p. p ≡ record { clauses = []; trail = []; level = 0; room = room }) }
+    {
+        let trail = Assignments::new(alloc, room)?;
+        Ok(Watch {
+            clauses: Vec::new(alloc),
+            watched: Vec::new(alloc),
+            next: Vec::new(alloc),
+            firsts: Vec::from_elem(alloc, 0, 2 * room as usize)?,
+            trail,
+            frames: Vec::with_capacity(alloc, room as usize)?,
+            head: 0,
+            seen: 0,
+        })
+    }
+}
+
+impl Propagate for Watch {
+    ghost state = { λ s. s };
+
+    fn add(&mut self, clause: &Clause) -> Result<(), NoMemory> {
+        let kept = clause.copy(*self.clauses.allocator())?;
+        self.watched.reserve(2)?;
+        self.next.reserve(2)?;
+        self.clauses.push(kept)?;
+        let none = Lit {
+            var: 0,
+            negated: false,
+        };
+        self.watched.push_reserved(none);
+        self.watched.push_reserved(none);
+        self.next.push_reserved(0);
+        self.next.push_reserved(0);
+        Ok(())
+    }
+
+    fn decide(&mut self, lit: Lit) {
+        self.frames.push_reserved(Frame {
+            head: self.head,
+            seen: self.seen,
+        });
+        self.trail.decide(lit);
+    }
+
+    fn spread(&mut self) -> Found {
+        match examine_all(
+            self.clauses.as_slice(),
+            self.watched.as_mut_slice(),
+            self.next.as_mut_slice(),
+            self.firsts.as_mut_slice(),
+            &mut self.trail,
+            self.frames.as_slice(),
+            self.head,
+            &mut self.seen,
+        ) {
+            Examined::Fine => {}
+            Examined::False => {
+                return Found::False(self.seen as u64 + 1);
+            }
+            Examined::Stuck => {
+                return spread(self.clauses.as_slice(), &mut self.trail);
+            }
+        }
+        match visit_all(
+            self.clauses.as_slice(),
+            self.watched.as_mut_slice(),
+            self.next.as_mut_slice(),
+            self.firsts.as_mut_slice(),
+            &mut self.trail,
+            self.frames.as_slice(),
+            &mut self.head,
+            self.seen,
+        ) {
+            Some(id) => Found::False(id),
+            None => Found::Quiet,
+        }
+    }
+
+    fn back(&mut self, level: u64) {
+        let at = level as usize;
+        if at < self.frames.len() {
+            let frame = self.frames[at];
+            self.head = frame.head;
+            self.seen = frame.seen;
+            self.frames.truncate(at);
+            self.trail.back(level);
+        }
+    }
+
+    fn assigned(&self, var: u64) -> Option<Assigned> {
+        let entry = self.trail.entry_of(var)?;
+        Some(Assigned {
+            value: !entry.lit.negated,
+            level: entry.level,
+            reason: entry.reason,
+        })
+    }
+}
+
+impl Trail for Watch {
+    fn trail(&self) -> &[Entry] {
+        self.trail.entries()
+    }
+
+    fn places(&self) -> &[usize] {
+        self.trail.places()
+    }
+}
