@@ -1,0 +1,11 @@
+//! One bank of shared terms over words.
+#![tactic(auto)]
+
+pub mod bank;
+pub mod env;
+pub mod node;
+
+pub use bank::Bank;
+pub use env::{Env, Given, Words};
+pub use node::{Id, Node};
+pub use ygg_list::NoMemory;
