@@ -7,3 +7,4 @@ pub mod Meaning
 pub mod Exist
 pub mod Makes
 pub mod Stored
+pub mod Reading

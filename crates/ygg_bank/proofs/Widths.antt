@@ -1,5 +1,5 @@
 -- Widths of nodes.
-use Rattle.std.proofs.Common.{◌≡◌, ◌<◌, ◌≤◌, ℕ, zero, suc, ◌+◌, Option, Some, None, List, [], ◌∷◌, ◌++◌, length, refl, sym, ap, ◌∙◌, subst, arith, length-append, append_assoc, slice_get, slice_index_or}
+use Rattle.std.proofs.Common.{◌≡◌, ◌<◌, ◌≤◌, ℕ, zero, suc, ◌+◌, Option, Some, None, List, [], ◌∷◌, ◌++◌, length, refl, sym, ap, ◌∙◌, subst, arith, length-append, append_assoc, take, slice_get, slice_index_or}
 use Rattle.std.proofs.lemmas.List.{append-nil}
 use Rattle.ygg_value.specs.Number.{Number, IsWord}
 use Rattle.ygg_value.specs.Words.{result_width}
@@ -154,3 +154,14 @@ ordered_more before (m ∷ ns) n o c =
 pub ordered_fewer : (before ns ms : List Node) → InOrder before (ns ++ ms) → InOrder before ns
 ordered_fewer before [] ms o = tt
 ordered_fewer before (n ∷ ns) ms o = (o.0, ordered_fewer (before ++ n ∷ []) ns ms o.1)
+
+-- each node can be made after those before it
+before_can : (before ns : List Node) → InOrder before ns → (k : ℕ) (n : Node) → slice_get ns k ≡ Some n → CanMake (before ++ take k ns) n
+before_can before [] o k n e = absurd (cc)
+before_can before (m ∷ ns) o zero n e =
+    let f : m ≡ n = cc in subst (CanMake (before ++ [])) f (subst (λ ms. CanMake ms m) (sym (append-nil before)) o.0)
+before_can before (m ∷ ns) o (suc k) n e =
+    subst (λ ms. CanMake ms n) (append_assoc before (m ∷ []) (take k ns)) (before_can (before ++ m ∷ []) ns o.1 k n e)
+
+pub stored_can : (nodes : List Node) (k : ℕ) (n : Node) → InOrder [] nodes → slice_get nodes k ≡ Some n → CanMake (take k nodes) n
+stored_can nodes k n o e = before_can [] nodes o k n e

@@ -119,7 +119,8 @@ impl Bank {
             Node::Not { a } => not(values[a.0]),
             Node::Resize { a, width } => resize(values[a.0], width),
             Node::Pick { test, yes, no } => {
-                if values[test.0].bits == 1 {
+                let chosen = values[test.0];
+                if chosen.bits == 1 {
                     values[yes.0]
                 } else {
                     values[no.0]
