@@ -1,23 +1,19 @@
 -- The values of nodes in order are such as the nodes give one another.
-use Rattle.std.proofs.Common.{◌≡◌, ◌<◌, ◌≤◌, ◌^◌, ℕ, zero, suc, ◌+◌, ◌==◌, Bool, true, false, if◌then◌else◌, Option, Some, None, List, [], ◌∷◌, ◌++◌, length, get_or, refl, sym, ap, ◌∙◌, subst, arith, slice_get, length-append}
-use Rattle.std.proofs.lemmas.List.{length_push, get_or_push, get_or_append_left, append-nil}
+use Rattle.std.proofs.Common.{◌≡◌, ◌<◌, ◌^◌, ℕ, zero, suc, ◌+◌, ◌==◌, Bool, true, false, if◌then◌else◌, Some, List, [], ◌∷◌, ◌++◌, length, refl, sym, ap, ◌∙◌, subst, arith, slice_get, length-append}
+use Rattle.std.proofs.lemmas.List.{length_push, get_or_push, get_or_append_left}
 use Rattle.ygg_value.proofs.Results.{apply_to-IsWord, not_of-IsWord, resized-IsWord}
 use Rattle.ygg_value.specs.Number.{Number, IsWord}
-use Rattle.ygg_value.specs.Words.{word, apply_to, not_of, resized, result_width, CanApply}
-use Rattle.ygg_value.specs.declared.operation.Op.{Op}
+use Rattle.ygg_value.specs.Words.{word, apply_to, not_of, resized, result_width}
 use Rattle.ygg_rules.proofs.Widths.{can_apply-widths}
-use Rattle.ygg_bank.proofs.Made.{made_ordered, made_grows, made_width}
+use Rattle.ygg_bank.proofs.Made.{made_ordered, made_grows}
 use Rattle.ygg_bank.proofs.Meaning.{made_gives}
-use Rattle.ygg_bank.proofs.Places.{in_front, at_end, there_below, below_there, item_is}
-use Rattle.ygg_bank.proofs.Widths.{widths_more, widths_length, has_width, width_is, stands, extends_length}
-use Rattle.ygg_bank.specs.Makes.{Out}
+use Rattle.ygg_bank.proofs.Widths.{widths_more, widths_length, has_width}
 use Rattle.ygg_bank.specs.Making.{id, made}
-use Rattle.ygg_bank.specs.Nodes.{width_at, widths_after, widths_of, node_width, HasWidth, Stands, CanBin, CanMake, InOrder, Extends}
+use Rattle.ygg_bank.specs.Nodes.{width_at, widths_after, widths_of, node_width, HasWidth, Stands, CanMake, InOrder, Extends}
 use Rattle.ygg_bank.specs.Values.{Inputs, Values, node_value, reading, values_after, value_of, InputsFit, Fits, AnswersFor, KeepsValues}
 use Rattle.ygg_bank.specs.declared.node.Id.{Id}
 use Rattle.ygg_bank.specs.declared.node.Node.{Node}
 use Rattle.ygg_bank.specs.declared.node.Node.TheVariants.{Input, Const, Bin, Not, Resize, Pick}
-use Rattle.ygg_bank.specs.declared.node.Node.TheVariants as node
 use Rattle.ygg_rules.specs.declared.rule.RuleKind.{RuleKind}
 
 -- a node sees its children alone
@@ -63,7 +59,7 @@ value_from inputs before vs (m ∷ ns) c o zero n e =
     let place : length vs + zero ≡ length vs = omega arith in
     ap (reading all) place ∙ stays inputs (vs ++ x ∷ []) ns (length vs) (omega (arith, length_push vs x)) ∙ get_or_push vs x (word 1 0) (length vs) refl
     ∙ sees inputs (reading vs) (reading all) before m o.0
-        (λ j l. sym (stays inputs (vs ++ x ∷ []) ns j (omega (arith, length_push vs x)) ∙ get_or_append_left vs (x ∷ []) (word 1 0) j (omega arith)))
+    (λ j l. sym (stays inputs (vs ++ x ∷ []) ns j (omega (arith, length_push vs x)) ∙ get_or_append_left vs (x ∷ []) (word 1 0) j (omega arith)))
     ∙ ap (node_value inputs (reading all)) same
 value_from inputs before vs (m ∷ ns) c o (suc k) n e =
     let x = node_value inputs (reading vs) m in
@@ -110,9 +106,9 @@ wide_from inputs before vs (n ∷ ns) c h o =
     let x = node_value inputs (reading vs) n in
     let w = node_width (widths_of before) n in
     subst (λ ws. Wide (widths_after ws ns) (reading (values_after inputs (vs ++ x ∷ []) ns))) (widths_more before n)
-      (wide_from inputs (before ++ n ∷ []) (vs ++ x ∷ []) ns (omega (arith, length_push vs x, length-append before (n ∷ [])))
-        (subst (λ ws. Wide ws (reading (vs ++ x ∷ []))) (sym (widths_more before n))
-          (push_wide (widths_of before) vs w x (omega (arith, widths_length before)) h (node_wide inputs before (reading vs) n h o.0))) o.1)
+    (wide_from inputs (before ++ n ∷ []) (vs ++ x ∷ []) ns (omega (arith, length_push vs x, length-append before (n ∷ [])))
+    (subst (λ ws. Wide ws (reading (vs ++ x ∷ []))) (sym (widths_more before n))
+    (push_wide (widths_of before) vs w x (omega (arith, widths_length before)) h (node_wide inputs before (reading vs) n h o.0))) o.1)
 
 pub value_width : (inputs : Inputs) (nodes : List Node) (k w : ℕ) → InOrder [] nodes → HasWidth nodes (id k) w → (value_of inputs nodes k).width ≡ w
 value_width inputs nodes k w o e = wide_from inputs [] [] nodes refl (λ j u f. absurd (cc)) o k w e
@@ -135,7 +131,7 @@ node_word inputs nodes v (Input m w) h p g c = record { least = c.0.least; most 
 node_word inputs nodes v (Const k) h p g c = c
 node_word inputs nodes v (Bin o a b) h p g c =
     apply_to-IsWord o (v a.0) (v b.0) (p a.0) (p b.0)
-      (can_apply-widths o (v a.0) (v b.0) (width_at (widths_of nodes) a) (width_at (widths_of nodes) b) (child_width nodes v a h c.one) (child_width nodes v b h c.two) c.widths)
+    (can_apply-widths o (v a.0) (v b.0) (width_at (widths_of nodes) a) (width_at (widths_of nodes) b) (child_width nodes v a h c.one) (child_width nodes v b h c.two) c.widths)
 node_word inputs nodes v (Not a) h p g c = not_of-IsWord (v a.0) (p a.0)
 node_word inputs nodes v (Resize a w) h p g c = resized-IsWord (v a.0) w c.1.least c.1.most
 node_word inputs nodes v (Pick t a b) h p g c = pick_word ((v t.0).bits == 1) (v a.0) (v b.0) (p a.0) (p b.0)
@@ -161,10 +157,10 @@ words_from inputs before vs (n ∷ ns) c h p g o k =
     let x = node_value inputs (reading vs) n in
     let w = node_width (widths_of before) n in
     words_from inputs (before ++ n ∷ []) (vs ++ x ∷ []) ns (omega (arith, length_push vs x, length-append before (n ∷ [])))
-      (subst (λ ws. Wide ws (reading (vs ++ x ∷ []))) (sym (widths_more before n))
-        (push_wide (widths_of before) vs w x (omega (arith, widths_length before)) h (node_wide inputs before (reading vs) n h o.0)))
-      (push_word vs x p (node_word inputs before (reading vs) n h p (given_at inputs n ns g) o.0))
-      (λ place m u e. g (suc place) m u e) o.1 k
+    (subst (λ ws. Wide ws (reading (vs ++ x ∷ []))) (sym (widths_more before n))
+    (push_wide (widths_of before) vs w x (omega (arith, widths_length before)) h (node_wide inputs before (reading vs) n h o.0)))
+    (push_word vs x p (node_word inputs before (reading vs) n h p (given_at inputs n ns g) o.0))
+    (λ place m u e. g (suc place) m u e) o.1 k
 
 -- nodes in order, whose inputs fit, have values that fit
 pub values_fit : (inputs : Inputs) (nodes : List Node) → InOrder [] nodes → InputsFit inputs nodes → Fits inputs (value_of inputs nodes) nodes

@@ -1,18 +1,16 @@
 -- What the book is asked of a node that can be made is a view.
-use Rattle.std.proofs.Common.{◌≡◌, ◌<◌, ℕ, zero, suc, Option, Some, None, List, [], ◌∷◌, length, refl, sym, ap, ◌∙◌, subst, arith, slice_get}
-use Rattle.ygg_value.specs.Number.{Number, IsWord}
-use Rattle.ygg_value.specs.Words.{word, result_width, CanApply}
-use Rattle.ygg_value.specs.declared.operation.Op.{Op}
+use Rattle.std.proofs.Common.{◌≡◌, ℕ, zero, suc, Option, Some, None, List, [], ◌∷◌, refl, sym, ap, ◌∙◌, subst, slice_get}
+use Rattle.ygg_value.specs.Number.{Number}
 use Rattle.ygg_rules.proofs.Right.{IsRight, row_right}
 use Rattle.ygg_rules.specs.Rows.{row, or_else, book_row}
-use Rattle.ygg_rules.specs.Views.{Seen, operand, IsWidth, IsKnown, IsOperand, IsView, bin_of, not_of, resize_of, pick_of}
+use Rattle.ygg_rules.specs.Views.{Seen, operand, IsOperand, IsView, bin_of, not_of, resize_of, pick_of}
 use Rattle.ygg_rules.specs.declared.rule.RuleKind.{RuleKind}
 use Rattle.ygg_rules.specs.declared.view.Operand.{Operand}
 use Rattle.ygg_rules.specs.declared.view.Rewrite.{Rewrite}
 use Rattle.ygg_rules.specs.declared.view.Rewrite.TheVariants as rewrite
 use Rattle.ygg_bank.proofs.Widths.{has_width, width_is, own_width, result_width-fits, width_fits, constant_word}
 use Rattle.ygg_bank.specs.Making.{id, known_in, operand_of, view_of}
-use Rattle.ygg_bank.specs.Nodes.{width_at, widths_of, node_width, HasWidth, Stands, CanMake, InOrder}
+use Rattle.ygg_bank.specs.Nodes.{width_at, widths_of, node_width, Stands, CanMake, InOrder}
 use Rattle.ygg_bank.specs.declared.node.Id.{Id}
 use Rattle.ygg_bank.specs.declared.node.Node.{Node}
 use Rattle.ygg_bank.specs.declared.node.Node.TheVariants.{Input, Const, Bin, Not, Resize, Pick}
@@ -87,7 +85,7 @@ all_drawn nodes (Not a) c = each (IsDrawn nodes) (not_of (operand_of nodes a)) (
 all_drawn nodes (Resize a w) c = each (IsDrawn nodes) (resize_of (operand_of nodes a) w) (drawn nodes a c.0) (none (IsDrawn nodes)) (none (IsDrawn nodes))
 all_drawn nodes (Pick t a b) c =
     each (IsDrawn nodes) (pick_of (operand_of nodes t) (operand_of nodes a) (operand_of nodes b)) (drawn nodes t c.test)
-      (some (IsDrawn nodes) (operand_of nodes a) (drawn nodes a c.yes)) (some (IsDrawn nodes) (operand_of nodes b) (drawn nodes b c.no))
+    (some (IsDrawn nodes) (operand_of nodes a) (drawn nodes a c.yes)) (some (IsDrawn nodes) (operand_of nodes b) (drawn nodes b c.no))
 
 drawn_operands : (nodes : List Node) (v : Seen) → InOrder [] nodes → ((number : ℕ) → Each (IsDrawn nodes) (operand v number)) →
     (number : ℕ) (o : Operand) → operand v number ≡ Some o → IsOperand o

@@ -1,13 +1,12 @@
 -- What making a node does to a list of nodes.
-use Rattle.std.proofs.Common.{◌≡◌, ◌<◌, ◌≤◌, ℕ, zero, suc, ◌+◌, Bool, true, false, if◌then◌else◌, Option, Some, None, List, [], ◌∷◌, ◌++◌, length, refl, sym, ap, ◌∙◌, subst, arith, slice_get}
+use Rattle.std.proofs.Common.{◌≡◌, ℕ, Bool, true, false, if◌then◌else◌, Option, Some, None, List, [], ◌∷◌, ◌++◌, refl, sym, ap, ◌∙◌, subst, slice_get}
 use Rattle.std.specs.List.{list_any, position_or_len}
-use Rattle.ygg_value.specs.Number.{Number, IsWord}
 use Rattle.ygg_value.specs.Words.{word, result_width, CanApply}
 use Rattle.ygg_value.specs.declared.operation.Op.{Op}
 use Rattle.ygg_rules.proofs.Right.{IsRight}
-use Rattle.ygg_rules.specs.Laws.{IsThere, AreThere, Names}
+use Rattle.ygg_rules.specs.Laws.{AreThere}
 use Rattle.ygg_rules.specs.Rows.{book_row}
-use Rattle.ygg_rules.specs.Views.{Seen, operand, FitsBin, IsView}
+use Rattle.ygg_rules.specs.Views.{Seen, operand}
 use Rattle.ygg_rules.specs.declared.rule.RuleKind.{RuleKind}
 use Rattle.ygg_rules.specs.declared.view.Operand.{Operand}
 use Rattle.ygg_rules.specs.declared.view.Rewrite.{Rewrite}
@@ -15,13 +14,11 @@ use Rattle.ygg_rules.specs.declared.view.Rewrite.TheVariants as rewrite
 use Rattle.ygg_bank.proofs.Fitting.{Each, IsDrawn, AllDrawn, Viewed, WideAs, all_drawn, viewed, view_width, book_right}
 use Rattle.ygg_bank.proofs.Places.{found, last, at_end}
 use Rattle.ygg_bank.proofs.Same.{same_is}
-use Rattle.ygg_bank.proofs.Widths.{widths_more, widths_length, wider, has_width, width_is, own_width, extends_self, extends_one, ordered_more}
-use Rattle.ygg_bank.specs.Makes.{Out}
+use Rattle.ygg_bank.proofs.Widths.{widths_more, widths_length, has_width, own_width, extends_self, extends_one, ordered_more}
 use Rattle.ygg_bank.specs.Making.{id, id_of, operand_of, view_of, same, added, rewritten, asked, made}
 use Rattle.ygg_bank.specs.Nodes.{width_at, widths_of, node_width, HasWidth, Stands, CanBin, CanMake, InOrder, Extends}
-use Rattle.ygg_bank.specs.declared.node.Id.{Id}
 use Rattle.ygg_bank.specs.declared.node.Node.{Node}
-use Rattle.ygg_bank.specs.declared.node.Node.TheVariants.{Input, Const, Bin, Not, Resize, Pick}
+use Rattle.ygg_bank.specs.declared.node.Node.TheVariants.{Const, Bin}
 
 -- nodes after one more is added, where the test says that it is there
 grows_case : (nodes : List Node) (n : Node) (b : Bool) → Extends nodes (if b then nodes else nodes ++ n ∷ [])
@@ -68,8 +65,8 @@ width_case nodes n true e o =
     own_width nodes (position_or_len (same n) nodes) n o (f.there ∙ ap (λ m. Some m) (sym (same_is n f.it f.passes)))
 width_case nodes n false e o =
     subst (λ ws. slice_get ws (position_or_len (same n) nodes) ≡ Some (node_width (widths_of nodes) n)) (sym (widths_more nodes n))
-      (subst (λ k. slice_get (widths_of nodes ++ node_width (widths_of nodes) n ∷ []) k ≡ Some (node_width (widths_of nodes) n))
-        (widths_length nodes ∙ sym (last (same n) nodes e)) (at_end (widths_of nodes) (node_width (widths_of nodes) n)))
+    (subst (λ k. slice_get (widths_of nodes ++ node_width (widths_of nodes) n ∷ []) k ≡ Some (node_width (widths_of nodes) n))
+    (widths_length nodes ∙ sym (last (same n) nodes e)) (at_end (widths_of nodes) (node_width (widths_of nodes) n)))
 
 added_width : (n : Node) (nodes : List Node) → InOrder [] nodes → HasWidth (added n nodes).nodes (added n nodes).value (node_width (widths_of nodes) n)
 added_width n nodes o = width_case nodes n (list_any (same n) nodes) refl o

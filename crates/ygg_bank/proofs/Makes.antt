@@ -1,6 +1,6 @@
 -- What `make` answers.
 use Rattle.std.proofs.Common.{◌≡◌, ◌<◌, ◌≤◌, ℕ, zero, suc, ◌⊎◌, inl, inr, slice_get, length, length-append, Bool, true, false, ◌||◌, if◌then◌else◌, Option, Some, None, Result, Ok, Err, OnOk, OnErr, IfOk, List, [], ◌∷◌, ◌++◌, refl, sym, ap, ◌∙◌, subst, arith}
-use Rattle.std.specs.List.{list_any, position_or_len}
+use Rattle.std.specs.List.{list_any}
 use Rattle.std.proofs.lemmas.Bool.{cases_lt}
 use Rattle.ygg_rules.specs.Rows.{book_row}
 use Rattle.ygg_rules.specs.Views.{Seen, operand}
@@ -13,7 +13,7 @@ use Rattle.ygg_bank.proofs.Places.{at_end, here_or_last, there_below}
 use Rattle.ygg_bank.proofs.Same.{same_node}
 use Rattle.ygg_bank.proofs.Widths.{extends_self}
 use Rattle.ygg_bank.specs.Making.{id_of, same, added, rewritten, asked, view_of, made}
-use Rattle.ygg_bank.specs.Nodes.{widths_of, node_width, HasWidth, CanMake, InOrder, Distinct, IsBank, Extends}
+use Rattle.ygg_bank.specs.Nodes.{widths_of, node_width, HasWidth, CanMake, Distinct, IsBank, Extends}
 use Rattle.ygg_bank.specs.Values.{AnswersFor, KeepsValues}
 use Rattle.ygg_bank.specs.declared.node.Id.{Id}
 use Rattle.ygg_bank.specs.declared.node.Node.{Node}

@@ -1,14 +1,8 @@
 -- Values of nodes, and what a made node is worth.
-use Rattle.std.proofs.Common.{◌≡◌, ◌<◌, ◌≤◌, ◌^◌, ℕ, zero, suc, ◌+◌, ◌==◌, Bool, true, false, if◌then◌else◌, Option, Some, None, List, [], ◌∷◌, ◌++◌, length, get_or, refl, sym, ap, ◌∙◌, subst, arith, slice_get, length-append}
-use Rattle.std.proofs.lemmas.List.{length_push, get_or_push, get_or_append_left}
-use Rattle.std.specs.List.{list_any, position_or_len}
-use Rattle.ygg_value.proofs.Results.{apply_to-IsWord, not_of-IsWord, resized-IsWord}
-use Rattle.ygg_value.specs.Number.{Number, IsWord}
-use Rattle.ygg_value.specs.Words.{word, apply_to, not_of, resized, result_width, CanApply}
-use Rattle.ygg_value.specs.declared.operation.Op.{Op}
+use Rattle.std.proofs.Common.{◌≡◌, ℕ, Option, Some, None, List, [], refl, sym, ap, ◌∙◌, subst, slice_get}
+use Rattle.ygg_value.specs.Words.{apply_to}
 use Rattle.ygg_rules.proofs.Right.{IsRight}
-use Rattle.ygg_rules.proofs.Widths.{can_apply-widths}
-use Rattle.ygg_rules.specs.Laws.{MayBe, MayHold, Names, rewrite_value}
+use Rattle.ygg_rules.specs.Laws.{MayBe, MayHold}
 use Rattle.ygg_rules.specs.Rows.{book_row}
 use Rattle.ygg_rules.specs.Views.{Seen, operand, number_of, value_of as view_value}
 use Rattle.ygg_rules.specs.declared.rule.RuleKind.{RuleKind}
@@ -16,14 +10,12 @@ use Rattle.ygg_rules.specs.declared.view.Operand.{Operand}
 use Rattle.ygg_rules.specs.declared.view.Rewrite.{Rewrite}
 use Rattle.ygg_rules.specs.declared.view.Rewrite.TheVariants as rewrite
 use Rattle.ygg_bank.proofs.Fitting.{Each, IsDrawn, AllDrawn, Viewed, all_drawn, viewed, book_right, constant_there}
-use Rattle.ygg_bank.proofs.Made.{added_there, made_grows, named}
-use Rattle.ygg_bank.proofs.Places.{in_front, at_end, there_below}
-use Rattle.ygg_bank.proofs.Widths.{widths_more, widths_length, wider, has_width, width_is, stands, extends_both, extends_length, ordered_fewer}
-use Rattle.ygg_bank.specs.Makes.{Out}
-use Rattle.ygg_bank.specs.Making.{id, id_of, operand_of, view_of, same, added, rewritten, asked, made}
-use Rattle.ygg_bank.specs.Nodes.{width_at, widths_after, widths_of, node_width, HasWidth, Stands, CanBin, CanMake, InOrder, Extends}
-use Rattle.ygg_bank.specs.Values.{Inputs, Values, node_value, reading, values_after, value_of, InputsFit, Fits, AnswersFor, KeepsValues}
-use Rattle.ygg_bank.specs.declared.node.Id.{Id}
+use Rattle.ygg_bank.proofs.Made.{added_there, made_grows}
+use Rattle.ygg_bank.proofs.Places.{in_front}
+use Rattle.ygg_bank.proofs.Widths.{wider, has_width, ordered_fewer}
+use Rattle.ygg_bank.specs.Making.{id, id_of, view_of, added, rewritten, asked, made}
+use Rattle.ygg_bank.specs.Nodes.{width_at, widths_of, CanMake, InOrder, Extends}
+use Rattle.ygg_bank.specs.Values.{Inputs, Values, node_value, Fits}
 use Rattle.ygg_bank.specs.declared.node.Node.{Node}
 use Rattle.ygg_bank.specs.declared.node.Node.TheVariants.{Input, Const, Bin, Not, Resize, Pick}
 

@@ -1,16 +1,16 @@
 -- The value of a node, from the values of the nodes before it.
-use Rattle.std.proofs.Common.{◌≡◌, ◌≢◌, ◌<◌, ◌≤◌, ℕ, zero, suc, ◌+◌, ◌==◌, Bool, true, false, if◌then◌else◌, Option, Some, None, List, [], ◌∷◌, ◌++◌, length, take, drop, get_or, min, refl, sym, ap, ◌∙◌, subst, arith, slice_get}
+use Rattle.std.proofs.Common.{◌≡◌, ◌≢◌, ◌<◌, ℕ, zero, suc, ◌==◌, true, false, if◌then◌else◌, Option, Some, None, List, [], ◌∷◌, take, drop, get_or, sym, ap, ◌∙◌, arith, slice_get}
 use Rattle.std.proofs.lemmas.Bool.Decides.{nat_tests}
 use Rattle.std.proofs.lemmas.List.{length-take, take-append-drop}
-use Rattle.ygg_value.specs.Number.{Number, IsWord}
+use Rattle.ygg_value.specs.Number.{Number}
 use Rattle.ygg_value.specs.Words.{word, apply_to, not_of, resized, CanApply}
 use Rattle.ygg_value.specs.declared.operation.Op.{Op}
 use Rattle.ygg_rules.proofs.Widths.{can_apply-widths}
 use Rattle.ygg_bank.proofs.Exist.{value_is, value_width}
 use Rattle.ygg_bank.proofs.Widths.{wider, has_width}
 use Rattle.ygg_bank.specs.Making.{id}
-use Rattle.ygg_bank.specs.Nodes.{width_at, widths_of, HasWidth, Stands, CanBin, CanPick, CanMake, InOrder, Extends}
-use Rattle.ygg_bank.specs.Values.{Inputs, node_value, value_of, given_for, bits_or_zero, inputs_of, EnvFits, AreValues}
+use Rattle.ygg_bank.specs.Nodes.{width_at, widths_of, Stands, CanBin, CanPick, InOrder, Extends}
+use Rattle.ygg_bank.specs.Values.{Inputs, value_of, given_for, bits_or_zero, inputs_of, EnvFits, AreValues}
 use Rattle.ygg_bank.specs.declared.env.Given.{Given}
 use Rattle.ygg_bank.specs.declared.node.Id.{Id}
 use Rattle.ygg_bank.specs.declared.node.Node.{Node}
@@ -34,13 +34,13 @@ module _ (inputs : Inputs) (nodes : List Node) (place : ℕ) (values : List Numb
   child_width : InOrder [] nodes → (a : Id) → Stands (take place nodes) a → (value_of inputs nodes a.0).width ≡ width_at (widths_of (take place nodes)) a
   child_width o a s =
       value_width inputs nodes a.0 (width_at (widths_of (take place nodes)) a) o
-        (wider (take place nodes) nodes (id a.0) (width_at (widths_of (take place nodes)) a) (front nodes place) (has_width (take place nodes) a s))
+      (wider (take place nodes) nodes (id a.0) (width_at (widths_of (take place nodes)) a) (front nodes place) (has_width (take place nodes) a s))
 
   pub can_values : AreValues inputs nodes place values → InOrder [] nodes → (p : Op) (a b : Id) (x y : Number) → CanBin (take place nodes) p a b →
       x ≡ get_or values a.0 x → y ≡ get_or values b.0 y → CanApply p x y
   can_values h o p a b x y c e f =
       can_apply-widths p x y (width_at (widths_of (take place nodes)) a) (width_at (widths_of (take place nodes)) b)
-        (ap (λ (n : Number). n.width) (child h a x e c.one) ∙ child_width o a c.one) (ap (λ (n : Number). n.width) (child h b y f c.two) ∙ child_width o b c.two) c.widths
+      (ap (λ (n : Number). n.width) (child h a x e c.one) ∙ child_width o a c.one) (ap (λ (n : Number). n.width) (child h b y f c.two) ∙ child_width o b c.two) c.widths
 
   pub is_constant : InOrder [] nodes → (k : Number) → slice_get nodes place ≡ Some (Const k) → k ≡ value_of inputs nodes place
   is_constant o k t = sym (value_is inputs nodes place (Const k) o t)

@@ -1,14 +1,12 @@
 -- The derived comparison of nodes.
-use Rattle.std.proofs.Common.{◌≡◌, ℕ, Bool, true, false, ◌&&◌, ◌==◌, Decides, refl, arith, rules, ap, subst, sym, ◌∙◌}
+use Rattle.std.proofs.Common.{◌≡◌, Bool, true, false, ◌&&◌, ◌==◌, Decides, refl, arith, ap, subst, ◌∙◌}
 use Rattle.std.proofs.lemmas.Bool.Decides.{nat_tests}
 use denote.Enum.Bare.{same_true, sameb}
-use Rattle.ygg_value.specs.Number.{Number}
 use Rattle.ygg_value.specs.Words.{word}
 use Rattle.ygg_value.specs.contracts.operation.Op.{the_type}
 use Rattle.ygg_value.specs.declared.operation.Op.{Op}
 use Rattle.ygg_value.specs.declared.operation.Op.TheVariants as op
 use Rattle.ygg_bank.specs.Making.{same, id}
-use Rattle.ygg_bank.specs.contracts.node.NodePartialEq.TheImpl.{eq-value}
 use Rattle.ygg_bank.specs.declared.node.Id.{Id}
 use Rattle.ygg_bank.specs.declared.node.Node.{Node}
 use Rattle.ygg_bank.specs.declared.node.Node.TheVariants.{Input, Const, Bin, Not, Resize, Pick}

@@ -43,16 +43,17 @@ constant_operand nodes a k n e there wide o f =
     let w : width_at (widths_of nodes) a ≡ k.width = width_is nodes a (node_width (widths_of nodes) n) wide ∙ ap (node_width (widths_of nodes)) e in
     let known : known_in (slice_get nodes a.0) ≡ Some k = ap known_in (there ∙ ap (λ m. Some m) e) in
     f ∙ ap (λ x. let r : Operand = record { id = a.0; width = x; known = Some k } in r) (sym w)
-      ∙ ap (λ x. let r : Operand = record { id = a.0; width = width_at (widths_of nodes) a; known = x } in r) (sym known)
+    ∙ ap (λ x. let r : Operand = record { id = a.0; width = width_at (widths_of nodes) a; known = x } in r) (sym known)
 
 -- the columns after a node is added
 pub added_stored : (self keys new : List Node) (ws more : List ℕ) (n : Node) (w : ℕ) → keys ≡ self → IsBank keys → ws ≡ widths_of keys → CanMake self n →
     w ≡ node_width (widths_of self) n → more ≡ ws ++ w ∷ [] → new ≡ keys ++ n ∷ [] → list_any (same n) keys ≡ false → IsBank new × (more ≡ widths_of new)
 added_stored self keys new ws more n w e h f c g i j d =
     let can : CanMake keys n = subst (λ ns. CanMake ns n) (sym e) c in
-    let o : InOrder [] (keys ++ n ∷ []) = ordered_more [] keys n h.ordered can in
-    (record { ordered = subst (InOrder []) (sym j) o; distinct = subst Distinct (sym j) (distinct_more keys n h.distinct d) },
-     i ∙ ap (λ us. us ++ w ∷ []) f ∙ ap (λ x. widths_of keys ++ x ∷ []) (g ∙ ap (λ ns. node_width (widths_of ns) n) (sym e)) ∙ sym (ap widths_of j ∙ widths_more keys n))
+    let o : InOrder [] (keys ++ n ∷ []) = ordered_more [] keys n h.ordered can in (
+      record { ordered = subst (InOrder []) (sym j) o; distinct = subst Distinct (sym j) (distinct_more keys n h.distinct d) },
+      i ∙ ap (λ us. us ++ w ∷ []) f ∙ ap (λ x. widths_of keys ++ x ∷ []) (g ∙ ap (λ ns. node_width (widths_of ns) n) (sym e)) ∙ sym (ap widths_of j ∙ widths_more keys n),
+    )
 
 -- the operation that a book answers can be made
 pub can_answer : (kinds : List RuleKind) (nodes : List Node) (n : Node) (v : Seen) (op : Op) (i j : ℕ) (a b : Id) → InOrder [] nodes → CanMake nodes n →

@@ -1,5 +1,5 @@
 -- Widths of nodes.
-use Rattle.std.proofs.Common.{◌≡◌, ◌<◌, ◌≤◌, ℕ, zero, suc, ◌+◌, Option, Some, None, List, [], ◌∷◌, ◌++◌, length, refl, sym, ap, ◌∙◌, subst, arith, length-append, append_assoc, take, slice_get, slice_index_or}
+use Rattle.std.proofs.Common.{◌≡◌, ◌<◌, ◌≤◌, ℕ, zero, suc, ◌+◌, Some, List, [], ◌∷◌, ◌++◌, length, refl, sym, ap, ◌∙◌, subst, arith, length-append, append_assoc, take, slice_get}
 use Rattle.std.proofs.lemmas.List.{append-nil}
 use Rattle.ygg_value.specs.Number.{Number, IsWord}
 use Rattle.ygg_value.specs.Words.{result_width}
@@ -80,14 +80,14 @@ own_from before (m ∷ ns) o zero n e =
     let here : m ≡ n = cc in
     let place : length (widths_of before) ≡ length before + zero = omega (arith, widths_length before) in
     subst (λ z. slice_get (widths_after ws ns) z ≡ Some (node_width (widths_after ws ns) n)) place
-      (after_keeps ws ns (length (widths_of before)) w (at_end (widths_of before) w)
-        ∙ ap (λ z. Some z) (node_keeps before (m ∷ ns) m o.0 ∙ ap (node_width (widths_after ws ns)) here))
+    (after_keeps ws ns (length (widths_of before)) w (at_end (widths_of before) w)
+    ∙ ap (λ z. Some z) (node_keeps before (m ∷ ns) m o.0 ∙ ap (node_width (widths_after ws ns)) here))
 own_from before (m ∷ ns) o (suc k) n e =
     let w = node_width (widths_of before) m in
     let place : length (before ++ m ∷ []) + k ≡ length before + suc k = omega (arith, length-append before (m ∷ [])) in
     subst (λ z. slice_get (widths_after (widths_of before ++ w ∷ []) ns) z ≡ Some (node_width (widths_after (widths_of before ++ w ∷ []) ns) n)) place
-      (subst (λ ws. slice_get (widths_after ws ns) (length (before ++ m ∷ []) + k) ≡ Some (node_width (widths_after ws ns) n)) (widths_more before m)
-        (own_from (before ++ m ∷ []) ns o.1 k n e))
+    (subst (λ ws. slice_get (widths_after ws ns) (length (before ++ m ∷ []) + k) ≡ Some (node_width (widths_after ws ns) n)) (widths_more before m)
+    (own_from (before ++ m ∷ []) ns o.1 k n e))
 
 pub own_width : (nodes : List Node) (k : ℕ) (n : Node) → InOrder [] nodes → slice_get nodes k ≡ Some n → HasWidth nodes (id k) (node_width (widths_of nodes) n)
 own_width nodes k n o e =
@@ -130,7 +130,7 @@ all_from before [] h o = h
 all_from before (n ∷ ns) h o =
     let w = node_width (widths_of before) n in
     subst (λ ws. AllWidths (widths_after ws ns)) (widths_more before n)
-      (all_from (before ++ n ∷ []) ns (subst AllWidths (sym (widths_more before n)) (push_width (widths_of before) w h (node_fits before n h o.0))) o.1)
+    (all_from (before ++ n ∷ []) ns (subst AllWidths (sym (widths_more before n)) (push_width (widths_of before) w h (node_fits before n h o.0))) o.1)
 
 pub width_fits : (nodes : List Node) (a : Id) (w : ℕ) → InOrder [] nodes → HasWidth nodes a w → IsWidth w
 width_fits nodes a w o e = all_from [] nodes (λ k u f. absurd (cc)) o a.0 w e

@@ -1,5 +1,5 @@
 -- Lists of nodes: widths, and which nodes may stand after which.
-use Rattle.std.specs.Prelude.{ℕ, ◌≡◌, ◌<◌, Option, Some, None, List, [], ◌∷◌, ◌++◌, length, slice_get, slice_index_or}
+use Rattle.std.specs.Prelude.{ℕ, ◌≡◌, ◌<◌, Some, List, [], ◌∷◌, ◌++◌, length, slice_get, slice_index_or}
 use Rattle.ygg_value.specs.Number.{IsWord}
 use Rattle.ygg_value.specs.Words.{word, result_width, CanApply}
 use Rattle.ygg_value.specs.declared.operation.Op.{Op}

@@ -25,7 +25,10 @@ pub fn given_for(env: &Env, number: u64) -> Option<Word>
     ensures { result ≡ given_for env.now number }
 {
     for given in env.as_slice() {
-        let Given::Word { number: other, word } = given;
+        let Given::Word {
+            number: other,
+            word,
+        } = given;
         if *other == number {
             return Some(*word);
         }

@@ -1,4 +1,4 @@
-use Rattle.ygg_bank.proofs.Makes.{IsMade, is_made}
+use Rattle.ygg_bank.proofs.Makes.{is_made}
 use Rattle.ygg_bank.proofs.bank.Bank.make.Goals as goal
 
 pub returns-clause-width : goal.returns-clause-width

@@ -16,4 +16,4 @@ returns-clause-value c =
 pub returns-clause-fits : goal.returns-clause-fits
 returns-clause-fits c =
     width_fits c.args.self.now c.args.id _ (in_order c.args.self.now _ c.self.view_is c.self.invariant.0)
-      (stored_width c.args.self.now _ _ c.args.id c.self.view_is (c.as_slice.ensures.value ∙ c.self.invariant.1) c.requires)
+    (stored_width c.args.self.now _ _ c.args.id c.self.view_is (c.as_slice.ensures.value ∙ c.self.invariant.1) c.requires)
