@@ -1,17 +1,17 @@
 -- Terms that stay where more nodes come.
-use Rattle.std.proofs.Common.{◌≡◌, ◌<◌, ◌≤◌, ℕ, zero, suc, ◌+◌, ◌==◌, Bool, true, false, if◌then◌else◌, List, [], ◌∷◌, ◌++◌, length, drop, Option, Some, None, slice_get, refl, sym, ap, ◌∙◌, subst, arith, append_assoc}
+use Rattle.std.proofs.Common.{◌≡◌, ◌<◌, ◌≤◌, ℕ, zero, suc, ◌+◌, ◌==◌, Bool, true, false, if◌then◌else◌, List, [], ◌∷◌, ◌++◌, length, drop, Option, Some, None, slice_get, refl, sym, ap, ◌∙◌, subst, arith, append_assoc, length-append}
 use Rattle.std.proofs.lemmas.List.{append-nil}
 use Rattle.ygg_rules.specs.declared.rule.RuleKind.{RuleKind}
 use Rattle.ygg_bank.proofs.Made.{made_grows, made_width}
 use Rattle.ygg_bank.proofs.Widths.{extends_self, extends_both, wider, width_is, stands}
-use Rattle.ygg_bank.specs.Makes.{Make, Out}
+use Rattle.ygg_bank.specs.Makes.{Make, Out, pure}
 use Rattle.ygg_bank.specs.Making.{made}
 use Rattle.ygg_bank.specs.Nodes.{width_at, widths_of, HasWidth, CanPick, InOrder, Extends}
 use Rattle.ygg_bank.specs.declared.node.Id.{Id}
 use Rattle.ygg_bank.specs.declared.node.Node.{Node}
 use Rattle.ygg_bank.specs.declared.node.Node.TheVariants.{Const, Bin, Pick}
-use Rattle.ygg_shape.specs.Shapes.{AllWide, IsSymRow, AllRows, AlikeWords, AlikeRows, AlikeTables}
-use Rattle.ygg_shape.specs.Terms.{Ids, merged_word, merged_row, merged_rows}
+use Rattle.ygg_shape.specs.Shapes.{AllWide, IsSymRow, AllRows, AlikeWords, AlikeRows, AlikeTables, KeepsWidth, KeepsShape}
+use Rattle.ygg_shape.specs.Terms.{Ids, each_pair, fold_pairs, merged_word, merged_row, merged_rows}
 
 pub wider_row : (old new : List Node) (w : ℕ) (row : Ids) → Extends old new → AllWide old w row → AllWide new w row
 wider_row old new w [] e h = tt
@@ -43,36 +43,115 @@ drop_end [] (suc k) l = refl
 drop_end (x ∷ xs) zero l = absurd (omega arith)
 drop_end (x ∷ xs) (suc k) l = drop_end xs k (omega arith)
 
--- what is merged so far, and what the rest will be
-pub record MergedSoFar (kinds : List RuleKind) (t : Id) (yes no : Ids) (first : List Node) (place : ℕ) (row : Ids) (nodes : List Node) : Type 0 where
-  pub ids : row ++ (merged_row kinds t (drop place yes) (drop place no) nodes).value ≡ (merged_row kinds t yes no first).value
-  pub nodes' : (merged_row kinds t (drop place yes) (drop place no) nodes).nodes ≡ (merged_row kinds t yes no first).nodes
+-- what is made of pairs so far, and what the rest will be
+pub record EachSoFar {A B C : Type 0} (step : A → B → Make C) (xs : List A) (ys : List B) (first : List Node) (place : ℕ) (made : List C) (nodes : List Node) : Type 0 where
+  pub answer : made ++ (each_pair step (drop place xs) (drop place ys) nodes).value ≡ (each_pair step xs ys first).value
+  pub after : (each_pair step (drop place xs) (drop place ys) nodes).nodes ≡ (each_pair step xs ys first).nodes
   pub grows : Extends first nodes
 
-pub merge_begins : (kinds : List RuleKind) (t : Id) (yes no : Ids) (first : List Node) → MergedSoFar kinds t yes no first 0 [] first
-merge_begins kinds t yes no first = record { ids = refl; nodes' = refl; grows = extends_self first }
+pub each_begins : {A B C : Type 0} (step : A → B → Make C) (xs : List A) (ys : List B) (first : List Node) → EachSoFar step xs ys first 0 [] first
+each_begins step xs ys first = record { answer = refl; after = refl; grows = extends_self first }
 
-pub merge_goes_on : (kinds : List RuleKind) (t : Id) (yes no : Ids) (first : List Node) (place : ℕ) (row : Ids) (nodes more : List Node) (a b x : Id) →
-    slice_get yes place ≡ Some a → slice_get no place ≡ Some b → more ≡ (merged_word kinds t a b nodes).nodes → x ≡ (merged_word kinds t a b nodes).value → Extends nodes more →
-    MergedSoFar kinds t yes no first place row nodes → MergedSoFar kinds t yes no first (place + 1) (row ++ x ∷ []) more
-merge_goes_on kinds t yes no first place row nodes more a b x e f g h l s =
+pub each_goes_on : {A B C : Type 0} (step : A → B → Make C) (xs : List A) (ys : List B) (first : List Node) (place : ℕ) (made : List C) (nodes more : List Node) (a : A) (b : B) (c : C) →
+    slice_get xs place ≡ Some a → slice_get ys place ≡ Some b → more ≡ (step a b nodes).nodes → c ≡ (step a b nodes).value → Extends nodes more →
+    EachSoFar step xs ys first place made nodes → EachSoFar step xs ys first (place + 1) (made ++ c ∷ []) more
+each_goes_on step xs ys first place made nodes more a b c e f g h l s =
     let one : suc place ≡ place + 1 = omega arith in
-    let d1 : drop place yes ≡ a ∷ drop (place + 1) yes = drop_at yes place a e ∙ ap (λ k. a ∷ drop k yes) one in
-    let d2 : drop place no ≡ b ∷ drop (place + 1) no = drop_at no place b f ∙ ap (λ k. b ∷ drop k no) one in
-    let m = merged_word kinds t a b nodes in
-    let rest = λ (ns : List Node). merged_row kinds t (drop (place + 1) yes) (drop (place + 1) no) ns in
+    let d1 : drop place xs ≡ a ∷ drop (place + 1) xs = drop_at xs place a e ∙ ap (λ k. a ∷ drop k xs) one in
+    let d2 : drop place ys ≡ b ∷ drop (place + 1) ys = drop_at ys place b f ∙ ap (λ k. b ∷ drop k ys) one in
+    let m = step a b nodes in
+    let rest = λ (ns : List Node). each_pair step (drop (place + 1) xs) (drop (place + 1) ys) ns in
     record {
-      ids = append_assoc row (x ∷ []) (rest more).value
-          ∙ ap (λ z. row ++ (z ∷ (rest more).value)) h ∙ ap (λ z. row ++ (m.value ∷ (rest z).value)) g
-          ∙ ap (λ z. row ++ (merged_row kinds t z (b ∷ drop (place + 1) no) nodes).value) (sym d1)
-          ∙ ap (λ z. row ++ (merged_row kinds t (drop place yes) z nodes).value) (sym d2) ∙ s.ids;
-      nodes' = ap (λ z. (rest z).nodes) g ∙ ap (λ z. (merged_row kinds t z (b ∷ drop (place + 1) no) nodes).nodes) (sym d1)
-          ∙ ap (λ z. (merged_row kinds t (drop place yes) z nodes).nodes) (sym d2) ∙ s.nodes';
+      answer = append_assoc made (c ∷ []) (rest more).value
+          ∙ ap (λ z. made ++ (z ∷ (rest more).value)) h ∙ ap (λ z. made ++ (m.value ∷ (rest z).value)) g
+          ∙ ap (λ z. made ++ (each_pair step z (b ∷ drop (place + 1) ys) nodes).value) (sym d1)
+          ∙ ap (λ z. made ++ (each_pair step (drop place xs) z nodes).value) (sym d2) ∙ s.answer;
+      after = ap (λ z. (rest z).nodes) g ∙ ap (λ z. (each_pair step z (b ∷ drop (place + 1) ys) nodes).nodes) (sym d1)
+          ∙ ap (λ z. (each_pair step (drop place xs) z nodes).nodes) (sym d2) ∙ s.after;
       grows = extends_both first nodes more s.grows l;
     }
 
-pub merge_ends : (kinds : List RuleKind) (t : Id) (yes no : Ids) (first : List Node) (place : ℕ) (row : Ids) (nodes : List Node) → length yes ≤ place →
-    MergedSoFar kinds t yes no first place row nodes → (row ≡ (merged_row kinds t yes no first).value) × (nodes ≡ (merged_row kinds t yes no first).nodes)
-merge_ends kinds t yes no first place row nodes l s =
-    let d = drop_end yes place l in
-    (sym (append-nil row) ∙ ap (λ z. row ++ (merged_row kinds t z (drop place no) nodes).value) (sym d) ∙ s.ids, ap (λ z. (merged_row kinds t z (drop place no) nodes).nodes) (sym d) ∙ s.nodes')
+pub each_ends : {A B C : Type 0} (step : A → B → Make C) (xs : List A) (ys : List B) (first : List Node) (place : ℕ) (made : List C) (nodes : List Node) → length xs ≤ place →
+    EachSoFar step xs ys first place made nodes → (made ≡ (each_pair step xs ys first).value) × (nodes ≡ (each_pair step xs ys first).nodes)
+each_ends step xs ys first place made nodes l s =
+    let d = drop_end xs place l in
+    (sym (append-nil made) ∙ ap (λ z. made ++ (each_pair step z (drop place ys) nodes).value) (sym d) ∙ s.answer, ap (λ z. (each_pair step z (drop place ys) nodes).nodes) (sym d) ∙ s.after)
+
+-- what is found of pairs so far, and what the rest will be
+pub record FoldSoFar {A B S : Type 0} (step : S → A → B → Make S) (s : S) (xs : List A) (ys : List B) (first : List Node) (place : ℕ) (now : S) (nodes : List Node) : Type 0 where
+  pub all : fold_pairs step now (drop place xs) (drop place ys) nodes ≡ fold_pairs step s xs ys first
+  pub grows : Extends first nodes
+
+pub fold_goes_on : {A B S : Type 0} (step : S → A → B → Make S) (s : S) (xs : List A) (ys : List B) (first : List Node) (place : ℕ) (now next : S) (nodes more : List Node) (a : A) (b : B) →
+    slice_get xs place ≡ Some a → slice_get ys place ≡ Some b → more ≡ (step now a b nodes).nodes → next ≡ (step now a b nodes).value → Extends nodes more →
+    FoldSoFar step s xs ys first place now nodes → FoldSoFar step s xs ys first (place + 1) next more
+fold_goes_on step s xs ys first place now next nodes more a b e f g h l so =
+    let one : suc place ≡ place + 1 = omega arith in
+    let d1 : drop place xs ≡ a ∷ drop (place + 1) xs = drop_at xs place a e ∙ ap (λ k. a ∷ drop k xs) one in
+    let d2 : drop place ys ≡ b ∷ drop (place + 1) ys = drop_at ys place b f ∙ ap (λ k. b ∷ drop k ys) one in
+    let m = step now a b nodes in
+    record {
+      all = ap (λ z. fold_pairs step z (drop (place + 1) xs) (drop (place + 1) ys) more) h ∙ ap (λ z. fold_pairs step m.value (drop (place + 1) xs) (drop (place + 1) ys) z) g
+          ∙ ap (λ z. fold_pairs step now z (b ∷ drop (place + 1) ys) nodes) (sym d1) ∙ ap (λ z. fold_pairs step now (drop place xs) z nodes) (sym d2) ∙ so.all;
+      grows = extends_both first nodes more so.grows l;
+    }
+
+pub fold_ends : {A B S : Type 0} (step : S → A → B → Make S) (s : S) (xs : List A) (ys : List B) (first : List Node) (place : ℕ) (now : S) (nodes : List Node) → length xs ≤ place →
+    FoldSoFar step s xs ys first place now nodes → pure now nodes ≡ fold_pairs step s xs ys first
+fold_ends step s xs ys first place now nodes l so = ap (λ z. fold_pairs step now z (drop place ys) nodes) (sym (drop_end xs place l)) ∙ so.all
+
+-- one more word of a row
+pub wide_more : (nodes : List Node) (w : ℕ) (row : Ids) (a : Id) → AllWide nodes w row → HasWidth nodes a w → AllWide nodes w (row ++ a ∷ [])
+wide_more nodes w [] a h s = (s, tt)
+wide_more nodes w (b ∷ row) a h s = (h.0, wide_more nodes w row a h.1 s)
+
+-- the words at one place of alike rows, after more nodes
+pub alike_at : (old new : List Node) (xs ys : Ids) (place : ℕ) (a b : Id) → AlikeRows old xs ys → Extends old new → slice_get xs place ≡ Some a → slice_get ys place ≡ Some b → AlikeWords new a b
+alike_at old new xs ys place a b h g e f = record {
+  width = h.width;
+  one = wider old new a h.width g (row_at old h.width xs place a h.one.wide e);
+  two = wider old new b h.width g (row_at old h.width ys place b h.two.wide f);
+}
+
+pub wider_rows : (old new : List Node) (n w : ℕ) (rows : List Ids) → Extends old new → AllRows old n w rows → AllRows new n w rows
+wider_rows old new n w [] e h = tt
+wider_rows old new n w (r ∷ rs) e h = (record { count = h.0.count; wide = wider_row old new w r e h.0.wide }, wider_rows old new n w rs e h.1)
+
+pub rows_at : (nodes : List Node) (n w : ℕ) (rows : List Ids) (k : ℕ) (r : Ids) → AllRows nodes n w rows → slice_get rows k ≡ Some r → IsSymRow nodes n w r
+rows_at nodes n w [] k r h e = absurd (cc)
+rows_at nodes n w (s ∷ rows) zero r h e = let f : s ≡ r = cc in subst (IsSymRow nodes n w) f h.0
+rows_at nodes n w (s ∷ rows) (suc k) r h e = rows_at nodes n w rows k r h.1 e
+
+-- the rows at one place of alike tables, after more nodes
+pub alike_rows_at : (old new : List Node) (xs ys : List Ids) (place : ℕ) (a b : Ids) → AlikeTables old xs ys → Extends old new → slice_get xs place ≡ Some a → slice_get ys place ≡ Some b → AlikeRows new a b
+alike_rows_at old new xs ys place a b h g e f = record {
+  words = h.words;
+  width = h.width;
+  one = rows_at new h.words h.width xs place a (wider_rows old new h.words h.width xs g h.one) e;
+  two = rows_at new h.words h.width ys place b (wider_rows old new h.words h.width ys g h.two) f;
+}
+
+-- a row that is merged so far
+pub record RowSoFar (kinds : List RuleKind) (t : Id) (one two : Ids) (first : List Node) (place : ℕ) (row : Ids) (nodes : List Node) : Type 0 where
+  pub each : EachSoFar (merged_word kinds t) one two first place row nodes
+  pub count : length row ≡ place
+  pub wide : (w : ℕ) → AllWide first w one → AllWide first w two → AllWide nodes w row
+
+pub row_begins : (kinds : List RuleKind) (t : Id) (one two : Ids) (first : List Node) → RowSoFar kinds t one two first 0 [] first
+row_begins kinds t one two first = record { each = each_begins (merged_word kinds t) one two first; count = refl; wide = λ w p q. tt }
+
+pub row_goes_on : (kinds : List RuleKind) (t : Id) (one two : Ids) (first : List Node) (place : ℕ) (row next : Ids) (nodes more : List Node) (a b x : Id) →
+    slice_get one place ≡ Some a → slice_get two place ≡ Some b → more ≡ (merged_word kinds t a b nodes).nodes → x ≡ (merged_word kinds t a b nodes).value → Extends nodes more →
+    KeepsWidth nodes more a b x → next ≡ row ++ x ∷ [] → RowSoFar kinds t one two first place row nodes → RowSoFar kinds t one two first (place + 1) next more
+row_goes_on kinds t one two first place row next nodes more a b x e f g h l k n s =
+    subst (λ r. RowSoFar kinds t one two first (place + 1) r more) (sym n) (record {
+      each = each_goes_on (merged_word kinds t) one two first place row nodes more a b x e f g h l s.each;
+      count = let c = s.count in omega (arith, length-append row (x ∷ []));
+      wide = λ w p q.
+          wide_more more w row x (wider_row nodes more w row l (s.wide w p q))
+            (k w (wider first nodes a w s.each.grows (row_at first w one place a p e)) (wider first nodes b w s.each.grows (row_at first w two place b q f)));
+    })
+
+pub row_shape : (kinds : List RuleKind) (t : Id) (one two : Ids) (first : List Node) (place : ℕ) (row : Ids) (nodes : List Node) → place ≡ length one →
+    RowSoFar kinds t one two first place row nodes → KeepsShape first nodes one two row
+row_shape kinds t one two first place row nodes e s n w p q = record { count = s.count ∙ e ∙ p.count; wide = s.wide w p.wide q.wide }

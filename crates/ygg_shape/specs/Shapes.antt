@@ -69,3 +69,11 @@ digits v w row = record { width = w; words = numbers v row }
 -- the table of n words of this width a row that the terms have
 abbrev pub grid : Values → ℕ → ℕ → List Ids → Grid
 grid v n w rows = record { width = w; words = n; rows = map (numbers v) rows }
+
+-- the answer has the width that both words had
+abbrev pub KeepsWidth : List Node → List Node → Id → Id → Id → Type 0
+KeepsWidth old new one two answer = (w : ℕ) → HasWidth old one w → HasWidth old two w → HasWidth new answer w
+
+-- the answer has the shape that both rows had
+abbrev pub KeepsShape : List Node → List Node → Ids → Ids → Ids → Type 0
+KeepsShape old new one two answer = (n w : ℕ) → IsSymRow old n w one → IsSymRow old n w two → IsSymRow new n w answer

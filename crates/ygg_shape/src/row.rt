@@ -2,7 +2,7 @@
 
 ghost use Rattle.std.specs.Prelude.{◌≡◌, IfOk, OnOk, OnErr};
 ghost use Rattle.ygg_bank.specs.Nodes.{Extends, HasWidth};
-ghost use Rattle.ygg_shape.specs.Shapes.{AlikeRows, AlikeWords};
+ghost use Rattle.ygg_shape.specs.Shapes.{AlikeRows, AlikeWords, KeepsShape, KeepsWidth};
 ghost use Rattle.ygg_shape.specs.Terms.{merged_row, merged_word};
 
 use crate::value::SymRow;
@@ -23,6 +23,7 @@ pub(crate) fn merge_word<B: Book>(
     requires alike { AlikeWords bank.old yes no }
     ensures nodes { OnOk result (bank.new ≡ (merged_word (B.kinds book.now) test yes no bank.old).nodes) }
     ensures id { IfOk result (λ id. id ≡ (merged_word (B.kinds book.now) test yes no bank.old).value) }
+    ensures width { IfOk result (KeepsWidth bank.old bank.new yes no) }
     ensures grows { Extends bank.old bank.new }
 {
     if yes.0 == no.0 {
@@ -44,6 +45,7 @@ pub(crate) fn merge_row<B: Book>(
     requires alike { AlikeRows bank.old yes.now no.now }
     ensures nodes { OnOk result (bank.new ≡ (merged_row (B.kinds book.now) test yes.now no.now bank.old).nodes) }
     ensures row { IfOk result (λ row. row ≡ (merged_row (B.kinds book.now) test yes.now no.now bank.old).value) }
+    ensures shape { IfOk result (KeepsShape bank.old bank.new yes.now no.now) }
     ensures grows { Extends bank.old bank.new }
 {
     let mut row = Sequence::new(alloc);
