@@ -1,5 +1,7 @@
 //! Terms, which name one another by their places in a bank.
 
+use std::alloc::Global;
+use ygg_list::{Duplicate, NoMemory};
 use ygg_value::{Op, Word};
 
 /// The place of a node in its bank, counted from 0.
@@ -21,4 +23,10 @@ pub enum Node {
     Resize { a: Id, width: u8 },
     /// `yes` where `test` is 1, and else `no`.
     Pick { test: Id, yes: Id, no: Id },
+}
+
+impl Duplicate for Id {
+    fn duplicate(&self, _alloc: Global) -> Result<Id, NoMemory> {
+        Ok(*self)
+    }
 }

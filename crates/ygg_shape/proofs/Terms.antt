@@ -1,16 +1,17 @@
 -- Terms that stay where more nodes come.
-use Rattle.std.proofs.Common.{◌≡◌, ◌<◌, ◌≤◌, ℕ, zero, suc, ◌+◌, ◌==◌, Bool, true, false, if◌then◌else◌, List, [], ◌∷◌, ◌++◌, length, drop, Option, Some, None, slice_get, refl, sym, ap, ◌∙◌, subst, arith, append_assoc, length-append}
+use Rattle.std.proofs.Common.{◌≡◌, ◌<◌, ◌≤◌, ℕ, zero, suc, ◌+◌, ◌==◌, Bool, true, false, if◌then◌else◌, List, [], ◌∷◌, ◌++◌, length, drop, Option, Some, None, Result, Ok, Err, IfOk, slice_get, refl, sym, ap, ◌∙◌, subst, arith, append_assoc, length-append}
 use Rattle.std.proofs.lemmas.List.{append-nil}
 use Rattle.ygg_rules.specs.declared.rule.RuleKind.{RuleKind}
-use Rattle.ygg_bank.proofs.Made.{made_grows, made_width}
 use Rattle.ygg_bank.proofs.Widths.{extends_self, extends_both, wider, width_is, stands}
 use Rattle.ygg_bank.specs.Makes.{Make, Out, pure}
-use Rattle.ygg_bank.specs.Making.{made}
-use Rattle.ygg_bank.specs.Nodes.{width_at, widths_of, HasWidth, CanPick, InOrder, Extends}
+use Rattle.ygg_bank.specs.Nodes.{HasWidth, CanBin, CanPick, Extends}
 use Rattle.ygg_bank.specs.declared.node.Id.{Id}
 use Rattle.ygg_bank.specs.declared.node.Node.{Node}
 use Rattle.ygg_bank.specs.declared.node.Node.TheVariants.{Const, Bin, Pick}
-use Rattle.ygg_shape.specs.Shapes.{AllWide, IsSymRow, AllRows, AlikeWords, AlikeRows, AlikeTables, KeepsWidth, KeepsShape}
+use Rattle.ygg_value.specs.declared.operation.Op.TheVariants as op
+use Rattle.ygg_shape.specs.Shapes.{Alike, AllWide, IsSymRow, AllRows, AlikeWords, AlikeRows, AlikeTables, KeepsWidth, KeepsShape}
+use Rattle.ygg_shape.specs.declared.value.SymValue.{SymValue}
+use Rattle.ygg_shape.specs.declared.value.SymValue.TheVariants as value
 use Rattle.ygg_shape.specs.Terms.{Ids, each_pair, fold_pairs, merged_word, merged_row, merged_rows}
 
 pub wider_row : (old new : List Node) (w : ℕ) (row : Ids) → Extends old new → AllWide old w row → AllWide new w row
@@ -155,3 +156,40 @@ row_goes_on kinds t one two first place row next nodes more a b x e f g h l k n 
 pub row_shape : (kinds : List RuleKind) (t : Id) (one two : Ids) (first : List Node) (place : ℕ) (row : Ids) (nodes : List Node) → place ≡ length one →
     RowSoFar kinds t one two first place row nodes → KeepsShape first nodes one two row
 row_shape kinds t one two first place row nodes e s n w p q = record { count = s.count ∙ e ∙ p.count; wide = s.wide w p.wide q.wide }
+
+-- operations on words of one width can be made
+pub can_equal : (nodes : List Node) (a b : Id) → AlikeWords nodes a b → CanBin nodes op.Eq a b
+can_equal nodes a b s = record {
+  one = stands nodes a s.width s.one;
+  two = stands nodes b s.width s.two;
+  widths = width_is nodes a s.width s.one ∙ sym (width_is nodes b s.width s.two);
+}
+
+pub can_both : (nodes : List Node) (a b : Id) → HasWidth nodes a 1 → HasWidth nodes b 1 → CanBin nodes op.And a b
+can_both nodes a b p q = record { one = stands nodes a 1 p; two = stands nodes b 1 q; widths = width_is nodes a 1 p ∙ sym (width_is nodes b 1 q) }
+
+pub ok_width : {E : Type 0} (nodes : List Node) (result : Result Id E) (w u : ℕ) → w ≡ u → IfOk result (λ id. HasWidth nodes id w) → IfOk result (λ id. HasWidth nodes id u)
+ok_width nodes (Ok id) w u e h = h ∙ ap (λ x. Some x) e
+ok_width nodes (Err x) w u e h = tt
+
+-- alike values after more nodes
+pub alike_rows_later : (old new : List Node) (x y : SymValue) (a b : Ids) → Alike old x y → x ≡ value.Row a → y ≡ value.Row b → Extends old new → AlikeRows new a b
+alike_rows_later old new x y a b h e f g =
+    let s : AlikeRows old a b = subst (λ z. Alike old (value.Row a) z) f (subst (λ z. Alike old z y) e h) in
+    record {
+      words = s.words;
+      width = s.width;
+      one = record { count = s.one.count; wide = wider_row old new s.width a g s.one.wide };
+      two = record { count = s.two.count; wide = wider_row old new s.width b g s.two.wide };
+    }
+
+pub alike_tables_later : (old new : List Node) (x y : SymValue) (a b : List Ids) → Alike old x y → x ≡ value.Table a → y ≡ value.Table b → Extends old new → AlikeTables new a b
+alike_tables_later old new x y a b h e f g =
+    let s : AlikeTables old a b = subst (λ z. Alike old (value.Table a) z) f (subst (λ z. Alike old z y) e h) in
+    record {
+      words = s.words;
+      width = s.width;
+      count = s.count;
+      one = wider_rows old new s.words s.width a g s.one;
+      two = wider_rows old new s.words s.width b g s.two;
+    }

@@ -1,8 +1,12 @@
 //! Rows and tables whose words are terms of a bank.
 #![tactic(auto)]
 
+pub mod comparing;
+pub mod merging;
 mod row;
 pub mod value;
 
+pub use comparing::equal;
+pub use merging::merge;
 pub use value::{SymRow, SymTable, SymValue, SymValues};
 pub use ygg_list::NoMemory;
