@@ -1,18 +1,18 @@
 -- Terms that stay where more nodes come.
-use Rattle.std.proofs.Common.{◌≡◌, ◌<◌, ◌≤◌, ℕ, zero, suc, ◌+◌, ◌==◌, Bool, true, false, if◌then◌else◌, List, [], ◌∷◌, ◌++◌, length, drop, Option, Some, None, Result, Ok, Err, IfOk, slice_get, refl, sym, ap, ◌∙◌, subst, arith, append_assoc, length-append}
+use Rattle.std.proofs.Common.{◌≡◌, ◌<◌, ◌≤◌, ℕ, zero, suc, ◌+◌, ◌==◌, Bool, true, false, if◌then◌else◌, List, [], ◌∷◌, ◌++◌, length, drop, take, replicate, Option, Some, None, Result, Ok, Err, IfOk, slice_get, refl, sym, ap, ◌∙◌, subst, arith, append_assoc, length-append}
 use Rattle.std.proofs.lemmas.List.{append-nil}
 use Rattle.ygg_rules.specs.declared.rule.RuleKind.{RuleKind}
 use Rattle.ygg_bank.proofs.Widths.{extends_self, extends_both, wider, width_is, stands}
 use Rattle.ygg_bank.specs.Makes.{Make, Out, pure}
-use Rattle.ygg_bank.specs.Nodes.{HasWidth, CanBin, CanPick, Extends}
+use Rattle.ygg_bank.specs.Nodes.{width_at, widths_of, HasWidth, CanBin, CanPick, Extends}
 use Rattle.ygg_bank.specs.declared.node.Id.{Id}
 use Rattle.ygg_bank.specs.declared.node.Node.{Node}
 use Rattle.ygg_bank.specs.declared.node.Node.TheVariants.{Const, Bin, Pick}
 use Rattle.ygg_value.specs.declared.operation.Op.TheVariants as op
-use Rattle.ygg_shape.specs.Shapes.{Alike, AllWide, IsSymRow, AllRows, AlikeWords, AlikeRows, AlikeTables, KeepsWidth, KeepsShape}
+use Rattle.ygg_shape.specs.Shapes.{Alike, IsTable, AllWide, IsSymRow, AllRows, AlikeWords, AlikeRows, AlikeTables, KeepsWidth, KeepsShape}
 use Rattle.ygg_shape.specs.declared.value.SymValue.{SymValue}
 use Rattle.ygg_shape.specs.declared.value.SymValue.TheVariants as value
-use Rattle.ygg_shape.specs.Terms.{Ids, each_pair, fold_pairs, merged_word, merged_row, merged_rows}
+use Rattle.ygg_shape.specs.Terms.{Ids, first_row, row_width, each_pair, each_numbered, fold_pairs, fold_numbered, merged_word, merged_row, merged_rows}
 
 pub wider_row : (old new : List Node) (w : ℕ) (row : Ids) → Extends old new → AllWide old w row → AllWide new w row
 wider_row old new w [] e h = tt
@@ -193,3 +193,104 @@ alike_tables_later old new x y a b h e f g =
       one = wider_rows old new s.words s.width a g s.one;
       two = wider_rows old new s.words s.width b g s.two;
     }
+
+-- what is found of numbered items so far, and what the rest will be
+pub record NumberedSoFar {A S : Type 0} (step : S → ℕ → A → Make S) (s : S) (xs : List A) (first : List Node) (place : ℕ) (now : S) (nodes : List Node) : Type 0 where
+  pub all : fold_numbered step now place (drop place xs) nodes ≡ fold_numbered step s 0 xs first
+  pub grows : Extends first nodes
+
+pub numbered_goes_on : {A S : Type 0} (step : S → ℕ → A → Make S) (s : S) (xs : List A) (first : List Node) (place : ℕ) (now next : S) (nodes more : List Node) (a : A) →
+    slice_get xs place ≡ Some a → more ≡ (step now place a nodes).nodes → next ≡ (step now place a nodes).value → Extends nodes more →
+    NumberedSoFar step s xs first place now nodes → NumberedSoFar step s xs first (place + 1) next more
+numbered_goes_on step s xs first place now next nodes more a e g h l so =
+    let one : suc place ≡ place + 1 = omega arith in
+    let d : drop place xs ≡ a ∷ drop (place + 1) xs = drop_at xs place a e ∙ ap (λ k. a ∷ drop k xs) one in
+    let m = step now place a nodes in
+    record {
+      all = ap (λ z. fold_numbered step z (place + 1) (drop (place + 1) xs) more) h ∙ ap (λ z. fold_numbered step m.value (place + 1) (drop (place + 1) xs) z) g
+          ∙ ap (λ z. fold_numbered step now place z nodes) (sym d) ∙ so.all;
+      grows = extends_both first nodes more so.grows l;
+    }
+
+pub numbered_ends : {A S : Type 0} (step : S → ℕ → A → Make S) (s : S) (xs : List A) (first : List Node) (place : ℕ) (now : S) (nodes : List Node) → length xs ≤ place →
+    NumberedSoFar step s xs first place now nodes → pure now nodes ≡ fold_numbered step s 0 xs first
+numbered_ends step s xs first place now nodes l so = ap (λ z. fold_numbered step now place z nodes) (sym (drop_end xs place l)) ∙ so.all
+
+-- what is made of numbered items so far, and what the rest will be
+pub record EachNumberedSoFar {A C : Type 0} (step : ℕ → A → Make C) (xs : List A) (first : List Node) (place : ℕ) (made : List C) (nodes : List Node) : Type 0 where
+  pub answer : made ++ (each_numbered step place (drop place xs) nodes).value ≡ (each_numbered step 0 xs first).value
+  pub after : (each_numbered step place (drop place xs) nodes).nodes ≡ (each_numbered step 0 xs first).nodes
+  pub grows : Extends first nodes
+
+pub each_numbered_goes_on : {A C : Type 0} (step : ℕ → A → Make C) (xs : List A) (first : List Node) (place : ℕ) (made next : List C) (nodes more : List Node) (a : A) (c : C) →
+    slice_get xs place ≡ Some a → more ≡ (step place a nodes).nodes → c ≡ (step place a nodes).value → Extends nodes more → next ≡ made ++ c ∷ [] →
+    EachNumberedSoFar step xs first place made nodes → EachNumberedSoFar step xs first (place + 1) next more
+each_numbered_goes_on step xs first place made next nodes more a c e g h l n s =
+    let one : suc place ≡ place + 1 = omega arith in
+    let d : drop place xs ≡ a ∷ drop (place + 1) xs = drop_at xs place a e ∙ ap (λ k. a ∷ drop k xs) one in
+    let m = step place a nodes in
+    let rest = λ (ns : List Node). each_numbered step (place + 1) (drop (place + 1) xs) ns in
+    subst (λ r. EachNumberedSoFar step xs first (place + 1) r more) (sym n) (record {
+      answer = append_assoc made (c ∷ []) (rest more).value
+          ∙ ap (λ z. made ++ (z ∷ (rest more).value)) h ∙ ap (λ z. made ++ (m.value ∷ (rest z).value)) g
+          ∙ ap (λ z. made ++ (each_numbered step place z nodes).value) (sym d) ∙ s.answer;
+      after = ap (λ z. (rest z).nodes) g ∙ ap (λ z. (each_numbered step place z nodes).nodes) (sym d) ∙ s.after;
+      grows = extends_both first nodes more s.grows l;
+    })
+
+pub each_numbered_ends : {A C : Type 0} (step : ℕ → A → Make C) (xs : List A) (first : List Node) (place : ℕ) (made : List C) (nodes : List Node) → length xs ≤ place →
+    EachNumberedSoFar step xs first place made nodes → (made ≡ (each_numbered step 0 xs first).value) × (nodes ≡ (each_numbered step 0 xs first).nodes)
+each_numbered_ends step xs first place made nodes l s =
+    let d = drop_end xs place l in
+    (sym (append-nil made) ∙ ap (λ z. made ++ (each_numbered step place z nodes).value) (sym d) ∙ s.answer, ap (λ z. (each_numbered step place z nodes).nodes) (sym d) ∙ s.after)
+
+-- alike rows after more nodes
+pub alike_more : (old new : List Node) (a b : Ids) → AlikeRows old a b → Extends old new → AlikeRows new a b
+alike_more old new a b s g = record {
+  words = s.words;
+  width = s.width;
+  one = record { count = s.one.count; wide = wider_row old new s.width a g s.one.wide };
+  two = record { count = s.two.count; wide = wider_row old new s.width b g s.two.wide };
+}
+
+pub row_more : (old new : List Node) (n w : ℕ) (row : Ids) → IsSymRow old n w row → Extends old new → IsSymRow new n w row
+row_more old new n w row h g = record { count = h.count; wide = wider_row old new w row g h.wide }
+
+pub keeps_later : {E : Type 0} (old mid new : List Node) (a b : Ids) (result : Result Ids E) → Extends old mid → IfOk result (KeepsShape mid new a b) → IfOk result (KeepsShape old new a b)
+keeps_later old mid new a b (Ok row) g h = λ n w p q. h n w (row_more old mid n w a p g) (row_more old mid n w b q g)
+keeps_later old mid new a b (Err x) g h = tt
+
+zeros_wide : (nodes : List Node) (w : ℕ) (z : Id) (n : ℕ) → HasWidth nodes z w → AllWide nodes w (replicate n z)
+zeros_wide nodes w z zero h = tt
+zeros_wide nodes w z (suc n) h = (h, zeros_wide nodes w z n h)
+
+zeros_count : (z : Id) (n : ℕ) → length (replicate n z) ≡ n
+zeros_count z zero = refl
+zeros_count z (suc n) = let e = zeros_count z n in omega arith
+
+pub zeros_shape : (nodes : List Node) (w : ℕ) (z : Id) (n : ℕ) (row : Ids) → HasWidth nodes z w → row ≡ replicate n z → IsSymRow nodes n w row
+zeros_shape nodes w z n row h e = subst (IsSymRow nodes n w) (sym e) (record { count = zeros_count z n; wide = zeros_wide nodes w z n h })
+
+-- the first row of a table
+pub first_is : (rows : List Ids) (r : Ids) → slice_get rows 0 ≡ Some r → first_row rows ≡ r
+first_is [] r e = absurd (cc)
+first_is (s ∷ rows) r e = cc
+
+pub first_some : (nodes : List Node) (rows : List Ids) (r : Ids) → IsTable nodes rows → slice_get rows 0 ≡ Some r → 0 < length r
+first_some nodes rows r h e =
+    let s = rows_at nodes h.words h.width rows 0 r h.is.all e in let k = h.is.words in omega (arith, s.count)
+
+-- the first word of a row has its width
+pub cell_width : (nodes : List Node) (r : Ids) (a : Id) (w : ℕ) → slice_get r 0 ≡ Some a → AllWide nodes w r → HasWidth nodes a w
+cell_width nodes r a w e h = row_at nodes w r 0 a h e
+
+pub row_width_is : (nodes : List Node) (r : Ids) (a : Id) → slice_get r 0 ≡ Some a → row_width nodes r ≡ width_at (widths_of nodes) a
+row_width_is nodes [] a e = absurd (cc)
+row_width_is nodes (b ∷ r) a e = let f : b ≡ a = cc in ap (width_at (widths_of nodes)) f
+
+-- an item among the first ones
+pub take_at : {X : Type 0} (k : ℕ) (xs : List X) (place : ℕ) (x : X) → place < k → slice_get xs place ≡ Some x → slice_get (take k xs) place ≡ Some x
+take_at zero xs place x l e = absurd (omega arith)
+take_at (suc k) [] place x l e = absurd (cc)
+take_at (suc k) (y ∷ xs) zero x l e = e
+take_at (suc k) (y ∷ xs) (suc place) x l e = take_at k xs place x (omega arith) e

@@ -30,6 +30,19 @@ pub record IsSymTable (nodes : List Node) (n w : ℕ) (rows : List Ids) : Type 0
   pub words : 1 ≤ n
   pub all : AllRows nodes n w rows
 
+-- a table whose rows are of some shape
+pub record IsTable (nodes : List Node) (rows : List Ids) : Type 0 where
+  pub words : ℕ
+  pub width : ℕ
+  pub is : IsSymTable nodes words width rows
+
+-- a table whose rows have the shape of a row
+pub record TakesRow (nodes : List Node) (rows : List Ids) (row : Ids) : Type 0 where
+  pub words : ℕ
+  pub width : ℕ
+  pub all : AllRows nodes words width rows
+  pub one : IsSymRow nodes words width row
+
 -- two words of one width
 pub record AlikeWords (nodes : List Node) (a b : Id) : Type 0 where
   pub width : ℕ

@@ -43,7 +43,7 @@ pub fn equal<B: Book>(
 }
 
 /// Whether two words are equal.
-fn equal_words<B: Book>(bank: &mut Bank, book: &B, a: Id, b: Id) -> Result<Id, NoMemory>
+pub(crate) fn equal_words<B: Book>(bank: &mut Bank, book: &B, a: Id, b: Id) -> Result<Id, NoMemory>
     requires { AlikeWords bank.old a b }
     ensures nodes { OnOk result (bank.new ≡ (made (B.kinds book.now) (node.Bin op.Eq a b) bank.old).nodes) }
     ensures id { IfOk result (λ id. id ≡ (made (B.kinds book.now) (node.Bin op.Eq a b) bank.old).value) }
