@@ -1,10 +1,10 @@
 //! A table with another row at a place.
 
-ghost use Rattle.std.specs.Prelude.{◌≡◌, ◌<◌, ◌^◌, IfOk, OnOk, slice_set};
+ghost use Rattle.std.specs.Prelude.{◌≡◌, ◌<◌, ◌^◌, ◌++◌, IfOk, OnOk, drop, slice_set};
 ghost use Rattle.ygg_bank.specs.Nodes.{Extends, HasWidth, Stands};
 ghost use Rattle.ygg_rules.specs.Views.{IsWidth};
 ghost use Rattle.ygg_shape.specs.Shapes.{AlikeRows, TakesRow};
-ghost use Rattle.ygg_shape.specs.Terms.{store_step, stored};
+ghost use Rattle.ygg_shape.specs.Terms.{each_numbered, nameable, store_step, stored};
 
 use crate::places::{is_place, reach};
 use crate::row::merge_row;
@@ -34,15 +34,48 @@ pub fn store<B: Book>(
         return store_known(alloc, table, word.bits, row);
     }
     let digits = bank.width(at);
-    let reach = reach(digits, table.len());
-    let mut after = Sequence::new(alloc);
-    for place in 0..reach {
+    let front = store_front(alloc, bank, book, table, at, digits, row)?;
+    with_rest(alloc, front, table, reach(digits, table.len()))
+}
+
+/// The rows that the place can name, each the row to be stored where the place has its number.
+fn store_front<B: Book>(
+    alloc: Global,
+    bank: &mut Bank,
+    book: &B,
+    table: &SymTable,
+    at: Id,
+    digits: u8,
+    row: &SymRow,
+) -> Result<SymTable, NoMemory>
+    requires width { HasWidth bank.old at digits }
+    requires limits { IsWidth digits }
+    requires row { TakesRow bank.old table.now row.now }
+    ensures nodes { OnOk result (bank.new ≡ (each_numbered (store_step (B.kinds book.now) at digits row.now) 0 (nameable digits table.now) bank.old).nodes) }
+    ensures front { IfOk result (λ front. front ≡ (each_numbered (store_step (B.kinds book.now) at digits row.now) 0 (nameable digits table.now) bank.old).value) }
+    ensures grows { Extends bank.old bank.new }
+{
+    let mut front = Sequence::new(alloc);
+    for place in 0..reach(digits, table.len()) {
         let next = store_step(alloc, bank, book, at, digits, row, place as u64, table.at(place))?;
-        after.push(next)?;
+        front.push(next)?;
     }
-    for place in reach..table.len() {
-        let next = table.at(place).copy(alloc)?;
-        after.push(next)?;
+    Ok(front)
+}
+
+/// The rows, and after them those of the table from a place on.
+fn with_rest(
+    alloc: Global,
+    front: SymTable,
+    table: &SymTable,
+    from: usize,
+) -> Result<SymTable, NoMemory>
+    ensures { IfOk result (λ after. after ≡ front ++ drop from table.now) }
+{
+    let mut after = front;
+    for place in from..table.len() {
+        let row = table.at(place).copy(alloc)?;
+        after.push(row)?;
     }
     Ok(after)
 }
