@@ -1,5 +1,5 @@
 -- Selecting and storing so far.
-use Rattle.std.proofs.Common.{◌≡◌, ◌<◌, ◌≤◌, ◌^◌, ℕ, zero, suc, ◌+◌, List, [], ◌∷◌, ◌++◌, ◌⊎◌, inl, inr, drop, length, take, Option, Some, None, slice_get, min, refl, sym, ap, ◌∙◌, subst, arith}
+use Rattle.std.proofs.Common.{◌≡◌, ◌<◌, ◌≤◌, ◌^◌, ℕ, zero, suc, ◌+◌, List, [], ◌∷◌, ◌++◌, ◌⊎◌, inl, inr, drop, length, take, Option, Some, None, slice_get, min, refl, sym, ap, ◌∙◌, subst, arith, append_assoc}
 use Rattle.std.proofs.lemmas.Bool.{cases_lt}
 use Rattle.std.proofs.lemmas.List.{length-take}
 use Rattle.ygg_rules.specs.declared.rule.RuleKind.{RuleKind}
@@ -11,7 +11,7 @@ use Rattle.ygg_bank.specs.Nodes.{width_at, widths_of, HasWidth, Extends}
 use Rattle.ygg_bank.specs.declared.node.Node.TheVariants.{Const}
 use Rattle.ygg_bank.specs.declared.node.Id.{Id}
 use Rattle.ygg_bank.specs.declared.node.Node.{Node}
-use Rattle.ygg_shape.proofs.Terms.{EachNumberedSoFar, NumberedSoFar, drop_end, each_numbered_ends, numbered_goes_on, numbered_ends, row_more, row_at, rows_at, take_at, first_is, row_width_is}
+use Rattle.ygg_shape.proofs.Terms.{EachNumberedSoFar, NumberedSoFar, drop_at, drop_end, each_numbered_ends, numbered_goes_on, numbered_ends, row_more, row_at, rows_at, take_at, first_is, row_width_is}
 use Rattle.ygg_shape.specs.Shapes.{AllRows, AlikeRows, TakesRow, IsSymRow, IsTable, KeepsShape}
 use Rattle.ygg_shape.specs.Terms.{Ids, nameable, select_step, store_step, stored, stored_at, each_numbered, zeros, selected, selected_at, known_row, first_row, row_width, fold_numbered}
 
@@ -124,3 +124,12 @@ pub stored_nodes : (kinds : List RuleKind) (nodes : List Node) (rows : List Ids)
 stored_nodes kinds nodes rows at new m u e f g =
     let known : known_in (slice_get nodes at.0) ≡ None = ap known_in e ∙ f in
     ap (λ x. (stored_at kinds rows at x new None nodes).nodes) g ∙ ap (λ x. (stored_at kinds rows at (width_at (widths_of nodes) at) new x nodes).nodes) (sym known)
+
+-- one more row comes after those that were stored
+pub rest_goes_on : (rows front after next : List Ids) (place from : ℕ) (r copy : Ids) → slice_get rows place ≡ Some r → copy ≡ r → next ≡ after ++ copy ∷ [] →
+    after ++ drop place rows ≡ front ++ drop from rows → next ++ drop (place + 1) rows ≡ front ++ drop from rows
+rest_goes_on rows front after next place from r copy e f g h =
+    let one : suc place ≡ place + 1 = omega arith in
+    let d : drop place rows ≡ r ∷ drop (place + 1) rows = drop_at rows place r e ∙ ap (λ k. r ∷ drop k rows) one in
+    ap (λ z. z ++ drop (place + 1) rows) g ∙ append_assoc after (copy ∷ []) (drop (place + 1) rows) ∙ ap (λ z. after ++ (z ∷ drop (place + 1) rows)) f
+    ∙ ap (λ z. after ++ z) (sym d) ∙ h
