@@ -4,8 +4,10 @@
 pub mod bank;
 pub mod env;
 pub mod node;
+#[cfg(test)]
+mod tests;
 
 pub use bank::Bank;
-pub use env::{Env, Given, Words};
+pub use env::{Env, Given, Words, given_for};
 pub use node::{Id, Node};
 pub use ygg_list::NoMemory;
