@@ -1,3 +1,5 @@
 pub mod Terms
 pub mod Selects
 pub mod Worth
+pub mod Chosen
+pub mod Selected

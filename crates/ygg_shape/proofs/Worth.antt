@@ -26,7 +26,7 @@ word_grows_case : (kinds : List RuleKind) (t a b : Id) (nodes : List Node) (c : 
 word_grows_case kinds t a b nodes true = extends_self nodes
 word_grows_case kinds t a b nodes false = made_grows kinds (Pick t a b) nodes
 
-word_grows : (kinds : List RuleKind) (t a b : Id) (nodes : List Node) → Extends nodes (merged_word kinds t a b nodes).nodes
+pub word_grows : (kinds : List RuleKind) (t a b : Id) (nodes : List Node) → Extends nodes (merged_word kinds t a b nodes).nodes
 word_grows kinds t a b nodes = word_grows_case kinds t a b nodes (a.0 == b.0)
 
 pub each_grows : {A B C : Type 0} (step : A → B → Make C) → ((a : A) (b : B) (nodes : List Node) → Extends nodes (step a b nodes).nodes) →
@@ -39,12 +39,12 @@ each_grows step h (x ∷ xs) (y ∷ ys) nodes =
 pub row_grows : (kinds : List RuleKind) (t : Id) (xs ys : Ids) (nodes : List Node) → Extends nodes (merged_row kinds t xs ys nodes).nodes
 row_grows kinds t xs ys nodes = each_grows (merged_word kinds t) (word_grows kinds t) xs ys nodes
 
-place_grows : (kinds : List RuleKind) (at : Id) (w i : ℕ) (nodes : List Node) → Extends nodes (is_place kinds at w i nodes).nodes
+pub place_grows : (kinds : List RuleKind) (at : Id) (w i : ℕ) (nodes : List Node) → Extends nodes (is_place kinds at w i nodes).nodes
 place_grows kinds at w i nodes =
     let c = made kinds (Const (word w i)) nodes in
     extends_both nodes c.nodes (made kinds (Bin op.Eq at c.value) c.nodes).nodes (made_grows kinds (Const (word w i)) nodes) (made_grows kinds (Bin op.Eq at c.value) c.nodes)
 
-select_grows : (kinds : List RuleKind) (at : Id) (w : ℕ) (so_far : Ids) (i : ℕ) (row : Ids) (nodes : List Node) → Extends nodes (select_step kinds at w so_far i row nodes).nodes
+pub select_grows : (kinds : List RuleKind) (at : Id) (w : ℕ) (so_far : Ids) (i : ℕ) (row : Ids) (nodes : List Node) → Extends nodes (select_step kinds at w so_far i row nodes).nodes
 select_grows kinds at w so_far i row nodes =
     let t = is_place kinds at w i nodes in
     extends_both nodes t.nodes (merged_row kinds t.value row so_far t.nodes).nodes (place_grows kinds at w i nodes) (row_grows kinds t.value row so_far t.nodes)
@@ -62,7 +62,7 @@ pick_width kinds t a b w nodes true o h p q = p
 pick_width kinds t a b w nodes false o h p q =
     made_width kinds (Pick t a b) nodes o (can_pick nodes t a b h (record { width = w; one = p; two = q })) ∙ ap (λ x. Some x) (width_is nodes a w p)
 
-merged_wide : (inputs : Inputs) (v : Values) (kinds : List RuleKind) (t : Id) (w : ℕ) (xs ys : Ids) (nodes : List Node) → HasWidth nodes t 1 → AllWide nodes w xs → AllWide nodes w ys →
+pub merged_wide : (inputs : Inputs) (v : Values) (kinds : List RuleKind) (t : Id) (w : ℕ) (xs ys : Ids) (nodes : List Node) → HasWidth nodes t 1 → AllWide nodes w xs → AllWide nodes w ys →
     Fits inputs v (merged_row kinds t xs ys nodes).nodes → AllWide (merged_row kinds t xs ys nodes).nodes w (merged_row kinds t xs ys nodes).value
 merged_wide inputs v kinds t w [] ys nodes h p q f = tt
 merged_wide inputs v kinds t w (x ∷ xs) [] nodes h p q f = tt
@@ -74,7 +74,7 @@ merged_wide inputs v kinds t w (x ∷ xs) (y ∷ ys) nodes h p q f =
     (wider m.nodes last m.value w (row_grows kinds t xs ys m.nodes) (pick_width kinds t x y w nodes (x.0 == y.0) o.ordered h p.0 q.0),
      merged_wide inputs v kinds t w xs ys m.nodes (wider nodes m.nodes t 1 g h) (wider_row nodes m.nodes w xs g p.1) (wider_row nodes m.nodes w ys g q.1) f)
 
-merged_count : (kinds : List RuleKind) (t : Id) (xs ys : Ids) (nodes : List Node) → length xs ≡ length ys → length (merged_row kinds t xs ys nodes).value ≡ length xs
+pub merged_count : (kinds : List RuleKind) (t : Id) (xs ys : Ids) (nodes : List Node) → length xs ≡ length ys → length (merged_row kinds t xs ys nodes).value ≡ length xs
 merged_count kinds t [] ys nodes e = refl
 merged_count kinds t (x ∷ xs) [] nodes e = absurd (omega (arith, e))
 merged_count kinds t (x ∷ xs) (y ∷ ys) nodes e =
@@ -131,7 +131,7 @@ module _ (inputs : Inputs) (v : Values) (kinds : List RuleKind) where
     pub digit : HasWidth nodes t 1
     pub says : ((v t.0).bits == 1) ≡ ((v at.0).bits == i)
 
-  place_gives : (at : Id) (w i : ℕ) (nodes : List Node) → HasWidth nodes at w → i < 2 ^ w → Fits inputs v (is_place kinds at w i nodes).nodes →
+  pub place_gives : (at : Id) (w i : ℕ) (nodes : List Node) → HasWidth nodes at w → i < 2 ^ w → Fits inputs v (is_place kinds at w i nodes).nodes →
       IsTest at i (is_place kinds at w i nodes).nodes (is_place kinds at w i nodes).value
   place_gives at w i nodes h l f =
       let k = word w i in
