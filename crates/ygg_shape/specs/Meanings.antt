@@ -11,5 +11,5 @@ use Rattle.ygg_shape.specs.Terms.{Ids}
 -- the row is worth what reading the table at the place gives
 abbrev pub SelectsRow : List Node → List Ids → Id → List Node → Ids → Type 0
 SelectsRow old rows at new row =
-    (inputs : Inputs) (n w : ℕ) → InOrder [] old → InputsFit inputs new → AllRows old n w rows →
+    (inputs : Inputs) (n w : ℕ) → InOrder [] new → InputsFit inputs new → AllRows old n w rows →
     digits (value_of inputs new) w row ≡ table_read (grid (value_of inputs old) n w rows) (value_of inputs old at.0).bits
