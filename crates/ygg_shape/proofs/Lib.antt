@@ -3,3 +3,4 @@ pub mod Selects
 pub mod Worth
 pub mod Chosen
 pub mod Selected
+pub mod Kept

@@ -78,7 +78,7 @@ at_grows kinds rows at w u n None nodes =
     extends_both nodes z.nodes (fold_numbered (select_step kinds at w) z.value 0 (nameable w rows) z.nodes).nodes (zeros_grows kinds u n nodes)
       (fold_grows (select_step kinds at w) (select_grows kinds at w) z.value 0 (nameable w rows) z.nodes)
 
-all_take : (nodes : List Node) (n u k : ℕ) (rows : List Ids) → AllRows nodes n u rows → AllRows nodes n u (take k rows)
+pub all_take : (nodes : List Node) (n u k : ℕ) (rows : List Ids) → AllRows nodes n u rows → AllRows nodes n u (take k rows)
 all_take nodes n u zero rows h = tt
 all_take nodes n u (suc k) [] h = tt
 all_take nodes n u (suc k) (r ∷ rows) h = (h.0, all_take nodes n u k rows h.1)
@@ -125,7 +125,7 @@ module _ (inputs : Inputs) (v : Values) (kinds : List RuleKind) (nodes : List No
       ∙ ap (λ y. unwrap_or (slice_get (map (numbers v) rows) x) y) (zeros_worth p fz)
 
 -- the numbers of words that stood are the same with more nodes
-numbers_keep : (old new : List Node) (inputs : Inputs) (w : ℕ) (row : Ids) → Extends old new → AllWide old w row → numbers (value_of inputs new) row ≡ numbers (value_of inputs old) row
+pub numbers_keep : (old new : List Node) (inputs : Inputs) (w : ℕ) (row : Ids) → Extends old new → AllWide old w row → numbers (value_of inputs new) row ≡ numbers (value_of inputs old) row
 numbers_keep old new inputs w [] g h = refl
 numbers_keep old new inputs w (a ∷ row) g h =
     ap (λ (k : Number). k.bits ∷ numbers (value_of inputs new) row) (keeps_values old new g inputs a.0 (stands old a w h.0))

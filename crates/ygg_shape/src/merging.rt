@@ -2,6 +2,7 @@
 
 ghost use Rattle.std.specs.Prelude.{◌≡◌, IfOk, OnOk};
 ghost use Rattle.ygg_bank.specs.Nodes.{Extends, HasWidth};
+ghost use Rattle.ygg_shape.specs.Meanings.{MergesTo};
 ghost use Rattle.ygg_shape.specs.Shapes.{Alike, AlikeTables};
 ghost use Rattle.ygg_shape.specs.Terms.{merged, merged_rows};
 
@@ -15,6 +16,25 @@ use ygg_rules::Book;
 /// One value where the test, a term of width 1, is 1, and else the other, of the same shape. Its only error is want of memory,
 /// after which the bank may hold more nodes.
 pub fn merge<B: Book>(
+    alloc: Global,
+    bank: &mut Bank,
+    book: &B,
+    test: Id,
+    yes: &SymValue,
+    no: &SymValue,
+) -> Result<SymValue, NoMemory>
+    requires test { HasWidth bank.old test 1 }
+    requires alike { Alike bank.old yes.now no.now }
+    ensures nodes { OnOk result (bank.new ≡ (merged (B.kinds book.now) test yes.now no.now bank.old).nodes) }
+    ensures merged { IfOk result (λ both. both ≡ (merged (B.kinds book.now) test yes.now no.now bank.old).value) }
+    ensures value { IfOk result (MergesTo bank.old test yes.now no.now bank.new) }
+    ensures grows { Extends bank.old bank.new }
+{
+    merge_values(alloc, bank, book, test, yes, no)
+}
+
+/// What `merge` does.
+fn merge_values<B: Book>(
     alloc: Global,
     bank: &mut Bank,
     book: &B,

@@ -3,6 +3,7 @@
 ghost use Rattle.std.specs.Prelude.{◌≡◌, ◌<◌, ◌^◌, IfOk, OnOk};
 ghost use Rattle.ygg_bank.specs.Nodes.{Extends, HasWidth, Stands};
 ghost use Rattle.ygg_rules.specs.Views.{IsWidth};
+ghost use Rattle.ygg_shape.specs.Meanings.{SelectsRow};
 ghost use Rattle.ygg_shape.specs.Shapes.{AlikeRows, IsTable, KeepsShape};
 ghost use Rattle.ygg_shape.specs.Terms.{select_step, selected};
 
@@ -17,6 +18,24 @@ use ygg_rules::Book;
 /// The row at a place of a table, a term of any width; zeros past the end. At a constant place it is the row that stands there, and
 /// at another a chain of picks. Its only error is want of memory, after which the bank may hold more nodes.
 pub fn select<B: Book>(
+    alloc: Global,
+    bank: &mut Bank,
+    book: &B,
+    table: &SymTable,
+    at: Id,
+) -> Result<SymRow, NoMemory>
+    requires place { Stands bank.old at }
+    requires table { IsTable bank.old table.now }
+    ensures nodes { OnOk result (bank.new ≡ (selected (B.kinds book.now) table.now at bank.old).nodes) }
+    ensures row { IfOk result (λ row. row ≡ (selected (B.kinds book.now) table.now at bank.old).value) }
+    ensures value { IfOk result (SelectsRow bank.old table.now at bank.new) }
+    ensures grows { Extends bank.old bank.new }
+{
+    select_row(alloc, bank, book, table, at)
+}
+
+/// What `select` does.
+fn select_row<B: Book>(
     alloc: Global,
     bank: &mut Bank,
     book: &B,

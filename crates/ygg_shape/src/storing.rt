@@ -3,6 +3,7 @@
 ghost use Rattle.std.specs.Prelude.{◌≡◌, ◌<◌, ◌^◌, ◌++◌, IfOk, OnOk, drop, slice_set};
 ghost use Rattle.ygg_bank.specs.Nodes.{Extends, HasWidth, Stands};
 ghost use Rattle.ygg_rules.specs.Views.{IsWidth};
+ghost use Rattle.ygg_shape.specs.Meanings.{StoresRow};
 ghost use Rattle.ygg_shape.specs.Shapes.{AlikeRows, TakesRow};
 ghost use Rattle.ygg_shape.specs.Terms.{each_numbered, nameable, store_step, stored};
 
@@ -17,6 +18,25 @@ use ygg_rules::Book;
 /// The table with another row, of the shape of its rows, at a place, a term of any width; past the end, the same table. At a
 /// constant place no picks are made. Its only error is want of memory, after which the bank may hold more nodes.
 pub fn store<B: Book>(
+    alloc: Global,
+    bank: &mut Bank,
+    book: &B,
+    table: &SymTable,
+    at: Id,
+    row: &SymRow,
+) -> Result<SymTable, NoMemory>
+    requires place { Stands bank.old at }
+    requires row { TakesRow bank.old table.now row.now }
+    ensures nodes { OnOk result (bank.new ≡ (stored (B.kinds book.now) table.now at row.now bank.old).nodes) }
+    ensures table { IfOk result (λ after. after ≡ (stored (B.kinds book.now) table.now at row.now bank.old).value) }
+    ensures value { IfOk result (StoresRow bank.old table.now at row.now bank.new) }
+    ensures grows { Extends bank.old bank.new }
+{
+    store_row(alloc, bank, book, table, at, row)
+}
+
+/// What `store` does.
+fn store_row<B: Book>(
     alloc: Global,
     bank: &mut Bank,
     book: &B,
