@@ -4,3 +4,4 @@ pub mod Worth
 pub mod Chosen
 pub mod Selected
 pub mod Kept
+pub mod Compared

@@ -1,6 +1,8 @@
 -- What merged, selected and stored rows are worth, in every environment.
 use Rattle.std.specs.Prelude.{ℕ, ◌≡◌, Bool, ◌==◌, if◌then◌else◌, List, [], map}
-use Rattle.ygg_value.specs.Values.{table_read, table_write}
+use Rattle.std.specs.Str.{bytes_eq}
+use Rattle.ygg_value.specs.Values.{rows_eq, table_read, table_write}
+use Rattle.ygg_value.specs.Words.{word, bit_of}
 use Rattle.ygg_bank.specs.Nodes.{InOrder}
 use Rattle.ygg_bank.specs.Values.{Inputs, InputsFit, value_of}
 use Rattle.ygg_bank.specs.declared.node.Id.{Id}
@@ -37,3 +39,14 @@ MergesTo old t (value.Table a) (value.Table b) new (value.Table c) =
     (inputs : Inputs) → InOrder [] new → InputsFit inputs new →
     map (numbers (value_of inputs new)) c ≡ (if is_one inputs old t then map (numbers (value_of inputs old)) a else map (numbers (value_of inputs old)) b)
 MergesTo old t a b new c = ⊥
+
+-- the term is worth 1 where the values are equal, and else 0
+abbrev pub EqualsTo : List Node → SymValue → SymValue → List Node → Id → Type 0
+EqualsTo old (value.Word a) (value.Word b) new c =
+    (inputs : Inputs) → InOrder [] new → InputsFit inputs new → value_of inputs new c.0 ≡ word 1 (bit_of ((value_of inputs old a.0).bits == (value_of inputs old b.0).bits))
+EqualsTo old (value.Row a) (value.Row b) new c =
+    (inputs : Inputs) → InOrder [] new → InputsFit inputs new → value_of inputs new c.0 ≡ word 1 (bit_of (bytes_eq (numbers (value_of inputs old) a) (numbers (value_of inputs old) b)))
+EqualsTo old (value.Table a) (value.Table b) new c =
+    (inputs : Inputs) → InOrder [] new → InputsFit inputs new →
+    value_of inputs new c.0 ≡ word 1 (bit_of (rows_eq (map (numbers (value_of inputs old)) a) (map (numbers (value_of inputs old)) b)))
+EqualsTo old a b new c = ⊥

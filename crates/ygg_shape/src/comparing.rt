@@ -5,6 +5,7 @@ ghost use Rattle.ygg_bank.specs.Making.{made};
 ghost use Rattle.ygg_bank.specs.Nodes.{Extends, HasWidth};
 ghost use Rattle.ygg_bank.specs.declared.node.Node.TheVariants as node;
 ghost use Rattle.ygg_value.specs.declared.operation.Op.TheVariants as op;
+ghost use Rattle.ygg_shape.specs.Meanings.{EqualsTo};
 ghost use Rattle.ygg_shape.specs.Shapes.{Alike, AlikeRows, AlikeTables, AlikeWords};
 ghost use Rattle.ygg_shape.specs.Terms.{equal_row, equal_rows, equal_values, equal_word};
 
@@ -17,6 +18,23 @@ use ygg_value::{Op, Word};
 /// The term of width 1 that is 1 where two values of one shape are equal. Its only error is want of memory, after which the bank
 /// may hold more nodes.
 pub fn equal<B: Book>(
+    bank: &mut Bank,
+    book: &B,
+    a: &SymValue,
+    b: &SymValue,
+) -> Result<Id, NoMemory>
+    requires { Alike bank.old a.now b.now }
+    ensures nodes { OnOk result (bank.new ≡ (equal_values (B.kinds book.now) a.now b.now bank.old).nodes) }
+    ensures id { IfOk result (λ id. id ≡ (equal_values (B.kinds book.now) a.now b.now bank.old).value) }
+    ensures width { IfOk result (λ id. HasWidth bank.new id 1) }
+    ensures value { IfOk result (EqualsTo bank.old a.now b.now bank.new) }
+    ensures grows { Extends bank.old bank.new }
+{
+    equal_by_form(bank, book, a, b)
+}
+
+/// What `equal` does.
+fn equal_by_form<B: Book>(
     bank: &mut Bank,
     book: &B,
     a: &SymValue,
