@@ -138,7 +138,7 @@ equal_means kinds old (value.Row a) (value.Row b) new c s e f = λ inputs o fit.
     let gn : Extends old new = subst (Extends old) (sym e) (extends_both old m.nodes t.nodes gm gt) in
     let fits : Fits inputs v t.nodes = subst (Fits inputs v) e (values_fit inputs new o fit) in
     let r = row_says inputs v kinds m.value s.width a b true m.nodes (wider_row old m.nodes s.width a gm s.one.wide) (wider_row old m.nodes s.width b gm s.two.wide) (s.one.count ∙ sym s.two.count)
-        (one_says inputs v kinds old (fits_fewer inputs v m.nodes t.nodes gt fits)) fits in
+    (one_says inputs v kinds old (fits_fewer inputs v m.nodes t.nodes gt fits)) fits in
     ap (λ (x : Id). v x.0) f ∙ r.is
     ∙ ap (λ x. word 1 (bit_of (bytes_eq x (numbers v b)))) (numbers_keep old new inputs s.width a gn s.one.wide)
     ∙ ap (λ x. word 1 (bit_of (bytes_eq (numbers (value_of inputs old) a) x))) (numbers_keep old new inputs s.width b gn s.two.wide)
@@ -152,7 +152,7 @@ equal_means kinds old (value.Table a) (value.Table b) new c s e f = λ inputs o 
     let fits : Fits inputs v t.nodes = subst (Fits inputs v) e (values_fit inputs new o fit) in
     ap (λ (x : Id). v x.0) f
     ∙ rows_say inputs v kinds m.value s.words s.width a b true m.nodes (wider_rows old m.nodes s.words s.width a gm s.one) (wider_rows old m.nodes s.words s.width b gm s.two) s.count
-        (one_says inputs v kinds old (fits_fewer inputs v m.nodes t.nodes gt fits)) fits
+    (one_says inputs v kinds old (fits_fewer inputs v m.nodes t.nodes gt fits)) fits
     ∙ ap (λ x. word 1 (bit_of (rows_eq x (map (numbers v) b)))) (rows_keep old new inputs s.words s.width a gn s.one)
     ∙ ap (λ x. word 1 (bit_of (rows_eq (map (numbers (value_of inputs old)) a) x))) (rows_keep old new inputs s.words s.width b gn s.two)
 equal_means kinds old a b new c s e f = absurd s

@@ -77,7 +77,7 @@ module _ (inputs : Inputs) (v : Values) (kinds : List RuleKind) (rows : List Ids
       let fm = fits_fewer inputs v m.nodes rest.nodes (numbered_grows (store_step kinds at w new) (step_grows kinds at w new) (i + 1) rs m.nodes) f in
       ap (λ z. z ∷ map (numbers v) rest.value) (step_gives w i r nodes h (omega arith) s a.0 fm)
       ∙ ap (λ z. (if (v at.0).bits == i then numbers v new else numbers v r) ∷ z)
-          (each_gives w rs (i + 1) m.nodes (wider nodes m.nodes at w g h) (omega arith) (wider_rows nodes m.nodes n u rs g a.1) (row_more nodes m.nodes n u new s g) f)
+      (each_gives w rs (i + 1) m.nodes (wider nodes m.nodes at w g h) (omega arith) (wider_rows nodes m.nodes n u rs g a.1) (row_more nodes m.nodes n u new s g) f)
 
   at_gives : (nodes : List Node) (w : ℕ) (o : Option Number) → known_in (slice_get nodes at.0) ≡ o → HasWidth nodes at w → AllRows nodes n u rows → IsSymRow nodes n u new →
       Fits inputs v (stored_at kinds rows at w new o nodes).nodes →
@@ -93,9 +93,9 @@ module _ (inputs : Inputs) (v : Values) (kinds : List RuleKind) (rows : List Ids
       let below : x < 2 ^ w = subst (λ k. x < 2 ^ k) (fn.widths at.0 w h) fits in
       map_both (numbers v) front.value (drop (2 ^ w) rows)
       ∙ ap (λ z. z ++ map (numbers v) (drop (2 ^ w) rows))
-          (each_gives w (nameable w rows) 0 nodes h (omega (arith, length-take (2 ^ w) rows)) (all_take nodes n u (2 ^ w) rows a) s f
-            ∙ replaced_is x 0 (map (numbers v) (nameable w rows)) (numbers v new) x (omega arith)
-            ∙ ap (λ z. slice_set z x (numbers v new)) (map_take (numbers v) (2 ^ w) rows))
+      (each_gives w (nameable w rows) 0 nodes h (omega (arith, length-take (2 ^ w) rows)) (all_take nodes n u (2 ^ w) rows a) s f
+      ∙ replaced_is x 0 (map (numbers v) (nameable w rows)) (numbers v new) x (omega arith)
+      ∙ ap (λ z. slice_set z x (numbers v new)) (map_take (numbers v) (2 ^ w) rows))
       ∙ ap (λ z. slice_set (take (2 ^ w) (map (numbers v) rows)) x (numbers v new) ++ z) (map_drop (numbers v) (2 ^ w) rows)
       ∙ set_take (2 ^ w) (map (numbers v) rows) x (numbers v new) below
 
@@ -111,10 +111,10 @@ store_means kinds old rows at row new after s e f inputs n u o fit all one =
     let gn : Extends old new = subst (Extends old) (sym e) g in
     let worth = at_gives inputs v kinds rows at n u row old w known refl (has_width old at s) all one fits in
     ap (λ z. let t : Grid = record { width = u; words = n; rows = z } in t)
-      (ap (map (numbers v)) f ∙ worth
-        ∙ ap (λ z. slice_set z (v at.0).bits (numbers v row)) (rows_keep old new inputs n u rows gn all)
-        ∙ ap (λ (z : Number). slice_set (map (numbers (value_of inputs old)) rows) z.bits (numbers v row)) (keeps_values old new gn inputs at.0 s)
-        ∙ ap (λ z. slice_set (map (numbers (value_of inputs old)) rows) (value_of inputs old at.0).bits z) (numbers_keep old new inputs u row gn one.wide))
+    (ap (map (numbers v)) f ∙ worth
+    ∙ ap (λ z. slice_set z (v at.0).bits (numbers v row)) (rows_keep old new inputs n u rows gn all)
+    ∙ ap (λ (z : Number). slice_set (map (numbers (value_of inputs old)) rows) z.bits (numbers v row)) (keeps_values old new gn inputs at.0 s)
+    ∙ ap (λ z. slice_set (map (numbers (value_of inputs old)) rows) (value_of inputs old at.0).bits z) (numbers_keep old new inputs u row gn one.wide))
 
 pub store_ok : {E : Type 0} (kinds : List RuleKind) (old : List Node) (rows : List Ids) (at : Id) (row : Ids) (new : List Node) (result : Result (List Ids) E) → Stands old at →
     OnOk result (new ≡ (stored kinds rows at row old).nodes) → IfOk result (λ after. after ≡ (stored kinds rows at row old).value) → IfOk result (StoresRow old rows at row new)
@@ -155,28 +155,28 @@ merge_means : (kinds : List RuleKind) (old : List Node) (t : Id) (a b : SymValue
     new ≡ (merged kinds t a b old).nodes → c ≡ (merged kinds t a b old).value → MergesTo old t a b new c
 merge_means kinds old t (value.Word a) (value.Word b) new c h s e f =
     subst (MergesTo old t (value.Word a) (value.Word b) new) (sym f) (λ inputs o fit.
-      let v = value_of inputs new in
-      let gn : Extends old new = subst (Extends old) (sym e) (word_grows kinds t a b old) in
-      let fits : Fits inputs v (merged_word kinds t a b old).nodes = subst (Fits inputs v) e (values_fit inputs new o fit) in
-      word_gives inputs v kinds t a b old (can_pick old t a b h s) fits
-      ∙ chosen_same (v t.0) (value_of inputs old t.0) (v a.0) (v b.0) (value_of inputs old a.0) (value_of inputs old b.0) (keeps_values old new gn inputs t.0 (stands old t 1 h))
-          (keeps_values old new gn inputs a.0 (stands old a s.width s.one)) (keeps_values old new gn inputs b.0 (stands old b s.width s.two)))
+    let v = value_of inputs new in
+    let gn : Extends old new = subst (Extends old) (sym e) (word_grows kinds t a b old) in
+    let fits : Fits inputs v (merged_word kinds t a b old).nodes = subst (Fits inputs v) e (values_fit inputs new o fit) in
+    word_gives inputs v kinds t a b old (can_pick old t a b h s) fits
+    ∙ chosen_same (v t.0) (value_of inputs old t.0) (v a.0) (v b.0) (value_of inputs old a.0) (value_of inputs old b.0) (keeps_values old new gn inputs t.0 (stands old t 1 h))
+    (keeps_values old new gn inputs a.0 (stands old a s.width s.one)) (keeps_values old new gn inputs b.0 (stands old b s.width s.two)))
 merge_means kinds old t (value.Row a) (value.Row b) new c h s e f =
     subst (MergesTo old t (value.Row a) (value.Row b) new) (sym f) (λ inputs o fit.
-      let v = value_of inputs new in
-      let gn : Extends old new = subst (Extends old) (sym e) (row_grows kinds t a b old) in
-      let fits : Fits inputs v (merged_row kinds t a b old).nodes = subst (Fits inputs v) e (values_fit inputs new o fit) in
-      row_gives inputs v kinds t s.width a b old h s.one.wide s.two.wide (s.one.count ∙ sym s.two.count) fits
-      ∙ chosen_same (v t.0) (value_of inputs old t.0) (numbers v a) (numbers v b) (numbers (value_of inputs old) a) (numbers (value_of inputs old) b) (keeps_values old new gn inputs t.0 (stands old t 1 h))
-          (numbers_keep old new inputs s.width a gn s.one.wide) (numbers_keep old new inputs s.width b gn s.two.wide))
+    let v = value_of inputs new in
+    let gn : Extends old new = subst (Extends old) (sym e) (row_grows kinds t a b old) in
+    let fits : Fits inputs v (merged_row kinds t a b old).nodes = subst (Fits inputs v) e (values_fit inputs new o fit) in
+    row_gives inputs v kinds t s.width a b old h s.one.wide s.two.wide (s.one.count ∙ sym s.two.count) fits
+    ∙ chosen_same (v t.0) (value_of inputs old t.0) (numbers v a) (numbers v b) (numbers (value_of inputs old) a) (numbers (value_of inputs old) b) (keeps_values old new gn inputs t.0 (stands old t 1 h))
+    (numbers_keep old new inputs s.width a gn s.one.wide) (numbers_keep old new inputs s.width b gn s.two.wide))
 merge_means kinds old t (value.Table a) (value.Table b) new c h s e f =
     subst (MergesTo old t (value.Table a) (value.Table b) new) (sym f) (λ inputs o fit.
-      let v = value_of inputs new in
-      let gn : Extends old new = subst (Extends old) (sym e) (rows_grow kinds t a b old) in
-      let fits : Fits inputs v (merged_rows kinds t a b old).nodes = subst (Fits inputs v) e (values_fit inputs new o fit) in
-      rows_give inputs v kinds t s.words s.width a b old h s.one s.two s.count fits
-      ∙ chosen_same (v t.0) (value_of inputs old t.0) (map (numbers v) a) (map (numbers v) b) (map (numbers (value_of inputs old)) a) (map (numbers (value_of inputs old)) b)
-          (keeps_values old new gn inputs t.0 (stands old t 1 h)) (rows_keep old new inputs s.words s.width a gn s.one) (rows_keep old new inputs s.words s.width b gn s.two))
+    let v = value_of inputs new in
+    let gn : Extends old new = subst (Extends old) (sym e) (rows_grow kinds t a b old) in
+    let fits : Fits inputs v (merged_rows kinds t a b old).nodes = subst (Fits inputs v) e (values_fit inputs new o fit) in
+    rows_give inputs v kinds t s.words s.width a b old h s.one s.two s.count fits
+    ∙ chosen_same (v t.0) (value_of inputs old t.0) (map (numbers v) a) (map (numbers v) b) (map (numbers (value_of inputs old)) a) (map (numbers (value_of inputs old)) b)
+    (keeps_values old new gn inputs t.0 (stands old t 1 h)) (rows_keep old new inputs s.words s.width a gn s.one) (rows_keep old new inputs s.words s.width b gn s.two))
 merge_means kinds old t a b new c h s e f = absurd s
 
 pub merge_ok : {E : Type 0} (kinds : List RuleKind) (old : List Node) (t : Id) (a b : SymValue) (new : List Node) (result : Result SymValue E) → HasWidth old t 1 → Alike old a b →

@@ -76,7 +76,7 @@ at_grows kinds rows at w u n (Some k) nodes = known_grows kinds u n (slice_get r
 at_grows kinds rows at w u n None nodes =
     let z = zeros kinds u n nodes in
     extends_both nodes z.nodes (fold_numbered (select_step kinds at w) z.value 0 (nameable w rows) z.nodes).nodes (zeros_grows kinds u n nodes)
-      (fold_grows (select_step kinds at w) (select_grows kinds at w) z.value 0 (nameable w rows) z.nodes)
+    (fold_grows (select_step kinds at w) (select_grows kinds at w) z.value 0 (nameable w rows) z.nodes)
 
 pub all_take : (nodes : List Node) (n u k : ℕ) (rows : List Ids) → AllRows nodes n u rows → AllRows nodes n u (take k rows)
 all_take nodes n u zero rows h = tt
@@ -160,7 +160,7 @@ select_means kinds old rows at new row s h e f inputs n u o fit all =
     let some : 1 ≤ length first = let k = h.is.words in omega (arith, sure.count) in
     let width = first_width old first u some shape.wide in
     let same : selected_at kinds rows at w u n known old ≡ selected kinds rows at old =
-        ap (λ x. selected_at kinds rows at w x n known old) (sym width.0) ∙ ap (λ x. selected_at kinds rows at w (row_width old first) x known old) (sym shape.count) in
+    ap (λ x. selected_at kinds rows at w x n known old) (sym width.0) ∙ ap (λ x. selected_at kinds rows at w (row_width old first) x known old) (sym shape.count) in
     let m = selected_at kinds rows at w u n known old in
     let g : Extends old m.nodes = at_grows kinds rows at w u n known old in
     let e' : new ≡ m.nodes = e ∙ ap (λ (x : Out Ids). x.nodes) (sym same) in
@@ -171,9 +171,9 @@ select_means kinds old rows at new row s h e f inputs n u o fit all =
     let gn : Extends old new = subst (Extends old) (sym e') g in
     let worth = at_gives inputs v kinds old rows at n u w known refl (has_width old at s) (width.1 fo.ordered) all fits in
     ap (λ z. let d : Digits = record { width = u; words = z } in d)
-      (ap (numbers v) f' ∙ worth
-        ∙ ap (λ z. unwrap_or (slice_get z (v at.0).bits) (replicate n 0)) (rows_keep old new inputs n u rows gn all)
-        ∙ ap (λ (z : Number). unwrap_or (slice_get (map (numbers (value_of inputs old)) rows) z.bits) (replicate n 0)) (keeps_values old new gn inputs at.0 s))
+    (ap (numbers v) f' ∙ worth
+    ∙ ap (λ z. unwrap_or (slice_get z (v at.0).bits) (replicate n 0)) (rows_keep old new inputs n u rows gn all)
+    ∙ ap (λ (z : Number). unwrap_or (slice_get (map (numbers (value_of inputs old)) rows) z.bits) (replicate n 0)) (keeps_values old new gn inputs at.0 s))
   where
     rows_some : IsTable old rows → 1 ≤ length rows
     rows_some t = t.is.some

@@ -150,7 +150,7 @@ row_goes_on kinds t one two first place row next nodes more a b x e f g h l k n 
       count = let c = s.count in omega (arith, length-append row (x ∷ []));
       wide = λ w p q.
           wide_more more w row x (wider_row nodes more w row l (s.wide w p q))
-            (k w (wider first nodes a w s.each.grows (row_at first w one place a p e)) (wider first nodes b w s.each.grows (row_at first w two place b q f)));
+          (k w (wider first nodes a w s.each.grows (row_at first w one place a p e)) (wider first nodes b w s.each.grows (row_at first w two place b q f)));
     })
 
 pub row_shape : (kinds : List RuleKind) (t : Id) (one two : Ids) (first : List Node) (place : ℕ) (row : Ids) (nodes : List Node) → place ≡ length one →

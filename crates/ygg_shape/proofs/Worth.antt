@@ -70,9 +70,10 @@ merged_wide inputs v kinds t w (x ∷ xs) (y ∷ ys) nodes h p q f =
     let m = merged_word kinds t x y nodes in
     let g = word_grows kinds t x y nodes in
     let last = (merged_row kinds t xs ys m.nodes).nodes in
-    let o = fits_fewer inputs v nodes last (extends_both nodes m.nodes last g (row_grows kinds t xs ys m.nodes)) f in
-    (wider m.nodes last m.value w (row_grows kinds t xs ys m.nodes) (pick_width kinds t x y w nodes (x.0 == y.0) o.ordered h p.0 q.0),
-     merged_wide inputs v kinds t w xs ys m.nodes (wider nodes m.nodes t 1 g h) (wider_row nodes m.nodes w xs g p.1) (wider_row nodes m.nodes w ys g q.1) f)
+    let o = fits_fewer inputs v nodes last (extends_both nodes m.nodes last g (row_grows kinds t xs ys m.nodes)) f in (
+      wider m.nodes last m.value w (row_grows kinds t xs ys m.nodes) (pick_width kinds t x y w nodes (x.0 == y.0) o.ordered h p.0 q.0),
+      merged_wide inputs v kinds t w xs ys m.nodes (wider nodes m.nodes t 1 g h) (wider_row nodes m.nodes w xs g p.1) (wider_row nodes m.nodes w ys g q.1) f,
+    )
 
 pub merged_count : (kinds : List RuleKind) (t : Id) (xs ys : Ids) (nodes : List Node) → length xs ≡ length ys → length (merged_row kinds t xs ys nodes).value ≡ length xs
 merged_count kinds t [] ys nodes e = refl
@@ -124,7 +125,7 @@ module _ (inputs : Inputs) (v : Values) (kinds : List RuleKind) where
       let a = word_gives t x y nodes (can_pick nodes t x y h (record { width = w; one = p.0; two = q.0 })) (fits_fewer inputs v m.nodes rest.nodes (row_grows kinds t xs ys m.nodes) f) in
       let r = row_gives t w xs ys m.nodes (wider nodes m.nodes t 1 g h) (wider_row nodes m.nodes w xs g p.1) (wider_row nodes m.nodes w ys g q.1) (omega (arith, e)) f in
       ap (λ z. z ∷ numbers v rest.value) (ap (λ (n : Number). n.bits) a ∙ part_bits c (v x.0) (v y.0)) ∙ ap (λ z. (if c then (v x.0).bits else (v y.0).bits) ∷ z) r
-        ∙ row_if c (v x.0).bits (v y.0).bits (numbers v xs) (numbers v ys)
+      ∙ row_if c (v x.0).bits (v y.0).bits (numbers v xs) (numbers v ys)
 
   -- whether a place is a number
   pub record IsTest (at : Id) (i : ℕ) (nodes : List Node) (t : Id) : Type 0 where

@@ -17,12 +17,7 @@ use ygg_value::{Op, Word};
 
 /// The term of width 1 that is 1 where two values of one shape are equal. Its only error is want of memory, after which the bank
 /// may hold more nodes.
-pub fn equal<B: Book>(
-    bank: &mut Bank,
-    book: &B,
-    a: &SymValue,
-    b: &SymValue,
-) -> Result<Id, NoMemory>
+pub fn equal<B: Book>(bank: &mut Bank, book: &B, a: &SymValue, b: &SymValue) -> Result<Id, NoMemory>
     requires { Alike bank.old a.now b.now }
     ensures nodes { OnOk result (bank.new ≡ (equal_values (B.kinds book.now) a.now b.now bank.old).nodes) }
     ensures id { IfOk result (λ id. id ≡ (equal_values (B.kinds book.now) a.now b.now bank.old).value) }
@@ -72,13 +67,7 @@ pub(crate) fn equal_words<B: Book>(bank: &mut Bank, book: &B, a: Id, b: Id) -> R
 }
 
 /// Whether what was compared so far is equal, and two words are.
-fn equal_word<B: Book>(
-    bank: &mut Bank,
-    book: &B,
-    so_far: Id,
-    a: Id,
-    b: Id,
-) -> Result<Id, NoMemory>
+fn equal_word<B: Book>(bank: &mut Bank, book: &B, so_far: Id, a: Id, b: Id) -> Result<Id, NoMemory>
     requires so_far { HasWidth bank.old so_far 1 }
     requires alike { AlikeWords bank.old a b }
     ensures nodes { OnOk result (bank.new ≡ (equal_word (B.kinds book.now) so_far a b bank.old).nodes) }

@@ -62,7 +62,16 @@ fn select_row<B: Book>(
     let digits = bank.width(at);
     let mut row = zeros(alloc, bank, book, width, words)?;
     for place in 0..reach(digits, table.len()) {
-        row = select_step(alloc, bank, book, at, digits, &row, place as u64, table.at(place))?;
+        row = select_step(
+            alloc,
+            bank,
+            book,
+            at,
+            digits,
+            &row,
+            place as u64,
+            table.at(place),
+        )?;
     }
     Ok(row)
 }

@@ -77,7 +77,16 @@ fn store_front<B: Book>(
 {
     let mut front = Sequence::new(alloc);
     for place in 0..reach(digits, table.len()) {
-        let next = store_step(alloc, bank, book, at, digits, row, place as u64, table.at(place))?;
+        let next = store_step(
+            alloc,
+            bank,
+            book,
+            at,
+            digits,
+            row,
+            place as u64,
+            table.at(place),
+        )?;
         front.push(next)?;
     }
     Ok(front)

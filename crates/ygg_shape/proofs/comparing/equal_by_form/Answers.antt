@@ -8,4 +8,4 @@ equal_row-requires-clause-alike g c =
 pub equal_table-requires-clause-alike : goal.equal_table-requires-clause-alike
 equal_table-requires-clause-alike g c =
     alike_tables_later c.args.bank.now c.make-in-Table-Table.new.self c.args.a.now c.args.b.now c.in-Table-Table.a c.in-Table-Table.b c.requires c.in-Table-Table.is-0 c.in-Table-Table.is-1
-      c.make-in-Table-Table.ensures.grows
+    c.make-in-Table-Table.ensures.grows

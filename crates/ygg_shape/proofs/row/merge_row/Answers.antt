@@ -10,13 +10,13 @@ merge_word-requires-clause-test g c = wider c.args.bank.now c.loop-place.bank c.
 pub merge_word-requires-clause-alike : goal.merge_word-requires-clause-alike
 merge_word-requires-clause-alike g c =
     alike_at c.args.bank.now c.loop-place.bank c.args.yes.now c.args.no.now c.loop-place.place c.at.result.now c.at-in-loop-place.result.now c.requires.alike c.loop-place.invariant.each.grows
-      c.at.ensures c.at-in-loop-place.ensures
+    c.at.ensures c.at-in-loop-place.ensures
 
 pub loop-place-preserved : goal.loop-place-preserved
 loop-place-preserved g c =
     row_goes_on (g.B.Book.kinds c.args.book.now) c.args.test c.args.yes.now c.args.no.now c.args.bank.now c.loop-place.place c.loop-place.row c.push.new.self c.loop-place.bank c.merge_word.new.bank
-      c.at.result.now c.at-in-loop-place.result.now c.in_ok-id.id c.at.ensures c.at-in-loop-place.ensures c.in_ok-id.ensures.nodes c.in_ok-id.ensures.id c.in_ok-id.ensures.grows c.in_ok-id.ensures.width
-      c.in_ok-push.ensures.ok c.loop-place.invariant
+    c.at.result.now c.at-in-loop-place.result.now c.in_ok-id.id c.at.ensures c.at-in-loop-place.ensures c.in_ok-id.ensures.nodes c.in_ok-id.ensures.id c.in_ok-id.ensures.grows c.in_ok-id.ensures.width
+    c.in_ok-push.ensures.ok c.loop-place.invariant
 
 pub returns-clause-shape : goal.returns-clause-shape
 returns-clause-shape g c =

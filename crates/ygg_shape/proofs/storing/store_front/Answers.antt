@@ -16,5 +16,5 @@ pub loop-place-preserved : goal.loop-place-preserved
 loop-place-preserved g c =
     let below : c.loop-place.place < 2 ^ c.args.digits = omega arith in
     each_numbered_goes_on (store_step (g.B.Book.kinds c.args.book.now) c.args.at c.args.digits c.args.row.now) (nameable c.args.digits c.args.table.now) c.args.bank.now c.loop-place.place c.loop-place.front
-      c.push.new.self c.loop-place.bank c.store_step.new.bank c.at.result.now c.in_ok-next.next (take_at (2 ^ c.args.digits) c.args.table.now c.loop-place.place c.at.result.now below c.at.ensures)
-      c.in_ok-next.ensures.nodes c.in_ok-next.ensures.row c.in_ok-next.ensures.grows c.in_ok-push.ensures.ok c.loop-place.invariant
+    c.push.new.self c.loop-place.bank c.store_step.new.bank c.at.result.now c.in_ok-next.next (take_at (2 ^ c.args.digits) c.args.table.now c.loop-place.place c.at.result.now below c.at.ensures)
+    c.in_ok-next.ensures.nodes c.in_ok-next.ensures.row c.in_ok-next.ensures.grows c.in_ok-push.ensures.ok c.loop-place.invariant
