@@ -1,0 +1,10 @@
+pub mod Places
+pub mod Widths
+pub mod Fitting
+pub mod Same
+pub mod Made
+pub mod Meaning
+pub mod Exist
+pub mod Makes
+pub mod Stored
+pub mod Reading

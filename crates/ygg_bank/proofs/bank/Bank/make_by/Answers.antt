@@ -1,0 +1,9 @@
+use Rattle.std.proofs.Common.{sym, ◌∙◌}
+use Rattle.ygg_bank.proofs.Stored.{can_answer, in_order}
+use Rattle.ygg_bank.proofs.bank.Bank.make_by.Goals as goal
+
+pub add-requires-in-Node : goal.add-requires-in-Node
+add-requires-in-Node g c =
+    can_answer (g.B.Book.kinds c.args.book.now) c.args.self.now c.args.node _ c.in-Node.op c.in-Node.first c.in-Node.second _ _
+    (in_order c.args.self.now _ c.self.view_is c.self.invariant.0) c.requires (sym c.view.ensures ∙ c.in-Some.is) (sym c.view-2.ensures ∙ c.in-Node.is)
+    c.id_of-a.ensures c.id_of-b.ensures

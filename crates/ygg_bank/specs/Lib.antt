@@ -1,0 +1,4 @@
+pub mod Nodes
+pub mod Makes
+pub mod Making
+pub mod Values

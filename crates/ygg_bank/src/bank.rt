@@ -1,0 +1,262 @@
+//! The bank.
+
+ghost use Rattle.std.specs.Prelude.{◌≡◌, ◌<◌, length, slice_get, take, Some, IfOk, OnOk, OnErr, []};
+ghost use Rattle.ygg_rules.specs.Views.{IsOperand, IsWidth, operand};
+ghost use Rattle.ygg_bank.specs.Making.{made, added, operand_of, view_of, id_of};
+ghost use Rattle.ygg_bank.specs.Nodes.{CanMake, Extends, HasWidth, InOrder, IsBank, Stands, node_width, width_at, widths_of};
+ghost use Rattle.ygg_bank.specs.Values.{AnswersFor, AreValues, EnvFits, KeepsValues, inputs_of, value_of};
+
+use crate::env::{Env, given_for};
+use crate::node::{Id, Node};
+use indexmap::IndexSet;
+use std::alloc::Global;
+use std::marker::Model;
+use ygg_list::NoMemory;
+use ygg_rules::{Book, Operand, Rewrite, View, width_of};
+use ygg_value::{Word, apply, not, resize};
+
+/// Terms, each once: a node's place is its number, and its children stand before it. Contracts see the list of nodes.
+#[derive(Drop)]
+pub struct Bank {
+    nodes: IndexSet<Node>,
+    // the width of each node
+    widths: Vec<u8>,
+}
+
+impl Model for Bank {
+    ghost use Rattle.std.specs.Prelude.{List, ◌≡◌};
+    ghost use Rattle.ygg_bank.specs.Nodes.{IsBank, widths_of};
+    ghost use Rattle.ygg_bank.specs.declared.node.Node.{Node};
+
+    ghost Value = { List Node };
+
+    ghost view = { λ bank. bank.nodes.keys };
+
+    ghost invariant = { λ bank. IsBank bank.nodes.keys × (bank.widths.items ≡ widths_of bank.nodes.keys) };
+}
+
+impl Bank {
+    /// The bank without nodes. Its only error is want of memory.
+    pub fn new(alloc: Global) -> Result<Bank, NoMemory>
+        ensures { IfOk result (λ bank. bank ≡ []) }
+    {
+        Ok(Bank {
+            nodes: IndexSet::new(alloc),
+            widths: Vec::new(alloc),
+        })
+    }
+
+    /// How many nodes there are. It takes no memory.
+    pub fn len(&self) -> usize
+        ensures count { result ≡ length self.now }
+        ensures bank { IsBank self.now }
+    {
+        self.nodes.len()
+    }
+
+    /// The node at a place. It takes no memory.
+    pub fn node(&self, id: Id) -> Node
+        requires { Stands self.now id }
+        ensures there { slice_get self.now id.0 ≡ Some result }
+        ensures width { HasWidth self.now id (node_width (widths_of self.now) result) }
+    {
+        *self.nodes.get_index(id.0).unwrap()
+    }
+
+    /// How many binary digits the node at a place has. It takes no memory.
+    pub fn width(&self, id: Id) -> u8
+        requires { Stands self.now id }
+        ensures value { result ≡ width_at (widths_of self.now) id }
+        ensures width { HasWidth self.now id result }
+        ensures fits { IsWidth result }
+    {
+        self.widths.as_slice()[id.0]
+    }
+
+    /// What a rule sees of a node.
+    fn operand(&self, id: Id) -> Operand
+        requires { Stands self.now id }
+        ensures value { result ≡ operand_of self.now id }
+        ensures fits { IsOperand result }
+    {
+        match self.node(id) {
+            Node::Const(word) => Operand::known(id.0, word),
+            _ => Operand::unknown(id.0, self.width(id)),
+        }
+    }
+
+    /// The value of a node: the operations applied to what the environment gives, in one pass over the nodes before it. Its only
+    /// error is want of memory.
+    pub fn value(&self, alloc: Global, id: Id, env: &Env) -> Result<Word, NoMemory>
+        requires stands { Stands self.now id }
+        requires env { EnvFits env.now self.now }
+        ensures { IfOk result (λ word. word ≡ value_of (inputs_of env.now) self.now id.0) }
+    {
+        let mut values = Vec::new(alloc);
+        for place in 0..id.0 {
+            let value = self.value_at(place, values.as_slice(), env);
+            if values.push(value).is_err() {
+                return Err(NoMemory);
+            }
+        }
+        Ok(self.value_at(id.0, values.as_slice(), env))
+    }
+
+    /// The value of the node at a place, where those of the nodes before it are known.
+    fn value_at(&self, place: usize, values: &[Word], env: &Env) -> Word
+        requires stands { place < length self.now }
+        requires before { AreValues (inputs_of env.now) self.now place values.now }
+        requires env { EnvFits env.now self.now }
+        ensures { result ≡ value_of (inputs_of env.now) self.now place }
+    {
+        match self.stored(place) {
+            Node::Input { number, width } => match given_for(env, number) {
+                Some(word) => word,
+                None => Word { width, bits: 0 },
+            },
+            Node::Const(word) => word,
+            Node::Bin { op, a, b } => apply(op, values[a.0], values[b.0]),
+            Node::Not { a } => not(values[a.0]),
+            Node::Resize { a, width } => resize(values[a.0], width),
+            Node::Pick { test, yes, no } => {
+                let chosen = values[test.0];
+                if chosen.bits == 1 {
+                    values[yes.0]
+                } else {
+                    values[no.0]
+                }
+            }
+        }
+    }
+
+    /// The node at a place, whose children stand before it.
+    fn stored(&self, place: usize) -> Node
+        requires { place < length self.now }
+        ensures there { slice_get self.now place ≡ Some result }
+        ensures ordered { InOrder [] self.now }
+        ensures can { CanMake (take place self.now) result }
+    {
+        *self.nodes.get_index(place).unwrap()
+    }
+
+    /// What the book is asked of a node that can be made.
+    fn view(&self, node: &Node) -> Option<View>
+        requires { CanMake self.now node.now }
+        ensures { result ≡ view_of self.now node.now }
+    {
+        match *node {
+            Node::Input { .. } | Node::Const(_) => None,
+            Node::Bin { op, a, b } => Some(View::bin(op, self.operand(a), self.operand(b))),
+            Node::Not { a } => Some(View::not(self.operand(a))),
+            Node::Resize { a, width } => Some(View::resize(self.operand(a), width)),
+            Node::Pick { test, yes, no } => Some(View::pick(
+                self.operand(test),
+                self.operand(yes),
+                self.operand(no),
+            )),
+        }
+    }
+
+    /// The width of a node that can be made.
+    fn width_for(&self, node: &Node) -> u8
+        requires { CanMake self.now node.now }
+        ensures { result ≡ node_width (widths_of self.now) node.now }
+    {
+        match *node {
+            Node::Input { width, .. } | Node::Resize { width, .. } => width,
+            Node::Const(word) => word.width,
+            Node::Bin { op, a, .. } => width_of(op, self.width(a)),
+            Node::Not { a } => self.width(a),
+            Node::Pick { yes, .. } => self.width(yes),
+        }
+    }
+
+    /// The place of a node, which is added where it isn't there. After want of memory the bank is as before.
+    fn add(&mut self, node: Node) -> Result<Id, NoMemory>
+        requires { CanMake self.old node }
+        ensures nodes { OnOk result (self.new ≡ (added node self.old).nodes) }
+        ensures id { IfOk result (λ id. id ≡ (added node self.old).value) }
+        ensures err { OnErr result (self.new ≡ self.old) }
+    {
+        let width = self.width_for(&node);
+        if self.widths.push(width).is_err() {
+            return Err(NoMemory);
+        }
+        match self.nodes.insert_full(node) {
+            Ok((place, is_new)) => {
+                if !is_new {
+                    self.widths.pop();
+                }
+                Ok(Id(place))
+            }
+            Err(_) => {
+                self.widths.pop();
+                Err(NoMemory)
+            }
+        }
+    }
+
+    /// The node of this value, in every environment: what the book names in its stead, or the node itself, where it stands or is added.
+    /// The book is asked once, and of inputs and constants it is asked nothing. After want of memory, which is the only error, the
+    /// bank is as before.
+    pub fn make<B: Book>(&mut self, node: Node, book: &B) -> Result<Id, NoMemory>
+        requires { CanMake self.old node }
+        ensures nodes { OnOk result (self.new ≡ (made (B.kinds book.now) node self.old).nodes) }
+        ensures id { IfOk result (λ id. id ≡ (made (B.kinds book.now) node self.old).value) }
+        ensures width { IfOk result (λ id. HasWidth self.new id (node_width (widths_of self.old) node)) }
+        ensures value { IfOk result (AnswersFor self.old node self.new) }
+        ensures grows { Extends self.old self.new }
+        ensures keeps { KeepsValues self.old self.new }
+        ensures bank { IsBank self.new }
+        ensures err { OnErr result (self.new ≡ self.old) }
+    {
+        self.make_by(node, book)
+    }
+
+    /// What `make` does.
+    fn make_by<B: Book>(&mut self, node: Node, book: &B) -> Result<Id, NoMemory>
+        requires { CanMake self.old node }
+        ensures nodes { OnOk result (self.new ≡ (made (B.kinds book.now) node self.old).nodes) }
+        ensures id { IfOk result (λ id. id ≡ (made (B.kinds book.now) node self.old).value) }
+        ensures err { OnErr result (self.new ≡ self.old) }
+        ensures before { IsBank self.old }
+    {
+        // the bank's invariant says that what the book answers can be made
+        let _ = &self.nodes;
+        let Some(view) = self.view(&node) else {
+            return self.add(node);
+        };
+        match book.view(&view) {
+            Rewrite::Keep => self.add(node),
+            Rewrite::Operand(number) => Ok(id_of(&view, number)),
+            Rewrite::Constant(word) => self.add(Node::Const(word)),
+            Rewrite::Node(op, first, second) => {
+                let a = id_of(&view, first);
+                let b = id_of(&view, second);
+                self.add(Node::Bin { op, a, b })
+            }
+        }
+    }
+}
+
+/// The place of an operand that a rule names.
+fn id_of(view: &View, number: u8) -> Id
+    ensures { result ≡ id_of (operand view.now number) }
+{
+    match number {
+        0 => Id(view.one.id),
+        1 => place_of(&view.two),
+        2 => place_of(&view.three),
+        _ => Id(0),
+    }
+}
+
+/// The place of an operand; the first place where there is none.
+fn place_of(operand: &Option<Operand>) -> Id
+    ensures { result ≡ id_of operand.now }
+{
+    match operand {
+        Some(operand) => Id(operand.id),
+        None => Id(0),
+    }
+}

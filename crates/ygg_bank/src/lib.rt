@@ -1,0 +1,13 @@
+//! One bank of shared terms over words.
+#![tactic(auto)]
+
+pub mod bank;
+pub mod env;
+pub mod node;
+#[cfg(test)]
+mod tests;
+
+pub use bank::Bank;
+pub use env::{Env, Given, Words, given_for};
+pub use node::{Id, Node};
+pub use ygg_list::NoMemory;
