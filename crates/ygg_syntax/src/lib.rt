@@ -1,5 +1,8 @@
 //! The trees of layer files.
 #![tactic(auto)]
 
+mod budget;
+pub mod choices;
 pub mod flag;
 pub mod tree;
+pub mod weight;
