@@ -3,6 +3,7 @@
 
 mod budget;
 pub mod choices;
+pub mod copy;
 pub mod flag;
 pub mod tree;
 pub mod weight;
