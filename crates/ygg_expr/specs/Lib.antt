@@ -1,0 +1,4 @@
+pub mod Expressions
+pub mod Pending
+pub mod Reading
+pub mod Steps

@@ -1,0 +1,5 @@
+//! Reads expressions.
+#![tactic(auto)]
+
+mod expression;
+mod reader;
