@@ -8,9 +8,9 @@ use Rattle.ygg_base.specs.declared.token.Token.{Token}
 use Rattle.ygg_syntax.specs.declared.tree.Place.{Place}
 use Rattle.ygg_syntax.specs.declared.tree.Quantifier.{Quantifier}
 use Rattle.ygg_syntax.specs.declared.tree.Quantifier.TheVariants as quantifier
-use Rattle.ygg_expr.specs.Expressions.{quantifier_word}
-use Rattle.ygg_expr.specs.Reading.{token}
-use Rattle.ygg_expr.specs.Pending.{Pending, exactly, name, number, operator, expression, indices, arguments, rest_of_arguments, more_expressions, sign_of, quantified, step, outcome}
+use Rattle.ygg_syntax.specs.Expressions.{quantifier_word}
+use Rattle.ygg_syntax.specs.Reading.{token}
+use Rattle.ygg_syntax.specs.Pending.{Pending, exactly, name, number, operator, expression, indices, arguments, rest_of_arguments, more_expressions, sign_of, quantified, step, outcome}
 
 pub begins_constant : (n : ℕ) (at : Place) (rest : List Token) (qs : List Pending) → outcome (expression ∷ qs) (token (mark.Num n) at ∷ rest) ≡ outcome (sign_of sign.Colon ∷ number ∷ indices ∷ qs) rest
 unfolding outcome

@@ -6,9 +6,9 @@ use Rattle.ygg_base.specs.declared.token.Token.{Token}
 use Rattle.ygg_syntax.specs.declared.tree.Place.{Place}
 use Rattle.ygg_syntax.specs.declared.tree.Expr.{Expr}
 use Rattle.ygg_syntax.specs.declared.tree.Expr.TheVariants as tree
-use Rattle.ygg_expr.specs.Reading.{Reading, token, takes, in_turn}
-use Rattle.ygg_expr.specs.Expressions.{Phrase, phrase, expr, symbol, any, some, more}
-use Rattle.ygg_expr.specs.Pending.{Pending, expression, indices, more_expressions, outcome}
+use Rattle.ygg_syntax.specs.Reading.{Reading, token, takes, in_turn}
+use Rattle.ygg_syntax.specs.Expressions.{Phrase, phrase, expr, symbol, any, some, more}
+use Rattle.ygg_syntax.specs.Pending.{Pending, expression, indices, more_expressions, outcome}
 use Rattle.ygg_expr.specs.Steps.{Reads, Goes, GoesAsAtom}
 use Rattle.ygg_expr.proofs.Phrases.{joined, reads_token, reads_at, parts_at}
 use Rattle.ygg_expr.proofs.Begins.{begins_index, begins_more}

@@ -8,8 +8,8 @@ use Rattle.ygg_base.specs.declared.token.Mark.{Mark}
 use Rattle.ygg_base.specs.declared.token.Mark.TheVariants as mark
 use Rattle.ygg_base.specs.declared.token.Token.{Token}
 use Rattle.ygg_syntax.specs.declared.tree.Place.{Place}
-use Rattle.ygg_expr.specs.Reading.{token, starts, same_mark}
-use Rattle.ygg_expr.specs.Pending.{Pending, exactly, name, number, operator, expression, indices, arguments, rest_of_arguments, more_expressions, sign_of, may_end, after, after_expression, after_arguments, then_come, after_operator, operation_of, After, leaves, drops, refuses, step, End, reads, stops, outcome}
+use Rattle.ygg_syntax.specs.Reading.{token, starts, same_mark}
+use Rattle.ygg_syntax.specs.Pending.{Pending, exactly, name, number, operator, expression, indices, arguments, rest_of_arguments, more_expressions, sign_of, Part, index, argument_list, next_expression, perhaps, repeated, beginning, after, after_expression, after_arguments, then_come, after_operator, operation_of, After, leaves, drops, refuses, step, End, reads, stops, outcome}
 use Rattle.ygg_expr.specs.Steps.{Stops}
 use Rattle.ygg_expr.proofs.Phrases.{same}
 
@@ -117,41 +117,32 @@ stopped_expression (t ∷ ts) tilde round low pick resize fill row all any no_nu
     other (mark.Keyword word.Any) e = absurd (let h = sym (ap (same_mark (mark.Keyword word.Any)) e) ∙ any in cc)
     other (mark.Keyword k) e = refl
 
--- a symbol that may be left out is, where another token comes
-dropped : (p : Pending) (wanted : Symbol) (from : List Token) → ((m : Mark) → same_mark (mark.Symbol wanted) m ≡ false → after p m ≡ drops) → may_end p ≡ true → starts (mark.Symbol wanted) from ≡ false → (qs : List Pending) → outcome (p ∷ qs) from ≡ outcome qs from
+no_part : (p : Part) (m : Mark) → same_mark (beginning p) m ≡ false → after (perhaps p) m ≡ drops
+no_part p m h = rw (after, h) refl
+
+no_more : (p : Part) (m : Mark) → same_mark (beginning p) m ≡ false → after (repeated p) m ≡ drops
+no_more p m h = rw (after, h) refl
+
+-- a part that may be left out is, where another token comes
+pub left_out : (p : Part) (from : List Token) → starts (beginning p) from ≡ false → (qs : List Pending) → outcome (perhaps p ∷ qs) from ≡ outcome qs from
 unfolding outcome
-dropped p wanted [] others ends h qs = rw ends refl
-dropped p wanted (t ∷ ts) others ends h qs = next p qs t ts drops (others t.mark h)
+left_out p [] h qs = refl
+left_out p (t ∷ ts) h qs = next (perhaps p) qs t ts drops (no_part p t.mark h)
 
-no_index : (m : Mark) → same_mark (mark.Symbol sign.SquareOpen) m ≡ false → after indices m ≡ drops
-no_index (mark.Symbol sign.SquareOpen) h = absurd (cc)
-no_index (mark.Symbol s) h = refl
-no_index (mark.Keyword k) h = refl
-no_index (mark.Name text) h = refl
-no_index (mark.Num n) h = refl
-
-no_argument : (m : Mark) → same_mark (mark.Symbol sign.RoundOpen) m ≡ false → after arguments m ≡ drops
-no_argument (mark.Symbol sign.RoundOpen) h = absurd (cc)
-no_argument (mark.Symbol s) h = refl
-no_argument (mark.Keyword k) h = refl
-no_argument (mark.Name text) h = refl
-no_argument (mark.Num n) h = refl
-
-no_more : (m : Mark) → same_mark (mark.Symbol sign.Comma) m ≡ false → after more_expressions m ≡ drops
-no_more (mark.Symbol sign.Comma) h = absurd (cc)
-no_more (mark.Symbol s) h = refl
-no_more (mark.Keyword k) h = refl
-no_more (mark.Name text) h = refl
-no_more (mark.Num n) h = refl
+-- a repeated part ends, where another token comes
+pub ended : (p : Part) (from : List Token) → starts (beginning p) from ≡ false → (qs : List Pending) → outcome (repeated p ∷ qs) from ≡ outcome qs from
+unfolding outcome
+ended p [] h qs = refl
+ended p (t ∷ ts) h qs = next (repeated p) qs t ts drops (no_more p t.mark h)
 
 pub dropped_indices : (from : List Token) → starts (mark.Symbol sign.SquareOpen) from ≡ false → (qs : List Pending) → outcome (indices ∷ qs) from ≡ outcome qs from
-dropped_indices from h = dropped indices sign.SquareOpen from no_index refl h
+dropped_indices from h = ended index from h
 
 pub dropped_arguments : (from : List Token) → starts (mark.Symbol sign.RoundOpen) from ≡ false → (qs : List Pending) → outcome (arguments ∷ qs) from ≡ outcome qs from
-dropped_arguments from h = dropped arguments sign.RoundOpen from no_argument refl h
+dropped_arguments from h = left_out argument_list from h
 
 pub dropped_more : (from : List Token) → starts (mark.Symbol sign.Comma) from ≡ false → (qs : List Pending) → outcome (more_expressions ∷ qs) from ≡ outcome qs from
-dropped_more from h = dropped more_expressions sign.Comma from no_more refl h
+dropped_more from h = ended next_expression from h
 
 -- an expression can't be left out
 stays : (m : Mark) → after_expression m ≡ drops → ⊥

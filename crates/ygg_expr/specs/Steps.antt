@@ -2,8 +2,8 @@
 use Rattle.std.specs.Prelude.{◌≡◌, ℕ, List, [], ◌∷◌, ◌++◌, length, Option, Result, IfOk, IfSome, IfNone, OnSome}
 use Rattle.ygg_base.specs.declared.token.Token.{Token}
 use Rattle.ygg_list.specs.declared.memory.NoMemory.{NoMemory}
-use Rattle.ygg_expr.specs.Reading.{Reading, in_turn}
-use Rattle.ygg_expr.specs.Pending.{Pending, expression, indices, outcome, stops}
+use Rattle.ygg_syntax.specs.Reading.{Reading, in_turn}
+use Rattle.ygg_syntax.specs.Pending.{Pending, expression, indices, outcome, stops}
 
 -- the readings take the tokens between, whatever is read then
 abbrev pub Reads : List Reading → List Token → List Token → Type 0

@@ -2,9 +2,9 @@ ghost use Rattle.std.specs.Prelude.{◌≡◌, ◌<◌, ◌≤◌, ℕ, List, []
 ghost use Rattle.ygg_base.specs.declared.token.Keyword.TheVariants as word;
 ghost use Rattle.ygg_base.specs.declared.token.Symbol.TheVariants as sign;
 ghost use Rattle.ygg_base.specs.declared.token.Mark.TheVariants as mark;
-ghost use Rattle.ygg_expr.specs.Expressions.{phrase, expr, symbol, keyword, named, numbered, any, some, operator_sign, quantifier_word};
-ghost use Rattle.ygg_expr.specs.Reading.{token, takes, starts};
-ghost use Rattle.ygg_expr.specs.Pending.{exactly, name, number, operator, expression, more_expressions, rest_of_arguments, sign_of};
+ghost use Rattle.ygg_syntax.specs.Expressions.{phrase, expr, symbol, keyword, named, numbered, any, some, operator_sign, quantifier_word};
+ghost use Rattle.ygg_syntax.specs.Reading.{token, takes, starts};
+ghost use Rattle.ygg_syntax.specs.Pending.{exactly, name, number, operator, expression, more_expressions, rest_of_arguments, sign_of};
 ghost use Rattle.ygg_expr.specs.Steps.{Reads, Goes, GoesAsAtom, Stops, IfRead, OnRead, IfRefused};
 
 use crate::reader::Reader;

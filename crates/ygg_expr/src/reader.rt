@@ -2,9 +2,9 @@ ghost use Rattle.std.specs.Prelude.{◌≡◌, ◌<◌, ◌≤◌, ℕ, List, []
 ghost use Rattle.ygg_base.specs.declared.token.Mark.TheVariants as mark;
 ghost use Rattle.ygg_base.specs.declared.token.Token.{Token};
 ghost use Rattle.ygg_syntax.specs.declared.tree.Place.{Place};
-ghost use Rattle.ygg_expr.specs.Expressions.{operator_sign, named, numbered};
-ghost use Rattle.ygg_expr.specs.Reading.{token, starts, passes, takes};
-ghost use Rattle.ygg_expr.specs.Pending.{exactly, name, number, operator, operation_of};
+ghost use Rattle.ygg_syntax.specs.Expressions.{operator_sign, named, numbered};
+ghost use Rattle.ygg_syntax.specs.Reading.{token, starts, passes, takes};
+ghost use Rattle.ygg_syntax.specs.Pending.{exactly, name, number, operator, operation_of};
 ghost use Rattle.ygg_expr.specs.Steps.{Reads, Goes, Stops, IfRead, OnRead, IfRefused};
 
 use std::alloc::Global;

@@ -4,9 +4,9 @@ use Rattle.ygg_base.specs.declared.token.Mark.TheVariants as mark
 use Rattle.ygg_base.specs.declared.token.Token.{Token}
 use Rattle.ygg_base.specs.declared.token.Symbol.TheVariants as sign
 use Rattle.std.proofs.lemmas.Grind.{common_steps}
-use Rattle.ygg_expr.specs.Expressions.{symbol}
-use Rattle.ygg_expr.specs.Reading.{in_turn}
-use Rattle.ygg_expr.specs.Pending.{exactly, name, number, expression, indices, sign_of, outcome, stops}
+use Rattle.ygg_syntax.specs.Expressions.{symbol}
+use Rattle.ygg_syntax.specs.Reading.{in_turn}
+use Rattle.ygg_syntax.specs.Pending.{exactly, name, number, expression, indices, sign_of, outcome, stops}
 use Rattle.ygg_expr.proofs.Begins.{begins_index, begins_more, begins_quantified}
 use Rattle.ygg_expr.proofs.Lists.{index_more, first_read, one_more, all_read, all_filled}
 use Rattle.ygg_expr.proofs.Stopped.{stopped_expression}

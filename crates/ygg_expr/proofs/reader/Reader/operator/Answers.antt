@@ -1,5 +1,5 @@
 use Rattle.ygg_base.specs.declared.token.Mark.TheVariants as mark
-use Rattle.ygg_expr.specs.Expressions.{operator_sign}
+use Rattle.ygg_syntax.specs.Expressions.{operator_sign}
 use Rattle.std.proofs.Common.{rules}
 use Rattle.ygg_expr.proofs.Stopped.{goes_operator, stopped_operator, stopped_no_symbol, stopped_end}
 use Rattle.ygg_expr.proofs.Phrases.{reads_token}

@@ -26,7 +26,7 @@ use Rattle.ygg_syntax.specs.declared.tree.Quantifier.TheVariants as quantifier
 use Rattle.ygg_syntax.specs.declared.tree.Expr.{Expr}
 use Rattle.ygg_syntax.specs.declared.tree.Expr.TheOpen.{Expr-F}
 use Rattle.ygg_syntax.specs.declared.tree.Expr.TheFolds.{fold-Expr}
-use Rattle.ygg_expr.specs.Reading.{Reading, passes, takes, in_turn, impossible}
+use Rattle.ygg_syntax.specs.Reading.{Reading, passes, takes, in_turn, impossible}
 
 -- a keyword wherever it stands
 abbrev pub keyword : Keyword → Reading
