@@ -1,4 +1,6 @@
 pub mod Begins
+pub mod Claims
 pub mod Lists
+pub mod Marks
 pub mod Phrases
 pub mod Stopped
