@@ -4,6 +4,8 @@
 mod expression;
 mod law;
 mod reader;
+#[cfg(test)]
+mod tests;
 
 pub use law::complete;
 pub use reader::Reader;

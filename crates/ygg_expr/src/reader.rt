@@ -41,6 +41,13 @@ impl<'a> Reader<'a> {
         }
     }
 
+    /// The tokens that are left.
+    pub fn left(&self) -> &'a [Token]
+        ensures { result.now ≡ self.now }
+    {
+        self.rest
+    }
+
     /// What new parts of the tree are allocated with.
     pub fn alloc(&self) -> Global {
         self.alloc

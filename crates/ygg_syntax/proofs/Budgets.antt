@@ -16,8 +16,9 @@ nothing_left_by_right left a b h p = ap (λ x. left - x) (mul_comm a b) ∙ noth
 within_one : (left n one : ℕ) → left ≤ limit → one ≤ left → left - min n limit * one ≡ left - n * one
 within_one left n zero h k = omega arith
 within_one left n (suc one) h k = elim (cases_lt n limit) [
-    inl few ↦ ap (λ x. left - x * suc one) (omega arith)
-  | inr many ↦ nothing_left left (min n limit) (suc one) (omega arith) (omega arith) ∙ sym (nothing_left left n (suc one) (omega arith) (omega arith)) ]
+  | inl few ↦ ap (λ x. left - x * suc one) (omega arith)
+  | inr many ↦ nothing_left left (min n limit) (suc one) (omega arith) (omega arith) ∙ sym (nothing_left left n (suc one) (omega arith) (omega arith))
+]
 
 -- one time takes all
 beyond_one : (left n one : ℕ) → left ≤ one → left - min n limit * left ≡ left - n * one
@@ -27,5 +28,6 @@ beyond_one left (suc n) one h = nothing_left_by_right left (min (suc n) limit) l
 -- stopped on the way or at the end, so many times take the same
 pub taken_often : (left n one after : ℕ) → left ≤ limit → after ≡ left - one → left - min n limit * (left - after) ≡ left - n * one
 taken_often left n one after h e = elim (cases_lt one left) [
-    inl less ↦ ap (λ x. left - min n limit * x) (omega arith) ∙ within_one left n one h (omega arith)
-  | inr more ↦ ap (λ x. left - min n limit * x) (omega arith) ∙ beyond_one left n one more ]
+  | inl less ↦ ap (λ x. left - min n limit * x) (omega arith) ∙ within_one left n one h (omega arith)
+  | inr more ↦ ap (λ x. left - min n limit * x) (omega arith) ∙ beyond_one left n one more
+]

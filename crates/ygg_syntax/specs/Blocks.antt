@@ -15,6 +15,8 @@ use Rattle.ygg_base.specs.declared.token.Keyword.TheVariants as word
 use Rattle.ygg_base.specs.declared.token.Symbol.TheVariants as sign
 use Rattle.ygg_base.specs.declared.token.Mark.TheVariants as mark
 use Rattle.ygg_base.specs.declared.token.Token.{Token}
+use Rattle.ygg_syntax.specs.declared.grammar.Kind.{Kind}
+use Rattle.ygg_syntax.specs.declared.grammar.Kind.TheVariants.{Plain, Spec, Impl}
 use Rattle.ygg_syntax.specs.declared.tree.Place.{Place}
 use Rattle.ygg_syntax.specs.declared.tree.Name.{Name}
 use Rattle.ygg_syntax.specs.declared.tree.Index.{Index}
@@ -28,30 +30,21 @@ use Rattle.ygg_syntax.specs.declared.tree.Stmt.TheFolds.{fold-Stmt}
 use Rattle.ygg_syntax.specs.Reading.{Reading, starts, takes, in_turn, impossible}
 use Rattle.ygg_syntax.specs.Expressions.{keyword, symbol, named, numbered, phrase, expr, any}
 
--- what a block is for
-pub data Kind : Type 0 where
-  -- `start`: neither choices nor calls
-  plain : Kind
-  -- `spec`, `on crash` and `crash`: choices
-  spec : Kind
-  -- `impl`, `format`, `tick` and `recover`: calls
-  impl : Kind
-
 -- arguments in their brackets
 abbrev pub bracketed : List Expr → Reading
 bracketed arguments = in_turn (symbol sign.RoundOpen ∷ any (map phrase arguments) ∷ symbol sign.RoundClose ∷ [])
 
 -- a choice, which a specification may make
 abbrev pub choice : Kind → Place → Reading
-choice plain at = impossible
-choice spec at = takes (mark.Keyword word.Choose) at
-choice impl at = impossible
+choice Plain at = impossible
+choice Spec at = takes (mark.Keyword word.Choose) at
+choice Impl at = impossible
 
 -- a call, which an implementation may make
 abbrev pub call_in : Kind → List Reading → Reading
-call_in plain parts = impossible
-call_in spec parts = impossible
-call_in impl parts = in_turn parts
+call_in Plain parts = impossible
+call_in Spec parts = impossible
+call_in Impl parts = in_turn parts
 
 -- a right side
 abbrev pub source_in : Kind → Source → Reading

@@ -37,19 +37,15 @@ use Rattle.ygg_syntax.specs.declared.tree.Layer.{Layer}
 use Rattle.ygg_syntax.specs.declared.tree.File.{File}
 use Rattle.ygg_syntax.specs.Reading.{Reading, starts, passes, takes, in_turn, impossible}
 use Rattle.ygg_syntax.specs.Expressions.{keyword, symbol, named, numbered, expr}
-use Rattle.ygg_syntax.specs.Blocks.{plain, spec, impl, block, answering, optional, block_phrase, is_nowhere, is_unwritten}
-
--- which types may stand in a place
-pub data Sort : Type 0 where
-  -- words, rows and tables
-  all_types : Sort
-  -- words and rows
-  small_types : Sort
+use Rattle.ygg_syntax.specs.declared.grammar.Kind.TheVariants.{Plain, Spec, Impl}
+use Rattle.ygg_syntax.specs.declared.grammar.Sort.{Sort}
+use Rattle.ygg_syntax.specs.declared.grammar.Sort.TheVariants as sorts
+use Rattle.ygg_syntax.specs.Blocks.{block, answering, optional, block_phrase, is_nowhere, is_unwritten}
 
 -- a table, where one may stand
 abbrev pub table_in : Sort → List Reading → Reading
-table_in all_types parts = in_turn parts
-table_in small_types parts = impossible
+table_in sorts.All parts = in_turn parts
+table_in sorts.Small parts = impossible
 
 -- a type
 abbrev pub type_in : Sort → TypeText → Reading
@@ -84,12 +80,12 @@ disk_text d =
 -- a definition
 abbrev pub definition : Def → Reading
 definition d =
-    in_turn (keyword word.Def ∷ named d.name ∷ symbol sign.RoundOpen ∷ any_declared all_types d.parameters ∷ symbol sign.RoundClose
-    ∷ symbol sign.Arrow ∷ type_in all_types d.shape ∷ symbol sign.Assign ∷ expr d.body ∷ symbol sign.Semicolon ∷ [])
+    in_turn (keyword word.Def ∷ named d.name ∷ symbol sign.RoundOpen ∷ any_declared sorts.All d.parameters ∷ symbol sign.RoundClose
+    ∷ symbol sign.Arrow ∷ type_in sorts.All d.shape ∷ symbol sign.Assign ∷ expr d.body ∷ symbol sign.Semicolon ∷ [])
 
 -- a state or memory variable, after its keyword
 abbrev pub variable : Keyword → Declared → Reading
-variable k d = in_turn (keyword k ∷ declared all_types d ∷ symbol sign.Semicolon ∷ [])
+variable k d = in_turn (keyword k ∷ declared sorts.All d ∷ symbol sign.Semicolon ∷ [])
 
 -- an expression that is claimed, after its keyword
 abbrev pub claim : Keyword → Expr → Reading
@@ -98,36 +94,36 @@ claim k e = in_turn (keyword k ∷ expr e ∷ symbol sign.Semicolon ∷ [])
 -- the block for a crash, where one is written
 abbrev pub on_crash : Option Block → Reading
 on_crash None = in_turn []
-on_crash (Some b) = in_turn (keyword word.On ∷ keyword word.Crash ∷ block spec b ∷ [])
+on_crash (Some b) = in_turn (keyword word.On ∷ keyword word.Crash ∷ block Spec b ∷ [])
 
 -- the blocks of an operation without and with an answer
 abbrev pub operation_blocks : Operation → Option TypeText → Reading
-operation_blocks o None = in_turn (keyword word.Spec ∷ block spec o.spec ∷ on_crash o.on_crash ∷ keyword word.Impl ∷ block impl o.implementation ∷ [])
+operation_blocks o None = in_turn (keyword word.Spec ∷ block Spec o.spec ∷ on_crash o.on_crash ∷ keyword word.Impl ∷ block Impl o.implementation ∷ [])
 operation_blocks o (Some t) =
-    in_turn (symbol sign.Arrow ∷ type_in small_types t ∷ keyword word.Spec ∷ answering spec o.spec ∷ on_crash o.on_crash ∷ keyword word.Impl ∷ answering impl o.implementation ∷ [])
+    in_turn (symbol sign.Arrow ∷ type_in sorts.Small t ∷ keyword word.Spec ∷ answering Spec o.spec ∷ on_crash o.on_crash ∷ keyword word.Impl ∷ answering Impl o.implementation ∷ [])
 
 -- an operation
 abbrev pub operation : Operation → Reading
 operation o =
-    in_turn (keyword word.Op ∷ named o.name ∷ symbol sign.RoundOpen ∷ any_declared small_types o.arguments ∷ symbol sign.RoundClose ∷ operation_blocks o o.answer ∷ [])
+    in_turn (keyword word.Op ∷ named o.name ∷ symbol sign.RoundOpen ∷ any_declared sorts.Small o.arguments ∷ symbol sign.RoundClose ∷ operation_blocks o o.answer ∷ [])
 
 -- a background step
 abbrev pub tick : Tick → Reading
-tick t = in_turn (keyword word.Tick ∷ named t.name ∷ block impl t.body ∷ [])
+tick t = in_turn (keyword word.Tick ∷ named t.name ∷ block Impl t.body ∷ [])
 
 -- the block `crash`, whose keyword has its place in the tree
 abbrev pub crash_block : Place → Block → Reading
 crash_block at b from =
-    if starts (mark.Keyword word.Crash) from then in_turn (takes (mark.Keyword word.Crash) at ∷ block spec b ∷ []) from
+    if starts (mark.Keyword word.Crash) from then in_turn (takes (mark.Keyword word.Crash) at ∷ block Spec b ∷ []) from
     else if is_nowhere at && is_unwritten (block_phrase b) then Some from else None
 
 -- a layer
 abbrev pub layer : Layer → Reading
 layer l =
     in_turn (takes (mark.Keyword word.Layer) l.place ∷ named l.name ∷ symbol sign.BraceOpen
-    ∷ in_turn (map (variable word.State) l.state) ∷ optional word.Start plain l.start
-    ∷ in_turn (map (variable word.Memory) l.memory) ∷ optional word.Format impl l.format
-    ∷ in_turn (map operation l.operations) ∷ crash_block l.crash_place l.crash ∷ in_turn (map tick l.ticks) ∷ optional word.Recover impl l.recover
+    ∷ in_turn (map (variable word.State) l.state) ∷ optional word.Start Plain l.start
+    ∷ in_turn (map (variable word.Memory) l.memory) ∷ optional word.Format Impl l.format
+    ∷ in_turn (map operation l.operations) ∷ crash_block l.crash_place l.crash ∷ in_turn (map tick l.ticks) ∷ optional word.Recover Impl l.recover
     ∷ claim word.Relate l.relate ∷ in_turn (map (claim word.Always) l.always)
     ∷ in_turn (map (claim word.Settled) l.settled) ∷ in_turn (map (claim word.Maybe) l.maybe) ∷ symbol sign.BraceClose ∷ [])
 

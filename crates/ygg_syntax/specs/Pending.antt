@@ -10,8 +10,10 @@ use Rattle.ygg_base.specs.declared.token.Token.{Token}
 use Rattle.ygg_value.specs.declared.operation.Op.{Op}
 use Rattle.ygg_value.specs.declared.operation.Op.TheVariants as op
 use Rattle.ygg_syntax.specs.Reading.{same_mark}
-use Rattle.ygg_syntax.specs.Blocks.{Kind, plain, spec, impl}
-use Rattle.ygg_syntax.specs.Files.{Sort, all_types, small_types}
+use Rattle.ygg_syntax.specs.declared.grammar.Kind.{Kind}
+use Rattle.ygg_syntax.specs.declared.grammar.Kind.TheVariants.{Plain, Spec, Impl}
+use Rattle.ygg_syntax.specs.declared.grammar.Sort.{Sort}
+use Rattle.ygg_syntax.specs.declared.grammar.Sort.TheVariants as sorts
 
 -- a part of a rule that may be left out, or be repeated. It begins with a token of its own
 pub data Part : Type 0 where
@@ -187,7 +189,7 @@ after_arguments m = then_come (after_expression m) (more_expressions ∷ sign_of
 abbrev pub after_type : Sort → Mark → After
 after_type sort (mark.Keyword word.Word) = leaves (number ∷ [])
 after_type sort (mark.Keyword word.Row) = leaves (number ∷ word_of word.Of ∷ number ∷ [])
-after_type all_types (mark.Keyword word.Table) = leaves (number ∷ word_of word.Of ∷ number ∷ word_of word.Of ∷ number ∷ [])
+after_type sorts.All (mark.Keyword word.Table) = leaves (number ∷ word_of word.Of ∷ number ∷ word_of word.Of ∷ number ∷ [])
 after_type sort m = refuses
 
 -- names with their types and a bracket, or the bracket at once
@@ -202,13 +204,13 @@ after_statements kind (mark.Keyword word.Let) = leaves (name ∷ sign_of sign.As
 after_statements kind (mark.Name text) = leaves (indices ∷ sign_of sign.Assign ∷ right_side kind ∷ sign_of sign.Semicolon ∷ statements kind ∷ [])
 after_statements kind (mark.Keyword word.If) = leaves (expression ∷ block kind ∷ perhaps (else_block kind) ∷ statements kind ∷ [])
 after_statements kind (mark.Keyword word.For) = leaves (range ++ (block kind ∷ statements kind ∷ []))
-after_statements impl (mark.Keyword word.Call) = leaves (name ∷ sign_of sign.RoundOpen ∷ rest_of_arguments ∷ sign_of sign.Semicolon ∷ statements impl ∷ [])
+after_statements Impl (mark.Keyword word.Call) = leaves (name ∷ sign_of sign.RoundOpen ∷ rest_of_arguments ∷ sign_of sign.Semicolon ∷ statements Impl ∷ [])
 after_statements kind m = drops
 
 -- the alternatives of a right side
 abbrev pub after_source : Kind → Mark → After
-after_source spec (mark.Keyword word.Choose) = leaves []
-after_source impl (mark.Keyword word.Call) = leaves (name ∷ sign_of sign.RoundOpen ∷ rest_of_arguments ∷ [])
+after_source Spec (mark.Keyword word.Choose) = leaves []
+after_source Impl (mark.Keyword word.Call) = leaves (name ∷ sign_of sign.RoundOpen ∷ rest_of_arguments ∷ [])
 after_source kind m = after_expression m
 
 -- the two kinds of disk
@@ -219,8 +221,8 @@ after_disk m = refuses
 
 -- the blocks of an operation, or the type of its answer first
 abbrev pub after_operation : Mark → After
-after_operation (mark.Keyword word.Spec) = leaves (block spec ∷ perhaps on_crash ∷ word_of word.Impl ∷ block impl ∷ [])
-after_operation (mark.Symbol sign.Arrow) = leaves (some_type small_types ∷ word_of word.Spec ∷ answering spec ∷ perhaps on_crash ∷ word_of word.Impl ∷ answering impl ∷ [])
+after_operation (mark.Keyword word.Spec) = leaves (block Spec ∷ perhaps on_crash ∷ word_of word.Impl ∷ block Impl ∷ [])
+after_operation (mark.Symbol sign.Arrow) = leaves (some_type sorts.Small ∷ word_of word.Spec ∷ answering Spec ∷ perhaps on_crash ∷ word_of word.Impl ∷ answering Impl ∷ [])
 after_operation m = refuses
 
 -- the token that a part begins with
@@ -247,7 +249,7 @@ beginning (else_block kind) = mark.Keyword word.Else
 
 -- a variable after its keyword
 abbrev pub rest_of_variable : List Pending
-rest_of_variable = name ∷ sign_of sign.Colon ∷ some_type all_types ∷ sign_of sign.Semicolon ∷ []
+rest_of_variable = name ∷ sign_of sign.Colon ∷ some_type sorts.All ∷ sign_of sign.Semicolon ∷ []
 
 -- a layer after its keyword
 abbrev pub rest_of_layer : List Pending
@@ -263,17 +265,17 @@ rest_of argument_list = rest_of_arguments ∷ []
 rest_of next_expression = expression ∷ []
 rest_of (next_declared sort) = name ∷ sign_of sign.Colon ∷ some_type sort ∷ []
 rest_of definition =
-    name ∷ sign_of sign.RoundOpen ∷ rest_of_declared all_types ∷ sign_of sign.Arrow ∷ some_type all_types ∷ sign_of sign.Assign ∷ expression ∷ sign_of sign.Semicolon ∷ []
+    name ∷ sign_of sign.RoundOpen ∷ rest_of_declared sorts.All ∷ sign_of sign.Arrow ∷ some_type sorts.All ∷ sign_of sign.Assign ∷ expression ∷ sign_of sign.Semicolon ∷ []
 rest_of next_layer = rest_of_layer
 rest_of state_variable = rest_of_variable
-rest_of start_block = block plain ∷ []
+rest_of start_block = block Plain ∷ []
 rest_of memory_variable = rest_of_variable
-rest_of format_block = block impl ∷ []
-rest_of operation = name ∷ sign_of sign.RoundOpen ∷ rest_of_declared small_types ∷ rest_of_operation ∷ []
-rest_of on_crash = word_of word.Crash ∷ block spec ∷ []
-rest_of crash_block = block spec ∷ []
-rest_of tick = name ∷ block impl ∷ []
-rest_of recover_block = block impl ∷ []
+rest_of format_block = block Impl ∷ []
+rest_of operation = name ∷ sign_of sign.RoundOpen ∷ rest_of_declared sorts.Small ∷ rest_of_operation ∷ []
+rest_of on_crash = word_of word.Crash ∷ block Spec ∷ []
+rest_of crash_block = block Spec ∷ []
+rest_of tick = name ∷ block Impl ∷ []
+rest_of recover_block = block Impl ∷ []
 rest_of always = expression ∷ sign_of sign.Semicolon ∷ []
 rest_of settled = expression ∷ sign_of sign.Semicolon ∷ []
 rest_of maybe = expression ∷ sign_of sign.Semicolon ∷ []

@@ -1,6 +1,8 @@
 ghost use Rattle.std.specs.Prelude.{◌≡◌, IfOk};
 
-use crate::tree::{Block, Declared, Def, Expr, File, Index, Layer, Name, Operation, Source, Stmt, Tick};
+use crate::tree::{
+    Block, Declared, Def, Expr, File, Index, Layer, Name, Operation, Source, Stmt, Tick,
+};
 use sqlite_items::{Boxed, Items};
 use std::alloc::Global;
 use ygg_list::{Duplicate, NoMemory};
@@ -109,17 +111,11 @@ impl Duplicate for Layer {
     fn duplicate(&self, alloc: Global) -> Result<Layer, NoMemory> {
         let name = self.name.duplicate(alloc)?;
         let state = items(alloc, self.state.as_slice())?;
-        let start = block(alloc, &self.start)?;
         let memory = items(alloc, self.memory.as_slice())?;
-        let format = block(alloc, &self.format)?;
         let operations = items(alloc, self.operations.as_slice())?;
-        let crash = block(alloc, &self.crash)?;
         let ticks = items(alloc, self.ticks.as_slice())?;
-        let recover = block(alloc, &self.recover)?;
-        let relate = expression(alloc, &self.relate)?;
-        let always = items(alloc, self.always.as_slice())?;
-        let settled = items(alloc, self.settled.as_slice())?;
-        let maybe = items(alloc, self.maybe.as_slice())?;
+        let (start, format, crash, recover) = blocks(alloc, self)?;
+        let (relate, always, settled, maybe) = claims(alloc, self)?;
         Ok(Layer {
             place: self.place,
             name,
@@ -138,6 +134,37 @@ impl Duplicate for Layer {
             maybe,
         })
     }
+}
+
+/// Copies of the blocks of a layer, in the order of the text.
+fn blocks(alloc: Global, layer: &Layer) -> Result<(Block, Block, Block, Block), NoMemory>
+    ensures start { IfOk result (λ copies. copies.0 ≡ layer.now.start) }
+    ensures format { IfOk result (λ copies. copies.1 ≡ layer.now.format) }
+    ensures crash { IfOk result (λ copies. copies.2 ≡ layer.now.crash) }
+    ensures recover { IfOk result (λ copies. copies.3 ≡ layer.now.recover) }
+{
+    let start = block(alloc, &layer.start)?;
+    let format = block(alloc, &layer.format)?;
+    let crash = block(alloc, &layer.crash)?;
+    let recover = block(alloc, &layer.recover)?;
+    Ok((start, format, crash, recover))
+}
+
+/// Copies of what a layer claims, in the order of the text.
+fn claims(
+    alloc: Global,
+    layer: &Layer,
+) -> Result<(Expr, Items<Expr>, Items<Expr>, Items<Expr>), NoMemory>
+    ensures relate { IfOk result (λ copies. copies.0 ≡ layer.now.relate) }
+    ensures always { IfOk result (λ copies. copies.1 ≡ layer.now.always) }
+    ensures settled { IfOk result (λ copies. copies.2 ≡ layer.now.settled) }
+    ensures maybe { IfOk result (λ copies. copies.3 ≡ layer.now.maybe) }
+{
+    let relate = expression(alloc, &layer.relate)?;
+    let always = expressions(alloc, layer.always.as_slice())?;
+    let settled = expressions(alloc, layer.settled.as_slice())?;
+    let maybe = expressions(alloc, layer.maybe.as_slice())?;
+    Ok((relate, always, settled, maybe))
 }
 
 /// A copy of the block for a crash, where one is written.

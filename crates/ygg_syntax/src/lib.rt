@@ -5,5 +5,8 @@ mod budget;
 pub mod choices;
 pub mod copy;
 pub mod flag;
+pub mod grammar;
+#[cfg(test)]
+mod tests;
 pub mod tree;
 pub mod weight;

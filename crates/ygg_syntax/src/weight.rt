@@ -77,7 +77,11 @@ fn source(defs: &[Def], from: &Source, left: u64) -> u64
     match from {
         Source::Value(e) => expression(defs, e, left),
         Source::Choose(_) => left.saturating_sub(1),
-        Source::Call(_, _, arguments) => expressions(defs, arguments.as_slice(), left.saturating_sub(1)),
+        Source::Call(_, _, arguments) => expressions(
+            defs,
+            arguments.as_slice(),
+            left.saturating_sub(1),
+        ),
     }
 }
 
