@@ -65,16 +65,22 @@ done : Runs [] []
 done = record { runs = λ from rest h ps. ap (outcome ps) (empty from rest h) }
 
 next_mark : (m : Mark) {rs : List Reading} {qs : List Pending} → Runs rs qs → Runs (passes m ∷ rs) (exactly m ∷ qs)
-next_mark m {rs} {qs} r = record { runs = λ from rest h ps. let s = split (passes m) rs from rest h in let k = passed m from s.mid s.first in
-    goes_token m k.at from s.mid k.is (qs ++ ps) ∙ r.runs s.mid rest s.others ps }
+next_mark m {rs} {qs} r = record {
+  runs = λ from rest h ps. let s = split (passes m) rs from rest h in let k = passed m from s.mid s.first in
+      goes_token m k.at from s.mid k.is (qs ++ ps) ∙ r.runs s.mid rest s.others ps;
+}
 
 next_number : (n : Numeral) {rs : List Reading} {qs : List Pending} → Runs rs qs → Runs (numbered n ∷ rs) (number ∷ qs)
-next_number n {rs} {qs} r = record { runs = λ from rest h ps. let s = split (numbered n) rs from rest h in
-    goes_number n.value n.place from s.mid (took (mark.Num n.value) n.place from s.mid s.first) (qs ++ ps) ∙ r.runs s.mid rest s.others ps }
+next_number n {rs} {qs} r = record {
+  runs = λ from rest h ps. let s = split (numbered n) rs from rest h in
+      goes_number n.value n.place from s.mid (took (mark.Num n.value) n.place from s.mid s.first) (qs ++ ps) ∙ r.runs s.mid rest s.others ps;
+}
 
 next_name : (x : Name) {rs : List Reading} {qs : List Pending} → Runs rs qs → Runs (named x ∷ rs) (name ∷ qs)
-next_name x {rs} {qs} r = record { runs = λ from rest h ps. let s = split (named x) rs from rest h in
-    goes_name x.text x.place from s.mid (took (mark.Name x.text) x.place from s.mid s.first) (qs ++ ps) ∙ r.runs s.mid rest s.others ps }
+next_name x {rs} {qs} r = record {
+  runs = λ from rest h ps. let s = split (named x) rs from rest h in
+      goes_name x.text x.place from s.mid (took (mark.Name x.text) x.place from s.mid s.first) (qs ++ ps) ∙ r.runs s.mid rest s.others ps;
+}
 
 -- no index comes before this token
 no_index : (m : Mark) (from rest : List Token) → starts (mark.Symbol sign.SquareOpen) (token m (record { line = 0; column = 0 }) ∷ []) ≡ false → Comes m from rest → (qs : List Pending) → outcome (indices ∷ qs) from ≡ outcome qs from
@@ -83,12 +89,14 @@ no_index m from rest other k qs = dropped_indices from (ap (starts (mark.Symbol 
 -- an expression and a symbol after it
 next_part : (p : Phrase) (m : Mark) {rs : List Reading} {qs : List Pending} → Claims p → starts (mark.Symbol sign.SquareOpen) (token m (record { line = 0; column = 0 }) ∷ []) ≡ false
     → starts (mark.Symbol sign.RoundOpen) (token m (record { line = 0; column = 0 }) ∷ []) ≡ false → Runs rs qs → Runs (whole p ∷ passes m ∷ rs) (expression ∷ exactly m ∷ qs)
-next_part p m {rs} {qs} c other round r = record { runs = λ from rest h ps.
-    let s = split (whole p) (passes m ∷ rs) from rest h in
-    let s' = split (passes m) rs s.mid rest s.others in
-    let k = passed m s.mid s'.mid s'.first in
-    c.claims from s.mid s.first (ap (starts (mark.Symbol sign.RoundOpen)) k.is ∙ round) (exactly m ∷ qs ++ ps) ∙ no_index m s.mid s'.mid other k (exactly m ∷ qs ++ ps)
-    ∙ goes_token m k.at s.mid s'.mid k.is (qs ++ ps) ∙ r.runs s'.mid rest s'.others ps }
+next_part p m {rs} {qs} c other round r = record {
+  runs = λ from rest h ps.
+      let s = split (whole p) (passes m ∷ rs) from rest h in
+      let s' = split (passes m) rs s.mid rest s.others in
+      let k = passed m s.mid s'.mid s'.first in
+      c.claims from s.mid s.first (ap (starts (mark.Symbol sign.RoundOpen)) k.is ∙ round) (exactly m ∷ qs ++ ps) ∙ no_index m s.mid s'.mid other k (exactly m ∷ qs ++ ps)
+      ∙ goes_token m k.at s.mid s'.mid k.is (qs ++ ps) ∙ r.runs s'.mid rest s'.others ps;
+}
 
 operator_comes : (op : Op) (at : Place) (rest : List Token) (qs : List Pending) → outcome (indices ∷ operator ∷ qs) (token (mark.Symbol (operator_sign op)) at ∷ rest) ≡ outcome qs rest
 unfolding outcome
@@ -127,21 +135,24 @@ operator_no_round op.Imp = refl
 
 -- an expression and an operator after it
 next_operand : (p : Phrase) (op : Op) (at : Place) {rs : List Reading} {qs : List Pending} → Claims p → Runs rs qs → Runs (whole p ∷ takes (mark.Symbol (operator_sign op)) at ∷ rs) (expression ∷ operator ∷ qs)
-next_operand p op at {rs} {qs} c r = record { runs = λ from rest h ps.
-    let s = split (whole p) (takes (mark.Symbol (operator_sign op)) at ∷ rs) from rest h in
-    let s' = split (takes (mark.Symbol (operator_sign op)) at) rs s.mid rest s.others in
-    c.claims from s.mid s.first (ap (starts (mark.Symbol sign.RoundOpen)) (took (mark.Symbol (operator_sign op)) at s.mid s'.mid s'.first) ∙ operator_no_round op) (operator ∷ qs ++ ps)
-    ∙ ap (outcome (indices ∷ operator ∷ qs ++ ps)) (took (mark.Symbol (operator_sign op)) at s.mid s'.mid s'.first)
-    ∙ operator_comes op at s'.mid (qs ++ ps) ∙ r.runs s'.mid rest s'.others ps }
+next_operand p op at {rs} {qs} c r = record {
+  runs = λ from rest h ps.
+      let s = split (whole p) (takes (mark.Symbol (operator_sign op)) at ∷ rs) from rest h in
+      let s' = split (takes (mark.Symbol (operator_sign op)) at) rs s.mid rest s.others in
+      c.claims from s.mid s.first (ap (starts (mark.Symbol sign.RoundOpen)) (took (mark.Symbol (operator_sign op)) at s.mid s'.mid s'.first) ∙ operator_no_round op) (operator ∷ qs ++ ps)
+      ∙ ap (outcome (indices ∷ operator ∷ qs ++ ps)) (took (mark.Symbol (operator_sign op)) at s.mid s'.mid s'.first)
+      ∙ operator_comes op at s'.mid (qs ++ ps) ∙ r.runs s'.mid rest s'.others ps;
+}
 
 -- a phrase of a token of its own and of what comes after it
 begun : (m : Mark) (at : Place) (rs : List Reading) (qs : List Pending) (indexable : Bool) → ((rest : List Token) (ps : List Pending) → outcome (expression ∷ ps) (token m at ∷ rest) ≡ outcome (qs ++ (indices ∷ ps)) rest)
     → (after_expression m ≡ refuses → ⊥) → Runs rs qs → Claims (record { indexable = indexable; parts = takes m at ∷ rs })
 begun m at rs qs indexable begins can r = record {
   claims = λ from rest h round ps.
-    let s = split (takes m at) rs from rest h in
-    ap (outcome (expression ∷ ps)) (took m at from s.mid s.first) ∙ begins s.mid ps ∙ r.runs s.mid rest s.others (indices ∷ ps);
-  opens = λ from rest h n other. let s = split (takes m at) rs from rest h in ap (starts n) (took m at from s.mid s.first) ∙ no_beginning m n can other }
+      let s = split (takes m at) rs from rest h in
+      ap (outcome (expression ∷ ps)) (took m at from s.mid s.first) ∙ begins s.mid ps ∙ r.runs s.mid rest s.others (indices ∷ ps);
+  opens = λ from rest h n other. let s = split (takes m at) rs from rest h in ap (starts n) (took m at from s.mid s.first) ∙ no_beginning m n can other;
+}
 
 -- expressions and their claims
 abbrev Shown : Type 0
@@ -209,49 +220,57 @@ next_any es = record { runs = λ from rest h ps. cases es from rest h ps }
 
 -- an index after an expression
 index_claims : (p i : Phrase) (bracket : Place) → Claims p → Claims i → Claims (record { indexable = true; parts = indexed p ∷ takes (mark.Symbol sign.SquareOpen) bracket ∷ whole i ∷ symbol sign.SquareClose ∷ [] })
-index_claims p i bracket c d = record { claims = λ from rest h round ps.
-    let s = split (indexed p) (takes (mark.Symbol sign.SquareOpen) bracket ∷ whole i ∷ symbol sign.SquareClose ∷ []) from rest h in
-    let s' = split (takes (mark.Symbol sign.SquareOpen) bracket) (whole i ∷ symbol sign.SquareClose ∷ []) s.mid rest s.others in
-    c.claims from s.mid (open_up p.indexable from s.mid s.first) (ap (starts (mark.Symbol sign.RoundOpen)) (took (mark.Symbol sign.SquareOpen) bracket s.mid s'.mid s'.first)) ps
-    ∙ ap (outcome (indices ∷ ps)) (took (mark.Symbol sign.SquareOpen) bracket s.mid s'.mid s'.first) ∙ begins_index bracket s'.mid ps
-    ∙ (next_part i (mark.Symbol sign.SquareClose) d refl refl done).runs s'.mid rest s'.others (indices ∷ ps);
+index_claims p i bracket c d = record {
+  claims = λ from rest h round ps.
+      let s = split (indexed p) (takes (mark.Symbol sign.SquareOpen) bracket ∷ whole i ∷ symbol sign.SquareClose ∷ []) from rest h in
+      let s' = split (takes (mark.Symbol sign.SquareOpen) bracket) (whole i ∷ symbol sign.SquareClose ∷ []) s.mid rest s.others in
+      c.claims from s.mid (open_up p.indexable from s.mid s.first) (ap (starts (mark.Symbol sign.RoundOpen)) (took (mark.Symbol sign.SquareOpen) bracket s.mid s'.mid s'.first)) ps
+      ∙ ap (outcome (indices ∷ ps)) (took (mark.Symbol sign.SquareOpen) bracket s.mid s'.mid s'.first) ∙ begins_index bracket s'.mid ps
+      ∙ (next_part i (mark.Symbol sign.SquareClose) d refl refl done).runs s'.mid rest s'.others (indices ∷ ps);
   opens = λ from rest h m other. let s = split (indexed p) (takes (mark.Symbol sign.SquareOpen) bracket ∷ whole i ∷ symbol sign.SquareClose ∷ []) from rest h in
-    c.opens from s.mid (open_up p.indexable from s.mid s.first) m other }
+      c.opens from s.mid (open_up p.indexable from s.mid s.first) m other;
+}
   where
     open_up : (b : Bool) (from mid : List Token) → (if b then whole p else impossible) from ≡ Some mid → whole p from ≡ Some mid
     open_up true from mid h = h
     open_up false from mid h = absurd (cc)
 
 not_claims : (first : Place) (p : Phrase) → Claims p → Claims (record { indexable = false; parts = takes (mark.Symbol sign.Tilde) first ∷ whole p ∷ [] })
-not_claims first p c = record { claims = λ from rest h round ps.
-    let s = split (takes (mark.Symbol sign.Tilde) first) (whole p ∷ []) from rest h in
-    let s' = split (whole p) [] s.mid rest s.others in
-    ap (outcome (expression ∷ ps)) (took (mark.Symbol sign.Tilde) first from s.mid s.first) ∙ begins_not first s.mid ps
-    ∙ c.claims s.mid s'.mid s'.first (ap (starts (mark.Symbol sign.RoundOpen)) (empty s'.mid rest s'.others) ∙ round) ps ∙ ap (outcome (indices ∷ ps)) (empty s'.mid rest s'.others);
+not_claims first p c = record {
+  claims = λ from rest h round ps.
+      let s = split (takes (mark.Symbol sign.Tilde) first) (whole p ∷ []) from rest h in
+      let s' = split (whole p) [] s.mid rest s.others in
+      ap (outcome (expression ∷ ps)) (took (mark.Symbol sign.Tilde) first from s.mid s.first) ∙ begins_not first s.mid ps
+      ∙ c.claims s.mid s'.mid s'.first (ap (starts (mark.Symbol sign.RoundOpen)) (empty s'.mid rest s'.others) ∙ round) ps ∙ ap (outcome (indices ∷ ps)) (empty s'.mid rest s'.others);
   opens = λ from rest h m other. let s = split (takes (mark.Symbol sign.Tilde) first) (whole p ∷ []) from rest h in
-    ap (starts m) (took (mark.Symbol sign.Tilde) first from s.mid s.first) ∙ no_beginning (mark.Symbol sign.Tilde) m (λ k. cc) other }
+      ap (starts m) (took (mark.Symbol sign.Tilde) first from s.mid s.first) ∙ no_beginning (mark.Symbol sign.Tilde) m (λ k. cc) other;
+}
 
 name_comes : (x : Name) (rest : List Token) (ps : List Pending) → outcome (expression ∷ ps) (token (mark.Name x.text) x.place ∷ rest) ≡ outcome (arguments ∷ indices ∷ ps) rest
 name_comes x rest ps = begins_name x.text x.place rest ps
 
 apply_claims : (f : Name) (es : List Shown) → Claims (record { indexable = true; parts = named f ∷ symbol sign.RoundOpen ∷ any (phrases es) ∷ symbol sign.RoundClose ∷ [] })
-apply_claims f es = record { claims = λ from rest h round ps.
-    let s = split (named f) (symbol sign.RoundOpen ∷ any (phrases es) ∷ symbol sign.RoundClose ∷ []) from rest h in
-    let s' = split (symbol sign.RoundOpen) (any (phrases es) ∷ symbol sign.RoundClose ∷ []) s.mid rest s.others in
-    let k = passed (mark.Symbol sign.RoundOpen) s.mid s'.mid s'.first in
-    ap (outcome (expression ∷ ps)) (took (mark.Name f.text) f.place from s.mid s.first) ∙ name_comes f s.mid ps
-    ∙ ap (outcome (arguments ∷ indices ∷ ps)) k.is ∙ begins_arguments k.at s'.mid (indices ∷ ps) ∙ (next_any es).runs s'.mid rest s'.others (indices ∷ ps);
+apply_claims f es = record {
+  claims = λ from rest h round ps.
+      let s = split (named f) (symbol sign.RoundOpen ∷ any (phrases es) ∷ symbol sign.RoundClose ∷ []) from rest h in
+      let s' = split (symbol sign.RoundOpen) (any (phrases es) ∷ symbol sign.RoundClose ∷ []) s.mid rest s.others in
+      let k = passed (mark.Symbol sign.RoundOpen) s.mid s'.mid s'.first in
+      ap (outcome (expression ∷ ps)) (took (mark.Name f.text) f.place from s.mid s.first) ∙ name_comes f s.mid ps
+      ∙ ap (outcome (arguments ∷ indices ∷ ps)) k.is ∙ begins_arguments k.at s'.mid (indices ∷ ps) ∙ (next_any es).runs s'.mid rest s'.others (indices ∷ ps);
   opens = λ from rest h m other. let s = split (named f) (symbol sign.RoundOpen ∷ any (phrases es) ∷ symbol sign.RoundClose ∷ []) from rest h in
-    ap (starts m) (took (mark.Name f.text) f.place from s.mid s.first) ∙ no_beginning (mark.Name f.text) m (λ k. cc) other }
+      ap (starts m) (took (mark.Name f.text) f.place from s.mid s.first) ∙ no_beginning (mark.Name f.text) m (λ k. cc) other;
+}
 
 -- a name alone
 variable_claims : (x : Name) → Claims (record { indexable = true; parts = named x ∷ [] })
-variable_claims x = record { claims = λ from rest h round ps.
-    let s = split (named x) [] from rest h in
-    ap (outcome (expression ∷ ps)) (took (mark.Name x.text) x.place from s.mid s.first) ∙ name_comes x s.mid ps
-    ∙ ap (outcome (arguments ∷ indices ∷ ps)) (empty s.mid rest s.others) ∙ dropped_arguments rest round (indices ∷ ps);
+variable_claims x = record {
+  claims = λ from rest h round ps.
+      let s = split (named x) [] from rest h in
+      ap (outcome (expression ∷ ps)) (took (mark.Name x.text) x.place from s.mid s.first) ∙ name_comes x s.mid ps
+      ∙ ap (outcome (arguments ∷ indices ∷ ps)) (empty s.mid rest s.others) ∙ dropped_arguments rest round (indices ∷ ps);
   opens = λ from rest h m other. let s = split (named x) [] from rest h in
-    ap (starts m) (took (mark.Name x.text) x.place from s.mid s.first) ∙ no_beginning (mark.Name x.text) m (λ k. cc) other }
+      ap (starts m) (took (mark.Name x.text) x.place from s.mid s.first) ∙ no_beginning (mark.Name x.text) m (λ k. cc) other;
+}
 
 quantified_claims : (first : Place) (which : Quantifier) (x : Name) (w n : Numeral) (e : Shown) → Claims (node_phrase (Expr-F.Quantified first which x w n (phrase e.0)))
 quantified_claims first which x w n e =

@@ -3,4 +3,5 @@ pub mod Claims
 pub mod Lists
 pub mod Marks
 pub mod Phrases
+pub mod Sources
 pub mod Stopped

@@ -25,7 +25,7 @@ pub index_more : (from s t now : List Token) (a b i : Expr) (bracket : Place) �
     → ((qs : List Pending) → outcome (indices ∷ qs) s ≡ outcome (indices ∷ qs) now) → length now < length t → AtomRead from (tree.At b bracket i) now
 index_more from s t now a b i bracket is h e index goes shorter = subst (λ x. AtomRead from (tree.At x bracket i) now) (sym is) (record {
   reads = λ qs. reads_at a bracket i from qs h.indexable ∙ h.reads (takes (mark.Symbol sign.SquareOpen) bracket ∷ expr i ∷ symbol sign.SquareClose ∷ qs)
-    ∙ reads_token (mark.Symbol sign.SquareOpen) bracket s t e (expr i ∷ symbol sign.SquareClose ∷ qs) ∙ index qs;
+      ∙ reads_token (mark.Symbol sign.SquareOpen) bracket s t e (expr i ∷ symbol sign.SquareClose ∷ qs) ∙ index qs;
   indexable = ap (λ (p : Phrase). p.indexable) (parts_at a bracket i);
   goes = λ qs. h.goes qs ∙ goes qs;
   shorter = omega (arith, h.shorter, ap length e);
@@ -52,10 +52,10 @@ pub one_more : (from s t now : List Token) (es fs : List Expr) (e : Expr) → So
     → ((qs : List Pending) → outcome (more_expressions ∷ qs) s ≡ outcome (more_expressions ∷ qs) now) → length now < length s → fs ≡ es ++ e ∷ [] → SomeRead from fs now
 one_more from s t now es fs e h comma reads goes shorter is = record {
   reads = λ gs qs. ap (λ xs. in_turn (some (map phrase xs) ∷ qs) from) (ap (λ xs. xs ++ gs) is ∙ append_assoc es (e ∷ []) gs) ∙ h.reads (e ∷ gs) qs
-    ∙ comma (expr e ∷ more (map phrase gs) ++ qs) ∙ reads (more (map phrase gs) ++ qs);
+      ∙ comma (expr e ∷ more (map phrase gs) ++ qs) ∙ reads (more (map phrase gs) ++ qs);
   goes = λ qs. h.goes qs ∙ goes qs;
   filled = λ gs. ap (λ xs. any (map phrase xs)) (ap (λ xs. xs ++ gs) is ∙ append_assoc es (e ∷ []) gs) ∙ h.filled (e ∷ gs)
-    ∙ sym (ap (λ xs. some (map phrase xs)) (ap (λ xs. xs ++ gs) is ∙ append_assoc es (e ∷ []) gs));
+      ∙ sym (ap (λ xs. some (map phrase xs)) (ap (λ xs. xs ++ gs) is ∙ append_assoc es (e ∷ []) gs));
   shorter = omega (arith, h.shorter);
 }
 

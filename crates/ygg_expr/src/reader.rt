@@ -66,7 +66,10 @@ impl<'a> Reader<'a> {
             if let Mark::Keyword(found) = &first.mark {
                 if *found == keyword {
                     self.rest = others;
-                    return Some(Place { line: first.line, column: first.column });
+                    return Some(Place {
+                        line: first.line,
+                        column: first.column,
+                    });
                 }
             }
         }
@@ -86,7 +89,10 @@ impl<'a> Reader<'a> {
             if let Mark::Symbol(found) = &first.mark {
                 if *found == symbol {
                     self.rest = others;
-                    return Some(Place { line: first.line, column: first.column });
+                    return Some(Place {
+                        line: first.line,
+                        column: first.column,
+                    });
                 }
             }
         }
@@ -107,7 +113,10 @@ impl<'a> Reader<'a> {
                 self.rest = others;
                 return Some(Numeral {
                     value: *value,
-                    place: Place { line: first.line, column: first.column },
+                    place: Place {
+                        line: first.line,
+                        column: first.column,
+                    },
                 });
             }
         }
@@ -129,7 +138,10 @@ impl<'a> Reader<'a> {
                 self.rest = others;
                 return Ok(Some(Name {
                     text,
-                    place: Place { line: first.line, column: first.column },
+                    place: Place {
+                        line: first.line,
+                        column: first.column,
+                    },
                 }));
             }
         }
@@ -148,7 +160,13 @@ impl<'a> Reader<'a> {
             if let Mark::Symbol(symbol) = &first.mark {
                 if let Some(found) = operation(*symbol) {
                     self.rest = others;
-                    return Some((found, Place { line: first.line, column: first.column }));
+                    return Some((
+                        found,
+                        Place {
+                            line: first.line,
+                            column: first.column,
+                        },
+                    ));
                 }
             }
         }

@@ -37,7 +37,7 @@ atom-returns-clause-refused t c =
     let before : c.name.new.self ≡ c.keyword-7.new.self = cc in
     λ qs. ap (outcome (expression ∷ qs)) (sym n ∙ before)
     ∙ stopped_expression c.keyword-7.new.self (cc) (cc) (cc) (cc) (cc) (cc) (cc) (cc) (cc)
-      (λ v at rest h. c.in_default-number.ensures.other v at rest (before ∙ h)) (λ text at rest h. no_name text at rest (sym n ∙ before ∙ h)) qs
+    (λ v at rest h. c.in_default-number.ensures.other v at rest (before ∙ h)) (λ text at rest h. no_name text at rest (sym n ∙ before ∙ h)) qs
 
 pub expression-loop-bracket-preserved : goal.expression-loop-bracket-preserved
 expression-loop-bracket-preserved t c =
