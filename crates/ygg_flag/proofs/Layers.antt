@@ -9,7 +9,7 @@ use Rattle.ygg_value.specs.Values.{digit}
 use Rattle.ygg_syntax.specs.declared.flag.FlagFile.{FlagFile}
 use Rattle.ygg_syntax.specs.declared.flag.Formula.{Formula}
 use Rattle.ygg_syntax.specs.FlagNames.{FitsNames, UsesOnly, DependsOnly, names_in, has_stored}
-use Rattle.ygg_syntax.specs.Choices.{choices_of, node_choices, block_choices}
+use Rattle.ygg_syntax.specs.Choices.{choices_of, node_steps, block_steps}
 use Rattle.ygg_syntax.specs.declared.tree.Name.{Name}
 use Rattle.ygg_syntax.specs.declared.tree.Source.{Source}
 use Rattle.ygg_syntax.specs.declared.tree.Source.TheVariants as source
@@ -60,7 +60,7 @@ argument_of f a = (f.argument, digit a) ∷ []
 pub no_choices : (f : FlagFile) → choices_of (operation f).spec ≡ 0
 no_choices f =
     ap (λ n. 0 + n)
-    (ap (fold-Stmt ℕ ℕ node_choices block_choices) (sym (stmt.rolls-Assign (named f.assigned) [] (source.Value (expression f.spec)))) ∙ fold-roll-Stmt ℕ ℕ node_choices block_choices _)
+    (ap (fold-Stmt ℕ ℕ (node_steps 1 0) block_steps) (sym (stmt.rolls-Assign (named f.assigned) [] (source.Value (expression f.spec)))) ∙ fold-roll-Stmt ℕ ℕ (node_steps 1 0) block_steps _)
 
 bytes_differ : (x y : List ℕ) → x ≢ y → bytes_eq y x ≡ false
 bytes_differ x y differ = at (bytes_eq y x) refl
