@@ -8,7 +8,7 @@ use ygg_cnf::Lit;
 use ygg_list::NoMemory;
 
 /// The place of a literal's mark.
-fn code(lit: Lit) -> usize
+pub fn code(lit: Lit) -> usize
     requires { code_of lit < 2 ^ 64 }
     ensures { result ≡ code_of lit }
 {

@@ -5,7 +5,7 @@ ghost use Rattle.ygg_trail.specs.Trail.{IsAt, IsFalseBefore, IsAssigned, keep_le
 
 use crate::entry::Entry;
 use std::alloc::Global;
-use ygg_chain::marks::{mark, unmark};
+use ygg_chain::marks::{code, mark, unmark};
 use ygg_cnf::Lit;
 use ygg_list::NoMemory;
 
@@ -23,14 +23,6 @@ pub struct Assignments {
     ghost kept: { IsKept entries.items truth.items places.items room },
     ghost reserved: { room ≤ vec_capacity entries },
     ghost levels: { room ≤ vec_capacity starts },
-}
-
-/// The place of a literal's mark.
-fn code(lit: Lit) -> usize
-    requires { code_of lit < 2 ^ 64 }
-    ensures { result ≡ code_of lit }
-{
-    2 * lit.var as usize + lit.negated as usize
 }
 
 impl Assignments {

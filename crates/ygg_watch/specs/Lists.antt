@@ -7,9 +7,11 @@ use Rattle.ygg_cnf.specs.declared.lit.Lit.{Lit}
 abbrev pub sibling : ℕ → ℕ
 sibling n = cond (eqb (n % 2) 0) (n + 1) (n - 1)
 
+-- what stands where a list has no literal
 abbrev pub no_lit : Lit
 no_lit = record { var = 0; negated = false }
 
+-- the literal that a node watches
 abbrev pub lit_of : List Lit → ℕ → Lit
 lit_of watched n = get_or watched n no_lit
 
@@ -21,10 +23,12 @@ IsLinked watched n = lit_of watched n ≢ lit_of watched (sibling n)
 abbrev pub IsOwn : List Lit → ℕ → ℕ → Type 0
 IsOwn watched c n = (n < length watched) × (IsLinked watched n × (code_of (lit_of watched n) ≡ c))
 
+-- the number stands in the list
 abbrev pub Among : List ℕ → ℕ → Type 0
 Among [] n = ⊥
 Among (x ∷ xs) n = (x ≡ n) ⊎ Among xs n
 
+-- no number stands in the list twice
 abbrev pub IsOnce : List ℕ → Type 0
 IsOnce [] = Unit {0}
 IsOnce (x ∷ xs) = (Among xs x → ⊥) × IsOnce xs
@@ -43,6 +47,7 @@ pub record IsList (next : List ℕ) (watched : List Lit) (pending : List ℕ) (f
   pub apart : (n : ℕ) → Among nodes n → Among pending n → ⊥
   pub whole : (n : ℕ) → IsOwn watched c n → (Among pending n → ⊥) → Among nodes n
 
+-- each literal's list has the nodes that watch it, but those that are pending
 abbrev pub IsLists : List ℕ → List Lit → List ℕ → List ℕ → Type 0
 IsLists next watched firsts pending = (c : ℕ) → c < length firsts → IsList next watched pending (get_or firsts c 0) c
 

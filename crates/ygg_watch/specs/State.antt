@@ -17,6 +17,7 @@ pub record IsLive (clauses : List (List Lit)) (watched : List Lit) (next firsts 
   pub framed : IsFramed trail frames head seen
   pub watching : IsWatching clauses watched trail frames head seen
 
+-- what holds between two calls, where no watch is pending
 pub record IsState (clauses : List (List Lit)) (watched : List Lit) (next firsts : List ℕ) (trail : List Entry) (starts : List ℕ) (room : ℕ) (frames : List Frame) (capacity head seen : ℕ) : Type 0 where
   pub live : IsLive clauses watched next firsts [] trail room frames head seen
   pub levels : length frames ≡ length starts

@@ -11,6 +11,7 @@ use Rattle.ygg_watch.specs.declared.frame.Frame.{Frame}
 use Rattle.ygg_watch.specs.declared.visit.Judged.{Judged}
 use Rattle.ygg_watch.specs.declared.visit.Judged.TheVariants.{Keep, Move, Imply, False}
 
+-- what was kept when a level was opened
 abbrev pub frame_of : List Frame → ℕ → Frame
 frame_of frames j = get_or frames j (record { head = 0; seen = 0 })
 
@@ -46,6 +47,7 @@ IsWatchedAt watched trail frames head k clause =
     × IsHalf trail frames head k (lit_of watched (2 * k + 1)) (lit_of watched (2 * k))))
     ⊎ IsSatisfied trail frames k clause
 
+-- each clause that was seen is watched, or is satisfied
 abbrev pub IsWatching : List (List Lit) → List Lit → List Entry → List Frame → ℕ → ℕ → Type 0
 IsWatching clauses watched trail frames head seen = (k : ℕ) (clause : List Lit) → k < seen → slice_get clauses k ≡ Some clause → IsWatchedAt watched trail frames head k clause
 
