@@ -5,8 +5,6 @@ mod checker;
 pub mod marks;
 mod places;
 mod store;
-#[cfg(test)]
-mod tests;
 
 pub use checker::Checker;
 pub use places::Variables;

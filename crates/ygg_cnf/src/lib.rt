@@ -6,8 +6,6 @@ mod clause;
 mod law;
 mod lit;
 mod log;
-#[cfg(test)]
-mod tests;
 
 pub use assignment::{Assignment, truth};
 pub use clause::{Clause, Clauses};

@@ -11,8 +11,6 @@ mod expression;
 mod law;
 mod reader;
 mod source;
-#[cfg(test)]
-mod tests;
 
 pub use law::complete;
 pub use reader::Reader;

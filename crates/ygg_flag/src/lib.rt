@@ -3,5 +3,3 @@
 
 pub mod decide;
 pub mod law;
-#[cfg(test)]
-mod tests;

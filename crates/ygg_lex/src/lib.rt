@@ -5,8 +5,6 @@ mod law;
 mod recognize;
 mod scanner;
 mod spelling;
-#[cfg(test)]
-mod tests;
 
 pub use law::follows_rules;
 pub use scanner::tokens;

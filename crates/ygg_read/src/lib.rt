@@ -8,8 +8,6 @@ mod formula;
 mod names;
 mod reader;
 mod reading;
-#[cfg(test)]
-mod tests;
 mod unread;
 
 pub use names::names_fit;

@@ -5,8 +5,6 @@ pub mod book;
 pub mod judges;
 pub mod law;
 pub mod rule;
-#[cfg(test)]
-mod tests;
 pub mod view;
 
 pub use book::{Book, RuleBook};

@@ -1,11 +1,8 @@
 pub mod Blocks
-pub mod Budget
 pub mod Choices
-pub mod Definitions
 pub mod Expressions
 pub mod Files
 pub mod FlagGrammar
 pub mod FlagNames
 pub mod Pending
 pub mod Reading
-pub mod Weights

@@ -1,12 +1,6 @@
-//! The trees of layer files.
+//! The trees of layer files and their grammar: types and definitions alone.
 #![tactic(auto)]
 
-mod budget;
-pub mod choices;
-pub mod copy;
 pub mod flag;
 pub mod grammar;
-#[cfg(test)]
-mod tests;
 pub mod tree;
-pub mod weight;

@@ -6,8 +6,6 @@ mod command;
 mod file;
 mod help;
 mod line;
-#[cfg(test)]
-mod tests;
 mod verdict;
 mod words;
 

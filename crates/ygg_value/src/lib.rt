@@ -5,8 +5,6 @@ pub mod law;
 pub mod operation;
 pub mod row;
 pub mod shape;
-#[cfg(test)]
-mod tests;
 pub mod word;
 
 pub use operation::Op;

@@ -1,0 +1,6 @@
+//! Copies of layer files.
+#![tactic(auto)]
+
+mod copy;
+
+pub use copy::copy_file;

@@ -1,0 +1,3 @@
+pub mod Budget
+pub mod Definitions
+pub mod Weights
