@@ -1,5 +1,5 @@
 use Rattle.std.proofs.Common.{◌≡◌, length}
-use Rattle.ygg_value.proofs.tests.rows_and_tables.Given as goal
+use Rattle.ygg_tests_engine.proofs.values.rows_and_tables.Given as goal
 
 abbrev pub invariant-loop-place : goal.invariant-loop-place
 invariant-loop-place g l = (l.row.width ≡ 33) × (length l.row.words ≡ 3)
