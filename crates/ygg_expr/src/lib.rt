@@ -3,8 +3,8 @@
 //! Each method says three things of the tokens before it and after it, whatever comes behind: the tree that it answers
 //! reads just these tokens, the symbols that the grammar has pending take just these, and where it answers nothing the
 //! pending symbols stop where the reader stands. So a refusal has its place by the reader alone, and one rule follows from
-//! those of its parts by putting equations one behind another. That nothing derives where reading is refused is a law over
-//! the definitions.
+//! those of its parts by putting equations one behind another. That the pending symbols take what derives is a law over
+//! the definitions, which the crates above carry to whole files.
 #![tactic(auto)]
 
 mod expression;

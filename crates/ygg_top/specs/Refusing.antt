@@ -26,6 +26,7 @@ pub record IsBuilt (bytes : List ℕ) (f : FlagFile) : Type 0 where
   pub derives : Derives f tokens.items
   pub fits : FitsNames f
 
+-- a refusal of this number at this line and column
 abbrev pub refusal : ℕ → ℕ → ℕ → Refusal
 refusal number line column = record { number = number; line = line; column = column }
 

@@ -7,7 +7,7 @@ use crate::line::{line_of, verified_line};
 use std::alloc::Global;
 use ygg_base::{NoMemory, Status, Text};
 use ygg_flag::decide::{call_holds, cut_holds, init_holds};
-use ygg_flag::law::{histories, refines};
+use ygg_flag::law::{five_obligations, histories, idle_and_again, refines};
 use ygg_machine::law::refines_by_list;
 use ygg_syntax::flag::FlagFile;
 
@@ -34,6 +34,8 @@ pub fn verdict(alloc: Global, file: &FlagFile) -> Result<(Status, Text), NoMemor
         let text = line_of(alloc, &[b"refuted ", layer, b".cut.", operation])?;
         return Ok((Status::Refuted, text));
     }
+    five_obligations();
+    idle_and_again();
     refines();
     refines_by_list();
     histories();
