@@ -1,0 +1,5 @@
+//! The tokens of a layer file's one canonical text, by the rules of the grammar.
+#![tactic(auto)]
+
+mod expressions;
+mod printer;
