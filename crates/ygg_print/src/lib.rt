@@ -1,5 +1,6 @@
 //! The tokens of a layer file's one canonical text, by the rules of the grammar.
 #![tactic(auto)]
 
+mod blocks;
 mod expressions;
 mod printer;
