@@ -1,5 +1,6 @@
 ghost use Rattle.std.specs.Prelude.{◌≡◌, ◌<◌, ◌≤◌, List, [], ◌∷◌, length, true, false};
 ghost use Rattle.ygg_base.specs.declared.token.Keyword.TheVariants as word;
+ghost use Rattle.ygg_base.specs.declared.token.Symbol.TheVariants as sign;
 ghost use Rattle.ygg_base.specs.declared.token.Mark.TheVariants as mark;
 ghost use Rattle.ygg_syntax.specs.Blocks.{statement, block, answering, optional, block_phrase, is_unwritten};
 ghost use Rattle.ygg_syntax.specs.Pending as pending;
@@ -9,7 +10,7 @@ ghost use Rattle.ygg_block.specs.Steps.{in_each, ReadsAfter, GoesAsStatement, Fo
 use crate::parts;
 use sqlite_items::Items;
 use std::alloc::Global;
-use ygg_base::{Keyword, Mark, Symbol};
+use ygg_base::{Keyword, Symbol};
 use ygg_expr::Reader;
 use ygg_list::NoMemory;
 use ygg_syntax::grammar::Kind;

@@ -7,5 +7,7 @@
 
 mod blocks;
 mod parts;
+#[cfg(test)]
+mod tests;
 
 pub use blocks::{answering, block, optional, unwritten};

@@ -3,7 +3,7 @@ ghost use Rattle.ygg_base.specs.declared.token.Keyword.TheVariants as word;
 ghost use Rattle.ygg_base.specs.declared.token.Symbol.TheVariants as sign;
 ghost use Rattle.ygg_base.specs.declared.token.Mark.TheVariants as mark;
 ghost use Rattle.ygg_syntax.specs.declared.grammar.Kind.TheVariants as purpose;
-ghost use Rattle.ygg_syntax.specs.Reading.{token, takes};
+ghost use Rattle.ygg_syntax.specs.Reading.{token};
 ghost use Rattle.ygg_syntax.specs.Expressions.{expr, symbol, keyword};
 ghost use Rattle.ygg_syntax.specs.Blocks.{statement, source_in, indices_of};
 ghost use Rattle.ygg_syntax.specs.Pending as pending;
@@ -64,9 +64,9 @@ fn value(reader: &mut Reader<'_>, kind: Kind) -> Result<Option<Source>, NoMemory
     let Some(source) = reader.source(kind)? else {
         return Ok(None);
     };
-    let Some(_) = reader.symbol(Symbol::Semicolon) else {
+    if reader.symbol(Symbol::Semicolon).is_none() {
         return Ok(None);
-    };
+    }
     Ok(Some(source))
 }
 
