@@ -18,10 +18,11 @@ use Rattle.ygg_syntax.specs.declared.tree.Stmt.{Stmt}
 use Rattle.ygg_syntax.specs.declared.tree.Stmt.TheVariants as tree
 use Rattle.ygg_syntax.specs.declared.tree.Stmt.TheOpen.{Stmt-F, Block-F}
 use Rattle.ygg_syntax.specs.declared.tree.Stmt.TheFolds.{fold-Stmt, fold-roll-Stmt}
-use Rattle.ygg_syntax.specs.declared.tree.Block.{Block}
+use Rattle.ygg_syntax.specs.declared.tree.Block.{Block, fold-Block, fold_out-Block}
 use Rattle.ygg_syntax.specs.Reading.{Reading, token, starts, takes, passes, in_turn}
 use Rattle.ygg_syntax.specs.Expressions.{expr, keyword, symbol, named, numbered}
 use Rattle.ygg_syntax.specs.Blocks.{BlockPhrase, node_statement, node_block, statement, block_phrase, is_unwritten, block, answering, optional, source_in, indices_of, bracketed}
+use Rattle.ygg_expr.specs.Steps.{Reads}
 use Rattle.ygg_expr.proofs.Phrases.{same, joined, reads_token, reads_mark}
 use Rattle.ygg_block.specs.Steps.{in_each}
 
@@ -51,8 +52,16 @@ reads_assign x is s kind rest qs =
     ∙ reads_token (mark.Name x.text) x.place (token (mark.Name x.text) x.place ∷ rest) rest refl (in_turn (indices_of is) ∷ symbol sign.Assign ∷ source_in kind s ∷ symbol sign.Semicolon ∷ qs)
     ∙ joined (indices_of is) (symbol sign.Assign ∷ source_in kind s ∷ symbol sign.Semicolon ∷ qs) rest
 
+-- what a block inside a statement reads
+abbrev inside : Block → BlockPhrase
+inside = fold-Block (Kind → Reading) BlockPhrase node_statement node_block
+
+is_block : (b : Block) → inside b ≡ block_phrase b
+is_block b = fold_out-Block (Kind → Reading) BlockPhrase node_statement node_block b
+
 is_if : (test : Expr) (first second : Block) → statement (tree.If test first second) ≡ node_statement (Stmt-F.If test (block_phrase first) (block_phrase second))
 is_if test first second = ap statement (sym (tree.rolls-If test first second)) ∙ fold-roll-Stmt (Kind → Reading) BlockPhrase node_statement node_block (Stmt-F.If test first second)
+    ∙ ap (λ (p : BlockPhrase). node_statement (Stmt-F.If test p (inside second))) (is_block first) ∙ ap (λ (p : BlockPhrase). node_statement (Stmt-F.If test (block_phrase first) p)) (is_block second)
 
 pub reads_if : (test : Expr) (first second : Block) (kind : Kind) (at : Place) (rest : List Token) (qs : List Reading)
     → in_turn (statement (tree.If test first second) kind ∷ qs) (token (mark.Keyword word.If) at ∷ rest) ≡ in_turn (expr test ∷ block kind first ∷ optional word.Else kind second ∷ qs) rest
@@ -62,6 +71,7 @@ reads_if test first second kind at rest qs =
 
 is_for : (x : Name) (w n : Numeral) (each : Block) → statement (tree.For x w n each) ≡ node_statement (Stmt-F.For x w n (block_phrase each))
 is_for x w n each = ap statement (sym (tree.rolls-For x w n each)) ∙ fold-roll-Stmt (Kind → Reading) BlockPhrase node_statement node_block (Stmt-F.For x w n each)
+    ∙ ap (λ (p : BlockPhrase). node_statement (Stmt-F.For x w n p)) (is_block each)
 
 pub reads_for : (x : Name) (w n : Numeral) (each : Block) (kind : Kind) (at : Place) (rest : List Token) (qs : List Reading)
     → in_turn (statement (tree.For x w n each) kind ∷ qs) (token (mark.Keyword word.For) at ∷ rest)
@@ -80,34 +90,37 @@ reads_call f arguments at rest qs =
     (ap (λ (r : Kind → Reading). r purpose.Impl) (is_call f arguments)) qs
 
 -- a block without an answer
-pub reads_block : (at : Place) (ss : List Stmt) (kind : Kind) (rest : List Token) (qs : List Reading)
-    → in_turn (block kind (record { place = at; statements = ss; answer = None }) ∷ qs) (token (mark.Symbol sign.BraceOpen) at ∷ rest) ≡ in_turn (in_each kind ss ++ (symbol sign.BraceClose ∷ qs)) rest
-reads_block at ss kind rest qs =
-    joined (takes (mark.Symbol sign.BraceOpen) at ∷ in_turn (in_each kind ss) ∷ symbol sign.BraceClose ∷ []) qs (token (mark.Symbol sign.BraceOpen) at ∷ rest)
-    ∙ reads_token (mark.Symbol sign.BraceOpen) at (token (mark.Symbol sign.BraceOpen) at ∷ rest) rest refl (in_turn (in_each kind ss) ∷ symbol sign.BraceClose ∷ qs)
-    ∙ joined (in_each kind ss) (symbol sign.BraceClose ∷ qs) rest
+pub reads_block : (kind : Kind) (at : Place) (ss : List Stmt) (from s t now : List Token) → from ≡ token (mark.Symbol sign.BraceOpen) at ∷ s → Reads (in_each kind ss) s t → Reads (symbol sign.BraceClose ∷ []) t now
+    → Reads (in_turn (takes (mark.Symbol sign.BraceOpen) at ∷ in_turn (in_each kind ss) ∷ symbol sign.BraceClose ∷ []) ∷ []) from now
+reads_block kind at ss from s t now e statements close = λ qs.
+    joined (takes (mark.Symbol sign.BraceOpen) at ∷ in_turn (in_each kind ss) ∷ symbol sign.BraceClose ∷ []) qs from
+    ∙ reads_token (mark.Symbol sign.BraceOpen) at from s e (in_turn (in_each kind ss) ∷ symbol sign.BraceClose ∷ qs)
+    ∙ joined (in_each kind ss) (symbol sign.BraceClose ∷ qs) s ∙ statements (symbol sign.BraceClose ∷ qs) ∙ close qs
 
 -- a block with an answer
-pub reads_answering : (at : Place) (ss : List Stmt) (e : Expr) (kind : Kind) (rest : List Token) (qs : List Reading)
-    → in_turn (answering kind (record { place = at; statements = ss; answer = Some e }) ∷ qs) (token (mark.Symbol sign.BraceOpen) at ∷ rest)
-    ≡ in_turn (in_each kind ss ++ (keyword word.Return ∷ expr e ∷ symbol sign.Semicolon ∷ symbol sign.BraceClose ∷ qs)) rest
-reads_answering at ss e kind rest qs =
-    joined (takes (mark.Symbol sign.BraceOpen) at ∷ in_turn (in_each kind ss) ∷ keyword word.Return ∷ expr e ∷ symbol sign.Semicolon ∷ symbol sign.BraceClose ∷ []) qs (token (mark.Symbol sign.BraceOpen) at ∷ rest)
-    ∙ reads_token (mark.Symbol sign.BraceOpen) at (token (mark.Symbol sign.BraceOpen) at ∷ rest) rest refl (in_turn (in_each kind ss) ∷ keyword word.Return ∷ expr e ∷ symbol sign.Semicolon ∷ symbol sign.BraceClose ∷ qs)
-    ∙ joined (in_each kind ss) (keyword word.Return ∷ expr e ∷ symbol sign.Semicolon ∷ symbol sign.BraceClose ∷ qs) rest
+pub reads_answering : (kind : Kind) (at : Place) (ss : List Stmt) (e : Expr) (from s t now : List Token) → from ≡ token (mark.Symbol sign.BraceOpen) at ∷ s → Reads (in_each kind ss) s t
+    → Reads (keyword word.Return ∷ expr e ∷ symbol sign.Semicolon ∷ symbol sign.BraceClose ∷ []) t now
+    → Reads (in_turn (takes (mark.Symbol sign.BraceOpen) at ∷ in_turn (in_each kind ss) ∷ keyword word.Return ∷ expr e ∷ symbol sign.Semicolon ∷ symbol sign.BraceClose ∷ []) ∷ []) from now
+reads_answering kind at ss e from s t now is statements answer = λ qs.
+    joined (takes (mark.Symbol sign.BraceOpen) at ∷ in_turn (in_each kind ss) ∷ keyword word.Return ∷ expr e ∷ symbol sign.Semicolon ∷ symbol sign.BraceClose ∷ []) qs from
+    ∙ reads_token (mark.Symbol sign.BraceOpen) at from s is (in_turn (in_each kind ss) ∷ keyword word.Return ∷ expr e ∷ symbol sign.Semicolon ∷ symbol sign.BraceClose ∷ qs)
+    ∙ joined (in_each kind ss) (keyword word.Return ∷ expr e ∷ symbol sign.Semicolon ∷ symbol sign.BraceClose ∷ qs) s
+    ∙ statements (keyword word.Return ∷ expr e ∷ symbol sign.Semicolon ∷ symbol sign.BraceClose ∷ qs) ∙ answer qs
 
 written : (k : Keyword) (kind : Kind) (b : Block) (at : Place) (rest : List Token)
     → optional k kind b (token (mark.Keyword k) at ∷ rest) ≡ in_turn (keyword k ∷ block kind b ∷ []) (token (mark.Keyword k) at ∷ rest)
 written k kind b at rest = ap (λ (c : Bool). cond c (in_turn (keyword k ∷ block kind b ∷ []) (token (mark.Keyword k) at ∷ rest)) (cond (is_unwritten (block_phrase b)) (Some (token (mark.Keyword k) at ∷ rest)) None)) (same (mark.Keyword k))
 
 -- a block after its keyword
-pub reads_written : (k : Keyword) (kind : Kind) (b : Block) (at : Place) (rest : List Token) (qs : List Reading)
-    → in_turn (optional k kind b ∷ qs) (token (mark.Keyword k) at ∷ rest) ≡ in_turn (block kind b ∷ qs) rest
+pub reads_written : (k : Keyword) (kind : Kind) (b : Block) (at : Place) (from rest now : List Token) → from ≡ token (mark.Keyword k) at ∷ rest → Reads (block kind b ∷ []) rest now
+    → Reads (optional k kind b ∷ []) from now
 unfolding in_turn
-reads_written k kind b at rest qs =
-    ap (λ (o : Option (List Token)). elim o as (λ o. Option (List Token)) [ None ↦ None | Some left ↦ in_turn qs left ]) (written k kind b at rest)
+reads_written k kind b at from rest now e reads = λ qs.
+    ap (in_turn (optional k kind b ∷ qs)) e
+    ∙ ap (λ (o : Option (List Token)). elim o as (λ o. Option (List Token)) [ None ↦ None | Some left ↦ in_turn qs left ]) (written k kind b at rest)
     ∙ joined (keyword k ∷ block kind b ∷ []) qs (token (mark.Keyword k) at ∷ rest)
     ∙ reads_mark (mark.Keyword k) at (token (mark.Keyword k) at ∷ rest) rest refl (block kind b ∷ qs)
+    ∙ reads qs
 
 not_written : (k : Keyword) (kind : Kind) (b : Block) (from : List Token) → starts (mark.Keyword k) from ≡ false → is_unwritten (block_phrase b) ≡ true → optional k kind b from ≡ Some from
 not_written k kind b from h is = rw (h, is) refl

@@ -18,6 +18,7 @@ use ygg_syntax::tree::{Block, Place, Stmt};
 
 /// Reads a block without an answer. Where none comes nothing is answered, and the first token that can't come is the next
 /// one.
+#[tactic(auto, using(crate::proofs::Begins::begins_block, crate::proofs::Begins::stopped_block))]
 #[cycle(blocks)]
 pub fn block(reader: &mut Reader<'_>, kind: Kind) -> Result<Option<Block>, NoMemory>
     ensures reads { IfRead result (λ b. Reads (block kind b ∷ []) reader.old reader.new) }
@@ -43,6 +44,7 @@ pub fn block(reader: &mut Reader<'_>, kind: Kind) -> Result<Option<Block>, NoMem
 
 /// Reads a block that ends with its answer. Where none comes nothing is answered, and the first token that can't come is
 /// the next one.
+#[tactic(auto, using(crate::proofs::Begins::begins_answering, crate::proofs::Begins::stopped_answering))]
 pub fn answering(reader: &mut Reader<'_>, kind: Kind) -> Result<Option<Block>, NoMemory>
     ensures reads { IfRead result (λ b. Reads (answering kind b ∷ []) reader.old reader.new) }
     ensures goes { OnRead result (Goes (pending.answering kind ∷ []) reader.old reader.new) }
@@ -67,6 +69,7 @@ pub fn answering(reader: &mut Reader<'_>, kind: Kind) -> Result<Option<Block>, N
 
 /// Reads a keyword and a block, or nothing where the keyword doesn't come. Where a block has to come after the keyword and
 /// none does nothing is answered, and the first token that can't come is the next one.
+#[tactic(auto, using(crate::proofs::Begins::begins_part, crate::proofs::Begins::no_part, crate::proofs::Phrases::reads_unwritten))]
 #[cycle(blocks)]
 pub fn optional(reader: &mut Reader<'_>, keyword: Keyword, kind: Kind) -> Result<Option<Block>, NoMemory>
     ensures reads { IfRead result (λ b. Reads (optional keyword kind b ∷ []) reader.old reader.new) }
@@ -74,9 +77,9 @@ pub fn optional(reader: &mut Reader<'_>, keyword: Keyword, kind: Kind) -> Result
     ensures refused { IfRefused result (ForPart keyword kind (λ p. Stops (pending.perhaps p ∷ []) reader.old reader.new)) }
     ensures shorter { OnRead result (length reader.new ≤ length reader.old) }
 {
-    if reader.keyword(keyword).is_none() {
+    let Some(_) = reader.keyword(keyword) else {
         return Ok(Some(unwritten(reader.alloc())));
-    }
+    };
     block(reader, kind)
 }
 
@@ -92,6 +95,7 @@ pub fn unwritten(alloc: Global) -> Block
 }
 
 /// Reads as many statements as come.
+#[tactic(auto, using(crate::proofs::Begins::no_statement))]
 #[cycle(blocks)]
 fn statements(reader: &mut Reader<'_>, kind: Kind) -> Result<Option<Items<Stmt>>, NoMemory>
     ensures reads { IfRead result (λ ss. Reads (in_each kind ss) reader.old reader.new) }
@@ -110,6 +114,7 @@ fn statements(reader: &mut Reader<'_>, kind: Kind) -> Result<Option<Items<Stmt>>
 }
 
 /// Reads a statement, where one begins.
+#[tactic(auto, using(crate::proofs::Begins::begins_assign, crate::proofs::Begins::begins_let, crate::proofs::Begins::begins_if, crate::proofs::Begins::begins_for, crate::proofs::Begins::begins_call, crate::proofs::Begins::calls, crate::proofs::Begins::begun))]
 #[cycle(blocks)]
 fn statement(reader: &mut Reader<'_>, kind: Kind) -> Result<Option<Stmt>, NoMemory>
     requires { begins kind reader.old ≡ true }
@@ -137,6 +142,7 @@ fn statement(reader: &mut Reader<'_>, kind: Kind) -> Result<Option<Stmt>, NoMemo
 }
 
 /// Reads what follows an `if`.
+#[tactic(auto, using(crate::proofs::Phrases::reads_if))]
 #[cycle(blocks)]
 fn branch(reader: &mut Reader<'_>, kind: Kind) -> Result<Option<Stmt>, NoMemory>
     ensures reads { IfRead result (λ s. ReadsAfter (mark.Keyword word.If) kind s reader.old reader.new) }
@@ -157,6 +163,7 @@ fn branch(reader: &mut Reader<'_>, kind: Kind) -> Result<Option<Stmt>, NoMemory>
 }
 
 /// Reads what follows a `for`.
+#[tactic(auto, using(crate::proofs::Phrases::reads_for))]
 #[cycle(blocks)]
 fn repetition(reader: &mut Reader<'_>, kind: Kind) -> Result<Option<Stmt>, NoMemory>
     ensures reads { IfRead result (λ s. ReadsAfter (mark.Keyword word.For) kind s reader.old reader.new) }

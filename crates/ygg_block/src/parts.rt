@@ -71,6 +71,7 @@ fn value(reader: &mut Reader<'_>, kind: Kind) -> Result<Option<Source>, NoMemory
 }
 
 /// Reads what follows a `let`.
+#[tactic(auto, using(crate::proofs::Phrases::reads_let))]
 pub fn binding(reader: &mut Reader<'_>, kind: Kind) -> Result<Option<Stmt>, NoMemory>
     ensures reads { IfRead result (λ s. ReadsAfter (mark.Keyword word.Let) kind s reader.old reader.new) }
     ensures goes { OnRead result (Goes (pending.name ∷ pending.sign_of sign.Assign ∷ pending.right_side kind ∷ pending.sign_of sign.Semicolon ∷ []) reader.old reader.new) }
@@ -90,6 +91,7 @@ pub fn binding(reader: &mut Reader<'_>, kind: Kind) -> Result<Option<Stmt>, NoMe
 }
 
 /// Reads what follows the name that an assignment begins with.
+#[tactic(auto, using(crate::proofs::Phrases::reads_assign))]
 pub fn assignment(reader: &mut Reader<'_>, kind: Kind, name: Name) -> Result<Option<Stmt>, NoMemory>
     ensures reads { IfRead result (λ s. Reads (statement s kind ∷ []) (token (mark.Name name.text) name.place ∷ reader.old) reader.new) }
     ensures goes { OnRead result (Goes (pending.indices ∷ pending.sign_of sign.Assign ∷ pending.right_side kind ∷ pending.sign_of sign.Semicolon ∷ []) reader.old reader.new) }
@@ -143,6 +145,7 @@ fn index(reader: &mut Reader<'_>, bracket: Place) -> Result<Option<Index>, NoMem
 }
 
 /// Reads what follows a `call` that begins a statement.
+#[tactic(auto, using(crate::proofs::Phrases::reads_call))]
 pub fn call(reader: &mut Reader<'_>) -> Result<Option<Stmt>, NoMemory>
     ensures reads { IfRead result (λ s. ReadsAfter (mark.Keyword word.Call) purpose.Impl s reader.old reader.new) }
     ensures goes { OnRead result (Goes (pending.name ∷ pending.sign_of sign.RoundOpen ∷ pending.rest_of_arguments ∷ pending.sign_of sign.Semicolon ∷ []) reader.old reader.new) }
