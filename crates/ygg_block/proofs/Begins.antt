@@ -1,5 +1,5 @@
 -- What the first token of a statement or block leaves to come.
-use Rattle.std.proofs.Common.{◌≡◌, ℕ, Bool, true, false, List, [], ◌∷◌, ◌++◌, refl, sym, ap, ◌∙◌}
+use Rattle.std.proofs.Common.{◌≡◌, ℕ, true, false, List, [], ◌∷◌, refl, sym, ap, ◌∙◌}
 use Rattle.ygg_base.specs.declared.token.Keyword.{Keyword}
 use Rattle.ygg_base.specs.declared.token.Keyword.TheVariants as word
 use Rattle.ygg_base.specs.declared.token.Symbol.TheVariants as sign
@@ -10,10 +10,10 @@ use Rattle.ygg_syntax.specs.declared.grammar.Kind.{Kind}
 use Rattle.ygg_syntax.specs.declared.grammar.Kind.TheVariants as purpose
 use Rattle.ygg_syntax.specs.declared.tree.Place.{Place}
 use Rattle.ygg_syntax.specs.Reading.{token, same_mark, starts}
-use Rattle.ygg_syntax.specs.Pending.{Pending, Part, After, leaves, drops, refuses, after, after_statements, name, number, expression, indices, rest_of_arguments, right_side, block, answering, statements, perhaps, else_block, beginning, rest_of, sign_of, word_of, outcome}
+use Rattle.ygg_syntax.specs.Pending.{Pending, Part, leaves, drops, refuses, after, after_statements, name, number, expression, indices, rest_of_arguments, right_side, block, answering, statements, perhaps, else_block, beginning, rest_of, sign_of, word_of, outcome}
 use Rattle.ygg_expr.proofs.Phrases.{same}
 use Rattle.ygg_expr.proofs.Stopped.{next, left_out}
-use Rattle.ygg_block.specs.Steps.{takes_it, begins}
+use Rattle.ygg_block.specs.Steps.{takes_token, begins}
 
 pub begins_let : (kind : Kind) (at : Place) (rest : List Token) (qs : List Pending)
     → outcome (statements kind ∷ qs) (token (mark.Keyword word.Let) at ∷ rest) ≡ outcome (name ∷ sign_of sign.Assign ∷ right_side kind ∷ sign_of sign.Semicolon ∷ statements kind ∷ qs) rest
@@ -84,7 +84,7 @@ begins_part p k kind begin is at rest qs = next (perhaps p) qs (token (mark.Keyw
 pub no_part : (p : Part) (k : Keyword) (from : List Token) → beginning p ≡ mark.Keyword k → starts (mark.Keyword k) from ≡ false → (qs : List Pending) → outcome (perhaps p ∷ qs) from ≡ outcome qs from
 no_part p k from begin h qs = left_out p from (ap (λ (m : Mark). starts m from) begin ∙ h) qs
 
-dropped : (kind : Kind) (m : Mark) → takes_it (after_statements kind m) ≡ false → after_statements kind m ≡ drops
+dropped : (kind : Kind) (m : Mark) → takes_token (after_statements kind m) ≡ false → after_statements kind m ≡ drops
 dropped kind (mark.Name text) h = absurd (cc)
 dropped kind (mark.Num n) h = refl
 dropped kind (mark.Symbol s) h = refl
@@ -117,12 +117,12 @@ begun kind (t ∷ ts) h no_name no_let no_if no_for no_call = other kind t.mark 
     place : Place
     place = record { line = t.line; column = t.column }
 
-    other : (kind : Kind) (m : Mark) → t.mark ≡ m → takes_it (after_statements kind t.mark) ≡ true → ⊥
+    other : (kind : Kind) (m : Mark) → t.mark ≡ m → takes_token (after_statements kind t.mark) ≡ true → ⊥
     other kind (mark.Name text) e h = no_name text place ts (ap (λ (m : Mark). token m place ∷ ts) e)
-    other kind (mark.Num n) e h = let h = sym (ap (λ (m : Mark). takes_it (after_statements kind m)) e) ∙ h in absurd (cc)
-    other kind (mark.Symbol s) e h = let h = sym (ap (λ (m : Mark). takes_it (after_statements kind m)) e) ∙ h in absurd (cc)
+    other kind (mark.Num n) e h = let h = sym (ap (λ (m : Mark). takes_token (after_statements kind m)) e) ∙ h in absurd (cc)
+    other kind (mark.Symbol s) e h = let h = sym (ap (λ (m : Mark). takes_token (after_statements kind m)) e) ∙ h in absurd (cc)
     other kind (mark.Keyword word.Let) e h = let h = sym (ap (same_mark (mark.Keyword word.Let)) e) ∙ no_let in absurd (cc)
     other kind (mark.Keyword word.If) e h = let h = sym (ap (same_mark (mark.Keyword word.If)) e) ∙ no_if in absurd (cc)
     other kind (mark.Keyword word.For) e h = let h = sym (ap (same_mark (mark.Keyword word.For)) e) ∙ no_for in absurd (cc)
     other kind (mark.Keyword word.Call) e h = let h = sym (ap (same_mark (mark.Keyword word.Call)) e) ∙ no_call in absurd (cc)
-    other kind (mark.Keyword k) e h = let h = sym (ap (λ (m : Mark). takes_it (after_statements kind m)) e) ∙ h in absurd (cc)
+    other kind (mark.Keyword k) e h = let h = sym (ap (λ (m : Mark). takes_token (after_statements kind m)) e) ∙ h in absurd (cc)

@@ -1,5 +1,5 @@
 -- What statements and blocks read after their first token.
-use Rattle.std.proofs.Common.{◌≡◌, ℕ, Bool, true, false, cond, ◌&&◌, List, [], ◌∷◌, ◌++◌, map, Option, Some, None, refl, sym, ap, ◌∙◌}
+use Rattle.std.proofs.Common.{◌≡◌, Bool, true, false, cond, List, [], ◌∷◌, ◌++◌, Option, Some, None, refl, sym, ap, ◌∙◌}
 use Rattle.ygg_base.specs.declared.token.Keyword.{Keyword}
 use Rattle.ygg_base.specs.declared.token.Keyword.TheVariants as word
 use Rattle.ygg_base.specs.declared.token.Symbol.TheVariants as sign
@@ -16,15 +16,15 @@ use Rattle.ygg_syntax.specs.declared.tree.Expr.{Expr}
 use Rattle.ygg_syntax.specs.declared.tree.Source.{Source}
 use Rattle.ygg_syntax.specs.declared.tree.Stmt.{Stmt}
 use Rattle.ygg_syntax.specs.declared.tree.Stmt.TheVariants as tree
-use Rattle.ygg_syntax.specs.declared.tree.Stmt.TheOpen.{Stmt-F, Block-F}
-use Rattle.ygg_syntax.specs.declared.tree.Stmt.TheFolds.{fold-Stmt, fold-roll-Stmt}
+use Rattle.ygg_syntax.specs.declared.tree.Stmt.TheOpen.{Stmt-F}
+use Rattle.ygg_syntax.specs.declared.tree.Stmt.TheFolds.{fold-roll-Stmt}
 use Rattle.ygg_syntax.specs.declared.tree.Block.{Block, fold-Block, fold_out-Block}
 use Rattle.ygg_syntax.specs.Reading.{Reading, token, starts, takes, passes, in_turn}
 use Rattle.ygg_syntax.specs.Expressions.{expr, keyword, symbol, named, numbered}
-use Rattle.ygg_syntax.specs.Blocks.{BlockPhrase, node_statement, node_block, statement, block_phrase, is_unwritten, block, answering, optional, source_in, indices_of, bracketed}
+use Rattle.ygg_syntax.specs.Blocks.{BlockPhrase, node_statement, node_block, statement, block_phrase, is_unwritten, block, optional, source_in, indices_of, bracketed}
 use Rattle.ygg_expr.specs.Steps.{Reads}
 use Rattle.ygg_expr.proofs.Phrases.{same, joined, reads_token, reads_mark}
-use Rattle.ygg_block.specs.Steps.{in_each}
+use Rattle.ygg_block.specs.Steps.{statements_of}
 
 -- a statement that begins with a mark
 after_mark : (s : Stmt) (kind : Kind) (m : Mark) (at : Place) (parts : List Reading) (rest : List Token) → statement s kind ≡ in_turn (passes m ∷ parts)
@@ -90,21 +90,21 @@ reads_call f arguments at rest qs =
     (ap (λ (r : Kind → Reading). r purpose.Impl) (is_call f arguments)) qs
 
 -- a block without an answer
-pub reads_block : (kind : Kind) (at : Place) (ss : List Stmt) (from s t now : List Token) → from ≡ token (mark.Symbol sign.BraceOpen) at ∷ s → Reads (in_each kind ss) s t → Reads (symbol sign.BraceClose ∷ []) t now
-    → Reads (in_turn (takes (mark.Symbol sign.BraceOpen) at ∷ in_turn (in_each kind ss) ∷ symbol sign.BraceClose ∷ []) ∷ []) from now
+pub reads_block : (kind : Kind) (at : Place) (ss : List Stmt) (from s t now : List Token) → from ≡ token (mark.Symbol sign.BraceOpen) at ∷ s → Reads (statements_of kind ss) s t → Reads (symbol sign.BraceClose ∷ []) t now
+    → Reads (in_turn (takes (mark.Symbol sign.BraceOpen) at ∷ in_turn (statements_of kind ss) ∷ symbol sign.BraceClose ∷ []) ∷ []) from now
 reads_block kind at ss from s t now e statements close = λ qs.
-    joined (takes (mark.Symbol sign.BraceOpen) at ∷ in_turn (in_each kind ss) ∷ symbol sign.BraceClose ∷ []) qs from
-    ∙ reads_token (mark.Symbol sign.BraceOpen) at from s e (in_turn (in_each kind ss) ∷ symbol sign.BraceClose ∷ qs)
-    ∙ joined (in_each kind ss) (symbol sign.BraceClose ∷ qs) s ∙ statements (symbol sign.BraceClose ∷ qs) ∙ close qs
+    joined (takes (mark.Symbol sign.BraceOpen) at ∷ in_turn (statements_of kind ss) ∷ symbol sign.BraceClose ∷ []) qs from
+    ∙ reads_token (mark.Symbol sign.BraceOpen) at from s e (in_turn (statements_of kind ss) ∷ symbol sign.BraceClose ∷ qs)
+    ∙ joined (statements_of kind ss) (symbol sign.BraceClose ∷ qs) s ∙ statements (symbol sign.BraceClose ∷ qs) ∙ close qs
 
 -- a block with an answer
-pub reads_answering : (kind : Kind) (at : Place) (ss : List Stmt) (e : Expr) (from s t now : List Token) → from ≡ token (mark.Symbol sign.BraceOpen) at ∷ s → Reads (in_each kind ss) s t
+pub reads_answering : (kind : Kind) (at : Place) (ss : List Stmt) (e : Expr) (from s t now : List Token) → from ≡ token (mark.Symbol sign.BraceOpen) at ∷ s → Reads (statements_of kind ss) s t
     → Reads (keyword word.Return ∷ expr e ∷ symbol sign.Semicolon ∷ symbol sign.BraceClose ∷ []) t now
-    → Reads (in_turn (takes (mark.Symbol sign.BraceOpen) at ∷ in_turn (in_each kind ss) ∷ keyword word.Return ∷ expr e ∷ symbol sign.Semicolon ∷ symbol sign.BraceClose ∷ []) ∷ []) from now
+    → Reads (in_turn (takes (mark.Symbol sign.BraceOpen) at ∷ in_turn (statements_of kind ss) ∷ keyword word.Return ∷ expr e ∷ symbol sign.Semicolon ∷ symbol sign.BraceClose ∷ []) ∷ []) from now
 reads_answering kind at ss e from s t now is statements answer = λ qs.
-    joined (takes (mark.Symbol sign.BraceOpen) at ∷ in_turn (in_each kind ss) ∷ keyword word.Return ∷ expr e ∷ symbol sign.Semicolon ∷ symbol sign.BraceClose ∷ []) qs from
-    ∙ reads_token (mark.Symbol sign.BraceOpen) at from s is (in_turn (in_each kind ss) ∷ keyword word.Return ∷ expr e ∷ symbol sign.Semicolon ∷ symbol sign.BraceClose ∷ qs)
-    ∙ joined (in_each kind ss) (keyword word.Return ∷ expr e ∷ symbol sign.Semicolon ∷ symbol sign.BraceClose ∷ qs) s
+    joined (takes (mark.Symbol sign.BraceOpen) at ∷ in_turn (statements_of kind ss) ∷ keyword word.Return ∷ expr e ∷ symbol sign.Semicolon ∷ symbol sign.BraceClose ∷ []) qs from
+    ∙ reads_token (mark.Symbol sign.BraceOpen) at from s is (in_turn (statements_of kind ss) ∷ keyword word.Return ∷ expr e ∷ symbol sign.Semicolon ∷ symbol sign.BraceClose ∷ qs)
+    ∙ joined (statements_of kind ss) (keyword word.Return ∷ expr e ∷ symbol sign.Semicolon ∷ symbol sign.BraceClose ∷ qs) s
     ∙ statements (keyword word.Return ∷ expr e ∷ symbol sign.Semicolon ∷ symbol sign.BraceClose ∷ qs) ∙ answer qs
 
 written : (k : Keyword) (kind : Kind) (b : Block) (at : Place) (rest : List Token)

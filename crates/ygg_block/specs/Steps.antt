@@ -12,9 +12,9 @@ use Rattle.ygg_syntax.specs.Blocks.{statement}
 use Rattle.ygg_syntax.specs.Pending.{Pending, Part, block, statements, beginning, rest_of, After, leaves, drops, refuses, after, outcome}
 use Rattle.ygg_expr.specs.Steps.{Reads}
 
--- what statements read in turn
-abbrev pub in_each : Kind → List Stmt → List Reading
-in_each kind ss = map (λ (s : Kind → Reading). s kind) (map statement ss)
+-- statements, one after another
+abbrev pub statements_of : Kind → List Stmt → List Reading
+statements_of kind ss = map (λ (s : Kind → Reading). s kind) (map statement ss)
 
 -- the statement reads this mark, wherever it stands, and the tokens between
 abbrev pub ReadsAfter : Mark → Kind → Stmt → List Token → List Token → Type 0
@@ -28,13 +28,13 @@ GoesAsStatement kind from rest = (qs : List Pending) → outcome (statements kin
 abbrev pub ForPart : Keyword → Kind → (Part → Type 0) → Type 0
 ForPart keyword kind P = (p : Part) → beginning p ≡ mark.Keyword keyword → rest_of p ≡ block kind ∷ [] → P p
 
--- whether a symbol takes the token
-abbrev pub takes_it : After → Bool
-takes_it (leaves ps) = true
-takes_it drops = false
-takes_it refuses = false
+-- whether the token is taken
+abbrev pub takes_token : After → Bool
+takes_token (leaves ps) = true
+takes_token drops = false
+takes_token refuses = false
 
 -- whether a statement begins with the next token
 abbrev pub begins : Kind → List Token → Bool
 begins kind [] = false
-begins kind (t ∷ ts) = takes_it (after (statements kind) t.mark)
+begins kind (t ∷ ts) = takes_token (after (statements kind) t.mark)

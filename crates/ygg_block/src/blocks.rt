@@ -5,7 +5,7 @@ ghost use Rattle.ygg_base.specs.declared.token.Mark.TheVariants as mark;
 ghost use Rattle.ygg_syntax.specs.Blocks.{statement, block, answering, optional, block_phrase, is_unwritten};
 ghost use Rattle.ygg_syntax.specs.Pending as pending;
 ghost use Rattle.ygg_expr.specs.Steps.{Reads, Goes, Stops, IfRead, OnRead, IfRefused};
-ghost use Rattle.ygg_block.specs.Steps.{in_each, ReadsAfter, GoesAsStatement, ForPart, begins};
+ghost use Rattle.ygg_block.specs.Steps.{statements_of, ReadsAfter, GoesAsStatement, ForPart, begins};
 
 use crate::parts;
 use sqlite_items::Items;
@@ -71,7 +71,11 @@ pub fn answering(reader: &mut Reader<'_>, kind: Kind) -> Result<Option<Block>, N
 /// none does nothing is answered, and the first token that can't come is the next one.
 #[tactic(auto, using(crate::proofs::Begins::begins_part, crate::proofs::Begins::no_part, crate::proofs::Phrases::reads_unwritten))]
 #[cycle(blocks)]
-pub fn optional(reader: &mut Reader<'_>, keyword: Keyword, kind: Kind) -> Result<Option<Block>, NoMemory>
+pub fn optional(
+    reader: &mut Reader<'_>,
+    keyword: Keyword,
+    kind: Kind,
+) -> Result<Option<Block>, NoMemory>
     ensures reads { IfRead result (λ b. Reads (optional keyword kind b ∷ []) reader.old reader.new) }
     ensures goes { OnRead result (ForPart keyword kind (λ p. Goes (pending.perhaps p ∷ []) reader.old reader.new)) }
     ensures refused { IfRefused result (ForPart keyword kind (λ p. Stops (pending.perhaps p ∷ []) reader.old reader.new)) }
@@ -98,7 +102,7 @@ pub fn unwritten(alloc: Global) -> Block
 #[tactic(auto, using(crate::proofs::Begins::no_statement))]
 #[cycle(blocks)]
 fn statements(reader: &mut Reader<'_>, kind: Kind) -> Result<Option<Items<Stmt>>, NoMemory>
-    ensures reads { IfRead result (λ ss. Reads (in_each kind ss) reader.old reader.new) }
+    ensures reads { IfRead result (λ ss. Reads (statements_of kind ss) reader.old reader.new) }
     ensures goes { OnRead result (Goes (pending.statements kind ∷ []) reader.old reader.new) }
     ensures refused { IfRefused result (Stops (pending.statements kind ∷ []) reader.old reader.new) }
     ensures shorter { OnRead result (length reader.new ≤ length reader.old) }

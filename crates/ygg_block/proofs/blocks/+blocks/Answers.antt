@@ -1,4 +1,4 @@
-use Rattle.std.proofs.Common.{◌≡◌, [], ◌∷◌, ◌∙◌, ap}
+use Rattle.std.proofs.Common.{[], ◌∷◌, ◌∙◌, ap}
 use Rattle.ygg_syntax.specs.Pending.{perhaps, block, outcome}
 use Rattle.ygg_expr.specs.Steps.{Reads, Stops}
 use Rattle.ygg_syntax.specs.Blocks as phrase

@@ -1,4 +1,4 @@
-use Rattle.std.proofs.Common.{◌≡◌, ℕ, ◌+◌, ◌*◌, length}
+use Rattle.std.proofs.Common.{◌+◌, ◌*◌, length}
 use Rattle.ygg_block.proofs.Lists.{StatementsRead}
 use Rattle.ygg_block.proofs.blocks.+blocks.Given as goal
 

@@ -1,4 +1,4 @@
-use Rattle.std.proofs.Common.{◌≡◌, [], ◌∷◌, ◌∙◌, ap, sym, rules}
+use Rattle.std.proofs.Common.{◌∷◌, ◌∙◌, ap, sym, rules}
 use Rattle.ygg_syntax.specs.Reading.{in_turn}
 use Rattle.ygg_syntax.specs.Pending.{indices, outcome}
 use Rattle.ygg_expr.proofs.Begins.{begins_index}
