@@ -1,3 +1,5 @@
+//! Blocks, and the statements that have blocks inside.
+
 ghost use Rattle.std.specs.Prelude.{◌≡◌, ◌<◌, ◌≤◌, List, [], ◌∷◌, length, true, false};
 ghost use Rattle.ygg_base.specs.declared.token.Keyword.TheVariants as word;
 ghost use Rattle.ygg_base.specs.declared.token.Symbol.TheVariants as sign;
@@ -139,6 +141,7 @@ fn statement(reader: &mut Reader<'_>, kind: Kind) -> Result<Option<Stmt>, NoMemo
     if reader.keyword(Keyword::For).is_some() {
         return repetition(reader, kind);
     }
+    // in an implementation, since a statement begins so there alone
     if reader.keyword(Keyword::Call).is_some() {
         return parts::call(reader);
     }

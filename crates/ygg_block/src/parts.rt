@@ -1,3 +1,5 @@
+//! What blocks are made of, but for the statements that have blocks inside.
+
 ghost use Rattle.std.specs.Prelude.{◌≡◌, ◌<◌, ◌≤◌, List, [], ◌∷◌, length};
 ghost use Rattle.ygg_base.specs.declared.token.Keyword.TheVariants as word;
 ghost use Rattle.ygg_base.specs.declared.token.Symbol.TheVariants as sign;
