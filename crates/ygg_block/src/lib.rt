@@ -7,7 +7,5 @@
 
 mod blocks;
 mod parts;
-#[cfg(test)]
-mod tests;
 
 pub use blocks::{answering, block, optional, unwritten};

@@ -1,6 +1,6 @@
-use crate::{answering, block, optional};
 use std::test::Fail;
 use ygg_base::Keyword;
+use ygg_block::{answering, block, optional};
 use ygg_expr::Reader;
 use ygg_lex::tokens;
 use ygg_syntax::grammar::Kind;
