@@ -1,5 +1,5 @@
 -- The marks of a layer file in its one canonical text.
-use Rattle.std.specs.Prelude.{ℕ, Bool, if◌then◌else◌, List, [], ◌∷◌, ◌++◌, map, Option, Some, None}
+use Rattle.std.specs.Prelude.{if◌then◌else◌, List, [], ◌∷◌, ◌++◌, map, Option, Some, None}
 use Rattle.ygg_base.specs.declared.token.Keyword as base
 use Rattle.ygg_base.specs.declared.token.Keyword.TheVariants as word
 use Rattle.ygg_base.specs.declared.token.Symbol.TheVariants as sign
@@ -17,8 +17,8 @@ use Rattle.ygg_syntax.specs.declared.tree.Tick.{Tick}
 use Rattle.ygg_syntax.specs.declared.tree.Layer.{Layer}
 use Rattle.ygg_syntax.specs.declared.tree.File.{File}
 use Rattle.ygg_syntax.specs.Files.{disk_word}
-use Rattle.ygg_print.specs.Printed.{printed, bracketed}
-use Rattle.ygg_print.specs.PrintedBlocks.{all_printed, BlockPrinted, block_printed}
+use Rattle.ygg_print.specs.Printed.{printed, list_printed}
+use Rattle.ygg_print.specs.PrintedBlocks.{all_printed, block_printed}
 
 -- the marks of a type
 abbrev pub type_printed : TypeText → List Mark
@@ -35,11 +35,14 @@ abbrev pub disk_printed : DiskText → List Mark
 disk_printed d =
     Keyword word.Disk ∷ Keyword (disk_word d.kind) ∷ Num d.rows.value ∷ Keyword word.Of ∷ Num d.words.value ∷ Keyword word.Of ∷ Num d.width.value ∷ Symbol sign.Semicolon ∷ []
 
+-- the marks of the name of a definition and its types
+abbrev pub signature_printed : Def → List Mark
+signature_printed d =
+    Keyword word.Def ∷ Name d.name.text ∷ Symbol sign.RoundOpen ∷ (list_printed (map declared_printed d.parameters) ++ Symbol sign.RoundClose ∷ Symbol sign.Arrow ∷ type_printed d.shape)
+
 -- the marks of a definition
 abbrev pub definition_printed : Def → List Mark
-definition_printed d =
-    Keyword word.Def ∷ Name d.name.text ∷ (bracketed (map declared_printed d.parameters) ++ Symbol sign.Arrow
-    ∷ (type_printed d.shape ++ Symbol sign.Assign ∷ (printed d.body ++ Symbol sign.Semicolon ∷ [])))
+definition_printed d = signature_printed d ++ Symbol sign.Assign ∷ (printed d.body ++ Symbol sign.Semicolon ∷ [])
 
 -- the marks of a variable after its keyword
 abbrev pub variable_printed : base.Keyword → Declared → List Mark
@@ -63,23 +66,34 @@ abbrev pub answer_type_printed : Option TypeText → List Mark
 answer_type_printed None = []
 answer_type_printed (Some t) = Symbol sign.Arrow ∷ type_printed t
 
+-- the marks of an operation before its blocks
+abbrev pub heading_printed : Operation → List Mark
+heading_printed o =
+    Keyword word.Op ∷ Name o.name.text ∷ Symbol sign.RoundOpen ∷ (list_printed (map declared_printed o.arguments) ++ Symbol sign.RoundClose ∷ answer_type_printed o.answer)
+
+-- the marks of the blocks of an operation
+abbrev pub bodies_printed : Operation → List Mark
+bodies_printed o = Keyword word.Spec ∷ ((block_printed o.spec).marks ++ (on_crash_printed o.on_crash ++ Keyword word.Impl ∷ (block_printed o.implementation).marks))
+
 -- the marks of an operation
 abbrev pub operation_printed : Operation → List Mark
-operation_printed o =
-    Keyword word.Op ∷ Name o.name.text ∷ (bracketed (map declared_printed o.arguments) ++ (answer_type_printed o.answer ++ Keyword word.Spec
-    ∷ ((block_printed o.spec).marks ++ (on_crash_printed o.on_crash ++ Keyword word.Impl ∷ (block_printed o.implementation).marks))))
+operation_printed o = heading_printed o ++ bodies_printed o
 
 -- the marks of a background step
 abbrev pub tick_printed : Tick → List Mark
 tick_printed t = Keyword word.Tick ∷ Name t.name.text ∷ (block_printed t.body).marks
 
--- the marks of the parts of a layer before what it claims
-abbrev pub parts_printed : Layer → List Mark
-parts_printed l =
+-- the marks of the variables of a layer, each kind with the block that sets it up
+abbrev pub variables_printed : Layer → List Mark
+variables_printed l =
     all_printed (map (variable_printed word.State) l.state) ++ (optional_printed word.Start l.start
-    ++ (all_printed (map (variable_printed word.Memory) l.memory) ++ (optional_printed word.Format l.format
-    ++ (all_printed (map operation_printed l.operations) ++ (optional_printed word.Crash l.crash
-    ++ (all_printed (map tick_printed l.ticks) ++ optional_printed word.Recover l.recover))))))
+    ++ (all_printed (map (variable_printed word.Memory) l.memory) ++ optional_printed word.Format l.format))
+
+-- the marks of what a layer does
+abbrev pub steps_printed : Layer → List Mark
+steps_printed l =
+    all_printed (map operation_printed l.operations) ++ (optional_printed word.Crash l.crash
+    ++ (all_printed (map tick_printed l.ticks) ++ optional_printed word.Recover l.recover))
 
 -- the marks of what a layer claims
 abbrev pub claims_printed : Layer → List Mark
@@ -89,9 +103,12 @@ claims_printed l =
 
 -- the marks of a layer
 abbrev pub layer_printed : Layer → List Mark
-layer_printed l = Keyword word.Layer ∷ Name l.name.text ∷ Symbol sign.BraceOpen ∷ (parts_printed l ++ (claims_printed l ++ Symbol sign.BraceClose ∷ []))
+layer_printed l = Keyword word.Layer ∷ Name l.name.text ∷ Symbol sign.BraceOpen ∷ (variables_printed l ++ (steps_printed l ++ (claims_printed l ++ Symbol sign.BraceClose ∷ [])))
+
+-- the marks of the version of the language and of the disk
+abbrev pub head_printed : DiskText → List Mark
+head_printed d = Keyword word.Yggdrasil ∷ Num 1 ∷ Symbol sign.Semicolon ∷ disk_printed d
 
 -- the marks of a layer file
 abbrev pub file_printed : File → List Mark
-file_printed f =
-    Keyword word.Yggdrasil ∷ Num 1 ∷ Symbol sign.Semicolon ∷ (disk_printed f.disk ++ (all_printed (map definition_printed f.defs) ++ all_printed (map layer_printed f.layers)))
+file_printed f = head_printed f.disk ++ (all_printed (map definition_printed f.defs) ++ all_printed (map layer_printed f.layers))

@@ -3,4 +3,8 @@
 
 mod blocks;
 mod expressions;
+mod files;
+mod layers;
 mod printer;
+
+pub use layers::marks_of;

@@ -55,6 +55,13 @@ impl Printer {
         self.marks.push(Mark::Keyword(keyword))
     }
 
+    /// The number 1, which is the version of the language.
+    pub fn one(&mut self) -> Result<(), NoMemory>
+        ensures { OnOk result (self.new ≡ self.old ++ mark.Num 1 ∷ []) }
+    {
+        self.marks.push(Mark::Num(1))
+    }
+
     /// A number.
     pub fn number(&mut self, number: Numeral) -> Result<(), NoMemory>
         ensures { OnOk result (self.new ≡ self.old ++ mark.Num number.value ∷ []) }
