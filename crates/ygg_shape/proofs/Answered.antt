@@ -22,7 +22,7 @@ use Rattle.ygg_shape.proofs.Wider.{rows_wider, words_in_table, width_in_table}
 use Rattle.ygg_shape.proofs.Worth.{digits, grid, row_worth, table_worth, table_like, merged_is, compared_is}
 use Rattle.ygg_shape.specs.Making.{merged, compared, split_at, row_or_zeros, selected, selected_at, stored, width_in}
 use Rattle.ygg_shape.specs.Meaning.{IsRead, IsWritten, IsMerged, IsCompared, IsConstant, AddsAtMostZero}
-use Rattle.ygg_shape.specs.Terms.{IsRow, IsTable, HasShape, AreAlike, StandsTable, CanStore, numbers_of, row_of, table_of, words_in}
+use Rattle.ygg_shape.specs.Terms.{IsRow, IsTable, HasShape, AreAlike, TableStands, CanStore, numbers_of, row_of, table_of, words_in}
 use Rattle.ygg_shape.specs.declared.terms.SymValue.{SymValue}
 
 -- an environment that gives 0 to each input
@@ -110,7 +110,7 @@ read_is inputs v kinds n w k table row nodes f h m =
     row_worth inputs v kinds nodes n w row f m.shaped (omega arith) ∙ ap (digits w) m.is ∙ ap (λ (t : Grid). table_read t k) (sym (table_worth inputs v kinds nodes n w table f h))
 
 pub selected_value : {E : Type 0} (kinds : List RuleKind) (table : List (List Id)) (at : Id) (old new : List Node) (r : Result (List Id) E) → IsBank old → IsBank new → Extends old new → Stands old at →
-    OnOk r (new ≡ (selected kinds table at old).nodes) → IfOk r (λ row. row ≡ (selected kinds table at old).value) → StandsTable old table → IfOk r (IsRead new table at)
+    OnOk r (new ≡ (selected kinds table at old).nodes) → IfOk r (λ row. row ≡ (selected kinds table at old).value) → TableStands old table → IfOk r (IsRead new table at)
 selected_value kinds table at old new (Ok row) b c x s e g t =
     let o = selected kinds table at old in
     let d = subst IsBank e c in

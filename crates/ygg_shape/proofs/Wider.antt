@@ -9,7 +9,7 @@ use Rattle.ygg_bank.specs.Nodes.{width_at, widths_of, HasWidth, Stands, CanBin, 
 use Rattle.ygg_bank.specs.declared.node.Id.{Id}
 use Rattle.ygg_bank.specs.declared.node.Node.{Node}
 use Rattle.ygg_shape.specs.Making.{width_in}
-use Rattle.ygg_shape.specs.Terms.{IsRow, IsTable, HasShape, AreAlike, RowsAlike, TablesAlike, WordsAlike, StandsTable, words_in}
+use Rattle.ygg_shape.specs.Terms.{IsRow, IsTable, HasShape, AreAlike, RowsAlike, TablesAlike, WordsAlike, TableStands, words_in}
 use Rattle.ygg_shape.specs.declared.terms.SymValue.{SymValue}
 use Rattle.ygg_shape.specs.declared.terms.SymValue.TheVariants.{Word, Row, Table}
 
@@ -123,7 +123,7 @@ alike_tables nodes one two a b h e f = tables_case nodes h.shape a b (subst (Has
 first_row : (nodes : List Node) (table : List (List Id)) (x d : List Id) (n w : ℕ) → IsTable nodes n w table → x ≡ get_or table 0 d → IsRow nodes n w x
 first_row nodes table x d n w h e = at_place (IsRow nodes n w) table 0 x d (let l = h.limits in omega arith) e h.rows
 
-pub first_word : (nodes : List Node) (table : List (List Id)) (x d : List Id) (a : Id) → StandsTable nodes table → x ≡ get_or table 0 d → Stands nodes (get_or x 0 a)
+pub first_word : (nodes : List Node) (table : List (List Id)) (x d : List Id) (a : Id) → TableStands nodes table → x ≡ get_or table 0 d → Stands nodes (get_or x 0 a)
 first_word nodes table x d a h e =
     let i = h.is in let l = i.limits in
     let r = first_row nodes table x d h.words h.width i e in

@@ -65,13 +65,13 @@ pub record TablesAlike (nodes : List Node) (one two : List (List Id)) : Type 0 w
   pub one_are : All (IsRow nodes words width) one
   pub two_are : All (IsRow nodes words width) two
 
--- a table
-pub record StandsTable (nodes : List Node) (table : List (List Id)) : Type 0 where
+-- a table of some shape, whose terms stand among the nodes
+pub record TableStands (nodes : List Node) (table : List (List Id)) : Type 0 where
   pub words : ℕ
   pub width : ℕ
   pub is : IsTable nodes words width table
 
--- a table, and a row of the shape of its rows
+-- a table of some shape and a row of its rows' shape, whose terms stand among the nodes
 pub record CanStore (nodes : List Node) (table : List (List Id)) (row : List Id) : Type 0 where
   pub words : ℕ
   pub width : ℕ

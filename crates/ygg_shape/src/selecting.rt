@@ -6,7 +6,7 @@ ghost use Rattle.ygg_bank.specs.Nodes.{Extends, HasWidth, IsBank, Stands};
 ghost use Rattle.ygg_bank.specs.Values.{KeepsValues};
 ghost use Rattle.ygg_shape.specs.Making.{chosen, row_or_zeros, selected, width_in, zeros};
 ghost use Rattle.ygg_shape.specs.Meaning.{AddsAtMostZero, IsConstant, IsRead};
-ghost use Rattle.ygg_shape.specs.Terms.{AreRows, IsRow, IsTable, StandsTable, words_in};
+ghost use Rattle.ygg_shape.specs.Terms.{AreRows, IsRow, IsTable, TableStands, words_in};
 
 use crate::places::{Place, known, where_at};
 use crate::terms::{SymRow, SymTable};
@@ -24,7 +24,7 @@ pub fn select<B: Book>(
     table: &SymTable,
     at: Id,
 ) -> Result<SymRow, NoMemory>
-    requires table { StandsTable bank.old table.now }
+    requires table { TableStands bank.old table.now }
     requires at { Stands bank.old at }
     ensures nodes { OnOk result (bank.new ≡ (selected (B.kinds book.now) table.now at bank.old).nodes) }
     ensures form { IfOk result (λ row. row ≡ (selected (B.kinds book.now) table.now at bank.old).value) }
@@ -49,7 +49,7 @@ fn select_by<B: Book>(
     at: Id,
 ) -> Result<SymRow, NoMemory>
     requires bank { IsBank bank.old }
-    requires table { StandsTable bank.old table.now }
+    requires table { TableStands bank.old table.now }
     requires at { Stands bank.old at }
     ensures nodes { OnOk result (bank.new ≡ (selected (B.kinds book.now) table.now at bank.old).nodes) }
     ensures form { IfOk result (λ row. row ≡ (selected (B.kinds book.now) table.now at bank.old).value) }
@@ -75,7 +75,7 @@ fn row_or_zeros<B: Book>(
     place: Word,
 ) -> Result<SymRow, NoMemory>
     requires bank { IsBank bank.old }
-    requires table { StandsTable bank.old table.now }
+    requires table { TableStands bank.old table.now }
     ensures nodes { OnOk result (bank.new ≡ (row_or_zeros (B.kinds book.now) (words_in table.now) (width_in bank.old table.now) (slice_get table.now place.bits) bank.old).nodes) }
     ensures form { IfOk result (λ row. row ≡ (row_or_zeros (B.kinds book.now) (words_in table.now) (width_in bank.old table.now) (slice_get table.now place.bits) bank.old).value) }
     ensures grows { Extends bank.old bank.new }
@@ -94,7 +94,7 @@ fn zeros<B: Book>(
     book: &B,
     table: &[SymRow],
 ) -> Result<SymRow, NoMemory>
-    requires table { StandsTable bank.old table.now }
+    requires table { TableStands bank.old table.now }
     ensures nodes { OnOk result (bank.new ≡ (zeros (B.kinds book.now) (words_in table.now) (width_in bank.old table.now) bank.old).nodes) }
     ensures form { IfOk result (λ row. row ≡ (zeros (B.kinds book.now) (words_in table.now) (width_in bank.old table.now) bank.old).value) }
     ensures shape { (words width : ℕ) → IsTable bank.old words width table.now → IfOk result (IsRow bank.new words width) }
