@@ -10,7 +10,8 @@ make-requires g c = let w = c.requires.words in can_equal c.args.bank.now c.args
 
 pub make-requires-2 : goal.make-requires-2
 make-requires-2 g c =
-    can_and c.make.new.self c.args.so_far c.in_ok-same.same 1 (wider c.args.bank.now c.make.new.self c.args.so_far 1 c.make.ensures.grows c.requires.so_far) c.in_ok-same.ensures.width
+    let k = can_and c.make.new.self c.args.so_far c.in_ok-same.same 1 (wider c.args.bank.now c.make.new.self c.args.so_far 1 c.make.ensures.grows c.requires.so_far) c.in_ok-same.ensures.width in
+    record { one = k.one; two = k.two; widths = k.widths }
 
 pub returns-clause-width : goal.returns-clause-width
 returns-clause-width g c =

@@ -1,4 +1,4 @@
-use Rattle.std.proofs.Common.{◌∙◌, ap, sym, subst}
+use Rattle.std.proofs.Common.{◌≡◌, ◌∙◌, sym, subst}
 use Rattle.ygg_bank.proofs.Widths.{wider, extends_both}
 use Rattle.ygg_shape.specs.Making.{where_at}
 use Rattle.ygg_shape.specs.Terms.{IsRow}
@@ -27,8 +27,8 @@ loop-number-preserved g c =
     record {
       went = fold_from_goes (λ so_far number row. where_at kinds c.args.place.at c.args.place.width number row so_far) c.args.past c.args.table.now c.args.bank.now c.loop-number.number c.loop-number.row
           c.loop-number.bank c.as_slice.result.now _ c.in_ok-row.row c.where_at.new.bank c.loop-number-test.true (c.as_slice.ensures ∙ c.index-table-number.is)
-          (c.in_ok-row.ensures.nodes ∙ ap (λ z. (where_at kinds c.args.place.at c.args.place.width c.loop-number.number c.as_slice.result.now z c.loop-number.bank).nodes) same)
-          (c.in_ok-row.ensures.form ∙ ap (λ z. (where_at kinds c.args.place.at c.args.place.width c.loop-number.number c.as_slice.result.now z c.loop-number.bank).value) same)
+          (subst (λ z. c.where_at.new.bank ≡ (where_at kinds c.args.place.at c.args.place.width c.loop-number.number c.as_slice.result.now z c.loop-number.bank).nodes) same c.in_ok-row.ensures.nodes)
+          (subst (λ z. c.in_ok-row.row ≡ (where_at kinds c.args.place.at c.args.place.width c.loop-number.number c.as_slice.result.now z c.loop-number.bank).value) same c.in_ok-row.ensures.form)
           c.loop-number.invariant.went;
       grows = extends_both c.args.bank.now c.loop-number.bank c.where_at.new.bank c.loop-number.invariant.grows c.where_at.ensures.grows;
       shape = λ n w q p.
