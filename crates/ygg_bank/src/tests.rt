@@ -1,4 +1,9 @@
+ghost use Rattle.std.specs.Prelude.{◌≡◌, [], ◌∷◌};
+ghost use Rattle.ygg_value.specs.Words.{word};
+ghost use Rattle.ygg_bank.specs.declared.env.Given.TheVariants as given;
+
 use super::*;
+use std::alloc::Global;
 use std::test::Fail;
 use ygg_rules::{Rule, RuleBook, RuleKind, add_zero};
 use ygg_value::{Op, Word};
@@ -71,6 +76,22 @@ fn sums(rt: HostRuntime) -> Result<(), Fail> {
     Ok(())
 }
 
+/// What an environment of two items with the number 3 gives for that input.
+fn value_of_input(alloc: Global, env: &Env) -> Result<Word, NoMemory>
+    requires { env.now ≡ given.Word 3 (word 8 1) ∷ given.Word 3 (word 8 2) ∷ [] }
+{
+    let book = RuleBook::new(Vec::new(alloc));
+    let mut bank = Bank::new(alloc)?;
+    let input = bank.make(
+        Node::Input {
+            number: 3,
+            width: 8,
+        },
+        &book,
+    )?;
+    bank.value(alloc, input, env)
+}
+
 #[test]
 fn the_first_item_counts(rt: HostRuntime) -> Result<(), Fail> {
     let alloc = rt.alloc();
@@ -86,5 +107,7 @@ fn the_first_item_counts(rt: HostRuntime) -> Result<(), Fail> {
     assert_eq!(rt; given_for(&env, 3), Some(Word { width: 8, bits: 1 }));
     assert_eq!(rt; given_for(&env, 4), None);
     assert_eq!(rt; env.copy(alloc)?.len(), 2);
+    let value = value_of_input(alloc, &env)?;
+    assert_eq!(rt; value, Word { width: 8, bits: 1 });
     Ok(())
 }

@@ -1,0 +1,211 @@
+-- What answers are worth as rows, tables and values, under one valuation of the nodes at the end.
+use Rattle.std.proofs.Common.{◌≡◌, ◌≤◌, ◌==◌, ℕ, Bool, true, false, ◌&&◌, if◌then◌else◌, List, [], ◌∷◌, map, length, All, refl, sym, ap, ◌∙◌, subst, arith}
+use Rattle.std.specs.Str.{bytes_eq}
+use Rattle.std.proofs.lemmas.Bool.Decides.{Decides-eqb}
+use Rattle.std.proofs.lemmas.List.Elements.{All-head}
+use Rattle.ygg_value.specs.Number.{Digits, Grid, IsWord}
+use Rattle.ygg_value.specs.Shapes.{IsShape}
+use Rattle.ygg_value.specs.Values.{rows_eq, same_value}
+use Rattle.ygg_value.specs.Words.{word, bit_of}
+use Rattle.ygg_value.specs.declared.operation.Op.TheVariants.{Eq}
+use Rattle.ygg_value.specs.declared.row.Value.TheVariants as value
+use Rattle.ygg_value.specs.declared.shape.Shape.{Shape}
+use Rattle.ygg_value.specs.declared.shape.Shape.TheVariants as shape
+use Rattle.ygg_rules.specs.declared.rule.RuleKind.{RuleKind}
+use Rattle.ygg_bank.proofs.Made.{made_grows}
+use Rattle.ygg_bank.proofs.Meaning.{fits_fewer}
+use Rattle.ygg_bank.specs.Making.{made}
+use Rattle.ygg_bank.specs.Nodes.{HasWidth, Extends}
+use Rattle.ygg_bank.specs.Values.{Inputs, Values, Fits}
+use Rattle.ygg_bank.specs.declared.node.Id.{Id}
+use Rattle.ygg_bank.specs.declared.node.Node.{Node}
+use Rattle.ygg_bank.specs.declared.node.Node.TheVariants.{Const, Bin}
+use Rattle.ygg_shape.proofs.Grows.{compared_row_grows, compared_rows_grows}
+use Rattle.ygg_shape.proofs.Rows.{TermIs, holds, made_is, merged_word_is, merged_row_is, compared_row_is}
+use Rattle.ygg_shape.proofs.Tables.{merged_rows_is, merged_rows_length, compared_rows_is}
+use Rattle.ygg_shape.proofs.Wider.{can_equal, row_wider, rows_wider, words_in_table}
+use Rattle.ygg_shape.specs.Making.{merged, merged_rows, compared, compared_row, compared_rows}
+use Rattle.ygg_shape.specs.Terms.{IsRow, IsTable, HasShape, numbers_of, row_width, row_of, table_width, table_of, words_in, worth}
+use Rattle.ygg_shape.specs.declared.terms.SymValue.{SymValue}
+use Rattle.ygg_shape.specs.declared.terms.SymValue.TheVariants.{Word, Row, Table}
+
+-- a row of numbers
+abbrev pub digits : ℕ → List ℕ → Digits
+digits w ns = record { width = w; words = ns }
+
+-- a table of numbers
+abbrev pub grid : ℕ → ℕ → List (List ℕ) → Grid
+grid w n rows = record { width = w; words = n; rows = rows }
+
+-- a function of one of two is one of what it gives
+pub if_of : {X Y : Type 0} (f : X → Y) (c : Bool) (a b : X) → f (if c then a else b) ≡ (if c then f a else f b)
+if_of f true a b = refl
+if_of f false a b = refl
+
+module _ (inputs : Inputs) (v : Values) (kinds : List RuleKind) where
+  pub row_width_is : (nodes : List Node) (n w : ℕ) (row : List Id) → Fits inputs v nodes → IsRow nodes n w row → 1 ≤ n → row_width v row ≡ w
+  row_width_is nodes n w [] h p l = absurd (omega (arith, p.count))
+  row_width_is nodes n w (a ∷ row) h p l = h.widths a.0 w (All-head (λ (x : Id). HasWidth nodes x w) a row p.wide)
+
+  pub row_worth : (nodes : List Node) (n w : ℕ) (row : List Id) → Fits inputs v nodes → IsRow nodes n w row → 1 ≤ n → row_of v row ≡ digits w (numbers_of v row)
+  row_worth nodes n w row h p l = ap (λ z. digits z (numbers_of v row)) (row_width_is nodes n w row h p l)
+
+  table_width_is : (nodes : List Node) (n w : ℕ) (table : List (List Id)) → Fits inputs v nodes → IsTable nodes n w table → table_width v table ≡ w
+  table_width_is nodes n w [] h p = let l = p.limits in absurd (omega arith)
+  table_width_is nodes n w (row ∷ rows) h p = let l = p.limits in row_width_is nodes n w row h (All-head (IsRow nodes n w) row rows p.rows) (omega arith)
+
+  pub table_worth : (nodes : List Node) (n w : ℕ) (table : List (List Id)) → Fits inputs v nodes → IsTable nodes n w table → table_of v table ≡ grid w n (map (numbers_of v) table)
+  table_worth nodes n w table h p =
+      ap (λ z. grid z (words_in table) (map (numbers_of v) table)) (table_width_is nodes n w table h p)
+      ∙ ap (λ z. grid w z (map (numbers_of v) table)) (words_in_table nodes table n w p)
+
+  -- a table with as many rows as another keeps the limits as well
+  pub table_like : (old new : List Node) (n w : ℕ) (table answer : List (List Id)) → IsTable old n w table → length answer ≡ length table → All (IsRow new n w) answer → IsTable new n w answer
+  table_like old new n w table answer h e q = record { limits = subst (λ z. IsShape (shape.Table z n w)) (sym e) h.limits; rows = q }
+
+  -- what is merged of two values of a shape has the shape, and is one of them
+  pub record MergedIs (s : Shape) (t : Id) (one two : SymValue) (nodes : List Node) (answer : SymValue) : Type 0 where
+    pub has : HasShape nodes s answer
+    pub is : IsShape s → worth v answer ≡ (if holds inputs v kinds t then worth v one else worth v two)
+
+  merged_words : (w : ℕ) (t : Id) (one two : SymValue) (nodes : List Node) → HasShape nodes (shape.Word w) one → HasShape nodes (shape.Word w) two → HasWidth nodes t 1 →
+      Fits inputs v (merged kinds t one two nodes).nodes → MergedIs (shape.Word w) t one two (merged kinds t one two nodes).nodes (merged kinds t one two nodes).value
+  merged_words w t (Word a) (Word b) nodes p q d h =
+      let m = merged_word_is inputs v kinds w t a b nodes d p q h in
+      record { has = m.wide; is = λ l. ap value.Word m.is ∙ if_of value.Word (holds inputs v kinds t) (v a.0) (v b.0) }
+  merged_words w t (Word a) (Row y) nodes p q d h = absurd q
+  merged_words w t (Word a) (Table y) nodes p q d h = absurd q
+  merged_words w t (Row x) two nodes p q d h = absurd p
+  merged_words w t (Table x) two nodes p q d h = absurd p
+
+  merged_rowed : (n w : ℕ) (t : Id) (one two : SymValue) (nodes : List Node) → HasShape nodes (shape.Row n w) one → HasShape nodes (shape.Row n w) two → HasWidth nodes t 1 →
+      Extends nodes (merged kinds t one two nodes).nodes → Fits inputs v (merged kinds t one two nodes).nodes →
+      MergedIs (shape.Row n w) t one two (merged kinds t one two nodes).nodes (merged kinds t one two nodes).value
+  merged_rowed n w t (Row x) (Row y) nodes p q d g h =
+      let o = merged kinds t (Row x) (Row y) nodes in
+      let c = holds inputs v kinds t in
+      let m = merged_row_is inputs v kinds n w t x y nodes d p q h in
+      record {
+        has = m.shaped;
+        is = λ l.
+            let some : 1 ≤ n = l.0.0 in
+            ap value.Row (row_worth o.nodes n w _ h m.shaped some ∙ ap (digits w) m.is ∙ if_of (digits w) c (numbers_of v x) (numbers_of v y)
+            ∙ ap (λ z. if c then z else digits w (numbers_of v y)) (sym (row_worth o.nodes n w x h (row_wider nodes o.nodes n w x g p) some))
+            ∙ ap (λ z. if c then row_of v x else z) (sym (row_worth o.nodes n w y h (row_wider nodes o.nodes n w y g q) some)))
+            ∙ if_of value.Row c (row_of v x) (row_of v y);
+      }
+  merged_rowed n w t (Row x) (Word y) nodes p q d g h = absurd q
+  merged_rowed n w t (Row x) (Table y) nodes p q d g h = absurd q
+  merged_rowed n w t (Word x) two nodes p q d g h = absurd p
+  merged_rowed n w t (Table x) two nodes p q d g h = absurd p
+
+  -- a table among more nodes
+  table_wider : (old new : List Node) (n w : ℕ) (table : List (List Id)) → Extends old new → IsTable old n w table → IsTable new n w table
+  table_wider old new n w table g h = record { limits = h.limits; rows = rows_wider old new n w table g h.rows }
+
+  merged_tables : (k n w : ℕ) (t : Id) (one two : SymValue) (nodes : List Node) → HasShape nodes (shape.Table k n w) one → HasShape nodes (shape.Table k n w) two → HasWidth nodes t 1 →
+      Extends nodes (merged kinds t one two nodes).nodes → Fits inputs v (merged kinds t one two nodes).nodes →
+      MergedIs (shape.Table k n w) t one two (merged kinds t one two nodes).nodes (merged kinds t one two nodes).value
+  merged_tables k n w t (Table x) (Table y) nodes p q d g h =
+      let o = merged_rows kinds t x y nodes in
+      let c = holds inputs v kinds t in
+      let px = p.1 in let qy = q.1 in
+      let m = merged_rows_is inputs v kinds n w t x y nodes d px.rows qy.rows (p.0 ∙ sym q.0) h in
+      let size : length o.value ≡ length x = merged_rows_length inputs v kinds t x y nodes (p.0 ∙ sym q.0) in
+      let made : IsTable o.nodes n w o.value = table_like nodes o.nodes n w x o.value px size m.rows_are in
+      record {
+        has = (size ∙ p.0, made);
+        is = λ l.
+            ap value.Table (table_worth o.nodes n w o.value h made ∙ ap (grid w n) m.is ∙ if_of (grid w n) c (map (numbers_of v) x) (map (numbers_of v) y)
+            ∙ ap (λ z. if c then z else grid w n (map (numbers_of v) y)) (sym (table_worth o.nodes n w x h (table_wider nodes o.nodes n w x g px)))
+            ∙ ap (λ z. if c then table_of v x else z) (sym (table_worth o.nodes n w y h (table_wider nodes o.nodes n w y g qy))))
+            ∙ if_of value.Table c (table_of v x) (table_of v y);
+      }
+  merged_tables k n w t (Table x) (Word y) nodes p q d g h = absurd q
+  merged_tables k n w t (Table x) (Row y) nodes p q d g h = absurd q
+  merged_tables k n w t (Word x) two nodes p q d g h = absurd p
+  merged_tables k n w t (Row x) two nodes p q d g h = absurd p
+
+  pub merged_is : (s : Shape) (t : Id) (one two : SymValue) (nodes : List Node) → HasShape nodes s one → HasShape nodes s two → HasWidth nodes t 1 →
+      Extends nodes (merged kinds t one two nodes).nodes → Fits inputs v (merged kinds t one two nodes).nodes →
+      MergedIs s t one two (merged kinds t one two nodes).nodes (merged kinds t one two nodes).value
+  merged_is (shape.Word w) t one two nodes p q d g h = merged_words w t one two nodes p q d h
+  merged_is (shape.Row n w) t one two nodes p q d g h = merged_rowed n w t one two nodes p q d g h
+  merged_is (shape.Table k n w) t one two nodes p q d g h = merged_tables k n w t one two nodes p q d g h
+
+  -- a number equals itself
+  same_number : (a b : ℕ) → a ≡ b → (a == b) ≡ true
+  same_number a b e = (Decides-eqb a b).1 e
+
+  both_true : (a b : Bool) → a ≡ true → b ≡ true → (a && b) ≡ true
+  both_true true b e f = f
+  both_true false b e f = absurd (cc)
+
+  -- the constant 1
+  one_word : IsWord (word 1 1)
+  one_word = record { least = omega arith; most = omega arith; fits = omega arith }
+
+  -- whether values of a shape are equal
+  abbrev ComparedIs : SymValue → SymValue → List Node → Id → Type 0
+  ComparedIs one two nodes answer = TermIs inputs v kinds nodes 1 (word 1 (bit_of (same_value (worth v one) (worth v two)))) answer
+
+  compared_words : (w : ℕ) (one two : SymValue) (nodes : List Node) → HasShape nodes (shape.Word w) one → HasShape nodes (shape.Word w) two →
+      Extends nodes (compared kinds one two nodes).nodes → Fits inputs v (compared kinds one two nodes).nodes →
+      ComparedIs one two (compared kinds one two nodes).nodes (compared kinds one two nodes).value
+  compared_words w (Word a) (Word b) nodes p q g h =
+      let m = made_is inputs v kinds (Bin Eq a b) nodes (can_equal nodes a b w p q) h in
+      let f = fits_fewer inputs v nodes (made kinds (Bin Eq a b) nodes).nodes g h in
+      let same = same_number (v a.0).width (v b.0).width (f.widths a.0 w p ∙ sym (f.widths b.0 w q)) in
+      record { wide = m.wide; is = m.is ∙ ap (λ z. word 1 (bit_of (z && ((v a.0).bits == (v b.0).bits)))) (sym same) }
+  compared_words w (Word a) (Row y) nodes p q g h = absurd q
+  compared_words w (Word a) (Table y) nodes p q g h = absurd q
+  compared_words w (Row x) two nodes p q g h = absurd p
+  compared_words w (Table x) two nodes p q g h = absurd p
+
+  compared_rowed : (n w : ℕ) (one two : SymValue) (nodes : List Node) → 1 ≤ n → HasShape nodes (shape.Row n w) one → HasShape nodes (shape.Row n w) two →
+      Extends nodes (compared kinds one two nodes).nodes → Fits inputs v (compared kinds one two nodes).nodes →
+      ComparedIs one two (compared kinds one two nodes).nodes (compared kinds one two nodes).value
+  compared_rowed n w (Row x) (Row y) nodes l p q g h =
+      let k = made kinds (Const (word 1 1)) nodes in
+      let kg = made_grows kinds (Const (word 1 1)) nodes in
+      let o = compared_row kinds k.value x y k.nodes in
+      let a = made_is inputs v kinds (Const (word 1 1)) nodes one_word (fits_fewer inputs v k.nodes o.nodes (compared_row_grows kinds k.value x y k.nodes) h) in
+      let m = compared_row_is inputs v kinds n w true k.value x y k.nodes a.wide (row_wider nodes k.nodes n w x kg p) (row_wider nodes k.nodes n w y kg q) a.is h in
+      let same = same_number (row_width v x) (row_width v y)
+      (row_width_is o.nodes n w x h (row_wider nodes o.nodes n w x g p) l ∙ sym (row_width_is o.nodes n w y h (row_wider nodes o.nodes n w y g q) l)) in
+      record { wide = m.wide; is = m.is ∙ ap (λ z. word 1 (bit_of (z && bytes_eq (numbers_of v x) (numbers_of v y)))) (sym same) }
+  compared_rowed n w (Row x) (Word y) nodes l p q g h = absurd q
+  compared_rowed n w (Row x) (Table y) nodes l p q g h = absurd q
+  compared_rowed n w (Word x) two nodes l p q g h = absurd p
+  compared_rowed n w (Table x) two nodes l p q g h = absurd p
+
+  compared_tables : (c n w : ℕ) (one two : SymValue) (nodes : List Node) → HasShape nodes (shape.Table c n w) one → HasShape nodes (shape.Table c n w) two →
+      Extends nodes (compared kinds one two nodes).nodes → Fits inputs v (compared kinds one two nodes).nodes →
+      ComparedIs one two (compared kinds one two nodes).nodes (compared kinds one two nodes).value
+  compared_tables c n w (Table x) (Table y) nodes p q g h =
+      let px = p.1 in let qy = q.1 in
+      let k = made kinds (Const (word 1 1)) nodes in
+      let kg = made_grows kinds (Const (word 1 1)) nodes in
+      let o = compared_rows kinds k.value x y k.nodes in
+      let a = made_is inputs v kinds (Const (word 1 1)) nodes one_word (fits_fewer inputs v k.nodes o.nodes (compared_rows_grows kinds k.value x y k.nodes) h) in
+      let m = compared_rows_is inputs v kinds n w true k.value x y k.nodes a.wide (rows_wider nodes k.nodes n w x kg px.rows) (rows_wider nodes k.nodes n w y kg qy.rows) (p.0 ∙ sym q.0) a.is h in
+      let tx = table_wider nodes o.nodes n w x g px in
+      let ty = table_wider nodes o.nodes n w y g qy in
+      let wide = same_number (table_width v x) (table_width v y) (table_width_is o.nodes n w x h tx ∙ sym (table_width_is o.nodes n w y h ty)) in
+      let long = same_number (words_in x) (words_in y) (words_in_table o.nodes x n w tx ∙ sym (words_in_table o.nodes y n w ty)) in
+      let rest = rows_eq (map (numbers_of v) x) (map (numbers_of v) y) in
+      record {
+        wide = m.wide;
+        is = m.is ∙ ap (λ z. word 1 (bit_of (z && rest))) (sym (both_true (table_width v x == table_width v y) (words_in x == words_in y) wide long));
+      }
+  compared_tables c n w (Table x) (Word y) nodes p q g h = absurd q
+  compared_tables c n w (Table x) (Row y) nodes p q g h = absurd q
+  compared_tables c n w (Word x) two nodes p q g h = absurd p
+  compared_tables c n w (Row x) two nodes p q g h = absurd p
+
+  pub compared_is : (s : Shape) (one two : SymValue) (nodes : List Node) → IsShape s → HasShape nodes s one → HasShape nodes s two →
+      Extends nodes (compared kinds one two nodes).nodes → Fits inputs v (compared kinds one two nodes).nodes →
+      ComparedIs one two (compared kinds one two nodes).nodes (compared kinds one two nodes).value
+  compared_is (shape.Word w) one two nodes l p q g h = compared_words w one two nodes p q g h
+  compared_is (shape.Row n w) one two nodes l p q g h = compared_rowed n w one two nodes l.0.0 p q g h
+  compared_is (shape.Table c n w) one two nodes l p q g h = compared_tables c n w one two nodes p q g h

@@ -1,0 +1,19 @@
+use Rattle.ygg_bank.proofs.Exist.{keeps_values}
+use Rattle.ygg_shape.proofs.Answered.{stored_shape, stored_count, stored_value}
+use Rattle.ygg_shape.proofs.storing.store.Goals as goal
+
+pub returns-clause-shape : goal.returns-clause-shape
+returns-clause-shape g c n w h p =
+    stored_shape (g.B.Book.kinds c.args.book.now) n w c.args.table.now c.args.at c.args.row.now c.args.bank.now c.store_by.new.bank c.store_by.result c.len.ensures.bank c.store_by.ensures.bank c.requires.at
+    c.store_by.ensures.nodes c.store_by.ensures.form h p
+
+pub returns-clause-count : goal.returns-clause-count
+returns-clause-count g c = stored_count (g.B.Book.kinds c.args.book.now) c.args.table.now c.args.at c.args.row.now c.args.bank.now c.store_by.result c.store_by.ensures.form
+
+pub returns-clause-value : goal.returns-clause-value
+returns-clause-value g c =
+    stored_value (g.B.Book.kinds c.args.book.now) c.args.table.now c.args.at c.args.row.now c.args.bank.now c.store_by.new.bank c.store_by.result c.len.ensures.bank c.store_by.ensures.bank
+    c.store_by.ensures.grows c.requires.at c.store_by.ensures.nodes c.store_by.ensures.form c.requires.table
+
+pub returns-clause-keeps : goal.returns-clause-keeps
+returns-clause-keeps g c = keeps_values c.args.bank.now c.store_by.new.bank c.store_by.ensures.grows

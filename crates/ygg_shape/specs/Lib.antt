@@ -1,0 +1,4 @@
+pub mod Terms
+pub mod Lists
+pub mod Making
+pub mod Meaning

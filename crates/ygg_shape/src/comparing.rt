@@ -1,0 +1,154 @@
+//! Comparing: the term that says whether two values are equal.
+
+ghost use Rattle.std.specs.Prelude.{◌≡◌, IfOk, OnOk};
+ghost use Rattle.ygg_bank.specs.Nodes.{Extends, HasWidth, IsBank};
+ghost use Rattle.ygg_bank.specs.Values.{KeepsValues};
+ghost use Rattle.ygg_shape.specs.Making.{compared, compared_row, compared_rows, compared_word};
+ghost use Rattle.ygg_shape.specs.Meaning.{IsCompared};
+ghost use Rattle.ygg_shape.specs.Terms.{AreAlike, RowsAlike, TablesAlike, WordsAlike};
+
+use crate::terms::{SymRow, SymValue};
+use ygg_bank::{Bank, Id, NoMemory, Node};
+use ygg_rules::Book;
+use ygg_value::{Op, Word};
+
+/// The term that is 1 where the two values are equal, and 0 where they aren't, in every environment. Its only error is want of memory,
+/// after which the bank may have more nodes.
+pub fn equal<B: Book>(
+    bank: &mut Bank,
+    book: &B,
+    one: &SymValue,
+    two: &SymValue,
+) -> Result<Id, NoMemory>
+    requires { AreAlike bank.old one.now two.now }
+    ensures nodes { OnOk result (bank.new ≡ (compared (B.kinds book.now) one.now two.now bank.old).nodes) }
+    ensures form { IfOk result (λ id. id ≡ (compared (B.kinds book.now) one.now two.now bank.old).value) }
+    ensures width { IfOk result (λ id. HasWidth bank.new id 1) }
+    ensures value { IfOk result (IsCompared bank.new one.now two.now) }
+    ensures grows { Extends bank.old bank.new }
+    ensures keeps { KeepsValues bank.old bank.new }
+    ensures bank { IsBank bank.new }
+{
+    equal_by(bank, book, one, two)
+}
+
+/// What `equal` does.
+fn equal_by<B: Book>(
+    bank: &mut Bank,
+    book: &B,
+    one: &SymValue,
+    two: &SymValue,
+) -> Result<Id, NoMemory>
+    requires { AreAlike bank.old one.now two.now }
+    ensures nodes { OnOk result (bank.new ≡ (compared (B.kinds book.now) one.now two.now bank.old).nodes) }
+    ensures form { IfOk result (λ id. id ≡ (compared (B.kinds book.now) one.now two.now bank.old).value) }
+    ensures grows { Extends bank.old bank.new }
+    ensures bank { IsBank bank.new }
+{
+    match (one, two) {
+        (SymValue::Word(one), SymValue::Word(two)) => bank.make(
+            Node::Bin {
+                op: Op::Eq,
+                a: *one,
+                b: *two,
+            },
+            book,
+        ),
+        (SymValue::Row(one), SymValue::Row(two)) => {
+            let so_far = bank.make(Node::Const(Word { width: 1, bits: 1 }), book)?;
+            compare_row(bank, book, so_far, one.as_slice(), two.as_slice())
+        }
+        (SymValue::Table(one), SymValue::Table(two)) => {
+            let so_far = bank.make(Node::Const(Word { width: 1, bits: 1 }), book)?;
+            compare_rows(bank, book, so_far, one.as_slice(), two.as_slice())
+        }
+        _ => bank.make(Node::Const(Word { width: 1, bits: 0 }), book),
+    }
+}
+
+/// Whether two tables are equal, joined to what is known so far.
+fn compare_rows<B: Book>(
+    bank: &mut Bank,
+    book: &B,
+    so_far: Id,
+    one: &[SymRow],
+    two: &[SymRow],
+) -> Result<Id, NoMemory>
+    requires bank { IsBank bank.old }
+    requires so_far { HasWidth bank.old so_far 1 }
+    requires rows { TablesAlike bank.old one.now two.now }
+    ensures nodes { OnOk result (bank.new ≡ (compared_rows (B.kinds book.now) so_far one.now two.now bank.old).nodes) }
+    ensures form { IfOk result (λ id. id ≡ (compared_rows (B.kinds book.now) so_far one.now two.now bank.old).value) }
+    ensures grows { Extends bank.old bank.new }
+    ensures bank { IsBank bank.new }
+{
+    let mut all = so_far;
+    for place in 0..one.len() {
+        all = compare_row(
+            bank,
+            book,
+            all,
+            one[place].as_slice(),
+            two[place].as_slice(),
+        )?;
+    }
+    Ok(all)
+}
+
+/// Whether two rows are equal, joined to what is known so far.
+fn compare_row<B: Book>(
+    bank: &mut Bank,
+    book: &B,
+    so_far: Id,
+    one: &[Id],
+    two: &[Id],
+) -> Result<Id, NoMemory>
+    requires bank { IsBank bank.old }
+    requires so_far { HasWidth bank.old so_far 1 }
+    requires rows { RowsAlike bank.old one.now two.now }
+    ensures nodes { OnOk result (bank.new ≡ (compared_row (B.kinds book.now) so_far one.now two.now bank.old).nodes) }
+    ensures form { IfOk result (λ id. id ≡ (compared_row (B.kinds book.now) so_far one.now two.now bank.old).value) }
+    ensures width { IfOk result (λ id. HasWidth bank.new id 1) }
+    ensures grows { Extends bank.old bank.new }
+    ensures bank { IsBank bank.new }
+{
+    let mut all = so_far;
+    for place in 0..one.len() {
+        all = compare_word(bank, book, all, one[place], two[place])?;
+    }
+    Ok(all)
+}
+
+/// Whether two words are equal, joined to what is known so far.
+fn compare_word<B: Book>(
+    bank: &mut Bank,
+    book: &B,
+    so_far: Id,
+    one: Id,
+    two: Id,
+) -> Result<Id, NoMemory>
+    requires so_far { HasWidth bank.old so_far 1 }
+    requires words { WordsAlike bank.old one two }
+    ensures nodes { OnOk result (bank.new ≡ (compared_word (B.kinds book.now) so_far one two bank.old).nodes) }
+    ensures form { IfOk result (λ id. id ≡ (compared_word (B.kinds book.now) so_far one two bank.old).value) }
+    ensures width { IfOk result (λ id. HasWidth bank.new id 1) }
+    ensures grows { Extends bank.old bank.new }
+    ensures bank { IsBank bank.new }
+{
+    let same = bank.make(
+        Node::Bin {
+            op: Op::Eq,
+            a: one,
+            b: two,
+        },
+        book,
+    )?;
+    bank.make(
+        Node::Bin {
+            op: Op::And,
+            a: so_far,
+            b: same,
+        },
+        book,
+    )
+}

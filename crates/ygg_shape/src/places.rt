@@ -1,0 +1,110 @@
+//! Places in a table that are terms.
+
+ghost use Rattle.std.specs.Prelude.{◌≡◌, ◌<◌, ◌^◌, ℕ, nat_lt, slice_get, IfOk, OnOk};
+ghost use Rattle.ygg_rules.specs.Views.{IsWidth};
+ghost use Rattle.ygg_bank.specs.Making.{known_in};
+ghost use Rattle.ygg_bank.specs.Nodes.{Extends, HasWidth, IsBank, Stands};
+ghost use Rattle.ygg_shape.specs.Making.{split_at, where_at};
+ghost use Rattle.ygg_shape.specs.Terms.{IsRow, RowsAlike};
+
+use crate::merging::merge_row;
+use crate::terms::SymRow;
+use std::alloc::Global;
+use ygg_bank::{Bank, Id, NoMemory, Node};
+use ygg_rules::Book;
+use ygg_value::{Op, Word, resize};
+
+/// A place that is a term, and how many binary digits it has.
+#[derive(Clone, Copy, Drop)]
+pub struct Place {
+    /// The term.
+    pub at: Id,
+    /// Its width.
+    pub width: u8,
+}
+
+/// The word that a term is, where it is a constant.
+pub fn known(bank: &Bank, at: Id) -> Option<Word>
+    requires { Stands bank.now at }
+    ensures { result ≡ known_in (slice_get bank.now at.0) }
+{
+    match bank.node(at) {
+        Node::Const(word) => Some(word),
+        _ => None,
+    }
+}
+
+/// One row where the place has this number, and else the other. A number with more digits than the place is never the place.
+pub fn where_at<B: Book>(
+    alloc: Global,
+    bank: &mut Bank,
+    book: &B,
+    place: Place,
+    number: usize,
+    yes: &[Id],
+    no: &[Id],
+) -> Result<SymRow, NoMemory>
+    requires bank { IsBank bank.old }
+    requires place { HasWidth bank.old place.at place.width }
+    requires width { IsWidth place.width }
+    requires rows { RowsAlike bank.old yes.now no.now }
+    ensures nodes { OnOk result (bank.new ≡ (where_at (B.kinds book.now) place.at place.width number yes.now no.now bank.old).nodes) }
+    ensures form { IfOk result (λ row. row ≡ (where_at (B.kinds book.now) place.at place.width number yes.now no.now bank.old).value) }
+    ensures shape { (words width : ℕ) → IsRow bank.old words width yes.now → IsRow bank.old words width no.now → IfOk result (IsRow bank.new words width) }
+    ensures grows { Extends bank.old bank.new }
+    ensures bank { IsBank bank.new }
+{
+    if fits(place.width, number as u64) {
+        split_at(alloc, bank, book, place, number, yes, no)
+    } else {
+        SymRow::from_slice(alloc, no)
+    }
+}
+
+/// One row where the place has this number, which fits its width, and else the other.
+fn split_at<B: Book>(
+    alloc: Global,
+    bank: &mut Bank,
+    book: &B,
+    place: Place,
+    number: usize,
+    yes: &[Id],
+    no: &[Id],
+) -> Result<SymRow, NoMemory>
+    requires bank { IsBank bank.old }
+    requires place { HasWidth bank.old place.at place.width }
+    requires width { IsWidth place.width }
+    requires number { number < 2 ^ place.width }
+    requires rows { RowsAlike bank.old yes.now no.now }
+    ensures nodes { OnOk result (bank.new ≡ (split_at (B.kinds book.now) place.at place.width number yes.now no.now bank.old).nodes) }
+    ensures form { IfOk result (λ row. row ≡ (split_at (B.kinds book.now) place.at place.width number yes.now no.now bank.old).value) }
+    ensures grows { Extends bank.old bank.new }
+    ensures bank { IsBank bank.new }
+{
+    let word = Word {
+        width: place.width,
+        bits: number as u64,
+    };
+    let constant = bank.make(Node::Const(word), book)?;
+    let test = bank.make(
+        Node::Bin {
+            op: Op::Eq,
+            a: place.at,
+            b: constant,
+        },
+        book,
+    )?;
+    merge_row(alloc, bank, book, test, yes, no)
+}
+
+/// Whether the number has at most so many binary digits.
+fn fits(width: u8, number: u64) -> bool
+    requires { IsWidth width }
+    ensures { result ≡ nat_lt number (2 ^ width) }
+{
+    let word = Word {
+        width: 64,
+        bits: number,
+    };
+    resize(word, width).bits == number
+}

@@ -1,0 +1,141 @@
+//! Reading a table at a place that is a term.
+
+ghost use Rattle.std.specs.Prelude.{◌≡◌, ℕ, slice_get, IfOk, OnOk};
+ghost use Rattle.ygg_rules.specs.Views.{IsWidth};
+ghost use Rattle.ygg_bank.specs.Nodes.{Extends, HasWidth, IsBank, Stands};
+ghost use Rattle.ygg_bank.specs.Values.{KeepsValues};
+ghost use Rattle.ygg_shape.specs.Making.{chosen, row_or_zeros, selected, width_in, zeros};
+ghost use Rattle.ygg_shape.specs.Meaning.{AddsAtMostZero, IsConstant, IsRead};
+ghost use Rattle.ygg_shape.specs.Terms.{AreRows, IsRow, IsTable, TableStands, words_in};
+
+use crate::places::{Place, known, where_at};
+use crate::terms::{SymRow, SymTable};
+use std::alloc::Global;
+use ygg_bank::{Bank, Id, NoMemory, Node};
+use ygg_rules::Book;
+use ygg_value::Word;
+
+/// The row at a place of a table, counted from 0, and zeros past the end, in every environment. Where the place is a constant no pick is
+/// made; else a chain of picks over all rows. Its only error is want of memory, after which the bank may have more nodes.
+pub fn select<B: Book>(
+    alloc: Global,
+    bank: &mut Bank,
+    book: &B,
+    table: &SymTable,
+    at: Id,
+) -> Result<SymRow, NoMemory>
+    requires table { TableStands bank.old table.now }
+    requires at { Stands bank.old at }
+    ensures nodes { OnOk result (bank.new ≡ (selected (B.kinds book.now) table.now at bank.old).nodes) }
+    ensures form { IfOk result (λ row. row ≡ (selected (B.kinds book.now) table.now at bank.old).value) }
+    ensures shape { (words width : ℕ) → IsTable bank.old words width table.now → IfOk result (IsRow bank.new words width) }
+    ensures value { IfOk result (IsRead bank.new table.now at) }
+    ensures constant { IsConstant bank.old at → OnOk result (AddsAtMostZero bank.old bank.new) }
+    ensures grows { Extends bank.old bank.new }
+    ensures keeps { KeepsValues bank.old bank.new }
+    ensures bank { IsBank bank.new }
+{
+    // the bank's nodes stand in order
+    let _ = bank.len();
+    select_by(alloc, bank, book, table.as_slice(), at)
+}
+
+/// What `select` does.
+fn select_by<B: Book>(
+    alloc: Global,
+    bank: &mut Bank,
+    book: &B,
+    table: &[SymRow],
+    at: Id,
+) -> Result<SymRow, NoMemory>
+    requires bank { IsBank bank.old }
+    requires table { TableStands bank.old table.now }
+    requires at { Stands bank.old at }
+    ensures nodes { OnOk result (bank.new ≡ (selected (B.kinds book.now) table.now at bank.old).nodes) }
+    ensures form { IfOk result (λ row. row ≡ (selected (B.kinds book.now) table.now at bank.old).value) }
+    ensures grows { Extends bank.old bank.new }
+    ensures bank { IsBank bank.new }
+{
+    match known(bank, at) {
+        Some(place) => row_or_zeros(alloc, bank, book, table, place),
+        None => {
+            let width = bank.width(at);
+            let past = zeros(alloc, bank, book, table)?;
+            choose(alloc, bank, book, Place { at, width }, past, table)
+        }
+    }
+}
+
+/// The row at a place that is known, and zeros past the end.
+fn row_or_zeros<B: Book>(
+    alloc: Global,
+    bank: &mut Bank,
+    book: &B,
+    table: &[SymRow],
+    place: Word,
+) -> Result<SymRow, NoMemory>
+    requires bank { IsBank bank.old }
+    requires table { TableStands bank.old table.now }
+    ensures nodes { OnOk result (bank.new ≡ (row_or_zeros (B.kinds book.now) (words_in table.now) (width_in bank.old table.now) (slice_get table.now place.bits) bank.old).nodes) }
+    ensures form { IfOk result (λ row. row ≡ (row_or_zeros (B.kinds book.now) (words_in table.now) (width_in bank.old table.now) (slice_get table.now place.bits) bank.old).value) }
+    ensures grows { Extends bank.old bank.new }
+    ensures bank { IsBank bank.new }
+{
+    match table.get(place.bits as usize) {
+        Some(row) => row.copy(alloc),
+        None => zeros(alloc, bank, book, table),
+    }
+}
+
+/// A row of zeros, in the shape of the table's rows.
+fn zeros<B: Book>(
+    alloc: Global,
+    bank: &mut Bank,
+    book: &B,
+    table: &[SymRow],
+) -> Result<SymRow, NoMemory>
+    requires table { TableStands bank.old table.now }
+    ensures nodes { OnOk result (bank.new ≡ (zeros (B.kinds book.now) (words_in table.now) (width_in bank.old table.now) bank.old).nodes) }
+    ensures form { IfOk result (λ row. row ≡ (zeros (B.kinds book.now) (words_in table.now) (width_in bank.old table.now) bank.old).value) }
+    ensures shape { (words width : ℕ) → IsTable bank.old words width table.now → IfOk result (IsRow bank.new words width) }
+    ensures grows { Extends bank.old bank.new }
+    ensures bank { IsBank bank.new }
+{
+    let first = table[0].as_slice();
+    let width = bank.width(first[0]);
+    let zero = bank.make(Node::Const(Word { width, bits: 0 }), book)?;
+    Ok(SymRow::from_vec(vec![in alloc; zero; first.len()]?))
+}
+
+/// The row of the table at a place, and `past` where the place is past the end.
+fn choose<B: Book>(
+    alloc: Global,
+    bank: &mut Bank,
+    book: &B,
+    place: Place,
+    past: SymRow,
+    table: &[SymRow],
+) -> Result<SymRow, NoMemory>
+    requires bank { IsBank bank.old }
+    requires place { HasWidth bank.old place.at place.width }
+    requires width { IsWidth place.width }
+    requires rows { AreRows bank.old table.now past }
+    ensures nodes { OnOk result (bank.new ≡ (chosen (B.kinds book.now) place.at place.width past 0 table.now bank.old).nodes) }
+    ensures form { IfOk result (λ row. row ≡ (chosen (B.kinds book.now) place.at place.width past 0 table.now bank.old).value) }
+    ensures grows { Extends bank.old bank.new }
+    ensures bank { IsBank bank.new }
+{
+    let mut row = past;
+    for number in 0..table.len() {
+        row = where_at(
+            alloc,
+            bank,
+            book,
+            place,
+            number,
+            table[number].as_slice(),
+            row.as_slice(),
+        )?;
+    }
+    Ok(row)
+}

@@ -1,0 +1,35 @@
+//! Rows, tables and values whose words are terms of a bank.
+
+use std::alloc::Global;
+use ygg_bank::{Id, NoMemory};
+use ygg_list::{Duplicate, Sequence};
+
+/// The terms of a row's words, in order.
+pub type SymRow = Sequence<Id>;
+
+/// The rows of a table, in order.
+pub type SymTable = Sequence<SymRow>;
+
+/// A word, a row or a table of terms.
+#[derive(Debug, Drop)]
+pub enum SymValue {
+    /// The term of a word.
+    Word(Id),
+    /// The terms of a row's words.
+    Row(SymRow),
+    /// The rows of a table.
+    Table(SymTable),
+}
+
+/// Values in order.
+pub type SymValues = Sequence<SymValue>;
+
+impl Duplicate for SymValue {
+    fn duplicate(&self, alloc: Global) -> Result<SymValue, NoMemory> {
+        match self {
+            SymValue::Word(term) => Ok(SymValue::Word(*term)),
+            SymValue::Row(row) => Ok(SymValue::Row(row.copy(alloc)?)),
+            SymValue::Table(table) => Ok(SymValue::Table(table.copy(alloc)?)),
+        }
+    }
+}
