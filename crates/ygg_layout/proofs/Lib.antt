@@ -1,1 +1,4 @@
 pub mod Indentation
+pub mod Joined
+pub mod Readable
+pub mod Relexed

@@ -1,8 +1,6 @@
 -- The canonical text of marks.
 use Rattle.std.specs.Prelude.{ℕ, ◌+◌, ◌-◌, ◌*◌, Bool, true, false, not, ◌||◌, ◌&&◌, if◌then◌else◌, List, [], ◌∷◌, ◌++◌, replicate, Option, Some, None}
-use Rattle.ygg_base.specs.declared.token.Keyword.{Keyword}
 use Rattle.ygg_base.specs.declared.token.Keyword.TheVariants as word
-use Rattle.ygg_base.specs.declared.token.Symbol.{Symbol}
 use Rattle.ygg_base.specs.declared.token.Symbol.TheVariants as symbol
 use Rattle.ygg_base.specs.declared.token.Mark.{Mark}
 use Rattle.ygg_base.specs.declared.token.Mark.TheVariants as mark
