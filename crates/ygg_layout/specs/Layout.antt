@@ -93,7 +93,7 @@ takes_arguments _ = false
 abbrev pub begins_arguments : Mark → Mark → Bool
 begins_arguments previous this = takes_arguments previous && is_round_open this
 
--- no space stands before a `:` and after it where a number follows it
+-- no space stands on either side of a `:` that a number follows
 abbrev pub joins_number : Mark → Mark → List Mark → Bool
 joins_number previous this others = (is_colon previous && is_number this) || (is_colon this && is_next is_number others)
 
