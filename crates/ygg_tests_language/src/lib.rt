@@ -14,6 +14,8 @@ mod expressions;
 #[cfg(test)]
 mod flag_files;
 #[cfg(test)]
+mod layouts;
+#[cfg(test)]
 mod text;
 #[cfg(test)]
 mod tokens;

@@ -1,12 +1,15 @@
 -- Which files are built, and the one refusal of each other file.
-use Rattle.std.specs.Prelude.{◌≡◌, ◌⊎◌, ℕ, ◌≤◌, ◌<◌, List, [], ◌∷◌, ◌++◌, length, codes, Option, Some, None, Ok}
+use Rattle.std.specs.Prelude.{◌≡◌, ◌⊎◌, ℕ, ◌≤◌, ◌<◌, List, [], ◌∷◌, ◌++◌, length, codes, Option, Some, None, Ok, Err}
 use Rattle.std.specs.Fmt.{decimal}
 use Rattle.ygg_base.specs.declared.failure.Refusal.{Refusal}
 use Rattle.ygg_base.specs.declared.tokens.Tokens.{Tokens}
 use Rattle.ygg_base.specs.Lexing.{tokens_of}
 use Rattle.ygg_syntax.specs.declared.flag.FlagFile.{FlagFile}
+use Rattle.ygg_syntax.specs.declared.tree.File.{File}
+use Rattle.ygg_syntax.specs.Files as Files
 use Rattle.ygg_syntax.specs.FlagGrammar.{Derives}
 use Rattle.ygg_syntax.specs.FlagNames.{FitsNames}
+use Rattle.ygg_file.specs.Refused.{IsRefusal}
 use Rattle.ygg_top.specs.Verdict.{line}
 
 -- the most bytes of a layer file
@@ -17,11 +20,13 @@ most_bytes = 1048576
 abbrev pub most_tokens : ℕ
 most_tokens = 4096
 
--- the bytes are a flag file whose names fit
+-- the bytes are a layer file, which is a flag file whose names fit
 pub record IsBuilt (bytes : List ℕ) (f : FlagFile) : Type 0 where
   pub small : length bytes ≤ most_bytes
   pub tokens : Tokens
   pub spells : tokens_of bytes ≡ Ok tokens
+  pub layers : File
+  pub reads : Files.Derives tokens.items layers
   pub few : length tokens.items ≤ most_tokens
   pub derives : Derives f tokens.items
   pub fits : FitsNames f
@@ -30,10 +35,17 @@ pub record IsBuilt (bytes : List ℕ) (f : FlagFile) : Type 0 where
 abbrev pub refusal : ℕ → ℕ → ℕ → Refusal
 refusal number line column = record { number = number; line = line; column = column }
 
--- the refusal of a text of no bytes, and of another that isn't built
+-- a layer file derives from the tokens, and it isn't built so far
+pub record IsUnbuilt (bytes : List ℕ) (tokens : Tokens) (r : Refusal) : Type 0 where
+  pub layers : File
+  pub reads : Files.Derives tokens.items layers
+  pub unbuilt : (f : FlagFile) → IsBuilt bytes f → ⊥
+  pub at : r ≡ refusal 12 0 1
+
+-- the refusal of a text: at a byte that begins no token, at a token that can't come, or of a layer file that isn't built so far
 abbrev pub RefusesText : List ℕ → Refusal → Type 0
-RefusesText [] r = r ≡ refusal 3 1 1
-RefusesText (b ∷ bs) r = (r ≡ refusal 12 0 1) × ((f : FlagFile) → ¬ IsBuilt (b ∷ bs) f)
+RefusesText bytes r =
+    (tokens_of bytes ≡ Err r) ⊎ ((tokens : Tokens) × (tokens_of bytes ≡ Ok tokens) × (IsRefusal tokens r ⊎ IsUnbuilt bytes tokens r))
 
 -- the refusal of what stands under the name of the second word: nothing, too many bytes, or a text
 abbrev pub RefusesFile : Option (List ℕ) → Refusal → Type 0

@@ -1,0 +1,4 @@
+//! Stub.
+#![tactic(auto)]
+mod file;
+pub use file::read;

@@ -1,0 +1,4 @@
+pub mod Indentation
+pub mod Joined
+pub mod Readable
+pub mod Relexed

@@ -1,0 +1,7 @@
+ghost use Rattle.ygg_layout.specs.Laws.{LaidOut};
+
+/// The tokens of a canonical text are those that were laid out: a text of marks of the language isn't refused,
+/// and its tokens have these marks in order.
+pub fn laid_out()
+    ensures { LaidOut }
+{}

@@ -1,0 +1,9 @@
+//! The canonical text of tokens: how the language lays them out in lines.
+#![tactic(auto)]
+
+mod law;
+mod layout;
+mod rules;
+
+pub use law::laid_out;
+pub use layout::lay_out;
