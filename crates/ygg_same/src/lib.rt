@@ -1,0 +1,4 @@
+//! Whether two layer files are the same but for places.
+#![tactic(auto)]
+
+mod same;
