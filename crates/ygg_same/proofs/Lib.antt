@@ -1,1 +1,1 @@
-mod Bares
+pub mod Sames

@@ -1,7 +1,8 @@
 ghost use Rattle.std.specs.Prelude.{◌≡◌, IsTrue, ◌↔◌, map};
 ghost use Rattle.ygg_same.specs.Bare.{bare, bare_name, bare_number, bare_type};
 
-use ygg_syntax::tree::{Declared, Expr, Name, Numeral, TypeText};
+use ygg_syntax::tree::{Expr, Name, Numeral, Quantifier, TypeText};
+use ygg_value::Op;
 
 /// Whether the names are the same.
 fn name(a: &Name, b: &Name) -> bool
@@ -31,6 +32,20 @@ fn number(a: &Numeral, b: &Numeral) -> bool
     a.value == b.value
 }
 
+/// Whether the operators are the same.
+fn operator(a: Op, b: Op) -> bool
+    ensures { IsTrue result ↔ (a ≡ b) }
+{
+    a == b
+}
+
+/// Whether the quantifiers are the same.
+fn quantifier(a: Quantifier, b: Quantifier) -> bool
+    ensures { IsTrue result ↔ (a ≡ b) }
+{
+    a == b
+}
+
 /// Whether a name, a width and a bound are the same as others.
 fn range(
     x: &Name,
@@ -46,48 +61,38 @@ fn range(
 }
 
 /// Whether the expressions are the same.
-#[tactic(auto, using(crate::proofs::Bares::bare_constant, crate::proofs::Bares::bare_low, crate::proofs::Bares::bare_variable, crate::proofs::Bares::bare_apply, crate::proofs::Bares::bare_binary, crate::proofs::Bares::bare_not, crate::proofs::Bares::bare_at, crate::proofs::Bares::bare_pick, crate::proofs::Bares::bare_resize, crate::proofs::Bares::bare_fill, crate::proofs::Bares::bare_row, crate::proofs::Bares::bare_quantified))]
 #[cycle(expressions)]
 fn expression(a: &Expr, b: &Expr) -> bool
     ensures { IsTrue result ↔ (bare a.now ≡ bare b.now) }
 {
     match (a, b) {
-        (Expr::Constant(v, w), Expr::Constant(u, x)) => v.value == u.value && w.value == x.value,
+        (Expr::Constant(v, w), Expr::Constant(u, x)) => number(v, u) && number(w, x),
         (Expr::Low(_, x), Expr::Low(_, y)) => name(x, y),
         (Expr::Variable(x), Expr::Variable(y)) => name(x, y),
         (Expr::Apply(f, es), Expr::Apply(g, ds)) => {
-            let arguments = expressions(es.as_slice(), ds.as_slice());
-            name(f, g) && arguments
+            name(f, g) && expressions(es.as_slice(), ds.as_slice())
         }
         (Expr::Binary(_, e, o, _, f), Expr::Binary(_, c, p, _, d)) => {
-            let left = expression(e.get(), c.get());
-            let right = expression(f.get(), d.get());
-            *o == *p && left && right
+            operator(*o, *p) && expression(e.get(), c.get()) && expression(f.get(), d.get())
         }
         (Expr::Not(_, e), Expr::Not(_, d)) => expression(e.get(), d.get()),
         (Expr::At(e, _, i), Expr::At(d, _, j)) => {
-            let whole = expression(e.get(), d.get());
-            let index = expression(i.get(), j.get());
-            whole && index
+            expression(e.get(), d.get()) && expression(i.get(), j.get())
         }
         (Expr::Pick(_, c, e, f), Expr::Pick(_, b, d, g)) => {
-            let test = expression(c.get(), b.get());
-            let first = expression(e.get(), d.get());
-            let second = expression(f.get(), g.get());
-            test && first && second
+            expression(c.get(), b.get())
+                && expression(e.get(), d.get())
+                && expression(f.get(), g.get())
         }
         (Expr::Resize(_, e, w), Expr::Resize(_, d, x)) => {
-            let part = expression(e.get(), d.get());
-            number(w, x) && part
+            number(w, x) && expression(e.get(), d.get())
         }
         (Expr::Fill(_, m, e), Expr::Fill(_, n, d)) => {
-            let part = expression(e.get(), d.get());
-            number(m, n) && part
+            number(m, n) && expression(e.get(), d.get())
         }
         (Expr::Row(_, es), Expr::Row(_, ds)) => expressions(es.as_slice(), ds.as_slice()),
         (Expr::Quantified(_, q, x, w, n, e), Expr::Quantified(_, p, y, v, m, d)) => {
-            let test = expression(e.get(), d.get());
-            *q == *p && range(x, w, n, y, v, m) && test
+            quantifier(*q, *p) && range(x, w, n, y, v, m) && expression(e.get(), d.get())
         }
         _ => false,
     }
@@ -98,13 +103,15 @@ fn expression(a: &Expr, b: &Expr) -> bool
 fn expressions(a: &[Expr], b: &[Expr]) -> bool
     ensures { IsTrue result ↔ (map bare a.now ≡ map bare b.now) }
 {
-    if a.len() != b.len() {
-        return false;
-    }
-    for (one, other) in a.iter().zip(b) {
+    let mut rest = b;
+    for one in a {
+        let Some((other, others)) = rest.split_first() else {
+            return false;
+        };
         if !expression(one, other) {
             return false;
         }
+        rest = others;
     }
-    true
+    rest.is_empty()
 }

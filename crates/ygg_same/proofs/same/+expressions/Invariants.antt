@@ -1,7 +1,7 @@
-use Rattle.std.proofs.Common.{◌≡◌, map, take, length}
+use Rattle.std.proofs.Common.{◌≡◌, ◌↔◌, map, drop}
 use Rattle.ygg_same.specs.Bare.{bare}
 use Rattle.ygg_same.proofs.same.+expressions.Given as goal
 
--- those so far are the same
+-- what is left decides
 abbrev pub invariant-expressions-loop-one : goal.invariant-expressions-loop-one
-invariant-expressions-loop-one l = ?
+invariant-expressions-loop-one l = (map bare (drop l.one-index l.a) ≡ map bare l.rest) ↔ (map bare l.fn.a ≡ map bare l.fn.b)
