@@ -1,5 +1,5 @@
 -- A tree without its places: each is put to line 0 and column 0. Two trees are the same but for places where these are equal.
-use Rattle.std.specs.Prelude.{map, Option, Some, None}
+use Rattle.std.specs.Prelude.{map, option_map}
 use Rattle.ygg_syntax.specs.declared.tree.Place.{Place}
 use Rattle.ygg_syntax.specs.declared.tree.Name.{Name}
 use Rattle.ygg_syntax.specs.declared.tree.Numeral.{Numeral}
@@ -70,11 +70,6 @@ bare_source (source.Call at f arguments) = source.Call nowhere (bare_name f) (ma
 abbrev pub bare_index : Index → Index
 bare_index i = record { bracket = nowhere; at = bare i.at }
 
--- what a block returns, without its places
-abbrev pub bare_answer : Option Expr → Option Expr
-bare_answer None = None
-bare_answer (Some e) = Some (bare e)
-
 -- an opened statement without its places, where the blocks inside have none
 abbrev pub node_bare_statement : Stmt-F Stmt Block → Stmt-F Stmt Block
 node_bare_statement (Stmt-F.Let x from) = Stmt-F.Let (bare_name x) (bare_source from)
@@ -85,7 +80,7 @@ node_bare_statement (Stmt-F.Call f arguments) = Stmt-F.Call (bare_name f) (map b
 
 -- an opened block without its places, where its statements have none
 abbrev pub node_bare_block : Block-F Stmt Block → Block
-node_bare_block b = record { place = nowhere; statements = b.statements; answer = bare_answer b.answer }
+node_bare_block b = record { place = nowhere; statements = b.statements; answer = option_map bare b.answer }
 
 -- a statement without its places
 abbrev pub bare_statement : Stmt → Stmt
@@ -93,7 +88,7 @@ bare_statement = fold-Stmt Stmt Block (λ s. roll-Stmt (node_bare_statement s)) 
 
 -- a block without its places
 abbrev pub bare_block : Block → Block
-bare_block b = record { place = nowhere; statements = map bare_statement b.statements; answer = bare_answer b.answer }
+bare_block b = record { place = nowhere; statements = map bare_statement b.statements; answer = option_map bare b.answer }
 
 -- a declaration without its places
 abbrev pub bare_declared : Declared → Declared
@@ -107,24 +102,14 @@ bare_disk d = record { kind = d.kind; rows = bare_number d.rows; words = bare_nu
 abbrev pub bare_def : Def → Def
 bare_def d = record { name = bare_name d.name; parameters = map bare_declared d.parameters; shape = bare_type d.shape; body = bare d.body }
 
--- the type of an answer, where there is one, without its places
-abbrev pub bare_answer_type : Option TypeText → Option TypeText
-bare_answer_type None = None
-bare_answer_type (Some t) = Some (bare_type t)
-
--- the block for a crash, where one is written, without its places
-abbrev pub bare_on_crash : Option Block → Option Block
-bare_on_crash None = None
-bare_on_crash (Some b) = Some (bare_block b)
-
 -- an operation without its places
 abbrev pub bare_operation : Operation → Operation
 bare_operation o = record {
   name = bare_name o.name;
   arguments = map bare_declared o.arguments;
-  answer = bare_answer_type o.answer;
+  answer = option_map bare_type o.answer;
   spec = bare_block o.spec;
-  on_crash = bare_on_crash o.on_crash;
+  on_crash = option_map bare_block o.on_crash;
   implementation = bare_block o.implementation
 }
 

@@ -2,3 +2,5 @@
 #![tactic(auto)]
 
 mod same;
+
+pub use same::same_tree;
