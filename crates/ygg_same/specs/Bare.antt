@@ -110,7 +110,7 @@ bare_operation o = record {
   answer = option_map bare_type o.answer;
   spec = bare_block o.spec;
   on_crash = option_map bare_block o.on_crash;
-  implementation = bare_block o.implementation
+  implementation = bare_block o.implementation;
 }
 
 -- a background step without its places
@@ -134,7 +134,7 @@ bare_layer l = record {
   relate = bare l.relate;
   always = map bare l.always;
   settled = map bare l.settled;
-  maybe = map bare l.maybe
+  maybe = map bare l.maybe;
 }
 
 -- a file without its places

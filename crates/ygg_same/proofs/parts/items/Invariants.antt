@@ -1,5 +1,5 @@
 use Rattle.std.proofs.Common.{◌≡◌, ◌↔◌, map, drop}
-use Rattle.ygg_same.proofs.same.items.Given as goal
+use Rattle.ygg_same.proofs.parts.items.Given as goal
 
 -- what is left decides
 abbrev pub invariant-loop-one : goal.invariant-loop-one

@@ -2,8 +2,8 @@ use Rattle.std.proofs.Common.{sym, ◌∙◌}
 use Rattle.std.proofs.lemmas.Bool.{false≢true}
 use Rattle.ygg_syntax.specs.declared.tree.Expr.TheVariants as expr
 use Rattle.ygg_same.proofs.Sames.{same_opened, same_quantified}
-use Rattle.ygg_same.proofs.same.+expressions.Goals as goal
-use Rattle.ygg_same.proofs.same.+expressions.Goals.{expression-then-operator, expression-else-operator, expression-then-expression-3, expression-else-expression-3, expression-then-quantifier, expression-else-quantifier}
+use Rattle.ygg_same.proofs.expressions.+expressions.Goals as goal
+use Rattle.ygg_same.proofs.expressions.+expressions.Goals.{expression-then-operator, expression-else-operator, expression-then-expression-3, expression-else-expression-3, expression-then-quantifier, expression-else-quantifier}
 
 pub expression-returns-then-name : goal.expression-returns-then-name
 expression-returns-then-name t c =
@@ -15,18 +15,20 @@ pub expression-returns-then-expression : goal.expression-returns-then-expression
 expression-returns-then-expression t c =
     let whole = same_opened _ _ (c.in-Binary-Binary.is-0 ∙ sym (expr.rolls-Binary _ _ _ _ _)) (c.in-Binary-Binary.is-1 ∙ sym (expr.rolls-Binary _ _ _ _ _)) in
     elim c.if-operator.branch [
-      expression-then-operator w ↦
-        let first = c.operator.ensures.0 w.if-operator.true in
-        let second = w.expression.ensures.0 (sym w.value-is ∙ c.if-expression.true) in
-        (λ yes. let last = c.expression-then-expression.ensures.0 yes in whole.0 (cc), λ same. let parts = whole.1 same in c.expression-then-expression.ensures.1 (cc))
-    | expression-else-operator w ↦ absurd (false≢true (sym w.if-operator.false ∙ sym w.value-is ∙ c.if-expression.true)) ]
+      | expression-then-operator w ↦
+          let first = c.operator.ensures.0 w.if-operator.true in
+          let second = w.expression.ensures.0 (sym w.value-is ∙ c.if-expression.true) in
+          (λ yes. let last = c.expression-then-expression.ensures.0 yes in whole.0 (cc), λ same. let parts = whole.1 same in c.expression-then-expression.ensures.1 (cc))
+      | expression-else-operator w ↦ absurd (false≢true (sym w.if-operator.false ∙ sym w.value-is ∙ c.if-expression.true))
+    ]
 
 pub expression-returns-else-expression : goal.expression-returns-else-expression
 expression-returns-else-expression t c =
     let whole = same_opened _ _ (c.in-Binary-Binary.is-0 ∙ sym (expr.rolls-Binary _ _ _ _ _)) (c.in-Binary-Binary.is-1 ∙ sym (expr.rolls-Binary _ _ _ _ _)) in
     elim c.if-operator.branch [
-      expression-then-operator w ↦ (λ yes. cc, λ same. let parts = whole.1 same in let second = w.expression.ensures.1 (cc) in cc)
-    | expression-else-operator w ↦ (λ yes. cc, λ same. let parts = whole.1 same in let first = c.operator.ensures.1 (cc) in cc) ]
+      | expression-then-operator w ↦ (λ yes. cc, λ same. let parts = whole.1 same in let second = w.expression.ensures.1 (cc) in cc)
+      | expression-else-operator w ↦ (λ yes. cc, λ same. let parts = whole.1 same in let first = c.operator.ensures.1 (cc) in cc)
+    ]
 
 pub expression-returns-in-Not-Not : goal.expression-returns-in-Not-Not
 expression-returns-in-Not-Not t c =
@@ -48,18 +50,20 @@ pub expression-returns-then-expression-4 : goal.expression-returns-then-expressi
 expression-returns-then-expression-4 t c =
     let whole = same_opened _ _ (c.in-Pick-Pick.is-0 ∙ sym (expr.rolls-Pick _ _ _ _)) (c.in-Pick-Pick.is-1 ∙ sym (expr.rolls-Pick _ _ _ _)) in
     elim c.if-expression-3.branch [
-      expression-then-expression-3 w ↦
-        let first = c.expression-in-Pick-Pick.ensures.0 w.if-expression-3.true in
-        let second = w.expression-then-expression-3.ensures.0 (sym w.value-is ∙ c.if-expression-4.true) in
-        (λ yes. let last = c.expression-then-expression-4.ensures.0 yes in whole.0 (cc), λ same. let parts = whole.1 same in c.expression-then-expression-4.ensures.1 (cc))
-    | expression-else-expression-3 w ↦ absurd (false≢true (sym w.if-expression-3.false ∙ sym w.value-is ∙ c.if-expression-4.true)) ]
+      | expression-then-expression-3 w ↦
+          let first = c.expression-in-Pick-Pick.ensures.0 w.if-expression-3.true in
+          let second = w.expression-then-expression-3.ensures.0 (sym w.value-is ∙ c.if-expression-4.true) in
+          (λ yes. let last = c.expression-then-expression-4.ensures.0 yes in whole.0 (cc), λ same. let parts = whole.1 same in c.expression-then-expression-4.ensures.1 (cc))
+      | expression-else-expression-3 w ↦ absurd (false≢true (sym w.if-expression-3.false ∙ sym w.value-is ∙ c.if-expression-4.true))
+    ]
 
 pub expression-returns-else-expression-4 : goal.expression-returns-else-expression-4
 expression-returns-else-expression-4 t c =
     let whole = same_opened _ _ (c.in-Pick-Pick.is-0 ∙ sym (expr.rolls-Pick _ _ _ _)) (c.in-Pick-Pick.is-1 ∙ sym (expr.rolls-Pick _ _ _ _)) in
     elim c.if-expression-3.branch [
-      expression-then-expression-3 w ↦ (λ yes. cc, λ same. let parts = whole.1 same in let second = w.expression-then-expression-3.ensures.1 (cc) in cc)
-    | expression-else-expression-3 w ↦ (λ yes. cc, λ same. let parts = whole.1 same in let first = c.expression-in-Pick-Pick.ensures.1 (cc) in cc) ]
+      | expression-then-expression-3 w ↦ (λ yes. cc, λ same. let parts = whole.1 same in let second = w.expression-then-expression-3.ensures.1 (cc) in cc)
+      | expression-else-expression-3 w ↦ (λ yes. cc, λ same. let parts = whole.1 same in let first = c.expression-in-Pick-Pick.ensures.1 (cc) in cc)
+    ]
 
 pub expression-returns-then-number-2 : goal.expression-returns-then-number-2
 expression-returns-then-number-2 t c =
@@ -82,8 +86,9 @@ pub expression-returns-then-range : goal.expression-returns-then-range
 expression-returns-then-range t c =
     let whole = same_quantified _ _ _ _ _ _ _ _ _ _ _ _ c.in-Quantified-Quantified.is-0 c.in-Quantified-Quantified.is-1 c.get-then-range.ensures c.get-then-range-2.ensures in
     elim c.if-quantifier.branch [
-      expression-then-quantifier w ↦
-        let first = c.quantifier.ensures.0 w.if-quantifier.true in
-        let second = w.range.ensures.0 (sym w.value-is ∙ c.if-range.true) in
-        (λ yes. whole.0 (first, second, c.expression-then-range.ensures.0 yes), λ same. c.expression-then-range.ensures.1 (whole.1 same).2)
-    | expression-else-quantifier w ↦ absurd (false≢true (sym w.if-quantifier.false ∙ sym w.value-is ∙ c.if-range.true)) ]
+      | expression-then-quantifier w ↦
+          let first = c.quantifier.ensures.0 w.if-quantifier.true in
+          let second = w.range.ensures.0 (sym w.value-is ∙ c.if-range.true) in
+          (λ yes. whole.0 (first, second, c.expression-then-range.ensures.0 yes), λ same. c.expression-then-range.ensures.1 (whole.1 same).2)
+      | expression-else-quantifier w ↦ absurd (false≢true (sym w.if-quantifier.false ∙ sym w.value-is ∙ c.if-range.true))
+    ]

@@ -1,6 +1,6 @@
 use Rattle.std.proofs.Common.{◌≡◌, ◌↔◌, map, drop}
 use Rattle.ygg_same.specs.Bare.{bare_statement}
-use Rattle.ygg_same.proofs.same.+blocks.Given as goal
+use Rattle.ygg_same.proofs.statements.+blocks.Given as goal
 
 -- what is left decides
 abbrev pub invariant-statements-loop-one : goal.invariant-statements-loop-one
