@@ -1,1 +1,1 @@
-pub mod Sames
+mod Sames

@@ -34,11 +34,11 @@ same_quantified f f' q q' x x' w w' n n' d e ea eb left right =
     let whole = same_opened (Expr-F.Quantified f q x w n d) (Expr-F.Quantified f' q' x' w' n' e) (ea ∙ sym (expr.rolls-Quantified f q x w n d)) (eb ∙ sym (expr.rolls-Quantified f' q' x' w' n' e)) in
     (λ parts. whole.0 (cc), λ same. let opened_same = whole.1 same in (cc, (cc, (cc, cc)), cc))
 
--- a block inside a statement, without its places
+-- a block without its places, as the fold makes it inside a statement
 inside : Block → Block
 inside = fold-Block Stmt Block (λ s. roll-Stmt (node_bare_statement s)) node_bare_block
 
--- which are those that it is without alone
+-- inside a statement a block is the same as alone
 inside_bare : (b : Block) → inside b ≡ bare_block b
 unfolding inside
 inside_bare b = ap inside (sym (roll-out-Block b)) ∙ fold-roll-Block Stmt Block (λ s. roll-Stmt (node_bare_statement s)) node_bare_block (out-Block b)
@@ -55,7 +55,7 @@ same_opened_statement {a} {b} x y ea eb =
     let right : bare_statement b ≡ roll-Stmt (opened_statement y) = ap bare_statement eb ∙ fold-roll-Stmt Stmt Block (λ s. roll-Stmt (node_bare_statement s)) node_bare_block y in
     (λ same. left ∙ ap roll-Stmt same ∙ sym right, λ same. sym (out-roll-Stmt (opened_statement x)) ∙ ap out-Stmt (sym left ∙ same ∙ right) ∙ out-roll-Stmt (opened_statement y))
 
--- statements `if` are the same where their tests and their blocks are
+-- two `if` are the same where their tests and their blocks are
 pub same_if : {a b : Stmt} (d e : Expr) (f g h k : Block) → a ≡ stmt.If d f g → b ≡ stmt.If e h k
     → ((bare d ≡ bare e) × (bare_block f ≡ bare_block h) × (bare_block g ≡ bare_block k)) ↔ (bare_statement a ≡ bare_statement b)
 same_if d e f g h k ea eb =
@@ -63,7 +63,7 @@ same_if d e f g h k ea eb =
     let in_f = inside_bare f in let in_g = inside_bare g in let in_h = inside_bare h in let in_k = inside_bare k in
     (λ parts. whole.0 (cc), λ same. let opened_same = whole.1 same in (cc, cc, cc))
 
--- statements `for` are the same where their ranges and their blocks are
+-- two `for` are the same where their ranges and their blocks are
 pub same_for : {a b : Stmt} (x y : Name) (w v n m : Numeral) (f g : Block) → a ≡ stmt.For x w n f → b ≡ stmt.For y v m g
     → (((bare_name x ≡ bare_name y) × ((bare_number w ≡ bare_number v) × (bare_number n ≡ bare_number m))) × (bare_block f ≡ bare_block g)) ↔ (bare_statement a ≡ bare_statement b)
 same_for x y w v n m f g ea eb =
