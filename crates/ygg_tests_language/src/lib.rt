@@ -12,6 +12,8 @@ mod expressions;
 #[cfg(test)]
 mod flag_files;
 #[cfg(test)]
+mod places;
+#[cfg(test)]
 mod text;
 #[cfg(test)]
 mod tokens;
