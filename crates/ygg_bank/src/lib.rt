@@ -4,8 +4,6 @@
 pub mod bank;
 pub mod env;
 pub mod node;
-#[cfg(test)]
-mod tests;
 
 pub use bank::Bank;
 pub use env::{Env, Given, Words, given_for};

@@ -7,8 +7,6 @@ mod places;
 pub mod selecting;
 pub mod storing;
 pub mod terms;
-#[cfg(test)]
-mod tests;
 
 pub use comparing::equal;
 pub use merging::merge;

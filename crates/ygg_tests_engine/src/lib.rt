@@ -1,12 +1,16 @@
-//! Tests of the crates that compute: values, rules, clauses and the checker. They stand apart because a crate that has tests is
+//! Tests of the crates that compute: values, rules, the bank and its shapes, clauses and the checker. They stand apart because a crate that has tests is
 //! proved twice.
 #![tactic(auto)]
 
+#[cfg(test)]
+mod bank;
 #[cfg(test)]
 mod checker;
 #[cfg(test)]
 mod clauses;
 #[cfg(test)]
 mod rules;
+#[cfg(test)]
+mod shapes;
 #[cfg(test)]
 mod values;

@@ -16,6 +16,8 @@ mod flag_files;
 #[cfg(test)]
 mod layouts;
 #[cfg(test)]
+mod places;
+#[cfg(test)]
 mod text;
 #[cfg(test)]
 mod tokens;

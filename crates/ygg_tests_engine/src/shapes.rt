@@ -1,13 +1,13 @@
 ghost use Rattle.std.specs.Prelude.{◌≡◌, length, IfOk};
 ghost use Rattle.ygg_shape.specs.Terms.{IsTable};
 
-use super::*;
 use std::alloc::Global;
 use std::process::Abort;
 use std::test::Fail;
 use ygg_bank::{Bank, Env, Id, NoMemory, Node};
 use ygg_list::Duplicate;
 use ygg_rules::RuleBook;
+use ygg_shape::*;
 use ygg_value::{Op, Word};
 
 /// The constant of 8 digits with this number.

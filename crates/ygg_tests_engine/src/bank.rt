@@ -2,9 +2,9 @@ ghost use Rattle.std.specs.Prelude.{◌≡◌, [], ◌∷◌};
 ghost use Rattle.ygg_value.specs.Words.{word};
 ghost use Rattle.ygg_bank.specs.declared.env.Given.TheVariants as given;
 
-use super::*;
 use std::alloc::Global;
 use std::test::Fail;
+use ygg_bank::*;
 use ygg_rules::{Rule, RuleBook, RuleKind, add_zero};
 use ygg_value::{Op, Word};
 

@@ -1,9 +1,9 @@
 use Rattle.std.proofs.Common.{length, refl, sym, ◌∙◌}
 use Rattle.ygg_value.specs.declared.shape.Shape.TheVariants as shape
-use Rattle.ygg_shape.proofs.tests.merged.Goals as goal
+use Rattle.ygg_tests_engine.proofs.shapes.compared.Goals as goal
 
-pub merge-requires-clause-values : goal.merge-requires-clause-values
-merge-requires-clause-values g c =
+pub equal-requires : goal.equal-requires
+equal-requires g c =
     let first = c.in_ok-table_of.ensures in
     let second = c.in_ok-table_of-2.ensures in
     let h = first.table in

@@ -8,7 +8,7 @@ use Rattle.ygg_bank.specs.declared.env.Given.{Given}
 use Rattle.ygg_bank.specs.declared.env.Given.TheVariants.{Word}
 use Rattle.ygg_bank.specs.declared.node.Node.{Node}
 use Rattle.ygg_bank.specs.declared.node.Node.TheVariants.{Input}
-use Rattle.ygg_bank.proofs.tests.value_of_input.Goals as goal
+use Rattle.ygg_tests_engine.proofs.bank.value_of_input.Goals as goal
 
 -- a word of 8 digits for the only input
 fits : (w : Number) (rest : List Given) → w.width ≡ 8 → EnvFits (Word 3 w ∷ rest) (Input 3 8 ∷ [])
