@@ -2,6 +2,8 @@
 #![tactic(auto)]
 
 mod answer;
+#[cfg(test)]
+mod lockstep;
 mod names;
 mod run;
 mod search;

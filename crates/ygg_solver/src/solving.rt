@@ -37,6 +37,15 @@ pub fn solve(alloc: Global, clauses: &Clauses, budget: u32) -> Result<Answer, No
     solve_numbered(alloc, &variables, kept, budget)
 }
 
+/// Makes variables the more active the more literals they have.
+fn rank(order: &mut Order, clauses: &Clauses) {
+    for clause in clauses.as_slice() {
+        for lit in clause.as_slice() {
+            order.bump(lit.var as usize);
+        }
+    }
+}
+
 /// The same of clauses whose variables are places, read by the variables that have the places.
 fn solve_numbered(
     alloc: Global,
@@ -54,6 +63,7 @@ fn solve_numbered(
     let mut propagation = Watch::new(alloc, room)?;
     load(&mut propagation, &clauses)?;
     let mut order = Order::new(alloc, size)?;
+    rank(&mut order, &clauses);
     let mut marks = Vec::from_elem(alloc, false, 2 * size)?;
     let mut held = clauses.into_vec();
     match search(
@@ -66,7 +76,7 @@ fn solve_numbered(
         budget,
     )? {
         End::Model => Ok(Answer::Sat(assignment_of(alloc, variables, propagation.trail())?)),
-        End::Refuted(log) => Ok(Answer::Unsat(name_log(alloc, variables, &log)?)),
-        End::Spent(log) => Ok(Answer::Spent(name_log(alloc, variables, &log)?)),
+        End::Refuted(log) => Ok(Answer::Unsat(name_log(alloc, variables, log)?)),
+        End::Spent(log) => Ok(Answer::Spent(name_log(alloc, variables, log)?)),
     }
 }
