@@ -37,15 +37,6 @@ pub fn solve(alloc: Global, clauses: &Clauses, budget: u32) -> Result<Answer, No
     solve_numbered(alloc, &variables, kept, budget)
 }
 
-/// Makes variables the more active the more literals they have.
-fn rank(order: &mut Order, clauses: &Clauses) {
-    for clause in clauses.as_slice() {
-        for lit in clause.as_slice() {
-            order.bump(lit.var as usize);
-        }
-    }
-}
-
 /// The same of clauses whose variables are places, read by the variables that have the places.
 fn solve_numbered(
     alloc: Global,
@@ -63,7 +54,6 @@ fn solve_numbered(
     let mut propagation = Watch::new(alloc, room)?;
     load(&mut propagation, &clauses)?;
     let mut order = Order::new(alloc, size)?;
-    rank(&mut order, &clauses);
     let mut marks = Vec::from_elem(alloc, false, 2 * size)?;
     let mut held = clauses.into_vec();
     match search(
