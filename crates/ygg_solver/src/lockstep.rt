@@ -1,6 +1,6 @@
 //! Both propagations on the same calls, drawn at random: their answers and values are those that the contract determines.
 
-ghost use Rattle.std.specs.Prelude.{◌≡◌, ◌<◌, ◌+◌, ◌↔◌, IfOk, IsTrue};
+ghost use Rattle.std.specs.Prelude.{◌≡◌, ◌<◌, IfOk};
 ghost use Rattle.ygg_propagate.specs.Propagation.{IsWithin};
 
 use std::alloc::Global;
