@@ -159,7 +159,15 @@ fn learn(
     let first = clause_at(clauses, conflict);
     mark_all(marks, first.as_slice());
     let at = resolve_to_one(marks, clauses, trail, start, &mut chain)?;
-    find(removal, marks, clauses, trail, places, start)?;
+    find(
+        removal,
+        marks,
+        clauses,
+        trail,
+        places,
+        start,
+        chain.as_slice(),
+    )?;
     minimize(marks, clauses, trail, start, at, removal, &mut chain)?;
     let clause = collect(alloc, marks, trail)?;
     let level = match marked_below(marks, trail, 0, start) {
@@ -263,13 +271,11 @@ fn minimize(
     requires reduced { IsReduced clauses.now marks.old trail.now start at chain.old.items }
     ensures { OnOk result (IsReduced clauses.now marks.new trail.now start at chain.new.items) }
 {
-    let mut place = start;
-    while place > 0 {
-        place -= 1;
-        let wanted = removal.is_implied(place);
-        if wanted && is_marked_at(marks, trail, place) {
-            if let Some(id) = entry_at(trail, place).reason {
-                remove_at(marks, clauses, trail, start, at, place, id, chain)?;
+    // Each comes before those that it hangs on, which its reason marks.
+    for place in removal.implied().iter().rev() {
+        if *place < start && is_marked_at(marks, trail, *place) {
+            if let Some(id) = entry_at(trail, *place).reason {
+                remove_at(marks, clauses, trail, start, at, *place, id, chain)?;
             }
         }
     }

@@ -2,7 +2,7 @@
 
 use crate::marked::has_mark;
 use std::alloc::Global;
-use ygg_cnf::Clause;
+use ygg_cnf::{Clause, Lit};
 use ygg_list::NoMemory;
 use ygg_trail::Entry;
 
@@ -22,6 +22,10 @@ pub struct Removal {
     known: Vec<Known>,
     /// The places of which something is known, to forget them again.
     touched: Vec<usize>,
+    /// The implied places. One that another hangs on stands before it.
+    implied: Vec<usize>,
+    /// The marked places that are asked for, some of them more than once.
+    marked: Vec<usize>,
     /// The places that are being asked for, each because of the one below it.
     stack: Vec<usize>,
     /// By level, whether a marked literal is of it. A literal of another level is not implied.
@@ -34,14 +38,16 @@ impl Removal {
         Removal {
             known: Vec::new(alloc),
             touched: Vec::new(alloc),
+            implied: Vec::new(alloc),
+            marked: Vec::new(alloc),
             stack: Vec::new(alloc),
             levels: Vec::new(alloc),
         }
     }
 
-    /// Whether the literal of the place was found to be implied.
-    pub fn is_implied(&self, place: usize) -> bool {
-        known_at(self.known.as_slice(), place) == Known::Implied
+    /// The places whose literals were found to be implied. One that another hangs on stands before it.
+    pub fn implied(&self) -> &[usize] {
+        self.implied.as_slice()
     }
 
     /// Forgets what was found, and makes room for so many places.
@@ -50,6 +56,8 @@ impl Removal {
             write_known(self.known.as_mut_slice(), *place, Known::Nothing);
         }
         self.touched.clear();
+        self.implied.clear();
+        self.marked.clear();
         self.stack.clear();
         if self.known.len() < size {
             self.known.resize(size, Known::Nothing)?;
@@ -60,10 +68,12 @@ impl Removal {
         Ok(())
     }
 
-    /// Says whether a level has a marked literal.
-    fn note_level(&mut self, level: u64, has: bool) {
-        if let Some(slot) = self.levels.get_mut(level as usize) {
-            *slot = has;
+    /// Says whether the level of a place has a marked literal.
+    fn note(&mut self, trail: &[Entry], place: usize, has: bool) {
+        if let Some(entry) = trail.get(place) {
+            if let Some(slot) = self.levels.get_mut(entry.level as usize) {
+                *slot = has;
+            }
         }
     }
 
@@ -80,6 +90,56 @@ impl Removal {
         write_known(self.known.as_mut_slice(), place, known);
         self.touched.push(place)?;
         Ok(())
+    }
+
+    /// Gathers the marked places below `start` that a clause of the chain has, and notes their levels. Each marked literal is
+    /// one of a clause that was resolved, so none is missed, and the rest of the trail is not looked at.
+    fn gather(
+        &mut self,
+        marks: &[bool],
+        clauses: &[Clause],
+        trail: &[Entry],
+        places: &[usize],
+        start: usize,
+        chain: &[u64],
+    ) -> Result<(), NoMemory> {
+        for id in chain {
+            if let Some(clause) = clauses.get((*id as usize).wrapping_sub(1)) {
+                for lit in clause.as_slice() {
+                    let place = place_of(places, *lit);
+                    if place < start && has_mark(marks, *lit) {
+                        self.note(trail, place, true);
+                        self.marked.push(place)?;
+                    }
+                }
+            }
+        }
+        Ok(())
+    }
+
+    /// Asks for each gathered place of which nothing is known.
+    fn ask_all(
+        &mut self,
+        marks: &[bool],
+        clauses: &[Clause],
+        trail: &[Entry],
+        places: &[usize],
+    ) -> Result<(), NoMemory> {
+        for at in 0..self.marked.len() {
+            let place = read_place(self.marked.as_slice(), at);
+            if known_at(self.known.as_slice(), place) == Known::Nothing {
+                self.ask(marks, clauses, trail, places, place, trail.len())?;
+            }
+        }
+        Ok(())
+    }
+
+    /// Forgets which levels have a marked literal.
+    fn forget_levels(&mut self, trail: &[Entry]) {
+        for at in 0..self.marked.len() {
+            let place = read_place(self.marked.as_slice(), at);
+            self.note(trail, place, false);
+        }
     }
 
     /// Asks for one marked place, in at most so many steps.
@@ -102,6 +162,7 @@ impl Removal {
             match self.step(marks, clauses, trail, places, now) {
                 Next::Implied => {
                     self.settle(now, Known::Implied)?;
+                    self.implied.push(now)?;
                     let _ = self.stack.pop();
                 }
                 Next::Other => {
@@ -183,7 +244,21 @@ fn write_known(known: &mut [Known], place: usize, now: Known) {
     }
 }
 
-/// Finds which marked places below `start` are implied. Its only error is want of memory.
+/// A place of a list, or `usize::MAX` past its end.
+fn read_place(places: &[usize], at: usize) -> usize {
+    match places.get(at) {
+        Some(place) => *place,
+        None => usize::MAX,
+    }
+}
+
+/// The place of a literal's variable in the trail, where it is assigned.
+fn place_of(places: &[usize], lit: Lit) -> usize {
+    read_place(places, lit.var as usize)
+}
+
+/// Finds which marked places below `start` are implied. The chain names the clauses that were resolved. Its only error is want
+/// of memory.
 pub fn find(
     removal: &mut Removal,
     marks: &[bool],
@@ -191,25 +266,11 @@ pub fn find(
     trail: &[Entry],
     places: &[usize],
     start: usize,
+    chain: &[u64],
 ) -> Result<(), NoMemory> {
     removal.clear(trail.len())?;
-    for entry in trail {
-        if has_mark(marks, entry.lit.complement()) {
-            removal.note_level(entry.level, true);
-        }
-    }
-    let mut place = 0;
-    for entry in trail {
-        if place >= start {
-            break;
-        }
-        if has_mark(marks, entry.lit.complement()) {
-            removal.ask(marks, clauses, trail, places, place, trail.len())?;
-        }
-        place += 1;
-    }
-    for entry in trail {
-        removal.note_level(entry.level, false);
-    }
+    removal.gather(marks, clauses, trail, places, start, chain)?;
+    removal.ask_all(marks, clauses, trail, places)?;
+    removal.forget_levels(trail);
     Ok(())
 }

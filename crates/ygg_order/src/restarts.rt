@@ -27,7 +27,10 @@ impl Luby {
     }
 }
 
-/// When to begin again: after a hundred times as many conflicts as the next number of the sequence says.
+/// By what the numbers of the sequence are multiplied. Learned clauses are never dropped, so to begin again often costs little.
+const UNIT: u64 = 32;
+
+/// When to begin again: after `UNIT` times as many conflicts as the next number of the sequence says.
 #[derive(Clone, Copy, Debug)]
 pub struct Restarts {
     luby: Luby,
@@ -38,7 +41,7 @@ impl Restarts {
     /// No conflict was counted yet.
     pub fn new() -> Restarts {
         let mut luby = Luby::new();
-        let left = luby.next_length().wrapping_mul(100);
+        let left = luby.next_length().wrapping_mul(UNIT);
         Restarts { luby, left }
     }
 
@@ -48,7 +51,7 @@ impl Restarts {
             self.left -= 1;
             return false;
         }
-        self.left = self.luby.next_length().wrapping_mul(100);
+        self.left = self.luby.next_length().wrapping_mul(UNIT);
         true
     }
 }

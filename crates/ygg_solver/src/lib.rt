@@ -6,8 +6,6 @@ mod names;
 mod run;
 mod search;
 mod solving;
-#[cfg(test)]
-mod tests;
 
 pub use answer::Answer;
 pub use solving::solve;

@@ -71,24 +71,24 @@ fn name_clause(alloc: Global, variables: &Variables, clause: &[Lit]) -> Result<C
 }
 
 /// The entry of the variables that have its clause's places. Its only error is want of memory.
-fn name_step(alloc: Global, variables: &Variables, step: &Step) -> Result<Step, NoMemory>
-    requires { All (IsPlaced variables.now) (clause_of step.now) }
-    ensures { IfOk result (λ named. named ≡ step_at variables.now step.now) }
+fn name_step(alloc: Global, variables: &Variables, step: Step) -> Result<Step, NoMemory>
+    requires { All (IsPlaced variables.now) (clause_of step) }
+    ensures { IfOk result (λ named. named ≡ step_at variables.now step) }
 {
     let Step::Added { clause, chain } = step;
     Ok(Step::Added {
         clause: name_clause(alloc, variables, clause.as_slice())?,
-        chain: chain.copy(alloc)?,
+        chain,
     })
 }
 
-/// The log of the variables that have its places. Its only error is want of memory.
-pub fn name_log(alloc: Global, variables: &Variables, log: &Log) -> Result<Log, NoMemory>
-    requires { All (All (IsPlaced variables.now)) (map clause_of log.now) }
-    ensures { IfOk result (λ named. named ≡ log_at variables.now log.now) }
+/// The log of the variables that have its places. Chains are handed on without a copy, and its only error is want of memory.
+pub fn name_log(alloc: Global, variables: &Variables, log: Log) -> Result<Log, NoMemory>
+    requires { All (All (IsPlaced variables.now)) (map clause_of log) }
+    ensures { IfOk result (λ named. named ≡ log_at variables.now log) }
 {
     let mut named = Log::new(alloc);
-    for step in log.as_slice() {
+    for step in log.into_vec() {
         named.push(name_step(alloc, variables, step)?)?;
     }
     Ok(named)

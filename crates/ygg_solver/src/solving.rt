@@ -66,7 +66,7 @@ fn solve_numbered(
         budget,
     )? {
         End::Model => Ok(Answer::Sat(assignment_of(alloc, variables, propagation.trail())?)),
-        End::Refuted(log) => Ok(Answer::Unsat(name_log(alloc, variables, &log)?)),
-        End::Spent(log) => Ok(Answer::Spent(name_log(alloc, variables, &log)?)),
+        End::Refuted(log) => Ok(Answer::Unsat(name_log(alloc, variables, log)?)),
+        End::Spent(log) => Ok(Answer::Spent(name_log(alloc, variables, log)?)),
     }
 }

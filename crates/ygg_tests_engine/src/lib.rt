@@ -1,5 +1,5 @@
-//! Tests of the crates that compute: values, rules, the bank and its shapes, clauses and the checker. They stand apart because a crate that has tests is
-//! proved twice.
+//! Tests of the crates that compute: values, rules, the bank and its shapes, clauses, the checker and the solver. They stand
+//! apart because a crate that has tests is proved twice.
 #![tactic(auto)]
 
 #[cfg(test)]
@@ -9,8 +9,12 @@ mod checker;
 #[cfg(test)]
 mod clauses;
 #[cfg(test)]
+mod lockstep;
+#[cfg(test)]
 mod rules;
 #[cfg(test)]
 mod shapes;
+#[cfg(test)]
+mod solving;
 #[cfg(test)]
 mod values;

@@ -41,8 +41,8 @@ pub enum Examined {
     Fine,
     /// The clause is false.
     False,
-    /// The clause is watched by two literals that serve no longer, though it has two others that would. It was never seen to
-    /// happen, and no proof rules it out: all clauses are looked at then.
+    /// The clause is watched by two literals that serve no longer, though it has two others that would: after going back,
+    /// literals were decided before it was looked at again. All clauses are looked at then.
     Stuck,
 }
 

@@ -1,13 +1,12 @@
 ghost use Rattle.std.specs.Prelude.{◌<◌, All, IfOk, OnOk};
 ghost use Rattle.ygg_solver.specs.Answers.{IsNumbered};
 
-use crate::answer::Answer;
-use crate::solving::solve;
 use std::alloc::Global;
 use std::test::Fail;
 use ygg_chain::Checker;
 use ygg_cnf::{Assignment, Clause, Clauses, Lit, Log, Step, truth};
 use ygg_list::NoMemory;
+use ygg_solver::{Answer, solve};
 
 /// The clause of literals that are written as in texts: the variable, with `-` before it where it is negated.
 fn clause_of(alloc: Global, numbers: &[i64]) -> Result<Clause, NoMemory>

@@ -1,0 +1,91 @@
+//! Reads clauses in DIMACS form from standard input and solves them. The first word, if there is one, is the budget of learned
+//! clauses. How many clauses were learned and how long solving took go to standard error.
+#![tactic(auto)]
+
+ghost use Rattle.std.specs.Prelude.{◌<◌, ◌↔◌, All, IsTrue};
+ghost use Rattle.ygg_solver.specs.Answers.{IsNumbered};
+
+use std::alloc::Global;
+use std::env;
+use std::time::Instant;
+use ygg_cnf::{Clause, Clauses, Lit};
+use ygg_list::NoMemory;
+use ygg_solver::{Answer, solve};
+
+fn main(rt: HostRuntime) -> anyhow::Result<()> {
+    let alloc = rt.alloc();
+    let mut budget = u32::MAX;
+    for word in env::args(&rt)? {
+        if let Ok(number) = word.as_str().parse::<u32>() {
+            budget = number;
+        }
+    }
+    let mut clauses = Clauses::new(alloc);
+    let mut clause = Clause::new(alloc);
+    for line in rt.lines(alloc) {
+        let line = line?;
+        take_line(alloc, &mut clauses, &mut clause, line.as_str())?;
+    }
+    if budget == 0 || !is_numbered(&clauses) {
+        eprintln!(rt; "the budget or a variable is 0")?;
+        return Ok(());
+    }
+    let start = Instant::now(&rt)?;
+    let answer = solve(alloc, &clauses, budget)?;
+    let time = start.elapsed(&rt)?;
+    let (kind, learned) = match answer {
+        Answer::Sat(_assignment) => ("SATISFIABLE", None),
+        Answer::Unsat(log) => ("UNSATISFIABLE", Some(log.len())),
+        Answer::Spent(log) => ("UNKNOWN", Some(log.len())),
+    };
+    println!(rt; "s {kind}")?;
+    if let Some(count) = learned {
+        eprintln!(rt; "{count} learned")?;
+    }
+    eprintln!(rt; "{} ns", time.as_nanos())?;
+    Ok(())
+}
+
+/// Whether each variable of the clause is at least 1.
+fn is_clause_numbered(clause: &Clause) -> bool
+    ensures { IsTrue result ↔ All (λ x. 0 < x.var) clause.now }
+{
+    clause.as_slice().iter().all(|lit| lit.var > 0)
+}
+
+/// Whether each variable is at least 1.
+fn is_numbered(clauses: &Clauses) -> bool
+    ensures { IsTrue result ↔ IsNumbered clauses.now }
+{
+    clauses
+        .as_slice()
+        .iter()
+        .all(|clause| is_clause_numbered(clause))
+}
+
+/// Takes the literals of a line. A 0 ends a clause, and a line of comments or of counts has none. A word that is no number is
+/// passed over.
+fn take_line(
+    alloc: Global,
+    clauses: &mut Clauses,
+    clause: &mut Clause,
+    line: &str,
+) -> Result<(), NoMemory> {
+    if line.starts_with('c') || line.starts_with('p') {
+        return Ok(());
+    }
+    for word in line.split_whitespace() {
+        match word.parse::<i64>() {
+            Ok(0) => {
+                clauses.push(clause.copy(alloc)?)?;
+                *clause = Clause::new(alloc);
+            }
+            Ok(number) => clause.push(Lit {
+                var: number.unsigned_abs(),
+                negated: number < 0,
+            })?,
+            Err(_) => {}
+        }
+    }
+    Ok(())
+}
