@@ -1,0 +1,4 @@
+pub mod Begins
+pub mod Lists
+pub mod Phrases
+pub mod Results

@@ -1,0 +1,13 @@
+//! Reads statements and blocks from tokens, with one function for each rule of the grammar.
+//!
+//! As for expressions, each function says three things of the tokens before it and after it, whatever comes behind: the
+//! tree that it answers reads just these tokens, the symbols that the grammar has pending take just these, and where it
+//! answers nothing the pending symbols stop where the reader stands.
+#![tactic(auto)]
+
+mod blocks;
+mod parts;
+#[cfg(test)]
+mod tests;
+
+pub use blocks::{answering, block, optional, unwritten};
