@@ -1,5 +1,5 @@
 -- From what a callee answers to what its caller does.
-use Rattle.std.proofs.Common.{◌≡◌, Option, Some, None, Result, Ok, Err, IfSome, OnSome, IfNone}
+use Rattle.std.proofs.Common.{Option, Some, None, Result, Ok, Err, IfSome, OnSome, IfNone}
 use Rattle.ygg_list.specs.declared.memory.NoMemory.{NoMemory}
 use Rattle.ygg_expr.specs.Steps.{IfRead}
 

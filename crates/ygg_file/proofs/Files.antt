@@ -1,33 +1,23 @@
 -- What the rules of files read, one after another.
 use Rattle.std.proofs.lemmas.Bool.Decides.{nat_tests}
-use Rattle.std.proofs.Common.{◌≡◌, ℕ, ◌+◌, ◌≤◌, ◌==◌, Bool, true, false, ◌&&◌, if◌then◌else◌, List, [], ◌∷◌, ◌++◌, length, map, Option, Some, None, refl, sym, ap, ◌∙◌, arith}
-use Rattle.ygg_base.specs.declared.token.Keyword.{Keyword}
+use Rattle.std.proofs.Common.{◌≡◌, ℕ, ◌≤◌, ◌==◌, Bool, true, false, if◌then◌else◌, List, [], ◌∷◌, ◌++◌, length, map, Option, Some, None, refl, sym, ap, ◌∙◌, arith}
 use Rattle.ygg_base.specs.declared.token.Keyword.TheVariants as word
 use Rattle.ygg_base.specs.declared.token.Symbol.TheVariants as sign
 use Rattle.ygg_base.specs.declared.token.Mark.{Mark}
 use Rattle.ygg_base.specs.declared.token.Mark.TheVariants as mark
 use Rattle.ygg_base.specs.declared.token.Token.{Token}
 use Rattle.ygg_syntax.specs.declared.grammar.Kind.TheVariants.{Plain, Spec, Impl}
-use Rattle.ygg_syntax.specs.declared.grammar.Sort.TheVariants as sorts
 use Rattle.ygg_syntax.specs.declared.tree.Place.{Place}
-use Rattle.ygg_syntax.specs.declared.tree.Declared.{Declared}
-use Rattle.ygg_syntax.specs.declared.tree.Expr.{Expr}
 use Rattle.ygg_syntax.specs.declared.tree.Block.{Block}
-use Rattle.ygg_syntax.specs.declared.tree.TypeText.{TypeText}
 use Rattle.ygg_syntax.specs.declared.tree.DiskKind.TheVariants as disk
-use Rattle.ygg_syntax.specs.declared.tree.DiskText.{DiskText}
-use Rattle.ygg_syntax.specs.declared.tree.Def.{Def}
-use Rattle.ygg_syntax.specs.declared.tree.Operation.{Operation}
-use Rattle.ygg_syntax.specs.declared.tree.Tick.{Tick}
 use Rattle.ygg_syntax.specs.declared.tree.Layer.{Layer}
-use Rattle.ygg_syntax.specs.declared.tree.File.{File}
 use Rattle.ygg_syntax.specs.Reading.{Reading, token, same_mark, starts, passes, takes, in_turn}
-use Rattle.ygg_syntax.specs.Expressions.{keyword, symbol, named, numbered, expr}
-use Rattle.ygg_syntax.specs.Blocks.{block, answering, optional, block_phrase, is_nowhere, is_unwritten}
-use Rattle.ygg_syntax.specs.Files.{type_in, declared, any_declared, disk_word, disk_text, definition, variable, claim, on_crash, operation_blocks, operation, tick, crash_block, layer, layers, whole_file}
+use Rattle.ygg_syntax.specs.Expressions.{symbol, named}
+use Rattle.ygg_syntax.specs.Blocks.{block, optional, block_phrase, is_unwritten}
+use Rattle.ygg_syntax.specs.Files.{variable, claim, operation, tick, crash_block, layer}
 use Rattle.ygg_syntax.specs.Pending.{Pending, exactly, disk_kind, rest_of_operation, rest_of_file, word_of, After, leaves, refuses, after, all_may_end, step, End, reads, stops, outcome}
 use Rattle.ygg_syntax.specs.Pending as pending
-use Rattle.ygg_expr.specs.Steps.{Reads, Goes, Stops}
+use Rattle.ygg_expr.specs.Steps.{Reads, Stops}
 use Rattle.ygg_expr.proofs.Phrases.{joined, reads_mark, reads_token}
 use Rattle.ygg_expr.proofs.Marks.{same_is}
 use Rattle.ygg_expr.proofs.Stopped.{next}
@@ -99,11 +89,11 @@ pub reads_layer : (l : Layer) (rest : List Token) (qs : List Reading) → in_tur
     ∷ in_turn (map (claim word.Settled) l.settled) ∷ in_turn (map (claim word.Maybe) l.maybe) ∷ symbol sign.BraceClose ∷ qs) rest
 reads_layer l rest qs =
     let parts : List Reading = named l.name ∷ symbol sign.BraceOpen
-            ∷ in_turn (map (variable word.State) l.state) ∷ optional word.Start Plain l.start
-            ∷ in_turn (map (variable word.Memory) l.memory) ∷ optional word.Format Impl l.format
-            ∷ in_turn (map operation l.operations) ∷ crash_block l.crash_place l.crash ∷ in_turn (map tick l.ticks) ∷ optional word.Recover Impl l.recover
-            ∷ claim word.Relate l.relate ∷ in_turn (map (claim word.Always) l.always)
-            ∷ in_turn (map (claim word.Settled) l.settled) ∷ in_turn (map (claim word.Maybe) l.maybe) ∷ symbol sign.BraceClose ∷ [] in
+    ∷ in_turn (map (variable word.State) l.state) ∷ optional word.Start Plain l.start
+    ∷ in_turn (map (variable word.Memory) l.memory) ∷ optional word.Format Impl l.format
+    ∷ in_turn (map operation l.operations) ∷ crash_block l.crash_place l.crash ∷ in_turn (map tick l.ticks) ∷ optional word.Recover Impl l.recover
+    ∷ claim word.Relate l.relate ∷ in_turn (map (claim word.Always) l.always)
+    ∷ in_turn (map (claim word.Settled) l.settled) ∷ in_turn (map (claim word.Maybe) l.maybe) ∷ symbol sign.BraceClose ∷ [] in
     joined (takes (mark.Keyword word.Layer) l.place ∷ parts) qs (token (mark.Keyword word.Layer) l.place ∷ rest)
     ∙ reads_token (mark.Keyword word.Layer) l.place (token (mark.Keyword word.Layer) l.place ∷ rest) rest refl (parts ++ qs)
 

@@ -1,5 +1,5 @@
 -- Types, and names with their types.
-use Rattle.std.proofs.Common.{◌≡◌, ℕ, Bool, true, false, List, [], ◌∷◌, ◌++◌, length, refl, sym, ap, ◌∙◌}
+use Rattle.std.proofs.Common.{◌≡◌, false, List, [], ◌∷◌, refl, sym, ap, ◌∙◌}
 use Rattle.ygg_base.specs.declared.token.Keyword.TheVariants as word
 use Rattle.ygg_base.specs.declared.token.Symbol.TheVariants as sign
 use Rattle.ygg_base.specs.declared.token.Mark.{Mark}
@@ -7,15 +7,9 @@ use Rattle.ygg_base.specs.declared.token.Mark.TheVariants as mark
 use Rattle.ygg_base.specs.declared.token.Token.{Token}
 use Rattle.ygg_syntax.specs.declared.grammar.Sort.{Sort}
 use Rattle.ygg_syntax.specs.declared.grammar.Sort.TheVariants as sorts
-use Rattle.ygg_syntax.specs.declared.tree.Numeral.{Numeral}
-use Rattle.ygg_syntax.specs.declared.tree.Declared.{Declared}
-use Rattle.ygg_syntax.specs.declared.tree.TypeText.TheVariants as shape
-use Rattle.ygg_syntax.specs.Reading.{Reading, token, same_mark, starts, in_turn}
-use Rattle.ygg_syntax.specs.Expressions.{keyword, symbol, named, numbered}
-use Rattle.ygg_syntax.specs.Files.{type_in, declared, more_declared, any_declared}
-use Rattle.ygg_syntax.specs.Pending.{Pending, After, leaves, refuses, after, name, some_type, rest_of_declared, repeated, next_declared, sign_of, outcome}
+use Rattle.ygg_syntax.specs.Reading.{same_mark, starts}
+use Rattle.ygg_syntax.specs.Pending.{Pending, leaves, refuses, after, name, some_type, rest_of_declared, repeated, next_declared, sign_of, outcome}
 use Rattle.ygg_expr.specs.Steps.{Stops}
-use Rattle.ygg_expr.proofs.Phrases.{joined}
 use Rattle.ygg_expr.proofs.Stopped.{next}
 
 no_small : (m : Mark) → same_mark (mark.Keyword word.Word) m ≡ false → same_mark (mark.Keyword word.Row) m ≡ false → after (some_type sorts.Small) m ≡ refuses

@@ -61,7 +61,9 @@ fn relation(reader: &mut Reader<'_>) -> Result<Option<Expr>, NoMemory>
 }
 
 /// Reads the claims after the relation, and the brace after them.
-fn from_always(reader: &mut Reader<'_>) -> Result<Option<(Items<Expr>, Items<Expr>, Items<Expr>)>, NoMemory>
+fn from_always(
+    reader: &mut Reader<'_>,
+) -> Result<Option<(Items<Expr>, Items<Expr>, Items<Expr>)>, NoMemory>
     ensures reads { IfRead result (λ read. Reads (in_turn (map (claim word.Always) read.0) ∷ in_turn (map (claim word.Settled) read.1) ∷ in_turn (map (claim word.Maybe) read.2) ∷ symbol sign.BraceClose ∷ []) reader.old reader.new) }
     ensures goes { OnRead result (Goes (repeated pending.always ∷ repeated pending.settled ∷ repeated pending.maybe ∷ sign_of sign.BraceClose ∷ []) reader.old reader.new) }
     ensures refused { IfRefused result (Stops (repeated pending.always ∷ repeated pending.settled ∷ repeated pending.maybe ∷ sign_of sign.BraceClose ∷ []) reader.old reader.new) }

@@ -137,13 +137,21 @@ fn setup(reader: &mut Reader<'_>) -> Result<Option<LayerSetup>, NoMemory>
     ensures refused { IfRefused result (Stops setup_pending reader.old reader.new) }
     ensures shorter { OnRead result (length reader.new ≤ length reader.old) }
 {
-    let Some((state, start)) =
-        variables_and_block(reader, Keyword::State, Keyword::Start, Kind::Plain)?
+    let Some((state, start)) = variables_and_block(
+        reader,
+        Keyword::State,
+        Keyword::Start,
+        Kind::Plain,
+    )?
     else {
         return Ok(None);
     };
-    let Some((memory, format)) =
-        variables_and_block(reader, Keyword::Memory, Keyword::Format, Kind::Impl)?
+    let Some((memory, format)) = variables_and_block(
+        reader,
+        Keyword::Memory,
+        Keyword::Format,
+        Kind::Impl,
+    )?
     else {
         return Ok(None);
     };
@@ -156,7 +164,12 @@ fn setup(reader: &mut Reader<'_>) -> Result<Option<LayerSetup>, NoMemory>
 }
 
 /// Reads as many variables as come, each after one keyword, and the block after the other keyword or nothing.
-fn variables_and_block(reader: &mut Reader<'_>, each: Keyword, setup: Keyword, kind: Kind) -> Result<Option<(Items<Declared>, Block)>, NoMemory>
+fn variables_and_block(
+    reader: &mut Reader<'_>,
+    each: Keyword,
+    setup: Keyword,
+    kind: Kind,
+) -> Result<Option<(Items<Declared>, Block)>, NoMemory>
     ensures reads { IfRead result (λ read. Reads (in_turn (map (variable each) read.0) ∷ optional setup kind read.1 ∷ []) reader.old reader.new) }
     ensures goes { OnRead result (ForRepeated each rest_of_variable (λ p. ForPart setup kind (λ q. Goes (repeated p ∷ perhaps q ∷ []) reader.old reader.new))) }
     ensures refused { IfRefused result (ForRepeated each rest_of_variable (λ p. ForPart setup kind (λ q. Stops (repeated p ∷ perhaps q ∷ []) reader.old reader.new))) }

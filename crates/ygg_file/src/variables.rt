@@ -21,7 +21,10 @@ use ygg_syntax::grammar::Sort;
 use ygg_syntax::tree::{Declared, Def, Expr, Name, TypeText};
 
 /// Reads as many variables as come, each after this keyword.
-pub fn variables(reader: &mut Reader<'_>, keyword: Keyword) -> Result<Option<Items<Declared>>, NoMemory>
+pub fn variables(
+    reader: &mut Reader<'_>,
+    keyword: Keyword,
+) -> Result<Option<Items<Declared>>, NoMemory>
     ensures reads { IfRead result (λ ds. Reads (in_turn (map (variable keyword) ds) ∷ []) reader.old reader.new) }
     ensures goes { OnRead result (ForRepeated keyword rest_of_variable (λ p. Goes (repeated p ∷ []) reader.old reader.new)) }
     ensures refused { IfRefused result (ForRepeated keyword rest_of_variable (λ p. Stops (repeated p ∷ []) reader.old reader.new)) }
@@ -92,7 +95,10 @@ fn rest_of_definition(reader: &mut Reader<'_>) -> Result<Option<Def>, NoMemory>
 }
 
 /// Reads a name, and names with their types in brackets.
-pub fn named_list(reader: &mut Reader<'_>, sort: Sort) -> Result<Option<(Name, Items<Declared>)>, NoMemory>
+pub fn named_list(
+    reader: &mut Reader<'_>,
+    sort: Sort,
+) -> Result<Option<(Name, Items<Declared>)>, NoMemory>
     ensures reads { IfRead result (λ read. Reads (named read.0 ∷ symbol sign.RoundOpen ∷ any_declared sort read.1 ∷ symbol sign.RoundClose ∷ []) reader.old reader.new) }
     ensures goes { OnRead result (Goes (name ∷ sign_of sign.RoundOpen ∷ rest_of_declared sort ∷ []) reader.old reader.new) }
     ensures refused { IfRefused result (Stops (name ∷ sign_of sign.RoundOpen ∷ rest_of_declared sort ∷ []) reader.old reader.new) }

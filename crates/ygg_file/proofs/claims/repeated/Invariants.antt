@@ -1,4 +1,4 @@
-use Rattle.std.proofs.Common.{ℕ, length}
+use Rattle.std.proofs.Common.{length}
 use Rattle.ygg_syntax.specs.Files.{claim}
 use Rattle.ygg_file.specs.Parts.{rest_of_claim}
 use Rattle.ygg_file.proofs.Lists.{ListRead}

@@ -1,4 +1,4 @@
-use Rattle.std.proofs.Common.{◌≡◌, List, ◌∷◌, ◌++◌, ◌∙◌}
+use Rattle.std.proofs.Common.{List, ◌∷◌, ◌++◌, ◌∙◌}
 use Rattle.ygg_base.specs.declared.token.Keyword.TheVariants as word
 use Rattle.ygg_base.specs.declared.token.Symbol.TheVariants as sign
 use Rattle.ygg_syntax.specs.Pending.{Pending, number, disk_kind, repeated, rest_of_layer, word_of, sign_of}

@@ -1,5 +1,4 @@
 use Rattle.std.proofs.Common.{◌≡◌, ◌==◌, true, false, [], length, sym, ap, ◌∙◌}
-use Rattle.ygg_base.specs.declared.token.Token.{Token}
 use Rattle.ygg_syntax.specs.Files.{whole_file}
 use Rattle.ygg_file.proofs.Files.{reads_all, left_over, none_left}
 use Rattle.ygg_file.proofs.file.whole.Goals as goal

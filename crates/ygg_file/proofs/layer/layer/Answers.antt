@@ -1,4 +1,4 @@
-use Rattle.std.proofs.Common.{◌≡◌, ◌++◌, ◌∙◌}
+use Rattle.std.proofs.Common.{◌++◌, ◌∙◌}
 use Rattle.ygg_syntax.specs.declared.tree.Layer.{Layer}
 use Rattle.ygg_file.specs.Parts.{setup_pending, setup_read, steps_pending, steps_read, claims_pending, claims_read}
 use Rattle.ygg_file.proofs.Files.{reads_layer}
@@ -18,9 +18,22 @@ returns-clause-reads c =
     let t = c.in-Some-2.steps in
     let u = c.in-Some-2.claims in
     let l : Layer = record {
-            place = c.args.place; name = c.in-Some.name; state = s.state; start = s.start; memory = s.memory; format = s.format;
-            operations = t.operations; crash_place = t.crash_place; crash = t.crash; ticks = t.ticks; recover = t.recover;
-            relate = u.relate; always = u.always; settled = u.settled; maybe = u.maybe } in
+      place = c.args.place;
+      name = c.in-Some.name;
+      state = s.state;
+      start = s.start;
+      memory = s.memory;
+      format = s.format;
+      operations = t.operations;
+      crash_place = t.crash_place;
+      crash = t.crash;
+      ticks = t.ticks;
+      recover = t.recover;
+      relate = u.relate;
+      always = u.always;
+      settled = u.settled;
+      maybe = u.maybe;
+    } in
     λ qs. reads_layer l c.args.reader.now qs ∙ name (setup_read s ++ (steps_read t ++ (claims_read u ++ qs))) ∙ parts qs
 
 pub returns-clause-goes : goal.returns-clause-goes

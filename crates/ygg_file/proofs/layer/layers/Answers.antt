@@ -1,4 +1,4 @@
-use Rattle.std.proofs.Common.{◌≡◌, ◌∷◌, ◌++◌, ◌∙◌, refl, sym, ap, rules}
+use Rattle.std.proofs.Common.{◌∷◌, ◌++◌, ◌∙◌, refl, sym, ap, rules}
 use Rattle.ygg_base.specs.declared.token.Keyword.TheVariants as word
 use Rattle.ygg_syntax.specs.Reading.{Reading, in_turn}
 use Rattle.ygg_syntax.specs.Files.{layer}
@@ -36,7 +36,7 @@ returns-in_default-3-clause-refused c =
     let stopped = rw c.in_default-3.is at c.in_ok-next.ensures.refused in
     λ qs. layer_comes c.args.reader.now c.keyword.new.self c.in-Some.place c.in-Some.ensures.taken qs
     ∙ one_stops layer word.Layer rest_of_layer _ c.loop-place.reader c.keyword-in-loop-place.new.self c.layer-in-Some-keyword.new.reader c.loop-place.all c.in-Some-keyword.place
-        c.loop-place.invariant.each c.in-Some-keyword.ensures.taken stopped next_layer refl refl qs
+    c.loop-place.invariant.each c.in-Some-keyword.ensures.taken stopped next_layer refl refl qs
 
 pub returns-clause-reads : goal.returns-clause-reads
 returns-clause-reads c =

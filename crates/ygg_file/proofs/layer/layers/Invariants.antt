@@ -1,4 +1,4 @@
-use Rattle.std.proofs.Common.{ℕ, length}
+use Rattle.std.proofs.Common.{length}
 use Rattle.ygg_file.proofs.Lists.{LayersRead}
 use Rattle.ygg_file.proofs.layer.layers.Given as goal
 

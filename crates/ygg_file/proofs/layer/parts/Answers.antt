@@ -1,4 +1,4 @@
-use Rattle.std.proofs.Common.{◌≡◌, ◌++◌, ◌∙◌}
+use Rattle.std.proofs.Common.{◌++◌, ◌∙◌}
 use Rattle.ygg_file.specs.Parts.{steps_pending, steps_read, claims_pending, claims_read}
 use Rattle.ygg_file.proofs.layer.parts.Goals as goal
 

@@ -1,4 +1,4 @@
-use Rattle.std.proofs.Common.{◌≡◌, List, [], ◌∷◌, ◌++◌, ◌∙◌}
+use Rattle.std.proofs.Common.{List, [], ◌∷◌, ◌++◌, ◌∙◌}
 use Rattle.ygg_base.specs.declared.token.Keyword.TheVariants as word
 use Rattle.ygg_base.specs.declared.token.Symbol.TheVariants as sign
 use Rattle.ygg_base.specs.declared.token.Mark.TheVariants as mark
@@ -17,6 +17,6 @@ returns-clause-reads c =
     let code = rw c.in-Some-3.is at c.in_ok-on_crash.ensures.reads in
     let last : List Reading = on_crash c.in-Some-3.on_crash ∷ keyword word.Impl ∷ answering Impl c.in-Some-3.implementation ∷ [] in
     λ x arguments at qs.
-        opened (mark.Symbol sign.Arrow) (type_in sorts.Small c.in-Some.answer ∷ keyword word.Spec ∷ answering Spec c.in-Some-2.spec ∷ last) at c.args.reader.now qs
-        ∙ c.in-Some.ensures.reads (keyword word.Spec ∷ answering Spec c.in-Some-2.spec ∷ last ++ qs)
-        ∙ c.in-Some-keyword.ensures.reads (answering Spec c.in-Some-2.spec ∷ last ++ qs) ∙ spec (last ++ qs) ∙ code qs
+    opened (mark.Symbol sign.Arrow) (type_in sorts.Small c.in-Some.answer ∷ keyword word.Spec ∷ answering Spec c.in-Some-2.spec ∷ last) at c.args.reader.now qs
+    ∙ c.in-Some.ensures.reads (keyword word.Spec ∷ answering Spec c.in-Some-2.spec ∷ last ++ qs)
+    ∙ c.in-Some-keyword.ensures.reads (answering Spec c.in-Some-2.spec ∷ last ++ qs) ∙ spec (last ++ qs) ∙ code qs

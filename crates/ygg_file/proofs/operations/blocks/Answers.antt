@@ -1,4 +1,4 @@
-use Rattle.std.proofs.Common.{◌≡◌, ◌∷◌, ◌∙◌, sym, ap}
+use Rattle.std.proofs.Common.{◌∷◌, ◌∙◌, sym, ap}
 use Rattle.ygg_syntax.specs.Reading.{in_turn}
 use Rattle.ygg_syntax.specs.Files.{operation_blocks}
 use Rattle.ygg_file.specs.Parts.{operation_of}

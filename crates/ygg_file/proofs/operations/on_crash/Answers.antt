@@ -1,4 +1,4 @@
-use Rattle.std.proofs.Common.{◌≡◌, ◌∷◌, ◌∙◌, ap}
+use Rattle.std.proofs.Common.{◌∷◌, ◌∙◌, ap}
 use Rattle.ygg_syntax.specs.declared.grammar.Kind.TheVariants.{Spec}
 use Rattle.ygg_syntax.specs.Pending.{perhaps, outcome}
 use Rattle.ygg_syntax.specs.Pending as pending

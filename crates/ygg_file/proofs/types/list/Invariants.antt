@@ -1,4 +1,4 @@
-use Rattle.std.proofs.Common.{ℕ, length}
+use Rattle.std.proofs.Common.{length}
 use Rattle.ygg_file.proofs.Lists.{SomeDeclared}
 use Rattle.ygg_file.proofs.types.list.Given as goal
 

@@ -1,4 +1,4 @@
-use Rattle.std.proofs.Common.{◌≡◌, [], ◌∷◌, ◌∙◌}
+use Rattle.std.proofs.Common.{[], ◌∷◌, ◌∙◌}
 use Rattle.ygg_base.specs.declared.token.Keyword.TheVariants as word
 use Rattle.ygg_base.specs.declared.token.Symbol.TheVariants as sign
 use Rattle.ygg_base.specs.declared.token.Mark.TheVariants as mark
@@ -13,5 +13,5 @@ returns-clause-reads c =
     let list = rw c.in-Some.is at c.in_ok-name.ensures.reads in
     let body = rw c.in-Some-2.is at c.in_ok-shape.ensures.reads in
     λ at qs. opened (mark.Keyword word.Def) (named c.in-Some.name ∷ symbol sign.RoundOpen ∷ any_declared sorts.All c.in-Some.parameters ∷ symbol sign.RoundClose
-        ∷ symbol sign.Arrow ∷ type_in sorts.All c.in-Some-2.shape ∷ symbol sign.Assign ∷ expr c.in-Some-2.body ∷ symbol sign.Semicolon ∷ []) at c.args.reader.now qs
+    ∷ symbol sign.Arrow ∷ type_in sorts.All c.in-Some-2.shape ∷ symbol sign.Assign ∷ expr c.in-Some-2.body ∷ symbol sign.Semicolon ∷ []) at c.args.reader.now qs
     ∙ list (symbol sign.Arrow ∷ type_in sorts.All c.in-Some-2.shape ∷ symbol sign.Assign ∷ expr c.in-Some-2.body ∷ symbol sign.Semicolon ∷ qs) ∙ body qs

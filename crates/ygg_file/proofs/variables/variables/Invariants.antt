@@ -1,4 +1,4 @@
-use Rattle.std.proofs.Common.{ℕ, length}
+use Rattle.std.proofs.Common.{length}
 use Rattle.ygg_syntax.specs.Files.{variable}
 use Rattle.ygg_syntax.specs.Pending.{rest_of_variable}
 use Rattle.ygg_file.proofs.Lists.{ListRead}
