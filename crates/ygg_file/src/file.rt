@@ -1,4 +1,4 @@
-ghost use Rattle.std.specs.Prelude.{◌≡◌, ◌≤◌, [], ◌∷◌, length, IfOk, IfErr, OnSome, IfNone};
+ghost use Rattle.std.specs.Prelude.{◌≡◌, ◌==◌, ◌≤◌, [], ◌∷◌, length, IfOk, IfErr, OnSome, IfNone};
 ghost use Rattle.ygg_base.specs.declared.token.Keyword.TheVariants as word;
 ghost use Rattle.ygg_base.specs.declared.token.Symbol.TheVariants as sign;
 ghost use Rattle.ygg_base.specs.declared.token.Mark.TheVariants as mark;
@@ -66,10 +66,17 @@ fn whole(reader: &mut Reader<'_>) -> Result<Option<File>, NoMemory>
     let Some(file) = file(reader)? else {
         return Ok(None);
     };
-    if !reader.left().is_empty() {
+    if !ends(reader) {
         return Ok(None);
     }
     Ok(Some(file))
+}
+
+/// Whether no token is left.
+fn ends(reader: &Reader<'_>) -> bool
+    ensures { result ≡ (length reader.now == 0) }
+{
+    reader.left().is_empty()
 }
 
 /// Reads a file.
