@@ -26,12 +26,12 @@ use Rattle.ygg_expr.proofs.Stopped.{goes_token, goes_number, goes_name, dropped_
 use Rattle.ygg_expr.proofs.Begins.{begins_constant, begins_low, begins_name, begins_binary, begins_not, begins_pick, begins_resize, begins_fill, begins_row, begins_quantified, begins_index, begins_arguments, begins_no_arguments, begins_more}
 
 -- one reading, and the others after it
-record Split (r : Reading) (rs : List Reading) (from rest : List Token) : Type 0 where
-  mid : List Token
-  first : r from ≡ Some mid
-  others : in_turn rs mid ≡ Some rest
+pub record Split (r : Reading) (rs : List Reading) (from rest : List Token) : Type 0 where
+  pub mid : List Token
+  pub first : r from ≡ Some mid
+  pub others : in_turn rs mid ≡ Some rest
 
-split : (r : Reading) (rs : List Reading) (from rest : List Token) → in_turn (r ∷ rs) from ≡ Some rest → Split r rs from rest
+pub split : (r : Reading) (rs : List Reading) (from rest : List Token) → in_turn (r ∷ rs) from ≡ Some rest → Split r rs from rest
 unfolding in_turn
 split r rs from rest h = cases (r from) refl h
   where
@@ -39,13 +39,13 @@ split r rs from rest h = cases (r from) refl h
     cases None e k = absurd (cc)
     cases (Some s) e k = record { mid = s; first = e; others = k }
 
-empty : (from rest : List Token) → in_turn [] from ≡ Some rest → from ≡ rest
+pub empty : (from rest : List Token) → in_turn [] from ≡ Some rest → from ≡ rest
 unfolding in_turn
 empty from rest h = cc
 
 -- the pending symbols take what the readings read
-record Runs (rs : List Reading) (qs : List Pending) : Type 0 where
-  runs : (from rest : List Token) → in_turn rs from ≡ Some rest → (ps : List Pending) → outcome (qs ++ ps) from ≡ outcome ps rest
+pub record Runs (rs : List Reading) (qs : List Pending) : Type 0 where
+  pub runs : (from rest : List Token) → in_turn rs from ≡ Some rest → (ps : List Pending) → outcome (qs ++ ps) from ≡ outcome ps rest
 
 -- a pending expression takes what the phrase reads, where no arguments can follow, and indices may come next. No token comes
 -- first that can't begin an expression
@@ -61,22 +61,22 @@ no_beginning m n begins other = cases (same_mark n m) refl
     cases false e = refl
     cases true e = absurd (begins (ap after_expression (sym (same_is n m e)) ∙ other))
 
-done : Runs [] []
+pub done : Runs [] []
 done = record { runs = λ from rest h ps. ap (outcome ps) (empty from rest h) }
 
-next_mark : (m : Mark) {rs : List Reading} {qs : List Pending} → Runs rs qs → Runs (passes m ∷ rs) (exactly m ∷ qs)
+pub next_mark : (m : Mark) {rs : List Reading} {qs : List Pending} → Runs rs qs → Runs (passes m ∷ rs) (exactly m ∷ qs)
 next_mark m {rs} {qs} r = record {
   runs = λ from rest h ps. let s = split (passes m) rs from rest h in let k = passed m from s.mid s.first in
       goes_token m k.at from s.mid k.is (qs ++ ps) ∙ r.runs s.mid rest s.others ps;
 }
 
-next_number : (n : Numeral) {rs : List Reading} {qs : List Pending} → Runs rs qs → Runs (numbered n ∷ rs) (number ∷ qs)
+pub next_number : (n : Numeral) {rs : List Reading} {qs : List Pending} → Runs rs qs → Runs (numbered n ∷ rs) (number ∷ qs)
 next_number n {rs} {qs} r = record {
   runs = λ from rest h ps. let s = split (numbered n) rs from rest h in
       goes_number n.value n.place from s.mid (took (mark.Num n.value) n.place from s.mid s.first) (qs ++ ps) ∙ r.runs s.mid rest s.others ps;
 }
 
-next_name : (x : Name) {rs : List Reading} {qs : List Pending} → Runs rs qs → Runs (named x ∷ rs) (name ∷ qs)
+pub next_name : (x : Name) {rs : List Reading} {qs : List Pending} → Runs rs qs → Runs (named x ∷ rs) (name ∷ qs)
 next_name x {rs} {qs} r = record {
   runs = λ from rest h ps. let s = split (named x) rs from rest h in
       goes_name x.text x.place from s.mid (took (mark.Name x.text) x.place from s.mid s.first) (qs ++ ps) ∙ r.runs s.mid rest s.others ps;
@@ -87,7 +87,7 @@ no_index : (m : Mark) (from rest : List Token) → starts (mark.Symbol sign.Squa
 no_index m from rest other k qs = dropped_indices from (ap (starts (mark.Symbol sign.SquareOpen)) k.is ∙ other) qs
 
 -- an expression and a symbol after it
-next_part : (p : Phrase) (m : Mark) {rs : List Reading} {qs : List Pending} → Claims p → starts (mark.Symbol sign.SquareOpen) (token m (record { line = 0; column = 0 }) ∷ []) ≡ false
+pub next_part : (p : Phrase) (m : Mark) {rs : List Reading} {qs : List Pending} → Claims p → starts (mark.Symbol sign.SquareOpen) (token m (record { line = 0; column = 0 }) ∷ []) ≡ false
     → starts (mark.Symbol sign.RoundOpen) (token m (record { line = 0; column = 0 }) ∷ []) ≡ false → Runs rs qs → Runs (whole p ∷ passes m ∷ rs) (expression ∷ exactly m ∷ qs)
 next_part p m {rs} {qs} c other round r = record {
   runs = λ from rest h ps.
@@ -155,13 +155,13 @@ begun m at rs qs indexable begins can r = record {
 }
 
 -- expressions and their claims
-abbrev Shown : Type 0
+abbrev pub Shown : Type 0
 Shown = (e : Expr) × Claims (phrase e)
 
-abbrev tree_in : Shown → Expr
+abbrev pub tree_in : Shown → Expr
 tree_in s = s.0
 
-abbrev phrases : List Shown → List Phrase
+abbrev pub phrases : List Shown → List Phrase
 phrases es = map phrase (map tree_in es)
 
 -- no index comes between an expression and others
@@ -203,7 +203,7 @@ next_some es = record { runs = λ from rest h ps. cases es from rest h ps }
         (e.1).claims from s.mid s.first (no_round es s.mid rest s.others) (more_expressions ∷ sign_of sign.RoundClose ∷ ps) ∙ after_part es s.mid rest s.others ps ∙ more_run es s.mid rest s.others ps
 
 -- a bracket closes at once, or an expression comes
-next_any : (es : List Shown) → Runs (any (phrases es) ∷ symbol sign.RoundClose ∷ []) (rest_of_arguments ∷ [])
+pub next_any : (es : List Shown) → Runs (any (phrases es) ∷ symbol sign.RoundClose ∷ []) (rest_of_arguments ∷ [])
 next_any es = record { runs = λ from rest h ps. cases es from rest h ps }
   where
     cases : (es : List Shown) (from rest : List Token) → in_turn (any (phrases es) ∷ symbol sign.RoundClose ∷ []) from ≡ Some rest → (ps : List Pending) → outcome (rest_of_arguments ∷ ps) from ≡ outcome ps rest

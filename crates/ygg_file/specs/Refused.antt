@@ -1,5 +1,5 @@
 -- Where a file is refused.
-use Rattle.std.specs.Prelude.{◌≡◌, ℕ, ◌-◌, List, [], ◌∷◌, length, slice_get, Option, Some, None}
+use Rattle.std.specs.Prelude.{◌≡◌, ℕ, ◌-◌, [], ◌∷◌, length, slice_get, Option, Some, None}
 use Rattle.ygg_base.specs.declared.failure.Refusal.{Refusal}
 use Rattle.ygg_base.specs.declared.token.Token.{Token}
 use Rattle.ygg_base.specs.declared.tokens.Tokens.{Tokens}

@@ -1,4 +1,17 @@
-//! Stub.
+//! Reads layer files from tokens, with one function for each rule of the grammar above expressions and blocks.
+//!
+//! As for expressions, each function says three things of the tokens before it and after it, whatever comes behind: the
+//! tree that it answers reads just these tokens, the symbols that the grammar has pending take just these, and where it
+//! answers nothing the pending symbols stop where the reader stands. A file is read exactly where one derives, and else
+//! the place of the refusal is that of the first token which the pending symbols can't take, or the end of the text.
 #![tactic(auto)]
+
+mod claims;
+mod disk;
 mod file;
+mod layer;
+mod operations;
+mod types;
+mod variables;
+
 pub use file::read;

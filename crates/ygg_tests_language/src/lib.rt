@@ -12,11 +12,15 @@ mod counts;
 #[cfg(test)]
 mod expressions;
 #[cfg(test)]
+mod files;
+#[cfg(test)]
 mod flag_files;
 #[cfg(test)]
 mod layouts;
 #[cfg(test)]
 mod places;
+#[cfg(test)]
+mod printing;
 #[cfg(test)]
 mod text;
 #[cfg(test)]

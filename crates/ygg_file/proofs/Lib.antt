@@ -1,0 +1,5 @@
+pub mod Answered
+pub mod Files
+pub mod Lists
+pub mod Refusals
+pub mod Shapes
