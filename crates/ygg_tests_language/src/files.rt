@@ -56,9 +56,9 @@ const BROKEN: [(&str, u32, u32); 83] = [
         11,
     ),
     (
-        "yggdrasil 1; disk sync 1 of 1 of 1;\ndef f(x : row 2 2) -> word 1 = x;",
+        "yggdrasil 1; disk sync 1 of 1 of 1;\ndef f(x : row  2 2) -> word 1 = x;",
         2,
-        17,
+        18,
     ),
     (
         "yggdrasil 1; disk sync 1 of 1 of 1;\ndef f(x : table 2 of 2 ) -> word 1 = x;",
