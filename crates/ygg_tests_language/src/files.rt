@@ -1,9 +1,7 @@
-use crate::text::{FLAG, PAIR, tokens_of};
-use std::alloc::Global;
+use crate::text::{FLAG, PAIR, file_of};
 use std::test::Fail;
 use ygg_base::Refuse;
-use ygg_file::read;
-use ygg_syntax::tree::{DiskKind, File};
+use ygg_syntax::tree::DiskKind;
 
 /// Broken texts, and the line and the column of the first token that can't come or of the end.
 const BROKEN: [(&str, u32, u32); 83] = [
@@ -364,17 +362,11 @@ const BROKEN: [(&str, u32, u32); 83] = [
     ),
 ];
 
-/// The file of a text, or what it is refused for.
-fn file(alloc: Global, text: &[u8]) -> Result<Result<File, Refuse>, Fail> {
-    let tokens = tokens_of(alloc, text)?;
-    Ok(read(alloc, &tokens))
-}
-
 #[test]
 fn files_are_read(rt: HostRuntime) -> Result<(), Fail> {
-    let flag = file(rt.alloc(), FLAG.as_bytes())??;
+    let flag = file_of(rt.alloc(), FLAG)?;
     assert!(rt; matches!(flag.disk.kind, DiskKind::Sync));
-    let pair = file(rt.alloc(), PAIR.as_bytes())??;
+    let pair = file_of(rt.alloc(), PAIR)?;
     assert!(rt; matches!(pair.disk.kind, DiskKind::Async));
     let Some(layer) = pair.layers.get(0) else {
         return Err(Fail::new("no layer"));
@@ -388,7 +380,7 @@ fn files_are_read(rt: HostRuntime) -> Result<(), Fail> {
 #[test]
 fn broken_texts_are_refused_at_their_places(rt: HostRuntime) -> Result<(), Fail> {
     for (text, line, column) in BROKEN {
-        match file(rt.alloc(), text.as_bytes())? {
+        match file_of(rt.alloc(), text.as_bytes()) {
             Err(Refuse::At(refusal)) => {
                 assert_eq!(rt; refusal.number, 3);
                 assert_eq!(rt; refusal.line, line);
@@ -402,14 +394,13 @@ fn broken_texts_are_refused_at_their_places(rt: HostRuntime) -> Result<(), Fail>
 
 #[test]
 fn no_proper_front_of_a_file_is_one(rt: HostRuntime) -> Result<(), Fail> {
-    let text = PAIR.as_bytes();
-    let whole = text.len() - 1;
+    let whole = PAIR.len() - 1;
     for end in 0..whole {
-        match file(rt.alloc(), &text[..end])? {
+        match file_of(rt.alloc(), &PAIR[..end]) {
             Err(Refuse::At(refusal)) => assert_eq!(rt; refusal.number, 3),
             _ => return Err(Fail::new("a front is read")),
         }
     }
-    assert!(rt; file(rt.alloc(), &text[..whole])?.is_ok());
+    assert!(rt; file_of(rt.alloc(), &PAIR[..whole]).is_ok());
     Ok(())
 }

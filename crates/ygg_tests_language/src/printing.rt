@@ -1,15 +1,13 @@
-use crate::text::{FLAG, PAIR, tokens_of};
+use crate::text::{FLAG, PAIR, file_of};
 use std::alloc::Global;
 use std::test::Fail;
 use ygg_base::Text;
-use ygg_file::read;
 use ygg_layout::lay_out;
 use ygg_print::marks_of;
 
 /// The canonical text of the file that a text is.
-fn printed(alloc: Global, text: &str) -> Result<Text, Fail> {
-    let tokens = tokens_of(alloc, text.as_bytes())?;
-    let file = read(alloc, &tokens)?;
+fn printed(alloc: Global, text: &[u8]) -> Result<Text, Fail> {
+    let file = file_of(alloc, text)?;
     let marks = marks_of(alloc, &file)?;
     Ok(lay_out(alloc, marks.as_slice())?)
 }
@@ -18,7 +16,7 @@ fn printed(alloc: Global, text: &str) -> Result<Text, Fail> {
 const LOOSE: &str =
     "yggdrasil 1;disk sync 2 of 3 of 8;def f(a:word 8,t:table 2 of 3 of 8)->row 3 of 8=t[a];layer l{state s:table 2 of 3 of 8;start{s[0:8]=fill(3,1:8);}memory m:word 8;format{}op o(r:row 3 of 8)->word 8 spec{let c=choose;if(c==1:1){s[1:8][2:8]=r[0:8];}else{}return~resize(r[0:8],8);}on crash{}impl{for i:8 below 4{m=(m+i);call write(i,r);}return pick(low.view,m,0:8);}crash{let c=choose;}tick b{}recover{call flush();}relate all(i:8 below 2,(f(i,s)==row(0:8,m,~m)));always 1:1;settled 1:1;maybe any(i:1 below 1,1:1);}";
 
-const CANONICAL: &str = "yggdrasil 1;
+const CANONICAL: &[u8] = b"yggdrasil 1;
 disk sync 2 of 3 of 8;
 def f(a : word 8, t : table 2 of 3 of 8) -> row 3 of 8 = t[a];
 layer l {
@@ -65,7 +63,7 @@ fn files_have_one_canonical_text(rt: HostRuntime) -> Result<(), Fail> {
         (CANONICAL, CANONICAL),
     ] {
         let found = printed(rt.alloc(), text)?;
-        assert_eq!(rt; found.as_slice(), wanted.as_bytes());
+        assert_eq!(rt; found.as_slice(), wanted);
     }
     Ok(())
 }

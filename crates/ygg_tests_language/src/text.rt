@@ -1,9 +1,11 @@
 use std::alloc::Global;
 use ygg_base::{Refuse, Tokens};
+use ygg_file::read;
 use ygg_lex::tokens;
+use ygg_syntax::tree::File;
 
 /// One bit on a synchronous disk.
-pub const FLAG: &str = "yggdrasil 1;
+pub const FLAG: &[u8] = b"yggdrasil 1;
 disk sync 1 of 1 of 1;
 layer flag {
   state f : word 1;
@@ -17,7 +19,7 @@ layer flag {
 ";
 
 /// Two words on an asynchronous disk that change together.
-pub const PAIR: &str = "yggdrasil 1;
+pub const PAIR: &[u8] = b"yggdrasil 1;
 disk async 5 of 1 of 8;
 layer pair {
   state x : word 8;
@@ -66,4 +68,10 @@ pub fn tokens_of(alloc: Global, text: &[u8]) -> Result<Tokens, Refuse> {
         return Err(Refuse::Memory);
     }
     tokens(alloc, text)
+}
+
+/// The file that a text is.
+pub fn file_of(alloc: Global, text: &[u8]) -> Result<File, Refuse> {
+    let tokens = tokens_of(alloc, text)?;
+    read(alloc, &tokens)
 }
