@@ -4,6 +4,7 @@ use Rattle.std.specs.List.{All, list_all}
 use Rattle.ygg_base.specs.declared.token.Mark.{Mark}
 use Rattle.ygg_base.specs.declared.token.Mark.TheVariants as mark
 use Rattle.ygg_base.specs.declared.token.Token.{Token}
+use Rattle.ygg_base.specs.declared.tokens.Tokens.{Tokens}
 use Rattle.ygg_base.specs.Lexing.{Lexed, tokens_of, keyword_of, is_lower, is_name_byte}
 use Rattle.ygg_layout.specs.Layout.{layout}
 
@@ -27,3 +28,7 @@ HasMarks marks (Err refusal) = ⊥
 -- the tokens of the canonical text of marks of the language have these marks
 abbrev pub LaidOut : Type 0
 LaidOut = (marks : List Mark) → All IsMark marks → HasMarks marks (tokens_of (layout marks))
+
+-- the tokens of every text that isn't refused have marks of the language
+abbrev pub TokensAreMarks : Type 0
+TokensAreMarks = (text : List ℕ) (found : Tokens) → tokens_of text ≡ Ok found → All IsMark (map (λ (token : Token). token.mark) found.items)

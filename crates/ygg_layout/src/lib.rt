@@ -5,5 +5,5 @@ mod law;
 mod layout;
 mod rules;
 
-pub use law::laid_out;
+pub use law::{laid_out, tokens_are_marks};
 pub use layout::lay_out;
