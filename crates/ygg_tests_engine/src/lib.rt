@@ -9,6 +9,8 @@ mod checker;
 #[cfg(test)]
 mod clauses;
 #[cfg(test)]
+mod implications;
+#[cfg(test)]
 mod lockstep;
 #[cfg(test)]
 mod rules;
