@@ -26,6 +26,6 @@ pub refused_text : (text : List ℕ) (at : Refusal) (found : Tokens) (tokens : L
 refused_text text at found tokens is small spells reads same none =
     unbuilt text at found is small spells reads
     (λ f built.
-      let P : Tokens → Type 0 = λ ts. Derives f ts.items in
-      let Q : List Token → Type 0 = λ ts. Derives f ts in
-      none f (subst Q (sym same) (subst P (same_tokens text found f spells built) built.derives)) built.fits)
+    let P : Tokens → Type 0 = λ ts. Derives f ts.items in
+    let Q : List Token → Type 0 = λ ts. Derives f ts in
+    none f (subst Q (sym same) (subst P (same_tokens text found f spells built) built.derives)) built.fits)
