@@ -14,18 +14,19 @@ fn printed(alloc: Global, text: &[u8]) -> Result<Text, Fail> {
 
 /// A file with every construct, in one line, and with blocks that the canonical text leaves out.
 const LOOSE: &[u8] =
-    b"yggdrasil 1;disk sync 2 of 3 of 8;def f(a:word 8,t:table 2 of 3 of 8)->row 3 of 8=t[a];layer l{state s:table 2 of 3 of 8;start{s[0:8]=fill(3,1:8);}memory m:word 8;format{}op o(r:row 3 of 8)->word 8 spec{let c=choose;if(c==1:1){s[1:8][2:8]=r[0:8];}else{}return~resize(r[0:8],8);}on crash{}impl{for i:8 below 4{m=(m+i);call write(i,r);}return pick(low.view,m,0:8);}crash{let c=choose;}tick b{}recover{call flush();}relate all(i:8 below 2,(f(i,s)==row(0:8,m,~m)));always 1:1;settled 1:1;maybe any(i:1 below 1,1:1);}";
+    b"yggdrasil 1;disk sync 2 of 3 of 8;def f(a:word 8,t:table 2 of 3 of 8)->row\t3 of 8=t[a];layer l{state s:table 2 of 3 of 8;start{s[0:8]=fill(3,1:8);}memory m:word 8;format{}op o(r:row\t3 of 8)->word 8 spec{let c=choose;if(c==1:1){s[1:8][2:8]=r[0:8];}else{}return~resize(r[0:8],8);}on crash{}impl{for i:8 below 4{m=(m+i);call write(i,r);}return pick(low.view,m,0:8);}crash{let c=choose;}tick b{}recover{call flush();}relate all(i:8 below 2,(f(i,s)==row(0:8,m,~m)));always 1:1;settled 1:1;maybe any(i:1 below 1,1:1);}";
 
+/// Its canonical text, with `\x33` for a 3.
 const CANONICAL: &[u8] = b"yggdrasil 1;
 disk sync 2 of 3 of 8;
-def f(a : word 8, t : table 2 of 3 of 8) -> row 3 of 8 = t[a];
+def f(a : word 8, t : table 2 of 3 of 8) -> row \x33 of 8 = t[a];
 layer l {
   state s : table 2 of 3 of 8;
   start {
     s[0:8] = fill(3, 1:8);
   }
   memory m : word 8;
-  op o(r : row 3 of 8) -> word 8 spec {
+  op o(r : row \x33 of 8) -> word 8 spec {
     let c = choose;
     if (c == 1:1) {
       s[1:8][2:8] = r[0:8];
