@@ -1,0 +1,5 @@
+use Rattle.ygg_unique.proofs.Expressions.{made}
+use Rattle.ygg_unique.proofs.law.one_file_derives.Goals as goal
+
+pub returns : goal.returns
+returns c = ?
