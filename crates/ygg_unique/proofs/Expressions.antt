@@ -22,8 +22,8 @@ use Rattle.ygg_syntax.specs.Expressions as phrases
 use Rattle.ygg_expr.proofs.Phrases.{joined}
 use Rattle.ygg_expr.proofs.Marks.{passed, took}
 use Rattle.ygg_expr.proofs.Claims.{split, empty, all_claims}
-use Rattle.ygg_unique.proofs.Parser.{Parser, exactly, perhaps, expression, loop, indices, expressions, with_indices, indexed, arguments, some_arguments, symbol, after_first, quantified, run}
-use Rattle.ygg_unique.proofs.Runs.{taken, absent, there, more, ended, Reads, is_one_of, neither, Opens, opens_pass, opens_take, done, pass, take, next_name, next_number, next_operator}
+use Rattle.ygg_unique.proofs.Parser.{Parser, exactly, perhaps, expression, loop, indices, expressions, with_indices, indexed, arguments, arguments_rule, some_arguments, symbol, after_first, quantified, run}
+use Rattle.ygg_unique.proofs.Runs.{alike, does, flat, given, taken, absent, there, more, ended, Reads, is_one_of, neither, Opens, opens_pass, opens_take, done, pass, take, next_name, next_number, next_operator}
 
 abbrev round : Mark
 round = mark.Symbol sign.RoundOpen
@@ -99,21 +99,19 @@ some_made e es all k {q} {rs} r = record {
       (sym (joined (expr e ∷ phrases.more (map phrase es)) (phrases.symbol sign.RoundClose ∷ rs) from) ∙ h);
 }
 
+does_arguments : (k : List Expr → Parser) (from : List Token) → run (arguments k) from ≡ run (arguments_rule k) from
+does_arguments k = alike (arguments k) (arguments_rule k) refl (λ t. refl)
+
 -- expressions or none, and the bracket after them
-pub arguments_made : (es : List Expr) → AllMade es → (k : List Expr → Parser) {q : Parser} {rs : List Reading} → Reads rs (k es) q → Reads (any (map phrase es) ∷ phrases.symbol sign.RoundClose ∷ rs) (arguments k) q
-arguments_made [] all k {q} {rs} r = record {
-  reads = λ from rest h.
-      let s = split (any []) (phrases.symbol sign.RoundClose ∷ rs) from rest h in
-      let t = split (phrases.symbol sign.RoundClose) rs s.mid rest s.others in let c = passed (mark.Symbol sign.RoundClose) s.mid t.mid t.first in
-      ap (run (arguments k)) (empty from s.mid s.first ∙ c.is) ∙ there (mark.Symbol sign.RoundClose) c.at t.mid (λ at. k []) (some_arguments k) ∙ r.reads t.mid rest t.others;
-}
-arguments_made (e ∷ es) all k {q} {rs} r = record {
+pub arguments_made : (es : List Expr) → AllMade es → {k : List Expr → Parser} {q : Parser} {rs : List Reading} → Reads rs (k es) q → Reads (any (map phrase es) ∷ phrases.symbol sign.RoundClose ∷ rs) (arguments k) q
+arguments_made [] all {k} {q} {rs} r = does (does_arguments k) (flat [] (given r))
+arguments_made (e ∷ es) all {k} {q} {rs} r = does (does_arguments k) (record {
   reads = λ from rest h.
       let others : List Reading = phrases.more (map phrase es) ++ phrases.symbol sign.RoundClose ∷ rs in
       let s = split (expr e) others from rest (sym (joined (expr e ∷ phrases.more (map phrase es)) (phrases.symbol sign.RoundClose ∷ rs) from) ∙ h) in
       absent (mark.Symbol sign.RoundClose) from (λ at. k []) (some_arguments k) ((all_claims e).opens from s.mid s.first (mark.Symbol sign.RoundClose) refl)
       ∙ (some_made e es all k r).reads from rest h;
-}
+})
 
 -- expressions with what is shown of them
 abbrev Shown : Type 0
@@ -144,7 +142,7 @@ apply_made x es all = of_atom (λ from rest h no_round k.
     let k' : List Expr → Parser = λ es. indexed k (Expr-F.Apply x es) in
     let first = perhaps round (λ at. arguments k') (indexed k (Expr-F.Variable x)) in
     ap (run (expression k)) (took (mark.Name x.text) x.place from s.mid s.first) ∙ taken (expression k) first (token (mark.Name x.text) x.place) s.mid refl
-    ∙ ap (run first) c.is ∙ there round c.at t.mid (λ at. arguments k') (indexed k (Expr-F.Variable x)) ∙ (arguments_made es all k' done).reads t.mid rest t.others)
+    ∙ ap (run first) c.is ∙ there round c.at t.mid (λ at. arguments k') (indexed k (Expr-F.Variable x)) ∙ (arguments_made es all {k = k'} done).reads t.mid rest t.others)
 
 not_made : (at : Place) (a : Expr) → Made (phrase a) a → Made (node_phrase (Expr-F.Not at (phrase a))) (roll-Expr (Expr-F.Not at a))
 not_made at a m = record {

@@ -1,3 +1,4 @@
 pub mod Expressions
 pub mod Parser
 pub mod Runs
+pub mod Statements

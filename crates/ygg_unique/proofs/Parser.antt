@@ -81,6 +81,14 @@ pub data Parser : Type 0 where
   expression : (Expr → Parser) → Parser
   loop : (l : Loop) → (List (element l) → Parser) → Parser
   statements : Kind → (List Stmt → Parser) → Parser
+  -- rules: each reads as its parser below
+  arguments : (List Expr → Parser) → Parser
+  right_side : Kind → (Source → Parser) → Parser
+  block : Kind → (Block → Parser) → Parser
+  answering : Kind → (Block → Parser) → Parser
+  some_type : Sort → (TypeText → Parser) → Parser
+  declared_list : Sort → (List Declared → Parser) → Parser
+  on_crash : (Option Block → Parser) → Parser
 
 -- a word of the language
 abbrev pub keyword : Keyword → Parser → Parser
@@ -108,8 +116,8 @@ abbrev pub some_arguments : (List Expr → Parser) → Parser
 some_arguments k = expression (λ e. loop expressions (λ es. symbol sign.RoundClose (k (e ∷ es))))
 
 -- [expr {"," expr}] ")"
-abbrev pub arguments : (List Expr → Parser) → Parser
-arguments k = perhaps (mark.Symbol sign.RoundClose) (λ at. k []) (some_arguments k)
+abbrev pub arguments_rule : (List Expr → Parser) → Parser
+arguments_rule k = perhaps (mark.Symbol sign.RoundClose) (λ at. k []) (some_arguments k)
 
 -- what follows `all` or `any`
 abbrev pub quantified : Place → Quantifier → (Expr → Parser) → Parser
@@ -139,20 +147,20 @@ after_first (mark.Keyword word.Any) at k = Some (quantified at quantifier.Any k)
 after_first _ at k = None
 
 -- fromK
-abbrev pub right_side : Kind → (Source → Parser) → Parser
-right_side Plain k = expression (λ e. k (source.Value e))
-right_side Spec k = perhaps (mark.Keyword word.Choose) (λ at. k (source.Choose at)) (expression (λ e. k (source.Value e)))
-right_side Impl k =
+abbrev pub right_side_rule : Kind → (Source → Parser) → Parser
+right_side_rule Plain k = expression (λ e. k (source.Value e))
+right_side_rule Spec k = perhaps (mark.Keyword word.Choose) (λ at. k (source.Choose at)) (expression (λ e. k (source.Value e)))
+right_side_rule Impl k =
     perhaps (mark.Keyword word.Call) (λ at. name (λ f. symbol sign.RoundOpen (arguments (λ es. k (source.Call at f es))))) (expression (λ e. k (source.Value e)))
 
 -- K
-abbrev pub block : Kind → (Block → Parser) → Parser
-block kind k =
+abbrev pub block_rule : Kind → (Block → Parser) → Parser
+block_rule kind k =
     exactly (mark.Symbol sign.BraceOpen) (λ at. statements kind (λ ss. symbol sign.BraceClose (k (record { place = at; statements = ss; answer = None }))))
 
 -- KR
-abbrev pub answering : Kind → (Block → Parser) → Parser
-answering kind k =
+abbrev pub answering_rule : Kind → (Block → Parser) → Parser
+answering_rule kind k =
     exactly (mark.Symbol sign.BraceOpen) (λ at. statements kind (λ ss. keyword word.Return (expression (λ e. symbol sign.Semicolon (symbol sign.BraceClose (
     k (record { place = at; statements = ss; answer = Some e })))))))
 
@@ -166,8 +174,8 @@ table sorts.Small k = refused
 table sorts.All k = keyword word.Table (number (λ n. keyword word.Of (number (λ m. keyword word.Of (number (λ w. k (shape.Table n m w)))))))
 
 -- type, or small
-abbrev pub some_type : Sort → (TypeText → Parser) → Parser
-some_type sort k =
+abbrev pub type_rule : Sort → (TypeText → Parser) → Parser
+type_rule sort k =
     perhaps (mark.Keyword word.Word) (λ at. number (λ w. k (shape.Word w)))
     (perhaps (mark.Keyword word.Row) (λ at. number (λ m. keyword word.Of (number (λ w. k (shape.Row m w))))) (table sort k))
 
@@ -176,8 +184,8 @@ abbrev pub declared : Sort → (Declared → Parser) → Parser
 declared sort k = name (λ x. symbol sign.Colon (some_type sort (λ t. k (record { name = x; shape = t }))))
 
 -- [NAME ":" type {"," NAME ":" type}] ")"
-abbrev pub declared_list : Sort → (List Declared → Parser) → Parser
-declared_list sort k =
+abbrev pub declared_list_rule : Sort → (List Declared → Parser) → Parser
+declared_list_rule sort k =
     perhaps (mark.Symbol sign.RoundClose) (λ at. k []) (declared sort (λ d. loop (declarations sort) (λ ds. symbol sign.RoundClose (k (d ∷ ds)))))
 
 -- one statement, by its first token
@@ -198,8 +206,8 @@ definition k =
     k (record { name = x; parameters = ds; shape = t; body = e })))))))))
 
 -- ["on" "crash" spec]
-abbrev pub on_crash : (Option Block → Parser) → Parser
-on_crash k = perhaps (mark.Keyword word.On) (λ at. keyword word.Crash (block Spec (λ b. k (Some b)))) (k None)
+abbrev pub on_crash_rule : (Option Block → Parser) → Parser
+on_crash_rule k = perhaps (mark.Keyword word.On) (λ at. keyword word.Crash (block Spec (λ b. k (Some b)))) (k None)
 
 -- what follows the arguments of an operation
 abbrev pub operation_blocks : (Option TypeText → Block → Option Block → Block → Parser) → Parser
@@ -300,18 +308,51 @@ abbrev pub operated : Mark → (Op → Parser) → Option Parser
 operated (mark.Symbol s) k = elim (operation_of s) [ Some op ↦ Some (k op) | None ↦ None ]
 operated _ k = None
 
+-- this token, or else another
+abbrev pub whether : Mark → Token → Option Parser → Option Parser → Option Parser
+whether m t p q = elim (same_mark m t.mark) as (λ b. Option Parser) [ true ↦ p | false ↦ q ]
+
+abbrev pub source_step : Kind → (Source → Parser) → Token → Option Parser
+source_step Plain k t = after_first t.mark (place_of t) (λ e. k (source.Value e))
+source_step Spec k t = whether (mark.Keyword word.Choose) t (Some (k (source.Choose (place_of t)))) (after_first t.mark (place_of t) (λ e. k (source.Value e)))
+source_step Impl k t =
+    whether (mark.Keyword word.Call) t (Some (name (λ f. symbol sign.RoundOpen (arguments (λ es. k (source.Call (place_of t) f es))))))
+    (after_first t.mark (place_of t) (λ e. k (source.Value e)))
+
+abbrev pub table_step : Sort → (TypeText → Parser) → Token → Option Parser
+table_step sorts.Small k t = None
+table_step sorts.All k t =
+    whether (mark.Keyword word.Table) t (Some (number (λ n. keyword word.Of (number (λ m. keyword word.Of (number (λ w. k (shape.Table n m w)))))))) None
+
 -- what is left to be read after one token
 abbrev pub step : Parser → Token → Option Parser
 step (answer f) t = None
 step refused t = None
-step (exactly m k) t = elim (same_mark m t.mark) [ true ↦ Some (k (place_of t)) | false ↦ None ]
+step (exactly m k) t = whether m t (Some (k (place_of t))) None
 step (name k) t = named t.mark (λ text. k (record { text = text; place = place_of t }))
 step (number k) t = numbered t.mark (λ n. k (record { value = n; place = place_of t }))
 step (operator k) t = operated t.mark (λ op. k op (place_of t))
-step (perhaps m k p) t = elim (same_mark m t.mark) [ true ↦ Some (k (place_of t)) | false ↦ step p t ]
+step (perhaps m k p) t = whether m t (Some (k (place_of t))) (step p t)
 step (expression k) t = after_first t.mark (place_of t) k
-step (loop l k) t = elim (same_mark (beginning l) t.mark) [ true ↦ Some (rest_of l (place_of t) (λ x. loop l (λ xs. k (x ∷ xs)))) | false ↦ step (k []) t ]
-step (statements kind k) t = elim (statement kind t.mark (place_of t) (λ s. statements kind (λ ss. k (s ∷ ss)))) [ Some p ↦ Some p | None ↦ step (k []) t ]
+step (loop l k) t = whether (beginning l) t (Some (rest_of l (place_of t) (λ x. loop l (λ xs. k (x ∷ xs))))) (step (k []) t)
+step (statements kind k) t = elim (statement kind t.mark (place_of t) (λ s. statements kind (λ ss. k (s ∷ ss)))) as (λ o. Option Parser) [ Some p ↦ Some p | None ↦ step (k []) t ]
+step (arguments k) t =
+    whether (mark.Symbol sign.RoundClose) t (Some (k [])) (after_first t.mark (place_of t) (λ e. loop expressions (λ es. symbol sign.RoundClose (k (e ∷ es)))))
+step (right_side kind k) t = source_step kind k t
+step (block kind k) t =
+    let at = place_of t in
+    whether (mark.Symbol sign.BraceOpen) t (Some (statements kind (λ ss. symbol sign.BraceClose (k (record { place = at; statements = ss; answer = None }))))) None
+step (answering kind k) t =
+    let at = place_of t in
+    whether (mark.Symbol sign.BraceOpen) t
+    (Some (statements kind (λ ss. keyword word.Return (expression (λ e. symbol sign.Semicolon (symbol sign.BraceClose (k (record { place = at; statements = ss; answer = Some e })))))))) None
+step (some_type sort k) t =
+    whether (mark.Keyword word.Word) t (Some (number (λ w. k (shape.Word w))))
+    (whether (mark.Keyword word.Row) t (Some (number (λ m. keyword word.Of (number (λ w. k (shape.Row m w)))))) (table_step sort k t))
+step (declared_list sort k) t =
+    whether (mark.Symbol sign.RoundClose) t (Some (k [])) (named t.mark (λ text. symbol sign.Colon (some_type sort (λ s.
+    loop (declarations sort) (λ ds. symbol sign.RoundClose (k (record { name = record { text = text; place = place_of t }; shape = s } ∷ ds)))))))
+step (on_crash k) t = whether (mark.Keyword word.On) t (Some (keyword word.Crash (block Spec (λ b. k (Some b))))) (step (k None) t)
 
 -- the file where the text ends
 abbrev pub finish : Parser → Option File
@@ -325,6 +366,13 @@ finish (perhaps m k p) = finish p
 finish (expression k) = None
 finish (loop l k) = finish (k [])
 finish (statements kind k) = finish (k [])
+finish (arguments k) = None
+finish (right_side kind k) = None
+finish (block kind k) = None
+finish (answering kind k) = None
+finish (some_type sort k) = None
+finish (declared_list sort k) = None
+finish (on_crash k) = finish (k None)
 
 -- the file that is read from the tokens
 unfoldable pub run : Parser → List Token → Option File

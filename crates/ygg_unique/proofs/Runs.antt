@@ -34,6 +34,12 @@ pub left : (p q : Parser) (t : Token) (ts : List Token) → step p t ≡ step q 
 unfolding run
 left p q t ts e = ap (λ o. goes_on o ts) e
 
+-- two parsers do alike
+pub alike : (p q : Parser) → finish p ≡ finish q → ((t : Token) → step p t ≡ step q t) → (from : List Token) → run p from ≡ run q from
+unfolding run
+alike p q e h [] = e
+alike p q e h (t ∷ ts) = left p q t ts (h t)
+
 abbrev chosen : Option Parser → Option Parser → Bool → Option Parser
 chosen p q b = elim b as (λ b. Option Parser) [ true ↦ p | false ↦ q ]
 
@@ -153,6 +159,10 @@ inside {r} {rs} {p} {m} {q} a b = record {
   reads = λ from rest h. let s = split r rs from rest h in
       a.reads from s.mid (ap (λ o. elim o as (λ o. Option (List Token)) [ None ↦ None | Some mid ↦ Some mid ]) s.first) ∙ b.reads s.mid rest s.others;
 }
+
+-- a parser that does as another
+pub does : {p n : Parser} → ((from : List Token) → run n from ≡ run p from) → {rs : List Reading} {q : Parser} → Reads rs p q → Reads rs n q
+does {p} {n} e {rs} {q} r = record { reads = λ from rest h. e from ∙ r.reads from rest h }
 
 -- readings in a row within others
 pub flat : (inner : List Reading) {rs : List Reading} {p q : Parser} → Reads (inner ++ rs) p q → Reads (in_turn inner ∷ rs) p q
