@@ -1,4 +1,5 @@
 pub mod Expressions
+pub mod Files
 pub mod Parser
 pub mod Runs
 pub mod Statements

@@ -213,18 +213,19 @@ taking l x at {rs} r = record {
 }
 
 -- one after another, and something else after them
+pub all_entered : (l : Loop) (r : element l → Reading) → ((x : element l) → Enters l (r x) x) → (xs : List (element l)) (k : List (element l) → Parser) (from mid : List Token)
+    → in_turn (map r xs) from ≡ Some mid → starts (beginning l) mid ≡ false → run (loop l k) from ≡ run (k xs) mid
+all_entered l r each [] k from mid h apart = let e = empty from mid h in ended l from k (ap (starts (beginning l)) e ∙ apart) ∙ ap (run (k [])) e
+all_entered l r each (x ∷ xs) k from mid h apart =
+    let s = split (r x) (map r xs) from mid h in let e = (each x).enters from s.mid s.first in
+    ap (run (loop l k)) e.is ∙ more l e.at e.mid k ∙ e.reads (λ x. loop l (λ xs. k (x ∷ xs))) ∙ all_entered l r each xs (λ xs. k (x ∷ xs)) s.mid mid s.others apart
+
 pub many : (l : Loop) (r : element l → Reading) → ((x : element l) → Enters l (r x) x) → (xs : List (element l)) {rs : List Reading} {k : List (element l) → Parser} {q : Parser} {firsts : List Mark}
     → Opens rs firsts → is_one_of firsts (beginning l) ≡ false → Reads rs (k xs) q → Reads (in_turn (map r xs) ∷ rs) (loop l k) q
 many l r each xs {rs} {k} {q} {firsts} o apart others = record {
   reads = λ from rest h. let s = split (in_turn (map r xs)) rs from rest h in
-      go xs k from s.mid s.first (o.opens s.mid rest s.others (beginning l) apart) ∙ others.reads s.mid rest s.others;
+      all_entered l r each xs k from s.mid s.first (o.opens s.mid rest s.others (beginning l) apart) ∙ others.reads s.mid rest s.others;
 }
-  where
-    go : (xs : List (element l)) (k : List (element l) → Parser) (from mid : List Token) → in_turn (map r xs) from ≡ Some mid → starts (beginning l) mid ≡ false → run (loop l k) from ≡ run (k xs) mid
-    go [] k from mid h apart = let e = empty from mid h in ended l from k (ap (starts (beginning l)) e ∙ apart) ∙ ap (run (k [])) e
-    go (x ∷ xs) k from mid h apart =
-        let s = split (r x) (map r xs) from mid h in let e = (each x).enters from s.mid s.first in
-        ap (run (loop l k)) e.is ∙ more l e.at e.mid k ∙ e.reads (λ x. loop l (λ xs. k (x ∷ xs))) ∙ go xs (λ xs. k (x ∷ xs)) s.mid mid s.others apart
 
 pub opens_many : (l : Loop) (r : element l → Reading) → ((x : element l) → Enters l (r x) x) → (xs : List (element l)) {rs : List Reading} {firsts : List Mark}
     → Opens rs firsts → Opens (in_turn (map r xs) ∷ rs) (beginning l ∷ firsts)

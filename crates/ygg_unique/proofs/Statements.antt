@@ -125,7 +125,7 @@ opens_block kind p None {rs} = record {
       (opens_take (mark.Symbol sign.BraceOpen) p.place).opens from s.mid s.first m other;
 }
 
-some_is : (from mid : List Token) → Some from ≡ Some mid → from ≡ mid
+pub some_is : (from mid : List Token) → Some from ≡ Some mid → from ≡ mid
 some_is from mid h = cc
 
 -- a keyword and a block, or neither
@@ -183,12 +183,19 @@ block_of place ts answer = record { place = place; statements = ts; answer = ans
 same_number : (m n : ℕ) → m == n ≡ true → m ≡ n
 same_number m n h = grind (arith, nat_tests)
 
-both : (b c : Bool) → b && c ≡ true → (b ≡ true) × (c ≡ true)
+pub both : (b c : Bool) → b && c ≡ true → (b ≡ true) × (c ≡ true)
 both true c h = (refl, h)
 both false c h = absurd (cc)
 
+-- a place of no token
+pub nowhere_is : (place : Place) → is_nowhere place ≡ true → place ≡ unwritten.place
+nowhere_is place h =
+    let b = both (place.line == 0) (place.column == 0) h in
+    let line : place.line ≡ 0 = same_number place.line 0 b.0 in let column : place.column ≡ 0 = same_number place.column 0 b.1 in
+    λ i. record { line = line i; column = column i }
+
 braces_made : (place : Place) (ts : List Stmt) (answer : Option Expr) → AllStatements ts → BlockMade (phrase_of place ts answer) (block_of place ts answer)
-braces_made place ts answer all = record { made = λ kind from rest h k. cases kind answer from rest h k; is = λ h. let b = both (is_nowhere place) (nothing_in (map blocks.statement ts) answer) h in nothing ts answer b.1 (nowhere b.0) }
+braces_made place ts answer all = record { made = λ kind from rest h k. cases kind answer from rest h k; is = λ h. let b = both (is_nowhere place) (nothing_in (map blocks.statement ts) answer) h in nothing ts answer b.1 (nowhere_is place b.0) }
   where
     cases : (kind : Kind) (answer : Option Expr) (from rest : List Token) → without_answer kind (phrase_of place ts answer) answer from ≡ Some rest → (k : Block → Parser) → run (block kind k) from ≡ run (k (block_of place ts answer)) rest
     cases kind (Some e) from rest h k = absurd (cc)
@@ -203,12 +210,6 @@ braces_made place ts answer all = record { made = λ kind from rest h k. cases k
         ap (run (block kind k)) (took (mark.Symbol sign.BraceOpen) place from s.mid s.first)
         ∙ taken (block kind k) (statements kind k') (token (mark.Symbol sign.BraceOpen) place) s.mid refl
         ∙ all_run kind ts all s.mid i.mid i.first end k' ∙ (pass {p = k (block_of place ts None)} done).reads i.mid rest i.others
-
-    nowhere : is_nowhere place ≡ true → place ≡ unwritten.place
-    nowhere h =
-        let b = both (place.line == 0) (place.column == 0) h in
-        let line : place.line ≡ 0 = same_number place.line 0 b.0 in let column : place.column ≡ 0 = same_number place.column 0 b.1 in
-        λ i. record { line = line i; column = column i }
 
     nothing : (ts : List Stmt) (answer : Option Expr) → nothing_in (map blocks.statement ts) answer ≡ true → place ≡ unwritten.place → block_of place ts answer ≡ unwritten
     nothing [] None h e = ap (λ place. block_of place [] None) e
