@@ -156,7 +156,7 @@ not_made at a m = record {
 }
 
 -- the base of an index may have indices
-may_have : (p : Phrase) (from rest : List Token) → phrases.indexed p from ≡ Some rest → (p.indexable ≡ true) × (whole p from ≡ Some rest)
+pub may_have : (p : Phrase) (from rest : List Token) → phrases.indexed p from ≡ Some rest → (p.indexable ≡ true) × (whole p from ≡ Some rest)
 may_have p from rest h = cases p.indexable refl h
   where
     cases : (b : Bool) → p.indexable ≡ b → (if b then whole p else impossible) from ≡ Some rest → (p.indexable ≡ true) × (whole p from ≡ Some rest)

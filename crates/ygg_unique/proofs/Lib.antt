@@ -1,3 +1,5 @@
+pub mod Again
+pub mod AgainExpressions
 pub mod Expressions
 pub mod Files
 pub mod Parser

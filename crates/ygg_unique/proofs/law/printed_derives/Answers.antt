@@ -1,0 +1,5 @@
+use Rattle.ygg_unique.proofs.AgainExpressions.{anew}
+use Rattle.ygg_unique.proofs.law.printed_derives.Goals as goal
+
+pub returns : goal.returns
+returns c = ?
