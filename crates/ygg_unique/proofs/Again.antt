@@ -151,6 +151,9 @@ turn_ending {m} {r} {ms} {X} {Z} {reading} {other} f e one = record {
       let a = one.single from rest h tokens tail apart same in record { made = f a.made; rest = a.rest; is = e a.made tokens ∙ a.is; left = a.left };
 }
 
+pub spelled_ending : {m : Mark} {r : Reading} {ms ns : List Mark} {Z : Type 0} {reading : Z → Reading} → ms ≡ ns → Ending m r ns Z reading → Ending m r ms Z reading
+spelled_ending e one = record { single = λ from rest h tokens tail apart same. one.single from rest h tokens tail apart (same ∙ ap (λ (xs : List Mark). xs ++ tail) e) }
+
 -- readings, and another one at their end
 pub part_ending : {m : Mark} {rs : List Reading} {ms : List Mark} {Z : Type 0} {reads : Z → List Reading} → Again rs ms Z reads → {r : Reading} {ns : List Mark} {X : Type 0} {reading : X → Reading}
     → Ending m r ns X reading → Ending m (in_turn (rs ++ r ∷ [])) (ms ++ ns) (Z × X) (λ z. in_turn (reads z.0 ++ reading z.1 ∷ []))

@@ -86,22 +86,22 @@ all_in : (es : List Shown) → AllAnew (map tree_in es)
 all_in [] = tt
 all_in (e ∷ es) = (e.1, all_in es)
 
-abbrev name_at : tree.Name → Place → tree.Name
+abbrev pub name_at : tree.Name → Place → tree.Name
 name_at x at = record { text = x.text; place = at }
 
-abbrev number_at : Numeral → Place → Numeral
+abbrev pub number_at : Numeral → Place → Numeral
 number_at n at = record { value = n.value; place = at }
 
-abbrev name : tree.Name → Mark
+abbrev pub name : tree.Name → Mark
 name x = mark.Name x.text
 
-abbrev number : Numeral → Mark
+abbrev pub number : Numeral → Mark
 number n = mark.Num n.value
 
-abbrev round : Mark
+abbrev pub round : Mark
 round = mark.Symbol sign.RoundOpen
 
-abbrev close : Mark
+abbrev pub close : Mark
 close = mark.Symbol sign.RoundClose
 
 abbrev comma : Mark

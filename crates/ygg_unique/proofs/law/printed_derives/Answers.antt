@@ -1,4 +1,4 @@
-use Rattle.ygg_unique.proofs.AgainExpressions.{anew}
+use Rattle.ygg_unique.proofs.AgainStatements.{answering_again}
 use Rattle.ygg_unique.proofs.law.printed_derives.Goals as goal
 
 pub returns : goal.returns
