@@ -104,7 +104,7 @@ round = mark.Symbol sign.RoundOpen
 abbrev pub close : Mark
 close = mark.Symbol sign.RoundClose
 
-abbrev comma : Mark
+abbrev pub comma : Mark
 comma = mark.Symbol sign.Comma
 
 -- one rule a line

@@ -1,5 +1,6 @@
 pub mod Again
 pub mod AgainExpressions
+pub mod AgainFiles
 pub mod AgainStatements
 pub mod Expressions
 pub mod Files
