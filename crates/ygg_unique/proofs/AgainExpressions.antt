@@ -16,7 +16,7 @@ use Rattle.ygg_syntax.specs.Expressions.{Phrase, node_phrase, phrase, expr, whol
 use Rattle.ygg_print.specs.Printed.{printed, node_printed, list_printed, more_printed}
 use Rattle.ygg_same.specs.Bare.{nowhere, bare, node_bare}
 use Rattle.ygg_unique.proofs.Expressions.{may_have}
-use Rattle.ygg_unique.proofs.Again.{marks_of, Read, Single, Again, row, done, pass, take, part, turn, turns, last}
+use Rattle.ygg_unique.proofs.Again.{marks_of, Read, Single, Again, row, done, pass, take, part, turn, turns, never, last}
 
 -- an expression that is this one without places, and whether an index may follow it
 abbrev pub Like : Bool → Expr → Type 0
@@ -59,7 +59,7 @@ any_anew [] all = turn (λ z. ([], refl)) (λ z ts. refl) (row done)
 any_anew (e ∷ es) all = turn (λ z. (z.0.0 ∷ z.1.0, λ i. z.0.1.0 i ∷ z.1.1 i)) (λ z ts. refl) (row (part all.0 (more_anew es all.1)))
 
 row_anew : (es : List Expr) → AllAnew es → Single (some (map phrase es)) (list_printed (map printed es)) (LikeAll (map bare es)) (λ z. some (map phrase z.0))
-row_anew [] all = record { single = λ from rest h tokens tail same. absurd (cc) }
+row_anew [] all = never
 row_anew (e ∷ es) all = some_anew e es all
 
 -- the base of an index
@@ -70,6 +70,7 @@ base_anew p b ms one = record {
       let a = one.single from rest base.1 tokens tail same in
       let i : (phrase a.made.0).indexable ≡ true = a.made.1.1 ∙ base.0 in
       record { made = (a.made.0, (a.made.1.0, i)); rest = a.rest; is = has (phrase a.made.0) i tokens ∙ a.is; left = a.left };
+  keeps = λ from rest h tail w. one.keeps from rest (may_have p from rest h).1 tail w;
 }
   where
     has : (p : Phrase) → p.indexable ≡ true → (ts : List Token) → indexed p ts ≡ whole p ts

@@ -1,5 +1,5 @@
 -- Where a file derives, one that is the same but for places derives from all tokens with its printed marks.
-use Rattle.std.proofs.Common.{◌≡◌, Bool, true, false, ◌&&◌, if◌then◌else◌, List, [], ◌∷◌, ◌++◌, map, Option, Some, None, option_map, refl, sym, ap, ◌∙◌, append_assoc}
+use Rattle.std.proofs.Common.{◌≡◌, Bool, true, false, ◌&&◌, if◌then◌else◌, List, [], ◌∷◌, ◌++◌, map, Option, Some, None, option_map, refl, sym, ap, ◌∙◌, subst, append_assoc}
 use Rattle.std.proofs.lemmas.List.{append-nil}
 use Rattle.ygg_base.specs.declared.token.Keyword.{Keyword}
 use Rattle.ygg_base.specs.declared.token.Keyword.TheVariants as word
@@ -32,9 +32,12 @@ use Rattle.ygg_print.specs.Printed.{printed, list_printed, more_printed}
 use Rattle.ygg_print.specs.PrintedBlocks.{all_printed, block_printed}
 use Rattle.ygg_print.specs.PrintedFiles.{type_printed, declared_printed, disk_printed, definition_printed, variable_printed, claim_printed, optional_printed, on_crash_printed, answer_type_printed, bodies_printed, operation_printed, tick_printed, variables_printed, steps_printed, claims_printed, layer_printed, file_printed}
 use Rattle.ygg_same.specs.Bare.{nowhere, bare, bare_type, bare_block, bare_declared, bare_disk, bare_def, bare_operation, bare_tick, bare_layer, bare_file}
-use Rattle.ygg_expr.proofs.Phrases as phrases
+use Rattle.ygg_expr.proofs.Marks.{took}
+use Rattle.ygg_expr.proofs.Claims.{split, empty}
+use Rattle.ygg_unique.specs.Laws.{LeftOut, nothing, leaves}
 use Rattle.ygg_unique.proofs.Parser.{unwritten}
-use Rattle.ygg_unique.proofs.Again.{marks_of, Read, Single, Again, row, done, pass, take, part, turn, turns, spelled, never, last, begins, starts_is, Ending, Apart, ending}
+use Rattle.ygg_unique.proofs.Statements.{some_is}
+use Rattle.ygg_unique.proofs.Again.{marks_of, Read, Single, Again, row, kept, done, pass, take, part, turn, turns, spelled, never, last, begins, starts_is, Ending, Apart, ending}
 use Rattle.ygg_unique.proofs.AgainExpressions.{anew, name_at, number_at, name, number, round, close, comma}
 use Rattle.ygg_unique.proofs.AgainStatements.{Alike, optional_anew, block_anew, answering_again}
 
@@ -126,7 +129,10 @@ tick_anew t = turn (λ z. (record { name = name_at t.name z.0; body = z.1.0 }, �
 -- the block `crash` with its place, or none
 crash_anew : (at : Place) (b : Block)
     → Ending (word_mark word.Crash) (crash_block at b) (optional_printed word.Crash b) (Place × Alike bare_block (bare_block b)) (λ z. crash_block z.0 z.1.0)
-crash_anew at b = record { single = λ from rest h tokens tail apart same. cases (block_printed b).empty refl from rest h tokens tail apart same }
+crash_anew at b = record {
+  single = λ from rest h tokens tail apart same. cases (block_printed b).empty refl from rest h tokens tail apart same;
+  keeps = λ from rest h tail w. kept_so (starts (word_mark word.Crash) from) (is_nowhere at) (is_unwritten (block_phrase b)) refl (block_printed b).empty refl from rest h tail w;
+}
   where
     absent : (ts : List Token) → starts (word_mark word.Crash) ts ≡ false → crash_block nowhere unwritten ts ≡ Some ts
     absent ts s = ap (λ (s : Bool). if s then in_turn (takes (word_mark word.Crash) nowhere ∷ blocks.block Spec unwritten ∷ []) ts else if is_nowhere nowhere && is_unwritten (block_phrase unwritten) then Some ts else None) s
@@ -134,6 +140,20 @@ crash_anew at b = record { single = λ from rest h tokens tail apart same. cases
     there : (at : Place) (b : Block) (ts rest : List Token) → starts (word_mark word.Crash) ts ≡ true → in_turn (takes (word_mark word.Crash) at ∷ blocks.block Spec b ∷ []) ts ≡ Some rest → crash_block at b ts ≡ Some rest
     there at b ts rest s h =
         ap (λ (s : Bool). if s then in_turn (takes (word_mark word.Crash) at ∷ blocks.block Spec b ∷ []) ts else if is_nowhere at && is_unwritten (block_phrase b) then Some ts else None) s ∙ h
+
+    -- what was written may be left out, and what wasn't is
+    kept_so : (s n u : Bool) → is_unwritten (block_phrase b) ≡ u → (empty : Bool) → (block_printed b).empty ≡ empty → (from rest : List Token)
+        → (if s then in_turn (takes (word_mark word.Crash) at ∷ blocks.block Spec b ∷ []) from else if n && u then Some from else None) ≡ Some rest → (tail : List Mark) → LeftOut (marks_of rest) tail
+        → LeftOut (marks_of from) ((if empty then [] else word_mark word.Crash ∷ (block_printed b).marks) ++ tail)
+    kept_so true n u is true e from rest h tail w =
+        let s = split (takes (word_mark word.Crash) at) (blocks.block Spec b ∷ []) from rest h in let t = split (blocks.block Spec b) [] s.mid rest s.others in
+        kept (took (word_mark word.Crash) at from s.mid s.first) tail
+        (subst (λ (ns : List Mark). LeftOut (word_mark word.Crash ∷ ns) tail) (sym ((block_anew b).hollow e Spec s.mid t.mid t.first)) (leaves refl (kept (empty t.mid rest t.others) tail w)))
+    kept_so true n u is false e from rest h tail w = (take (word_mark word.Crash) at (last ((block_anew b).again Spec))).keeps from rest h tail w
+    kept_so false true true is true e from rest h tail w = kept (some_is from rest h) tail w
+    kept_so false true true is false e from rest h tail w = absurd (let k = (block_anew b).written e in cc)
+    kept_so false true false is v e from rest h tail w = absurd (cc)
+    kept_so false false u is v e from rest h tail w = absurd (cc)
 
     derived : (s n u : Bool) → u ≡ false → (from rest : List Token)
         → (if s then in_turn (takes (word_mark word.Crash) at ∷ blocks.block Spec b ∷ []) from else if n && u then Some from else None) ≡ Some rest → in_turn (takes (word_mark word.Crash) at ∷ blocks.block Spec b ∷ []) from ≡ Some rest
@@ -262,13 +282,13 @@ layer_anew l =
     })) (λ z ts. refl)
     (row (take (word_mark word.Layer) l.place (take (name l.name) l.name.place (pass (mark.Symbol sign.BraceOpen) (spelled (layer_row l)
     (part (row (list_anew bare_declared (variable word.State) (variable_printed word.State) (variable_anew word.State) l.state))
-    (ending (optional_anew word.Start Plain (block_anew l.start)) (apart_start l)
+    (ending (optional_anew word.Start refl Plain (block_anew l.start)) (apart_start l)
     (part (row (list_anew bare_declared (variable word.Memory) (variable_printed word.Memory) (variable_anew word.Memory) l.memory))
-    (ending (optional_anew word.Format Impl (block_anew l.format)) (apart_format l)
+    (ending (optional_anew word.Format refl Impl (block_anew l.format)) (apart_format l)
     (part (row (list_anew bare_operation operation operation_printed operation_anew l.operations))
     (ending (crash_anew l.crash_place l.crash) (apart_ticks (word_mark word.Crash) refl refl refl l)
     (part (row (list_anew bare_tick tick tick_printed tick_anew l.ticks))
-    (ending (optional_anew word.Recover Impl (block_anew l.recover)) (λ tail. refl)
+    (ending (optional_anew word.Recover refl Impl (block_anew l.recover)) (λ tail. refl)
     (part (claim_anew word.Relate l.relate)
     (part (row (list_anew bare (claim word.Always) (claim_printed word.Always) (claim_anew word.Always) l.always))
     (part (row (list_anew bare (claim word.Settled) (claim_printed word.Settled) (claim_anew word.Settled) l.settled))
@@ -298,3 +318,7 @@ found tokens file d printed h =
     none : (ts : List Token) → marks_of ts ≡ [] → ts ≡ []
     none [] h = refl
     none (t ∷ ts) h = absurd (cc)
+
+-- the printed marks are those of the tokens without some empty blocks
+pub left_out : (tokens : List Token) (file : File) → Derives tokens file → LeftOut (marks_of tokens) (file_printed file)
+left_out tokens file d = subst (LeftOut (marks_of tokens)) (append-nil (file_printed file)) ((file_anew file).keeps tokens [] d.derives [] nothing)

@@ -27,10 +27,13 @@ use Rattle.ygg_print.specs.Printed as print
 use Rattle.ygg_print.specs.PrintedBlocks.{all_printed, source_printed, indices_printed, BlockPrinted, node_block_printed, node_stmt_printed, stmt_printed, block_printed, is_empty}
 use Rattle.ygg_same.specs.Bare.{nowhere, bare, bare_name, bare_number, bare_source, bare_index, node_bare_statement, node_bare_block, bare_statement, bare_block}
 use Rattle.ygg_expr.proofs.Phrases as phrases
-use Rattle.ygg_expr.proofs.Claims.{split}
+use Rattle.ygg_expr.proofs.Marks.{passed, took}
+use Rattle.ygg_expr.proofs.Claims.{split, empty}
+use Rattle.ygg_unique.specs.Laws.{is_optional, LeftOut, leaves}
 use Rattle.ygg_unique.proofs.Parser.{unwritten}
+use Rattle.ygg_unique.proofs.Statements.{some_is}
 
-use Rattle.ygg_unique.proofs.Again.{marks_of, Read, Single, Again, row, goes, turns, done, pass, take, part, turn, spelled, never, last, token_at, begins, starts_is, Ending, Apart, ending, unending, turn_ending, spelled_ending, part_ending}
+use Rattle.ygg_unique.proofs.Again.{marks_of, Read, Single, Again, row, kept, joint, goes, turns, done, pass, take, part, turn, spelled, never, last, token_at, begins, starts_is, Ending, Apart, ending, unending, turn_ending, spelled_ending, part_ending}
 use Rattle.ygg_unique.proofs.AgainExpressions.{anew, all_anew, any_anew, LikeAll, name_at, number_at, name, number, round, close}
 
 -- something that is this without places
@@ -85,6 +88,9 @@ all_again kind (t ∷ ts) all = record {
         is = goes (statement a.made.0 kind) (in_kind kind f.made.0) tokens a.rest a.is ∙ f.is;
         left = f.left;
       };
+  keeps = λ from rest h tail w.
+      let s = split (statement t kind) (in_kind kind ts) from rest h in
+      joint (stmt_printed t) (all_printed (map stmt_printed ts)) tail ((all.0.again kind).keeps from s.mid s.first (all_printed (map stmt_printed ts) ++ tail) ((all_again kind ts all.1).keeps s.mid rest s.others tail w));
 }
   where
     next : (ts : List Stmt) → AllAnew ts → (tail : List Mark) → begins (mark.Keyword word.Else) tail ≡ false → begins (mark.Keyword word.Else) (all_printed (map stmt_printed ts) ++ tail) ≡ false
@@ -97,15 +103,19 @@ pub record BlockAnew (phrase_in : Block → BlockPhrase) (bare_in : Block → Bl
   pub nothing : ms.empty ≡ true → bare_in unwritten ≡ b
   pub left_out : is_unwritten (phrase_in unwritten) ≡ true
   pub written : ms.empty ≡ false → is_unwritten p ≡ false
+  pub hollow : ms.empty ≡ true → (kind : Kind) (from rest : List Token) → without_answer kind p p.answer from ≡ Some rest → marks_of from ≡ mark.Symbol sign.BraceOpen ∷ mark.Symbol sign.BraceClose ∷ marks_of rest
 
 -- the marks of a block that may be left out
 abbrev pub optional_marks : Keyword → BlockPrinted → List Mark
 optional_marks k ms = if ms.empty then [] else mark.Keyword k ∷ ms.marks
 
 -- a block that may be left out: one with nothing in it is
-pub optional_anew : (k : Keyword) (kind : Kind) {phrase_in : Block → BlockPhrase} {bare_in : Block → Block} {p : BlockPhrase} {b : Block} {ms : BlockPrinted} → BlockAnew phrase_in bare_in p b ms
+pub optional_anew : (k : Keyword) → is_optional k ≡ true → (kind : Kind) {phrase_in : Block → BlockPhrase} {bare_in : Block → Block} {p : BlockPhrase} {b : Block} {ms : BlockPrinted} → BlockAnew phrase_in bare_in p b ms
     → Ending (mark.Keyword k) (optional_block k kind p) (optional_marks k ms) (Alike bare_in b) (λ z. optional_block k kind (phrase_in z.0))
-optional_anew k kind {phrase_in} {bare_in} {p} {b} {ms} one = record { single = λ from rest h tokens tail apart same. cases ms.empty refl from rest h tokens tail apart same }
+optional_anew k may kind {phrase_in} {bare_in} {p} {b} {ms} one = record {
+  single = λ from rest h tokens tail apart same. cases ms.empty refl from rest h tokens tail apart same;
+  keeps = λ from rest h tail w. kept_so (starts (mark.Keyword k) from) (is_unwritten p) refl ms.empty refl from rest h tail w;
+}
   where
     absent : (q : BlockPhrase) (ts : List Token) → starts (mark.Keyword k) ts ≡ false → is_unwritten q ≡ true → optional_block k kind q ts ≡ Some ts
     absent q ts s u = ap (λ (s : Bool). if s then in_turn (passes (mark.Keyword k) ∷ without_answer kind q q.answer ∷ []) ts else if is_unwritten q then Some ts else None) s
@@ -113,6 +123,19 @@ optional_anew k kind {phrase_in} {bare_in} {p} {b} {ms} one = record { single = 
 
     there : (q : BlockPhrase) (ts rest : List Token) → starts (mark.Keyword k) ts ≡ true → in_turn (passes (mark.Keyword k) ∷ without_answer kind q q.answer ∷ []) ts ≡ Some rest → optional_block k kind q ts ≡ Some rest
     there q ts rest s h = ap (λ (s : Bool). if s then in_turn (passes (mark.Keyword k) ∷ without_answer kind q q.answer ∷ []) ts else if is_unwritten q then Some ts else None) s ∙ h
+
+    -- what was written may be left out, and what wasn't is
+    kept_so : (s u : Bool) → is_unwritten p ≡ u → (empty : Bool) → ms.empty ≡ empty → (from rest : List Token)
+        → (if s then in_turn (passes (mark.Keyword k) ∷ without_answer kind p p.answer ∷ []) from else if u then Some from else None) ≡ Some rest → (tail : List Mark) → LeftOut (marks_of rest) tail
+        → LeftOut (marks_of from) ((if empty then [] else mark.Keyword k ∷ ms.marks) ++ tail)
+    kept_so true u n true e from rest h tail w =
+        let s = split (passes (mark.Keyword k)) (without_answer kind p p.answer ∷ []) from rest h in let t = split (without_answer kind p p.answer) [] s.mid rest s.others in
+        kept (passed (mark.Keyword k) from s.mid s.first).is tail
+        (subst (λ (ns : List Mark). LeftOut (mark.Keyword k ∷ ns) tail) (sym (one.hollow e kind s.mid t.mid t.first)) (leaves may (kept (empty t.mid rest t.others) tail w)))
+    kept_so true u n false e from rest h tail w = (pass (mark.Keyword k) (last (one.again kind))).keeps from rest h tail w
+    kept_so false true n true e from rest h tail w = kept (some_is from rest h) tail w
+    kept_so false true n false e from rest h tail w = absurd (let k = one.written e in cc)
+    kept_so false false n b e from rest h tail w = absurd (cc)
 
     derived : (s u : Bool) → u ≡ false → (from rest : List Token)
         → (if s then in_turn (passes (mark.Keyword k) ∷ without_answer kind p p.answer ∷ []) from else if u then Some from else None) ≡ Some rest → in_turn (passes (mark.Keyword k) ∷ without_answer kind p p.answer ∷ []) from ≡ Some rest
@@ -159,6 +182,7 @@ braces_anew phrase_in bare_in phrase_is bare_is place ts answer all = record {
   nothing = nothing ts answer;
   left_out = ap is_unwritten (phrase_is nowhere []);
   written = written ts answer;
+  hollow = λ h kind from rest d. hollow ts answer h kind from rest d;
 }
   where
     again : (kind : Kind) (answer : Option Expr)
@@ -177,6 +201,18 @@ braces_anew phrase_in bare_in phrase_is bare_is place ts answer all = record {
     written [] None h = absurd (cc)
     written [] (Some e) h = and_false (is_nowhere place)
     written (t ∷ ts) answer h = and_false (is_nowhere place)
+
+    hollow : (ts : List Stmt) (answer : Option Expr) → (marks_in ts answer).empty ≡ true → (kind : Kind) (from rest : List Token) → without_answer kind (phrase_of place ts answer) answer from ≡ Some rest
+        → marks_of from ≡ mark.Symbol sign.BraceOpen ∷ mark.Symbol sign.BraceClose ∷ marks_of rest
+    hollow [] (Some e) h kind from rest d = absurd (cc)
+    hollow (t ∷ ts) answer h kind from rest d = absurd (cc)
+    hollow [] None h kind from rest d =
+        let s = split (takes (mark.Symbol sign.BraceOpen) place) (in_turn [] ∷ passes (mark.Symbol sign.BraceClose) ∷ []) from rest d in
+        let i = split (in_turn []) (passes (mark.Symbol sign.BraceClose) ∷ []) s.mid rest s.others in
+        let t = split (passes (mark.Symbol sign.BraceClose)) [] i.mid rest i.others in
+        ap marks_of (took (mark.Symbol sign.BraceOpen) place from s.mid s.first)
+        ∙ ap (λ (ts : List Token). mark.Symbol sign.BraceOpen ∷ marks_of ts) (empty s.mid i.mid i.first ∙ (passed (mark.Symbol sign.BraceClose) i.mid t.mid t.first).is)
+        ∙ ap (λ (ts : List Token). mark.Symbol sign.BraceOpen ∷ mark.Symbol sign.BraceClose ∷ marks_of ts) (empty t.mid rest t.others)
 
 -- a block with an answer
 answering_anew : (kind : Kind) (place : Place) (ts : List Stmt) (answer : Option Expr) → AllAnew ts
@@ -259,7 +295,7 @@ stmt_case (Stmt-F.Assign x is v) = record {
 stmt_case (Stmt-F.If test a b) = record {
   again = λ kind. rule kind _ (λ z. Stmt-F.If z.0.0.0 z.0.1.0 z.1.0) (λ z ts. refl) (λ z i. Stmt-F.If (z.0.0.1.0 i) (z.0.1.1 i) (z.1.1 i))
       (spelled_ending (ap (λ (ms : List Mark). word_mark word.If ∷ ms) (sym (append_assoc (printed test) (printed_in a.0).marks (optional_marks word.Else (printed_in b.0)))))
-      (part_ending (pass (word_mark word.If) (part (anew test) (last (a.1.again kind)))) (optional_anew word.Else kind b.1)));
+      (part_ending (pass (word_mark word.If) (part (anew test) (last (a.1.again kind)))) (optional_anew word.Else refl kind b.1)));
   opens = λ tail. refl;
 }
 stmt_case (Stmt-F.For x w n each) = record {
