@@ -1,0 +1,18 @@
+ghost use Rattle.ygg_unique.specs.Laws.{DerivedMarks, OneFileDerives, PrintedDerives};
+
+/// At most one file derives from given tokens, places included.
+pub fn one_file_derives()
+    ensures { OneFileDerives }
+{}
+
+/// The tokens that a file derives from have its printed marks, where some of the empty blocks that may be left out are
+/// written.
+pub fn derived_marks()
+    ensures { DerivedMarks }
+{}
+
+/// Where a file derives from some tokens, one that is the same but for places derives from all tokens that have its
+/// printed marks, and no other.
+pub fn printed_derives()
+    ensures { PrintedDerives }
+{}
