@@ -32,7 +32,6 @@ use Rattle.ygg_expr.proofs.Claims.{split, empty}
 use Rattle.ygg_unique.specs.Laws.{is_optional, LeftOut, leaves}
 use Rattle.ygg_unique.proofs.Parser.{unwritten}
 use Rattle.ygg_unique.proofs.Statements.{some_is}
-
 use Rattle.ygg_unique.proofs.Again.{marks_of, Read, Single, Again, row, kept, joint, goes, turns, done, pass, take, part, turn, spelled, never, last, token_at, begins, starts_is, Ending, Apart, ending, unending, turn_ending, spelled_ending, part_ending}
 use Rattle.ygg_unique.proofs.AgainExpressions.{anew, all_anew, any_anew, LikeAll, name_at, number_at, name, number, round, close}
 
@@ -327,7 +326,7 @@ statement_anew =
     (subst (λ (ms : List Mark). StatementAnew (node_statement (map-Stmt Stmt Block (Kind → Reading) BlockPhrase statement phrase_in x)) (roll-Stmt (node_bare_statement (map-Stmt Stmt Block Stmt Block bare_statement bare_in x))) ms)
     (sym (fold-roll-Stmt (List Mark) BlockPrinted node_stmt_printed node_block_printed x))
     (subst (λ z. StatementAnew (node_statement (map-Stmt Stmt Block (Kind → Reading) BlockPhrase statement phrase_in z)) (roll-Stmt (node_bare_statement (map-Stmt Stmt Block Stmt Block bare_statement bare_in z)))
-        (node_stmt_printed (map-Stmt Stmt Block (List Mark) BlockPrinted stmt_printed printed_in z))) is (stmt_case y)))))
+    (node_stmt_printed (map-Stmt Stmt Block (List Mark) BlockPrinted stmt_printed printed_in z))) is (stmt_case y)))))
     (λ x y is.
     subst (λ (p : BlockPhrase). BlockAnew phrase_in bare_in p (bare_in (roll-Block x)) (printed_in (roll-Block x))) (sym (fold-roll-Block (Kind → Reading) BlockPhrase node_statement node_block x))
     (subst (λ (b : Block). BlockAnew phrase_in bare_in (node_block (map-Block Stmt Block (Kind → Reading) BlockPhrase statement phrase_in x)) b (printed_in (roll-Block x)))
@@ -335,7 +334,7 @@ statement_anew =
     (subst (λ (ms : BlockPrinted). BlockAnew phrase_in bare_in (node_block (map-Block Stmt Block (Kind → Reading) BlockPhrase statement phrase_in x)) (node_bare_block (map-Block Stmt Block Stmt Block bare_statement bare_in x)) ms)
     (sym (fold-roll-Block (List Mark) BlockPrinted node_stmt_printed node_block_printed x))
     (subst (λ z. BlockAnew phrase_in bare_in (node_block (map-Block Stmt Block (Kind → Reading) BlockPhrase statement phrase_in z)) (node_bare_block (map-Block Stmt Block Stmt Block bare_statement bare_in z))
-        (node_block_printed (map-Block Stmt Block (List Mark) BlockPrinted stmt_printed printed_in z))) is (block_case y)))))
+    (node_block_printed (map-Block Stmt Block (List Mark) BlockPrinted stmt_printed printed_in z))) is (block_case y)))))
 
 statements_anew : (ts : List Stmt) → AllAnew ts
 statements_anew [] = tt
