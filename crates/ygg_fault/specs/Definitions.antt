@@ -6,7 +6,7 @@ use Rattle.ygg_syntax.specs.declared.tree.TypeText.TheVariants as text
 use Rattle.ygg_syntax.specs.declared.tree.Declared.{Declared}
 use Rattle.ygg_syntax.specs.declared.tree.Def.{Def}
 use Rattle.ygg_syntax.specs.declared.tree.Expr.{Expr}
-use Rattle.ygg_count.specs.Weights.{Weights, expr_weight}
+use Rattle.ygg_count.specs.Weights.{weights_of, expr_weight}
 use Rattle.ygg_names.specs.Names.{Named, has, added}
 use Rattle.ygg_fault.specs.declared.scope.Signature.{Signature}
 use Rattle.ygg_fault.specs.declared.scope.View.TheVariants.{Definition}
@@ -77,12 +77,8 @@ abbrev pub with_definitions : List Def → Named Signature → Named Signature
 with_definitions [] defs = defs
 with_definitions (d ∷ ds) defs = with_definitions ds (with_definition d defs)
 
--- the weights of definitions with that of one more
-abbrev pub with_weight : Def → Weights → Weights
-with_weight d weights = weights ++ (d.name.text, expr_weight weights d.body) ∷ []
-
--- definitions in order, after those that have these signatures and these weights
-abbrev pub definitions_faults : List Def → Weights → Named Signature → Faults
-definitions_faults [] weights defs = nothing
-definitions_faults (d ∷ ds) weights defs =
-    both (definition_faults d (expr_weight weights d.body) defs) (definitions_faults ds (with_weight d weights) (with_definition d defs))
+-- definitions in order, after those of this list, which have these signatures
+abbrev pub definitions_faults : List Def → List Def → Named Signature → Faults
+definitions_faults [] before defs = nothing
+definitions_faults (d ∷ ds) before defs =
+    both (definition_faults d (expr_weight (weights_of before) d.body) defs) (definitions_faults ds (before ++ d ∷ []) (with_definition d defs))
