@@ -129,10 +129,14 @@ fill_rule m a = own (both (unless (words_fit m.value) 8 m.place) (wanted_word a)
 abbrev pub row_word_fault : Shape → Shape → Option ℕ
 row_word_fault first s = if is_word s then (if is_word first then wanted_fault s first else None) else Some 7
 
--- the words of a row whose first one has this shape
+-- a part of a row whose first one has this shape
+abbrev pub row_word : Shape → Part → Faults
+row_word first p = elim p.shape [ None ↦ nothing | Some s ↦ fault_at p.place (row_word_fault first s) ]
+
+-- the parts of a row whose first one has this shape
 abbrev pub row_words : Shape → List Part → Faults
 row_words first [] = nothing
-row_words first (p ∷ ps) = both (elim p.shape [ None ↦ nothing | Some s ↦ fault_at p.place (row_word_fault first s) ]) (row_words first ps)
+row_words first (p ∷ ps) = both (row_word first p) (row_words first ps)
 
 -- 8 at the 65th part of a row; by the grammar a row has one part at least, and a row without any has its 8 at its first token
 abbrev pub row_count : Place → List Part → Faults
@@ -156,10 +160,9 @@ row_rule at parts =
 
 -- a loop's or a quantifier's number: 5 at its name where that is taken, 6 at its width unless 1 to 64, 8 at its bound
 -- unless 1 to 4,096 and at most 2 ^ w
-abbrev pub number_faults : Name → Numeral → Numeral → Scope → Faults
-number_faults x w n scope =
-    both (unless (not (is_taken x.text scope)) 5 x.place)
-    (both (unless (width_fits w.value) 6 w.place) (unless (bound_fits n.value w.value) 8 n.place))
+abbrev pub number_faults : Name → Bool → Numeral → Numeral → Faults
+number_faults x taken w n =
+    both (unless (not taken) 5 x.place) (both (unless (width_fits w.value) 6 w.place) (unless (bound_fits n.value w.value) 8 n.place))
 
 -- with a loop's or a quantifier's number
 abbrev pub with_number : Name → Numeral → Scope → Scope
@@ -187,7 +190,7 @@ node_typing (Expr-F.Resize first a w) scope = construct first (a scope ∷ []) (
 node_typing (Expr-F.Fill first m a) scope = construct first (a scope ∷ []) (fill_rule m (a scope).part)
 node_typing (Expr-F.Row first es) scope = construct first (all_in scope es) (row_rule first (parts_of (all_in scope es)))
 node_typing (Expr-F.Quantified first which x w n e) scope =
-    construct first (e (with_number x w scope) ∷ []) (quantified_rule (number_faults x w n scope) (e (with_number x w scope)).part)
+    construct first (e (with_number x w scope) ∷ []) (quantified_rule (number_faults x (is_taken x.text scope) w n) (e (with_number x w scope)).part)
 
 -- what an expression is in a scope
 abbrev pub typing : Expr → Scope → Typing

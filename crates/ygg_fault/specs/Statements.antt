@@ -103,7 +103,7 @@ abbrev pub node_walked : Stmt-F (Scope → Walked) (Scope → Faults) → Scope 
 node_walked (Stmt-F.Let x from) scope = let_rule x (source_typing from scope) scope
 node_walked (Stmt-F.Assign x indices from) scope = leaving scope (assignment_faults (place_rule x indices scope) (source_typing from scope))
 node_walked (Stmt-F.If test first second) scope = leaving scope (both (expected_faults test (Some (Word 1)) scope) (both (first scope) (second scope)))
-node_walked (Stmt-F.For x w n each) scope = leaving scope (both (number_faults x w n scope) (each (with_number x w scope)))
+node_walked (Stmt-F.For x w n each) scope = leaving scope (both (number_faults x (is_taken x.text scope) w n) (each (with_number x w scope)))
 node_walked (Stmt-F.Call f es) scope = leaving scope (call_typing f.place false f es scope).faults
 
 -- a block inside a statement, which has no answer
