@@ -1,7 +1,7 @@
 //! How many choices and calls a block makes at most, and how much work it may be, each counted to 1,000,000.
 #![tactic(auto)]
 
-mod budget;
+pub mod budget;
 mod steps;
 mod weights;
 

@@ -15,7 +15,7 @@ use Rattle.ygg_fault.specs.declared.scope.Signature.{Signature}
 use Rattle.ygg_fault.specs.Faults.{Faults, nothing, both, unless, listed}
 use Rattle.ygg_fault.specs.Shapes.{row_shape, table_shape}
 use Rattle.ygg_fault.specs.Definitions.{type_faults, definitions_faults, with_definitions}
-use Rattle.ygg_fault.specs.Layers.{Below, below_of, layer_scope, parts_faults}
+use Rattle.ygg_fault.specs.Layers.{Known, Below, below_of, layer_scope, parts_faults}
 
 -- a disk: its numbers are those of a table
 abbrev pub disk_faults : DiskText → Faults
@@ -53,7 +53,7 @@ abbrev pub disk_below : DiskText → Below
 disk_below disk = record { operations = disk_operations disk; variables = disk_variables disk }
 
 -- a layer after layers of these names, on the machine below: 5 at a name that is taken, 8 at the `layer` of the ninth
-abbrev pub layer_faults : Layer → Named Bool → Named Signature → Below → Weights → Faults
+abbrev pub layer_faults : Layer → Known → Named Signature → Below → Weights → Faults
 layer_faults l names defs below weights =
     both (unless (not (has l.name.text names)) 5 l.name.place)
     (parts_faults l weights (layer_scope defs below l))
@@ -63,12 +63,12 @@ abbrev pub count_fault : ℕ → Layer → Faults
 count_fault before l = unless (not (before == 8)) 8 l.place
 
 -- layers in order, after so many layers of these names, the last of which is the machine below
-abbrev pub layers_faults : List Layer → ℕ → Named Bool → Named Signature → Below → Weights → Faults
+abbrev pub layers_faults : List Layer → ℕ → Known → Named Signature → Below → Weights → Faults
 layers_faults [] before names defs below weights = nothing
 layers_faults (l ∷ ls) before names defs below weights =
     both (count_fault before l)
     (both (layer_faults l names defs below weights)
-    (layers_faults ls (before + 1) (added l.name.text true names) defs (below_of l) weights))
+    (layers_faults ls (before + 1) (added l.name.text tt names) defs (below_of l) weights))
 
 -- all faults of a file
 abbrev pub faults_of : File → Faults

@@ -1,5 +1,6 @@
 -- The faults of layers.
 use Rattle.std.specs.Prelude.{ℕ, ◌+◌, Bool, true, not, List, [], ◌∷◌, Option, Some, None, is_some}
+use Rattle.ygg_value.specs.declared.shape.Shape.{Shape}
 use Rattle.ygg_value.specs.declared.shape.Shape.TheVariants.{Word}
 use Rattle.ygg_syntax.specs.declared.tree.Declared.{Declared}
 use Rattle.ygg_syntax.specs.declared.tree.Expr.{Expr}
@@ -42,18 +43,14 @@ variables_faults kind (p ∷ ps) variables =
 abbrev pub variables_of : Layer → Named Variable
 variables_of l = with_variables Memory l.memory (with_variables State l.state [])
 
--- a block that sees these variables of its layer
-abbrev pub view_faults : View → Block → Weights → Scope → Faults
-view_faults view b weights scope = body_faults b None (block_weight weights b) (seen_as view scope)
+-- a block that stands in no other, with this view of its layer, and with an answer of this shape
+abbrev pub view_faults : View → Block → Option Shape → Weights → Scope → Faults
+view_faults view b shape weights scope = body_faults b shape (block_weight weights b) (seen_as view scope)
 
--- a block of an operation, which sees the arguments and has an answer of the operation's shape
-abbrev pub operation_body_faults : View → Block → Operation → Weights → Scope → Faults
-operation_body_faults view b o weights scope = body_faults b (answer_shape o.answer) (block_weight weights b) (with_parameters o.arguments (seen_as view scope))
-
--- the `on crash` block of an operation, if there is one, which sees the arguments and has no answer
-abbrev pub on_crash_faults : Option Block → Operation → Weights → Scope → Faults
-on_crash_faults None o weights scope = nothing
-on_crash_faults (Some b) o weights scope = body_faults b None (block_weight weights b) (with_parameters o.arguments (seen_as Specification scope))
+-- the `on crash` block of an operation, if there is one
+abbrev pub on_crash_faults : Option Block → Weights → Scope → Faults
+on_crash_faults None weights scope = nothing
+on_crash_faults (Some b) weights scope = view_faults Specification b None weights scope
 
 -- how many picks the specification takes where power fails within an operation: those of `on crash`, or one pick and those of
 -- `spec`, and then those of `crash`
@@ -77,6 +74,13 @@ abbrev pub with_operations : List Operation → Named Signature → Named Signat
 with_operations [] known = known
 with_operations (o ∷ os) known = with_operations os (with_operation o known)
 
+-- the blocks of an operation, which see its arguments
+abbrev pub operation_blocks_faults : Operation → Weights → Scope → Faults
+operation_blocks_faults o weights scope =
+    both (view_faults Specification o.spec (answer_shape o.answer) weights scope)
+    (both (on_crash_faults o.on_crash weights scope)
+    (view_faults Implementation o.implementation (answer_shape o.answer) weights scope))
+
 -- an operation of a layer with this `crash` block, after these operations: 5 at a name that is taken
 abbrev pub operation_faults : Operation → Block → Named Signature → Weights → Scope → Faults
 operation_faults o crash known weights scope =
@@ -84,9 +88,7 @@ operation_faults o crash known weights scope =
     (both (picks_faults o crash)
     (both (parameters_faults o.arguments scope)
     (both (answer_type_faults o.answer)
-    (both (operation_body_faults Specification o.spec o weights scope)
-    (both (on_crash_faults o.on_crash o weights scope)
-    (operation_body_faults Implementation o.implementation o weights scope))))))
+    (operation_blocks_faults o weights (with_parameters o.arguments scope)))))
 
 -- operations in order, after these
 abbrev pub operations_faults : List Operation → Block → Named Signature → Weights → Scope → Faults
@@ -94,12 +96,16 @@ operations_faults [] crash known weights scope = nothing
 operations_faults (o ∷ os) crash known weights scope =
     both (operation_faults o crash known weights scope) (operations_faults os crash (with_operation o known) weights scope)
 
+-- names without values
+abbrev pub Known : Type 0
+Known = Named (Unit {0})
+
 -- background steps in order, after those of these names: 5 at a name that is taken
-abbrev pub ticks_faults : List Tick → Named Bool → Weights → Scope → Faults
+abbrev pub ticks_faults : List Tick → Known → Weights → Scope → Faults
 ticks_faults [] known weights scope = nothing
 ticks_faults (t ∷ ts) known weights scope =
-    both (unless (not (has t.name.text known)) 5 t.name.place)
-    (both (view_faults Implementation t.body weights scope) (ticks_faults ts (added t.name.text true known) weights scope))
+    both (both (unless (not (has t.name.text known)) 5 t.name.place) (view_faults Implementation t.body None weights scope))
+    (ticks_faults ts (added t.name.text tt known) weights scope)
 
 -- `relate`, `always`, `settled` or `maybe`: wanted as a word of width 1
 abbrev pub formula_faults : View → Expr → Weights → Scope → Faults
@@ -119,7 +125,7 @@ pub record Below : Type 0 where
 abbrev pub below_of : Layer → Below
 below_of l = record { operations = with_operations l.operations []; variables = variables_of l }
 
--- what a layer shares with all its parts, where the definitions and the machine below are these
+-- what all parts of a layer have in scope, where the definitions and the machine below are these; each part has its own view
 abbrev pub layer_scope : Named Signature → Below → Layer → Scope
 layer_scope defs below l = record {
   defs = defs;
@@ -137,11 +143,11 @@ declared_faults l = both (variables_faults State l.state []) (variables_faults M
 -- its blocks outside operations; more than 8 choices of `crash` are 10 at `crash`
 abbrev pub blocks_faults : Layer → Weights → Scope → Faults
 blocks_faults l weights scope =
-    both (view_faults Specification l.start weights scope)
-    (both (view_faults Implementation l.format weights scope)
-    (both (view_faults Specification l.crash weights scope)
+    both (view_faults Specification l.start None weights scope)
+    (both (view_faults Implementation l.format None weights scope)
+    (both (view_faults Specification l.crash None weights scope)
     (both (unless (picks_fit (choices_of l.crash)) 10 l.crash_place)
-    (view_faults Implementation l.recover weights scope))))
+    (view_faults Implementation l.recover None weights scope))))
 
 -- its expressions
 abbrev pub relations_faults : Layer → Weights → Scope → Faults

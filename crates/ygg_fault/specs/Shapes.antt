@@ -43,7 +43,8 @@ row_shape m w = if words_fit m && width_fits w then Some (Row m w) else None
 abbrev pub table_shape : ℕ → ℕ → ℕ → Option Shape
 table_shape n m w = if rows_fit n && words_fit_in n m && width_fits w then Some (Table n m w) else None
 
--- the shape that a type names; a type with a fault names none
+-- The shape that a type names. A type with a fault names none: nothing is compared with what is declared so, and since the fault
+-- of the type stands before all uses of the name, the least fault of the file is the same.
 abbrev pub shape_of : TypeText → Option Shape
 shape_of (text.Word w) = word_shape w.value
 shape_of (text.Row m w) = row_shape m.value w.value
