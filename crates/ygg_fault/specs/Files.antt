@@ -1,5 +1,5 @@
 -- The faults of a file.
-use Rattle.std.specs.Prelude.{◌≡◌, ℕ, ◌+◌, ◌==◌, Bool, true, false, not, List, [], ◌∷◌, Option, Some, None, codes}
+use Rattle.std.specs.Prelude.{◌≡◌, ℕ, ◌+◌, ◌==◌, true, false, not, List, [], ◌∷◌, Option, Some, None, codes}
 use Rattle.ygg_value.specs.declared.shape.Shape.{Shape}
 use Rattle.ygg_value.specs.declared.shape.Shape.TheVariants.{Word}
 use Rattle.ygg_syntax.specs.declared.tree.DiskKind.TheVariants.{Sync, Async}
