@@ -100,12 +100,15 @@ operations_faults (o ∷ os) crash known weights scope =
 abbrev pub Known : Type 0
 Known = Named (Unit {0})
 
--- background steps in order, after those of these names: 5 at a name that is taken
+-- a background step after those of these names: 5 at a name that is taken
+abbrev pub tick_faults : Tick → Known → Weights → Scope → Faults
+tick_faults t known weights scope =
+    both (unless (not (has t.name.text known)) 5 t.name.place) (view_faults Implementation t.body None weights scope)
+
+-- background steps in order, after those of these names
 abbrev pub ticks_faults : List Tick → Known → Weights → Scope → Faults
 ticks_faults [] known weights scope = nothing
-ticks_faults (t ∷ ts) known weights scope =
-    both (both (unless (not (has t.name.text known)) 5 t.name.place) (view_faults Implementation t.body None weights scope))
-    (ticks_faults ts (added t.name.text tt known) weights scope)
+ticks_faults (t ∷ ts) known weights scope = both (tick_faults t known weights scope) (ticks_faults ts (added t.name.text tt known) weights scope)
 
 -- `relate`, `always`, `settled` or `maybe`: wanted as a word of width 1
 abbrev pub formula_faults : View → Expr → Weights → Scope → Faults
