@@ -1,9 +1,10 @@
 -- The first fault that is found is the least one.
 use Rattle.std.proofs.Common.{◌≡◌, ℕ, ◌<◌, ◌≤◌, Bool, true, false, cond, arith, List, [], ◌∷◌, ◌++◌, Option, Some, None, Contains, refl, sym, ap, ◌∙◌, subst, ◌⊎◌, inl, inr}
+use Rattle.std.specs.Prelude.{◌&&◌}
 use Rattle.std.proofs.lemmas.Bool.Decides.{nat_tests}
 use Rattle.std.proofs.lemmas.List.Elements.{Contains-append_left, Contains-append_right, Contains-append_cases, Contains-push, Contains-push_cases}
 use Rattle.ygg_fault.specs.declared.fault.Fault.{Fault}
-use Rattle.ygg_fault.specs.Faults.{Faults, nothing, one, both, listed, first_after, earlier, comes_before, IsLeast}
+use Rattle.ygg_fault.specs.Faults.{Faults, nothing, one, both, listed, none, first_after, earlier, comes_before, IsLeast}
 
 before_not : (a b c : Fault) → comes_before a b ≡ false → comes_before b c ≡ false → comes_before a c ≡ false
 before_not a b c h g = grind (arith, nat_tests)
@@ -31,18 +32,18 @@ some_is : {a b : Fault} → Some a ≡ Some b → a ≡ b
 some_is h = cc
 
 -- nothing is found where there is nothing
-pub stays : (found : Option Fault) (fs : Faults) → first_after found fs ≡ None → (found ≡ None) × (listed fs ≡ [])
-stays found nothing h = (h, refl)
+pub stays : (found : Option Fault) (fs : Faults) → first_after found fs ≡ None → (found ≡ None) × (listed fs ≡ []) × (none fs ≡ true)
+stays found nothing h = (h, refl, refl)
 stays None (one x) h = absurd (cc)
 stays (Some y) (one x) h = cases (comes_before x y) h
   where
-    cases : (b : Bool) → cond b (Some x) (Some y) ≡ None → (Some y ≡ None) × (x ∷ [] ≡ [])
+    cases : (b : Bool) → cond b (Some x) (Some y) ≡ None → (Some y ≡ None) × (x ∷ [] ≡ []) × (false ≡ true)
     cases true h = absurd (cc)
     cases false h = absurd (cc)
 stays found (both fs gs) h =
     let second = stays (first_after found fs) gs h in
     let first = stays found fs second.0 in
-    (first.0, ap (λ xs. xs ++ listed gs) first.1 ∙ second.1)
+    (first.0, ap (λ xs. xs ++ listed gs) first.1 ∙ second.1, ap (λ b. b && none gs) first.2 ∙ second.2)
 
 -- the earlier one of two faults
 of_two : (x y f : Fault) → earlier (Some y) x ≡ Some f → Found (Some y) (x ∷ []) f
@@ -105,7 +106,7 @@ of_found None (one x) f h = record {
 }
 of_found (Some y) (one x) f h = of_two x y f h
 of_found found (both fs gs) f h =
-    joined found (first_after found fs) (listed fs) (listed gs) f (λ m e. of_found found fs m e) (stays found fs) (of_found (first_after found fs) gs f h)
+    joined found (first_after found fs) (listed fs) (listed gs) f (λ m e. of_found found fs m e) (λ e. let h = stays found fs e in (h.0, h.1)) (of_found (first_after found fs) gs f h)
 
 -- where a fault was found it is the least of all
 pub is_least : (fs : Faults) (f : Fault) → first_after None fs ≡ Some f → IsLeast f (listed fs)
@@ -116,3 +117,20 @@ is_least fs f h =
 -- where none was found there is none
 pub is_none : (fs : Faults) → first_after None fs ≡ None → listed fs ≡ []
 is_none fs h = (stays None fs h).1
+
+pub is_clear : (fs : Faults) → first_after None fs ≡ None → none fs ≡ true
+is_clear fs h = (stays None fs h).2
+
+and_left : {a b : Bool} → (a && b) ≡ true → a ≡ true
+and_left {true} h = refl
+and_left {false} h = h
+
+and_right : {a b : Bool} → (a && b) ≡ true → b ≡ true
+and_right {true} h = h
+and_right {false} h = absurd (cc)
+
+-- no fault is in the list where the test says so
+pub is_empty : (fs : Faults) → none fs ≡ true → listed fs ≡ []
+is_empty nothing h = refl
+is_empty (one f) h = absurd (cc)
+is_empty (both fs gs) h = ap (λ xs. xs ++ listed gs) (is_empty fs (and_left h)) ∙ is_empty gs (and_right h)

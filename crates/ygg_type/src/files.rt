@@ -79,6 +79,19 @@ fn disk_variables<'a>(alloc: Global, disk: DiskText) -> Result<Names<'a, Variabl
     }
 }
 
+/// Makes these operations and variables those of the machine below.
+fn set_below<'a>(
+    checker: &mut Checker<'a>,
+    operations: Names<'a, Signature>,
+    variables: Names<'a, Variable>,
+)
+    ensures scope { scope_of checker.new ≡ record (scope_of checker.old) { lower = operations.entry; low = variables.entry } }
+    ensures first { checker.new.first ≡ checker.old.first }
+{
+    let _operations = mem::replace(&mut checker.lower, operations);
+    let _variables = mem::replace(&mut checker.low, variables);
+}
+
 /// A layer after so many layers of these names. It becomes the machine below.
 fn layer<'a>(
     checker: &mut Checker<'a>,
@@ -100,9 +113,9 @@ fn layer<'a>(
     checker.first.check(!taken, 5, layer.name.place);
     let operations = parts(checker, weights, layer)?;
     names.add(name, ())?;
-    checker.lower = operations;
     let none = Names::new(checker.alloc);
-    checker.low = mem::replace(&mut checker.variables, none);
+    let variables = mem::replace(&mut checker.variables, none);
+    set_below(checker, operations, variables);
     Ok(())
 }
 
@@ -158,8 +171,9 @@ fn beginning<'a>(
         .first
         .type_text(TypeText::Table(disk.rows, disk.words, disk.width));
     definitions(checker, weights, file.defs.as_slice())?;
-    checker.lower = disk_operations(checker.alloc, disk)?;
-    checker.low = disk_variables(checker.alloc, disk)?;
+    let operations = disk_operations(checker.alloc, disk)?;
+    let variables = disk_variables(checker.alloc, disk)?;
+    set_below(checker, operations, variables);
     checker.view = View::Settled;
     Ok(())
 }

@@ -5,3 +5,6 @@ mod declarations;
 mod definitions;
 mod files;
 mod layers;
+mod typed;
+
+pub use typed::{Typed, check};
