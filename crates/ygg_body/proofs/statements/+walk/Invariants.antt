@@ -1,0 +1,15 @@
+use Rattle.std.proofs.Common.{◌≡◌, drop, map}
+use Rattle.ygg_fault.specs.Faults.{first_after}
+use Rattle.ygg_fault.specs.Statements.{walked, in_order}
+use Rattle.ygg_scope.specs.Checking.{scope_of, Grows}
+use Rattle.ygg_body.proofs.statements.+walk.Given as goal
+
+-- what is left decides
+abbrev pub invariant-statements-loop-one : goal.invariant-statements-loop-one
+invariant-statements-loop-one l =
+    let before = scope_of l.initial.checker in
+    record {
+      first : first_after l.checker.first.fault (in_order (map walked (drop l.one-index l.all)) (scope_of l.checker)).faults ≡ first_after l.initial.checker.first.fault (in_order (map walked l.all) before).faults;
+      scope : (in_order (map walked (drop l.one-index l.all)) (scope_of l.checker)).scope ≡ (in_order (map walked l.all) before).scope;
+      grows : Grows before (scope_of l.checker);
+    }

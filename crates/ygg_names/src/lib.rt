@@ -1,0 +1,6 @@
+//! Values by name.
+#![tactic(auto)]
+
+mod names;
+
+pub use names::Names;

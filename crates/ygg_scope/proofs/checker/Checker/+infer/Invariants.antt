@@ -1,0 +1,15 @@
+use Rattle.std.proofs.Common.{◌≡◌, ◌++◌, drop}
+use Rattle.ygg_fault.specs.Faults.{first_after}
+use Rattle.ygg_fault.specs.Expressions.{typings, parts_of, faults_in}
+use Rattle.ygg_scope.specs.Checking.{scope_of}
+use Rattle.ygg_scope.proofs.checker.Checker.+infer.Given as goal
+
+-- what was found so far and what is left
+abbrev pub invariant-infer_all-loop-e : goal.invariant-infer_all-loop-e
+invariant-infer_all-loop-e l =
+    let scope = scope_of l.initial.self in
+    record {
+      parts : l.parts ++ parts_of (typings (drop l.e-index l.expressions) scope) ≡ parts_of (typings l.expressions scope);
+      first : first_after l.self.first.fault (faults_in (typings (drop l.e-index l.expressions) scope)) ≡ first_after l.initial.self.first.fault (faults_in (typings l.expressions scope));
+      same : scope_of l.self ≡ scope;
+    }

@@ -1,0 +1,10 @@
+//! What is in scope, and the rules of expressions.
+#![tactic(auto)]
+
+pub mod checker;
+pub mod compare;
+pub mod expressions;
+pub mod first;
+pub mod limits;
+pub mod rules;
+pub mod shapes;

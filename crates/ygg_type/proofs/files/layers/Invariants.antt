@@ -1,0 +1,18 @@
+use Rattle.std.proofs.Common.{◌≡◌, drop, []}
+use Rattle.ygg_count.specs.Weights.{weights_of}
+use Rattle.ygg_fault.specs.Faults.{first_after}
+use Rattle.ygg_fault.specs.Files.{layers_faults}
+use Rattle.ygg_scope.specs.Checking.{scope_of}
+use Rattle.ygg_type.specs.Ready.{IsReady, below_in}
+use Rattle.ygg_type.proofs.files.layers.Given as goal
+
+-- what is left decides
+abbrev pub invariant-loop-before : goal.invariant-loop-before
+invariant-loop-before l =
+    let defs = l.initial.checker.defs in
+    record {
+      first : first_after l.checker.first.fault (layers_faults (drop l.before l.all) l.before l.names defs (below_in (scope_of l.checker)) (weights_of l.weights))
+          ≡ first_after l.initial.checker.first.fault (layers_faults l.all 0 [] defs (below_in (scope_of l.initial.checker)) (weights_of l.weights));
+      ready : IsReady (scope_of l.checker);
+      defs : l.checker.defs ≡ defs;
+    }

@@ -1,0 +1,15 @@
+use Rattle.std.proofs.Common.{◌≡◌, drop, []}
+use Rattle.ygg_count.specs.Weights.{weights_of}
+use Rattle.ygg_fault.specs.Faults.{first_after}
+use Rattle.ygg_fault.specs.Layers.{ticks_faults}
+use Rattle.ygg_scope.specs.Checking.{scope_of}
+use Rattle.ygg_type.proofs.layers.ticks.Given as goal
+
+-- what is left decides
+abbrev pub invariant-loop-one : goal.invariant-loop-one
+invariant-loop-one l =
+    let scope = scope_of l.initial.checker in
+    record {
+      first : first_after l.checker.first.fault (ticks_faults (drop l.one-index l.all) l.known (weights_of l.weights) scope) ≡ first_after l.initial.checker.first.fault (ticks_faults l.all [] (weights_of l.weights) scope);
+      same : scope_of l.checker ≡ scope;
+    }

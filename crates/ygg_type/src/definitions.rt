@@ -1,0 +1,86 @@
+//! Typing of definitions.
+
+ghost use Rattle.std.specs.Prelude.{◌≡◌, ◌++◌, ◌∷◌, [], OnOk};
+ghost use Rattle.ygg_count.specs.Weights.{weights_of, expr_weight};
+ghost use Rattle.ygg_fault.specs.Faults.{first_after};
+ghost use Rattle.ygg_fault.specs.Definitions.{definition_faults, definitions_faults, definition_scope, with_definition, with_definitions, with_parameters};
+ghost use Rattle.ygg_scope.specs.Checking.{scope_of};
+
+use crate::declarations::parameters;
+use ygg_fault::Signature;
+use ygg_list::NoMemory;
+use ygg_scope::checker::Checker;
+use ygg_scope::shapes;
+use ygg_syntax::tree::Def;
+use ygg_weigh::Weights;
+
+/// The faults of a definition, whose parameters stay in scope.
+fn faults<'a>(
+    checker: &mut Checker<'a>,
+    weights: &mut Weights<'a>,
+    def: &'a Def,
+) -> Result<(), NoMemory>
+    requires { scope_of checker.old ≡ definition_scope checker.old.defs }
+    ensures first { OnOk result (checker.new.first.fault ≡ first_after checker.old.first.fault (definition_faults def.now (expr_weight (weights_of weights.old) def.now.body) checker.old.defs)) }
+    ensures scope { OnOk result (scope_of checker.new ≡ with_parameters def.now.parameters (scope_of checker.old)) }
+    ensures weights { OnOk result (weights.new ≡ weights.old ++ def.now ∷ []) }
+{
+    let taken = checker.defs.has(def.name.text.as_slice());
+    checker.first.check(!taken, 5, def.name.place);
+    parameters(checker, def.parameters.as_slice())?;
+    checker.first.type_text(def.shape);
+    let weight = weights.define(def)?;
+    checker.claim(&def.body, shapes::named(def.shape), weight)?;
+    Ok(())
+}
+
+/// Makes a definition known to those after it, and forgets its parameters.
+fn define<'a>(checker: &mut Checker<'a>, def: &'a Def) -> Result<(), NoMemory>
+    ensures first { OnOk result (checker.new.first ≡ checker.old.first) }
+    ensures scope { OnOk result (scope_of checker.new ≡ record (scope_of checker.old) { defs = with_definition def.now checker.old.defs; locals = [] }) }
+{
+    let arguments = shapes::all(checker.alloc, def.parameters.as_slice())?;
+    checker.defs.add(
+        def.name.text.as_slice(),
+        Signature {
+            arguments,
+            answers: true,
+            answer: shapes::named(def.shape),
+        },
+    )?;
+    checker.forget(0);
+    Ok(())
+}
+
+/// One more definition.
+fn next<'a>(
+    checker: &mut Checker<'a>,
+    weights: &mut Weights<'a>,
+    def: &'a Def,
+) -> Result<(), NoMemory>
+    requires { scope_of checker.old ≡ definition_scope checker.old.defs }
+    ensures first { OnOk result (checker.new.first.fault ≡ first_after checker.old.first.fault (definition_faults def.now (expr_weight (weights_of weights.old) def.now.body) checker.old.defs)) }
+    ensures scope { OnOk result (scope_of checker.new ≡ definition_scope (with_definition def.now checker.old.defs)) }
+    ensures weights { OnOk result (weights.new ≡ weights.old ++ def.now ∷ []) }
+{
+    faults(checker, weights, def)?;
+    define(checker, def)?;
+    Ok(())
+}
+
+/// Definitions in order, after those that the checker and the table of weights have.
+pub fn definitions<'a>(
+    checker: &mut Checker<'a>,
+    weights: &mut Weights<'a>,
+    defs: &'a [Def],
+) -> Result<(), NoMemory>
+    requires { scope_of checker.old ≡ definition_scope checker.old.defs }
+    ensures first { OnOk result (checker.new.first.fault ≡ first_after checker.old.first.fault (definitions_faults defs.now weights.old checker.old.defs)) }
+    ensures scope { OnOk result (scope_of checker.new ≡ definition_scope (with_definitions defs.now checker.old.defs)) }
+    ensures weights { OnOk result (weights.new ≡ weights.old ++ defs.now) }
+{
+    for def in defs {
+        next(checker, weights, def)?;
+    }
+    Ok(())
+}

@@ -1,0 +1,297 @@
+//! Typing of layers.
+
+ghost use Rattle.std.specs.Prelude.{◌≡◌, [], OnOk, IfOk, None};
+ghost use Rattle.ygg_count.specs.Weights.{weights_of};
+ghost use Rattle.ygg_names.specs.Names.{added};
+ghost use Rattle.ygg_fault.specs.Faults.{first_after};
+ghost use Rattle.ygg_fault.specs.Limits.{picks_fit};
+ghost use Rattle.ygg_fault.specs.Definitions.{with_parameters};
+ghost use Rattle.ygg_fault.specs.Layers.{variables_faults, with_variables, variables_of, fall_picks, picks_faults, on_crash_faults, operation_blocks_faults, operation_faults, operations_faults, with_operation, with_operations, tick_faults, ticks_faults, formulas_faults, declared_faults, blocks_faults, relations_faults, parts_faults};
+ghost use Rattle.ygg_scope.specs.Checking.{scope_of};
+
+use crate::declarations::{formula, parameters, viewed};
+use std::alloc::Global;
+use ygg_count::choices;
+use ygg_fault::{Kind, Signature, Variable, View};
+use ygg_list::NoMemory;
+use ygg_names::Names;
+use ygg_scope::checker::Checker;
+use ygg_scope::first::First;
+use ygg_scope::limits::are_picks;
+use ygg_scope::shapes;
+use ygg_syntax::tree::{Block, Declared, Expr, Layer, Operation, Tick};
+use ygg_weigh::Weights;
+
+/// Variables of a kind, after those that are there.
+fn variables<'a>(checker: &mut Checker<'a>, kind: Kind, all: &'a [Declared]) -> Result<(), NoMemory>
+    ensures first { OnOk result (checker.new.first.fault ≡ first_after checker.old.first.fault (variables_faults kind all.now checker.old.variables)) }
+    ensures scope { OnOk result (scope_of checker.new ≡ record (scope_of checker.old) { variables = with_variables kind all.now checker.old.variables }) }
+{
+    for variable in all {
+        let name = variable.name.text.as_slice();
+        let taken = checker.variables.has(name);
+        checker.first.check(!taken, 5, variable.name.place);
+        checker.first.type_text(variable.shape);
+        let shape = shapes::named(variable.shape);
+        checker.variables.add(name, Variable { kind, shape })?;
+    }
+    Ok(())
+}
+
+/// Whether the specification may take as many picks as it does where power fails within an operation of a layer with this
+/// `crash` block.
+#[tactic(auto, using(crate::proofs::Weighed::more_picks_stay))]
+fn may_fall(operation: &Operation, crash: &Block) -> bool
+    ensures { result ≡ picks_fit (fall_picks operation.now crash.now) }
+{
+    match &operation.on_crash {
+        None => are_picks(1 + choices(&operation.spec) + choices(crash)),
+        Some(block) => are_picks(choices(block) + choices(crash)),
+    }
+}
+
+/// The picks of an operation of a layer with this `crash` block.
+#[tactic(auto, using(crate::proofs::Weighed::picks_stay))]
+fn picks(first: &mut First, operation: &Operation, crash: &Block)
+    ensures { first.new.fault ≡ first_after first.old.fault (picks_faults operation.now crash.now) }
+{
+    first.check(
+        are_picks(choices(&operation.spec)),
+        10,
+        operation.name.place,
+    );
+    first.check(may_fall(operation, crash), 10, operation.name.place);
+}
+
+/// The blocks of an operation, whose arguments are in scope.
+fn operation_blocks<'a>(
+    checker: &mut Checker<'a>,
+    weights: &Weights,
+    operation: &'a Operation,
+) -> Result<(), NoMemory>
+    ensures first { OnOk result (checker.new.first.fault ≡ first_after checker.old.first.fault (operation_blocks_faults operation.now (weights_of weights.now) (scope_of checker.old))) }
+    ensures same { OnOk result (scope_of checker.new ≡ scope_of checker.old) }
+{
+    let answer = shapes::answer(operation.answer);
+    viewed(
+        checker,
+        weights,
+        View::Specification,
+        &operation.spec,
+        answer,
+    )?;
+    on_crash(checker, weights, &operation.on_crash)?;
+    viewed(
+        checker,
+        weights,
+        View::Implementation,
+        &operation.implementation,
+        answer,
+    )?;
+    Ok(())
+}
+
+/// An `on crash` block, if there is one.
+fn on_crash<'a>(
+    checker: &mut Checker<'a>,
+    weights: &Weights,
+    block: &'a Option<Block>,
+) -> Result<(), NoMemory>
+    ensures first { OnOk result (checker.new.first.fault ≡ first_after checker.old.first.fault (on_crash_faults block.now (weights_of weights.now) (scope_of checker.old))) }
+    ensures same { OnOk result (scope_of checker.new ≡ scope_of checker.old) }
+{
+    if let Some(block) = block {
+        viewed(checker, weights, View::Specification, block, None)?;
+    }
+    Ok(())
+}
+
+/// An operation after these of its layer, which has this `crash` block; its arguments stay in scope.
+fn operation_inside<'a>(
+    checker: &mut Checker<'a>,
+    weights: &Weights,
+    known: &Names<'a, Signature>,
+    operation: &'a Operation,
+    crash: &'a Block,
+) -> Result<(), NoMemory>
+    ensures first { OnOk result (checker.new.first.fault ≡ first_after checker.old.first.fault (operation_faults operation.now crash.now known.now (weights_of weights.now) (scope_of checker.old))) }
+    ensures scope { OnOk result (scope_of checker.new ≡ with_parameters operation.now.arguments (scope_of checker.old)) }
+{
+    let taken = known.has(operation.name.text.as_slice());
+    checker.first.check(!taken, 5, operation.name.place);
+    picks(&mut checker.first, operation, crash);
+    parameters(checker, operation.arguments.as_slice())?;
+    checker.first.answer_type(operation.answer);
+    operation_blocks(checker, weights, operation)?;
+    Ok(())
+}
+
+/// Makes an operation known.
+fn add_operation<'a>(
+    alloc: Global,
+    known: &mut Names<'a, Signature>,
+    operation: &'a Operation,
+) -> Result<(), NoMemory>
+    ensures { OnOk result (known.new ≡ with_operation operation.now known.old) }
+{
+    let arguments = shapes::all(alloc, operation.arguments.as_slice())?;
+    known.add(
+        operation.name.text.as_slice(),
+        Signature {
+            arguments,
+            answers: operation.answer.is_some(),
+            answer: shapes::answer(operation.answer),
+        },
+    )?;
+    Ok(())
+}
+
+/// An operation after these of its layer, which has this `crash` block.
+fn operation<'a>(
+    checker: &mut Checker<'a>,
+    weights: &Weights,
+    known: &mut Names<'a, Signature>,
+    operation: &'a Operation,
+    crash: &'a Block,
+) -> Result<(), NoMemory>
+    ensures first { OnOk result (checker.new.first.fault ≡ first_after checker.old.first.fault (operation_faults operation.now crash.now known.old (weights_of weights.now) (scope_of checker.old))) }
+    ensures same { OnOk result (scope_of checker.new ≡ scope_of checker.old) }
+    ensures known { OnOk result (known.new ≡ with_operation operation.now known.old) }
+{
+    let before = checker.locals.len();
+    operation_inside(checker, weights, known, operation, crash)?;
+    checker.forget(before);
+    add_operation(checker.alloc, known, operation)?;
+    Ok(())
+}
+
+/// The operations of a layer with this `crash` block.
+fn operations<'a>(
+    checker: &mut Checker<'a>,
+    weights: &Weights,
+    all: &'a [Operation],
+    crash: &'a Block,
+) -> Result<Names<'a, Signature>, NoMemory>
+    ensures known { IfOk result (λ known. known ≡ with_operations all.now []) }
+    ensures first { OnOk result (checker.new.first.fault ≡ first_after checker.old.first.fault (operations_faults all.now crash.now [] (weights_of weights.now) (scope_of checker.old))) }
+    ensures same { OnOk result (scope_of checker.new ≡ scope_of checker.old) }
+{
+    let mut known = Names::new(checker.alloc);
+    for one in all {
+        operation(checker, weights, &mut known, one, crash)?;
+    }
+    Ok(known)
+}
+
+/// A background step after those of these names.
+fn tick<'a>(
+    checker: &mut Checker<'a>,
+    weights: &Weights,
+    known: &mut Names<'a, ()>,
+    tick: &'a Tick,
+) -> Result<(), NoMemory>
+    ensures first { OnOk result (checker.new.first.fault ≡ first_after checker.old.first.fault (tick_faults tick.now known.old (weights_of weights.now) (scope_of checker.old))) }
+    ensures same { OnOk result (scope_of checker.new ≡ scope_of checker.old) }
+    ensures known { OnOk result (known.new ≡ added tick.now.name.text tt known.old) }
+{
+    let name = tick.name.text.as_slice();
+    let taken = known.has(name);
+    checker.first.check(!taken, 5, tick.name.place);
+    viewed(checker, weights, View::Implementation, &tick.body, None)?;
+    known.add(name, ())?;
+    Ok(())
+}
+
+/// The background steps of a layer.
+fn ticks<'a>(checker: &mut Checker<'a>, weights: &Weights, all: &'a [Tick]) -> Result<(), NoMemory>
+    ensures first { OnOk result (checker.new.first.fault ≡ first_after checker.old.first.fault (ticks_faults all.now [] (weights_of weights.now) (scope_of checker.old))) }
+    ensures same { OnOk result (scope_of checker.new ≡ scope_of checker.old) }
+{
+    let mut known = Names::new(checker.alloc);
+    for one in all {
+        tick(checker, weights, &mut known, one)?;
+    }
+    Ok(())
+}
+
+/// Expressions of a layer with this view of it.
+fn formulas<'a>(
+    checker: &mut Checker<'a>,
+    weights: &Weights,
+    view: View,
+    all: &'a [Expr],
+) -> Result<(), NoMemory>
+    ensures first { OnOk result (checker.new.first.fault ≡ first_after checker.old.first.fault (formulas_faults view all.now (weights_of weights.now) (scope_of checker.old))) }
+    ensures same { OnOk result (scope_of checker.new ≡ scope_of checker.old) }
+{
+    for e in all {
+        formula(checker, weights, view, e)?;
+    }
+    Ok(())
+}
+
+/// What relates a layer to the machine below, and what its author states of it.
+fn relations<'a>(
+    checker: &mut Checker<'a>,
+    weights: &Weights,
+    layer: &'a Layer,
+) -> Result<(), NoMemory>
+    ensures first { OnOk result (checker.new.first.fault ≡ first_after checker.old.first.fault (relations_faults layer.now (weights_of weights.now) (scope_of checker.old))) }
+    ensures same { OnOk result (scope_of checker.new ≡ scope_of checker.old) }
+{
+    formula(checker, weights, View::Relation, &layer.relate)?;
+    formulas(checker, weights, View::Relation, layer.always.as_slice())?;
+    formulas(checker, weights, View::Settled, layer.settled.as_slice())?;
+    formulas(checker, weights, View::Relation, layer.maybe.as_slice())?;
+    Ok(())
+}
+
+/// The blocks of a layer outside its operations and background steps.
+#[tactic(auto, using(crate::proofs::Weighed::picks_stay))]
+fn blocks<'a>(
+    checker: &mut Checker<'a>,
+    weights: &Weights,
+    layer: &'a Layer,
+) -> Result<(), NoMemory>
+    ensures first { OnOk result (checker.new.first.fault ≡ first_after checker.old.first.fault (blocks_faults layer.now (weights_of weights.now) (scope_of checker.old))) }
+    ensures same { OnOk result (scope_of checker.new ≡ scope_of checker.old) }
+{
+    viewed(checker, weights, View::Specification, &layer.start, None)?;
+    viewed(checker, weights, View::Implementation, &layer.format, None)?;
+    viewed(checker, weights, View::Specification, &layer.crash, None)?;
+    checker
+        .first
+        .check(are_picks(choices(&layer.crash)), 10, layer.crash_place);
+    viewed(checker, weights, View::Implementation, &layer.recover, None)?;
+    Ok(())
+}
+
+/// The state and memory variables of a layer, of which none are there yet.
+fn declared<'a>(checker: &mut Checker<'a>, layer: &'a Layer) -> Result<(), NoMemory>
+    requires { checker.old.variables ≡ [] }
+    ensures first { OnOk result (checker.new.first.fault ≡ first_after checker.old.first.fault (declared_faults layer.now)) }
+    ensures scope { OnOk result (scope_of checker.new ≡ record (scope_of checker.old) { variables = variables_of layer.now }) }
+{
+    variables(checker, Kind::State, layer.state.as_slice())?;
+    variables(checker, Kind::Memory, layer.memory.as_slice())?;
+    Ok(())
+}
+
+/// All parts of a layer, whose variables are not there yet. Answers its operations.
+pub fn parts<'a>(
+    checker: &mut Checker<'a>,
+    weights: &Weights,
+    layer: &'a Layer,
+) -> Result<Names<'a, Signature>, NoMemory>
+    requires { checker.old.variables ≡ [] }
+    ensures known { IfOk result (λ known. known ≡ with_operations layer.now.operations []) }
+    ensures first { OnOk result (checker.new.first.fault ≡ first_after checker.old.first.fault (parts_faults layer.now (weights_of weights.now) (record (scope_of checker.old) { variables = variables_of layer.now }))) }
+    ensures scope { OnOk result (scope_of checker.new ≡ record (scope_of checker.old) { variables = variables_of layer.now }) }
+{
+    declared(checker, layer)?;
+    blocks(checker, weights, layer)?;
+    let known = operations(checker, weights, layer.operations.as_slice(), &layer.crash)?;
+    ticks(checker, weights, layer.ticks.as_slice())?;
+    relations(checker, weights, layer)?;
+    Ok(known)
+}

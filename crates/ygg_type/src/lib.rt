@@ -1,0 +1,10 @@
+//! Which layer files are typed, and the first fault of those that are not.
+#![tactic(auto)]
+
+mod declarations;
+mod definitions;
+mod files;
+mod layers;
+mod typed;
+
+pub use typed::{Typed, check};
