@@ -1,0 +1,4 @@
+pub mod Circuits
+pub mod Clauses
+pub mod Rows
+pub mod Groups
