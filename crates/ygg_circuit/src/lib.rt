@@ -8,6 +8,6 @@ mod pairs;
 mod shifts;
 mod sums;
 
-pub use digits::{Digits, complements, constant_digits, lowest, resized};
+pub use digits::{Digits, complements, constant_digits, lowest, resized, true_literal};
 pub use operations::operation;
 pub use pairs::{free_digits, join_each};

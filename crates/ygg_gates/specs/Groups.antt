@@ -1,5 +1,5 @@
 -- The gates of the nodes that a term reaches, and the clauses of the term.
-use Rattle.std.specs.Prelude.{ℕ, ◌+◌, ◌==◌, ◌&&◌, ◌||◌, Bool, true, false, List, [], ◌∷◌, ◌++◌, length, get_or}
+use Rattle.std.specs.Prelude.{ℕ, ◌+◌, ◌==◌, ◌&&◌, ◌||◌, Bool, true, false, List, [], ◌∷◌, ◌++◌, length, take, get_or}
 use Rattle.ygg_cnf.specs.Literals.{complement}
 use Rattle.ygg_cnf.specs.declared.lit.Lit.{Lit}
 use Rattle.ygg_bank.specs.declared.node.Id.{Id}
@@ -10,8 +10,7 @@ use Rattle.ygg_gates.specs.Clauses.{clauses_from}
 use Rattle.ygg_gates.specs.Rows.{free_digits, constant_digits, resized_digits, joined_each, operation}
 use Rattle.ygg_gates.specs.declared.gate.Gate.{Gate}
 use Rattle.ygg_gates.specs.declared.gate.Joint.TheVariants as joint
-use Rattle.ygg_gates.specs.declared.gate.Source.{Source}
-use Rattle.ygg_gates.specs.declared.gate.Source.TheVariants as source
+use Rattle.ygg_gates.specs.Sources.{Variables}
 
 -- whether a node has a child at this place
 abbrev pub has_child : Node → ℕ → Bool
@@ -29,9 +28,13 @@ reaches_from first [] term place = term == place
 reaches_from first (n ∷ ns) term place =
     reaches_from (first + 1) ns term place || (reaches_from (first + 1) ns term first && has_child n place)
 
--- whether a term reaches a place, where children stand before their node
-abbrev pub reaches : List Node → ℕ → ℕ → Bool
-reaches nodes term place = reaches_from 0 nodes term place
+-- the nodes up to a term's own; since children stand before their node, it reaches no node after them
+abbrev pub up_to : Id → List Node → List Node
+up_to term nodes = take (term.0 + 1) nodes
+
+-- whether a term reaches a place
+abbrev pub reaches : List Node → Id → ℕ → Bool
+reaches nodes term place = reaches_from 0 (up_to term nodes) term.0 place
 
 -- the digits of a child, among those of all nodes before
 abbrev pub digits_at : List (List Lit) → Id → List Lit
@@ -51,22 +54,25 @@ node_digits table (node.Resize a w) = pure (resized_digits w (digits_at table a)
 node_digits table (node.Pick t a b) = joined_each (joint.Pick (lowest (digits_at table t))) (digits_at table a) (digits_at table b)
 
 -- the variables of a node that is an input, where this is the first of them
-abbrev pub sources_of : ℕ → Node → List Source
-sources_of first (node.Input n w) = source.Input n w first ∷ []
+abbrev pub sources_of : ℕ → Node → List Variables
+sources_of first (node.Input n w) = record { number = n; width = w; first = first } ∷ []
 sources_of first _ = []
 
 -- the digits of nodes, none where the term doesn't reach a node; the variables of the inputs among them; and the gates
 pub record Circuit : Type 0 where
   pub table : List (List Lit)
-  pub sources : List Source
+  pub sources : List Variables
   pub gates : List Gate
+
+abbrev pub circuit : List (List Lit) → List Variables → List Gate → Circuit
+circuit table sources gates = record { table = table; sources = sources; gates = gates }
 
 -- with one more node: a group of gates, where the term reaches it
 abbrev pub with_node : Bool → Node → Circuit → Circuit
-with_node false n c = record { table = c.table ++ [] ∷ []; sources = c.sources; gates = c.gates }
+with_node false n c = circuit (c.table ++ [] ∷ []) c.sources c.gates
 with_node true n c =
     let out = node_digits c.table n c.gates in
-    record { table = c.table ++ out.value ∷ []; sources = c.sources ++ sources_of (next_variable c.gates) n; gates = out.gates }
+    circuit (c.table ++ out.value ∷ []) (c.sources ++ sources_of (next_variable c.gates) n) out.gates
 
 -- with these nodes, in the order of their numbers
 abbrev pub with_nodes : (ℕ → Bool) → List Node → Circuit → Circuit
@@ -75,17 +81,24 @@ with_nodes reached (n ∷ ns) c = with_nodes reached ns (with_node (reached (len
 
 -- nothing yet
 abbrev pub no_nodes : Circuit
-no_nodes = record { table = []; sources = []; gates = [] }
+no_nodes = circuit [] [] []
 
 -- the digits, inputs and gates of all nodes that a term reaches
 abbrev pub circuit_of : List Node → Id → Circuit
-circuit_of nodes term = with_nodes (reaches nodes term.0) nodes no_nodes
+circuit_of nodes term = with_nodes (reaches nodes term) (up_to term nodes) no_nodes
 
 -- the unit clause of variable 1, the clauses of a circuit's gates, and the unit clause of the complement of the term's literal
 abbrev pub circuit_clauses : Circuit → Id → List (List Lit)
 circuit_clauses c term =
-    ((true_literal ∷ []) ∷ []) ++ (clauses_from 2 c.gates ++ ((complement (lowest (digits_at c.table term)) ∷ []) ∷ []))
+    ((true_literal ∷ []) ∷ []) ++ clauses_from 2 c.gates ++ ((complement (lowest (digits_at c.table term)) ∷ []) ∷ [])
 
--- the clauses of a term: they are satisfiable where the term is 0 in some environment
-abbrev pub term_clauses : List Node → Id → List (List Lit)
-term_clauses nodes term = circuit_clauses (circuit_of nodes term) term
+-- clauses, and the variables of the inputs that they speak of
+pub record Translated : Type 0 where
+  pub clauses : List (List Lit)
+  pub sources : List Variables
+
+-- the clauses of a term, satisfiable where the term is 0 in some environment, and the variables of the inputs that it reaches
+abbrev pub translated : List Node → Id → Translated
+translated nodes term =
+    let c = circuit_of nodes term in
+    record { clauses = circuit_clauses c term; sources = c.sources }

@@ -1,6 +1,7 @@
 //! Gates, and what is joined of them.
 
 use std::alloc::Global;
+use std::marker::Model;
 use ygg_cnf::Lit;
 use ygg_list::{Duplicate, NoMemory};
 
@@ -46,11 +47,27 @@ pub struct Carried {
     pub carry: Lit,
 }
 
-/// The variables of an input: as many as it has digits, counted on from the first, the lowest digit's.
-#[derive(Clone, Copy, Debug, PartialEq, Eq, Drop)]
-pub enum Source {
-    /// The input with this number.
-    Input { number: u64, width: u8, first: u64 },
+/// The variables of an input: as many as it has digits, counted on from the first, which is the lowest digit's.
+#[derive(Clone, Copy, Debug)]
+pub struct Source {
+    /// The input's number.
+    pub number: u64,
+    /// How many digits it has.
+    pub width: u8,
+    /// Its first variable.
+    pub first: u64,
+}
+
+impl Model for Source {
+    ghost use Rattle.ygg_gates.specs.Sources.{IsSource, Variables};
+
+    ghost Value = { Variables };
+
+    ghost view = { λ s. record { number = s.number; width = s.width; first = s.first } };
+
+    ghost invariant = { λ s. IsSource (record { number = s.number; width = s.width; first = s.first }) };
+
+    ghost inverse = { λ v. record { number = v.number; width = v.width; first = v.first } };
 }
 
 impl Duplicate for Source {
