@@ -1,5 +1,5 @@
 -- Loops over digits that make no gates.
-use Rattle.std.proofs.Common.{◌≡◌, ◌<◌, ◌≤◌, ◌^◌, ℕ, zero, suc, ◌+◌, ◌-◌, ◌*◌, ◌/◌, ◌%◌, Bool, true, false, nat_lt, ◌==◌, if◌then◌else◌, List, [], ◌∷◌, ◌++◌, length, drop, take, get_or, min, ⊎_elim, refl, sym, ap, ◌∙◌, subst, append_assoc, arith}
+use Rattle.std.proofs.Common.{◌≡◌, ◌<◌, ◌≤◌, ◌^◌, ℕ, suc, ◌+◌, ◌-◌, ◌/◌, ◌%◌, true, false, nat_lt, ◌==◌, if◌then◌else◌, List, [], ◌∷◌, ◌++◌, length, drop, get_or, ⊎_elim, refl, sym, ap, ◌∙◌, subst, append_assoc, arith}
 use Rattle.std.proofs.lemmas.Bool.{cases_lt}
 use Rattle.std.proofs.lemmas.Bool.Decides.{nat_tests}
 use Rattle.std.proofs.lemmas.List.{drop_more, drop_all, append-nil}
@@ -46,7 +46,7 @@ near_goes width ys count rest l p s =
     let some : 0 < (width - 1) / 2 ^ count = subst (λ z. 0 < z) s.rest_is p in
     let fits : 2 ^ count < width = let h = reaches_up (width - 1) count some in let q = pow_pos count in omega arith in
     let one : near width count (drop count ys) ≡ near width (count + 1) (drop (count + 1) ys) + 1
-        = ap (near width count) (drop_more ys count (get_or ys count (record { var = 0; negated = false })) l) ∙ near_here width count (get_or ys count (record { var = 0; negated = false })) (drop (count + 1) ys) fits in
+    = ap (near width count) (drop_more ys count (get_or ys count (record { var = 0; negated = false })) l) ∙ near_here width count (get_or ys count (record { var = 0; negated = false })) (drop (count + 1) ys) fits in
     let w = s.whole in
     record {
       whole = omega (arith, one, w);

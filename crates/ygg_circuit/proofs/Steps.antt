@@ -1,10 +1,10 @@
 -- Loops over digits make the gates that the steps for all digits make.
-use Rattle.std.proofs.Common.{◌≡◌, ◌<◌, ◌≤◌, ◌^◌, ℕ, zero, suc, ◌+◌, ◌-◌, List, [], ◌∷◌, ◌++◌, length, drop, get_or, min, refl, sym, ap, ◌∙◌, subst, append_assoc, ◌⊎◌, inl, inr, ⊎_elim, arith}
+use Rattle.std.proofs.Common.{◌≡◌, ◌<◌, ◌≤◌, ◌^◌, ℕ, suc, ◌+◌, ◌-◌, List, [], ◌∷◌, ◌++◌, length, drop, get_or, min, refl, sym, ap, ◌∙◌, append_assoc, ◌⊎◌, inl, inr, ⊎_elim, arith}
 use Rattle.std.proofs.lemmas.Bool.{cases_lt}
 use Rattle.std.proofs.lemmas.List.{drop_more, drop_all, append-nil}
 use Rattle.ygg_cnf.specs.Literals.{complement}
 use Rattle.ygg_cnf.specs.declared.lit.Lit.{Lit}
-use Rattle.ygg_gates.specs.Circuits.{Make, Out, placed, either}
+use Rattle.ygg_gates.specs.Circuits.{Out, placed, either}
 use Rattle.ygg_gates.specs.Rows.{Sum, joined, joined_each, free_digits, added_digit, added, multiplied_digit, multiplied, equal_digits, any_digit, shifted_near, moved}
 use Rattle.ygg_gates.specs.declared.gate.Carried.{Carried}
 use Rattle.ygg_gates.specs.declared.gate.Gate.{Gate}
@@ -53,8 +53,9 @@ joined_end : (j : Joint) (xs ys : List Lit) (i : ℕ) (now : List Gate) → min 
     joined_each j (drop i xs) (drop i ys) now ≡ record { value = []; gates = now }
 joined_end j xs ys i now l =
     elim (short xs ys i l) as (λ _. joined_each j (drop i xs) (drop i ys) now ≡ record { value = []; gates = now }) [
-      inl e ↦ ap (λ z. joined_each j z (drop i ys) now) e
-    | inr e ↦ ap (λ z. joined_each j (drop i xs) z now) e ∙ joined_none j (drop i xs) now ]
+      | inl e ↦ ap (λ z. joined_each j z (drop i ys) now) e
+      | inr e ↦ ap (λ z. joined_each j (drop i xs) z now) e ∙ joined_none j (drop i xs) now
+    ]
 
 pub joined_value : (j : Joint) (xs ys : List Lit) (old : List Gate) (i : ℕ) (so_far : List Lit) (now : List Gate) → min (length xs) (length ys) ≤ i →
     Joined j xs ys old i so_far now → so_far ≡ (joined_each j xs ys old).value
@@ -124,8 +125,9 @@ added_end : (xs ys : List Lit) (i : ℕ) (carry : Lit) (now : List Gate) → min
     added (drop i xs) (drop i ys) carry now ≡ record { value = record { digits = []; carry = carry }; gates = now }
 added_end xs ys i carry now l =
     elim (short xs ys i l) as (λ _. added (drop i xs) (drop i ys) carry now ≡ record { value = record { digits = []; carry = carry }; gates = now }) [
-      inl e ↦ ap (λ z. added z (drop i ys) carry now) e
-    | inr e ↦ ap (λ z. added (drop i xs) z carry now) e ∙ added_none (drop i xs) carry now ]
+      | inl e ↦ ap (λ z. added z (drop i ys) carry now) e
+      | inr e ↦ ap (λ z. added (drop i xs) z carry now) e ∙ added_none (drop i xs) carry now
+    ]
 
 pub added_value : (xs ys : List Lit) (first : Lit) (old : List Gate) (i : ℕ) (so_far : List Lit) (carry : Lit) (now : List Gate) → min (length xs) (length ys) ≤ i →
     Adding xs ys first old i so_far carry now → so_far ≡ (added xs ys first old).value.digits
@@ -228,7 +230,7 @@ pub equal_goes : (first : Lit) (xs ys : List Lit) (old : List Gate) (i : ℕ) (s
     Equalling first xs ys old i so_far now → Equalling first xs ys old (i + 1) o next
 equal_goes first xs ys old i so_far now x y d o then next p q a b e f g h s =
     let one : equal_digits so_far (drop i xs) (drop i ys) now ≡ equal_digits o (drop (i + 1) xs) (drop (i + 1) ys) next
-        = rw (rest_is xs i x p a, rest_is ys i y q b, g, h, e, f) refl in
+    = rw (rest_is xs i x p a, rest_is ys i y q b, g, h, e, f) refl in
     record { all = sym one ∙ s.all }
 
 equal_none : (xs : List Lit) (so_far : Lit) (now : List Gate) → equal_digits so_far xs [] now ≡ record { value = so_far; gates = now }
@@ -238,8 +240,9 @@ equal_none (x ∷ xs) so_far now = refl
 equal_rest : (xs ys : List Lit) (i : ℕ) (so_far : Lit) (now : List Gate) → min (length xs) (length ys) ≤ i → equal_digits so_far (drop i xs) (drop i ys) now ≡ record { value = so_far; gates = now }
 equal_rest xs ys i so_far now l =
     elim (short xs ys i l) as (λ _. equal_digits so_far (drop i xs) (drop i ys) now ≡ record { value = so_far; gates = now }) [
-      inl e ↦ ap (λ z. equal_digits so_far z (drop i ys) now) e
-    | inr e ↦ ap (λ z. equal_digits so_far (drop i xs) z now) e ∙ equal_none (drop i xs) so_far now ]
+      | inl e ↦ ap (λ z. equal_digits so_far z (drop i ys) now) e
+      | inr e ↦ ap (λ z. equal_digits so_far (drop i xs) z now) e ∙ equal_none (drop i xs) so_far now
+    ]
 
 equal_end : (first : Lit) (xs ys : List Lit) (old : List Gate) (i : ℕ) (so_far : Lit) (now : List Gate) → min (length xs) (length ys) ≤ i → Equalling first xs ys old i so_far now →
     record { value = so_far; gates = now } ≡ equal_digits first xs ys old

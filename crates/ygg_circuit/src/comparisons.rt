@@ -14,12 +14,7 @@ use ygg_value::Op;
 
 /// AND, begun with a literal, of the complements of the XOR of each pair of digits.
 #[tactic(auto, using(crate::proofs::Steps::equal_begins, crate::proofs::Steps::equal_goes, crate::proofs::Steps::equal_value, crate::proofs::Steps::equal_gates))]
-pub fn equal(
-    gates: &mut Vec<Gate>,
-    first: Lit,
-    xs: &[Lit],
-    ys: &[Lit],
-) -> Result<Lit, NoMemory>
+pub fn equal(gates: &mut Vec<Gate>, first: Lit, xs: &[Lit], ys: &[Lit]) -> Result<Lit, NoMemory>
     ensures gates { OnOk result (gates.new.items ≡ (equal_digits first xs.now ys.now gates.old.items).gates) }
     ensures value { IfOk result (λ o. o ≡ (equal_digits first xs.now ys.now gates.old.items).value) }
 {
@@ -57,12 +52,7 @@ pub fn any(gates: &mut Vec<Gate>, first: Lit, digits: &[Lit]) -> Result<Lit, NoM
 }
 
 /// Whether the first operand is below the second.
-pub fn less(
-    alloc: Global,
-    gates: &mut Vec<Gate>,
-    xs: &[Lit],
-    ys: &[Lit],
-) -> Result<Lit, NoMemory>
+pub fn less(alloc: Global, gates: &mut Vec<Gate>, xs: &[Lit], ys: &[Lit]) -> Result<Lit, NoMemory>
     ensures gates { OnOk result (gates.new.items ≡ (less xs.now ys.now gates.old.items).gates) }
     ensures value { IfOk result (λ o. o ≡ (less xs.now ys.now gates.old.items).value) }
 {

@@ -47,7 +47,14 @@ pub fn join(gates: &mut Vec<Gate>, joint: Joint, a: Lit, b: Lit) -> Result<Lit, 
         Joint::And => place(gates, Gate::And { a, b }),
         Joint::Or => either(gates, a, b),
         Joint::Xor => place(gates, Gate::Xor { a, b }),
-        Joint::Pick { test } => place(gates, Gate::Mux { test, yes: a, no: b }),
+        Joint::Pick { test } => place(
+            gates,
+            Gate::Mux {
+                test,
+                yes: a,
+                no: b,
+            },
+        ),
     }
 }
 

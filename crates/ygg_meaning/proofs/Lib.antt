@@ -1,0 +1,10 @@
+pub mod Truths
+pub mod Following
+pub mod Steps
+pub mod Numbers
+pub mod Joints
+pub mod Sums
+pub mod Compares
+pub mod Products
+pub mod Shifts
+pub mod Operations

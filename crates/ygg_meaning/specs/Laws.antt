@@ -1,0 +1,3 @@
+use Rattle.std.specs.Prelude.{ℕ, ◌≡◌}
+abbrev pub Placeholder : Type 0
+Placeholder = (n : ℕ) → n ≡ n
