@@ -1,6 +1,6 @@
 -- Marks of the places that a term reaches.
-use Rattle.std.proofs.Common.{◌≡◌, ◌<◌, ◌≤◌, ℕ, zero, suc, ◌+◌, ◌-◌, ◌==◌, ◌||◌, ◌&&◌, Bool, true, false, List, [], ◌∷◌, ◌++◌, length, drop, get_or, Some, slice_get, replicate, refl, sym, ap, ◌∙◌, subst, arith}
-use Rattle.std.proofs.lemmas.List.{drop_all, length-take, get_or-replicate}
+use Rattle.std.proofs.Common.{◌≡◌, ◌<◌, ◌≤◌, ℕ, ◌+◌, ◌==◌, ◌||◌, ◌&&◌, Bool, false, List, length, drop, get_or, Some, slice_get, sym, ap, ◌∙◌, subst, arith}
+use Rattle.std.proofs.lemmas.List.{drop_all, length-take}
 use Rattle.ygg_bank.specs.declared.node.Id.{Id}
 use Rattle.ygg_bank.specs.declared.node.Node.{Node}
 use Rattle.ygg_gates.specs.Groups.{has_child, reaches_from, reaches, up_to}
@@ -18,8 +18,8 @@ marks_begin nodes term old new l m none h = record {
   count = l;
   within = omega arith;
   each = λ p q.
-    let past : length (up_to term nodes) ≤ term.0 + 1 = omega (arith, length-take (term.0 + 1) nodes) in
-    h p (omega arith) ∙ ap (λ b. b || term.0 == p) (none p) ∙ ap (λ z. reaches_from (term.0 + 1) z term.0 p) (sym (drop_all (term.0 + 1) (up_to term nodes) past));
+      let past : length (up_to term nodes) ≤ term.0 + 1 = omega (arith, length-take (term.0 + 1) nodes) in
+      h p (omega arith) ∙ ap (λ b. b || term.0 == p) (none p) ∙ ap (λ z. reaches_from (term.0 + 1) z term.0 p) (sym (drop_all (term.0 + 1) (up_to term nodes) past));
 }
 
 step : (nodes : List Node) (term : Id) (place : ℕ) (old new : List Bool) (n : Node) → slice_get nodes place ≡ Some n → length new ≡ length old →
@@ -33,10 +33,10 @@ step nodes term place old new n e l h s =
       count = l ∙ s.count;
       within = omega arith;
       each = λ p q.
-        h p (omega arith)
-        ∙ ap (λ b. b || (get_or old place false && has_child n p)) (s.each p (omega arith))
-        ∙ ap (λ b. reaches_from (place + 1) (drop (place + 1) (up_to term nodes)) term.0 p || (b && has_child n p)) (s.each place (omega arith))
-        ∙ ap (λ z. reaches_from place z term.0 p) (sym d);
+          h p (omega arith)
+          ∙ ap (λ b. b || (get_or old place false && has_child n p)) (s.each p (omega arith))
+          ∙ ap (λ b. reaches_from (place + 1) (drop (place + 1) (up_to term nodes)) term.0 p || (b && has_child n p)) (s.each place (omega arith))
+          ∙ ap (λ z. reaches_from place z term.0 p) (sym d);
     }
 
 pub marks_go : (nodes : List Node) (term : Id) (from place : ℕ) (old new : List Bool) (n : Node) → from ≡ place + 1 → slice_get nodes place ≡ Some n → length new ≡ length old →

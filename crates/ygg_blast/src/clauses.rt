@@ -30,7 +30,11 @@ fn push_xor(alloc: Global, clauses: &mut Clauses, o: Lit, a: Lit, b: Lit) -> Res
     ensures { OnOk result (clauses.new ≡ clauses.old ++ gate_clauses o (Gate.Xor a b)) }
 {
     push_clause(alloc, clauses, &[o.complement(), a, b])?;
-    push_clause(alloc, clauses, &[o.complement(), a.complement(), b.complement()])?;
+    push_clause(
+        alloc,
+        clauses,
+        &[o.complement(), a.complement(), b.complement()],
+    )?;
     push_clause(alloc, clauses, &[o, a.complement(), b])?;
     push_clause(alloc, clauses, &[o, a, b.complement()])
 }

@@ -8,7 +8,9 @@ ghost use Rattle.ygg_rules.specs.Views.{IsWidth};
 use std::alloc::Global;
 use std::marker::Model;
 use ygg_bank::{Bank, Id, Node};
-use ygg_circuit::{Digits, complements, constant_digits, free_digits, join_each, lowest, operation, resized};
+use ygg_circuit::{
+    Digits, complements, constant_digits, free_digits, join_each, lowest, operation, resized,
+};
 use ygg_cnf::Lit;
 use ygg_gates::{Gate, Joint, Source};
 use ygg_list::{NoMemory, Sequence};
@@ -145,7 +147,14 @@ pub fn groups_of(alloc: Global, bank: &Bank, term: Id, reached: &[bool]) -> Resu
     let mut gates = Vec::new(alloc);
     for place in 0..reached.len() {
         let node = node_at(bank, Id(place));
-        add_or_skip(alloc, &mut table, &mut sources, &mut gates, node, reached[place])?;
+        add_or_skip(
+            alloc,
+            &mut table,
+            &mut sources,
+            &mut gates,
+            node,
+            reached[place],
+        )?;
     }
     Ok(Groups {
         table,

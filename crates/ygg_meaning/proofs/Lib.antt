@@ -8,3 +8,8 @@ pub mod Compares
 pub mod Products
 pub mod Shifts
 pub mod Operations
+pub mod Reached
+pub mod NodeGates
+pub mod Shapes
+pub mod Meant
+pub mod Given
