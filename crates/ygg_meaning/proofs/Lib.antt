@@ -13,3 +13,4 @@ pub mod NodeGates
 pub mod Shapes
 pub mod Meant
 pub mod Given
+pub mod Whole

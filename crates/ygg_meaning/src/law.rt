@@ -1,8 +1,9 @@
 //! What the clauses of terms mean. A call does nothing; what it ensures holds.
 
-ghost use Rattle.ygg_meaning.specs.Laws.{Placeholder};
+ghost use Rattle.ygg_meaning.specs.Laws.{SatisfiableExactly, SatisfyingIsZero};
 
-/// Nothing yet.
+/// The clauses of a term are satisfiable exactly where the term is 0 in some environment, and satisfying truth values name one.
 pub fn clauses_mean_terms()
-    ensures { Placeholder }
+    ensures exactly { SatisfiableExactly }
+    ensures environment { SatisfyingIsZero }
 {}
