@@ -1,0 +1,113 @@
+//! The clauses of a term, and the way back.
+
+ghost use Rattle.std.specs.Prelude.{◌≡◌, ◌<◌, ◌+◌, ◌*◌, ◌^◌, IfOk};
+ghost use Rattle.ygg_value.specs.Words.{bit_of, word};
+ghost use Rattle.ygg_bank.specs.Nodes.{Stands};
+ghost use Rattle.ygg_cnf.specs.Literals.{truth_of};
+ghost use Rattle.ygg_gates.specs.Groups.{circuit_clauses, translated};
+ghost use Rattle.ygg_gates.specs.Sources.{environment_by, number_from};
+
+use crate::clauses::{push_clause, push_gates};
+use crate::groups::{Groups, digits_at, groups_of};
+use crate::marks::reached;
+use std::alloc::Global;
+use std::marker::Model;
+use ygg_bank::{Bank, Env, Given, Id};
+use ygg_circuit::{lowest, true_literal};
+use ygg_cnf::{Assignment, Clauses, Lit, truth};
+use ygg_gates::Source;
+use ygg_list::{NoMemory, Sequence};
+use ygg_value::Word;
+
+/// The clauses of a term, and the variables of the inputs that it reaches.
+#[derive(Drop)]
+pub struct Blasted {
+    clauses: Clauses,
+    sources: Sequence<Source>,
+}
+
+impl Model for Blasted {
+    ghost use Rattle.ygg_gates.specs.Groups.{Translated};
+
+    ghost Value = { Translated };
+
+    ghost view = { λ b. record { clauses = b.clauses; sources = b.sources } };
+}
+
+impl Blasted {
+    /// The clauses. It takes no memory.
+    pub fn clauses(&self) -> &Clauses
+        ensures { result.now ≡ self.now.clauses }
+    {
+        &self.clauses
+    }
+}
+
+/// The clauses of a circuit's gates, between the unit clause of variable 1 and that of the complement of the term's literal.
+fn clauses_of_groups(alloc: Global, groups: &Groups, term: Id) -> Result<Clauses, NoMemory>
+    ensures { IfOk result (λ clauses. clauses ≡ circuit_clauses groups.now term) }
+{
+    let mut clauses = Clauses::new(alloc);
+    push_clause(alloc, &mut clauses, &[true_literal()])?;
+    push_gates(alloc, &mut clauses, groups.gates.as_slice())?;
+    let literal = lowest(digits_at(groups.table.as_slice(), term));
+    push_clause(alloc, &mut clauses, &[literal.complement()])?;
+    Ok(clauses)
+}
+
+/// The clauses of a term. Its only error is want of memory.
+pub fn clauses_of(alloc: Global, bank: &Bank, term: Id) -> Result<Blasted, NoMemory>
+    requires { Stands bank.now term }
+    ensures { IfOk result (λ blasted. blasted ≡ translated bank.now term) }
+{
+    let reached = reached(alloc, bank, term)?;
+    let groups = groups_of(alloc, bank, term, reached.as_slice())?;
+    let clauses = clauses_of_groups(alloc, &groups, term)?;
+    Ok(Blasted {
+        clauses,
+        sources: groups.sources,
+    })
+}
+
+/// A number with one more digit, the lowest.
+fn with_digit(bits: u64, digit: bool) -> u64
+    requires { bits < 2 ^ 63 }
+    ensures { result ≡ bit_of digit + 2 * bits }
+{
+    if digit { 2 * bits + 1 } else { 2 * bits }
+}
+
+/// The word that truth values give an input.
+#[tactic(auto, using(crate::proofs::Reading::reading_begins, crate::proofs::Reading::reading_goes, crate::proofs::Reading::reading_fits, crate::proofs::Reading::reading_is, crate::proofs::Reading::reading_below))]
+fn word_of(assignment: &Assignment, source: &Source) -> Word
+    ensures { result ≡ word source.now.width (number_from (truth_of assignment.now) source.now.first source.now.width) }
+{
+    let mut bits = 0;
+    let mut place = source.width;
+    while place > 0 {
+        place -= 1;
+        bits = with_digit(bits, truth(assignment, source.first + place as u64));
+    }
+    Word {
+        width: source.width,
+        bits,
+    }
+}
+
+/// The environment that truth values name, where they satisfy the clauses. Its only error is want of memory.
+pub fn environment(
+    alloc: Global,
+    blasted: &Blasted,
+    assignment: &Assignment,
+) -> Result<Env, NoMemory>
+    ensures { IfOk result (λ env. env ≡ environment_by (truth_of assignment.now) blasted.now.sources) }
+{
+    let mut env = Env::new(alloc);
+    for source in blasted.sources.as_slice() {
+        env.push(Given::Word {
+            number: source.number,
+            word: word_of(assignment, source),
+        })?;
+    }
+    Ok(env)
+}

@@ -1,0 +1,164 @@
+//! The gates of nodes, one group for each node.
+
+ghost use Rattle.std.specs.Prelude.{◌≡◌, ◌<◌, ◌+◌, ◌^◌, ◌++◌, ℕ, true, false, get_or, slice_get, length, OnOk, IfOk};
+ghost use Rattle.ygg_bank.specs.Nodes.{Stands};
+ghost use Rattle.ygg_gates.specs.Groups.{circuit, circuit_of, digits_at, node_digits, reaches, sources_of, with_node};
+ghost use Rattle.ygg_rules.specs.Views.{IsWidth};
+
+use std::alloc::Global;
+use std::marker::Model;
+use ygg_bank::{Bank, Id, Node};
+use ygg_circuit::{
+    Digits, complements, constant_digits, free_digits, join_each, lowest, operation, resized,
+};
+use ygg_cnf::Lit;
+use ygg_gates::{Gate, Joint, Source};
+use ygg_list::{NoMemory, Sequence};
+
+/// What is made of the first nodes: the digits of each, none where it isn't reached; the inputs; and the gates.
+#[derive(Drop)]
+pub struct Groups {
+    pub table: Sequence<Digits>,
+    pub sources: Sequence<Source>,
+    pub gates: Vec<Gate>,
+}
+
+impl Model for Groups {
+    ghost use Rattle.ygg_gates.specs.Groups.{Circuit};
+
+    ghost Value = { Circuit };
+
+    ghost view = { λ g. record { table = g.table; sources = g.sources; gates = g.gates.items } };
+}
+
+/// The digits of a child.
+pub fn digits_at(table: &[Digits], a: Id) -> &[Lit]
+    ensures { result.now ≡ digits_at table.now a }
+{
+    match table.get(a.0) {
+        Some(digits) => digits.as_slice(),
+        None => &[],
+    }
+}
+
+/// The digits of a node, and its gates.
+fn node_digits(
+    alloc: Global,
+    table: &[Digits],
+    gates: &mut Vec<Gate>,
+    node: &Node,
+) -> Result<Digits, NoMemory>
+    ensures gates { OnOk result (gates.new.items ≡ (node_digits table.now node.now gates.old.items).gates) }
+    ensures value { IfOk result (λ digits. digits ≡ (node_digits table.now node.now gates.old.items).value) }
+{
+    match *node {
+        Node::Input { width, .. } => free_digits(alloc, gates, width),
+        Node::Const(word) => constant_digits(alloc, word),
+        Node::Bin { op, a, b } => {
+            operation(alloc, gates, op, digits_at(table, a), digits_at(table, b))
+        }
+        Node::Not { a } => complements(alloc, digits_at(table, a)),
+        Node::Resize { a, width } => resized(alloc, digits_at(table, a), width),
+        Node::Pick { test, yes, no } => {
+            let test = lowest(digits_at(table, test));
+            join_each(
+                alloc,
+                gates,
+                Joint::Pick { test },
+                digits_at(table, yes),
+                digits_at(table, no),
+            )
+        }
+    }
+}
+
+/// The variables of an input, or none of another node.
+fn push_source(sources: &mut Sequence<Source>, node: Node, first: u64) -> Result<(), NoMemory>
+    requires width { (n w : ℕ) → node ≡ Node.Input n w → IsWidth w }
+    requires numbered { first + 64 < 2 ^ 64 }
+    ensures { OnOk result (sources.new ≡ sources.old ++ sources_of first node) }
+{
+    if let Node::Input { number, width } = node {
+        return sources.push(Source {
+            number,
+            width,
+            first,
+        });
+    }
+    Ok(())
+}
+
+/// Adds a node that is reached: its group of gates.
+fn add_node(
+    alloc: Global,
+    table: &mut Sequence<Digits>,
+    sources: &mut Sequence<Source>,
+    gates: &mut Vec<Gate>,
+    node: Node,
+) -> Result<(), NoMemory>
+    requires { (n w : ℕ) → node ≡ Node.Input n w → IsWidth w }
+    ensures { OnOk result (circuit table.new sources.new gates.new.items ≡ with_node true node (circuit table.old sources.old gates.old.items)) }
+{
+    let first = gates.len() as u64 + 2;
+    push_source(sources, node, first)?;
+    let digits = node_digits(alloc, table.as_slice(), gates, &node)?;
+    table.push(digits)
+}
+
+/// Adds a node, which may be reached or not.
+fn add_or_skip(
+    alloc: Global,
+    table: &mut Sequence<Digits>,
+    sources: &mut Sequence<Source>,
+    gates: &mut Vec<Gate>,
+    node: Node,
+    is_reached: bool,
+) -> Result<(), NoMemory>
+    requires { (n w : ℕ) → node ≡ Node.Input n w → IsWidth w }
+    ensures { OnOk result (circuit table.new sources.new gates.new.items ≡ with_node is_reached node (circuit table.old sources.old gates.old.items)) }
+{
+    if is_reached {
+        add_node(alloc, table, sources, gates, node)
+    } else {
+        table.push(Digits::new(alloc))
+    }
+}
+
+/// The node at a place, the width of which is known where it is an input.
+fn node_at(bank: &Bank, id: Id) -> Node
+    requires { Stands bank.now id }
+    ensures there { slice_get bank.now id.0 ≡ Some result }
+    ensures width { (n w : ℕ) → result ≡ Node.Input n w → IsWidth w }
+{
+    let _ = bank.width(id);
+    bank.node(id)
+}
+
+/// The gates of all nodes that a term reaches.
+#[tactic(auto, using(crate::proofs::Steps::groups_begin, crate::proofs::Steps::groups_go, crate::proofs::Steps::groups_are))]
+pub fn groups_of(alloc: Global, bank: &Bank, term: Id, reached: &[bool]) -> Result<Groups, NoMemory>
+    requires stands { Stands bank.now term }
+    requires count { length reached.now ≡ term.0 + 1 }
+    requires each { (p : ℕ) → p < length reached.now → get_or reached.now p false ≡ reaches bank.now term p }
+    ensures { IfOk result (λ groups. groups ≡ circuit_of bank.now term) }
+{
+    let mut table = Sequence::new(alloc);
+    let mut sources = Sequence::new(alloc);
+    let mut gates = Vec::new(alloc);
+    for place in 0..reached.len() {
+        let node = node_at(bank, Id(place));
+        add_or_skip(
+            alloc,
+            &mut table,
+            &mut sources,
+            &mut gates,
+            node,
+            reached[place],
+        )?;
+    }
+    Ok(Groups {
+        table,
+        sources,
+        gates,
+    })
+}

@@ -1,0 +1,10 @@
+//! From terms to clauses: the clauses of a term, and the environment that satisfying truth values name.
+#![tactic(auto)]
+
+mod blasted;
+mod clauses;
+mod groups;
+mod marks;
+
+pub use blasted::{Blasted, clauses_of, environment};
+pub use ygg_list::NoMemory;

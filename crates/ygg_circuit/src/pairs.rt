@@ -1,0 +1,93 @@
+//! One gate, and one gate for each digit.
+
+ghost use Rattle.std.specs.Prelude.{◌≡◌, OnOk, IfOk};
+ghost use Rattle.ygg_gates.specs.Circuits.{either, placed};
+ghost use Rattle.ygg_gates.specs.Rows.{free_digits, joined, joined_each};
+
+use crate::digits::Digits;
+use std::alloc::Global;
+use ygg_cnf::Lit;
+use ygg_gates::{Gate, Joint};
+use ygg_list::NoMemory;
+
+/// One more gate, and the literal of its variable.
+pub fn place(gates: &mut Vec<Gate>, gate: Gate) -> Result<Lit, NoMemory>
+    ensures gates { OnOk result (gates.new.items ≡ (placed gate gates.old.items).gates) }
+    ensures value { IfOk result (λ o. o ≡ (placed gate gates.old.items).value) }
+{
+    let var = gates.len() as u64 + 2;
+    gates.push(gate)?;
+    Ok(Lit {
+        var,
+        negated: false,
+    })
+}
+
+/// OR of two literals.
+pub fn either(gates: &mut Vec<Gate>, a: Lit, b: Lit) -> Result<Lit, NoMemory>
+    ensures gates { OnOk result (gates.new.items ≡ (either a b gates.old.items).gates) }
+    ensures value { IfOk result (λ o. o ≡ (either a b gates.old.items).value) }
+{
+    let neither = place(
+        gates,
+        Gate::And {
+            a: a.complement(),
+            b: b.complement(),
+        },
+    )?;
+    Ok(neither.complement())
+}
+
+/// The gate of two digits.
+pub fn join(gates: &mut Vec<Gate>, joint: Joint, a: Lit, b: Lit) -> Result<Lit, NoMemory>
+    ensures gates { OnOk result (gates.new.items ≡ (joined joint a b gates.old.items).gates) }
+    ensures value { IfOk result (λ o. o ≡ (joined joint a b gates.old.items).value) }
+{
+    match joint {
+        Joint::And => place(gates, Gate::And { a, b }),
+        Joint::Or => either(gates, a, b),
+        Joint::Xor => place(gates, Gate::Xor { a, b }),
+        Joint::Pick { test } => place(
+            gates,
+            Gate::Mux {
+                test,
+                yes: a,
+                no: b,
+            },
+        ),
+    }
+}
+
+/// The gate for each pair of digits.
+#[tactic(auto, using(crate::proofs::Steps::joined_begins, crate::proofs::Steps::joined_goes, crate::proofs::Steps::joined_value, crate::proofs::Steps::joined_gates))]
+pub fn join_each(
+    alloc: Global,
+    gates: &mut Vec<Gate>,
+    joint: Joint,
+    xs: &[Lit],
+    ys: &[Lit],
+) -> Result<Digits, NoMemory>
+    ensures gates { OnOk result (gates.new.items ≡ (joined_each joint xs.now ys.now gates.old.items).gates) }
+    ensures value { IfOk result (λ digits. digits ≡ (joined_each joint xs.now ys.now gates.old.items).value) }
+{
+    let mut digits = Digits::new(alloc);
+    for place in 0..xs.len().min(ys.len()) {
+        let digit = join(gates, joint, xs[place], ys[place])?;
+        digits.push(digit)?;
+    }
+    Ok(digits)
+}
+
+/// So many new variables.
+#[tactic(auto, using(crate::proofs::Steps::free_begins, crate::proofs::Steps::free_goes, crate::proofs::Steps::free_value, crate::proofs::Steps::free_gates))]
+pub fn free_digits(alloc: Global, gates: &mut Vec<Gate>, width: u8) -> Result<Digits, NoMemory>
+    ensures gates { OnOk result (gates.new.items ≡ (free_digits width gates.old.items).gates) }
+    ensures value { IfOk result (λ digits. digits ≡ (free_digits width gates.old.items).value) }
+{
+    let mut digits = Digits::new(alloc);
+    for _ in 0..width {
+        let digit = place(gates, Gate::Free)?;
+        digits.push(digit)?;
+    }
+    Ok(digits)
+}

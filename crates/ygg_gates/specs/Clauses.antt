@@ -1,0 +1,24 @@
+-- The clauses of gates.
+use Rattle.std.specs.Prelude.{ℕ, suc, List, [], ◌∷◌, ◌++◌}
+use Rattle.ygg_cnf.specs.Literals.{complement}
+use Rattle.ygg_cnf.specs.declared.lit.Lit.{Lit}
+use Rattle.ygg_gates.specs.Circuits.{literal}
+use Rattle.ygg_gates.specs.declared.gate.Gate.{Gate}
+use Rattle.ygg_gates.specs.declared.gate.Gate.TheVariants.{Free, And, Xor, Mux}
+
+-- the clauses of a gate whose variable has the literal o
+abbrev pub gate_clauses : Lit → Gate → List (List Lit)
+gate_clauses o Free = []
+gate_clauses o (And a b) =
+    (complement o ∷ a ∷ []) ∷ (complement o ∷ b ∷ []) ∷ (o ∷ complement a ∷ complement b ∷ []) ∷ []
+gate_clauses o (Xor a b) =
+    (complement o ∷ a ∷ b ∷ []) ∷ (complement o ∷ complement a ∷ complement b ∷ [])
+    ∷ (o ∷ complement a ∷ b ∷ []) ∷ (o ∷ a ∷ complement b ∷ []) ∷ []
+gate_clauses o (Mux c a b) =
+    (complement o ∷ complement c ∷ a ∷ []) ∷ (o ∷ complement c ∷ complement a ∷ [])
+    ∷ (complement o ∷ c ∷ b ∷ []) ∷ (o ∷ c ∷ complement b ∷ []) ∷ []
+
+-- the clauses of gates in order, of which the first is that of this variable
+abbrev pub clauses_from : ℕ → List Gate → List (List Lit)
+clauses_from variable [] = []
+clauses_from variable (g ∷ gates) = gate_clauses (literal variable) g ++ clauses_from (suc variable) gates

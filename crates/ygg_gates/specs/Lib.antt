@@ -1,0 +1,5 @@
+pub mod Circuits
+pub mod Clauses
+pub mod Rows
+pub mod Sources
+pub mod Groups
