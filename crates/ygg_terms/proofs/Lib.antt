@@ -1,0 +1,5 @@
+pub mod OneDigit
+pub mod Running
+pub mod Growing
+pub mod Expressions
+pub mod Claims
