@@ -40,9 +40,9 @@ start_wider v old new start bits g h = record {
 }
 
 -- the operation holds this bit on the disk, and kept what it was to keep so far or not
-pub record RunIs (v : Values) (nodes : List Node) (held kept : Bool) (run : Run) : Type 0 where
-  pub held : BitIs v nodes held run.held
-  pub kept : BitIs v nodes kept run.kept
+pub record RunIs (v : Values) (nodes : List Node) (d k : Bool) (run : Run) : Type 0 where
+  pub held : BitIs v nodes d run.held
+  pub kept : BitIs v nodes k run.kept
 
 -- the terms are what decides the obligations
 pub record TermsAre (v : Values) (nodes : List Node) (f : FlagFile) (bits : Bits) (terms : Terms) : Type 0 where

@@ -3,3 +3,5 @@ pub mod Running
 pub mod Growing
 pub mod Expressions
 pub mod Claims
+pub mod Worth
+pub mod Environments

@@ -4,6 +4,7 @@ ghost use Rattle.std.specs.Prelude.{◌≡◌, [], IfOk, OnOk};
 ghost use Rattle.ygg_bank.specs.Nodes.{CanMake, Extends, IsBank};
 ghost use Rattle.ygg_bank.specs.Making.{made};
 ghost use Rattle.ygg_bank.specs.declared.node.Node.TheVariants as node;
+ghost use Rattle.ygg_terms.specs.Meaning.{AlwaysWorth, AsksBits};
 ghost use Rattle.ygg_terms.specs.Terms.{start_terms, related_term, specified_term, write_term, either_term, stop_term, step_terms, whole_run, concluded_terms, outcome_terms, claim_terms, built};
 ghost use Rattle.ygg_terms.specs.Widths.{IsDigit, IsStart, IsRun, AreTerms};
 
@@ -17,8 +18,25 @@ use ygg_value::Op;
 
 /// The terms of the obligations that depend on what a flag file says, made in a bank without nodes. Each is 1 where the obligation
 /// isn't violated. The only error is want of memory, after which the bank may have nodes.
-#[tactic(auto, using(crate::proofs::OneDigit::digit_wider), unfolding(crate::specs::Terms::obligation_terms))]
 pub fn obligations<B: Book>(
+    bank: &mut Bank,
+    book: &B,
+    file: &FlagFile,
+) -> Result<Terms, NoMemory>
+    requires { bank.old ≡ [] }
+    ensures nodes { OnOk result (bank.new ≡ (built (B.kinds book.now) file.now).nodes) }
+    ensures terms { IfOk result (λ terms. terms ≡ (built (B.kinds book.now) file.now).value) }
+    ensures width { IfOk result (AreTerms bank.new) }
+    ensures worth { IfOk result (AlwaysWorth file.now bank.new) }
+    ensures asks { OnOk result (AsksBits bank.new) }
+    ensures bank { IsBank bank.new }
+{
+    obligations_by(bank, book, file)
+}
+
+/// What `obligations` does.
+#[tactic(auto, using(crate::proofs::OneDigit::digit_wider), unfolding(crate::specs::Terms::obligation_terms))]
+fn obligations_by<B: Book>(
     bank: &mut Bank,
     book: &B,
     file: &FlagFile,

@@ -4,7 +4,9 @@
 mod digits;
 mod formulas;
 mod building;
+mod deciding;
 pub mod places;
 
+pub use deciding::{Held, decide};
 pub use building::obligations;
 pub use places::Terms;
