@@ -6,8 +6,8 @@ use Rattle.std.proofs.lemmas.List.Sums.{AllPass-from_list_all}
 use Rattle.ygg_syntax.specs.declared.flag.FlagFile.{FlagFile}
 use Rattle.ygg_syntax.specs.FlagNames.{FitsNames}
 use Rattle.ygg_eval.specs.Obligations.{Init, CallOf, CutOf}
-use Rattle.ygg_flag.specs.declared.decide.Bits.{Bits}
-use Rattle.ygg_flag.specs.declared.decide.TheConstants.{ALL}
+use Rattle.ygg_flag.specs.declared.bits.Bits.{Bits}
+use Rattle.ygg_flag.specs.declared.bits.TheConstants.{ALL}
 use Rattle.ygg_flag.specs.Bits.{related, call_keeps, cut_keeps}
 use Rattle.ygg_flag.specs.Obligations.{Decided}
 use Rattle.ygg_flag.proofs.Schedules.{schedule}

@@ -17,7 +17,7 @@ use Rattle.ygg_syntax.specs.declared.tree.Expr.TheFolds.{fold-roll-Expr}
 use Rattle.ygg_syntax.specs.declared.tree.Expr.TheVariants as expr
 use Rattle.ygg_eval.specs.Environments.{look_up}
 use Rattle.ygg_eval.specs.Meaning.{Scope, Functions, value_with, node_value, row_of}
-use Rattle.ygg_flag.specs.declared.decide.Bits.{Bits}
+use Rattle.ygg_flag.specs.declared.bits.Bits.{Bits}
 use Rattle.ygg_flag.specs.Bits.{same_bit, bit_node, bit_in}
 use Rattle.ygg_syntax.specs.FlagNames.{names_node, names_in, stored_node, has_stored}
 use Rattle.ygg_flag.specs.Trees.{numeral, named, somewhere, constant, low_view, expression_node, expression}

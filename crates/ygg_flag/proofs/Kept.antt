@@ -9,7 +9,7 @@ use Rattle.ygg_eval.specs.Layer.{ClosedLayer, Layered, BlockRuns, BlockFalls}
 use Rattle.ygg_eval.specs.Spec.{chosen, call_outcome, fall_outcome}
 use Rattle.ygg_eval.specs.Obligations.{Init, CallOf, CutOf, NoPicksPass, call_picks, fall_picks}
 use Rattle.ygg_eval.specs.Violates.{answers_alike, related_after, recovered}
-use Rattle.ygg_flag.specs.declared.decide.Bits.{Bits}
+use Rattle.ygg_flag.specs.declared.bits.Bits.{Bits}
 use Rattle.ygg_flag.specs.Bits.{related, specified, written, stored_after, stops, relates_either, call_keeps, cut_keeps}
 use Rattle.ygg_flag.specs.Trees.{operation}
 use Rattle.ygg_flag.specs.Obligations.{closed, FlagHolds}

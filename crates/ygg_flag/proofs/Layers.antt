@@ -22,7 +22,7 @@ use Rattle.ygg_eval.specs.Progress.{Eval, Run, Answer, Goes, and_then, in_turn, 
 use Rattle.ygg_eval.specs.Layer.{ClosedLayer, eval_of, dialogue_of}
 use Rattle.ygg_eval.specs.Spec.{Outcome, outcome_at, call_outcome}
 use Rattle.ygg_eval.specs.Related as author
-use Rattle.ygg_flag.specs.declared.decide.Bits.{Bits}
+use Rattle.ygg_flag.specs.declared.bits.Bits.{Bits}
 use Rattle.ygg_flag.specs.Bits.{value, related, specified, written}
 use Rattle.ygg_machine.specs.Stack.{tables_of}
 use Rattle.ygg_flag.specs.Trees.{one_bit, named, expression, operation}

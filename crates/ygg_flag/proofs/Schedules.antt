@@ -12,7 +12,7 @@ use Rattle.ygg_eval.specs.Shapes.{values_fit}
 use Rattle.ygg_eval.specs.Layer.{operation_of}
 use Rattle.ygg_eval.specs.Related as author
 use Rattle.ygg_eval.specs.Obligations.{Halt, Schedule}
-use Rattle.ygg_flag.specs.declared.decide.Bits.{Bits}
+use Rattle.ygg_flag.specs.declared.bits.Bits.{Bits}
 use Rattle.ygg_flag.specs.Bits.{related}
 use Rattle.ygg_flag.specs.Trees.{operation}
 use Rattle.ygg_flag.specs.Obligations.{closed}

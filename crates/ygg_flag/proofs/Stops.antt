@@ -30,18 +30,3 @@ here_or_on test b bits stored false e h further = record { front = []; back = b 
 pub at_some : (test : Bool → Bool) (bits : List Bool) (stored : Bool) → list_all test (stops stored bits) ≡ false → FailsAfter test bits stored
 at_some test [] stored h = record { front = []; back = []; is = refl; fails = sym (and-true (test stored)) ∙ h }
 at_some test (b ∷ bits) stored h = here_or_on test b bits stored (test stored) refl h (at_some test bits b)
-
-last_at : {X : Type 0} (bit : X → Bool) (stored : Bool) (xs : List X) (n : ℕ) (x : X) → suc n ≡ length xs → slice_get xs n ≡ Some x →
-    stored_after stored (map bit xs) ≡ bit x
-last_at bit stored [] n x count found = absurd (omega (arith, count))
-last_at bit stored (y ∷ []) zero x count found = ap bit (ap (λ o. unwrap_or o y) found)
-last_at bit stored (y ∷ []) (suc n) x count found = absurd (omega (arith, count))
-last_at bit stored (y ∷ z ∷ xs) zero x count found = absurd (omega (arith, count))
-last_at bit stored (y ∷ z ∷ xs) (suc n) x count found = last_at bit (bit y) (z ∷ xs) n x (omega (arith, count)) found
-
--- the last write is what the disk holds in the end
-pub last_stored : {X : Type 0} (bit : X → Bool) (stored : Bool) (xs ys : List X) (x : X) → ys ≡ xs → slice_get ys (length ys - 1) ≡ Some x → stored_after stored (map bit xs) ≡ bit x
-last_stored bit stored xs ys x same found =
-    let there : slice_get xs (length xs - 1) ≡ Some x = subst (λ zs. slice_get zs (length zs - 1) ≡ Some x) same found in
-    let within : length xs - 1 < length xs = slice_get_within xs (length xs - 1) x there in
-    last_at bit stored xs (length xs - 1) x (omega arith) there

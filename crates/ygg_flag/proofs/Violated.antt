@@ -10,7 +10,7 @@ use Rattle.ygg_eval.specs.Layer.{ClosedLayer, eval_of, dialogue_of}
 use Rattle.ygg_eval.specs.Spec.{chosen, call_outcome, fall_outcome, start_outcome, then_block}
 use Rattle.ygg_eval.specs.Obligations.{Schedule, Init, CallOf, CutOf, fall_picks}
 use Rattle.ygg_eval.specs.Violates.{related_after, answers_alike, recovered}
-use Rattle.ygg_flag.specs.declared.decide.Bits.{Bits}
+use Rattle.ygg_flag.specs.declared.bits.Bits.{Bits}
 use Rattle.ygg_flag.specs.Bits.{related, specified, written, stored_after, stops, relates_either, call_keeps, cut_keeps}
 use Rattle.ygg_flag.specs.Trees.{operation}
 use Rattle.ygg_flag.specs.Obligations.{closed, FlagViolates}

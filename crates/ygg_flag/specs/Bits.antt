@@ -6,7 +6,7 @@ use Rattle.ygg_syntax.specs.declared.flag.FlagFile.{FlagFile}
 use Rattle.ygg_syntax.specs.declared.flag.Formula.{Formula}
 use Rattle.ygg_syntax.specs.declared.flag.Formula.TheOpen.{Formula-F}
 use Rattle.ygg_syntax.specs.declared.flag.Formula.TheFolds.{fold-Formula}
-use Rattle.ygg_flag.specs.declared.decide.Bits.{Bits}
+use Rattle.ygg_flag.specs.declared.bits.Bits.{Bits}
 
 -- whether two bits are equal
 abbrev pub same_bit : Bool → Bool → Bool

@@ -1,5 +1,6 @@
 -- What holds of every flag file.
-use Rattle.std.specs.Prelude.{◌≡◌, List, map}
+use Rattle.std.specs.Prelude.{◌≡◌, false, List, map}
+use Rattle.std.specs.List.{list_all}
 use Rattle.ygg_syntax.specs.declared.flag.FlagFile.{FlagFile}
 use Rattle.ygg_syntax.specs.FlagNames.{FitsNames}
 use Rattle.ygg_eval.specs.Machine.{State}
@@ -8,7 +9,9 @@ use Rattle.ygg_machine.specs.Stack.{BottomOf, FileRefines}
 use Rattle.ygg_machine.specs.Claims.{claims_of}
 use Rattle.ygg_machine.specs.History.{Entry, History, Allows}
 use Rattle.ygg_flag.specs.Trees.{file_of}
-use Rattle.ygg_flag.specs.Obligations.{claim_of, obligations, FlagHolds}
+use Rattle.ygg_flag.specs.declared.bits.TheConstants.{ALL}
+use Rattle.ygg_flag.specs.Bits.{related, call_keeps, cut_keeps}
+use Rattle.ygg_flag.specs.Obligations.{claim_of, obligations, Decided, FlagHolds}
 
 -- the obligations of the layer file that a flag file stands for are these five, in this order
 abbrev pub FiveObligations : Type 0
@@ -17,6 +20,16 @@ FiveObligations = (f : FlagFile) → claims_of (file_of f) ≡ map (claim_of f) 
 -- power loss between operations and within recovery does no harm, whatever the file says
 abbrev pub IdleAndAgain : Type 0
 IdleAndAgain = (f : FlagFile) → FitsNames f → FlagHolds f Idle × FlagHolds f Again
+
+-- the tests of the bits decide the three obligations that depend on what the file says
+pub record DecidedByBits (f : FlagFile) : Type 0 where
+  pub init : Decided f Init (related f false false)
+  pub call : Decided f (CallOf f.operation) (list_all (call_keeps f) ALL)
+  pub cut : Decided f (CutOf f.operation) (list_all (cut_keeps f) ALL)
+
+-- so it is for every file whose names fit
+abbrev pub BitsDecide : Type 0
+BitsDecide = (f : FlagFile) → FitsNames f → DecidedByBits f
 
 -- the obligations that are decided hold
 pub record DecidedHold (f : FlagFile) : Type 0 where

@@ -1,12 +1,17 @@
 //! What holds of every flag file.
 
-ghost use Rattle.ygg_flag.specs.Laws.{FiveObligations, IdleAndAgain, FlagRefines, FlagHistories};
+ghost use Rattle.ygg_flag.specs.Laws.{BitsDecide, FiveObligations, IdleAndAgain, FlagRefines, FlagHistories};
 
 use ygg_machine::law::history;
 
 /// The obligations of the layer file that a flag file stands for are five: `init`, `call`, `cut`, `idle` and `again`.
 pub fn five_obligations()
     ensures { FiveObligations }
+{}
+
+/// `init`, `call` and `cut` hold where their tests pass for all bits, and else some schedule violates them.
+pub fn bits_decide()
+    ensures { BitsDecide }
 {}
 
 /// Power loss between operations and within recovery does no harm, whatever the file says.

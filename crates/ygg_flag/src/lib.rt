@@ -1,5 +1,5 @@
-//! The obligations of flag files, decided bit by bit, and what follows for every history.
+//! The layer file that a flag file stands for, its obligations, and what follows for every history where they hold.
 #![tactic(auto)]
 
-pub mod decide;
+pub mod bits;
 pub mod law;

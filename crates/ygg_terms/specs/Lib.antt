@@ -1,0 +1,3 @@
+pub mod Terms
+pub mod Widths
+pub mod Meaning
