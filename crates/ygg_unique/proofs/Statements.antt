@@ -302,17 +302,17 @@ statement_made =
     (λ x y is. subst (λ (p : BlockPhrase). BlockMade p (roll-Block x)) (sym (fold-roll-Block (Kind → Reading) BlockPhrase node_statement node_block x))
     (subst (λ z. BlockMade (node_block (map-Block Stmt Block (Kind → Reading) BlockPhrase blocks.statement phrase_in z)) (roll-Block z)) is (block_case y)))
 
-all_made' : (ts : List Stmt) → AllStatements ts
-all_made' [] = tt
-all_made' (t ∷ ts) = (statement_made t, all_made' ts)
+statements_made : (ts : List Stmt) → AllStatements ts
+statements_made [] = tt
+statements_made (t ∷ ts) = (statement_made t, statements_made ts)
 
 -- the parser makes each block
 pub block_made : (b : Block) → BlockMade (block_phrase b) b
-block_made b = braces_made b.place b.statements b.answer (all_made' b.statements)
+block_made b = braces_made b.place b.statements b.answer (statements_made b.statements)
 
 -- a block with an answer, and what follows it
 pub next_answering : (kind : Kind) (b : Block) {rs : List Reading} {k : Block → Parser} {q : Parser} → Reads rs (k b) q → Reads (with_answer kind (block_phrase b) b.answer ∷ rs) (answering kind k) q
 next_answering kind b {rs} {k} {q} r = record {
   reads = λ from rest h. let s = split (with_answer kind (block_phrase b) b.answer) rs from rest h in
-      answering_run b.place b.statements (all_made' b.statements) kind b.answer from s.mid s.first k ∙ r.reads s.mid rest s.others;
+      answering_run b.place b.statements (statements_made b.statements) kind b.answer from s.mid s.first k ∙ r.reads s.mid rest s.others;
 }
