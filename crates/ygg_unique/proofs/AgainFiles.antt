@@ -7,7 +7,6 @@ use Rattle.ygg_base.specs.declared.token.Symbol.TheVariants as sign
 use Rattle.ygg_base.specs.declared.token.Mark.{Mark}
 use Rattle.ygg_base.specs.declared.token.Mark.TheVariants as mark
 use Rattle.ygg_base.specs.declared.token.Token.{Token}
-use Rattle.ygg_syntax.specs.declared.grammar.Kind.{Kind}
 use Rattle.ygg_syntax.specs.declared.grammar.Kind.TheVariants.{Plain, Spec, Impl}
 use Rattle.ygg_syntax.specs.declared.grammar.Sort.{Sort}
 use Rattle.ygg_syntax.specs.declared.grammar.Sort.TheVariants as sorts
@@ -24,7 +23,6 @@ use Rattle.ygg_syntax.specs.declared.tree.Tick.{Tick}
 use Rattle.ygg_syntax.specs.declared.tree.Layer.{Layer}
 use Rattle.ygg_syntax.specs.declared.tree.File.{File}
 use Rattle.ygg_syntax.specs.Reading.{Reading, same_mark, starts, takes, in_turn}
-use Rattle.ygg_syntax.specs.Expressions.{expr}
 use Rattle.ygg_syntax.specs.Blocks as blocks
 use Rattle.ygg_syntax.specs.Blocks.{block_phrase, is_nowhere, is_unwritten}
 use Rattle.ygg_syntax.specs.Files.{type_in, declared, more_declared, any_declared, disk_word, disk_text, definition, variable, claim, on_crash, operation_blocks, operation, tick, crash_block, layer, layers, whole_file, Derives}
@@ -85,8 +83,10 @@ disk_anew d = turn (λ z. (record { kind = d.kind; rows = number_at d.rows z.0; 
 
 definition_anew : (d : Def) → Anew bare_def definition definition_printed d
 definition_anew d =
-    turn (λ z. (record { name = name_at d.name z.0; parameters = z.1.0.0; shape = z.1.1.0.0; body = z.1.1.1.0.0 },
-    λ i. record { name = name_at d.name nowhere; parameters = z.1.0.1 i; shape = z.1.1.0.1 i; body = z.1.1.1.0.1.0 i })) (λ z ts. refl)
+    turn (λ z. (
+      record { name = name_at d.name z.0; parameters = z.1.0.0; shape = z.1.1.0.0; body = z.1.1.1.0.0 },
+      λ i. record { name = name_at d.name nowhere; parameters = z.1.0.1 i; shape = z.1.1.0.1 i; body = z.1.1.1.0.1.0 i },
+    )) (λ z ts. refl)
     (row (spelled (ap (λ (ms : List Mark). word_mark word.Def ∷ name d.name ∷ round ∷ ms)
     (append_assoc (list_printed (map declared_printed d.parameters)) (close ∷ mark.Symbol sign.Arrow ∷ type_printed d.shape) (mark.Symbol sign.Assign ∷ (printed d.body ++ semicolon ∷ []))))
     (pass (word_mark word.Def) (take (name d.name) d.name.place (pass round (part (any_anew sorts.All d.parameters) (pass close (pass (mark.Symbol sign.Arrow)
@@ -118,8 +118,10 @@ blocks_anew o (Some t) = turn (λ z. ((Some z.0.0, λ i. Some (z.0.1 i)), z.1)) 
 
 operation_anew : (o : Operation) → Anew bare_operation operation operation_printed o
 operation_anew o =
-    turn (λ z. (record { name = name_at o.name z.0; arguments = z.1.0.0; answer = z.1.1.0.0; spec = z.1.1.1.0.0; on_crash = z.1.1.1.1.0.0; implementation = z.1.1.1.1.1.0 },
-    λ i. record { name = name_at o.name nowhere; arguments = z.1.0.1 i; answer = z.1.1.0.1 i; spec = z.1.1.1.0.1 i; on_crash = z.1.1.1.1.0.1 i; implementation = z.1.1.1.1.1.1 i })) (λ z ts. refl)
+    turn (λ z. (
+      record { name = name_at o.name z.0; arguments = z.1.0.0; answer = z.1.1.0.0; spec = z.1.1.1.0.0; on_crash = z.1.1.1.1.0.0; implementation = z.1.1.1.1.1.0 },
+      λ i. record { name = name_at o.name nowhere; arguments = z.1.0.1 i; answer = z.1.1.0.1 i; spec = z.1.1.1.0.1 i; on_crash = z.1.1.1.1.0.1 i; implementation = z.1.1.1.1.1.1 i },
+    )) (λ z ts. refl)
     (row (spelled (ap (λ (ms : List Mark). word_mark word.Op ∷ name o.name ∷ round ∷ ms) (append_assoc (list_printed (map declared_printed o.arguments)) (close ∷ answer_type_printed o.answer) (bodies_printed o)))
     (pass (word_mark word.Op) (take (name o.name) o.name.place (pass round (part (any_anew sorts.Small o.arguments) (pass close (last (blocks_anew o o.answer)))))))))
 
@@ -173,7 +175,7 @@ crash_anew at b = record {
     }
     cases false e from rest h tokens tail apart same =
         let a = (take (word_mark word.Crash) at (last ((block_anew b).again Spec))).single from rest
-            (derived (starts (word_mark word.Crash) from) (is_nowhere at) (is_unwritten (block_phrase b)) ((block_anew b).written e) from rest h) tokens tail same in
+        (derived (starts (word_mark word.Crash) from) (is_nowhere at) (is_unwritten (block_phrase b)) ((block_anew b).written e) from rest h) tokens tail same in
         record {
           made = a.made;
           rest = a.rest;
@@ -248,39 +250,42 @@ layer_row l =
 
 layer_anew : (l : Layer) → Anew bare_layer layer layer_printed l
 layer_anew l =
-    turn (λ z. (record {
-      place = z.0;
-      name = name_at l.name z.1.0;
-      state = z.1.1.0.0;
-      start = z.1.1.1.0.0;
-      memory = z.1.1.1.1.0.0;
-      format = z.1.1.1.1.1.0.0;
-      operations = z.1.1.1.1.1.1.0.0;
-      crash_place = z.1.1.1.1.1.1.1.0.0;
-      crash = z.1.1.1.1.1.1.1.0.1.0;
-      ticks = z.1.1.1.1.1.1.1.1.0.0;
-      recover = z.1.1.1.1.1.1.1.1.1.0.0;
-      relate = z.1.1.1.1.1.1.1.1.1.1.0.0;
-      always = z.1.1.1.1.1.1.1.1.1.1.1.0.0;
-      settled = z.1.1.1.1.1.1.1.1.1.1.1.1.0.0;
-      maybe = z.1.1.1.1.1.1.1.1.1.1.1.1.1.0.0;
-    }, λ i. record {
-      place = nowhere;
-      name = name_at l.name nowhere;
-      state = z.1.1.0.1 i;
-      start = z.1.1.1.0.1 i;
-      memory = z.1.1.1.1.0.1 i;
-      format = z.1.1.1.1.1.0.1 i;
-      operations = z.1.1.1.1.1.1.0.1 i;
-      crash_place = nowhere;
-      crash = z.1.1.1.1.1.1.1.0.1.1 i;
-      ticks = z.1.1.1.1.1.1.1.1.0.1 i;
-      recover = z.1.1.1.1.1.1.1.1.1.0.1 i;
-      relate = z.1.1.1.1.1.1.1.1.1.1.0.1 i;
-      always = z.1.1.1.1.1.1.1.1.1.1.1.0.1 i;
-      settled = z.1.1.1.1.1.1.1.1.1.1.1.1.0.1 i;
-      maybe = z.1.1.1.1.1.1.1.1.1.1.1.1.1.0.1 i;
-    })) (λ z ts. refl)
+    turn (λ z. (
+      record {
+        place = z.0;
+        name = name_at l.name z.1.0;
+        state = z.1.1.0.0;
+        start = z.1.1.1.0.0;
+        memory = z.1.1.1.1.0.0;
+        format = z.1.1.1.1.1.0.0;
+        operations = z.1.1.1.1.1.1.0.0;
+        crash_place = z.1.1.1.1.1.1.1.0.0;
+        crash = z.1.1.1.1.1.1.1.0.1.0;
+        ticks = z.1.1.1.1.1.1.1.1.0.0;
+        recover = z.1.1.1.1.1.1.1.1.1.0.0;
+        relate = z.1.1.1.1.1.1.1.1.1.1.0.0;
+        always = z.1.1.1.1.1.1.1.1.1.1.1.0.0;
+        settled = z.1.1.1.1.1.1.1.1.1.1.1.1.0.0;
+        maybe = z.1.1.1.1.1.1.1.1.1.1.1.1.1.0.0;
+      },
+      λ i. record {
+        place = nowhere;
+        name = name_at l.name nowhere;
+        state = z.1.1.0.1 i;
+        start = z.1.1.1.0.1 i;
+        memory = z.1.1.1.1.0.1 i;
+        format = z.1.1.1.1.1.0.1 i;
+        operations = z.1.1.1.1.1.1.0.1 i;
+        crash_place = nowhere;
+        crash = z.1.1.1.1.1.1.1.0.1.1 i;
+        ticks = z.1.1.1.1.1.1.1.1.0.1 i;
+        recover = z.1.1.1.1.1.1.1.1.1.0.1 i;
+        relate = z.1.1.1.1.1.1.1.1.1.1.0.1 i;
+        always = z.1.1.1.1.1.1.1.1.1.1.1.0.1 i;
+        settled = z.1.1.1.1.1.1.1.1.1.1.1.1.0.1 i;
+        maybe = z.1.1.1.1.1.1.1.1.1.1.1.1.1.0.1 i;
+      },
+    )) (λ z ts. refl)
     (row (take (word_mark word.Layer) l.place (take (name l.name) l.name.place (pass (mark.Symbol sign.BraceOpen) (spelled (layer_row l)
     (part (row (list_anew bare_declared (variable word.State) (variable_printed word.State) (variable_anew word.State) l.state))
     (ending (optional_anew word.Start refl Plain (block_anew l.start)) (apart_start l)

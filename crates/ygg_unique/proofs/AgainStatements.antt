@@ -10,7 +10,6 @@ use Rattle.ygg_syntax.specs.declared.grammar.Kind.{Kind}
 use Rattle.ygg_syntax.specs.declared.grammar.Kind.TheVariants.{Plain, Spec, Impl}
 use Rattle.ygg_syntax.specs.declared.tree.Place.{Place}
 use Rattle.ygg_syntax.specs.declared.tree.Name.{Name}
-use Rattle.ygg_syntax.specs.declared.tree.Numeral.{Numeral}
 use Rattle.ygg_syntax.specs.declared.tree.Index.{Index}
 use Rattle.ygg_syntax.specs.declared.tree.Expr.{Expr}
 use Rattle.ygg_syntax.specs.declared.tree.Source.{Source}
@@ -18,21 +17,19 @@ use Rattle.ygg_syntax.specs.declared.tree.Source.TheVariants as source
 use Rattle.ygg_syntax.specs.declared.tree.Stmt.{Stmt, roll-Stmt, map-Stmt}
 use Rattle.ygg_syntax.specs.declared.tree.Block.{Block, roll-Block, map-Block, fold-Block}
 use Rattle.ygg_syntax.specs.declared.tree.Stmt.TheOpen.{Stmt-F, Block-F}
-use Rattle.ygg_syntax.specs.declared.tree.Stmt.TheFolds.{fold-Stmt, ind-Stmt, fold-roll-Stmt, fold-roll-Block}
-use Rattle.ygg_syntax.specs.Reading.{Reading, starts, passes, takes, in_turn, impossible}
-use Rattle.ygg_syntax.specs.Expressions.{phrase, expr}
-use Rattle.ygg_syntax.specs.Blocks.{BlockPhrase, bracketed, source_in, indices_of, statements_in, without_answer, with_answer, is_nowhere, is_unwritten, optional_block, node_statement, node_block, statement, block_phrase}
+use Rattle.ygg_syntax.specs.declared.tree.Stmt.TheFolds.{ind-Stmt, fold-roll-Stmt, fold-roll-Block}
+use Rattle.ygg_syntax.specs.Reading.{Reading, starts, passes, takes, in_turn}
+use Rattle.ygg_syntax.specs.Blocks.{BlockPhrase, bracketed, source_in, indices_of, without_answer, with_answer, is_nowhere, is_unwritten, optional_block, node_statement, node_block, statement, block_phrase}
 use Rattle.ygg_print.specs.Printed.{printed}
 use Rattle.ygg_print.specs.Printed as print
-use Rattle.ygg_print.specs.PrintedBlocks.{all_printed, source_printed, indices_printed, BlockPrinted, node_block_printed, node_stmt_printed, stmt_printed, block_printed, is_empty}
-use Rattle.ygg_same.specs.Bare.{nowhere, bare, bare_name, bare_number, bare_source, bare_index, node_bare_statement, node_bare_block, bare_statement, bare_block}
+use Rattle.ygg_print.specs.PrintedBlocks.{all_printed, source_printed, indices_printed, BlockPrinted, node_block_printed, node_stmt_printed, stmt_printed, block_printed}
+use Rattle.ygg_same.specs.Bare.{nowhere, bare, bare_source, bare_index, node_bare_statement, node_bare_block, bare_statement, bare_block}
 use Rattle.ygg_expr.proofs.Phrases as phrases
 use Rattle.ygg_expr.proofs.Marks.{passed, took}
 use Rattle.ygg_expr.proofs.Claims.{split, empty}
 use Rattle.ygg_unique.specs.Laws.{is_optional, LeftOut, leaves}
 use Rattle.ygg_unique.proofs.Parser.{unwritten}
 use Rattle.ygg_unique.proofs.Statements.{some_is}
-
 use Rattle.ygg_unique.proofs.Again.{marks_of, Read, Single, Again, row, kept, joint, goes, turns, done, pass, take, part, turn, spelled, never, last, token_at, begins, starts_is, Ending, Apart, ending, unending, turn_ending, spelled_ending, part_ending}
 use Rattle.ygg_unique.proofs.AgainExpressions.{anew, all_anew, any_anew, LikeAll, name_at, number_at, name, number, round, close}
 
@@ -327,7 +324,7 @@ statement_anew =
     (subst (λ (ms : List Mark). StatementAnew (node_statement (map-Stmt Stmt Block (Kind → Reading) BlockPhrase statement phrase_in x)) (roll-Stmt (node_bare_statement (map-Stmt Stmt Block Stmt Block bare_statement bare_in x))) ms)
     (sym (fold-roll-Stmt (List Mark) BlockPrinted node_stmt_printed node_block_printed x))
     (subst (λ z. StatementAnew (node_statement (map-Stmt Stmt Block (Kind → Reading) BlockPhrase statement phrase_in z)) (roll-Stmt (node_bare_statement (map-Stmt Stmt Block Stmt Block bare_statement bare_in z)))
-        (node_stmt_printed (map-Stmt Stmt Block (List Mark) BlockPrinted stmt_printed printed_in z))) is (stmt_case y)))))
+    (node_stmt_printed (map-Stmt Stmt Block (List Mark) BlockPrinted stmt_printed printed_in z))) is (stmt_case y)))))
     (λ x y is.
     subst (λ (p : BlockPhrase). BlockAnew phrase_in bare_in p (bare_in (roll-Block x)) (printed_in (roll-Block x))) (sym (fold-roll-Block (Kind → Reading) BlockPhrase node_statement node_block x))
     (subst (λ (b : Block). BlockAnew phrase_in bare_in (node_block (map-Block Stmt Block (Kind → Reading) BlockPhrase statement phrase_in x)) b (printed_in (roll-Block x)))
@@ -335,7 +332,7 @@ statement_anew =
     (subst (λ (ms : BlockPrinted). BlockAnew phrase_in bare_in (node_block (map-Block Stmt Block (Kind → Reading) BlockPhrase statement phrase_in x)) (node_bare_block (map-Block Stmt Block Stmt Block bare_statement bare_in x)) ms)
     (sym (fold-roll-Block (List Mark) BlockPrinted node_stmt_printed node_block_printed x))
     (subst (λ z. BlockAnew phrase_in bare_in (node_block (map-Block Stmt Block (Kind → Reading) BlockPhrase statement phrase_in z)) (node_bare_block (map-Block Stmt Block Stmt Block bare_statement bare_in z))
-        (node_block_printed (map-Block Stmt Block (List Mark) BlockPrinted stmt_printed printed_in z))) is (block_case y)))))
+    (node_block_printed (map-Block Stmt Block (List Mark) BlockPrinted stmt_printed printed_in z))) is (block_case y)))))
 
 statements_anew : (ts : List Stmt) → AllAnew ts
 statements_anew [] = tt

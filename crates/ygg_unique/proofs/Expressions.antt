@@ -1,5 +1,5 @@
 -- The parser makes an expression of what derives it.
-use Rattle.std.proofs.Common.{◌≡◌, ℕ, Bool, true, false, List, [], ◌∷◌, ◌++◌, map, if◌then◌else◌, Option, Some, None, refl, sym, ap, ◌∙◌, subst}
+use Rattle.std.proofs.Common.{◌≡◌, Bool, true, false, List, [], ◌∷◌, ◌++◌, map, if◌then◌else◌, Some, refl, sym, ap, ◌∙◌, subst}
 use Rattle.ygg_base.specs.declared.token.Keyword.TheVariants as word
 use Rattle.ygg_base.specs.declared.token.Symbol.TheVariants as sign
 use Rattle.ygg_base.specs.declared.token.Mark.{Mark}
@@ -15,15 +15,15 @@ use Rattle.ygg_syntax.specs.declared.tree.Quantifier.TheVariants as quantifier
 use Rattle.ygg_syntax.specs.declared.tree.Index.{Index}
 use Rattle.ygg_syntax.specs.declared.tree.Expr.{Expr, roll-Expr, map-Expr}
 use Rattle.ygg_syntax.specs.declared.tree.Expr.TheOpen.{Expr-F}
-use Rattle.ygg_syntax.specs.declared.tree.Expr.TheFolds.{fold-Expr, ind-Expr, fold-roll-Expr}
-use Rattle.ygg_syntax.specs.Reading.{Reading, token, same_mark, starts, passes, takes, in_turn, impossible}
+use Rattle.ygg_syntax.specs.declared.tree.Expr.TheFolds.{ind-Expr, fold-roll-Expr}
+use Rattle.ygg_syntax.specs.Reading.{Reading, token, same_mark, starts, takes, in_turn, impossible}
 use Rattle.ygg_syntax.specs.Expressions.{Phrase, node_phrase, phrase, expr, atom, whole, any, some, operator_sign, quantifier_word}
 use Rattle.ygg_syntax.specs.Expressions as phrases
 use Rattle.ygg_expr.proofs.Phrases.{joined}
 use Rattle.ygg_expr.proofs.Marks.{passed, took}
 use Rattle.ygg_expr.proofs.Claims.{split, empty, all_claims}
-use Rattle.ygg_unique.proofs.Parser.{Parser, exactly, perhaps, expression, loop, indices, expressions, with_indices, indexed, arguments, arguments_rule, some_arguments, symbol, after_first, quantified, run}
-use Rattle.ygg_unique.proofs.Runs.{alike, does, flat, given, taken, absent, there, more, ended, Reads, is_one_of, neither, Opens, opens_pass, opens_take, done, pass, take, next_name, next_number, next_operator}
+use Rattle.ygg_unique.proofs.Parser.{Parser, perhaps, expression, loop, indices, expressions, with_indices, indexed, arguments, arguments_rule, some_arguments, symbol, after_first, quantified, run}
+use Rattle.ygg_unique.proofs.Runs.{alike, does, flat, given, taken, absent, there, more, ended, Reads, is_one_of, neither, Opens, opens_pass, opens_take, done, pass, next_name, next_number, next_operator}
 
 abbrev round : Mark
 round = mark.Symbol sign.RoundOpen

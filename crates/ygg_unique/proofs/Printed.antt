@@ -11,13 +11,13 @@ use Rattle.ygg_syntax.specs.declared.tree.TypeText.TheVariants as shape
 use Rattle.ygg_syntax.specs.declared.tree.Declared.{Declared}
 use Rattle.ygg_syntax.specs.declared.tree.Expr.{Expr, roll-Expr, map-Expr}
 use Rattle.ygg_syntax.specs.declared.tree.Expr.TheOpen.{Expr-F}
-use Rattle.ygg_syntax.specs.declared.tree.Expr.TheFolds.{fold-Expr, ind-Expr, fold-roll-Expr}
+use Rattle.ygg_syntax.specs.declared.tree.Expr.TheFolds.{ind-Expr, fold-roll-Expr}
 use Rattle.ygg_syntax.specs.declared.tree.Source.{Source}
 use Rattle.ygg_syntax.specs.declared.tree.Source.TheVariants as source
 use Rattle.ygg_syntax.specs.declared.tree.Stmt.{Stmt, roll-Stmt, map-Stmt}
 use Rattle.ygg_syntax.specs.declared.tree.Block.{Block, roll-Block, map-Block, fold-Block}
 use Rattle.ygg_syntax.specs.declared.tree.Stmt.TheOpen.{Stmt-F, Block-F}
-use Rattle.ygg_syntax.specs.declared.tree.Stmt.TheFolds.{fold-Stmt, ind-Stmt, fold-roll-Stmt, fold-roll-Block}
+use Rattle.ygg_syntax.specs.declared.tree.Stmt.TheFolds.{ind-Stmt, fold-roll-Stmt, fold-roll-Block}
 use Rattle.ygg_syntax.specs.declared.tree.Def.{Def}
 use Rattle.ygg_syntax.specs.declared.tree.Operation.{Operation}
 use Rattle.ygg_syntax.specs.declared.tree.Tick.{Tick}
@@ -25,7 +25,7 @@ use Rattle.ygg_syntax.specs.declared.tree.Layer.{Layer}
 use Rattle.ygg_syntax.specs.declared.tree.File.{File}
 use Rattle.ygg_print.specs.Printed.{printed, node_printed, list_printed, bracketed}
 use Rattle.ygg_print.specs.PrintedBlocks.{all_printed, source_printed, indices_printed, answer_printed, is_empty, else_printed, BlockPrinted, node_block_printed, node_stmt_printed, stmt_printed, block_printed}
-use Rattle.ygg_print.specs.PrintedFiles.{type_printed, declared_printed, definition_printed, variable_printed, claim_printed, optional_printed, on_crash_printed, answer_type_printed, bodies_printed, operation_printed, tick_printed, layer_printed, file_printed, disk_printed, head_printed}
+use Rattle.ygg_print.specs.PrintedFiles.{type_printed, declared_printed, definition_printed, variable_printed, claim_printed, optional_printed, on_crash_printed, answer_type_printed, operation_printed, tick_printed, layer_printed, file_printed, head_printed}
 use Rattle.ygg_same.specs.Bare.{nowhere, bare, node_bare, bare_source, bare_index, node_bare_statement, node_bare_block, bare_statement, bare_block, bare_type, bare_declared, bare_def, bare_operation, bare_tick, bare_layer, bare_file}
 
 -- one after another

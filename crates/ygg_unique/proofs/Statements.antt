@@ -19,15 +19,15 @@ use Rattle.ygg_syntax.specs.declared.tree.Stmt.{Stmt, roll-Stmt, map-Stmt}
 use Rattle.ygg_syntax.specs.declared.tree.Block.{Block, roll-Block, map-Block, fold-Block}
 use Rattle.ygg_syntax.specs.declared.tree.Stmt.TheOpen.{Stmt-F, Block-F}
 use Rattle.ygg_syntax.specs.declared.tree.Stmt.TheFolds.{ind-Stmt, fold-roll-Stmt, fold-roll-Block}
-use Rattle.ygg_syntax.specs.Reading.{Reading, token, same_mark, starts, passes, takes, in_turn, impossible}
+use Rattle.ygg_syntax.specs.Reading.{Reading, token, starts, passes, takes, in_turn, impossible}
 use Rattle.ygg_syntax.specs.Expressions.{phrase, expr, named, numbered}
 use Rattle.ygg_syntax.specs.Expressions as phrases
 use Rattle.ygg_syntax.specs.Blocks as blocks
 use Rattle.ygg_syntax.specs.Blocks.{BlockPhrase, bracketed, source_in, indices_of, statements_in, without_answer, with_answer, is_nowhere, nothing_in, is_unwritten, optional_block, node_statement, node_block, block_phrase}
 use Rattle.ygg_expr.proofs.Marks.{passed, took}
 use Rattle.ygg_expr.proofs.Claims.{split, empty, all_claims}
-use Rattle.ygg_unique.proofs.Parser.{Parser, exactly, perhaps, expression, loop, indices, statements, name, arguments, symbol, keyword, right_side, right_side_rule, unwritten, block, answering, optional, statement, place_of, step, run}
-use Rattle.ygg_unique.proofs.Runs.{alike, does, taken, left, goes_token, absent, there, more, ended, Reads, is_one_of, Opens, opens_pass, opens_take, done, pass, take, next_name, next_number, flat, never, given, given_at, otherwise, Skips}
+use Rattle.ygg_unique.proofs.Parser.{Parser, perhaps, expression, loop, indices, statements, name, arguments, symbol, keyword, right_side, right_side_rule, unwritten, block, answering, optional, statement, place_of, step, run}
+use Rattle.ygg_unique.proofs.Runs.{alike, does, taken, left, absent, more, ended, Reads, is_one_of, Opens, opens_pass, opens_take, done, pass, next_name, next_number, flat, never, given, given_at, Skips}
 use Rattle.ygg_unique.proofs.Expressions.{part_of, arguments_made, made, all_made}
 
 -- an expression and what follows it
