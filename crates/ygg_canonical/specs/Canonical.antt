@@ -1,7 +1,6 @@
 -- The one canonical text of a layer file, and what its tokens derive.
 use Rattle.std.specs.Prelude.{ℕ, List, map, Ok, Err}
 use Rattle.std.specs.List.{All}
-use Rattle.ygg_base.specs.declared.token.Mark.{Mark}
 use Rattle.ygg_base.specs.declared.token.Token.{Token}
 use Rattle.ygg_base.specs.Lexing.{Lexed, tokens_of}
 use Rattle.ygg_syntax.specs.declared.tree.File.{File}

@@ -2,7 +2,5 @@
 #![tactic(auto)]
 
 mod canonical;
-mod law;
 
 pub use canonical::print;
-pub use law::canonical_is_read;
