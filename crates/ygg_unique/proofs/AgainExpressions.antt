@@ -1,5 +1,5 @@
 -- Where an expression derives, one that is the same but for places derives from all tokens with its printed marks.
-use Rattle.std.proofs.Common.{◌≡◌, Bool, true, false, List, [], ◌∷◌, ◌++◌, map, if◌then◌else◌, Option, Some, None, refl, sym, ap, ◌∙◌, subst}
+use Rattle.std.proofs.Common.{◌≡◌, Bool, true, false, List, [], ◌∷◌, map, if◌then◌else◌, refl, sym, ap, ◌∙◌, subst}
 use Rattle.ygg_base.specs.declared.token.Keyword.TheVariants as word
 use Rattle.ygg_base.specs.declared.token.Symbol.TheVariants as sign
 use Rattle.ygg_base.specs.declared.token.Mark.{Mark}
@@ -10,13 +10,13 @@ use Rattle.ygg_syntax.specs.declared.tree.Name as tree
 use Rattle.ygg_syntax.specs.declared.tree.Numeral.{Numeral}
 use Rattle.ygg_syntax.specs.declared.tree.Expr.{Expr, roll-Expr, map-Expr}
 use Rattle.ygg_syntax.specs.declared.tree.Expr.TheOpen.{Expr-F}
-use Rattle.ygg_syntax.specs.declared.tree.Expr.TheFolds.{fold-Expr, ind-Expr, fold-roll-Expr}
-use Rattle.ygg_syntax.specs.Reading.{Reading, takes, in_turn, impossible}
-use Rattle.ygg_syntax.specs.Expressions.{Phrase, node_phrase, phrase, expr, whole, indexed, any, some, more, operator_sign, quantifier_word}
+use Rattle.ygg_syntax.specs.declared.tree.Expr.TheFolds.{ind-Expr, fold-roll-Expr}
+use Rattle.ygg_syntax.specs.Reading.{Reading, in_turn, impossible}
+use Rattle.ygg_syntax.specs.Expressions.{Phrase, node_phrase, phrase, whole, indexed, any, some, more, operator_sign, quantifier_word}
 use Rattle.ygg_print.specs.Printed.{printed, node_printed, list_printed, more_printed}
 use Rattle.ygg_same.specs.Bare.{nowhere, bare, node_bare}
 use Rattle.ygg_unique.proofs.Expressions.{may_have}
-use Rattle.ygg_unique.proofs.Again.{marks_of, Read, Single, Again, row, done, pass, take, part, turn, turns, never, last}
+use Rattle.ygg_unique.proofs.Again.{Single, Again, row, done, pass, take, part, turn, turns, never, last}
 
 -- an expression that is this one without places, and whether an index may follow it
 abbrev pub Like : Bool → Expr → Type 0

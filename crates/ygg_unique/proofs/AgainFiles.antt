@@ -7,7 +7,6 @@ use Rattle.ygg_base.specs.declared.token.Symbol.TheVariants as sign
 use Rattle.ygg_base.specs.declared.token.Mark.{Mark}
 use Rattle.ygg_base.specs.declared.token.Mark.TheVariants as mark
 use Rattle.ygg_base.specs.declared.token.Token.{Token}
-use Rattle.ygg_syntax.specs.declared.grammar.Kind.{Kind}
 use Rattle.ygg_syntax.specs.declared.grammar.Kind.TheVariants.{Plain, Spec, Impl}
 use Rattle.ygg_syntax.specs.declared.grammar.Sort.{Sort}
 use Rattle.ygg_syntax.specs.declared.grammar.Sort.TheVariants as sorts
@@ -24,7 +23,6 @@ use Rattle.ygg_syntax.specs.declared.tree.Tick.{Tick}
 use Rattle.ygg_syntax.specs.declared.tree.Layer.{Layer}
 use Rattle.ygg_syntax.specs.declared.tree.File.{File}
 use Rattle.ygg_syntax.specs.Reading.{Reading, same_mark, starts, takes, in_turn}
-use Rattle.ygg_syntax.specs.Expressions.{expr}
 use Rattle.ygg_syntax.specs.Blocks as blocks
 use Rattle.ygg_syntax.specs.Blocks.{block_phrase, is_nowhere, is_unwritten}
 use Rattle.ygg_syntax.specs.Files.{type_in, declared, more_declared, any_declared, disk_word, disk_text, definition, variable, claim, on_crash, operation_blocks, operation, tick, crash_block, layer, layers, whole_file, Derives}
@@ -34,9 +32,10 @@ use Rattle.ygg_print.specs.PrintedFiles.{type_printed, declared_printed, disk_pr
 use Rattle.ygg_same.specs.Bare.{nowhere, bare, bare_type, bare_block, bare_declared, bare_disk, bare_def, bare_operation, bare_tick, bare_layer, bare_file}
 use Rattle.ygg_expr.proofs.Marks.{took}
 use Rattle.ygg_expr.proofs.Claims.{split, empty}
-use Rattle.ygg_unique.specs.Laws.{LeftOut, nothing, leaves}
+use Rattle.ygg_unique.specs.Laws.{LeftOut, nothing, leaves, DerivesAs}
 use Rattle.ygg_unique.proofs.Parser.{unwritten}
 use Rattle.ygg_unique.proofs.Statements.{some_is}
+use Rattle.ygg_unique.proofs.Files.{only_file}
 use Rattle.ygg_unique.proofs.Again.{marks_of, Read, Single, Again, row, kept, done, pass, take, part, turn, turns, spelled, never, last, begins, starts_is, Ending, Apart, ending}
 use Rattle.ygg_unique.proofs.AgainExpressions.{anew, name_at, number_at, name, number, round, close, comma}
 use Rattle.ygg_unique.proofs.AgainStatements.{Alike, optional_anew, block_anew, answering_again}
@@ -329,3 +328,8 @@ found tokens file d printed h =
 -- the printed marks are those of the tokens without some empty blocks
 pub left_out : (tokens : List Token) (file : File) → Derives tokens file → LeftOut (marks_of tokens) (file_printed file)
 left_out tokens file d = subst (LeftOut (marks_of tokens)) (append-nil (file_printed file)) ((file_anew file).keeps tokens [] d.derives [] nothing)
+
+-- the file derives from tokens with its printed marks, and no other does
+pub derives_as : (tokens : List Token) (file : File) → Derives tokens file → (printed : List Token) → marks_of printed ≡ file_printed file → DerivesAs printed file
+derives_as tokens file d printed h =
+    let f = found tokens file d printed h in record { read = f.read; derives = f.derives; same = f.same; only = λ other e. only_file printed other f.read e f.derives }

@@ -10,7 +10,6 @@ use Rattle.ygg_syntax.specs.declared.grammar.Kind.{Kind}
 use Rattle.ygg_syntax.specs.declared.grammar.Kind.TheVariants.{Plain, Spec, Impl}
 use Rattle.ygg_syntax.specs.declared.tree.Place.{Place}
 use Rattle.ygg_syntax.specs.declared.tree.Name.{Name}
-use Rattle.ygg_syntax.specs.declared.tree.Numeral.{Numeral}
 use Rattle.ygg_syntax.specs.declared.tree.Index.{Index}
 use Rattle.ygg_syntax.specs.declared.tree.Expr.{Expr}
 use Rattle.ygg_syntax.specs.declared.tree.Source.{Source}
@@ -18,14 +17,13 @@ use Rattle.ygg_syntax.specs.declared.tree.Source.TheVariants as source
 use Rattle.ygg_syntax.specs.declared.tree.Stmt.{Stmt, roll-Stmt, map-Stmt}
 use Rattle.ygg_syntax.specs.declared.tree.Block.{Block, roll-Block, map-Block, fold-Block}
 use Rattle.ygg_syntax.specs.declared.tree.Stmt.TheOpen.{Stmt-F, Block-F}
-use Rattle.ygg_syntax.specs.declared.tree.Stmt.TheFolds.{fold-Stmt, ind-Stmt, fold-roll-Stmt, fold-roll-Block}
-use Rattle.ygg_syntax.specs.Reading.{Reading, starts, passes, takes, in_turn, impossible}
-use Rattle.ygg_syntax.specs.Expressions.{phrase, expr}
-use Rattle.ygg_syntax.specs.Blocks.{BlockPhrase, bracketed, source_in, indices_of, statements_in, without_answer, with_answer, is_nowhere, is_unwritten, optional_block, node_statement, node_block, statement, block_phrase}
+use Rattle.ygg_syntax.specs.declared.tree.Stmt.TheFolds.{ind-Stmt, fold-roll-Stmt, fold-roll-Block}
+use Rattle.ygg_syntax.specs.Reading.{Reading, starts, passes, takes, in_turn}
+use Rattle.ygg_syntax.specs.Blocks.{BlockPhrase, bracketed, source_in, indices_of, without_answer, with_answer, is_nowhere, is_unwritten, optional_block, node_statement, node_block, statement, block_phrase}
 use Rattle.ygg_print.specs.Printed.{printed}
 use Rattle.ygg_print.specs.Printed as print
-use Rattle.ygg_print.specs.PrintedBlocks.{all_printed, source_printed, indices_printed, BlockPrinted, node_block_printed, node_stmt_printed, stmt_printed, block_printed, is_empty}
-use Rattle.ygg_same.specs.Bare.{nowhere, bare, bare_name, bare_number, bare_source, bare_index, node_bare_statement, node_bare_block, bare_statement, bare_block}
+use Rattle.ygg_print.specs.PrintedBlocks.{all_printed, source_printed, indices_printed, BlockPrinted, node_block_printed, node_stmt_printed, stmt_printed, block_printed}
+use Rattle.ygg_same.specs.Bare.{nowhere, bare, bare_source, bare_index, node_bare_statement, node_bare_block, bare_statement, bare_block}
 use Rattle.ygg_expr.proofs.Phrases as phrases
 use Rattle.ygg_expr.proofs.Marks.{passed, took}
 use Rattle.ygg_expr.proofs.Claims.{split, empty}

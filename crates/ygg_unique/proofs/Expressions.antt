@@ -1,5 +1,5 @@
 -- The parser makes an expression of what derives it.
-use Rattle.std.proofs.Common.{◌≡◌, ℕ, Bool, true, false, List, [], ◌∷◌, ◌++◌, map, if◌then◌else◌, Option, Some, None, refl, sym, ap, ◌∙◌, subst}
+use Rattle.std.proofs.Common.{◌≡◌, Bool, true, false, List, [], ◌∷◌, ◌++◌, map, if◌then◌else◌, Some, refl, sym, ap, ◌∙◌, subst}
 use Rattle.ygg_base.specs.declared.token.Keyword.TheVariants as word
 use Rattle.ygg_base.specs.declared.token.Symbol.TheVariants as sign
 use Rattle.ygg_base.specs.declared.token.Mark.{Mark}
@@ -15,15 +15,15 @@ use Rattle.ygg_syntax.specs.declared.tree.Quantifier.TheVariants as quantifier
 use Rattle.ygg_syntax.specs.declared.tree.Index.{Index}
 use Rattle.ygg_syntax.specs.declared.tree.Expr.{Expr, roll-Expr, map-Expr}
 use Rattle.ygg_syntax.specs.declared.tree.Expr.TheOpen.{Expr-F}
-use Rattle.ygg_syntax.specs.declared.tree.Expr.TheFolds.{fold-Expr, ind-Expr, fold-roll-Expr}
-use Rattle.ygg_syntax.specs.Reading.{Reading, token, same_mark, starts, passes, takes, in_turn, impossible}
+use Rattle.ygg_syntax.specs.declared.tree.Expr.TheFolds.{ind-Expr, fold-roll-Expr}
+use Rattle.ygg_syntax.specs.Reading.{Reading, token, same_mark, starts, takes, in_turn, impossible}
 use Rattle.ygg_syntax.specs.Expressions.{Phrase, node_phrase, phrase, expr, atom, whole, any, some, operator_sign, quantifier_word}
 use Rattle.ygg_syntax.specs.Expressions as phrases
 use Rattle.ygg_expr.proofs.Phrases.{joined}
 use Rattle.ygg_expr.proofs.Marks.{passed, took}
 use Rattle.ygg_expr.proofs.Claims.{split, empty, all_claims}
-use Rattle.ygg_unique.proofs.Parser.{Parser, exactly, perhaps, expression, loop, indices, expressions, with_indices, indexed, arguments, arguments_rule, some_arguments, symbol, after_first, quantified, run}
-use Rattle.ygg_unique.proofs.Runs.{alike, does, flat, given, taken, absent, there, more, ended, Reads, is_one_of, neither, Opens, opens_pass, opens_take, done, pass, take, next_name, next_number, next_operator}
+use Rattle.ygg_unique.proofs.Parser.{Parser, perhaps, expression, loop, indices, expressions, with_indices, indexed, arguments, arguments_rule, some_arguments, symbol, after_first, quantified, run}
+use Rattle.ygg_unique.proofs.Runs.{alike, does, flat, given, taken, absent, there, more, ended, Reads, is_one_of, neither, Opens, opens_pass, opens_take, done, pass, next_name, next_number, next_operator}
 
 abbrev round : Mark
 round = mark.Symbol sign.RoundOpen
@@ -187,43 +187,27 @@ quantified_made first q x w n e m = begun (mark.Keyword (quantifier_word q)) fir
     which quantifier.All k = refl
     which quantifier.Any k = refl
 
+-- no operator is a bracket
+no_bracket : (o : Op) → (is_one_of (mark.Symbol (operator_sign o) ∷ []) round ≡ false) × (is_one_of (mark.Symbol (operator_sign o) ∷ []) square ≡ false)
+no_bracket op.Add = (refl, refl)
+no_bracket op.Sub = (refl, refl)
+no_bracket op.Mul = (refl, refl)
+no_bracket op.And = (refl, refl)
+no_bracket op.Or = (refl, refl)
+no_bracket op.Xor = (refl, refl)
+no_bracket op.Shl = (refl, refl)
+no_bracket op.Shr = (refl, refl)
+no_bracket op.Eq = (refl, refl)
+no_bracket op.Ne = (refl, refl)
+no_bracket op.Lt = (refl, refl)
+no_bracket op.Le = (refl, refl)
+no_bracket op.Gt = (refl, refl)
+no_bracket op.Ge = (refl, refl)
+no_bracket op.Imp = (refl, refl)
+
 binary_made : (first : Place) (a : Expr) (o : Op) (at : Place) (b : Expr) → Made (phrase a) a → Made (phrase b) b → Made (node_phrase (Expr-F.Binary first (phrase a) o at (phrase b))) (roll-Expr (Expr-F.Binary first a o at b))
 binary_made first a o at b m n = begun (mark.Symbol sign.RoundOpen) first (Expr-F.Binary first a o at b) _ (λ k. refl)
-    (λ k. part_of m (opens_take (mark.Symbol (operator_sign o)) at) (no_round o) (no_square o) (next_operator o at (part_of n (opens_pass (mark.Symbol sign.RoundClose)) refl refl (pass done))))
-  where
-    no_round : (o : Op) → is_one_of (mark.Symbol (operator_sign o) ∷ []) round ≡ false
-    no_round op.Add = refl
-    no_round op.Sub = refl
-    no_round op.Mul = refl
-    no_round op.And = refl
-    no_round op.Or = refl
-    no_round op.Xor = refl
-    no_round op.Shl = refl
-    no_round op.Shr = refl
-    no_round op.Eq = refl
-    no_round op.Ne = refl
-    no_round op.Lt = refl
-    no_round op.Le = refl
-    no_round op.Gt = refl
-    no_round op.Ge = refl
-    no_round op.Imp = refl
-
-    no_square : (o : Op) → is_one_of (mark.Symbol (operator_sign o) ∷ []) square ≡ false
-    no_square op.Add = refl
-    no_square op.Sub = refl
-    no_square op.Mul = refl
-    no_square op.And = refl
-    no_square op.Or = refl
-    no_square op.Xor = refl
-    no_square op.Shl = refl
-    no_square op.Shr = refl
-    no_square op.Eq = refl
-    no_square op.Ne = refl
-    no_square op.Lt = refl
-    no_square op.Le = refl
-    no_square op.Gt = refl
-    no_square op.Ge = refl
-    no_square op.Imp = refl
+    (λ k. part_of m (opens_take (mark.Symbol (operator_sign o)) at) (no_bracket o).0 (no_bracket o).1 (next_operator o at (part_of n (opens_pass (mark.Symbol sign.RoundClose)) refl refl (pass done))))
 
 -- one rule a line
 node : (y : Expr-F Shown) → Made (node_phrase (map-Expr Expr Phrase phrase (map-Expr Shown Expr tree_in y))) (roll-Expr (map-Expr Shown Expr tree_in y))

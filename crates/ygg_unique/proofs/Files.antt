@@ -1,5 +1,5 @@
 -- The parser makes the file that derives from the tokens.
-use Rattle.std.proofs.Common.{◌≡◌, Bool, true, false, ◌&&◌, if◌then◌else◌, List, [], ◌∷◌, ◌++◌, map, Option, Some, None, refl, sym, ap, ◌∙◌, subst}
+use Rattle.std.proofs.Common.{◌≡◌, Bool, true, false, ◌&&◌, if◌then◌else◌, List, [], ◌∷◌, ◌++◌, map, Option, Some, None, refl, sym, ap, ◌∙◌}
 use Rattle.ygg_base.specs.declared.token.Keyword.{Keyword}
 use Rattle.ygg_base.specs.declared.token.Keyword.TheVariants as word
 use Rattle.ygg_base.specs.declared.token.Symbol.TheVariants as sign
@@ -24,18 +24,18 @@ use Rattle.ygg_syntax.specs.declared.tree.Operation.{Operation}
 use Rattle.ygg_syntax.specs.declared.tree.Tick.{Tick}
 use Rattle.ygg_syntax.specs.declared.tree.Layer.{Layer}
 use Rattle.ygg_syntax.specs.declared.tree.File.{File}
-use Rattle.ygg_syntax.specs.Reading.{Reading, token, same_mark, starts, passes, takes, in_turn, impossible}
+use Rattle.ygg_syntax.specs.Reading.{Reading, starts, passes, takes, in_turn}
 use Rattle.ygg_syntax.specs.Expressions.{expr, numbered}
 use Rattle.ygg_syntax.specs.Expressions as phrases
 use Rattle.ygg_syntax.specs.Blocks as blocks
 use Rattle.ygg_syntax.specs.Blocks.{block_phrase, is_nowhere, is_unwritten}
 use Rattle.ygg_syntax.specs.Files as files
 use Rattle.ygg_syntax.specs.Files.{disk_word, Derives}
-use Rattle.ygg_expr.proofs.Marks.{passed, took}
+use Rattle.ygg_expr.proofs.Marks.{passed}
 use Rattle.ygg_expr.proofs.Phrases.{joined}
 use Rattle.ygg_expr.proofs.Claims.{split, empty}
-use Rattle.ygg_unique.proofs.Parser.{Parser, answer, refused, exactly, perhaps, expression, loop, Loop, element, declarations, variables, claims, operations, ticks, definitions, layers, beginning, rest_of, symbol, keyword, unwritten, block, some_type, type_rule, declared, declared_list, declared_list_rule, definition, on_crash, on_crash_rule, operation_blocks, operation, crash_block, layer, sizes, disk_text, file, run}
-use Rattle.ygg_unique.proofs.Runs.{alike, does, absent, there, more, ended, Reads, is_one_of, neither, Opens, opens_pass, opens_take, done, pass, take, next_name, next_number, flat, never, given, given_at, otherwise, Enters, passing, taking, all_entered, many, opens_many, Skips, opens_skips}
+use Rattle.ygg_unique.proofs.Parser.{Parser, answer, loop, declarations, variables, claims, operations, ticks, definitions, layers, symbol, unwritten, block, some_type, type_rule, declared, declared_list, declared_list_rule, on_crash, on_crash_rule, operation_blocks, crash_block, sizes, disk_text, file, run}
+use Rattle.ygg_unique.proofs.Runs.{alike, does, absent, more, ended, Reads, Opens, opens_pass, opens_take, done, pass, next_name, next_number, flat, never, given, given_at, otherwise, Enters, passing, taking, all_entered, many, opens_many, Skips, opens_skips}
 use Rattle.ygg_unique.proofs.Statements.{both, nowhere_is, some_is, part, next_block, block_made, next_optional, skips_optional, next_answering}
 
 -- a type, and what follows it

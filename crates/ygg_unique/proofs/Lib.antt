@@ -5,5 +5,6 @@ pub mod AgainStatements
 pub mod Expressions
 pub mod Files
 pub mod Parser
+pub mod Printed
 pub mod Runs
 pub mod Statements

@@ -1,25 +1,20 @@
 -- What the parser does where readings read the tokens.
-use Rattle.std.proofs.Common.{◌≡◌, ℕ, Bool, true, false, ◌||◌, List, [], ◌∷◌, ◌++◌, map, Option, Some, None, refl, sym, ap, ◌∙◌}
-use Rattle.ygg_base.specs.declared.token.Symbol.TheVariants as sign
+use Rattle.std.proofs.Common.{◌≡◌, Bool, true, false, ◌||◌, List, [], ◌∷◌, ◌++◌, map, Option, Some, None, refl, sym, ap, ◌∙◌}
 use Rattle.ygg_base.specs.declared.token.Mark.{Mark}
 use Rattle.ygg_base.specs.declared.token.Mark.TheVariants as mark
 use Rattle.ygg_base.specs.declared.token.Token.{Token}
 use Rattle.ygg_value.specs.declared.operation.Op.{Op}
 use Rattle.ygg_value.specs.declared.operation.Op.TheVariants as op
-use Rattle.ygg_syntax.specs.declared.grammar.Kind.{Kind}
 use Rattle.ygg_syntax.specs.declared.tree.Place.{Place}
 use Rattle.ygg_syntax.specs.declared.tree.Name as tree
 use Rattle.ygg_syntax.specs.declared.tree.Numeral.{Numeral}
-use Rattle.ygg_syntax.specs.declared.tree.Expr.{Expr}
-use Rattle.ygg_syntax.specs.declared.tree.Stmt.{Stmt}
 use Rattle.ygg_syntax.specs.declared.tree.File.{File}
 use Rattle.ygg_syntax.specs.Reading.{Reading, token, same_mark, starts, passes, takes, in_turn, impossible}
 use Rattle.ygg_syntax.specs.Expressions.{named, numbered, operator_sign}
-use Rattle.ygg_syntax.specs.Pending.{operation_of}
 use Rattle.ygg_expr.proofs.Phrases.{same, joined}
 use Rattle.ygg_expr.proofs.Marks.{same_is, passed, took}
 use Rattle.ygg_expr.proofs.Claims.{split, empty}
-use Rattle.ygg_unique.proofs.Parser.{Parser, exactly, name, number, operator, perhaps, expression, loop, statements, Loop, element, beginning, rest_of, place_of, after_first, statement, operated, step, finish, run}
+use Rattle.ygg_unique.proofs.Parser.{Parser, exactly, name, number, operator, perhaps, loop, Loop, element, beginning, rest_of, place_of, operated, step, finish, run}
 
 abbrev goes_on : Option Parser → List Token → Option File
 goes_on o ts = elim o as (λ o. Option File) [ None ↦ None | Some q ↦ run q ts ]

@@ -19,15 +19,15 @@ use Rattle.ygg_syntax.specs.declared.tree.Stmt.{Stmt, roll-Stmt, map-Stmt}
 use Rattle.ygg_syntax.specs.declared.tree.Block.{Block, roll-Block, map-Block, fold-Block}
 use Rattle.ygg_syntax.specs.declared.tree.Stmt.TheOpen.{Stmt-F, Block-F}
 use Rattle.ygg_syntax.specs.declared.tree.Stmt.TheFolds.{ind-Stmt, fold-roll-Stmt, fold-roll-Block}
-use Rattle.ygg_syntax.specs.Reading.{Reading, token, same_mark, starts, passes, takes, in_turn, impossible}
+use Rattle.ygg_syntax.specs.Reading.{Reading, token, starts, passes, takes, in_turn, impossible}
 use Rattle.ygg_syntax.specs.Expressions.{phrase, expr, named, numbered}
 use Rattle.ygg_syntax.specs.Expressions as phrases
 use Rattle.ygg_syntax.specs.Blocks as blocks
 use Rattle.ygg_syntax.specs.Blocks.{BlockPhrase, bracketed, source_in, indices_of, statements_in, without_answer, with_answer, is_nowhere, nothing_in, is_unwritten, optional_block, node_statement, node_block, block_phrase}
 use Rattle.ygg_expr.proofs.Marks.{passed, took}
 use Rattle.ygg_expr.proofs.Claims.{split, empty, all_claims}
-use Rattle.ygg_unique.proofs.Parser.{Parser, exactly, perhaps, expression, loop, indices, statements, name, arguments, symbol, keyword, right_side, right_side_rule, unwritten, block, answering, optional, statement, place_of, step, run}
-use Rattle.ygg_unique.proofs.Runs.{alike, does, taken, left, goes_token, absent, there, more, ended, Reads, is_one_of, Opens, opens_pass, opens_take, done, pass, take, next_name, next_number, flat, never, given, given_at, otherwise, Skips}
+use Rattle.ygg_unique.proofs.Parser.{Parser, perhaps, expression, loop, indices, statements, name, arguments, symbol, keyword, right_side, right_side_rule, unwritten, block, answering, optional, statement, place_of, step, run}
+use Rattle.ygg_unique.proofs.Runs.{alike, does, taken, left, absent, more, ended, Reads, is_one_of, Opens, opens_pass, opens_take, done, pass, next_name, next_number, flat, never, given, given_at, Skips}
 use Rattle.ygg_unique.proofs.Expressions.{part_of, arguments_made, made, all_made}
 
 -- an expression and what follows it
@@ -302,17 +302,17 @@ statement_made =
     (λ x y is. subst (λ (p : BlockPhrase). BlockMade p (roll-Block x)) (sym (fold-roll-Block (Kind → Reading) BlockPhrase node_statement node_block x))
     (subst (λ z. BlockMade (node_block (map-Block Stmt Block (Kind → Reading) BlockPhrase blocks.statement phrase_in z)) (roll-Block z)) is (block_case y)))
 
-all_made' : (ts : List Stmt) → AllStatements ts
-all_made' [] = tt
-all_made' (t ∷ ts) = (statement_made t, all_made' ts)
+statements_made : (ts : List Stmt) → AllStatements ts
+statements_made [] = tt
+statements_made (t ∷ ts) = (statement_made t, statements_made ts)
 
 -- the parser makes each block
 pub block_made : (b : Block) → BlockMade (block_phrase b) b
-block_made b = braces_made b.place b.statements b.answer (all_made' b.statements)
+block_made b = braces_made b.place b.statements b.answer (statements_made b.statements)
 
 -- a block with an answer, and what follows it
 pub next_answering : (kind : Kind) (b : Block) {rs : List Reading} {k : Block → Parser} {q : Parser} → Reads rs (k b) q → Reads (with_answer kind (block_phrase b) b.answer ∷ rs) (answering kind k) q
 next_answering kind b {rs} {k} {q} r = record {
   reads = λ from rest h. let s = split (with_answer kind (block_phrase b) b.answer) rs from rest h in
-      answering_run b.place b.statements (all_made' b.statements) kind b.answer from s.mid s.first k ∙ r.reads s.mid rest s.others;
+      answering_run b.place b.statements (statements_made b.statements) kind b.answer from s.mid s.first k ∙ r.reads s.mid rest s.others;
 }

@@ -49,3 +49,7 @@ pub record DerivesAs (tokens : List Token) (file : File) : Type 0 where
 -- where a file derives from some tokens, it derives but for places from all tokens that have its printed marks
 abbrev pub PrintedDerives : Type 0
 PrintedDerives = (tokens : List Token) (file : File) → Derives tokens file → (printed : List Token) → HaveMarks printed (file_printed file) → DerivesAs printed file
+
+-- files that are the same but for places have the same printed marks
+abbrev pub SamePrinted : Type 0
+SamePrinted = (file other : File) → bare_file file ≡ bare_file other → file_printed file ≡ file_printed other

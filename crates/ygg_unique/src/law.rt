@@ -1,4 +1,4 @@
-ghost use Rattle.ygg_unique.specs.Laws.{DerivedMarks, OneFileDerives, PrintedDerives};
+ghost use Rattle.ygg_unique.specs.Laws.{DerivedMarks, OneFileDerives, PrintedDerives, SamePrinted};
 
 /// At most one file derives from given tokens, places included.
 pub fn one_file_derives()
@@ -15,4 +15,9 @@ pub fn derived_marks()
 /// printed marks, and no other.
 pub fn printed_derives()
     ensures { PrintedDerives }
+{}
+
+/// Files that are the same but for places have the same printed marks.
+pub fn same_printed()
+    ensures { SamePrinted }
 {}

@@ -3,4 +3,4 @@
 
 mod law;
 
-pub use law::{derived_marks, one_file_derives, printed_derives};
+pub use law::{derived_marks, one_file_derives, printed_derives, same_printed};

@@ -1,0 +1,6 @@
+//! The one canonical text of a layer file.
+#![tactic(auto)]
+
+mod canonical;
+
+pub use canonical::print;
