@@ -1,4 +1,13 @@
 //! Disks: synchronous, asynchronous, and with a write-back cache.
 #![tactic(auto)]
 
+mod geometry;
+pub mod ground;
 pub mod law;
+mod power;
+mod turn;
+
+pub use geometry::{DiskKind, Geometry};
+pub use ground::Ground;
+pub use power::{Fuse, Picks, Power};
+pub use turn::{Did, Event, Events, Turn};
