@@ -1,6 +1,7 @@
 //! Disks: synchronous, asynchronous, and with a write-back cache.
 #![tactic(auto)]
 
+mod fate;
 mod geometry;
 pub mod ground;
 pub mod law;

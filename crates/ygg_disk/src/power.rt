@@ -1,3 +1,6 @@
+ghost use Rattle.std.specs.Prelude.{◌≡◌};
+ghost use Rattle.ygg_disk.specs.Power.{pick_of, after_pick};
+
 use crate::turn::Events;
 use ygg_base::Bits;
 
@@ -28,4 +31,23 @@ pub struct Power {
     pub passed: u64,
     /// The calls that began, where they are wanted.
     pub events: Option<Events>,
+}
+
+impl Picks {
+    /// The next pick, which isn't taken yet.
+    pub fn peek(&self) -> bool
+        ensures { result ≡ pick_of self.now }
+    {
+        let bit = self.bits.as_slice().get(self.next as usize);
+        bit.copied().unwrap_or(self.past)
+    }
+
+    /// Takes the next pick.
+    pub fn take(&mut self)
+        ensures { self.new ≡ after_pick self.old }
+    {
+        if self.next < self.bits.len() as u64 {
+            self.next += 1;
+        }
+    }
 }
