@@ -6,6 +6,7 @@ mod geometry;
 pub mod ground;
 pub mod law;
 mod power;
+mod rows;
 mod turn;
 
 pub use geometry::{DiskKind, Geometry};

@@ -1,0 +1,57 @@
+-- Rows copied one after another from a table to another of its size.
+use Rattle.std.proofs.Common.{◌≡◌, ℕ, suc, ◌+◌, ◌<◌, ◌≤◌, length, get_or, set, replicate, refl, sym, ap, ◌∙◌, arith, below_more}
+use Rattle.std.proofs.lemmas.List.{ext_get_or, length-set}
+use Rattle.ygg_value.specs.Number.{Digits, Grid}
+use Rattle.ygg_value.specs.Values.{table_read, table_write}
+use Rattle.ygg_value.proofs.Places.{table_read-get_or, table_read-write_same, table_read-write_other}
+use Rattle.ygg_disk.specs.declared.geometry.Geometry.{Geometry}
+use Rattle.ygg_disk.specs.Zeros.{HasSize, IsRowOf}
+
+-- the rows before a place are copied
+pub record Copied (g : Geometry) (from into : Grid) (spare : Digits) (place : ℕ) : Type 0 where
+  pub size : HasSize g into
+  pub fits : IsRowOf into spare
+  pub done : (k : ℕ) → k < place → table_read into k ≡ table_read from k
+
+pub size_kept : (g : Geometry) (t : Grid) (at : ℕ) (r : Digits) → HasSize g t → HasSize g (table_write t at r)
+size_kept g t at r size = record { limits = size.limits; width = size.width; words = size.words; rows = length-set t.rows at r.words ∙ size.rows }
+
+-- one more row is copied
+pub copied_more :
+    (g : Geometry) (from into : Grid) (spare next : Digits) (place : ℕ) → HasSize g from → Copied g from into spare place → place < g.rows
+    → next ≡ table_read from place → length next.words ≡ length spare.words → Copied g from (table_write into place next) next (place + 1)
+copied_more g from into spare next place size c below is long = record {
+  size = size_kept g into place next c.size;
+  fits = record { width = wide; words = long ∙ c.fits.words };
+  done = below_more (λ k. table_read (table_write into place next) k ≡ table_read from k) place others here;
+} where
+  wide : next.width ≡ into.width
+  wide = ap (λ (r : Digits). r.width) is ∙ size.width ∙ sym c.size.width
+
+  here : table_read (table_write into place next) place ≡ table_read from place
+  here = table_read-write_same into place next (omega (arith, c.size.rows)) wide ∙ is
+
+  others : (k : ℕ) → k < place → table_read (table_write into place next) k ≡ table_read from k
+  others k h = table_read-write_other into place k next (λ e. omega arith) ∙ c.done k h
+
+-- all rows are copied
+pub copied_all : (g : Geometry) (from into : Grid) (spare : Digits) → HasSize g from → Copied g from into spare g.rows → into ≡ from
+copied_all g from into spare size c = same wide long rows where
+  wide : into.width ≡ from.width
+  wide = c.size.width ∙ sym size.width
+
+  long : into.words ≡ from.words
+  long = c.size.words ∙ sym size.words
+
+  at : (k : ℕ) → k < length into.rows → get_or into.rows k (replicate into.words 0) ≡ get_or from.rows k (replicate into.words 0)
+  at k h =
+      ap (λ (r : Digits). r.words) (sym (table_read-get_or into k) ∙ c.done k (omega (arith, c.size.rows)) ∙ table_read-get_or from k)
+      ∙ ap (λ n. get_or from.rows k (replicate n 0)) (sym long)
+
+  rows : into.rows ≡ from.rows
+  rows = ext_get_or (replicate into.words 0) into.rows from.rows (c.size.rows ∙ sym size.rows) at
+
+  same : into.width ≡ from.width → into.words ≡ from.words → into.rows ≡ from.rows → into ≡ from
+  same p q r =
+      ap (λ w. record { width = w; words = into.words; rows = into.rows }) p ∙ ap (λ n. record { width = from.width; words = n; rows = into.rows }) q
+      ∙ ap (λ rs. record { width = from.width; words = from.words; rows = rs }) r
