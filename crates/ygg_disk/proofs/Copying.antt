@@ -16,24 +16,6 @@ pub record Copied (g : Geometry) (from into : Grid) (spare : Digits) (place : �
 pub size_kept : (g : Geometry) (t : Grid) (at : ℕ) (r : Digits) → HasSize g t → HasSize g (table_write t at r)
 size_kept g t at r size = record { limits = size.limits; width = size.width; words = size.words; rows = length-set t.rows at r.words ∙ size.rows }
 
--- one more row is copied
-pub copied_more :
-    (g : Geometry) (from into : Grid) (spare next : Digits) (place : ℕ) → HasSize g from → Copied g from into spare place → place < g.rows
-    → next ≡ table_read from place → length next.words ≡ length spare.words → Copied g from (table_write into place next) next (place + 1)
-copied_more g from into spare next place size c below is long = record {
-  size = size_kept g into place next c.size;
-  fits = record { width = wide; words = long ∙ c.fits.words };
-  done = below_more (λ k. table_read (table_write into place next) k ≡ table_read from k) place others here;
-} where
-  wide : next.width ≡ into.width
-  wide = ap (λ (r : Digits). r.width) is ∙ size.width ∙ sym c.size.width
-
-  here : table_read (table_write into place next) place ≡ table_read from place
-  here = table_read-write_same into place next (omega (arith, c.size.rows)) wide ∙ is
-
-  others : (k : ℕ) → k < place → table_read (table_write into place next) k ≡ table_read from k
-  others k h = table_read-write_other into place k next (λ e. omega arith) ∙ c.done k h
-
 -- all rows are copied
 pub copied_all : (g : Geometry) (from into : Grid) (spare : Digits) → HasSize g from → Copied g from into spare g.rows → into ≡ from
 copied_all g from into spare size c = same wide long rows where
