@@ -4,7 +4,7 @@ use Rattle.std.proofs.lemmas.List.{ext_get_or, length-set}
 use Rattle.ygg_value.specs.Number.{Digits, Grid}
 use Rattle.ygg_value.specs.Values.{table_read, table_write}
 use Rattle.ygg_value.proofs.Places.{table_read-get_or, table_read-write_same, table_read-write_other}
-use Rattle.ygg_disk.specs.declared.geometry.Geometry.{Geometry}
+use Rattle.ygg_geometry.specs.declared.Geometry.{Geometry}
 use Rattle.ygg_disk.specs.Zeros.{HasSize, IsRowOf}
 
 -- the rows before a place are copied

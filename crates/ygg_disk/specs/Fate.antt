@@ -1,24 +1,23 @@
 -- What becomes of a call on a disk in memory, and what it leaves of `power`.
-use Rattle.std.specs.Prelude.{◌≡◌, Bool, true, false, ◌||◌, if◌then◌else◌, List, [], ◌∷◌, Some, Result, Ok, Err}
+use Rattle.std.specs.Prelude.{◌≡◌, Bool, true, false, ◌||◌, if◌then◌else◌, List, [], ◌∷◌, Option, Some, None, Result, Ok, Err}
 use Rattle.ygg_list.specs.declared.memory.NoMemory.{NoMemory}
+use Rattle.ygg_value.specs.Number.{Number}
 use Rattle.ygg_disk.specs.Disk as disk
 use Rattle.ygg_disk.specs.Power.{pick_of, IsNamed, Begun}
 use Rattle.ygg_disk.specs.declared.fate.Fate.{Fate}
 use Rattle.ygg_disk.specs.declared.fate.Fate.TheVariants.{Whole, Within, Before}
-use Rattle.ygg_disk.specs.declared.fate.Plain.{Plain}
-use Rattle.ygg_disk.specs.declared.fate.Plain.TheVariants.{Read, Flush}
 use Rattle.ygg_disk.specs.declared.power.Picks.{Picks}
 use Rattle.ygg_disk.specs.declared.power.Power.{Power}
 
--- the call that is asked for
-abbrev pub call_of : Plain → disk.Call
-call_of (Read at) = disk.Read at.bits
-call_of Flush = disk.Flush
+-- a read at a place, or a flush, which has none
+abbrev pub call_at : Option Number → disk.Call
+call_at (Some at) = disk.Read at.bits
+call_at None = disk.Flush
 
 -- the place of a row, if there is one, is a word of 8 digits
-abbrev pub IsAddress : Plain → Type 0
-IsAddress (Read at) = at.width ≡ 8
-IsAddress Flush = Unit {0}
+abbrev pub IsAddress : Option Number → Type 0
+IsAddress (Some at) = at.width ≡ 8
+IsAddress None = Unit {0}
 
 -- power doesn't fail at the next call, or fails within it or before it, as the fuse says
 abbrev pub IsFate : Power → Fate → Type 0

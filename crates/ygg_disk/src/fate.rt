@@ -2,7 +2,7 @@ ghost use Rattle.std.specs.Prelude.{◌≡◌, ◌++◌, [], ◌∷◌, true, fa
 ghost use Rattle.std.specs.Option.{option_map};
 ghost use Rattle.ygg_disk.specs.Disk.{Write};
 ghost use Rattle.ygg_disk.specs.Power.{event_of, noted, Begun};
-ghost use Rattle.ygg_disk.specs.Fate.{IsFate, Begins, call_of, IsAddress, taken, seen};
+ghost use Rattle.ygg_disk.specs.Fate.{IsFate, Begins, call_at, IsAddress, taken, seen};
 
 use crate::power::Power;
 use crate::turn::{Did, Event, Events};
@@ -22,23 +22,14 @@ pub enum Fate {
     Before,
 }
 
-/// A call that takes no picks.
-#[derive(Clone, Copy, Debug, PartialEq, Eq, Drop)]
-pub enum Plain {
-    /// A read of the row at a place.
-    Read(Word),
-    /// A flush.
-    Flush,
-}
-
-/// The event of a call that takes no picks.
-fn plain_event(alloc: Global, plain: Plain, cut: bool) -> Event
-    requires { IsAddress plain }
-    ensures { result ≡ event_of (call_of plain) cut [] }
+/// The event of a read at a place, or of a flush, which has none.
+fn plain_event(alloc: Global, at: Option<Word>, cut: bool) -> Event
+    requires { IsAddress at }
+    ensures { result ≡ event_of (call_at at) cut [] }
 {
-    let (at, did) = match plain {
-        Plain::Read(at) => (Some(at), Did::Read),
-        Plain::Flush => (None, Did::Flush),
+    let did = match at {
+        Some(_) => Did::Read,
+        None => Did::Flush,
     };
     Event {
         second: false,
@@ -118,13 +109,13 @@ impl Power {
         }
     }
 
-    /// A call that takes no picks has begun. After want of memory nothing has changed.
-    fn began(&mut self, alloc: Global, plain: Plain, cut: bool) -> Result<(), NoMemory>
-        requires { IsAddress plain }
-        ensures ok { OnOk result (Begun true cut (call_of plain) [] [] self.old self.new) }
+    /// A read at a place has begun, or a flush, which has none. After want of memory nothing has changed.
+    fn began(&mut self, alloc: Global, at: Option<Word>, cut: bool) -> Result<(), NoMemory>
+        requires { IsAddress at }
+        ensures ok { OnOk result (Begun true cut (call_at at) [] [] self.old self.new) }
         ensures err { OnErr result (self.new ≡ self.old) }
     {
-        note(&mut self.events, plain_event(alloc, plain, cut))?;
+        note(&mut self.events, plain_event(alloc, at, cut))?;
         if !cut {
             self.passed = self.passed.saturating_add(1);
         }
@@ -155,15 +146,16 @@ impl Power {
         Ok(())
     }
 
-    /// A call that takes no picks begins, unless power fails before it. After want of memory nothing has changed.
-    pub fn begin(&mut self, alloc: Global, plain: Plain) -> Result<Fate, NoMemory>
-        requires { IsAddress plain }
-        ensures { Begins false (call_of plain) self.old self.new result }
+    /// A read at a place begins, or a flush, which has none, unless power fails before it. After want of memory nothing has
+    /// changed.
+    pub fn begin(&mut self, alloc: Global, at: Option<Word>) -> Result<Fate, NoMemory>
+        requires { IsAddress at }
+        ensures { Begins false (call_at at) self.old self.new result }
     {
         let fate = self.fate();
         match fate {
-            Fate::Whole => self.began(alloc, plain, false)?,
-            Fate::Within => self.began(alloc, plain, true)?,
+            Fate::Whole => self.began(alloc, at, false)?,
+            Fate::Within => self.began(alloc, at, true)?,
             Fate::Before => {}
         }
         Ok(fate)

@@ -1,8 +1,8 @@
 //! Disks: synchronous, asynchronous, and with a write-back cache.
 #![tactic(auto)]
 
+mod async_disk;
 mod fate;
-mod geometry;
 pub mod ground;
 pub mod law;
 mod power;
@@ -10,7 +10,7 @@ mod rows;
 mod sync_disk;
 mod turn;
 
-pub use geometry::{DiskKind, Geometry};
+pub use async_disk::{AsyncDisk, fresh_async};
 pub use ground::Ground;
 pub use power::{Fuse, Picks, Power};
 pub use sync_disk::{SyncDisk, fresh_sync};

@@ -3,7 +3,7 @@ ghost use Rattle.ygg_value.specs.Shapes.{IsShape};
 ghost use Rattle.ygg_value.specs.Values.{table_read};
 ghost use Rattle.ygg_disk.specs.Zeros.{table_shape, zeros_of, HasSize, IsRowOf};
 
-use crate::geometry::Geometry;
+use ygg_geometry::Geometry;
 use std::alloc::Global;
 use ygg_list::NoMemory;
 use ygg_value::{Row, Shape, Table, Value, Word, table_read, table_write, zero};

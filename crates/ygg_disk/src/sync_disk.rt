@@ -2,8 +2,8 @@ ghost use Rattle.std.specs.Prelude.{◌≡◌, IfOk};
 ghost use Rattle.ygg_value.specs.Shapes.{IsShape};
 ghost use Rattle.ygg_disk.specs.Zeros.{table_shape, zeros_of};
 
-use crate::fate::{Fate, Plain};
-use crate::geometry::Geometry;
+use crate::fate::Fate;
+use ygg_geometry::Geometry;
 use crate::ground::Ground;
 use crate::power::Power;
 use crate::rows::{read_row, zero_table};
@@ -53,7 +53,7 @@ impl Ground for SyncDisk {
 
     fn read(&mut self, at: Word, power: &mut Power) -> Result<Turn, NoMemory> {
         let row = read_row(self.alloc, self.geometry, &self.view, at)?;
-        match power.begin(self.alloc, Plain::Read(at))? {
+        match power.begin(self.alloc, Some(at))? {
             Fate::Whole => Ok(Turn::Answer(Value::Row(row))),
             Fate::Within | Fate::Before => Ok(Turn::Down),
         }
@@ -77,7 +77,7 @@ impl Ground for SyncDisk {
     }
 
     fn flush(&mut self, power: &mut Power) -> Result<Turn, NoMemory> {
-        match power.begin(self.alloc, Plain::Flush)? {
+        match power.begin(self.alloc, None)? {
             Fate::Whole => Ok(Turn::Done),
             Fate::Within | Fate::Before => Ok(Turn::Down),
         }
