@@ -5,6 +5,7 @@ mod async_disk;
 mod fate;
 pub mod ground;
 pub mod law;
+mod pending_disk;
 mod power;
 mod rows;
 mod sync_disk;

@@ -1,0 +1,24 @@
+-- Pending writes with their marks.
+use Rattle.std.proofs.Common.{◌≡◌, ℕ, ◌+◌, ◌<◌, Bool, true, false, inl, inr, List, [], ◌∷◌, ◌++◌, map, length, take, get_or, refl, sym, ap, ◌∙◌}
+use Rattle.std.proofs.lemmas.List.{take_more}
+use Rattle.ygg_disk.specs.Pending.{IsSublist}
+use Rattle.ygg_disk.specs.Marked.{MarkedWrite, kept_of}
+use Rattle.ygg_disk.specs.Waiting.{mark_of, marked}
+use Rattle.ygg_disk.specs.declared.pending_disk.Waiting.{Waiting}
+
+-- the write that came last is the newest
+pub marked_more : (ws : List Waiting) (w : Waiting) → marked (ws ++ w ∷ []) ≡ mark_of w ∷ marked ws
+marked_more [] w = refl
+marked_more (v ∷ ws) w = ap (λ ms. ms ++ mark_of v ∷ []) (marked_more ws w)
+
+-- one more write of a list is looked at
+pub marked_next : (ws : List Waiting) (i : ℕ) (w : Waiting) → i < length ws → w ≡ get_or ws i w → marked (take (i + 1) ws) ≡ mark_of w ∷ marked (take i ws)
+marked_next ws i w h e = ap marked (take_more ws i w h ∙ ap (λ v. take i ws ++ v ∷ []) (sym e)) ∙ marked_more (take i ws) w
+
+-- what power loss keeps are some of the pending writes, in order
+pub kept_some : (ws : List MarkedWrite) → IsSublist (kept_of ws) (map (λ (w : MarkedWrite). w.write) ws)
+kept_some [] = refl
+kept_some (w ∷ ws) = by w.kept (kept_some ws) where
+  by : (kept : Bool) → IsSublist (kept_of ws) (map (λ (v : MarkedWrite). v.write) ws) → IsSublist (kept_of (record w { kept = kept } ∷ ws)) (w.write ∷ map (λ (v : MarkedWrite). v.write) ws)
+  by true rest = inr (kept_of ws, refl, rest)
+  by false rest = inl rest
