@@ -1,9 +1,9 @@
 -- Rows copied one after another from a table to another of its size.
-use Rattle.std.proofs.Common.{◌≡◌, ℕ, suc, ◌+◌, ◌<◌, ◌≤◌, length, get_or, set, replicate, refl, sym, ap, ◌∙◌, arith, below_more}
+use Rattle.std.proofs.Common.{◌≡◌, ℕ, ◌<◌, length, get_or, replicate, sym, ap, ◌∙◌, arith}
 use Rattle.std.proofs.lemmas.List.{ext_get_or, length-set}
 use Rattle.ygg_value.specs.Number.{Digits, Grid}
 use Rattle.ygg_value.specs.Values.{table_read, table_write}
-use Rattle.ygg_value.proofs.Places.{table_read-get_or, table_read-write_same, table_read-write_other}
+use Rattle.ygg_value.proofs.Places.{table_read-get_or}
 use Rattle.ygg_geometry.specs.declared.Geometry.{Geometry}
 use Rattle.ygg_disk.specs.Zeros.{HasSize, IsRowOf}
 

@@ -7,7 +7,7 @@ use Rattle.ygg_value.specs.Number.{Grid}
 use Rattle.ygg_value.specs.Shapes.{shape_of}
 use Rattle.ygg_value.specs.declared.row.Value.TheVariants as value
 use Rattle.ygg_value.specs.declared.shape.Shape.{Shape}
-use Rattle.ygg_disk.specs.Disk.{Call, Read, Write, Flush, Reply, Tables, lost, sync_calls, sync_falls, async_calls, async_falls}
+use Rattle.ygg_disk.specs.Disk.{Call, Write, Reply, Tables, lost, sync_calls, sync_falls, async_calls, async_falls}
 use Rattle.ygg_disk.specs.Power.{Begun, BegunInVain, IsNamed}
 use Rattle.ygg_disk.specs.declared.power.Fuse.{Fuse}
 use Rattle.ygg_disk.specs.declared.power.Power.{Power}

@@ -1,6 +1,10 @@
 -- Pending writes as the disk in memory keeps them, the oldest first.
-use Rattle.std.specs.Prelude.{ℕ, ◌==◌, if◌then◌else◌, List, [], ◌∷◌, ◌++◌, Option, Some, None}
-use Rattle.ygg_value.specs.Number.{Digits}
+use Rattle.std.specs.Prelude.{◌≡◌, ℕ, map, ◌==◌, if◌then◌else◌, List, [], ◌∷◌, ◌++◌, Option, Some, None}
+use Rattle.ygg_value.specs.Number.{Digits, Grid}
+use Rattle.ygg_value.specs.Values.{table_read}
+use Rattle.ygg_geometry.specs.declared.Geometry.{Geometry}
+use Rattle.ygg_disk.specs.Pending.{applied}
+use Rattle.ygg_disk.specs.Zeros.{HasSize}
 use Rattle.ygg_disk.specs.Marked.{MarkedWrite}
 use Rattle.ygg_disk.specs.declared.pending_disk.Waiting.{Waiting}
 
@@ -17,3 +21,13 @@ marked (w ∷ ws) = marked ws ++ mark_of w ∷ []
 abbrev pub newest_at : ℕ → List MarkedWrite → Option Digits
 newest_at at [] = None
 newest_at at (w ∷ before) = if w.write.at == at then Some w.write.row else newest_at at before
+
+-- what is read at a place: the row that was found among the pending writes, or else the stable one
+abbrev pub seen_at : Grid → ℕ → Option Digits → Digits
+seen_at stable at None = table_read stable at
+seen_at stable at (Some row) = row
+
+-- on every disk of this size a read through these writes sees what was found, or else the stable row
+abbrev pub SeenThrough : Geometry → List MarkedWrite → ℕ → Option Digits → Type 0
+SeenThrough g writes at found =
+    (stable : Grid) → HasSize g stable → table_read (applied (map (λ (w : MarkedWrite). w.write) writes) stable) at ≡ seen_at stable at found

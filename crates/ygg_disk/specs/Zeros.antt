@@ -1,5 +1,5 @@
 -- A disk's size, and its table of zeros.
-use Rattle.std.specs.Prelude.{ℕ, ◌≡◌, length, replicate}
+use Rattle.std.specs.Prelude.{◌≡◌, length, replicate}
 use Rattle.ygg_value.specs.Number.{Digits, Grid}
 use Rattle.ygg_value.specs.Shapes.{IsShape}
 use Rattle.ygg_value.specs.declared.shape.Shape.{Shape}

@@ -71,24 +71,14 @@ impl AsyncDisk {
         ensures lost { self.new ≡ lost self.old }
         ensures row { row_shape self.new.view ≡ row_shape self.old.view }
     {
-        copy_rows(
-            self.geometry,
-            &self.stable,
-            &mut self.view,
-            &mut self.spare,
-        );
+        copy_rows(self.geometry, &self.stable, &mut self.view, &mut self.spare);
     }
 
     /// All that was written is stable.
     fn settle(&mut self)
         ensures { self.new ≡ record { view = self.old.view; stable = self.old.view } }
     {
-        copy_rows(
-            self.geometry,
-            &self.view,
-            &mut self.stable,
-            &mut self.spare,
-        );
+        copy_rows(self.geometry, &self.view, &mut self.stable, &mut self.spare);
     }
 }
 

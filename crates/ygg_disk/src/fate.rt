@@ -41,13 +41,7 @@ fn plain_event(alloc: Global, at: Option<Word>, cut: bool) -> Event
 }
 
 /// The event of a write, which shows this pick. Its only error is want of memory.
-fn write_event(
-    alloc: Global,
-    at: Word,
-    row: &Row,
-    cut: bool,
-    pick: bool,
-) -> Result<Event, NoMemory>
+fn write_event(alloc: Global, at: Word, row: &Row, cut: bool, pick: bool) -> Result<Event, NoMemory>
     requires { at.width ≡ 8 }
     ensures { IfOk result (λ event. event ≡ event_of (Write at.bits row.now) cut (pick ∷ [])) }
 {

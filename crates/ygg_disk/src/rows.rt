@@ -3,8 +3,8 @@ ghost use Rattle.ygg_value.specs.Shapes.{IsShape};
 ghost use Rattle.ygg_value.specs.Values.{table_read};
 ghost use Rattle.ygg_disk.specs.Zeros.{table_shape, zeros_of, HasSize, IsRowOf};
 
-use ygg_geometry::Geometry;
 use std::alloc::Global;
+use ygg_geometry::Geometry;
 use ygg_list::NoMemory;
 use ygg_value::{Row, Shape, Table, Value, Word, table_read, table_write, zero};
 
@@ -40,12 +40,7 @@ pub fn zero_table(alloc: Global, geometry: Geometry) -> Result<Table, NoMemory>
 }
 
 /// The row at a place of a table, counted from 0; zeros past the end. Its only error is want of memory.
-pub fn read_row(
-    alloc: Global,
-    geometry: Geometry,
-    table: &Table,
-    at: Word,
-) -> Result<Row, NoMemory>
+pub fn read_row(alloc: Global, geometry: Geometry, table: &Table, at: Word) -> Result<Row, NoMemory>
     requires { HasSize geometry table.now }
     ensures value { IfOk result (λ row. row ≡ table_read table.now at.bits) }
     ensures shape { IfOk result (λ row. IsRowOf table.now row) }

@@ -3,13 +3,13 @@ ghost use Rattle.ygg_value.specs.Shapes.{IsShape};
 ghost use Rattle.ygg_disk.specs.Zeros.{table_shape, zeros_of};
 
 use crate::fate::Fate;
-use ygg_geometry::Geometry;
 use crate::ground::Ground;
 use crate::power::Power;
 use crate::rows::{read_row, zero_table};
 use crate::turn::Turn;
 use std::alloc::Global;
 use std::marker::Model;
+use ygg_geometry::Geometry;
 use ygg_list::NoMemory;
 use ygg_value::{Row, Table, Value, Word, table_write};
 

@@ -1,6 +1,5 @@
 use Rattle.std.proofs.Common.{◌≡◌, take, map}
 use Rattle.ygg_disk.specs.Pending.{applied}
-use Rattle.ygg_disk.specs.Marked.{kept_of}
 use Rattle.ygg_disk.specs.Waiting.{marked}
 use Rattle.ygg_disk.specs.Zeros.{HasSize}
 use Rattle.ygg_disk.proofs.pending_disk.apply_all.Given as goal

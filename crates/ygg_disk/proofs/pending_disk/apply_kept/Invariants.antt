@@ -1,4 +1,4 @@
-use Rattle.std.proofs.Common.{◌≡◌, take, map}
+use Rattle.std.proofs.Common.{◌≡◌, take}
 use Rattle.ygg_disk.specs.Pending.{applied}
 use Rattle.ygg_disk.specs.Marked.{kept_of}
 use Rattle.ygg_disk.specs.Waiting.{marked}

@@ -1,4 +1,4 @@
-use Rattle.std.proofs.Common.{◌≤◌, ◌≡◌, ℕ, subst, arith}
+use Rattle.std.proofs.Common.{◌≡◌, ℕ, subst, arith}
 use Rattle.ygg_disk.proofs.Copying.{Copied, copied_all}
 use Rattle.ygg_disk.proofs.rows.copy_rows.Goals as goal
 
