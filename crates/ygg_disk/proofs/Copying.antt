@@ -1,20 +1,17 @@
 -- Rows copied one after another from a table to another of its size.
 use Rattle.std.proofs.Common.{◌≡◌, ℕ, ◌<◌, length, get_or, replicate, sym, ap, ◌∙◌, arith}
-use Rattle.std.proofs.lemmas.List.{ext_get_or, length-set}
+use Rattle.std.proofs.lemmas.List.{ext_get_or}
 use Rattle.ygg_value.specs.Number.{Digits, Grid}
-use Rattle.ygg_value.specs.Values.{table_read, table_write}
+use Rattle.ygg_value.specs.Values.{table_read}
 use Rattle.ygg_value.proofs.Places.{table_read-get_or}
 use Rattle.ygg_geometry.specs.declared.Geometry.{Geometry}
-use Rattle.ygg_disk.specs.Zeros.{HasSize, IsRowOf}
+use Rattle.ygg_disk.specs.Size.{HasSize, IsRowOf}
 
 -- the rows before a place are copied
 pub record Copied (g : Geometry) (from into : Grid) (spare : Digits) (place : ℕ) : Type 0 where
   pub size : HasSize g into
   pub fits : IsRowOf into spare
   pub done : (k : ℕ) → k < place → table_read into k ≡ table_read from k
-
-pub size_kept : (g : Geometry) (t : Grid) (at : ℕ) (r : Digits) → HasSize g t → HasSize g (table_write t at r)
-size_kept g t at r size = record { limits = size.limits; width = size.width; words = size.words; rows = length-set t.rows at r.words ∙ size.rows }
 
 -- all rows are copied
 pub copied_all : (g : Geometry) (from into : Grid) (spare : Digits) → HasSize g from → Copied g from into spare g.rows → into ≡ from

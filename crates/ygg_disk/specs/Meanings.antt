@@ -1,10 +1,9 @@
--- What the three disks in memory mean. None has faults, each can lose power, and a call that finds no memory leaves them as before.
-use Rattle.std.specs.Prelude.{◌≡◌, true, Some, None}
+-- What the synchronous and the asynchronous disk in memory mean. Neither has faults, both can lose power, and a call that finds no memory leaves them as before.
+use Rattle.std.specs.Prelude.{◌≡◌, true, Some}
 use Rattle.ygg_value.specs.Number.{Grid}
 use Rattle.ygg_disk.specs.Disk.{Tables, lost, sync_calls, sync_falls, async_calls, async_falls}
 use Rattle.ygg_disk.specs.Ground.{Meaning, Sync, Async}
-use Rattle.ygg_disk.specs.Marked.{MarkedCache, marked_calls, marked_falls, marked_loses}
-use Rattle.ygg_disk.specs.Zeros.{row_shape}
+use Rattle.ygg_disk.specs.Size.{row_shape}
 
 -- the synchronous disk
 abbrev pub sync_meaning : Meaning Grid
@@ -32,18 +31,4 @@ async_meaning = record {
   Falls = async_falls;
   Loses = λ d d'. d' ≡ lost d;
   Breaks = λ d call d'. d' ≡ d;
-}
-
--- the disk with a write-back cache, which tells no state
-abbrev pub pending_meaning : Meaning MarkedCache
-pending_meaning = record {
-  told = λ m. None;
-  row = λ m. row_shape m.stable;
-  faults = λ m. 0;
-  can_lose = true;
-  follows = true;
-  Calls = marked_calls;
-  Falls = marked_falls;
-  Loses = marked_loses;
-  Breaks = λ m call m'. m' ≡ m;
 }

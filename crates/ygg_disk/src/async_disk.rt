@@ -1,7 +1,7 @@
 ghost use Rattle.std.specs.Prelude.{◌≡◌, IfOk};
 ghost use Rattle.ygg_value.specs.Shapes.{IsShape};
 ghost use Rattle.ygg_disk.specs.Disk.{written, lost};
-ghost use Rattle.ygg_disk.specs.Zeros.{table_shape, row_shape, zeros_of, IsRowOf};
+ghost use Rattle.ygg_disk.specs.Size.{table_shape, row_shape, zeros_of, IsRowOf};
 
 use crate::fate::Fate;
 use crate::ground::Ground;
@@ -28,7 +28,7 @@ pub struct AsyncDisk {
 
 impl Model for AsyncDisk {
     ghost use Rattle.ygg_disk.specs.Disk.{Tables};
-    ghost use Rattle.ygg_disk.specs.Zeros.{HasSize, IsRowOf};
+    ghost use Rattle.ygg_disk.specs.Size.{HasSize, IsRowOf};
 
     ghost Value = { Tables };
 

@@ -1,17 +1,17 @@
-//! Disks: synchronous, asynchronous, and with a write-back cache.
+//! Disks: what they do, step by step, the calls on whatever stands for one, and a synchronous and an asynchronous one in memory.
 #![tactic(auto)]
 
 mod async_disk;
 mod fate;
 pub mod ground;
 pub mod law;
-mod pending_disk;
 mod power;
-mod rows;
+pub mod rows;
 mod sync_disk;
 mod turn;
 
 pub use async_disk::{AsyncDisk, fresh_async};
+pub use fate::Fate;
 pub use ground::Ground;
 pub use power::{Fuse, Picks, Power};
 pub use sync_disk::{SyncDisk, fresh_sync};

@@ -1,7 +1,9 @@
+//! Rows and tables of the size of a disk.
+
 ghost use Rattle.std.specs.Prelude.{◌≡◌, replicate, length, IfOk};
 ghost use Rattle.ygg_value.specs.Shapes.{IsShape};
 ghost use Rattle.ygg_value.specs.Values.{table_read};
-ghost use Rattle.ygg_disk.specs.Zeros.{table_shape, zeros_of, HasSize, IsRowOf};
+ghost use Rattle.ygg_disk.specs.Size.{table_shape, zeros_of, HasSize, IsRowOf};
 
 use std::alloc::Global;
 use ygg_geometry::Geometry;

@@ -1,6 +1,6 @@
 ghost use Rattle.std.specs.Prelude.{◌≡◌, IfOk};
 ghost use Rattle.ygg_value.specs.Shapes.{IsShape};
-ghost use Rattle.ygg_disk.specs.Zeros.{table_shape, zeros_of};
+ghost use Rattle.ygg_disk.specs.Size.{table_shape, zeros_of};
 
 use crate::fate::Fate;
 use crate::ground::Ground;
@@ -24,7 +24,7 @@ pub struct SyncDisk {
 
 impl Model for SyncDisk {
     ghost use Rattle.ygg_value.specs.Number.{Grid};
-    ghost use Rattle.ygg_disk.specs.Zeros.{HasSize};
+    ghost use Rattle.ygg_disk.specs.Size.{HasSize};
 
     ghost Value = { Grid };
 

@@ -1,18 +1,23 @@
 -- What a read of a disk with pending writes sees.
 use Rattle.std.proofs.Common.{◌≡◌, ◌≢◌, ℕ, ◌<◌, ◌≤◌, Bool, true, false, ◌==◌, if◌then◌else◌, List, [], ◌∷◌, map, replicate, Option, Some, None, refl, sym, ap, ◌∙◌, arith}
+use Rattle.std.proofs.lemmas.List.{length-set}
 use Rattle.std.proofs.lemmas.List.Elements.{All-nil, All-cons, All-head, All-tail, All-append}
 use Rattle.std.proofs.lemmas.Bool.Decides.{nat_tests}
 use Rattle.std.specs.Prelude.{All, IfSome}
 use Rattle.ygg_value.specs.Number.{Digits, Grid}
-use Rattle.ygg_value.specs.Values.{table_read}
+use Rattle.ygg_value.specs.Values.{table_read, table_write}
 use Rattle.ygg_value.proofs.Places.{table_read_past, table_read-write_same, table_read-write_other}
 use Rattle.ygg_geometry.specs.declared.Geometry.{Geometry}
 use Rattle.ygg_disk.specs.Pending.{applied}
-use Rattle.ygg_disk.specs.Marked.{MarkedWrite}
-use Rattle.ygg_disk.specs.Waiting.{mark_of, marked, newest_at, seen_at, SeenThrough}
-use Rattle.ygg_disk.specs.Zeros.{HasSize, IsDiskRow}
-use Rattle.ygg_disk.specs.declared.pending_disk.Waiting.{Waiting}
-use Rattle.ygg_disk.proofs.Copying.{size_kept}
+use Rattle.ygg_pending.specs.Marked.{MarkedWrite}
+use Rattle.ygg_pending.specs.Waiting.{mark_of, marked, newest_at, seen_at, SeenThrough}
+use Rattle.ygg_disk.specs.Size.{HasSize}
+use Rattle.ygg_pending.specs.Rows.{IsDiskRow}
+use Rattle.ygg_pending.specs.declared.waiting.Waiting.{Waiting}
+
+-- a write keeps the size
+size_kept : (g : Geometry) (t : Grid) (at : ℕ) (r : Digits) → HasSize g t → HasSize g (table_write t at r)
+size_kept g t at r size = record { limits = size.limits; width = size.width; words = size.words; rows = length-set t.rows at r.words ∙ size.rows }
 
 -- the rows after these writes
 abbrev pub rows_after : List MarkedWrite → Grid → Grid

@@ -4,9 +4,9 @@ use Rattle.std.proofs.lemmas.List.{take_more}
 use Rattle.ygg_value.specs.Number.{Digits}
 use Rattle.ygg_disk.specs.Disk.{Write}
 use Rattle.ygg_disk.specs.Pending.{IsSublist}
-use Rattle.ygg_disk.specs.Marked.{MarkedWrite, MarkedCache, kept_of, with_mark, marked_lost, marked_calls, marked_loses, marked_falls}
-use Rattle.ygg_disk.specs.Waiting.{mark_of, marked}
-use Rattle.ygg_disk.specs.declared.pending_disk.Waiting.{Waiting}
+use Rattle.ygg_pending.specs.Marked.{MarkedWrite, MarkedCache, kept_of, with_mark, marked_lost, marked_calls, marked_loses, marked_falls}
+use Rattle.ygg_pending.specs.Waiting.{mark_of, marked}
+use Rattle.ygg_pending.specs.declared.waiting.Waiting.{Waiting}
 
 -- the write that came last is the newest
 pub marked_more : (ws : List Waiting) (w : Waiting) → marked (ws ++ w ∷ []) ≡ mark_of w ∷ marked ws

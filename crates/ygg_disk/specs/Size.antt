@@ -29,8 +29,3 @@ pub record HasSize (g : Geometry) (t : Grid) : Type 0 where
 pub record IsRowOf (t : Grid) (r : Digits) : Type 0 where
   pub width : r.width ≡ t.width
   pub words : length r.words ≡ t.words
-
--- the row has the size of the disk's rows
-pub record IsDiskRow (g : Geometry) (r : Digits) : Type 0 where
-  pub width : r.width ≡ g.width
-  pub words : length r.words ≡ g.words

@@ -1,10 +1,10 @@
 use Rattle.std.proofs.Common.{IfSome, Option, sym, subst}
 use Rattle.std.specs.Option.{option_copied}
 use Rattle.ygg_value.specs.Number.{Digits}
-use Rattle.ygg_disk.specs.Waiting.{marked}
-use Rattle.ygg_disk.specs.Zeros.{IsDiskRow}
-use Rattle.ygg_disk.proofs.Newest.{fits_marked, newest_fits, seen_within, seen_past}
-use Rattle.ygg_disk.proofs.pending_disk.newest_within.Goals as goal
+use Rattle.ygg_pending.specs.Waiting.{marked}
+use Rattle.ygg_pending.specs.Rows.{IsDiskRow}
+use Rattle.ygg_pending.proofs.Newest.{fits_marked, newest_fits, seen_within, seen_past}
+use Rattle.ygg_pending.proofs.waiting.newest_within.Goals as goal
 
 pub returns-then-place-geometry-clause-seen : goal.returns-then-place-geometry-clause-seen
 returns-then-place-geometry-clause-seen c =

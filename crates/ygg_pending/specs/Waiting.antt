@@ -4,9 +4,9 @@ use Rattle.ygg_value.specs.Number.{Digits, Grid}
 use Rattle.ygg_value.specs.Values.{table_read}
 use Rattle.ygg_geometry.specs.declared.Geometry.{Geometry}
 use Rattle.ygg_disk.specs.Pending.{applied}
-use Rattle.ygg_disk.specs.Zeros.{HasSize}
-use Rattle.ygg_disk.specs.Marked.{MarkedWrite}
-use Rattle.ygg_disk.specs.declared.pending_disk.Waiting.{Waiting}
+use Rattle.ygg_disk.specs.Size.{HasSize}
+use Rattle.ygg_pending.specs.Marked.{MarkedWrite}
+use Rattle.ygg_pending.specs.declared.waiting.Waiting.{Waiting}
 
 -- a pending write with its mark
 abbrev pub mark_of : Waiting → MarkedWrite

@@ -1,7 +1,7 @@
 use Rattle.std.proofs.Common.{rules, arith, [], ◌∷◌, refl}
 use Rattle.std.proofs.lemmas.Grind.{common_steps}
-use Rattle.ygg_disk.proofs.Marks.{marked_more, calls_marked}
-use Rattle.ygg_disk.proofs.pending_disk.PendingDiskGround.write.Goals as goal
+use Rattle.ygg_pending.proofs.Marks.{marked_more, calls_marked}
+use Rattle.ygg_pending.proofs.pending_disk.PendingDiskGround.write.Goals as goal
 
 pub returns-in-Whole-clause-turn : goal.returns-in-Whole-clause-turn
 returns-in-Whole-clause-turn c = record {
