@@ -1,0 +1,53 @@
+ghost use Rattle.std.specs.Prelude.{◌≡◌};
+ghost use Rattle.ygg_disk.specs.Power.{pick_of, after_pick};
+
+use crate::turn::Events;
+use ygg_base::Bits;
+
+/// Where power fails: at the disk call with so many whole calls before it, before that call or within it.
+#[derive(Clone, Copy, Debug, PartialEq, Eq, Drop)]
+pub struct Fuse {
+    pub within: bool,
+    pub call: u64,
+}
+
+/// The choices that a disk makes, in order. A pick is the bit at `next`, which then rises by one; past the end of
+/// `bits` a pick is `past`, and `next` stays.
+#[derive(Debug, Drop)]
+pub struct Picks {
+    pub bits: Bits,
+    pub next: u64,
+    pub past: bool,
+}
+
+/// What a disk is told of power, and what it tells of its calls.
+#[derive(Debug, Drop)]
+pub struct Power {
+    /// The picks that are taken.
+    pub picks: Picks,
+    /// Where power fails, if it does.
+    pub fuse: Option<Fuse>,
+    /// How many whole calls there were since power came up or the command began. It stops at its type's greatest value.
+    pub passed: u64,
+    /// The calls that began, where they are wanted.
+    pub events: Option<Events>,
+}
+
+impl Picks {
+    /// The next pick, which isn't taken yet.
+    pub fn peek(&self) -> bool
+        ensures { result ≡ pick_of self.now }
+    {
+        let bit = self.bits.as_slice().get(self.next as usize);
+        bit.copied().unwrap_or(self.past)
+    }
+
+    /// Takes the next pick.
+    pub fn take(&mut self)
+        ensures { self.new ≡ after_pick self.old }
+    {
+        if self.next < self.bits.len() as u64 {
+            self.next += 1;
+        }
+    }
+}

@@ -1,0 +1,71 @@
+//! Rows and tables of the size of a disk.
+
+ghost use Rattle.std.specs.Prelude.{◌≡◌, replicate, length, IfOk};
+ghost use Rattle.ygg_value.specs.Shapes.{IsShape};
+ghost use Rattle.ygg_value.specs.Values.{table_read};
+ghost use Rattle.ygg_disk.specs.Size.{table_shape, zeros_of, HasSize, IsRowOf};
+
+use std::alloc::Global;
+use ygg_geometry::Geometry;
+use ygg_list::NoMemory;
+use ygg_value::{Row, Shape, Table, Value, Word, table_read, table_write, zero};
+
+/// A row of zeros of the disk's size. Its only error is want of memory.
+pub fn zero_row(alloc: Global, geometry: Geometry) -> Result<Row, NoMemory>
+    requires { IsShape (table_shape geometry) }
+    ensures { IfOk result (λ row. row ≡ record { width = geometry.width; words = replicate geometry.words 0 }) }
+{
+    let shape = Shape::Row {
+        words: geometry.words,
+        width: geometry.width,
+    };
+    match zero(alloc, shape)? {
+        Value::Row(row) => Ok(row),
+        _ => unreachable!(),
+    }
+}
+
+/// A table of zeros of the disk's size. Its only error is want of memory.
+pub fn zero_table(alloc: Global, geometry: Geometry) -> Result<Table, NoMemory>
+    requires { IsShape (table_shape geometry) }
+    ensures { IfOk result (λ table. table ≡ zeros_of geometry) }
+{
+    let shape = Shape::Table {
+        rows: geometry.rows,
+        words: geometry.words,
+        width: geometry.width,
+    };
+    match zero(alloc, shape)? {
+        Value::Table(table) => Ok(table),
+        _ => unreachable!(),
+    }
+}
+
+/// The row at a place of a table, counted from 0; zeros past the end. Its only error is want of memory.
+pub fn read_row(alloc: Global, geometry: Geometry, table: &Table, at: Word) -> Result<Row, NoMemory>
+    requires { HasSize geometry table.now }
+    ensures value { IfOk result (λ row. row ≡ table_read table.now at.bits) }
+    ensures shape { IfOk result (λ row. IsRowOf table.now row) }
+{
+    let mut row = zero_row(alloc, geometry)?;
+    table_read(table, at, &mut row);
+    Ok(row)
+}
+
+/// Makes all rows of a table equal to those of another, by way of a row to spare.
+pub fn copy_rows(geometry: Geometry, from: &Table, into: &mut Table, spare: &mut Row)
+    requires from { HasSize geometry from.now }
+    requires into { HasSize geometry into.old }
+    requires spare { IsRowOf into.old spare.old }
+    ensures same { into.new ≡ from.now }
+    ensures spare { IsRowOf into.new spare.new }
+{
+    for place in 0..geometry.rows {
+        let at = Word {
+            width: 16,
+            bits: place as u64,
+        };
+        table_read(from, at, spare);
+        table_write(into, at, spare);
+    }
+}

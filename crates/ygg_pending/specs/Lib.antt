@@ -1,0 +1,4 @@
+pub mod Marked
+pub mod Waiting
+pub mod Rows
+pub mod Meaning
