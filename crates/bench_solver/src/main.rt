@@ -1,5 +1,6 @@
 //! Reads clauses in DIMACS form from standard input and solves them. The first word, if there is one, is the budget of learned
-//! clauses. How many clauses were learned and how long solving took go to standard error.
+//! clauses. How many conflicts there were, how many values variables had and lost again, and how long solving took go to standard
+//! error.
 #![tactic(auto)]
 
 ghost use Rattle.std.specs.Prelude.{◌<◌, ◌↔◌, All, IsTrue};
@@ -10,7 +11,7 @@ use std::env;
 use std::time::Instant;
 use ygg_cnf::{Clause, Clauses, Lit};
 use ygg_list::NoMemory;
-use ygg_solver::{Answer, solve};
+use ygg_solver::{Answer, solve_and_count};
 
 fn main(rt: HostRuntime) -> anyhow::Result<()> {
     let alloc = rt.alloc();
@@ -31,17 +32,16 @@ fn main(rt: HostRuntime) -> anyhow::Result<()> {
         return Ok(());
     }
     let start = Instant::now(&rt)?;
-    let answer = solve(alloc, &clauses, budget)?;
+    let (answer, work) = solve_and_count(alloc, &clauses, budget)?;
     let time = start.elapsed(&rt)?;
-    let (kind, learned) = match answer {
-        Answer::Sat(_assignment) => ("SATISFIABLE", None),
-        Answer::Unsat(log) => ("UNSATISFIABLE", Some(log.len())),
-        Answer::Spent(log) => ("UNKNOWN", Some(log.len())),
+    let kind = match answer {
+        Answer::Sat(_assignment) => "SATISFIABLE",
+        Answer::Unsat(_log) => "UNSATISFIABLE",
+        Answer::Spent(_log) => "UNKNOWN",
     };
     println!(rt; "s {kind}")?;
-    if let Some(count) = learned {
-        eprintln!(rt; "{count} learned")?;
-    }
+    eprintln!(rt; "{} learned", work.conflicts)?;
+    eprintln!(rt; "{} values", work.values)?;
     eprintln!(rt; "{} ns", time.as_nanos())?;
     Ok(())
 }

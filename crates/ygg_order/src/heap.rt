@@ -1,6 +1,15 @@
 use std::alloc::Global;
 use ygg_list::NoMemory;
 
+/// How much a search has done.
+#[derive(Clone, Copy, Debug, PartialEq, Eq)]
+pub struct Work {
+    /// Clauses that were found false, and learned from.
+    pub conflicts: u64,
+    /// Values that variables had and lost again.
+    pub values: u64,
+}
+
 /// Variables by activity, the most active first, with the value that each had last. Activity is that of the solver Chaff with
 /// the decay of MiniSat: what is added grows with time, so that later conflicts weigh more.
 #[derive(Drop)]
@@ -15,6 +24,7 @@ pub struct Order {
     phases: Vec<bool>,
     /// What the next conflict adds to an activity.
     step: u64,
+    work: Work,
 }
 
 impl Order {
@@ -34,6 +44,10 @@ impl Order {
             places,
             phases,
             step: 1 << 20,
+            work: Work {
+                conflicts: 0,
+                values: 0,
+            },
         })
     }
 
@@ -42,8 +56,19 @@ impl Order {
         read_bool(self.phases.as_slice(), var)
     }
 
-    /// Keeps the value of a variable.
+    /// How much was done so far.
+    pub fn work(&self) -> Work {
+        self.work
+    }
+
+    /// Keeps the value of a variable that loses it.
     pub fn keep_phase(&mut self, var: usize, value: bool) {
+        self.work.values = self.work.values.saturating_add(1);
+        self.lean(var, value);
+    }
+
+    /// Says which value a variable is to have first.
+    pub fn lean(&mut self, var: usize, value: bool) {
         if let Some(phase) = self.phases.get_mut(var) {
             *phase = value;
         }
@@ -67,8 +92,9 @@ impl Order {
         }
     }
 
-    /// Makes what comes later weigh more.
+    /// Makes what comes after a conflict weigh more.
     pub fn decay(&mut self) {
+        self.work.conflicts = self.work.conflicts.saturating_add(1);
         self.step = self.step.saturating_add(self.step / 19);
         if self.step >= 1 << 58 {
             self.scale();

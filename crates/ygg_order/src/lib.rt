@@ -2,7 +2,9 @@
 #![tactic(auto)]
 
 mod heap;
+mod leaning;
 mod restarts;
 
-pub use heap::Order;
+pub use heap::{Order, Work};
+pub use leaning::Leaning;
 pub use restarts::Restarts;

@@ -8,4 +8,5 @@ mod search;
 mod solving;
 
 pub use answer::Answer;
-pub use solving::solve;
+pub use solving::{solve, solve_and_count};
+pub use ygg_order::Work;

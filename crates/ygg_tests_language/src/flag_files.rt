@@ -1,11 +1,6 @@
-use crate::text::tokens_of;
+use crate::text::{FLAG, tokens_of};
 use std::test::Fail;
 use ygg_read::{Unread, built, names_fit, read};
-
-/// The smallest file that keeps its argument on the disk.
-const FLAG: &[u8] =
-    b"yggdrasil 1; disk sync 1 of 1 of 1; layer flag { state f : word 1; op set(v : word 1) spec { f = v; }
-    impl { call write(0:8, row(v)); } relate (low.view[0:8][0:1] == f); }";
 
 #[test]
 fn the_flag_is_read(rt: HostRuntime) -> Result<(), Fail> {
@@ -19,7 +14,7 @@ fn the_flag_is_read(rt: HostRuntime) -> Result<(), Fail> {
 
 #[test]
 fn what_is_cut_off_is_refused(rt: HostRuntime) -> Result<(), Fail> {
-    let tokens = tokens_of(rt.alloc(), &FLAG[..FLAG.len() - 1])?;
+    let tokens = tokens_of(rt.alloc(), &FLAG[..FLAG.len() - 2])?;
     let outcome = built(rt.alloc(), tokens.items.as_slice());
     assert_eq!(rt; outcome.err(), Some(Unread::NotBuilt));
     Ok(())

@@ -1,4 +1,4 @@
-use crate::text::tokens_of;
+use crate::text::{FLAG, tokens_of};
 use std::alloc::Global;
 use std::test::Fail;
 use ygg_base::{Duplicate, Text};
@@ -13,9 +13,6 @@ fn laid_out(alloc: Global, text: &[u8]) -> Result<Text, Fail> {
     }
     Ok(lay_out(alloc, marks.as_slice())?)
 }
-
-const FLAG: &[u8] =
-    b"yggdrasil 1;\ndisk sync 1 of 1 of 1;\nlayer flag {\n  state f : word 1;\n  op set(v : word 1) spec {\n    f = v;\n  } impl {\n    call write(0:8, row(v));\n  }\n  relate (low.view[0:8][0:1] == f);\n}\n";
 
 #[test]
 fn tokens_are_laid_out(rt: HostRuntime) -> Result<(), Fail> {

@@ -1,33 +1,24 @@
-use sqlite_items::Items;
-use std::alloc::Global;
+use crate::text::{FLAG, file_of};
 use std::test::Fail;
 use ygg_same::same_tree;
-use ygg_syntax::tree::{DiskKind, DiskText, File, Numeral, Place};
 
-/// A file without layers, whose disk is written in this line.
-fn file(alloc: Global, kind: DiskKind, line: u32) -> File {
-    let one = Numeral {
-        value: 1,
-        place: Place { line, column: 1 },
-    };
-    File {
-        disk: DiskText {
-            kind,
-            rows: one,
-            words: one,
-            width: one,
-        },
-        defs: Items::new(alloc),
-        layers: Items::new(alloc),
-    }
-}
+/// The flag on one line, with a block that is left out where it is empty.
+const ON_ONE_LINE: &[u8] =
+    b"yggdrasil 1; disk sync 1 of 1 of 1; layer flag { state f : word 1; start { } op set(v : word 1) spec { f = v; } impl { call write(0:8, row(v)); } relate (low.view[0:8][0:1] == f); }";
+
+/// The flag with a block for a crash, on another disk, and with the operands of its relation exchanged.
+const OTHERS: [&[u8]; 3] = [
+    b"yggdrasil 1; disk sync 1 of 1 of 1; layer flag { state f : word 1; op set(v : word 1) spec { f = v; } on crash { } impl { call write(0:8, row(v)); } relate (low.view[0:8][0:1] == f); }",
+    b"yggdrasil 1; disk async 1 of 1 of 1; layer flag { state f : word 1; op set(v : word 1) spec { f = v; } impl { call write(0:8, row(v)); } relate (low.view[0:8][0:1] == f); }",
+    b"yggdrasil 1; disk sync 1 of 1 of 1; layer flag { state f : word 1; op set(v : word 1) spec { f = v; } impl { call write(0:8, row(v)); } relate (f == low.view[0:8][0:1]); }",
+];
 
 #[test]
 fn places_make_no_difference(rt: HostRuntime) -> Result<(), Fail> {
-    let written = file(rt.alloc(), DiskKind::Sync, 1);
-    let moved = file(rt.alloc(), DiskKind::Sync, 2);
-    let other = file(rt.alloc(), DiskKind::Async, 1);
-    assert!(rt; same_tree(&written, &moved));
-    assert!(rt; !same_tree(&written, &other));
+    let flag = file_of(rt.alloc(), FLAG)?;
+    assert!(rt; same_tree(&flag, &file_of(rt.alloc(), ON_ONE_LINE)?));
+    for other in OTHERS {
+        assert!(rt; !same_tree(&flag, &file_of(rt.alloc(), other)?));
+    }
     Ok(())
 }

@@ -4,6 +4,7 @@ use std::test::Fail;
 use ygg_base::Text;
 use ygg_layout::lay_out;
 use ygg_print::marks_of;
+use ygg_same::same_tree;
 
 /// The canonical text of the file that a text is.
 fn printed(alloc: Global, text: &[u8]) -> Result<Text, Fail> {
@@ -65,6 +66,7 @@ fn files_have_one_canonical_text(rt: HostRuntime) -> Result<(), Fail> {
     ] {
         let found = printed(rt.alloc(), text)?;
         assert_eq!(rt; found.as_slice(), wanted);
+        assert!(rt; same_tree(&file_of(rt.alloc(), text)?, &file_of(rt.alloc(), wanted)?));
     }
     Ok(())
 }
