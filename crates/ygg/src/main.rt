@@ -9,18 +9,19 @@ use crate::outside::{FileLibrary, OutSink};
 use std::env;
 use std::io::ErrorKind;
 use std::process::ExitCode;
-use ygg_base::{Status, Text, status_number};
+use ygg_base::{NoMemory, Status, Text, status_number};
+use ygg_rules::{Rule, RuleBook, RuleKind, add_zero, and_ones, and_zero, eq_self, fold, or_zero, pick_same};
 use ygg_top::ygg;
 
 /// The words after the program's name. Words that aren't text are as good as none: the command line is then
 /// refused as an unknown command.
-fn words_of(rt: &HostRuntime) -> Result<Vec<Text>, Status> {
+fn words_of(rt: &HostRuntime) -> Result<Vec<Text>, NoMemory> {
     let mut words = Vec::new(rt.alloc());
     let all = match env::args(rt) {
         Ok(all) => all,
         Err(error) => {
             if error.kind() == ErrorKind::OutOfMemory {
-                return Err(Status::NoMemory);
+                return Err(NoMemory);
             }
             return Ok(words);
         }
@@ -28,21 +29,37 @@ fn words_of(rt: &HostRuntime) -> Result<Vec<Text>, Status> {
     let mut is_name = true;
     for word in all {
         if !is_name {
-            let text = Text::from_slice(rt.alloc(), word.as_bytes()).map_err(|_| Status::NoMemory)?;
-            words.push(text).map_err(|_| Status::NoMemory)?;
+            let text = Text::from_slice(rt.alloc(), word.as_bytes())?;
+            words.push(text)?;
         }
         is_name = false;
     }
     Ok(words)
 }
 
-fn main(rt: HostRuntime) -> ExitCode {
-    let words = match words_of(&rt) {
-        Ok(words) => words,
-        Err(status) => return ExitCode::from(status_number(status)),
-    };
-    let mut library = FileLibrary::new(&rt);
+/// Runs the command that the words name, over the system's files and standard output, under all seven rules. Its only error is want
+/// of memory for the words and the rules.
+fn run(rt: &HostRuntime) -> Result<Status, NoMemory> {
+    let alloc = rt.alloc();
+    let words = words_of(rt)?;
+    let mut rules = Vec::new(alloc);
+    rules.push(Rule::new(RuleKind::Fold, Box::new(alloc, fold)?))?;
+    rules.push(Rule::new(RuleKind::AndOnes, Box::new(alloc, and_ones)?))?;
+    rules.push(Rule::new(RuleKind::AndZero, Box::new(alloc, and_zero)?))?;
+    rules.push(Rule::new(RuleKind::OrZero, Box::new(alloc, or_zero)?))?;
+    rules.push(Rule::new(RuleKind::AddZero, Box::new(alloc, add_zero)?))?;
+    rules.push(Rule::new(RuleKind::EqSelf, Box::new(alloc, eq_self)?))?;
+    rules.push(Rule::new(RuleKind::PickSame, Box::new(alloc, pick_same)?))?;
+    let rules = RuleBook::new(rules);
+    let mut library = FileLibrary::new(rt);
     let mut sink = OutSink::new(rt.stdout());
-    let status = ygg(rt.alloc(), words.as_slice(), &mut library, &mut sink);
+    Ok(ygg(alloc, words.as_slice(), &rules, &mut library, &mut sink))
+}
+
+fn main(rt: HostRuntime) -> ExitCode {
+    let status = match run(&rt) {
+        Ok(status) => status,
+        Err(NoMemory) => Status::NoMemory,
+    };
     ExitCode::from(status_number(status))
 }

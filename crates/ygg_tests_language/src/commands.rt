@@ -1,6 +1,7 @@
 use std::alloc::Global;
 use std::test::Fail;
 use ygg_base::{Files, Held, NoMemory, Numbers, Shelf, Status, Text, TextSink};
+use ygg_rules::RuleBook;
 use ygg_top::ygg;
 
 /// The words as texts.
@@ -47,7 +48,8 @@ fn ended(
     let mut library = Shelf::new(alloc, files, library_fails);
     let mut sink = TextSink::new(alloc, 1000, sink_fails)?;
     let all = words_of(alloc, words)?;
-    let status = ygg(alloc, all.as_slice(), &mut library, &mut sink);
+    let rules = RuleBook::new(Vec::new(alloc));
+    let status = ygg(alloc, all.as_slice(), &rules, &mut library, &mut sink);
     Ok((status, sink))
 }
 

@@ -3,15 +3,15 @@ use Rattle.std.proofs.Common.{◌≡◌, ◌⊎◌, inl, inr, ℕ, zero, suc, �
 use Rattle.std.specs.Prelude.{codes, IfSome}
 use Rattle.ygg_base.specs.declared.failure.Refusal.{Refusal}
 use Rattle.ygg_base.specs.declared.lists.Held.{Held}
-use Rattle.ygg_base.specs.declared.outside.Fetch.TheVariants.{TooLarge}
+use Rattle.ygg_base.specs.declared.outside.Fetch.TheVariants.{Absent, TooLarge}
 use Rattle.ygg_base.specs.declared.status.Status.{Status}
 use Rattle.ygg_base.specs.declared.status.Status.TheVariants.{Done, Refuted, Refused, Undecided, Fault, NoMemory}
 use Rattle.ygg_base.specs.Outside.{bytes_of, FitsFile}
 use Rattle.ygg_syntax.specs.declared.flag.FlagFile.{FlagFile}
-use Rattle.ygg_top.specs.Refusing.{IsBuilt, RefusesFile, refusal, refused_line, most_bytes}
+use Rattle.ygg_top.specs.Refusing.{IsBuilt, RefusesUnread, refusal, refused_line, most_bytes}
 use Rattle.ygg_flag.specs.Trees.{file_of}
 use Rattle.ygg_top.specs.Verdict.{Verdict, line}
-use Rattle.ygg_top.specs.Ending.{Verifies, Stands, IsTextOf, IsVerified}
+use Rattle.ygg_top.specs.Ending.{Verifies, Prints, Stands, IsTextOf, IsUnread, IsAnswerOf}
 use Rattle.ygg_top.specs.declared.answer.Answer.{Answer}
 use Rattle.ygg_top.specs.declared.answer.Answer.TheVariants as answer
 
@@ -25,12 +25,6 @@ verdict_verifies bytes f Undecided text built verdict = absurd verdict
 verdict_verifies bytes f Fault text built verdict = absurd verdict
 verdict_verifies bytes f NoMemory text built verdict = absurd verdict
 
-refused_as : (bytes : List ℕ) (at : Refusal) (status : Status) (text : List ℕ) → RefusesFile (Some bytes) at → status ≡ Refused
-    → text ≡ refused_line at → Verifies (Some bytes) status text
-refused_as bytes at status text refuses same says =
-    let P : Status → Type 0 = λ (s : Status). Verifies (Some bytes) s text in
-    subst P (sym same) (at, refuses, says)
-
 some_longer : (n : ℕ) → (bytes : List ℕ) × (n < length bytes)
 some_longer zero = (0 ∷ [], omega arith)
 some_longer (suc n) = let shorter = some_longer n in (0 ∷ shorter.0, omega (arith, shorter.1))
@@ -38,14 +32,35 @@ some_longer (suc n) = let shorter = some_longer n in (0 ∷ shorter.0, omega (ar
 -- a library that says that a file is too large holds such a file, or may hold one
 pub too_large : (files : Option (List Held)) (name : List ℕ) (at : Refusal) (found : Answer)
     → IfSome files (λ held. FitsFile (bytes_of held name) most_bytes TooLarge) → at ≡ refusal 11 0 1 → IsTextOf Refused (refused_line at) found
-    → IsVerified files name found
+    → IsUnread files name found
 too_large files name at answer.NoMemory told same is = tt
 too_large files name at answer.LibraryFailed told same is = absurd is
-too_large None name at (answer.Ends status line) told same is =
-    let long = some_longer most_bytes in
-    (Some long.0, tt, refused_as _ at _ _ (inl (long.1, same)) is.0 is.1)
-too_large (Some held) name at (answer.Ends status line) told same is =
-    (Some told.0, sym told.1, refused_as _ at _ _ (inl (told.2, same)) is.0 is.1)
+too_large None name at (answer.Ends status line) told same is = let long = some_longer most_bytes in (Some long.0, at, tt, (long.1, same), is.0, is.1)
+too_large (Some held) name at (answer.Ends status line) told same is = (Some told.0, at, sym told.1, (told.2, same), is.0, is.1)
+
+-- nothing under a name is refused as such
+pub absent : (files : Option (List Held)) (name : List ℕ) (at : Refusal) (found : Answer)
+    → IfSome files (λ held. FitsFile (bytes_of held name) most_bytes Absent) → at ≡ refusal 73 0 1 → IsTextOf Refused (refused_line at) found
+    → IsUnread files name found
+absent files name at answer.NoMemory told same is = tt
+absent files name at answer.LibraryFailed told same is = absurd is
+absent None name at (answer.Ends status line) told same is = (None, at, tt, same, is.0, is.1)
+absent (Some held) name at (answer.Ends status line) told same is = (None, at, sym told, same, is.0, is.1)
+
+-- what is refused unread is refused whether it is to be verified or to be printed
+pub unread_verifies : (files : Option (List Held)) (name : List ℕ) (found : Answer) → IsUnread files name found → IsAnswerOf Verifies files name found
+unread_verifies files name answer.NoMemory unread = tt
+unread_verifies files name answer.LibraryFailed unread = tt
+unread_verifies files name (answer.Ends status text) unread =
+    let P : Status → Type 0 = λ (s : Status). Verifies unread.0 s text in
+    (unread.0, unread.2, subst P (sym unread.4) (unread.1, inl unread.3, unread.5))
+
+pub unread_prints : (files : Option (List Held)) (name : List ℕ) (found : Answer) → IsUnread files name found → IsAnswerOf Prints files name found
+unread_prints files name answer.NoMemory unread = tt
+unread_prints files name answer.LibraryFailed unread = tt
+unread_prints files name (answer.Ends status text) unread =
+    let P : Status → Type 0 = λ (s : Status). Prints unread.0 s text in
+    (unread.0, unread.2, subst P (sym unread.4) (unread.1, inl unread.3, unread.5))
 
 append_nil : (xs : List ℕ) → xs ++ [] ≡ xs
 append_nil [] = refl

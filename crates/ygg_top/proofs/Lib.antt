@@ -1,3 +1,5 @@
+mod Canonical
+mod Decided
 mod First
 mod Found
 mod Printing

@@ -5,19 +5,39 @@ use Rattle.ygg_base.specs.declared.lists.Held.{Held}
 use Rattle.ygg_base.specs.declared.status.Status.{Status}
 use Rattle.ygg_base.specs.declared.status.Status.TheVariants.{Done, Refuted, Refused, Undecided, Fault, NoMemory}
 use Rattle.ygg_base.specs.Outside.{bytes_of, Rose}
+use Rattle.ygg_base.specs.declared.tokens.Tokens.{Tokens}
+use Rattle.ygg_base.specs.Lexing.{tokens_of}
 use Rattle.ygg_syntax.specs.declared.flag.FlagFile.{FlagFile}
+use Rattle.ygg_syntax.specs.declared.tree.File.{File}
+use Rattle.ygg_accept.specs.Accepting.{IsAccepted}
+use Rattle.ygg_canonical.specs.Canonical.{canonical, GivesAgain}
 use Rattle.ygg_top.specs.declared.help.TheConstants.{HELP, VERSION}
 use Rattle.ygg_top.specs.declared.answer.Answer.{Answer}
 use Rattle.ygg_top.specs.declared.answer.Answer.TheVariants as answer
-use Rattle.ygg_top.specs.Words.{is_alone, file_to_verify}
+use Rattle.ygg_top.specs.Words.{is_alone, file_after}
 use Rattle.ygg_flag.specs.Trees.{file_of}
-use Rattle.ygg_top.specs.Refusing.{IsBuilt, RefusesFile, refusal, refused_line}
+use Rattle.ygg_top.specs.Refusing.{IsBuilt, RefusesVerified, RefusesPrinted, RefusesUnread, most_bytes, refusal, refused_line}
 use Rattle.ygg_top.specs.Verdict.{Verdict, line}
 
 -- `verify` of what stands under the name: it is refused, or it is built, and there is a verdict on the layer file that it is
 abbrev pub Verifies : Option (List ℕ) → Status → List ℕ → Type 0
-Verifies stored Refused text = (r : Refusal) × RefusesFile stored r × (text ≡ refused_line r)
+Verifies stored Refused text = (r : Refusal) × RefusesVerified stored r × (text ≡ refused_line r)
 Verifies stored status text = (bytes : List ℕ) × (f : FlagFile) × (stored ≡ Some bytes) × IsBuilt bytes f × Verdict (file_of f) status text
+
+-- the bytes are a layer file without a fault, and this is its canonical text: from its tokens derives that file but for places, and no other
+pub record IsPrinted (bytes text : List ℕ) : Type 0 where
+  pub small : length bytes ≤ most_bytes
+  pub tokens : Tokens
+  pub layers : File
+  pub accepted : IsAccepted bytes tokens layers
+  pub is : text ≡ canonical layers
+  pub again : GivesAgain (tokens_of text) layers
+
+-- `print` of what stands under the name: it is refused, or its canonical text is printed
+abbrev pub Prints : Option (List ℕ) → Status → List ℕ → Type 0
+Prints stored Done text = (bytes : List ℕ) × (stored ≡ Some bytes) × IsPrinted bytes text
+Prints stored Refused text = (r : Refusal) × RefusesPrinted stored r × (text ≡ refused_line r)
+Prints stored status text = ⊥
 
 -- what stands under the name in a library: the told file, or any where the library tells none
 abbrev pub Stands : Option (List Held) → List ℕ → Option (List ℕ) → Type 0
@@ -29,7 +49,9 @@ abbrev pub Ends : List (List ℕ) → Option (List Held) → Status → List ℕ
 Ends words files status text =
     MatchBool (is_alone (codes "--help") words) ((status ≡ Done) × (text ≡ HELP.now))
     (MatchBool (is_alone (codes "--version") words) ((status ≡ Done) × (text ≡ VERSION.now))
-    (MatchOption (file_to_verify words) ((status ≡ Refused) × (text ≡ refused_line (refusal 71 0 0)))
+    (MatchOption (file_after (codes "verify") words)
+    (MatchOption (file_after (codes "print") words) ((status ≡ Refused) × (text ≡ refused_line (refusal 71 0 0)))
+    (λ name. (stored : Option (List ℕ)) × Stands files name stored × Prints stored status text))
     (λ name. (stored : Option (List ℕ)) × Stands files name stored × Verifies stored status text)))
 
 -- a sink that tells its bytes has taken these besides
@@ -64,11 +86,11 @@ IsAnswer words files (answer.Ends status text) = Ends words files status text
 IsAnswer words files answer.LibraryFailed = Unit {0}
 IsAnswer words files answer.NoMemory = Unit {0}
 
--- the same for what stands under a name
-abbrev pub IsAnswerFor : Option (List ℕ) → Answer → Type 0
-IsAnswerFor stored (answer.Ends status text) = Verifies stored status text
-IsAnswerFor stored answer.LibraryFailed = ⊥
-IsAnswerFor stored answer.NoMemory = Unit {0}
+-- what a command answers for a text, where `Does` says what it does with what stands under a name
+abbrev pub IsAnswerFor : (Option (List ℕ) → Status → List ℕ → Type 0) → List ℕ → Answer → Type 0
+IsAnswerFor Does bytes (answer.Ends status text) = Does (Some bytes) status text
+IsAnswerFor Does bytes answer.LibraryFailed = ⊥
+IsAnswerFor Does bytes answer.NoMemory = Unit {0}
 
 -- a text that is put whole with its status, or cut short with a fault
 abbrev pub IsPut : Option (List ℕ) → Option (List ℕ) → List ℕ → Status → (SinkRose : Type 0) → Status → Type 0
@@ -82,8 +104,15 @@ IsTextOf status text (answer.Ends ended found) = (ended ≡ status) × (found �
 IsTextOf status text answer.LibraryFailed = ⊥
 IsTextOf status text answer.NoMemory = Unit {0}
 
--- the answer of `verify` for a name
-abbrev pub IsVerified : Option (List Held) → List ℕ → Answer → Type 0
-IsVerified files name (answer.Ends status text) = (stored : Option (List ℕ)) × Stands files name stored × Verifies stored status text
-IsVerified files name answer.LibraryFailed = Unit {0}
-IsVerified files name answer.NoMemory = Unit {0}
+-- what a command answers for a name, where `Does` says what it does with what stands under it
+abbrev pub IsAnswerOf : (Option (List ℕ) → Status → List ℕ → Type 0) → Option (List Held) → List ℕ → Answer → Type 0
+IsAnswerOf Does files name (answer.Ends status text) = (stored : Option (List ℕ)) × Stands files name stored × Does stored status text
+IsAnswerOf Does files name answer.LibraryFailed = Unit {0}
+IsAnswerOf Does files name answer.NoMemory = Unit {0}
+
+-- the answer where no text was fetched: a refusal of what stands under the name before its bytes are looked at
+abbrev pub IsUnread : Option (List Held) → List ℕ → Answer → Type 0
+IsUnread files name (answer.Ends status text) =
+    (stored : Option (List ℕ)) × (r : Refusal) × Stands files name stored × RefusesUnread stored r × (status ≡ Refused) × (text ≡ refused_line r)
+IsUnread files name answer.LibraryFailed = Unit {0}
+IsUnread files name answer.NoMemory = Unit {0}

@@ -1,15 +1,14 @@
 -- Which files are built, and the one refusal of each other file.
-use Rattle.std.specs.Prelude.{◌≡◌, ◌⊎◌, ℕ, ◌≤◌, ◌<◌, List, [], ◌∷◌, ◌++◌, length, codes, Option, Some, None, Ok, Err}
+use Rattle.std.specs.Prelude.{◌≡◌, ◌⊎◌, ℕ, ◌≤◌, ◌<◌, List, [], ◌∷◌, ◌++◌, length, codes, Option, Some, None}
 use Rattle.std.specs.Fmt.{decimal}
 use Rattle.ygg_base.specs.declared.failure.Refusal.{Refusal}
+use Rattle.ygg_base.specs.declared.token.Token.{Token}
 use Rattle.ygg_base.specs.declared.tokens.Tokens.{Tokens}
-use Rattle.ygg_base.specs.Lexing.{tokens_of}
 use Rattle.ygg_syntax.specs.declared.flag.FlagFile.{FlagFile}
 use Rattle.ygg_syntax.specs.declared.tree.File.{File}
-use Rattle.ygg_syntax.specs.Files as Files
 use Rattle.ygg_syntax.specs.FlagGrammar.{Derives}
 use Rattle.ygg_syntax.specs.FlagNames.{FitsNames}
-use Rattle.ygg_file.specs.Refused.{IsRefusal}
+use Rattle.ygg_accept.specs.Accepting.{IsAccepted, RefusesLayers}
 use Rattle.ygg_top.specs.Verdict.{line}
 
 -- the most bytes of a layer file
@@ -20,37 +19,57 @@ most_bytes = 1048576
 abbrev pub most_tokens : ℕ
 most_tokens = 4096
 
--- the bytes are a layer file, which is a flag file whose names fit
+-- the tokens are a flag file whose names fit
+pub record IsFlag (tokens : List Token) (f : FlagFile) : Type 0 where
+  pub few : length tokens ≤ most_tokens
+  pub derives : Derives f tokens
+  pub fits : FitsNames f
+
+-- the bytes are a layer file without a fault, which is a flag file
 pub record IsBuilt (bytes : List ℕ) (f : FlagFile) : Type 0 where
   pub small : length bytes ≤ most_bytes
   pub tokens : Tokens
-  pub spells : tokens_of bytes ≡ Ok tokens
   pub layers : File
-  pub reads : Files.Derives tokens.items layers
-  pub few : length tokens.items ≤ most_tokens
-  pub derives : Derives f tokens.items
-  pub fits : FitsNames f
+  pub accepted : IsAccepted bytes tokens layers
+  pub flag : IsFlag tokens.items f
 
 -- a refusal of this number at this line and column
 abbrev pub refusal : ℕ → ℕ → ℕ → Refusal
 refusal number line column = record { number = number; line = line; column = column }
 
--- a layer file derives from the tokens, and it isn't built so far
-pub record IsUnbuilt (bytes : List ℕ) (tokens : Tokens) (r : Refusal) : Type 0 where
-  pub layers : File
-  pub reads : Files.Derives tokens.items layers
-  pub unbuilt : (f : FlagFile) → IsBuilt bytes f → ⊥
+-- the refusal of tokens that are no flag file
+pub record IsNoFlag (tokens : List Token) (r : Refusal) : Type 0 where
+  pub unbuilt : (f : FlagFile) → IsFlag tokens f → ⊥
   pub at : r ≡ refusal 12 0 1
 
--- the refusal of a text: at a byte that begins no token, at a token that can't come, or of a layer file that isn't built so far
-abbrev pub RefusesText : List ℕ → Refusal → Type 0
-RefusesText bytes r =
-    (tokens_of bytes ≡ Err r) ⊎ ((tokens : Tokens) × (tokens_of bytes ≡ Ok tokens) × (IsRefusal tokens r ⊎ IsUnbuilt bytes tokens r))
+-- the bytes are a layer file without a fault, which isn't built so far
+pub record IsUnbuilt (bytes : List ℕ) (r : Refusal) : Type 0 where
+  pub tokens : Tokens
+  pub layers : File
+  pub accepted : IsAccepted bytes tokens layers
+  pub refused : IsNoFlag tokens.items r
 
--- the refusal of what stands under the name of the second word: nothing, too many bytes, or a text
-abbrev pub RefusesFile : Option (List ℕ) → Refusal → Type 0
-RefusesFile None r = r ≡ refusal 73 0 1
-RefusesFile (Some bytes) r = ((most_bytes < length bytes) × (r ≡ refusal 11 0 1)) ⊎ ((length bytes ≤ most_bytes) × RefusesText bytes r)
+-- a refusal of what stands under a name before its bytes are looked at: nothing stands there, or too many bytes
+abbrev pub RefusesUnread : Option (List ℕ) → Refusal → Type 0
+RefusesUnread None r = r ≡ refusal 73 0 1
+RefusesUnread (Some bytes) r = (most_bytes < length bytes) × (r ≡ refusal 11 0 1)
+
+-- a refusal of the bytes that stand under a name
+abbrev pub RefusesRead : (List ℕ → Refusal → Type 0) → Option (List ℕ) → Refusal → Type 0
+RefusesRead Refuses None r = ⊥
+RefusesRead Refuses (Some bytes) r = (length bytes ≤ most_bytes) × Refuses bytes r
+
+-- the refusal of a text that is to be verified: that of a layer file, or of one that isn't built so far
+abbrev pub RefusesText : List ℕ → Refusal → Type 0
+RefusesText bytes r = RefusesLayers bytes r ⊎ IsUnbuilt bytes r
+
+-- the refusal of a file that is to be verified
+abbrev pub RefusesVerified : Option (List ℕ) → Refusal → Type 0
+RefusesVerified stored r = RefusesUnread stored r ⊎ RefusesRead RefusesText stored r
+
+-- the refusal of a file that is to be printed
+abbrev pub RefusesPrinted : Option (List ℕ) → Refusal → Type 0
+RefusesPrinted stored r = RefusesUnread stored r ⊎ RefusesRead RefusesLayers stored r
 
 -- the line that a refusal prints
 abbrev pub refused_line : Refusal → List ℕ

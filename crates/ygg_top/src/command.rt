@@ -1,25 +1,28 @@
-ghost use Rattle.std.specs.Prelude.{◌≡◌, ◌≤◌, length, Some};
+ghost use Rattle.std.specs.Prelude.{◌≡◌, ◌≤◌, length, Some, Err, IfOk, IfErr};
 ghost use Rattle.ygg_base.specs.Outside.{Rose};
 ghost use Rattle.ygg_top.specs.Refusing.{most_bytes, refused_line as refusal_bytes};
-ghost use Rattle.ygg_top.specs.Ending.{Reports, IsPut, IsAnswer, IsAnswerFor, IsTextOf, IsVerified};
+ghost use Rattle.ygg_top.specs.Ending.{Reports, IsPut, IsAnswer, IsAnswerFor, IsAnswerOf, IsTextOf, IsUnread, Prints, Stands, Verifies};
 
 use crate::answer::Answer;
-use crate::file::file_of;
+use crate::file::{file_of, printed};
 use crate::help::{HELP, VERSION};
 use crate::line::{refusal, refused_line};
 use crate::verdict::verdict;
-use crate::words::{file_to_verify, is_alone};
+use crate::words::{file_after, is_alone};
 use std::alloc::Global;
 use ygg_base::{Fetch, Library, Moved, Refusal, Refuse, Sink, Status, Text};
+use ygg_rules::RuleBook;
 
 /// The most bytes of a layer file.
 const MOST_BYTES: u64 = 1_048_576;
 
-/// Runs the command that the words name, and ends with its status: `verify FILE`, and alone `--help` or
-/// `--version`. Other words are refused 71 at `0:0`. Nothing is printed before all is decided.
+/// Runs the command that the words name, and ends with its status: `verify FILE`, `print FILE`, and alone `--help` or
+/// `--version`. Other words are refused 71 at `0:0`. Nothing is printed before all is decided. What is ensured holds for every
+/// book of rules: they only make terms smaller.
 pub fn ygg<L: Library, K: Sink>(
     alloc: Global,
     words: &[Text],
+    rules: &RuleBook,
     library: &mut L,
     sink: &mut K,
 ) -> Status
@@ -28,7 +31,7 @@ pub fn ygg<L: Library, K: Sink>(
     ensures later_library { L.faults library.old ≤ L.faults library.new }
     ensures later_sink { K.faults sink.old ≤ K.faults sink.new }
 {
-    match answer(alloc, words, library) {
+    match answer(alloc, words, rules, library) {
         Answer::Ends(status, text) => put(sink, text.as_slice(), status),
         Answer::LibraryFailed => put(sink, b"fault library\n", Status::Fault),
         Answer::NoMemory => Status::NoMemory,
@@ -47,7 +50,12 @@ fn put<K: Sink>(sink: &mut K, text: &[u8], status: Status) -> Status
 }
 
 /// What the words ask for, over the library.
-fn answer<L: Library>(alloc: Global, words: &[Text], library: &mut L) -> Answer
+fn answer<L: Library>(
+    alloc: Global,
+    words: &[Text],
+    rules: &RuleBook,
+    library: &mut L,
+) -> Answer
     ensures told { IsAnswer words.now (L.files library.old) result }
     ensures cause { result ≡ Answer.LibraryFailed → Rose (L.faults library.old) (L.faults library.new) }
     ensures kept { L.files library.new ≡ L.files library.old }
@@ -59,10 +67,13 @@ fn answer<L: Library>(alloc: Global, words: &[Text], library: &mut L) -> Answer
     if is_alone(words, b"--version") {
         return done(alloc, VERSION);
     }
-    match file_to_verify(words) {
-        Some(name) => verify(alloc, name, library),
-        None => refused(alloc, refusal(71, 0, 0)),
+    if let Some(name) = file_after(words, b"verify") {
+        return verify(alloc, name, rules, library);
     }
+    if let Some(name) = file_after(words, b"print") {
+        return print(alloc, name, library);
+    }
+    refused(alloc, refusal(71, 0, 0))
 }
 
 /// A text that is printed as it is.
@@ -85,32 +96,76 @@ fn refused(alloc: Global, at: Refusal) -> Answer
     }
 }
 
-/// Fetches the file of that name and verifies it.
-fn verify<L: Library>(alloc: Global, name: &Text, library: &mut L) -> Answer
-    ensures told { IsVerified (L.files library.old) name.now result }
-    ensures cause { result ≡ Answer.LibraryFailed → Rose (L.faults library.old) (L.faults library.new) }
+/// The text that stands under the name, or the answer where none is fetched.
+fn fetched<L: Library>(alloc: Global, name: &Text, library: &mut L) -> Result<Text, Answer>
+    ensures found { IfOk result (λ text. (length text ≤ most_bytes) × Stands (L.files library.old) name.now (Some text)) }
+    ensures unread { IfErr result (IsUnread (L.files library.old) name.now) }
+    ensures cause { result ≡ Err Answer.LibraryFailed → Rose (L.faults library.old) (L.faults library.new) }
     ensures kept { L.files library.new ≡ L.files library.old }
     ensures later { L.faults library.old ≤ L.faults library.new }
 {
     match library.fetch(name, MOST_BYTES) {
-        Fetch::Found(text) => verify_text(alloc, text.as_slice()),
-        Fetch::Absent => refused(alloc, refusal(73, 0, 1)),
-        Fetch::TooLarge => refused(alloc, refusal(11, 0, 1)),
-        Fetch::Failed => Answer::LibraryFailed,
-        Fetch::Memory => Answer::NoMemory,
+        Fetch::Found(text) => Ok(text),
+        Fetch::Absent => Err(refused(alloc, refusal(73, 0, 1))),
+        Fetch::TooLarge => Err(refused(alloc, refusal(11, 0, 1))),
+        Fetch::Failed => Err(Answer::LibraryFailed),
+        Fetch::Memory => Err(Answer::NoMemory),
+    }
+}
+
+/// Fetches the file of that name and verifies it.
+fn verify<L: Library>(
+    alloc: Global,
+    name: &Text,
+    rules: &RuleBook,
+    library: &mut L,
+) -> Answer
+    ensures told { IsAnswerOf Verifies (L.files library.old) name.now result }
+    ensures cause { result ≡ Answer.LibraryFailed → Rose (L.faults library.old) (L.faults library.new) }
+    ensures kept { L.files library.new ≡ L.files library.old }
+    ensures later { L.faults library.old ≤ L.faults library.new }
+{
+    match fetched(alloc, name, library) {
+        Ok(text) => verify_text(alloc, rules, text.as_slice()),
+        Err(answer) => answer,
+    }
+}
+
+/// Fetches the file of that name and prints it in its canonical text.
+fn print<L: Library>(alloc: Global, name: &Text, library: &mut L) -> Answer
+    ensures told { IsAnswerOf Prints (L.files library.old) name.now result }
+    ensures cause { result ≡ Answer.LibraryFailed → Rose (L.faults library.old) (L.faults library.new) }
+    ensures kept { L.files library.new ≡ L.files library.old }
+    ensures later { L.faults library.old ≤ L.faults library.new }
+{
+    match fetched(alloc, name, library) {
+        Ok(text) => print_text(alloc, text.as_slice()),
+        Err(answer) => answer,
     }
 }
 
 /// Verifies a layer file's text.
-fn verify_text(alloc: Global, text: &[u8]) -> Answer
+fn verify_text(alloc: Global, rules: &RuleBook, text: &[u8]) -> Answer
     requires { length text.now ≤ most_bytes }
-    ensures { IsAnswerFor (Some text.now) result }
+    ensures { IsAnswerFor Verifies text.now result }
 {
     match file_of(alloc, text) {
-        Ok(file) => match verdict(alloc, &file) {
+        Ok(file) => match verdict(alloc, rules, &file) {
             Ok((status, line)) => Answer::Ends(status, line),
             Err(_) => Answer::NoMemory,
         },
+        Err(Refuse::At(at)) => refused(alloc, at),
+        Err(Refuse::Memory) => Answer::NoMemory,
+    }
+}
+
+/// Prints a layer file's text in its canonical form.
+fn print_text(alloc: Global, text: &[u8]) -> Answer
+    requires { length text.now ≤ most_bytes }
+    ensures { IsAnswerFor Prints text.now result }
+{
+    match printed(alloc, text) {
+        Ok(canonical) => Answer::Ends(Status::Done, canonical),
         Err(Refuse::At(at)) => refused(alloc, at),
         Err(Refuse::Memory) => Answer::NoMemory,
     }

@@ -1,15 +1,15 @@
 ghost use Rattle.std.specs.Prelude.{◌≡◌, ◌≤◌, length, IfOk, IfErr, Some};
 ghost use Rattle.ygg_base.specs.Failure.{IfRefused};
-ghost use Rattle.ygg_syntax.specs.declared.tree.File.{File as LayerFile};
-ghost use Rattle.ygg_syntax.specs.Files.{Derives};
-ghost use Rattle.ygg_file.specs.Refused.{IsRefusal};
-ghost use Rattle.ygg_top.specs.Refusing.{IsBuilt, RefusesFile, most_bytes, refusal as refusal_at};
+ghost use Rattle.ygg_accept.specs.Accepting.{RefusesLayers};
+ghost use Rattle.ygg_top.specs.Ending.{IsPrinted};
+ghost use Rattle.ygg_top.specs.Refusing.{IsBuilt, IsFlag, IsNoFlag, RefusesText, most_bytes, refusal as refusal_at};
 
 use crate::line::refusal;
 use std::alloc::Global;
-use ygg_base::{Refusal, Refuse, Tokens};
-use ygg_file::read;
-use ygg_lex::tokens;
+use ygg_accept::accept;
+use ygg_base::{Refusal, Refuse, Text, Token};
+use ygg_canonical::print;
+use ygg_layout::tokens_are_marks;
 use ygg_read::{Unread, built};
 use ygg_syntax::flag::FlagFile;
 
@@ -23,37 +23,47 @@ fn not_built() -> Refusal
     refusal(12, 0, 1)
 }
 
-/// Whether a layer file derives from the tokens. Where none does they are refused 3 at the first token that can't come.
-fn derives(alloc: Global, tokens: &Tokens) -> Result<(), Refuse>
-    ensures derives { IfOk result (λ _. (layers : LayerFile) × Derives tokens.now.items layers) }
-    ensures refused { IfErr result (λ refuse. IfRefused refuse (IsRefusal tokens.now)) }
+/// The flag file that the tokens are, where they are one. Else they are refused 12 at `0:1`.
+fn flag_of(alloc: Global, tokens: &[Token]) -> Result<FlagFile, Refuse>
+    ensures found { IfOk result (λ f. IsFlag tokens.now f) }
+    ensures refused { IfErr result (λ refuse. IfRefused refuse (IsNoFlag tokens.now)) }
 {
-    match read(alloc, tokens) {
-        Ok(_) => Ok(()),
+    if tokens.len() > MOST_TOKENS {
+        return Err(Refuse::At(not_built()));
+    }
+    match built(alloc, tokens) {
+        Ok(file) => Ok(file),
+        Err(Unread::NotBuilt) => Err(Refuse::At(not_built())),
+        Err(Unread::Memory) => Err(Refuse::Memory),
+    }
+}
+
+/// The flag file that the bytes are, where they are one. Else the text is refused: 1 to 10 where it is no layer file without a
+/// fault, and 12 where it is one that isn't built so far.
+pub fn file_of(alloc: Global, text: &[u8]) -> Result<FlagFile, Refuse>
+    requires { length text.now ≤ most_bytes }
+    ensures found { IfOk result (λ f. IsBuilt text.now f) }
+    ensures refused { IfErr result (λ refuse. IfRefused refuse (RefusesText text.now)) }
+{
+    match accept(alloc, text) {
+        Ok(accepted) => flag_of(alloc, accepted.tokens.as_slice()),
         Err(refuse) => Err(refuse),
     }
 }
 
-/// The flag file that the bytes are, where they are one. Else the text is refused: 1 or 2 where its tokens are, 3 where no
-/// layer file derives from them, and 12 where the layer file isn't built so far.
-pub fn file_of(alloc: Global, text: &[u8]) -> Result<FlagFile, Refuse>
+/// The canonical text of the layer file that the bytes are. They are refused 1 to 10 where they are no layer file without a fault.
+pub fn printed(alloc: Global, text: &[u8]) -> Result<Text, Refuse>
     requires { length text.now ≤ most_bytes }
-    ensures found { IfOk result (λ f. IsBuilt text.now f) }
-    ensures refused { IfErr result (λ refuse. IfRefused refuse (RefusesFile (Some text.now))) }
+    ensures printed { IfOk result (λ canonical. IsPrinted text.now canonical) }
+    ensures refused { IfErr result (λ refuse. IfRefused refuse (RefusesLayers text.now)) }
 {
-    let found = match tokens(alloc, text) {
-        Ok(found) => found,
+    let accepted = match accept(alloc, text) {
+        Ok(accepted) => accepted,
         Err(refuse) => return Err(refuse),
     };
-    if let Err(refuse) = derives(alloc, &found) {
-        return Err(refuse);
-    }
-    if found.len() > MOST_TOKENS {
-        return Err(Refuse::At(not_built()));
-    }
-    match built(alloc, found.as_slice()) {
-        Ok(file) => Ok(file),
-        Err(Unread::NotBuilt) => Err(Refuse::At(not_built())),
-        Err(Unread::Memory) => Err(Refuse::Memory),
+    tokens_are_marks();
+    match print(alloc, accepted.typed.file()) {
+        Ok(canonical) => Ok(canonical),
+        Err(_) => Err(Refuse::Memory),
     }
 }

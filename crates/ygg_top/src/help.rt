@@ -6,12 +6,14 @@ pub const HELP: &[u8] = b"\
 ygg verifies storage software that must survive power failure.
 
   ygg verify FILE   decides every proof obligation of the layer file FILE
+  ygg print FILE    prints FILE in its one canonical text
   ygg --help        prints this text
   ygg --version     prints the version
 
-How verify ends, and the line that it prints:
+How commands end, and the line that they print:
 
   0  verified N                   all N obligations hold
+  0  (the canonical text)         print
   1  refuted NAME                 the first obligation that fails
   2  refused NUMBER LINE:COLUMN   the words or the file are refused there
   4  fault library                the file could not be read

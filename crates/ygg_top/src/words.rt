@@ -1,6 +1,6 @@
 ghost use Rattle.std.specs.Prelude.{◌≡◌, Option};
 ghost use Rattle.std.specs.Option.{option_copied};
-ghost use Rattle.ygg_top.specs.Words.{is_alone as alone, file_to_verify as file_named};
+ghost use Rattle.ygg_top.specs.Words.{is_alone as alone, file_after as file_named};
 
 use ygg_base::Text;
 
@@ -14,13 +14,13 @@ pub fn is_alone(words: &[Text], word: &[u8]) -> bool
     }
 }
 
-/// The file that the words ask to verify, where they do.
-pub fn file_to_verify(words: &[Text]) -> Option<&Text>
-    ensures { option_copied result ≡ file_named words.now }
+/// The file that stands alone after this word, where one does.
+pub fn file_after<'a>(words: &'a [Text], word: &[u8]) -> Option<&'a Text>
+    ensures { option_copied result ≡ file_named word.now words.now }
 {
     match words {
         [command, file] => {
-            if command.as_slice() == b"verify".as_slice() {
+            if command.as_slice() == word {
                 Some(file)
             } else {
                 None

@@ -1,7 +1,5 @@
-use Rattle.ygg_top.proofs.Found.{too_large}
+use Rattle.ygg_top.proofs.Found.{unread_verifies}
 use Rattle.ygg_top.proofs.command.verify.Goals as goal
 
-pub returns-in-TooLarge-clause-told : goal.returns-in-TooLarge-clause-told
-returns-in-TooLarge-clause-told g c =
-    too_large (g.L.Library.files c.args.library.now) c.args.name.now _ c.refused-in-TooLarge.result c.in-TooLarge.ensures.told
-    c.refusal-in-TooLarge.ensures c.refused-in-TooLarge.ensures
+pub returns-in-Err-clause-told : goal.returns-in-Err-clause-told
+returns-in-Err-clause-told g c = unread_verifies (g.L.Library.files c.args.library.now) c.args.name.now c.in-Err.answer c.in-Err.ensures.unread
