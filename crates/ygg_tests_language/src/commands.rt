@@ -1,3 +1,4 @@
+use crate::text::{FLAG, ON_ONE_LINE};
 use std::alloc::Global;
 use std::test::Fail;
 use ygg_base::{Files, Held, NoMemory, Numbers, Shelf, Status, Text, TextSink};
@@ -184,5 +185,22 @@ fn answers_words_and_faults(rt: HostRuntime) -> Result<(), Fail> {
         assert!(rt; found == status);
         assert_eq!(rt; sink.bytes(), printed);
     }
+    Ok(())
+}
+
+#[test]
+fn prints_files(rt: HostRuntime) -> Result<(), Fail> {
+    let alloc = rt.alloc();
+    let bytes = Text::from_slice(alloc, ON_ONE_LINE)?;
+    let none = Numbers::new(alloc);
+    let (found, sink) = ended(
+        alloc,
+        &[b"print", b"flag.ygg"],
+        bytes,
+        none,
+        Numbers::new(alloc),
+    )?;
+    assert!(rt; found == Status::Done);
+    assert_eq!(rt; sink.bytes(), FLAG);
     Ok(())
 }

@@ -1,10 +1,6 @@
-use crate::text::{FLAG, file_of};
+use crate::text::{FLAG, ON_ONE_LINE, file_of};
 use std::test::Fail;
 use ygg_same::same_tree;
-
-/// The flag on one line, with a block that is left out where it is empty.
-const ON_ONE_LINE: &[u8] =
-    b"yggdrasil 1; disk sync 1 of 1 of 1; layer flag { state f : word 1; start { } op set(v : word 1) spec { f = v; } impl { call write(0:8, row(v)); } relate (low.view[0:8][0:1] == f); }";
 
 /// The flag with a block for a crash, on another disk, and with the operands of its relation exchanged.
 const OTHERS: [&[u8]; 3] = [
