@@ -4,13 +4,13 @@ ghost use Rattle.ygg_disk.specs.Disk.{Write};
 ghost use Rattle.ygg_disk.specs.Size.{table_shape, row_shape, zeros_of, IsRowOf};
 ghost use Rattle.ygg_pending.specs.Marked.{marked_flushed, marked_lost, marked_loses, marked_falls};
 
-use crate::waiting::{Waiting, apply_all, apply_kept, read_through};
+use crate::waiting::{Waiting, apply_all, apply_kept, read_through, room_for, wait};
 use std::alloc::Global;
 use std::marker::Model;
 use ygg_disk::rows::zero_table;
 use ygg_disk::{Fate, Ground, Power, Turn};
 use ygg_geometry::{DiskKind, Geometry};
-use ygg_list::{Duplicate, NoMemory};
+use ygg_list::NoMemory;
 use ygg_value::{Row, Table, Value, Word, table_write};
 
 /// A disk with a write-back cache in memory, which contracts see as its stable rows and its pending writes with their marks.
@@ -105,15 +105,15 @@ impl Ground for PendingDisk {
 
     fn write(&mut self, at: Word, row: &Row, power: &mut Power) -> Result<Turn, NoMemory> {
         let kept = power.picks.peek();
-        let write = Waiting {
-            at,
-            row: row.duplicate(self.alloc)?,
-            kept,
-        };
-        self.waiting.reserve(1)?;
+        let copy = room_for(self.alloc, &mut self.waiting, row)?;
         match power.begin_write(self.alloc, at, row, true)? {
             Fate::Whole => {
-                self.waiting.push(write).unwrap();
+                let write = Waiting {
+                    at,
+                    row: copy,
+                    kept,
+                };
+                wait(&mut self.waiting, write);
                 Ok(Turn::Done)
             }
             Fate::Within => {

@@ -1,11 +1,11 @@
-ghost use Rattle.std.specs.Prelude.{◌≡◌, All, map, IfOk, IfSome};
+ghost use Rattle.std.specs.Prelude.{◌≡◌, ◌<◌, [], ◌∷◌, ◌++◌, All, map, IfOk, OnOk, IfSome, vec_len, vec_capacity};
 ghost use Rattle.std.specs.Option.{option_copied};
 ghost use Rattle.ygg_value.specs.Values.{table_read};
 ghost use Rattle.ygg_disk.specs.Pending.{applied};
 ghost use Rattle.ygg_disk.specs.Size.{HasSize};
 ghost use Rattle.ygg_pending.specs.Marked.{kept_of};
 ghost use Rattle.ygg_pending.specs.Rows.{IsDiskRow};
-ghost use Rattle.ygg_pending.specs.Waiting.{marked, newest_at, SeenThrough};
+ghost use Rattle.ygg_pending.specs.Waiting.{mark_of, marked, newest_at, SeenThrough};
 
 use std::alloc::Global;
 use ygg_disk::rows::read_row;
@@ -66,6 +66,26 @@ pub fn read_through(
         Some(row) => row.duplicate(alloc),
         None => read_row(alloc, geometry, stable, at),
     }
+}
+
+/// A copy of a row that is to wait, and room for its write. Its only error is want of memory.
+pub fn room_for(alloc: Global, waiting: &mut Vec<Waiting>, row: &Row) -> Result<Row, NoMemory>
+    ensures items { waiting.new.items ≡ waiting.old.items }
+    ensures room { OnOk result (vec_len waiting.new < vec_capacity waiting.new) }
+    ensures copy { IfOk result (λ copy. copy ≡ row.now) }
+{
+    waiting.reserve(1)?;
+    row.duplicate(alloc)
+}
+
+/// Another write waits, for which there is room.
+#[tactic(auto, using(crate::proofs::Marks::marked_more))]
+pub fn wait(waiting: &mut Vec<Waiting>, write: Waiting)
+    requires { vec_len waiting.old < vec_capacity waiting.old }
+    ensures items { waiting.new.items ≡ waiting.old.items ++ write ∷ [] }
+    ensures marked { marked waiting.new.items ≡ mark_of write ∷ marked waiting.old.items }
+{
+    waiting.push(write).unwrap();
 }
 
 /// Makes all the writes in order.
