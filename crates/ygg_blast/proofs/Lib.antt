@@ -1,3 +1,4 @@
 pub mod Steps
 pub mod Marking
 pub mod Reading
+pub mod Zero

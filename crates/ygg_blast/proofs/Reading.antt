@@ -3,18 +3,7 @@ use Rattle.std.proofs.Common.{◌≡◌, ◌<◌, ◌≤◌, ◌^◌, ℕ, zero,
 use Rattle.std.proofs.Math.Nat.{pow-suc, pow-le-pow_right}
 use Rattle.ygg_value.specs.Words.{bit_of}
 use Rattle.ygg_gates.specs.Sources.{number_from}
-
-bit_below : (b : Bool) → bit_of b ≤ 1
-bit_below true = omega arith
-bit_below false = omega arith
-
-pub below : (value : ℕ → Bool) (first width : ℕ) → number_from value first width < 2 ^ width
-below value first zero = omega arith
-below value first (suc width) =
-    let double : 2 ^ suc width ≡ 2 ^ width * 2 = pow-suc 2 width in
-    let h = below value (first + 1) width in
-    let b = bit_below (value first) in
-    omega (arith, double, h, b)
+use Rattle.ygg_meaning.proofs.Whole.{number_from_below}
 
 -- the digits from a place on are read
 pub record Reading (value : ℕ → Bool) (first width place bits : ℕ) : Type 0 where
@@ -39,7 +28,7 @@ reading_goes value first width place bits digit next e f s =
 
 pub reading_fits : (value : ℕ → Bool) (first width place bits : ℕ) → width ≤ 64 → Reading value first width (place + 1) bits → bits < 2 ^ 63
 reading_fits value first width place bits l s =
-    let h = below value (first + (place + 1)) (width - (place + 1)) in
+    let h = number_from_below value (first + (place + 1)) (width - (place + 1)) in
     let e = s.is in
     let p = pow-le-pow_right {n = 2} (omega arith) {i = width - (place + 1)} {j = 63} (omega arith) in
     omega (arith, h, e, p)
@@ -51,4 +40,4 @@ reading_is value first width bits s =
     s.is ∙ ap (λ k. number_from value k (width - 0)) none ∙ ap (number_from value first) all
 
 pub reading_below : (value : ℕ → Bool) (first width bits : ℕ) → Reading value first width 0 bits → bits < 2 ^ width
-reading_below value first width bits s = let e = reading_is value first width bits s in let h = below value first width in omega (arith, e, h)
+reading_below value first width bits s = let e = reading_is value first width bits s in let h = number_from_below value first width in omega (arith, e, h)

@@ -1,9 +1,12 @@
 //! The clauses of a term, and the way back.
 
-ghost use Rattle.std.specs.Prelude.{◌≡◌, ◌<◌, ◌+◌, ◌*◌, ◌^◌, IfOk};
+ghost use Rattle.std.specs.Prelude.{◌≡◌, ◌<◌, ◌+◌, ◌*◌, ◌^◌, List, IfOk};
+ghost use Rattle.ygg_meaning.specs.Laws.{AreExact, IsZeroIn};
 ghost use Rattle.ygg_value.specs.Words.{bit_of, word};
-ghost use Rattle.ygg_bank.specs.Nodes.{Stands};
-ghost use Rattle.ygg_cnf.specs.Literals.{truth_of};
+ghost use Rattle.ygg_bank.specs.Nodes.{HasWidth, IsBank, Stands};
+ghost use Rattle.ygg_bank.specs.declared.node.Id.{Id};
+ghost use Rattle.ygg_bank.specs.declared.node.Node.{Node};
+ghost use Rattle.ygg_cnf.specs.Literals.{SatisfiesAll, truth_of};
 ghost use Rattle.ygg_gates.specs.Groups.{circuit_clauses, translated};
 ghost use Rattle.ygg_gates.specs.Sources.{environment_by, number_from};
 
@@ -55,8 +58,20 @@ fn clauses_of_groups(alloc: Global, groups: &Groups, term: Id) -> Result<Clauses
     Ok(clauses)
 }
 
-/// The clauses of a term. Its only error is want of memory.
+/// The clauses of a term, and the variables of the inputs that it reaches. Those of a term of width 1 are satisfiable exactly where it
+/// is 0 in some environment. Its only error is want of memory.
 pub fn clauses_of(alloc: Global, bank: &Bank, term: Id) -> Result<Blasted, NoMemory>
+    requires { Stands bank.now term }
+    ensures form { IfOk result (λ blasted. blasted ≡ translated bank.now term) }
+    ensures exactly { HasWidth bank.now term 1 → IfOk result (λ blasted. AreExact bank.now term blasted.clauses) }
+{
+    // the bank's nodes stand in order
+    let _ = bank.len();
+    blasted_of(alloc, bank, term)
+}
+
+/// What `clauses_of` does.
+fn blasted_of(alloc: Global, bank: &Bank, term: Id) -> Result<Blasted, NoMemory>
     requires { Stands bank.now term }
     ensures { IfOk result (λ blasted. blasted ≡ translated bank.now term) }
 {
@@ -94,8 +109,21 @@ fn word_of(assignment: &Assignment, source: &Source) -> Word
     }
 }
 
-/// The environment that truth values name, where they satisfy the clauses. Its only error is want of memory.
+/// The environment that truth values name. Where they satisfy the clauses of a term of width 1, the term is 0 in it. Its only error is
+/// want of memory.
 pub fn environment(
+    alloc: Global,
+    blasted: &Blasted,
+    assignment: &Assignment,
+) -> Result<Env, NoMemory>
+    ensures form { IfOk result (λ env. env ≡ environment_by (truth_of assignment.now) blasted.now.sources) }
+    ensures zero { (nodes : List Node) (term : Id) → IsBank nodes → HasWidth nodes term 1 → blasted.now ≡ translated nodes term → SatisfiesAll (truth_of assignment.now) blasted.now.clauses → IfOk result (IsZeroIn nodes term) }
+{
+    environment_of(alloc, blasted, assignment)
+}
+
+/// The words that truth values give inputs.
+fn environment_of(
     alloc: Global,
     blasted: &Blasted,
     assignment: &Assignment,

@@ -16,6 +16,7 @@ use Rattle.ygg_bank.specs.declared.node.Node.TheVariants.{Input, Const, Bin, Not
 use Rattle.ygg_gates.specs.Circuits.{next_variable}
 use Rattle.ygg_gates.specs.Groups.{Circuit, digits_at, node_digits, sources_of, with_node, with_nodes}
 use Rattle.ygg_gates.specs.Sources.{Variables, number_from, given_by, environment_by}
+use Rattle.ygg_meaning.proofs.Lists.{among_first}
 use Rattle.ygg_meaning.proofs.Numbers.{number}
 use Rattle.ygg_meaning.proofs.Shapes.{IsNext, IsPart, earlier_digits, last_digits, next_good, next_length, next_same, part_next, part_step, rest_later}
 use Rattle.ygg_meaning.proofs.Steps.{Good, follows_before}
@@ -61,13 +62,6 @@ given_more [] n w m x e =
 given_more (given.Word k u ∷ env) n w m x e =
     (elim (k == m) as (λ b. (if b then Some u else given_for (env ++ given.Word n w ∷ []) m) ≡ Some x → ((if b then Some u else given_for env m) ≡ Some x) ⊎ ((n ≡ m) × (w ≡ x)))
     [ true ↦ (λ f. inl f) | false ↦ given_more env n w m x ]) e
-
--- the node at a place among the first ones
-pub among_first : (ns : List Node) (k q : ℕ) (n : Node) → q < k → slice_get ns q ≡ Some n → slice_get (take k ns) q ≡ Some n
-among_first ns zero q n l e = absurd (omega arith)
-among_first [] (suc k) q n l e = absurd (cc)
-among_first (m ∷ ns) (suc k) zero n l e = e
-among_first (m ∷ ns) (suc k) (suc q) n l e = among_first ns k q n (omega arith) e
 
 -- two inputs of one number have one width
 pub one_width : (ns : List Node) (q k m u w : ℕ) → InOrder [] ns → q < k → slice_get ns q ≡ Some (Input m u) → slice_get ns k ≡ Some (Input m w) → u ≡ w

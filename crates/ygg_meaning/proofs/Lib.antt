@@ -1,3 +1,4 @@
+pub mod Lists
 pub mod Truths
 pub mod Following
 pub mod Steps

@@ -15,6 +15,7 @@ use Rattle.ygg_gates.specs.Circuits.{Out, next_variable}
 use Rattle.ygg_gates.specs.Groups.{Circuit, circuit, has_child, digits_at, node_digits, with_node, with_nodes}
 use Rattle.ygg_gates.specs.declared.gate.Gate.{Gate}
 use Rattle.ygg_meaning.proofs.Following.{Closed}
+use Rattle.ygg_meaning.proofs.Lists.{middle}
 use Rattle.ygg_meaning.proofs.NodeGates.{ChildDigits, ChildrenDigits, NodeMeans, node_good}
 use Rattle.ygg_meaning.proofs.Numbers.{AreDigits, digits_more}
 use Rattle.ygg_meaning.proofs.Steps.{Good, Grows, grows_self, grows_both, grows_length}
@@ -170,10 +171,6 @@ next_later ns r c n h = record {
   grows = next_grows ns r c n (r (length c.table)) h refl;
   same = next_same (r (length c.table)) n c;
 }
-
-pub middle : {X : Type 0} (before : List X) (x : X) (after : List X) → slice_get (before ++ x ∷ after) (length before) ≡ Some x
-middle [] x after = refl
-middle (y ∷ before) x after = let e : suc (length before) ≡ length (y ∷ before) = omega arith in subst (λ k. slice_get (y ∷ (before ++ x ∷ after)) k ≡ Some x) e (middle before x after)
 
 -- nodes that are made, and those that are left
 pub record IsPart (ns before rest : List Node) (r : ℕ → Bool) (c : Circuit) : Type 0 where

@@ -28,7 +28,7 @@ use Rattle.ygg_meaning.proofs.Numbers.{AreDigits, bit_small, double, number}
 use Rattle.ygg_meaning.proofs.Reached.{reach_children, term_reached}
 use Rattle.ygg_meaning.proofs.Shapes.{Downwards, IsPart, Later, front, next_length, rest_later}
 use Rattle.ygg_meaning.proofs.Truths.{Follows, all_true, all_true-append, and_both, and_left, and_right, follows_from, satisfied, satisfies, true_from_follows, value_of, value_of-complement}
-use Rattle.ygg_meaning.specs.Laws.{IsZeroIn}
+use Rattle.ygg_meaning.specs.Laws.{AreExact, IsZeroIn}
 
 -- a node of the first ones is there among all
 there : (nodes : List Node) (k i : ℕ) (n : Node) → slice_get (take k nodes) i ≡ Some n → slice_get nodes i ≡ Some n
@@ -207,7 +207,7 @@ zero_is_satisfied nodes term inputs b h fit z =
     let low = zero_bit (value_of v (lowest (digits_at c.table term))) (sym (term_bit nodes term v inputs top found.meant) ∙ z) in
     (v, satisfied v (circuit_clauses c term) (parts_all v c term (record { truth = found.truth; follows = found.follows; literal_is = low })))
 
-pub satisfiable_exactly : (nodes : List Node) (term : Id) → IsBank nodes → HasWidth nodes term 1 → ((v : ℕ → Bool) × SatisfiesAll v (translated nodes term).clauses) ↔ ((env : List Given) × IsZeroIn nodes term env)
+pub satisfiable_exactly : (nodes : List Node) (term : Id) → IsBank nodes → HasWidth nodes term 1 → AreExact nodes term (translated nodes term).clauses
 satisfiable_exactly nodes term b h =
     (λ s. (environment_by s.0 (translated nodes term).sources, satisfying_is_zero nodes term s.0 b h s.1),
      λ e. zero_is_satisfied nodes term (inputs_of e.0) b h e.1.numbers e.1.zero)

@@ -3,4 +3,4 @@
 
 mod law;
 
-pub use law::clauses_mean_terms;
+pub use law::{clauses_mean_terms, groups_are_of_reached_nodes};
