@@ -121,16 +121,16 @@ is_none fs h = (stays None fs h).1
 pub is_clear : (fs : Faults) → first_after None fs ≡ None → none fs ≡ true
 is_clear fs h = (stays None fs h).2
 
-and_left : {a b : Bool} → (a && b) ≡ true → a ≡ true
-and_left {true} h = refl
-and_left {false} h = h
+pub and_left : (a b : Bool) → (a && b) ≡ true → a ≡ true
+and_left true b h = refl
+and_left false b h = h
 
-and_right : {a b : Bool} → (a && b) ≡ true → b ≡ true
-and_right {true} h = h
-and_right {false} h = absurd (cc)
+pub and_right : (a b : Bool) → (a && b) ≡ true → b ≡ true
+and_right true b h = h
+and_right false b h = absurd (cc)
 
 -- no fault is in the list where the test says so
 pub is_empty : (fs : Faults) → none fs ≡ true → listed fs ≡ []
 is_empty nothing h = refl
 is_empty (one f) h = absurd (cc)
-is_empty (both fs gs) h = ap (λ xs. xs ++ listed gs) (is_empty fs (and_left h)) ∙ is_empty gs (and_right h)
+is_empty (both fs gs) h = ap (λ xs. xs ++ listed gs) (is_empty fs (and_left (none fs) (none gs) h)) ∙ is_empty gs (and_right (none fs) (none gs) h)

@@ -1,0 +1,15 @@
+use Rattle.std.proofs.Common.{◌≡◌, ◌∙◌, sym, refl, None, Some}
+use Rattle.ygg_fault.specs.Faults.{first_after}
+use Rattle.ygg_fault.specs.Files.{faults_of}
+use Rattle.ygg_type.proofs.Least.{is_least, is_none, is_clear}
+use Rattle.ygg_type.proofs.typed.check.Goals as goal
+
+pub invariant_of-result-clause-typed : goal.invariant_of-result-clause-typed
+invariant_of-result-clause-typed c = is_clear (faults_of c.args.file) (sym c.in-Ok-None.ensures ∙ c.in-Ok-None.field-0-is)
+
+pub returns-in-Ok-None-clause-typed : goal.returns-in-Ok-None-clause-typed
+returns-in-Ok-None-clause-typed c = (refl, is_none (faults_of c.args.file) (sym c.in-Ok-None.ensures ∙ c.in-Ok-None.field-0-is))
+
+pub returns-in-Ok-Some-clause-refused : goal.returns-in-Ok-Some-clause-refused
+returns-in-Ok-Some-clause-refused c =
+    (c.in-Ok-Some.fault, is_least (faults_of c.args.file) c.in-Ok-Some.fault (sym c.in-Ok-Some.ensures ∙ c.in-Ok-Some.field-0-is), refl)
