@@ -196,8 +196,8 @@ module _ (inputs : Inputs) (v : Values) (kinds : List RuleKind) (f : FlagFile) (
       let run = whole_is s next nodes z n (fits_fewer inputs v o.nodes r.nodes k hr) in
       let after = related_is s d next o.value.held o.nodes (start_wider v nodes o.nodes start bits g z) (bit_wider v nodes o.nodes s next g n) run.held hr in
       concluded_is (related f false false) (related f bits.state bits.stored) (related f s d) all init before r.value o.value.kept r.nodes
-        (bit_wider v nodes r.nodes (related f false false) init gk i) (bit_wider v nodes r.nodes (related f bits.state bits.stored) before gk b) after (bit_wider v o.nodes r.nodes all o.value.kept k run.kept)
-        refl refl refl h
+      (bit_wider v nodes r.nodes (related f false false) init gk i) (bit_wider v nodes r.nodes (related f bits.state bits.stored) before gk b) after (bit_wider v o.nodes r.nodes all o.value.kept k run.kept)
+      refl refl refl h
 
   pub claims_are : (nodes : List Node) → StartIs v nodes start bits → Fits inputs v (claim_terms kinds f start nodes).nodes → TermsAre v (claim_terms kinds f start nodes).nodes f bits (claim_terms kinds f start nodes).value
   unfolding claim_terms
@@ -217,5 +217,5 @@ module _ (inputs : Inputs) (v : Values) (kinds : List RuleKind) (f : FlagFile) (
       let before = related_is bits.state bits.stored start.state start.stored o.nodes zo zo.state zo.stored hp in
       let next = specified_is p.nodes zp hq in
       outcome_is o.value p.value q.value q.nodes (start_wider v p.nodes q.nodes start bits gq zp)
-        (bit_wider v o.nodes q.nodes (related f false false) o.value (extends_both o.nodes p.nodes q.nodes gp gq) init)
-        (bit_wider v p.nodes q.nodes (related f bits.state bits.stored) p.value gq before) next h
+      (bit_wider v o.nodes q.nodes (related f false false) o.value (extends_both o.nodes p.nodes q.nodes gp gq) init)
+      (bit_wider v p.nodes q.nodes (related f bits.state bits.stored) p.value gq before) next h

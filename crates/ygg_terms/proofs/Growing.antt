@@ -43,19 +43,23 @@ module _ (kinds : List RuleKind) where
   cases : (state : List ℕ) (y : Formula-F (Shown state)) → Grows (formula_node kinds state (map-Formula Formula (Places → Make Id) (formula_term kinds state) (map-Formula (Shown state) Formula (λ s. s.0) y)))
   cases state (Formula-F.Bit b) = record { grows = λ at nodes. bit_grows b nodes }
   cases state (Formula-F.Name text) = record { grows = λ at nodes. extends_self nodes }
-  cases state (Formula-F.Not a) = record { grows = λ at nodes.
-      let o = formula_term kinds state a.0 at nodes in
-      extends_both nodes o.nodes (not_term kinds o.value o.nodes).nodes (a.1.grows at nodes) (not_grows o.value o.nodes) }
+  cases state (Formula-F.Not a) = record {
+    grows = λ at nodes.
+        let o = formula_term kinds state a.0 at nodes in
+        extends_both nodes o.nodes (not_term kinds o.value o.nodes).nodes (a.1.grows at nodes) (not_grows o.value o.nodes);
+  }
   cases state Formula-F.Stored = record { grows = λ at nodes. extends_self nodes }
-  cases state (Formula-F.Equal a b) = record { grows = λ at nodes.
-      let o = formula_term kinds state a.0 at nodes in
-      let p = formula_term kinds state b.0 at o.nodes in
-      extends_both nodes o.nodes (join_term kinds Eq o.value p.value p.nodes).nodes (a.1.grows at nodes)
-        (extends_both o.nodes p.nodes (join_term kinds Eq o.value p.value p.nodes).nodes (b.1.grows at o.nodes) (join_grows Eq o.value p.value p.nodes)) }
+  cases state (Formula-F.Equal a b) = record {
+    grows = λ at nodes.
+        let o = formula_term kinds state a.0 at nodes in
+        let p = formula_term kinds state b.0 at o.nodes in
+        extends_both nodes o.nodes (join_term kinds Eq o.value p.value p.nodes).nodes (a.1.grows at nodes)
+        (extends_both o.nodes p.nodes (join_term kinds Eq o.value p.value p.nodes).nodes (b.1.grows at o.nodes) (join_grows Eq o.value p.value p.nodes));
+  }
 
   all_grow : (state : List ℕ) (e : Formula) → Grows (formula_term kinds state e)
   all_grow state = ind-Formula (λ e. Grows (formula_term kinds state e))
-    (λ x y is.
+      (λ x y is.
       subst (λ t. Grows t) (sym (fold-roll-Formula (Places → Make Id) (formula_node kinds state) x))
       (subst (λ z. Grows (formula_node kinds state (map-Formula Formula (Places → Make Id) (formula_term kinds state) z))) is (cases state y)))
 
