@@ -244,9 +244,9 @@ pub fn block<'a>(
     ensures first { OnOk result (checker.new.first.fault ≡ first_after checker.old.first.fault (block_faults b.now shape (scope_of checker.old))) }
     ensures same { OnOk result (scope_of checker.new ≡ scope_of checker.old) }
 {
-    let before = checker.locals.len();
+    let outside = checker.locals.len();
     inside(checker, b, shape)?;
-    checker.forget(before);
+    checker.forget(outside);
     Ok(())
 }
 

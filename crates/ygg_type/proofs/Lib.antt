@@ -1,3 +1,4 @@
 pub mod Least
 pub mod Parameters
+pub mod Sizes
 pub mod Weighed

@@ -1,7 +1,17 @@
 -- Files without a fault, and the refusal of the others.
-use Rattle.std.specs.Prelude.{◌≡◌, ◌<◌, ◌^◌, List, length}
+use Rattle.std.specs.Prelude.{◌≡◌, ℕ, ◌<◌, ◌+◌, ◌^◌, nat_le, Bool, ◌&&◌, if◌then◌else◌, List, [], ◌∷◌, length, slice_get, Option, Some, None}
+use Rattle.std.specs.Str.{bytes_eq}
 use Rattle.ygg_base.specs.declared.failure.Refusal.{Refusal}
 use Rattle.ygg_base.specs.declared.token.Token.{Token}
+use Rattle.ygg_geometry.specs.declared.DiskKind as geometry
+use Rattle.ygg_geometry.specs.declared.DiskKind.TheVariants as kinds
+use Rattle.ygg_geometry.specs.declared.Geometry.{Geometry}
+use Rattle.ygg_syntax.specs.declared.tree.DiskKind.{DiskKind}
+use Rattle.ygg_syntax.specs.declared.tree.DiskKind.TheVariants as disk
+use Rattle.ygg_syntax.specs.declared.tree.DiskText.{DiskText}
+use Rattle.ygg_syntax.specs.declared.tree.Operation.{Operation}
+use Rattle.ygg_syntax.specs.declared.tree.Tick.{Tick}
+use Rattle.ygg_syntax.specs.declared.tree.Layer.{Layer}
 use Rattle.ygg_syntax.specs.declared.tree.File.{File}
 use Rattle.ygg_syntax.specs.Files.{Derives}
 use Rattle.ygg_fault.specs.declared.fault.Fault.{Fault}
@@ -15,3 +25,34 @@ IsDerivable file = (tokens : List Token) × (length tokens < 2 ^ 32) × Derives 
 -- the refusal of a file: its least fault
 abbrev pub IsFirstFault : File → Refusal → Type 0
 IsFirstFault file r = (f : Fault) × IsLeast f (listed (faults_of file)) × (r ≡ record { number = f.number; line = f.place.line; column = f.place.column })
+
+-- the kind of a disk, without its place in a file
+abbrev pub kind_of : DiskKind → geometry.DiskKind
+kind_of disk.Sync = kinds.Sync
+kind_of disk.Async = kinds.Async
+
+-- the kind of a disk and its size
+abbrev pub geometry_of : DiskText → Geometry
+geometry_of d = record { kind = kind_of d.kind; rows = d.rows.value; words = d.words.value; width = d.width.value }
+
+-- the operations of the layer at a place, from the bottom one on
+abbrev pub operations_at : List Layer → ℕ → List Operation
+operations_at layers place = elim (slice_get layers place) [ None ↦ [] | Some l ↦ l.operations ]
+
+-- its background steps
+abbrev pub ticks_at : List Layer → ℕ → List Tick
+ticks_at layers place = elim (slice_get layers place) [ None ↦ [] | Some l ↦ l.ticks ]
+
+-- the place of the first operation of a name, where the first of these has this place
+abbrev pub operation_place : ℕ → List Operation → List ℕ → Option ℕ
+operation_place place [] name = None
+operation_place place (o ∷ os) name = if bytes_eq o.name.text name then Some place else operation_place (place + 1) os name
+
+-- the place of the first background step of a name, where the first of these has this place
+abbrev pub tick_place : ℕ → List Tick → List ℕ → Option ℕ
+tick_place place [] name = None
+tick_place place (t ∷ ts) name = if bytes_eq t.name.text name then Some place else tick_place (place + 1) ts name
+
+-- the layer's operations and background steps have places below 2 ^ 32
+abbrev pub has_few : Layer → Bool
+has_few l = nat_le (length l.operations) 4294967296 && nat_le (length l.ticks) 4294967296

@@ -1,19 +1,24 @@
-ghost use Rattle.std.specs.Prelude.{◌≡◌, IfOk, IfErr, IsTrue};
+ghost use Rattle.std.specs.Prelude.{◌≡◌, ◌<◌, ◌≤◌, IfOk, IfErr, IsTrue, length};
+ghost use Rattle.std.specs.List.{list_all};
+ghost use Rattle.ygg_value.specs.Shapes.{IsShape};
+ghost use Rattle.ygg_value.specs.declared.shape.Shape.TheVariants.{Table};
 ghost use Rattle.ygg_base.specs.Failure.{IfRefused};
 ghost use Rattle.ygg_fault.specs.Faults.{none};
-ghost use Rattle.ygg_fault.specs.Files.{faults_of, IsTyped};
-ghost use Rattle.ygg_type.specs.Typed.{IsDerivable, IsFirstFault};
+ghost use Rattle.ygg_fault.specs.Files.{disk_faults, faults_of, IsTyped};
+ghost use Rattle.ygg_type.specs.Typed.{IsDerivable, IsFirstFault, geometry_of, operations_at, ticks_at, operation_place, tick_place, has_few};
 
 use crate::files::first_fault;
 use std::alloc::Global;
-use ygg_base::{Refusal, Refuse};
-use ygg_syntax::tree::File;
+use ygg_base::{Refusal, Refuse, Text};
+use ygg_geometry::Geometry;
+use ygg_syntax::tree::{DiskKind, DiskText, File, Layer, Operation, Tick};
 
 /// A layer file without a fault, which some list of fewer than 2^32 tokens derives.
 #[derive(Drop)]
 pub struct Typed {
     file: File,
     ghost typed: { IsTrue (none (faults_of file)) },
+    ghost places: { IsTrue (list_all has_few file.layers) },
     ghost derivable: { ∥ IsDerivable file ∥₁ },
 }
 
@@ -26,6 +31,106 @@ impl Typed {
     {
         &self.file
     }
+
+    /// How many layers the file has, 1 to 8. It takes no memory.
+    #[tactic(auto, using(crate::proofs::Sizes::few_layers))]
+    pub fn layers(&self) -> u32
+        ensures { result ≡ length self.now.file.layers }
+    {
+        self.file.layers.len() as u32
+    }
+
+    /// The kind and the size of the file's disk. It takes no memory.
+    pub fn geometry(&self) -> Geometry
+        ensures same { result ≡ geometry_of self.now.file.disk }
+        ensures shape { IsShape (Table result.rows result.words result.width) }
+    {
+        geometry(self.file.disk)
+    }
+
+    /// The place of a layer's operation of the name, counted from 0. Layers count from 0, the bottom one. It takes no
+    /// memory.
+    #[tactic(auto, using(crate::proofs::Sizes::few_operations))]
+    pub fn operation(&self, layer: u32, name: &Text) -> Option<u32>
+        requires { layer < length self.now.file.layers }
+        ensures { result ≡ operation_place 0 (operations_at self.now.file.layers layer) name.now }
+    {
+        match self.file.layers.get(layer as usize) {
+            None => None,
+            Some(layer) => place_of_operation(layer.operations.as_slice(), name.as_slice()),
+        }
+    }
+
+    /// The place of a layer's background step of the name, counted from 0. Layers count from 0, the bottom one. It takes
+    /// no memory.
+    #[tactic(auto, using(crate::proofs::Sizes::few_ticks))]
+    pub fn tick(&self, layer: u32, name: &Text) -> Option<u32>
+        requires { layer < length self.now.file.layers }
+        ensures { result ≡ tick_place 0 (ticks_at self.now.file.layers layer) name.now }
+    {
+        match self.file.layers.get(layer as usize) {
+            None => None,
+            Some(layer) => place_of_tick(layer.ticks.as_slice(), name.as_slice()),
+        }
+    }
+}
+
+/// The kind and the size of a disk without a fault.
+#[tactic(auto, using(crate::proofs::Sizes::disk_fits))]
+fn geometry(disk: DiskText) -> Geometry
+    requires { IsTrue (none (disk_faults disk)) }
+    ensures same { result ≡ geometry_of disk }
+    ensures shape { IsShape (Table result.rows result.words result.width) }
+{
+    let kind = match disk.kind {
+        DiskKind::Sync => ygg_geometry::DiskKind::Sync,
+        DiskKind::Async => ygg_geometry::DiskKind::Async,
+    };
+    Geometry {
+        kind,
+        rows: disk.rows.value as u16,
+        words: disk.words.value as u8,
+        width: disk.width.value as u8,
+    }
+}
+
+/// The place of the first operation of a name.
+fn place_of_operation(operations: &[Operation], name: &[u8]) -> Option<u32>
+    requires { length operations.now ≤ 4294967296 }
+    ensures { result ≡ operation_place 0 operations.now name.now }
+{
+    for (place, operation) in operations.iter().enumerate() {
+        if operation.name.text.as_slice() == name {
+            return Some(place as u32);
+        }
+    }
+    None
+}
+
+/// The place of the first background step of a name.
+fn place_of_tick(ticks: &[Tick], name: &[u8]) -> Option<u32>
+    requires { length ticks.now ≤ 4294967296 }
+    ensures { result ≡ tick_place 0 ticks.now name.now }
+{
+    for (place, tick) in ticks.iter().enumerate() {
+        if tick.name.text.as_slice() == name {
+            return Some(place as u32);
+        }
+    }
+    None
+}
+
+/// Whether the operations and background steps of each layer have places below 2^32. No file that fits into memory has
+/// more of them.
+fn have_places(layers: &[Layer]) -> bool
+    ensures { result ≡ list_all has_few layers.now }
+{
+    for layer in layers {
+        if layer.operations.len() > 4_294_967_296 || layer.ticks.len() > 4_294_967_296 {
+            return false;
+        }
+    }
+    true
 }
 
 /// Keeps a file that has no fault, and else refuses it, 4 to 10, at its least fault: the earliest place, and there the
@@ -35,6 +140,9 @@ pub fn check(alloc: Global, file: File) -> Result<Typed, Refuse>
     ensures typed { IfOk result (λ typed. (typed.file ≡ file) × IsTyped file) }
     ensures refused { IfErr result (λ refuse. IfRefused refuse (IsFirstFault file)) }
 {
+    if !have_places(file.layers.as_slice()) {
+        return Err(Refuse::Memory);
+    }
     match first_fault(alloc, &file) {
         Ok(None) => Ok(Typed { file }),
         Ok(Some(fault)) => Err(Refuse::At(Refusal {
