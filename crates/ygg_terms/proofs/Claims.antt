@@ -1,5 +1,5 @@
 -- What the terms of obligations are worth.
-use Rattle.std.proofs.Common.{◌≡◌, ℕ, Bool, true, false, ◌||◌, ◌&&◌, if◌then◌else◌, List, [], ◌∷◌, map, refl, sym, ap, ◌∙◌, subst}
+use Rattle.std.proofs.Common.{◌≡◌, Bool, true, false, ◌||◌, ◌&&◌, if◌then◌else◌, List, [], ◌∷◌, map, refl, sym, subst}
 use Rattle.std.specs.List.{list_all}
 use Rattle.std.proofs.Math.Bool.{and-true}
 use Rattle.ygg_syntax.specs.declared.flag.FlagFile.{FlagFile}
@@ -16,7 +16,7 @@ use Rattle.ygg_bank.specs.declared.node.Node.{Node}
 use Rattle.ygg_flag.specs.Bits.{value, related, specified, written, stored_after, stops, relates_either, call_keeps, cut_keeps}
 use Rattle.ygg_flag.specs.declared.bits.Bits.{Bits}
 use Rattle.ygg_terms.proofs.Growing.{join_grows, related_grows, specified_grows, write_grows, either_grows, stop_grows, step_grows, run_grows, whole_grows, concluded_grows, outcome_grows}
-use Rattle.ygg_terms.proofs.Expressions.{BitIs, bit_wider, PlacesAre, join_is, formula_is}
+use Rattle.ygg_terms.proofs.Expressions.{BitIs, bit_wider, join_is, formula_is}
 use Rattle.ygg_terms.specs.Terms.{join_term, related_term, specified_term, write_term, either_term, stop_term, step_terms, run_terms, whole_run, concluded_terms, outcome_terms, claim_terms}
 use Rattle.ygg_terms.specs.declared.places.Start.{Start}
 use Rattle.ygg_terms.specs.declared.places.Run.{Run}
@@ -196,8 +196,8 @@ module _ (inputs : Inputs) (v : Values) (kinds : List RuleKind) (f : FlagFile) (
       let run = whole_is s next nodes z n (fits_fewer inputs v o.nodes r.nodes k hr) in
       let after = related_is s d next o.value.held o.nodes (start_wider v nodes o.nodes start bits g z) (bit_wider v nodes o.nodes s next g n) run.held hr in
       concluded_is (related f false false) (related f bits.state bits.stored) (related f s d) all init before r.value o.value.kept r.nodes
-        (bit_wider v nodes r.nodes (related f false false) init gk i) (bit_wider v nodes r.nodes (related f bits.state bits.stored) before gk b) after (bit_wider v o.nodes r.nodes all o.value.kept k run.kept)
-        refl refl refl h
+      (bit_wider v nodes r.nodes (related f false false) init gk i) (bit_wider v nodes r.nodes (related f bits.state bits.stored) before gk b) after (bit_wider v o.nodes r.nodes all o.value.kept k run.kept)
+      refl refl refl h
 
   pub claims_are : (nodes : List Node) → StartIs v nodes start bits → Fits inputs v (claim_terms kinds f start nodes).nodes → TermsAre v (claim_terms kinds f start nodes).nodes f bits (claim_terms kinds f start nodes).value
   unfolding claim_terms
@@ -217,5 +217,5 @@ module _ (inputs : Inputs) (v : Values) (kinds : List RuleKind) (f : FlagFile) (
       let before = related_is bits.state bits.stored start.state start.stored o.nodes zo zo.state zo.stored hp in
       let next = specified_is p.nodes zp hq in
       outcome_is o.value p.value q.value q.nodes (start_wider v p.nodes q.nodes start bits gq zp)
-        (bit_wider v o.nodes q.nodes (related f false false) o.value (extends_both o.nodes p.nodes q.nodes gp gq) init)
-        (bit_wider v p.nodes q.nodes (related f bits.state bits.stored) p.value gq before) next h
+      (bit_wider v o.nodes q.nodes (related f false false) o.value (extends_both o.nodes p.nodes q.nodes gp gq) init)
+      (bit_wider v p.nodes q.nodes (related f bits.state bits.stored) p.value gq before) next h

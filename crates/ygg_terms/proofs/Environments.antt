@@ -1,5 +1,5 @@
 -- The environments in which terms are looked at.
-use Rattle.std.proofs.Common.{◌≡◌, ◌<◌, ◌≤◌, ◌^◌, ◌==◌, ◌&&◌, ℕ, Bool, true, false, cond, Option, Some, None, Result, Ok, Err, IfOk, List, [], ◌∷◌, slice_get, refl, sym, ap, ◌∙◌, subst, arith}
+use Rattle.std.proofs.Common.{◌≡◌, ◌<◌, ◌^◌, ◌==◌, ◌&&◌, ℕ, Bool, true, false, cond, Option, Some, None, Result, Ok, Err, IfOk, List, [], ◌∷◌, slice_get, refl, sym, ap, ◌∙◌, subst, arith}
 use Rattle.std.specs.List.{list_all}
 use Rattle.std.proofs.lemmas.Bool.Decides.{Decides-eqb}
 use Rattle.std.proofs.lemmas.Nat.{pow_pos}
@@ -98,12 +98,12 @@ module _ (f : FlagFile) (nodes : List Node) (terms : Terms) (h : AlwaysWorth f n
   pub call_is : list_all (is_one nodes terms.call) ALL ≡ list_all (call_keeps f) ALL
   call_is = all_same (is_one nodes terms.call) (call_keeps f)
       (λ bits. let i = inputs_of (env_of bits) in let w = h i (inputs_fit nodes bits asks) in
-        one_is i nodes terms.call (call_keeps f (bits_of i)) w.call ∙ ap (call_keeps f) (bits_back bits)) ALL
+      one_is i nodes terms.call (call_keeps f (bits_of i)) w.call ∙ ap (call_keeps f) (bits_back bits)) ALL
 
   pub cut_is : list_all (is_one nodes terms.cut) ALL ≡ list_all (cut_keeps f) ALL
   cut_is = all_same (is_one nodes terms.cut) (cut_keeps f)
       (λ bits. let i = inputs_of (env_of bits) in let w = h i (inputs_fit nodes bits asks) in
-        one_is i nodes terms.cut (cut_keeps f (bits_of i)) w.cut ∙ ap (cut_keeps f) (bits_back bits)) ALL
+      one_is i nodes terms.cut (cut_keeps f (bits_of i)) w.cut ∙ ap (cut_keeps f) (bits_back bits)) ALL
 
   -- what was looked at decides the obligations
   pub init_decided : DecidedByBits f → {E : Type 0} (r : Result Held E) → IfOk r (λ held. held.init ≡ list_all (is_one nodes terms.init) ALL) → IfOk r (λ held. Decided f Init held.init)

@@ -1,9 +1,9 @@
 -- What the terms of expressions are worth.
-use Rattle.std.proofs.Common.{◌≡◌, ◌<◌, ◌^◌, ◌-◌, ℕ, Bool, true, false, not, ◌||◌, ◌&&◌, if◌then◌else◌, List, [], ◌∷◌, refl, sym, ap, ◌∙◌, subst}
+use Rattle.std.proofs.Common.{◌≡◌, ℕ, Bool, true, false, not, if◌then◌else◌, List, refl, sym, ap, ◌∙◌, subst}
 use Rattle.std.specs.Str.{bytes_eq}
 use Rattle.ygg_syntax.specs.declared.flag.Formula.{Formula, roll-Formula, map-Formula}
 use Rattle.ygg_syntax.specs.declared.flag.Formula.TheOpen.{Formula-F}
-use Rattle.ygg_syntax.specs.declared.flag.Formula.TheFolds.{fold-Formula, ind-Formula, fold-roll-Formula}
+use Rattle.ygg_syntax.specs.declared.flag.Formula.TheFolds.{ind-Formula, fold-roll-Formula}
 use Rattle.ygg_value.specs.Words.{word, bit_of, apply_to, not_of}
 use Rattle.ygg_value.specs.declared.operation.Op.{Op}
 use Rattle.ygg_value.specs.declared.operation.Op.TheVariants.{Eq}
@@ -20,7 +20,7 @@ use Rattle.ygg_bank.specs.declared.node.Node.{Node}
 use Rattle.ygg_bank.specs.declared.node.Node.TheVariants.{Const, Bin, Not}
 use Rattle.ygg_flag.specs.Bits.{same_bit, bit_node, bit_in}
 use Rattle.ygg_flag.specs.declared.bits.Bits.{Bits}
-use Rattle.ygg_terms.proofs.Growing.{bit_grows, not_grows, join_grows, formula_grows}
+use Rattle.ygg_terms.proofs.Growing.{not_grows, join_grows, formula_grows}
 use Rattle.ygg_terms.proofs.OneDigit.{bit_word, can_join, joined_width, digit_wider}
 use Rattle.ygg_terms.specs.Terms.{bit_term, not_term, join_term, formula_node, formula_term}
 use Rattle.ygg_terms.specs.Widths.{IsDigit}
@@ -99,24 +99,28 @@ module _ (inputs : Inputs) (v : Values) (kinds : List RuleKind) where
       (bit_node state (map-Formula Formula (Bits → Bool) (bit_in state) (map-Formula (Shown state) Formula (λ s. s.0) y)))
   cases state (Formula-F.Bit b) = record { gives = λ at bits nodes p h. bit_is b nodes h }
   cases state (Formula-F.Name text) = record { gives = λ at bits nodes p h. named_is v nodes at bits (bytes_eq text state) p }
-  cases state (Formula-F.Not a) = record { gives = λ at bits nodes p h.
-      let o = formula_term kinds state a.0 at nodes in
-      let r = not_term kinds o.value o.nodes in
-      not_is (bit_in state a.0 bits) o.value o.nodes (a.1.gives at bits nodes p (fits_fewer inputs v o.nodes r.nodes (not_grows kinds o.value o.nodes) h)) h }
+  cases state (Formula-F.Not a) = record {
+    gives = λ at bits nodes p h.
+        let o = formula_term kinds state a.0 at nodes in
+        let r = not_term kinds o.value o.nodes in
+        not_is (bit_in state a.0 bits) o.value o.nodes (a.1.gives at bits nodes p (fits_fewer inputs v o.nodes r.nodes (not_grows kinds o.value o.nodes) h)) h;
+  }
   cases state Formula-F.Stored = record { gives = λ at bits nodes p h. p.stored }
-  cases state (Formula-F.Equal a b) = record { gives = λ at bits nodes p h.
-      let o = formula_term kinds state a.0 at nodes in
-      let q = formula_term kinds state b.0 at o.nodes in
-      let r = join_term kinds Eq o.value q.value q.nodes in
-      let hq = fits_fewer inputs v q.nodes r.nodes (join_grows kinds Eq o.value q.value q.nodes) h in
-      let grown = formula_grows kinds state b.0 at o.nodes in
-      let one = a.1.gives at bits nodes p (fits_fewer inputs v o.nodes q.nodes grown hq) in
-      let two = b.1.gives at bits o.nodes (places_wider v nodes o.nodes at bits (formula_grows kinds state a.0 at nodes) p) hq in
-      join_is Eq same_bit equal_is (bit_in state a.0 bits) (bit_in state b.0 bits) o.value q.value q.nodes (bit_wider v o.nodes q.nodes (bit_in state a.0 bits) o.value grown one) two h }
+  cases state (Formula-F.Equal a b) = record {
+    gives = λ at bits nodes p h.
+        let o = formula_term kinds state a.0 at nodes in
+        let q = formula_term kinds state b.0 at o.nodes in
+        let r = join_term kinds Eq o.value q.value q.nodes in
+        let hq = fits_fewer inputs v q.nodes r.nodes (join_grows kinds Eq o.value q.value q.nodes) h in
+        let grown = formula_grows kinds state b.0 at o.nodes in
+        let one = a.1.gives at bits nodes p (fits_fewer inputs v o.nodes q.nodes grown hq) in
+        let two = b.1.gives at bits o.nodes (places_wider v nodes o.nodes at bits (formula_grows kinds state a.0 at nodes) p) hq in
+        join_is Eq same_bit equal_is (bit_in state a.0 bits) (bit_in state b.0 bits) o.value q.value q.nodes (bit_wider v o.nodes q.nodes (bit_in state a.0 bits) o.value grown one) two h;
+  }
 
   all_mean : (state : List ℕ) (e : Formula) → Means (formula_term kinds state e) (bit_in state e)
   all_mean state = ind-Formula (λ e. Means (formula_term kinds state e) (bit_in state e))
-    (λ x y is.
+      (λ x y is.
       subst (λ t. Means t (bit_in state (roll-Formula x))) (sym (fold-roll-Formula (Places → Make Id) (formula_node kinds state) x))
       (subst (λ m. Means (formula_node kinds state (map-Formula Formula (Places → Make Id) (formula_term kinds state) x)) m) (sym (fold-roll-Formula (Bits → Bool) (bit_node state) x))
       (subst (λ z. Means (formula_node kinds state (map-Formula Formula (Places → Make Id) (formula_term kinds state) z)) (bit_node state (map-Formula Formula (Bits → Bool) (bit_in state) z))) is (cases state y))))

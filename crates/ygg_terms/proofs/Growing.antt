@@ -1,9 +1,9 @@
 -- Making terms only adds nodes after those that are there.
-use Rattle.std.proofs.Common.{◌≡◌, ℕ, Bool, true, false, List, [], ◌∷◌, refl, sym, ap, ◌∙◌, subst}
+use Rattle.std.proofs.Common.{ℕ, Bool, List, [], ◌∷◌, sym, subst}
 use Rattle.ygg_syntax.specs.declared.flag.FlagFile.{FlagFile}
-use Rattle.ygg_syntax.specs.declared.flag.Formula.{Formula, roll-Formula, map-Formula}
+use Rattle.ygg_syntax.specs.declared.flag.Formula.{Formula, map-Formula}
 use Rattle.ygg_syntax.specs.declared.flag.Formula.TheOpen.{Formula-F}
-use Rattle.ygg_syntax.specs.declared.flag.Formula.TheFolds.{fold-Formula, ind-Formula, fold-roll-Formula}
+use Rattle.ygg_syntax.specs.declared.flag.Formula.TheFolds.{ind-Formula, fold-roll-Formula}
 use Rattle.ygg_value.specs.declared.operation.Op.{Op}
 use Rattle.ygg_value.specs.declared.operation.Op.TheVariants.{And, Or, Eq, Imp}
 use Rattle.ygg_value.specs.Words.{word, bit_of}
@@ -15,7 +15,7 @@ use Rattle.ygg_bank.specs.Nodes.{Extends}
 use Rattle.ygg_bank.specs.declared.node.Id.{Id}
 use Rattle.ygg_bank.specs.declared.node.Node.{Node}
 use Rattle.ygg_bank.specs.declared.node.Node.TheVariants.{Const, Bin, Not}
-use Rattle.ygg_terms.specs.Terms.{bit_term, not_term, join_term, formula_node, formula_term, related_term, specified_term, write_term, either_term, stop_term, step_terms, run_terms, whole_run, concluded_terms, outcome_terms, claim_terms}
+use Rattle.ygg_terms.specs.Terms.{bit_term, not_term, join_term, formula_node, formula_term, related_term, specified_term, write_term, either_term, stop_term, step_terms, run_terms, whole_run, concluded_terms, outcome_terms}
 use Rattle.ygg_terms.specs.declared.places.Places.{Places}
 use Rattle.ygg_terms.specs.declared.places.Start.{Start}
 use Rattle.ygg_terms.specs.declared.places.Run.{Run}
@@ -43,19 +43,23 @@ module _ (kinds : List RuleKind) where
   cases : (state : List ℕ) (y : Formula-F (Shown state)) → Grows (formula_node kinds state (map-Formula Formula (Places → Make Id) (formula_term kinds state) (map-Formula (Shown state) Formula (λ s. s.0) y)))
   cases state (Formula-F.Bit b) = record { grows = λ at nodes. bit_grows b nodes }
   cases state (Formula-F.Name text) = record { grows = λ at nodes. extends_self nodes }
-  cases state (Formula-F.Not a) = record { grows = λ at nodes.
-      let o = formula_term kinds state a.0 at nodes in
-      extends_both nodes o.nodes (not_term kinds o.value o.nodes).nodes (a.1.grows at nodes) (not_grows o.value o.nodes) }
+  cases state (Formula-F.Not a) = record {
+    grows = λ at nodes.
+        let o = formula_term kinds state a.0 at nodes in
+        extends_both nodes o.nodes (not_term kinds o.value o.nodes).nodes (a.1.grows at nodes) (not_grows o.value o.nodes);
+  }
   cases state Formula-F.Stored = record { grows = λ at nodes. extends_self nodes }
-  cases state (Formula-F.Equal a b) = record { grows = λ at nodes.
-      let o = formula_term kinds state a.0 at nodes in
-      let p = formula_term kinds state b.0 at o.nodes in
-      extends_both nodes o.nodes (join_term kinds Eq o.value p.value p.nodes).nodes (a.1.grows at nodes)
-        (extends_both o.nodes p.nodes (join_term kinds Eq o.value p.value p.nodes).nodes (b.1.grows at o.nodes) (join_grows Eq o.value p.value p.nodes)) }
+  cases state (Formula-F.Equal a b) = record {
+    grows = λ at nodes.
+        let o = formula_term kinds state a.0 at nodes in
+        let p = formula_term kinds state b.0 at o.nodes in
+        extends_both nodes o.nodes (join_term kinds Eq o.value p.value p.nodes).nodes (a.1.grows at nodes)
+        (extends_both o.nodes p.nodes (join_term kinds Eq o.value p.value p.nodes).nodes (b.1.grows at o.nodes) (join_grows Eq o.value p.value p.nodes));
+  }
 
   all_grow : (state : List ℕ) (e : Formula) → Grows (formula_term kinds state e)
   all_grow state = ind-Formula (λ e. Grows (formula_term kinds state e))
-    (λ x y is.
+      (λ x y is.
       subst (λ t. Grows t) (sym (fold-roll-Formula (Places → Make Id) (formula_node kinds state) x))
       (subst (λ z. Grows (formula_node kinds state (map-Formula Formula (Places → Make Id) (formula_term kinds state) z))) is (cases state y)))
 

@@ -18,11 +18,7 @@ use ygg_value::Op;
 
 /// The terms of the obligations that depend on what a flag file says, made in a bank without nodes. Each is 1 where the obligation
 /// isn't violated. The only error is want of memory, after which the bank may have nodes.
-pub fn obligations<B: Book>(
-    bank: &mut Bank,
-    book: &B,
-    file: &FlagFile,
-) -> Result<Terms, NoMemory>
+pub fn obligations<B: Book>(bank: &mut Bank, book: &B, file: &FlagFile) -> Result<Terms, NoMemory>
     requires { bank.old ≡ [] }
     ensures nodes { OnOk result (bank.new ≡ (built (B.kinds book.now) file.now).nodes) }
     ensures terms { IfOk result (λ terms. terms ≡ (built (B.kinds book.now) file.now).value) }
@@ -36,11 +32,7 @@ pub fn obligations<B: Book>(
 
 /// What `obligations` does.
 #[tactic(auto, using(crate::proofs::OneDigit::digit_wider), unfolding(crate::specs::Terms::obligation_terms))]
-fn obligations_by<B: Book>(
-    bank: &mut Bank,
-    book: &B,
-    file: &FlagFile,
-) -> Result<Terms, NoMemory>
+fn obligations_by<B: Book>(bank: &mut Bank, book: &B, file: &FlagFile) -> Result<Terms, NoMemory>
     requires { bank.old ≡ [] }
     ensures nodes { OnOk result (bank.new ≡ (built (B.kinds book.now) file.now).nodes) }
     ensures terms { IfOk result (λ terms. terms ≡ (built (B.kinds book.now) file.now).value) }

@@ -52,9 +52,5 @@ pub fn formula<B: Book>(
 fn named(state: &[u8], name: &[u8], at: Places) -> Id
     ensures { result ≡ (if bytes_eq name.now state.now then at.state else at.argument) }
 {
-    if name == state {
-        at.state
-    } else {
-        at.argument
-    }
+    if name == state { at.state } else { at.argument }
 }

@@ -1,12 +1,12 @@
 //! The obligations of flag files as terms of a bank under a book of rules, and their deciding.
 #![tactic(auto)]
 
-mod digits;
-mod formulas;
 mod building;
 mod deciding;
+mod digits;
+mod formulas;
 pub mod places;
 
-pub use deciding::{Held, decide};
 pub use building::obligations;
+pub use deciding::{Held, decide};
 pub use places::Terms;

@@ -34,11 +34,11 @@ pub returns-clause-nodes : goal.returns-clause-nodes
 returns-clause-nodes g c =
     c.in_ok-kept.ensures.nodes
     ∙ ended_nodes (g.B.Book.kinds c.args.book.now) c.args.file.now c.args.start.now c.args.next c.args.bank.now c.as_slice-e-items.result.now c.loop-e.e-index c.loop-e.run c.loop-e.bank
-        (omega arith) c.loop-e.invariant.went
+    (omega arith) c.loop-e.invariant.went
 
 pub returns-clause-run : goal.returns-clause-run
 returns-clause-run g c =
     let kept_in : Id → Run = λ (id : Id). record { held = c.loop-e.run.held; kept = id } in
     ap kept_in c.in_ok-kept.ensures.id
     ∙ ended_value (g.B.Book.kinds c.args.book.now) c.args.file.now c.args.start.now c.args.next c.args.bank.now c.as_slice-e-items.result.now c.loop-e.e-index c.loop-e.run c.loop-e.bank
-        (omega arith) c.loop-e.invariant.went
+    (omega arith) c.loop-e.invariant.went
