@@ -1,5 +1,5 @@
 -- What the terms of obligations are worth.
-use Rattle.std.proofs.Common.{◌≡◌, ℕ, Bool, true, false, ◌||◌, ◌&&◌, if◌then◌else◌, List, [], ◌∷◌, map, refl, sym, ap, ◌∙◌, subst}
+use Rattle.std.proofs.Common.{◌≡◌, Bool, true, false, ◌||◌, ◌&&◌, if◌then◌else◌, List, [], ◌∷◌, map, refl, sym, subst}
 use Rattle.std.specs.List.{list_all}
 use Rattle.std.proofs.Math.Bool.{and-true}
 use Rattle.ygg_syntax.specs.declared.flag.FlagFile.{FlagFile}
@@ -16,7 +16,7 @@ use Rattle.ygg_bank.specs.declared.node.Node.{Node}
 use Rattle.ygg_flag.specs.Bits.{value, related, specified, written, stored_after, stops, relates_either, call_keeps, cut_keeps}
 use Rattle.ygg_flag.specs.declared.bits.Bits.{Bits}
 use Rattle.ygg_terms.proofs.Growing.{join_grows, related_grows, specified_grows, write_grows, either_grows, stop_grows, step_grows, run_grows, whole_grows, concluded_grows, outcome_grows}
-use Rattle.ygg_terms.proofs.Expressions.{BitIs, bit_wider, PlacesAre, join_is, formula_is}
+use Rattle.ygg_terms.proofs.Expressions.{BitIs, bit_wider, join_is, formula_is}
 use Rattle.ygg_terms.specs.Terms.{join_term, related_term, specified_term, write_term, either_term, stop_term, step_terms, run_terms, whole_run, concluded_terms, outcome_terms, claim_terms}
 use Rattle.ygg_terms.specs.declared.places.Start.{Start}
 use Rattle.ygg_terms.specs.declared.places.Run.{Run}

@@ -1,9 +1,9 @@
 -- What the terms of expressions are worth.
-use Rattle.std.proofs.Common.{◌≡◌, ◌<◌, ◌^◌, ◌-◌, ℕ, Bool, true, false, not, ◌||◌, ◌&&◌, if◌then◌else◌, List, [], ◌∷◌, refl, sym, ap, ◌∙◌, subst}
+use Rattle.std.proofs.Common.{◌≡◌, ℕ, Bool, true, false, not, if◌then◌else◌, List, refl, sym, ap, ◌∙◌, subst}
 use Rattle.std.specs.Str.{bytes_eq}
 use Rattle.ygg_syntax.specs.declared.flag.Formula.{Formula, roll-Formula, map-Formula}
 use Rattle.ygg_syntax.specs.declared.flag.Formula.TheOpen.{Formula-F}
-use Rattle.ygg_syntax.specs.declared.flag.Formula.TheFolds.{fold-Formula, ind-Formula, fold-roll-Formula}
+use Rattle.ygg_syntax.specs.declared.flag.Formula.TheFolds.{ind-Formula, fold-roll-Formula}
 use Rattle.ygg_value.specs.Words.{word, bit_of, apply_to, not_of}
 use Rattle.ygg_value.specs.declared.operation.Op.{Op}
 use Rattle.ygg_value.specs.declared.operation.Op.TheVariants.{Eq}
@@ -20,7 +20,7 @@ use Rattle.ygg_bank.specs.declared.node.Node.{Node}
 use Rattle.ygg_bank.specs.declared.node.Node.TheVariants.{Const, Bin, Not}
 use Rattle.ygg_flag.specs.Bits.{same_bit, bit_node, bit_in}
 use Rattle.ygg_flag.specs.declared.bits.Bits.{Bits}
-use Rattle.ygg_terms.proofs.Growing.{bit_grows, not_grows, join_grows, formula_grows}
+use Rattle.ygg_terms.proofs.Growing.{not_grows, join_grows, formula_grows}
 use Rattle.ygg_terms.proofs.OneDigit.{bit_word, can_join, joined_width, digit_wider}
 use Rattle.ygg_terms.specs.Terms.{bit_term, not_term, join_term, formula_node, formula_term}
 use Rattle.ygg_terms.specs.Widths.{IsDigit}

@@ -1,9 +1,9 @@
 -- Making terms only adds nodes after those that are there.
-use Rattle.std.proofs.Common.{◌≡◌, ℕ, Bool, true, false, List, [], ◌∷◌, refl, sym, ap, ◌∙◌, subst}
+use Rattle.std.proofs.Common.{ℕ, Bool, List, [], ◌∷◌, sym, subst}
 use Rattle.ygg_syntax.specs.declared.flag.FlagFile.{FlagFile}
-use Rattle.ygg_syntax.specs.declared.flag.Formula.{Formula, roll-Formula, map-Formula}
+use Rattle.ygg_syntax.specs.declared.flag.Formula.{Formula, map-Formula}
 use Rattle.ygg_syntax.specs.declared.flag.Formula.TheOpen.{Formula-F}
-use Rattle.ygg_syntax.specs.declared.flag.Formula.TheFolds.{fold-Formula, ind-Formula, fold-roll-Formula}
+use Rattle.ygg_syntax.specs.declared.flag.Formula.TheFolds.{ind-Formula, fold-roll-Formula}
 use Rattle.ygg_value.specs.declared.operation.Op.{Op}
 use Rattle.ygg_value.specs.declared.operation.Op.TheVariants.{And, Or, Eq, Imp}
 use Rattle.ygg_value.specs.Words.{word, bit_of}
@@ -15,7 +15,7 @@ use Rattle.ygg_bank.specs.Nodes.{Extends}
 use Rattle.ygg_bank.specs.declared.node.Id.{Id}
 use Rattle.ygg_bank.specs.declared.node.Node.{Node}
 use Rattle.ygg_bank.specs.declared.node.Node.TheVariants.{Const, Bin, Not}
-use Rattle.ygg_terms.specs.Terms.{bit_term, not_term, join_term, formula_node, formula_term, related_term, specified_term, write_term, either_term, stop_term, step_terms, run_terms, whole_run, concluded_terms, outcome_terms, claim_terms}
+use Rattle.ygg_terms.specs.Terms.{bit_term, not_term, join_term, formula_node, formula_term, related_term, specified_term, write_term, either_term, stop_term, step_terms, run_terms, whole_run, concluded_terms, outcome_terms}
 use Rattle.ygg_terms.specs.declared.places.Places.{Places}
 use Rattle.ygg_terms.specs.declared.places.Start.{Start}
 use Rattle.ygg_terms.specs.declared.places.Run.{Run}

@@ -1,11 +1,11 @@
 -- Terms of one digit.
-use Rattle.std.proofs.Common.{◌≡◌, ◌<◌, ◌≤◌, ◌^◌, ℕ, Bool, true, false, List, refl, sym, ap, ◌∙◌, subst, arith, Result, IfOk}
+use Rattle.std.proofs.Common.{◌≡◌, ℕ, Bool, true, false, List, refl, sym, ap, ◌∙◌, arith}
 use Rattle.ygg_value.specs.Number.{IsWord}
 use Rattle.ygg_value.specs.Words.{word, bit_of, result_width, CanApply}
 use Rattle.ygg_value.specs.declared.operation.Op.{Op}
 use Rattle.ygg_value.specs.declared.operation.Op.TheVariants.{Add, Sub, Mul, And, Or, Xor, Shl, Shr, Eq, Ne, Lt, Le, Gt, Ge, Imp}
 use Rattle.ygg_bank.proofs.Widths.{wider, width_is, stands}
-use Rattle.ygg_bank.specs.Nodes.{HasWidth, CanBin, Stands, Extends, widths_of, width_at}
+use Rattle.ygg_bank.specs.Nodes.{CanBin, Extends, widths_of, width_at}
 use Rattle.ygg_bank.specs.declared.node.Id.{Id}
 use Rattle.ygg_bank.specs.declared.node.Node.{Node}
 use Rattle.ygg_terms.specs.Widths.{IsDigit, ArePlaces, IsStart}

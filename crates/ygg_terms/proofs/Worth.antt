@@ -1,5 +1,5 @@
 -- What a book makes of a flag file in an empty bank, and what it is worth.
-use Rattle.std.proofs.Common.{◌≡◌, ◌<◌, ◌≤◌, ◌^◌, ◌==◌, ◌⊎◌, inl, inr, ℕ, zero, suc, Bool, true, false, Result, Ok, Err, OnOk, IfOk, Option, Some, None, List, [], ◌∷◌, ◌++◌, take, slice_get, refl, sym, ap, ◌∙◌, subst, arith}
+use Rattle.std.proofs.Common.{◌≡◌, ◌<◌, ◌≤◌, ◌^◌, ◌==◌, ◌⊎◌, inl, inr, ℕ, zero, suc, Result, Ok, Err, OnOk, IfOk, Some, List, [], ◌∷◌, take, slice_get, refl, sym, ap, ◌∙◌, subst, arith}
 use Rattle.std.proofs.lemmas.Bool.{cases_lt}
 use Rattle.ygg_syntax.specs.declared.flag.FlagFile.{FlagFile}
 use Rattle.ygg_value.specs.Words.{word, bit_of}
@@ -10,14 +10,12 @@ use Rattle.ygg_bank.proofs.Places.{in_front}
 use Rattle.ygg_bank.proofs.Widths.{stored_can, extends_both}
 use Rattle.ygg_bank.specs.Making.{id}
 use Rattle.ygg_bank.specs.Nodes.{Extends, InOrder, IsBank, OneWidth}
-use Rattle.ygg_bank.specs.Values.{Inputs, InputsFit, Values, Fits, value_of}
-use Rattle.ygg_bank.specs.declared.node.Id.{Id}
+use Rattle.ygg_bank.specs.Values.{Inputs, Values, Fits, value_of}
 use Rattle.ygg_bank.specs.declared.node.Node.{Node}
 use Rattle.ygg_bank.specs.declared.node.Node.TheVariants.{Input, Const}
-use Rattle.ygg_terms.proofs.Claims.{StartIs, TermsAre, claims_are}
-use Rattle.ygg_terms.proofs.Expressions.{BitIs}
+use Rattle.ygg_terms.proofs.Claims.{StartIs, claims_are}
 use Rattle.ygg_terms.proofs.Growing.{related_grows, specified_grows, outcome_grows}
-use Rattle.ygg_terms.specs.Meaning.{bits_of, AreWorth, AlwaysWorth, AsksBits}
+use Rattle.ygg_terms.specs.Meaning.{bits_of, AlwaysWorth, AsksBits}
 use Rattle.ygg_terms.specs.Terms.{bit_term, start_terms, related_term, specified_term, outcome_terms, claim_terms, obligation_terms, built}
 use Rattle.ygg_terms.specs.declared.places.Start.{Start}
 use Rattle.ygg_terms.specs.declared.places.Terms.{Terms}

@@ -1,5 +1,5 @@
 -- What the terms of a flag file are worth, and the environments in which they are looked at.
-use Rattle.std.specs.Prelude.{ℕ, ◌≡◌, ◌==◌, Bool, false, List, [], ◌∷◌}
+use Rattle.std.specs.Prelude.{◌≡◌, ◌==◌, Bool, false, List, [], ◌∷◌}
 use Rattle.ygg_value.specs.Words.{word, bit_of}
 use Rattle.ygg_syntax.specs.declared.flag.FlagFile.{FlagFile}
 use Rattle.ygg_bank.specs.Nodes.{OneWidth}

@@ -12,7 +12,6 @@ use Rattle.ygg_rules.specs.declared.rule.RuleKind.{RuleKind}
 use Rattle.ygg_bank.specs.Makes.{Make, Out, pure, and_make}
 use Rattle.ygg_bank.specs.Making.{made}
 use Rattle.ygg_bank.specs.declared.node.Id.{Id}
-use Rattle.ygg_bank.specs.declared.node.Node.{Node}
 use Rattle.ygg_bank.specs.declared.node.Node.TheVariants.{Input, Const, Bin, Not}
 use Rattle.ygg_terms.specs.declared.places.Places.{Places}
 use Rattle.ygg_terms.specs.declared.places.Start.{Start}
