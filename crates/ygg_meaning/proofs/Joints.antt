@@ -106,5 +106,5 @@ joined_each_good j (x ∷ xs) (y ∷ ys) old l h p q =
     follow (AreDigits (length (x ∷ xs))) (IsJoint j (x ∷ xs) (y ∷ ys)) old one rest (one.value ∷ rest.value) g k
     (λ m b d. record { count = (let c = d.count in omega (arith, c)); below = ((omega arith), d.below) })
     (λ v t e f.
-      ap (λ z. bit_of z + 2 * number v rest.value) e ∙ ap (λ z. bit_of (joint_value v j (value_of v x) (value_of v y)) + 2 * z) f
-      ∙ joint_more v j (value_of v x) (value_of v y) (number v xs) (number v ys))
+    ap (λ z. bit_of z + 2 * number v rest.value) e ∙ ap (λ z. bit_of (joint_value v j (value_of v x) (value_of v y)) + 2 * z) f
+    ∙ joint_more v j (value_of v x) (value_of v y) (number v xs) (number v ys))

@@ -105,7 +105,7 @@ node_good before table (Bin o a b) old c d =
     let one = d.0.count in
     let two = d.1.count in
     let can : CanOperate o (length xs) (length ys)
-        = subst (λ z. CanOperate o z (length ys)) (sym one) (subst (λ z. CanOperate o (width_at (widths_of before) a) z) (sym two) c.widths) in
+    = subst (λ z. CanOperate o z (length ys)) (sym one) (subst (λ z. CanOperate o (width_at (widths_of before) a) z) (sym two) c.widths) in
     let out : Out (List Lit) = operation o xs ys old in
     changed (AreDigits (result_width o (width_at (widths_of before) a))) (IsResult o xs ys) old out out.value (operation_good o xs ys old can d.0.below d.1.below)
     (λ w. record { count = w.count ∙ ap (result_width o) one; below = w.below }) (λ v t e. e)

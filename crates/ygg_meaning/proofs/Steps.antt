@@ -105,5 +105,5 @@ either_good a b old p q =
     let o : Out Lit = placed g old in
     changed Below (λ v x. value_of v x ≡ (value_of v a || value_of v b)) old o (complement o.value) (placed_good g old (p, q)) (λ w. w)
     (λ v t e.
-      value_of-complement v o.value ∙ ap not (e ∙ ap (λ z. z && value_of v (complement b)) (value_of-complement v a) ∙ ap (λ z. not (value_of v a) && z) (value_of-complement v b))
-      ∙ or_table (value_of v a) (value_of v b))
+    value_of-complement v o.value ∙ ap not (e ∙ ap (λ z. z && value_of v (complement b)) (value_of-complement v a) ∙ ap (λ z. not (value_of v a) && z) (value_of-complement v b))
+    ∙ or_table (value_of v a) (value_of v b))

@@ -141,16 +141,16 @@ parts_all v c term h =
     let last : List (List Lit) = (complement lit ∷ []) ∷ [] in
     all_true-append v (first ++ gates) last
     ∙ and_both (all_true v (first ++ gates)) (all_true v last)
-      (all_true-append v first gates ∙ and_both (all_true v first) (all_true v gates) (true_single (v 1) h.truth) (true_from_follows v 2 c.gates h.follows))
-      (true_single (value_of v (complement lit)) (value_of-complement v lit ∙ ap not h.literal_is))
+    (all_true-append v first gates ∙ and_both (all_true v first) (all_true v gates) (true_single (v 1) h.truth) (true_from_follows v 2 c.gates h.follows))
+    (true_single (value_of v (complement lit)) (value_of-complement v lit ∙ ap not h.literal_is))
 
 -- an input's width is the same wherever its number stands
 input_width : (nodes : List Node) (p q m u w : ℕ) → InOrder [] nodes → slice_get nodes p ≡ Some (Input m u) → slice_get nodes q ≡ Some (Input m w) → u ≡ w
 input_width nodes p q m u w o e f =
     ⊎_elim (λ (l : p < q). one_width nodes p q m u w o l e f)
     (λ (l : q ≤ p).
-      ⊎_elim (λ (k : q < p). sym (one_width nodes q p m w u o k f e))
-      (λ (k : p ≤ q). let s : p ≡ q = omega arith in let same : Some (Input m u) ≡ Some (Input m w) = sym e ∙ ap (slice_get nodes) s ∙ f in cc) (cases_lt q p))
+    ⊎_elim (λ (k : q < p). sym (one_width nodes q p m w u o k f e))
+    (λ (k : p ≤ q). let s : p ≡ q = omega arith in let same : Some (Input m u) ≡ Some (Input m w) = sym e ∙ ap (slice_get nodes) s ∙ f in cc) (cases_lt q p))
     (cases_lt p q)
 
 pub number_from_below : (v : ℕ → Bool) (first width : ℕ) → number_from v first width < 2 ^ width
@@ -161,9 +161,10 @@ number_from_below v first (suc width) =
 given_below : (v : ℕ → Bool) (sources : List Variables) (m : ℕ) (x : Number) → given_for (environment_by v sources) m ≡ Some x → x.bits < 2 ^ x.width
 given_below v [] m x e = absurd (cc)
 given_below v (s ∷ sources) m x e =
-    (elim (s.number == m) as (λ b. (if b then Some (word s.width (number_from v s.first s.width)) else given_for (environment_by v sources) m) ≡ Some x → x.bits < 2 ^ x.width)
-    [ true ↦ (λ f. let g : word s.width (number_from v s.first s.width) ≡ x = cc in subst (λ (z : Number). z.bits < 2 ^ z.width) g (number_from_below v s.first s.width))
-    | false ↦ given_below v sources m x ]) e
+    (elim (s.number == m) as (λ b. (if b then Some (word s.width (number_from v s.first s.width)) else given_for (environment_by v sources) m) ≡ Some x → x.bits < 2 ^ x.width) [
+      | true ↦ (λ f. let g : word s.width (number_from v s.first s.width) ≡ x = cc in subst (λ (z : Number). z.bits < 2 ^ z.width) g (number_from_below v s.first s.width))
+      | false ↦ given_below v sources m x
+    ]) e
 
 -- truth values that satisfy the clauses name an environment in which the term is 0
 pub satisfying_is_zero : (nodes : List Node) (term : Id) (v : ℕ → Bool) → IsBank nodes → HasWidth nodes term 1 → SatisfiesAll v (translated nodes term).clauses → IsZeroIn nodes term (environment_by v (translated nodes term).sources)
@@ -177,17 +178,17 @@ satisfying_is_zero nodes term v b h s =
     let inputs : Inputs = inputs_of (env_of v c) in
     let meant = rest_meant ns [] ns (reaches nodes term) no_nodes inputs v start parts.truth parts.follows (λ p m w l e f. ap bits_or_zero (sourced.looked p m w l f e)) (λ p l e. absurd (omega arith)) in
     let widths : EnvFits (env_of v c) nodes
-        = λ place m w x e f. let owner = sourced.known m x f in input_width nodes owner.place place m x.width w top.ordered (there nodes (term.0 + 1) owner.place (Input m x.width) owner.there) e in
+    = λ place m w x e f. let owner = sourced.known m x f in input_width nodes owner.place place m x.width w top.ordered (there nodes (term.0 + 1) owner.place (Input m x.width) owner.there) e in
     record {
       widths = widths;
       numbers = λ place m w e. fits nodes v c place m w e widths (given_for (env_of v c) m) refl;
       zero = term_bit nodes term v inputs top meant ∙ ap bit_of parts.literal_is;
     } where
-  fits : (nodes : List Node) (v : ℕ → Bool) (c : Circuit) (place m w : ℕ) → slice_get nodes place ≡ Some (Input m w) → EnvFits (env_of v c) nodes → (x : Option Number) → given_for (env_of v c) m ≡ x → inputs_of (env_of v c) m < 2 ^ w
-  fits nodes v c place m w e widths None g = subst (λ z. z < 2 ^ w) (sym (ap bits_or_zero g)) (pow_pos w)
-  fits nodes v c place m w e widths (Some x) g =
-      let width : x.width ≡ w = widths place m w x e g in
-      subst (λ z. z < 2 ^ w) (sym (ap bits_or_zero g)) (subst (λ z. x.bits < 2 ^ z) width (given_below v c.sources m x g))
+      fits : (nodes : List Node) (v : ℕ → Bool) (c : Circuit) (place m w : ℕ) → slice_get nodes place ≡ Some (Input m w) → EnvFits (env_of v c) nodes → (x : Option Number) → given_for (env_of v c) m ≡ x → inputs_of (env_of v c) m < 2 ^ w
+      fits nodes v c place m w e widths None g = subst (λ z. z < 2 ^ w) (sym (ap bits_or_zero g)) (pow_pos w)
+      fits nodes v c place m w e widths (Some x) g =
+          let width : x.width ≡ w = widths place m w x e g in
+          subst (λ z. z < 2 ^ w) (sym (ap bits_or_zero g)) (subst (λ z. x.bits < 2 ^ z) width (given_below v c.sources m x g))
 
 zero_bit : (b : Bool) → bit_of b ≡ 0 → b ≡ false
 zero_bit true e = absurd (omega (arith, e))
@@ -208,6 +209,7 @@ zero_is_satisfied nodes term inputs b h fit z =
     (v, satisfied v (circuit_clauses c term) (parts_all v c term (record { truth = found.truth; follows = found.follows; literal_is = low })))
 
 pub satisfiable_exactly : (nodes : List Node) (term : Id) → IsBank nodes → HasWidth nodes term 1 → AreExact nodes term (translated nodes term).clauses
-satisfiable_exactly nodes term b h =
-    (λ s. (environment_by s.0 (translated nodes term).sources, satisfying_is_zero nodes term s.0 b h s.1),
-     λ e. zero_is_satisfied nodes term (inputs_of e.0) b h e.1.numbers e.1.zero)
+satisfiable_exactly nodes term b h = (
+  λ s. (environment_by s.0 (translated nodes term).sources, satisfying_is_zero nodes term s.0 b h s.1),
+  λ e. zero_is_satisfied nodes term (inputs_of e.0) b h e.1.numbers e.1.zero,
+)
