@@ -1,5 +1,5 @@
 -- What the gates of differences and comparisons mean.
-use Rattle.std.proofs.Common.{◌≡◌, ◌≢◌, ◌<◌, ◌≤◌, ℕ, zero, suc, ◌+◌, ◌-◌, ◌*◌, ◌^◌, ◌==◌, Bool, true, false, not, cond, ◌&&◌, ◌||◌, nat_lt, List, [], ◌∷◌, ◌++◌, length, ⊎_elim, sym, subst, ap, ◌∙◌, arith, refl}
+use Rattle.std.proofs.Common.{◌≡◌, ◌≢◌, ◌<◌, ◌≤◌, ℕ, ◌+◌, ◌*◌, ◌^◌, ◌==◌, Bool, true, false, not, ◌&&◌, ◌||◌, nat_lt, List, [], ◌∷◌, length, ⊎_elim, sym, subst, ap, ◌∙◌, arith, refl}
 use Rattle.std.proofs.lemmas.Bool.{cases_lt, cases_eq, eq-eqb, ne_eqb}
 use Rattle.std.proofs.lemmas.Bool.Decides.{nat_tests}
 use Rattle.std.proofs.lemmas.List.{length-map}
@@ -12,9 +12,9 @@ use Rattle.ygg_gates.specs.declared.gate.Gate.{Gate}
 use Rattle.ygg_gates.specs.declared.gate.Gate.TheVariants.{And, Xor}
 use Rattle.ygg_meaning.proofs.Truths.{value_of, differ, value_of-complement}
 use Rattle.ygg_meaning.proofs.Following.{Below}
-use Rattle.ygg_meaning.proofs.Numbers.{number, AllBelow, all_below_more, all_below_complements, AreDigits, number_below, number_complements, true_bit}
+use Rattle.ygg_meaning.proofs.Numbers.{number, AllBelow, all_below_more, all_below_complements, number_below, number_complements, true_bit}
 use Rattle.ygg_meaning.proofs.Steps.{Good, done, follow, changed, placed_good, either_good, grows_length}
-use Rattle.ygg_meaning.proofs.Sums.{SumBelow, IsSum, added_good}
+use Rattle.ygg_meaning.proofs.Sums.{SumBelow, added_good}
 
 pub test_true : (m n : ℕ) → m < n → nat_lt m n ≡ true
 test_true m n h = grind (arith, nat_tests)
@@ -33,10 +33,10 @@ subtracted_good xs ys old l p q =
     let same : length xs ≡ length (complements ys) = l ∙ sym (length-map ys complement) in
     changed (SumBelow (length xs)) (IsDifference xs ys) old out out.value (added_good xs (complements ys) true_literal old same p (all_below_complements (next_variable old) ys q) (omega arith)) (λ w. w)
     (λ v t e.
-      let one = true_bit v t in
-      let c = number_complements v ys in
-      let w : 2 ^ length ys ≡ 2 ^ length xs = ap (λ k. 2 ^ k) (sym l) in
-      omega (arith, e, one, c, w))
+    let one = true_bit v t in
+    let c = number_complements v ys in
+    let w : 2 ^ length ys ≡ 2 ^ length xs = ap (λ k. 2 ^ k) (sym l) in
+    omega (arith, e, one, c, w))
 
 less_from : (d p x y : ℕ) (b : Bool) → d + p * bit_of b + y ≡ x + p → d < p → not b ≡ nat_lt x y
 less_from d p x y true e l = sym (test_false x y (omega (arith, e)))
@@ -49,8 +49,8 @@ less_good xs ys old l p q =
     let g = subtracted_good xs ys old l p q in
     changed Below (λ v o. value_of v o ≡ nat_lt (number v xs) (number v ys)) old s (complement s.value.carry) g (λ w. w.carry)
     (λ v t e.
-      let d : number v s.value.digits < 2 ^ length xs = (let w = g.within in subst (λ k. number v s.value.digits < 2 ^ k) w.digits.count (number_below v s.value.digits)) in
-      value_of-complement v s.value.carry ∙ less_from (number v s.value.digits) (2 ^ length xs) (number v xs) (number v ys) (value_of v s.value.carry) e d)
+    let d : number v s.value.digits < 2 ^ length xs = (let w = g.within in subst (λ k. number v s.value.digits < 2 ^ k) w.digits.count (number_below v s.value.digits)) in
+    value_of-complement v s.value.carry ∙ less_from (number v s.value.digits) (2 ^ length xs) (number v xs) (number v ys) (value_of v s.value.carry) e d)
 
 same_tests : (m n p q : ℕ) → (m ≡ n → p ≡ q) → (p ≡ q → m ≡ n) → (m == n) ≡ (p == q)
 same_tests m n p q f g =
@@ -89,12 +89,12 @@ equal_good so_far (x ∷ xs) (y ∷ ys) old l r p q =
     let k = equal_good o.value xs ys o.gates (omega arith) h.within (all_below_more _ _ xs (omega arith) p.1) (all_below_more _ _ ys (omega arith) q.1) in
     follow Below (IsEqual so_far (x ∷ xs) (y ∷ ys)) old d rest rest.value g
     (follow Below (λ v z. value_of v z ≡ ((value_of v so_far && not (value_of v d.value)) && (number v xs == number v ys))) d.gates o rest rest.value h k (λ i a b. b)
-      (λ v t e f. f ∙ ap (λ z. z && (number v xs == number v ys)) (e ∙ ap (λ z. value_of v so_far && z) (value_of-complement v d.value))))
+    (λ v t e f. f ∙ ap (λ z. z && (number v xs == number v ys)) (e ∙ ap (λ z. value_of v so_far && z) (value_of-complement v d.value))))
     (λ i a b. b)
     (λ v t e f.
-      f ∙ ap (λ z. (value_of v so_far && not z) && (number v xs == number v ys)) e
-      ∙ and_assoc (value_of v so_far) (not (differ (value_of v x) (value_of v y))) (number v xs == number v ys)
-      ∙ ap (λ z. value_of v so_far && z) (equal_more (value_of v x) (value_of v y) (number v xs) (number v ys)))
+    f ∙ ap (λ z. (value_of v so_far && not z) && (number v xs == number v ys)) e
+    ∙ and_assoc (value_of v so_far) (not (differ (value_of v x) (value_of v y))) (number v xs == number v ys)
+    ∙ ap (λ z. value_of v so_far && z) (equal_more (value_of v x) (value_of v y) (number v xs) (number v ys)))
 
 any_more : (s d : Bool) (n : ℕ) → ((s || d) || nat_lt 0 n) ≡ (s || nat_lt 0 (bit_of d + 2 * n))
 any_more true d n = refl

@@ -1,25 +1,24 @@
 -- The environment of a circuit's inputs gives each input that is reached the number of its digits.
-use Rattle.std.proofs.Common.{◌≡◌, ◌≢◌, ◌<◌, ◌≤◌, ℕ, zero, suc, ◌+◌, ◌^◌, ◌==◌, Bool, true, false, if◌then◌else◌, Option, Some, None, List, [], ◌∷◌, ◌++◌, length, take, map, slice_get, ⊎_elim, ◌⊎◌, inl, inr, sym, subst, ap, ◌∙◌, arith, refl}
+use Rattle.std.proofs.Common.{◌≡◌, ◌≢◌, ◌<◌, ◌≤◌, ℕ, ◌==◌, Bool, true, false, if◌then◌else◌, Option, Some, None, List, [], ◌∷◌, ◌++◌, length, slice_get, ⊎_elim, ◌⊎◌, inl, inr, sym, ap, ◌∙◌, arith, refl}
 use Rattle.std.proofs.lemmas.Bool.{false≢true, cases_lt, cases_eq, eq-eqb, ne_eqb}
-use Rattle.std.proofs.lemmas.List.{append-nil, length_push, map-append}
-use Rattle.ygg_cnf.specs.declared.lit.Lit.{Lit}
+use Rattle.std.proofs.lemmas.List.{append-nil, map-append}
 use Rattle.ygg_value.specs.Number.{Number}
 use Rattle.ygg_value.specs.Words.{word}
 use Rattle.ygg_bank.proofs.Widths.{stored_can}
 use Rattle.ygg_bank.specs.Making.{id}
-use Rattle.ygg_bank.specs.Nodes.{CanMake, InOrder, Distinct}
+use Rattle.ygg_bank.specs.Nodes.{InOrder, Distinct}
 use Rattle.ygg_bank.specs.Values.{given_for}
 use Rattle.ygg_bank.specs.declared.env.Given.{Given}
 use Rattle.ygg_bank.specs.declared.env.Given.TheVariants as given
 use Rattle.ygg_bank.specs.declared.node.Node.{Node}
 use Rattle.ygg_bank.specs.declared.node.Node.TheVariants.{Input, Const, Bin, Not, Resize, Pick}
 use Rattle.ygg_gates.specs.Circuits.{next_variable}
-use Rattle.ygg_gates.specs.Groups.{Circuit, digits_at, node_digits, sources_of, with_node, with_nodes}
-use Rattle.ygg_gates.specs.Sources.{Variables, number_from, given_by, environment_by}
+use Rattle.ygg_gates.specs.Groups.{Circuit, digits_at, node_digits, with_node, with_nodes}
+use Rattle.ygg_gates.specs.Sources.{number_from, given_by, environment_by}
 use Rattle.ygg_meaning.proofs.Lists.{among_first}
 use Rattle.ygg_meaning.proofs.Numbers.{number}
-use Rattle.ygg_meaning.proofs.Shapes.{IsNext, IsPart, earlier_digits, last_digits, next_good, next_length, next_same, part_next, part_step, rest_later}
-use Rattle.ygg_meaning.proofs.Steps.{Good, follows_before}
+use Rattle.ygg_meaning.proofs.Shapes.{IsNext, IsPart, last_digits, next_good, next_length, next_same, part_next, part_step, rest_later}
+use Rattle.ygg_meaning.proofs.Steps.{follows_before}
 use Rattle.ygg_meaning.proofs.Truths.{Follows}
 
 -- the environment so far
@@ -92,16 +91,16 @@ plain_next ns r v c n b h e none s =
     let more = next_length b n c in
     record {
       looked = λ q m w l f g.
-        ⊎_elim
-        (λ (i : q < length c.table).
+          ⊎_elim
+          (λ (i : q < length c.table).
           ap (λ z. given_for (environment_by v z) m) e ∙ s.looked q m w i f g ∙ ap (λ z. Some (word w (number v z))) (sym (next_same b n c q i)))
-        (λ (i : length c.table ≤ q).
+          (λ (i : length c.table ≤ q).
           let p : q ≡ length c.table = omega (arith, more, l, i) in
           let same : Some n ≡ Some (Input m w) = sym h.there ∙ ap (slice_get ns) (sym p) ∙ g in
           absurd (none (ap r (sym p) ∙ f) m w (cc)))
-        (cases_lt q (length c.table));
+          (cases_lt q (length c.table));
       known = λ m x f.
-        wider_owner ns (length c.table) (length (with_node b n c).table) m x.width (omega (arith, more)) (s.known m x (ap (λ z. given_for (environment_by v z) m) (sym e) ∙ f));
+          wider_owner ns (length c.table) (length (with_node b n c).table) m x.width (omega (arith, more)) (s.known m x (ap (λ z. given_for (environment_by v z) m) (sym e) ∙ f));
     }
 
 -- an input that is reached
@@ -115,11 +114,11 @@ input_next ns r v c k u h d e s =
     let all : env_of v (with_node true n c) ≡ env_of v c ++ item ∷ [] = map-append (given_by v) c.sources (record { number = k; width = u; first = next_variable c.gates } ∷ []) in
     record {
       looked = λ q m w l f g.
-        ⊎_elim
-        (λ (i : q < length c.table).
+          ⊎_elim
+          (λ (i : q < length c.table).
           ap (λ z. given_for z m) all ∙ given_keeps (env_of v c) (item ∷ []) m (word w (number v (digits_at c.table (id q)))) (s.looked q m w i f g)
           ∙ ap (λ z. Some (word w (number v z))) (sym (next_same true n c q i)))
-        (λ (i : length c.table ≤ q).
+          (λ (i : length c.table ≤ q).
           let p : q ≡ length c.table = omega (arith, more, l, i) in
           let same : Some n ≡ Some (Input m w) = sym h.there ∙ ap (slice_get ns) (sym p) ∙ g in
           let number_is : k ≡ m = cc in
@@ -128,14 +127,14 @@ input_next ns r v c k u h d e s =
           let none = unknown ns v c k u h.ordered d s.known h.there in
           ap (λ z. given_for z m) all ∙ ap (given_for (env_of v c ++ item ∷ [])) (sym number_is) ∙ given_last (env_of v c) k x none
           ∙ ap (λ z. Some (word u z)) (sym e) ∙ ap (λ z. Some (word z (number v (node_digits c.table n c.gates).value))) width_is ∙ ap (λ z. Some (word w (number v z))) (sym digits))
-        (cases_lt q (length c.table));
+          (cases_lt q (length c.table));
       known = λ m y f.
-        ⊎_elim
-        (λ (g : given_for (env_of v c) m ≡ Some y). wider_owner ns (length c.table) (length (with_node true n c).table) m y.width (omega (arith, more)) (s.known m y g))
-        (λ (g : (k ≡ m) × (x ≡ y)).
+          ⊎_elim
+          (λ (g : given_for (env_of v c) m ≡ Some y). wider_owner ns (length c.table) (length (with_node true n c).table) m y.width (omega (arith, more)) (s.known m y g))
+          (λ (g : (k ≡ m) × (x ≡ y)).
           let there : slice_get ns (length c.table) ≡ Some (Input m y.width) = h.there ∙ ap (λ z. Some (Input z u)) g.0 ∙ ap (λ (z : Number). Some (Input m z.width)) g.1 in
           record { place = length c.table; below = omega (arith, more); there = there })
-        (given_more (env_of v c) k x m y (ap (λ z. given_for z m) (sym all) ∙ f));
+          (given_more (env_of v c) k x m y (ap (λ z. given_for z m) (sym all) ∙ f));
     }
 
 sourced_next : (ns : List Node) (r v : ℕ → Bool) (c : Circuit) (n : Node) (b : Bool) → IsNext ns r c n → r (length c.table) ≡ b → Distinct ns → v 1 ≡ true → Follows v 2 (with_node b n c).gates → Sourced ns r v c → Sourced ns r v (with_node b n c)

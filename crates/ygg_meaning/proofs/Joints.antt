@@ -1,9 +1,9 @@
 -- What the gates of two digits mean, and those of two words, digit by digit.
-use Rattle.std.proofs.Common.{◌≡◌, ◌<◌, ◌≤◌, ℕ, zero, suc, ◌+◌, ◌*◌, ◌^◌, Bool, true, false, not, cond, ◌&&◌, ◌||◌, bit_and, bit_or, bit_xor, List, [], ◌∷◌, ◌++◌, length, sym, subst, ap, ◌∙◌, arith, refl}
+use Rattle.std.proofs.Common.{◌≡◌, ◌≤◌, ℕ, ◌+◌, ◌*◌, ◌^◌, Bool, true, false, cond, ◌&&◌, ◌||◌, bit_and, bit_or, bit_xor, List, [], ◌∷◌, length, sym, ap, ◌∙◌, arith, refl}
 use Rattle.std.proofs.lemmas.Nat.{and_block, or_block, xor_block}
 use Rattle.ygg_cnf.specs.declared.lit.Lit.{Lit}
 use Rattle.ygg_value.specs.Words.{bit_of}
-use Rattle.ygg_gates.specs.Circuits.{Out, pure, next_variable, placed, either}
+use Rattle.ygg_gates.specs.Circuits.{Out, next_variable}
 use Rattle.ygg_gates.specs.Rows.{joined, joined_each}
 use Rattle.ygg_gates.specs.declared.gate.Gate.{Gate}
 use Rattle.ygg_gates.specs.declared.gate.Gate.TheVariants.{And, Xor, Mux}
@@ -106,5 +106,5 @@ joined_each_good j (x ∷ xs) (y ∷ ys) old l h p q =
     follow (AreDigits (length (x ∷ xs))) (IsJoint j (x ∷ xs) (y ∷ ys)) old one rest (one.value ∷ rest.value) g k
     (λ m b d. record { count = (let c = d.count in omega (arith, c)); below = ((omega arith), d.below) })
     (λ v t e f.
-      ap (λ z. bit_of z + 2 * number v rest.value) e ∙ ap (λ z. bit_of (joint_value v j (value_of v x) (value_of v y)) + 2 * z) f
-      ∙ joint_more v j (value_of v x) (value_of v y) (number v xs) (number v ys))
+    ap (λ z. bit_of z + 2 * number v rest.value) e ∙ ap (λ z. bit_of (joint_value v j (value_of v x) (value_of v y)) + 2 * z) f
+    ∙ joint_more v j (value_of v x) (value_of v y) (number v xs) (number v ys))

@@ -1,27 +1,27 @@
 -- The digits of all nodes that are reached name the nodes' values.
-use Rattle.std.proofs.Common.{◌≡◌, ◌<◌, ◌≤◌, ℕ, zero, suc, ◌+◌, ◌*◌, ◌/◌, ◌%◌, ◌^◌, ◌==◌, Bool, true, false, List, [], ◌∷◌, ◌++◌, length, take, Some, slice_get, ⊎_elim, sym, subst, ap, ◌∙◌, arith, refl, length-append}
-use Rattle.std.proofs.lemmas.Bool.{false≢true, cases_lt, eq-eqb, ne_eqb}
+use Rattle.std.proofs.Common.{◌≡◌, ◌<◌, ◌≤◌, ℕ, zero, suc, ◌+◌, ◌/◌, ◌%◌, ◌^◌, ◌==◌, Bool, true, false, List, [], ◌∷◌, ◌++◌, length, take, Some, slice_get, ⊎_elim, sym, subst, ap, ◌∙◌, arith, refl, length-append}
+use Rattle.std.proofs.lemmas.Bool.{false≢true, cases_lt}
 use Rattle.std.proofs.lemmas.List.{length_push}
 use Rattle.ygg_cnf.specs.declared.lit.Lit.{Lit}
 use Rattle.ygg_value.specs.Words.{bit_of}
 use Rattle.ygg_bank.proofs.Exist.{value_is, value_width}
 use Rattle.ygg_bank.proofs.Widths.{has_width}
 use Rattle.ygg_bank.specs.Making.{id}
-use Rattle.ygg_bank.specs.Nodes.{width_at, widths_of, HasWidth, Stands, InOrder}
-use Rattle.ygg_bank.specs.Values.{Inputs, InputsFit, Values, node_value, value_of as node_value_of}
+use Rattle.ygg_bank.specs.Nodes.{width_at, widths_of, Stands}
+use Rattle.ygg_bank.specs.Values.{Inputs, InputsFit, value_of as node_value_of}
 use Rattle.ygg_bank.specs.declared.node.Id.{Id}
 use Rattle.ygg_bank.specs.declared.node.Node.{Node}
 use Rattle.ygg_bank.specs.declared.node.Node.TheVariants.{Input, Const, Bin, Not, Resize, Pick}
-use Rattle.ygg_gates.specs.Circuits.{Out, next_variable, placed}
+use Rattle.ygg_gates.specs.Circuits.{next_variable}
 use Rattle.ygg_gates.specs.Groups.{Circuit, digits_at, node_digits, with_node, with_nodes}
 use Rattle.ygg_gates.specs.Rows.{free_digits}
 use Rattle.ygg_gates.specs.declared.gate.Gate.{Gate}
 use Rattle.ygg_gates.specs.declared.gate.Gate.TheVariants.{Free}
-use Rattle.ygg_meaning.proofs.Following.{Closed, SameBelow, Extended, Chosen, chosen, closed_push}
+use Rattle.ygg_meaning.proofs.Following.{Closed, SameBelow, Extended, chosen, closed_push}
 use Rattle.ygg_meaning.proofs.NodeGates.{AreChildren, IsChild, IsGiven, NodeMeans, node_value_is}
-use Rattle.ygg_meaning.proofs.Numbers.{number, AreDigits, double, same_number, digits_more}
-use Rattle.ygg_meaning.proofs.Shapes.{Downwards, Shaped, IsNext, IsPart, Later, can_make, child_width, child_place, next_good, next_later, next_same, next_length, earlier_digits, last_digits, part_next, part_step, rest_later, one_child, two_child, only_child, test_child, yes_child, no_child}
-use Rattle.ygg_meaning.proofs.Steps.{Good, Grows, follows_before, grows_length}
+use Rattle.ygg_meaning.proofs.Numbers.{number, double, same_number}
+use Rattle.ygg_meaning.proofs.Shapes.{Shaped, IsNext, IsPart, can_make, child_width, child_place, next_good, next_length, earlier_digits, last_digits, part_next, part_step, rest_later, one_child, two_child, only_child, test_child, yes_child, no_child}
+use Rattle.ygg_meaning.proofs.Steps.{follows_before}
 use Rattle.ygg_meaning.proofs.Truths.{Follows}
 
 -- each node that is reached has the value that its digits name
@@ -78,9 +78,9 @@ next_meant ns r c n inputs v true h e m g p l f =
     let k = g refl in
     ⊎_elim (λ (i : p < length c.table). m p i f ∙ ap (number v) (sym (earlier_digits c.table os p i)))
     (λ (i : length c.table ≤ p).
-      let s : length c.table ≡ p = omega (arith, l, i, length_push c.table os) in
-      subst (λ z. (node_value_of inputs ns z).bits ≡ number v (digits_at (c.table ++ os ∷ []) (id z))) s
-      (next_value ns r c n inputs v os h m e k.0 k.1 ∙ ap (number v) (sym (last_digits c.table os))))
+    let s : length c.table ≡ p = omega (arith, l, i, length_push c.table os) in
+    subst (λ z. (node_value_of inputs ns z).bits ≡ number v (digits_at (c.table ++ os ∷ []) (id z))) s
+    (next_value ns r c n inputs v os h m e k.0 k.1 ∙ ap (number v) (sym (last_digits c.table os))))
     (cases_lt p (length c.table))
 
 -- each input that is reached has the number that its digits name
@@ -112,21 +112,22 @@ rest_meant ns before (n ∷ rest) r c inputs v h t f g m =
     let all : Circuit = with_nodes r rest d in
     let tall : length d.table ≤ length all.table = table_grows r rest d in
     let here : r (length c.table) ≡ true → IsGiven inputs v n (node_digits c.table n c.gates).value × NodeMeans c.table (next_variable c.gates) n v (node_digits c.table n c.gates).value
-        = λ e.
-          let os : List Lit = (node_digits c.table n c.gates).value in
-          let good = next_good ns r c n next e in
-          let same : digits_at all.table (id (length c.table)) ≡ os
-              = late.same (length c.table) (omega (arith, more)) ∙ ap (λ b. digits_at (with_node b n c).table (id (length c.table))) e ∙ last_of c n in
-          let follows : Follows v 2 d.gates = follows_before v d.gates all.gates late.grows f in
-          (given_here ns r c n inputs v os next.there (λ k w i. g (length c.table) k w (omega (arith, more, tall)) i e ∙ ap (number v) same),
-           good.means v t (subst (λ b. Follows v 2 (with_node b n c).gates) e follows)) in
+    = λ e.
+    let os : List Lit = (node_digits c.table n c.gates).value in
+    let good = next_good ns r c n next e in
+    let same : digits_at all.table (id (length c.table)) ≡ os
+    = late.same (length c.table) (omega (arith, more)) ∙ ap (λ b. digits_at (with_node b n c).table (id (length c.table))) e ∙ last_of c n in
+    let follows : Follows v 2 d.gates = follows_before v d.gates all.gates late.grows f in (
+      given_here ns r c n inputs v os next.there (λ k w i. g (length c.table) k w (omega (arith, more, tall)) i e ∙ ap (number v) same),
+      good.means v t (subst (λ b. Follows v 2 (with_node b n c).gates) e follows),
+    ) in
     rest_meant ns (before ++ n ∷ []) rest r d inputs v step t f g (next_meant ns r c n inputs v (r (length c.table)) next refl m here) where
-  table_grows : (r : ℕ → Bool) (rest : List Node) (c : Circuit) → length c.table ≤ length (with_nodes r rest c).table
-  table_grows r [] c = omega arith
-  table_grows r (n ∷ rest) c =
-      let e = next_length (r (length c.table)) n c in
-      let l = table_grows r rest (with_node (r (length c.table)) n c) in
-      omega (arith, e, l)
+      table_grows : (r : ℕ → Bool) (rest : List Node) (c : Circuit) → length c.table ≤ length (with_nodes r rest c).table
+      table_grows r [] c = omega arith
+      table_grows r (n ∷ rest) c =
+          let e = next_length (r (length c.table)) n c in
+          let l = table_grows r rest (with_node (r (length c.table)) n c) in
+          omega (arith, e, l)
 
 -- new variables with the digits of a number
 record FreeChosen (v : ℕ → Bool) (width bits : ℕ) (old : List Gate) : Type 0 where

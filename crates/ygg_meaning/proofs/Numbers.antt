@@ -1,15 +1,14 @@
 -- Numbers of lists of digits, under values of their variables.
-use Rattle.std.proofs.Common.{◌≡◌, ◌<◌, ◌≤◌, ℕ, zero, suc, ◌+◌, ◌-◌, ◌*◌, ◌/◌, ◌%◌, ◌^◌, ◌==◌, Bool, true, false, not, cond, ◌&&◌, ◌||◌, if◌then◌else◌, bit_and, bit_or, bit_xor, List, [], ◌∷◌, ◌++◌, length, take, drop, replicate, map, min, ⊎_elim, sym, subst, ap, ◌∙◌, arith, refl}
+use Rattle.std.proofs.Common.{◌≡◌, ◌<◌, ◌≤◌, ℕ, zero, suc, ◌+◌, ◌-◌, ◌*◌, ◌/◌, ◌%◌, ◌^◌, Bool, true, false, not, List, [], ◌∷◌, ◌++◌, length, take, drop, replicate, ⊎_elim, sym, subst, ap, ◌∙◌, arith, refl}
 use Rattle.std.proofs.lemmas.Bool.{cases_lt}
-use Rattle.std.proofs.lemmas.List.{length-append, length-take, length-drop, length-map, length-replicate, take-append-drop, take_all, drop_all}
-use Rattle.std.proofs.lemmas.Nat.{pow_pos, and_block, or_block, xor_block, mod_low, shr_high, mod-pow-add, shl-shr}
+use Rattle.std.proofs.lemmas.List.{length-take, length-replicate, take-append-drop, take_all}
+use Rattle.std.proofs.lemmas.Nat.{mod_low, shr_high, mod-pow-add, shl-shr}
 use Rattle.std.proofs.Math.Nat.{pow-suc, mod-eq_of_lt, mul_comm, mul_assoc, pow-le-pow_right, mul-mod_left}
 use Rattle.ygg_cnf.specs.declared.lit.Lit.{Lit}
-use Rattle.ygg_cnf.specs.Literals.{complement}
 use Rattle.ygg_value.specs.Words.{bit_of}
 use Rattle.ygg_gates.specs.Circuits.{true_literal, false_literal, complements}
-use Rattle.ygg_gates.specs.Rows.{constant_digits, resized_digits, moved_up, moved_down}
-use Rattle.ygg_meaning.proofs.Truths.{value_of, differ, value_of-complement}
+use Rattle.ygg_gates.specs.Rows.{resized_digits, moved_up, moved_down}
+use Rattle.ygg_meaning.proofs.Truths.{value_of, value_of-complement}
 use Rattle.ygg_meaning.proofs.Following.{Below, SameBelow, same_literal}
 
 -- the number of the digits, the lowest first
@@ -111,7 +110,7 @@ pub number_split : (v : ℕ → Bool) (k : ℕ) (xs : List Lit) → k ≤ length
 number_split v k xs l =
     let count : length (take k xs) ≡ k = omega (arith, length-take k xs) in
     let e : number v (take k xs ++ drop k xs) ≡ number v (take k xs) + 2 ^ k * number v (drop k xs)
-        = number_append v (take k xs) (drop k xs) ∙ ap (λ z. number v (take k xs) + 2 ^ z * number v (drop k xs)) count in
+    = number_append v (take k xs) (drop k xs) ∙ ap (λ z. number v (take k xs) + 2 ^ z * number v (drop k xs)) count in
     let c = mul_comm (2 ^ k) (number v (drop k xs)) in
     let w = ap (number v) (take-append-drop k xs) in
     omega (arith, e, c, w)
@@ -126,18 +125,18 @@ pub number_take : (v : ℕ → Bool) (k : ℕ) (xs : List Lit) → number v (tak
 number_take v k xs =
     ⊎_elim
     (λ (l : k < length xs).
-      let m : k ≤ length xs = omega arith in
-      sym (ap (λ z. z % 2 ^ k) (sym (number_split v k xs m)) ∙ mod_low (number v (drop k xs)) k (number v (take k xs)) (take_below v k xs m)))
+    let m : k ≤ length xs = omega arith in
+    sym (ap (λ z. z % 2 ^ k) (sym (number_split v k xs m)) ∙ mod_low (number v (drop k xs)) k (number v (take k xs)) (take_below v k xs m)))
     (λ (l : length xs ≤ k).
-      let fits : number v xs < 2 ^ k = (let b = number_below v xs in let p = pow-le-pow_right {n = 2} (omega arith) {i = length xs} {j = k} l in omega arith) in
-      ap (number v) (take_all k xs l) ∙ sym (mod-eq_of_lt fits))
+    let fits : number v xs < 2 ^ k = (let b = number_below v xs in let p = pow-le-pow_right {n = 2} (omega arith) {i = length xs} {j = k} l in omega arith) in
+    ap (number v) (take_all k xs l) ∙ sym (mod-eq_of_lt fits))
     (cases_lt k (length xs))
 
 falses_after : (v : ℕ → Bool) (xs : List Lit) (k : ℕ) → v 1 ≡ true → number v (xs ++ replicate k false_literal) ≡ number v xs
 falses_after v xs k t =
     number_append v xs (replicate k false_literal) ∙ ap (λ z. number v xs + 2 ^ length xs * z) (number_falses v k t) ∙ none (number v xs) (2 ^ length xs) where
-  none : (a p : ℕ) → a + p * 0 ≡ a
-  none a p = omega arith
+      none : (a p : ℕ) → a + p * 0 ≡ a
+      none a p = omega arith
 
 pub number_resized : (v : ℕ → Bool) (w : ℕ) (xs : List Lit) → v 1 ≡ true → number v (resized_digits w xs) ≡ number v xs % 2 ^ w
 number_resized v w xs t = falses_after v (take w xs) (w - length xs) t ∙ number_take v w xs
@@ -150,8 +149,8 @@ moved_mod : (a j k : ℕ) → (a * 2 ^ k) % 2 ^ (j + k) ≡ (a % 2 ^ j) * 2 ^ k
 moved_mod a j k =
     let none : (a * 2 ^ k) % 2 ^ k ≡ 0 = mul-mod_left a (2 ^ k) in
     mod-pow-add (a * 2 ^ k) j k ∙ ap (λ z. (z % 2 ^ j) * 2 ^ k + (a * 2 ^ k) % 2 ^ k) (shl-shr a k) ∙ ap (λ z. (a % 2 ^ j) * 2 ^ k + z) none ∙ last ((a % 2 ^ j) * 2 ^ k) where
-  last : (n : ℕ) → n + 0 ≡ n
-  last n = omega arith
+      last : (n : ℕ) → n + 0 ≡ n
+      last n = omega arith
 
 pub number_moved_up : (v : ℕ → Bool) (k : ℕ) (xs : List Lit) → v 1 ≡ true → k ≤ length xs → number v (moved_up k xs) ≡ (number v xs * 2 ^ k) % 2 ^ length xs
 number_moved_up v k xs t l =
@@ -160,8 +159,8 @@ number_moved_up v k xs t l =
     let low : 2 ^ length (replicate k false_literal) ≡ 2 ^ k = ap (λ z. 2 ^ z) (length-replicate k false_literal) in
     let z = number_falses v k t in
     let front : number v (replicate k false_literal ++ take j xs) ≡ 2 ^ k * number v (take j xs)
-        = number_append v (replicate k false_literal) (take j xs) ∙ ap (λ p. p + 2 ^ length (replicate k false_literal) * number v (take j xs)) z
-          ∙ ap (λ p. 0 + p * number v (take j xs)) low ∙ first (2 ^ k * number v (take j xs)) in
+    = number_append v (replicate k false_literal) (take j xs) ∙ ap (λ p. p + 2 ^ length (replicate k false_literal) * number v (take j xs)) z
+    ∙ ap (λ p. 0 + p * number v (take j xs)) low ∙ first (2 ^ k * number v (take j xs)) in
     front ∙ ap (λ p. 2 ^ k * p) (number_take v j xs) ∙ mul_comm (2 ^ k) (number v xs % 2 ^ j) ∙ sym (moved_mod (number v xs) j k) ∙ ap (λ p. (number v xs * 2 ^ k) % 2 ^ p) all where
-  first : (n : ℕ) → 0 + n ≡ n
-  first n = omega arith
+      first : (n : ℕ) → 0 + n ≡ n
+      first n = omega arith

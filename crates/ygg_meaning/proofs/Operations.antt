@@ -1,5 +1,5 @@
 -- What the gates of each operation mean.
-use Rattle.std.proofs.Common.{◌≡◌, ◌≢◌, ◌<◌, ◌≤◌, ℕ, zero, suc, ◌+◌, ◌-◌, ◌*◌, ◌%◌, ◌^◌, ◌==◌, Bool, true, false, not, cond, ◌&&◌, ◌||◌, nat_lt, nat_le, if◌then◌else◌, bit_and, bit_or, bit_xor, List, [], ◌∷◌, length, replicate, ⊎_elim, sym, subst, ap, ◌∙◌, arith, refl}
+use Rattle.std.proofs.Common.{◌≡◌, ◌<◌, ◌≤◌, ℕ, ◌+◌, ◌-◌, ◌*◌, ◌^◌, ◌==◌, Bool, not, ◌&&◌, nat_lt, nat_le, bit_or, List, [], ◌∷◌, length, replicate, ⊎_elim, sym, subst, ap, ◌∙◌, arith, refl}
 use Rattle.std.proofs.lemmas.Bool.{cases_lt}
 use Rattle.std.proofs.lemmas.Bool.Decides.{nat_tests}
 use Rattle.std.proofs.lemmas.List.{length-replicate, length-map}
@@ -9,18 +9,18 @@ use Rattle.ygg_value.specs.Words.{bit_of, word, apply_bits, result_width, CanApp
 use Rattle.ygg_value.specs.declared.operation.Op.{Op}
 use Rattle.ygg_value.specs.declared.operation.Op.TheVariants as op
 use Rattle.ygg_gates.specs.Circuits.{Out, next_variable, true_literal, false_literal, complements}
-use Rattle.ygg_gates.specs.Rows.{Sum, joined_each, added, subtracted, multiplied, equal_digits, less, shifted, operation}
+use Rattle.ygg_gates.specs.Rows.{Sum, joined_each, added, subtracted, multiplied, equal_digits, less, operation}
 use Rattle.ygg_gates.specs.declared.gate.Gate.{Gate}
 use Rattle.ygg_gates.specs.declared.gate.Joint.TheVariants as joint
 use Rattle.ygg_gates.specs.declared.gate.Way.TheVariants.{Up, Down}
 use Rattle.ygg_meaning.proofs.Truths.{value_of, value_of-complement}
 use Rattle.ygg_meaning.proofs.Following.{Below}
-use Rattle.ygg_meaning.proofs.Compares.{subtracted_good, less_good, equal_good, test_true, test_false}
+use Rattle.ygg_meaning.proofs.Compares.{subtracted_good, less_good, equal_good}
 use Rattle.ygg_meaning.proofs.Joints.{joined_each_good}
 use Rattle.ygg_meaning.proofs.Numbers.{number, AllBelow, all_below_replicate, all_below_complements, AreDigits, number_below, number_complements, number_falses, false_bit}
-use Rattle.ygg_meaning.proofs.Products.{Wraps, wraps_mod, multiplied_good}
+use Rattle.ygg_meaning.proofs.Products.{wraps_mod, multiplied_good}
 use Rattle.ygg_meaning.proofs.Shifts.{shifted_good}
-use Rattle.ygg_meaning.proofs.Steps.{Good, changed, grows_length}
+use Rattle.ygg_meaning.proofs.Steps.{Good, changed}
 use Rattle.ygg_meaning.proofs.Sums.{added_good}
 
 -- the width and the number of an operation's result
@@ -35,9 +35,9 @@ sum_good xs ys old l p q =
     let w = g.within in
     changed (AreDigits (length xs)) (IsResult op.Add xs ys) old s s.value.digits g (λ y. y.digits)
     (λ v t e.
-      let z = false_bit v t in
-      let fits : number v s.value.digits < 2 ^ length xs = subst (λ k. number v s.value.digits < 2 ^ k) w.digits.count (number_below v s.value.digits) in
-      wraps_mod (2 ^ length xs) (number v s.value.digits) (number v xs + number v ys) fits (record { over = bit_of (value_of v s.value.carry); is = omega (arith, e, z) }))
+    let z = false_bit v t in
+    let fits : number v s.value.digits < 2 ^ length xs = subst (λ k. number v s.value.digits < 2 ^ k) w.digits.count (number_below v s.value.digits) in
+    wraps_mod (2 ^ length xs) (number v s.value.digits) (number v xs + number v ys) fits (record { over = bit_of (value_of v s.value.carry); is = omega (arith, e, z) }))
 
 difference_good : (xs ys : List Lit) (old : List Gate) → length xs ≡ length ys → AllBelow (next_variable old) xs → AllBelow (next_variable old) ys →
     Good (List Lit) (AreDigits (length xs)) (IsResult op.Sub xs ys) old (operation op.Sub xs ys old)
@@ -47,8 +47,8 @@ difference_good xs ys old l p q =
     let w = g.within in
     changed (AreDigits (length xs)) (IsResult op.Sub xs ys) old s s.value.digits g (λ y. y.digits)
     (λ v t e.
-      let fits : number v s.value.digits < 2 ^ length xs = subst (λ k. number v s.value.digits < 2 ^ k) w.digits.count (number_below v s.value.digits) in
-      wraps_mod (2 ^ length xs) (number v s.value.digits) (number v xs + 2 ^ length xs - number v ys) fits (record { over = bit_of (value_of v s.value.carry); is = omega (arith, e) }))
+    let fits : number v s.value.digits < 2 ^ length xs = subst (λ k. number v s.value.digits < 2 ^ k) w.digits.count (number_below v s.value.digits) in
+    wraps_mod (2 ^ length xs) (number v s.value.digits) (number v xs + 2 ^ length xs - number v ys) fits (record { over = bit_of (value_of v s.value.carry); is = omega (arith, e) }))
 
 product_good : (xs ys : List Lit) (old : List Gate) → length xs ≡ length ys → AllBelow (next_variable old) xs → AllBelow (next_variable old) ys →
     Good (List Lit) (AreDigits (length xs)) (IsResult op.Mul xs ys) old (operation op.Mul xs ys old)
@@ -59,22 +59,22 @@ product_good xs ys old l p q =
     let w = g.within in
     changed (AreDigits (length xs)) (IsResult op.Mul xs ys) old out out.value g (λ y. y)
     (λ v t e.
-      let z = number_falses v (length xs) t in
-      let fits : number v out.value < 2 ^ length xs = subst (λ k. number v out.value < 2 ^ k) w.count (number_below v out.value) in
-      let whole : number v zeros + number v xs * (2 ^ 0 * number v ys) ≡ number v xs * number v ys = ap (λ k. k + number v xs * (2 ^ 0 * number v ys)) z ∙ plain (number v xs) (number v ys) in
-      wraps_mod (2 ^ length xs) (number v out.value) (number v xs * number v ys) fits (record { over = e.over; is = e.is ∙ whole })) where
-  plain : (x y : ℕ) → 0 + x * (2 ^ 0 * y) ≡ x * y
-  plain x y = let one : 2 ^ 0 * y ≡ y = omega arith in ap (λ z. 0 + x * z) one ∙ none (x * y) where
-    none : (n : ℕ) → 0 + n ≡ n
-    none n = omega arith
+    let z = number_falses v (length xs) t in
+    let fits : number v out.value < 2 ^ length xs = subst (λ k. number v out.value < 2 ^ k) w.count (number_below v out.value) in
+    let whole : number v zeros + number v xs * (2 ^ 0 * number v ys) ≡ number v xs * number v ys = ap (λ k. k + number v xs * (2 ^ 0 * number v ys)) z ∙ plain (number v xs) (number v ys) in
+    wraps_mod (2 ^ length xs) (number v out.value) (number v xs * number v ys) fits (record { over = e.over; is = e.is ∙ whole })) where
+      plain : (x y : ℕ) → 0 + x * (2 ^ 0 * y) ≡ x * y
+      plain x y = let one : 2 ^ 0 * y ≡ y = omega arith in ap (λ z. 0 + x * z) one ∙ none (x * y) where
+        none : (n : ℕ) → 0 + n ≡ n
+        none n = omega arith
 
 -- a single digit with the value of a test
 single_good : (test : (ℕ → Bool) → Bool) (old : List Gate) (out : Out Lit) → Good Lit Below (λ v o. value_of v o ≡ test v) old out →
     Good (List Lit) (AreDigits 1) (λ v os. number v os ≡ bit_of (test v)) old (record { value = out.value ∷ []; gates = out.gates })
 single_good test old out g =
     changed (AreDigits 1) (λ v os. number v os ≡ bit_of (test v)) old out (out.value ∷ []) g (λ b. record { count = refl; below = (b, tt) }) (λ v t e. ap (λ z. bit_of z + 2 * 0) e ∙ last (bit_of (test v))) where
-  last : (n : ℕ) → n + 2 * 0 ≡ n
-  last n = omega arith
+      last : (n : ℕ) → n + 2 * 0 ≡ n
+      last n = omega arith
 
 turned_good : (test : (ℕ → Bool) → Bool) (old : List Gate) (out : Out Lit) → Good Lit Below (λ v o. value_of v o ≡ test v) old out →
     Good Lit Below (λ v o. value_of v o ≡ not (test v)) old (record { value = complement out.value; gates = out.gates })
@@ -95,13 +95,13 @@ imp_table : (x y n : ℕ) → x < 2 → y < 2 → n + x + 1 ≡ 2 → bit_or n y
 imp_table x y n p q e =
     ⊎_elim
     (λ (l : x < 1).
-      let zero_x : x ≡ 0 = omega arith in
-      let one : n ≡ 1 = omega (arith, e) in
-      ⊎_elim (λ (m : y < 1). let zero_y : y ≡ 0 = omega arith in rw (zero_x, one, zero_y) refl) (λ (m : 1 ≤ y). let one_y : y ≡ 1 = omega arith in rw (zero_x, one, one_y) refl) (cases_lt y 1))
+    let zero_x : x ≡ 0 = omega arith in
+    let one : n ≡ 1 = omega (arith, e) in
+    ⊎_elim (λ (m : y < 1). let zero_y : y ≡ 0 = omega arith in rw (zero_x, one, zero_y) refl) (λ (m : 1 ≤ y). let one_y : y ≡ 1 = omega arith in rw (zero_x, one, one_y) refl) (cases_lt y 1))
     (λ (l : 1 ≤ x).
-      let one_x : x ≡ 1 = omega arith in
-      let none : n ≡ 0 = omega (arith, e) in
-      ⊎_elim (λ (m : y < 1). let zero_y : y ≡ 0 = omega arith in rw (one_x, none, zero_y) refl) (λ (m : 1 ≤ y). let one_y : y ≡ 1 = omega arith in rw (one_x, none, one_y) refl) (cases_lt y 1))
+    let one_x : x ≡ 1 = omega arith in
+    let none : n ≡ 0 = omega (arith, e) in
+    ⊎_elim (λ (m : y < 1). let zero_y : y ≡ 0 = omega arith in rw (one_x, none, zero_y) refl) (λ (m : 1 ≤ y). let one_y : y ≡ 1 = omega arith in rw (one_x, none, one_y) refl) (cases_lt y 1))
     (cases_lt x 1)
 
 below_two : (v : ℕ → Bool) (xs : List Lit) → length xs ≡ 1 → number v xs < 2
@@ -115,9 +115,9 @@ implication_good xs ys old l m p q =
     changed (AreDigits 1) (IsResult op.Imp xs ys) old out out.value (joined_each_good joint.Or (complements xs) ys old (count ∙ sym m) tt (all_below_complements (next_variable old) xs p) q)
     (λ w. record { count = w.count ∙ count; below = w.below })
     (λ v t e.
-      let c = number_complements v xs in
-      let two : 2 ^ length xs ≡ 2 = ap (λ k. 2 ^ k) l in
-      e ∙ imp_table (number v xs) (number v ys) (number v (complements xs)) (below_two v xs l) (below_two v ys m) (c ∙ two))
+    let c = number_complements v xs in
+    let two : 2 ^ length xs ≡ 2 = ap (λ k. 2 ^ k) l in
+    e ∙ imp_table (number v xs) (number v ys) (number v (complements xs)) (below_two v xs l) (below_two v ys m) (c ∙ two))
 
 -- widths that an operation takes
 abbrev pub CanOperate : Op → ℕ → ℕ → Type 0

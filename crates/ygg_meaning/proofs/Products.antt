@@ -1,7 +1,7 @@
 -- What the gates of a product mean.
-use Rattle.std.proofs.Common.{◌≡◌, ◌<◌, ◌≤◌, ℕ, zero, suc, ◌+◌, ◌-◌, ◌*◌, ◌/◌, ◌%◌, ◌^◌, Bool, true, false, bit_and, List, [], ◌∷◌, ◌++◌, length, replicate, take, sym, subst, ap, ◌∙◌, arith, refl}
+use Rattle.std.proofs.Common.{◌≡◌, ◌<◌, ◌≤◌, ℕ, zero, suc, ◌+◌, ◌-◌, ◌*◌, ◌/◌, ◌%◌, ◌^◌, Bool, true, false, bit_and, List, [], ◌∷◌, length, replicate, take, sym, subst, ap, ◌∙◌, arith, refl}
 use Rattle.std.proofs.lemmas.List.{length-replicate, length-append, length-take}
-use Rattle.std.proofs.lemmas.Nat.{and_comm, and_mask, div-add-mod', pow_pos}
+use Rattle.std.proofs.lemmas.Nat.{and_comm, and_mask, div-add-mod'}
 use Rattle.std.proofs.Math.Nat.{mod-eq_of_lt, mul_comm, mul_assoc, add-mul-mod_self_left}
 use Rattle.ygg_cnf.specs.declared.lit.Lit.{Lit}
 use Rattle.ygg_value.specs.Words.{bit_of}
@@ -11,10 +11,10 @@ use Rattle.ygg_gates.specs.declared.gate.Gate.{Gate}
 use Rattle.ygg_gates.specs.declared.gate.Joint.TheVariants as joint
 use Rattle.ygg_meaning.proofs.Truths.{value_of}
 use Rattle.ygg_meaning.proofs.Following.{Below}
-use Rattle.ygg_meaning.proofs.Joints.{IsJoint, joined_each_good}
-use Rattle.ygg_meaning.proofs.Numbers.{number, AllBelow, all_below_more, all_below_append, all_below_replicate, all_below_take, AreDigits, digits_more, digits_below, number_below, double, double_times, false_bit, number_moved_up}
-use Rattle.ygg_meaning.proofs.Steps.{Good, done, follow, changed, grows_length}
-use Rattle.ygg_meaning.proofs.Sums.{IsSum, added_good}
+use Rattle.ygg_meaning.proofs.Joints.{joined_each_good}
+use Rattle.ygg_meaning.proofs.Numbers.{number, AllBelow, all_below_more, all_below_append, all_below_replicate, all_below_take, AreDigits, digits_below, double, double_times, false_bit, number_moved_up}
+use Rattle.ygg_meaning.proofs.Steps.{Good, done, follow, grows_length}
+use Rattle.ygg_meaning.proofs.Sums.{added_good}
 
 -- one digit, so many times: all ones or none
 number_copies : (v : ℕ → Bool) (k : ℕ) (d : Lit) (b : Bool) → value_of v d ≡ b → number v (replicate k d) + bit_of b ≡ bit_of b * 2 ^ k
@@ -32,13 +32,13 @@ pub and_copies : (v : ℕ → Bool) (k : ℕ) (d : Lit) (b : Bool) (n : ℕ) →
 and_copies v k d true n e l =
     let ones : number v (replicate k d) ≡ 2 ^ k - 1 = (let h = number_copies v k d true e in omega (arith, h)) in
     ap (λ z. bit_and z n) ones ∙ and_comm (2 ^ k - 1) n ∙ and_mask n k ∙ mod-eq_of_lt l ∙ once n where
-  once : (m : ℕ) → m ≡ 1 * m
-  once m = omega arith
+      once : (m : ℕ) → m ≡ 1 * m
+      once m = omega arith
 and_copies v k d false n e l =
     let none : number v (replicate k d) ≡ 0 = (let h = number_copies v k d false e in omega (arith, h)) in
     ap (λ z. bit_and z n) none ∙ and_comm 0 n ∙ and_mask n 0 ∙ nothing n where
-  nothing : (m : ℕ) → m % 2 ^ 0 ≡ 0 * m
-  nothing m = omega arith
+      nothing : (m : ℕ) → m % 2 ^ 0 ≡ 0 * m
+      nothing m = omega arith
 
 pub moved_up_digits : (places n : ℕ) (xs : List Lit) → places ≤ length xs → 1 < n → AllBelow n xs → AreDigits (length xs) n (moved_up places xs)
 moved_up_digits places n xs l one h = record {
@@ -80,22 +80,22 @@ multiplied_digit_good xs so_far place d old l at p q r =
     follow (AreDigits (length xs)) (IsProductDigit xs so_far place d) old part sum sum.value.digits g k
     (λ m a b. record { count = b.digits.count ∙ l; below = b.digits.below })
     (λ v t e f.
-      let power : ℕ = 2 ^ length xs in
-      let z = false_bit v t in
-      let wide : 2 ^ length so_far ≡ power = ap (λ i. 2 ^ i) l in
-      let first : number v sum.value.digits + power * bit_of (value_of v sum.value.carry) ≡ number v so_far + number v part.value + 0
-          = subst (λ i. number v sum.value.digits + i * bit_of (value_of v sum.value.carry) ≡ number v so_far + number v part.value + 0) wide (f ∙ ap (λ i. number v so_far + number v part.value + i) z) in
-      let fits : number v up < power = digits_below v (length xs) (next_variable old) up digits in
-      let second : number v part.value ≡ bit_of (value_of v d) * number v up = e ∙ and_copies v (length xs) d (value_of v d) (number v up) refl fits in
-      let whole : ℕ = number v xs * 2 ^ place in
-      let third : number v up + power * (whole / power) ≡ whole
-          = ap (λ i. i + power * (whole / power)) (number_moved_up v place xs t at) ∙ split whole power in
-      record {
-        over = bit_of (value_of v sum.value.carry) + bit_of (value_of v d) * (whole / power);
-        is = digit_step power (number v sum.value.digits) (number v so_far) (number v part.value) (bit_of (value_of v sum.value.carry)) (number v xs) (number v up) (2 ^ place) (whole / power) (bit_of (value_of v d)) first second third;
-      }) where
-  split : (n m : ℕ) → n % m + m * (n / m) ≡ n
-  split n m = let h = div-add-mod' n m in let c = mul_comm (n / m) m in omega (arith, h, c)
+    let power : ℕ = 2 ^ length xs in
+    let z = false_bit v t in
+    let wide : 2 ^ length so_far ≡ power = ap (λ i. 2 ^ i) l in
+    let first : number v sum.value.digits + power * bit_of (value_of v sum.value.carry) ≡ number v so_far + number v part.value + 0
+    = subst (λ i. number v sum.value.digits + i * bit_of (value_of v sum.value.carry) ≡ number v so_far + number v part.value + 0) wide (f ∙ ap (λ i. number v so_far + number v part.value + i) z) in
+    let fits : number v up < power = digits_below v (length xs) (next_variable old) up digits in
+    let second : number v part.value ≡ bit_of (value_of v d) * number v up = e ∙ and_copies v (length xs) d (value_of v d) (number v up) refl fits in
+    let whole : ℕ = number v xs * 2 ^ place in
+    let third : number v up + power * (whole / power) ≡ whole
+    = ap (λ i. i + power * (whole / power)) (number_moved_up v place xs t at) ∙ split whole power in
+    record {
+      over = bit_of (value_of v sum.value.carry) + bit_of (value_of v d) * (whole / power);
+      is = digit_step power (number v sum.value.digits) (number v so_far) (number v part.value) (bit_of (value_of v sum.value.carry)) (number v xs) (number v up) (2 ^ place) (whole / power) (bit_of (value_of v d)) first second third;
+    }) where
+      split : (n m : ℕ) → n % m + m * (n / m) ≡ n
+      split n m = let h = div-add-mod' n m in let c = mul_comm (n / m) m in omega (arith, h, c)
 
 abbrev IsProduct : List Lit → List Lit → ℕ → List Lit → (ℕ → Bool) → List Lit → Type 0
 IsProduct xs so_far place ds v o = Wraps (2 ^ length xs) (number v o) (number v so_far + number v xs * (2 ^ place * number v ds))
@@ -106,17 +106,18 @@ product_more power o next over sum x shift up b n first e f g =
     let a : x * (up * n) ≡ x * (shift * (2 * n)) = ap (λ z. x * z) (ap (λ z. z * n) g ∙ mul_assoc 2 shift n ∙ twice shift n) in
     let s : x * (shift * (b + 2 * n)) ≡ x * (shift * b) + x * (shift * (2 * n)) = spread x shift b (2 * n) in
     grind (arith, e, f, a, s) where
-  twice : (p q : ℕ) → 2 * (p * q) ≡ p * (2 * q)
-  twice p q = grind arith
-  spread : (p q i j : ℕ) → p * (q * (i + j)) ≡ p * (q * i) + p * (q * j)
-  spread p q i j = grind arith
+      twice : (p q : ℕ) → 2 * (p * q) ≡ p * (2 * q)
+      twice p q = grind arith
+
+      spread : (p q i j : ℕ) → p * (q * (i + j)) ≡ p * (q * i) + p * (q * j)
+      spread p q i j = grind arith
 
 pub multiplied_good : (xs so_far : List Lit) (place : ℕ) (ds : List Lit) (old : List Gate) → length so_far ≡ length xs → place + length ds ≤ length xs → AllBelow (next_variable old) xs → AllBelow (next_variable old) so_far → AllBelow (next_variable old) ds →
     Good (List Lit) (AreDigits (length xs)) (IsProduct xs so_far place ds) old (multiplied xs so_far place ds old)
 multiplied_good xs so_far place [] old l at p q r =
     done (AreDigits (length xs)) (IsProduct xs so_far place []) old so_far (record { count = l; below = q }) (λ v t. record { over = 0; is = none (number v so_far) (2 ^ length xs) (number v xs) (2 ^ place) }) where
-  none : (s w x p : ℕ) → s + w * 0 ≡ s + x * (p * 0)
-  none s w x p = grind arith
+      none : (s w x p : ℕ) → s + w * 0 ≡ s + x * (p * 0)
+      none s w x p = grind arith
 multiplied_good xs so_far place (d ∷ ds) old l at p q r =
     let one : Out (List Lit) = multiplied_digit xs so_far place d old in
     let g = multiplied_digit_good xs so_far place d old l (omega arith) p q r.0 in

@@ -29,7 +29,7 @@ child_before before (Resize a w) p c h = stands_at a.0 p (length before) h c.0
 child_before before (Pick t a b) p c h =
     ⊎_elim
     (λ (e : (t.0 == p || a.0 == p) ≡ true).
-      ⊎_elim (λ (f : (t.0 == p) ≡ true). stands_at t.0 p (length before) f c.test) (λ (f : (a.0 == p) ≡ true). stands_at a.0 p (length before) f c.yes) (or_cases (t.0 == p) (a.0 == p) e))
+    ⊎_elim (λ (f : (t.0 == p) ≡ true). stands_at t.0 p (length before) f c.test) (λ (f : (a.0 == p) ≡ true). stands_at a.0 p (length before) f c.yes) (or_cases (t.0 == p) (a.0 == p) e))
     (λ (e : (b.0 == p) ≡ true). stands_at b.0 p (length before) e c.no) (or_cases (t.0 == p || a.0 == p) (b.0 == p) h)
 
 or_own : (a b : Bool) → (a || (a && b)) ≡ true → a ≡ true
@@ -44,7 +44,7 @@ reach_children first before (m ∷ ns) t l o zero n p e h c =
     let same : m ≡ n = cc in
     let here : first + 0 ≡ first = omega arith in
     let own : reaches_from (first + 1) ns t first ≡ true
-        = or_own (reaches_from (first + 1) ns t first) (has_child m first) (ap (λ q. reaches_from first (m ∷ ns) t q) (sym here) ∙ h) in
+    = or_own (reaches_from (first + 1) ns t first) (has_child m first) (ap (λ q. reaches_from first (m ∷ ns) t q) (sym here) ∙ h) in
     or_second (reaches_from (first + 1) ns t p) (reaches_from (first + 1) ns t first && has_child m p) (and_both _ _ own (ap (λ z. has_child z p) same ∙ c))
 reach_children first before (m ∷ ns) t l o (suc i) n p e h c =
     let there : first + suc i ≡ first + 1 + i = omega arith in
@@ -52,10 +52,10 @@ reach_children first before (m ∷ ns) t l o (suc i) n p e h c =
     let g : reaches_from first (m ∷ ns) t q ≡ true = ap (λ z. reaches_from first (m ∷ ns) t z) (sym there) ∙ h in
     ⊎_elim
     (λ (f : reaches_from (first + 1) ns t q ≡ true).
-      or_first (reaches_from (first + 1) ns t p) (reaches_from (first + 1) ns t first && has_child m p)
-      (reach_children (first + 1) (before ++ m ∷ []) ns t (omega (arith, l, length-append before (m ∷ []))) o.1 i n p e f c))
+    or_first (reaches_from (first + 1) ns t p) (reaches_from (first + 1) ns t first && has_child m p)
+    (reach_children (first + 1) (before ++ m ∷ []) ns t (omega (arith, l, length-append before (m ∷ []))) o.1 i n p e f c))
     (λ (f : (reaches_from (first + 1) ns t first && has_child m q) ≡ true).
-      absurd (let b = child_before before m q o.0 (and_right (reaches_from (first + 1) ns t first) (has_child m q) f) in omega (arith, b, l)))
+    absurd (let b = child_before before m q o.0 (and_right (reaches_from (first + 1) ns t first) (has_child m q) f) in omega (arith, b, l)))
     (or_cases (reaches_from (first + 1) ns t q) (reaches_from (first + 1) ns t first && has_child m q) g)
 
 -- a term reaches itself
@@ -69,13 +69,13 @@ passing_reached : (nodes : List Node) (t first : ℕ) (before ns : List Node) (p
 passing_reached nodes t first before [] p l there h = subst (Reaches nodes t) ((Decides-eqb t p).0 h) itself
 passing_reached nodes t first before (n ∷ ns) p l there h =
     let deeper : (i : ℕ) (m : Node) → slice_get ((before ++ n ∷ []) ++ ns) i ≡ Some m → slice_get nodes i ≡ Some m
-        = λ i m e. there i m (ap (λ z. slice_get z i) (sym (append_assoc before (n ∷ []) ns)) ∙ e) in
+    = λ i m e. there i m (ap (λ z. slice_get z i) (sym (append_assoc before (n ∷ []) ns)) ∙ e) in
     let count : length (before ++ n ∷ []) ≡ first + 1 = omega (arith, l, length-append before (n ∷ [])) in
     let here : slice_get nodes first ≡ Some n = subst (λ z. slice_get nodes z ≡ Some n) l (there (length before) n (middle before n ns)) in
     ⊎_elim (λ (e : reaches_from (first + 1) ns t p ≡ true). passing_reached nodes t (first + 1) (before ++ n ∷ []) ns p count deeper e)
     (λ (e : (reaches_from (first + 1) ns t first && has_child n p) ≡ true).
-      child first n p (passing_reached nodes t (first + 1) (before ++ n ∷ []) ns first count deeper (and_left (reaches_from (first + 1) ns t first) (has_child n p) e)) here
-      (and_right (reaches_from (first + 1) ns t first) (has_child n p) e))
+    child first n p (passing_reached nodes t (first + 1) (before ++ n ∷ []) ns first count deeper (and_left (reaches_from (first + 1) ns t first) (has_child n p) e)) here
+    (and_right (reaches_from (first + 1) ns t first) (has_child n p) e))
     (or_cases (reaches_from (first + 1) ns t p) (reaches_from (first + 1) ns t first && has_child n p) h)
 
 -- what is reached passes the test, and stands at the term or before it
@@ -99,6 +99,7 @@ reached_passes nodes term o first p (child k n q r e h) =
 pub tests_reaching : (nodes : List Node) (term : Id) (place : ℕ) → IsBank nodes → Stands nodes term → (reaches nodes term place ≡ true) ↔ Reaches nodes term.0 place
 tests_reaching nodes term place b s =
     let k : ℕ = term.0 + 1 in
-    let first : InOrder [] (up_to term nodes) = ordered_fewer [] (up_to term nodes) (drop k nodes) (subst (InOrder []) (sym (take-append-drop k nodes)) b.ordered) in
-    (λ h. passing_reached nodes term.0 0 [] (up_to term nodes) place refl (λ i n e. subst (λ z. slice_get z i ≡ Some n) (take-append-drop k nodes) (in_front (take k nodes) (drop k nodes) i n e)) h,
-     λ r. (reached_passes nodes term b.ordered first place r).passes)
+    let first : InOrder [] (up_to term nodes) = ordered_fewer [] (up_to term nodes) (drop k nodes) (subst (InOrder []) (sym (take-append-drop k nodes)) b.ordered) in (
+      λ h. passing_reached nodes term.0 0 [] (up_to term nodes) place refl (λ i n e. subst (λ z. slice_get z i ≡ Some n) (take-append-drop k nodes) (in_front (take k nodes) (drop k nodes) i n e)) h,
+      λ r. (reached_passes nodes term b.ordered first place r).passes,
+    )

@@ -1,10 +1,10 @@
 -- The digits of all nodes that are reached, as more nodes come.
-use Rattle.std.proofs.Common.{◌≡◌, ◌<◌, ◌≤◌, ℕ, zero, suc, ◌+◌, ◌==◌, Bool, true, false, ◌&&◌, ◌||◌, List, [], ◌∷◌, ◌++◌, length, take, drop, get_or, min, Some, slice_get, ⊎_elim, sym, subst, ap, ◌∙◌, arith, refl, append_assoc, length-append}
+use Rattle.std.proofs.Common.{◌≡◌, ◌<◌, ◌≤◌, ℕ, ◌+◌, ◌==◌, Bool, true, false, ◌||◌, List, [], ◌∷◌, ◌++◌, length, take, drop, Some, slice_get, ⊎_elim, sym, subst, ap, ◌∙◌, arith, refl, append_assoc}
 use Rattle.std.proofs.lemmas.Bool.{false≢true, eq-eqb, cases_lt}
-use Rattle.std.proofs.lemmas.List.{append-nil, length-take, length_push, take-append-drop, take_more, get_or_append_left, get_or_push}
+use Rattle.std.proofs.lemmas.List.{length-take, length_push, take-append-drop, take_more, get_or_append_left, get_or_push}
 use Rattle.std.proofs.lemmas.Option.{slice_get_within, get_or_from_slice_get}
 use Rattle.ygg_cnf.specs.declared.lit.Lit.{Lit}
-use Rattle.ygg_bank.proofs.Places.{in_front, at_end}
+use Rattle.ygg_bank.proofs.Places.{at_end}
 use Rattle.ygg_bank.proofs.Widths.{widths_more, widths_length, wider, has_width, stored_can}
 use Rattle.ygg_bank.specs.Making.{id}
 use Rattle.ygg_bank.specs.Nodes.{width_at, node_width, widths_of, HasWidth, Stands, CanMake, InOrder, Extends}
@@ -12,8 +12,7 @@ use Rattle.ygg_bank.specs.declared.node.Id.{Id}
 use Rattle.ygg_bank.specs.declared.node.Node.{Node}
 use Rattle.ygg_bank.specs.declared.node.Node.TheVariants.{Input, Const, Bin, Not, Resize, Pick}
 use Rattle.ygg_gates.specs.Circuits.{Out, next_variable}
-use Rattle.ygg_gates.specs.Groups.{Circuit, circuit, has_child, digits_at, node_digits, with_node, with_nodes}
-use Rattle.ygg_gates.specs.declared.gate.Gate.{Gate}
+use Rattle.ygg_gates.specs.Groups.{Circuit, has_child, digits_at, node_digits, with_node, with_nodes}
 use Rattle.ygg_meaning.proofs.Following.{Closed}
 use Rattle.ygg_meaning.proofs.Lists.{middle}
 use Rattle.ygg_meaning.proofs.NodeGates.{ChildDigits, ChildrenDigits, NodeMeans, node_good}
@@ -109,7 +108,7 @@ next_width ns k n w e h =
     let more : take (k + 1) ns ≡ take k ns ++ n ∷ [] = take_more ns k n in_ns ∙ ap (λ z. take k ns ++ z ∷ []) (get_or_from_slice_get ns k n n e) in
     let last : slice_get (ws ++ own ∷ []) k ≡ Some own = subst (λ z. slice_get (ws ++ own ∷ []) z ≡ Some own) count (at_end ws own) in
     let here : HasWidth (take (k + 1) ns) (id k) own
-        = subst (λ z. HasWidth z (id k) own) (sym more) (subst (λ z. slice_get z k ≡ Some own) (sym (widths_more (take k ns) n)) last) in
+    = subst (λ z. HasWidth z (id k) own) (sym more) (subst (λ z. slice_get z k ≡ Some own) (sym (widths_more (take k ns) n)) last) in
     let all : HasWidth ns (id k) own = wider (take (k + 1) ns) ns (id k) own (front ns (k + 1)) here in
     let same : Some w ≡ Some own = sym h ∙ all in cc
 
@@ -125,9 +124,9 @@ next_shaped : (ns : List Node) (r : ℕ → Bool) (c : Circuit) (n : Node) (b : 
 next_shaped ns r c n false h e = record {
   closed = h.shaped.closed;
   digits = λ p w l f g.
-    ⊎_elim (λ (m : p < length c.table). subst (AreDigits w (next_variable c.gates)) (sym (earlier_digits c.table [] p m)) (h.shaped.digits p w m f g))
-    (λ (m : length c.table ≤ p). absurd (let s : p ≡ length c.table = omega (arith, l, m, length_push c.table []) in let t : r p ≡ false = ap r s ∙ e in false≢true (sym t ∙ f)))
-    (cases_lt p (length c.table));
+      ⊎_elim (λ (m : p < length c.table). subst (AreDigits w (next_variable c.gates)) (sym (earlier_digits c.table [] p m)) (h.shaped.digits p w m f g))
+      (λ (m : length c.table ≤ p). absurd (let s : p ≡ length c.table = omega (arith, l, m, length_push c.table []) in let t : r p ≡ false = ap r s ∙ e in false≢true (sym t ∙ f)))
+      (cases_lt p (length c.table));
 }
 next_shaped ns r c n true h e =
     let out : Out (List Lit) = node_digits c.table n c.gates in
@@ -135,16 +134,16 @@ next_shaped ns r c n true h e =
     record {
       closed = g.closed h.shaped.closed;
       digits = λ p w l f i.
-        ⊎_elim
-        (λ (m : p < length c.table).
+          ⊎_elim
+          (λ (m : p < length c.table).
           subst (AreDigits w (next_variable out.gates)) (sym (earlier_digits c.table out.value p m))
           (digits_more w (next_variable c.gates) (next_variable out.gates) (digits_at c.table (id p)) (grows_length c.gates out.gates g.grows) (h.shaped.digits p w m f i)))
-        (λ (m : length c.table ≤ p).
+          (λ (m : length c.table ≤ p).
           let s : length c.table ≡ p = omega (arith, l, m, length_push c.table out.value) in
           let width : w ≡ node_width (widths_of (take (length c.table) ns)) n = next_width ns (length c.table) n w h.there (subst (λ z. HasWidth ns (id z) w) (sym s) i) in
           subst (λ z. AreDigits w (next_variable out.gates) (digits_at (c.table ++ out.value ∷ []) (id z))) s
           (subst (AreDigits w (next_variable out.gates)) (sym (last_digits c.table out.value)) (subst (λ z. AreDigits z (next_variable out.gates) out.value) (sym width) g.within)))
-        (cases_lt p (length c.table));
+          (cases_lt p (length c.table));
     }
 
 -- what comes of more nodes: digits for all that are reached, more gates, and the same digits as before of the nodes before

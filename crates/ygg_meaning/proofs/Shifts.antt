@@ -1,7 +1,7 @@
 -- What the gates of a shift mean.
-use Rattle.std.proofs.Common.{◌≡◌, ◌<◌, ◌≤◌, ℕ, zero, suc, ◌+◌, ◌-◌, ◌*◌, ◌/◌, ◌%◌, ◌^◌, Bool, true, false, not, cond, ◌||◌, nat_lt, if◌then◌else◌, bit_and, List, [], ◌∷◌, ◌++◌, length, replicate, take, drop, ⊎_elim, sym, subst, ap, ◌∙◌, arith, refl, add-one}
+use Rattle.std.proofs.Common.{◌≡◌, ◌<◌, ◌≤◌, ℕ, suc, ◌+◌, ◌-◌, ◌*◌, ◌/◌, ◌%◌, ◌^◌, Bool, true, false, not, cond, ◌||◌, nat_lt, if◌then◌else◌, bit_and, List, [], ◌∷◌, length, replicate, take, drop, ⊎_elim, sym, subst, ap, ◌∙◌, arith, refl, add-one}
 use Rattle.std.proofs.lemmas.Bool.{cases_lt}
-use Rattle.std.proofs.lemmas.List.{length-replicate, length-append, length-take, length-drop, drop_all}
+use Rattle.std.proofs.lemmas.List.{length-replicate, length-append, length-drop, drop_all}
 use Rattle.std.proofs.lemmas.Nat.{shr-shr, pow-add, mul-mod_first, and_comm}
 use Rattle.std.proofs.Math.Nat.{mod-eq_of_lt, mul_comm, mul_assoc, div-eq_of_lt, pow-le-pow_right, mul-mod_left, le-mul_of_pos_right}
 use Rattle.ygg_cnf.specs.Literals.{complement}
@@ -10,18 +10,17 @@ use Rattle.ygg_value.specs.Words.{bit_of, apply_bits}
 use Rattle.ygg_value.specs.declared.operation.Op.{Op}
 use Rattle.ygg_value.specs.declared.operation.Op.TheVariants as op
 use Rattle.ygg_gates.specs.Circuits.{Out, next_variable, false_literal}
-use Rattle.ygg_gates.specs.Rows.{joined_each, moved, moved_up, moved_down, near, shifted_near, any_digit, shifted}
+use Rattle.ygg_gates.specs.Rows.{joined_each, moved, near, shifted_near, any_digit, shifted}
 use Rattle.ygg_gates.specs.declared.gate.Gate.{Gate}
 use Rattle.ygg_gates.specs.declared.gate.Joint.TheVariants as joint
 use Rattle.ygg_gates.specs.declared.gate.Way.{Way}
 use Rattle.ygg_gates.specs.declared.gate.Way.TheVariants.{Up, Down}
 use Rattle.ygg_meaning.proofs.Truths.{value_of, value_of-complement}
-use Rattle.ygg_meaning.proofs.Following.{Below}
-use Rattle.ygg_meaning.proofs.Joints.{IsJoint, joined_each_good}
-use Rattle.ygg_meaning.proofs.Compares.{IsAny, any_good, test_true, test_false}
+use Rattle.ygg_meaning.proofs.Joints.{joined_each_good}
+use Rattle.ygg_meaning.proofs.Compares.{any_good, test_true, test_false}
 use Rattle.ygg_meaning.proofs.Products.{and_copies, moved_up_digits}
-use Rattle.ygg_meaning.proofs.Numbers.{number, AllBelow, all_below_more, all_below_append, all_below_replicate, all_below_take, all_below_drop, AreDigits, digits_more, digits_below, number_below, number_split, double, double_times, false_bit, number_moved_up, number_moved_down}
-use Rattle.ygg_meaning.proofs.Steps.{Good, done, follow, changed, grows_length}
+use Rattle.ygg_meaning.proofs.Numbers.{number, AllBelow, all_below_more, all_below_append, all_below_replicate, all_below_take, all_below_drop, AreDigits, number_below, number_split, double_times, number_moved_up, number_moved_down}
+use Rattle.ygg_meaning.proofs.Steps.{Good, done, follow, grows_length}
 
 -- a number of so many digits moved by so many places
 abbrev moved_number : Way → ℕ → ℕ → ℕ → ℕ
@@ -70,8 +69,8 @@ place_sum place b n =
     let up : place + 1 ≡ suc place = omega arith in
     let e : 2 ^ (place + 1) * n ≡ 2 * (2 ^ place * n) = ap (λ i. 2 ^ i * n) up ∙ double_times place n in
     ap (λ z. 2 ^ place * b + z) e ∙ spread (2 ^ place) b n where
-  spread : (p i j : ℕ) → p * i + 2 * (p * j) ≡ p * (i + 2 * j)
-  spread p i j = grind arith
+      spread : (p i j : ℕ) → p * i + 2 * (p * j) ≡ p * (i + 2 * j)
+      spread p i j = grind arith
 
 shifted_near_good : (way : Way) (xs : List Lit) (place : ℕ) (ds : List Lit) (old : List Gate) → AreNear (length xs) place ds → AllBelow (next_variable old) xs → AllBelow (next_variable old) ds →
     Good (List Lit) (AreDigits (length xs)) (IsMoved way xs place ds) old (shifted_near way xs place ds old)
@@ -92,14 +91,14 @@ shifted_near_good way xs place (d ∷ ds) old a p r =
     follow (AreDigits (length xs)) (IsMoved way xs place (d ∷ ds)) old one rest rest.value g k
     (λ m y z. record { count = z.count ∙ count; below = z.below })
     (λ v t e f.
-      let width : ℕ = length xs in
-      let x : ℕ = number v xs in
-      let first : number v one.value ≡ moved_number way width x (2 ^ place * bit_of (value_of v d))
-          = e ∙ ap (λ z. cond (value_of v d) z x) (number_moved v way (2 ^ place) xs t near) ∙ moved_if way width x (2 ^ place) (value_of v d) (number_below v xs) in
-      f ∙ ap (λ z. moved_number way z (number v one.value) (2 ^ (place + 1) * number v ds)) count
-      ∙ ap (λ z. moved_number way width z (2 ^ (place + 1) * number v ds)) first
-      ∙ moved_twice way width x (2 ^ place * bit_of (value_of v d)) (2 ^ (place + 1) * number v ds)
-      ∙ ap (moved_number way width x) (place_sum place (bit_of (value_of v d)) (number v ds)))
+    let width : ℕ = length xs in
+    let x : ℕ = number v xs in
+    let first : number v one.value ≡ moved_number way width x (2 ^ place * bit_of (value_of v d))
+    = e ∙ ap (λ z. cond (value_of v d) z x) (number_moved v way (2 ^ place) xs t near) ∙ moved_if way width x (2 ^ place) (value_of v d) (number_below v xs) in
+    f ∙ ap (λ z. moved_number way z (number v one.value) (2 ^ (place + 1) * number v ds)) count
+    ∙ ap (λ z. moved_number way width z (2 ^ (place + 1) * number v ds)) first
+    ∙ moved_twice way width x (2 ^ place * bit_of (value_of v d)) (2 ^ (place + 1) * number v ds)
+    ∙ ap (moved_number way width x) (place_sum place (bit_of (value_of v d)) (number v ds)))
 
 near_here : (w place : ℕ) (y : Lit) (ys : List Lit) → 2 ^ place < w → near w place (y ∷ ys) ≡ suc (near w (place + 1) ys)
 near_here w place y ys l = rw (test_true (2 ^ place) w l) (add-one (near w (place + 1) ys))
@@ -157,21 +156,23 @@ shift_number : (way : Way) (w x value amount low high k : ℕ) (over : Bool) →
 shift_number way w x value amount low high k over l e f g h =
     ⊎_elim
     (λ (m : 0 < high).
-      let b : over ≡ true = f ∙ test_true 0 high m in
-      let p : 2 ^ k ≤ high * 2 ^ k = below_product (2 ^ k) high m in
-      ap (λ z. bit_of (not z) * value) b ∙ nothing value ∙ shift_large way w x amount (let q = h m in omega (arith, p, g, q)))
+    let b : over ≡ true = f ∙ test_true 0 high m in
+    let p : 2 ^ k ≤ high * 2 ^ k = below_product (2 ^ k) high m in
+    ap (λ z. bit_of (not z) * value) b ∙ nothing value ∙ shift_large way w x amount (let q = h m in omega (arith, p, g, q)))
     (λ (m : high ≤ 0).
-      let b : over ≡ false = f ∙ test_false 0 high m in
-      let none : high ≡ 0 = omega arith in
-      let same : low ≡ amount = (let z = ap (λ i. i * 2 ^ k) none in omega (arith, g, z)) in
-      ap (λ z. bit_of (not z) * value) b ∙ once value ∙ e ∙ shift_small way w x low l ∙ ap (apply_bits (shift_of way) w x) same)
+    let b : over ≡ false = f ∙ test_false 0 high m in
+    let none : high ≡ 0 = omega arith in
+    let same : low ≡ amount = (let z = ap (λ i. i * 2 ^ k) none in omega (arith, g, z)) in
+    ap (λ z. bit_of (not z) * value) b ∙ once value ∙ e ∙ shift_small way w x low l ∙ ap (apply_bits (shift_of way) w x) same)
     (cases_lt 0 high) where
-  nothing : (n : ℕ) → 0 * n ≡ 0
-  nothing n = omega arith
-  once : (n : ℕ) → 1 * n ≡ n
-  once n = omega arith
-  below_product : (p n : ℕ) → 0 < n → p ≤ n * p
-  below_product p n m = subst (λ z. p ≤ z) (mul_comm p n) (le-mul_of_pos_right {m = n} p m)
+      nothing : (n : ℕ) → 0 * n ≡ 0
+      nothing n = omega arith
+
+      once : (n : ℕ) → 1 * n ≡ n
+      once n = omega arith
+
+      below_product : (p n : ℕ) → 0 < n → p ≤ n * p
+      below_product p n m = subst (λ z. p ≤ z) (mul_comm p n) (le-mul_of_pos_right {m = n} p m)
 
 abbrev pub IsShift : Way → List Lit → List Lit → (ℕ → Bool) → List Lit → Type 0
 IsShift way xs ys v o = number v o ≡ apply_bits (shift_of way) (length xs) (number v xs) (number v ys)
@@ -198,20 +199,21 @@ shifted_good way xs ys old p q =
     let mask : List Lit = replicate (length one.value) (complement over.value) in
     let last : Out (List Lit) = joined_each joint.And one.value mask over.gates in
     let i = joined_each_good joint.And one.value mask over.gates (sym (length-replicate (length one.value) (complement over.value))) tt (all_below_more _ _ one.value m d.below)
-        (all_below_replicate (next_variable over.gates) (length one.value) (complement over.value) b) in
+    (all_below_replicate (next_variable over.gates) (length one.value) (complement over.value) b) in
     follow (AreDigits w) (IsShift way xs ys) old one last last.value g
     (follow (AreDigits (length one.value)) (λ v o. (value_of v over.value ≡ nat_lt 0 (number v high)) × (number v o ≡ bit_and (number v one.value) (number v mask))) one.gates over last last.value h i (λ a y z. z)
-      (λ v t e f. (e ∙ starts_false v t (nat_lt 0 (number v high)), f)))
+    (λ v t e f. (e ∙ starts_false v t (nat_lt 0 (number v high)), f)))
     (λ a y z. record { count = z.count ∙ y.count; below = z.below })
     (λ v t e f.
-      let masked : number v last.value ≡ bit_of (not (value_of v over.value)) * number v one.value
-          = f.1 ∙ and_comm (number v one.value) (number v mask)
-            ∙ and_copies v (length one.value) (complement over.value) (not (value_of v over.value)) (number v one.value) (value_of-complement v over.value) (number_below v one.value) in
-      let first : number v one.value ≡ moved_number way w (number v xs) (number v low) = e ∙ ap (moved_number way w (number v xs)) (once (number v low)) in
-      masked
-      ∙ shift_number way w (number v xs) (number v one.value) (number v ys) (number v low) (number v high) k (value_of v over.value) (number_below v xs) first f.0
-        (number_split v k ys s.within) (λ z. let r = s.far (some_left v k ys z) in let c : 0 + k ≡ k = omega arith in subst (λ y. w ≤ 2 ^ y) c r)) where
-  once : (a : ℕ) → 2 ^ 0 * a ≡ a
-  once a = omega arith
-  starts_false : (v : ℕ → Bool) (t : v 1 ≡ true) (c : Bool) → (value_of v false_literal || c) ≡ c
-  starts_false v t c = rw t refl
+    let masked : number v last.value ≡ bit_of (not (value_of v over.value)) * number v one.value
+    = f.1 ∙ and_comm (number v one.value) (number v mask)
+    ∙ and_copies v (length one.value) (complement over.value) (not (value_of v over.value)) (number v one.value) (value_of-complement v over.value) (number_below v one.value) in
+    let first : number v one.value ≡ moved_number way w (number v xs) (number v low) = e ∙ ap (moved_number way w (number v xs)) (once (number v low)) in
+    masked
+    ∙ shift_number way w (number v xs) (number v one.value) (number v ys) (number v low) (number v high) k (value_of v over.value) (number_below v xs) first f.0
+    (number_split v k ys s.within) (λ z. let r = s.far (some_left v k ys z) in let c : 0 + k ≡ k = omega arith in subst (λ y. w ≤ 2 ^ y) c r)) where
+      once : (a : ℕ) → 2 ^ 0 * a ≡ a
+      once a = omega arith
+
+      starts_false : (v : ℕ → Bool) (t : v 1 ≡ true) (c : Bool) → (value_of v false_literal || c) ≡ c
+      starts_false v t c = rw t refl

@@ -1,13 +1,13 @@
 -- What is proved of each step that makes gates.
-use Rattle.std.proofs.Common.{◌≡◌, ◌<◌, ◌≤◌, ℕ, zero, suc, ◌+◌, Bool, true, false, not, cond, ◌&&◌, ◌||◌, List, [], ◌∷◌, ◌++◌, length, sym, subst, ap, ◌∙◌, arith, refl, append_assoc, length-append}
+use Rattle.std.proofs.Common.{◌≡◌, ◌≤◌, ℕ, Bool, true, false, not, ◌&&◌, ◌||◌, List, [], ◌∷◌, ◌++◌, length, sym, subst, ap, ◌∙◌, arith, refl, append_assoc, length-append}
 use Rattle.std.proofs.lemmas.List.{append-nil}
 use Rattle.ygg_cnf.specs.Literals.{complement}
 use Rattle.ygg_cnf.specs.declared.lit.Lit.{Lit}
-use Rattle.ygg_gates.specs.Circuits.{Out, Make, pure, and_make, goes_on, literal, next_variable, placed, either}
+use Rattle.ygg_gates.specs.Circuits.{Out, pure, next_variable, placed, either}
 use Rattle.ygg_gates.specs.declared.gate.Gate.{Gate}
-use Rattle.ygg_gates.specs.declared.gate.Gate.TheVariants.{Free, And, Xor, Mux}
+use Rattle.ygg_gates.specs.declared.gate.Gate.TheVariants.{And}
 use Rattle.ygg_meaning.proofs.Truths.{value_of, gate_value, Follows, value_of-complement}
-use Rattle.ygg_meaning.proofs.Following.{Below, ReadsBelow, Closed, closed_push, SameBelow, Extended, Chosen, chosen, follows_front, follows_last}
+use Rattle.ygg_meaning.proofs.Following.{Below, ReadsBelow, Closed, closed_push, Extended, chosen, follows_front, follows_last}
 
 -- gates, and perhaps more after them
 pub record Grows (old new : List Gate) : Type 0 where
@@ -105,5 +105,5 @@ either_good a b old p q =
     let o : Out Lit = placed g old in
     changed Below (λ v x. value_of v x ≡ (value_of v a || value_of v b)) old o (complement o.value) (placed_good g old (p, q)) (λ w. w)
     (λ v t e.
-      value_of-complement v o.value ∙ ap not (e ∙ ap (λ z. z && value_of v (complement b)) (value_of-complement v a) ∙ ap (λ z. not (value_of v a) && z) (value_of-complement v b))
-      ∙ or_table (value_of v a) (value_of v b))
+    value_of-complement v o.value ∙ ap not (e ∙ ap (λ z. z && value_of v (complement b)) (value_of-complement v a) ∙ ap (λ z. not (value_of v a) && z) (value_of-complement v b))
+    ∙ or_table (value_of v a) (value_of v b))

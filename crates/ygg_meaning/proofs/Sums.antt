@@ -1,6 +1,5 @@
 -- What the gates of a sum mean.
-use Rattle.std.proofs.Common.{◌≡◌, ◌<◌, ◌≤◌, ℕ, zero, suc, ◌+◌, ◌-◌, ◌*◌, ◌/◌, ◌%◌, ◌^◌, Bool, true, false, not, cond, ◌&&◌, ◌||◌, nat_lt, List, [], ◌∷◌, ◌++◌, length, sym, subst, ap, ◌∙◌, arith, refl}
-use Rattle.ygg_cnf.specs.Literals.{complement}
+use Rattle.std.proofs.Common.{◌≡◌, ℕ, ◌+◌, ◌*◌, ◌^◌, Bool, true, false, ◌&&◌, ◌||◌, List, [], ◌∷◌, length, ap, ◌∙◌, arith, refl}
 use Rattle.ygg_cnf.specs.declared.lit.Lit.{Lit}
 use Rattle.ygg_value.specs.Words.{bit_of}
 use Rattle.ygg_gates.specs.Circuits.{Out, next_variable, placed, either}
@@ -73,7 +72,7 @@ added_digit_truth a b c old p q r =
     let two : Out Carried = record { value = o; gates = k.gates } in
     follow BothBelow (λ v o. IsSumDigit (value_of v a) (value_of v b) (value_of v c) v o) old x two o g
     (follow BothBelow (λ v o. (value_of v o.digit ≡ differ (value_of v x.value) (value_of v c)) × (value_of v o.carry ≡ ((value_of v a && value_of v b) || (value_of v x.value && value_of v c)))) x.gates d k o h w
-      (λ l y z. (omega arith, z)) (λ v t y z. (y, z)))
+    (λ l y z. (omega arith, z)) (λ v t y z. (y, z)))
     (λ l y z. z)
     (λ v t y z. record {
       digit = z.0 ∙ ap (λ u. differ u (value_of v c)) y;
@@ -90,7 +89,7 @@ added_digit_good a b c old p q r =
     let o : Out Carried = added_digit a b c old in
     changed BothBelow (IsAddedDigit a b c) old o o.value (added_digit_truth a b c old p q r) (λ w. w)
     (λ v t s. ap (λ z. bit_of z + 2 * bit_of (value_of v o.value.carry)) s.digit
-      ∙ ap (λ z. bit_of (differ (differ (value_of v a) (value_of v b)) (value_of v c)) + 2 * bit_of z) s.carry ∙ adder_table (value_of v a) (value_of v b) (value_of v c))
+    ∙ ap (λ z. bit_of (differ (differ (value_of v a) (value_of v b)) (value_of v c)) + 2 * bit_of z) s.carry ∙ adder_table (value_of v a) (value_of v b) (value_of v c))
 
 -- the digits and the carry of a sum are below a number
 pub record SumBelow (width n : ℕ) (s : Sum) : Type 0 where
@@ -117,5 +116,5 @@ added_good (x ∷ xs) (y ∷ ys) c old l p q r =
     follow (SumBelow (length (x ∷ xs))) (IsSum (x ∷ xs) (y ∷ ys) c) old one rest s g k
     (λ m b d. record { digits = record { count = (let e = d.digits.count in omega (arith, e)); below = ((let b0 = b.0 in omega arith), d.digits.below) }; carry = d.carry })
     (λ v t e f.
-      let d = double_times (length xs) (bit_of (value_of v rest.value.carry)) in
-      omega (arith, e, f, d))
+    let d = double_times (length xs) (bit_of (value_of v rest.value.carry)) in
+    omega (arith, e, f, d))

@@ -1,32 +1,30 @@
 -- The clauses of a whole term.
-use Rattle.std.proofs.Common.{◌≡◌, ◌<◌, ◌≤◌, ◌↔◌, ℕ, zero, suc, ◌+◌, ◌*◌, ◌^◌, ◌==◌, Bool, true, false, not, cond, ◌&&◌, ◌||◌, Option, Some, None, if◌then◌else◌, List, [], ◌∷◌, ◌++◌, length, take, drop, min, slice_get, ⊎_elim, sym, subst, ap, ◌∙◌, arith, refl}
+use Rattle.std.proofs.Common.{◌≡◌, ◌<◌, ◌≤◌, ℕ, zero, suc, ◌+◌, ◌^◌, ◌==◌, Bool, true, false, not, ◌&&◌, ◌||◌, Option, Some, None, if◌then◌else◌, List, [], ◌∷◌, ◌++◌, length, take, drop, slice_get, ⊎_elim, sym, subst, ap, ◌∙◌, arith, refl}
 use Rattle.std.proofs.lemmas.Bool.{false≢true, cases_lt}
-use Rattle.std.proofs.lemmas.List.{length-take, take-append-drop, append_assoc}
+use Rattle.std.proofs.lemmas.List.{length-take, take-append-drop}
 use Rattle.std.proofs.lemmas.Nat.{pow_pos}
 use Rattle.ygg_cnf.specs.Literals.{complement, SatisfiesAll}
 use Rattle.ygg_cnf.specs.declared.lit.Lit.{Lit}
 use Rattle.ygg_value.specs.Number.{Number}
 use Rattle.ygg_value.specs.Words.{bit_of, word}
 use Rattle.ygg_bank.proofs.Exist.{keeps_values}
-use Rattle.ygg_bank.proofs.Places.{in_front, there_below}
+use Rattle.ygg_bank.proofs.Places.{in_front}
 use Rattle.ygg_bank.proofs.Widths.{has_width, ordered_fewer, stands, wider}
 use Rattle.ygg_bank.specs.Making.{id}
 use Rattle.ygg_bank.specs.Nodes.{HasWidth, InOrder, IsBank, Distinct, width_at, widths_of}
 use Rattle.ygg_bank.specs.Values.{EnvFits, Inputs, InputsFit, inputs_of, bits_or_zero, given_for, value_of as node_value_of}
-use Rattle.ygg_bank.specs.declared.env.Given.{Given}
-use Rattle.ygg_bank.specs.declared.env.Given.TheVariants as given
 use Rattle.ygg_bank.specs.declared.node.Id.{Id}
 use Rattle.ygg_bank.specs.declared.node.Node.{Node}
 use Rattle.ygg_bank.specs.declared.node.Node.TheVariants.{Input}
-use Rattle.ygg_gates.specs.Circuits.{next_variable, true_literal}
+use Rattle.ygg_gates.specs.Circuits.{true_literal}
 use Rattle.ygg_gates.specs.Clauses.{clauses_from}
 use Rattle.ygg_gates.specs.Groups.{Circuit, circuit_clauses, circuit_of, digits_at, lowest, no_nodes, reaches, translated, up_to, with_node, with_nodes}
 use Rattle.ygg_gates.specs.Sources.{Variables, environment_by, number_from}
-use Rattle.ygg_meaning.proofs.Given.{Known, Owner, Sourced, env_of, one_width, rest_sourced}
-use Rattle.ygg_meaning.proofs.Meant.{AllGiven, Found, Meant, found_rest, rest_meant}
-use Rattle.ygg_meaning.proofs.Numbers.{AreDigits, bit_small, double, number}
+use Rattle.ygg_meaning.proofs.Given.{env_of, one_width, rest_sourced}
+use Rattle.ygg_meaning.proofs.Meant.{Found, Meant, found_rest, rest_meant}
+use Rattle.ygg_meaning.proofs.Numbers.{bit_small, double, number}
 use Rattle.ygg_meaning.proofs.Reached.{reach_children, term_reached}
-use Rattle.ygg_meaning.proofs.Shapes.{Downwards, IsPart, Later, front, next_length, rest_later}
+use Rattle.ygg_meaning.proofs.Shapes.{Downwards, IsPart, front, next_length, rest_later}
 use Rattle.ygg_meaning.proofs.Truths.{Follows, all_true, all_true-append, and_both, and_left, and_right, follows_from, satisfied, satisfies, true_from_follows, value_of, value_of-complement}
 use Rattle.ygg_meaning.specs.Laws.{AreExact, IsZeroIn}
 
@@ -141,16 +139,16 @@ parts_all v c term h =
     let last : List (List Lit) = (complement lit ∷ []) ∷ [] in
     all_true-append v (first ++ gates) last
     ∙ and_both (all_true v (first ++ gates)) (all_true v last)
-      (all_true-append v first gates ∙ and_both (all_true v first) (all_true v gates) (true_single (v 1) h.truth) (true_from_follows v 2 c.gates h.follows))
-      (true_single (value_of v (complement lit)) (value_of-complement v lit ∙ ap not h.literal_is))
+    (all_true-append v first gates ∙ and_both (all_true v first) (all_true v gates) (true_single (v 1) h.truth) (true_from_follows v 2 c.gates h.follows))
+    (true_single (value_of v (complement lit)) (value_of-complement v lit ∙ ap not h.literal_is))
 
 -- an input's width is the same wherever its number stands
 input_width : (nodes : List Node) (p q m u w : ℕ) → InOrder [] nodes → slice_get nodes p ≡ Some (Input m u) → slice_get nodes q ≡ Some (Input m w) → u ≡ w
 input_width nodes p q m u w o e f =
     ⊎_elim (λ (l : p < q). one_width nodes p q m u w o l e f)
     (λ (l : q ≤ p).
-      ⊎_elim (λ (k : q < p). sym (one_width nodes q p m w u o k f e))
-      (λ (k : p ≤ q). let s : p ≡ q = omega arith in let same : Some (Input m u) ≡ Some (Input m w) = sym e ∙ ap (slice_get nodes) s ∙ f in cc) (cases_lt q p))
+    ⊎_elim (λ (k : q < p). sym (one_width nodes q p m w u o k f e))
+    (λ (k : p ≤ q). let s : p ≡ q = omega arith in let same : Some (Input m u) ≡ Some (Input m w) = sym e ∙ ap (slice_get nodes) s ∙ f in cc) (cases_lt q p))
     (cases_lt p q)
 
 pub number_from_below : (v : ℕ → Bool) (first width : ℕ) → number_from v first width < 2 ^ width
@@ -161,9 +159,10 @@ number_from_below v first (suc width) =
 given_below : (v : ℕ → Bool) (sources : List Variables) (m : ℕ) (x : Number) → given_for (environment_by v sources) m ≡ Some x → x.bits < 2 ^ x.width
 given_below v [] m x e = absurd (cc)
 given_below v (s ∷ sources) m x e =
-    (elim (s.number == m) as (λ b. (if b then Some (word s.width (number_from v s.first s.width)) else given_for (environment_by v sources) m) ≡ Some x → x.bits < 2 ^ x.width)
-    [ true ↦ (λ f. let g : word s.width (number_from v s.first s.width) ≡ x = cc in subst (λ (z : Number). z.bits < 2 ^ z.width) g (number_from_below v s.first s.width))
-    | false ↦ given_below v sources m x ]) e
+    (elim (s.number == m) as (λ b. (if b then Some (word s.width (number_from v s.first s.width)) else given_for (environment_by v sources) m) ≡ Some x → x.bits < 2 ^ x.width) [
+      | true ↦ (λ f. let g : word s.width (number_from v s.first s.width) ≡ x = cc in subst (λ (z : Number). z.bits < 2 ^ z.width) g (number_from_below v s.first s.width))
+      | false ↦ given_below v sources m x
+    ]) e
 
 -- truth values that satisfy the clauses name an environment in which the term is 0
 pub satisfying_is_zero : (nodes : List Node) (term : Id) (v : ℕ → Bool) → IsBank nodes → HasWidth nodes term 1 → SatisfiesAll v (translated nodes term).clauses → IsZeroIn nodes term (environment_by v (translated nodes term).sources)
@@ -177,17 +176,17 @@ satisfying_is_zero nodes term v b h s =
     let inputs : Inputs = inputs_of (env_of v c) in
     let meant = rest_meant ns [] ns (reaches nodes term) no_nodes inputs v start parts.truth parts.follows (λ p m w l e f. ap bits_or_zero (sourced.looked p m w l f e)) (λ p l e. absurd (omega arith)) in
     let widths : EnvFits (env_of v c) nodes
-        = λ place m w x e f. let owner = sourced.known m x f in input_width nodes owner.place place m x.width w top.ordered (there nodes (term.0 + 1) owner.place (Input m x.width) owner.there) e in
+    = λ place m w x e f. let owner = sourced.known m x f in input_width nodes owner.place place m x.width w top.ordered (there nodes (term.0 + 1) owner.place (Input m x.width) owner.there) e in
     record {
       widths = widths;
       numbers = λ place m w e. fits nodes v c place m w e widths (given_for (env_of v c) m) refl;
       zero = term_bit nodes term v inputs top meant ∙ ap bit_of parts.literal_is;
     } where
-  fits : (nodes : List Node) (v : ℕ → Bool) (c : Circuit) (place m w : ℕ) → slice_get nodes place ≡ Some (Input m w) → EnvFits (env_of v c) nodes → (x : Option Number) → given_for (env_of v c) m ≡ x → inputs_of (env_of v c) m < 2 ^ w
-  fits nodes v c place m w e widths None g = subst (λ z. z < 2 ^ w) (sym (ap bits_or_zero g)) (pow_pos w)
-  fits nodes v c place m w e widths (Some x) g =
-      let width : x.width ≡ w = widths place m w x e g in
-      subst (λ z. z < 2 ^ w) (sym (ap bits_or_zero g)) (subst (λ z. x.bits < 2 ^ z) width (given_below v c.sources m x g))
+      fits : (nodes : List Node) (v : ℕ → Bool) (c : Circuit) (place m w : ℕ) → slice_get nodes place ≡ Some (Input m w) → EnvFits (env_of v c) nodes → (x : Option Number) → given_for (env_of v c) m ≡ x → inputs_of (env_of v c) m < 2 ^ w
+      fits nodes v c place m w e widths None g = subst (λ z. z < 2 ^ w) (sym (ap bits_or_zero g)) (pow_pos w)
+      fits nodes v c place m w e widths (Some x) g =
+          let width : x.width ≡ w = widths place m w x e g in
+          subst (λ z. z < 2 ^ w) (sym (ap bits_or_zero g)) (subst (λ z. x.bits < 2 ^ z) width (given_below v c.sources m x g))
 
 zero_bit : (b : Bool) → bit_of b ≡ 0 → b ≡ false
 zero_bit true e = absurd (omega (arith, e))
@@ -208,6 +207,7 @@ zero_is_satisfied nodes term inputs b h fit z =
     (v, satisfied v (circuit_clauses c term) (parts_all v c term (record { truth = found.truth; follows = found.follows; literal_is = low })))
 
 pub satisfiable_exactly : (nodes : List Node) (term : Id) → IsBank nodes → HasWidth nodes term 1 → AreExact nodes term (translated nodes term).clauses
-satisfiable_exactly nodes term b h =
-    (λ s. (environment_by s.0 (translated nodes term).sources, satisfying_is_zero nodes term s.0 b h s.1),
-     λ e. zero_is_satisfied nodes term (inputs_of e.0) b h e.1.numbers e.1.zero)
+satisfiable_exactly nodes term b h = (
+  λ s. (environment_by s.0 (translated nodes term).sources, satisfying_is_zero nodes term s.0 b h s.1),
+  λ e. zero_is_satisfied nodes term (inputs_of e.0) b h e.1.numbers e.1.zero,
+)
