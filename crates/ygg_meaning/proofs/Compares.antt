@@ -1,5 +1,5 @@
 -- What the gates of differences and comparisons mean.
-use Rattle.std.proofs.Common.{◌≡◌, ◌≢◌, ◌<◌, ◌≤◌, ℕ, zero, suc, ◌+◌, ◌-◌, ◌*◌, ◌^◌, ◌==◌, Bool, true, false, not, cond, ◌&&◌, ◌||◌, nat_lt, List, [], ◌∷◌, ◌++◌, length, ⊎_elim, sym, subst, ap, ◌∙◌, arith, refl}
+use Rattle.std.proofs.Common.{◌≡◌, ◌≢◌, ◌<◌, ◌≤◌, ℕ, ◌+◌, ◌*◌, ◌^◌, ◌==◌, Bool, true, false, not, ◌&&◌, ◌||◌, nat_lt, List, [], ◌∷◌, length, ⊎_elim, sym, subst, ap, ◌∙◌, arith, refl}
 use Rattle.std.proofs.lemmas.Bool.{cases_lt, cases_eq, eq-eqb, ne_eqb}
 use Rattle.std.proofs.lemmas.Bool.Decides.{nat_tests}
 use Rattle.std.proofs.lemmas.List.{length-map}
@@ -12,9 +12,9 @@ use Rattle.ygg_gates.specs.declared.gate.Gate.{Gate}
 use Rattle.ygg_gates.specs.declared.gate.Gate.TheVariants.{And, Xor}
 use Rattle.ygg_meaning.proofs.Truths.{value_of, differ, value_of-complement}
 use Rattle.ygg_meaning.proofs.Following.{Below}
-use Rattle.ygg_meaning.proofs.Numbers.{number, AllBelow, all_below_more, all_below_complements, AreDigits, number_below, number_complements, true_bit}
+use Rattle.ygg_meaning.proofs.Numbers.{number, AllBelow, all_below_more, all_below_complements, number_below, number_complements, true_bit}
 use Rattle.ygg_meaning.proofs.Steps.{Good, done, follow, changed, placed_good, either_good, grows_length}
-use Rattle.ygg_meaning.proofs.Sums.{SumBelow, IsSum, added_good}
+use Rattle.ygg_meaning.proofs.Sums.{SumBelow, added_good}
 
 pub test_true : (m n : ℕ) → m < n → nat_lt m n ≡ true
 test_true m n h = grind (arith, nat_tests)

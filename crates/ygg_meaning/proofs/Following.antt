@@ -1,10 +1,10 @@
 -- Truth values that follow gates, when more gates come.
-use Rattle.std.proofs.Common.{◌≡◌, ◌≢◌, ◌<◌, ◌≤◌, ℕ, zero, suc, ◌+◌, Bool, true, false, not, cond, ◌&&◌, eqb, List, [], ◌∷◌, ◌++◌, length, sym, subst, ap, ◌∙◌, arith, refl, append_assoc}
+use Rattle.std.proofs.Common.{◌≡◌, ◌≢◌, ◌<◌, ◌≤◌, ℕ, suc, ◌+◌, Bool, cond, eqb, List, [], ◌∷◌, ◌++◌, length, sym, subst, ◌∙◌, arith, refl}
 use Rattle.std.proofs.lemmas.Bool.{eq-eqb, ne_eqb}
 use Rattle.ygg_cnf.specs.declared.lit.Lit.{Lit}
 use Rattle.ygg_gates.specs.declared.gate.Gate.{Gate}
 use Rattle.ygg_gates.specs.declared.gate.Gate.TheVariants.{Free, And, Xor, Mux}
-use Rattle.ygg_meaning.proofs.Truths.{value_of, differ, gate_value, Follows}
+use Rattle.ygg_meaning.proofs.Truths.{value_of, gate_value, Follows}
 
 -- the literal's variable is below a number
 abbrev pub Below : ℕ → Lit → Type 0

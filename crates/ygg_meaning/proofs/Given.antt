@@ -1,25 +1,24 @@
 -- The environment of a circuit's inputs gives each input that is reached the number of its digits.
-use Rattle.std.proofs.Common.{◌≡◌, ◌≢◌, ◌<◌, ◌≤◌, ℕ, zero, suc, ◌+◌, ◌^◌, ◌==◌, Bool, true, false, if◌then◌else◌, Option, Some, None, List, [], ◌∷◌, ◌++◌, length, take, map, slice_get, ⊎_elim, ◌⊎◌, inl, inr, sym, subst, ap, ◌∙◌, arith, refl}
+use Rattle.std.proofs.Common.{◌≡◌, ◌≢◌, ◌<◌, ◌≤◌, ℕ, ◌==◌, Bool, true, false, if◌then◌else◌, Option, Some, None, List, [], ◌∷◌, ◌++◌, length, slice_get, ⊎_elim, ◌⊎◌, inl, inr, sym, ap, ◌∙◌, arith, refl}
 use Rattle.std.proofs.lemmas.Bool.{false≢true, cases_lt, cases_eq, eq-eqb, ne_eqb}
-use Rattle.std.proofs.lemmas.List.{append-nil, length_push, map-append}
-use Rattle.ygg_cnf.specs.declared.lit.Lit.{Lit}
+use Rattle.std.proofs.lemmas.List.{append-nil, map-append}
 use Rattle.ygg_value.specs.Number.{Number}
 use Rattle.ygg_value.specs.Words.{word}
 use Rattle.ygg_bank.proofs.Widths.{stored_can}
 use Rattle.ygg_bank.specs.Making.{id}
-use Rattle.ygg_bank.specs.Nodes.{CanMake, InOrder, Distinct}
+use Rattle.ygg_bank.specs.Nodes.{InOrder, Distinct}
 use Rattle.ygg_bank.specs.Values.{given_for}
 use Rattle.ygg_bank.specs.declared.env.Given.{Given}
 use Rattle.ygg_bank.specs.declared.env.Given.TheVariants as given
 use Rattle.ygg_bank.specs.declared.node.Node.{Node}
 use Rattle.ygg_bank.specs.declared.node.Node.TheVariants.{Input, Const, Bin, Not, Resize, Pick}
 use Rattle.ygg_gates.specs.Circuits.{next_variable}
-use Rattle.ygg_gates.specs.Groups.{Circuit, digits_at, node_digits, sources_of, with_node, with_nodes}
-use Rattle.ygg_gates.specs.Sources.{Variables, number_from, given_by, environment_by}
+use Rattle.ygg_gates.specs.Groups.{Circuit, digits_at, node_digits, with_node, with_nodes}
+use Rattle.ygg_gates.specs.Sources.{number_from, given_by, environment_by}
 use Rattle.ygg_meaning.proofs.Lists.{among_first}
 use Rattle.ygg_meaning.proofs.Numbers.{number}
-use Rattle.ygg_meaning.proofs.Shapes.{IsNext, IsPart, earlier_digits, last_digits, next_good, next_length, next_same, part_next, part_step, rest_later}
-use Rattle.ygg_meaning.proofs.Steps.{Good, follows_before}
+use Rattle.ygg_meaning.proofs.Shapes.{IsNext, IsPart, last_digits, next_good, next_length, next_same, part_next, part_step, rest_later}
+use Rattle.ygg_meaning.proofs.Steps.{follows_before}
 use Rattle.ygg_meaning.proofs.Truths.{Follows}
 
 -- the environment so far

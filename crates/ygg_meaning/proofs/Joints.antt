@@ -1,9 +1,9 @@
 -- What the gates of two digits mean, and those of two words, digit by digit.
-use Rattle.std.proofs.Common.{◌≡◌, ◌<◌, ◌≤◌, ℕ, zero, suc, ◌+◌, ◌*◌, ◌^◌, Bool, true, false, not, cond, ◌&&◌, ◌||◌, bit_and, bit_or, bit_xor, List, [], ◌∷◌, ◌++◌, length, sym, subst, ap, ◌∙◌, arith, refl}
+use Rattle.std.proofs.Common.{◌≡◌, ◌≤◌, ℕ, ◌+◌, ◌*◌, ◌^◌, Bool, true, false, cond, ◌&&◌, ◌||◌, bit_and, bit_or, bit_xor, List, [], ◌∷◌, length, sym, ap, ◌∙◌, arith, refl}
 use Rattle.std.proofs.lemmas.Nat.{and_block, or_block, xor_block}
 use Rattle.ygg_cnf.specs.declared.lit.Lit.{Lit}
 use Rattle.ygg_value.specs.Words.{bit_of}
-use Rattle.ygg_gates.specs.Circuits.{Out, pure, next_variable, placed, either}
+use Rattle.ygg_gates.specs.Circuits.{Out, next_variable}
 use Rattle.ygg_gates.specs.Rows.{joined, joined_each}
 use Rattle.ygg_gates.specs.declared.gate.Gate.{Gate}
 use Rattle.ygg_gates.specs.declared.gate.Gate.TheVariants.{And, Xor, Mux}

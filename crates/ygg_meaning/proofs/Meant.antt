@@ -1,27 +1,27 @@
 -- The digits of all nodes that are reached name the nodes' values.
-use Rattle.std.proofs.Common.{◌≡◌, ◌<◌, ◌≤◌, ℕ, zero, suc, ◌+◌, ◌*◌, ◌/◌, ◌%◌, ◌^◌, ◌==◌, Bool, true, false, List, [], ◌∷◌, ◌++◌, length, take, Some, slice_get, ⊎_elim, sym, subst, ap, ◌∙◌, arith, refl, length-append}
-use Rattle.std.proofs.lemmas.Bool.{false≢true, cases_lt, eq-eqb, ne_eqb}
+use Rattle.std.proofs.Common.{◌≡◌, ◌<◌, ◌≤◌, ℕ, zero, suc, ◌+◌, ◌/◌, ◌%◌, ◌^◌, ◌==◌, Bool, true, false, List, [], ◌∷◌, ◌++◌, length, take, Some, slice_get, ⊎_elim, sym, subst, ap, ◌∙◌, arith, refl, length-append}
+use Rattle.std.proofs.lemmas.Bool.{false≢true, cases_lt}
 use Rattle.std.proofs.lemmas.List.{length_push}
 use Rattle.ygg_cnf.specs.declared.lit.Lit.{Lit}
 use Rattle.ygg_value.specs.Words.{bit_of}
 use Rattle.ygg_bank.proofs.Exist.{value_is, value_width}
 use Rattle.ygg_bank.proofs.Widths.{has_width}
 use Rattle.ygg_bank.specs.Making.{id}
-use Rattle.ygg_bank.specs.Nodes.{width_at, widths_of, HasWidth, Stands, InOrder}
-use Rattle.ygg_bank.specs.Values.{Inputs, InputsFit, Values, node_value, value_of as node_value_of}
+use Rattle.ygg_bank.specs.Nodes.{width_at, widths_of, Stands}
+use Rattle.ygg_bank.specs.Values.{Inputs, InputsFit, value_of as node_value_of}
 use Rattle.ygg_bank.specs.declared.node.Id.{Id}
 use Rattle.ygg_bank.specs.declared.node.Node.{Node}
 use Rattle.ygg_bank.specs.declared.node.Node.TheVariants.{Input, Const, Bin, Not, Resize, Pick}
-use Rattle.ygg_gates.specs.Circuits.{Out, next_variable, placed}
+use Rattle.ygg_gates.specs.Circuits.{next_variable}
 use Rattle.ygg_gates.specs.Groups.{Circuit, digits_at, node_digits, with_node, with_nodes}
 use Rattle.ygg_gates.specs.Rows.{free_digits}
 use Rattle.ygg_gates.specs.declared.gate.Gate.{Gate}
 use Rattle.ygg_gates.specs.declared.gate.Gate.TheVariants.{Free}
-use Rattle.ygg_meaning.proofs.Following.{Closed, SameBelow, Extended, Chosen, chosen, closed_push}
+use Rattle.ygg_meaning.proofs.Following.{Closed, SameBelow, Extended, chosen, closed_push}
 use Rattle.ygg_meaning.proofs.NodeGates.{AreChildren, IsChild, IsGiven, NodeMeans, node_value_is}
-use Rattle.ygg_meaning.proofs.Numbers.{number, AreDigits, double, same_number, digits_more}
-use Rattle.ygg_meaning.proofs.Shapes.{Downwards, Shaped, IsNext, IsPart, Later, can_make, child_width, child_place, next_good, next_later, next_same, next_length, earlier_digits, last_digits, part_next, part_step, rest_later, one_child, two_child, only_child, test_child, yes_child, no_child}
-use Rattle.ygg_meaning.proofs.Steps.{Good, Grows, follows_before, grows_length}
+use Rattle.ygg_meaning.proofs.Numbers.{number, double, same_number}
+use Rattle.ygg_meaning.proofs.Shapes.{Shaped, IsNext, IsPart, can_make, child_width, child_place, next_good, next_length, earlier_digits, last_digits, part_next, part_step, rest_later, one_child, two_child, only_child, test_child, yes_child, no_child}
+use Rattle.ygg_meaning.proofs.Steps.{follows_before}
 use Rattle.ygg_meaning.proofs.Truths.{Follows}
 
 -- each node that is reached has the value that its digits name

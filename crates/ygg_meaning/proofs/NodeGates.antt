@@ -1,17 +1,16 @@
 -- What the gates of each node mean.
-use Rattle.std.proofs.Common.{◌≡◌, ◌<◌, ◌≤◌, ℕ, zero, suc, ◌+◌, ◌-◌, ◌*◌, ◌/◌, ◌%◌, ◌^◌, ◌==◌, Bool, true, false, not, cond, if◌then◌else◌, List, [], ◌∷◌, ◌++◌, length, take, replicate, get_or, ⊎_elim, sym, subst, ap, ◌∙◌, arith, refl, length-append}
+use Rattle.std.proofs.Common.{◌≡◌, ◌<◌, ◌≤◌, ℕ, zero, suc, ◌+◌, ◌-◌, ◌*◌, ◌/◌, ◌%◌, ◌^◌, ◌==◌, Bool, true, false, cond, if◌then◌else◌, List, [], ◌∷◌, length, take, replicate, ⊎_elim, sym, subst, ap, ◌∙◌, arith, refl, length-append}
 use Rattle.std.proofs.lemmas.Bool.{cases_lt, eq-eqb, ne_eqb}
 use Rattle.std.proofs.lemmas.List.{length-map, length-take, length-replicate}
 use Rattle.ygg_cnf.specs.declared.lit.Lit.{Lit}
 use Rattle.ygg_value.specs.Number.{Number}
-use Rattle.ygg_value.specs.Words.{bit_of, word, apply_bits, result_width, CanApply}
-use Rattle.ygg_value.specs.declared.operation.Op.{Op}
+use Rattle.ygg_value.specs.Words.{bit_of, apply_bits, result_width}
 use Rattle.ygg_bank.specs.Nodes.{width_at, node_width, widths_of, CanMake}
 use Rattle.ygg_bank.specs.Values.{Inputs, Values, node_value}
 use Rattle.ygg_bank.specs.declared.node.Id.{Id}
 use Rattle.ygg_bank.specs.declared.node.Node.{Node}
 use Rattle.ygg_bank.specs.declared.node.Node.TheVariants.{Input, Const, Bin, Not, Resize, Pick}
-use Rattle.ygg_gates.specs.Circuits.{Out, next_variable, literal, placed, complements, true_literal, false_literal}
+use Rattle.ygg_gates.specs.Circuits.{Out, next_variable, placed, complements, true_literal, false_literal}
 use Rattle.ygg_gates.specs.Groups.{digits_at, lowest, node_digits}
 use Rattle.ygg_gates.specs.Rows.{free_digits, constant_digits, resized_digits, joined_each, operation}
 use Rattle.ygg_gates.specs.Sources.{number_from}
@@ -23,7 +22,7 @@ use Rattle.ygg_meaning.proofs.Following.{Below}
 use Rattle.ygg_meaning.proofs.Joints.{joined_each_good}
 use Rattle.ygg_meaning.proofs.Numbers.{number, AllBelow, all_below_append, all_below_replicate, all_below_take, all_below_complements, AreDigits, double, number_complements, number_resized, true_bit, false_bit}
 use Rattle.ygg_meaning.proofs.Operations.{IsResult, CanOperate, operation_good}
-use Rattle.ygg_meaning.proofs.Steps.{Good, done, follow, changed, placed_good, grows_length}
+use Rattle.ygg_meaning.proofs.Steps.{Good, done, follow, changed, placed_good}
 
 -- new variables, and the number that they name
 pub free_good : (width : ℕ) (old : List Gate) → Good (List Lit) (AreDigits width) (λ v os. number v os ≡ number_from v (next_variable old) width) old (free_digits width old)

@@ -1,15 +1,14 @@
 -- Numbers of lists of digits, under values of their variables.
-use Rattle.std.proofs.Common.{◌≡◌, ◌<◌, ◌≤◌, ℕ, zero, suc, ◌+◌, ◌-◌, ◌*◌, ◌/◌, ◌%◌, ◌^◌, ◌==◌, Bool, true, false, not, cond, ◌&&◌, ◌||◌, if◌then◌else◌, bit_and, bit_or, bit_xor, List, [], ◌∷◌, ◌++◌, length, take, drop, replicate, map, min, ⊎_elim, sym, subst, ap, ◌∙◌, arith, refl}
+use Rattle.std.proofs.Common.{◌≡◌, ◌<◌, ◌≤◌, ℕ, zero, suc, ◌+◌, ◌-◌, ◌*◌, ◌/◌, ◌%◌, ◌^◌, Bool, true, false, not, List, [], ◌∷◌, ◌++◌, length, take, drop, replicate, ⊎_elim, sym, subst, ap, ◌∙◌, arith, refl}
 use Rattle.std.proofs.lemmas.Bool.{cases_lt}
-use Rattle.std.proofs.lemmas.List.{length-append, length-take, length-drop, length-map, length-replicate, take-append-drop, take_all, drop_all}
-use Rattle.std.proofs.lemmas.Nat.{pow_pos, and_block, or_block, xor_block, mod_low, shr_high, mod-pow-add, shl-shr}
+use Rattle.std.proofs.lemmas.List.{length-take, length-replicate, take-append-drop, take_all}
+use Rattle.std.proofs.lemmas.Nat.{mod_low, shr_high, mod-pow-add, shl-shr}
 use Rattle.std.proofs.Math.Nat.{pow-suc, mod-eq_of_lt, mul_comm, mul_assoc, pow-le-pow_right, mul-mod_left}
 use Rattle.ygg_cnf.specs.declared.lit.Lit.{Lit}
-use Rattle.ygg_cnf.specs.Literals.{complement}
 use Rattle.ygg_value.specs.Words.{bit_of}
 use Rattle.ygg_gates.specs.Circuits.{true_literal, false_literal, complements}
-use Rattle.ygg_gates.specs.Rows.{constant_digits, resized_digits, moved_up, moved_down}
-use Rattle.ygg_meaning.proofs.Truths.{value_of, differ, value_of-complement}
+use Rattle.ygg_gates.specs.Rows.{resized_digits, moved_up, moved_down}
+use Rattle.ygg_meaning.proofs.Truths.{value_of, value_of-complement}
 use Rattle.ygg_meaning.proofs.Following.{Below, SameBelow, same_literal}
 
 -- the number of the digits, the lowest first

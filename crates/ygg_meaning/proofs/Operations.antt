@@ -1,5 +1,5 @@
 -- What the gates of each operation mean.
-use Rattle.std.proofs.Common.{◌≡◌, ◌≢◌, ◌<◌, ◌≤◌, ℕ, zero, suc, ◌+◌, ◌-◌, ◌*◌, ◌%◌, ◌^◌, ◌==◌, Bool, true, false, not, cond, ◌&&◌, ◌||◌, nat_lt, nat_le, if◌then◌else◌, bit_and, bit_or, bit_xor, List, [], ◌∷◌, length, replicate, ⊎_elim, sym, subst, ap, ◌∙◌, arith, refl}
+use Rattle.std.proofs.Common.{◌≡◌, ◌<◌, ◌≤◌, ℕ, ◌+◌, ◌-◌, ◌*◌, ◌^◌, ◌==◌, Bool, not, ◌&&◌, nat_lt, nat_le, bit_or, List, [], ◌∷◌, length, replicate, ⊎_elim, sym, subst, ap, ◌∙◌, arith, refl}
 use Rattle.std.proofs.lemmas.Bool.{cases_lt}
 use Rattle.std.proofs.lemmas.Bool.Decides.{nat_tests}
 use Rattle.std.proofs.lemmas.List.{length-replicate, length-map}
@@ -9,18 +9,18 @@ use Rattle.ygg_value.specs.Words.{bit_of, word, apply_bits, result_width, CanApp
 use Rattle.ygg_value.specs.declared.operation.Op.{Op}
 use Rattle.ygg_value.specs.declared.operation.Op.TheVariants as op
 use Rattle.ygg_gates.specs.Circuits.{Out, next_variable, true_literal, false_literal, complements}
-use Rattle.ygg_gates.specs.Rows.{Sum, joined_each, added, subtracted, multiplied, equal_digits, less, shifted, operation}
+use Rattle.ygg_gates.specs.Rows.{Sum, joined_each, added, subtracted, multiplied, equal_digits, less, operation}
 use Rattle.ygg_gates.specs.declared.gate.Gate.{Gate}
 use Rattle.ygg_gates.specs.declared.gate.Joint.TheVariants as joint
 use Rattle.ygg_gates.specs.declared.gate.Way.TheVariants.{Up, Down}
 use Rattle.ygg_meaning.proofs.Truths.{value_of, value_of-complement}
 use Rattle.ygg_meaning.proofs.Following.{Below}
-use Rattle.ygg_meaning.proofs.Compares.{subtracted_good, less_good, equal_good, test_true, test_false}
+use Rattle.ygg_meaning.proofs.Compares.{subtracted_good, less_good, equal_good}
 use Rattle.ygg_meaning.proofs.Joints.{joined_each_good}
 use Rattle.ygg_meaning.proofs.Numbers.{number, AllBelow, all_below_replicate, all_below_complements, AreDigits, number_below, number_complements, number_falses, false_bit}
-use Rattle.ygg_meaning.proofs.Products.{Wraps, wraps_mod, multiplied_good}
+use Rattle.ygg_meaning.proofs.Products.{wraps_mod, multiplied_good}
 use Rattle.ygg_meaning.proofs.Shifts.{shifted_good}
-use Rattle.ygg_meaning.proofs.Steps.{Good, changed, grows_length}
+use Rattle.ygg_meaning.proofs.Steps.{Good, changed}
 use Rattle.ygg_meaning.proofs.Sums.{added_good}
 
 -- the width and the number of an operation's result

@@ -1,7 +1,7 @@
 -- What the gates of a product mean.
-use Rattle.std.proofs.Common.{◌≡◌, ◌<◌, ◌≤◌, ℕ, zero, suc, ◌+◌, ◌-◌, ◌*◌, ◌/◌, ◌%◌, ◌^◌, Bool, true, false, bit_and, List, [], ◌∷◌, ◌++◌, length, replicate, take, sym, subst, ap, ◌∙◌, arith, refl}
+use Rattle.std.proofs.Common.{◌≡◌, ◌<◌, ◌≤◌, ℕ, zero, suc, ◌+◌, ◌-◌, ◌*◌, ◌/◌, ◌%◌, ◌^◌, Bool, true, false, bit_and, List, [], ◌∷◌, length, replicate, take, sym, subst, ap, ◌∙◌, arith, refl}
 use Rattle.std.proofs.lemmas.List.{length-replicate, length-append, length-take}
-use Rattle.std.proofs.lemmas.Nat.{and_comm, and_mask, div-add-mod', pow_pos}
+use Rattle.std.proofs.lemmas.Nat.{and_comm, and_mask, div-add-mod'}
 use Rattle.std.proofs.Math.Nat.{mod-eq_of_lt, mul_comm, mul_assoc, add-mul-mod_self_left}
 use Rattle.ygg_cnf.specs.declared.lit.Lit.{Lit}
 use Rattle.ygg_value.specs.Words.{bit_of}
@@ -11,10 +11,10 @@ use Rattle.ygg_gates.specs.declared.gate.Gate.{Gate}
 use Rattle.ygg_gates.specs.declared.gate.Joint.TheVariants as joint
 use Rattle.ygg_meaning.proofs.Truths.{value_of}
 use Rattle.ygg_meaning.proofs.Following.{Below}
-use Rattle.ygg_meaning.proofs.Joints.{IsJoint, joined_each_good}
-use Rattle.ygg_meaning.proofs.Numbers.{number, AllBelow, all_below_more, all_below_append, all_below_replicate, all_below_take, AreDigits, digits_more, digits_below, number_below, double, double_times, false_bit, number_moved_up}
-use Rattle.ygg_meaning.proofs.Steps.{Good, done, follow, changed, grows_length}
-use Rattle.ygg_meaning.proofs.Sums.{IsSum, added_good}
+use Rattle.ygg_meaning.proofs.Joints.{joined_each_good}
+use Rattle.ygg_meaning.proofs.Numbers.{number, AllBelow, all_below_more, all_below_append, all_below_replicate, all_below_take, AreDigits, digits_below, double, double_times, false_bit, number_moved_up}
+use Rattle.ygg_meaning.proofs.Steps.{Good, done, follow, grows_length}
+use Rattle.ygg_meaning.proofs.Sums.{added_good}
 
 -- one digit, so many times: all ones or none
 number_copies : (v : ℕ → Bool) (k : ℕ) (d : Lit) (b : Bool) → value_of v d ≡ b → number v (replicate k d) + bit_of b ≡ bit_of b * 2 ^ k

@@ -1,10 +1,10 @@
 -- The digits of all nodes that are reached, as more nodes come.
-use Rattle.std.proofs.Common.{◌≡◌, ◌<◌, ◌≤◌, ℕ, zero, suc, ◌+◌, ◌==◌, Bool, true, false, ◌&&◌, ◌||◌, List, [], ◌∷◌, ◌++◌, length, take, drop, get_or, min, Some, slice_get, ⊎_elim, sym, subst, ap, ◌∙◌, arith, refl, append_assoc, length-append}
+use Rattle.std.proofs.Common.{◌≡◌, ◌<◌, ◌≤◌, ℕ, ◌+◌, ◌==◌, Bool, true, false, ◌||◌, List, [], ◌∷◌, ◌++◌, length, take, drop, Some, slice_get, ⊎_elim, sym, subst, ap, ◌∙◌, arith, refl, append_assoc}
 use Rattle.std.proofs.lemmas.Bool.{false≢true, eq-eqb, cases_lt}
-use Rattle.std.proofs.lemmas.List.{append-nil, length-take, length_push, take-append-drop, take_more, get_or_append_left, get_or_push}
+use Rattle.std.proofs.lemmas.List.{length-take, length_push, take-append-drop, take_more, get_or_append_left, get_or_push}
 use Rattle.std.proofs.lemmas.Option.{slice_get_within, get_or_from_slice_get}
 use Rattle.ygg_cnf.specs.declared.lit.Lit.{Lit}
-use Rattle.ygg_bank.proofs.Places.{in_front, at_end}
+use Rattle.ygg_bank.proofs.Places.{at_end}
 use Rattle.ygg_bank.proofs.Widths.{widths_more, widths_length, wider, has_width, stored_can}
 use Rattle.ygg_bank.specs.Making.{id}
 use Rattle.ygg_bank.specs.Nodes.{width_at, node_width, widths_of, HasWidth, Stands, CanMake, InOrder, Extends}
@@ -12,8 +12,7 @@ use Rattle.ygg_bank.specs.declared.node.Id.{Id}
 use Rattle.ygg_bank.specs.declared.node.Node.{Node}
 use Rattle.ygg_bank.specs.declared.node.Node.TheVariants.{Input, Const, Bin, Not, Resize, Pick}
 use Rattle.ygg_gates.specs.Circuits.{Out, next_variable}
-use Rattle.ygg_gates.specs.Groups.{Circuit, circuit, has_child, digits_at, node_digits, with_node, with_nodes}
-use Rattle.ygg_gates.specs.declared.gate.Gate.{Gate}
+use Rattle.ygg_gates.specs.Groups.{Circuit, has_child, digits_at, node_digits, with_node, with_nodes}
 use Rattle.ygg_meaning.proofs.Following.{Closed}
 use Rattle.ygg_meaning.proofs.Lists.{middle}
 use Rattle.ygg_meaning.proofs.NodeGates.{ChildDigits, ChildrenDigits, NodeMeans, node_good}

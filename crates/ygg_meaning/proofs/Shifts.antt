@@ -1,7 +1,7 @@
 -- What the gates of a shift mean.
-use Rattle.std.proofs.Common.{◌≡◌, ◌<◌, ◌≤◌, ℕ, zero, suc, ◌+◌, ◌-◌, ◌*◌, ◌/◌, ◌%◌, ◌^◌, Bool, true, false, not, cond, ◌||◌, nat_lt, if◌then◌else◌, bit_and, List, [], ◌∷◌, ◌++◌, length, replicate, take, drop, ⊎_elim, sym, subst, ap, ◌∙◌, arith, refl, add-one}
+use Rattle.std.proofs.Common.{◌≡◌, ◌<◌, ◌≤◌, ℕ, suc, ◌+◌, ◌-◌, ◌*◌, ◌/◌, ◌%◌, ◌^◌, Bool, true, false, not, cond, ◌||◌, nat_lt, if◌then◌else◌, bit_and, List, [], ◌∷◌, length, replicate, take, drop, ⊎_elim, sym, subst, ap, ◌∙◌, arith, refl, add-one}
 use Rattle.std.proofs.lemmas.Bool.{cases_lt}
-use Rattle.std.proofs.lemmas.List.{length-replicate, length-append, length-take, length-drop, drop_all}
+use Rattle.std.proofs.lemmas.List.{length-replicate, length-append, length-drop, drop_all}
 use Rattle.std.proofs.lemmas.Nat.{shr-shr, pow-add, mul-mod_first, and_comm}
 use Rattle.std.proofs.Math.Nat.{mod-eq_of_lt, mul_comm, mul_assoc, div-eq_of_lt, pow-le-pow_right, mul-mod_left, le-mul_of_pos_right}
 use Rattle.ygg_cnf.specs.Literals.{complement}
@@ -10,18 +10,17 @@ use Rattle.ygg_value.specs.Words.{bit_of, apply_bits}
 use Rattle.ygg_value.specs.declared.operation.Op.{Op}
 use Rattle.ygg_value.specs.declared.operation.Op.TheVariants as op
 use Rattle.ygg_gates.specs.Circuits.{Out, next_variable, false_literal}
-use Rattle.ygg_gates.specs.Rows.{joined_each, moved, moved_up, moved_down, near, shifted_near, any_digit, shifted}
+use Rattle.ygg_gates.specs.Rows.{joined_each, moved, near, shifted_near, any_digit, shifted}
 use Rattle.ygg_gates.specs.declared.gate.Gate.{Gate}
 use Rattle.ygg_gates.specs.declared.gate.Joint.TheVariants as joint
 use Rattle.ygg_gates.specs.declared.gate.Way.{Way}
 use Rattle.ygg_gates.specs.declared.gate.Way.TheVariants.{Up, Down}
 use Rattle.ygg_meaning.proofs.Truths.{value_of, value_of-complement}
-use Rattle.ygg_meaning.proofs.Following.{Below}
-use Rattle.ygg_meaning.proofs.Joints.{IsJoint, joined_each_good}
-use Rattle.ygg_meaning.proofs.Compares.{IsAny, any_good, test_true, test_false}
+use Rattle.ygg_meaning.proofs.Joints.{joined_each_good}
+use Rattle.ygg_meaning.proofs.Compares.{any_good, test_true, test_false}
 use Rattle.ygg_meaning.proofs.Products.{and_copies, moved_up_digits}
-use Rattle.ygg_meaning.proofs.Numbers.{number, AllBelow, all_below_more, all_below_append, all_below_replicate, all_below_take, all_below_drop, AreDigits, digits_more, digits_below, number_below, number_split, double, double_times, false_bit, number_moved_up, number_moved_down}
-use Rattle.ygg_meaning.proofs.Steps.{Good, done, follow, changed, grows_length}
+use Rattle.ygg_meaning.proofs.Numbers.{number, AllBelow, all_below_more, all_below_append, all_below_replicate, all_below_take, all_below_drop, AreDigits, number_below, number_split, double_times, number_moved_up, number_moved_down}
+use Rattle.ygg_meaning.proofs.Steps.{Good, done, follow, grows_length}
 
 -- a number of so many digits moved by so many places
 abbrev moved_number : Way → ℕ → ℕ → ℕ → ℕ

@@ -1,13 +1,13 @@
 -- What is proved of each step that makes gates.
-use Rattle.std.proofs.Common.{◌≡◌, ◌<◌, ◌≤◌, ℕ, zero, suc, ◌+◌, Bool, true, false, not, cond, ◌&&◌, ◌||◌, List, [], ◌∷◌, ◌++◌, length, sym, subst, ap, ◌∙◌, arith, refl, append_assoc, length-append}
+use Rattle.std.proofs.Common.{◌≡◌, ◌≤◌, ℕ, Bool, true, false, not, ◌&&◌, ◌||◌, List, [], ◌∷◌, ◌++◌, length, sym, subst, ap, ◌∙◌, arith, refl, append_assoc, length-append}
 use Rattle.std.proofs.lemmas.List.{append-nil}
 use Rattle.ygg_cnf.specs.Literals.{complement}
 use Rattle.ygg_cnf.specs.declared.lit.Lit.{Lit}
-use Rattle.ygg_gates.specs.Circuits.{Out, Make, pure, and_make, goes_on, literal, next_variable, placed, either}
+use Rattle.ygg_gates.specs.Circuits.{Out, pure, next_variable, placed, either}
 use Rattle.ygg_gates.specs.declared.gate.Gate.{Gate}
-use Rattle.ygg_gates.specs.declared.gate.Gate.TheVariants.{Free, And, Xor, Mux}
+use Rattle.ygg_gates.specs.declared.gate.Gate.TheVariants.{And}
 use Rattle.ygg_meaning.proofs.Truths.{value_of, gate_value, Follows, value_of-complement}
-use Rattle.ygg_meaning.proofs.Following.{Below, ReadsBelow, Closed, closed_push, SameBelow, Extended, Chosen, chosen, follows_front, follows_last}
+use Rattle.ygg_meaning.proofs.Following.{Below, ReadsBelow, Closed, closed_push, Extended, chosen, follows_front, follows_last}
 
 -- gates, and perhaps more after them
 pub record Grows (old new : List Gate) : Type 0 where

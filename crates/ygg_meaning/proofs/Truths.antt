@@ -1,9 +1,9 @@
 -- A gate's clauses are true exactly where its variable has the gate's value.
-use Rattle.std.proofs.Common.{◌≡◌, ◌<◌, ◌≤◌, ℕ, zero, suc, ◌+◌, Bool, true, false, not, cond, ◌&&◌, ◌||◌, ◌⊎◌, List, [], ◌∷◌, ◌++◌, length, get_or, ⊎_elim, sym, subst, ap, ◌∙◌, arith, refl, All, Any, add-one, inl, inr}
+use Rattle.std.proofs.Common.{◌≡◌, ◌<◌, ℕ, zero, suc, Bool, true, false, not, cond, ◌&&◌, ◌||◌, ◌⊎◌, List, [], ◌∷◌, ◌++◌, length, get_or, ⊎_elim, sym, subst, ap, ◌∙◌, arith, refl, inl, inr}
 use Rattle.std.proofs.lemmas.Bool.{false≢true}
 use Rattle.std.proofs.lemmas.List.Elements.{All-nil, All-cons, All-head, All-tail}
 use Rattle.ygg_cnf.specs.declared.lit.Lit.{Lit}
-use Rattle.ygg_cnf.specs.Literals.{complement, Satisfies, SatisfiesClause, SatisfiesAll}
+use Rattle.ygg_cnf.specs.Literals.{complement, SatisfiesClause, SatisfiesAll}
 use Rattle.ygg_gates.specs.Circuits.{literal}
 use Rattle.ygg_gates.specs.Clauses.{gate_clauses, clauses_from}
 use Rattle.ygg_gates.specs.declared.gate.Gate.{Gate}

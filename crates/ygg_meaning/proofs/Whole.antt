@@ -1,32 +1,30 @@
 -- The clauses of a whole term.
-use Rattle.std.proofs.Common.{◌≡◌, ◌<◌, ◌≤◌, ◌↔◌, ℕ, zero, suc, ◌+◌, ◌*◌, ◌^◌, ◌==◌, Bool, true, false, not, cond, ◌&&◌, ◌||◌, Option, Some, None, if◌then◌else◌, List, [], ◌∷◌, ◌++◌, length, take, drop, min, slice_get, ⊎_elim, sym, subst, ap, ◌∙◌, arith, refl}
+use Rattle.std.proofs.Common.{◌≡◌, ◌<◌, ◌≤◌, ℕ, zero, suc, ◌+◌, ◌^◌, ◌==◌, Bool, true, false, not, ◌&&◌, ◌||◌, Option, Some, None, if◌then◌else◌, List, [], ◌∷◌, ◌++◌, length, take, drop, slice_get, ⊎_elim, sym, subst, ap, ◌∙◌, arith, refl}
 use Rattle.std.proofs.lemmas.Bool.{false≢true, cases_lt}
-use Rattle.std.proofs.lemmas.List.{length-take, take-append-drop, append_assoc}
+use Rattle.std.proofs.lemmas.List.{length-take, take-append-drop}
 use Rattle.std.proofs.lemmas.Nat.{pow_pos}
 use Rattle.ygg_cnf.specs.Literals.{complement, SatisfiesAll}
 use Rattle.ygg_cnf.specs.declared.lit.Lit.{Lit}
 use Rattle.ygg_value.specs.Number.{Number}
 use Rattle.ygg_value.specs.Words.{bit_of, word}
 use Rattle.ygg_bank.proofs.Exist.{keeps_values}
-use Rattle.ygg_bank.proofs.Places.{in_front, there_below}
+use Rattle.ygg_bank.proofs.Places.{in_front}
 use Rattle.ygg_bank.proofs.Widths.{has_width, ordered_fewer, stands, wider}
 use Rattle.ygg_bank.specs.Making.{id}
 use Rattle.ygg_bank.specs.Nodes.{HasWidth, InOrder, IsBank, Distinct, width_at, widths_of}
 use Rattle.ygg_bank.specs.Values.{EnvFits, Inputs, InputsFit, inputs_of, bits_or_zero, given_for, value_of as node_value_of}
-use Rattle.ygg_bank.specs.declared.env.Given.{Given}
-use Rattle.ygg_bank.specs.declared.env.Given.TheVariants as given
 use Rattle.ygg_bank.specs.declared.node.Id.{Id}
 use Rattle.ygg_bank.specs.declared.node.Node.{Node}
 use Rattle.ygg_bank.specs.declared.node.Node.TheVariants.{Input}
-use Rattle.ygg_gates.specs.Circuits.{next_variable, true_literal}
+use Rattle.ygg_gates.specs.Circuits.{true_literal}
 use Rattle.ygg_gates.specs.Clauses.{clauses_from}
 use Rattle.ygg_gates.specs.Groups.{Circuit, circuit_clauses, circuit_of, digits_at, lowest, no_nodes, reaches, translated, up_to, with_node, with_nodes}
 use Rattle.ygg_gates.specs.Sources.{Variables, environment_by, number_from}
-use Rattle.ygg_meaning.proofs.Given.{Known, Owner, Sourced, env_of, one_width, rest_sourced}
-use Rattle.ygg_meaning.proofs.Meant.{AllGiven, Found, Meant, found_rest, rest_meant}
-use Rattle.ygg_meaning.proofs.Numbers.{AreDigits, bit_small, double, number}
+use Rattle.ygg_meaning.proofs.Given.{env_of, one_width, rest_sourced}
+use Rattle.ygg_meaning.proofs.Meant.{Found, Meant, found_rest, rest_meant}
+use Rattle.ygg_meaning.proofs.Numbers.{bit_small, double, number}
 use Rattle.ygg_meaning.proofs.Reached.{reach_children, term_reached}
-use Rattle.ygg_meaning.proofs.Shapes.{Downwards, IsPart, Later, front, next_length, rest_later}
+use Rattle.ygg_meaning.proofs.Shapes.{Downwards, IsPart, front, next_length, rest_later}
 use Rattle.ygg_meaning.proofs.Truths.{Follows, all_true, all_true-append, and_both, and_left, and_right, follows_from, satisfied, satisfies, true_from_follows, value_of, value_of-complement}
 use Rattle.ygg_meaning.specs.Laws.{AreExact, IsZeroIn}
 

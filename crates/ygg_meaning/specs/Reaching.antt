@@ -1,5 +1,5 @@
 -- What a term reaches, as the least set.
-use Rattle.std.specs.Prelude.{ℕ, ◌≡◌, ◌<◌, ◌↔◌, true, Some, List, slice_get}
+use Rattle.std.specs.Prelude.{ℕ, ◌≡◌, ◌↔◌, true, Some, List, slice_get}
 use Rattle.ygg_bank.specs.Nodes.{IsBank, Stands}
 use Rattle.ygg_bank.specs.declared.node.Id.{Id}
 use Rattle.ygg_bank.specs.declared.node.Node.{Node}
