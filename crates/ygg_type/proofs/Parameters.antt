@@ -1,14 +1,12 @@
 -- What is left of a scope where the local names are forgotten.
-use Rattle.std.proofs.Common.{◌≡◌, ℕ, Bool, true, false, List, [], ◌∷◌, Option, refl, sym, ap, ◌∙◌, if◌then◌else◌}
-use Rattle.ygg_value.specs.declared.shape.Shape.{Shape}
+use Rattle.std.proofs.Common.{◌≡◌, List, [], ◌∷◌, refl, ap, ◌∙◌}
 use Rattle.ygg_syntax.specs.declared.tree.Declared.{Declared}
 use Rattle.ygg_syntax.specs.declared.tree.Def.{Def}
-use Rattle.ygg_names.specs.Names.{Named, has, added}
-use Rattle.ygg_fault.specs.declared.scope.Local.{Local}
+use Rattle.ygg_names.specs.Names.{Named}
 use Rattle.ygg_fault.specs.declared.scope.Signature.{Signature}
-use Rattle.ygg_fault.specs.Scopes.{Scope, with_local}
+use Rattle.ygg_fault.specs.Scopes.{Scope}
 use Rattle.ygg_fault.specs.Definitions.{with_parameter, with_parameters, definition_scope, with_definition}
-use Rattle.ygg_scope.specs.Checking.{Grows, with_locals}
+use Rattle.ygg_scope.specs.Checking.{Grows}
 use Rattle.ygg_scope.proofs.Restored.{grows_same, grows_on, grows_local}
 
 -- parameters are names at the end

@@ -1,5 +1,5 @@
 -- What the faults of a file say of its sizes, where there are none.
-use Rattle.std.proofs.Common.{◌≡◌, ℕ, ◌<◌, ◌≤◌, ◌+◌, ◌*◌, Bool, true, false, arith, List, [], ◌∷◌, length, slice_get, Option, Some, None, refl, subst, cond}
+use Rattle.std.proofs.Common.{◌≡◌, ℕ, ◌<◌, ◌≤◌, ◌+◌, ◌*◌, Bool, true, false, arith, List, [], ◌∷◌, length, slice_get, Some, refl, subst}
 use Rattle.std.specs.Prelude.{not, ◌&&◌, ◌==◌, nat_le}
 use Rattle.std.specs.List.{list_all}
 use Rattle.std.proofs.lemmas.Bool.Decides.{nat_tests}
@@ -13,7 +13,7 @@ use Rattle.ygg_syntax.specs.declared.tree.File.{File}
 use Rattle.ygg_count.specs.Weights.{Weights, weights_of}
 use Rattle.ygg_names.specs.Names.{Named, added}
 use Rattle.ygg_fault.specs.declared.scope.Signature.{Signature}
-use Rattle.ygg_fault.specs.Faults.{Faults, both, none, unless}
+use Rattle.ygg_fault.specs.Faults.{none, unless}
 use Rattle.ygg_fault.specs.Limits.{width_fits, rows_fit, words_fit_in}
 use Rattle.ygg_fault.specs.Definitions.{definitions_faults, with_definitions}
 use Rattle.ygg_fault.specs.Layers.{Known, Below, below_of}

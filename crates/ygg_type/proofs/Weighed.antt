@@ -1,5 +1,5 @@
 -- Weights that are given as 1,000,000 where they are more.
-use Rattle.std.proofs.Common.{◌≡◌, ℕ, ◌≤◌, ◌+◌, min, Bool, arith, Option, ap, refl}
+use Rattle.std.proofs.Common.{◌≡◌, ℕ, ◌+◌, min, arith, Option, ap}
 use Rattle.std.proofs.lemmas.Bool.Decides.{nat_tests}
 use Rattle.ygg_value.specs.declared.shape.Shape.{Shape}
 use Rattle.ygg_syntax.specs.declared.tree.Block.{Block}

@@ -1,4 +1,4 @@
-use Rattle.std.proofs.Common.{◌≡◌, ◌∙◌}
+use Rattle.std.proofs.Common.{◌∙◌}
 use Rattle.ygg_scope.specs.Checking.{scope_of}
 use Rattle.ygg_scope.proofs.Restored.{cut_to}
 use Rattle.ygg_type.proofs.Parameters.{grows_with}

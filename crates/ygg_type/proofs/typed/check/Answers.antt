@@ -1,5 +1,4 @@
-use Rattle.std.proofs.Common.{◌≡◌, ◌∙◌, sym, refl, None, Some}
-use Rattle.ygg_fault.specs.Faults.{first_after}
+use Rattle.std.proofs.Common.{◌∙◌, sym, refl}
 use Rattle.ygg_fault.specs.Files.{faults_of}
 use Rattle.ygg_type.proofs.Least.{is_least, is_none, is_clear}
 use Rattle.ygg_type.proofs.typed.check.Goals as goal
