@@ -10,7 +10,9 @@ use std::env;
 use std::io::ErrorKind;
 use std::process::ExitCode;
 use ygg_base::{NoMemory, Status, Text, status_number};
-use ygg_rules::{Rule, RuleBook, RuleKind, add_zero, and_ones, and_zero, eq_self, fold, or_zero, pick_same};
+use ygg_rules::{
+    Rule, RuleBook, RuleKind, add_zero, and_ones, and_zero, eq_self, fold, or_zero, pick_same,
+};
 use ygg_top::ygg;
 
 /// The words after the program's name. Words that aren't text are as good as none: the command line is then

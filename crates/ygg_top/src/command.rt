@@ -50,12 +50,7 @@ fn put<K: Sink>(sink: &mut K, text: &[u8], status: Status) -> Status
 }
 
 /// What the words ask for, over the library.
-fn answer<L: Library>(
-    alloc: Global,
-    words: &[Text],
-    rules: &RuleBook,
-    library: &mut L,
-) -> Answer
+fn answer<L: Library>(alloc: Global, words: &[Text], rules: &RuleBook, library: &mut L) -> Answer
     ensures told { IsAnswer words.now (L.files library.old) result }
     ensures cause { result ≡ Answer.LibraryFailed → Rose (L.faults library.old) (L.faults library.new) }
     ensures kept { L.files library.new ≡ L.files library.old }
@@ -114,12 +109,7 @@ fn fetched<L: Library>(alloc: Global, name: &Text, library: &mut L) -> Result<Te
 }
 
 /// Fetches the file of that name and verifies it.
-fn verify<L: Library>(
-    alloc: Global,
-    name: &Text,
-    rules: &RuleBook,
-    library: &mut L,
-) -> Answer
+fn verify<L: Library>(alloc: Global, name: &Text, rules: &RuleBook, library: &mut L) -> Answer
     ensures told { IsAnswerOf Verifies (L.files library.old) name.now result }
     ensures cause { result ≡ Answer.LibraryFailed → Rose (L.faults library.old) (L.faults library.new) }
     ensures kept { L.files library.new ≡ L.files library.old }

@@ -17,11 +17,7 @@ const OBLIGATIONS: usize = 5;
 
 /// How `verify` ends for a flag file, and its line: the first obligation that fails is named. The rules only make the
 /// obligations' terms smaller. That `idle` and `again` hold is proved of every flag file. Its only error is want of memory.
-pub fn verdict(
-    alloc: Global,
-    rules: &RuleBook,
-    file: &FlagFile,
-) -> Result<(Status, Text), NoMemory>
+pub fn verdict(alloc: Global, rules: &RuleBook, file: &FlagFile) -> Result<(Status, Text), NoMemory>
     requires { FitsNames file.now }
     ensures { IfOk result (λ end. Verdict (file_of file.now) end.0 end.1) }
 {
