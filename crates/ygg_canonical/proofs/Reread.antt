@@ -1,19 +1,24 @@
 -- What the tokens of a canonical text derive.
-use Rattle.std.proofs.Common.{◌≡◌, ℕ, List, ◌∷◌, Ok, Err, sym, subst}
+use Rattle.std.proofs.Common.{◌≡◌, ℕ, List, ◌∷◌, Ok, Err, sym, ap, ◌∙◌, subst}
 use Rattle.std.specs.List.{All}
 use Rattle.std.proofs.lemmas.List.Elements.{All-nil, All-cons, All-head, All-tail}
 use Rattle.ygg_base.specs.declared.token.Symbol.TheVariants as sign
 use Rattle.ygg_base.specs.declared.token.Mark.{Mark}
 use Rattle.ygg_base.specs.declared.token.Mark.TheVariants as mark
 use Rattle.ygg_base.specs.declared.token.Token.{Token}
+use Rattle.ygg_base.specs.declared.tokens.Tokens.{Tokens}
 use Rattle.ygg_base.specs.Lexing.{Lexed, tokens_of}
 use Rattle.ygg_syntax.specs.declared.tree.File.{File}
 use Rattle.ygg_syntax.specs.Files.{Derives}
 use Rattle.ygg_print.specs.PrintedFiles.{file_printed}
+use Rattle.ygg_layout.specs.Layout.{layout}
 use Rattle.ygg_layout.specs.Laws.{HasMarks, IsMark}
 use Rattle.ygg_layout.proofs.Relexed.{relexed}
-use Rattle.ygg_unique.specs.Laws.{LeftOut, nothing, keeps, leaves}
+use Rattle.ygg_unique.specs.Laws.{LeftOut, nothing, keeps, leaves, DerivesAs}
+use Rattle.ygg_same.specs.Bare.{bare_file}
+use Rattle.ygg_canonical.specs.Laws.{IsRead}
 use Rattle.ygg_unique.proofs.AgainFiles.{left_out, derives_as}
+use Rattle.ygg_unique.proofs.Printed.{same_printed}
 use Rattle.ygg_canonical.specs.Canonical.{AreOfLanguage, GivesAgain, IsReadAgain, canonical}
 
 abbrev brace : Mark
@@ -43,3 +48,14 @@ read_again file source are d = cases (tokens_of (canonical file)) (relexed (file
 
 pub text_again : (file : File) (text : List ℕ) → text ≡ canonical file → IsReadAgain text file
 text_again file text e = subst (λ (t : List ℕ). IsReadAgain t file) (sym e) (read_again file)
+
+-- reading gives the file again
+pub is_read : (source : List Token) (file : File) → AreOfLanguage source → Derives source file → (tokens : Tokens) → tokens_of (canonical file) ≡ Ok tokens → IsRead tokens file
+is_read source file are d tokens e =
+    let a : DerivesAs tokens.items file = subst (λ (lexed : Lexed). GivesAgain lexed file) e (read_again file source are d) in
+    let same : (read : File) → Derives tokens.items read → bare_file read ≡ bare_file file = λ read derives. ap bare_file (a.only read derives) ∙ a.same in
+    record {
+      accepted = λ refusal refused. refused.nothing a.read a.derives;
+      same = same;
+      text = λ read derives. ap layout (same_printed read file (same read derives));
+    }

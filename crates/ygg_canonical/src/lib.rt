@@ -2,5 +2,7 @@
 #![tactic(auto)]
 
 mod canonical;
+mod law;
 
 pub use canonical::print;
+pub use law::canonical_is_read;
