@@ -1,4 +1,4 @@
-//! Tests of the crates that compute: values, rules, the bank and its shapes, clauses, the checker and the solver. They stand
+//! Tests of the crates that compute: values, rules, the bank and its shapes, clauses of terms, clauses, the checker and the solver. They stand
 //! apart because a crate that has tests is proved twice.
 #![tactic(auto)]
 
@@ -8,6 +8,8 @@ mod bank;
 mod checker;
 #[cfg(test)]
 mod clauses;
+#[cfg(test)]
+mod gates;
 #[cfg(test)]
 mod implications;
 #[cfg(test)]

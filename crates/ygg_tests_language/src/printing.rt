@@ -2,15 +2,13 @@ use crate::text::{FLAG, PAIR, file_of};
 use std::alloc::Global;
 use std::test::Fail;
 use ygg_base::Text;
-use ygg_layout::lay_out;
-use ygg_print::marks_of;
+use ygg_canonical::print;
 use ygg_same::same_tree;
 
 /// The canonical text of the file that a text is.
 fn printed(alloc: Global, text: &[u8]) -> Result<Text, Fail> {
     let file = file_of(alloc, text)?;
-    let marks = marks_of(alloc, &file)?;
-    Ok(lay_out(alloc, marks.as_slice())?)
+    Ok(print(alloc, &file)?)
 }
 
 /// A file with every construct, in one line, and with blocks that the canonical text leaves out.
