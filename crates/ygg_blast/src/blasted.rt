@@ -1,6 +1,6 @@
 //! The clauses of a term, and the way back.
 
-ghost use Rattle.std.specs.Prelude.{◌≡◌, ◌<◌, ◌+◌, ◌*◌, ◌^◌, List, IfOk};
+ghost use Rattle.std.specs.Prelude.{◌≡◌, ◌<◌, ◌+◌, ◌*◌, ◌^◌, List, All, IfOk};
 ghost use Rattle.ygg_meaning.specs.Laws.{AreExact, IsZeroIn};
 ghost use Rattle.ygg_value.specs.Words.{bit_of, word};
 ghost use Rattle.ygg_bank.specs.Nodes.{HasWidth, IsBank, Stands};
@@ -64,6 +64,7 @@ pub fn clauses_of(alloc: Global, bank: &Bank, term: Id) -> Result<Blasted, NoMem
     requires { Stands bank.now term }
     ensures form { IfOk result (λ blasted. blasted ≡ translated bank.now term) }
     ensures exactly { HasWidth bank.now term 1 → IfOk result (λ blasted. AreExact bank.now term blasted.clauses) }
+    ensures numbered { IfOk result (λ blasted. All (All (λ x. 0 < x.var)) blasted.clauses) }
 {
     // the bank's nodes stand in order
     let _ = bank.len();

@@ -1,25 +1,30 @@
 -- The environments in which terms are looked at.
 use Rattle.std.proofs.Common.{◌≡◌, ◌<◌, ◌^◌, ◌==◌, ◌&&◌, ℕ, Bool, true, false, cond, Option, Some, None, Result, Ok, Err, IfOk, List, [], ◌∷◌, slice_get, refl, sym, ap, ◌∙◌, subst, arith}
 use Rattle.std.specs.List.{list_all}
+use Rattle.std.proofs.lemmas.List.Folds.{list_all_at}
 use Rattle.std.proofs.lemmas.Bool.Decides.{Decides-eqb}
 use Rattle.std.proofs.lemmas.Nat.{pow_pos}
 use Rattle.ygg_value.specs.Number.{Number}
 use Rattle.ygg_value.specs.Words.{word, bit_of}
 use Rattle.ygg_bank.specs.Nodes.{OneWidth}
 use Rattle.ygg_bank.specs.Values.{Inputs, InputsFit, EnvFits, given_for, bits_or_zero, inputs_of, value_of}
+use Rattle.ygg_bank.specs.declared.env.Given.{Given}
+use Rattle.ygg_bank.specs.declared.env.Given.TheVariants as given
 use Rattle.ygg_bank.specs.declared.node.Id.{Id}
 use Rattle.ygg_bank.specs.declared.node.Node.{Node}
 use Rattle.ygg_bank.specs.declared.node.Node.TheVariants.{Input}
-use Rattle.ygg_eval.specs.Obligations.{Init, CallOf, CutOf}
-use Rattle.ygg_flag.specs.Laws.{DecidedByBits}
-use Rattle.ygg_flag.specs.Obligations.{Decided}
+use Rattle.ygg_meaning.specs.Laws.{IsZeroIn}
+use Rattle.ygg_decide.specs.Deciding.{IsNeverZero}
 use Rattle.ygg_flag.specs.Bits.{related, call_keeps, cut_keeps}
 use Rattle.ygg_flag.specs.declared.bits.Bits.{Bits}
 use Rattle.ygg_flag.specs.declared.bits.TheConstants.{ALL}
 use Rattle.ygg_syntax.specs.declared.flag.FlagFile.{FlagFile}
-use Rattle.ygg_terms.specs.Meaning.{bits_of, IsBit, AlwaysWorth, AsksBits, env_of, is_one}
-use Rattle.ygg_terms.specs.declared.deciding.Held.{Held}
+use Rattle.ygg_terms.specs.Meaning.{bits_of, IsBit, AlwaysWorth, AsksBits}
 use Rattle.ygg_terms.specs.declared.places.Terms.{Terms}
+
+-- the environment that gives these bits
+abbrev env_of : Bits → List Given
+env_of bits = given.Word 0 (word 1 (bit_of bits.state)) ∷ given.Word 1 (word 1 (bit_of bits.argument)) ∷ given.Word 2 (word 1 (bit_of bits.stored)) ∷ []
 
 -- what is given for a number, where the tests for the three numbers say this
 abbrev picked : Bool → Bool → Bool → Bits → Option Number
@@ -74,46 +79,84 @@ three s a d s' a' d' e f g = ap (λ x. bits_are x a d) e ∙ ap (λ x. bits_are 
 bits_back : (bits : Bits) → bits_of (inputs_of (env_of bits)) ≡ bits
 bits_back bits = three (bit_of bits.state == 1) (bit_of bits.argument == 1) (bit_of bits.stored == 1) bits.state bits.argument bits.stored (bit_back bits.state) (bit_back bits.argument) (bit_back bits.stored)
 
--- a term that is a bit is 1 where the bit is true
-one_is : (inputs : Inputs) (nodes : List Node) (id : Id) (b : Bool) → IsBit inputs nodes id b → ((value_of inputs nodes id.0).bits == 1) ≡ b
-one_is inputs nodes id b e = ap (λ (n : Number). n.bits == 1) e ∙ bit_back b
+-- a test that passes for all bits passes for each list of them
+all_pass : (p : Bits → Bool) → ((bits : Bits) → p bits ≡ true) → (xs : List Bits) → list_all p xs ≡ true
+all_pass p h [] = refl
+all_pass p h (x ∷ xs) = ap (λ b. b && list_all p xs) (h x) ∙ all_pass p h xs
 
--- tests that agree pass for the same lists
-all_same : (f g : Bits → Bool) → ((bits : Bits) → f bits ≡ g bits) → (xs : List Bits) → list_all f xs ≡ list_all g xs
-all_same f g h [] = refl
-all_same f g h (x ∷ xs) = ap (λ b. b && list_all f xs) (h x) ∙ ap (λ b. g x && b) (all_same f g h xs)
+-- where a test fails for some bits, it doesn't pass for all
+some_fails : (p : Bits → Bool) (s a d : Bool) → p (bits_are s a d) ≡ false → list_all p ALL ≡ false
+some_fails p false false false e = list_all_at p ALL 0 (bits_are false false false) (omega arith) e
+some_fails p false false true e = list_all_at p ALL 1 (bits_are false false false) (omega arith) e
+some_fails p false true false e = list_all_at p ALL 2 (bits_are false false false) (omega arith) e
+some_fails p false true true e = list_all_at p ALL 3 (bits_are false false false) (omega arith) e
+some_fails p true false false e = list_all_at p ALL 4 (bits_are false false false) (omega arith) e
+some_fails p true false true e = list_all_at p ALL 5 (bits_are false false false) (omega arith) e
+some_fails p true true false e = list_all_at p ALL 6 (bits_are false false false) (omega arith) e
+some_fails p true true true e = list_all_at p ALL 7 (bits_are false false false) (omega arith) e
 
--- a test that doesn't look at the bits passes for all or for none
-all_of_one : (b : Bool) → list_all (λ (bits : Bits). b) ALL ≡ b
-all_of_one true = refl
-all_of_one false = refl
+one_fails : (p : Bits → Bool) (bits : Bits) → p bits ≡ false → list_all p ALL ≡ false
+one_fails p bits e = some_fails p bits.state bits.argument bits.stored e
+
+-- a bit whose word has the number 0 is false
+zero_bit : (b : Bool) → bit_of b ≡ 0 → b ≡ false
+zero_bit true e = absurd (omega (arith, e))
+zero_bit false e = refl
 
 module _ (f : FlagFile) (nodes : List Node) (terms : Terms) (h : AlwaysWorth f nodes terms) (asks : AsksBits nodes) where
-  pub init_is : list_all (is_one nodes terms.init) ALL ≡ related f false false
-  init_is =
-      all_same (is_one nodes terms.init) (λ bits. related f false false)
-      (λ bits. let w = h (inputs_of (env_of bits)) (inputs_fit nodes bits asks) in one_is (inputs_of (env_of bits)) nodes terms.init (related f false false) w.init) ALL
-      ∙ all_of_one (related f false false)
+  -- inputs that give these bits
+  inputs_for : Bits → Inputs
+  inputs_for bits = inputs_of (env_of bits)
 
-  pub call_is : list_all (is_one nodes terms.call) ALL ≡ list_all (call_keeps f) ALL
-  call_is = all_same (is_one nodes terms.call) (call_keeps f)
-      (λ bits. let i = inputs_of (env_of bits) in let w = h i (inputs_fit nodes bits asks) in
-      one_is i nodes terms.call (call_keeps f (bits_of i)) w.call ∙ ap (call_keeps f) (bits_back bits)) ALL
+  -- where a term's bit is false for some bits, the term is 0 in the environment that gives them
+  zero_at : (id : Id) (bits : Bits) (b : Bool) → IsBit (inputs_for bits) nodes id b → b ≡ false → IsZeroIn nodes id (env_of bits)
+  zero_at id bits b worth is = record {
+    widths = env_fits nodes bits asks;
+    numbers = inputs_fit nodes bits asks;
+    zero = ap (λ (n : Number). n.bits) worth ∙ ap bit_of is;
+  }
 
-  pub cut_is : list_all (is_one nodes terms.cut) ALL ≡ list_all (cut_keeps f) ALL
-  cut_is = all_same (is_one nodes terms.cut) (cut_keeps f)
-      (λ bits. let i = inputs_of (env_of bits) in let w = h i (inputs_fit nodes bits asks) in
-      one_is i nodes terms.cut (cut_keeps f (bits_of i)) w.cut ∙ ap (cut_keeps f) (bits_back bits)) ALL
+  -- a term that is never 0 has a true bit for all bits
+  true_at : (id : Id) (bits : Bits) (b : Bool) → IsNeverZero nodes id → IsBit (inputs_for bits) nodes id b → b ≡ true
+  true_at id bits true never worth = refl
+  true_at id bits false never worth = absurd (never (env_of bits) (zero_at id bits false worth refl))
 
-  -- what was looked at decides the obligations
-  pub init_decided : DecidedByBits f → {E : Type 0} (r : Result Held E) → IfOk r (λ held. held.init ≡ list_all (is_one nodes terms.init) ALL) → IfOk r (λ held. Decided f Init held.init)
-  init_decided d (Ok held) e = subst (Decided f Init) (sym (e ∙ init_is)) d.init
-  init_decided d (Err x) e = tt
+  -- a term that is 0 in an environment has a false bit there
+  false_at : (id : Id) (env : List Given) (b : Bool) → IsZeroIn nodes id env → IsBit (inputs_of env) nodes id b → b ≡ false
+  false_at id env b zero worth = zero_bit b (sym (ap (λ (n : Number). n.bits) worth) ∙ zero.zero)
 
-  pub call_decided : DecidedByBits f → {E : Type 0} (r : Result Held E) → IfOk r (λ held. held.call ≡ list_all (is_one nodes terms.call) ALL) → IfOk r (λ held. Decided f (CallOf f.operation) held.call)
-  call_decided d (Ok held) e = subst (Decided f (CallOf f.operation)) (sym (e ∙ call_is)) d.call
-  call_decided d (Err x) e = tt
+  -- the tests of the bits, by what was found of the terms
+  pub init_holds : IsNeverZero nodes terms.init → related f false false ≡ true
+  init_holds never =
+      let bits = bits_are false false false in
+      let w = h (inputs_for bits) (inputs_fit nodes bits asks) in
+      true_at terms.init bits (related f false false) never w.init
 
-  pub cut_decided : DecidedByBits f → {E : Type 0} (r : Result Held E) → IfOk r (λ held. held.cut ≡ list_all (is_one nodes terms.cut) ALL) → IfOk r (λ held. Decided f (CutOf f.operation) held.cut)
-  cut_decided d (Ok held) e = subst (Decided f (CutOf f.operation)) (sym (e ∙ cut_is)) d.cut
-  cut_decided d (Err x) e = tt
+  pub init_fails : (env : List Given) → IsZeroIn nodes terms.init env → related f false false ≡ false
+  init_fails env zero = let w = h (inputs_of env) zero.numbers in false_at terms.init env (related f false false) zero w.init
+
+  call_true : IsNeverZero nodes terms.call → (bits : Bits) → call_keeps f bits ≡ true
+  call_true never bits =
+      let w = h (inputs_for bits) (inputs_fit nodes bits asks) in
+      ap (call_keeps f) (sym (bits_back bits)) ∙ true_at terms.call bits (call_keeps f (bits_of (inputs_for bits))) never w.call
+
+  pub call_holds : IsNeverZero nodes terms.call → list_all (call_keeps f) ALL ≡ true
+  call_holds never = all_pass (call_keeps f) (call_true never) ALL
+
+  pub call_fails : (env : List Given) → IsZeroIn nodes terms.call env → list_all (call_keeps f) ALL ≡ false
+  call_fails env zero =
+      let w = h (inputs_of env) zero.numbers in
+      one_fails (call_keeps f) (bits_of (inputs_of env)) (false_at terms.call env (call_keeps f (bits_of (inputs_of env))) zero w.call)
+
+  cut_true : IsNeverZero nodes terms.cut → (bits : Bits) → cut_keeps f bits ≡ true
+  cut_true never bits =
+      let w = h (inputs_for bits) (inputs_fit nodes bits asks) in
+      ap (cut_keeps f) (sym (bits_back bits)) ∙ true_at terms.cut bits (cut_keeps f (bits_of (inputs_for bits))) never w.cut
+
+  pub cut_holds : IsNeverZero nodes terms.cut → list_all (cut_keeps f) ALL ≡ true
+  cut_holds never = all_pass (cut_keeps f) (cut_true never) ALL
+
+  pub cut_fails : (env : List Given) → IsZeroIn nodes terms.cut env → list_all (cut_keeps f) ALL ≡ false
+  cut_fails env zero =
+      let w = h (inputs_of env) zero.numbers in
+      one_fails (cut_keeps f) (bits_of (inputs_of env)) (false_at terms.cut env (cut_keeps f (bits_of (inputs_of env))) zero w.cut)

@@ -1,3 +1,4 @@
 pub mod Terms
 pub mod Widths
 pub mod Meaning
+pub mod Findings

@@ -35,11 +35,3 @@ pub record AsksBits (nodes : List Node) : Type 0 where
   pub state : OneWidth nodes 0 1
   pub argument : OneWidth nodes 1 1
   pub stored : OneWidth nodes 2 1
-
--- the environment that gives these bits
-abbrev pub env_of : Bits → List Given
-env_of bits = given.Word 0 (word 1 (bit_of bits.state)) ∷ given.Word 1 (word 1 (bit_of bits.argument)) ∷ given.Word 2 (word 1 (bit_of bits.stored)) ∷ []
-
--- whether the term is 1 in that environment
-abbrev pub is_one : List Node → Id → Bits → Bool
-is_one nodes id bits = (value_of (inputs_of (env_of bits)) nodes id.0).bits == 1

@@ -8,5 +8,5 @@ mod formulas;
 pub mod places;
 
 pub use building::obligations;
-pub use deciding::{Held, decide};
+pub use deciding::{Findings, Found, decide_obligations};
 pub use places::Terms;

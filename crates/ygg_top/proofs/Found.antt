@@ -1,5 +1,5 @@
 -- From what is found of a file to how its command ends.
-use Rattle.std.proofs.Common.{◌≡◌, ◌⊎◌, inl, inr, ℕ, zero, suc, ◌+◌, ◌<◌, ◌≤◌, List, [], ◌∷◌, ◌++◌, Option, Some, None, length, refl, sym, ap, subst, ◌∙◌, arith}
+use Rattle.std.proofs.Common.{◌≡◌, ◌⊎◌, inl, inr, ℕ, zero, suc, Bool, true, false, if◌then◌else◌, ◌+◌, ◌<◌, ◌≤◌, List, [], ◌∷◌, ◌++◌, Option, Some, None, length, refl, sym, ap, subst, ◌∙◌, arith}
 use Rattle.std.specs.Prelude.{codes, IfSome}
 use Rattle.ygg_base.specs.declared.failure.Refusal.{Refusal}
 use Rattle.ygg_base.specs.declared.lists.Held.{Held}
@@ -9,21 +9,27 @@ use Rattle.ygg_base.specs.declared.status.Status.TheVariants.{Done, Refuted, Ref
 use Rattle.ygg_base.specs.Outside.{bytes_of, FitsFile}
 use Rattle.ygg_syntax.specs.declared.flag.FlagFile.{FlagFile}
 use Rattle.ygg_top.specs.Refusing.{IsBuilt, RefusesUnread, refusal, refused_line, most_bytes}
-use Rattle.ygg_flag.specs.Trees.{file_of}
-use Rattle.ygg_top.specs.Verdict.{Verdict, line}
+use Rattle.ygg_rules.specs.declared.rule.RuleKind.{RuleKind}
+use Rattle.ygg_top.specs.Verdict.{Verified, line, any_failed, any_spent}
 use Rattle.ygg_top.specs.Ending.{Verifies, Prints, Stands, IsTextOf, IsUnread, IsAnswerOf}
 use Rattle.ygg_top.specs.declared.answer.Answer.{Answer}
 use Rattle.ygg_top.specs.declared.answer.Answer.TheVariants as answer
 
--- the verdict of a built file is how `verify` ends for its bytes
-pub verdict_verifies : (bytes : List ℕ) (f : FlagFile) (status : Status) (text : List ℕ) → IsBuilt bytes f → Verdict (file_of f) status text
-    → Verifies (Some bytes) status text
-verdict_verifies bytes f Done text built verdict = (bytes, f, refl, built, verdict)
-verdict_verifies bytes f Refuted text built verdict = (bytes, f, refl, built, verdict)
-verdict_verifies bytes f Refused text built verdict = absurd verdict
-verdict_verifies bytes f Undecided text built verdict = absurd verdict
-verdict_verifies bytes f Fault text built verdict = absurd verdict
-verdict_verifies bytes f NoMemory text built verdict = absurd verdict
+-- verdicts don't come to a refusal
+not_refused : (failed spent : Bool) → Refused ≡ (if failed then Refuted else if spent then Undecided else Done) → ⊥
+not_refused true spent e = absurd (cc e)
+not_refused false true e = absurd (cc e)
+not_refused false false e = absurd (cc e)
+
+-- the verdicts on a built file are how `verify` ends for its bytes
+pub verdict_verifies : (kinds : List RuleKind) (budget : ℕ) (bytes : List ℕ) (f : FlagFile) (status : Status) (text : List ℕ) → IsBuilt bytes f → Verified kinds f budget status text
+    → Verifies kinds budget (Some bytes) status text
+verdict_verifies kinds budget bytes f Done text built verdict = (bytes, f, refl, built, verdict)
+verdict_verifies kinds budget bytes f Refuted text built verdict = (bytes, f, refl, built, verdict)
+verdict_verifies kinds budget bytes f Refused text built verdict = absurd (not_refused (any_failed verdict.verdicts) (any_spent verdict.verdicts) verdict.status_is)
+verdict_verifies kinds budget bytes f Undecided text built verdict = (bytes, f, refl, built, verdict)
+verdict_verifies kinds budget bytes f Fault text built verdict = (bytes, f, refl, built, verdict)
+verdict_verifies kinds budget bytes f NoMemory text built verdict = (bytes, f, refl, built, verdict)
 
 some_longer : (n : ℕ) → (bytes : List ℕ) × (n < length bytes)
 some_longer zero = (0 ∷ [], omega arith)
@@ -48,11 +54,12 @@ absent None name at (answer.Ends status line) told same is = (None, at, tt, same
 absent (Some held) name at (answer.Ends status line) told same is = (None, at, sym told, same, is.0, is.1)
 
 -- what is refused unread is refused whether it is to be verified or to be printed
-pub unread_verifies : (files : Option (List Held)) (name : List ℕ) (found : Answer) → IsUnread files name found → IsAnswerOf Verifies files name found
-unread_verifies files name answer.NoMemory unread = tt
-unread_verifies files name answer.LibraryFailed unread = tt
-unread_verifies files name (answer.Ends status text) unread =
-    let P : Status → Type 0 = λ (s : Status). Verifies unread.0 s text in
+pub unread_verifies : (kinds : List RuleKind) (budget : ℕ) (files : Option (List Held)) (name : List ℕ) (found : Answer) → IsUnread files name found
+    → IsAnswerOf (Verifies kinds budget) files name found
+unread_verifies kinds budget files name answer.NoMemory unread = tt
+unread_verifies kinds budget files name answer.LibraryFailed unread = tt
+unread_verifies kinds budget files name (answer.Ends status text) unread =
+    let P : Status → Type 0 = λ (s : Status). Verifies kinds budget unread.0 s text in
     (unread.0, unread.2, subst P (sym unread.4) (unread.1, inl unread.3, unread.5))
 
 pub unread_prints : (files : Option (List Held)) (name : List ℕ) (found : Answer) → IsUnread files name found → IsAnswerOf Prints files name found

@@ -1,6 +1,6 @@
 mod Canonical
-mod Decided
-mod First
 mod Found
 mod Printing
 mod Refused
+mod Verdicts
+mod Budgets

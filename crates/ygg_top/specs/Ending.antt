@@ -3,7 +3,7 @@ use Rattle.std.specs.Prelude.{◌≡◌, ◌⊎◌, ℕ, ◌≤◌, List, [], �
 use Rattle.ygg_base.specs.declared.failure.Refusal.{Refusal}
 use Rattle.ygg_base.specs.declared.lists.Held.{Held}
 use Rattle.ygg_base.specs.declared.status.Status.{Status}
-use Rattle.ygg_base.specs.declared.status.Status.TheVariants.{Done, Refuted, Refused, Undecided, Fault, NoMemory}
+use Rattle.ygg_base.specs.declared.status.Status.TheVariants.{Done, Refused, Fault, NoMemory}
 use Rattle.ygg_base.specs.Outside.{bytes_of, Rose}
 use Rattle.ygg_base.specs.declared.tokens.Tokens.{Tokens}
 use Rattle.ygg_base.specs.Lexing.{tokens_of}
@@ -14,15 +14,15 @@ use Rattle.ygg_canonical.specs.Canonical.{canonical, GivesAgain}
 use Rattle.ygg_top.specs.declared.help.TheConstants.{HELP, VERSION}
 use Rattle.ygg_top.specs.declared.answer.Answer.{Answer}
 use Rattle.ygg_top.specs.declared.answer.Answer.TheVariants as answer
-use Rattle.ygg_top.specs.Words.{is_alone, file_after}
-use Rattle.ygg_flag.specs.Trees.{file_of}
+use Rattle.ygg_top.specs.Words.{is_alone, file_after, with_budget_after, usual_budget, IsBudget, IsNoBudget}
+use Rattle.ygg_rules.specs.declared.rule.RuleKind.{RuleKind}
 use Rattle.ygg_top.specs.Refusing.{IsBuilt, RefusesVerified, RefusesPrinted, RefusesUnread, most_bytes, refusal, refused_line}
-use Rattle.ygg_top.specs.Verdict.{Verdict, line}
+use Rattle.ygg_top.specs.Verdict.{Verified, line}
 
--- `verify` of what stands under the name: it is refused, or it is built, and there is a verdict on the layer file that it is
-abbrev pub Verifies : Option (List ℕ) → Status → List ℕ → Type 0
-Verifies stored Refused text = (r : Refusal) × RefusesVerified stored r × (text ≡ refused_line r)
-Verifies stored status text = (bytes : List ℕ) × (f : FlagFile) × (stored ≡ Some bytes) × IsBuilt bytes f × Verdict (file_of f) status text
+-- `verify` within a budget of what stands under the name, under a book of these kinds: it is refused, or it is built, and there are verdicts on the layer file that it is
+abbrev pub Verifies : List RuleKind → ℕ → Option (List ℕ) → Status → List ℕ → Type 0
+Verifies kinds budget stored Refused text = (r : Refusal) × RefusesVerified stored r × (text ≡ refused_line r)
+Verifies kinds budget stored status text = (bytes : List ℕ) × (f : FlagFile) × (stored ≡ Some bytes) × IsBuilt bytes f × Verified kinds f budget status text
 
 -- the bytes are a layer file without a fault, and this is its canonical text: from its tokens derives that file but for places, and no other
 pub record IsPrinted (bytes text : List ℕ) : Type 0 where
@@ -44,15 +44,31 @@ abbrev pub Stands : Option (List Held) → List ℕ → Option (List ℕ) → Ty
 Stands None name stored = Unit {0}
 Stands (Some files) name stored = stored ≡ bytes_of files name
 
--- a command of these words over a library ends with the status and prints the text
-abbrev pub Ends : List (List ℕ) → Option (List Held) → Status → List ℕ → Type 0
-Ends words files status text =
+-- a command does this with what stands under the name
+abbrev pub DoesWith : (Option (List ℕ) → Status → List ℕ → Type 0) → Option (List Held) → List ℕ → Status → List ℕ → Type 0
+DoesWith Does files name status text = (stored : Option (List ℕ)) × Stands files name stored × Does stored status text
+
+-- the refusal, as status and line
+abbrev pub IsRefused : Refusal → Status → List ℕ → Type 0
+IsRefused r status text = (status ≡ Refused) × (text ≡ refused_line r)
+
+-- `verify` of a name with a word for the budget: a word that is no budget is refused 72 at `0:2`, before anything is looked at
+abbrev pub VerifiesWithin : List RuleKind → Option (List Held) → List ℕ → List ℕ → Status → List ℕ → Type 0
+VerifiesWithin kinds files name word status text =
+    ((budget : ℕ) × IsBudget word budget × DoesWith (Verifies kinds budget) files name status text)
+    ⊎ (IsNoBudget word × IsRefused (refusal 72 0 2) status text)
+
+-- a command of these words over a library, under a book of these kinds, ends with the status and prints the text
+abbrev pub Ends : List RuleKind → List (List ℕ) → Option (List Held) → Status → List ℕ → Type 0
+Ends kinds words files status text =
     MatchBool (is_alone (codes "--help") words) ((status ≡ Done) × (text ≡ HELP.now))
     (MatchBool (is_alone (codes "--version") words) ((status ≡ Done) × (text ≡ VERSION.now))
     (MatchOption (file_after (codes "verify") words)
-    (MatchOption (file_after (codes "print") words) ((status ≡ Refused) × (text ≡ refused_line (refusal 71 0 0)))
-    (λ name. (stored : Option (List ℕ)) × Stands files name stored × Prints stored status text))
-    (λ name. (stored : Option (List ℕ)) × Stands files name stored × Verifies stored status text)))
+    (MatchOption (with_budget_after (codes "verify") words)
+    (MatchOption (file_after (codes "print") words) (IsRefused (refusal 71 0 0) status text)
+    (λ name. DoesWith Prints files name status text))
+    (λ asked. VerifiesWithin kinds files asked.0 asked.1 status text))
+    (λ name. DoesWith (Verifies kinds usual_budget) files name status text)))
 
 -- a sink that tells its bytes has taken these besides
 abbrev pub Adds : Option (List ℕ) → List ℕ → Option (List ℕ) → Type 0
@@ -69,22 +85,22 @@ abbrev pub library_fault : List ℕ
 library_fault = line (codes "fault library")
 
 -- a front of what the command would have printed
-abbrev pub IsCutShort : List (List ℕ) → Option (List Held) → List ℕ → Type 0
-IsCutShort words files front =
-    (whole : List ℕ) × IsFront front whole × ((whole ≡ library_fault) ⊎ ((status : Status) × Ends words files status whole))
+abbrev pub IsCutShort : List RuleKind → List (List ℕ) → Option (List Held) → List ℕ → Type 0
+IsCutShort kinds words files front =
+    (whole : List ℕ) × IsFront front whole × ((whole ≡ library_fault) ⊎ ((status : Status) × Ends kinds words files status whole))
 
 -- What the sink has taken by the end of a command, from `before` to `now`, and why a fault came: the library's count of faults has risen, or the sink's.
-abbrev pub Reports : List (List ℕ) → Option (List Held) → Option (List ℕ) → Option (List ℕ) → (LibraryRose SinkRose : Type 0) → Status → Type 0
-Reports words files before now LibraryRose SinkRose Fault =
-    (LibraryRose × Adds before library_fault now) ⊎ (SinkRose × (front : List ℕ) × IsCutShort words files front × Adds before front now)
-Reports words files before now LibraryRose SinkRose NoMemory = now ≡ before
-Reports words files before now LibraryRose SinkRose status = (text : List ℕ) × Ends words files status text × Adds before text now
+abbrev pub Reports : List RuleKind → List (List ℕ) → Option (List Held) → Option (List ℕ) → Option (List ℕ) → (LibraryRose SinkRose : Type 0) → Status → Type 0
+Reports kinds words files before now LibraryRose SinkRose Fault =
+    (LibraryRose × Adds before library_fault now) ⊎ (SinkRose × (front : List ℕ) × IsCutShort kinds words files front × Adds before front now)
+Reports kinds words files before now LibraryRose SinkRose NoMemory = now ≡ before
+Reports kinds words files before now LibraryRose SinkRose status = (text : List ℕ) × Ends kinds words files status text × Adds before text now
 
 -- an answer that isn't printed yet: how the command ends and its text
-abbrev pub IsAnswer : List (List ℕ) → Option (List Held) → Answer → Type 0
-IsAnswer words files (answer.Ends status text) = Ends words files status text
-IsAnswer words files answer.LibraryFailed = Unit {0}
-IsAnswer words files answer.NoMemory = Unit {0}
+abbrev pub IsAnswer : List RuleKind → List (List ℕ) → Option (List Held) → Answer → Type 0
+IsAnswer kinds words files (answer.Ends status text) = Ends kinds words files status text
+IsAnswer kinds words files answer.LibraryFailed = Unit {0}
+IsAnswer kinds words files answer.NoMemory = Unit {0}
 
 -- what a command answers for a text, where `Does` says what it does with what stands under a name
 abbrev pub IsAnswerFor : (Option (List ℕ) → Status → List ℕ → Type 0) → List ℕ → Answer → Type 0
@@ -106,9 +122,15 @@ IsTextOf status text answer.NoMemory = Unit {0}
 
 -- what a command answers for a name, where `Does` says what it does with what stands under it
 abbrev pub IsAnswerOf : (Option (List ℕ) → Status → List ℕ → Type 0) → Option (List Held) → List ℕ → Answer → Type 0
-IsAnswerOf Does files name (answer.Ends status text) = (stored : Option (List ℕ)) × Stands files name stored × Does stored status text
+IsAnswerOf Does files name (answer.Ends status text) = DoesWith Does files name status text
 IsAnswerOf Does files name answer.LibraryFailed = Unit {0}
 IsAnswerOf Does files name answer.NoMemory = Unit {0}
+
+-- the same where a word is to be the budget
+abbrev pub IsAnswerWithin : List RuleKind → Option (List Held) → List ℕ → List ℕ → Answer → Type 0
+IsAnswerWithin kinds files name word (answer.Ends status text) = VerifiesWithin kinds files name word status text
+IsAnswerWithin kinds files name word answer.LibraryFailed = Unit {0}
+IsAnswerWithin kinds files name word answer.NoMemory = Unit {0}
 
 -- the answer where no text was fetched: a refusal of what stands under the name before its bytes are looked at
 abbrev pub IsUnread : Option (List Held) → List ℕ → Answer → Type 0

@@ -1,5 +1,6 @@
 -- What the words of a command ask for.
-use Rattle.std.specs.Prelude.{ℕ, Bool, true, false, if◌then◌else◌, List, [], ◌∷◌, Option, Some, None}
+use Rattle.std.specs.Prelude.{◌≡◌, ℕ, ◌≤◌, Bool, true, false, if◌then◌else◌, List, [], ◌∷◌, Option, Some, None}
+use Rattle.std.specs.Fmt.{decimal}
 use Rattle.std.specs.Str.{bytes_eq}
 
 -- the words are this one alone
@@ -11,3 +12,26 @@ is_alone word _ = false
 abbrev pub file_after : List ℕ → List (List ℕ) → Option (List ℕ)
 file_after word (command ∷ file ∷ []) = if bytes_eq command word then Some file else None
 file_after word _ = None
+
+-- the file and the budget that stand alone after this word
+abbrev pub with_budget_after : List ℕ → List (List ℕ) → Option (List ℕ × List ℕ)
+with_budget_after word (command ∷ file ∷ budget ∷ []) = if bytes_eq command word then Some (file, budget) else None
+with_budget_after word _ = None
+
+-- the budget where none is given
+abbrev pub usual_budget : ℕ
+usual_budget = 200000
+
+-- the greatest budget
+abbrev pub most_budget : ℕ
+most_budget = 10000000
+
+-- the word is this budget: a number from 1 on in decimal digits, without a sign or a leading zero
+pub record IsBudget (word : List ℕ) (budget : ℕ) : Type 0 where
+  pub digits : word ≡ decimal budget
+  pub least : 1 ≤ budget
+  pub most : budget ≤ most_budget
+
+-- the word is no budget
+abbrev pub IsNoBudget : List ℕ → Type 0
+IsNoBudget word = (budget : ℕ) → IsBudget word budget → ⊥

@@ -1,23 +1,23 @@
-ghost use Rattle.std.specs.Prelude.{◌≡◌, ◌≤◌, length, Some, Err, IfOk, IfErr};
+ghost use Rattle.std.specs.Prelude.{◌≡◌, ◌<◌, ◌≤◌, length, Some, Err, IfOk, IfErr};
 ghost use Rattle.ygg_base.specs.Outside.{Rose};
 ghost use Rattle.ygg_top.specs.Refusing.{most_bytes, refused_line as refusal_bytes};
-ghost use Rattle.ygg_top.specs.Ending.{Reports, IsPut, IsAnswer, IsAnswerFor, IsAnswerOf, IsTextOf, IsUnread, Prints, Stands, Verifies};
+ghost use Rattle.ygg_top.specs.Ending.{Reports, IsPut, IsAnswer, IsAnswerFor, IsAnswerOf, IsAnswerWithin, IsTextOf, IsUnread, Prints, Stands, Verifies};
 
 use crate::answer::Answer;
 use crate::file::{file_of, printed};
 use crate::help::{HELP, VERSION};
 use crate::line::{refusal, refused_line};
 use crate::verdict::verdict;
-use crate::words::{file_after, is_alone};
+use crate::words::{USUAL_BUDGET, budget, file_after, is_alone, with_budget_after};
 use std::alloc::Global;
 use ygg_base::{Fetch, Library, Moved, Refusal, Refuse, Sink, Status, Text};
-use ygg_rules::RuleBook;
+use ygg_rules::{Book, RuleBook};
 
 /// The most bytes of a layer file.
 const MOST_BYTES: u64 = 1_048_576;
 
-/// Runs the command that the words name, and ends with its status: `verify FILE`, `print FILE`, and alone `--help` or
-/// `--version`. Other words are refused 71 at `0:0`. Nothing is printed before all is decided. What is ensured holds for every
+/// Runs the command that the words name, and ends with its status: `verify FILE`, `verify FILE BUDGET`, `print FILE`, and alone
+/// `--help` or `--version`. Other words are refused 71 at `0:0`. Nothing is printed before all is decided. What is ensured holds for every
 /// book of rules: they only make terms smaller.
 pub fn ygg<L: Library, K: Sink>(
     alloc: Global,
@@ -26,7 +26,7 @@ pub fn ygg<L: Library, K: Sink>(
     library: &mut L,
     sink: &mut K,
 ) -> Status
-    ensures told { Reports words.now (L.files library.old) (K.taken sink.old) (K.taken sink.new) (Rose (L.faults library.old) (L.faults library.new)) (Rose (K.faults sink.old) (K.faults sink.new)) result }
+    ensures told { Reports (⟦<RuleBook as Book>⟧.kinds rules.now) words.now (L.files library.old) (K.taken sink.old) (K.taken sink.new) (Rose (L.faults library.old) (L.faults library.new)) (Rose (K.faults sink.old) (K.faults sink.new)) result }
     ensures kept { L.files library.new ≡ L.files library.old }
     ensures later_library { L.faults library.old ≤ L.faults library.new }
     ensures later_sink { K.faults sink.old ≤ K.faults sink.new }
@@ -51,7 +51,7 @@ fn put<K: Sink>(sink: &mut K, text: &[u8], status: Status) -> Status
 
 /// What the words ask for, over the library.
 fn answer<L: Library>(alloc: Global, words: &[Text], rules: &RuleBook, library: &mut L) -> Answer
-    ensures told { IsAnswer words.now (L.files library.old) result }
+    ensures told { IsAnswer (⟦<RuleBook as Book>⟧.kinds rules.now) words.now (L.files library.old) result }
     ensures cause { result ≡ Answer.LibraryFailed → Rose (L.faults library.old) (L.faults library.new) }
     ensures kept { L.files library.new ≡ L.files library.old }
     ensures later { L.faults library.old ≤ L.faults library.new }
@@ -63,7 +63,10 @@ fn answer<L: Library>(alloc: Global, words: &[Text], rules: &RuleBook, library: 
         return done(alloc, VERSION);
     }
     if let Some(name) = file_after(words, b"verify") {
-        return verify(alloc, name, rules, library);
+        return verify(alloc, name, rules, USUAL_BUDGET, library);
+    }
+    if let Some((name, word)) = with_budget_after(words, b"verify") {
+        return verify_within(alloc, name, word, rules, library);
     }
     if let Some(name) = file_after(words, b"print") {
         return print(alloc, name, library);
@@ -108,15 +111,42 @@ fn fetched<L: Library>(alloc: Global, name: &Text, library: &mut L) -> Result<Te
     }
 }
 
-/// Fetches the file of that name and verifies it.
-fn verify<L: Library>(alloc: Global, name: &Text, rules: &RuleBook, library: &mut L) -> Answer
-    ensures told { IsAnswerOf Verifies (L.files library.old) name.now result }
+/// Fetches the file of that name and verifies it within the budget that a word is. Another word is refused 72 at `0:2`.
+fn verify_within<L: Library>(
+    alloc: Global,
+    name: &Text,
+    word: &Text,
+    rules: &RuleBook,
+    library: &mut L,
+) -> Answer
+    ensures told { IsAnswerWithin (⟦<RuleBook as Book>⟧.kinds rules.now) (L.files library.old) name.now word.now result }
+    ensures cause { result ≡ Answer.LibraryFailed → Rose (L.faults library.old) (L.faults library.new) }
+    ensures kept { L.files library.new ≡ L.files library.old }
+    ensures later { L.faults library.old ≤ L.faults library.new }
+{
+    match budget(alloc, word.as_slice()) {
+        Ok(Some(budget)) => verify(alloc, name, rules, budget, library),
+        Ok(None) => refused(alloc, refusal(72, 0, 2)),
+        Err(_) => Answer::NoMemory,
+    }
+}
+
+/// Fetches the file of that name and verifies it within a budget.
+fn verify<L: Library>(
+    alloc: Global,
+    name: &Text,
+    rules: &RuleBook,
+    budget: u32,
+    library: &mut L,
+) -> Answer
+    requires { 0 < budget }
+    ensures told { IsAnswerOf (Verifies (⟦<RuleBook as Book>⟧.kinds rules.now) budget) (L.files library.old) name.now result }
     ensures cause { result ≡ Answer.LibraryFailed → Rose (L.faults library.old) (L.faults library.new) }
     ensures kept { L.files library.new ≡ L.files library.old }
     ensures later { L.faults library.old ≤ L.faults library.new }
 {
     match fetched(alloc, name, library) {
-        Ok(text) => verify_text(alloc, rules, text.as_slice()),
+        Ok(text) => verify_text(alloc, rules, budget, text.as_slice()),
         Err(answer) => answer,
     }
 }
@@ -134,13 +164,14 @@ fn print<L: Library>(alloc: Global, name: &Text, library: &mut L) -> Answer
     }
 }
 
-/// Verifies a layer file's text.
-fn verify_text(alloc: Global, rules: &RuleBook, text: &[u8]) -> Answer
-    requires { length text.now ≤ most_bytes }
-    ensures { IsAnswerFor Verifies text.now result }
+/// Verifies a layer file's text within a budget.
+fn verify_text(alloc: Global, rules: &RuleBook, budget: u32, text: &[u8]) -> Answer
+    requires text { length text.now ≤ most_bytes }
+    requires budget { 0 < budget }
+    ensures { IsAnswerFor (Verifies (⟦<RuleBook as Book>⟧.kinds rules.now) budget) text.now result }
 {
     match file_of(alloc, text) {
-        Ok(file) => match verdict(alloc, rules, &file) {
+        Ok(file) => match verdict(alloc, rules, &file, budget) {
             Ok((status, line)) => Answer::Ends(status, line),
             Err(_) => Answer::NoMemory,
         },

@@ -1,7 +1,7 @@
 ghost use Rattle.std.specs.Prelude.{◌≡◌, IfOk};
 ghost use Rattle.std.specs.List.{flat_map};
 ghost use Rattle.ygg_top.specs.Refusing.{refusal as refusal_at, refused_line as refusal_bytes};
-ghost use Rattle.ygg_top.specs.Verdict.{line as line_bytes, verified_line as verified_bytes};
+ghost use Rattle.ygg_top.specs.Verdict.{line as line_bytes, verified_line as verified_bytes, undecided_line as undecided_bytes};
 
 use std::alloc::Global;
 use ygg_base::{NoMemory, Refusal, Text};
@@ -36,6 +36,13 @@ pub fn verified_line(alloc: Global, count: usize) -> Result<Text, NoMemory>
     let written = format!(in alloc; "verified {count}\n")?;
     let text = Text::from_slice(alloc, written.as_bytes())?;
     Ok(text)
+}
+
+/// The line of a file that isn't decided within its budget. Its only error is want of memory.
+pub fn undecided_line(alloc: Global) -> Result<Text, NoMemory>
+    ensures { IfOk result (λ text. text ≡ undecided_bytes) }
+{
+    Text::from_slice(alloc, b"undecided\n")
 }
 
 /// A line of these parts. Its only error is want of memory.

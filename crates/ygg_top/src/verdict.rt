@@ -1,45 +1,66 @@
-ghost use Rattle.std.specs.Prelude.{IfOk};
+ghost use Rattle.std.specs.Prelude.{◌≡◌, ◌<◌, IfOk};
 ghost use Rattle.ygg_syntax.specs.FlagNames.{FitsNames};
-ghost use Rattle.ygg_flag.specs.Trees.{file_of};
-ghost use Rattle.ygg_top.specs.Verdict.{Verdict};
+ghost use Rattle.ygg_terms.specs.declared.deciding.Found.TheVariants as found;
+ghost use Rattle.ygg_top.specs.Findings.{is_failed, is_spent};
+ghost use Rattle.ygg_top.specs.Verdict.{Verified};
 
-use crate::line::{line_of, verified_line};
+use crate::line::{line_of, undecided_line, verified_line};
 use std::alloc::Global;
 use ygg_base::{NoMemory, Status, Text};
-use ygg_flag::law::{five_obligations, histories, idle_and_again, refines};
-use ygg_machine::law::refines_by_list;
-use ygg_rules::RuleBook;
+use ygg_flag::law::{five_obligations, histories, idle_and_again};
+use ygg_rules::{Book, RuleBook};
 use ygg_syntax::flag::FlagFile;
-use ygg_terms::decide;
+use ygg_terms::{Found, decide_obligations};
 
 /// How many obligations a file of one layer with one operation has.
 const OBLIGATIONS: usize = 5;
 
-/// How `verify` ends for a flag file, and its line: the first obligation that fails is named. The rules only make the
-/// obligations' terms smaller. That `idle` and `again` hold is proved of every flag file. Its only error is want of memory.
-pub fn verdict(alloc: Global, rules: &RuleBook, file: &FlagFile) -> Result<(Status, Text), NoMemory>
-    requires { FitsNames file.now }
-    ensures { IfOk result (λ end. Verdict (file_of file.now) end.0 end.1) }
+/// Whether an obligation was found to fail.
+fn fails(found: Found) -> bool
+    ensures { result ≡ is_failed found }
 {
-    let held = decide(alloc, rules, file)?;
+    matches!(found, Found::Fails)
+}
+
+/// Whether the budget was spent on an obligation.
+fn is_spent(found: Found) -> bool
+    ensures { result ≡ is_spent found }
+{
+    matches!(found, Found::Spent)
+}
+
+/// How `verify` ends for a flag file within a budget, and its line: the first obligation that fails is named. The rules only make
+/// the obligations' terms smaller. That `idle` and `again` hold is proved of every flag file. Its only error is want of memory.
+pub fn verdict(
+    alloc: Global,
+    rules: &RuleBook,
+    file: &FlagFile,
+    budget: u32,
+) -> Result<(Status, Text), NoMemory>
+    requires names { FitsNames file.now }
+    requires budget { 0 < budget }
+    ensures { IfOk result (λ end. Verified (⟦<RuleBook as Book>⟧.kinds rules.now) file.now budget end.0 end.1) }
+{
+    let found = decide_obligations(alloc, rules, file, budget)?;
     let layer = file.layer.as_slice();
     let operation = file.operation.as_slice();
-    if !held.init {
+    five_obligations();
+    idle_and_again();
+    if fails(found.init) {
         let text = line_of(alloc, &[b"refuted ", layer, b".init"])?;
         return Ok((Status::Refuted, text));
     }
-    if !held.call {
+    if fails(found.call) {
         let text = line_of(alloc, &[b"refuted ", layer, b".call.", operation])?;
         return Ok((Status::Refuted, text));
     }
-    if !held.cut {
+    if fails(found.cut) {
         let text = line_of(alloc, &[b"refuted ", layer, b".cut.", operation])?;
         return Ok((Status::Refuted, text));
     }
-    five_obligations();
-    idle_and_again();
-    refines();
-    refines_by_list();
+    if is_spent(found.init) || is_spent(found.call) || is_spent(found.cut) {
+        return Ok((Status::Undecided, undecided_line(alloc)?));
+    }
     histories();
     let text = verified_line(alloc, OBLIGATIONS)?;
     Ok((Status::Done, text))

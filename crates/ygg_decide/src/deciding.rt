@@ -1,0 +1,57 @@
+ghost use Rattle.std.specs.Prelude.{◌≡◌, ◌<◌, IfOk};
+ghost use Rattle.ygg_bank.specs.Nodes.{HasWidth};
+ghost use Rattle.ygg_decide.specs.Deciding.{IsDecided, IsSound};
+
+use std::alloc::Global;
+use ygg_bank::{Bank, Env, Id, NoMemory};
+use ygg_blast::{clauses_of, environment};
+use ygg_cnf::{Log, derivations_are_sound};
+use ygg_rules::Book;
+use ygg_solver::{Answer, solve};
+
+/// What deciding a term within a budget of learned clauses comes to.
+#[derive(Debug, Drop)]
+pub enum Decided {
+    /// The term is 1 in every environment: this log, of at most as many clauses as the budget says, refutes its clauses.
+    Valid(Log),
+    /// The term is 0 in this environment.
+    Fails(Env),
+    /// This log has as many clauses as the budget says, derived from the term's clauses, each of which teaches.
+    Spent(Log),
+}
+
+/// Decides whether a term of width 1 is 1 in every environment, by at most `budget` learned clauses. It leaves the bank as it was.
+/// Its only error is want of memory.
+pub fn decide<B: Book>(
+    alloc: Global,
+    bank: &mut Bank,
+    _book: &B,
+    term: Id,
+    budget: u32,
+) -> Result<Decided, NoMemory>
+    requires width { HasWidth bank.old term 1 }
+    requires budget { 0 < budget }
+    ensures decided { IfOk result (IsDecided bank.old term budget) }
+    ensures sound { IfOk result (IsSound bank.old term) }
+    ensures same { bank.new ≡ bank.old }
+{
+    decide_in(alloc, bank, term, budget)
+}
+
+/// The same in a bank that is only looked at.
+fn decide_in(alloc: Global, bank: &Bank, term: Id, budget: u32) -> Result<Decided, NoMemory>
+    requires width { HasWidth bank.now term 1 }
+    requires budget { 0 < budget }
+    ensures decided { IfOk result (IsDecided bank.now term budget) }
+    ensures sound { IfOk result (IsSound bank.now term) }
+{
+    // the bank's nodes stand in order, and a refutation is sound
+    let _ = bank.len();
+    derivations_are_sound();
+    let blasted = clauses_of(alloc, bank, term)?;
+    match solve(alloc, blasted.clauses(), budget)? {
+        Answer::Sat(assignment) => Ok(Decided::Fails(environment(alloc, &blasted, &assignment)?)),
+        Answer::Unsat(log) => Ok(Decided::Valid(log)),
+        Answer::Spent(log) => Ok(Decided::Spent(log)),
+    }
+}
