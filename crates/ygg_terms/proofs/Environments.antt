@@ -105,7 +105,7 @@ zero_bit false e = refl
 
 module _ (f : FlagFile) (nodes : List Node) (terms : Terms) (h : AlwaysWorth f nodes terms) (asks : AsksBits nodes) where
   -- inputs that give these bits
-  inputs_for : Bits → Inputs
+  abbrev inputs_for : Bits → Inputs
   inputs_for bits = inputs_of (env_of bits)
 
   -- where a term's bit is false for some bits, the term is 0 in the environment that gives them

@@ -5,4 +5,4 @@ pub mod Expressions
 pub mod Claims
 pub mod Worth
 pub mod Environments
-pub mod Deciding
+pub mod Outcomes

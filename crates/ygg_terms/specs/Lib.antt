@@ -1,4 +1,4 @@
 pub mod Terms
 pub mod Widths
 pub mod Meaning
-pub mod Findings
+pub mod Outcomes

@@ -3,7 +3,7 @@
 ghost use Rattle.std.specs.Prelude.{◌≡◌, ◌<◌, IfOk};
 ghost use Rattle.ygg_eval.specs.Obligations.{Init, CallOf, CutOf};
 ghost use Rattle.ygg_syntax.specs.FlagNames.{FitsNames};
-ghost use Rattle.ygg_terms.specs.Findings.{IsFound, IsFoundOf};
+ghost use Rattle.ygg_terms.specs.Outcomes.{IsFound, IsFoundOf};
 ghost use Rattle.ygg_terms.specs.Widths.{IsDigit};
 
 use crate::building::obligations;

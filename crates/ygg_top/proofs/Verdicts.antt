@@ -7,7 +7,7 @@ use Rattle.ygg_eval.specs.Obligations.{Obligation, Init, CallOf, CutOf, Idle, Ag
 use Rattle.ygg_machine.specs.Claims.{Claim, claims_of}
 use Rattle.ygg_flag.specs.Obligations.{claim_of, FlagHolds}
 use Rattle.ygg_flag.specs.Trees.{file_of}
-use Rattle.ygg_terms.specs.Findings.{IsFound}
+use Rattle.ygg_terms.specs.Outcomes.{IsFound}
 use Rattle.ygg_terms.specs.declared.deciding.Found.{Found}
 use Rattle.ygg_terms.specs.declared.deciding.Found.TheVariants as found
 use Rattle.ygg_top.specs.Findings as findings
@@ -38,16 +38,16 @@ pub record Findings (kinds : List RuleKind) (f : FlagFile) (budget : ℕ) (init 
   pub again : FlagHolds f Again
 
 module _ (kinds : List RuleKind) (f : FlagFile) (budget : ℕ) (i k c : Found) (h : Findings kinds f budget i k c) where
-  one : Judged kinds f budget Init i
+  abbrev one : Judged kinds f budget Init i
   one = judged kinds f budget Init i h.start
 
-  two : Judged kinds f budget (CallOf f.operation) k
+  abbrev two : Judged kinds f budget (CallOf f.operation) k
   two = judged kinds f budget (CallOf f.operation) k h.whole
 
-  three : Judged kinds f budget (CutOf f.operation) c
+  abbrev three : Judged kinds f budget (CutOf f.operation) c
   three = judged kinds f budget (CutOf f.operation) c h.stopped
 
-  verdicts : List Verdict
+  abbrev verdicts : List Verdict
   verdicts = listed one.it two.it three.it
 
   are_true : AreTrue kinds f budget (claims_of (file_of f)) verdicts

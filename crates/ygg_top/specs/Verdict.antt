@@ -12,7 +12,7 @@ use Rattle.ygg_machine.specs.Stack.{BottomOf}
 use Rattle.ygg_machine.specs.History.{Entry, History, Allows}
 use Rattle.ygg_machine.specs.Claims.{Claim, ClaimHolds, ClaimViolated, claims_of}
 use Rattle.ygg_flag.specs.Trees.{file_of}
-use Rattle.ygg_terms.specs.Findings.{IsSpent}
+use Rattle.ygg_terms.specs.Outcomes.{IsSpent}
 
 -- text as a line
 abbrev pub line : List ℕ → List ℕ
