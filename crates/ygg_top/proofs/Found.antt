@@ -1,5 +1,5 @@
 -- From what is found of a file to how its command ends.
-use Rattle.std.proofs.Common.{◌≡◌, ◌⊎◌, inl, inr, ℕ, zero, suc, Bool, true, false, if◌then◌else◌, ◌+◌, ◌<◌, ◌≤◌, List, [], ◌∷◌, ◌++◌, Option, Some, None, length, refl, sym, ap, subst, ◌∙◌, arith}
+use Rattle.std.proofs.Common.{◌≡◌, inl, ℕ, zero, suc, Bool, true, false, if◌then◌else◌, ◌<◌, List, [], ◌∷◌, ◌++◌, Option, Some, None, length, refl, sym, ap, subst, ◌∙◌, arith}
 use Rattle.std.specs.Prelude.{codes, IfSome}
 use Rattle.ygg_base.specs.declared.failure.Refusal.{Refusal}
 use Rattle.ygg_base.specs.declared.lists.Held.{Held}
@@ -8,18 +8,28 @@ use Rattle.ygg_base.specs.declared.status.Status.{Status}
 use Rattle.ygg_base.specs.declared.status.Status.TheVariants.{Done, Refuted, Refused, Undecided, Fault, NoMemory}
 use Rattle.ygg_base.specs.Outside.{bytes_of, FitsFile}
 use Rattle.ygg_syntax.specs.declared.flag.FlagFile.{FlagFile}
-use Rattle.ygg_top.specs.Refusing.{IsBuilt, RefusesUnread, refusal, refused_line, most_bytes}
+use Rattle.ygg_top.specs.Refusing.{IsBuilt, refusal, refused_line, most_bytes}
 use Rattle.ygg_rules.specs.declared.rule.RuleKind.{RuleKind}
 use Rattle.ygg_top.specs.Verdict.{Verified, line, any_failed, any_spent}
-use Rattle.ygg_top.specs.Ending.{Verifies, Prints, Stands, IsTextOf, IsUnread, IsAnswerOf}
+use Rattle.ygg_top.specs.Ending.{Verifies, Prints, IsTextOf, IsUnread, IsAnswerOf}
 use Rattle.ygg_top.specs.declared.answer.Answer.{Answer}
 use Rattle.ygg_top.specs.declared.answer.Answer.TheVariants as answer
 
--- verdicts don't come to a refusal
+-- verdicts come to none of these
 not_refused : (failed spent : Bool) → Refused ≡ (if failed then Refuted else if spent then Undecided else Done) → ⊥
 not_refused true spent e = absurd (cc e)
 not_refused false true e = absurd (cc e)
 not_refused false false e = absurd (cc e)
+
+no_fault : (failed spent : Bool) → Fault ≡ (if failed then Refuted else if spent then Undecided else Done) → ⊥
+no_fault true spent e = absurd (cc e)
+no_fault false true e = absurd (cc e)
+no_fault false false e = absurd (cc e)
+
+no_want : (failed spent : Bool) → NoMemory ≡ (if failed then Refuted else if spent then Undecided else Done) → ⊥
+no_want true spent e = absurd (cc e)
+no_want false true e = absurd (cc e)
+no_want false false e = absurd (cc e)
 
 -- the verdicts on a built file are how `verify` ends for its bytes
 pub verdict_verifies : (kinds : List RuleKind) (budget : ℕ) (bytes : List ℕ) (f : FlagFile) (status : Status) (text : List ℕ) → IsBuilt bytes f → Verified kinds f budget status text
@@ -28,8 +38,8 @@ verdict_verifies kinds budget bytes f Done text built verdict = (bytes, f, refl,
 verdict_verifies kinds budget bytes f Refuted text built verdict = (bytes, f, refl, built, verdict)
 verdict_verifies kinds budget bytes f Refused text built verdict = absurd (not_refused (any_failed verdict.verdicts) (any_spent verdict.verdicts) verdict.status_is)
 verdict_verifies kinds budget bytes f Undecided text built verdict = (bytes, f, refl, built, verdict)
-verdict_verifies kinds budget bytes f Fault text built verdict = (bytes, f, refl, built, verdict)
-verdict_verifies kinds budget bytes f NoMemory text built verdict = (bytes, f, refl, built, verdict)
+verdict_verifies kinds budget bytes f Fault text built verdict = absurd (no_fault (any_failed verdict.verdicts) (any_spent verdict.verdicts) verdict.status_is)
+verdict_verifies kinds budget bytes f NoMemory text built verdict = absurd (no_want (any_failed verdict.verdicts) (any_spent verdict.verdicts) verdict.status_is)
 
 some_longer : (n : ℕ) → (bytes : List ℕ) × (n < length bytes)
 some_longer zero = (0 ∷ [], omega arith)

@@ -1,5 +1,5 @@
 -- What a sink has taken after a put.
-use Rattle.std.proofs.Common.{◌≡◌, ◌⊎◌, inl, inr, ℕ, ◌≤◌, List, [], ◌∷◌, ◌++◌, Option, Some, None, length, take, refl, ap, ◌∙◌, arith}
+use Rattle.std.proofs.Common.{inr, ℕ, List, [], Option, Some, None, take, refl, ap, ◌∙◌, arith}
 use Rattle.ygg_base.specs.declared.outside.Moved.TheVariants as moved
 use Rattle.ygg_base.specs.declared.status.Status.{Status}
 use Rattle.ygg_base.specs.declared.status.Status.TheVariants.{Fault}

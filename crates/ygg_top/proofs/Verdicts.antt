@@ -1,17 +1,18 @@
 -- From what is found of a flag file's obligations to the verdicts on them, and to how `verify` ends.
-use Rattle.std.proofs.Common.{◌≡◌, ℕ, Bool, true, false, ◌||◌, if◌then◌else◌, List, [], ◌∷◌, refl, sym, ap, ◌∙◌}
+use Rattle.std.proofs.Common.{◌≡◌, ℕ, Bool, true, false, ◌||◌, List, [], ◌∷◌, refl, ap, ◌∙◌}
 use Rattle.ygg_base.specs.declared.status.Status.TheVariants.{Done, Refuted, Undecided}
 use Rattle.ygg_rules.specs.declared.rule.RuleKind.{RuleKind}
 use Rattle.ygg_syntax.specs.declared.flag.FlagFile.{FlagFile}
 use Rattle.ygg_eval.specs.Obligations.{Obligation, Init, CallOf, CutOf, Idle, Again}
-use Rattle.ygg_machine.specs.Claims.{Claim, claims_of}
+use Rattle.ygg_machine.specs.Claims.{claims_of}
+use Rattle.ygg_flag.specs.Laws.{DecidedHold}
 use Rattle.ygg_flag.specs.Obligations.{claim_of, FlagHolds}
 use Rattle.ygg_flag.specs.Trees.{file_of}
 use Rattle.ygg_terms.specs.Outcomes.{IsFound}
 use Rattle.ygg_terms.specs.declared.deciding.Found.{Found}
 use Rattle.ygg_terms.specs.declared.deciding.Found.TheVariants as found
 use Rattle.ygg_top.specs.Findings as findings
-use Rattle.ygg_top.specs.Verdict.{Verdict, Holds, Fails, Spent, IsTrue, AreTrue, is_failed, is_spent, any_failed, any_spent, status_by, line_by, first_refuted, refuted_line, undecided_line, verified_line, HistoriesAllowed, Verified}
+use Rattle.ygg_top.specs.Verdict.{Verdict, Holds, Fails, Spent, IsTrue, AreTrue, is_failed, is_spent, any_failed, any_spent, refuted_line, undecided_line, verified_line, HistoriesAllowed, Verified}
 
 -- the verdict that a finding gives
 record Judged (kinds : List RuleKind) (f : FlagFile) (budget : ℕ) (o : Obligation) (x : Found) : Type 0 where
@@ -36,6 +37,22 @@ pub record Findings (kinds : List RuleKind) (f : FlagFile) (budget : ℕ) (init 
   pub stopped : IsFound kinds f budget (CutOf f.operation) cut
   pub idle : FlagHolds f Idle
   pub again : FlagHolds f Again
+
+-- where the budget was spent on one of three, it was spent on some
+pub spent_first : (i k c : Found) → findings.is_spent i ≡ true → (findings.is_spent i || (findings.is_spent k || (findings.is_spent c || false))) ≡ true
+spent_first i k c e = rw e refl
+
+or_true : (b : Bool) → (b || true) ≡ true
+or_true true = refl
+or_true false = refl
+
+pub spent_second : (i k c : Found) → findings.is_spent k ≡ true → (findings.is_spent i || (findings.is_spent k || (findings.is_spent c || false))) ≡ true
+spent_second i k c e = ap (λ b. findings.is_spent i || (b || (findings.is_spent c || false))) e ∙ or_true (findings.is_spent i)
+
+pub spent_third : (i k c : Found) → findings.is_spent c ≡ true → (findings.is_spent i || (findings.is_spent k || (findings.is_spent c || false))) ≡ true
+spent_third i k c e =
+    ap (λ b. findings.is_spent i || (findings.is_spent k || (b || false))) e
+    ∙ ap (λ b. findings.is_spent i || b) (or_true (findings.is_spent k)) ∙ or_true (findings.is_spent i)
 
 module _ (kinds : List RuleKind) (f : FlagFile) (budget : ℕ) (i k c : Found) (h : Findings kinds f budget i k c) where
   abbrev one : Judged kinds f budget Init i
@@ -118,8 +135,12 @@ module _ (kinds : List RuleKind) (f : FlagFile) (budget : ℕ) (i k c : Found) (
       }
 
   -- every obligation holds
-  pub decided : NoneFails → findings.is_spent i ≡ false → findings.is_spent k ≡ false → findings.is_spent c ≡ false → FlagHolds f Init × FlagHolds f (CallOf f.operation) × FlagHolds f (CutOf f.operation)
-  decided n s t u = (holds Init i h.start n.start s, holds (CallOf f.operation) k h.whole n.whole t, holds (CutOf f.operation) c h.stopped n.stopped u) where
+  pub decided : NoneFails → findings.is_spent i ≡ false → findings.is_spent k ≡ false → findings.is_spent c ≡ false → DecidedHold f
+  decided n s t u = record {
+    init = holds Init i h.start n.start s;
+    call = holds (CallOf f.operation) k h.whole n.whole t;
+    cut = holds (CutOf f.operation) c h.stopped n.stopped u;
+  } where
     holds : (o : Obligation) (x : Found) → IsFound kinds f budget o x → findings.is_failed x ≡ false → findings.is_spent x ≡ false → FlagHolds f o
     holds o found.Holds h a b = h
     holds o found.Fails h a b = absurd (cc a)

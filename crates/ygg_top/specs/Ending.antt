@@ -1,10 +1,10 @@
 -- How a command ends, and what it prints.
-use Rattle.std.specs.Prelude.{◌≡◌, ◌⊎◌, ℕ, ◌≤◌, List, [], ◌++◌, length, take, codes, Option, Some, None, IfSome, MatchBool, MatchOption}
+use Rattle.std.specs.Prelude.{◌≡◌, ◌⊎◌, ℕ, ◌≤◌, List, ◌++◌, length, take, codes, Option, Some, None, IfSome, MatchBool, MatchOption}
 use Rattle.ygg_base.specs.declared.failure.Refusal.{Refusal}
 use Rattle.ygg_base.specs.declared.lists.Held.{Held}
 use Rattle.ygg_base.specs.declared.status.Status.{Status}
 use Rattle.ygg_base.specs.declared.status.Status.TheVariants.{Done, Refused, Fault, NoMemory}
-use Rattle.ygg_base.specs.Outside.{bytes_of, Rose}
+use Rattle.ygg_base.specs.Outside.{bytes_of}
 use Rattle.ygg_base.specs.declared.tokens.Tokens.{Tokens}
 use Rattle.ygg_base.specs.Lexing.{tokens_of}
 use Rattle.ygg_syntax.specs.declared.flag.FlagFile.{FlagFile}
@@ -22,6 +22,8 @@ use Rattle.ygg_top.specs.Verdict.{Verified, line}
 -- `verify` within a budget of what stands under the name, under a book of these kinds: it is refused, or it is built, and there are verdicts on the layer file that it is
 abbrev pub Verifies : List RuleKind → ℕ → Option (List ℕ) → Status → List ℕ → Type 0
 Verifies kinds budget stored Refused text = (r : Refusal) × RefusesVerified stored r × (text ≡ refused_line r)
+Verifies kinds budget stored Fault text = ⊥
+Verifies kinds budget stored NoMemory text = ⊥
 Verifies kinds budget stored status text = (bytes : List ℕ) × (f : FlagFile) × (stored ≡ Some bytes) × IsBuilt bytes f × Verified kinds f budget status text
 
 -- the bytes are a layer file without a fault, and this is its canonical text: from its tokens derives that file but for places, and no other

@@ -31,6 +31,22 @@ pub fn ygg<L: Library, K: Sink>(
     ensures later_library { L.faults library.old ≤ L.faults library.new }
     ensures later_sink { K.faults sink.old ≤ K.faults sink.new }
 {
+    run(alloc, words, rules, library, sink)
+}
+
+/// The same for whatever answers as a book of rules does.
+fn run<B: Book, L: Library, K: Sink>(
+    alloc: Global,
+    words: &[Text],
+    rules: &B,
+    library: &mut L,
+    sink: &mut K,
+) -> Status
+    ensures told { Reports (B.kinds rules.now) words.now (L.files library.old) (K.taken sink.old) (K.taken sink.new) (Rose (L.faults library.old) (L.faults library.new)) (Rose (K.faults sink.old) (K.faults sink.new)) result }
+    ensures kept { L.files library.new ≡ L.files library.old }
+    ensures later_library { L.faults library.old ≤ L.faults library.new }
+    ensures later_sink { K.faults sink.old ≤ K.faults sink.new }
+{
     match answer(alloc, words, rules, library) {
         Answer::Ends(status, text) => put(sink, text.as_slice(), status),
         Answer::LibraryFailed => put(sink, b"fault library\n", Status::Fault),
@@ -50,8 +66,8 @@ fn put<K: Sink>(sink: &mut K, text: &[u8], status: Status) -> Status
 }
 
 /// What the words ask for, over the library.
-fn answer<L: Library>(alloc: Global, words: &[Text], rules: &RuleBook, library: &mut L) -> Answer
-    ensures told { IsAnswer (⟦<RuleBook as Book>⟧.kinds rules.now) words.now (L.files library.old) result }
+fn answer<B: Book, L: Library>(alloc: Global, words: &[Text], rules: &B, library: &mut L) -> Answer
+    ensures told { IsAnswer (B.kinds rules.now) words.now (L.files library.old) result }
     ensures cause { result ≡ Answer.LibraryFailed → Rose (L.faults library.old) (L.faults library.new) }
     ensures kept { L.files library.new ≡ L.files library.old }
     ensures later { L.faults library.old ≤ L.faults library.new }
@@ -112,14 +128,14 @@ fn fetched<L: Library>(alloc: Global, name: &Text, library: &mut L) -> Result<Te
 }
 
 /// Fetches the file of that name and verifies it within the budget that a word is. Another word is refused 72 at `0:2`.
-fn verify_within<L: Library>(
+fn verify_within<B: Book, L: Library>(
     alloc: Global,
     name: &Text,
     word: &Text,
-    rules: &RuleBook,
+    rules: &B,
     library: &mut L,
 ) -> Answer
-    ensures told { IsAnswerWithin (⟦<RuleBook as Book>⟧.kinds rules.now) (L.files library.old) name.now word.now result }
+    ensures told { IsAnswerWithin (B.kinds rules.now) (L.files library.old) name.now word.now result }
     ensures cause { result ≡ Answer.LibraryFailed → Rose (L.faults library.old) (L.faults library.new) }
     ensures kept { L.files library.new ≡ L.files library.old }
     ensures later { L.faults library.old ≤ L.faults library.new }
@@ -132,15 +148,15 @@ fn verify_within<L: Library>(
 }
 
 /// Fetches the file of that name and verifies it within a budget.
-fn verify<L: Library>(
+fn verify<B: Book, L: Library>(
     alloc: Global,
     name: &Text,
-    rules: &RuleBook,
+    rules: &B,
     budget: u32,
     library: &mut L,
 ) -> Answer
     requires { 0 < budget }
-    ensures told { IsAnswerOf (Verifies (⟦<RuleBook as Book>⟧.kinds rules.now) budget) (L.files library.old) name.now result }
+    ensures told { IsAnswerOf (Verifies (B.kinds rules.now) budget) (L.files library.old) name.now result }
     ensures cause { result ≡ Answer.LibraryFailed → Rose (L.faults library.old) (L.faults library.new) }
     ensures kept { L.files library.new ≡ L.files library.old }
     ensures later { L.faults library.old ≤ L.faults library.new }
@@ -165,10 +181,10 @@ fn print<L: Library>(alloc: Global, name: &Text, library: &mut L) -> Answer
 }
 
 /// Verifies a layer file's text within a budget.
-fn verify_text(alloc: Global, rules: &RuleBook, budget: u32, text: &[u8]) -> Answer
+fn verify_text<B: Book>(alloc: Global, rules: &B, budget: u32, text: &[u8]) -> Answer
     requires text { length text.now ≤ most_bytes }
     requires budget { 0 < budget }
-    ensures { IsAnswerFor (Verifies (⟦<RuleBook as Book>⟧.kinds rules.now) budget) text.now result }
+    ensures { IsAnswerFor (Verifies (B.kinds rules.now) budget) text.now result }
 {
     match file_of(alloc, text) {
         Ok(file) => match verdict(alloc, rules, &file, budget) {

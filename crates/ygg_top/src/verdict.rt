@@ -8,7 +8,7 @@ use crate::line::{line_of, undecided_line, verified_line};
 use std::alloc::Global;
 use ygg_base::{NoMemory, Status, Text};
 use ygg_flag::law::{five_obligations, histories, idle_and_again};
-use ygg_rules::{Book, RuleBook};
+use ygg_rules::Book;
 use ygg_syntax::flag::FlagFile;
 use ygg_terms::{Found, decide_obligations};
 
@@ -31,15 +31,15 @@ fn is_spent(found: Found) -> bool
 
 /// How `verify` ends for a flag file within a budget, and its line: the first obligation that fails is named. The rules only make
 /// the obligations' terms smaller. That `idle` and `again` hold is proved of every flag file. Its only error is want of memory.
-pub fn verdict(
+pub fn verdict<B: Book>(
     alloc: Global,
-    rules: &RuleBook,
+    rules: &B,
     file: &FlagFile,
     budget: u32,
 ) -> Result<(Status, Text), NoMemory>
     requires names { FitsNames file.now }
     requires budget { 0 < budget }
-    ensures { IfOk result (λ end. Verified (⟦<RuleBook as Book>⟧.kinds rules.now) file.now budget end.0 end.1) }
+    ensures { IfOk result (λ end. Verified (B.kinds rules.now) file.now budget end.0 end.1) }
 {
     let found = decide_obligations(alloc, rules, file, budget)?;
     let layer = file.layer.as_slice();

@@ -59,7 +59,10 @@ fn number_in(word: &[u8]) -> Option<u32>
     ensures { (n : ℕ) → n < 2 ^ 32 → word.now ≡ decimal n → result ≡ Some n }
 {
     match std::str::from_utf8(word) {
-        Ok(text) => text.parse::<u32>().ok(),
+        Ok(text) => match text.parse::<u32>() {
+            Ok(number) => Some(number),
+            Err(_) => None,
+        },
         Err(_) => None,
     }
 }
