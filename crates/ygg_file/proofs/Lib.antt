@@ -1,5 +1,1 @@
-pub mod Answered
-pub mod Files
-pub mod Lists
 pub mod Refusals
-pub mod Shapes

@@ -11,12 +11,11 @@ ghost use Rattle.ygg_syntax.specs.Pending as pending;
 ghost use Rattle.ygg_expr.specs.Steps.{Reads, Goes, Stops, IfRead, OnRead, IfRefused};
 ghost use Rattle.ygg_file.specs.Refused.{IsRefusal, place_with};
 
-use crate::disk::disk;
-use crate::layer::layers;
-use crate::variables::definitions;
 use std::alloc::Global;
 use ygg_base::{Keyword, Mark, Refusal, Refuse, Symbol, Token, Tokens};
 use ygg_expr::Reader;
+use ygg_layer::disk::disk;
+use ygg_layer::{definitions, layers};
 use ygg_list::NoMemory;
 use ygg_syntax::tree::{File, Numeral, Place};
 
@@ -80,7 +79,7 @@ fn ends(reader: &Reader<'_>) -> bool
 }
 
 /// Reads a file.
-#[tactic(auto, using(ygg_expr::proofs::Phrases::joined, crate::proofs::Files::file_opens))]
+#[tactic(auto, using(ygg_expr::proofs::Phrases::joined, ygg_claims::proofs::Files::file_opens))]
 fn file(reader: &mut Reader<'_>) -> Result<Option<File>, NoMemory>
     ensures reads { IfRead result (λ f. Reads (whole_file f ∷ []) reader.old reader.new) }
     ensures goes { OnRead result (Goes (pending.file ∷ []) reader.old reader.new) }

@@ -1,46 +1,45 @@
+ghost use Rattle.std.specs.Prelude.{◌≡◌, []};
+
+use crate::written::are_written;
+use std::process::Abort;
 use std::test::Fail;
-use ygg_cnf::{Assignment, Clause, Clauses, Lit, Log, Step, truth};
-use ygg_list::Sequence;
+use ygg_bank::*;
+use ygg_blast::clauses_of;
+use ygg_rules::RuleBook;
+use ygg_value::Op;
 
-#[test]
-fn lists_are_made_and_copied(rt: HostRuntime) -> Result<(), Fail> {
-    let alloc = rt.alloc();
-    let positive = Lit {
-        var: 7,
-        negated: false,
-    };
-    let mut clause = Clause::new(alloc);
-    assert!(rt; clause.is_empty());
-    clause.push(positive)?;
-    clause.push(positive.complement())?;
-    assert_eq!(rt; clause.len(), 2);
-    assert_eq!(rt; clause.at(1).var, 7);
-    assert!(rt; clause.at(1).negated);
-
-    let mut clauses = Clauses::new(alloc);
-    clauses.push(clause.copy(alloc)?)?;
-    let clauses = clauses.copy(alloc)?;
-    assert_eq!(rt; clauses.len(), 1);
-    assert_eq!(rt; clauses.at(0).as_slice(), clause.as_slice());
-
-    let mut log = Log::new(alloc);
-    log.push(Step::Added {
-        clause,
-        chain: Sequence::from_slice(alloc, &[1, 2])?,
-    })?;
-    let log = log.copy(alloc)?;
-    assert_eq!(rt; log.len(), 1);
-    let Step::Added { clause, chain } = log.at(0);
-    assert_eq!(rt; clause.len(), 2);
-    assert_eq!(rt; chain.as_slice(), [1, 2].as_slice());
-    Ok(())
+/// The conjunction of two inputs of one digit.
+fn conjunction(rt: &impl Abort, bank: &mut Bank, book: &RuleBook) -> Result<Id, NoMemory>
+    requires { bank.old ≡ [] }
+{
+    let a = bank.make(
+        Node::Input {
+            number: 0,
+            width: 1,
+        },
+        book,
+    )?;
+    let b = bank.make(
+        Node::Input {
+            number: 1,
+            width: 1,
+        },
+        book,
+    )?;
+    assert!(rt; a.0 < bank.len() && b.0 < bank.len());
+    assert!(rt; bank.width(a) == bank.width(b));
+    bank.make(Node::Bin { op: Op::And, a, b }, book)
 }
 
 #[test]
-fn variables_past_the_end_are_false(rt: HostRuntime) -> Result<(), Fail> {
-    let assignment = Assignment::from_slice(rt.alloc(), &[true, false, true])?;
-    for (variable, wanted) in [(0, false), (1, true), (2, false), (3, true), (4, false)] {
-        assert_eq!(rt; truth(&assignment, variable), wanted, "of {variable}");
-    }
+fn a_conjunction_has_these_clauses(rt: HostRuntime) -> Result<(), Fail> {
+    let alloc = rt.alloc();
+    let book = RuleBook::new(Vec::new(alloc));
+    let mut bank = Bank::new(alloc)?;
+    let term = conjunction(&rt, &mut bank, &book)?;
+    assert!(rt; term.0 < bank.len());
+    let blasted = clauses_of(alloc, &bank, term)?;
+    let wanted: [&[i64]; 5] = [&[1], &[-4, 2], &[-4, 3], &[4, -2, -3], &[-4]];
+    assert!(rt; are_written(blasted.clauses().as_slice(), &wanted));
     Ok(())
 }

@@ -9,9 +9,7 @@ mod checker;
 #[cfg(test)]
 mod clauses;
 #[cfg(test)]
-mod gates;
-#[cfg(test)]
-mod implications;
+mod lists;
 #[cfg(test)]
 mod lockstep;
 #[cfg(test)]
@@ -21,4 +19,8 @@ mod shapes;
 #[cfg(test)]
 mod solving;
 #[cfg(test)]
+mod terms;
+#[cfg(test)]
 mod values;
+#[cfg(test)]
+mod written;

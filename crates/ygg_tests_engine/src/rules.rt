@@ -1,11 +1,10 @@
+use std::alloc::{AllocError, Global};
 use std::test::Fail;
 use ygg_rules::*;
 use ygg_value::{Op, Word};
 
-#[test]
-fn sum_with_zero(rt: HostRuntime) -> Result<(), Fail> {
-    let alloc = rt.alloc();
-    let mut rules = Vec::new(alloc);
+/// Adds all seven rules.
+fn add_all(alloc: Global, rules: &mut Vec<Rule>) -> Result<(), AllocError> {
     rules.push(Rule::new(RuleKind::Fold, Box::new(alloc, fold)?))?;
     rules.push(Rule::new(RuleKind::AndOnes, Box::new(alloc, and_ones)?))?;
     rules.push(Rule::new(RuleKind::AndZero, Box::new(alloc, and_zero)?))?;
@@ -13,18 +12,25 @@ fn sum_with_zero(rt: HostRuntime) -> Result<(), Fail> {
     rules.push(Rule::new(RuleKind::AddZero, Box::new(alloc, add_zero)?))?;
     rules.push(Rule::new(RuleKind::EqSelf, Box::new(alloc, eq_self)?))?;
     rules.push(Rule::new(RuleKind::PickSame, Box::new(alloc, pick_same)?))?;
-    let book = RuleBook::new(rules);
-    let empty = RuleBook::new(Vec::new(alloc));
-    let zero = Operand::known(1, Word { width: 8, bits: 0 });
-    let view = View::bin(Op::Add, Operand::unknown(0, 8), zero);
-    assert_eq!(rt; book.view(&view), Rewrite::Operand(0));
-    assert_eq!(rt; empty.view(&view), Rewrite::Keep);
     Ok(())
 }
 
 #[test]
-fn judges_answer_operands(rt: HostRuntime) {
-    let view = View::bin(
+fn sum_with_zero(rt: HostRuntime) -> Result<(), Fail> {
+    let mut rules = Vec::new(rt.alloc());
+    add_all(rt.alloc(), &mut rules)?;
+    let book = RuleBook::new(rules);
+    let empty = RuleBook::new(Vec::new(rt.alloc()));
+    let zero = Operand::known(1, Word { width: 8, bits: 0 });
+    let view = View::bin(Op::Add, Operand::unknown(0, 8), zero);
+    assert!(rt; book.view(&view) == Rewrite::Operand(0));
+    assert!(rt; empty.view(&view) == Rewrite::Keep);
+    Ok(())
+}
+
+/// What the judges of conjunctions answer of one with all ones and of one with 0.
+fn conjunctions() -> [Rewrite; 4] {
+    let with_ones = View::bin(
         Op::And,
         Operand::known(
             2,
@@ -35,131 +41,136 @@ fn judges_answer_operands(rt: HostRuntime) {
         ),
         Operand::unknown(0, 8),
     );
-    assert_eq!(rt; and_ones(&view), Rewrite::Operand(1));
-    let view = View::bin(
+    let with_zero = View::bin(
         Op::And,
-        Operand::known(1, Word { width: 8, bits: 0 }),
         Operand::unknown(0, 8),
+        Operand::known(1, Word { width: 8, bits: 0 }),
     );
-    assert_eq!(rt; and_ones(&view), Rewrite::Keep);
-    let view = View::bin(
+    [
+        and_ones(&with_ones),
+        and_ones(&with_zero),
+        and_zero(&with_zero),
+        and_zero(&with_ones),
+    ]
+}
+
+/// What the judges of disjunctions and sums answer of an operand and 0, and of other operands or another operation.
+fn sums() -> [Rewrite; 4] {
+    let with_zero = View::bin(
         Op::Or,
         Operand::known(1, Word { width: 8, bits: 0 }),
         Operand::unknown(0, 8),
     );
-    assert_eq!(rt; or_zero(&view), Rewrite::Operand(1));
-    let view = View::bin(
-        Op::Or,
-        Operand::unknown(0, 8),
-        Operand::known(
-            2,
-            Word {
-                width: 8,
-                bits: 255,
-            },
-        ),
-    );
-    assert_eq!(rt; or_zero(&view), Rewrite::Keep);
-    let view = View::bin(
+    let unknown = View::bin(Op::Or, Operand::unknown(0, 8), Operand::unknown(0, 8));
+    let sum = View::bin(
         Op::Add,
         Operand::unknown(0, 8),
         Operand::known(1, Word { width: 8, bits: 0 }),
     );
-    assert_eq!(rt; add_zero(&view), Rewrite::Operand(0));
-    let view = View::bin(
+    let difference = View::bin(
         Op::Sub,
         Operand::unknown(0, 8),
         Operand::known(1, Word { width: 8, bits: 0 }),
     );
-    assert_eq!(rt; add_zero(&view), Rewrite::Keep);
+    [
+        or_zero(&with_zero),
+        or_zero(&unknown),
+        add_zero(&sum),
+        add_zero(&difference),
+    ]
 }
 
-#[test]
-fn judges_answer_constants(rt: HostRuntime) {
-    let view = View::bin(
-        Op::And,
-        Operand::unknown(0, 8),
-        Operand::known(1, Word { width: 8, bits: 0 }),
-    );
-    assert_eq!(rt;
-        and_zero(&view),
-        Rewrite::Constant(Word { width: 8, bits: 0 })
-    );
-    let view = View::bin(
-        Op::Or,
-        Operand::unknown(0, 8),
-        Operand::known(1, Word { width: 8, bits: 0 }),
-    );
-    assert_eq!(rt; and_zero(&view), Rewrite::Keep);
-    let view = View::bin(Op::Eq, Operand::unknown(0, 8), Operand::unknown(0, 8));
-    assert_eq!(rt;
-        eq_self(&view),
-        Rewrite::Constant(Word { width: 1, bits: 1 })
-    );
-    let view = View::bin(
+/// What the judges of comparisons and of picks answer of one operand twice, and of two.
+fn alike() -> [Rewrite; 4] {
+    let same = View::bin(Op::Eq, Operand::unknown(0, 8), Operand::unknown(0, 8));
+    let other = View::bin(
         Op::Eq,
         Operand::unknown(0, 8),
         Operand::known(1, Word { width: 8, bits: 0 }),
     );
-    assert_eq!(rt; eq_self(&view), Rewrite::Keep);
+    let pick = View::pick(
+        Operand::unknown(4, 1),
+        Operand::unknown(0, 8),
+        Operand::unknown(0, 8),
+    );
+    let other_pick = View::pick(
+        Operand::unknown(4, 1),
+        Operand::unknown(0, 8),
+        Operand::known(3, Word { width: 8, bits: 5 }),
+    );
+    [
+        eq_self(&same),
+        eq_self(&other),
+        pick_same(&pick),
+        pick_same(&other_pick),
+    ]
 }
 
-#[test]
-fn fold_of_known_operands(rt: HostRuntime) {
-    let view = View::bin(
+/// What `fold` answers of operations on words, and of one on an unknown operand.
+fn folds() -> [Rewrite; 4] {
+    let shift = View::bin(
         Op::Shl,
         Operand::known(3, Word { width: 8, bits: 5 }),
         Operand::known(3, Word { width: 8, bits: 5 }),
     );
-    assert_eq!(rt;
-        fold(&view),
-        Rewrite::Constant(Word {
-            width: 8,
-            bits: 160
-        })
-    );
-    let view = View::bin(
+    let unknown = View::bin(
         Op::Shl,
         Operand::unknown(0, 8),
         Operand::known(3, Word { width: 8, bits: 5 }),
     );
-    assert_eq!(rt; fold(&view), Rewrite::Keep);
-    let view = View::not(Operand::known(3, Word { width: 8, bits: 5 }));
-    assert_eq!(rt;
-        fold(&view),
-        Rewrite::Constant(Word {
-            width: 8,
-            bits: 250
-        })
-    );
-    let view = View::resize(Operand::known(3, Word { width: 8, bits: 5 }), 2);
-    assert_eq!(rt; fold(&view), Rewrite::Constant(Word { width: 2, bits: 1 }));
+    let complement = View::not(Operand::known(3, Word { width: 8, bits: 5 }));
+    let resized = View::resize(Operand::known(3, Word { width: 8, bits: 5 }), 2);
+    [
+        fold(&shift),
+        fold(&unknown),
+        fold(&complement),
+        fold(&resized),
+    ]
 }
 
-#[test]
-fn judges_of_picks(rt: HostRuntime) {
-    let view = View::pick(
+/// What `fold` answers of a pick by a known test, and by an unknown one.
+fn picks() -> [Rewrite; 2] {
+    let known = View::pick(
         Operand::known(5, Word { width: 1, bits: 1 }),
         Operand::unknown(0, 8),
         Operand::known(3, Word { width: 8, bits: 5 }),
     );
-    assert_eq!(rt; fold(&view), Rewrite::Operand(1));
-    let view = View::pick(
+    let unknown = View::pick(
         Operand::unknown(4, 1),
         Operand::unknown(0, 8),
         Operand::known(3, Word { width: 8, bits: 5 }),
     );
-    assert_eq!(rt; fold(&view), Rewrite::Keep);
-    let view = View::pick(
-        Operand::unknown(4, 1),
-        Operand::unknown(0, 8),
-        Operand::unknown(0, 8),
+    [fold(&known), fold(&unknown)]
+}
+
+#[test]
+fn judges(rt: HostRuntime) {
+    let [with_ones, with_zero, zero, no_zero] = conjunctions();
+    assert!(rt; with_ones == Rewrite::Operand(1) && with_zero == Rewrite::Keep);
+    assert!(rt; zero == Rewrite::Constant(Word { width: 8, bits: 0 }) && no_zero == Rewrite::Keep);
+    let [with_zero, unknown, sum, difference] = sums();
+    assert!(rt; with_zero == Rewrite::Operand(1) && unknown == Rewrite::Keep);
+    assert!(rt; sum == Rewrite::Operand(0) && difference == Rewrite::Keep);
+    let [same, other, pick, other_pick] = alike();
+    assert!(rt; same == Rewrite::Constant(Word { width: 1, bits: 1 }) && other == Rewrite::Keep);
+    assert!(rt; pick == Rewrite::Operand(1) && other_pick == Rewrite::Keep);
+    let [shift, unknown, complement, resized] = folds();
+    assert!(rt;
+        shift
+            == Rewrite::Constant(Word {
+                width: 8,
+                bits: 160
+            })
+            && unknown == Rewrite::Keep
     );
-    assert_eq!(rt; pick_same(&view), Rewrite::Operand(1));
-    let view = View::pick(
-        Operand::unknown(4, 1),
-        Operand::unknown(0, 8),
-        Operand::known(3, Word { width: 8, bits: 5 }),
+    assert!(rt;
+        complement
+            == Rewrite::Constant(Word {
+                width: 8,
+                bits: 250
+            })
+            && resized == Rewrite::Constant(Word { width: 2, bits: 1 })
     );
-    assert_eq!(rt; pick_same(&view), Rewrite::Keep);
+    let [known, unknown] = picks();
+    assert!(rt; known == Rewrite::Operand(1) && unknown == Rewrite::Keep);
 }

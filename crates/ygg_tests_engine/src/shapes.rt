@@ -1,36 +1,15 @@
-ghost use Rattle.std.specs.Prelude.{◌≡◌, length, IfOk};
+ghost use Rattle.std.specs.Prelude.{◌≡◌, [], length, IfOk};
 ghost use Rattle.ygg_shape.specs.Terms.{IsTable};
 
+use crate::terms::{constant, first_input, sum, value};
 use std::alloc::Global;
 use std::process::Abort;
 use std::test::Fail;
-use ygg_bank::{Bank, Env, Id, NoMemory, Node};
+use ygg_bank::{Bank, Id, NoMemory, Node};
 use ygg_list::Duplicate;
 use ygg_rules::RuleBook;
 use ygg_shape::*;
-use ygg_value::{Op, Word};
-
-/// The constant of 8 digits with this number.
-fn constant(bank: &mut Bank, book: &RuleBook, number: u8) -> Result<Id, NoMemory> {
-    let word = Word {
-        width: 8,
-        bits: number as u64,
-    };
-    bank.make(Node::Const(word), book)
-}
-
-/// A term that is no constant: a term of 8 digits added to another.
-fn sum(rt: &impl Abort, bank: &mut Bank, book: &RuleBook, a: Id, b: Id) -> Result<Id, NoMemory> {
-    assert!(rt; a.0 < bank.len() && b.0 < bank.len());
-    assert!(rt; bank.width(a) == bank.width(b));
-    bank.make(Node::Bin { op: Op::Add, a, b }, book)
-}
-
-/// What a term is where all inputs are 0.
-fn value(rt: &impl Abort, alloc: Global, bank: &Bank, term: Id) -> Result<u64, NoMemory> {
-    assert!(rt; term.0 < bank.len());
-    Ok(bank.value(alloc, term, &Env::new(alloc))?.bits)
-}
+use ygg_value::Word;
 
 /// A table of two rows of one word each, of 8 digits.
 fn table_of(
@@ -104,38 +83,44 @@ fn written(
     first_words(rt, alloc, bank, &answer)
 }
 
-/// Reads and writes at a place that is known, at one that isn't, and past the end.
+/// Reads and writes at the place 1, and at one past the end. The words are 5 and 7, the new word is 9.
 fn at_places(
     rt: &impl Abort,
     alloc: Global,
     bank: &mut Bank,
     book: &RuleBook,
-    input: Id,
+    words: [Id; 2],
+    nine: Id,
+    inside: Id,
+    past: Id,
+) -> Result<(), NoMemory> {
+    assert!(rt; read(rt, alloc, bank, book, words, inside)? == 7);
+    assert!(rt; read(rt, alloc, bank, book, words, past)? == 0);
+    assert!(rt; written(rt, alloc, bank, book, words, inside, nine)? == [5, 9]);
+    assert!(rt; written(rt, alloc, bank, book, words, past, nine)? == [5, 7]);
+    Ok(())
+}
+
+/// Reads and writes at places that are constants, where the term 0 has its value alone, and at places that are not known.
+fn at_all_places(
+    rt: &impl Abort,
+    alloc: Global,
+    bank: &mut Bank,
+    book: &RuleBook,
+    some: Id,
 ) -> Result<(), NoMemory> {
     let words = [constant(bank, book, 5)?, constant(bank, book, 7)?];
     let nine = constant(bank, book, 9)?;
-    let known = constant(bank, book, 1)?;
+    let zero = constant(bank, book, 0)?;
+    let inside = constant(bank, book, 1)?;
     let past = constant(bank, book, 2)?;
     let nodes = bank.len();
-    assert_eq!(rt; read(rt, alloc, bank, book, words, known)?, 7);
-    assert_eq!(rt; written(rt, alloc, bank, book, words, known, nine)?, [5, 9]);
-    assert_eq!(rt; written(rt, alloc, bank, book, words, past, nine)?, [5, 7]);
-    // places that are constants take no nodes
-    assert_eq!(rt; bank.len(), nodes);
-    assert_eq!(rt; read(rt, alloc, bank, book, words, past)?, 0);
-    let unknown = sum(rt, bank, book, input, known)?;
-    let unknown_past = sum(rt, bank, book, input, past)?;
-    assert_eq!(rt; read(rt, alloc, bank, book, words, unknown)?, 7);
-    assert_eq!(rt; read(rt, alloc, bank, book, words, unknown_past)?, 0);
-    assert_eq!(rt;
-        written(rt, alloc, bank, book, words, unknown, nine)?,
-        [5, 9]
-    );
-    assert_eq!(rt;
-        written(rt, alloc, bank, book, words, unknown_past, nine)?,
-        [5, 7]
-    );
-    Ok(())
+    at_places(rt, alloc, bank, book, words, nine, inside, past)?;
+    // places that are constants take no nodes, since 0 stands already
+    assert!(rt; bank.len() == nodes && zero.0 < nodes);
+    let inside = sum(rt, bank, book, some, inside)?;
+    let past = sum(rt, bank, book, some, past)?;
+    at_places(rt, alloc, bank, book, words, nine, inside, past)
 }
 
 /// The words of the table that is the first where the test is 1, and else the second.
@@ -185,23 +170,24 @@ fn by_tests(
     let seven = constant(bank, book, 7)?;
     let unknown = sum(rt, bank, book, input, five)?;
     let same = compared(rt, alloc, bank, book, [five, seven], [unknown, seven])?;
-    assert_eq!(rt; value(rt, alloc, bank, same)?, 1);
+    assert!(rt; value(rt, alloc, bank, same)? == 1);
     let other = compared(rt, alloc, bank, book, [five, seven], [unknown, five])?;
-    assert_eq!(rt; value(rt, alloc, bank, other)?, 0);
-    assert_eq!(rt;
-        merged(rt, alloc, bank, book, same, [five, seven], [seven, five])?,
-        [5, 7]
-    );
-    assert_eq!(rt;
-        merged(rt, alloc, bank, book, other, [five, seven], [seven, five])?,
-        [7, 5]
-    );
+    assert!(rt; value(rt, alloc, bank, other)? == 0);
+    let (one, two) = ([five, seven], [seven, five]);
+    assert!(rt; merged(rt, alloc, bank, book, same, one, two)? == [5, 7]);
+    assert!(rt; merged(rt, alloc, bank, book, other, one, two)? == [7, 5]);
     let certain = bank.make(Node::Const(Word { width: 1, bits: 1 }), book)?;
-    assert_eq!(rt;
-        merged(rt, alloc, bank, book, certain, [five, seven], [seven, five])?,
-        [5, 7]
-    );
+    assert!(rt; merged(rt, alloc, bank, book, certain, one, two)? == [5, 7]);
     Ok(())
+}
+
+/// All that is tried of shapes.
+fn tables(rt: &impl Abort, alloc: Global, bank: &mut Bank, book: &RuleBook) -> Result<(), NoMemory>
+    requires { bank.old ≡ [] }
+{
+    let some = first_input(bank, book)?;
+    at_all_places(rt, alloc, bank, book, some)?;
+    by_tests(rt, alloc, bank, book, some)
 }
 
 #[test]
@@ -209,14 +195,6 @@ fn tables_of_terms(rt: HostRuntime) -> Result<(), Fail> {
     let alloc = rt.alloc();
     let book = RuleBook::new(Vec::new(alloc));
     let mut bank = Bank::new(alloc)?;
-    let input = bank.make(
-        Node::Input {
-            number: 0,
-            width: 8,
-        },
-        &book,
-    )?;
-    at_places(&rt, alloc, &mut bank, &book, input)?;
-    by_tests(&rt, alloc, &mut bank, &book, input)?;
+    tables(&rt, alloc, &mut bank, &book)?;
     Ok(())
 }

@@ -1,54 +1,46 @@
-ghost use Rattle.std.specs.Prelude.{◌<◌, All, IfOk, OnOk};
+ghost use Rattle.std.specs.Prelude.{IfOk};
 ghost use Rattle.ygg_solver.specs.Answers.{IsNumbered};
 
+use crate::written::{clause_of, clauses_of};
 use std::alloc::Global;
 use std::test::Fail;
 use ygg_chain::Checker;
-use ygg_cnf::{Assignment, Clause, Clauses, Lit, Log, Step, truth};
+use ygg_cnf::{Assignment, Clauses, Log, Step, truth};
 use ygg_list::NoMemory;
 use ygg_solver::{Answer, solve};
 
-/// The clause of literals that are written as in texts: the variable, with `-` before it where it is negated.
-fn clause_of(alloc: Global, numbers: &[i64]) -> Result<Clause, NoMemory>
-    ensures { IfOk result (All (λ x. 0 < x.var)) }
-{
-    let mut clause = Clause::new(alloc);
-    for number in numbers {
-        let var = number.unsigned_abs();
-        if var > 0 {
-            clause.push(Lit {
-                var,
-                negated: *number < 0,
-            })?;
-        }
-    }
-    Ok(clause)
-}
-
-fn clauses_of(alloc: Global, rows: &[&[i64]]) -> Result<Clauses, NoMemory>
-    ensures { IfOk result IsNumbered }
-{
-    let mut clauses = Clauses::new(alloc);
-    for row in rows {
-        clauses.push(clause_of(alloc, row)?)?;
-    }
-    Ok(clauses)
-}
-
-/// What is expected of an answer: its name, and how many clauses its log has.
-#[derive(Clone, Copy, Debug, PartialEq, Eq)]
-enum Wanted {
-    Sat,
-    Unsat(usize),
-    Spent(usize),
-}
-
-fn kind_of(answer: &Answer) -> Wanted {
+/// The name of an answer, and how many clauses its log has.
+fn told(answer: &Answer) -> (&'static str, usize) {
     match answer {
-        Answer::Sat(_) => Wanted::Sat,
-        Answer::Unsat(log) => Wanted::Unsat(log.len()),
-        Answer::Spent(log) => Wanted::Spent(log.len()),
+        Answer::Sat(_) => ("sat", 0),
+        Answer::Unsat(log) => ("unsat", log.len()),
+        Answer::Spent(log) => ("spent", log.len()),
     }
+}
+
+const FAR: i64 = i64::MAX;
+
+const PAIRS: [&[i64]; 4] = [&[1, 2], &[-1, 2], &[1, -2], &[-1, -2]];
+
+/// Clauses, a budget, and the answer.
+const ROWS: [(&[&[i64]], u32, &str, usize); 6] = [
+    (&[], 1, "sat", 0),
+    (&[&[1], &[-1]], 1, "unsat", 1),
+    (&[&[]], 1, "unsat", 0),
+    (&PAIRS, 1, "spent", 1),
+    (&PAIRS, 10, "unsat", 2),
+    (&[&[-FAR, 7], &[FAR, 7], &[-7, 2]], 10, "sat", 0),
+];
+
+#[test]
+fn small_lists(rt: HostRuntime) -> Result<(), Fail> {
+    for (numbers, budget, name, steps) in ROWS {
+        assert!(rt; budget > 0);
+        let clauses = clauses_of(rt.alloc(), numbers)?;
+        let answer = solve(rt.alloc(), &clauses, budget)?;
+        assert!(rt; told(&answer) == (name, steps));
+    }
+    Ok(())
 }
 
 /// Whether the assignment makes a literal of each clause true.
@@ -74,116 +66,96 @@ fn refutes(alloc: Global, clauses: &Clauses, log: &Log) -> Result<bool, NoMemory
     Ok(checker.refuted())
 }
 
-#[test]
-fn small_lists(rt: HostRuntime) -> Result<(), Fail> {
-    let alloc = rt.alloc();
-    let far = i64::MAX;
-    let pairs: [&[i64]; 4] = [&[1, 2], &[-1, 2], &[1, -2], &[-1, -2]];
-    let units: [&[i64]; 2] = [&[1], &[-1]];
-    let apart: [&[i64]; 3] = [&[-far, 7], &[far, 7], &[-7, 2]];
-    let none = clauses_of(alloc, &[])?;
-    assert_eq!(rt; kind_of(&solve(alloc, &none, 1)?), Wanted::Sat);
-    let two = clauses_of(alloc, &units)?;
-    assert_eq!(rt; kind_of(&solve(alloc, &two, 1)?), Wanted::Unsat(1));
-    let empty = clauses_of(alloc, &[&[]])?;
-    assert_eq!(rt; kind_of(&solve(alloc, &empty, 1)?), Wanted::Unsat(0));
-    let four = clauses_of(alloc, &pairs)?;
-    assert_eq!(rt; kind_of(&solve(alloc, &four, 1)?), Wanted::Spent(1));
-    assert_eq!(rt; kind_of(&solve(alloc, &four, 10)?), Wanted::Unsat(2));
-    let spread = clauses_of(alloc, &apart)?;
-    assert_eq!(rt; kind_of(&solve(alloc, &spread, 10)?), Wanted::Sat);
-    Ok(())
-}
-
-/// That the pigeon is in the hole, or that it is not.
-fn home(pigeon: u64, hole: u64, negated: bool) -> Lit
-    requires pigeon { pigeon < 20 }
-    requires hole { hole < 20 }
-    ensures { 0 < result.var }
-{
-    Lit {
-        var: 20 * pigeon + hole + 1,
-        negated,
-    }
-}
-
-/// That the pigeon is in one of the holes.
-fn housed(alloc: Global, pigeon: u64, holes: u64) -> Result<Clause, NoMemory>
-    requires pigeon { pigeon < 20 }
-    requires holes { holes < 20 }
-    ensures { IfOk result (All (λ x. 0 < x.var)) }
-{
-    let mut clause = Clause::new(alloc);
-    for hole in 0..holes {
-        clause.push(home(pigeon, hole, false))?;
-    }
-    Ok(clause)
-}
-
-/// Adds that the two pigeons are in no hole both.
-fn part(
-    alloc: Global,
-    clauses: &mut Clauses,
-    pigeon: u64,
-    other: u64,
-    holes: u64,
-) -> Result<(), NoMemory>
-    requires pigeon { pigeon < 20 }
-    requires other { other < 20 }
-    requires holes { holes < 20 }
-    requires numbered { IsNumbered clauses.old }
-    ensures { OnOk result (IsNumbered clauses.new) }
-{
-    for hole in 0..holes {
-        let mut clause = Clause::new(alloc);
-        clause.push(home(pigeon, hole, true))?;
-        clause.push(home(other, hole, true))?;
-        clauses.push(clause)?;
-    }
-    Ok(())
-}
-
-/// Adds that the pigeon is in one of the holes, and in none with one before it.
-fn settle(alloc: Global, clauses: &mut Clauses, pigeon: u64, holes: u64) -> Result<(), NoMemory>
-    requires pigeon { pigeon < 20 }
-    requires holes { holes < 20 }
-    requires numbered { IsNumbered clauses.old }
-    ensures { OnOk result (IsNumbered clauses.new) }
-{
-    clauses.push(housed(alloc, pigeon, holes)?)?;
-    for other in 0..pigeon {
-        part(alloc, clauses, pigeon, other, holes)?;
-    }
-    Ok(())
-}
-
-/// That each of the pigeons is in one of the holes, and no two in one.
-fn pigeons(alloc: Global, count: u64, holes: u64) -> Result<Clauses, NoMemory>
-    requires count { count < 20 }
-    requires holes { holes < 20 }
+/// That each of so many variables in a ring differs from the next one.
+fn ring(alloc: Global, count: u16) -> Result<Clauses, NoMemory>
     ensures { IfOk result IsNumbered }
 {
     let mut clauses = Clauses::new(alloc);
-    for pigeon in 0..count {
-        settle(alloc, &mut clauses, pigeon, holes)?;
+    for place in 1..count {
+        let here = i64::from(place);
+        clauses.push(clause_of(alloc, &[here, here + 1])?)?;
+        clauses.push(clause_of(alloc, &[-here, -here - 1])?)?;
     }
+    let last = i64::from(count);
+    clauses.push(clause_of(alloc, &[last, 1])?)?;
+    clauses.push(clause_of(alloc, &[-last, -1])?)?;
     Ok(clauses)
 }
 
+/// That each of five pigeons is in one of four holes, and that no two are in one.
+const CROWDED: [&[i64]; 45] = [
+    &[1, 2, 3, 4],
+    &[5, 6, 7, 8],
+    &[9, 10, 11, 12],
+    &[13, 14, 15, 16],
+    &[17, 18, 19, 20],
+    &[-1, -5],
+    &[-1, -9],
+    &[-5, -9],
+    &[-1, -13],
+    &[-5, -13],
+    &[-9, -13],
+    &[-1, -17],
+    &[-5, -17],
+    &[-9, -17],
+    &[-13, -17],
+    &[-2, -6],
+    &[-2, -10],
+    &[-6, -10],
+    &[-2, -14],
+    &[-6, -14],
+    &[-10, -14],
+    &[-2, -18],
+    &[-6, -18],
+    &[-10, -18],
+    &[-14, -18],
+    &[-3, -7],
+    &[-3, -11],
+    &[-7, -11],
+    &[-3, -15],
+    &[-7, -15],
+    &[-11, -15],
+    &[-3, -19],
+    &[-7, -19],
+    &[-11, -19],
+    &[-15, -19],
+    &[-4, -8],
+    &[-4, -12],
+    &[-8, -12],
+    &[-4, -16],
+    &[-8, -16],
+    &[-12, -16],
+    &[-4, -20],
+    &[-8, -20],
+    &[-12, -20],
+    &[-16, -20],
+];
+
+/// Whether the solver refutes these clauses by a log that the checker accepts.
+fn is_refuted(alloc: Global, clauses: &Clauses) -> Result<bool, NoMemory>
+    requires { IsNumbered clauses.now }
+{
+    match solve(alloc, clauses, 100_000)? {
+        Answer::Unsat(log) => refutes(alloc, clauses, &log),
+        _ => Ok(false),
+    }
+}
+
+/// Whether the solver satisfies these clauses.
+fn is_satisfied(alloc: Global, clauses: &Clauses) -> Result<bool, NoMemory>
+    requires { IsNumbered clauses.now }
+{
+    match solve(alloc, clauses, 100_000)? {
+        Answer::Sat(assignment) => Ok(satisfies(&assignment, clauses)),
+        _ => Ok(false),
+    }
+}
+
 #[test]
-fn pigeons_in_holes(rt: HostRuntime) -> Result<(), Fail> {
+fn answers_hold(rt: HostRuntime) -> Result<(), Fail> {
     let alloc = rt.alloc();
-    let crowded = pigeons(alloc, 6, 5)?;
-    let refuted = match solve(alloc, &crowded, 100000)? {
-        Answer::Unsat(log) => refutes(alloc, &crowded, &log)?,
-        _ => false,
-    };
-    assert!(rt; refuted);
-    let roomy = pigeons(alloc, 12, 12)?;
-    let placed = match solve(alloc, &roomy, 100000)? {
-        Answer::Sat(assignment) => satisfies(&assignment, &roomy),
-        _ => false,
-    };
-    assert!(rt; placed);
+    assert!(rt; is_refuted(alloc, &clauses_of(alloc, &CROWDED)?)?);
+    assert!(rt; is_refuted(alloc, &ring(alloc, 301)?)?);
+    assert!(rt; is_satisfied(alloc, &ring(alloc, 300)?)?);
     Ok(())
 }

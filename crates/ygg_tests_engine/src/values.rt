@@ -1,43 +1,253 @@
-ghost use Rattle.std.specs.Prelude.{◌≡◌};
+ghost use Rattle.std.specs.Prelude.{◌≡◌, ◌≤◌, length, IfOk};
 
-use std::process::Abort;
+use std::alloc::Global;
 use std::test::Fail;
 use ygg_value::*;
 
 /// The word of a number's low digits.
-fn word(rt: &impl Abort, width: u8, bits: u64) -> Word
+fn word(width: u8, bits: u64) -> Word
+    requires least { 1 ≤ width }
+    requires most { width ≤ 64 }
     ensures { result.width ≡ width }
 {
-    assert!(rt; 1 <= width && width <= 64);
     resize(Word { width: 64, bits }, width)
 }
 
-// Each line has a width, two numbers and what the operations but the implication give of them, in the order of `Op`,
-// all in base 16. They were worked out with Python's integers.
-const RESULTS: &str = "\
-1 0 0 0 0 0 0 0 0 0 0 1 0 0 1 0 1
-1 0 1 1 1 0 0 1 1 0 0 0 1 1 1 0 0
-1 1 0 1 1 0 0 1 1 1 1 0 1 0 0 1 1
-1 1 1 0 0 1 1 1 0 0 0 1 0 0 1 0 1
-8 0 ff ff 1 0 0 ff ff 0 0 0 1 1 1 0 0
-8 ff 1 0 fe ff 1 ff fe fe 7f 0 1 0 0 1 1
-8 80 7f ff 1 80 0 ff ff 0 0 0 1 0 0 1 1
-8 a5 7 ac 9e 83 5 a7 a2 80 1 0 1 0 0 1 1
-8 a5 8 ad 9d 28 0 ad ad 0 0 0 1 0 0 1 1
-21 1ffffffff 1ffffffff 1fffffffe 0 1 1ffffffff 1ffffffff 0 0 0 1 0 0 1 0 1
-21 100000000 ffffffff 1ffffffff 1 100000000 0 1ffffffff 1ffffffff 0 0 0 1 0 0 1 1
-21 123456789 20 1234567a9 123456769 68acf120 0 1234567a9 1234567a9 100000000 1 0 1 0 0 1 1
-21 123456789 21 1234567aa 123456768 18bf258a9 1 1234567a9 1234567a8 0 0 0 1 0 0 1 1
-40 ffffffffffffffff 1 0 fffffffffffffffe ffffffffffffffff 1 ffffffffffffffff fffffffffffffffe fffffffffffffffe 7fffffffffffffff 0 1 0 0 1 1
-40 ffffffffffffffff ffffffffffffffff fffffffffffffffe 0 1 ffffffffffffffff ffffffffffffffff 0 0 0 1 0 0 1 0 1
-40 8000000000000000 7fffffffffffffff ffffffffffffffff 1 8000000000000000 0 ffffffffffffffff ffffffffffffffff 0 0 0 1 0 0 1 1
-40 fedcba9876543211 3f fedcba9876543250 fedcba98765431d2 b851eb851eb8522f 11 fedcba987654323f fedcba987654322e 8000000000000000 1 0 1 0 0 1 1
-40 fedcba9876543211 40 fedcba9876543251 fedcba98765431d1 b72ea61d950c8440 0 fedcba9876543251 fedcba9876543251 0 0 0 1 0 0 1 1";
+/// A width, two numbers, and what the operations but the implication give of them, in the order of `Op`. They were worked
+/// out with Python's integers.
+const RESULTS: [(u8, u64, u64, [u64; 14]); 18] = [
+    (1, 0, 0, [0, 0, 0, 0, 0, 0, 0, 0, 1, 0, 0, 1, 0, 1]),
+    (1, 0, 1, [1, 1, 0, 0, 1, 1, 0, 0, 0, 1, 1, 1, 0, 0]),
+    (1, 1, 0, [1, 1, 0, 0, 1, 1, 1, 1, 0, 1, 0, 0, 1, 1]),
+    (1, 1, 1, [0, 0, 1, 1, 1, 0, 0, 0, 1, 0, 0, 1, 0, 1]),
+    (
+        8,
+        0,
+        0xff,
+        [0xff, 1, 0, 0, 0xff, 0xff, 0, 0, 0, 1, 1, 1, 0, 0],
+    ),
+    (
+        8,
+        0xff,
+        1,
+        [0, 0xfe, 0xff, 1, 0xff, 0xfe, 0xfe, 0x7f, 0, 1, 0, 0, 1, 1],
+    ),
+    (
+        8,
+        0x80,
+        0x7f,
+        [0xff, 1, 0x80, 0, 0xff, 0xff, 0, 0, 0, 1, 0, 0, 1, 1],
+    ),
+    (
+        8,
+        0xa5,
+        7,
+        [0xac, 0x9e, 0x83, 5, 0xa7, 0xa2, 0x80, 1, 0, 1, 0, 0, 1, 1],
+    ),
+    (
+        8,
+        0xa5,
+        8,
+        [0xad, 0x9d, 0x28, 0, 0xad, 0xad, 0, 0, 0, 1, 0, 0, 1, 1],
+    ),
+    (
+        33,
+        0x1ffffffff,
+        0x1ffffffff,
+        [
+            0x1fffffffe,
+            0,
+            1,
+            0x1ffffffff,
+            0x1ffffffff,
+            0,
+            0,
+            0,
+            1,
+            0,
+            0,
+            1,
+            0,
+            1,
+        ],
+    ),
+    (
+        33,
+        0x100000000,
+        0xffffffff,
+        [
+            0x1ffffffff,
+            1,
+            0x100000000,
+            0,
+            0x1ffffffff,
+            0x1ffffffff,
+            0,
+            0,
+            0,
+            1,
+            0,
+            0,
+            1,
+            1,
+        ],
+    ),
+    (
+        33,
+        0x123456789,
+        0x20,
+        [
+            0x1234567a9,
+            0x123456769,
+            0x68acf120,
+            0,
+            0x1234567a9,
+            0x1234567a9,
+            0x100000000,
+            1,
+            0,
+            1,
+            0,
+            0,
+            1,
+            1,
+        ],
+    ),
+    (
+        33,
+        0x123456789,
+        0x21,
+        [
+            0x1234567aa,
+            0x123456768,
+            0x18bf258a9,
+            1,
+            0x1234567a9,
+            0x1234567a8,
+            0,
+            0,
+            0,
+            1,
+            0,
+            0,
+            1,
+            1,
+        ],
+    ),
+    (
+        64,
+        0xffffffffffffffff,
+        1,
+        [
+            0,
+            0xfffffffffffffffe,
+            0xffffffffffffffff,
+            1,
+            0xffffffffffffffff,
+            0xfffffffffffffffe,
+            0xfffffffffffffffe,
+            0x7fffffffffffffff,
+            0,
+            1,
+            0,
+            0,
+            1,
+            1,
+        ],
+    ),
+    (
+        64,
+        0xffffffffffffffff,
+        0xffffffffffffffff,
+        [
+            0xfffffffffffffffe,
+            0,
+            1,
+            0xffffffffffffffff,
+            0xffffffffffffffff,
+            0,
+            0,
+            0,
+            1,
+            0,
+            0,
+            1,
+            0,
+            1,
+        ],
+    ),
+    (
+        64,
+        0x8000000000000000,
+        0x7fffffffffffffff,
+        [
+            0xffffffffffffffff,
+            1,
+            0x8000000000000000,
+            0,
+            0xffffffffffffffff,
+            0xffffffffffffffff,
+            0,
+            0,
+            0,
+            1,
+            0,
+            0,
+            1,
+            1,
+        ],
+    ),
+    (
+        64,
+        0xfedcba9876543211,
+        0x3f,
+        [
+            0xfedcba9876543250,
+            0xfedcba98765431d2,
+            0xb851eb851eb8522f,
+            0x11,
+            0xfedcba987654323f,
+            0xfedcba987654322e,
+            0x8000000000000000,
+            1,
+            0,
+            1,
+            0,
+            0,
+            1,
+            1,
+        ],
+    ),
+    (
+        64,
+        0xfedcba9876543211,
+        0x40,
+        [
+            0xfedcba9876543251,
+            0xfedcba98765431d1,
+            0xb72ea61d950c8440,
+            0,
+            0xfedcba9876543251,
+            0xfedcba9876543251,
+            0,
+            0,
+            0,
+            1,
+            0,
+            0,
+            1,
+            1,
+        ],
+    ),
+];
 
-/// What the operations but the implication give of two words, in order.
-fn given(a: Word, b: Word) -> [u64; 14]
-    requires { a.width ≡ b.width }
-{
+/// What the operations but the implication give of two words of this width, in order.
+fn given(width: u8, a: u64, b: u64) -> [u64; 14] {
+    if width < 1 || width > 64 {
+        return [0; 14];
+    }
+    let a = word(width, a);
+    let b = word(width, b);
     [
         apply(Op::Add, a, b).bits,
         apply(Op::Sub, a, b).bits,
@@ -56,91 +266,148 @@ fn given(a: Word, b: Word) -> [u64; 14]
     ]
 }
 
+/// What the implication gives of the four pairs of digits; then shifts by words of another width, complements and resizes
+/// of the word `0x81`.
+fn others() -> [u64; 10] {
+    let zero = word(1, 0);
+    let one = word(1, 1);
+    let eight = word(8, 0x81);
+    [
+        apply(Op::Imp, zero, zero).bits,
+        apply(Op::Imp, zero, one).bits,
+        apply(Op::Imp, one, zero).bits,
+        apply(Op::Imp, one, one).bits,
+        apply(Op::Shl, eight, word(64, 1 << 40)).bits,
+        apply(Op::Shr, word(64, u64::MAX), word(8, 63)).bits,
+        not(eight).bits,
+        not(word(64, 1)).bits,
+        resize(eight, 1).bits,
+        resize(eight, 64).bits,
+    ]
+}
+
 #[test]
-fn operations(rt: HostRuntime) -> Result<(), Fail> {
-    for line in RESULTS.lines() {
-        let mut numbers = Vec::new(rt.alloc());
-        for number in line.split_whitespace() {
-            numbers.push(u64::from_str_radix(number, 16)?)?;
-        }
-        assert!(rt; numbers.len() == 17 && numbers[0] <= 64);
-        let width = numbers[0] as u8;
-        let results = given(word(&rt, width, numbers[1]), word(&rt, width, numbers[2]));
-        assert_eq!(rt; results.as_slice(), &numbers[3..], "{line}");
+fn operations(rt: HostRuntime) {
+    for (width, a, b, wanted) in RESULTS {
+        assert_eq!(rt; given(width, a, b), wanted, "{width} {a} {b}");
     }
-    for (left, right, wanted) in [(0, 0, 1), (0, 1, 1), (1, 0, 0), (1, 1, 1)] {
-        let given = apply(Op::Imp, word(&rt, 1, left), word(&rt, 1, right));
-        assert_eq!(rt; given, word(&rt, 1, wanted), "{left} implies {right}");
+    let wanted = [1, 1, 0, 1, 0, 1, 0x7e, 0xfffffffffffffffe, 1, 0x81];
+    assert_eq!(rt; others(), wanted);
+}
+
+const TABLE: Shape = Shape::Table {
+    rows: 2,
+    words: 3,
+    width: 33,
+};
+
+const ROW: Shape = Shape::Row {
+    words: 3,
+    width: 33,
+};
+
+/// A row and a table of zeros.
+fn zero_row(alloc: Global) -> Result<Row, NoRoom>
+    ensures { IfOk result (λ row. (row.width ≡ 33) × (length row.words ≡ 3)) }
+{
+    match zero(alloc, ROW)? {
+        Value::Row(row) => Ok(row),
+        _ => Err(NoRoom),
     }
+}
 
-    // a shift's amount may be of another width
-    let eight = word(&rt, 8, 0x81);
-    assert_eq!(rt; apply(Op::Shl, eight, word(&rt, 64, 1 << 40)).bits, 0);
-    assert_eq!(rt;
-        apply(Op::Shr, word(&rt, 64, u64::MAX), word(&rt, 8, 63)).bits,
-        1
-    );
+fn zero_table(alloc: Global) -> Result<Table, NoRoom>
+    ensures { IfOk result (λ table. (table.width ≡ 33) × (table.words ≡ 3)) }
+{
+    match zero(alloc, TABLE)? {
+        Value::Table(table) => Ok(table),
+        _ => Err(NoRoom),
+    }
+}
 
-    assert_eq!(rt; not(eight), word(&rt, 8, 0x7e));
-    assert_eq!(rt; not(word(&rt, 64, 1)), word(&rt, 64, 0xfffffffffffffffe));
-    assert_eq!(rt; resize(eight, 1), word(&rt, 1, 1));
-    assert_eq!(rt; resize(eight, 64), word(&rt, 64, 0x81));
-    Ok(())
+/// A place that may be far past the end.
+fn at(place: u64) -> Word {
+    word(64, place)
+}
+
+/// Writes at places inside and past the end, and reads at some.
+fn row_words(row: &mut Row) -> [u64; 5]
+    requires width { row.old.width ≡ 33 }
+    requires words { length row.old.words ≡ 3 }
+    ensures width { row.new.width ≡ 33 }
+    ensures words { length row.new.words ≡ 3 }
+{
+    row_write(row, at(0), word(33, 7));
+    row_write(row, at(2), word(33, 0x1ffffffff));
+    row_write(row, at(3), word(33, 5));
+    row_write(row, at(u64::MAX), word(33, 6));
+    [
+        row_read(row, at(0)).bits,
+        row_read(row, at(1)).bits,
+        row_read(row, at(2)).bits,
+        row_read(row, at(3)).bits,
+        row_read(row, at(u64::MAX)).bits,
+    ]
+}
+
+/// The last word of the row at a place.
+fn last_word(table: &Table, place: u64, into: &mut Row) -> u64
+    requires table_width { table.now.width ≡ 33 }
+    requires table_words { table.now.words ≡ 3 }
+    requires width { into.old.width ≡ 33 }
+    requires words { length into.old.words ≡ 3 }
+    ensures width { into.new.width ≡ 33 }
+    ensures words { length into.new.words ≡ 3 }
+{
+    table_read(table, at(place), into);
+    row_read(into, word(8, 2)).bits
+}
+
+/// Writes the row at places inside and past the end, and reads at some.
+fn table_words(table: &mut Table, row: &mut Row) -> [u64; 4]
+    requires table_width { table.old.width ≡ 33 }
+    requires table_words { table.old.words ≡ 3 }
+    requires width { row.old.width ≡ 33 }
+    requires words { length row.old.words ≡ 3 }
+{
+    table_write(table, at(1), row);
+    table_write(table, at(2), row);
+    table_write(table, at(u64::MAX), row);
+    let second = last_word(table, 1, row);
+    let first = last_word(table, 0, row);
+    let third = last_word(table, 2, row);
+    [second, first, third, last_word(table, u64::MAX, row)]
 }
 
 #[test]
 fn rows_and_tables(rt: HostRuntime) -> Result<(), Fail> {
-    let end = u64::MAX;
-    let table_shape = Shape::Table {
-        rows: 2,
-        words: 3,
-        width: 33,
-    };
-    let row_shape = Shape::Row {
-        words: 3,
-        width: 33,
-    };
-    let Value::Table(mut table) = zero(rt.alloc(), table_shape)? else {
-        unreachable!()
-    };
-    let Value::Row(mut row) = zero(rt.alloc(), row_shape)? else {
-        unreachable!()
-    };
+    let mut row = zero_row(rt.alloc())?;
+    let mut table = zero_table(rt.alloc())?;
+    assert_eq!(rt; row_words(&mut row), [7, 0, 0x1ffffffff, 0, 0]);
+    assert_eq!(rt; table_words(&mut table, &mut row), [0x1ffffffff, 0, 0, 0]);
+    Ok(())
+}
 
-    for (place, bits) in [(0, 7), (2, 0x1ffffffff), (3, 5), (end, 6)] {
-        row_write(&mut row, word(&rt, 64, place), word(&rt, 33, bits));
+/// Whether the first value is the second, and the third; and the shapes of the first and the third.
+fn told(values: &[Value], copies: &[Value]) -> Option<(bool, bool, Shape, Shape)> {
+    match (values, copies) {
+        ([table, row], [copy, _]) => Some((
+            same(table, copy),
+            same(table, row),
+            shape_of(table),
+            shape_of(row),
+        )),
+        _ => None,
     }
-    for (place, bits) in [(0, 7), (1, 0), (2, 0x1ffffffff), (3, 0), (end, 0)] {
-        let read = row_read(&row, word(&rt, 64, place));
-        assert_eq!(rt; read, word(&rt, 33, bits), "word {place}");
-    }
+}
 
-    for place in [1, 2, end] {
-        table_write(&mut table, word(&rt, 64, place), &row);
-    }
-    for (place, last) in [(1, 0x1ffffffff), (0, 0), (2, 0), (end, 0)] {
-        table_read(&table, word(&rt, 64, place), &mut row);
-        let read = row_read(&row, word(&rt, 8, 2));
-        assert_eq!(rt; read, word(&rt, 33, last), "row {place}");
-    }
-
-    // the tables differ in their last row alone
-    let written = Value::Table(table);
-    let zeros = zero(rt.alloc(), table_shape)?;
-    let copy = copy_value(rt.alloc(), &written)?;
-    assert!(rt; same(&written, &copy));
-    assert!(rt; !same(&written, &zeros));
-    assert!(rt; !same(&zeros, &zero(rt.alloc(), row_shape)?));
-    assert_eq!(rt; shape_of(&written), table_shape);
-    assert_eq!(rt; shape_of(&Value::Row(row)), row_shape);
-    assert_eq!(rt;
-        shape_of(&Value::Word(word(&rt, 5, 1))),
-        Shape::Word { width: 5 }
-    );
-
+#[test]
+fn values_are_copied(rt: HostRuntime) -> Result<(), Fail> {
     let mut values = Values::new(rt.alloc());
-    values.push(written)?;
-    let again = values.copy(rt.alloc())?;
-    assert!(rt; same(values.at(0), again.at(0)));
+    values.push(zero(rt.alloc(), TABLE)?)?;
+    values.push(zero(rt.alloc(), ROW)?)?;
+    let copies = values.copy(rt.alloc())?;
+    let wanted = Some((true, false, TABLE, ROW));
+    assert!(rt; told(values.as_slice(), copies.as_slice()) == wanted);
     Ok(())
 }

@@ -1,6 +1,7 @@
 use crate::text::{PAIR, file_of};
 use std::test::Fail;
 use ygg_count::{choices, events, weight};
+use ygg_syntax::tree::{Block, File};
 
 /// Definitions of which the last one weighs more than 10 ^ 60, and blocks that choose.
 const HEAVY: &[u8] = b"yggdrasil 1;
@@ -31,38 +32,34 @@ layer heavy {
 }
 ";
 
+/// How many choices and calls a block makes, and its weight.
+fn counts(file: &File, block: &Block) -> (u64, u64, u64) {
+    (choices(block), events(block), weight(file, block))
+}
+
+/// The counts of the blocks of the first operation, and of the block that recovers.
+fn counted(file: &File) -> Option<[(u64, u64, u64); 3]> {
+    let layer = file.layers.get(0)?;
+    let first = layer.operations.get(0)?;
+    Some([
+        counts(file, &first.spec),
+        counts(file, &first.implementation),
+        counts(file, &layer.recover),
+    ])
+}
+
 #[test]
 fn blocks_are_counted(rt: HostRuntime) -> Result<(), Fail> {
+    let wanted = [(0, 0, 4), (0, 10, 28), (0, 8, 27)];
     let file = file_of(rt.alloc(), PAIR)?;
-    let Some(layer) = file.layers.get(0) else {
-        return Err(Fail::new("no layer"));
-    };
-    let Some(put) = layer.operations.get(0) else {
-        return Err(Fail::new("no operation"));
-    };
-    for (block, calls, weighs) in [
-        (&put.spec, 0, 4),
-        (&put.implementation, 10, 28),
-        (&layer.recover, 8, 27),
-    ] {
-        assert_eq!(rt; choices(block), 0);
-        assert_eq!(rt; events(block), calls);
-        assert_eq!(rt; weight(&file, block), weighs);
-    }
+    assert!(rt; counted(&file) == Some(wanted));
     Ok(())
 }
 
 #[test]
 fn heavy_files_are_counted(rt: HostRuntime) -> Result<(), Fail> {
+    let wanted = [(5, 0, 20), (0, 1, 1_000_000), (0, 0, 0)];
     let file = file_of(rt.alloc(), HEAVY)?;
-    let Some(layer) = file.layers.get(0) else {
-        return Err(Fail::new("no layer"));
-    };
-    let Some(operation) = layer.operations.get(0) else {
-        return Err(Fail::new("no operation"));
-    };
-    assert_eq!(rt; choices(&operation.spec), 5);
-    assert_eq!(rt; weight(&file, &operation.spec), 20);
-    assert_eq!(rt; weight(&file, &operation.implementation), 1_000_000);
+    assert!(rt; counted(&file) == Some(wanted));
     Ok(())
 }

@@ -1,7 +1,8 @@
 use crate::text::{FLAG, PAIR, file_of};
+use std::alloc::Global;
 use std::test::Fail;
-use ygg_base::Refuse;
-use ygg_syntax::tree::DiskKind;
+use ygg_base::{Refusal, Refuse};
+use ygg_syntax::tree::{DiskKind, File};
 
 /// Broken texts, and the line and the column of the first token that can't come or of the end.
 const BROKEN: [(&str, u32, u32); 83] = [
@@ -362,45 +363,57 @@ const BROKEN: [(&str, u32, u32); 83] = [
     ),
 ];
 
+/// Whether a file's disk is synchronous, and how many operations its first layer has, statements the block that recovers, and
+/// claims on the settled state.
+fn told(file: &File) -> Option<(bool, usize, usize, usize)> {
+    let layer = file.layers.get(0)?;
+    Some((
+        matches!(file.disk.kind, DiskKind::Sync),
+        layer.operations.len(),
+        layer.recover.statements.len(),
+        layer.settled.len(),
+    ))
+}
+
 #[test]
 fn files_are_read(rt: HostRuntime) -> Result<(), Fail> {
-    let flag = file_of(rt.alloc(), FLAG)?;
-    assert!(rt; matches!(flag.disk.kind, DiskKind::Sync));
-    let pair = file_of(rt.alloc(), PAIR)?;
-    assert!(rt; matches!(pair.disk.kind, DiskKind::Async));
-    let Some(layer) = pair.layers.get(0) else {
-        return Err(Fail::new("no layer"));
-    };
-    assert_eq!(rt; layer.operations.len(), 2);
-    assert_eq!(rt; layer.recover.statements.len(), 2);
-    assert_eq!(rt; layer.settled.len(), 1);
-    Ok(())
-}
-
-#[test]
-fn broken_texts_are_refused_at_their_places(rt: HostRuntime) -> Result<(), Fail> {
-    for (text, line, column) in BROKEN {
-        match file_of(rt.alloc(), text.as_bytes()) {
-            Err(Refuse::At(refusal)) => {
-                assert_eq!(rt; refusal.number, 3);
-                assert_eq!(rt; refusal.line, line);
-                assert_eq!(rt; refusal.column, column);
-            }
-            _ => return Err(Fail::new(text)),
-        }
+    for (text, wanted) in [(FLAG, (true, 1, 0, 0)), (PAIR, (false, 2, 2, 1))] {
+        let file = file_of(rt.alloc(), text)?;
+        assert!(rt; told(&file) == Some(wanted));
     }
     Ok(())
 }
 
+/// The refusal of a text.
+fn refusal_of(alloc: Global, text: &[u8]) -> Option<Refusal> {
+    match file_of(alloc, text) {
+        Err(Refuse::At(refusal)) => Some(refusal),
+        _ => None,
+    }
+}
+
 #[test]
-fn no_proper_front_of_a_file_is_one(rt: HostRuntime) -> Result<(), Fail> {
+fn broken_texts_are_refused_at_their_places(rt: HostRuntime) {
+    for (text, line, column) in BROKEN {
+        let number = 3;
+        let wanted = Refusal {
+            number,
+            line,
+            column,
+        };
+        assert!(rt;
+            refusal_of(rt.alloc(), text.as_bytes()) == Some(wanted),
+            "{text}"
+        );
+    }
+}
+
+#[test]
+fn no_proper_front_of_a_file_is_one(rt: HostRuntime) {
     let whole = PAIR.len() - 1;
     for end in 0..whole {
-        match file_of(rt.alloc(), &PAIR[..end]) {
-            Err(Refuse::At(refusal)) => assert_eq!(rt; refusal.number, 3),
-            _ => return Err(Fail::new("a front is read")),
-        }
+        let refusal = refusal_of(rt.alloc(), &PAIR[..end]);
+        assert!(rt; refusal.is_some_and(|found| found.number == 3), "at {end}");
     }
-    assert!(rt; file_of(rt.alloc(), &PAIR[..whole]).is_ok());
-    Ok(())
+    assert!(rt; refusal_of(rt.alloc(), &PAIR[..whole]).is_none());
 }

@@ -1,7 +1,7 @@
 use Rattle.std.proofs.Common.{◌≡◌, [], ◌∷◌, length, refl, sym, ap, ◌∙◌}
 use Rattle.ygg_syntax.specs.declared.tree.Place.{Place}
 use Rattle.ygg_syntax.specs.Pending.{file, outcome, stops}
-use Rattle.ygg_file.proofs.Files.{stops_within}
+use Rattle.ygg_claims.proofs.Files.{stops_within}
 use Rattle.ygg_file.proofs.Refusals.{refusal_of}
 use Rattle.ygg_file.proofs.file.read.Goals as goal
 

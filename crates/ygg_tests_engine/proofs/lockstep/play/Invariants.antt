@@ -3,6 +3,6 @@ use Rattle.ygg_tests_engine.proofs.lockstep.play.Given as goal
 
 abbrev pub invariant-loop-turn : goal.invariant-loop-turn
 invariant-loop-turn g l = record {
-  room : l.room ≡ (g.P.Propagate.state l.propagation).room;
+  room : (g.P.Propagate.state l.propagation).room ≡ 20;
   level : l.level ≡ (g.P.Propagate.state l.propagation).level;
 }

@@ -1,0 +1,4 @@
+pub mod Answered
+pub mod Files
+pub mod Lists
+pub mod Shapes

@@ -1,0 +1,22 @@
+use Rattle.std.proofs.Common.{List, [], ◌∷◌, ◌++◌, ◌∙◌}
+use Rattle.ygg_base.specs.declared.token.Keyword.TheVariants as word
+use Rattle.ygg_base.specs.declared.token.Symbol.TheVariants as sign
+use Rattle.ygg_base.specs.declared.token.Mark.TheVariants as mark
+use Rattle.ygg_syntax.specs.declared.grammar.Kind.TheVariants.{Spec, Impl}
+use Rattle.ygg_syntax.specs.declared.grammar.Sort.TheVariants as sorts
+use Rattle.ygg_syntax.specs.Reading.{Reading}
+use Rattle.ygg_syntax.specs.Expressions.{keyword}
+use Rattle.ygg_syntax.specs.Blocks.{answering}
+use Rattle.ygg_syntax.specs.Files.{type_in, on_crash}
+use Rattle.ygg_claims.proofs.Files.{opened}
+use Rattle.ygg_layer.proofs.operations.answered.Goals as goal
+
+pub returns-clause-reads : goal.returns-clause-reads
+returns-clause-reads c =
+    let spec = rw c.in-Some-2.is at c.in_ok-spec.ensures.reads in
+    let code = rw c.in-Some-3.is at c.in_ok-on_crash.ensures.reads in
+    let last : List Reading = on_crash c.in-Some-3.on_crash ∷ keyword word.Impl ∷ answering Impl c.in-Some-3.implementation ∷ [] in
+    λ x arguments at qs.
+    opened (mark.Symbol sign.Arrow) (type_in sorts.Small c.in-Some.answer ∷ keyword word.Spec ∷ answering Spec c.in-Some-2.spec ∷ last) at c.args.reader.now qs
+    ∙ c.in-Some.ensures.reads (keyword word.Spec ∷ answering Spec c.in-Some-2.spec ∷ last ++ qs)
+    ∙ c.in-Some-keyword.ensures.reads (answering Spec c.in-Some-2.spec ∷ last ++ qs) ∙ spec (last ++ qs) ∙ code qs
