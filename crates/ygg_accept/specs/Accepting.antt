@@ -9,15 +9,23 @@ use Rattle.ygg_file.specs.Refused.{IsRefusal}
 use Rattle.ygg_fault.specs.Files.{IsTyped}
 use Rattle.ygg_type.specs.Typed.{IsFirstFault}
 
--- the text has these tokens, from which this file derives, and the file has no fault
+-- the text has these tokens, from which this file derives and no other, and the file has no fault
 pub record IsAccepted (text : List ℕ) (tokens : Tokens) (file : File) : Type 0 where
   pub spells : tokens_of text ≡ Ok tokens
   pub derives : Derives tokens.items file
+  pub only : (other : File) → Derives tokens.items other → other ≡ file
   pub typed : IsTyped file
+
+-- from these tokens a file derives and no other, and this is the refusal of its least fault
+pub record IsFaulty (tokens : Tokens) (r : Refusal) : Type 0 where
+  pub file : File
+  pub derives : Derives tokens.items file
+  pub only : (other : File) → Derives tokens.items other → other ≡ file
+  pub first : IsFirstFault file r
 
 -- the refusal of a text with these tokens: of the first that can't come, or of the least fault of the file that they are
 abbrev pub RefusesTokens : Tokens → Refusal → Type 0
-RefusesTokens tokens r = IsRefusal tokens r ⊎ ((file : File) × Derives tokens.items file × IsFirstFault file r)
+RefusesTokens tokens r = IsRefusal tokens r ⊎ IsFaulty tokens r
 
 -- the refusal of a text: at a byte that begins no token, or of its tokens
 abbrev pub RefusesLayers : List ℕ → Refusal → Type 0

@@ -10,6 +10,7 @@ use ygg_base::{Refuse, Tokens};
 use ygg_file::read;
 use ygg_lex::tokens;
 use ygg_type::{Typed, check};
+use ygg_unique::one_file_derives;
 
 /// A layer file without a fault, and the tokens that it was read from.
 #[derive(Drop)]
@@ -18,13 +19,14 @@ pub struct Accepted {
     pub typed: Typed,
 }
 
-/// The layer file that a text is. A text is refused 1 or 2 at the first byte that begins no token, 3 at the first token that
+/// The one layer file that a text is. A text is refused 1 or 2 at the first byte that begins no token, 3 at the first token that
 /// can't come, and 4 to 10 at the first fault of the file. The other error is want of memory.
 pub fn accept(alloc: Global, text: &[u8]) -> Result<Accepted, Refuse>
     requires { length text.now ≤ 1048576 }
     ensures accepted { IfOk result (λ a. IsAccepted text.now a.tokens a.typed.file) }
     ensures refused { IfErr result (λ refuse. IfRefused refuse (RefusesLayers text.now)) }
 {
+    one_file_derives();
     let tokens = tokens(alloc, text)?;
     let file = read(alloc, &tokens)?;
     let typed = check(alloc, file)?;

@@ -60,7 +60,7 @@ pub fn copies(alloc: Global, digit: Lit, times: usize) -> Result<Digits, NoMemor
     Ok(digits)
 }
 
-/// The complement of each digit.
+/// The complement of each digit. Its only error is want of memory.
 pub fn complements(alloc: Global, xs: &[Lit]) -> Result<Digits, NoMemory>
     ensures { IfOk result (λ digits. digits ≡ complements xs.now) }
 {
@@ -82,7 +82,7 @@ fn digit(bits: u64) -> Lit
     }
 }
 
-/// The digits of a word: true or false.
+/// The digits of a word: true or false. Its only error is want of memory.
 #[tactic(auto, using(crate::proofs::Numbers::spelling_begins, crate::proofs::Numbers::spelling_goes, crate::proofs::Numbers::spelling_is))]
 pub fn constant_digits(alloc: Global, word: Word) -> Result<Digits, NoMemory>
     ensures { IfOk result (λ digits. digits ≡ constant_digits word.width word.bits) }
@@ -96,7 +96,7 @@ pub fn constant_digits(alloc: Global, word: Word) -> Result<Digits, NoMemory>
     Ok(digits)
 }
 
-/// The digits that are kept, then false.
+/// The digits that are kept, then false. Its only error is want of memory.
 pub fn resized(alloc: Global, xs: &[Lit], width: u8) -> Result<Digits, NoMemory>
     ensures { IfOk result (λ digits. digits ≡ resized_digits width xs.now) }
 {

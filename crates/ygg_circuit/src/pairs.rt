@@ -58,7 +58,7 @@ pub fn join(gates: &mut Vec<Gate>, joint: Joint, a: Lit, b: Lit) -> Result<Lit, 
     }
 }
 
-/// The gate for each pair of digits.
+/// The gate for each pair of digits, at the end of the list. Its only error is want of memory, after which there may be more gates.
 #[tactic(auto, using(crate::proofs::Steps::joined_begins, crate::proofs::Steps::joined_goes, crate::proofs::Steps::joined_value, crate::proofs::Steps::joined_gates))]
 pub fn join_each(
     alloc: Global,
@@ -78,7 +78,7 @@ pub fn join_each(
     Ok(digits)
 }
 
-/// So many new variables.
+/// So many new variables, whose gates are at the end of the list. Its only error is want of memory, after which there may be more gates.
 #[tactic(auto, using(crate::proofs::Steps::free_begins, crate::proofs::Steps::free_goes, crate::proofs::Steps::free_value, crate::proofs::Steps::free_gates))]
 pub fn free_digits(alloc: Global, gates: &mut Vec<Gate>, width: u8) -> Result<Digits, NoMemory>
     ensures gates { OnOk result (gates.new.items ≡ (free_digits width gates.old.items).gates) }

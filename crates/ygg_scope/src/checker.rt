@@ -11,7 +11,8 @@ use ygg_list::NoMemory;
 use ygg_names::Names;
 use ygg_value::Shape;
 
-/// What is in scope at a place of a file, and the first of the faults before it.
+/// What is in scope at a place of a file, and the first of the faults before it. After want of memory it is given up: what a call
+/// leaves of it then is not said.
 #[derive(Drop)]
 pub struct Checker<'a> {
     pub alloc: Global,

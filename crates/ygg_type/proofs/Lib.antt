@@ -1,3 +1,4 @@
+pub mod Few
 pub mod Least
 pub mod Parameters
 pub mod Sizes

@@ -47,9 +47,6 @@ few_layers file e =
     (and_right (none (definitions_faults file.defs [] [])) _ (and_right (none (disk_faults file.disk)) _ e)) in
     omega arith
 
-pub disk_clear : (file : File) → none (faults_of file) ≡ true → none (disk_faults file.disk) ≡ true
-disk_clear file e = and_left (none (disk_faults file.disk)) _ e
-
 -- the numbers of a disk
 pub record DiskFits (disk : DiskText) : Type 0 where
   pub some_rows : 1 ≤ disk.rows.value

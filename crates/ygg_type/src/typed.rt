@@ -11,7 +11,8 @@ use crate::files::first_fault;
 use std::alloc::Global;
 use ygg_base::{Refusal, Refuse, Text};
 use ygg_geometry::Geometry;
-use ygg_syntax::tree::{DiskKind, DiskText, File, Layer, Operation, Tick};
+use ygg_syntax::tree::{DiskKind, DiskText, File, Operation, Tick};
+use ygg_unique::derived_marks;
 
 /// A layer file without a fault, which some list of fewer than 2^32 tokens derives.
 #[derive(Drop)]
@@ -32,10 +33,11 @@ impl Typed {
         &self.file
     }
 
-    /// How many layers the file has, 1 to 8. It takes no memory.
+    /// How many layers the file has, 8 at most. It takes no memory.
     #[tactic(auto, using(crate::proofs::Sizes::few_layers))]
     pub fn layers(&self) -> u32
-        ensures { result ≡ length self.now.file.layers }
+        ensures layers { result ≡ length self.now.file.layers }
+        ensures few { result ≤ 8 }
     {
         self.file.layers.len() as u32
     }
@@ -120,19 +122,6 @@ fn place_of_tick(ticks: &[Tick], name: &[u8]) -> Option<u32>
     None
 }
 
-/// Whether the operations and background steps of each layer have places below 2^32. No file that fits into memory has
-/// more of them.
-fn have_places(layers: &[Layer]) -> bool
-    ensures { result ≡ list_all has_few layers.now }
-{
-    for layer in layers {
-        if layer.operations.len() > 4_294_967_296 || layer.ticks.len() > 4_294_967_296 {
-            return false;
-        }
-    }
-    true
-}
-
 /// Keeps a file that has no fault, and else refuses it, 4 to 10, at its least fault: the earliest place, and there the
 /// smallest number. Its only other error is want of memory.
 pub fn check(alloc: Global, file: File) -> Result<Typed, Refuse>
@@ -140,9 +129,7 @@ pub fn check(alloc: Global, file: File) -> Result<Typed, Refuse>
     ensures typed { IfOk result (λ typed. (typed.file ≡ file) × IsTyped file) }
     ensures refused { IfErr result (λ refuse. IfRefused refuse (IsFirstFault file)) }
 {
-    if !have_places(file.layers.as_slice()) {
-        return Err(Refuse::Memory);
-    }
+    derived_marks();
     match first_fault(alloc, &file) {
         Ok(None) => Ok(Typed { file }),
         Ok(Some(fault)) => Err(Refuse::At(Refusal {

@@ -153,17 +153,6 @@ right_side_rule Spec k = perhaps (mark.Keyword word.Choose) (λ at. k (source.Ch
 right_side_rule Impl k =
     perhaps (mark.Keyword word.Call) (λ at. name (λ f. symbol sign.RoundOpen (arguments (λ es. k (source.Call at f es))))) (expression (λ e. k (source.Value e)))
 
--- K
-abbrev pub block_rule : Kind → (Block → Parser) → Parser
-block_rule kind k =
-    exactly (mark.Symbol sign.BraceOpen) (λ at. statements kind (λ ss. symbol sign.BraceClose (k (record { place = at; statements = ss; answer = None }))))
-
--- KR
-abbrev pub answering_rule : Kind → (Block → Parser) → Parser
-answering_rule kind k =
-    exactly (mark.Symbol sign.BraceOpen) (λ at. statements kind (λ ss. keyword word.Return (expression (λ e. symbol sign.Semicolon (symbol sign.BraceClose (
-    k (record { place = at; statements = ss; answer = Some e })))))))
-
 -- a keyword and a block, or neither
 abbrev pub optional : Keyword → Kind → (Block → Parser) → Parser
 optional w kind k = perhaps (mark.Keyword w) (λ at. block kind k) (k unwritten)

@@ -1,7 +1,11 @@
 use Rattle.std.proofs.Common.{◌∙◌, sym, refl}
 use Rattle.ygg_fault.specs.Files.{faults_of}
 use Rattle.ygg_type.proofs.Least.{is_least, is_none, is_clear}
+use Rattle.ygg_type.proofs.Few.{few_places}
 use Rattle.ygg_type.proofs.typed.check.Goals as goal
+
+pub invariant_of-result-clause-places : goal.invariant_of-result-clause-places
+invariant_of-result-clause-places c = few_places c.args.file c.derived_marks.ensures c.requires.derivable
 
 pub invariant_of-result-clause-typed : goal.invariant_of-result-clause-typed
 invariant_of-result-clause-typed c = is_clear (faults_of c.args.file) (sym c.in-Ok-None.ensures ∙ c.in-Ok-None.field-0-is)
