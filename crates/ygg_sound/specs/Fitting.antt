@@ -1,0 +1,44 @@
+-- Values where shapes are wanted, and where they are known.
+use Rattle.std.specs.Prelude.{◌≡◌, ℕ, Bool, true, false, ◌&&◌, IsTrue, List, [], ◌∷◌, Option, Some, None}
+use Rattle.ygg_value.specs.declared.shape.Shape.{Shape}
+use Rattle.ygg_value.specs.declared.row.Value.{Value}
+use Rattle.ygg_value.specs.Shapes.{IsShape}
+use Rattle.ygg_names.specs.Names.{Named, look_up}
+use Rattle.ygg_fault.specs.declared.scope.Signature.{Signature}
+use Rattle.ygg_eval.specs.Meaning.{Functions}
+use Rattle.ygg_eval.specs.Shapes.{fits}
+
+-- there is a shape, and its numbers keep their limits
+pub record IsShaped (known : Option Shape) : Type 0 where
+  pub shape : Shape
+  pub is : known ≡ Some shape
+  pub limits : IsShape shape
+
+-- there is a shape, its numbers keep their limits, and the value has it
+pub record HasShape (known : Option Shape) (v : Value) : Type 0 where
+  pub shape : Shape
+  pub is : known ≡ Some shape
+  pub limits : IsShape shape
+  pub fits : IsTrue (fits shape v)
+
+-- whether the value has the shape that is wanted, if one is
+abbrev pub fits_wanted : Option Shape → Value → Bool
+fits_wanted None v = true
+fits_wanted (Some s) v = fits s v
+
+-- whether there are as many values as wanted shapes, and each has its own
+abbrev pub all_fit : List (Option Shape) → List Value → Bool
+all_fit [] [] = true
+all_fit (w ∷ ws) (v ∷ vs) = fits_wanted w v && all_fit ws vs
+all_fit _ _ = false
+
+-- the name has a value, which has this shape
+pub record IsHeld (name : List ℕ) (known : Option Shape) (values : Named Value) : Type 0 where
+  pub value : Value
+  pub found : look_up name values ≡ Some value
+  pub has : HasShape known value
+
+-- what the name gives for arguments of the wanted shapes has the answer's shape
+pub record Meets (functions : Functions) (name : List ℕ) (d : Signature) : Type 0 where
+  pub answer : IsShaped d.answer
+  pub gives : (args : List Value) → IsTrue (all_fit d.arguments args) → IsTrue (fits answer.shape (functions name args))

@@ -1,0 +1,2 @@
+//! Typed expressions have values of their shapes.
+#![tactic(auto)]
