@@ -1,3 +1,4 @@
 pub mod Tests
+pub mod Fits
 pub mod Names
 pub mod Steps
