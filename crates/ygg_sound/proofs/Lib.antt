@@ -1,4 +1,5 @@
 pub mod Tests
 pub mod Fits
+pub mod Rules
 pub mod Names
 pub mod Steps
