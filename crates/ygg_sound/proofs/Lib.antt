@@ -1,5 +1,6 @@
 pub mod Tests
 pub mod Fits
 pub mod Rules
+pub mod Lists
 pub mod Names
 pub mod Steps
