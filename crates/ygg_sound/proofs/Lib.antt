@@ -4,3 +4,4 @@ pub mod Rules
 pub mod Lists
 pub mod Names
 pub mod Steps
+pub mod Sounds

@@ -1,0 +1,8 @@
+//! Laws of typing and values.
+
+ghost use Rattle.ygg_sound.specs.Laws.{ExpressionsAreSound};
+
+/// An expression without a fault has a value of its shape, wherever the scope and the values of names go together.
+pub fn expressions_are_sound()
+    ensures { ExpressionsAreSound }
+{}
