@@ -5,3 +5,5 @@ pub mod Lists
 pub mod Names
 pub mod Steps
 pub mod Sounds
+pub mod Parameters
+pub mod Definitions

@@ -28,7 +28,7 @@ use Rattle.ygg_fault.specs.Comparisons.{wanted_fault, arithmetic_fault, shift_fa
 use Rattle.ygg_fault.specs.Expressions.{Own, own, wanted, wanted_word, constant_rule, operator_rule, not_rule, index_rule, pick_rule, resize_rule, fill_rule, number_faults, quantified_rule}
 use Rattle.ygg_eval.specs.Meaning.{is_one, filled}
 use Rattle.ygg_sound.specs.Fitting.{HasShape}
-use Rattle.ygg_sound.proofs.Tests.{left, right, passed, no_fault, wanted_is, width_within, words_within}
+use Rattle.ygg_sound.proofs.Tests.{left, right, passed, turned, no_fault, wanted_is, width_within, words_within}
 use Rattle.ygg_sound.proofs.Fits.{digit_has, word_is, word_within, word_shaped, word_wide}
 
 -- a part at a place with a shape
@@ -191,10 +191,6 @@ not_sound a v x h =
 pub record IndexParts (v i : Value) : Type 0 where
   pub parted : is_word (shape_of v) ≡ false
   pub place : is_word (shape_of i) ≡ true
-
-turned : (b : Bool) → not b ≡ true → b ≡ false
-turned true h = absurd (cc)
-turned false h = refl
 
 pub index_parts : (bracket : Place) (a i : Part) (v w : Value) → HasShape a.shape v → HasShape i.shape w → none (index_rule a.shape bracket i).faults ≡ true → IndexParts v w
 index_parts bracket a i v w x y =
