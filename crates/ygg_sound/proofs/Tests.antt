@@ -1,6 +1,6 @@
 -- What tests and faults say.
 use Rattle.std.proofs.Common.{◌≡◌, ℕ, ◌<◌, ◌≤◌, ◌^◌, Bool, true, false, cond, List, Option, Some, None, refl, sym, ap, ◌∙◌}
-use Rattle.std.specs.Prelude.{◌==◌, ◌&&◌, nat_le, nat_lt}
+use Rattle.std.specs.Prelude.{◌==◌, ◌&&◌, not, nat_le, nat_lt}
 use Rattle.std.specs.Str.{bytes_eq}
 use Rattle.std.proofs.lemmas.Bool.{eqb-true, leb-true, ltb-true, and_parts}
 use Rattle.std.proofs.lemmas.Slice.Eq.{bytes_eq-Decides}
@@ -30,6 +30,11 @@ bytes_equal a = (bytes_eq-Decides a a).1 refl
 pub passed : (test : Bool) (n : ℕ) (at : Place) → none (unless test n at) ≡ true → test ≡ true
 passed true n at e = refl
 passed false n at e = absurd (cc)
+
+-- a test that passes turned round fails
+pub turned : (b : Bool) → not b ≡ true → b ≡ false
+turned true h = absurd (cc)
+turned false h = refl
 
 -- no fault at a place means no number of a fault
 pub no_fault : (at : Place) (o : Option ℕ) → none (fault_at at o) ≡ true → o ≡ None
