@@ -5,3 +5,5 @@ pub mod Asking
 pub mod Fits
 pub mod Following
 pub mod Sounds
+pub mod Views
+pub mod Operations

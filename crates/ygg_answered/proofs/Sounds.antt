@@ -466,12 +466,6 @@ module _ (functions : Functions) (lower : Named Signature) (have : ExpressionsHa
       → AnswersFit lower (after eval b env) answers → IsSound functions kind scope b shape env (after eval b env answers)
   block_sound kind scope b shape env answers g e k t = at (in_turn (map R b.statements) env answers) m
     where
-      end : Scope
-      end = (in_order (map walked b.statements) scope).scope
-
-      faults : none (in_order (map walked b.statements) scope).faults ≡ true
-      faults = first_of (none (in_order (map walked b.statements) scope).faults) (none (return_faults b.answer shape (in_order (map walked b.statements) scope).scope)) e
-
       m : Met kind lower (Left env (in_order (map walked b.statements) scope).scope) (in_turn (map R b.statements) env answers)
       m = (statements_sound b.statements).sounds kind scope env answers g
           (first_of (none (in_order (map walked b.statements) scope).faults) (none (return_faults b.answer shape (in_order (map walked b.statements) scope).scope)) e) k

@@ -1,3 +1,4 @@
 pub mod Kinds
 pub mod Questions
 pub mod Blocks
+pub mod Layers
