@@ -7,3 +7,5 @@ pub mod Following
 pub mod Sounds
 pub mod Views
 pub mod Operations
+pub mod Typed
+pub mod Specs

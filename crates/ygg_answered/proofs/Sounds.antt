@@ -454,7 +454,7 @@ module _ (functions : Functions) (lower : Named Signature) (have : ExpressionsHa
   statements_sound (s ∷ ss) = in_turn_sounds s ss (all_sound s) (statements_sound ss)
 
   -- what a typed block returns has the wanted shape
-  returns_fit : (answer : Option Expr) (shape : Option Shape) (scope : Scope) (env : Env) → Agrees functions scope (plain env) → none (return_faults answer shape scope) ≡ true
+  pub returns_fit : (answer : Option Expr) (shape : Option Shape) (scope : Scope) (env : Env) → Agrees functions scope (plain env) → none (return_faults answer shape scope) ≡ true
       → is_returned answer shape (answer_of eval answer env) ≡ true
   returns_fit None shape scope env g e = refl
   returns_fit (Some x) shape scope env g e =
