@@ -9,3 +9,6 @@ pub mod Views
 pub mod Operations
 pub mod Typed
 pub mod Specs
+pub mod Disks
+pub mod Answering
+pub mod Grammar

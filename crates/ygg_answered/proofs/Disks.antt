@@ -1,0 +1,113 @@
+-- A disk answers each of its operations, whatever its tables are.
+use Rattle.std.proofs.Common.{◌≡◌, ℕ, suc, Bool, true, false, if◌then◌else◌, List, [], ◌∷◌, ◌++◌, length, Option, Some, None, codes, refl, sym, ap, ◌∙◌, subst, arith}
+use Rattle.std.specs.Str.{bytes_eq}
+use Rattle.ygg_value.specs.Number.{Grid}
+use Rattle.ygg_value.specs.Values.{word_in, row_in, table_read, table_write}
+use Rattle.ygg_value.specs.declared.row.Value.{Value}
+use Rattle.ygg_syntax.specs.declared.tree.DiskText.{DiskText}
+use Rattle.ygg_syntax.specs.declared.tree.DiskKind.{DiskKind}
+use Rattle.ygg_syntax.specs.declared.tree.DiskKind.TheVariants.{Sync, Async}
+use Rattle.ygg_names.specs.Names.{Named, look_up}
+use Rattle.ygg_fault.specs.declared.scope.Signature.{Signature}
+use Rattle.ygg_fault.specs.Files.{address, disk_row, disk_operations}
+use Rattle.ygg_disk.specs.Disk as disk
+use Rattle.ygg_eval.specs.Environments.{Name}
+use Rattle.ygg_eval.specs.Progress.{Question, Call, Answer, Asks}
+use Rattle.ygg_eval.specs.Machine.{Picks, State, Fallen, based}
+use Rattle.ygg_eval.specs.Runs.{Dialogue, WholeCall, Reaches}
+use Rattle.ygg_eval.specs.DiskMachine.{disk_call, answer_to, DiskModel, model_of, zeros_on, machine_of, DiskMachine}
+use Rattle.ygg_machine.specs.Under.{Failure, InCall, InTick, Between, FailsBy}
+use Rattle.ygg_machine.specs.Laws.{IsAnswered}
+use Rattle.ygg_sound.proofs.Tests.{bytes_same, bytes_equal}
+
+-- a call of the disk
+pub record IsDiskCall (name : Name) (args : List Value) : Type 0 where
+  pub call : disk.Call
+  pub is : disk_call name args ≡ Some call
+
+reads : (args : List Value) → length args ≡ 1 → IsDiskCall (codes "read") args
+reads [] n = absurd (omega arith)
+reads (at ∷ []) n = record { call = disk.Read (word_in at).bits; is = ap (λ b. if b then Some (disk.Read (word_in at).bits) else None) (bytes_equal (codes "read")) }
+reads (at ∷ b ∷ rest) n = absurd (omega arith)
+
+writes : (args : List Value) → length args ≡ 2 → IsDiskCall (codes "write") args
+writes [] n = absurd (omega arith)
+writes (at ∷ []) n = absurd (omega arith)
+writes (at ∷ row ∷ []) n = record { call = disk.Write (word_in at).bits (row_in row); is = ap (λ b. if b then Some (disk.Write (word_in at).bits (row_in row)) else None) (bytes_equal (codes "write")) }
+writes (at ∷ row ∷ b ∷ rest) n = absurd (omega arith)
+
+flushes : (args : List Value) → length args ≡ 0 → IsDiskCall (codes "flush") args
+flushes [] n = record { call = disk.Flush; is = ap (λ b. if b then Some disk.Flush else None) (bytes_equal (codes "flush")) }
+flushes (b ∷ rest) n = absurd (omega arith)
+
+abbrev rest_of : Named Signature → Named Signature
+rest_of [] = []
+rest_of (o ∷ rest) = rest
+
+signature_is : (a b : Signature) → Some a ≡ Some b → a ≡ b
+signature_is a b h = cc
+
+-- an operation of the disk with as many arguments is a call of it
+pub is_call : (d : DiskText) (name : Name) (args : List Value) (o : Signature) → look_up name (disk_operations d) ≡ Some o → length args ≡ length o.arguments → IsDiskCall name args
+is_call d name args o h n = by_read (bytes_eq (codes "read") name) refl h
+  where
+    from : (s : Signature) → Some s ≡ Some o → (word : Name) → bytes_eq word name ≡ true → (length args ≡ length s.arguments → IsDiskCall word args) → IsDiskCall name args
+    from s h word e make = subst (λ x. IsDiskCall x args) (bytes_same word name e) (make (n ∙ ap (λ (x : Signature). length x.arguments) (sym (signature_is s o h))))
+
+    by_flush : (c : Bool) → bytes_eq (codes "flush") name ≡ c → (if c then Some (record { arguments = []; answers = false; answer = None }) else None) ≡ Some o → IsDiskCall name args
+    by_flush true e h = from _ h (codes "flush") e (flushes args)
+    by_flush false e h = absurd (cc)
+
+    by_write : (b : Bool) → bytes_eq (codes "write") name ≡ b → (if b then Some (record { arguments = address ∷ disk_row d ∷ []; answers = false; answer = None }) else look_up name (rest_of (rest_of (disk_operations d)))) ≡ Some o → IsDiskCall name args
+    by_write true e h = from _ h (codes "write") e (writes args)
+    by_write false e h = by_flush (bytes_eq (codes "flush") name) refl h
+
+    by_read : (b : Bool) → bytes_eq (codes "read") name ≡ b → (if b then Some (record { arguments = address ∷ []; answers = true; answer = disk_row d }) else look_up name (rest_of (disk_operations d))) ≡ Some o → IsDiskCall name args
+    by_read true e h = from _ h (codes "read") e (reads args)
+    by_read false e h = by_write (bytes_eq (codes "write") name) refl h
+
+-- a kind of disk makes each call
+pub record Makes (K : DiskModel) (from : K.Disk) (call : disk.Call) : Type 0 where
+  pub picks : Picks
+  pub reply : disk.Reply
+  pub to : K.Disk
+  pub makes : K.Calls from call picks reply to
+
+pub makes : (kind : DiskKind) (from : (model_of kind).Disk) (call : disk.Call) → Makes (model_of kind) from call
+makes Sync from (disk.Read at) = record { picks = []; reply = Some (table_read from at); to = from; makes = (refl, refl, refl) }
+makes Sync from (disk.Write at row) = record { picks = []; reply = None; to = table_write from at row; makes = (refl, refl, refl) }
+makes Sync from disk.Flush = record { picks = []; reply = None; to = from; makes = (refl, refl, refl) }
+makes Async from (disk.Read at) = record { picks = []; reply = Some (table_read from.view at); to = from; makes = (refl, refl, refl) }
+makes Async from (disk.Write at row) = record { picks = true ∷ []; reply = None; to = disk.written true from at row; makes = (true, refl, refl, refl) }
+makes Async from disk.Flush = record { picks = []; reply = None; to = record { view = from.view; stable = from.view }; makes = (refl, refl, refl) }
+
+-- a state of a kind of disk
+pub record Shows (K : DiskModel) (s : State) : Type 0 where
+  pub disk : K.Disk
+  pub is : s ≡ based (K.shown disk)
+
+module _ (K : DiskModel) (zeros : Grid) where
+  -- what power loss leaves is a state of it
+  pub shows_fallen : (s : State) (how : Failure) (picks : Picks) (f : Fallen) → FailsBy (machine_of K zeros) how s picks f → Shows K (based f)
+  shows_fallen s (InCall name args) picks f h = let (d, d', call, e, from, falls, is) = h in record { disk = d'; is = ap based is }
+  shows_fallen s (InTick name) picks f h = absurd h
+  shows_fallen s Between picks f h = let (d, none, from, is) = h in record { disk = K.lost d; is = ap based is }
+
+  -- whatever has been called, it is in a state of it
+  pub shows_after : (block : Dialogue) (told : List Answer) (from : State) (calls : List WholeCall) (to : State) → Reaches (machine_of K zeros) block told from calls to → Shows K from → Shows K to
+  shows_after block told from [] to h s = record { disk = s.disk; is = sym h ∙ s.is }
+  shows_after block told from (c ∷ calls) to (asks, step, rest) s =
+      let (d, d', call, reply, e, at, made, y, is) = step in shows_after block (told ++ c.answer ∷ []) c.after calls to rest (record { disk = d'; is = is })
+
+-- the machine of a disk answers each of its calls
+pub disk_answers : (d : DiskText) (s : State) (name : Name) (args : List Value) → Shows (model_of d.kind) s → IsDiskCall name args → IsAnswered (DiskMachine d) s (Call name args)
+disk_answers d s name args shows c =
+    let m = makes d.kind shows.disk c.call in record {
+      name = name;
+      args = args;
+      picks = m.picks;
+      answer = answer_to m.reply;
+      after = based ((model_of d.kind).shown m.to);
+      is = refl;
+      call = (shows.disk, m.to, c.call, m.reply, c.is, shows.is, m.makes, refl, refl);
+    }
