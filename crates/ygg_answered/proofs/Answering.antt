@@ -1,5 +1,5 @@
 -- Each call that the recovery of a typed layer makes is answered.
-use Rattle.std.proofs.Common.{◌≡◌, ℕ, Bool, true, false, ◌&&◌, ◌==◌, List, [], ◌∷◌, ◌++◌, map, length, Option, Some, None, option_map, refl, sym, ap, ◌∙◌, subst, append_assoc, eqb-true}
+use Rattle.std.proofs.Common.{◌≡◌, Bool, true, false, ◌==◌, List, [], ◌∷◌, ◌++◌, map, length, Option, Some, None, option_map, refl, sym, ap, ◌∙◌, subst, append_assoc, eqb-true}
 use Rattle.std.proofs.lemmas.List.{append-nil}
 use Rattle.ygg_value.specs.declared.row.Value.{Value}
 use Rattle.ygg_syntax.specs.declared.grammar.Kind.TheVariants.{Impl}
@@ -14,14 +14,14 @@ use Rattle.ygg_fault.specs.declared.scope.View.TheVariants.{Implementation}
 use Rattle.ygg_fault.specs.declared.scope.Signature.{Signature}
 use Rattle.ygg_fault.specs.Faults.{none}
 use Rattle.ygg_fault.specs.Scopes.{Scope, seen_as}
-use Rattle.ygg_fault.specs.Statements.{in_order, return_faults, walked}
+use Rattle.ygg_fault.specs.Statements.{in_order, walked}
 use Rattle.ygg_fault.specs.Definitions.{parameter_shapes}
 use Rattle.ygg_fault.specs.Layers.{Below, layer_scope, operation_signature}
-use Rattle.ygg_fault.specs.Files.{disk_operations, disk_below}
+use Rattle.ygg_fault.specs.Files.{disk_operations}
 use Rattle.ygg_eval.specs.Environments.{Name, Env}
 use Rattle.ygg_eval.specs.Meaning.{Functions}
-use Rattle.ygg_eval.specs.Shapes.{values_fit, env_fits, zeros_of}
-use Rattle.ygg_eval.specs.Progress.{Eval, Answer, Point, Waits, Goes, Question, Choice, Call, Progress, Asks, ended, in_turn, run_of}
+use Rattle.ygg_eval.specs.Shapes.{values_fit, zeros_of}
+use Rattle.ygg_eval.specs.Progress.{Eval, Answer, Point, Waits, Goes, Question, Choice, Call, Progress, Asks, ended}
 use Rattle.ygg_eval.specs.Machine.{Picks, State, Fallen, based}
 use Rattle.ygg_eval.specs.Runs.{Dialogue, WholeCall, Reaches, answers_of}
 use Rattle.ygg_eval.specs.Layer.{ClosedLayer, operation_of, dialogue_of, eval_of}
@@ -32,9 +32,9 @@ use Rattle.ygg_machine.specs.Under.{Failure, FailsBy}
 use Rattle.ygg_machine.specs.Laws.{IsAnswered, Answered}
 use Rattle.ygg_sound.specs.Fitting.{all_fit}
 use Rattle.ygg_sound.specs.Agrees.{Agrees}
-use Rattle.ygg_answered.specs.Questions.{plain, gives, answer_fits, question_fits, AnswersFit}
-use Rattle.ygg_answered.specs.Layers.{IsShaped, CanCall, SpecAnswers}
-use Rattle.ygg_answered.proofs.Tests.{first_of, second_of}
+use Rattle.ygg_answered.specs.Questions.{plain, gives, answer_fits, question_fits}
+use Rattle.ygg_answered.specs.Layers.{IsShaped, SpecAnswers}
+use Rattle.ygg_answered.proofs.Tests.{first_of}
 use Rattle.ygg_answered.proofs.Asking.{known, statements_known}
 use Rattle.ygg_answered.proofs.Sounds.{ExpressionsHave, block_sound}
 use Rattle.ygg_answered.proofs.Views.{memory_agrees, zeros_fit}

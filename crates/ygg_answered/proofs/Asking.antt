@@ -1,5 +1,5 @@
 -- A typed block asks only for what there is, whatever it is answered.
-use Rattle.std.proofs.Common.{◌≡◌, ℕ, zero, suc, ◌+◌, Bool, true, false, ◌&&◌, ◌==◌, if◌then◌else◌, List, [], ◌∷◌, ◌++◌, map, take, length, Option, Some, None, refl, sym, ap, ◌∙◌, subst, eqb-true}
+use Rattle.std.proofs.Common.{◌≡◌, ℕ, zero, suc, ◌+◌, Bool, true, false, ◌&&◌, ◌==◌, if◌then◌else◌, List, [], ◌∷◌, ◌++◌, map, take, length, Option, Some, None, refl, sym, ap, ◌∙◌, subst}
 use Rattle.std.proofs.lemmas.Bool.{eq-eqb}
 use Rattle.ygg_value.specs.declared.shape.Shape.{Shape}
 use Rattle.ygg_value.specs.declared.shape.Shape.TheVariants as shape
@@ -18,17 +18,17 @@ use Rattle.ygg_syntax.specs.declared.tree.Stmt.TheOpen.{Stmt-F, Block-F}
 use Rattle.ygg_syntax.specs.declared.tree.Stmt.TheFolds.{ind-Stmt, fold-roll-Stmt, fold-roll-Block}
 use Rattle.ygg_names.specs.Names.{Named, look_up, has, added}
 use Rattle.ygg_fault.specs.declared.scope.Signature.{Signature}
-use Rattle.ygg_fault.specs.Faults.{Faults, none, both, unless}
+use Rattle.ygg_fault.specs.Faults.{Faults, none}
 use Rattle.ygg_fault.specs.Shapes.{word_shape}
-use Rattle.ygg_fault.specs.Scopes.{Scope, name_in, is_taken, with_local}
-use Rattle.ygg_fault.specs.Expressions.{wanted, typing, typings, parts_of, expected_faults, with_number, number_faults}
-use Rattle.ygg_fault.specs.Statements.{Walked, source_typing, call_typing, place_rule, in_order, return_faults, inside, node_walked, node_inside, walked}
+use Rattle.ygg_fault.specs.Scopes.{Scope, is_taken, with_local}
+use Rattle.ygg_fault.specs.Expressions.{wanted, typings, parts_of, expected_faults, with_number, number_faults}
+use Rattle.ygg_fault.specs.Statements.{Walked, source_typing, call_typing, place_rule, in_order, node_walked, node_inside, walked}
 use Rattle.ygg_eval.specs.Environments.{Env}
 use Rattle.ygg_eval.specs.Meaning.{is_one}
 use Rattle.ygg_eval.specs.Progress.{Eval, Run, Answer, Point, Waits, Goes, Question, Choice, Call, and_then, forget_since, in_turn, for_each, from_source, ask, values_of, stmt_run, block_run, run_of}
 use Rattle.ygg_answered.specs.Kinds.{may_choose, may_call, source_keeps, all_keep, node_keeps, node_all_keep, stmt_keeps}
 use Rattle.ygg_answered.proofs.Tests.{first_of, second_of, both_of}
-use Rattle.ygg_answered.proofs.Faults.{Called, called}
+use Rattle.ygg_answered.proofs.Faults.{called}
 
 -- whether there is what is asked for: a choice that the kind may make, or an operation below with as many arguments
 abbrev pub known : Kind → Named Signature → Question → Bool
@@ -163,8 +163,8 @@ module _ (eval : Eval) where
         let rest = second_of (none (number_faults x (is_taken x.text scope) w n)) (none (W' each.0 (with_number x w scope))) e in
         turns_known kind scope.lower n.value 0 _
         (λ i env answers. forget_known kind scope.lower env _
-            (subst (λ l. Known kind l (R' each.0 (env ++ (x.text, Word (word w.value i)) ∷ []) answers)) (local_lower x.text (word_shape w.value) false scope)
-                (each.1.asks kind (with_number x w scope) rest k (env ++ (x.text, Word (word w.value i)) ∷ []) answers)))
+        (subst (λ l. Known kind l (R' each.0 (env ++ (x.text, Word (word w.value i)) ∷ []) answers)) (local_lower x.text (word_shape w.value) false scope)
+        (each.1.asks kind (with_number x w scope) rest k (env ++ (x.text, Word (word w.value i)) ∷ []) answers)))
         env answers;
   }
   stmt_case (Stmt-F.Call f es) = record {
@@ -183,7 +183,7 @@ module _ (eval : Eval) where
         then_known kind scope.lower (R s env answers) (in_turn (map R ss))
         (first.asks kind scope (first_of none_first none_rest e) (first_of (stmt_keeps s kind) (all_keep (map stmt_keeps ss) kind) k) env answers)
         (λ env left. subst (λ l. Known kind l (in_turn (map R ss) env left)) (first.lower scope)
-            (rest.asks kind (walked s scope).scope (second_of none_first none_rest e) (second_of (stmt_keeps s kind) (all_keep (map stmt_keeps ss) kind) k) env left));
+        (rest.asks kind (walked s scope).scope (second_of none_first none_rest e) (second_of (stmt_keeps s kind) (all_keep (map stmt_keeps ss) kind) k) env left));
   }
 
   no_statements : AsksKnown (in_order []) (all_keep []) (in_turn [])
@@ -197,22 +197,24 @@ module _ (eval : Eval) where
       InsideKnown (node_inside (map-Block Stmt Block Walk Inside walked W' (map-Block S B Stmt Block (λ e. e.0) (λ e. e.0) y)))
       (node_all_keep (map-Block Stmt Block Keep Keep stmt_keeps K' (map-Block S B Stmt Block (λ e. e.0) (λ e. e.0) y)))
       (block_run (map-Block Stmt Block Run Run R R' (map-Block S B Stmt Block (λ e. e.0) (λ e. e.0) y)))
-  block_case y = record { asks = λ kind scope e k env answers.
-    forget_known kind scope.lower env _ ((turns_case y.statements).asks kind scope (first_of _ _ e) k env answers) }
+  block_case y = record {
+    asks = λ kind scope e k env answers.
+        forget_known kind scope.lower env _ ((turns_case y.statements).asks kind scope (first_of _ _ e) k env answers);
+  }
 
   pub all_known : (s : Stmt) → AsksKnown (walked s) (stmt_keeps s) (R s)
   all_known =
       ind-Stmt (λ s. AsksKnown (walked s) (stmt_keeps s) (R s)) (λ b. InsideKnown (W' b) (K' b) (R' b))
       (λ x y is.
-        subst (λ t. AsksKnown t (stmt_keeps (roll-Stmt x)) (R (roll-Stmt x))) (sym (fold-roll-Stmt Walk Inside node_walked node_inside x))
-        (subst (λ k. AsksKnown (node_walked (map-Stmt Stmt Block Walk Inside walked W' x)) k (R (roll-Stmt x))) (sym (fold-roll-Stmt Keep Keep node_keeps node_all_keep x))
-        (subst (λ r. AsksKnown (node_walked (map-Stmt Stmt Block Walk Inside walked W' x)) (node_keeps (map-Stmt Stmt Block Keep Keep stmt_keeps K' x)) r) (sym (fold-roll-Stmt Run Run (stmt_run eval) block_run x))
-        (subst (λ z. AsksKnown (node_walked (map-Stmt Stmt Block Walk Inside walked W' z)) (node_keeps (map-Stmt Stmt Block Keep Keep stmt_keeps K' z)) (stmt_run eval (map-Stmt Stmt Block Run Run R R' z))) is (stmt_case y)))))
+      subst (λ t. AsksKnown t (stmt_keeps (roll-Stmt x)) (R (roll-Stmt x))) (sym (fold-roll-Stmt Walk Inside node_walked node_inside x))
+      (subst (λ k. AsksKnown (node_walked (map-Stmt Stmt Block Walk Inside walked W' x)) k (R (roll-Stmt x))) (sym (fold-roll-Stmt Keep Keep node_keeps node_all_keep x))
+      (subst (λ r. AsksKnown (node_walked (map-Stmt Stmt Block Walk Inside walked W' x)) (node_keeps (map-Stmt Stmt Block Keep Keep stmt_keeps K' x)) r) (sym (fold-roll-Stmt Run Run (stmt_run eval) block_run x))
+      (subst (λ z. AsksKnown (node_walked (map-Stmt Stmt Block Walk Inside walked W' z)) (node_keeps (map-Stmt Stmt Block Keep Keep stmt_keeps K' z)) (stmt_run eval (map-Stmt Stmt Block Run Run R R' z))) is (stmt_case y)))))
       (λ x y is.
-        subst (λ t. InsideKnown t (K' (roll-Block x)) (R' (roll-Block x))) (sym (fold-roll-Block Walk Inside node_walked node_inside x))
-        (subst (λ k. InsideKnown (node_inside (map-Block Stmt Block Walk Inside walked W' x)) k (R' (roll-Block x))) (sym (fold-roll-Block Keep Keep node_keeps node_all_keep x))
-        (subst (λ r. InsideKnown (node_inside (map-Block Stmt Block Walk Inside walked W' x)) (node_all_keep (map-Block Stmt Block Keep Keep stmt_keeps K' x)) r) (sym (fold-roll-Block Run Run (stmt_run eval) block_run x))
-        (subst (λ z. InsideKnown (node_inside (map-Block Stmt Block Walk Inside walked W' z)) (node_all_keep (map-Block Stmt Block Keep Keep stmt_keeps K' z)) (block_run (map-Block Stmt Block Run Run R R' z))) is (block_case y)))))
+      subst (λ t. InsideKnown t (K' (roll-Block x)) (R' (roll-Block x))) (sym (fold-roll-Block Walk Inside node_walked node_inside x))
+      (subst (λ k. InsideKnown (node_inside (map-Block Stmt Block Walk Inside walked W' x)) k (R' (roll-Block x))) (sym (fold-roll-Block Keep Keep node_keeps node_all_keep x))
+      (subst (λ r. InsideKnown (node_inside (map-Block Stmt Block Walk Inside walked W' x)) (node_all_keep (map-Block Stmt Block Keep Keep stmt_keeps K' x)) r) (sym (fold-roll-Block Run Run (stmt_run eval) block_run x))
+      (subst (λ z. InsideKnown (node_inside (map-Block Stmt Block Walk Inside walked W' z)) (node_all_keep (map-Block Stmt Block Keep Keep stmt_keeps K' z)) (block_run (map-Block Stmt Block Run Run R R' z))) is (block_case y)))))
 
   -- typed statements that keep their kind ask only for what there is
   pub statements_known : (ss : List Stmt) → AsksKnown (in_order (map walked ss)) (all_keep (map stmt_keeps ss)) (in_turn (map R ss))

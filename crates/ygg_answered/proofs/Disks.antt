@@ -1,5 +1,5 @@
 -- A disk answers each of its operations, whatever its tables are.
-use Rattle.std.proofs.Common.{◌≡◌, ℕ, suc, Bool, true, false, if◌then◌else◌, List, [], ◌∷◌, ◌++◌, length, Option, Some, None, codes, refl, sym, ap, ◌∙◌, subst, arith}
+use Rattle.std.proofs.Common.{◌≡◌, Bool, true, false, if◌then◌else◌, List, [], ◌∷◌, ◌++◌, length, Some, None, codes, refl, sym, ap, ◌∙◌, subst, arith}
 use Rattle.std.specs.Str.{bytes_eq}
 use Rattle.ygg_value.specs.Number.{Grid}
 use Rattle.ygg_value.specs.Values.{word_in, row_in, table_read, table_write}
@@ -12,10 +12,10 @@ use Rattle.ygg_fault.specs.declared.scope.Signature.{Signature}
 use Rattle.ygg_fault.specs.Files.{address, disk_row, disk_operations}
 use Rattle.ygg_disk.specs.Disk as disk
 use Rattle.ygg_eval.specs.Environments.{Name}
-use Rattle.ygg_eval.specs.Progress.{Question, Call, Answer, Asks}
+use Rattle.ygg_eval.specs.Progress.{Call, Answer}
 use Rattle.ygg_eval.specs.Machine.{Picks, State, Fallen, based}
 use Rattle.ygg_eval.specs.Runs.{Dialogue, WholeCall, Reaches}
-use Rattle.ygg_eval.specs.DiskMachine.{disk_call, answer_to, DiskModel, model_of, zeros_on, machine_of, DiskMachine}
+use Rattle.ygg_eval.specs.DiskMachine.{disk_call, answer_to, DiskModel, model_of, machine_of, DiskMachine}
 use Rattle.ygg_machine.specs.Under.{Failure, InCall, InTick, Between, FailsBy}
 use Rattle.ygg_machine.specs.Laws.{IsAnswered}
 use Rattle.ygg_sound.proofs.Tests.{bytes_same, bytes_equal}

@@ -1,5 +1,5 @@
 -- A block that makes no call ends, where it is given answers enough.
-use Rattle.std.proofs.Common.{◌≡◌, ℕ, zero, suc, ◌+◌, ◌≤◌, Bool, true, false, ◌&&◌, if◌then◌else◌, List, [], ◌∷◌, ◌++◌, map, take, length, refl, sym, ap, ◌∙◌, subst, arith}
+use Rattle.std.proofs.Common.{◌≡◌, ℕ, zero, suc, ◌+◌, ◌≤◌, Bool, true, false, if◌then◌else◌, List, [], ◌∷◌, map, take, length, refl, sym, ap, ◌∙◌, subst, arith}
 use Rattle.ygg_syntax.specs.declared.grammar.Kind.{Kind}
 use Rattle.ygg_syntax.specs.declared.tree.Source.{Source}
 use Rattle.ygg_syntax.specs.declared.tree.Source.TheVariants as source
@@ -10,7 +10,7 @@ use Rattle.ygg_syntax.specs.declared.tree.Stmt.TheFolds.{ind-Stmt, fold-roll-Stm
 use Rattle.ygg_value.specs.declared.row.Value.{Value}
 use Rattle.ygg_eval.specs.Environments.{Env}
 use Rattle.ygg_eval.specs.Meaning.{is_one}
-use Rattle.ygg_eval.specs.Progress.{Eval, Run, Answer, Point, Waits, Goes, Question, Choice, and_then, forget_since, in_turn, for_each, from_source, ask, stmt_run, block_run, run_of}
+use Rattle.ygg_eval.specs.Progress.{Eval, Run, Answer, Point, Goes, Question, Choice, and_then, forget_since, in_turn, for_each, from_source, ask, stmt_run, block_run, run_of}
 use Rattle.ygg_answered.specs.Kinds.{may_call, source_keeps, all_keep, node_keeps, node_all_keep, stmt_keeps}
 use Rattle.ygg_answered.proofs.Tests.{first_of, second_of, never}
 
@@ -98,44 +98,52 @@ module _ (eval : Eval) where
       (stmt_run eval (map-Stmt Stmt Block Run Run R R' (map-Stmt S B Stmt Block (λ e. e.0) (λ e. e.0) y)))
   stmt_case (Stmt-F.Let x s) = record { within = λ kind quiet k. let e = source_ends eval kind s quiet k in record { needs = e.needs; ends = λ env answers spare h. e.ends env _ answers spare h } }
   stmt_case (Stmt-F.Assign x at s) = record { within = λ kind quiet k. let e = source_ends eval kind s quiet k in record { needs = e.needs; ends = λ env answers spare h. e.ends env _ answers spare h } }
-  stmt_case (Stmt-F.If test first second) = record { within = λ kind quiet k.
-    let e = first.1.within kind quiet (first_of (K' first.0 kind) (K' second.0 kind) k) in
-    let f = second.1.within kind quiet (second_of (K' first.0 kind) (K' second.0 kind) k) in
-    record {
-      needs = e.needs + f.needs;
-      ends = λ env answers spare h. if_gone (is_one (eval test env)) _ _ spare (less e.needs (f.needs + spare) _ spare (e.ends env answers (f.needs + spare) (omega arith)) (omega arith)) (less f.needs (e.needs + spare) _ spare (f.ends env answers (e.needs + spare) (omega arith)) (omega arith));
-    } }
+  stmt_case (Stmt-F.If test first second) = record {
+    within = λ kind quiet k.
+        let e = first.1.within kind quiet (first_of (K' first.0 kind) (K' second.0 kind) k) in
+        let f = second.1.within kind quiet (second_of (K' first.0 kind) (K' second.0 kind) k) in
+        record {
+          needs = e.needs + f.needs;
+          ends = λ env answers spare h. if_gone (is_one (eval test env)) _ _ spare (less e.needs (f.needs + spare) _ spare (e.ends env answers (f.needs + spare) (omega arith)) (omega arith)) (less f.needs (e.needs + spare) _ spare (f.ends env answers (e.needs + spare) (omega arith)) (omega arith));
+        };
+  }
     where
       less : (n more : ℕ) (p : Point) (spare : ℕ) → Gone p more → spare ≤ more → Gone p spare
       less n more p spare g h = let e = g.enough in record { env = g.env; left = g.left; is = g.is; enough = omega arith }
-  stmt_case (Stmt-F.For x w n each) = record { within = λ kind quiet k.
-    let e = each.1.within kind quiet k in
-    let t = turns_end n.value 0 _ e.needs (λ i env answers spare h. forget_gone env _ spare (e.ends _ answers spare h)) in
-    record { needs = t.needs; ends = λ env answers spare h. t.ends env answers spare h } }
+  stmt_case (Stmt-F.For x w n each) = record {
+    within = λ kind quiet k.
+        let e = each.1.within kind quiet k in
+        let t = turns_end n.value 0 _ e.needs (λ i env answers spare h. forget_gone env _ spare (e.ends _ answers spare h)) in
+        record { needs = t.needs; ends = λ env answers spare h. t.ends env answers spare h };
+  }
   stmt_case (Stmt-F.Call f es) = record { within = λ kind quiet k. never (may_call kind) k quiet }
 
   turns_case : (ss : List S) → EndsIn (all_keep (map stmt_keeps (map (λ e. e.0) ss))) (in_turn (map R (map (λ e. e.0) ss)))
   turns_case [] = record { within = λ kind quiet k. record { needs = 0; ends = goes_gone } }
-  turns_case (s ∷ ss) = record { within = λ kind quiet k.
-    then_ends (R s.0) _ (s.1.within kind quiet (first_of (stmt_keeps s.0 kind) _ k)) ((turns_case ss).within kind quiet (second_of (stmt_keeps s.0 kind) _ k)) }
+  turns_case (s ∷ ss) = record {
+    within = λ kind quiet k.
+        then_ends (R s.0) _ (s.1.within kind quiet (first_of (stmt_keeps s.0 kind) _ k)) ((turns_case ss).within kind quiet (second_of (stmt_keeps s.0 kind) _ k));
+  }
 
   block_case : (y : Block-F S B) →
       EndsIn (node_all_keep (map-Block Stmt Block (Kind → Bool) (Kind → Bool) stmt_keeps K' (map-Block S B Stmt Block (λ e. e.0) (λ e. e.0) y)))
       (block_run (map-Block Stmt Block Run Run R R' (map-Block S B Stmt Block (λ e. e.0) (λ e. e.0) y)))
-  block_case y = record { within = λ kind quiet k.
-    let e = (turns_case y.statements).within kind quiet k in record { needs = e.needs; ends = λ env answers spare h. forget_gone env _ spare (e.ends env answers spare h) } }
+  block_case y = record {
+    within = λ kind quiet k.
+        let e = (turns_case y.statements).within kind quiet k in record { needs = e.needs; ends = λ env answers spare h. forget_gone env _ spare (e.ends env answers spare h) };
+  }
 
   pub all_end : (s : Stmt) → EndsIn (stmt_keeps s) (R s)
   all_end =
       ind-Stmt (λ s. EndsIn (stmt_keeps s) (R s)) (λ b. EndsIn (K' b) (R' b))
       (λ x y is.
-        subst (λ k. EndsIn k (R (roll-Stmt x))) (sym (fold-roll-Stmt (Kind → Bool) (Kind → Bool) node_keeps node_all_keep x))
-        (subst (λ r. EndsIn (node_keeps (map-Stmt Stmt Block (Kind → Bool) (Kind → Bool) stmt_keeps K' x)) r) (sym (fold-roll-Stmt Run Run (stmt_run eval) block_run x))
-        (subst (λ z. EndsIn (node_keeps (map-Stmt Stmt Block (Kind → Bool) (Kind → Bool) stmt_keeps K' z)) (stmt_run eval (map-Stmt Stmt Block Run Run R R' z))) is (stmt_case y))))
+      subst (λ k. EndsIn k (R (roll-Stmt x))) (sym (fold-roll-Stmt (Kind → Bool) (Kind → Bool) node_keeps node_all_keep x))
+      (subst (λ r. EndsIn (node_keeps (map-Stmt Stmt Block (Kind → Bool) (Kind → Bool) stmt_keeps K' x)) r) (sym (fold-roll-Stmt Run Run (stmt_run eval) block_run x))
+      (subst (λ z. EndsIn (node_keeps (map-Stmt Stmt Block (Kind → Bool) (Kind → Bool) stmt_keeps K' z)) (stmt_run eval (map-Stmt Stmt Block Run Run R R' z))) is (stmt_case y))))
       (λ x y is.
-        subst (λ k. EndsIn k (R' (roll-Block x))) (sym (fold-roll-Block (Kind → Bool) (Kind → Bool) node_keeps node_all_keep x))
-        (subst (λ r. EndsIn (node_all_keep (map-Block Stmt Block (Kind → Bool) (Kind → Bool) stmt_keeps K' x)) r) (sym (fold-roll-Block Run Run (stmt_run eval) block_run x))
-        (subst (λ z. EndsIn (node_all_keep (map-Block Stmt Block (Kind → Bool) (Kind → Bool) stmt_keeps K' z)) (block_run (map-Block Stmt Block Run Run R R' z))) is (block_case y))))
+      subst (λ k. EndsIn k (R' (roll-Block x))) (sym (fold-roll-Block (Kind → Bool) (Kind → Bool) node_keeps node_all_keep x))
+      (subst (λ r. EndsIn (node_all_keep (map-Block Stmt Block (Kind → Bool) (Kind → Bool) stmt_keeps K' x)) r) (sym (fold-roll-Block Run Run (stmt_run eval) block_run x))
+      (subst (λ z. EndsIn (node_all_keep (map-Block Stmt Block (Kind → Bool) (Kind → Bool) stmt_keeps K' z)) (block_run (map-Block Stmt Block Run Run R R' z))) is (block_case y))))
 
   -- statements that keep to a kind that may not call end
   pub statements_end : (ss : List Stmt) (kind : Kind) → may_call kind ≡ false → all_keep (map stmt_keeps ss) kind ≡ true → Ends (in_turn (map R ss))

@@ -1,18 +1,14 @@
 -- What it says that there is no fault.
-use Rattle.std.proofs.Common.{◌≡◌, ℕ, Bool, true, false, cond, ◌&&◌, ◌||◌, ◌==◌, not, if◌then◌else◌, List, [], ◌∷◌, ◌++◌, length, map, Option, Some, None, refl, sym, ap, ◌∙◌, subst, eqb-true}
+use Rattle.std.proofs.Common.{◌≡◌, Bool, true, false, ◌&&◌, ◌||◌, ◌==◌, not, if◌then◌else◌, List, [], ◌∷◌, ◌++◌, length, Option, Some, None, refl, eqb-true}
 use Rattle.ygg_value.specs.declared.shape.Shape.{Shape}
-use Rattle.ygg_value.specs.declared.shape.Shape.TheVariants.{Word, Row, Table}
 use Rattle.ygg_syntax.specs.declared.tree.Place.{Place}
 use Rattle.ygg_syntax.specs.declared.tree.Name.{Name}
 use Rattle.ygg_syntax.specs.declared.tree.Expr.{Expr}
 use Rattle.ygg_names.specs.Names.{look_up}
-use Rattle.ygg_fault.specs.declared.scope.Part.{Part}
 use Rattle.ygg_fault.specs.declared.scope.Signature.{Signature}
-use Rattle.ygg_fault.specs.Faults.{Faults, nothing, one, both, none, fault, fault_at, unless, listed}
-use Rattle.ygg_fault.specs.Shapes.{is_word, same_shape}
-use Rattle.ygg_fault.specs.Comparisons.{wanted_fault}
+use Rattle.ygg_fault.specs.Faults.{Faults, nothing, one, both, none, fault, unless, listed}
 use Rattle.ygg_fault.specs.Scopes.{Scope}
-use Rattle.ygg_fault.specs.Expressions.{Own, own, faults_in, all_shaped, parts_of, typings, arguments_wanted, arguments_faults, wanted}
+use Rattle.ygg_fault.specs.Expressions.{faults_in, all_shaped, parts_of, typings, arguments_wanted, arguments_faults}
 use Rattle.ygg_fault.specs.Statements.{call_rule, call_typing}
 use Rattle.ygg_sound.proofs.Tests.{passed}
 use Rattle.ygg_answered.proofs.Tests.{first_of, second_of, both_of}

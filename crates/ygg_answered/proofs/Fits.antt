@@ -1,5 +1,5 @@
 -- Values of shapes, and parts of them that are written anew.
-use Rattle.std.proofs.Common.{◌≡◌, ℕ, zero, suc, ◌^◌, Bool, true, false, ◌&&◌, ◌==◌, nat_lt, not, if◌then◌else◌, List, [], ◌∷◌, length, map, replicate, Option, Some, None, refl, sym, ap, ◌∙◌, subst, eqb-true, length-set}
+use Rattle.std.proofs.Common.{◌≡◌, ℕ, zero, suc, ◌^◌, Bool, true, false, ◌&&◌, ◌==◌, nat_lt, not, if◌then◌else◌, List, [], ◌∷◌, length, replicate, Option, Some, None, refl, sym, ap, ◌∙◌, subst, eqb-true, length-set}
 use Rattle.std.specs.Prelude.{unwrap_or, slice_get, slice_set}
 use Rattle.std.specs.List.{list_all}
 use Rattle.std.proofs.lemmas.Bool.{eq-eqb, lt-ltb}
@@ -12,16 +12,15 @@ use Rattle.ygg_value.specs.declared.row.Value.{Value}
 use Rattle.ygg_value.specs.declared.row.Value.TheVariants.{Word, Row, Table}
 use Rattle.ygg_value.specs.Values.{word_in, row_in, row_write, table_read, table_write, with_part}
 use Rattle.ygg_syntax.specs.declared.tree.Index.{Index}
-use Rattle.ygg_fault.specs.Faults.{none, both, unless, nothing}
+use Rattle.ygg_fault.specs.Faults.{none, both, unless}
 use Rattle.ygg_fault.specs.Shapes.{is_word, part_shape}
 use Rattle.ygg_fault.specs.Scopes.{Scope}
-use Rattle.ygg_fault.specs.Expressions.{Own, own, index_rule, wanted_word, typing}
-use Rattle.ygg_fault.specs.declared.scope.Part.{Part}
-use Rattle.ygg_fault.specs.Statements.{indexed, then_indexed}
+use Rattle.ygg_fault.specs.Expressions.{Own, index_rule, wanted_word, typing}
+use Rattle.ygg_fault.specs.Statements.{indexed}
 use Rattle.ygg_eval.specs.Environments.{Env}
 use Rattle.ygg_eval.specs.Progress.{Eval, indices_of}
 use Rattle.ygg_eval.specs.Shapes.{fits, words_fit}
-use Rattle.ygg_answered.proofs.Tests.{first_of, second_of, both_of, never}
+use Rattle.ygg_answered.proofs.Tests.{first_of, second_of, both_of}
 use Rattle.ygg_sound.proofs.Tests.{passed}
 use Rattle.ygg_answered.proofs.Faults.{fails}
 
@@ -125,7 +124,6 @@ row_written n m w t at row p e = record {
   rows = length-set t.rows at row.words ∙ p.rows;
   all = all_set (words_fit w m) t.rows at row.words e p.all;
 }
-
 
 -- no shape leads to none
 no_shape : (is : List Index) (scope : Scope) (s : Shape) → (indexed is scope None).shape ≡ Some s → ⊥

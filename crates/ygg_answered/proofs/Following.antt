@@ -1,5 +1,5 @@
 -- Names with values that keep their shapes.
-use Rattle.std.proofs.Common.{◌≡◌, ℕ, zero, suc, Bool, true, false, ◌&&◌, if◌then◌else◌, List, [], ◌∷◌, ◌++◌, length, take, Option, Some, None, is_some, refl, sym, ap, ◌∙◌, subst}
+use Rattle.std.proofs.Common.{◌≡◌, suc, Bool, true, false, ◌&&◌, if◌then◌else◌, List, [], ◌∷◌, ◌++◌, length, take, Option, Some, is_some, refl, sym, ap, ◌∙◌, subst}
 use Rattle.std.specs.Str.{bytes_eq}
 use Rattle.ygg_value.specs.declared.shape.Shape.{Shape}
 use Rattle.ygg_value.specs.Shapes.{shape_of}
@@ -11,7 +11,7 @@ use Rattle.ygg_fault.specs.Scopes.{Scope}
 use Rattle.ygg_eval.specs.Environments.{Name, Env, assign}
 use Rattle.ygg_eval.specs.Meaning.{Functions}
 use Rattle.ygg_eval.specs.Shapes.{shape_in, fits, env_fits}
-use Rattle.ygg_sound.specs.Fitting.{HasShape, IsHeld}
+use Rattle.ygg_sound.specs.Fitting.{HasShape}
 use Rattle.ygg_sound.specs.Agrees.{Agrees}
 use Rattle.ygg_sound.proofs.Fits.{fits_has, value_fits}
 use Rattle.ygg_answered.specs.Questions.{plain, Follows}

@@ -1,5 +1,5 @@
 -- What derives from tokens keeps its kinds.
-use Rattle.std.proofs.Common.{◌≡◌, Bool, true, false, ◌&&◌, if◌then◌else◌, List, [], ◌∷◌, map, Option, Some, None, refl, sym, ap, ◌∙◌, subst}
+use Rattle.std.proofs.Common.{◌≡◌, Bool, true, false, ◌&&◌, if◌then◌else◌, List, [], ◌∷◌, map, Option, Some, None, refl, sym, subst}
 use Rattle.std.specs.List.{list_all}
 use Rattle.ygg_base.specs.declared.token.Keyword.{Keyword}
 use Rattle.ygg_base.specs.declared.token.Keyword.TheVariants as word
@@ -25,9 +25,9 @@ use Rattle.ygg_syntax.specs.declared.tree.File.{File}
 use Rattle.ygg_syntax.specs.Reading.{Reading, starts, passes, takes, in_turn}
 use Rattle.ygg_syntax.specs.Expressions.{keyword, symbol, named, numbered, expr}
 use Rattle.ygg_syntax.specs.Blocks.{bracketed, call_in, indices_of, source_in, BlockPhrase, statements_in, without_answer, with_answer, is_nowhere, nothing_in, is_unwritten, optional_block, node_statement, node_block, statement, block_phrase, block, answering, optional}
-use Rattle.ygg_syntax.specs.Files.{variable, definition, on_crash, operation_blocks, operation, tick, crash_block, claim, layer, layers, whole_file, Derives, any_declared, type_in, disk_text}
-use Rattle.ygg_answered.specs.Kinds.{may_choose, may_call, source_keeps, all_keep, node_keeps, node_all_keep, stmt_keeps, keeps, returns_declared, on_crash_keeps, operation_keeps, tick_keeps, layer_keeps, file_keeps}
-use Rattle.ygg_answered.proofs.Tests.{first_of, second_of, both_of}
+use Rattle.ygg_syntax.specs.Files.{variable, definition, on_crash, operation_blocks, operation, tick, crash_block, layer, layers, whole_file, Derives, any_declared, type_in, disk_text}
+use Rattle.ygg_answered.specs.Kinds.{may_call, source_keeps, all_keep, node_keeps, node_all_keep, stmt_keeps, keeps, returns_declared, on_crash_keeps, operation_keeps, tick_keeps, layer_keeps, file_keeps}
+use Rattle.ygg_answered.proofs.Tests.{second_of, both_of}
 
 -- something is read from some tokens
 pub record IsRead (r : Reading) : Type 0 where
@@ -123,30 +123,38 @@ B = (b : Block) × KeepingAll (P' b) (K' b)
 stmt_case : (y : Stmt-F S B) →
     Keeping (node_statement (map-Stmt Stmt Block Read BlockPhrase statement P' (map-Stmt S B Stmt Block (λ e. e.0) (λ e. e.0) y)))
     (node_keeps (map-Stmt Stmt Block Keep Keep stmt_keeps K' (map-Stmt S B Stmt Block (λ e. e.0) (λ e. e.0) y)))
-stmt_case (Stmt-F.Let x s) = record { keeps = λ kind h.
-  let a = others_read (keyword word.Let) _ h in
-  let b = others_read (named x) _ a in
-  let c = others_read (symbol sign.Assign) _ b in
-  source_kept kind s (first_read (source_in kind s) _ c) }
-stmt_case (Stmt-F.Assign x is s) = record { keeps = λ kind h.
-  let a = others_read (named x) _ h in
-  let b = others_read (in_turn (indices_of is)) _ a in
-  let c = others_read (symbol sign.Assign) _ b in
-  source_kept kind s (first_read (source_in kind s) _ c) }
-stmt_case (Stmt-F.If test first second) = record { keeps = λ kind h.
-  let a = others_read (keyword word.If) _ h in
-  let b = others_read (expr test) _ a in
-  both_of (K' first.0 kind) (K' second.0 kind)
-  (block_kept kind (P' first.0) (P' first.0).answer (K' first.0) first.1 (first_read (without_answer kind (P' first.0) (P' first.0).answer) _ b))
-  (optional_kept word.Else kind (P' second.0) (K' second.0) second.1 (first_read (optional_block word.Else kind (P' second.0)) [] (others_read (without_answer kind (P' first.0) (P' first.0).answer) _ b))) }
-stmt_case (Stmt-F.For x w n each) = record { keeps = λ kind h.
-  let a = others_read (keyword word.For) _ h in
-  let b = others_read (named x) _ a in
-  let c = others_read (symbol sign.Colon) _ b in
-  let d = others_read (numbered w) _ c in
-  let e = others_read (keyword word.Below) _ d in
-  let f = others_read (numbered n) _ e in
-  block_kept kind (P' each.0) (P' each.0).answer (K' each.0) each.1 (first_read (without_answer kind (P' each.0) (P' each.0).answer) [] f) }
+stmt_case (Stmt-F.Let x s) = record {
+  keeps = λ kind h.
+      let a = others_read (keyword word.Let) _ h in
+      let b = others_read (named x) _ a in
+      let c = others_read (symbol sign.Assign) _ b in
+      source_kept kind s (first_read (source_in kind s) _ c);
+}
+stmt_case (Stmt-F.Assign x is s) = record {
+  keeps = λ kind h.
+      let a = others_read (named x) _ h in
+      let b = others_read (in_turn (indices_of is)) _ a in
+      let c = others_read (symbol sign.Assign) _ b in
+      source_kept kind s (first_read (source_in kind s) _ c);
+}
+stmt_case (Stmt-F.If test first second) = record {
+  keeps = λ kind h.
+      let a = others_read (keyword word.If) _ h in
+      let b = others_read (expr test) _ a in
+      both_of (K' first.0 kind) (K' second.0 kind)
+      (block_kept kind (P' first.0) (P' first.0).answer (K' first.0) first.1 (first_read (without_answer kind (P' first.0) (P' first.0).answer) _ b))
+      (optional_kept word.Else kind (P' second.0) (K' second.0) second.1 (first_read (optional_block word.Else kind (P' second.0)) [] (others_read (without_answer kind (P' first.0) (P' first.0).answer) _ b)));
+}
+stmt_case (Stmt-F.For x w n each) = record {
+  keeps = λ kind h.
+      let a = others_read (keyword word.For) _ h in
+      let b = others_read (named x) _ a in
+      let c = others_read (symbol sign.Colon) _ b in
+      let d = others_read (numbered w) _ c in
+      let e = others_read (keyword word.Below) _ d in
+      let f = others_read (numbered n) _ e in
+      block_kept kind (P' each.0) (P' each.0).answer (K' each.0) each.1 (first_read (without_answer kind (P' each.0) (P' each.0).answer) [] f);
+}
 stmt_case (Stmt-F.Call f es) = record { keeps = called }
   where
     called : (kind : Kind) → IsRead (call_in kind (keyword word.Call ∷ named f ∷ bracketed es ∷ symbol sign.Semicolon ∷ [])) → may_call kind ≡ true
@@ -184,13 +192,13 @@ all_kept : (s : Stmt) → Keeping (statement s) (stmt_keeps s)
 all_kept =
     ind-Stmt (λ s. Keeping (statement s) (stmt_keeps s)) (λ b. KeepingAll (P' b) (K' b))
     (λ x y is.
-      subst (λ r. Keeping r (stmt_keeps (roll-Stmt x))) (sym (fold-roll-Stmt Read BlockPhrase node_statement node_block x))
-      (subst (λ k. Keeping (node_statement (map-Stmt Stmt Block Read BlockPhrase statement P' x)) k) (sym (fold-roll-Stmt Keep Keep node_keeps node_all_keep x))
-      (subst (λ z. Keeping (node_statement (map-Stmt Stmt Block Read BlockPhrase statement P' z)) (node_keeps (map-Stmt Stmt Block Keep Keep stmt_keeps K' z))) is (stmt_case y))))
+    subst (λ r. Keeping r (stmt_keeps (roll-Stmt x))) (sym (fold-roll-Stmt Read BlockPhrase node_statement node_block x))
+    (subst (λ k. Keeping (node_statement (map-Stmt Stmt Block Read BlockPhrase statement P' x)) k) (sym (fold-roll-Stmt Keep Keep node_keeps node_all_keep x))
+    (subst (λ z. Keeping (node_statement (map-Stmt Stmt Block Read BlockPhrase statement P' z)) (node_keeps (map-Stmt Stmt Block Keep Keep stmt_keeps K' z))) is (stmt_case y))))
     (λ x y is.
-      subst (λ r. KeepingAll r (K' (roll-Block x))) (sym (fold-roll-Block Read BlockPhrase node_statement node_block x))
-      (subst (λ k. KeepingAll (node_block (map-Block Stmt Block Read BlockPhrase statement P' x)) k) (sym (fold-roll-Block Keep Keep node_keeps node_all_keep x))
-      (subst (λ z. KeepingAll (node_block (map-Block Stmt Block Read BlockPhrase statement P' z)) (node_all_keep (map-Block Stmt Block Keep Keep stmt_keeps K' z))) is (block_case y))))
+    subst (λ r. KeepingAll r (K' (roll-Block x))) (sym (fold-roll-Block Read BlockPhrase node_statement node_block x))
+    (subst (λ k. KeepingAll (node_block (map-Block Stmt Block Read BlockPhrase statement P' x)) k) (sym (fold-roll-Block Keep Keep node_keeps node_all_keep x))
+    (subst (λ z. KeepingAll (node_block (map-Block Stmt Block Read BlockPhrase statement P' z)) (node_all_keep (map-Block Stmt Block Keep Keep stmt_keeps K' z))) is (block_case y))))
 
 statements_kept : (ss : List Stmt) (kind : Kind) → IsRead (in_turn (in_kind kind ss)) → all_keep (map stmt_keeps ss) kind ≡ true
 statements_kept [] kind h = refl

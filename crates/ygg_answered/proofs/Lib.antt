@@ -12,3 +12,4 @@ pub mod Specs
 pub mod Disks
 pub mod Answering
 pub mod Grammar
+pub mod Files

@@ -1,5 +1,5 @@
 -- The operations of a typed layer.
-use Rattle.std.proofs.Common.{◌≡◌, ℕ, Bool, true, false, ◌&&◌, not, if◌then◌else◌, List, [], ◌∷◌, ◌++◌, map, Option, Some, None, is_some, option_map, refl, sym, ap, ◌∙◌, subst, append_assoc}
+use Rattle.std.proofs.Common.{◌≡◌, Bool, true, false, ◌&&◌, not, if◌then◌else◌, List, [], ◌∷◌, ◌++◌, map, Option, Some, None, is_some, option_map, refl, sym, ap, ◌∙◌, subst, append_assoc}
 use Rattle.std.proofs.lemmas.List.{append-nil}
 use Rattle.std.specs.Str.{bytes_eq}
 use Rattle.std.specs.List.{list_all}
@@ -7,14 +7,14 @@ use Rattle.ygg_syntax.specs.declared.tree.TypeText.{TypeText}
 use Rattle.ygg_syntax.specs.declared.tree.Operation.{Operation}
 use Rattle.ygg_syntax.specs.declared.tree.Block.{Block}
 use Rattle.ygg_count.specs.Weights.{Weights}
-use Rattle.ygg_names.specs.Names.{Named, look_up, has, added}
+use Rattle.ygg_names.specs.Names.{Named, look_up, has}
 use Rattle.ygg_fault.specs.declared.scope.View.TheVariants.{Specification, Implementation}
 use Rattle.ygg_fault.specs.declared.scope.Signature.{Signature}
-use Rattle.ygg_fault.specs.Faults.{Faults, none, both, unless}
+use Rattle.ygg_fault.specs.Faults.{none, unless}
 use Rattle.ygg_fault.specs.Shapes.{answer_shape}
 use Rattle.ygg_fault.specs.Scopes.{Scope, seen_as}
-use Rattle.ygg_fault.specs.Statements.{block_faults, body_faults}
-use Rattle.ygg_fault.specs.Definitions.{type_faults, answer_type_faults, with_parameters, parameters_faults}
+use Rattle.ygg_fault.specs.Statements.{block_faults}
+use Rattle.ygg_fault.specs.Definitions.{answer_type_faults, with_parameters, parameters_faults}
 use Rattle.ygg_fault.specs.Layers.{operation_signature, with_operation, with_operations, operation_faults, operations_faults, picks_faults, on_crash_faults, view_faults, operation_blocks_faults}
 use Rattle.ygg_eval.specs.Environments.{Name}
 use Rattle.ygg_eval.specs.Layer.{operation_in}

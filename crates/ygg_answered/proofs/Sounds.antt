@@ -16,7 +16,7 @@ use Rattle.ygg_syntax.specs.declared.tree.Expr.{Expr}
 use Rattle.ygg_syntax.specs.declared.tree.Source.{Source}
 use Rattle.ygg_syntax.specs.declared.tree.Source.TheVariants as source
 use Rattle.ygg_syntax.specs.declared.tree.Stmt.{Stmt, roll-Stmt, map-Stmt}
-use Rattle.ygg_syntax.specs.declared.tree.Block.{Block, roll-Block, out-Block, map-Block, fold-Block, fold_out-Block}
+use Rattle.ygg_syntax.specs.declared.tree.Block.{Block, roll-Block, map-Block, fold-Block}
 use Rattle.ygg_syntax.specs.declared.tree.Stmt.TheOpen.{Stmt-F, Block-F}
 use Rattle.ygg_syntax.specs.declared.tree.Stmt.TheFolds.{ind-Stmt, fold-roll-Stmt, fold-roll-Block}
 use Rattle.ygg_names.specs.Names.{Named, look_up}
@@ -28,22 +28,21 @@ use Rattle.ygg_fault.specs.Limits.{width_fits, bound_fits}
 use Rattle.ygg_fault.specs.Shapes.{word_shape, part_shape, is_word}
 use Rattle.ygg_fault.specs.Comparisons.{wanted_fault}
 use Rattle.ygg_fault.specs.Scopes.{Scope, name_in, is_taken, with_local}
-use Rattle.ygg_fault.specs.Expressions.{Own, own, wanted, wanted_word, typing, typings, faults_in, parts_of, all_shaped, arguments_wanted, index_rule, expected_faults, with_number, number_faults}
-use Rattle.ygg_fault.specs.Statements.{Walked, source_typing, call_rule, call_typing, target_rule, indexed, place_rule, in_order, return_faults, inside, node_walked, node_inside, walked, block_faults}
+use Rattle.ygg_fault.specs.Expressions.{own, wanted, wanted_word, typing, typings, faults_in, parts_of, all_shaped, arguments_wanted, index_rule, expected_faults, with_number, number_faults}
+use Rattle.ygg_fault.specs.Statements.{Walked, source_typing, call_rule, call_typing, target_rule, indexed, place_rule, in_order, return_faults, node_walked, node_inside, walked, block_faults}
 use Rattle.ygg_eval.specs.Environments.{Env, assign}
-use Rattle.ygg_eval.specs.Environments as environments
 use Rattle.ygg_eval.specs.Meaning.{Functions, is_one, value_with}
 use Rattle.ygg_eval.specs.Meaning as meaning
 use Rattle.ygg_eval.specs.Shapes.{fits}
 use Rattle.ygg_eval.specs.Progress.{Eval, Run, Answer, Point, Waits, Goes, Question, Choice, Call, Progress, Asks, Ends, Stray, and_then, forget_since, in_turn, for_each, from_source, ask, value_in, values_of, indices_of, assigned, stmt_run, block_run, run_of, answer_of, ended, after}
 use Rattle.ygg_eval.proofs.Uses.{Good, all_good, statements_good}
-use Rattle.ygg_sound.specs.Fitting.{HasShape, IsHeld, fits_wanted, all_fit}
+use Rattle.ygg_sound.specs.Fitting.{HasShape, fits_wanted, all_fit}
 use Rattle.ygg_sound.specs.Agrees.{Agrees}
 use Rattle.ygg_sound.proofs.Tests.{passed, no_fault, wanted_is}
 use Rattle.ygg_sound.proofs.Fits.{fits_has, value_fits}
 use Rattle.ygg_sound.proofs.Names.{value_found}
 use Rattle.ygg_sound.proofs.Steps.{agrees_with_local, agrees_with_number}
-use Rattle.ygg_answered.specs.Kinds.{may_choose, may_call, source_keeps, all_keep, node_keeps, node_all_keep, stmt_keeps, keeps}
+use Rattle.ygg_answered.specs.Kinds.{may_call, source_keeps, all_keep, node_keeps, node_all_keep, stmt_keeps, keeps}
 use Rattle.ygg_answered.specs.Questions.{plain, answer_has, gives, answer_fits, question_fits, AnswersFit, Follows}
 use Rattle.ygg_answered.specs.Blocks.{eval_with, is_returned, IsSound}
 use Rattle.ygg_answered.proofs.Tests.{first_of, second_of, both_of}
@@ -124,7 +123,7 @@ module _ (kind : Kind) (lower : Named Signature) where
       at (Goes env left) e =
           let s = splits answers env left e in
           second env left (m.goes env left e) (λ told more a q i w.
-            t (s.front ++ told) more a q (s.is ∙ ap (λ l. s.front ++ l) i ∙ sym (append_assoc s.front told (a ∷ more))) (ap (λ p. and_then p next) (s.goes told) ∙ w))
+          t (s.front ++ told) more a q (s.is ∙ ap (λ l. s.front ++ l) i ∙ sym (append_assoc s.front told (a ∷ more))) (ap (λ p. and_then p next) (s.goes told) ∙ w))
 
   forget_met : (before : Env) (f : Front) (answers : List Answer) (good good' : Env → Type 0) → (Told lower f answers → Met kind lower good (f answers))
       → ((env : Env) → good env → good' (take (length before) env)) → Told lower (λ answers. forget_since before (f answers)) answers → Met kind lower good' (forget_since before (f answers))
@@ -368,51 +367,63 @@ module _ (functions : Functions) (lower : Named Signature) (have : ExpressionsHa
       Sounds (node_walked (map-Stmt Stmt Block Walk Inside walked W' (map-Stmt S B Stmt Block (λ e. e.0) (λ e. e.0) y)))
       (node_keeps (map-Stmt Stmt Block Keep Keep stmt_keeps K' (map-Stmt S B Stmt Block (λ e. e.0) (λ e. e.0) y)))
       (stmt_run eval (map-Stmt Stmt Block Run Run R R' (map-Stmt S B Stmt Block (λ e. e.0) (λ e. e.0) y)))
-  stmt_case (Stmt-F.Let x s) = record { sounds = λ kind scope env answers g e k t.
-    let from = source_typing s scope in
-    let free = fails (is_taken x.text scope) (passed (not (is_taken x.text scope)) 5 x.place (first_of _ (none from.faults) e)) in
-    source_met kind s scope env (λ v. env ++ (x.text, v) ∷ []) answers (Left env (with_local x.text from.part.shape true scope)) g (second_of _ (none from.faults) e) k
-    (λ v h. (follows_more env ((x.text, v) ∷ []), agrees_with_local functions scope (plain env) x.text from.part.shape true v g.agrees free h)) t }
-  stmt_case (Stmt-F.Assign x at s) = record { sounds = λ kind scope env answers g e k t.
-    let place = place_rule x at scope in
-    let from = source_typing s scope in
-    let rest = second_of (none place.faults) (none from.faults && none (wanted from.part place.shape)) e in
-    source_met kind s scope env (λ v. assigned eval env x.text at v) answers (Left env scope) g (first_of (none from.faults) (none (wanted from.part place.shape)) rest) k
-    (λ v h. assigned_fine x at scope env from.part v g (first_of (none place.faults) _ e) h (second_of (none from.faults) (none (wanted from.part place.shape)) rest)) t }
-  stmt_case (Stmt-F.If test first second) = record { sounds = λ kind scope env answers g e k t.
-    let rest = second_of (none (expected_faults test (Some (shape.Word 1)) scope)) (none (W' first.0 scope) && none (W' second.0 scope)) e in
-    if_met kind lower (is_one (eval test env)) (R' first.0 env) (R' second.0 env) answers (Left env scope)
-    (first.1.sounds kind scope env answers g (first_of (none (W' first.0 scope)) (none (W' second.0 scope)) rest) (first_of (K' first.0 kind) (K' second.0 kind) k))
-    (second.1.sounds kind scope env answers g (second_of (none (W' first.0 scope)) (none (W' second.0 scope)) rest) (second_of (K' first.0 kind) (K' second.0 kind) k)) t }
-  stmt_case (Stmt-F.For x w n each) = record { sounds = λ kind scope env answers g e k t.
-    let number = number_faults x (is_taken x.text scope) w n in
-    let front = first_of (none number) (none (W' each.0 (with_number x w scope))) e in
-    let others = second_of (none (unless (not (is_taken x.text scope)) 5 x.place)) (none (unless (width_fits w.value) 6 w.place) && none (unless (bound_fits n.value w.value) 8 n.place)) front in
-    let free = fails (is_taken x.text scope) (passed (not (is_taken x.text scope)) 5 x.place (first_of _ (none (unless (width_fits w.value) 6 w.place) && none (unless (bound_fits n.value w.value) 8 n.place)) front)) in
-    let width = passed (width_fits w.value) 6 w.place (first_of _ (none (unless (bound_fits n.value w.value) 8 n.place)) others) in
-    let bounds = passed (bound_fits n.value w.value) 8 n.place (second_of (none (unless (width_fits w.value) 6 w.place)) _ others) in
-    let bound = leb-true n.value (2 ^ w.value) (second_of (nat_le 1 n.value && nat_le n.value 4096) (nat_le n.value (2 ^ w.value)) bounds) in
-    turns_met kind lower (λ i env answers. forget_since env (R' each.0 (env ++ (x.text, Word (word w.value i)) ∷ []) answers)) n.value (Left env scope)
-    (λ i env. forget_splits env _ (each.1.splits (env ++ (x.text, Word (word w.value i)) ∷ [])))
-    (λ i h env' answers' left t'. turn_met each kind x w n.value i env scope free width bound g.lower_is (second_of (none number) (none (W' each.0 (with_number x w scope))) e) k h env' answers' left t')
-    n.value 0 (omega arith) env answers (follows_same env, g.agrees) t }
-  stmt_case (Stmt-F.Call f es) = record { sounds = λ kind scope env answers g e k t.
-    ask_met kind lower (Call f.text (values_of eval es env)) (λ a. env) answers (Left env scope) (call_fits kind f.place false f es scope env g e k) (λ a h. (follows_same env, g.agrees)) t }
+  stmt_case (Stmt-F.Let x s) = record {
+    sounds = λ kind scope env answers g e k t.
+        let from = source_typing s scope in
+        let free = fails (is_taken x.text scope) (passed (not (is_taken x.text scope)) 5 x.place (first_of _ (none from.faults) e)) in
+        source_met kind s scope env (λ v. env ++ (x.text, v) ∷ []) answers (Left env (with_local x.text from.part.shape true scope)) g (second_of _ (none from.faults) e) k
+        (λ v h. (follows_more env ((x.text, v) ∷ []), agrees_with_local functions scope (plain env) x.text from.part.shape true v g.agrees free h)) t;
+  }
+  stmt_case (Stmt-F.Assign x at s) = record {
+    sounds = λ kind scope env answers g e k t.
+        let place = place_rule x at scope in
+        let from = source_typing s scope in
+        let rest = second_of (none place.faults) (none from.faults && none (wanted from.part place.shape)) e in
+        source_met kind s scope env (λ v. assigned eval env x.text at v) answers (Left env scope) g (first_of (none from.faults) (none (wanted from.part place.shape)) rest) k
+        (λ v h. assigned_fine x at scope env from.part v g (first_of (none place.faults) _ e) h (second_of (none from.faults) (none (wanted from.part place.shape)) rest)) t;
+  }
+  stmt_case (Stmt-F.If test first second) = record {
+    sounds = λ kind scope env answers g e k t.
+        let rest = second_of (none (expected_faults test (Some (shape.Word 1)) scope)) (none (W' first.0 scope) && none (W' second.0 scope)) e in
+        if_met kind lower (is_one (eval test env)) (R' first.0 env) (R' second.0 env) answers (Left env scope)
+        (first.1.sounds kind scope env answers g (first_of (none (W' first.0 scope)) (none (W' second.0 scope)) rest) (first_of (K' first.0 kind) (K' second.0 kind) k))
+        (second.1.sounds kind scope env answers g (second_of (none (W' first.0 scope)) (none (W' second.0 scope)) rest) (second_of (K' first.0 kind) (K' second.0 kind) k)) t;
+  }
+  stmt_case (Stmt-F.For x w n each) = record {
+    sounds = λ kind scope env answers g e k t.
+        let number = number_faults x (is_taken x.text scope) w n in
+        let front = first_of (none number) (none (W' each.0 (with_number x w scope))) e in
+        let others = second_of (none (unless (not (is_taken x.text scope)) 5 x.place)) (none (unless (width_fits w.value) 6 w.place) && none (unless (bound_fits n.value w.value) 8 n.place)) front in
+        let free = fails (is_taken x.text scope) (passed (not (is_taken x.text scope)) 5 x.place (first_of _ (none (unless (width_fits w.value) 6 w.place) && none (unless (bound_fits n.value w.value) 8 n.place)) front)) in
+        let width = passed (width_fits w.value) 6 w.place (first_of _ (none (unless (bound_fits n.value w.value) 8 n.place)) others) in
+        let bounds = passed (bound_fits n.value w.value) 8 n.place (second_of (none (unless (width_fits w.value) 6 w.place)) _ others) in
+        let bound = leb-true n.value (2 ^ w.value) (second_of (nat_le 1 n.value && nat_le n.value 4096) (nat_le n.value (2 ^ w.value)) bounds) in
+        turns_met kind lower (λ i env answers. forget_since env (R' each.0 (env ++ (x.text, Word (word w.value i)) ∷ []) answers)) n.value (Left env scope)
+        (λ i env. forget_splits env _ (each.1.splits (env ++ (x.text, Word (word w.value i)) ∷ [])))
+        (λ i h env' answers' left t'. turn_met each kind x w n.value i env scope free width bound g.lower_is (second_of (none number) (none (W' each.0 (with_number x w scope))) e) k h env' answers' left t')
+        n.value 0 (omega arith) env answers (follows_same env, g.agrees) t;
+  }
+  stmt_case (Stmt-F.Call f es) = record {
+    sounds = λ kind scope env answers g e k t.
+        ask_met kind lower (Call f.text (values_of eval es env)) (λ a. env) answers (Left env scope) (call_fits kind f.place false f es scope env g e k) (λ a h. (follows_same env, g.agrees)) t;
+  }
 
   -- one statement, and those after it
   in_turn_sounds : (s : Stmt) (ss : List Stmt) → Sounds (walked s) (stmt_keeps s) (R s) → Sounds (in_order (map walked ss)) (all_keep (map stmt_keeps ss)) (in_turn (map R ss))
       → Sounds (in_order (map walked (s ∷ ss))) (all_keep (map stmt_keeps (s ∷ ss))) (in_turn (map R (s ∷ ss)))
-  in_turn_sounds s ss first rest = record { sounds = λ kind scope env answers g e k t.
-    let none_first = none (walked s scope).faults in
-    let none_rest = none (in_order (map walked ss) (walked s scope).scope).faults in
-    then_met kind lower (R s env) (in_turn (map R ss)) answers (Left env (walked s scope).scope) (Left env (in_order (map walked ss) (walked s scope).scope).scope)
-    (good_splits (R s) (all_good eval s) env)
-    (first.sounds kind scope env answers g (first_of none_first none_rest e) (first_of (stmt_keeps s kind) (all_keep (map stmt_keeps ss) kind) k))
-    (λ env' left (f, g') t'.
-      let fine : Fine (walked s scope).scope env' = record { lower_is = (all_known eval s).lower scope ∙ g.lower_is; agrees = g' } in
-      let m = rest.sounds kind (walked s scope).scope env' left fine (second_of none_first none_rest e) (second_of (stmt_keeps s kind) (all_keep (map stmt_keeps ss) kind) k) t' in
-      record { asks = m.asks; goes = λ env'' left' i. let (f', g'') = m.goes env'' left' i in (follows_on env env' env'' f f', g'') })
-    t }
+  in_turn_sounds s ss first rest = record {
+    sounds = λ kind scope env answers g e k t.
+        let none_first = none (walked s scope).faults in
+        let none_rest = none (in_order (map walked ss) (walked s scope).scope).faults in
+        then_met kind lower (R s env) (in_turn (map R ss)) answers (Left env (walked s scope).scope) (Left env (in_order (map walked ss) (walked s scope).scope).scope)
+        (good_splits (R s) (all_good eval s) env)
+        (first.sounds kind scope env answers g (first_of none_first none_rest e) (first_of (stmt_keeps s kind) (all_keep (map stmt_keeps ss) kind) k))
+        (λ env' left (f, g') t'.
+        let fine : Fine (walked s scope).scope env' = record { lower_is = (all_known eval s).lower scope ∙ g.lower_is; agrees = g' } in
+        let m = rest.sounds kind (walked s scope).scope env' left fine (second_of none_first none_rest e) (second_of (stmt_keeps s kind) (all_keep (map stmt_keeps ss) kind) k) t' in
+        record { asks = m.asks; goes = λ env'' left' i. let (f', g'') = m.goes env'' left' i in (follows_on env env' env'' f f', g'') })
+        t;
+  }
 
   no_statements : Sounds (in_order []) (all_keep []) (in_turn [])
   no_statements = record { sounds = λ kind scope env answers g e k t. goes_met kind lower (Left env scope) env answers (follows_same env, g.agrees) }
@@ -438,15 +449,15 @@ module _ (functions : Functions) (lower : Named Signature) (have : ExpressionsHa
   all_sound =
       ind-Stmt (λ s. Sounds (walked s) (stmt_keeps s) (R s)) (λ b. InsideSounds (W' b) (K' b) (R' b))
       (λ x y is.
-        subst (λ t. Sounds t (stmt_keeps (roll-Stmt x)) (R (roll-Stmt x))) (sym (fold-roll-Stmt Walk Inside node_walked node_inside x))
-        (subst (λ k. Sounds (node_walked (map-Stmt Stmt Block Walk Inside walked W' x)) k (R (roll-Stmt x))) (sym (fold-roll-Stmt Keep Keep node_keeps node_all_keep x))
-        (subst (λ r. Sounds (node_walked (map-Stmt Stmt Block Walk Inside walked W' x)) (node_keeps (map-Stmt Stmt Block Keep Keep stmt_keeps K' x)) r) (sym (fold-roll-Stmt Run Run (stmt_run eval) block_run x))
-        (subst (λ z. Sounds (node_walked (map-Stmt Stmt Block Walk Inside walked W' z)) (node_keeps (map-Stmt Stmt Block Keep Keep stmt_keeps K' z)) (stmt_run eval (map-Stmt Stmt Block Run Run R R' z))) is (stmt_case y)))))
+      subst (λ t. Sounds t (stmt_keeps (roll-Stmt x)) (R (roll-Stmt x))) (sym (fold-roll-Stmt Walk Inside node_walked node_inside x))
+      (subst (λ k. Sounds (node_walked (map-Stmt Stmt Block Walk Inside walked W' x)) k (R (roll-Stmt x))) (sym (fold-roll-Stmt Keep Keep node_keeps node_all_keep x))
+      (subst (λ r. Sounds (node_walked (map-Stmt Stmt Block Walk Inside walked W' x)) (node_keeps (map-Stmt Stmt Block Keep Keep stmt_keeps K' x)) r) (sym (fold-roll-Stmt Run Run (stmt_run eval) block_run x))
+      (subst (λ z. Sounds (node_walked (map-Stmt Stmt Block Walk Inside walked W' z)) (node_keeps (map-Stmt Stmt Block Keep Keep stmt_keeps K' z)) (stmt_run eval (map-Stmt Stmt Block Run Run R R' z))) is (stmt_case y)))))
       (λ x y is.
-        subst (λ t. InsideSounds t (K' (roll-Block x)) (R' (roll-Block x))) (sym (fold-roll-Block Walk Inside node_walked node_inside x))
-        (subst (λ k. InsideSounds (node_inside (map-Block Stmt Block Walk Inside walked W' x)) k (R' (roll-Block x))) (sym (fold-roll-Block Keep Keep node_keeps node_all_keep x))
-        (subst (λ r. InsideSounds (node_inside (map-Block Stmt Block Walk Inside walked W' x)) (node_all_keep (map-Block Stmt Block Keep Keep stmt_keeps K' x)) r) (sym (fold-roll-Block Run Run (stmt_run eval) block_run x))
-        (subst (λ z. InsideSounds (node_inside (map-Block Stmt Block Walk Inside walked W' z)) (node_all_keep (map-Block Stmt Block Keep Keep stmt_keeps K' z)) (block_run (map-Block Stmt Block Run Run R R' z))) is (block_case y)))))
+      subst (λ t. InsideSounds t (K' (roll-Block x)) (R' (roll-Block x))) (sym (fold-roll-Block Walk Inside node_walked node_inside x))
+      (subst (λ k. InsideSounds (node_inside (map-Block Stmt Block Walk Inside walked W' x)) k (R' (roll-Block x))) (sym (fold-roll-Block Keep Keep node_keeps node_all_keep x))
+      (subst (λ r. InsideSounds (node_inside (map-Block Stmt Block Walk Inside walked W' x)) (node_all_keep (map-Block Stmt Block Keep Keep stmt_keeps K' x)) r) (sym (fold-roll-Block Run Run (stmt_run eval) block_run x))
+      (subst (λ z. InsideSounds (node_inside (map-Block Stmt Block Walk Inside walked W' z)) (node_all_keep (map-Block Stmt Block Keep Keep stmt_keeps K' z)) (block_run (map-Block Stmt Block Run Run R R' z))) is (block_case y)))))
 
   -- typed statements that keep their kind
   pub statements_sound : (ss : List Stmt) → Sounds (in_order (map walked ss)) (all_keep (map stmt_keeps ss)) (in_turn (map R ss))

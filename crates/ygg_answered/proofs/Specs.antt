@@ -1,5 +1,5 @@
 -- The specification of a typed layer answers what it is asked.
-use Rattle.std.proofs.Common.{◌≡◌, ℕ, zero, suc, ◌+◌, ◌≤◌, Bool, true, false, ◌&&◌, if◌then◌else◌, List, [], ◌∷◌, ◌++◌, map, length, take, replicate, Option, Some, None, is_some, is_none, refl, sym, ap, ◌∙◌, subst, arith}
+use Rattle.std.proofs.Common.{◌≡◌, ℕ, zero, suc, Bool, true, false, ◌&&◌, if◌then◌else◌, List, [], ◌∷◌, ◌++◌, map, length, take, replicate, Option, Some, None, is_some, is_none, refl, sym, ap, ◌∙◌, subst, arith}
 use Rattle.std.proofs.lemmas.List.{append-nil}
 use Rattle.ygg_value.specs.declared.shape.Shape.{Shape}
 use Rattle.ygg_value.specs.declared.shape.Shape.TheVariants.{Word}
@@ -24,8 +24,8 @@ use Rattle.ygg_fault.specs.Definitions.{with_parameters}
 use Rattle.ygg_fault.specs.Layers.{Below, layer_scope, operation_signature}
 use Rattle.ygg_eval.specs.Environments.{Name, Env, bind}
 use Rattle.ygg_eval.specs.Meaning.{Functions}
-use Rattle.ygg_eval.specs.Shapes.{fits, values_fit, env_fits}
-use Rattle.ygg_eval.specs.Progress.{Run, Answer, Point, Waits, Goes, Question, Choice, Call, in_turn, run_of, answer_of}
+use Rattle.ygg_eval.specs.Shapes.{values_fit, env_fits}
+use Rattle.ygg_eval.specs.Progress.{Answer, Point, Waits, Goes, Question, Choice, Call, in_turn, run_of, answer_of}
 use Rattle.ygg_eval.specs.Machine.{Picks, State, Fallen, based}
 use Rattle.ygg_eval.specs.Layer.{ClosedLayer, eval_of, operation_of}
 use Rattle.ygg_eval.specs.Spec.{Outcome, chosen, outcome_at, block_outcome, then_block, call_outcome, crash_outcome, maybe_call, fall_with, fall_outcome, SpecCalls, SpecFalls, SpecLoses}
@@ -39,9 +39,9 @@ use Rattle.ygg_answered.specs.Questions.{plain, answer_has, gives, answer_fits}
 use Rattle.ygg_answered.specs.Blocks.{is_returned}
 use Rattle.ygg_answered.specs.Layers.{IsShaped, CanCall, SpecAnswers}
 use Rattle.ygg_answered.proofs.Tests.{first_of, second_of}
-use Rattle.ygg_answered.proofs.Enough.{Gone, statements_end}
+use Rattle.ygg_answered.proofs.Enough.{statements_end}
 use Rattle.ygg_answered.proofs.Asking.{known, statements_known}
-use Rattle.ygg_answered.proofs.Sounds.{ExpressionsHave, Told, Split, good_splits, Met, Left, Fine, statements_sound, returns_fit}
+use Rattle.ygg_answered.proofs.Sounds.{ExpressionsHave, Told, good_splits, Met, Left, statements_sound, returns_fit}
 use Rattle.ygg_answered.proofs.Following.{follows_front, fits_after}
 use Rattle.ygg_answered.proofs.Views.{state_agrees, agrees_with_arguments}
 use Rattle.ygg_answered.proofs.Operations.{IsOperation, OnCrashTyped, find_operation}
@@ -229,7 +229,7 @@ module _ (functions : Functions) (defs : Named Signature) (below : Below) (weigh
           let f = fine name c.operation c.is in
           let w = called_well c.operation f c.vars args c.shaped c.fit picks _ c.gives in
           let declared = second_of (keeps Spec c.operation.spec) (returns_declared c.operation.answer c.operation.spec.answer)
-              (first_of (keeps Spec c.operation.spec && returns_declared c.operation.answer c.operation.spec.answer) (on_crash_keeps c.operation.on_crash) (spec_kept c.operation f.kept)) in
+          (first_of (keeps Spec c.operation.spec && returns_declared c.operation.answer c.operation.spec.answer) (on_crash_keeps c.operation.on_crash) (spec_kept c.operation f.kept)) in
           subst (λ (x : Operation). gives (operation_signature x) answer ≡ true) (operation_same c.operation o (sym c.is ∙ found)) (given c.operation.answer c.operation.spec.answer answer declared w.returns)
 
       kept : (s to : State) (name : Name) (args : List Value) (picks : Picks) (answer : Answer) → SpecCalls L s name args picks answer to → IsShaped L to

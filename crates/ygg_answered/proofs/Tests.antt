@@ -1,5 +1,5 @@
 -- Tests that pass together.
-use Rattle.std.proofs.Common.{◌≡◌, Bool, true, false, ◌&&◌, refl, sym, ◌∙◌}
+use Rattle.std.proofs.Common.{◌≡◌, Bool, true, false, ◌&&◌, refl}
 
 -- where both pass, the first does
 pub first_of : (a b : Bool) → (a && b) ≡ true → a ≡ true

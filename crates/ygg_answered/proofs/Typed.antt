@@ -1,18 +1,16 @@
 -- The parts of a typed layer.
-use Rattle.std.proofs.Common.{◌≡◌, Bool, true, false, ◌&&◌, List, [], Option, Some, None, refl}
+use Rattle.std.proofs.Common.{◌≡◌, true, ◌&&◌, [], None}
 use Rattle.std.specs.List.{list_all}
 use Rattle.ygg_syntax.specs.declared.grammar.Kind.TheVariants.{Plain, Spec, Impl}
-use Rattle.ygg_syntax.specs.declared.tree.Block.{Block}
 use Rattle.ygg_syntax.specs.declared.tree.Layer.{Layer}
-use Rattle.ygg_count.specs.Weights.{Weights, block_weight}
+use Rattle.ygg_count.specs.Weights.{Weights}
 use Rattle.ygg_names.specs.Names.{Named}
-use Rattle.ygg_fault.specs.declared.scope.View.{View}
 use Rattle.ygg_fault.specs.declared.scope.View.TheVariants.{Specification, Implementation}
 use Rattle.ygg_fault.specs.declared.scope.Signature.{Signature}
 use Rattle.ygg_fault.specs.Faults.{none, unless}
 use Rattle.ygg_fault.specs.Limits.{picks_fit}
 use Rattle.ygg_syntax.specs.Choices.{choices_of}
-use Rattle.ygg_fault.specs.Scopes.{Scope, seen_as}
+use Rattle.ygg_fault.specs.Scopes.{seen_as}
 use Rattle.ygg_fault.specs.Statements.{block_faults}
 use Rattle.ygg_fault.specs.Layers.{Below, layer_scope, declared_faults, blocks_faults, view_faults, operations_faults, ticks_faults, relations_faults, parts_faults}
 use Rattle.ygg_eval.specs.Meaning.{Functions}

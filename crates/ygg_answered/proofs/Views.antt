@@ -1,19 +1,12 @@
 -- What the blocks of a typed layer see.
-use Rattle.std.proofs.Common.{◌≡◌, ℕ, Bool, true, false, ◌&&◌, ◌||◌, not, if◌then◌else◌, List, [], ◌∷◌, ◌++◌, map, length, take, Option, Some, None, is_some, option_map, refl, sym, ap, ◌∙◌, subst, append_assoc}
+use Rattle.std.proofs.Common.{◌≡◌, Bool, true, false, ◌&&◌, ◌||◌, not, if◌then◌else◌, List, [], ◌∷◌, ◌++◌, map, Option, Some, None, is_some, refl, sym, ap, ◌∙◌, subst, append_assoc}
 use Rattle.std.proofs.lemmas.List.{append-nil}
 use Rattle.std.specs.Str.{bytes_eq}
-use Rattle.std.specs.List.{list_all}
-use Rattle.ygg_value.specs.declared.shape.Shape.{Shape}
 use Rattle.ygg_value.specs.Shapes.{zero_of}
-use Rattle.ygg_value.specs.Shapes as values
 use Rattle.ygg_value.proofs.Limits.{shape_of-zero_of, zero_of-IsValue}
 use Rattle.ygg_value.specs.declared.row.Value.{Value}
 use Rattle.ygg_syntax.specs.declared.tree.Declared.{Declared}
-use Rattle.ygg_syntax.specs.declared.tree.TypeText.{TypeText}
-use Rattle.ygg_syntax.specs.declared.tree.Operation.{Operation}
-use Rattle.ygg_syntax.specs.declared.tree.Block.{Block}
 use Rattle.ygg_syntax.specs.declared.tree.Layer.{Layer}
-use Rattle.ygg_count.specs.Weights.{Weights}
 use Rattle.ygg_names.specs.Names.{Named, look_up, has, added}
 use Rattle.ygg_fault.specs.declared.scope.Kind.{Kind}
 use Rattle.ygg_fault.specs.declared.scope.Kind.TheVariants.{State, Memory}
@@ -22,21 +15,20 @@ use Rattle.ygg_fault.specs.declared.scope.View.TheVariants.{Specification, Imple
 use Rattle.ygg_fault.specs.declared.scope.Variable.{Variable}
 use Rattle.ygg_fault.specs.declared.scope.Local.{Local}
 use Rattle.ygg_fault.specs.declared.scope.Signature.{Signature}
-use Rattle.ygg_fault.specs.Faults.{Faults, none, both, unless}
-use Rattle.ygg_fault.specs.Shapes.{shape_of, answer_shape}
-use Rattle.ygg_fault.specs.Scopes.{Scope, sees, seen_variable, name_in, is_taken, with_local, seen_as}
-use Rattle.ygg_fault.specs.Definitions.{type_faults, answer_type_faults, with_parameter, with_parameters, parameters_faults, parameter_shapes}
-use Rattle.ygg_fault.specs.Layers.{Below, with_variable, with_variables, variables_faults, variables_of, layer_scope, declared_faults, operation_signature, with_operation, with_operations, operation_faults, operations_faults, picks_faults, operation_blocks_faults, below_of}
+use Rattle.ygg_fault.specs.Faults.{none, both, unless}
+use Rattle.ygg_fault.specs.Shapes.{shape_of}
+use Rattle.ygg_fault.specs.Scopes.{Scope, sees, seen_variable, is_taken, seen_as}
+use Rattle.ygg_fault.specs.Definitions.{type_faults, with_parameter, with_parameters, parameters_faults}
+use Rattle.ygg_fault.specs.Layers.{Below, with_variable, with_variables, variables_faults, variables_of, layer_scope, declared_faults}
 use Rattle.ygg_eval.specs.Environments.{Name, Env, bind}
 use Rattle.ygg_eval.specs.Meaning.{Functions}
 use Rattle.ygg_eval.specs.Shapes.{shape_in, fits, values_fit, env_fits, zeros_of}
-use Rattle.ygg_eval.specs.Layer.{operation_in}
-use Rattle.ygg_sound.specs.Fitting.{IsShaped, HasShape, IsHeld, all_fit}
+use Rattle.ygg_sound.specs.Fitting.{IsShaped, HasShape, IsHeld}
 use Rattle.ygg_sound.specs.Agrees.{Agrees}
 use Rattle.ygg_sound.proofs.Tests.{passed, turned, bytes_same, bytes_equal}
 use Rattle.ygg_sound.proofs.Fits.{fits_has, value_fits}
 use Rattle.ygg_sound.proofs.Names.{or_else, look_up_append, added_new}
-use Rattle.ygg_sound.proofs.Parameters.{IsType, type_is, agrees_with_parameters, same_fit}
+use Rattle.ygg_sound.proofs.Parameters.{type_is, agrees_with_parameters, same_fit}
 use Rattle.ygg_sound.proofs.Definitions.{MeetsAll}
 use Rattle.ygg_answered.specs.Questions.{plain}
 use Rattle.ygg_answered.proofs.Tests.{first_of, second_of, both_of}

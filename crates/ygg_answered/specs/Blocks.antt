@@ -1,5 +1,5 @@
 -- Typed blocks never get stuck.
-use Rattle.std.specs.Prelude.{◌≡◌, Bool, true, false, IsTrue, List, is_none, Option, Some, None}
+use Rattle.std.specs.Prelude.{◌≡◌, Bool, IsTrue, List, is_none, Option, Some, None}
 use Rattle.ygg_value.specs.declared.shape.Shape.{Shape}
 use Rattle.ygg_syntax.specs.declared.grammar.Kind.{Kind}
 use Rattle.ygg_syntax.specs.declared.tree.Expr.{Expr}

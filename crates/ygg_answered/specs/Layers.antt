@@ -1,5 +1,5 @@
 -- What a specification answers.
-use Rattle.std.specs.Prelude.{◌≡◌, IsTrue, List, Option, Some}
+use Rattle.std.specs.Prelude.{◌≡◌, IsTrue, List, Some}
 use Rattle.ygg_value.specs.declared.row.Value.{Value}
 use Rattle.ygg_syntax.specs.declared.tree.Operation.{Operation}
 use Rattle.ygg_fault.specs.Layers.{operation_signature}
