@@ -33,7 +33,7 @@ use Rattle.ygg_machine.specs.Laws.{IsAnswered, Answered}
 use Rattle.ygg_sound.specs.Fitting.{all_fit}
 use Rattle.ygg_sound.specs.Agrees.{Agrees}
 use Rattle.ygg_answered.specs.Questions.{plain, gives, answer_fits, question_fits}
-use Rattle.ygg_answered.specs.Layers.{IsShaped, SpecAnswers}
+use Rattle.ygg_answered.specs.Machines.{IsShaped, SpecAnswers}
 use Rattle.ygg_answered.proofs.Tests.{first_of}
 use Rattle.ygg_answered.proofs.Asking.{known, statements_known}
 use Rattle.ygg_answered.proofs.Sounds.{ExpressionsHave, block_sound}
@@ -178,7 +178,8 @@ module _ (functions : Functions) (defs : Named Signature) (below : Below) (weigh
       by_question Choice e at shows = absurd (cc)
       by_question (Call name args) e at shows =
           let k = known_call below.operations name args e in
-          disk_answers d at name args shows (is_call d name args k.operation (subst (λ (x : Named Signature). look_up name x ≡ Some k.operation) seen k.found) k.counted)
+          let c = disk_answers d at name args shows (is_call d name args k.operation (subst (λ (x : Named Signature). look_up name x ≡ Some k.operation) seen k.found) k.counted) in
+          record { name = name; args = args; picks = c.picks; answer = c.answer; after = c.to; is = refl; call = c.call }
 
       answered : (s : State) (how : Failure) (picks : Picks) (f : Fallen) → FailsBy (DiskMachine d) how s picks f → (calls : List WholeCall) (at : State) (q : Question)
           → Reaches (DiskMachine d) (dialogue_of L l.recover (zeros_of l.memory) []) [] (based f) calls at → dialogue_of L l.recover (zeros_of l.memory) [] (answers_of calls) ≡ Asks q → IsAnswered (DiskMachine d) at q

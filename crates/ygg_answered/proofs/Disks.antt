@@ -1,6 +1,9 @@
 -- A disk answers each of its operations, whatever its tables are.
-use Rattle.std.proofs.Common.{◌≡◌, Bool, true, false, if◌then◌else◌, List, [], ◌∷◌, ◌++◌, length, Some, None, codes, refl, sym, ap, ◌∙◌, subst, arith}
+use Rattle.std.proofs.Common.{◌≡◌, ◌&&◌, Bool, true, false, if◌then◌else◌, List, [], ◌∷◌, ◌++◌, length, Some, None, codes, refl, sym, ap, ◌∙◌, subst, arith}
 use Rattle.std.specs.Str.{bytes_eq}
+use Rattle.std.proofs.lemmas.Bool.{and_from}
+use Rattle.ygg_value.specs.declared.shape.Shape.TheVariants as shape
+use Rattle.ygg_value.specs.Shapes.{IsShape}
 use Rattle.ygg_value.specs.Number.{Grid}
 use Rattle.ygg_value.specs.Values.{word_in, row_in, table_read, table_write}
 use Rattle.ygg_value.specs.declared.row.Value.{Value}
@@ -9,7 +12,9 @@ use Rattle.ygg_syntax.specs.declared.tree.DiskKind.{DiskKind}
 use Rattle.ygg_syntax.specs.declared.tree.DiskKind.TheVariants.{Sync, Async}
 use Rattle.ygg_names.specs.Names.{Named, look_up}
 use Rattle.ygg_fault.specs.declared.scope.Signature.{Signature}
-use Rattle.ygg_fault.specs.Files.{address, disk_row, disk_operations}
+use Rattle.ygg_fault.specs.Faults.{none, unless}
+use Rattle.ygg_fault.specs.Limits.{width_fits, words_fit, rows_fit, words_fit_in}
+use Rattle.ygg_fault.specs.Files.{disk_faults, address, disk_row, disk_operations}
 use Rattle.ygg_disk.specs.Disk as disk
 use Rattle.ygg_eval.specs.Environments.{Name}
 use Rattle.ygg_eval.specs.Progress.{Call, Answer}
@@ -17,8 +22,27 @@ use Rattle.ygg_eval.specs.Machine.{Picks, State, Fallen, based}
 use Rattle.ygg_eval.specs.Runs.{Dialogue, WholeCall, Reaches}
 use Rattle.ygg_eval.specs.DiskMachine.{disk_call, answer_to, DiskModel, model_of, machine_of, DiskMachine}
 use Rattle.ygg_machine.specs.Under.{Failure, InCall, InTick, Between, FailsBy}
-use Rattle.ygg_machine.specs.Laws.{IsAnswered}
-use Rattle.ygg_sound.proofs.Tests.{bytes_same, bytes_equal}
+use Rattle.ygg_sound.proofs.Tests.{passed, width_within, words_within, bytes_same, bytes_equal}
+use Rattle.ygg_answered.specs.Machines.{CanCall}
+use Rattle.ygg_answered.proofs.Tests.{first_of, second_of}
+
+-- the rows of a disk without faults have a shape
+pub record RowIs (d : DiskText) : Type 0 where
+  pub is : disk_row d ≡ Some (shape.Row d.words.value d.width.value)
+  pub limits : IsShape (shape.Row d.words.value d.width.value)
+
+pub disk_row_is : (d : DiskText) → none (disk_faults d) ≡ true → RowIs d
+disk_row_is d e =
+    let first = none (unless (rows_fit d.rows.value) 8 d.rows.place) in
+    let second = none (unless (words_fit_in d.rows.value d.words.value) 8 d.words.place) in
+    let third = none (unless (width_fits d.width.value) 6 d.width.place) in
+    let rest = second_of first (second && third) e in
+    let words = first_of (words_fit d.words.value) _ (passed (words_fit_in d.rows.value d.words.value) 8 d.words.place (first_of second third rest)) in
+    let width = passed (width_fits d.width.value) 6 d.width.place (second_of second third rest) in
+    record {
+      is = ap (λ b. if b then Some (shape.Row d.words.value d.width.value) else None) (and_from (words_fit d.words.value) (width_fits d.width.value) words width);
+      limits = (words_within d.words.value words, width_within d.width.value width);
+    }
 
 -- a call of the disk
 pub record IsDiskCall (name : Name) (args : List Value) : Type 0 where
@@ -40,7 +64,8 @@ flushes : (args : List Value) → length args ≡ 0 → IsDiskCall (codes "flush
 flushes [] n = record { call = disk.Flush; is = ap (λ b. if b then Some disk.Flush else None) (bytes_equal (codes "flush")) }
 flushes (b ∷ rest) n = absurd (omega arith)
 
-abbrev rest_of : Named Signature → Named Signature
+-- the others after the first of some names
+abbrev pub rest_of : Named Signature → Named Signature
 rest_of [] = []
 rest_of (o ∷ rest) = rest
 
@@ -100,14 +125,11 @@ module _ (K : DiskModel) (zeros : Grid) where
       let (d, d', call, reply, e, at, made, y, is) = step in shows_after block (told ++ c.answer ∷ []) c.after calls to rest (record { disk = d'; is = is })
 
 -- the machine of a disk answers each of its calls
-pub disk_answers : (d : DiskText) (s : State) (name : Name) (args : List Value) → Shows (model_of d.kind) s → IsDiskCall name args → IsAnswered (DiskMachine d) s (Call name args)
+pub disk_answers : (d : DiskText) (s : State) (name : Name) (args : List Value) → Shows (model_of d.kind) s → IsDiskCall name args → CanCall (DiskMachine d) s name args
 disk_answers d s name args shows c =
     let m = makes d.kind shows.disk c.call in record {
-      name = name;
-      args = args;
       picks = m.picks;
       answer = answer_to m.reply;
-      after = based ((model_of d.kind).shown m.to);
-      is = refl;
+      to = based ((model_of d.kind).shown m.to);
       call = (shows.disk, m.to, c.call, m.reply, c.is, shows.is, m.makes, refl, refl);
     }

@@ -1,7 +1,6 @@
 -- The layers of a typed file, one on another.
 use Rattle.std.proofs.Common.{◌≡◌, ℕ, ◌+◌, Bool, true, false, ◌&&◌, not, if◌then◌else◌, List, [], ◌∷◌, All, Option, Some, None, codes, refl, sym, ap, ◌∙◌, subst}
 use Rattle.std.proofs.lemmas.List.Elements.{All-nil, All-cons}
-use Rattle.std.proofs.lemmas.Bool.{and_from}
 use Rattle.std.specs.Str.{bytes_eq}
 use Rattle.std.specs.List.{list_all}
 use Rattle.ygg_base.specs.declared.token.Token.{Token}
@@ -16,7 +15,6 @@ use Rattle.ygg_count.specs.Weights.{Weights, weights_of}
 use Rattle.ygg_names.specs.Names.{Named, has, added}
 use Rattle.ygg_fault.specs.declared.scope.Signature.{Signature}
 use Rattle.ygg_fault.specs.Faults.{none, unless}
-use Rattle.ygg_fault.specs.Limits.{width_fits, words_fit, rows_fit, words_fit_in}
 use Rattle.ygg_fault.specs.Definitions.{definitions_faults, with_definitions}
 use Rattle.ygg_fault.specs.Layers.{Below, layer_scope, parts_faults, operation_signature, with_operations}
 use Rattle.ygg_fault.specs.Layers as typing
@@ -26,12 +24,11 @@ use Rattle.ygg_eval.specs.Layer.{ClosedLayer}
 use Rattle.ygg_machine.specs.Stack.{Layers, below_of, tables_of, layers_on, layers_of}
 use Rattle.ygg_machine.specs.Laws.{Answered, AllAnswered}
 use Rattle.ygg_sound.specs.Fitting.{IsShaped}
-use Rattle.ygg_sound.proofs.Tests.{passed, width_within, words_within}
 use Rattle.ygg_sound.proofs.Parameters.{same_fit}
 use Rattle.ygg_sound.proofs.Definitions.{MeetsAll, definitions_meet}
 use Rattle.ygg_sound.proofs.Sounds.{sound}
 use Rattle.ygg_answered.specs.Kinds.{layer_keeps}
-use Rattle.ygg_answered.specs.Layers.{SpecAnswers}
+use Rattle.ygg_answered.specs.Machines.{SpecAnswers}
 use Rattle.ygg_answered.proofs.Tests.{first_of, second_of}
 use Rattle.ygg_answered.proofs.Faults.{none_listed}
 use Rattle.ygg_answered.proofs.Sounds.{ExpressionsHave}
@@ -39,27 +36,13 @@ use Rattle.ygg_answered.proofs.Views.{LowerShaped}
 use Rattle.ygg_answered.proofs.Operations.{find_operation, seen_operations, operations_shaped}
 use Rattle.ygg_answered.proofs.Typed.{IsTypedLayer, parts}
 use Rattle.ygg_answered.proofs.Specs.{spec_answers}
+use Rattle.ygg_answered.proofs.Disks.{disk_row_is}
 use Rattle.ygg_answered.proofs.Answering.{answered_on_spec, answered_on_disk}
 use Rattle.ygg_answered.proofs.Grammar.{file_kept}
 
 -- typed expressions have values of their shapes
 pub have : (functions : Functions) → ExpressionsHave functions
 have functions e = (sound functions e).gives
-
--- the rows of a disk have a shape
-pub row_shaped : (d : DiskText) → none (disk_faults d) ≡ true → IsShaped (disk_row d)
-row_shaped d e =
-    let first = none (unless (rows_fit d.rows.value) 8 d.rows.place) in
-    let second = none (unless (words_fit_in d.rows.value d.words.value) 8 d.words.place) in
-    let third = none (unless (width_fits d.width.value) 6 d.width.place) in
-    let rest = second_of first (second && third) e in
-    let words = first_of (words_fit d.words.value) _ (passed (words_fit_in d.rows.value d.words.value) 8 d.words.place (first_of second third rest)) in
-    let width = passed (width_fits d.width.value) 6 d.width.place (second_of second third rest) in
-    record {
-      shape = shape.Row d.words.value d.width.value;
-      is = ap (λ b. if b then Some (shape.Row d.words.value d.width.value) else None) (and_from (words_fit d.words.value) (width_fits d.width.value) words width);
-      limits = (words_within d.words.value words, width_within d.width.value width);
-    }
 
 -- the operations of a disk give answers of their shapes
 disk_shaped : (d : DiskText) → none (disk_faults d) ≡ true → LowerShaped (disk_operations d)
@@ -79,7 +62,8 @@ disk_shaped d e name o h a = by_read (bytes_eq (codes "read") name) (bytes_eq (c
         → (if r then Some (record { arguments = Some (shape.Word 8) ∷ []; answers = true; answer = disk_row d })
         else if w then Some (record { arguments = Some (shape.Word 8) ∷ disk_row d ∷ []; answers = false; answer = None })
         else if f then Some (record { arguments = []; answers = false; answer = None }) else None) ≡ Some o → IsShaped o.answer
-    by_read true w f h = subst (λ (x : Signature). IsShaped x.answer) (signature_is _ o h) (row_shaped d e)
+    by_read true w f h = subst (λ (x : Signature). IsShaped x.answer) (signature_is _ o h)
+        (let row = disk_row_is d e in record { shape = shape.Row d.words.value d.width.value; is = row.is; limits = row.limits })
       where
         signature_is : (a b : Signature) → Some a ≡ Some b → a ≡ b
         signature_is a b h = cc

@@ -13,3 +13,4 @@ pub mod Disks
 pub mod Answering
 pub mod Grammar
 pub mod Files
+pub mod Sizes

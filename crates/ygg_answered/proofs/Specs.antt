@@ -37,7 +37,7 @@ use Rattle.ygg_sound.specs.Agrees.{Agrees}
 use Rattle.ygg_answered.specs.Kinds.{keeps, returns_declared, on_crash_keeps, operation_keeps}
 use Rattle.ygg_answered.specs.Questions.{plain, answer_has, gives, answer_fits}
 use Rattle.ygg_answered.specs.Blocks.{is_returned}
-use Rattle.ygg_answered.specs.Layers.{IsShaped, CanCall, SpecAnswers}
+use Rattle.ygg_answered.specs.Machines.{IsShaped, CanCall, SpecAnswers}
 use Rattle.ygg_answered.proofs.Tests.{first_of, second_of}
 use Rattle.ygg_answered.proofs.Enough.{statements_end}
 use Rattle.ygg_answered.proofs.Asking.{known, statements_known}
@@ -211,7 +211,7 @@ module _ (functions : Functions) (defs : Named Signature) (below : Below) (weigh
   pub spec_answers : SpecAnswers L
   spec_answers = record { calls = calls; gives = fit; keeps = kept; falls = falls }
     where
-      calls : (s : State) (name : Name) (args : List Value) (o : Operation) → IsShaped L s → operation_of L name ≡ Some o → values_fit o.arguments args ≡ true → CanCall L s name args
+      calls : (s : State) (name : Name) (args : List Value) (o : Operation) → IsShaped L s → operation_of L name ≡ Some o → values_fit o.arguments args ≡ true → CanCall (machine.Spec L) s name args
       calls s name args o shaped found fit =
           let f = fine name o found in
           let kept = first_of (keeps Spec o.spec) (returns_declared o.answer o.spec.answer) (first_of (keeps Spec o.spec && returns_declared o.answer o.spec.answer) (on_crash_keeps o.on_crash) (spec_kept o f.kept)) in

@@ -1,5 +1,5 @@
 pub mod Kinds
 pub mod Questions
 pub mod Blocks
-pub mod Layers
+pub mod Machines
 pub mod Laws

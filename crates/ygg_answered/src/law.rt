@@ -1,7 +1,7 @@
 //! What blocks ask for, and that it is answered.
 
 ghost use Rattle.ygg_answered.specs.Blocks.{BlocksAreSound};
-ghost use Rattle.ygg_answered.specs.Laws.{KindsAreKept, SpecificationsAnswer, TypedFilesAreAnswered, TypedHistories};
+ghost use Rattle.ygg_answered.specs.Laws.{KindsAreKept, SpecificationsAnswer, DisksAnswer, TypedFilesAreAnswered, TypedHistories};
 
 /// A typed block that is given answers that fit asks only for what it may ask for. Where it ends, each name is there with a
 /// value of its shape, and the answer has its own.
@@ -17,6 +17,11 @@ pub fn kinds_are_kept()
 /// The specification of each layer of a typed file answers whatever it is asked, and keeps the shapes of its variables.
 pub fn specifications_answer()
     ensures { SpecificationsAnswer }
+{}
+
+/// A disk without faults answers each of its operations, and keeps the size of its tables.
+pub fn disks_answer()
+    ensures { DisksAnswer }
 {}
 
 /// Each call that a recovery of a typed file makes is answered.
