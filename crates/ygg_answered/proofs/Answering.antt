@@ -32,9 +32,9 @@ use Rattle.ygg_machine.specs.Under.{Failure, FailsBy}
 use Rattle.ygg_machine.specs.Laws.{IsAnswered, Answered}
 use Rattle.ygg_sound.specs.Fitting.{all_fit}
 use Rattle.ygg_sound.specs.Agrees.{Agrees}
+use Rattle.ygg_sound.proofs.Tests.{left as first_of}
 use Rattle.ygg_answered.specs.Questions.{plain, gives, answer_fits, question_fits}
-use Rattle.ygg_answered.specs.Machines.{IsShaped, SpecAnswers}
-use Rattle.ygg_answered.proofs.Tests.{first_of}
+use Rattle.ygg_answered.specs.Machines.{IsStateOf, SpecAnswers}
 use Rattle.ygg_answered.proofs.Asking.{known, statements_known}
 use Rattle.ygg_answered.proofs.Sounds.{ExpressionsHave, block_sound}
 use Rattle.ygg_answered.proofs.Views.{memory_agrees, zeros_fit}
@@ -88,11 +88,11 @@ rest_in (a ∷ rest) = rest
 -- the specification below keeps its shapes, and its answers fit
 module _ (m : ClosedLayer) (answers : SpecAnswers m) (lower : Named Signature) (seen : (name : Name) → look_up name lower ≡ option_map operation_signature (operation_of m name)) where
   pub record Kept (block : Dialogue) (told : List Answer) (calls : List WholeCall) (to : State) : Type 0 where
-    pub shaped : IsShaped m to
+    pub shaped : IsStateOf m to
     pub fit : (t more : List Answer) (a : Answer) (q : Question) → answers_of calls ≡ t ++ a ∷ more → block (told ++ t) ≡ Asks q → answer_fits lower q a ≡ true
 
-  pub kept : (block : Dialogue) (told : List Answer) (from : State) (calls : List WholeCall) (to : State) → Reaches (Spec m) block told from calls to → IsShaped m from → Kept block told calls to
-  kept block told from [] to h s = record { shaped = subst (IsShaped m) h s; fit = λ t more a q i w. nowhere t more a q i }
+  pub kept : (block : Dialogue) (told : List Answer) (from : State) (calls : List WholeCall) (to : State) → Reaches (Spec m) block told from calls to → IsStateOf m from → Kept block told calls to
+  kept block told from [] to h s = record { shaped = subst (IsStateOf m) h s; fit = λ t more a q i w. nowhere t more a q i }
     where
       nowhere : (t more : List Answer) (a : Answer) (q : Question) → [] ≡ t ++ a ∷ more → answer_fits lower q a ≡ true
       nowhere [] more a q i = absurd (cc)
@@ -151,7 +151,7 @@ module _ (functions : Functions) (defs : Named Signature) (below : Below) (weigh
       → ((name : Name) (o : Operation) (args : List Value) → operation_of m name ≡ Some o → all_fit (parameter_shapes o.arguments) args ≡ true → values_fit o.arguments args ≡ true) → Answered L (OnSpec m)
   answered_on_spec m answers seen fit = record { answers = answered }
     where
-      by_question : (q : Question) → question_fits Impl below.operations q ≡ true → (at : State) → IsShaped m at → IsAnswered (Spec m) at q
+      by_question : (q : Question) → question_fits Impl below.operations q ≡ true → (at : State) → IsStateOf m at → IsAnswered (Spec m) at q
       by_question Choice e at shaped = absurd (cc)
       by_question (Call name args) e at shaped =
           let f = fitting_call below.operations name args e in

@@ -1,6 +1,6 @@
 -- A typed block asks only for what there is, whatever it is answered.
 use Rattle.std.proofs.Common.{◌≡◌, ℕ, zero, suc, ◌+◌, Bool, true, false, ◌&&◌, ◌==◌, if◌then◌else◌, List, [], ◌∷◌, ◌++◌, map, take, length, Option, Some, None, refl, sym, ap, ◌∙◌, subst}
-use Rattle.std.proofs.lemmas.Bool.{eq-eqb}
+use Rattle.std.proofs.lemmas.Bool.{eq-eqb, and_from as both_of}
 use Rattle.ygg_value.specs.declared.shape.Shape.{Shape}
 use Rattle.ygg_value.specs.declared.shape.Shape.TheVariants as shape
 use Rattle.ygg_value.specs.Words.{word}
@@ -26,8 +26,8 @@ use Rattle.ygg_fault.specs.Statements.{Walked, source_typing, call_typing, place
 use Rattle.ygg_eval.specs.Environments.{Env}
 use Rattle.ygg_eval.specs.Meaning.{is_one}
 use Rattle.ygg_eval.specs.Progress.{Eval, Run, Answer, Point, Waits, Goes, Question, Choice, Call, and_then, forget_since, in_turn, for_each, from_source, ask, values_of, stmt_run, block_run, run_of}
+use Rattle.ygg_sound.proofs.Tests.{left as first_of, right as second_of}
 use Rattle.ygg_answered.specs.Kinds.{may_choose, may_call, source_keeps, all_keep, node_keeps, node_all_keep, stmt_keeps}
-use Rattle.ygg_answered.proofs.Tests.{first_of, second_of, both_of}
 use Rattle.ygg_answered.proofs.Faults.{called}
 
 -- whether there is what is asked for: a choice that the kind may make, or an operation below with as many arguments

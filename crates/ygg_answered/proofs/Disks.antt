@@ -17,14 +17,13 @@ use Rattle.ygg_fault.specs.Limits.{width_fits, words_fit, rows_fit, words_fit_in
 use Rattle.ygg_fault.specs.Files.{disk_faults, address, disk_row, disk_operations}
 use Rattle.ygg_disk.specs.Disk as disk
 use Rattle.ygg_eval.specs.Environments.{Name}
-use Rattle.ygg_eval.specs.Progress.{Call, Answer}
+use Rattle.ygg_eval.specs.Progress.{Answer}
 use Rattle.ygg_eval.specs.Machine.{Picks, State, Fallen, based}
 use Rattle.ygg_eval.specs.Runs.{Dialogue, WholeCall, Reaches}
 use Rattle.ygg_eval.specs.DiskMachine.{disk_call, answer_to, DiskModel, model_of, machine_of, DiskMachine}
 use Rattle.ygg_machine.specs.Under.{Failure, InCall, InTick, Between, FailsBy}
-use Rattle.ygg_sound.proofs.Tests.{passed, width_within, words_within, bytes_same, bytes_equal}
+use Rattle.ygg_sound.proofs.Tests.{left as first_of, right as second_of, passed, width_within, words_within, bytes_same, bytes_equal}
 use Rattle.ygg_answered.specs.Machines.{CanCall}
-use Rattle.ygg_answered.proofs.Tests.{first_of, second_of}
 
 -- the rows of a disk without faults have a shape
 pub record RowIs (d : DiskText) : Type 0 where

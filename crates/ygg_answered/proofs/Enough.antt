@@ -11,8 +11,13 @@ use Rattle.ygg_value.specs.declared.row.Value.{Value}
 use Rattle.ygg_eval.specs.Environments.{Env}
 use Rattle.ygg_eval.specs.Meaning.{is_one}
 use Rattle.ygg_eval.specs.Progress.{Eval, Run, Answer, Point, Goes, Question, Choice, and_then, forget_since, in_turn, for_each, from_source, ask, stmt_run, block_run, run_of}
+use Rattle.ygg_sound.proofs.Tests.{left as first_of, right as second_of}
 use Rattle.ygg_answered.specs.Kinds.{may_call, source_keeps, all_keep, node_keeps, node_all_keep, stmt_keeps}
-use Rattle.ygg_answered.proofs.Tests.{first_of, second_of, never}
+
+-- no test both passes and fails
+never : {A : Type 0} (b : Bool) → b ≡ true → b ≡ false → A
+never true e f = absurd (cc)
+never false e f = absurd (cc)
 
 -- it goes on, and leaves so many answers at least
 pub record Gone (p : Point) (spare : ℕ) : Type 0 where

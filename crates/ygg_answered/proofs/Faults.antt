@@ -1,5 +1,6 @@
 -- What it says that there is no fault.
 use Rattle.std.proofs.Common.{◌≡◌, Bool, true, false, ◌&&◌, ◌||◌, ◌==◌, not, if◌then◌else◌, List, [], ◌∷◌, ◌++◌, length, Option, Some, None, refl, eqb-true}
+use Rattle.std.proofs.lemmas.Bool.{and_from as both_of}
 use Rattle.ygg_value.specs.declared.shape.Shape.{Shape}
 use Rattle.ygg_syntax.specs.declared.tree.Place.{Place}
 use Rattle.ygg_syntax.specs.declared.tree.Name.{Name}
@@ -10,13 +11,7 @@ use Rattle.ygg_fault.specs.Faults.{Faults, nothing, one, both, none, fault, unle
 use Rattle.ygg_fault.specs.Scopes.{Scope}
 use Rattle.ygg_fault.specs.Expressions.{faults_in, all_shaped, parts_of, typings, arguments_wanted, arguments_faults}
 use Rattle.ygg_fault.specs.Statements.{call_rule, call_typing}
-use Rattle.ygg_sound.proofs.Tests.{passed}
-use Rattle.ygg_answered.proofs.Tests.{first_of, second_of, both_of}
-
--- what is turned round and passes fails
-pub fails : (b : Bool) → not b ≡ true → b ≡ false
-fails true e = absurd (cc)
-fails false e = refl
+use Rattle.ygg_sound.proofs.Tests.{left as first_of, right as second_of, passed}
 
 -- a call without a fault: there is the operation, which answers where the answer is used, and takes as many arguments
 pub record Called (used : Bool) (f : Name) (es : List Expr) (scope : Scope) : Type 0 where

@@ -27,9 +27,9 @@ use Rattle.ygg_sound.specs.Fitting.{IsShaped}
 use Rattle.ygg_sound.proofs.Parameters.{same_fit}
 use Rattle.ygg_sound.proofs.Definitions.{MeetsAll, definitions_meet}
 use Rattle.ygg_sound.proofs.Sounds.{sound}
+use Rattle.ygg_sound.proofs.Tests.{left as first_of, right as second_of}
 use Rattle.ygg_answered.specs.Kinds.{layer_keeps}
 use Rattle.ygg_answered.specs.Machines.{SpecAnswers}
-use Rattle.ygg_answered.proofs.Tests.{first_of, second_of}
 use Rattle.ygg_answered.proofs.Faults.{none_listed}
 use Rattle.ygg_answered.proofs.Sounds.{ExpressionsHave}
 use Rattle.ygg_answered.proofs.Views.{LowerShaped}

@@ -2,7 +2,7 @@
 use Rattle.std.proofs.Common.{◌≡◌, ℕ, zero, suc, ◌^◌, Bool, true, false, ◌&&◌, ◌==◌, nat_lt, not, if◌then◌else◌, List, [], ◌∷◌, length, replicate, Option, Some, None, refl, sym, ap, ◌∙◌, subst, eqb-true, length-set}
 use Rattle.std.specs.Prelude.{unwrap_or, slice_get, slice_set}
 use Rattle.std.specs.List.{list_all}
-use Rattle.std.proofs.lemmas.Bool.{eq-eqb, lt-ltb}
+use Rattle.std.proofs.lemmas.Bool.{eq-eqb, lt-ltb, and_from as both_of}
 use Rattle.std.proofs.lemmas.List.{length-replicate}
 use Rattle.std.proofs.lemmas.Nat.{pow_pos}
 use Rattle.ygg_value.specs.declared.shape.Shape.{Shape}
@@ -20,9 +20,7 @@ use Rattle.ygg_fault.specs.Statements.{indexed}
 use Rattle.ygg_eval.specs.Environments.{Env}
 use Rattle.ygg_eval.specs.Progress.{Eval, indices_of}
 use Rattle.ygg_eval.specs.Shapes.{fits, words_fit}
-use Rattle.ygg_answered.proofs.Tests.{first_of, second_of, both_of}
-use Rattle.ygg_sound.proofs.Tests.{passed}
-use Rattle.ygg_answered.proofs.Faults.{fails}
+use Rattle.ygg_sound.proofs.Tests.{left as first_of, right as second_of, passed, turned}
 
 -- a value has one shape alone
 pub one_shape : (s t : Shape) (v : Value) → fits s v ≡ true → fits t v ≡ true → s ≡ t
@@ -156,7 +154,7 @@ step s i is scope found e f = cases (typing i.at scope).part.shape (typing i.at 
     cases (Some t) at e g f =
         let shown = open_rule (none (both (unless (not (is_word s)) 7 i.bracket) (wanted_word (record { place = at; shape = Some t })))) (Some (part_shape s)) e in
         record {
-          compound = fails (is_word s) (passed (not (is_word s)) 7 i.bracket (first_of _ (none (wanted_word (record { place = at; shape = Some t }))) e));
+          compound = turned (is_word s) (passed (not (is_word s)) 7 i.bracket (first_of _ (none (wanted_word (record { place = at; shape = Some t }))) e));
           faults = subst (λ o. none (indexed is scope o).faults ≡ true) shown g;
           shape = subst (λ o. (indexed is scope o).shape ≡ Some found) shown f;
         }

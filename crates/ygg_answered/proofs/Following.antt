@@ -1,5 +1,6 @@
 -- Names with values that keep their shapes.
 use Rattle.std.proofs.Common.{◌≡◌, suc, Bool, true, false, ◌&&◌, if◌then◌else◌, List, [], ◌∷◌, ◌++◌, length, take, Option, Some, is_some, refl, sym, ap, ◌∙◌, subst}
+use Rattle.std.proofs.lemmas.Bool.{and_from as both_of}
 use Rattle.std.specs.Str.{bytes_eq}
 use Rattle.ygg_value.specs.declared.shape.Shape.{Shape}
 use Rattle.ygg_value.specs.Shapes.{shape_of}
@@ -14,8 +15,8 @@ use Rattle.ygg_eval.specs.Shapes.{shape_in, fits, env_fits}
 use Rattle.ygg_sound.specs.Fitting.{HasShape}
 use Rattle.ygg_sound.specs.Agrees.{Agrees}
 use Rattle.ygg_sound.proofs.Fits.{fits_has, value_fits}
+use Rattle.ygg_sound.proofs.Tests.{left as first_of, right as second_of}
 use Rattle.ygg_answered.specs.Questions.{plain, Follows}
-use Rattle.ygg_answered.proofs.Tests.{first_of, second_of, both_of}
 
 -- a value of whichever shape the other has
 abbrev pub Keeps : Value → Value → Type 0

@@ -1,5 +1,6 @@
 -- What derives from tokens keeps its kinds.
 use Rattle.std.proofs.Common.{◌≡◌, Bool, true, false, ◌&&◌, if◌then◌else◌, List, [], ◌∷◌, map, Option, Some, None, refl, sym, subst}
+use Rattle.std.proofs.lemmas.Bool.{and_from as both_of}
 use Rattle.std.specs.List.{list_all}
 use Rattle.ygg_base.specs.declared.token.Keyword.{Keyword}
 use Rattle.ygg_base.specs.declared.token.Keyword.TheVariants as word
@@ -26,8 +27,8 @@ use Rattle.ygg_syntax.specs.Reading.{Reading, starts, passes, takes, in_turn}
 use Rattle.ygg_syntax.specs.Expressions.{keyword, symbol, named, numbered, expr}
 use Rattle.ygg_syntax.specs.Blocks.{bracketed, call_in, indices_of, source_in, BlockPhrase, statements_in, without_answer, with_answer, is_nowhere, nothing_in, is_unwritten, optional_block, node_statement, node_block, statement, block_phrase, block, answering, optional}
 use Rattle.ygg_syntax.specs.Files.{variable, definition, on_crash, operation_blocks, operation, tick, crash_block, layer, layers, whole_file, Derives, any_declared, type_in, disk_text}
+use Rattle.ygg_sound.proofs.Tests.{right as second_of}
 use Rattle.ygg_answered.specs.Kinds.{may_call, source_keeps, all_keep, node_keeps, node_all_keep, stmt_keeps, keeps, returns_declared, on_crash_keeps, operation_keeps, tick_keeps, layer_keeps, file_keeps}
-use Rattle.ygg_answered.proofs.Tests.{second_of, both_of}
 
 -- something is read from some tokens
 pub record IsRead (r : Reading) : Type 0 where

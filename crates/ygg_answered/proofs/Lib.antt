@@ -1,4 +1,3 @@
-pub mod Tests
 pub mod Enough
 pub mod Faults
 pub mod Asking

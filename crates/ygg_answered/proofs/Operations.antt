@@ -19,11 +19,10 @@ use Rattle.ygg_fault.specs.Layers.{operation_signature, with_operation, with_ope
 use Rattle.ygg_eval.specs.Environments.{Name}
 use Rattle.ygg_eval.specs.Layer.{operation_in}
 use Rattle.ygg_sound.specs.Fitting.{IsShaped}
-use Rattle.ygg_sound.proofs.Tests.{passed, turned}
+use Rattle.ygg_sound.proofs.Tests.{left as first_of, right as second_of, passed, turned}
 use Rattle.ygg_sound.proofs.Names.{added_new}
 use Rattle.ygg_sound.proofs.Parameters.{type_is}
 use Rattle.ygg_answered.specs.Kinds.{operation_keeps}
-use Rattle.ygg_answered.proofs.Tests.{first_of, second_of}
 use Rattle.ygg_answered.proofs.Views.{LowerShaped}
 
 -- a block for a crash without faults, if there is one

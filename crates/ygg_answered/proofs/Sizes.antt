@@ -1,7 +1,7 @@
 -- A disk keeps the size of its tables, and its answers fit.
 use Rattle.std.proofs.Common.{◌≡◌, ℕ, suc, Bool, true, false, ◌&&◌, ◌==◌, if◌then◌else◌, List, [], ◌∷◌, length, Option, Some, None, codes, refl, sym, ap, ◌∙◌, subst}
 use Rattle.std.specs.Str.{bytes_eq}
-use Rattle.std.proofs.lemmas.Bool.{eq-eqb}
+use Rattle.std.proofs.lemmas.Bool.{eq-eqb, and_from as both_of}
 use Rattle.ygg_value.specs.declared.shape.Shape.{Shape}
 use Rattle.ygg_value.specs.declared.shape.Shape.TheVariants as shape
 use Rattle.ygg_value.specs.Number.{Grid}
@@ -11,7 +11,7 @@ use Rattle.ygg_value.specs.declared.row.Value.TheVariants.{Word, Row, Table}
 use Rattle.ygg_syntax.specs.declared.tree.DiskText.{DiskText}
 use Rattle.ygg_syntax.specs.declared.tree.DiskKind.{DiskKind}
 use Rattle.ygg_syntax.specs.declared.tree.DiskKind.TheVariants.{Sync, Async}
-use Rattle.ygg_names.specs.Names.{Named, look_up}
+use Rattle.ygg_names.specs.Names.{look_up}
 use Rattle.ygg_fault.specs.declared.scope.Signature.{Signature}
 use Rattle.ygg_fault.specs.Faults.{none}
 use Rattle.ygg_fault.specs.Files.{address, disk_row, disk_faults, disk_operations}
@@ -23,10 +23,9 @@ use Rattle.ygg_eval.specs.Machine.{Picks, State, Fallen, based}
 use Rattle.ygg_eval.specs.DiskMachine.{disk_call, answer_to, model_of, DiskMachine}
 use Rattle.ygg_machine.specs.Stack.{tables_of_kind, tables_of}
 use Rattle.ygg_sound.specs.Fitting.{fits_wanted, all_fit}
-use Rattle.ygg_sound.proofs.Tests.{bytes_same, bytes_equal}
+use Rattle.ygg_sound.proofs.Tests.{left as first_of, right as second_of, bytes_same, bytes_equal}
 use Rattle.ygg_answered.specs.Questions.{gives}
 use Rattle.ygg_answered.specs.Machines.{CanCall, IsSized, DiskAnswers}
-use Rattle.ygg_answered.proofs.Tests.{first_of, second_of, both_of}
 use Rattle.ygg_answered.proofs.Fits.{IsTableOf, table_parts, table_whole, row_bits, row_read_fits, row_written}
 use Rattle.ygg_answered.proofs.Disks.{rest_of, disk_row_is, is_call, disk_answers}
 
@@ -57,8 +56,7 @@ sized_shown d Sync t e =
 sized_shown d Async t e =
     let size = shape.Table d.rows.value d.words.value d.width.value in
     let first = bytes_eq (codes "view") (codes "view") && fits size (Table t.view) in
-    let second = bytes_eq (codes "stable") (codes "stable") && fits size (Table t.stable) in
-    (
+    let second = bytes_eq (codes "stable") (codes "stable") && fits size (Table t.stable) in (
       table_parts d.rows.value d.words.value d.width.value t.view (second_of (bytes_eq (codes "view") (codes "view")) _ (first_of first (second && true) e)),
       table_parts d.rows.value d.words.value d.width.value t.stable (second_of (bytes_eq (codes "stable") (codes "stable")) _ (first_of second true (second_of first (second && true) e))),
     )
@@ -115,9 +113,9 @@ pub record FitsRow (d : DiskText) (row : Value) : Type 0 where
 
 -- a call with arguments that fit is one of three
 module _ (d : DiskText) (fine : none (disk_faults d) ≡ true) (P : disk.Call → Signature → Type 0)
-  (reads : (at : ℕ) → P (disk.Read at) (record { arguments = address ∷ []; answers = true; answer = disk_row d }))
-  (writes : (at : ℕ) (row : Value) → FitsRow d row → P (disk.Write at (row_in row)) (record { arguments = address ∷ disk_row d ∷ []; answers = false; answer = None }))
-  (flushes : P disk.Flush (record { arguments = []; answers = false; answer = None })) where
+    (reads : (at : ℕ) → P (disk.Read at) (record { arguments = address ∷ []; answers = true; answer = disk_row d }))
+    (writes : (at : ℕ) (row : Value) → FitsRow d row → P (disk.Write at (row_in row)) (record { arguments = address ∷ disk_row d ∷ []; answers = false; answer = None }))
+    (flushes : P disk.Flush (record { arguments = []; answers = false; answer = None })) where
   call_is : (a b : disk.Call) → Some a ≡ Some b → a ≡ b
   call_is a b h = cc
 

@@ -1,5 +1,6 @@
 -- A typed block that is given answers that fit asks what fits, and its names keep their shapes.
-use Rattle.std.proofs.Common.{◌≡◌, ℕ, zero, suc, ◌+◌, ◌<◌, ◌≤◌, ◌^◌, Bool, true, false, ◌&&◌, if◌then◌else◌, not, nat_le, List, [], ◌∷◌, ◌++◌, map, take, length, Option, Some, None, is_none, refl, sym, ap, ◌∙◌, subst, append_assoc, arith, leb-true}
+use Rattle.std.proofs.Common.{◌≡◌, ℕ, zero, suc, ◌+◌, ◌<◌, ◌≤◌, ◌^◌, Bool, true, false, ◌&&◌, if◌then◌else◌, not, List, [], ◌∷◌, ◌++◌, map, take, length, Option, Some, None, is_none, refl, sym, ap, ◌∙◌, subst, append_assoc, arith}
+use Rattle.std.proofs.lemmas.Bool.{and_from as both_of}
 use Rattle.ygg_value.specs.declared.shape.Shape.{Shape}
 use Rattle.ygg_value.specs.declared.shape.Shape.TheVariants as shape
 use Rattle.ygg_value.specs.Words.{word}
@@ -23,12 +24,11 @@ use Rattle.ygg_names.specs.Names.{Named, look_up}
 use Rattle.ygg_fault.specs.declared.scope.Part.{Part}
 use Rattle.ygg_fault.specs.declared.scope.Local.{Local}
 use Rattle.ygg_fault.specs.declared.scope.Signature.{Signature}
-use Rattle.ygg_fault.specs.Faults.{Faults, none, nothing, one, both, unless, fault, fault_at}
-use Rattle.ygg_fault.specs.Limits.{width_fits, bound_fits}
+use Rattle.ygg_fault.specs.Faults.{Faults, none, nothing, one, both, unless, fault}
+use Rattle.ygg_fault.specs.Limits.{width_fits}
 use Rattle.ygg_fault.specs.Shapes.{word_shape, part_shape, is_word}
-use Rattle.ygg_fault.specs.Comparisons.{wanted_fault}
 use Rattle.ygg_fault.specs.Scopes.{Scope, name_in, is_taken, with_local}
-use Rattle.ygg_fault.specs.Expressions.{own, wanted, wanted_word, typing, typings, faults_in, parts_of, all_shaped, arguments_wanted, index_rule, expected_faults, with_number, number_faults}
+use Rattle.ygg_fault.specs.Expressions.{own, wanted, wanted_word, typing, typings, faults_in, parts_of, index_rule, expected_faults, with_number, number_faults}
 use Rattle.ygg_fault.specs.Statements.{Walked, source_typing, call_rule, call_typing, target_rule, indexed, place_rule, in_order, return_faults, node_walked, node_inside, walked, block_faults}
 use Rattle.ygg_eval.specs.Environments.{Env, assign}
 use Rattle.ygg_eval.specs.Meaning.{Functions, is_one, value_with}
@@ -38,15 +38,16 @@ use Rattle.ygg_eval.specs.Progress.{Eval, Run, Answer, Point, Waits, Goes, Quest
 use Rattle.ygg_eval.proofs.Uses.{Good, all_good, statements_good}
 use Rattle.ygg_sound.specs.Fitting.{HasShape, fits_wanted, all_fit}
 use Rattle.ygg_sound.specs.Agrees.{Agrees}
-use Rattle.ygg_sound.proofs.Tests.{passed, no_fault, wanted_is}
+use Rattle.ygg_sound.proofs.Tests.{left as first_of, right as second_of, passed, turned}
+use Rattle.ygg_sound.proofs.Rules.{wanted_has, number_parts}
+use Rattle.ygg_sound.proofs.Lists.{AllHave, have_shapes, arguments_fit}
 use Rattle.ygg_sound.proofs.Fits.{fits_has, value_fits}
 use Rattle.ygg_sound.proofs.Names.{value_found}
 use Rattle.ygg_sound.proofs.Steps.{agrees_with_local, agrees_with_number}
 use Rattle.ygg_answered.specs.Kinds.{may_call, source_keeps, all_keep, node_keeps, node_all_keep, stmt_keeps, keeps}
 use Rattle.ygg_answered.specs.Questions.{plain, answer_has, gives, answer_fits, question_fits, AnswersFit, Follows}
 use Rattle.ygg_answered.specs.Blocks.{eval_with, is_returned, IsSound}
-use Rattle.ygg_answered.proofs.Tests.{first_of, second_of, both_of}
-use Rattle.ygg_answered.proofs.Faults.{fails, Called, called}
+use Rattle.ygg_answered.proofs.Faults.{Called, called}
 use Rattle.ygg_answered.proofs.Fits.{one_shape, part_fits}
 use Rattle.ygg_answered.proofs.Following.{Keeps, follows_same, follows_more, follows_on, follows_front, follows_cut, agrees_after, follows_assigned, take_assigned}
 use Rattle.ygg_answered.proofs.Asking.{all_known, local_lower}
@@ -157,9 +158,7 @@ module _ (kind : Kind) (lower : Named Signature) where
 -- a value that has a shape is as it is wanted
 wanted_fits : (p : Part) (w : Option Shape) (v : Value) → HasShape p.shape v → none (wanted p w) ≡ true → fits_wanted w v ≡ true
 wanted_fits p None v h e = refl
-wanted_fits p (Some s) v h e =
-    let e' = subst (λ o. none (elim o as (λ o. Faults) [ None ↦ nothing | Some t ↦ fault_at p.place (wanted_fault t s) ]) ≡ true) h.is e in
-    subst (λ k. fits k v ≡ true) (wanted_is (shape_of v) s (no_fault p.place (wanted_fault (shape_of v) s) e')) (value_fits v h.limits)
+wanted_fits p (Some s) v h e = subst (λ k. fits k v ≡ true) (wanted_has p v s h e) (value_fits v h.limits)
 
 open_own : (b : Bool) (o : Option Shape) → b ≡ true → (if b then o else None) ≡ o
 open_own true o e = refl
@@ -192,35 +191,24 @@ module _ (functions : Functions) (lower : Named Signature) (have : ExpressionsHa
     pub lower_is : scope.lower ≡ lower
     pub agrees : Agrees functions scope (plain env)
 
-  arguments_shaped : (es : List Expr) (scope : Scope) (env : Env) → Agrees functions scope (plain env) → none (faults_in (typings es scope)) ≡ true → all_shaped (parts_of (typings es scope)) ≡ true
-  arguments_shaped [] scope env g e = refl
-  arguments_shaped (x ∷ es) scope env g e =
-      let h = have x scope (plain env) g (first_of (none (typing x scope).faults) (none (faults_in (typings es scope))) e) in
-      subst (λ o. elim o as (λ o. Bool) [ None ↦ false | Some s ↦ all_shaped (parts_of (typings es scope)) ] ≡ true) (sym h.is)
-      (arguments_shaped es scope env g (second_of (none (typing x scope).faults) (none (faults_in (typings es scope))) e))
-
-  arguments_fit : (es : List Expr) (ws : List (Option Shape)) (scope : Scope) (env : Env) → Agrees functions scope (plain env) → none (faults_in (typings es scope)) ≡ true
-      → length (parts_of (typings es scope)) ≡ length ws → none (arguments_wanted (parts_of (typings es scope)) ws) ≡ true → all_fit ws (values_of eval es env) ≡ true
-  arguments_fit [] [] scope env g e n f = refl
-  arguments_fit [] (w ∷ ws) scope env g e n f = absurd (cc)
-  arguments_fit (x ∷ es) [] scope env g e n f = absurd (cc)
-  arguments_fit (x ∷ es) (w ∷ ws) scope env g e n f =
-      let h = have x scope (plain env) g (first_of (none (typing x scope).faults) (none (faults_in (typings es scope))) e) in
-      let count : length (parts_of (typings es scope)) ≡ length ws = omega arith in
-      both_of (fits_wanted w (eval x env)) (all_fit ws (values_of eval es env))
-      (wanted_fits (typing x scope).part w (eval x env) h (first_of (none (wanted (typing x scope).part w)) (none (arguments_wanted (parts_of (typings es scope)) ws)) f))
-      (arguments_fit es ws scope env g (second_of (none (typing x scope).faults) (none (faults_in (typings es scope))) e) count (second_of (none (wanted (typing x scope).part w)) (none (arguments_wanted (parts_of (typings es scope)) ws)) f))
+  -- arguments have the shapes that typing gives them
+  arguments_have : (es : List Expr) (scope : Scope) (env : Env) → Agrees functions scope (plain env) → none (faults_in (typings es scope)) ≡ true → AllHave (parts_of (typings es scope)) (values_of eval es env)
+  arguments_have [] scope env g e = tt
+  arguments_have (x ∷ es) scope env g e = (
+    have x scope (plain env) g (first_of (none (typing x scope).faults) (none (faults_in (typings es scope))) e),
+    arguments_have es scope env g (second_of (none (typing x scope).faults) (none (faults_in (typings es scope))) e),
+  )
 
   -- a call asks what fits
   call_fits : (kind : Kind) (at : Place) (used : Bool) (f : Name) (es : List Expr) (scope : Scope) (env : Env) → Fine scope env → none (call_typing at used f es scope).faults ≡ true → may_call kind ≡ true
       → question_fits kind lower (Call f.text (values_of eval es env)) ≡ true
   call_fits kind at used f es scope env g e k =
       let c = called at used f es scope e in
-      let all = arguments_shaped es scope env g.agrees c.parts in
+      let all = arguments_have es scope env g.agrees c.parts in
       subst (λ l. question_fits kind l (Call f.text (values_of eval es env)) ≡ true) g.lower_is
       (both_of (may_call kind) _ k
       (ap (λ (o : Option Signature). elim o as (λ o. Bool) [ None ↦ false | Some o ↦ all_fit o.arguments (values_of eval es env) ]) c.found
-      ∙ arguments_fit es c.operation.arguments scope env g.agrees c.parts c.counted (c.wanted all)))
+      ∙ arguments_fit (parts_of (typings es scope)) (values_of eval es env) c.operation.arguments all c.counted (c.wanted (have_shapes (parts_of (typings es scope)) (values_of eval es env) all))))
 
   -- a right side asks what fits, and gives a value of its shape
   source_met : (kind : Kind) (s : Source) (scope : Scope) (env : Env) (f : Value → Env) (answers : List Answer) (good : Env → Type 0) → Fine scope env → none (source_typing s scope).faults ≡ true → source_keeps kind s ≡ true
@@ -239,7 +227,7 @@ module _ (functions : Functions) (lower : Named Signature) (have : ExpressionsHa
       c = called at true x es scope n
 
       shown : (call_typing at true x es scope).part.shape ≡ c.operation.answer
-      shown = ap (λ (o : Option Signature). (call_rule true x o (parts_of (typings es scope))).shape) c.found ∙ c.shape (arguments_shaped es scope env g.agrees c.parts)
+      shown = ap (λ (o : Option Signature). (call_rule true x o (parts_of (typings es scope))).shape) c.found ∙ c.shape (have_shapes (parts_of (typings es scope)) (values_of eval es env) (arguments_have es scope env g.agrees c.parts))
 
       fitting : (answers : Bool) → answers ≡ true → (a : Answer) → (if answers then answer_has c.operation.answer a else is_none a) ≡ true → answer_has c.operation.answer a ≡ true
       fitting true i a e = e
@@ -370,7 +358,7 @@ module _ (functions : Functions) (lower : Named Signature) (have : ExpressionsHa
   stmt_case (Stmt-F.Let x s) = record {
     sounds = λ kind scope env answers g e k t.
         let from = source_typing s scope in
-        let free = fails (is_taken x.text scope) (passed (not (is_taken x.text scope)) 5 x.place (first_of _ (none from.faults) e)) in
+        let free = turned (is_taken x.text scope) (passed (not (is_taken x.text scope)) 5 x.place (first_of _ (none from.faults) e)) in
         source_met kind s scope env (λ v. env ++ (x.text, v) ∷ []) answers (Left env (with_local x.text from.part.shape true scope)) g (second_of _ (none from.faults) e) k
         (λ v h. (follows_more env ((x.text, v) ∷ []), agrees_with_local functions scope (plain env) x.text from.part.shape true v g.agrees free h)) t;
   }
@@ -392,15 +380,10 @@ module _ (functions : Functions) (lower : Named Signature) (have : ExpressionsHa
   stmt_case (Stmt-F.For x w n each) = record {
     sounds = λ kind scope env answers g e k t.
         let number = number_faults x (is_taken x.text scope) w n in
-        let front = first_of (none number) (none (W' each.0 (with_number x w scope))) e in
-        let others = second_of (none (unless (not (is_taken x.text scope)) 5 x.place)) (none (unless (width_fits w.value) 6 w.place) && none (unless (bound_fits n.value w.value) 8 n.place)) front in
-        let free = fails (is_taken x.text scope) (passed (not (is_taken x.text scope)) 5 x.place (first_of _ (none (unless (width_fits w.value) 6 w.place) && none (unless (bound_fits n.value w.value) 8 n.place)) front)) in
-        let width = passed (width_fits w.value) 6 w.place (first_of _ (none (unless (bound_fits n.value w.value) 8 n.place)) others) in
-        let bounds = passed (bound_fits n.value w.value) 8 n.place (second_of (none (unless (width_fits w.value) 6 w.place)) _ others) in
-        let bound = leb-true n.value (2 ^ w.value) (second_of (nat_le 1 n.value && nat_le n.value 4096) (nat_le n.value (2 ^ w.value)) bounds) in
+        let parts = number_parts x (is_taken x.text scope) w n (first_of (none number) (none (W' each.0 (with_number x w scope))) e) in
         turns_met kind lower (λ i env answers. forget_since env (R' each.0 (env ++ (x.text, Word (word w.value i)) ∷ []) answers)) n.value (Left env scope)
         (λ i env. forget_splits env _ (each.1.splits (env ++ (x.text, Word (word w.value i)) ∷ [])))
-        (λ i h env' answers' left t'. turn_met each kind x w n.value i env scope free width bound g.lower_is (second_of (none number) (none (W' each.0 (with_number x w scope))) e) k h env' answers' left t')
+        (λ i h env' answers' left t'. turn_met each kind x w n.value i env scope parts.free parts.fits parts.bound g.lower_is (second_of (none number) (none (W' each.0 (with_number x w scope))) e) k h env' answers' left t')
         n.value 0 (omega arith) env answers (follows_same env, g.agrees) t;
   }
   stmt_case (Stmt-F.Call f es) = record {

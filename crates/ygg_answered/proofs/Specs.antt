@@ -34,12 +34,12 @@ use Rattle.ygg_eval.proofs.Uses.{statements_good}
 use Rattle.ygg_eval.proofs.Exact.{call_picks_exact}
 use Rattle.ygg_machine.specs.Under.{Failure, InCall, InTick, Between, FailsBy}
 use Rattle.ygg_sound.specs.Agrees.{Agrees}
+use Rattle.ygg_sound.proofs.Tests.{left as first_of, right as second_of}
 use Rattle.ygg_answered.specs.Kinds.{keeps, returns_declared, on_crash_keeps, operation_keeps}
 use Rattle.ygg_answered.specs.Questions.{plain, answer_has, gives, answer_fits}
 use Rattle.ygg_answered.specs.Blocks.{is_returned}
-use Rattle.ygg_answered.specs.Machines.{IsShaped, CanCall, SpecAnswers}
-use Rattle.ygg_answered.proofs.Tests.{first_of, second_of}
-use Rattle.ygg_answered.proofs.Enough.{statements_end}
+use Rattle.ygg_answered.specs.Machines.{IsStateOf, CanCall, SpecAnswers}
+use Rattle.ygg_answered.proofs.Enough.{Gone, statements_end}
 use Rattle.ygg_answered.proofs.Asking.{known, statements_known}
 use Rattle.ygg_answered.proofs.Sounds.{ExpressionsHave, Told, good_splits, Met, Left, statements_sound, returns_fit}
 use Rattle.ygg_answered.proofs.Following.{follows_front, fits_after}
@@ -98,7 +98,10 @@ module _ (L : ClosedLayer) (have : ExpressionsHave L.functions) where
       let picks = replicate e.needs false in
       let count : length (chosen picks) ≡ e.needs = chosen_count picks ∙ zeros_count e.needs in
       let g = e.ends (vars ++ args) (chosen picks) 0 (omega arith) in
-      (picks, record { vars = take (length vars) g.env; answer = answer_of (eval_of L) b.answer g.env; left = g.left }, ap (outcome_at (eval_of L) b vars) g.is)
+      ended picks g
+    where
+      ended : (picks : Picks) → Gone (in_turn (map (run_of (eval_of L)) b.statements) (vars ++ args) (chosen picks)) 0 → (picks : Picks) × (o : Outcome) × (block_outcome L b vars args (chosen picks) ≡ Some o)
+      ended picks g = (picks, record { vars = take (length vars) g.env; answer = answer_of (eval_of L) b.answer g.env; left = g.left }, ap (outcome_at (eval_of L) b vars) g.is)
 
   -- where it ends, it has kept the shapes
   pub spec_sound : (scope : Scope) (b : Block) (shape : Option Shape) (ds : List Declared) (vars args : Env) → Agrees L.functions scope (plain (vars ++ args)) → none (block_faults b shape scope) ≡ true → keeps Spec b ≡ true
@@ -211,7 +214,7 @@ module _ (functions : Functions) (defs : Named Signature) (below : Below) (weigh
   pub spec_answers : SpecAnswers L
   spec_answers = record { calls = calls; gives = fit; keeps = kept; falls = falls }
     where
-      calls : (s : State) (name : Name) (args : List Value) (o : Operation) → IsShaped L s → operation_of L name ≡ Some o → values_fit o.arguments args ≡ true → CanCall (machine.Spec L) s name args
+      calls : (s : State) (name : Name) (args : List Value) (o : Operation) → IsStateOf L s → operation_of L name ≡ Some o → values_fit o.arguments args ≡ true → CanCall (machine.Spec L) s name args
       calls s name args o shaped found fit =
           let f = fine name o found in
           let kept = first_of (keeps Spec o.spec) (returns_declared o.answer o.spec.answer) (first_of (keeps Spec o.spec && returns_declared o.answer o.spec.answer) (on_crash_keeps o.on_crash) (spec_kept o f.kept)) in
@@ -232,14 +235,14 @@ module _ (functions : Functions) (defs : Named Signature) (below : Below) (weigh
           (first_of (keeps Spec c.operation.spec && returns_declared c.operation.answer c.operation.spec.answer) (on_crash_keeps c.operation.on_crash) (spec_kept c.operation f.kept)) in
           subst (λ (x : Operation). gives (operation_signature x) answer ≡ true) (operation_same c.operation o (sym c.is ∙ found)) (given c.operation.answer c.operation.spec.answer answer declared w.returns)
 
-      kept : (s to : State) (name : Name) (args : List Value) (picks : Picks) (answer : Answer) → SpecCalls L s name args picks answer to → IsShaped L to
+      kept : (s to : State) (name : Name) (args : List Value) (picks : Picks) (answer : Answer) → SpecCalls L s name args picks answer to → IsStateOf L to
       kept s to name args picks answer c =
           record { vars = c.vars'; is = c.to_is; shaped = (called_well c.operation (fine name c.operation c.is) c.vars args c.shaped c.fit picks _ c.gives).shaped }
 
-      lost : (s : State) (picks : Picks) (f : Fallen) → SpecLoses L s picks f → IsShaped L (based f)
+      lost : (s : State) (picks : Picks) (f : Fallen) → SpecLoses L s picks f → IsStateOf L (based f)
       lost s picks f c = record { vars = f; is = refl; shaped = lost_well c.vars c.shaped picks _ c.gives }
 
-      falls : (s : State) (how : Failure) (picks : Picks) (f : Fallen) → FailsBy (machine.Spec L) how s picks f → IsShaped L (based f)
+      falls : (s : State) (how : Failure) (picks : Picks) (f : Fallen) → FailsBy (machine.Spec L) how s picks f → IsStateOf L (based f)
       falls s (InCall name args) picks f c = record { vars = f; is = refl; shaped = fallen_well c.operation (fine name c.operation c.is) c.vars args c.shaped c.fit picks _ c.gives }
       falls s (InTick name) picks f c = lost s picks f c
       falls s Between picks f c = lost s picks f c

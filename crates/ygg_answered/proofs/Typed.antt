@@ -15,8 +15,8 @@ use Rattle.ygg_fault.specs.Statements.{block_faults}
 use Rattle.ygg_fault.specs.Layers.{Below, layer_scope, declared_faults, blocks_faults, view_faults, operations_faults, ticks_faults, relations_faults, parts_faults}
 use Rattle.ygg_eval.specs.Meaning.{Functions}
 use Rattle.ygg_sound.proofs.Definitions.{MeetsAll}
+use Rattle.ygg_sound.proofs.Tests.{left as first_of, right as second_of}
 use Rattle.ygg_answered.specs.Kinds.{keeps, operation_keeps, tick_keeps, layer_keeps}
-use Rattle.ygg_answered.proofs.Tests.{first_of, second_of}
 use Rattle.ygg_answered.proofs.Views.{LayerVariables, layer_variables, LowerShaped}
 
 -- a layer without faults, whose blocks keep their kinds, over definitions and a machine below that keep what they say

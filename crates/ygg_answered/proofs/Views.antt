@@ -1,5 +1,6 @@
 -- What the blocks of a typed layer see.
 use Rattle.std.proofs.Common.{◌≡◌, Bool, true, false, ◌&&◌, ◌||◌, not, if◌then◌else◌, List, [], ◌∷◌, ◌++◌, map, Option, Some, None, is_some, refl, sym, ap, ◌∙◌, subst, append_assoc}
+use Rattle.std.proofs.lemmas.Bool.{and_from as both_of}
 use Rattle.std.proofs.lemmas.List.{append-nil}
 use Rattle.std.specs.Str.{bytes_eq}
 use Rattle.ygg_value.specs.Shapes.{zero_of}
@@ -25,13 +26,12 @@ use Rattle.ygg_eval.specs.Meaning.{Functions}
 use Rattle.ygg_eval.specs.Shapes.{shape_in, fits, values_fit, env_fits, zeros_of}
 use Rattle.ygg_sound.specs.Fitting.{IsShaped, HasShape, IsHeld}
 use Rattle.ygg_sound.specs.Agrees.{Agrees}
-use Rattle.ygg_sound.proofs.Tests.{passed, turned, bytes_same, bytes_equal}
+use Rattle.ygg_sound.proofs.Tests.{left as first_of, right as second_of, passed, turned, bytes_same, bytes_equal}
 use Rattle.ygg_sound.proofs.Fits.{fits_has, value_fits}
 use Rattle.ygg_sound.proofs.Names.{or_else, look_up_append, added_new}
 use Rattle.ygg_sound.proofs.Parameters.{type_is, agrees_with_parameters, same_fit}
 use Rattle.ygg_sound.proofs.Definitions.{MeetsAll}
 use Rattle.ygg_answered.specs.Questions.{plain}
-use Rattle.ygg_answered.proofs.Tests.{first_of, second_of, both_of}
 
 -- declared variables as typing lists them
 abbrev pub entries : Kind → List Declared → Named Variable

@@ -1,5 +1,5 @@
 -- What the specification of a layer and the disk answer.
-use Rattle.std.specs.Prelude.{◌≡◌, IsTrue, List, Option, Some}
+use Rattle.std.specs.Prelude.{◌≡◌, IsTrue, List, Some}
 use Rattle.ygg_value.specs.declared.row.Value.{Value}
 use Rattle.ygg_syntax.specs.declared.tree.DiskText.{DiskText}
 use Rattle.ygg_syntax.specs.declared.tree.Operation.{Operation}
@@ -27,7 +27,7 @@ pub record CanCall (M : Machine) (s : State) (name : Name) (args : List Value) :
   pub call : M.Calls s name args picks answer to
 
 -- variables of the declared shapes
-pub record IsShaped (L : ClosedLayer) (s : State) : Type 0 where
+pub record IsStateOf (L : ClosedLayer) (s : State) : Type 0 where
   pub vars : Env
   pub is : s ≡ based vars
   pub shaped : IsTrue (env_fits L.layer.state vars)
@@ -36,14 +36,14 @@ pub record IsShaped (L : ClosedLayer) (s : State) : Type 0 where
 pub record SpecAnswers (L : ClosedLayer) : Type 0 where
   -- each operation can be called with arguments that fit
   pub calls : (s : State) (name : Name) (args : List Value) (o : Operation) →
-      IsShaped L s → operation_of L name ≡ Some o → IsTrue (values_fit o.arguments args) → CanCall (Spec L) s name args
+      IsStateOf L s → operation_of L name ≡ Some o → IsTrue (values_fit o.arguments args) → CanCall (Spec L) s name args
   -- its answer fits
   pub gives : (s to : State) (name : Name) (args : List Value) (picks : Picks) (answer : Answer) (o : Operation) →
       (Spec L).Calls s name args picks answer to → operation_of L name ≡ Some o → IsTrue (gives (operation_signature o) answer)
   -- the variables keep their shapes
-  pub keeps : (s to : State) (name : Name) (args : List Value) (picks : Picks) (answer : Answer) → (Spec L).Calls s name args picks answer to → IsShaped L to
+  pub keeps : (s to : State) (name : Name) (args : List Value) (picks : Picks) (answer : Answer) → (Spec L).Calls s name args picks answer to → IsStateOf L to
   -- also where power fails
-  pub falls : (s : State) (how : Failure) (picks : Picks) (f : Fallen) → FailsBy (Spec L) how s picks f → IsShaped L (based f)
+  pub falls : (s : State) (how : Failure) (picks : Picks) (f : Fallen) → FailsBy (Spec L) how s picks f → IsStateOf L (based f)
 
 -- tables of the disk's size
 pub record IsSized (d : DiskText) (s : State) : Type 0 where
