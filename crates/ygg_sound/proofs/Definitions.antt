@@ -1,5 +1,5 @@
 -- Definitions without faults give answers of the shapes that they say.
-use Rattle.std.proofs.Common.{◌≡◌, ℕ, Bool, true, false, cond, List, [], ◌∷◌, ◌++◌, reverse, Option, Some, None, is_some, refl, sym, ap, ◌∙◌, subst, append_assoc}
+use Rattle.std.proofs.Common.{◌≡◌, ℕ, Bool, true, false, cond, List, [], ◌∷◌, ◌++◌, reverse, Option, Some, None, refl, sym, ap, ◌∙◌, subst, append_assoc}
 use Rattle.std.specs.Prelude.{◌&&◌, not}
 use Rattle.std.specs.Str.{bytes_eq}
 use Rattle.std.proofs.lemmas.List.{append-nil, reverse-append}
@@ -11,23 +11,22 @@ use Rattle.ygg_value.specs.declared.row.Value.{Value}
 use Rattle.ygg_count.specs.Weights.{weights_of, expr_weight}
 use Rattle.ygg_names.specs.Names.{Named, look_up, has}
 use Rattle.ygg_fault.specs.declared.scope.Signature.{Signature}
-use Rattle.ygg_fault.specs.Faults.{Faults, nothing, both, none, unless}
+use Rattle.ygg_fault.specs.Faults.{none, unless}
 use Rattle.ygg_fault.specs.Limits.{weight_fits}
 use Rattle.ygg_fault.specs.Shapes.{shape_of}
 use Rattle.ygg_fault.specs.Scopes.{Scope}
 use Rattle.ygg_fault.specs.Expressions.{typing, wanted, expected_faults}
-use Rattle.ygg_fault.specs.Definitions.{type_faults, parameters_faults, with_parameters, parameter_shapes, claim_faults, definition_signature, definition_scope, definition_faults, with_definition, with_definitions, definitions_faults}
+use Rattle.ygg_fault.specs.Definitions.{type_faults, parameters_faults, with_parameters, parameter_shapes, definition_signature, definition_scope, definition_faults, with_definition, with_definitions, definitions_faults}
 use Rattle.ygg_eval.specs.Environments.{bind}
 use Rattle.ygg_eval.specs.Meaning.{Functions, value_with, functions_from, functions_of}
 use Rattle.ygg_eval.specs.Meaning as meaning
 use Rattle.ygg_eval.specs.Shapes.{shape_in}
 use Rattle.ygg_sound.specs.Fitting.{HasShape, all_fit, Meets}
 use Rattle.ygg_sound.specs.Agrees.{Agrees}
-use Rattle.ygg_sound.specs.Laws.{DefinitionsAreSound}
 use Rattle.ygg_sound.proofs.Tests.{left, right, passed, turned, bytes_same}
 use Rattle.ygg_sound.proofs.Names.{or_else, look_up_append, absent, added_new}
 use Rattle.ygg_sound.proofs.Rules.{wanted_has}
-use Rattle.ygg_sound.proofs.Parameters.{IsType, type_is, agrees_with_parameters}
+use Rattle.ygg_sound.proofs.Parameters.{type_is, agrees_with_parameters}
 use Rattle.ygg_sound.proofs.Sounds.{sound}
 
 -- the functions meet each of these signatures
@@ -93,13 +92,13 @@ body_has functions d defs args meets parts fit =
     let is = (type_is d.shape parts.type).is in
     let body : none (expected_faults d.body (Some (shape_in d.shape)) scope) ≡ true = subst (λ o. none (expected_faults d.body o scope) ≡ true) is parts.body in
     subst (λ o. HasShape o (value_with functions d.body (called d.parameters args))) (sym is)
-        (expected_has functions d.body (shape_in d.shape) scope (called d.parameters args) (body_agrees functions d defs args meets parts fit) body)
+    (expected_has functions d.body (shape_in d.shape) scope (called d.parameters args) (body_agrees functions d defs args meets parts fit) body)
 
 -- one more definition, which stands before others in the list of those that count
 one_more : (before : List Def) (d : Def) (defs : Named Signature) → MeetsAll (functions_from before) defs → DefinitionParts d defs → MeetsAll (functions_from (d ∷ before)) (with_definition d defs)
 one_more before d defs meets parts name s h args fit =
     cases (bytes_eq d.name.text name) refl
-        (sym (look_up_append name defs ((d.name.text, definition_signature d) ∷ [])) ∙ ap (look_up name) (sym (added_new d.name.text (definition_signature d) defs parts.new)) ∙ h)
+    (sym (look_up_append name defs ((d.name.text, definition_signature d) ∷ [])) ∙ ap (look_up name) (sym (added_new d.name.text (definition_signature d) defs parts.new)) ∙ h)
   where
     cases : (b : Bool) → bytes_eq d.name.text name ≡ b → or_else (look_up name defs) (cond b (Some (definition_signature d)) None) ≡ Some s
         → HasShape s.answer (cond b (value_with (functions_from before) d.body (called d.parameters args)) (functions_from before name args))
@@ -108,7 +107,7 @@ one_more before d defs meets parts name s h args fit =
         let same : Some (definition_signature d) ≡ Some s = sym (ap (λ o. or_else o (Some (definition_signature d))) missing) ∙ g in
         let is : definition_signature d ≡ s = cc in
         subst (λ (k : Signature). all_fit k.arguments args ≡ true → HasShape k.answer (value_with (functions_from before) d.body (called d.parameters args))) is
-            (body_has (functions_from before) d defs args meets parts) fit
+        (body_has (functions_from before) d defs args meets parts) fit
     cases false e g = meets name s (other (look_up name defs) g) args fit
       where
         other : (o : Option Signature) → or_else o None ≡ Some s → o ≡ Some s
@@ -125,7 +124,7 @@ all_more (d ∷ ds) done defs f meets =
     let parts = definition_parts d weight defs (left here others f) in
     let one = subst (λ xs. MeetsAll (functions_from xs) (with_definition d defs)) (sym (reverse-append done (d ∷ []))) (one_more (reverse done) d defs meets parts) in
     subst (λ xs. MeetsAll (functions_from (reverse xs)) (with_definitions ds (with_definition d defs))) (append_assoc done (d ∷ []) ds)
-        (all_more ds (done ++ d ∷ []) (with_definition d defs) (right here others f) one)
+    (all_more ds (done ++ d ∷ []) (with_definition d defs) (right here others f) one)
 
 -- definitions without faults meet their signatures
 pub definitions_meet : (defs : List Def) → none (definitions_faults defs [] []) ≡ true → MeetsAll (functions_of defs) (with_definitions defs [])

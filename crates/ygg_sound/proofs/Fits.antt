@@ -1,12 +1,12 @@
 -- Values that have a shape, and values that fit one.
-use Rattle.std.proofs.Common.{◌≡◌, ℕ, ◌<◌, ◌≤◌, ◌^◌, ◌*◌, Bool, true, false, cond, List, [], ◌∷◌, length, replicate, get_or, All, Option, Some, None, refl, sym, ap, ◌∙◌, subst, arith}
-use Rattle.std.specs.Prelude.{◌==◌, ◌&&◌, nat_lt, unwrap_or, slice_get}
+use Rattle.std.proofs.Common.{◌≡◌, ℕ, ◌<◌, ◌^◌, Bool, true, List, length, All, Some, refl, sym, ap, ◌∙◌, subst, arith}
+use Rattle.std.specs.Prelude.{◌==◌, ◌&&◌, nat_lt}
 use Rattle.std.specs.Bool.{Decides}
 use Rattle.std.specs.List.{list_all}
 use Rattle.std.proofs.lemmas.Bool.{eqb-true, eq-eqb, and_from}
 use Rattle.std.proofs.lemmas.Bool.Decides.{Decides-by_and, Decides-and, Decides-ltb, Decides-eqb}
-use Rattle.ygg_value.specs.Number.{Number, IsWord, Digits, IsRow, Grid, IsTable}
-use Rattle.ygg_value.specs.Words.{word, bit_of}
+use Rattle.ygg_value.specs.Number.{IsWord, IsRow, IsTable}
+use Rattle.ygg_value.specs.Words.{word}
 use Rattle.ygg_value.specs.Values.{word_in, digit}
 use Rattle.ygg_value.specs.Shapes.{IsShape, IsValue, shape_of}
 use Rattle.ygg_value.specs.declared.row.Value.{Value}
@@ -88,10 +88,10 @@ value_fits (value.Row r) x =
     and_from (r.width == r.width) (words_fit r.width (length r.words) r.words) (eq-eqb r.width r.width refl) ((words_decide r.width (length r.words) r.words).1 (refl, x.fits))
 value_fits (value.Table t) x =
     and_from (t.width == t.width && t.words == t.words && length t.rows == length t.rows) (list_all (words_fit t.width t.words) t.rows)
-        (and_from (t.width == t.width && t.words == t.words) (length t.rows == length t.rows)
-            (and_from (t.width == t.width) (t.words == t.words) (eq-eqb t.width t.width refl) (eq-eqb t.words t.words refl))
-            (eq-eqb (length t.rows) (length t.rows) refl))
-        ((rows_decide t.width t.words t.rows).1 (λ k d l. (x.even k d l, x.fits k d l)))
+    (and_from (t.width == t.width && t.words == t.words) (length t.rows == length t.rows)
+    (and_from (t.width == t.width) (t.words == t.words) (eq-eqb t.width t.width refl) (eq-eqb t.words t.words refl))
+    (eq-eqb (length t.rows) (length t.rows) refl))
+    ((rows_decide t.width t.words t.rows).1 (λ k d l. (x.even k d l, x.fits k d l)))
 
 -- a value that has a shape fits it
 pub has_fits : (s : Shape) (v : Value) → HasShape (Some s) v → fits s v ≡ true

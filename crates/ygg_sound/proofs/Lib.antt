@@ -5,5 +5,6 @@ pub mod Lists
 pub mod Names
 pub mod Steps
 pub mod Sounds
+pub mod Parts
 pub mod Parameters
 pub mod Definitions

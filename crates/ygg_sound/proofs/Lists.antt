@@ -1,12 +1,12 @@
 -- What the rules of constructs with lists of parts make sure of: arguments and rows.
 use Rattle.std.proofs.Common.{◌≡◌, ℕ, ◌<◌, ◌≤◌, ◌^◌, ◌⊎◌, inl, inr, Bool, true, false, cond, List, [], ◌∷◌, length, map, All, Option, Some, None, refl, sym, ap, ◌∙◌, subst, arith}
-use Rattle.std.specs.Prelude.{◌==◌, ◌&&◌, slice_get}
+use Rattle.std.specs.Prelude.{◌==◌, slice_get}
 use Rattle.std.proofs.lemmas.Bool.{eqb-true, and_from, cases_lt}
 use Rattle.std.proofs.lemmas.Option.{slice_get-get_or}
 use Rattle.std.proofs.lemmas.List.Elements.{All-cons, All-nil, All-head, All-tail}
 use Rattle.ygg_syntax.specs.declared.tree.Place.{Place}
 use Rattle.ygg_syntax.specs.declared.tree.Name.{Name}
-use Rattle.ygg_value.specs.Number.{Digits, IsRow}
+use Rattle.ygg_value.specs.Number.{IsRow}
 use Rattle.ygg_value.specs.Values.{word_in}
 use Rattle.ygg_value.specs.Shapes.{IsValue, shape_of}
 use Rattle.ygg_value.specs.declared.row.Value.{Value}
@@ -16,7 +16,7 @@ use Rattle.ygg_value.specs.declared.shape.Shape.TheVariants as shape
 use Rattle.ygg_names.specs.Names.{Named, look_up}
 use Rattle.ygg_fault.specs.declared.scope.Part.{Part}
 use Rattle.ygg_fault.specs.declared.scope.Signature.{Signature}
-use Rattle.ygg_fault.specs.Faults.{Faults, nothing, one, both, none, fault, fault_at}
+use Rattle.ygg_fault.specs.Faults.{nothing, one, both, none, fault}
 use Rattle.ygg_fault.specs.Shapes.{is_word, width_of}
 use Rattle.ygg_fault.specs.Comparisons.{wanted_fault}
 use Rattle.ygg_fault.specs.Expressions.{own, all_shaped, wanted, arguments_wanted, arguments_faults, apply_rule, row_word_fault, row_word, row_words, row_count, row_rule}
@@ -60,8 +60,8 @@ arguments_fit (p ∷ ps) [] ws h n f = elim h [ ]
 arguments_fit (p ∷ ps) (v ∷ vs) [] h n f = absurd (omega arith)
 arguments_fit (p ∷ ps) (v ∷ vs) (w ∷ ws) h n f =
     and_from (fits_wanted w v) (all_fit ws vs)
-        (fit_one p v w h.0 (left (none (wanted p w)) (none (arguments_wanted ps ws)) f))
-        (arguments_fit ps vs ws h.1 (omega arith) (right (none (wanted p w)) (none (arguments_wanted ps ws)) f))
+    (fit_one p v w h.0 (left (none (wanted p w)) (none (arguments_wanted ps ws)) f))
+    (arguments_fit ps vs ws h.1 (omega arith) (right (none (wanted p w)) (none (arguments_wanted ps ws)) f))
 
 -- arguments of something that takes these shapes
 pub taken_fit : (f : Name) (ps : List Part) (vs : List Value) (ws : List (Option Shape)) → AllHave ps vs → none (arguments_faults f ws ps) ≡ true → all_fit ws vs ≡ true
@@ -92,7 +92,7 @@ apply_sound functions defs f ps vs meets h g =
     let d = parts.definition in
     subst (λ o. none (apply_rule f o ps).faults ≡ true → HasShape (apply_rule f o ps).shape (functions f.text vs)) (sym parts.found)
     (λ k. owned (arguments_faults f d.arguments ps) (cond (all_shaped ps) d.answer None) (functions f.text vs) k
-        (subst (λ b. HasShape (cond b d.answer None) (functions f.text vs)) (sym (have_shapes ps vs h)) (meets d parts.found vs parts.fit))) g
+    (subst (λ b. HasShape (cond b d.answer None) (functions f.text vs)) (sym (have_shapes ps vs h)) (meets d parts.found vs parts.fit))) g
 
 -- a word of a row of this width
 pub record IsWordOf (width : ℕ) (v : Value) : Type 0 where
@@ -125,9 +125,9 @@ word_of : (first : Value) (p : Part) (v : Value) → is_word (shape_of first) �
 word_of first p v w x =
     with_shape (λ p. none (row_word (shape_of first) p) ≡ true → IsWordOf (word_in first).width v) p (shape_of v) x.is
     (λ h.
-      let same = word_same (shape_of first) (shape_of v) w (no_fault p.place (row_word_fault (shape_of first) (shape_of v)) h) in
-      let word : is_word (shape_of v) ≡ true = ap is_word same ∙ w in
-      record { word = word; wide = sym (word_wide v word) ∙ ap width_of same ∙ word_wide first w; limits = x.limits })
+    let same = word_same (shape_of first) (shape_of v) w (no_fault p.place (row_word_fault (shape_of first) (shape_of v)) h) in
+    let word : is_word (shape_of v) ≡ true = ap is_word same ∙ w in
+    record { word = word; wide = sym (word_wide v word) ∙ ap width_of same ∙ word_wide first w; limits = x.limits })
 
 words_of : (first : Value) (ps : List Part) (vs : List Value) → is_word (shape_of first) ≡ true → AllHave ps vs → none (row_words (shape_of first) ps) ≡ true → All (IsWordOf (word_in first).width) vs
 words_of first [] [] w h f = All-nil (IsWordOf (word_in first).width)
@@ -224,7 +224,7 @@ row_sound at (p ∷ ps) (v ∷ vs) h f =
     cases true e g =
         let first = All-head (IsWordOf (word_in v).width) v vs parts.words in
         owned (both (row_count at (q ∷ ps)) (row_words (shape_of v) (q ∷ ps))) (Some (shape.Row (length (q ∷ ps)) (width_of (shape_of v)))) (value.Row (row_of (v ∷ vs))) g
-            (record {
-              is = ap (λ k. Some (shape.Row (length (q ∷ ps)) k)) (word_wide v first.word) ∙ ap (λ k. Some (shape.Row k (word_in v).width)) long;
-              limits = row_within (v ∷ vs) parts;
-            })
+        (record {
+          is = ap (λ k. Some (shape.Row (length (q ∷ ps)) k)) (word_wide v first.word) ∙ ap (λ k. Some (shape.Row k (word_in v).width)) long;
+          limits = row_within (v ∷ vs) parts;
+        })

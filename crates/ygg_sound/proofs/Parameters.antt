@@ -1,5 +1,5 @@
 -- Types without faults, and parameters with values.
-use Rattle.std.proofs.Common.{◌≡◌, ℕ, ◌<◌, ◌≤◌, ◌*◌, ◌^◌, Bool, true, false, cond, List, [], ◌∷◌, ◌++◌, map, Option, Some, None, refl, sym, ap, ◌∙◌, subst, arith, append_assoc}
+use Rattle.std.proofs.Common.{◌≡◌, ℕ, ◌*◌, true, false, cond, List, [], ◌∷◌, ◌++◌, Some, None, refl, sym, ap, ◌∙◌, subst, append_assoc}
 use Rattle.std.specs.Prelude.{◌&&◌, not, nat_le}
 use Rattle.std.proofs.lemmas.Bool.{leb-true, and_from}
 use Rattle.std.proofs.lemmas.List.{append-nil}
@@ -8,11 +8,10 @@ use Rattle.ygg_syntax.specs.declared.tree.TypeText.TheVariants as text
 use Rattle.ygg_syntax.specs.declared.tree.Declared.{Declared}
 use Rattle.ygg_value.specs.Shapes.{IsShape, Within}
 use Rattle.ygg_value.specs.declared.row.Value.{Value}
-use Rattle.ygg_value.specs.declared.shape.Shape.{Shape}
 use Rattle.ygg_value.specs.declared.shape.Shape.TheVariants as shape
-use Rattle.ygg_fault.specs.Faults.{Faults, nothing, both, none, unless}
+use Rattle.ygg_fault.specs.Faults.{none, unless}
 use Rattle.ygg_fault.specs.Limits.{width_fits, words_fit, rows_fit, words_fit_in}
-use Rattle.ygg_fault.specs.Shapes.{word_shape, row_shape, table_shape, shape_of}
+use Rattle.ygg_fault.specs.Shapes.{shape_of}
 use Rattle.ygg_fault.specs.Scopes.{Scope, is_taken}
 use Rattle.ygg_fault.specs.Definitions.{type_faults, with_parameter, with_parameters, parameters_faults, parameter_shapes}
 use Rattle.ygg_eval.specs.Environments.{bind}

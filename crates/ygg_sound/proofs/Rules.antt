@@ -1,6 +1,6 @@
 -- What the rule of each construct makes sure of, where it finds no fault.
-use Rattle.std.proofs.Common.{◌≡◌, ℕ, ◌<◌, ◌≤◌, ◌^◌, ◌⊎◌, inl, inr, Bool, true, false, cond, List, [], ◌∷◌, length, map, replicate, get_or, All, Option, Some, None, refl, sym, ap, ◌∙◌, subst, arith}
-use Rattle.std.specs.Prelude.{◌==◌, ◌&&◌, not, nat_le, nat_lt, slice_get}
+use Rattle.std.proofs.Common.{◌≡◌, ℕ, ◌<◌, ◌≤◌, ◌^◌, ◌⊎◌, inl, inr, Bool, true, false, cond, List, length, replicate, get_or, Option, Some, None, refl, sym, ap, ◌∙◌, subst}
+use Rattle.std.specs.Prelude.{◌==◌, ◌&&◌, not, nat_le}
 use Rattle.std.proofs.lemmas.Bool.{eqb-true, leb-true, ltb-true, cases_lt}
 use Rattle.std.proofs.lemmas.List.{length-replicate, get_or_past}
 use Rattle.std.proofs.lemmas.List.Elements.{All-get_or, All-replicate}
@@ -9,7 +9,7 @@ use Rattle.ygg_syntax.specs.declared.tree.Name.{Name}
 use Rattle.ygg_syntax.specs.declared.tree.Numeral.{Numeral}
 use Rattle.ygg_value.specs.declared.operation.Op.{Op}
 use Rattle.ygg_value.specs.declared.operation.Op.TheVariants.{Add, Sub, Mul, And, Or, Xor, Shl, Shr, Eq, Ne, Lt, Le, Gt, Ge, Imp}
-use Rattle.ygg_value.specs.Number.{Number, IsWord, Digits, IsRow, Grid, IsTable}
+use Rattle.ygg_value.specs.Number.{Digits, Grid, IsTable}
 use Rattle.ygg_value.specs.Words.{word, apply_to, result_width, CanApply, not_of, resized}
 use Rattle.ygg_value.specs.Values.{word_in, digit, apply_value, part_of, same_value, table_read}
 use Rattle.ygg_value.specs.Shapes.{IsValue, shape_of, Within}
@@ -21,15 +21,15 @@ use Rattle.ygg_value.proofs.Places.{table_read-get_or}
 use Rattle.ygg_value.proofs.Limits.{row_read-IsWord, table_read-IsRow}
 use Rattle.ygg_value.proofs.Results.{apply_to-IsWord, not_of-IsWord, resized-IsWord}
 use Rattle.ygg_fault.specs.declared.scope.Part.{Part}
-use Rattle.ygg_fault.specs.Faults.{Faults, nothing, one, both, none, fault, fault_at, unless}
+use Rattle.ygg_fault.specs.Faults.{Faults, both, none, fault_at, unless}
 use Rattle.ygg_fault.specs.Limits.{width_fits, value_fits, words_fit, bound_fits}
 use Rattle.ygg_fault.specs.Shapes.{is_word, width_of, part_shape}
 use Rattle.ygg_fault.specs.Comparisons.{wanted_fault, arithmetic_fault, shift_fault, implication_fault, operator_fault, operator_shape}
-use Rattle.ygg_fault.specs.Expressions.{Own, own, wanted, wanted_word, constant_rule, operator_rule, not_rule, index_rule, pick_rule, resize_rule, fill_rule, number_faults, quantified_rule}
+use Rattle.ygg_fault.specs.Expressions.{own, wanted, wanted_word, constant_rule, operator_rule, not_rule, index_rule, pick_rule, resize_rule, fill_rule, number_faults, quantified_rule}
 use Rattle.ygg_eval.specs.Meaning.{is_one, filled}
 use Rattle.ygg_sound.specs.Fitting.{HasShape}
 use Rattle.ygg_sound.proofs.Tests.{left, right, passed, turned, no_fault, wanted_is, width_within, words_within}
-use Rattle.ygg_sound.proofs.Fits.{digit_has, word_is, word_within, word_shaped, word_wide}
+use Rattle.ygg_sound.proofs.Fits.{digit_has, word_within, word_shaped, word_wide}
 
 -- a part at a place with a shape
 abbrev pub part : Place → Option Shape → Part
@@ -64,7 +64,7 @@ pub constant_sound : (v w : Numeral) → none (constant_rule v w).faults ≡ tru
 constant_sound v w h =
     let parts = constant_parts v w h in
     owned (both (unless (value_fits v.value w.value) 6 v.place) (unless (width_fits w.value) 6 w.place)) (Some (shape.Word w.value)) (value.Word (word w.value v.value)) h
-        (record { is = refl; limits = record { least = parts.least; most = parts.most; fits = parts.below } })
+    (record { is = refl; limits = record { least = parts.least; most = parts.most; fits = parts.below } })
 
 -- operators
 
@@ -185,7 +185,7 @@ pub not_sound : (a : Part) (v : Value) → HasShape a.shape v → none (not_rule
 not_sound a v x h =
     let w = word_faultless a v x h in
     owned (wanted_word a) a.shape (value.Word (not_of (word_in v))) h
-        (record { is = x.is ∙ ap (λ s. Some s) (word_shaped v w); limits = not_of-IsWord (word_in v) (word_within v w x.limits) })
+    (record { is = x.is ∙ ap (λ s. Some s) (word_shaped v w); limits = not_of-IsWord (word_in v) (word_within v w x.limits) })
 
 -- `e[i]`: a part of a row or a table, at a word
 pub record IndexParts (v i : Value) : Type 0 where
@@ -221,7 +221,7 @@ index_sound bracket a i v w x y h =
     with_shape (λ p. none (index_rule p.shape bracket i).faults ≡ true → HasShape (index_rule p.shape bracket i).shape (part_of v (word_in w).bits)) a (shape_of v) x.is
     (with_shape (λ p. none (index_rule (Some (shape_of v)) bracket p).faults ≡ true → HasShape (index_rule (Some (shape_of v)) bracket p).shape (part_of v (word_in w).bits)) i (shape_of w) y.is
     (λ f. owned (both (unless (not (is_word (shape_of v))) 7 bracket) (unless (is_word (shape_of w)) 7 i.place)) (Some (part_shape (shape_of v))) (part_of v (word_in w).bits) f
-        (part_has v (word_in w).bits x.limits parts.parted))) h
+    (part_has v (word_in w).bits x.limits parts.parted))) h
 
 -- a value where a shape is wanted has it
 pub wanted_has : (p : Part) (v : Value) (s : Shape) → HasShape p.shape v → none (wanted p (Some s)) ≡ true → shape_of v ≡ s
@@ -239,12 +239,12 @@ pick_parts c a b t x y p q r =
     (with_shape (λ a. none (pick_rule (part c.place (Some (shape_of t))) a b).faults ≡ true → PickParts t x y) a (shape_of x) q.is
     (with_shape (λ b. none (pick_rule (part c.place (Some (shape_of t))) (part a.place (Some (shape_of x))) b).faults ≡ true → PickParts t x y) b (shape_of y) r.is
     (λ h.
-      let first = fault_at c.place (wanted_fault (shape_of t) (shape.Word 1)) in
-      let second = fault_at b.place (wanted_fault (shape_of y) (shape_of x)) in
-      record {
-        test = wanted_is (shape_of t) (shape.Word 1) (no_fault c.place (wanted_fault (shape_of t) (shape.Word 1)) (left (none first) (none second) h));
-        alike = wanted_is (shape_of y) (shape_of x) (no_fault b.place (wanted_fault (shape_of y) (shape_of x)) (right (none first) (none second) h));
-      })))
+    let first = fault_at c.place (wanted_fault (shape_of t) (shape.Word 1)) in
+    let second = fault_at b.place (wanted_fault (shape_of y) (shape_of x)) in
+    record {
+      test = wanted_is (shape_of t) (shape.Word 1) (no_fault c.place (wanted_fault (shape_of t) (shape.Word 1)) (left (none first) (none second) h));
+      alike = wanted_is (shape_of y) (shape_of x) (no_fault b.place (wanted_fault (shape_of y) (shape_of x)) (right (none first) (none second) h));
+    })))
 
 pub pick_sound : (c a b : Part) (t x y : Value) → HasShape c.shape t → HasShape a.shape x → HasShape b.shape y → none (pick_rule c a b).faults ≡ true → HasShape (pick_rule c a b).shape (cond (is_one t) x y)
 pick_sound c a b t x y p q r h =
@@ -252,9 +252,9 @@ pick_sound c a b t x y p q r h =
     with_shape (λ c. none (pick_rule c a b).faults ≡ true → HasShape (pick_rule c a b).shape (cond (is_one t) x y)) c (shape_of t) p.is
     (with_shape (λ a. none (pick_rule (part c.place (Some (shape_of t))) a b).faults ≡ true → HasShape (pick_rule (part c.place (Some (shape_of t))) a b).shape (cond (is_one t) x y)) a (shape_of x) q.is
     (with_shape (λ b. none (pick_rule (part c.place (Some (shape_of t))) (part a.place (Some (shape_of x))) b).faults ≡ true
-        → HasShape (pick_rule (part c.place (Some (shape_of t))) (part a.place (Some (shape_of x))) b).shape (cond (is_one t) x y)) b (shape_of y) r.is
+    → HasShape (pick_rule (part c.place (Some (shape_of t))) (part a.place (Some (shape_of x))) b).shape (cond (is_one t) x y)) b (shape_of y) r.is
     (λ f. owned (both (fault_at c.place (wanted_fault (shape_of t) (shape.Word 1))) (fault_at b.place (wanted_fault (shape_of y) (shape_of x)))) (Some (shape_of x)) (cond (is_one t) x y) f
-        (chosen (is_one t) parts.alike)))) h
+    (chosen (is_one t) parts.alike)))) h
   where
     chosen : (g : Bool) → shape_of y ≡ shape_of x → HasShape (Some (shape_of x)) (cond g x y)
     chosen true e = record { is = refl; limits = q.limits }
@@ -278,7 +278,7 @@ resize_sound a w v x h =
     let parts = resize_parts a w v x h in
     with_shape (λ a. none (resize_rule a w).faults ≡ true → HasShape (resize_rule a w).shape (value.Word (resized (word_in v) w.value))) a (shape_of v) x.is
     (λ f. owned (both (unless (is_word (shape_of v)) 7 a.place) (unless (width_fits w.value) 6 w.place)) (Some (shape.Word w.value)) (value.Word (resized (word_in v) w.value)) f
-        (record { is = refl; limits = resized-IsWord (word_in v) w.value parts.width.0 parts.width.1 })) h
+    (record { is = refl; limits = resized-IsWord (word_in v) w.value parts.width.0 parts.width.1 })) h
 
 -- `fill`: a count of words within its limits, and a word
 pub record FillParts (m : Numeral) (v : Value) : Type 0 where
@@ -313,7 +313,7 @@ fill_sound m a v x h =
     let parts = fill_parts m a v x h in
     with_shape (λ a. none (fill_rule m a).faults ≡ true → HasShape (fill_rule m a).shape (value.Row (filled m.value v))) a (shape_of v) x.is
     (λ f. owned (both (unless (words_fit m.value) 8 m.place) (unless (is_word (shape_of v)) 7 a.place)) (Some (shape.Row m.value (width_of (shape_of v)))) (value.Row (filled m.value v)) f
-        (filled_has m.value v parts.count parts.word x.limits)) h
+    (filled_has m.value v parts.count parts.word x.limits)) h
 
 -- the number of a loop or a quantifier: a new name, a width within its limits, and a bound
 pub record NumberParts (taken : Bool) (w n : Numeral) : Type 0 where

@@ -1,24 +1,19 @@
 -- Expressions without faults have values of their shapes.
-use Rattle.std.proofs.Common.{◌≡◌, ℕ, ◌<◌, ◌≤◌, ◌^◌, Bool, true, false, cond, List, [], ◌∷◌, map, Option, Some, None, refl, sym, ap, ◌∙◌, subst, arith}
+use Rattle.std.proofs.Common.{◌≡◌, ℕ, true, List, [], ◌∷◌, map, Option, Some, None, refl, sym, subst}
 use Rattle.std.specs.Prelude.{◌&&◌}
 use Rattle.std.proofs.lemmas.Nat.{pow_pos}
-use Rattle.ygg_syntax.specs.declared.tree.Place.{Place}
 use Rattle.ygg_syntax.specs.declared.tree.Name.{Name}
-use Rattle.ygg_syntax.specs.declared.tree.Numeral.{Numeral}
-use Rattle.ygg_syntax.specs.declared.tree.Quantifier.{Quantifier}
 use Rattle.ygg_syntax.specs.declared.tree.Expr.{Expr, roll-Expr, map-Expr}
 use Rattle.ygg_syntax.specs.declared.tree.Expr.TheOpen.{Expr-F}
-use Rattle.ygg_syntax.specs.declared.tree.Expr.TheFolds.{fold-Expr, ind-Expr, fold-roll-Expr}
-use Rattle.ygg_value.specs.Values.{word_in}
+use Rattle.ygg_syntax.specs.declared.tree.Expr.TheFolds.{ind-Expr, fold-roll-Expr}
 use Rattle.ygg_value.specs.declared.row.Value.{Value}
 use Rattle.ygg_value.specs.declared.shape.Shape.{Shape}
 use Rattle.ygg_value.specs.declared.shape.Shape.TheVariants.{Word}
 use Rattle.ygg_names.specs.Names.{look_up}
-use Rattle.ygg_fault.specs.declared.scope.Part.{Part}
 use Rattle.ygg_fault.specs.declared.scope.Local.{Local}
 use Rattle.ygg_fault.specs.Faults.{Faults, nothing, both, none}
 use Rattle.ygg_fault.specs.Scopes.{Scope, name_in, low_in, is_taken}
-use Rattle.ygg_fault.specs.Expressions.{Typing, faults_in, parts_of, all_in, wanted, node_typing, typing, with_number, name_rule, low_rule, apply_rule, operator_rule, not_rule, index_rule, pick_rule, resize_rule, fill_rule, row_rule, number_faults, quantified_rule, constant_rule}
+use Rattle.ygg_fault.specs.Expressions.{Typing, faults_in, parts_of, all_in, wanted, node_typing, typing, with_number, name_rule, low_rule, apply_rule, operator_rule, not_rule, index_rule, pick_rule, resize_rule, fill_rule, row_rule, number_faults, quantified_rule}
 use Rattle.ygg_eval.specs.Environments as names
 use Rattle.ygg_eval.specs.Meaning.{Functions, node_value, value_with, is_one, quantified}
 use Rattle.ygg_eval.specs.Meaning as meaning
@@ -103,59 +98,77 @@ sound_node : (functions : Functions) (y : Expr-F (Shown functions))
 sound_node functions (Expr-F.Constant v w) = record { gives = λ scope env agrees h. constant_sound v w h }
 sound_node functions (Expr-F.Low at x) = record { gives = λ scope env agrees h. held_has x.text (low_rule x (low_in x.text scope)).shape env.low (low_held functions scope env x agrees h) }
 sound_node functions (Expr-F.Variable x) = record { gives = λ scope env agrees h. held_has x.text (name_rule x (name_in x.text scope)).shape env.own (variable_held functions scope env x agrees h) }
-sound_node functions (Expr-F.Apply f es) = record { gives = λ scope env agrees h.
-    let ps = parts_of (typings_in functions scope es) in
-    let parts = none (faults_in (typings_in functions scope es)) in
-    let rule = none (apply_rule f (look_up f.text scope.defs) ps).faults in
-    apply_sound functions scope.defs f ps (values_in functions env es) (agrees.defs f.text) (all_have functions scope env agrees es (left parts rule h)) (right parts rule h) }
-sound_node functions (Expr-F.Binary first a op at b) = record { gives = λ scope env agrees h.
-    let x = typing a.0 scope in
-    let y = typing b.0 scope in
-    let n = two_none x.faults y.faults (operator_rule op at x.part y.part).faults h in
-    operator_sound op at x.part y.part (value_with functions a.0 env) (value_with functions b.0 env) (a.1.gives scope env agrees n.0) (b.1.gives scope env agrees n.1) n.2 }
-sound_node functions (Expr-F.Not first a) = record { gives = λ scope env agrees h.
-    let x = typing a.0 scope in
-    let n = one_none x.faults (not_rule x.part).faults h in
-    not_sound x.part (value_with functions a.0 env) (a.1.gives scope env agrees n.0) n.1 }
-sound_node functions (Expr-F.At a bracket i) = record { gives = λ scope env agrees h.
-    let x = typing a.0 scope in
-    let y = typing i.0 scope in
-    let n = two_none x.faults y.faults (index_rule x.part.shape bracket y.part).faults h in
-    index_sound bracket x.part y.part (value_with functions a.0 env) (value_with functions i.0 env) (a.1.gives scope env agrees n.0) (i.1.gives scope env agrees n.1) n.2 }
-sound_node functions (Expr-F.Pick first c a b) = record { gives = λ scope env agrees h.
-    let t = typing c.0 scope in
-    let x = typing a.0 scope in
-    let y = typing b.0 scope in
-    let n = three_none t.faults x.faults y.faults (pick_rule t.part x.part y.part).faults h in
-    pick_sound t.part x.part y.part (value_with functions c.0 env) (value_with functions a.0 env) (value_with functions b.0 env)
-        (c.1.gives scope env agrees n.0) (a.1.gives scope env agrees n.1) (b.1.gives scope env agrees n.2) n.3 }
-sound_node functions (Expr-F.Resize first a w) = record { gives = λ scope env agrees h.
-    let x = typing a.0 scope in
-    let n = one_none x.faults (resize_rule x.part w).faults h in
-    resize_sound x.part w (value_with functions a.0 env) (a.1.gives scope env agrees n.0) n.1 }
-sound_node functions (Expr-F.Fill first m a) = record { gives = λ scope env agrees h.
-    let x = typing a.0 scope in
-    let n = one_none x.faults (fill_rule m x.part).faults h in
-    fill_sound m x.part (value_with functions a.0 env) (a.1.gives scope env agrees n.0) n.1 }
-sound_node functions (Expr-F.Row first es) = record { gives = λ scope env agrees h.
-    let ps = parts_of (typings_in functions scope es) in
-    let parts = none (faults_in (typings_in functions scope es)) in
-    let rule = none (row_rule first ps).faults in
-    row_sound first ps (values_in functions env es) (all_have functions scope env agrees es (left parts rule h)) (right parts rule h) }
-sound_node functions (Expr-F.Quantified first which x w n e) = record { gives = λ scope env agrees h.
-    let inner = with_number x w scope in
-    let t = typing e.0 inner in
-    let number = number_faults x (is_taken x.text scope) w n in
-    let m = one_none t.faults (quantified_rule number t.part).faults h in
-    let parts = number_parts x (is_taken x.text scope) w n (left (none number) (none (wanted t.part (Some (Word 1)))) m.1) in
-    let env' = meaning.with_number env x.text w.value 0 in
-    let agrees' = agrees_with_number functions scope env x w 0 agrees parts.free parts.fits (pow_pos w.value) in
-    quantified_sound number t.part (value_with functions e.0 env') (quantified which n.value (λ i. is_one (value_with functions e.0 (meaning.with_number env x.text w.value i)))) (e.1.gives inner env' agrees' m.0) m.1 }
+sound_node functions (Expr-F.Apply f es) = record {
+  gives = λ scope env agrees h.
+      let ps = parts_of (typings_in functions scope es) in
+      let parts = none (faults_in (typings_in functions scope es)) in
+      let rule = none (apply_rule f (look_up f.text scope.defs) ps).faults in
+      apply_sound functions scope.defs f ps (values_in functions env es) (agrees.defs f.text) (all_have functions scope env agrees es (left parts rule h)) (right parts rule h);
+}
+sound_node functions (Expr-F.Binary first a op at b) = record {
+  gives = λ scope env agrees h.
+      let x = typing a.0 scope in
+      let y = typing b.0 scope in
+      let n = two_none x.faults y.faults (operator_rule op at x.part y.part).faults h in
+      operator_sound op at x.part y.part (value_with functions a.0 env) (value_with functions b.0 env) (a.1.gives scope env agrees n.0) (b.1.gives scope env agrees n.1) n.2;
+}
+sound_node functions (Expr-F.Not first a) = record {
+  gives = λ scope env agrees h.
+      let x = typing a.0 scope in
+      let n = one_none x.faults (not_rule x.part).faults h in
+      not_sound x.part (value_with functions a.0 env) (a.1.gives scope env agrees n.0) n.1;
+}
+sound_node functions (Expr-F.At a bracket i) = record {
+  gives = λ scope env agrees h.
+      let x = typing a.0 scope in
+      let y = typing i.0 scope in
+      let n = two_none x.faults y.faults (index_rule x.part.shape bracket y.part).faults h in
+      index_sound bracket x.part y.part (value_with functions a.0 env) (value_with functions i.0 env) (a.1.gives scope env agrees n.0) (i.1.gives scope env agrees n.1) n.2;
+}
+sound_node functions (Expr-F.Pick first c a b) = record {
+  gives = λ scope env agrees h.
+      let t = typing c.0 scope in
+      let x = typing a.0 scope in
+      let y = typing b.0 scope in
+      let n = three_none t.faults x.faults y.faults (pick_rule t.part x.part y.part).faults h in
+      pick_sound t.part x.part y.part (value_with functions c.0 env) (value_with functions a.0 env) (value_with functions b.0 env)
+      (c.1.gives scope env agrees n.0) (a.1.gives scope env agrees n.1) (b.1.gives scope env agrees n.2) n.3;
+}
+sound_node functions (Expr-F.Resize first a w) = record {
+  gives = λ scope env agrees h.
+      let x = typing a.0 scope in
+      let n = one_none x.faults (resize_rule x.part w).faults h in
+      resize_sound x.part w (value_with functions a.0 env) (a.1.gives scope env agrees n.0) n.1;
+}
+sound_node functions (Expr-F.Fill first m a) = record {
+  gives = λ scope env agrees h.
+      let x = typing a.0 scope in
+      let n = one_none x.faults (fill_rule m x.part).faults h in
+      fill_sound m x.part (value_with functions a.0 env) (a.1.gives scope env agrees n.0) n.1;
+}
+sound_node functions (Expr-F.Row first es) = record {
+  gives = λ scope env agrees h.
+      let ps = parts_of (typings_in functions scope es) in
+      let parts = none (faults_in (typings_in functions scope es)) in
+      let rule = none (row_rule first ps).faults in
+      row_sound first ps (values_in functions env es) (all_have functions scope env agrees es (left parts rule h)) (right parts rule h);
+}
+sound_node functions (Expr-F.Quantified first which x w n e) = record {
+  gives = λ scope env agrees h.
+      let inner = with_number x w scope in
+      let t = typing e.0 inner in
+      let number = number_faults x (is_taken x.text scope) w n in
+      let m = one_none t.faults (quantified_rule number t.part).faults h in
+      let parts = number_parts x (is_taken x.text scope) w n (left (none number) (none (wanted t.part (Some (Word 1)))) m.1) in
+      let env' = meaning.with_number env x.text w.value 0 in
+      let agrees' = agrees_with_number functions scope env x w 0 agrees parts.free parts.fits (pow_pos w.value) in
+      quantified_sound number t.part (value_with functions e.0 env') (quantified which n.value (λ i. is_one (value_with functions e.0 (meaning.with_number env x.text w.value i)))) (e.1.gives inner env' agrees' m.0) m.1;
+}
 
 -- each expression is sound
 pub sound : (functions : Functions) (e : Expr) → Sound functions (typing e) (value_with functions e)
 sound functions = ind-Expr (λ e. Sound functions (typing e) (value_with functions e))
-  (λ x y is.
+    (λ x y is.
     subst (λ t. Sound functions t (value_with functions (roll-Expr x))) (sym (fold-roll-Expr Judge node_typing x))
     (subst (λ v. Sound functions (node_typing (map-Expr Expr Judge typing x)) v) (sym (fold-roll-Expr Means (node_value functions) x))
     (subst (λ z. Sound functions (node_typing (map-Expr Expr Judge typing z)) (node_value functions (map-Expr Expr Means (value_with functions) z))) is (sound_node functions y))))

@@ -1,11 +1,10 @@
 -- A scope and values that go together still do with one more name.
-use Rattle.std.proofs.Common.{◌≡◌, ℕ, ◌<◌, ◌≤◌, ◌^◌, Bool, true, false, cond, List, [], ◌∷◌, ◌++◌, Option, Some, None, is_some, refl, sym, ap, ◌∙◌, subst, arith}
-use Rattle.std.specs.Prelude.{◌||◌, if◌then◌else◌}
+use Rattle.std.proofs.Common.{◌≡◌, ℕ, ◌<◌, ◌^◌, Bool, true, false, cond, List, [], ◌∷◌, ◌++◌, Option, Some, None, is_some, refl, sym, ap, ◌∙◌, subst}
+use Rattle.std.specs.Prelude.{◌||◌}
 use Rattle.std.specs.Str.{bytes_eq}
 use Rattle.std.proofs.lemmas.Bool.{or_parts}
 use Rattle.ygg_syntax.specs.declared.tree.Name.{Name}
 use Rattle.ygg_syntax.specs.declared.tree.Numeral.{Numeral}
-use Rattle.ygg_value.specs.Number.{IsWord}
 use Rattle.ygg_value.specs.Words.{word}
 use Rattle.ygg_value.specs.declared.row.Value.{Value}
 use Rattle.ygg_value.specs.declared.row.Value.TheVariants as value
@@ -15,7 +14,7 @@ use Rattle.ygg_names.specs.Names.{Named, look_up, has, added}
 use Rattle.ygg_fault.specs.declared.scope.Local.{Local}
 use Rattle.ygg_fault.specs.Limits.{width_fits}
 use Rattle.ygg_fault.specs.Shapes.{word_shape}
-use Rattle.ygg_fault.specs.Scopes.{Scope, name_in, low_in, is_taken, with_local, seen_variable}
+use Rattle.ygg_fault.specs.Scopes.{Scope, name_in, is_taken, with_local, seen_variable}
 use Rattle.ygg_fault.specs.Expressions.{with_number}
 use Rattle.ygg_eval.specs.Environments.{Env}
 use Rattle.ygg_eval.specs.Meaning.{Functions}
@@ -23,7 +22,7 @@ use Rattle.ygg_eval.specs.Meaning as meaning
 use Rattle.ygg_sound.specs.Fitting.{IsHeld, HasShape}
 use Rattle.ygg_sound.specs.Agrees.{Agrees}
 use Rattle.ygg_sound.proofs.Tests.{bytes_same, bytes_equal, width_within}
-use Rattle.ygg_sound.proofs.Names.{or_else, look_up_append, still_found, new_found, absent, added_new}
+use Rattle.ygg_sound.proofs.Names.{or_else, look_up_append, still_found, absent, added_new}
 
 -- with one more local name at the end
 abbrev pub grown : List ℕ → Local → Scope → Scope

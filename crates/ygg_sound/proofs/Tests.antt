@@ -1,16 +1,16 @@
 -- What tests and faults say.
-use Rattle.std.proofs.Common.{◌≡◌, ℕ, ◌<◌, ◌≤◌, ◌^◌, Bool, true, false, cond, List, Option, Some, None, refl, sym, ap, ◌∙◌}
-use Rattle.std.specs.Prelude.{◌==◌, ◌&&◌, not, nat_le, nat_lt}
+use Rattle.std.proofs.Common.{◌≡◌, ℕ, Bool, true, false, cond, List, Option, Some, None, refl, ap}
+use Rattle.std.specs.Prelude.{◌==◌, ◌&&◌, not, nat_le}
 use Rattle.std.specs.Str.{bytes_eq}
-use Rattle.std.proofs.lemmas.Bool.{eqb-true, leb-true, ltb-true, and_parts}
+use Rattle.std.proofs.lemmas.Bool.{eqb-true, leb-true, and_parts}
 use Rattle.std.proofs.lemmas.Slice.Eq.{bytes_eq-Decides}
 use Rattle.ygg_syntax.specs.declared.tree.Place.{Place}
 use Rattle.ygg_value.specs.declared.shape.Shape.{Shape}
 use Rattle.ygg_value.specs.declared.shape.Shape.TheVariants as shape
 use Rattle.ygg_value.specs.Shapes.{Within}
-use Rattle.ygg_fault.specs.Faults.{Faults, none, unless, fault_at, nothing, one, both}
+use Rattle.ygg_fault.specs.Faults.{none, unless, fault_at}
 use Rattle.ygg_fault.specs.Limits.{width_fits, words_fit}
-use Rattle.ygg_fault.specs.Shapes.{is_word, width_of, same_shape}
+use Rattle.ygg_fault.specs.Shapes.{is_word, same_shape}
 use Rattle.ygg_fault.specs.Comparisons.{wanted_fault}
 
 pub left : (a b : Bool) → (a && b) ≡ true → a ≡ true
