@@ -23,7 +23,7 @@ use Rattle.ygg_eval.specs.Runs.{Dialogue, WholeCall, Reaches}
 use Rattle.ygg_eval.specs.DiskMachine.{disk_call, answer_to, DiskModel, model_of, machine_of, DiskMachine}
 use Rattle.ygg_machine.specs.Under.{Failure, InCall, InTick, Between, FailsBy}
 use Rattle.ygg_sound.proofs.Tests.{left as first_of, right as second_of, passed, width_within, words_within, bytes_same, bytes_equal}
-use Rattle.ygg_answered.specs.Machines.{CanCall}
+use Rattle.ygg_answered.specs.Machines.{CanCall, CanFall, CanLose}
 
 -- the rows of a disk without faults have a shape
 pub record RowIs (d : DiskText) : Type 0 where
@@ -105,6 +105,20 @@ makes Async from (disk.Read at) = record { picks = []; reply = Some (table_read 
 makes Async from (disk.Write at row) = record { picks = true ∷ []; reply = None; to = disk.written true from at row; makes = (true, refl, refl, refl) }
 makes Async from disk.Flush = record { picks = []; reply = None; to = record { view = from.view; stable = from.view }; makes = (refl, refl, refl) }
 
+-- power can cut each call
+pub record Cuts (K : DiskModel) (from : K.Disk) (call : disk.Call) : Type 0 where
+  pub picks : Picks
+  pub to : K.Disk
+  pub cuts : K.Falls from call picks to
+
+pub cuts : (kind : DiskKind) (from : (model_of kind).Disk) (call : disk.Call) → Cuts (model_of kind) from call
+cuts Sync from (disk.Read at) = record { picks = []; to = from; cuts = (refl, refl) }
+cuts Sync from (disk.Write at row) = record { picks = true ∷ []; to = table_write from at row; cuts = (true, refl, refl) }
+cuts Sync from disk.Flush = record { picks = []; to = from; cuts = (refl, refl) }
+cuts Async from (disk.Read at) = record { picks = []; to = disk.lost from; cuts = (refl, refl) }
+cuts Async from (disk.Write at row) = record { picks = true ∷ []; to = disk.lost (disk.written true from at row); cuts = (true, refl, refl) }
+cuts Async from disk.Flush = record { picks = []; to = disk.lost from; cuts = (refl, refl) }
+
 -- a state of a kind of disk
 pub record Shows (K : DiskModel) (s : State) : Type 0 where
   pub disk : K.Disk
@@ -132,3 +146,13 @@ disk_answers d s name args shows c =
       to = based ((model_of d.kind).shown m.to);
       call = (shows.disk, m.to, c.call, m.reply, c.is, shows.is, m.makes, refl, refl);
     }
+
+-- and power can cut each of them
+pub disk_cuts : (d : DiskText) (s : State) (name : Name) (args : List Value) → Shows (model_of d.kind) s → IsDiskCall name args → CanFall (DiskMachine d) s name args
+disk_cuts d s name args shows c =
+    let m = cuts d.kind shows.disk c.call in
+    record { picks = m.picks; fallen = (model_of d.kind).shown m.to; falls = (shows.disk, m.to, c.call, c.is, shows.is, m.cuts, refl) }
+
+-- or be lost between them
+pub disk_loses : (d : DiskText) (s : State) → Shows (model_of d.kind) s → CanLose (DiskMachine d) s
+disk_loses d s shows = record { picks = []; fallen = (model_of d.kind).shown ((model_of d.kind).lost shows.disk); loses = (shows.disk, refl, shows.is, refl) }

@@ -25,9 +25,9 @@ use Rattle.ygg_machine.specs.Stack.{tables_of_kind, tables_of}
 use Rattle.ygg_sound.specs.Fitting.{fits_wanted, all_fit}
 use Rattle.ygg_sound.proofs.Tests.{left as first_of, right as second_of, bytes_same, bytes_equal}
 use Rattle.ygg_answered.specs.Questions.{gives}
-use Rattle.ygg_answered.specs.Machines.{CanCall, IsSized, DiskAnswers}
+use Rattle.ygg_answered.specs.Machines.{CanCall, CanFall, CanLose, IsSized, DiskAnswers}
 use Rattle.ygg_answered.proofs.Fits.{IsTableOf, table_parts, table_whole, row_bits, row_read_fits, row_written}
-use Rattle.ygg_answered.proofs.Disks.{rest_of, disk_row_is, is_call, disk_answers}
+use Rattle.ygg_answered.proofs.Disks.{rest_of, disk_row_is, is_call, disk_answers, disk_cuts, disk_loses}
 
 -- a table of the disk's size
 abbrev pub Sized : DiskText → Grid → Type 0
@@ -248,12 +248,22 @@ module _ (d : DiskText) (fine : none (disk_faults d) ≡ true) where
   is_sized s t sized is = record { tables = (model_of d.kind).shown t; is = is; sized = shown_sized d d.kind t sized }
 
   pub disk_answers_all : DiskAnswers d
-  disk_answers_all = record { calls = calls; gives = fit; keeps = kept; falls = cut; loses = lost }
+  disk_answers_all = record { calls = calls; cuts = cuts; can_lose = can_lose; gives = fit; keeps = kept; falls = cut; loses = lost }
     where
       calls : (s : State) (name : Name) (args : List Value) (o : Signature) → IsSized d s → look_up name (disk_operations d) ≡ Some o → all_fit o.arguments args ≡ true → CanCall (DiskMachine d) s name args
       calls s name args o sized found f =
           let shown = shows_sized d d.kind sized.tables sized.sized in
           disk_answers d s name args (record { disk = shown.disk; is = sized.is ∙ ap based shown.is }) (is_call d name args o found (all_counted o.arguments args f))
+
+      cuts : (s : State) (name : Name) (args : List Value) (o : Signature) → IsSized d s → look_up name (disk_operations d) ≡ Some o → all_fit o.arguments args ≡ true → CanFall (DiskMachine d) s name args
+      cuts s name args o sized found f =
+          let shown = shows_sized d d.kind sized.tables sized.sized in
+          disk_cuts d s name args (record { disk = shown.disk; is = sized.is ∙ ap based shown.is }) (is_call d name args o found (all_counted o.arguments args f))
+
+      can_lose : (s : State) → IsSized d s → CanLose (DiskMachine d) s
+      can_lose s sized =
+          let shown = shows_sized d d.kind sized.tables sized.sized in
+          disk_loses d s (record { disk = shown.disk; is = sized.is ∙ ap based shown.is })
 
       whole : (call : disk.Call) (o : Signature) (name : Name) (args : List Value) → look_up name (disk_operations d) ≡ Some o → all_fit o.arguments args ≡ true → disk_call name args ≡ Some call → Whole d d.kind call o
       whole call o name args found f e = by_call d fine (Whole d d.kind) (whole_read d.kind) (whole_write d.kind) (whole_flush d.kind) name args call o found f e

@@ -29,6 +29,8 @@ pub record IsTypedLayer (functions : Functions) (defs : Named Signature) (below 
 -- its parts
 pub record Parts (defs : Named Signature) (below : Below) (weights : Weights) (l : Layer) : Type 0 where
   pub variables : LayerVariables l
+  pub start : none (block_faults l.start None (seen_as Specification (layer_scope defs below l))) ≡ true
+  pub start_kept : keeps Plain l.start ≡ true
   pub crash : none (block_faults l.crash None (seen_as Specification (layer_scope defs below l))) ≡ true
   pub crash_kept : keeps Spec l.crash ≡ true
   pub recover : none (block_faults l.recover None (seen_as Implementation (layer_scope defs below l))) ≡ true
@@ -55,6 +57,10 @@ parts functions defs below weights l is =
     let m = first_of (keeps Plain l.start && keeps Impl l.format && list_all operation_keeps l.operations && keeps Spec l.crash) (list_all tick_keeps l.ticks) k in
     record {
       variables = layer_variables l (first_of declared (blocks && (operations && later)) is.typed);
+      start = first_of (none (block_faults l.start None (seen_as Specification scope))) _ (first_of start (format && (crash && (picks && recover))) b);
+      start_kept = first_of (keeps Plain l.start) (keeps Impl l.format)
+          (first_of (keeps Plain l.start && keeps Impl l.format) (list_all operation_keeps l.operations)
+          (first_of (keeps Plain l.start && keeps Impl l.format && list_all operation_keeps l.operations) (keeps Spec l.crash) m));
       crash = first_of (none (block_faults l.crash None (seen_as Specification scope))) _ (first_of crash (picks && recover) c);
       crash_kept = second_of (keeps Plain l.start && keeps Impl l.format && list_all operation_keeps l.operations) (keeps Spec l.crash) m;
       recover = first_of (none (block_faults l.recover None (seen_as Implementation scope))) _ (second_of picks recover (second_of crash (picks && recover) c));

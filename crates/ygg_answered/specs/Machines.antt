@@ -26,18 +26,44 @@ pub record CanCall (M : Machine) (s : State) (name : Name) (args : List Value) :
   pub to : State
   pub call : M.Calls s name args picks answer to
 
+-- an operation of a machine that power cuts
+pub record CanFall (M : Machine) (s : State) (name : Name) (args : List Value) : Type 0 where
+  pub picks : Picks
+  pub fallen : Fallen
+  pub falls : M.Falls s name args picks fallen
+
+-- power loss between operations
+pub record CanLose (M : Machine) (s : State) : Type 0 where
+  pub picks : Picks
+  pub fallen : Fallen
+  pub loses : M.Loses s picks fallen
+
 -- variables of the declared shapes
 pub record IsStateOf (L : ClosedLayer) (s : State) : Type 0 where
   pub vars : Env
   pub is : s ≡ based vars
   pub shaped : IsTrue (env_fits L.layer.state vars)
 
+-- a start state, with variables of the declared shapes
+pub record CanStart (L : ClosedLayer) : Type 0 where
+  pub state : State
+  pub picks : Picks
+  pub starts : (Spec L).Starts state picks
+  pub shaped : IsStateOf L state
+
 -- A specification answers whatever it is asked from variables of the declared shapes, and what it does keeps them so.
 pub record SpecAnswers (L : ClosedLayer) : Type 0 where
+  -- it has a start state
+  pub starts : CanStart L
   -- each operation can be called with arguments that fit
   pub calls : (s : State) (name : Name) (args : List Value) (o : Operation) →
       IsStateOf L s → operation_of L name ≡ Some o → IsTrue (values_fit o.arguments args) → CanCall (Spec L) s name args
-  -- its answer fits
+  -- power can cut it
+  pub cuts : (s : State) (name : Name) (args : List Value) (o : Operation) →
+      IsStateOf L s → operation_of L name ≡ Some o → IsTrue (values_fit o.arguments args) → CanFall (Spec L) s name args
+  -- power can be lost between operations
+  pub can_lose : (s : State) → IsStateOf L s → CanLose (Spec L) s
+  -- the answer of an operation fits
   pub gives : (s to : State) (name : Name) (args : List Value) (picks : Picks) (answer : Answer) (o : Operation) →
       (Spec L).Calls s name args picks answer to → operation_of L name ≡ Some o → IsTrue (gives (operation_signature o) answer)
   -- the variables keep their shapes
@@ -56,6 +82,11 @@ pub record DiskAnswers (d : DiskText) : Type 0 where
   -- each operation can be called with arguments that fit
   pub calls : (s : State) (name : Name) (args : List Value) (o : Signature) →
       IsSized d s → look_up name (disk_operations d) ≡ Some o → IsTrue (all_fit o.arguments args) → CanCall (DiskMachine d) s name args
+  -- power can cut it
+  pub cuts : (s : State) (name : Name) (args : List Value) (o : Signature) →
+      IsSized d s → look_up name (disk_operations d) ≡ Some o → IsTrue (all_fit o.arguments args) → CanFall (DiskMachine d) s name args
+  -- power can be lost between operations
+  pub can_lose : (s : State) → IsSized d s → CanLose (DiskMachine d) s
   -- its answer fits
   pub gives : (s to : State) (name : Name) (args : List Value) (picks : Picks) (answer : Answer) (o : Signature) →
       IsSized d s → look_up name (disk_operations d) ≡ Some o → IsTrue (all_fit o.arguments args) →
