@@ -1,0 +1,4 @@
+//! The evaluator of expressions.
+#![tactic(auto)]
+
+mod made;

@@ -1,0 +1,10 @@
+pub mod Tests
+pub mod Fits
+pub mod Rules
+pub mod Lists
+pub mod Names
+pub mod Steps
+pub mod Sounds
+pub mod Parts
+pub mod Parameters
+pub mod Definitions

@@ -1,0 +1,3 @@
+pub mod Fitting
+pub mod Agrees
+pub mod Laws
