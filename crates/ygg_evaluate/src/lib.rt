@@ -2,3 +2,8 @@
 #![tactic(auto)]
 
 mod made;
+mod evaluator;
+mod held;
+
+pub use evaluator::Evaluator;
+pub use held::{Binding, Held};
