@@ -1,9 +1,0 @@
-//! The evaluator of expressions.
-#![tactic(auto)]
-
-mod made;
-mod evaluator;
-mod held;
-
-pub use evaluator::Evaluator;
-pub use held::{Binding, Held};
