@@ -6,7 +6,6 @@
 //! How many clauses there are, how many were learned, and how long each step took in nanoseconds goes to standard error.
 #![tactic(auto)]
 
-ghost use Rattle.std.specs.Prelude.{◌≡◌, []};
 ghost use Rattle.ygg_bank.specs.Nodes.{HasWidth};
 
 mod terms;
@@ -17,7 +16,7 @@ use std::env;
 use std::time::Instant;
 use ygg_bank::{Bank, Id};
 use ygg_blast::clauses_of;
-use ygg_cnf::{Clause, Clauses, Lit};
+use ygg_cnf::{Clause, Clauses};
 use ygg_decide::{Decided, decide};
 use ygg_rules::{Book, RuleBook};
 
