@@ -19,7 +19,7 @@ pub enum Family {
     Product,
     /// To add the second and take it away again changes nothing.
     Sum,
-    /// To add the second many times changes nothing, which is false.
+    /// To add the second so many times changes nothing.
     Chain,
 }
 
