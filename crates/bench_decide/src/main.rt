@@ -1,0 +1,165 @@
+//! Decides a term of one of three families, and says what it came to.
+//!
+//! The words are a family, a number up to 64, which is the width, and perhaps `clauses`. Of two inputs a and b of that width, `product`
+//! says that a times b is b times a, `sum` that a plus b less b is a, and `chain` that a is a after many additions of b; a number past
+//! 64 says how many. A chain is only translated. With `clauses` the term's clauses are printed in DIMACS form and nothing is decided.
+//! How many clauses there are, how many were learned, and how long each step took in nanoseconds goes to standard error.
+#![tactic(auto)]
+
+ghost use Rattle.ygg_bank.specs.Nodes.{HasWidth};
+
+mod terms;
+
+use crate::terms::{Family, term_of};
+use std::alloc::Global;
+use std::env;
+use std::time::Instant;
+use ygg_bank::{Bank, Id};
+use ygg_blast::clauses_of;
+use ygg_cnf::{Clause, Clauses};
+use ygg_decide::{Decided, decide};
+use ygg_rules::{Book, RuleBook};
+
+/// How many clauses may be learned.
+const BUDGET: u32 = 100_000_000;
+
+/// What the words ask for.
+#[derive(Clone, Copy)]
+struct Request {
+    family: Family,
+    width: u8,
+    count: u64,
+    prints: bool,
+}
+
+fn main(rt: HostRuntime) -> anyhow::Result<()> {
+    let request = request_of(&rt)?;
+    let alloc = rt.alloc();
+    let book = RuleBook::new(Vec::new(alloc));
+    let mut bank = Bank::new(alloc)?;
+    let width = request.width.clamp(1, 64);
+    let term = term_of(&mut bank, &book, request.family, width, request.count)?;
+    if request.prints {
+        return print_clauses(&rt, &bank, term);
+    }
+    report_clauses(&rt, &bank, term)?;
+    match request.family {
+        Family::Chain => Ok(()),
+        _ => report_answer(&rt, &mut bank, &book, term),
+    }
+}
+
+/// What the words ask for; without words, a product at width 4.
+fn request_of(rt: &HostRuntime) -> anyhow::Result<Request> {
+    let mut request = Request {
+        family: Family::Product,
+        width: 4,
+        count: 100_000,
+        prints: false,
+    };
+    for word in env::args(rt)? {
+        take_word(&mut request, word.as_str());
+    }
+    Ok(request)
+}
+
+/// Takes one word. One that says nothing is passed over.
+fn take_word(request: &mut Request, word: &str) {
+    match word {
+        "product" => request.family = Family::Product,
+        "sum" => request.family = Family::Sum,
+        "chain" => request.family = Family::Chain,
+        "clauses" => request.prints = true,
+        _ => take_number(request, word),
+    }
+}
+
+/// Takes a width, or how many additions a chain has.
+fn take_number(request: &mut Request, word: &str) {
+    match word.parse::<u64>() {
+        Ok(number) if number > 64 => request.count = number,
+        Ok(number) => request.width = number as u8,
+        Err(_) => {}
+    }
+}
+
+/// Says how many clauses the term has, and how long they took.
+fn report_clauses(rt: &HostRuntime, bank: &Bank, term: Id) -> anyhow::Result<()>
+    requires { HasWidth bank.now term 1 }
+{
+    let start = Instant::now(rt)?;
+    let blasted = clauses_of(rt.alloc(), bank, term)?;
+    let time = start.elapsed(rt)?;
+    eprintln!(rt; "{} clauses", blasted.clauses().len())?;
+    eprintln!(rt; "{} translating", time.as_nanos())?;
+    Ok(())
+}
+
+/// Says what the term came to, how many clauses were learned, and how long it took.
+fn report_answer<B: Book>(
+    rt: &HostRuntime,
+    bank: &mut Bank,
+    book: &B,
+    term: Id,
+) -> anyhow::Result<()>
+    requires { HasWidth bank.old term 1 }
+{
+    let start = Instant::now(rt)?;
+    let answer = decide(rt.alloc(), bank, book, term, BUDGET)?;
+    let time = start.elapsed(rt)?;
+    eprintln!(rt; "{} deciding", time.as_nanos())?;
+    eprintln!(rt; "{} learned", learned(&answer))?;
+    println!(rt; "{}", name_of(&answer))?;
+    Ok(())
+}
+
+/// The word for an answer.
+fn name_of(answer: &Decided) -> &'static str {
+    match answer {
+        Decided::Valid(_) => "valid",
+        Decided::Fails(_) => "fails",
+        Decided::Spent(_) => "spent",
+    }
+}
+
+/// How many clauses the answer's log has.
+fn learned(answer: &Decided) -> usize {
+    match answer {
+        Decided::Valid(log) | Decided::Spent(log) => log.len(),
+        Decided::Fails(_) => 0,
+    }
+}
+
+/// Prints the term's clauses in DIMACS form.
+fn print_clauses(rt: &HostRuntime, bank: &Bank, term: Id) -> anyhow::Result<()>
+    requires { HasWidth bank.now term 1 }
+{
+    let blasted = clauses_of(rt.alloc(), bank, term)?;
+    let clauses = blasted.clauses();
+    println!(rt; "p cnf {} {}", greatest_variable(clauses), clauses.len())?;
+    for clause in clauses.as_slice() {
+        print_clause(rt, clause)?;
+    }
+    Ok(())
+}
+
+/// Prints one clause.
+fn print_clause(rt: &HostRuntime, clause: &Clause) -> anyhow::Result<()> {
+    for lit in clause.as_slice() {
+        let sign = if lit.negated { "-" } else { "" };
+        print!(rt; "{sign}{} ", lit.var)?;
+    }
+    println!(rt; "0")?;
+    Ok(())
+}
+
+/// The greatest variable of the clauses.
+fn greatest_variable(clauses: &Clauses) -> u64 {
+    let mut greatest = 0;
+    for clause in clauses.as_slice() {
+        for lit in clause.as_slice() {
+            greatest = greatest.max(lit.var);
+        }
+    }
+    greatest
+}
