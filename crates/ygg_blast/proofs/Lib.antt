@@ -1,5 +1,7 @@
 pub mod Steps
-pub mod Marking
 pub mod Reading
 pub mod Zero
 pub mod Named
+pub mod Kept
+pub mod Visiting
+pub mod Filling

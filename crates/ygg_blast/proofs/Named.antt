@@ -1,6 +1,6 @@
 -- The variables of a term's clauses are numbered from 1.
-use Rattle.std.proofs.Common.{◌≡◌, ◌<◌, ℕ, zero, suc, ◌+◌, ◌-◌, ◌/◌, ◌%◌, ◌^◌, ◌==◌, Bool, true, false, if◌then◌else◌, List, [], ◌∷◌, ◌++◌, length, take, drop, replicate, get_or, All, Result, Ok, Err, IfOk, sym, subst, ap, arith, refl}
-use Rattle.std.proofs.lemmas.List.Elements.{All-nil, All-cons, All-append}
+use Rattle.std.proofs.Common.{◌≡◌, ◌<◌, ℕ, zero, suc, ◌+◌, ◌-◌, ◌/◌, ◌%◌, ◌^◌, ◌==◌, Bool, true, false, if◌then◌else◌, List, [], ◌∷◌, ◌++◌, length, take, drop, replicate, get_or, All, Result, Ok, Err, IfOk, sym, subst, arith}
+use Rattle.std.proofs.lemmas.List.Elements.{All-nil, All-cons}
 use Rattle.ygg_cnf.specs.declared.lit.Lit.{Lit}
 use Rattle.ygg_cnf.specs.Literals.{complement}
 use Rattle.ygg_value.specs.declared.operation.Op.{Op}
@@ -8,9 +8,9 @@ use Rattle.ygg_value.specs.declared.operation.Op.TheVariants as op
 use Rattle.ygg_bank.specs.declared.node.Id.{Id}
 use Rattle.ygg_bank.specs.declared.node.Node.{Node}
 use Rattle.ygg_bank.specs.declared.node.Node.TheVariants.{Input, Const, Bin, Not, Resize, Pick}
-use Rattle.ygg_gates.specs.Circuits.{Out, literal, next_variable, placed, either, complements, true_literal, false_literal}
+use Rattle.ygg_gates.specs.Circuits.{Out, literal, placed, either, complements, true_literal, false_literal}
 use Rattle.ygg_gates.specs.Clauses.{clauses_from, gate_clauses}
-use Rattle.ygg_gates.specs.Rows.{free_digits, constant_digits, resized_digits, joined, joined_each, added_digit, Sum, added, subtracted, moved_up, moved, multiplied_digit, multiplied, equal_digits, less, any_digit, near, shifted_near, shifted, operation}
+use Rattle.ygg_gates.specs.Rows.{free_digits, constant_digits, joined, joined_each, added_digit, Sum, added, moved_up, moved, multiplied_digit, multiplied, equal_digits, less, any_digit, near, shifted_near, shifted, operation}
 use Rattle.ygg_gates.specs.Groups.{Circuit, Translated, circuit_clauses, circuit_of, digits_at, lowest, no_nodes, node_digits, reaches, translated, up_to, with_node, with_nodes}
 use Rattle.ygg_gates.specs.declared.gate.Carried.{Carried}
 use Rattle.ygg_gates.specs.declared.gate.Gate.{Gate}

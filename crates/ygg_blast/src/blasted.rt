@@ -11,8 +11,8 @@ ghost use Rattle.ygg_gates.specs.Groups.{circuit_clauses, translated};
 ghost use Rattle.ygg_gates.specs.Sources.{environment_by, number_from};
 
 use crate::clauses::{push_clause, push_gates};
-use crate::groups::{Groups, digits_at, groups_of};
-use crate::marks::reached;
+use crate::groups::{Groups, groups_of};
+use crate::visits::reached;
 use std::alloc::Global;
 use std::marker::Model;
 use ygg_bank::{Bank, Env, Given, Id};
@@ -53,7 +53,7 @@ fn clauses_of_groups(alloc: Global, groups: &Groups, term: Id) -> Result<Clauses
     let mut clauses = Clauses::new(alloc);
     push_clause(alloc, &mut clauses, &[true_literal()])?;
     push_gates(alloc, &mut clauses, groups.gates.as_slice())?;
-    let literal = lowest(digits_at(groups.table.as_slice(), term));
+    let literal = lowest(groups.table.at(term.0));
     push_clause(alloc, &mut clauses, &[literal.complement()])?;
     Ok(clauses)
 }

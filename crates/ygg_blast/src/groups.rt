@@ -1,10 +1,12 @@
 //! The gates of nodes, one group for each node.
 
-ghost use Rattle.std.specs.Prelude.{◌≡◌, ◌<◌, ◌+◌, ◌^◌, ◌++◌, ℕ, true, false, get_or, slice_get, length, OnOk, IfOk};
+ghost use Rattle.std.specs.Prelude.{◌≡◌, ◌<◌, ◌+◌, ◌^◌, ◌++◌, ℕ, true, slice_get, length, OnOk, IfOk};
 ghost use Rattle.ygg_bank.specs.Nodes.{Stands};
-ghost use Rattle.ygg_gates.specs.Groups.{circuit, circuit_of, digits_at, node_digits, reaches, sources_of, with_node};
+ghost use Rattle.ygg_blast.specs.Places.{has_place, AllBelow, Ascends};
+ghost use Rattle.ygg_gates.specs.Groups.{circuit, circuit_of, node_digits, reaches, sources_of, with_node};
 ghost use Rattle.ygg_rules.specs.Views.{IsWidth};
 
+use crate::table::Table;
 use std::alloc::Global;
 use std::marker::Model;
 use ygg_bank::{Bank, Id, Node};
@@ -18,7 +20,7 @@ use ygg_list::{NoMemory, Sequence};
 /// What is made of the first nodes: the digits of each, none where it isn't reached; the inputs; and the gates.
 #[derive(Drop)]
 pub struct Groups {
-    pub table: Sequence<Digits>,
+    pub table: Table,
     pub sources: Sequence<Source>,
     pub gates: Vec<Gate>,
 }
@@ -31,20 +33,10 @@ impl Model for Groups {
     ghost view = { λ g. record { table = g.table; sources = g.sources; gates = g.gates.items } };
 }
 
-/// The digits of a child.
-pub fn digits_at(table: &[Digits], a: Id) -> &[Lit]
-    ensures { result.now ≡ digits_at table.now a }
-{
-    match table.get(a.0) {
-        Some(digits) => digits.as_slice(),
-        None => &[],
-    }
-}
-
 /// The digits of a node, and its gates.
 fn node_digits(
     alloc: Global,
-    table: &[Digits],
+    table: &Table,
     gates: &mut Vec<Gate>,
     node: &Node,
 ) -> Result<Digits, NoMemory>
@@ -54,19 +46,17 @@ fn node_digits(
     match *node {
         Node::Input { width, .. } => free_digits(alloc, gates, width),
         Node::Const(word) => constant_digits(alloc, word),
-        Node::Bin { op, a, b } => {
-            operation(alloc, gates, op, digits_at(table, a), digits_at(table, b))
-        }
-        Node::Not { a } => complements(alloc, digits_at(table, a)),
-        Node::Resize { a, width } => resized(alloc, digits_at(table, a), width),
+        Node::Bin { op, a, b } => { operation(alloc, gates, op, table.at(a.0), table.at(b.0)) }
+        Node::Not { a } => complements(alloc, table.at(a.0)),
+        Node::Resize { a, width } => resized(alloc, table.at(a.0), width),
         Node::Pick { test, yes, no } => {
-            let test = lowest(digits_at(table, test));
+            let test = lowest(table.at(test.0));
             join_each(
                 alloc,
                 gates,
                 Joint::Pick { test },
-                digits_at(table, yes),
-                digits_at(table, no),
+                table.at(yes.0),
+                table.at(no.0),
             )
         }
     }
@@ -91,37 +81,19 @@ fn push_source(sources: &mut Sequence<Source>, node: Node, first: u64) -> Result
 /// Adds a node that is reached: its group of gates.
 fn add_node(
     alloc: Global,
-    table: &mut Sequence<Digits>,
+    table: &mut Table,
     sources: &mut Sequence<Source>,
     gates: &mut Vec<Gate>,
     node: Node,
 ) -> Result<(), NoMemory>
-    requires { (n w : ℕ) → node ≡ Node.Input n w → IsWidth w }
+    requires width { (n w : ℕ) → node ≡ Node.Input n w → IsWidth w }
+    requires few { length table.old + 1 < 2 ^ 64 }
     ensures { OnOk result (circuit table.new sources.new gates.new.items ≡ with_node true node (circuit table.old sources.old gates.old.items)) }
 {
     let first = gates.len() as u64 + 2;
     push_source(sources, node, first)?;
-    let digits = node_digits(alloc, table.as_slice(), gates, &node)?;
+    let digits = node_digits(alloc, table, gates, &node)?;
     table.push(digits)
-}
-
-/// Adds a node, which may be reached or not.
-fn add_or_skip(
-    alloc: Global,
-    table: &mut Sequence<Digits>,
-    sources: &mut Sequence<Source>,
-    gates: &mut Vec<Gate>,
-    node: Node,
-    is_reached: bool,
-) -> Result<(), NoMemory>
-    requires { (n w : ℕ) → node ≡ Node.Input n w → IsWidth w }
-    ensures { OnOk result (circuit table.new sources.new gates.new.items ≡ with_node is_reached node (circuit table.old sources.old gates.old.items)) }
-{
-    if is_reached {
-        add_node(alloc, table, sources, gates, node)
-    } else {
-        table.push(Digits::new(alloc))
-    }
 }
 
 /// The node at a place, the width of which is known where it is an input.
@@ -134,28 +106,26 @@ fn node_at(bank: &Bank, id: Id) -> Node
     bank.node(id)
 }
 
-/// The gates of all nodes that a term reaches.
-#[tactic(auto, using(crate::proofs::Steps::groups_begin, crate::proofs::Steps::groups_go, crate::proofs::Steps::groups_are))]
-pub fn groups_of(alloc: Global, bank: &Bank, term: Id, reached: &[bool]) -> Result<Groups, NoMemory>
+/// The gates of all nodes that a term reaches, whose places these are.
+#[tactic(auto, using(crate::proofs::Steps::groups_begin, crate::proofs::Steps::groups_are))]
+pub fn groups_of(alloc: Global, bank: &Bank, term: Id, places: &[usize]) -> Result<Groups, NoMemory>
     requires stands { Stands bank.now term }
-    requires count { length reached.now ≡ term.0 + 1 }
-    requires each { (p : ℕ) → p < length reached.now → get_or reached.now p false ≡ reaches bank.now term p }
+    requires ascends { Ascends places.now }
+    requires below { AllBelow (term.0 + 1) places.now }
+    requires each { (p : ℕ) → has_place places.now p ≡ reaches bank.now term p }
     ensures { IfOk result (λ groups. groups ≡ circuit_of bank.now term) }
 {
-    let mut table = Sequence::new(alloc);
+    // so many nodes have places
+    let _ = bank.len();
+    let mut table = Table::new(alloc);
     let mut sources = Sequence::new(alloc);
     let mut gates = Vec::new(alloc);
-    for place in 0..reached.len() {
-        let node = node_at(bank, Id(place));
-        add_or_skip(
-            alloc,
-            &mut table,
-            &mut sources,
-            &mut gates,
-            node,
-            reached[place],
-        )?;
+    for place in places {
+        table.skip_to(*place);
+        let node = node_at(bank, Id(*place));
+        add_node(alloc, &mut table, &mut sources, &mut gates, node)?;
     }
+    table.skip_to(term.0 + 1);
     Ok(Groups {
         table,
         sources,

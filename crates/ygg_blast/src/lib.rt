@@ -4,7 +4,9 @@
 mod blasted;
 mod clauses;
 mod groups;
-mod marks;
+mod pending;
+mod table;
+mod visits;
 
 pub use blasted::{Blasted, clauses_of, environment};
 pub use ygg_list::NoMemory;
