@@ -1,17 +1,15 @@
 -- The definition of a name, among definitions without faults.
-use Rattle.std.proofs.Common.{◌≡◌, ℕ, zero, suc, ◌+◌, ◌<◌, ◌≤◌, Bool, true, false, cond, List, [], ◌∷◌, ◌++◌, length, take, get_or, slice_get, reverse, Option, Some, None, is_some, refl, sym, ap, ◌∙◌, subst, arith, append_assoc, add-one}
-use Rattle.std.specs.Prelude.{◌&&◌}
+use Rattle.std.proofs.Common.{◌≡◌, ℕ, zero, suc, ◌+◌, ◌<◌, Bool, true, false, cond, List, [], ◌∷◌, ◌++◌, length, take, get_or, Option, Some, None, is_some, refl, sym, ap, ◌∙◌, subst, arith, append_assoc, add-one}
 use Rattle.std.specs.Str.{bytes_eq}
 use Rattle.std.proofs.Math.Seq.{take-suc}
 use Rattle.std.proofs.lemmas.Bool.{and_from}
 use Rattle.std.proofs.lemmas.List.{append-nil, reverse-append}
-use Rattle.std.proofs.lemmas.Option.{slice_get-get_or, slice_get_within, get_or_from_slice_get}
+use Rattle.std.proofs.lemmas.Option.{slice_get-get_or, get_or_from_slice_get}
 use Rattle.ygg_syntax.specs.declared.tree.Declared.{Declared}
 use Rattle.ygg_syntax.specs.declared.tree.Def.{Def}
 use Rattle.ygg_value.specs.declared.row.Value.{Value}
 use Rattle.ygg_value.specs.declared.shape.Shape.{Shape}
 use Rattle.ygg_count.specs.Weights.{weights_of, weight_at, expr_weight}
-use Rattle.ygg_count.specs.Definitions.{WeighsAsAt}
 use Rattle.ygg_count.proofs.Searched.{Searched, begun, other as searched_other, found as searched_found}
 use Rattle.ygg_names.specs.Names.{Named, look_up, has, added}
 use Rattle.ygg_fault.specs.declared.scope.Signature.{Signature}
@@ -19,7 +17,7 @@ use Rattle.ygg_fault.specs.Faults.{none}
 use Rattle.ygg_fault.specs.Shapes.{shape_of}
 use Rattle.ygg_fault.specs.Scopes.{Scope, with_local}
 use Rattle.ygg_fault.specs.Expressions.{typing, wanted}
-use Rattle.ygg_fault.specs.Definitions.{with_parameter, with_parameters, parameter_shapes, definition_signature, definition_scope, definition_faults, with_definition, with_definitions, definitions_faults}
+use Rattle.ygg_fault.specs.Definitions.{with_parameter, with_parameters, definition_signature, definition_scope, definition_faults, with_definition, with_definitions, definitions_faults}
 use Rattle.ygg_eval.specs.Environments.{nothing, bind}
 use Rattle.ygg_eval.specs.Meaning.{value_with, functions_from, functions_of}
 use Rattle.ygg_sound.proofs.Tests.{left, right, bytes_same, bytes_equal}

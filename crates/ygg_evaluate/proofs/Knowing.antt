@@ -1,19 +1,17 @@
 -- What may be evaluated where an expression may be.
-use Rattle.std.proofs.Common.{◌≡◌, ℕ, suc, ◌+◌, ◌*◌, ◌<◌, ◌≤◌, ◌^◌, Bool, true, false, cond, List, [], ◌∷◌, ◌++◌, length, map, replicate, get_or, All, Option, Some, None, refl, sym, ap, ◌∙◌, subst, arith, mul_comm, zero}
-use Rattle.std.specs.Prelude.{◌&&◌}
+use Rattle.std.proofs.Common.{◌≡◌, ℕ, suc, ◌+◌, ◌*◌, ◌≤◌, true, false, List, [], ◌∷◌, length, map, replicate, All, refl, sym, ap, ◌∙◌, subst, arith, mul_comm, zero}
 use Rattle.std.proofs.Math.Nat.{le-mul_of_pos_right}
-use Rattle.std.proofs.lemmas.List.{length-replicate, length-map}
+use Rattle.std.proofs.lemmas.List.{length-replicate}
 use Rattle.std.proofs.lemmas.List.Elements.{All-cons, All-nil, All-head, All-tail, All-replicate}
 use Rattle.ygg_syntax.specs.declared.tree.Place.{Place}
 use Rattle.ygg_syntax.specs.declared.tree.Name.{Name}
 use Rattle.ygg_syntax.specs.declared.tree.Numeral.{Numeral}
 use Rattle.ygg_syntax.specs.declared.tree.Quantifier.{Quantifier}
-use Rattle.ygg_syntax.specs.declared.tree.Def.{Def}
 use Rattle.ygg_syntax.specs.declared.tree.Expr.{Expr}
 use Rattle.ygg_syntax.specs.declared.tree.Expr.TheVariants as tree
 use Rattle.ygg_value.specs.declared.operation.Op.{Op}
 use Rattle.ygg_value.specs.declared.operation.Op.TheVariants.{Add, Sub, Mul, And, Or, Xor, Shl, Shr, Eq, Ne, Lt, Le, Gt, Ge, Imp}
-use Rattle.ygg_value.specs.Number.{Number, Digits}
+use Rattle.ygg_value.specs.Number.{Number}
 use Rattle.ygg_value.specs.Values.{word_in}
 use Rattle.ygg_value.specs.Shapes.{Within}
 use Rattle.ygg_value.specs.declared.row.Value.{Value}
@@ -28,7 +26,7 @@ use Rattle.ygg_sound.proofs.Lists.{IsWordOf, RowParts}
 use Rattle.ygg_sound.proofs.Parts.{Faultless, HasValue, values_in, constant_typed, apply_typed, binary_typed, not_typed, at_typed, pick_typed, resize_typed, fill_typed, row_typed, quantified_typed}
 use Rattle.ygg_evaluate.proofs.Called.{local_keeps}
 use Rattle.ygg_evaluate.specs.Words.{row_from, AreOfRow, CanOperate}
-use Rattle.ygg_evaluate.specs.Known.{Known, scope_in, value_in, with_number, CanEvaluate, CanCall, CanQuantify}
+use Rattle.ygg_evaluate.specs.Known.{Known, scope_in, value_in, CanEvaluate, CanCall, CanQuantify}
 
 -- a part without a fault, in the same scope
 part_can : (k : Known) (e a : Expr) → (can : CanEvaluate k e) → Faultless a can.scope → CanEvaluate k a

@@ -1,5 +1,5 @@
 -- The steps of the evaluator, over plain variables: what each call asks, and what each construct gives.
-use Rattle.std.proofs.Common.{◌≡◌, ℕ, ◌+◌, ◌*◌, ◌<◌, ◌≤◌, ◌^◌, Bool, true, false, cond, List, [], ◌∷◌, ◌++◌, length, map, take, replicate, get_or, All, refl, sym, ap, ◌∙◌, subst, arith}
+use Rattle.std.proofs.Common.{◌≡◌, ℕ, ◌≤◌, Bool, cond, List, [], map, take, replicate, get_or, All, sym, ap, ◌∙◌, subst}
 use Rattle.ygg_syntax.specs.declared.tree.Place.{Place}
 use Rattle.ygg_syntax.specs.declared.tree.Name.{Name}
 use Rattle.ygg_syntax.specs.declared.tree.Numeral.{Numeral}
@@ -15,7 +15,6 @@ use Rattle.ygg_value.specs.declared.row.Value.{Value}
 use Rattle.ygg_value.specs.declared.row.Value.TheVariants as value
 use Rattle.ygg_eval.specs.Environments.{Env, bind}
 use Rattle.ygg_eval.specs.Meaning.{functions_of, is_one, quantified}
-use Rattle.ygg_sound.proofs.Rules.{ConstantParts}
 use Rattle.ygg_evaluate.specs.Words.{row_from, AreOfRow, CanOperate}
 use Rattle.ygg_evaluate.specs.Known.{Known, value_in, with_number, CanEvaluate, CanCall, CanQuantify, IsDefinition}
 use Rattle.ygg_evaluate.proofs.Called.{body_parts}

@@ -1,5 +1,5 @@
 -- Values that are made or lent, and what names stand for.
-use Rattle.std.specs.Prelude.{ℕ, List, map}
+use Rattle.std.specs.Prelude.{List, map}
 use Rattle.ygg_value.specs.declared.row.Value.{Value}
 use Rattle.ygg_eval.specs.Environments.{Env}
 use Rattle.ygg_evaluate.specs.declared.held.Binding.{Binding}

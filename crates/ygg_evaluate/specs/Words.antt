@@ -1,5 +1,5 @@
 -- Rows made of words.
-use Rattle.std.specs.Prelude.{ℕ, ◌≡◌, ◌≤◌, List, [], ◌∷◌, map, length, All, Bool, true, false}
+use Rattle.std.specs.Prelude.{◌≡◌, ◌≤◌, List, [], ◌∷◌, map, length, All}
 use Rattle.ygg_value.specs.Number.{Number, Digits}
 use Rattle.ygg_value.specs.Words.{CanApply}
 use Rattle.ygg_value.specs.Values.{word_in}

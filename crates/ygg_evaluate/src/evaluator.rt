@@ -162,7 +162,14 @@ impl<'a, 'v> Evaluator<'a, 'v> {
 
     /// Whether an expression is 1 at every number below a bound, or at some.
     #[cycle(value)]
-    fn quantified(&mut self, which: Quantifier, x: &'a Name, w: Numeral, n: Numeral, e: &'a Expr) -> Result<bool, NoMemory>
+    fn quantified(
+        &mut self,
+        which: Quantifier,
+        x: &'a Name,
+        w: Numeral,
+        n: Numeral,
+        e: &'a Expr,
+    ) -> Result<bool, NoMemory>
         requires { CanQuantify (known_of self.old) x.now.text w n e.now }
         ensures value { IfOk result (λ b. b ≡ quantified which n.value (λ i. is_one (value_in (with_number (known_of self.old) x.now.text w.value i) e.now))) }
         ensures same { OnOk result (known_of self.new ≡ known_of self.old) }

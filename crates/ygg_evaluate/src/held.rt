@@ -58,7 +58,11 @@ impl<'v> Held<'v> {
 }
 
 /// The value of the first of a name, lent if it is; a single digit 0 where there is none. Its only error is want of memory.
-pub fn find<'a, 'v>(alloc: Global, bindings: &[Binding<'a, 'v>], name: &[u8]) -> Result<Held<'v>, NoMemory>
+pub fn find<'a, 'v>(
+    alloc: Global,
+    bindings: &[Binding<'a, 'v>],
+    name: &[u8],
+) -> Result<Held<'v>, NoMemory>
     ensures { IfOk result (λ held. held_value held ≡ look_up name.now (env_of bindings.now)) }
 {
     for binding in bindings {

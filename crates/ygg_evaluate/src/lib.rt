@@ -1,9 +1,9 @@
 //! The evaluator of expressions.
 #![tactic(auto)]
 
-mod made;
 mod evaluator;
 mod held;
+mod made;
 
 pub use evaluator::Evaluator;
 pub use held::{Binding, Held};

@@ -7,7 +7,10 @@ ghost use Rattle.ygg_evaluate.specs.Words.{row_from, AreOfRow, CanOperate};
 
 use std::alloc::Global;
 use ygg_list::NoMemory;
-use ygg_value::{Op, Row, Shape, Table, Value, Word, apply, row_read, row_write, same, shape_of, table_read, zero};
+use ygg_value::{
+    Op, Row, Shape, Table, Value, Word, apply, row_read, row_write, same, shape_of, table_read,
+    zero,
+};
 
 /// A single digit that says whether the test passes.
 pub fn digit(test: bool) -> Value

@@ -2,7 +2,7 @@ use Rattle.std.proofs.Common.{◌≡◌, true, false, sym, ap, ◌∙◌, arith}
 use Rattle.std.proofs.lemmas.List.{take_all}
 use Rattle.std.specs.Str.{bytes_eq}
 use Rattle.ygg_eval.specs.Meaning.{functions_of}
-use Rattle.ygg_evaluate.proofs.Called.{Missing, missing_begun, missing_more, is_definition}
+use Rattle.ygg_evaluate.proofs.Called.{missing_begun, missing_more, is_definition}
 use Rattle.ygg_evaluate.proofs.evaluator.definition.Goals as goal
 
 pub loop-place-init : goal.loop-place-init

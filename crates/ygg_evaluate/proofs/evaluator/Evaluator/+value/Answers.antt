@@ -1,4 +1,4 @@
-use Rattle.std.proofs.Common.{ℕ, ◌≡◌, ◌+◌, ◌≤◌, ◌∷◌, [], ◌++◌, map, take, get_or, map, slice_index_or, true, false, not, sym, ap, ◌∙◌, refl, arith}
+use Rattle.std.proofs.Common.{ℕ, ◌≡◌, ◌∷◌, [], map, get_or, map, true, false, sym, ap, ◌∙◌, arith}
 use Rattle.std.proofs.lemmas.Bool.{eq-eqb, ne_eqb}
 use Rattle.std.proofs.lemmas.List.{map-append}
 use Rattle.ygg_syntax.specs.declared.tree.Expr.{Expr}
@@ -6,9 +6,9 @@ use Rattle.ygg_value.specs.Number.{Number}
 use Rattle.ygg_value.specs.Values.{word_in}
 use Rattle.ygg_count.specs.Weights.{weights_of}
 use Rattle.ygg_eval.specs.Environments.{bind}
-use Rattle.ygg_eval.specs.Meaning.{functions_of, quantified, is_one}
+use Rattle.ygg_eval.specs.Meaning.{is_one}
 use Rattle.ygg_evaluate.specs.Held.{env_of, held_value, held_values}
-use Rattle.ygg_evaluate.specs.Known.{Known, is_all, known_of, value_in, with_number}
+use Rattle.ygg_evaluate.specs.Known.{Known, known_of, value_in, with_number}
 use Rattle.ygg_evaluate.proofs.Called.{definition_weighs}
 use Rattle.ygg_evaluate.proofs.Lists.{gathered}
 use Rattle.ygg_evaluate.proofs.Walking.{test_restored, one_tested, stopped, differ, agree}
@@ -23,10 +23,11 @@ called-value-requires t c =
     let defs = c.args.self.now.defs.now in
     let d = get_or defs c.in-Some.place c.index-self-place.result in
     let here : d ≡ get_or defs c.in-Some.place d = ap (get_or defs c.in-Some.place) c.index-self-place.is in
-    let lighter = definition_weighs defs c.args.name.now c.in-Some.place d c.in-Some.ensures.some here in
-    (omega arith,
+    let lighter = definition_weighs defs c.args.name.now c.in-Some.place d c.in-Some.ensures.some here in (
+      omega arith,
       ready_body defs c.args.name.now (held_values c.args.args.now) c.in-Some.place d (env_of c.in_ok-bound-in-Some.field-0.items) (env_of c.new.result.items) c.requires c.in-Some.ensures.some here
-          (c.in_ok-bound-in-Some.ensures ∙ ap (λ ps. bind ps (held_values c.args.args.now)) c.as_slice.ensures) (ap env_of c.new.ensures.items))
+          (c.in_ok-bound-in-Some.ensures ∙ ap (λ ps. bind ps (held_values c.args.args.now)) c.as_slice.ensures) (ap env_of c.new.ensures.items),
+    )
 
 pub called-returns-in_ok-value-in-Some-2 : goal.called-returns-in_ok-value-in-Some-2
 called-returns-in_ok-value-in-Some-2 t c =
@@ -34,8 +35,8 @@ called-returns-in_ok-value-in-Some-2 t c =
     let d = get_or defs c.in-Some.place c.index-self-place.result in
     let here : d ≡ get_or defs c.in-Some.place d = ap (get_or defs c.in-Some.place) c.index-self-place.is in
     gives_body defs c.args.name.now (held_values c.args.args.now) c.in-Some.place d (env_of c.in_ok-bound-in-Some.field-0.items) (env_of c.new.result.items) c.in_ok-value-in-Some-2.value c.requires c.in-Some.ensures.some here
-        (c.in_ok-bound-in-Some.ensures ∙ ap (λ ps. bind ps (held_values c.args.args.now)) c.as_slice.ensures) (ap env_of c.new.ensures.items)
-        (c.in_ok-value-in-Some-2.ensures ∙ c.in_ok-value-in-Some.ensures.value)
+    (c.in_ok-bound-in-Some.ensures ∙ ap (λ ps. bind ps (held_values c.args.args.now)) c.as_slice.ensures) (ap env_of c.new.ensures.items)
+    (c.in_ok-value-in-Some-2.ensures ∙ c.in_ok-value-in-Some.ensures.value)
 
 -- quantifiers
 
@@ -43,7 +44,7 @@ pub quantified-returns-then-test-all-clause-value : goal.quantified-returns-then
 quantified-returns-then-test-all-clause-value t c =
     let test = λ (k : Known) (i : ℕ). is_one (value_in (with_number k c.args.x.now.text c.args.w.value i) c.args.e.now) in
     stopped c.args.which c.args.n.value c.loop-i.i (test (known_of c.args.self.now)) c.in_ok-test.test c.is_all-all.result c.loop-i-test.true
-        (c.in_ok-test.ensures.value ∙ ap (λ k. test k c.loop-i.i) c.loop-i.invariant.same) c.loop-i.invariant.all (differ c.in_ok-test.test c.is_all-all.result c.if-test-all.true)
+    (c.in_ok-test.ensures.value ∙ ap (λ k. test k c.loop-i.i) c.loop-i.invariant.same) c.loop-i.invariant.all (differ c.in_ok-test.test c.is_all-all.result c.if-test-all.true)
 
 pub quantified-loop-i-preserved : goal.quantified-loop-i-preserved
 quantified-loop-i-preserved t c =
@@ -58,7 +59,7 @@ quantified-loop-i-preserved t c =
 pub test-returns-clause-same : goal.test-returns-clause-same
 test-returns-clause-same t c =
     test_restored c.args.self.now.defs.now c.word.new.self.defs.now (env_of c.args.self.now.low.items) (env_of c.word.new.self.low.items) c.args.self.now.own.items c.push.new.self.items c.word.new.self.own.items c.truncate.new.self.items _ c.len-before.result
-        (omega (arith, c.args.self.now.own.ok.0, c.len-before.ensures)) c.in_ok-push.ensures.items c.in_ok-word.ensures.same c.truncate.ensures.items
+    (omega (arith, c.args.self.now.own.ok.0, c.len-before.ensures)) c.in_ok-push.ensures.items c.in_ok-word.ensures.same c.truncate.ensures.items
 
 -- a definition at its arguments
 
@@ -72,17 +73,18 @@ pub value-called-requires : goal.value-called-requires
 value-called-requires t c =
     let k = known_of c.args.self.now in
     let same = c.in_ok-arguments-in-Apply.ensures.same in
-    let lighter = call_lighter k (known_of c.values.new.self) c.args.e.now c.in-Apply.f c.in-Apply.arguments c.as_slice-in-Apply-2.result.now c.in-Apply.is same c.as_slice-in-Apply-2.ensures in
-    (omega arith,
+    let lighter = call_lighter k (known_of c.values.new.self) c.args.e.now c.in-Apply.f c.in-Apply.arguments c.as_slice-in-Apply-2.result.now c.in-Apply.is same c.as_slice-in-Apply-2.ensures in (
+      omega arith,
       ready_call k (known_of c.values.new.self) c.args.e.now c.in-Apply.f c.in-Apply.arguments c.as_slice-in-Apply-2.result.now (held_values c.as_slice-in-Apply-3.result.now) c.requires c.in-Apply.is same c.as_slice-in-Apply-2.ensures
-          (ap held_values c.as_slice-in-Apply-3.ensures.value ∙ c.in_ok-arguments-in-Apply.ensures.values ∙ ap (map (value_in k)) c.as_slice-in-Apply.ensures))
+          (ap held_values c.as_slice-in-Apply-3.ensures.value ∙ c.in_ok-arguments-in-Apply.ensures.values ∙ ap (map (value_in k)) c.as_slice-in-Apply.ensures),
+    )
 
 pub value-returns-in_ok-value-in-Apply-clause-value : goal.value-returns-in_ok-value-in-Apply-clause-value
 value-returns-in_ok-value-in-Apply-clause-value t c =
     let k = known_of c.args.self.now in
     gives_call k (known_of c.values.new.self) c.args.e.now c.in-Apply.f c.in-Apply.arguments c.as_slice-in-Apply-2.result.now (held_values c.as_slice-in-Apply-3.result.now) c.in_ok-value-in-Apply.value c.in-Apply.is
-        c.in_ok-arguments-in-Apply.ensures.same c.as_slice-in-Apply-2.ensures
-        (ap held_values c.as_slice-in-Apply-3.ensures.value ∙ c.in_ok-arguments-in-Apply.ensures.values ∙ ap (map (value_in k)) c.as_slice-in-Apply.ensures) c.in_ok-value-in-Apply.ensures
+    c.in_ok-arguments-in-Apply.ensures.same c.as_slice-in-Apply-2.ensures
+    (ap held_values c.as_slice-in-Apply-3.ensures.value ∙ c.in_ok-arguments-in-Apply.ensures.values ∙ ap (map (value_in k)) c.as_slice-in-Apply.ensures) c.in_ok-value-in-Apply.ensures
 
 -- operators
 
@@ -90,16 +92,16 @@ pub value-operated-requires : goal.value-operated-requires
 value-operated-requires t c =
     let k = known_of c.args.self.now in
     ready_operated k c.args.e.now c.in-Binary.field-0 c.in-Binary.a c.in-Binary.op c.in-Binary.field-3 c.in-Binary.b c.value-in-Binary-2.result.now c.value-in-Binary-3.result.now c.requires c.in-Binary.is
-        (c.value-in-Binary-2.ensures ∙ c.in_ok-a-in-Binary.ensures.value ∙ ap (value_in k) c.get.ensures)
-        (c.value-in-Binary-3.ensures ∙ value_moved k (known_of c.value.new.self) c.in-Binary.b c.get-in-Binary.result.now (held_value c.in_ok-b-in-Binary.b) c.in_ok-b-in-Binary.ensures.value c.in_ok-a-in-Binary.ensures.same c.get-in-Binary.ensures)
+    (c.value-in-Binary-2.ensures ∙ c.in_ok-a-in-Binary.ensures.value ∙ ap (value_in k) c.get.ensures)
+    (c.value-in-Binary-3.ensures ∙ value_moved k (known_of c.value.new.self) c.in-Binary.b c.get-in-Binary.result.now (held_value c.in_ok-b-in-Binary.b) c.in_ok-b-in-Binary.ensures.value c.in_ok-a-in-Binary.ensures.same c.get-in-Binary.ensures)
 
 pub value-returns-in_ok-b-in-Binary-clause-value : goal.value-returns-in_ok-b-in-Binary-clause-value
 value-returns-in_ok-b-in-Binary-clause-value t c =
     let k = known_of c.args.self.now in
     c.operated.ensures
     ∙ gives_operated k c.args.e.now c.in-Binary.field-0 c.in-Binary.a c.in-Binary.op c.in-Binary.field-3 c.in-Binary.b c.value-in-Binary-2.result.now c.value-in-Binary-3.result.now c.in-Binary.is
-        (c.value-in-Binary-2.ensures ∙ c.in_ok-a-in-Binary.ensures.value ∙ ap (value_in k) c.get.ensures)
-        (c.value-in-Binary-3.ensures ∙ value_moved k (known_of c.value.new.self) c.in-Binary.b c.get-in-Binary.result.now (held_value c.in_ok-b-in-Binary.b) c.in_ok-b-in-Binary.ensures.value c.in_ok-a-in-Binary.ensures.same c.get-in-Binary.ensures)
+    (c.value-in-Binary-2.ensures ∙ c.in_ok-a-in-Binary.ensures.value ∙ ap (value_in k) c.get.ensures)
+    (c.value-in-Binary-3.ensures ∙ value_moved k (known_of c.value.new.self) c.in-Binary.b c.get-in-Binary.result.now (held_value c.in_ok-b-in-Binary.b) c.in_ok-b-in-Binary.ensures.value c.in_ok-a-in-Binary.ensures.same c.get-in-Binary.ensures)
 
 -- a part of a row or a table
 
@@ -114,9 +116,9 @@ pub value-returns-in_ok-part-in-At-clause-value : goal.value-returns-in_ok-part-
 value-returns-in_ok-part-in-At-clause-value t c =
     let k = known_of c.args.self.now in
     gives_part k c.args.e.now c.in-At.whole c.in-At.field-1 c.in-At.i c.value-in-At-2.result.now c.in_ok-part-in-At.part c.in_ok-i-in-At.i c.in-At.is
-        (c.value-in-At-2.ensures ∙ c.in_ok-whole-in-At.ensures.value ∙ ap (value_in k) c.get-in-At.ensures)
-        (c.in_ok-i-in-At.ensures.value ∙ ap (λ (l : Known). word_in (value_in l c.get-in-At-2.result.now)) c.in_ok-whole-in-At.ensures.same ∙ ap (λ (e : Expr). word_in (value_in k e)) c.get-in-At-2.ensures)
-        c.in_ok-part-in-At.ensures
+    (c.value-in-At-2.ensures ∙ c.in_ok-whole-in-At.ensures.value ∙ ap (value_in k) c.get-in-At.ensures)
+    (c.in_ok-i-in-At.ensures.value ∙ ap (λ (l : Known). word_in (value_in l c.get-in-At-2.result.now)) c.in_ok-whole-in-At.ensures.same ∙ ap (λ (e : Expr). word_in (value_in k e)) c.get-in-At-2.ensures)
+    c.in_ok-part-in-At.ensures
 
 -- `pick`
 
@@ -133,7 +135,7 @@ value-returns-then-test-eq1-clause-value t c =
     let bits : c.in_ok-test-in-Pick.test.bits ≡ 1 = sym (ap (λ (n : Number). n.bits) c.test.view_is) ∙ c.if-test-eq1.true in
     value_moved k (known_of c.word-in-Pick.new.self) c.in-Pick.a c.get-then-test-eq1.result.now (held_value c.in_ok-a-in-Pick.a) c.in_ok-a-in-Pick.ensures.value c.in_ok-test-in-Pick.ensures.same c.get-then-test-eq1.ensures
     ∙ gives_picked k c.args.e.now c.in-Pick.field-0 c.in-Pick.test c.in-Pick.a c.in-Pick.b c.in_ok-test-in-Pick.test true c.in-Pick.is
-        (c.in_ok-test-in-Pick.ensures.value ∙ ap (λ (e : Expr). word_in (value_in k e)) c.get-in-Pick.ensures) (eq-eqb c.in_ok-test-in-Pick.test.bits 1 bits)
+    (c.in_ok-test-in-Pick.ensures.value ∙ ap (λ (e : Expr). word_in (value_in k e)) c.get-in-Pick.ensures) (eq-eqb c.in_ok-test-in-Pick.test.bits 1 bits)
 
 pub value-value-requires-in-Pick : goal.value-value-requires-in-Pick
 value-value-requires-in-Pick t c =
@@ -147,8 +149,8 @@ value-returns-in_ok-b-in-Pick-clause-value t c =
     let k = known_of c.args.self.now in
     value_moved k (known_of c.word-in-Pick.new.self) c.in-Pick.b c.get-in-Pick-2.result.now (held_value c.in_ok-b-in-Pick.b) c.in_ok-b-in-Pick.ensures.value c.in_ok-test-in-Pick.ensures.same c.get-in-Pick-2.ensures
     ∙ gives_picked k c.args.e.now c.in-Pick.field-0 c.in-Pick.test c.in-Pick.a c.in-Pick.b c.in_ok-test-in-Pick.test false c.in-Pick.is
-        (c.in_ok-test-in-Pick.ensures.value ∙ ap (λ (e : Expr). word_in (value_in k e)) c.get-in-Pick.ensures)
-        (ne_eqb c.in_ok-test-in-Pick.test.bits 1 (λ h. c.if-test-eq1.false (ap (λ (n : Number). n.bits) c.test.view_is ∙ h)))
+    (c.in_ok-test-in-Pick.ensures.value ∙ ap (λ (e : Expr). word_in (value_in k e)) c.get-in-Pick.ensures)
+    (ne_eqb c.in_ok-test-in-Pick.test.bits 1 (λ h. c.if-test-eq1.false (ap (λ (n : Number). n.bits) c.test.view_is ∙ h)))
 
 -- `resize`
 
@@ -169,14 +171,14 @@ value-resize-requires-clause-most t c = (ready_width (known_of c.args.self.now) 
 pub value-row-requires : goal.value-row-requires
 value-row-requires t c =
     ready_equal (known_of c.args.self.now) c.args.e.now c.in-Fill.field-0 c.in-Fill.m c.in-Fill.a c.in_ok-a-in-Fill.a c.as_slice-in-Fill.result.now c.requires c.in-Fill.is
-        (c.as_slice-in-Fill.ensures.value ∙ c.in_ok-words-in-Fill.ensures.items_if_clones_equal (λ y h. h))
+    (c.as_slice-in-Fill.ensures.value ∙ c.in_ok-words-in-Fill.ensures.items_if_clones_equal (λ y h. h))
 
 pub value-returns-in_ok-row-in-Fill-clause-value : goal.value-returns-in_ok-row-in-Fill-clause-value
 value-returns-in_ok-row-in-Fill-clause-value t c =
     let k = known_of c.args.self.now in
     gives_filled k c.args.e.now c.in-Fill.field-0 c.in-Fill.m c.in-Fill.a c.in_ok-a-in-Fill.a c.as_slice-in-Fill.result.now c.in_ok-row-in-Fill.row c.requires c.in-Fill.is
-        (c.as_slice-in-Fill.ensures.value ∙ c.in_ok-words-in-Fill.ensures.items_if_clones_equal (λ y h. h))
-        (c.in_ok-a-in-Fill.ensures.value ∙ ap (λ (e : Expr). word_in (value_in k e)) c.get-in-Fill.ensures) c.in_ok-row-in-Fill.ensures
+    (c.as_slice-in-Fill.ensures.value ∙ c.in_ok-words-in-Fill.ensures.items_if_clones_equal (λ y h. h))
+    (c.in_ok-a-in-Fill.ensures.value ∙ ap (λ (e : Expr). word_in (value_in k e)) c.get-in-Fill.ensures) c.in_ok-row-in-Fill.ensures
 
 -- `row`
 
@@ -189,12 +191,12 @@ value-words-requires t c =
 pub value-row-requires-in-Row : goal.value-row-requires-in-Row
 value-row-requires-in-Row t c =
     ready_row (known_of c.args.self.now) c.args.e.now c.in-Row.field-0 c.in-Row.parts c.as_slice-in-Row.result.now c.as_slice-in-Row-2.result.now c.requires c.in-Row.is c.as_slice-in-Row.ensures
-        (c.as_slice-in-Row-2.ensures.value ∙ c.in_ok-words-in-Row.ensures.words)
+    (c.as_slice-in-Row-2.ensures.value ∙ c.in_ok-words-in-Row.ensures.words)
 
 pub value-returns-in_ok-row-in-Row-clause-value : goal.value-returns-in_ok-row-in-Row-clause-value
 value-returns-in_ok-row-in-Row-clause-value t c =
     gives_row (known_of c.args.self.now) c.args.e.now c.in-Row.field-0 c.in-Row.parts c.as_slice-in-Row.result.now c.as_slice-in-Row-2.result.now c.in_ok-row-in-Row.row c.requires c.in-Row.is c.as_slice-in-Row.ensures
-        (c.as_slice-in-Row-2.ensures.value ∙ c.in_ok-words-in-Row.ensures.words) c.in_ok-row-in-Row.ensures
+    (c.as_slice-in-Row-2.ensures.value ∙ c.in_ok-words-in-Row.ensures.words) c.in_ok-row-in-Row.ensures
 
 -- `all` and `any`
 
@@ -202,14 +204,15 @@ pub value-quantified-requires : goal.value-quantified-requires
 value-quantified-requires t c =
     let k = known_of c.args.self.now in
     let some = some_quantified k c.args.e.now c.in-Quantified.field-0 c.in-Quantified.which c.in-Quantified.x c.in-Quantified.w c.in-Quantified.n c.in-Quantified.e c.requires c.in-Quantified.is in
-    let lighter = quantified_lighter k c.args.e.now c.in-Quantified.field-0 c.in-Quantified.which c.in-Quantified.x c.in-Quantified.w c.in-Quantified.n c.in-Quantified.e c.get-in-Quantified.result.now c.in-Quantified.is c.get-in-Quantified.ensures some in
-    (omega arith,
-      ready_quantified k c.args.e.now c.in-Quantified.field-0 c.in-Quantified.which c.in-Quantified.x c.in-Quantified.w c.in-Quantified.n c.in-Quantified.e c.get-in-Quantified.result.now c.requires c.in-Quantified.is c.get-in-Quantified.ensures)
+    let lighter = quantified_lighter k c.args.e.now c.in-Quantified.field-0 c.in-Quantified.which c.in-Quantified.x c.in-Quantified.w c.in-Quantified.n c.in-Quantified.e c.get-in-Quantified.result.now c.in-Quantified.is c.get-in-Quantified.ensures some in (
+      omega arith,
+      ready_quantified k c.args.e.now c.in-Quantified.field-0 c.in-Quantified.which c.in-Quantified.x c.in-Quantified.w c.in-Quantified.n c.in-Quantified.e c.get-in-Quantified.result.now c.requires c.in-Quantified.is c.get-in-Quantified.ensures,
+    )
 
 pub value-returns-in_ok-holds-in-Quantified-clause-value : goal.value-returns-in_ok-holds-in-Quantified-clause-value
 value-returns-in_ok-holds-in-Quantified-clause-value t c =
     gives_quantified (known_of c.args.self.now) c.args.e.now c.in-Quantified.field-0 c.in-Quantified.which c.in-Quantified.x c.in-Quantified.w c.in-Quantified.n c.in-Quantified.e c.get-in-Quantified.result.now c.in_ok-holds-in-Quantified.holds c.digit.result
-        c.in-Quantified.is c.get-in-Quantified.ensures c.in_ok-holds-in-Quantified.ensures.value c.digit.ensures
+    c.in-Quantified.is c.get-in-Quantified.ensures c.in_ok-holds-in-Quantified.ensures.value c.digit.ensures
 
 -- several expressions
 
