@@ -1,0 +1,5 @@
+pub mod Kinds
+pub mod Questions
+pub mod Blocks
+pub mod Machines
+pub mod Laws
