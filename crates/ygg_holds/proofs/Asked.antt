@@ -1,6 +1,7 @@
 -- The formulas of a typed file may be evaluated.
-use Rattle.std.proofs.Common.{◌≡◌, ℕ, zero, suc, ◌+◌, Bool, true, false, ◌&&◌, not, List, [], ◌∷◌, ◌++◌, length, Option, Some, None, slice_get, get_or, refl, sym, ap, ◌∙◌, subst}
+use Rattle.std.proofs.Common.{◌≡◌, ℕ, zero, suc, ◌+◌, ◌-◌, ◌<◌, arith, Bool, true, false, ◌&&◌, not, List, [], ◌∷◌, ◌++◌, length, Option, Some, None, slice_get, get_or, refl, sym, ap, ◌∙◌, subst}
 use Rattle.ygg_syntax.specs.declared.tree.Declared.{Declared}
+use Rattle.ygg_syntax.specs.declared.tree.Def.{Def}
 use Rattle.ygg_syntax.specs.declared.tree.Expr.{Expr}
 use Rattle.ygg_syntax.specs.declared.tree.Layer.{Layer}
 use Rattle.ygg_syntax.specs.declared.tree.File.{File}
@@ -19,7 +20,7 @@ use Rattle.ygg_fault.specs.Definitions.{definitions_faults, with_definitions}
 use Rattle.ygg_fault.specs.Layers.{Known as NamesKnown, Below, below_of, layer_scope, declared_faults, blocks_faults, operations_faults, ticks_faults, formula_faults, formulas_faults, relations_faults, parts_faults}
 use Rattle.ygg_fault.specs.Files.{disk_faults, disk_below, layer_faults, count_fault, layers_faults, faults_of, IsTyped}
 use Rattle.ygg_eval.specs.Environments.{Env, bind}
-use Rattle.ygg_eval.specs.Meaning.{functions_of}
+use Rattle.ygg_eval.specs.Meaning.{functions_of, is_one}
 use Rattle.ygg_eval.specs.Shapes.{values_fit}
 use Rattle.ygg_machine.specs.Stack.{tables_of}
 use Rattle.ygg_sound.specs.Agrees.{Agrees}
@@ -27,11 +28,11 @@ use Rattle.ygg_sound.proofs.Tests.{left, right}
 use Rattle.ygg_sound.proofs.Definitions.{MeetsAll, definitions_meet}
 use Rattle.ygg_answered.proofs.Faults.{none_listed}
 use Rattle.ygg_answered.proofs.Views.{LayerVariables, layer_variables}
-use Rattle.ygg_evaluate.specs.Known.{Known, CanEvaluate}
+use Rattle.ygg_evaluate.specs.Known.{Known, value_in, CanEvaluate}
 use Rattle.ygg_holds.specs.declared.formula.Formula.{Formula}
 use Rattle.ygg_holds.specs.declared.formula.Which.{Which}
 use Rattle.ygg_holds.specs.declared.formula.Which.TheVariants.{Relate, Always, Settled, Maybe}
-use Rattle.ygg_holds.specs.Formulas.{low_at, chosen_in, formula_in, low_of, IsAsked}
+use Rattle.ygg_holds.specs.Formulas.{low_at, chosen_in, formula_in, low_of, IsAsked, Answers}
 use Rattle.ygg_holds.proofs.Below.{bind_fits, IsBelow, disk_is_below, layer_is_below, relation_agrees, settled_agrees}
 
 -- the parts of a layer without faults that formulas ask for
@@ -182,3 +183,50 @@ can_ask file f state memory low typed asked =
         go Maybe = related
         go Settled = settled_agrees (functions_of file.defs) (with_definitions file.defs []) at.below asked.layer (low_of file f) meets at.is at.parts.variables (bind asked.layer.state state) (bind asked.layer.memory memory) (bind (low_of file f) low)
             (bind_fits asked.layer.state state asked.state_fits) (bind_fits asked.layer.memory memory asked.memory_fits) (bind_fits (low_of file f) low asked.low_fits)
+
+-- the same under other names
+pub asked_can : (file : File) (f : Formula) (state memory low : List Value) → IsTyped file → IsAsked file f state memory low → (l : Layer) (e : Expr) (k : Known) → slice_get file.layers f.layer ≡ Some l → formula_in l f ≡ Some e
+    → k ≡ asked_with file f l state memory low → CanEvaluate k e
+asked_can file f state memory low typed asked l e k is of_layer same =
+    let layers : asked.layer ≡ l = let a = asked.is in cc in
+    let expressions : asked.expression ≡ e = let a = asked.of_layer in let b = ap (λ x. formula_in x f) layers in cc in
+    subst (λ (known : Known). CanEvaluate known e) (sym same)
+    (subst (λ (x : Layer). CanEvaluate (asked_with file f x state memory low) e) layers
+    (subst (λ x. CanEvaluate (asked_with file f asked.layer state memory low) x) expressions (can_ask file f state memory low typed asked)))
+
+pub asked_gives : (file : File) (f : Formula) (state memory low : List Value) (l : Layer) (e : Expr) (k : Known) (answer : Bool) → slice_get file.layers f.layer ≡ Some l → formula_in l f ≡ Some e → k ≡ asked_with file f l state memory low
+    → answer ≡ is_one (value_in k e) → Answers file f state memory low answer
+asked_gives file f state memory low l e k answer is of_layer same gives l' e' is' of_layer' =
+    let layers : l ≡ l' = cc in
+    let expressions : e ≡ e' = let b = ap (λ x. formula_in x f) layers in cc in
+    gives ∙ ap (λ (known : Known). is_one (value_in known e)) same ∙ ap (λ (x : Layer). is_one (value_in (asked_with file f x state memory low) e)) layers
+    ∙ ap (λ x. is_one (value_in (asked_with file f l' state memory low) x)) expressions
+
+-- the names with values that were gathered one list after another
+pub known_is : (file : File) (f : Formula) (l : Layer) (state memory low : List Value) (defs : List Def) (none first own nothing lower : Env) (ds es : List Declared) (vs ws us : List Value) → defs ≡ file.defs
+    → none ≡ [] → first ≡ none ++ bind ds vs → own ≡ first ++ bind es ws → ds ≡ l.state → vs ≡ state → es ≡ l.memory → ws ≡ memory → nothing ≡ [] → lower ≡ nothing ++ bind (low_of file f) us → us ≡ low
+    → record { defs = defs; own = own; low = lower } ≡ asked_with file f l state memory low
+known_is file f l state memory low defs none first own nothing lower ds es vs ws us d n a b p q r s m o u =
+    let owns : own ≡ bind l.state state ++ bind l.memory memory =
+    b ∙ ap (λ x. x ++ bind es ws) (a ∙ ap (λ x. x ++ bind ds vs) n) ∙ ap (λ x. bind x vs ++ bind es ws) p ∙ ap (λ x. bind l.state x ++ bind es ws) q ∙ ap (λ x. bind l.state state ++ bind x ws) r
+    ∙ ap (λ x. bind l.state state ++ bind l.memory x) s in
+    let lows : lower ≡ bind (low_of file f) low = o ∙ ap (λ x. x ++ bind (low_of file f) us) m ∙ ap (bind (low_of file f)) u in
+    let known : List Def → Env → Env → Known = λ x y z. record { defs = x; own = y; low = z } in
+    ap (λ x. known x own lower) d ∙ ap (λ x. known file.defs x lower) owns ∙ ap (known file.defs (bind l.state state ++ bind l.memory memory)) lows
+
+-- what stands below the first layer, and below another one
+pub low_first : (below : List Declared) (ls : List Layer) (place : ℕ) → place ≡ 0 → low_at below ls place ≡ below
+low_first below ls place h = ap (low_at below ls) h ∙ go ls
+  where
+    go : (ls : List Layer) → low_at below ls 0 ≡ below
+    go [] = refl
+    go (l ∷ ls) = refl
+
+low_next : (below : List Declared) (ls : List Layer) (place : ℕ) (l : Layer) → place < length ls → l ≡ get_or ls place l → low_at below ls (suc place) ≡ l.state
+low_next below [] place l h e = absurd (omega arith)
+low_next below (x ∷ ls) zero l h e = low_first x.state ls 0 refl ∙ ap (λ (y : Layer). y.state) (sym e)
+low_next below (x ∷ ls) (suc p) l h e = low_next x.state ls p l (omega arith) e
+
+pub low_later : (below : List Declared) (ls : List Layer) (place : ℕ) (l : Layer) → place < length ls → (place ≡ 0 → ⊥) → l ≡ get_or ls (place - 1) l → low_at below ls place ≡ l.state
+low_later below ls zero l h n e = absurd (n refl)
+low_later below ls (suc p) l h n e = let one : suc p - 1 ≡ p = omega arith in low_next below ls p l (omega arith) (e ∙ ap (λ k. get_or ls k l) one)
