@@ -1,5 +1,5 @@
 -- The formulas of a typed file may be evaluated.
-use Rattle.std.proofs.Common.{◌≡◌, ℕ, zero, suc, ◌+◌, ◌-◌, ◌<◌, arith, Bool, true, false, ◌&&◌, not, List, [], ◌∷◌, ◌++◌, length, Option, Some, None, slice_get, get_or, refl, sym, ap, ◌∙◌, subst}
+use Rattle.std.proofs.Common.{◌≡◌, ℕ, zero, suc, ◌+◌, ◌-◌, ◌<◌, arith, Bool, true, ◌&&◌, not, List, [], ◌∷◌, ◌++◌, length, Some, slice_get, get_or, refl, sym, ap, ◌∙◌, subst}
 use Rattle.ygg_syntax.specs.declared.tree.Declared.{Declared}
 use Rattle.ygg_syntax.specs.declared.tree.Def.{Def}
 use Rattle.ygg_syntax.specs.declared.tree.Expr.{Expr}
@@ -8,11 +8,11 @@ use Rattle.ygg_syntax.specs.declared.tree.File.{File}
 use Rattle.ygg_value.specs.declared.row.Value.{Value}
 use Rattle.ygg_value.specs.declared.shape.Shape.TheVariants.{Word}
 use Rattle.ygg_count.specs.Weights.{Weights, weights_of, expr_weight}
-use Rattle.ygg_names.specs.Names.{Named, look_up, has, added}
+use Rattle.ygg_names.specs.Names.{Named, has, added}
 use Rattle.ygg_fault.specs.declared.scope.Signature.{Signature}
 use Rattle.ygg_fault.specs.declared.scope.View.{View}
 use Rattle.ygg_fault.specs.declared.scope.View.TheVariants as view
-use Rattle.ygg_fault.specs.Faults.{none, unless, listed}
+use Rattle.ygg_fault.specs.Faults.{none, unless}
 use Rattle.ygg_fault.specs.Limits.{weight_fits}
 use Rattle.ygg_fault.specs.Scopes.{Scope, seen_as}
 use Rattle.ygg_fault.specs.Expressions.{typing, wanted, expected_faults}
@@ -21,7 +21,6 @@ use Rattle.ygg_fault.specs.Layers.{Known as NamesKnown, Below, below_of, layer_s
 use Rattle.ygg_fault.specs.Files.{disk_faults, disk_below, layer_faults, count_fault, layers_faults, faults_of, IsTyped}
 use Rattle.ygg_eval.specs.Environments.{Env, bind}
 use Rattle.ygg_eval.specs.Meaning.{functions_of, is_one}
-use Rattle.ygg_eval.specs.Shapes.{values_fit}
 use Rattle.ygg_machine.specs.Stack.{tables_of}
 use Rattle.ygg_sound.specs.Agrees.{Agrees}
 use Rattle.ygg_sound.proofs.Tests.{left, right}

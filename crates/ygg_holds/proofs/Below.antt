@@ -1,5 +1,5 @@
 -- What formulas see of the machine below a layer, and of the layer's variables.
-use Rattle.std.proofs.Common.{◌≡◌, ℕ, zero, suc, ◌+◌, Bool, true, false, ◌&&◌, ◌||◌, not, cond, List, [], ◌∷◌, ◌++◌, map, Option, Some, None, is_some, slice_get, codes, refl, sym, ap, ◌∙◌, subst}
+use Rattle.std.proofs.Common.{◌≡◌, ℕ, Bool, true, false, ◌&&◌, ◌||◌, not, cond, List, [], ◌∷◌, ◌++◌, Option, Some, None, is_some, codes, refl, sym, ap, ◌∙◌, subst}
 use Rattle.std.specs.Str.{bytes_eq}
 use Rattle.ygg_syntax.specs.declared.tree.DiskKind.{DiskKind}
 use Rattle.ygg_syntax.specs.declared.tree.DiskKind.TheVariants.{Sync, Async}
@@ -14,28 +14,27 @@ use Rattle.ygg_count.specs.Weights.{Weights}
 use Rattle.ygg_names.specs.Names.{Named, look_up, has}
 use Rattle.ygg_fault.specs.declared.scope.Kind.{Kind}
 use Rattle.ygg_fault.specs.declared.scope.Kind.TheVariants.{State, Memory}
-use Rattle.ygg_fault.specs.declared.scope.View.{View}
 use Rattle.ygg_fault.specs.declared.scope.View.TheVariants.{Relation, Settled}
 use Rattle.ygg_fault.specs.declared.scope.Variable.{Variable}
 use Rattle.ygg_fault.specs.declared.scope.Local.{Local}
 use Rattle.ygg_fault.specs.declared.scope.Signature.{Signature}
 use Rattle.ygg_fault.specs.Faults.{none, unless}
-use Rattle.ygg_fault.specs.Shapes.{shape_of, answer_shape}
+use Rattle.ygg_fault.specs.Shapes.{shape_of}
 use Rattle.ygg_fault.specs.Scopes.{Scope, seen_variable, state_shape, seen_as}
 use Rattle.ygg_fault.specs.Definitions.{answer_type_faults, parameters_faults, with_parameters}
 use Rattle.ygg_fault.specs.Layers.{Below, variables_of, below_of, layer_scope, operation_signature, with_operation, with_operations, picks_faults, operation_blocks_faults, operation_faults, operations_faults}
-use Rattle.ygg_fault.specs.Files.{disk_faults, disk_variables, disk_table, disk_below}
+use Rattle.ygg_fault.specs.Files.{disk_faults, disk_table, disk_below}
 use Rattle.ygg_eval.specs.Environments.{Env, bind}
 use Rattle.ygg_eval.specs.Meaning.{Functions}
 use Rattle.ygg_eval.specs.Shapes.{shape_in, fits, values_fit, env_fits}
-use Rattle.ygg_machine.specs.Stack.{table_named, tables_of_kind, tables_of}
+use Rattle.ygg_machine.specs.Stack.{tables_of_kind, tables_of}
 use Rattle.ygg_sound.specs.Fitting.{IsShaped, IsHeld}
 use Rattle.ygg_sound.specs.Agrees.{Agrees}
 use Rattle.ygg_sound.proofs.Tests.{left, right, bytes_equal}
-use Rattle.ygg_sound.proofs.Names.{or_else, look_up_append, still_found, new_found, absent}
+use Rattle.ygg_sound.proofs.Names.{or_else, look_up_append, new_found, absent}
 use Rattle.ygg_sound.proofs.Steps.{held_more}
 use Rattle.ygg_sound.proofs.Definitions.{MeetsAll}
-use Rattle.ygg_answered.proofs.Views.{entries, AllTyped, IsHeldAs, held_in, has_in, LayerVariables, LowerShaped}
+use Rattle.ygg_answered.proofs.Views.{entries, AllTyped, held_in, has_in, LayerVariables, LowerShaped}
 use Rattle.ygg_answered.proofs.Operations.{answer_shaped}
 use Rattle.ygg_answered.proofs.Files.{on_disk}
 
@@ -142,7 +141,7 @@ memory_hidden v known k h = hidden (ap (λ kind. elim kind [ State ↦ Some v.sh
 low_held : (below : Below) (low : List Declared) (env : Env) → IsBelow below low → env_fits low env ≡ true → (name : List ℕ) (known : Option Shape) → state_shape (look_up name below.variables) ≡ Some known → IsHeld name known env
 low_held below low env is fit name known h =
     cases (look_up name (entries State low)) (look_up name (entries Memory is.memory)) refl refl
-        (sym (ap state_shape (ap (look_up name) is.variables ∙ look_up_append name (entries State low) (entries Memory is.memory))) ∙ h)
+    (sym (ap state_shape (ap (look_up name) is.variables ∙ look_up_append name (entries State low) (entries Memory is.memory))) ∙ h)
   where
     cases : (o p : Option Variable) → look_up name (entries State low) ≡ o → look_up name (entries Memory is.memory) ≡ p → state_shape (or_else o p) ≡ Some known → IsHeld name known env
     cases (Some v) p i j g = let held = held_in State low env is.typed fit name v i in subst (λ s. IsHeld name s env) (state_is v known held.kind_is g) held.held
@@ -183,7 +182,7 @@ module _ (functions : Functions) (defs : Named Signature) (below : Below) (l : L
       let held = held_in Memory l.memory memory vs.memory memory_fits name v j in
       let before : look_up name state ≡ None = absent (look_up name state) (has_in State l.state state state_fits name ∙ ap is_some i) in
       subst (λ s. IsHeld name s (state ++ memory)) (local_is v k h)
-          (record { value = held.held.value; found = new_found name state memory before ∙ held.held.found; has = held.held.has })
+      (record { value = held.held.value; found = new_found name state memory before ∙ held.held.found; has = held.held.has })
   seen name k None None i j h = absurd (cc)
 
   -- the expressions of `relate`, `always` and `maybe`

@@ -17,7 +17,11 @@ use ygg_type::Typed;
 use ygg_value::{Value, Values};
 
 /// Puts declared names with these values after others, in order. Its only error is want of memory.
-fn name_values<'a, 'v>(bindings: &mut Vec<Binding<'a, 'v>>, declared: &'a [Declared], values: &'v [Value]) -> Result<(), NoMemory>
+fn name_values<'a, 'v>(
+    bindings: &mut Vec<Binding<'a, 'v>>,
+    declared: &'a [Declared],
+    values: &'v [Value],
+) -> Result<(), NoMemory>
     ensures { OnOk result (env_of bindings.new.items ≡ env_of bindings.old.items ++ bind declared.now values.now) }
 {
     for (i, variable) in declared.iter().enumerate() {
@@ -33,7 +37,11 @@ fn name_values<'a, 'v>(bindings: &mut Vec<Binding<'a, 'v>>, declared: &'a [Decla
 }
 
 /// Puts the tables of a disk with these values after others. Its only error is want of memory.
-fn name_tables<'a, 'v>(bindings: &mut Vec<Binding<'a, 'v>>, disk: &DiskText, values: &'v [Value]) -> Result<(), NoMemory>
+fn name_tables<'a, 'v>(
+    bindings: &mut Vec<Binding<'a, 'v>>,
+    disk: &DiskText,
+    values: &'v [Value],
+) -> Result<(), NoMemory>
     requires { IsTrue (values_fit (tables_of disk.now) values.now) }
     ensures { OnOk result (env_of bindings.new.items ≡ env_of bindings.old.items ++ bind (tables_of disk.now) values.now) }
 {
@@ -60,7 +68,13 @@ fn name_tables<'a, 'v>(bindings: &mut Vec<Binding<'a, 'v>>, disk: &DiskText, val
 }
 
 /// Puts the variables of the machine below a layer with these values after others. Its only error is want of memory.
-fn name_low<'a, 'v>(bindings: &mut Vec<Binding<'a, 'v>>, disk: &DiskText, layers: &'a [Layer], place: usize, values: &'v [Value]) -> Result<(), NoMemory>
+fn name_low<'a, 'v>(
+    bindings: &mut Vec<Binding<'a, 'v>>,
+    disk: &DiskText,
+    layers: &'a [Layer],
+    place: usize,
+    values: &'v [Value],
+) -> Result<(), NoMemory>
     requires within { place < length layers.now }
     requires fits { IsTrue (values_fit (low_at (tables_of disk.now) layers.now place) values.now) }
     ensures { OnOk result (env_of bindings.new.items ≡ env_of bindings.old.items ++ bind (low_at (tables_of disk.now) layers.now place) values.now) }
@@ -76,7 +90,14 @@ fn name_low<'a, 'v>(bindings: &mut Vec<Binding<'a, 'v>>, disk: &DiskText, layers
 
 /// Whether a formula holds of the values of the state variables, the memory variables and the variables of the machine below. Its
 /// only error is want of memory.
-pub fn holds(alloc: Global, typed: &Typed, formula: Formula, state: &Values, memory: &Values, low: &Values) -> Result<bool, NoMemory>
+pub fn holds(
+    alloc: Global,
+    typed: &Typed,
+    formula: Formula,
+    state: &Values,
+    memory: &Values,
+    low: &Values,
+) -> Result<bool, NoMemory>
     requires { IsAsked typed.now.file formula state.now memory.now low.now }
     ensures { IfOk result (λ answer. Answers typed.now.file formula state.now memory.now low.now answer) }
 {

@@ -3,7 +3,6 @@ use Rattle.ygg_eval.specs.Environments.{bind}
 use Rattle.ygg_eval.specs.Shapes.{values_fit}
 use Rattle.ygg_machine.specs.Stack.{tables_of}
 use Rattle.ygg_evaluate.specs.Held.{env_of}
-use Rattle.ygg_holds.specs.Formulas.{low_at}
 use Rattle.ygg_holds.proofs.Asked.{low_first, low_later}
 use Rattle.ygg_holds.proofs.related.name_low.Goals as goal
 
