@@ -21,9 +21,9 @@ use Rattle.ygg_fault.specs.Shapes.{word_shape}
 use Rattle.ygg_fault.specs.Expressions.{with_number as typing_number}
 use Rattle.ygg_eval.specs.Meaning.{functions_of, row_of, filled}
 use Rattle.ygg_sound.specs.Fitting.{all_fit}
-use Rattle.ygg_sound.proofs.Rules.{ConstantParts, is_equality, Operands}
+use Rattle.ygg_sound.proofs.Rules.{is_equality, Operands}
 use Rattle.ygg_sound.proofs.Lists.{IsWordOf, RowParts}
-use Rattle.ygg_sound.proofs.Parts.{Faultless, HasValue, values_in, constant_typed, apply_typed, binary_typed, not_typed, at_typed, pick_typed, resize_typed, fill_typed, row_typed, quantified_typed}
+use Rattle.ygg_sound.proofs.Parts.{Faultless, HasValue, values_in, apply_typed, binary_typed, at_typed, pick_typed, resize_typed, fill_typed, row_typed, quantified_typed}
 use Rattle.ygg_evaluate.proofs.Called.{local_keeps}
 use Rattle.ygg_evaluate.specs.Words.{row_from, AreOfRow, CanOperate}
 use Rattle.ygg_evaluate.specs.Known.{Known, scope_in, value_in, CanEvaluate, CanCall, CanQuantify}
@@ -37,9 +37,6 @@ parts_can k e can [] h = All-nil (CanEvaluate k)
 parts_can k e can (x ∷ es) h =
     let P = HasValue (functions_of k.defs) can.scope (scope_in k) in
     All-cons (CanEvaluate k) x es (part_can k e x can (All-head P x es h).faultless) (parts_can k e can es (All-tail P x es h))
-
-pub constant_can : (k : Known) (v w : Numeral) → CanEvaluate k (tree.Constant v w) → ConstantParts v w
-constant_can k v w can = constant_typed v w can.scope can.faultless
 
 -- operators
 
@@ -70,9 +67,6 @@ binary_can k first a op at b can =
     let t = binary_typed (functions_of k.defs) can.scope (scope_in k) first a op at b can.agrees can.faultless in
     let e = tree.Binary first a op at b in
     record { left = part_can k e a can t.left.faultless; right = part_can k e b can t.right.faultless; operate = can_operate op (value_in k a) (value_in k b) t.operands }
-
-pub not_can : (k : Known) (first : Place) (a : Expr) → CanEvaluate k (tree.Not first a) → CanEvaluate k a
-not_can k first a can = part_can k (tree.Not first a) a can (not_typed (functions_of k.defs) can.scope (scope_in k) first a can.agrees can.faultless).operand.faultless
 
 pub at_can : (k : Known) (a : Expr) (bracket : Place) (i : Expr) → CanEvaluate k (tree.At a bracket i) → CanEvaluate k a × CanEvaluate k i
 at_can k a bracket i can =
