@@ -1,0 +1,254 @@
+//! The evaluator.
+
+ghost use Rattle.std.specs.Prelude.{◌≡◌, ◌<◌, ◌≤◌, ◌^◌, IfOk, OnOk, IfSome, IfNone, All, List, map};
+ghost use Rattle.ygg_value.specs.declared.row.Value.{Value as AnyValue};
+ghost use Rattle.ygg_value.specs.Values.{word_in};
+ghost use Rattle.ygg_eval.specs.Environments.{bind, nothing};
+ghost use Rattle.ygg_eval.specs.Meaning.{functions_of, quantified, is_one};
+ghost use Rattle.ygg_evaluate.specs.Held.{env_of, held_value, held_values};
+ghost use Rattle.ygg_evaluate.specs.Known.{is_all, known_of, value_in, with_number, CanEvaluate, CanCall, CanQuantify, IsDefinition};
+
+use crate::held::{Binding, Held, find};
+use crate::made::{digit, operated, part, row, word_in};
+use std::alloc::Global;
+use ygg_list::NoMemory;
+use ygg_syntax::tree::{Declared, Def, Expr, Name, Numeral, Quantifier};
+use ygg_value::{Value, Word, not, resize};
+
+/// What an expression is evaluated with: the definitions that it sees, its own names, and those of the machine below.
+#[derive(Drop)]
+pub struct Evaluator<'a, 'v> {
+    pub alloc: Global,
+    pub defs: &'a [Def],
+    pub own: Vec<Binding<'a, 'v>>,
+    pub low: Vec<Binding<'a, 'v>>,
+}
+
+impl<'a, 'v> Evaluator<'a, 'v> {
+    /// The value of an expression. Its only error is want of memory.
+    #[cycle(value)]
+    pub fn value(&mut self, e: &'a Expr) -> Result<Held<'v>, NoMemory>
+        requires { CanEvaluate (known_of self.old) e.now }
+        ensures value { IfOk result (λ v. held_value v ≡ value_in (known_of self.old) e.now) }
+        ensures same { OnOk result (known_of self.new ≡ known_of self.old) }
+    {
+        match e {
+            Expr::Constant(v, w) => Ok(Held::Made(Value::Word(Word {
+                width: w.value as u8,
+                bits: v.value,
+            }))),
+            Expr::Low(_, x) => {
+                let held = find(self.alloc, self.low.as_slice(), x.text.as_slice())?;
+                Ok(held)
+            }
+            Expr::Variable(x) => {
+                let held = find(self.alloc, self.own.as_slice(), x.text.as_slice())?;
+                Ok(held)
+            }
+            Expr::Apply(f, arguments) => {
+                let arguments = self.values(arguments.as_slice())?;
+                let value = self.called(f.text.as_slice(), arguments.as_slice())?;
+                Ok(Held::Made(value))
+            }
+            Expr::Binary(_, a, op, _, b) => {
+                let a = self.value(a.get())?;
+                let b = self.value(b.get())?;
+                Ok(Held::Made(operated(*op, a.value(), b.value())))
+            }
+            Expr::Not(_, a) => {
+                let a = self.word(a.get())?;
+                Ok(Held::Made(Value::Word(not(a))))
+            }
+            Expr::At(whole, _, i) => {
+                let whole = self.value(whole.get())?;
+                let i = self.word(i.get())?;
+                let part = part(self.alloc, whole.value(), i)?;
+                Ok(Held::Made(part))
+            }
+            Expr::Pick(_, test, a, b) => {
+                let test = self.word(test.get())?;
+                if test.bits == 1 {
+                    let a = self.value(a.get())?;
+                    return Ok(a);
+                }
+                let b = self.value(b.get())?;
+                Ok(b)
+            }
+            Expr::Resize(_, a, w) => {
+                let a = self.word(a.get())?;
+                Ok(Held::Made(Value::Word(resize(a, w.value as u8))))
+            }
+            Expr::Fill(_, m, a) => {
+                let a = self.word(a.get())?;
+                let words = vec![in self.alloc; a; m.value as usize]?;
+                let row = row(self.alloc, words.as_slice())?;
+                Ok(Held::Made(Value::Row(row)))
+            }
+            Expr::Row(_, parts) => {
+                let words = self.words(parts.as_slice())?;
+                let row = row(self.alloc, words.as_slice())?;
+                Ok(Held::Made(Value::Row(row)))
+            }
+            Expr::Quantified(_, which, x, w, n, e) => {
+                let holds = self.quantified(*which, x, *w, *n, e.get())?;
+                Ok(Held::Made(digit(holds)))
+            }
+        }
+    }
+
+    /// The word that the value of an expression is.
+    #[cycle(value)]
+    fn word(&mut self, e: &'a Expr) -> Result<Word, NoMemory>
+        requires { CanEvaluate (known_of self.old) e.now }
+        ensures value { IfOk result (λ w. w ≡ word_in (value_in (known_of self.old) e.now)) }
+        ensures same { OnOk result (known_of self.new ≡ known_of self.old) }
+    {
+        let value = self.value(e)?;
+        Ok(word_in(value.value()))
+    }
+
+    /// The values of expressions.
+    #[cycle(value)]
+    fn values(&mut self, es: &'a [Expr]) -> Result<Vec<Held<'v>>, NoMemory>
+        requires { All (CanEvaluate (known_of self.old)) es.now }
+        ensures values { IfOk result (λ vs. held_values vs.items ≡ map (value_in (known_of self.old)) es.now) }
+        ensures same { OnOk result (known_of self.new ≡ known_of self.old) }
+    {
+        let mut values = Vec::new(self.alloc);
+        for e in es {
+            let value = self.value(e)?;
+            values.push(value)?;
+        }
+        Ok(values)
+    }
+
+    /// The words that the values of expressions are.
+    #[cycle(value)]
+    fn words(&mut self, es: &'a [Expr]) -> Result<Vec<Word>, NoMemory>
+        requires { All (CanEvaluate (known_of self.old)) es.now }
+        ensures words { IfOk result (λ ws. ws.items ≡ map (λ e. word_in (value_in (known_of self.old) e)) es.now) }
+        ensures same { OnOk result (known_of self.new ≡ known_of self.old) }
+    {
+        let mut words = Vec::new(self.alloc);
+        for e in es {
+            let word = self.word(e)?;
+            words.push(word)?;
+        }
+        Ok(words)
+    }
+
+    /// What a definition gives for arguments.
+    #[cycle(value)]
+    fn called(&self, name: &[u8], args: &[Held<'v>]) -> Result<Value, NoMemory>
+        requires { CanCall self.now.defs.now name.now (held_values args.now) }
+        ensures { IfOk result (λ v. v ≡ functions_of self.now.defs.now name.now (held_values args.now)) }
+    {
+        match definition(self.defs, name) {
+            Some(place) => {
+                let def = &self.defs[place];
+                let mut inner = Evaluator {
+                    alloc: self.alloc,
+                    defs: &self.defs[..place],
+                    own: bound(self.alloc, def.parameters.as_slice(), args)?,
+                    low: Vec::new(self.alloc),
+                };
+                let value = inner.value(&def.body)?;
+                let value = value.into_value(self.alloc)?;
+                Ok(value)
+            }
+            None => Ok(Value::Word(Word { width: 1, bits: 0 })),
+        }
+    }
+
+    /// Whether an expression is 1 at every number below a bound, or at some.
+    #[cycle(value)]
+    fn quantified(
+        &mut self,
+        which: Quantifier,
+        x: &'a Name,
+        w: Numeral,
+        n: Numeral,
+        e: &'a Expr,
+    ) -> Result<bool, NoMemory>
+        requires { CanQuantify (known_of self.old) x.now.text w n e.now }
+        ensures value { IfOk result (λ b. b ≡ quantified which n.value (λ i. is_one (value_in (with_number (known_of self.old) x.now.text w.value i) e.now))) }
+        ensures same { OnOk result (known_of self.new ≡ known_of self.old) }
+    {
+        let all = is_all(which);
+        for i in 0..n.value {
+            let test = self.test(x, w, i, e)?;
+            if test != all {
+                return Ok(test);
+            }
+        }
+        Ok(all)
+    }
+
+    /// Whether an expression is 1 at a number.
+    #[cycle(value)]
+    fn test(&mut self, x: &'a Name, w: Numeral, i: u64, e: &'a Expr) -> Result<bool, NoMemory>
+        requires least { 1 ≤ w.value }
+        requires most { w.value ≤ 64 }
+        requires below { i < 2 ^ w.value }
+        requires can { CanEvaluate (with_number (known_of self.old) x.now.text w.value i) e.now }
+        ensures value { IfOk result (λ b. b ≡ is_one (value_in (with_number (known_of self.old) x.now.text w.value i) e.now)) }
+        ensures same { OnOk result (known_of self.new ≡ known_of self.old) }
+    {
+        let before = self.own.len();
+        let number = Word {
+            width: w.value as u8,
+            bits: i,
+        };
+        self.own.push(Binding {
+            name: x.text.as_slice(),
+            held: Held::Made(Value::Word(number)),
+        })?;
+        let word = self.word(e)?;
+        self.own.truncate(before);
+        Ok(word.bits == 1)
+    }
+}
+
+/// Whether the test is to pass at every number.
+fn is_all(which: Quantifier) -> bool
+    ensures { result ≡ is_all which }
+{
+    match which {
+        Quantifier::All => true,
+        Quantifier::Any => false,
+    }
+}
+
+/// The place of the definition of a name.
+fn definition(defs: &[Def], name: &[u8]) -> Option<usize>
+    ensures some { IfSome result (λ place. IsDefinition defs.now name.now place) }
+    ensures none { IfNone result ((args : List AnyValue) → functions_of defs.now name.now args ≡ nothing) }
+{
+    for (place, def) in defs.iter().enumerate() {
+        if def.name.text.as_slice() == name {
+            return Some(place);
+        }
+    }
+    None
+}
+
+/// Parameters with the values of arguments, in order.
+fn bound<'a, 'v, 'w>(
+    alloc: Global,
+    parameters: &'a [Declared],
+    args: &'v [Held<'w>],
+) -> Result<Vec<Binding<'a, 'v>>, NoMemory>
+    ensures { IfOk result (λ bindings. env_of bindings.items ≡ bind parameters.now (held_values args.now)) }
+{
+    let mut bindings = Vec::new(alloc);
+    for (i, parameter) in parameters.iter().enumerate() {
+        if i >= args.len() {
+            return Ok(bindings);
+        }
+        bindings.push(Binding {
+            name: parameter.name.text.as_slice(),
+            held: Held::Lent(args[i].value()),
+        })?;
+    }
+    Ok(bindings)
+}

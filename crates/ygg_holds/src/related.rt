@@ -1,0 +1,134 @@
+//! Whether a formula holds.
+
+ghost use Rattle.std.specs.Prelude.{◌≡◌, ◌++◌, ◌<◌, length, IfOk, OnOk, IsTrue, slice_get, Some};
+ghost use Rattle.ygg_eval.specs.Environments.{bind};
+ghost use Rattle.ygg_eval.specs.Meaning.{is_one};
+ghost use Rattle.ygg_eval.specs.Shapes.{values_fit};
+ghost use Rattle.ygg_machine.specs.Stack.{tables_of};
+ghost use Rattle.ygg_evaluate.specs.Held.{env_of};
+ghost use Rattle.ygg_holds.specs.Formulas.{low_at, IsAsked, Answers};
+
+use crate::formula::{Formula, expression_of};
+use std::alloc::Global;
+use ygg_evaluate::{Binding, Evaluator, Held};
+use ygg_list::NoMemory;
+use ygg_syntax::tree::{Declared, DiskKind, DiskText, Layer};
+use ygg_type::Typed;
+use ygg_value::{Value, Values};
+
+/// Puts declared names with these values after others, in order. Its only error is want of memory.
+fn name_values<'a, 'v>(
+    bindings: &mut Vec<Binding<'a, 'v>>,
+    declared: &'a [Declared],
+    values: &'v [Value],
+) -> Result<(), NoMemory>
+    ensures { OnOk result (env_of bindings.new.items ≡ env_of bindings.old.items ++ bind declared.now values.now) }
+{
+    for (i, variable) in declared.iter().enumerate() {
+        if i >= values.len() {
+            return Ok(());
+        }
+        bindings.push(Binding {
+            name: variable.name.text.as_slice(),
+            held: Held::Lent(&values[i]),
+        })?;
+    }
+    Ok(())
+}
+
+/// Puts the tables of a disk with these values after others. Its only error is want of memory.
+fn name_tables<'a, 'v>(
+    bindings: &mut Vec<Binding<'a, 'v>>,
+    disk: &DiskText,
+    values: &'v [Value],
+) -> Result<(), NoMemory>
+    requires { IsTrue (values_fit (tables_of disk.now) values.now) }
+    ensures { OnOk result (env_of bindings.new.items ≡ env_of bindings.old.items ++ bind (tables_of disk.now) values.now) }
+{
+    match disk.kind {
+        DiskKind::Sync => {
+            bindings.push(Binding {
+                name: b"view",
+                held: Held::Lent(&values[0]),
+            })?;
+            Ok(())
+        }
+        DiskKind::Async => {
+            bindings.push(Binding {
+                name: b"view",
+                held: Held::Lent(&values[0]),
+            })?;
+            bindings.push(Binding {
+                name: b"stable",
+                held: Held::Lent(&values[1]),
+            })?;
+            Ok(())
+        }
+    }
+}
+
+/// Puts the variables of the machine below a layer with these values after others. Its only error is want of memory.
+fn name_low<'a, 'v>(
+    bindings: &mut Vec<Binding<'a, 'v>>,
+    disk: &DiskText,
+    layers: &'a [Layer],
+    place: usize,
+    values: &'v [Value],
+) -> Result<(), NoMemory>
+    requires within { place < length layers.now }
+    requires fits { IsTrue (values_fit (low_at (tables_of disk.now) layers.now place) values.now) }
+    ensures { OnOk result (env_of bindings.new.items ≡ env_of bindings.old.items ++ bind (low_at (tables_of disk.now) layers.now place) values.now) }
+{
+    if place == 0 {
+        name_tables(bindings, disk, values)?;
+        return Ok(());
+    }
+    let below = &layers[place - 1];
+    name_values(bindings, below.state.as_slice(), values)?;
+    Ok(())
+}
+
+/// Whether a formula holds of the values of the state variables, the memory variables and the variables of the machine below. Its
+/// only error is want of memory.
+pub fn holds(
+    alloc: Global,
+    typed: &Typed,
+    formula: Formula,
+    state: &Values,
+    memory: &Values,
+    low: &Values,
+) -> Result<bool, NoMemory>
+    requires { IsAsked typed.now.file formula state.now memory.now low.now }
+    ensures { IfOk result (λ answer. Answers typed.now.file formula state.now memory.now low.now answer) }
+{
+    let file = typed.file();
+    let layers = file.layers.as_slice();
+    let place = formula.layer as usize;
+    let layer = &layers[place];
+    let Some(expression) = expression_of(layer, formula) else {
+        unreachable!();
+    };
+    let mut own = Vec::new(alloc);
+    name_values(&mut own, layer.state.as_slice(), state.as_slice())?;
+    name_values(&mut own, layer.memory.as_slice(), memory.as_slice())?;
+    let mut below = Vec::new(alloc);
+    name_low(&mut below, &file.disk, layers, place, low.as_slice())?;
+    let mut evaluator = Evaluator {
+        alloc,
+        defs: file.defs.as_slice(),
+        own,
+        low: below,
+    };
+    let value = evaluator.value(expression)?;
+    Ok(is_one(value.value()))
+}
+
+/// Whether a value is a word of 1.
+fn is_one(value: &Value) -> bool
+    ensures { result ≡ is_one value.now }
+{
+    match value {
+        Value::Word(word) => word.bits == 1,
+        _ => false,
+    }
+}
