@@ -1,3 +1,4 @@
 pub mod PropagationLemmas
 pub mod LookLemmas
 pub mod LoadLemmas
+pub mod PickLemmas

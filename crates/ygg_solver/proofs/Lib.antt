@@ -1,6 +1,2 @@
-pub mod LeftLemmas
-pub mod ReadyLemmas
-pub mod LogLemmas
-pub mod ModelLemmas
-pub mod RenameLemmas
-pub mod NameLemmas
+mod RenameLemmas
+mod NameLemmas

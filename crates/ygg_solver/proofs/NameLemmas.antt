@@ -15,7 +15,7 @@ use Rattle.ygg_solver.specs.Names.{log_at, GivesValues}
 use Rattle.ygg_trail.specs.declared.entry.Entry.{Entry}
 use Rattle.ygg_trail.specs.Trail.{IsAt}
 use Rattle.ygg_trail.specs.Assignments.{IsTrail}
-use Rattle.ygg_solver.proofs.ModelLemmas.{value_more}
+use Rattle.ygg_search.proofs.ModelLemmas.{value_more}
 use Rattle.ygg_solver.proofs.RenameLemmas.{IsRenaming, renamed_step, refutes_renamed, spent_renamed}
 
 -- the sum of the variables, which none of them is above

@@ -3,8 +3,6 @@
 
 mod answer;
 mod names;
-mod run;
-mod search;
 mod solving;
 
 pub use answer::Answer;

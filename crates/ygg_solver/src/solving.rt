@@ -4,14 +4,14 @@ ghost use Rattle.ygg_solver.specs.Answers.{IsNumbered, IsAnswer};
 
 use crate::answer::Answer;
 use crate::names::{assignment_of, name_log, number_all};
-use crate::search::{End, search};
 use std::alloc::Global;
 use ygg_chain::Variables;
-use ygg_cnf::{Clause, Clauses, Log};
+use ygg_cnf::{Clauses, Log};
 use ygg_list::NoMemory;
-use ygg_order::{Leaning, Order, Work};
-use ygg_propagate::load;
-use ygg_watch::{Trail, Watch};
+use ygg_order::{Order, Work};
+use ygg_propagate::{Trail, load};
+use ygg_search::{End, order_for, search_clauses};
+use ygg_watch::Watch;
 
 /// Whether a clause is empty.
 fn has_empty(clauses: &Clauses) -> bool
@@ -53,28 +53,27 @@ pub fn solve_and_count(
     }
     let mut variables = Variables::new(alloc);
     let kept = number_all(alloc, &mut variables, clauses)?;
-    let mut order = order_for(alloc, kept.as_slice(), variables.len())?;
-    let answer = solve_numbered(alloc, &variables, kept, &mut order, budget)?;
-    Ok((answer, order.work()))
-}
-
-/// The order of variables below `size` before the first conflict: none is active, and each leans to a value by the clauses. Its
-/// only error is want of memory.
-fn order_for(alloc: Global, clauses: &[Clause], size: usize) -> Result<Order, NoMemory> {
-    let mut leaning = Leaning::new(alloc, size)?;
-    for clause in clauses {
-        for lit in clause.as_slice() {
-            leaning.vote(lit.var as usize, !lit.negated, clause.len());
-        }
-    }
-    let mut order = Order::new(alloc, size)?;
-    for var in 0..size {
-        order.lean(var, leaning.value(var));
-    }
-    Ok(order)
+    solve_kept(alloc, &variables, kept, budget)
 }
 
 /// The same of clauses whose variables are places, read by the variables that have the places.
+fn solve_kept(
+    alloc: Global,
+    variables: &Variables,
+    clauses: Clauses,
+    budget: u32,
+) -> Result<(Answer, Work), NoMemory>
+    requires budget { 0 < budget }
+    requires placed { All (All (IsPlaced variables.now)) clauses }
+    requires numbered { IsNumbered (clauses_at variables.now clauses) }
+    ensures { IfOk result (λ end. IsAnswer (clauses_at variables.now clauses) budget end.0) }
+{
+    let mut order = order_for(alloc, clauses.as_slice(), variables.len())?;
+    let answer = solve_numbered(alloc, variables, clauses, &mut order, budget)?;
+    Ok((answer, order.work()))
+}
+
+/// The answer alone, in this order of variables.
 fn solve_numbered(
     alloc: Global,
     variables: &Variables,
@@ -87,21 +86,10 @@ fn solve_numbered(
     requires numbered { IsNumbered (clauses_at variables.now clauses) }
     ensures { IfOk result (IsAnswer (clauses_at variables.now clauses) budget) }
 {
-    let size = variables.len();
-    let room = size as u64;
+    let room = variables.len() as u64;
     let mut propagation = Watch::new(alloc, room)?;
     load(&mut propagation, &clauses)?;
-    let mut marks = Vec::from_elem(alloc, false, 2 * size)?;
-    let mut held = clauses.into_vec();
-    match search(
-        alloc,
-        &mut propagation,
-        order,
-        &mut held,
-        marks.as_mut_slice(),
-        room,
-        budget,
-    )? {
+    match search_clauses(alloc, &mut propagation, order, clauses, room, budget)? {
         End::Model => Ok(Answer::Sat(assignment_of(alloc, variables, propagation.trail())?)),
         End::Refuted(log) => Ok(Answer::Unsat(name_log(alloc, variables, log)?)),
         End::Spent(log) => Ok(Answer::Spent(name_log(alloc, variables, log)?)),

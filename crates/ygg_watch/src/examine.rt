@@ -1,15 +1,14 @@
 ghost use Rattle.std.specs.Prelude.{◌≡◌, ◌≢◌, ◌<◌, ◌≤◌, ◌+◌, ◌*◌, ◌↔◌, length, All, Contains, IfSome, IsTrue, slice_get, Some, [], set};
 ghost use Rattle.ygg_propagate.specs.Propagation.{IsWithin, Spreads, IsConflict};
 ghost use Rattle.ygg_propagate.specs.Look.{state_of};
-ghost use Rattle.ygg_watch.specs.Lists.{IsMember, lit_of};
-ghost use Rattle.ygg_watch.specs.State.{IsLive};
-ghost use Rattle.ygg_watch.specs.Watching.{IsStanding, IsWatchedAt};
+ghost use Rattle.ygg_visit.specs.Lists.{IsMember, lit_of};
+ghost use Rattle.ygg_visit.specs.State.{IsLive};
+ghost use Rattle.ygg_visit.specs.Watching.{IsStanding, IsWatchedAt};
 
-use crate::frame::Frame;
-use crate::links::{link, lits_of, set_watch, watch_of};
 use ygg_cnf::{Clause, Lit};
 use ygg_propagate::{Look, look_at};
 use ygg_trail::Assignments;
+use ygg_visit::{Frame, link, lits_of, set_watch, watch_of};
 
 /// A literal of the clause other than the given one: one that is not false, or else the one that became so last, which
 /// going back makes free first.

@@ -2,10 +2,7 @@
 #![tactic(auto)]
 
 mod examine;
-mod frame;
-mod links;
 mod maker;
-mod visit;
 mod watching;
 
 pub use maker::watch;

@@ -1,14 +1,13 @@
 ghost use Rattle.std.specs.Prelude.{◌≡◌, [], IfOk};
 
 use crate::examine::{Examined, examine_all};
-use crate::frame::Frame;
-use crate::visit::visit_all;
 use std::alloc::Global;
 use std::marker::Model;
 use ygg_cnf::{Clause, Lit};
 use ygg_list::NoMemory;
 use ygg_propagate::{Assigned, Found, Propagate, Trail, spread};
 use ygg_trail::{Assignments, Entry};
+use ygg_visit::{Frame, visit_all};
 
 /// Propagation that watches two literals of each clause, and reads a clause only where a watched one becomes false.
 ///
@@ -35,7 +34,7 @@ impl Model for Watch {
     ghost use Rattle.std.specs.Prelude.{vec_capacity};
     ghost use Rattle.ygg_propagate.specs.Propagation.{Propagation};
     ghost use Rattle.ygg_propagate.specs.Look.{state_of};
-    ghost use Rattle.ygg_watch.specs.State.{IsState};
+    ghost use Rattle.ygg_visit.specs.State.{IsState};
 
     ghost Value = { Propagation };
 

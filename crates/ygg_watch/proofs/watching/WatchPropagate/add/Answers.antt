@@ -1,7 +1,7 @@
 use Rattle.std.proofs.Common.{◌≡◌, ◌<◌, ◌++◌, ◌∷◌, ℕ, length, arith, sym, ap, subst, List, [], ◌∙◌, append_assoc, length-append, All}
 use Rattle.ygg_cnf.specs.declared.lit.Lit.{Lit}
-use Rattle.ygg_watch.proofs.StepLemmas.{live_added}
-use Rattle.ygg_watch.specs.Lists.{no_lit}
+use Rattle.ygg_visit.proofs.StepLemmas.{live_added}
+use Rattle.ygg_visit.specs.Lists.{no_lit}
 use Rattle.ygg_watch.proofs.watching.WatchPropagate.add.Goals as goal
 
 pub invariant_of-self-2 : goal.invariant_of-self-2

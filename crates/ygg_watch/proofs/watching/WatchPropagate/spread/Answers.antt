@@ -4,8 +4,8 @@ use Rattle.ygg_propagate.proofs.PropagationLemmas.{room_spreads}
 use Rattle.ygg_propagate.specs.Look.{state_of}
 use Rattle.ygg_propagate.specs.Propagation.{Propagation, Spreads}
 use Rattle.ygg_trail.specs.Trail.{IsQuietBefore}
-use Rattle.ygg_watch.proofs.WatchLemmas.{quiet_of}
-use Rattle.ygg_watch.proofs.StepLemmas.{written_back, closed, live_as, live_spread, spreads_on}
+use Rattle.ygg_visit.proofs.WatchLemmas.{quiet_of}
+use Rattle.ygg_visit.proofs.StepLemmas.{written_back, closed, live_as, live_spread, spreads_on}
 use Rattle.ygg_watch.proofs.watching.WatchPropagate.spread.Goals.{in-Some, in-None}
 use Rattle.ygg_propagate.proofs.LookLemmas.{quiet_exact, conflict_exact}
 use Rattle.ygg_propagate.specs.Propagation.{IsConflict}

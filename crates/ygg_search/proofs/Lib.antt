@@ -1,0 +1,4 @@
+pub mod LeftLemmas
+pub mod LogLemmas
+pub mod ModelLemmas
+pub mod ReadyLemmas

@@ -1,0 +1,10 @@
+//! The search for an assignment that satisfies clauses, over any propagation: it decides, propagates and learns clauses, each with the
+//! chain that derives it.
+#![tactic(auto)]
+
+mod advice;
+mod run;
+mod searching;
+
+pub use advice::order_for;
+pub use searching::{End, search_clauses};
