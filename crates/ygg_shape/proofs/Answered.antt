@@ -18,12 +18,12 @@ use Rattle.ygg_bank.specs.declared.node.Node.{Node}
 use Rattle.ygg_bank.specs.declared.node.Node.TheVariants.{Const}
 use Rattle.ygg_shape.proofs.Rows.{RowIs, split_at_is}
 use Rattle.ygg_shape.proofs.Tables.{RowsAre, selected_is, stored_is, stored_length}
-use Rattle.ygg_shape.proofs.Wider.{rows_wider, words_in_table, width_in_table}
+use Rattle.ygg_cells.proofs.Wider.{rows_wider, words_in_table, width_in_table}
 use Rattle.ygg_shape.proofs.Worth.{digits, grid, row_worth, table_worth, table_like, merged_is, compared_is}
-use Rattle.ygg_shape.specs.Making.{merged, compared, split_at, row_or_zeros, selected, selected_at, stored, width_in}
+use Rattle.ygg_cells.specs.Making.{merged, compared, split_at, row_or_zeros, selected, selected_at, stored, width_in}
 use Rattle.ygg_shape.specs.Meaning.{IsRead, IsWritten, IsMerged, IsCompared, IsConstant, AddsAtMostZero}
-use Rattle.ygg_shape.specs.Terms.{IsRow, IsTable, HasShape, AreAlike, TableStands, CanStore, numbers_of, row_of, table_of, words_in}
-use Rattle.ygg_shape.specs.declared.terms.SymValue.{SymValue}
+use Rattle.ygg_cells.specs.Terms.{IsRow, IsTable, HasShape, AreAlike, TableStands, CanStore, numbers_of, row_of, table_of, words_in}
+use Rattle.ygg_cells.specs.declared.terms.SymValue.{SymValue}
 
 -- an environment that gives 0 to each input
 abbrev pub no_inputs : Inputs

@@ -12,7 +12,7 @@ use Rattle.ygg_bank.specs.Nodes.{Extends}
 use Rattle.ygg_bank.specs.declared.node.Id.{Id}
 use Rattle.ygg_bank.specs.declared.node.Node.{Node}
 use Rattle.ygg_bank.specs.declared.node.Node.TheVariants.{Const, Bin, Pick}
-use Rattle.ygg_shape.specs.Making.{merged_word, merged_row, merged_rows, compared_word, compared_row, compared_rows, split_at, where_at, zeros, chosen, stored_from}
+use Rattle.ygg_cells.specs.Making.{merged_word, merged_row, merged_rows, compared_word, compared_row, compared_rows, split_at, where_at, zeros, chosen, stored_from}
 
 -- where both of two steps only add nodes, so does one of them
 either_grows : {A : Type 0} (b : Bool) (f g : Make A) (nodes : List Node) → Extends nodes (f nodes).nodes → Extends nodes (g nodes).nodes →

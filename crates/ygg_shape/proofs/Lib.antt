@@ -1,5 +1,4 @@
 pub mod Grows
-pub mod Wider
 pub mod Steps
 pub mod Words
 pub mod Rows

@@ -22,10 +22,10 @@ use Rattle.ygg_bank.specs.declared.node.Id.{Id}
 use Rattle.ygg_bank.specs.declared.node.Node.{Node}
 use Rattle.ygg_bank.specs.declared.node.Node.TheVariants.{Const, Bin, Pick}
 use Rattle.ygg_shape.proofs.Grows.{merged_word_grows, merged_row_grows, compared_word_grows, compared_row_grows}
-use Rattle.ygg_shape.proofs.Wider.{IsWide, all_wider, row_wider, can_pick, can_equal, can_and}
+use Rattle.ygg_cells.proofs.Wider.{IsWide, all_wider, row_wider, can_pick, can_equal, can_and}
 use Rattle.ygg_shape.proofs.Words.{either, bits_if, row_if, digit_is, and_digits, and_assoc}
-use Rattle.ygg_shape.specs.Making.{merged_word, merged_row, compared_word, compared_row, split_at, where_at, zeros}
-use Rattle.ygg_shape.specs.Terms.{IsRow, WordsAlike, numbers_of}
+use Rattle.ygg_cells.specs.Making.{merged_word, merged_row, compared_word, compared_row, split_at, where_at, zeros}
+use Rattle.ygg_cells.specs.Terms.{IsRow, WordsAlike, numbers_of}
 
 module _ (inputs : Inputs) (v : Values) (kinds : List RuleKind) where
   -- a term of this width that has this value

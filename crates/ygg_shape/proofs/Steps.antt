@@ -3,7 +3,7 @@ use Rattle.std.proofs.Common.{◌≡◌, ◌<◌, ◌≤◌, ℕ, ◌+◌, List,
 use Rattle.std.proofs.lemmas.List.{drop_more, drop_all, append-nil}
 use Rattle.ygg_bank.specs.Makes.{Make, Out}
 use Rattle.ygg_bank.specs.declared.node.Node.{Node}
-use Rattle.ygg_shape.specs.Lists.{each_two, each_from, fold_two, fold_from}
+use Rattle.ygg_cells.specs.Lists.{each_two, each_from, fold_two, fold_from}
 
 -- the item at a place, and those after it
 rest_is : {X : Type 0} (xs : List X) (i : ℕ) (x d : X) → i < length xs → x ≡ get_or xs i d → drop i xs ≡ x ∷ drop (i + 1) xs

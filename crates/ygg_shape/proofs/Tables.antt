@@ -20,10 +20,10 @@ use Rattle.ygg_bank.specs.declared.node.Node.{Node}
 use Rattle.ygg_bank.specs.declared.node.Node.TheVariants.{Input, Const, Bin, Not, Resize, Pick}
 use Rattle.ygg_shape.proofs.Grows.{merged_row_grows, merged_rows_grows, compared_row_grows, compared_rows_grows, where_at_grows, zeros_grows, chosen_grows, stored_from_grows}
 use Rattle.ygg_shape.proofs.Rows.{TermIs, RowIs, holds, merged_row_is, compared_row_is, zeros_is, where_at_is}
-use Rattle.ygg_shape.proofs.Wider.{row_wider, rows_wider}
+use Rattle.ygg_cells.proofs.Wider.{row_wider, rows_wider}
 use Rattle.ygg_shape.proofs.Words.{either, row_if, and_assoc, among, among_is, replaced, replaced_is}
-use Rattle.ygg_shape.specs.Making.{merged_row, merged_rows, compared_row, compared_rows, where_at, zeros, chosen, stored_from, row_or_zeros, selected_at, stored_at}
-use Rattle.ygg_shape.specs.Terms.{IsRow, numbers_of, words_in}
+use Rattle.ygg_cells.specs.Making.{merged_row, merged_rows, compared_row, compared_rows, where_at, zeros, chosen, stored_from, row_or_zeros, selected_at, stored_at}
+use Rattle.ygg_cells.specs.Terms.{IsRow, numbers_of, words_in}
 
 module _ (inputs : Inputs) (v : Values) (kinds : List RuleKind) where
   -- rows of this shape whose words have these numbers

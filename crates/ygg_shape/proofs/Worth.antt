@@ -23,11 +23,11 @@ use Rattle.ygg_bank.specs.declared.node.Node.TheVariants.{Const, Bin}
 use Rattle.ygg_shape.proofs.Grows.{compared_row_grows, compared_rows_grows}
 use Rattle.ygg_shape.proofs.Rows.{TermIs, holds, made_is, merged_word_is, merged_row_is, compared_row_is}
 use Rattle.ygg_shape.proofs.Tables.{merged_rows_is, merged_rows_length, compared_rows_is}
-use Rattle.ygg_shape.proofs.Wider.{can_equal, row_wider, rows_wider, words_in_table}
-use Rattle.ygg_shape.specs.Making.{merged, merged_rows, compared, compared_row, compared_rows}
-use Rattle.ygg_shape.specs.Terms.{IsRow, IsTable, HasShape, numbers_of, row_width, row_of, table_width, table_of, words_in, worth}
-use Rattle.ygg_shape.specs.declared.terms.SymValue.{SymValue}
-use Rattle.ygg_shape.specs.declared.terms.SymValue.TheVariants.{Word, Row, Table}
+use Rattle.ygg_cells.proofs.Wider.{can_equal, row_wider, rows_wider, words_in_table}
+use Rattle.ygg_cells.specs.Making.{merged, merged_rows, compared, compared_row, compared_rows}
+use Rattle.ygg_cells.specs.Terms.{IsRow, IsTable, HasShape, numbers_of, row_width, row_of, table_width, table_of, words_in, worth}
+use Rattle.ygg_cells.specs.declared.terms.SymValue.{SymValue}
+use Rattle.ygg_cells.specs.declared.terms.SymValue.TheVariants.{Word, Row, Table}
 
 -- a row of numbers
 abbrev pub digits : ℕ → List ℕ → Digits

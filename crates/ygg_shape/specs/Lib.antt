@@ -1,4 +1,1 @@
-pub mod Terms
-pub mod Lists
-pub mod Making
 pub mod Meaning

@@ -7,8 +7,8 @@ use Rattle.ygg_bank.specs.Values.{Inputs, InputsFit, value_of}
 use Rattle.ygg_bank.specs.declared.node.Id.{Id}
 use Rattle.ygg_bank.specs.declared.node.Node.{Node}
 use Rattle.ygg_bank.specs.declared.node.Node.TheVariants.{Const}
-use Rattle.ygg_shape.specs.Terms.{row_of, table_of, worth}
-use Rattle.ygg_shape.specs.declared.terms.SymValue.{SymValue}
+use Rattle.ygg_cells.specs.Terms.{row_of, table_of, worth}
+use Rattle.ygg_cells.specs.declared.terms.SymValue.{SymValue}
 
 -- in every environment the answer is the row of the table at the place
 abbrev pub IsRead : List Node → List (List Id) → Id → List Id → Type 0

@@ -3,12 +3,12 @@
 ghost use Rattle.std.specs.Prelude.{◌≡◌, IfOk, OnOk};
 ghost use Rattle.ygg_bank.specs.Nodes.{Extends, HasWidth, IsBank};
 ghost use Rattle.ygg_bank.specs.Values.{KeepsValues};
-ghost use Rattle.ygg_shape.specs.Making.{compared, compared_row, compared_rows, compared_word};
+ghost use Rattle.ygg_cells.specs.Making.{compared, compared_row, compared_rows, compared_word};
 ghost use Rattle.ygg_shape.specs.Meaning.{IsCompared};
-ghost use Rattle.ygg_shape.specs.Terms.{AreAlike, RowsAlike, TablesAlike, WordsAlike};
+ghost use Rattle.ygg_cells.specs.Terms.{AreAlike, RowsAlike, TablesAlike, WordsAlike};
 
-use crate::terms::{SymRow, SymValue};
 use ygg_bank::{Bank, Id, NoMemory, Node};
+use ygg_cells::{SymRow, SymValue};
 use ygg_rules::Book;
 use ygg_value::{Op, Word};
 

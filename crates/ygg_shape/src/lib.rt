@@ -6,10 +6,9 @@ pub mod merging;
 mod places;
 pub mod selecting;
 pub mod storing;
-pub mod terms;
 
 pub use comparing::equal;
 pub use merging::merge;
 pub use selecting::select;
 pub use storing::store;
-pub use terms::{SymRow, SymTable, SymValue, SymValues};
+pub use ygg_cells::{SymRow, SymTable, SymValue, SymValues};

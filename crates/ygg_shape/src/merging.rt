@@ -1,16 +1,17 @@
 //! Merging: one value where a test is 1, and else another.
 
 ghost use Rattle.std.specs.Prelude.{◌≡◌, IfOk, OnOk};
-ghost use Rattle.ygg_bank.specs.Nodes.{CanPick, Extends, HasWidth, IsBank};
+ghost use Rattle.ygg_bank.specs.Nodes.{Extends, HasWidth, IsBank};
 ghost use Rattle.ygg_bank.specs.Values.{KeepsValues};
 ghost use Rattle.ygg_value.specs.declared.shape.Shape.{Shape};
-ghost use Rattle.ygg_shape.specs.Making.{merged, merged_row, merged_rows, merged_word};
+ghost use Rattle.ygg_cells.specs.Making.{merged, merged_row, merged_rows};
 ghost use Rattle.ygg_shape.specs.Meaning.{IsMerged};
-ghost use Rattle.ygg_shape.specs.Terms.{AreAlike, HasShape, RowsAlike, TablesAlike};
+ghost use Rattle.ygg_cells.specs.Terms.{AreAlike, HasShape, RowsAlike, TablesAlike};
 
-use crate::terms::{SymRow, SymTable, SymValue};
 use std::alloc::Global;
-use ygg_bank::{Bank, Id, NoMemory, Node};
+use ygg_bank::{Bank, Id, NoMemory};
+use ygg_cells::cells::merge_word;
+use ygg_cells::{SymRow, SymTable, SymValue};
 use ygg_list::Duplicate;
 use ygg_rules::Book;
 
@@ -135,20 +136,4 @@ pub fn merge_row<B: Book>(
         row.push(word)?;
     }
     Ok(row)
-}
-
-/// One term where the test is 1, and else the other. Where both are one term, nothing is asked.
-fn merge_word<B: Book>(bank: &mut Bank, book: &B, test: Id, yes: Id, no: Id) -> Result<Id, NoMemory>
-    requires bank { IsBank bank.old }
-    requires pick { CanPick bank.old test yes no }
-    ensures nodes { OnOk result (bank.new ≡ (merged_word (B.kinds book.now) test yes no bank.old).nodes) }
-    ensures form { IfOk result (λ id. id ≡ (merged_word (B.kinds book.now) test yes no bank.old).value) }
-    ensures grows { Extends bank.old bank.new }
-    ensures bank { IsBank bank.new }
-{
-    if yes.0 == no.0 {
-        Ok(yes)
-    } else {
-        bank.make(Node::Pick { test, yes, no }, book)
-    }
 }

@@ -1,16 +1,15 @@
 //! Places in a table that are terms.
 
-ghost use Rattle.std.specs.Prelude.{◌≡◌, ◌<◌, ◌^◌, ℕ, nat_lt, slice_get, IfOk, OnOk};
+ghost use Rattle.std.specs.Prelude.{◌≡◌, ◌<◌, ◌^◌, ℕ, nat_lt, IfOk, OnOk};
 ghost use Rattle.ygg_rules.specs.Views.{IsWidth};
-ghost use Rattle.ygg_bank.specs.Making.{known_in};
-ghost use Rattle.ygg_bank.specs.Nodes.{Extends, HasWidth, IsBank, Stands};
-ghost use Rattle.ygg_shape.specs.Making.{split_at, where_at};
-ghost use Rattle.ygg_shape.specs.Terms.{IsRow, RowsAlike};
+ghost use Rattle.ygg_bank.specs.Nodes.{Extends, HasWidth, IsBank};
+ghost use Rattle.ygg_cells.specs.Making.{split_at, where_at};
+ghost use Rattle.ygg_cells.specs.Terms.{IsRow, RowsAlike};
 
 use crate::merging::merge_row;
-use crate::terms::SymRow;
 use std::alloc::Global;
 use ygg_bank::{Bank, Id, NoMemory, Node};
+use ygg_cells::SymRow;
 use ygg_rules::Book;
 use ygg_value::{Op, Word, resize};
 
@@ -21,17 +20,6 @@ pub struct Place {
     pub at: Id,
     /// Its width.
     pub width: u8,
-}
-
-/// The word that a term is, where it is a constant.
-pub fn known(bank: &Bank, at: Id) -> Option<Word>
-    requires { Stands bank.now at }
-    ensures { result ≡ known_in (slice_get bank.now at.0) }
-{
-    match bank.node(at) {
-        Node::Const(word) => Some(word),
-        _ => None,
-    }
 }
 
 /// One row where the place has this number, and else the other. A number with more digits than the place is never the place.

@@ -1,19 +1,19 @@
 //! Reading a table at a place that is a term.
 
-ghost use Rattle.std.specs.Prelude.{◌≡◌, ℕ, slice_get, IfOk, OnOk};
+ghost use Rattle.std.specs.Prelude.{◌≡◌, ℕ, IfOk, OnOk};
 ghost use Rattle.ygg_rules.specs.Views.{IsWidth};
 ghost use Rattle.ygg_bank.specs.Nodes.{Extends, HasWidth, IsBank, Stands};
 ghost use Rattle.ygg_bank.specs.Values.{KeepsValues};
-ghost use Rattle.ygg_shape.specs.Making.{chosen, row_or_zeros, selected, width_in, zeros};
+ghost use Rattle.ygg_cells.specs.Making.{chosen, selected};
 ghost use Rattle.ygg_shape.specs.Meaning.{AddsAtMostZero, IsConstant, IsRead};
-ghost use Rattle.ygg_shape.specs.Terms.{AreRows, IsRow, IsTable, TableStands, words_in};
+ghost use Rattle.ygg_cells.specs.Terms.{AreRows, IsRow, IsTable, TableStands};
 
-use crate::places::{Place, known, where_at};
-use crate::terms::{SymRow, SymTable};
+use crate::places::{Place, where_at};
 use std::alloc::Global;
-use ygg_bank::{Bank, Id, NoMemory, Node};
+use ygg_bank::{Bank, Id, NoMemory};
+use ygg_cells::cells::{known, row_or_zeros, zeros};
+use ygg_cells::{SymRow, SymTable};
 use ygg_rules::Book;
-use ygg_value::Word;
 
 /// The row at a place of a table, counted from 0, and zeros past the end, in every environment. Where the place is a constant no pick is
 /// made; else a chain of picks over all rows. Its only error is want of memory, after which the bank may have more nodes.
@@ -64,47 +64,6 @@ fn select_by<B: Book>(
             choose(alloc, bank, book, Place { at, width }, past, table)
         }
     }
-}
-
-/// The row at a place that is known, and zeros past the end.
-fn row_or_zeros<B: Book>(
-    alloc: Global,
-    bank: &mut Bank,
-    book: &B,
-    table: &[SymRow],
-    place: Word,
-) -> Result<SymRow, NoMemory>
-    requires bank { IsBank bank.old }
-    requires table { TableStands bank.old table.now }
-    ensures nodes { OnOk result (bank.new ≡ (row_or_zeros (B.kinds book.now) (words_in table.now) (width_in bank.old table.now) (slice_get table.now place.bits) bank.old).nodes) }
-    ensures form { IfOk result (λ row. row ≡ (row_or_zeros (B.kinds book.now) (words_in table.now) (width_in bank.old table.now) (slice_get table.now place.bits) bank.old).value) }
-    ensures grows { Extends bank.old bank.new }
-    ensures bank { IsBank bank.new }
-{
-    match table.get(place.bits as usize) {
-        Some(row) => row.copy(alloc),
-        None => zeros(alloc, bank, book, table),
-    }
-}
-
-/// A row of zeros, in the shape of the table's rows.
-fn zeros<B: Book>(
-    alloc: Global,
-    bank: &mut Bank,
-    book: &B,
-    table: &[SymRow],
-) -> Result<SymRow, NoMemory>
-    requires table { TableStands bank.old table.now }
-    ensures nodes { OnOk result (bank.new ≡ (zeros (B.kinds book.now) (words_in table.now) (width_in bank.old table.now) bank.old).nodes) }
-    ensures form { IfOk result (λ row. row ≡ (zeros (B.kinds book.now) (words_in table.now) (width_in bank.old table.now) bank.old).value) }
-    ensures shape { (words width : ℕ) → IsTable bank.old words width table.now → IfOk result (IsRow bank.new words width) }
-    ensures grows { Extends bank.old bank.new }
-    ensures bank { IsBank bank.new }
-{
-    let first = table[0].as_slice();
-    let width = bank.width(first[0]);
-    let zero = bank.make(Node::Const(Word { width, bits: 0 }), book)?;
-    Ok(SymRow::from_vec(vec![in alloc; zero; first.len()]?))
 }
 
 /// The row of the table at a place, and `past` where the place is past the end.

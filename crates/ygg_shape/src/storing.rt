@@ -1,19 +1,19 @@
 //! Writing a table at a place that is a term.
 
-ghost use Rattle.std.specs.Prelude.{◌≡◌, ℕ, length, slice_set, IfOk, OnOk};
+ghost use Rattle.std.specs.Prelude.{◌≡◌, ℕ, length, IfOk, OnOk};
 ghost use Rattle.ygg_rules.specs.Views.{IsWidth};
 ghost use Rattle.ygg_bank.specs.Nodes.{Extends, HasWidth, IsBank, Stands};
 ghost use Rattle.ygg_bank.specs.Values.{KeepsValues};
-ghost use Rattle.ygg_shape.specs.Making.{stored, stored_from};
+ghost use Rattle.ygg_cells.specs.Making.{stored, stored_from};
 ghost use Rattle.ygg_shape.specs.Meaning.{IsConstant, IsWritten};
-ghost use Rattle.ygg_shape.specs.Terms.{AreRows, CanStore, IsRow, IsTable};
+ghost use Rattle.ygg_cells.specs.Terms.{AreRows, CanStore, IsRow, IsTable};
 
-use crate::places::{Place, known, where_at};
-use crate::terms::{SymRow, SymTable};
+use crate::places::{Place, where_at};
 use std::alloc::Global;
 use ygg_bank::{Bank, Id, NoMemory};
+use ygg_cells::cells::{known, put_row};
+use ygg_cells::{SymRow, SymTable};
 use ygg_rules::Book;
-use ygg_value::Word;
 
 /// The table with a row at a place, counted from 0, and the same table past the end, in every environment. Where the place is a constant no
 /// node is made; else a pick for each word. Its only error is want of memory, after which the bank may have more nodes.
@@ -74,18 +74,6 @@ fn store_by<B: Book>(
             )
         }
     }
-}
-
-/// The table with a row at a place that is known. Past the end nothing changes.
-fn put_row(alloc: Global, table: &SymTable, place: Word, row: &SymRow) -> Result<SymTable, NoMemory>
-    ensures { IfOk result (λ answer. answer ≡ slice_set table.now place.bits row.now) }
-{
-    let mut rows = table.copy(alloc)?.into_vec();
-    let place = place.bits as usize;
-    if place < rows.len() {
-        rows[place] = row.copy(alloc)?;
-    }
-    Ok(SymTable::from_vec(rows))
 }
 
 /// Each row of the table, or the new row where the place has its number.

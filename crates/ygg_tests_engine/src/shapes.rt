@@ -1,5 +1,5 @@
 ghost use Rattle.std.specs.Prelude.{◌≡◌, [], length, IfOk};
-ghost use Rattle.ygg_shape.specs.Terms.{IsTable};
+ghost use Rattle.ygg_cells.specs.Terms.{IsTable};
 
 use crate::terms::{constant, first_input, sum, value};
 use std::alloc::Global;

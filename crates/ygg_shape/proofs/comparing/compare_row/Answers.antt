@@ -1,4 +1,4 @@
-use Rattle.ygg_shape.proofs.Wider.{words_at}
+use Rattle.ygg_cells.proofs.Wider.{words_at}
 use Rattle.ygg_shape.proofs.comparing.compare_row.Goals as goal
 
 pub compare_word-requires-clause-words : goal.compare_word-requires-clause-words

@@ -1,5 +1,5 @@
 use Rattle.std.proofs.Common.{◌∙◌}
-use Rattle.ygg_shape.proofs.Wider.{rows_at}
+use Rattle.ygg_cells.proofs.Wider.{rows_at}
 use Rattle.ygg_shape.proofs.comparing.compare_rows.Goals as goal
 
 pub compare_row-requires-clause-rows : goal.compare_row-requires-clause-rows

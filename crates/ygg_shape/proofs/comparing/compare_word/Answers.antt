@@ -2,7 +2,7 @@ use Rattle.std.proofs.Common.{IfOk, subst}
 use Rattle.ygg_bank.proofs.Widths.{wider, width_is}
 use Rattle.ygg_bank.specs.Nodes.{HasWidth}
 use Rattle.ygg_bank.specs.declared.node.Id.{Id}
-use Rattle.ygg_shape.proofs.Wider.{can_and, can_equal}
+use Rattle.ygg_cells.proofs.Wider.{can_and, can_equal}
 use Rattle.ygg_shape.proofs.comparing.compare_word.Goals as goal
 
 pub make-requires : goal.make-requires

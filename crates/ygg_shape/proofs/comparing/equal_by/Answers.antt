@@ -1,4 +1,4 @@
-use Rattle.ygg_shape.proofs.Wider.{can_equal, alike_words, alike_rows, alike_tables, rows_alike_wider, tables_alike_wider}
+use Rattle.ygg_cells.proofs.Wider.{can_equal, alike_words, alike_rows, alike_tables, rows_alike_wider, tables_alike_wider}
 use Rattle.ygg_shape.proofs.comparing.equal_by.Goals as goal
 
 pub make-requires : goal.make-requires

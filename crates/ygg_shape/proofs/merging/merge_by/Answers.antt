@@ -1,5 +1,5 @@
 use Rattle.ygg_bank.proofs.Widths.{extends_self}
-use Rattle.ygg_shape.proofs.Wider.{can_pick, alike_words, alike_tables, tables_alike_wider}
+use Rattle.ygg_cells.proofs.Wider.{can_pick, alike_words, alike_tables, tables_alike_wider}
 use Rattle.ygg_shape.proofs.merging.merge_by.Goals as goal
 
 pub merge_word-requires-clause-pick : goal.merge_word-requires-clause-pick

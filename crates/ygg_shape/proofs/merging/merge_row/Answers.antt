@@ -1,4 +1,4 @@
-use Rattle.ygg_shape.proofs.Wider.{pick_at}
+use Rattle.ygg_cells.proofs.Wider.{pick_at}
 use Rattle.ygg_shape.proofs.merging.merge_row.Goals as goal
 
 pub merge_word-requires-clause-pick : goal.merge_word-requires-clause-pick

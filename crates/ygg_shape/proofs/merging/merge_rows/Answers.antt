@@ -1,6 +1,6 @@
 use Rattle.std.proofs.Common.{◌∙◌}
 use Rattle.ygg_bank.proofs.Widths.{wider}
-use Rattle.ygg_shape.proofs.Wider.{rows_at}
+use Rattle.ygg_cells.proofs.Wider.{rows_at}
 use Rattle.ygg_shape.proofs.merging.merge_rows.Goals as goal
 
 pub merge_row-requires-clause-test : goal.merge_row-requires-clause-test

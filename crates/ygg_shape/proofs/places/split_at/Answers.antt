@@ -1,6 +1,6 @@
 use Rattle.std.proofs.Common.{refl}
 use Rattle.ygg_bank.proofs.Widths.{wider, extends_both}
-use Rattle.ygg_shape.proofs.Wider.{can_equal, rows_alike_wider}
+use Rattle.ygg_cells.proofs.Wider.{can_equal, rows_alike_wider}
 use Rattle.ygg_shape.proofs.places.split_at.Goals as goal
 
 pub make-requires-2 : goal.make-requires-2

@@ -1,9 +1,9 @@
 use Rattle.std.proofs.Common.{◌≡◌, ◌∙◌, sym, subst}
 use Rattle.ygg_bank.proofs.Widths.{wider, extends_both}
-use Rattle.ygg_shape.specs.Making.{where_at}
-use Rattle.ygg_shape.specs.Terms.{IsRow}
+use Rattle.ygg_cells.specs.Making.{where_at}
+use Rattle.ygg_cells.specs.Terms.{IsRow}
 use Rattle.ygg_shape.proofs.Steps.{fold_from_goes}
-use Rattle.ygg_shape.proofs.Wider.{row_at}
+use Rattle.ygg_cells.proofs.Wider.{row_at}
 use Rattle.ygg_shape.proofs.selecting.choose.Goals as goal
 
 pub where_at-requires-clause-place : goal.where_at-requires-clause-place

@@ -1,7 +1,7 @@
 use Rattle.std.proofs.Common.{ℕ, All}
 use Rattle.ygg_bank.specs.Nodes.{Extends, IsBank}
-use Rattle.ygg_shape.specs.Making.{where_at}
-use Rattle.ygg_shape.specs.Terms.{IsRow}
+use Rattle.ygg_cells.specs.Making.{where_at}
+use Rattle.ygg_cells.specs.Terms.{IsRow}
 use Rattle.ygg_shape.proofs.Steps.{FoldFrom}
 use Rattle.ygg_shape.proofs.selecting.choose.Given as goal
 

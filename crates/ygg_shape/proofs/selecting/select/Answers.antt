@@ -1,7 +1,7 @@
 use Rattle.std.proofs.Common.{◌≡◌, OnOk, IfOk, List, subst}
 use Rattle.ygg_bank.proofs.Exist.{keeps_values}
 use Rattle.ygg_bank.specs.declared.node.Id.{Id}
-use Rattle.ygg_shape.specs.Making.{selected}
+use Rattle.ygg_cells.specs.Making.{selected}
 use Rattle.ygg_shape.proofs.Answered.{selected_shape, selected_value, selected_constant}
 use Rattle.ygg_shape.proofs.selecting.select.Goals as goal
 

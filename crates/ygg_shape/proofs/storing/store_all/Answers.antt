@@ -1,6 +1,6 @@
 use Rattle.std.proofs.Common.{◌∙◌}
 use Rattle.ygg_bank.proofs.Widths.{wider}
-use Rattle.ygg_shape.proofs.Wider.{row_at, row_wider}
+use Rattle.ygg_cells.proofs.Wider.{row_at, row_wider}
 use Rattle.ygg_shape.proofs.storing.store_all.Goals as goal
 
 pub where_at-requires-clause-place : goal.where_at-requires-clause-place

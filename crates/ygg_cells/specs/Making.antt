@@ -10,10 +10,10 @@ use Rattle.ygg_bank.specs.Nodes.{width_at, widths_of}
 use Rattle.ygg_bank.specs.declared.node.Id.{Id}
 use Rattle.ygg_bank.specs.declared.node.Node.{Node}
 use Rattle.ygg_bank.specs.declared.node.Node.TheVariants.{Const, Bin, Pick}
-use Rattle.ygg_shape.specs.Lists.{each_two, each_from, fold_two, fold_from}
-use Rattle.ygg_shape.specs.Terms.{words_in}
-use Rattle.ygg_shape.specs.declared.terms.SymValue.{SymValue}
-use Rattle.ygg_shape.specs.declared.terms.SymValue.TheVariants.{Word, Row, Table}
+use Rattle.ygg_cells.specs.Lists.{each_two, each_from, fold_two, fold_from}
+use Rattle.ygg_cells.specs.Terms.{words_in}
+use Rattle.ygg_cells.specs.declared.terms.SymValue.{SymValue}
+use Rattle.ygg_cells.specs.declared.terms.SymValue.TheVariants.{Word, Row, Table}
 
 -- one term where the test is 1, and else the other; where both are one term, that term
 abbrev pub merged_word : List RuleKind → Id → Id → Id → Make Id

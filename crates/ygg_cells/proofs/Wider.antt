@@ -8,10 +8,10 @@ use Rattle.ygg_value.specs.declared.shape.Shape.TheVariants as shape
 use Rattle.ygg_bank.specs.Nodes.{width_at, widths_of, HasWidth, Stands, CanBin, CanPick, Extends}
 use Rattle.ygg_bank.specs.declared.node.Id.{Id}
 use Rattle.ygg_bank.specs.declared.node.Node.{Node}
-use Rattle.ygg_shape.specs.Making.{width_in}
-use Rattle.ygg_shape.specs.Terms.{IsRow, IsTable, HasShape, AreAlike, RowsAlike, TablesAlike, WordsAlike, TableStands, words_in}
-use Rattle.ygg_shape.specs.declared.terms.SymValue.{SymValue}
-use Rattle.ygg_shape.specs.declared.terms.SymValue.TheVariants.{Word, Row, Table}
+use Rattle.ygg_cells.specs.Making.{width_in}
+use Rattle.ygg_cells.specs.Terms.{IsRow, IsTable, HasShape, AreAlike, RowsAlike, TablesAlike, WordsAlike, TableStands, words_in}
+use Rattle.ygg_cells.specs.declared.terms.SymValue.{SymValue}
+use Rattle.ygg_cells.specs.declared.terms.SymValue.TheVariants.{Word, Row, Table}
 
 -- the term stands among the nodes with this width
 abbrev pub IsWide : List Node → ℕ → Id → Type 0

@@ -10,8 +10,8 @@ use Rattle.ygg_bank.specs.Nodes.{HasWidth}
 use Rattle.ygg_bank.specs.Values.{Values}
 use Rattle.ygg_bank.specs.declared.node.Id.{Id}
 use Rattle.ygg_bank.specs.declared.node.Node.{Node}
-use Rattle.ygg_shape.specs.declared.terms.SymValue.{SymValue}
-use Rattle.ygg_shape.specs.declared.terms.SymValue.TheVariants.{Word, Row, Table}
+use Rattle.ygg_cells.specs.declared.terms.SymValue.{SymValue}
+use Rattle.ygg_cells.specs.declared.terms.SymValue.TheVariants.{Word, Row, Table}
 
 -- a row of so many terms, each of which stands among the nodes with this width
 pub record IsRow (nodes : List Node) (words width : ℕ) (row : List Id) : Type 0 where
