@@ -1,12 +1,12 @@
 -- Weights that are given as 1,000,000 where they are more.
-use Rattle.std.proofs.Common.{◌≡◌, ℕ, ◌+◌, min, arith, Option, ap}
+use Rattle.std.proofs.Common.{◌≡◌, ℕ, min, arith, Option, ap}
 use Rattle.std.proofs.lemmas.Bool.Decides.{nat_tests}
 use Rattle.ygg_value.specs.declared.shape.Shape.{Shape}
 use Rattle.ygg_syntax.specs.declared.tree.Block.{Block}
 use Rattle.ygg_syntax.specs.declared.tree.Expr.{Expr}
 use Rattle.ygg_count.specs.Budget.{limit}
 use Rattle.ygg_fault.specs.Faults.{both, unless}
-use Rattle.ygg_fault.specs.Limits.{weight_fits, picks_fit}
+use Rattle.ygg_fault.specs.Limits.{weight_fits}
 use Rattle.ygg_fault.specs.Scopes.{Scope}
 use Rattle.ygg_fault.specs.Expressions.{typing, expected_faults}
 use Rattle.ygg_fault.specs.Statements.{block_faults, body_faults}
@@ -14,12 +14,6 @@ use Rattle.ygg_fault.specs.Definitions.{claim_faults}
 
 pub weight_stays : (n : ℕ) → weight_fits (min limit n) ≡ weight_fits n
 weight_stays n = grind (arith, nat_tests)
-
-pub picks_stay : (n : ℕ) → picks_fit (min limit n) ≡ picks_fit n
-picks_stay n = grind (arith, nat_tests)
-
-pub more_picks_stay : (n m : ℕ) → picks_fit (min limit n + min limit m) ≡ picks_fit (n + m)
-more_picks_stay n m = grind (arith, nat_tests)
 
 pub weighed_body : (b : Block) (shape : Option Shape) (n : ℕ) (scope : Scope) → body_faults b shape (min limit n) scope ≡ body_faults b shape n scope
 weighed_body b shape n scope = ap (λ fits. both (block_faults b shape scope) (unless fits 9 b.place)) (weight_stays n)

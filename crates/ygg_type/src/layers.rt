@@ -4,19 +4,18 @@ ghost use Rattle.std.specs.Prelude.{◌≡◌, [], OnOk, IfOk, None};
 ghost use Rattle.ygg_count.specs.Weights.{weights_of};
 ghost use Rattle.ygg_names.specs.Names.{added};
 ghost use Rattle.ygg_fault.specs.Faults.{first_after};
-ghost use Rattle.ygg_fault.specs.Limits.{picks_fit};
 ghost use Rattle.ygg_fault.specs.Definitions.{with_parameters};
-ghost use Rattle.ygg_fault.specs.Layers.{variables_faults, with_variables, variables_of, fall_picks, picks_faults, on_crash_faults, operation_blocks_faults, operation_faults, operations_faults, with_operation, with_operations, tick_faults, ticks_faults, formulas_faults, declared_faults, blocks_faults, relations_faults, parts_faults};
+ghost use Rattle.ygg_fault.specs.Layers.{variables_faults, with_variables, variables_of, on_crash_faults, operation_blocks_faults, operation_faults, operations_faults, with_operation, with_operations, tick_faults, ticks_faults, formulas_faults, declared_faults, blocks_faults, relations_faults, parts_faults};
 ghost use Rattle.ygg_scope.specs.Checking.{scope_of};
 
 use crate::declarations::{formula, parameters, viewed};
 use std::alloc::Global;
+use ygg_body::picks;
 use ygg_count::choices;
 use ygg_fault::{Kind, Signature, Variable, View};
 use ygg_list::NoMemory;
 use ygg_names::Names;
 use ygg_scope::checker::Checker;
-use ygg_scope::first::First;
 use ygg_scope::limits::are_picks;
 use ygg_scope::shapes;
 use ygg_syntax::tree::{Block, Declared, Expr, Layer, Operation, Tick};
@@ -36,31 +35,6 @@ fn variables<'a>(checker: &mut Checker<'a>, kind: Kind, all: &'a [Declared]) -> 
         checker.variables.add(name, Variable { kind, shape })?;
     }
     Ok(())
-}
-
-/// Whether the specification may take as many picks as it does where power fails within an operation of a layer with this
-/// `crash` block.
-#[tactic(auto, using(crate::proofs::Weighed::more_picks_stay))]
-fn may_fall(operation: &Operation, crash: &Block) -> bool
-    ensures { result ≡ picks_fit (fall_picks operation.now crash.now) }
-{
-    match &operation.on_crash {
-        None => are_picks(1 + choices(&operation.spec) + choices(crash)),
-        Some(block) => are_picks(choices(block) + choices(crash)),
-    }
-}
-
-/// The picks of an operation of a layer with this `crash` block.
-#[tactic(auto, using(crate::proofs::Weighed::picks_stay))]
-fn picks(first: &mut First, operation: &Operation, crash: &Block)
-    ensures { first.new.fault ≡ first_after first.old.fault (picks_faults operation.now crash.now) }
-{
-    first.check(
-        are_picks(choices(&operation.spec)),
-        10,
-        operation.name.place,
-    );
-    first.check(may_fall(operation, crash), 10, operation.name.place);
 }
 
 /// The blocks of an operation, whose arguments are in scope.
@@ -247,7 +221,7 @@ fn relations<'a>(
 }
 
 /// The blocks of a layer outside its operations and background steps.
-#[tactic(auto, using(crate::proofs::Weighed::picks_stay))]
+#[tactic(auto, using(ygg_body::proofs::Counted::picks_stay))]
 fn blocks<'a>(
     checker: &mut Checker<'a>,
     weights: &Weights,

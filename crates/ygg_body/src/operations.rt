@@ -1,0 +1,36 @@
+//! How many picks the specification of an operation takes.
+
+ghost use Rattle.std.specs.Prelude.{◌≡◌, None};
+ghost use Rattle.ygg_fault.specs.Faults.{first_after};
+ghost use Rattle.ygg_fault.specs.Limits.{picks_fit};
+ghost use Rattle.ygg_fault.specs.Layers.{fall_picks, picks_faults};
+
+use ygg_count::choices;
+use ygg_scope::first::First;
+use ygg_scope::limits::are_picks;
+use ygg_syntax::tree::{Block, Operation};
+
+/// Whether the specification may take as many picks as it does where power fails within an operation of a layer with this
+/// `crash` block.
+#[tactic(auto, using(crate::proofs::Counted::more_picks_stay))]
+fn may_fall(operation: &Operation, crash: &Block) -> bool
+    ensures { result ≡ picks_fit (fall_picks operation.now crash.now) }
+{
+    match &operation.on_crash {
+        None => are_picks(1 + choices(&operation.spec) + choices(crash)),
+        Some(block) => are_picks(choices(block) + choices(crash)),
+    }
+}
+
+/// The picks of an operation of a layer with this `crash` block.
+#[tactic(auto, using(crate::proofs::Counted::picks_stay))]
+pub fn picks(first: &mut First, operation: &Operation, crash: &Block)
+    ensures { first.new.fault ≡ first_after first.old.fault (picks_faults operation.now crash.now) }
+{
+    first.check(
+        are_picks(choices(&operation.spec)),
+        10,
+        operation.name.place,
+    );
+    first.check(may_fall(operation, crash), 10, operation.name.place);
+}
