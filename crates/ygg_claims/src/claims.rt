@@ -14,6 +14,7 @@ ghost use Rattle.ygg_claims.specs.Parts.{ReadsAfter, ForRepeated, rest_of_claim,
 use sqlite_items::Items;
 use ygg_base::{Keyword, Symbol};
 use ygg_expr::Reader;
+use ygg_expr::both::both;
 use ygg_list::NoMemory;
 use ygg_syntax::tree::Expr;
 
@@ -36,9 +37,10 @@ pub fn claims(reader: &mut Reader<'_>) -> Result<Option<LayerClaims>, NoMemory>
     let Some(relate) = relation(reader)? else {
         return Ok(None);
     };
-    let Some((always, settled, maybe)) = from_always(reader)? else {
+    let Some((relate, rest)) = both(relate, from_always(reader))? else {
         return Ok(None);
     };
+    let (always, settled, maybe) = rest;
     Ok(Some(LayerClaims {
         relate,
         always,

@@ -7,6 +7,7 @@
 //! the definitions, which the crates above carry to whole files.
 #![tactic(auto)]
 
+pub mod both;
 mod expression;
 mod law;
 mod reader;

@@ -21,6 +21,7 @@ use ygg_base::{Keyword, Symbol};
 use ygg_block::{block, optional, unwritten};
 use ygg_claims::claims::{LayerClaims, claims};
 use ygg_expr::Reader;
+use ygg_expr::both::both;
 use ygg_list::NoMemory;
 use ygg_syntax::grammar::Kind;
 use ygg_syntax::tree::{Block, Declared, Layer, Name, Operation, Place, Tick};
@@ -195,10 +196,10 @@ fn code(reader: &mut Reader<'_>) -> Result<Option<(LayerSteps, LayerClaims)>, No
     let Some(steps) = steps(reader)? else {
         return Ok(None);
     };
-    let Some(claims) = claims(reader)? else {
+    let Some(read) = both(steps, claims(reader))? else {
         return Ok(None);
     };
-    Ok(Some((steps, claims)))
+    Ok(Some(read))
 }
 
 /// Reads what a layer does.
@@ -211,12 +212,11 @@ fn steps(reader: &mut Reader<'_>) -> Result<Option<LayerSteps>, NoMemory>
     let Some(operations) = operations(reader)? else {
         return Ok(None);
     };
-    let Some((crash_place, crash)) = crash(reader)? else {
+    let Some((operations, (crash, rest))) = both(operations, after_operations(reader))? else {
         return Ok(None);
     };
-    let Some((ticks, recover)) = ticks_and_recover(reader)? else {
-        return Ok(None);
-    };
+    let (crash_place, crash) = crash;
+    let (ticks, recover) = rest;
     Ok(Some(LayerSteps {
         operations,
         crash_place,
@@ -224,6 +224,25 @@ fn steps(reader: &mut Reader<'_>) -> Result<Option<LayerSteps>, NoMemory>
         ticks,
         recover,
     }))
+}
+
+/// A block and the place of its keyword, and background steps and the block that recovers.
+type AfterOperations = ((Place, Block), (Items<Tick>, Block));
+
+/// Reads what a layer does after its operations.
+fn after_operations(reader: &mut Reader<'_>) -> Result<Option<AfterOperations>, NoMemory>
+    ensures reads { IfRead result (λ read. Reads (crash_block read.0.0 read.0.1 ∷ in_turn (map tick read.1.0) ∷ optional word.Recover Impl read.1.1 ∷ []) reader.old reader.new) }
+    ensures goes { OnRead result (Goes (perhaps pending.crash_block ∷ repeated pending.tick ∷ perhaps pending.recover_block ∷ []) reader.old reader.new) }
+    ensures refused { IfRefused result (Stops (perhaps pending.crash_block ∷ repeated pending.tick ∷ perhaps pending.recover_block ∷ []) reader.old reader.new) }
+    ensures shorter { OnRead result (length reader.new ≤ length reader.old) }
+{
+    let Some(crash) = crash(reader)? else {
+        return Ok(None);
+    };
+    let Some(read) = both(crash, ticks_and_recover(reader))? else {
+        return Ok(None);
+    };
+    Ok(Some(read))
 }
 
 /// Reads the keyword `crash` and its block, or nothing where the keyword doesn't come.

@@ -22,6 +22,7 @@ use sqlite_items::Items;
 use ygg_base::{Keyword, Symbol};
 use ygg_block::{answering, block};
 use ygg_expr::Reader;
+use ygg_expr::both::both;
 use ygg_list::NoMemory;
 use ygg_syntax::grammar::{Kind, Sort};
 use ygg_syntax::tree::{Block, Operation, Tick, TypeText};
@@ -59,12 +60,13 @@ fn rest_of_operation(reader: &mut Reader<'_>) -> Result<Option<Operation>, NoMem
     ensures refused { IfRefused result (Stops (rest_of pending.operation) reader.old reader.new) }
     ensures shorter { OnRead result (length reader.new < length reader.old) }
 {
-    let Some((name, arguments)) = named_list(reader, Sort::Small)? else {
+    let Some(head) = named_list(reader, Sort::Small)? else {
         return Ok(None);
     };
-    let Some(blocks) = blocks(reader)? else {
+    let Some((head, blocks)) = both(head, blocks(reader))? else {
         return Ok(None);
     };
+    let (name, arguments) = head;
     let OperationBlocks {
         answer,
         spec,
@@ -108,9 +110,10 @@ fn silent(reader: &mut Reader<'_>) -> Result<Option<OperationBlocks>, NoMemory>
     let Some(spec) = block(reader, Kind::Spec)? else {
         return Ok(None);
     };
-    let Some((on_crash, implementation)) = silent_code(reader)? else {
+    let Some(read) = both(spec, silent_code(reader))? else {
         return Ok(None);
     };
+    let (spec, (on_crash, implementation)) = read;
     Ok(Some(OperationBlocks {
         answer: None,
         spec,
@@ -129,10 +132,10 @@ fn silent_code(reader: &mut Reader<'_>) -> Result<Option<(Option<Block>, Block)>
     let Some(on_crash) = crash_case(reader)? else {
         return Ok(None);
     };
-    let Some(implementation) = block(reader, Kind::Impl)? else {
+    let Some(read) = both(on_crash, block(reader, Kind::Impl))? else {
         return Ok(None);
     };
-    Ok(Some((on_crash, implementation)))
+    Ok(Some(read))
 }
 
 /// Reads the answer and the blocks of an operation, after the arrow.
@@ -151,9 +154,10 @@ fn answered(reader: &mut Reader<'_>) -> Result<Option<OperationBlocks>, NoMemory
     let Some(spec) = answering(reader, Kind::Spec)? else {
         return Ok(None);
     };
-    let Some((on_crash, implementation)) = answering_code(reader)? else {
+    let Some(read) = both(spec, answering_code(reader))? else {
         return Ok(None);
     };
+    let (spec, (on_crash, implementation)) = read;
     Ok(Some(OperationBlocks {
         answer: Some(answer),
         spec,
@@ -172,10 +176,10 @@ fn answering_code(reader: &mut Reader<'_>) -> Result<Option<(Option<Block>, Bloc
     let Some(on_crash) = crash_case(reader)? else {
         return Ok(None);
     };
-    let Some(implementation) = answering(reader, Kind::Impl)? else {
+    let Some(read) = both(on_crash, answering(reader, Kind::Impl))? else {
         return Ok(None);
     };
-    Ok(Some((on_crash, implementation)))
+    Ok(Some(read))
 }
 
 /// Reads the block for a crash, where one is written, and the keyword of the implementation.

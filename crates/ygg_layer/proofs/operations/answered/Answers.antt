@@ -13,10 +13,13 @@ use Rattle.ygg_layer.proofs.operations.answered.Goals as goal
 
 pub returns-clause-reads : goal.returns-clause-reads
 returns-clause-reads c =
-    let spec = rw c.in-Some-2.is at c.in_ok-spec.ensures.reads in
-    let code = rw c.in-Some-3.is at c.in_ok-on_crash.ensures.reads in
-    let last : List Reading = on_crash c.in-Some-3.on_crash ∷ keyword word.Impl ∷ answering Impl c.in-Some-3.implementation ∷ [] in
+    let read = c.in-Some-3.read in
+    let parts = rw c.in-Some-3.is at c.in_ok-read.ensures.read in
+    let first = rw c.in-Some-2.is at c.in_ok-spec.ensures.reads in
+    let spec = rw parts.0 at first in
+    let code = rw parts.1 at c.answering_code.ensures.reads in
+    let last : List Reading = on_crash read.1.0 ∷ keyword word.Impl ∷ answering Impl read.1.1 ∷ [] in
     λ x arguments at qs.
-    opened (mark.Symbol sign.Arrow) (type_in sorts.Small c.in-Some.answer ∷ keyword word.Spec ∷ answering Spec c.in-Some-2.spec ∷ last) at c.args.reader.now qs
-    ∙ c.in-Some.ensures.reads (keyword word.Spec ∷ answering Spec c.in-Some-2.spec ∷ last ++ qs)
-    ∙ c.in-Some-keyword.ensures.reads (answering Spec c.in-Some-2.spec ∷ last ++ qs) ∙ spec (last ++ qs) ∙ code qs
+    opened (mark.Symbol sign.Arrow) (type_in sorts.Small c.in-Some.answer ∷ keyword word.Spec ∷ answering Spec read.0 ∷ last) at c.args.reader.now qs
+    ∙ c.in-Some.ensures.reads (keyword word.Spec ∷ answering Spec read.0 ∷ last ++ qs)
+    ∙ c.in-Some-keyword.ensures.reads (answering Spec read.0 ∷ last ++ qs) ∙ spec (last ++ qs) ∙ code qs

@@ -11,8 +11,12 @@ use Rattle.ygg_layer.proofs.operations.rest_of_operation.Goals as goal
 
 pub returns-clause-reads : goal.returns-clause-reads
 returns-clause-reads c =
-    let list = rw c.in-Some.is at c.in_ok-name.ensures.reads in
-    let rest = rw c.in-Some-2.is at c.in_ok-blocks.ensures.reads in
-    let blocks = operation_blocks (operation_of c.in-Some.name c.in-Some.arguments c.in-Some-2.blocks) c.in-Some-2.blocks.answer in
-    λ at qs. opened (mark.Keyword word.Op) (named c.in-Some.name ∷ symbol sign.RoundOpen ∷ any_declared sorts.Small c.in-Some.arguments ∷ symbol sign.RoundClose ∷ blocks ∷ []) at c.args.reader.now qs
-    ∙ list (blocks ∷ qs) ∙ rest c.in-Some.name c.in-Some.arguments qs
+    let head = c.in-Some-2.head in
+    let read = c.in-Some-2.blocks in
+    let parts = rw c.in-Some-2.is at c.in_ok-head-2.ensures.read in
+    let first = rw c.in-Some.is at c.in_ok-head.ensures.reads in
+    let list = rw parts.0 at first in
+    let rest = rw parts.1 at c.blocks-2.ensures.reads in
+    let blocks = operation_blocks (operation_of head.0 head.1 read) read.answer in
+    λ at qs. opened (mark.Keyword word.Op) (named head.0 ∷ symbol sign.RoundOpen ∷ any_declared sorts.Small head.1 ∷ symbol sign.RoundClose ∷ blocks ∷ []) at c.args.reader.now qs
+    ∙ list (blocks ∷ qs) ∙ rest head.0 head.1 qs

@@ -10,8 +10,11 @@ use Rattle.ygg_layer.proofs.operations.silent.Goals as goal
 
 pub returns-clause-reads : goal.returns-clause-reads
 returns-clause-reads c =
-    let spec = rw c.in-Some.is at c.in_ok-spec.ensures.reads in
-    let code = rw c.in-Some-2.is at c.in_ok-on_crash.ensures.reads in
+    let read = c.in-Some-2.read in
+    let parts = rw c.in-Some-2.is at c.in_ok-read.ensures.read in
+    let first = rw c.in-Some.is at c.in_ok-spec.ensures.reads in
+    let spec = rw parts.0 at first in
+    let code = rw parts.1 at c.silent_code.ensures.reads in
     λ x arguments at qs.
-    opened (mark.Keyword word.Spec) (block Spec c.in-Some.spec ∷ on_crash c.in-Some-2.on_crash ∷ keyword word.Impl ∷ block Impl c.in-Some-2.implementation ∷ []) at c.args.reader.now qs
-    ∙ spec (on_crash c.in-Some-2.on_crash ∷ keyword word.Impl ∷ block Impl c.in-Some-2.implementation ∷ qs) ∙ code qs
+    opened (mark.Keyword word.Spec) (block Spec read.0 ∷ on_crash read.1.0 ∷ keyword word.Impl ∷ block Impl read.1.1 ∷ []) at c.args.reader.now qs
+    ∙ spec (on_crash read.1.0 ∷ keyword word.Impl ∷ block Impl read.1.1 ∷ qs) ∙ code qs
