@@ -15,7 +15,7 @@ use Rattle.ygg_layout.specs.Layout.{layout}
 use Rattle.ygg_layout.specs.Laws.{HasMarks, IsMark}
 use Rattle.ygg_layout.proofs.Relexed.{relexed}
 use Rattle.ygg_unique.specs.Laws.{LeftOut, nothing, keeps, leaves, DerivesAs}
-use Rattle.ygg_same.specs.Bare.{bare_file}
+use Rattle.ygg_alike.specs.Bare.{bare_file}
 use Rattle.ygg_canonical.specs.Laws.{IsRead}
 use Rattle.ygg_unique.proofs.AgainFiles.{left_out, derives_as}
 use Rattle.ygg_unique.proofs.Printed.{same_printed}

@@ -5,7 +5,7 @@ use std::alloc::Global;
 use ygg_base::Text;
 use ygg_layout::lay_out;
 use ygg_list::NoMemory;
-use ygg_print::marks_of;
+use ygg_marks::marks_of;
 use ygg_syntax::tree::File;
 
 /// The canonical text of a layer file. Where some tokens of the language derive the file, the tokens of the text derive it

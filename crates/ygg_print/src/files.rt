@@ -3,19 +3,17 @@ ghost use Rattle.ygg_base.specs.declared.token.Keyword.TheVariants as word;
 ghost use Rattle.ygg_syntax.specs.Files.{disk_word as word_of_disk};
 ghost use Rattle.ygg_print.specs.Printed.{list_printed};
 ghost use Rattle.ygg_print.specs.PrintedBlocks.{all_printed, block_printed};
-ghost use Rattle.ygg_print.specs.PrintedFiles.{answer_type_printed, bodies_printed, claim_printed, claims_printed, declared_printed, definition_printed, disk_printed, heading_printed, on_crash_printed, operation_printed, optional_printed, signature_printed, tick_printed, type_printed, variable_printed};
+ghost use Rattle.ygg_print.specs.PrintedFiles.{claim_printed, claims_printed, declared_printed, definition_printed, disk_printed, optional_printed, signature_printed, tick_printed, type_printed, variable_printed};
 
 use crate::blocks::{block, is_empty};
 use crate::expressions::expression;
 use crate::printer::Printer;
 use ygg_base::{Keyword, Symbol};
 use ygg_list::NoMemory;
-use ygg_syntax::tree::{
-    Block, Declared, Def, DiskKind, DiskText, Expr, Layer, Operation, Tick, TypeText,
-};
+use ygg_syntax::tree::{Block, Declared, Def, DiskKind, DiskText, Expr, Layer, Tick, TypeText};
 
 /// A type.
-fn shape(printer: &mut Printer, shape: TypeText) -> Result<(), NoMemory>
+pub fn shape(printer: &mut Printer, shape: TypeText) -> Result<(), NoMemory>
     ensures { OnOk result (printer.new ≡ printer.old ++ type_printed shape) }
 {
     match shape {
@@ -54,7 +52,7 @@ fn declared(printer: &mut Printer, declared: &Declared) -> Result<(), NoMemory>
 }
 
 /// Names and their types with commas between them.
-fn declared_list(printer: &mut Printer, all: &[Declared]) -> Result<(), NoMemory>
+pub fn declared_list(printer: &mut Printer, all: &[Declared]) -> Result<(), NoMemory>
     ensures { OnOk result (printer.new ≡ printer.old ++ list_printed (map declared_printed all.now)) }
 {
     if all.is_empty() {
@@ -180,79 +178,6 @@ pub fn optional(printer: &mut Printer, keyword: Keyword, body: &Block) -> Result
     }
     printer.keyword(keyword)?;
     block(printer, body)?;
-    Ok(())
-}
-
-/// The block for a crash, where one is written.
-fn on_crash(printer: &mut Printer, written: &Option<Block>) -> Result<(), NoMemory>
-    ensures { OnOk result (printer.new ≡ printer.old ++ on_crash_printed written.now) }
-{
-    match written {
-        None => Ok(()),
-        Some(body) => {
-            printer.keyword(Keyword::On)?;
-            printer.keyword(Keyword::Crash)?;
-            block(printer, body)?;
-            Ok(())
-        }
-    }
-}
-
-/// The type of an answer.
-fn answer_type(printer: &mut Printer, answer: Option<TypeText>) -> Result<(), NoMemory>
-    ensures { OnOk result (printer.new ≡ printer.old ++ answer_type_printed answer) }
-{
-    match answer {
-        None => Ok(()),
-        Some(found) => {
-            printer.symbol(Symbol::Arrow)?;
-            shape(printer, found)?;
-            Ok(())
-        }
-    }
-}
-
-/// Operations.
-pub fn operations(printer: &mut Printer, all: &[Operation]) -> Result<(), NoMemory>
-    ensures { OnOk result (printer.new ≡ printer.old ++ all_printed (map operation_printed all.now)) }
-{
-    for one in all {
-        operation(printer, one)?;
-    }
-    Ok(())
-}
-
-/// An operation.
-fn operation(printer: &mut Printer, one: &Operation) -> Result<(), NoMemory>
-    ensures { OnOk result (printer.new ≡ printer.old ++ operation_printed one.now) }
-{
-    heading(printer, one)?;
-    bodies(printer, one)?;
-    Ok(())
-}
-
-/// An operation before its blocks.
-fn heading(printer: &mut Printer, one: &Operation) -> Result<(), NoMemory>
-    ensures { OnOk result (printer.new ≡ printer.old ++ heading_printed one.now) }
-{
-    printer.keyword(Keyword::Op)?;
-    printer.name(&one.name)?;
-    printer.symbol(Symbol::RoundOpen)?;
-    declared_list(printer, one.arguments.as_slice())?;
-    printer.symbol(Symbol::RoundClose)?;
-    answer_type(printer, one.answer)?;
-    Ok(())
-}
-
-/// The blocks of an operation.
-fn bodies(printer: &mut Printer, one: &Operation) -> Result<(), NoMemory>
-    ensures { OnOk result (printer.new ≡ printer.old ++ bodies_printed one.now) }
-{
-    printer.keyword(Keyword::Spec)?;
-    block(printer, &one.spec)?;
-    on_crash(printer, &one.on_crash)?;
-    printer.keyword(Keyword::Impl)?;
-    block(printer, &one.implementation)?;
     Ok(())
 }
 

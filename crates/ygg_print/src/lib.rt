@@ -1,10 +1,12 @@
-//! The tokens of a layer file's one canonical text, by the rules of the grammar.
+//! The tokens of the parts of a layer file in its one canonical text, by the rules of the grammar. Each call writes the marks of a
+//! part behind those that the printer has. Its only error is want of memory, after which some of the part's marks may be written.
 #![tactic(auto)]
 
 mod blocks;
 mod expressions;
 mod files;
-mod layers;
 mod printer;
 
-pub use layers::marks_of;
+pub use blocks::block;
+pub use files::{claims, declared_list, definitions, disk, optional, shape, ticks, variables};
+pub use printer::Printer;

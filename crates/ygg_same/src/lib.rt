@@ -1,7 +1,6 @@
 //! Whether two layer files are the same but for places.
 #![tactic(auto)]
 
-mod expressions;
 mod parts;
 mod same;
 mod statements;

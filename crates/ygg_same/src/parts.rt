@@ -1,9 +1,9 @@
 //! Parts of trees that stand in lists, or that may be left out.
 
 ghost use Rattle.std.specs.Prelude.{◌≡◌, IsTrue, ◌↔◌, map, option_map};
-ghost use Rattle.ygg_same.specs.Bare.{bare, bare_type, bare_declared};
+ghost use Rattle.ygg_alike.specs.Bare.{bare, bare_type, bare_declared};
 
-use crate::expressions::{expression, name, shape};
+use ygg_alike::expressions::{expression, name, shape};
 use ygg_syntax::tree::{Declared, Expr, TypeText};
 
 /// A part of a tree.

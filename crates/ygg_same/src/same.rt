@@ -1,11 +1,11 @@
 //! Whether layer files are the same but for places.
 
 ghost use Rattle.std.specs.Prelude.{◌≡◌, IsTrue, ◌↔◌};
-ghost use Rattle.ygg_same.specs.Bare.{bare_disk, bare_def, bare_operation, bare_tick, bare_layer, bare_file};
+ghost use Rattle.ygg_alike.specs.Bare.{bare_disk, bare_def, bare_operation, bare_tick, bare_layer, bare_file};
 
-use crate::expressions::{expression, expressions, name, number, shape};
 use crate::parts::{Part, items, optional};
 use crate::statements::block;
+use ygg_alike::expressions::{expression, expressions, name, number, shape};
 use ygg_syntax::tree::{Def, DiskText, File, Layer, Operation, Tick};
 
 /// Whether the files are the same but for places.

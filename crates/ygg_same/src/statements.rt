@@ -1,10 +1,10 @@
 //! Whether statements and blocks are the same but for places.
 
 ghost use Rattle.std.specs.Prelude.{◌≡◌, IsTrue, ◌↔◌, map};
-ghost use Rattle.ygg_same.specs.Bare.{bare_source, bare_index, bare_statement, bare_block};
+ghost use Rattle.ygg_alike.specs.Bare.{bare_source, bare_index, bare_statement, bare_block};
 
-use crate::expressions::{expression, expressions, name, range};
 use crate::parts::{Part, items, optional};
+use ygg_alike::expressions::{expression, expressions, name, range};
 use ygg_syntax::tree::{Block, Index, Source, Stmt};
 
 impl Part for Index {

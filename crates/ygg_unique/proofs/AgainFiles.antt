@@ -29,7 +29,7 @@ use Rattle.ygg_syntax.specs.Files.{type_in, declared, more_declared, any_declare
 use Rattle.ygg_print.specs.Printed.{printed, list_printed, more_printed}
 use Rattle.ygg_print.specs.PrintedBlocks.{all_printed, block_printed}
 use Rattle.ygg_print.specs.PrintedFiles.{type_printed, declared_printed, disk_printed, definition_printed, variable_printed, claim_printed, optional_printed, on_crash_printed, answer_type_printed, bodies_printed, operation_printed, tick_printed, variables_printed, steps_printed, claims_printed, layer_printed, file_printed}
-use Rattle.ygg_same.specs.Bare.{nowhere, bare, bare_type, bare_block, bare_declared, bare_disk, bare_def, bare_operation, bare_tick, bare_layer, bare_file}
+use Rattle.ygg_alike.specs.Bare.{nowhere, bare, bare_type, bare_block, bare_declared, bare_disk, bare_def, bare_operation, bare_tick, bare_layer, bare_file}
 use Rattle.ygg_expr.proofs.Marks.{took}
 use Rattle.ygg_expr.proofs.Claims.{split, empty}
 use Rattle.ygg_unique.specs.Laws.{LeftOut, nothing, leaves, DerivesAs}

@@ -23,7 +23,7 @@ use Rattle.ygg_syntax.specs.Blocks.{BlockPhrase, bracketed, source_in, indices_o
 use Rattle.ygg_print.specs.Printed.{printed}
 use Rattle.ygg_print.specs.Printed as print
 use Rattle.ygg_print.specs.PrintedBlocks.{all_printed, source_printed, indices_printed, BlockPrinted, node_block_printed, node_stmt_printed, stmt_printed, block_printed}
-use Rattle.ygg_same.specs.Bare.{nowhere, bare, bare_source, bare_index, node_bare_statement, node_bare_block, bare_statement, bare_block}
+use Rattle.ygg_alike.specs.Bare.{nowhere, bare, bare_source, bare_index, node_bare_statement, node_bare_block, bare_statement, bare_block}
 use Rattle.ygg_expr.proofs.Phrases as phrases
 use Rattle.ygg_expr.proofs.Marks.{passed, took}
 use Rattle.ygg_expr.proofs.Claims.{split, empty}

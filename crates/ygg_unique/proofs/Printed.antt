@@ -26,7 +26,7 @@ use Rattle.ygg_syntax.specs.declared.tree.File.{File}
 use Rattle.ygg_print.specs.Printed.{printed, node_printed, list_printed, bracketed}
 use Rattle.ygg_print.specs.PrintedBlocks.{all_printed, source_printed, indices_printed, answer_printed, is_empty, else_printed, BlockPrinted, node_block_printed, node_stmt_printed, stmt_printed, block_printed}
 use Rattle.ygg_print.specs.PrintedFiles.{type_printed, declared_printed, definition_printed, variable_printed, claim_printed, optional_printed, on_crash_printed, answer_type_printed, operation_printed, tick_printed, layer_printed, file_printed, head_printed}
-use Rattle.ygg_same.specs.Bare.{nowhere, bare, node_bare, bare_source, bare_index, node_bare_statement, node_bare_block, bare_statement, bare_block, bare_type, bare_declared, bare_def, bare_operation, bare_tick, bare_layer, bare_file}
+use Rattle.ygg_alike.specs.Bare.{nowhere, bare, node_bare, bare_source, bare_index, node_bare_statement, node_bare_block, bare_statement, bare_block, bare_type, bare_declared, bare_def, bare_operation, bare_tick, bare_layer, bare_file}
 
 -- one after another
 all_same : {A B : Type 0} (f : A → A) (ms : A → B) → ((a : A) → ms (f a) ≡ ms a) → (xs : List A) → map ms (map f xs) ≡ map ms xs

@@ -1,5 +1,5 @@
 use Rattle.std.proofs.Common.{◌≡◌, ◌↔◌, map, drop}
-use Rattle.ygg_same.specs.Bare.{bare_statement}
+use Rattle.ygg_alike.specs.Bare.{bare_statement}
 use Rattle.ygg_same.proofs.statements.+blocks.Given as goal
 
 -- what is left decides

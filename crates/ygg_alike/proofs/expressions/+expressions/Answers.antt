@@ -1,9 +1,9 @@
 use Rattle.std.proofs.Common.{sym, ◌∙◌}
 use Rattle.std.proofs.lemmas.Bool.{false≢true}
 use Rattle.ygg_syntax.specs.declared.tree.Expr.TheVariants as expr
-use Rattle.ygg_same.proofs.Sames.{same_opened, same_quantified}
-use Rattle.ygg_same.proofs.expressions.+expressions.Goals as goal
-use Rattle.ygg_same.proofs.expressions.+expressions.Goals.{expression-then-operator, expression-else-operator, expression-then-expression-3, expression-else-expression-3, expression-then-quantifier, expression-else-quantifier}
+use Rattle.ygg_alike.proofs.Sames.{same_opened, same_quantified}
+use Rattle.ygg_alike.proofs.expressions.+expressions.Goals as goal
+use Rattle.ygg_alike.proofs.expressions.+expressions.Goals.{expression-then-operator, expression-else-operator, expression-then-expression-3, expression-else-expression-3, expression-then-quantifier, expression-else-quantifier}
 
 pub expression-returns-then-name : goal.expression-returns-then-name
 expression-returns-then-name t c =

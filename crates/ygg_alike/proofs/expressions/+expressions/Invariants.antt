@@ -1,6 +1,6 @@
 use Rattle.std.proofs.Common.{◌≡◌, ◌↔◌, map, drop}
-use Rattle.ygg_same.specs.Bare.{bare}
-use Rattle.ygg_same.proofs.expressions.+expressions.Given as goal
+use Rattle.ygg_alike.specs.Bare.{bare}
+use Rattle.ygg_alike.proofs.expressions.+expressions.Given as goal
 
 -- what is left decides
 abbrev pub invariant-expressions-loop-one : goal.invariant-expressions-loop-one

@@ -1,7 +1,7 @@
 //! Whether names, numbers, types and expressions are the same but for places.
 
 ghost use Rattle.std.specs.Prelude.{◌≡◌, IsTrue, ◌↔◌, map};
-ghost use Rattle.ygg_same.specs.Bare.{bare, bare_name, bare_number, bare_type};
+ghost use Rattle.ygg_alike.specs.Bare.{bare, bare_name, bare_number, bare_type};
 
 use ygg_syntax::tree::{Expr, Name, Numeral, Quantifier, TypeText};
 use ygg_value::Op;

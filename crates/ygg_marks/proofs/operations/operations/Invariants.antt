@@ -1,7 +1,7 @@
 use Rattle.std.proofs.Common.{◌≡◌, ◌++◌, drop, map}
 use Rattle.ygg_print.specs.PrintedBlocks.{all_printed}
 use Rattle.ygg_print.specs.PrintedFiles.{operation_printed}
-use Rattle.ygg_print.proofs.files.operations.Given as goal
+use Rattle.ygg_marks.proofs.operations.operations.Given as goal
 
 -- those so far and those of what is left
 abbrev pub invariant-loop-one : goal.invariant-loop-one

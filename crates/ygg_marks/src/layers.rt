@@ -2,11 +2,11 @@ ghost use Rattle.std.specs.Prelude.{◌≡◌, ◌++◌, OnOk, IfOk, map};
 ghost use Rattle.ygg_print.specs.PrintedBlocks.{all_printed};
 ghost use Rattle.ygg_print.specs.PrintedFiles.{file_printed, head_printed, layer_printed, steps_printed, variables_printed};
 
-use crate::files::{claims, definitions, disk, operations, optional, ticks, variables};
-use crate::printer::Printer;
+use crate::operations::operations;
 use std::alloc::Global;
 use ygg_base::{Keyword, Mark, Symbol};
 use ygg_list::{NoMemory, Sequence};
+use ygg_print::{Printer, claims, definitions, disk, optional, ticks, variables};
 use ygg_syntax::tree::{DiskText, File, Layer};
 
 /// The marks of a layer file's one canonical text. Its only error is want of memory.

@@ -4,8 +4,8 @@ use Rattle.ygg_base.specs.declared.token.Symbol.TheVariants as sign
 use Rattle.ygg_base.specs.declared.token.Mark.{Mark}
 use Rattle.ygg_base.specs.declared.token.Mark.TheVariants as mark
 use Rattle.ygg_print.specs.PrintedFiles.{disk_printed}
-use Rattle.ygg_print.proofs.Joined.{joined}
-use Rattle.ygg_print.proofs.layers.head.Goals as goal
+use Rattle.ygg_marks.proofs.Joined.{joined}
+use Rattle.ygg_marks.proofs.layers.head.Goals as goal
 
 pub returns : goal.returns
 returns c =

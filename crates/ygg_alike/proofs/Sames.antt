@@ -13,7 +13,7 @@ use Rattle.ygg_syntax.specs.declared.tree.Stmt.{Stmt, roll-Stmt, map-Stmt, out-S
 use Rattle.ygg_syntax.specs.declared.tree.Stmt.TheOpen.{Stmt-F}
 use Rattle.ygg_syntax.specs.declared.tree.Stmt.TheVariants as stmt
 use Rattle.ygg_syntax.specs.declared.tree.Stmt.TheFolds.{fold-roll-Stmt, fold-roll-Block}
-use Rattle.ygg_same.specs.Bare.{bare_name, bare_number, node_bare, bare, node_bare_statement, node_bare_block, bare_statement, bare_block}
+use Rattle.ygg_alike.specs.Bare.{bare_name, bare_number, node_bare, bare, node_bare_statement, node_bare_block, bare_statement, bare_block}
 
 -- an opened expression without its places
 abbrev pub opened : Expr-F Expr → Expr-F Expr

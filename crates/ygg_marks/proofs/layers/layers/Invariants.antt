@@ -1,7 +1,7 @@
 use Rattle.std.proofs.Common.{◌≡◌, ◌++◌, drop, map}
 use Rattle.ygg_print.specs.PrintedBlocks.{all_printed}
 use Rattle.ygg_print.specs.PrintedFiles.{layer_printed}
-use Rattle.ygg_print.proofs.layers.layers.Given as goal
+use Rattle.ygg_marks.proofs.layers.layers.Given as goal
 
 -- those so far and those of what is left
 abbrev pub invariant-loop-one : goal.invariant-loop-one
