@@ -1,10 +1,13 @@
 ghost use Rattle.std.specs.Prelude.{◌≡◌, ◌<◌, IfOk};
 ghost use Rattle.ygg_bank.specs.Nodes.{HasWidth};
+ghost use Rattle.ygg_gates.specs.Groups.{translated};
+ghost use Rattle.ygg_meaning.specs.Laws.{AreExact};
+ghost use Rattle.ygg_solver.specs.Answers.{IsNumbered};
 ghost use Rattle.ygg_decide.specs.Deciding.{IsDecided, IsSound};
 
 use std::alloc::Global;
 use ygg_bank::{Bank, Env, Id, NoMemory};
-use ygg_blast::{clauses_of, environment};
+use ygg_blast::{Blasted, clauses_of, environment};
 use ygg_cnf::{Log, derivations_are_sound};
 use ygg_rules::Book;
 use ygg_solver::{Answer, solve};
@@ -45,12 +48,31 @@ fn decide_in(alloc: Global, bank: &Bank, term: Id, budget: u32) -> Result<Decide
     ensures decided { IfOk result (IsDecided bank.now term budget) }
     ensures sound { IfOk result (IsSound bank.now term) }
 {
+    let blasted = clauses_of(alloc, bank, term)?;
+    decide_blasted(alloc, bank, &blasted, term, budget)
+}
+
+/// The same by the term's clauses.
+fn decide_blasted(
+    alloc: Global,
+    bank: &Bank,
+    blasted: &Blasted,
+    term: Id,
+    budget: u32,
+) -> Result<Decided, NoMemory>
+    requires width { HasWidth bank.now term 1 }
+    requires budget { 0 < budget }
+    requires form { blasted.now ≡ translated bank.now term }
+    requires exactly { AreExact bank.now term blasted.now.clauses }
+    requires numbered { IsNumbered blasted.now.clauses }
+    ensures decided { IfOk result (IsDecided bank.now term budget) }
+    ensures sound { IfOk result (IsSound bank.now term) }
+{
     // the bank's nodes stand in order, and a refutation is sound
     let _ = bank.len();
     derivations_are_sound();
-    let blasted = clauses_of(alloc, bank, term)?;
     match solve(alloc, blasted.clauses(), budget)? {
-        Answer::Sat(assignment) => Ok(Decided::Fails(environment(alloc, &blasted, &assignment)?)),
+        Answer::Sat(assignment) => Ok(Decided::Fails(environment(alloc, blasted, &assignment)?)),
         Answer::Unsat(log) => Ok(Decided::Valid(log)),
         Answer::Spent(log) => Ok(Decided::Spent(log)),
     }
