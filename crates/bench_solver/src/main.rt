@@ -11,38 +11,66 @@ use std::env;
 use std::time::Instant;
 use ygg_cnf::{Clause, Clauses, Lit};
 use ygg_list::NoMemory;
-use ygg_solver::{Answer, solve_and_count};
+use ygg_solver::{Answer, Work, solve_and_count};
 
 fn main(rt: HostRuntime) -> anyhow::Result<()> {
-    let alloc = rt.alloc();
-    let mut budget = u32::MAX;
-    for word in env::args(&rt)? {
-        if let Ok(number) = word.as_str().parse::<u32>() {
-            budget = number;
-        }
-    }
-    let mut clauses = Clauses::new(alloc);
-    let mut clause = Clause::new(alloc);
-    for line in rt.lines(alloc) {
-        let line = line?;
-        take_line(alloc, &mut clauses, &mut clause, line.as_str())?;
-    }
+    let budget = budget_of(&rt)?;
+    let mut clauses = Clauses::new(rt.alloc());
+    read(&rt, &mut clauses)?;
     if budget == 0 || !is_numbered(&clauses) {
         eprintln!(rt; "the budget or a variable is 0")?;
         return Ok(());
     }
-    let start = Instant::now(&rt)?;
-    let (answer, work) = solve_and_count(alloc, &clauses, budget)?;
-    let time = start.elapsed(&rt)?;
-    let kind = match answer {
+    report(&rt, &clauses, budget)
+}
+
+/// The last word that is a number, or else the greatest budget.
+fn budget_of(rt: &HostRuntime) -> anyhow::Result<u32> {
+    let mut budget = u32::MAX;
+    for word in env::args(rt)? {
+        if let Ok(number) = word.as_str().parse::<u32>() {
+            budget = number;
+        }
+    }
+    Ok(budget)
+}
+
+/// Reads clauses from standard input.
+fn read(rt: &HostRuntime, clauses: &mut Clauses) -> anyhow::Result<()> {
+    let alloc = rt.alloc();
+    let mut clause = Clause::new(alloc);
+    for line in rt.lines(alloc) {
+        take_line(alloc, clauses, &mut clause, line?.as_str())?;
+    }
+    Ok(())
+}
+
+/// Solves the clauses, and says what they came to.
+fn report(rt: &HostRuntime, clauses: &Clauses, budget: u32) -> anyhow::Result<()>
+    requires budget { 0 < budget }
+    requires numbered { IsNumbered clauses.now }
+{
+    let start = Instant::now(rt)?;
+    let (answer, work) = solve_and_count(rt.alloc(), clauses, budget)?;
+    let time = start.elapsed(rt)?;
+    print(rt, kind_of(&answer), work, time.as_nanos())
+}
+
+/// The word for an answer.
+fn kind_of(answer: &Answer) -> &'static str {
+    match answer {
         Answer::Sat(_assignment) => "SATISFIABLE",
         Answer::Unsat(_log) => "UNSATISFIABLE",
         Answer::Spent(_log) => "UNKNOWN",
-    };
+    }
+}
+
+/// Prints what the clauses came to, and how long it took in nanoseconds.
+fn print(rt: &HostRuntime, kind: &str, work: Work, time: u128) -> anyhow::Result<()> {
     println!(rt; "s {kind}")?;
     eprintln!(rt; "{} learned", work.conflicts)?;
     eprintln!(rt; "{} values", work.values)?;
-    eprintln!(rt; "{} ns", time.as_nanos())?;
+    eprintln!(rt; "{time} ns")?;
     Ok(())
 }
 
