@@ -6,6 +6,7 @@
 //! How many clauses there are, how many were learned, and how long each step took in nanoseconds goes to standard error.
 #![tactic(auto)]
 
+ghost use Rattle.std.specs.Prelude.{◌≡◌, []};
 ghost use Rattle.ygg_bank.specs.Nodes.{HasWidth};
 
 mod terms;
@@ -34,18 +35,34 @@ struct Request {
 
 fn main(rt: HostRuntime) -> anyhow::Result<()> {
     let request = request_of(&rt)?;
-    let alloc = rt.alloc();
-    let book = RuleBook::new(Vec::new(alloc));
-    let mut bank = Bank::new(alloc)?;
+    let book = RuleBook::new(Vec::new(rt.alloc()));
+    run(&rt, &book, request)
+}
+
+/// Does what was asked for.
+fn run<B: Book>(rt: &HostRuntime, book: &B, request: Request) -> anyhow::Result<()> {
+    let mut bank = Bank::new(rt.alloc())?;
+    run_in(rt, &mut bank, book, request)
+}
+
+/// The same in a bank without nodes.
+fn run_in<B: Book>(
+    rt: &HostRuntime,
+    bank: &mut Bank,
+    book: &B,
+    request: Request,
+) -> anyhow::Result<()>
+    requires { bank.old ≡ [] }
+{
     let width = request.width.clamp(1, 64);
-    let term = term_of(&mut bank, &book, request.family, width, request.count)?;
+    let term = term_of(bank, book, request.family, width, request.count)?;
     if request.prints {
-        return print_clauses(&rt, &bank, term);
+        return print_clauses(rt, bank, term);
     }
-    report_clauses(&rt, &bank, term)?;
+    report_clauses(rt, bank, term)?;
     match request.family {
         Family::Chain => Ok(()),
-        _ => report_answer(&rt, &mut bank, &book, term),
+        _ => report_answer(rt, bank, book, term),
     }
 }
 
@@ -87,12 +104,20 @@ fn take_number(request: &mut Request, word: &str) {
 fn report_clauses(rt: &HostRuntime, bank: &Bank, term: Id) -> anyhow::Result<()>
     requires { HasWidth bank.now term 1 }
 {
+    let (count, time) = translated(rt, bank, term)?;
+    eprintln!(rt; "{count} clauses")?;
+    eprintln!(rt; "{time} translating")?;
+    Ok(())
+}
+
+/// How many clauses the term has, and how many nanoseconds they took.
+fn translated(rt: &HostRuntime, bank: &Bank, term: Id) -> anyhow::Result<(usize, u128)>
+    requires { HasWidth bank.now term 1 }
+{
     let start = Instant::now(rt)?;
     let blasted = clauses_of(rt.alloc(), bank, term)?;
     let time = start.elapsed(rt)?;
-    eprintln!(rt; "{} clauses", blasted.clauses().len())?;
-    eprintln!(rt; "{} translating", time.as_nanos())?;
-    Ok(())
+    Ok((blasted.clauses().len(), time.as_nanos()))
 }
 
 /// Says what the term came to, how many clauses were learned, and how long it took.
@@ -107,9 +132,14 @@ fn report_answer<B: Book>(
     let start = Instant::now(rt)?;
     let answer = decide(rt.alloc(), bank, book, term, BUDGET)?;
     let time = start.elapsed(rt)?;
-    eprintln!(rt; "{} deciding", time.as_nanos())?;
-    eprintln!(rt; "{} learned", learned(&answer))?;
-    println!(rt; "{}", name_of(&answer))?;
+    print_answer(rt, &answer, time.as_nanos())
+}
+
+/// Says what an answer is, and that it took so many nanoseconds.
+fn print_answer(rt: &HostRuntime, answer: &Decided, time: u128) -> anyhow::Result<()> {
+    eprintln!(rt; "{time} deciding")?;
+    eprintln!(rt; "{} learned", learned(answer))?;
+    println!(rt; "{}", name_of(answer))?;
     Ok(())
 }
 
@@ -135,7 +165,11 @@ fn print_clauses(rt: &HostRuntime, bank: &Bank, term: Id) -> anyhow::Result<()>
     requires { HasWidth bank.now term 1 }
 {
     let blasted = clauses_of(rt.alloc(), bank, term)?;
-    let clauses = blasted.clauses();
+    print_all(rt, blasted.clauses())
+}
+
+/// Prints clauses in DIMACS form.
+fn print_all(rt: &HostRuntime, clauses: &Clauses) -> anyhow::Result<()> {
     println!(rt; "p cnf {} {}", greatest_variable(clauses), clauses.len())?;
     for clause in clauses.as_slice() {
         print_clause(rt, clause)?;
