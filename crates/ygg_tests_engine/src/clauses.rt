@@ -1,6 +1,7 @@
 ghost use Rattle.std.specs.Prelude.{◌≡◌, []};
 
 use crate::written::are_written;
+use std::alloc::Global;
 use std::process::Abort;
 use std::test::Fail;
 use ygg_bank::*;
@@ -31,15 +32,28 @@ fn conjunction(rt: &impl Abort, bank: &mut Bank, book: &RuleBook) -> Result<Id, 
     bank.make(Node::Bin { op: Op::And, a, b }, book)
 }
 
+/// Whether the clauses of the conjunction are these.
+fn has_clauses(
+    rt: &impl Abort,
+    alloc: Global,
+    bank: &mut Bank,
+    book: &RuleBook,
+) -> Result<bool, NoMemory>
+    requires { bank.old ≡ [] }
+{
+    let term = conjunction(rt, bank, book)?;
+    assert!(rt; term.0 < bank.len());
+    let blasted = clauses_of(alloc, bank, term)?;
+    let wanted: [&[i64]; 5] = [&[1], &[-4, 2], &[-4, 3], &[4, -2, -3], &[-4]];
+    Ok(are_written(blasted.clauses().as_slice(), &wanted))
+}
+
 #[test]
 fn a_conjunction_has_these_clauses(rt: HostRuntime) -> Result<(), Fail> {
     let alloc = rt.alloc();
     let book = RuleBook::new(Vec::new(alloc));
     let mut bank = Bank::new(alloc)?;
-    let term = conjunction(&rt, &mut bank, &book)?;
-    assert!(rt; term.0 < bank.len());
-    let blasted = clauses_of(alloc, &bank, term)?;
-    let wanted: [&[i64]; 5] = [&[1], &[-4, 2], &[-4, 3], &[4, -2, -3], &[-4]];
-    assert!(rt; are_written(blasted.clauses().as_slice(), &wanted));
+    let found = has_clauses(&rt, alloc, &mut bank, &book)?;
+    assert!(rt; found);
     Ok(())
 }

@@ -1,7 +1,8 @@
 use crate::written::{are_written, clause_of, clauses_of};
+use std::alloc::Global;
 use std::test::Fail;
 use ygg_cnf::{Assignment, Log, Step, truth};
-use ygg_list::Sequence;
+use ygg_list::{NoMemory, Sequence};
 
 #[test]
 fn lists_are_made_and_copied(rt: HostRuntime) -> Result<(), Fail> {
@@ -12,20 +13,37 @@ fn lists_are_made_and_copied(rt: HostRuntime) -> Result<(), Fail> {
     Ok(())
 }
 
+/// A step whose clause is a copy.
+fn step_of(alloc: Global) -> Result<Step, NoMemory> {
+    let chain = Sequence::from_slice(alloc, &[1, 2])?;
+    let clause = clause_of(alloc, &[7, -7])?.copy(alloc)?;
+    Ok(Step::Added { clause, chain })
+}
+
+/// A log of that step.
+fn log_of(alloc: Global) -> Result<Log, NoMemory> {
+    let mut log = Log::new(alloc);
+    log.push(step_of(alloc)?)?;
+    Ok(log)
+}
+
+/// Whether the log has that step alone.
+fn has_step(log: &Log) -> bool {
+    if log.len() != 1 {
+        return false;
+    }
+    let Step::Added { clause, chain } = log.at(0);
+    clause.len() == 2
+        && !clause.is_empty()
+        && clause.at(1).negated
+        && chain.as_slice() == [1, 2].as_slice()
+}
+
 #[test]
 fn logs_are_made_and_copied(rt: HostRuntime) -> Result<(), Fail> {
-    let alloc = rt.alloc();
-    let clause = clause_of(alloc, &[7, -7])?.copy(alloc)?;
-    let mut log = Log::new(alloc);
-    log.push(Step::Added {
-        clause,
-        chain: Sequence::from_slice(alloc, &[1, 2])?,
-    })?;
-    let log = log.copy(alloc)?;
-    assert!(rt; log.len() == 1);
-    let Step::Added { clause, chain } = log.at(0);
-    assert!(rt; clause.len() == 2 && !clause.is_empty() && clause.at(1).negated);
-    assert!(rt; chain.as_slice() == [1, 2].as_slice());
+    let log = log_of(rt.alloc())?;
+    let copy = log.copy(rt.alloc())?;
+    assert!(rt; has_step(&copy));
     Ok(())
 }
 

@@ -145,32 +145,28 @@ fn picks() -> [Rewrite; 2] {
 
 #[test]
 fn judges(rt: HostRuntime) {
-    let [with_ones, with_zero, zero, no_zero] = conjunctions();
-    assert!(rt; with_ones == Rewrite::Operand(1) && with_zero == Rewrite::Keep);
-    assert!(rt; zero == Rewrite::Constant(Word { width: 8, bits: 0 }) && no_zero == Rewrite::Keep);
-    let [with_zero, unknown, sum, difference] = sums();
-    assert!(rt; with_zero == Rewrite::Operand(1) && unknown == Rewrite::Keep);
-    assert!(rt; sum == Rewrite::Operand(0) && difference == Rewrite::Keep);
-    let [same, other, pick, other_pick] = alike();
-    assert!(rt; same == Rewrite::Constant(Word { width: 1, bits: 1 }) && other == Rewrite::Keep);
-    assert!(rt; pick == Rewrite::Operand(1) && other_pick == Rewrite::Keep);
-    let [shift, unknown, complement, resized] = folds();
+    let zero = Rewrite::Constant(Word { width: 8, bits: 0 });
+    let one = Rewrite::Constant(Word { width: 1, bits: 1 });
+    assert!(rt; conjunctions() == [Rewrite::Operand(1), Rewrite::Keep, zero, Rewrite::Keep]);
     assert!(rt;
-        shift
-            == Rewrite::Constant(Word {
-                width: 8,
-                bits: 160
-            })
-            && unknown == Rewrite::Keep
+        sums()
+            == [
+                Rewrite::Operand(1),
+                Rewrite::Keep,
+                Rewrite::Operand(0),
+                Rewrite::Keep
+            ]
     );
-    assert!(rt;
-        complement
-            == Rewrite::Constant(Word {
-                width: 8,
-                bits: 250
-            })
-            && resized == Rewrite::Constant(Word { width: 2, bits: 1 })
-    );
-    let [known, unknown] = picks();
-    assert!(rt; known == Rewrite::Operand(1) && unknown == Rewrite::Keep);
+    assert!(rt; alike() == [one, Rewrite::Keep, Rewrite::Operand(1), Rewrite::Keep]);
+    let shifted = Rewrite::Constant(Word {
+        width: 8,
+        bits: 160,
+    });
+    let complement = Rewrite::Constant(Word {
+        width: 8,
+        bits: 250,
+    });
+    let resized = Rewrite::Constant(Word { width: 2, bits: 1 });
+    assert!(rt; folds() == [shifted, Rewrite::Keep, complement, resized]);
+    assert!(rt; picks() == [Rewrite::Operand(1), Rewrite::Keep]);
 }
