@@ -11,29 +11,57 @@ use ygg_cnf::{Clause, Clauses, Lit, Log, Step};
 use ygg_list::{NoMemory, Sequence};
 
 fn main(rt: HostRuntime) -> anyhow::Result<()> {
+    let mut refutation = Refutation {
+        clauses: Clauses::new(rt.alloc()),
+        log: Log::new(rt.alloc()),
+        derived: Clause::new(rt.alloc()),
+    };
+    read(&rt, &mut refutation)?;
+    judge(&rt, &refutation)
+}
+
+/// A refutation so far, and the derived clause whose chain comes next.
+#[derive(Drop)]
+struct Refutation {
+    clauses: Clauses,
+    log: Log,
+    derived: Clause,
+}
+
+/// Reads a refutation from standard input.
+fn read(rt: &HostRuntime, refutation: &mut Refutation) -> anyhow::Result<()> {
     let alloc = rt.alloc();
-    let mut clauses = Clauses::new(alloc);
-    let mut log = Log::new(alloc);
-    let mut derived = Clause::new(alloc);
     for line in rt.lines(alloc) {
-        let line = line?;
-        let text = line.as_str();
-        if let Some(words) = text.strip_prefix('i') {
-            clauses.push(clause_of(alloc, words)?)?;
-        } else if let Some(words) = text.strip_prefix('d') {
-            derived = clause_of(alloc, words)?;
-        } else if let Some(words) = text.strip_prefix('c') {
-            let chain = numbers_of(alloc, words)?;
-            log.push(Step::Added {
-                clause: derived,
-                chain,
-            })?;
-            derived = Clause::new(alloc);
-        }
+        take_line(alloc, refutation, line?.as_str())?;
     }
-    let start = Instant::now(&rt)?;
-    let judged = steps_of(alloc, &clauses, &log)?;
-    let time = start.elapsed(&rt)?;
+    Ok(())
+}
+
+/// Takes one line. One of another kind is passed over.
+fn take_line(alloc: Global, refutation: &mut Refutation, text: &str) -> Result<(), NoMemory> {
+    if let Some(words) = text.strip_prefix('i') {
+        return refutation.clauses.push(clause_of(alloc, words)?);
+    }
+    if let Some(words) = text.strip_prefix('d') {
+        refutation.derived = clause_of(alloc, words)?;
+    } else if let Some(words) = text.strip_prefix('c') {
+        return take_chain(alloc, refutation, words);
+    }
+    Ok(())
+}
+
+/// Takes the chain of the derived clause before it.
+fn take_chain(alloc: Global, refutation: &mut Refutation, words: &str) -> Result<(), NoMemory> {
+    let chain = numbers_of(alloc, words)?;
+    let clause = std::mem::replace(&mut refutation.derived, Clause::new(alloc));
+    refutation.log.push(Step::Added { clause, chain })
+}
+
+/// Judges a refutation, and prints how many steps it takes and how long that took.
+fn judge(rt: &HostRuntime, refutation: &Refutation) -> anyhow::Result<()> {
+    let start = Instant::now(rt)?;
+    let judged = steps_of(rt.alloc(), &refutation.clauses, &refutation.log)?;
+    let time = start.elapsed(rt)?;
     match judged {
         Some(steps) => println!(rt; "refuted in {steps} steps")?,
         None => println!(rt; "not a refutation")?,
