@@ -9,21 +9,36 @@ use ygg_rules::RuleBook;
 use ygg_value::Word;
 
 fn main(rt: HostRuntime) -> anyhow::Result<()> {
-    let alloc = rt.alloc();
+    let count = count_of(&rt)?;
+    let book = RuleBook::new(Vec::new(rt.alloc()));
+    report(&rt, &book, count)
+}
+
+/// The last number that standard input has on a line of its own, or 0.
+fn count_of(rt: &HostRuntime) -> anyhow::Result<u64> {
     let mut count: u64 = 0;
-    for line in rt.lines(alloc) {
+    for line in rt.lines(rt.alloc()) {
         if let Ok(number) = line?.as_str().trim().parse::<u64>() {
             count = number;
         }
     }
-    let book = RuleBook::new(Vec::new(alloc));
-    let mut bank = Bank::new(alloc)?;
-    let start = Instant::now(&rt)?;
-    fill(&mut bank, &book, count)?;
-    let time = start.elapsed(&rt)?;
+    Ok(count)
+}
+
+/// Makes the terms, and prints how many there are and how long it took.
+fn report(rt: &HostRuntime, book: &RuleBook, count: u64) -> anyhow::Result<()> {
+    let mut bank = Bank::new(rt.alloc())?;
+    let time = time_of(rt, &mut bank, book, count)?;
     println!(rt; "{} terms", bank.len())?;
-    eprintln!(rt; "{} ns", time.as_nanos())?;
+    eprintln!(rt; "{time} ns")?;
     Ok(())
+}
+
+/// How many nanoseconds it takes to make the terms.
+fn time_of(rt: &HostRuntime, bank: &mut Bank, book: &RuleBook, count: u64) -> anyhow::Result<u128> {
+    let start = Instant::now(rt)?;
+    fill(bank, book, count)?;
+    Ok(start.elapsed(rt)?.as_nanos())
 }
 
 /// Asks for each number and its complement, and for both again.
