@@ -34,7 +34,7 @@ use Rattle.ygg_sound.proofs.Tests.{left, right}
 use Rattle.ygg_answered.specs.Machines.{IsSized, DiskAnswers}
 use Rattle.ygg_answered.proofs.Fits.{IsTableOf, table_parts}
 use Rattle.ygg_answered.proofs.Disks.{disk_row_is}
-use Rattle.ygg_answered.proofs.Sizes.{disk_answers_all}
+use Rattle.ygg_answered.proofs.Sizes.{AllSized, disk_answers_all}
 use Rattle.ygg_lower.specs.Layers.{variables_from, variables_at, signatures_at}
 use Rattle.ygg_lower.specs.Lower.{IsCallable, Called, Fell, Whole}
 use Rattle.ygg_spec_lower.specs.Kept.{standing, spec_meaning, Loses}
@@ -42,15 +42,11 @@ use Rattle.ygg_spec_lower.specs.Tables.{IsReadable, AreTables, AreWritable, IsRo
 use Rattle.ygg_spec_lower.proofs.Stepping.{no_pick}
 use Rattle.ygg_spec_lower.proofs.Values.{bind_fits, bound_fits}
 
--- the tables of the disk's size
-abbrev SizedAll : DiskText → (kind : DiskKind) → (model_of kind).Disk → Type 0
-SizedAll d Sync t = IsTableOf d.rows.value d.words.value d.width.value t
-SizedAll d Async t = IsTableOf d.rows.value d.words.value d.width.value t.view × IsTableOf d.rows.value d.words.value d.width.value t.stable
-
+-- values that are the tables of a disk of the size
 pub record AreSized (d : DiskText) (kind : DiskKind) (values : List Value) : Type 0 where
   pub disk : (model_of kind).Disk
   pub are : values ≡ values_of kind disk
-  pub sized : SizedAll d kind disk
+  pub sized : AllSized d kind disk
 
 -- a value of a table's shape is a table
 a_table : (n m w : ℕ) (v : Value) → fits (shape.Table n m w) v ≡ true → (t : Grid) × (v ≡ Table t) × IsTableOf n m w t
@@ -273,7 +269,7 @@ writable d kind values at row fine s e f =
     one : (t : Grid) (r : Digits) → IsTableOf d.rows.value d.words.value d.width.value t → r.width ≡ d.width.value → length r.words ≡ d.words.value → IsRowOf t r
     one t r p width words = record { width = width ∙ sym p.width; words = words ∙ sym p.words }
 
-    sizes : (kind : DiskKind) (t : (model_of kind).Disk) → SizedAll d kind t → (r : Digits) → r.width ≡ d.width.value → length r.words ≡ d.words.value → IsRowOfAll kind t r
+    sizes : (kind : DiskKind) (t : (model_of kind).Disk) → AllSized d kind t → (r : Digits) → r.width ≡ d.width.value → length r.words ≡ d.words.value → IsRowOfAll kind t r
     sizes Sync t p r width words = one t r p width words
     sizes Async t p r width words = (one t.view r p.0 width words, one t.stable r p.1 width words)
 
