@@ -1,0 +1,4 @@
+pub mod Layers
+pub mod Bodies
+pub mod Lower
+pub mod Conversations
