@@ -21,47 +21,40 @@ use Rattle.ygg_evaluate.proofs.Called.{body_parts}
 use Rattle.ygg_evaluate.proofs.Knowing.{binary_can, at_can, pick_can, resize_can, fill_can, equal_words, filled_is, row_can, apply_can, quantified_can}
 use Rattle.ygg_evaluate.proofs.Valued.{valued_apply, valued_binary, valued_at, valued_pick, valued_fill, valued_row, valued_quantified}
 
--- an expression that may be evaluated, under another name for it and for what is known
-moved : (k k' : Known) (a b : Expr) → CanEvaluate k a → k' ≡ k → b ≡ a → CanEvaluate k' b
-moved k k' a b can same is = subst (λ (l : Known). CanEvaluate l b) (sym same) (subst (λ e. CanEvaluate k e) (sym is) can)
-
+-- an expression that may be evaluated, under another name
 opened : (k : Known) (e f : Expr) → CanEvaluate k e → e ≡ f → CanEvaluate k f
 opened k e f can is = subst (λ x. CanEvaluate k x) is can
-
--- the value of an expression under other names
-pub value_moved : (k k' : Known) (a b : Expr) (v : Value) → v ≡ value_in k' b → k' ≡ k → b ≡ a → v ≡ value_in k a
-value_moved k k' a b v is same at = is ∙ ap (λ (l : Known). value_in l b) same ∙ ap (value_in k) at
 
 -- a definition at its arguments
 pub ready_values : (k : Known) (e : Expr) (f : Name) (es xs : List Expr) → CanEvaluate k e → e ≡ tree.Apply f es → xs ≡ es → All (CanEvaluate k) xs
 ready_values k e f es xs can is at = subst (λ ys. All (CanEvaluate k) ys) (sym at) (apply_can k f es (opened k e (tree.Apply f es) can is)).each
 
-pub ready_call : (k k' : Known) (e : Expr) (f : Name) (es : List Expr) (name : List ℕ) (args : List Value) → CanEvaluate k e → e ≡ tree.Apply f es → k' ≡ k → name ≡ f.text → args ≡ map (value_in k) es → CanCall k'.defs name args
-ready_call k k' e f es name args can is same named got =
-    subst (λ (l : Known). CanCall l.defs name args) (sym same)
-    (subst (λ n. CanCall k.defs n args) (sym named)
-    (subst (λ vs. CanCall k.defs f.text vs) (sym got) (apply_can k f es (opened k e (tree.Apply f es) can is)).call))
+pub ready_call : (k : Known) (e : Expr) (f : Name) (es : List Expr) (name : List ℕ) (args : List Value) → CanEvaluate k e → e ≡ tree.Apply f es → name ≡ f.text → args ≡ map (value_in k) es → CanCall k.defs name args
+ready_call k e f es name args can is named got =
+    subst (λ n. CanCall k.defs n args) (sym named)
+    (subst (λ vs. CanCall k.defs f.text vs) (sym got) (apply_can k f es (opened k e (tree.Apply f es) can is)).call)
 
-pub gives_call : (k k' : Known) (e : Expr) (f : Name) (es : List Expr) (name : List ℕ) (args : List Value) (v : Value) → e ≡ tree.Apply f es → k' ≡ k → name ≡ f.text → args ≡ map (value_in k) es
-    → v ≡ functions_of k'.defs name args → v ≡ value_in k e
-gives_call k k' e f es name args v is same named got gives =
-    gives ∙ ap (λ (l : Known). functions_of l.defs name args) same ∙ ap (λ n. functions_of k.defs n args) named ∙ ap (functions_of k.defs f.text) got
-    ∙ sym (valued_apply k f es) ∙ ap (value_in k) (sym is)
+pub gives_call : (k : Known) (e : Expr) (f : Name) (es : List Expr) (name : List ℕ) (args : List Value) (v : Value) → e ≡ tree.Apply f es → name ≡ f.text → args ≡ map (value_in k) es
+    → v ≡ functions_of k.defs name args → v ≡ value_in k e
+gives_call k e f es name args v is named got gives =
+    gives ∙ ap (λ n. functions_of k.defs n args) named ∙ ap (functions_of k.defs f.text) got ∙ sym (valued_apply k f es) ∙ ap (value_in k) (sym is)
 
 -- the expression of a definition
-pub ready_body : (defs : List Def) (name : List ℕ) (args : List Value) (place : ℕ) (d : Def) (own low : Env) → CanCall defs name args → IsDefinition defs name place → d ≡ get_or defs place d → own ≡ bind d.parameters args → low ≡ []
-    → CanEvaluate (record { defs = take place defs; own = own; low = low }) d.body
-ready_body defs name args place d own low can is e bound none =
-    subst (λ (l : Env). CanEvaluate (record { defs = take place defs; own = own; low = l }) d.body) (sym none)
-    (subst (λ (o : Env). CanEvaluate (record { defs = take place defs; own = o; low = [] }) d.body) (sym bound) (body_parts defs name args place d can is e).can)
+abbrev seeing : List Def → Env → Env → Known
+seeing defs own low = record { defs = defs; own = own; low = low }
 
-pub gives_body : (defs : List Def) (name : List ℕ) (args : List Value) (place : ℕ) (d : Def) (own low : Env) (v : Value) → CanCall defs name args → IsDefinition defs name place → d ≡ get_or defs place d → own ≡ bind d.parameters args → low ≡ []
-    → v ≡ value_in (record { defs = take place defs; own = own; low = low }) d.body → v ≡ functions_of defs name args
-gives_body defs name args place d own low v can is e bound none gives =
-    gives
-    ∙ ap (λ (l : Env). value_in (record { defs = take place defs; own = own; low = l }) d.body) none
-    ∙ ap (λ (o : Env). value_in (record { defs = take place defs; own = o; low = [] }) d.body) bound
-    ∙ sym (body_parts defs name args place d can is e).calls
+seen : (defs : List Def) (args : List Value) (place : ℕ) (d : Def) (own low : Env) → own ≡ bind d.parameters args → low ≡ [] → seeing (take place defs) own low ≡ seeing (take place defs) (bind d.parameters args) []
+seen defs args place d own low bound none = ap (λ x. seeing (take place defs) x low) bound ∙ ap (seeing (take place defs) (bind d.parameters args)) none
+
+pub ready_body : (defs : List Def) (name : List ℕ) (args : List Value) (place : ℕ) (d : Def) (k : Known) (own low : Env) → CanCall defs name args → IsDefinition defs name place → d ≡ get_or defs place d
+    → k ≡ record { defs = take place defs; own = own; low = low } → own ≡ bind d.parameters args → low ≡ [] → CanEvaluate k d.body
+ready_body defs name args place d k own low can is e known bound none =
+    subst (λ (l : Known). CanEvaluate l d.body) (sym (known ∙ seen defs args place d own low bound none)) (body_parts defs name args place d can is e).can
+
+pub gives_body : (defs : List Def) (name : List ℕ) (args : List Value) (place : ℕ) (d : Def) (k : Known) (own low : Env) (v : Value) → CanCall defs name args → IsDefinition defs name place → d ≡ get_or defs place d
+    → k ≡ record { defs = take place defs; own = own; low = low } → own ≡ bind d.parameters args → low ≡ [] → v ≡ value_in k d.body → v ≡ functions_of defs name args
+gives_body defs name args place d k own low v can is e known bound none gives =
+    gives ∙ ap (λ (l : Known). value_in l d.body) (known ∙ seen defs args place d own low bound none) ∙ sym (body_parts defs name args place d can is e).calls
 
 -- operators
 pub ready_operated : (k : Known) (e : Expr) (first : Place) (a : Expr) (op : Op) (at : Place) (b : Expr) (v w : Value) → CanEvaluate k e → e ≡ tree.Binary first a op at b → v ≡ value_in k a → w ≡ value_in k b → CanOperate op v w
@@ -73,19 +66,19 @@ gives_operated k e first a op at b v w is x y =
     ap (λ u. apply_value op u w) x ∙ ap (apply_value op (value_in k a)) y ∙ sym (valued_binary k first a op at b) ∙ ap (value_in k) (sym is)
 
 -- parts
-pub ready_index : (k k' : Known) (e : Expr) (a : Expr) (bracket : Place) (i j : Expr) → CanEvaluate k e → e ≡ tree.At a bracket i → k' ≡ k → j ≡ i → CanEvaluate k' j
-ready_index k k' e a bracket i j can is same at = moved k k' i j (at_can k a bracket i (opened k e (tree.At a bracket i) can is)).1 same at
+pub ready_index : (k : Known) (e : Expr) (a : Expr) (bracket : Place) (i j : Expr) → CanEvaluate k e → e ≡ tree.At a bracket i → j ≡ i → CanEvaluate k j
+ready_index k e a bracket i j can is at = opened k i j (at_can k a bracket i (opened k e (tree.At a bracket i) can is)).1 (sym at)
 
 pub gives_part : (k : Known) (e : Expr) (a : Expr) (bracket : Place) (i : Expr) (v part : Value) (w : Number) → e ≡ tree.At a bracket i → v ≡ value_in k a → w ≡ word_in (value_in k i) → part ≡ part_of v w.bits → part ≡ value_in k e
 gives_part k e a bracket i v part w is x y gives =
     gives ∙ ap (λ u. part_of u w.bits) x ∙ ap (λ (n : Number). part_of (value_in k a) n.bits) y ∙ sym (valued_at k a bracket i) ∙ ap (value_in k) (sym is)
 
 -- `pick`
-pub ready_first : (k k' : Known) (e : Expr) (first : Place) (c a b x : Expr) → CanEvaluate k e → e ≡ tree.Pick first c a b → k' ≡ k → x ≡ a → CanEvaluate k' x
-ready_first k k' e first c a b x can is same at = moved k k' a x (pick_can k first c a b (opened k e (tree.Pick first c a b) can is)).1 same at
+pub ready_first : (k : Known) (e : Expr) (first : Place) (c a b x : Expr) → CanEvaluate k e → e ≡ tree.Pick first c a b → x ≡ a → CanEvaluate k x
+ready_first k e first c a b x can is at = opened k a x (pick_can k first c a b (opened k e (tree.Pick first c a b) can is)).1 (sym at)
 
-pub ready_second : (k k' : Known) (e : Expr) (first : Place) (c a b x : Expr) → CanEvaluate k e → e ≡ tree.Pick first c a b → k' ≡ k → x ≡ b → CanEvaluate k' x
-ready_second k k' e first c a b x can is same at = moved k k' b x (pick_can k first c a b (opened k e (tree.Pick first c a b) can is)).2 same at
+pub ready_second : (k : Known) (e : Expr) (first : Place) (c a b x : Expr) → CanEvaluate k e → e ≡ tree.Pick first c a b → x ≡ b → CanEvaluate k x
+ready_second k e first c a b x can is at = opened k b x (pick_can k first c a b (opened k e (tree.Pick first c a b) can is)).2 (sym at)
 
 pub gives_picked : (k : Known) (e : Expr) (first : Place) (c a b : Expr) (t : Number) (one : Bool) → e ≡ tree.Pick first c a b → t ≡ word_in (value_in k c) → is_one (value.Word t) ≡ one → cond one (value_in k a) (value_in k b) ≡ value_in k e
 gives_picked k e first c a b t one is x test =

@@ -1,11 +1,13 @@
--- Names that come and go, and quantifiers number by number.
-use Rattle.std.proofs.Common.{◌≡◌, ℕ, zero, suc, ◌+◌, ◌<◌, ◌⊎◌, inl, inr, Bool, true, false, not, List, [], ◌∷◌, ◌++◌, length, take, refl, sym, ap, ◌∙◌, arith, add-one}
-use Rattle.std.specs.Prelude.{◌&&◌, ◌||◌}
-use Rattle.std.proofs.Math.Seq.{take-append_seam}
+-- Quantifiers number by number.
+use Rattle.std.proofs.Common.{◌≡◌, ℕ, zero, suc, ◌+◌, ◌<◌, ◌⊎◌, inl, inr, Bool, true, false, not, List, [], ◌∷◌, ◌++◌, length, refl, sym, ap, ◌∙◌, arith, add-one, append_assoc}
+use Rattle.std.specs.Prelude.{◌&&◌, ◌||◌, slice_set}
+use Rattle.std.proofs.Math.Seq.{set-append_seam}
 use Rattle.std.proofs.lemmas.Bool.{cases_lt}
 use Rattle.std.proofs.Math.Bool.{beq}
-use Rattle.std.proofs.lemmas.List.{take-map, length-map, map-append}
+use Rattle.std.proofs.lemmas.List.{length-map, map-append}
+use Rattle.ygg_value.specs.Words.{word}
 use Rattle.ygg_value.specs.declared.row.Value.{Value}
+use Rattle.ygg_value.specs.declared.row.Value.TheVariants.{Word}
 use Rattle.ygg_syntax.specs.declared.tree.Def.{Def}
 use Rattle.ygg_syntax.specs.declared.tree.Quantifier.{Quantifier}
 use Rattle.ygg_syntax.specs.declared.tree.Quantifier.TheVariants.{All, Any}
@@ -13,26 +15,48 @@ use Rattle.ygg_eval.specs.Environments.{Env}
 use Rattle.ygg_eval.specs.Meaning.{all_below, any_below, quantified}
 use Rattle.ygg_evaluate.specs.declared.held.Binding.{Binding}
 use Rattle.ygg_evaluate.specs.Held.{env_of, held_value}
-use Rattle.ygg_evaluate.specs.Known.{Known, is_all}
+use Rattle.ygg_evaluate.specs.Known.{Known, is_all, with_number}
 
--- these definitions and names
-abbrev known : List Def → Env → Env → Known
-known defs own low = record { defs = defs; own = own; low = low }
+-- what is known inside quantifiers
+abbrev pub inside : List Def → Env → Env → Env → Known
+inside defs own numbers low = record { defs = defs; own = own ++ numbers; low = low }
 
--- cut back to the length before
-cut_back : (xs ys : List Binding) (more : Env) (n : ℕ) → n ≡ length xs → env_of ys ≡ env_of xs ++ more → env_of (take n ys) ≡ env_of xs
-cut_back xs ys more n e same =
-    let named : Binding → (List ℕ × Value) = λ b. (b.name.now, held_value b.held) in
-    let long : length (env_of xs) ≡ length xs = length-map xs named in
-    sym (take-map named n ys) ∙ ap (take n) same ∙ ap (λ k. take k (env_of xs ++ more)) (e ∙ sym long) ∙ take-append_seam (env_of xs) more
+-- names with values, and one more
+pub record EndsIn (before now : Env) : Type 0 where
+  pub last : List ℕ × Value
+  pub is : now ≡ before ++ last ∷ []
 
--- what was known before is known again
-pub test_restored : (defs defs' : List Def) (low low' : Env) (xs pushed ys cut : List Binding) (b : Binding) (n : ℕ) → n ≡ length xs → pushed ≡ xs ++ b ∷ []
-    → known defs' (env_of ys) low' ≡ known defs (env_of pushed) low → cut ≡ take n ys → known defs' (env_of cut) low' ≡ known defs (env_of xs) low
-test_restored defs defs' low low' xs pushed ys cut b n e push same is =
-    let own : env_of ys ≡ env_of xs ++ env_of (b ∷ []) = ap (λ (k : Known). k.own) same ∙ ap env_of push ∙ map-append (λ (b : Binding). (b.name.now, held_value b.held)) xs (b ∷ []) in
-    let back : env_of cut ≡ env_of xs = ap env_of is ∙ cut_back xs ys (env_of (b ∷ [])) n e own in
-    ap (λ es. known defs' es low') back ∙ ap (λ (k : Known). known k.defs (env_of xs) k.low) same
+-- a name with its value
+abbrev named : Binding → (List ℕ × Value)
+named b = (b.name.now, held_value b.held)
+
+-- another binding at a place
+env_set : (xs : List Binding) (at : ℕ) (b : Binding) → env_of (slice_set xs at b) ≡ slice_set (env_of xs) at (named b)
+env_set [] at b = refl
+env_set (x ∷ xs) zero b = refl
+env_set (x ∷ xs) (suc at) b = ap (λ e. named x ∷ e) (env_set xs at b)
+
+-- the last binding replaced by another one
+last_set : (before now new : List Binding) (at : ℕ) (b : Binding) → at ≡ length before → EndsIn (env_of before) (env_of now) → new ≡ slice_set now at b → env_of new ≡ env_of before ++ (b.name.now, held_value b.held) ∷ []
+last_set before now new at b e ends write =
+    ap env_of write ∙ env_set now at b ∙ ap (λ xs. slice_set xs at (named b)) ends.is
+    ∙ ap (λ n. slice_set (env_of before ++ ends.last ∷ []) n (named b)) (e ∙ sym (length-map before named)) ∙ set-append_seam (env_of before) ends.last [] (named b)
+
+pub last_replaced : (before now : List Binding) (at : ℕ) (b : Binding) → at ≡ length before → EndsIn (env_of before) (env_of now) → EndsIn (env_of before) (env_of (slice_set now at b))
+last_replaced before now at b e ends = record { last = named b; is = last_set before now (slice_set now at b) at b e ends refl }
+
+-- a binding put after others with the same names and values
+pub last_pushed : (before others new : List Binding) (b : Binding) → env_of others ≡ env_of before → new ≡ others ++ b ∷ [] → EndsIn (env_of before) (env_of new)
+last_pushed before others new b same push = record { last = named b; is = ap env_of push ∙ map-append named others (b ∷ []) ∙ ap (λ e. e ++ named b ∷ []) same }
+
+-- what is known at a number
+pub at_number : (defs : List Def) (own low : Env) (before now new : List Binding) (at : ℕ) (b : Binding) (name : List ℕ) (w i : ℕ) → at ≡ length before → EndsIn (env_of before) (env_of now) → new ≡ slice_set now at b
+    → b.name.now ≡ name → held_value b.held ≡ Word (word w i) → inside defs own (env_of new) low ≡ with_number (inside defs own (env_of before) low) name w i
+at_number defs own low before now new at b name w i e ends write called valued =
+    let pair : List ℕ → Value → (List ℕ × Value) = λ n v. (n, v) in
+    let here : pair b.name.now (held_value b.held) ≡ pair name (Word (word w i)) = ap (λ n. pair n (held_value b.held)) called ∙ ap (pair name) valued in
+    ap (λ (o : Env). record { defs = defs; own = o; low = low })
+    (ap (λ xs. own ++ xs) (last_set before now new at b e ends write ∙ ap (λ b. env_of before ++ b ∷ []) here) ∙ sym (append_assoc own (env_of before) (pair name (Word (word w i)) ∷ [])))
 
 -- a quantifier over no numbers, over one more, and once a number decides it
 pub none_tested : (which : Quantifier) (test : ℕ → Bool) → is_all which ≡ quantified which 0 test

@@ -35,38 +35,35 @@ weighed_quantified : (ws : Weights) (first : Place) (which : Quantifier) (x : Na
 weighed_quantified ws first which x w n e =
     ap (expr_weight ws) (sym (tree.rolls-Quantified first which x w n e)) ∙ fold-roll-Expr ℕ (node_weight ws) (Expr-F.Quantified first which x w n e)
 
--- the whole under another name, and the part under another name for it and for what is seen
-moved : (k k' : Known) (a b : Expr) → k' ≡ k → b ≡ a → expr_weight (weighing k') b ≡ expr_weight (weighing k) a
-moved k k' a b same is = ap (λ (l : Known). expr_weight (weighing l) b) same ∙ ap (expr_weight (weighing k)) is
-
+-- the whole and the part under other names
 pub arguments_lighter : (k : Known) (e : Expr) (f : Name) (es xs : List Expr) → e ≡ tree.Apply f es → xs ≡ es → exprs_weight (weighing k) xs + 1 ≤ expr_weight (weighing k) e
 arguments_lighter k e f es xs is at =
     let whole = ap (expr_weight (weighing k)) is ∙ weighed_apply (weighing k) f es in
     let part = ap (exprs_weight (weighing k)) at in
     omega arith
 
-pub call_lighter : (k k' : Known) (e : Expr) (f : Name) (es : List Expr) (name : List ℕ) → e ≡ tree.Apply f es → k' ≡ k → name ≡ f.text → weight_at (weighing k') name + 1 ≤ expr_weight (weighing k) e
-call_lighter k k' e f es name is same named =
+pub call_lighter : (k : Known) (e : Expr) (f : Name) (es : List Expr) (name : List ℕ) → e ≡ tree.Apply f es → name ≡ f.text → weight_at (weighing k) name + 1 ≤ expr_weight (weighing k) e
+call_lighter k e f es name is named =
     let whole = ap (expr_weight (weighing k)) is ∙ weighed_apply (weighing k) f es in
-    let part : weight_at (weighing k') name ≡ weight_at (weighing k) f.text = ap (λ (l : Known). weight_at (weighing l) name) same ∙ ap (weight_at (weighing k)) named in
+    let part = ap (weight_at (weighing k)) named in
     omega arith
 
-pub index_lighter : (k k' : Known) (e a : Expr) (bracket : Place) (i j : Expr) → e ≡ tree.At a bracket i → k' ≡ k → j ≡ i → expr_weight (weighing k') j + 1 ≤ expr_weight (weighing k) e
-index_lighter k k' e a bracket i j is same at =
+pub index_lighter : (k : Known) (e a : Expr) (bracket : Place) (i j : Expr) → e ≡ tree.At a bracket i → j ≡ i → expr_weight (weighing k) j + 1 ≤ expr_weight (weighing k) e
+index_lighter k e a bracket i j is at =
     let whole = ap (expr_weight (weighing k)) is ∙ weighed_at (weighing k) a bracket i in
-    let part = moved k k' i j same at in
+    let part = ap (expr_weight (weighing k)) at in
     omega arith
 
-pub first_lighter : (k k' : Known) (e : Expr) (first : Place) (c a b x : Expr) → e ≡ tree.Pick first c a b → k' ≡ k → x ≡ a → expr_weight (weighing k') x + 1 ≤ expr_weight (weighing k) e
-first_lighter k k' e first c a b x is same at =
+pub first_lighter : (k : Known) (e : Expr) (first : Place) (c a b x : Expr) → e ≡ tree.Pick first c a b → x ≡ a → expr_weight (weighing k) x + 1 ≤ expr_weight (weighing k) e
+first_lighter k e first c a b x is at =
     let whole = ap (expr_weight (weighing k)) is ∙ weighed_pick (weighing k) first c a b in
-    let part = moved k k' a x same at in
+    let part = ap (expr_weight (weighing k)) at in
     omega arith
 
-pub second_lighter : (k k' : Known) (e : Expr) (first : Place) (c a b x : Expr) → e ≡ tree.Pick first c a b → k' ≡ k → x ≡ b → expr_weight (weighing k') x + 1 ≤ expr_weight (weighing k) e
-second_lighter k k' e first c a b x is same at =
+pub second_lighter : (k : Known) (e : Expr) (first : Place) (c a b x : Expr) → e ≡ tree.Pick first c a b → x ≡ b → expr_weight (weighing k) x + 1 ≤ expr_weight (weighing k) e
+second_lighter k e first c a b x is at =
     let whole = ap (expr_weight (weighing k)) is ∙ weighed_pick (weighing k) first c a b in
-    let part = moved k k' b x same at in
+    let part = ap (expr_weight (weighing k)) at in
     omega arith
 
 pub words_lighter : (k : Known) (e : Expr) (first : Place) (es xs : List Expr) → e ≡ tree.Row first es → xs ≡ es → exprs_weight (weighing k) xs + 1 ≤ expr_weight (weighing k) e

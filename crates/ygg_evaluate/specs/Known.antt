@@ -48,7 +48,7 @@ with_number k name width i = record k { own = k.own ++ (name, Word (word width i
 
 -- what an evaluator knows
 abbrev pub known_of : Evaluator → Known
-known_of e = record { defs = e.defs.now; own = env_of e.own.items; low = env_of e.low.items }
+known_of e = record { defs = e.defs.now; own = env_of e.own.now ++ env_of e.numbers.now; low = env_of e.low.now }
 
 -- the expression has no fault where these names have values of the shapes that typing takes them to have
 pub record CanEvaluate (k : Known) (e : Expr) : Type 0 where

@@ -1,50 +1,65 @@
 //! The evaluator.
 
-ghost use Rattle.std.specs.Prelude.{◌≡◌, ◌<◌, ◌≤◌, ◌^◌, IfOk, OnOk, IfSome, IfNone, All, List, map};
+ghost use Rattle.std.specs.Prelude.{◌≡◌, ◌≤◌, ◌<◌, ◌^◌, IfOk, IfSome, IfNone, All, List, map};
 ghost use Rattle.ygg_value.specs.declared.row.Value.{Value as AnyValue};
+ghost use Rattle.ygg_value.specs.declared.row.Value.TheVariants.{Word as AsWord};
+ghost use Rattle.ygg_value.specs.Words.{word};
 ghost use Rattle.ygg_value.specs.Values.{word_in};
 ghost use Rattle.ygg_eval.specs.Environments.{bind, nothing};
 ghost use Rattle.ygg_eval.specs.Meaning.{functions_of, quantified, is_one};
 ghost use Rattle.ygg_evaluate.specs.Held.{env_of, held_value, held_values};
 ghost use Rattle.ygg_evaluate.specs.Known.{is_all, known_of, value_in, with_number, CanEvaluate, CanCall, CanQuantify, IsDefinition};
 
-use crate::held::{Binding, Held, find};
+use crate::held::{Binding, Held, value_of};
 use crate::made::{digit, operated, part, row, word_in};
 use std::alloc::Global;
 use ygg_list::NoMemory;
 use ygg_syntax::tree::{Declared, Def, Expr, Name, Numeral, Quantifier};
 use ygg_value::{Value, Word, not, resize};
 
-/// What an expression is evaluated with: the definitions that it sees, its own names, and those of the machine below.
+/// What an expression is evaluated with: the definitions that it sees, its own names, the numbers of the quantifiers round it, and
+/// the names of the machine below.
 #[derive(Drop)]
 pub struct Evaluator<'a, 'v> {
-    pub alloc: Global,
-    pub defs: &'a [Def],
-    pub own: Vec<Binding<'a, 'v>>,
-    pub low: Vec<Binding<'a, 'v>>,
+    alloc: Global,
+    defs: &'a [Def],
+    own: &'v [Binding<'a, 'v>],
+    numbers: &'v [Binding<'a, 'v>],
+    low: &'v [Binding<'a, 'v>],
 }
 
 impl<'a, 'v> Evaluator<'a, 'v> {
-    /// The value of an expression. Its only error is want of memory.
+    /// An evaluator that sees these definitions and names, and behind `low` those of the machine below.
+    pub fn new(
+        alloc: Global,
+        defs: &'a [Def],
+        own: &'v [Binding<'a, 'v>],
+        low: &'v [Binding<'a, 'v>],
+    ) -> Evaluator<'a, 'v>
+        ensures { known_of result ≡ record { defs = defs.now; own = env_of own.now; low = env_of low.now } }
+    {
+        Evaluator {
+            alloc,
+            defs,
+            own,
+            numbers: &[],
+            low,
+        }
+    }
+
+    /// The value of an expression, lent where it is the value of a name. Its only error is want of memory.
     #[cycle(value)]
-    pub fn value(&mut self, e: &'a Expr) -> Result<Held<'v>, NoMemory>
-        requires { CanEvaluate (known_of self.old) e.now }
-        ensures value { IfOk result (λ v. held_value v ≡ value_in (known_of self.old) e.now) }
-        ensures same { OnOk result (known_of self.new ≡ known_of self.old) }
+    pub fn value(&self, e: &'a Expr) -> Result<Held<'v>, NoMemory>
+        requires { CanEvaluate (known_of self.now) e.now }
+        ensures { IfOk result (λ v. held_value v ≡ value_in (known_of self.now) e.now) }
     {
         match e {
             Expr::Constant(v, w) => Ok(Held::Made(Value::Word(Word {
                 width: w.value as u8,
                 bits: v.value,
             }))),
-            Expr::Low(_, x) => {
-                let held = find(self.alloc, self.low.as_slice(), x.text.as_slice())?;
-                Ok(held)
-            }
-            Expr::Variable(x) => {
-                let held = find(self.alloc, self.own.as_slice(), x.text.as_slice())?;
-                Ok(held)
-            }
+            Expr::Low(_, x) => Ok(value_of(self.low, &[], x.text.as_slice())),
+            Expr::Variable(x) => Ok(value_of(self.own, self.numbers, x.text.as_slice())),
             Expr::Apply(f, arguments) => {
                 let arguments = self.values(arguments.as_slice())?;
                 let value = self.called(f.text.as_slice(), arguments.as_slice())?;
@@ -98,10 +113,9 @@ impl<'a, 'v> Evaluator<'a, 'v> {
 
     /// The word that the value of an expression is.
     #[cycle(value)]
-    fn word(&mut self, e: &'a Expr) -> Result<Word, NoMemory>
-        requires { CanEvaluate (known_of self.old) e.now }
-        ensures value { IfOk result (λ w. w ≡ word_in (value_in (known_of self.old) e.now)) }
-        ensures same { OnOk result (known_of self.new ≡ known_of self.old) }
+    fn word(&self, e: &'a Expr) -> Result<Word, NoMemory>
+        requires { CanEvaluate (known_of self.now) e.now }
+        ensures { IfOk result (λ w. w ≡ word_in (value_in (known_of self.now) e.now)) }
     {
         let value = self.value(e)?;
         Ok(word_in(value.value()))
@@ -109,10 +123,9 @@ impl<'a, 'v> Evaluator<'a, 'v> {
 
     /// The values of expressions.
     #[cycle(value)]
-    fn values(&mut self, es: &'a [Expr]) -> Result<Vec<Held<'v>>, NoMemory>
-        requires { All (CanEvaluate (known_of self.old)) es.now }
-        ensures values { IfOk result (λ vs. held_values vs.items ≡ map (value_in (known_of self.old)) es.now) }
-        ensures same { OnOk result (known_of self.new ≡ known_of self.old) }
+    fn values(&self, es: &'a [Expr]) -> Result<Vec<Held<'v>>, NoMemory>
+        requires { All (CanEvaluate (known_of self.now)) es.now }
+        ensures { IfOk result (λ vs. held_values vs.items ≡ map (value_in (known_of self.now)) es.now) }
     {
         let mut values = Vec::new(self.alloc);
         for e in es {
@@ -124,10 +137,9 @@ impl<'a, 'v> Evaluator<'a, 'v> {
 
     /// The words that the values of expressions are.
     #[cycle(value)]
-    fn words(&mut self, es: &'a [Expr]) -> Result<Vec<Word>, NoMemory>
-        requires { All (CanEvaluate (known_of self.old)) es.now }
-        ensures words { IfOk result (λ ws. ws.items ≡ map (λ e. word_in (value_in (known_of self.old) e)) es.now) }
-        ensures same { OnOk result (known_of self.new ≡ known_of self.old) }
+    fn words(&self, es: &'a [Expr]) -> Result<Vec<Word>, NoMemory>
+        requires { All (CanEvaluate (known_of self.now)) es.now }
+        ensures { IfOk result (λ ws. ws.items ≡ map (λ e. word_in (value_in (known_of self.now) e)) es.now) }
     {
         let mut words = Vec::new(self.alloc);
         for e in es {
@@ -146,12 +158,8 @@ impl<'a, 'v> Evaluator<'a, 'v> {
         match definition(self.defs, name) {
             Some(place) => {
                 let def = &self.defs[place];
-                let mut inner = Evaluator {
-                    alloc: self.alloc,
-                    defs: &self.defs[..place],
-                    own: bound(self.alloc, def.parameters.as_slice(), args)?,
-                    low: Vec::new(self.alloc),
-                };
+                let own = bound(self.alloc, def.parameters.as_slice(), args)?;
+                let inner = Evaluator::new(self.alloc, &self.defs[..place], own.as_slice(), &[]);
                 let value = inner.value(&def.body)?;
                 let value = value.into_value(self.alloc)?;
                 Ok(value)
@@ -163,20 +171,30 @@ impl<'a, 'v> Evaluator<'a, 'v> {
     /// Whether an expression is 1 at every number below a bound, or at some.
     #[cycle(value)]
     fn quantified(
-        &mut self,
+        &self,
         which: Quantifier,
         x: &'a Name,
         w: Numeral,
         n: Numeral,
         e: &'a Expr,
     ) -> Result<bool, NoMemory>
-        requires { CanQuantify (known_of self.old) x.now.text w n e.now }
-        ensures value { IfOk result (λ b. b ≡ quantified which n.value (λ i. is_one (value_in (with_number (known_of self.old) x.now.text w.value i) e.now))) }
-        ensures same { OnOk result (known_of self.new ≡ known_of self.old) }
+        requires { CanQuantify (known_of self.now) x.now.text w n e.now }
+        ensures { IfOk result (λ b. b ≡ quantified which n.value (λ i. is_one (value_in (with_number (known_of self.now) x.now.text w.value i) e.now))) }
     {
         let all = is_all(which);
+        let last = self.numbers.len();
+        let mut numbers = lent(self.alloc, self.numbers)?;
+        numbers.push(numbered(x, w, 0))?;
         for i in 0..n.value {
-            let test = self.test(x, w, i, e)?;
+            numbers[last] = numbered(x, w, i);
+            let inner = Evaluator {
+                alloc: self.alloc,
+                defs: self.defs,
+                own: self.own,
+                numbers: numbers.as_slice(),
+                low: self.low,
+            };
+            let test = inner.test(e)?;
             if test != all {
                 return Ok(test);
             }
@@ -184,29 +202,49 @@ impl<'a, 'v> Evaluator<'a, 'v> {
         Ok(all)
     }
 
-    /// Whether an expression is 1 at a number.
+    /// Whether an expression is 1.
     #[cycle(value)]
-    fn test(&mut self, x: &'a Name, w: Numeral, i: u64, e: &'a Expr) -> Result<bool, NoMemory>
-        requires least { 1 ≤ w.value }
-        requires most { w.value ≤ 64 }
-        requires below { i < 2 ^ w.value }
-        requires can { CanEvaluate (with_number (known_of self.old) x.now.text w.value i) e.now }
-        ensures value { IfOk result (λ b. b ≡ is_one (value_in (with_number (known_of self.old) x.now.text w.value i) e.now)) }
-        ensures same { OnOk result (known_of self.new ≡ known_of self.old) }
+    fn test(&self, e: &'a Expr) -> Result<bool, NoMemory>
+        requires { CanEvaluate (known_of self.now) e.now }
+        ensures { IfOk result (λ b. b ≡ is_one (value_in (known_of self.now) e.now)) }
     {
-        let before = self.own.len();
-        let number = Word {
-            width: w.value as u8,
-            bits: i,
-        };
-        self.own.push(Binding {
-            name: x.text.as_slice(),
-            held: Held::Made(Value::Word(number)),
-        })?;
         let word = self.word(e)?;
-        self.own.truncate(before);
         Ok(word.bits == 1)
     }
+}
+
+/// A quantifier's name with a number.
+fn numbered<'a, 'v>(x: &'a Name, w: Numeral, i: u64) -> Binding<'a, 'v>
+    requires least { 1 ≤ w.value }
+    requires most { w.value ≤ 64 }
+    requires below { i < 2 ^ w.value }
+    ensures name { result.name.now ≡ x.now.text }
+    ensures value { held_value result.held ≡ AsWord (word w.value i) }
+{
+    Binding {
+        name: x.text.as_slice(),
+        held: Held::Made(Value::Word(Word {
+            width: w.value as u8,
+            bits: i,
+        })),
+    }
+}
+
+/// The same bindings, whose values are lent. Its only error is want of memory.
+fn lent<'a, 'v>(
+    alloc: Global,
+    bindings: &'v [Binding<'a, 'v>],
+) -> Result<Vec<Binding<'a, 'v>>, NoMemory>
+    ensures { IfOk result (λ lent. env_of lent.items ≡ env_of bindings.now) }
+{
+    let mut lent = Vec::new(alloc);
+    for binding in bindings {
+        lent.push(Binding {
+            name: binding.name,
+            held: Held::Lent(binding.held.value()),
+        })?;
+    }
+    Ok(lent)
 }
 
 /// Whether the test is to pass at every number.

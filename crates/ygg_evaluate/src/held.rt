@@ -1,6 +1,8 @@
 //! Values that are made or lent, and what names stand for.
 
-ghost use Rattle.std.specs.Prelude.{◌≡◌, IfOk};
+ghost use Rattle.std.specs.Prelude.{◌≡◌, ◌++◌, IfOk};
+ghost use Rattle.std.specs.Option.{option_copied};
+ghost use Rattle.ygg_names.specs.Names.{look_up as found};
 ghost use Rattle.ygg_eval.specs.Environments.{look_up};
 ghost use Rattle.ygg_evaluate.specs.Held.{env_of, held_value};
 
@@ -33,19 +35,6 @@ impl<'v> Held<'v> {
         }
     }
 
-    /// The same value, lent if it is, and else a copy. Its only error is want of memory.
-    pub fn again(&self, alloc: Global) -> Result<Held<'v>, NoMemory>
-        ensures { IfOk result (λ held. held_value held ≡ held_value self.now) }
-    {
-        match self {
-            Held::Made(value) => {
-                let copy = copy_value(alloc, value)?;
-                Ok(Held::Made(copy))
-            }
-            Held::Lent(value) => Ok(Held::Lent(*value)),
-        }
-    }
-
     /// The value, of which a copy is made where it is lent. Its only error is want of memory.
     pub fn into_value(self, alloc: Global) -> Result<Value, NoMemory>
         ensures { IfOk result (λ value. value ≡ held_value self.entry) }
@@ -57,19 +46,31 @@ impl<'v> Held<'v> {
     }
 }
 
-/// The value of the first of a name, lent if it is; a single digit 0 where there is none. Its only error is want of memory.
-pub fn find<'a, 'v>(
-    alloc: Global,
-    bindings: &[Binding<'a, 'v>],
-    name: &[u8],
-) -> Result<Held<'v>, NoMemory>
-    ensures { IfOk result (λ held. held_value held ≡ look_up name.now (env_of bindings.now)) }
+/// The value of the first of a name.
+fn find<'a, 'v>(bindings: &'v [Binding<'a, 'v>], name: &[u8]) -> Option<&'v Value>
+    ensures { option_copied result ≡ found name.now (env_of bindings.now) }
 {
     for binding in bindings {
         if binding.name == name {
-            let held = binding.held.again(alloc)?;
-            return Ok(held);
+            return Some(binding.held.value());
         }
     }
-    Ok(Held::Made(Value::Word(Word { width: 1, bits: 0 })))
+    None
+}
+
+/// The value of the first of a name among some bindings and then among others, lent; a single digit 0 where there is none.
+pub fn value_of<'a, 'v>(
+    bindings: &'v [Binding<'a, 'v>],
+    others: &'v [Binding<'a, 'v>],
+    name: &[u8],
+) -> Held<'v>
+    ensures { held_value result ≡ look_up name.now (env_of bindings.now ++ env_of others.now) }
+{
+    if let Some(value) = find(bindings, name) {
+        return Held::Lent(value);
+    }
+    if let Some(value) = find(others, name) {
+        return Held::Lent(value);
+    }
+    Held::Made(Value::Word(Word { width: 1, bits: 0 }))
 }

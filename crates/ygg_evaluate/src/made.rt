@@ -45,7 +45,7 @@ pub fn operated(op: Op, a: &Value, b: &Value) -> Value
 }
 
 /// A row of zeros. Its only error is want of memory.
-fn zero_row(alloc: Global, words: u8, width: u8) -> Result<Row, NoMemory>
+pub fn zero_row(alloc: Global, words: u8, width: u8) -> Result<Row, NoMemory>
     requires some { 1 ≤ words }
     requires few { words ≤ 64 }
     requires least { 1 ≤ width }

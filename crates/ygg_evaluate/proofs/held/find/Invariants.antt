@@ -1,5 +1,5 @@
 use Rattle.std.proofs.Common.{◌≡◌, drop}
-use Rattle.ygg_eval.specs.Environments.{look_up}
+use Rattle.ygg_names.specs.Names.{look_up}
 use Rattle.ygg_evaluate.specs.Held.{env_of}
 use Rattle.ygg_evaluate.proofs.held.find.Given as goal
 

@@ -2,8 +2,9 @@ use Rattle.std.proofs.Common.{◌≡◌, ◌≤◌, ◌+◌, ◌*◌, ◌++◌, 
 use Rattle.ygg_value.specs.Values.{word_in}
 use Rattle.ygg_count.specs.Weights.{weights_of, weight_at, expr_weight, exprs_weight}
 use Rattle.ygg_eval.specs.Meaning.{quantified, is_one}
-use Rattle.ygg_evaluate.specs.Held.{held_values}
+use Rattle.ygg_evaluate.specs.Held.{env_of, held_values}
 use Rattle.ygg_evaluate.specs.Known.{known_of, value_in, with_number, is_all}
+use Rattle.ygg_evaluate.proofs.Walking.{EndsIn}
 use Rattle.ygg_evaluate.proofs.evaluator.Evaluator.+value.Given as goal
 
 abbrev pub decreases-called : goal.decreases-called
@@ -29,29 +30,21 @@ decreases-words l = 4 * exprs_weight (weights_of l.self.now.defs.now) l.es.now +
 
 -- all numbers so far let it go on
 abbrev pub invariant-quantified-loop-i : goal.invariant-quantified-loop-i
-invariant-quantified-loop-i l =
-    let known = known_of l.fn.self in
-    record {
-      so_far : is_all l.fn.which ≡ quantified l.fn.which l.i (λ i. is_one (value_in (with_number known l.x.text l.w.value i) l.e));
-      all : l.all ≡ is_all l.fn.which;
-      same : known_of l.self ≡ known;
-    }
+invariant-quantified-loop-i l = record {
+  so_far : is_all l.fn.which ≡ quantified l.fn.which l.i (λ i. is_one (value_in (with_number (known_of l.self) l.x.text l.w.value i) l.e));
+  all : l.all ≡ is_all l.fn.which;
+  ends : EndsIn (env_of l.self.numbers.now) (env_of l.numbers.items);
+}
 
 -- what was found so far and what is left
 abbrev pub invariant-values-loop-e : goal.invariant-values-loop-e
-invariant-values-loop-e l =
-    let known = known_of l.fn.self in
-    record {
-      values : held_values l.values.items ++ map (value_in known) (drop l.e-index l.es) ≡ map (value_in known) l.es;
-      same : known_of l.self ≡ known;
-      part : exprs_weight (weights_of known.defs) (drop l.e-index l.es) ≤ exprs_weight (weights_of known.defs) l.es;
-    }
+invariant-values-loop-e l = record {
+  values : held_values l.values.items ++ map (value_in (known_of l.self)) (drop l.e-index l.es) ≡ map (value_in (known_of l.self)) l.es;
+  part : exprs_weight (weights_of l.self.defs.now) (drop l.e-index l.es) ≤ exprs_weight (weights_of l.self.defs.now) l.es;
+}
 
 abbrev pub invariant-words-loop-e : goal.invariant-words-loop-e
-invariant-words-loop-e l =
-    let known = known_of l.fn.self in
-    record {
-      words : l.words.items ++ map (λ e. word_in (value_in known e)) (drop l.e-index l.es) ≡ map (λ e. word_in (value_in known e)) l.es;
-      same : known_of l.self ≡ known;
-      part : exprs_weight (weights_of known.defs) (drop l.e-index l.es) ≤ exprs_weight (weights_of known.defs) l.es;
-    }
+invariant-words-loop-e l = record {
+  words : l.words.items ++ map (λ e. word_in (value_in (known_of l.self) e)) (drop l.e-index l.es) ≡ map (λ e. word_in (value_in (known_of l.self) e)) l.es;
+  part : exprs_weight (weights_of l.self.defs.now) (drop l.e-index l.es) ≤ exprs_weight (weights_of l.self.defs.now) l.es;
+}
