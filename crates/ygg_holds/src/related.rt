@@ -113,12 +113,12 @@ pub fn holds(
     name_values(&mut own, layer.memory.as_slice(), memory.as_slice())?;
     let mut below = Vec::new(alloc);
     name_low(&mut below, &file.disk, layers, place, low.as_slice())?;
-    let mut evaluator = Evaluator {
+    let evaluator = Evaluator::new(
         alloc,
-        defs: file.defs.as_slice(),
-        own,
-        low: below,
-    };
+        file.defs.as_slice(),
+        own.as_slice(),
+        below.as_slice(),
+    );
     let value = evaluator.value(expression)?;
     Ok(is_one(value.value()))
 }
