@@ -66,7 +66,7 @@ local_lower name shape assignable scope = cases (has name scope.variables)
     cases false = refl
 
 -- so does a statement
-walked_defs : (s : Stmt) (scope : Scope) → (walked s scope).scope.defs ≡ scope.defs
+pub walked_defs : (s : Stmt) (scope : Scope) → (walked s scope).scope.defs ≡ scope.defs
 walked_defs s scope = ap (λ (w : Walk). (w scope).scope.defs) (fold_out-Stmt Walk Inside node_walked node_inside s) ∙ cases (out-Stmt s)
   where
     cases : (y : Stmt-F Stmt Block) → (node_walked (map-Stmt Stmt Block Walk Inside walked W' y) scope).scope.defs ≡ scope.defs

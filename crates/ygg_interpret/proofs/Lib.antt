@@ -7,3 +7,5 @@ pub mod Repeating
 pub mod Sourcing
 pub mod Assigning
 pub mod Running
+pub mod Public
+pub mod Tops

@@ -2,6 +2,7 @@
 #![tactic(auto)]
 
 mod below;
+mod ending;
 mod flow;
 mod names;
 mod run;

@@ -1,7 +1,8 @@
 -- What typing says of each block of a file.
 use Rattle.std.proofs.Common.{◌≡◌, ℕ, zero, suc, ◌+◌, Bool, true, false, ◌&&◌, not, List, [], ◌∷◌, ◌++◌, Option, Some, None, option_map, option_and_then, refl, sym, ap, ◌∙◌, subst, slice_get, if◌then◌else◌}
 use Rattle.std.specs.List.{list_all}
-use Rattle.ygg_base.specs.declared.token.Token.{Token}
+use Rattle.std.proofs.Math.Bool.{Bool-set}
+use Rattle.std.proofs.Math.Logic.{∥∥₁_elim}
 use Rattle.ygg_value.specs.declared.row.Value.{Value}
 use Rattle.ygg_value.specs.declared.shape.Shape.{Shape}
 use Rattle.ygg_syntax.specs.declared.grammar.Kind.TheVariants as kind
@@ -11,7 +12,6 @@ use Rattle.ygg_syntax.specs.declared.tree.Operation.{Operation}
 use Rattle.ygg_syntax.specs.declared.tree.Tick.{Tick}
 use Rattle.ygg_syntax.specs.declared.tree.Layer.{Layer}
 use Rattle.ygg_syntax.specs.declared.tree.File.{File}
-use Rattle.ygg_syntax.specs.Files.{Derives}
 use Rattle.ygg_count.specs.Weights.{Weights, weights_of}
 use Rattle.ygg_names.specs.Names.{Named, has, added}
 use Rattle.ygg_fault.specs.declared.scope.View.{View}
@@ -38,6 +38,7 @@ use Rattle.ygg_answered.proofs.Operations.{added_all, operations_shaped}
 use Rattle.ygg_answered.proofs.Typed.{IsTypedLayer, Parts, parts}
 use Rattle.ygg_answered.proofs.Files.{on_disk}
 use Rattle.ygg_answered.proofs.Grammar.{file_kept}
+use Rattle.ygg_type.specs.Typed.{IsDerivable}
 use Rattle.ygg_lower.specs.declared.body.Body.{Body}
 use Rattle.ygg_lower.specs.declared.body.Part.{Part}
 use Rattle.ygg_lower.specs.declared.body.Part.TheVariants.{Start, Spec, OnCrash, Crash, Format, Impl, Tick as TickPart, Recover}
@@ -365,8 +366,12 @@ unchanged (d ∷ ps) scope =
     one true = (refl, refl)
     one false = (refl, refl)
 
-pub block_typing : (tokens : List Token) (file : File) → Derives tokens file → IsTyped file → (body : Body) (l : Layer) (b : Block) → IsBlock file body l b → BlockTyping file body l b
-block_typing tokens file d t body l b is = record {
+-- the blocks of a file that some tokens derive keep their kinds
+pub blocks_kept : (file : File) → ∥ IsDerivable file ∥₁ → list_all layer_keeps file.layers ≡ true
+blocks_kept file d = let once : IsProp (list_all layer_keeps file.layers ≡ true) = Bool-set (list_all layer_keeps file.layers) true in ∥∥₁_elim d once (λ (tokens, few, derives). file_kept tokens file derives)
+
+pub block_typing : (file : File) → list_all layer_keeps file.layers ≡ true → IsTyped file → (body : Body) (l : Layer) (b : Block) → IsBlock file body l b → BlockTyping file body l b
+block_typing file kept t body l b is = record {
   scope = seen_as (view_of body.part) (with_parameters (arguments_in l body.part body.number) whole);
   shape = typed.shape;
   sound = defs_typed;
@@ -411,7 +416,7 @@ block_typing tokens file d t body l b is = record {
 
     at : LayerAt (functions_of file.defs) (with_definitions file.defs []) (weights_of file.defs) (signatures_from (disk_operations file.disk) file.layers body.layer) l
     at =
-        layer_at (functions_of file.defs) (with_definitions file.defs []) (weights_of file.defs) meets file.layers 0 [] (disk_below file.disk) (disk_operations file.disk) (second_of definitions layers rest) (file_kept tokens file d)
+        layer_at (functions_of file.defs) (with_definitions file.defs []) (weights_of file.defs) meets file.layers 0 [] (disk_below file.disk) (disk_operations file.disk) (second_of definitions layers rest) kept
         (on_disk (functions_of file.defs) (with_definitions file.defs []) (weights_of file.defs) file.disk meets (first_of disk (definitions && layers) faultless)).shaped refl body.layer l is.layer
 
     whole : Scope
