@@ -76,10 +76,10 @@ find_operation (p ∷ os) crash known weights scope e k name o h =
     cases false is h again = again h
 
 -- operations as the layer above sees them
-abbrev signatures : List Operation → Named Signature
+abbrev pub signatures : List Operation → Named Signature
 signatures = map (λ (o : Operation). (o.name.text, operation_signature o))
 
-added_all : (os : List Operation) (crash : Block) (known : Named Signature) (weights : Weights) (scope : Scope) → none (operations_faults os crash known weights scope) ≡ true → with_operations os known ≡ known ++ signatures os
+pub added_all : (os : List Operation) (crash : Block) (known : Named Signature) (weights : Weights) (scope : Scope) → none (operations_faults os crash known weights scope) ≡ true → with_operations os known ≡ known ++ signatures os
 added_all [] crash known weights scope e = sym (append-nil known)
 added_all (o ∷ os) crash known weights scope e =
     let here = none (operation_faults o crash known weights scope) in

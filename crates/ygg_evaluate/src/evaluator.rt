@@ -20,22 +20,22 @@ use ygg_value::{Value, Word, not, resize};
 /// What an expression is evaluated with: the definitions that it sees, its own names, the numbers of the quantifiers round it, and
 /// the names of the machine below.
 #[derive(Drop)]
-pub struct Evaluator<'a, 'v> {
+pub struct Evaluator<'a, 'n, 'v> {
     alloc: Global,
     defs: &'a [Def],
-    own: &'v [Binding<'a, 'v>],
-    numbers: &'v [Binding<'a, 'v>],
-    low: &'v [Binding<'a, 'v>],
+    own: &'n [Binding<'a, 'v>],
+    numbers: &'n [Binding<'a, 'n>],
+    low: &'n [Binding<'a, 'v>],
 }
 
-impl<'a, 'v> Evaluator<'a, 'v> {
+impl<'a, 'n, 'v> Evaluator<'a, 'n, 'v> {
     /// An evaluator that sees these definitions and names, and behind `low` those of the machine below.
     pub fn new(
         alloc: Global,
         defs: &'a [Def],
-        own: &'v [Binding<'a, 'v>],
-        low: &'v [Binding<'a, 'v>],
-    ) -> Evaluator<'a, 'v>
+        own: &'n [Binding<'a, 'v>],
+        low: &'n [Binding<'a, 'v>],
+    ) -> Evaluator<'a, 'n, 'v>
         ensures { known_of result ≡ record { defs = defs.now; own = env_of own.now; low = env_of low.now } }
     {
         Evaluator {
@@ -49,7 +49,7 @@ impl<'a, 'v> Evaluator<'a, 'v> {
 
     /// The value of an expression, lent where it is the value of a name. Its only error is want of memory.
     #[cycle(value)]
-    pub fn value(&self, e: &'a Expr) -> Result<Held<'v>, NoMemory>
+    pub fn value(&self, e: &'a Expr) -> Result<Held<'n>, NoMemory>
         requires { CanEvaluate (known_of self.now) e.now }
         ensures { IfOk result (λ v. held_value v ≡ value_in (known_of self.now) e.now) }
     {
@@ -123,7 +123,7 @@ impl<'a, 'v> Evaluator<'a, 'v> {
 
     /// The values of expressions.
     #[cycle(value)]
-    fn values(&self, es: &'a [Expr]) -> Result<Vec<Held<'v>>, NoMemory>
+    fn values(&self, es: &'a [Expr]) -> Result<Vec<Held<'n>>, NoMemory>
         requires { All (CanEvaluate (known_of self.now)) es.now }
         ensures { IfOk result (λ vs. held_values vs.items ≡ map (value_in (known_of self.now)) es.now) }
     {
@@ -151,7 +151,7 @@ impl<'a, 'v> Evaluator<'a, 'v> {
 
     /// What a definition gives for arguments.
     #[cycle(value)]
-    fn called(&self, name: &[u8], args: &[Held<'v>]) -> Result<Value, NoMemory>
+    fn called(&self, name: &[u8], args: &[Held<'_>]) -> Result<Value, NoMemory>
         requires { CanCall self.now.defs.now name.now (held_values args.now) }
         ensures { IfOk result (λ v. v ≡ functions_of self.now.defs.now name.now (held_values args.now)) }
     {

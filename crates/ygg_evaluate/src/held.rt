@@ -47,7 +47,7 @@ impl<'v> Held<'v> {
 }
 
 /// The value of the first of a name.
-fn find<'a, 'v>(bindings: &'v [Binding<'a, 'v>], name: &[u8]) -> Option<&'v Value>
+fn find<'n>(bindings: &'n [Binding<'_, '_>], name: &[u8]) -> Option<&'n Value>
     ensures { option_copied result ≡ found name.now (env_of bindings.now) }
 {
     for binding in bindings {
@@ -59,11 +59,11 @@ fn find<'a, 'v>(bindings: &'v [Binding<'a, 'v>], name: &[u8]) -> Option<&'v Valu
 }
 
 /// The value of the first of a name among some bindings and then among others, lent; a single digit 0 where there is none.
-pub fn value_of<'a, 'v>(
-    bindings: &'v [Binding<'a, 'v>],
-    others: &'v [Binding<'a, 'v>],
+pub fn value_of<'n>(
+    bindings: &'n [Binding<'_, '_>],
+    others: &'n [Binding<'_, '_>],
     name: &[u8],
-) -> Held<'v>
+) -> Held<'n>
     ensures { held_value result ≡ look_up name.now (env_of bindings.now ++ env_of others.now) }
 {
     if let Some(value) = find(bindings, name) {

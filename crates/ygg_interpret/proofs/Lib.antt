@@ -1,0 +1,11 @@
+pub mod Firsts
+pub mod Places
+pub mod Opened
+pub mod Leading
+pub mod Fitting
+pub mod Repeating
+pub mod Sourcing
+pub mod Assigning
+pub mod Running
+pub mod Public
+pub mod Tops

@@ -112,11 +112,11 @@ pub record CanServe {S : Type 0} (M : Meaning S) (file : File) (body : Body) (st
   pub calls : IsTrue (may_call (kind_of body.part)) → Serves M file body.layer at
   pub stops : IsSome stop → IsTrue M.can_stop × Serves M file body.layer at
 
--- a machine that serves the layer still does after a run that power did not cut
-abbrev pub StillServes : {S : Type 0} → Meaning S → File → Body → Result Ended NoMemory → Standing S → Standing S → Type 0
-StillServes M file body (Ok (Whole answer)) from to = Serves M file body.layer from → Serves M file body.layer to
-StillServes M file body (Ok Short) from to = Serves M file body.layer from → Serves M file body.layer to
-StillServes M file body (Ok Stopped) from to = Serves M file body.layer to
-StillServes M file body (Ok Down) from to = Unit {0}
-StillServes M file body (Ok Failed) from to = Unit {0}
-StillServes M file body (Err e) from to = Unit {0}
+-- the machine with this number still serves after a run that power did not cut, if it did before
+abbrev pub StillServes : {S : Type 0} → Meaning S → File → ℕ → Result Ended NoMemory → Standing S → Standing S → Type 0
+StillServes M file number (Ok (Whole answer)) from to = Serves M file number from → Serves M file number to
+StillServes M file number (Ok Short) from to = Serves M file number from → Serves M file number to
+StillServes M file number (Ok Stopped) from to = Serves M file number to
+StillServes M file number (Ok Down) from to = Unit {0}
+StillServes M file number (Ok Failed) from to = Unit {0}
+StillServes M file number (Err e) from to = Unit {0}
