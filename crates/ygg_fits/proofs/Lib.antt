@@ -1,0 +1,2 @@
+mod Fitted
+mod Existing
