@@ -174,9 +174,9 @@ impl<'a> Runner<'a> {
         requires { CanEnter W.means self.now.typed.now.file self.now.number self.now.stop b.now (env_of frame.old.names.items) (stands lower.old power.old) }
         ensures { Ran W.means self.now.typed.now.file self.now.number self.now.stop (inside_run (eval_in self.now.typed.now.file) b.now (env_of frame.old.names.items)) (λ u. goes_on (env_of frame.new.names.items)) (stands lower.old power.old) frame.old.left result (stands lower.new power.new) frame.new.left }
     {
-        let before = frame.names.len();
+        let outside = frame.names.len();
         let flow = self.statements(b.statements.as_slice(), frame, lower, power);
-        frame.names.truncate(before);
+        frame.names.truncate(outside);
         flow
     }
 

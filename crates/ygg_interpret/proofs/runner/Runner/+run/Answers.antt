@@ -20,8 +20,8 @@ use Rattle.ygg_interpret.proofs.runner.Runner.+run.Goals as goal
 pub block-returns : goal.block-returns
 block-returns g t c =
     let r = c.args.self.now in
-    block_ran g.W.Lower.means r.typed.now.file r.number r.stop c.args.b.now c.as_slice.result.now c.args.frame.now.names.items c.statements-flow.new.frame.names.items c.truncate.new.self.items c.len-before.result _ _ _ _ c.statements-flow.result
-    c.as_slice.ensures (omega (arith, c.args.frame.now.names.ok.0, c.len-before.ensures)) c.truncate.ensures.items c.statements-flow.ensures
+    block_ran g.W.Lower.means r.typed.now.file r.number r.stop c.args.b.now c.as_slice.result.now c.args.frame.now.names.items c.statements-flow.new.frame.names.items c.truncate.new.self.items c.len-outside.result _ _ _ _ c.statements-flow.result
+    c.as_slice.ensures (omega (arith, c.args.frame.now.names.ok.0, c.len-outside.ensures)) c.truncate.ensures.items c.statements-flow.ensures
 
 -- a statement
 
