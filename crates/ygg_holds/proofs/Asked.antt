@@ -31,8 +31,10 @@ use Rattle.ygg_evaluate.specs.Known.{Known, value_in, CanEvaluate}
 use Rattle.ygg_holds.specs.declared.formula.Formula.{Formula}
 use Rattle.ygg_holds.specs.declared.formula.Which.{Which}
 use Rattle.ygg_holds.specs.declared.formula.Which.TheVariants.{Relate, Always, Settled, Maybe}
-use Rattle.ygg_holds.specs.Formulas.{low_at, chosen_in, formula_in, low_of, IsAsked, Answers}
-use Rattle.ygg_holds.proofs.Below.{bind_fits, IsBelow, disk_is_below, layer_is_below, relation_agrees, settled_agrees}
+use Rattle.ygg_lower.specs.Layers.{variables_from, variables_at}
+use Rattle.ygg_lower.proofs.Blocks.{bind_fits}
+use Rattle.ygg_holds.specs.Formulas.{chosen_in, formula_in, IsAsked, Answers}
+use Rattle.ygg_holds.proofs.Below.{IsBelow, disk_is_below, layer_is_below, relation_agrees, settled_agrees}
 
 -- the parts of a layer without faults that formulas ask for
 record LayerParts (l : Layer) (weights : Weights) (scope : Scope) : Type 0 where
@@ -79,7 +81,7 @@ first_layer x ls before names defs below weights f =
     }
 
 find_layer : (ls : List Layer) (before : ℕ) (names : NamesKnown) (defs : Named Signature) (below : Below) (weights : Weights) (low : List Declared) → none (layers_faults ls before names defs below weights) ≡ true → IsBelow below low
-    → (place : ℕ) (l : Layer) → slice_get ls place ≡ Some l → LayerAt defs weights l (low_at low ls place)
+    → (place : ℕ) (l : Layer) → slice_get ls place ≡ Some l → LayerAt defs weights l (variables_from low ls place)
 find_layer [] before names defs below weights low f is place l h = absurd (cc)
 find_layer (x ∷ ls) before names defs below weights low f is zero l h =
     let same : x ≡ l = cc in
@@ -131,7 +133,7 @@ formula_typed l weights scope which n e f = go which
 
 -- what a formula of a file is evaluated with
 abbrev pub asked_with : File → Formula → Layer → List Value → List Value → List Value → Known
-asked_with file f l state memory low = record { defs = file.defs; own = bind l.state state ++ bind l.memory memory; low = bind (low_of file f) low }
+asked_with file f l state memory low = record { defs = file.defs; own = bind l.state state ++ bind l.memory memory; low = bind (variables_at file f.layer) low }
 
 pub can_ask : (file : File) (f : Formula) (state memory low : List Value) → IsTyped file → (asked : IsAsked file f state memory low) → CanEvaluate (asked_with file f asked.layer state memory low) asked.expression
 can_ask file f state memory low typed asked =
@@ -159,8 +161,8 @@ can_ask file f state memory low typed asked =
       faultless = left (none (typing e scope).faults) (none (wanted (typing e scope).part (Some (Word 1)))) expected;
     }
   where
-    agrees : (which : Which) (at : LayerAt (with_definitions file.defs []) (weights_of file.defs) asked.layer (low_of file f))
-        → Agrees (functions_of file.defs) (seen_as (view_of which) (layer_scope (with_definitions file.defs []) at.below asked.layer)) (record { own = bind asked.layer.state state ++ bind asked.layer.memory memory; low = bind (low_of file f) low })
+    agrees : (which : Which) (at : LayerAt (with_definitions file.defs []) (weights_of file.defs) asked.layer (variables_at file f.layer))
+        → Agrees (functions_of file.defs) (seen_as (view_of which) (layer_scope (with_definitions file.defs []) at.below asked.layer)) (record { own = bind asked.layer.state state ++ bind asked.layer.memory memory; low = bind (variables_at file f.layer) low })
     agrees which at = go which
       where
         definitions : Bool
@@ -172,16 +174,16 @@ can_ask file f state memory low typed asked =
         meets : MeetsAll (functions_of file.defs) (with_definitions file.defs [])
         meets = definitions_meet file.defs (left definitions layers (right (none (disk_faults file.disk)) (definitions && layers) (none_listed (faults_of file) typed)))
 
-        related : Agrees (functions_of file.defs) (seen_as view.Relation (layer_scope (with_definitions file.defs []) at.below asked.layer)) (record { own = bind asked.layer.state state ++ bind asked.layer.memory memory; low = bind (low_of file f) low })
-        related = relation_agrees (functions_of file.defs) (with_definitions file.defs []) at.below asked.layer (low_of file f) meets at.is at.parts.variables (bind asked.layer.state state) (bind asked.layer.memory memory) (bind (low_of file f) low)
-            (bind_fits asked.layer.state state asked.state_fits) (bind_fits asked.layer.memory memory asked.memory_fits) (bind_fits (low_of file f) low asked.low_fits)
+        related : Agrees (functions_of file.defs) (seen_as view.Relation (layer_scope (with_definitions file.defs []) at.below asked.layer)) (record { own = bind asked.layer.state state ++ bind asked.layer.memory memory; low = bind (variables_at file f.layer) low })
+        related = relation_agrees (functions_of file.defs) (with_definitions file.defs []) at.below asked.layer (variables_at file f.layer) meets at.is at.parts.variables (bind asked.layer.state state) (bind asked.layer.memory memory) (bind (variables_at file f.layer) low)
+            (bind_fits asked.layer.state state asked.state_fits) (bind_fits asked.layer.memory memory asked.memory_fits) (bind_fits (variables_at file f.layer) low asked.low_fits)
 
-        go : (which : Which) → Agrees (functions_of file.defs) (seen_as (view_of which) (layer_scope (with_definitions file.defs []) at.below asked.layer)) (record { own = bind asked.layer.state state ++ bind asked.layer.memory memory; low = bind (low_of file f) low })
+        go : (which : Which) → Agrees (functions_of file.defs) (seen_as (view_of which) (layer_scope (with_definitions file.defs []) at.below asked.layer)) (record { own = bind asked.layer.state state ++ bind asked.layer.memory memory; low = bind (variables_at file f.layer) low })
         go Relate = related
         go Always = related
         go Maybe = related
-        go Settled = settled_agrees (functions_of file.defs) (with_definitions file.defs []) at.below asked.layer (low_of file f) meets at.is at.parts.variables (bind asked.layer.state state) (bind asked.layer.memory memory) (bind (low_of file f) low)
-            (bind_fits asked.layer.state state asked.state_fits) (bind_fits asked.layer.memory memory asked.memory_fits) (bind_fits (low_of file f) low asked.low_fits)
+        go Settled = settled_agrees (functions_of file.defs) (with_definitions file.defs []) at.below asked.layer (variables_at file f.layer) meets at.is at.parts.variables (bind asked.layer.state state) (bind asked.layer.memory memory) (bind (variables_at file f.layer) low)
+            (bind_fits asked.layer.state state asked.state_fits) (bind_fits asked.layer.memory memory asked.memory_fits) (bind_fits (variables_at file f.layer) low asked.low_fits)
 
 -- the same under other names
 pub asked_can : (file : File) (f : Formula) (state memory low : List Value) → IsTyped file → IsAsked file f state memory low → (l : Layer) (e : Expr) (k : Known) → slice_get file.layers f.layer ≡ Some l → formula_in l f ≡ Some e
@@ -203,29 +205,29 @@ asked_gives file f state memory low l e k answer is of_layer same gives l' e' is
 
 -- the names with values that were gathered one list after another
 pub known_is : (file : File) (f : Formula) (l : Layer) (state memory low : List Value) (defs : List Def) (none first own nothing lower : Env) (ds es : List Declared) (vs ws us : List Value) → defs ≡ file.defs
-    → none ≡ [] → first ≡ none ++ bind ds vs → own ≡ first ++ bind es ws → ds ≡ l.state → vs ≡ state → es ≡ l.memory → ws ≡ memory → nothing ≡ [] → lower ≡ nothing ++ bind (low_of file f) us → us ≡ low
+    → none ≡ [] → first ≡ none ++ bind ds vs → own ≡ first ++ bind es ws → ds ≡ l.state → vs ≡ state → es ≡ l.memory → ws ≡ memory → nothing ≡ [] → lower ≡ nothing ++ bind (variables_at file f.layer) us → us ≡ low
     → record { defs = defs; own = own; low = lower } ≡ asked_with file f l state memory low
 known_is file f l state memory low defs none first own nothing lower ds es vs ws us d n a b p q r s m o u =
     let owns : own ≡ bind l.state state ++ bind l.memory memory =
     b ∙ ap (λ x. x ++ bind es ws) (a ∙ ap (λ x. x ++ bind ds vs) n) ∙ ap (λ x. bind x vs ++ bind es ws) p ∙ ap (λ x. bind l.state x ++ bind es ws) q ∙ ap (λ x. bind l.state state ++ bind x ws) r
     ∙ ap (λ x. bind l.state state ++ bind l.memory x) s in
-    let lows : lower ≡ bind (low_of file f) low = o ∙ ap (λ x. x ++ bind (low_of file f) us) m ∙ ap (bind (low_of file f)) u in
+    let lows : lower ≡ bind (variables_at file f.layer) low = o ∙ ap (λ x. x ++ bind (variables_at file f.layer) us) m ∙ ap (bind (variables_at file f.layer)) u in
     let known : List Def → Env → Env → Known = λ x y z. record { defs = x; own = y; low = z } in
     ap (λ x. known x own lower) d ∙ ap (λ x. known file.defs x lower) owns ∙ ap (known file.defs (bind l.state state ++ bind l.memory memory)) lows
 
 -- what stands below the first layer, and below another one
-pub low_first : (below : List Declared) (ls : List Layer) (place : ℕ) → place ≡ 0 → low_at below ls place ≡ below
-low_first below ls place h = ap (low_at below ls) h ∙ go ls
+pub low_first : (below : List Declared) (ls : List Layer) (place : ℕ) → place ≡ 0 → variables_from below ls place ≡ below
+low_first below ls place h = ap (variables_from below ls) h ∙ go ls
   where
-    go : (ls : List Layer) → low_at below ls 0 ≡ below
+    go : (ls : List Layer) → variables_from below ls 0 ≡ below
     go [] = refl
     go (l ∷ ls) = refl
 
-low_next : (below : List Declared) (ls : List Layer) (place : ℕ) (l : Layer) → place < length ls → l ≡ get_or ls place l → low_at below ls (suc place) ≡ l.state
+low_next : (below : List Declared) (ls : List Layer) (place : ℕ) (l : Layer) → place < length ls → l ≡ get_or ls place l → variables_from below ls (suc place) ≡ l.state
 low_next below [] place l h e = absurd (omega arith)
 low_next below (x ∷ ls) zero l h e = low_first x.state ls 0 refl ∙ ap (λ (y : Layer). y.state) (sym e)
 low_next below (x ∷ ls) (suc p) l h e = low_next x.state ls p l (omega arith) e
 
-pub low_later : (below : List Declared) (ls : List Layer) (place : ℕ) (l : Layer) → place < length ls → (place ≡ 0 → ⊥) → l ≡ get_or ls (place - 1) l → low_at below ls place ≡ l.state
+pub low_later : (below : List Declared) (ls : List Layer) (place : ℕ) (l : Layer) → place < length ls → (place ≡ 0 → ⊥) → l ≡ get_or ls (place - 1) l → variables_from below ls place ≡ l.state
 low_later below ls zero l h n e = absurd (n refl)
 low_later below ls (suc p) l h n e = let one : suc p - 1 ≡ p = omega arith in low_next below ls p l (omega arith) (e ∙ ap (λ k. get_or ls k l) one)

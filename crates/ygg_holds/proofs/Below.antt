@@ -38,16 +38,6 @@ use Rattle.ygg_answered.proofs.Views.{entries, AllTyped, held_in, has_in, LayerV
 use Rattle.ygg_answered.proofs.Operations.{answer_shaped}
 use Rattle.ygg_answered.proofs.Files.{on_disk}
 
--- declared names with values that fit them
-pub bind_fits : (ds : List Declared) (vs : List Value) → values_fit ds vs ≡ true → env_fits ds (bind ds vs) ≡ true
-bind_fits [] [] h = refl
-bind_fits [] (v ∷ vs) h = absurd (cc)
-bind_fits (d ∷ ds) [] h = absurd (cc)
-bind_fits (d ∷ ds) (v ∷ vs) h =
-    let here = left (fits (shape_in d.shape) v) (values_fit ds vs) h in
-    let others = bind_fits ds vs (right (fits (shape_in d.shape) v) (values_fit ds vs) h) in
-    ap (λ b. b && fits (shape_in d.shape) v && env_fits ds (bind ds vs)) (bytes_equal d.name.text) ∙ ap (λ b. true && b && env_fits ds (bind ds vs)) here ∙ ap (λ b. true && true && b) others
-
 -- each operation of a layer that gives an answer gives one of some shape
 shaped_more : (o : Operation) (known : Named Signature) → LowerShaped known → none (answer_type_faults o.answer) ≡ true → LowerShaped (with_operation o known)
 shaped_more o known shaped faultless name s h answers = cases (has o.name.text known) h

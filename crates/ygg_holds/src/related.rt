@@ -6,7 +6,8 @@ ghost use Rattle.ygg_eval.specs.Meaning.{is_one};
 ghost use Rattle.ygg_eval.specs.Shapes.{values_fit};
 ghost use Rattle.ygg_machine.specs.Stack.{tables_of};
 ghost use Rattle.ygg_evaluate.specs.Held.{env_of};
-ghost use Rattle.ygg_holds.specs.Formulas.{low_at, IsAsked, Answers};
+ghost use Rattle.ygg_lower.specs.Layers.{variables_from};
+ghost use Rattle.ygg_holds.specs.Formulas.{IsAsked, Answers};
 
 use crate::formula::{Formula, expression_of};
 use std::alloc::Global;
@@ -76,8 +77,8 @@ fn name_low<'a, 'v>(
     values: &'v [Value],
 ) -> Result<(), NoMemory>
     requires within { place < length layers.now }
-    requires fits { IsTrue (values_fit (low_at (tables_of disk.now) layers.now place) values.now) }
-    ensures { OnOk result (env_of bindings.new.items ≡ env_of bindings.old.items ++ bind (low_at (tables_of disk.now) layers.now place) values.now) }
+    requires fits { IsTrue (values_fit (variables_from (tables_of disk.now) layers.now place) values.now) }
+    ensures { OnOk result (env_of bindings.new.items ≡ env_of bindings.old.items ++ bind (variables_from (tables_of disk.now) layers.now place) values.now) }
 {
     if place == 0 {
         name_tables(bindings, disk, values)?;

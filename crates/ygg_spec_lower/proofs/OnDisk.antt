@@ -40,7 +40,8 @@ use Rattle.ygg_lower.specs.Lower.{IsCallable, Called, Fell, Whole}
 use Rattle.ygg_spec_lower.specs.Kept.{standing, spec_meaning, Loses}
 use Rattle.ygg_spec_lower.specs.Tables.{IsReadable, AreTables, AreWritable, IsRowOfAll, values_of, Made, Cut, Lost}
 use Rattle.ygg_spec_lower.proofs.Stepping.{no_pick}
-use Rattle.ygg_spec_lower.proofs.Values.{bind_fits, bound_fits}
+use Rattle.ygg_lower.proofs.Blocks.{bind_fits}
+use Rattle.ygg_spec_lower.proofs.Values.{bound_fits}
 
 -- values that are the tables of a disk of the size
 pub record AreSized (d : DiskText) (kind : DiskKind) (values : List Value) : Type 0 where

@@ -43,7 +43,7 @@ use Rattle.ygg_spec_lower.specs.Taken.{TakesOnly}
 use Rattle.ygg_spec_lower.specs.Kept.{standing, spec_meaning, Loses}
 use Rattle.ygg_spec_lower.specs.Ran.{Ran, Broken, OperationBroken, CrashRan}
 use Rattle.ygg_spec_lower.proofs.Stepping.{takes_both}
-use Rattle.ygg_spec_lower.proofs.Values.{bind_fits}
+use Rattle.ygg_lower.proofs.Blocks.{bind_fits}
 use Rattle.ygg_spec_lower.proofs.OnDisk.{variables_zero}
 use Rattle.ygg_spec_lower.proofs.Named.{find_first, typed_operations, all_of}
 

@@ -7,16 +7,6 @@ use Rattle.ygg_eval.specs.Environments.{bind}
 use Rattle.ygg_eval.specs.Shapes.{shape_in, fits, values_fit, env_fits}
 use Rattle.ygg_sound.proofs.Tests.{left, right, bytes_equal}
 
--- names with values that fit them
-pub bind_fits : (ds : List Declared) (vs : List Value) → values_fit ds vs ≡ true → env_fits ds (bind ds vs) ≡ true
-bind_fits [] [] h = refl
-bind_fits [] (v ∷ vs) h = absurd (cc)
-bind_fits (d ∷ ds) [] h = absurd (cc)
-bind_fits (d ∷ ds) (v ∷ vs) h =
-    let here = left (fits (shape_in d.shape) v) (values_fit ds vs) h in
-    let others = bind_fits ds vs (right (fits (shape_in d.shape) v) (values_fit ds vs) h) in
-    ap (λ b. b && fits (shape_in d.shape) v && env_fits ds (bind ds vs)) (bytes_equal d.name.text) ∙ ap (λ b. true && b && env_fits ds (bind ds vs)) here ∙ ap (λ b. true && true && b) others
-
 -- as many values that fit by name fit in order
 pub bound_fits : (ds : List Declared) (vs : List Value) → length vs ≡ length ds → env_fits ds (bind ds vs) ≡ true → values_fit ds vs ≡ true
 bound_fits [] [] n h = refl

@@ -78,8 +78,8 @@ layer edges {
 pub const STATEMENTS: &[u8] = b"yggdrasil 1;
 disk sync 1 of 1 of 8;
 layer kinds {
-  state w : word 8;
-  state r : row 2 of 8;
+  state w : word  8;
+  state r : row   2 of 8;
   state t : table 2 of 2 of 8;
   op named(a : word 8) spec {
     let x = (a + 1:8);

@@ -6,7 +6,8 @@ use Rattle.ygg_eval.specs.Environments.{bind}
 use Rattle.ygg_eval.specs.Meaning.{is_one}
 use Rattle.ygg_machine.specs.Stack.{tables_of}
 use Rattle.ygg_evaluate.specs.Held.{env_of}
-use Rattle.ygg_holds.specs.Formulas.{low_at, formula_in}
+use Rattle.ygg_lower.specs.Layers.{variables_from}
+use Rattle.ygg_holds.specs.Formulas.{formula_in}
 use Rattle.ygg_holds.proofs.Asked.{known_is, asked_can, asked_gives}
 use Rattle.ygg_holds.proofs.related.holds.Goals as goal
 
@@ -26,8 +27,8 @@ value-requires c =
     (env_of c.new-below.result.items) (env_of c.as_slice-8.result.now) c.as_slice.result.now c.as_slice-3.result.now c.as_slice-2.result.now c.as_slice-4.result.now c.as_slice-5.result.now
     (c.as_slice-6.ensures ∙ ap (λ (f : File). f.defs) c.file-file.ensures.same) (ap env_of c.new-own.ensures.items) c.in_ok-name_values.ensures (ap env_of c.as_slice-7.ensures.value ∙ c.in_ok-name_values-2.ensures) c.as_slice.ensures c.as_slice-2.ensures c.as_slice-3.ensures c.as_slice-4.ensures
     (ap env_of c.new-below.ensures.items)
-    (ap env_of c.as_slice-8.ensures.value ∙ c.in_ok-name_low.ensures ∙ ap (λ (f : File). env_of c.new-below.result.items ++ bind (low_at (tables_of f.disk) layers place) c.as_slice-5.result.now) c.file-file.ensures.same
-    ∙ ap (λ ls. env_of c.new-below.result.items ++ bind (low_at (tables_of file.disk) ls place) c.as_slice-5.result.now) same)
+    (ap env_of c.as_slice-8.ensures.value ∙ c.in_ok-name_low.ensures ∙ ap (λ (f : File). env_of c.new-below.result.items ++ bind (variables_from (tables_of f.disk) layers place) c.as_slice-5.result.now) c.file-file.ensures.same
+    ∙ ap (λ ls. env_of c.new-below.result.items ++ bind (variables_from (tables_of file.disk) ls place) c.as_slice-5.result.now) same)
     c.as_slice-5.ensures in
     asked_can file c.args.formula c.args.state.now c.args.memory.now c.args.low.now c.file-file.ensures.typed c.requires l c.in-Some.expression.now _ is of_layer known
 
@@ -47,8 +48,8 @@ returns c =
     (env_of c.new-below.result.items) (env_of c.as_slice-8.result.now) c.as_slice.result.now c.as_slice-3.result.now c.as_slice-2.result.now c.as_slice-4.result.now c.as_slice-5.result.now
     (c.as_slice-6.ensures ∙ ap (λ (f : File). f.defs) c.file-file.ensures.same) (ap env_of c.new-own.ensures.items) c.in_ok-name_values.ensures (ap env_of c.as_slice-7.ensures.value ∙ c.in_ok-name_values-2.ensures) c.as_slice.ensures c.as_slice-2.ensures c.as_slice-3.ensures c.as_slice-4.ensures
     (ap env_of c.new-below.ensures.items)
-    (ap env_of c.as_slice-8.ensures.value ∙ c.in_ok-name_low.ensures ∙ ap (λ (f : File). env_of c.new-below.result.items ++ bind (low_at (tables_of f.disk) layers place) c.as_slice-5.result.now) c.file-file.ensures.same
-    ∙ ap (λ ls. env_of c.new-below.result.items ++ bind (low_at (tables_of file.disk) ls place) c.as_slice-5.result.now) same)
+    (ap env_of c.as_slice-8.ensures.value ∙ c.in_ok-name_low.ensures ∙ ap (λ (f : File). env_of c.new-below.result.items ++ bind (variables_from (tables_of f.disk) layers place) c.as_slice-5.result.now) c.file-file.ensures.same
+    ∙ ap (λ ls. env_of c.new-below.result.items ++ bind (variables_from (tables_of file.disk) ls place) c.as_slice-5.result.now) same)
     c.as_slice-5.ensures in
     asked_gives file c.args.formula c.args.state.now c.args.memory.now c.args.low.now l c.in-Some.expression.now _ c.is_one.result is of_layer known
     (c.is_one.ensures ∙ ap is_one (c.value-2.ensures ∙ c.in_ok-value.ensures))
