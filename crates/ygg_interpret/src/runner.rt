@@ -38,8 +38,9 @@ impl<'a> Runner<'a> {
         ensures { IfOk result (λ v. v ≡ eval_in self.now.typed.now.file e.now (env_of names.now)) }
     {
         let defs = self.typed.file().defs.as_slice();
-        let nothing = &names[..0];
-        let evaluator = Evaluator::new(self.alloc, defs, names, nothing);
+        // Nothing is seen behind `low`.
+        let low = &names[..0];
+        let evaluator = Evaluator::new(self.alloc, defs, names, low);
         let value = evaluator.value(e)?;
         value.into_value(self.alloc)
     }
