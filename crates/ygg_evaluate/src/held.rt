@@ -1,13 +1,14 @@
 //! Values that are made or lent, and what names stand for.
 
-ghost use Rattle.std.specs.Prelude.{◌≡◌, ◌++◌, IfOk};
+ghost use Rattle.std.specs.Prelude.{◌≡◌, ◌++◌, IfOk, OnOk};
 ghost use Rattle.std.specs.Option.{option_copied};
 ghost use Rattle.ygg_names.specs.Names.{look_up as found};
-ghost use Rattle.ygg_eval.specs.Environments.{look_up};
+ghost use Rattle.ygg_eval.specs.Environments.{bind, look_up};
 ghost use Rattle.ygg_evaluate.specs.Held.{env_of, held_value};
 
 use std::alloc::Global;
 use ygg_list::NoMemory;
+use ygg_syntax::tree::Declared;
 use ygg_value::{Value, Word, copy_value};
 
 /// A name and what it stands for.
@@ -73,4 +74,24 @@ pub fn value_of<'n>(
         return Held::Lent(value);
     }
     Held::Made(Value::Word(Word { width: 1, bits: 0 }))
+}
+
+/// Puts declared names with these values, which are lent, after others, in order. Its only error is want of memory.
+pub fn lend_values<'a, 'v>(
+    bindings: &mut Vec<Binding<'a, 'v>>,
+    declared: &'a [Declared],
+    values: &'v [Value],
+) -> Result<(), NoMemory>
+    ensures { OnOk result (env_of bindings.new.items ≡ env_of bindings.old.items ++ bind declared.now values.now) }
+{
+    for (i, variable) in declared.iter().enumerate() {
+        if i >= values.len() {
+            return Ok(());
+        }
+        bindings.push(Binding {
+            name: variable.name.text.as_slice(),
+            held: Held::Lent(&values[i]),
+        })?;
+    }
+    Ok(())
 }

@@ -7,5 +7,6 @@ mod made;
 mod write;
 
 pub use evaluator::Evaluator;
-pub use held::{Binding, Held};
+pub use held::{Binding, Held, lend_values};
+pub use made::{digit, is_one, word_in};
 pub use write::write_part;

@@ -3,6 +3,7 @@
 ghost use Rattle.std.specs.Prelude.{◌≡◌, ◌≤◌, ◌<◌, ◌^◌, IfOk, replicate};
 ghost use Rattle.ygg_value.specs.Words.{word};
 ghost use Rattle.ygg_value.specs.Values.{word_in, apply_value, part_of, digit};
+ghost use Rattle.ygg_eval.specs.Meaning.{is_one};
 ghost use Rattle.ygg_evaluate.specs.Words.{row_from, AreOfRow, CanOperate};
 
 use std::alloc::Global;
@@ -30,6 +31,13 @@ pub fn word_in(value: &Value) -> Word
         Value::Word(word) => *word,
         _ => Word { width: 1, bits: 0 },
     }
+}
+
+/// Whether a value is a word of 1.
+pub fn is_one(value: &Value) -> bool
+    ensures { result ≡ is_one value.now }
+{
+    word_in(value).bits == 1
 }
 
 /// What an operation gives of two values.

@@ -2,7 +2,6 @@
 
 ghost use Rattle.std.specs.Prelude.{◌≡◌, ◌++◌, ◌<◌, length, IfOk, OnOk, IsTrue, slice_get, Some};
 ghost use Rattle.ygg_eval.specs.Environments.{bind};
-ghost use Rattle.ygg_eval.specs.Meaning.{is_one};
 ghost use Rattle.ygg_eval.specs.Shapes.{values_fit};
 ghost use Rattle.ygg_machine.specs.Stack.{tables_of};
 ghost use Rattle.ygg_evaluate.specs.Held.{env_of};
@@ -11,31 +10,11 @@ ghost use Rattle.ygg_holds.specs.Formulas.{IsAsked, Answers};
 
 use crate::formula::{Formula, expression_of};
 use std::alloc::Global;
-use ygg_evaluate::{Binding, Evaluator, Held};
+use ygg_evaluate::{Binding, Evaluator, Held, is_one, lend_values};
 use ygg_list::NoMemory;
-use ygg_syntax::tree::{Declared, DiskKind, DiskText, Layer};
+use ygg_syntax::tree::{DiskKind, DiskText, Layer};
 use ygg_type::Typed;
 use ygg_value::{Value, Values};
-
-/// Puts declared names with these values after others, in order. Its only error is want of memory.
-fn name_values<'a, 'v>(
-    bindings: &mut Vec<Binding<'a, 'v>>,
-    declared: &'a [Declared],
-    values: &'v [Value],
-) -> Result<(), NoMemory>
-    ensures { OnOk result (env_of bindings.new.items ≡ env_of bindings.old.items ++ bind declared.now values.now) }
-{
-    for (i, variable) in declared.iter().enumerate() {
-        if i >= values.len() {
-            return Ok(());
-        }
-        bindings.push(Binding {
-            name: variable.name.text.as_slice(),
-            held: Held::Lent(&values[i]),
-        })?;
-    }
-    Ok(())
-}
 
 /// Puts the tables of a disk with these values after others. Its only error is want of memory.
 fn name_tables<'a, 'v>(
@@ -85,7 +64,7 @@ fn name_low<'a, 'v>(
         return Ok(());
     }
     let below = &layers[place - 1];
-    name_values(bindings, below.state.as_slice(), values)?;
+    lend_values(bindings, below.state.as_slice(), values)?;
     Ok(())
 }
 
@@ -110,8 +89,8 @@ pub fn holds(
         unreachable!();
     };
     let mut own = Vec::new(alloc);
-    name_values(&mut own, layer.state.as_slice(), state.as_slice())?;
-    name_values(&mut own, layer.memory.as_slice(), memory.as_slice())?;
+    lend_values(&mut own, layer.state.as_slice(), state.as_slice())?;
+    lend_values(&mut own, layer.memory.as_slice(), memory.as_slice())?;
     let mut below = Vec::new(alloc);
     name_low(&mut below, &file.disk, layers, place, low.as_slice())?;
     let evaluator = Evaluator::new(
@@ -122,14 +101,4 @@ pub fn holds(
     );
     let value = evaluator.value(expression)?;
     Ok(is_one(value.value()))
-}
-
-/// Whether a value is a word of 1.
-fn is_one(value: &Value) -> bool
-    ensures { result ≡ is_one value.now }
-{
-    match value {
-        Value::Word(word) => word.bits == 1,
-        _ => false,
-    }
 }

@@ -1,6 +1,6 @@
 -- The first of a name, found from the front on.
 use Rattle.std.proofs.Common.{◌≡◌, ℕ, suc, ◌+◌, ◌<◌, Bool, true, false, if◌then◌else◌, List, [], ◌∷◌, length, set, get_or, Option, Some, None, Result, Ok, Err, OnOk, option_map, refl, sym, ap, ◌∙◌, subst, arith}
-use Rattle.std.specs.Prelude.{slice_set}
+use Rattle.std.specs.Prelude.{slice_get, slice_set}
 use Rattle.std.specs.Str.{bytes_eq}
 use Rattle.std.proofs.lemmas.Option.{slice_get_read, slice_get-map}
 use Rattle.std.proofs.lemmas.List.{map-set}
@@ -10,7 +10,18 @@ use Rattle.ygg_sound.proofs.Tests.{bytes_same}
 use Rattle.ygg_eval.specs.Environments.{Name, Env, look_up, assign}
 use Rattle.ygg_evaluate.specs.declared.held.Binding.{Binding}
 use Rattle.ygg_evaluate.specs.Held.{env_of, held_value}
-use Rattle.ygg_interpret.specs.Naming.{first_place, IsFirst, IsPlaceOf}
+use Rattle.ygg_interpret.specs.Naming.{first_place}
+
+-- the place of the first of a name: its value is there, and a new one is put there
+pub record IsFirst (env : Env) (name : Name) (place : ℕ) : Type 0 where
+  pub within : place < length env
+  pub is : slice_get env place ≡ Some (name, look_up name env)
+  pub assigned : (v : Value) → assign env name v ≡ slice_set env place (name, v)
+
+-- the place of the first of a name, if there is one
+abbrev pub IsPlaceOf : Env → Name → Option ℕ → Type 0
+IsPlaceOf env name (Some place) = IsFirst env name place
+IsPlaceOf env name None = (v : Value) → assign env name v ≡ env
 
 -- the place, counted from the first of these
 record FoundAt (place : ℕ) (env : Env) (name : Name) (found : ℕ) : Type 0 where

@@ -180,7 +180,7 @@ module _ {S : Type 0} (M : Meaning S) (file : File) (number : ℕ) (stop : Optio
       let k = c.can in
       all_evaluate k.kind k.scope env at es k.fits (called c.place c.used f es k.scope k.faultless).parts
 
-  pub call_sends : (f : Name) (es : List Expr) (env : Env) (at : Standing S) → CanCall M file number stop f es env at → CanSend M file number stop f.text (values_of (eval_in file) es env) at
+  call_sends : (f : Name) (es : List Expr) (env : Env) (at : Standing S) → CanCall M file number stop f es env at → CanSend M file number stop f.text (values_of (eval_in file) es env) at
   call_sends f es env at can =
       let k = can.can in
       let c = called can.place can.used f es k.scope k.faultless in
@@ -191,6 +191,9 @@ module _ {S : Type 0} (M : Meaning S) (file : File) (number : ℕ) (stop : Optio
         fit = arguments_fit (parts_of (typings es k.scope)) (values_of (eval_in file) es env) c.operation.arguments all c.counted (c.wanted (have_shapes (parts_of (typings es k.scope)) (values_of (eval_in file) es env) all));
         serves = k.fits.serves k.keeps;
       }
+
+  pub call_sends_as : (f : Name) (es : List Expr) (args : List Value) (env : Env) (at : Standing S) → args ≡ values_of (eval_in file) es env → CanCall M file number stop f es env at → CanSend M file number stop f.text args at
+  call_sends_as f es args env at is can = subst (λ (vs : List Value). CanSend M file number stop f.text vs at) (sym is) (call_sends f es env at can)
 
   -- right sides
   pub ask_evaluates : (s : Source) (e : Expr) (env : Env) (at : Standing S) → s ≡ source.Value e → CanAsk M file number stop s env at → CanEvaluate (known_in file env) e

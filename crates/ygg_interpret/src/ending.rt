@@ -12,13 +12,13 @@ ghost use Rattle.ygg_eval.specs.Progress.{answer_of};
 ghost use Rattle.ygg_interpret.specs.Ready.{eval_in, known_in};
 ghost use Rattle.ygg_interpret.specs.Ending.{values_in, EndsSo};
 
-use crate::names::{lend_values, name_values};
+use crate::names::name_values;
 use crate::run::Ended;
 use crate::runner::Runner;
 use std::alloc::Global;
 use std::mem;
 use ygg_disk::Power;
-use ygg_evaluate::Binding;
+use ygg_evaluate::{Binding, lend_values};
 use ygg_list::NoMemory;
 use ygg_lower::{Body, Lower, arguments_of, variables_of};
 use ygg_syntax::tree::{Expr, Layer};

@@ -8,6 +8,5 @@ mod names;
 mod run;
 mod runner;
 mod statements;
-mod values;
 
 pub use run::{Ended, run_body};

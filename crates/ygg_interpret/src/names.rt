@@ -36,26 +36,6 @@ pub fn name_values<'a, 'v>(
     Ok(())
 }
 
-/// Puts declared names with these values after others, in order, and lends the values. Its only error is want of memory.
-pub fn lend_values<'a, 'v>(
-    names: &mut Vec<Binding<'a, 'v>>,
-    declared: &'a [Declared],
-    values: &'v [Value],
-) -> Result<(), NoMemory>
-    ensures { OnOk result (env_of names.new.items ≡ env_of names.old.items ++ bind declared.now values.now) }
-{
-    for (i, variable) in declared.iter().enumerate() {
-        if i >= values.len() {
-            return Ok(());
-        }
-        names.push(Binding {
-            name: variable.name.text.as_slice(),
-            held: Held::Lent(&values[i]),
-        })?;
-    }
-    Ok(())
-}
-
 /// Gives the first of a name a new value, or the part of its value that these indices name. After want of memory, which is the only
 /// error, nothing is said of the names.
 pub fn write_name<'a, 'v>(

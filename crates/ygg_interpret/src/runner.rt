@@ -12,11 +12,10 @@ ghost use Rattle.ygg_interpret.specs.Ready.{eval_in, known_in, CanCall, CanSend,
 
 use crate::below::place_of;
 use crate::flow::{Break, Flow};
-use crate::values::{digit, is_one, word_in};
 use std::alloc::Global;
 use ygg_base::Text;
 use ygg_disk::{Power, Turn};
-use ygg_evaluate::{Binding, Evaluator};
+use ygg_evaluate::{Binding, Evaluator, digit, is_one, word_in};
 use ygg_list::NoMemory;
 use ygg_lower::{Lower, Stop};
 use ygg_syntax::tree::{Expr, Index, Name, Source};
@@ -39,8 +38,9 @@ impl<'a> Runner<'a> {
         ensures { IfOk result (λ v. v ≡ eval_in self.now.typed.now.file e.now (env_of names.now)) }
     {
         let defs = self.typed.file().defs.as_slice();
-        let nothing = &names[..0];
-        let evaluator = Evaluator::new(self.alloc, defs, names, nothing);
+        // Nothing is seen behind `low`.
+        let low = &names[..0];
+        let evaluator = Evaluator::new(self.alloc, defs, names, low);
         let value = evaluator.value(e)?;
         value.into_value(self.alloc)
     }

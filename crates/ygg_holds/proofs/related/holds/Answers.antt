@@ -23,9 +23,9 @@ value-requires c =
     let less : place < length layers = omega arith in
     let is : slice_get file.layers place ≡ Some l = ap (λ ls. slice_get ls place) (sym same) ∙ slice_get-get_or layers place l less ∙ ap (λ x. Some x) (sym c.index-layers-place.is) in
     let of_layer : formula_in l c.args.formula ≡ Some c.in-Some.expression.now = sym c.expression_of.ensures ∙ ap option_copied c.in-Some.is in
-    let known = c.new-evaluator.ensures ∙ known_is file c.args.formula l c.args.state.now c.args.memory.now c.args.low.now c.as_slice-6.result.now (env_of c.new-own.result.items) (env_of c.name_values.new.bindings.items) (env_of c.as_slice-7.result.now)
+    let known = c.new-evaluator.ensures ∙ known_is file c.args.formula l c.args.state.now c.args.memory.now c.args.low.now c.as_slice-6.result.now (env_of c.new-own.result.items) (env_of c.lend_values.new.bindings.items) (env_of c.as_slice-7.result.now)
     (env_of c.new-below.result.items) (env_of c.as_slice-8.result.now) c.as_slice.result.now c.as_slice-3.result.now c.as_slice-2.result.now c.as_slice-4.result.now c.as_slice-5.result.now
-    (c.as_slice-6.ensures ∙ ap (λ (f : File). f.defs) c.file-file.ensures.same) (ap env_of c.new-own.ensures.items) c.in_ok-name_values.ensures (ap env_of c.as_slice-7.ensures.value ∙ c.in_ok-name_values-2.ensures) c.as_slice.ensures c.as_slice-2.ensures c.as_slice-3.ensures c.as_slice-4.ensures
+    (c.as_slice-6.ensures ∙ ap (λ (f : File). f.defs) c.file-file.ensures.same) (ap env_of c.new-own.ensures.items) c.in_ok-lend_values.ensures (ap env_of c.as_slice-7.ensures.value ∙ c.in_ok-lend_values-2.ensures) c.as_slice.ensures c.as_slice-2.ensures c.as_slice-3.ensures c.as_slice-4.ensures
     (ap env_of c.new-below.ensures.items)
     (ap env_of c.as_slice-8.ensures.value ∙ c.in_ok-name_low.ensures ∙ ap (λ (f : File). env_of c.new-below.result.items ++ bind (variables_from (tables_of f.disk) layers place) c.as_slice-5.result.now) c.file-file.ensures.same
     ∙ ap (λ ls. env_of c.new-below.result.items ++ bind (variables_from (tables_of file.disk) ls place) c.as_slice-5.result.now) same)
@@ -44,9 +44,9 @@ returns c =
     let less : place < length layers = omega arith in
     let is : slice_get file.layers place ≡ Some l = ap (λ ls. slice_get ls place) (sym same) ∙ slice_get-get_or layers place l less ∙ ap (λ x. Some x) (sym c.index-layers-place.is) in
     let of_layer : formula_in l c.args.formula ≡ Some c.in-Some.expression.now = sym c.expression_of.ensures ∙ ap option_copied c.in-Some.is in
-    let known = c.new-evaluator.ensures ∙ known_is file c.args.formula l c.args.state.now c.args.memory.now c.args.low.now c.as_slice-6.result.now (env_of c.new-own.result.items) (env_of c.name_values.new.bindings.items) (env_of c.as_slice-7.result.now)
+    let known = c.new-evaluator.ensures ∙ known_is file c.args.formula l c.args.state.now c.args.memory.now c.args.low.now c.as_slice-6.result.now (env_of c.new-own.result.items) (env_of c.lend_values.new.bindings.items) (env_of c.as_slice-7.result.now)
     (env_of c.new-below.result.items) (env_of c.as_slice-8.result.now) c.as_slice.result.now c.as_slice-3.result.now c.as_slice-2.result.now c.as_slice-4.result.now c.as_slice-5.result.now
-    (c.as_slice-6.ensures ∙ ap (λ (f : File). f.defs) c.file-file.ensures.same) (ap env_of c.new-own.ensures.items) c.in_ok-name_values.ensures (ap env_of c.as_slice-7.ensures.value ∙ c.in_ok-name_values-2.ensures) c.as_slice.ensures c.as_slice-2.ensures c.as_slice-3.ensures c.as_slice-4.ensures
+    (c.as_slice-6.ensures ∙ ap (λ (f : File). f.defs) c.file-file.ensures.same) (ap env_of c.new-own.ensures.items) c.in_ok-lend_values.ensures (ap env_of c.as_slice-7.ensures.value ∙ c.in_ok-lend_values-2.ensures) c.as_slice.ensures c.as_slice-2.ensures c.as_slice-3.ensures c.as_slice-4.ensures
     (ap env_of c.new-below.ensures.items)
     (ap env_of c.as_slice-8.ensures.value ∙ c.in_ok-name_low.ensures ∙ ap (λ (f : File). env_of c.new-below.result.items ++ bind (variables_from (tables_of f.disk) layers place) c.as_slice-5.result.now) c.file-file.ensures.same
     ∙ ap (λ ls. env_of c.new-below.result.items ++ bind (variables_from (tables_of file.disk) ls place) c.as_slice-5.result.now) same)

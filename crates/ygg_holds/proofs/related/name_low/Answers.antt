@@ -18,5 +18,5 @@ pub returns : goal.returns
 returns c =
     let layers = c.args.layers.now in
     let l = c.index-layers-place.result in
-    c.in_ok-name_values.ensures
+    c.in_ok-lend_values.ensures
     ∙ ap (λ ds. env_of c.args.bindings.now.items ++ bind ds c.args.values.now) (c.as_slice.ensures ∙ sym (low_later (tables_of c.args.disk.now) layers c.args.place l c.requires.within c.if-place-eq0.false c.index-layers-place.is))

@@ -1,9 +1,6 @@
-use Rattle.std.proofs.Common.{List, sym, subst}
-use Rattle.ygg_value.specs.declared.row.Value.{Value}
 use Rattle.ygg_evaluate.specs.Held.{env_of}
 use Rattle.ygg_interpret.specs.Steps.{stands}
-use Rattle.ygg_interpret.specs.Ready.{CanSend}
-use Rattle.ygg_interpret.proofs.Fitting.{call_evaluates, call_sends}
+use Rattle.ygg_interpret.proofs.Fitting.{call_evaluates, call_sends_as}
 use Rattle.ygg_interpret.proofs.runner.Runner.call.Goals as goal
 
 pub values-requires : goal.values-requires
@@ -12,20 +9,14 @@ values-requires g c = call_evaluates g.W.Lower.means c.args.self.now.typed.now.f
 pub made-requires : goal.made-requires
 made-requires g c =
     let r = c.args.self.now in
-    let at = stands c.args.lower.now c.args.power.now in
-    let sends = call_sends g.W.Lower.means r.typed.now.file r.number r.stop c.args.f.now c.args.es.now (env_of c.args.names.now) at c.requires in
-    subst (λ (vs : List Value). CanSend g.W.Lower.means r.typed.now.file r.number r.stop c.args.f.now.text vs at) (sym c.in_ok-args.ensures) sends
+    call_sends_as g.W.Lower.means r.typed.now.file r.number r.stop c.args.f.now c.args.es.now c.in_ok-args.args (env_of c.args.names.now) (stands c.args.lower.now c.args.power.now) c.in_ok-args.ensures c.requires
 
 pub cut-requires-clause-sends : goal.cut-requires-clause-sends
 cut-requires-clause-sends g c =
     let r = c.args.self.now in
-    let at = stands c.args.lower.now c.args.power.now in
-    let sends = call_sends g.W.Lower.means r.typed.now.file r.number r.stop c.args.f.now c.args.es.now (env_of c.args.names.now) at c.requires in
-    subst (λ (vs : List Value). CanSend g.W.Lower.means r.typed.now.file r.number r.stop c.args.f.now.text vs at) (sym c.in_ok-args.ensures) sends
+    call_sends_as g.W.Lower.means r.typed.now.file r.number r.stop c.args.f.now c.args.es.now c.in_ok-args.args (env_of c.args.names.now) (stands c.args.lower.now c.args.power.now) c.in_ok-args.ensures c.requires
 
 pub made-requires-in-Some : goal.made-requires-in-Some
 made-requires-in-Some g c =
     let r = c.args.self.now in
-    let at = stands c.args.lower.now c.args.power.now in
-    let sends = call_sends g.W.Lower.means r.typed.now.file r.number r.stop c.args.f.now c.args.es.now (env_of c.args.names.now) at c.requires in
-    subst (λ (vs : List Value). CanSend g.W.Lower.means r.typed.now.file r.number r.stop c.args.f.now.text vs at) (sym c.in_ok-args.ensures) sends
+    call_sends_as g.W.Lower.means r.typed.now.file r.number r.stop c.args.f.now c.args.es.now c.in_ok-args.args (env_of c.args.names.now) (stands c.args.lower.now c.args.power.now) c.in_ok-args.ensures c.requires
