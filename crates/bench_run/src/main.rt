@@ -4,6 +4,8 @@
 //! and an assignment of words. How long each took goes to standard error.
 #![tactic(auto)]
 
+ghost use Rattle.std.specs.Prelude.{◌≡◌, None};
+
 use anyhow::bail;
 use std::alloc::Global;
 use std::time::Instant;
@@ -129,6 +131,22 @@ fn runs(alloc: Global, typed: &Typed, number: u32, rounds: u64) -> Result<u64, N
     Ok(ended)
 }
 
+/// Power that never fails, with picks that are all 0.
+fn unfailing(alloc: Global) -> Power
+    ensures { result.fuse ≡ None }
+{
+    Power {
+        picks: Picks {
+            bits: Bits::new(alloc),
+            next: 0,
+            past: false,
+        },
+        fuse: None,
+        passed: 0,
+        events: None,
+    }
+}
+
 /// Whether a run came to its end.
 fn is_whole(
     alloc: Global,
@@ -138,20 +156,11 @@ fn is_whole(
     state: &mut Values,
 ) -> Result<bool, NoMemory> {
     let low = disk(alloc)?;
-    if !is_runnable(typed, body, args, state) || !are_values_of(typed, 0, &low) {
+    if !is_runnable(typed, body, args, state) || !are_values_of(typed, body.layer, &low) {
         return Ok(false);
     }
-    let mut lower = spec_lower(alloc, typed, 0, low)?;
-    let mut power = Power {
-        picks: Picks {
-            bits: Bits::new(alloc),
-            next: 0,
-            past: false,
-        },
-        fuse: None,
-        passed: 0,
-        events: None,
-    };
+    let mut lower = spec_lower(alloc, typed, body.layer, low)?;
+    let mut power = unfailing(alloc);
     let ended = run_body(
         alloc, typed, body, args, state, &mut lower, None, &mut power,
     )?;
