@@ -1,4 +1,4 @@
-use Rattle.std.proofs.Common.◌≡◌
+use Rattle.std.proofs.Common.{◌≡◌}
 use Rattle.ygg_tests_runs.proofs.stage.table_of.Given as goal
 
 -- the table keeps the size of its rows
