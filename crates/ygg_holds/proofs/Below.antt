@@ -8,7 +8,6 @@ use Rattle.ygg_syntax.specs.declared.tree.Declared.{Declared}
 use Rattle.ygg_syntax.specs.declared.tree.Block.{Block}
 use Rattle.ygg_syntax.specs.declared.tree.Operation.{Operation}
 use Rattle.ygg_syntax.specs.declared.tree.Layer.{Layer}
-use Rattle.ygg_value.specs.declared.row.Value.{Value}
 use Rattle.ygg_value.specs.declared.shape.Shape.{Shape}
 use Rattle.ygg_count.specs.Weights.{Weights}
 use Rattle.ygg_names.specs.Names.{Named, look_up, has}
@@ -24,13 +23,13 @@ use Rattle.ygg_fault.specs.Scopes.{Scope, seen_variable, state_shape, seen_as}
 use Rattle.ygg_fault.specs.Definitions.{answer_type_faults, parameters_faults, with_parameters}
 use Rattle.ygg_fault.specs.Layers.{Below, variables_of, below_of, layer_scope, operation_signature, with_operation, with_operations, picks_faults, operation_blocks_faults, operation_faults, operations_faults}
 use Rattle.ygg_fault.specs.Files.{disk_faults, disk_table, disk_below}
-use Rattle.ygg_eval.specs.Environments.{Env, bind}
+use Rattle.ygg_eval.specs.Environments.{Env}
 use Rattle.ygg_eval.specs.Meaning.{Functions}
-use Rattle.ygg_eval.specs.Shapes.{shape_in, fits, values_fit, env_fits}
+use Rattle.ygg_eval.specs.Shapes.{env_fits}
 use Rattle.ygg_machine.specs.Stack.{tables_of_kind, tables_of}
 use Rattle.ygg_sound.specs.Fitting.{IsShaped, IsHeld}
 use Rattle.ygg_sound.specs.Agrees.{Agrees}
-use Rattle.ygg_sound.proofs.Tests.{left, right, bytes_equal}
+use Rattle.ygg_sound.proofs.Tests.{left, right}
 use Rattle.ygg_sound.proofs.Names.{or_else, look_up_append, new_found, absent}
 use Rattle.ygg_sound.proofs.Steps.{held_more}
 use Rattle.ygg_sound.proofs.Definitions.{MeetsAll}
