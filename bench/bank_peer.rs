@@ -1,6 +1,5 @@
 //! The peer of `bench/bank`: the same terms in a map of the standard library, from a term to its place.
 use std::collections::HashMap;
-use std::io::Read;
 use std::time::Instant;
 
 #[derive(Clone, Copy, PartialEq, Eq, Hash)]
@@ -37,9 +36,7 @@ impl Bank {
 }
 
 fn main() {
-    let mut text = String::new();
-    std::io::stdin().read_to_string(&mut text).unwrap();
-    let count: u64 = text.trim().parse().unwrap();
+    let count: u64 = std::env::args().nth(1).unwrap().parse().unwrap();
     let mut bank = Bank::default();
     let start = Instant::now();
     for bits in 0..count {

@@ -5,13 +5,16 @@ mod outside;
 #[cfg(test)]
 mod tests;
 
+ghost use Rattle.std.specs.Prelude.{◌≡◌, [], ◌∷◌};
+ghost use Rattle.ygg_rules.specs.declared.rule.RuleKind.TheVariants as kind;
+
 use crate::outside::{FileLibrary, OutSink};
 use std::env;
 use std::io::ErrorKind;
 use std::process::ExitCode;
 use ygg_base::{NoMemory, Status, Text, status_number};
 use ygg_rules::{
-    Rule, RuleBook, RuleKind, add_zero, and_ones, and_zero, eq_self, fold, or_zero, pick_same,
+    Book, Rule, RuleBook, RuleKind, add_zero, and_ones, and_zero, eq_self, fold, or_zero, pick_same,
 };
 use ygg_top::ygg;
 
@@ -39,8 +42,18 @@ fn words_of(rt: &HostRuntime) -> Result<Vec<Text>, NoMemory> {
     Ok(words)
 }
 
-/// Runs the command that the words name, over the system's files and standard output, under all seven rules. Its only error is want
-/// of memory for the words and the rules.
+/// Runs the command that the words name, over the system's files and standard output, under the book of all seven rules, in the order of
+/// their table.
+fn run_under(rt: &HostRuntime, words: &[Text], rules: &RuleBook) -> Status
+    requires { ⟦<RuleBook as Book>⟧.kinds rules.now
+        ≡ kind.Fold ∷ kind.AndOnes ∷ kind.AndZero ∷ kind.OrZero ∷ kind.AddZero ∷ kind.EqSelf ∷ kind.PickSame ∷ [] }
+{
+    let mut library = FileLibrary::new(rt);
+    let mut sink = OutSink::new(rt.stdout());
+    ygg(rt.alloc(), words, rules, &mut library, &mut sink)
+}
+
+/// Runs the command that the words name. Its only error is out of memory for the words and the rules.
 fn run(rt: &HostRuntime) -> Result<Status, NoMemory> {
     let alloc = rt.alloc();
     let words = words_of(rt)?;
@@ -53,9 +66,7 @@ fn run(rt: &HostRuntime) -> Result<Status, NoMemory> {
     rules.push(Rule::new(RuleKind::EqSelf, Box::new(alloc, eq_self)?))?;
     rules.push(Rule::new(RuleKind::PickSame, Box::new(alloc, pick_same)?))?;
     let rules = RuleBook::new(rules);
-    let mut library = FileLibrary::new(rt);
-    let mut sink = OutSink::new(rt.stdout());
-    Ok(ygg(alloc, words.as_slice(), &rules, &mut library, &mut sink))
+    Ok(run_under(rt, words.as_slice(), &rules))
 }
 
 fn main(rt: HostRuntime) -> ExitCode {

@@ -1,8 +1,46 @@
 -- A text has at most as many tokens as bytes.
-use Rattle.std.proofs.Common.{◌≡◌, ℕ, ◌+◌, ◌≤◌, ◌<◌, ◌^◌, Bool, true, false, if◌then◌else◌, List, [], ◌∷◌, ◌++◌, length, Option, Some, None, Ok, Err, subst, arith}
+use Rattle.std.proofs.Common.{
+  ◌≡◌,
+  ℕ,
+  ◌+◌,
+  ◌≤◌,
+  ◌<◌,
+  ◌^◌,
+  Bool,
+  true,
+  false,
+  if◌then◌else◌,
+  List,
+  [],
+  ◌∷◌,
+  ◌++◌,
+  length,
+  Option,
+  Some,
+  None,
+  Ok,
+  Err,
+  subst,
+  arith,
+}
+use Rattle.ygg_base.specs.declared.reason.Reason.TheVariants as reason
 use Rattle.ygg_base.specs.declared.token.Mark.{Mark}
 use Rattle.ygg_base.specs.declared.tokens.Tokens.{Tokens}
-use Rattle.ygg_base.specs.Lexing.{Lexed, lex, begin, closed, ended, extends, is_past_ascii, refused, token_before, tokens_of, line_after, column_after, recognized}
+use Rattle.ygg_base.specs.Lexing.{
+  Lexed,
+  lex,
+  begin,
+  closed,
+  ended,
+  extends,
+  is_past_ascii,
+  refused,
+  token_before,
+  tokens_of,
+  line_after,
+  column_after,
+  recognized,
+}
 
 -- 1 where a token or comment has begun
 abbrev held : List ℕ → ℕ
@@ -47,12 +85,13 @@ lex_most part begun line column (b ∷ bs) =
     let none = held_most (begin b) in
     let more : Lexed = lex (part ++ b ∷ []) begun line (column + 1) bs in
     let anew : Lexed = lex (begin b) column (line_after b line) (column_after b column) bs in
-    let stopped : Lexed = refused 1 line column in
+    let stopped : Lexed = refused reason.NotAscii line column in
     either_most (is_past_ascii b) (closed part line begun stopped) (if extends part b then more else closed part line begun anew) n
     (closed_most part line begun stopped (length (b ∷ bs)) tt)
     (either_most (extends part b) more (closed part line begun anew) n
     (weaker more (held (part ++ b ∷ []) + length bs) n (omega (arith, one)) longer)
-    (weaker (closed part line begun anew) (held part + (held (begin b) + length bs)) n (omega (arith, none)) (closed_most part line begun anew (held (begin b) + length bs) others)))
+    (weaker (closed part line begun anew) (held part + (held (begin b) + length bs)) n (omega (arith, none))
+    (closed_most part line begun anew (held (begin b) + length bs) others)))
 
 pub few_tokens : (text : List ℕ) (tokens : Tokens) → length text ≤ 1048576 → tokens_of text ≡ Ok tokens → length tokens.items < 2 ^ 32
 few_tokens text tokens small spells =

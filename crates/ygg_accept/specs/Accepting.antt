@@ -1,31 +1,31 @@
--- Which texts are layer files without a fault, and the first refusal of each other text.
+-- Which texts are layer files without a type error, and the first refusal of each other text.
 use Rattle.std.specs.Prelude.{◌≡◌, ◌⊎◌, ℕ, List, Ok, Err}
 use Rattle.ygg_base.specs.declared.failure.Refusal.{Refusal}
 use Rattle.ygg_base.specs.declared.tokens.Tokens.{Tokens}
 use Rattle.ygg_base.specs.Lexing.{tokens_of}
 use Rattle.ygg_syntax.specs.declared.tree.File.{File}
 use Rattle.ygg_syntax.specs.Files.{Derives}
-use Rattle.ygg_file.specs.Refused.{IsRefusal}
-use Rattle.ygg_fault.specs.Files.{IsTyped}
-use Rattle.ygg_type.specs.Typed.{IsFirstFault}
+use Rattle.ygg_read.specs.Refused.{IsRefusal}
+use Rattle.ygg_type_rules.specs.Files.{IsTyped}
+use Rattle.ygg_type.specs.Typed.{IsFirstTypeError}
 
--- the text has these tokens, from which this file derives and no other, and the file has no fault
+-- the text has these tokens, from which this file derives and no other, and the file has no type error
 pub record IsAccepted (text : List ℕ) (tokens : Tokens) (file : File) : Type 0 where
   pub spells : tokens_of text ≡ Ok tokens
   pub derives : Derives tokens.items file
   pub only : (other : File) → Derives tokens.items other → other ≡ file
   pub typed : IsTyped file
 
--- from these tokens a file derives and no other, and this is the refusal of its least fault
-pub record IsFaulty (tokens : Tokens) (r : Refusal) : Type 0 where
+-- from these tokens a file derives and no other, and this is the refusal of its least type error
+pub record IsMistyped (tokens : Tokens) (r : Refusal) : Type 0 where
   pub file : File
   pub derives : Derives tokens.items file
   pub only : (other : File) → Derives tokens.items other → other ≡ file
-  pub first : IsFirstFault file r
+  pub first : IsFirstTypeError file r
 
--- the refusal of a text with these tokens: of the first that can't come, or of the least fault of the file that they are
+-- the refusal of a text with these tokens: of the first that can't come, or of the least type error of the file that they are
 abbrev pub RefusesTokens : Tokens → Refusal → Type 0
-RefusesTokens tokens r = IsRefusal tokens r ⊎ IsFaulty tokens r
+RefusesTokens tokens r = IsRefusal tokens r ⊎ IsMistyped tokens r
 
 -- the refusal of a text: at a byte that begins no token, or of its tokens
 abbrev pub RefusesLayers : List ℕ → Refusal → Type 0

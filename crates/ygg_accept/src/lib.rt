@@ -7,12 +7,12 @@ ghost use Rattle.ygg_accept.specs.Accepting.{IsAccepted, RefusesLayers};
 
 use std::alloc::Global;
 use ygg_base::{Refuse, Tokens};
-use ygg_file::read;
 use ygg_lex::tokens;
+use ygg_read::read;
+use ygg_read_unique::one_file_derives;
 use ygg_type::{Typed, check};
-use ygg_unique::one_file_derives;
 
-/// A layer file without a fault, and the tokens that it was read from.
+/// A layer file without a type error, and the tokens that it was read from.
 #[derive(Drop)]
 pub struct Accepted {
     pub tokens: Tokens,
@@ -20,7 +20,7 @@ pub struct Accepted {
 }
 
 /// The one layer file that a text is. A text is refused 1 or 2 at the first byte that begins no token, 3 at the first token that
-/// can't come, and 4 to 10 at the first fault of the file. The other error is want of memory.
+/// can't come, and 4 to 10 at the first type error of the file. The other error is out of memory.
 pub fn accept(alloc: Global, text: &[u8]) -> Result<Accepted, Refuse>
     requires { length text.now ≤ 1048576 }
     ensures accepted { IfOk result (λ a. IsAccepted text.now a.tokens a.typed.file) }

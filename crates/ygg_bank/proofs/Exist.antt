@@ -1,5 +1,32 @@
 -- The values of nodes in order are such as the nodes give one another.
-use Rattle.std.proofs.Common.{◌≡◌, ◌<◌, ◌^◌, ℕ, zero, suc, ◌+◌, ◌==◌, Bool, true, false, if◌then◌else◌, Some, List, [], ◌∷◌, ◌++◌, length, refl, sym, ap, ◌∙◌, subst, arith, slice_get, length-append}
+use Rattle.std.proofs.Common.{
+  ◌≡◌,
+  ◌<◌,
+  ◌^◌,
+  ℕ,
+  zero,
+  suc,
+  ◌+◌,
+  ◌==◌,
+  Bool,
+  true,
+  false,
+  if◌then◌else◌,
+  Some,
+  List,
+  [],
+  ◌∷◌,
+  ◌++◌,
+  length,
+  refl,
+  sym,
+  ap,
+  ◌∙◌,
+  subst,
+  arith,
+  slice_get,
+  length-append,
+}
 use Rattle.std.proofs.lemmas.List.{length_push, get_or_push, get_or_append_left}
 use Rattle.ygg_value.proofs.Results.{apply_to-IsWord, not_of-IsWord, resized-IsWord}
 use Rattle.ygg_value.specs.Number.{Number, IsWord}
@@ -49,7 +76,8 @@ keeps_values old new h inputs k l =
     ∙ stays inputs (values_after inputs [] old) h.more k (omega (arith, after_length inputs [] old))
 
 -- each node has the value that its children give it
-value_from : (inputs : Inputs) (before : List Node) (vs : List Number) (ns : List Node) → length vs ≡ length before → InOrder before ns → (k : ℕ) (n : Node) → slice_get ns k ≡ Some n →
+value_from : (inputs : Inputs) (before : List Node) (vs : List Number) (ns : List Node) → length vs ≡ length before → InOrder before ns →
+    (k : ℕ) (n : Node) → slice_get ns k ≡ Some n →
     reading (values_after inputs vs ns) (length vs + k) ≡ node_value inputs (reading (values_after inputs vs ns)) n
 value_from inputs before vs [] c o k n e = absurd (cc)
 value_from inputs before vs (m ∷ ns) c o zero n e =
@@ -67,7 +95,8 @@ value_from inputs before vs (m ∷ ns) c o (suc k) n e =
     ap (reading (values_after inputs (vs ++ x ∷ []) ns)) place
     ∙ value_from inputs (before ++ m ∷ []) (vs ++ x ∷ []) ns (omega (arith, length_push vs x, length-append before (m ∷ []))) o.1 k n e
 
-pub value_is : (inputs : Inputs) (nodes : List Node) (k : ℕ) (n : Node) → InOrder [] nodes → slice_get nodes k ≡ Some n → value_of inputs nodes k ≡ node_value inputs (value_of inputs nodes) n
+pub value_is : (inputs : Inputs) (nodes : List Node) (k : ℕ) (n : Node) → InOrder [] nodes → slice_get nodes k ≡ Some n →
+    value_of inputs nodes k ≡ node_value inputs (value_of inputs nodes) n
 value_is inputs nodes k n o e =
     let z : 0 + k ≡ k = omega arith in ap (value_of inputs nodes) (sym z) ∙ value_from inputs [] [] nodes refl o k n e
 
@@ -82,7 +111,8 @@ pick_width false a b w e f = f
 child_width : (nodes : List Node) (v : Values) (a : Id) → Wide (widths_of nodes) v → Stands nodes a → (v a.0).width ≡ width_at (widths_of nodes) a
 child_width nodes v a h s = h a.0 (width_at (widths_of nodes) a) (has_width nodes a s)
 
-node_wide : (inputs : Inputs) (nodes : List Node) (v : Values) (n : Node) → Wide (widths_of nodes) v → CanMake nodes n → (node_value inputs v n).width ≡ node_width (widths_of nodes) n
+node_wide : (inputs : Inputs) (nodes : List Node) (v : Values) (n : Node) → Wide (widths_of nodes) v → CanMake nodes n →
+    (node_value inputs v n).width ≡ node_width (widths_of nodes) n
 node_wide inputs nodes v (Input m w) h c = refl
 node_wide inputs nodes v (Const k) h c = refl
 node_wide inputs nodes v (Bin o a b) h c = ap (result_width o) (child_width nodes v a h c.one)
@@ -91,7 +121,8 @@ node_wide inputs nodes v (Resize a w) h c = refl
 node_wide inputs nodes v (Pick t a b) h c =
     pick_width ((v t.0).bits == 1) (v a.0) (v b.0) (width_at (widths_of nodes) a) (child_width nodes v a h c.yes) (child_width nodes v b h c.no ∙ sym c.widths)
 
-push_wide : (ws : List ℕ) (vs : List Number) (w : ℕ) (x : Number) → length ws ≡ length vs → Wide ws (reading vs) → x.width ≡ w → Wide (ws ++ w ∷ []) (reading (vs ++ x ∷ []))
+push_wide : (ws : List ℕ) (vs : List Number) (w : ℕ) (x : Number) → length ws ≡ length vs → Wide ws (reading vs) → x.width ≡ w →
+    Wide (ws ++ w ∷ []) (reading (vs ++ x ∷ []))
 push_wide [] [] w x l h e zero u f = let g : w ≡ u = cc in e ∙ g
 push_wide [] [] w x l h e (suc k) u f = absurd (cc)
 push_wide [] (y ∷ vs) w x l h e k u f = absurd (omega (arith, l))
@@ -99,7 +130,8 @@ push_wide (y ∷ ws) [] w x l h e k u f = absurd (omega (arith, l))
 push_wide (y ∷ ws) (z ∷ vs) w x l h e zero u f = h 0 u f
 push_wide (y ∷ ws) (z ∷ vs) w x l h e (suc k) u f = push_wide ws vs w x (omega (arith, l)) (λ j t g. h (suc j) t g) e k u f
 
-wide_from : (inputs : Inputs) (before : List Node) (vs : List Number) (ns : List Node) → length vs ≡ length before → Wide (widths_of before) (reading vs) → InOrder before ns →
+wide_from : (inputs : Inputs) (before : List Node) (vs : List Number) (ns : List Node) → length vs ≡ length before →
+    Wide (widths_of before) (reading vs) → InOrder before ns →
     Wide (widths_after (widths_of before) ns) (reading (values_after inputs vs ns))
 wide_from inputs before vs [] c h o = h
 wide_from inputs before vs (n ∷ ns) c h o =
@@ -126,12 +158,14 @@ abbrev Given : Inputs → Node → Type 0
 Given inputs (Input m w) = inputs m < 2 ^ w
 Given inputs n = Unit {0}
 
-node_word : (inputs : Inputs) (nodes : List Node) (v : Values) (n : Node) → Wide (widths_of nodes) v → ((k : ℕ) → IsWord (v k)) → Given inputs n → CanMake nodes n → IsWord (node_value inputs v n)
+node_word : (inputs : Inputs) (nodes : List Node) (v : Values) (n : Node) → Wide (widths_of nodes) v → ((k : ℕ) → IsWord (v k)) → Given inputs n →
+    CanMake nodes n → IsWord (node_value inputs v n)
 node_word inputs nodes v (Input m w) h p g c = record { least = c.0.least; most = c.0.most; fits = g }
 node_word inputs nodes v (Const k) h p g c = c
 node_word inputs nodes v (Bin o a b) h p g c =
     apply_to-IsWord o (v a.0) (v b.0) (p a.0) (p b.0)
-    (can_apply-widths o (v a.0) (v b.0) (width_at (widths_of nodes) a) (width_at (widths_of nodes) b) (child_width nodes v a h c.one) (child_width nodes v b h c.two) c.widths)
+    (can_apply-widths o (v a.0) (v b.0) (width_at (widths_of nodes) a) (width_at (widths_of nodes) b) (child_width nodes v a h c.one)
+    (child_width nodes v b h c.two) c.widths)
 node_word inputs nodes v (Not a) h p g c = not_of-IsWord (v a.0) (p a.0)
 node_word inputs nodes v (Resize a w) h p g c = resized-IsWord (v a.0) w c.1.least c.1.most
 node_word inputs nodes v (Pick t a b) h p g c = pick_word ((v t.0).bits == 1) (v a.0) (v b.0) (p a.0) (p b.0)
@@ -150,7 +184,8 @@ given_at inputs (Not a) ns h = tt
 given_at inputs (Resize a w) ns h = tt
 given_at inputs (Pick t a b) ns h = tt
 
-words_from : (inputs : Inputs) (before : List Node) (vs : List Number) (ns : List Node) → length vs ≡ length before → Wide (widths_of before) (reading vs) → ((k : ℕ) → IsWord (reading vs k)) →
+words_from : (inputs : Inputs) (before : List Node) (vs : List Number) (ns : List Node) → length vs ≡ length before →
+    Wide (widths_of before) (reading vs) → ((k : ℕ) → IsWord (reading vs k)) →
     InputsFit inputs ns → InOrder before ns → (k : ℕ) → IsWord (reading (values_after inputs vs ns) k)
 words_from inputs before vs [] c h p g o k = p k
 words_from inputs before vs (n ∷ ns) c h p g o k =
@@ -172,7 +207,8 @@ values_fit inputs nodes o g = record {
 }
 
 -- a made node has the value of the node that was asked for
-pub made_answers : (kinds : List RuleKind) (n : Node) (nodes : List Node) → InOrder [] nodes → CanMake nodes n → AnswersFor nodes n (made kinds n nodes).nodes (made kinds n nodes).value
+pub made_answers : (kinds : List RuleKind) (n : Node) (nodes : List Node) → InOrder [] nodes → CanMake nodes n →
+    AnswersFor nodes n (made kinds n nodes).nodes (made kinds n nodes).value
 made_answers kinds n nodes o c inputs g =
     let new = (made kinds n nodes).nodes in
     let h = values_fit inputs new (made_ordered kinds n nodes o c) g in

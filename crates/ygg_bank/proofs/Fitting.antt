@@ -80,7 +80,8 @@ pub all_drawn : (nodes : List Node) (n : Node) → CanMake nodes n → AllDrawn 
 all_drawn nodes (Input m w) c = tt
 all_drawn nodes (Const k) c = tt
 all_drawn nodes (Bin o a b) c =
-    each (IsDrawn nodes) (bin_of o (operand_of nodes a) (operand_of nodes b)) (drawn nodes a c.one) (some (IsDrawn nodes) (operand_of nodes b) (drawn nodes b c.two)) (none (IsDrawn nodes))
+    each (IsDrawn nodes) (bin_of o (operand_of nodes a) (operand_of nodes b)) (drawn nodes a c.one)
+    (some (IsDrawn nodes) (operand_of nodes b) (drawn nodes b c.two)) (none (IsDrawn nodes))
 all_drawn nodes (Not a) c = each (IsDrawn nodes) (not_of (operand_of nodes a)) (drawn nodes a c) (none (IsDrawn nodes)) (none (IsDrawn nodes))
 all_drawn nodes (Resize a w) c = each (IsDrawn nodes) (resize_of (operand_of nodes a) w) (drawn nodes a c.0) (none (IsDrawn nodes)) (none (IsDrawn nodes))
 all_drawn nodes (Pick t a b) c =

@@ -5,6 +5,7 @@ pub mod Same
 pub mod Made
 pub mod Meaning
 pub mod Exist
+pub mod Inputs
 pub mod Makes
 pub mod Stored
 pub mod Reading

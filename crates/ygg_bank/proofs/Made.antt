@@ -50,7 +50,8 @@ pub added_ordered : (n : Node) (nodes : List Node) → InOrder [] nodes → CanM
 added_ordered n nodes o c = ordered_case nodes n (list_any (same n) nodes) o c
 
 -- the place of an added node holds it
-place_case : (nodes : List Node) (n : Node) (b : Bool) → list_any (same n) nodes ≡ b → slice_get (if b then nodes else nodes ++ n ∷ []) (position_or_len (same n) nodes) ≡ Some n
+place_case : (nodes : List Node) (n : Node) (b : Bool) → list_any (same n) nodes ≡ b →
+    slice_get (if b then nodes else nodes ++ n ∷ []) (position_or_len (same n) nodes) ≡ Some n
 place_case nodes n true e = let f = found (same n) nodes e in f.there ∙ ap (λ m. Some m) (sym (same_is n f.it f.passes))
 place_case nodes n false e = subst (λ k. slice_get (nodes ++ n ∷ []) k ≡ Some n) (sym (last (same n) nodes e)) (at_end nodes n)
 
@@ -102,12 +103,14 @@ can_node nodes v op i j d h =
           (subst (λ w. CanApply op (word w 0) (word h.two.width 0)) (sym a.width) h.fits.can);
     }
 
-rewritten_ordered : (n : Node) (v : Seen) (r : Rewrite) (nodes : List Node) → InOrder [] nodes → CanMake nodes n → ((number : ℕ) → Each (IsDrawn nodes) (operand v number)) →
+rewritten_ordered : (n : Node) (v : Seen) (r : Rewrite) (nodes : List Node) → InOrder [] nodes → CanMake nodes n →
+    ((number : ℕ) → Each (IsDrawn nodes) (operand v number)) →
     IsRight v r → InOrder [] (rewritten n v r nodes).nodes
 rewritten_ordered n v rewrite.Keep nodes o c d h = added_ordered n nodes o c
 rewritten_ordered n v (rewrite.Operand i) nodes o c d h = o
 rewritten_ordered n v (rewrite.Constant k) nodes o c d h = let g = h.names in added_ordered (Const k) nodes o g.word
-rewritten_ordered n v (rewrite.Node op i j) nodes o c d h = added_ordered (Bin op (id_of (operand v i)) (id_of (operand v j))) nodes o (can_node nodes v op i j d h.names)
+rewritten_ordered n v (rewrite.Node op i j) nodes o c d h =
+    added_ordered (Bin op (id_of (operand v i)) (id_of (operand v j))) nodes o (can_node nodes v op i j d h.names)
 
 asked_ordered : (kinds : List RuleKind) (n : Node) (v : Option Seen) (nodes : List Node) → InOrder [] nodes → CanMake nodes n → AllDrawn nodes v → Viewed v →
     InOrder [] (asked kinds n v nodes).nodes
@@ -119,7 +122,8 @@ pub made_ordered : (kinds : List RuleKind) (n : Node) (nodes : List Node) → In
 made_ordered kinds n nodes o c = asked_ordered kinds n (view_of nodes n) nodes o c (all_drawn nodes n c) (viewed nodes n o c)
 
 rewritten_width : (n : Node) (v : Seen) (r : Rewrite) (nodes : List Node) → InOrder [] nodes → ((number : ℕ) → Each (IsDrawn nodes) (operand v number)) →
-    v.width ≡ node_width (widths_of nodes) n → IsRight v r → HasWidth (rewritten n v r nodes).nodes (rewritten n v r nodes).value (node_width (widths_of nodes) n)
+    v.width ≡ node_width (widths_of nodes) n → IsRight v r →
+    HasWidth (rewritten n v r nodes).nodes (rewritten n v r nodes).value (node_width (widths_of nodes) n)
 rewritten_width n v rewrite.Keep nodes o d w h = added_width n nodes o
 rewritten_width n v (rewrite.Operand i) nodes o d w h =
     let g = h.names in let a = named nodes (operand v i) g.it g.there (d i) in
@@ -130,7 +134,8 @@ rewritten_width n v (rewrite.Node op i j) nodes o d w h =
     let g = h.names in let a = named nodes (operand v i) g.one g.one_there (d i) in
     added_width (Bin op (id_of (operand v i)) (id_of (operand v j))) nodes o ∙ ap (λ x. Some x) (ap (result_width op) a.width ∙ sym g.fits.is ∙ w)
 
-asked_width : (kinds : List RuleKind) (n : Node) (v : Option Seen) (nodes : List Node) → InOrder [] nodes → AllDrawn nodes v → Viewed v → WideAs (node_width (widths_of nodes) n) v →
+asked_width : (kinds : List RuleKind) (n : Node) (v : Option Seen) (nodes : List Node) → InOrder [] nodes → AllDrawn nodes v → Viewed v →
+    WideAs (node_width (widths_of nodes) n) v →
     HasWidth (asked kinds n v nodes).nodes (asked kinds n v nodes).value (node_width (widths_of nodes) n)
 asked_width kinds n None nodes o d h w = added_width n nodes o
 asked_width kinds n (Some v) nodes o d h w = rewritten_width n v (book_row kinds v) nodes o d w (book_right kinds v h)

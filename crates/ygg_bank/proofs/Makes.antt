@@ -1,5 +1,42 @@
 -- What `make` answers.
-use Rattle.std.proofs.Common.{◌≡◌, ◌<◌, ◌≤◌, ℕ, zero, suc, ◌⊎◌, inl, inr, slice_get, length, length-append, Bool, true, false, ◌||◌, if◌then◌else◌, Option, Some, None, Result, Ok, Err, OnOk, OnErr, IfOk, List, [], ◌∷◌, ◌++◌, refl, sym, ap, ◌∙◌, subst, arith}
+use Rattle.std.proofs.Common.{
+  ◌≡◌,
+  ◌<◌,
+  ◌≤◌,
+  ℕ,
+  zero,
+  suc,
+  ◌⊎◌,
+  inl,
+  inr,
+  slice_get,
+  length,
+  length-append,
+  Bool,
+  true,
+  false,
+  ◌||◌,
+  if◌then◌else◌,
+  Option,
+  Some,
+  None,
+  Result,
+  Ok,
+  Err,
+  OnOk,
+  OnErr,
+  IfOk,
+  List,
+  [],
+  ◌∷◌,
+  ◌++◌,
+  refl,
+  sym,
+  ap,
+  ◌∙◌,
+  subst,
+  arith,
+}
 use Rattle.std.specs.List.{list_any}
 use Rattle.std.proofs.lemmas.Bool.{cases_lt}
 use Rattle.ygg_rules.specs.Rows.{book_row}
@@ -8,8 +45,10 @@ use Rattle.ygg_rules.specs.declared.rule.RuleKind.{RuleKind}
 use Rattle.ygg_rules.specs.declared.view.Rewrite.{Rewrite}
 use Rattle.ygg_rules.specs.declared.view.Rewrite.TheVariants as rewrite
 use Rattle.ygg_bank.proofs.Exist.{keeps_values, made_answers}
+use Rattle.ygg_bank.proofs.Inputs.{made_inputs, after_too}
+use Rattle.ygg_bank.specs.Inputs.{InputsBelow, next_after}
 use Rattle.ygg_bank.proofs.Made.{made_grows, made_ordered, made_width}
-use Rattle.ygg_bank.proofs.Places.{at_end, here_or_last, there_below}
+use Rattle.ygg_bank.proofs.Places.{here_or_last, last_is}
 use Rattle.ygg_bank.proofs.Same.{same_node}
 use Rattle.ygg_bank.proofs.Widths.{extends_self}
 use Rattle.ygg_bank.specs.Making.{id_of, same, added, rewritten, asked, view_of, made}
@@ -32,14 +71,6 @@ there_any : (nodes : List Node) (n : Node) (k : ℕ) → slice_get nodes k ≡ S
 there_any [] n k e = absurd (cc)
 there_any (x ∷ xs) n zero e = let f : x ≡ n = cc in found_case (same n x) n x (list_any (same n) xs) refl f
 there_any (x ∷ xs) n (suc k) e = or_true (same n x) (list_any (same n) xs) (there_any xs n k e)
-
--- the item at the last place
-last_is : (nodes : List Node) (n m : Node) (k : ℕ) → length nodes ≤ k → slice_get (nodes ++ n ∷ []) k ≡ Some m → (k ≡ length nodes) × (m ≡ n)
-last_is nodes n m k l e =
-    let b = there_below (nodes ++ n ∷ []) k m e in
-    let p : k ≡ length nodes = omega (arith, length-append nodes (n ∷ [])) in
-    let f : Some n ≡ Some m = sym (at_end nodes n) ∙ ap (slice_get (nodes ++ n ∷ [])) (sym p) ∙ e in
-    let g : m ≡ n = cc in (p, g)
 
 absent_there : (nodes : List Node) (n m : Node) (k : ℕ) → list_any (same n) nodes ≡ false → m ≡ n → slice_get nodes k ≡ Some m → ⊥
 absent_there nodes n m k a e f =
@@ -81,16 +112,19 @@ pub record IsMade {E : Type 0} (kinds : List RuleKind) (n : Node) (old new : Lis
   pub grows : Extends old new
   pub keeps : KeepsValues old new
   pub bank : IsBank new
+  pub inputs : (next : ℕ) → InputsBelow next old → InputsBelow (next_after next n) new
 
 is_ok : {E : Type 0} (kinds : List RuleKind) (n : Node) (old new : List Node) (place : Id) → IsBank old → CanMake old n →
     new ≡ (made kinds n old).nodes → place ≡ (made kinds n old).value → IsMade {E = E} kinds n old new (Ok place)
 is_ok kinds n old new place h c e f = record {
   width = subst (λ ns. HasWidth ns place (node_width (widths_of old) n)) (sym e)
       (subst (λ p. HasWidth (made kinds n old).nodes p (node_width (widths_of old) n)) (sym f) (made_width kinds n old h.ordered c));
-  value = subst (λ ns. AnswersFor old n ns place) (sym e) (subst (λ p. AnswersFor old n (made kinds n old).nodes p) (sym f) (made_answers kinds n old h.ordered c));
+  value = subst (λ ns. AnswersFor old n ns place) (sym e)
+      (subst (λ p. AnswersFor old n (made kinds n old).nodes p) (sym f) (made_answers kinds n old h.ordered c));
   grows = subst (Extends old) (sym e) (made_grows kinds n old);
   keeps = subst (KeepsValues old) (sym e) (keeps_values old (made kinds n old).nodes (made_grows kinds n old));
   bank = subst IsBank (sym e) (made_bank kinds n old h c);
+  inputs = λ next k. subst (InputsBelow (next_after next n)) (sym e) (made_inputs kinds n old next k);
 }
 
 pub is_made : {E : Type 0} (kinds : List RuleKind) (n : Node) (old new : List Node) (result : Result Id E) → IsBank old → CanMake old n →
@@ -102,4 +136,5 @@ is_made kinds n old new (Err x) h c e f g = record {
   grows = subst (Extends old) (sym g) (extends_self old);
   keeps = subst (KeepsValues old) (sym g) (keeps_values old old (extends_self old));
   bank = subst IsBank (sym g) h;
+  inputs = λ next k. subst (InputsBelow (next_after next n)) (sym g) (after_too next n old k);
 }

@@ -1,5 +1,35 @@
 -- Items of lists by their places.
-use Rattle.std.proofs.Common.{◌≡◌, ◌<◌, ℕ, zero, suc, ◌+◌, Bool, true, false, cond, not, ◌||◌, List, [], ◌∷◌, ◌++◌, length, Option, Some, refl, sym, ◌∙◌, subst, arith, slice_get, slice_index_or}
+use Rattle.std.proofs.Common.{
+  ◌≡◌,
+  ◌<◌,
+  ◌≤◌,
+  ℕ,
+  zero,
+  suc,
+  ◌+◌,
+  Bool,
+  true,
+  false,
+  cond,
+  not,
+  ◌||◌,
+  List,
+  [],
+  ◌∷◌,
+  ◌++◌,
+  length,
+  length-append,
+  Option,
+  Some,
+  refl,
+  sym,
+  ap,
+  ◌∙◌,
+  subst,
+  arith,
+  slice_get,
+  slice_index_or,
+}
 use Rattle.std.specs.List.{list_any, position_or_len}
 
 -- an item stays where more items come after the list
@@ -37,6 +67,14 @@ pub here_or_last : {X : Type 0} (xs : List X) (y : X) (k : ℕ) (x : X) → slic
 here_or_last [] y k x e h = absurd (omega arith)
 here_or_last (z ∷ xs) y zero x e h = e
 here_or_last (z ∷ xs) y (suc k) x e h = here_or_last xs y k x e (omega arith)
+
+-- the item at the last place
+pub last_is : {X : Type 0} (xs : List X) (y x : X) (k : ℕ) → length xs ≤ k → slice_get (xs ++ y ∷ []) k ≡ Some x → (k ≡ length xs) × (x ≡ y)
+last_is xs y x k l e =
+    let b = there_below (xs ++ y ∷ []) k x e in
+    let p : k ≡ length xs = omega (arith, length-append xs (y ∷ [])) in
+    let f : Some y ≡ Some x = sym (at_end xs y) ∙ ap (slice_get (xs ++ y ∷ [])) (sym p) ∙ e in
+    let g : x ≡ y = cc in (p, g)
 
 later : {X : Type 0} (x : X) (xs : List X) (n : ℕ) (y : Option X) → slice_get xs n ≡ y → slice_get (x ∷ xs) (1 + n) ≡ y
 later x xs n y s = let e : suc n ≡ 1 + n = omega arith in subst (λ k. slice_get (x ∷ xs) k ≡ y) e s

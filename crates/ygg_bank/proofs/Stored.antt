@@ -31,13 +31,15 @@ within self keys ws a e f s = omega (arith, ap length e, ap length f, widths_len
 -- the stored width is the node's
 pub stored_width : (self keys : List Node) (ws : List ℕ) (a : Id) → keys ≡ self → ws ≡ widths_of keys → Stands self a → HasWidth self a (get_or ws a.0 0)
 stored_width self keys ws a e f s =
-    subst (λ ns. HasWidth ns a (get_or ws a.0 0)) e (subst (λ us. slice_get us a.0 ≡ Some (get_or ws a.0 0)) f (get_there ws a.0 0 (within self keys ws a e f s)))
+    subst (λ ns. HasWidth ns a (get_or ws a.0 0)) e (subst (λ us. slice_get us a.0 ≡ Some (get_or ws a.0 0)) f
+    (get_there ws a.0 0 (within self keys ws a e f s)))
 
 pub in_order : (self keys : List Node) → keys ≡ self → IsBank keys → InOrder [] self
 in_order self keys e h = subst (InOrder []) e h.ordered
 
 -- a constant as an operand
-pub constant_operand : (nodes : List Node) (a : Id) (k : Number) (n : Node) → n ≡ Const k → slice_get nodes a.0 ≡ Some n → HasWidth nodes a (node_width (widths_of nodes) n) →
+pub constant_operand : (nodes : List Node) (a : Id) (k : Number) (n : Node) → n ≡ Const k → slice_get nodes a.0 ≡ Some n →
+    HasWidth nodes a (node_width (widths_of nodes) n) →
     (o : Operand) → o ≡ record { id = a.0; width = k.width; known = Some k } → o ≡ operand_of nodes a
 constant_operand nodes a k n e there wide o f =
     let w : width_at (widths_of nodes) a ≡ k.width = width_is nodes a (node_width (widths_of nodes) n) wide ∙ ap (node_width (widths_of nodes)) e in
@@ -52,7 +54,8 @@ added_stored self keys new ws more n w e h f c g i j d =
     let can : CanMake keys n = subst (λ ns. CanMake ns n) (sym e) c in
     let o : InOrder [] (keys ++ n ∷ []) = ordered_more [] keys n h.ordered can in (
       record { ordered = subst (InOrder []) (sym j) o; distinct = subst Distinct (sym j) (distinct_more keys n h.distinct d) },
-      i ∙ ap (λ us. us ++ w ∷ []) f ∙ ap (λ x. widths_of keys ++ x ∷ []) (g ∙ ap (λ ns. node_width (widths_of ns) n) (sym e)) ∙ sym (ap widths_of j ∙ widths_more keys n),
+      i ∙ ap (λ us. us ++ w ∷ []) f ∙ ap (λ x. widths_of keys ++ x ∷ []) (g ∙ ap (λ ns. node_width (widths_of ns) n) (sym e))
+          ∙ sym (ap widths_of j ∙ widths_more keys n),
     )
 
 -- the operation that a book answers can be made

@@ -1,5 +1,29 @@
 -- Widths of nodes.
-use Rattle.std.proofs.Common.{◌≡◌, ◌<◌, ◌≤◌, ℕ, zero, suc, ◌+◌, Some, List, [], ◌∷◌, ◌++◌, length, refl, sym, ap, ◌∙◌, subst, arith, length-append, append_assoc, take, slice_get}
+use Rattle.std.proofs.Common.{
+  ◌≡◌,
+  ◌<◌,
+  ◌≤◌,
+  ℕ,
+  zero,
+  suc,
+  ◌+◌,
+  Some,
+  List,
+  [],
+  ◌∷◌,
+  ◌++◌,
+  length,
+  refl,
+  sym,
+  ap,
+  ◌∙◌,
+  subst,
+  arith,
+  length-append,
+  append_assoc,
+  take,
+  slice_get,
+}
 use Rattle.std.proofs.lemmas.List.{append-nil}
 use Rattle.ygg_value.specs.Number.{Number, IsWord}
 use Rattle.ygg_value.specs.Words.{result_width}
@@ -35,7 +59,8 @@ after_keeps ws (n ∷ ns) k w e = after_keeps (ws ++ node_width ws n ∷ []) ns 
 
 pub wider : (old new : List Node) (a : Id) (w : ℕ) → Extends old new → HasWidth old a w → HasWidth new a w
 wider old new a w h e =
-    subst (λ ns. HasWidth ns a w) (sym h.is) (subst (λ ws. slice_get ws a.0 ≡ Some w) (sym (after_append [] old h.more)) (after_keeps (widths_of old) h.more a.0 w e))
+    subst (λ ns. HasWidth ns a w) (sym h.is) (subst (λ ws. slice_get ws a.0 ≡ Some w) (sym (after_append [] old h.more))
+    (after_keeps (widths_of old) h.more a.0 w e))
 
 pub has_width : (nodes : List Node) (a : Id) → Stands nodes a → HasWidth nodes a (width_at (widths_of nodes) a)
 has_width nodes a h = below_there (widths_of nodes) a.0 (omega (arith, widths_length nodes))
@@ -63,7 +88,8 @@ extends_length a b h = omega (arith, ap length h.is, length-append a h.more)
 same_width : (ws : List ℕ) (ns : List Node) (a : Id) → a.0 < length ws → width_at ws a ≡ width_at (widths_after ws ns) a
 same_width ws ns a h = sym (item_is (widths_after ws ns) a.0 (width_at ws a) (after_keeps ws ns a.0 (width_at ws a) (below_there ws a.0 h)))
 
-node_keeps : (before : List Node) (ns : List Node) (n : Node) → CanMake before n → node_width (widths_of before) n ≡ node_width (widths_after (widths_of before) ns) n
+node_keeps : (before : List Node) (ns : List Node) (n : Node) → CanMake before n →
+    node_width (widths_of before) n ≡ node_width (widths_after (widths_of before) ns) n
 node_keeps before ns (Input m w) c = refl
 node_keeps before ns (Const k) c = refl
 node_keeps before ns (Bin o a b) c = let h = c.one in ap (result_width o) (same_width (widths_of before) ns a (omega (arith, widths_length before)))

@@ -2,3 +2,4 @@ pub mod Nodes
 pub mod Makes
 pub mod Making
 pub mod Values
+pub mod Inputs

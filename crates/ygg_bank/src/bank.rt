@@ -1,7 +1,8 @@
 //! The bank.
 
-ghost use Rattle.std.specs.Prelude.{◌≡◌, ◌<◌, length, slice_get, take, Some, IfOk, OnOk, OnErr, []};
+ghost use Rattle.std.specs.Prelude.{ℕ, ◌≡◌, ◌<◌, length, slice_get, take, Some, IfOk, OnOk, OnErr, []};
 ghost use Rattle.ygg_rules.specs.Views.{IsOperand, IsWidth, operand};
+ghost use Rattle.ygg_bank.specs.Inputs.{InputsBelow, next_after};
 ghost use Rattle.ygg_bank.specs.Making.{made, added, operand_of, view_of, id_of};
 ghost use Rattle.ygg_bank.specs.Nodes.{CanMake, Extends, HasWidth, InOrder, IsBank, Stands, node_width, width_at, widths_of};
 ghost use Rattle.ygg_bank.specs.Values.{AnswersFor, AreValues, EnvFits, KeepsValues, inputs_of, value_of};
@@ -36,7 +37,7 @@ impl Model for Bank {
 }
 
 impl Bank {
-    /// The bank without nodes. Its only error is want of memory.
+    /// The bank without nodes. Its only error is out of memory.
     pub fn new(alloc: Global) -> Result<Bank, NoMemory>
         ensures { IfOk result (λ bank. bank ≡ []) }
     {
@@ -44,6 +45,13 @@ impl Bank {
             nodes: IndexSet::new(alloc),
             widths: Vec::new(alloc),
         })
+    }
+
+    /// The allocator that the bank grows by, for what is built beside it. It takes no memory.
+    pub fn allocator(&self) -> Global
+        ensures { IsBank self.now }
+    {
+        *self.nodes.allocator()
     }
 
     /// How many nodes there are. It takes no memory.
@@ -86,7 +94,7 @@ impl Bank {
     }
 
     /// The value of a node: the operations applied to what the environment gives, in one pass over the nodes before it. Its only
-    /// error is want of memory.
+    /// error is out of memory.
     pub fn value(&self, alloc: Global, id: Id, env: &Env) -> Result<Word, NoMemory>
         requires stands { Stands self.now id }
         requires env { EnvFits env.now self.now }
@@ -171,7 +179,7 @@ impl Bank {
         }
     }
 
-    /// The place of a node, which is added where it isn't there. After want of memory the bank is as before.
+    /// The place of a node, which is added where it isn't there. After running out of memory the bank is as before.
     fn add(&mut self, node: Node) -> Result<Id, NoMemory>
         requires { CanMake self.old node }
         ensures nodes { OnOk result (self.new ≡ (added node self.old).nodes) }
@@ -197,7 +205,7 @@ impl Bank {
     }
 
     /// The node of this value, in every environment: what the book names in its stead, or the node itself, where it stands or is added.
-    /// The book is asked once, and of inputs and constants it is asked nothing. After want of memory, which is the only error, the
+    /// The book is asked once, and of inputs and constants it is asked nothing. After running out of memory, which is the only error, the
     /// bank is as before.
     pub fn make<B: Book>(&mut self, node: Node, book: &B) -> Result<Id, NoMemory>
         requires { CanMake self.old node }
@@ -208,6 +216,7 @@ impl Bank {
         ensures grows { Extends self.old self.new }
         ensures keeps { KeepsValues self.old self.new }
         ensures bank { IsBank self.new }
+        ensures inputs { (next : ℕ) → InputsBelow next self.old → InputsBelow (next_after next node) self.new }
         ensures err { OnErr result (self.new ≡ self.old) }
     {
         self.make_by(node, book)

@@ -1,13 +1,44 @@
 -- What the tokens of a text are, or why it is refused.
-use Rattle.std.specs.Prelude.{ℕ, ◌+◌, ◌*◌, ◌-◌, ◌^◌, Bool, true, false, not, ◌==◌, ◌||◌, ◌&&◌, nat_le, nat_lt, if◌then◌else◌, List, [], ◌∷◌, ◌++◌, Option, Some, None, option_map, is_some, Result, Ok, Err}
+use Rattle.std.specs.Prelude.{
+  ℕ,
+  ◌+◌,
+  ◌*◌,
+  ◌-◌,
+  ◌^◌,
+  Bool,
+  true,
+  false,
+  not,
+  ◌==◌,
+  ◌||◌,
+  ◌&&◌,
+  nat_le,
+  nat_lt,
+  if◌then◌else◌,
+  List,
+  [],
+  ◌∷◌,
+  ◌++◌,
+  Option,
+  Some,
+  None,
+  option_map,
+  is_some,
+  Result,
+  Ok,
+  Err,
+}
 use Rattle.std.specs.Str.{bytes_eq}
 use Rattle.ygg_base.specs.declared.failure.Refusal.{Refusal}
+use Rattle.ygg_base.specs.declared.reason.Reason.{Reason}
+use Rattle.ygg_base.specs.declared.reason.Reason.TheVariants as reason
 use Rattle.ygg_base.specs.declared.token.Keyword.{Keyword}
 use Rattle.ygg_base.specs.declared.token.Symbol.{Symbol}
 use Rattle.ygg_base.specs.declared.token.Mark.{Mark}
 use Rattle.ygg_base.specs.declared.token.Mark.TheVariants as mark
 use Rattle.ygg_base.specs.declared.token.Token.{Token}
 use Rattle.ygg_base.specs.declared.tokens.Tokens.{Tokens}
+use Rattle.ygg_base.specs.Reason.{refusal_at}
 use Rattle.ygg_base.specs.Spelling.{keyword_bytes, symbol_bytes, keywords, symbols}
 
 -- a lower-case letter
@@ -67,7 +98,8 @@ number_of digits =
 abbrev pub word_of : List ℕ → Mark
 word_of part = elim (keyword_of part) [ Some keyword ↦ mark.Keyword keyword | None ↦ mark.Name part ]
 
--- whether a byte makes the token or the comment that begins with these bytes longer: a comment goes on up to its line feed, a word by letters, digits and `_`, a run of digits by
+-- whether a byte makes the token or the comment that begins with these bytes longer: a comment goes on up to its line feed, a word by letters, digits
+-- and `_`, a run of digits by
 -- digits, and a sign where both bytes are a symbol
 abbrev pub extends : List ℕ → ℕ → Bool
 extends [] b = false
@@ -90,8 +122,8 @@ abbrev pub Lexed : Type 0
 Lexed = Result Tokens Refusal
 
 -- a refusal at its place
-abbrev pub refused : ℕ → ℕ → ℕ → Lexed
-refused number line column = Err (record { number = number; line = line; column = column })
+abbrev pub refused : Reason → ℕ → ℕ → Lexed
+refused why line column = Err (refusal_at why line column)
 
 -- no token up to the end of the text
 abbrev pub ended : ℕ → ℕ → Lexed
@@ -104,7 +136,7 @@ after_these items (Err refusal) = Err refusal
 
 -- the token at this place, and then others; bytes that are no token are refused there
 abbrev pub token_before : Option Mark → ℕ → ℕ → Lexed → Lexed
-token_before None line column others = refused 2 line column
+token_before None line column others = refused reason.Token line column
 token_before (Some what) line column others = after_these (record { mark = what; line = line; column = column } ∷ []) others
 
 -- the token of the bytes before this, if there are any and they are no comment, and then others
@@ -124,11 +156,12 @@ line_after b line = if b == 10 then line + 1 else line
 abbrev pub column_after : ℕ → ℕ → ℕ
 column_after b column = if b == 10 then 1 else column + 1
 
--- What is left of a text gives, after these bytes of a token or comment that has begun in that column of the line; the next byte stands in the column after them.
+-- What is left of a text gives, after these bytes of a token or comment that has begun in that column of the line; the next byte stands in the column
+-- after them.
 abbrev pub lex : List ℕ → ℕ → ℕ → ℕ → List ℕ → Lexed
 lex part begun line column [] = closed part line begun (ended line column)
 lex part begun line column (b ∷ bs) =
-    if is_past_ascii b then closed part line begun (refused 1 line column)
+    if is_past_ascii b then closed part line begun (refused reason.NotAscii line column)
     else if extends part b then lex (part ++ b ∷ []) begun line (column + 1) bs
     else closed part line begun (lex (begin b) column (line_after b line) (column_after b column) bs)
 

@@ -1,5 +1,6 @@
 pub mod Failure
 pub mod Lexing
 pub mod Outside
+pub mod Reason
 pub mod Spelling
 pub mod Status

@@ -84,12 +84,18 @@ symbol_bytes symbol.Arrow = codes "->"
 -- all keywords
 abbrev pub keywords : List Keyword
 keywords =
-    word.Yggdrasil ∷ word.Disk ∷ word.Sync ∷ word.Async ∷ word.Of ∷ word.Def ∷ word.Word ∷ word.Row ∷ word.Table ∷ word.Layer ∷ word.State ∷ word.Start ∷ word.Memory ∷ word.Format ∷ word.Op ∷ word.Crash ∷ word.Tick ∷ word.Recover ∷ word.Relate ∷ word.Always ∷ word.Settled ∷ word.Maybe ∷ word.Spec ∷ word.On ∷ word.Impl ∷ word.Low ∷ word.Pick ∷ word.Resize ∷ word.Fill ∷ word.All ∷ word.Any ∷ word.Below ∷ word.Return ∷ word.Let ∷ word.If ∷ word.Else ∷ word.For ∷ word.Call ∷ word.Choose ∷ []
+    word.Yggdrasil ∷ word.Disk ∷ word.Sync ∷ word.Async ∷ word.Of ∷ word.Def ∷ word.Word ∷ word.Row ∷ word.Table ∷ word.Layer ∷ word.State
+    ∷ word.Start ∷ word.Memory ∷ word.Format ∷ word.Op ∷ word.Crash ∷ word.Tick ∷ word.Recover ∷ word.Relate ∷ word.Always ∷ word.Settled
+    ∷ word.Maybe ∷ word.Spec ∷ word.On ∷ word.Impl ∷ word.Low ∷ word.Pick ∷ word.Resize ∷ word.Fill ∷ word.All ∷ word.Any ∷ word.Below
+    ∷ word.Return ∷ word.Let ∷ word.If ∷ word.Else ∷ word.For ∷ word.Call ∷ word.Choose ∷ []
 
 -- all symbols
 abbrev pub symbols : List Symbol
 symbols =
-    symbol.BraceOpen ∷ symbol.BraceClose ∷ symbol.RoundOpen ∷ symbol.RoundClose ∷ symbol.SquareOpen ∷ symbol.SquareClose ∷ symbol.Semicolon ∷ symbol.Colon ∷ symbol.Comma ∷ symbol.Dot ∷ symbol.Assign ∷ symbol.Equal ∷ symbol.NotEqual ∷ symbol.Less ∷ symbol.LessOrEqual ∷ symbol.Greater ∷ symbol.GreaterOrEqual ∷ symbol.Plus ∷ symbol.Minus ∷ symbol.Star ∷ symbol.Ampersand ∷ symbol.Bar ∷ symbol.Caret ∷ symbol.Tilde ∷ symbol.ShiftLeft ∷ symbol.ShiftRight ∷ symbol.Implies ∷ symbol.Arrow ∷ []
+    symbol.BraceOpen ∷ symbol.BraceClose ∷ symbol.RoundOpen ∷ symbol.RoundClose ∷ symbol.SquareOpen ∷ symbol.SquareClose ∷ symbol.Semicolon
+    ∷ symbol.Colon ∷ symbol.Comma ∷ symbol.Dot ∷ symbol.Assign ∷ symbol.Equal ∷ symbol.NotEqual ∷ symbol.Less ∷ symbol.LessOrEqual
+    ∷ symbol.Greater ∷ symbol.GreaterOrEqual ∷ symbol.Plus ∷ symbol.Minus ∷ symbol.Star ∷ symbol.Ampersand ∷ symbol.Bar ∷ symbol.Caret
+    ∷ symbol.Tilde ∷ symbol.ShiftLeft ∷ symbol.ShiftRight ∷ symbol.Implies ∷ symbol.Arrow ∷ []
 
 -- how a token is written: a name as it is, a number in decimal digits
 abbrev pub mark_bytes : Mark → List ℕ

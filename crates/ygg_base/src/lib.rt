@@ -3,8 +3,10 @@
 #![tactic(auto)]
 
 mod failure;
+mod geometry;
 mod lists;
 mod outside;
+mod reason;
 mod shelf;
 mod sink;
 mod status;
@@ -12,8 +14,10 @@ mod token;
 mod tokens;
 
 pub use failure::{Refusal, Refuse};
+pub use geometry::{DiskKind, Geometry};
 pub use lists::{Bits, Files, Held, Numbers, Text};
 pub use outside::{Fetch, Library, Moved, Sink};
+pub use reason::Reason;
 pub use shelf::Shelf;
 pub use sink::TextSink;
 pub use status::{Status, status_number};

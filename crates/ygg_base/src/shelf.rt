@@ -1,4 +1,4 @@
-ghost use Rattle.std.specs.Prelude.{◌≡◌, ℕ, ◌≤◌, List, Option, Some, IfSome, length};
+ghost use Rattle.std.specs.Prelude.{◌≡◌, ℕ, ◌≤◌, List, [], Option, Some, IfSome, length};
 ghost use Rattle.std.specs.Option.{option_copied};
 ghost use Rattle.ygg_base.specs.Outside.{Rose, bytes_of, FitsFile, IsWithin};
 
@@ -22,6 +22,7 @@ impl Shelf {
     pub fn new(alloc: Global, files: Files, fails: Numbers) -> Shelf
         ensures told { ⟦<Shelf as Library>⟧.files result ≡ Some files }
         ensures quiet { ⟦<Shelf as Library>⟧.faults result ≡ 0 }
+        ensures fails { result.fails ≡ fails }
     {
         Shelf {
             alloc,
@@ -67,7 +68,17 @@ impl Library for Shelf {
 
     ghost faults = { λ s. s.faults };
 
-    fn fetch(&mut self, name: &Text, limit: u64) -> Fetch {
+    /// The bytes of a file, as every library answers; without calls that are to fail it never fails.
+    fn fetch(&mut self, name: &Text, limit: u64) -> Fetch
+        ensures within { IsWithin limit result }
+        ensures told { IfSome (Some self.old.files) (λ held. FitsFile (bytes_of held name.now) limit result) }
+        ensures kept { Some self.new.files ≡ Some self.old.files }
+        ensures later { self.old.faults ≤ self.new.faults }
+        ensures cause { result ≡ Fetch.Failed → Rose self.old.faults self.new.faults }
+        ensures fails { self.new.fails ≡ self.old.fails }
+        ensures never { self.old.fails ≡ [] → result ≡ Fetch.Failed → ⊥ }
+        ensures quiet { self.old.fails ≡ [] → self.new.faults ≡ self.old.faults }
+    {
         self.calls = self.calls.saturating_add(1);
         if self.fails.as_slice().contains(&self.calls) {
             self.faults = self.faults.saturating_add(1);

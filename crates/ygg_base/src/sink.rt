@@ -1,4 +1,5 @@
-ghost use Rattle.std.specs.Prelude.{◌≡◌, ℕ, ◌≤◌, List, [], Option, Some, IfOk, vec_capacity};
+ghost use Rattle.std.specs.Prelude.{◌≡◌, ℕ, ◌≤◌, ◌+◌, List, [], Option, Some, IfOk, length, vec_capacity};
+ghost use Rattle.ygg_base.specs.Outside.{Rose, PutGives};
 
 use crate::lists::Numbers;
 use crate::outside::{Moved, Sink};
@@ -18,10 +19,12 @@ pub struct TextSink {
 
 impl TextSink {
     /// Room for so many bytes, and the numbers of the calls that are to fail, counted from 1. A call whose
-    /// bytes don't fit the room that is left fails too. Its only error is want of memory.
+    /// bytes don't fit the room that is left fails too. Its only error is out of memory.
     pub fn new(alloc: Global, room: usize, fails: Numbers) -> Result<TextSink, NoMemory>
         ensures told { IfOk result (λ sink. ⟦<TextSink as Sink>⟧.taken sink ≡ Some []) }
         ensures quiet { IfOk result (λ sink. ⟦<TextSink as Sink>⟧.faults sink ≡ 0) }
+        ensures fails { IfOk result (λ sink. sink.fails ≡ fails) }
+        ensures room { IfOk result (λ sink. sink.room ≡ room) }
     {
         match Vec::with_capacity(alloc, room) {
             Ok(text) => Ok(TextSink {
@@ -50,7 +53,16 @@ impl Sink for TextSink {
 
     ghost faults = { λ s. s.faults };
 
-    fn put(&mut self, bytes: &[u8]) -> Moved {
+    /// Takes all the bytes, as every sink does; where they fit the room that is left, and without calls that are to fail, it takes them.
+    fn put(&mut self, bytes: &[u8]) -> Moved
+        ensures told { PutGives (Some self.old.text.items) bytes.now result (Some self.new.text.items) }
+        ensures later { self.old.faults ≤ self.new.faults }
+        ensures cause { result ≡ Moved.Failed → Rose self.old.faults self.new.faults }
+        ensures fails { self.new.fails ≡ self.old.fails }
+        ensures room { self.new.room ≡ self.old.room }
+        ensures taken { self.old.fails ≡ [] → length self.old.text.items + length bytes.now ≤ self.old.room → result ≡ Moved.Done }
+        ensures quiet { result ≡ Moved.Done → self.new.faults ≡ self.old.faults }
+    {
         self.calls = self.calls.saturating_add(1);
         if self.fails.as_slice().contains(&self.calls)
             || bytes.len() > self.room - self.text.len().min(self.room)

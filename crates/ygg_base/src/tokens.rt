@@ -26,7 +26,7 @@ impl Tokens {
         }
     }
 
-    /// Adds a token at the end. After want of memory the tokens are as before.
+    /// Adds a token at the end. After running out of memory the tokens are as before.
     pub fn push(&mut self, token: Token) -> Result<(), NoMemory>
         ensures ok { OnOk result (self.new.items ≡ self.old.items ++ token ∷ []) }
         ensures err { OnErr result (self.new ≡ self.old) }
@@ -36,7 +36,7 @@ impl Tokens {
         self.items.push(token)
     }
 
-    /// Equal tokens. Its only error is want of memory.
+    /// Equal tokens. Its only error is out of memory.
     pub fn copy(&self, alloc: Global) -> Result<Tokens, NoMemory>
         ensures { IfOk result (λ copy. copy ≡ self.now) }
     {

@@ -1,5 +1,37 @@
 -- Groups of the nodes at ascending places, with nothing between them.
-use Rattle.std.proofs.Common.{◌≡◌, ◌≢◌, ◌<◌, ◌≤◌, ℕ, zero, suc, ◌+◌, ◌-◌, ◌^◌, ◌||◌, true, false, List, [], ◌∷◌, ◌++◌, length, drop, get_or, replicate, Some, slice_get, refl, sym, subst, ap, ◌∙◌, append_assoc, length-append, arith}
+use Rattle.std.proofs.Common.{
+  ◌≡◌,
+  ◌≢◌,
+  ◌<◌,
+  ◌≤◌,
+  ℕ,
+  zero,
+  suc,
+  ◌+◌,
+  ◌-◌,
+  ◌^◌,
+  ◌||◌,
+  true,
+  false,
+  List,
+  [],
+  ◌∷◌,
+  ◌++◌,
+  length,
+  drop,
+  get_or,
+  replicate,
+  Some,
+  slice_get,
+  refl,
+  sym,
+  subst,
+  ap,
+  ◌∙◌,
+  append_assoc,
+  length-append,
+  arith,
+}
 use Rattle.std.proofs.lemmas.Bool.{eq-eqb, ne_eqb}
 use Rattle.std.proofs.lemmas.List.{append-nil, drop_more, drop_all, length-replicate}
 use Rattle.ygg_cnf.specs.declared.lit.Lit.{Lit}
@@ -12,7 +44,7 @@ use Rattle.ygg_gates.specs.declared.gate.Gate.{Gate}
 use Rattle.ygg_blast.specs.Places.{has_place, AllFrom, AllBelow, Ascends}
 use Rattle.ygg_blast.proofs.Steps.{Grouping, groups_begin, groups_go, groups_are}
 
--- with so many nodes more that have no digits
+-- with so many nodes more that have no bits
 abbrev pub skipped : Circuit → ℕ → Circuit
 skipped c k = circuit (c.table ++ replicate k []) c.sources c.gates
 
@@ -21,7 +53,8 @@ there [] i l = absurd (omega (arith, l))
 there (x ∷ xs) zero l = (x, refl)
 there (x ∷ xs) (suc i) l = there xs i (omega (arith, l))
 
-groups_skip : (nodes : List Node) (term : Id) (k i : ℕ) (now : Circuit) → Stands nodes term → i + k ≤ term.0 + 1 → ((p : ℕ) → i ≤ p → p < i + k → reaches nodes term p ≡ false) →
+groups_skip : (nodes : List Node) (term : Id) (k i : ℕ) (now : Circuit) → Stands nodes term → i + k ≤ term.0 + 1 →
+    ((p : ℕ) → i ≤ p → p < i + k → reaches nodes term p ≡ false) →
     Grouping nodes term i now → Grouping nodes term (i + k) (skipped now k)
 groups_skip nodes term zero i now s l none g =
     let e : i + 0 ≡ i = omega arith in
@@ -55,10 +88,19 @@ from_zero : (ks : List ℕ) → AllFrom 0 ks
 from_zero [] = tt
 from_zero (k ∷ ks) = (omega arith, from_zero ks)
 
-pub fill_begins : (nodes : List Node) (term : Id) (places : List ℕ) → Ascends places → AllBelow (term.0 + 1) places → ((p : ℕ) → has_place places p ≡ reaches nodes term p) → Filling nodes term no_nodes places
-fill_begins nodes term places a b h = record { group = groups_begin nodes term; within = omega arith; ascends = a; from = from_zero places; below = b; left = λ p l. h p }
+pub fill_begins : (nodes : List Node) (term : Id) (places : List ℕ) → Ascends places → AllBelow (term.0 + 1) places →
+    ((p : ℕ) → has_place places p ≡ reaches nodes term p) → Filling nodes term no_nodes places
+fill_begins nodes term places a b h = record {
+  group = groups_begin nodes term;
+  within = omega arith;
+  ascends = a;
+  from = from_zero places;
+  below = b;
+  left = λ p l. h p;
+}
 
-pub fill_goes : (nodes : List Node) (term : Id) (now next : Circuit) (place : ℕ) (rest : List ℕ) (n : Node) → Stands nodes term → slice_get nodes place ≡ Some n →
+pub fill_goes : (nodes : List Node) (term : Id) (now next : Circuit) (place : ℕ) (rest : List ℕ) (n : Node) → Stands nodes term →
+    slice_get nodes place ≡ Some n →
     next ≡ with_node true n (skipped now (place - length now.table)) → Filling nodes term now (place ∷ rest) → Filling nodes term next rest
 fill_goes nodes term now next place rest n s at e f =
     let i : ℕ = length now.table in
@@ -69,7 +111,8 @@ fill_goes nodes term now next place rest n s at e f =
     = λ p q r.
     let d : place ≢ p = λ t. omega (arith, sum, r, t) in
     sym (f.left p q) ∙ ap (λ z. z || has_place rest p) (ne_eqb place p d) ∙ none_below (place + 1) rest p f.ascends.0 (omega (arith, sum, r)) in
-    let gone = subst (λ m. Grouping nodes term m (skipped now (place - i))) sum (groups_skip nodes term (place - i) i now s (omega (arith, sum, b)) none f.group) in
+    let gone = subst (λ m. Grouping nodes term m (skipped now (place - i))) sum
+    (groups_skip nodes term (place - i) i now s (omega (arith, sum, b)) none f.group) in
     let here : true ≡ reaches nodes term place = sym (ap (λ z. z || has_place rest place) (eq-eqb place place refl)) ∙ f.left place l in
     let made = groups_go nodes term place (skipped now (place - i)) n true next b at here e gone in
     let count : length next.table ≡ place + 1 = made.count in
@@ -84,7 +127,8 @@ fill_goes nodes term now next place rest n s at e f =
           sym (ap (λ z. z || has_place rest p) (ne_eqb place p d)) ∙ f.left p (omega (arith, count, q, l));
     }
 
-pub fill_ends : (nodes : List Node) (term : Id) (now last : Circuit) → Stands nodes term → last ≡ skipped now (term.0 + 1 - length now.table) → Filling nodes term now [] → last ≡ circuit_of nodes term
+pub fill_ends : (nodes : List Node) (term : Id) (now last : Circuit) → Stands nodes term → last ≡ skipped now (term.0 + 1 - length now.table) →
+    Filling nodes term now [] → last ≡ circuit_of nodes term
 fill_ends nodes term now last s e f =
     let i : ℕ = length now.table in
     let w = f.within in
@@ -93,12 +137,15 @@ fill_ends nodes term now last s e f =
     e ∙ groups_are nodes term (i + (term.0 + 1 - i)) (skipped now (term.0 + 1 - i)) (omega (arith, sum)) all
 
 -- the same by the places from an index on
-pub fill_next : (nodes : List Node) (term : Id) (now next : Circuit) (places : List ℕ) (i d : ℕ) (n : Node) → i < length places → Stands nodes term → slice_get nodes (get_or places i d) ≡ Some n →
-    next ≡ with_node true n (skipped now (get_or places i d - length now.table)) → Filling nodes term now (drop i places) → Filling nodes term next (drop (i + 1) places)
+pub fill_next : (nodes : List Node) (term : Id) (now next : Circuit) (places : List ℕ) (i d : ℕ) (n : Node) → i < length places → Stands nodes term →
+    slice_get nodes (get_or places i d) ≡ Some n →
+    next ≡ with_node true n (skipped now (get_or places i d - length now.table)) → Filling nodes term now (drop i places) →
+    Filling nodes term next (drop (i + 1) places)
 fill_next nodes term now next places i d n l s at e f =
     fill_goes nodes term now next (get_or places i d) (drop (i + 1) places) n s at e (subst (Filling nodes term now) (drop_more places i d l) f)
 
-pub fill_begins_with : (nodes : List Node) (term : Id) (places : List ℕ) (table : List (List Lit)) (sources : List Variables) (gates : List Gate) → table ≡ [] → sources ≡ [] → gates ≡ [] → Ascends places →
+pub fill_begins_with : (nodes : List Node) (term : Id) (places : List ℕ) (table : List (List Lit)) (sources : List Variables) (gates : List Gate) →
+    table ≡ [] → sources ≡ [] → gates ≡ [] → Ascends places →
     AllBelow (term.0 + 1) places → ((p : ℕ) → has_place places p ≡ reaches nodes term p) → Filling nodes term (circuit table sources gates) places
 fill_begins_with nodes term places table sources gates e f g a b h =
     let same : no_nodes ≡ circuit table sources gates = sym (ap (λ t. circuit t sources gates) e ∙ ap (λ s. circuit [] s gates) f ∙ ap (circuit [] []) g) in
@@ -111,7 +158,8 @@ from_at : (least : ℕ) (places : List ℕ) (i d : ℕ) → i < length places �
 from_at least places i d l h = let b = subst (AllFrom least) (drop_more places i d l) h in b.0
 
 -- a table that goes on to one of the places is short enough
-pub short_enough : (nodes : List Node) (term : Id) (now : Circuit) (places : List ℕ) (i d count : ℕ) (table : List (List Lit)) → i < length places → Stands nodes term → count ≡ length nodes → count < 2 ^ 64 →
+pub short_enough : (nodes : List Node) (term : Id) (now : Circuit) (places : List ℕ) (i d count : ℕ) (table : List (List Lit)) → i < length places →
+    Stands nodes term → count ≡ length nodes → count < 2 ^ 64 →
     table ≡ now.table ++ replicate (get_or places i d - length now.table) [] → Filling nodes term now (drop i places) → length table + 1 < 2 ^ 64
 short_enough nodes term now places i d count table l s c m e f =
     let b = below_at (term.0 + 1) places i d l f.below in
@@ -121,5 +169,6 @@ short_enough nodes term now places i d count table l s c m e f =
     omega (arith, b, s, c, m, low, size, length-append now.table (replicate k []), length-replicate {A = List Lit} k [])
 
 -- no place is left after the last
-pub none_left : (nodes : List Node) (term : Id) (now : Circuit) (places : List ℕ) (i : ℕ) → length places ≤ i → Filling nodes term now (drop i places) → Filling nodes term now []
+pub none_left : (nodes : List Node) (term : Id) (now : Circuit) (places : List ℕ) (i : ℕ) → length places ≤ i → Filling nodes term now (drop i places)
+    → Filling nodes term now []
 none_left nodes term now places i l f = subst (Filling nodes term now) (drop_all i places l) f

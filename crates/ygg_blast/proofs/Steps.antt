@@ -1,5 +1,30 @@
 -- Loops over gates and nodes make the clauses and gates of all of them.
-use Rattle.std.proofs.Common.{◌≡◌, ◌<◌, ◌≤◌, ℕ, suc, ◌+◌, Bool, true, false, List, [], ◌∷◌, ◌++◌, length, drop, get_or, Some, slice_get, refl, sym, ap, ◌∙◌, append_assoc, arith}
+use Rattle.std.proofs.Common.{
+  ◌≡◌,
+  ◌<◌,
+  ◌≤◌,
+  ℕ,
+  suc,
+  ◌+◌,
+  Bool,
+  true,
+  false,
+  List,
+  [],
+  ◌∷◌,
+  ◌++◌,
+  length,
+  drop,
+  get_or,
+  Some,
+  slice_get,
+  refl,
+  sym,
+  ap,
+  ◌∙◌,
+  append_assoc,
+  arith,
+}
 use Rattle.std.proofs.lemmas.List.{drop_more, drop_all, append-nil, length-take, length_push, get_or-take}
 use Rattle.std.proofs.lemmas.Option.{slice_get_within, get_or_from_slice_get}
 use Rattle.ygg_cnf.specs.declared.lit.Lit.{Lit}
@@ -17,7 +42,8 @@ pub record Clausal (gates : List Gate) (old : List (List Lit)) (i : ℕ) (now : 
 pub clauses_begin : (gates : List Gate) (old : List (List Lit)) → Clausal gates old 0 old
 clauses_begin gates old = record { all = refl }
 
-pub clauses_go : (gates : List Gate) (old : List (List Lit)) (i : ℕ) (now : List (List Lit)) (g d : Gate) (o : Lit) (next : List (List Lit)) → i < length gates →
+pub clauses_go : (gates : List Gate) (old : List (List Lit)) (i : ℕ) (now : List (List Lit)) (g d : Gate) (o : Lit) (next : List (List Lit)) →
+    i < length gates →
     g ≡ get_or gates i d → o ≡ literal (i + 2) → next ≡ now ++ gate_clauses o g → Clausal gates old i now → Clausal gates old (i + 1) next
 clauses_go gates old i now g d o next l e f h s =
     let rest = clauses_from (suc (i + 2)) (drop (i + 1) gates) in
@@ -31,7 +57,8 @@ clauses_go gates old i now g d o next l e f h s =
           ∙ ap (λ z. now ++ clauses_from (i + 2) z) (sym (drop_more gates i d l)) ∙ s.all;
     }
 
-pub clauses_are : (gates : List Gate) (old : List (List Lit)) (i : ℕ) (now : List (List Lit)) → length gates ≤ i → Clausal gates old i now → now ≡ old ++ clauses_from 2 gates
+pub clauses_are : (gates : List Gate) (old : List (List Lit)) (i : ℕ) (now : List (List Lit)) → length gates ≤ i → Clausal gates old i now → now ≡ old
+    ++ clauses_from 2 gates
 clauses_are gates old i now l s = sym (append-nil now) ∙ ap (λ z. now ++ clauses_from (i + 2) z) (sym (drop_all i gates l)) ∙ s.all
 
 -- what is made of the first nodes, with what the rest will make, is the whole
@@ -46,7 +73,8 @@ length_with : (b : Bool) (n : Node) (c : Circuit) → length (with_node b n c).t
 length_with false n c = length_push c.table []
 length_with true n c = length_push c.table _
 
-pub first_nodes : (nodes : List Node) (term : Id) (i : ℕ) (n : Node) → i < term.0 + 1 → slice_get nodes i ≡ Some n → drop i (up_to term nodes) ≡ n ∷ drop (i + 1) (up_to term nodes)
+pub first_nodes : (nodes : List Node) (term : Id) (i : ℕ) (n : Node) → i < term.0 + 1 → slice_get nodes i ≡ Some n →
+    drop i (up_to term nodes) ≡ n ∷ drop (i + 1) (up_to term nodes)
 first_nodes nodes term i n l e =
     let h : i < length (up_to term nodes) = omega (arith, length-take (term.0 + 1) nodes, slice_get_within nodes i n e) in
     let here : get_or (up_to term nodes) i n ≡ n = get_or-take (term.0 + 1) nodes i n l ∙ get_or_from_slice_get nodes i n n e in

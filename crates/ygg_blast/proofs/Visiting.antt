@@ -1,5 +1,34 @@
 -- Visits from a term down to the nodes that it reaches.
-use Rattle.std.proofs.Common.{◌≡◌, ◌≢◌, ◌<◌, ◌≤◌, ℕ, ◌+◌, ◌==◌, ◌||◌, ◌&&◌, not, Bool, true, false, Some, List, [], ◌∷◌, ◌++◌, length, take, reverse, slice_get, ⊎_elim, refl, sym, subst, ap, ◌∙◌, arith}
+use Rattle.std.proofs.Common.{
+  ◌≡◌,
+  ◌≢◌,
+  ◌<◌,
+  ◌≤◌,
+  ℕ,
+  ◌+◌,
+  ◌==◌,
+  ◌||◌,
+  ◌&&◌,
+  not,
+  Bool,
+  true,
+  false,
+  Some,
+  List,
+  [],
+  ◌∷◌,
+  ◌++◌,
+  take,
+  reverse,
+  slice_get,
+  ⊎_elim,
+  refl,
+  sym,
+  subst,
+  ap,
+  ◌∙◌,
+  arith,
+}
 use Rattle.std.proofs.lemmas.Bool.{false≢true, eq-eqb}
 use Rattle.std.proofs.lemmas.Bool.Decides.{Decides-eqb}
 use Rattle.std.proofs.lemmas.List.{length-take, reverse-append}
@@ -8,42 +37,26 @@ use Rattle.std.specs.Ordering.{nat_cmp}
 use Rattle.std.specs.BTreeMap.{is_at}
 use Rattle.std.specs.BTreeSet.{BTreeSet}
 use Rattle.ygg_bank.proofs.Widths.{stored_can}
-use Rattle.ygg_bank.specs.Nodes.{CanMake, IsBank, Stands}
+use Rattle.ygg_bank.specs.Nodes.{IsBank, Stands}
 use Rattle.ygg_bank.specs.declared.node.Id.{Id}
 use Rattle.ygg_bank.specs.declared.node.Node.{Node}
-use Rattle.ygg_bank.specs.declared.node.Node.TheVariants.{Input, Const, Bin, Not, Resize, Pick}
 use Rattle.ygg_gates.specs.Groups.{has_child, reaches}
-use Rattle.ygg_meaning.specs.Reaching.{Reaches, TestsReaching}
-use Rattle.ygg_meaning.specs.Reaching.Reaches.{itself, child}
-use Rattle.ygg_meaning.proofs.Truths.{or_cases, or_first, or_second, and_left, and_right, and_both}
+use Rattle.ygg_gates_meaning.specs.Reaching.{Reaches, TestsReaching}
+use Rattle.ygg_gates_meaning.specs.Reaching.Reaches.{itself, child}
+use Rattle.ygg_gates_meaning.proofs.Reached.{child_before}
+use Rattle.ygg_gates_meaning.proofs.Truths.{or_cases, or_first, or_second, and_left, and_right, and_both}
 use Rattle.ygg_blast.specs.Pending.{has}
 use Rattle.ygg_blast.specs.Places.{has_place, AllFrom, AllBelow, Ascends}
 
-stands_at : (a p n : ℕ) → (a == p) ≡ true → a < n → p < n
-stands_at a p n e l = let s : a ≡ p = (Decides-eqb a p).0 e in omega arith
-
--- children stand before their node
-before : (nodes : List Node) (n : Node) (p : ℕ) → CanMake nodes n → has_child n p ≡ true → p < length nodes
-before nodes (Input m w) p c h = absurd (false≢true h)
-before nodes (Const k) p c h = absurd (false≢true h)
-before nodes (Bin o a b) p c h =
-    ⊎_elim (λ (e : (a.0 == p) ≡ true). stands_at a.0 p (length nodes) e c.one) (λ (e : (b.0 == p) ≡ true). stands_at b.0 p (length nodes) e c.two) (or_cases (a.0 == p) (b.0 == p) h)
-before nodes (Not a) p c h = stands_at a.0 p (length nodes) h c
-before nodes (Resize a w) p c h = stands_at a.0 p (length nodes) h c.0
-before nodes (Pick t a b) p c h =
-    ⊎_elim
-    (λ (e : (t.0 == p || a.0 == p) ≡ true).
-    ⊎_elim (λ (f : (t.0 == p) ≡ true). stands_at t.0 p (length nodes) f c.test) (λ (f : (a.0 == p) ≡ true). stands_at a.0 p (length nodes) f c.yes) (or_cases (t.0 == p) (a.0 == p) e))
-    (λ (e : (b.0 == p) ≡ true). stands_at b.0 p (length nodes) e c.no) (or_cases (t.0 == p || a.0 == p) (b.0 == p) h)
-
 child_below : (nodes : List Node) (k : ℕ) (n : Node) (p : ℕ) → IsBank nodes → slice_get nodes k ≡ Some n → has_child n p ≡ true → p < k
-child_below nodes k n p b e h = let l = before (take k nodes) n p (stored_can nodes k n b.ordered e) h in omega (arith, l, length-take k nodes)
+child_below nodes k n p b e h = let l = child_before (take k nodes) n p (stored_can nodes k n b.ordered e) h in omega (arith, l, length-take k nodes)
 
 from_more : (n m : ℕ) (ks : List ℕ) → m ≤ n → AllFrom n ks → AllFrom m ks
 from_more n m [] l h = tt
 from_more n m (k ∷ ks) l h = ((let q = h.0 in omega (arith, q, l)), from_more n m ks l h.1)
 
--- What is known when all places from one on are visited: the pending ones are below it; what is pending or visited is reached, the term's own place is, and so are
+-- What is known when all places from one on are visited: the pending ones are below it; what is pending or visited is reached, the term's own place
+-- is, and so are
 -- the children of what is visited.
 pub record Visiting (nodes : List Node) (term : Id) (below : ℕ) (pending : BTreeSet ℕ) (visited : List ℕ) : Type 0 where
   pub within : below ≤ term.0 + 1
@@ -53,9 +66,11 @@ pub record Visiting (nodes : List Node) (term : Id) (below : ℕ) (pending : BTr
   pub under : AllBelow (term.0 + 1) visited
   pub sound : (p : ℕ) → (has pending p || has_place visited p) ≡ true → Reaches nodes term.0 p
   pub first : (has pending term.0 || has_place visited term.0) ≡ true
-  pub closed : (k : ℕ) (n : Node) (p : ℕ) → has_place visited k ≡ true → slice_get nodes k ≡ Some n → has_child n p ≡ true → (has pending p || has_place visited p) ≡ true
+  pub closed : (k : ℕ) (n : Node) (p : ℕ) → has_place visited k ≡ true → slice_get nodes k ≡ Some n → has_child n p ≡ true →
+      (has pending p || has_place visited p) ≡ true
 
-pub begins : (nodes : List Node) (term : Id) (old pending : BTreeSet ℕ) → ((p : ℕ) → has old p ≡ false) → ((p : ℕ) → has pending p ≡ (has old p || term.0 == p)) → Visiting nodes term (term.0 + 1) pending []
+pub begins : (nodes : List Node) (term : Id) (old pending : BTreeSet ℕ) → ((p : ℕ) → has old p ≡ false) →
+    ((p : ℕ) → has pending p ≡ (has old p || term.0 == p)) → Visiting nodes term (term.0 + 1) pending []
 begins nodes term old pending none one = record {
   within = omega arith;
   low = λ p h. let s : term.0 ≡ p = (Decides-eqb term.0 p).0 (own p h) in omega arith;
@@ -71,7 +86,8 @@ begins nodes term old pending none one = record {
   single false h = absurd (false≢true h)
 
   own : (p : ℕ) → has pending p ≡ true → (term.0 == p) ≡ true
-  own p h = ⊎_elim (λ (e : has old p ≡ true). absurd (false≢true (sym (none p) ∙ e))) (λ (e : (term.0 == p) ≡ true). e) (or_cases (has old p) (term.0 == p) (sym (one p) ∙ h))
+  own p h = ⊎_elim (λ (e : has old p ≡ true). absurd (false≢true (sym (none p) ∙ e))) (λ (e : (term.0 == p) ≡ true). e)
+      (or_cases (has old p) (term.0 == p) (sym (one p) ∙ h))
 
 same_or_not : (k p : ℕ) (b : Bool) → b ≡ true → (P : Type 0) → (k ≡ p → P) → ((b && not (k == p)) ≡ true → P) → P
 same_or_not k p b h P yes_same otherwise =
@@ -82,14 +98,16 @@ same_or_not k p b h P yes_same otherwise =
 
 module _ (nodes : List Node) (term : Id) (below k : ℕ) (old taken pending : BTreeSet ℕ) (visited : List ℕ) (n : Node)
     (bank : IsBank nodes) (at : slice_get nodes k ≡ Some n) (here : has old k ≡ true) (last : (p : ℕ) → has old p ≡ true → p ≤ k)
-    (others : (p : ℕ) → has taken p ≡ (has old p && not (k == p))) (more : (p : ℕ) → has pending p ≡ (has taken p || has_child n p)) (v : Visiting nodes term below old visited) where
+    (others : (p : ℕ) → has taken p ≡ (has old p && not (k == p))) (more : (p : ℕ) → has pending p ≡ (has taken p || has_child n p))
+    (v : Visiting nodes term below old visited) where
   is_reached : Reaches nodes term.0 k
   is_reached = v.sound k (or_first (has old k) (has_place visited k) here)
 
   -- a pending place was pending, or is a child's
   cases : (p : ℕ) → has pending p ≡ true → (P : Type 0) → (has old p ≡ true → (k == p) ≡ false → P) → (has_child n p ≡ true → P) → P
   cases p h P was is =
-      ⊎_elim (λ (e : has taken p ≡ true). let f = sym (others p) ∙ e in was (and_left (has old p) (not (k == p)) f) (turned (k == p) (and_right (has old p) (not (k == p)) f)))
+      ⊎_elim (λ (e : has taken p ≡ true). let f = sym (others p) ∙ e in
+      was (and_left (has old p) (not (k == p)) f) (turned (k == p) (and_right (has old p) (not (k == p)) f)))
       (λ (e : has_child n p ≡ true). is e) (or_cases (has taken p) (has_child n p) (sym (more p) ∙ h)) where
         turned : (b : Bool) → not b ≡ true → b ≡ false
         turned true e = absurd (false≢true e)
@@ -111,7 +129,8 @@ module _ (nodes : List Node) (term : Id) (below k : ℕ) (old taken pending : BT
       let w = v.within in
       record {
         within = omega (arith, l, w);
-        low = λ p h. cases p h (p < k) (λ was apart. let m = last p was in let d : k ≢ p = λ s. absurd (false≢true (sym apart ∙ eq-eqb k p s)) in omega (arith, m, d)) (λ is. child_below nodes k n p bank at is);
+        low = λ p h. cases p h (p < k) (λ was apart. let m = last p was in let d : k ≢ p = λ s. absurd (false≢true (sym apart ∙ eq-eqb k p s)) in
+            omega (arith, m, d)) (λ is. child_below nodes k n p bank at is);
         high = (omega arith, from_more below k visited (omega (arith, l)) v.high);
         ascends = (from_more below (k + 1) visited (omega (arith, l)) v.high, v.ascends);
         under = (omega (arith, l, w), v.under);
@@ -142,24 +161,29 @@ both_ways false true f g = g refl
 both_ways false false f g = refl
 
 -- where nothing is pending any more, just what is reached is visited
-pub visited_all : (nodes : List Node) (term : Id) (below : ℕ) (pending : BTreeSet ℕ) (visited : List ℕ) → IsBank nodes → Stands nodes term → TestsReaching → ((p : ℕ) → has pending p ≡ false) →
+pub visited_all : (nodes : List Node) (term : Id) (below : ℕ) (pending : BTreeSet ℕ) (visited : List ℕ) → IsBank nodes → Stands nodes term →
+    TestsReaching → ((p : ℕ) → has pending p ≡ false) →
     Visiting nodes term below pending visited → (p : ℕ) → has_place visited p ≡ reaches nodes term p
 visited_all nodes term below pending visited bank stands tests none v p =
     both_ways (has_place visited p) (reaches nodes term p)
     (λ h. let t = tests nodes term p bank stands in t.1 (v.sound p (or_second (has pending p) (has_place visited p) h)))
     (λ h. let t = tests nodes term p bank stands in all p (t.0 h)) where
       settled : (q : ℕ) → (has pending q || has_place visited q) ≡ true → has_place visited q ≡ true
-      settled q h = ⊎_elim (λ (e : has pending q ≡ true). absurd (false≢true (sym (none q) ∙ e))) (λ (e : has_place visited q ≡ true). e) (or_cases (has pending q) (has_place visited q) h)
+      settled q h = ⊎_elim (λ (e : has pending q ≡ true). absurd (false≢true (sym (none q) ∙ e))) (λ (e : has_place visited q ≡ true). e)
+          (or_cases (has pending q) (has_place visited q) h)
 
       all : (q : ℕ) → Reaches nodes term.0 q → has_place visited q ≡ true
       all q itself = settled term.0 v.first
       all q (child k n p r at c) = settled q (v.closed k n q (all k r) at c)
 
 -- the same of a list in the other order
-pub begins_with : (nodes : List Node) (term : Id) (old pending : BTreeSet ℕ) (places : List ℕ) → old.keys ≡ [] → ((p : ℕ) → has pending p ≡ (has old p || term.0 == p)) → places ≡ [] →
+pub begins_with : (nodes : List Node) (term : Id) (old pending : BTreeSet ℕ) (places : List ℕ) → old.keys ≡ [] →
+    ((p : ℕ) → has pending p ≡ (has old p || term.0 == p)) → places ≡ [] →
     Visiting nodes term (term.0 + 1) pending (reverse places)
 begins_with nodes term old pending places empty one e =
-    subst (λ z. Visiting nodes term (term.0 + 1) pending (reverse z)) (sym e) (begins nodes term old pending (λ p. ap (λ z. list_any (is_at (nat_cmp p)) z) empty) one)
+    subst (λ z. Visiting nodes term (term.0 + 1) pending (reverse z)) (sym e)
+    (begins nodes term old pending (λ p. ap (λ z. list_any (is_at (nat_cmp p)) z) empty) one)
 
-pub goes_with : (nodes : List Node) (term : Id) (k : ℕ) (pending : BTreeSet ℕ) (old new : List ℕ) → new ≡ old ++ k ∷ [] → Visiting nodes term k pending (k ∷ reverse old) → Visiting nodes term k pending (reverse new)
+pub goes_with : (nodes : List Node) (term : Id) (k : ℕ) (pending : BTreeSet ℕ) (old new : List ℕ) → new ≡ old ++ k ∷ [] →
+    Visiting nodes term k pending (k ∷ reverse old) → Visiting nodes term k pending (reverse new)
 goes_with nodes term k pending old new e v = subst (Visiting nodes term k pending) (sym (ap reverse e ∙ reverse-append old (k ∷ []))) v

@@ -1,7 +1,7 @@
 //! The clauses of a term, and the way back.
 
 ghost use Rattle.std.specs.Prelude.{◌≡◌, ◌<◌, ◌+◌, ◌*◌, ◌^◌, List, All, IfOk};
-ghost use Rattle.ygg_meaning.specs.Laws.{AreExact, IsZeroIn};
+ghost use Rattle.ygg_gates_meaning.specs.Laws.{AreExact, IsZeroIn};
 ghost use Rattle.ygg_value.specs.Words.{bit_of, word};
 ghost use Rattle.ygg_bank.specs.Nodes.{HasWidth, IsBank, Stands};
 ghost use Rattle.ygg_bank.specs.declared.node.Id.{Id};
@@ -16,9 +16,9 @@ use crate::visits::reached;
 use std::alloc::Global;
 use std::marker::Model;
 use ygg_bank::{Bank, Env, Given, Id};
-use ygg_circuit::{lowest, true_literal};
 use ygg_cnf::{Assignment, Clauses, Lit, truth};
-use ygg_gates::Source;
+use ygg_gates::InputVariables;
+use ygg_gates_circuit::{lowest, true_literal};
 use ygg_list::{NoMemory, Sequence};
 use ygg_value::Word;
 
@@ -26,7 +26,7 @@ use ygg_value::Word;
 #[derive(Drop)]
 pub struct Blasted {
     clauses: Clauses,
-    sources: Sequence<Source>,
+    sources: Sequence<InputVariables>,
 }
 
 impl Model for Blasted {
@@ -59,7 +59,7 @@ fn clauses_of_groups(alloc: Global, groups: &Groups, term: Id) -> Result<Clauses
 }
 
 /// The clauses of a term, and the variables of the inputs that it reaches. Those of a term of width 1 are satisfiable exactly where it
-/// is 0 in some environment. Its only error is want of memory.
+/// is 0 in some environment. Its only error is out of memory.
 pub fn clauses_of(alloc: Global, bank: &Bank, term: Id) -> Result<Blasted, NoMemory>
     requires { Stands bank.now term }
     ensures form { IfOk result (λ blasted. blasted ≡ translated bank.now term) }
@@ -85,24 +85,24 @@ fn blasted_of(alloc: Global, bank: &Bank, term: Id) -> Result<Blasted, NoMemory>
     })
 }
 
-/// A number with one more digit, the lowest.
-fn with_digit(bits: u64, digit: bool) -> u64
+/// A number with one more bit, the lowest.
+fn with_bit(bits: u64, bit: bool) -> u64
     requires { bits < 2 ^ 63 }
-    ensures { result ≡ bit_of digit + 2 * bits }
+    ensures { result ≡ bit_of bit + 2 * bits }
 {
-    if digit { 2 * bits + 1 } else { 2 * bits }
+    if bit { 2 * bits + 1 } else { 2 * bits }
 }
 
 /// The word that truth values give an input.
-#[tactic(auto, using(crate::proofs::Reading::reading_begins, crate::proofs::Reading::reading_goes, crate::proofs::Reading::reading_fits, crate::proofs::Reading::reading_is, crate::proofs::Reading::reading_below))]
-fn word_of(assignment: &Assignment, source: &Source) -> Word
+#[tactic(auto, using(crate::proofs::Reading::reading_rules))]
+fn word_of(assignment: &Assignment, source: &InputVariables) -> Word
     ensures { result ≡ word source.now.width (number_from (truth_of assignment.now) source.now.first source.now.width) }
 {
     let mut bits = 0;
     let mut place = source.width;
     while place > 0 {
         place -= 1;
-        bits = with_digit(bits, truth(assignment, source.first + place as u64));
+        bits = with_bit(bits, truth(assignment, source.first + place as u64));
     }
     Word {
         width: source.width,
@@ -111,14 +111,15 @@ fn word_of(assignment: &Assignment, source: &Source) -> Word
 }
 
 /// The environment that truth values name. Where they satisfy the clauses of a term of width 1, the term is 0 in it. Its only error is
-/// want of memory.
+/// out of memory.
 pub fn environment(
     alloc: Global,
     blasted: &Blasted,
     assignment: &Assignment,
 ) -> Result<Env, NoMemory>
     ensures form { IfOk result (λ env. env ≡ environment_by (truth_of assignment.now) blasted.now.sources) }
-    ensures zero { (nodes : List Node) (term : Id) → IsBank nodes → HasWidth nodes term 1 → blasted.now ≡ translated nodes term → SatisfiesAll (truth_of assignment.now) blasted.now.clauses → IfOk result (IsZeroIn nodes term) }
+    ensures zero { (nodes : List Node) (term : Id) → IsBank nodes → HasWidth nodes term 1 → blasted.now ≡ translated nodes term →
+        SatisfiesAll (truth_of assignment.now) blasted.now.clauses → IfOk result (IsZeroIn nodes term) }
 {
     environment_of(alloc, blasted, assignment)
 }

@@ -1,6 +1,7 @@
 //! The clauses of gates.
 
 ghost use Rattle.std.specs.Prelude.{◌≡◌, ◌<◌, ◌^◌, ◌++◌, ◌∷◌, [], length, OnOk};
+ghost use Rattle.ygg_cnf.specs.Literals.{once};
 ghost use Rattle.ygg_gates.specs.Clauses.{clauses_from, gate_clauses};
 
 use std::alloc::Global;
@@ -8,11 +9,11 @@ use ygg_cnf::{Clause, Clauses, Lit};
 use ygg_gates::Gate;
 use ygg_list::NoMemory;
 
-/// Adds a clause of these literals.
+/// Adds a clause of these literals, each kept once.
 pub fn push_clause(alloc: Global, clauses: &mut Clauses, lits: &[Lit]) -> Result<(), NoMemory>
-    ensures { OnOk result (clauses.new ≡ clauses.old ++ lits.now ∷ []) }
+    ensures { OnOk result (clauses.new ≡ clauses.old ++ once lits.now ∷ []) }
 {
-    let clause = Clause::from_slice(alloc, lits)?;
+    let clause = Clause::once(alloc, lits)?;
     clauses.push(clause)
 }
 

@@ -3,25 +3,25 @@
 ghost use Rattle.std.specs.Prelude.{◌≡◌, ◌<◌, ◌+◌, ◌^◌, ◌++◌, ℕ, true, slice_get, length, OnOk, IfOk};
 ghost use Rattle.ygg_bank.specs.Nodes.{Stands};
 ghost use Rattle.ygg_blast.specs.Places.{has_place, AllBelow, Ascends};
-ghost use Rattle.ygg_gates.specs.Groups.{circuit, circuit_of, node_digits, reaches, sources_of, with_node};
+ghost use Rattle.ygg_gates.specs.Groups.{circuit, circuit_of, node_bits, reaches, sources_of, with_node};
 ghost use Rattle.ygg_rules.specs.Views.{IsWidth};
 
-use crate::table::Table;
+use crate::table::BitTable;
 use std::alloc::Global;
 use std::marker::Model;
 use ygg_bank::{Bank, Id, Node};
-use ygg_circuit::{
-    Digits, complements, constant_digits, free_digits, join_each, lowest, operation, resized,
-};
 use ygg_cnf::Lit;
-use ygg_gates::{Gate, Joint, Source};
+use ygg_gates::{Gate, InputVariables, Joint};
+use ygg_gates_circuit::{
+    BitLiterals, complements, constant_bits, free_bits, join_each, lowest, operation, resized,
+};
 use ygg_list::{NoMemory, Sequence};
 
-/// What is made of the first nodes: the digits of each, none where it isn't reached; the inputs; and the gates.
+/// What is made of the first nodes: the bits of each, none where it isn't reached; the inputs; and the gates.
 #[derive(Drop)]
 pub struct Groups {
-    pub table: Table,
-    pub sources: Sequence<Source>,
+    pub table: BitTable,
+    pub sources: Sequence<InputVariables>,
     pub gates: Vec<Gate>,
 }
 
@@ -33,19 +33,19 @@ impl Model for Groups {
     ghost view = { λ g. record { table = g.table; sources = g.sources; gates = g.gates.items } };
 }
 
-/// The digits of a node, and its gates.
-fn node_digits(
+/// The bits of a node, and its gates.
+fn node_bits(
     alloc: Global,
-    table: &Table,
+    table: &BitTable,
     gates: &mut Vec<Gate>,
     node: &Node,
-) -> Result<Digits, NoMemory>
-    ensures gates { OnOk result (gates.new.items ≡ (node_digits table.now node.now gates.old.items).gates) }
-    ensures value { IfOk result (λ digits. digits ≡ (node_digits table.now node.now gates.old.items).value) }
+) -> Result<BitLiterals, NoMemory>
+    ensures gates { OnOk result (gates.new.items ≡ (node_bits table.now node.now gates.old.items).gates) }
+    ensures value { IfOk result (λ bits. bits ≡ (node_bits table.now node.now gates.old.items).value) }
 {
     match *node {
-        Node::Input { width, .. } => free_digits(alloc, gates, width),
-        Node::Const(word) => constant_digits(alloc, word),
+        Node::Input { width, .. } => free_bits(alloc, gates, width),
+        Node::Const(word) => constant_bits(alloc, word),
         Node::Bin { op, a, b } => { operation(alloc, gates, op, table.at(a.0), table.at(b.0)) }
         Node::Not { a } => complements(alloc, table.at(a.0)),
         Node::Resize { a, width } => resized(alloc, table.at(a.0), width),
@@ -63,13 +63,17 @@ fn node_digits(
 }
 
 /// The variables of an input, or none of another node.
-fn push_source(sources: &mut Sequence<Source>, node: Node, first: u64) -> Result<(), NoMemory>
+fn push_source(
+    sources: &mut Sequence<InputVariables>,
+    node: Node,
+    first: u64,
+) -> Result<(), NoMemory>
     requires width { (n w : ℕ) → node ≡ Node.Input n w → IsWidth w }
     requires numbered { first + 64 < 2 ^ 64 }
     ensures { OnOk result (sources.new ≡ sources.old ++ sources_of first node) }
 {
     if let Node::Input { number, width } = node {
-        return sources.push(Source {
+        return sources.push(InputVariables {
             number,
             width,
             first,
@@ -81,8 +85,8 @@ fn push_source(sources: &mut Sequence<Source>, node: Node, first: u64) -> Result
 /// Adds a node that is reached: its group of gates.
 fn add_node(
     alloc: Global,
-    table: &mut Table,
-    sources: &mut Sequence<Source>,
+    table: &mut BitTable,
+    sources: &mut Sequence<InputVariables>,
     gates: &mut Vec<Gate>,
     node: Node,
 ) -> Result<(), NoMemory>
@@ -92,8 +96,8 @@ fn add_node(
 {
     let first = gates.len() as u64 + 2;
     push_source(sources, node, first)?;
-    let digits = node_digits(alloc, table, gates, &node)?;
-    table.push(digits)
+    let bits = node_bits(alloc, table, gates, &node)?;
+    table.push(bits)
 }
 
 /// The node at a place, the width of which is known where it is an input.
@@ -117,7 +121,7 @@ pub fn groups_of(alloc: Global, bank: &Bank, term: Id, places: &[usize]) -> Resu
 {
     // so many nodes have places
     let _ = bank.len();
-    let mut table = Table::new(alloc);
+    let mut table = BitTable::new(alloc);
     let mut sources = Sequence::new(alloc);
     let mut gates = Vec::new(alloc);
     for place in places {

@@ -8,7 +8,7 @@ use std::collections::BTreeSet;
 use ygg_bank::Node;
 use ygg_list::NoMemory;
 
-/// Adds a place. Its only error is want of memory.
+/// Adds a place. Its only error is out of memory.
 pub fn add(pending: &mut BTreeSet<usize>, place: usize) -> Result<(), NoMemory>
     ensures { OnOk result ((p : ℕ) → has pending.new p ≡ (has pending.old p || place == p)) }
 {
@@ -16,7 +16,7 @@ pub fn add(pending: &mut BTreeSet<usize>, place: usize) -> Result<(), NoMemory>
     Ok(())
 }
 
-/// Adds the places of a node's children. Its only error is want of memory.
+/// Adds the places of a node's children. Its only error is out of memory.
 pub fn add_children(pending: &mut BTreeSet<usize>, node: Node) -> Result<(), NoMemory>
     ensures { OnOk result ((p : ℕ) → has pending.new p ≡ (has pending.old p || has_child node p)) }
 {

@@ -9,8 +9,8 @@ use crate::pending::{add, add_children, take_last};
 use std::alloc::Global;
 use std::collections::BTreeSet;
 use ygg_bank::{Bank, Id};
+use ygg_gates_meaning::groups_are_of_reached_nodes;
 use ygg_list::NoMemory;
-use ygg_meaning::groups_are_of_reached_nodes;
 
 /// The places that a term reaches, in ascending order. They are found from its own down; time and memory go by how many there are.
 pub fn reached(alloc: Global, bank: &Bank, term: Id) -> Result<Vec<usize>, NoMemory>

@@ -1,5 +1,42 @@
 -- Steps of a chain over clauses that are kept by places.
-use Rattle.std.proofs.Common.{◌≡◌, ℕ, zero, suc, ◌<◌, ◌≤◌, ◌+◌, Bool, List, [], ◌∷◌, length, map, get_or, take, drop, Contains, All, Option, Some, None, option_map, slice_get, ◌⊎◌, ◌↔◌, inl, inr, ⊎_elim, refl, sym, ap, subst, ◌∙◌, arith, add-one, drop-cons}
+use Rattle.std.proofs.Common.{
+  ◌≡◌,
+  ℕ,
+  zero,
+  suc,
+  ◌<◌,
+  ◌≤◌,
+  ◌+◌,
+  Bool,
+  List,
+  [],
+  ◌∷◌,
+  length,
+  map,
+  get_or,
+  take,
+  drop,
+  Contains,
+  All,
+  Option,
+  Some,
+  None,
+  option_map,
+  slice_get,
+  ◌⊎◌,
+  ◌↔◌,
+  inl,
+  inr,
+  ⊎_elim,
+  refl,
+  sym,
+  ap,
+  subst,
+  ◌∙◌,
+  arith,
+  add-one,
+  drop-cons,
+}
 use Rattle.std.proofs.lemmas.List.Elements.{All-contains, All-weaker, Contains-append_left, Contains-append_right, Contains-push}
 use Rattle.std.proofs.lemmas.Option.{slice_get-map}
 use Rattle.ygg_cnf.specs.declared.lit.Lit.{Lit}
@@ -8,10 +45,11 @@ use Rattle.ygg_cnf.specs.Derivations.{IsPivot, Resolvent, HasClause, Resolves, D
 use Rattle.ygg_cnf.proofs.Steps.{one_clause, resolves_step, stuck_number, stuck_pivot, first_step}
 use Rattle.ygg_cnf.proofs.Soundness.{numbered_among}
 use Rattle.ygg_chain.specs.Places.{IsDistinct, IsPlaced, literal_at, StandsFor, clause_at, clauses_at}
-use Rattle.ygg_chain.specs.Marks.{Fits, Marked, HasMarks}
-use Rattle.ygg_chain.specs.Held.{Holds, IsKept, IsMarkedAs, IsNumbered, IsNamed}
-use Rattle.ygg_chain.proofs.PlaceLemmas.{contains_more, contains_all, contains_front, contains_map, contains_of_map, stands_once}
-use Rattle.ygg_chain.proofs.MarkLemmas.{contains_cases}
+use Rattle.ygg_cnf_set.specs.LiteralSet.{Fits, InSet, IsSetOf}
+use Rattle.ygg_chain.specs.Held.{Holds, IsKept, InSetAs, IsNumbered, IsNamed}
+use Rattle.ygg_cnf_set.proofs.ListLemmas.{contains_more, contains_all, contains_front}
+use Rattle.ygg_chain.proofs.PlaceLemmas.{contains_map, contains_of_map, stands_once}
+use Rattle.ygg_cnf_set.proofs.LiteralSetLemmas.{contains_cases}
 
 -- ---- clauses by number
 
@@ -33,16 +71,16 @@ kept_numbered variables clauses zero clause h = absurd h
 kept_numbered variables clauses (suc place) clause h =
     some_of_map (clause_at variables) (slice_get clauses place) clause (sym (slice_get-map (clause_at variables) clauses place) ∙ h)
 
-pub placed_numbered : (variables : List ℕ) (clauses : List (List Lit)) (marks : ℕ) (id : ℕ) (kept : List Lit)
-    → IsKept variables clauses marks → HasClause clauses id kept → All (IsPlaced variables) kept
-placed_numbered variables clauses marks id kept k h =
+pub placed_numbered : (variables : List ℕ) (clauses : List (List Lit)) (seen : ℕ) (id : ℕ) (kept : List Lit)
+    → IsKept variables clauses seen → HasClause clauses id kept → All (IsPlaced variables) kept
+placed_numbered variables clauses seen id kept k h =
     All-contains (All (IsPlaced variables)) clauses kept k.placed (numbered_among clauses id kept h)
 
-pub fits_numbered : (variables : List ℕ) (clauses : List (List Lit)) (marks : ℕ) (id : ℕ) (kept : List Lit)
-    → IsKept variables clauses marks → HasClause clauses id kept → All (Fits marks) kept
-fits_numbered variables clauses marks id kept k h =
-    All-weaker (IsPlaced variables) (Fits marks) (λ x p. omega (arith, p, k.room)) kept
-    (placed_numbered variables clauses marks id kept k h)
+pub fits_numbered : (variables : List ℕ) (clauses : List (List Lit)) (seen : ℕ) (id : ℕ) (kept : List Lit)
+    → IsKept variables clauses seen → HasClause clauses id kept → All (Fits seen) kept
+fits_numbered variables clauses seen id kept k h =
+    All-weaker (IsPlaced variables) (Fits seen) (λ x p. omega (arith, p, k.room)) kept
+    (placed_numbered variables clauses seen id kept k h)
 
 nothing_of_map : {X Y : Type 0} (f : X → Y) (xs : List X) → map f xs ≡ [] → xs ≡ []
 nothing_of_map f [] e = refl
@@ -58,14 +96,15 @@ empty_held variables clauses = (
 
 -- ---- one step, by places and by variables
 
-module _ (variables : List ℕ) (distinct : IsDistinct variables) (marks : List Bool) (next : List Lit) (placed : All (IsPlaced variables) next) where
+module _ (variables : List ℕ) (distinct : IsDistinct variables) (seen : List Bool) (next : List Lit) (placed : All (IsPlaced variables) next) where
   -- what stands for a literal of the clause is in the kept one
   stands_among : (x : Lit) → IsPlaced variables x → Contains (clause_at variables next) (literal_at variables x) → Contains next x
   stands_among x inside c =
       let (z, (there, is)) = contains_of_map (literal_at variables) next (literal_at variables x) c in
-      subst (Contains next) (stands_once variables distinct z x (literal_at variables x) (All-contains (IsPlaced variables) next z placed there, is) (inside, refl)) there
+      subst (Contains next) (stands_once variables distinct z x (literal_at variables x) (All-contains (IsPlaced variables) next z placed there, is)
+      (inside, refl)) there
 
-  pub placed_pivot : (x : Lit) → IsPivot (Marked marks) next x → IsPivot (IsMarkedAs variables marks) (clause_at variables next) (literal_at variables x)
+  pub placed_pivot : (x : Lit) → IsPivot (InSet seen) next x → IsPivot (InSetAs variables seen) (clause_at variables next) (literal_at variables x)
   placed_pivot x p = record {
     here = (x, ((All-contains (IsPlaced variables) next (complement x) placed p.there, refl), p.here));
     there = contains_map (literal_at variables) next (complement x) p.there;
@@ -75,7 +114,7 @@ module _ (variables : List ℕ) (distinct : IsDistinct variables) (marks : List 
         sym is ∙ ap (literal_at variables) (p.only z m there);
   }
 
-  pub no_placed_pivot : ((x : Lit) → IsPivot (Marked marks) next x → ⊥) → (y : Lit) → IsPivot (IsMarkedAs variables marks) (clause_at variables next) y → ⊥
+  pub no_placed_pivot : ((x : Lit) → IsPivot (InSet seen) next x → ⊥) → (y : Lit) → IsPivot (InSetAs variables seen) (clause_at variables next) y → ⊥
   no_placed_pivot none y p =
       let (x, ((inside, is), m)) = p.here in
       none x (record {
@@ -88,8 +127,8 @@ module _ (variables : List ℕ) (distinct : IsDistinct variables) (marks : List 
             stands_once variables distinct z x y (within, same) (inside, is);
       })
 
-  pub placed_resolvent : (after : List Bool) (x : Lit) → IsPlaced variables x → HasMarks after (Resolvent (Marked marks) next x)
-      → (y : Lit) → IsMarkedAs variables after y ↔ Resolvent (IsMarkedAs variables marks) (clause_at variables next) (literal_at variables x) y
+  pub placed_resolvent : (after : List Bool) (x : Lit) → IsPlaced variables x → IsSetOf after (Resolvent (InSet seen) next x)
+      → (y : Lit) → InSetAs variables after y ↔ Resolvent (InSetAs variables seen) (clause_at variables next) (literal_at variables x) y
   placed_resolvent after x within new y = (
     (λ (z, ((inside, is), m)).
         ⊎_elim
@@ -120,34 +159,34 @@ module _ (variables : List ℕ) (clauses : List (List Lit)) (room : ℕ) (kept :
       stuck_number (Holds variables clauses) set id ids clause
       (λ next at. let (found, there) = kept_numbered variables clauses id next at in none found there)
 
-  pub no_pivot : (marks : List Bool) (id : ℕ) (ids : List ℕ) (next clause : List Lit)
-      → HasClause clauses id next → ((x : Lit) → IsPivot (Marked marks) next x → ⊥)
-      → Resolves (Holds variables clauses) (IsMarkedAs variables marks) (id ∷ ids) clause → ⊥
-  no_pivot marks id ids next clause at none =
-      stuck_pivot (Holds variables clauses) (one_clause (clauses_at variables clauses)) (IsMarkedAs variables marks) id ids
+  pub no_pivot : (seen : List Bool) (id : ℕ) (ids : List ℕ) (next clause : List Lit)
+      → HasClause clauses id next → ((x : Lit) → IsPivot (InSet seen) next x → ⊥)
+      → Resolves (Holds variables clauses) (InSetAs variables seen) (id ∷ ids) clause → ⊥
+  no_pivot seen id ids next clause at none =
+      stuck_pivot (Holds variables clauses) (one_clause (clauses_at variables clauses)) (InSetAs variables seen) id ids
       (clause_at variables next) clause (held_numbered variables clauses id next at)
-      (no_placed_pivot variables kept.distinct marks next (placed_numbered variables clauses room id next kept at) none)
+      (no_placed_pivot variables kept.distinct seen next (placed_numbered variables clauses room id next kept at) none)
 
-  pub kept_step : (marks after : List Bool) (id : ℕ) (ids : List ℕ) (next : List Lit) (x : Lit) (clause : List Lit)
-      → HasClause clauses id next → IsPivot (Marked marks) next x → HasMarks after (Resolvent (Marked marks) next x)
-      → Resolves (Holds variables clauses) (IsMarkedAs variables marks) (id ∷ ids) clause
-      ↔ Resolves (Holds variables clauses) (IsMarkedAs variables after) ids clause
-  kept_step marks after id ids next x clause at p new =
+  pub kept_step : (seen after : List Bool) (id : ℕ) (ids : List ℕ) (next : List Lit) (x : Lit) (clause : List Lit)
+      → HasClause clauses id next → IsPivot (InSet seen) next x → IsSetOf after (Resolvent (InSet seen) next x)
+      → Resolves (Holds variables clauses) (InSetAs variables seen) (id ∷ ids) clause
+      ↔ Resolves (Holds variables clauses) (InSetAs variables after) ids clause
+  kept_step seen after id ids next x clause at p new =
       let placed : All (IsPlaced variables) next = placed_numbered variables clauses room id next kept at in
       resolves_step (Holds variables clauses) (one_clause (clauses_at variables clauses))
-      (IsMarkedAs variables marks) (IsMarkedAs variables after) id ids (clause_at variables next) (literal_at variables x) clause
+      (InSetAs variables seen) (InSetAs variables after) id ids (clause_at variables next) (literal_at variables x) clause
       (held_numbered variables clauses id next at)
-      (placed_pivot variables kept.distinct marks next placed x p)
-      (placed_resolvent variables kept.distinct marks next placed after x (All-contains (IsPlaced variables) next (complement x) placed p.there) new)
+      (placed_pivot variables kept.distinct seen next placed x p)
+      (placed_resolvent variables kept.distinct seen next placed after x (All-contains (IsPlaced variables) next (complement x) placed p.there) new)
 
-  -- the marks of a kept clause are the clause's literals
-  pub kept_first : (marks : List Bool) (id : ℕ) (ids : List ℕ) (first clause : List Lit)
-      → HasClause clauses id first → HasMarks marks (Contains first)
+  -- the set of a kept clause has the clause's literals
+  pub kept_first : (seen : List Bool) (id : ℕ) (ids : List ℕ) (first clause : List Lit)
+      → HasClause clauses id first → IsSetOf seen (Contains first)
       → DerivesClause (Holds variables clauses) (id ∷ ids) clause
-      ↔ Resolves (Holds variables clauses) (IsMarkedAs variables marks) ids clause
-  kept_first marks id ids first clause at new =
+      ↔ Resolves (Holds variables clauses) (InSetAs variables seen) ids clause
+  kept_first seen id ids first clause at new =
       let placed : All (IsPlaced variables) first = placed_numbered variables clauses room id first kept at in
-      first_step (Holds variables clauses) (one_clause (clauses_at variables clauses)) (IsMarkedAs variables marks) id ids
+      first_step (Holds variables clauses) (one_clause (clauses_at variables clauses)) (InSetAs variables seen) id ids
       (clause_at variables first) clause (held_numbered variables clauses id first at)
       (λ y. (
         (λ (z, ((inside, is), m)). subst (Contains (clause_at variables first)) is (contains_map (literal_at variables) first z ((new z).0 m))),
@@ -176,11 +215,11 @@ named_all clauses ids i y l (id, (c, n)) = (id, ((contains_all ids i l id).1 c, 
 
 -- ---- what is left at the end of a chain
 
-pub unmark_as_more : (variables : List ℕ) (before now after : List Bool) (xs : List Lit) (i : ℕ) (d : Lit) → i < length xs
-    → HasMarks now (λ x. Marked before x × ((y : Lit) → Contains (take i xs) y → StandsFor variables x y → ⊥))
-    → HasMarks after (λ x. Marked now x × (StandsFor variables x (get_or xs i d) → ⊥))
-    → HasMarks after (λ x. Marked before x × ((y : Lit) → Contains (take (i + 1) xs) y → StandsFor variables x y → ⊥))
-unmark_as_more variables before now after xs i d l was new x = (
+pub remove_as_more : (variables : List ℕ) (before now after : List Bool) (xs : List Lit) (i : ℕ) (d : Lit) → i < length xs
+    → IsSetOf now (λ x. InSet before x × ((y : Lit) → Contains (take i xs) y → StandsFor variables x y → ⊥))
+    → IsSetOf after (λ x. InSet now x × (StandsFor variables x (get_or xs i d) → ⊥))
+    → IsSetOf after (λ x. InSet before x × ((y : Lit) → Contains (take (i + 1) xs) y → StandsFor variables x y → ⊥))
+remove_as_more variables before now after xs i d l was new x = (
   (λ m. let n = (new x).0 m in let b = (was x).0 n.0 in
       (b.0, λ y c s. ⊎_elim (λ a. b.1 y a s) (λ e. n.1 (subst (StandsFor variables x) e s)) ((contains_more xs i d l y).0 c))),
   (λ p. (new x).1 (
@@ -190,9 +229,9 @@ unmark_as_more variables before now after xs i d l was new x = (
 )
 
 module _ (clauses : List (List Lit)) (ids : List ℕ) (i : ℕ) (within : i < length ids) (before now after : List Bool)
-    (was : HasMarks now (λ y. Marked before y × (IsNamed clauses (take i ids) y → ⊥))) where
-  pub take_more_named : HasMarks after (λ y. Marked now y × (IsNumbered clauses (get_or ids i 0) y → ⊥))
-      → HasMarks after (λ y. Marked before y × (IsNamed clauses (take (i + 1) ids) y → ⊥))
+    (was : IsSetOf now (λ y. InSet before y × (IsNamed clauses (take i ids) y → ⊥))) where
+  pub take_more_named : IsSetOf after (λ y. InSet now y × (IsNumbered clauses (get_or ids i 0) y → ⊥))
+      → IsSetOf after (λ y. InSet before y × (IsNamed clauses (take (i + 1) ids) y → ⊥))
   take_more_named new y = (
     (λ m. let n = (new y).0 m in let b = (was y).0 n.0 in (b.0, λ named. ⊎_elim b.1 n.1 ((named_more clauses ids i y within).0 named))),
     (λ p. (new y).1 (
@@ -201,31 +240,31 @@ module _ (clauses : List (List Lit)) (ids : List ℕ) (i : ℕ) (within : i < le
     )),
   )
 
-  pub none_more_named : ((y : Lit) → Marked before y → IsNamed clauses (take i ids) y → ⊥)
-      → ((y : Lit) → Marked now y → IsNumbered clauses (get_or ids i 0) y → ⊥)
-      → (y : Lit) → Marked before y → IsNamed clauses (take (i + 1) ids) y → ⊥
+  pub none_more_named : ((y : Lit) → InSet before y → IsNamed clauses (take i ids) y → ⊥)
+      → ((y : Lit) → InSet now y → IsNumbered clauses (get_or ids i 0) y → ⊥)
+      → (y : Lit) → InSet before y → IsNamed clauses (take (i + 1) ids) y → ⊥
   none_more_named none here y m named =
       ⊎_elim (none y m) (here y ((was y).1 (m, none y m))) ((named_more clauses ids i y within).0 named)
 
-  pub none_less_named : ((y : Lit) → Marked before y → IsNamed clauses (take (i + 1) ids) y → ⊥)
-      → ((y : Lit) → Marked before y → IsNamed clauses (take i ids) y → ⊥) × ((y : Lit) → Marked now y → IsNumbered clauses (get_or ids i 0) y → ⊥)
+  pub none_less_named : ((y : Lit) → InSet before y → IsNamed clauses (take (i + 1) ids) y → ⊥)
+      → ((y : Lit) → InSet before y → IsNamed clauses (take i ids) y → ⊥) × ((y : Lit) → InSet now y → IsNumbered clauses (get_or ids i 0) y → ⊥)
   none_less_named none = (
     (λ y m named. none y m ((named_more clauses ids i y within).1 (inl named))),
     (λ y m numbered. none y ((was y).0 m).0 ((named_more clauses ids i y within).1 (inr numbered))),
   )
 
 module _ (variables : List ℕ) (clauses : List (List Lit)) (room : ℕ) (kept : IsKept variables clauses room) (ids : List ℕ) (clause : List Lit)
-    (before after : List Bool) (named : (y : Lit) → Marked before y → IsNamed clauses ids y)
-    (left : HasMarks after (λ x. Marked before x × ((y : Lit) → Contains clause y → StandsFor variables x y → ⊥))) where
-  -- with no mark left, a marked literal is one of the clause
-  pub among_clause : ((y : Lit) → Marked after y → ⊥) → (y : Lit) → IsMarkedAs variables before y → Contains clause y
+    (before after : List Bool) (named : (y : Lit) → InSet before y → IsNamed clauses ids y)
+    (left : IsSetOf after (λ x. InSet before x × ((y : Lit) → Contains clause y → StandsFor variables x y → ⊥))) where
+  -- with nothing left, a literal of the set is one of the clause
+  pub among_clause : ((y : Lit) → InSet after y → ⊥) → (y : Lit) → InSetAs variables before y → Contains clause y
   among_clause none y (x, (stands, m)) =
       ⊎_elim (λ c. c)
       (λ n. absurd (none x ((left x).1 (m, λ z c s. n (subst (Contains clause) (sym s.1 ∙ stands.1) c)))))
       (contains_cases clause y)
 
-  -- and where all marked literals are of the clause, none is left
-  pub none_left : ((y : Lit) → IsMarkedAs variables before y → Contains clause y) → (y : Lit) → Marked after y → ⊥
+  -- and where all literals of the set are of the clause, none is left
+  pub none_left : ((y : Lit) → InSetAs variables before y → Contains clause y) → (y : Lit) → InSet after y → ⊥
   none_left all x m =
       let (was, free) = (left x).0 m in
       let (id, (among, (next, (at, there)))) = named x was in

@@ -1,3 +1,2 @@
-pub mod MarkLemmas
 pub mod PlaceLemmas
 pub mod HeldLemmas

@@ -1,5 +1,44 @@
 -- Places of variables, and what stands for a literal.
-use Rattle.std.proofs.Common.{◌≡◌, ℕ, ◌<◌, ◌≤◌, ◌+◌, true, List, [], ◌∷◌, ◌++◌, length, map, get_or, take, drop, ◌⊎◌, ◌↔◌, inl, inr, position, Contains, All, Some, ⊎_elim, refl, sym, ap, subst, ◌∙◌, arith, nat_eq, slice_get, length-append, Result, Ok, Err, OnOk, OnErr}
+use Rattle.std.proofs.Common.{
+  ◌≡◌,
+  ℕ,
+  ◌<◌,
+  ◌≤◌,
+  ◌+◌,
+  true,
+  List,
+  [],
+  ◌∷◌,
+  ◌++◌,
+  length,
+  map,
+  get_or,
+  take,
+  drop,
+  ◌⊎◌,
+  ◌↔◌,
+  inl,
+  inr,
+  position,
+  Contains,
+  All,
+  Some,
+  ⊎_elim,
+  refl,
+  sym,
+  ap,
+  subst,
+  ◌∙◌,
+  arith,
+  nat_eq,
+  slice_get,
+  length-append,
+  Result,
+  Ok,
+  Err,
+  OnOk,
+  OnErr,
+}
 use Rattle.std.specs.List.{IsDistinct as IsDistinctBy}
 use Rattle.std.proofs.lemmas.Bool.{eqb-false, eqb-true, cases_lt}
 use Rattle.std.proofs.lemmas.List.Quantifiers.{position-Some}
@@ -11,24 +50,6 @@ use Rattle.std.proofs.lemmas.Option.{slice_get_within, get_or_from_slice_get, sa
 use Rattle.ygg_cnf.specs.declared.lit.Lit.{Lit}
 use Rattle.ygg_cnf.proofs.Lits.{same_lit}
 use Rattle.ygg_chain.specs.Places.{IsDistinct, IsPlaced, literal_at, StandsFor, clause_at, clauses_at}
-
--- a list with one more item
-pub contains_more : {X : Type 0} (xs : List X) (i : ℕ) (d : X) → i < length xs → (y : X)
-    → Contains (take (i + 1) xs) y ↔ (Contains (take i xs) y ⊎ (y ≡ get_or xs i d))
-contains_more {X} xs i d h y =
-    let x : X = get_or xs i d in
-    rw (take_more xs i d h) (
-      (λ c. ⊎_elim (λ a. inl a) (λ e. inr (sym e)) (Contains-push_cases (take i xs) x y c)),
-      ⊎_elim (Contains-append_left (take i xs) (x ∷ []) y) (λ e. subst (λ z. Contains (take i xs ++ x ∷ []) z) (sym e) (Contains-push (take i xs) x)),
-    )
-
-pub contains_all : {X : Type 0} (xs : List X) (i : ℕ) → length xs ≤ i → (y : X) → Contains (take i xs) y ↔ Contains xs y
-contains_all xs i h y = rw (take_all i xs h) ((λ c. c), (λ c. c))
-
-pub contains_front : {X : Type 0} (xs : List X) (i : ℕ) (y : X) → Contains (take i xs) y → Contains xs y
-contains_front xs i y c =
-    let e : take i xs ++ drop i xs ≡ xs = grind (arith, common_steps) in
-    subst (λ l. Contains l y) e (Contains-append_left (take i xs) (drop i xs) y c)
 
 pub contains_map : {X Y : Type 0} (f : X → Y) (xs : List X) (x : X) → Contains xs x → Contains (map f xs) (f x)
 contains_map f xs x (k, within, is) =

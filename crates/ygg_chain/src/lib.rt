@@ -2,7 +2,6 @@
 #![tactic(auto)]
 
 mod checker;
-pub mod marks;
 mod places;
 mod store;
 

@@ -68,7 +68,7 @@ impl Variables {
         })
     }
 
-    /// The literal with its variable's place, after the variable has been given one where it had none. After want of memory
+    /// The literal with its variable's place, after the variable has been given one where it had none. After running out of memory
     /// the variables are as before.
     pub fn enter(&mut self, lit: Lit) -> Result<Lit, NoMemory>
         ensures ok { IfOk result (λ placed. StandsFor self.new placed lit) }

@@ -4,15 +4,15 @@ ghost use Rattle.std.specs.Prelude.{◌≡◌, ℕ, ◌≤◌, ◌*◌, List, []
 ghost use Rattle.ygg_cnf.specs.declared.lit.Lit.{Lit};
 ghost use Rattle.ygg_cnf.specs.Derivations.{HasClause};
 ghost use Rattle.ygg_chain.specs.Places.{IsDistinct, IsPlaced, StandsFor, clause_at};
-ghost use Rattle.ygg_chain.specs.Marks.{Marked, HasMarks};
+ghost use Rattle.ygg_cnf_set.specs.LiteralSet.{InSet, IsSetOf};
 
-use crate::marks::make_room;
 use crate::places::Variables;
 use std::alloc::Global;
 use ygg_cnf::{Clause, Clauses, Lit};
+use ygg_cnf_set::make_room;
 use ygg_list::NoMemory;
 
-/// Clauses in which each variable is replaced by its place among the variables, so that marks are a table by place and no
+/// Clauses in which each variable is replaced by its place among the variables, so that a set of literals is a table by place and no
 /// look-up is made while chains are followed.
 #[derive(Drop)]
 pub struct Store {
@@ -54,41 +54,41 @@ impl Store {
     }
 }
 
-/// The clause with the places of its variables, after those that had none have been given one, and two marks each. After want
+/// The clause with the places of its variables, after those that had none have been given one, and the set its two truth values. After want
 /// of memory some of them may have been given one.
 pub fn enter_all(
     alloc: Global,
-    marks: &mut Vec<bool>,
+    seen: &mut Vec<bool>,
     variables: &mut Variables,
     clause: &[Lit],
 ) -> Result<Clause, NoMemory>
     requires distinct { IsDistinct variables.old }
-    requires room { 2 * length variables.old ≤ length marks.old.items }
+    requires room { 2 * length variables.old ≤ length seen.old.items }
     ensures placed { IfOk result (λ kept. All (IsPlaced variables.new) kept) }
     ensures same { IfOk result (λ kept. clause_at variables.new kept ≡ clause.now) }
     ensures grows { (more : List ℕ) × (variables.new ≡ variables.old ++ more) }
     ensures distinct { IsDistinct variables.new }
-    ensures room { 2 * length variables.new ≤ length marks.new.items }
-    ensures marks { HasMarks marks.new.items (Marked marks.old.items) }
+    ensures room { 2 * length variables.new ≤ length seen.new.items }
+    ensures seen { IsSetOf seen.new.items (InSet seen.old.items) }
 {
     let mut kept = Clause::new(alloc);
     for lit in clause {
-        kept.push(enter(marks, variables, *lit)?)?;
+        kept.push(enter(seen, variables, *lit)?)?;
     }
     Ok(kept)
 }
 
-/// The literal with its variable's place, after the variable has been given one, and two marks, where it had none.
-fn enter(marks: &mut Vec<bool>, variables: &mut Variables, lit: Lit) -> Result<Lit, NoMemory>
+/// The literal with its variable's place, after the variable has been given one, and the set its two truth values, where it had none.
+fn enter(seen: &mut Vec<bool>, variables: &mut Variables, lit: Lit) -> Result<Lit, NoMemory>
     requires distinct { IsDistinct variables.old }
-    requires room { 2 * length variables.old ≤ length marks.old.items }
+    requires room { 2 * length variables.old ≤ length seen.old.items }
     ensures ok { IfOk result (λ placed. StandsFor variables.new placed lit) }
     ensures grows { (more : List ℕ) × (variables.new ≡ variables.old ++ more) }
     ensures distinct { IsDistinct variables.new }
-    ensures room { 2 * length variables.new ≤ length marks.new.items }
-    ensures marks { HasMarks marks.new.items (Marked marks.old.items) }
+    ensures room { 2 * length variables.new ≤ length seen.new.items }
+    ensures seen { IsSetOf seen.new.items (InSet seen.old.items) }
 {
     // The room comes first, so that it is there for each variable whatever fails.
-    make_room(marks, 2 * variables.len() + 2)?;
+    make_room(seen, 2 * variables.len() + 2)?;
     variables.enter(lit)
 }

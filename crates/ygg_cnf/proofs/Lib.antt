@@ -1,3 +1,4 @@
 pub mod Lits
 pub mod Steps
 pub mod Soundness
+pub mod Once

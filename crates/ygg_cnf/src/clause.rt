@@ -1,4 +1,6 @@
 ghost use Rattle.std.specs.Prelude.{◌≡◌, ◌<◌, ◌↔◌, [], ◌∷◌, ◌++◌, length, slice_get, IsTrue, OnOk, OnErr, IfOk};
+ghost use Rattle.std.specs.List.{list_any};
+ghost use Rattle.ygg_cnf.specs.Literals.{is_same, once, with_literal};
 
 use crate::lit::Lit;
 use smallvec::SmallVec;
@@ -7,7 +9,7 @@ use std::marker::Model;
 use ygg_list::{Duplicate, NoMemory, Sequence};
 
 /// A clause: a list of literals, which is read as a set. Order and repetition don't matter, and a clause with a literal and
-/// its complement is true under every assignment.
+/// its complement is true under every assignment. Where a clause is read or made of literals that may repeat, `once` keeps each once.
 #[derive(Debug, Drop)]
 pub struct Clause {
     lits: SmallVec<Lit, 4>,
@@ -35,7 +37,7 @@ impl Clause {
         }
     }
 
-    /// A clause of these literals. Its only error is want of memory.
+    /// A clause of these literals. Its only error is out of memory.
     pub fn from_slice(alloc: Global, lits: &[Lit]) -> Result<Clause, NoMemory>
         ensures { IfOk result (λ clause. clause ≡ lits.now) }
     {
@@ -44,7 +46,37 @@ impl Clause {
         })
     }
 
-    /// Adds a literal at the end. After want of memory the clause is as before.
+    /// A clause of these literals, each of them once, in the order of their first places. Its time grows with the square of their
+    /// number. Its only error is out of memory.
+    pub fn once(alloc: Global, lits: &[Lit]) -> Result<Clause, NoMemory>
+        ensures { IfOk result (λ clause. clause ≡ once lits.now) }
+    {
+        let mut clause = Clause::new(alloc);
+        for lit in lits {
+            clause.include(*lit)?;
+        }
+        Ok(clause)
+    }
+
+    /// Whether the literal is in the clause.
+    pub fn contains(&self, lit: Lit) -> bool
+        ensures { result ≡ list_any (is_same lit) self.now }
+    {
+        self.as_slice().iter().any(|other| lit == *other)
+    }
+
+    /// Adds a literal at the end, where it isn't in the clause yet. After running out of memory the clause is as before.
+    pub fn include(&mut self, lit: Lit) -> Result<(), NoMemory>
+        ensures ok { OnOk result (self.new ≡ with_literal self.old lit) }
+        ensures err { OnErr result (self.new ≡ self.old) }
+    {
+        if self.contains(lit) {
+            return Ok(());
+        }
+        self.push(lit)
+    }
+
+    /// Adds a literal at the end. After running out of memory the clause is as before.
     pub fn push(&mut self, lit: Lit) -> Result<(), NoMemory>
         ensures ok { OnOk result (self.new ≡ self.old ++ lit ∷ []) }
         ensures err { OnErr result (self.new ≡ self.old) }
@@ -53,7 +85,7 @@ impl Clause {
         Ok(())
     }
 
-    /// An equal clause. Its only error is want of memory.
+    /// An equal clause. Its only error is out of memory.
     pub fn copy(&self, alloc: Global) -> Result<Clause, NoMemory>
         ensures { IfOk result (λ copy. copy ≡ self.now) }
     {

@@ -5,7 +5,7 @@ use Rattle.ygg_bank.specs.declared.env.Given.{Given}
 use Rattle.ygg_bank.specs.declared.node.Id.{Id}
 use Rattle.ygg_bank.specs.declared.node.Node.{Node}
 use Rattle.ygg_gates.specs.Groups.{translated}
-use Rattle.ygg_meaning.specs.Laws.{IsZeroIn}
+use Rattle.ygg_gates_meaning.specs.Laws.{IsZeroIn}
 use Rattle.ygg_decide.specs.declared.deciding.Decided.{Decided}
 use Rattle.ygg_decide.specs.declared.deciding.Decided.TheVariants.{Valid, Fails, Spent}
 

@@ -1,7 +1,7 @@
 ghost use Rattle.std.specs.Prelude.{◌≡◌, ◌<◌, IfOk};
 ghost use Rattle.ygg_bank.specs.Nodes.{HasWidth};
 ghost use Rattle.ygg_gates.specs.Groups.{translated};
-ghost use Rattle.ygg_meaning.specs.Laws.{AreExact};
+ghost use Rattle.ygg_gates_meaning.specs.Laws.{AreExact};
 ghost use Rattle.ygg_solver.specs.Answers.{IsNumbered};
 ghost use Rattle.ygg_decide.specs.Deciding.{IsDecided, IsSound};
 
@@ -24,7 +24,7 @@ pub enum Decided {
 }
 
 /// Decides whether a term of width 1 is 1 in every environment, by at most `budget` learned clauses. It leaves the bank as it was.
-/// Its only error is want of memory.
+/// Its only error is out of memory.
 pub fn decide<B: Book>(
     alloc: Global,
     bank: &mut Bank,

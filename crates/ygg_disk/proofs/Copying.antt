@@ -4,7 +4,7 @@ use Rattle.std.proofs.lemmas.List.{ext_get_or}
 use Rattle.ygg_value.specs.Number.{Digits, Grid}
 use Rattle.ygg_value.specs.Values.{table_read}
 use Rattle.ygg_value.proofs.Places.{table_read-get_or}
-use Rattle.ygg_geometry.specs.declared.Geometry.{Geometry}
+use Rattle.ygg_base.specs.declared.geometry.Geometry.{Geometry}
 use Rattle.ygg_disk.specs.Size.{HasSize, IsRowOf}
 
 -- the rows before a place are copied

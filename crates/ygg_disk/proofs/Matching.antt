@@ -45,15 +45,23 @@ module _ (rows : Grid) where
   forward [] d c m h = (settled c m.kept, (m.kept, m.some, refl), h ∙ m.survive)
   forward (Did (Read at) y ∷ es) d c m (picks, d', (p, e, s), rest) =
       (c, (e ∙ ap (λ g. Some (table_read g at)) m.seen, refl), forward es d c m (subst (λ x. async_leaves x es rows) s rest))
-  forward (Did (Write at row) y ∷ es) d c m (picks, d', (p, q, e, s), rest) =
-      (with_write c at row, (e, refl), forward es (written p d at row) (with_write c at row) (matches_written p d c at row m) (subst (λ x. async_leaves x es rows) s rest))
+  forward (Did (Write at row) y ∷ es) d c m (picks, d', (p, q, e, s), rest) = (
+    with_write c at row,
+    (e, refl),
+    forward es (written p d at row) (with_write c at row) (matches_written p d c at row m)
+        (subst (λ x. async_leaves x es rows) s rest),
+  )
   forward (Did Flush y ∷ es) d c m (picks, d', (p, e, s), rest) =
       (settled c c.pending, (e, refl), forward es _ (settled c c.pending) (matches_flushed d c m) (subst (λ x. async_leaves x es rows) s rest))
   forward (Cut (Read at) ∷ es) d c m (picks, d', (p, s), rest) =
       (settled c m.kept, (m.kept, m.some, refl), forward es (lost d) (settled c m.kept) (matches_lost d c m) (subst (λ x. async_leaves x es rows) s rest))
   forward (Cut (Write at row) ∷ es) d c m (picks, d', (p, q, s), rest) =
-      let n = matches_written p d c at row m in
-      (settled c n.kept, (n.kept, n.some, refl), forward es (lost (written p d at row)) (settled c n.kept) (matches_lost (written p d at row) (with_write c at row) n) (subst (λ x. async_leaves x es rows) s rest))
+      let n = matches_written p d c at row m in (
+        settled c n.kept,
+        (n.kept, n.some, refl),
+        forward es (lost (written p d at row)) (settled c n.kept)
+            (matches_lost (written p d at row) (with_write c at row) n) (subst (λ x. async_leaves x es rows) s rest),
+      )
   forward (Cut Flush ∷ es) d c m (picks, d', (p, s), rest) =
       (settled c m.kept, (m.kept, m.some, refl), forward es (lost d) (settled c m.kept) (matches_lost d c m) (subst (λ x. async_leaves x es rows) s rest))
   forward (Lost ∷ es) d c m h =
@@ -67,12 +75,14 @@ module _ (rows : Grid) where
 
   -- with one more write, which is kept or not
   with_pick : (c : Cache) (at : ℕ) (row : Digits) (kept : List PendingWrite) → IsSublist kept (with_write c at row).pending →
-      (p : Bool) × (before : List PendingWrite) × IsSublist before c.pending × ((d : Tables) → d.stable ≡ applied before c.stable → (written p d at row).stable ≡ applied kept c.stable)
+      (p : Bool) × (before : List PendingWrite) × IsSublist before c.pending
+      × ((d : Tables) → d.stable ≡ applied before c.stable → (written p d at row).stable ≡ applied kept c.stable)
   with_pick c at row kept (inl some) = (false, kept, some, λ d e. e)
   with_pick c at row kept (inr (before, is, some)) =
       (true, before, some, λ d e. ap (λ g. table_write g at row) e ∙ ap (λ ws. applied ws c.stable) (sym is))
 
-  foresee_lost : (es : List Event) (c : Cache) (kept : List PendingWrite) → Foreseen (settled c kept) es → (d : Tables) → d.stable ≡ applied kept c.stable → async_leaves (lost d) es rows
+  foresee_lost : (es : List Event) (c : Cache) (kept : List PendingWrite) → Foreseen (settled c kept) es → (d : Tables) →
+      d.stable ≡ applied kept c.stable → async_leaves (lost d) es rows
   foresee_lost es c kept f d e = f.leaves (lost d) e (e ∙ ap (λ ws. applied ws (applied kept c.stable)) (sym f.some))
 
   foresee : (es : List Event) (c : Cache) → pending_leaves c es rows → Foreseen c es
@@ -97,7 +107,12 @@ module _ (rows : Grid) where
       record {
         kept = [];
         some = none_kept c.pending;
-        leaves = λ d v k. ([], record { view = d.view; stable = d.view }, (refl, e, refl), f.leaves _ v (v ∙ ap (λ ws. applied ws (applied c.pending c.stable)) (sym f.some)));
+        leaves = λ d v k. (
+          [],
+          record { view = d.view; stable = d.view },
+          (refl, e, refl),
+          f.leaves _ v (v ∙ ap (λ ws. applied ws (applied c.pending c.stable)) (sym f.some)),
+        );
       }
   foresee (Cut (Read at) ∷ es) c (c', (kept, some, s), rest) =
       let f = foresee es (settled c kept) (subst (λ x. pending_leaves x es rows) s rest) in

@@ -1,54 +1,34 @@
 -- What calls on a ground do: the steps of the disk whose state it tells, and what they leave of `power`.
-use Rattle.std.specs.Prelude.{◌≡◌, ℕ, Bool, true, false, List, [], ◌∷◌, Option, Some, None, MatchBool, Result, Ok, Err, IfOk, ◌↔◌}
+use Rattle.std.specs.Prelude.{◌≡◌, ℕ, Bool, true, false, List, Option, Some, None, MatchBool, Result, Ok, Err, IfOk, ◌↔◌}
 use Rattle.std.specs.Option.{option_map}
 use Rattle.ygg_base.specs.Outside.{Rose}
 use Rattle.ygg_list.specs.declared.memory.NoMemory.{NoMemory}
-use Rattle.ygg_value.specs.Number.{Grid}
 use Rattle.ygg_value.specs.Shapes.{shape_of}
 use Rattle.ygg_value.specs.declared.row.Value.TheVariants as value
 use Rattle.ygg_value.specs.declared.shape.Shape.{Shape}
-use Rattle.ygg_disk.specs.Disk.{Call, Write, Reply, Tables, lost, sync_calls, sync_falls, async_calls, async_falls}
+use Rattle.ygg_disk.specs.Disk.{Call, Reply}
+use Rattle.ygg_disk.specs.Kinds.{Disk, model_of}
 use Rattle.ygg_disk.specs.Power.{Begun, BegunInVain, IsNamed}
 use Rattle.ygg_disk.specs.declared.power.Fuse.{Fuse}
 use Rattle.ygg_disk.specs.declared.power.Power.{Power}
 use Rattle.ygg_disk.specs.declared.turn.Turn.{Turn}
 use Rattle.ygg_disk.specs.declared.turn.Turn.TheVariants as turn
 
--- a state of one of the stated disks
-pub data Disk : Type 0 where
-  -- of a synchronous disk
-  Sync : (view : Grid) → Disk
-  -- of an asynchronous disk
-  Async : (tables : Tables) → Disk
-
--- a whole call on such a disk
-abbrev pub disk_calls : Disk → Call → List Bool → Reply → Disk → Type 0
-disk_calls (Sync view) call picks reply (Sync view') = sync_calls view call picks reply view'
-disk_calls (Async d) call picks reply (Async d') = async_calls d call picks reply d'
-disk_calls (Sync view) call picks reply (Async d') = ⊥
-disk_calls (Async d) call picks reply (Sync view') = ⊥
-
--- power fails within a call on such a disk
-abbrev pub disk_falls : Disk → Call → List Bool → Disk → Type 0
-disk_falls (Sync view) call picks (Sync view') = sync_falls view call picks view'
-disk_falls (Async d) call picks (Async d') = async_falls d call picks d'
-disk_falls (Sync view) call picks (Async d') = ⊥
-disk_falls (Async d) call picks (Sync view') = ⊥
-
 -- such a disk loses power between calls
 abbrev pub disk_lost : Disk → Disk
-disk_lost (Sync view) = Sync view
-disk_lost (Async d) = Async (lost d)
+disk_lost d = record { kind = d.kind; state = (model_of d.kind).lost d.state }
 
 -- where a state is told, a whole call is a step of that disk and the state stays told; what isn't told stays untold
 abbrev pub TellsCall : Option Disk → Call → List Bool → Reply → Option Disk → Type 0
 TellsCall None call picks reply after = after ≡ None
-TellsCall (Some d) call picks reply after = (d' : Disk) × (after ≡ Some d') × disk_calls d call picks reply d'
+TellsCall (Some d) call picks reply after =
+    (state : (model_of d.kind).State) × (after ≡ Some (record { kind = d.kind; state = state })) × (model_of d.kind).Calls d.state call picks reply state
 
 -- the same where power fails within a call
 abbrev pub TellsFall : Option Disk → Call → List Bool → Option Disk → Type 0
 TellsFall None call picks after = after ≡ None
-TellsFall (Some d) call picks after = (d' : Disk) × (after ≡ Some d') × disk_falls d call picks d'
+TellsFall (Some d) call picks after =
+    (state : (model_of d.kind).State) × (after ≡ Some (record { kind = d.kind; state = state })) × (model_of d.kind).Falls d.state call picks state
 
 -- what a ground of the states S means
 pub record Meaning (S : Type 0) : Type 1 where
@@ -71,24 +51,19 @@ pub record Meaning (S : Type 0) : Type 1 where
   -- what a call leaves that failed or found no memory
   pub Breaks : S → Call → S → Type 0
 
--- what the event of a whole call shows: the picks that it took, and the one bit 1 for a write of a synchronous disk, which takes none
-abbrev pub shown : Option Disk → Call → List Bool → List Bool
-shown (Some (Sync view)) (Write at row) picks = true ∷ []
-shown _ call picks = picks
-
 -- a whole call on a ground, which is a step of the disk whose state is told
 pub record Whole {S : Type 0} (G : Meaning S) (call : Call) (reply : Reply) (before after : S) (power power' : Power) : Type 0 where
   pub picks : List Bool
   pub step : G.Calls before call picks reply after
   pub told : TellsCall (G.told before) call picks reply (G.told after)
-  pub leaves : Begun G.follows false call picks (shown (G.told before) call picks) power power'
+  pub leaves : Begun G.follows false call picks power power'
 
 -- power fails within a call on a ground
 pub record Cut {S : Type 0} (G : Meaning S) (call : Call) (before after : S) (power power' : Power) : Type 0 where
   pub picks : List Bool
   pub step : G.Falls before call picks after
   pub told : TellsFall (G.told before) call picks (G.told after)
-  pub leaves : Begun G.follows true call picks picks power power'
+  pub leaves : Begun G.follows true call picks power power'
 
 -- power fails between calls on a ground
 pub record Lost {S : Type 0} (G : Meaning S) (before after : S) : Type 0 where
@@ -128,7 +103,7 @@ Turns G call before after power power' (Ok turn.Down) = Down G call before after
 Turns G call before after power power' (Ok turn.Failed) = Failed G call before after power power'
 Turns G call before after power power' (Err e) = Starved G call before after power power'
 
--- `Down` comes exactly where the fuse names this call, but for want of memory
+-- `Down` comes exactly where the fuse names this call, but for being out of memory
 abbrev pub IsDownWhereNamed : Power → Result Turn NoMemory → Type 0
 IsDownWhereNamed power result = IfOk result (λ t. (t ≡ turn.Down) ↔ IsNamed power)
 

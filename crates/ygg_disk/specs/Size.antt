@@ -4,7 +4,7 @@ use Rattle.ygg_value.specs.Number.{Digits, Grid}
 use Rattle.ygg_value.specs.Shapes.{IsShape}
 use Rattle.ygg_value.specs.declared.shape.Shape.{Shape}
 use Rattle.ygg_value.specs.declared.shape.Shape.TheVariants as shape
-use Rattle.ygg_geometry.specs.declared.Geometry.{Geometry}
+use Rattle.ygg_base.specs.declared.geometry.Geometry.{Geometry}
 
 -- the shape of a disk's table: 1 to 256 rows of 1 to 64 words, at most 4,096 words in all, of 1 to 64 digits
 abbrev pub table_shape : Geometry → Shape

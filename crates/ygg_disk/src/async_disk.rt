@@ -10,7 +10,7 @@ use crate::rows::{copy_rows, read_row, zero_row, zero_table};
 use crate::turn::Turn;
 use std::alloc::Global;
 use std::marker::Model;
-use ygg_geometry::Geometry;
+use ygg_base::Geometry;
 use ygg_list::NoMemory;
 use ygg_value::{Row, Table, Value, Word, table_write};
 
@@ -37,7 +37,7 @@ impl Model for AsyncDisk {
     ghost invariant = { λ d. HasSize d.geometry d.view × HasSize d.geometry d.stable × IsRowOf d.view d.spare };
 }
 
-/// An asynchronous disk of zeros. The geometry's kind counts for nothing. Its only error is want of memory.
+/// An asynchronous disk of zeros. The geometry's kind counts for nothing. Its only error is out of memory.
 pub fn fresh_async(alloc: Global, geometry: Geometry) -> Result<AsyncDisk, NoMemory>
     requires { IsShape (table_shape geometry) }
     ensures { IfOk result (λ disk. disk ≡ record { view = zeros_of geometry; stable = zeros_of geometry }) }
@@ -83,9 +83,10 @@ impl AsyncDisk {
 }
 
 impl Ground for AsyncDisk {
-    ghost use Rattle.ygg_disk.specs.Meanings.{async_meaning};
+    ghost use Rattle.ygg_base.specs.declared.geometry.DiskKind.TheVariants.{Async};
+    ghost use Rattle.ygg_disk.specs.Meanings.{disk_meaning};
 
-    ghost means = { async_meaning };
+    ghost means = { disk_meaning Async };
 
     fn read(&mut self, at: Word, power: &mut Power) -> Result<Turn, NoMemory> {
         let row = read_row(self.alloc, self.geometry, &self.view, at)?;
@@ -100,7 +101,7 @@ impl Ground for AsyncDisk {
 
     fn write(&mut self, at: Word, row: &Row, power: &mut Power) -> Result<Turn, NoMemory> {
         let kept = power.picks.peek();
-        match power.begin_write(self.alloc, at, row, true)? {
+        match power.begin_write(self.alloc, at, row, &[kept], &[kept])? {
             Fate::Whole => {
                 self.put(at, row, kept);
                 Ok(Turn::Done)

@@ -1,8 +1,8 @@
-ghost use Rattle.std.specs.Prelude.{◌≡◌, ◌++◌, [], ◌∷◌, true, false, OnOk, OnErr, IfOk};
+ghost use Rattle.std.specs.Prelude.{◌≡◌, ◌++◌, [], ◌∷◌, true, OnOk, OnErr, IfOk};
 ghost use Rattle.std.specs.Option.{option_map};
 ghost use Rattle.ygg_disk.specs.Disk.{Write};
-ghost use Rattle.ygg_disk.specs.Power.{event_of, noted, Begun};
-ghost use Rattle.ygg_disk.specs.Fate.{IsFate, Begins, call_at, IsAddress, taken, seen};
+ghost use Rattle.ygg_disk.specs.Power.{event_of, noted, shown, AreNext, Begun};
+ghost use Rattle.ygg_disk.specs.Fate.{IsFate, Begins, call_at, IsAddress};
 
 use crate::power::Power;
 use crate::turn::{Did, Event, Events};
@@ -40,12 +40,18 @@ fn plain_event(alloc: Global, at: Option<Word>, cut: bool) -> Event
     }
 }
 
-/// The event of a write, which shows this pick. Its only error is want of memory.
-fn write_event(alloc: Global, at: Word, row: &Row, cut: bool, pick: bool) -> Result<Event, NoMemory>
+/// The event of a write, which shows these picks. Its only error is out of memory.
+fn write_event(
+    alloc: Global,
+    at: Word,
+    row: &Row,
+    cut: bool,
+    picks: &[bool],
+) -> Result<Event, NoMemory>
     requires { at.width ≡ 8 }
-    ensures { IfOk result (λ event. event ≡ event_of (Write at.bits row.now) cut (pick ∷ [])) }
+    ensures { IfOk result (λ event. event ≡ event_of (Write at.bits row.now) cut picks.now) }
 {
-    let picks = Bits::from_slice(alloc, &[pick])?;
+    let picks = Bits::from_slice(alloc, picks)?;
     let row = row.duplicate(alloc)?;
     Ok(Event {
         second: false,
@@ -56,7 +62,7 @@ fn write_event(alloc: Global, at: Word, row: &Row, cut: bool, pick: bool) -> Res
     })
 }
 
-/// Adds the event, where events are wanted. After want of memory they are as before.
+/// Adds the event, where events are wanted. After running out of memory they are as before.
 fn note(events: &mut Option<Events>, event: Event) -> Result<(), NoMemory>
     ensures ok { OnOk result (events.new ≡ option_map (λ es. es ++ event ∷ []) events.old) }
     ensures err { OnErr result (events.new ≡ events.old) }
@@ -67,21 +73,21 @@ fn note(events: &mut Option<Events>, event: Event) -> Result<(), NoMemory>
     }
 }
 
-/// Adds the event of a write, where events are wanted. After want of memory they are as before.
+/// Adds the event of a write, which shows these picks, where events are wanted. After running out of memory they are as before.
 fn note_write(
     events: &mut Option<Events>,
     alloc: Global,
     at: Word,
     row: &Row,
     cut: bool,
-    pick: bool,
+    picks: &[bool],
 ) -> Result<(), NoMemory>
     requires { at.width ≡ 8 }
-    ensures ok { OnOk result (events.new ≡ noted (Write at.bits row.now) cut (pick ∷ []) events.old) }
+    ensures ok { OnOk result (events.new ≡ noted (Write at.bits row.now) cut picks.now events.old) }
     ensures err { OnErr result (events.new ≡ events.old) }
 {
     match events {
-        Some(events) => events.push(write_event(alloc, at, row, cut, pick)?),
+        Some(events) => events.push(write_event(alloc, at, row, cut, picks)?),
         None => Ok(()),
     }
 }
@@ -103,10 +109,10 @@ impl Power {
         }
     }
 
-    /// A read at a place has begun, or a flush, which has none. After want of memory nothing has changed.
+    /// A read at a place has begun, or a flush, which has none. After running out of memory nothing has changed.
     fn began(&mut self, alloc: Global, at: Option<Word>, cut: bool) -> Result<(), NoMemory>
         requires { IsAddress at }
-        ensures ok { OnOk result (Begun true cut (call_at at) [] [] self.old self.new) }
+        ensures ok { OnOk result (Begun true cut (call_at at) [] self.old self.new) }
         ensures err { OnErr result (self.new ≡ self.old) }
     {
         note(&mut self.events, plain_event(alloc, at, cut))?;
@@ -116,35 +122,37 @@ impl Power {
         Ok(())
     }
 
-    /// A write has begun, and takes a pick or not. After want of memory nothing has changed.
+    /// A write has begun, and takes these picks. After running out of memory nothing has changed.
     fn began_write(
         &mut self,
         alloc: Global,
         at: Word,
         row: &Row,
         cut: bool,
-        takes: bool,
+        picks: &[bool],
     ) -> Result<(), NoMemory>
-        requires { at.width ≡ 8 }
-        ensures ok { OnOk result (Begun true cut (Write at.bits row.now) (taken takes self.old.picks) (seen takes self.old.picks) self.old self.new) }
+        requires width { at.width ≡ 8 }
+        requires next { AreNext picks.now self.old.picks }
+        ensures ok { OnOk result (Begun true cut (Write at.bits row.now) picks.now self.old self.new) }
         ensures err { OnErr result (self.new ≡ self.old) }
     {
-        let pick = !takes || self.picks.peek();
-        note_write(&mut self.events, alloc, at, row, cut, pick)?;
-        if takes {
-            self.picks.take();
+        if picks.is_empty() && !cut {
+            note_write(&mut self.events, alloc, at, row, cut, &[true])?;
+        } else {
+            note_write(&mut self.events, alloc, at, row, cut, picks)?;
         }
+        self.picks.take_all(picks);
         if !cut {
             self.passed = self.passed.saturating_add(1);
         }
         Ok(())
     }
 
-    /// A read at a place begins, or a flush, which has none, unless power fails before it. After want of memory nothing has
+    /// A read at a place begins, or a flush, which has none, unless power fails before it. After running out of memory nothing has
     /// changed.
     pub fn begin(&mut self, alloc: Global, at: Option<Word>) -> Result<Fate, NoMemory>
         requires { IsAddress at }
-        ensures { Begins false (call_at at) self.old self.new result }
+        ensures { Begins (call_at at) [] [] self.old self.new result }
     {
         let fate = self.fate();
         match fate {
@@ -155,22 +163,25 @@ impl Power {
         Ok(fate)
     }
 
-    /// A write begins, unless power fails before it. It takes a pick where power fails within it, and where `late` says so of
-    /// a whole one. After want of memory nothing has changed.
+    /// A write begins, unless power fails before it. It takes the picks of `whole`, or those of `within` where power fails within it: in
+    /// either case the next ones. After running out of memory nothing has changed.
     pub fn begin_write(
         &mut self,
         alloc: Global,
         at: Word,
         row: &Row,
-        late: bool,
+        whole: &[bool],
+        within: &[bool],
     ) -> Result<Fate, NoMemory>
-        requires { at.width ≡ 8 }
-        ensures { Begins late (Write at.bits row.now) self.old self.new result }
+        requires width { at.width ≡ 8 }
+        requires whole { AreNext whole.now self.old.picks }
+        requires within { AreNext within.now self.old.picks }
+        ensures { Begins (Write at.bits row.now) whole.now within.now self.old self.new result }
     {
         let fate = self.fate();
         match fate {
-            Fate::Whole => self.began_write(alloc, at, row, false, late)?,
-            Fate::Within => self.began_write(alloc, at, row, true, true)?,
+            Fate::Whole => self.began_write(alloc, at, row, false, whole)?,
+            Fate::Within => self.began_write(alloc, at, row, true, within)?,
             Fate::Before => {}
         }
         Ok(fate)

@@ -4,7 +4,7 @@ use ygg_list::NoMemory;
 use ygg_value::{Row, Word};
 
 /// What a disk call is made on. `Down` is answered exactly where the fuse of `power` names the call, and power is then lost: before
-/// the call or within it. `Failed` is answered only where the count of faults has risen. After want of memory `power` is as before,
+/// the call or within it. `Failed` is answered only where the count of faults has risen. After running out of memory `power` is as before,
 /// and the state is what `means` says.
 pub trait Ground {
     ghost use Rattle.std.specs.Prelude.{◌≡◌, ◌≤◌, IsTrue, IsSome, length};

@@ -1,5 +1,5 @@
 ghost use Rattle.std.specs.Prelude.{◌≡◌};
-ghost use Rattle.ygg_disk.specs.Power.{pick_of, after_pick};
+ghost use Rattle.ygg_disk.specs.Power.{pick_of, after_pick, AreNext, Takes};
 
 use crate::turn::Events;
 use ygg_base::Bits;
@@ -48,6 +48,16 @@ impl Picks {
     {
         if self.next < self.bits.len() as u64 {
             self.next += 1;
+        }
+    }
+
+    /// Takes these picks, which are the next ones.
+    pub fn take_all(&mut self, picks: &[bool])
+        requires { AreNext picks.now self.old }
+        ensures { Takes picks.now self.old self.new }
+    {
+        for _ in picks {
+            self.take();
         }
     }
 }

@@ -6,11 +6,11 @@ ghost use Rattle.ygg_value.specs.Values.{table_read};
 ghost use Rattle.ygg_disk.specs.Size.{table_shape, zeros_of, HasSize, IsRowOf};
 
 use std::alloc::Global;
-use ygg_geometry::Geometry;
+use ygg_base::Geometry;
 use ygg_list::NoMemory;
 use ygg_value::{Row, Shape, Table, Value, Word, table_read, table_write, zero};
 
-/// A row of zeros of the disk's size. Its only error is want of memory.
+/// A row of zeros of the disk's size. Its only error is out of memory.
 pub fn zero_row(alloc: Global, geometry: Geometry) -> Result<Row, NoMemory>
     requires { IsShape (table_shape geometry) }
     ensures { IfOk result (λ row. row ≡ record { width = geometry.width; words = replicate geometry.words 0 }) }
@@ -25,7 +25,7 @@ pub fn zero_row(alloc: Global, geometry: Geometry) -> Result<Row, NoMemory>
     }
 }
 
-/// A table of zeros of the disk's size. Its only error is want of memory.
+/// A table of zeros of the disk's size. Its only error is out of memory.
 pub fn zero_table(alloc: Global, geometry: Geometry) -> Result<Table, NoMemory>
     requires { IsShape (table_shape geometry) }
     ensures { IfOk result (λ table. table ≡ zeros_of geometry) }
@@ -41,7 +41,7 @@ pub fn zero_table(alloc: Global, geometry: Geometry) -> Result<Table, NoMemory>
     }
 }
 
-/// The row at a place of a table, counted from 0; zeros past the end. Its only error is want of memory.
+/// The row at a place of a table, counted from 0; zeros past the end. Its only error is out of memory.
 pub fn read_row(alloc: Global, geometry: Geometry, table: &Table, at: Word) -> Result<Row, NoMemory>
     requires { HasSize geometry table.now }
     ensures value { IfOk result (λ row. row ≡ table_read table.now at.bits) }

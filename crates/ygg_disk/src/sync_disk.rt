@@ -9,7 +9,7 @@ use crate::rows::{read_row, zero_table};
 use crate::turn::Turn;
 use std::alloc::Global;
 use std::marker::Model;
-use ygg_geometry::Geometry;
+use ygg_base::Geometry;
 use ygg_list::NoMemory;
 use ygg_value::{Row, Table, Value, Word, table_write};
 
@@ -33,7 +33,7 @@ impl Model for SyncDisk {
     ghost invariant = { λ d. HasSize d.geometry d.view };
 }
 
-/// A synchronous disk of zeros. The geometry's kind counts for nothing. Its only error is want of memory.
+/// A synchronous disk of zeros. The geometry's kind counts for nothing. Its only error is out of memory.
 pub fn fresh_sync(alloc: Global, geometry: Geometry) -> Result<SyncDisk, NoMemory>
     requires { IsShape (table_shape geometry) }
     ensures { IfOk result (λ disk. disk ≡ zeros_of geometry) }
@@ -47,9 +47,10 @@ pub fn fresh_sync(alloc: Global, geometry: Geometry) -> Result<SyncDisk, NoMemor
 }
 
 impl Ground for SyncDisk {
-    ghost use Rattle.ygg_disk.specs.Meanings.{sync_meaning};
+    ghost use Rattle.ygg_base.specs.declared.geometry.DiskKind.TheVariants.{Sync};
+    ghost use Rattle.ygg_disk.specs.Meanings.{disk_meaning};
 
-    ghost means = { sync_meaning };
+    ghost means = { disk_meaning Sync };
 
     fn read(&mut self, at: Word, power: &mut Power) -> Result<Turn, NoMemory> {
         let row = read_row(self.alloc, self.geometry, &self.view, at)?;
@@ -61,7 +62,7 @@ impl Ground for SyncDisk {
 
     fn write(&mut self, at: Word, row: &Row, power: &mut Power) -> Result<Turn, NoMemory> {
         let kept = power.picks.peek();
-        match power.begin_write(self.alloc, at, row, false)? {
+        match power.begin_write(self.alloc, at, row, &[], &[kept])? {
             Fate::Whole => {
                 table_write(&mut self.view, at, row);
                 Ok(Turn::Done)

@@ -1,13 +1,12 @@
-//! Laws of blocks and of obligations.
+//! What holds of runs on every machine below a layer.
 
-ghost use Rattle.ygg_eval.specs.Laws.{AnswersInOrder, RefinesByList};
+ghost use Rattle.ygg_eval.specs.Steps.{RunsAreSteps};
 
-/// A block that asks for something after some answers has asked for something after each shorter list of them.
-pub fn answers_in_order()
-    ensures { AnswersInOrder }
-{}
+use ygg_eval_lower::Lower;
 
-/// A layer refines its specification exactly where each obligation in its list holds.
-pub fn refines_by_list()
-    ensures { RefinesByList }
+/// A run of a block that makes no choice is one on the machine whose steps the calls of the machine below are, however it ends: whole runs are
+/// whole ones, power failing in them falls, and after `Failed` or out of memory the first calls of the block were made, all of them whole but at
+/// most the last. So the count of faults never falls, it rose after `Failed`, and `Down` comes exactly where the fuse's call is reached.
+pub fn runs_are_steps<W: Lower>()
+    ensures { RunsAreSteps W.means }
 {}

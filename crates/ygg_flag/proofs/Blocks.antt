@@ -5,15 +5,15 @@ use Rattle.std.proofs.lemmas.List.Elements.{All-head, All-tail}
 use Rattle.ygg_value.specs.Words.{word}
 use Rattle.ygg_value.specs.Values.{digit}
 use Rattle.ygg_value.specs.declared.row.Value.TheVariants.{Word, Row}
-use Rattle.ygg_syntax.specs.declared.flag.Formula.{Formula}
+use Rattle.ygg_syntax.specs.declared.flag.FlagExpr.{FlagExpr}
 use Rattle.ygg_syntax.specs.declared.tree.Expr.{Expr}
 use Rattle.ygg_syntax.specs.declared.tree.Expr.TheVariants as expr
 use Rattle.ygg_syntax.specs.declared.tree.Name.{Name}
 use Rattle.ygg_syntax.specs.declared.tree.Stmt.TheFolds.{fold-roll-Stmt}
 use Rattle.ygg_syntax.specs.declared.tree.Stmt.TheVariants as stmt
-use Rattle.ygg_eval.specs.Environments.{Env}
-use Rattle.ygg_eval.specs.Meaning.{Scope, Functions, value_with, row_of}
-use Rattle.ygg_eval.specs.Progress.{Eval, Run, Answer, Question, Call, Point, Waits, Goes, and_then, ask, in_turn, run_of, stmt_run, block_run}
+use Rattle.ygg_meaning.specs.Environments.{Env}
+use Rattle.ygg_meaning.specs.Meaning.{Scope, Functions, value_with, row_of}
+use Rattle.ygg_meaning.specs.Progress.{Eval, Run, Answer, Question, Call, Point, Waits, Goes, and_then, ask, in_turn, run_of, stmt_run, block_run}
 use Rattle.ygg_flag.specs.Trees.{somewhere, named, constant, expression, write_of}
 use Rattle.ygg_flag.proofs.Disk.{write_question}
 use Rattle.ygg_flag.proofs.Expressions.{constant_value, row_value}
@@ -40,16 +40,16 @@ module _ (functions : Functions) where
   eval e env = value_with functions e (record { own = env; low = [] })
 
   -- where each expression is worth its bit, the writes ask for those bits in turn
-  module _ (env : Env) (bit : Formula → Bool) (Fits : Formula → Type 0)
-      (worth : (e : Formula) → Fits e → eval (expression e) env ≡ digit (bit e)) where
-    asked_for : (e : Formula) → Fits e →
+  module _ (env : Env) (bit : FlagExpr → Bool) (Fits : FlagExpr → Type 0)
+      (worth : (e : FlagExpr) → Fits e → eval (expression e) env ≡ digit (bit e)) where
+    asked_for : (e : FlagExpr) → Fits e →
         ◌≡◌ {A = Question} (Call (codes "write") (map (λ x. eval x env) (constant 0 8 ∷ expr.Row somewhere (expression e ∷ []) ∷ []))) (write_question (bit e))
     asked_for e h =
         let scope : Scope = record { own = env; low = [] } in
         ap (λ at. Call (codes "write") (at ∷ eval (expr.Row somewhere (expression e ∷ [])) env ∷ [])) (constant_value functions 0 8 scope)
         ∙ ap (λ row. Call (codes "write") (Word (word 8 0) ∷ row ∷ [])) (row_value functions (expression e) scope ∙ ap (λ v. Row (row_of (v ∷ []))) (worth e h))
 
-    pub writes_in_turn : (es : List Formula) → All Fits es → (answers : List Answer) →
+    pub writes_in_turn : (es : List FlagExpr) → All Fits es → (answers : List Answer) →
         in_turn (map (run_of eval) (map write_of es)) env answers ≡ calling (map write_question (map bit es)) env answers
     writes_in_turn [] h answers = refl
     writes_in_turn (e ∷ es) h answers =

@@ -8,15 +8,15 @@ use Rattle.ygg_value.specs.Values.{digit, word_in, apply_value, part_of}
 use Rattle.ygg_value.specs.declared.operation.Op.TheVariants.{Eq}
 use Rattle.ygg_value.specs.declared.row.Value.{Value}
 use Rattle.ygg_value.specs.declared.row.Value.TheVariants.{Word, Row, Table}
-use Rattle.ygg_syntax.specs.declared.flag.Formula.{Formula, roll-Formula, map-Formula}
-use Rattle.ygg_syntax.specs.declared.flag.Formula.TheOpen.{Formula-F}
-use Rattle.ygg_syntax.specs.declared.flag.Formula.TheFolds.{fold-roll-Formula, ind-Formula}
+use Rattle.ygg_syntax.specs.declared.flag.FlagExpr.{FlagExpr, roll-FlagExpr, map-FlagExpr}
+use Rattle.ygg_syntax.specs.declared.flag.FlagExpr.TheOpen.{FlagExpr-F}
+use Rattle.ygg_syntax.specs.declared.flag.FlagExpr.TheFolds.{fold-roll-FlagExpr, ind-FlagExpr}
 use Rattle.ygg_syntax.specs.declared.tree.Expr.{Expr}
 use Rattle.ygg_syntax.specs.declared.tree.Expr.TheOpen.{Expr-F}
 use Rattle.ygg_syntax.specs.declared.tree.Expr.TheFolds.{fold-roll-Expr}
 use Rattle.ygg_syntax.specs.declared.tree.Expr.TheVariants as expr
-use Rattle.ygg_eval.specs.Environments.{look_up}
-use Rattle.ygg_eval.specs.Meaning.{Scope, Functions, value_with, node_value, row_of}
+use Rattle.ygg_meaning.specs.Environments.{look_up}
+use Rattle.ygg_meaning.specs.Meaning.{Scope, Functions, value_with, node_value, row_of}
 use Rattle.ygg_flag.specs.declared.bits.Bits.{Bits}
 use Rattle.ygg_flag.specs.Bits.{same_bit, bit_node, bit_in}
 use Rattle.ygg_syntax.specs.FlagNames.{names_node, names_in, stored_node, has_stored}
@@ -96,30 +96,30 @@ module _ (functions : Functions) where
     abbrev Good : Expr → List (List ℕ) → Bool → (Bits → Bool) → Type 0
     Good e names looks bit = All IsKnown names → (looks ≡ true → HoldsBit) → value_of e scope ≡ digit (bit bits)
 
-    abbrev Agrees : Formula → Type 0
+    abbrev Agrees : FlagExpr → Type 0
     Agrees e = Good (expression e) (names_in e) (has_stored e) (bit_in state e)
 
     abbrev Checked : Type 0
-    Checked = (e : Formula) × Agrees e
+    Checked = (e : FlagExpr) × Agrees e
 
-    abbrev Node : Formula-F Formula → Type 0
+    abbrev Node : FlagExpr-F FlagExpr → Type 0
     Node z =
-        Good (expression_node (map-Formula Formula Expr expression z)) (names_node (map-Formula Formula (List (List ℕ)) names_in z))
-        (stored_node (map-Formula Formula Bool has_stored z)) (bit_node state (map-Formula Formula (Bits → Bool) (bit_in state) z))
+        Good (expression_node (map-FlagExpr FlagExpr Expr expression z)) (names_node (map-FlagExpr FlagExpr (List (List ℕ)) names_in z))
+        (stored_node (map-FlagExpr FlagExpr Bool has_stored z)) (bit_node state (map-FlagExpr FlagExpr (Bits → Bool) (bit_in state) z))
 
-    node_agrees : (y : Formula-F Checked) → Node (map-Formula Checked Formula (λ e. e.0) y)
-    node_agrees (Formula-F.Bit b) known stored = constant_value (bit_of b) 1 scope
-    node_agrees (Formula-F.Name text) known stored = variable_value text scope ∙ All-head IsKnown text [] known
-    node_agrees (Formula-F.Not a) known stored =
+    node_agrees : (y : FlagExpr-F Checked) → Node (map-FlagExpr Checked FlagExpr (λ e. e.0) y)
+    node_agrees (FlagExpr-F.Bit b) known stored = constant_value (bit_of b) 1 scope
+    node_agrees (FlagExpr-F.Name text) known stored = variable_value text scope ∙ All-head IsKnown text [] known
+    node_agrees (FlagExpr-F.Not a) known stored =
         not_value (expression a.0) scope ∙ ap (λ v. Word (not_of (word_in v))) (a.1 known stored) ∙ not_digit (bit_in state a.0 bits)
-    node_agrees Formula-F.Stored known stored =
+    node_agrees FlagExpr-F.Stored known stored =
         let row = expr.At low_view somewhere (constant 0 8) in
         at_value row (constant 0 1) scope
         ∙ ap (λ v. part_of (value_of row scope) (word_in v).bits) (constant_value 0 1 scope)
         ∙ ap (λ v. part_of v 0) (at_value low_view (constant 0 8) scope)
         ∙ ap (λ v. part_of (part_of (value_of low_view scope) (word_in v).bits) 0) (constant_value 0 8 scope)
         ∙ ap (λ v. part_of (part_of v 0) 0) (low_value (codes "view") scope ∙ stored refl) ∙ stored_digit bits.stored
-    node_agrees (Formula-F.Equal a b) known stored =
+    node_agrees (FlagExpr-F.Equal a b) known stored =
         let first = a.1 (all_left IsKnown (names_in a.0) (names_in b.0) known) (λ h. stored (or_left (has_stored a.0) (has_stored b.0) h)) in
         let second = b.1 (all_right IsKnown (names_in a.0) (names_in b.0) known) (λ h. stored (or_right (has_stored a.0) (has_stored b.0) h)) in
         equal_value (expression a.0) (expression b.0) scope
@@ -127,13 +127,13 @@ module _ (functions : Functions) where
         ∙ ap (λ v. apply_value Eq (digit (bit_in state a.0 bits)) v) second
         ∙ equal_digits (bit_in state a.0 bits) (bit_in state b.0 bits)
 
-    pub expression_agrees : (e : Formula) → Agrees e
-    expression_agrees = ind-Formula Agrees (λ x y is.
-        let translated = expression_node (map-Formula Formula Expr expression x) in
-        let names = names_node (map-Formula Formula (List (List ℕ)) names_in x) in
-        let looks = stored_node (map-Formula Formula Bool has_stored x) in
-        let whole = roll-Formula x in
-        subst (λ e. Good e (names_in whole) (has_stored whole) (bit_in state whole)) (sym (fold-roll-Formula Expr expression_node x))
-        (subst (λ n. Good translated n (has_stored whole) (bit_in state whole)) (sym (fold-roll-Formula (List (List ℕ)) names_node x))
-        (subst (λ l. Good translated names l (bit_in state whole)) (sym (fold-roll-Formula Bool stored_node x))
-        (subst (λ b. Good translated names looks b) (sym (fold-roll-Formula (Bits → Bool) (bit_node state) x)) (subst Node is (node_agrees y))))))
+    pub expression_agrees : (e : FlagExpr) → Agrees e
+    expression_agrees = ind-FlagExpr Agrees (λ x y is.
+        let translated = expression_node (map-FlagExpr FlagExpr Expr expression x) in
+        let names = names_node (map-FlagExpr FlagExpr (List (List ℕ)) names_in x) in
+        let looks = stored_node (map-FlagExpr FlagExpr Bool has_stored x) in
+        let whole = roll-FlagExpr x in
+        subst (λ e. Good e (names_in whole) (has_stored whole) (bit_in state whole)) (sym (fold-roll-FlagExpr Expr expression_node x))
+        (subst (λ n. Good translated n (has_stored whole) (bit_in state whole)) (sym (fold-roll-FlagExpr (List (List ℕ)) names_node x))
+        (subst (λ l. Good translated names l (bit_in state whole)) (sym (fold-roll-FlagExpr Bool stored_node x))
+        (subst (λ b. Good translated names looks b) (sym (fold-roll-FlagExpr (Bits → Bool) (bit_node state) x)) (subst Node is (node_agrees y))))))

@@ -1,13 +1,13 @@
 -- What the blocks of a flag file's layer do.
 use Rattle.std.proofs.Common.{◌≡◌, ◌≢◌, ℕ, ◌+◌, ◌&&◌, Bool, true, false, if◌then◌else◌, List, [], ◌∷◌, take, Option, Some, None, refl, sym, ap, ◌∙◌}
-use Rattle.std.specs.List.{All, Contains, list_all}
+use Rattle.std.specs.List.{All, Contains}
 use Rattle.std.specs.Str.{bytes_eq}
 use Rattle.std.proofs.lemmas.Slice.Eq.{bytes_eq-Decides}
 use Rattle.std.proofs.lemmas.List.Elements.{All-nil, All-cons, All-weaker, All-contains}
 use Rattle.std.proofs.Math.Bool.{and-true}
 use Rattle.ygg_value.specs.Values.{digit}
 use Rattle.ygg_syntax.specs.declared.flag.FlagFile.{FlagFile}
-use Rattle.ygg_syntax.specs.declared.flag.Formula.{Formula}
+use Rattle.ygg_syntax.specs.declared.flag.FlagExpr.{FlagExpr}
 use Rattle.ygg_syntax.specs.FlagNames.{FitsNames, UsesOnly, DependsOnly, names_in, has_stored}
 use Rattle.ygg_syntax.specs.Choices.{choices_of, node_steps, block_steps}
 use Rattle.ygg_syntax.specs.declared.tree.Name.{Name}
@@ -15,16 +15,16 @@ use Rattle.ygg_syntax.specs.declared.tree.Source.{Source}
 use Rattle.ygg_syntax.specs.declared.tree.Source.TheVariants as source
 use Rattle.ygg_syntax.specs.declared.tree.Stmt.TheVariants as stmt
 use Rattle.ygg_syntax.specs.declared.tree.Stmt.TheFolds.{fold-Stmt, fold-roll-Stmt}
-use Rattle.ygg_eval.specs.Environments.{Env, nothing, look_up, assign}
-use Rattle.ygg_eval.specs.Meaning.{Scope, is_one}
-use Rattle.ygg_eval.specs.Shapes.{env_fits}
-use Rattle.ygg_eval.specs.Progress.{Eval, Run, Answer, Goes, and_then, in_turn, run_of, stmt_run, block_run, from_source, assigned, ended}
-use Rattle.ygg_eval.specs.Layer.{ClosedLayer, eval_of, dialogue_of}
-use Rattle.ygg_eval.specs.Spec.{Outcome, outcome_at, call_outcome}
-use Rattle.ygg_eval.specs.Related as author
+use Rattle.ygg_meaning.specs.Environments.{Env, nothing, look_up, assign}
+use Rattle.ygg_meaning.specs.Meaning.{Scope, is_one}
+use Rattle.ygg_meaning.specs.Shapes.{env_fits}
+use Rattle.ygg_meaning.specs.Progress.{Eval, Run, Answer, Goes, and_then, in_turn, run_of, stmt_run, block_run, from_source, assigned, ended}
+use Rattle.ygg_meaning.specs.Layer.{ClosedLayer, eval_of, dialogue_of}
+use Rattle.ygg_meaning.specs.Spec.{Outcome, outcome_at, call_outcome}
+use Rattle.ygg_meaning.specs.Related as author
 use Rattle.ygg_flag.specs.declared.bits.Bits.{Bits}
 use Rattle.ygg_flag.specs.Bits.{value, related, specified, written}
-use Rattle.ygg_machine.specs.Stack.{tables_of}
+use Rattle.ygg_histories.specs.Stack.{tables_of}
 use Rattle.ygg_flag.specs.Trees.{one_bit, named, expression, operation}
 use Rattle.ygg_flag.specs.Obligations.{closed}
 use Rattle.ygg_flag.proofs.Expressions.{expression_agrees, IsKnown}
@@ -38,10 +38,10 @@ one_of_digit true = refl
 one_of_digit false = refl
 
 -- what holds of each of some names holds of each that an expression uses
-known_of : (P : List ℕ → Type 0) (names : List (List ℕ)) (e : Formula) → All P names → UsesOnly names e → All P (names_in e)
+known_of : (P : List ℕ → Type 0) (names : List (List ℕ)) (e : FlagExpr) → All P names → UsesOnly names e → All P (names_in e)
 known_of P names e known uses = All-weaker (Contains names) P (λ x c. All-contains P names x known c) (names_in e) uses
 
-blind_never : (e : Formula) → has_stored e ≡ false → {P : Type 0} → has_stored e ≡ true → P
+blind_never : (e : FlagExpr) → has_stored e ≡ false → {P : Type 0} → has_stored e ≡ true → P
 blind_never e blind looks = absurd (cc)
 
 -- one assignment of a whole variable
@@ -60,7 +60,8 @@ argument_of f a = (f.argument, digit a) ∷ []
 pub no_choices : (f : FlagFile) → choices_of (operation f).spec ≡ 0
 no_choices f =
     ap (λ n. 0 + n)
-    (ap (fold-Stmt ℕ ℕ (node_steps 1 0) block_steps) (sym (stmt.rolls-Assign (named f.assigned) [] (source.Value (expression f.spec)))) ∙ fold-roll-Stmt ℕ ℕ (node_steps 1 0) block_steps _)
+    (ap (fold-Stmt ℕ ℕ (node_steps 1 0) block_steps) (sym (stmt.rolls-Assign (named f.assigned) [] (source.Value (expression f.spec))))
+    ∙ fold-roll-Stmt ℕ ℕ (node_steps 1 0) block_steps _)
 
 bytes_differ : (x y : List ℕ) → x ≢ y → bytes_eq y x ≡ false
 bytes_differ x y differ = at (bytes_eq y x) refl
@@ -118,7 +119,7 @@ module _ (f : FlagFile) (fit : FitsNames f) where
 
   pub related_bits : (vars memory low : Env) → author.related L vars memory low ≡ true → RelatedBits vars memory low
   related_bits vars memory low h =
-      let shaped = and_first (author.shaped L vars memory low) (list_all (author.holds L vars memory low) (author.relations L)) h in
+      let shaped = and_first (author.shaped L vars memory low) (author.all_true (author.relates L vars memory low)) h in
       let upper = env_fits L.layer.state vars && env_fits [] memory in
       let first : upper ≡ true = and_first upper (env_fits L.low low) shaped in
       let (s, vars_are) = variable_is f.state vars (and_first (env_fits L.layer.state vars) (env_fits [] memory) first) in
@@ -139,7 +140,7 @@ module _ (f : FlagFile) (fit : FitsNames f) where
       ap (ended (eval_of L) None (argument_of f a))
       (writes_in_turn L.functions (argument_of f a) (λ e. value f e false a false) (DependsOnly (f.argument ∷ [])) worth f.writes fit.writes more)
     where
-      worth : (e : Formula) → DependsOnly (f.argument ∷ []) e → eval_of L (expression e) (argument_of f a) ≡ digit (value f e false a false)
+      worth : (e : FlagExpr) → DependsOnly (f.argument ∷ []) e → eval_of L (expression e) (argument_of f a) ≡ digit (value f e false a false)
       worth e h =
           let scope : Scope = record { own = argument_of f a; low = [] } in
           let bits : Bits = record { state = false; argument = a; stored = false } in
@@ -152,7 +153,8 @@ module _ (f : FlagFile) (fit : FitsNames f) where
   spec_gives s a answers =
       let env : Env = (f.state, digit s) ∷ argument_of f a in
       let gives : Env → Option Outcome = λ vars. Some (record { vars = take 1 vars; answer = None; left = answers }) in
-      let changed : Bool → Env = λ same. if same then (f.state, digit (specified f s a)) ∷ argument_of f a else (f.state, digit s) ∷ assign (argument_of f a) f.state (digit (specified f s a)) in
+      let changed : Bool → Env = λ same. if same then (f.state, digit (specified f s a)) ∷ argument_of f a else (f.state, digit s) ∷ assign
+      (argument_of f a) f.state (digit (specified f s a)) in
       ap (λ p. outcome_at (eval_of L) (operation f).spec (state_of f s) (and_then p (in_turn [])))
       (assign_run (eval_of L) (named f.assigned) (source.Value (expression f.spec)) env answers)
       ∙ ap (λ v. gives (assign env f.assigned v)) worth ∙ ap (λ x. gives (assign env x (digit (specified f s a)))) fit.assigned
@@ -166,4 +168,5 @@ module _ (f : FlagFile) (fit : FitsNames f) where
           let argument = argument_after s a false [] in
           let both : All known (f.state ∷ f.argument ∷ []) =
           All-cons known f.state (f.argument ∷ []) (state_known s a false (argument_of f a) []) (All-cons known f.argument [] argument (All-nil known)) in
-          expression_agrees L.functions f.state scope bits f.spec (known_of known (f.state ∷ f.argument ∷ []) f.spec both fit.spec.uses) (blind_never f.spec fit.spec.blind)
+          expression_agrees L.functions f.state scope bits f.spec (known_of known (f.state ∷ f.argument ∷ []) f.spec both fit.spec.uses)
+          (blind_never f.spec fit.spec.blind)

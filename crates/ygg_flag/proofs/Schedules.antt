@@ -1,41 +1,20 @@
 -- Schedules of the operation of a flag file.
-use Rattle.std.proofs.Common.{◌≡◌, Bool, true, false, IsTrue, if◌then◌else◌, List, [], ◌∷◌, Option, Some, None, refl, sym, ap, ◌∙◌, subst}
-use Rattle.std.specs.Str.{bytes_eq}
-use Rattle.std.proofs.lemmas.Slice.Eq.{bytes_eq-Decides}
+use Rattle.std.proofs.Common.{◌≡◌, true, IsTrue, List, [], ◌∷◌, Option, subst}
 use Rattle.ygg_value.specs.Values.{digit}
 use Rattle.ygg_value.specs.declared.row.Value.{Value}
 use Rattle.ygg_syntax.specs.declared.flag.FlagFile.{FlagFile}
 use Rattle.ygg_syntax.specs.FlagNames.{FitsNames}
-use Rattle.ygg_syntax.specs.declared.tree.Operation.{Operation}
-use Rattle.ygg_eval.specs.Environments.{Env, Name}
-use Rattle.ygg_eval.specs.Shapes.{values_fit}
-use Rattle.ygg_eval.specs.Layer.{operation_of}
-use Rattle.ygg_eval.specs.Related as author
-use Rattle.ygg_eval.specs.Obligations.{Halt, Schedule}
+use Rattle.ygg_meaning.specs.Environments.{Env}
+use Rattle.ygg_meaning.specs.Shapes.{values_fit}
+use Rattle.ygg_meaning.specs.Related as author
+use Rattle.ygg_meaning.specs.Obligations.{Halt, Schedule}
 use Rattle.ygg_flag.specs.declared.bits.Bits.{Bits}
 use Rattle.ygg_flag.specs.Bits.{related}
 use Rattle.ygg_flag.specs.Trees.{operation}
 use Rattle.ygg_flag.specs.Obligations.{closed}
 use Rattle.ygg_flag.proofs.Disk.{tables}
-use Rattle.ygg_flag.proofs.Shapes.{bytes_same, argument_is}
+use Rattle.ygg_flag.proofs.Shapes.{argument_is}
 use Rattle.ygg_flag.proofs.Layers.{state_of, related_bits}
-
--- an operation that is found is the file's one
-pub record TheOperation (f : FlagFile) (name : Name) (o : Operation) : Type 0 where
-  pub named : f.operation ≡ name
-  pub is : operation f ≡ o
-
-pub the_operation : (f : FlagFile) (name : Name) (o : Operation) → operation_of (closed f) name ≡ Some o → TheOperation f name o
-the_operation f name o found = at (bytes_eq f.operation name) refl
-  where
-    at : (same : Bool) → bytes_eq f.operation name ≡ same → TheOperation f name o
-    at true e =
-        let some : Some (operation f) ≡ Some o = ap (λ t. if t then Some (operation f) else None) (sym e) ∙ found in
-        record { named = (bytes_eq-Decides f.operation name).0 e; is = cc }
-    at false e = absurd (let none : None ≡ Some o = ap (λ t. if t then Some (operation f) else None) (sym e) ∙ found in cc)
-
-pub operation_found : (f : FlagFile) → operation_of (closed f) f.operation ≡ Some (operation f)
-operation_found f = ap (λ t. if t then Some (operation f) else None) (bytes_same f.operation)
 
 -- the schedule from these bits, with picks of 0
 abbrev pub schedule : FlagFile → Bits → Option Halt → Schedule
@@ -59,11 +38,11 @@ pub record FromBits (f : FlagFile) (x : Schedule) : Type 0 where
   pub args_are : x.args ≡ digit bits.argument ∷ []
   pub related : related f bits.state bits.stored ≡ true
 
-pub from_bits : (f : FlagFile) → FitsNames f → (x : Schedule) (o : Operation) → IsTrue (author.related (closed f) x.state x.memory x.low) →
-    operation f ≡ o → IsTrue (values_fit o.arguments x.args) → FromBits f x
-from_bits f fit x o before is fits =
+pub from_bits : (f : FlagFile) → FitsNames f → (x : Schedule) → IsTrue (author.related (closed f) x.state x.memory x.low) →
+    IsTrue (values_fit (operation f).arguments x.args) → FromBits f x
+from_bits f fit x before fits =
     let r = related_bits f fit x.state x.memory x.low before in
-    let (a, args_are) = argument_is f.argument x.args (subst (λ o. IsTrue (values_fit o.arguments x.args)) (sym is) fits) in
+    let (a, args_are) = argument_is f.argument x.args fits in
     record {
       bits = record { state = r.state; argument = a; stored = r.stored };
       state_is = r.vars_are;

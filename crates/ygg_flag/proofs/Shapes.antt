@@ -11,9 +11,9 @@ use Rattle.ygg_value.specs.declared.row.Value.{Value}
 use Rattle.ygg_value.specs.declared.row.Value.TheVariants.{Word, Row, Table}
 use Rattle.ygg_value.specs.declared.shape.Shape.TheVariants as shape
 use Rattle.ygg_syntax.specs.declared.tree.Declared.{Declared}
-use Rattle.ygg_eval.specs.Environments.{Env}
-use Rattle.ygg_eval.specs.Shapes.{shape_in, words_fit, fits, values_fit, env_fits}
-use Rattle.ygg_machine.specs.Stack.{table_named, tables_of}
+use Rattle.ygg_meaning.specs.Environments.{Env}
+use Rattle.ygg_meaning.specs.Shapes.{shape_in, words_fit, fits, values_fit, env_fits}
+use Rattle.ygg_histories.specs.Stack.{table_named, tables_of}
 use Rattle.ygg_flag.specs.Trees.{bit_named, one_bit}
 use Rattle.ygg_flag.proofs.Disk.{grid, tables}
 

@@ -2,11 +2,11 @@
 use Rattle.std.proofs.Common.{◌≡◌, Bool, false, List, [], ◌∷◌, ◌++◌, length, take, None, refl, sym, ap, ◌∙◌, subst}
 use Rattle.ygg_syntax.specs.declared.flag.FlagFile.{FlagFile}
 use Rattle.ygg_syntax.specs.declared.tree.Block.{Block}
-use Rattle.ygg_eval.specs.Environments.{Env}
-use Rattle.ygg_eval.specs.Progress.{Answer}
-use Rattle.ygg_eval.specs.Machine.{Picks, State, Fallen, based, on, memory_in, Machine}
-use Rattle.ygg_eval.specs.Runs.{WholeRun, FallenRun}
-use Rattle.ygg_eval.specs.Layer.{ClosedLayer, Layered, eval_of, dialogue_of, BlockRuns, BlockFalls}
+use Rattle.ygg_meaning.specs.Environments.{Env}
+use Rattle.ygg_meaning.specs.Progress.{Answer}
+use Rattle.ygg_meaning.specs.Machine.{Picks, State, based, on, memory_in, Machine}
+use Rattle.ygg_meaning.specs.Runs.{WholeRun, FallenRun}
+use Rattle.ygg_meaning.specs.Layer.{ClosedLayer, Layered, eval_of, dialogue_of, BlockRuns, BlockFalls}
 use Rattle.ygg_flag.specs.Bits.{stored_after}
 use Rattle.ygg_flag.specs.Trees.{block}
 use Rattle.ygg_flag.specs.Obligations.{closed}
@@ -14,20 +14,21 @@ use Rattle.ygg_flag.proofs.Disk.{machine, tables}
 use Rattle.ygg_flag.proofs.Runs.{WritesNext, LeavesSome, whole_writes, fallen_writes, writes_whole, writes_stopped}
 
 -- the layer on the disk, which has no memory
-abbrev pub at_disk : Bool → State
+abbrev pub at_disk : Bool → State Env
 at_disk stored = on [] (based (tables stored))
 
-abbrev lower_in : State → State
+abbrev lower_in : State Env → State Env
 lower_in s = record { memories = elim s.memories [ [] ↦ [] | m ∷ ms ↦ ms ]; base = s.base }
 
 module _ (L : ClosedLayer) (b : Block) (args : Env) (bits : List Bool) (next : WritesNext (eval_of L) args (dialogue_of L b [] args) [] bits) where
   -- a whole run of a block that writes these bits
-  pub record Ran (stored : Bool) (picks : Picks) (answer : Answer) (to : State) : Type 0 where
+  pub record Ran (stored : Bool) (picks : Picks) (answer : Answer) (to : State Env) : Type 0 where
     pub no_picks : picks ≡ []
     pub no_answer : answer ≡ None
     pub to_is : to ≡ at_disk (stored_after stored bits)
 
-  pub block_runs : (stored : Bool) (picks : Picks) (answer : Answer) (to : State) → BlockRuns L machine b args (at_disk stored) picks answer to → Ran stored picks answer to
+  pub block_runs : (stored : Bool) (picks : Picks) (answer : Answer) (to : State Env) → BlockRuns L machine b args (at_disk stored) picks answer to →
+      Ran stored picks answer to
   block_runs stored picks answer to h =
       let memory = sym (ap memory_in h.from_is) in
       let lower = sym (ap lower_in h.from_is) in
@@ -51,7 +52,7 @@ module _ (L : ClosedLayer) (b : Block) (args : Env) (bits : List Bool) (next : W
     to_is = refl;
   }
 
-  pub block_falls : (stored : Bool) (picks : Picks) (fallen : Fallen) → BlockFalls L machine b args (at_disk stored) picks fallen → LeavesSome bits stored fallen
+  pub block_falls : (stored : Bool) (picks : Picks) (fallen : Env) → BlockFalls L machine b args (at_disk stored) picks fallen → LeavesSome bits stored fallen
   block_falls stored picks fallen h =
       let here = subst (λ m. FallenRun machine (dialogue_of L b m args) h.lower picks fallen) (sym (ap memory_in h.from_is)) h.run in
       let run = subst (λ l. FallenRun machine (dialogue_of L b [] args) l picks fallen) (sym (ap lower_in h.from_is)) here in
@@ -73,15 +74,15 @@ module _ (f : FlagFile) where
   abbrev L : ClosedLayer
   L = closed f
 
-  abbrev Impl : Machine
+  abbrev Impl : Machine Env Bool
   Impl = Layered L machine
 
   pub writes_nothing : WritesNext (eval_of L) [] (dialogue_of L (block []) [] []) [] []
   writes_nothing more = refl
 
-  pub starts_at : (taken : Picks) (to : State) → Impl.Starts to taken → to ≡ at_disk false
+  pub starts_at : (taken : Picks) (to : State Env) → Impl.Starts to taken → to ≡ at_disk false
   starts_at taken to h =
-      let formats = subst (λ l. BlockRuns L machine (block []) [] (on [] l) h.second h.answer to) h.starts.1 h.formats in
+      let formats = subst (λ l. BlockRuns L machine (block []) [] (on [] l) h.second h.answer to) (h.starts.2 ∙ ap based h.starts.3) h.formats in
       (block_runs L (block []) [] [] writes_nothing false h.second h.answer to formats).to_is
 
   pub starts : Impl.Starts (at_disk false) []
@@ -90,12 +91,12 @@ module _ (f : FlagFile) where
     first = [];
     second = [];
     answer = None;
-    starts = (refl, refl);
+    starts = (tables false, refl, refl, refl);
     formats = runs_block L (block []) [] [] writes_nothing false;
     takes = refl;
   }
 
-  pub recovers_to : (stored : Bool) (taken : Picks) (to : State) → Impl.Wakes (tables stored) taken to → to ≡ at_disk stored
+  pub recovers_to : (stored : Bool) (taken : Picks) (to : State Env) → Impl.Wakes (tables stored) taken to → to ≡ at_disk stored
   recovers_to stored taken to h =
       let (answer, runs) = h.next in
       let run = subst (λ l. BlockRuns L machine (block []) [] (on [] l) h.second answer to) h.wakes.1 runs in
@@ -112,7 +113,8 @@ module _ (f : FlagFile) where
   }
 
   -- a recovery in which power fails leaves the disk as it was
-  pub recovery_falls : (stored : Bool) (picks : Picks) (fallen : Fallen) → BlockFalls L machine (block []) [] (at_disk stored) picks fallen → fallen ≡ tables stored
+  pub recovery_falls : (stored : Bool) (picks : Picks) (fallen : Env) → BlockFalls L machine (block []) [] (at_disk stored) picks fallen →
+      fallen ≡ tables stored
   recovery_falls stored picks fallen h = let x = block_falls L (block []) [] [] writes_nothing stored picks fallen h in at x.front x.back x.is x.fallen_is
     where
       at : (front back : List Bool) → [] ≡ front ++ back → fallen ≡ tables (stored_after stored front) → fallen ≡ tables stored

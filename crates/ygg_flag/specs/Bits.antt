@@ -3,9 +3,9 @@ use Rattle.std.specs.Prelude.{ℕ, Bool, true, false, not, ◌||◌, List, [], �
 use Rattle.std.specs.List.{list_all}
 use Rattle.std.specs.Str.{bytes_eq}
 use Rattle.ygg_syntax.specs.declared.flag.FlagFile.{FlagFile}
-use Rattle.ygg_syntax.specs.declared.flag.Formula.{Formula}
-use Rattle.ygg_syntax.specs.declared.flag.Formula.TheOpen.{Formula-F}
-use Rattle.ygg_syntax.specs.declared.flag.Formula.TheFolds.{fold-Formula}
+use Rattle.ygg_syntax.specs.declared.flag.FlagExpr.{FlagExpr}
+use Rattle.ygg_syntax.specs.declared.flag.FlagExpr.TheOpen.{FlagExpr-F}
+use Rattle.ygg_syntax.specs.declared.flag.FlagExpr.TheFolds.{fold-FlagExpr}
 use Rattle.ygg_flag.specs.declared.bits.Bits.{Bits}
 
 -- whether two bits are equal
@@ -14,19 +14,19 @@ same_bit true b = b
 same_bit false b = not b
 
 -- the bit of an expression, where those of its parts stand in their places; a name is the state's or else the argument's
-abbrev pub bit_node : List ℕ → Formula-F (Bits → Bool) → Bits → Bool
-bit_node state (Formula-F.Bit b) bits = b
-bit_node state (Formula-F.Name text) bits = if bytes_eq text state then bits.state else bits.argument
-bit_node state (Formula-F.Not a) bits = not (a bits)
-bit_node state Formula-F.Stored bits = bits.stored
-bit_node state (Formula-F.Equal a b) bits = same_bit (a bits) (b bits)
+abbrev pub bit_node : List ℕ → FlagExpr-F (Bits → Bool) → Bits → Bool
+bit_node state (FlagExpr-F.Bit b) bits = b
+bit_node state (FlagExpr-F.Name text) bits = if bytes_eq text state then bits.state else bits.argument
+bit_node state (FlagExpr-F.Not a) bits = not (a bits)
+bit_node state FlagExpr-F.Stored bits = bits.stored
+bit_node state (FlagExpr-F.Equal a b) bits = same_bit (a bits) (b bits)
 
 -- the bit that an expression is worth, where the state has this name
-abbrev pub bit_in : List ℕ → Formula → Bits → Bool
-bit_in state = fold-Formula (Bits → Bool) (bit_node state)
+abbrev pub bit_in : List ℕ → FlagExpr → Bits → Bool
+bit_in state = fold-FlagExpr (Bits → Bool) (bit_node state)
 
 -- the bit that an expression of the file is worth
-abbrev pub value : FlagFile → Formula → Bool → Bool → Bool → Bool
+abbrev pub value : FlagFile → FlagExpr → Bool → Bool → Bool → Bool
 value f e state argument stored = bit_in f.state e (record { state = state; argument = argument; stored = stored })
 
 -- whether the file relates this state to this bit on the disk

@@ -1,13 +1,13 @@
 -- The obligations of a flag file.
 use Rattle.std.specs.Prelude.{Bool, List, [], ◌∷◌, MatchBool}
 use Rattle.ygg_syntax.specs.declared.flag.FlagFile.{FlagFile}
-use Rattle.ygg_eval.specs.Meaning.{functions_of}
-use Rattle.ygg_eval.specs.Layer.{ClosedLayer}
-use Rattle.ygg_eval.specs.Refines.{Below, OnDisk}
-use Rattle.ygg_eval.specs.Obligations.{Obligation, Init, CallOf, CutOf, Idle, Again, Schedule}
-use Rattle.ygg_machine.specs.Stack.{tables_of}
-use Rattle.ygg_machine.specs.Claims.{Claim, ClaimHolds, ClaimViolated}
-use Rattle.ygg_flag.specs.Trees.{layer, one_bit}
+use Rattle.ygg_meaning.specs.Meaning.{functions_of}
+use Rattle.ygg_meaning.specs.Layer.{ClosedLayer}
+use Rattle.ygg_meaning.specs.Refines.{Below, OnDisk}
+use Rattle.ygg_meaning.specs.Obligations.{Obligation, Init, CallOf, CutOf, Idle, Again, Schedule}
+use Rattle.ygg_histories.specs.Stack.{tables_of}
+use Rattle.ygg_histories.specs.Claims.{Claim, ClaimHolds, ClaimViolated}
+use Rattle.ygg_flag.specs.Trees.{layer, operation, one_bit}
 
 -- the file's one layer with all that it speaks of
 abbrev pub closed : FlagFile → ClosedLayer
@@ -23,7 +23,7 @@ claim_of f o = record { layer = closed f; below = below; obligation = o }
 
 -- the obligations of the file, in order
 abbrev pub obligations : FlagFile → List Obligation
-obligations f = Init ∷ CallOf f.operation ∷ CutOf f.operation ∷ Idle ∷ Again ∷ []
+obligations f = Init ∷ CallOf (operation f) ∷ CutOf (operation f) ∷ Idle ∷ Again ∷ []
 
 -- no schedule violates the file's obligation
 abbrev pub FlagHolds : FlagFile → Obligation → Type 0

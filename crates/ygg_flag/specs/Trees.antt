@@ -3,9 +3,9 @@ use Rattle.std.specs.Prelude.{ℕ, List, [], ◌∷◌, map, codes, None}
 use Rattle.ygg_value.specs.Words.{bit_of}
 use Rattle.ygg_value.specs.declared.operation.Op.TheVariants.{Eq}
 use Rattle.ygg_syntax.specs.declared.flag.FlagFile.{FlagFile}
-use Rattle.ygg_syntax.specs.declared.flag.Formula.{Formula}
-use Rattle.ygg_syntax.specs.declared.flag.Formula.TheOpen.{Formula-F}
-use Rattle.ygg_syntax.specs.declared.flag.Formula.TheFolds.{fold-Formula}
+use Rattle.ygg_syntax.specs.declared.flag.FlagExpr.{FlagExpr}
+use Rattle.ygg_syntax.specs.declared.flag.FlagExpr.TheOpen.{FlagExpr-F}
+use Rattle.ygg_syntax.specs.declared.flag.FlagExpr.TheFolds.{fold-FlagExpr}
 use Rattle.ygg_syntax.specs.declared.tree.Place.{Place}
 use Rattle.ygg_syntax.specs.declared.tree.Name.{Name}
 use Rattle.ygg_syntax.specs.declared.tree.Numeral.{Numeral}
@@ -15,7 +15,7 @@ use Rattle.ygg_syntax.specs.declared.tree.Source.TheVariants as source
 use Rattle.ygg_syntax.specs.declared.tree.Stmt.{Stmt}
 use Rattle.ygg_syntax.specs.declared.tree.Stmt.TheVariants as stmt
 use Rattle.ygg_syntax.specs.declared.tree.Block.{Block}
-use Rattle.ygg_syntax.specs.declared.tree.DiskKind.TheVariants.{Sync}
+use Rattle.ygg_base.specs.declared.geometry.DiskKind.TheVariants.{Sync}
 use Rattle.ygg_syntax.specs.declared.tree.DiskText.{DiskText}
 use Rattle.ygg_syntax.specs.declared.tree.TypeText.TheVariants as shape
 use Rattle.ygg_syntax.specs.declared.tree.Declared.{Declared}
@@ -44,16 +44,16 @@ abbrev pub low_view : Expr
 low_view = expr.Low somewhere (named (codes "view"))
 
 -- an expression of which the parts are translated
-abbrev pub expression_node : Formula-F Expr → Expr
-expression_node (Formula-F.Bit b) = constant (bit_of b) 1
-expression_node (Formula-F.Name text) = expr.Variable (named text)
-expression_node (Formula-F.Not a) = expr.Not somewhere a
-expression_node Formula-F.Stored = expr.At (expr.At low_view somewhere (constant 0 8)) somewhere (constant 0 1)
-expression_node (Formula-F.Equal a b) = expr.Binary somewhere a Eq somewhere b
+abbrev pub expression_node : FlagExpr-F Expr → Expr
+expression_node (FlagExpr-F.Bit b) = constant (bit_of b) 1
+expression_node (FlagExpr-F.Name text) = expr.Variable (named text)
+expression_node (FlagExpr-F.Not a) = expr.Not somewhere a
+expression_node FlagExpr-F.Stored = expr.At (expr.At low_view somewhere (constant 0 8)) somewhere (constant 0 1)
+expression_node (FlagExpr-F.Equal a b) = expr.Binary somewhere a Eq somewhere b
 
 -- the expression of the language that an expression of a flag file is
-abbrev pub expression : Formula → Expr
-expression = fold-Formula Expr expression_node
+abbrev pub expression : FlagExpr → Expr
+expression = fold-FlagExpr Expr expression_node
 
 -- a block that returns nothing
 abbrev pub block : List Stmt → Block
@@ -64,7 +64,7 @@ abbrev pub bit_named : List ℕ → Declared
 bit_named text = record { name = named text; shape = shape.Word (numeral 1) }
 
 -- `call write(0:8, row(e));`
-abbrev pub write_of : Formula → Stmt
+abbrev pub write_of : FlagExpr → Stmt
 write_of e = stmt.Call (named (codes "write")) (constant 0 8 ∷ expr.Row somewhere (expression e ∷ []) ∷ [])
 
 -- the one statement of `spec`

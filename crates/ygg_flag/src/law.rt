@@ -2,7 +2,7 @@
 
 ghost use Rattle.ygg_flag.specs.Laws.{BitsDecide, FiveObligations, IdleAndAgain, FlagRefines, FlagHistories};
 
-use ygg_machine::law::history;
+use ygg_histories::law::history;
 
 /// The obligations of the layer file that a flag file stands for are five: `init`, `call`, `cut`, `idle` and `again`.
 pub fn five_obligations()

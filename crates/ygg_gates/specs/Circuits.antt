@@ -50,6 +50,6 @@ placed g gates = record { value = literal (next_variable gates); gates = gates +
 abbrev pub either : Lit → Lit → Make Lit
 either a b = and_make (placed (And (complement a) (complement b))) (λ o. pure (complement o))
 
--- the complement of each digit
+-- the complement of each bit
 abbrev pub complements : List Lit → List Lit
 complements = map complement

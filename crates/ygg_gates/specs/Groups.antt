@@ -7,7 +7,7 @@ use Rattle.ygg_bank.specs.declared.node.Node.{Node}
 use Rattle.ygg_bank.specs.declared.node.Node.TheVariants as node
 use Rattle.ygg_gates.specs.Circuits.{Make, pure, complements, false_literal, true_literal, next_variable}
 use Rattle.ygg_gates.specs.Clauses.{clauses_from}
-use Rattle.ygg_gates.specs.Rows.{free_digits, constant_digits, resized_digits, joined_each, operation}
+use Rattle.ygg_gates.specs.Rows.{free_bits, constant_bits, resized_bits, joined_each, operation}
 use Rattle.ygg_gates.specs.declared.gate.Gate.{Gate}
 use Rattle.ygg_gates.specs.declared.gate.Joint.TheVariants as joint
 use Rattle.ygg_gates.specs.Sources.{Variables}
@@ -36,34 +36,35 @@ up_to term nodes = take (term.0 + 1) nodes
 abbrev pub reaches : List Node → Id → ℕ → Bool
 reaches nodes term place = reaches_from 0 (up_to term nodes) term.0 place
 
--- the digits of a child, among those of all nodes before
-abbrev pub digits_at : List (List Lit) → Id → List Lit
-digits_at table a = get_or table a.0 []
+-- the bits of a child, among those of all nodes before
+abbrev pub bits_at : List (List Lit) → Id → List Lit
+bits_at table a = get_or table a.0 []
 
--- the lowest digit
+-- the lowest bit
 abbrev pub lowest : List Lit → Lit
 lowest xs = get_or xs 0 false_literal
 
--- the digits of a node, from those of its children
-abbrev pub node_digits : List (List Lit) → Node → Make (List Lit)
-node_digits table (node.Input n w) = free_digits w
-node_digits table (node.Const k) = pure (constant_digits k.width k.bits)
-node_digits table (node.Bin o a b) = operation o (digits_at table a) (digits_at table b)
-node_digits table (node.Not a) = pure (complements (digits_at table a))
-node_digits table (node.Resize a w) = pure (resized_digits w (digits_at table a))
-node_digits table (node.Pick t a b) = joined_each (joint.Pick (lowest (digits_at table t))) (digits_at table a) (digits_at table b)
+-- the bits of a node, from those of its children
+abbrev pub node_bits : List (List Lit) → Node → Make (List Lit)
+node_bits table (node.Input n w) = free_bits w
+node_bits table (node.Const k) = pure (constant_bits k.width k.bits)
+node_bits table (node.Bin o a b) = operation o (bits_at table a) (bits_at table b)
+node_bits table (node.Not a) = pure (complements (bits_at table a))
+node_bits table (node.Resize a w) = pure (resized_bits w (bits_at table a))
+node_bits table (node.Pick t a b) = joined_each (joint.Pick (lowest (bits_at table t))) (bits_at table a) (bits_at table b)
 
 -- the variables of a node that is an input, where this is the first of them
 abbrev pub sources_of : ℕ → Node → List Variables
 sources_of first (node.Input n w) = record { number = n; width = w; first = first } ∷ []
 sources_of first _ = []
 
--- the digits of nodes, none where the term doesn't reach a node; the variables of the inputs among them; and the gates
+-- the bits of nodes, none where the term doesn't reach a node; the variables of the inputs among them; and the gates
 pub record Circuit : Type 0 where
   pub table : List (List Lit)
   pub sources : List Variables
   pub gates : List Gate
 
+-- a circuit of these parts
 abbrev pub circuit : List (List Lit) → List Variables → List Gate → Circuit
 circuit table sources gates = record { table = table; sources = sources; gates = gates }
 
@@ -71,7 +72,7 @@ circuit table sources gates = record { table = table; sources = sources; gates =
 abbrev pub with_node : Bool → Node → Circuit → Circuit
 with_node false n c = circuit (c.table ++ [] ∷ []) c.sources c.gates
 with_node true n c =
-    let out = node_digits c.table n c.gates in
+    let out = node_bits c.table n c.gates in
     circuit (c.table ++ out.value ∷ []) (c.sources ++ sources_of (next_variable c.gates) n) out.gates
 
 -- with these nodes, in the order of their numbers
@@ -83,14 +84,14 @@ with_nodes reached (n ∷ ns) c = with_nodes reached ns (with_node (reached (len
 abbrev pub no_nodes : Circuit
 no_nodes = circuit [] [] []
 
--- the digits, inputs and gates of all nodes that a term reaches
+-- the bits, inputs and gates of all nodes that a term reaches
 abbrev pub circuit_of : List Node → Id → Circuit
 circuit_of nodes term = with_nodes (reaches nodes term) (up_to term nodes) no_nodes
 
 -- the unit clause of variable 1, the clauses of a circuit's gates, and the unit clause of the complement of the term's literal
 abbrev pub circuit_clauses : Circuit → Id → List (List Lit)
 circuit_clauses c term =
-    ((true_literal ∷ []) ∷ []) ++ clauses_from 2 c.gates ++ ((complement (lowest (digits_at c.table term)) ∷ []) ∷ [])
+    ((true_literal ∷ []) ∷ []) ++ clauses_from 2 c.gates ++ ((complement (lowest (bits_at c.table term)) ∷ []) ∷ [])
 
 -- clauses, and the variables of the inputs that they speak of
 pub record Translated : Type 0 where

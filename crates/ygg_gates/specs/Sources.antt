@@ -4,19 +4,19 @@ use Rattle.ygg_value.specs.Words.{word, bit_of}
 use Rattle.ygg_bank.specs.declared.env.Given.{Given}
 use Rattle.ygg_bank.specs.declared.env.Given.TheVariants as given
 
--- an input's number, how many digits it has, and the variable of the lowest one; the others follow it
+-- an input's number, how many bits it has, and the variable of the lowest one; the others follow it
 pub record Variables : Type 0 where
   pub number : ℕ
   pub width : ℕ
   pub first : ℕ
 
--- a width from 1 to 64, and variables that 64 digits number
+-- a width from 1 to 64, and variables that 64 bits number
 pub record IsSource (v : Variables) : Type 0 where
   pub least : 1 ≤ v.width
   pub most : v.width ≤ 64
   pub numbered : v.first + 64 < 2 ^ 64
 
--- the number whose digits, the lowest first, are the values of so many variables, counted on from the first
+-- the number whose bits, the lowest first, are the values of so many variables, counted on from the first
 abbrev pub number_from : (ℕ → Bool) → ℕ → ℕ → ℕ
 number_from value first zero = 0
 number_from value first (suc width) = bit_of (value first) + 2 * number_from value (first + 1) width

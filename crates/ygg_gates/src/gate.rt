@@ -18,7 +18,7 @@ pub enum Gate {
     Mux { test: Lit, yes: Lit, no: Lit },
 }
 
-/// What joins two digits to one.
+/// What joins two bits to one.
 #[derive(Clone, Copy, Debug, PartialEq, Eq)]
 pub enum Joint {
     /// True where both are.
@@ -31,34 +31,34 @@ pub enum Joint {
     Pick { test: Lit },
 }
 
-/// Where digits are moved.
+/// Where bits are moved.
 #[derive(Clone, Copy, Debug, PartialEq, Eq)]
 pub enum Way {
-    /// Towards the high digits.
+    /// Towards the high bits.
     Up,
-    /// Towards the low digits.
+    /// Towards the low bits.
     Down,
 }
 
-/// A digit of a sum, and the carry to the next digit.
+/// A bit of a sum, and the carry to the next bit.
 #[derive(Clone, Copy, Debug, PartialEq, Eq)]
 pub struct Carried {
-    pub digit: Lit,
+    pub bit: Lit,
     pub carry: Lit,
 }
 
-/// The variables of an input: as many as it has digits, counted on from the first, which is the lowest digit's.
+/// The variables of an input: as many as it has bits, counted on from the first, which is the lowest bit's.
 #[derive(Clone, Copy, Debug)]
-pub struct Source {
+pub struct InputVariables {
     /// The input's number.
     pub number: u64,
-    /// How many digits it has.
+    /// How many bits it has.
     pub width: u8,
     /// Its first variable.
     pub first: u64,
 }
 
-impl Model for Source {
+impl Model for InputVariables {
     ghost use Rattle.ygg_gates.specs.Sources.{IsSource, Variables};
 
     ghost Value = { Variables };
@@ -70,8 +70,8 @@ impl Model for Source {
     ghost inverse = { λ v. record { number = v.number; width = v.width; first = v.first } };
 }
 
-impl Duplicate for Source {
-    fn duplicate(&self, _alloc: Global) -> Result<Source, NoMemory> {
+impl Duplicate for InputVariables {
+    fn duplicate(&self, _alloc: Global) -> Result<InputVariables, NoMemory> {
         Ok(*self)
     }
 }

@@ -3,4 +3,4 @@
 
 mod gate;
 
-pub use gate::{Carried, Gate, Joint, Source, Way};
+pub use gate::{Carried, Gate, InputVariables, Joint, Way};

@@ -1,11 +1,66 @@
 -- The rules give what the definition says.
-use Rattle.std.proofs.Common.{◌≡◌, ◌⊎◌, inl, inr, ℕ, ◌+◌, true, false, ◌==◌, is_some, List, [], ◌∷◌, ◌++◌, length, Option, Some, None, arith, refl, sym, append_assoc, subst}
+use Rattle.std.proofs.Common.{
+  ◌≡◌,
+  ◌⊎◌,
+  inl,
+  inr,
+  ℕ,
+  ◌+◌,
+  true,
+  false,
+  ◌==◌,
+  is_some,
+  List,
+  [],
+  ◌∷◌,
+  ◌++◌,
+  length,
+  Option,
+  Some,
+  None,
+  arith,
+  refl,
+  sym,
+  append_assoc,
+  subst,
+}
 use Rattle.std.specs.List.{list_all}
 use Rattle.std.proofs.lemmas.Bool.{cases_Bool, both_ways, eqb-true, eqb-false}
 use Rattle.std.proofs.lemmas.List.{length_push}
+use Rattle.ygg_base.specs.declared.reason.Reason.TheVariants as reason
 use Rattle.ygg_base.specs.declared.token.Mark.{Mark}
-use Rattle.ygg_base.specs.Lexing.{is_lower, is_digit, is_past_ascii, is_blank, symbol_of, extends, closed, refused, ended, lex, Lexed, recognized, token_before, line_after, column_after}
-use Rattle.ygg_lex.specs.Rules.{IsLexeme, IsLongest, BeginsNone, is_comment_byte, Reads, at_end, blank, comment, token, no_number, stray, past_ascii, past_ascii_in_comment}
+use Rattle.ygg_base.specs.Lexing.{
+  is_lower,
+  is_digit,
+  is_past_ascii,
+  is_blank,
+  symbol_of,
+  extends,
+  closed,
+  refused,
+  ended,
+  lex,
+  Lexed,
+  recognized,
+  token_before,
+  line_after,
+  column_after,
+}
+use Rattle.ygg_lex.specs.Rules.{
+  IsLexeme,
+  IsLongest,
+  BeginsNone,
+  is_comment_byte,
+  Reads,
+  at_end,
+  blank,
+  comment,
+  token,
+  no_number,
+  stray,
+  past_ascii,
+  past_ascii_in_comment,
+}
 use Rattle.ygg_lex.proofs.Lexemes.{first_of, munch, next_is_ascii, grows, not_recognized, pair_is_lexeme, all_more}
 use Rattle.ygg_lex.proofs.Runs.{step, closes, Stops}
 use Rattle.ygg_lex.proofs.Agree.{begins_part}
@@ -68,7 +123,8 @@ claim_end = record {
   in_comment = λ words begun line column columns all.
       let P : ℕ → Type 0 = λ k. Reads [] line k (ended line column) in
       comment words [] line begun (ended line column) all tt (subst P columns (at_end line column));
-  in_lexeme = λ first others begun line column columns lexeme. as_token first others [] begun line column (ended line column) columns lexeme tt (at_end line column);
+  in_lexeme = λ first others begun line column columns lexeme. as_token first others [] begun line column (ended line column) columns lexeme tt
+      (at_end line column);
   after_stray = λ b begun line column columns ascii solid other none. as_stray b [] begun line (ended line column) ascii solid other none tt;
 }
 
@@ -112,12 +168,13 @@ nothing_byte b bs later c line column =
         ]
 
 -- a byte in a comment
-comment_byte : (b : ℕ) (bs : List ℕ) → Claim bs → (words : List ℕ) (begun line column : ℕ) → column ≡ begun + 1 + length words → list_all is_comment_byte words ≡ true
+comment_byte : (b : ℕ) (bs : List ℕ) → Claim bs → (words : List ℕ) (begun line column : ℕ) → column ≡ begun + 1 + length words →
+    list_all is_comment_byte words ≡ true
     → Reads (35 ∷ words ++ b ∷ bs) line begun (lex (35 ∷ words) begun line column (b ∷ bs))
 comment_byte b bs later words begun line column columns all =
     elim (cases_Bool (is_past_ascii b)) [
       | inl past ↦
-          let P : ℕ → Type 0 = λ k. Reads (35 ∷ words ++ b ∷ bs) line begun (refused 1 line k) in
+          let P : ℕ → Type 0 = λ k. Reads (35 ∷ words ++ b ∷ bs) line begun (refused reason.NotAscii line k) in
           rw past (subst P (sym columns) (past_ascii_in_comment words b bs line begun all past))
       | inr ascii ↦ elim (cases_Bool (b == 10)) [
         | inl feed ↦
@@ -157,7 +214,8 @@ lexeme_byte b bs later first others begun line column columns lexeme =
     ]
 
 -- a byte after one that is no lexeme
-stray_byte : (b : ℕ) (bs : List ℕ) → Claim bs → (a begun line column : ℕ) → column ≡ begun + 1 → is_past_ascii a ≡ false → is_blank a ≡ false → (a == 35) ≡ false
+stray_byte : (b : ℕ) (bs : List ℕ) → Claim bs → (a begun line column : ℕ) → column ≡ begun + 1 → is_past_ascii a ≡ false → is_blank a ≡ false →
+    (a == 35) ≡ false
     → (IsLexeme (a ∷ []) → ⊥) → Reads (a ∷ b ∷ bs) line begun (lex (a ∷ []) begun line column (b ∷ bs))
 stray_byte b bs later a begun line column columns ascii solid other none =
     elim (cases_Stops (a ∷ []) b bs) [

@@ -135,8 +135,10 @@ pub record First (first : ℕ) : Type 0 where
   pub comment : (first == 35) ≡ false
 
 pub first_of : (first : ℕ) (others : List ℕ) → IsLexeme (first ∷ others) → First first
-first_of first others (inl word) = let lower = word.0 in record { ascii = grind (arith, nat_tests); blank = grind (arith, nat_tests); comment = grind (arith, nat_tests) }
-first_of first others (inr (inl digits)) = let digit = digits.0 in record { ascii = grind (arith, nat_tests); blank = grind (arith, nat_tests); comment = grind (arith, nat_tests) }
+first_of first others (inl word) = let lower = word.0 in
+    record { ascii = grind (arith, nat_tests); blank = grind (arith, nat_tests); comment = grind (arith, nat_tests) }
+first_of first others (inr (inl digits)) = let digit = digits.0 in
+    record { ascii = grind (arith, nat_tests); blank = grind (arith, nat_tests); comment = grind (arith, nat_tests) }
 first_of first others (inr (inr sign)) =
     let is = sign_of first others sign in
     record { ascii = not-true _ (and_left (is_ascii first) _ is.ascii); blank = is.blank; comment = is.comment }

@@ -10,7 +10,8 @@ value_after_le [] number = omega arith
 value_after_le (digit ∷ digits) number = omega (arith, value_after_le digits (10 * number + (digit - 48)))
 
 -- too great a number before one of the digits
-pub too_great : (digits : List ℕ) (i number : ℕ) → i < length digits → has_leading_zero digits ≡ false → value_after number (drop i digits) ≡ value_after 0 digits
+pub too_great : (digits : List ℕ) (i number : ℕ) → i < length digits → has_leading_zero digits ≡ false →
+    value_after number (drop i digits) ≡ value_after 0 digits
     → 2 ^ 64 ≤ 10 * number + (get_or digits i 0 - 48) → number_of digits ≡ None
 too_great digits i number within plain so_far great =
     let step : value_after number (get_or digits i 0 ∷ drop (i + 1) digits) ≡ value_after 0 digits = rw (drop_more digits i 0 within) at so_far in
@@ -18,7 +19,8 @@ too_great digits i number within plain so_far great =
     grind (arith, nat_tests)
 
 -- the number after the last digit
-pub all_digits : (digits : List ℕ) (i number : ℕ) → length digits ≤ i → has_leading_zero digits ≡ false → number < 2 ^ 64 → value_after number (drop i digits) ≡ value_after 0 digits
+pub all_digits : (digits : List ℕ) (i number : ℕ) → length digits ≤ i → has_leading_zero digits ≡ false → number < 2 ^ 64 →
+    value_after number (drop i digits) ≡ value_after 0 digits
     → number_of digits ≡ Some number
 all_digits digits i number past plain small so_far =
     let whole : number ≡ value_after 0 digits = rw (drop_all i digits past) at so_far in

@@ -1,5 +1,34 @@
 -- What one byte and the end of a token do.
-use Rattle.std.proofs.Common.{◌≡◌, ◌≢◌, ℕ, ◌+◌, ◌-◌, ◌<◌, ◌≤◌, Bool, true, false, List, [], ◌∷◌, ◌++◌, length, get_or, drop, slice_range, if◌then◌else◌, Some, Ok, Err, refl, ap, sym, ◌∙◌, append_assoc, arith}
+use Rattle.std.proofs.Common.{
+  ◌≡◌,
+  ◌≢◌,
+  ℕ,
+  ◌+◌,
+  ◌-◌,
+  ◌<◌,
+  ◌≤◌,
+  Bool,
+  true,
+  false,
+  List,
+  [],
+  ◌∷◌,
+  ◌++◌,
+  length,
+  get_or,
+  drop,
+  slice_range,
+  if◌then◌else◌,
+  Some,
+  Ok,
+  Err,
+  refl,
+  ap,
+  sym,
+  ◌∙◌,
+  append_assoc,
+  arith,
+}
 use Rattle.std.proofs.lemmas.Bool.Decides.{nat_tests}
 use Rattle.std.proofs.lemmas.List.{drop_more}
 use Rattle.std.proofs.lemmas.List.Edits.{between_more}
@@ -12,7 +41,8 @@ after_both these those (Ok others) = ap (λ (items : List Token). Ok (record oth
 after_both these those (Err refusal) = refl
 
 -- bytes that are a token give it
-pub closed_token : (items : List Token) (part : List ℕ) (line column : ℕ) (mark : Mark) (others : Lexed) → 0 < length part → get_or part 0 0 ≢ 35 → recognized part ≡ Some mark
+pub closed_token : (items : List Token) (part : List ℕ) (line column : ℕ) (mark : Mark) (others : Lexed) → 0 < length part → get_or part 0 0 ≢ 35 →
+    recognized part ≡ Some mark
     → after_these items (closed part line column others) ≡ after_these (items ++ record { mark = mark; line = line; column = column } ∷ []) others
 closed_token items [] line column mark others some sign is = absurd (omega arith)
 closed_token items (a ∷ more) line column mark others some sign is =
@@ -31,14 +61,16 @@ nothing text place = let none : place - place ≡ 0 = omega arith in rw none ref
 -- a byte that makes the token or comment longer
 pub longer : (text : List ℕ) (start place begun line column : ℕ) → start ≤ place → place < length text → is_past_ascii (get_or text place 0) ≡ false
     → extends (slice_range text start place) (get_or text place 0) ≡ true
-    → lex (slice_range text start place) begun line column (drop place text) ≡ lex (slice_range text start (place + 1)) begun line (column + 1) (drop (place + 1) text)
+    → lex (slice_range text start place) begun line column (drop place text) ≡ lex (slice_range text start (place + 1)) begun line (column + 1)
+    (drop (place + 1) text)
 longer text start place begun line column before here ascii more =
     read_at text place begun line column (slice_range text start place) here ∙ rw (ascii, more, between_more text start place 0 before here) refl
 
 begins_by : (text : List ℕ) (place : ℕ) (blank : Bool) → place < length text
     → slice_range text (if blank then place + 1 else place) (place + 1) ≡ (if blank then [] else get_or text place 0 ∷ [])
 begins_by text place true here = nothing text (place + 1)
-begins_by text place false here = between_more text place place 0 (omega arith) here ∙ ap (λ (part : List ℕ). part ++ get_or text place 0 ∷ []) (nothing text place)
+begins_by text place false here = between_more text place place 0 (omega arith) here
+    ∙ ap (λ (part : List ℕ). part ++ get_or text place 0 ∷ []) (nothing text place)
 
 -- where the part that a byte begins starts
 pub begins : (text : List ℕ) (place : ℕ) → place < length text
@@ -49,6 +81,8 @@ begins text place here = begins_by text place (is_blank (get_or text place 0)) h
 pub ends : (text : List ℕ) (start place begun line column : ℕ) → place < length text → is_past_ascii (get_or text place 0) ≡ false
     → extends (slice_range text start place) (get_or text place 0) ≡ false
     → lex (slice_range text start place) begun line column (drop place text)
-    ≡ closed (slice_range text start place) line begun (lex (slice_range text (if is_blank (get_or text place 0) then place + 1 else place) (place + 1)) column (line_after (get_or text place 0) line) (column_after (get_or text place 0) column) (drop (place + 1) text))
+    ≡ closed (slice_range text start place) line begun
+    (lex (slice_range text (if is_blank (get_or text place 0) then place + 1 else place) (place + 1)) column
+    (line_after (get_or text place 0) line) (column_after (get_or text place 0) column) (drop (place + 1) text))
 ends text start place begun line column here ascii more =
     read_at text place begun line column (slice_range text start place) here ∙ rw (ascii, more, begins text place here) refl

@@ -1,8 +1,24 @@
 -- The rules of tokens one by one, and the law that the definition of a text's tokens follows them.
 use Rattle.std.specs.Prelude.{◌≡◌, ◌≢◌, ◌⊎◌, ℕ, ◌+◌, Bool, true, false, not, ◌==◌, ◌&&◌, List, [], ◌∷◌, ◌++◌, length, is_some, Some, None}
 use Rattle.std.specs.List.{list_all}
+use Rattle.ygg_base.specs.declared.reason.Reason.TheVariants as reason
 use Rattle.ygg_base.specs.declared.token.Mark.{Mark}
-use Rattle.ygg_base.specs.Lexing.{is_lower, is_digit, is_name_byte, is_blank, is_past_ascii, symbol_of, recognized, Lexed, ended, refused, token_before, line_after, column_after, tokens_of}
+use Rattle.ygg_base.specs.Lexing.{
+  is_lower,
+  is_digit,
+  is_name_byte,
+  is_blank,
+  is_past_ascii,
+  symbol_of,
+  recognized,
+  Lexed,
+  ended,
+  refused,
+  token_before,
+  line_after,
+  column_after,
+  tokens_of,
+}
 
 -- a byte of a comment after its `#`
 abbrev pub is_comment_byte : ℕ → Bool
@@ -44,15 +60,16 @@ pub data Reads : List ℕ → ℕ → ℕ → Lexed → Type 0 where
   token : (bytes rest : List ℕ) (line column : ℕ) (mark : Mark) (others : Lexed) → IsLongest bytes rest → recognized bytes ≡ Some mark
       → Reads rest line (column + length bytes) others → Reads (bytes ++ rest) line column (token_before (Some mark) line column others)
   -- a run of digits that is no number is refused at its first byte
-  no_number : (bytes rest : List ℕ) (line column : ℕ) → IsLongest bytes rest → recognized bytes ≡ None → Reads (bytes ++ rest) line column (refused 2 line column)
+  no_number : (bytes rest : List ℕ) (line column : ℕ) → IsLongest bytes rest → recognized bytes ≡ None →
+      Reads (bytes ++ rest) line column (refused reason.Token line column)
   -- a byte of ASCII that begins nothing is refused
   stray : (b : ℕ) (rest : List ℕ) (line column : ℕ) → is_past_ascii b ≡ false → is_blank b ≡ false → b ≢ 35 → BeginsNone (b ∷ rest)
-      → Reads (b ∷ rest) line column (refused 2 line column)
+      → Reads (b ∷ rest) line column (refused reason.Token line column)
   -- a byte past ASCII is refused
-  past_ascii : (b : ℕ) (rest : List ℕ) (line column : ℕ) → is_past_ascii b ≡ true → Reads (b ∷ rest) line column (refused 1 line column)
+  past_ascii : (b : ℕ) (rest : List ℕ) (line column : ℕ) → is_past_ascii b ≡ true → Reads (b ∷ rest) line column (refused reason.NotAscii line column)
   -- in a comment too
   past_ascii_in_comment : (words : List ℕ) (b : ℕ) (rest : List ℕ) (line column : ℕ) → list_all is_comment_byte words ≡ true → is_past_ascii b ≡ true
-      → Reads (35 ∷ words ++ b ∷ rest) line column (refused 1 line (column + 1 + length words))
+      → Reads (35 ∷ words ++ b ∷ rest) line column (refused reason.NotAscii line (column + 1 + length words))
 
 -- the rules give what the definition says
 abbrev pub FollowsRules : Type 0

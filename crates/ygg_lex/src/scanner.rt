@@ -4,7 +4,7 @@ ghost use Rattle.ygg_base.specs.Failure.{IfRefused};
 
 use crate::recognize::{extends, is_blank, is_past_ascii, recognized};
 use std::alloc::Global;
-use ygg_base::{Refusal, Refuse, Sequence, Token, Tokens};
+use ygg_base::{Reason, Refuse, Sequence, Token, Tokens};
 
 /// The tokens so far of a text that is read byte by byte, and where the next byte stands.
 #[derive(Drop)]
@@ -24,8 +24,10 @@ impl Scanner {
 
     /// Ends the token or the comment of these bytes, if there are any.
     fn close(&mut self, part: &[u8]) -> Result<(), Refuse>
-        ensures ok { OnOk result ((others : Lexed) → after_these self.old.items (closed part.now self.old.line self.old.begun others) ≡ after_these self.new.items others) }
-        ensures refused { IfErr result (λ refuse. IfRefused refuse (λ refusal. (others : Lexed) → after_these self.old.items (closed part.now self.old.line self.old.begun others) ≡ Err refusal)) }
+        ensures ok { OnOk result ((others : Lexed) → after_these self.old.items (closed part.now self.old.line self.old.begun others)
+            ≡ after_these self.new.items others) }
+        ensures refused { IfErr result (λ refuse. IfRefused refuse
+            (λ refusal. (others : Lexed) → after_these self.old.items (closed part.now self.old.line self.old.begun others) ≡ Err refusal)) }
         ensures start { self.new.start ≡ self.old.start }
         ensures begun { self.new.begun ≡ self.old.begun }
         ensures line { self.new.line ≡ self.old.line }
@@ -40,11 +42,7 @@ impl Scanner {
                 Ok(()) => Ok(()),
                 Err(_) => Err(Refuse::Memory),
             },
-            Ok(None) => Err(Refuse::At(Refusal {
-                number: 2,
-                line,
-                column,
-            })),
+            Ok(None) => Err(Refuse::At(Reason::Token.at(line, column))),
             Err(_) => Err(Refuse::Memory),
         }
     }
@@ -83,11 +81,7 @@ impl Scanner {
         let part = &text[self.start..place];
         if is_past_ascii(byte) {
             return match self.close(part) {
-                Ok(()) => Err(Refuse::At(Refusal {
-                    number: 1,
-                    line: self.line,
-                    column: self.column,
-                })),
+                Ok(()) => Err(Refuse::At(Reason::NotAscii.at(self.line, self.column))),
                 Err(refuse) => Err(refuse),
             };
         }
@@ -105,7 +99,7 @@ impl Scanner {
 
 /// The tokens of a text of at most 1,048,576 bytes with their places, and the place of its end. A byte of
 /// 128 or more is refused 1, any other byte that begins no token and a number that has a leading zero or
-/// is 2 ^ 64 or more are refused 2, the first such place in the text. Its other error is want of memory.
+/// is 2 ^ 64 or more are refused 2, the first such place in the text. Its other error is out of memory.
 pub fn tokens(alloc: Global, text: &[u8]) -> Result<Tokens, Refuse>
     requires { length text.now ≤ 1048576 }
     ensures found { IfOk result (λ tokens. tokens_of text.now ≡ Ok tokens) }

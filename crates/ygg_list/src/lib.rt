@@ -1,4 +1,4 @@
-//! The one list type of the project, and want of memory.
+//! The one list type of the project, and out of memory.
 #![tactic(auto)]
 
 mod memory;

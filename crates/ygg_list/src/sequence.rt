@@ -6,7 +6,7 @@ use std::marker::Model;
 
 /// A value that can be made a second time.
 pub trait Duplicate: Sized {
-    /// An equal value. Its only error is want of memory.
+    /// An equal value. Its only error is out of memory.
     fn duplicate(&self, alloc: Global) -> Result<Self, NoMemory>
         ensures { IfOk result (λ copy. copy ≡ self.now) };
 }
@@ -105,7 +105,7 @@ impl<T> Sequence<T> {
 }
 
 impl<T: Drop> Sequence<T> {
-    /// Adds an item at the end. After want of memory the list is as before.
+    /// Adds an item at the end. After running out of memory the list is as before.
     pub fn push(&mut self, item: T) -> Result<(), NoMemory>
         ensures ok { OnOk result (self.new ≡ self.old ++ item ∷ []) }
         ensures err { OnErr result (self.new ≡ self.old) }
@@ -116,7 +116,7 @@ impl<T: Drop> Sequence<T> {
 }
 
 impl<T: Copy> Sequence<T> {
-    /// A list of these items. Its only error is want of memory.
+    /// A list of these items. Its only error is out of memory.
     pub fn from_slice(alloc: Global, items: &[T]) -> Result<Sequence<T>, NoMemory>
         ensures { IfOk result (λ list. list ≡ items.now) }
     {
@@ -125,7 +125,7 @@ impl<T: Copy> Sequence<T> {
         })
     }
 
-    /// Adds items at the end. After want of memory the list is as before.
+    /// Adds items at the end. After running out of memory the list is as before.
     pub fn extend_from_slice(&mut self, items: &[T]) -> Result<(), NoMemory>
         ensures ok { OnOk result (self.new ≡ self.old ++ items.now) }
         ensures err { OnErr result (self.new ≡ self.old) }
@@ -136,7 +136,7 @@ impl<T: Copy> Sequence<T> {
 }
 
 impl<T: Duplicate + Drop> Sequence<T> {
-    /// An equal list. Its only error is want of memory.
+    /// An equal list. Its only error is out of memory.
     pub fn copy(&self, alloc: Global) -> Result<Sequence<T>, NoMemory>
         ensures { IfOk result (λ copy. copy ≡ self.now) }
     {

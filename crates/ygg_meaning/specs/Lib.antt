@@ -1,2 +1,15 @@
+pub mod Environments
+pub mod Meaning
+pub mod Shapes
+pub mod Progress
+pub mod Machine
+pub mod Runs
+pub mod Layer
+pub mod Spec
+pub mod DiskMachine
+pub mod Related
+pub mod Obligations
+pub mod Violates
+pub mod Replayed
+pub mod Refines
 pub mod Laws
-pub mod Reaching

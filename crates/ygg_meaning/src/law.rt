@@ -1,15 +1,14 @@
-//! What the clauses of terms mean. A call does nothing; what it ensures holds.
+//! Laws of blocks and of schedules.
 
-ghost use Rattle.ygg_meaning.specs.Reaching.{TestsReaching};
-ghost use Rattle.ygg_meaning.specs.Laws.{SatisfiableExactly, SatisfyingIsZero};
+ghost use Rattle.ygg_meaning.specs.Laws.{AnswersInOrder, ReplayEnds};
 
-/// The clauses of a term are satisfiable exactly where the term is 0 in some environment, and satisfying truth values name one.
-pub fn clauses_mean_terms()
-    ensures exactly { SatisfiableExactly }
-    ensures environment { SatisfyingIsZero }
+/// A block that asks for something after some answers has asked for something after each shorter list of them.
+pub fn answers_in_order()
+    ensures { AnswersInOrder }
 {}
 
-/// The nodes that have a group of gates are those that the term reaches: itself, and the children of each node that it reaches.
-pub fn groups_are_of_reached_nodes()
-    ensures { TestsReaching }
+/// A schedule that meets the hypotheses of an obligation violates it, or there is a first list of the specification's picks with which the
+/// conclusion holds.
+pub fn replay_ends()
+    ensures { ReplayEnds }
 {}

@@ -1,6 +1,4 @@
-//! What the clauses of terms mean.
+//! What expressions and blocks mean, machines that may lose power, and the obligations of a layer.
 #![tactic(auto)]
 
-mod law;
-
-pub use law::{clauses_mean_terms, groups_are_of_reached_nodes};
+pub mod law;

@@ -1,3 +1,2 @@
-pub mod Printed
-pub mod PrintedBlocks
-pub mod PrintedFiles
+pub mod Canonical
+pub mod Laws

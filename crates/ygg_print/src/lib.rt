@@ -1,12 +1,8 @@
-//! The tokens of the parts of a layer file in its one canonical text, by the rules of the grammar. Each call writes the marks of a
-//! part behind those that the printer has. Its only error is want of memory, after which some of the part's marks may be written.
+//! The one canonical text of a layer file.
 #![tactic(auto)]
 
-mod blocks;
-mod expressions;
-mod files;
-mod printer;
+mod canonical;
+mod law;
 
-pub use blocks::block;
-pub use files::{claims, declared_list, definitions, disk, optional, shape, ticks, variables};
-pub use printer::Printer;
+pub use canonical::print;
+pub use law::canonical_is_read;

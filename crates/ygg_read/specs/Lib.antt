@@ -1,4 +1,1 @@
-pub mod Expecting
-pub mod Naming
-pub mod Parts
-pub mod Refusing
+pub mod Refused

@@ -1,162 +1,137 @@
-ghost use Rattle.std.specs.Prelude.{◌≡◌, ◌<◌, List, ◌∷◌, ◌++◌, length, OnOk, IfOk, IfErr};
+ghost use Rattle.std.specs.Prelude.{◌≡◌, ◌==◌, ◌≤◌, [], ◌∷◌, length, IfOk, IfErr, OnSome, IfNone};
 ghost use Rattle.ygg_base.specs.declared.token.Keyword.TheVariants as word;
 ghost use Rattle.ygg_base.specs.declared.token.Symbol.TheVariants as sign;
-ghost use Rattle.ygg_base.specs.declared.token.Mark.{Mark};
 ghost use Rattle.ygg_base.specs.declared.token.Mark.TheVariants as mark;
-ghost use Rattle.ygg_syntax.specs.declared.flag.FlagFile.{FlagFile};
-ghost use Rattle.ygg_syntax.specs.declared.flag.Formula.{Formula};
-ghost use Rattle.ygg_syntax.specs.FlagGrammar.{write_marks, file_marks};
-ghost use Rattle.ygg_read.specs.Parts.{header, writes_before};
-ghost use Rattle.ygg_read.specs.Refusing.{IfNotBuilt};
-ghost use Rattle.ygg_read.specs.declared.file.Names.{Names};
+ghost use Rattle.ygg_base.specs.Failure.{IfRefused as IfNoMore};
+ghost use Rattle.ygg_syntax.specs.Reading.{starts, passes};
+ghost use Rattle.ygg_syntax.specs.Expressions.{keyword, symbol};
+ghost use Rattle.ygg_syntax.specs.Files.{whole_file, Derives};
+ghost use Rattle.ygg_syntax.specs.Pending.{exactly, word_of, sign_of, outcome, stops};
+ghost use Rattle.ygg_syntax.specs.Pending as pending;
+ghost use Rattle.ygg_read_expr.specs.Steps.{Reads, Goes, Stops, IfRead, OnRead, IfRefused};
+ghost use Rattle.ygg_read.specs.Refused.{IsRefusal, place_with};
 
-use crate::expected::Expected;
-use crate::reader::Reader;
-use crate::unread::Unread;
-use sqlite_items::Items;
-use ygg_base::{Keyword, Symbol, Text};
-use ygg_syntax::flag::{FlagFile, Formula};
+use std::alloc::Global;
+use ygg_base::{Keyword, Mark, Reason, Refuse, Symbol, Token, Tokens};
+use ygg_list::NoMemory;
+use ygg_read_expr::Reader;
+use ygg_read_layer::disk::disk;
+use ygg_read_layer::{definitions, layers};
+use ygg_syntax::tree::{File, Numeral, Place};
 
-/// The names of a file, in the order of the text.
-#[derive(Drop)]
-struct Names {
-    layer: Text,
-    state: Text,
-    operation: Text,
-    argument: Text,
-    assigned: Text,
+/// The file that derives from the tokens. Where none does they are refused 3 at the first token that can't come, or at the
+/// end of the text. The other error is out of memory.
+pub fn read(alloc: Global, tokens: &Tokens) -> Result<File, Refuse>
+    ensures derives { IfOk result (λ file. Derives tokens.now.items file) }
+    ensures refused { IfErr result (λ refuse. IfNoMore refuse (λ refusal. IsRefusal tokens.now refusal)) }
+{
+    let mut reader = Reader::new(alloc, tokens.as_slice());
+    match whole(&mut reader) {
+        Ok(Some(file)) => Ok(file),
+        Ok(None) => {
+            let place = place(tokens, reader.left().len());
+            Err(Refuse::At(Reason::Syntax.at(place.line, place.column)))
+        }
+        Err(_) => Err(Refuse::Memory),
+    }
 }
 
-impl<'a> Reader<'a> {
-    /// Reads a whole file, after which no token is left.
-    pub fn file(&mut self) -> Result<FlagFile, Unread>
-        ensures derives { IfOk result (λ file. self.old ≡ file_marks file) }
-        ensures refused { IfErr result (λ unread. IfNotBuilt unread ((file : FlagFile) → self.old ≡ file_marks file → ⊥)) }
-    {
-        let names = self.header()?;
-        let after_spec = [
-            Expected::Symbol(Symbol::Semicolon),
-            Expected::Symbol(Symbol::BraceClose),
-            Expected::Keyword(Keyword::Impl),
-            Expected::Symbol(Symbol::BraceOpen),
-        ];
-        let spec = self.formula_before(&after_spec)?;
-        let writes = self.writes()?;
-        let after_relate = [
-            Expected::Symbol(Symbol::Semicolon),
-            Expected::Symbol(Symbol::BraceClose),
-        ];
-        let relate = self.formula_before(&after_relate)?;
-        if !self.is_done() {
-            return Err(Unread::NotBuilt);
-        }
-        Ok(FlagFile {
-            layer: names.layer,
-            state: names.state,
-            operation: names.operation,
-            argument: names.argument,
-            assigned: names.assigned,
-            spec,
-            writes,
-            relate,
-        })
+/// The place where so many tokens are left: that of the first of them, or the end of the text.
+fn place(tokens: &Tokens, left: usize) -> Place
+    requires { left ≤ length tokens.now.items }
+    ensures { result ≡ place_with tokens.now left }
+{
+    match tokens.as_slice().get(tokens.len() - left) {
+        Some(token) => Place {
+            line: token.line,
+            column: token.column,
+        },
+        None => Place {
+            line: tokens.line,
+            column: tokens.column,
+        },
     }
+}
 
-    /// Reads what stands before the expression of the specification.
-    fn header(&mut self) -> Result<Names, Unread>
-        ensures derives { IfOk result (λ names. self.old ≡ header names self.new) }
-        ensures refused { IfErr result (λ unread. IfNotBuilt unread ((names : Names) (rest : List Mark) → self.old ≡ header names rest → ⊥)) }
-    {
-        let layer = self.name_after(&[
-            Expected::Keyword(Keyword::Yggdrasil),
-            Expected::Number(1),
-            Expected::Symbol(Symbol::Semicolon),
-            Expected::Keyword(Keyword::Disk),
-            Expected::Keyword(Keyword::Sync),
-            Expected::Number(1),
-            Expected::Keyword(Keyword::Of),
-            Expected::Number(1),
-            Expected::Keyword(Keyword::Of),
-            Expected::Number(1),
-            Expected::Symbol(Symbol::Semicolon),
-            Expected::Keyword(Keyword::Layer),
-        ])?;
-        let state = self.name_after(&[
-            Expected::Symbol(Symbol::BraceOpen),
-            Expected::Keyword(Keyword::State),
-        ])?;
-        let operation = self.name_after(&[
-            Expected::Symbol(Symbol::Colon),
-            Expected::Keyword(Keyword::Word),
-            Expected::Number(1),
-            Expected::Symbol(Symbol::Semicolon),
-            Expected::Keyword(Keyword::Op),
-        ])?;
-        let argument = self.name_after(&[Expected::Symbol(Symbol::RoundOpen)])?;
-        let assigned = self.name_after(&[
-            Expected::Symbol(Symbol::Colon),
-            Expected::Keyword(Keyword::Word),
-            Expected::Number(1),
-            Expected::Symbol(Symbol::RoundClose),
-            Expected::Keyword(Keyword::Spec),
-            Expected::Symbol(Symbol::BraceOpen),
-        ])?;
-        if !self.take(Expected::Symbol(Symbol::Assign)) {
-            return Err(Unread::NotBuilt);
-        }
-        Ok(Names {
-            layer,
-            state,
-            operation,
-            argument,
-            assigned,
-        })
+/// Reads a file and nothing after it.
+fn whole(reader: &mut Reader<'_>) -> Result<Option<File>, NoMemory>
+    ensures derives { IfRead result (λ file. Derives reader.old file) }
+    ensures refused { IfRefused result (outcome (pending.file ∷ []) reader.old ≡ stops (length reader.new)) }
+{
+    let Some(file) = file(reader)? else {
+        return Ok(None);
+    };
+    if !ends(reader) {
+        return Ok(None);
     }
+    Ok(Some(file))
+}
 
-    /// Reads the writes of the implementation, to the keyword of the relation.
-    fn writes(&mut self) -> Result<Items<Formula>, Unread>
-        ensures derives { IfOk result (λ writes. self.old ≡ writes_before writes self.new) }
-        ensures refused { IfErr result (λ unread. IfNotBuilt unread ((writes : List Formula) (rest : List Mark) → self.old ≡ writes_before writes rest → ⊥)) }
-    {
-        let mut writes = Items::new(self.alloc());
-        while self.take(Expected::Keyword(Keyword::Call)) {
-            let written = self.write()?;
-            writes.push(written)?;
-        }
-        let end = [
-            Expected::Symbol(Symbol::BraceClose),
-            Expected::Keyword(Keyword::Relate),
-        ];
-        if !self.take_all(&end) {
-            return Err(Unread::NotBuilt);
-        }
-        Ok(writes)
+/// Whether no token is left.
+fn ends(reader: &Reader<'_>) -> bool
+    ensures { result ≡ (length reader.now == 0) }
+{
+    reader.left().is_empty()
+}
+
+/// Reads a file.
+#[tactic(auto, using(ygg_read_expr::proofs::Phrases::joined, ygg_read_claims::proofs::Files::file_opens))]
+fn file(reader: &mut Reader<'_>) -> Result<Option<File>, NoMemory>
+    ensures reads { IfRead result (λ f. Reads (whole_file f ∷ []) reader.old reader.new) }
+    ensures goes { OnRead result (Goes (pending.file ∷ []) reader.old reader.new) }
+    ensures refused { IfRefused result (Stops (pending.file ∷ []) reader.old reader.new) }
+{
+    let Some(_) = version(reader) else {
+        return Ok(None);
+    };
+    let Some(disk) = disk(reader) else {
+        return Ok(None);
+    };
+    let Some(defs) = definitions(reader)? else {
+        return Ok(None);
+    };
+    let Some(layers) = layers(reader)? else {
+        return Ok(None);
+    };
+    Ok(Some(File { disk, defs, layers }))
+}
+
+/// Reads the keyword that a file begins with, the version of the language, and a semicolon.
+fn version(reader: &mut Reader<'_>) -> Option<Place>
+    ensures reads { OnSome result (Reads (keyword word.Yggdrasil ∷ passes (mark.Num 1) ∷ symbol sign.Semicolon ∷ []) reader.old reader.new) }
+    ensures goes { OnSome result (Goes (word_of word.Yggdrasil ∷ exactly (mark.Num 1) ∷ sign_of sign.Semicolon ∷ []) reader.old reader.new) }
+    ensures refused { IfNone result (Stops (word_of word.Yggdrasil ∷ exactly (mark.Num 1) ∷ sign_of sign.Semicolon ∷ []) reader.old reader.new) }
+{
+    let Some(_) = reader.keyword(Keyword::Yggdrasil) else {
+        return None;
+    };
+    let Some(_) = one(reader) else {
+        return None;
+    };
+    reader.symbol(Symbol::Semicolon)
+}
+
+/// Reads the number 1.
+fn one(reader: &mut Reader<'_>) -> Option<Numeral>
+    ensures reads { OnSome result (Reads (passes (mark.Num 1) ∷ []) reader.old reader.new) }
+    ensures goes { OnSome result (Goes (exactly (mark.Num 1) ∷ []) reader.old reader.new) }
+    ensures refused { IfNone result (Stops (exactly (mark.Num 1) ∷ []) reader.old reader.new) }
+{
+    if !is_one(reader.left()) {
+        return None;
     }
+    reader.number()
+}
 
-    /// Reads what follows the `call` of a write.
-    fn write(&mut self) -> Result<Formula, Unread>
-        ensures derives { IfOk result (λ e. mark.Keyword word.Call ∷ self.old ≡ write_marks e ++ self.new) }
-        ensures refused { IfErr result (λ unread. IfNotBuilt unread ((e : Formula) (rest : List Mark) → mark.Keyword word.Call ∷ self.old ≡ write_marks e ++ rest → ⊥)) }
-        ensures shorter { OnOk result (length self.new < length self.old) }
-    {
-        let before = [
-            Expected::Name(b"write"),
-            Expected::Symbol(Symbol::RoundOpen),
-            Expected::Number(0),
-            Expected::Symbol(Symbol::Colon),
-            Expected::Number(8),
-            Expected::Symbol(Symbol::Comma),
-            Expected::Keyword(Keyword::Row),
-            Expected::Symbol(Symbol::RoundOpen),
-        ];
-        if !self.take_all(&before) {
-            return Err(Unread::NotBuilt);
-        }
-        let after = [
-            Expected::Symbol(Symbol::RoundClose),
-            Expected::Symbol(Symbol::RoundClose),
-            Expected::Symbol(Symbol::Semicolon),
-        ];
-        self.formula_before(&after)
+/// Whether the next token is the number 1.
+fn is_one(tokens: &[Token]) -> bool
+    ensures { result ≡ starts (mark.Num 1) tokens.now }
+{
+    let Some(first) = tokens.first() else {
+        return false;
+    };
+    match &first.mark {
+        Mark::Num(value) => *value == 1,
+        _ => false,
     }
 }

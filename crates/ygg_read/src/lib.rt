@@ -1,15 +1,11 @@
-//! Reads the tokens of a flag file, exactly in both directions: what is read derives from these tokens, and where
-//! nothing is read no file does.
+//! Reads layer files from tokens, with one function for each rule of the grammar above expressions and blocks.
+//!
+//! As for expressions, each function says three things of the tokens before it and after it, whatever comes behind: the
+//! tree that it answers reads just these tokens, the symbols that the grammar has pending take just these, and where it
+//! answers nothing the pending symbols stop where the reader stands. A file is read exactly where one derives, and else
+//! the place of the refusal is that of the first token which the pending symbols can't take, or the end of the text.
 #![tactic(auto)]
 
-mod expected;
 mod file;
-mod formula;
-mod names;
-mod reader;
-mod reading;
-mod unread;
 
-pub use names::names_fit;
-pub use reading::{built, read};
-pub use unread::Unread;
+pub use file::read;

@@ -1,5 +1,33 @@
 -- The rows of the table are right.
-use Rattle.std.proofs.Common.{◌≡◌, ◌^◌, ◌%◌, ◌-◌, ℕ, ◌+◌, ◌==◌, ◌||◌, Bool, true, false, if◌then◌else◌, Option, Some, None, refl, sym, ap, ◌∙◌, subst, arith, bit_and, bit_or, mod-eq_of_lt, ◌⊎◌, inl, inr}
+use Rattle.std.proofs.Common.{
+  ◌≡◌,
+  ◌^◌,
+  ◌%◌,
+  ◌-◌,
+  ℕ,
+  ◌+◌,
+  ◌==◌,
+  ◌||◌,
+  Bool,
+  true,
+  false,
+  if◌then◌else◌,
+  Option,
+  Some,
+  None,
+  refl,
+  sym,
+  ap,
+  ◌∙◌,
+  subst,
+  arith,
+  bit_and,
+  bit_or,
+  mod-eq_of_lt,
+  ◌⊎◌,
+  inl,
+  inr,
+}
 use Rattle.std.proofs.lemmas.Nat.{and_mask, and_comm, pow_pos}
 use Rattle.std.specs.Int.Bits.{and_zero_l, and_zero_r, or_zero_l, or_zero_r}
 use Rattle.std.proofs.lemmas.Bool.Decides.{Decides-eqb}
@@ -178,7 +206,8 @@ picked : (c : ℕ) (test : Bool) (x y : Number) → (c == 1) ≡ test → (if te
 picked c test x y e = ap (λ t. if t then x else y) (sym e)
 
 folds_pick : (w : ℕ) (a b c : Operand) → FitsPick w a.width b.width c.width →
-    IsRight (seen Pick w a (Some b) (Some c)) (if is_known_as 1 a.known then rewrite.Operand 1 else if is_known_as 0 a.known then rewrite.Operand 2 else rewrite.Keep)
+    IsRight (seen Pick w a (Some b) (Some c)) (if is_known_as 1 a.known then rewrite.Operand 1 else if is_known_as 0 a.known then rewrite.Operand 2
+    else rewrite.Keep)
 folds_pick w a b c fits =
     let v = seen Pick w a (Some b) (Some c) in
     choose v (is_known_as 1 a.known) (rewrite.Operand 1) (if is_known_as 0 a.known then rewrite.Operand 2 else rewrite.Keep)

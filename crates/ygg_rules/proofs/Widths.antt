@@ -20,8 +20,10 @@ bin_fits o w a b None h = h
 bin_fits o w a b (Some c) h = absurd h
 
 -- known operands can be folded
-pub can_fold : (v : Seen) → IsView v → (o : Op) (a b : Number) (two : Operand) → v.act ≡ Bin o → v.one.known ≡ Some a → v.two ≡ Some two → two.known ≡ Some b → CanApply o a b
+pub can_fold : (v : Seen) → IsView v → (o : Op) (a b : Number) (two : Operand) → v.act ≡ Bin o → v.one.known ≡ Some a → v.two ≡ Some two →
+    two.known ≡ Some b → CanApply o a b
 can_fold v h o a b two e f g k =
     let fits : Fits (Bin o) v.width v.one (Some two) v.three =
     subst (λ act. Fits act v.width v.one (Some two) v.three) e (subst (λ t. Fits v.act v.width v.one t v.three) g h.fits) in
-    can_apply-widths o a b v.one.width two.width ((h.operands 0 v.one refl).known a f).width ((h.operands 1 two g).known b k).width (bin_fits o v.width v.one two v.three fits).can
+    can_apply-widths o a b v.one.width two.width ((h.operands 0 v.one refl).known a f).width ((h.operands 1 two g).known b k).width
+    (bin_fits o v.width v.one two v.three fits).can

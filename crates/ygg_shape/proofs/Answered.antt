@@ -1,5 +1,40 @@
 -- What the public calls say of their answers, from what their answers are.
-use Rattle.std.proofs.Common.{◌≡◌, ◌<◌, ◌^◌, ℕ, Bool, true, false, if◌then◌else◌, inl, inr, Option, Some, None, Result, Ok, Err, OnOk, IfOk, List, [], ◌∷◌, ◌++◌, map, length, replicate, slice_get, slice_set, unwrap_or, refl, sym, ap, ◌∙◌, subst, arith}
+use Rattle.std.proofs.Common.{
+  ◌≡◌,
+  ◌<◌,
+  ◌^◌,
+  ℕ,
+  Bool,
+  true,
+  false,
+  if◌then◌else◌,
+  inl,
+  inr,
+  Option,
+  Some,
+  None,
+  Result,
+  Ok,
+  Err,
+  OnOk,
+  IfOk,
+  List,
+  [],
+  ◌∷◌,
+  ◌++◌,
+  map,
+  length,
+  replicate,
+  slice_get,
+  slice_set,
+  unwrap_or,
+  refl,
+  sym,
+  ap,
+  ◌∙◌,
+  subst,
+  arith,
+}
 use Rattle.std.specs.List.{list_any}
 use Rattle.std.proofs.lemmas.Nat.{pow_pos}
 use Rattle.ygg_value.specs.Number.{Number, Grid}
@@ -11,19 +46,19 @@ use Rattle.ygg_rules.specs.declared.rule.RuleKind.{RuleKind}
 use Rattle.ygg_bank.proofs.Exist.{values_fit}
 use Rattle.ygg_bank.proofs.Widths.{has_width, width_fits}
 use Rattle.ygg_bank.specs.Making.{known_in, same}
-use Rattle.ygg_bank.specs.Nodes.{width_at, widths_of, HasWidth, Stands, IsBank, Extends}
+use Rattle.ygg_bank.specs.Nodes.{width_at, widths_of, HasWidth, Stands, InOrder, IsBank, Extends}
 use Rattle.ygg_bank.specs.Values.{Inputs, Values, Fits, value_of}
 use Rattle.ygg_bank.specs.declared.node.Id.{Id}
 use Rattle.ygg_bank.specs.declared.node.Node.{Node}
 use Rattle.ygg_bank.specs.declared.node.Node.TheVariants.{Const}
 use Rattle.ygg_shape.proofs.Rows.{RowIs, split_at_is}
 use Rattle.ygg_shape.proofs.Tables.{RowsAre, selected_is, stored_is, stored_length}
-use Rattle.ygg_cells.proofs.Wider.{rows_wider, words_in_table, width_in_table}
+use Rattle.ygg_shape_cells.proofs.Wider.{rows_wider, words_in_table, width_in_table}
 use Rattle.ygg_shape.proofs.Worth.{digits, grid, row_worth, table_worth, table_like, merged_is, compared_is}
-use Rattle.ygg_cells.specs.Making.{merged, compared, split_at, row_or_zeros, selected, selected_at, stored, width_in}
+use Rattle.ygg_shape_cells.specs.Making.{merged, compared, split_at, row_or_zeros, selected, selected_at, stored, width_in}
 use Rattle.ygg_shape.specs.Meaning.{IsRead, IsWritten, IsMerged, IsCompared, IsConstant, AddsAtMostZero}
-use Rattle.ygg_cells.specs.Terms.{IsRow, IsTable, HasShape, AreAlike, TableStands, CanStore, numbers_of, row_of, table_of, words_in}
-use Rattle.ygg_cells.specs.declared.terms.SymValue.{SymValue}
+use Rattle.ygg_shape_cells.specs.Terms.{IsRow, IsTable, HasShape, AreAlike, TableStands, CanStore, numbers_of, row_of, table_of, words_in}
+use Rattle.ygg_shape_cells.specs.declared.terms.SymValue.{SymValue}
 
 -- an environment that gives 0 to each input
 abbrev pub no_inputs : Inputs
@@ -34,8 +69,10 @@ pub some_fit : (nodes : List Node) → IsBank nodes → Fits no_inputs (value_of
 some_fit nodes h = values_fit no_inputs nodes h.ordered (λ place number w e. pow_pos w)
 
 -- a row where the place has a number keeps the shape
-pub split_shape : {E : Type 0} (kinds : List RuleKind) (n w d i : ℕ) (at : Id) (xs ys : List Id) (old new : List Node) (r : Result (List Id) E) → IsBank new → HasWidth old at d → IsWidth d → i < 2 ^ d →
-    OnOk r (new ≡ (split_at kinds at d i xs ys old).nodes) → IfOk r (λ row. row ≡ (split_at kinds at d i xs ys old).value) → IsRow old n w xs → IsRow old n w ys → IfOk r (IsRow new n w)
+pub split_shape : {E : Type 0} (kinds : List RuleKind) (n w d i : ℕ) (at : Id) (xs ys : List Id) (old new : List Node) (r : Result (List Id) E) →
+    IsBank new → HasWidth old at d → IsWidth d → i < 2 ^ d →
+    OnOk r (new ≡ (split_at kinds at d i xs ys old).nodes) → IfOk r (λ row. row ≡ (split_at kinds at d i xs ys old).value) → IsRow old n w xs →
+    IsRow old n w ys → IfOk r (IsRow new n w)
 split_shape kinds n w d i at xs ys old new (Ok row) b a l f e g p q =
     let o = split_at kinds at d i xs ys old in
     let h = subst IsBank e b in
@@ -44,73 +81,92 @@ split_shape kinds n w d i at xs ys old new (Ok row) b a l f e g p q =
 split_shape kinds n w d i at xs ys old new (Err x) b a l f e g p q = tt
 
 -- merging
-pub merged_shape : {E : Type 0} (kinds : List RuleKind) (s : Shape) (t : Id) (one two : SymValue) (old new : List Node) (r : Result SymValue E) → IsBank new → Extends old new → HasWidth old t 1 →
-    OnOk r (new ≡ (merged kinds t one two old).nodes) → IfOk r (λ answer. answer ≡ (merged kinds t one two old).value) → HasShape old s one → HasShape old s two → IfOk r (HasShape new s)
+pub merged_shape : {E : Type 0} (kinds : List RuleKind) (s : Shape) (t : Id) (one two : SymValue) (old new : List Node) (r : Result SymValue E) →
+    IsBank new → Extends old new → HasWidth old t 1 →
+    OnOk r (new ≡ (merged kinds t one two old).nodes) → IfOk r (λ answer. answer ≡ (merged kinds t one two old).value) → HasShape old s one →
+    HasShape old s two → IfOk r (HasShape new s)
 merged_shape kinds s t one two old new (Ok answer) b x d e g p q =
     let o = merged kinds t one two old in
     let m = merged_is no_inputs (value_of no_inputs o.nodes) kinds s t one two old p q d (subst (Extends old) e x) (some_fit o.nodes (subst IsBank e b)) in
     subst (λ z. HasShape z s answer) (sym e) (subst (HasShape o.nodes s) (sym g) m.has)
 merged_shape kinds s t one two old new (Err x) b y d e g p q = tt
 
-pub merged_value : {E : Type 0} (kinds : List RuleKind) (t : Id) (one two : SymValue) (old new : List Node) (r : Result SymValue E) → IsBank new → Extends old new → HasWidth old t 1 →
-    OnOk r (new ≡ (merged kinds t one two old).nodes) → IfOk r (λ answer. answer ≡ (merged kinds t one two old).value) → AreAlike old one two → IfOk r (IsMerged new t one two)
+pub merged_value : {E : Type 0} (kinds : List RuleKind) (t : Id) (one two : SymValue) (old new : List Node) (r : Result SymValue E) → IsBank new →
+    Extends old new → HasWidth old t 1 →
+    OnOk r (new ≡ (merged kinds t one two old).nodes) → IfOk r (λ answer. answer ≡ (merged kinds t one two old).value) → AreAlike old one two →
+    IfOk r (IsMerged new t one two)
 merged_value kinds t one two old new (Ok answer) b x d e g p =
     let o = merged kinds t one two old in
     let c = subst IsBank e b in
     subst (λ z. IsMerged z t one two answer) (sym e) (subst (IsMerged o.nodes t one two) (sym g) (λ inputs fit.
-    let m = merged_is inputs (value_of inputs o.nodes) kinds p.shape t one two old p.one_has p.two_has d (subst (Extends old) e x) (values_fit inputs o.nodes c.ordered fit) in
+    let m = merged_is inputs (value_of inputs o.nodes) kinds p.shape t one two old p.one_has p.two_has d (subst (Extends old) e x)
+    (values_fit inputs o.nodes c.ordered fit) in
     m.is p.limits))
 merged_value kinds t one two old new (Err x) b y d e g p = tt
 
 -- comparing
 pub compared_width : {E : Type 0} (kinds : List RuleKind) (one two : SymValue) (old new : List Node) (r : Result Id E) → IsBank new → Extends old new →
-    OnOk r (new ≡ (compared kinds one two old).nodes) → IfOk r (λ answer. answer ≡ (compared kinds one two old).value) → AreAlike old one two → IfOk r (λ (a : Id). HasWidth new a 1)
+    OnOk r (new ≡ (compared kinds one two old).nodes) → IfOk r (λ answer. answer ≡ (compared kinds one two old).value) → AreAlike old one two →
+    IfOk r (λ (a : Id). HasWidth new a 1)
 compared_width kinds one two old new (Ok answer) b x e g p =
     let o = compared kinds one two old in
-    let m = compared_is no_inputs (value_of no_inputs o.nodes) kinds p.shape one two old p.limits p.one_has p.two_has (subst (Extends old) e x) (some_fit o.nodes (subst IsBank e b)) in
+    let m = compared_is no_inputs (value_of no_inputs o.nodes) kinds p.shape one two old p.limits p.one_has p.two_has (subst (Extends old) e x)
+    (some_fit o.nodes (subst IsBank e b)) in
     subst (λ z. HasWidth z answer 1) (sym e) (subst (λ z. HasWidth o.nodes z 1) (sym g) m.wide)
 compared_width kinds one two old new (Err x) b y e g p = tt
 
 pub compared_value : {E : Type 0} (kinds : List RuleKind) (one two : SymValue) (old new : List Node) (r : Result Id E) → IsBank new → Extends old new →
-    OnOk r (new ≡ (compared kinds one two old).nodes) → IfOk r (λ answer. answer ≡ (compared kinds one two old).value) → AreAlike old one two → IfOk r (IsCompared new one two)
+    OnOk r (new ≡ (compared kinds one two old).nodes) → IfOk r (λ answer. answer ≡ (compared kinds one two old).value) → AreAlike old one two →
+    IfOk r (IsCompared new one two)
 compared_value kinds one two old new (Ok answer) b x e g p =
     let o = compared kinds one two old in
     let c = subst IsBank e b in
     subst (λ z. IsCompared z one two answer) (sym e) (subst (IsCompared o.nodes one two) (sym g) (λ inputs fit.
-    let m = compared_is inputs (value_of inputs o.nodes) kinds p.shape one two old p.limits p.one_has p.two_has (subst (Extends old) e x) (values_fit inputs o.nodes c.ordered fit) in m.is))
+    let m = compared_is inputs (value_of inputs o.nodes) kinds p.shape one two old p.limits p.one_has p.two_has (subst (Extends old) e x)
+    (values_fit inputs o.nodes c.ordered fit) in m.is))
 compared_value kinds one two old new (Err x) b y e g p = tt
 
 -- reading, under one valuation
-selected_row : (inputs : Inputs) (v : Values) (kinds : List RuleKind) (n w : ℕ) (table : List (List Id)) (at : Id) (old : List Node) → IsBank old → Stands old at → IsTable old n w table →
+pub selected_row : (inputs : Inputs) (v : Values) (kinds : List RuleKind) (n w : ℕ) (table : List (List Id)) (at : Id) (old : List Node) → InOrder [] old →
+    Stands old at → IsTable old n w table →
     Fits inputs v (selected kinds table at old).nodes →
-    RowIs inputs v kinds (selected kinds table at old).nodes n w (unwrap_or (slice_get (map (numbers_of v) table) (v at.0).bits) (replicate n 0)) (selected kinds table at old).value
+    RowIs inputs v (selected kinds table at old).nodes n w (unwrap_or (slice_get (map (numbers_of v) table) (v at.0).bits) (replicate n 0))
+    (selected kinds table at old).value
 selected_row inputs v kinds n w table at old b s h =
     let d = width_at (widths_of old) at in
     let a = has_width old at s in
     let l = h.limits in
     subst (λ z. Fits inputs v (selected_at kinds table z at d (known_in (slice_get old at.0)) old).nodes →
-    RowIs inputs v kinds (selected_at kinds table z at d (known_in (slice_get old at.0)) old).nodes n w (unwrap_or (slice_get (map (numbers_of v) table) (v at.0).bits) (replicate n 0))
+    RowIs inputs v (selected_at kinds table z at d (known_in (slice_get old at.0)) old).nodes n w
+    (unwrap_or (slice_get (map (numbers_of v) table) (v at.0).bits) (replicate n 0))
     (selected_at kinds table z at d (known_in (slice_get old at.0)) old).value) (sym (width_in_table old table n w h))
-    (selected_is inputs v kinds n w d at table (known_in (slice_get old at.0)) old refl a (width_fits old at d b.ordered a) (record { least = omega arith; most = omega arith })
+    (selected_is inputs v kinds n w d at table (known_in (slice_get old at.0)) old refl a (width_fits old at d b a)
+    (record { least = omega arith; most = omega arith })
     (words_in_table old table n w h) h.rows)
 
-pub selected_shape : {E : Type 0} (kinds : List RuleKind) (n w : ℕ) (table : List (List Id)) (at : Id) (old new : List Node) (r : Result (List Id) E) → IsBank old → IsBank new → Stands old at →
-    OnOk r (new ≡ (selected kinds table at old).nodes) → IfOk r (λ row. row ≡ (selected kinds table at old).value) → IsTable old n w table → IfOk r (IsRow new n w)
+pub selected_shape : {E : Type 0} (kinds : List RuleKind) (n w : ℕ) (table : List (List Id)) (at : Id) (old new : List Node) (r : Result (List Id) E)
+    → IsBank old → IsBank new → Stands old at →
+    OnOk r (new ≡ (selected kinds table at old).nodes) → IfOk r (λ row. row ≡ (selected kinds table at old).value) → IsTable old n w table →
+    IfOk r (IsRow new n w)
 selected_shape kinds n w table at old new (Ok row) b c s e g h =
     let o = selected kinds table at old in
-    let m = selected_row no_inputs (value_of no_inputs o.nodes) kinds n w table at old b s h (some_fit o.nodes (subst IsBank e c)) in
+    let m = selected_row no_inputs (value_of no_inputs o.nodes) kinds n w table at old b.ordered s h (some_fit o.nodes (subst IsBank e c)) in
     subst (λ z. IsRow z n w row) (sym e) (subst (IsRow o.nodes n w) (sym g) m.shaped)
 selected_shape kinds n w table at old new (Err x) b c s e g h = tt
 
 -- a row with the numbers of a reading is what the reading gives
-read_is : (inputs : Inputs) (v : Values) (kinds : List RuleKind) (n w k : ℕ) (table : List (List Id)) (row : List Id) (nodes : List Node) → Fits inputs v nodes → IsTable nodes n w table →
-    RowIs inputs v kinds nodes n w (unwrap_or (slice_get (map (numbers_of v) table) k) (replicate n 0)) row → row_of v row ≡ table_read (table_of v table) k
+pub read_is : (inputs : Inputs) (v : Values) (kinds : List RuleKind) (n w k : ℕ) (table : List (List Id)) (row : List Id) (nodes : List Node) →
+    Fits inputs v nodes → IsTable nodes n w table →
+    RowIs inputs v nodes n w (unwrap_or (slice_get (map (numbers_of v) table) k) (replicate n 0)) row → row_of v row ≡ table_read (table_of v table) k
 read_is inputs v kinds n w k table row nodes f h m =
     let l = h.limits in
-    row_worth inputs v kinds nodes n w row f m.shaped (omega arith) ∙ ap (digits w) m.is ∙ ap (λ (t : Grid). table_read t k) (sym (table_worth inputs v kinds nodes n w table f h))
+    row_worth inputs v kinds nodes n w row f m.shaped (omega arith) ∙ ap (digits w) m.is
+    ∙ ap (λ (t : Grid). table_read t k) (sym (table_worth inputs v kinds nodes n w table f h))
 
-pub selected_value : {E : Type 0} (kinds : List RuleKind) (table : List (List Id)) (at : Id) (old new : List Node) (r : Result (List Id) E) → IsBank old → IsBank new → Extends old new → Stands old at →
-    OnOk r (new ≡ (selected kinds table at old).nodes) → IfOk r (λ row. row ≡ (selected kinds table at old).value) → TableStands old table → IfOk r (IsRead new table at)
+pub selected_value : {E : Type 0} (kinds : List RuleKind) (table : List (List Id)) (at : Id) (old new : List Node) (r : Result (List Id) E) →
+    IsBank old → IsBank new → Extends old new → Stands old at →
+    OnOk r (new ≡ (selected kinds table at old).nodes) → IfOk r (λ row. row ≡ (selected kinds table at old).value) → TableStands old table →
+    IfOk r (IsRead new table at)
 selected_value kinds table at old new (Ok row) b c x s e g t =
     let o = selected kinds table at old in
     let d = subst IsBank e c in
@@ -118,8 +174,9 @@ selected_value kinds table at old new (Ok row) b c x s e g t =
     subst (λ z. IsRead z table at row) (sym e) (subst (IsRead o.nodes table at) (sym g) (λ inputs fit.
     let v = value_of inputs o.nodes in
     let f = values_fit inputs o.nodes d.ordered fit in
-    read_is inputs v kinds t.words t.width (v at.0).bits table o.value o.nodes f (record { limits = h.limits; rows = rows_wider old o.nodes t.words t.width table (subst (Extends old) e x) h.rows })
-    (selected_row inputs v kinds t.words t.width table at old b s h f)))
+    read_is inputs v kinds t.words t.width (v at.0).bits table o.value o.nodes f
+    (record { limits = h.limits; rows = rows_wider old o.nodes t.words t.width table (subst (Extends old) e x) h.rows })
+    (selected_row inputs v kinds t.words t.width table at old b.ordered s h f)))
 selected_value kinds table at old new (Err x) b c y s e g t = tt
 
 -- of a constant place at most a zero is made
@@ -127,7 +184,8 @@ zero_case : (b : Bool) (width : ℕ) (nodes : List Node) → AddsAtMostZero node
 zero_case true width nodes = inl refl
 zero_case false width nodes = inr (width, refl)
 
-at_most_zero : (kinds : List RuleKind) (table : List (List Id)) (w d : ℕ) (at : Id) (k : Option Number) (x : Number) (o : Option (List Id)) (nodes : List Node) → k ≡ Some x → slice_get table x.bits ≡ o →
+at_most_zero : (kinds : List RuleKind) (table : List (List Id)) (w d : ℕ) (at : Id) (k : Option Number) (x : Number) (o : Option (List Id))
+    (nodes : List Node) → k ≡ Some x → slice_get table x.bits ≡ o →
     AddsAtMostZero nodes (selected_at kinds table w at d k nodes).nodes
 at_most_zero kinds table w d at (Some y) x (Some row) nodes e f =
     let g : y ≡ x = cc in
@@ -136,24 +194,33 @@ at_most_zero kinds table w d at (Some y) x (Some row) nodes e f =
 at_most_zero kinds table w d at (Some y) x None nodes e f =
     let g : y ≡ x = cc in
     let there : slice_get table y.bits ≡ None = ap (λ (z : Number). slice_get table z.bits) g ∙ f in
-    subst (λ z. AddsAtMostZero nodes (row_or_zeros kinds (words_in table) w z nodes).nodes) (sym there) (zero_case (list_any (same (Const (word w 0))) nodes) w nodes)
+    subst (λ z. AddsAtMostZero nodes (row_or_zeros kinds (words_in table) w z nodes).nodes) (sym there)
+    (zero_case (list_any (same (Const (word w 0))) nodes) w nodes)
 at_most_zero kinds table w d at None x o nodes e f = absurd (cc)
 
 pub selected_constant : {E : Type 0} (kinds : List RuleKind) (table : List (List Id)) (at : Id) (old new : List Node) (r : Result (List Id) E) →
     OnOk r (new ≡ (selected kinds table at old).nodes) → IsConstant old at → OnOk r (AddsAtMostZero old new)
 selected_constant kinds table at old new (Ok row) e c =
     subst (AddsAtMostZero old) (sym e)
-    (at_most_zero kinds table (width_in old table) (width_at (widths_of old) at) at (known_in (slice_get old at.0)) c.0 (slice_get table (c.0).bits) old (ap known_in c.1) refl)
+    (at_most_zero kinds table (width_in old table) (width_at (widths_of old) at) at (known_in (slice_get old at.0)) c.0
+    (slice_get table (c.0).bits) old (ap known_in c.1) refl)
 selected_constant kinds table at old new (Err x) e c = tt
 
 -- writing, under one valuation
-stored_rows : (inputs : Inputs) (v : Values) (kinds : List RuleKind) (n w : ℕ) (table : List (List Id)) (at : Id) (row : List Id) (old : List Node) → IsBank old → Stands old at → IsTable old n w table →
+pub stored_rows : (inputs : Inputs) (v : Values) (kinds : List RuleKind) (n w : ℕ) (table : List (List Id)) (at : Id) (row : List Id) (old : List Node) →
+    InOrder [] old → Stands old at → IsTable old n w table →
     IsRow old n w row → Fits inputs v (stored kinds table at row old).nodes →
-    RowsAre inputs v kinds (stored kinds table at row old).nodes n w (slice_set (map (numbers_of v) table) (v at.0).bits (numbers_of v row)) (stored kinds table at row old).value
+    RowsAre inputs v (stored kinds table at row old).nodes n w (slice_set (map (numbers_of v) table) (v at.0).bits (numbers_of v row))
+    (stored kinds table at row old).value
 stored_rows inputs v kinds n w table at row old b s h p f =
     let d = width_at (widths_of old) at in
     let a = has_width old at s in
-    stored_is inputs v kinds n w d at row table (known_in (slice_get old at.0)) old refl a (width_fits old at d b.ordered a) p h.rows f
+    stored_is inputs v kinds n w d at row table (known_in (slice_get old at.0)) old refl a (width_fits old at d b a) p h.rows f
+
+-- a table that is written has its rows
+pub stored_size : (inputs : Inputs) (v : Values) (kinds : List RuleKind) (table : List (List Id)) (at : Id) (row : List Id) (old : List Node) →
+    length (stored kinds table at row old).value ≡ length table
+stored_size inputs v kinds table at row old = stored_length inputs v kinds (width_at (widths_of old) at) at row table (known_in (slice_get old at.0)) old
 
 pub stored_count : {E : Type 0} (kinds : List RuleKind) (table : List (List Id)) (at : Id) (row : List Id) (old : List Node) (r : Result (List (List Id)) E) →
     IfOk r (λ answer. answer ≡ (stored kinds table at row old).value) → IfOk r (λ (answer : List (List Id)). length answer ≡ length table)
@@ -161,19 +228,24 @@ stored_count kinds table at row old (Ok answer) g =
     ap length g ∙ stored_length no_inputs (value_of no_inputs old) kinds (width_at (widths_of old) at) at row table (known_in (slice_get old at.0)) old
 stored_count kinds table at row old (Err x) g = tt
 
-pub stored_shape : {E : Type 0} (kinds : List RuleKind) (n w : ℕ) (table : List (List Id)) (at : Id) (row : List Id) (old new : List Node) (r : Result (List (List Id)) E) → IsBank old → IsBank new →
-    Stands old at → OnOk r (new ≡ (stored kinds table at row old).nodes) → IfOk r (λ answer. answer ≡ (stored kinds table at row old).value) → IsTable old n w table → IsRow old n w row →
+pub stored_shape : {E : Type 0} (kinds : List RuleKind) (n w : ℕ) (table : List (List Id)) (at : Id) (row : List Id) (old new : List Node)
+    (r : Result (List (List Id)) E) → IsBank old → IsBank new →
+    Stands old at → OnOk r (new ≡ (stored kinds table at row old).nodes) → IfOk r (λ answer. answer ≡ (stored kinds table at row old).value) →
+    IsTable old n w table → IsRow old n w row →
     IfOk r (IsTable new n w)
 stored_shape kinds n w table at row old new (Ok answer) b c s e g h p =
     let o = stored kinds table at row old in
     let v = value_of no_inputs o.nodes in
-    let m = stored_rows no_inputs v kinds n w table at row old b s h p (some_fit o.nodes (subst IsBank e c)) in
+    let m = stored_rows no_inputs v kinds n w table at row old b.ordered s h p (some_fit o.nodes (subst IsBank e c)) in
     let size = stored_length no_inputs v kinds (width_at (widths_of old) at) at row table (known_in (slice_get old at.0)) old in
-    subst (λ z. IsTable z n w answer) (sym e) (subst (IsTable o.nodes n w) (sym g) (table_like no_inputs v kinds old o.nodes n w table o.value h size m.rows_are))
+    subst (λ z. IsTable z n w answer) (sym e) (subst (IsTable o.nodes n w) (sym g)
+    (table_like no_inputs v kinds old o.nodes n w table o.value h size m.rows_are))
 stored_shape kinds n w table at row old new (Err x) b c s e g h p = tt
 
-pub stored_value : {E : Type 0} (kinds : List RuleKind) (table : List (List Id)) (at : Id) (row : List Id) (old new : List Node) (r : Result (List (List Id)) E) → IsBank old → IsBank new → Extends old new →
-    Stands old at → OnOk r (new ≡ (stored kinds table at row old).nodes) → IfOk r (λ answer. answer ≡ (stored kinds table at row old).value) → CanStore old table row →
+pub stored_value : {E : Type 0} (kinds : List RuleKind) (table : List (List Id)) (at : Id) (row : List Id) (old new : List Node)
+    (r : Result (List (List Id)) E) → IsBank old → IsBank new → Extends old new →
+    Stands old at → OnOk r (new ≡ (stored kinds table at row old).nodes) → IfOk r (λ answer. answer ≡ (stored kinds table at row old).value) →
+    CanStore old table row →
     IfOk r (IsWritten new table at row)
 stored_value kinds table at row old new (Ok answer) b c x s e g t =
     let o = stored kinds table at row old in
@@ -183,7 +255,7 @@ stored_value kinds table at row old new (Ok answer) b c x s e g t =
     subst (λ z. IsWritten z table at row answer) (sym e) (subst (IsWritten o.nodes table at row) (sym g) (λ inputs fit.
     let v = value_of inputs o.nodes in
     let f = values_fit inputs o.nodes d.ordered fit in
-    let m = stored_rows inputs v kinds n w table at row old b s h t.row_is f in
+    let m = stored_rows inputs v kinds n w table at row old b.ordered s h t.row_is f in
     let size = stored_length inputs v kinds (width_at (widths_of old) at) at row table (known_in (slice_get old at.0)) old in
     let answered : IsTable o.nodes n w o.value = table_like inputs v kinds old o.nodes n w table o.value h size m.rows_are in
     let before : IsTable o.nodes n w table = record { limits = h.limits; rows = rows_wider old o.nodes n w table (subst (Extends old) e x) h.rows } in

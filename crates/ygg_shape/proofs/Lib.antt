@@ -1,3 +1,4 @@
+pub mod Keeps
 pub mod Grows
 pub mod Steps
 pub mod Words
@@ -5,3 +6,9 @@ pub mod Rows
 pub mod Tables
 pub mod Worth
 pub mod Answered
+pub mod Guards
+pub mod Guarded
+pub mod Singles
+pub mod Makers
+pub mod Whole
+pub mod Freshness

@@ -1,5 +1,30 @@
 -- What merged and compared words and rows are worth, and their shapes, under one valuation of the nodes at the end.
-use Rattle.std.proofs.Common.{◌≡◌, ◌<◌, ◌^◌, ◌==◌, ℕ, zero, suc, Bool, true, false, ◌&&◌, if◌then◌else◌, List, [], ◌∷◌, length, replicate, Some, refl, sym, ap, ◌∙◌, subst, arith}
+use Rattle.std.proofs.Common.{
+  ◌≡◌,
+  ◌<◌,
+  ◌^◌,
+  ◌==◌,
+  ℕ,
+  zero,
+  suc,
+  Bool,
+  true,
+  false,
+  ◌&&◌,
+  if◌then◌else◌,
+  List,
+  [],
+  ◌∷◌,
+  length,
+  replicate,
+  Some,
+  refl,
+  sym,
+  ap,
+  ◌∙◌,
+  subst,
+  arith,
+}
 use Rattle.std.specs.Prelude.{nat_lt}
 use Rattle.std.specs.Str.{bytes_eq}
 use Rattle.std.proofs.lemmas.Bool.Decides.{nat_tests, Decides-eqb}
@@ -8,7 +33,7 @@ use Rattle.std.proofs.lemmas.Nat.{pow_pos}
 use Rattle.std.proofs.lemmas.List.Elements.{All-head, All-tail, All-cons, All-replicate}
 use Rattle.ygg_value.specs.Number.{Number, IsWord}
 use Rattle.ygg_value.specs.Words.{word, apply_to, bit_of}
-use Rattle.ygg_value.specs.declared.operation.Op.TheVariants.{And, Eq}
+use Rattle.ygg_value.specs.declared.operation.Op.TheVariants.{And}
 use Rattle.ygg_rules.specs.Views.{IsWidth}
 use Rattle.ygg_rules.specs.declared.rule.RuleKind.{RuleKind}
 use Rattle.ygg_bank.proofs.Made.{made_grows, made_width}
@@ -20,48 +45,28 @@ use Rattle.ygg_bank.specs.Nodes.{widths_of, node_width, HasWidth, CanMake, Exten
 use Rattle.ygg_bank.specs.Values.{Inputs, Values, Fits, node_value}
 use Rattle.ygg_bank.specs.declared.node.Id.{Id}
 use Rattle.ygg_bank.specs.declared.node.Node.{Node}
-use Rattle.ygg_bank.specs.declared.node.Node.TheVariants.{Const, Bin, Pick}
-use Rattle.ygg_shape.proofs.Grows.{merged_word_grows, merged_row_grows, compared_word_grows, compared_row_grows}
-use Rattle.ygg_cells.proofs.Wider.{IsWide, all_wider, row_wider, can_pick, can_equal, can_and}
-use Rattle.ygg_shape.proofs.Words.{either, bits_if, row_if, digit_is, and_digits, and_assoc}
-use Rattle.ygg_cells.specs.Making.{merged_word, merged_row, compared_word, compared_row, split_at, where_at, zeros}
-use Rattle.ygg_cells.specs.Terms.{IsRow, WordsAlike, numbers_of}
+use Rattle.ygg_bank.specs.declared.node.Node.TheVariants.{Const, Bin}
+use Rattle.ygg_shape_words.proofs.Compares.{same_words_is}
+use Rattle.ygg_shape_words.proofs.Fit.{alike, can_and}
+use Rattle.ygg_shape_words.proofs.Grows.{picked_grows, same_words_grows}
+use Rattle.ygg_shape_words.proofs.Picks.{picked_is}
+use Rattle.ygg_shape_words.proofs.Terms.{TermIs, holds, made_is, either, number_if, bit_is, and_digits}
+use Rattle.ygg_shape_words.specs.Picking.{picked}
+use Rattle.ygg_shape_words.specs.Same.{same_words}
+use Rattle.ygg_shape_words.specs.Forms.{WordsAlike}
+use Rattle.ygg_shape.proofs.Grows.{merged_row_grows, compared_word_grows, compared_row_grows}
+use Rattle.ygg_shape_cells.proofs.Wider.{IsWide, all_wider, row_wider}
+use Rattle.ygg_shape.proofs.Words.{row_if, and_assoc}
+use Rattle.ygg_shape_cells.specs.Making.{merged_row, compared_word, compared_row, split_at, where_at, zeros}
+use Rattle.ygg_shape_cells.specs.Terms.{IsRow, numbers_of}
 
-module _ (inputs : Inputs) (v : Values) (kinds : List RuleKind) where
-  -- a term of this width that has this value
-  pub record TermIs (nodes : List Node) (w : ℕ) (want : Number) (a : Id) : Type 0 where
-    pub wide : HasWidth nodes a w
-    pub is : v a.0 ≡ want
-
+module _ (inputs : Inputs) (v : Values) where
   -- a row of this shape whose words have these numbers
   pub record RowIs (nodes : List Node) (n w : ℕ) (want : List ℕ) (row : List Id) : Type 0 where
     pub shaped : IsRow nodes n w row
     pub is : numbers_of v row ≡ want
 
-  -- whether the term is 1
-  abbrev pub holds : Id → Bool
-  holds t = (v t.0).bits == 1
-
-  pub made_is : (n : Node) (nodes : List Node) → CanMake nodes n → Fits inputs v (made kinds n nodes).nodes →
-      TermIs (made kinds n nodes).nodes (node_width (widths_of nodes) n) (node_value inputs v n) (made kinds n nodes).value
-  made_is n nodes c h =
-      let f = fits_fewer inputs v nodes (made kinds n nodes).nodes (made_grows kinds n nodes) h in
-      record { wide = made_width kinds n nodes f.ordered c; is = made_gives inputs v kinds n nodes c h }
-
-  merged_case : (e : Bool) (w : ℕ) (t a b : Id) (nodes : List Node) → (a.0 == b.0) ≡ e → HasWidth nodes t 1 → HasWidth nodes a w → HasWidth nodes b w →
-      let o = (if e then pure a else made kinds (Pick t a b)) nodes in
-      Fits inputs v o.nodes → TermIs o.nodes w (if holds t then v a.0 else v b.0) o.value
-  merged_case true w t a b nodes e d p q h =
-      record { wide = p; is = subst (λ z. v a.0 ≡ (if holds t then v a.0 else v z)) ((Decides-eqb a.0 b.0).0 e) (either (holds t) (v a.0)) }
-  merged_case false w t a b nodes e d p q h =
-      let m = made_is (Pick t a b) nodes (can_pick nodes t a b w d p q) h in
-      record { wide = m.wide ∙ ap (λ z. Some z) (width_is nodes a w p); is = m.is }
-
-  pub merged_word_is : (w : ℕ) (t a b : Id) (nodes : List Node) → HasWidth nodes t 1 → HasWidth nodes a w → HasWidth nodes b w →
-      Fits inputs v (merged_word kinds t a b nodes).nodes →
-      TermIs (merged_word kinds t a b nodes).nodes w (if holds t then v a.0 else v b.0) (merged_word kinds t a b nodes).value
-  merged_word_is w t a b nodes d p q h = merged_case (a.0 == b.0) w t a b nodes refl d p q h
-
+module _ (inputs : Inputs) (v : Values) (kinds : List RuleKind) where
   -- a row without its first word
   row_tail : (old new : List Node) (n m w : ℕ) (x : Id) (xs : List Id) → Extends old new → IsRow old n w (x ∷ xs) → length xs ≡ m → IsRow new m w xs
   row_tail old new n m w x xs g h e = record { count = e; wide = all_wider old new w xs g (All-tail (IsWide old w) x xs h.wide) }
@@ -71,16 +76,17 @@ module _ (inputs : Inputs) (v : Values) (kinds : List RuleKind) where
 
   pub merged_row_is : (n w : ℕ) (t : Id) (xs ys : List Id) (nodes : List Node) → HasWidth nodes t 1 → IsRow nodes n w xs → IsRow nodes n w ys →
       Fits inputs v (merged_row kinds t xs ys nodes).nodes →
-      RowIs (merged_row kinds t xs ys nodes).nodes n w (if holds t then numbers_of v xs else numbers_of v ys) (merged_row kinds t xs ys nodes).value
-  merged_row_is n w t [] [] nodes d p q h = record { shaped = p; is = either (holds t) [] }
+      RowIs inputs v (merged_row kinds t xs ys nodes).nodes n w (if holds inputs v t then numbers_of v xs else numbers_of v ys)
+      (merged_row kinds t xs ys nodes).value
+  merged_row_is n w t [] [] nodes d p q h = record { shaped = p; is = either (holds inputs v t) [] }
   merged_row_is n w t [] (y ∷ ys) nodes d p q h = absurd (omega (arith, p.count, q.count))
   merged_row_is n w t (x ∷ xs) [] nodes d p q h = absurd (omega (arith, p.count, q.count))
   merged_row_is n w t (x ∷ xs) (y ∷ ys) nodes d p q h =
-      let o = merged_word kinds t x y nodes in
-      let g = merged_word_grows kinds t x y nodes in
+      let o = picked kinds t x y nodes in
+      let g = picked_grows kinds t x y nodes in
       let rest = merged_row kinds t xs ys o.nodes in
       let k = merged_row_grows kinds t xs ys o.nodes in
-      let a = merged_word_is w t x y nodes d (row_head nodes n w x xs p) (row_head nodes n w y ys q) (fits_fewer inputs v o.nodes rest.nodes k h) in
+      let a = picked_is inputs v kinds w t x y nodes d (row_head nodes n w x xs p) (row_head nodes n w y ys q) (fits_fewer inputs v o.nodes rest.nodes k h) in
       let r = merged_row_is (length xs) w t xs ys o.nodes (wider nodes o.nodes t 1 g d) (row_tail nodes o.nodes n (length xs) w x xs g p refl)
       (row_tail nodes o.nodes n (length xs) w y ys g q (omega (arith, p.count, q.count))) h in
       let tail = r.shaped in
@@ -89,31 +95,33 @@ module _ (inputs : Inputs) (v : Values) (kinds : List RuleKind) where
           count = omega (arith, tail.count, p.count);
           wide = All-cons (IsWide rest.nodes w) o.value rest.value (wider o.nodes rest.nodes o.value w k a.wide) tail.wide;
         };
-        is = ap (λ z. z ∷ numbers_of v rest.value) (ap (λ (z : Number). z.bits) a.is ∙ bits_if (holds t) (v x.0) (v y.0))
-            ∙ ap (λ z. (if holds t then (v x.0).bits else (v y.0).bits) ∷ z) r.is
-            ∙ row_if (holds t) (v x.0).bits (v y.0).bits (numbers_of v xs) (numbers_of v ys);
+        is = ap (λ z. z ∷ numbers_of v rest.value) (ap (λ (z : Number). z.bits) a.is ∙ number_if (holds inputs v t) (v x.0) (v y.0))
+            ∙ ap (λ z. (if holds inputs v t then (v x.0).bits else (v y.0).bits) ∷ z) r.is
+            ∙ row_if (holds inputs v t) (v x.0).bits (v y.0).bits (numbers_of v xs) (numbers_of v ys);
       }
 
   -- whether two words are equal, joined to what is known so far
   pub compared_word_is : (s : Bool) (so_far a b : Id) (nodes : List Node) → HasWidth nodes so_far 1 → WordsAlike nodes a b → v so_far.0 ≡ word 1 (bit_of s) →
       Fits inputs v (compared_word kinds so_far a b nodes).nodes →
-      TermIs (compared_word kinds so_far a b nodes).nodes 1 (word 1 (bit_of (s && ((v a.0).bits == (v b.0).bits)))) (compared_word kinds so_far a b nodes).value
+      TermIs inputs v (compared_word kinds so_far a b nodes).nodes 1 (word 1 (bit_of (s && ((v a.0).bits == (v b.0).bits))))
+      (compared_word kinds so_far a b nodes).value
   compared_word_is s so_far a b nodes d p e h =
-      let o = made kinds (Bin Eq a b) nodes in
-      let g = made_grows kinds (Bin Eq a b) nodes in
+      let o = same_words kinds a b nodes in
+      let g = same_words_grows kinds a b nodes in
       let q = made kinds (Bin And so_far o.value) o.nodes in
-      let x = made_is (Bin Eq a b) nodes (can_equal nodes a b p.width p.one_has p.two_has)
-      (fits_fewer inputs v o.nodes q.nodes (made_grows kinds (Bin And so_far o.value) o.nodes) h) in
+      let x = same_words_is inputs v kinds a b nodes p (fits_fewer inputs v o.nodes q.nodes (made_grows kinds (Bin And so_far o.value) o.nodes) h) in
       let c = wider nodes o.nodes so_far 1 g d in
-      let y = made_is (Bin And so_far o.value) o.nodes (can_and o.nodes so_far o.value 1 c x.wide) h in
+      let y = made_is inputs v kinds (Bin And so_far o.value) o.nodes (can_and o.nodes so_far o.value 1 c x.wide) h in
       record {
         wide = y.wide ∙ ap (λ z. Some z) (width_is o.nodes so_far 1 c);
         is = y.is ∙ ap (λ z. apply_to And z (v o.value.0)) e ∙ ap (apply_to And (word 1 (bit_of s))) x.is ∙ and_digits s ((v a.0).bits == (v b.0).bits);
       }
 
-  pub compared_row_is : (n w : ℕ) (s : Bool) (so_far : Id) (xs ys : List Id) (nodes : List Node) → HasWidth nodes so_far 1 → IsRow nodes n w xs → IsRow nodes n w ys →
+  pub compared_row_is : (n w : ℕ) (s : Bool) (so_far : Id) (xs ys : List Id) (nodes : List Node) → HasWidth nodes so_far 1 → IsRow nodes n w xs →
+      IsRow nodes n w ys →
       v so_far.0 ≡ word 1 (bit_of s) → Fits inputs v (compared_row kinds so_far xs ys nodes).nodes →
-      TermIs (compared_row kinds so_far xs ys nodes).nodes 1 (word 1 (bit_of (s && bytes_eq (numbers_of v xs) (numbers_of v ys)))) (compared_row kinds so_far xs ys nodes).value
+      TermIs inputs v (compared_row kinds so_far xs ys nodes).nodes 1 (word 1 (bit_of (s && bytes_eq (numbers_of v xs) (numbers_of v ys))))
+      (compared_row kinds so_far xs ys nodes).value
   compared_row_is n w s so_far [] [] nodes d p q e h = record { wide = d; is = e ∙ ap (λ z. word 1 (bit_of z)) (and_true s) } where
     and_true : (s : Bool) → s ≡ (s && true)
     and_true true = refl
@@ -136,10 +144,10 @@ module _ (inputs : Inputs) (v : Values) (kinds : List RuleKind) where
   numbers_replicate (suc n) a e = ap (λ z. z ∷ numbers_of v (replicate n a)) e ∙ ap (λ z. 0 ∷ z) (numbers_replicate n a e)
 
   pub zeros_is : (n w : ℕ) (nodes : List Node) → IsWidth w → Fits inputs v (zeros kinds n w nodes).nodes →
-      RowIs (zeros kinds n w nodes).nodes n w (replicate n 0) (zeros kinds n w nodes).value
+      RowIs inputs v (zeros kinds n w nodes).nodes n w (replicate n 0) (zeros kinds n w nodes).value
   zeros_is n w nodes l h =
       let o = made kinds (Const (word w 0)) nodes in
-      let z = made_is (Const (word w 0)) nodes (zero_word w l) h in
+      let z = made_is inputs v kinds (Const (word w 0)) nodes (zero_word w l) h in
       record {
         shaped = record { count = length-replicate n o.value; wide = All-replicate (IsWide o.nodes w) n o.value z.wide };
         is = numbers_replicate n o.value (ap (λ (k : Number). k.bits) z.is);
@@ -148,27 +156,31 @@ module _ (inputs : Inputs) (v : Values) (kinds : List RuleKind) where
         zero_word w l = record { least = l.least; most = l.most; fits = pow_pos w }
 
   -- a place by its number
-  pub split_at_is : (n w d i : ℕ) (at : Id) (xs ys : List Id) (nodes : List Node) → HasWidth nodes at d → IsWidth d → i < 2 ^ d → IsRow nodes n w xs → IsRow nodes n w ys →
+  pub split_at_is : (n w d i : ℕ) (at : Id) (xs ys : List Id) (nodes : List Node) → HasWidth nodes at d → IsWidth d → i < 2 ^ d → IsRow nodes n w xs →
+      IsRow nodes n w ys →
       Fits inputs v (split_at kinds at d i xs ys nodes).nodes →
-      RowIs (split_at kinds at d i xs ys nodes).nodes n w (if (v at.0).bits == i then numbers_of v xs else numbers_of v ys) (split_at kinds at d i xs ys nodes).value
+      RowIs inputs v (split_at kinds at d i xs ys nodes).nodes n w (if (v at.0).bits == i then numbers_of v xs else numbers_of v ys)
+      (split_at kinds at d i xs ys nodes).value
   split_at_is n w d i at xs ys nodes a l f p q h =
       let k = made kinds (Const (word d i)) nodes in
       let kg = made_grows kinds (Const (word d i)) nodes in
-      let t = made kinds (Bin Eq at k.value) k.nodes in
-      let tg = made_grows kinds (Bin Eq at k.value) k.nodes in
+      let t = same_words kinds at k.value k.nodes in
+      let tg = same_words_grows kinds at k.value k.nodes in
       let m = merged_row kinds t.value xs ys t.nodes in
       let ht = fits_fewer inputs v t.nodes m.nodes (merged_row_grows kinds t.value xs ys t.nodes) h in
-      let x = made_is (Const (word d i)) nodes (record { least = l.least; most = l.most; fits = f }) (fits_fewer inputs v k.nodes t.nodes tg ht) in
-      let y = made_is (Bin Eq at k.value) k.nodes (can_equal k.nodes at k.value d (wider nodes k.nodes at d kg a) x.wide) ht in
+      let x = made_is inputs v kinds (Const (word d i)) nodes (record { least = l.least; most = l.most; fits = f })
+      (fits_fewer inputs v k.nodes t.nodes tg ht) in
+      let y = same_words_is inputs v kinds at k.value k.nodes (alike k.nodes at k.value d (wider nodes k.nodes at d kg a) x.wide) ht in
       let r = merged_row_is n w t.value xs ys t.nodes y.wide (row_wider k.nodes t.nodes n w xs tg (row_wider nodes k.nodes n w xs kg p))
       (row_wider k.nodes t.nodes n w ys tg (row_wider nodes k.nodes n w ys kg q)) h in
-      let test : holds t.value ≡ ((v at.0).bits == i) =
-      ap (λ (z : Number). z.bits == 1) y.is ∙ digit_is ((v at.0).bits == (v k.value.0).bits) ∙ ap (λ (z : Number). (v at.0).bits == z.bits) x.is in
+      let test : holds inputs v t.value ≡ ((v at.0).bits == i) =
+      ap (λ (z : Number). z.bits == 1) y.is ∙ bit_is ((v at.0).bits == (v k.value.0).bits) ∙ ap (λ (z : Number). (v at.0).bits == z.bits) x.is in
       record { shaped = r.shaped; is = r.is ∙ ap (λ c. if c then numbers_of v xs else numbers_of v ys) test }
 
-  where_case : (b : Bool) (n w d i : ℕ) (at : Id) (xs ys : List Id) (nodes : List Node) → nat_lt i (2 ^ d) ≡ b → HasWidth nodes at d → IsWidth d → IsRow nodes n w xs → IsRow nodes n w ys →
+  where_case : (b : Bool) (n w d i : ℕ) (at : Id) (xs ys : List Id) (nodes : List Node) → nat_lt i (2 ^ d) ≡ b → HasWidth nodes at d → IsWidth d →
+      IsRow nodes n w xs → IsRow nodes n w ys →
       let o = (if b then split_at kinds at d i xs ys else pure ys) nodes in
-      Fits inputs v o.nodes → RowIs o.nodes n w (if (v at.0).bits == i then numbers_of v xs else numbers_of v ys) o.value
+      Fits inputs v o.nodes → RowIs inputs v o.nodes n w (if (v at.0).bits == i then numbers_of v xs else numbers_of v ys) o.value
   where_case true n w d i at xs ys nodes e a l p q h = split_at_is n w d i at xs ys nodes a l (below e) p q h where
     below : nat_lt i (2 ^ d) ≡ true → i < 2 ^ d
     below e = grind (arith, nat_tests)
@@ -181,5 +193,6 @@ module _ (inputs : Inputs) (v : Values) (kinds : List RuleKind) where
 
   pub where_at_is : (n w d i : ℕ) (at : Id) (xs ys : List Id) (nodes : List Node) → HasWidth nodes at d → IsWidth d → IsRow nodes n w xs → IsRow nodes n w ys →
       Fits inputs v (where_at kinds at d i xs ys nodes).nodes →
-      RowIs (where_at kinds at d i xs ys nodes).nodes n w (if (v at.0).bits == i then numbers_of v xs else numbers_of v ys) (where_at kinds at d i xs ys nodes).value
+      RowIs inputs v (where_at kinds at d i xs ys nodes).nodes n w (if (v at.0).bits == i then numbers_of v xs else numbers_of v ys)
+      (where_at kinds at d i xs ys nodes).value
   where_at_is n w d i at xs ys nodes a l p q h = where_case (nat_lt i (2 ^ d)) n w d i at xs ys nodes refl a l p q h

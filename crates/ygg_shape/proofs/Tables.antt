@@ -1,5 +1,36 @@
 -- What tables of terms are worth, and their shapes, under one valuation of the nodes at the end.
-use Rattle.std.proofs.Common.{◌≡◌, ◌==◌, ℕ, zero, suc, ◌+◌, Bool, true, false, ◌&&◌, if◌then◌else◌, Option, Some, None, List, [], ◌∷◌, map, length, replicate, All, slice_get, slice_set, unwrap_or, refl, sym, ap, ◌∙◌, subst, arith}
+use Rattle.std.proofs.Common.{
+  ◌≡◌,
+  ◌==◌,
+  ℕ,
+  zero,
+  suc,
+  ◌+◌,
+  Bool,
+  true,
+  false,
+  ◌&&◌,
+  if◌then◌else◌,
+  Option,
+  Some,
+  None,
+  List,
+  [],
+  ◌∷◌,
+  map,
+  length,
+  replicate,
+  All,
+  slice_get,
+  slice_set,
+  unwrap_or,
+  refl,
+  sym,
+  ap,
+  ◌∙◌,
+  subst,
+  arith,
+}
 use Rattle.std.specs.Option.{option_map}
 use Rattle.std.specs.Str.{bytes_eq}
 use Rattle.std.proofs.lemmas.List.{map-set, length-set}
@@ -18,27 +49,52 @@ use Rattle.ygg_bank.specs.Values.{Inputs, Values, Fits}
 use Rattle.ygg_bank.specs.declared.node.Id.{Id}
 use Rattle.ygg_bank.specs.declared.node.Node.{Node}
 use Rattle.ygg_bank.specs.declared.node.Node.TheVariants.{Input, Const, Bin, Not, Resize, Pick}
-use Rattle.ygg_shape.proofs.Grows.{merged_row_grows, merged_rows_grows, compared_row_grows, compared_rows_grows, where_at_grows, zeros_grows, chosen_grows, stored_from_grows}
-use Rattle.ygg_shape.proofs.Rows.{TermIs, RowIs, holds, merged_row_is, compared_row_is, zeros_is, where_at_is}
-use Rattle.ygg_cells.proofs.Wider.{row_wider, rows_wider}
-use Rattle.ygg_shape.proofs.Words.{either, row_if, and_assoc, among, among_is, replaced, replaced_is}
-use Rattle.ygg_cells.specs.Making.{merged_row, merged_rows, compared_row, compared_rows, where_at, zeros, chosen, stored_from, row_or_zeros, selected_at, stored_at}
-use Rattle.ygg_cells.specs.Terms.{IsRow, numbers_of, words_in}
+use Rattle.ygg_shape_words.proofs.Terms.{TermIs, holds, either}
+use Rattle.ygg_shape.proofs.Grows.{
+  merged_row_grows,
+  merged_rows_grows,
+  compared_row_grows,
+  compared_rows_grows,
+  where_at_grows,
+  zeros_grows,
+  chosen_grows,
+  stored_from_grows,
+}
+use Rattle.ygg_shape.proofs.Rows.{RowIs, merged_row_is, compared_row_is, zeros_is, where_at_is}
+use Rattle.ygg_shape_cells.proofs.Wider.{row_wider, rows_wider}
+use Rattle.ygg_shape.proofs.Words.{row_if, and_assoc, among, among_is, replaced, replaced_is}
+use Rattle.ygg_shape_cells.specs.Making.{
+  merged_row,
+  merged_rows,
+  compared_row,
+  compared_rows,
+  where_at,
+  zeros,
+  chosen,
+  stored_from,
+  row_or_zeros,
+  selected_at,
+  stored_at,
+}
+use Rattle.ygg_shape_cells.specs.Terms.{IsRow, numbers_of, words_in}
 
-module _ (inputs : Inputs) (v : Values) (kinds : List RuleKind) where
+module _ (inputs : Inputs) (v : Values) where
   -- rows of this shape whose words have these numbers
   pub record RowsAre (nodes : List Node) (n w : ℕ) (want : List (List ℕ)) (rows : List (List Id)) : Type 0 where
     pub rows_are : All (IsRow nodes n w) rows
     pub is : map (numbers_of v) rows ≡ want
 
+module _ (inputs : Inputs) (v : Values) (kinds : List RuleKind) where
   -- rows without the first one
   rows_tail : (old new : List Node) (n w : ℕ) (x : List Id) (xs : List (List Id)) → Extends old new → All (IsRow old n w) (x ∷ xs) → All (IsRow new n w) xs
   rows_tail old new n w x xs g h = rows_wider old new n w xs g (All-tail (IsRow old n w) x xs h)
 
-  pub merged_rows_is : (n w : ℕ) (t : Id) (xs ys : List (List Id)) (nodes : List Node) → HasWidth nodes t 1 → All (IsRow nodes n w) xs → All (IsRow nodes n w) ys →
+  pub merged_rows_is : (n w : ℕ) (t : Id) (xs ys : List (List Id)) (nodes : List Node) → HasWidth nodes t 1 → All (IsRow nodes n w) xs →
+      All (IsRow nodes n w) ys →
       length xs ≡ length ys → Fits inputs v (merged_rows kinds t xs ys nodes).nodes →
-      RowsAre (merged_rows kinds t xs ys nodes).nodes n w (if holds inputs v kinds t then map (numbers_of v) xs else map (numbers_of v) ys) (merged_rows kinds t xs ys nodes).value
-  merged_rows_is n w t [] [] nodes d p q e h = record { rows_are = p; is = either (holds inputs v kinds t) [] }
+      RowsAre inputs v (merged_rows kinds t xs ys nodes).nodes n w (if holds inputs v t then map (numbers_of v) xs else map (numbers_of v) ys)
+      (merged_rows kinds t xs ys nodes).value
+  merged_rows_is n w t [] [] nodes d p q e h = record { rows_are = p; is = either (holds inputs v t) [] }
   merged_rows_is n w t [] (y ∷ ys) nodes d p q e h = absurd (omega (arith, e))
   merged_rows_is n w t (x ∷ xs) [] nodes d p q e h = absurd (omega (arith, e))
   merged_rows_is n w t (x ∷ xs) (y ∷ ys) nodes d p q e h =
@@ -46,24 +102,29 @@ module _ (inputs : Inputs) (v : Values) (kinds : List RuleKind) where
       let g = merged_row_grows kinds t x y nodes in
       let rest = merged_rows kinds t xs ys o.nodes in
       let k = merged_rows_grows kinds t xs ys o.nodes in
-      let c = holds inputs v kinds t in
-      let a = merged_row_is inputs v kinds n w t x y nodes d (All-head (IsRow nodes n w) x xs p) (All-head (IsRow nodes n w) y ys q) (fits_fewer inputs v o.nodes rest.nodes k h) in
-      let r = merged_rows_is n w t xs ys o.nodes (wider nodes o.nodes t 1 g d) (rows_tail nodes o.nodes n w x xs g p) (rows_tail nodes o.nodes n w y ys g q) (omega (arith, e)) h in
+      let c = holds inputs v t in
+      let a = merged_row_is inputs v kinds n w t x y nodes d (All-head (IsRow nodes n w) x xs p) (All-head (IsRow nodes n w) y ys q)
+      (fits_fewer inputs v o.nodes rest.nodes k h) in
+      let r = merged_rows_is n w t xs ys o.nodes (wider nodes o.nodes t 1 g d) (rows_tail nodes o.nodes n w x xs g p)
+      (rows_tail nodes o.nodes n w y ys g q) (omega (arith, e)) h in
       record {
         rows_are = All-cons (IsRow rest.nodes n w) o.value rest.value (row_wider o.nodes rest.nodes n w o.value k a.shaped) r.rows_are;
         is = ap (λ z. z ∷ map (numbers_of v) rest.value) a.is ∙ ap (λ z. (if c then numbers_of v x else numbers_of v y) ∷ z) r.is
             ∙ row_if c (numbers_of v x) (numbers_of v y) (map (numbers_of v) xs) (map (numbers_of v) ys);
       }
 
-  pub merged_rows_length : (t : Id) (xs ys : List (List Id)) (nodes : List Node) → length xs ≡ length ys → length (merged_rows kinds t xs ys nodes).value ≡ length xs
+  pub merged_rows_length : (t : Id) (xs ys : List (List Id)) (nodes : List Node) → length xs ≡ length ys →
+      length (merged_rows kinds t xs ys nodes).value ≡ length xs
   merged_rows_length t [] [] nodes e = refl
   merged_rows_length t [] (y ∷ ys) nodes e = absurd (omega (arith, e))
   merged_rows_length t (x ∷ xs) [] nodes e = absurd (omega (arith, e))
   merged_rows_length t (x ∷ xs) (y ∷ ys) nodes e = omega (arith, merged_rows_length t xs ys (merged_row kinds t x y nodes).nodes (omega (arith, e)))
 
-  pub compared_rows_is : (n w : ℕ) (s : Bool) (so_far : Id) (xs ys : List (List Id)) (nodes : List Node) → HasWidth nodes so_far 1 → All (IsRow nodes n w) xs → All (IsRow nodes n w) ys →
+  pub compared_rows_is : (n w : ℕ) (s : Bool) (so_far : Id) (xs ys : List (List Id)) (nodes : List Node) → HasWidth nodes so_far 1 →
+      All (IsRow nodes n w) xs → All (IsRow nodes n w) ys →
       length xs ≡ length ys → v so_far.0 ≡ word 1 (bit_of s) → Fits inputs v (compared_rows kinds so_far xs ys nodes).nodes →
-      TermIs inputs v kinds (compared_rows kinds so_far xs ys nodes).nodes 1 (word 1 (bit_of (s && rows_eq (map (numbers_of v) xs) (map (numbers_of v) ys)))) (compared_rows kinds so_far xs ys nodes).value
+      TermIs inputs v (compared_rows kinds so_far xs ys nodes).nodes 1
+      (word 1 (bit_of (s && rows_eq (map (numbers_of v) xs) (map (numbers_of v) ys)))) (compared_rows kinds so_far xs ys nodes).value
   compared_rows_is n w s so_far [] [] nodes d p q c e h = record { wide = d; is = e ∙ ap (λ z. word 1 (bit_of z)) (and_true s) } where
     and_true : (s : Bool) → s ≡ (s && true)
     and_true true = refl
@@ -76,16 +137,19 @@ module _ (inputs : Inputs) (v : Values) (kinds : List RuleKind) where
       let here = bytes_eq (numbers_of v x) (numbers_of v y) in
       let a = compared_row_is inputs v kinds n w s so_far x y nodes d (All-head (IsRow nodes n w) x xs p) (All-head (IsRow nodes n w) y ys q) e
       (fits_fewer inputs v o.nodes (compared_rows kinds o.value xs ys o.nodes).nodes (compared_rows_grows kinds o.value xs ys o.nodes) h) in
-      let r = compared_rows_is n w (s && here) o.value xs ys o.nodes a.wide (rows_tail nodes o.nodes n w x xs g p) (rows_tail nodes o.nodes n w y ys g q) (omega (arith, c)) a.is h in
+      let r = compared_rows_is n w (s && here) o.value xs ys o.nodes a.wide (rows_tail nodes o.nodes n w x xs g p)
+      (rows_tail nodes o.nodes n w y ys g q) (omega (arith, c)) a.is h in
       record { wide = r.wide; is = r.is ∙ ap (λ z. word 1 (bit_of z)) (and_assoc s here (rows_eq (map (numbers_of v) xs) (map (numbers_of v) ys))) }
 
   -- the number of a place
   abbrev pub number : Id → ℕ
   number at = (v at.0).bits
 
-  pub chosen_is : (n w d i : ℕ) (at : Id) (past : List Id) (rows : List (List Id)) (nodes : List Node) → HasWidth nodes at d → IsWidth d → IsRow nodes n w past → All (IsRow nodes n w) rows →
+  pub chosen_is : (n w d i : ℕ) (at : Id) (past : List Id) (rows : List (List Id)) (nodes : List Node) → HasWidth nodes at d → IsWidth d →
+      IsRow nodes n w past → All (IsRow nodes n w) rows →
       Fits inputs v (chosen kinds at d past i rows nodes).nodes →
-      RowIs inputs v kinds (chosen kinds at d past i rows nodes).nodes n w (among (number at) (numbers_of v past) i (map (numbers_of v) rows)) (chosen kinds at d past i rows nodes).value
+      RowIs inputs v (chosen kinds at d past i rows nodes).nodes n w (among (number at) (numbers_of v past) i (map (numbers_of v) rows))
+      (chosen kinds at d past i rows nodes).value
   chosen_is n w d i at past [] nodes a l p q h = record { shaped = p; is = refl }
   chosen_is n w d i at past (row ∷ rows) nodes a l p q h =
       let o = where_at kinds at d i row past nodes in
@@ -96,9 +160,11 @@ module _ (inputs : Inputs) (v : Values) (kinds : List RuleKind) where
       let r = chosen_is n w d (i + 1) at o.value rows o.nodes (wider nodes o.nodes at d g a) l x.shaped (rows_tail nodes o.nodes n w row rows g q) h in
       record { shaped = r.shaped; is = r.is ∙ ap (λ z. among (number at) z (i + 1) (map (numbers_of v) rows)) x.is }
 
-  pub stored_from_is : (n w d i : ℕ) (at : Id) (new : List Id) (rows : List (List Id)) (nodes : List Node) → HasWidth nodes at d → IsWidth d → IsRow nodes n w new → All (IsRow nodes n w) rows →
+  pub stored_from_is : (n w d i : ℕ) (at : Id) (new : List Id) (rows : List (List Id)) (nodes : List Node) → HasWidth nodes at d → IsWidth d →
+      IsRow nodes n w new → All (IsRow nodes n w) rows →
       Fits inputs v (stored_from kinds at d new i rows nodes).nodes →
-      RowsAre (stored_from kinds at d new i rows nodes).nodes n w (replaced (number at) i (map (numbers_of v) rows) (numbers_of v new)) (stored_from kinds at d new i rows nodes).value
+      RowsAre inputs v (stored_from kinds at d new i rows nodes).nodes n w (replaced (number at) i (map (numbers_of v) rows) (numbers_of v new))
+      (stored_from kinds at d new i rows nodes).value
   stored_from_is n w d i at new [] nodes a l p q h = record { rows_are = q; is = refl }
   stored_from_is n w d i at new (row ∷ rows) nodes a l p q h =
       let o = where_at kinds at d i new row nodes in
@@ -106,20 +172,24 @@ module _ (inputs : Inputs) (v : Values) (kinds : List RuleKind) where
       let rest = stored_from kinds at d new (i + 1) rows o.nodes in
       let k = stored_from_grows kinds at d new (i + 1) rows o.nodes in
       let x = where_at_is inputs v kinds n w d i at new row nodes a l p (All-head (IsRow nodes n w) row rows q) (fits_fewer inputs v o.nodes rest.nodes k h) in
-      let r = stored_from_is n w d (i + 1) at new rows o.nodes (wider nodes o.nodes at d g a) l (row_wider nodes o.nodes n w new g p) (rows_tail nodes o.nodes n w row rows g q) h in
+      let r = stored_from_is n w d (i + 1) at new rows o.nodes (wider nodes o.nodes at d g a) l (row_wider nodes o.nodes n w new g p)
+      (rows_tail nodes o.nodes n w row rows g q) h in
       record {
         rows_are = All-cons (IsRow rest.nodes n w) o.value rest.value (row_wider o.nodes rest.nodes n w o.value k x.shaped) r.rows_are;
         is = ap (λ z. z ∷ map (numbers_of v) rest.value) x.is ∙ ap (λ z. (if number at == i then numbers_of v new else numbers_of v row) ∷ z) r.is;
       }
 
-  pub stored_from_length : (d i : ℕ) (at : Id) (new : List Id) (rows : List (List Id)) (nodes : List Node) → length (stored_from kinds at d new i rows nodes).value ≡ length rows
+  pub stored_from_length : (d i : ℕ) (at : Id) (new : List Id) (rows : List (List Id)) (nodes : List Node) →
+      length (stored_from kinds at d new i rows nodes).value ≡ length rows
   stored_from_length d i at new [] nodes = refl
   stored_from_length d i at new (row ∷ rows) nodes = omega (arith, stored_from_length d (i + 1) at new rows (where_at kinds at d i new row nodes).nodes)
 
   -- the row at a known place
-  row_case : (n w : ℕ) (rows : List (List Id)) (k : ℕ) (o : Option (List Id)) (nodes : List Node) → slice_get rows k ≡ o → All (IsRow nodes n w) rows → IsWidth w →
+  row_case : (n w : ℕ) (rows : List (List Id)) (k : ℕ) (o : Option (List Id)) (nodes : List Node) → slice_get rows k ≡ o → All (IsRow nodes n w) rows
+      → IsWidth w →
       Fits inputs v (row_or_zeros kinds n w o nodes).nodes →
-      RowIs inputs v kinds (row_or_zeros kinds n w o nodes).nodes n w (unwrap_or (slice_get (map (numbers_of v) rows) k) (replicate n 0)) (row_or_zeros kinds n w o nodes).value
+      RowIs inputs v (row_or_zeros kinds n w o nodes).nodes n w (unwrap_or (slice_get (map (numbers_of v) rows) k) (replicate n 0))
+      (row_or_zeros kinds n w o nodes).value
   row_case n w rows k (Some row) nodes e q l h = record {
     shaped = there rows k row e q;
     is = ap (λ z. unwrap_or z (replicate n 0)) (sym (slice_get-map (numbers_of v) rows k ∙ ap (option_map (numbers_of v)) e));
@@ -130,10 +200,15 @@ module _ (inputs : Inputs) (v : Values) (kinds : List RuleKind) where
     there (x ∷ xs) (suc k) row e q = there xs k row e (All-tail (IsRow nodes n w) x xs q)
   row_case n w rows k None nodes e q l h =
       let z = zeros_is inputs v kinds n w nodes l h in
-      record { shaped = z.shaped; is = z.is ∙ ap (λ z. unwrap_or z (replicate n 0)) (sym (slice_get-map (numbers_of v) rows k ∙ ap (option_map (numbers_of v)) e)) }
+      record {
+        shaped = z.shaped;
+        is = z.is ∙ ap (λ z. unwrap_or z (replicate n 0))
+            (sym (slice_get-map (numbers_of v) rows k ∙ ap (option_map (numbers_of v)) e));
+      }
 
   -- a place that is a constant has its number
-  known_number : (nodes : List Node) (at : Id) (k : Number) (o : Option Node) → slice_get nodes at.0 ≡ o → known_in o ≡ Some k → Fits inputs v nodes → v at.0 ≡ k
+  known_number : (nodes : List Node) (at : Id) (k : Number) (o : Option Node) → slice_get nodes at.0 ≡ o → known_in o ≡ Some k → Fits inputs v nodes →
+      v at.0 ≡ k
   known_number nodes at k (Some (Const x)) e f h = let g : x ≡ k = cc in h.values at.0 (Const x) e ∙ g
   known_number nodes at k (Some (Input m w)) e f h = absurd (cc)
   known_number nodes at k (Some (Bin o a b)) e f h = absurd (cc)
@@ -147,12 +222,15 @@ module _ (inputs : Inputs) (v : Values) (kinds : List RuleKind) where
   row_or_zeros_fits n w None nodes h = fits_fewer inputs v nodes (zeros kinds n w nodes).nodes (zeros_grows kinds n w nodes) h
 
   -- reading, where the place is known or not
-  pub selected_is : (n w d : ℕ) (at : Id) (table : List (List Id)) (k : Option Number) (nodes : List Node) → known_in (slice_get nodes at.0) ≡ k → HasWidth nodes at d → IsWidth d →
+  pub selected_is : (n w d : ℕ) (at : Id) (table : List (List Id)) (k : Option Number) (nodes : List Node) → known_in (slice_get nodes at.0) ≡ k →
+      HasWidth nodes at d → IsWidth d →
       IsWidth w → words_in table ≡ n → All (IsRow nodes n w) table → Fits inputs v (selected_at kinds table w at d k nodes).nodes →
-      RowIs inputs v kinds (selected_at kinds table w at d k nodes).nodes n w (unwrap_or (slice_get (map (numbers_of v) table) (number at)) (replicate n 0)) (selected_at kinds table w at d k nodes).value
+      RowIs inputs v (selected_at kinds table w at d k nodes).nodes n w
+      (unwrap_or (slice_get (map (numbers_of v) table) (number at)) (replicate n 0)) (selected_at kinds table w at d k nodes).value
   selected_is n w d at table (Some k) nodes e a l m c q h =
       subst (λ z. Fits inputs v (row_or_zeros kinds z w (slice_get table k.bits) nodes).nodes →
-      RowIs inputs v kinds (row_or_zeros kinds z w (slice_get table k.bits) nodes).nodes n w (unwrap_or (slice_get (map (numbers_of v) table) (number at)) (replicate n 0))
+      RowIs inputs v (row_or_zeros kinds z w (slice_get table k.bits) nodes).nodes n w
+      (unwrap_or (slice_get (map (numbers_of v) table) (number at)) (replicate n 0))
       (row_or_zeros kinds z w (slice_get table k.bits) nodes).value) (sym c) (λ g.
       let f = row_or_zeros_fits n w (slice_get table k.bits) nodes g in
       let same : number at ≡ k.bits = ap (λ (z : Number). z.bits) (known_number nodes at k (slice_get nodes at.0) refl e f) in
@@ -160,8 +238,9 @@ module _ (inputs : Inputs) (v : Values) (kinds : List RuleKind) where
       record { shaped = r.shaped; is = r.is ∙ ap (λ z. unwrap_or (slice_get (map (numbers_of v) table) z) (replicate n 0)) (sym same) }) h
   selected_is n w d at table None nodes e a l m c q h =
       subst (λ y. Fits inputs v (chosen kinds at d (zeros kinds y w nodes).value 0 table (zeros kinds y w nodes).nodes).nodes →
-      RowIs inputs v kinds (chosen kinds at d (zeros kinds y w nodes).value 0 table (zeros kinds y w nodes).nodes).nodes n w
-      (unwrap_or (slice_get (map (numbers_of v) table) (number at)) (replicate n 0)) (chosen kinds at d (zeros kinds y w nodes).value 0 table (zeros kinds y w nodes).nodes).value) (sym c) (λ u.
+      RowIs inputs v (chosen kinds at d (zeros kinds y w nodes).value 0 table (zeros kinds y w nodes).nodes).nodes n w
+      (unwrap_or (slice_get (map (numbers_of v) table) (number at)) (replicate n 0))
+      (chosen kinds at d (zeros kinds y w nodes).value 0 table (zeros kinds y w nodes).nodes).value) (sym c) (λ u.
       let o = zeros kinds n w nodes in
       let g = zeros_grows kinds n w nodes in
       let f = fits_fewer inputs v o.nodes (chosen kinds at d o.value 0 table o.nodes).nodes (chosen_grows kinds at d o.value 0 table o.nodes) u in
@@ -174,9 +253,11 @@ module _ (inputs : Inputs) (v : Values) (kinds : List RuleKind) where
       }) h
 
   -- writing, where the place is known or not
-  pub stored_is : (n w d : ℕ) (at : Id) (new : List Id) (table : List (List Id)) (k : Option Number) (nodes : List Node) → known_in (slice_get nodes at.0) ≡ k → HasWidth nodes at d → IsWidth d →
+  pub stored_is : (n w d : ℕ) (at : Id) (new : List Id) (table : List (List Id)) (k : Option Number) (nodes : List Node) →
+      known_in (slice_get nodes at.0) ≡ k → HasWidth nodes at d → IsWidth d →
       IsRow nodes n w new → All (IsRow nodes n w) table → Fits inputs v (stored_at kinds table new at d k nodes).nodes →
-      RowsAre (stored_at kinds table new at d k nodes).nodes n w (slice_set (map (numbers_of v) table) (number at) (numbers_of v new)) (stored_at kinds table new at d k nodes).value
+      RowsAre inputs v (stored_at kinds table new at d k nodes).nodes n w (slice_set (map (numbers_of v) table) (number at) (numbers_of v new))
+      (stored_at kinds table new at d k nodes).value
   stored_is n w d at new table (Some k) nodes e a l p q h =
       let same : number at ≡ k.bits = ap (λ (z : Number). z.bits) (known_number nodes at k (slice_get nodes at.0) refl e h) in
       record {
@@ -187,6 +268,7 @@ module _ (inputs : Inputs) (v : Values) (kinds : List RuleKind) where
       let r = stored_from_is n w d 0 at new table nodes a l p q h in
       record { rows_are = r.rows_are; is = r.is ∙ replaced_is (number at) 0 (map (numbers_of v) table) (numbers_of v new) (number at) (omega arith) }
 
-  pub stored_length : (d : ℕ) (at : Id) (new : List Id) (table : List (List Id)) (k : Option Number) (nodes : List Node) → length (stored_at kinds table new at d k nodes).value ≡ length table
+  pub stored_length : (d : ℕ) (at : Id) (new : List Id) (table : List (List Id)) (k : Option Number) (nodes : List Node) →
+      length (stored_at kinds table new at d k nodes).value ≡ length table
   stored_length d at new table (Some k) nodes = length-set table k.bits new
   stored_length d at new table None nodes = stored_from_length d 0 at new table nodes

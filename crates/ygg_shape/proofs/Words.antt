@@ -1,34 +1,39 @@
 -- Words, rows and lists of rows under a choice, by numbers alone.
-use Rattle.std.proofs.Common.{◌≡◌, ◌<◌, ◌≤◌, ◌^◌, ◌%◌, ℕ, zero, suc, ◌+◌, ◌==◌, Bool, true, false, ◌&&◌, if◌then◌else◌, List, [], ◌∷◌, slice_get, slice_set, unwrap_or, refl, sym, ap, ◌∙◌, arith}
+use Rattle.std.proofs.Common.{
+  ◌≡◌,
+  ◌<◌,
+  ◌≤◌,
+  ◌^◌,
+  ◌%◌,
+  ℕ,
+  zero,
+  suc,
+  ◌+◌,
+  ◌==◌,
+  Bool,
+  true,
+  false,
+  ◌&&◌,
+  if◌then◌else◌,
+  List,
+  [],
+  ◌∷◌,
+  slice_get,
+  slice_set,
+  unwrap_or,
+  refl,
+  sym,
+  ap,
+  ◌∙◌,
+  arith,
+}
 use Rattle.std.specs.Prelude.{nat_lt}
 use Rattle.std.proofs.Math.Nat.{mod-eq_of_lt}
 use Rattle.std.proofs.lemmas.Bool.Decides.{nat_tests, Decides-eqb}
-use Rattle.ygg_value.specs.Number.{Number}
-use Rattle.ygg_value.specs.Words.{word, apply_to, bit_of}
-use Rattle.ygg_value.specs.declared.operation.Op.TheVariants.{And}
-
-pub either : {X : Type 0} (c : Bool) (x : X) → x ≡ (if c then x else x)
-either true x = refl
-either false x = refl
-
-pub bits_if : (c : Bool) (a b : Number) → (if c then a else b).bits ≡ (if c then a.bits else b.bits)
-bits_if true a b = refl
-bits_if false a b = refl
 
 pub row_if : {X : Type 0} (c : Bool) (a b : X) (xs ys : List X) → (if c then a else b) ∷ (if c then xs else ys) ≡ (if c then a ∷ xs else b ∷ ys)
 row_if true a b xs ys = refl
 row_if false a b xs ys = refl
-
-pub digit_is : (b : Bool) → (bit_of b == 1) ≡ b
-digit_is true = refl
-digit_is false = refl
-
--- a conjunction of single digits
-pub and_digits : (a b : Bool) → apply_to And (word 1 (bit_of a)) (word 1 (bit_of b)) ≡ word 1 (bit_of (a && b))
-and_digits true true = refl
-and_digits true false = refl
-and_digits false true = refl
-and_digits false false = refl
 
 pub and_assoc : (a b c : Bool) → ((a && b) && c) ≡ (a && (b && c))
 and_assoc true b c = refl
@@ -73,16 +78,3 @@ replaced_is a i (row ∷ rows) new zero e =
 replaced_is a i (row ∷ rows) new (suc k) e =
     let t : (a == i) ≡ false = grind (arith, nat_tests) in
     ap (λ c. (if c then new else row) ∷ replaced a (i + 1) rows new) t ∙ ap (λ z. row ∷ z) (replaced_is a (i + 1) rows new k (omega arith))
-
--- a number keeps all its digits at a width exactly where it is below 2 to the width
-pub fits_test : (w n : ℕ) → 0 < 2 ^ w → (n % 2 ^ w == n) ≡ nat_lt n (2 ^ w)
-fits_test w n p = fits_case w n p (nat_lt n (2 ^ w)) refl where
-  fits_case : (w n : ℕ) → 0 < 2 ^ w → (b : Bool) → nat_lt n (2 ^ w) ≡ b → (n % 2 ^ w == n) ≡ nat_lt n (2 ^ w)
-  fits_case w n p true e =
-      let l : n < 2 ^ w = grind (arith, nat_tests) in
-      let m : n % 2 ^ w ≡ n = mod-eq_of_lt l in
-      (Decides-eqb (n % 2 ^ w) n).1 m ∙ sym e
-  fits_case w n p false e =
-      let l : 2 ^ w ≤ n = grind (arith, nat_tests) in
-      let m : n % 2 ^ w < 2 ^ w = omega arith in
-      let t : (n % 2 ^ w == n) ≡ false = grind (arith, nat_tests) in t ∙ sym e

@@ -20,14 +20,19 @@ use Rattle.ygg_bank.specs.Values.{Inputs, Values, Fits}
 use Rattle.ygg_bank.specs.declared.node.Id.{Id}
 use Rattle.ygg_bank.specs.declared.node.Node.{Node}
 use Rattle.ygg_bank.specs.declared.node.Node.TheVariants.{Const, Bin}
+use Rattle.ygg_shape_words.proofs.Compares.{same_words_is}
+use Rattle.ygg_shape_words.proofs.Fit.{alike}
+use Rattle.ygg_shape_words.proofs.Picks.{picked_is}
+use Rattle.ygg_shape_words.proofs.Terms.{TermIs, holds, made_is}
+use Rattle.ygg_shape_words.specs.Same.{same_words}
 use Rattle.ygg_shape.proofs.Grows.{compared_row_grows, compared_rows_grows}
-use Rattle.ygg_shape.proofs.Rows.{TermIs, holds, made_is, merged_word_is, merged_row_is, compared_row_is}
+use Rattle.ygg_shape.proofs.Rows.{merged_row_is, compared_row_is}
 use Rattle.ygg_shape.proofs.Tables.{merged_rows_is, merged_rows_length, compared_rows_is}
-use Rattle.ygg_cells.proofs.Wider.{can_equal, row_wider, rows_wider, words_in_table}
-use Rattle.ygg_cells.specs.Making.{merged, merged_rows, compared, compared_row, compared_rows}
-use Rattle.ygg_cells.specs.Terms.{IsRow, IsTable, HasShape, numbers_of, row_width, row_of, table_width, table_of, words_in, worth}
-use Rattle.ygg_cells.specs.declared.terms.SymValue.{SymValue}
-use Rattle.ygg_cells.specs.declared.terms.SymValue.TheVariants.{Word, Row, Table}
+use Rattle.ygg_shape_cells.proofs.Wider.{row_wider, rows_wider, table_wider, words_in_table}
+use Rattle.ygg_shape_cells.specs.Making.{merged, merged_rows, compared, compared_row, compared_rows}
+use Rattle.ygg_shape_cells.specs.Terms.{IsRow, IsTable, HasShape, numbers_of, row_width, row_of, table_width, table_of, words_in, worth}
+use Rattle.ygg_shape_cells.specs.declared.terms.SymValue.{SymValue}
+use Rattle.ygg_shape_cells.specs.declared.terms.SymValue.TheVariants.{Word, Row, Table}
 
 -- a row of numbers
 abbrev pub digits : ℕ → List ℕ → Digits
@@ -54,36 +59,41 @@ module _ (inputs : Inputs) (v : Values) (kinds : List RuleKind) where
   table_width_is nodes n w [] h p = let l = p.limits in absurd (omega arith)
   table_width_is nodes n w (row ∷ rows) h p = let l = p.limits in row_width_is nodes n w row h (All-head (IsRow nodes n w) row rows p.rows) (omega arith)
 
-  pub table_worth : (nodes : List Node) (n w : ℕ) (table : List (List Id)) → Fits inputs v nodes → IsTable nodes n w table → table_of v table ≡ grid w n (map (numbers_of v) table)
+  pub table_worth : (nodes : List Node) (n w : ℕ) (table : List (List Id)) → Fits inputs v nodes → IsTable nodes n w table →
+      table_of v table ≡ grid w n (map (numbers_of v) table)
   table_worth nodes n w table h p =
       ap (λ z. grid z (words_in table) (map (numbers_of v) table)) (table_width_is nodes n w table h p)
       ∙ ap (λ z. grid w z (map (numbers_of v) table)) (words_in_table nodes table n w p)
 
   -- a table with as many rows as another keeps the limits as well
-  pub table_like : (old new : List Node) (n w : ℕ) (table answer : List (List Id)) → IsTable old n w table → length answer ≡ length table → All (IsRow new n w) answer → IsTable new n w answer
+  pub table_like : (old new : List Node) (n w : ℕ) (table answer : List (List Id)) → IsTable old n w table → length answer ≡ length table →
+      All (IsRow new n w) answer → IsTable new n w answer
   table_like old new n w table answer h e q = record { limits = subst (λ z. IsShape (shape.Table z n w)) (sym e) h.limits; rows = q }
 
   -- what is merged of two values of a shape has the shape, and is one of them
   pub record MergedIs (s : Shape) (t : Id) (one two : SymValue) (nodes : List Node) (answer : SymValue) : Type 0 where
     pub has : HasShape nodes s answer
-    pub is : IsShape s → worth v answer ≡ (if holds inputs v kinds t then worth v one else worth v two)
+    pub is : IsShape s → worth v answer ≡ (if holds inputs v t then worth v one else worth v two)
 
-  merged_words : (w : ℕ) (t : Id) (one two : SymValue) (nodes : List Node) → HasShape nodes (shape.Word w) one → HasShape nodes (shape.Word w) two → HasWidth nodes t 1 →
-      Fits inputs v (merged kinds t one two nodes).nodes → MergedIs (shape.Word w) t one two (merged kinds t one two nodes).nodes (merged kinds t one two nodes).value
+  merged_words : (w : ℕ) (t : Id) (one two : SymValue) (nodes : List Node) → HasShape nodes (shape.Word w) one → HasShape nodes (shape.Word w) two →
+      HasWidth nodes t 1 →
+      Fits inputs v (merged kinds t one two nodes).nodes →
+      MergedIs (shape.Word w) t one two (merged kinds t one two nodes).nodes (merged kinds t one two nodes).value
   merged_words w t (Word a) (Word b) nodes p q d h =
-      let m = merged_word_is inputs v kinds w t a b nodes d p q h in
-      record { has = m.wide; is = λ l. ap value.Word m.is ∙ if_of value.Word (holds inputs v kinds t) (v a.0) (v b.0) }
+      let m = picked_is inputs v kinds w t a b nodes d p q h in
+      record { has = m.wide; is = λ l. ap value.Word m.is ∙ if_of value.Word (holds inputs v t) (v a.0) (v b.0) }
   merged_words w t (Word a) (Row y) nodes p q d h = absurd q
   merged_words w t (Word a) (Table y) nodes p q d h = absurd q
   merged_words w t (Row x) two nodes p q d h = absurd p
   merged_words w t (Table x) two nodes p q d h = absurd p
 
-  merged_rowed : (n w : ℕ) (t : Id) (one two : SymValue) (nodes : List Node) → HasShape nodes (shape.Row n w) one → HasShape nodes (shape.Row n w) two → HasWidth nodes t 1 →
+  merged_rowed : (n w : ℕ) (t : Id) (one two : SymValue) (nodes : List Node) → HasShape nodes (shape.Row n w) one → HasShape nodes (shape.Row n w) two
+      → HasWidth nodes t 1 →
       Extends nodes (merged kinds t one two nodes).nodes → Fits inputs v (merged kinds t one two nodes).nodes →
       MergedIs (shape.Row n w) t one two (merged kinds t one two nodes).nodes (merged kinds t one two nodes).value
   merged_rowed n w t (Row x) (Row y) nodes p q d g h =
       let o = merged kinds t (Row x) (Row y) nodes in
-      let c = holds inputs v kinds t in
+      let c = holds inputs v t in
       let m = merged_row_is inputs v kinds n w t x y nodes d p q h in
       record {
         has = m.shaped;
@@ -99,16 +109,13 @@ module _ (inputs : Inputs) (v : Values) (kinds : List RuleKind) where
   merged_rowed n w t (Word x) two nodes p q d g h = absurd p
   merged_rowed n w t (Table x) two nodes p q d g h = absurd p
 
-  -- a table among more nodes
-  table_wider : (old new : List Node) (n w : ℕ) (table : List (List Id)) → Extends old new → IsTable old n w table → IsTable new n w table
-  table_wider old new n w table g h = record { limits = h.limits; rows = rows_wider old new n w table g h.rows }
-
-  merged_tables : (k n w : ℕ) (t : Id) (one two : SymValue) (nodes : List Node) → HasShape nodes (shape.Table k n w) one → HasShape nodes (shape.Table k n w) two → HasWidth nodes t 1 →
+  merged_tables : (k n w : ℕ) (t : Id) (one two : SymValue) (nodes : List Node) → HasShape nodes (shape.Table k n w) one →
+      HasShape nodes (shape.Table k n w) two → HasWidth nodes t 1 →
       Extends nodes (merged kinds t one two nodes).nodes → Fits inputs v (merged kinds t one two nodes).nodes →
       MergedIs (shape.Table k n w) t one two (merged kinds t one two nodes).nodes (merged kinds t one two nodes).value
   merged_tables k n w t (Table x) (Table y) nodes p q d g h =
       let o = merged_rows kinds t x y nodes in
-      let c = holds inputs v kinds t in
+      let c = holds inputs v t in
       let px = p.1 in let qy = q.1 in
       let m = merged_rows_is inputs v kinds n w t x y nodes d px.rows qy.rows (p.0 ∙ sym q.0) h in
       let size : length o.value ≡ length x = merged_rows_length inputs v kinds t x y nodes (p.0 ∙ sym q.0) in
@@ -147,14 +154,14 @@ module _ (inputs : Inputs) (v : Values) (kinds : List RuleKind) where
 
   -- whether values of a shape are equal
   abbrev ComparedIs : SymValue → SymValue → List Node → Id → Type 0
-  ComparedIs one two nodes answer = TermIs inputs v kinds nodes 1 (word 1 (bit_of (same_value (worth v one) (worth v two)))) answer
+  ComparedIs one two nodes answer = TermIs inputs v nodes 1 (word 1 (bit_of (same_value (worth v one) (worth v two)))) answer
 
   compared_words : (w : ℕ) (one two : SymValue) (nodes : List Node) → HasShape nodes (shape.Word w) one → HasShape nodes (shape.Word w) two →
       Extends nodes (compared kinds one two nodes).nodes → Fits inputs v (compared kinds one two nodes).nodes →
       ComparedIs one two (compared kinds one two nodes).nodes (compared kinds one two nodes).value
   compared_words w (Word a) (Word b) nodes p q g h =
-      let m = made_is inputs v kinds (Bin Eq a b) nodes (can_equal nodes a b w p q) h in
-      let f = fits_fewer inputs v nodes (made kinds (Bin Eq a b) nodes).nodes g h in
+      let m = same_words_is inputs v kinds a b nodes (alike nodes a b w p q) h in
+      let f = fits_fewer inputs v nodes (same_words kinds a b nodes).nodes g h in
       let same = same_number (v a.0).width (v b.0).width (f.widths a.0 w p ∙ sym (f.widths b.0 w q)) in
       record { wide = m.wide; is = m.is ∙ ap (λ z. word 1 (bit_of (z && ((v a.0).bits == (v b.0).bits)))) (sym same) }
   compared_words w (Word a) (Row y) nodes p q g h = absurd q
@@ -170,7 +177,8 @@ module _ (inputs : Inputs) (v : Values) (kinds : List RuleKind) where
       let kg = made_grows kinds (Const (word 1 1)) nodes in
       let o = compared_row kinds k.value x y k.nodes in
       let a = made_is inputs v kinds (Const (word 1 1)) nodes one_word (fits_fewer inputs v k.nodes o.nodes (compared_row_grows kinds k.value x y k.nodes) h) in
-      let m = compared_row_is inputs v kinds n w true k.value x y k.nodes a.wide (row_wider nodes k.nodes n w x kg p) (row_wider nodes k.nodes n w y kg q) a.is h in
+      let m = compared_row_is inputs v kinds n w true k.value x y k.nodes a.wide (row_wider nodes k.nodes n w x kg p)
+      (row_wider nodes k.nodes n w y kg q) a.is h in
       let same = same_number (row_width v x) (row_width v y)
       (row_width_is o.nodes n w x h (row_wider nodes o.nodes n w x g p) l ∙ sym (row_width_is o.nodes n w y h (row_wider nodes o.nodes n w y g q) l)) in
       record { wide = m.wide; is = m.is ∙ ap (λ z. word 1 (bit_of (z && bytes_eq (numbers_of v x) (numbers_of v y)))) (sym same) }
@@ -187,8 +195,10 @@ module _ (inputs : Inputs) (v : Values) (kinds : List RuleKind) where
       let k = made kinds (Const (word 1 1)) nodes in
       let kg = made_grows kinds (Const (word 1 1)) nodes in
       let o = compared_rows kinds k.value x y k.nodes in
-      let a = made_is inputs v kinds (Const (word 1 1)) nodes one_word (fits_fewer inputs v k.nodes o.nodes (compared_rows_grows kinds k.value x y k.nodes) h) in
-      let m = compared_rows_is inputs v kinds n w true k.value x y k.nodes a.wide (rows_wider nodes k.nodes n w x kg px.rows) (rows_wider nodes k.nodes n w y kg qy.rows) (p.0 ∙ sym q.0) a.is h in
+      let a = made_is inputs v kinds (Const (word 1 1)) nodes one_word
+      (fits_fewer inputs v k.nodes o.nodes (compared_rows_grows kinds k.value x y k.nodes) h) in
+      let m = compared_rows_is inputs v kinds n w true k.value x y k.nodes a.wide (rows_wider nodes k.nodes n w x kg px.rows)
+      (rows_wider nodes k.nodes n w y kg qy.rows) (p.0 ∙ sym q.0) a.is h in
       let tx = table_wider nodes o.nodes n w x g px in
       let ty = table_wider nodes o.nodes n w y g qy in
       let wide = same_number (table_width v x) (table_width v y) (table_width_is o.nodes n w x h tx ∙ sym (table_width_is o.nodes n w y h ty)) in

@@ -1,1 +1,5 @@
 pub mod Meaning
+pub mod Guarding
+pub mod RowPlaces
+pub mod Wholes
+pub mod Fresh

@@ -7,8 +7,8 @@ use Rattle.ygg_bank.specs.Values.{Inputs, InputsFit, value_of}
 use Rattle.ygg_bank.specs.declared.node.Id.{Id}
 use Rattle.ygg_bank.specs.declared.node.Node.{Node}
 use Rattle.ygg_bank.specs.declared.node.Node.TheVariants.{Const}
-use Rattle.ygg_cells.specs.Terms.{row_of, table_of, worth}
-use Rattle.ygg_cells.specs.declared.terms.SymValue.{SymValue}
+use Rattle.ygg_shape_cells.specs.Terms.{row_of, table_of, worth}
+use Rattle.ygg_shape_cells.specs.declared.terms.SymValue.{SymValue}
 
 -- in every environment the answer is the row of the table at the place
 abbrev pub IsRead : List Node → List (List Id) → Id → List Id → Type 0
@@ -20,13 +20,15 @@ IsRead nodes table at answer =
 abbrev pub IsWritten : List Node → List (List Id) → Id → List Id → List (List Id) → Type 0
 IsWritten nodes table at row answer =
     (inputs : Inputs) → InputsFit inputs nodes
-    → table_of (value_of inputs nodes) answer ≡ table_write (table_of (value_of inputs nodes) table) (value_of inputs nodes at.0).bits (row_of (value_of inputs nodes) row)
+    → table_of (value_of inputs nodes) answer ≡ table_write (table_of (value_of inputs nodes) table) (value_of inputs nodes at.0).bits
+    (row_of (value_of inputs nodes) row)
 
 -- in every environment the answer is the first value where the test is 1, and else the second
 abbrev pub IsMerged : List Node → Id → SymValue → SymValue → SymValue → Type 0
 IsMerged nodes test one two answer =
     (inputs : Inputs) → InputsFit inputs nodes
-    → worth (value_of inputs nodes) answer ≡ (if (value_of inputs nodes test.0).bits == 1 then worth (value_of inputs nodes) one else worth (value_of inputs nodes) two)
+    → worth (value_of inputs nodes) answer ≡ (if (value_of inputs nodes test.0).bits == 1 then worth (value_of inputs nodes) one else worth
+    (value_of inputs nodes) two)
 
 -- in every environment the answer is 1 where the two values are equal, and else 0
 abbrev pub IsCompared : List Node → SymValue → SymValue → Id → Type 0

@@ -1,18 +1,21 @@
 //! Comparing: the term that says whether two values are equal.
 
 ghost use Rattle.std.specs.Prelude.{◌≡◌, IfOk, OnOk};
+ghost use Rattle.ygg_bank.specs.Inputs.{KeepsInputs};
 ghost use Rattle.ygg_bank.specs.Nodes.{Extends, HasWidth, IsBank};
 ghost use Rattle.ygg_bank.specs.Values.{KeepsValues};
-ghost use Rattle.ygg_cells.specs.Making.{compared, compared_row, compared_rows, compared_word};
+ghost use Rattle.ygg_shape_cells.specs.Making.{compared, compared_row, compared_rows, compared_word};
 ghost use Rattle.ygg_shape.specs.Meaning.{IsCompared};
-ghost use Rattle.ygg_cells.specs.Terms.{AreAlike, RowsAlike, TablesAlike, WordsAlike};
+ghost use Rattle.ygg_shape_words.specs.Forms.{WordsAlike};
+ghost use Rattle.ygg_shape_cells.specs.Terms.{AreAlike, RowsAlike, TablesAlike};
 
 use ygg_bank::{Bank, Id, NoMemory, Node};
-use ygg_cells::{SymRow, SymValue};
 use ygg_rules::Book;
+use ygg_shape_cells::{SymRow, SymValue};
+use ygg_shape_words::same;
 use ygg_value::{Op, Word};
 
-/// The term that is 1 where the two values are equal, and 0 where they aren't, in every environment. Its only error is want of memory,
+/// The term that is 1 where the two values are equal, and 0 where they aren't, in every environment. Its only error is out of memory,
 /// after which the bank may have more nodes.
 pub fn equal<B: Book>(
     bank: &mut Bank,
@@ -28,6 +31,7 @@ pub fn equal<B: Book>(
     ensures grows { Extends bank.old bank.new }
     ensures keeps { KeepsValues bank.old bank.new }
     ensures bank { IsBank bank.new }
+    ensures inputs { OnOk result (KeepsInputs bank.old bank.new) }
 {
     equal_by(bank, book, one, two)
 }
@@ -46,14 +50,7 @@ fn equal_by<B: Book>(
     ensures bank { IsBank bank.new }
 {
     match (one, two) {
-        (SymValue::Word(one), SymValue::Word(two)) => bank.make(
-            Node::Bin {
-                op: Op::Eq,
-                a: *one,
-                b: *two,
-            },
-            book,
-        ),
+        (SymValue::Word(one), SymValue::Word(two)) => same(bank, book, *one, *two),
         (SymValue::Row(one), SymValue::Row(two)) => {
             let so_far = bank.make(Node::Const(Word { width: 1, bits: 1 }), book)?;
             compare_row(bank, book, so_far, one.as_slice(), two.as_slice())
@@ -135,20 +132,7 @@ fn compare_word<B: Book>(
     ensures grows { Extends bank.old bank.new }
     ensures bank { IsBank bank.new }
 {
-    let same = bank.make(
-        Node::Bin {
-            op: Op::Eq,
-            a: one,
-            b: two,
-        },
-        book,
-    )?;
-    bank.make(
-        Node::Bin {
-            op: Op::And,
-            a: so_far,
-            b: same,
-        },
-        book,
-    )
+    let b = same(bank, book, one, two)?;
+    let op = Op::And;
+    bank.make(Node::Bin { op, a: so_far, b }, book)
 }

@@ -2,13 +2,21 @@
 #![tactic(auto)]
 
 pub mod comparing;
+pub mod fresh;
+pub mod guarding;
 pub mod merging;
 mod places;
+pub mod row_words;
 pub mod selecting;
 pub mod storing;
+pub mod wholes;
 
 pub use comparing::equal;
+pub use fresh::inputs_of;
+pub use guarding::store_where;
 pub use merging::merge;
+pub use row_words::{select_word, store_word};
 pub use selecting::select;
 pub use storing::store;
-pub use ygg_cells::{SymRow, SymTable, SymValue, SymValues};
+pub use wholes::{merge_all, zero};
+pub use ygg_shape_cells::{SymRow, SymTable, SymValue, SymValues};

@@ -1,22 +1,23 @@
 //! Merging: one value where a test is 1, and else another.
 
 ghost use Rattle.std.specs.Prelude.{◌≡◌, IfOk, OnOk};
+ghost use Rattle.ygg_bank.specs.Inputs.{KeepsInputs};
 ghost use Rattle.ygg_bank.specs.Nodes.{Extends, HasWidth, IsBank};
 ghost use Rattle.ygg_bank.specs.Values.{KeepsValues};
 ghost use Rattle.ygg_value.specs.declared.shape.Shape.{Shape};
-ghost use Rattle.ygg_cells.specs.Making.{merged, merged_row, merged_rows};
+ghost use Rattle.ygg_shape_cells.specs.Making.{merged, merged_row, merged_rows};
 ghost use Rattle.ygg_shape.specs.Meaning.{IsMerged};
-ghost use Rattle.ygg_cells.specs.Terms.{AreAlike, HasShape, RowsAlike, TablesAlike};
+ghost use Rattle.ygg_shape_cells.specs.Terms.{AreAlike, HasShape, RowsAlike, TablesAlike};
 
 use std::alloc::Global;
 use ygg_bank::{Bank, Id, NoMemory};
-use ygg_cells::cells::merge_word;
-use ygg_cells::{SymRow, SymTable, SymValue};
 use ygg_list::Duplicate;
 use ygg_rules::Book;
+use ygg_shape_cells::{SymRow, SymTable, SymValue};
+use ygg_shape_words::pick;
 
 /// The value that is `yes` where the test is 1, and `no` where it is 0, in every environment. It picks word by word, and asks nothing
-/// of words that are one term. Its only error is want of memory, after which the bank may have more nodes.
+/// of words that are one term. Its only error is out of memory, after which the bank may have more nodes.
 pub fn merge<B: Book>(
     alloc: Global,
     bank: &mut Bank,
@@ -34,6 +35,7 @@ pub fn merge<B: Book>(
     ensures grows { Extends bank.old bank.new }
     ensures keeps { KeepsValues bank.old bank.new }
     ensures bank { IsBank bank.new }
+    ensures inputs { OnOk result (KeepsInputs bank.old bank.new) }
 {
     // the bank's nodes stand in order
     let _ = bank.len();
@@ -59,7 +61,7 @@ fn merge_by<B: Book>(
 {
     match (yes, no) {
         (SymValue::Word(yes), SymValue::Word(no)) => {
-            Ok(SymValue::Word(merge_word(bank, book, test, *yes, *no)?))
+            Ok(SymValue::Word(pick(bank, book, test, *yes, *no)?))
         }
         (SymValue::Row(yes), SymValue::Row(no)) => Ok(SymValue::Row(merge_row(
             alloc,
@@ -132,7 +134,7 @@ pub fn merge_row<B: Book>(
 {
     let mut row = SymRow::new(alloc);
     for place in 0..yes.len() {
-        let word = merge_word(bank, book, test, yes[place], no[place])?;
+        let word = pick(bank, book, test, yes[place], no[place])?;
         row.push(word)?;
     }
     Ok(row)

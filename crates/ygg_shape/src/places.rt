@@ -1,21 +1,22 @@
 //! Places in a table that are terms.
 
-ghost use Rattle.std.specs.Prelude.{◌≡◌, ◌<◌, ◌^◌, ℕ, nat_lt, IfOk, OnOk};
+ghost use Rattle.std.specs.Prelude.{◌≡◌, ◌<◌, ◌^◌, ℕ, IfOk, OnOk};
 ghost use Rattle.ygg_rules.specs.Views.{IsWidth};
 ghost use Rattle.ygg_bank.specs.Nodes.{Extends, HasWidth, IsBank};
-ghost use Rattle.ygg_cells.specs.Making.{split_at, where_at};
-ghost use Rattle.ygg_cells.specs.Terms.{IsRow, RowsAlike};
+ghost use Rattle.ygg_shape_cells.specs.Making.{split_at, where_at};
+ghost use Rattle.ygg_shape_cells.specs.Terms.{IsRow, RowsAlike};
 
 use crate::merging::merge_row;
 use std::alloc::Global;
 use ygg_bank::{Bank, Id, NoMemory, Node};
-use ygg_cells::SymRow;
 use ygg_rules::Book;
-use ygg_value::{Op, Word, resize};
+use ygg_shape_cells::SymRow;
+use ygg_shape_words::{fits, same};
+use ygg_value::Word;
 
 /// A place that is a term, and how many binary digits it has.
 #[derive(Clone, Copy, Drop)]
-pub struct Place {
+pub struct TermPlace {
     /// The term.
     pub at: Id,
     /// Its width.
@@ -27,7 +28,7 @@ pub fn where_at<B: Book>(
     alloc: Global,
     bank: &mut Bank,
     book: &B,
-    place: Place,
+    place: TermPlace,
     number: usize,
     yes: &[Id],
     no: &[Id],
@@ -54,7 +55,7 @@ fn split_at<B: Book>(
     alloc: Global,
     bank: &mut Bank,
     book: &B,
-    place: Place,
+    place: TermPlace,
     number: usize,
     yes: &[Id],
     no: &[Id],
@@ -74,25 +75,6 @@ fn split_at<B: Book>(
         bits: number as u64,
     };
     let constant = bank.make(Node::Const(word), book)?;
-    let test = bank.make(
-        Node::Bin {
-            op: Op::Eq,
-            a: place.at,
-            b: constant,
-        },
-        book,
-    )?;
+    let test = same(bank, book, place.at, constant)?;
     merge_row(alloc, bank, book, test, yes, no)
-}
-
-/// Whether the number has at most so many binary digits.
-fn fits(width: u8, number: u64) -> bool
-    requires { IsWidth width }
-    ensures { result ≡ nat_lt number (2 ^ width) }
-{
-    let word = Word {
-        width: 64,
-        bits: number,
-    };
-    resize(word, width).bits == number
 }

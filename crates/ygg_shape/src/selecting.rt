@@ -2,21 +2,23 @@
 
 ghost use Rattle.std.specs.Prelude.{◌≡◌, ℕ, IfOk, OnOk};
 ghost use Rattle.ygg_rules.specs.Views.{IsWidth};
+ghost use Rattle.ygg_bank.specs.Inputs.{KeepsInputs};
 ghost use Rattle.ygg_bank.specs.Nodes.{Extends, HasWidth, IsBank, Stands};
 ghost use Rattle.ygg_bank.specs.Values.{KeepsValues};
-ghost use Rattle.ygg_cells.specs.Making.{chosen, selected};
+ghost use Rattle.ygg_shape_cells.specs.Making.{chosen, selected};
 ghost use Rattle.ygg_shape.specs.Meaning.{AddsAtMostZero, IsConstant, IsRead};
-ghost use Rattle.ygg_cells.specs.Terms.{AreRows, IsRow, IsTable, TableStands};
+ghost use Rattle.ygg_shape_cells.specs.Terms.{AreRows, IsRow, IsTable, TableStands};
 
-use crate::places::{Place, where_at};
+use crate::places::{TermPlace, where_at};
 use std::alloc::Global;
 use ygg_bank::{Bank, Id, NoMemory};
-use ygg_cells::cells::{known, row_or_zeros, zeros};
-use ygg_cells::{SymRow, SymTable};
 use ygg_rules::Book;
+use ygg_shape_cells::cells::{row_or_zeros, zeros};
+use ygg_shape_cells::{SymRow, SymTable};
+use ygg_shape_words::known;
 
 /// The row at a place of a table, counted from 0, and zeros past the end, in every environment. Where the place is a constant no pick is
-/// made; else a chain of picks over all rows. Its only error is want of memory, after which the bank may have more nodes.
+/// made; else a chain of picks over all rows. Its only error is out of memory, after which the bank may have more nodes.
 pub fn select<B: Book>(
     alloc: Global,
     bank: &mut Bank,
@@ -34,6 +36,7 @@ pub fn select<B: Book>(
     ensures grows { Extends bank.old bank.new }
     ensures keeps { KeepsValues bank.old bank.new }
     ensures bank { IsBank bank.new }
+    ensures inputs { OnOk result (KeepsInputs bank.old bank.new) }
 {
     // the bank's nodes stand in order
     let _ = bank.len();
@@ -61,7 +64,7 @@ fn select_by<B: Book>(
         None => {
             let width = bank.width(at);
             let past = zeros(alloc, bank, book, table)?;
-            choose(alloc, bank, book, Place { at, width }, past, table)
+            choose(alloc, bank, book, TermPlace { at, width }, past, table)
         }
     }
 }
@@ -71,7 +74,7 @@ fn choose<B: Book>(
     alloc: Global,
     bank: &mut Bank,
     book: &B,
-    place: Place,
+    place: TermPlace,
     past: SymRow,
     table: &[SymRow],
 ) -> Result<SymRow, NoMemory>

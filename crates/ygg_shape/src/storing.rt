@@ -2,21 +2,23 @@
 
 ghost use Rattle.std.specs.Prelude.{◌≡◌, ℕ, length, IfOk, OnOk};
 ghost use Rattle.ygg_rules.specs.Views.{IsWidth};
+ghost use Rattle.ygg_bank.specs.Inputs.{KeepsInputs};
 ghost use Rattle.ygg_bank.specs.Nodes.{Extends, HasWidth, IsBank, Stands};
 ghost use Rattle.ygg_bank.specs.Values.{KeepsValues};
-ghost use Rattle.ygg_cells.specs.Making.{stored, stored_from};
+ghost use Rattle.ygg_shape_cells.specs.Making.{stored, stored_from};
 ghost use Rattle.ygg_shape.specs.Meaning.{IsConstant, IsWritten};
-ghost use Rattle.ygg_cells.specs.Terms.{AreRows, CanStore, IsRow, IsTable};
+ghost use Rattle.ygg_shape_cells.specs.Terms.{AreRows, CanStore, IsRow, IsTable};
 
-use crate::places::{Place, where_at};
+use crate::places::{TermPlace, where_at};
 use std::alloc::Global;
 use ygg_bank::{Bank, Id, NoMemory};
-use ygg_cells::cells::{known, put_row};
-use ygg_cells::{SymRow, SymTable};
 use ygg_rules::Book;
+use ygg_shape_cells::cells::put_row;
+use ygg_shape_cells::{SymRow, SymTable};
+use ygg_shape_words::known;
 
 /// The table with a row at a place, counted from 0, and the same table past the end, in every environment. Where the place is a constant no
-/// node is made; else a pick for each word. Its only error is want of memory, after which the bank may have more nodes.
+/// node is made; else a pick for each word. Its only error is out of memory, after which the bank may have more nodes.
 pub fn store<B: Book>(
     alloc: Global,
     bank: &mut Bank,
@@ -29,13 +31,15 @@ pub fn store<B: Book>(
     requires at { Stands bank.old at }
     ensures nodes { OnOk result (bank.new ≡ (stored (B.kinds book.now) table.now at row.now bank.old).nodes) }
     ensures form { IfOk result (λ answer. answer ≡ (stored (B.kinds book.now) table.now at row.now bank.old).value) }
-    ensures shape { (words width : ℕ) → IsTable bank.old words width table.now → IsRow bank.old words width row.now → IfOk result (IsTable bank.new words width) }
+    ensures shape { (words width : ℕ) → IsTable bank.old words width table.now → IsRow bank.old words width row.now →
+        IfOk result (IsTable bank.new words width) }
     ensures count { IfOk result (λ answer. length answer ≡ length table.now) }
     ensures value { IfOk result (IsWritten bank.new table.now at row.now) }
     ensures constant { IsConstant bank.old at → bank.new ≡ bank.old }
     ensures grows { Extends bank.old bank.new }
     ensures keeps { KeepsValues bank.old bank.new }
     ensures bank { IsBank bank.new }
+    ensures inputs { OnOk result (KeepsInputs bank.old bank.new) }
 {
     // the bank's nodes stand in order
     let _ = bank.len();
@@ -68,7 +72,7 @@ fn store_by<B: Book>(
                 alloc,
                 bank,
                 book,
-                Place { at, width },
+                TermPlace { at, width },
                 table.as_slice(),
                 row.as_slice(),
             )
@@ -81,7 +85,7 @@ fn store_all<B: Book>(
     alloc: Global,
     bank: &mut Bank,
     book: &B,
-    place: Place,
+    place: TermPlace,
     table: &[SymRow],
     new: &[Id],
 ) -> Result<SymTable, NoMemory>

@@ -25,7 +25,8 @@ Image r set y = (x : Lit) × (set x × (r x ≡ y))
 abbrev pub renamed_step : (Lit → Lit) → Step → Step
 renamed_step r (Added clause chain) = Added (map r clause) chain
 
-has_renamed : (r : Lit → Lit) (clauses : List (List Lit)) (id : ℕ) (clause : List Lit) → HasClause clauses id clause → HasClause (map (map r) clauses) id (map r clause)
+has_renamed : (r : Lit → Lit) (clauses : List (List Lit)) (id : ℕ) (clause : List Lit) → HasClause clauses id clause →
+    HasClause (map (map r) clauses) id (map r clause)
 has_renamed r clauses zero clause h = h
 has_renamed r clauses (suc i) clause h = slice_get-map (map r) clauses i ∙ ap (option_map (map r)) h
 
@@ -88,7 +89,8 @@ derives_renamed r k clauses (id ∷ ids) clause (first, (at, h)) = (
 more_renamed : (r : Lit → Lit) (clauses : List (List Lit)) (clause : List Lit) → map (map r) (clauses ++ clause ∷ []) ≡ map (map r) clauses ++ map r clause ∷ []
 more_renamed r clauses clause = map-append (map r) clauses (clause ∷ [])
 
-pub log_renamed : (r : Lit → Lit) (k : IsRenaming r) (clauses : List (List Lit)) (log : List Step) → Derives clauses log → Derives (map (map r) clauses) (map (renamed_step r) log)
+pub log_renamed : (r : Lit → Lit) (k : IsRenaming r) (clauses : List (List Lit)) (log : List Step) → Derives clauses log →
+    Derives (map (map r) clauses) (map (renamed_step r) log)
 log_renamed r k clauses [] d = tt
 log_renamed r k clauses (Added clause chain ∷ log) d = (
   derives_renamed r k clauses chain clause d.0,
@@ -105,15 +107,30 @@ open_renamed : (r : Lit → Lit) → IsRenaming r → (set clause : List Lit) �
 open_renamed r k set clause o =
     ⊎_elim
     (λ (i, x, l, e, t). let c = contains_map r clause x (i, l, e) in inl (c.0, r x, c.1, c.2, contains_map r set x t))
-    (λ (x, (y, (cx, cy, d, nx, ny))). inr (r x, (r y, (contains_map r clause x cx, contains_map r clause y cy, (λ q. d (k.once x y q)), not_back r k set x nx, not_back r k set y ny))))
+    (λ (x, (y, (cx, cy, d, nx, ny))). inr (
+      r x,
+      (
+        r y,
+        (
+          contains_map r clause x cx,
+          contains_map r clause y cy,
+          (λ q. d (k.once x y q)),
+          not_back r k set x nx,
+          not_back r k set y ny,
+        ),
+      ),
+    ))
     o
 
-opens_renamed : (r : Lit → Lit) → IsRenaming r → (set : List Lit) (clauses : List (List Lit)) → All (IsOpen set) clauses → All (IsOpen (map r set)) (map (map r) clauses)
+opens_renamed : (r : Lit → Lit) → IsRenaming r → (set : List Lit) (clauses : List (List Lit)) → All (IsOpen set) clauses →
+    All (IsOpen (map r set)) (map (map r) clauses)
 opens_renamed r k set [] a = λ i d l. absurd (omega (arith, l))
 opens_renamed r k set (c ∷ cs) a =
-    All-cons (IsOpen (map r set)) (map r c) (map (map r) cs) (open_renamed r k set c (All-head (IsOpen set) c cs a)) (opens_renamed r k set cs (All-tail (IsOpen set) c cs a))
+    All-cons (IsOpen (map r set)) (map r c) (map (map r) cs) (open_renamed r k set c (All-head (IsOpen set) c cs a))
+    (opens_renamed r k set cs (All-tail (IsOpen set) c cs a))
 
-pub teaches_renamed : (r : Lit → Lit) → IsRenaming r → (clauses : List (List Lit)) (clause : List Lit) → Teaches clauses clause → Teaches (map (map r) clauses) (map r clause)
+pub teaches_renamed : (r : Lit → Lit) → IsRenaming r → (clauses : List (List Lit)) (clause : List Lit) → Teaches clauses clause →
+    Teaches (map (map r) clauses) (map r clause)
 teaches_renamed r k clauses clause (set, (x, t)) = (
   map r set,
   (
@@ -135,7 +152,8 @@ teaches_renamed r k clauses clause (set, (x, t)) = (
   ),
 )
 
-pub each_renamed : (r : Lit → Lit) → IsRenaming r → (clauses : List (List Lit)) (log : List Step) → EachTeaches clauses log → EachTeaches (map (map r) clauses) (map (renamed_step r) log)
+pub each_renamed : (r : Lit → Lit) → IsRenaming r → (clauses : List (List Lit)) (log : List Step) → EachTeaches clauses log →
+    EachTeaches (map (map r) clauses) (map (renamed_step r) log)
 each_renamed r k clauses [] d = tt
 each_renamed r k clauses (Added clause chain ∷ log) d = (
   teaches_renamed r k clauses clause d.0,
@@ -145,14 +163,19 @@ each_renamed r k clauses (Added clause chain ∷ log) d = (
 empty_renamed : (r : Lit → Lit) (step : Step) → clause_of step ≡ [] → clause_of (renamed_step r step) ≡ []
 empty_renamed r (Added clause chain) e = ap (map r) e
 
-pub refutes_renamed : (r : Lit → Lit) → IsRenaming r → (clauses : List (List Lit)) (log : List Step) → Refutes clauses log → Refutes (map (map r) clauses) (map (renamed_step r) log)
+pub refutes_renamed : (r : Lit → Lit) → IsRenaming r → (clauses : List (List Lit)) (log : List Step) → Refutes clauses log →
+    Refutes (map (map r) clauses) (map (renamed_step r) log)
 refutes_renamed r k clauses log f = record {
   derives = log_renamed r k clauses log f.derives;
   empty = ⊎_elim (λ c. inl (contains_map (map r) clauses [] c))
-      (λ (rest, (step, (e, n))). inr (map (renamed_step r) rest, (renamed_step r step, (ap (map (renamed_step r)) e ∙ map-append (renamed_step r) rest (step ∷ []), empty_renamed r step n)))) f.empty;
+      (λ (rest, (step, (e, n))). inr (
+        map (renamed_step r) rest,
+        (renamed_step r step, (ap (map (renamed_step r)) e ∙ map-append (renamed_step r) rest (step ∷ []), empty_renamed r step n)),
+      )) f.empty;
 }
 
-pub spent_renamed : (r : Lit → Lit) → IsRenaming r → (clauses : List (List Lit)) (log : List Step) (budget : ℕ) → SpentLog clauses log budget → SpentLog (map (map r) clauses) (map (renamed_step r) log) budget
+pub spent_renamed : (r : Lit → Lit) → IsRenaming r → (clauses : List (List Lit)) (log : List Step) (budget : ℕ) → SpentLog clauses log budget →
+    SpentLog (map (map r) clauses) (map (renamed_step r) log) budget
 spent_renamed r k clauses log budget s = record {
   derives = log_renamed r k clauses log s.derives;
   count = length-map log (renamed_step r) ∙ s.count;

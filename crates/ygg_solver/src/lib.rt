@@ -1,4 +1,19 @@
 //! A solver by conflict-driven clause learning, whose every learned clause comes with the chain that derives it.
+//!
+//! An example, which asks whether some assignment satisfies `1 -2` and `2`, with at most a thousand learned clauses:
+//!
+//! ```
+//! let mut clauses = Clauses::new(alloc);
+//! let one = Lit { var: 1, negated: false };
+//! let two = Lit { var: 2, negated: false };
+//! clauses.push(Clause::once(alloc, &[one, two.complement()])?)?;
+//! clauses.push(Clause::once(alloc, &[two])?)?;
+//! match solve(alloc, &clauses, 1000)? {
+//!     Answer::Sat(assignment) => { /* truth(&assignment, 1) and truth(&assignment, 2) are true */ }
+//!     Answer::Unsat(log) => { /* each clause of the log follows from those before it, and the last one is empty */ }
+//!     Answer::Spent(log) => { /* a thousand clauses were learned, and nothing is decided */ }
+//! }
+//! ```
 #![tactic(auto)]
 
 mod answer;
@@ -7,4 +22,4 @@ mod solving;
 
 pub use answer::Answer;
 pub use solving::{solve, solve_and_count};
-pub use ygg_order::Work;
+pub use ygg_watch_order::Work;

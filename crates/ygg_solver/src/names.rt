@@ -4,16 +4,16 @@ ghost use Rattle.std.specs.Prelude.{◌≡◌, ◌≢◌, ◌<◌, ◌≤◌, �
 ghost use Rattle.ygg_cnf.specs.Literals.{truth_of};
 ghost use Rattle.ygg_cnf.specs.Logs.{clause_of};
 ghost use Rattle.ygg_chain.specs.Places.{IsDistinct, IsPlaced, literal_at, clause_at, clauses_at};
-ghost use Rattle.ygg_trail.specs.Assignments.{IsTrail};
+ghost use Rattle.ygg_watch_trail.specs.Assignments.{IsTrail};
 ghost use Rattle.ygg_solver.specs.Names.{step_at, log_at, GivesValues};
 
 use std::alloc::Global;
 use ygg_chain::Variables;
 use ygg_cnf::{Assignment, Clause, Clauses, Lit, Log, Step};
 use ygg_list::NoMemory;
-use ygg_trail::Entry;
+use ygg_watch_trail::Entry;
 
-/// The clause with the places of its variables, after those that had none have been given one. After want of memory some of
+/// The clause with the places of its variables, after those that had none have been given one. After running out of memory some of
 /// them may have been given one.
 fn number_clause(
     alloc: Global,
@@ -58,7 +58,7 @@ fn name(variables: &Variables, lit: Lit) -> Lit
     }
 }
 
-/// The clause of the variables that have its places. Its only error is want of memory.
+/// The clause of the variables that have its places. Its only error is out of memory.
 fn name_clause(alloc: Global, variables: &Variables, clause: &[Lit]) -> Result<Clause, NoMemory>
     requires { All (IsPlaced variables.now) clause.now }
     ensures { IfOk result (λ named. named ≡ clause_at variables.now clause.now) }
@@ -70,7 +70,7 @@ fn name_clause(alloc: Global, variables: &Variables, clause: &[Lit]) -> Result<C
     Ok(named)
 }
 
-/// The entry of the variables that have its clause's places. Its only error is want of memory.
+/// The entry of the variables that have its clause's places. Its only error is out of memory.
 fn name_step(alloc: Global, variables: &Variables, step: Step) -> Result<Step, NoMemory>
     requires { All (IsPlaced variables.now) (clause_of step) }
     ensures { IfOk result (λ named. named ≡ step_at variables.now step) }
@@ -82,7 +82,7 @@ fn name_step(alloc: Global, variables: &Variables, step: Step) -> Result<Step, N
     })
 }
 
-/// The log of the variables that have its places. Chains are handed on without a copy, and its only error is want of memory.
+/// The log of the variables that have its places. Chains are handed on without a copy, and its only error is out of memory.
 pub fn name_log(alloc: Global, variables: &Variables, log: Log) -> Result<Log, NoMemory>
     requires { All (All (IsPlaced variables.now)) (map clause_of log) }
     ensures { IfOk result (λ named. named ≡ log_at variables.now log) }
@@ -94,7 +94,7 @@ pub fn name_log(alloc: Global, variables: &Variables, log: Log) -> Result<Log, N
     Ok(named)
 }
 
-/// Makes the list at least so long, with false values at the end. After want of memory it is as before.
+/// Makes the list at least so long, with false values at the end. After running out of memory it is as before.
 fn grow(values: &mut Vec<bool>, size: usize) -> Result<(), NoMemory>
     ensures ok { OnOk result (size ≤ length values.new.items) }
     ensures same { (place : ℕ) → get_or values.new.items place false ≡ get_or values.old.items place false }
@@ -105,7 +105,7 @@ fn grow(values: &mut Vec<bool>, size: usize) -> Result<(), NoMemory>
     Ok(())
 }
 
-/// Makes a variable true. After want of memory the values are as before, but for false ones past the end.
+/// Makes a variable true. After running out of memory the values are as before, but for false ones past the end.
 fn set_true(values: &mut Vec<bool>, variable: u64) -> Result<(), NoMemory>
     requires { 0 < variable }
     ensures here { OnOk result (truth_of values.new.items variable ≡ true) }
@@ -117,7 +117,7 @@ fn set_true(values: &mut Vec<bool>, variable: u64) -> Result<(), NoMemory>
 }
 
 /// The assignment that gives each variable the value that the trail gives its place. It is as long as the greatest variable
-/// that is true. Its only error is want of memory.
+/// that is true. Its only error is out of memory.
 pub fn assignment_of(
     alloc: Global,
     variables: &Variables,

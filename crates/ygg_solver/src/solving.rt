@@ -8,10 +8,10 @@ use std::alloc::Global;
 use ygg_chain::Variables;
 use ygg_cnf::{Clauses, Log};
 use ygg_list::NoMemory;
-use ygg_order::{Order, Work};
-use ygg_propagate::{Trail, load};
-use ygg_search::{End, order_for, search_clauses};
+use ygg_solver_search::{End, order_for, search_clauses};
 use ygg_watch::Watch;
+use ygg_watch_order::{Order, Work};
+use ygg_watch_plain::{Trail, load};
 
 /// Whether a clause is empty.
 fn has_empty(clauses: &Clauses) -> bool
@@ -22,7 +22,7 @@ fn has_empty(clauses: &Clauses) -> bool
 
 /// Decides whether an assignment satisfies every clause, with at most `budget` learned clauses. Its memory is for the clauses
 /// and the variables that occur in them, whatever their numbers are, and for an assignment up to the greatest variable that is
-/// true. Its only error is want of memory.
+/// true. Its only error is out of memory.
 pub fn solve(alloc: Global, clauses: &Clauses, budget: u32) -> Result<Answer, NoMemory>
     requires budget { 0 < budget }
     requires numbered { IsNumbered clauses.now }
@@ -86,10 +86,17 @@ fn solve_numbered(
     requires numbered { IsNumbered (clauses_at variables.now clauses) }
     ensures { IfOk result (IsAnswer (clauses_at variables.now clauses) budget) }
 {
-    let room = variables.len() as u64;
-    let mut propagation = Watch::new(alloc, room)?;
+    let variable_count = variables.len() as u64;
+    let mut propagation = Watch::new(alloc, variable_count)?;
     load(&mut propagation, &clauses)?;
-    match search_clauses(alloc, &mut propagation, order, clauses, room, budget)? {
+    match search_clauses(
+        alloc,
+        &mut propagation,
+        order,
+        clauses,
+        variable_count,
+        budget,
+    )? {
         End::Model => Ok(Answer::Sat(assignment_of(alloc, variables, propagation.trail())?)),
         End::Refuted(log) => Ok(Answer::Unsat(name_log(alloc, variables, log)?)),
         End::Spent(log) => Ok(Answer::Spent(name_log(alloc, variables, log)?)),

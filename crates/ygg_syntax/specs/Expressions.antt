@@ -110,7 +110,8 @@ node_phrase (Expr-F.Binary first a op at b) =
 node_phrase (Expr-F.Not first a) = record { indexable = false; parts = takes (mark.Symbol sign.Tilde) first ∷ whole a ∷ [] }
 node_phrase (Expr-F.At a bracket i) = atom (indexed a ∷ takes (mark.Symbol sign.SquareOpen) bracket ∷ whole i ∷ symbol sign.SquareClose ∷ [])
 node_phrase (Expr-F.Pick first c a b) =
-    atom (takes (mark.Keyword word.Pick) first ∷ symbol sign.RoundOpen ∷ whole c ∷ symbol sign.Comma ∷ whole a ∷ symbol sign.Comma ∷ whole b ∷ symbol sign.RoundClose ∷ [])
+    atom (takes (mark.Keyword word.Pick) first ∷ symbol sign.RoundOpen ∷ whole c ∷ symbol sign.Comma ∷ whole a ∷ symbol sign.Comma ∷ whole b
+    ∷ symbol sign.RoundClose ∷ [])
 node_phrase (Expr-F.Resize first a w) =
     atom (takes (mark.Keyword word.Resize) first ∷ symbol sign.RoundOpen ∷ whole a ∷ symbol sign.Comma ∷ numbered w ∷ symbol sign.RoundClose ∷ [])
 node_phrase (Expr-F.Fill first m a) =

@@ -15,7 +15,7 @@
 --              ( "spec" spec ["on" "crash" spec] "impl" impl
 --              | "->" small "spec" specR ["on" "crash" spec] "impl" implR )
 --   arg    = NAME ":" small
-use Rattle.std.specs.Prelude.{◌≡◌, ℕ, Bool, ◌&&◌, if◌then◌else◌, List, [], ◌∷◌, map, Option, Some, None}
+use Rattle.std.specs.Prelude.{◌≡◌, ℕ, ◌<◌, ◌^◌, Bool, ◌&&◌, if◌then◌else◌, List, [], ◌∷◌, length, map, Option, Some, None}
 use Rattle.ygg_base.specs.declared.token.Keyword.{Keyword}
 use Rattle.ygg_base.specs.declared.token.Keyword.TheVariants as word
 use Rattle.ygg_base.specs.declared.token.Symbol.TheVariants as sign
@@ -27,8 +27,8 @@ use Rattle.ygg_syntax.specs.declared.tree.TypeText.TheVariants as shape
 use Rattle.ygg_syntax.specs.declared.tree.Declared.{Declared}
 use Rattle.ygg_syntax.specs.declared.tree.Expr.{Expr}
 use Rattle.ygg_syntax.specs.declared.tree.Block.{Block}
-use Rattle.ygg_syntax.specs.declared.tree.DiskKind.{DiskKind}
-use Rattle.ygg_syntax.specs.declared.tree.DiskKind.TheVariants as disk
+use Rattle.ygg_base.specs.declared.geometry.DiskKind.{DiskKind}
+use Rattle.ygg_base.specs.declared.geometry.DiskKind.TheVariants as disk
 use Rattle.ygg_syntax.specs.declared.tree.DiskText.{DiskText}
 use Rattle.ygg_syntax.specs.declared.tree.Def.{Def}
 use Rattle.ygg_syntax.specs.declared.tree.Operation.{Operation}
@@ -37,7 +37,7 @@ use Rattle.ygg_syntax.specs.declared.tree.Layer.{Layer}
 use Rattle.ygg_syntax.specs.declared.tree.File.{File}
 use Rattle.ygg_syntax.specs.Reading.{Reading, starts, passes, takes, in_turn, impossible}
 use Rattle.ygg_syntax.specs.Expressions.{keyword, symbol, named, numbered, expr}
-use Rattle.ygg_syntax.specs.declared.grammar.Kind.TheVariants.{Plain, Spec, Impl}
+use Rattle.ygg_syntax.specs.declared.grammar.BlockKind.TheVariants.{Plain, Spec, Impl}
 use Rattle.ygg_syntax.specs.declared.grammar.Sort.{Sort}
 use Rattle.ygg_syntax.specs.declared.grammar.Sort.TheVariants as sorts
 use Rattle.ygg_syntax.specs.Blocks.{block, answering, optional, block_phrase, is_nowhere, is_unwritten}
@@ -75,7 +75,8 @@ disk_word disk.Async = word.Async
 -- the disk
 abbrev pub disk_text : DiskText → Reading
 disk_text d =
-    in_turn (keyword word.Disk ∷ keyword (disk_word d.kind) ∷ numbered d.rows ∷ keyword word.Of ∷ numbered d.words ∷ keyword word.Of ∷ numbered d.width ∷ symbol sign.Semicolon ∷ [])
+    in_turn (keyword word.Disk ∷ keyword (disk_word d.kind) ∷ numbered d.rows ∷ keyword word.Of ∷ numbered d.words ∷ keyword word.Of
+    ∷ numbered d.width ∷ symbol sign.Semicolon ∷ [])
 
 -- a definition
 abbrev pub definition : Def → Reading
@@ -100,12 +101,14 @@ on_crash (Some b) = in_turn (keyword word.On ∷ keyword word.Crash ∷ block Sp
 abbrev pub operation_blocks : Operation → Option TypeText → Reading
 operation_blocks o None = in_turn (keyword word.Spec ∷ block Spec o.spec ∷ on_crash o.on_crash ∷ keyword word.Impl ∷ block Impl o.implementation ∷ [])
 operation_blocks o (Some t) =
-    in_turn (symbol sign.Arrow ∷ type_in sorts.Small t ∷ keyword word.Spec ∷ answering Spec o.spec ∷ on_crash o.on_crash ∷ keyword word.Impl ∷ answering Impl o.implementation ∷ [])
+    in_turn (symbol sign.Arrow ∷ type_in sorts.Small t ∷ keyword word.Spec ∷ answering Spec o.spec ∷ on_crash o.on_crash ∷ keyword word.Impl
+    ∷ answering Impl o.implementation ∷ [])
 
 -- an operation
 abbrev pub operation : Operation → Reading
 operation o =
-    in_turn (keyword word.Op ∷ named o.name ∷ symbol sign.RoundOpen ∷ any_declared sorts.Small o.arguments ∷ symbol sign.RoundClose ∷ operation_blocks o o.answer ∷ [])
+    in_turn (keyword word.Op ∷ named o.name ∷ symbol sign.RoundOpen ∷ any_declared sorts.Small o.arguments ∷ symbol sign.RoundClose
+    ∷ operation_blocks o o.answer ∷ [])
 
 -- a background step
 abbrev pub tick : Tick → Reading
@@ -140,3 +143,11 @@ whole_file f =
 -- the file derives from these tokens, all of them
 pub record Derives (tokens : List Token) (file : File) : Type 0 where
   pub derives : whole_file file tokens ≡ Some []
+
+-- some list of tokens derives the file
+abbrev pub IsDerived : File → Type 0
+IsDerived file = (tokens : List Token) × Derives tokens file
+
+-- some list of fewer than 2 ^ 32 tokens derives the file
+abbrev pub IsDerivable : File → Type 0
+IsDerivable file = (tokens : List Token) × (length tokens < 2 ^ 32) × Derives tokens file

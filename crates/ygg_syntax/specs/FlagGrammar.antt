@@ -17,9 +17,9 @@ use Rattle.ygg_base.specs.declared.token.Mark.{Mark}
 use Rattle.ygg_base.specs.declared.token.Mark.TheVariants as mark
 use Rattle.ygg_base.specs.declared.token.Token.{Token}
 use Rattle.ygg_syntax.specs.declared.flag.FlagFile.{FlagFile}
-use Rattle.ygg_syntax.specs.declared.flag.Formula.{Formula}
-use Rattle.ygg_syntax.specs.declared.flag.Formula.TheOpen.{Formula-F}
-use Rattle.ygg_syntax.specs.declared.flag.Formula.TheFolds.{fold-Formula}
+use Rattle.ygg_syntax.specs.declared.flag.FlagExpr.{FlagExpr}
+use Rattle.ygg_syntax.specs.declared.flag.FlagExpr.TheOpen.{FlagExpr-F}
+use Rattle.ygg_syntax.specs.declared.flag.FlagExpr.TheFolds.{fold-FlagExpr}
 
 -- a keyword of the grammar
 abbrev pub keyword : Keyword → List Mark
@@ -48,22 +48,22 @@ digit false = 0
 digit true = 1
 
 -- the rules of e, with the marks of the parts in their places
-abbrev pub formula_rule : Formula-F (List Mark) → List Mark
-formula_rule (Formula-F.Bit bit) = in_turn (number (digit bit) ∷ symbol sign.Colon ∷ number 1 ∷ [])
-formula_rule (Formula-F.Name text) = in_turn (name text ∷ [])
-formula_rule (Formula-F.Not e) = in_turn (symbol sign.Tilde ∷ e ∷ [])
-formula_rule Formula-F.Stored =
+abbrev pub formula_rule : FlagExpr-F (List Mark) → List Mark
+formula_rule (FlagExpr-F.Bit bit) = in_turn (number (digit bit) ∷ symbol sign.Colon ∷ number 1 ∷ [])
+formula_rule (FlagExpr-F.Name text) = in_turn (name text ∷ [])
+formula_rule (FlagExpr-F.Not e) = in_turn (symbol sign.Tilde ∷ e ∷ [])
+formula_rule FlagExpr-F.Stored =
     in_turn (keyword word.Low ∷ symbol sign.Dot ∷ name (codes "view")
     ∷ symbol sign.SquareOpen ∷ number 0 ∷ symbol sign.Colon ∷ number 8 ∷ symbol sign.SquareClose
     ∷ symbol sign.SquareOpen ∷ number 0 ∷ symbol sign.Colon ∷ number 1 ∷ symbol sign.SquareClose ∷ [])
-formula_rule (Formula-F.Equal a b) = in_turn (symbol sign.RoundOpen ∷ a ∷ symbol sign.Equal ∷ b ∷ symbol sign.RoundClose ∷ [])
+formula_rule (FlagExpr-F.Equal a b) = in_turn (symbol sign.RoundOpen ∷ a ∷ symbol sign.Equal ∷ b ∷ symbol sign.RoundClose ∷ [])
 
 -- the marks of an expression
-abbrev pub formula_marks : Formula → List Mark
-formula_marks = fold-Formula (List Mark) formula_rule
+abbrev pub formula_marks : FlagExpr → List Mark
+formula_marks = fold-FlagExpr (List Mark) formula_rule
 
 -- the marks of one write of the implementation
-abbrev pub write_marks : Formula → List Mark
+abbrev pub write_marks : FlagExpr → List Mark
 write_marks e =
     in_turn (keyword word.Call ∷ name (codes "write") ∷ symbol sign.RoundOpen ∷ number 0 ∷ symbol sign.Colon ∷ number 8 ∷ symbol sign.Comma
     ∷ keyword word.Row ∷ symbol sign.RoundOpen ∷ formula_marks e ∷ symbol sign.RoundClose ∷ symbol sign.RoundClose ∷ symbol sign.Semicolon ∷ [])

@@ -2,40 +2,40 @@
 use Rattle.std.specs.Prelude.{◌≡◌, ◌≢◌, ℕ, Bool, true, false, ◌||◌, List, [], ◌∷◌, ◌++◌}
 use Rattle.std.specs.List.{All, Contains}
 use Rattle.ygg_syntax.specs.declared.flag.FlagFile.{FlagFile}
-use Rattle.ygg_syntax.specs.declared.flag.Formula.{Formula}
-use Rattle.ygg_syntax.specs.declared.flag.Formula.TheOpen.{Formula-F}
-use Rattle.ygg_syntax.specs.declared.flag.Formula.TheFolds.{fold-Formula}
+use Rattle.ygg_syntax.specs.declared.flag.FlagExpr.{FlagExpr}
+use Rattle.ygg_syntax.specs.declared.flag.FlagExpr.TheOpen.{FlagExpr-F}
+use Rattle.ygg_syntax.specs.declared.flag.FlagExpr.TheFolds.{fold-FlagExpr}
 
 -- the names of an expression, those of its parts in their places
-abbrev pub names_node : Formula-F (List (List ℕ)) → List (List ℕ)
-names_node (Formula-F.Bit bit) = []
-names_node (Formula-F.Name text) = text ∷ []
-names_node (Formula-F.Not e) = e
-names_node Formula-F.Stored = []
-names_node (Formula-F.Equal a b) = a ++ b
+abbrev pub names_node : FlagExpr-F (List (List ℕ)) → List (List ℕ)
+names_node (FlagExpr-F.Bit bit) = []
+names_node (FlagExpr-F.Name text) = text ∷ []
+names_node (FlagExpr-F.Not e) = e
+names_node FlagExpr-F.Stored = []
+names_node (FlagExpr-F.Equal a b) = a ++ b
 
 -- the names in an expression, in the order of the text
-abbrev pub names_in : Formula → List (List ℕ)
-names_in = fold-Formula (List (List ℕ)) names_node
+abbrev pub names_in : FlagExpr → List (List ℕ)
+names_in = fold-FlagExpr (List (List ℕ)) names_node
 
 -- whether the stored bit stands in an expression, or in one of its parts
-abbrev pub stored_node : Formula-F Bool → Bool
-stored_node (Formula-F.Bit bit) = false
-stored_node (Formula-F.Name text) = false
-stored_node (Formula-F.Not e) = e
-stored_node Formula-F.Stored = true
-stored_node (Formula-F.Equal a b) = a || b
+abbrev pub stored_node : FlagExpr-F Bool → Bool
+stored_node (FlagExpr-F.Bit bit) = false
+stored_node (FlagExpr-F.Name text) = false
+stored_node (FlagExpr-F.Not e) = e
+stored_node FlagExpr-F.Stored = true
+stored_node (FlagExpr-F.Equal a b) = a || b
 
 -- whether the stored bit stands in an expression
-abbrev pub has_stored : Formula → Bool
-has_stored = fold-Formula Bool stored_node
+abbrev pub has_stored : FlagExpr → Bool
+has_stored = fold-FlagExpr Bool stored_node
 
 -- each name in the expression is one of these
-abbrev pub UsesOnly : List (List ℕ) → Formula → Type 0
+abbrev pub UsesOnly : List (List ℕ) → FlagExpr → Type 0
 UsesOnly names e = All (Contains names) (names_in e)
 
 -- the value of the expression depends on these names alone: it uses no others, and doesn't look at the disk
-pub record DependsOnly (names : List (List ℕ)) (e : Formula) : Type 0 where
+pub record DependsOnly (names : List (List ℕ)) (e : FlagExpr) : Type 0 where
   pub uses : UsesOnly names e
   pub blind : has_stored e ≡ false
 

@@ -10,8 +10,8 @@ use Rattle.ygg_base.specs.declared.token.Token.{Token}
 use Rattle.ygg_value.specs.declared.operation.Op.{Op}
 use Rattle.ygg_value.specs.declared.operation.Op.TheVariants as op
 use Rattle.ygg_syntax.specs.Reading.{same_mark}
-use Rattle.ygg_syntax.specs.declared.grammar.Kind.{Kind}
-use Rattle.ygg_syntax.specs.declared.grammar.Kind.TheVariants.{Plain, Spec, Impl}
+use Rattle.ygg_syntax.specs.declared.grammar.BlockKind.{BlockKind}
+use Rattle.ygg_syntax.specs.declared.grammar.BlockKind.TheVariants.{Plain, Spec, Impl}
 use Rattle.ygg_syntax.specs.declared.grammar.Sort.{Sort}
 use Rattle.ygg_syntax.specs.declared.grammar.Sort.TheVariants as sorts
 
@@ -54,7 +54,7 @@ pub data Part : Type 0 where
   -- "maybe" expr ";"
   maybe : Part
   -- "else" K
-  else_block : Kind → Part
+  else_block : BlockKind → Part
 
 -- a symbol of the grammar
 pub data Pending : Type 0 where
@@ -79,13 +79,13 @@ pub data Pending : Type 0 where
   -- [NAME ":" type {"," NAME ":" type}] ")", with these types
   rest_of_declared : Sort → Pending
   -- K
-  block : Kind → Pending
+  block : BlockKind → Pending
   -- KR
-  answering : Kind → Pending
+  answering : BlockKind → Pending
   -- {stmtK}
-  statements : Kind → Pending
+  statements : BlockKind → Pending
   -- fromK
-  right_side : Kind → Pending
+  right_side : BlockKind → Pending
   -- "sync" | "async"
   disk_kind : Pending
   -- what follows the arguments of an operation
@@ -199,7 +199,7 @@ after_declared sort (mark.Name text) = leaves (sign_of sign.Colon ∷ some_type 
 after_declared sort m = refuses
 
 -- the alternatives of a statement, and the statements after it
-abbrev pub after_statements : Kind → Mark → After
+abbrev pub after_statements : BlockKind → Mark → After
 after_statements kind (mark.Keyword word.Let) = leaves (name ∷ sign_of sign.Assign ∷ right_side kind ∷ sign_of sign.Semicolon ∷ statements kind ∷ [])
 after_statements kind (mark.Name text) = leaves (indices ∷ sign_of sign.Assign ∷ right_side kind ∷ sign_of sign.Semicolon ∷ statements kind ∷ [])
 after_statements kind (mark.Keyword word.If) = leaves (expression ∷ block kind ∷ perhaps (else_block kind) ∷ statements kind ∷ [])
@@ -208,7 +208,7 @@ after_statements Impl (mark.Keyword word.Call) = leaves (name ∷ sign_of sign.R
 after_statements kind m = drops
 
 -- the alternatives of a right side
-abbrev pub after_source : Kind → Mark → After
+abbrev pub after_source : BlockKind → Mark → After
 after_source Spec (mark.Keyword word.Choose) = leaves []
 after_source Impl (mark.Keyword word.Call) = leaves (name ∷ sign_of sign.RoundOpen ∷ rest_of_arguments ∷ [])
 after_source kind m = after_expression m
@@ -222,7 +222,8 @@ after_disk m = refuses
 -- the blocks of an operation, or the type of its answer first
 abbrev pub after_operation : Mark → After
 after_operation (mark.Keyword word.Spec) = leaves (block Spec ∷ perhaps on_crash ∷ word_of word.Impl ∷ block Impl ∷ [])
-after_operation (mark.Symbol sign.Arrow) = leaves (some_type sorts.Small ∷ word_of word.Spec ∷ answering Spec ∷ perhaps on_crash ∷ word_of word.Impl ∷ answering Impl ∷ [])
+after_operation (mark.Symbol sign.Arrow) = leaves (some_type sorts.Small ∷ word_of word.Spec ∷ answering Spec ∷ perhaps on_crash ∷ word_of word.Impl
+    ∷ answering Impl ∷ [])
 after_operation m = refuses
 
 -- the token that a part begins with
@@ -265,7 +266,8 @@ rest_of argument_list = rest_of_arguments ∷ []
 rest_of next_expression = expression ∷ []
 rest_of (next_declared sort) = name ∷ sign_of sign.Colon ∷ some_type sort ∷ []
 rest_of definition =
-    name ∷ sign_of sign.RoundOpen ∷ rest_of_declared sorts.All ∷ sign_of sign.Arrow ∷ some_type sorts.All ∷ sign_of sign.Assign ∷ expression ∷ sign_of sign.Semicolon ∷ []
+    name ∷ sign_of sign.RoundOpen ∷ rest_of_declared sorts.All ∷ sign_of sign.Arrow ∷ some_type sorts.All ∷ sign_of sign.Assign ∷ expression
+    ∷ sign_of sign.Semicolon ∷ []
 rest_of next_layer = rest_of_layer
 rest_of state_variable = rest_of_variable
 rest_of start_block = block Plain ∷ []

@@ -6,17 +6,17 @@ use ygg_base::Text;
 
 /// An expression that is worth one bit.
 #[derive(Debug, Drop)]
-pub enum Formula {
+pub enum FlagExpr {
     /// `0:1` or `1:1`.
     Bit(bool),
     /// The state or the argument.
     Name(Text),
     /// `~e`.
-    Not(Boxed<Formula>),
+    Not(Boxed<FlagExpr>),
     /// The bit that the disk holds, `low.view[0:8][0:1]`.
     Stored,
     /// `(a == b)`.
-    Equal(Boxed<Formula>, Boxed<Formula>),
+    Equal(Boxed<FlagExpr>, Boxed<FlagExpr>),
 }
 
 /// A whole file, with the expressions in the order of the text.
@@ -29,9 +29,9 @@ pub struct FlagFile {
     /// The name that the specification assigns to.
     pub assigned: Text,
     /// What the specification assigns.
-    pub spec: Formula,
+    pub spec: FlagExpr,
     /// What the implementation writes to the disk, one write after another.
-    pub writes: Items<Formula>,
+    pub writes: Items<FlagExpr>,
     /// When the disk's bit stands for the state.
-    pub relate: Formula,
+    pub relate: FlagExpr,
 }

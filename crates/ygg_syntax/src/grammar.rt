@@ -2,7 +2,7 @@
 
 /// What a block is for.
 #[derive(Clone, Copy, Debug, PartialEq, Eq)]
-pub enum Kind {
+pub enum BlockKind {
     /// `start`: neither choices nor calls.
     Plain,
     /// `spec`, `on crash` and `crash`: it may choose.

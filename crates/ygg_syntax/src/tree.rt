@@ -4,7 +4,7 @@
 //! trees keep each place at which a file may be refused.
 
 use sqlite_items::{Boxed, Items};
-use ygg_base::Text;
+use ygg_base::{DiskKind, Text};
 use ygg_value::Op;
 
 /// Where a token begins. Lines and columns are counted from 1, columns in bytes.
@@ -120,13 +120,6 @@ pub struct Block {
     pub place: Place,
     pub statements: Items<Stmt>,
     pub answer: Option<Expr>,
-}
-
-/// Whether every write is stable at once, or only after a flush.
-#[derive(Clone, Copy, Debug, PartialEq, Eq)]
-pub enum DiskKind {
-    Sync,
-    Async,
 }
 
 /// The disk of a file: its rows, the words of a row, and their width in bits.

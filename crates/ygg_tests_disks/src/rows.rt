@@ -3,14 +3,13 @@
 ghost use Rattle.std.specs.Prelude.{◌≡◌, IsTrue};
 ghost use Rattle.ygg_value.specs.declared.shape.Shape.TheVariants as shape;
 
+use crate::walk::DiskStep::{Flush, Lose, Read, Write};
 use crate::walk::Shown::{Done, Down, Row};
-use crate::walk::Step::{Flush, Lose, Read, Write};
-use crate::walk::{Shown, Step, Told, events_told, power_of, small, walk};
+use crate::walk::{DiskStep, Shown, Told, events_told, power_of, small, walk};
 use std::alloc::Global;
 use std::test::Fail;
-use ygg_disk::{Fuse, Ground, fresh_async, fresh_sync};
+use ygg_disk::{Fuse, Ground, fresh_async, fresh_pending, fresh_sync};
 use ygg_list::NoMemory;
-use ygg_pending::fresh_pending;
 
 /// Power fails before the second call.
 const BEFORE_SECOND: Option<Fuse> = Some(Fuse {
@@ -42,7 +41,7 @@ struct Story {
     // whether writes past the picks are kept
     past: bool,
     fuse: Option<Fuse>,
-    steps: &'static [Step],
+    steps: &'static [DiskStep],
     // what they show on the asynchronous disk and on the one with a write-back cache
     late: &'static [Shown],
     // what they show on the synchronous disk

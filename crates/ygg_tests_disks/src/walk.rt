@@ -1,20 +1,19 @@
 //! Steps on any disk of one row of one word of 8 digits, and what they show.
 
 ghost use Rattle.std.specs.Prelude.{◌≡◌, length, IsTrue, IfOk};
-ghost use Rattle.ygg_geometry.specs.declared.DiskKind.TheVariants as kind;
+ghost use Rattle.ygg_base.specs.declared.geometry.DiskKind.TheVariants as kind;
 ghost use Rattle.ygg_value.specs.declared.shape.Shape.TheVariants as shape;
 
 use std::alloc::Global;
-use ygg_base::Bits;
+use ygg_base::{Bits, DiskKind, Geometry};
 use ygg_disk::rows::zero_row;
 use ygg_disk::{Did, Event, Events, Fuse, Ground, Picks, Power, Turn};
-use ygg_geometry::{DiskKind, Geometry};
 use ygg_list::NoMemory;
 use ygg_value::{Row, Value, Word, row_read, row_write};
 
 /// What is done to a disk. A place comes first, then the number that is written there.
 #[derive(Clone, Copy, Debug)]
-pub enum Step {
+pub enum DiskStep {
     Read(u8),
     Write(u8, u8),
     Flush,
@@ -100,17 +99,17 @@ fn take_step<G: Ground>(
     alloc: Global,
     disk: &mut G,
     power: &mut Power,
-    step: Step,
+    step: DiskStep,
 ) -> Result<Shown, NoMemory>
     requires loses { IsTrue G.means.can_lose }
     requires row { G.means.row disk.old ≡ shape.Row 1 8 }
     ensures row { G.means.row disk.new ≡ shape.Row 1 8 }
 {
     let turn = match step {
-        Step::Read(at) => disk.read(place(at), power)?,
-        Step::Write(at, number) => disk.write(place(at), &row_of(alloc, number)?, power)?,
-        Step::Flush => disk.flush(power)?,
-        Step::Lose => {
+        DiskStep::Read(at) => disk.read(place(at), power)?,
+        DiskStep::Write(at, number) => disk.write(place(at), &row_of(alloc, number)?, power)?,
+        DiskStep::Flush => disk.flush(power)?,
+        DiskStep::Lose => {
             disk.lose();
             Turn::Down
         }
@@ -133,7 +132,7 @@ pub fn walk<G: Ground>(
     alloc: Global,
     disk: &mut G,
     power: &mut Power,
-    steps: &[Step],
+    steps: &[DiskStep],
 ) -> Result<Vec<Shown>, NoMemory>
     requires loses { IsTrue G.means.can_lose }
     requires row { G.means.row disk.old ≡ shape.Row 1 8 }

@@ -2,32 +2,42 @@ ghost use Rattle.std.specs.Prelude.{◌≡◌, [], ◌∷◌};
 ghost use Rattle.ygg_value.specs.Words.{word};
 ghost use Rattle.ygg_bank.specs.declared.env.Given.TheVariants as given;
 
-use crate::terms::{constant, first_input, sum, value};
+use crate::terms::{binary, constant, value};
 use std::alloc::Global;
 use std::process::Abort;
 use std::test::Fail;
 use ygg_bank::*;
 use ygg_rules::{Rule, RuleBook, RuleKind, add_zero};
-use ygg_value::Word;
+use ygg_value::{Op, Word};
 
-/// An equal node gets the place of the first, and a sum with 0 is the other operand. A sum is worth what it says.
-fn make_terms(
+/// The input of number 3, in a bank without nodes.
+pub fn first_input(bank: &mut Bank, book: &RuleBook) -> Result<Id, NoMemory>
+    requires { bank.old ≡ [] }
+{
+    let node = Node::Input {
+        number: 3,
+        width: 8,
+    };
+    bank.make(node, book)
+}
+
+/// Whether an equal node gets the place of the first, a sum with 0 is the other operand, and a sum is worth what it says.
+fn are_shared(
     rt: &impl Abort,
     alloc: Global,
     bank: &mut Bank,
     book: &RuleBook,
-) -> Result<(), NoMemory>
+) -> Result<bool, NoMemory>
     requires { bank.old ≡ [] }
 {
     let some = first_input(bank, book)?;
     let zero = constant(bank, book, 0)?;
     let again = constant(bank, book, 0)?;
-    assert!(rt; zero == again && bank.len() == 2);
-    assert!(rt; sum(rt, bank, book, some, zero)? == some);
+    let shared = zero == again && bank.len() == 2;
+    let sum = binary(rt, bank, book, Op::Add, some, zero)?;
     let large = constant(bank, book, 250)?;
-    let twice = sum(rt, bank, book, large, large)?;
-    assert!(rt; value(rt, alloc, bank, twice)? == 244);
-    Ok(())
+    let twice = binary(rt, bank, book, Op::Add, large, large)?;
+    Ok(shared && sum == some && value(rt, alloc, bank, twice)? == 244)
 }
 
 #[test]
@@ -37,7 +47,7 @@ fn terms_are_shared_and_have_values(rt: HostRuntime) -> Result<(), Fail> {
     rules.push(Rule::new(RuleKind::AddZero, Box::new(alloc, add_zero)?))?;
     let book = RuleBook::new(rules);
     let mut bank = Bank::new(alloc)?;
-    make_terms(&rt, alloc, &mut bank, &book)?;
+    assert!(rt; are_shared(&rt, alloc, &mut bank, &book)?);
     Ok(())
 }
 

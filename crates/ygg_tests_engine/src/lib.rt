@@ -1,26 +1,22 @@
-//! Tests of the crates that compute: values, rules, the bank and its shapes, clauses of terms, clauses, the checker and the solver. They stand
-//! apart because a crate that has tests is proved twice.
+//! Tests of the crates that compute: values, rules, the bank and its shapes, clauses of terms, deciding, and propagation. They stand apart
+//! because a crate that has tests is proved twice. The checker and the solver are tried from outside, by the program ygg_bench.
 #![tactic(auto)]
 
 #[cfg(test)]
 mod bank;
 #[cfg(test)]
-mod checker;
-#[cfg(test)]
-mod clauses;
+mod decided;
 #[cfg(test)]
 mod lists;
 #[cfg(test)]
-mod lockstep;
+mod operators;
+#[cfg(test)]
+mod propagation;
 #[cfg(test)]
 mod rules;
 #[cfg(test)]
 mod shapes;
 #[cfg(test)]
-mod solving;
-#[cfg(test)]
 mod terms;
 #[cfg(test)]
 mod values;
-#[cfg(test)]
-mod written;

@@ -1,30 +1,24 @@
-use crate::written::{are_written, clause_of, clauses_of};
 use std::alloc::Global;
 use std::test::Fail;
-use ygg_cnf::{Assignment, Log, Step, truth};
+use ygg_cnf::{Assignment, Clause, Clauses, Lit, Log, Step, truth};
 use ygg_list::{NoMemory, Sequence};
 
-#[test]
-fn lists_are_made_and_copied(rt: HostRuntime) -> Result<(), Fail> {
-    let alloc = rt.alloc();
-    let clauses = clauses_of(alloc, &[&[7, -7], &[]])?;
-    let clauses = clauses.copy(alloc)?;
-    assert!(rt; are_written(clauses.as_slice(), &[&[7, -7], &[]]));
-    Ok(())
-}
+const LITS: [Lit; 2] = [
+    Lit {
+        var: 7,
+        negated: false,
+    },
+    Lit {
+        var: 7,
+        negated: true,
+    },
+];
 
 /// A step whose clause is a copy.
-fn step_of(alloc: Global) -> Result<Step, NoMemory> {
+fn step(alloc: Global) -> Result<Step, NoMemory> {
     let chain = Sequence::from_slice(alloc, &[1, 2])?;
-    let clause = clause_of(alloc, &[7, -7])?.copy(alloc)?;
+    let clause = Clause::from_slice(alloc, &LITS)?;
     Ok(Step::Added { clause, chain })
-}
-
-/// A log of that step.
-fn log_of(alloc: Global) -> Result<Log, NoMemory> {
-    let mut log = Log::new(alloc);
-    log.push(step_of(alloc)?)?;
-    Ok(log)
 }
 
 /// Whether the log has that step alone.
@@ -33,7 +27,8 @@ fn has_step(log: &Log) -> bool {
         return false;
     }
     let Step::Added { clause, chain } = log.at(0);
-    clause.len() == 2
+    clause.as_slice() == LITS.as_slice()
+        && clause.len() == 2
         && !clause.is_empty()
         && clause.at(1).negated
         && chain.as_slice() == [1, 2].as_slice()
@@ -41,9 +36,31 @@ fn has_step(log: &Log) -> bool {
 
 #[test]
 fn logs_are_made_and_copied(rt: HostRuntime) -> Result<(), Fail> {
-    let log = log_of(rt.alloc())?;
+    let mut log = Log::new(rt.alloc());
+    log.push(step(rt.alloc())?)?;
     let copy = log.copy(rt.alloc())?;
     assert!(rt; has_step(&copy));
+    Ok(())
+}
+
+/// A clause of two literals, and an empty one.
+fn two_clauses(alloc: Global) -> Result<Clauses, NoMemory> {
+    let mut clauses = Clauses::new(alloc);
+    clauses.push(Clause::from_slice(alloc, &LITS)?)?;
+    clauses.push(Clause::new(alloc))?;
+    Ok(clauses)
+}
+
+/// Whether the clauses are those two.
+fn are_two(clauses: &Clauses) -> bool {
+    clauses.len() == 2 && clauses.at(0).as_slice() == LITS.as_slice() && clauses.at(1).is_empty()
+}
+
+#[test]
+fn lists_are_made_and_copied(rt: HostRuntime) -> Result<(), Fail> {
+    let clauses = two_clauses(rt.alloc())?;
+    let copy = clauses.copy(rt.alloc())?;
+    assert!(rt; are_two(&copy));
     Ok(())
 }
 

@@ -1,25 +1,11 @@
-use std::alloc::{AllocError, Global};
+use crate::terms::all_rules;
 use std::test::Fail;
 use ygg_rules::*;
 use ygg_value::{Op, Word};
 
-/// Adds all seven rules.
-fn add_all(alloc: Global, rules: &mut Vec<Rule>) -> Result<(), AllocError> {
-    rules.push(Rule::new(RuleKind::Fold, Box::new(alloc, fold)?))?;
-    rules.push(Rule::new(RuleKind::AndOnes, Box::new(alloc, and_ones)?))?;
-    rules.push(Rule::new(RuleKind::AndZero, Box::new(alloc, and_zero)?))?;
-    rules.push(Rule::new(RuleKind::OrZero, Box::new(alloc, or_zero)?))?;
-    rules.push(Rule::new(RuleKind::AddZero, Box::new(alloc, add_zero)?))?;
-    rules.push(Rule::new(RuleKind::EqSelf, Box::new(alloc, eq_self)?))?;
-    rules.push(Rule::new(RuleKind::PickSame, Box::new(alloc, pick_same)?))?;
-    Ok(())
-}
-
 #[test]
 fn sum_with_zero(rt: HostRuntime) -> Result<(), Fail> {
-    let mut rules = Vec::new(rt.alloc());
-    add_all(rt.alloc(), &mut rules)?;
-    let book = RuleBook::new(rules);
+    let book = all_rules(rt.alloc())?;
     let empty = RuleBook::new(Vec::new(rt.alloc()));
     let zero = Operand::known(1, Word { width: 8, bits: 0 });
     let view = View::bin(Op::Add, Operand::unknown(0, 8), zero);

@@ -1,7 +1,9 @@
-ghost use Rattle.std.specs.Prelude.{◌≡◌, [], length, IfOk};
-ghost use Rattle.ygg_cells.specs.Terms.{IsTable};
+ghost use Rattle.std.specs.Prelude.{◌≡◌, [], ◌∷◌, ◌++◌, length, IfOk, OnOk};
+ghost use Rattle.ygg_bank.specs.Nodes.{HasWidth};
+ghost use Rattle.ygg_shape_cells.specs.Terms.{IsTable};
 
-use crate::terms::{constant, first_input, sum, value};
+use crate::bank::first_input;
+use crate::terms::{binary, constant, value};
 use std::alloc::Global;
 use std::process::Abort;
 use std::test::Fail;
@@ -9,7 +11,15 @@ use ygg_bank::{Bank, Id, NoMemory, Node};
 use ygg_list::Duplicate;
 use ygg_rules::RuleBook;
 use ygg_shape::*;
-use ygg_value::Word;
+use ygg_value::{Op, Word};
+
+/// Adds a row of one word to a table.
+fn push_row(alloc: Global, table: &mut SymTable, word: Id) -> Result<(), NoMemory>
+    ensures { OnOk result (table.new ≡ table.old ++ (word ∷ []) ∷ []) }
+{
+    let row = SymRow::from_slice(alloc, &[word])?;
+    table.push(row)
+}
 
 /// A table of two rows of one word each, of 8 digits.
 fn table_of(
@@ -26,8 +36,8 @@ fn table_of(
     assert!(rt; bank.width(first) == 8);
     assert!(rt; bank.width(second) == 8);
     let mut table = SymTable::new(alloc);
-    table.push(SymRow::from_slice(alloc, &[first])?)?;
-    table.push(SymRow::from_slice(alloc, &[second])?)?;
+    push_row(alloc, &mut table, first)?;
+    push_row(alloc, &mut table, second)?;
     Ok(table)
 }
 
@@ -83,7 +93,7 @@ fn written(
     first_words(rt, alloc, bank, &answer)
 }
 
-/// Reads and writes at the place 1, and at one past the end. The words are 5 and 7, the new word is 9.
+/// Whether reads and writes at the place 1, and at one past the end, are right. The words are 5 and 7, the new word is 9.
 fn at_places(
     rt: &impl Abort,
     alloc: Global,
@@ -91,14 +101,15 @@ fn at_places(
     book: &RuleBook,
     words: [Id; 2],
     nine: Id,
-    inside: Id,
-    past: Id,
-) -> Result<(), NoMemory> {
-    assert!(rt; read(rt, alloc, bank, book, words, inside)? == 7);
-    assert!(rt; read(rt, alloc, bank, book, words, past)? == 0);
-    assert!(rt; written(rt, alloc, bank, book, words, inside, nine)? == [5, 9]);
-    assert!(rt; written(rt, alloc, bank, book, words, past, nine)? == [5, 7]);
-    Ok(())
+    places: [Id; 2],
+) -> Result<bool, NoMemory> {
+    let [inside, past] = places;
+    Ok(
+        read(rt, alloc, bank, book, words, inside)? == 7
+            && read(rt, alloc, bank, book, words, past)? == 0
+            && written(rt, alloc, bank, book, words, inside, nine)? == [5, 9]
+            && written(rt, alloc, bank, book, words, past, nine)? == [5, 7],
+    )
 }
 
 /// Reads and writes at places that are constants, where the term 0 has its value alone, and at places that are not known.
@@ -108,19 +119,19 @@ fn at_all_places(
     bank: &mut Bank,
     book: &RuleBook,
     some: Id,
-) -> Result<(), NoMemory> {
+) -> Result<bool, NoMemory> {
     let words = [constant(bank, book, 5)?, constant(bank, book, 7)?];
     let nine = constant(bank, book, 9)?;
     let zero = constant(bank, book, 0)?;
     let inside = constant(bank, book, 1)?;
     let past = constant(bank, book, 2)?;
     let nodes = bank.len();
-    at_places(rt, alloc, bank, book, words, nine, inside, past)?;
+    let known = at_places(rt, alloc, bank, book, words, nine, [inside, past])?;
     // places that are constants take no nodes, since 0 stands already
-    assert!(rt; bank.len() == nodes && zero.0 < nodes);
-    let inside = sum(rt, bank, book, some, inside)?;
-    let past = sum(rt, bank, book, some, past)?;
-    at_places(rt, alloc, bank, book, words, nine, inside, past)
+    let same = bank.len() == nodes && zero.0 < nodes;
+    let inside = binary(rt, bank, book, Op::Add, some, inside)?;
+    let past = binary(rt, bank, book, Op::Add, some, past)?;
+    Ok(known && same && at_places(rt, alloc, bank, book, words, nine, [inside, past])?)
 }
 
 /// The words of the table that is the first where the test is 1, and else the second.
@@ -138,7 +149,17 @@ fn merged(
     assert!(rt; test.0 < bank.len());
     assert!(rt; bank.width(test) == 1);
     let answer = merge(alloc, bank, book, test, &one, &two)?;
-    match answer.duplicate(alloc)? {
+    words_of(rt, alloc, bank, &answer)
+}
+
+/// The first words of a copy of a value that is a table of two rows, or zeros.
+fn words_of(
+    rt: &impl Abort,
+    alloc: Global,
+    bank: &Bank,
+    value: &SymValue,
+) -> Result<[u64; 2], NoMemory> {
+    match value.duplicate(alloc)? {
         SymValue::Table(table) => first_words(rt, alloc, bank, &table),
         _ => Ok([0, 0]),
     }
@@ -158,36 +179,41 @@ fn compared(
     equal(bank, book, &one, &two)
 }
 
-/// Compares tables, and merges them by what the comparisons give.
+/// Whether tables are compared, and merged by what the comparisons give, as they must be.
 fn by_tests(
     rt: &impl Abort,
     alloc: Global,
     bank: &mut Bank,
     book: &RuleBook,
     input: Id,
-) -> Result<(), NoMemory> {
+) -> Result<bool, NoMemory> {
     let five = constant(bank, book, 5)?;
     let seven = constant(bank, book, 7)?;
-    let unknown = sum(rt, bank, book, input, five)?;
+    let unknown = binary(rt, bank, book, Op::Add, input, five)?;
     let same = compared(rt, alloc, bank, book, [five, seven], [unknown, seven])?;
-    assert!(rt; value(rt, alloc, bank, same)? == 1);
     let other = compared(rt, alloc, bank, book, [five, seven], [unknown, five])?;
-    assert!(rt; value(rt, alloc, bank, other)? == 0);
-    let (one, two) = ([five, seven], [seven, five]);
-    assert!(rt; merged(rt, alloc, bank, book, same, one, two)? == [5, 7]);
-    assert!(rt; merged(rt, alloc, bank, book, other, one, two)? == [7, 5]);
     let certain = bank.make(Node::Const(Word { width: 1, bits: 1 }), book)?;
-    assert!(rt; merged(rt, alloc, bank, book, certain, one, two)? == [5, 7]);
-    Ok(())
+    let (one, two) = ([five, seven], [seven, five]);
+    Ok(
+        value(rt, alloc, bank, same)? == 1
+            && value(rt, alloc, bank, other)? == 0
+            && merged(rt, alloc, bank, book, same, one, two)? == [5, 7]
+            && merged(rt, alloc, bank, book, other, one, two)? == [7, 5]
+            && merged(rt, alloc, bank, book, certain, one, two)? == [5, 7],
+    )
 }
 
 /// All that is tried of shapes.
-fn tables(rt: &impl Abort, alloc: Global, bank: &mut Bank, book: &RuleBook) -> Result<(), NoMemory>
+fn tables(
+    rt: &impl Abort,
+    alloc: Global,
+    bank: &mut Bank,
+    book: &RuleBook,
+) -> Result<bool, NoMemory>
     requires { bank.old ≡ [] }
 {
     let some = first_input(bank, book)?;
-    at_all_places(rt, alloc, bank, book, some)?;
-    by_tests(rt, alloc, bank, book, some)
+    Ok(at_all_places(rt, alloc, bank, book, some)? && by_tests(rt, alloc, bank, book, some)?)
 }
 
 #[test]
@@ -195,6 +221,6 @@ fn tables_of_terms(rt: HostRuntime) -> Result<(), Fail> {
     let alloc = rt.alloc();
     let book = RuleBook::new(Vec::new(alloc));
     let mut bank = Bank::new(alloc)?;
-    tables(&rt, alloc, &mut bank, &book)?;
+    assert!(rt; tables(&rt, alloc, &mut bank, &book)?);
     Ok(())
 }

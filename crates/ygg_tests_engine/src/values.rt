@@ -5,7 +5,7 @@ use std::test::Fail;
 use ygg_value::*;
 
 /// The word of a number's low digits.
-fn word(width: u8, bits: u64) -> Word
+pub fn word(width: u8, bits: u64) -> Word
     requires least { 1 ≤ width }
     requires most { width ≤ 64 }
     ensures { result.width ≡ width }
@@ -241,58 +241,61 @@ const RESULTS: [(u8, u64, u64, [u64; 14]); 18] = [
     ),
 ];
 
-/// What the operations but the implication give of two words of this width, in order.
-fn given(width: u8, a: u64, b: u64) -> [u64; 14] {
-    if width < 1 || width > 64 {
-        return [0; 14];
-    }
-    let a = word(width, a);
-    let b = word(width, b);
-    [
-        apply(Op::Add, a, b).bits,
-        apply(Op::Sub, a, b).bits,
-        apply(Op::Mul, a, b).bits,
-        apply(Op::And, a, b).bits,
-        apply(Op::Or, a, b).bits,
-        apply(Op::Xor, a, b).bits,
-        apply(Op::Shl, a, b).bits,
-        apply(Op::Shr, a, b).bits,
-        apply(Op::Eq, a, b).bits,
-        apply(Op::Ne, a, b).bits,
-        apply(Op::Lt, a, b).bits,
-        apply(Op::Le, a, b).bits,
-        apply(Op::Gt, a, b).bits,
-        apply(Op::Ge, a, b).bits,
-    ]
-}
+/// The operations but the implication, in order.
+const OPERATIONS: [Op; 14] = [
+    Op::Add,
+    Op::Sub,
+    Op::Mul,
+    Op::And,
+    Op::Or,
+    Op::Xor,
+    Op::Shl,
+    Op::Shr,
+    Op::Eq,
+    Op::Ne,
+    Op::Lt,
+    Op::Le,
+    Op::Gt,
+    Op::Ge,
+];
 
-/// What the implication gives of the four pairs of digits; then shifts by words of another width, complements and resizes
-/// of the word `0x81`.
-fn others() -> [u64; 10] {
-    let zero = word(1, 0);
-    let one = word(1, 1);
-    let eight = word(8, 0x81);
-    [
-        apply(Op::Imp, zero, zero).bits,
-        apply(Op::Imp, zero, one).bits,
-        apply(Op::Imp, one, zero).bits,
-        apply(Op::Imp, one, one).bits,
-        apply(Op::Shl, eight, word(64, 1 << 40)).bits,
-        apply(Op::Shr, word(64, u64::MAX), word(8, 63)).bits,
-        not(eight).bits,
-        not(word(64, 1)).bits,
-        resize(eight, 1).bits,
-        resize(eight, 64).bits,
-    ]
+/// Whether an operation but the implication gives this of two words of this width.
+fn gives(op: Op, width: u8, a: u64, b: u64, wanted: u64) -> bool {
+    if width < 1 || width > 64 || op == Op::Imp {
+        return false;
+    }
+    apply(op, word(width, a), word(width, b)).bits == wanted
 }
 
 #[test]
 fn operations(rt: HostRuntime) {
-    for (width, a, b, wanted) in RESULTS {
-        assert_eq!(rt; given(width, a, b), wanted, "{width} {a} {b}");
+    for (width, a, b, results) in RESULTS {
+        for (op, wanted) in OPERATIONS.iter().zip(results) {
+            assert!(rt;
+                gives(*op, width, a, b, wanted),
+                "{op:?} at {width}: {a} {b}"
+            );
+        }
     }
-    let wanted = [1, 1, 0, 1, 0, 1, 0x7e, 0xfffffffffffffffe, 1, 0x81];
-    assert_eq!(rt; others(), wanted);
+}
+
+/// Digits, and what the implication gives of them.
+const IMPLIED: [(u64, u64, u64); 4] = [(0, 0, 1), (0, 1, 1), (1, 0, 0), (1, 1, 1)];
+
+#[test]
+fn implications(rt: HostRuntime) {
+    for (a, b, wanted) in IMPLIED {
+        assert!(rt; apply(Op::Imp, word(1, a), word(1, b)).bits == wanted);
+    }
+}
+
+#[test]
+fn shifts_complements_and_resizes(rt: HostRuntime) {
+    let eight = word(8, 0x81);
+    assert!(rt; apply(Op::Shl, eight, word(64, 1 << 40)).bits == 0);
+    assert!(rt; apply(Op::Shr, word(64, u64::MAX), word(8, 63)).bits == 1);
+    assert!(rt; not(eight).bits == 0x7e && not(word(64, 1)).bits == 0xfffffffffffffffe);
+    assert!(rt; resize(eight, 1).bits == 1 && resize(eight, 64).bits == 0x81);
 }
 
 const TABLE: Shape = Shape::Table {

@@ -1,4 +1,4 @@
-use crate::text::{FLAG, ON_ONE_LINE};
+use crate::text::{FLAG, FLAG_ELSEWHERE};
 use std::alloc::Global;
 use std::test::Fail;
 use ygg_base::{Files, Held, NoMemory, Numbers, Shelf, Status, Text, TextSink};
@@ -55,7 +55,7 @@ const COMMANDS: [(&[&[u8]], &[u8], &[u64], &[u64], Status, &[u8]); 6] = [
     ),
     (
         &[b"print", b"flag.ygg"],
-        ON_ONE_LINE,
+        FLAG_ELSEWHERE,
         &[],
         &[],
         Status::Done,
@@ -102,7 +102,10 @@ fn commands_end(rt: HostRuntime) -> Result<(), Fail> {
         let words = words_of(alloc, words)?;
         let library = library_of(alloc, bytes, library_fails)?;
         let sink = sink_of(alloc, sink_fails)?;
-        assert!(rt; ends(alloc, words.as_slice(), library, sink, status, printed));
+        assert!(rt;
+            ends(alloc, words.as_slice(), library, sink, status, printed),
+            "{status:?}"
+        );
     }
     Ok(())
 }

@@ -1,7 +1,7 @@
 use crate::text::{PAIR, file_of};
 use std::test::Fail;
-use ygg_count::{choices, events, weight};
 use ygg_syntax::tree::{Block, File};
+use ygg_syntax_count::{choices, events, weight};
 
 /// Definitions of which the last one weighs more than 10 ^ 60, and blocks that choose.
 const HEAVY: &[u8] = b"yggdrasil 1;

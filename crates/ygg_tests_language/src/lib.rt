@@ -1,27 +1,13 @@
-//! Tests of the crates from texts to the top call. They stand apart because a crate that has tests is proved twice.
+//! Tests of the calls from texts to the top call that the program itself doesn't show: counts, copies, sameness, and commands over a library and a
+//! sink that fail. They stand apart because a crate that has tests is proved twice. Reading, typing and printing are tried on the program
+//! (tests/run).
 #![tactic(auto)]
 
 #[cfg(test)]
-mod blocks;
-#[cfg(test)]
 mod commands;
-#[cfg(test)]
-mod copies;
 #[cfg(test)]
 mod counts;
 #[cfg(test)]
-mod expressions;
-#[cfg(test)]
-mod files;
-#[cfg(test)]
-mod flag_files;
-#[cfg(test)]
-mod layouts;
-#[cfg(test)]
-mod places;
-#[cfg(test)]
-mod printing;
+mod same;
 #[cfg(test)]
 mod text;
-#[cfg(test)]
-mod tokens;

@@ -1,7 +1,7 @@
 use std::alloc::Global;
 use ygg_base::{Refuse, Tokens};
-use ygg_file::read;
 use ygg_lex::tokens;
+use ygg_read::read;
 use ygg_syntax::tree::File;
 
 /// One bit on a synchronous disk.
@@ -18,9 +18,11 @@ layer flag {
 }
 ";
 
-/// The flag on one line, with a block that is left out where it is empty.
-pub const ON_ONE_LINE: &[u8] =
-    b"yggdrasil 1; disk sync 1 of 1 of 1; layer flag { state f : word 1; start { } op set(v : word 1) spec { f = v; } impl { call write(0:8, row(v)); } relate (low.view[0:8][0:1] == f); }";
+/// The flag in other lines, with a block that is left out where it is empty.
+pub const FLAG_ELSEWHERE: &[u8] =
+    b"yggdrasil 1; disk sync 1 of 1 of 1; layer flag { state f : word 1; start { }
+op set(v : word 1) spec { f = v; }
+impl { call write(0:8, row(v)); } relate (low.view[0:8][0:1] == f); }";
 
 /// Two words on an asynchronous disk that change together.
 pub const PAIR: &[u8] = b"yggdrasil 1;

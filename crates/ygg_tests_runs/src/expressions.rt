@@ -5,9 +5,8 @@ use crate::stage::{Play, is, played, typed};
 use crate::texts::EXPRESSIONS;
 use std::alloc::Global;
 use std::test::Fail;
-use ygg_interpret::Ended;
+use ygg_eval::{Body, Ended, Part};
 use ygg_list::NoMemory;
-use ygg_lower::{Body, Part};
 use ygg_type::Typed;
 
 /// The greatest number of 64 digits.

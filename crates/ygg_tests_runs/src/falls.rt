@@ -7,9 +7,8 @@ use crate::stage::{Left, Play, are, is, played, typed};
 use crate::texts::{LAZY, PAIR};
 use std::alloc::Global;
 use std::test::Fail;
-use ygg_interpret::Ended;
+use ygg_eval::{Body, Ended, Part, Stop};
 use ygg_list::NoMemory;
-use ygg_lower::{Body, Part, Stop};
 use ygg_type::Typed;
 
 /// The journal's `put`, which makes ten calls on the disk.

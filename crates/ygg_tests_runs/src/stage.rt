@@ -6,11 +6,9 @@ use std::alloc::Global;
 use ygg_accept::accept;
 use ygg_base::{Bits, Refuse};
 use ygg_disk::{Picks, Power};
-use ygg_fits::{are_values_of, is_runnable};
-use ygg_interpret::{Ended, run_body};
+use ygg_eval::{Body, Ended, Stop, run_body, spec_lower};
+use ygg_eval_fits::{are_values_of, is_runnable};
 use ygg_list::NoMemory;
-use ygg_lower::{Body, Stop};
-use ygg_spec_lower::spec_lower;
 use ygg_type::Typed;
 use ygg_value::{Row, Shape, Table, Value, Values, Word, row_write, same, table_write, zero};
 

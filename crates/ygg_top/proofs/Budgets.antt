@@ -21,7 +21,8 @@ one_number a b r e f = let s : a ≡ b = cc in ap (λ k. Some k) s
 no_number : (x b : ℕ) (r : Result ℕ ℕ) → r ≡ Err x → r ≡ Ok b → ⊥
 no_number x b r e f = absurd (cc)
 
-pub parsed : (word text : List ℕ) (n number : ℕ) → n < 2 ^ 32 → word ≡ decimal n → text ≡ word → ParsesUnsigned {E = ℕ} 32 10 text (Ok number) → Some number ≡ Some n
+pub parsed : (word text : List ℕ) (n number : ℕ) → n < 2 ^ 32 → word ≡ decimal n → text ≡ word → ParsesUnsigned {E = ℕ} 32 10 text (Ok number) →
+    Some number ≡ Some n
 parsed word text n number small e same h = let r : Result ℕ ℕ = Ok number in one_number number n r refl (given word text n r small e same h)
 
 pub unparsed : (word text : List ℕ) (n : ℕ) → n < 2 ^ 32 → word ≡ decimal n → text ≡ word → ParsesUnsigned {E = ℕ} 32 10 text (Err 0) → ⊥

@@ -2,8 +2,8 @@
 use Rattle.std.proofs.Common.{◌≡◌, ℕ, ◌≤◌, List, length, subst}
 use Rattle.ygg_base.specs.declared.tokens.Tokens.{Tokens}
 use Rattle.ygg_syntax.specs.declared.tree.File.{File}
-use Rattle.ygg_layout.specs.Laws.{TokensAreMarks}
-use Rattle.ygg_canonical.specs.Canonical.{canonical, IsReadAgain}
+use Rattle.ygg_print_layout.specs.Laws.{TokensAreMarks}
+use Rattle.ygg_print.specs.Canonical.{canonical, IsReadAgain}
 use Rattle.ygg_accept.specs.Accepting.{IsAccepted}
 use Rattle.ygg_top.specs.Refusing.{most_bytes}
 use Rattle.ygg_top.specs.Ending.{IsPrinted}

@@ -1,6 +1,8 @@
 -- How a command ends, and what it prints.
 use Rattle.std.specs.Prelude.{◌≡◌, ◌⊎◌, ℕ, ◌≤◌, List, ◌++◌, length, take, codes, Option, Some, None, IfSome, MatchBool, MatchOption}
 use Rattle.ygg_base.specs.declared.failure.Refusal.{Refusal}
+use Rattle.ygg_base.specs.declared.reason.Reason.TheVariants as reason
+use Rattle.ygg_base.specs.Reason.{refusal_at}
 use Rattle.ygg_base.specs.declared.lists.Held.{Held}
 use Rattle.ygg_base.specs.declared.status.Status.{Status}
 use Rattle.ygg_base.specs.declared.status.Status.TheVariants.{Done, Refused, Fault, NoMemory}
@@ -10,16 +12,17 @@ use Rattle.ygg_base.specs.Lexing.{tokens_of}
 use Rattle.ygg_syntax.specs.declared.flag.FlagFile.{FlagFile}
 use Rattle.ygg_syntax.specs.declared.tree.File.{File}
 use Rattle.ygg_accept.specs.Accepting.{IsAccepted}
-use Rattle.ygg_canonical.specs.Canonical.{canonical, GivesAgain}
+use Rattle.ygg_print.specs.Canonical.{canonical, GivesAgain}
 use Rattle.ygg_top.specs.declared.help.TheConstants.{HELP, VERSION}
-use Rattle.ygg_top.specs.declared.answer.Answer.{Answer}
-use Rattle.ygg_top.specs.declared.answer.Answer.TheVariants as answer
+use Rattle.ygg_top.specs.declared.answer.CommandEnd.{CommandEnd}
+use Rattle.ygg_top.specs.declared.answer.CommandEnd.TheVariants as answer
 use Rattle.ygg_top.specs.Words.{is_alone, file_after, with_budget_after, usual_budget, IsBudget, IsNoBudget}
 use Rattle.ygg_rules.specs.declared.rule.RuleKind.{RuleKind}
-use Rattle.ygg_top.specs.Refusing.{IsBuilt, RefusesVerified, RefusesPrinted, RefusesUnread, most_bytes, refusal, refused_line}
+use Rattle.ygg_top.specs.Refusing.{IsBuilt, RefusesVerified, RefusesPrinted, RefusesUnread, most_bytes, refused_line}
 use Rattle.ygg_top.specs.Verdict.{Verified, line}
 
--- `verify` within a budget of what stands under the name, under a book of these kinds: it is refused, or it is built, and there are verdicts on the layer file that it is
+-- `verify` within a budget of what stands under the name, under a book of these kinds: it is refused, or it is built, and there are verdicts on the
+-- layer file that it is
 abbrev pub Verifies : List RuleKind → ℕ → Option (List ℕ) → Status → List ℕ → Type 0
 Verifies kinds budget stored Refused text = (r : Refusal) × RefusesVerified stored r × (text ≡ refused_line r)
 Verifies kinds budget stored Fault text = ⊥
@@ -58,7 +61,7 @@ IsRefused r status text = (status ≡ Refused) × (text ≡ refused_line r)
 abbrev pub VerifiesWithin : List RuleKind → Option (List Held) → List ℕ → List ℕ → Status → List ℕ → Type 0
 VerifiesWithin kinds files name word status text =
     ((budget : ℕ) × IsBudget word budget × DoesWith (Verifies kinds budget) files name status text)
-    ⊎ (IsNoBudget word × IsRefused (refusal 72 0 2) status text)
+    ⊎ (IsNoBudget word × IsRefused (refusal_at reason.Number 0 2) status text)
 
 -- a command of these words over a library, under a book of these kinds, ends with the status and prints the text
 abbrev pub Ends : List RuleKind → List (List ℕ) → Option (List Held) → Status → List ℕ → Type 0
@@ -67,7 +70,7 @@ Ends kinds words files status text =
     (MatchBool (is_alone (codes "--version") words) ((status ≡ Done) × (text ≡ VERSION.now))
     (MatchOption (file_after (codes "verify") words)
     (MatchOption (with_budget_after (codes "verify") words)
-    (MatchOption (file_after (codes "print") words) (IsRefused (refusal 71 0 0) status text)
+    (MatchOption (file_after (codes "print") words) (IsRefused (refusal_at reason.Words 0 0) status text)
     (λ name. DoesWith Prints files name status text))
     (λ asked. VerifiesWithin kinds files asked.0 asked.1 status text))
     (λ name. DoesWith (Verifies kinds usual_budget) files name status text)))
@@ -86,26 +89,27 @@ pub record IsFront (front bytes : List ℕ) : Type 0 where
 abbrev pub library_fault : List ℕ
 library_fault = line (codes "fault library")
 
--- a front of what the command would have printed
-abbrev pub IsCutShort : List RuleKind → List (List ℕ) → Option (List Held) → List ℕ → Type 0
-IsCutShort kinds words files front =
-    (whole : List ℕ) × IsFront front whole × ((whole ≡ library_fault) ⊎ ((status : Status) × Ends kinds words files status whole))
+-- a front of what the command would have printed: the line of a library that failed, where its count of faults has risen, or the command's text
+abbrev pub IsCutShort : List RuleKind → List (List ℕ) → Option (List Held) → (LibraryRose : Type 0) → List ℕ → Type 0
+IsCutShort kinds words files LibraryRose front =
+    (whole : List ℕ) × IsFront front whole × ((LibraryRose × (whole ≡ library_fault)) ⊎ ((status : Status) × Ends kinds words files status whole))
 
 -- What the sink has taken by the end of a command, from `before` to `now`, and why a fault came: the library's count of faults has risen, or the sink's.
 abbrev pub Reports : List RuleKind → List (List ℕ) → Option (List Held) → Option (List ℕ) → Option (List ℕ) → (LibraryRose SinkRose : Type 0) → Status → Type 0
 Reports kinds words files before now LibraryRose SinkRose Fault =
-    (LibraryRose × Adds before library_fault now) ⊎ (SinkRose × (front : List ℕ) × IsCutShort kinds words files front × Adds before front now)
+    (LibraryRose × Adds before library_fault now)
+    ⊎ (SinkRose × (front : List ℕ) × IsCutShort kinds words files LibraryRose front × Adds before front now)
 Reports kinds words files before now LibraryRose SinkRose NoMemory = now ≡ before
 Reports kinds words files before now LibraryRose SinkRose status = (text : List ℕ) × Ends kinds words files status text × Adds before text now
 
 -- an answer that isn't printed yet: how the command ends and its text
-abbrev pub IsAnswer : List RuleKind → List (List ℕ) → Option (List Held) → Answer → Type 0
+abbrev pub IsAnswer : List RuleKind → List (List ℕ) → Option (List Held) → CommandEnd → Type 0
 IsAnswer kinds words files (answer.Ends status text) = Ends kinds words files status text
 IsAnswer kinds words files answer.LibraryFailed = Unit {0}
 IsAnswer kinds words files answer.NoMemory = Unit {0}
 
 -- what a command answers for a text, where `Does` says what it does with what stands under a name
-abbrev pub IsAnswerFor : (Option (List ℕ) → Status → List ℕ → Type 0) → List ℕ → Answer → Type 0
+abbrev pub IsAnswerFor : (Option (List ℕ) → Status → List ℕ → Type 0) → List ℕ → CommandEnd → Type 0
 IsAnswerFor Does bytes (answer.Ends status text) = Does (Some bytes) status text
 IsAnswerFor Does bytes answer.LibraryFailed = ⊥
 IsAnswerFor Does bytes answer.NoMemory = Unit {0}
@@ -117,25 +121,25 @@ IsPut before now text status SinkRose result =
     ⊎ ((result ≡ Fault) × SinkRose × (front : List ℕ) × IsFront front text × Adds before front now)
 
 -- this text with this status, unless no memory was left
-abbrev pub IsTextOf : Status → List ℕ → Answer → Type 0
+abbrev pub IsTextOf : Status → List ℕ → CommandEnd → Type 0
 IsTextOf status text (answer.Ends ended found) = (ended ≡ status) × (found ≡ text)
 IsTextOf status text answer.LibraryFailed = ⊥
 IsTextOf status text answer.NoMemory = Unit {0}
 
 -- what a command answers for a name, where `Does` says what it does with what stands under it
-abbrev pub IsAnswerOf : (Option (List ℕ) → Status → List ℕ → Type 0) → Option (List Held) → List ℕ → Answer → Type 0
+abbrev pub IsAnswerOf : (Option (List ℕ) → Status → List ℕ → Type 0) → Option (List Held) → List ℕ → CommandEnd → Type 0
 IsAnswerOf Does files name (answer.Ends status text) = DoesWith Does files name status text
 IsAnswerOf Does files name answer.LibraryFailed = Unit {0}
 IsAnswerOf Does files name answer.NoMemory = Unit {0}
 
 -- the same where a word is to be the budget
-abbrev pub IsAnswerWithin : List RuleKind → Option (List Held) → List ℕ → List ℕ → Answer → Type 0
+abbrev pub IsAnswerWithin : List RuleKind → Option (List Held) → List ℕ → List ℕ → CommandEnd → Type 0
 IsAnswerWithin kinds files name word (answer.Ends status text) = VerifiesWithin kinds files name word status text
 IsAnswerWithin kinds files name word answer.LibraryFailed = Unit {0}
 IsAnswerWithin kinds files name word answer.NoMemory = Unit {0}
 
 -- the answer where no text was fetched: a refusal of what stands under the name before its bytes are looked at
-abbrev pub IsUnread : Option (List Held) → List ℕ → Answer → Type 0
+abbrev pub IsUnread : Option (List Held) → List ℕ → CommandEnd → Type 0
 IsUnread files name (answer.Ends status text) =
     (stored : Option (List ℕ)) × (r : Refusal) × Stands files name stored × RefusesUnread stored r × (status ≡ Refused) × (text ≡ refused_line r)
 IsUnread files name answer.LibraryFailed = Unit {0}

@@ -2,6 +2,8 @@
 use Rattle.std.specs.Prelude.{◌≡◌, ◌⊎◌, ℕ, ◌≤◌, ◌<◌, List, [], ◌∷◌, ◌++◌, length, codes, Option, Some, None}
 use Rattle.std.specs.Fmt.{decimal}
 use Rattle.ygg_base.specs.declared.failure.Refusal.{Refusal}
+use Rattle.ygg_base.specs.declared.reason.Reason.TheVariants as reason
+use Rattle.ygg_base.specs.Reason.{refusal_at}
 use Rattle.ygg_base.specs.declared.token.Token.{Token}
 use Rattle.ygg_base.specs.declared.tokens.Tokens.{Tokens}
 use Rattle.ygg_syntax.specs.declared.flag.FlagFile.{FlagFile}
@@ -33,14 +35,10 @@ pub record IsBuilt (bytes : List ℕ) (f : FlagFile) : Type 0 where
   pub accepted : IsAccepted bytes tokens layers
   pub flag : IsFlag tokens.items f
 
--- a refusal of this number at this line and column
-abbrev pub refusal : ℕ → ℕ → ℕ → Refusal
-refusal number line column = record { number = number; line = line; column = column }
-
 -- the refusal of tokens that are no flag file
 pub record IsNoFlag (tokens : List Token) (r : Refusal) : Type 0 where
   pub unbuilt : (f : FlagFile) → IsFlag tokens f → ⊥
-  pub at : r ≡ refusal 12 0 1
+  pub at : r ≡ refusal_at reason.NotBuilt 0 1
 
 -- the bytes are a layer file without a fault, which isn't built so far
 pub record IsUnbuilt (bytes : List ℕ) (r : Refusal) : Type 0 where
@@ -51,8 +49,8 @@ pub record IsUnbuilt (bytes : List ℕ) (r : Refusal) : Type 0 where
 
 -- a refusal of what stands under a name before its bytes are looked at: nothing stands there, or too many bytes
 abbrev pub RefusesUnread : Option (List ℕ) → Refusal → Type 0
-RefusesUnread None r = r ≡ refusal 73 0 1
-RefusesUnread (Some bytes) r = (most_bytes < length bytes) × (r ≡ refusal 11 0 1)
+RefusesUnread None r = r ≡ refusal_at reason.Absent 0 1
+RefusesUnread (Some bytes) r = (most_bytes < length bytes) × (r ≡ refusal_at reason.TooLarge 0 1)
 
 -- a refusal of the bytes that stand under a name
 abbrev pub RefusesRead : (List ℕ → Refusal → Type 0) → Option (List ℕ) → Refusal → Type 0

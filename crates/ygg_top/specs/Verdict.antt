@@ -6,13 +6,14 @@ use Rattle.ygg_base.specs.declared.status.Status.TheVariants.{Done, Refuted, Und
 use Rattle.ygg_syntax.specs.declared.flag.FlagFile.{FlagFile}
 use Rattle.ygg_syntax.specs.declared.tree.File.{File}
 use Rattle.ygg_rules.specs.declared.rule.RuleKind.{RuleKind}
-use Rattle.ygg_eval.specs.Machine.{State}
-use Rattle.ygg_eval.specs.Obligations.{Schedule, name_of}
-use Rattle.ygg_machine.specs.Stack.{BottomOf}
-use Rattle.ygg_machine.specs.History.{Entry, History, Allows}
-use Rattle.ygg_machine.specs.Claims.{Claim, ClaimHolds, ClaimViolated, claims_of}
+use Rattle.ygg_meaning.specs.Environments.{Env}
+use Rattle.ygg_meaning.specs.Machine.{State}
+use Rattle.ygg_meaning.specs.Obligations.{Schedule, name_of}
+use Rattle.ygg_histories.specs.Stack.{BottomOf}
+use Rattle.ygg_histories.specs.History.{Entry, History, Allows}
+use Rattle.ygg_histories.specs.Claims.{Claim, ClaimHolds, ClaimViolated, claims_of}
 use Rattle.ygg_flag.specs.Trees.{file_of}
-use Rattle.ygg_terms.specs.Outcomes.{IsSpent}
+use Rattle.ygg_flag_terms.specs.Outcomes.{IsSpent}
 
 -- text as a line
 abbrev pub line : List ℕ → List ℕ
@@ -88,7 +89,7 @@ line_by cs vs = if any_failed vs then first_refuted cs vs else if any_spent vs t
 
 -- the topmost specification allows every history of the file's bottom implementation on its disk
 abbrev pub HistoriesAllowed : File → Type 0
-HistoriesAllowed file = (entries : List Entry) (to : State) → History (BottomOf file) entries to → Allows file entries to
+HistoriesAllowed file = (entries : List Entry) (to : State Env) → History (BottomOf file) entries to → Allows file entries to
 
 -- How `verify` ends for a flag file within a budget, and its line: there is one list of verdicts, true for the budget, that determines both; and where the
 -- status is that all was done, so that every verdict is that an obligation holds, every history is allowed.

@@ -2,7 +2,7 @@ use ygg_base::{Status, Text};
 
 /// What a command has found, before anything of it is printed.
 #[derive(Drop)]
-pub enum Answer {
+pub enum CommandEnd {
     /// How the command ends, and what it prints.
     Ends(Status, Text),
     /// The library failed.

@@ -3,14 +3,14 @@ ghost use Rattle.ygg_base.specs.Outside.{Rose};
 ghost use Rattle.ygg_top.specs.Refusing.{most_bytes, refused_line as refusal_bytes};
 ghost use Rattle.ygg_top.specs.Ending.{Reports, IsPut, IsAnswer, IsAnswerFor, IsAnswerOf, IsAnswerWithin, IsTextOf, IsUnread, Prints, Stands, Verifies};
 
-use crate::answer::Answer;
+use crate::answer::CommandEnd;
 use crate::file::{file_of, printed};
 use crate::help::{HELP, VERSION};
-use crate::line::{refusal, refused_line};
+use crate::line::refused_line;
 use crate::verdict::verdict;
 use crate::words::{USUAL_BUDGET, budget, file_after, is_alone, with_budget_after};
 use std::alloc::Global;
-use ygg_base::{Fetch, Library, Moved, Refusal, Refuse, Sink, Status, Text};
+use ygg_base::{Fetch, Library, Moved, Reason, Refusal, Refuse, Sink, Status, Text};
 use ygg_rules::{Book, RuleBook};
 
 /// The most bytes of a layer file.
@@ -26,7 +26,8 @@ pub fn ygg<L: Library, K: Sink>(
     library: &mut L,
     sink: &mut K,
 ) -> Status
-    ensures told { Reports (⟦<RuleBook as Book>⟧.kinds rules.now) words.now (L.files library.old) (K.taken sink.old) (K.taken sink.new) (Rose (L.faults library.old) (L.faults library.new)) (Rose (K.faults sink.old) (K.faults sink.new)) result }
+    ensures told { Reports (⟦<RuleBook as Book>⟧.kinds rules.now) words.now (L.files library.old) (K.taken sink.old) (K.taken sink.new)
+        (Rose (L.faults library.old) (L.faults library.new)) (Rose (K.faults sink.old) (K.faults sink.new)) result }
     ensures kept { L.files library.new ≡ L.files library.old }
     ensures later_library { L.faults library.old ≤ L.faults library.new }
     ensures later_sink { K.faults sink.old ≤ K.faults sink.new }
@@ -42,15 +43,16 @@ fn run<B: Book, L: Library, K: Sink>(
     library: &mut L,
     sink: &mut K,
 ) -> Status
-    ensures told { Reports (B.kinds rules.now) words.now (L.files library.old) (K.taken sink.old) (K.taken sink.new) (Rose (L.faults library.old) (L.faults library.new)) (Rose (K.faults sink.old) (K.faults sink.new)) result }
+    ensures told { Reports (B.kinds rules.now) words.now (L.files library.old) (K.taken sink.old) (K.taken sink.new)
+        (Rose (L.faults library.old) (L.faults library.new)) (Rose (K.faults sink.old) (K.faults sink.new)) result }
     ensures kept { L.files library.new ≡ L.files library.old }
     ensures later_library { L.faults library.old ≤ L.faults library.new }
     ensures later_sink { K.faults sink.old ≤ K.faults sink.new }
 {
     match answer(alloc, words, rules, library) {
-        Answer::Ends(status, text) => put(sink, text.as_slice(), status),
-        Answer::LibraryFailed => put(sink, b"fault library\n", Status::Fault),
-        Answer::NoMemory => Status::NoMemory,
+        CommandEnd::Ends(status, text) => put(sink, text.as_slice(), status),
+        CommandEnd::LibraryFailed => put(sink, b"fault library\n", Status::Fault),
+        CommandEnd::NoMemory => Status::NoMemory,
     }
 }
 
@@ -66,9 +68,14 @@ fn put<K: Sink>(sink: &mut K, text: &[u8], status: Status) -> Status
 }
 
 /// What the words ask for, over the library.
-fn answer<B: Book, L: Library>(alloc: Global, words: &[Text], rules: &B, library: &mut L) -> Answer
+fn answer<B: Book, L: Library>(
+    alloc: Global,
+    words: &[Text],
+    rules: &B,
+    library: &mut L,
+) -> CommandEnd
     ensures told { IsAnswer (B.kinds rules.now) words.now (L.files library.old) result }
-    ensures cause { result ≡ Answer.LibraryFailed → Rose (L.faults library.old) (L.faults library.new) }
+    ensures cause { result ≡ CommandEnd.LibraryFailed → Rose (L.faults library.old) (L.faults library.new) }
     ensures kept { L.files library.new ≡ L.files library.old }
     ensures later { L.faults library.old ≤ L.faults library.new }
 {
@@ -87,43 +94,43 @@ fn answer<B: Book, L: Library>(alloc: Global, words: &[Text], rules: &B, library
     if let Some(name) = file_after(words, b"print") {
         return print(alloc, name, library);
     }
-    refused(alloc, refusal(71, 0, 0))
+    refused(alloc, Reason::Words.at(0, 0))
 }
 
 /// A text that is printed as it is.
-fn done(alloc: Global, text: &[u8]) -> Answer
+fn done(alloc: Global, text: &[u8]) -> CommandEnd
     ensures { IsTextOf Status.Done text.now result }
 {
     match Text::from_slice(alloc, text) {
-        Ok(text) => Answer::Ends(Status::Done, text),
-        Err(_) => Answer::NoMemory,
+        Ok(text) => CommandEnd::Ends(Status::Done, text),
+        Err(_) => CommandEnd::NoMemory,
     }
 }
 
 /// The answer that is a refusal.
-fn refused(alloc: Global, at: Refusal) -> Answer
+fn refused(alloc: Global, at: Refusal) -> CommandEnd
     ensures { IsTextOf Status.Refused (refusal_bytes at) result }
 {
     match refused_line(alloc, at) {
-        Ok(text) => Answer::Ends(Status::Refused, text),
-        Err(_) => Answer::NoMemory,
+        Ok(text) => CommandEnd::Ends(Status::Refused, text),
+        Err(_) => CommandEnd::NoMemory,
     }
 }
 
 /// The text that stands under the name, or the answer where none is fetched.
-fn fetched<L: Library>(alloc: Global, name: &Text, library: &mut L) -> Result<Text, Answer>
+fn fetched<L: Library>(alloc: Global, name: &Text, library: &mut L) -> Result<Text, CommandEnd>
     ensures found { IfOk result (λ text. (length text ≤ most_bytes) × Stands (L.files library.old) name.now (Some text)) }
     ensures unread { IfErr result (IsUnread (L.files library.old) name.now) }
-    ensures cause { result ≡ Err Answer.LibraryFailed → Rose (L.faults library.old) (L.faults library.new) }
+    ensures cause { result ≡ Err CommandEnd.LibraryFailed → Rose (L.faults library.old) (L.faults library.new) }
     ensures kept { L.files library.new ≡ L.files library.old }
     ensures later { L.faults library.old ≤ L.faults library.new }
 {
     match library.fetch(name, MOST_BYTES) {
         Fetch::Found(text) => Ok(text),
-        Fetch::Absent => Err(refused(alloc, refusal(73, 0, 1))),
-        Fetch::TooLarge => Err(refused(alloc, refusal(11, 0, 1))),
-        Fetch::Failed => Err(Answer::LibraryFailed),
-        Fetch::Memory => Err(Answer::NoMemory),
+        Fetch::Absent => Err(refused(alloc, Reason::Absent.at(0, 1))),
+        Fetch::TooLarge => Err(refused(alloc, Reason::TooLarge.at(0, 1))),
+        Fetch::Failed => Err(CommandEnd::LibraryFailed),
+        Fetch::Memory => Err(CommandEnd::NoMemory),
     }
 }
 
@@ -134,16 +141,16 @@ fn verify_within<B: Book, L: Library>(
     word: &Text,
     rules: &B,
     library: &mut L,
-) -> Answer
+) -> CommandEnd
     ensures told { IsAnswerWithin (B.kinds rules.now) (L.files library.old) name.now word.now result }
-    ensures cause { result ≡ Answer.LibraryFailed → Rose (L.faults library.old) (L.faults library.new) }
+    ensures cause { result ≡ CommandEnd.LibraryFailed → Rose (L.faults library.old) (L.faults library.new) }
     ensures kept { L.files library.new ≡ L.files library.old }
     ensures later { L.faults library.old ≤ L.faults library.new }
 {
     match budget(alloc, word.as_slice()) {
         Ok(Some(budget)) => verify(alloc, name, rules, budget, library),
-        Ok(None) => refused(alloc, refusal(72, 0, 2)),
-        Err(_) => Answer::NoMemory,
+        Ok(None) => refused(alloc, Reason::Number.at(0, 2)),
+        Err(_) => CommandEnd::NoMemory,
     }
 }
 
@@ -154,10 +161,10 @@ fn verify<B: Book, L: Library>(
     rules: &B,
     budget: u32,
     library: &mut L,
-) -> Answer
+) -> CommandEnd
     requires { 0 < budget }
     ensures told { IsAnswerOf (Verifies (B.kinds rules.now) budget) (L.files library.old) name.now result }
-    ensures cause { result ≡ Answer.LibraryFailed → Rose (L.faults library.old) (L.faults library.new) }
+    ensures cause { result ≡ CommandEnd.LibraryFailed → Rose (L.faults library.old) (L.faults library.new) }
     ensures kept { L.files library.new ≡ L.files library.old }
     ensures later { L.faults library.old ≤ L.faults library.new }
 {
@@ -168,9 +175,9 @@ fn verify<B: Book, L: Library>(
 }
 
 /// Fetches the file of that name and prints it in its canonical text.
-fn print<L: Library>(alloc: Global, name: &Text, library: &mut L) -> Answer
+fn print<L: Library>(alloc: Global, name: &Text, library: &mut L) -> CommandEnd
     ensures told { IsAnswerOf Prints (L.files library.old) name.now result }
-    ensures cause { result ≡ Answer.LibraryFailed → Rose (L.faults library.old) (L.faults library.new) }
+    ensures cause { result ≡ CommandEnd.LibraryFailed → Rose (L.faults library.old) (L.faults library.new) }
     ensures kept { L.files library.new ≡ L.files library.old }
     ensures later { L.faults library.old ≤ L.faults library.new }
 {
@@ -181,29 +188,29 @@ fn print<L: Library>(alloc: Global, name: &Text, library: &mut L) -> Answer
 }
 
 /// Verifies a layer file's text within a budget.
-fn verify_text<B: Book>(alloc: Global, rules: &B, budget: u32, text: &[u8]) -> Answer
+fn verify_text<B: Book>(alloc: Global, rules: &B, budget: u32, text: &[u8]) -> CommandEnd
     requires text { length text.now ≤ most_bytes }
     requires budget { 0 < budget }
     ensures { IsAnswerFor (Verifies (B.kinds rules.now) budget) text.now result }
 {
     match file_of(alloc, text) {
         Ok(file) => match verdict(alloc, rules, &file, budget) {
-            Ok((status, line)) => Answer::Ends(status, line),
-            Err(_) => Answer::NoMemory,
+            Ok((status, line)) => CommandEnd::Ends(status, line),
+            Err(_) => CommandEnd::NoMemory,
         },
         Err(Refuse::At(at)) => refused(alloc, at),
-        Err(Refuse::Memory) => Answer::NoMemory,
+        Err(Refuse::Memory) => CommandEnd::NoMemory,
     }
 }
 
 /// Prints a layer file's text in its canonical form.
-fn print_text(alloc: Global, text: &[u8]) -> Answer
+fn print_text(alloc: Global, text: &[u8]) -> CommandEnd
     requires { length text.now ≤ most_bytes }
     ensures { IsAnswerFor Prints text.now result }
 {
     match printed(alloc, text) {
-        Ok(canonical) => Answer::Ends(Status::Done, canonical),
+        Ok(canonical) => CommandEnd::Ends(Status::Done, canonical),
         Err(Refuse::At(at)) => refused(alloc, at),
-        Err(Refuse::Memory) => Answer::NoMemory,
+        Err(Refuse::Memory) => CommandEnd::NoMemory,
     }
 }

@@ -1,16 +1,17 @@
 ghost use Rattle.std.specs.Prelude.{◌≡◌, ◌≤◌, length, IfOk, IfErr, Some};
+ghost use Rattle.ygg_base.specs.declared.reason.Reason.TheVariants as reason;
 ghost use Rattle.ygg_base.specs.Failure.{IfRefused};
+ghost use Rattle.ygg_base.specs.Reason.{refusal_at};
 ghost use Rattle.ygg_accept.specs.Accepting.{RefusesLayers};
 ghost use Rattle.ygg_top.specs.Ending.{IsPrinted};
-ghost use Rattle.ygg_top.specs.Refusing.{IsBuilt, IsFlag, IsNoFlag, RefusesText, most_bytes, refusal as refusal_at};
+ghost use Rattle.ygg_top.specs.Refusing.{IsBuilt, IsFlag, IsNoFlag, RefusesText, most_bytes};
 
-use crate::line::refusal;
 use std::alloc::Global;
 use ygg_accept::accept;
-use ygg_base::{Refusal, Refuse, Text, Token};
-use ygg_canonical::print;
-use ygg_layout::tokens_are_marks;
-use ygg_read::{Unread, built};
+use ygg_base::{Reason, Refusal, Refuse, Text, Token};
+use ygg_flag_read::{Unread, built};
+use ygg_print::print;
+use ygg_print_layout::tokens_are_marks;
 use ygg_syntax::flag::FlagFile;
 
 /// The most tokens of a file that is built so far.
@@ -18,9 +19,9 @@ const MOST_TOKENS: usize = 4096;
 
 /// The refusal of every layer file that isn't built so far.
 fn not_built() -> Refusal
-    ensures { result ≡ refusal_at 12 0 1 }
+    ensures { result ≡ refusal_at reason.NotBuilt 0 1 }
 {
-    refusal(12, 0, 1)
+    Reason::NotBuilt.at(0, 1)
 }
 
 /// The flag file that the tokens are, where they are one. Else they are refused 12 at `0:1`.

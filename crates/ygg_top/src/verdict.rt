@@ -1,6 +1,6 @@
 ghost use Rattle.std.specs.Prelude.{◌≡◌, ◌<◌, IfOk};
 ghost use Rattle.ygg_syntax.specs.FlagNames.{FitsNames};
-ghost use Rattle.ygg_terms.specs.declared.deciding.Found.TheVariants as found;
+ghost use Rattle.ygg_flag_terms.specs.declared.deciding.Finding.TheVariants as found;
 ghost use Rattle.ygg_top.specs.Findings.{is_failed, is_spent};
 ghost use Rattle.ygg_top.specs.Verdict.{Verified};
 
@@ -8,29 +8,29 @@ use crate::line::{line_of, undecided_line, verified_line};
 use std::alloc::Global;
 use ygg_base::{NoMemory, Status, Text};
 use ygg_flag::law::{five_obligations, histories, idle_and_again};
+use ygg_flag_terms::{Finding, decide_obligations};
 use ygg_rules::Book;
 use ygg_syntax::flag::FlagFile;
-use ygg_terms::{Found, decide_obligations};
 
 /// How many obligations a file of one layer with one operation has.
 const OBLIGATIONS: usize = 5;
 
 /// Whether an obligation was found to fail.
-fn fails(found: Found) -> bool
+fn fails(found: Finding) -> bool
     ensures { result ≡ is_failed found }
 {
-    matches!(found, Found::Fails)
+    matches!(found, Finding::Fails)
 }
 
 /// Whether the budget was spent on an obligation.
-fn is_spent(found: Found) -> bool
+fn is_spent(found: Finding) -> bool
     ensures { result ≡ is_spent found }
 {
-    matches!(found, Found::Spent)
+    matches!(found, Finding::Spent)
 }
 
 /// How `verify` ends for a flag file within a budget, and its line: the first obligation that fails is named. The rules only make
-/// the obligations' terms smaller. That `idle` and `again` hold is proved of every flag file. Its only error is want of memory.
+/// the obligations' terms smaller. That `idle` and `again` hold is proved of every flag file. Its only error is out of memory.
 pub fn verdict<B: Book>(
     alloc: Global,
     rules: &B,

@@ -68,7 +68,7 @@ fn number_in(word: &[u8]) -> Option<u32>
 }
 
 /// The budget that a word is: a number from 1 to 10,000,000 in decimal digits, without a sign or a leading zero. Its only error
-/// is want of memory.
+/// is out of memory.
 pub fn budget(alloc: Global, word: &[u8]) -> Result<Option<u32>, NoMemory>
     ensures { IfOk result (λ found. MatchOption found (IsNoBudget word.now) (IsBudget word.now)) }
 {

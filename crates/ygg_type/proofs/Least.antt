@@ -1,38 +1,62 @@
--- The first fault that is found is the least one.
-use Rattle.std.proofs.Common.{◌≡◌, ◌<◌, Bool, true, false, cond, arith, List, [], ◌∷◌, ◌++◌, Option, Some, None, Contains, refl, sym, ap, ◌∙◌, subst, ◌⊎◌, inl, inr}
+-- The first type error that is found is the least one.
+use Rattle.std.proofs.Common.{
+  ◌≡◌,
+  ◌<◌,
+  Bool,
+  true,
+  false,
+  cond,
+  arith,
+  List,
+  [],
+  ◌∷◌,
+  ◌++◌,
+  Option,
+  Some,
+  None,
+  Contains,
+  refl,
+  sym,
+  ap,
+  ◌∙◌,
+  subst,
+  ◌⊎◌,
+  inl,
+  inr,
+}
 use Rattle.std.specs.Prelude.{◌&&◌}
 use Rattle.std.proofs.lemmas.Bool.Decides.{nat_tests}
 use Rattle.std.proofs.lemmas.List.Elements.{Contains-append_left, Contains-append_right, Contains-append_cases, Contains-push, Contains-push_cases}
-use Rattle.ygg_fault.specs.declared.fault.Fault.{Fault}
-use Rattle.ygg_fault.specs.Faults.{Faults, nothing, one, both, listed, none, first_after, earlier, comes_before, IsLeast}
+use Rattle.ygg_type_rules.specs.declared.type_error.TypeError.{TypeError}
+use Rattle.ygg_type_rules.specs.TypeErrors.{TypeErrors, nothing, one, both, listed, none, first_after, earlier, comes_before, IsLeast}
 
-before_not : (a b c : Fault) → comes_before a b ≡ false → comes_before b c ≡ false → comes_before a c ≡ false
+before_not : (a b c : TypeError) → comes_before a b ≡ false → comes_before b c ≡ false → comes_before a c ≡ false
 before_not a b c h g = grind (arith, nat_tests)
 
-never_before : (a : Fault) → comes_before a a ≡ false
+never_before : (a : TypeError) → comes_before a a ≡ false
 never_before a = grind (arith, nat_tests)
 
-not_after : (a b : Fault) → comes_before a b ≡ true → comes_before b a ≡ false
+not_after : (a b : TypeError) → comes_before a b ≡ true → comes_before b a ≡ false
 not_after a b h = grind (arith, nat_tests)
 
-none_in : (f : Fault) → Contains [] f → ⊥
+none_in : (f : TypeError) → Contains [] f → ⊥
 none_in f h = let k : h.0 < 0 = h.1 in omega arith
 
--- of one fault
-only : (x f : Fault) → Contains (x ∷ []) f → x ≡ f
+-- of one type error
+only : (x f : TypeError) → Contains (x ∷ []) f → x ≡ f
 only x f h = elim (Contains-push_cases [] x f h) [ inl p ↦ absurd (none_in f p) | inr e ↦ e ]
 
--- what is found from a fault, if there is one, and a list on
-record Found (found : Option Fault) (fs : List Fault) (f : Fault) : Type 0 where
+-- what is found from a type error, if there is one, and a list on
+record Found (found : Option TypeError) (fs : List TypeError) (f : TypeError) : Type 0 where
   pub where_from : Contains fs f ⊎ (found ≡ Some f)
-  pub least : (g : Fault) → Contains fs g → comes_before g f ≡ false
-  pub before : (g : Fault) → found ≡ Some g → comes_before g f ≡ false
+  pub least : (g : TypeError) → Contains fs g → comes_before g f ≡ false
+  pub before : (g : TypeError) → found ≡ Some g → comes_before g f ≡ false
 
-some_is : {a b : Fault} → Some a ≡ Some b → a ≡ b
+some_is : {a b : TypeError} → Some a ≡ Some b → a ≡ b
 some_is h = cc
 
 -- nothing is found where there is nothing
-pub stays : (found : Option Fault) (fs : Faults) → first_after found fs ≡ None → (found ≡ None) × (listed fs ≡ []) × (none fs ≡ true)
+pub stays : (found : Option TypeError) (fs : TypeErrors) → first_after found fs ≡ None → (found ≡ None) × (listed fs ≡ []) × (none fs ≡ true)
 stays found nothing h = (h, refl, refl)
 stays None (one x) h = absurd (cc)
 stays (Some y) (one x) h = cases (comes_before x y) h
@@ -45,8 +69,8 @@ stays found (both fs gs) h =
     let first = stays found fs second.0 in
     (first.0, ap (λ xs. xs ++ listed gs) first.1 ∙ second.1, ap (λ b. b && none gs) first.2 ∙ second.2)
 
--- the earlier one of two faults
-of_two : (x y f : Fault) → earlier (Some y) x ≡ Some f → Found (Some y) (x ∷ []) f
+-- the earlier one of two type errors
+of_two : (x y f : TypeError) → earlier (Some y) x ≡ Some f → Found (Some y) (x ∷ []) f
 of_two x y f h = cases (comes_before x y) refl h
   where
     cases : (b : Bool) → comes_before x y ≡ b → cond b (Some x) (Some y) ≡ Some f → Found (Some y) (x ∷ []) f
@@ -66,11 +90,12 @@ of_two x y f h = cases (comes_before x y) refl h
         }
 
 -- what is found in the second of two lists, after the first
-joined : (found middle : Option Fault) (xs ys : List Fault) (f : Fault) → ((m : Fault) → middle ≡ Some m → Found found xs m) → (middle ≡ None → (found ≡ None) × (xs ≡ [])) → Found middle ys f
+joined : (found middle : Option TypeError) (xs ys : List TypeError) (f : TypeError) → ((m : TypeError) → middle ≡ Some m → Found found xs m) →
+    (middle ≡ None → (found ≡ None) × (xs ≡ [])) → Found middle ys f
     → Found found (xs ++ ys) f
 joined found (Some m) xs ys f first none second =
     let r = first m refl in
-    let after : (g : Fault) → comes_before g m ≡ false → comes_before g f ≡ false = λ g h. before_not g m f h (second.before m refl) in
+    let after : (g : TypeError) → comes_before g m ≡ false → comes_before g f ≡ false = λ g h. before_not g m f h (second.before m refl) in
     record {
       where_from = elim second.where_from [
         | inl p ↦ inl (Contains-append_right xs ys f p)
@@ -93,7 +118,7 @@ joined found None xs ys f first none second =
       before = λ g h. absurd (cc (gone.0));
     }
 
-of_found : (found : Option Fault) (fs : Faults) (f : Fault) → first_after found fs ≡ Some f → Found found (listed fs) f
+of_found : (found : Option TypeError) (fs : TypeErrors) (f : TypeError) → first_after found fs ≡ Some f → Found found (listed fs) f
 of_found found nothing f h = record {
   where_from = inr h;
   least = λ g m. absurd (none_in g m);
@@ -106,19 +131,20 @@ of_found None (one x) f h = record {
 }
 of_found (Some y) (one x) f h = of_two x y f h
 of_found found (both fs gs) f h =
-    joined found (first_after found fs) (listed fs) (listed gs) f (λ m e. of_found found fs m e) (λ e. let h = stays found fs e in (h.0, h.1)) (of_found (first_after found fs) gs f h)
+    joined found (first_after found fs) (listed fs) (listed gs) f (λ m e. of_found found fs m e) (λ e. let h = stays found fs e in (h.0, h.1))
+    (of_found (first_after found fs) gs f h)
 
--- where a fault was found it is the least of all
-pub is_least : (fs : Faults) (f : Fault) → first_after None fs ≡ Some f → IsLeast f (listed fs)
+-- where a type error was found it is the least of all
+pub is_least : (fs : TypeErrors) (f : TypeError) → first_after None fs ≡ Some f → IsLeast f (listed fs)
 is_least fs f h =
     let r = of_found None fs f h in
     record { in_list = elim r.where_from [ inl p ↦ p | inr p ↦ absurd (cc) ]; least = r.least }
 
 -- where none was found there is none
-pub is_none : (fs : Faults) → first_after None fs ≡ None → listed fs ≡ []
+pub is_none : (fs : TypeErrors) → first_after None fs ≡ None → listed fs ≡ []
 is_none fs h = (stays None fs h).1
 
-pub is_clear : (fs : Faults) → first_after None fs ≡ None → none fs ≡ true
+pub is_clear : (fs : TypeErrors) → first_after None fs ≡ None → none fs ≡ true
 is_clear fs h = (stays None fs h).2
 
 pub and_left : (a b : Bool) → (a && b) ≡ true → a ≡ true
@@ -129,8 +155,8 @@ pub and_right : (a b : Bool) → (a && b) ≡ true → b ≡ true
 and_right true b h = h
 and_right false b h = absurd (cc)
 
--- no fault is in the list where the test says so
-pub is_empty : (fs : Faults) → none fs ≡ true → listed fs ≡ []
+-- no type error is in the list where the test says so
+pub is_empty : (fs : TypeErrors) → none fs ≡ true → listed fs ≡ []
 is_empty nothing h = refl
 is_empty (one f) h = absurd (cc)
 is_empty (both fs gs) h = ap (λ xs. xs ++ listed gs) (is_empty fs (and_left (none fs) (none gs) h)) ∙ is_empty gs (and_right (none fs) (none gs) h)

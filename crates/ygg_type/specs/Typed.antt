@@ -1,39 +1,26 @@
--- Files without a fault, and the refusal of the others.
+-- Files without a type error, and the refusal of the others.
 use Rattle.std.specs.Prelude.{◌≡◌, ℕ, ◌<◌, ◌+◌, ◌^◌, nat_le, Bool, ◌&&◌, if◌then◌else◌, List, [], ◌∷◌, length, slice_get, Option, Some, None}
 use Rattle.std.specs.Str.{bytes_eq}
 use Rattle.ygg_base.specs.declared.failure.Refusal.{Refusal}
-use Rattle.ygg_base.specs.declared.token.Token.{Token}
-use Rattle.ygg_geometry.specs.declared.DiskKind as geometry
-use Rattle.ygg_geometry.specs.declared.DiskKind.TheVariants as kinds
-use Rattle.ygg_geometry.specs.declared.Geometry.{Geometry}
-use Rattle.ygg_syntax.specs.declared.tree.DiskKind.{DiskKind}
-use Rattle.ygg_syntax.specs.declared.tree.DiskKind.TheVariants as disk
+use Rattle.ygg_base.specs.Reason.{refusal_at}
+use Rattle.ygg_base.specs.declared.geometry.Geometry.{Geometry}
 use Rattle.ygg_syntax.specs.declared.tree.DiskText.{DiskText}
 use Rattle.ygg_syntax.specs.declared.tree.Operation.{Operation}
 use Rattle.ygg_syntax.specs.declared.tree.Tick.{Tick}
 use Rattle.ygg_syntax.specs.declared.tree.Layer.{Layer}
 use Rattle.ygg_syntax.specs.declared.tree.File.{File}
-use Rattle.ygg_syntax.specs.Files.{Derives}
-use Rattle.ygg_fault.specs.declared.fault.Fault.{Fault}
-use Rattle.ygg_fault.specs.Faults.{IsLeast, listed}
-use Rattle.ygg_fault.specs.Files.{faults_of}
+use Rattle.ygg_type_rules.specs.declared.type_error.TypeError.{TypeError}
+use Rattle.ygg_type_rules.specs.TypeErrors.{IsLeast, listed}
+use Rattle.ygg_type_rules.specs.Files.{type_errors_of}
 
--- some list of fewer than 2 ^ 32 tokens derives the file
-abbrev pub IsDerivable : File → Type 0
-IsDerivable file = (tokens : List Token) × (length tokens < 2 ^ 32) × Derives tokens file
-
--- the refusal of a file: its least fault
-abbrev pub IsFirstFault : File → Refusal → Type 0
-IsFirstFault file r = (f : Fault) × IsLeast f (listed (faults_of file)) × (r ≡ record { number = f.number; line = f.place.line; column = f.place.column })
-
--- the kind of a disk, without its place in a file
-abbrev pub kind_of : DiskKind → geometry.DiskKind
-kind_of disk.Sync = kinds.Sync
-kind_of disk.Async = kinds.Async
+-- the refusal of a file: its least type error
+abbrev pub IsFirstTypeError : File → Refusal → Type 0
+IsFirstTypeError file r = (f : TypeError) × IsLeast f (listed (type_errors_of file))
+    × (r ≡ refusal_at f.reason f.place.line f.place.column)
 
 -- the kind of a disk and its size
 abbrev pub geometry_of : DiskText → Geometry
-geometry_of d = record { kind = kind_of d.kind; rows = d.rows.value; words = d.words.value; width = d.width.value }
+geometry_of d = record { kind = d.kind; rows = d.rows.value; words = d.words.value; width = d.width.value }
 
 -- the operations of the layer at a place, from the bottom one on
 abbrev pub operations_at : List Layer → ℕ → List Operation

@@ -1,31 +1,34 @@
 //! What declarations have in common.
 
 ghost use Rattle.std.specs.Prelude.{◌≡◌, OnOk};
-ghost use Rattle.ygg_count.specs.Weights.{weights_of, expr_weight, block_weight};
-ghost use Rattle.ygg_fault.specs.Faults.{first_after};
-ghost use Rattle.ygg_fault.specs.Scopes.{seen_as};
-ghost use Rattle.ygg_fault.specs.Definitions.{parameters_faults, with_parameters, claim_faults};
-ghost use Rattle.ygg_fault.specs.Layers.{view_faults, formula_faults};
-ghost use Rattle.ygg_scope.specs.Checking.{scope_of};
+ghost use Rattle.ygg_syntax_count.specs.Weights.{weights_of, expr_weight, block_weight};
+ghost use Rattle.ygg_type_rules.specs.TypeErrors.{first_after};
+ghost use Rattle.ygg_type_rules.specs.Scopes.{seen_as};
+ghost use Rattle.ygg_type_rules.specs.Definitions.{parameters_errors, with_parameters, claim_errors};
+ghost use Rattle.ygg_type_rules.specs.Layers.{view_errors, formula_errors};
+ghost use Rattle.ygg_type_scope.specs.Checking.{scope_of};
 
-use ygg_body::body;
-use ygg_fault::View;
+use ygg_base::Reason;
 use ygg_list::NoMemory;
-use ygg_scope::checker::Checker;
-use ygg_scope::shapes;
 use ygg_syntax::tree::{Block, Declared, Expr};
+use ygg_syntax_weigh::Weights;
+use ygg_type_body::body;
+use ygg_type_rules::Visibility;
+use ygg_type_scope::checker::Typer;
+use ygg_type_scope::shapes;
 use ygg_value::Shape;
-use ygg_weigh::Weights;
 
 /// Parameters or arguments, whose names stay in scope.
-pub fn parameters<'a>(checker: &mut Checker<'a>, all: &'a [Declared]) -> Result<(), NoMemory>
-    ensures first { OnOk result (checker.new.first.fault ≡ first_after checker.old.first.fault (parameters_faults all.now (scope_of checker.old))) }
+pub fn parameters<'a>(checker: &mut Typer<'a>, all: &'a [Declared]) -> Result<(), NoMemory>
+    ensures first { OnOk result (checker.new.first.type_error ≡ first_after checker.old.first.type_error (parameters_errors all.now (scope_of checker.old))) }
     ensures scope { OnOk result (scope_of checker.new ≡ with_parameters all.now (scope_of checker.old)) }
 {
     for parameter in all {
         let name = parameter.name.text.as_slice();
         let taken = checker.is_taken(name);
-        checker.first.check(!taken, 5, parameter.name.place);
+        checker
+            .first
+            .check(!taken, Reason::Twice, parameter.name.place);
         checker.first.type_text(parameter.shape);
         checker.add_local(name, shapes::named(parameter.shape), false)?;
     }
@@ -35,13 +38,14 @@ pub fn parameters<'a>(checker: &mut Checker<'a>, all: &'a [Declared]) -> Result<
 /// A block that stands in no other, with this view of its layer, and with an answer of this shape where one is wanted.
 #[tactic(auto, using(crate::proofs::Weighed::weighed_body))]
 pub fn viewed<'a>(
-    checker: &mut Checker<'a>,
+    checker: &mut Typer<'a>,
     weights: &Weights,
-    view: View,
+    view: Visibility,
     b: &'a Block,
     shape: Option<Shape>,
 ) -> Result<(), NoMemory>
-    ensures first { OnOk result (checker.new.first.fault ≡ first_after checker.old.first.fault (view_faults view b.now shape (weights_of weights.now) (scope_of checker.old))) }
+    ensures first { OnOk result (checker.new.first.type_error ≡ first_after checker.old.first.type_error
+        (view_errors view b.now shape (weights_of weights.now) (scope_of checker.old))) }
     ensures same { OnOk result (scope_of checker.new ≡ scope_of checker.old) }
 {
     let before = checker.view;
@@ -54,12 +58,13 @@ pub fn viewed<'a>(
 /// An expression of a layer with this view of it, which is to be a word of width 1.
 #[tactic(auto, using(crate::proofs::Weighed::weighed_claim))]
 pub fn formula<'a>(
-    checker: &mut Checker<'a>,
+    checker: &mut Typer<'a>,
     weights: &Weights,
-    view: View,
+    view: Visibility,
     e: &'a Expr,
 ) -> Result<(), NoMemory>
-    ensures first { OnOk result (checker.new.first.fault ≡ first_after checker.old.first.fault (formula_faults view e.now (weights_of weights.now) (scope_of checker.old))) }
+    ensures first { OnOk result (checker.new.first.type_error ≡ first_after checker.old.first.type_error
+        (formula_errors view e.now (weights_of weights.now) (scope_of checker.old))) }
     ensures same { OnOk result (scope_of checker.new ≡ scope_of checker.old) }
 {
     let before = checker.view;

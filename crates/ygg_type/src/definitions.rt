@@ -1,32 +1,34 @@
 //! Typing of definitions.
 
 ghost use Rattle.std.specs.Prelude.{◌≡◌, ◌++◌, ◌∷◌, [], OnOk};
-ghost use Rattle.ygg_count.specs.Weights.{weights_of, expr_weight};
-ghost use Rattle.ygg_fault.specs.Faults.{first_after};
-ghost use Rattle.ygg_fault.specs.Definitions.{definition_faults, definitions_faults, definition_scope, with_definition, with_definitions, with_parameters};
-ghost use Rattle.ygg_scope.specs.Checking.{scope_of};
+ghost use Rattle.ygg_syntax_count.specs.Weights.{weights_of, expr_weight};
+ghost use Rattle.ygg_type_rules.specs.TypeErrors.{first_after};
+ghost use Rattle.ygg_type_rules.specs.Definitions.{definition_errors, definitions_errors, definition_scope, with_definition, with_definitions, with_parameters};
+ghost use Rattle.ygg_type_scope.specs.Checking.{scope_of};
 
 use crate::declarations::parameters;
-use ygg_fault::Signature;
+use ygg_base::Reason;
 use ygg_list::NoMemory;
-use ygg_scope::checker::Checker;
-use ygg_scope::shapes;
 use ygg_syntax::tree::Def;
-use ygg_weigh::Weights;
+use ygg_syntax_weigh::Weights;
+use ygg_type_rules::Signature;
+use ygg_type_scope::checker::Typer;
+use ygg_type_scope::shapes;
 
-/// The faults of a definition, whose parameters stay in scope.
-fn faults<'a>(
-    checker: &mut Checker<'a>,
+/// The type errors of a definition, whose parameters stay in scope.
+fn type_errors<'a>(
+    checker: &mut Typer<'a>,
     weights: &mut Weights<'a>,
     def: &'a Def,
 ) -> Result<(), NoMemory>
     requires { scope_of checker.old ≡ definition_scope checker.old.defs }
-    ensures first { OnOk result (checker.new.first.fault ≡ first_after checker.old.first.fault (definition_faults def.now (expr_weight (weights_of weights.old) def.now.body) checker.old.defs)) }
+    ensures first { OnOk result (checker.new.first.type_error ≡ first_after checker.old.first.type_error
+        (definition_errors def.now (expr_weight (weights_of weights.old) def.now.body) checker.old.defs)) }
     ensures scope { OnOk result (scope_of checker.new ≡ with_parameters def.now.parameters (scope_of checker.old)) }
     ensures weights { OnOk result (weights.new ≡ weights.old ++ def.now ∷ []) }
 {
     let taken = checker.defs.has(def.name.text.as_slice());
-    checker.first.check(!taken, 5, def.name.place);
+    checker.first.check(!taken, Reason::Twice, def.name.place);
     parameters(checker, def.parameters.as_slice())?;
     checker.first.type_text(def.shape);
     let weight = weights.define(def)?;
@@ -35,7 +37,7 @@ fn faults<'a>(
 }
 
 /// Makes a definition known to those after it, and forgets its parameters.
-fn define<'a>(checker: &mut Checker<'a>, def: &'a Def) -> Result<(), NoMemory>
+fn define<'a>(checker: &mut Typer<'a>, def: &'a Def) -> Result<(), NoMemory>
     ensures first { OnOk result (checker.new.first ≡ checker.old.first) }
     ensures scope { OnOk result (scope_of checker.new ≡ record (scope_of checker.old) { defs = with_definition def.now checker.old.defs; locals = [] }) }
 {
@@ -54,28 +56,30 @@ fn define<'a>(checker: &mut Checker<'a>, def: &'a Def) -> Result<(), NoMemory>
 
 /// One more definition.
 fn next<'a>(
-    checker: &mut Checker<'a>,
+    checker: &mut Typer<'a>,
     weights: &mut Weights<'a>,
     def: &'a Def,
 ) -> Result<(), NoMemory>
     requires { scope_of checker.old ≡ definition_scope checker.old.defs }
-    ensures first { OnOk result (checker.new.first.fault ≡ first_after checker.old.first.fault (definition_faults def.now (expr_weight (weights_of weights.old) def.now.body) checker.old.defs)) }
+    ensures first { OnOk result (checker.new.first.type_error ≡ first_after checker.old.first.type_error
+        (definition_errors def.now (expr_weight (weights_of weights.old) def.now.body) checker.old.defs)) }
     ensures scope { OnOk result (scope_of checker.new ≡ definition_scope (with_definition def.now checker.old.defs)) }
     ensures weights { OnOk result (weights.new ≡ weights.old ++ def.now ∷ []) }
 {
-    faults(checker, weights, def)?;
+    type_errors(checker, weights, def)?;
     define(checker, def)?;
     Ok(())
 }
 
 /// Definitions in order, after those that the checker and the table of weights have.
 pub fn definitions<'a>(
-    checker: &mut Checker<'a>,
+    checker: &mut Typer<'a>,
     weights: &mut Weights<'a>,
     defs: &'a [Def],
 ) -> Result<(), NoMemory>
     requires { scope_of checker.old ≡ definition_scope checker.old.defs }
-    ensures first { OnOk result (checker.new.first.fault ≡ first_after checker.old.first.fault (definitions_faults defs.now weights.old checker.old.defs)) }
+    ensures first { OnOk result (checker.new.first.type_error ≡ first_after checker.old.first.type_error
+        (definitions_errors defs.now weights.old checker.old.defs)) }
     ensures scope { OnOk result (scope_of checker.new ≡ definition_scope (with_definitions defs.now checker.old.defs)) }
     ensures weights { OnOk result (weights.new ≡ weights.old ++ defs.now) }
 {

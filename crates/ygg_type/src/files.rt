@@ -1,28 +1,38 @@
 //! Typing of files.
 
 ghost use Rattle.std.specs.Prelude.{◌≡◌, [], OnOk, IfOk, None};
-ghost use Rattle.ygg_count.specs.Weights.{weights_of};
-ghost use Rattle.ygg_names.specs.Names.{added};
-ghost use Rattle.ygg_fault.specs.Faults.{first_after, both};
-ghost use Rattle.ygg_fault.specs.Definitions.{with_definitions, definitions_faults, definition_scope};
-ghost use Rattle.ygg_fault.specs.Layers.{below_of};
-ghost use Rattle.ygg_fault.specs.Files.{disk_faults, disk_operations as operations_of_disk, disk_variables as variables_of_disk, layer_faults, count_fault, layers_faults, disk_below, faults_of};
-ghost use Rattle.ygg_scope.specs.Checking.{scope_of};
+ghost use Rattle.ygg_syntax_count.specs.Weights.{weights_of};
+ghost use Rattle.ygg_symbols.specs.Names.{added};
+ghost use Rattle.ygg_type_rules.specs.TypeErrors.{first_after, both};
+ghost use Rattle.ygg_type_rules.specs.Definitions.{with_definitions, definitions_errors, definition_scope};
+ghost use Rattle.ygg_type_rules.specs.Layers.{below_of};
+ghost use Rattle.ygg_type_rules.specs.Files.{
+  disk_errors,
+  disk_operations as operations_of_disk,
+  disk_variables as variables_of_disk,
+  layer_errors,
+  count_error,
+  layers_errors,
+  disk_below,
+  type_errors_of,
+};
+ghost use Rattle.ygg_type_scope.specs.Checking.{scope_of};
 ghost use Rattle.ygg_type.specs.Ready.{IsReady, below_in};
 
 use crate::definitions::definitions;
 use crate::layers::parts;
 use std::alloc::Global;
 use std::mem;
-use ygg_fault::{Fault, Kind, Signature, Variable, View};
+use ygg_base::{DiskKind, Reason};
 use ygg_list::{NoMemory, Sequence};
-use ygg_names::Names;
-use ygg_scope::checker::Checker;
-use ygg_scope::first::First;
-use ygg_scope::shapes;
-use ygg_syntax::tree::{DiskKind, DiskText, File, Layer, TypeText};
+use ygg_symbols::Names;
+use ygg_syntax::tree::{DiskText, File, Layer, TypeText};
+use ygg_syntax_weigh::Weights;
+use ygg_type_rules::{Owner, Signature, TypeError, Variable, Visibility};
+use ygg_type_scope::checker::Typer;
+use ygg_type_scope::first::First;
+use ygg_type_scope::shapes;
 use ygg_value::Shape;
-use ygg_weigh::Weights;
 
 /// Adds an operation of a disk.
 fn add_disk_operation<'a>(
@@ -65,7 +75,7 @@ fn disk_variables<'a>(alloc: Global, disk: DiskText) -> Result<Names<'a, Variabl
     ensures { IfOk result (λ known. known ≡ variables_of_disk disk) }
 {
     let table = Variable {
-        kind: Kind::State,
+        kind: Owner::State,
         shape: shapes::table(disk.rows.value, disk.words.value, disk.width.value),
     };
     let mut known = Names::new(alloc);
@@ -81,7 +91,7 @@ fn disk_variables<'a>(alloc: Global, disk: DiskText) -> Result<Names<'a, Variabl
 
 /// Makes these operations and variables those of the machine below.
 fn set_below<'a>(
-    checker: &mut Checker<'a>,
+    checker: &mut Typer<'a>,
     operations: Names<'a, Signature>,
     variables: Names<'a, Variable>,
 )
@@ -94,14 +104,15 @@ fn set_below<'a>(
 
 /// A layer after so many layers of these names. It becomes the machine below.
 fn layer<'a>(
-    checker: &mut Checker<'a>,
+    checker: &mut Typer<'a>,
     weights: &Weights,
     names: &mut Names<'a, ()>,
     before: usize,
     layer: &'a Layer,
 ) -> Result<(), NoMemory>
     requires { IsReady (scope_of checker.old) }
-    ensures first { OnOk result (checker.new.first.fault ≡ first_after checker.old.first.fault (both (count_fault before layer.now) (layer_faults layer.now names.old checker.old.defs (below_in (scope_of checker.old)) (weights_of weights.now)))) }
+    ensures first { OnOk result (checker.new.first.type_error ≡ first_after checker.old.first.type_error
+        (both (count_error before layer.now) (layer_errors layer.now names.old checker.old.defs (below_in (scope_of checker.old)) (weights_of weights.now)))) }
     ensures names { OnOk result (names.new ≡ added layer.now.name.text tt names.old) }
     ensures ready { OnOk result (IsReady (scope_of checker.new)) }
     ensures below { OnOk result (below_in (scope_of checker.new) ≡ below_of layer.now) }
@@ -109,8 +120,8 @@ fn layer<'a>(
 {
     let name = layer.name.text.as_slice();
     let taken = names.has(name);
-    checker.first.check(before != 8, 8, layer.place);
-    checker.first.check(!taken, 5, layer.name.place);
+    checker.first.check(before != 8, Reason::Limit, layer.place);
+    checker.first.check(!taken, Reason::Twice, layer.name.place);
     let operations = parts(checker, weights, layer)?;
     names.add(name, ())?;
     let none = Names::new(checker.alloc);
@@ -120,13 +131,10 @@ fn layer<'a>(
 }
 
 /// The layers of a file, on the machine below the first one.
-fn layers<'a>(
-    checker: &mut Checker<'a>,
-    weights: &Weights,
-    all: &'a [Layer],
-) -> Result<(), NoMemory>
+fn layers<'a>(checker: &mut Typer<'a>, weights: &Weights, all: &'a [Layer]) -> Result<(), NoMemory>
     requires { IsReady (scope_of checker.old) }
-    ensures { OnOk result (checker.new.first.fault ≡ first_after checker.old.first.fault (layers_faults all.now 0 [] checker.old.defs (below_in (scope_of checker.old)) (weights_of weights.now))) }
+    ensures { OnOk result (checker.new.first.type_error ≡ first_after checker.old.first.type_error
+        (layers_errors all.now 0 [] checker.old.defs (below_in (scope_of checker.old)) (weights_of weights.now))) }
 {
     let mut names = Names::new(checker.alloc);
     for (before, one) in all.iter().enumerate() {
@@ -136,31 +144,32 @@ fn layers<'a>(
 }
 
 /// A checker with nothing in scope.
-fn empty<'a>(alloc: Global) -> Checker<'a>
+fn empty<'a>(alloc: Global) -> Typer<'a>
     ensures scope { scope_of result ≡ definition_scope [] }
-    ensures first { result.first.fault ≡ None }
+    ensures first { result.first.type_error ≡ None }
 {
-    Checker {
+    Typer {
         alloc,
         defs: Names::new(alloc),
         lower: Names::new(alloc),
         low: Names::new(alloc),
         variables: Names::new(alloc),
-        view: View::Definition,
+        view: Visibility::Definition,
         locals: Names::new(alloc),
-        first: First { fault: None },
+        first: First { type_error: None },
     }
 }
 
 /// The disk of a file, and its definitions: after them the disk is the machine below.
 fn beginning<'a>(
-    checker: &mut Checker<'a>,
+    checker: &mut Typer<'a>,
     weights: &mut Weights<'a>,
     file: &'a File,
 ) -> Result<(), NoMemory>
     requires scope { scope_of checker.old ≡ definition_scope [] }
     requires weights { weights.old ≡ [] }
-    ensures first { OnOk result (checker.new.first.fault ≡ first_after checker.old.first.fault (both (disk_faults file.now.disk) (definitions_faults file.now.defs [] []))) }
+    ensures first { OnOk result (checker.new.first.type_error ≡ first_after checker.old.first.type_error
+        (both (disk_errors file.now.disk) (definitions_errors file.now.defs [] []))) }
     ensures ready { OnOk result (IsReady (scope_of checker.new)) }
     ensures defs { OnOk result (checker.new.defs ≡ with_definitions file.now.defs []) }
     ensures below { OnOk result (below_in (scope_of checker.new) ≡ disk_below file.now.disk) }
@@ -174,17 +183,17 @@ fn beginning<'a>(
     let operations = disk_operations(checker.alloc, disk)?;
     let variables = disk_variables(checker.alloc, disk)?;
     set_below(checker, operations, variables);
-    checker.view = View::Settled;
+    checker.view = Visibility::Settled;
     Ok(())
 }
 
-/// The first fault of a file, if there is one. Its only error is want of memory.
-pub fn first_fault(alloc: Global, file: &File) -> Result<Option<Fault>, NoMemory>
-    ensures { IfOk result (λ found. found ≡ first_after None (faults_of file.now)) }
+/// The first type error of a file, if there is one. Its only error is out of memory.
+pub fn first_type_error(alloc: Global, file: &File) -> Result<Option<TypeError>, NoMemory>
+    ensures { IfOk result (λ found. found ≡ first_after None (type_errors_of file.now)) }
 {
     let mut checker = empty(alloc);
     let mut weights = Weights::new(alloc);
     beginning(&mut checker, &mut weights, file)?;
     layers(&mut checker, &weights, file.layers.as_slice())?;
-    Ok(checker.first.fault)
+    Ok(checker.first.type_error)
 }

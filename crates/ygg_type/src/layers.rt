@@ -1,35 +1,56 @@
 //! Typing of layers.
 
 ghost use Rattle.std.specs.Prelude.{◌≡◌, [], OnOk, IfOk, None};
-ghost use Rattle.ygg_count.specs.Weights.{weights_of};
-ghost use Rattle.ygg_names.specs.Names.{added};
-ghost use Rattle.ygg_fault.specs.Faults.{first_after};
-ghost use Rattle.ygg_fault.specs.Definitions.{with_parameters};
-ghost use Rattle.ygg_fault.specs.Layers.{variables_faults, with_variables, variables_of, on_crash_faults, operation_blocks_faults, operation_faults, operations_faults, with_operation, with_operations, tick_faults, ticks_faults, formulas_faults, declared_faults, blocks_faults, relations_faults, parts_faults};
-ghost use Rattle.ygg_scope.specs.Checking.{scope_of};
+ghost use Rattle.ygg_syntax_count.specs.Weights.{weights_of};
+ghost use Rattle.ygg_symbols.specs.Names.{added};
+ghost use Rattle.ygg_type_rules.specs.TypeErrors.{first_after};
+ghost use Rattle.ygg_type_rules.specs.Definitions.{with_parameters};
+ghost use Rattle.ygg_type_rules.specs.Layers.{
+  variables_errors,
+  with_variables,
+  variables_of,
+  on_crash_errors,
+  operation_blocks_errors,
+  operation_errors,
+  operations_errors,
+  with_operation,
+  with_operations,
+  tick_errors,
+  ticks_errors,
+  formulas_errors,
+  declared_errors,
+  blocks_errors,
+  relations_errors,
+  parts_errors,
+};
+ghost use Rattle.ygg_type_scope.specs.Checking.{scope_of};
 
 use crate::declarations::{formula, parameters, viewed};
 use std::alloc::Global;
-use ygg_body::picks;
-use ygg_count::choices;
-use ygg_fault::{Kind, Signature, Variable, View};
+use ygg_base::Reason;
 use ygg_list::NoMemory;
-use ygg_names::Names;
-use ygg_scope::checker::Checker;
-use ygg_scope::limits::are_picks;
-use ygg_scope::shapes;
+use ygg_symbols::Names;
 use ygg_syntax::tree::{Block, Declared, Expr, Layer, Operation, Tick};
-use ygg_weigh::Weights;
+use ygg_syntax_count::choices;
+use ygg_syntax_weigh::Weights;
+use ygg_type_body::picks;
+use ygg_type_rules::{Owner, Signature, Variable, Visibility};
+use ygg_type_scope::checker::Typer;
+use ygg_type_scope::limits::are_picks;
+use ygg_type_scope::shapes;
 
 /// Variables of a kind, after those that are there.
-fn variables<'a>(checker: &mut Checker<'a>, kind: Kind, all: &'a [Declared]) -> Result<(), NoMemory>
-    ensures first { OnOk result (checker.new.first.fault ≡ first_after checker.old.first.fault (variables_faults kind all.now checker.old.variables)) }
+fn variables<'a>(checker: &mut Typer<'a>, kind: Owner, all: &'a [Declared]) -> Result<(), NoMemory>
+    ensures first { OnOk result (checker.new.first.type_error ≡ first_after checker.old.first.type_error
+        (variables_errors kind all.now checker.old.variables)) }
     ensures scope { OnOk result (scope_of checker.new ≡ record (scope_of checker.old) { variables = with_variables kind all.now checker.old.variables }) }
 {
     for variable in all {
         let name = variable.name.text.as_slice();
         let taken = checker.variables.has(name);
-        checker.first.check(!taken, 5, variable.name.place);
+        checker
+            .first
+            .check(!taken, Reason::Twice, variable.name.place);
         checker.first.type_text(variable.shape);
         let shape = shapes::named(variable.shape);
         checker.variables.add(name, Variable { kind, shape })?;
@@ -39,18 +60,19 @@ fn variables<'a>(checker: &mut Checker<'a>, kind: Kind, all: &'a [Declared]) -> 
 
 /// The blocks of an operation, whose arguments are in scope.
 fn operation_blocks<'a>(
-    checker: &mut Checker<'a>,
+    checker: &mut Typer<'a>,
     weights: &Weights,
     operation: &'a Operation,
 ) -> Result<(), NoMemory>
-    ensures first { OnOk result (checker.new.first.fault ≡ first_after checker.old.first.fault (operation_blocks_faults operation.now (weights_of weights.now) (scope_of checker.old))) }
+    ensures first { OnOk result (checker.new.first.type_error ≡ first_after checker.old.first.type_error
+        (operation_blocks_errors operation.now (weights_of weights.now) (scope_of checker.old))) }
     ensures same { OnOk result (scope_of checker.new ≡ scope_of checker.old) }
 {
     let answer = shapes::answer(operation.answer);
     viewed(
         checker,
         weights,
-        View::Specification,
+        Visibility::Specification,
         &operation.spec,
         answer,
     )?;
@@ -58,7 +80,7 @@ fn operation_blocks<'a>(
     viewed(
         checker,
         weights,
-        View::Implementation,
+        Visibility::Implementation,
         &operation.implementation,
         answer,
     )?;
@@ -67,32 +89,36 @@ fn operation_blocks<'a>(
 
 /// An `on crash` block, if there is one.
 fn on_crash<'a>(
-    checker: &mut Checker<'a>,
+    checker: &mut Typer<'a>,
     weights: &Weights,
     block: &'a Option<Block>,
 ) -> Result<(), NoMemory>
-    ensures first { OnOk result (checker.new.first.fault ≡ first_after checker.old.first.fault (on_crash_faults block.now (weights_of weights.now) (scope_of checker.old))) }
+    ensures first { OnOk result (checker.new.first.type_error ≡ first_after checker.old.first.type_error
+        (on_crash_errors block.now (weights_of weights.now) (scope_of checker.old))) }
     ensures same { OnOk result (scope_of checker.new ≡ scope_of checker.old) }
 {
     if let Some(block) = block {
-        viewed(checker, weights, View::Specification, block, None)?;
+        viewed(checker, weights, Visibility::Specification, block, None)?;
     }
     Ok(())
 }
 
 /// An operation after these of its layer, which has this `crash` block; its arguments stay in scope.
 fn operation_inside<'a>(
-    checker: &mut Checker<'a>,
+    checker: &mut Typer<'a>,
     weights: &Weights,
     known: &Names<'a, Signature>,
     operation: &'a Operation,
     crash: &'a Block,
 ) -> Result<(), NoMemory>
-    ensures first { OnOk result (checker.new.first.fault ≡ first_after checker.old.first.fault (operation_faults operation.now crash.now known.now (weights_of weights.now) (scope_of checker.old))) }
+    ensures first { OnOk result (checker.new.first.type_error ≡ first_after checker.old.first.type_error
+        (operation_errors operation.now crash.now known.now (weights_of weights.now) (scope_of checker.old))) }
     ensures scope { OnOk result (scope_of checker.new ≡ with_parameters operation.now.arguments (scope_of checker.old)) }
 {
     let taken = known.has(operation.name.text.as_slice());
-    checker.first.check(!taken, 5, operation.name.place);
+    checker
+        .first
+        .check(!taken, Reason::Twice, operation.name.place);
     picks(&mut checker.first, operation, crash);
     parameters(checker, operation.arguments.as_slice())?;
     checker.first.answer_type(operation.answer);
@@ -122,13 +148,14 @@ fn add_operation<'a>(
 
 /// An operation after these of its layer, which has this `crash` block.
 fn operation<'a>(
-    checker: &mut Checker<'a>,
+    checker: &mut Typer<'a>,
     weights: &Weights,
     known: &mut Names<'a, Signature>,
     operation: &'a Operation,
     crash: &'a Block,
 ) -> Result<(), NoMemory>
-    ensures first { OnOk result (checker.new.first.fault ≡ first_after checker.old.first.fault (operation_faults operation.now crash.now known.old (weights_of weights.now) (scope_of checker.old))) }
+    ensures first { OnOk result (checker.new.first.type_error ≡ first_after checker.old.first.type_error
+        (operation_errors operation.now crash.now known.old (weights_of weights.now) (scope_of checker.old))) }
     ensures same { OnOk result (scope_of checker.new ≡ scope_of checker.old) }
     ensures known { OnOk result (known.new ≡ with_operation operation.now known.old) }
 {
@@ -141,13 +168,14 @@ fn operation<'a>(
 
 /// The operations of a layer with this `crash` block.
 fn operations<'a>(
-    checker: &mut Checker<'a>,
+    checker: &mut Typer<'a>,
     weights: &Weights,
     all: &'a [Operation],
     crash: &'a Block,
 ) -> Result<Names<'a, Signature>, NoMemory>
     ensures known { IfOk result (λ known. known ≡ with_operations all.now []) }
-    ensures first { OnOk result (checker.new.first.fault ≡ first_after checker.old.first.fault (operations_faults all.now crash.now [] (weights_of weights.now) (scope_of checker.old))) }
+    ensures first { OnOk result (checker.new.first.type_error ≡ first_after checker.old.first.type_error
+        (operations_errors all.now crash.now [] (weights_of weights.now) (scope_of checker.old))) }
     ensures same { OnOk result (scope_of checker.new ≡ scope_of checker.old) }
 {
     let mut known = Names::new(checker.alloc);
@@ -159,26 +187,34 @@ fn operations<'a>(
 
 /// A background step after those of these names.
 fn tick<'a>(
-    checker: &mut Checker<'a>,
+    checker: &mut Typer<'a>,
     weights: &Weights,
     known: &mut Names<'a, ()>,
     tick: &'a Tick,
 ) -> Result<(), NoMemory>
-    ensures first { OnOk result (checker.new.first.fault ≡ first_after checker.old.first.fault (tick_faults tick.now known.old (weights_of weights.now) (scope_of checker.old))) }
+    ensures first { OnOk result (checker.new.first.type_error ≡ first_after checker.old.first.type_error
+        (tick_errors tick.now known.old (weights_of weights.now) (scope_of checker.old))) }
     ensures same { OnOk result (scope_of checker.new ≡ scope_of checker.old) }
     ensures known { OnOk result (known.new ≡ added tick.now.name.text tt known.old) }
 {
     let name = tick.name.text.as_slice();
     let taken = known.has(name);
-    checker.first.check(!taken, 5, tick.name.place);
-    viewed(checker, weights, View::Implementation, &tick.body, None)?;
+    checker.first.check(!taken, Reason::Twice, tick.name.place);
+    viewed(
+        checker,
+        weights,
+        Visibility::Implementation,
+        &tick.body,
+        None,
+    )?;
     known.add(name, ())?;
     Ok(())
 }
 
 /// The background steps of a layer.
-fn ticks<'a>(checker: &mut Checker<'a>, weights: &Weights, all: &'a [Tick]) -> Result<(), NoMemory>
-    ensures first { OnOk result (checker.new.first.fault ≡ first_after checker.old.first.fault (ticks_faults all.now [] (weights_of weights.now) (scope_of checker.old))) }
+fn ticks<'a>(checker: &mut Typer<'a>, weights: &Weights, all: &'a [Tick]) -> Result<(), NoMemory>
+    ensures first { OnOk result (checker.new.first.type_error ≡ first_after checker.old.first.type_error
+        (ticks_errors all.now [] (weights_of weights.now) (scope_of checker.old))) }
     ensures same { OnOk result (scope_of checker.new ≡ scope_of checker.old) }
 {
     let mut known = Names::new(checker.alloc);
@@ -190,12 +226,13 @@ fn ticks<'a>(checker: &mut Checker<'a>, weights: &Weights, all: &'a [Tick]) -> R
 
 /// Expressions of a layer with this view of it.
 fn formulas<'a>(
-    checker: &mut Checker<'a>,
+    checker: &mut Typer<'a>,
     weights: &Weights,
-    view: View,
+    view: Visibility,
     all: &'a [Expr],
 ) -> Result<(), NoMemory>
-    ensures first { OnOk result (checker.new.first.fault ≡ first_after checker.old.first.fault (formulas_faults view all.now (weights_of weights.now) (scope_of checker.old))) }
+    ensures first { OnOk result (checker.new.first.type_error ≡ first_after checker.old.first.type_error
+        (formulas_errors view all.now (weights_of weights.now) (scope_of checker.old))) }
     ensures same { OnOk result (scope_of checker.new ≡ scope_of checker.old) }
 {
     for e in all {
@@ -206,60 +243,100 @@ fn formulas<'a>(
 
 /// What relates a layer to the machine below, and what its author states of it.
 fn relations<'a>(
-    checker: &mut Checker<'a>,
+    checker: &mut Typer<'a>,
     weights: &Weights,
     layer: &'a Layer,
 ) -> Result<(), NoMemory>
-    ensures first { OnOk result (checker.new.first.fault ≡ first_after checker.old.first.fault (relations_faults layer.now (weights_of weights.now) (scope_of checker.old))) }
+    ensures first { OnOk result (checker.new.first.type_error ≡ first_after checker.old.first.type_error
+        (relations_errors layer.now (weights_of weights.now) (scope_of checker.old))) }
     ensures same { OnOk result (scope_of checker.new ≡ scope_of checker.old) }
 {
-    formula(checker, weights, View::Relation, &layer.relate)?;
-    formulas(checker, weights, View::Relation, layer.always.as_slice())?;
-    formulas(checker, weights, View::Settled, layer.settled.as_slice())?;
-    formulas(checker, weights, View::Relation, layer.maybe.as_slice())?;
+    formula(checker, weights, Visibility::Relation, &layer.relate)?;
+    formulas(
+        checker,
+        weights,
+        Visibility::Relation,
+        layer.always.as_slice(),
+    )?;
+    formulas(
+        checker,
+        weights,
+        Visibility::Settled,
+        layer.settled.as_slice(),
+    )?;
+    formulas(
+        checker,
+        weights,
+        Visibility::Relation,
+        layer.maybe.as_slice(),
+    )?;
     Ok(())
 }
 
 /// The blocks of a layer outside its operations and background steps.
-#[tactic(auto, using(ygg_body::proofs::Counted::picks_stay))]
-fn blocks<'a>(
-    checker: &mut Checker<'a>,
-    weights: &Weights,
-    layer: &'a Layer,
-) -> Result<(), NoMemory>
-    ensures first { OnOk result (checker.new.first.fault ≡ first_after checker.old.first.fault (blocks_faults layer.now (weights_of weights.now) (scope_of checker.old))) }
+#[tactic(auto, using(ygg_type_body::proofs::Counted::picks_stay))]
+fn blocks<'a>(checker: &mut Typer<'a>, weights: &Weights, layer: &'a Layer) -> Result<(), NoMemory>
+    ensures first { OnOk result (checker.new.first.type_error ≡ first_after checker.old.first.type_error
+        (blocks_errors layer.now (weights_of weights.now) (scope_of checker.old))) }
     ensures same { OnOk result (scope_of checker.new ≡ scope_of checker.old) }
 {
-    viewed(checker, weights, View::Specification, &layer.start, None)?;
-    viewed(checker, weights, View::Implementation, &layer.format, None)?;
-    viewed(checker, weights, View::Specification, &layer.crash, None)?;
-    checker
-        .first
-        .check(are_picks(choices(&layer.crash)), 10, layer.crash_place);
-    viewed(checker, weights, View::Implementation, &layer.recover, None)?;
+    viewed(
+        checker,
+        weights,
+        Visibility::Specification,
+        &layer.start,
+        None,
+    )?;
+    viewed(
+        checker,
+        weights,
+        Visibility::Implementation,
+        &layer.format,
+        None,
+    )?;
+    viewed(
+        checker,
+        weights,
+        Visibility::Specification,
+        &layer.crash,
+        None,
+    )?;
+    checker.first.check(
+        are_picks(choices(&layer.crash)),
+        Reason::TooManyChoices,
+        layer.crash_place,
+    );
+    viewed(
+        checker,
+        weights,
+        Visibility::Implementation,
+        &layer.recover,
+        None,
+    )?;
     Ok(())
 }
 
 /// The state and memory variables of a layer, of which none are there yet.
-fn declared<'a>(checker: &mut Checker<'a>, layer: &'a Layer) -> Result<(), NoMemory>
+fn declared<'a>(checker: &mut Typer<'a>, layer: &'a Layer) -> Result<(), NoMemory>
     requires { checker.old.variables ≡ [] }
-    ensures first { OnOk result (checker.new.first.fault ≡ first_after checker.old.first.fault (declared_faults layer.now)) }
+    ensures first { OnOk result (checker.new.first.type_error ≡ first_after checker.old.first.type_error (declared_errors layer.now)) }
     ensures scope { OnOk result (scope_of checker.new ≡ record (scope_of checker.old) { variables = variables_of layer.now }) }
 {
-    variables(checker, Kind::State, layer.state.as_slice())?;
-    variables(checker, Kind::Memory, layer.memory.as_slice())?;
+    variables(checker, Owner::State, layer.state.as_slice())?;
+    variables(checker, Owner::Memory, layer.memory.as_slice())?;
     Ok(())
 }
 
 /// All parts of a layer, whose variables are not there yet. Answers its operations.
 pub fn parts<'a>(
-    checker: &mut Checker<'a>,
+    checker: &mut Typer<'a>,
     weights: &Weights,
     layer: &'a Layer,
 ) -> Result<Names<'a, Signature>, NoMemory>
     requires { checker.old.variables ≡ [] }
     ensures known { IfOk result (λ known. known ≡ with_operations layer.now.operations []) }
-    ensures first { OnOk result (checker.new.first.fault ≡ first_after checker.old.first.fault (parts_faults layer.now (weights_of weights.now) (record (scope_of checker.old) { variables = variables_of layer.now }))) }
+    ensures first { OnOk result (checker.new.first.type_error ≡ first_after checker.old.first.type_error
+        (parts_errors layer.now (weights_of weights.now) (record (scope_of checker.old) { variables = variables_of layer.now }))) }
     ensures scope { OnOk result (scope_of checker.new ≡ record (scope_of checker.old) { variables = variables_of layer.now }) }
 {
     declared(checker, layer)?;

@@ -1,4 +1,4 @@
-//! Which layer files are typed, and the first fault of those that are not.
+//! Which layer files are typed, and the first type error of those that are not.
 #![tactic(auto)]
 
 mod declarations;

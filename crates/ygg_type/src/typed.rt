@@ -3,22 +3,21 @@ ghost use Rattle.std.specs.List.{list_all};
 ghost use Rattle.ygg_value.specs.Shapes.{IsShape};
 ghost use Rattle.ygg_value.specs.declared.shape.Shape.TheVariants.{Table};
 ghost use Rattle.ygg_base.specs.Failure.{IfRefused};
-ghost use Rattle.ygg_fault.specs.Faults.{none};
-ghost use Rattle.ygg_fault.specs.Files.{disk_faults, faults_of, IsTyped};
-ghost use Rattle.ygg_type.specs.Typed.{IsDerivable, IsFirstFault, geometry_of, operations_at, ticks_at, operation_place, tick_place, has_few};
+ghost use Rattle.ygg_type_rules.specs.TypeErrors.{none};
+ghost use Rattle.ygg_type_rules.specs.Files.{disk_errors, type_errors_of, IsTyped};
+ghost use Rattle.ygg_syntax.specs.Files.{IsDerivable};
+ghost use Rattle.ygg_type.specs.Typed.{IsFirstTypeError, geometry_of, operations_at, ticks_at, operation_place, tick_place, has_few};
 
-use crate::files::first_fault;
+use crate::files::first_type_error;
 use std::alloc::Global;
-use ygg_base::{Refusal, Refuse, Text};
-use ygg_geometry::Geometry;
-use ygg_syntax::tree::{DiskKind, DiskText, File, Operation, Tick};
-use ygg_unique::derived_marks;
+use ygg_base::{Geometry, Refuse, Text};
+use ygg_syntax::tree::{DiskText, File, Operation, Tick};
 
-/// A layer file without a fault, which some list of fewer than 2^32 tokens derives.
+/// A layer file without a type error, which some list of fewer than 2^32 tokens derives.
 #[derive(Drop)]
 pub struct Typed {
     file: File,
-    ghost typed: { IsTrue (none (faults_of file)) },
+    ghost typed: { IsTrue (none (type_errors_of file)) },
     ghost places: { IsTrue (list_all has_few file.layers) },
     ghost derivable: { ∥ IsDerivable file ∥₁ },
 }
@@ -77,19 +76,15 @@ impl Typed {
     }
 }
 
-/// The kind and the size of a disk without a fault.
+/// The kind and the size of a disk without a type error.
 #[tactic(auto, using(crate::proofs::Sizes::disk_fits))]
 fn geometry(disk: DiskText) -> Geometry
-    requires { IsTrue (none (disk_faults disk)) }
+    requires { IsTrue (none (disk_errors disk)) }
     ensures same { result ≡ geometry_of disk }
     ensures shape { IsShape (Table result.rows result.words result.width) }
 {
-    let kind = match disk.kind {
-        DiskKind::Sync => ygg_geometry::DiskKind::Sync,
-        DiskKind::Async => ygg_geometry::DiskKind::Async,
-    };
     Geometry {
-        kind,
+        kind: disk.kind,
         rows: disk.rows.value as u16,
         words: disk.words.value as u8,
         width: disk.width.value as u8,
@@ -122,21 +117,19 @@ fn place_of_tick(ticks: &[Tick], name: &[u8]) -> Option<u32>
     None
 }
 
-/// Keeps a file that has no fault, and else refuses it, 4 to 10, at its least fault: the earliest place, and there the
-/// smallest number. Its only other error is want of memory.
+/// Keeps a file that has no type error, and else refuses it, 4 to 10, at its least type error: the earliest place, and there the
+/// smallest number. Its only other error is out of memory.
 pub fn check(alloc: Global, file: File) -> Result<Typed, Refuse>
     requires derivable { IsDerivable file }
     ensures typed { IfOk result (λ typed. (typed.file ≡ file) × IsTyped file) }
-    ensures refused { IfErr result (λ refuse. IfRefused refuse (IsFirstFault file)) }
+    ensures refused { IfErr result (λ refuse. IfRefused refuse (IsFirstTypeError file)) }
 {
-    derived_marks();
-    match first_fault(alloc, &file) {
+    match first_type_error(alloc, &file) {
         Ok(None) => Ok(Typed { file }),
-        Ok(Some(fault)) => Err(Refuse::At(Refusal {
-            number: fault.number,
-            line: fault.place.line,
-            column: fault.place.column,
-        })),
+        Ok(Some(type_error)) => {
+            let place = type_error.place;
+            Err(Refuse::At(type_error.reason.at(place.line, place.column)))
+        }
         Err(_) => Err(Refuse::Memory),
     }
 }

@@ -26,7 +26,8 @@ complement (suc w) n zero fits h =
 complement (suc w) n (suc place) fits h =
     let double : 2 ^ suc w ≡ 2 ^ w * 2 = pow-suc 2 w in
     let half : (2 ^ suc w - 1 - n) / 2 ≡ 2 ^ w - 1 - n / 2 = omega (arith, double) in
-    bit_at-suc (2 ^ suc w - 1 - n) place ∙ ap (λ m. bit_at m place) half ∙ complement w (n / 2) place (omega (arith, double)) (omega arith) ∙ ap (λ d. 1 - d) (sym (bit_at-suc n place))
+    bit_at-suc (2 ^ suc w - 1 - n) place ∙ ap (λ m. bit_at m place) half ∙ complement w (n / 2) place (omega (arith, double)) (omega arith)
+    ∙ ap (λ d. 1 - d) (sym (bit_at-suc n place))
 
 -- a complement's digits are turned round
 pub bit_at-not_of : (a : Number) (place : ℕ) → IsWord a → place < a.width → bit_at (not_of a).bits place ≡ 1 - bit_at a.bits place
@@ -44,16 +45,20 @@ bit_at-resized a width place h = bit_at-cut a.bits width place h
 pub bit_at-shl_low : (a b : Number) (place : ℕ) → b.bits < a.width → place < b.bits → bit_at (apply_to Shl a b).bits place ≡ 0
 bit_at-shl_low a b place within h =
     rw (nat_lt-true b.bits a.width within)
-    (bit_at-cut (a.bits * 2 ^ b.bits) a.width place (omega arith) ∙ ap (λ m. bit_at m place) (sym (add-zero (a.bits * 2 ^ b.bits))) ∙ bit_at_cat_low a.bits b.bits 0 place h ∙ bit_at-zero place)
+    (bit_at-cut (a.bits * 2 ^ b.bits) a.width place (omega arith) ∙ ap (λ m. bit_at m place) (sym (add-zero (a.bits * 2 ^ b.bits)))
+    ∙ bit_at_cat_low a.bits b.bits 0 place h ∙ bit_at-zero place)
 
 -- and moves the digits up
-pub bit_at-shl_high : (a b : Number) (place : ℕ) → b.bits < a.width → b.bits ≤ place → place < a.width → bit_at (apply_to Shl a b).bits place ≡ bit_at a.bits (place - b.bits)
+pub bit_at-shl_high : (a b : Number) (place : ℕ) → b.bits < a.width → b.bits ≤ place → place < a.width →
+    bit_at (apply_to Shl a b).bits place ≡ bit_at a.bits (place - b.bits)
 bit_at-shl_high a b place within h below =
     rw (nat_lt-true b.bits a.width within)
-    (bit_at-cut (a.bits * 2 ^ b.bits) a.width place below ∙ ap (λ m. bit_at m place) (sym (add-zero (a.bits * 2 ^ b.bits))) ∙ bit_at_cat_high a.bits b.bits 0 place (pow_pos b.bits) h)
+    (bit_at-cut (a.bits * 2 ^ b.bits) a.width place below ∙ ap (λ m. bit_at m place) (sym (add-zero (a.bits * 2 ^ b.bits)))
+    ∙ bit_at_cat_high a.bits b.bits 0 place (pow_pos b.bits) h)
 
 -- a shift towards the low digits moves the digits down
 pub bit_at-shr : (a b : Number) (place : ℕ) → b.bits < a.width → bit_at (apply_to Shr a b).bits place ≡ bit_at a.bits (place + b.bits)
 bit_at-shr a b place within =
     rw (nat_lt-true b.bits a.width within)
-    (ap (λ m. m % 2) (div-div-eq-div-mul a.bits (2 ^ b.bits) (2 ^ place)) ∙ ap (λ m. a.bits / m % 2) (sym (pow-add 2 b.bits place) ∙ ap (λ k. 2 ^ k) (add_comm b.bits place)))
+    (ap (λ m. m % 2) (div-div-eq-div-mul a.bits (2 ^ b.bits) (2 ^ place))
+    ∙ ap (λ m. a.bits / m % 2) (sym (pow-add 2 b.bits place) ∙ ap (λ k. 2 ^ k) (add_comm b.bits place)))

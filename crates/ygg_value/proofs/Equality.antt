@@ -21,10 +21,12 @@ rows_eq-iff (a ∷ left) [] = (λ e. absurd (cc), λ e. absurd (cc))
 -- the test passes exactly where the values are equal
 pub same_value-iff : (a b : Value) → (same_value a b ≡ true) ↔ (a ≡ b)
 same_value-iff (Word a) (Word b) =
-    Decides-like (same_value (Word a) (Word b)) (λ (e, f). ap (λ w. Word (record { width = w; bits = a.bits })) e ∙ ap (λ n. Word (record { width = b.width; bits = n })) f)
+    Decides-like (same_value (Word a) (Word b)) (λ (e, f). ap (λ w. Word (record { width = w; bits = a.bits })) e
+    ∙ ap (λ n. Word (record { width = b.width; bits = n })) f)
     (λ e. (cc, cc)) (Decides-and _ _ (Decides-eqb a.width b.width) (Decides-eqb a.bits b.bits))
 same_value-iff (Row a) (Row b) =
-    Decides-like (same_value (Row a) (Row b)) (λ (e, f). ap (λ w. Row (record { width = w; words = a.words })) e ∙ ap (λ ns. Row (record { width = b.width; words = ns })) f)
+    Decides-like (same_value (Row a) (Row b)) (λ (e, f). ap (λ w. Row (record { width = w; words = a.words })) e
+    ∙ ap (λ ns. Row (record { width = b.width; words = ns })) f)
     (λ e. (cc, cc)) (Decides-and _ _ (Decides-eqb a.width b.width) (bytes_eq-Decides a.words b.words))
 same_value-iff (Table a) (Table b) =
     Decides-like (same_value (Table a) (Table b))

@@ -23,7 +23,8 @@ get_or-All P xs at d each default = go (cases_lt at (length xs)) where
 
 -- a read gives a word or a row, and a write leaves a row or a table
 pub row_read-IsWord : (row : Digits) (at : ℕ) → IsRow row → IsWord (row_read row at)
-row_read-IsWord row at x = rw (row_read-get_or row at) (record { least = x.least; most = x.most; fits = get_or-All (λ n. n < 2 ^ row.width) row.words at 0 x.fits (pow_pos row.width) })
+row_read-IsWord row at x = rw (row_read-get_or row at)
+    (record { least = x.least; most = x.most; fits = get_or-All (λ n. n < 2 ^ row.width) row.words at 0 x.fits (pow_pos row.width) })
 
 pub row_write-IsRow : (row : Digits) (at : ℕ) (new : Number) → IsRow row → new.bits < 2 ^ row.width → IsRow (row_write row at new)
 row_write-IsRow row at new x h = record {
@@ -38,11 +39,15 @@ pub table_read-IsRow : (table : Grid) (at : ℕ) → IsTable table → IsRow (ta
 table_read-IsRow table at x =
     let Fit : List ℕ → Type 0 = λ row. (length row ≡ table.words) × All (λ n. n < 2 ^ table.width) row in
     let each : All Fit table.rows = λ k d h. (x.even k d h, x.fits k d h) in
-    let zeros : Fit (replicate table.words 0) = (length-replicate table.words 0, All-replicate (λ n. n < 2 ^ table.width) table.words 0 (pow_pos table.width)) in
+    let zeros : Fit (replicate table.words 0) = (
+      length-replicate table.words 0,
+      All-replicate (λ n. n < 2 ^ table.width) table.words 0 (pow_pos table.width),
+    ) in
     let (long, fits) = get_or-All Fit table.rows at (replicate table.words 0) each zeros in
     rw (table_read-get_or table at) (record { least = x.least; most = x.most; some = rw long x.some; few = rw long x.few; fits = fits })
 
-pub table_write-IsTable : (table : Grid) (at : ℕ) (new : Digits) → IsTable table → IsRow new → new.width ≡ table.width → length new.words ≡ table.words → IsTable (table_write table at new)
+pub table_write-IsTable : (table : Grid) (at : ℕ) (new : Digits) → IsTable table → IsRow new → new.width ≡ table.width →
+    length new.words ≡ table.words → IsTable (table_write table at new)
 table_write-IsTable table at new x y wide long =
     let Fit : ℕ → Type 0 = λ w. All (λ n. n < 2 ^ w) new.words in
     record {

@@ -37,7 +37,8 @@ row_write-write_other row i j a b apart = ap (λ ns. record { width = row.width;
 -- a write of what is there changes nothing
 pub row_write-read : (row : Digits) (at : ℕ) → row_write row at (row_read row at) ≡ row
 row_write-read row at =
-    ap (λ n. record { width = row.width; words = set row.words at n }) (unwrap_or-slice_get row.words at 0) ∙ ap (λ ns. record { width = row.width; words = ns }) (set-get_or row.words at 0)
+    ap (λ n. record { width = row.width; words = set row.words at n }) (unwrap_or-slice_get row.words at 0)
+    ∙ ap (λ ns. record { width = row.width; words = ns }) (set-get_or row.words at 0)
 
 -- a read as a look-up in the list of rows, zeros past the end
 pub table_read-get_or : (table : Grid) (at : ℕ) → table_read table at ≡ record { width = table.width; words = get_or table.rows at (replicate table.words 0) }
@@ -51,24 +52,30 @@ pub table_write_past : (table : Grid) (at : ℕ) (new : Digits) → length table
 table_write_past table at new h = ap (λ rs. record { width = table.width; words = table.words; rows = rs }) (set_past table.rows at new.words h)
 
 -- the row that was written
-pub table_read-write_same : (table : Grid) (at : ℕ) (new : Digits) → at < length table.rows → new.width ≡ table.width → table_read (table_write table at new) at ≡ new
+pub table_read-write_same : (table : Grid) (at : ℕ) (new : Digits) → at < length table.rows → new.width ≡ table.width →
+    table_read (table_write table at new) at ≡ new
 table_read-write_same table at new h wide =
-    table_read-get_or (table_write table at new) at ∙ ap (λ ns. record { width = table.width; words = ns }) (get_or-set_same table.rows at new.words (replicate table.words 0) h)
+    table_read-get_or (table_write table at new) at ∙ ap (λ ns. record { width = table.width; words = ns })
+    (get_or-set_same table.rows at new.words (replicate table.words 0) h)
     ∙ ap (λ w. record { width = w; words = new.words }) (sym wide)
 
 -- elsewhere the rows are as before
 pub table_read-write_other : (table : Grid) (at place : ℕ) (new : Digits) → place ≢ at → table_read (table_write table at new) place ≡ table_read table place
 table_read-write_other table at place new apart =
     table_read-get_or (table_write table at new) place
-    ∙ ap (λ ns. record { width = table.width; words = ns }) (get_or-set_other table.rows at place new.words (replicate table.words 0) apart) ∙ sym (table_read-get_or table place)
+    ∙ ap (λ ns. record { width = table.width; words = ns }) (get_or-set_other table.rows at place new.words (replicate table.words 0) apart)
+    ∙ sym (table_read-get_or table place)
 
 -- the second of two writes at a place counts
 pub table_write-write_same : (table : Grid) (at : ℕ) (first second : Digits) → table_write (table_write table at first) at second ≡ table_write table at second
-table_write-write_same table at first second = ap (λ rs. record { width = table.width; words = table.words; rows = rs }) (set-set table.rows at first.words second.words)
+table_write-write_same table at first second = ap (λ rs. record { width = table.width; words = table.words; rows = rs })
+    (set-set table.rows at first.words second.words)
 
 -- writes at two places are in any order
-pub table_write-write_other : (table : Grid) (i j : ℕ) (a b : Digits) → i ≢ j → table_write (table_write table i a) j b ≡ table_write (table_write table j b) i a
-table_write-write_other table i j a b apart = ap (λ rs. record { width = table.width; words = table.words; rows = rs }) (set_comm table.rows i j a.words b.words apart)
+pub table_write-write_other : (table : Grid) (i j : ℕ) (a b : Digits) → i ≢ j →
+    table_write (table_write table i a) j b ≡ table_write (table_write table j b) i a
+table_write-write_other table i j a b apart = ap (λ rs. record { width = table.width; words = table.words; rows = rs })
+    (set_comm table.rows i j a.words b.words apart)
 
 -- a write of what is there changes nothing
 pub table_write-read : (table : Grid) (at : ℕ) → table_write table at (table_read table at) ≡ table

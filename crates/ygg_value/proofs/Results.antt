@@ -1,5 +1,32 @@
 -- What an operation gives fits its width, and what a width cuts off.
-use Rattle.std.proofs.Common.{◌≡◌, ℕ, ◌+◌, ◌-◌, ◌%◌, ◌/◌, ◌*◌, ◌^◌, ◌<◌, ◌≤◌, Bool, true, false, if◌then◌else◌, nat_lt, min, ◌⊎◌, inl, inr, sym, ap, subst, ◌∙◌, arith, mod-lt, mod-eq_of_lt}
+use Rattle.std.proofs.Common.{
+  ◌≡◌,
+  ℕ,
+  ◌+◌,
+  ◌-◌,
+  ◌%◌,
+  ◌/◌,
+  ◌*◌,
+  ◌^◌,
+  ◌<◌,
+  ◌≤◌,
+  Bool,
+  true,
+  false,
+  if◌then◌else◌,
+  nat_lt,
+  min,
+  ◌⊎◌,
+  inl,
+  inr,
+  sym,
+  ap,
+  subst,
+  ◌∙◌,
+  arith,
+  mod-lt,
+  mod-eq_of_lt,
+}
 use Rattle.std.proofs.lemmas.Nat.{or_lt, xor_lt, pow_pos}
 use Rattle.std.specs.Int.Bits.{and_lt}
 use Rattle.std.proofs.Math.Nat.{div-le_self, min-eq_left, min-eq_right, pow-le-pow_right, lt_of_lt_of_le}
@@ -29,7 +56,8 @@ of_width : (w v n : ℕ) → w ≡ v → n < 2 ^ v → n < 2 ^ w
 of_width w v n e h = let P : ℕ → Type 0 = λ x. n < 2 ^ x in subst P (sym e) h
 
 -- the result is below 2 to its width, at any widths
-pub apply_to-lt : (op : Op) (a b : Number) → a.bits < 2 ^ a.width → b.bits < 2 ^ b.width → CanApply op a b → (apply_to op a b).bits < 2 ^ (apply_to op a b).width
+pub apply_to-lt : (op : Op) (a b : Number) → a.bits < 2 ^ a.width → b.bits < 2 ^ b.width → CanApply op a b →
+    (apply_to op a b).bits < 2 ^ (apply_to op a b).width
 apply_to-lt Add a b x y h = cut-lt (a.bits + b.bits) a.width
 apply_to-lt Sub a b x y h = cut-lt (a.bits + 2 ^ a.width - b.bits) a.width
 apply_to-lt Mul a b x y h = cut-lt (a.bits * b.bits) a.width

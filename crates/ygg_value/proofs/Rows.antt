@@ -1,7 +1,56 @@
 -- Tables whose rows lie in one list, one after another.
-use Rattle.std.proofs.Common.{◌≡◌, ℕ, zero, suc, Bool, true, Vec, Global, ◌+◌, ◌-◌, ◌*◌, ◌/◌, ◌<◌, ◌≤◌, ◌^◌, List, ◌∷◌, ◌++◌, length, get_or, set, take, drop, replicate, All, refl, sym, subst, ap, ◌∙◌, arith}
+use Rattle.std.proofs.Common.{
+  ◌≡◌,
+  ℕ,
+  zero,
+  suc,
+  Bool,
+  true,
+  Vec,
+  Global,
+  ◌+◌,
+  ◌-◌,
+  ◌*◌,
+  ◌/◌,
+  ◌<◌,
+  ◌≤◌,
+  ◌^◌,
+  List,
+  ◌∷◌,
+  ◌++◌,
+  length,
+  get_or,
+  set,
+  take,
+  drop,
+  replicate,
+  All,
+  refl,
+  sym,
+  subst,
+  ap,
+  ◌∙◌,
+  arith,
+}
 use Rattle.std.proofs.Math.Nat.{zero-mul, suc-mul, mul-div_cancel, mul-le-mul_right}
-use Rattle.std.proofs.lemmas.List.{drop-drop, take_at, drop_at, append_assoc, length-take, length-take-le, length-drop, take-append-drop, take-replicate, drop-replicate, nil_from_length, length-replicate, length-append, get_or_past, set_past, with_items_is}
+use Rattle.std.proofs.lemmas.List.{
+  drop-drop,
+  take_at,
+  drop_at,
+  append_assoc,
+  length-take,
+  length-take-le,
+  length-drop,
+  take-append-drop,
+  take-replicate,
+  drop-replicate,
+  nil_from_length,
+  length-replicate,
+  length-append,
+  get_or_past,
+  set_past,
+  with_items_is,
+}
 use Rattle.std.proofs.lemmas.Option.{unwrap_or-slice_get}
 use Rattle.std.proofs.lemmas.Nat.{pow_pos}
 use Rattle.std.proofs.Math.Seq.{take-add}
@@ -42,7 +91,10 @@ first_chunks-write n (suc k) xs (suc i) row h long is =
     let here : suc i * n ≡ n + i * n = omega (arith, suc-mul i n) in
     let front : length (take n xs) ≡ n = length-take-le n xs (omega (arith, suc-mul k n)) in
     rw (here, take-add n (i * n) xs, ← drop-drop (i * n) n xs, append_assoc)
-    (rw (take_at (take n xs) (take (i * n) (drop n xs) ++ (row ++ drop n (drop (i * n) (drop n xs)))) n front, drop_at (take n xs) (take (i * n) (drop n xs) ++ (row ++ drop n (drop (i * n) (drop n xs)))) n front)
+    (rw (
+      take_at (take n xs) (take (i * n) (drop n xs) ++ (row ++ drop n (drop (i * n) (drop n xs)))) n front,
+      drop_at (take n xs) (take (i * n) (drop n xs) ++ (row ++ drop n (drop (i * n) (drop n xs)))) n front,
+    )
     (ap (λ rows. take n xs ∷ rows) (first_chunks-write n k (drop n xs) i row (omega arith) (omega (arith, length-drop n xs, suc-mul k n)) is)))
 
 -- equal numbers one after another are rows of them
@@ -52,7 +104,8 @@ first_chunks-replicate n (suc k) x =
     let first : take n (replicate (suc k * n) x) ≡ replicate n x = take-replicate n (suc k * n) x (omega (arith, suc-mul k n)) in
     let size : suc k * n - n ≡ k * n = omega (arith, suc-mul k n) in
     let rest : drop n (replicate (suc k * n) x) ≡ replicate (k * n) x = drop-replicate n (suc k * n) x ∙ ap (λ m. replicate m x) size in
-    ap (λ row. row ∷ first_chunks n k (drop n (replicate (suc k * n) x))) first ∙ ap (λ row. replicate n x ∷ row) (ap (first_chunks n k) rest ∙ first_chunks-replicate n k x)
+    ap (λ row. row ∷ first_chunks n k (drop n (replicate (suc k * n) x))) first
+    ∙ ap (λ row. replicate n x ∷ row) (ap (first_chunks n k) rest ∙ first_chunks-replicate n k x)
 
 -- the rows tell the list
 pub same_from_chunks : (n k : ℕ) (xs ys : List ℕ) → length xs ≡ k * n → length ys ≡ k * n → first_chunks n k xs ≡ first_chunks n k ys → xs ≡ ys
@@ -60,7 +113,8 @@ same_from_chunks n zero xs ys p q e = nil_from_length xs (p ∙ zero-mul n) ∙ 
 same_from_chunks n (suc k) xs ys p q e =
     let first : take n xs ≡ take n ys = cc in
     let others : first_chunks n k (drop n xs) ≡ first_chunks n k (drop n ys) = cc in
-    let rest : drop n xs ≡ drop n ys = same_from_chunks n k (drop n xs) (drop n ys) (omega (arith, length-drop n xs, suc-mul k n)) (omega (arith, length-drop n ys, suc-mul k n)) others in
+    let rest : drop n xs ≡ drop n ys = same_from_chunks n k (drop n xs) (drop n ys) (omega (arith, length-drop n xs, suc-mul k n))
+    (omega (arith, length-drop n ys, suc-mul k n)) others in
     sym (take-append-drop n xs) ∙ ap (λ a. a ++ drop n xs) first ∙ ap (λ a. take n ys ++ a) rest ∙ take-append-drop n ys
 
 -- each row is as long as the others
@@ -123,7 +177,8 @@ pub tested_grids :
     → (test : Bool) → test ≡ bytes_eq xs ys
     → (test ≡ true → grid width words rows xs ≡ grid wide long others ys) × (grid width words rows xs ≡ grid wide long others ys → test ≡ true)
 tested_grids width words rows wide long others xs ys f g e h test is =
-    let P : ℕ → ℕ → Type 0 = λ v n. IsFlat v n others ys → (xs ≡ ys → grid width words rows xs ≡ grid v n others ys) × (grid width words rows xs ≡ grid v n others ys → xs ≡ ys) in
+    let P : ℕ → ℕ → Type 0 = λ v n. IsFlat v n others ys → (xs ≡ ys → grid width words rows xs ≡ grid v n others ys)
+    × (grid width words rows xs ≡ grid v n others ys → xs ≡ ys) in
     let Q : ℕ → Type 0 = λ n. P width n in
     let R : ℕ → Type 0 = λ v. P v long in
     let same = subst R e (subst Q h (same_grids width words rows others xs ys f)) g in
@@ -144,17 +199,21 @@ flat_from_write width words rows numbers at row f within long fits = record {
   laid =
       simp (length-append, length-take, length-drop) (omega (arith, row_ends at rows words within, f.laid, long));
   fits =
-      All-append (λ n. n < 2 ^ width) (take (at * words) numbers) (row ++ drop words (drop (at * words) numbers)) (All-take (λ n. n < 2 ^ width) (at * words) numbers f.fits)
-      (All-append (λ n. n < 2 ^ width) row (drop words (drop (at * words) numbers)) fits (All-drop (λ n. n < 2 ^ width) words (drop (at * words) numbers) (All-drop (λ n. n < 2 ^ width) (at * words) numbers f.fits)));
+      All-append (λ n. n < 2 ^ width) (take (at * words) numbers) (row ++ drop words (drop (at * words) numbers))
+      (All-take (λ n. n < 2 ^ width) (at * words) numbers f.fits)
+      (All-append (λ n. n < 2 ^ width) row (drop words (drop (at * words) numbers)) fits
+      (All-drop (λ n. n < 2 ^ width) words (drop (at * words) numbers) (All-drop (λ n. n < 2 ^ width) (at * words) numbers f.fits)));
 }
 
 -- a read at a row's place, and past the end
-pub grid-read : (width words rows : ℕ) (numbers : List ℕ) (at : ℕ) → at < rows → table_read (grid width words rows numbers) at ≡ record { width = width; words = take words (drop (at * words) numbers) }
+pub grid-read : (width words rows : ℕ) (numbers : List ℕ) (at : ℕ) → at < rows →
+    table_read (grid width words rows numbers) at ≡ record { width = width; words = take words (drop (at * words) numbers) }
 grid-read width words rows numbers at h =
     ap (λ w. record { width = width; words = w })
     (unwrap_or-slice_get (first_chunks words rows numbers) at (replicate words 0) ∙ get_or-first_chunks words rows numbers at (replicate words 0) h)
 
-pub grid-read_past : (width words rows : ℕ) (numbers : List ℕ) (at : ℕ) → rows ≤ at → table_read (grid width words rows numbers) at ≡ record { width = width; words = replicate words 0 }
+pub grid-read_past : (width words rows : ℕ) (numbers : List ℕ) (at : ℕ) → rows ≤ at →
+    table_read (grid width words rows numbers) at ≡ record { width = width; words = replicate words 0 }
 grid-read_past width words rows numbers at h =
     ap (λ w. record { width = width; words = w })
     (unwrap_or-slice_get (first_chunks words rows numbers) at (replicate words 0)
@@ -162,11 +221,13 @@ grid-read_past width words rows numbers at h =
 
 -- the same where the row was taken out of a slice of the numbers
 pub grid-read_slice :
-    (width words rows : ℕ) (numbers xs : List ℕ) (at w : ℕ) (row : List ℕ) → at < rows → xs ≡ numbers → w ≡ width → row ≡ take (at * words + words - at * words) (drop (at * words) xs)
+    (width words rows : ℕ) (numbers xs : List ℕ) (at w : ℕ) (row : List ℕ) → at < rows → xs ≡ numbers → w ≡ width →
+    row ≡ take (at * words + words - at * words) (drop (at * words) xs)
     → (let read : Digits = record { width = w; words = row } in read ≡ table_read (grid width words rows numbers) at)
 grid-read_slice width words rows numbers xs at w row h same wide is =
     let size : at * words + words - at * words ≡ words = omega arith in
-    let row_is : row ≡ take words (drop (at * words) numbers) = is ∙ ap (λ n. take n (drop (at * words) xs)) size ∙ ap (λ ns. take words (drop (at * words) ns)) same in
+    let row_is : row ≡ take words (drop (at * words) numbers) = is ∙ ap (λ n. take n (drop (at * words) xs)) size
+    ∙ ap (λ ns. take words (drop (at * words) ns)) same in
     ap (λ v. record { width = v; words = row }) wide ∙ ap (λ ns. record { width = width; words = ns }) row_is ∙ sym (grid-read width words rows numbers at h)
 
 -- the same past the end where a row of that length was filled with zeros
@@ -174,24 +235,29 @@ pub grid-read_filled :
     (width words rows : ℕ) (numbers : List ℕ) (at w n : ℕ) (row : List ℕ) → rows ≤ at → w ≡ width → n ≡ words → row ≡ replicate n 0
     → (let read : Digits = record { width = w; words = row } in read ≡ table_read (grid width words rows numbers) at)
 grid-read_filled width words rows numbers at w n row h wide long is =
-    ap (λ v. record { width = v; words = row }) wide ∙ ap (λ ns. record { width = width; words = ns }) (is ∙ ap (λ m. replicate m 0) long) ∙ sym (grid-read_past width words rows numbers at h)
+    ap (λ v. record { width = v; words = row }) wide ∙ ap (λ ns. record { width = width; words = ns }) (is ∙ ap (λ m. replicate m 0) long)
+    ∙ sym (grid-read_past width words rows numbers at h)
 
 -- a write at a row's place, and past the end
 pub grid-write :
     (width words rows : ℕ) (numbers : List ℕ) (at : ℕ) (row : Digits) → at < rows → length numbers ≡ rows * words → length row.words ≡ words
-    → grid width words rows (take (at * words) numbers ++ (row.words ++ drop words (drop (at * words) numbers))) ≡ table_write (grid width words rows numbers) at row
+    → grid width words rows (take (at * words) numbers ++ (row.words ++ drop words (drop (at * words) numbers))) ≡ table_write
+    (grid width words rows numbers) at row
 grid-write width words rows numbers at row h long is =
     ap (λ r. record { width = width; words = words; rows = r }) (first_chunks-write words rows numbers at row.words h long is)
 
-pub grid-write_past : (width words rows : ℕ) (numbers : List ℕ) (at : ℕ) (row : Digits) → rows ≤ at → grid width words rows numbers ≡ table_write (grid width words rows numbers) at row
+pub grid-write_past : (width words rows : ℕ) (numbers : List ℕ) (at : ℕ) (row : Digits) → rows ≤ at →
+    grid width words rows numbers ≡ table_write (grid width words rows numbers) at row
 grid-write_past width words rows numbers at row h =
     ap (λ r. record { width = width; words = words; rows = r })
     (sym (set_past (first_chunks words rows numbers) at row.words (rw (length-first_chunks words rows numbers) h)))
 
 -- the numbers after the row has been written into a slice of them
 pub written_slice :
-    (v : Vec ℕ Global) (words rows at : ℕ) (xs ys row : List ℕ) → at < rows → length v.items ≡ rows * words → v.len ≡ length v.items → xs ≡ v.items → ys ≡ row → length row ≡ words
-    → (with_items v (put_mid (at * words) (at * words + words - at * words) xs ys)).items ≡ take (at * words) v.items ++ (row ++ drop words (drop (at * words) v.items))
+    (v : Vec ℕ Global) (words rows at : ℕ) (xs ys row : List ℕ) → at < rows → length v.items ≡ rows * words → v.len ≡ length v.items → xs ≡ v.items →
+    ys ≡ row → length row ≡ words
+    → (with_items v (put_mid (at * words) (at * words + words - at * words) xs ys)).items ≡ take (at * words) v.items
+    ++ (row ++ drop words (drop (at * words) v.items))
 written_slice v words rows at xs ys row h laid len same is long =
     let size : at * words + words - at * words ≡ words = omega arith in
     let whole : put_mid (at * words) (at * words + words - at * words) xs ys ≡ take (at * words) v.items ++ (row ++ drop words (drop (at * words) v.items)) =
@@ -201,7 +267,8 @@ written_slice v words rows at xs ys row h laid len same is long =
     with_items_is v (put_mid (at * words) (at * words + words - at * words) xs ys) (ap length whole ∙ kept) ∙ whole
 
 -- zeros of a shape that may be are a row
-pub zero_row : (words width : ℕ) (numbers : List ℕ) → IsShape (shape.Row words width) → numbers ≡ replicate words 0 → IsRow (record { width = width; words = numbers })
+pub zero_row : (words width : ℕ) (numbers : List ℕ) → IsShape (shape.Row words width) → numbers ≡ replicate words 0 →
+    IsRow (record { width = width; words = numbers })
 zero_row words width numbers (h, w) e =
     let long : length numbers ≡ words = ap length e ∙ length-replicate words 0 in
     record {
@@ -213,7 +280,8 @@ zero_row words width numbers (h, w) e =
     }
 
 -- zeros of a shape that may be are a table that lies flat
-pub zero_flat : (rows words width : ℕ) (numbers : List ℕ) → IsShape (shape.Table rows words width) → numbers ≡ replicate (rows * words) 0 → IsFlat width words rows numbers
+pub zero_flat : (rows words width : ℕ) (numbers : List ℕ) → IsShape (shape.Table rows words width) → numbers ≡ replicate (rows * words) 0 →
+    IsFlat width words rows numbers
 zero_flat rows words width numbers (r, h, w, m) e = record {
   least = w.0;
   most = w.1;
@@ -227,6 +295,7 @@ zero_flat rows words width numbers (r, h, w, m) e = record {
 }
 
 -- such a table is the zeros of its shape
-pub zero_grid : (rows words width : ℕ) (numbers : List ℕ) → numbers ≡ replicate (rows * words) 0 → Table (grid width words rows numbers) ≡ zero_of (shape.Table rows words width)
+pub zero_grid : (rows words width : ℕ) (numbers : List ℕ) → numbers ≡ replicate (rows * words) 0 →
+    Table (grid width words rows numbers) ≡ zero_of (shape.Table rows words width)
 zero_grid rows words width numbers e =
     ap (λ r. Table (record { width = width; words = words; rows = r })) (ap (first_chunks words rows) e ∙ first_chunks-replicate words rows 0)

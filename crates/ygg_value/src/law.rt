@@ -1,6 +1,19 @@
 //! Laws of values. A call does nothing; what it ensures holds.
 
-ghost use Rattle.ygg_value.specs.Laws.{ResultsAreWords, DigitsTellWords, AndByDigits, OrByDigits, XorByDigits, NotByDigits, ResizesCompose, ResizeKeeps, RowGivesWritten, RowKeepsOthers, TableGivesWritten, TableKeepsOthers};
+ghost use Rattle.ygg_value.specs.Laws.{
+  ResultsAreWords,
+  DigitsTellWords,
+  AndByDigits,
+  OrByDigits,
+  XorByDigits,
+  NotByDigits,
+  ResizesCompose,
+  ResizeKeeps,
+  RowGivesWritten,
+  RowKeepsOthers,
+  TableGivesWritten,
+  TableKeepsOthers,
+};
 
 /// Every operation gives a word.
 pub fn results_are_words()

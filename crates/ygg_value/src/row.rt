@@ -138,7 +138,7 @@ fn same_table(a: &Table, b: &Table) -> bool
     a.width == b.width && a.words == b.words && a.numbers == b.numbers
 }
 
-/// The value of a shape whose numbers are all 0. Its only error is want of memory.
+/// The value of a shape whose numbers are all 0. Its only error is out of memory.
 pub fn zero(alloc: Global, shape: Shape) -> Result<Value, NoRoom>
     requires { IsShape shape }
     ensures { IfOk result (λ value. value ≡ zero_of shape) }
@@ -158,7 +158,7 @@ pub fn zero(alloc: Global, shape: Shape) -> Result<Value, NoRoom>
     }
 }
 
-/// An equal value. Its only error is want of memory.
+/// An equal value. Its only error is out of memory.
 pub fn copy_value(alloc: Global, value: &Value) -> Result<Value, NoRoom>
     ensures { IfOk result (λ copy. copy ≡ value.now) }
 {

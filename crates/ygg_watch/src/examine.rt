@@ -1,19 +1,19 @@
 ghost use Rattle.std.specs.Prelude.{◌≡◌, ◌≢◌, ◌<◌, ◌≤◌, ◌+◌, ◌*◌, ◌↔◌, length, All, Contains, IfSome, IsTrue, slice_get, Some, [], set};
-ghost use Rattle.ygg_propagate.specs.Propagation.{IsWithin, Spreads, IsConflict};
-ghost use Rattle.ygg_propagate.specs.Look.{state_of};
-ghost use Rattle.ygg_visit.specs.Lists.{IsMember, lit_of};
-ghost use Rattle.ygg_visit.specs.State.{IsLive};
-ghost use Rattle.ygg_visit.specs.Watching.{IsStanding, IsWatchedAt};
+ghost use Rattle.ygg_watch_plain.specs.Propagation.{IsWithin, Spreads, IsConflict};
+ghost use Rattle.ygg_watch_plain.specs.Status.{state_of};
+ghost use Rattle.ygg_watch_visit.specs.Lists.{IsMember, lit_of};
+ghost use Rattle.ygg_watch_visit.specs.State.{IsLive};
+ghost use Rattle.ygg_watch_visit.specs.Watching.{IsStanding, IsWatchedAt};
 
 use ygg_cnf::{Clause, Lit};
-use ygg_propagate::{Look, look_at};
-use ygg_trail::Assignments;
-use ygg_visit::{Frame, link, lits_of, set_watch, watch_of};
+use ygg_watch_plain::{ClauseStatus, status_of};
+use ygg_watch_trail::Assignments;
+use ygg_watch_visit::{Checkpoint, link, lits_of, set_watch, watch_of};
 
 /// A literal of the clause other than the given one: one that is not false, or else the one that became so last, which
 /// going back makes free first.
 fn second(clause: &[Lit], first: Lit, trail: &Assignments) -> Option<Lit>
-    requires { IsWithin trail.now.room clause.now }
+    requires { IsWithin trail.now.variable_count clause.now }
     ensures { IfSome result (λ y. Contains clause.now y × (y ≢ first)) }
 {
     let mut best = None;
@@ -58,7 +58,7 @@ fn stands(clauses: &[Clause], watched: &[Lit], trail: &Assignments, at: usize) -
     requires member { IsMember clauses.now watched.now }
     requires size { length watched.now ≡ 2 * length clauses.now }
     requires at { at < length clauses.now }
-    requires variables { All (IsWithin trail.now.room) clauses.now }
+    requires variables { All (IsWithin trail.now.variable_count) clauses.now }
     ensures { IsTrue result → IsStanding watched.now trail.now.entries.items at }
 {
     if is_unwatched(watched, at) {
@@ -79,16 +79,16 @@ fn attach(
     next: &mut [usize],
     firsts: &mut [usize],
     trail: &Assignments,
-    frames: &[Frame],
+    frames: &[Checkpoint],
     head: usize,
     seen: usize,
     first: Lit,
     other: Lit,
 )
-    requires live { IsLive clauses.now watched.old next.old firsts.old [] trail.now.entries.items trail.now.room frames.now head seen }
+    requires live { IsLive clauses.now watched.old next.old firsts.old [] trail.now.entries.items trail.now.variable_count frames.now head seen }
     requires free { lit_of watched.old (2 * seen) ≡ lit_of watched.old (2 * seen + 1) }
     requires pair { (clause : _) × ((slice_get clauses.now seen ≡ Some clause) × (Contains clause first × (Contains clause other × (first ≢ other)))) }
-    ensures live { IsLive clauses.now watched.new next.new firsts.new [] trail.now.entries.items trail.now.room frames.now head seen }
+    ensures live { IsLive clauses.now watched.new next.new firsts.new [] trail.now.entries.items trail.now.variable_count frames.now head seen }
     ensures watched { watched.new ≡ set (set watched.old (2 * seen) first) (2 * seen + 1) other }
 {
     set_watch(watched, 2 * seen, first);
@@ -106,14 +106,14 @@ fn settle(
     next: &mut [usize],
     firsts: &mut [usize],
     trail: &Assignments,
-    frames: &[Frame],
+    frames: &[Checkpoint],
     head: usize,
     seen: usize,
     first: Lit,
 )
-    requires live { IsLive clauses.now watched.old next.old firsts.old [] trail.now.entries.items trail.now.room frames.now head seen }
+    requires live { IsLive clauses.now watched.old next.old firsts.old [] trail.now.entries.items trail.now.variable_count frames.now head seen }
     requires here { (clause : _) × ((slice_get clauses.now seen ≡ Some clause) × Contains clause first) }
-    ensures live { IsLive clauses.now watched.new next.new firsts.new [] trail.now.entries.items trail.now.room frames.now head seen }
+    ensures live { IsLive clauses.now watched.new next.new firsts.new [] trail.now.entries.items trail.now.variable_count frames.now head seen }
 {
     if !is_unwatched(watched, seen) {
         return;
@@ -132,38 +132,39 @@ fn examine(
     next: &mut [usize],
     firsts: &mut [usize],
     trail: &mut Assignments,
-    frames: &[Frame],
+    frames: &[Checkpoint],
     head: usize,
     seen: usize,
 ) -> Examined
-    requires live { IsLive clauses.now watched.old next.old firsts.old [] trail.old.entries.items trail.old.room frames.now head seen }
+    requires live { IsLive clauses.now watched.old next.old firsts.old [] trail.old.entries.items trail.old.variable_count frames.now head seen }
     requires at { seen < length clauses.now }
-    ensures live { IsLive clauses.now watched.new next.new firsts.new [] trail.new.entries.items trail.new.room frames.now head seen }
-    ensures fine { result ≡ Examined.Fine → (clause : _) → slice_get clauses.now seen ≡ Some clause → IsWatchedAt watched.new trail.new.entries.items frames.now head seen clause }
+    ensures live { IsLive clauses.now watched.new next.new firsts.new [] trail.new.entries.items trail.new.variable_count frames.now head seen }
+    ensures fine { result ≡ Examined.Fine → (clause : _) → slice_get clauses.now seen ≡ Some clause →
+        IsWatchedAt watched.new trail.new.entries.items frames.now head seen clause }
     ensures conflict { result ≡ Examined.False → IsConflict clauses.now trail.new.entries.items (seen + 1) }
     ensures spreads { Spreads (state_of clauses.now trail.old) (state_of clauses.now trail.new) }
     ensures starts { trail.new.starts.items ≡ trail.old.starts.items }
-    ensures room { trail.new.room ≡ trail.old.room }
+    ensures variable_count { trail.new.variable_count ≡ trail.old.variable_count }
 {
     if stands(clauses, watched, trail, seen) {
         return Examined::Fine;
     }
-    match look_at(lits_of(clauses, seen), trail) {
-        Look::False => Examined::False,
-        Look::True(lit) => {
+    match status_of(lits_of(clauses, seen), trail) {
+        ClauseStatus::False => Examined::False,
+        ClauseStatus::True(lit) => {
             settle(
                 clauses, watched, next, firsts, trail, frames, head, seen, lit,
             );
             Examined::Fine
         }
-        Look::Unit(lit) => {
+        ClauseStatus::Unit(lit) => {
             settle(
                 clauses, watched, next, firsts, trail, frames, head, seen, lit,
             );
             trail.push(lit, Some(seen as u64 + 1));
             Examined::Fine
         }
-        Look::Open(lit, other) => {
+        ClauseStatus::Open(lit, other) => {
             if !is_unwatched(watched, seen) {
                 return Examined::Stuck;
             }
@@ -182,19 +183,19 @@ pub fn examine_all(
     next: &mut [usize],
     firsts: &mut [usize],
     trail: &mut Assignments,
-    frames: &[Frame],
+    frames: &[Checkpoint],
     head: usize,
     seen: &mut usize,
 ) -> Examined
-    requires live { IsLive clauses.now watched.old next.old firsts.old [] trail.old.entries.items trail.old.room frames.now head seen.old }
+    requires live { IsLive clauses.now watched.old next.old firsts.old [] trail.old.entries.items trail.old.variable_count frames.now head seen.old }
     requires within { seen.old ≤ length clauses.now }
-    ensures live { IsLive clauses.now watched.new next.new firsts.new [] trail.new.entries.items trail.new.room frames.now head seen.new }
+    ensures live { IsLive clauses.now watched.new next.new firsts.new [] trail.new.entries.items trail.new.variable_count frames.now head seen.new }
     ensures within { seen.new ≤ length clauses.now }
     ensures fine { result ≡ Examined.Fine → length clauses.now ≤ seen.new }
     ensures conflict { result ≡ Examined.False → IsConflict clauses.now trail.new.entries.items (seen.new + 1) }
     ensures spreads { Spreads (state_of clauses.now trail.old) (state_of clauses.now trail.new) }
     ensures starts { trail.new.starts.items ≡ trail.old.starts.items }
-    ensures room { trail.new.room ≡ trail.old.room }
+    ensures variable_count { trail.new.variable_count ≡ trail.old.variable_count }
 {
     while *seen < clauses.len() {
         match examine(clauses, watched, next, firsts, trail, frames, head, *seen) {

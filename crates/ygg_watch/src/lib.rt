@@ -7,4 +7,4 @@ mod watching;
 
 pub use maker::watch;
 pub use watching::Watch;
-pub use ygg_propagate::{Assigned, Found, PlainSpread, Propagate, Trail, plain_spread};
+pub use ygg_watch_plain::{Assigned, Found, PlainSpread, Propagate, Trail, plain_spread};

@@ -1,18 +1,18 @@
 ghost use Rattle.std.specs.Prelude.{IfOk};
-ghost use Rattle.ygg_propagate.specs.Propagation.{IsFresh};
+ghost use Rattle.ygg_watch_plain.specs.Propagation.{IsFresh};
 
 use crate::watching::Watch;
 use std::alloc::Global;
 use ygg_cnf::Clauses;
 use ygg_list::NoMemory;
-use ygg_propagate::{load, room_for};
+use ygg_watch_plain::{load, variable_count_for};
 
-/// Watched propagation that holds the clauses. Its only error is want of memory; tables are as long as the greatest variable.
+/// Watched propagation that holds the clauses. Its only error is out of memory; tables are as long as the greatest variable.
 pub fn watch(alloc: Global, clauses: &Clauses) -> Result<Watch, NoMemory>
     ensures { IfOk result (λ p. IsFresh clauses.now p) }
 {
-    let room = room_for(clauses)?;
-    let mut propagation = Watch::new(alloc, room)?;
+    let variable_count = variable_count_for(clauses)?;
+    let mut propagation = Watch::new(alloc, variable_count)?;
     load(&mut propagation, clauses)?;
     Ok(propagation)
 }

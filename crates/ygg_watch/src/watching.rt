@@ -5,15 +5,15 @@ use std::alloc::Global;
 use std::marker::Model;
 use ygg_cnf::{Clause, Lit};
 use ygg_list::NoMemory;
-use ygg_propagate::{Assigned, Found, Propagate, Trail, spread};
-use ygg_trail::{Assignments, Entry};
-use ygg_visit::{Frame, visit_all};
+use ygg_watch_plain::{Assigned, Found, Propagate, Trail, spread};
+use ygg_watch_trail::{Assignments, Entry};
+use ygg_watch_visit::{Checkpoint, visit_all};
 
 /// Propagation that watches two literals of each clause, and reads a clause only where a watched one becomes false.
 ///
 /// Node 2 * k and node 2 * k + 1 are the two watches of the clause with the number k + 1. `watched` has the literal of each
-/// node. The nodes of a literal form a chain: `firsts` has the first one by literal and `next` the one after by node, each plus
-/// 1, and 0 at the end. A clause both of whose watches are one literal is in no chain.
+/// node. The nodes of a literal form its watch list: `firsts` has the first one by literal and `next` the one after by node, each plus
+/// 1, and 0 at the end. A clause both of whose watches are one literal is in no watch list.
 ///
 /// The first `head` assigned literals and the first `seen` clauses have been looked at. A clause that was looked at has a true
 /// literal beside each watched one that is false by such a literal. `frames` has both numbers as they were when each level
@@ -25,37 +25,38 @@ pub struct Watch {
     next: Vec<usize>,
     firsts: Vec<usize>,
     trail: Assignments,
-    frames: Vec<Frame>,
+    frames: Vec<Checkpoint>,
     head: usize,
     seen: usize,
 }
 
 impl Model for Watch {
     ghost use Rattle.std.specs.Prelude.{vec_capacity};
-    ghost use Rattle.ygg_propagate.specs.Propagation.{Propagation};
-    ghost use Rattle.ygg_propagate.specs.Look.{state_of};
-    ghost use Rattle.ygg_visit.specs.State.{IsState};
+    ghost use Rattle.ygg_watch_plain.specs.Propagation.{Propagation};
+    ghost use Rattle.ygg_watch_plain.specs.Status.{state_of};
+    ghost use Rattle.ygg_watch_visit.specs.State.{IsState};
 
     ghost Value = { Propagation };
 
     ghost view = { λ s. state_of s.clauses.items s.trail };
 
-    ghost invariant = { λ s. IsState s.clauses.items s.watched.items s.next.items s.firsts.items s.trail.entries.items s.trail.starts.items s.trail.room s.frames.items (vec_capacity s.frames) s.head s.seen };
+    ghost invariant = { λ s. IsState s.clauses.items s.watched.items s.next.items s.firsts.items s.trail.entries.items s.trail.starts.items
+        s.trail.variable_count s.frames.items (vec_capacity s.frames) s.head s.seen };
 }
 
 impl Watch {
-    /// No clause is held, and variables are those below `room`. Its only error is want of memory.
-    pub fn new(alloc: Global, room: u64) -> Result<Watch, NoMemory>
-        ensures { IfOk result (λ p. p ≡ record { clauses = []; trail = []; level = 0; room = room }) }
+    /// No clause is held, and variables are those below `variable_count`. Its only error is out of memory.
+    pub fn new(alloc: Global, variable_count: u64) -> Result<Watch, NoMemory>
+        ensures { IfOk result (λ p. p ≡ record { clauses = []; trail = []; level = 0; variable_count = variable_count }) }
     {
-        let trail = Assignments::new(alloc, room)?;
+        let trail = Assignments::new(alloc, variable_count)?;
         Ok(Watch {
             clauses: Vec::new(alloc),
             watched: Vec::new(alloc),
             next: Vec::new(alloc),
-            firsts: Vec::from_elem(alloc, 0, 2 * room as usize)?,
+            firsts: Vec::from_elem(alloc, 0, 2 * variable_count as usize)?,
             trail,
-            frames: Vec::with_capacity(alloc, room as usize)?,
+            frames: Vec::with_capacity(alloc, variable_count as usize)?,
             head: 0,
             seen: 0,
         })
@@ -82,7 +83,7 @@ impl Propagate for Watch {
     }
 
     fn decide(&mut self, lit: Lit) {
-        self.frames.push_reserved(Frame {
+        self.frames.push_reserved(Checkpoint {
             head: self.head,
             seen: self.seen,
         });

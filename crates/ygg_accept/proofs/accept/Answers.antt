@@ -1,9 +1,9 @@
 use Rattle.std.proofs.Common.{sym, subst}
 use Rattle.ygg_syntax.specs.declared.tree.File.{File}
 use Rattle.ygg_syntax.specs.Files.{Derives}
-use Rattle.ygg_fault.specs.Files.{IsTyped}
+use Rattle.ygg_type_rules.specs.Files.{IsTyped}
 use Rattle.ygg_accept.proofs.Counted.{few_tokens}
-use Rattle.ygg_accept.proofs.Only.{no_other, faulty_on}
+use Rattle.ygg_accept.proofs.Only.{no_other, mistyped_on}
 use Rattle.ygg_accept.proofs.accept.Goals as goal
 
 pub check-requires : goal.check-requires
@@ -24,5 +24,5 @@ returns-clause-accepted c =
 
 pub returns-in_err-typed-clause-refused : goal.returns-in_err-typed-clause-refused
 returns-in_err-typed-clause-refused c =
-    faulty_on c.one_file_derives.ensures c.args.text.now c.in_ok-tokens.tokens c.in_ok-file.file c.from_residual-in_err-typed.result c.in_err-typed.field-0.0
+    mistyped_on c.one_file_derives.ensures c.args.text.now c.in_ok-tokens.tokens c.in_ok-file.file c.from_residual-in_err-typed.result c.in_err-typed.field-0.0
     c.from_residual-in_err-typed.ensures.1 c.in_ok-tokens.ensures.found c.in_ok-file.ensures.derives c.in_err-typed.ensures.refused

@@ -12,19 +12,21 @@ returns-in_default-numbered-clause-exact c clause = (
   (λ p. absurd (false≢true p.0)),
 )
 
-pub mark_all-requires : goal.mark_all-requires
-mark_all-requires c =
-    fits_numbered c.args.store.now.variables c.args.store.now.clauses (length c.args.marks.now) c.in-Some.first.now c.in-Some-numbered.start.now
+pub insert_all-requires : goal.insert_all-requires
+insert_all-requires c =
+    fits_numbered c.args.store.now.variables c.args.store.now.clauses (length c.args.seen.now) c.in-Some.first.now c.in-Some-numbered.start.now
     c.requires.kept c.in-Some-numbered.ensures
 
 pub returns-clause-exact : goal.returns-clause-exact
 returns-clause-exact c clause =
-    let step = kept_first c.args.store.now.variables c.args.store.now.clauses (length c.args.marks.now) c.requires.kept c.mark_all.new.marks
+    let step = kept_first c.args.store.now.variables c.args.store.now.clauses (length c.args.seen.now) c.requires.kept c.insert_all.new.seen
     c.in-Some.first.now c.in-Some.rest.now c.in-Some-numbered.start.now clause c.in-Some-numbered.ensures
-    (λ y. ((λ m. ⊎_elim (λ n. absurd ((c.requires.clear y).0 n)) (λ d. d) ((c.mark_all.ensures y).0 m)), (λ d. (c.mark_all.ensures y).1 (inr d)))) in
+    (λ y. ((λ m. ⊎_elim (λ n. absurd ((c.requires.clear y).0 n)) (λ d. d) ((c.insert_all.ensures y).0 m)), (λ d. (c.insert_all.ensures y).1 (inr d)))) in
     let rest = c.resolve_rest.ensures.exact clause in (
-      (λ d. rest.0 (step.0 (subst (λ (l : List ℕ). DerivesClause (Holds c.args.store.now.variables c.args.store.now.clauses) l clause) c.in-Some.ensures.cases.0 d))),
-      (λ p. subst (λ (l : List ℕ). DerivesClause (Holds c.args.store.now.variables c.args.store.now.clauses) l clause) (sym c.in-Some.ensures.cases.0) (step.1 (rest.1 p))),
+      (λ d. rest.0 (step.0 (subst (λ (l : List ℕ). DerivesClause (Holds c.args.store.now.variables c.args.store.now.clauses) l clause)
+          c.in-Some.ensures.cases.0 d))),
+      (λ p. subst (λ (l : List ℕ). DerivesClause (Holds c.args.store.now.variables c.args.store.now.clauses) l clause) (sym c.in-Some.ensures.cases.0)
+          (step.1 (rest.1 p))),
     )
 
 pub returns-clause-named : goal.returns-clause-named
@@ -32,6 +34,7 @@ returns-clause-named c y m =
     subst (λ (l : List ℕ). IsNamed c.args.store.now.clauses l y) (sym c.in-Some.ensures.cases.0)
     (named_first c.args.store.now.clauses c.in-Some.first.now c.in-Some.rest.now y
     (⊎_elim
-    (λ n. ⊎_elim (λ b. absurd ((c.requires.clear y).0 b)) (λ d. inl (c.in-Some-numbered.start.now, (c.in-Some-numbered.ensures, d))) ((c.mark_all.ensures y).0 n))
+    (λ n. ⊎_elim (λ b. absurd ((c.requires.clear y).0 b)) (λ d. inl (c.in-Some-numbered.start.now, (c.in-Some-numbered.ensures, d)))
+    ((c.insert_all.ensures y).0 n))
     (λ k. inr k)
     (c.resolve_rest.ensures.named y m)))

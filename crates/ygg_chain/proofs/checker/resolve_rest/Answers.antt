@@ -2,7 +2,7 @@ use Rattle.std.proofs.Common.{◌≡◌, inl, inr, ⊎_elim, List, ℕ, drop, �
 use Rattle.std.proofs.lemmas.Bool.{false≢true}
 use Rattle.std.proofs.lemmas.List.{drop_all}
 use Rattle.ygg_cnf.specs.Derivations.{Resolves}
-use Rattle.ygg_chain.specs.Held.{Holds, IsMarkedAs}
+use Rattle.ygg_chain.specs.Held.{Holds, InSetAs}
 use Rattle.ygg_chain.proofs.HeldLemmas.{next_number, named_more}
 use Rattle.ygg_chain.proofs.checker.resolve_rest.Goals as goal
 
@@ -11,7 +11,8 @@ returns-then-not-resolve_next-clause-exact c clause =
     let rest : List ℕ = drop (c.loop-id.id-index + 1) c.args.ids.now in
     let e = next_number c.args.ids.now c.loop-id.id-index c.loop-id-test.true in (
       (λ r. let p = (c.resolve_next.ensures.exact rest clause).0
-          (subst (λ (l : List ℕ). Resolves (Holds c.args.store.now.variables c.args.store.now.clauses) (IsMarkedAs c.args.store.now.variables c.loop-id.marks) l clause)
+          (subst (λ (l : List ℕ). Resolves (Holds c.args.store.now.variables c.args.store.now.clauses)
+          (InSetAs c.args.store.now.variables c.loop-id.seen) l clause)
           e ((c.loop-id.invariant.exact clause).0 r)) in
           absurd (false≢true (sym c.if-not-resolve_next.true ∙ p.0))),
       (λ p. absurd (false≢true p.0)),
@@ -25,10 +26,12 @@ loop-id-preserved c =
       exact = λ clause.
           let step = c.resolve_next.ensures.exact rest clause in (
             (λ r. (step.0
-                (subst (λ (l : List ℕ). Resolves (Holds c.args.store.now.variables c.args.store.now.clauses) (IsMarkedAs c.args.store.now.variables c.loop-id.marks) l clause)
+                (subst (λ (l : List ℕ). Resolves (Holds c.args.store.now.variables c.args.store.now.clauses)
+                (InSetAs c.args.store.now.variables c.loop-id.seen) l clause)
                 e ((c.loop-id.invariant.exact clause).0 r))).1),
             (λ r. (c.loop-id.invariant.exact clause).1
-                (subst (λ (l : List ℕ). Resolves (Holds c.args.store.now.variables c.args.store.now.clauses) (IsMarkedAs c.args.store.now.variables c.loop-id.marks) l clause)
+                (subst (λ (l : List ℕ). Resolves (Holds c.args.store.now.variables c.args.store.now.clauses)
+                (InSetAs c.args.store.now.variables c.loop-id.seen) l clause)
                 (sym e) (step.1 (c.if-not-resolve_next.false, r)))),
           );
       named = λ y m.
@@ -44,10 +47,12 @@ returns-clause-exact c clause =
     let e : drop c.loop-id.id-index c.args.ids.now ≡ [] = drop_all c.loop-id.id-index c.args.ids.now c.loop-id-test.false in (
       (λ r. (
         refl,
-        subst (λ (l : List ℕ). Resolves (Holds c.args.store.now.variables c.args.store.now.clauses) (IsMarkedAs c.args.store.now.variables c.loop-id.marks) l clause)
+        subst (λ (l : List ℕ). Resolves (Holds c.args.store.now.variables c.args.store.now.clauses)
+            (InSetAs c.args.store.now.variables c.loop-id.seen) l clause)
             e ((c.loop-id.invariant.exact clause).0 r),
       )),
       (λ p. (c.loop-id.invariant.exact clause).1
-          (subst (λ (l : List ℕ). Resolves (Holds c.args.store.now.variables c.args.store.now.clauses) (IsMarkedAs c.args.store.now.variables c.loop-id.marks) l clause)
+          (subst (λ (l : List ℕ). Resolves (Holds c.args.store.now.variables c.args.store.now.clauses)
+          (InSetAs c.args.store.now.variables c.loop-id.seen) l clause)
           (sym e) p.1)),
     )

@@ -6,10 +6,10 @@ use Rattle.ygg_chain.proofs.checker.take_named.Goals.{then-take_numbered, else-t
 
 pub loop-id-preserved : goal.loop-id-preserved
 loop-id-preserved c =
-    let more = none_more_named c.args.store.now.clauses c.args.chain.now c.loop-id.id-index c.loop-id-test.true c.args.marks.now c.loop-id.marks
-    c.take_numbered.new.marks c.loop-id.invariant.taken in
-    let less = none_less_named c.args.store.now.clauses c.args.chain.now c.loop-id.id-index c.loop-id-test.true c.args.marks.now c.loop-id.marks
-    c.take_numbered.new.marks c.loop-id.invariant.taken in
+    let more = none_more_named c.args.store.now.clauses c.args.chain.now c.loop-id.id-index c.loop-id-test.true c.args.seen.now c.loop-id.seen
+    c.take_numbered.new.seen c.loop-id.invariant.taken in
+    let less = none_less_named c.args.store.now.clauses c.args.chain.now c.loop-id.id-index c.loop-id-test.true c.args.seen.now c.loop-id.seen
+    c.take_numbered.new.seen c.loop-id.invariant.taken in
     record {
       none = elim c.if-take_numbered.branch [
         | then-take_numbered w ↦ rw w.none-is (
@@ -21,8 +21,8 @@ loop-id-preserved c =
           (λ all. c.take_numbered.ensures.answer.1 (less all).1),
         )
       ];
-      taken = take_more_named c.args.store.now.clauses c.args.chain.now c.loop-id.id-index c.loop-id-test.true c.args.marks.now c.loop-id.marks
-          c.take_numbered.new.marks c.loop-id.invariant.taken c.take_numbered.ensures.taken;
+      taken = take_more_named c.args.store.now.clauses c.args.chain.now c.loop-id.id-index c.loop-id-test.true c.args.seen.now c.loop-id.seen
+          c.take_numbered.new.seen c.loop-id.invariant.taken c.take_numbered.ensures.taken;
     }
 
 pub returns-clause-answer : goal.returns-clause-answer

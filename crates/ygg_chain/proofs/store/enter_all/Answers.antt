@@ -16,5 +16,8 @@ loop-lit-preserved c =
       grows = (before ++ more, grew ∙ ap (λ l. l ++ more) was ∙ append_assoc _ before more);
       distinct = c.enter.ensures.distinct;
       room = c.enter.ensures.room;
-      marks = λ y. ((λ m. (c.loop-lit.invariant.marks y).0 ((c.enter.ensures.marks y).0 m)), (λ m. (c.enter.ensures.marks y).1 ((c.loop-lit.invariant.marks y).1 m)));
+      seen = λ y. (
+        (λ m. (c.loop-lit.invariant.seen y).0 ((c.enter.ensures.seen y).0 m)),
+        (λ m. (c.enter.ensures.seen y).1 ((c.loop-lit.invariant.seen y).1 m)),
+      );
     }

@@ -1,8 +1,9 @@
 use Rattle.std.proofs.Common.{◌∙◌}
-use Rattle.ygg_cells.proofs.Wider.{rows_at}
+use Rattle.ygg_shape_cells.proofs.Wider.{rows_at}
 use Rattle.ygg_shape.proofs.comparing.compare_rows.Goals as goal
 
 pub compare_row-requires-clause-rows : goal.compare_row-requires-clause-rows
 compare_row-requires-clause-rows g c =
-    rows_at c.args.bank.now c.loop-place.bank c.args.one.now c.args.two.now c.loop-place.place c.as_slice.result.now _ c.as_slice-in-loop-place.result.now _ c.loop-place.invariant.grows c.requires.rows
+    rows_at c.args.bank.now c.loop-place.bank c.args.one.now c.args.two.now c.loop-place.place c.as_slice.result.now _
+    c.as_slice-in-loop-place.result.now _ c.loop-place.invariant.grows c.requires.rows
     c.loop-place-test.true (c.as_slice.ensures ∙ c.index-one-place.is) (c.as_slice-in-loop-place.ensures ∙ c.index-two-place.is)

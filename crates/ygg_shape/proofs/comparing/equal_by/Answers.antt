@@ -1,19 +1,25 @@
-use Rattle.ygg_cells.proofs.Wider.{can_equal, alike_words, alike_rows, alike_tables, rows_alike_wider, tables_alike_wider}
+use Rattle.ygg_shape_cells.proofs.Wider.{alike_words, alike_rows, alike_tables, rows_alike_wider, tables_alike_wider}
 use Rattle.ygg_shape.proofs.comparing.equal_by.Goals as goal
 
-pub make-requires : goal.make-requires
-make-requires g c =
-    let w = alike_words c.args.bank.now c.args.one.now c.args.two.now c.in-Word-Word.one c.in-Word-Word.two c.requires c.in-Word-Word.is-0 c.in-Word-Word.is-1 in
-    can_equal c.args.bank.now c.in-Word-Word.one c.in-Word-Word.two w.width w.one_has w.two_has
+pub same-requires : goal.same-requires
+same-requires g c =
+    record {
+      words = alike_words c.args.bank.now c.args.one.now c.args.two.now c.in-Word-Word.one c.in-Word-Word.two c.requires c.in-Word-Word.is-0
+          c.in-Word-Word.is-1;
+    }
 
 pub compare_row-requires-clause-rows : goal.compare_row-requires-clause-rows
 compare_row-requires-clause-rows g c =
-    rows_alike_wider c.args.bank.now c.make-in-Row-Row.new.self c.in-Row-Row.one c.in-Row-Row.two c.as_slice.result.now c.as_slice-in-Row-Row.result.now c.make-in-Row-Row.ensures.grows
-    (alike_rows c.args.bank.now c.args.one.now c.args.two.now c.in-Row-Row.one c.in-Row-Row.two c.requires c.in-Row-Row.is-0 c.in-Row-Row.is-1) c.as_slice.ensures c.as_slice-in-Row-Row.ensures
+    rows_alike_wider c.args.bank.now c.make.new.self c.in-Row-Row.one c.in-Row-Row.two c.as_slice.result.now
+    c.as_slice-in-Row-Row.result.now c.make.ensures.grows
+    (alike_rows c.args.bank.now c.args.one.now c.args.two.now c.in-Row-Row.one c.in-Row-Row.two c.requires c.in-Row-Row.is-0 c.in-Row-Row.is-1)
+    c.as_slice.ensures c.as_slice-in-Row-Row.ensures
 
 pub compare_rows-requires-clause-rows : goal.compare_rows-requires-clause-rows
 compare_rows-requires-clause-rows g c =
-    tables_alike_wider c.args.bank.now c.make-in-Table-Table.new.self c.in-Table-Table.one c.in-Table-Table.two c.as_slice-in-Table-Table.result.now c.as_slice-in-Table-Table-2.result.now
+    tables_alike_wider c.args.bank.now c.make-in-Table-Table.new.self c.in-Table-Table.one c.in-Table-Table.two c.as_slice-in-Table-Table.result.now
+    c.as_slice-in-Table-Table-2.result.now
     c.make-in-Table-Table.ensures.grows
-    (alike_tables c.args.bank.now c.args.one.now c.args.two.now c.in-Table-Table.one c.in-Table-Table.two c.requires c.in-Table-Table.is-0 c.in-Table-Table.is-1)
+    (alike_tables c.args.bank.now c.args.one.now c.args.two.now c.in-Table-Table.one c.in-Table-Table.two c.requires c.in-Table-Table.is-0
+    c.in-Table-Table.is-1)
     c.as_slice-in-Table-Table.ensures c.as_slice-in-Table-Table-2.ensures

@@ -1,11 +1,11 @@
 use Rattle.ygg_bank.specs.Nodes.{Extends, IsBank}
-use Rattle.ygg_cells.specs.Making.{merged_word}
+use Rattle.ygg_shape_words.specs.Picking.{picked}
 use Rattle.ygg_shape.proofs.Steps.{EachTwo}
 use Rattle.ygg_shape.proofs.merging.merge_row.Given as goal
 
 abbrev pub invariant-loop-place : goal.invariant-loop-place
 invariant-loop-place g l = record {
-  went : EachTwo (merged_word (g.B.Book.kinds l.book) l.test) l.yes l.no l.fn.bank l.place l.row l.bank;
+  went : EachTwo (picked (g.B.Book.kinds l.book) l.test) l.yes l.no l.fn.bank l.place l.row l.bank;
   grows : Extends l.fn.bank l.bank;
   bank : IsBank l.bank;
 }

@@ -1,6 +1,6 @@
 use Rattle.std.proofs.Common.{◌∙◌}
 use Rattle.ygg_bank.proofs.Widths.{wider}
-use Rattle.ygg_cells.proofs.Wider.{rows_at}
+use Rattle.ygg_shape_cells.proofs.Wider.{rows_at}
 use Rattle.ygg_shape.proofs.merging.merge_rows.Goals as goal
 
 pub merge_row-requires-clause-test : goal.merge_row-requires-clause-test
@@ -8,5 +8,6 @@ merge_row-requires-clause-test g c = wider c.args.bank.now c.loop-place.bank c.a
 
 pub merge_row-requires-clause-rows : goal.merge_row-requires-clause-rows
 merge_row-requires-clause-rows g c =
-    rows_at c.args.bank.now c.loop-place.bank c.args.yes.now c.args.no.now c.loop-place.place c.as_slice.result.now _ c.as_slice-in-loop-place.result.now _ c.loop-place.invariant.grows c.requires.rows
+    rows_at c.args.bank.now c.loop-place.bank c.args.yes.now c.args.no.now c.loop-place.place c.as_slice.result.now _
+    c.as_slice-in-loop-place.result.now _ c.loop-place.invariant.grows c.requires.rows
     c.loop-place-test.true (c.as_slice.ensures ∙ c.index-yes-place.is) (c.as_slice-in-loop-place.ensures ∙ c.index-no-place.is)

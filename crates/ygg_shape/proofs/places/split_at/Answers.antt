@@ -1,14 +1,17 @@
 use Rattle.std.proofs.Common.{refl}
 use Rattle.ygg_bank.proofs.Widths.{wider, extends_both}
-use Rattle.ygg_cells.proofs.Wider.{can_equal, rows_alike_wider}
+use Rattle.ygg_shape_words.proofs.Fit.{alike}
+use Rattle.ygg_shape_cells.proofs.Wider.{rows_alike_wider}
 use Rattle.ygg_shape.proofs.places.split_at.Goals as goal
 
-pub make-requires-2 : goal.make-requires-2
-make-requires-2 g c =
-    can_equal c.make.new.self c.args.place.at c.in_ok-constant.constant c.args.place.width
-    (wider c.args.bank.now c.make.new.self c.args.place.at c.args.place.width c.make.ensures.grows c.requires.place) c.in_ok-constant.ensures.width
+pub same-requires : goal.same-requires
+same-requires g c =
+    record {
+      words = alike c.make.new.self c.args.place.at c.in_ok-constant.constant c.args.place.width
+          (wider c.args.bank.now c.make.new.self c.args.place.at c.args.place.width c.make.ensures.grows c.requires.place) c.in_ok-constant.ensures.width;
+    }
 
 pub merge_row-requires-clause-rows : goal.merge_row-requires-clause-rows
 merge_row-requires-clause-rows g c =
-    rows_alike_wider c.args.bank.now c.make-2.new.self c.args.yes.now c.args.no.now c.args.yes.now c.args.no.now
-    (extends_both c.args.bank.now c.make.new.self c.make-2.new.self c.make.ensures.grows c.make-2.ensures.grows) c.requires.rows refl refl
+    rows_alike_wider c.args.bank.now c.same.new.bank c.args.yes.now c.args.no.now c.args.yes.now c.args.no.now
+    (extends_both c.args.bank.now c.make.new.self c.same.new.bank c.make.ensures.grows c.same.ensures.grows) c.requires.rows refl refl

@@ -1,5 +1,5 @@
 use Rattle.ygg_bank.proofs.Widths.{wider}
-use Rattle.ygg_cells.proofs.Wider.{rows_wider}
+use Rattle.ygg_shape_cells.proofs.Wider.{rows_wider}
 use Rattle.ygg_shape.proofs.selecting.select_by.Goals as goal
 
 pub choose-requires-clause-place : goal.choose-requires-clause-place

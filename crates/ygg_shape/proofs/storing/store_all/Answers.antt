@@ -1,6 +1,6 @@
 use Rattle.std.proofs.Common.{◌∙◌}
 use Rattle.ygg_bank.proofs.Widths.{wider}
-use Rattle.ygg_cells.proofs.Wider.{row_at, row_wider}
+use Rattle.ygg_shape_cells.proofs.Wider.{row_at, row_wider}
 use Rattle.ygg_shape.proofs.storing.store_all.Goals as goal
 
 pub where_at-requires-clause-place : goal.where_at-requires-clause-place
@@ -13,6 +13,7 @@ where_at-requires-clause-rows g c =
       words = r.words;
       width = r.width;
       one_is = row_wider c.args.bank.now c.loop-number.bank r.words r.width c.args.new.now c.loop-number.invariant.grows r.row_is;
-      two_is = row_at c.args.bank.now c.loop-number.bank r.words r.width c.args.table.now c.loop-number.number c.as_slice.result.now _ c.loop-number.invariant.grows r.rows_are c.loop-number-test.true
+      two_is = row_at c.args.bank.now c.loop-number.bank r.words r.width c.args.table.now c.loop-number.number c.as_slice.result.now _
+          c.loop-number.invariant.grows r.rows_are c.loop-number-test.true
           (c.as_slice.ensures ∙ c.index-table-number.is);
     }

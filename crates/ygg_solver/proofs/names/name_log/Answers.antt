@@ -14,7 +14,8 @@ name_step-requires c =
 
 pub loop-step-preserved : goal.loop-step-preserved
 loop-step-preserved c = record {
-  named = rw (c.in_ok-push.ensures.ok, c.loop-step.invariant.named, c.in_ok-name_step.ensures) (sym (map-append (step_at c.args.variables.now) c.loop-step.yielded (c.in-Some.step ∷ [])));
+  named = rw (c.in_ok-push.ensures.ok, c.loop-step.invariant.named, c.in_ok-name_step.ensures)
+      (sym (map-append (step_at c.args.variables.now) c.loop-step.yielded (c.in-Some.step ∷ [])));
   placed = All-tail (All (IsPlaced c.args.variables.now)) (clause_of c.in-Some.step) (map clause_of c.next.new.self.rest.items)
       (subst (λ (l : List Step). All (All (IsPlaced c.args.variables.now)) (map clause_of l)) c.in-Some.ensures.steps.0 c.loop-step.invariant.placed);
 }

@@ -7,7 +7,8 @@ use Rattle.ygg_solver.proofs.names.number_all.Goals as goal
 pub loop-clause-preserved : goal.loop-clause-preserved
 loop-clause-preserved c =
     let (more, grew) = c.number_clause.ensures.grows in
-    let (placed, same) = numbered_more c.loop-clause.variables c.number_clause.new.variables more grew c.loop-clause.kept c.as_slice-clause-items.result.now c.loop-clause.clause-index
+    let (placed, same) = numbered_more c.loop-clause.variables c.number_clause.new.variables more grew c.loop-clause.kept
+    c.as_slice-clause-items.result.now c.loop-clause.clause-index
     c.clause-item.result c.in_ok-number_clause.field-0 c.loop-clause-test.true c.loop-clause.invariant.placed c.loop-clause.invariant.same c.clause-item.is
     c.in_ok-number_clause.ensures.placed (c.in_ok-number_clause.ensures.same ∙ c.as_slice.ensures) in
     record {

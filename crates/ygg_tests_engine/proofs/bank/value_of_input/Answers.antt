@@ -21,7 +21,8 @@ fits w rest h zero number u k e f =
 fits w rest h (suc place) number u k e f = absurd (cc)
 
 -- the bank in which the input was made first
-fits_first : (kinds : List RuleKind) (env : List Given) (old new : List Node) → new ≡ (made kinds (Input 3 8) old).nodes → old ≡ [] → EnvFits env (Input 3 8 ∷ []) → EnvFits env new
+fits_first : (kinds : List RuleKind) (env : List Given) (old new : List Node) → new ≡ (made kinds (Input 3 8) old).nodes → old ≡ [] →
+    EnvFits env (Input 3 8 ∷ []) → EnvFits env new
 fits_first kinds env old new e f h = subst (EnvFits env) (sym (e ∙ ap (λ z. (made kinds (Input 3 8) z).nodes) f)) h
 
 pub value-requires-clause-env : goal.value-requires-clause-env

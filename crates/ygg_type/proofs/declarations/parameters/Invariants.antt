@@ -1,12 +1,13 @@
 use Rattle.std.proofs.Common.{◌≡◌, drop}
-use Rattle.ygg_fault.specs.Faults.{first_after}
-use Rattle.ygg_fault.specs.Definitions.{parameters_faults, with_parameters}
-use Rattle.ygg_scope.specs.Checking.{scope_of}
+use Rattle.ygg_type_rules.specs.TypeErrors.{first_after}
+use Rattle.ygg_type_rules.specs.Definitions.{parameters_errors, with_parameters}
+use Rattle.ygg_type_scope.specs.Checking.{scope_of}
 use Rattle.ygg_type.proofs.declarations.parameters.Given as goal
 
 -- what is left decides
 abbrev pub invariant-loop-parameter : goal.invariant-loop-parameter
 invariant-loop-parameter l = record {
-  first : first_after l.checker.first.fault (parameters_faults (drop l.parameter-index l.all) (scope_of l.checker)) ≡ first_after l.initial.checker.first.fault (parameters_faults l.all (scope_of l.initial.checker));
+  first : first_after l.checker.first.type_error (parameters_errors (drop l.parameter-index l.all) (scope_of l.checker))
+      ≡ first_after l.initial.checker.first.type_error (parameters_errors l.all (scope_of l.initial.checker));
   scope : with_parameters (drop l.parameter-index l.all) (scope_of l.checker) ≡ with_parameters l.all (scope_of l.initial.checker);
 }

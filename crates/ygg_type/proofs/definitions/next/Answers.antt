@@ -1,8 +1,9 @@
-use Rattle.ygg_scope.specs.Checking.{scope_of}
+use Rattle.ygg_type_scope.specs.Checking.{scope_of}
 use Rattle.ygg_type.proofs.Parameters.{after_definition}
 use Rattle.ygg_type.proofs.definitions.next.Goals as goal
 
 pub returns-clause-scope : goal.returns-clause-scope
 returns-clause-scope c =
-    after_definition c.args.def.now (scope_of c.args.checker.now) (scope_of c.faults.new.checker) (scope_of c.define.new.checker) c.args.checker.now.defs c.requires c.in_ok-faults.ensures.scope
+    after_definition c.args.def.now (scope_of c.args.checker.now) (scope_of c.type_errors.new.checker)
+    (scope_of c.define.new.checker) c.args.checker.now.defs c.requires c.in_ok-type_errors.ensures.scope
     c.in_ok-define.ensures.scope

@@ -1,8 +1,8 @@
 use Rattle.std.proofs.Common.{◌≡◌, drop, []}
-use Rattle.ygg_count.specs.Weights.{weights_of}
-use Rattle.ygg_fault.specs.Faults.{first_after}
-use Rattle.ygg_fault.specs.Files.{layers_faults}
-use Rattle.ygg_scope.specs.Checking.{scope_of}
+use Rattle.ygg_syntax_count.specs.Weights.{weights_of}
+use Rattle.ygg_type_rules.specs.TypeErrors.{first_after}
+use Rattle.ygg_type_rules.specs.Files.{layers_errors}
+use Rattle.ygg_type_scope.specs.Checking.{scope_of}
 use Rattle.ygg_type.specs.Ready.{IsReady, below_in}
 use Rattle.ygg_type.proofs.files.layers.Given as goal
 
@@ -11,8 +11,9 @@ abbrev pub invariant-loop-before : goal.invariant-loop-before
 invariant-loop-before l =
     let defs = l.initial.checker.defs in
     record {
-      first : first_after l.checker.first.fault (layers_faults (drop l.before l.all) l.before l.names defs (below_in (scope_of l.checker)) (weights_of l.weights))
-          ≡ first_after l.initial.checker.first.fault (layers_faults l.all 0 [] defs (below_in (scope_of l.initial.checker)) (weights_of l.weights));
+      first : first_after l.checker.first.type_error (layers_errors (drop l.before l.all) l.before l.names defs (below_in (scope_of l.checker))
+          (weights_of l.weights))
+          ≡ first_after l.initial.checker.first.type_error (layers_errors l.all 0 [] defs (below_in (scope_of l.initial.checker)) (weights_of l.weights));
       ready : IsReady (scope_of l.checker);
       defs : l.checker.defs ≡ defs;
     }

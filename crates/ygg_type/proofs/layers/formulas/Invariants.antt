@@ -1,8 +1,8 @@
 use Rattle.std.proofs.Common.{◌≡◌, drop}
-use Rattle.ygg_count.specs.Weights.{weights_of}
-use Rattle.ygg_fault.specs.Faults.{first_after}
-use Rattle.ygg_fault.specs.Layers.{formulas_faults}
-use Rattle.ygg_scope.specs.Checking.{scope_of}
+use Rattle.ygg_syntax_count.specs.Weights.{weights_of}
+use Rattle.ygg_type_rules.specs.TypeErrors.{first_after}
+use Rattle.ygg_type_rules.specs.Layers.{formulas_errors}
+use Rattle.ygg_type_scope.specs.Checking.{scope_of}
 use Rattle.ygg_type.proofs.layers.formulas.Given as goal
 
 -- what is left decides
@@ -10,6 +10,7 @@ abbrev pub invariant-loop-e : goal.invariant-loop-e
 invariant-loop-e l =
     let scope = scope_of l.initial.checker in
     record {
-      first : first_after l.checker.first.fault (formulas_faults l.view (drop l.e-index l.all) (weights_of l.weights) scope) ≡ first_after l.initial.checker.first.fault (formulas_faults l.view l.all (weights_of l.weights) scope);
+      first : first_after l.checker.first.type_error (formulas_errors l.view (drop l.e-index l.all) (weights_of l.weights) scope)
+          ≡ first_after l.initial.checker.first.type_error (formulas_errors l.view l.all (weights_of l.weights) scope);
       same : scope_of l.checker ≡ scope;
     }

@@ -1,6 +1,6 @@
 use Rattle.std.proofs.Common.{◌∙◌}
-use Rattle.ygg_scope.specs.Checking.{scope_of}
-use Rattle.ygg_scope.proofs.Restored.{cut_to}
+use Rattle.ygg_type_scope.specs.Checking.{scope_of}
+use Rattle.ygg_type_scope.proofs.Restored.{cut_to}
 use Rattle.ygg_type.proofs.Parameters.{grows_with}
 use Rattle.ygg_type.proofs.layers.operation.Goals as goal
 
@@ -8,4 +8,5 @@ pub returns-clause-same : goal.returns-clause-same
 returns-clause-same c =
     let before = scope_of c.args.checker.now in
     let after = scope_of c.operation_inside.new.checker in
-    c.forget.ensures.scope ∙ cut_to before after c.len-before.result c.len-before.ensures (grows_with c.args.operation.now.arguments before after c.in_ok-operation_inside.ensures.scope)
+    c.forget.ensures.scope ∙ cut_to before after c.len-before.result c.len-before.ensures
+    (grows_with c.args.operation.now.arguments before after c.in_ok-operation_inside.ensures.scope)

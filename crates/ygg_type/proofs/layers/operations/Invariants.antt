@@ -1,8 +1,8 @@
 use Rattle.std.proofs.Common.{◌≡◌, drop, []}
-use Rattle.ygg_count.specs.Weights.{weights_of}
-use Rattle.ygg_fault.specs.Faults.{first_after}
-use Rattle.ygg_fault.specs.Layers.{operations_faults, with_operations}
-use Rattle.ygg_scope.specs.Checking.{scope_of}
+use Rattle.ygg_syntax_count.specs.Weights.{weights_of}
+use Rattle.ygg_type_rules.specs.TypeErrors.{first_after}
+use Rattle.ygg_type_rules.specs.Layers.{operations_errors, with_operations}
+use Rattle.ygg_type_scope.specs.Checking.{scope_of}
 use Rattle.ygg_type.proofs.layers.operations.Given as goal
 
 -- what is left decides
@@ -11,7 +11,8 @@ invariant-loop-one l =
     let left = drop l.one-index l.all in
     let scope = scope_of l.initial.checker in
     record {
-      first : first_after l.checker.first.fault (operations_faults left l.crash l.known (weights_of l.weights) scope) ≡ first_after l.initial.checker.first.fault (operations_faults l.all l.crash [] (weights_of l.weights) scope);
+      first : first_after l.checker.first.type_error (operations_errors left l.crash l.known (weights_of l.weights) scope)
+          ≡ first_after l.initial.checker.first.type_error (operations_errors l.all l.crash [] (weights_of l.weights) scope);
       known : with_operations left l.known ≡ with_operations l.all [];
       same : scope_of l.checker ≡ scope;
     }

@@ -1,8 +1,8 @@
 use Rattle.std.proofs.Common.{◌≡◌, drop, []}
-use Rattle.ygg_count.specs.Weights.{weights_of}
-use Rattle.ygg_fault.specs.Faults.{first_after}
-use Rattle.ygg_fault.specs.Layers.{ticks_faults}
-use Rattle.ygg_scope.specs.Checking.{scope_of}
+use Rattle.ygg_syntax_count.specs.Weights.{weights_of}
+use Rattle.ygg_type_rules.specs.TypeErrors.{first_after}
+use Rattle.ygg_type_rules.specs.Layers.{ticks_errors}
+use Rattle.ygg_type_scope.specs.Checking.{scope_of}
 use Rattle.ygg_type.proofs.layers.ticks.Given as goal
 
 -- what is left decides
@@ -10,6 +10,7 @@ abbrev pub invariant-loop-one : goal.invariant-loop-one
 invariant-loop-one l =
     let scope = scope_of l.initial.checker in
     record {
-      first : first_after l.checker.first.fault (ticks_faults (drop l.one-index l.all) l.known (weights_of l.weights) scope) ≡ first_after l.initial.checker.first.fault (ticks_faults l.all [] (weights_of l.weights) scope);
+      first : first_after l.checker.first.type_error (ticks_errors (drop l.one-index l.all) l.known (weights_of l.weights) scope)
+          ≡ first_after l.initial.checker.first.type_error (ticks_errors l.all [] (weights_of l.weights) scope);
       same : scope_of l.checker ≡ scope;
     }

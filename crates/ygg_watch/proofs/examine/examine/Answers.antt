@@ -1,34 +1,42 @@
 use Rattle.std.proofs.Common.{◌≡◌, ◌<◌, ◌*◌, ◌+◌, ◌++◌, ◌∷◌, List, [], length, sym, subst, ◌∙◌, arith, Some, refl, Contains}
 use Rattle.std.proofs.lemmas.Option.{same_Some}
 use Rattle.ygg_cnf.specs.declared.lit.Lit.{Lit}
-use Rattle.ygg_propagate.proofs.LookLemmas.{spreads_none, step_spreads, state_same, not_false}
-use Rattle.ygg_propagate.specs.Look.{state_of}
-use Rattle.ygg_propagate.specs.Propagation.{IsFalse}
-use Rattle.ygg_trail.proofs.AssignmentLemmas.{at_last}
-use Rattle.ygg_trail.specs.declared.entry.Entry.{Entry}
-use Rattle.ygg_visit.proofs.WatchLemmas.{clause_within, lit_within, has_clause, live_push, framed_push, watched_satisfied, watched_loose}
-use Rattle.ygg_visit.proofs.StepLemmas.{watched_standing, attached_linked, first_lit, second_lit}
-use Rattle.ygg_visit.specs.State.{IsLive}
-use Rattle.ygg_visit.specs.Watching.{IsWatchedAt}
+use Rattle.ygg_watch_plain.proofs.StatusLemmas.{spreads_none, step_spreads, state_same, not_false}
+use Rattle.ygg_watch_plain.specs.Status.{state_of}
+use Rattle.ygg_watch_plain.specs.Propagation.{IsFalse}
+use Rattle.ygg_watch_trail.proofs.AssignmentLemmas.{at_last}
+use Rattle.ygg_watch_trail.specs.declared.entry.Entry.{Entry}
+use Rattle.ygg_watch_visit.proofs.WatchLemmas.{clause_within, lit_within, has_clause, live_push, framed_push, watched_satisfied, watched_loose}
+use Rattle.ygg_watch_visit.proofs.StepLemmas.{watched_standing, attached_linked, first_lit, second_lit}
+use Rattle.ygg_watch_visit.specs.State.{IsLive}
+use Rattle.ygg_watch_visit.specs.Watching.{IsWatchedAt}
 use Rattle.ygg_watch.proofs.examine.examine.Goals as goal
 
 pub returns-then-stands-clause-fine : goal.returns-then-stands-clause-fine
 returns-then-stands-clause-fine c _ clause is =
-    watched_standing c.args.watched.now c.args.trail.now.entries.items c.args.trail.now.room c.args.frames.now c.args.head c.args.seen clause c.args.trail.now.trail c.requires.live.framed (c.stands.ensures c.if-stands.true)
+    watched_standing c.args.watched.now c.args.trail.now.entries.items c.args.trail.now.variable_count c.args.frames.now c.args.head c.args.seen clause
+    c.args.trail.now.trail c.requires.live.framed (c.stands.ensures c.if-stands.true)
 
-pub look_at-requires : goal.look_at-requires
-look_at-requires c = clause_within c.args.clauses.now c.args.trail.now.room c.args.seen c.lits_of.result.now c.requires.live.variables c.lits_of.ensures
+pub status_of-requires : goal.status_of-requires
+status_of-requires c = clause_within c.args.clauses.now c.args.trail.now.variable_count c.args.seen c.lits_of.result.now c.requires.live.variables
+    c.lits_of.ensures
 
 pub push-requires-clause-within : goal.push-requires-clause-within
-push-requires-clause-within c = lit_within c.args.clauses.now c.args.trail.now.room c.args.seen c.lits_of.result.now c.in-Unit.lit c.requires.live.variables c.lits_of.ensures c.in-Unit.ensures.0
+push-requires-clause-within c = lit_within c.args.clauses.now c.args.trail.now.variable_count c.args.seen c.lits_of.result.now c.in-Unit.lit
+    c.requires.live.variables c.lits_of.ensures c.in-Unit.ensures.0
 
 pub returns-in-False-clause-conflict : goal.returns-in-False-clause-conflict
-returns-in-False-clause-conflict c _ = (c.lits_of.result.now, (has_clause c.args.clauses.now c.args.seen c.lits_of.result.now c.lits_of.ensures, c.in-False.ensures))
+returns-in-False-clause-conflict c _ = (
+  c.lits_of.result.now,
+  (has_clause c.args.clauses.now c.args.seen c.lits_of.result.now c.lits_of.ensures, c.in-False.ensures),
+)
 
 pub returns-in-Unit-clause-live : goal.returns-in-Unit-clause-live
 returns-in-Unit-clause-live c =
-    subst (λ m. IsLive c.args.clauses.now c.settle-in-Unit.new.watched c.settle-in-Unit.new.next c.settle-in-Unit.new.firsts [] c.push.new.self.entries.items m c.args.frames.now c.args.head c.args.seen) (sym c.push.ensures.room)
-    (live_push c.args.clauses.now c.settle-in-Unit.new.watched c.settle-in-Unit.new.next c.settle-in-Unit.new.firsts [] c.args.trail.now.entries.items c.push.new.self.entries.items c.args.trail.now.room c.args.frames.now c.args.head c.args.seen _
+    subst (λ m. IsLive c.args.clauses.now c.settle-in-Unit.new.watched c.settle-in-Unit.new.next c.settle-in-Unit.new.firsts
+    [] c.push.new.self.entries.items m c.args.frames.now c.args.head c.args.seen) (sym c.push.ensures.variable_count)
+    (live_push c.args.clauses.now c.settle-in-Unit.new.watched c.settle-in-Unit.new.next c.settle-in-Unit.new.firsts
+    [] c.args.trail.now.entries.items c.push.new.self.entries.items c.args.trail.now.variable_count c.args.frames.now c.args.head c.args.seen _
     c.settle-in-Unit.ensures.live c.push.ensures.entries)
 
 pub returns-in-Unit-clause-fine : goal.returns-in-Unit-clause-fine
@@ -39,14 +47,17 @@ returns-in-Unit-clause-fine c _ clause is =
     subst (λ (t : List Entry). IsWatchedAt c.settle-in-Unit.new.watched t c.args.frames.now c.args.head c.args.seen clause) (sym c.push.ensures.entries)
     (watched_satisfied c.settle-in-Unit.new.watched (c.args.trail.now.entries.items ++ e ∷ []) c.args.frames.now c.args.head c.args.seen clause c.in-Unit.lit
     (framed_push c.args.trail.now.entries.items c.args.frames.now c.args.head c.args.seen e c.requires.live.framed)
-    (subst (λ (w : List Lit). Contains w c.in-Unit.lit) same c.in-Unit.ensures.0) (length c.args.trail.now.entries.items, (e, (at_last c.args.trail.now.entries.items e, refl))))
+    (subst (λ (w : List Lit). Contains w c.in-Unit.lit) same c.in-Unit.ensures.0)
+    (length c.args.trail.now.entries.items, (e, (at_last c.args.trail.now.entries.items e, refl))))
 
 pub returns-in-Unit-clause-spreads : goal.returns-in-Unit-clause-spreads
 returns-in-Unit-clause-spreads c =
-    step_spreads (state_of c.args.clauses.now c.args.trail.now) (state_of c.args.clauses.now c.args.trail.now) (c.args.seen + 1) c.in-Unit.lit c.lits_of.result.now (spreads_none (state_of c.args.clauses.now c.args.trail.now))
+    step_spreads (state_of c.args.clauses.now c.args.trail.now) (state_of c.args.clauses.now c.args.trail.now)
+    (c.args.seen + 1) c.in-Unit.lit c.lits_of.result.now (spreads_none (state_of c.args.clauses.now c.args.trail.now))
     (has_clause c.args.clauses.now c.args.seen c.lits_of.result.now c.lits_of.ensures) c.in-Unit.ensures
-    (lit_within c.args.clauses.now c.args.trail.now.room c.args.seen c.lits_of.result.now c.in-Unit.lit c.requires.live.variables c.lits_of.ensures c.in-Unit.ensures.0) (state_of c.args.clauses.now c.push.new.self)
-    (state_same c.args.clauses.now _ _ _ _ _ _ _ c.push.ensures.entries c.push.ensures.starts c.push.ensures.room)
+    (lit_within c.args.clauses.now c.args.trail.now.variable_count c.args.seen c.lits_of.result.now c.in-Unit.lit c.requires.live.variables c.lits_of.ensures
+    c.in-Unit.ensures.0) (state_of c.args.clauses.now c.push.new.self)
+    (state_same c.args.clauses.now _ _ _ _ _ _ _ c.push.ensures.entries c.push.ensures.starts c.push.ensures.variable_count)
 
 pub returns-else-not-is_unwatched-clause-fine : goal.returns-else-not-is_unwatched-clause-fine
 returns-else-not-is_unwatched-clause-fine c _ clause is =

@@ -1,16 +1,16 @@
 use Rattle.std.proofs.Common.{◌≡◌, ◌≤◌, ◌-◌, length, []}
-use Rattle.ygg_propagate.specs.Look.{state_of}
-use Rattle.ygg_propagate.specs.Propagation.{Spreads}
-use Rattle.ygg_visit.specs.State.{IsLive}
+use Rattle.ygg_watch_plain.specs.Status.{state_of}
+use Rattle.ygg_watch_plain.specs.Propagation.{Spreads}
+use Rattle.ygg_watch_visit.specs.State.{IsLive}
 use Rattle.ygg_watch.proofs.examine.examine_all.Given as goal
 
 abbrev pub invariant-loop-seen : goal.invariant-loop-seen
 invariant-loop-seen l = record {
-  live : IsLive l.clauses l.watched l.next l.firsts [] l.trail.entries.items l.trail.room l.frames l.head l.seen;
+  live : IsLive l.clauses l.watched l.next l.firsts [] l.trail.entries.items l.trail.variable_count l.frames l.head l.seen;
   within : l.seen ≤ length l.clauses;
   spreads : Spreads (state_of l.clauses l.initial.trail) (state_of l.clauses l.trail);
   starts : l.trail.starts.items ≡ l.initial.trail.starts.items;
-  room : l.trail.room ≡ l.initial.trail.room;
+  variable_count : l.trail.variable_count ≡ l.initial.trail.variable_count;
 }
 
 abbrev pub decreases-loop-seen : goal.decreases-loop-seen

@@ -10,7 +10,8 @@ invariant_of-self-else-not-is_new c =
     let longer : c.insert_full.new.self.keys ≡ c.self.inside.nodes.keys ++ c.args.node ∷ [] =
     c.in-Ok.ensures.keys ∙ ap (λ b. if b then c.self.inside.nodes.keys else c.self.inside.nodes.keys ++ c.args.node ∷ []) absent in
     let pushed : c.push.new.self.items ≡ c.self.inside.widths.items ++ c.width_for-width.result ∷ [] = search rules in
-    added_stored c.args.self.now _ c.insert_full.new.self.keys _ c.push.new.self.items c.args.node c.width_for-width.result c.self.view_is c.self.invariant.0 c.self.invariant.1 c.requires
+    added_stored c.args.self.now _ c.insert_full.new.self.keys _ c.push.new.self.items c.args.node c.width_for-width.result c.self.view_is
+    c.self.invariant.0 c.self.invariant.1 c.requires
     c.width_for-width.ensures pushed longer absent
 
 pub returns-then-not-is_new-clause-nodes : goal.returns-then-not-is_new-clause-nodes

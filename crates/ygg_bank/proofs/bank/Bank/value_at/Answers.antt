@@ -6,7 +6,8 @@ use Rattle.ygg_bank.proofs.bank.Bank.value_at.Goals as goal
 
 pub apply-requires : goal.apply-requires
 apply-requires c =
-    can_values (inputs_of c.args.env.now) c.args.self.now c.args.place c.args.values.now c.requires.before c.stored.ensures.ordered c.in-Bin.op c.in-Bin.a c.in-Bin.b
+    can_values (inputs_of c.args.env.now) c.args.self.now c.args.place c.args.values.now c.requires.before c.stored.ensures.ordered c.in-Bin.op
+    c.in-Bin.a c.in-Bin.b
     c.index-values-a.result c.index-values-b.result c.in-Bin.ensures.can c.index-values-a.is c.index-values-b.is
 
 pub returns-in-Some : goal.returns-in-Some
@@ -16,15 +17,19 @@ returns-in-Some c =
 
 pub returns-in-None : goal.returns-in-None
 returns-in-None c =
-    is_zero c.args.env.now c.args.self.now c.args.place c.stored.ensures.ordered c.in-Input.number c.in-Input.width _ c.in-Input.ensures.there c.given_for.ensures c.in-None.is
+    is_zero c.args.env.now c.args.self.now c.args.place c.stored.ensures.ordered c.in-Input.number c.in-Input.width _ c.in-Input.ensures.there
+    c.given_for.ensures c.in-None.is
 
 pub returns-in-Const : goal.returns-in-Const
-returns-in-Const c = is_constant (inputs_of c.args.env.now) c.args.self.now c.args.place c.args.values.now c.stored.ensures.ordered c.in-Const.word c.in-Const.ensures.there
+returns-in-Const c = is_constant (inputs_of c.args.env.now) c.args.self.now c.args.place c.args.values.now c.stored.ensures.ordered c.in-Const.word
+    c.in-Const.ensures.there
 
 pub returns-in-Bin : goal.returns-in-Bin
 returns-in-Bin c =
-    is_bin (inputs_of c.args.env.now) c.args.self.now c.args.place c.args.values.now c.requires.before c.stored.ensures.ordered c.in-Bin.op c.in-Bin.a c.in-Bin.b
-    c.index-values-a.result c.index-values-b.result c.apply.result c.in-Bin.ensures.can c.in-Bin.ensures.there c.index-values-a.is c.index-values-b.is c.apply.ensures
+    is_bin (inputs_of c.args.env.now) c.args.self.now c.args.place c.args.values.now c.requires.before c.stored.ensures.ordered c.in-Bin.op c.in-Bin.a
+    c.in-Bin.b
+    c.index-values-a.result c.index-values-b.result c.apply.result c.in-Bin.ensures.can c.in-Bin.ensures.there c.index-values-a.is c.index-values-b.is
+    c.apply.ensures
 
 pub returns-in-Not : goal.returns-in-Not
 returns-in-Not c =
@@ -34,17 +39,20 @@ returns-in-Not c =
 pub returns-in-Resize : goal.returns-in-Resize
 returns-in-Resize c =
     let can = c.in-Resize.ensures.can in
-    is_resize (inputs_of c.args.env.now) c.args.self.now c.args.place c.args.values.now c.requires.before c.stored.ensures.ordered c.in-Resize.a c.in-Resize.width
+    is_resize (inputs_of c.args.env.now) c.args.self.now c.args.place c.args.values.now c.requires.before c.stored.ensures.ordered c.in-Resize.a
+    c.in-Resize.width
     c.index-values-a-in-Resize.result c.resize.result can.0 c.in-Resize.ensures.there c.index-values-a-in-Resize.is c.resize.ensures
 
 pub returns-then-chosen-eq1 : goal.returns-then-chosen-eq1
 returns-then-chosen-eq1 c =
-    is_picked (inputs_of c.args.env.now) c.args.self.now c.args.place c.args.values.now c.requires.before c.stored.ensures.ordered c.in-Pick.test c.in-Pick.yes c.in-Pick.no
+    is_picked (inputs_of c.args.env.now) c.args.self.now c.args.place c.args.values.now c.requires.before c.stored.ensures.ordered c.in-Pick.test
+    c.in-Pick.yes c.in-Pick.no
     c.index-values-test.result c.index-values-yes.result c.in-Pick.ensures.can c.in-Pick.ensures.there c.index-values-test.is
     (ap (λ (n : Number). n.bits) (sym c.chosen.view_is) ∙ c.if-chosen-eq1.true) c.index-values-yes.is
 
 pub returns-else-chosen-eq1 : goal.returns-else-chosen-eq1
 returns-else-chosen-eq1 c =
-    is_other (inputs_of c.args.env.now) c.args.self.now c.args.place c.args.values.now c.requires.before c.stored.ensures.ordered c.in-Pick.test c.in-Pick.yes c.in-Pick.no
+    is_other (inputs_of c.args.env.now) c.args.self.now c.args.place c.args.values.now c.requires.before c.stored.ensures.ordered c.in-Pick.test
+    c.in-Pick.yes c.in-Pick.no
     c.index-values-test.result c.index-values-no.result c.in-Pick.ensures.can c.in-Pick.ensures.there c.index-values-test.is
     (λ z. c.if-chosen-eq1.false (ap (λ (n : Number). n.bits) c.chosen.view_is ∙ z)) c.index-values-no.is

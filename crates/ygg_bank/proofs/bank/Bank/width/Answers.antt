@@ -11,7 +11,8 @@ returns-clause-width c = stored_width c.args.self.now _ _ c.args.id c.self.view_
 
 pub returns-clause-value : goal.returns-clause-value
 returns-clause-value c =
-    sym (width_is c.args.self.now c.args.id _ (stored_width c.args.self.now _ _ c.args.id c.self.view_is (c.as_slice.ensures.value ∙ c.self.invariant.1) c.requires))
+    sym (width_is c.args.self.now c.args.id _ (stored_width c.args.self.now _ _ c.args.id c.self.view_is
+    (c.as_slice.ensures.value ∙ c.self.invariant.1) c.requires))
 
 pub returns-clause-fits : goal.returns-clause-fits
 returns-clause-fits c =

@@ -22,7 +22,7 @@ invariant_of-self-2 c =
             c.push.ensures.ok c.push.ensures.err kept.0 c.in_ok-kept.ensures.placed;
         room = c.enter_all.ensures.room;
       };
-      clear = λ y. ((λ m. (c.self.invariant.clear y).0 ((c.enter_all.ensures.marks y).0 m)), (λ none. absurd none));
+      clear = λ y. ((λ m. (c.self.invariant.clear y).0 ((c.enter_all.ensures.seen y).0 m)), (λ none. absurd none));
     }
 
 pub returns-clause-ok : goal.returns-clause-ok

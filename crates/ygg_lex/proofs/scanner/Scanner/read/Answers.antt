@@ -17,4 +17,12 @@ returns-clause-ok c =
     let more = sym c.extends.ensures ∙ c.if-extends.false in
     let ended = ends c.args.text.now s.start c.args.place s.begun s.line s.column c.requires.place ascii more in
     ap (after_these s.items) ended ∙ c.in_default.ensures.ok _
-    ∙ rw (c.begin.ensures.items, c.begin.ensures.start, c.begin.ensures.begun, c.begin.ensures.line, c.begin.ensures.column, c.in_default.ensures.line, c.in_default.ensures.column) refl
+    ∙ rw (
+      c.begin.ensures.items,
+      c.begin.ensures.start,
+      c.begin.ensures.begun,
+      c.begin.ensures.line,
+      c.begin.ensures.column,
+      c.in_default.ensures.line,
+      c.in_default.ensures.column,
+    ) refl

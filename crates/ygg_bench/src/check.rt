@@ -1,0 +1,39 @@
+//! The checker judges a derivation.
+
+use std::alloc::Global;
+use std::time::Instant;
+use ygg_chain::Checker;
+use ygg_cnf::{Clauses, Log, Step};
+use ygg_list::NoMemory;
+
+/// Judges a derivation, and prints how many resolution steps it takes and how many nanoseconds that took.
+pub fn measure(rt: &HostRuntime, clauses: &Clauses, log: &Log) -> anyhow::Result<()> {
+    let start = Instant::now(rt)?;
+    let judged = steps_of(rt.alloc(), clauses, log)?;
+    let time = start.elapsed(rt)?;
+    match judged {
+        Some((steps, true)) => println!(rt; "refuted in {steps} steps")?,
+        Some((steps, false)) => println!(rt; "derived in {steps} steps")?,
+        None => println!(rt; "not derived")?,
+    }
+    eprintln!(rt; "{} ns", time.as_nanos())?;
+    Ok(())
+}
+
+/// How many resolution steps the log takes, if its chains derive its clauses, and whether an empty clause is held then.
+fn steps_of(
+    alloc: Global,
+    clauses: &Clauses,
+    log: &Log,
+) -> Result<Option<(usize, bool)>, NoMemory> {
+    let mut checker = Checker::new(alloc, clauses)?;
+    let mut steps: usize = 0;
+    for Step::Added { clause, chain } in log.as_slice() {
+        if !checker.follows(chain.as_slice(), clause.as_slice()) {
+            return Ok(None);
+        }
+        steps = steps.saturating_add(chain.len().saturating_sub(1));
+        checker.add(clause)?;
+    }
+    Ok(Some((steps, checker.refuted())))
+}

@@ -1,5 +1,0 @@
-use Rattle.ygg_canonical.proofs.Reread.{is_read}
-use Rattle.ygg_canonical.proofs.law.canonical_is_read.Goals as goal
-
-pub returns : goal.returns
-returns c = is_read

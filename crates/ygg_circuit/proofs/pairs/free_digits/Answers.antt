@@ -1,8 +1,0 @@
-use Rattle.ygg_circuit.proofs.Steps.{free_goes}
-use Rattle.ygg_circuit.proofs.pairs.free_digits.Goals as goal
-
-pub loop-preserved : goal.loop-preserved
-loop-preserved c =
-    rw c.in_ok-push.ensures.ok
-    (free_goes c.args.width c.args.gates.now.items c.loop.counter c.loop.digits c.loop.gates.items c.in_ok-digit.digit c.place.new.gates.items c.loop-test.true
-    c.in_ok-digit.ensures.gates c.in_ok-digit.ensures.value c.loop.invariant)

@@ -1,0 +1,117 @@
+ghost use Rattle.std.specs.Prelude.{◌≡◌, ◌≢◌, ◌<◌, ◌≤◌, ◌^◌, length, All, Any, IsTrue, ◌↔◌, OnOk, MatchOption, Contains, ◌⊎◌};
+ghost use Rattle.ygg_cnf.specs.Derivations.{IsPivot, Resolvent};
+ghost use Rattle.ygg_cnf_set.specs.LiteralSet.{code_of, Fits, InSet, IsSetOf};
+
+use ygg_cnf::Lit;
+use ygg_list::NoMemory;
+
+/// The place of a literal in a set.
+pub fn code(lit: Lit) -> usize
+    requires { code_of lit < 2 ^ 64 }
+    ensures { result ≡ code_of lit }
+{
+    2 * lit.var as usize + lit.negated as usize
+}
+
+/// Makes room for so many places. No literal comes in. Its only error is out of memory.
+pub fn make_room(seen: &mut Vec<bool>, room: usize) -> Result<(), NoMemory>
+    ensures ok { OnOk result (room ≤ length seen.new.items) }
+    ensures longer { length seen.old.items ≤ length seen.new.items }
+    ensures same { IsSetOf seen.new.items (InSet seen.old.items) }
+{
+    if seen.len() < room {
+        seen.resize(room, false)?;
+    }
+    Ok(())
+}
+
+/// Whether the literal is in the set.
+pub fn contains(seen: &[bool], lit: Lit) -> bool
+    requires { Fits (length seen.now) lit }
+    ensures { IsTrue result ↔ InSet seen.now lit }
+{
+    seen[code(lit)]
+}
+
+/// Puts the literal in.
+pub fn insert(seen: &mut [bool], lit: Lit)
+    requires { Fits (length seen.old) lit }
+    ensures { IsSetOf seen.new (λ y. InSet seen.old y ⊎ (y ≡ lit)) }
+{
+    seen[code(lit)] = true;
+}
+
+/// Takes the literal out.
+pub fn remove(seen: &mut [bool], lit: Lit)
+    requires { Fits (length seen.old) lit }
+    ensures { IsSetOf seen.new (λ y. InSet seen.old y × (y ≢ lit)) }
+{
+    seen[code(lit)] = false;
+}
+
+/// Puts each literal of the clause in.
+pub fn insert_all(seen: &mut [bool], clause: &[Lit])
+    requires { All (Fits (length seen.old)) clause.now }
+    ensures { IsSetOf seen.new (λ y. InSet seen.old y ⊎ Contains clause.now y) }
+{
+    for lit in clause {
+        insert(seen, *lit);
+    }
+}
+
+/// Takes the clause's literals out.
+pub fn remove_all(seen: &mut [bool], clause: &[Lit])
+    requires { All (Fits (length seen.old)) clause.now }
+    ensures { IsSetOf seen.new (λ y. InSet seen.old y × (Contains clause.now y → ⊥)) }
+{
+    for lit in clause {
+        remove(seen, *lit);
+    }
+}
+
+/// Whether a literal of the clause is in the set.
+pub fn contains_any(seen: &[bool], clause: &[Lit]) -> bool
+    requires { All (Fits (length seen.now)) clause.now }
+    ensures { IsTrue result ↔ Any (InSet seen.now) clause.now }
+{
+    clause.iter().any(|lit| contains(seen, *lit))
+}
+
+/// The literal of the set whose complement is in the clause, if there is exactly one.
+pub fn pivot(seen: &[bool], clause: &[Lit]) -> Option<Lit>
+    requires { All (Fits (length seen.now)) clause.now }
+    ensures { MatchOption result ((x : _) → IsPivot (InSet seen.now) clause.now x → ⊥) (IsPivot (InSet seen.now) clause.now) }
+{
+    let mut found = None;
+    for lit in clause {
+        let other = lit.complement();
+        if contains(seen, other) {
+            match found {
+                None => {
+                    found = Some(other);
+                }
+                Some(first) => {
+                    if other != first {
+                        return None;
+                    }
+                }
+            }
+        }
+    }
+    found
+}
+
+/// Resolves the set with the clause on the pivot.
+pub fn resolve(seen: &mut [bool], clause: &[Lit], pivot: Lit)
+    requires fits { All (Fits (length seen.old)) clause.now }
+    requires pivot { Fits (length seen.old) pivot }
+    ensures { IsSetOf seen.new (Resolvent (InSet seen.old) clause.now pivot) }
+{
+    remove(seen, pivot);
+    let left_out = pivot.complement();
+    for lit in clause {
+        if *lit != left_out {
+            insert(seen, *lit);
+        }
+    }
+}

@@ -1,0 +1,11 @@
+pub mod Direct
+pub mod Acts
+pub mod Laws
+pub mod DiskActs
+pub mod Places
+pub mod SpecActs
+pub mod Replaying
+pub mod SpecPlaces
+pub mod RunPlaces
+pub mod StackActs
+pub mod StackFalls

@@ -1,0 +1,12 @@
+//! The evaluator of expressions.
+#![tactic(auto)]
+
+mod evaluator;
+mod held;
+mod made;
+mod write;
+
+pub use evaluator::Evaluator;
+pub use held::{Binding, CowValue, lend_values};
+pub use made::{digit, is_one, word_in};
+pub use write::write_part;

@@ -1,0 +1,10 @@
+-- The picks that a step takes.
+use Rattle.std.specs.Prelude.{◌≡◌}
+use Rattle.ygg_disk.specs.declared.power.Power.{Power}
+use Rattle.ygg_disk.specs.Power.{Takes}
+use Rattle.ygg_meaning.specs.Machine.{Picks}
+
+-- these are the next picks, and nothing of power has changed but that they were taken
+pub record TakesOnly (taken : Picks) (before after : Power) : Type 0 where
+  pub picks : Takes taken before.picks after.picks
+  pub others : after ≡ record before { picks = after.picks }

@@ -1,0 +1,4 @@
+pub mod Expecting
+pub mod Naming
+pub mod Parts
+pub mod Refusing

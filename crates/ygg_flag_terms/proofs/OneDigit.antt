@@ -1,0 +1,84 @@
+-- Terms of one digit.
+use Rattle.std.proofs.Common.{◌≡◌, ℕ, Bool, true, false, List, refl, sym, ap, ◌∙◌, arith}
+use Rattle.ygg_value.specs.Number.{IsWord}
+use Rattle.ygg_value.specs.Words.{word, bit_of, result_width, CanApply}
+use Rattle.ygg_value.specs.declared.operation.Op.{Op}
+use Rattle.ygg_value.specs.declared.operation.Op.TheVariants.{Add, Sub, Mul, And, Or, Xor, Shl, Shr, Eq, Ne, Lt, Le, Gt, Ge, Imp}
+use Rattle.ygg_bank.proofs.Widths.{wider, width_is, stands}
+use Rattle.ygg_bank.specs.Nodes.{CanBin, Extends, widths_of, width_at}
+use Rattle.ygg_bank.specs.declared.node.Id.{Id}
+use Rattle.ygg_bank.specs.declared.node.Node.{Node}
+use Rattle.ygg_flag_terms.specs.Widths.{IsDigit, ArePlaces, IsStart}
+use Rattle.ygg_flag_terms.specs.declared.places.Places.{Places}
+use Rattle.ygg_flag_terms.specs.declared.places.Start.{Start}
+
+-- the word of a bit
+pub bit_word : (b : Bool) → IsWord (word 1 (bit_of b))
+bit_word true = record { least = omega arith; most = omega arith; fits = omega arith }
+bit_word false = record { least = omega arith; most = omega arith; fits = omega arith }
+
+-- every operation takes two digits
+digits_apply : (op : Op) (w u : ℕ) → w ≡ 1 → u ≡ 1 → CanApply op (word w 0) (word u 0)
+digits_apply Shl w u e f = tt
+digits_apply Shr w u e f = tt
+digits_apply Imp w u e f = (e, f)
+digits_apply Add w u e f = e ∙ sym f
+digits_apply Sub w u e f = e ∙ sym f
+digits_apply Mul w u e f = e ∙ sym f
+digits_apply And w u e f = e ∙ sym f
+digits_apply Or w u e f = e ∙ sym f
+digits_apply Xor w u e f = e ∙ sym f
+digits_apply Eq w u e f = e ∙ sym f
+digits_apply Ne w u e f = e ∙ sym f
+digits_apply Lt w u e f = e ∙ sym f
+digits_apply Le w u e f = e ∙ sym f
+digits_apply Gt w u e f = e ∙ sym f
+digits_apply Ge w u e f = e ∙ sym f
+
+-- and gives one
+digit_wide : (op : Op) → result_width op 1 ≡ 1
+digit_wide Add = refl
+digit_wide Sub = refl
+digit_wide Mul = refl
+digit_wide And = refl
+digit_wide Or = refl
+digit_wide Xor = refl
+digit_wide Shl = refl
+digit_wide Shr = refl
+digit_wide Eq = refl
+digit_wide Ne = refl
+digit_wide Lt = refl
+digit_wide Le = refl
+digit_wide Gt = refl
+digit_wide Ge = refl
+digit_wide Imp = refl
+
+pub can_join : (nodes : List Node) (op : Op) (a b : Id) → IsDigit nodes a → IsDigit nodes b → CanBin nodes op a b
+can_join nodes op a b p q = record {
+  one = stands nodes a 1 p;
+  two = stands nodes b 1 q;
+  widths = digits_apply op (width_at (widths_of nodes) a) (width_at (widths_of nodes) b) (width_is nodes a 1 p) (width_is nodes b 1 q);
+}
+
+pub joined_width : (nodes : List Node) (op : Op) (a : Id) → IsDigit nodes a → result_width op (width_at (widths_of nodes) a) ≡ 1
+joined_width nodes op a p = ap (result_width op) (width_is nodes a 1 p) ∙ digit_wide op
+
+pub places_wider : (old new : List Node) (at : Places) → Extends old new → ArePlaces old at → ArePlaces new at
+places_wider old new at g h = record {
+  state = wider old new at.state 1 g h.state;
+  argument = wider old new at.argument 1 g h.argument;
+  stored =
+      wider old new at.stored 1 g h.stored;
+}
+
+pub digit_wider : (old new : List Node) (a : Id) → Extends old new → IsDigit old a → IsDigit new a
+digit_wider old new a g h = wider old new a 1 g h
+
+pub start_wider : (old new : List Node) (start : Start) → Extends old new → IsStart old start → IsStart new start
+start_wider old new start g h = record {
+  state = digit_wider old new start.state g h.state;
+  argument = digit_wider old new start.argument g h.argument;
+  stored = digit_wider old new start.stored g h.stored;
+  zero = digit_wider old new start.zero g h.zero;
+  one = digit_wider old new start.one g h.one;
+}

@@ -1,0 +1,13 @@
+pub mod Chains
+pub mod Monotone
+pub mod Traced
+pub mod Resumed
+pub mod Fallen
+pub mod Mirrored
+pub mod Plain
+pub mod Search
+pub mod Totals
+pub mod Refined
+pub mod Composed
+pub mod Listed
+pub mod Stores

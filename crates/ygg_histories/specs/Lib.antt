@@ -1,0 +1,11 @@
+pub mod Stack
+pub mod Claims
+pub mod Under
+pub mod Mirror
+pub mod History
+pub mod Left
+pub mod Trace
+pub mod Noted
+pub mod Grounds
+pub mod StepLaws
+pub mod Laws

@@ -1,4 +1,0 @@
-pub mod Layers
-pub mod Bodies
-pub mod Lower
-pub mod Conversations

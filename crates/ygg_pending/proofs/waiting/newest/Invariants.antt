@@ -1,7 +1,0 @@
-use Rattle.std.proofs.Common.{◌≡◌, take}
-use Rattle.std.specs.Option.{option_copied}
-use Rattle.ygg_pending.specs.Waiting.{marked, newest_at}
-use Rattle.ygg_pending.proofs.waiting.newest.Given as goal
-
-abbrev pub invariant-loop-write : goal.invariant-loop-write
-invariant-loop-write l = option_copied l.found ≡ newest_at l.place (marked (take l.write-index l.waiting))

@@ -1,4 +1,0 @@
-pub mod Marked
-pub mod Waiting
-pub mod Rows
-pub mod Meaning

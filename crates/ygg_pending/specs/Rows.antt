@@ -1,9 +1,0 @@
--- Rows of a disk's size.
-use Rattle.std.specs.Prelude.{◌≡◌, length}
-use Rattle.ygg_value.specs.Number.{Digits}
-use Rattle.ygg_geometry.specs.declared.Geometry.{Geometry}
-
--- the row has the size of the disk's rows
-pub record IsDiskRow (g : Geometry) (r : Digits) : Type 0 where
-  pub width : r.width ≡ g.width
-  pub words : length r.words ≡ g.words

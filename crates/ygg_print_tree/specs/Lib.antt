@@ -1,0 +1,4 @@
+pub mod Plain
+pub mod Printed
+pub mod PrintedBlocks
+pub mod PrintedFiles

@@ -1,4 +1,0 @@
-pub mod PropagationLemmas
-pub mod LookLemmas
-pub mod LoadLemmas
-pub mod PickLemmas

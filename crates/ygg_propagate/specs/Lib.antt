@@ -1,2 +1,0 @@
-pub mod Propagation
-pub mod Look

@@ -1,0 +1,14 @@
+-- What follows of what was read.
+use Rattle.std.proofs.Common.{Option, Some, None, Result, Ok, Err}
+use Rattle.ygg_list.specs.declared.memory.NoMemory.{NoMemory}
+use Rattle.ygg_read_expr.specs.Steps.{IfRead, IfRefused}
+
+pub where_read : {A : Type 0} (result : Result (Option A) NoMemory) (P Q : A → Type 0) → ((read : A) → P read → Q read) → IfRead result P → IfRead result Q
+where_read (Ok (Some read)) P Q f h = f read h
+where_read (Ok None) P Q f h = h
+where_read (Err e) P Q f h = h
+
+pub where_refused : {A : Type 0} (result : Result (Option A) NoMemory) (P Q : Type 0) → (P → Q) → IfRefused result P → IfRefused result Q
+where_refused (Ok (Some read)) P Q f h = h
+where_refused (Ok None) P Q f h = f h
+where_refused (Err e) P Q f h = h

@@ -1,0 +1,12 @@
+use Rattle.ygg_bank.specs.Nodes.{Extends, IsBank}
+use Rattle.ygg_shape.specs.Guarding.{guarded_at}
+use Rattle.ygg_shape.proofs.Steps.{EachFrom}
+use Rattle.ygg_shape.proofs.guarding.guard_all.Given as goal
+
+abbrev pub invariant-loop-number : goal.invariant-loop-number
+invariant-loop-number g l = record {
+  went : EachFrom (λ number old. guarded_at (g.B.Book.kinds l.book) l.guard.test l.guard.at l.guard.width number l.new old) l.table l.fn.bank l.number
+      l.rows l.bank;
+  grows : Extends l.fn.bank l.bank;
+  bank : IsBank l.bank;
+}

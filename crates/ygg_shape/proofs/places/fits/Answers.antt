@@ -1,9 +1,0 @@
-use Rattle.std.proofs.Common.{◌==◌, ap, ◌∙◌}
-use Rattle.std.proofs.lemmas.Nat.{pow_pos}
-use Rattle.ygg_value.specs.Number.{Number}
-use Rattle.ygg_shape.proofs.Words.{fits_test}
-use Rattle.ygg_shape.proofs.places.fits.Goals as goal
-
-pub returns : goal.returns
-returns c =
-    ap (λ (n : Number). n.bits == c.args.number) (c.result.view_is ∙ c.resize.ensures) ∙ fits_test c.args.width c.args.number (pow_pos c.args.width)

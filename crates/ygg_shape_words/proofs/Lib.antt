@@ -1,0 +1,12 @@
+pub mod Terms
+pub mod Children
+pub mod Tests
+pub mod Undone
+pub mod Fit
+pub mod Keeps
+pub mod Grows
+pub mod Picks
+pub mod Steps
+pub mod Compares
+pub mod Answered
+pub mod Sizes

@@ -1,0 +1,78 @@
+-- Equalities of numbers under a modulus, undone.
+use Rattle.std.specs.Prelude.{nat_lt}
+use Rattle.std.proofs.Common.{◌≡◌, ◌<◌, ◌≤◌, ◌==◌, ◌+◌, ◌-◌, ◌%◌, ◌^◌, ◌⊎◌, inl, inr, ℕ, Bool, true, false, refl, sym, ap, ◌∙◌, arith}
+use Rattle.std.proofs.Math.Nat.{mod-eq_of_lt, mod-eq-sub-mod}
+use Rattle.std.proofs.lemmas.Bool.{cases_lt}
+use Rattle.std.proofs.lemmas.Bool.Decides.{nat_tests, Decides-eqb}
+
+-- two tests that pass in the same cases are equal
+pub same_test : (a b c d : ℕ) → (a ≡ b → c ≡ d) → (c ≡ d → a ≡ b) → (a == b) ≡ (c == d)
+same_test a b c d f g = same_case (a == b) (c == d) refl refl where
+  same_case : (x y : Bool) → (a == b) ≡ x → (c == d) ≡ y → (a == b) ≡ (c == d)
+  same_case true y e h = e ∙ sym ((Decides-eqb c d).1 (f ((Decides-eqb a b).0 e)))
+  same_case false true e h = let z : (a == b) ≡ true = (Decides-eqb a b).1 (g ((Decides-eqb c d).0 h)) in absurd (cc)
+  same_case false false e h = e ∙ sym h
+
+-- what is left under a modulus, of less than twice the modulus
+pub mod_is : (n m r : ℕ) → r < m → (n ≡ r) ⊎ (n ≡ r + m) → n % m ≡ r
+mod_is n m r l (inl e) = let h : n < m = omega arith in mod-eq_of_lt h ∙ e
+mod_is n m r l (inr e) =
+    let h : m ≤ n = omega arith in
+    let s : n - m ≡ r = omega arith in
+    mod-eq-sub-mod h ∙ ap (λ z. z % m) s ∙ mod-eq_of_lt l
+
+pub mod_of : (n m : ℕ) → n < m + m → 0 < m → (n ≡ n % m) ⊎ (n ≡ n % m + m)
+mod_of n m l p = mod_case (cases_lt n m) where
+  mod_case : (n < m) ⊎ (m ≤ n) → (n ≡ n % m) ⊎ (n ≡ n % m + m)
+  mod_case (inl h) = inl (sym (mod-eq_of_lt h))
+  mod_case (inr h) =
+      let s : n - m < m = omega arith in
+      let e : n % m ≡ n - m = mod-eq-sub-mod h ∙ mod-eq_of_lt s in inr (omega arith)
+
+pub add_undone : (m x c k : ℕ) → x < m → c < m → k < m → ((x + c) % m == k) ≡ (x == (k + m - c) % m)
+add_undone m x c k p q r = same_test ((x + c) % m) k x ((k + m - c) % m) forth back where
+  forth : (x + c) % m ≡ k → x ≡ (k + m - c) % m
+  forth e = forth_case (mod_of (x + c) m (omega arith) (omega arith)) where
+    forth_case : (x + c ≡ (x + c) % m) ⊎ (x + c ≡ (x + c) % m + m) → x ≡ (k + m - c) % m
+    forth_case (inl h) = sym (mod_is (k + m - c) m x p (inr (omega arith)))
+    forth_case (inr h) = sym (mod_is (k + m - c) m x p (inl (omega arith)))
+
+  back : x ≡ (k + m - c) % m → (x + c) % m ≡ k
+  back e = back_case (mod_of (k + m - c) m (omega arith) (omega arith)) where
+    back_case : (k + m - c ≡ (k + m - c) % m) ⊎ (k + m - c ≡ (k + m - c) % m + m) → (x + c) % m ≡ k
+    back_case (inl h) = mod_is (x + c) m k r (inr (omega arith))
+    back_case (inr h) = mod_is (x + c) m k r (inl (omega arith))
+
+pub sub_undone : (m x c k : ℕ) → x < m → c < m → k < m → ((x + m - c) % m == k) ≡ (x == (k + c) % m)
+sub_undone m x c k p q r =
+    same_test ((x + m - c) % m) k x ((k + c) % m) (λ e. sym (there k x r p e)) (λ e. back k x r p (sym e)) where
+      -- the equation the other way round
+      there : (k x : ℕ) → k < m → x < m → (x + m - c) % m ≡ k → (k + c) % m ≡ x
+      there k x r p e = (Decides-eqb ((k + c) % m) x).0 (add_undone m k c x r q p ∙ (Decides-eqb k ((x + m - c) % m)).1 (sym e))
+
+      back : (k x : ℕ) → k < m → x < m → (k + c) % m ≡ x → (x + m - c) % m ≡ k
+      back k x r p e = sym ((Decides-eqb k ((x + m - c) % m)).0 (sym (add_undone m k c x r q p) ∙ (Decides-eqb ((k + c) % m) x).1 e))
+
+pub sub_turned : (m x c k : ℕ) → x < m → c < m → k < m → ((c + m - x) % m == k) ≡ (x == (c + m - k) % m)
+sub_turned m x c k p q r = same_test ((c + m - x) % m) k x ((c + m - k) % m) (λ e. there x k p r e) (λ e. sym (there k x r p (sym e))) where
+  there : (x k : ℕ) → x < m → k < m → (c + m - x) % m ≡ k → x ≡ (c + m - k) % m
+  there x k p r e = there_case (mod_of (c + m - x) m (omega arith) (omega arith)) where
+    there_case : (c + m - x ≡ (c + m - x) % m) ⊎ (c + m - x ≡ (c + m - x) % m + m) → x ≡ (c + m - k) % m
+    there_case (inl h) = sym (mod_is (c + m - k) m x p (inl (omega arith)))
+    there_case (inr h) = sym (mod_is (c + m - k) m x p (inr (omega arith)))
+
+pub not_undone : (m x k : ℕ) → x < m → k < m → (m - 1 - x == k) ≡ (x == m - 1 - k)
+not_undone m x k p q = same_test (m - 1 - x) k x (m - 1 - k) (λ e. omega arith) (λ e. omega arith)
+
+-- a number keeps all its digits at a width exactly where it is below 2 to the width
+pub fits_test : (w n : ℕ) → 0 < 2 ^ w → (n % 2 ^ w == n) ≡ nat_lt n (2 ^ w)
+fits_test w n p = fits_case w n p (nat_lt n (2 ^ w)) refl where
+  fits_case : (w n : ℕ) → 0 < 2 ^ w → (b : Bool) → nat_lt n (2 ^ w) ≡ b → (n % 2 ^ w == n) ≡ nat_lt n (2 ^ w)
+  fits_case w n p true e =
+      let l : n < 2 ^ w = grind (arith, nat_tests) in
+      let m : n % 2 ^ w ≡ n = mod-eq_of_lt l in
+      (Decides-eqb (n % 2 ^ w) n).1 m ∙ sym e
+  fits_case w n p false e =
+      let l : 2 ^ w ≤ n = grind (arith, nat_tests) in
+      let m : n % 2 ^ w < 2 ^ w = omega arith in
+      let t : (n % 2 ^ w == n) ≡ false = grind (arith, nat_tests) in t ∙ sym e

@@ -1,0 +1,254 @@
+-- An equality with a constant is what it is undone to.
+use Rattle.std.proofs.Common.{
+  ◌≡◌,
+  ◌<◌,
+  ◌≤◌,
+  ◌==◌,
+  ◌^◌,
+  ◌%◌,
+  ◌+◌,
+  ◌-◌,
+  ℕ,
+  Bool,
+  true,
+  false,
+  if◌then◌else◌,
+  Option,
+  Some,
+  None,
+  List,
+  [],
+  slice_get,
+  refl,
+  sym,
+  ap,
+  ◌∙◌,
+  subst,
+  arith,
+}
+use Rattle.std.specs.Prelude.{nat_lt}
+use Rattle.std.proofs.Math.Nat.{add_comm, mod-eq_of_lt, pow-le-pow_right, lt_of_lt_of_le}
+use Rattle.std.proofs.lemmas.Nat.{xor_comm}
+use Rattle.std.specs.Int.Bits.{bit_xor, xor_assoc, xor_self, xor_zero_r}
+use Rattle.std.proofs.lemmas.Bool.Decides.{nat_tests}
+use Rattle.ygg_value.proofs.Results.{apply_to-IsWord, not_of-IsWord}
+use Rattle.ygg_value.specs.Number.{Number, IsWord}
+use Rattle.ygg_value.specs.Words.{word, apply_to, not_of, resized, result_width, CanApply}
+use Rattle.ygg_value.specs.declared.operation.Op.{Op}
+use Rattle.ygg_value.specs.declared.operation.Op.TheVariants.{Add, Sub, Xor}
+use Rattle.ygg_bank.proofs.Fitting.{constant_there}
+use Rattle.ygg_bank.proofs.Widths.{width_is, own_width, has_width, width_fits, constant_word}
+use Rattle.ygg_bank.specs.Making.{known_in}
+use Rattle.ygg_bank.specs.Nodes.{width_at, widths_of, HasWidth, InOrder}
+use Rattle.ygg_bank.specs.Values.{Inputs, Values, Fits}
+use Rattle.ygg_bank.specs.declared.node.Id.{Id}
+use Rattle.ygg_bank.specs.declared.node.Node.{Node}
+use Rattle.ygg_bank.specs.declared.node.Node.TheVariants.{Const, Bin, Not, Resize}
+use Rattle.ygg_shape_words.proofs.Children.{bin_alike, not_wide, resize_stands}
+use Rattle.ygg_shape_words.proofs.Tests.{same_test, add_undone, sub_undone, sub_turned, not_undone}
+use Rattle.ygg_shape_words.specs.Forms.{ConstantFits, against, undo_bin, undo_first, undo_second, undo_resize}
+use Rattle.ygg_shape_words.specs.declared.forms.Form.{Form}
+use Rattle.ygg_shape_words.specs.declared.forms.Form.TheVariants as form
+
+below : (x k : Number) → IsWord x → x.width ≡ k.width → x.bits < 2 ^ k.width
+below x k h e = subst (λ w. x.bits < 2 ^ w) e h.fits
+
+xor_back : (a c : ℕ) → bit_xor (bit_xor a c) c ≡ a
+xor_back a c = xor_assoc a c c ∙ ap (bit_xor a) (xor_self c) ∙ xor_zero_r a
+
+xor_undone : (x c k : ℕ) → (bit_xor x c == k) ≡ (x == bit_xor k c)
+xor_undone x c k =
+    same_test (bit_xor x c) k x (bit_xor k c) (λ h. sym (xor_back x c) ∙ ap (λ z. bit_xor z c) h) (λ h. ap (λ z. bit_xor z c) h ∙ xor_back k c)
+
+-- how an operation on a word x, done by this function, is undone: its equality with k is the equality of x with the word that this one gives
+record Undoes (f back : Number → Number) (k : Number) : Type 0 where
+  is_word : IsWord (back k)
+  wide : (back k).width ≡ k.width
+  words : (x : Number) → IsWord x → x.width ≡ k.width → ((f x).bits == k.bits) ≡ (x.bits == (back k).bits)
+
+module _ (c k : Number) (q : IsWord c) (r : IsWord k) (e : c.width ≡ k.width) where
+  add_first : Undoes (λ x. apply_to Add x c) (λ k. apply_to Sub k c) k
+  add_first = record {
+    is_word = apply_to-IsWord Sub k c r q (sym e);
+    wide = refl;
+    words = λ x p d. ap (λ w. (x.bits + c.bits) % 2 ^ w == k.bits) d ∙ add_undone (2 ^ k.width) x.bits c.bits k.bits (below x k p d) (below c k q e) r.fits;
+  }
+
+  sub_first : Undoes (λ x. apply_to Sub x c) (λ k. apply_to Add k c) k
+  sub_first = record {
+    is_word = apply_to-IsWord Add k c r q (sym e);
+    wide = refl;
+    words = λ x p d. ap (λ w. (x.bits + 2 ^ w - c.bits) % 2 ^ w == k.bits) d
+        ∙ sub_undone (2 ^ k.width) x.bits c.bits k.bits (below x k p d) (below c k q e) r.fits;
+  }
+
+  xor_first : Undoes (λ x. apply_to Xor x c) (λ k. apply_to Xor k c) k
+  xor_first = record { is_word = apply_to-IsWord Xor k c r q (sym e); wide = refl; words = λ x p d. xor_undone x.bits c.bits k.bits }
+
+  add_second : Undoes (λ x. apply_to Add c x) (λ k. apply_to Sub k c) k
+  add_second = record {
+    is_word = apply_to-IsWord Sub k c r q (sym e);
+    wide = refl;
+    words = λ x p d. ap (λ w. (c.bits + x.bits) % 2 ^ w == k.bits) e ∙ ap (λ z. z % 2 ^ k.width == k.bits) (add_comm c.bits x.bits)
+        ∙ add_undone (2 ^ k.width) x.bits c.bits k.bits (below x k p d) (below c k q e) r.fits;
+  }
+
+  sub_second : Undoes (λ x. apply_to Sub c x) (λ k. apply_to Sub c k) k
+  sub_second = record {
+    is_word = apply_to-IsWord Sub c k q r e;
+    wide = e;
+    words = λ x p d. ap (λ w. (c.bits + 2 ^ w - x.bits) % 2 ^ w == k.bits) e
+        ∙ sub_turned (2 ^ k.width) x.bits c.bits k.bits (below x k p d) (below c k q e) r.fits
+        ∙ ap (λ w. x.bits == (c.bits + 2 ^ w - k.bits) % 2 ^ w) (sym e);
+  }
+
+  xor_second : Undoes (λ x. apply_to Xor c x) (λ k. apply_to Xor k c) k
+  xor_second = record {
+    is_word = apply_to-IsWord Xor k c r q (sym e);
+    wide = refl;
+    words = λ x p d. ap (λ z. z == k.bits) (xor_comm c.bits x.bits) ∙ xor_undone x.bits c.bits k.bits;
+  }
+
+not_words : (k : Number) → IsWord k → Undoes not_of not_of k
+not_words k q = record {
+  is_word = not_of-IsWord k q;
+  wide = refl;
+  words = λ x p e. ap (λ w. 2 ^ w - 1 - x.bits == k.bits) e ∙ not_undone (2 ^ k.width) x.bits k.bits (below x k p e) q.fits;
+}
+
+-- the constant that is known of an operand has the width of the other operand
+known_wide : (nodes : List Node) (w : ℕ) (y : Id) (c : Number) → InOrder [] nodes → HasWidth nodes y w → known_in (slice_get nodes y.0) ≡ Some c → c.width ≡ w
+known_wide nodes w y c o h e = sym (width_is nodes y c.width (own_width nodes y.0 (Const c) o (constant_there nodes y c e))) ∙ width_is nodes y w h
+
+-- the widths of the operands of an operation whose result is as wide
+own_operands : (nodes : List Node) (a x y : Id) (op : Op) (w : ℕ) → InOrder [] nodes → slice_get nodes a.0 ≡ Some (Bin op x y) → HasWidth nodes a w →
+    ((x y : Number) → CanApply op x y → x.width ≡ y.width) → ((w : ℕ) → result_width op w ≡ w) → HasWidth nodes x w × HasWidth nodes y w
+own_operands nodes a x y op w o e h alike wide =
+    let m = bin_alike nodes a.0 op x y o e alike in
+    let own : m.width ≡ w =
+    sym (width_is nodes x m.width m.one_has) ∙ sym (wide (width_at (widths_of nodes) x))
+    ∙ sym (width_is nodes a (result_width op (width_at (widths_of nodes) x)) (own_width nodes a.0 (Bin op x y) o e)) ∙ width_is nodes a w h in
+    (m.one_has ∙ ap (λ z. Some z) own, m.two_has ∙ ap (λ z. Some z) own)
+
+-- the constants that are known of the operands fit
+fits_case : (nodes : List Node) (w : ℕ) (y : Id) (k : Number) (o : Option Number) → known_in (slice_get nodes y.0) ≡ o → InOrder [] nodes → HasWidth nodes y w →
+    w ≡ k.width → (c : Number) → o ≡ Some c → c.width ≡ k.width
+fits_case nodes w y k o e i h d c f = known_wide nodes w y c i h (e ∙ f) ∙ d
+
+pub constant_fits : (nodes : List Node) (a x y z : Id) (op : Op) (k : Number) (o : Option Number) → InOrder [] nodes → slice_get nodes a.0 ≡ Some (Bin op x y) →
+    HasWidth nodes a k.width → known_in (slice_get nodes z.0) ≡ o → ((w : ℕ) → HasWidth nodes x w × HasWidth nodes y w → HasWidth nodes z w) →
+    ConstantFits op k o
+constant_fits nodes a x y z Add k (Some c) i e h f g =
+    known_wide nodes k.width z c i (g k.width (own_operands nodes a x y Add k.width i e h (λ x y d. d) (λ w. refl))) f
+constant_fits nodes a x y z Sub k (Some c) i e h f g =
+    known_wide nodes k.width z c i (g k.width (own_operands nodes a x y Sub k.width i e h (λ x y d. d) (λ w. refl))) f
+constant_fits nodes a x y z Xor k (Some c) i e h f g =
+    known_wide nodes k.width z c i (g k.width (own_operands nodes a x y Xor k.width i e h (λ x y d. d) (λ w. refl))) f
+constant_fits nodes a x y z op k o i e h f g = tt
+
+-- of numbers below 2 ^ u, at a width that has as many digits
+wide_bits : (u w n : ℕ) → u ≤ w → n < 2 ^ u → n % 2 ^ w ≡ n
+wide_bits u w n l h = mod-eq_of_lt (lt_of_lt_of_le h (pow-le-pow_right {n = 2} (omega arith) l))
+
+never_equal : (x k m : ℕ) → x < m → nat_lt k m ≡ false → (x == k) ≡ false
+never_equal x k m l e = grind (arith, nat_tests)
+
+is_below : (k m : ℕ) → nat_lt k m ≡ true → k < m
+is_below k m e = grind (arith, nat_tests)
+
+not_below : (w u : ℕ) → nat_lt w u ≡ false → u ≤ w
+not_below w u e = grind (arith, nat_tests)
+
+module _ (inputs : Inputs) (v : Values) (nodes : List Node) (f : Fits inputs v nodes) where
+  -- the form says whether the term is the constant
+  abbrev pub IsAgainst : Id → Number → Form → Type 0
+  IsAgainst a k form.One = ((v a.0).bits == k.bits) ≡ true
+  IsAgainst a k form.Never = ((v a.0).bits == k.bits) ≡ false
+  IsAgainst a k (form.Against x m) = HasWidth nodes x m.width × IsWord m × (((v a.0).bits == k.bits) ≡ ((v x.0).bits == m.bits))
+  IsAgainst a k form.Plain = Unit {0}
+  IsAgainst a k g = ⊥
+
+  -- an operation that is undone
+  undone : (a x : Id) (k : Number) (g back : Number → Number) → Undoes g back k → v a.0 ≡ g (v x.0) → HasWidth nodes x k.width →
+      IsAgainst a k (form.Against x (back k))
+  undone a x k g back u e h =
+      (h ∙ ap (λ z. Some z) (sym u.wide), u.is_word, ap (λ (z : Number). z.bits == k.bits) e ∙ u.words (v x.0) (f.words x.0) (f.widths x.0 k.width h))
+
+  -- what an operand is that is known
+  known_value : (y : Id) (c : Number) → known_in (slice_get nodes y.0) ≡ Some c → v y.0 ≡ c
+  known_value y c e = f.values y.0 (Const c) (constant_there nodes y c e)
+
+  known_word : (y : Id) (c : Number) → known_in (slice_get nodes y.0) ≡ Some c → IsWord c
+  known_word y c e = constant_word nodes y.0 c f.ordered (constant_there nodes y c e)
+
+  first_is : (op : Op) (a x y : Id) (k c : Number) → slice_get nodes a.0 ≡ Some (Bin op x y) → HasWidth nodes a k.width → IsWord k →
+      known_in (slice_get nodes y.0) ≡ Some c → IsAgainst a k (undo_first op x k c)
+  first_is Add a x y k c e h r g =
+      let p = own_operands nodes a x y Add k.width f.ordered e h (λ x y d. d) (λ w. refl) in
+      undone a x k (λ z. apply_to Add z c) (λ z. apply_to Sub z c) (add_first c k (known_word y c g) r (known_wide nodes k.width y c f.ordered p.1 g))
+      (f.values a.0 (Bin Add x y) e ∙ ap (apply_to Add (v x.0)) (known_value y c g)) p.0
+  first_is Sub a x y k c e h r g =
+      let p = own_operands nodes a x y Sub k.width f.ordered e h (λ x y d. d) (λ w. refl) in
+      undone a x k (λ z. apply_to Sub z c) (λ z. apply_to Add z c) (sub_first c k (known_word y c g) r (known_wide nodes k.width y c f.ordered p.1 g))
+      (f.values a.0 (Bin Sub x y) e ∙ ap (apply_to Sub (v x.0)) (known_value y c g)) p.0
+  first_is Xor a x y k c e h r g =
+      let p = own_operands nodes a x y Xor k.width f.ordered e h (λ x y d. d) (λ w. refl) in
+      undone a x k (λ z. apply_to Xor z c) (λ z. apply_to Xor z c) (xor_first c k (known_word y c g) r (known_wide nodes k.width y c f.ordered p.1 g))
+      (f.values a.0 (Bin Xor x y) e ∙ ap (apply_to Xor (v x.0)) (known_value y c g)) p.0
+  first_is op a x y k c e h r g = tt
+
+  second_is : (op : Op) (a x y : Id) (k c : Number) → slice_get nodes a.0 ≡ Some (Bin op x y) → HasWidth nodes a k.width → IsWord k →
+      known_in (slice_get nodes x.0) ≡ Some c → IsAgainst a k (undo_second op y k c)
+  second_is Add a x y k c e h r g =
+      let p = own_operands nodes a x y Add k.width f.ordered e h (λ x y d. d) (λ w. refl) in
+      undone a y k (λ z. apply_to Add c z) (λ z. apply_to Sub z c) (add_second c k (known_word x c g) r (known_wide nodes k.width x c f.ordered p.0 g))
+      (f.values a.0 (Bin Add x y) e ∙ ap (λ z. apply_to Add z (v y.0)) (known_value x c g)) p.1
+  second_is Sub a x y k c e h r g =
+      let p = own_operands nodes a x y Sub k.width f.ordered e h (λ x y d. d) (λ w. refl) in
+      undone a y k (λ z. apply_to Sub c z) (λ z. apply_to Sub c z) (sub_second c k (known_word x c g) r (known_wide nodes k.width x c f.ordered p.0 g))
+      (f.values a.0 (Bin Sub x y) e ∙ ap (λ z. apply_to Sub z (v y.0)) (known_value x c g)) p.1
+  second_is Xor a x y k c e h r g =
+      let p = own_operands nodes a x y Xor k.width f.ordered e h (λ x y d. d) (λ w. refl) in
+      undone a y k (λ z. apply_to Xor c z) (λ z. apply_to Xor z c) (xor_second c k (known_word x c g) r (known_wide nodes k.width x c f.ordered p.0 g))
+      (f.values a.0 (Bin Xor x y) e ∙ ap (λ z. apply_to Xor z (v y.0)) (known_value x c g)) p.1
+  second_is op a x y k c e h r g = tt
+
+  bin_is : (op : Op) (a x y : Id) (k : Number) (one two : Option Number) → slice_get nodes a.0 ≡ Some (Bin op x y) → HasWidth nodes a k.width → IsWord k →
+      known_in (slice_get nodes x.0) ≡ one → known_in (slice_get nodes y.0) ≡ two → IsAgainst a k (undo_bin op x y k one two)
+  bin_is op a x y k one (Some c) e h r d g = first_is op a x y k c e h r g
+  bin_is op a x y k (Some c) None e h r d g = second_is op a x y k c e h r d
+  bin_is op a x y k None None e h r d g = tt
+
+  -- the number of a term that has so many digits
+  few_digits : (x : Id) (u : ℕ) → HasWidth nodes x u → (v x.0).bits < 2 ^ u
+  few_digits x u h = let p = f.words x.0 in subst (λ w. (v x.0).bits < 2 ^ w) (f.widths x.0 u h) p.fits
+
+  -- a term at a width that has its digits keeps its number
+  same_bits : (a x : Id) (u w : ℕ) → nat_lt w u ≡ false → slice_get nodes a.0 ≡ Some (Resize x w) → HasWidth nodes x u → (v a.0).bits ≡ (v x.0).bits
+  same_bits a x u w d e h =
+      ap (λ (z : Number). z.bits) (f.values a.0 (Resize x w) e) ∙ wide_bits u w (v x.0).bits (not_below w u d) (few_digits x u h)
+
+  resize_is : (a x : Id) (k : Number) (u w : ℕ) (b c : Bool) → nat_lt w u ≡ b → nat_lt k.bits (2 ^ u) ≡ c → slice_get nodes a.0 ≡ Some (Resize x w) →
+      HasWidth nodes x u → IsWord k → IsAgainst a k (if b then form.Plain else if c then form.Against x (word u k.bits) else form.Never)
+  resize_is a x k u w true c d g e h r = tt
+  resize_is a x k u w false true d g e h r =
+      let l = width_fits nodes x u f.ordered h in
+      (h, record { least = l.least; most = l.most; fits = is_below k.bits (2 ^ u) g }, ap (λ z. z == k.bits) (same_bits a x u w d e h))
+  resize_is a x k u w false false d g e h r =
+      ap (λ z. z == k.bits) (same_bits a x u w d e h) ∙ never_equal (v x.0).bits k.bits (2 ^ u) (few_digits x u h) g
+
+  constants : (a : Id) (k c : Number) (b : Bool) → (c.bits == k.bits) ≡ b → slice_get nodes a.0 ≡ Some (Const c) →
+      IsAgainst a k (if b then form.One else form.Never)
+  constants a k c true d e = ap (λ (z : Number). z.bits == k.bits) (f.values a.0 (Const c) e) ∙ d
+  constants a k c false d e = ap (λ (z : Number). z.bits == k.bits) (f.values a.0 (Const c) e) ∙ d
+
+  -- how the equality of a node with a constant goes on is what it is
+  pub against_is : (a : Id) (k : Number) (n : Option Node) → slice_get nodes a.0 ≡ n → HasWidth nodes a k.width → IsWord k → IsAgainst a k (against nodes k n)
+  against_is a k (Some (Const c)) e h r = constants a k c (c.bits == k.bits) refl e
+  against_is a k (Some (Bin op x y)) e h r = bin_is op a x y k (known_in (slice_get nodes x.0)) (known_in (slice_get nodes y.0)) e h r refl refl
+  against_is a k (Some (Not x)) e h r =
+      undone a x k not_of not_of (not_words k r) (f.values a.0 (Not x) e) (not_wide nodes a.0 k.width x f.ordered e h)
+  against_is a k (Some (Resize x w)) e h r =
+      let u = width_at (widths_of nodes) x in
+      resize_is a x k u w (nat_lt w u) (nat_lt k.bits (2 ^ u)) refl refl e (has_width nodes x (resize_stands nodes a.0 w x f.ordered e)) r
+  against_is a k n e h r = tt

@@ -1,0 +1,4 @@
+pub mod Picking
+pub mod Forms
+pub mod Same
+pub mod Sizing

@@ -1,0 +1,245 @@
+//! How the equality of two words goes on.
+
+ghost use Rattle.std.specs.Prelude.{◌≡◌, ◌^◌, nat_lt, Some, slice_get};
+ghost use Rattle.ygg_rules.specs.Views.{IsWidth};
+ghost use Rattle.ygg_bank.specs.Making.{known_in};
+ghost use Rattle.ygg_bank.specs.Nodes.{HasWidth, IsBank};
+ghost use Rattle.ygg_shape_words.specs.Forms.{ConstantFits, WordsAlike, against, against_known, form_of, undo_bin, undo_first, undo_resize, undo_second};
+
+use crate::picking::known;
+use ygg_bank::{Bank, Id, Node};
+use ygg_value::{Op, Word, apply, not, resize};
+
+/// How the equality of two words goes on.
+#[derive(Clone, Copy, Debug, PartialEq, Eq, Drop)]
+pub enum Form {
+    /// The words are equal.
+    One,
+    /// The words are never equal.
+    Never,
+    /// This term says whether they are equal.
+    Known(Id),
+    /// The words are compared as they are.
+    Plain,
+    /// Where the test is 1, the first two words are compared, and else the others.
+    Split {
+        test: Id,
+        yes_one: Id,
+        yes_two: Id,
+        no_one: Id,
+        no_two: Id,
+    },
+    /// The first two words are equal, or the others are.
+    Either {
+        one: Id,
+        two: Id,
+        other_one: Id,
+        other_two: Id,
+    },
+    /// The term is compared with this constant.
+    Against {
+        term: Id,
+        word: Word,
+    },
+}
+
+/// How the equality of two nodes, which stand at these places, goes on.
+pub fn form_of(bank: &Bank, one: Id, two: Id, first: Node, second: Node) -> Form
+    requires bank { IsBank bank.now }
+    requires words { WordsAlike bank.now one two }
+    requires first { slice_get bank.now one.0 ≡ Some first }
+    requires second { slice_get bank.now two.0 ≡ Some second }
+    ensures { result ≡ form_of bank.now one two (Some first) (Some second) }
+{
+    match (first, second) {
+        (
+            Node::Pick {
+                test: t,
+                yes: x,
+                no: y,
+            },
+            Node::Pick {
+                test: u,
+                yes: p,
+                no: q,
+            },
+        ) => {
+            if t.0 == u.0 {
+                Form::Split {
+                    test: t,
+                    yes_one: x,
+                    yes_two: p,
+                    no_one: y,
+                    no_two: q,
+                }
+            } else if x.0 == p.0 && y.0 == q.0 {
+                Form::Either {
+                    one: t,
+                    two: u,
+                    other_one: x,
+                    other_two: y,
+                }
+            } else if t.0 < u.0 {
+                Form::Split {
+                    test: u,
+                    yes_one: one,
+                    yes_two: p,
+                    no_one: one,
+                    no_two: q,
+                }
+            } else {
+                Form::Split {
+                    test: t,
+                    yes_one: x,
+                    yes_two: two,
+                    no_one: y,
+                    no_two: two,
+                }
+            }
+        }
+        (Node::Pick { test, yes, no }, _) => Form::Split {
+            test,
+            yes_one: yes,
+            yes_two: two,
+            no_one: no,
+            no_two: two,
+        },
+        (_, Node::Pick { test, yes, no }) => Form::Split {
+            test,
+            yes_one: one,
+            yes_two: yes,
+            no_one: one,
+            no_two: no,
+        },
+        _ => against_known(bank, one, two, known(bank, one), known(bank, two)),
+    }
+}
+
+/// How the equality of two words goes on, where these constants are known of them.
+fn against_known(bank: &Bank, one: Id, two: Id, first: Option<Word>, second: Option<Word>) -> Form
+    requires bank { IsBank bank.now }
+    requires words { WordsAlike bank.now one two }
+    requires first { first ≡ known_in (slice_get bank.now one.0) }
+    requires second { second ≡ known_in (slice_get bank.now two.0) }
+    ensures { result ≡ against_known bank.now one two first second }
+{
+    match (first, second) {
+        (_, Some(word)) => against(bank, word, one),
+        (Some(word), None) => against(bank, word, two),
+        (None, None) => Form::Plain,
+    }
+}
+
+/// How the equality of the node at a place with a constant goes on.
+fn against(bank: &Bank, word: Word, at: Id) -> Form
+    requires bank { IsBank bank.now }
+    requires at { HasWidth bank.now at word.width }
+    ensures { result ≡ against bank.now word (slice_get bank.now at.0) }
+{
+    match bank.node(at) {
+        Node::Const(other) => {
+            if other.bits == word.bits {
+                Form::One
+            } else {
+                Form::Never
+            }
+        }
+        Node::Bin { op, a, b } => undo_bin(op, a, b, word, known(bank, a), known(bank, b)),
+        Node::Not { a } => Form::Against {
+            term: a,
+            word: not(word),
+        },
+        Node::Resize { a, width } => undo_resize(bank.width(a), width, a, word),
+        Node::Input { .. } | Node::Pick { .. } => Form::Plain,
+    }
+}
+
+/// How the equality of an operation with a constant goes on, where these constants are known of its operands.
+fn undo_bin(op: Op, a: Id, b: Id, word: Word, one: Option<Word>, two: Option<Word>) -> Form
+    requires one { ConstantFits op word one }
+    requires two { ConstantFits op word two }
+    ensures { result ≡ undo_bin op a b word one two }
+{
+    match (one, two) {
+        (_, Some(constant)) => undo_first(op, a, word, constant),
+        (Some(constant), None) => undo_second(op, b, word, constant),
+        (None, None) => Form::Plain,
+    }
+}
+
+/// How the equality of an operation on a term and a constant with a word goes on.
+fn undo_first(op: Op, term: Id, word: Word, constant: Word) -> Form
+    requires { ConstantFits op word (Some constant) }
+    ensures { result ≡ undo_first op term word constant }
+{
+    match op {
+        Op::Add => Form::Against {
+            term,
+            word: apply(Op::Sub, word, constant),
+        },
+        Op::Sub => Form::Against {
+            term,
+            word: apply(Op::Add, word, constant),
+        },
+        Op::Xor => Form::Against {
+            term,
+            word: apply(Op::Xor, word, constant),
+        },
+        _ => Form::Plain,
+    }
+}
+
+/// How the equality of an operation on a constant and a term with a word goes on.
+fn undo_second(op: Op, term: Id, word: Word, constant: Word) -> Form
+    requires { ConstantFits op word (Some constant) }
+    ensures { result ≡ undo_second op term word constant }
+{
+    match op {
+        Op::Add => Form::Against {
+            term,
+            word: apply(Op::Sub, word, constant),
+        },
+        Op::Sub => Form::Against {
+            term,
+            word: apply(Op::Sub, constant, word),
+        },
+        Op::Xor => Form::Against {
+            term,
+            word: apply(Op::Xor, word, constant),
+        },
+        _ => Form::Plain,
+    }
+}
+
+/// How the equality of a term, which has `digits` digits, at a width with a word goes on.
+fn undo_resize(digits: u8, width: u8, term: Id, word: Word) -> Form
+    requires { IsWidth digits }
+    ensures { result ≡ undo_resize digits width term word }
+{
+    if width < digits {
+        return Form::Plain;
+    }
+    if fits(digits, word.bits) {
+        Form::Against {
+            term,
+            word: Word {
+                width: digits,
+                bits: word.bits,
+            },
+        }
+    } else {
+        Form::Never
+    }
+}
+
+/// Whether the number has at most so many binary digits.
+pub fn fits(width: u8, number: u64) -> bool
+    requires { IsWidth width }
+    ensures { result ≡ nat_lt number (2 ^ width) }
+{
+    let word = Word {
+        width: 64,
+        bits: number,
+    };
+    resize(word, width).bits == number
+}

@@ -1,0 +1,12 @@
+//! Terms over words that are made small: picks between two words, the equality of two words, and words at other widths.
+#![tactic(auto)]
+
+pub mod comparing;
+pub mod forms;
+pub mod picking;
+pub mod resizing;
+
+pub use comparing::{SPLIT_LIMIT, same};
+pub use forms::fits;
+pub use picking::{known, pick};
+pub use resizing::resize;

@@ -1,0 +1,155 @@
+ghost use Rattle.std.specs.Prelude.{◌≡◌, ◌<◌, ◌≤◌, ◌*◌, ◌^◌, ◌⊎◌, length, All, IfOk};
+ghost use Rattle.ygg_cnf_set.specs.LiteralSet.{Fits, IsSetOf};
+ghost use Rattle.ygg_watch_plain.specs.Propagation.{IsFresh, IsWithin};
+ghost use Rattle.ygg_solver_search.specs.Kept.{IsReady};
+ghost use Rattle.ygg_solver_search.specs.Ends.{IsEnd};
+
+use crate::run::to_conflict;
+use std::alloc::Global;
+use ygg_cnf::{Clause, Clauses, Log, Step};
+use ygg_list::{NoMemory, Sequence};
+use ygg_solver_learn::{Learned, Removal, analyze, last_decision, refute};
+use ygg_watch_order::{Order, Restarts};
+use ygg_watch_plain::Trail;
+use ygg_watch_trail::Entry;
+
+/// How a search ended.
+#[derive(Drop)]
+pub enum End {
+    /// The trail assigns each variable, and satisfies every clause.
+    Model,
+    /// The log derives the empty clause.
+    Refuted(Log),
+    /// The log has as many clauses as the budget says.
+    Spent(Log),
+}
+
+/// The level to go back to: the given one, or 0 where it is time to begin again.
+fn level_after(restarts: &mut Restarts, level: u64) -> u64
+    ensures { (result ≡ 0) ⊎ (result ≡ level) }
+{
+    if restarts.is_due() { 0 } else { level }
+}
+
+/// Makes the variables of the clauses that were resolved more active.
+fn raise(order: &mut Order, clauses: &[Clause], chain: &[u64]) {
+    for id in chain {
+        if let Some(clause) = clauses.get((*id as usize).wrapping_sub(1)) {
+            for lit in clause.as_slice() {
+                order.bump(lit.var as usize);
+            }
+        }
+    }
+    order.decay();
+}
+
+/// Keeps the values above the level, and puts their variables back into the order.
+fn release(order: &mut Order, trail: &[Entry], level: u64) -> Result<(), NoMemory> {
+    for entry in trail.iter().rev() {
+        if entry.level <= level {
+            return Ok(());
+        }
+        order.keep_phase(entry.lit.var as usize, !entry.lit.negated);
+        order.put(entry.lit.var as usize)?;
+    }
+    Ok(())
+}
+
+/// Learns clauses until each variable is assigned, the empty clause is learned, or the budget is spent. `clauses` are those
+/// that the propagation holds, and the learned ones are added to both. The search ends since each turn of its loop adds a
+/// clause to the log, and each turn within one assigns a variable.
+pub fn search<P: Trail>(
+    alloc: Global,
+    propagation: &mut P,
+    order: &mut Order,
+    clauses: &mut Vec<Clause>,
+    seen: &mut [bool],
+    variable_count: u64,
+    budget: u32,
+) -> Result<End, NoMemory>
+    requires variable_count { variable_count ≡ (P.state propagation.old).variable_count }
+    requires seen { 2 * variable_count ≤ length seen.old }
+    requires budget { 0 < budget }
+    requires ready { IsReady (P.state propagation.old) }
+    requires held { (P.state propagation.old).clauses ≡ clauses.old.items }
+    requires fits { All (All (Fits (length seen.old))) clauses.old.items }
+    requires variables { All (IsWithin variable_count) clauses.old.items }
+    requires clear { IsSetOf seen.old (λ _. ⊥) }
+    ensures { IfOk result (IsEnd clauses.old.items (P.state propagation.new).trail variable_count budget) }
+{
+    let mut log = Log::new(alloc);
+    let mut removal = Removal::new(alloc);
+    let mut restarts = Restarts::new();
+    loop {
+        let Some(conflict) = to_conflict(propagation, order, variable_count) else {
+            return Ok(End::Model);
+        };
+        let trail = propagation.trail();
+        let held = clauses.as_slice();
+        let Some(start) = last_decision(trail) else {
+            let chain = refute(alloc, seen, held, trail, conflict)?;
+            log.push(Step::Added {
+                clause: Clause::new(alloc),
+                chain: Sequence::from_vec(chain),
+            })?;
+            return Ok(End::Refuted(log));
+        };
+        let Learned {
+            clause,
+            chain,
+            level,
+            ..
+        } = analyze(
+            alloc,
+            seen,
+            held,
+            trail,
+            start,
+            conflict,
+            propagation.places(),
+            &mut removal,
+        )?;
+        let level = level_after(&mut restarts, level);
+        raise(order, held, chain.as_slice());
+        release(order, trail, level)?;
+        let kept = clause.copy(alloc)?;
+        propagation.back(level);
+        propagation.add(&kept)?;
+        clauses.push(kept)?;
+        log.push(Step::Added {
+            clause,
+            chain: Sequence::from_vec(chain),
+        })?;
+        if log.len() == budget as usize {
+            return Ok(End::Spent(log));
+        }
+    }
+}
+
+/// Searches over a propagation that holds these clauses, and has assigned nothing. Its only error is out of memory.
+pub fn search_clauses<P: Trail>(
+    alloc: Global,
+    propagation: &mut P,
+    order: &mut Order,
+    clauses: Clauses,
+    variable_count: u64,
+    budget: u32,
+) -> Result<End, NoMemory>
+    requires variable_count { variable_count ≡ (P.state propagation.old).variable_count }
+    requires small { variable_count < 2 ^ 63 }
+    requires budget { 0 < budget }
+    requires fresh { IsFresh clauses (P.state propagation.old) }
+    ensures { IfOk result (IsEnd clauses (P.state propagation.new).trail variable_count budget) }
+{
+    let mut seen = Vec::from_elem(alloc, false, 2 * variable_count as usize)?;
+    let mut held = clauses.into_vec();
+    search(
+        alloc,
+        propagation,
+        order,
+        &mut held,
+        seen.as_mut_slice(),
+        variable_count,
+        budget,
+    )
+}

@@ -1,4 +1,0 @@
-pub mod Taken
-pub mod Kept
-pub mod Tables
-pub mod Ran

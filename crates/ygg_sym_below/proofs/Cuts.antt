@@ -1,0 +1,258 @@
+-- Power that fails on a disk over terms leaves what it leaves on the disk.
+use Rattle.std.proofs.Common.{◌≡◌, ◌+◌, ◌==◌, ◌||◌, ℕ, Bool, true, false, if◌then◌else◌, List, [], ◌∷◌, map, Option, Some, None, refl, sym, ap, ◌∙◌, subst}
+use Rattle.std.specs.Prelude.{codes}
+use Rattle.ygg_base.specs.declared.geometry.DiskKind.{DiskKind}
+use Rattle.ygg_base.specs.declared.geometry.DiskKind.TheVariants.{Sync, Async}
+use Rattle.ygg_value.specs.Number.{Number}
+use Rattle.ygg_value.specs.Words.{word, bit_of, apply_to}
+use Rattle.ygg_value.specs.Values.{table_write}
+use Rattle.ygg_value.specs.declared.operation.Op.TheVariants.{Or}
+use Rattle.ygg_value.specs.declared.row.Value.TheVariants as value
+use Rattle.ygg_syntax.specs.declared.grammar.BlockKind.TheVariants.{Impl}
+use Rattle.ygg_syntax.specs.declared.tree.DiskText.{DiskText}
+use Rattle.ygg_type_rules.specs.TypeErrors.{none}
+use Rattle.ygg_type_rules.specs.Files.{disk_errors, disk_operations}
+use Rattle.ygg_disk.specs.Kinds.{model_of}
+use Rattle.ygg_meaning.specs.Environments.{Name, Env}
+use Rattle.ygg_meaning.specs.Progress.{Question}
+use Rattle.ygg_meaning.specs.Progress as progress
+use Rattle.ygg_meaning.specs.Machine.{State, based}
+use Rattle.ygg_meaning.specs.DiskMachine.{tables_in}
+use Rattle.ygg_histories.specs.Stack.{tables_of_kind, tables_of}
+use Rattle.ygg_type_progress.specs.Questions.{question_fits}
+use Rattle.ygg_rules.specs.declared.rule.RuleKind.{RuleKind}
+use Rattle.ygg_bank.proofs.Made.{made_grows}
+use Rattle.ygg_bank.proofs.Meaning.{fits_fewer}
+use Rattle.ygg_bank.proofs.Widths.{wider, width_is, stands, extends_self, extends_both}
+use Rattle.ygg_bank.specs.Making.{made}
+use Rattle.ygg_bank.specs.Nodes.{HasWidth, CanBin}
+use Rattle.ygg_bank.specs.Values.{Inputs, Values}
+use Rattle.ygg_bank.specs.declared.node.Id.{Id}
+use Rattle.ygg_bank.specs.declared.node.Node.{Node}
+use Rattle.ygg_bank.specs.declared.node.Node.TheVariants.{Input, Bin}
+use Rattle.ygg_shape_words.proofs.Grows.{picked_grows}
+use Rattle.ygg_shape_words.proofs.Picks.{picked_is}
+use Rattle.ygg_shape_words.proofs.Terms.{made_is, digit_is}
+use Rattle.ygg_shape_cells.proofs.Wider.{row_wider}
+use Rattle.ygg_shape_cells.specs.Terms.{worth, row_of}
+use Rattle.ygg_shape_cells.specs.declared.terms.SymValue.{SymValue}
+use Rattle.ygg_direct.specs.DiskActs.{kind_falls, state_in, table_in, disk_drops, disk_acts}
+use Rattle.ygg_direct.specs.RunPlaces.{cut_by}
+use Rattle.ygg_direct.proofs.DiskServes.{fitting_call}
+use Rattle.ygg_sym_expr.specs.Meaning.{Grows, Gives}
+use Rattle.ygg_shape_cells.proofs.Wider.{shaped_wider}
+use Rattle.ygg_sym_runs.specs.Runs.{SymQuestion, Choice, Call}
+use Rattle.ygg_sym_runs.specs.Meaning.{Low, question_worth, is_set, QuestionShaped, IsLow}
+use Rattle.ygg_sym_below.specs.Lows.{LowShaped, low_worth}
+use Rattle.ygg_sym_below.specs.Disks.{SymCall, Read, Write, Flush, sym_call, writes_where}
+use Rattle.ygg_sym_below.specs.StopTerms.{Stops}
+use Rattle.ygg_sym_below.specs.Cuts.{disk_loses, sync_cuts, async_cuts, kind_cuts, call_cuts, disk_cuts, disk_stops}
+use Rattle.ygg_sym_below.proofs.Lows.{low_of, low_wider, merge_lows_grows, merge_worth}
+use Rattle.ygg_sym_below.proofs.StopMeaning.{IsTest, StopsMean}
+use Rattle.ygg_sym_below.proofs.DiskKeeps.{where_grows}
+use Rattle.ygg_sym_below.proofs.Disks.{call_worth, CallShaped, where_give, table_is, pick_gives, AskIs, ask_is}
+
+-- what power leaves, as values of terms for declared names
+abbrev pub left_of : (d : DiskText) → Low (List SymValue) Env
+left_of d = record {
+  value = λ v xs. low_worth v (tables_of d) xs;
+  Has = λ nodes xs. LowShaped nodes (tables_of d) xs;
+  wider = λ old new xs g h. low_wider old new (tables_of d) xs g h;
+}
+
+module _ (kinds : List RuleKind) where
+  sync_cuts_grow : (number : ℕ) (call : SymCall) (tables : List SymValue) → Grows (sync_cuts kinds number call tables)
+  sync_cuts_grow number (Read at) tables nodes = extends_self nodes
+  sync_cuts_grow number Flush tables nodes = extends_self nodes
+  sync_cuts_grow number (Write at row) [] nodes = extends_self nodes
+  sync_cuts_grow number (Write at row) (x ∷ []) nodes =
+      let k = made kinds (Input number 1) nodes in
+      extends_both nodes k.nodes (writes_where kinds k.value at row x k.nodes).nodes (made_grows kinds (Input number 1) nodes)
+      (where_grows kinds k.value at row x k.nodes)
+  sync_cuts_grow number (Write at row) (x ∷ y ∷ more) nodes = extends_self nodes
+
+  async_cuts_grow : (number : ℕ) (call : SymCall) (tables : List SymValue) → Grows (async_cuts kinds number call tables)
+  async_cuts_grow number (Read at) tables nodes = extends_self nodes
+  async_cuts_grow number Flush tables nodes = extends_self nodes
+  async_cuts_grow number (Write at row) [] nodes = extends_self nodes
+  async_cuts_grow number (Write at row) (x ∷ []) nodes = extends_self nodes
+  async_cuts_grow number (Write at row) (x ∷ y ∷ []) nodes =
+      let k = made kinds (Input number 1) nodes in
+      extends_both nodes k.nodes (writes_where kinds k.value at row y k.nodes).nodes (made_grows kinds (Input number 1) nodes)
+      (where_grows kinds k.value at row y k.nodes)
+  async_cuts_grow number (Write at row) (x ∷ y ∷ z ∷ more) nodes = extends_self nodes
+
+  kind_cuts_grow : (kind : DiskKind) (number : ℕ) (call : SymCall) (tables : List SymValue) → Grows (kind_cuts kinds kind number call tables)
+  kind_cuts_grow Sync number call tables = sync_cuts_grow number call tables
+  kind_cuts_grow Async number call tables = async_cuts_grow number call tables
+
+  cuts_grow : (kind : DiskKind) (number : ℕ) (q : SymQuestion) (tables : List SymValue) → Grows (disk_cuts kinds kind number q tables)
+  cuts_grow kind number Choice tables nodes = extends_self nodes
+  cuts_grow kind number (Call name args) tables nodes = asked (sym_call name args) nodes
+    where
+      asked : (o : Option SymCall) → Grows (call_cuts kinds kind number o tables)
+      asked None nodes = extends_self nodes
+      asked (Some call) nodes = kind_cuts_grow kind number call tables nodes
+
+module _ (inputs : Inputs) (v : Values) (kinds : List RuleKind) (d : DiskText) (past : Bool) where
+  record LeftIs (kind : DiskKind) (want : (model_of kind).State) (nodes : List Node) (xs : List SymValue) : Type 0 where
+    has : LowShaped nodes (tables_of_kind kind d) xs
+    is : low_worth v (tables_of_kind kind d) xs ≡ tables_in kind want
+
+  loses_so : (kind : DiskKind) (tables : List SymValue) (nodes : List Node) → LowShaped nodes (tables_of_kind kind d) tables →
+      LeftIs kind ((model_of kind).lost (state_in past kind (low_worth v (tables_of_kind kind d) tables))) nodes (disk_loses kind tables)
+  loses_so Sync (x ∷ []) nodes p = record { has = p; is = ap (λ k. (codes "view", k) ∷ []) (table_is inputs v kinds d nodes x p.0) }
+  loses_so Async (x ∷ y ∷ []) nodes p =
+      let q = p.1 in
+      record { has = (q.0, (q.0, tt)); is = ap (λ k. (codes "view", k) ∷ (codes "stable", k) ∷ []) (table_is inputs v kinds d nodes y q.0) }
+  loses_so Sync [] nodes p = absurd p
+  loses_so Sync (x ∷ y ∷ more) nodes p = absurd (p.1)
+  loses_so Async [] nodes p = absurd p
+  loses_so Async (x ∷ []) nodes p = absurd (p.1)
+  loses_so Async (x ∷ y ∷ z ∷ more) nodes p = let q = p.1 in absurd (q.1)
+
+  sync_cut : (number : ℕ) (call : SymCall) (tables : List SymValue) (nodes : List Node) → LowShaped nodes (tables_of_kind Sync d) tables →
+      CallShaped inputs v kinds d nodes call →
+      Gives inputs v (sync_cuts kinds number call tables) nodes
+      (LeftIs Sync (kind_falls past Sync (state_in past Sync (low_worth v (tables_of_kind Sync d) tables)) (call_worth inputs v kinds d call)
+      ((inputs number == 1) ∷ [])).to)
+  sync_cut number (Read at) tables nodes p c h = loses_so Sync tables nodes p
+  sync_cut number Flush tables nodes p c h = loses_so Sync tables nodes p
+  sync_cut number (Write at row) (x ∷ []) nodes p c h =
+      let k = made kinds (Input number 1) nodes in
+      let b = writes_where kinds k.value at row x k.nodes in
+      let gk = made_grows kinds (Input number 1) nodes in
+      let pick = pick_gives inputs v kinds d number nodes (fits_fewer inputs v k.nodes b.nodes (where_grows kinds k.value at row x k.nodes) h) in
+      let left = where_give inputs v kinds d k.value at row x c.0 k.nodes pick.wide (shaped_wider nodes k.nodes _ x gk p.0) (wider nodes k.nodes at c.0 gk c.1)
+      (row_wider nodes k.nodes d.words.value d.width.value row gk c.2) h in
+      let old = table_in true (worth v x) in
+      let written = table_write old (v at.0).bits (row_of v row) in
+      record {
+        has = (left.stands, tt);
+        is = ap (λ z. (codes "view", z) ∷ []) (left.is ∙ ap (λ (t : Bool). value.Table (if t then written else old)) pick.is);
+      }
+  sync_cut number (Write at row) [] nodes p c h = absurd p
+  sync_cut number (Write at row) (x ∷ y ∷ more) nodes p c h = absurd (p.1)
+
+  async_cut : (number : ℕ) (call : SymCall) (tables : List SymValue) (nodes : List Node) → LowShaped nodes (tables_of_kind Async d) tables →
+      CallShaped inputs v kinds d nodes call →
+      Gives inputs v (async_cuts kinds number call tables) nodes
+      (LeftIs Async (kind_falls past Async (state_in past Async (low_worth v (tables_of_kind Async d) tables)) (call_worth inputs v kinds d call)
+      ((inputs number == 1) ∷ [])).to)
+  async_cut number (Read at) tables nodes p c h = loses_so Async tables nodes p
+  async_cut number Flush tables nodes p c h = loses_so Async tables nodes p
+  async_cut number (Write at row) (x ∷ y ∷ []) nodes p c h =
+      let k = made kinds (Input number 1) nodes in
+      let b = writes_where kinds k.value at row y k.nodes in
+      let gk = made_grows kinds (Input number 1) nodes in
+      let q = p.1 in
+      let pick = pick_gives inputs v kinds d number nodes (fits_fewer inputs v k.nodes b.nodes (where_grows kinds k.value at row y k.nodes) h) in
+      let left = where_give inputs v kinds d k.value at row y c.0 k.nodes pick.wide (shaped_wider nodes k.nodes _ y gk q.0) (wider nodes k.nodes at c.0 gk c.1)
+      (row_wider nodes k.nodes d.words.value d.width.value row gk c.2) h in
+      let old = table_in true (worth v y) in
+      let written = table_write old (v at.0).bits (row_of v row) in
+      record {
+        has = (left.stands, (left.stands, tt));
+        is = ap (λ z. (codes "view", z) ∷ (codes "stable", z) ∷ []) (left.is ∙ ap (λ (t : Bool). value.Table (if t then written else old)) pick.is);
+      }
+  async_cut number (Write at row) [] nodes p c h = absurd p
+  async_cut number (Write at row) (x ∷ []) nodes p c h = absurd (p.1)
+  async_cut number (Write at row) (x ∷ y ∷ z ∷ more) nodes p c h = let q = p.1 in absurd (q.1)
+
+  kind_cut : (kind : DiskKind) (number : ℕ) (call : SymCall) (tables : List SymValue) (nodes : List Node) → LowShaped nodes (tables_of_kind kind d) tables →
+      CallShaped inputs v kinds d nodes call →
+      Gives inputs v (kind_cuts kinds kind number call tables) nodes
+      (LeftIs kind (kind_falls past kind (state_in past kind (low_worth v (tables_of_kind kind d) tables)) (call_worth inputs v kinds d call)
+      ((inputs number == 1) ∷ [])).to)
+  kind_cut Sync number call tables nodes = sync_cut number call tables nodes
+  kind_cut Async number call tables nodes = async_cut number call tables nodes
+
+  or_test : (a b : Number) → a ≡ word 1 (bit_of (a.bits == 1)) → b ≡ word 1 (bit_of (b.bits == 1)) →
+      ((apply_to Or a b).bits == 1) ≡ ((a.bits == 1) || (b.bits == 1))
+  or_test a b e f =
+      ap (λ (k : Number). (apply_to Or k b).bits == 1) e ∙ ap (λ (k : Number). (apply_to Or (word 1 (bit_of (a.bits == 1))) k).bits == 1) f
+      ∙ cases (a.bits == 1) (b.bits == 1)
+    where
+      cases : (x y : Bool) → ((apply_to Or (word 1 (bit_of x)) (word 1 (bit_of y))).bits == 1) ≡ (x || y)
+      cases true true = refl
+      cases true false = refl
+      cases false true = refl
+      cases false false = refl
+
+  test_if : (t : Bool) (a b : Number) → ((if t then a else b).bits == 1) ≡ (if t then a.bits == 1 else b.bits == 1)
+  test_if true a b = refl
+  test_if false a b = refl
+
+  module _ (right : none (disk_errors d) ≡ true) (first last : ℕ) where
+    abbrev pub K : Stops (List SymValue) (List SymValue)
+    K = disk_stops kinds d.kind first last
+
+    -- a failure of power takes one pick
+    abbrev pub failing : List Bool
+    failing = (inputs last == 1) ∷ []
+
+    abbrev pub cut : Question → State Env → Env
+    cut = cut_by (disk_acts past d) failing
+
+    abbrev pub lose : State Env → Env
+    lose s = ((disk_acts past d).loses s failing).base
+
+    abbrev pub bits : ℕ → Bool
+    bits n = inputs (first + n) == 1
+
+    call_cut : (name : Name) (xs tables : List SymValue) (nodes : List Node) → AskIs inputs v kinds d nodes name xs → LowShaped nodes (tables_of d) tables →
+        Gives inputs v (disk_cuts kinds d.kind last (Call name xs) tables) nodes
+        (IsLow inputs v (left_of d) (cut (progress.Call name (map (worth v) xs)) (based (low_worth v (tables_of d) tables))))
+    call_cut name xs tables nodes ask p =
+        let low = low_worth v (tables_of d) tables in
+        subst (λ o. Gives inputs v (call_cuts kinds d.kind last o tables) nodes
+        (IsLow inputs v (left_of d) (cut (progress.Call name (map (worth v) xs)) (based low)))) (sym ask.terms)
+        (λ h.
+        let m = kind_cut d.kind last ask.call tables nodes p ask.shaped h in
+        record { has = m.has; is = m.is ∙ sym (ap (λ c. (disk_drops past d (based low) c failing).base) ask.values) })
+
+    pub disk_stops_mean : StopsMean (low_of (tables_of d)) (left_of d) inputs v Impl (disk_operations d) K cut lose bits
+    disk_stops_mean = record {
+      bit_grows = λ n nodes. made_grows kinds (Input (first + n) 1) nodes;
+      bit_is = λ n nodes h. let p = pick_gives inputs v kinds d (first + n) nodes h in record { wide = p.wide; is = p.is };
+      cut_grows = λ q s nodes. cuts_grow kinds d.kind last q s nodes;
+      cut_is = λ q s nodes fit shaped p h. cut_is q s nodes fit shaped p h;
+      lose_grows = λ s nodes. extends_self nodes;
+      lose_is = λ s nodes p h. let m = loses_so d.kind s nodes p in record { has = m.has; is = m.is };
+      merge_grows = λ t a b nodes. merge_lows_grows inputs v kinds t a b nodes;
+      merge_is = λ t a b nodes w p q h. let m = merge_worth inputs v kinds (tables_of d) t a b nodes w p q h in record { has = m.has; is = m.is };
+      either_grows = λ a b nodes. made_grows kinds (Bin Or a b) nodes;
+      either_is = λ a b nodes p q h. either_is a b nodes p q h;
+      pick_grows = λ t a b nodes. picked_grows kinds t a b nodes;
+      pick_is = λ t a b nodes w p q h.
+          let m = picked_is inputs v kinds 1 t a b nodes w p q h in
+          record { wide = m.wide; is = ap (λ (k : Number). k.bits == 1) m.is ∙ test_if (is_set v t) (v a.0) (v b.0) };
+    }
+      where
+        cut_is : (q : SymQuestion) (s : List SymValue) (nodes : List Node) → question_fits Impl (disk_operations d) (question_worth v q) ≡ true →
+            QuestionShaped nodes q → LowShaped nodes (tables_of d) s →
+            Gives inputs v (disk_cuts kinds d.kind last q s) nodes (IsLow inputs v (left_of d) (cut (question_worth v q) (based (low_worth v (tables_of d) s))))
+        cut_is Choice s nodes may shaped p h = absurd (cc)
+        cut_is (Call name xs) s nodes may shaped p h =
+            let o = disk_cuts kinds d.kind last (Call name xs) s nodes in
+            let fit = fits_fewer inputs v nodes o.nodes (cuts_grow kinds d.kind last (Call name xs) s nodes) h in
+            let f = fitting_call (disk_operations d) name (map (worth v) xs) may in
+            let ask = ask_is inputs v kinds d right name xs nodes f.operation fit shaped f.found f.fit in
+            call_cut name xs s nodes ask p h
+
+        either_is : (a b : Id) (nodes : List Node) → HasWidth nodes a 1 → HasWidth nodes b 1 →
+            Gives inputs v (made kinds (Bin Or a b)) nodes (IsTest v (is_set v a || is_set v b))
+        either_is a b nodes p q h =
+            let o = made kinds (Bin Or a b) nodes in
+            let f = fits_fewer inputs v nodes o.nodes (made_grows kinds (Bin Or a b) nodes) h in
+            let can : CanBin nodes Or a b = record {
+              one = stands nodes a 1 p;
+              two = stands nodes b 1 q;
+              widths = width_is nodes a 1 p ∙ sym (width_is nodes b 1 q);
+            } in
+            let m = made_is inputs v kinds (Bin Or a b) nodes can h in
+            record {
+              wide = m.wide ∙ ap (λ z. Some z) (width_is nodes a 1 p);
+              is = ap (λ (k : Number). k.bits == 1) m.is
+                  ∙ or_test (v a.0) (v b.0) (digit_is (v a.0) (f.words a.0) (f.widths a.0 1 p)) (digit_is (v b.0) (f.words b.0) (f.widths b.0 1 q));
+            }

@@ -1,0 +1,17 @@
+pub mod Lows
+pub mod DiskKeeps
+pub mod Disks
+pub mod Placed
+pub mod Whole
+pub mod OnDisk
+pub mod StopMeaning
+pub mod Stopping
+pub mod Halted
+pub mod Stopped
+pub mod Cuts
+pub mod Fallen
+pub mod FallsOnDisk
+pub mod Specs
+pub mod Gluing
+pub mod OnSpec
+pub mod MadeInputs

@@ -1,0 +1,19 @@
+use Rattle.std.proofs.Common.{[], reverse}
+use Rattle.ygg_type_rules.specs.Definitions.{with_definitions}
+use Rattle.ygg_meaning.specs.Meaning.{functions_of}
+use Rattle.ygg_bank.proofs.Exist.{values_fit}
+use Rattle.ygg_bank.specs.Values.{value_of}
+use Rattle.ygg_sym_expr.specs.Exprs.{sym_value, sym_functions}
+use Rattle.ygg_sym_expr.proofs.Grows.{functions_grow}
+use Rattle.ygg_sym_expr.proofs.Values.{value_means}
+use Rattle.ygg_sym_expr.proofs.Definitions.{functions_mean}
+use Rattle.ygg_sym_expr.proofs.law.expressions_mean.Goals as goal
+
+-- src/law.rt:6:1
+pub returns : goal.returns
+returns c = λ kinds defs e scope from nodes sound same typed shaped bank inputs fit agrees.
+    let o = sym_value kinds (sym_functions kinds (reverse defs)) e from nodes in
+    let v = value_of inputs o.nodes in
+    let m = value_means inputs v kinds (with_definitions defs []) (functions_of defs) (sym_functions kinds (reverse defs)) (functions_grow kinds (reverse defs))
+    (functions_mean inputs v kinds defs sound) e in
+    m.gives scope from nodes same agrees typed shaped (values_fit inputs o.nodes bank.ordered fit)

@@ -1,0 +1,4 @@
+//! Expressions over terms.
+#![tactic(auto)]
+
+pub mod law;

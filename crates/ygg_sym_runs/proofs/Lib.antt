@@ -1,0 +1,7 @@
+pub mod Worths
+pub mod Below
+pub mod Putting
+pub mod Typed
+pub mod Ends
+pub mod Parts
+pub mod Agreement

@@ -1,0 +1,27 @@
+-- Terms with a part written anew.
+use Rattle.std.specs.Prelude.{List, [], ◌∷◌}
+use Rattle.ygg_rules.specs.declared.rule.RuleKind.{RuleKind}
+use Rattle.ygg_bank.specs.Makes.{Make, pure, and_make}
+use Rattle.ygg_bank.specs.declared.node.Id.{Id}
+use Rattle.ygg_shape_cells.specs.Making.{selected, stored}
+use Rattle.ygg_shape_cells.specs.declared.terms.SymValue.{SymValue}
+use Rattle.ygg_shape_cells.specs.declared.terms.SymValue.TheVariants.{Word, Row, Table}
+use Rattle.ygg_shape.specs.RowPlaces.{word_stored}
+use Rattle.ygg_sym_expr.specs.Exprs.{id_in}
+
+-- the row that a value is; a word or a table, which no typed file has there, counts as no words
+abbrev pub row_in : SymValue → List Id
+row_in (Word a) = []
+row_in (Row row) = row
+row_in (Table table) = []
+
+module _ (kinds : List RuleKind) where
+  -- the value with the part at these places written anew, the outermost place first; with no place, the new value
+  abbrev pub put_made : SymValue → List Id → SymValue → Make SymValue
+  put_made old [] new = pure new
+  put_made (Word a) (i ∷ is) new = pure (Word a)
+  put_made (Row row) (i ∷ is) new = and_make (word_stored kinds row i (id_in new)) (λ written. pure (Row written))
+  put_made (Table table) (i ∷ []) new = and_make (stored kinds table i (row_in new)) (λ written. pure (Table written))
+  put_made (Table table) (i ∷ j ∷ is) new =
+      and_make (selected kinds table i) (λ row. and_make (word_stored kinds row j (id_in new)) (λ part.
+      and_make (stored kinds table i part) (λ written. pure (Table written))))

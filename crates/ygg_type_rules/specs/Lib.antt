@@ -1,0 +1,10 @@
+pub mod TypeErrors
+pub mod Limits
+pub mod Shapes
+pub mod Comparisons
+pub mod Scopes
+pub mod Expressions
+pub mod Statements
+pub mod Definitions
+pub mod Layers
+pub mod Files

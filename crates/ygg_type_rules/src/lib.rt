@@ -1,0 +1,8 @@
+//! The type errors of layer files: definitions, and the types that they speak of.
+#![tactic(auto)]
+
+mod scope;
+mod type_error;
+
+pub use scope::{Local, Owner, Signature, TypedExpr, Variable, Visibility};
+pub use type_error::TypeError;

@@ -1,0 +1,4 @@
+pub mod PropagationLemmas
+pub mod StatusLemmas
+pub mod LoadLemmas
+pub mod PickLemmas

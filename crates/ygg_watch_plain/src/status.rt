@@ -1,0 +1,43 @@
+ghost use Rattle.ygg_watch_plain.specs.Propagation.{IsWithin};
+ghost use Rattle.ygg_watch_plain.specs.Status.{IsStatus};
+
+use ygg_cnf::Lit;
+use ygg_watch_trail::Assignments;
+
+/// What is left of a clause: a true literal, two that are not assigned, one, or none.
+#[derive(Clone, Copy, Debug)]
+pub enum ClauseStatus {
+    True(Lit),
+    Open(Lit, Lit),
+    Unit(Lit),
+    False,
+}
+
+/// The status of a clause.
+pub fn status_of(clause: &[Lit], trail: &Assignments) -> ClauseStatus
+    requires { IsWithin trail.now.variable_count clause.now }
+    ensures { IsStatus clause.now trail.now.entries.items result }
+{
+    let mut free = None;
+    for lit in clause {
+        if trail.is_true(*lit) {
+            return ClauseStatus::True(*lit);
+        }
+        if !trail.is_false(*lit) {
+            match free {
+                None => {
+                    free = Some(*lit);
+                }
+                Some(first) => {
+                    if *lit != first {
+                        return ClauseStatus::Open(first, *lit);
+                    }
+                }
+            }
+        }
+    }
+    match free {
+        None => ClauseStatus::False,
+        Some(lit) => ClauseStatus::Unit(lit),
+    }
+}
