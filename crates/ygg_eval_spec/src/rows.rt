@@ -88,7 +88,7 @@ pub fn cut_write(
     }
 }
 
-/// Makes all that was written stable. Its only error is out of memory, after which nothing has changed.
+/// Makes all that was written stable. Its only error is out of memory, after which nothing is said of the tables.
 pub fn settle(alloc: Global, kind: DiskKind, tables: &mut [Value]) -> Result<(), NoMemory>
     requires { AreTables kind tables.old }
     ensures { OnOk result ((power : PowerIs) → Made kind calls.Flush None tables.old tables.new power power) }
@@ -102,7 +102,7 @@ pub fn settle(alloc: Global, kind: DiskKind, tables: &mut [Value]) -> Result<(),
     }
 }
 
-/// Power fails between calls: what isn't stable is lost. Its only error is out of memory, after which nothing has changed.
+/// Power fails between calls: what isn't stable is lost. Its only error is out of memory, after which nothing is said of the tables.
 pub fn lose_unstable(alloc: Global, kind: DiskKind, tables: &mut [Value]) -> Result<(), NoMemory>
     requires { AreTables kind tables.old }
     ensures { OnOk result (Lost kind tables.old tables.new) }

@@ -103,7 +103,8 @@ spec_below kinds terms keep m first = record {
         let pick = λ (k : ℕ). input_pick kinds first (i + k) in
         let z = spec_asked kinds terms m pick (Some o) xs s nodes in
         below_as (first + i + room) (first + (i + room)) z.nodes (omega arith)
-        (whole_below kinds terms keep (first + i) (sym_chooser pick) (chooser_below kinds first i) o.spec (sym_bind m.layer.state s) (sym_bind o.arguments xs) tt
+        (whole_below kinds terms keep (first + i) (sym_chooser pick) (chooser_below kinds first i) o.spec (sym_bind m.layer.state s)
+        (sym_bind o.arguments xs) tt
         nodes p)
 
     handled : (i : ℕ) (q : SymQuestion) (s : List SymValue) (nodes : List Node) → InputsBelow (first + i) nodes →

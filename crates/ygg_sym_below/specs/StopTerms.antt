@@ -33,7 +33,8 @@ pub record Stops (S F : Type 0) : Type 0 where
   pub pick : Id → Id → Id → Make Id
 
 module _ {S F : Type 0} (kinds : List RuleKind) (terms : SymFunctions) (M : SymMachine S) (K : Stops S F) where
-  -- what is left after a question whose two stops have these terms: what was left before where power had failed, else what a stop before it leaves, else what one within it leaves
+  -- what is left after a question whose two stops have these terms: what was left before where power had failed, else what a stop before it leaves,
+  -- else what one within it leaves
   abbrev pub sym_left : Id → Id → SymQuestion → SymHalted S F → Make F
   sym_left here within q z =
       and_make (K.cut q z.to) (λ c. and_make (K.merge within c z.fallen)

@@ -22,7 +22,21 @@ use Rattle.ygg_shape_cells.specs.declared.terms.SymValue.TheVariants.{Word, Row,
 use Rattle.ygg_shape.proofs.Keeps.{merged_keeps, compared_keeps, selected_keeps}
 use Rattle.ygg_shape.specs.RowPlaces.{singles}
 use Rattle.ygg_sym_expr.specs.Names.{SymScope, sym_bind}
-use Rattle.ygg_sym_expr.specs.Exprs.{SymFunctions, Making, id_in, all_made, number_made, applied, part_made, joined, with_name, at_number, node_made, sym_value, sym_functions}
+use Rattle.ygg_sym_expr.specs.Exprs.{
+  SymFunctions,
+  Making,
+  id_in,
+  all_made,
+  number_made,
+  applied,
+  part_made,
+  joined,
+  with_name,
+  at_number,
+  node_made,
+  sym_value,
+  sym_functions,
+}
 
 -- after the step holds what held before
 abbrev pub Keeps : {A : Type 0} → (List Node → Type 0) → Make A → Type 0

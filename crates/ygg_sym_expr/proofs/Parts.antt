@@ -1,5 +1,31 @@
 -- What each construct of an expression makes of its parts is worth what the construct is, under one valuation of the nodes at the end.
-use Rattle.std.proofs.Common.{◌≡◌, ◌≤◌, ◌<◌, ◌==◌, ℕ, zero, suc, Bool, true, false, if◌then◌else◌, List, [], ◌∷◌, map, length, replicate, All, None, refl, sym, ap, ◌∙◌, subst, arith}
+use Rattle.std.proofs.Common.{
+  ◌≡◌,
+  ◌≤◌,
+  ◌<◌,
+  ◌==◌,
+  ℕ,
+  zero,
+  suc,
+  Bool,
+  true,
+  false,
+  if◌then◌else◌,
+  List,
+  [],
+  ◌∷◌,
+  map,
+  length,
+  replicate,
+  All,
+  None,
+  refl,
+  sym,
+  ap,
+  ◌∙◌,
+  subst,
+  arith,
+}
 use Rattle.std.proofs.lemmas.List.{length-replicate}
 use Rattle.std.proofs.lemmas.List.Elements.{All-head, All-tail, All-cons, All-nil, All-replicate}
 use Rattle.ygg_value.specs.Number.{Number, Digits, IsWord}
@@ -261,7 +287,8 @@ module _ (inputs : Inputs) (v : Values) (kinds : List RuleKind) where
     numbers : numbers_of v (map id_in xs) ≡ map (λ a. (word_in a).bits) wants
     count : length (map id_in xs) ≡ length wants
 
-  all_terms : (w : ℕ) (wants : List Value) (xs : List SymValue) (nodes : List Node) → Fits inputs v nodes → All (SomeShape nodes) xs → map (worth v) xs ≡ wants →
+  all_terms : (w : ℕ) (wants : List Value) (xs : List SymValue) (nodes : List Node) → Fits inputs v nodes → All (SomeShape nodes) xs →
+      map (worth v) xs ≡ wants →
       All (IsWordOf w) wants → Terms w wants nodes xs
   all_terms w [] [] nodes f p e h = record { wide = All-nil (λ a. HasWidth nodes a w); numbers = refl; count = refl }
   all_terms w [] (x ∷ xs) nodes f p e h = absurd (cc)

@@ -1,5 +1,31 @@
 -- The terms of an expression without a type error are worth its value, under one valuation of the nodes at the end.
-use Rattle.std.proofs.Common.{◌≡◌, ◌<◌, ◌≤◌, ◌^◌, ℕ, Bool, true, false, ◌&&◌, ◌||◌, if◌then◌else◌, List, [], ◌∷◌, ◌++◌, map, All, Option, Some, refl, sym, ap, ◌∙◌, subst, arith}
+use Rattle.std.proofs.Common.{
+  ◌≡◌,
+  ◌<◌,
+  ◌≤◌,
+  ◌^◌,
+  ℕ,
+  Bool,
+  true,
+  false,
+  ◌&&◌,
+  ◌||◌,
+  if◌then◌else◌,
+  List,
+  [],
+  ◌∷◌,
+  ◌++◌,
+  map,
+  All,
+  Option,
+  Some,
+  refl,
+  sym,
+  ap,
+  ◌∙◌,
+  subst,
+  arith,
+}
 use Rattle.std.specs.Str.{bytes_eq}
 use Rattle.std.proofs.lemmas.List.{map-append}
 use Rattle.std.proofs.lemmas.List.Elements.{All-head, All-tail, All-cons, All-nil, All-append}
@@ -101,7 +127,18 @@ use Rattle.ygg_sym_expr.specs.Meaning.{SomeShape, EnvShaped, ScopeShaped, Gives,
 use Rattle.ygg_sym_expr.proofs.Shaped.{some_wider, scope_wider, word_worth}
 use Rattle.ygg_shape.proofs.Grows.{merged_grows}
 use Rattle.ygg_sym_expr.proofs.Grows.{AlwaysGrows, FunctionsGrow, word_grows, applied_grows, part_grows, at_number_grows, all_grow, value_grows}
-use Rattle.ygg_sym_expr.proofs.Parts.{AllWorth, number_gives, applied_gives, not_gives, resized_gives, part_gives, pick_gives, fill_gives, row_gives, joined_gives}
+use Rattle.ygg_sym_expr.proofs.Parts.{
+  AllWorth,
+  number_gives,
+  applied_gives,
+  not_gives,
+  resized_gives,
+  part_gives,
+  pick_gives,
+  fill_gives,
+  row_gives,
+  joined_gives,
+}
 
 abbrev pub Judge : Type 0
 Judge = Scope → Typing
