@@ -87,7 +87,7 @@ pub record FreshMeans : Type 0 where
   pub stand : (kinds : List RuleKind) (number : ℕ) (ds : List Declared) (nodes : List Node) →
       InputsStand number ds (fresh_all kinds number ds nodes).nodes
   pub stay : (number : ℕ) (ds : List Declared) (old new : List Node) → Extends old new → InputsStand number ds old → InputsStand number ds new
-  pub back : (ds : List Declared) (env : Env) → IsTrue (env_fits ds env) → EnvDigits ds env
+  pub back : (ds : List Declared) (env : Env) → ShapesKept ds → IsTrue (env_fits ds env) → EnvDigits ds env
   pub grows : (kinds : List RuleKind) (number : ℕ) (ds : List Declared) → Grows (fresh_all kinds number ds)
   pub inputs_below : (kinds : List RuleKind) (number : ℕ) (ds : List Declared) (nodes : List Node) → InputsBelow number nodes →
       InputsBelow (number + words_in ds) (fresh_all kinds number ds nodes).nodes
