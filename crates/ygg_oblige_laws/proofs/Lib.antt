@@ -1,0 +1,4 @@
+pub mod Digits
+pub mod Setting
+pub mod Wholes
+pub mod Falls

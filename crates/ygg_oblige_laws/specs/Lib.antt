@@ -1,0 +1,2 @@
+pub mod LayerMeans
+pub mod Parts
