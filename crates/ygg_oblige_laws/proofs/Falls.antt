@@ -25,14 +25,14 @@ use Rattle.ygg_sym_runs.specs.Meaning.{answer_worth, is_set}
 use Rattle.ygg_sym_below.specs.Lows.{LowShaped, low_worth}
 use Rattle.ygg_sym_below.specs.StopTerms.{SymFallen}
 use Rattle.ygg_sym_below.proofs.Lows.{low_wider}
-use Rattle.ygg_sym_laws.specs.Means.{terms_of, Begins, WorthFall, WholeMeans, FallMeans}
+use Rattle.ygg_sym_laws.specs.Means.{terms_of, values_in, Begins, WorthFall, WholeMeans, FallMeans}
 use Rattle.ygg_oblige_terms.specs.Layers.{ShapesKept}
 use Rattle.ygg_oblige_terms.specs.Numbers.{Numbers, arguments_of}
 use Rattle.ygg_oblige_terms.specs.States.{Starting, settled_made}
 use Rattle.ygg_oblige_terms.specs.Terms.{Finish, some_passes, recovered, cut_short, recovers, falls_through}
 use Rattle.ygg_oblige_pieces.specs.Steps.{HasStep, variables_of, ObligationTyped, AnswerKept, StepIs, end_worth, PassesSo}
 use Rattle.ygg_oblige_laws.proofs.Digits.{both_is, implied_is}
-use Rattle.ygg_oblige_laws.proofs.Setting.{Ready, ready_wider}
+use Rattle.ygg_oblige_laws.proofs.Setting.{Ready, ready_wider, answer_wider}
 use Rattle.ygg_oblige_laws.proofs.Wholes.{begun, step_shaped, RecoveredSo, recovered_grows, recovered_gives}
 use Rattle.ygg_oblige_laws.specs.Parts.{PartsMean}
 
@@ -105,10 +105,10 @@ module _ (kinds : List RuleKind) (defs : List Def) (G : Below) (L : ClosedLayer)
             (record {
               vars_are = low_wider nodes s.nodes (variables_of L o) vars grs vars_are;
               args_are = low_wider nodes s.nodes (arguments_of o) args grs args_are;
-              answer_shaped = run.after.answer_shaped;
+              answer_shaped = answer_wider r.nodes s.nodes r.value.answer gs run.after.answer_shaped;
               answer_kept = kept r.value;
-              memory_are = run.after.vars_are;
-              low_are = run.after.low_are;
+              memory_are = low_wider r.nodes s.nodes L.layer.memory (values_in r.value.vars) gs run.after.vars_are;
+              low_are = low_wider r.nodes s.nodes L.low r.value.to gs run.after.low_are;
             }) e hp in
         let q = after x st in
         let both = both_is inputs v kinds s.value p.value p.nodes (wider s.nodes p.nodes s.value 1 gp side.wide) q.wide hc in
@@ -124,3 +124,34 @@ module _ (kinds : List RuleKind) (defs : List Def) (G : Below) (L : ClosedLayer)
           passing = p.nodes;
           passes = after;
         }
+
+    module _ (b : Block) (falls : FallMeans kinds defs G L b L.layer.memory (arguments_of o)) (state : L.layer.state ≡ variables_of L o) where
+      pub falls_give : (n : Numbers) (S : Starting) (args : List SymValue) (nodes : List Node) → Ready L nodes S → LowShaped nodes (arguments_of o) args →
+          (x : Schedule) → StepIs v L o S.from.vars args x →
+          Gives inputs v (falls_through kinds (terms_of kinds defs) L G o n S b args) nodes (FallsSo o n b S args nodes)
+      falls_give n S args nodes ready shaped x st h =
+          let terms = terms_of kinds defs in
+          let c = cut_short kinds terms L G n b S.from.memory (arguments_of o) args S.from.low nodes in
+          let a = made kinds (Bin And S.related c.value.reached) c.nodes in
+          let t = recovers kinds terms L G o n a.value S.from.vars args c.value.fallen a.nodes in
+          let gc = falls.grows n.run n.stop n.last (begun S args) nodes in
+          let ga = made_grows kinds (Bin And S.related c.value.reached) c.nodes in
+          let gt = recovers_grows n a.value S.from.vars args c.value.fallen a.nodes in
+          let ha = fits_fewer inputs v a.nodes t.nodes gt h in
+          let hc = fits_fewer inputs v c.nodes a.nodes ga ha in
+          let begins : Begins kinds defs G L b L.layer.memory (arguments_of o) nodes (begun S args) =
+          record { vars_are = ready.from.memory; args_are = shaped; low_are = ready.from.low } in
+          let left = falls.after inputs v n.run n.stop n.last (begun S args) nodes begins hc in
+          let gca = extends_both nodes c.nodes a.nodes gc ga in
+          let later = ready_wider L S nodes a.nodes gca ready in
+          let both = both_is inputs v kinds S.related c.value.reached c.nodes (wider nodes c.nodes S.related 1 gc ready.related) left.0 ha in
+          let vars_are = subst (λ ds. LowShaped a.nodes ds S.from.vars) state later.from.vars in
+          record {
+            left = c.value;
+            left_is = refl;
+            cut_fit = hc;
+            hypothesis = a.value;
+            hypothesis_is = both.is;
+            recovers = recovers_give n a.value S.from.vars args c.value.fallen a.nodes both.wide vars_are
+                (low_wider nodes a.nodes (arguments_of o) args gca shaped) (low_wider c.nodes a.nodes L.low c.value.fallen ga left.1) x st h;
+          }

@@ -1,5 +1,5 @@
 -- The states that obligations begin with, among later nodes, and what a schedule says of them.
-use Rattle.std.proofs.Common.{◌≡◌, ℕ, Bool, true, ◌&&◌, List, [], refl, ap, ◌∙◌}
+use Rattle.std.proofs.Common.{◌≡◌, ℕ, Bool, List, Option, Some, None}
 use Rattle.ygg_syntax.specs.declared.tree.Block.{Block}
 use Rattle.ygg_syntax.specs.declared.tree.Declared.{Declared}
 use Rattle.ygg_syntax.specs.declared.tree.Def.{Def}
@@ -16,6 +16,8 @@ use Rattle.ygg_bank.specs.Nodes.{HasWidth, Extends}
 use Rattle.ygg_bank.specs.Values.{Inputs, Values, Fits}
 use Rattle.ygg_bank.specs.declared.node.Node.{Node}
 use Rattle.ygg_shape_cells.specs.declared.terms.SymValue.{SymValue}
+use Rattle.ygg_sym_expr.proofs.Shaped.{some_wider}
+use Rattle.ygg_sym_runs.specs.Meaning.{AnswerShaped}
 use Rattle.ygg_sym_below.specs.Lows.{LowShaped, low_worth}
 use Rattle.ygg_sym_below.proofs.Lows.{low_wider}
 use Rattle.ygg_sym_laws.specs.Below.{places_on}
@@ -41,6 +43,10 @@ ready_wider L S old new g r = record {
   settled = wider old new S.settled 1 g r.settled;
   low = low_wider old new L.low S.settled_low g r.low;
 }
+
+pub answer_wider : (old new : List Node) (y : Option SymValue) → Extends old new → AnswerShaped old y → AnswerShaped new y
+answer_wider old new None g h = tt
+answer_wider old new (Some x) g h = some_wider old new x g h
 
 -- a schedule begins with what these states are worth
 pub record FromIs (v : Values) (L : ClosedLayer) (S : Starting) (x : Schedule) : Type 0 where
