@@ -14,6 +14,7 @@ use Rattle.ygg_rules.specs.declared.rule.RuleKind.{RuleKind}
 use Rattle.ygg_bank.proofs.Made.{made_grows}
 use Rattle.ygg_bank.proofs.Meaning.{fits_fewer}
 use Rattle.ygg_bank.proofs.Widths.{wider, extends_both}
+use Rattle.ygg_bank.specs.Makes.{Make}
 use Rattle.ygg_bank.specs.Making.{made}
 use Rattle.ygg_bank.specs.Nodes.{HasWidth}
 use Rattle.ygg_bank.specs.Values.{Inputs, Values, Fits}
@@ -27,7 +28,7 @@ use Rattle.ygg_sym_below.specs.Lows.{LowShaped, low_worth}
 use Rattle.ygg_sym_below.specs.StopTerms.{SymFallen}
 use Rattle.ygg_sym_below.proofs.Lows.{low_wider}
 use Rattle.ygg_sym_laws.specs.Below.{zeros_made}
-use Rattle.ygg_sym_laws.specs.Means.{terms_of, values_in, WholeMeans, FallMeans}
+use Rattle.ygg_sym_laws.specs.Means.{terms_of, values_in, WorthFall, WholeMeans, FallMeans}
 use Rattle.ygg_oblige_terms.specs.Layers.{ShapesKept}
 use Rattle.ygg_oblige_terms.specs.Numbers.{Numbers}
 use Rattle.ygg_oblige_terms.specs.States.{Starting, settled_made, all_compared}
@@ -44,6 +45,10 @@ module _ (kinds : List RuleKind) (defs : List Def) (G : Below) (L : ClosedLayer)
   abbrev pub ends_alike : Finish → Finish → Bool
   ends_alike end other = same_state (end_worth v L end true).to (end_worth v L other true).to
 
+  -- a recovery that power cuts
+  abbrev pub cut_again : Numbers → List SymValue → List SymValue → Make (SymFallen (List SymValue))
+  cut_again n zeros low = cut_short kinds (terms_of kinds defs) L G n L.layer.recover zeros [] [] low
+
   -- A term that is 0 where the base is settled and the recovery that power cuts comes to a stop that is set, and the base between is not settled or the
   -- recoveries end in two states.
   pub record AgainSo (n : Numbers) (S : Starting) (nodes : List Node) (out : Id) : Type 0 where
@@ -51,19 +56,19 @@ module _ (kinds : List RuleKind) (defs : List Def) (G : Below) (L : ClosedLayer)
     pub at : List Node
     pub zeros : List SymValue
     pub begins : Woken kinds defs G L parts inputs v shape whole shapes S.settled_low at zeros
-    pub left : SymFallen (List SymValue)
-    pub left_is : left ≡ (cut_short kinds (terms_of kinds defs) L G n L.layer.recover zeros [] [] S.settled_low at).value
-    pub cut_fit : Fits inputs v (cut_short kinds (terms_of kinds defs) L G n L.layer.recover zeros [] [] S.settled_low at).nodes
+    pub cut_fit : Fits inputs v (cut_again n zeros S.settled_low at).nodes
+    pub fall : is_set v (cut_again n zeros S.settled_low at).value.reached ≡ true →
+        WorthFall kinds defs G L L.layer.recover L.layer.memory [] v (woken zeros S.settled_low) (cut_again n zeros S.settled_low at).value
     pub end_at : List Node
-    pub end_low : LowShaped end_at L.low left.fallen
-    pub end_fit : Fits inputs v (recovered kinds (terms_of kinds defs) L G n.wake left.fallen end_at).nodes
+    pub end_low : LowShaped end_at L.low (cut_again n zeros S.settled_low at).value.fallen
+    pub end_fit : Fits inputs v (recovered kinds (terms_of kinds defs) L G n.wake (cut_again n zeros S.settled_low at).value.fallen end_at).nodes
     pub other_at : List Node
     pub other_low : LowShaped other_at L.low S.settled_low
     pub other_fit : Fits inputs v (recovered kinds (terms_of kinds defs) L G n.other S.settled_low other_at).nodes
     pub is : is_set v out
-        ≡ (not (is_set v S.settled && is_set v left.reached)
-        || (settled L (low_worth v L.low left.fallen)
-        && ends_alike (recovered kinds (terms_of kinds defs) L G n.wake left.fallen end_at).value
+        ≡ (not (is_set v S.settled && is_set v (cut_again n zeros S.settled_low at).value.reached)
+        || (settled L (low_worth v L.low (cut_again n zeros S.settled_low at).value.fallen)
+        && ends_alike (recovered kinds (terms_of kinds defs) L G n.wake (cut_again n zeros S.settled_low at).value.fallen end_at).value
         (recovered kinds (terms_of kinds defs) L G n.other S.settled_low other_at).value))
 
   pub again_gives : (falls : FallMeans kinds defs G L L.layer.recover L.layer.memory []) (n : Numbers) (S : Starting) (nodes : List Node) → Ready L nodes S →
@@ -135,9 +140,8 @@ module _ (kinds : List RuleKind) (defs : List Def) (G : Below) (L : ClosedLayer)
         at = z.nodes;
         zeros = z.value;
         begins = begins;
-        left = c.value;
-        left_is = refl;
         cut_fit = hc;
+        fall = falls.sound inputs v n.run n.stop n.last (woken z.value low) z.nodes begins.begins hc;
         end_at = c.nodes;
         end_low = left.1;
         end_fit = he;

@@ -4,6 +4,7 @@ use Rattle.std.specs.Prelude.{IsTrue, Option}
 use Rattle.ygg_value.specs.declared.operation.Op.TheVariants.{And, Imp}
 use Rattle.ygg_value.specs.declared.shape.Shape.{Shape}
 use Rattle.ygg_syntax.specs.declared.tree.Block.{Block}
+use Rattle.ygg_syntax.specs.declared.tree.Declared.{Declared}
 use Rattle.ygg_syntax.specs.declared.tree.Def.{Def}
 use Rattle.ygg_meaning.specs.Layer.{ClosedLayer}
 use Rattle.ygg_meaning.specs.Related.{settled}
@@ -13,6 +14,7 @@ use Rattle.ygg_rules.specs.declared.rule.RuleKind.{RuleKind}
 use Rattle.ygg_bank.proofs.Made.{made_grows}
 use Rattle.ygg_bank.proofs.Meaning.{fits_fewer}
 use Rattle.ygg_bank.proofs.Widths.{wider, extends_both}
+use Rattle.ygg_bank.specs.Makes.{Make}
 use Rattle.ygg_bank.specs.Making.{made}
 use Rattle.ygg_bank.specs.Nodes.{HasWidth}
 use Rattle.ygg_bank.specs.Values.{Inputs, Values, Fits}
@@ -51,15 +53,19 @@ module _ (kinds : List RuleKind) (defs : List Def) (G : Below) (L : ClosedLayer)
     pub passes : (x : Schedule) → StepIs v L o vars args x →
         PassesSo v L o x (end_worth v L (recovered kinds (terms_of kinds defs) L G n.wake fallen at).value true) passing some
 
+  -- a run of a block from the states that obligations begin with, which power cuts
+  abbrev pub cut_of : Numbers → Block → Starting → List Declared → List SymValue → Make (SymFallen (List SymValue))
+  cut_of n b S declared args = cut_short kinds (terms_of kinds defs) L G n b S.from.memory declared args S.from.low
+
   -- A run that power cuts, a recovery, and such a term for the hypothesis that the relation holds and the run comes to a stop that is set.
   pub record FallsSo (o : Obligation) (n : Numbers) (b : Block) (S : Starting) (args : List SymValue) (before : List Node) (nodes : List Node) (out : Id)
       : Type 0 where
-    pub left : SymFallen (List SymValue)
-    pub left_is : left ≡ (cut_short kinds (terms_of kinds defs) L G n b S.from.memory (arguments_of o) args S.from.low before).value
-    pub cut_fit : Fits inputs v (cut_short kinds (terms_of kinds defs) L G n b S.from.memory (arguments_of o) args S.from.low before).nodes
+    pub cut_fit : Fits inputs v (cut_of n b S (arguments_of o) args before).nodes
+    pub fall : is_set v (cut_of n b S (arguments_of o) args before).value.reached ≡ true →
+        WorthFall kinds defs G L b L.layer.memory (arguments_of o) v (begun S args) (cut_of n b S (arguments_of o) args before).value
     pub hypothesis : Id
-    pub hypothesis_is : is_set v hypothesis ≡ (is_set v S.related && is_set v left.reached)
-    pub recovers : RecoversSo o n hypothesis S.from.vars args left.fallen nodes out
+    pub hypothesis_is : is_set v hypothesis ≡ (is_set v S.related && is_set v (cut_of n b S (arguments_of o) args before).value.reached)
+    pub recovers : RecoversSo o n hypothesis S.from.vars args (cut_of n b S (arguments_of o) args before).value.fallen nodes out
 
   module _ (whole : WholeMeans kinds defs G L L.layer.recover L.layer.memory [] shape) (shapes : ShapesKept L.layer.memory)
       (o : Obligation) (has : HasStep o) (typed : ObligationTyped defs G L o) (kept : (end : Finish) → AnswerKept v o end) where
@@ -147,9 +153,8 @@ module _ (kinds : List RuleKind) (defs : List Def) (G : Below) (L : ClosedLayer)
           let both = both_is inputs v kinds S.related c.value.reached c.nodes (wider nodes c.nodes S.related 1 gc ready.related) left.0 ha in
           let vars_are = subst (λ ds. LowShaped a.nodes ds S.from.vars) state later.from.vars in
           record {
-            left = c.value;
-            left_is = refl;
             cut_fit = hc;
+            fall = falls.sound inputs v n.run n.stop n.last (begun S args) nodes begins hc;
             hypothesis = a.value;
             hypothesis_is = both.is;
             recovers = recovers_give n a.value S.from.vars args c.value.fallen a.nodes both.wide vars_are

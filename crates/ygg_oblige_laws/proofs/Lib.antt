@@ -4,3 +4,5 @@ pub mod Wholes
 pub mod Falls
 pub mod Again
 pub mod Formats
+pub mod Schedules
+pub mod Shows
