@@ -6,3 +6,4 @@ pub mod Again
 pub mod Formats
 pub mod Schedules
 pub mod Shows
+pub mod Refutes

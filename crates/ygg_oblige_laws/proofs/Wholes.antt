@@ -108,6 +108,18 @@ module _ (kinds : List RuleKind) (defs : List Def) (G : Below) (L : ClosedLayer)
           passes = passes;
         }
 
+    -- the nodes after the run fit
+    pub run_fit : (n : Numbers) (S : Starting) (args : List SymValue) (nodes : List Node) →
+        Gives inputs v (runs_through kinds (terms_of kinds defs) L G o n S b args) nodes
+        (λ new out. Fits inputs v (ran kinds (terms_of kinds defs) L G n.run b S.from.memory (arguments_of o) args S.from.low nodes).nodes)
+    run_fit n S args nodes h =
+        let terms = terms_of kinds defs in
+        let r = ran kinds terms L G n.run b S.from.memory (arguments_of o) args S.from.low nodes in
+        let s = some_passes kinds terms L o S.from.vars args r.value r.nodes in
+        let t = made kinds (Bin Imp S.related s.value) s.nodes in
+        let gs = (parts.steps.adds o S.from.vars args r.value).grows r.nodes in
+        fits_fewer inputs v r.nodes s.nodes gs (fits_fewer inputs v s.nodes t.nodes (made_grows kinds (Bin Imp S.related s.value) s.nodes) h)
+
   -- a whole recovery over zeros of memory
   pub record RecoveredSo (shape : Option Shape) (low : List SymValue) (nodes : List Node) (end : Finish) : Type 0 where
     pub after : WholeAfter kinds defs G L L.layer.recover L.layer.memory [] shape v nodes end
