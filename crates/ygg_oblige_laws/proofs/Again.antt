@@ -71,6 +71,34 @@ module _ (kinds : List RuleKind) (defs : List Def) (G : Below) (L : ClosedLayer)
         && ends_alike (recovered kinds (terms_of kinds defs) L G n.wake (cut_again n zeros S.settled_low at).value.fallen end_at).value
         (recovered kinds (terms_of kinds defs) L G n.other S.settled_low other_at).value))
 
+  pub again_grows : (falls : FallMeans kinds defs G L L.layer.recover L.layer.memory []) (n : Numbers) (S : Starting) →
+      Grows (recovers_again kinds (terms_of kinds defs) L G n S)
+  again_grows falls n S nodes =
+      let terms = terms_of kinds defs in
+      let low = S.settled_low in
+      let z = zeros_made kinds L.layer.memory nodes in
+      let c = cut_short kinds terms L G n L.layer.recover z.value [] [] low z.nodes in
+      let e = recovered kinds terms L G n.wake c.value.fallen c.nodes in
+      let o = recovered kinds terms L G n.other low e.nodes in
+      let s = settled_made kinds terms L c.value.fallen o.nodes in
+      let m = all_compared kinds (values_in e.value.vars) (values_in o.value.vars) s.nodes in
+      let b = all_compared kinds e.value.to o.value.to m.nodes in
+      let a = made kinds (Bin And m.value b.value) b.nodes in
+      let k = made kinds (Bin And s.value a.value) a.nodes in
+      let y = made kinds (Bin And S.settled c.value.reached) k.nodes in
+      let t = made kinds (Bin Imp y.value k.value) y.nodes in
+      extends_both nodes z.nodes t.nodes ((parts.comparing.zeros_add L.layer.memory).grows nodes)
+      (extends_both z.nodes c.nodes t.nodes (falls.grows n.run n.stop n.last (woken z.value low) z.nodes)
+      (extends_both c.nodes e.nodes t.nodes (recovered_grows kinds defs G L parts inputs v shape whole shapes n.wake c.value.fallen c.nodes)
+      (extends_both e.nodes o.nodes t.nodes (recovered_grows kinds defs G L parts inputs v shape whole shapes n.other low e.nodes)
+      (extends_both o.nodes s.nodes t.nodes ((parts.states.settled_add c.value.fallen).grows o.nodes)
+      (extends_both s.nodes m.nodes t.nodes ((parts.comparing.same_add (values_in e.value.vars) (values_in o.value.vars)).grows s.nodes)
+      (extends_both m.nodes b.nodes t.nodes ((parts.comparing.same_add e.value.to o.value.to).grows m.nodes)
+      (extends_both b.nodes a.nodes t.nodes (made_grows kinds (Bin And m.value b.value) b.nodes)
+      (extends_both a.nodes k.nodes t.nodes (made_grows kinds (Bin And s.value a.value) a.nodes)
+      (extends_both k.nodes y.nodes t.nodes (made_grows kinds (Bin And S.settled c.value.reached) k.nodes)
+      (made_grows kinds (Bin Imp y.value k.value) y.nodes))))))))))
+
   pub again_gives : (falls : FallMeans kinds defs G L L.layer.recover L.layer.memory []) (n : Numbers) (S : Starting) (nodes : List Node) → Ready L nodes S →
       Gives inputs v (recovers_again kinds (terms_of kinds defs) L G n S) nodes (AgainSo n S)
   again_gives falls n S nodes ready h =

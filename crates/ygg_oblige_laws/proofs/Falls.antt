@@ -132,6 +132,16 @@ module _ (kinds : List RuleKind) (defs : List Def) (G : Below) (L : ClosedLayer)
         }
 
     module _ (b : Block) (falls : FallMeans kinds defs G L b L.layer.memory (arguments_of o)) (state : L.layer.state ≡ variables_of L o) where
+      pub falls_grow : (n : Numbers) (S : Starting) (args : List SymValue) → Grows (falls_through kinds (terms_of kinds defs) L G o n S b args)
+      falls_grow n S args nodes =
+          let terms = terms_of kinds defs in
+          let c = cut_short kinds terms L G n b S.from.memory (arguments_of o) args S.from.low nodes in
+          let a = made kinds (Bin And S.related c.value.reached) c.nodes in
+          let t = recovers kinds terms L G o n a.value S.from.vars args c.value.fallen a.nodes in
+          extends_both nodes c.nodes t.nodes (falls.grows n.run n.stop n.last (begun S args) nodes)
+          (extends_both c.nodes a.nodes t.nodes (made_grows kinds (Bin And S.related c.value.reached) c.nodes)
+          (recovers_grows n a.value S.from.vars args c.value.fallen a.nodes))
+
       pub falls_give : (n : Numbers) (S : Starting) (args : List SymValue) (nodes : List Node) → Ready L nodes S → LowShaped nodes (arguments_of o) args →
           (x : Schedule) → StepIs v L o S.from.vars args x →
           Gives inputs v (falls_through kinds (terms_of kinds defs) L G o n S b args) nodes (FallsSo o n b S args nodes)

@@ -18,7 +18,7 @@ use Rattle.ygg_bank.specs.Values.{Inputs, Values, Fits}
 use Rattle.ygg_bank.specs.declared.node.Id.{Id}
 use Rattle.ygg_bank.specs.declared.node.Node.{Node}
 use Rattle.ygg_shape_cells.specs.declared.terms.SymValue.{SymValue}
-use Rattle.ygg_sym_expr.specs.Meaning.{Gives}
+use Rattle.ygg_sym_expr.specs.Meaning.{Grows, Gives}
 use Rattle.ygg_sym_runs.specs.Meaning.{answer_worth, is_set}
 use Rattle.ygg_sym_below.specs.Lows.{LowShaped, low_worth}
 use Rattle.ygg_sym_below.proofs.Lows.{low_wider}
@@ -50,6 +50,17 @@ module _ (kinds : List RuleKind) (defs : List Def) (G : Below) (L : ClosedLayer)
     pub ends : (bits : ℕ → Bool) (lower : State Env) (first : Picks) (answer : Answer) (to : State Env) → (machine_below G).Starts lower first →
         EndsWith kinds defs G L L.layer.format L.layer.memory [] bits (zeros_of L.layer.memory) [] lower.base answer to →
         AreBits inputs n.run (places_on G L.layer.format) bits → EndsSo kinds defs G L L.layer.format L.layer.memory [] v answer to end
+
+  pub formats_grow : (n : Numbers) → Grows (formats kinds (terms_of kinds defs) L G n)
+  formats_grow n nodes =
+      let terms = terms_of kinds defs in
+      let l = lows_at_start kinds terms G nodes in
+      let z = zeros_made kinds L.layer.memory l.nodes in
+      let r = ran kinds terms L G n.run L.layer.format z.value [] [] l.value z.nodes in
+      let s = some_passes kinds terms L Init [] [] r.value r.nodes in
+      extends_both nodes l.nodes s.nodes (start.grows nodes)
+      (extends_both l.nodes z.nodes s.nodes ((parts.comparing.zeros_add L.layer.memory).grows l.nodes)
+      (extends_both z.nodes r.nodes s.nodes (whole.grows n.run (woken z.value l.value) z.nodes) ((parts.steps.adds Init [] [] r.value).grows r.nodes)))
 
   pub formats_give : (n : Numbers) (nodes : List Node) → Gives inputs v (formats kinds (terms_of kinds defs) L G n) nodes (FormatsSo n)
   formats_give n nodes h =

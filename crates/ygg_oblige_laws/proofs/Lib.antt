@@ -7,3 +7,5 @@ pub mod Formats
 pub mod Schedules
 pub mod Shows
 pub mod Refutes
+pub mod Glue
+pub mod Frame

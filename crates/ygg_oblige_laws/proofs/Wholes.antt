@@ -108,6 +108,16 @@ module _ (kinds : List RuleKind) (defs : List Def) (G : Below) (L : ClosedLayer)
           passes = passes;
         }
 
+    pub runs_grow : (n : Numbers) (S : Starting) (args : List SymValue) → Grows (runs_through kinds (terms_of kinds defs) L G o n S b args)
+    runs_grow n S args nodes =
+        let terms = terms_of kinds defs in
+        let r = ran kinds terms L G n.run b S.from.memory (arguments_of o) args S.from.low nodes in
+        let s = some_passes kinds terms L o S.from.vars args r.value r.nodes in
+        let t = made kinds (Bin Imp S.related s.value) s.nodes in
+        extends_both nodes r.nodes t.nodes (whole.grows n.run (begun S args) nodes)
+        (extends_both r.nodes s.nodes t.nodes ((parts.steps.adds o S.from.vars args r.value).grows r.nodes)
+        (made_grows kinds (Bin Imp S.related s.value) s.nodes))
+
     -- the nodes after the run fit
     pub run_fit : (n : Numbers) (S : Starting) (args : List SymValue) (nodes : List Node) →
         Gives inputs v (runs_through kinds (terms_of kinds defs) L G o n S b args) nodes
