@@ -9,3 +9,5 @@ pub mod Shows
 pub mod Refutes
 pub mod Glue
 pub mod Frame
+pub mod RunTerms
+pub mod FallTerms
