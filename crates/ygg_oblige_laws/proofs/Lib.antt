@@ -11,3 +11,4 @@ pub mod Glue
 pub mod Frame
 pub mod RunTerms
 pub mod FallTerms
+pub mod OtherTerms
