@@ -12,3 +12,4 @@ pub mod Frame
 pub mod RunTerms
 pub mod FallTerms
 pub mod OtherTerms
+pub mod EachKind

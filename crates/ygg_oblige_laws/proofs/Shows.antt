@@ -117,9 +117,9 @@ module _ (kinds : List RuleKind) (defs : List Def) (G : Below) (L : ClosedLayer)
         fails = (r.passes x (refl, refl)).none z.second;
       })
 
-  pub tick_shows : (t : Tick) (S : Starting) (end : Finish) (nodes : List Node) (out : Id) → RunsSo kinds defs G L parts inputs v (TickOf t) t.body S [] end nodes out →
-      (is_set v S.related ≡ true → Related v L S) → is_set v out ≡ false → (x : Schedule) × Violates L (machine_below G) (TickOf t) x
-  tick_shows t S end nodes out r related unset =
+  pub tick_shows : (t : Tick) (S : Starting) (args : List SymValue) (end : Finish) (nodes : List Node) (out : Id) →
+      RunsSo kinds defs G L parts inputs v (TickOf t) t.body S args end nodes out → (is_set v S.related ≡ true → Related v L S) → is_set v out ≡ false → (x : Schedule) × Violates L (machine_below G) (TickOf t) x
+  tick_shows t S args end nodes out r related unset =
       let z = refuted (is_set v S.related) (is_set v r.some) (sym r.is ∙ unset) in
       let s = related z.first in
       let x = schedule_of v L S [] None r.run.taken [] in
@@ -186,11 +186,11 @@ module _ (kinds : List RuleKind) (defs : List Def) (G : Below) (L : ClosedLayer)
           fails = sided_fails v L (CutOf o) x r.passing r.some (λ e out. refl) end (r.passes x (refl, refl)) z.second;
         })
 
-    pub tick_cut_shows : (t : Tick) (n : Numbers) (S : Starting) (before nodes : List Node) (out : Id) →
-        FallsSo kinds defs G L parts inputs v shape (CutTickOf t) n t.body S [] before nodes out →
+    pub tick_cut_shows : (t : Tick) (n : Numbers) (S : Starting) (args : List SymValue) (before nodes : List Node) (out : Id) →
+        FallsSo kinds defs G L parts inputs v shape (CutTickOf t) n t.body S args before nodes out →
         (is_set v S.related ≡ true → Related v L S) → is_set v out ≡ false → (x : Schedule) × Violates L (machine_below G) (CutTickOf t) x
-    tick_cut_shows t n S before nodes out f related unset =
-        let left = (cut_of kinds defs G L parts inputs v shape n t.body S [] [] before).value in
+    tick_cut_shows t n S args before nodes out f related unset =
+        let left = (cut_of kinds defs G L parts inputs v shape n t.body S [] args before).value in
         let r = f.recovers in
         let fallen = low_worth v L.low left.fallen in
         let z = refuted (is_set v f.hypothesis) (settled L fallen && is_set v r.some) (sym r.is ∙ unset) in
