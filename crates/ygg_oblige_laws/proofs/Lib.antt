@@ -13,3 +13,4 @@ pub mod RunTerms
 pub mod FallTerms
 pub mod OtherTerms
 pub mod EachKind
+pub mod Free
