@@ -20,6 +20,7 @@ use Rattle.ygg_bank.specs.declared.node.Node.{Node}
 use Rattle.ygg_bank.specs.declared.node.Node.TheVariants.{Bin}
 use Rattle.ygg_shape_cells.specs.declared.terms.SymValue.{SymValue}
 use Rattle.ygg_sym_expr.proofs.Keeps.{Keeps}
+use Rattle.ygg_sym_runs.proofs.Below.{below_more}
 use Rattle.ygg_sym_below.specs.StopTerms.{SymFallen}
 use Rattle.ygg_sym_laws.specs.Below.{places_on, failure_room, zeros_made, lows_at_start, lost_made}
 use Rattle.ygg_sym_laws.specs.Means.{terms_of, values_in, WholeMeans, FallMeans, LossMeans, StartMeans}
@@ -47,10 +48,6 @@ use Rattle.ygg_oblige_laws.specs.Parts.{PartsMean}
 -- one step after another
 and_keeps : {A B : Type 0} (P : List Node → Type 0) (m : Make A) (next : A → Make B) → Keeps P m → ((a : A) → Keeps P (next a)) → Keeps P (and_make m next)
 and_keeps P m next h k nodes p = k (m nodes).value (m nodes).nodes (h nodes p)
-
--- inputs below a number are below a greater one
-pub below_later : (a b : ℕ) (nodes : List Node) → a ≤ b → InputsBelow a nodes → InputsBelow b nodes
-below_later a b nodes l h place number w e = let x : number < a = h place number w e in omega arith
 
 module _ (kinds : List RuleKind) (defs : List Def) (G : Below) (L : ClosedLayer) (parts : PartsMean kinds defs G L) (means : LayerMeans kinds defs G L)
     (next : ℕ) where
@@ -171,7 +168,7 @@ module _ (kinds : List RuleKind) (defs : List Def) (G : Below) (L : ClosedLayer)
   args_below : (start : ℕ) (ds : List Declared) (nodes : List Node) → InputsBelow start nodes → start + words_in ds ≤ next →
       InputsBelow next (fresh_all kinds start ds nodes).nodes
   args_below start ds nodes p l =
-      below_later (start + words_in ds) next (fresh_all kinds start ds nodes).nodes l (parts.fresh.inputs_below kinds start ds nodes p)
+      below_more (start + words_in ds) next (fresh_all kinds start ds nodes).nodes l (parts.fresh.inputs_below kinds start ds nodes p)
 
 module _ (kinds : List RuleKind) (defs : List Def) (G : Below) (L : ClosedLayer) (parts : PartsMean kinds defs G L) (means : LayerMeans kinds defs G L)
     (start : ℕ) (S : Starting) where
@@ -180,7 +177,7 @@ module _ (kinds : List RuleKind) (defs : List Def) (G : Below) (L : ClosedLayer)
       InputsBelow (numbers_of G L o start).next (term_made kinds (terms_of kinds defs) L G S o (numbers_of G L o start) nodes).nodes
   term_below Init known nodes p =
       let n = numbers_of G L Init start in
-      formats_keep kinds defs G L parts means n.next n (omega arith) nodes (below_later start n.next nodes (omega arith) p)
+      formats_keep kinds defs G L parts means n.next n (omega arith) nodes (below_more start n.next nodes (omega arith) p)
   term_below (CallOf o) known nodes p =
       let n = numbers_of G L (CallOf o) start in
       let args = fresh_all kinds start o.arguments nodes in
@@ -195,15 +192,15 @@ module _ (kinds : List RuleKind) (defs : List Def) (G : Below) (L : ClosedLayer)
   term_below (TickOf t) known nodes p =
       let n = numbers_of G L (TickOf t) start in
       runs_keep kinds defs G L parts means n.next (TickOf t) t.body known.shape known.whole n S [] (omega arith) nodes
-      (below_later start n.next nodes (omega arith) p)
+      (below_more start n.next nodes (omega arith) p)
   term_below (CutTickOf t) known nodes p =
       let n = numbers_of G L (CutTickOf t) start in
       falls_keep kinds defs G L parts means n.next (CutTickOf t) t.body known.falls n S []
-      (record { run = omega arith; stop = omega arith; last = omega arith }) (omega arith) nodes (below_later start n.next nodes (omega arith) p)
+      (record { run = omega arith; stop = omega arith; last = omega arith }) (omega arith) nodes (below_more start n.next nodes (omega arith) p)
   term_below Idle known nodes p =
       let n = numbers_of G L Idle start in
-      idle_keeps kinds defs G L parts means n.next n S (omega arith) (omega arith) nodes (below_later start n.next nodes (omega arith) p)
+      idle_keeps kinds defs G L parts means n.next n S (omega arith) (omega arith) nodes (below_more start n.next nodes (omega arith) p)
   term_below Again known nodes p =
       let n = numbers_of G L Again start in
       again_keeps kinds defs G L parts means n.next n S (record { run = omega arith; stop = omega arith; last = omega arith }) (omega arith) (omega arith) nodes
-      (below_later start n.next nodes (omega arith) p)
+      (below_more start n.next nodes (omega arith) p)

@@ -14,3 +14,4 @@ pub mod FallTerms
 pub mod OtherTerms
 pub mod EachKind
 pub mod Free
+pub mod Layered

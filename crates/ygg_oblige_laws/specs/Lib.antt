@@ -1,3 +1,4 @@
 pub mod LayerMeans
 pub mod Parts
 pub mod ObligationMeans
+pub mod Layers
