@@ -3,3 +3,5 @@ pub mod Digits
 pub mod Fresh
 pub mod Truth
 pub mod Compares
+pub mod Truths
+pub mod Starting
