@@ -15,3 +15,4 @@ pub mod Specs
 pub mod Gluing
 pub mod OnSpec
 pub mod MadeInputs
+pub mod StopKeeps
