@@ -1,5 +1,5 @@
 -- Power that fails on a disk over terms leaves what it leaves on the disk.
-use Rattle.std.proofs.Common.{◌≡◌, ◌+◌, ◌==◌, ◌||◌, ℕ, Bool, true, false, if◌then◌else◌, List, [], ◌∷◌, map, Option, Some, None, refl, sym, ap, ◌∙◌, subst}
+use Rattle.std.proofs.Common.{◌≡◌, ◌+◌, ◌==◌, ◌||◌, ℕ, Bool, true, false, if◌then◌else◌, List, [], ◌∷◌, map, Some, refl, sym, ap, ◌∙◌, subst}
 use Rattle.std.specs.Prelude.{codes}
 use Rattle.ygg_base.specs.declared.geometry.DiskKind.{DiskKind}
 use Rattle.ygg_base.specs.declared.geometry.DiskKind.TheVariants.{Sync, Async}
@@ -23,7 +23,7 @@ use Rattle.ygg_type_progress.specs.Questions.{question_fits}
 use Rattle.ygg_rules.specs.declared.rule.RuleKind.{RuleKind}
 use Rattle.ygg_bank.proofs.Made.{made_grows}
 use Rattle.ygg_bank.proofs.Meaning.{fits_fewer}
-use Rattle.ygg_bank.proofs.Widths.{wider, width_is, stands, extends_self, extends_both}
+use Rattle.ygg_bank.proofs.Widths.{wider, width_is, stands, extends_self}
 use Rattle.ygg_bank.specs.Making.{made}
 use Rattle.ygg_bank.specs.Nodes.{HasWidth, CanBin}
 use Rattle.ygg_bank.specs.Values.{Inputs, Values}
@@ -39,17 +39,17 @@ use Rattle.ygg_shape_cells.specs.declared.terms.SymValue.{SymValue}
 use Rattle.ygg_direct.specs.DiskActs.{kind_falls, state_in, table_in, disk_drops, disk_acts}
 use Rattle.ygg_direct.specs.RunPlaces.{cut_by}
 use Rattle.ygg_direct.proofs.DiskServes.{fitting_call}
-use Rattle.ygg_sym_expr.specs.Meaning.{Grows, Gives}
+use Rattle.ygg_sym_expr.specs.Meaning.{Gives}
 use Rattle.ygg_shape_cells.proofs.Wider.{shaped_wider}
 use Rattle.ygg_sym_runs.specs.Runs.{SymQuestion, Choice, Call}
 use Rattle.ygg_sym_runs.specs.Meaning.{Low, question_worth, is_set, QuestionShaped, IsLow}
 use Rattle.ygg_sym_below.specs.Lows.{LowShaped, low_worth}
-use Rattle.ygg_sym_below.specs.Disks.{SymCall, Read, Write, Flush, sym_call, writes_where}
+use Rattle.ygg_sym_below.specs.Disks.{SymCall, Read, Write, Flush, writes_where}
 use Rattle.ygg_sym_below.specs.StopTerms.{Stops}
 use Rattle.ygg_sym_below.specs.Cuts.{disk_loses, sync_cuts, async_cuts, kind_cuts, call_cuts, disk_cuts, disk_stops}
 use Rattle.ygg_sym_below.proofs.Lows.{low_of, low_wider, merge_lows_grows, merge_worth}
 use Rattle.ygg_sym_below.proofs.StopMeaning.{IsTest, StopsMean}
-use Rattle.ygg_sym_below.proofs.DiskKeeps.{where_grows}
+use Rattle.ygg_sym_below.proofs.DiskKeeps.{where_grows, cuts_grow}
 use Rattle.ygg_sym_below.proofs.Disks.{call_worth, CallShaped, where_give, table_is, pick_gives, AskIs, ask_is}
 
 -- what power leaves, as values of terms for declared names
@@ -59,40 +59,6 @@ left_of d = record {
   Has = λ nodes xs. LowShaped nodes (tables_of d) xs;
   wider = λ old new xs g h. low_wider old new (tables_of d) xs g h;
 }
-
-module _ (kinds : List RuleKind) where
-  sync_cuts_grow : (number : ℕ) (call : SymCall) (tables : List SymValue) → Grows (sync_cuts kinds number call tables)
-  sync_cuts_grow number (Read at) tables nodes = extends_self nodes
-  sync_cuts_grow number Flush tables nodes = extends_self nodes
-  sync_cuts_grow number (Write at row) [] nodes = extends_self nodes
-  sync_cuts_grow number (Write at row) (x ∷ []) nodes =
-      let k = made kinds (Input number 1) nodes in
-      extends_both nodes k.nodes (writes_where kinds k.value at row x k.nodes).nodes (made_grows kinds (Input number 1) nodes)
-      (where_grows kinds k.value at row x k.nodes)
-  sync_cuts_grow number (Write at row) (x ∷ y ∷ more) nodes = extends_self nodes
-
-  async_cuts_grow : (number : ℕ) (call : SymCall) (tables : List SymValue) → Grows (async_cuts kinds number call tables)
-  async_cuts_grow number (Read at) tables nodes = extends_self nodes
-  async_cuts_grow number Flush tables nodes = extends_self nodes
-  async_cuts_grow number (Write at row) [] nodes = extends_self nodes
-  async_cuts_grow number (Write at row) (x ∷ []) nodes = extends_self nodes
-  async_cuts_grow number (Write at row) (x ∷ y ∷ []) nodes =
-      let k = made kinds (Input number 1) nodes in
-      extends_both nodes k.nodes (writes_where kinds k.value at row y k.nodes).nodes (made_grows kinds (Input number 1) nodes)
-      (where_grows kinds k.value at row y k.nodes)
-  async_cuts_grow number (Write at row) (x ∷ y ∷ z ∷ more) nodes = extends_self nodes
-
-  kind_cuts_grow : (kind : DiskKind) (number : ℕ) (call : SymCall) (tables : List SymValue) → Grows (kind_cuts kinds kind number call tables)
-  kind_cuts_grow Sync number call tables = sync_cuts_grow number call tables
-  kind_cuts_grow Async number call tables = async_cuts_grow number call tables
-
-  cuts_grow : (kind : DiskKind) (number : ℕ) (q : SymQuestion) (tables : List SymValue) → Grows (disk_cuts kinds kind number q tables)
-  cuts_grow kind number Choice tables nodes = extends_self nodes
-  cuts_grow kind number (Call name args) tables nodes = asked (sym_call name args) nodes
-    where
-      asked : (o : Option SymCall) → Grows (call_cuts kinds kind number o tables)
-      asked None nodes = extends_self nodes
-      asked (Some call) nodes = kind_cuts_grow kind number call tables nodes
 
 module _ (inputs : Inputs) (v : Values) (kinds : List RuleKind) (d : DiskText) (past : Bool) where
   record LeftIs (kind : DiskKind) (want : (model_of kind).State) (nodes : List Node) (xs : List SymValue) : Type 0 where

@@ -17,3 +17,4 @@ pub mod OnSpec
 pub mod MadeInputs
 pub mod Chosen
 pub mod Blocks
+pub mod StopKeeps
