@@ -18,3 +18,7 @@ pub mod MadeInputs
 pub mod Chosen
 pub mod Blocks
 pub mod StopKeeps
+pub mod GluedBack
+pub mod SpecFalls
+pub mod SameStops
+pub mod SpecBits
