@@ -129,7 +129,7 @@ module _ (kinds : List RuleKind) where
   pub where_grows : (test at : Id) (row : List Id) (x : SymValue) → Grows (writes_where kinds test at row x)
   where_grows test at row x nodes = where_keeps kinds (Extends nodes) (grows_stays kinds nodes) test at row x nodes (extends_self nodes)
 
-  input_grows : (number : ℕ) (nodes : List Node) → Keeps (Extends nodes) (made kinds (Input number 1))
+  pub input_grows : (number : ℕ) (nodes : List Node) → Keeps (Extends nodes) (made kinds (Input number 1))
   input_grows number nodes more p = extends_both nodes more (made kinds (Input number 1) more).nodes p (made_grows kinds (Input number 1) more)
 
   pub disk_grows : (kind : DiskKind) (number : ℕ) (q : SymQuestion) (tables : List SymValue) → Grows (disk_handles kinds kind number q tables)

@@ -11,10 +11,11 @@ use Rattle.ygg_bank.proofs.Inputs.{made_inputs}
 use Rattle.ygg_bank.specs.Inputs.{InputsBelow}
 use Rattle.ygg_bank.specs.Makes.{Make}
 use Rattle.ygg_bank.specs.Making.{made}
+use Rattle.ygg_bank.specs.Nodes.{Extends}
 use Rattle.ygg_bank.specs.declared.node.Id.{Id}
 use Rattle.ygg_bank.specs.declared.node.Node.{Node}
 use Rattle.ygg_bank.specs.declared.node.Node.TheVariants.{Input}
-use Rattle.ygg_shape_words.proofs.Keeps.{Stays, inputs_stay}
+use Rattle.ygg_shape_words.proofs.Keeps.{Stays, grows_stays, inputs_stay}
 use Rattle.ygg_shape_cells.specs.Making.{merged}
 use Rattle.ygg_shape_cells.specs.declared.terms.SymValue.{SymValue}
 use Rattle.ygg_shape.proofs.Keeps.{each_two_keeps, merged_keeps}
@@ -30,7 +31,7 @@ use Rattle.ygg_sym_below.specs.Disks.{disk_handles, sym_disk}
 use Rattle.ygg_sym_below.specs.Specs.{Nothing, sym_chooser, input_pick, spec_asked, spec_handles, sym_spec}
 use Rattle.ygg_sym_below.specs.Wholes.{sym_returned, sym_whole}
 use Rattle.ygg_sym_below.specs.Laws.{InputsOnDisk, InputsOnSpec}
-use Rattle.ygg_sym_below.proofs.DiskKeeps.{disk_keeps}
+use Rattle.ygg_sym_below.proofs.DiskKeeps.{disk_keeps, input_grows}
 
 -- an input keeps the inputs below a number greater than its own
 pub fresh_below : (kinds : List RuleKind) (number next : ℕ) → number < next → Keeps (InputsBelow next) (made kinds (Input number 1))
@@ -87,20 +88,30 @@ module _ (kinds : List RuleKind) (P : List Node → Type 0) (stays : Stays kinds
       handled i Choice s l nodes p = p
       handled i (Call f xs) s l nodes p = asked i (operation_of m f) xs s l nodes p
 
+  -- and a disk, where it stays at the inputs of the first places
+  pub disk_machine_keeps : (kind : DiskKind) (first top : ℕ) → ((i : ℕ) → i < top → Keeps P (made kinds (Input (first + i) 1))) →
+      MachineKeeps P top (sym_disk kinds kind first)
+  disk_machine_keeps kind first top fresh = record {
+    merge = λ t a b nodes p. lows_keep t a b nodes p;
+    handle = handled;
+  }
+    where
+      handled : (i : ℕ) (q : SymQuestion) (s : List SymValue) → i + asked_space disk_space q ≤ top → Keeps P (disk_handles kinds kind (first + i) q s)
+      handled i Choice s m nodes p = p
+      handled i (Call f xs) s m nodes p = disk_keeps kinds P stays (first + i) (fresh i (omega (arith, m))) kind (Call f xs) s nodes p
+
 -- a disk makes the inputs of its places alone
 pub disk_below : (kinds : List RuleKind) (kind : DiskKind) (first top next : ℕ) → first + top ≤ next →
     MachineKeeps (InputsBelow next) top (sym_disk kinds kind first)
-disk_below kinds kind first top next l = record {
-  merge = λ t a b nodes p. lows_keep kinds (InputsBelow next) (inputs_stay kinds next) t a b nodes p;
-  handle = handled;
-}
-  where
-    handled : (i : ℕ) (q : SymQuestion) (s : List SymValue) → i + asked_space disk_space q ≤ top →
-        Keeps (InputsBelow next) (disk_handles kinds kind (first + i) q s)
-    handled i Choice s m nodes p = p
-    handled i (Call f xs) s m nodes p =
-        disk_keeps kinds (InputsBelow next) (inputs_stay kinds next) (first + i) (fresh_below kinds (first + i) next (omega (arith, l, m))) kind (Call f xs) s
-        nodes p
+disk_below kinds kind first top next l =
+    disk_machine_keeps kinds (InputsBelow next) (inputs_stay kinds next) kind first top
+    (λ i k. fresh_below kinds (first + i) next (omega (arith, l, k)))
+
+-- and only adds nodes
+pub disk_grow : (kinds : List RuleKind) (kind : DiskKind) (first top : ℕ) (nodes : List Node) →
+    MachineKeeps (Extends nodes) top (sym_disk kinds kind first)
+disk_grow kinds kind first top nodes =
+    disk_machine_keeps kinds (Extends nodes) (grows_stays kinds nodes) kind first top (λ i k. input_grows kinds (first + i) nodes)
 
 -- and so does a specification
 pub spec_below : (kinds : List RuleKind) (terms : SymFunctions) (m : ClosedLayer) (first top next : ℕ) → FunctionsKeep (InputsBelow next) terms →
