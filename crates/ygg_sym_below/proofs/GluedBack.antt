@@ -1,33 +1,5 @@
 -- A specification with picks from the front is one with a pick for each place.
-use Rattle.std.proofs.Common.{
-  ◌≡◌,
-  ◌+◌,
-  ◌-◌,
-  ◌≤◌,
-  ◌<◌,
-  ℕ,
-  zero,
-  suc,
-  Bool,
-  true,
-  false,
-  if◌then◌else◌,
-  List,
-  [],
-  ◌∷◌,
-  map,
-  take,
-  length,
-  Option,
-  Some,
-  None,
-  refl,
-  sym,
-  ap,
-  ◌∙◌,
-  subst,
-  arith,
-}
+use Rattle.std.proofs.Common.{◌≡◌, ◌+◌, ◌-◌, ◌≤◌, ◌<◌, ℕ, suc, Bool, true, false, if◌then◌else◌, List, [], ◌∷◌, Option, Some, None, refl, ap, ◌∙◌, subst, arith}
 use Rattle.std.specs.Prelude.{nat_lt}
 use Rattle.std.proofs.lemmas.Bool.Decides.{nat_tests}
 use Rattle.ygg_value.specs.declared.row.Value.{Value}
@@ -37,9 +9,9 @@ use Rattle.ygg_meaning.specs.Environments.{Name, Env, bind}
 use Rattle.ygg_meaning.specs.Progress.{Eval, Question, Choice, Call, Answer}
 use Rattle.ygg_meaning.specs.Machine.{Picks, State, based}
 use Rattle.ygg_meaning.specs.Layer.{ClosedLayer, operation_of}
-use Rattle.ygg_direct.specs.Direct.{Handled, Event, Reached, direct_run, room_of, question_space, Chained, Within, Alike}
+use Rattle.ygg_direct.specs.Direct.{Handled, Event, direct_run, room_of, question_space, Chained, Within, Alike}
 use Rattle.ygg_direct.specs.Places.{Draw, left_after, by_place, calling}
-use Rattle.ygg_direct.specs.SpecActs.{block_ran, spec_does, spec_acts}
+use Rattle.ygg_direct.specs.SpecActs.{spec_does, spec_acts}
 use Rattle.ygg_direct.specs.RunPlaces.{spec_space}
 use Rattle.ygg_direct.proofs.Order.{block_follows}
 use Rattle.ygg_direct.proofs.Mirror.{block_mirrors}

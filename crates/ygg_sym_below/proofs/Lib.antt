@@ -5,6 +5,7 @@ pub mod Placed
 pub mod Whole
 pub mod OnDisk
 pub mod StopMeaning
+pub mod StopParts
 pub mod Stopping
 pub mod Halted
 pub mod Stopped
@@ -22,3 +23,4 @@ pub mod GluedBack
 pub mod SpecFalls
 pub mod SameStops
 pub mod SpecBits
+pub mod SpecStops

@@ -1,30 +1,5 @@
 -- Runs of blocks on a specification with a pick for each place are its runs, whole and cut by power, and the other way round.
-use Rattle.std.proofs.Common.{
-  ◌≡◌,
-  ◌<◌,
-  ◌≤◌,
-  ◌+◌,
-  ◌*◌,
-  ℕ,
-  Bool,
-  true,
-  false,
-  List,
-  [],
-  ◌∷◌,
-  ◌++◌,
-  take,
-  length,
-  Option,
-  Some,
-  None,
-  refl,
-  sym,
-  ap,
-  ◌∙◌,
-  subst,
-  arith,
-}
+use Rattle.std.proofs.Common.{◌≡◌, ◌≤◌, ◌+◌, ◌*◌, ℕ, Bool, true, false, [], ◌++◌, take, length, Some, refl, sym, ap, ◌∙◌, subst, arith}
 use Rattle.std.proofs.lemmas.List.{append-nil, length-append}
 use Rattle.ygg_syntax.specs.declared.tree.Block.{Block}
 use Rattle.ygg_symbols.specs.Names.{Named}
@@ -38,7 +13,7 @@ use Rattle.ygg_meaning.specs.Obligations.{Halt}
 use Rattle.ygg_meaning.specs.Spec.{Spec}
 use Rattle.ygg_type_progress.specs.Machines.{IsStateOf, SpecAnswers}
 use Rattle.ygg_direct.specs.Direct.{Reached, Within, direct_run, question_space, room_of}
-use Rattle.ygg_direct.specs.Acts.{Taken, Did, Fell, Acts, noted_picks, runs, falls_in}
+use Rattle.ygg_direct.specs.Acts.{Taken, Did, Acts, noted_picks, runs, falls_in}
 use Rattle.ygg_direct.specs.Places.{by_place, calling}
 use Rattle.ygg_direct.specs.SpecActs.{spec_acts}
 use Rattle.ygg_direct.specs.Laws.{IsTypedBlock, Sees}
