@@ -1,0 +1,4 @@
+pub mod Begun
+pub mod Whole
+pub mod Falls
+pub mod Starts
