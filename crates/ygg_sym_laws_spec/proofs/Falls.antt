@@ -175,8 +175,7 @@ module _ (kinds : List RuleKind) (defs : List Def) (sound : none (definitions_er
     after = λ inputs v first stop last x nodes begins h. let f = fallen inputs v first stop last x nodes begins h in (f.wide, f.has);
     sound = λ inputs v first stop last x nodes begins h set. worth_fall inputs v first stop last x nodes begins h set;
     back = λ memory given base taken left run.
-        let k = fall_back m layer_on b memory given base taken left run in
-        (
+        let k = fall_back m layer_on b memory given base taken left run in (
           record { run_bits = k.run.bits; stop_bits = k.stops.bits; last_bits = k.last.bits },
           λ inputs v first stop last x nodes begins h worth are.
               falls_to inputs v first stop last x nodes begins h memory given base left k worth are,

@@ -175,9 +175,11 @@ module _ (kinds : List RuleKind) (defs : List Def) (sound : none (definitions_er
     after = λ inputs v first x nodes begins h. (leaves inputs v first x nodes begins h).after;
     sound = λ inputs v first x nodes begins h. worth_run inputs v first x nodes begins h;
     back = λ memory given base taken answer to run.
-        let d = run_back m layer_on b memory given base taken answer to run in
-        (d.bits, λ inputs v first x nodes begins h worth are.
-            ends_so inputs v first x nodes begins h memory given base answer to worth (d.holds (picked_by inputs first) are));
+        let d = run_back m layer_on b memory given base taken answer to run in (
+          d.bits,
+          λ inputs v first x nodes begins h worth are.
+              ends_so inputs v first x nodes begins h memory given base answer to worth (d.holds (picked_by inputs first) are),
+        );
     grows = λ first x nodes. grows first x nodes;
     inputs_below = λ first next x nodes p l.
         let keep = terms_below kinds defs next in
