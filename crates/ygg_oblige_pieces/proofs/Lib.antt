@@ -5,3 +5,5 @@ pub mod Truth
 pub mod Compares
 pub mod Truths
 pub mod Starting
+pub mod Placed
+pub mod AnyPicks
