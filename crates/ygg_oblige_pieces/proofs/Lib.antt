@@ -7,3 +7,5 @@ pub mod Truths
 pub mod Starting
 pub mod Placed
 pub mod AnyPicks
+pub mod Outcomes
+pub mod Steps
