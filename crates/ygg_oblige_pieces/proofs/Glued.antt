@@ -1,70 +1,19 @@
 -- Environments that are glued together of parts.
-use Rattle.std.proofs.Common.{
-  ◌≡◌,
-  ◌<◌,
-  ◌≤◌,
-  ◌+◌,
-  ◌-◌,
-  ◌^◌,
-  ◌==◌,
-  ◌&&◌,
-  ◌⊎◌,
-  inl,
-  inr,
-  ℕ,
-  zero,
-  suc,
-  Bool,
-  true,
-  false,
-  if◌then◌else◌,
-  List,
-  [],
-  ◌∷◌,
-  take,
-  All,
-  Some,
-  slice_get,
-  refl,
-  sym,
-  ap,
-  ◌∙◌,
-  subst,
-  arith,
-}
+use Rattle.std.proofs.Common.{◌≡◌, ◌<◌, ◌≤◌, ◌+◌, ◌-◌, ◌^◌, ◌==◌, ◌⊎◌, inl, inr, ℕ, zero, suc, Bool, true, false, if◌then◌else◌, List, [], ◌∷◌, take, All, Some, slice_get, refl, sym, ap, ◌∙◌, subst, arith}
 use Rattle.std.specs.Prelude.{nat_lt, nat_le}
 use Rattle.std.proofs.lemmas.Bool.{cases_lt, leb-true, le-leb, ltb-true, lt-ltb, and_from}
 use Rattle.std.proofs.lemmas.Nat.{pow_pos}
 use Rattle.std.proofs.lemmas.List.Elements.{All-head, All-tail, All-cons, All-nil, All-weaker}
 use Rattle.std.proofs.Math.Pow.{pow_mono}
 use Rattle.ygg_value.specs.Words.{bit_of}
-use Rattle.ygg_syntax.specs.declared.tree.Declared.{Declared}
-use Rattle.ygg_meaning.specs.Environments.{Env}
 use Rattle.ygg_type_sound.proofs.Tests.{left as first_of, right as second_of}
 use Rattle.ygg_bank.proofs.Widths.{stored_can}
 use Rattle.ygg_bank.specs.Nodes.{InOrder}
-use Rattle.ygg_bank.specs.Values.{Inputs, InputsFit}
+use Rattle.ygg_bank.specs.Values.{InputsFit}
 use Rattle.ygg_bank.specs.declared.node.Node.{Node}
 use Rattle.ygg_bank.specs.declared.node.Node.TheVariants.{Input}
 use Rattle.ygg_shape_words.proofs.Terms.{bit_is}
-use Rattle.ygg_sym_laws.specs.Means.{AreBits}
-use Rattle.ygg_oblige_terms.specs.States.{words_in}
-use Rattle.ygg_oblige_pieces.specs.Inputs.{
-  word_width,
-  AreDigits,
-  EnvDigits,
-  InputAt,
-  InputsStand,
-  Part,
-  is_within,
-  glued,
-  InTurn,
-  InputTakes,
-  PartFits,
-  env_part,
-  bits_part,
-  GluedMeans,
-}
+use Rattle.ygg_oblige_pieces.specs.Inputs.{word_width, AreDigits, Part, is_within, glued, InTurn, InputTakes, PartFits, GluedMeans}
 
 take_there : {X : Type 0} (xs : List X) (j k : ℕ) (x : X) → j < k → slice_get xs j ≡ Some x → slice_get (take k xs) j ≡ Some x
 take_there [] j k x l e = absurd (cc)
@@ -144,20 +93,20 @@ glued_fit : (nodes : List Node) (parts : List Part) → InOrder [] nodes → All
 glued_fit nodes [] o f place number w e = pow_pos w
 glued_fit nodes (p ∷ ps) o f place number w e =
     go (is_within p number) refl (glued_fit nodes ps o (All-tail (PartFits nodes) p ps f) place number w e) where
-  fits : (i : ℕ) → p.first + i ≡ number → (p.digits i < 2) ⊎ InputTakes nodes (p.first + i) (p.digits i) → p.digits i < 2 ^ w
-  fits i s (inl l) = let c = stored_can nodes place (Input number w) o e in let width = c.0 in let h = two_below w width.least in omega arith
-  fits i s (inr t) =
-      let at = t.at in
-      let there = subst (λ z. slice_get nodes at.place ≡ Some (Input z t.width)) s at.stands in
-      subst (λ z. p.digits i < 2 ^ z) (one_width nodes at.place place number t.width w o there e) t.fits
+      fits : (i : ℕ) → p.first + i ≡ number → (p.digits i < 2) ⊎ InputTakes nodes (p.first + i) (p.digits i) → p.digits i < 2 ^ w
+      fits i s (inl l) = let c = stored_can nodes place (Input number w) o e in let width = c.0 in let h = two_below w width.least in omega arith
+      fits i s (inr t) =
+          let at = t.at in
+          let there = subst (λ z. slice_get nodes at.place ≡ Some (Input z t.width)) s at.stands in
+          subst (λ z. p.digits i < 2 ^ z) (one_width nodes at.place place number t.width w o there e) t.fits
 
-  go : (t : Bool) → is_within p number ≡ t → glued ps number < 2 ^ w → (if t then p.digits (number - p.first) else glued ps number) < 2 ^ w
-  go true s rest =
-      let h = within p number s in
-      let l = h.0 in
-      let m = h.1 in
-      fits (number - p.first) (omega arith) (All-head (PartFits nodes) p ps f (number - p.first) (omega arith))
-  go false s rest = rest
+      go : (t : Bool) → is_within p number ≡ t → glued ps number < 2 ^ w → (if t then p.digits (number - p.first) else glued ps number) < 2 ^ w
+      go true s rest =
+          let h = within p number s in
+          let l = h.0 in
+          let m = h.1 in
+          fits (number - p.first) (omega arith) (All-head (PartFits nodes) p ps f (number - p.first) (omega arith))
+      go false s rest = rest
 
 bit_small : (b : Bool) → bit_of b < 2
 bit_small true = omega arith
