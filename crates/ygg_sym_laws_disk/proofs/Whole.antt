@@ -60,6 +60,7 @@ use Rattle.ygg_sym_below.proofs.OnDisk.{WholeOnDisk, whole_on_disk}
 use Rattle.ygg_sym_below.proofs.Specs.{bound_worth, low_shaped}
 use Rattle.ygg_sym_below.proofs.MadeInputs.{whole_keeps, disk_below, disk_grow, terms_below}
 use Rattle.ygg_sym_laws.specs.Means.{AreBits, values_in, Values3, Begins, AreWorth, WholeAfter, WorthRun, EndsSo, WholeMeans, whole_run}
+use Rattle.ygg_sym_laws_disk.specs.Laws.{DiskWhole}
 use Rattle.ygg_sym_laws.proofs.Begun.{values_do, NamedAgain, named_again}
 
 module _ (kinds : List RuleKind) (defs : List Def) (d : DiskText) (functions : Functions) (layer : Layer) (b : Block) (vars args : List Declared)
@@ -240,3 +241,9 @@ module _ (kinds : List RuleKind) (defs : List Def) (d : DiskText) (functions : F
         whole_keeps kinds (InputsBelow next) (inputs_stay kinds next) (sym_functions kinds (reverse defs)) (terms_below kinds defs next) room
         (sym_disk kinds d.kind first) (disk_below kinds d.kind first room next l) b (sym_bind vars x.vars) (sym_bind args x.args) x.low (omega arith) nodes p;
   }
+
+pub disk_whole : DiskWhole
+disk_whole kinds defs d L b vars args sound right same low typed =
+    subst (λ ds. WholeMeans kinds defs (OnDisk d) (record { functions = L.functions; layer = L.layer; low = ds }) b vars args typed.shape) (sym low)
+    (whole_means kinds defs d L.functions L.layer b vars args typed.scope typed.shape sound right same typed.lower_is typed.defs_is typed.without_errors
+    typed.kept typed.agrees)
