@@ -1,31 +1,5 @@
 -- Runs over terms on a disk that power cuts, both ways.
-use Rattle.std.proofs.Common.{
-  ◌≡◌,
-  ◌==◌,
-  ◌<◌,
-  ◌≤◌,
-  ◌+◌,
-  ◌*◌,
-  ℕ,
-  Bool,
-  true,
-  false,
-  List,
-  [],
-  ◌∷◌,
-  ◌++◌,
-  length,
-  Option,
-  Some,
-  None,
-  reverse,
-  refl,
-  sym,
-  ap,
-  ◌∙◌,
-  subst,
-  arith,
-}
+use Rattle.std.proofs.Common.{◌≡◌, ◌==◌, ◌≤◌, ◌+◌, ◌*◌, ℕ, Bool, true, false, List, [], ◌∷◌, ◌++◌, length, Option, Some, None, reverse, refl, sym, ap, ◌∙◌, subst, arith}
 use Rattle.std.specs.Prelude.{is_some}
 use Rattle.ygg_base.specs.declared.geometry.DiskKind.{DiskKind}
 use Rattle.ygg_base.specs.declared.geometry.DiskKind.TheVariants.{Sync, Async}
@@ -43,7 +17,7 @@ use Rattle.ygg_disk.specs.Kinds.{model_of}
 use Rattle.ygg_meaning.specs.Environments.{Env}
 use Rattle.ygg_meaning.specs.Meaning.{Functions, functions_of}
 use Rattle.ygg_meaning.specs.Progress.{Question, Choice, Call}
-use Rattle.ygg_meaning.specs.Machine.{Picks, State, on, memory_in, based}
+use Rattle.ygg_meaning.specs.Machine.{Picks, State, on, based}
 use Rattle.ygg_meaning.specs.Layer.{ClosedLayer, BlockFalls, eval_of}
 use Rattle.ygg_meaning.specs.Obligations.{Halt}
 use Rattle.ygg_meaning.specs.DiskMachine.{DiskMachine, disk_call, tables_in}
@@ -60,8 +34,8 @@ use Rattle.ygg_bank.specs.Values.{Inputs, Values, Fits}
 use Rattle.ygg_bank.specs.declared.node.Node.{Node}
 use Rattle.ygg_shape_words.proofs.Keeps.{grows_stays, inputs_stay}
 use Rattle.ygg_shape_cells.specs.declared.terms.SymValue.{SymValue}
-use Rattle.ygg_direct.specs.Direct.{Event, Reached, Within, total, direct_of, question_space}
-use Rattle.ygg_direct.specs.Acts.{Fell, next_of, under, falls_in}
+use Rattle.ygg_direct.specs.Direct.{Reached, Within, question_space}
+use Rattle.ygg_direct.specs.Acts.{Fell, next_of, falls_in}
 use Rattle.ygg_direct.specs.Places.{by_place, calling}
 use Rattle.ygg_direct.specs.DiskActs.{kind_falls, state_in, disk_drops, disk_acts}
 use Rattle.ygg_direct.specs.RunPlaces.{disk_space, placed_run, base_at, asked_in, base_of, cut_by, falls_by_place}
@@ -71,12 +45,12 @@ use Rattle.ygg_direct.proofs.Placing.{taken_self}
 use Rattle.ygg_direct.proofs.Rooms.{room_is}
 use Rattle.ygg_direct.proofs.RunPlacing.{disk_tidy}
 use Rattle.ygg_direct.proofs.Typed.{direct_on_disk}
-use Rattle.ygg_sym_expr.specs.Names.{SymEnv, sym_bind}
+use Rattle.ygg_sym_expr.specs.Names.{sym_bind}
 use Rattle.ygg_sym_expr.specs.Exprs.{sym_functions}
 use Rattle.ygg_sym_expr.specs.Meaning.{Grows, worths}
 use Rattle.ygg_sym_expr.proofs.Keeps.{functions_keep}
 use Rattle.ygg_sym_runs.specs.Meaning.{is_set}
-use Rattle.ygg_sym_below.specs.Lows.{LowShaped, low_worth}
+use Rattle.ygg_sym_below.specs.Lows.{low_worth}
 use Rattle.ygg_sym_below.specs.Disks.{sym_disk}
 use Rattle.ygg_sym_below.specs.Stops.{first_stop, stop_at}
 use Rattle.ygg_sym_below.specs.StopTerms.{SymFallen}
@@ -171,7 +145,7 @@ module _ (kinds : List RuleKind) (defs : List Def) (d : DiskText) (functions : F
 
   -- the picks and the stops of a run by place that power cuts
   record PlacedFall (memory given low : Env) (taken : Picks) (fallen : Env) (halt : Halt) : Type 0 where
-    bits : FallBits
+    bits : FallBits kinds defs (OnDisk d) L b vars args
     stops : falls_in (disk_acts false d) L b given (on memory (based low)) halt (taken ++ []) ≡ Some (record { base = fallen; notes = taken; left = [] }) →
         first_stop bits.stop_bits (placed memory given low (picks_from bits.run_bits 0 (room b))).events (room b) ≡ Some halt
     leaves : falls_in (disk_acts false d) L b given (on memory (based low)) halt (taken ++ []) ≡ Some (record { base = fallen; notes = taken; left = [] }) →
@@ -205,81 +179,81 @@ module _ (kinds : List RuleKind) (defs : List Def) (d : DiskText) (functions : F
 
   module _ (inputs : Inputs) (v : Values) (first stop last : ℕ) (x : Values3) (nodes : List Node)
       (begins : Begins kinds defs (OnDisk d) L b vars args nodes x) (h : Fits inputs v (cut_run kinds defs (OnDisk d) L b vars args first stop last x nodes).nodes)
-      where
-    abbrev out : Out (SymFallen (List SymValue))
-    out = cut_run kinds defs (OnDisk d) L b vars args first stop last x nodes
+    where
+      abbrev out : Out (SymFallen (List SymValue))
+      out = cut_run kinds defs (OnDisk d) L b vars args first stop last x nodes
 
-    begun_here : Begun kinds defs d functions layer b vars args t sound right same inputs v x
-    begun_here =
-        begun kinds defs d functions layer b vars args t sound right same inputs v x nodes begins
-        (fits_fewer inputs v nodes out.nodes (fall_grows first stop last x nodes) h)
+      begun_here : Begun kinds defs d functions layer b vars args t sound right same inputs v x
+      begun_here =
+          begun kinds defs d functions layer b vars args t sound right same inputs v x nodes begins
+          (fits_fewer inputs v nodes out.nodes (fall_grows first stop last x nodes) h)
 
-    fall_here : FallOnDisk kinds defs d L b (typed kinds defs d functions layer b vars args t sound right same) sound right same inputs v false first stop last
-        (sym_bind vars x.vars) (sym_bind args x.args) x.low out.nodes out.value
-    fall_here =
-        fall_on_disk kinds defs d L b (typed kinds defs d functions layer b vars args t sound right same) sound right same inputs v false (sym_bind vars x.vars)
-        (sym_bind args x.args) x.low first stop last nodes (low_shaped inputs v kinds vars x.vars nodes begins.vars_are)
-        (low_shaped inputs v kinds args x.args nodes begins.args_are) begins.low_are h begun_here.agreed
+      fall_here : FallOnDisk kinds defs d L b (typed kinds defs d functions layer b vars args t sound right same) sound right same inputs v false first stop last
+          (sym_bind vars x.vars) (sym_bind args x.args) x.low out.nodes out.value
+      fall_here =
+          fall_on_disk kinds defs d L b (typed kinds defs d functions layer b vars args t sound right same) sound right same inputs v false (sym_bind vars x.vars)
+          (sym_bind args x.args) x.low first stop last nodes (low_shaped inputs v kinds vars x.vars nodes begins.vars_are)
+          (low_shaped inputs v kinds args x.args nodes begins.args_are) begins.low_are h begun_here.agreed
 
-    fall_sound : is_set v out.value.reached ≡ true → WorthFall kinds defs (OnDisk d) L b vars args v x out.value
-    fall_sound set =
-        let f = fall_here.fall_is in
-        let s = stopped_of _ (sym f.reached ∙ set) in
-        let r = f.run s.stop s.is in
-        let low = low_worth v (tables_of d) x.low in
-        let fallen = low_worth v (tables_of d) out.value.fallen in
-        record {
-          taken = r.1;
-          run =
-              subst (λ e. BlockFalls L (DiskMachine d) b (low_worth v args x.args) (on e (based low)) r.1 fallen) (bound_worth inputs v kinds vars x.vars)
-              (subst (λ e. BlockFalls L (DiskMachine d) b e (state_worth v (sym_bind vars x.vars) low) r.1 fallen) (bound_worth inputs v kinds args x.args)
-              r.3.run);
-        }
+      fall_sound : is_set v out.value.reached ≡ true → WorthFall kinds defs (OnDisk d) L b vars args v x out.value
+      fall_sound set =
+          let f = fall_here.fall_is in
+          let s = stopped_of _ (sym f.reached ∙ set) in
+          let r = f.run s.stop s.is in
+          let low = low_worth v (tables_of d) x.low in
+          let fallen = low_worth v (tables_of d) out.value.fallen in
+          record {
+            taken = r.1;
+            run =
+                subst (λ e. BlockFalls L (DiskMachine d) b (low_worth v args x.args) (on e (based low)) r.1 fallen) (bound_worth inputs v kinds vars x.vars)
+                (subst (λ e. BlockFalls L (DiskMachine d) b e (state_worth v (sym_bind vars x.vars) low) r.1 fallen) (bound_worth inputs v kinds args x.args)
+                r.3.run);
+          }
 
-    fall_back : (memory given low : Env) (taken : Picks) (fallen : Env) (run : BlockFalls L (DiskMachine d) b given (on memory (based low)) taken fallen) →
-        let halt : Halt = record { within = run.run.within; event = length run.run.calls } in (p : PlacedFall memory given low taken fallen halt) →
-        AreWorth kinds defs (OnDisk d) L b vars args v x memory given low → AreFallBits kinds defs (OnDisk d) L b vars args inputs first stop last p.bits →
-        FallsTo kinds defs (OnDisk d) L b vars args v fallen out.value
-    fall_back memory given low taken fallen run p worth are =
-        let F = disk_acts false d in
-        let halt : Halt = record { within = run.run.within; event = length run.run.calls } in
-        let at = stands kinds defs d functions layer b vars args t sound right same inputs v x memory given low begun_here worth in
-        let sized : IsSized d (based low) = record { tables = low; is = refl; sized = at.sized } in
-        let block = typed_block kinds defs d functions layer b vars args t sound right same memory given at.good in
-        let direct = direct_on_disk false d L b given memory (based low) right block sized in
-        let did = (direct.1 halt (taken ++ []) [] fallen taken).0
-        (record { run = run; within = refl; event = refl; took = taken_self false taken [] }) in
-        let f = fall_here.fall_is in
-        let bits = picked_by inputs first in
-        let set = picked_by inputs stop in
-        let places = picks_from bits 0 (room b) in
-        let listed = picks_from p.bits.run_bits 0 (room b) in
-        let picks : places ≡ listed = same_picks bits p.bits.run_bits 0 (room b) (λ k l m. are.run_is k (omega (arith, m))) in
-        let names = worths v (sym_bind vars x.vars) in
-        let given_names = worths v (sym_bind args x.args) in
-        let memory_is : names ≡ memory = bound_worth inputs v kinds vars x.vars ∙ worth.vars_is in
-        let given_is : given_names ≡ given = bound_worth inputs v kinds args x.args ∙ worth.args_is in
-        let base = low_worth v (tables_of d) x.low in
-        let same_run : placed names given_names base places ≡ placed memory given low listed =
-        ap (λ e. placed names e base places) given_is ∙ ap (λ e. placed e given base places) memory_is ∙ ap (λ e. placed memory given e places) worth.low_is
-        ∙ ap (placed memory given low) picks in
-        let there : first_stop set (placed names given_names base places).events (room b) ≡ Some halt =
-        ap (λ (r : Reached (State Env)). first_stop set r.events (room b)) same_run
-        ∙ first_same set p.bits.stop_bits (question_space disk_space) one_place (placed memory given low listed).events 0 (room b)
-        (placed_within memory given low listed) are.stop_is
-        ∙ p.stops did in
-        let zeroth : last ≡ last + 0 = omega arith in
-        let pick : (inputs last == 1) ≡ p.bits.last_bits 0 = ap (λ n. inputs n == 1) zeroth ∙ are.last_is 0 (omega arith) in
-        let fell : left_by_place names given_names base halt places ((inputs last == 1) ∷ []) ≡ Some fallen =
-        ap (λ k. left_by_place names given_names base halt places (k ∷ [])) pick
-        ∙ ap (λ e. left_by_place names e base halt places (p.bits.last_bits 0 ∷ [])) given_is
-        ∙ ap (λ e. left_by_place e given base halt places (p.bits.last_bits 0 ∷ [])) memory_is
-        ∙ ap (λ e. left_by_place memory given e halt places (p.bits.last_bits 0 ∷ [])) worth.low_is
-        ∙ ap (λ ps. left_by_place memory given low halt ps (p.bits.last_bits 0 ∷ [])) picks ∙ p.leaves did in
-        record {
-          reached = f.reached ∙ ap (λ (m : Option Halt). is_some m) there;
-          fallen_is = left_is (low_worth v (tables_of d) out.value.fallen) fallen (sym (f.by_place halt there) ∙ fell);
-        }
+      fall_back : (memory given low : Env) (taken : Picks) (fallen : Env) (run : BlockFalls L (DiskMachine d) b given (on memory (based low)) taken fallen) →
+          let halt : Halt = record { within = run.run.within; event = length run.run.calls } in (p : PlacedFall memory given low taken fallen halt) →
+          AreWorth kinds defs (OnDisk d) L b vars args v x memory given low → AreFallBits kinds defs (OnDisk d) L b vars args inputs first stop last p.bits →
+          FallsTo kinds defs (OnDisk d) L b vars args v fallen out.value
+      fall_back memory given low taken fallen run p worth are =
+          let F = disk_acts false d in
+          let halt : Halt = record { within = run.run.within; event = length run.run.calls } in
+          let at = stands kinds defs d functions layer b vars args t sound right same inputs v x memory given low begun_here worth in
+          let sized : IsSized d (based low) = record { tables = low; is = refl; sized = at.sized } in
+          let block = typed_block kinds defs d functions layer b vars args t sound right same memory given at.good in
+          let direct = direct_on_disk false d L b given memory (based low) right block sized in
+          let did = (direct.1 halt (taken ++ []) [] fallen taken).0
+          (record { run = run; within = refl; event = refl; took = taken_self false taken [] }) in
+          let f = fall_here.fall_is in
+          let bits = picked_by inputs first in
+          let set = picked_by inputs stop in
+          let places = picks_from bits 0 (room b) in
+          let listed = picks_from p.bits.run_bits 0 (room b) in
+          let picks : places ≡ listed = same_picks bits p.bits.run_bits 0 (room b) (λ k l m. are.run_is k (omega (arith, m))) in
+          let names = worths v (sym_bind vars x.vars) in
+          let given_names = worths v (sym_bind args x.args) in
+          let memory_is : names ≡ memory = bound_worth inputs v kinds vars x.vars ∙ worth.vars_is in
+          let given_is : given_names ≡ given = bound_worth inputs v kinds args x.args ∙ worth.args_is in
+          let base = low_worth v (tables_of d) x.low in
+          let same_run : placed names given_names base places ≡ placed memory given low listed =
+          ap (λ e. placed names e base places) given_is ∙ ap (λ e. placed e given base places) memory_is ∙ ap (λ e. placed memory given e places) worth.low_is
+          ∙ ap (placed memory given low) picks in
+          let there : first_stop set (placed names given_names base places).events (room b) ≡ Some halt =
+          ap (λ (r : Reached (State Env)). first_stop set r.events (room b)) same_run
+          ∙ first_same set p.bits.stop_bits (question_space disk_space) one_place (placed memory given low listed).events 0 (room b)
+          (placed_within memory given low listed) are.stop_is
+          ∙ p.stops did in
+          let zeroth : last ≡ last + 0 = omega arith in
+          let pick : (inputs last == 1) ≡ p.bits.last_bits 0 = ap (λ n. inputs n == 1) zeroth ∙ are.last_is 0 (omega arith) in
+          let fell : left_by_place names given_names base halt places ((inputs last == 1) ∷ []) ≡ Some fallen =
+          ap (λ k. left_by_place names given_names base halt places (k ∷ [])) pick
+          ∙ ap (λ e. left_by_place names e base halt places (p.bits.last_bits 0 ∷ [])) given_is
+          ∙ ap (λ e. left_by_place e given base halt places (p.bits.last_bits 0 ∷ [])) memory_is
+          ∙ ap (λ e. left_by_place memory given e halt places (p.bits.last_bits 0 ∷ [])) worth.low_is
+          ∙ ap (λ ps. left_by_place memory given low halt ps (p.bits.last_bits 0 ∷ [])) picks ∙ p.leaves did in
+          record {
+            reached = f.reached ∙ ap (λ (m : Option Halt). is_some m) there;
+            fallen_is = left_is (low_worth v (tables_of d) out.value.fallen) fallen (sym (f.by_place halt there) ∙ fell);
+          }
 
   -- runs of the block on the disk that power cuts, both ways
   pub fall_means : FallMeans kinds defs (OnDisk d) L b vars args
@@ -288,11 +262,10 @@ module _ (kinds : List RuleKind) (defs : List Def) (d : DiskText) (functions : F
         let f = fall_here inputs v first stop last x nodes begins h in (f.wide, f.low_shaped);
     sound = λ inputs v first stop last x nodes begins h set. fall_sound inputs v first stop last x nodes begins h set;
     back = λ memory given low taken fallen run.
-        let p = placed_fall_of memory given low taken fallen (record { within = run.run.within; event = length run.run.calls }) in
-        (
+        let p = placed_fall_of memory given low taken fallen (record { within = run.run.within; event = length run.run.calls }) in (
           p.bits,
           λ inputs v first stop last x nodes begins h worth are.
-          fall_back inputs v first stop last x nodes begins h memory given low taken fallen run p worth are,
+              fall_back inputs v first stop last x nodes begins h memory given low taken fallen run p worth are,
         );
     grows = λ first stop last x nodes. fall_grows first stop last x nodes;
     inputs_below = λ first stop last next x nodes p l m n. fall_below first stop last next x nodes p l m n;

@@ -1,5 +1,5 @@
 -- Power loss between operations on a disk over terms.
-use Rattle.std.proofs.Common.{◌≡◌, ◌==◌, ℕ, true, false, Bool, List, [], ◌∷◌, ◌++◌, refl, sym, ap, ◌∙◌, subst}
+use Rattle.std.proofs.Common.{◌≡◌, true, false, Bool, List, [], ◌++◌, refl, sym, ap, ◌∙◌, subst}
 use Rattle.ygg_syntax.specs.declared.tree.Def.{Def}
 use Rattle.ygg_syntax.specs.declared.tree.DiskText.{DiskText}
 use Rattle.ygg_syntax.specs.declared.tree.Layer.{Layer}
@@ -7,7 +7,7 @@ use Rattle.ygg_type_rules.specs.TypeErrors.{none}
 use Rattle.ygg_type_rules.specs.Files.{disk_errors}
 use Rattle.ygg_meaning.specs.Environments.{Env}
 use Rattle.ygg_meaning.specs.Meaning.{Functions}
-use Rattle.ygg_meaning.specs.Machine.{Picks, State, based}
+use Rattle.ygg_meaning.specs.Machine.{Picks, based}
 use Rattle.ygg_meaning.specs.DiskMachine.{DiskMachine}
 use Rattle.ygg_meaning.specs.Refines.{OnDisk}
 use Rattle.ygg_histories.specs.Stack.{tables_of}
@@ -26,7 +26,7 @@ use Rattle.ygg_sym_runs.specs.Meaning.{IsLow}
 use Rattle.ygg_sym_below.specs.Lows.{LowShaped, low_worth}
 use Rattle.ygg_sym_below.specs.Cuts.{disk_loses}
 use Rattle.ygg_sym_below.proofs.Lows.{low_fits}
-use Rattle.ygg_sym_below.proofs.Cuts.{left_of, lose, disk_stops_mean}
+use Rattle.ygg_sym_below.proofs.Cuts.{left_of, disk_stops_mean}
 use Rattle.ygg_sym_laws.specs.Means.{LossMeans}
 use Rattle.ygg_sym_laws_disk.specs.Laws.{DiskLoss}
 use Rattle.ygg_sym_laws_disk.proofs.Begun.{on_disk}

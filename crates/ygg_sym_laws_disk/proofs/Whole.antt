@@ -1,7 +1,5 @@
 -- Whole runs over terms on a disk, both ways.
-use Rattle.std.proofs.Common.{◌≡◌, ◌<◌, ◌+◌, ℕ, true, false, Bool, List, [], ◌++◌, map, Option, reverse, refl, sym, ap, ◌∙◌, subst, arith}
-use Rattle.ygg_value.specs.declared.row.Value.{Value}
-use Rattle.ygg_value.specs.declared.shape.Shape.{Shape}
+use Rattle.std.proofs.Common.{◌≡◌, ℕ, true, false, Bool, List, [], ◌++◌, reverse, refl, sym, ap, ◌∙◌, subst, arith}
 use Rattle.ygg_syntax.specs.declared.grammar.BlockKind.TheVariants.{Impl}
 use Rattle.ygg_syntax.specs.declared.tree.Declared.{Declared}
 use Rattle.ygg_syntax.specs.declared.tree.Def.{Def}
@@ -9,22 +7,17 @@ use Rattle.ygg_syntax.specs.declared.tree.Layer.{Layer}
 use Rattle.ygg_syntax.specs.declared.tree.Block.{Block}
 use Rattle.ygg_syntax.specs.declared.tree.DiskText.{DiskText}
 use Rattle.ygg_type_rules.specs.TypeErrors.{none}
-use Rattle.ygg_type_rules.specs.Scopes.{Scope}
-use Rattle.ygg_type_rules.specs.Statements.{block_errors}
-use Rattle.ygg_type_rules.specs.Definitions.{definitions_errors, with_definitions}
+use Rattle.ygg_type_rules.specs.Definitions.{definitions_errors}
 use Rattle.ygg_type_rules.specs.Files.{disk_errors, disk_operations}
-use Rattle.ygg_meaning.specs.Environments.{Env, bind}
+use Rattle.ygg_meaning.specs.Environments.{Env}
 use Rattle.ygg_meaning.specs.Meaning.{Functions, functions_of}
-use Rattle.ygg_meaning.specs.Shapes.{values_fit, env_fits}
+use Rattle.ygg_meaning.specs.Shapes.{env_fits}
 use Rattle.ygg_meaning.specs.Progress.{Answer}
 use Rattle.ygg_meaning.specs.Machine.{Picks, State, on, based}
 use Rattle.ygg_meaning.specs.Layer.{ClosedLayer, BlockRuns}
 use Rattle.ygg_meaning.specs.DiskMachine.{DiskMachine}
 use Rattle.ygg_meaning.specs.Refines.{OnDisk}
 use Rattle.ygg_histories.specs.Stack.{tables_of}
-use Rattle.ygg_type_sound.specs.Agrees.{Agrees}
-use Rattle.ygg_type_progress.specs.Kinds.{keeps}
-use Rattle.ygg_type_progress.specs.Questions.{plain}
 use Rattle.ygg_type_progress.specs.Machines.{IsSized}
 use Rattle.ygg_rules.specs.declared.rule.RuleKind.{RuleKind}
 use Rattle.ygg_bank.proofs.Meaning.{fits_fewer}
@@ -37,24 +30,21 @@ use Rattle.ygg_bank.specs.declared.node.Node.{Node}
 use Rattle.ygg_shape_words.proofs.Keeps.{grows_stays, inputs_stay}
 use Rattle.ygg_shape_cells.specs.Terms.{worth}
 use Rattle.ygg_shape_cells.specs.declared.terms.SymValue.{SymValue}
-use Rattle.ygg_direct.specs.Direct.{room_of}
 use Rattle.ygg_direct.specs.Acts.{Did, runs}
 use Rattle.ygg_direct.specs.DiskActs.{disk_acts}
-use Rattle.ygg_direct.specs.Laws.{IsTypedBlock}
 use Rattle.ygg_direct.specs.RunPlaces.{Finish, finish_of, disk_space, runs_by_place}
 use Rattle.ygg_direct.proofs.Placing.{taken_self}
 use Rattle.ygg_direct.proofs.RunPlacing.{disk_tidy, runs_by_place_on_disk}
 use Rattle.ygg_direct.proofs.Typed.{direct_on_disk}
-use Rattle.ygg_sym_expr.specs.Names.{SymEnv, sym_bind}
+use Rattle.ygg_sym_expr.specs.Names.{sym_bind}
 use Rattle.ygg_sym_expr.specs.Exprs.{sym_functions}
 use Rattle.ygg_sym_expr.specs.Meaning.{Grows, worths}
 use Rattle.ygg_sym_expr.proofs.Keeps.{functions_keep}
 use Rattle.ygg_sym_runs.specs.Meaning.{answer_worth}
-use Rattle.ygg_sym_below.specs.Lows.{LowShaped, low_worth}
+use Rattle.ygg_sym_below.specs.Lows.{low_worth}
 use Rattle.ygg_sym_below.specs.Disks.{sym_disk}
 use Rattle.ygg_sym_below.specs.Wholes.{SymFinish, picks_from}
-use Rattle.ygg_sym_below.specs.Laws.{IsTypedOver, picked_by, state_worth}
-use Rattle.ygg_sym_below.proofs.Lows.{low_fits}
+use Rattle.ygg_sym_below.specs.Laws.{picked_by, state_worth}
 use Rattle.ygg_sym_below.proofs.Placed.{bits_of, same_picks, finish_are}
 use Rattle.ygg_sym_below.proofs.OnDisk.{WholeOnDisk, whole_on_disk}
 use Rattle.ygg_sym_below.proofs.Specs.{bound_worth, low_shaped}
@@ -62,8 +52,8 @@ use Rattle.ygg_sym_below.proofs.MadeInputs.{whole_keeps, disk_below, disk_grow, 
 use Rattle.ygg_sym_laws.specs.Typed.{BlockTyped}
 use Rattle.ygg_sym_laws.specs.Means.{AreBits, values_in, Values3, Begins, AreWorth, WholeAfter, WorthRun, EndsSo, WholeMeans, whole_run}
 use Rattle.ygg_sym_laws_disk.specs.Laws.{DiskWhole}
-use Rattle.ygg_sym_laws_disk.proofs.Begun.{on_disk, room, typed, Begun, begun, typed_block, Stands, stands, typed_on}
-use Rattle.ygg_sym_laws.proofs.Begun.{values_do, NamedAgain, named_again}
+use Rattle.ygg_sym_laws_disk.proofs.Begun.{on_disk, room, typed, Begun, begun, typed_block, stands, typed_on}
+use Rattle.ygg_sym_laws.proofs.Begun.{NamedAgain, named_again}
 
 module _ (kinds : List RuleKind) (defs : List Def) (d : DiskText) (functions : Functions) (layer : Layer) (b : Block) (vars args : List Declared)
     (t : BlockTyped defs (on_disk d functions layer) Impl (disk_operations d) b vars args) (sound : none (definitions_errors defs [] []) ≡ true)
