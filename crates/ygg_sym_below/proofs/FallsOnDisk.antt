@@ -63,12 +63,12 @@ use Rattle.ygg_sym_below.proofs.Cuts.{left_of, cut, lose, disk_stops_mean}
 use Rattle.ygg_sym_below.proofs.Fallen.{fallen_grows, fallen_gives}
 
 -- what a stop leaves that leaves something
-record Left (f : Option (Fell Env Bool)) (base : Env) : Type 0 where
-  fell : Fell Env Bool
-  is : f ≡ Some fell
-  same : fell.base ≡ base
+pub record Left (f : Option (Fell Env Bool)) (base : Env) : Type 0 where
+  pub fell : Fell Env Bool
+  pub is : f ≡ Some fell
+  pub same : fell.base ≡ base
 
-left_of_run : (f : Option (Fell Env Bool)) (base : Env) → base_of f ≡ Some base → Left f base
+pub left_of_run : (f : Option (Fell Env Bool)) (base : Env) → base_of f ≡ Some base → Left f base
 left_of_run None base e = absurd (cc)
 left_of_run (Some f) base e = let g : f.base ≡ base = cc in record { fell = f; is = refl; same = g }
 

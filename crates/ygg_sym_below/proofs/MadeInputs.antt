@@ -1,5 +1,5 @@
 -- The inputs that runs over terms make: those of their places alone.
-use Rattle.std.proofs.Common.{ℕ, ◌+◌, ◌<◌, ◌≤◌, List, ◌++◌, reverse, Option, Some, None, arith}
+use Rattle.std.proofs.Common.{ℕ, suc, ◌+◌, ◌<◌, ◌≤◌, List, ◌++◌, reverse, Option, Some, None, arith}
 use Rattle.ygg_syntax.specs.declared.tree.Block.{Block}
 use Rattle.ygg_syntax.specs.declared.tree.Def.{Def}
 use Rattle.ygg_syntax.specs.declared.tree.Expr.{Expr}
@@ -74,7 +74,7 @@ module _ (kinds : List RuleKind) (P : List Node → Type 0) (stays : Stays kinds
     handle = handled;
   }
     where
-      asked : (i : ℕ) (o : Option Operation) (xs s : List SymValue) → i + (elim o [ None ↦ 0 | Some o ↦ room_of (λ f. 1) o.spec ]) ≤ top →
+      asked : (i : ℕ) (o : Option Operation) (xs s : List SymValue) → i + suc (elim o [ None ↦ 0 | Some o ↦ room_of (λ f. 1) o.spec ]) ≤ top →
           Keeps P (spec_asked kinds terms m (λ k. pick (i + k)) o xs s)
       asked i None xs s l nodes p = p
       asked i (Some o) xs s l nodes p =
