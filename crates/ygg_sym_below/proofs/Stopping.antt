@@ -169,25 +169,6 @@ module _ {S B : Type 0} (handle : ℕ → Question → S → Handled S) (cut : Q
 pub halted_leaves : HaltedLeaves
 halted_leaves S B handle cut lose bits es from to last c = leaves handle cut lose bits es from to last c
 
--- where the places end that a run has from one on
-ends_after : {S : Type 0} (size : Question → ℕ) (es : List (Event S)) (low last : ℕ) → Within size low es last → low ≤ last
-ends_after size [] low last w = w
-ends_after size (e ∷ es) low last w = let k = ends_after size es (e.place + size e.question) last w.1 in let m = w.0 in omega (arith, k, m)
-
--- the stops of a run's places alone count
-pub first_same : {S : Type 0} (bits other : ℕ → Bool) (size : Question → ℕ) → ((q : Question) → 1 ≤ size q) → (es : List (Event S)) (low last : ℕ) →
-    Within size low es last → ((k : ℕ) → k < 2 * last + 1 → bits k ≡ other k) → first_stop bits es last ≡ first_stop other es last
-first_same bits other size one [] low last w h = ap (λ b. if b then Some (halt false 0) else None) (h (before_at last) (omega arith))
-first_same bits other size one (e ∷ es) low last w h =
-    let o = one e.question in
-    let k = ends_after size es (e.place + size e.question) last w.1 in
-    let before = h (before_at e.place) (omega (arith, o, k)) in
-    let within = h (within_at e.place) (omega (arith, o, k)) in
-    let rest = first_same bits other size one es (e.place + size e.question) last w.1 h in
-    ap (λ b. if b then Some (halt false 0) else (if bits (within_at e.place) then Some (halt true 0) else further (first_stop bits es last))) before
-    ∙ ap (λ b. if other (before_at e.place) then Some (halt false 0) else (if b then Some (halt true 0) else further (first_stop bits es last))) within
-    ∙ ap (λ m. if other (before_at e.place) then Some (halt false 0) else (if other (within_at e.place) then Some (halt true 0) else further m)) rest
-
 -- what is left hangs on what power leaves alone
 pub base_same : {S B : Type 0} (cut other : Question → S → B) (lose miss : S → B) → ((q : Question) (s : S) → cut q s ≡ other q s) →
     ((s : S) → lose s ≡ miss s) → (within : Bool) (es : List (Question × S)) (n : ℕ) (end : S) → base_at cut lose within es n end ≡ base_at other miss within es n end

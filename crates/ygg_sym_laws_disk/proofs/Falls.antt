@@ -59,7 +59,8 @@ use Rattle.ygg_sym_below.specs.Cuts.{disk_stops}
 use Rattle.ygg_sym_below.specs.Laws.{picked_by, state_worth}
 use Rattle.ygg_sym_below.proofs.Placed.{bits_of, same_picks, placed_are}
 use Rattle.ygg_sym_below.proofs.FallsOnDisk.{FallOnDisk, fall_on_disk}
-use Rattle.ygg_sym_below.proofs.Stopping.{found, first_same, base_same}
+use Rattle.ygg_sym_below.proofs.SameStops.{first_stop_same}
+use Rattle.ygg_sym_below.proofs.Stopping.{found, base_same}
 use Rattle.ygg_sym_below.proofs.Specs.{bound_worth, low_shaped}
 use Rattle.ygg_sym_below.proofs.DiskKeeps.{input_grows}
 use Rattle.ygg_sym_below.proofs.MadeInputs.{disk_below, disk_grow, terms_below}
@@ -239,7 +240,7 @@ module _ (kinds : List RuleKind) (defs : List Def) (d : DiskText) (functions : F
           ∙ ap (placed memory given low) picks in
           let there : first_stop set (placed names given_names base places).events (room b) ≡ Some halt =
           ap (λ (r : Reached (State Env)). first_stop set r.events (room b)) same_run
-          ∙ first_same set p.bits.stop_bits (question_space disk_space) one_place (placed memory given low listed).events 0 (room b)
+          ∙ first_stop_same (question_space disk_space) one_place set p.bits.stop_bits (placed memory given low listed).events 0 (room b)
           (placed_within memory given low listed) are.stop_is
           ∙ p.stops did in
           let zeroth : last ≡ last + 0 = omega arith in
