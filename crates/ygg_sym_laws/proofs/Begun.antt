@@ -1,5 +1,5 @@
 -- Values of terms that stand for declared names.
-use Rattle.std.proofs.Common.{◌≡◌, true, false, ◌&&◌, List, [], ◌∷◌, map, refl, sym, ap, ◌∙◌}
+use Rattle.std.proofs.Common.{◌≡◌, true, ◌&&◌, List, [], ◌∷◌, map, refl, sym, ap, ◌∙◌}
 use Rattle.std.proofs.lemmas.Bool.{and_from as both_of}
 use Rattle.std.specs.Str.{bytes_eq}
 use Rattle.ygg_syntax.specs.declared.tree.Declared.{Declared}
@@ -15,7 +15,7 @@ use Rattle.ygg_sym_expr.specs.Names.{SymEnv, sym_bind}
 use Rattle.ygg_sym_expr.specs.Meaning.{EnvShaped, worths}
 use Rattle.ygg_sym_runs.proofs.Worths.{shape_fits}
 use Rattle.ygg_sym_below.specs.Lows.{LowShaped, low_worth}
-use Rattle.ygg_sym_below.proofs.Specs.{Back, lows_back}
+use Rattle.ygg_sym_below.proofs.Specs.{lows_back}
 use Rattle.ygg_sym_laws.specs.Means.{values_in}
 
 module _ (inputs : Inputs) (v : Values) where

@@ -11,7 +11,7 @@ use Rattle.ygg_bank.specs.Values.{Inputs, Values, Fits}
 use Rattle.ygg_bank.specs.declared.node.Node.{Node}
 use Rattle.ygg_shape_words.proofs.Keeps.{Stays, grows_stays}
 use Rattle.ygg_shape_cells.proofs.Wider.{shaped_wider}
-use Rattle.ygg_shape.proofs.Whole.{zero_made_keeps, zero_made_grows, zero_gives}
+use Rattle.ygg_shape.proofs.Whole.{zero_made_keeps, zero_gives}
 use Rattle.ygg_shape.specs.Wholes.{zero_made}
 use Rattle.ygg_sym_expr.specs.Meaning.{Grows}
 use Rattle.ygg_sym_expr.proofs.Keeps.{Keeps}
