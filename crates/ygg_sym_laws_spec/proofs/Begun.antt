@@ -42,7 +42,8 @@ use Rattle.ygg_sym_below.specs.Laws.{picked_by}
 use Rattle.ygg_sym_below.specs.Specs.{input_pick, sym_spec}
 use Rattle.ygg_sym_below.proofs.Blocks.{BlockOfSpec, values_worth}
 use Rattle.ygg_sym_below.proofs.Lows.{low_of, low_fits}
-use Rattle.ygg_sym_below.proofs.Specs.{input_pick_means, bound_worth, low_shaped, spec_at, spec_means}
+use Rattle.ygg_sym_below.proofs.Specs.{input_pick_means, bound_worth, low_shaped}
+use Rattle.ygg_sym_below.proofs.SpecMeans.{spec_at, spec_means}
 use Rattle.ygg_sym_below.proofs.SpecStops.{SomeBlock, FallsTyped}
 use Rattle.ygg_sym_laws.specs.Below.{signatures_of}
 use Rattle.ygg_sym_laws.specs.Typed.{BlockTyped, SpecBlockTyped, SpecTyped}

@@ -44,7 +44,7 @@ use Rattle.ygg_sym_below.proofs.MadeInputs.{spec_below, terms_below}
 use Rattle.ygg_sym_below.proofs.SpecBits.{FallBack, run_at, fall_back, fall_sound}
 use Rattle.ygg_sym_below.proofs.SpecFalls.{cut_end, lose_end}
 use Rattle.ygg_sym_below.proofs.SpecKeeps.{spec_stops_below, spec_asked_one}
-use Rattle.ygg_sym_below.proofs.Specs.{spec_at}
+use Rattle.ygg_sym_below.proofs.SpecMeans.{spec_at}
 use Rattle.ygg_sym_below.proofs.SpecStops.{vars_of, spec_stops_mean}
 use Rattle.ygg_sym_below.proofs.StopKeeps.{fallen_keeps}
 use Rattle.ygg_sym_below.proofs.StopMeaning.{StopsMean}

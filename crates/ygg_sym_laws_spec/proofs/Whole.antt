@@ -39,7 +39,8 @@ use Rattle.ygg_sym_below.specs.Lows.{low_worth}
 use Rattle.ygg_sym_below.specs.Wholes.{SymFinish}
 use Rattle.ygg_sym_below.proofs.MadeInputs.{whole_keeps, spec_below, terms_below}
 use Rattle.ygg_sym_below.proofs.SpecBits.{run_at, answer_at, to_at, run_back, run_sound}
-use Rattle.ygg_sym_below.proofs.Specs.{bound_worth, spec_at}
+use Rattle.ygg_sym_below.proofs.Specs.{bound_worth}
+use Rattle.ygg_sym_below.proofs.SpecMeans.{spec_at}
 use Rattle.ygg_sym_below.proofs.Whole.{WholeIs, whole_grows, whole_gives}
 use Rattle.ygg_sym_laws.specs.Below.{signatures_of}
 use Rattle.ygg_sym_laws.specs.Typed.{BlockTyped, SpecTyped}
