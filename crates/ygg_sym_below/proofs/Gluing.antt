@@ -1,55 +1,25 @@
 -- A specification with picks by place in its blocks is the specification's function of picks with other picks.
-use Rattle.std.proofs.Common.{
-  ◌≡◌,
-  ◌+◌,
-  ◌-◌,
-  ◌≤◌,
-  ◌<◌,
-  ℕ,
-  zero,
-  suc,
-  Bool,
-  true,
-  false,
-  if◌then◌else◌,
-  List,
-  [],
-  ◌∷◌,
-  ◌++◌,
-  map,
-  take,
-  length,
-  Option,
-  Some,
-  None,
-  refl,
-  sym,
-  ap,
-  ◌∙◌,
-  arith,
-}
+use Rattle.std.proofs.Common.{◌≡◌, ◌+◌, ◌-◌, ◌≤◌, ◌<◌, ℕ, zero, suc, Bool, true, false, if◌then◌else◌, List, [], ◌∷◌, ◌++◌, map, length, Option, Some, None, refl, sym, ap, ◌∙◌, arith}
 use Rattle.std.specs.Prelude.{nat_lt}
 use Rattle.std.proofs.lemmas.Bool.Decides.{nat_tests}
 use Rattle.ygg_value.specs.declared.row.Value.{Value}
 use Rattle.ygg_syntax.specs.declared.tree.Operation.{Operation}
 use Rattle.ygg_syntax.specs.declared.tree.Block.{Block}
 use Rattle.ygg_meaning.specs.Environments.{Name, Env, bind}
-use Rattle.ygg_meaning.specs.Progress.{Eval, Question, Choice, Call, Answer, answer_of}
+use Rattle.ygg_meaning.specs.Progress.{Eval, Question, Choice, Call, Answer}
 use Rattle.ygg_meaning.specs.Machine.{Picks, State, based}
-use Rattle.ygg_meaning.specs.Layer.{ClosedLayer, eval_of, operation_of}
+use Rattle.ygg_meaning.specs.Layer.{ClosedLayer, operation_of}
 use Rattle.ygg_direct.specs.Direct.{Handled, Event, Reached, direct_run, direct_of, room_of, question_space, total, Chained, Within, Alike, seen}
 use Rattle.ygg_direct.specs.Acts.{next_of}
-use Rattle.ygg_direct.specs.Places.{Draw, left_after, by_place, choosing, calling, IsDraw}
+use Rattle.ygg_direct.specs.Places.{Draw, left_after, calling, IsDraw}
 use Rattle.ygg_direct.specs.SpecActs.{Ran, spec_does, spec_acts}
 use Rattle.ygg_direct.specs.RunPlaces.{spec_space}
 use Rattle.ygg_direct.proofs.Order.{block_follows}
 use Rattle.ygg_direct.proofs.Mirror.{block_mirrors}
-use Rattle.ygg_direct.proofs.Placing.{fronted}
-use Rattle.ygg_direct.proofs.Choosing.{one, choosing_draws}
+use Rattle.ygg_direct.proofs.Choosing.{one}
 use Rattle.ygg_direct.proofs.RunPlacing.{calling_draws, spec_tidy}
 use Rattle.ygg_sym_below.specs.Wholes.{picks_from}
-use Rattle.ygg_sym_below.specs.Specs.{Nothing}
-use Rattle.ygg_sym_below.proofs.Placed.{by_bits, same_run}
+use Rattle.ygg_sym_below.proofs.Placed.{by_bits}
 use Rattle.ygg_sym_below.proofs.SpecMeans.{spec_ended, spec_at}
 use Rattle.ygg_sym_below.proofs.Chosen.{fronts}
 

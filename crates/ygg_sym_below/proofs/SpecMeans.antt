@@ -1,5 +1,5 @@
 -- A specification over terms does what its blocks do, whose choices take the picks of their places.
-use Rattle.std.proofs.Common.{◌≡◌, ◌+◌, ◌&&◌, ℕ, Bool, true, List, [], ◌∷◌, ◌++◌, map, All, Option, Some, None, option_map, refl, sym, ap, ◌∙◌, subst}
+use Rattle.std.proofs.Common.{◌≡◌, ◌+◌, ◌&&◌, ℕ, Bool, true, List, [], ◌∷◌, map, All, Option, Some, None, option_map, refl, sym, ap, ◌∙◌, subst}
 use Rattle.std.proofs.lemmas.Bool.{and_from as both_of}
 use Rattle.std.specs.Str.{bytes_eq}
 use Rattle.ygg_value.specs.declared.row.Value.{Value}
@@ -17,7 +17,7 @@ use Rattle.ygg_meaning.specs.Machine.{State, based}
 use Rattle.ygg_meaning.specs.Layer.{ClosedLayer, operation_of}
 use Rattle.ygg_type_sound.specs.Fitting.{all_fit}
 use Rattle.ygg_type_sound.proofs.Tests.{left as first_of, right as second_of, bytes_equal}
-use Rattle.ygg_type_progress.specs.Questions.{gives, question_fits}
+use Rattle.ygg_type_progress.specs.Questions.{question_fits}
 use Rattle.ygg_rules.specs.declared.rule.RuleKind.{RuleKind}
 use Rattle.ygg_bank.proofs.Widths.{extends_self}
 use Rattle.ygg_bank.specs.Makes.{Make}

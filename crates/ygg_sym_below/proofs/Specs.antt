@@ -1,63 +1,23 @@
 -- What blocks of a specification over terms run on: each choice takes the pick of its place.
-use Rattle.std.proofs.Common.{
-  ◌≡◌,
-  ◌+◌,
-  ◌==◌,
-  ℕ,
-  Bool,
-  true,
-  false,
-  ◌&&◌,
-  if◌then◌else◌,
-  List,
-  [],
-  ◌∷◌,
-  ◌++◌,
-  map,
-  take,
-  length,
-  All,
-  Option,
-  Some,
-  None,
-  option_map,
-  refl,
-  sym,
-  ap,
-  ◌∙◌,
-  subst,
-  arith,
-}
-use Rattle.std.proofs.lemmas.List.{map-append, length-map}
-use Rattle.std.proofs.lemmas.List.Elements.{All-head, All-tail, All-append}
+use Rattle.std.proofs.Common.{◌≡◌, ◌+◌, ◌==◌, ℕ, Bool, true, false, ◌&&◌, if◌then◌else◌, List, [], ◌∷◌, map, All, Some, refl, ap, ◌∙◌, subst, arith}
+use Rattle.std.proofs.lemmas.List.Elements.{All-head, All-tail}
 use Rattle.ygg_value.specs.Number.{Number}
 use Rattle.ygg_value.specs.Words.{word, bit_of}
 use Rattle.ygg_value.specs.Values.{digit}
-use Rattle.ygg_value.specs.declared.row.Value.{Value}
 use Rattle.ygg_value.specs.declared.row.Value.TheVariants as value
 use Rattle.ygg_value.specs.declared.shape.Shape.TheVariants as shape
-use Rattle.ygg_syntax.specs.declared.grammar.BlockKind.TheVariants.{Impl, Spec}
+use Rattle.ygg_syntax.specs.declared.grammar.BlockKind.TheVariants.{Spec}
 use Rattle.ygg_syntax.specs.declared.tree.Declared.{Declared}
-use Rattle.ygg_syntax.specs.declared.tree.Operation.{Operation}
-use Rattle.ygg_symbols.specs.Names.{Named, look_up}
+use Rattle.ygg_symbols.specs.Names.{Named}
 use Rattle.ygg_type_rules.specs.declared.scope.Signature.{Signature}
-use Rattle.ygg_type_rules.specs.Layers.{operation_signature}
-use Rattle.ygg_meaning.specs.Environments.{Name, Env, bind}
-use Rattle.ygg_meaning.specs.Shapes.{shape_in, fits, values_fit, env_fits}
-use Rattle.ygg_meaning.specs.Progress.{Question, Answer, answer_of}
-use Rattle.ygg_meaning.specs.Progress as progress
-use Rattle.ygg_meaning.specs.Machine.{State, based}
-use Rattle.ygg_meaning.specs.Layer.{ClosedLayer, operation_of}
-use Rattle.ygg_type_sound.specs.Fitting.{all_fit}
-use Rattle.ygg_type_sound.specs.Agrees.{Agrees}
+use Rattle.ygg_meaning.specs.Environments.{Name, bind}
+use Rattle.ygg_meaning.specs.Shapes.{shape_in, fits, env_fits}
+use Rattle.ygg_meaning.specs.Progress.{Question}
 use Rattle.ygg_type_sound.proofs.Tests.{left as first_of, right as second_of, bytes_same}
 use Rattle.ygg_type_sound.proofs.Fits.{has_fits, digit_has}
-use Rattle.ygg_type_progress.specs.Questions.{plain, gives, question_fits, Follows}
-use Rattle.ygg_type_progress.specs.Blocks.{eval_with}
+use Rattle.ygg_type_progress.specs.Questions.{question_fits}
 use Rattle.ygg_type_progress.proofs.Fits.{one_shape}
-use Rattle.ygg_type_progress.proofs.Following.{follows_front, fits_after}
 use Rattle.ygg_rules.specs.declared.rule.RuleKind.{RuleKind}
-use Rattle.ygg_bank.proofs.Meaning.{fits_fewer}
 use Rattle.ygg_bank.proofs.Widths.{extends_self}
 use Rattle.ygg_bank.specs.Makes.{Make}
 use Rattle.ygg_bank.specs.Nodes.{HasWidth}
@@ -66,27 +26,18 @@ use Rattle.ygg_bank.specs.declared.node.Id.{Id}
 use Rattle.ygg_bank.specs.declared.node.Node.{Node}
 use Rattle.ygg_shape_cells.specs.Terms.{worth}
 use Rattle.ygg_shape_cells.specs.declared.terms.SymValue.{SymValue}
-use Rattle.ygg_direct.specs.Direct.{Handled, Reached, direct_run}
-use Rattle.ygg_direct.specs.Laws.{Sees}
+use Rattle.ygg_direct.specs.Direct.{Handled}
 use Rattle.ygg_sym_expr.specs.Names.{SymEnv}
 use Rattle.ygg_shape_cells.specs.Terms.{IsShaped}
 use Rattle.ygg_sym_expr.specs.Meaning.{SomeShape, EnvShaped, Grows, Gives, worths}
 use Rattle.ygg_sym_runs.specs.Runs.{SymQuestion, Choice, Call}
-use Rattle.ygg_sym_runs.specs.Meaning.{Low, question_worth, is_set, QuestionShaped, IsHandled, MachineMeans}
+use Rattle.ygg_sym_runs.specs.Meaning.{Low, question_worth, is_set, IsHandled, MachineMeans}
 use Rattle.ygg_sym_runs.proofs.Worths.{NameShaped, shape_fits}
 use Rattle.ygg_sym_below.specs.Lows.{LowShaped, low_worth}
-use Rattle.ygg_sym_runs.proofs.Parts.{InScope}
 use Rattle.ygg_sym_expr.specs.Names.{sym_bind}
-use Rattle.ygg_sym_expr.specs.Exprs.{SymFunctions}
-use Rattle.ygg_sym_expr.proofs.Grows.{FunctionsGrow}
-use Rattle.ygg_sym_expr.proofs.Values.{FunctionsMean}
-use Rattle.ygg_sym_below.specs.Wholes.{sym_whole}
-use Rattle.ygg_sym_below.specs.Specs.{SpecBlock, Nothing, chooses, sym_chooser, input_pick, given_pick, spec_asked, spec_handles, sym_spec}
-use Rattle.ygg_sym_below.proofs.Lows.{low_of, low_fits, merge_lows_grows, merge_lows_gives}
-use Rattle.ygg_sym_below.proofs.Whole.{whole_grows, whole_gives}
+use Rattle.ygg_sym_below.specs.Specs.{Nothing, chooses, sym_chooser, input_pick, given_pick}
 use Rattle.ygg_direct.specs.Acts.{next_of}
 use Rattle.ygg_direct.specs.Places.{left_after}
-use Rattle.ygg_direct.proofs.DiskServes.{answer_does, fitting_call}
 use Rattle.ygg_meaning.specs.Machine.{Picks}
 use Rattle.ygg_value.specs.Number.{IsWord}
 use Rattle.ygg_bank.proofs.Made.{made_grows, added_there}
