@@ -124,6 +124,7 @@ module _ (m : ClosedLayer) where
     -- picks from the front that lead where the picks of places lead, whatever follows them
     pub record Fronts (bits : ℕ → Bool) (b : Block) (vars args : Env) : Type 0 where
       pub picks : Picks
+      pub few : length picks ≤ room b
       pub taken : Picks
       pub is : (more : Picks) → block_ran past m b vars args (picks ++ more) ≡ ran (block_end m bits b vars args) taken more
 
@@ -134,6 +135,7 @@ module _ (m : ClosedLayer) where
         let r = direct_run (eval_of m) one (by_place (choosing past) places) b (vars ++ args) [] in
         record {
           picks = f.taken;
+          few = f.few;
           taken = r.to;
           is = λ more.
               ap (λ (env : Env). let x : Ran = record {

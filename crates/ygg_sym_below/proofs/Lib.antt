@@ -25,3 +25,4 @@ pub mod SameStops
 pub mod SpecBits
 pub mod SpecStops
 pub mod SpecKeeps
+pub mod SpecMeans

@@ -36,7 +36,7 @@ use Rattle.ygg_sym_below.proofs.FallsOnDisk.{left_of_run}
 use Rattle.ygg_sym_below.proofs.Placed.{same_run}
 use Rattle.ygg_sym_below.proofs.SameStops.{first_stop_same}
 use Rattle.ygg_sym_below.proofs.SpecFalls.{cut_end, lose_end, base_front, base_back}
-use Rattle.ygg_sym_below.proofs.Specs.{spec_at}
+use Rattle.ygg_sym_below.proofs.SpecMeans.{spec_at}
 use Rattle.ygg_sym_below.proofs.Stopping.{stops_whole}
 use Rattle.ygg_sym_below.proofs.Whole.{take_less}
 

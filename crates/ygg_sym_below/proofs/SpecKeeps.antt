@@ -1,5 +1,5 @@
 -- What holds of nodes stays where power fails on a specification over terms, if it does at each pick.
-use Rattle.std.proofs.Common.{◌≡◌, ◌+◌, ◌*◌, ◌<◌, ◌≤◌, ℕ, suc, Bool, List, [], ◌∷◌, Option, Some, None, refl, arith}
+use Rattle.std.proofs.Common.{◌≡◌, ◌+◌, ◌<◌, ◌≤◌, ℕ, suc, List, [], Option, Some, None, refl, arith}
 use Rattle.ygg_value.specs.declared.operation.Op.TheVariants.{Or}
 use Rattle.ygg_syntax.specs.declared.tree.Block.{Block}
 use Rattle.ygg_syntax.specs.declared.tree.Operation.{Operation}

@@ -1,22 +1,20 @@
 -- What a run over terms on a specification begins with, and what its machine means.
-use Rattle.std.proofs.Common.{◌≡◌, ◌+◌, ◌==◌, ℕ, Bool, true, List, [], ◌∷◌, ◌++◌, map, reverse, refl, sym, ap, ◌∙◌, subst}
+use Rattle.std.proofs.Common.{◌≡◌, ℕ, true, List, [], ◌++◌, map, reverse, sym, ap, ◌∙◌, subst}
 use Rattle.std.proofs.lemmas.List.{map-append}
 use Rattle.std.proofs.lemmas.List.Elements.{All-append}
-use Rattle.ygg_value.specs.declared.row.Value.{Value}
 use Rattle.ygg_syntax.specs.declared.grammar.BlockKind.TheVariants.{Impl}
 use Rattle.ygg_syntax.specs.declared.tree.Declared.{Declared}
 use Rattle.ygg_syntax.specs.declared.tree.Def.{Def}
 use Rattle.ygg_syntax.specs.declared.tree.Layer.{Layer}
 use Rattle.ygg_syntax.specs.declared.tree.Block.{Block}
-use Rattle.ygg_syntax.specs.declared.tree.Operation.{Operation}
 use Rattle.ygg_symbols.specs.Names.{Named}
 use Rattle.ygg_type_rules.specs.declared.scope.Signature.{Signature}
 use Rattle.ygg_type_rules.specs.TypeErrors.{none}
 use Rattle.ygg_type_rules.specs.Definitions.{definitions_errors, with_definitions}
-use Rattle.ygg_meaning.specs.Environments.{Name, Env, bind}
+use Rattle.ygg_meaning.specs.Environments.{Name, Env}
 use Rattle.ygg_meaning.specs.Meaning.{Functions, functions_of}
-use Rattle.ygg_meaning.specs.Shapes.{values_fit, env_fits}
-use Rattle.ygg_meaning.specs.Layer.{ClosedLayer, operation_of}
+use Rattle.ygg_meaning.specs.Shapes.{env_fits}
+use Rattle.ygg_meaning.specs.Layer.{ClosedLayer}
 use Rattle.ygg_meaning.specs.Machine.{State}
 use Rattle.ygg_meaning.specs.Refines.{OnSpec}
 use Rattle.ygg_type_sound.specs.Agrees.{Agrees}
@@ -27,7 +25,7 @@ use Rattle.ygg_bank.specs.declared.node.Node.{Node}
 use Rattle.ygg_shape_cells.specs.Terms.{worth}
 use Rattle.ygg_shape_cells.specs.declared.terms.SymValue.{SymValue}
 use Rattle.ygg_direct.specs.Laws.{IsTypedBlock}
-use Rattle.ygg_sym_expr.specs.Names.{SymEnv, sym_bind}
+use Rattle.ygg_sym_expr.specs.Names.{sym_bind}
 use Rattle.ygg_sym_expr.specs.Exprs.{SymFunctions, sym_functions}
 use Rattle.ygg_sym_expr.specs.Meaning.{EnvShaped, worths}
 use Rattle.ygg_sym_expr.proofs.Grows.{FunctionsGrow, functions_grow}
@@ -37,12 +35,13 @@ use Rattle.ygg_sym_runs.specs.Runs.{SymMachine}
 use Rattle.ygg_sym_runs.specs.Meaning.{Low, MachineMeans}
 use Rattle.ygg_sym_runs.proofs.Worths.{NameShaped}
 use Rattle.ygg_sym_runs.proofs.Parts.{InScope}
-use Rattle.ygg_sym_below.specs.Lows.{LowShaped, low_worth}
+use Rattle.ygg_sym_below.specs.Lows.{low_worth}
 use Rattle.ygg_sym_below.specs.Laws.{picked_by}
 use Rattle.ygg_sym_below.specs.Specs.{input_pick, sym_spec}
-use Rattle.ygg_sym_below.proofs.Blocks.{BlockOfSpec, values_worth}
+use Rattle.ygg_sym_below.proofs.Blocks.{values_worth}
 use Rattle.ygg_sym_below.proofs.Lows.{low_of, low_fits}
-use Rattle.ygg_sym_below.proofs.Specs.{input_pick_means, bound_worth, low_shaped, spec_at, spec_means}
+use Rattle.ygg_sym_below.proofs.Specs.{input_pick_means, bound_worth, low_shaped}
+use Rattle.ygg_sym_below.proofs.SpecMeans.{spec_at, spec_means}
 use Rattle.ygg_sym_below.proofs.SpecStops.{SomeBlock, FallsTyped}
 use Rattle.ygg_sym_laws.specs.Below.{signatures_of}
 use Rattle.ygg_sym_laws.specs.Typed.{BlockTyped, SpecBlockTyped, SpecTyped}

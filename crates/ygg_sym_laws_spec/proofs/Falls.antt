@@ -1,5 +1,5 @@
 -- Runs over terms on a specification that power cuts, both ways.
-use Rattle.std.proofs.Common.{◌≡◌, ◌<◌, ◌≤◌, ◌+◌, ◌*◌, ℕ, Bool, true, false, List, [], ◌∷◌, ◌++◌, map, Option, Some, None, reverse, refl, sym, ap, ◌∙◌, subst, arith}
+use Rattle.std.proofs.Common.{◌≡◌, ◌+◌, ◌*◌, ℕ, Bool, true, List, [], map, Option, Some, None, refl, sym, ap, ◌∙◌, subst, arith}
 use Rattle.std.specs.Prelude.{is_some}
 use Rattle.ygg_value.specs.Words.{word}
 use Rattle.ygg_syntax.specs.declared.grammar.BlockKind.TheVariants.{Impl}
@@ -12,14 +12,12 @@ use Rattle.ygg_type_rules.specs.Statements.{walked, return_errors}
 use Rattle.ygg_type_rules.specs.Statements as rules
 use Rattle.ygg_type_rules.specs.Definitions.{definitions_errors}
 use Rattle.ygg_type_sound.proofs.Tests.{left as first_of}
-use Rattle.ygg_meaning.specs.Environments.{Name, Env}
+use Rattle.ygg_meaning.specs.Environments.{Env}
 use Rattle.ygg_meaning.specs.Meaning.{Functions, functions_of}
-use Rattle.ygg_meaning.specs.Progress.{Question}
-use Rattle.ygg_meaning.specs.Machine.{Picks, State, on, based}
-use Rattle.ygg_meaning.specs.Layer.{ClosedLayer, BlockFalls}
+use Rattle.ygg_meaning.specs.Machine.{State, based}
+use Rattle.ygg_meaning.specs.Layer.{ClosedLayer}
 use Rattle.ygg_meaning.specs.Obligations.{Halt}
 use Rattle.ygg_meaning.specs.Refines.{OnSpec}
-use Rattle.ygg_meaning.specs.Spec.{Spec}
 use Rattle.ygg_type_progress.specs.Blocks.{eval_with}
 use Rattle.ygg_rules.specs.declared.rule.RuleKind.{RuleKind}
 use Rattle.ygg_bank.proofs.Meaning.{fits_fewer}
@@ -30,27 +28,26 @@ use Rattle.ygg_bank.specs.declared.node.Node.{Node}
 use Rattle.ygg_shape_words.proofs.Keeps.{inputs_stay}
 use Rattle.ygg_shape_cells.specs.declared.terms.SymValue.{SymValue}
 use Rattle.ygg_direct.specs.Direct.{Reached, direct_run, room_of}
-use Rattle.ygg_direct.specs.RunPlaces.{spec_space, base_at, asked_in}
-use Rattle.ygg_sym_expr.specs.Names.{SymEnv, sym_bind}
-use Rattle.ygg_sym_expr.specs.Meaning.{Grows, worths}
-use Rattle.ygg_sym_runs.specs.Meaning.{Low, is_set}
+use Rattle.ygg_direct.specs.RunPlaces.{spec_space}
+use Rattle.ygg_sym_expr.specs.Names.{sym_bind}
+use Rattle.ygg_sym_expr.specs.Meaning.{Grows}
+use Rattle.ygg_sym_runs.specs.Meaning.{is_set}
 use Rattle.ygg_sym_below.specs.Laws.{picked_by}
 use Rattle.ygg_sym_below.specs.Lows.{low_worth}
 use Rattle.ygg_sym_below.specs.SpecCuts.{spec_stops}
-use Rattle.ygg_sym_below.specs.Stops.{first_stop}
 use Rattle.ygg_sym_below.specs.StopTerms.{SymFallen, Stops}
 use Rattle.ygg_sym_below.proofs.Fallen.{FallenIs, fallen_grows, fallen_gives}
 use Rattle.ygg_sym_below.proofs.MadeInputs.{spec_below, terms_below}
 use Rattle.ygg_sym_below.proofs.SpecBits.{FallBack, run_at, fall_back, fall_sound}
 use Rattle.ygg_sym_below.proofs.SpecFalls.{cut_end, lose_end}
 use Rattle.ygg_sym_below.proofs.SpecKeeps.{spec_stops_below, spec_asked_one}
-use Rattle.ygg_sym_below.proofs.Specs.{spec_at}
+use Rattle.ygg_sym_below.proofs.SpecMeans.{spec_at}
 use Rattle.ygg_sym_below.proofs.SpecStops.{vars_of, spec_stops_mean}
 use Rattle.ygg_sym_below.proofs.StopKeeps.{fallen_keeps}
 use Rattle.ygg_sym_below.proofs.StopMeaning.{StopsMean}
 use Rattle.ygg_sym_laws.specs.Below.{signatures_of}
 use Rattle.ygg_sym_laws.specs.Typed.{BlockTyped, SpecTyped}
-use Rattle.ygg_sym_laws.specs.Means.{AreBits, Values3, Begins, AreWorth, WorthFall, FallBits, AreFallBits, FallsTo, FallMeans, cut_run}
+use Rattle.ygg_sym_laws.specs.Means.{Values3, Begins, AreWorth, WorthFall, AreFallBits, FallsTo, FallMeans, cut_run}
 use Rattle.ygg_sym_laws_spec.proofs.Begun.{terms, names, grow, mean_in, mean_of, falls_typed, operations, low, machine_from, laws, L, Begun, begun}
 
 -- a stop that is set

@@ -1,5 +1,5 @@
 -- Power loss between operations on a specification over terms, and its start.
-use Rattle.std.proofs.Common.{◌≡◌, ◌<◌, ◌≤◌, ◌+◌, ℕ, Bool, true, false, List, [], ◌∷◌, ◌++◌, All, map, Option, Some, None, reverse, refl, sym, ap, ◌∙◌, subst, arith}
+use Rattle.std.proofs.Common.{◌≡◌, ◌<◌, ◌+◌, ℕ, Bool, true, false, List, [], ◌∷◌, ◌++◌, All, Some, refl, sym, ap, ◌∙◌, subst, arith}
 use Rattle.std.proofs.lemmas.List.{append-nil}
 use Rattle.std.proofs.lemmas.List.Elements.{All-nil, All-head, All-tail}
 use Rattle.ygg_value.specs.Shapes.{IsShape}
@@ -12,7 +12,6 @@ use Rattle.ygg_type_rules.specs.Definitions.{definitions_errors}
 use Rattle.ygg_meaning.specs.Environments.{Env}
 use Rattle.ygg_meaning.specs.Meaning.{Functions}
 use Rattle.ygg_meaning.specs.Shapes.{shape_in, env_fits, zeros_of}
-use Rattle.ygg_meaning.specs.Progress.{Answer}
 use Rattle.ygg_meaning.specs.Machine.{Picks, State, based}
 use Rattle.ygg_meaning.specs.Layer.{ClosedLayer}
 use Rattle.ygg_meaning.specs.Refines.{OnSpec}
@@ -27,7 +26,7 @@ use Rattle.ygg_bank.specs.declared.node.Node.{Node}
 use Rattle.ygg_bank.specs.declared.node.Node.TheVariants.{Const}
 use Rattle.ygg_shape_words.proofs.Keeps.{inputs_stay}
 use Rattle.ygg_shape_cells.specs.declared.terms.SymValue.{SymValue}
-use Rattle.ygg_direct.specs.Acts.{next_of, noted_picks, Taken}
+use Rattle.ygg_direct.specs.Acts.{next_of, Taken}
 use Rattle.ygg_direct.specs.Places.{left_after}
 use Rattle.ygg_direct.specs.SpecActs.{Ran, block_ran}
 use Rattle.ygg_direct.proofs.Placing.{taken_self}
@@ -36,17 +35,17 @@ use Rattle.ygg_direct.proofs.SpecServes.{ran_alone}
 use Rattle.ygg_sym_expr.specs.Meaning.{SomeShape, Grows}
 use Rattle.ygg_sym_below.specs.Laws.{picked_by}
 use Rattle.ygg_sym_below.specs.Lows.{LowShaped, low_worth}
-use Rattle.ygg_sym_below.specs.SpecCuts.{fall_room, crash_made, block_made}
+use Rattle.ygg_sym_below.specs.SpecCuts.{fall_room}
 use Rattle.ygg_sym_below.specs.Specs.{input_pick, given_pick}
 use Rattle.ygg_sym_below.proofs.Blocks.{block_made_grows, block_made_gives}
-use Rattle.ygg_sym_below.proofs.Chosen.{Decided, room, block_end, fronts, backs}
+use Rattle.ygg_sym_below.proofs.Chosen.{Decided, block_end, fronts, backs}
 use Rattle.ygg_sym_below.proofs.Lows.{low_fits}
 use Rattle.ygg_sym_below.proofs.MadeInputs.{fresh_below, terms_below}
 use Rattle.ygg_sym_below.proofs.SpecFalls.{crash_end}
 use Rattle.ygg_sym_below.proofs.SpecKeeps.{block_keeps, lose_keeps}
 use Rattle.ygg_sym_below.proofs.Specs.{input_pick_means, given_pick_means}
-use Rattle.ygg_sym_below.proofs.SpecStops.{SomeBlock, crash_grows, crash_gives}
-use Rattle.ygg_sym_laws.specs.Below.{zeros_made, start_made, lost_made, lows_at_start}
+use Rattle.ygg_sym_below.proofs.SpecStops.{crash_grows, crash_gives}
+use Rattle.ygg_sym_laws.specs.Below.{zeros_made, lost_made, lows_at_start}
 use Rattle.ygg_sym_laws.specs.Typed.{SpecTyped}
 use Rattle.ygg_sym_laws.specs.Means.{LossMeans, StartMeans}
 use Rattle.ygg_sym_laws.proofs.Zeros.{AreShapes, zeros_made_grow, zeros_made_keep, zeros_give}

@@ -1,5 +1,5 @@
 -- Whole runs over terms on a specification, both ways.
-use Rattle.std.proofs.Common.{◌≡◌, ◌<◌, ◌≤◌, ◌+◌, ℕ, Bool, true, List, [], ◌∷◌, ◌++◌, map, take, length, reverse, refl, sym, ap, ◌∙◌, subst, arith}
+use Rattle.std.proofs.Common.{◌≡◌, ℕ, Bool, true, List, [], ◌++◌, take, length, sym, ap, ◌∙◌, subst, arith}
 use Rattle.std.proofs.lemmas.List.{length-map}
 use Rattle.ygg_value.specs.Words.{word}
 use Rattle.ygg_syntax.specs.declared.grammar.BlockKind.TheVariants.{Impl}
@@ -13,7 +13,7 @@ use Rattle.ygg_meaning.specs.Environments.{Name, Env}
 use Rattle.ygg_meaning.specs.Meaning.{Functions, functions_of}
 use Rattle.ygg_meaning.specs.Shapes.{env_fits}
 use Rattle.ygg_meaning.specs.Progress.{Answer, answer_of}
-use Rattle.ygg_meaning.specs.Machine.{Picks, State, on, based}
+use Rattle.ygg_meaning.specs.Machine.{State, on, based}
 use Rattle.ygg_meaning.specs.Layer.{ClosedLayer, BlockRuns}
 use Rattle.ygg_meaning.specs.Refines.{OnSpec}
 use Rattle.ygg_meaning.specs.Spec.{Spec}
@@ -31,7 +31,7 @@ use Rattle.ygg_shape_cells.specs.Terms.{worth}
 use Rattle.ygg_shape_cells.specs.declared.terms.SymValue.{SymValue}
 use Rattle.ygg_direct.specs.Direct.{Reached, direct_run, room_of}
 use Rattle.ygg_direct.specs.RunPlaces.{Finish, spec_space}
-use Rattle.ygg_sym_expr.specs.Names.{SymEnv, sym_bind}
+use Rattle.ygg_sym_expr.specs.Names.{sym_bind}
 use Rattle.ygg_sym_expr.specs.Meaning.{Grows, worths}
 use Rattle.ygg_sym_runs.specs.Meaning.{answer_worth}
 use Rattle.ygg_sym_below.specs.Laws.{picked_by}
@@ -39,13 +39,14 @@ use Rattle.ygg_sym_below.specs.Lows.{low_worth}
 use Rattle.ygg_sym_below.specs.Wholes.{SymFinish}
 use Rattle.ygg_sym_below.proofs.MadeInputs.{whole_keeps, spec_below, terms_below}
 use Rattle.ygg_sym_below.proofs.SpecBits.{run_at, answer_at, to_at, run_back, run_sound}
-use Rattle.ygg_sym_below.proofs.Specs.{bound_worth, spec_at}
-use Rattle.ygg_sym_below.proofs.Whole.{WholeIs, whole_grows, whole_gives}
+use Rattle.ygg_sym_below.proofs.Specs.{bound_worth}
+use Rattle.ygg_sym_below.proofs.SpecMeans.{spec_at}
+use Rattle.ygg_sym_below.proofs.Whole.{whole_grows, whole_gives}
 use Rattle.ygg_sym_laws.specs.Below.{signatures_of}
 use Rattle.ygg_sym_laws.specs.Typed.{BlockTyped, SpecTyped}
-use Rattle.ygg_sym_laws.specs.Means.{AreBits, values_in, Values3, Begins, AreWorth, WholeAfter, WorthRun, EndsSo, WholeMeans, whole_run}
-use Rattle.ygg_sym_laws.proofs.Begun.{NamedAgain, named_again}
-use Rattle.ygg_sym_laws_spec.proofs.Begun.{terms, names, grow, mean_in, operations, low, machine_from, laws, L, memory_in, given_in, base_in, Begun, begun}
+use Rattle.ygg_sym_laws.specs.Means.{values_in, Values3, Begins, AreWorth, WholeAfter, WorthRun, EndsSo, WholeMeans, whole_run}
+use Rattle.ygg_sym_laws.proofs.Begun.{named_again}
+use Rattle.ygg_sym_laws_spec.proofs.Begun.{terms, names, grow, mean_in, operations, low, machine_from, laws, L, Begun, begun}
 
 module _ (kinds : List RuleKind) (defs : List Def) (sound : none (definitions_errors defs [] []) ≡ true) (m : ClosedLayer) (spec : SpecTyped defs m)
     (functions : Functions) (layer : Layer) (same : functions ≡ functions_of defs) (b : Block) (vars args : List Declared)
@@ -110,7 +111,8 @@ module _ (kinds : List RuleKind) (defs : List Def) (sound : none (definitions_er
         let sa = sym_bind args x.args in
         let s = here in
         let machine = spec_at m bits in
-        let w = whole_gives inputs v kinds (names kinds defs) functions (terms kinds defs) (grow kinds defs) (mean_in kinds defs sound m spec inputs v functions same)
+        let mean = mean_in kinds defs sound m spec inputs v functions same in
+        let w = whole_gives inputs v kinds (names kinds defs) functions (terms kinds defs) (grow kinds defs) mean
         (low kinds defs sound m spec) Impl (operations kinds defs sound m spec) (machine_from kinds defs sound m spec first) machine
         (laws kinds defs sound m spec inputs v first) b typed.shape typed.scope sv sa x.low nodes s.inside typed.without_errors typed.kept s.shaped
         begins.low_are h in
