@@ -264,6 +264,7 @@ module _ (defs : List Def) (below : Below) (weights : Weights) (l : Layer) (low 
   pub own_typed : SpecTyped defs L
   own_typed = record {
     functions = refl;
+    limits = shapes_kept l.state p.variables.state;
     answers = spec_answers functions named below weights l low (have functions) is;
     sees = seen;
     start = spec_typed [] refl l.start None p.start (plain_keeps l.start p.start_kept);
