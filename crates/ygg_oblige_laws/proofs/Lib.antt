@@ -15,3 +15,4 @@ pub mod OtherTerms
 pub mod EachKind
 pub mod Free
 pub mod Layered
+pub mod Whole
