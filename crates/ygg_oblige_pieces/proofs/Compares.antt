@@ -1,9 +1,9 @@
 -- Zeros, comparisons of lists of values, and of answers.
-use Rattle.std.proofs.Common.{◌≡◌, ◌&&◌, true, if◌then◌else◌, List, [], ◌∷◌, Option, Some, None, refl, sym, ap, ◌∙◌, subst}
+use Rattle.std.proofs.Common.{◌≡◌, ◌&&◌, true, if◌then◌else◌, List, [], ◌∷◌, Option, Some, None, sym, ap, ◌∙◌, subst}
 use Rattle.std.specs.Prelude.{is_none, is_some, option_map}
 use Rattle.std.specs.Str.{bytes_eq}
 use Rattle.std.proofs.lemmas.List.Elements.{All-head, All-tail}
-use Rattle.ygg_value.specs.Shapes.{IsShape, zero_of}
+use Rattle.ygg_value.specs.Shapes.{IsShape}
 use Rattle.ygg_value.specs.Values.{same_value}
 use Rattle.ygg_value.specs.Words.{word}
 use Rattle.ygg_value.specs.declared.operation.Op.TheVariants.{And}
@@ -26,15 +26,12 @@ use Rattle.ygg_bank.specs.Values.{Inputs, Values}
 use Rattle.ygg_bank.specs.declared.node.Node.{Node}
 use Rattle.ygg_bank.specs.declared.node.Node.TheVariants.{Const, Bin}
 use Rattle.ygg_shape_words.proofs.Keeps.{Stays}
-use Rattle.ygg_shape_cells.proofs.Wider.{shaped_wider}
 use Rattle.ygg_shape_cells.specs.Making.{compared}
 use Rattle.ygg_shape_cells.specs.Terms.{IsShaped, worth}
 use Rattle.ygg_shape_cells.specs.declared.terms.SymValue.{SymValue}
 use Rattle.ygg_shape.proofs.Grows.{compared_grows}
 use Rattle.ygg_shape.proofs.Keeps.{compared_keeps}
 use Rattle.ygg_shape.proofs.Makers.{compared_gives}
-use Rattle.ygg_shape.proofs.Whole.{zero_made_keeps, zero_gives}
-use Rattle.ygg_shape.specs.Wholes.{zero_made}
 use Rattle.ygg_sym_expr.specs.Meaning.{SomeShape, Grows, Gives}
 use Rattle.ygg_sym_expr.proofs.Keeps.{Keeps}
 use Rattle.ygg_sym_runs.proofs.Worths.{shape_fits}
@@ -42,6 +39,7 @@ use Rattle.ygg_sym_runs.specs.Meaning.{AnswerShaped, answer_worth}
 use Rattle.ygg_sym_below.proofs.Lows.{low_wider}
 use Rattle.ygg_sym_below.specs.Lows.{LowShaped, low_worth}
 use Rattle.ygg_sym_laws.specs.Below.{zeros_made}
+use Rattle.ygg_sym_laws.proofs.Zeros.{AreShapes, zeros_made_keep, zeros_give}
 use Rattle.ygg_oblige_terms.specs.Layers.{ShapesKept}
 use Rattle.ygg_oblige_terms.specs.Outcomes.{answers_compared}
 use Rattle.ygg_oblige_terms.specs.States.{all_compared}
@@ -49,12 +47,13 @@ use Rattle.ygg_oblige_pieces.proofs.Truth.{adds, truth_wider, truth_of, one_give
 use Rattle.ygg_oblige_pieces.specs.States.{ComparingMeans}
 use Rattle.ygg_oblige_pieces.specs.Worth.{LowIs, IsTruth}
 
-module _ (kinds : List RuleKind) (P : List Node → Type 0) (stays : Stays kinds P) where
-  pub zeros_keep : (ds : List Declared) → Keeps P (zeros_made kinds ds)
-  zeros_keep [] nodes p = p
-  zeros_keep (d ∷ ds) nodes p =
-      zeros_keep ds (zero_made kinds (shape_in d.shape) nodes).nodes (zero_made_keeps kinds P stays (shape_in d.shape) nodes p)
+-- each declared shape keeps the limits
+each_shape : (ds : List Declared) → ShapesKept ds → AreShapes ds
+each_shape [] l = tt
+each_shape (d ∷ ds) l =
+    let P = λ (d : Declared). IsShape (shape_in d.shape) in (All-head P d ds l, each_shape ds (All-tail P d ds l))
 
+module _ (kinds : List RuleKind) (P : List Node → Type 0) (stays : Stays kinds P) where
   pub same_keeps : (xs ys : List SymValue) → Keeps P (all_compared kinds xs ys)
   same_keeps [] ys nodes p = stays (Const (word 1 1)) nodes tt p
   same_keeps (x ∷ xs) [] nodes p = stays (Const (word 1 1)) nodes tt p
@@ -70,22 +69,8 @@ module _ (kinds : List RuleKind) (P : List Node → Type 0) (stays : Stays kinds
   answers_keep (Some a) None nodes p = stays (Const (word 1 0)) nodes tt p
 
 module _ (inputs : Inputs) (v : Values) (kinds : List RuleKind) where
-  zeros_grow : (ds : List Declared) → Grows (zeros_made kinds ds)
-  zeros_grow ds = let a = adds kinds (zeros_made kinds ds) (λ P s. zeros_keep kinds P s ds) in a.grows
-
-  pub zeros_give : (ds : List Declared) (nodes : List Node) → ShapesKept ds → Gives inputs v (zeros_made kinds ds) nodes (LowIs v ds (zeros_of ds))
-  zeros_give [] nodes l h = record { shaped = tt; is = refl }
-  zeros_give (d ∷ ds) nodes l h =
-      let s = shape_in d.shape in
-      let o = zero_made kinds s nodes in
-      let rest = zeros_made kinds ds o.nodes in
-      let g = zeros_grow ds o.nodes in
-      let m = zero_gives inputs v kinds s nodes (All-head (λ (d : Declared). IsShape (shape_in d.shape)) d ds l) (fits_fewer inputs v o.nodes rest.nodes g h) in
-      let r = zeros_give ds o.nodes (All-tail (λ (d : Declared). IsShape (shape_in d.shape)) d ds l) h in
-      record {
-        shaped = (shaped_wider o.nodes rest.nodes s o.value g m.shaped, r.shaped);
-        is = ap (λ x. (d.name.text, x) ∷ low_worth v ds rest.value) m.is ∙ ap (λ e. (d.name.text, zero_of s) ∷ e) r.is;
-      }
+  pub low_zeros : (ds : List Declared) (nodes : List Node) → ShapesKept ds → Gives inputs v (zeros_made kinds ds) nodes (LowIs v ds (zeros_of ds))
+  low_zeros ds nodes l h = let z = zeros_give kinds inputs v ds nodes (each_shape ds l) h in record { shaped = z.has; is = z.is }
 
   same_grows : (xs ys : List SymValue) → Grows (all_compared kinds xs ys)
   same_grows xs ys = let a = adds kinds (all_compared kinds xs ys) (λ P s. same_keeps kinds P s xs ys) in a.grows
@@ -147,8 +132,8 @@ module _ (inputs : Inputs) (v : Values) (kinds : List RuleKind) where
 
 pub comparing_means : (kinds : List RuleKind) → ComparingMeans kinds
 comparing_means kinds = record {
-  zeros = λ inputs v ds nodes l h. zeros_give inputs v kinds ds nodes l h;
-  zeros_add = λ ds. adds kinds (zeros_made kinds ds) (λ P s. zeros_keep kinds P s ds);
+  zeros = λ inputs v ds nodes l h. low_zeros inputs v kinds ds nodes l h;
+  zeros_add = λ ds. adds kinds (zeros_made kinds ds) (λ P s. zeros_made_keep kinds P s ds);
   same = λ inputs v ds xs ys nodes p q h. same_gives inputs v kinds ds xs ys nodes p q h;
   same_add = λ xs ys. adds kinds (all_compared kinds xs ys) (λ P s. same_keeps kinds P s xs ys);
   answers = λ inputs v o y z nodes e p q f g h. answers_give inputs v kinds o y z nodes e p q f g h;

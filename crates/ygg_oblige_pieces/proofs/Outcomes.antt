@@ -1,31 +1,5 @@
 -- What the specification's step over terms is worth, with a list of picks.
-use Rattle.std.proofs.Common.{
-  ◌≡◌,
-  ◌<◌,
-  ◌+◌,
-  ◌&&◌,
-  ℕ,
-  Bool,
-  true,
-  false,
-  List,
-  [],
-  ◌∷◌,
-  map,
-  reverse,
-  length,
-  All,
-  Option,
-  Some,
-  None,
-  refl,
-  sym,
-  ap,
-  ◌∙◌,
-  subst,
-  arith,
-}
-use Rattle.std.proofs.lemmas.List.Elements.{All-nil}
+use Rattle.std.proofs.Common.{◌≡◌, ◌<◌, ◌+◌, ◌&&◌, ℕ, Bool, true, false, List, [], ◌∷◌, reverse, length, Option, Some, None, refl, sym, ap, ◌∙◌, subst, arith}
 use Rattle.ygg_value.specs.Words.{word, bit_of}
 use Rattle.ygg_value.specs.declared.operation.Op.TheVariants.{And}
 use Rattle.ygg_value.specs.declared.row.Value.{Value}
@@ -42,8 +16,8 @@ use Rattle.ygg_type_rules.specs.declared.scope.Signature.{Signature}
 use Rattle.ygg_meaning.specs.Environments.{Env, bind}
 use Rattle.ygg_meaning.specs.Layer.{ClosedLayer}
 use Rattle.ygg_meaning.specs.Machine.{Picks, State, based}
-use Rattle.ygg_meaning.specs.Obligations.{Schedule, Obligation, Init, CallOf, CutOf, TickOf, CutTickOf, Idle, Again, crash_picks}
-use Rattle.ygg_meaning.specs.Refines.{Below, OnSpec}
+use Rattle.ygg_meaning.specs.Obligations.{Obligation, Init, CallOf, CutOf, TickOf, CutTickOf, Idle, Again, crash_picks}
+use Rattle.ygg_meaning.specs.Refines.{Below}
 use Rattle.ygg_meaning.specs.Related.{related}
 use Rattle.ygg_meaning.specs.Spec.{SpecStarts}
 use Rattle.ygg_meaning.specs.Violates.{same_answer}
@@ -52,16 +26,14 @@ use Rattle.ygg_type_progress.specs.Questions.{gives}
 use Rattle.ygg_rules.specs.declared.rule.RuleKind.{RuleKind}
 use Rattle.ygg_bank.proofs.Made.{made_grows}
 use Rattle.ygg_bank.proofs.Meaning.{fits_fewer}
-use Rattle.ygg_bank.proofs.Widths.{extends_self, extends_both}
+use Rattle.ygg_bank.proofs.Widths.{extends_both}
 use Rattle.ygg_bank.specs.Makes.{Make}
 use Rattle.ygg_bank.specs.Making.{made}
 use Rattle.ygg_bank.specs.Nodes.{Extends}
-use Rattle.ygg_bank.specs.Values.{Inputs, Values, Fits}
-use Rattle.ygg_bank.specs.declared.node.Id.{Id}
+use Rattle.ygg_bank.specs.Values.{Inputs, Values}
 use Rattle.ygg_bank.specs.declared.node.Node.{Node}
 use Rattle.ygg_bank.specs.declared.node.Node.TheVariants.{Const, Bin}
 use Rattle.ygg_shape_words.proofs.Keeps.{Stays}
-use Rattle.ygg_shape_cells.specs.Terms.{worth}
 use Rattle.ygg_shape_cells.specs.declared.terms.SymValue.{SymValue}
 use Rattle.ygg_direct.specs.Acts.{next_of}
 use Rattle.ygg_direct.specs.Places.{left_after, Result, outcome_by_place}
@@ -77,16 +49,16 @@ use Rattle.ygg_sym_runs.specs.Meaning.{AnswerShaped, answer_worth}
 use Rattle.ygg_sym_below.proofs.Blocks.{BlockOfSpec, values_worth, low_stands, block_made_gives}
 use Rattle.ygg_sym_below.proofs.Chosen.{block_end, nth, placed_end}
 use Rattle.ygg_sym_below.proofs.Lows.{low_wider}
-use Rattle.ygg_sym_below.proofs.SpecFalls.{crash_end, then_end}
 use Rattle.ygg_sym_below.proofs.SpecKeeps.{block_keeps, crash_keeps, then_keeps}
 use Rattle.ygg_sym_below.proofs.SpecStops.{SomeBlock, FallsTyped, crash_gives, then_grows, then_gives}
-use Rattle.ygg_sym_below.proofs.Specs.{PickMeans, given_pick_means}
+use Rattle.ygg_sym_below.proofs.Specs.{given_pick_means}
 use Rattle.ygg_sym_below.specs.Disks.{Done, done}
 use Rattle.ygg_sym_below.specs.Lows.{LowShaped, low_worth}
 use Rattle.ygg_sym_below.specs.SpecCuts.{block_made, crash_made, then_crash_made}
 use Rattle.ygg_sym_below.specs.Specs.{given_pick}
+use Rattle.ygg_sym_laws.proofs.Zeros.{zeros_made_keep}
 use Rattle.ygg_sym_laws.specs.Below.{zeros_made, start_made}
-use Rattle.ygg_sym_laws.specs.Means.{StartMeans, terms_of, values_in}
+use Rattle.ygg_sym_laws.specs.Means.{terms_of, values_in}
 use Rattle.ygg_sym_laws.specs.Typed.{SpecBlockTyped}
 use Rattle.ygg_sym_laws_spec.proofs.AnyLayer.{spec_start}
 use Rattle.ygg_sym_laws_spec.proofs.Begun.{falls_typed}
@@ -94,10 +66,10 @@ use Rattle.ygg_oblige_terms.specs.Layers.{OperationFits, LayerTyped}
 use Rattle.ygg_oblige_terms.specs.Outcomes.{fall_with_picks, leaving, outcome_made}
 use Rattle.ygg_oblige_terms.specs.States.{Trio, related_made}
 use Rattle.ygg_oblige_terms.specs.Terms.{Finish, same_answers_made, passes_made}
-use Rattle.ygg_oblige_pieces.proofs.Compares.{zeros_keep, answers_keep, answers_give}
+use Rattle.ygg_oblige_pieces.proofs.Compares.{answers_keep, answers_give}
 use Rattle.ygg_oblige_pieces.proofs.Placed.{fall_placed, crash_placed, then_placed}
 use Rattle.ygg_oblige_pieces.proofs.Starting.{related_keeps}
-use Rattle.ygg_oblige_pieces.proofs.Truth.{adds, truth_wider, one_gives, and_gives}
+use Rattle.ygg_oblige_pieces.proofs.Truth.{adds, truth_wider, and_gives}
 use Rattle.ygg_oblige_pieces.proofs.Truths.{defs_keep, layer_mean, related_gives}
 use Rattle.ygg_oblige_pieces.specs.Worth.{IsTruth, TrioShaped}
 
@@ -119,7 +91,7 @@ module _ (kinds : List RuleKind) (P : List Node → Type 0) (stays : Stays kinds
     start_keeps nodes p =
         let z = zeros_made kinds L.layer.state nodes in
         block_keeps kinds P stays terms keep L (given_pick kinds []) L.layer.start (pick_keeps [] _) z.value [] z.nodes
-        (zeros_keep kinds P stays L.layer.state nodes p)
+        (zeros_made_keep kinds P stays L.layer.state nodes p)
 
     fall_keeps : (o : Operation) (b : Option Block) (vars args : List SymValue) (picks : Picks) → Keeps P (fall_with_picks kinds terms L o b vars args picks)
     fall_keeps o (Some b) vars args picks nodes p =
@@ -331,10 +303,10 @@ module _ (kinds : List RuleKind) (defs : List Def) (G : Below) (L : ClosedLayer)
           has = b.has;
           is = b.is ∙ ap (λ (r : Result). r.vars) same;
           same = λ later.
-              subst (λ y. IsTruth v (same_answer (answer_worth v end.answer) y) (same_answers_made kinds (CallOf o) end.answer out.value.answer out.nodes).nodes
-              (same_answers_made kinds (CallOf o) end.answer out.value.answer out.nodes).value) answer
-              (answers_give inputs v kinds o end.answer out.value.answer out.nodes fits.answer_shaped (answer_wider nodes out.nodes end.answer g a) b.shaped k kept
-              later);
+              let y = out.value.answer in
+              let test = same_answers_made kinds (CallOf o) end.answer y out.nodes in
+              subst (λ z. IsTruth v (same_answer (answer_worth v end.answer) z) test.nodes test.value) answer
+              (answers_give inputs v kinds o end.answer y out.nodes fits.answer_shaped (answer_wider nodes out.nodes end.answer g a) b.shaped k kept later);
         }
 
     -- the one start state

@@ -2,15 +2,9 @@
 use Rattle.std.proofs.Common.{
   ◌≡◌,
   ◌≤◌,
-  ◌<◌,
   ◌+◌,
   ◌↔◌,
-  ◌⊎◌,
-  inl,
-  inr,
   ℕ,
-  zero,
-  suc,
   Bool,
   true,
   false,
@@ -28,7 +22,6 @@ use Rattle.std.proofs.Common.{
   sym,
   ap,
   ◌∙◌,
-  subst,
   arith,
   append_assoc,
 }
@@ -51,7 +44,7 @@ use Rattle.ygg_direct.proofs.Choosing.{choices_room}
 use Rattle.ygg_direct.proofs.Failing.{fails_by_place}
 use Rattle.ygg_direct.proofs.Matching.{Fronts, Puts, Matches, block_matches, then_matches, fall_on_crash, fails_alike}
 use Rattle.ygg_direct.proofs.Placing.{after_more, zeros_long, long_append}
-use Rattle.ygg_sym_below.proofs.Chosen.{block_end, room, same_below, nth, placed_end}
+use Rattle.ygg_sym_below.proofs.Chosen.{room, same_below, nth, placed_end}
 use Rattle.ygg_sym_below.proofs.SpecFalls.{bits_after, crash_end, then_end}
 
 -- a step that leaves places at the end

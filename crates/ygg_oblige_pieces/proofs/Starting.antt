@@ -286,7 +286,8 @@ module _ (kinds : List RuleKind) (defs : List Def) (G : Below) (L : ClosedLayer)
         let f = facts_give inputs v kinds related.value related.nodes r.wide hf in
         let low_shaped = let s = t.shaped in low_wider x.nodes facts.nodes L.low x.value.low ga s.low in
         let low_is : low_worth v L.low x.value.low ≡ given.low = ap (λ (s : Stand). s.low) t.is in
-        let s = subst (λ e. SettledIs v L e settled.nodes settled.value) low_is (settled_gives inputs v kinds defs G L typed x.value.low facts.nodes low_shaped hs) in
+        let s = subst (λ e. SettledIs v L e settled.nodes settled.value) low_is
+        (settled_gives inputs v kinds defs G L typed x.value.low facts.nodes low_shaped hs) in
         let k = facts_give inputs v kinds settled.value settled.nodes s.wide h in
         let fit = facts_wider facts.nodes settling.nodes facts.value gb f.fit in
         let wide = trio_wider x.nodes settling.nodes x.value all t.shaped in

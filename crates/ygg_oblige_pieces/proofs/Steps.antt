@@ -1,36 +1,12 @@
 -- The test of the specification's step over terms, over all lists of picks, is worth the obligation's conclusion.
-use Rattle.std.proofs.Common.{
-  ◌≡◌,
-  ◌+◌,
-  ◌&&◌,
-  ◌⊎◌,
-  inl,
-  inr,
-  ℕ,
-  Bool,
-  true,
-  false,
-  List,
-  [],
-  length,
-  Some,
-  refl,
-  sym,
-  ap,
-  ◌∙◌,
-  subst,
-  arith,
-}
+use Rattle.std.proofs.Common.{◌≡◌, ◌⊎◌, inl, inr, Bool, true, false, List, [], length, refl, sym, ap, subst, arith}
 use Rattle.ygg_syntax.specs.declared.grammar.BlockKind.TheVariants.{Spec}
-use Rattle.ygg_syntax.specs.declared.tree.Block.{Block}
 use Rattle.ygg_syntax.specs.declared.tree.Def.{Def}
-use Rattle.ygg_meaning.specs.Environments.{Env, bind}
+use Rattle.ygg_meaning.specs.Environments.{bind}
 use Rattle.ygg_meaning.specs.Layer.{ClosedLayer}
-use Rattle.ygg_meaning.specs.Machine.{Picks, State, on, based}
+use Rattle.ygg_meaning.specs.Machine.{Picks}
 use Rattle.ygg_meaning.specs.Obligations.{Schedule, Obligation, Init, CallOf, CutOf, TickOf, CutTickOf, Idle, Again, NoPicksPass}
 use Rattle.ygg_meaning.specs.Refines.{Below}
-use Rattle.ygg_meaning.specs.Related.{related}
-use Rattle.ygg_meaning.specs.Spec.{Outcome, start_outcome}
 use Rattle.ygg_meaning.specs.Violates.{End, related_after, same_answer, most, spec_after, passes}
 use Rattle.ygg_histories.proofs.Search.{Passes, find_picks}
 use Rattle.ygg_type_progress.specs.Kinds.{keeps}
@@ -44,7 +20,6 @@ use Rattle.ygg_direct.specs.SpecPlaces.{crash_by_place, ChoosesAlone}
 use Rattle.ygg_sym_expr.specs.Meaning.{Grows, Gives}
 use Rattle.ygg_sym_runs.specs.Meaning.{answer_worth}
 use Rattle.ygg_sym_below.proofs.Lows.{low_wider}
-use Rattle.ygg_sym_below.specs.Lows.{low_worth}
 use Rattle.ygg_sym_below.specs.Specs.{given_pick}
 use Rattle.ygg_sym_below.specs.SpecCuts.{crash_made}
 use Rattle.ygg_sym_laws.specs.Below.{start_made}

@@ -199,5 +199,6 @@ module _ (inputs : Inputs) (v : Values) (kinds : List RuleKind) (defs : List Def
       } in
       let t = truths_give [] L.low L.layer.settled from nodes typed.settled_typed scoped refl (subst (λ e. env_fits L.low e ≡ true) (sym low_is) fl) h in
       let same : all_true (map (λ e. is_one (value_with L.functions e (scope_worth v from))) L.layer.settled) ≡ all_true (settles L want) =
-      ap (λ low. all_true (map (λ e. is_one (value_with L.functions e (let s : meaning.Scope = record { own = []; low = low } in s))) L.layer.settled)) low_is in
+      ap (λ low. all_true (map (λ e. is_one (value_with L.functions e (let s : meaning.Scope = record { own = []; low = low } in s)))
+      L.layer.settled)) low_is in
       record { wide = t.wide; settles = t.is ∙ same; settled = t.is ∙ same ∙ ap (λ c. c && all_true (settles L want)) (sym fl) }

@@ -53,6 +53,10 @@ pub record ComparingMeans (kinds : List RuleKind) : Type 0 where
       Gives inputs v (answers_compared kinds y z) nodes (IsTruth v (same_answer (answer_worth v y) (answer_worth v z)))
   pub answers_add : (y z : Option SymValue) → AddsNoInputs (answers_compared kinds y z)
 
+-- so it is for each book
+abbrev pub ComparingMeansSo : Type 0
+ComparingMeansSo = (kinds : List RuleKind) → ComparingMeans kinds
+
 -- a term that is 1 just where the layer's relation holds of this
 pub record RelatedIs (v : Values) (L : ClosedLayer) (s : Stand) (nodes : List Node) (a : Id) : Type 0 where
   pub wide : HasWidth nodes a 1
