@@ -1,15 +1,14 @@
 -- A recovery over terms that power cuts, another after it, and one whole recovery from the first base.
-use Rattle.std.proofs.Common.{◌≡◌, ◌==◌, ◌&&◌, ◌||◌, not, ℕ, Bool, true, List, [], refl, sym, ap, ◌∙◌}
+use Rattle.std.proofs.Common.{◌≡◌, ◌&&◌, ◌||◌, not, Bool, true, List, [], ap, ◌∙◌}
 use Rattle.std.specs.Prelude.{Option}
 use Rattle.ygg_value.specs.declared.operation.Op.TheVariants.{And, Imp}
 use Rattle.ygg_value.specs.declared.shape.Shape.{Shape}
 use Rattle.ygg_syntax.specs.declared.tree.Def.{Def}
 use Rattle.ygg_meaning.specs.Environments.{same_env}
 use Rattle.ygg_meaning.specs.Layer.{ClosedLayer}
-use Rattle.ygg_meaning.specs.Machine.{State, on, based}
 use Rattle.ygg_meaning.specs.Related.{settled}
 use Rattle.ygg_meaning.specs.Refines.{Below}
-use Rattle.ygg_meaning.specs.Violates.{End, same_state}
+use Rattle.ygg_meaning.specs.Violates.{same_state}
 use Rattle.ygg_rules.specs.declared.rule.RuleKind.{RuleKind}
 use Rattle.ygg_bank.proofs.Made.{made_grows}
 use Rattle.ygg_bank.proofs.Meaning.{fits_fewer}

@@ -1,6 +1,6 @@
 -- Tests of one digit: both of two, one implied by another, and what is known of such a term.
-use Rattle.std.proofs.Common.{◌≡◌, ◌<◌, ◌==◌, ◌^◌, ℕ, zero, suc, Bool, true, false, not, ◌&&◌, ◌||◌, List, Some, refl, sym, ap, ◌∙◌, subst, arith}
-use Rattle.ygg_value.specs.Number.{Number, IsWord}
+use Rattle.std.proofs.Common.{◌≡◌, ◌==◌, Bool, true, false, not, ◌&&◌, ◌||◌, List, Some, refl, ap, ◌∙◌}
+use Rattle.ygg_value.specs.Number.{Number}
 use Rattle.ygg_value.specs.Words.{word, apply_to, bit_of}
 use Rattle.ygg_value.specs.declared.operation.Op.TheVariants.{And, Imp}
 use Rattle.ygg_rules.specs.declared.rule.RuleKind.{RuleKind}

@@ -1,7 +1,7 @@
 -- Each obligation's term means it.
-use Rattle.std.proofs.Common.{◌≡◌, ◌+◌, ◌≤◌, ℕ, Bool, true, false, List, [], ◌∷◌, ◌++◌, map, refl, sym, ap, ◌∙◌, subst}
+use Rattle.std.proofs.Common.{ℕ, List, [], ◌∷◌, ◌++◌, map, refl, subst}
 use Rattle.std.proofs.lemmas.List.Elements.{All-nil, All-cons, All-head, All-tail, All-append}
-use Rattle.std.specs.Prelude.{All, Some, None}
+use Rattle.std.specs.Prelude.{All, None}
 use Rattle.std.specs.List.{flat_map}
 use Rattle.ygg_value.specs.declared.row.Value.{Value}
 use Rattle.ygg_value.specs.Shapes.{IsShape}
@@ -13,16 +13,13 @@ use Rattle.ygg_type_sound.proofs.Tests.{left, right}
 use Rattle.ygg_meaning.specs.Environments.{Env, bind}
 use Rattle.ygg_meaning.specs.Layer.{ClosedLayer}
 use Rattle.ygg_meaning.specs.Obligations.{Schedule, Obligation, Init, CallOf, CutOf, TickOf, CutTickOf, Idle, Again, obligations_of}
-use Rattle.ygg_meaning.specs.Refines.{Below, machine_below}
+use Rattle.ygg_meaning.specs.Refines.{Below}
 use Rattle.ygg_meaning.specs.Related.{shaped}
 use Rattle.ygg_meaning.specs.Shapes.{shape_in, values_fit}
-use Rattle.ygg_meaning.specs.Violates.{Violates}
 use Rattle.ygg_rules.specs.declared.rule.RuleKind.{RuleKind}
 use Rattle.ygg_bank.specs.Nodes.{Extends}
-use Rattle.ygg_bank.specs.Values.{Values}
 use Rattle.ygg_bank.specs.declared.node.Node.{Node}
 use Rattle.ygg_shape_cells.specs.Terms.{worth}
-use Rattle.ygg_shape_cells.specs.declared.terms.SymValue.{SymValue}
 use Rattle.ygg_sym_expr.specs.Meaning.{Grows}
 use Rattle.ygg_sym_runs.specs.Meaning.{answer_worth}
 use Rattle.ygg_sym_below.specs.Lows.{low_worth}

@@ -1,5 +1,5 @@
 -- The terms of obligations that speak of a run that power cuts, and a recovery after it.
-use Rattle.std.proofs.Common.{◌≡◌, ◌==◌, ◌&&◌, ◌+◌, ℕ, Bool, true, false, List, [], ◌∷◌, refl, sym, ap, ◌∙◌, subst, arith}
+use Rattle.std.proofs.Common.{◌≡◌, ◌+◌, ℕ, true, false, List, [], ◌∷◌, refl, sym, ◌∙◌, subst, arith}
 use Rattle.std.proofs.lemmas.List.Elements.{All-cons, All-head, All-tail}
 use Rattle.std.specs.Prelude.{All}
 use Rattle.ygg_syntax.specs.declared.tree.Def.{Def}
@@ -11,7 +11,7 @@ use Rattle.ygg_meaning.specs.Progress.{Answer}
 use Rattle.ygg_meaning.specs.Refines.{Below, machine_below}
 use Rattle.ygg_meaning.specs.Related.{shaped, all_true, relates, settled}
 use Rattle.ygg_meaning.specs.Shapes.{env_fits, zeros_of}
-use Rattle.ygg_meaning.specs.Violates.{End, Recovers, Violates}
+use Rattle.ygg_meaning.specs.Violates.{Recovers, Violates}
 use Rattle.ygg_rules.specs.declared.rule.RuleKind.{RuleKind}
 use Rattle.ygg_bank.proofs.Meaning.{fits_fewer}
 use Rattle.ygg_bank.proofs.Widths.{extends_both}
@@ -184,23 +184,26 @@ module _ (kinds : List RuleKind) (defs : List Def) (G : Below) (L : ClosedLayer)
         let turn : InTurn number ps = states_turn L number x ds rest (frame.room, bits_turn G L o start bits (start + words_in (arguments_of o)) (omega arith)) in
         let given = states_given L number x ds rest inputs (parts.glue.digits number ps turn) in
         let args_are = words.give inputs start (All-head D arg bs given.1) in
-        let bits_are = bits_there G L o start parts.glue inputs bits (All-tail D arg bs given.1) in
-        (ps, fit, λ v h.
-        let first = states kinds defs G L parts number before start nodes final frame in
-        let starts = subst (λ s. StartsSo v L s first.nodes S) given.0 (starts_so kinds defs G L parts number before start nodes final frame inputs v gf h) in
-        let from = from_there L number x v first.nodes S starts w.holds in
-        let a = args_so inputs v h in
-        let given_is : w.given ≡ low_worth v (arguments_of o) args.value = sym args_are ∙ sym a.1.is in
-        let step = w.step v S.from.vars args.value from.1.vars_is given_is in
-        let ready = ready_wider L S nodes args.nodes ga (ready_so kinds defs G L parts number before start nodes final frame inputs v gf h) in
-        let f = falls_so inputs v h in
-        let left = left_so kinds defs G L parts inputs v o (block_of L o) S args.value args.nodes ready a.1.shaped x w.given step from.1 given_is n w.fallen
-        back.0 back.1 (record { run_is = bits_are.run; stop_is = bits_are.stop; last_is = bits_are.last }) means.recover_shape f.cut_fit in
-        let c = cut_of kinds defs G L parts inputs v means.recover_shape n (block_of L o) S (arguments_of o) args.value args.nodes in
-        let hypothesis = f.hypothesis_is ∙ both_hold (is_set v S.related) (is_set v c.value.reached) from.0 left.reached in
-        recovery_refutes kinds defs G L parts inputs v means.recover_shape means.recover_whole typed.memory_shapes o n f.hypothesis S.from.vars args.value
-        c.value.fallen out.nodes out.value f.recovers k.sided x step (record { answer = w.recovery.answer; to = w.to; side = settled L w.fallen }) w.fallen
-        wakes.0 wakes.1 bits_are.wake left.fallen_is refl hypothesis w.fails)
+        let bits_are = bits_there G L o start parts.glue inputs bits (All-tail D arg bs given.1) in (
+          ps,
+          fit,
+          λ v h.
+              let first = states kinds defs G L parts number before start nodes final frame in
+              let starts = subst (λ s. StartsSo v L s first.nodes S) given.0 (starts_so kinds defs G L parts number before start nodes final frame inputs v gf h) in
+              let from = from_there L number x v first.nodes S starts w.holds in
+              let a = args_so inputs v h in
+              let given_is : w.given ≡ low_worth v (arguments_of o) args.value = sym args_are ∙ sym a.1.is in
+              let step = w.step v S.from.vars args.value from.1.vars_is given_is in
+              let ready = ready_wider L S nodes args.nodes ga (ready_so kinds defs G L parts number before start nodes final frame inputs v gf h) in
+              let f = falls_so inputs v h in
+              let left = left_so kinds defs G L parts inputs v o (block_of L o) S args.value args.nodes ready a.1.shaped x w.given step from.1 given_is n w.fallen
+              back.0 back.1 (record { run_is = bits_are.run; stop_is = bits_are.stop; last_is = bits_are.last }) means.recover_shape f.cut_fit in
+              let c = cut_of kinds defs G L parts inputs v means.recover_shape n (block_of L o) S (arguments_of o) args.value args.nodes in
+              let hypothesis = f.hypothesis_is ∙ both_hold (is_set v S.related) (is_set v c.value.reached) from.0 left.reached in
+              recovery_refutes kinds defs G L parts inputs v means.recover_shape means.recover_whole typed.memory_shapes o n f.hypothesis S.from.vars args.value
+              c.value.fallen out.nodes out.value f.recovers k.sided x step (record { answer = w.recovery.answer; to = w.to; side = settled L w.fallen }) w.fallen
+              wakes.0 wakes.1 bits_are.wake left.fallen_is refl hypothesis w.fails,
+        )
 
     pub fall_term : IsTermOf final (record { layer = L; below = G; obligation = o }) (fall_made kinds defs G L o start S nodes).value
     fall_term = term_is L G o parts.glue (fall_made kinds defs G L o start S nodes).nodes final (fall_made kinds defs G L o start S nodes).value frame.bank g

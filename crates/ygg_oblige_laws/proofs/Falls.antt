@@ -1,6 +1,6 @@
 -- Runs over terms that power cuts, a recovery after them, and whether the specification's step passes then.
-use Rattle.std.proofs.Common.{◌≡◌, ◌==◌, ◌&&◌, ◌||◌, not, ℕ, Bool, true, false, List, [], refl, sym, ap, ◌∙◌, subst}
-use Rattle.std.specs.Prelude.{IsTrue, Option}
+use Rattle.std.proofs.Common.{◌≡◌, ◌&&◌, ◌||◌, not, true, List, [], ap, ◌∙◌, subst}
+use Rattle.std.specs.Prelude.{Option}
 use Rattle.ygg_value.specs.declared.operation.Op.TheVariants.{And, Imp}
 use Rattle.ygg_value.specs.declared.shape.Shape.{Shape}
 use Rattle.ygg_syntax.specs.declared.tree.Block.{Block}
@@ -23,7 +23,7 @@ use Rattle.ygg_bank.specs.declared.node.Node.{Node}
 use Rattle.ygg_bank.specs.declared.node.Node.TheVariants.{Bin}
 use Rattle.ygg_shape_cells.specs.declared.terms.SymValue.{SymValue}
 use Rattle.ygg_sym_expr.specs.Meaning.{Grows, Gives}
-use Rattle.ygg_sym_runs.specs.Meaning.{answer_worth, is_set}
+use Rattle.ygg_sym_runs.specs.Meaning.{is_set}
 use Rattle.ygg_sym_below.specs.Lows.{LowShaped, low_worth}
 use Rattle.ygg_sym_below.specs.StopTerms.{SymFallen}
 use Rattle.ygg_sym_below.proofs.Lows.{low_wider}
@@ -35,7 +35,7 @@ use Rattle.ygg_oblige_terms.specs.Terms.{Finish, some_passes, recovered, cut_sho
 use Rattle.ygg_oblige_pieces.specs.Steps.{HasStep, variables_of, ObligationTyped, AnswerKept, StepIs, end_worth, PassesSo}
 use Rattle.ygg_oblige_laws.proofs.Digits.{both_is, implied_is}
 use Rattle.ygg_oblige_laws.proofs.Setting.{Ready, ready_wider, answer_wider}
-use Rattle.ygg_oblige_laws.proofs.Wholes.{begun, step_shaped, RecoveredSo, recovered_grows, recovered_gives}
+use Rattle.ygg_oblige_laws.proofs.Wholes.{begun, recovered_grows, recovered_gives}
 use Rattle.ygg_oblige_laws.specs.Parts.{PartsMean}
 
 module _ (kinds : List RuleKind) (defs : List Def) (G : Below) (L : ClosedLayer) (parts : PartsMean kinds defs G L) (inputs : Inputs) (v : Values)
@@ -108,14 +108,14 @@ module _ (kinds : List RuleKind) (defs : List Def) (G : Below) (L : ClosedLayer)
         let low_after = low_wider nodes r.nodes L.low fallen gr low_are in
         let side = parts.states.settled inputs v fallen r.nodes low_after hs in
         let after = λ (y : Schedule) (e : StepIs v L o vars args y). parts.steps.passes inputs v o vars args r.value y s.nodes has typed
-            (record {
-              vars_are = low_wider nodes s.nodes (variables_of L o) vars grs vars_are;
-              args_are = low_wider nodes s.nodes (arguments_of o) args grs args_are;
-              answer_shaped = answer_wider r.nodes s.nodes r.value.answer gs run.after.answer_shaped;
-              answer_kept = kept r.value;
-              memory_are = low_wider r.nodes s.nodes L.layer.memory (values_in r.value.vars) gs run.after.vars_are;
-              low_are = low_wider r.nodes s.nodes L.low r.value.to gs run.after.low_are;
-            }) e hp in
+        (record {
+          vars_are = low_wider nodes s.nodes (variables_of L o) vars grs vars_are;
+          args_are = low_wider nodes s.nodes (arguments_of o) args grs args_are;
+          answer_shaped = answer_wider r.nodes s.nodes r.value.answer gs run.after.answer_shaped;
+          answer_kept = kept r.value;
+          memory_are = low_wider r.nodes s.nodes L.layer.memory (values_in r.value.vars) gs run.after.vars_are;
+          low_are = low_wider r.nodes s.nodes L.low r.value.to gs run.after.low_are;
+        }) e hp in
         let q = after x st in
         let both = both_is inputs v kinds s.value p.value p.nodes (wider s.nodes p.nodes s.value 1 gp side.wide) q.wide hc in
         let gc_all = extends_both nodes s.nodes c.nodes grs (extends_both s.nodes p.nodes c.nodes gp gc) in

@@ -1,5 +1,5 @@
 -- Where an obligation's term is made: after the states that it begins with, in a list of nodes that a bank begins with.
-use Rattle.std.proofs.Common.{◌≡◌, ◌==◌, ◌≤◌, ◌+◌, ℕ, Bool, true, false, List, [], refl, sym, ap, ◌∙◌, subst}
+use Rattle.std.proofs.Common.{◌≡◌, ◌≤◌, ◌+◌, ℕ, false, List, []}
 use Rattle.std.specs.Prelude.{All}
 use Rattle.std.proofs.lemmas.List.Elements.{All-nil}
 use Rattle.ygg_syntax.specs.declared.tree.Def.{Def}
@@ -19,7 +19,7 @@ use Rattle.ygg_bank.specs.declared.node.Id.{Id}
 use Rattle.ygg_bank.specs.declared.node.Node.{Node}
 use Rattle.ygg_sym_runs.specs.Meaning.{is_set}
 use Rattle.ygg_sym_laws.specs.Means.{terms_of}
-use Rattle.ygg_oblige_terms.specs.Meaning.{Refuting, IsTermOf}
+use Rattle.ygg_oblige_terms.specs.Meaning.{IsTermOf}
 use Rattle.ygg_oblige_terms.specs.States.{Starting, words_in, state_words, starting}
 use Rattle.ygg_oblige_pieces.specs.Inputs.{Part, PartFits, glued, GluedMeans}
 use Rattle.ygg_oblige_pieces.specs.States.{given_stand, StartsSo, StatesStand}

@@ -1,7 +1,6 @@
 -- The inputs that the terms of obligations have: those of their numbers alone.
-use Rattle.std.proofs.Common.{◌≡◌, ◌<◌, ◌≤◌, ◌+◌, ◌*◌, ℕ, List, [], ◌∷◌, arith}
-use Rattle.std.specs.Prelude.{Option, Some, None}
-use Rattle.ygg_value.specs.Words.{word}
+use Rattle.std.proofs.Common.{◌≤◌, ◌+◌, ◌*◌, ℕ, List, [], arith}
+use Rattle.std.specs.Prelude.{Option}
 use Rattle.ygg_value.specs.declared.operation.Op.TheVariants.{And, Imp}
 use Rattle.ygg_value.specs.declared.shape.Shape.{Shape}
 use Rattle.ygg_syntax.specs.declared.tree.Block.{Block}
@@ -12,8 +11,8 @@ use Rattle.ygg_meaning.specs.Obligations.{Obligation, Init, CallOf, CutOf, TickO
 use Rattle.ygg_meaning.specs.Refines.{Below}
 use Rattle.ygg_rules.specs.declared.rule.RuleKind.{RuleKind}
 use Rattle.ygg_bank.proofs.Inputs.{made_keeps}
-use Rattle.ygg_bank.specs.Inputs.{InputsBelow, NoInput}
-use Rattle.ygg_bank.specs.Makes.{Make, pure, and_make}
+use Rattle.ygg_bank.specs.Inputs.{InputsBelow}
+use Rattle.ygg_bank.specs.Makes.{Make, and_make}
 use Rattle.ygg_bank.specs.Making.{made}
 use Rattle.ygg_bank.specs.declared.node.Id.{Id}
 use Rattle.ygg_bank.specs.declared.node.Node.{Node}
@@ -21,10 +20,9 @@ use Rattle.ygg_bank.specs.declared.node.Node.TheVariants.{Bin}
 use Rattle.ygg_shape_cells.specs.declared.terms.SymValue.{SymValue}
 use Rattle.ygg_sym_expr.proofs.Keeps.{Keeps}
 use Rattle.ygg_sym_runs.proofs.Below.{below_more}
-use Rattle.ygg_sym_below.specs.StopTerms.{SymFallen}
 use Rattle.ygg_sym_laws.specs.Below.{places_on, failure_room, zeros_made, lows_at_start, lost_made}
-use Rattle.ygg_sym_laws.specs.Means.{terms_of, values_in, WholeMeans, FallMeans, LossMeans, StartMeans}
-use Rattle.ygg_oblige_terms.specs.Numbers.{Numbers, numbers_of, arguments_of, block_of}
+use Rattle.ygg_sym_laws.specs.Means.{terms_of, values_in, WholeMeans, FallMeans}
+use Rattle.ygg_oblige_terms.specs.Numbers.{Numbers, numbers_of, arguments_of}
 use Rattle.ygg_oblige_terms.specs.States.{Starting, words_in, fresh_all, all_compared, settled_made}
 use Rattle.ygg_oblige_terms.specs.Terms.{
   Finish,
@@ -40,7 +38,6 @@ use Rattle.ygg_oblige_terms.specs.Terms.{
   term_made,
 }
 use Rattle.ygg_oblige_pieces.specs.States.{AddsNoInputs}
-use Rattle.ygg_oblige_laws.proofs.Wholes.{begun, woken}
 use Rattle.ygg_oblige_laws.specs.LayerMeans.{LayerMeans}
 use Rattle.ygg_oblige_laws.specs.ObligationMeans.{ObligationKnown}
 use Rattle.ygg_oblige_laws.specs.Parts.{PartsMean}

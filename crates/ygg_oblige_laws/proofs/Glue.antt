@@ -1,42 +1,25 @@
 -- One environment for all that a schedule speaks of: its states, its arguments, and the picks and stops of its runs.
-use Rattle.std.proofs.Common.{◌≡◌, ◌≤◌, ◌+◌, ◌*◌, ◌&&◌, ℕ, Bool, true, List, [], ◌∷◌, refl, sym, ap, ◌∙◌, subst, arith}
+use Rattle.std.proofs.Common.{◌≡◌, ◌≤◌, ◌+◌, ◌*◌, ◌&&◌, ℕ, Bool, true, List, [], ◌∷◌, sym, ap, ◌∙◌, subst, arith}
 use Rattle.std.proofs.lemmas.List.Elements.{All-nil, All-cons, All-head, All-tail}
 use Rattle.std.specs.Prelude.{All}
-use Rattle.ygg_syntax.specs.declared.tree.Block.{Block}
-use Rattle.ygg_syntax.specs.declared.tree.Def.{Def}
 use Rattle.ygg_type_sound.proofs.Tests.{left, right}
 use Rattle.ygg_meaning.specs.Environments.{Env}
 use Rattle.ygg_meaning.specs.Layer.{ClosedLayer}
 use Rattle.ygg_meaning.specs.Obligations.{Schedule, Obligation}
 use Rattle.ygg_meaning.specs.Refines.{Below}
-use Rattle.ygg_meaning.specs.Related.{shaped, all_true, relates, settles}
+use Rattle.ygg_meaning.specs.Related.{shaped, all_true, relates}
 use Rattle.ygg_meaning.specs.Shapes.{env_fits}
-use Rattle.ygg_rules.specs.declared.rule.RuleKind.{RuleKind}
-use Rattle.ygg_bank.specs.Nodes.{Extends}
 use Rattle.ygg_bank.specs.Values.{Inputs, Values}
 use Rattle.ygg_bank.specs.declared.node.Node.{Node}
 use Rattle.ygg_sym_runs.specs.Meaning.{is_set}
-use Rattle.ygg_sym_below.specs.Lows.{low_worth}
 use Rattle.ygg_sym_laws.specs.Below.{places_on, failure_room}
 use Rattle.ygg_sym_laws.specs.Means.{AreBits}
 use Rattle.ygg_oblige_terms.specs.Layers.{ShapesKept}
-use Rattle.ygg_oblige_terms.specs.Numbers.{Numbers, numbers_of, arguments_of, block_of}
+use Rattle.ygg_oblige_terms.specs.Numbers.{Numbers, numbers_of, block_of}
 use Rattle.ygg_oblige_terms.specs.States.{Starting, words_in, state_words}
-use Rattle.ygg_oblige_pieces.specs.Inputs.{
-  given_env,
-  AreDigits,
-  EnvDigits,
-  InputsStand,
-  Part,
-  InTurn,
-  PartFits,
-  env_part,
-  bits_part,
-  FreshMeans,
-  GluedMeans,
-}
+use Rattle.ygg_oblige_pieces.specs.Inputs.{given_env, AreDigits, EnvDigits, Part, InTurn, PartFits, env_part, bits_part, FreshMeans, GluedMeans}
 use Rattle.ygg_oblige_pieces.specs.States.{given_stand, StartsSo, StatesStand}
-use Rattle.ygg_oblige_pieces.specs.Worth.{Stand, trio_worth}
+use Rattle.ygg_oblige_pieces.specs.Worth.{Stand}
 use Rattle.ygg_oblige_laws.proofs.Setting.{FromIs}
 
 -- the picks of a run, its stops, the picks of a failure, and those of a recovery and of another
@@ -173,19 +156,22 @@ module _ (L : ClosedLayer) (number : ℕ) (x : Schedule) where
       let v_is = s.vars.give inputs number (All-head P vars (memory ∷ low ∷ rest) a) in
       let m_is = s.memory.give inputs memory_at (All-head P memory (low ∷ rest) b) in
       let l_is = s.low.give inputs low_at (All-head P low rest c) in
-      let stand = λ (e m l : Env). let z : Stand = record { vars = e; memory = m; low = l } in z in
-      (ap (λ e. stand e (given_env inputs memory_at L.layer.memory) (given_env inputs low_at L.low)) v_is
-      ∙ ap (λ m. stand x.state m (given_env inputs low_at L.low)) m_is ∙ ap (λ l. stand x.state x.memory l) l_is,
-      All-tail P low rest c)
+      let stand = λ (e m l : Env). let z : Stand = record { vars = e; memory = m; low = l } in z in (
+        ap (λ e. stand e (given_env inputs memory_at L.layer.memory) (given_env inputs low_at L.low)) v_is
+            ∙ ap (λ m. stand x.state m (given_env inputs low_at L.low)) m_is ∙ ap (λ l. stand x.state x.memory l) l_is,
+        All-tail P low rest c,
+      )
 
   -- the states that an obligation begins with are those of the schedule, of which the relation holds
   pub from_there : (v : Values) (nodes : List Node) (S : Starting) → StartsSo v L stand_of nodes S → all_true (relates L x.state x.memory x.low) ≡ true →
       (is_set v S.related ≡ true) × FromIs v L S x
   from_there v nodes S starts h =
       let set = starts.related.relates ∙ h in
-      let same = sym (starts.from set) in
-      (set, record {
-        vars_is = ap (λ (z : Stand). z.vars) same;
-        memory_is = ap (λ (z : Stand). z.memory) same;
-        low_is = ap (λ (z : Stand). z.low) same;
-      })
+      let same = sym (starts.from set) in (
+        set,
+        record {
+          vars_is = ap (λ (z : Stand). z.vars) same;
+          memory_is = ap (λ (z : Stand). z.memory) same;
+          low_is = ap (λ (z : Stand). z.low) same;
+        },
+      )

@@ -1,5 +1,5 @@
 -- The terms of a layer's obligations, and of a file's, mean them.
-use Rattle.std.proofs.Common.{◌≡◌, ◌≤◌, ◌+◌, ℕ, List, [], ◌∷◌, ◌++◌, map, arith}
+use Rattle.std.proofs.Common.{◌≤◌, ◌+◌, ℕ, List, [], ◌∷◌, ◌++◌, map, arith}
 use Rattle.std.proofs.lemmas.List.Elements.{All-head, All-tail}
 use Rattle.std.specs.Prelude.{All}
 use Rattle.ygg_syntax.specs.declared.tree.Def.{Def}
@@ -27,7 +27,7 @@ use Rattle.ygg_oblige_laws.proofs.EachKind.{term_grows, term_means, all_known}
 use Rattle.ygg_oblige_laws.proofs.Frame.{Frame}
 use Rattle.ygg_oblige_laws.proofs.Free.{term_below}
 use Rattle.ygg_oblige_laws.specs.LayerMeans.{LayerMeans}
-use Rattle.ygg_oblige_laws.specs.Layers.{LayerKnown, LayersKnown}
+use Rattle.ygg_oblige_laws.specs.Layers.{LayersKnown}
 use Rattle.ygg_oblige_laws.specs.ObligationMeans.{ObligationKnown}
 use Rattle.ygg_oblige_laws.specs.Parts.{PartsMean}
 
@@ -100,9 +100,10 @@ module _ (kinds : List RuleKind) (defs : List Def) (G : Below) (L : ClosedLayer)
         let later = extends_both started nodes t.nodes g gt in
         let tail = All-tail Known o os k in
         let rest = terms_made kinds (terms_of kinds defs) L G S os n.next t.nodes in
-        let after = terms_grow os n.next t.nodes tail later bt (omega arith) in
-        (term_means kinds defs G L parts means typed number before start nodes final frame o known (extends_both t.nodes rest.nodes final after f),
-        terms_mean os n.next t.nodes tail later bt (omega arith) f)
+        let after = terms_grow os n.next t.nodes tail later bt (omega arith) in (
+          term_means kinds defs G L parts means typed number before start nodes final frame o known (extends_both t.nodes rest.nodes final after f),
+          terms_mean os n.next t.nodes tail later bt (omega arith) f,
+        )
 
     pub layer_grows : Extends before (layer_made kinds (terms_of kinds defs) L G number before).nodes
     layer_grows =

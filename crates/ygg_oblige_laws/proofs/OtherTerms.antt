@@ -1,16 +1,15 @@
 -- The terms of the other obligations: formatting, power loss between operations, and a recovery after another.
-use Rattle.std.proofs.Common.{◌≡◌, ◌==◌, ◌≤◌, ◌&&◌, ◌+◌, ℕ, Bool, true, false, List, [], ◌∷◌, refl, sym, ap, ◌∙◌, subst, arith}
+use Rattle.std.proofs.Common.{◌≡◌, ◌≤◌, ◌&&◌, ◌+◌, ℕ, Bool, true, false, List, [], ◌∷◌, refl, sym, ap, ◌∙◌, subst, arith}
 use Rattle.std.proofs.lemmas.List.Elements.{All-cons, All-head, All-tail}
 use Rattle.std.specs.Prelude.{All, None}
 use Rattle.ygg_oblige_pieces.specs.Steps.{end_worth}
 use Rattle.ygg_syntax.specs.declared.tree.Def.{Def}
 use Rattle.ygg_type_sound.proofs.Tests.{right}
-use Rattle.ygg_meaning.specs.Environments.{Env}
 use Rattle.ygg_meaning.specs.Layer.{ClosedLayer, BlockRuns}
-use Rattle.ygg_meaning.specs.Machine.{Picks, State, on, based}
-use Rattle.ygg_meaning.specs.Obligations.{Schedule, Obligation, Init, Idle, Again}
+use Rattle.ygg_meaning.specs.Machine.{on}
+use Rattle.ygg_meaning.specs.Obligations.{Schedule, Init, Idle, Again}
 use Rattle.ygg_meaning.specs.Refines.{Below, machine_below}
-use Rattle.ygg_meaning.specs.Related.{all_true, settles, settled}
+use Rattle.ygg_meaning.specs.Related.{all_true, settles}
 use Rattle.ygg_meaning.specs.Shapes.{env_fits, zeros_of}
 use Rattle.ygg_meaning.specs.Violates.{End, Violates}
 use Rattle.ygg_rules.specs.declared.rule.RuleKind.{RuleKind}
@@ -23,17 +22,15 @@ use Rattle.ygg_bank.specs.declared.node.Id.{Id}
 use Rattle.ygg_bank.specs.declared.node.Node.{Node}
 use Rattle.ygg_sym_expr.specs.Meaning.{Grows}
 use Rattle.ygg_sym_runs.specs.Meaning.{is_set}
-use Rattle.ygg_sym_below.specs.Lows.{LowShaped, low_worth}
 use Rattle.ygg_sym_laws.specs.Below.{lost_made}
-use Rattle.ygg_sym_laws.specs.Means.{terms_of, LossMeans, EndsSo}
+use Rattle.ygg_sym_laws.specs.Means.{terms_of}
 use Rattle.ygg_oblige_terms.specs.Layers.{LayerTyped}
 use Rattle.ygg_oblige_terms.specs.Meaning.{IsTermOf}
-use Rattle.ygg_oblige_terms.specs.Numbers.{Numbers, numbers_of}
+use Rattle.ygg_oblige_terms.specs.Numbers.{numbers_of}
 use Rattle.ygg_oblige_terms.specs.States.{Starting, words_in, state_words}
 use Rattle.ygg_oblige_terms.specs.Terms.{formats, recovers, recovers_again}
-use Rattle.ygg_oblige_pieces.specs.Inputs.{given_env, AreDigits, Part, PartFits, InTurn, glued, env_part}
+use Rattle.ygg_oblige_pieces.specs.Inputs.{AreDigits, Part, PartFits, InTurn, glued, env_part}
 use Rattle.ygg_oblige_pieces.specs.States.{given_stand, StartsSo}
-use Rattle.ygg_oblige_pieces.specs.Worth.{Stand}
 use Rattle.ygg_oblige_laws.proofs.Again.{AgainSo, again_gives, again_grows}
 use Rattle.ygg_oblige_laws.proofs.Falls.{RecoversSo, recovers_give, recovers_grows}
 use Rattle.ygg_oblige_laws.proofs.FallTerms.{recovery_there}
@@ -54,7 +51,7 @@ use Rattle.ygg_oblige_laws.proofs.Glue.{
   low_at,
 }
 use Rattle.ygg_oblige_laws.proofs.Refutes.{end_is, recovery_refutes, again_refutes}
-use Rattle.ygg_oblige_laws.proofs.Schedules.{with_side, Fails, fails_unset}
+use Rattle.ygg_oblige_laws.proofs.Schedules.{Fails, fails_unset}
 use Rattle.ygg_oblige_laws.proofs.Setting.{ready_wider}
 use Rattle.ygg_oblige_laws.proofs.Shows.{init_shows, idle_shows, again_shows, related_there, settled_there, schedule_of}
 use Rattle.ygg_oblige_laws.specs.LayerMeans.{LayerMeans}
@@ -95,14 +92,17 @@ module _ (kinds : List RuleKind) (defs : List Def) (G : Below) (L : ClosedLayer)
         let bits : AllBits = record { run = back.0; stop = no_bits; last = no_bits; wake = no_bits; other = no_bits } in
         let ps = bit_parts G L Init start bits in
         let inputs = glued ps in
-        let bits_are = bits_there G L Init start parts.glue inputs bits (parts.glue.digits start ps (bits_turn G L Init start bits start (omega arith))) in
-        (ps, bits_fit G L Init start parts.glue final bits, λ v h.
-        let s = init_so inputs v h in
-        let ends = s.ends back.0 f.lower f.first f.answer e.to f.starts back.1 bits_are.run in
-        let e' : End = record { answer = f.answer; to = e.to; side = e.side } in
-        let same = end_is kinds defs G L parts inputs v L.layer.format [] e' s.end ends in
-        fails_unset v L Init x (init_made nodes).nodes (init_made nodes).value (end_worth v L s.end true) (s.passes x)
-        (subst (λ z. Fails L Init x z) (sym same) violates.fails))
+        let bits_are = bits_there G L Init start parts.glue inputs bits (parts.glue.digits start ps (bits_turn G L Init start bits start (omega arith))) in (
+          ps,
+          bits_fit G L Init start parts.glue final bits,
+          λ v h.
+              let s = init_so inputs v h in
+              let ends = s.ends back.0 f.lower f.first f.answer e.to f.starts back.1 bits_are.run in
+              let e' : End = record { answer = f.answer; to = e.to; side = e.side } in
+              let same = end_is kinds defs G L parts inputs v L.layer.format [] e' s.end ends in
+              fails_unset v L Init x (init_made nodes).nodes (init_made nodes).value (end_worth v L s.end true) (s.passes x)
+              (subst (λ z. Fails L Init x z) (sym same) violates.fails),
+        )
 
     pub init_term : IsTermOf final (record { layer = L; below = G; obligation = Init }) (init_made nodes).value
     init_term = term_is L G Init parts.glue (init_made nodes).nodes final (init_made nodes).value frame.bank g
@@ -170,18 +170,21 @@ module _ (kinds : List RuleKind) (defs : List Def) (G : Below) (L : ClosedLayer)
         let stand = stand_so kinds defs G L parts number before start nodes final frame idle_rest in
         let turn : InTurn number ps = states_turn L number x ds rest (bits_turn G L Idle start bits (number + state_words L) run_room) in
         let given = states_given L number x ds rest inputs (parts.glue.digits number ps turn) in
-        let bits_are = bits_there G L Idle start parts.glue inputs bits given.1 in
-        (ps, states_fit L number x parts.glue ds rest final stand (bits_fit G L Idle start parts.glue final bits), λ v h.
-        let first = states kinds defs G L parts number before start nodes final frame in
-        let starts = subst (λ s. StartsSo v L s first.nodes S) given.0
-        (starts_so kinds defs G L parts number before start nodes final frame inputs v idle_rest h) in
-        let from = from_there L number x v first.nodes S starts m.hypotheses in
-        let ready = ready_so kinds defs G L parts number before start nodes final frame inputs v idle_rest h in
-        let l = lost_made kinds (terms_of kinds defs) G n.last S.from.low nodes in
-        let left_is = back.1 inputs v n.last S.from.low nodes ready.from.low (lost_fit inputs v h) (sym from.1.low_is) bits_are.last in
-        recovery_refutes kinds defs G L parts inputs v means.recover_shape means.recover_whole typed.memory_shapes Idle n S.related S.from.vars [] l.value
-        (idle_made nodes).nodes (idle_made nodes).value (idle_so inputs v h) (λ a b. refl) x from.1.vars_is
-        (record { answer = recovery.answer; to = e.to; side = e.side }) r.fallen wakes.0 wakes.1 bits_are.wake left_is r.side from.0 violates.fails)
+        let bits_are = bits_there G L Idle start parts.glue inputs bits given.1 in (
+          ps,
+          states_fit L number x parts.glue ds rest final stand (bits_fit G L Idle start parts.glue final bits),
+          λ v h.
+              let first = states kinds defs G L parts number before start nodes final frame in
+              let starts = subst (λ s. StartsSo v L s first.nodes S) given.0
+              (starts_so kinds defs G L parts number before start nodes final frame inputs v idle_rest h) in
+              let from = from_there L number x v first.nodes S starts m.hypotheses in
+              let ready = ready_so kinds defs G L parts number before start nodes final frame inputs v idle_rest h in
+              let l = lost_made kinds (terms_of kinds defs) G n.last S.from.low nodes in
+              let left_is = back.1 inputs v n.last S.from.low nodes ready.from.low (lost_fit inputs v h) (sym from.1.low_is) bits_are.last in
+              recovery_refutes kinds defs G L parts inputs v means.recover_shape means.recover_whole typed.memory_shapes Idle n S.related S.from.vars [] l.value
+              (idle_made nodes).nodes (idle_made nodes).value (idle_so inputs v h) (λ a b. refl) x from.1.vars_is
+              (record { answer = recovery.answer; to = e.to; side = e.side }) r.fallen wakes.0 wakes.1 bits_are.wake left_is r.side from.0 violates.fails,
+        )
       where
         run_room : number + state_words L ≤ (numbers_of G L Idle start).run
         run_room = let r = frame.room in omega arith
@@ -243,16 +246,19 @@ module _ (kinds : List RuleKind) (defs : List Def) (G : Below) (L : ClosedLayer)
         let turn : InTurn at ps = (omega arith, bits_turn G L Again start bits (at + words_in L.low) run_room) in
         let digits = parts.glue.digits at ps turn in
         let low_is = low.give inputs at (All-head D one rest digits) in
-        let bits_are = bits_there G L Again start parts.glue inputs bits (All-tail D one rest digits) in
-        (ps, fit, λ v h.
-        let first = states kinds defs G L parts number before start nodes final frame in
-        let starts = starts_so kinds defs G L parts number before start nodes final frame inputs v again_rest h in
-        let set = starts.settled.settles ∙ ap (λ z. all_true (settles L z)) low_is ∙ m.hypotheses in
-        let from = starts.low set ∙ low_is in
-        let unset = sym r.side ∙ violates.fails [] refl in
-        again_refutes kinds defs G L parts inputs v means.recover_shape means.recover_whole typed.memory_shapes n S (again_made nodes).nodes (again_made nodes).value
-        (again_so inputs v h) x.low r.fallen back.0 back.1 (record { run_is = bits_are.run; stop_is = bits_are.stop; last_is = bits_are.last })
-        wakes.0 recovery.answer e.to wakes.1 bits_are.wake others.0 r.answer r.to others.1 bits_are.other from set unset)
+        let bits_are = bits_there G L Again start parts.glue inputs bits (All-tail D one rest digits) in (
+          ps,
+          fit,
+          λ v h.
+              let first = states kinds defs G L parts number before start nodes final frame in
+              let starts = starts_so kinds defs G L parts number before start nodes final frame inputs v again_rest h in
+              let set = starts.settled.settles ∙ ap (λ z. all_true (settles L z)) low_is ∙ m.hypotheses in
+              let from = starts.low set ∙ low_is in
+              let unset = sym r.side ∙ violates.fails [] refl in
+              again_refutes kinds defs G L parts inputs v means.recover_shape means.recover_whole typed.memory_shapes n S (again_made nodes).nodes (again_made nodes).value
+              (again_so inputs v h) x.low r.fallen back.0 back.1 (record { run_is = bits_are.run; stop_is = bits_are.stop; last_is = bits_are.last })
+              wakes.0 recovery.answer e.to wakes.1 bits_are.wake others.0 r.answer r.to others.1 bits_are.other from set unset,
+        )
       where
         run_room : number + words_in L.layer.state + words_in L.layer.memory + words_in L.low ≤ (numbers_of G L Again start).run
         run_room = let r = frame.room in omega arith

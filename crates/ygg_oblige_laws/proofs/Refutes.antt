@@ -1,5 +1,5 @@
 -- Where the runs over terms end as those of a schedule do that violates an obligation, the obligation's term is 0.
-use Rattle.std.proofs.Common.{◌≡◌, ◌==◌, ◌&&◌, ◌||◌, not, ℕ, Bool, true, false, List, [], refl, sym, ap, ◌∙◌, subst}
+use Rattle.std.proofs.Common.{◌≡◌, ◌&&◌, ℕ, Bool, true, false, List, [], refl, sym, ap, ◌∙◌, subst}
 use Rattle.std.specs.Prelude.{Option}
 use Rattle.ygg_value.specs.declared.shape.Shape.{Shape}
 use Rattle.ygg_syntax.specs.declared.tree.Block.{Block}
@@ -7,9 +7,9 @@ use Rattle.ygg_syntax.specs.declared.tree.Declared.{Declared}
 use Rattle.ygg_syntax.specs.declared.tree.Def.{Def}
 use Rattle.ygg_meaning.specs.Environments.{Env}
 use Rattle.ygg_meaning.specs.Layer.{ClosedLayer}
-use Rattle.ygg_meaning.specs.Machine.{State, on, based}
+use Rattle.ygg_meaning.specs.Machine.{State}
 use Rattle.ygg_meaning.specs.Progress.{Answer}
-use Rattle.ygg_meaning.specs.Obligations.{Schedule, Obligation, Init}
+use Rattle.ygg_meaning.specs.Obligations.{Schedule, Obligation}
 use Rattle.ygg_meaning.specs.Refines.{Below}
 use Rattle.ygg_meaning.specs.Related.{settled}
 use Rattle.ygg_meaning.specs.Shapes.{zeros_of}
@@ -19,10 +19,10 @@ use Rattle.ygg_bank.specs.Values.{Inputs, Values, Fits}
 use Rattle.ygg_bank.specs.declared.node.Id.{Id}
 use Rattle.ygg_bank.specs.declared.node.Node.{Node}
 use Rattle.ygg_shape_cells.specs.declared.terms.SymValue.{SymValue}
-use Rattle.ygg_sym_runs.specs.Meaning.{answer_worth, is_set}
+use Rattle.ygg_sym_runs.specs.Meaning.{is_set}
 use Rattle.ygg_sym_below.specs.Lows.{LowShaped, low_worth}
 use Rattle.ygg_sym_laws.specs.Below.{places_on}
-use Rattle.ygg_sym_laws.specs.Means.{AreBits, terms_of, values_in, Begins, AreWorth, EndsSo, WholeMeans, FallMeans, FallBits, AreFallBits, FallsTo}
+use Rattle.ygg_sym_laws.specs.Means.{AreBits, terms_of, Begins, AreWorth, EndsSo, WholeMeans, FallBits, AreFallBits, FallsTo}
 use Rattle.ygg_oblige_terms.specs.Layers.{ShapesKept}
 use Rattle.ygg_oblige_terms.specs.Numbers.{Numbers, arguments_of}
 use Rattle.ygg_oblige_terms.specs.States.{Starting}
@@ -30,7 +30,7 @@ use Rattle.ygg_oblige_terms.specs.Terms.{Finish, ran, recovered}
 use Rattle.ygg_oblige_pieces.specs.Steps.{StepIs, end_worth, PassesSo}
 use Rattle.ygg_oblige_laws.proofs.Again.{cut_again, ends_alike, AgainSo}
 use Rattle.ygg_oblige_laws.proofs.Digits.{refutes, both_hold}
-use Rattle.ygg_oblige_laws.proofs.Falls.{cut_of, RecoversSo, FallsSo}
+use Rattle.ygg_oblige_laws.proofs.Falls.{cut_of, RecoversSo}
 use Rattle.ygg_oblige_laws.proofs.Schedules.{with_side, Sided, Unsided, Fails, unsided_unset, sided_unset}
 use Rattle.ygg_oblige_laws.proofs.Setting.{Ready, FromIs, EndsWith, FallsWith}
 use Rattle.ygg_oblige_laws.proofs.Wholes.{begun, woken, RunsSo, recovered_ends}

@@ -1,5 +1,5 @@
 -- The terms of obligations that speak of a whole run.
-use Rattle.std.proofs.Common.{◌≡◌, ◌==◌, ◌+◌, ℕ, Bool, true, false, List, [], ◌∷◌, refl, sym, ap, ◌∙◌, subst, arith}
+use Rattle.std.proofs.Common.{◌≡◌, ◌+◌, ℕ, true, false, List, [], ◌∷◌, sym, ◌∙◌, subst, arith}
 use Rattle.std.proofs.lemmas.List.Elements.{All-cons, All-head, All-tail}
 use Rattle.std.specs.Prelude.{IsTrue, All, Option}
 use Rattle.ygg_value.specs.declared.shape.Shape.{Shape}
@@ -166,19 +166,22 @@ module _ (kinds : List RuleKind) (defs : List Def) (G : Below) (L : ClosedLayer)
         let turn : InTurn number ps = states_turn L number x ds rest (frame.room, bits_turn G L o start bits (start + words_in (arguments_of o)) (omega arith)) in
         let given = states_given L number x ds rest inputs (parts.glue.digits number ps turn) in
         let args_are = words.give inputs start (All-head D arg bs given.1) in
-        let bits_are = bits_there G L o start parts.glue inputs bits (All-tail D arg bs given.1) in
-        (ps, fit, λ v h.
-        let first = states kinds defs G L parts number before start nodes final frame in
-        let starts = subst (λ s. StartsSo v L s first.nodes S) given.0 (starts_so kinds defs G L parts number before start nodes final frame inputs v gf h) in
-        let from = from_there L number x v first.nodes S starts w.holds in
-        let a = args_so inputs v h in
-        let given_is : w.given ≡ low_worth v (arguments_of o) args.value = sym args_are ∙ sym a.1.is in
-        let step = w.step v S.from.vars args.value from.1.vars_is given_is in
-        let ready = ready_wider L S nodes args.nodes ga (ready_so kinds defs G L parts number before start nodes final frame inputs v gf h) in
-        let ran_fit = run_fit kinds defs G L parts inputs v o (block_of L o) k.shape k.whole k.has k.typed (k.kept v) k.state n S args.value args.nodes
-        (fits_fewer inputs v out.nodes final g h) in
-        run_refutes kinds defs G L parts inputs v o (block_of L o) S args.value args.nodes ready a.1.shaped x w.given step from.1 given_is n out.nodes out.value
-        ran_fit (runs_so inputs v h) k.unsided w.end back.0 back.1 bits_are.run from.0 w.fails)
+        let bits_are = bits_there G L o start parts.glue inputs bits (All-tail D arg bs given.1) in (
+          ps,
+          fit,
+          λ v h.
+              let first = states kinds defs G L parts number before start nodes final frame in
+              let starts = subst (λ s. StartsSo v L s first.nodes S) given.0 (starts_so kinds defs G L parts number before start nodes final frame inputs v gf h) in
+              let from = from_there L number x v first.nodes S starts w.holds in
+              let a = args_so inputs v h in
+              let given_is : w.given ≡ low_worth v (arguments_of o) args.value = sym args_are ∙ sym a.1.is in
+              let step = w.step v S.from.vars args.value from.1.vars_is given_is in
+              let ready = ready_wider L S nodes args.nodes ga (ready_so kinds defs G L parts number before start nodes final frame inputs v gf h) in
+              let ran_fit = run_fit kinds defs G L parts inputs v o (block_of L o) k.shape k.whole k.has k.typed (k.kept v) k.state n S args.value args.nodes
+              (fits_fewer inputs v out.nodes final g h) in
+              run_refutes kinds defs G L parts inputs v o (block_of L o) S args.value args.nodes ready a.1.shaped x w.given step from.1 given_is n out.nodes out.value
+              ran_fit (runs_so inputs v h) k.unsided w.end back.0 back.1 bits_are.run from.0 w.fails,
+        )
 
     pub run_term : IsTermOf final (record { layer = L; below = G; obligation = o }) (run_made kinds defs G L o start S nodes).value
     run_term = term_is L G o parts.glue (run_made kinds defs G L o start S nodes).nodes final (run_made kinds defs G L o start S nodes).value frame.bank g

@@ -1,5 +1,5 @@
 -- Schedules that are made of what terms are worth, and ends with something on the side.
-use Rattle.std.proofs.Common.{◌≡◌, ◌&&◌, ℕ, Bool, true, false, List, [], ◌∷◌, ◌++◌, map, length, take, replicate, refl, sym, ap, ◌∙◌}
+use Rattle.std.proofs.Common.{◌≡◌, ◌&&◌, Bool, true, false, List, [], ◌∷◌, length, replicate, refl, sym, ap, ◌∙◌}
 use Rattle.std.proofs.Math.Seq.{take-append_seam}
 use Rattle.ygg_value.specs.declared.row.Value.{Value}
 use Rattle.ygg_syntax.specs.declared.tree.Declared.{Declared}
@@ -7,7 +7,7 @@ use Rattle.ygg_type_sound.proofs.Tests.{left, right, bytes_equal}
 use Rattle.ygg_meaning.specs.Environments.{Env, bind}
 use Rattle.ygg_meaning.specs.Shapes.{shape_in, fits, values_fit, env_fits}
 use Rattle.ygg_meaning.specs.Layer.{ClosedLayer}
-use Rattle.ygg_meaning.specs.Machine.{Picks, State, based, Machine}
+use Rattle.ygg_meaning.specs.Machine.{Picks, State, based}
 use Rattle.ygg_meaning.specs.Obligations.{Schedule, Obligation, IsRead, NoPicksPass}
 use Rattle.ygg_meaning.specs.Refines.{Below, OnDisk, OnSpec, machine_below}
 use Rattle.ygg_meaning.specs.Spec.{Outcome}

@@ -1,21 +1,19 @@
 -- An environment in which the term of an obligation is 0 shows a schedule that violates the obligation.
-use Rattle.std.proofs.Common.{◌≡◌, ◌==◌, ◌&&◌, ◌||◌, not, ℕ, Bool, true, false, List, [], map, length, refl, sym, ap, ◌∙◌, subst}
-use Rattle.std.specs.Prelude.{IsTrue, Option, Some, None}
+use Rattle.std.proofs.Common.{◌≡◌, ◌&&◌, ℕ, Bool, true, false, List, [], map, length, refl, sym, ◌∙◌, subst}
+use Rattle.std.specs.Prelude.{Option, Some, None}
 use Rattle.ygg_value.specs.declared.row.Value.{Value}
 use Rattle.ygg_value.specs.declared.shape.Shape.{Shape}
-use Rattle.ygg_syntax.specs.declared.tree.Block.{Block}
 use Rattle.ygg_syntax.specs.declared.tree.Def.{Def}
 use Rattle.ygg_syntax.specs.declared.tree.Operation.{Operation}
 use Rattle.ygg_syntax.specs.declared.tree.Tick.{Tick}
 use Rattle.ygg_type_sound.proofs.Tests.{right}
-use Rattle.ygg_meaning.specs.Environments.{Env, bind}
 use Rattle.ygg_meaning.specs.Layer.{ClosedLayer, BlockFalls, Layered}
-use Rattle.ygg_meaning.specs.Machine.{Picks, State, on, based, Machine}
-use Rattle.ygg_meaning.specs.Obligations.{Schedule, Halt, IsRead, Obligation, Init, CallOf, CutOf, TickOf, CutTickOf, Idle, Again}
+use Rattle.ygg_meaning.specs.Machine.{Picks, on, based}
+use Rattle.ygg_meaning.specs.Obligations.{Schedule, Halt, IsRead, Init, CallOf, CutOf, TickOf, CutTickOf, Idle, Again}
 use Rattle.ygg_meaning.specs.Refines.{Below, machine_below}
 use Rattle.ygg_meaning.specs.Related.{shaped, all_true, relates, settles, settled}
-use Rattle.ygg_meaning.specs.Shapes.{values_fit, env_fits, zeros_of}
-use Rattle.ygg_meaning.specs.Violates.{End, CutShort, Recovers, Violates}
+use Rattle.ygg_meaning.specs.Shapes.{values_fit, env_fits}
+use Rattle.ygg_meaning.specs.Violates.{Recovers, Violates}
 use Rattle.ygg_rules.specs.declared.rule.RuleKind.{RuleKind}
 use Rattle.ygg_bank.specs.Values.{Inputs, Values, Fits}
 use Rattle.ygg_bank.specs.declared.node.Id.{Id}
@@ -24,23 +22,21 @@ use Rattle.ygg_shape_cells.specs.Terms.{worth}
 use Rattle.ygg_shape_cells.specs.declared.terms.SymValue.{SymValue}
 use Rattle.ygg_sym_runs.specs.Meaning.{answer_worth, is_set}
 use Rattle.ygg_sym_below.specs.Lows.{LowShaped, low_worth}
-use Rattle.ygg_sym_below.specs.StopTerms.{SymFallen}
 use Rattle.ygg_sym_below.proofs.Blocks.{values_worth}
-use Rattle.ygg_sym_below.proofs.Lows.{low_fits}
 use Rattle.ygg_sym_laws.specs.Means.{terms_of, WholeMeans, StartMeans}
 use Rattle.ygg_oblige_terms.specs.Layers.{ShapesKept}
 use Rattle.ygg_oblige_terms.specs.Numbers.{Numbers}
 use Rattle.ygg_oblige_terms.specs.States.{Starting}
 use Rattle.ygg_oblige_terms.specs.Terms.{Finish, recovered}
-use Rattle.ygg_oblige_pieces.specs.Steps.{StepIs, end_worth}
+use Rattle.ygg_oblige_pieces.specs.Steps.{end_worth}
 use Rattle.ygg_oblige_pieces.specs.States.{StartsSo}
-use Rattle.ygg_oblige_pieces.specs.Worth.{Stand, trio_worth}
+use Rattle.ygg_oblige_pieces.specs.Worth.{Stand}
 use Rattle.ygg_oblige_laws.proofs.Again.{ends_alike, cut_again, AgainSo}
 use Rattle.ygg_oblige_laws.proofs.Digits.{refuted, both_true, both_hold}
 use Rattle.ygg_oblige_laws.proofs.Falls.{RecoversSo, FallsSo, cut_of}
 use Rattle.ygg_oblige_laws.proofs.Formats.{FormatsSo}
-use Rattle.ygg_oblige_laws.proofs.Schedules.{reads, wakes_below, Sided, Fails, sided_fails}
-use Rattle.ygg_oblige_laws.proofs.Wholes.{begun, RunsSo, RecoveredSo, recovered_gives}
+use Rattle.ygg_oblige_laws.proofs.Schedules.{reads, wakes_below, sided_fails}
+use Rattle.ygg_oblige_laws.proofs.Wholes.{RunsSo, recovered_gives}
 use Rattle.ygg_oblige_laws.specs.Parts.{PartsMean}
 
 -- the states of a schedule are what those that an obligation begins with are worth
@@ -93,12 +89,14 @@ module _ (kinds : List RuleKind) (defs : List Def) (G : Below) (L : ClosedLayer)
       (shapes : ShapesKept L.layer.memory) (n : Numbers) (nodes : List Node) (out : Id) →
       FormatsSo kinds defs G L parts inputs v shape start whole shapes n nodes out → is_set v out ≡ false → (x : Schedule) × Violates L (machine_below G) Init x
   init_shows shape start whole shapes n nodes out f unset =
-      let x : Schedule = record { state = []; memory = []; low = []; args = []; stop = None; picks = f.taken; wake = []; other = [] } in
-      (x, record {
-        end = end_worth v L f.end true;
-        meets = record { shapes = refl; hypotheses = refl; reached = record { taken = f.taken; run = f.run; read = reads f.taken } };
-        fails = (f.passes x).none unset;
-      })
+      let x : Schedule = record { state = []; memory = []; low = []; args = []; stop = None; picks = f.taken; wake = []; other = [] } in (
+        x,
+        record {
+          end = end_worth v L f.end true;
+          meets = record { shapes = refl; hypotheses = refl; reached = record { taken = f.taken; run = f.run; read = reads f.taken } };
+          fails = (f.passes x).none unset;
+        },
+      )
 
   pub call_shows : (o : Operation) (S : Starting) (args : List SymValue) (end : Finish) (nodes old : List Node) (out : Id) → Fits inputs v old →
       LowShaped old o.arguments args → RunsSo kinds defs G L parts inputs v (CallOf o) o.implementation S args end nodes out →
@@ -106,32 +104,36 @@ module _ (kinds : List RuleKind) (defs : List Def) (G : Below) (L : ClosedLayer)
   call_shows o S args end nodes old out fit args_are r related unset =
       let z = refuted (is_set v S.related) (is_set v r.some) (sym r.is ∙ unset) in
       let s = related z.first in
-      let x = schedule_of v L S (map (worth v) args) None r.run.taken [] in
-      (x, record {
-        end = end_worth v L end true;
-        meets = record {
-          shapes = both_hold (shaped L x.state x.memory x.low) (values_fit o.arguments x.args) s.shapes (values_worth inputs v old o.arguments args fit args_are);
-          hypotheses = s.holds;
-          reached = record { taken = r.run.taken; run = r.run.run; read = reads r.run.taken };
-        };
-        fails = (r.passes x (refl, refl)).none z.second;
-      })
+      let x = schedule_of v L S (map (worth v) args) None r.run.taken [] in (
+        x,
+        record {
+          end = end_worth v L end true;
+          meets = record {
+            shapes = both_hold (shaped L x.state x.memory x.low) (values_fit o.arguments x.args) s.shapes (values_worth inputs v old o.arguments args fit args_are);
+            hypotheses = s.holds;
+            reached = record { taken = r.run.taken; run = r.run.run; read = reads r.run.taken };
+          };
+          fails = (r.passes x (refl, refl)).none z.second;
+        },
+      )
 
   pub tick_shows : (t : Tick) (S : Starting) (args : List SymValue) (end : Finish) (nodes : List Node) (out : Id) →
       RunsSo kinds defs G L parts inputs v (TickOf t) t.body S args end nodes out → (is_set v S.related ≡ true → Related v L S) → is_set v out ≡ false → (x : Schedule) × Violates L (machine_below G) (TickOf t) x
   tick_shows t S args end nodes out r related unset =
       let z = refuted (is_set v S.related) (is_set v r.some) (sym r.is ∙ unset) in
       let s = related z.first in
-      let x = schedule_of v L S [] None r.run.taken [] in
-      (x, record {
-        end = end_worth v L end true;
-        meets = record {
-          shapes = s.shapes;
-          hypotheses = s.holds;
-          reached = record { taken = r.run.taken; run = r.run.run; read = reads r.run.taken };
-        };
-        fails = (r.passes x refl).none z.second;
-      })
+      let x = schedule_of v L S [] None r.run.taken [] in (
+        x,
+        record {
+          end = end_worth v L end true;
+          meets = record {
+            shapes = s.shapes;
+            hypotheses = s.holds;
+            reached = record { taken = r.run.taken; run = r.run.run; read = reads r.run.taken };
+          };
+          fails = (r.passes x refl).none z.second;
+        },
+      )
 
   module _ (shape : Option Shape) (whole : WholeMeans kinds defs G L L.layer.recover L.layer.memory [] shape) (shapes : ShapesKept L.layer.memory) where
     -- a recovery over terms is one of the layer
@@ -140,15 +142,17 @@ module _ (kinds : List RuleKind) (defs : List Def) (G : Below) (L : ClosedLayer)
         (taken : Picks)
         × (Layered L (machine_below G)).Wakes (low_worth v L.low low) taken (end_worth v L (recovered kinds (terms_of kinds defs) L G first low at).value true).to
     wakes_so first low at low_are fit =
-        let r = recovered_gives kinds defs G L parts inputs v shape whole shapes first low at low_are fit in
-        (r.taken, record {
-          lower = based (low_worth v L.low low);
-          first = [];
-          second = r.taken;
-          wakes = wakes_below G (low_worth v L.low low);
-          next = (answer_worth v (recovered kinds (terms_of kinds defs) L G first low at).value.answer, r.run);
-          takes = refl;
-        })
+        let r = recovered_gives kinds defs G L parts inputs v shape whole shapes first low at low_are fit in (
+          r.taken,
+          record {
+            lower = based (low_worth v L.low low);
+            first = [];
+            second = r.taken;
+            wakes = wakes_below G (low_worth v L.low low);
+            next = (answer_worth v (recovered kinds (terms_of kinds defs) L G first low at).value.answer, r.run);
+            takes = refl;
+          },
+        )
 
     -- the schedule's recovery
     pub recovers_so : (x : Schedule) (first : ℕ) (low : List SymValue) (at : List Node) (low_are : LowShaped at L.low low)
@@ -170,21 +174,23 @@ module _ (kinds : List RuleKind) (defs : List Def) (G : Below) (L : ClosedLayer)
         let fall = f.fall hs.1 in
         let w = wakes_so n.wake left.fallen r.at r.low_shaped r.fit in
         let x = schedule_of v L S (map (worth v) args) (stop_at fall.run.run.within (length fall.run.run.calls)) fall.taken w.0 in
-        let end = end_worth v L (recovered kinds (terms_of kinds defs) L G n.wake left.fallen r.at).value (settled L fallen) in
-        (x, record {
-          end = end;
-          meets = record {
-            shapes = both_hold (shaped L x.state x.memory x.low) (values_fit o.arguments x.args) s.shapes (values_worth inputs v old o.arguments args fit args_are);
-            hypotheses = s.holds;
-            reached = record {
-              fallen = fallen;
-              falls = record { taken = fall.taken; run = fall.run; stop = (refl, refl); read = reads fall.taken };
-              recovers = recovers_so x n.wake left.fallen r.at r.low_shaped r.fit refl;
-              side = refl;
+        let end = end_worth v L (recovered kinds (terms_of kinds defs) L G n.wake left.fallen r.at).value (settled L fallen) in (
+          x,
+          record {
+            end = end;
+            meets = record {
+              shapes = both_hold (shaped L x.state x.memory x.low) (values_fit o.arguments x.args) s.shapes (values_worth inputs v old o.arguments args fit args_are);
+              hypotheses = s.holds;
+              reached = record {
+                fallen = fallen;
+                falls = record { taken = fall.taken; run = fall.run; stop = (refl, refl); read = reads fall.taken };
+                recovers = recovers_so x n.wake left.fallen r.at r.low_shaped r.fit refl;
+                side = refl;
+              };
             };
-          };
-          fails = sided_fails v L (CutOf o) x r.passing r.some (λ e out. refl) end (r.passes x (refl, refl)) z.second;
-        })
+            fails = sided_fails v L (CutOf o) x r.passing r.some (λ e out. refl) end (r.passes x (refl, refl)) z.second;
+          },
+        )
 
     pub tick_cut_shows : (t : Tick) (n : Numbers) (S : Starting) (args : List SymValue) (before nodes : List Node) (out : Id) →
         FallsSo kinds defs G L parts inputs v shape (CutTickOf t) n t.body S args before nodes out →
@@ -199,21 +205,23 @@ module _ (kinds : List RuleKind) (defs : List Def) (G : Below) (L : ClosedLayer)
         let fall = f.fall hs.1 in
         let w = wakes_so n.wake left.fallen r.at r.low_shaped r.fit in
         let x = schedule_of v L S [] (stop_at fall.run.run.within (length fall.run.run.calls)) fall.taken w.0 in
-        let end = end_worth v L (recovered kinds (terms_of kinds defs) L G n.wake left.fallen r.at).value (settled L fallen) in
-        (x, record {
-          end = end;
-          meets = record {
-            shapes = s.shapes;
-            hypotheses = s.holds;
-            reached = record {
-              fallen = fallen;
-              falls = record { taken = fall.taken; run = fall.run; stop = (refl, refl); read = reads fall.taken };
-              recovers = recovers_so x n.wake left.fallen r.at r.low_shaped r.fit refl;
-              side = refl;
+        let end = end_worth v L (recovered kinds (terms_of kinds defs) L G n.wake left.fallen r.at).value (settled L fallen) in (
+          x,
+          record {
+            end = end;
+            meets = record {
+              shapes = s.shapes;
+              hypotheses = s.holds;
+              reached = record {
+                fallen = fallen;
+                falls = record { taken = fall.taken; run = fall.run; stop = (refl, refl); read = reads fall.taken };
+                recovers = recovers_so x n.wake left.fallen r.at r.low_shaped r.fit refl;
+                side = refl;
+              };
             };
-          };
-          fails = sided_fails v L (CutTickOf t) x r.passing r.some (λ e out. refl) end (r.passes x refl) z.second;
-        })
+            fails = sided_fails v L (CutTickOf t) x r.passing r.some (λ e out. refl) end (r.passes x refl) z.second;
+          },
+        )
 
     pub idle_shows : (n : Numbers) (S : Starting) (fallen : List SymValue) (taken : Picks) (nodes : List Node) (out : Id) →
         (machine_below G).Loses (based (low_worth v L.low S.from.low)) taken (low_worth v L.low fallen) →
@@ -225,21 +233,23 @@ module _ (kinds : List RuleKind) (defs : List Def) (G : Below) (L : ClosedLayer)
         let s = related z.first in
         let w = wakes_so n.wake left r.at r.low_shaped r.fit in
         let x = schedule_of v L S [] None taken w.0 in
-        let end = end_worth v L (recovered kinds (terms_of kinds defs) L G n.wake left r.at).value (settled L fallen) in
-        (x, record {
-          end = end;
-          meets = record {
-            shapes = s.shapes;
-            hypotheses = s.holds;
-            reached = record {
-              fallen = fallen;
-              falls = record { taken = taken; run = loses; read = reads taken };
-              recovers = recovers_so x n.wake left r.at r.low_shaped r.fit refl;
-              side = refl;
+        let end = end_worth v L (recovered kinds (terms_of kinds defs) L G n.wake left r.at).value (settled L fallen) in (
+          x,
+          record {
+            end = end;
+            meets = record {
+              shapes = s.shapes;
+              hypotheses = s.holds;
+              reached = record {
+                fallen = fallen;
+                falls = record { taken = taken; run = loses; read = reads taken };
+                recovers = recovers_so x n.wake left r.at r.low_shaped r.fit refl;
+                side = refl;
+              };
             };
-          };
-          fails = sided_fails v L Idle x r.passing r.some (λ e out. refl) end (r.passes x refl) z.second;
-        })
+            fails = sided_fails v L Idle x r.passing r.some (λ e out. refl) end (r.passes x refl) z.second;
+          },
+        )
 
     pub again_shows : (n : Numbers) (S : Starting) (nodes : List Node) (out : Id) →
         AgainSo kinds defs G L parts inputs v shape whole shapes n S nodes out → (is_set v S.settled ≡ true → Settled v L S) → is_set v out ≡ false →
@@ -267,23 +277,25 @@ module _ (kinds : List RuleKind) (defs : List Def) (G : Below) (L : ClosedLayer)
           picks = fall.taken;
           wake = w.0;
           other = o.taken;
-        } in
-        (x, record {
-          end = end_worth v L run alike;
-          meets = record {
-            shapes = s.shapes;
-            hypotheses = s.holds;
-            reached = record {
-              fallen = fallen;
-              falls = record { taken = fall.taken; run = cut; stop = (refl, refl); read = reads fall.taken };
-              recovers = recovers_so x n.wake left.fallen a.end_at a.end_low a.end_fit refl;
-              taken = o.taken;
-              answer = answer_worth v again.answer;
-              to = (end_worth v L again true).to;
-              run = o.run;
-              read = reads o.taken;
-              side = refl;
+        } in (
+          x,
+          record {
+            end = end_worth v L run alike;
+            meets = record {
+              shapes = s.shapes;
+              hypotheses = s.holds;
+              reached = record {
+                fallen = fallen;
+                falls = record { taken = fall.taken; run = cut; stop = (refl, refl); read = reads fall.taken };
+                recovers = recovers_so x n.wake left.fallen a.end_at a.end_low a.end_fit refl;
+                taken = o.taken;
+                answer = answer_worth v again.answer;
+                to = (end_worth v L again true).to;
+                run = o.run;
+                read = reads o.taken;
+                side = refl;
+              };
             };
-          };
-          fails = λ picks len. z.second;
-        })
+            fails = λ picks len. z.second;
+          },
+        )

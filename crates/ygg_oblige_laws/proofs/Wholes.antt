@@ -1,5 +1,5 @@
 -- Whole runs over terms of a layer's blocks, and whether the specification's step passes after them.
-use Rattle.std.proofs.Common.{◌≡◌, ◌==◌, ◌&&◌, ◌||◌, not, ℕ, Bool, true, false, List, [], refl, sym, ap, ◌∙◌, subst}
+use Rattle.std.proofs.Common.{◌≡◌, ◌||◌, not, ℕ, Bool, true, List, [], refl, subst}
 use Rattle.std.specs.Prelude.{IsTrue, Option}
 use Rattle.ygg_value.specs.declared.operation.Op.TheVariants.{Imp}
 use Rattle.ygg_value.specs.declared.shape.Shape.{Shape}
@@ -9,7 +9,7 @@ use Rattle.ygg_syntax.specs.declared.tree.Def.{Def}
 use Rattle.ygg_meaning.specs.Environments.{Env}
 use Rattle.ygg_meaning.specs.Shapes.{zeros_of}
 use Rattle.ygg_meaning.specs.Progress.{Answer}
-use Rattle.ygg_meaning.specs.Machine.{Picks, State, based, on, Machine}
+use Rattle.ygg_meaning.specs.Machine.{Picks, State, based, on}
 use Rattle.ygg_meaning.specs.Layer.{ClosedLayer, BlockRuns}
 use Rattle.ygg_meaning.specs.Obligations.{Schedule, Obligation}
 use Rattle.ygg_meaning.specs.Refines.{Below, machine_below}
@@ -25,13 +25,12 @@ use Rattle.ygg_bank.specs.declared.node.Id.{Id}
 use Rattle.ygg_bank.specs.declared.node.Node.{Node}
 use Rattle.ygg_bank.specs.declared.node.Node.TheVariants.{Bin}
 use Rattle.ygg_shape_cells.specs.declared.terms.SymValue.{SymValue}
-use Rattle.ygg_sym_expr.specs.Exprs.{SymFunctions}
 use Rattle.ygg_sym_expr.specs.Meaning.{Grows, Gives}
 use Rattle.ygg_sym_runs.specs.Meaning.{answer_worth, is_set}
 use Rattle.ygg_sym_below.specs.Lows.{LowShaped, low_worth}
 use Rattle.ygg_sym_below.proofs.Lows.{low_wider}
 use Rattle.ygg_sym_laws.specs.Below.{places_on, zeros_made}
-use Rattle.ygg_sym_laws.specs.Means.{AreBits, values_in, terms_of, Values3, Begins, AreWorth, WholeAfter, WorthRun, EndsSo, WholeMeans}
+use Rattle.ygg_sym_laws.specs.Means.{AreBits, values_in, terms_of, Values3, Begins, WholeAfter, WorthRun, EndsSo, WholeMeans}
 use Rattle.ygg_oblige_terms.specs.Layers.{ShapesKept}
 use Rattle.ygg_oblige_terms.specs.Numbers.{Numbers, arguments_of}
 use Rattle.ygg_oblige_terms.specs.States.{Starting}
