@@ -220,5 +220,6 @@ module _ (kinds : List RuleKind) (defs : List Def) (G : Below) (L : ClosedLayer)
       let calls = flat_map (λ (o : Operation). CallOf o ∷ CutOf o ∷ []) L.layer.operations in
       let ticks = flat_map (λ (t : Tick). TickOf t ∷ CutTickOf t ∷ []) L.layer.ticks in
       let two = All-cons Known Idle (Again ∷ []) tt (All-cons Known Again [] tt (All-nil Known)) in
-      let steps = All-append Known calls ticks (calls_known L.layer.operations typed.operations_typed means.operations) (ticks_known L.layer.ticks means.ticks) in
+      let steps = All-append Known calls ticks (calls_known L.layer.operations typed.operations_typed means.operations)
+      (ticks_known L.layer.ticks means.ticks) in
       All-cons Known Init ((calls ++ ticks) ++ Idle ∷ Again ∷ []) tt (All-append Known (calls ++ ticks) (Idle ∷ Again ∷ []) steps two)

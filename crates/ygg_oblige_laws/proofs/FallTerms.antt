@@ -1,7 +1,6 @@
 -- The terms of obligations that speak of a run that power cuts, and a recovery after it.
 use Rattle.std.proofs.Common.{◌≡◌, ◌+◌, ℕ, true, false, List, [], ◌∷◌, refl, sym, ◌∙◌, subst, arith}
 use Rattle.std.proofs.lemmas.List.Elements.{All-cons, All-head, All-tail}
-use Rattle.std.specs.Prelude.{All}
 use Rattle.ygg_syntax.specs.declared.tree.Def.{Def}
 use Rattle.ygg_meaning.specs.Environments.{Env}
 use Rattle.ygg_meaning.specs.Layer.{ClosedLayer, BlockRuns, BlockFalls}
@@ -36,8 +35,20 @@ use Rattle.ygg_oblige_pieces.specs.Steps.{HasStep, variables_of, ObligationTyped
 use Rattle.ygg_oblige_pieces.specs.Worth.{LowIs}
 use Rattle.ygg_oblige_laws.proofs.Digits.{both_hold}
 use Rattle.ygg_oblige_laws.proofs.Falls.{cut_of, FallsSo, falls_give, falls_grow}
-use Rattle.ygg_oblige_laws.proofs.Frame.{Frame, states, starts_so, ready_so, stand_so, term_is}
-use Rattle.ygg_oblige_laws.proofs.Glue.{AllBits, bit_parts, bits_turn, bits_there, bits_fit, state_digits, state_parts, states_turn, states_fit, states_given, from_there}
+use Rattle.ygg_oblige_laws.proofs.Frame.{Frame, states, starts_so, ready_so, stand_so, Unsets, term_is}
+use Rattle.ygg_oblige_laws.proofs.Glue.{
+  AllBits,
+  bit_parts,
+  bits_turn,
+  bits_there,
+  bits_fit,
+  state_digits,
+  state_parts,
+  states_turn,
+  states_fit,
+  states_given,
+  from_there,
+}
 use Rattle.ygg_oblige_laws.proofs.Refutes.{left_so, recovery_refutes}
 use Rattle.ygg_oblige_laws.proofs.Schedules.{woken_below, Sided, Fails}
 use Rattle.ygg_oblige_laws.proofs.Setting.{ready_wider}
@@ -52,7 +63,8 @@ pub record Recovery (G : Below) (L : ClosedLayer) (fallen : Env) (to : State Env
   pub run : BlockRuns L (machine_below G) L.layer.recover [] (on (zeros_of L.layer.memory) (based fallen)) taken answer to
 
 -- a schedule's recovery is one
-pub recovery_there : (G : Below) (L : ClosedLayer) (x : Schedule) (fallen : Env) (to : State Env) → Recovers L (machine_below G) x fallen to → Recovery G L fallen to
+pub recovery_there : (G : Below) (L : ClosedLayer) (x : Schedule) (fallen : Env) (to : State Env) → Recovers L (machine_below G) x fallen to →
+    Recovery G L fallen to
 recovery_there G L x fallen to r = record {
   taken = r.run.second;
   answer = r.run.next.0;
@@ -154,8 +166,7 @@ module _ (kinds : List RuleKind) (defs : List Def) (G : Below) (L : ClosedLayer)
         k.shows inputs v n S args.value args.nodes out.nodes args.nodes out.value a.0 a.1.shaped (falls_so inputs v h)
         (λ e. related_there v L (given_stand inputs number L) (states kinds defs G L parts number before start nodes final frame).nodes S starts e) unset
 
-    shown_so : (x : Schedule) → Violates L (machine_below G) o x →
-        (ps : List Part) × All (PartFits final) ps × ((v : Values) → Fits (glued ps) v final → is_set v (fall_made kinds defs G L o start S nodes).value ≡ false)
+    shown_so : (x : Schedule) → Violates L (machine_below G) o x → Unsets final (fall_made kinds defs G L o start S nodes).value
     shown_so x violates =
         let w = k.opens x violates in
         let back = k.falls.back x.memory w.given x.low w.taken w.fallen w.falls in
@@ -181,7 +192,11 @@ module _ (kinds : List RuleKind) (defs : List Def) (G : Below) (L : ClosedLayer)
         let D = λ (p : Part). AreDigits inputs p.first p.count p.digits in
         let fit = states_fit L number x parts.glue ds rest final stand
         (All-cons P arg bs (parts.glue.env_fits final start (arguments_of o) w.given words args_stand) (bits_fit G L o start parts.glue final bits)) in
-        let turn : InTurn number ps = states_turn L number x ds rest (frame.room, bits_turn G L o start bits (start + words_in (arguments_of o)) (omega arith)) in
+        let turn : InTurn number ps = states_turn L number x ds rest (
+          frame.room,
+          bits_turn G L o start bits (start + words_in (arguments_of o))
+              (omega arith),
+        ) in
         let given = states_given L number x ds rest inputs (parts.glue.digits number ps turn) in
         let args_are = words.give inputs start (All-head D arg bs given.1) in
         let bits_are = bits_there G L o start parts.glue inputs bits (All-tail D arg bs given.1) in (
@@ -189,19 +204,22 @@ module _ (kinds : List RuleKind) (defs : List Def) (G : Below) (L : ClosedLayer)
           fit,
           λ v h.
               let first = states kinds defs G L parts number before start nodes final frame in
-              let starts = subst (λ s. StartsSo v L s first.nodes S) given.0 (starts_so kinds defs G L parts number before start nodes final frame inputs v gf h) in
+              let starts = subst (λ s. StartsSo v L s first.nodes S) given.0 (starts_so kinds defs G L parts number before start nodes final frame inputs
+              v gf h) in
               let from = from_there L number x v first.nodes S starts w.holds in
               let a = args_so inputs v h in
               let given_is : w.given ≡ low_worth v (arguments_of o) args.value = sym args_are ∙ sym a.1.is in
               let step = w.step v S.from.vars args.value from.1.vars_is given_is in
               let ready = ready_wider L S nodes args.nodes ga (ready_so kinds defs G L parts number before start nodes final frame inputs v gf h) in
               let f = falls_so inputs v h in
-              let left = left_so kinds defs G L parts inputs v o (block_of L o) S args.value args.nodes ready a.1.shaped x w.given step from.1 given_is n w.fallen
+              let left = left_so kinds defs G L parts inputs v o (block_of L o) S args.value args.nodes ready a.1.shaped x w.given step from.1 given_is n
+              w.fallen
               back.0 back.1 (record { run_is = bits_are.run; stop_is = bits_are.stop; last_is = bits_are.last }) means.recover_shape f.cut_fit in
               let c = cut_of kinds defs G L parts inputs v means.recover_shape n (block_of L o) S (arguments_of o) args.value args.nodes in
               let hypothesis = f.hypothesis_is ∙ both_hold (is_set v S.related) (is_set v c.value.reached) from.0 left.reached in
               recovery_refutes kinds defs G L parts inputs v means.recover_shape means.recover_whole typed.memory_shapes o n f.hypothesis S.from.vars args.value
-              c.value.fallen out.nodes out.value f.recovers k.sided x step (record { answer = w.recovery.answer; to = w.to; side = settled L w.fallen }) w.fallen
+              c.value.fallen out.nodes out.value f.recovers k.sided x step (record { answer = w.recovery.answer; to = w.to; side = settled L w.fallen })
+              w.fallen
               wakes.0 wakes.1 bits_are.wake left.fallen_is refl hypothesis w.fails,
         )
 

@@ -28,7 +28,8 @@ use Rattle.ygg_oblige_laws.proofs.Setting.{Ready, ready_wider}
 use Rattle.ygg_oblige_laws.specs.Parts.{PartsMean}
 
 -- the states are made after these nodes, with inputs from a number on; the term among others, with inputs from another on; all of them in one bank
-pub record Frame (kinds : List RuleKind) (defs : List Def) (L : ClosedLayer) (number : ℕ) (before : List Node) (start : ℕ) (nodes final : List Node) : Type 0 where
+pub record Frame (kinds : List RuleKind) (defs : List Def) (L : ClosedLayer) (number : ℕ) (before : List Node) (start : ℕ) (nodes final : List Node) :
+    Type 0 where
   pub free : InputsBelow number before
   pub grows : Extends (starting kinds (terms_of kinds defs) L number before).nodes nodes
   pub below : InputsBelow start nodes
@@ -69,13 +70,16 @@ module _ (kinds : List RuleKind) (defs : List Def) (G : Below) (L : ClosedLayer)
         low = parts.fresh.stay (number + words_in L.layer.state + words_in L.layer.memory) L.low states.nodes final e s.low;
       }
 
+-- parts of an environment that fit a bank and in which the term is not 1
+abbrev pub Unsets : List Node → Id → Type 0
+Unsets final term = (ps : List Part) × All (PartFits final) ps × ((v : Values) → Fits (glued ps) v final → is_set v term ≡ false)
+
 -- The term of an obligation, where in each environment it is a digit, where it is not 1 only if some schedule violates the obligation, and where each
 -- schedule that does gives an environment in which it is not 1.
 pub term_is : (L : ClosedLayer) (G : Below) (o : Obligation) (glue : GluedMeans) (new final : List Node) (term : Id) → IsBank final → Extends new final →
     ((inputs : Inputs) (v : Values) → Fits inputs v final → HasWidth new term 1) →
     ((inputs : Inputs) (v : Values) → Fits inputs v final → is_set v term ≡ false → (x : Schedule) × Violates L (machine_below G) o x) →
-    ((x : Schedule) → Violates L (machine_below G) o x →
-    (ps : List Part) × All (PartFits final) ps × ((v : Values) → Fits (glued ps) v final → is_set v term ≡ false)) →
+    ((x : Schedule) → Violates L (machine_below G) o x → Unsets final term) →
     IsTermOf final (record { layer = L; below = G; obligation = o }) term
 term_is L G o glue new final term bank g wide shows shown = record {
   wide = there;

@@ -1,7 +1,7 @@
 -- The terms of the other obligations: formatting, power loss between operations, and a recovery after another.
-use Rattle.std.proofs.Common.{◌≡◌, ◌≤◌, ◌&&◌, ◌+◌, ℕ, Bool, true, false, List, [], ◌∷◌, refl, sym, ap, ◌∙◌, subst, arith}
+use Rattle.std.proofs.Common.{◌≤◌, ◌&&◌, ◌+◌, ℕ, Bool, true, false, List, [], ◌∷◌, refl, sym, ap, ◌∙◌, subst, arith}
 use Rattle.std.proofs.lemmas.List.Elements.{All-cons, All-head, All-tail}
-use Rattle.std.specs.Prelude.{All, None}
+use Rattle.std.specs.Prelude.{None}
 use Rattle.ygg_oblige_pieces.specs.Steps.{end_worth}
 use Rattle.ygg_syntax.specs.declared.tree.Def.{Def}
 use Rattle.ygg_type_sound.proofs.Tests.{right}
@@ -21,7 +21,6 @@ use Rattle.ygg_bank.specs.Values.{Inputs, Values, Fits, value_of}
 use Rattle.ygg_bank.specs.declared.node.Id.{Id}
 use Rattle.ygg_bank.specs.declared.node.Node.{Node}
 use Rattle.ygg_sym_expr.specs.Meaning.{Grows}
-use Rattle.ygg_sym_runs.specs.Meaning.{is_set}
 use Rattle.ygg_sym_laws.specs.Below.{lost_made}
 use Rattle.ygg_sym_laws.specs.Means.{terms_of}
 use Rattle.ygg_oblige_terms.specs.Layers.{LayerTyped}
@@ -35,7 +34,7 @@ use Rattle.ygg_oblige_laws.proofs.Again.{AgainSo, again_gives, again_grows}
 use Rattle.ygg_oblige_laws.proofs.Falls.{RecoversSo, recovers_give, recovers_grows}
 use Rattle.ygg_oblige_laws.proofs.FallTerms.{recovery_there}
 use Rattle.ygg_oblige_laws.proofs.Formats.{starts_based, FormatsSo, formats_give, formats_grow}
-use Rattle.ygg_oblige_laws.proofs.Frame.{Frame, states, starts_so, ready_so, stand_so, term_is}
+use Rattle.ygg_oblige_laws.proofs.Frame.{Frame, states, starts_so, ready_so, stand_so, Unsets, term_is}
 use Rattle.ygg_oblige_laws.proofs.Glue.{
   AllBits,
   bit_parts,
@@ -81,8 +80,7 @@ module _ (kinds : List RuleKind) (defs : List Def) (G : Below) (L : ClosedLayer)
     init_so inputs v h = formats_give kinds defs G L parts inputs v means.format_shape means.start means.format_whole typed.memory_shapes
         (numbers_of G L Init start) nodes (fits_fewer inputs v (init_made nodes).nodes final g h)
 
-    init_shown : (x : Schedule) → Violates L (machine_below G) Init x →
-        (ps : List Part) × All (PartFits final) ps × ((v : Values) → Fits (glued ps) v final → is_set v (init_made nodes).value ≡ false)
+    init_shown : (x : Schedule) → Violates L (machine_below G) Init x → Unsets final (init_made nodes).value
     init_shown x violates =
         let e = violates.end in
         let f = violates.meets.reached.run in
@@ -147,12 +145,12 @@ module _ (kinds : List RuleKind) (defs : List Def) (G : Below) (L : ClosedLayer)
         let ready = ready_so kinds defs G L parts number before start nodes final frame inputs v idle_rest h in
         let later = ready_wider L S nodes l.nodes (means.loss.grows n.last S.from.low nodes) ready in
         let after = means.loss.after inputs v n.last S.from.low nodes ready.from.low (lost_fit inputs v h) in
-        recovers_give kinds defs G L parts inputs v means.recover_shape means.recover_whole typed.memory_shapes Idle tt tt (λ end. tt) n S.related S.from.vars []
+        recovers_give kinds defs G L parts inputs v means.recover_shape means.recover_whole typed.memory_shapes Idle tt tt (λ end. tt) n S.related
+        S.from.vars []
         l.value l.nodes later.related later.from.vars tt after (schedule_of v L S [] None [] []) refl
         (fits_fewer inputs v (idle_made nodes).nodes final g h)
 
-    idle_shown : (x : Schedule) → Violates L (machine_below G) Idle x →
-        (ps : List Part) × All (PartFits final) ps × ((v : Values) → Fits (glued ps) v final → is_set v (idle_made nodes).value ≡ false)
+    idle_shown : (x : Schedule) → Violates L (machine_below G) Idle x → Unsets final (idle_made nodes).value
     idle_shown x violates =
         let n = numbers_of G L Idle start in
         let e = violates.end in
@@ -221,8 +219,7 @@ module _ (kinds : List RuleKind) (defs : List Def) (G : Below) (L : ClosedLayer)
         (numbers_of G L Again start) S nodes (ready_so kinds defs G L parts number before start nodes final frame inputs v again_rest h)
         (fits_fewer inputs v (again_made nodes).nodes final g h)
 
-    again_shown : (x : Schedule) → Violates L (machine_below G) Again x →
-        (ps : List Part) × All (PartFits final) ps × ((v : Values) → Fits (glued ps) v final → is_set v (again_made nodes).value ≡ false)
+    again_shown : (x : Schedule) → Violates L (machine_below G) Again x → Unsets final (again_made nodes).value
     again_shown x violates =
         let n = numbers_of G L Again start in
         let e = violates.end in
@@ -255,7 +252,8 @@ module _ (kinds : List RuleKind) (defs : List Def) (G : Below) (L : ClosedLayer)
               let set = starts.settled.settles ∙ ap (λ z. all_true (settles L z)) low_is ∙ m.hypotheses in
               let from = starts.low set ∙ low_is in
               let unset = sym r.side ∙ violates.fails [] refl in
-              again_refutes kinds defs G L parts inputs v means.recover_shape means.recover_whole typed.memory_shapes n S (again_made nodes).nodes (again_made nodes).value
+              again_refutes kinds defs G L parts inputs v means.recover_shape means.recover_whole typed.memory_shapes n S (again_made nodes).nodes
+              (again_made nodes).value
               (again_so inputs v h) x.low r.fallen back.0 back.1 (record { run_is = bits_are.run; stop_is = bits_are.stop; last_is = bits_are.last })
               wakes.0 recovery.answer e.to wakes.1 bits_are.wake others.0 r.answer r.to others.1 bits_are.other from set unset,
         )

@@ -81,7 +81,8 @@ module _ (kinds : List RuleKind) (defs : List Def) (G : Below) (L : ClosedLayer)
         is_set v hypothesis ≡ true → Fails L o x e → is_set v out ≡ false
     recovery_refutes o n hypothesis vars args left nodes out r sided x step e fallen bits ends are left_is side hyp fails =
         let end = recovered kinds (terms_of kinds defs) L G n.wake left r.at in
-        let s = recovered_ends kinds defs G L parts inputs v shape whole shapes bits fallen e.answer e.to ends n.wake left r.at r.low_shaped left_is are r.fit in
+        let s = recovered_ends kinds defs G L parts inputs v shape whole shapes bits fallen e.answer e.to ends n.wake left r.at r.low_shaped left_is are
+        r.fit in
         let p = subst (λ z. PassesSo v L o x z r.passing r.some) (end_is L.layer.recover [] e end.value s) (r.passes x step) in
         let unset = sided_unset v L o x r.passing r.some sided e p fails in
         let settled_so : settled L (low_worth v L.low left) ≡ e.side = ap (settled L) left_is ∙ sym side in

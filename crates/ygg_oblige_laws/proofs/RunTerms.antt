@@ -1,7 +1,7 @@
 -- The terms of obligations that speak of a whole run.
 use Rattle.std.proofs.Common.{◌≡◌, ◌+◌, ℕ, true, false, List, [], ◌∷◌, sym, ◌∙◌, subst, arith}
 use Rattle.std.proofs.lemmas.List.Elements.{All-cons, All-head, All-tail}
-use Rattle.std.specs.Prelude.{IsTrue, All, Option}
+use Rattle.std.specs.Prelude.{IsTrue, Option}
 use Rattle.ygg_value.specs.declared.shape.Shape.{Shape}
 use Rattle.ygg_syntax.specs.declared.tree.Def.{Def}
 use Rattle.ygg_meaning.specs.Environments.{Env}
@@ -35,8 +35,20 @@ use Rattle.ygg_oblige_pieces.specs.Inputs.{given_env, AreDigits, Part, PartFits,
 use Rattle.ygg_oblige_pieces.specs.States.{given_stand, StartsSo}
 use Rattle.ygg_oblige_pieces.specs.Steps.{HasStep, variables_of, ObligationTyped, AnswerKept, StepIs}
 use Rattle.ygg_oblige_pieces.specs.Worth.{LowIs}
-use Rattle.ygg_oblige_laws.proofs.Frame.{Frame, states, starts_so, ready_so, stand_so, term_is}
-use Rattle.ygg_oblige_laws.proofs.Glue.{AllBits, bit_parts, bits_turn, bits_there, bits_fit, state_digits, state_parts, states_turn, states_fit, states_given, from_there}
+use Rattle.ygg_oblige_laws.proofs.Frame.{Frame, states, starts_so, ready_so, stand_so, Unsets, term_is}
+use Rattle.ygg_oblige_laws.proofs.Glue.{
+  AllBits,
+  bit_parts,
+  bits_turn,
+  bits_there,
+  bits_fit,
+  state_digits,
+  state_parts,
+  states_turn,
+  states_fit,
+  states_given,
+  from_there,
+}
 use Rattle.ygg_oblige_laws.proofs.Refutes.{run_refutes}
 use Rattle.ygg_oblige_laws.proofs.Schedules.{Unsided, Fails}
 use Rattle.ygg_oblige_laws.proofs.Setting.{ready_wider}
@@ -137,8 +149,7 @@ module _ (kinds : List RuleKind) (defs : List Def) (G : Below) (L : ClosedLayer)
         k.shows inputs v S args.value end out.nodes args.nodes out.value a.0 a.1.shaped (runs_so inputs v h)
         (λ e. related_there v L (given_stand inputs number L) (states kinds defs G L parts number before start nodes final frame).nodes S starts e) unset
 
-    shown_so : (x : Schedule) → Violates L (machine_below G) o x →
-        (ps : List Part) × All (PartFits final) ps × ((v : Values) → Fits (glued ps) v final → is_set v (run_made kinds defs G L o start S nodes).value ≡ false)
+    shown_so : (x : Schedule) → Violates L (machine_below G) o x → Unsets final (run_made kinds defs G L o start S nodes).value
     shown_so x violates =
         let w = k.opens x violates in
         let back = k.whole.back x.memory w.given x.low w.taken w.end.answer w.end.to w.run in
@@ -163,7 +174,11 @@ module _ (kinds : List RuleKind) (defs : List Def) (G : Below) (L : ClosedLayer)
         let D = λ (p : Part). AreDigits inputs p.first p.count p.digits in
         let fit = states_fit L number x parts.glue ds rest final stand
         (All-cons P arg bs (parts.glue.env_fits final start (arguments_of o) w.given words args_stand) (bits_fit G L o start parts.glue final bits)) in
-        let turn : InTurn number ps = states_turn L number x ds rest (frame.room, bits_turn G L o start bits (start + words_in (arguments_of o)) (omega arith)) in
+        let turn : InTurn number ps = states_turn L number x ds rest (
+          frame.room,
+          bits_turn G L o start bits (start + words_in (arguments_of o))
+              (omega arith),
+        ) in
         let given = states_given L number x ds rest inputs (parts.glue.digits number ps turn) in
         let args_are = words.give inputs start (All-head D arg bs given.1) in
         let bits_are = bits_there G L o start parts.glue inputs bits (All-tail D arg bs given.1) in (
@@ -171,7 +186,8 @@ module _ (kinds : List RuleKind) (defs : List Def) (G : Below) (L : ClosedLayer)
           fit,
           λ v h.
               let first = states kinds defs G L parts number before start nodes final frame in
-              let starts = subst (λ s. StartsSo v L s first.nodes S) given.0 (starts_so kinds defs G L parts number before start nodes final frame inputs v gf h) in
+              let starts = subst (λ s. StartsSo v L s first.nodes S) given.0 (starts_so kinds defs G L parts number before start nodes final frame inputs
+              v gf h) in
               let from = from_there L number x v first.nodes S starts w.holds in
               let a = args_so inputs v h in
               let given_is : w.given ≡ low_worth v (arguments_of o) args.value = sym args_are ∙ sym a.1.is in
@@ -179,7 +195,8 @@ module _ (kinds : List RuleKind) (defs : List Def) (G : Below) (L : ClosedLayer)
               let ready = ready_wider L S nodes args.nodes ga (ready_so kinds defs G L parts number before start nodes final frame inputs v gf h) in
               let ran_fit = run_fit kinds defs G L parts inputs v o (block_of L o) k.shape k.whole k.has k.typed (k.kept v) k.state n S args.value args.nodes
               (fits_fewer inputs v out.nodes final g h) in
-              run_refutes kinds defs G L parts inputs v o (block_of L o) S args.value args.nodes ready a.1.shaped x w.given step from.1 given_is n out.nodes out.value
+              run_refutes kinds defs G L parts inputs v o (block_of L o) S args.value args.nodes ready a.1.shaped x w.given step from.1 given_is n
+              out.nodes out.value
               ran_fit (runs_so inputs v h) k.unsided w.end back.0 back.1 bits_are.run from.0 w.fails,
         )
 

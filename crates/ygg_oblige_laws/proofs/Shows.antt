@@ -61,7 +61,8 @@ pub record Related (v : Values) (L : ClosedLayer) (S : Starting) : Type 0 where
   pub shapes : shaped L (low_worth v L.layer.state S.from.vars) (low_worth v L.layer.memory S.from.memory) (low_worth v L.low S.from.low) ≡ true
   pub holds : all_true (relates L (low_worth v L.layer.state S.from.vars) (low_worth v L.layer.memory S.from.memory) (low_worth v L.low S.from.low)) ≡ true
 
-pub related_there : (v : Values) (L : ClosedLayer) (s : Stand) (nodes : List Node) (S : Starting) → StartsSo v L s nodes S → is_set v S.related ≡ true → Related v L S
+pub related_there : (v : Values) (L : ClosedLayer) (s : Stand) (nodes : List Node) (S : Starting) → StartsSo v L s nodes S → is_set v S.related ≡ true →
+    Related v L S
 related_there v L s nodes S starts e =
     let same = sym (starts.from e) in
     record {
@@ -109,7 +110,8 @@ module _ (kinds : List RuleKind) (defs : List Def) (G : Below) (L : ClosedLayer)
         record {
           end = end_worth v L end true;
           meets = record {
-            shapes = both_hold (shaped L x.state x.memory x.low) (values_fit o.arguments x.args) s.shapes (values_worth inputs v old o.arguments args fit args_are);
+            shapes = both_hold (shaped L x.state x.memory x.low) (values_fit o.arguments x.args) s.shapes
+                (values_worth inputs v old o.arguments args fit args_are);
             hypotheses = s.holds;
             reached = record { taken = r.run.taken; run = r.run.run; read = reads r.run.taken };
           };
@@ -118,7 +120,8 @@ module _ (kinds : List RuleKind) (defs : List Def) (G : Below) (L : ClosedLayer)
       )
 
   pub tick_shows : (t : Tick) (S : Starting) (args : List SymValue) (end : Finish) (nodes : List Node) (out : Id) →
-      RunsSo kinds defs G L parts inputs v (TickOf t) t.body S args end nodes out → (is_set v S.related ≡ true → Related v L S) → is_set v out ≡ false → (x : Schedule) × Violates L (machine_below G) (TickOf t) x
+      RunsSo kinds defs G L parts inputs v (TickOf t) t.body S args end nodes out → (is_set v S.related ≡ true → Related v L S) → is_set v out ≡ false →
+      (x : Schedule) × Violates L (machine_below G) (TickOf t) x
   tick_shows t S args end nodes out r related unset =
       let z = refuted (is_set v S.related) (is_set v r.some) (sym r.is ∙ unset) in
       let s = related z.first in
@@ -140,7 +143,8 @@ module _ (kinds : List RuleKind) (defs : List Def) (G : Below) (L : ClosedLayer)
     pub wakes_so : (first : ℕ) (low : List SymValue) (at : List Node) → LowShaped at L.low low →
         Fits inputs v (recovered kinds (terms_of kinds defs) L G first low at).nodes →
         (taken : Picks)
-        × (Layered L (machine_below G)).Wakes (low_worth v L.low low) taken (end_worth v L (recovered kinds (terms_of kinds defs) L G first low at).value true).to
+        × (Layered L (machine_below G)).Wakes (low_worth v L.low low) taken (end_worth v L (recovered kinds (terms_of kinds defs) L G first low at).value
+        true).to
     wakes_so first low at low_are fit =
         let r = recovered_gives kinds defs G L parts inputs v shape whole shapes first low at low_are fit in (
           r.taken,
@@ -179,7 +183,8 @@ module _ (kinds : List RuleKind) (defs : List Def) (G : Below) (L : ClosedLayer)
           record {
             end = end;
             meets = record {
-              shapes = both_hold (shaped L x.state x.memory x.low) (values_fit o.arguments x.args) s.shapes (values_worth inputs v old o.arguments args fit args_are);
+              shapes = both_hold (shaped L x.state x.memory x.low) (values_fit o.arguments x.args) s.shapes
+                  (values_worth inputs v old o.arguments args fit args_are);
               hypotheses = s.holds;
               reached = record {
                 fallen = fallen;

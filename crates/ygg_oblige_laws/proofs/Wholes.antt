@@ -59,7 +59,8 @@ module _ (kinds : List RuleKind) (defs : List Def) (G : Below) (L : ClosedLayer)
     pub passes : (x : Schedule) → StepIs v L o S.from.vars args x → PassesSo v L o x (end_worth v L end true) passing some
 
   -- what stands after a whole run, for the specification's step
-  pub step_shaped : (o : Obligation) (b : Block) (shape : Option Shape) (end : Finish) (vars args : List SymValue) (declared : List Declared) (nodes : List Node) →
+  pub step_shaped : (o : Obligation) (b : Block) (shape : Option Shape) (end : Finish) (vars args : List SymValue) (declared : List Declared)
+      (nodes : List Node) →
       WholeAfter kinds defs G L b L.layer.memory declared shape v nodes end → AnswerKept v o end →
       LowShaped nodes (variables_of L o) vars → LowShaped nodes (arguments_of o) args → StepShaped v L o nodes vars args end
   step_shaped o b shape end vars args declared nodes a k p q = record {
@@ -95,7 +96,8 @@ module _ (kinds : List RuleKind) (defs : List Def) (G : Below) (L : ClosedLayer)
         let vars_are = subst (λ ds. LowShaped r.nodes ds S.from.vars) state (low_wider nodes r.nodes L.layer.state S.from.vars gr ready.from.vars) in
         let args_are = low_wider nodes r.nodes (arguments_of o) args gr shaped in
         let step = step_shaped o b shape r.value S.from.vars args (arguments_of o) r.nodes a (kept r.value a.answer_returned) vars_are args_are in
-        let passes = λ (y : Schedule) (e : StepIs v L o S.from.vars args y). parts.steps.passes inputs v o S.from.vars args r.value y r.nodes has typed step e hs in
+        let passes = λ (y : Schedule) (e : StepIs v L o S.from.vars args y). parts.steps.passes inputs v o S.from.vars args r.value y r.nodes has typed
+        step e hs in
         let related = wider nodes s.nodes S.related 1 (extends_both nodes r.nodes s.nodes gr gs) ready.related in
         let i = implied_is inputs v kinds S.related s.value s.nodes related (passes x st).wide h in
         record {
