@@ -1,5 +1,32 @@
 -- Fresh inputs for declared names.
-use Rattle.std.proofs.Common.{◌≡◌, ◌<◌, ◌≤◌, ◌+◌, ◌-◌, ◌*◌, inl, inr, ℕ, Bool, if◌then◌else◌, slice_get, Some, zero, suc, true, List, [], ◌∷◌, replicate, refl, sym, ap, ◌∙◌, subst, arith}
+use Rattle.std.proofs.Common.{
+  ◌≡◌,
+  ◌<◌,
+  ◌≤◌,
+  ◌+◌,
+  ◌-◌,
+  ◌*◌,
+  inl,
+  inr,
+  ℕ,
+  Bool,
+  if◌then◌else◌,
+  slice_get,
+  Some,
+  zero,
+  suc,
+  true,
+  List,
+  [],
+  ◌∷◌,
+  replicate,
+  refl,
+  sym,
+  ap,
+  ◌∙◌,
+  subst,
+  arith,
+}
 use Rattle.std.proofs.lemmas.Bool.{cases_lt, lt-ltb, le-ltb}
 use Rattle.std.proofs.lemmas.List.Elements.{All-head, All-tail}
 use Rattle.ygg_value.specs.Shapes.{IsShape}
