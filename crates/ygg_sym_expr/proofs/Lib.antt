@@ -4,3 +4,6 @@ pub mod Grows
 pub mod Parts
 pub mod Values
 pub mod Definitions
+pub mod Placed
+pub mod Naming
+pub mod Constructs
