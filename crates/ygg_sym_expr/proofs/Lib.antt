@@ -7,3 +7,5 @@ pub mod Definitions
 pub mod Placed
 pub mod Naming
 pub mod Constructs
+pub mod Terms
+pub mod Ready
