@@ -9,3 +9,5 @@ pub mod Naming
 pub mod Constructs
 pub mod Terms
 pub mod Ready
+pub mod Arms
+pub mod Lighter
