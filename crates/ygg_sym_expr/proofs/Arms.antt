@@ -1,9 +1,11 @@
 -- The steps of the evaluator over terms, over plain variables: what each call asks, and what each construct makes.
-use Rattle.std.proofs.Common.{◌≡◌, ℕ, ◌<◌, List, map, replicate, All, refl, sym, ap, ◌∙◌, subst}
+use Rattle.std.proofs.Common.{◌≡◌, ℕ, ◌<◌, ◌≤◌, List, map, replicate, length, get_or, All, refl, sym, ap, ◌∙◌, subst}
 use Rattle.ygg_value.specs.Number.{IsWord}
 use Rattle.ygg_value.specs.Words.{word}
 use Rattle.ygg_value.specs.Shapes.{Within}
 use Rattle.ygg_value.specs.declared.operation.Op.{Op}
+use Rattle.ygg_type_sound.proofs.Rules.{ConstantParts}
+use Rattle.ygg_syntax.specs.declared.tree.Def.{Def}
 use Rattle.ygg_syntax.specs.declared.tree.Place.{Place}
 use Rattle.ygg_syntax.specs.declared.tree.Name.{Name}
 use Rattle.ygg_syntax.specs.declared.tree.Numeral.{Numeral}
@@ -20,6 +22,7 @@ use Rattle.ygg_shape_cells.specs.Making.{merged}
 use Rattle.ygg_shape_cells.specs.Terms.{AreAlike}
 use Rattle.ygg_shape_cells.specs.declared.terms.SymValue.{SymValue}
 use Rattle.ygg_shape_cells.specs.declared.terms.SymValue.TheVariants.{Word, Row}
+use Rattle.ygg_sym_expr.specs.Names.{SymEnv}
 use Rattle.ygg_sym_expr.specs.Exprs.{id_in, all_made, word_made, applied, part_made, joined}
 use Rattle.ygg_sym_expr.specs.Meaning.{SomeShape}
 use Rattle.ygg_sym_expr.specs.Seen.{SymKnown, CanTerm, CanCall, CanQuantify, CanOperate, terms_called, terms_in, joining, start_of, test_at}
@@ -39,6 +42,8 @@ use Rattle.ygg_sym_expr.proofs.Constructs.{
   quantified_is_made,
 }
 use Rattle.ygg_sym_expr.proofs.Ready.{
+  constant_ready,
+  quantified_parts,
   binary_ready,
   operate_ready,
   not_ready,
@@ -56,6 +61,15 @@ use Rattle.ygg_sym_expr.proofs.Ready.{
 }
 use Rattle.ygg_sym_expr.proofs.Terms.{can_later}
 
+-- these definitions and names
+abbrev pub seeing : List Def → SymEnv → SymEnv → SymKnown
+seeing defs own low = record { defs = defs; scope = record { own = own; low = low } }
+
+-- one of several expressions that have terms
+pub item_can : (k : SymKnown) (nodes : List Node) (es : List Expr) (i : ℕ) (x : Expr) → i < length es → x ≡ get_or es i x → All (CanTerm k nodes) es →
+    CanTerm k nodes x
+item_can k nodes es i x l is all = subst (CanTerm k nodes) (sym is) (all i x l)
+
 module _ (kinds : List RuleKind) (k : SymKnown) where
   abbrev T : Expr → Make SymValue
   T = terms_in kinds k
@@ -71,6 +85,9 @@ module _ (kinds : List RuleKind) (k : SymKnown) where
 
   opened : (old : List Node) (e f : Expr) → CanTerm k old e → e ≡ f → CanTerm k old f
   opened old e f can is = subst (CanTerm k old) is can
+
+  pub constant_fits : (e : Expr) (n w : Numeral) (old : List Node) → CanTerm k old e → e ≡ tree.Constant n w → ConstantParts n w
+  constant_fits e n w old can is = constant_ready kinds k n w old (opened old e (tree.Constant n w) can is)
 
   -- operators
 
@@ -278,6 +295,11 @@ module _ (kinds : List RuleKind) (k : SymKnown) where
   quantified_asks e first which x w n a b old can is at =
       subst (λ z. CanQuantify k old which x w n z) (sym at)
       (record { first = first; can = opened old e (tree.Quantified first which x w n a) can is })
+
+  pub quantified_some : (e : Expr) (first : Place) (which : Quantifier) (x : Name) (w n : Numeral) (a : Expr) (old : List Node) → IsBank old →
+      CanTerm k old e → e ≡ tree.Quantified first which x w n a → 1 ≤ n.value
+  quantified_some e first which x w n a old bank can is =
+      let p = quantified_parts kinds k first which x w n a old bank (opened old e (tree.Quantified first which x w n a) can is) in p.some
 
   pub quantified_gives : (e : Expr) (first : Place) (which : Quantifier) (x : Name) (w n : Numeral) (a b : Expr) (old mid : List Node) (answer : Id) →
       e ≡ tree.Quantified first which x w n a → b ≡ a → mid ≡ (joined kinds (joining which) (start_of which) n.value (test_at kinds k x w b) old).nodes →

@@ -1,5 +1,5 @@
 -- The terms of constructs, as their parts make them.
-use Rattle.std.proofs.Common.{◌≡◌, ◌+◌, ℕ, List, [], ◌∷◌, ◌++◌, map, replicate, Result, Ok, OnOk, IfOk, refl, sym, ap, ◌∙◌, subst}
+use Rattle.std.proofs.Common.{◌≡◌, ◌+◌, ℕ, List, [], ◌∷◌, ◌++◌, map, replicate, Result, Ok, Err, OnOk, IfOk, refl, sym, ap, ◌∙◌, subst}
 use Rattle.ygg_syntax.specs.declared.tree.Place.{Place}
 use Rattle.ygg_syntax.specs.declared.tree.Name.{Name}
 use Rattle.ygg_syntax.specs.declared.tree.Numeral.{Numeral}
@@ -30,6 +30,11 @@ nodes_as {A} {E} r new one two e h = subst (λ (z : Out A). OnOk r (new ≡ z.no
 
 pub value_as : {A E : Type 0} (r : Result A E) (one two : Out A) → one ≡ two → IfOk r (λ x. x ≡ one.value) → IfOk r (λ x. x ≡ two.value)
 value_as {A} {E} r one two e h = subst (λ (z : Out A). IfOk r (λ x. x ≡ z.value)) e h
+
+-- a bank that a call left alone
+pub always_ok : {A E : Type 0} (r : Result A E) (nodes : List Node) → OnOk r (nodes ≡ nodes)
+always_ok (Ok x) nodes = refl
+always_ok (Err x) nodes = tt
 
 -- steps one after another
 pub one_then : {A B : Type 0} (m : Make A) (f : A → Make B) (old mid : List Node) (x : A) → mid ≡ (m old).nodes → x ≡ (m old).value →

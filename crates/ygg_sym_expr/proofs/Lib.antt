@@ -11,3 +11,4 @@ pub mod Terms
 pub mod Ready
 pub mod Arms
 pub mod Lighter
+pub mod Joins

@@ -1,5 +1,8 @@
 -- Operands weigh less than the whole.
-use Rattle.std.proofs.Common.{◌≡◌, ℕ, ◌+◌, ◌≤◌, sym, ap, ◌∙◌, arith}
+use Rattle.std.proofs.Common.{◌≡◌, ℕ, ◌+◌, ◌≤◌, ◌<◌, List, ◌∷◌, length, map, drop, get_or, sym, ap, ◌∙◌, arith}
+use Rattle.std.specs.Prelude.{sum}
+use Rattle.std.proofs.lemmas.Grind.{common_steps}
+use Rattle.std.proofs.lemmas.List.{drop_more}
 use Rattle.ygg_syntax.specs.declared.tree.Place.{Place}
 use Rattle.ygg_syntax.specs.declared.tree.Numeral.{Numeral}
 use Rattle.ygg_syntax.specs.declared.tree.Expr.{Expr}
@@ -7,7 +10,10 @@ use Rattle.ygg_syntax.specs.declared.tree.Expr.TheVariants as tree
 use Rattle.ygg_syntax.specs.declared.tree.Expr.TheOpen.{Expr-F}
 use Rattle.ygg_syntax.specs.declared.tree.Expr.TheFolds.{fold-roll-Expr}
 use Rattle.ygg_value.specs.declared.operation.Op.{Op}
-use Rattle.ygg_syntax_count.specs.Weights.{Weights, node_weight, expr_weight}
+use Rattle.ygg_syntax_count.specs.Weights.{Weights, node_weight, expr_weight, exprs_weight}
+
+sum_cons : (n : ℕ) (ns : List ℕ) → sum (n ∷ ns) ≡ n + sum ns
+sum_cons n ns = grind (arith, common_steps)
 
 module _ (ws : Weights) where
   abbrev weight : Expr → ℕ
@@ -59,4 +65,11 @@ module _ (ws : Weights) where
   filled_lighter e first m a x is at_x =
       let whole = ap weight is ∙ ap weight (sym (tree.rolls-Fill first m a)) ∙ fold-roll-Expr ℕ (node_weight ws) (Expr-F.Fill first m a) in
       let part = ap weight at_x in
+      omega arith
+
+  -- one of several is no heavier than it and those after it
+  pub item_lighter : (es : List Expr) (i : ℕ) (x : Expr) → i < length es → x ≡ get_or es i x → weight x ≤ exprs_weight ws (drop i es)
+  item_lighter es i x l is =
+      let more = ap (exprs_weight ws) (drop_more es i x l) ∙ sum_cons (weight (get_or es i x)) (map weight (drop (i + 1) es)) in
+      let same = ap weight is in
       omega arith
