@@ -1,5 +1,24 @@
 use Rattle.std.proofs.Common.{
-  ◌≡◌, ◌≤◌, ℕ, ◌+◌, ◌++◌, [], List, map, replicate, length, take, get_or, IfOk, refl, sym, ap, ◌∙◌, subst, arith, rules,
+  ◌≡◌,
+  ◌≤◌,
+  ℕ,
+  ◌+◌,
+  ◌++◌,
+  [],
+  List,
+  map,
+  replicate,
+  length,
+  take,
+  get_or,
+  IfOk,
+  refl,
+  sym,
+  ap,
+  ◌∙◌,
+  subst,
+  arith,
+  rules,
 }
 use Rattle.std.proofs.lemmas.List.{append-nil}
 use Rattle.ygg_value.specs.Number.{IsWord}
@@ -18,7 +37,14 @@ use Rattle.ygg_shape_cells.specs.declared.terms.SymValue.TheVariants.{Row}
 use Rattle.ygg_shape.proofs.Steps.{EachFrom, each_from_goes, each_from_value, each_from_nodes, each_from_begins}
 use Rattle.ygg_eval_expr.proofs.Called.{definition_weighs}
 use Rattle.ygg_eval_expr.proofs.Weighed.{
-  arguments_lighter, call_lighter, index_lighter, first_lighter, second_lighter, words_lighter, quantified_lighter, rest_lighter,
+  arguments_lighter,
+  call_lighter,
+  index_lighter,
+  first_lighter,
+  second_lighter,
+  words_lighter,
+  quantified_lighter,
+  rest_lighter,
 }
 use Rattle.ygg_sym_expr.specs.Names.{SymEnv, sym_look_up, sym_bind}
 use Rattle.ygg_sym_expr.specs.Exprs.{id_in, word_made, number_made, applied, part_made, joined, sym_value}
@@ -28,12 +54,49 @@ use Rattle.ygg_sym_expr.proofs.Terms.{can_later}
 use Rattle.ygg_sym_expr.proofs.Ready.{with_term, can_join, number_word, number_can}
 use Rattle.ygg_sym_expr.proofs.Constructs.{nodes_as, value_as, always_ok, all_from, constant_made, low_made, variable_made}
 use Rattle.ygg_sym_expr.proofs.Lighter.{
-  left_lighter, right_lighter, not_lighter, whole_lighter, test_lighter, resized_lighter, filled_lighter, item_lighter,
+  left_lighter,
+  right_lighter,
+  not_lighter,
+  whole_lighter,
+  test_lighter,
+  resized_lighter,
+  filled_lighter,
+  item_lighter,
 }
 use Rattle.ygg_sym_expr.proofs.Arms.{
-  constant_fits, left_asks, right_asks, operated_asks, operated_gives, not_asks, complement_asks, complement_gives, resize_asks, resize_width, resized_asks,
-  resized_gives, fill_asks, filled_gives, whole_asks, index_asks, part_asks, part_gives, test_asks, first_asks, second_asks, merge_asks, merge_gives,
-  row_asks, apply_asks, row_gives, call_asks, call_gives, quantified_asks, quantified_some, quantified_gives, seeing, item_can,
+  constant_fits,
+  left_asks,
+  right_asks,
+  operated_asks,
+  operated_gives,
+  not_asks,
+  complement_asks,
+  complement_gives,
+  resize_asks,
+  resize_width,
+  resized_asks,
+  resized_gives,
+  fill_asks,
+  filled_gives,
+  whole_asks,
+  index_asks,
+  part_asks,
+  part_gives,
+  test_asks,
+  first_asks,
+  second_asks,
+  merge_asks,
+  merge_gives,
+  row_asks,
+  apply_asks,
+  row_gives,
+  call_asks,
+  call_gives,
+  quantified_asks,
+  quantified_some,
+  quantified_gives,
+  seeing,
+  item_can,
 }
 use Rattle.ygg_sym_expr.proofs.Joins.{start_word, quantify_later, tested_wide, joined_more, digit_made, grown_seen}
 use Rattle.ygg_sym_expr.proofs.evaluator.SymEvaluator.+value.Goals as goal
@@ -538,9 +601,16 @@ values-value_by-requires g t c κs within =
     let i = c.loop-e.e-index in
     let step : ℕ → Expr → Make SymValue = λ n x. terms_in kinds k x in
     let lighter = item_lighter (weights_of c.args.self.now.defs.now) es i c.e-item.result c.loop-e-test.true c.e-item.is in
-    let before = c.loop-e.invariant.part in
-    (omega arith, (search rules, (c.loop-e.invariant.bank,
-    can_later k old c.loop-e.bank c.e-item.result c.loop-e.invariant.grows (item_can k old es i c.e-item.result c.loop-e-test.true c.e-item.is c.requires.can))))
+    let before = c.loop-e.invariant.part in (
+      omega arith,
+      (
+        search rules,
+        (
+          c.loop-e.invariant.bank,
+          can_later k old c.loop-e.bank c.e-item.result c.loop-e.invariant.grows (item_can k old es i c.e-item.result c.loop-e-test.true c.e-item.is c.requires.can),
+        ),
+      ),
+    )
 
 pub values-returns-in_err-value-clause-grows : goal.values-returns-in_err-value-clause-grows
 values-returns-in_err-value-clause-grows g t c =
@@ -907,10 +977,17 @@ test_at-value_by-requires g t c κs within =
     c.as_slice.result.now _ x.text c.as_slice-name.result.now y refl refl c.in_ok-numbers.ensures c.in_ok-push.ensures.items c.as_slice.ensures.value c.as_slice-name.ensures in
     let number = number_made kinds w.value i old in
     let same = seen ∙ ap (with_term kinds k x.text) c.in_ok-value.ensures.form in
-    let base = number_can kinds k can.first which x w n e i old c.requires.bank can.can c.requires.below in
-    (omega arith, (search rules, (c.word.ensures.bank,
-    subst (λ (z : SymKnown). CanTerm z mid e) (sym same)
-    (subst (λ z. CanTerm (with_term kinds k x.text number.value) z e) (sym c.in_ok-value.ensures.nodes) base))))
+    let base = number_can kinds k can.first which x w n e i old c.requires.bank can.can c.requires.below in (
+      omega arith,
+      (
+        search rules,
+        (
+          c.word.ensures.bank,
+          subst (λ (z : SymKnown). CanTerm z mid e) (sym same)
+              (subst (λ z. CanTerm (with_term kinds k x.text number.value) z e) (sym c.in_ok-value.ensures.nodes) base),
+        ),
+      ),
+    )
 
 pub test_at-returns-clause-nodes : goal.test_at-returns-clause-nodes
 test_at-returns-clause-nodes g t c =
