@@ -64,7 +64,8 @@ abbrev pub seeing : List Def → SymEnv → SymEnv → SymKnown
 seeing defs own low = record { defs = defs; scope = record { own = own; low = low } }
 
 -- one of several expressions that have terms
-pub item_can : (k : SymKnown) (nodes : List Node) (es : List Expr) (i : ℕ) (x : Expr) → i < length es → x ≡ get_or es i x → All (CanTerm k nodes) es →
+pub item_can : (k : SymKnown) (nodes : List Node) (es : List Expr) (i : ℕ) (x : Expr) → i < length es → x ≡ get_or es i x →
+    All (CanTerm k nodes) es →
     CanTerm k nodes x
 item_can k nodes es i x l is all = subst (CanTerm k nodes) (sym is) (all i x l)
 
@@ -76,6 +77,9 @@ module _ (kinds : List RuleKind) (k : SymKnown) where
   pub record Gave (e : Expr) (old new : List Node) (x : SymValue) : Type 0 where
     pub nodes : new ≡ (T e old).nodes
     pub value : x ≡ (T e old).value
+
+  pub gave : {e : Expr} {old new : List Node} {x : SymValue} → new ≡ (T e old).nodes → x ≡ (T e old).value → Gave e old new x
+  gave nodes value = record { nodes = nodes; value = value }
 
   -- the same of an equal expression
   other : (e f : Expr) (old new : List Node) (x : SymValue) → e ≡ f → Gave e old new x → Gave f old new x
@@ -260,6 +264,10 @@ module _ (kinds : List RuleKind) (k : SymKnown) where
     pub nodes : new ≡ (all_made (makings kinds k es) k.scope old).nodes
     pub value : xs ≡ (all_made (makings kinds k es) k.scope old).value
 
+  pub gave_all : {es : List Expr} {old new : List Node} {xs : List SymValue} → new ≡ (all_made (makings kinds k es) k.scope old).nodes →
+      xs ≡ (all_made (makings kinds k es) k.scope old).value → GaveAll es old new xs
+  gave_all nodes value = record { nodes = nodes; value = value }
+
   others : (es fs : List Expr) (old new : List Node) (xs : List SymValue) → es ≡ fs → GaveAll es old new xs → GaveAll fs old new xs
   others es fs old new xs is h = subst (λ z. GaveAll z old new xs) is h
 
@@ -267,7 +275,8 @@ module _ (kinds : List RuleKind) (k : SymKnown) where
       ys ≡ xs → GaveAll fs old mid xs → pure (Row (map id_in ys)) mid ≡ T e old
   row_gives e first es fs old mid xs ys is at same p =
       let u = others fs es old mid xs at p in
-      one_then (all_made (makings kinds k es) k.scope) (λ xs. pure (Row (map id_in xs))) old mid ys u.nodes (same ∙ u.value) ∙ row_made kinds k e first es old is
+      one_then (all_made (makings kinds k es) k.scope) (λ xs. pure (Row (map id_in xs))) old mid ys u.nodes (same ∙ u.value)
+      ∙ row_made kinds k e first es old is
 
   pub call_asks : (e : Expr) (f : Name) (es fs : List Expr) (name : List ℕ) (old mid : List Node) (xs ys : List SymValue) → IsBank old → CanTerm k old e →
       e ≡ tree.Apply f es → fs ≡ es → name ≡ f.text → ys ≡ xs → GaveAll fs old mid xs → IsBank mid → CanCall k.defs mid name ys

@@ -55,7 +55,21 @@ use Rattle.ygg_type_sound.proofs.Tests.{wanted_is}
 use Rattle.ygg_type_sound.proofs.Fits.{word_wide}
 use Rattle.ygg_type_sound.proofs.Rules.{ConstantParts, NumberParts, operands, operator_without_errors}
 use Rattle.ygg_type_sound.proofs.Sounds.{two_none}
-use Rattle.ygg_type_sound.proofs.Parts.{QuantifiedTyped, values_in, typed_binary, constant_typed, apply_typed, binary_typed, not_typed, at_typed, pick_typed, resize_typed, fill_typed, row_typed, quantified_typed}
+use Rattle.ygg_type_sound.proofs.Parts.{
+  QuantifiedTyped,
+  values_in,
+  typed_binary,
+  constant_typed,
+  apply_typed,
+  binary_typed,
+  not_typed,
+  at_typed,
+  pick_typed,
+  resize_typed,
+  fill_typed,
+  row_typed,
+  quantified_typed,
+}
 use Rattle.ygg_rules.specs.declared.rule.RuleKind.{RuleKind}
 use Rattle.ygg_bank.proofs.Makes.{made_bank}
 use Rattle.ygg_bank.proofs.Meaning.{fits_fewer}

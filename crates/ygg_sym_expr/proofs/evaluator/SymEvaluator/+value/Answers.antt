@@ -1,25 +1,4 @@
-use Rattle.std.proofs.Common.{
-  ◌≡◌,
-  ◌≤◌,
-  ℕ,
-  ◌+◌,
-  ◌++◌,
-  [],
-  List,
-  map,
-  replicate,
-  length,
-  take,
-  get_or,
-  IfOk,
-  refl,
-  sym,
-  ap,
-  ◌∙◌,
-  subst,
-  arith,
-  rules,
-}
+use Rattle.std.proofs.Common.{◌≡◌, ◌≤◌, ℕ, ◌+◌, ◌++◌, [], List, replicate, length, take, get_or, IfOk, refl, sym, ap, ◌∙◌, subst, arith, rules}
 use Rattle.std.proofs.lemmas.List.{append-nil}
 use Rattle.ygg_value.specs.Number.{IsWord}
 use Rattle.ygg_value.specs.Words.{word}
@@ -47,7 +26,7 @@ use Rattle.ygg_eval_expr.proofs.Weighed.{
   rest_lighter,
 }
 use Rattle.ygg_sym_expr.specs.Names.{SymEnv, sym_look_up, sym_bind}
-use Rattle.ygg_sym_expr.specs.Exprs.{id_in, word_made, number_made, applied, part_made, joined, sym_value}
+use Rattle.ygg_sym_expr.specs.Exprs.{word_made, number_made, part_made, joined, sym_value}
 use Rattle.ygg_sym_expr.specs.Seen.{SymKnown, CanTerm, env_of, known_of, terms_called, terms_in, joining, start_of, test_at}
 use Rattle.ygg_sym_expr.proofs.Placed.{placed, body_parts}
 use Rattle.ygg_sym_expr.proofs.Terms.{can_later}
@@ -65,6 +44,8 @@ use Rattle.ygg_sym_expr.proofs.Lighter.{
 }
 use Rattle.ygg_sym_expr.proofs.Arms.{
   constant_fits,
+  gave,
+  gave_all,
   left_asks,
   right_asks,
   operated_asks,
@@ -101,344 +82,293 @@ use Rattle.ygg_sym_expr.proofs.Arms.{
 use Rattle.ygg_sym_expr.proofs.Joins.{start_word, quantify_later, tested_wide, joined_more, digit_made, grown_seen}
 use Rattle.ygg_sym_expr.proofs.evaluator.SymEvaluator.+value.Goals as goal
 
+-- constants
+
 pub value_by-overflow_cast-width : goal.value_by-overflow_cast-width
 value_by-overflow_cast-width g t c =
-    let kinds = g.B.Book.kinds c.args.book.now in
-    let k = known_of c.args.self.now in
-    let old = c.args.bank.now in
-    let e = c.args.e.now in
-    let p = constant_fits kinds k e c.in-Constant.n c.in-Constant.w old c.requires.can c.in-Constant.is in
+    let arm = c.in-Constant in
+    let kinds = g.B.Book.kinds c.args.book.now in let k = known_of c.args.self.now in let old = c.args.bank.now in let e = c.args.e.now in
+    let p = constant_fits kinds k e arm.n arm.w old c.requires.can arm.is in
     let most = p.most in
     omega arith
 
 pub value_by-invariant_of-word : goal.value_by-invariant_of-word
 value_by-invariant_of-word g t c =
-    let kinds = g.B.Book.kinds c.args.book.now in
-    let k = known_of c.args.self.now in
-    let old = c.args.bank.now in
-    let e = c.args.e.now in
-    let p = constant_fits kinds k e c.in-Constant.n c.in-Constant.w old c.requires.can c.in-Constant.is in
+    let arm = c.in-Constant in
+    let kinds = g.B.Book.kinds c.args.book.now in let k = known_of c.args.self.now in let old = c.args.bank.now in let e = c.args.e.now in
+    let p = constant_fits kinds k e arm.n arm.w old c.requires.can arm.is in
     record { least = p.least; most = p.most; fits = p.below }
 
 pub value_by-word-requires : goal.value_by-word-requires
 value_by-word-requires g t c =
-    let kinds = g.B.Book.kinds c.args.book.now in
-    let k = known_of c.args.self.now in
-    let old = c.args.bank.now in
-    let e = c.args.e.now in
-    let p = constant_fits kinds k e c.in-Constant.n c.in-Constant.w old c.requires.can c.in-Constant.is in
+    let arm = c.in-Constant in
+    let kinds = g.B.Book.kinds c.args.book.now in let k = known_of c.args.self.now in let old = c.args.bank.now in let e = c.args.e.now in
+    let p = constant_fits kinds k e arm.n arm.w old c.requires.can arm.is in
     record { least = p.least; most = p.most; fits = p.below }
 
-pub value_by-returns-in-Constant-clause-nodes : goal.value_by-returns-in-Constant-clause-nodes
-value_by-returns-in-Constant-clause-nodes g t c =
-    let kinds = g.B.Book.kinds c.args.book.now in
-    let k = known_of c.args.self.now in
-    let old = c.args.bank.now in
-    let e = c.args.e.now in
-    nodes_as c.word.result c.word.new.bank (word_made kinds (node.Const (word c.in-Constant.w.value c.in-Constant.n.value)) old) (terms_in kinds k e old) (constant_made kinds k e c.in-Constant.n c.in-Constant.w old c.in-Constant.is) c.word.ensures.nodes
+pub value_by-returns-in-Constant : goal.value_by-returns-in-Constant
+value_by-returns-in-Constant g t c =
+    let arm = c.in-Constant in
+    let kinds = g.B.Book.kinds c.args.book.now in let k = known_of c.args.self.now in let old = c.args.bank.now in let e = c.args.e.now in
+    let same = constant_made kinds k e arm.n arm.w old arm.is in
+    record {
+      nodes = nodes_as c.word.result c.word.new.bank _ _ same c.word.ensures.nodes;
+      form = value_as c.word.result _ _ same c.word.ensures.form;
+      grows = c.word.ensures.grows;
+      bank = c.word.ensures.bank;
+    }
 
-pub value_by-returns-in-Constant-clause-form : goal.value_by-returns-in-Constant-clause-form
-value_by-returns-in-Constant-clause-form g t c =
-    let kinds = g.B.Book.kinds c.args.book.now in
-    let k = known_of c.args.self.now in
-    let old = c.args.bank.now in
-    let e = c.args.e.now in
-    value_as c.word.result (word_made kinds (node.Const (word c.in-Constant.w.value c.in-Constant.n.value)) old) (terms_in kinds k e old) (constant_made kinds k e c.in-Constant.n c.in-Constant.w old c.in-Constant.is) c.word.ensures.form
+-- names
 
-pub value_by-returns-in-Low-clause-nodes : goal.value_by-returns-in-Low-clause-nodes
-value_by-returns-in-Low-clause-nodes g t c =
-    let kinds = g.B.Book.kinds c.args.book.now in
-    let k = known_of c.args.self.now in
-    let old = c.args.bank.now in
-    let e = c.args.e.now in
-    nodes_as c.value_of.result old (pure (sym_look_up c.in-Low.x.text (k.scope).low) old) (terms_in kinds k e old) (low_made kinds k e c.in-Low.field-0 c.in-Low.x old c.in-Low.is) (always_ok c.value_of.result old)
-
-pub value_by-returns-in-Low-clause-form : goal.value_by-returns-in-Low-clause-form
-value_by-returns-in-Low-clause-form g t c =
-    let kinds = g.B.Book.kinds c.args.book.now in
-    let k = known_of c.args.self.now in
-    let old = c.args.bank.now in
-    let e = c.args.e.now in
+pub value_by-returns-in-Low : goal.value_by-returns-in-Low
+value_by-returns-in-Low g t c =
+    let arm = c.in-Low in
+    let kinds = g.B.Book.kinds c.args.book.now in let k = known_of c.args.self.now in let old = c.args.bank.now in let e = c.args.e.now in
+    let same = low_made kinds k e arm.field-0 arm.x old arm.is in
     let low = env_of c.args.self.now.low.now in
-    subst (λ y. IfOk c.value_of.result (λ x. x ≡ y))
-    (ap (λ z. sym_look_up z (low ++ [])) c.as_slice.ensures ∙ ap (sym_look_up c.in-Low.x.text) (append-nil low) ∙ ap (λ (z : Out SymValue). z.value) (low_made kinds k e c.in-Low.field-0 c.in-Low.x old c.in-Low.is))
-    c.value_of.ensures
+    record {
+      nodes = nodes_as c.value_of.result old _ _ same (always_ok c.value_of.result old);
+      form = subst (λ y. IfOk c.value_of.result (λ x. x ≡ y))
+          (ap (λ z. sym_look_up z (low ++ [])) c.as_slice.ensures ∙ ap (sym_look_up arm.x.text) (append-nil low) ∙ ap (λ (z : Out SymValue). z.value) same)
+          c.value_of.ensures;
+      grows = extends_self old;
+      bank = c.requires.bank;
+    }
 
-pub value_by-returns-in-Variable-clause-nodes : goal.value_by-returns-in-Variable-clause-nodes
-value_by-returns-in-Variable-clause-nodes g t c =
-    let kinds = g.B.Book.kinds c.args.book.now in
-    let k = known_of c.args.self.now in
-    let old = c.args.bank.now in
-    let e = c.args.e.now in
-    nodes_as c.value_of-in-Variable.result old (pure (sym_look_up c.in-Variable.x.text (k.scope).own) old) (terms_in kinds k e old) (variable_made kinds k e c.in-Variable.x old c.in-Variable.is) (always_ok c.value_of-in-Variable.result old)
+pub value_by-returns-in-Variable : goal.value_by-returns-in-Variable
+value_by-returns-in-Variable g t c =
+    let kinds = g.B.Book.kinds c.args.book.now in let k = known_of c.args.self.now in let old = c.args.bank.now in let e = c.args.e.now in
+    let same = variable_made kinds k e c.in-Variable.x old c.in-Variable.is in
+    record {
+      nodes = nodes_as c.value_of-in-Variable.result old _ _ same (always_ok c.value_of-in-Variable.result old);
+      form = subst (λ y. IfOk c.value_of-in-Variable.result (λ x. x ≡ y))
+          (ap (λ z. sym_look_up z (k.scope).own) c.as_slice-in-Variable.ensures ∙ ap (λ (z : Out SymValue). z.value) same)
+          c.value_of-in-Variable.ensures;
+      grows = extends_self old;
+      bank = c.requires.bank;
+    }
 
-pub value_by-returns-in-Variable-clause-form : goal.value_by-returns-in-Variable-clause-form
-value_by-returns-in-Variable-clause-form g t c =
-    let kinds = g.B.Book.kinds c.args.book.now in
-    let k = known_of c.args.self.now in
-    let old = c.args.bank.now in
-    let e = c.args.e.now in
-    let own = (k.scope).own in
-    subst (λ y. IfOk c.value_of-in-Variable.result (λ x. x ≡ y))
-    (ap (λ z. sym_look_up z own) c.as_slice-in-Variable.ensures ∙ ap (λ (z : Out SymValue). z.value) (variable_made kinds k e c.in-Variable.x old c.in-Variable.is))
-    c.value_of-in-Variable.ensures
+-- a definition at its arguments
 
 pub value_by-values-requires : goal.value_by-values-requires
 value_by-values-requires g t c κs within =
-    let kinds = g.B.Book.kinds c.args.book.now in
-    let k = known_of c.args.self.now in
-    let old = c.args.bank.now in
-    let e = c.args.e.now in
-    let lighter = arguments_lighter (record { defs = c.args.self.now.defs.now; own = []; low = [] }) e c.in-Apply.f c.in-Apply.arguments c.as_slice-in-Apply.result.now c.in-Apply.is c.as_slice-in-Apply.ensures in
-    (omega arith, (search rules, (c.requires.bank, apply_asks kinds k e c.in-Apply.f c.in-Apply.arguments c.as_slice-in-Apply.result.now old c.requires.bank c.requires.can c.in-Apply.is c.as_slice-in-Apply.ensures)))
+    let arm = c.in-Apply in let asked = c.requires in
+    let kinds = g.B.Book.kinds c.args.book.now in let k = known_of c.args.self.now in let old = c.args.bank.now in let e = c.args.e.now in
+    let lighter = arguments_lighter (record { defs = c.args.self.now.defs.now; own = []; low = [] }) e arm.f arm.arguments
+    c.as_slice-in-Apply.result.now arm.is c.as_slice-in-Apply.ensures in
+    let can = apply_asks kinds k e arm.f arm.arguments c.as_slice-in-Apply.result.now old asked.bank asked.can arm.is c.as_slice-in-Apply.ensures in
+    (omega arith, (search rules, (asked.bank, can)))
 
 pub value_by-called-requires : goal.value_by-called-requires
 value_by-called-requires g t c κs within =
-    let kinds = g.B.Book.kinds c.args.book.now in
-    let k = known_of c.args.self.now in
-    let old = c.args.bank.now in
-    let e = c.args.e.now in
-    let lighter = call_lighter (record { defs = c.args.self.now.defs.now; own = []; low = [] }) e c.in-Apply.f c.in-Apply.arguments c.as_slice-in-Apply-2.result.now c.in-Apply.is c.as_slice-in-Apply-2.ensures in
-    (omega arith, (search rules, (c.in_ok-arguments-in-Apply.ensures.bank, call_asks kinds k e c.in-Apply.f c.in-Apply.arguments c.as_slice-in-Apply.result.now c.as_slice-in-Apply-2.result.now old c.values.new.bank c.in_ok-arguments-in-Apply.arguments.items c.as_slice-in-Apply-3.result.now c.requires.bank c.requires.can c.in-Apply.is c.as_slice-in-Apply.ensures c.as_slice-in-Apply-2.ensures c.as_slice-in-Apply-3.ensures.value (record { nodes = c.in_ok-arguments-in-Apply.ensures.nodes; value = c.in_ok-arguments-in-Apply.ensures.form }) c.in_ok-arguments-in-Apply.ensures.bank)))
+    let arm = c.in-Apply in let one = c.in_ok-arguments-in-Apply in
+    let kinds = g.B.Book.kinds c.args.book.now in let k = known_of c.args.self.now in let old = c.args.bank.now in let e = c.args.e.now in
+    let lighter = call_lighter (record { defs = c.args.self.now.defs.now; own = []; low = [] }) e arm.f arm.arguments c.as_slice-in-Apply-2.result.now
+    arm.is c.as_slice-in-Apply-2.ensures in
+    let can = call_asks kinds k e arm.f arm.arguments c.as_slice-in-Apply.result.now c.as_slice-in-Apply-2.result.now old c.values.new.bank
+    one.arguments.items c.as_slice-in-Apply-3.result.now c.requires.bank c.requires.can arm.is c.as_slice-in-Apply.ensures
+    c.as_slice-in-Apply-2.ensures c.as_slice-in-Apply-3.ensures.value (gave_all kinds k one.ensures.nodes one.ensures.form) one.ensures.bank in
+    (omega arith, (search rules, (one.ensures.bank, can)))
 
-pub value_by-returns-in_ok-arguments-in-Apply-clause-nodes : goal.value_by-returns-in_ok-arguments-in-Apply-clause-nodes
-value_by-returns-in_ok-arguments-in-Apply-clause-nodes g t c =
-    let kinds = g.B.Book.kinds c.args.book.now in
-    let k = known_of c.args.self.now in
-    let old = c.args.bank.now in
-    let e = c.args.e.now in
-    let same = call_gives kinds k e c.in-Apply.f c.in-Apply.arguments c.as_slice-in-Apply.result.now c.as_slice-in-Apply-2.result.now old c.values.new.bank c.in_ok-arguments-in-Apply.arguments.items c.as_slice-in-Apply-3.result.now c.in-Apply.is c.as_slice-in-Apply.ensures c.as_slice-in-Apply-2.ensures c.as_slice-in-Apply-3.ensures.value (record { nodes = c.in_ok-arguments-in-Apply.ensures.nodes; value = c.in_ok-arguments-in-Apply.ensures.form }) in
-    nodes_as c.called.result c.called.new.bank (terms_called kinds k.defs c.as_slice-in-Apply-2.result.now c.as_slice-in-Apply-3.result.now c.values.new.bank) (terms_in kinds k e old) same c.called.ensures.nodes
+pub value_by-returns-in_ok-arguments-in-Apply : goal.value_by-returns-in_ok-arguments-in-Apply
+value_by-returns-in_ok-arguments-in-Apply g t c =
+    let arm = c.in-Apply in let one = c.in_ok-arguments-in-Apply in
+    let kinds = g.B.Book.kinds c.args.book.now in let k = known_of c.args.self.now in let old = c.args.bank.now in let e = c.args.e.now in
+    let same = call_gives kinds k e arm.f arm.arguments c.as_slice-in-Apply.result.now c.as_slice-in-Apply-2.result.now old c.values.new.bank
+    one.arguments.items c.as_slice-in-Apply-3.result.now arm.is c.as_slice-in-Apply.ensures c.as_slice-in-Apply-2.ensures
+    c.as_slice-in-Apply-3.ensures.value (gave_all kinds k one.ensures.nodes one.ensures.form) in
+    record {
+      nodes = nodes_as c.called.result c.called.new.bank _ _ same c.called.ensures.nodes;
+      form = value_as c.called.result _ _ same c.called.ensures.form;
+      grows = extends_both old c.values.new.bank c.called.new.bank c.values.ensures.grows c.called.ensures.grows;
+      bank = c.called.ensures.bank;
+    }
 
-pub value_by-returns-in_ok-arguments-in-Apply-clause-form : goal.value_by-returns-in_ok-arguments-in-Apply-clause-form
-value_by-returns-in_ok-arguments-in-Apply-clause-form g t c =
-    let kinds = g.B.Book.kinds c.args.book.now in
-    let k = known_of c.args.self.now in
-    let old = c.args.bank.now in
-    let e = c.args.e.now in
-    let same = call_gives kinds k e c.in-Apply.f c.in-Apply.arguments c.as_slice-in-Apply.result.now c.as_slice-in-Apply-2.result.now old c.values.new.bank c.in_ok-arguments-in-Apply.arguments.items c.as_slice-in-Apply-3.result.now c.in-Apply.is c.as_slice-in-Apply.ensures c.as_slice-in-Apply-2.ensures c.as_slice-in-Apply-3.ensures.value (record { nodes = c.in_ok-arguments-in-Apply.ensures.nodes; value = c.in_ok-arguments-in-Apply.ensures.form }) in
-    value_as c.called.result (terms_called kinds k.defs c.as_slice-in-Apply-2.result.now c.as_slice-in-Apply-3.result.now c.values.new.bank) (terms_in kinds k e old) same c.called.ensures.form
-
-pub value_by-returns-in_ok-arguments-in-Apply-clause-grows : goal.value_by-returns-in_ok-arguments-in-Apply-clause-grows
-value_by-returns-in_ok-arguments-in-Apply-clause-grows g t c =
-    extends_both c.args.bank.now c.values.new.bank c.called.new.bank c.values.ensures.grows c.called.ensures.grows
+-- operators
 
 pub value_by-value_by-requires : goal.value_by-value_by-requires
 value_by-value_by-requires g t c κs within =
-    let kinds = g.B.Book.kinds c.args.book.now in
-    let k = known_of c.args.self.now in
-    let old = c.args.bank.now in
-    let e = c.args.e.now in
-    let lighter = left_lighter (weights_of c.args.self.now.defs.now) e c.in-Binary.field-0 c.in-Binary.a c.in-Binary.op c.in-Binary.field-3 c.in-Binary.b c.get.result.now c.in-Binary.is c.get.ensures in
-    (omega arith, (search rules, (c.requires.bank, left_asks kinds k e c.in-Binary.field-0 c.in-Binary.a c.in-Binary.op c.in-Binary.field-3 c.in-Binary.b c.get.result.now old c.requires.bank c.requires.can c.in-Binary.is c.get.ensures)))
+    let arm = c.in-Binary in let asked = c.requires in
+    let kinds = g.B.Book.kinds c.args.book.now in let k = known_of c.args.self.now in let old = c.args.bank.now in let e = c.args.e.now in
+    let lighter = left_lighter (weights_of c.args.self.now.defs.now) e arm.field-0 arm.a arm.op arm.field-3 arm.b c.get.result.now arm.is c.get.ensures in
+    let can = left_asks kinds k e arm.field-0 arm.a arm.op arm.field-3 arm.b c.get.result.now old asked.bank asked.can arm.is c.get.ensures in
+    (omega arith, (search rules, (asked.bank, can)))
 
 pub value_by-value_by-requires-in-Binary : goal.value_by-value_by-requires-in-Binary
 value_by-value_by-requires-in-Binary g t c κs within =
-    let kinds = g.B.Book.kinds c.args.book.now in
-    let k = known_of c.args.self.now in
-    let old = c.args.bank.now in
-    let e = c.args.e.now in
-    let lighter = right_lighter (weights_of c.args.self.now.defs.now) e c.in-Binary.field-0 c.in-Binary.a c.in-Binary.op c.in-Binary.field-3 c.in-Binary.b c.get-in-Binary.result.now c.in-Binary.is c.get-in-Binary.ensures in
-    (omega arith, (search rules, (c.in_ok-a-in-Binary.ensures.bank, right_asks kinds k e c.in-Binary.field-0 c.in-Binary.a c.in-Binary.op c.in-Binary.field-3 c.in-Binary.b c.get-in-Binary.result.now old c.value_by.new.bank c.requires.bank c.requires.can c.in-Binary.is c.get-in-Binary.ensures c.in_ok-a-in-Binary.ensures.grows)))
+    let arm = c.in-Binary in
+    let kinds = g.B.Book.kinds c.args.book.now in let k = known_of c.args.self.now in let old = c.args.bank.now in let e = c.args.e.now in
+    let lighter = right_lighter (weights_of c.args.self.now.defs.now) e arm.field-0 arm.a arm.op arm.field-3 arm.b c.get-in-Binary.result.now arm.is
+    c.get-in-Binary.ensures in
+    let can = right_asks kinds k e arm.field-0 arm.a arm.op arm.field-3 arm.b c.get-in-Binary.result.now old c.value_by.new.bank c.requires.bank
+    c.requires.can arm.is c.get-in-Binary.ensures c.in_ok-a-in-Binary.ensures.grows in
+    (omega arith, (search rules, (c.in_ok-a-in-Binary.ensures.bank, can)))
 
 pub value_by-operated-requires : goal.value_by-operated-requires
 value_by-operated-requires g t c =
-    let kinds = g.B.Book.kinds c.args.book.now in
-    let k = known_of c.args.self.now in
-    let old = c.args.bank.now in
-    let e = c.args.e.now in
-    operated_asks kinds k e c.in-Binary.field-0 c.in-Binary.a c.in-Binary.op c.in-Binary.field-3 c.in-Binary.b c.get.result.now c.get-in-Binary.result.now old c.value_by.new.bank c.value_by-in-Binary.new.bank c.in_ok-a-in-Binary.a c.in_ok-b-in-Binary.b c.requires.bank c.requires.can c.in-Binary.is c.get.ensures c.get-in-Binary.ensures (record { nodes = c.in_ok-a-in-Binary.ensures.nodes; value = c.in_ok-a-in-Binary.ensures.form }) (record { nodes = c.in_ok-b-in-Binary.ensures.nodes; value = c.in_ok-b-in-Binary.ensures.form }) c.in_ok-b-in-Binary.ensures.bank
+    let arm = c.in-Binary in let one = c.in_ok-a-in-Binary in let two = c.in_ok-b-in-Binary in
+    let kinds = g.B.Book.kinds c.args.book.now in let k = known_of c.args.self.now in let old = c.args.bank.now in let e = c.args.e.now in
+    operated_asks kinds k e arm.field-0 arm.a arm.op arm.field-3 arm.b c.get.result.now c.get-in-Binary.result.now old c.value_by.new.bank
+    c.value_by-in-Binary.new.bank one.a two.b c.requires.bank c.requires.can arm.is c.get.ensures c.get-in-Binary.ensures (gave kinds k
+    one.ensures.nodes one.ensures.form) (gave kinds k two.ensures.nodes two.ensures.form) two.ensures.bank
 
-pub value_by-returns-in_ok-b-in-Binary-clause-nodes : goal.value_by-returns-in_ok-b-in-Binary-clause-nodes
-value_by-returns-in_ok-b-in-Binary-clause-nodes g t c =
-    let kinds = g.B.Book.kinds c.args.book.now in
-    let k = known_of c.args.self.now in
-    let old = c.args.bank.now in
-    let e = c.args.e.now in
-    let same = operated_gives kinds k e c.in-Binary.field-0 c.in-Binary.a c.in-Binary.op c.in-Binary.field-3 c.in-Binary.b c.get.result.now c.get-in-Binary.result.now old c.value_by.new.bank c.value_by-in-Binary.new.bank c.in_ok-a-in-Binary.a c.in_ok-b-in-Binary.b c.in-Binary.is c.get.ensures c.get-in-Binary.ensures (record { nodes = c.in_ok-a-in-Binary.ensures.nodes; value = c.in_ok-a-in-Binary.ensures.form }) (record { nodes = c.in_ok-b-in-Binary.ensures.nodes; value = c.in_ok-b-in-Binary.ensures.form }) in
-    nodes_as c.operated.result c.operated.new.bank (applied kinds c.in-Binary.op c.in_ok-a-in-Binary.a c.in_ok-b-in-Binary.b c.value_by-in-Binary.new.bank) (terms_in kinds k e old) same c.operated.ensures.nodes
-
-pub value_by-returns-in_ok-b-in-Binary-clause-form : goal.value_by-returns-in_ok-b-in-Binary-clause-form
-value_by-returns-in_ok-b-in-Binary-clause-form g t c =
-    let kinds = g.B.Book.kinds c.args.book.now in
-    let k = known_of c.args.self.now in
-    let old = c.args.bank.now in
-    let e = c.args.e.now in
-    let same = operated_gives kinds k e c.in-Binary.field-0 c.in-Binary.a c.in-Binary.op c.in-Binary.field-3 c.in-Binary.b c.get.result.now c.get-in-Binary.result.now old c.value_by.new.bank c.value_by-in-Binary.new.bank c.in_ok-a-in-Binary.a c.in_ok-b-in-Binary.b c.in-Binary.is c.get.ensures c.get-in-Binary.ensures (record { nodes = c.in_ok-a-in-Binary.ensures.nodes; value = c.in_ok-a-in-Binary.ensures.form }) (record { nodes = c.in_ok-b-in-Binary.ensures.nodes; value = c.in_ok-b-in-Binary.ensures.form }) in
-    value_as c.operated.result (applied kinds c.in-Binary.op c.in_ok-a-in-Binary.a c.in_ok-b-in-Binary.b c.value_by-in-Binary.new.bank) (terms_in kinds k e old) same c.operated.ensures.form
+pub value_by-returns-in_ok-b-in-Binary : goal.value_by-returns-in_ok-b-in-Binary
+value_by-returns-in_ok-b-in-Binary g t c =
+    let arm = c.in-Binary in let mid = c.value_by.new.bank in let late = c.operated.new.bank in let one = c.in_ok-a-in-Binary in let two =
+    c.in_ok-b-in-Binary in
+    let kinds = g.B.Book.kinds c.args.book.now in let k = known_of c.args.self.now in let old = c.args.bank.now in let e = c.args.e.now in
+    let same = operated_gives kinds k e arm.field-0 arm.a arm.op arm.field-3 arm.b c.get.result.now c.get-in-Binary.result.now old mid
+    c.value_by-in-Binary.new.bank one.a two.b arm.is c.get.ensures c.get-in-Binary.ensures (gave kinds k one.ensures.nodes one.ensures.form) (gave
+    kinds k two.ensures.nodes two.ensures.form) in
+    record {
+      nodes = nodes_as c.operated.result late _ _ same c.operated.ensures.nodes;
+      form = value_as c.operated.result _ _ same c.operated.ensures.form;
+      grows = extends_both old mid late c.value_by.ensures.grows (extends_both mid c.value_by-in-Binary.new.bank late
+          c.value_by-in-Binary.ensures.grows c.operated.ensures.grows);
+      bank = c.operated.ensures.bank;
+    }
 
 pub value_by-returns-in_err-b-in-Binary-clause-grows : goal.value_by-returns-in_err-b-in-Binary-clause-grows
 value_by-returns-in_err-b-in-Binary-clause-grows g t c =
     extends_both c.args.bank.now c.value_by.new.bank c.value_by-in-Binary.new.bank c.value_by.ensures.grows c.value_by-in-Binary.ensures.grows
 
-pub value_by-returns-in_ok-b-in-Binary-clause-grows : goal.value_by-returns-in_ok-b-in-Binary-clause-grows
-value_by-returns-in_ok-b-in-Binary-clause-grows g t c =
-    extends_both c.args.bank.now c.value_by.new.bank c.operated.new.bank c.value_by.ensures.grows (extends_both c.value_by.new.bank c.value_by-in-Binary.new.bank c.operated.new.bank c.value_by-in-Binary.ensures.grows c.operated.ensures.grows)
+-- `~e`
 
 pub value_by-value_by-requires-in-Not : goal.value_by-value_by-requires-in-Not
 value_by-value_by-requires-in-Not g t c κs within =
-    let kinds = g.B.Book.kinds c.args.book.now in
-    let k = known_of c.args.self.now in
-    let old = c.args.bank.now in
-    let e = c.args.e.now in
-    let lighter = not_lighter (weights_of c.args.self.now.defs.now) e c.in-Not.field-0 c.in-Not.a c.get-in-Not.result.now c.in-Not.is c.get-in-Not.ensures in
-    (omega arith, (search rules, (c.requires.bank, not_asks kinds k e c.in-Not.field-0 c.in-Not.a c.get-in-Not.result.now old c.requires.bank c.requires.can c.in-Not.is c.get-in-Not.ensures)))
+    let arm = c.in-Not in let asked = c.requires in
+    let kinds = g.B.Book.kinds c.args.book.now in let k = known_of c.args.self.now in let old = c.args.bank.now in let e = c.args.e.now in
+    let lighter = not_lighter (weights_of c.args.self.now.defs.now) e arm.field-0 arm.a c.get-in-Not.result.now arm.is c.get-in-Not.ensures in
+    let can = not_asks kinds k e arm.field-0 arm.a c.get-in-Not.result.now old asked.bank asked.can arm.is c.get-in-Not.ensures in
+    (omega arith, (search rules, (asked.bank, can)))
 
 pub value_by-word-requires-in-Not : goal.value_by-word-requires-in-Not
 value_by-word-requires-in-Not g t c =
-    let kinds = g.B.Book.kinds c.args.book.now in
-    let k = known_of c.args.self.now in
-    let old = c.args.bank.now in
-    let e = c.args.e.now in
+    let arm = c.in-Not in let one = c.in_ok-a-in-Not in
+    let kinds = g.B.Book.kinds c.args.book.now in let k = known_of c.args.self.now in let old = c.args.bank.now in let e = c.args.e.now in
     subst (Stands c.value_by-in-Not.new.bank) (sym c.id_in.ensures)
-    (complement_asks kinds k e c.in-Not.field-0 c.in-Not.a c.get-in-Not.result.now old c.value_by-in-Not.new.bank c.in_ok-a-in-Not.a c.requires.bank c.requires.can c.in-Not.is c.get-in-Not.ensures (record { nodes = c.in_ok-a-in-Not.ensures.nodes; value = c.in_ok-a-in-Not.ensures.form }) c.in_ok-a-in-Not.ensures.bank)
+    (complement_asks kinds k e arm.field-0 arm.a c.get-in-Not.result.now old c.value_by-in-Not.new.bank one.a c.requires.bank c.requires.can arm.is
+    c.get-in-Not.ensures (gave kinds k one.ensures.nodes one.ensures.form) one.ensures.bank)
 
-pub value_by-returns-in_ok-a-in-Not-clause-nodes : goal.value_by-returns-in_ok-a-in-Not-clause-nodes
-value_by-returns-in_ok-a-in-Not-clause-nodes g t c =
-    let kinds = g.B.Book.kinds c.args.book.now in
-    let k = known_of c.args.self.now in
-    let old = c.args.bank.now in
-    let e = c.args.e.now in
-    let same = ap (λ z. word_made kinds (node.Not z) c.value_by-in-Not.new.bank) c.id_in.ensures ∙ complement_gives kinds k e c.in-Not.field-0 c.in-Not.a c.get-in-Not.result.now old c.value_by-in-Not.new.bank c.in_ok-a-in-Not.a c.in-Not.is c.get-in-Not.ensures (record { nodes = c.in_ok-a-in-Not.ensures.nodes; value = c.in_ok-a-in-Not.ensures.form }) in
-    nodes_as c.word-in-Not.result c.word-in-Not.new.bank (word_made kinds (node.Not c.id_in.result) c.value_by-in-Not.new.bank) (terms_in kinds k e old) same c.word-in-Not.ensures.nodes
+pub value_by-returns-in_ok-a-in-Not : goal.value_by-returns-in_ok-a-in-Not
+value_by-returns-in_ok-a-in-Not g t c =
+    let arm = c.in-Not in let mid = c.value_by-in-Not.new.bank in let one = c.in_ok-a-in-Not in
+    let kinds = g.B.Book.kinds c.args.book.now in let k = known_of c.args.self.now in let old = c.args.bank.now in let e = c.args.e.now in
+    let same = ap (λ z. word_made kinds (node.Not z) mid) c.id_in.ensures ∙ complement_gives kinds k e arm.field-0 arm.a c.get-in-Not.result.now old
+    mid one.a arm.is c.get-in-Not.ensures (gave kinds k one.ensures.nodes one.ensures.form) in
+    record {
+      nodes = nodes_as c.word-in-Not.result c.word-in-Not.new.bank _ _ same c.word-in-Not.ensures.nodes;
+      form = value_as c.word-in-Not.result _ _ same c.word-in-Not.ensures.form;
+      grows = extends_both old mid c.word-in-Not.new.bank c.value_by-in-Not.ensures.grows c.word-in-Not.ensures.grows;
+      bank = c.word-in-Not.ensures.bank;
+    }
 
-pub value_by-returns-in_ok-a-in-Not-clause-form : goal.value_by-returns-in_ok-a-in-Not-clause-form
-value_by-returns-in_ok-a-in-Not-clause-form g t c =
-    let kinds = g.B.Book.kinds c.args.book.now in
-    let k = known_of c.args.self.now in
-    let old = c.args.bank.now in
-    let e = c.args.e.now in
-    let same = ap (λ z. word_made kinds (node.Not z) c.value_by-in-Not.new.bank) c.id_in.ensures ∙ complement_gives kinds k e c.in-Not.field-0 c.in-Not.a c.get-in-Not.result.now old c.value_by-in-Not.new.bank c.in_ok-a-in-Not.a c.in-Not.is c.get-in-Not.ensures (record { nodes = c.in_ok-a-in-Not.ensures.nodes; value = c.in_ok-a-in-Not.ensures.form }) in
-    value_as c.word-in-Not.result (word_made kinds (node.Not c.id_in.result) c.value_by-in-Not.new.bank) (terms_in kinds k e old) same c.word-in-Not.ensures.form
-
-pub value_by-returns-in_ok-a-in-Not-clause-grows : goal.value_by-returns-in_ok-a-in-Not-clause-grows
-value_by-returns-in_ok-a-in-Not-clause-grows g t c =
-    extends_both c.args.bank.now c.value_by-in-Not.new.bank c.word-in-Not.new.bank c.value_by-in-Not.ensures.grows c.word-in-Not.ensures.grows
+-- a part of a row or a table
 
 pub value_by-value_by-requires-in-At : goal.value_by-value_by-requires-in-At
 value_by-value_by-requires-in-At g t c κs within =
-    let kinds = g.B.Book.kinds c.args.book.now in
-    let k = known_of c.args.self.now in
-    let old = c.args.bank.now in
-    let e = c.args.e.now in
-    let lighter = whole_lighter (weights_of c.args.self.now.defs.now) e c.in-At.whole c.in-At.field-1 c.in-At.i c.get-in-At.result.now c.in-At.is c.get-in-At.ensures in
-    (omega arith, (search rules, (c.requires.bank, whole_asks kinds k e c.in-At.whole c.in-At.field-1 c.in-At.i c.get-in-At.result.now old c.requires.bank c.requires.can c.in-At.is c.get-in-At.ensures)))
+    let arm = c.in-At in let asked = c.requires in
+    let kinds = g.B.Book.kinds c.args.book.now in let k = known_of c.args.self.now in let old = c.args.bank.now in let e = c.args.e.now in
+    let lighter = whole_lighter (weights_of c.args.self.now.defs.now) e arm.whole arm.field-1 arm.i c.get-in-At.result.now arm.is c.get-in-At.ensures in
+    let can = whole_asks kinds k e arm.whole arm.field-1 arm.i c.get-in-At.result.now old asked.bank asked.can arm.is c.get-in-At.ensures in
+    (omega arith, (search rules, (asked.bank, can)))
 
 pub value_by-value_by-requires-in-At-2 : goal.value_by-value_by-requires-in-At-2
 value_by-value_by-requires-in-At-2 g t c κs within =
-    let kinds = g.B.Book.kinds c.args.book.now in
-    let k = known_of c.args.self.now in
-    let old = c.args.bank.now in
-    let e = c.args.e.now in
-    let lighter = index_lighter (record { defs = c.args.self.now.defs.now; own = []; low = [] }) e c.in-At.whole c.in-At.field-1 c.in-At.i c.get-in-At-2.result.now c.in-At.is c.get-in-At-2.ensures in
-    (omega arith, (search rules, (c.in_ok-whole-in-At.ensures.bank, index_asks kinds k e c.in-At.whole c.in-At.field-1 c.in-At.i c.get-in-At-2.result.now old c.value_by-in-At.new.bank c.requires.bank c.requires.can c.in-At.is c.get-in-At-2.ensures c.in_ok-whole-in-At.ensures.grows)))
+    let arm = c.in-At in
+    let kinds = g.B.Book.kinds c.args.book.now in let k = known_of c.args.self.now in let old = c.args.bank.now in let e = c.args.e.now in
+    let lighter = index_lighter (record { defs = c.args.self.now.defs.now; own = []; low = [] }) e arm.whole arm.field-1 arm.i c.get-in-At-2.result.now
+    arm.is c.get-in-At-2.ensures in
+    let can = index_asks kinds k e arm.whole arm.field-1 arm.i c.get-in-At-2.result.now old c.value_by-in-At.new.bank c.requires.bank c.requires.can
+    arm.is c.get-in-At-2.ensures c.in_ok-whole-in-At.ensures.grows in
+    (omega arith, (search rules, (c.in_ok-whole-in-At.ensures.bank, can)))
 
-pub value_by-part-requires-clause-bank : goal.value_by-part-requires-clause-bank
-value_by-part-requires-clause-bank g t c =
-    c.in_ok-i-in-At.ensures.bank
+pub value_by-part-requires : goal.value_by-part-requires
+value_by-part-requires g t c =
+    let arm = c.in-At in let one = c.in_ok-whole-in-At in let two = c.in_ok-i-in-At in
+    let kinds = g.B.Book.kinds c.args.book.now in let k = known_of c.args.self.now in let old = c.args.bank.now in let e = c.args.e.now in
+    let p = part_asks kinds k e arm.whole arm.field-1 arm.i c.get-in-At.result.now c.get-in-At-2.result.now old c.value_by-in-At.new.bank
+    c.value_by-in-At-2.new.bank one.whole two.i c.requires.bank c.requires.can arm.is c.get-in-At.ensures c.get-in-At-2.ensures (gave kinds k
+    one.ensures.nodes one.ensures.form) (gave kinds k two.ensures.nodes two.ensures.form) two.ensures.bank in
+    record { bank = two.ensures.bank; whole = p.0; at = subst (Stands c.value_by-in-At-2.new.bank) (sym c.id_in-in-At.ensures) p.1 }
 
-pub value_by-part-requires-clause-whole : goal.value_by-part-requires-clause-whole
-value_by-part-requires-clause-whole g t c =
-    let kinds = g.B.Book.kinds c.args.book.now in
-    let k = known_of c.args.self.now in
-    let old = c.args.bank.now in
-    let e = c.args.e.now in
-    (part_asks kinds k e c.in-At.whole c.in-At.field-1 c.in-At.i c.get-in-At.result.now c.get-in-At-2.result.now old c.value_by-in-At.new.bank c.value_by-in-At-2.new.bank c.in_ok-whole-in-At.whole c.in_ok-i-in-At.i c.requires.bank c.requires.can c.in-At.is c.get-in-At.ensures c.get-in-At-2.ensures (record { nodes = c.in_ok-whole-in-At.ensures.nodes; value = c.in_ok-whole-in-At.ensures.form }) (record { nodes = c.in_ok-i-in-At.ensures.nodes; value = c.in_ok-i-in-At.ensures.form }) c.in_ok-i-in-At.ensures.bank).0
-
-pub value_by-part-requires-clause-at : goal.value_by-part-requires-clause-at
-value_by-part-requires-clause-at g t c =
-    let kinds = g.B.Book.kinds c.args.book.now in
-    let k = known_of c.args.self.now in
-    let old = c.args.bank.now in
-    let e = c.args.e.now in
-    subst (Stands c.value_by-in-At-2.new.bank) (sym c.id_in-in-At.ensures) (part_asks kinds k e c.in-At.whole c.in-At.field-1 c.in-At.i c.get-in-At.result.now c.get-in-At-2.result.now old c.value_by-in-At.new.bank c.value_by-in-At-2.new.bank c.in_ok-whole-in-At.whole c.in_ok-i-in-At.i c.requires.bank c.requires.can c.in-At.is c.get-in-At.ensures c.get-in-At-2.ensures (record { nodes = c.in_ok-whole-in-At.ensures.nodes; value = c.in_ok-whole-in-At.ensures.form }) (record { nodes = c.in_ok-i-in-At.ensures.nodes; value = c.in_ok-i-in-At.ensures.form }) c.in_ok-i-in-At.ensures.bank).1
-
-pub value_by-returns-in_ok-i-in-At-clause-nodes : goal.value_by-returns-in_ok-i-in-At-clause-nodes
-value_by-returns-in_ok-i-in-At-clause-nodes g t c =
-    let kinds = g.B.Book.kinds c.args.book.now in
-    let k = known_of c.args.self.now in
-    let old = c.args.bank.now in
-    let e = c.args.e.now in
-    let same = ap (λ z. part_made kinds c.in_ok-whole-in-At.whole z c.value_by-in-At-2.new.bank) c.id_in-in-At.ensures ∙ part_gives kinds k e c.in-At.whole c.in-At.field-1 c.in-At.i c.get-in-At.result.now c.get-in-At-2.result.now old c.value_by-in-At.new.bank c.value_by-in-At-2.new.bank c.in_ok-whole-in-At.whole c.in_ok-i-in-At.i c.in-At.is c.get-in-At.ensures c.get-in-At-2.ensures (record { nodes = c.in_ok-whole-in-At.ensures.nodes; value = c.in_ok-whole-in-At.ensures.form }) (record { nodes = c.in_ok-i-in-At.ensures.nodes; value = c.in_ok-i-in-At.ensures.form }) in
-    nodes_as c.part.result c.part.new.bank (part_made kinds c.in_ok-whole-in-At.whole c.id_in-in-At.result c.value_by-in-At-2.new.bank) (terms_in kinds k e old) same c.part.ensures.nodes
-
-pub value_by-returns-in_ok-i-in-At-clause-form : goal.value_by-returns-in_ok-i-in-At-clause-form
-value_by-returns-in_ok-i-in-At-clause-form g t c =
-    let kinds = g.B.Book.kinds c.args.book.now in
-    let k = known_of c.args.self.now in
-    let old = c.args.bank.now in
-    let e = c.args.e.now in
-    let same = ap (λ z. part_made kinds c.in_ok-whole-in-At.whole z c.value_by-in-At-2.new.bank) c.id_in-in-At.ensures ∙ part_gives kinds k e c.in-At.whole c.in-At.field-1 c.in-At.i c.get-in-At.result.now c.get-in-At-2.result.now old c.value_by-in-At.new.bank c.value_by-in-At-2.new.bank c.in_ok-whole-in-At.whole c.in_ok-i-in-At.i c.in-At.is c.get-in-At.ensures c.get-in-At-2.ensures (record { nodes = c.in_ok-whole-in-At.ensures.nodes; value = c.in_ok-whole-in-At.ensures.form }) (record { nodes = c.in_ok-i-in-At.ensures.nodes; value = c.in_ok-i-in-At.ensures.form }) in
-    value_as c.part.result (part_made kinds c.in_ok-whole-in-At.whole c.id_in-in-At.result c.value_by-in-At-2.new.bank) (terms_in kinds k e old) same c.part.ensures.form
+pub value_by-returns-in_ok-i-in-At : goal.value_by-returns-in_ok-i-in-At
+value_by-returns-in_ok-i-in-At g t c =
+    let arm = c.in-At in let mid = c.value_by-in-At-2.new.bank in let late = c.value_by-in-At.new.bank in let last = c.part.new.bank in let one =
+    c.in_ok-whole-in-At in let two = c.in_ok-i-in-At in
+    let kinds = g.B.Book.kinds c.args.book.now in let k = known_of c.args.self.now in let old = c.args.bank.now in let e = c.args.e.now in
+    let same = ap (λ z. part_made kinds one.whole z mid) c.id_in-in-At.ensures ∙ part_gives kinds k e arm.whole arm.field-1 arm.i
+    c.get-in-At.result.now c.get-in-At-2.result.now old late mid one.whole two.i arm.is c.get-in-At.ensures c.get-in-At-2.ensures (gave kinds k
+    one.ensures.nodes one.ensures.form) (gave kinds k two.ensures.nodes two.ensures.form) in
+    record {
+      nodes = nodes_as c.part.result last _ _ same c.part.ensures.nodes;
+      form = value_as c.part.result _ _ same c.part.ensures.form;
+      grows = extends_both old late last c.value_by-in-At.ensures.grows (extends_both late mid last c.value_by-in-At-2.ensures.grows c.part.ensures.grows);
+      bank = c.part.ensures.bank;
+    }
 
 pub value_by-returns-in_err-i-in-At-clause-grows : goal.value_by-returns-in_err-i-in-At-clause-grows
 value_by-returns-in_err-i-in-At-clause-grows g t c =
     extends_both c.args.bank.now c.value_by-in-At.new.bank c.value_by-in-At-2.new.bank c.value_by-in-At.ensures.grows c.value_by-in-At-2.ensures.grows
 
-pub value_by-returns-in_ok-i-in-At-clause-grows : goal.value_by-returns-in_ok-i-in-At-clause-grows
-value_by-returns-in_ok-i-in-At-clause-grows g t c =
-    extends_both c.args.bank.now c.value_by-in-At.new.bank c.part.new.bank c.value_by-in-At.ensures.grows (extends_both c.value_by-in-At.new.bank c.value_by-in-At-2.new.bank c.part.new.bank c.value_by-in-At-2.ensures.grows c.part.ensures.grows)
+-- `pick`
 
 pub value_by-value_by-requires-in-Pick : goal.value_by-value_by-requires-in-Pick
 value_by-value_by-requires-in-Pick g t c κs within =
-    let kinds = g.B.Book.kinds c.args.book.now in
-    let k = known_of c.args.self.now in
-    let old = c.args.bank.now in
-    let e = c.args.e.now in
-    let lighter = test_lighter (weights_of c.args.self.now.defs.now) e c.in-Pick.field-0 c.in-Pick.test c.in-Pick.a c.in-Pick.b c.get-in-Pick.result.now c.in-Pick.is c.get-in-Pick.ensures in
-    (omega arith, (search rules, (c.requires.bank, test_asks kinds k e c.in-Pick.field-0 c.in-Pick.test c.in-Pick.a c.in-Pick.b c.get-in-Pick.result.now old c.requires.bank c.requires.can c.in-Pick.is c.get-in-Pick.ensures)))
+    let arm = c.in-Pick in let asked = c.requires in
+    let kinds = g.B.Book.kinds c.args.book.now in let k = known_of c.args.self.now in let old = c.args.bank.now in let e = c.args.e.now in
+    let lighter = test_lighter (weights_of c.args.self.now.defs.now) e arm.field-0 arm.test arm.a arm.b c.get-in-Pick.result.now arm.is
+    c.get-in-Pick.ensures in
+    let can = test_asks kinds k e arm.field-0 arm.test arm.a arm.b c.get-in-Pick.result.now old asked.bank asked.can arm.is c.get-in-Pick.ensures in
+    (omega arith, (search rules, (asked.bank, can)))
 
 pub value_by-value_by-requires-in-Pick-2 : goal.value_by-value_by-requires-in-Pick-2
 value_by-value_by-requires-in-Pick-2 g t c κs within =
-    let kinds = g.B.Book.kinds c.args.book.now in
-    let k = known_of c.args.self.now in
-    let old = c.args.bank.now in
-    let e = c.args.e.now in
-    let lighter = first_lighter (record { defs = c.args.self.now.defs.now; own = []; low = [] }) e c.in-Pick.field-0 c.in-Pick.test c.in-Pick.a c.in-Pick.b c.get-in-Pick-2.result.now c.in-Pick.is c.get-in-Pick-2.ensures in
-    (omega arith, (search rules, (c.in_ok-test-in-Pick.ensures.bank, first_asks kinds k e c.in-Pick.field-0 c.in-Pick.test c.in-Pick.a c.in-Pick.b c.get-in-Pick-2.result.now old c.value_by-in-Pick.new.bank c.requires.bank c.requires.can c.in-Pick.is c.get-in-Pick-2.ensures c.value_by-in-Pick.ensures.grows)))
+    let arm = c.in-Pick in
+    let kinds = g.B.Book.kinds c.args.book.now in let k = known_of c.args.self.now in let old = c.args.bank.now in let e = c.args.e.now in
+    let lighter = first_lighter (record { defs = c.args.self.now.defs.now; own = []; low = [] }) e arm.field-0 arm.test arm.a arm.b
+    c.get-in-Pick-2.result.now arm.is c.get-in-Pick-2.ensures in
+    let can = first_asks kinds k e arm.field-0 arm.test arm.a arm.b c.get-in-Pick-2.result.now old c.value_by-in-Pick.new.bank c.requires.bank
+    c.requires.can arm.is c.get-in-Pick-2.ensures c.value_by-in-Pick.ensures.grows in
+    (omega arith, (search rules, (c.in_ok-test-in-Pick.ensures.bank, can)))
 
 pub value_by-value_by-requires-in-Pick-3 : goal.value_by-value_by-requires-in-Pick-3
 value_by-value_by-requires-in-Pick-3 g t c κs within =
-    let kinds = g.B.Book.kinds c.args.book.now in
-    let k = known_of c.args.self.now in
-    let old = c.args.bank.now in
-    let e = c.args.e.now in
-    let lighter = second_lighter (record { defs = c.args.self.now.defs.now; own = []; low = [] }) e c.in-Pick.field-0 c.in-Pick.test c.in-Pick.a c.in-Pick.b c.get-in-Pick-3.result.now c.in-Pick.is c.get-in-Pick-3.ensures in
-    (omega arith, (search rules, (c.in_ok-a-in-Pick.ensures.bank, second_asks kinds k e c.in-Pick.field-0 c.in-Pick.test c.in-Pick.a c.in-Pick.b c.get-in-Pick-3.result.now old c.value_by-in-Pick-2.new.bank c.requires.bank c.requires.can c.in-Pick.is c.get-in-Pick-3.ensures (extends_both old c.value_by-in-Pick.new.bank c.value_by-in-Pick-2.new.bank c.value_by-in-Pick.ensures.grows c.value_by-in-Pick-2.ensures.grows))))
+    let arm = c.in-Pick in
+    let kinds = g.B.Book.kinds c.args.book.now in let k = known_of c.args.self.now in let old = c.args.bank.now in let e = c.args.e.now in
+    let lighter = second_lighter (record { defs = c.args.self.now.defs.now; own = []; low = [] }) e arm.field-0 arm.test arm.a arm.b
+    c.get-in-Pick-3.result.now arm.is c.get-in-Pick-3.ensures in
+    let can = second_asks kinds k e arm.field-0 arm.test arm.a arm.b c.get-in-Pick-3.result.now old c.value_by-in-Pick-2.new.bank c.requires.bank
+    c.requires.can arm.is c.get-in-Pick-3.ensures (extends_both old c.value_by-in-Pick.new.bank c.value_by-in-Pick-2.new.bank
+    c.value_by-in-Pick.ensures.grows c.value_by-in-Pick-2.ensures.grows) in
+    (omega arith, (search rules, (c.in_ok-a-in-Pick.ensures.bank, can)))
 
-pub value_by-merge-requires-clause-test : goal.value_by-merge-requires-clause-test
-value_by-merge-requires-clause-test g t c =
-    let kinds = g.B.Book.kinds c.args.book.now in
-    let k = known_of c.args.self.now in
-    let old = c.args.bank.now in
-    let e = c.args.e.now in
-    subst (λ z. HasWidth c.value_by-in-Pick-3.new.bank z 1) (sym c.id_in-in-Pick.ensures) (merge_asks kinds k e c.in-Pick.field-0 c.in-Pick.test c.in-Pick.a c.in-Pick.b c.get-in-Pick.result.now c.get-in-Pick-2.result.now c.get-in-Pick-3.result.now old c.value_by-in-Pick.new.bank c.value_by-in-Pick-2.new.bank c.value_by-in-Pick-3.new.bank c.in_ok-test-in-Pick.test c.in_ok-a-in-Pick.a c.in_ok-b-in-Pick.b c.requires.bank c.requires.can c.in-Pick.is c.get-in-Pick.ensures c.get-in-Pick-2.ensures c.get-in-Pick-3.ensures (record { nodes = c.in_ok-test-in-Pick.ensures.nodes; value = c.in_ok-test-in-Pick.ensures.form }) (record { nodes = c.in_ok-a-in-Pick.ensures.nodes; value = c.in_ok-a-in-Pick.ensures.form }) (record { nodes = c.in_ok-b-in-Pick.ensures.nodes; value = c.in_ok-b-in-Pick.ensures.form }) c.in_ok-b-in-Pick.ensures.bank).0
+pub value_by-merge-requires : goal.value_by-merge-requires
+value_by-merge-requires g t c =
+    let arm = c.in-Pick in let one = c.in_ok-test-in-Pick in let two = c.in_ok-a-in-Pick in let three = c.in_ok-b-in-Pick in
+    let kinds = g.B.Book.kinds c.args.book.now in let k = known_of c.args.self.now in let old = c.args.bank.now in let e = c.args.e.now in
+    let p = merge_asks kinds k e arm.field-0 arm.test arm.a arm.b c.get-in-Pick.result.now c.get-in-Pick-2.result.now c.get-in-Pick-3.result.now old
+    c.value_by-in-Pick.new.bank c.value_by-in-Pick-2.new.bank c.value_by-in-Pick-3.new.bank one.test two.a three.b c.requires.bank c.requires.can
+    arm.is c.get-in-Pick.ensures c.get-in-Pick-2.ensures c.get-in-Pick-3.ensures (gave kinds k one.ensures.nodes one.ensures.form) (gave kinds k
+    two.ensures.nodes two.ensures.form) (gave kinds k three.ensures.nodes three.ensures.form) three.ensures.bank in
+    record { test = subst (λ z. HasWidth c.value_by-in-Pick-3.new.bank z 1) (sym c.id_in-in-Pick.ensures) p.0; values = p.1 }
 
-pub value_by-merge-requires-clause-values : goal.value_by-merge-requires-clause-values
-value_by-merge-requires-clause-values g t c =
-    let kinds = g.B.Book.kinds c.args.book.now in
-    let k = known_of c.args.self.now in
-    let old = c.args.bank.now in
-    let e = c.args.e.now in
-    (merge_asks kinds k e c.in-Pick.field-0 c.in-Pick.test c.in-Pick.a c.in-Pick.b c.get-in-Pick.result.now c.get-in-Pick-2.result.now c.get-in-Pick-3.result.now old c.value_by-in-Pick.new.bank c.value_by-in-Pick-2.new.bank c.value_by-in-Pick-3.new.bank c.in_ok-test-in-Pick.test c.in_ok-a-in-Pick.a c.in_ok-b-in-Pick.b c.requires.bank c.requires.can c.in-Pick.is c.get-in-Pick.ensures c.get-in-Pick-2.ensures c.get-in-Pick-3.ensures (record { nodes = c.in_ok-test-in-Pick.ensures.nodes; value = c.in_ok-test-in-Pick.ensures.form }) (record { nodes = c.in_ok-a-in-Pick.ensures.nodes; value = c.in_ok-a-in-Pick.ensures.form }) (record { nodes = c.in_ok-b-in-Pick.ensures.nodes; value = c.in_ok-b-in-Pick.ensures.form }) c.in_ok-b-in-Pick.ensures.bank).1
-
-pub value_by-returns-in_ok-b-in-Pick-clause-nodes : goal.value_by-returns-in_ok-b-in-Pick-clause-nodes
-value_by-returns-in_ok-b-in-Pick-clause-nodes g t c =
-    let kinds = g.B.Book.kinds c.args.book.now in
-    let k = known_of c.args.self.now in
-    let old = c.args.bank.now in
-    let e = c.args.e.now in
-    let same = ap (λ z. merged kinds z c.in_ok-a-in-Pick.a c.in_ok-b-in-Pick.b c.value_by-in-Pick-3.new.bank) c.id_in-in-Pick.ensures ∙ merge_gives kinds k e c.in-Pick.field-0 c.in-Pick.test c.in-Pick.a c.in-Pick.b c.get-in-Pick.result.now c.get-in-Pick-2.result.now c.get-in-Pick-3.result.now old c.value_by-in-Pick.new.bank c.value_by-in-Pick-2.new.bank c.value_by-in-Pick-3.new.bank c.in_ok-test-in-Pick.test c.in_ok-a-in-Pick.a c.in_ok-b-in-Pick.b c.in-Pick.is c.get-in-Pick.ensures c.get-in-Pick-2.ensures c.get-in-Pick-3.ensures (record { nodes = c.in_ok-test-in-Pick.ensures.nodes; value = c.in_ok-test-in-Pick.ensures.form }) (record { nodes = c.in_ok-a-in-Pick.ensures.nodes; value = c.in_ok-a-in-Pick.ensures.form }) (record { nodes = c.in_ok-b-in-Pick.ensures.nodes; value = c.in_ok-b-in-Pick.ensures.form }) in
-    nodes_as c.merge.result c.merge.new.bank (merged kinds c.id_in-in-Pick.result c.in_ok-a-in-Pick.a c.in_ok-b-in-Pick.b c.value_by-in-Pick-3.new.bank) (terms_in kinds k e old) same c.merge.ensures.nodes
-
-pub value_by-returns-in_ok-b-in-Pick-clause-form : goal.value_by-returns-in_ok-b-in-Pick-clause-form
-value_by-returns-in_ok-b-in-Pick-clause-form g t c =
-    let kinds = g.B.Book.kinds c.args.book.now in
-    let k = known_of c.args.self.now in
-    let old = c.args.bank.now in
-    let e = c.args.e.now in
-    let same = ap (λ z. merged kinds z c.in_ok-a-in-Pick.a c.in_ok-b-in-Pick.b c.value_by-in-Pick-3.new.bank) c.id_in-in-Pick.ensures ∙ merge_gives kinds k e c.in-Pick.field-0 c.in-Pick.test c.in-Pick.a c.in-Pick.b c.get-in-Pick.result.now c.get-in-Pick-2.result.now c.get-in-Pick-3.result.now old c.value_by-in-Pick.new.bank c.value_by-in-Pick-2.new.bank c.value_by-in-Pick-3.new.bank c.in_ok-test-in-Pick.test c.in_ok-a-in-Pick.a c.in_ok-b-in-Pick.b c.in-Pick.is c.get-in-Pick.ensures c.get-in-Pick-2.ensures c.get-in-Pick-3.ensures (record { nodes = c.in_ok-test-in-Pick.ensures.nodes; value = c.in_ok-test-in-Pick.ensures.form }) (record { nodes = c.in_ok-a-in-Pick.ensures.nodes; value = c.in_ok-a-in-Pick.ensures.form }) (record { nodes = c.in_ok-b-in-Pick.ensures.nodes; value = c.in_ok-b-in-Pick.ensures.form }) in
-    value_as c.merge.result (merged kinds c.id_in-in-Pick.result c.in_ok-a-in-Pick.a c.in_ok-b-in-Pick.b c.value_by-in-Pick-3.new.bank) (terms_in kinds k e old) same c.merge.ensures.form
+pub value_by-returns-in_ok-b-in-Pick : goal.value_by-returns-in_ok-b-in-Pick
+value_by-returns-in_ok-b-in-Pick g t c =
+    let arm = c.in-Pick in let mid = c.value_by-in-Pick-3.new.bank in let late = c.value_by-in-Pick.new.bank in let last =
+    c.value_by-in-Pick-2.new.bank in let one = c.in_ok-a-in-Pick in let two = c.in_ok-b-in-Pick in let three = c.in_ok-test-in-Pick in
+    let kinds = g.B.Book.kinds c.args.book.now in let k = known_of c.args.self.now in let old = c.args.bank.now in let e = c.args.e.now in
+    let same = ap (λ z. merged kinds z one.a two.b mid) c.id_in-in-Pick.ensures ∙ merge_gives kinds k e arm.field-0 arm.test arm.a arm.b
+    c.get-in-Pick.result.now c.get-in-Pick-2.result.now c.get-in-Pick-3.result.now old late last mid three.test one.a two.b arm.is
+    c.get-in-Pick.ensures c.get-in-Pick-2.ensures c.get-in-Pick-3.ensures (gave kinds k three.ensures.nodes three.ensures.form) (gave kinds k
+    one.ensures.nodes one.ensures.form) (gave kinds k two.ensures.nodes two.ensures.form) in
+    record {
+      nodes = nodes_as c.merge.result c.merge.new.bank _ _ same c.merge.ensures.nodes;
+      form = value_as c.merge.result _ _ same c.merge.ensures.form;
+      grows = extends_both old late c.merge.new.bank c.value_by-in-Pick.ensures.grows (extends_both late last c.merge.new.bank
+          c.value_by-in-Pick-2.ensures.grows (extends_both last mid c.merge.new.bank c.value_by-in-Pick-3.ensures.grows c.merge.ensures.grows));
+      bank = c.merge.ensures.bank;
+    }
 
 pub value_by-returns-in_err-a-in-Pick-clause-grows : goal.value_by-returns-in_err-a-in-Pick-clause-grows
 value_by-returns-in_err-a-in-Pick-clause-grows g t c =
@@ -446,140 +376,126 @@ value_by-returns-in_err-a-in-Pick-clause-grows g t c =
 
 pub value_by-returns-in_err-b-in-Pick-clause-grows : goal.value_by-returns-in_err-b-in-Pick-clause-grows
 value_by-returns-in_err-b-in-Pick-clause-grows g t c =
-    extends_both c.args.bank.now c.value_by-in-Pick.new.bank c.value_by-in-Pick-3.new.bank c.value_by-in-Pick.ensures.grows (extends_both c.value_by-in-Pick.new.bank c.value_by-in-Pick-2.new.bank c.value_by-in-Pick-3.new.bank c.value_by-in-Pick-2.ensures.grows c.value_by-in-Pick-3.ensures.grows)
+    extends_both c.args.bank.now c.value_by-in-Pick.new.bank c.value_by-in-Pick-3.new.bank c.value_by-in-Pick.ensures.grows (extends_both
+    c.value_by-in-Pick.new.bank c.value_by-in-Pick-2.new.bank c.value_by-in-Pick-3.new.bank c.value_by-in-Pick-2.ensures.grows
+    c.value_by-in-Pick-3.ensures.grows)
 
-pub value_by-returns-in_ok-b-in-Pick-clause-grows : goal.value_by-returns-in_ok-b-in-Pick-clause-grows
-value_by-returns-in_ok-b-in-Pick-clause-grows g t c =
-    extends_both c.args.bank.now c.value_by-in-Pick.new.bank c.merge.new.bank c.value_by-in-Pick.ensures.grows (extends_both c.value_by-in-Pick.new.bank c.value_by-in-Pick-2.new.bank c.merge.new.bank c.value_by-in-Pick-2.ensures.grows (extends_both c.value_by-in-Pick-2.new.bank c.value_by-in-Pick-3.new.bank c.merge.new.bank c.value_by-in-Pick-3.ensures.grows c.merge.ensures.grows))
+-- `resize`
 
 pub value_by-value_by-requires-in-Resize : goal.value_by-value_by-requires-in-Resize
 value_by-value_by-requires-in-Resize g t c κs within =
-    let kinds = g.B.Book.kinds c.args.book.now in
-    let k = known_of c.args.self.now in
-    let old = c.args.bank.now in
-    let e = c.args.e.now in
-    let lighter = resized_lighter (weights_of c.args.self.now.defs.now) e c.in-Resize.field-0 c.in-Resize.a c.in-Resize.w c.get-in-Resize.result.now c.in-Resize.is c.get-in-Resize.ensures in
-    (omega arith, (search rules, (c.requires.bank, resize_asks kinds k e c.in-Resize.field-0 c.in-Resize.a c.in-Resize.w c.get-in-Resize.result.now old c.requires.bank c.requires.can c.in-Resize.is c.get-in-Resize.ensures)))
+    let arm = c.in-Resize in let asked = c.requires in
+    let kinds = g.B.Book.kinds c.args.book.now in let k = known_of c.args.self.now in let old = c.args.bank.now in let e = c.args.e.now in
+    let lighter = resized_lighter (weights_of c.args.self.now.defs.now) e arm.field-0 arm.a arm.w c.get-in-Resize.result.now arm.is c.get-in-Resize.ensures in
+    let can = resize_asks kinds k e arm.field-0 arm.a arm.w c.get-in-Resize.result.now old asked.bank asked.can arm.is c.get-in-Resize.ensures in
+    (omega arith, (search rules, (asked.bank, can)))
 
 pub value_by-overflow_cast-width-in-Resize : goal.value_by-overflow_cast-width-in-Resize
 value_by-overflow_cast-width-in-Resize g t c =
-    let kinds = g.B.Book.kinds c.args.book.now in
-    let k = known_of c.args.self.now in
-    let old = c.args.bank.now in
-    let e = c.args.e.now in
-    let within = resize_width kinds k e c.in-Resize.field-0 c.in-Resize.a c.in-Resize.w old c.requires.bank c.requires.can c.in-Resize.is in
+    let arm = c.in-Resize in
+    let kinds = g.B.Book.kinds c.args.book.now in let k = known_of c.args.self.now in let old = c.args.bank.now in let e = c.args.e.now in
+    let within = resize_width kinds k e arm.field-0 arm.a arm.w old c.requires.bank c.requires.can arm.is in
     let most = within.1 in
     omega arith
 
 pub value_by-word-requires-in-Resize : goal.value_by-word-requires-in-Resize
 value_by-word-requires-in-Resize g t c =
-    let kinds = g.B.Book.kinds c.args.book.now in
-    let k = known_of c.args.self.now in
-    let old = c.args.bank.now in
-    let e = c.args.e.now in
-    let within = resize_width kinds k e c.in-Resize.field-0 c.in-Resize.a c.in-Resize.w old c.requires.bank c.requires.can c.in-Resize.is in
-    (subst (Stands c.value_by-in-Resize.new.bank) (sym c.id_in-in-Resize.ensures) (resized_asks kinds k e c.in-Resize.field-0 c.in-Resize.a c.in-Resize.w c.get-in-Resize.result.now old c.value_by-in-Resize.new.bank c.in_ok-a-in-Resize.a c.requires.bank c.requires.can c.in-Resize.is c.get-in-Resize.ensures (record { nodes = c.in_ok-a-in-Resize.ensures.nodes; value = c.in_ok-a-in-Resize.ensures.form }) c.in_ok-a-in-Resize.ensures.bank), record { least = within.0; most = within.1 })
+    let arm = c.in-Resize in let one = c.in_ok-a-in-Resize in let asked = c.requires in
+    let kinds = g.B.Book.kinds c.args.book.now in let k = known_of c.args.self.now in let old = c.args.bank.now in let e = c.args.e.now in
+    let within = resize_width kinds k e arm.field-0 arm.a arm.w old asked.bank asked.can arm.is in (
+      subst (Stands c.value_by-in-Resize.new.bank) (sym c.id_in-in-Resize.ensures) (resized_asks kinds k e arm.field-0 arm.a arm.w
+          c.get-in-Resize.result.now old c.value_by-in-Resize.new.bank one.a asked.bank asked.can arm.is c.get-in-Resize.ensures (gave kinds k
+          one.ensures.nodes one.ensures.form) one.ensures.bank),
+      record { least = within.0; most = within.1 },
+    )
 
-pub value_by-returns-in_ok-a-in-Resize-clause-nodes : goal.value_by-returns-in_ok-a-in-Resize-clause-nodes
-value_by-returns-in_ok-a-in-Resize-clause-nodes g t c =
-    let kinds = g.B.Book.kinds c.args.book.now in
-    let k = known_of c.args.self.now in
-    let old = c.args.bank.now in
-    let e = c.args.e.now in
-    let same = ap (λ z. word_made kinds (node.Resize z c.in-Resize.w.value) c.value_by-in-Resize.new.bank) c.id_in-in-Resize.ensures ∙ resized_gives kinds k e c.in-Resize.field-0 c.in-Resize.a c.in-Resize.w c.get-in-Resize.result.now old c.value_by-in-Resize.new.bank c.in_ok-a-in-Resize.a c.in-Resize.is c.get-in-Resize.ensures (record { nodes = c.in_ok-a-in-Resize.ensures.nodes; value = c.in_ok-a-in-Resize.ensures.form }) in
-    nodes_as c.word-in-Resize.result c.word-in-Resize.new.bank (word_made kinds (node.Resize c.id_in-in-Resize.result c.in-Resize.w.value) c.value_by-in-Resize.new.bank) (terms_in kinds k e old) same c.word-in-Resize.ensures.nodes
+pub value_by-returns-in_ok-a-in-Resize : goal.value_by-returns-in_ok-a-in-Resize
+value_by-returns-in_ok-a-in-Resize g t c =
+    let arm = c.in-Resize in let mid = c.value_by-in-Resize.new.bank in let one = c.in_ok-a-in-Resize in
+    let kinds = g.B.Book.kinds c.args.book.now in let k = known_of c.args.self.now in let old = c.args.bank.now in let e = c.args.e.now in
+    let same = ap (λ z. word_made kinds (node.Resize z arm.w.value) mid) c.id_in-in-Resize.ensures ∙ resized_gives kinds k e arm.field-0 arm.a arm.w
+    c.get-in-Resize.result.now old mid one.a arm.is c.get-in-Resize.ensures (gave kinds k one.ensures.nodes one.ensures.form) in
+    record {
+      nodes = nodes_as c.word-in-Resize.result c.word-in-Resize.new.bank _ _ same c.word-in-Resize.ensures.nodes;
+      form = value_as c.word-in-Resize.result _ _ same c.word-in-Resize.ensures.form;
+      grows = extends_both old mid c.word-in-Resize.new.bank c.value_by-in-Resize.ensures.grows c.word-in-Resize.ensures.grows;
+      bank = c.word-in-Resize.ensures.bank;
+    }
 
-pub value_by-returns-in_ok-a-in-Resize-clause-form : goal.value_by-returns-in_ok-a-in-Resize-clause-form
-value_by-returns-in_ok-a-in-Resize-clause-form g t c =
-    let kinds = g.B.Book.kinds c.args.book.now in
-    let k = known_of c.args.self.now in
-    let old = c.args.bank.now in
-    let e = c.args.e.now in
-    let same = ap (λ z. word_made kinds (node.Resize z c.in-Resize.w.value) c.value_by-in-Resize.new.bank) c.id_in-in-Resize.ensures ∙ resized_gives kinds k e c.in-Resize.field-0 c.in-Resize.a c.in-Resize.w c.get-in-Resize.result.now old c.value_by-in-Resize.new.bank c.in_ok-a-in-Resize.a c.in-Resize.is c.get-in-Resize.ensures (record { nodes = c.in_ok-a-in-Resize.ensures.nodes; value = c.in_ok-a-in-Resize.ensures.form }) in
-    value_as c.word-in-Resize.result (word_made kinds (node.Resize c.id_in-in-Resize.result c.in-Resize.w.value) c.value_by-in-Resize.new.bank) (terms_in kinds k e old) same c.word-in-Resize.ensures.form
-
-pub value_by-returns-in_ok-a-in-Resize-clause-grows : goal.value_by-returns-in_ok-a-in-Resize-clause-grows
-value_by-returns-in_ok-a-in-Resize-clause-grows g t c =
-    extends_both c.args.bank.now c.value_by-in-Resize.new.bank c.word-in-Resize.new.bank c.value_by-in-Resize.ensures.grows c.word-in-Resize.ensures.grows
+-- `fill`
 
 pub value_by-value_by-requires-in-Fill : goal.value_by-value_by-requires-in-Fill
 value_by-value_by-requires-in-Fill g t c κs within =
-    let kinds = g.B.Book.kinds c.args.book.now in
-    let k = known_of c.args.self.now in
-    let old = c.args.bank.now in
-    let e = c.args.e.now in
-    let lighter = filled_lighter (weights_of c.args.self.now.defs.now) e c.in-Fill.field-0 c.in-Fill.m c.in-Fill.a c.get-in-Fill.result.now c.in-Fill.is c.get-in-Fill.ensures in
-    (omega arith, (search rules, (c.requires.bank, fill_asks kinds k e c.in-Fill.field-0 c.in-Fill.m c.in-Fill.a c.get-in-Fill.result.now old c.requires.bank c.requires.can c.in-Fill.is c.get-in-Fill.ensures)))
+    let arm = c.in-Fill in let asked = c.requires in
+    let kinds = g.B.Book.kinds c.args.book.now in let k = known_of c.args.self.now in let old = c.args.bank.now in let e = c.args.e.now in
+    let lighter = filled_lighter (weights_of c.args.self.now.defs.now) e arm.field-0 arm.m arm.a c.get-in-Fill.result.now arm.is c.get-in-Fill.ensures in
+    let can = fill_asks kinds k e arm.field-0 arm.m arm.a c.get-in-Fill.result.now old asked.bank asked.can arm.is c.get-in-Fill.ensures in
+    (omega arith, (search rules, (asked.bank, can)))
 
-pub value_by-returns-in_ok-a-in-Fill-clause-nodes : goal.value_by-returns-in_ok-a-in-Fill-clause-nodes
-value_by-returns-in_ok-a-in-Fill-clause-nodes g t c =
-    let kinds = g.B.Book.kinds c.args.book.now in
-    let k = known_of c.args.self.now in
-    let old = c.args.bank.now in
-    let e = c.args.e.now in
-    let same = ap (λ z. pure (Row (replicate c.in-Fill.m.value z)) c.value_by-in-Fill.new.bank) c.id_in-in-Fill.ensures ∙ filled_gives kinds k e c.in-Fill.field-0 c.in-Fill.m c.in-Fill.a c.get-in-Fill.result.now old c.value_by-in-Fill.new.bank c.in_ok-a-in-Fill.a c.in-Fill.is c.get-in-Fill.ensures (record { nodes = c.in_ok-a-in-Fill.ensures.nodes; value = c.in_ok-a-in-Fill.ensures.form }) in
-    nodes_as c.filled.result c.value_by-in-Fill.new.bank (pure (Row (replicate c.in-Fill.m.value c.id_in-in-Fill.result)) c.value_by-in-Fill.new.bank) (terms_in kinds k e old) same (always_ok c.filled.result c.value_by-in-Fill.new.bank)
+pub value_by-returns-in_ok-a-in-Fill : goal.value_by-returns-in_ok-a-in-Fill
+value_by-returns-in_ok-a-in-Fill g t c =
+    let arm = c.in-Fill in let mid = c.value_by-in-Fill.new.bank in let one = c.in_ok-a-in-Fill in
+    let kinds = g.B.Book.kinds c.args.book.now in let k = known_of c.args.self.now in let old = c.args.bank.now in let e = c.args.e.now in
+    let same = ap (λ z. pure (Row (replicate arm.m.value z)) mid) c.id_in-in-Fill.ensures ∙ filled_gives kinds k e arm.field-0 arm.m arm.a
+    c.get-in-Fill.result.now old mid one.a arm.is c.get-in-Fill.ensures (gave kinds k one.ensures.nodes one.ensures.form) in
+    record {
+      nodes = nodes_as c.filled.result mid _ _ same (always_ok c.filled.result mid);
+      form = value_as c.filled.result _ _ same c.filled.ensures;
+      grows = c.value_by-in-Fill.ensures.grows;
+      bank = one.ensures.bank;
+    }
 
-pub value_by-returns-in_ok-a-in-Fill-clause-form : goal.value_by-returns-in_ok-a-in-Fill-clause-form
-value_by-returns-in_ok-a-in-Fill-clause-form g t c =
-    let kinds = g.B.Book.kinds c.args.book.now in
-    let k = known_of c.args.self.now in
-    let old = c.args.bank.now in
-    let e = c.args.e.now in
-    let same = ap (λ z. pure (Row (replicate c.in-Fill.m.value z)) c.value_by-in-Fill.new.bank) c.id_in-in-Fill.ensures ∙ filled_gives kinds k e c.in-Fill.field-0 c.in-Fill.m c.in-Fill.a c.get-in-Fill.result.now old c.value_by-in-Fill.new.bank c.in_ok-a-in-Fill.a c.in-Fill.is c.get-in-Fill.ensures (record { nodes = c.in_ok-a-in-Fill.ensures.nodes; value = c.in_ok-a-in-Fill.ensures.form }) in
-    value_as c.filled.result (pure (Row (replicate c.in-Fill.m.value c.id_in-in-Fill.result)) c.value_by-in-Fill.new.bank) (terms_in kinds k e old) same c.filled.ensures
+-- `row`
 
 pub value_by-values-requires-in-Row : goal.value_by-values-requires-in-Row
 value_by-values-requires-in-Row g t c κs within =
-    let kinds = g.B.Book.kinds c.args.book.now in
-    let k = known_of c.args.self.now in
-    let old = c.args.bank.now in
-    let e = c.args.e.now in
-    let lighter = words_lighter (record { defs = c.args.self.now.defs.now; own = []; low = [] }) e c.in-Row.field-0 c.in-Row.parts c.as_slice-in-Row.result.now c.in-Row.is c.as_slice-in-Row.ensures in
-    (omega arith, (search rules, (c.requires.bank, row_asks kinds k e c.in-Row.field-0 c.in-Row.parts c.as_slice-in-Row.result.now old c.requires.bank c.requires.can c.in-Row.is c.as_slice-in-Row.ensures)))
+    let arm = c.in-Row in let asked = c.requires in
+    let kinds = g.B.Book.kinds c.args.book.now in let k = known_of c.args.self.now in let old = c.args.bank.now in let e = c.args.e.now in
+    let lighter = words_lighter (record { defs = c.args.self.now.defs.now; own = []; low = [] }) e arm.field-0 arm.parts c.as_slice-in-Row.result.now
+    arm.is c.as_slice-in-Row.ensures in
+    let can = row_asks kinds k e arm.field-0 arm.parts c.as_slice-in-Row.result.now old asked.bank asked.can arm.is c.as_slice-in-Row.ensures in
+    (omega arith, (search rules, (asked.bank, can)))
 
-pub value_by-returns-in_ok-parts-in-Row-clause-nodes : goal.value_by-returns-in_ok-parts-in-Row-clause-nodes
-value_by-returns-in_ok-parts-in-Row-clause-nodes g t c =
-    let kinds = g.B.Book.kinds c.args.book.now in
-    let k = known_of c.args.self.now in
-    let old = c.args.bank.now in
-    let e = c.args.e.now in
-    let same = row_gives kinds k e c.in-Row.field-0 c.in-Row.parts c.as_slice-in-Row.result.now old c.values-in-Row.new.bank c.in_ok-parts-in-Row.parts.items c.as_slice-in-Row-2.result.now c.in-Row.is c.as_slice-in-Row.ensures c.as_slice-in-Row-2.ensures.value (record { nodes = c.in_ok-parts-in-Row.ensures.nodes; value = c.in_ok-parts-in-Row.ensures.form }) in
-    nodes_as c.row.result c.values-in-Row.new.bank (pure (Row (map id_in c.as_slice-in-Row-2.result.now)) c.values-in-Row.new.bank) (terms_in kinds k e old) same (always_ok c.row.result c.values-in-Row.new.bank)
+pub value_by-returns-in_ok-parts-in-Row : goal.value_by-returns-in_ok-parts-in-Row
+value_by-returns-in_ok-parts-in-Row g t c =
+    let arm = c.in-Row in let mid = c.values-in-Row.new.bank in let one = c.in_ok-parts-in-Row in
+    let kinds = g.B.Book.kinds c.args.book.now in let k = known_of c.args.self.now in let old = c.args.bank.now in let e = c.args.e.now in
+    let same = row_gives kinds k e arm.field-0 arm.parts c.as_slice-in-Row.result.now old mid one.parts.items c.as_slice-in-Row-2.result.now arm.is
+    c.as_slice-in-Row.ensures c.as_slice-in-Row-2.ensures.value (gave_all kinds k one.ensures.nodes one.ensures.form) in
+    record {
+      nodes = nodes_as c.row.result mid _ _ same (always_ok c.row.result mid);
+      form = value_as c.row.result _ _ same c.row.ensures;
+      grows = c.values-in-Row.ensures.grows;
+      bank = one.ensures.bank;
+    }
 
-pub value_by-returns-in_ok-parts-in-Row-clause-form : goal.value_by-returns-in_ok-parts-in-Row-clause-form
-value_by-returns-in_ok-parts-in-Row-clause-form g t c =
-    let kinds = g.B.Book.kinds c.args.book.now in
-    let k = known_of c.args.self.now in
-    let old = c.args.bank.now in
-    let e = c.args.e.now in
-    let same = row_gives kinds k e c.in-Row.field-0 c.in-Row.parts c.as_slice-in-Row.result.now old c.values-in-Row.new.bank c.in_ok-parts-in-Row.parts.items c.as_slice-in-Row-2.result.now c.in-Row.is c.as_slice-in-Row.ensures c.as_slice-in-Row-2.ensures.value (record { nodes = c.in_ok-parts-in-Row.ensures.nodes; value = c.in_ok-parts-in-Row.ensures.form }) in
-    value_as c.row.result (pure (Row (map id_in c.as_slice-in-Row-2.result.now)) c.values-in-Row.new.bank) (terms_in kinds k e old) same c.row.ensures
+-- `all` and `any`
 
 pub value_by-quantified-requires : goal.value_by-quantified-requires
 value_by-quantified-requires g t c κs within =
-    let kinds = g.B.Book.kinds c.args.book.now in
-    let k = known_of c.args.self.now in
-    let old = c.args.bank.now in
-    let e = c.args.e.now in
-    let lighter = quantified_lighter (record { defs = c.args.self.now.defs.now; own = []; low = [] }) e c.in-Quantified.field-0 c.in-Quantified.which c.in-Quantified.x c.in-Quantified.w c.in-Quantified.n c.in-Quantified.e c.get-in-Quantified.result.now c.in-Quantified.is c.get-in-Quantified.ensures (quantified_some kinds k e c.in-Quantified.field-0 c.in-Quantified.which c.in-Quantified.x c.in-Quantified.w c.in-Quantified.n c.in-Quantified.e old c.requires.bank c.requires.can c.in-Quantified.is) in
-    (omega arith, (search rules, (c.requires.bank, quantified_asks kinds k e c.in-Quantified.field-0 c.in-Quantified.which c.in-Quantified.x c.in-Quantified.w c.in-Quantified.n c.in-Quantified.e c.get-in-Quantified.result.now old c.requires.can c.in-Quantified.is c.get-in-Quantified.ensures)))
+    let arm = c.in-Quantified in let asked = c.requires in
+    let kinds = g.B.Book.kinds c.args.book.now in let k = known_of c.args.self.now in let old = c.args.bank.now in let e = c.args.e.now in
+    let lighter = quantified_lighter (record { defs = c.args.self.now.defs.now; own = []; low = [] }) e arm.field-0 arm.which arm.x arm.w arm.n arm.e
+    c.get-in-Quantified.result.now arm.is c.get-in-Quantified.ensures (quantified_some kinds k e arm.field-0 arm.which arm.x arm.w arm.n arm.e old
+    asked.bank asked.can arm.is) in
+    let can = quantified_asks kinds k e arm.field-0 arm.which arm.x arm.w arm.n arm.e c.get-in-Quantified.result.now old asked.can arm.is
+    c.get-in-Quantified.ensures in
+    (omega arith, (search rules, (asked.bank, can)))
 
-pub value_by-returns-in_ok-holds-in-Quantified-clause-nodes : goal.value_by-returns-in_ok-holds-in-Quantified-clause-nodes
-value_by-returns-in_ok-holds-in-Quantified-clause-nodes g t c =
-    let kinds = g.B.Book.kinds c.args.book.now in
-    let k = known_of c.args.self.now in
-    let old = c.args.bank.now in
-    let e = c.args.e.now in
-    ap (λ (z : Out SymValue). z.nodes) (quantified_gives kinds k e c.in-Quantified.field-0 c.in-Quantified.which c.in-Quantified.x c.in-Quantified.w c.in-Quantified.n c.in-Quantified.e c.get-in-Quantified.result.now old c.quantified.new.bank c.in_ok-holds-in-Quantified.holds c.in-Quantified.is c.get-in-Quantified.ensures c.in_ok-holds-in-Quantified.ensures.nodes c.in_ok-holds-in-Quantified.ensures.form)
+pub value_by-returns-in_ok-holds-in-Quantified : goal.value_by-returns-in_ok-holds-in-Quantified
+value_by-returns-in_ok-holds-in-Quantified g t c =
+    let arm = c.in-Quantified in let one = c.in_ok-holds-in-Quantified in
+    let kinds = g.B.Book.kinds c.args.book.now in let k = known_of c.args.self.now in let old = c.args.bank.now in let e = c.args.e.now in
+    let same = quantified_gives kinds k e arm.field-0 arm.which arm.x arm.w arm.n arm.e c.get-in-Quantified.result.now old c.quantified.new.bank
+    one.holds arm.is c.get-in-Quantified.ensures one.ensures.nodes one.ensures.form in
+    record {
+      nodes = ap (λ (z : Out SymValue). z.nodes) same;
+      form = ap (λ (z : Out SymValue). z.value) same;
+      grows = c.quantified.ensures.grows;
+      bank = one.ensures.bank;
+    }
 
-pub value_by-returns-in_ok-holds-in-Quantified-clause-form : goal.value_by-returns-in_ok-holds-in-Quantified-clause-form
-value_by-returns-in_ok-holds-in-Quantified-clause-form g t c =
-    let kinds = g.B.Book.kinds c.args.book.now in
-    let k = known_of c.args.self.now in
-    let old = c.args.bank.now in
-    let e = c.args.e.now in
-    ap (λ (z : Out SymValue). z.value) (quantified_gives kinds k e c.in-Quantified.field-0 c.in-Quantified.which c.in-Quantified.x c.in-Quantified.w c.in-Quantified.n c.in-Quantified.e c.get-in-Quantified.result.now old c.quantified.new.bank c.in_ok-holds-in-Quantified.holds c.in-Quantified.is c.get-in-Quantified.ensures c.in_ok-holds-in-Quantified.ensures.nodes c.in_ok-holds-in-Quantified.ensures.form)
+-- several expressions
 
 pub values-loop-e-init : goal.values-loop-e-init
 values-loop-e-init g t c =
@@ -594,50 +510,30 @@ values-loop-e-init g t c =
 
 pub values-value_by-requires : goal.values-value_by-requires
 values-value_by-requires g t c κs within =
-    let kinds = g.B.Book.kinds c.args.book.now in
-    let k = known_of c.args.self.now in
-    let old = c.args.bank.now in
-    let es = c.args.es.now in
+    let kinds = g.B.Book.kinds c.args.book.now in let k = known_of c.args.self.now in let old = c.args.bank.now in let es = c.args.es.now in
     let i = c.loop-e.e-index in
     let step : ℕ → Expr → Make SymValue = λ n x. terms_in kinds k x in
     let lighter = item_lighter (weights_of c.args.self.now.defs.now) es i c.e-item.result c.loop-e-test.true c.e-item.is in
-    let before = c.loop-e.invariant.part in (
-      omega arith,
-      (
-        search rules,
-        (
-          c.loop-e.invariant.bank,
-          can_later k old c.loop-e.bank c.e-item.result c.loop-e.invariant.grows (item_can k old es i c.e-item.result c.loop-e-test.true c.e-item.is c.requires.can),
-        ),
-      ),
-    )
+    let before = c.loop-e.invariant.part in
+    let can = can_later k old c.loop-e.bank c.e-item.result c.loop-e.invariant.grows (item_can k old es i c.e-item.result c.loop-e-test.true
+    c.e-item.is c.requires.can) in
+    (omega arith, (search rules, (c.loop-e.invariant.bank, can)))
 
 pub values-returns-in_err-value-clause-grows : goal.values-returns-in_err-value-clause-grows
 values-returns-in_err-value-clause-grows g t c =
-    let kinds = g.B.Book.kinds c.args.book.now in
-    let k = known_of c.args.self.now in
-    let old = c.args.bank.now in
-    let es = c.args.es.now in
-    let i = c.loop-e.e-index in
+    let kinds = g.B.Book.kinds c.args.book.now in let k = known_of c.args.self.now in let old = c.args.bank.now in
     let step : ℕ → Expr → Make SymValue = λ n x. terms_in kinds k x in
     extends_both old c.loop-e.bank c.value_by.new.bank c.loop-e.invariant.grows c.value_by.ensures.grows
 
 pub values-returns-in_err-push-clause-grows : goal.values-returns-in_err-push-clause-grows
 values-returns-in_err-push-clause-grows g t c =
-    let kinds = g.B.Book.kinds c.args.book.now in
-    let k = known_of c.args.self.now in
-    let old = c.args.bank.now in
-    let es = c.args.es.now in
-    let i = c.loop-e.e-index in
+    let kinds = g.B.Book.kinds c.args.book.now in let k = known_of c.args.self.now in let old = c.args.bank.now in
     let step : ℕ → Expr → Make SymValue = λ n x. terms_in kinds k x in
     extends_both old c.loop-e.bank c.value_by.new.bank c.loop-e.invariant.grows c.value_by.ensures.grows
 
 pub values-loop-e-preserved : goal.values-loop-e-preserved
 values-loop-e-preserved g t c =
-    let kinds = g.B.Book.kinds c.args.book.now in
-    let k = known_of c.args.self.now in
-    let old = c.args.bank.now in
-    let es = c.args.es.now in
+    let kinds = g.B.Book.kinds c.args.book.now in let k = known_of c.args.self.now in let old = c.args.bank.now in let es = c.args.es.now in
     let i = c.loop-e.e-index in
     let step : ℕ → Expr → Make SymValue = λ n x. terms_in kinds k x in
     let lighter = rest_lighter (weights_of c.args.self.now.defs.now) es i c.loop-e-test.true in
@@ -653,10 +549,7 @@ values-loop-e-preserved g t c =
 
 pub values-returns-clause-nodes : goal.values-returns-clause-nodes
 values-returns-clause-nodes g t c =
-    let kinds = g.B.Book.kinds c.args.book.now in
-    let k = known_of c.args.self.now in
-    let old = c.args.bank.now in
-    let es = c.args.es.now in
+    let kinds = g.B.Book.kinds c.args.book.now in let k = known_of c.args.self.now in let old = c.args.bank.now in let es = c.args.es.now in
     let i = c.loop-e.e-index in
     let step : ℕ → Expr → Make SymValue = λ n x. terms_in kinds k x in
     let done : length es ≤ i = omega arith in
@@ -665,23 +558,18 @@ values-returns-clause-nodes g t c =
 
 pub values-returns-clause-form : goal.values-returns-clause-form
 values-returns-clause-form g t c =
-    let kinds = g.B.Book.kinds c.args.book.now in
-    let k = known_of c.args.self.now in
-    let old = c.args.bank.now in
-    let es = c.args.es.now in
+    let kinds = g.B.Book.kinds c.args.book.now in let k = known_of c.args.self.now in let old = c.args.bank.now in let es = c.args.es.now in
     let i = c.loop-e.e-index in
     let step : ℕ → Expr → Make SymValue = λ n x. terms_in kinds k x in
     let done : length es ≤ i = omega arith in
     each_from_value step es old i c.loop-e.values.items c.loop-e.bank done c.loop-e.invariant.went
     ∙ ap (λ (z : Out (List SymValue)). z.value) (all_from (sym_value kinds (terms_called kinds k.defs)) k.scope 0 es old)
 
+-- the expression of a definition
+
 pub called-value_by-requires : goal.called-value_by-requires
 called-value_by-requires g t c κs within =
-    let kinds = g.B.Book.kinds c.args.book.now in
-    let defs = c.args.self.now.defs.now in
-    let old = c.args.bank.now in
-    let name = c.args.name.now in
-    let args = c.args.args.now in
+    let defs = c.args.self.now.defs.now in let old = c.args.bank.now in let name = c.args.name.now in let args = c.args.args.now in
     let place = c.in-Some.place in
     let d = get_or defs place c.index-self-place.result in
     let here : d ≡ get_or defs place d = ap (get_or defs place) c.index-self-place.is in
@@ -691,14 +579,12 @@ called-value_by-requires g t c κs within =
     ∙ ap (λ (x : SymEnv). seeing (take place defs) x []) own in
     let weighs = definition_weighs defs name place d c.in-Some.ensures.some here in
     let same = ap (λ (z : SymKnown). expr_weight (weights_of z.defs) d.body) seen in
-    (omega arith, (search rules, (c.requires.bank, subst (λ (z : SymKnown). CanTerm z old d.body) (sym seen) parts.can)))
+    let can = subst (λ (z : SymKnown). CanTerm z old d.body) (sym seen) parts.can in
+    (omega arith, (search rules, (c.requires.bank, can)))
 
 pub called-returns-in_ok-own-in-Some-clause-nodes : goal.called-returns-in_ok-own-in-Some-clause-nodes
 called-returns-in_ok-own-in-Some-clause-nodes g t c =
-    let kinds = g.B.Book.kinds c.args.book.now in
-    let defs = c.args.self.now.defs.now in
-    let old = c.args.bank.now in
-    let name = c.args.name.now in
+    let kinds = g.B.Book.kinds c.args.book.now in let defs = c.args.self.now.defs.now in let old = c.args.bank.now in let name = c.args.name.now in
     let args = c.args.args.now in
     let place = c.in-Some.place in
     let d = get_or defs place c.index-self-place.result in
@@ -712,10 +598,7 @@ called-returns-in_ok-own-in-Some-clause-nodes g t c =
 
 pub called-returns-in_ok-own-in-Some-clause-form : goal.called-returns-in_ok-own-in-Some-clause-form
 called-returns-in_ok-own-in-Some-clause-form g t c =
-    let kinds = g.B.Book.kinds c.args.book.now in
-    let defs = c.args.self.now.defs.now in
-    let old = c.args.bank.now in
-    let name = c.args.name.now in
+    let kinds = g.B.Book.kinds c.args.book.now in let defs = c.args.self.now.defs.now in let old = c.args.bank.now in let name = c.args.name.now in
     let args = c.args.args.now in
     let place = c.in-Some.place in
     let d = get_or defs place c.index-self-place.result in
@@ -741,49 +624,21 @@ called-returns-in-None-clause-grows g t c = extends_self c.args.bank.now
 pub called-returns-in_err-own-in-Some-clause-grows : goal.called-returns-in_err-own-in-Some-clause-grows
 called-returns-in_err-own-in-Some-clause-grows g t c = extends_self c.args.bank.now
 
-pub value_by-returns-in-Low-clause-grows : goal.value_by-returns-in-Low-clause-grows
-value_by-returns-in-Low-clause-grows g t c = extends_self c.args.bank.now
-
-pub value_by-returns-in-Variable-clause-grows : goal.value_by-returns-in-Variable-clause-grows
-value_by-returns-in-Variable-clause-grows g t c = extends_self c.args.bank.now
+-- tests at all numbers below a bound
 
 pub quantified-invariant_of-make : goal.quantified-invariant_of-make
 quantified-invariant_of-make g t c =
-    let kinds = g.B.Book.kinds c.args.book.now in
-    let k = known_of c.args.self.now in
-    let old = c.args.bank.now in
     let which = c.args.which in
-    let x = c.args.x.now in
-    let w = c.args.w in
-    let n = c.args.n in
-    let e = c.args.e.now in
-    let can = c.requires.can in
     subst (λ b. IsWord (word 1 b)) (sym c.start_of-bits.ensures) (start_word which)
 
 pub quantified-make-requires : goal.quantified-make-requires
 quantified-make-requires g t c =
-    let kinds = g.B.Book.kinds c.args.book.now in
-    let k = known_of c.args.self.now in
-    let old = c.args.bank.now in
     let which = c.args.which in
-    let x = c.args.x.now in
-    let w = c.args.w in
-    let n = c.args.n in
-    let e = c.args.e.now in
-    let can = c.requires.can in
     subst (λ b. IsWord (word 1 b)) (sym c.start_of-bits.ensures) (start_word which)
 
 pub quantified-loop-i-init : goal.quantified-loop-i-init
 quantified-loop-i-init g t c =
-    let kinds = g.B.Book.kinds c.args.book.now in
-    let k = known_of c.args.self.now in
-    let old = c.args.bank.now in
-    let which = c.args.which in
-    let x = c.args.x.now in
-    let w = c.args.w in
-    let n = c.args.n in
-    let e = c.args.e.now in
-    let can = c.requires.can in
+    let kinds = g.B.Book.kinds c.args.book.now in let old = c.args.bank.now in let which = c.args.which in
     let first : Make Id = made kinds (node.Const (word 1 (start_of which))) in
     record {
       nodes = c.in_ok-all.ensures.nodes ∙ ap (λ b. (made kinds (node.Const (word 1 b)) old).nodes) c.start_of-bits.ensures;
@@ -796,28 +651,15 @@ quantified-loop-i-init g t c =
 
 pub quantified-test_at-requires : goal.quantified-test_at-requires
 quantified-test_at-requires g t c κs within =
-    let kinds = g.B.Book.kinds c.args.book.now in
-    let k = known_of c.args.self.now in
-    let old = c.args.bank.now in
-    let which = c.args.which in
-    let x = c.args.x.now in
-    let w = c.args.w in
-    let n = c.args.n in
-    let e = c.args.e.now in
-    let can = c.requires.can in
-    (omega arith, (search rules, (c.loop-i.invariant.bank, (quantify_later k old c.loop-i.bank which x w n e c.loop-i.invariant.grows can, c.loop-i-test.true))))
+    let k = known_of c.args.self.now in let old = c.args.bank.now in let which = c.args.which in let x = c.args.x.now in let w = c.args.w in
+    let n = c.args.n in let e = c.args.e.now in let can = c.requires.can in
+    let here = quantify_later k old c.loop-i.bank which x w n e c.loop-i.invariant.grows can in
+    (omega arith, (search rules, (c.loop-i.invariant.bank, (here, c.loop-i-test.true))))
 
 pub quantified-make-requires-in-loop-i : goal.quantified-make-requires-in-loop-i
 quantified-make-requires-in-loop-i g t c =
-    let kinds = g.B.Book.kinds c.args.book.now in
-    let k = known_of c.args.self.now in
-    let old = c.args.bank.now in
-    let which = c.args.which in
-    let x = c.args.x.now in
-    let w = c.args.w in
-    let n = c.args.n in
-    let e = c.args.e.now in
-    let can = c.requires.can in
+    let kinds = g.B.Book.kinds c.args.book.now in let k = known_of c.args.self.now in let old = c.args.bank.now in let which = c.args.which in
+    let x = c.args.x.now in let w = c.args.w in let n = c.args.n in let e = c.args.e.now in let can = c.requires.can in
     let wide = tested_wide kinds k which x w n e c.loop-i.i c.loop-i.bank c.test_at.new.bank c.in_ok-test.test c.loop-i.invariant.bank
     (quantify_later k old c.loop-i.bank which x w n e c.loop-i.invariant.grows can) c.loop-i-test.true c.in_ok-test.ensures.nodes c.in_ok-test.ensures.form
     c.in_ok-test.ensures.bank in
@@ -829,48 +671,26 @@ quantified-make-requires-in-loop-i g t c =
 
 pub quantified-returns-in_err-test-clause-grows : goal.quantified-returns-in_err-test-clause-grows
 quantified-returns-in_err-test-clause-grows g t c =
-    let kinds = g.B.Book.kinds c.args.book.now in
-    let k = known_of c.args.self.now in
     let old = c.args.bank.now in
-    let which = c.args.which in
-    let x = c.args.x.now in
-    let w = c.args.w in
-    let n = c.args.n in
-    let e = c.args.e.now in
-    let can = c.requires.can in
     extends_both old c.loop-i.bank c.test_at.new.bank c.loop-i.invariant.grows c.test_at.ensures.grows
 
 pub quantified-returns-in_err-all-2-clause-grows : goal.quantified-returns-in_err-all-2-clause-grows
 quantified-returns-in_err-all-2-clause-grows g t c =
-    let kinds = g.B.Book.kinds c.args.book.now in
-    let k = known_of c.args.self.now in
     let old = c.args.bank.now in
-    let which = c.args.which in
-    let x = c.args.x.now in
-    let w = c.args.w in
-    let n = c.args.n in
-    let e = c.args.e.now in
-    let can = c.requires.can in
     extends_both old c.loop-i.bank c.make-in-loop-i.new.self c.loop-i.invariant.grows
     (extends_both c.loop-i.bank c.test_at.new.bank c.make-in-loop-i.new.self c.test_at.ensures.grows c.make-in-loop-i.ensures.grows)
 
 pub quantified-loop-i-preserved : goal.quantified-loop-i-preserved
 quantified-loop-i-preserved g t c =
-    let kinds = g.B.Book.kinds c.args.book.now in
-    let k = known_of c.args.self.now in
-    let old = c.args.bank.now in
-    let which = c.args.which in
-    let x = c.args.x.now in
-    let w = c.args.w in
-    let n = c.args.n in
-    let e = c.args.e.now in
-    let can = c.requires.can in
+    let kinds = g.B.Book.kinds c.args.book.now in let k = known_of c.args.self.now in let old = c.args.bank.now in let which = c.args.which in
+    let x = c.args.x.now in let w = c.args.w in let n = c.args.n in let e = c.args.e.now in let can = c.requires.can in
     let wide = tested_wide kinds k which x w n e c.loop-i.i c.loop-i.bank c.test_at.new.bank c.in_ok-test.test c.loop-i.invariant.bank
     (quantify_later k old c.loop-i.bank which x w n e c.loop-i.invariant.grows can) c.loop-i-test.true c.in_ok-test.ensures.nodes c.in_ok-test.ensures.form
     c.in_ok-test.ensures.bank in
     let before = wider c.loop-i.bank c.test_at.new.bank c.loop-i.all 1 c.test_at.ensures.grows c.loop-i.invariant.wide in
     let here = subst (λ z. HasWidth c.test_at.new.bank z 1) (sym c.id_in-b.ensures) wide in
-    let step = joined_more kinds which (test_at kinds k x w e) old c.loop-i.bank c.test_at.new.bank c.loop-i.i c.loop-i.all c.in_ok-test.test c.joining-op.result c.id_in-b.result
+    let step = joined_more kinds which (test_at kinds k x w e) old c.loop-i.bank c.test_at.new.bank c.loop-i.i c.loop-i.all c.in_ok-test.test
+    c.joining-op.result c.id_in-b.result
     c.loop-i.invariant.nodes c.loop-i.invariant.value c.loop-i.invariant.joins c.in_ok-test.ensures.nodes c.in_ok-test.ensures.form c.id_in-b.ensures in
     record {
       nodes = c.in_ok-all-2.ensures.nodes ∙ ap (λ (z : Out Id). z.nodes) step;
@@ -878,135 +698,79 @@ quantified-loop-i-preserved g t c =
       joins = c.loop-i.invariant.joins;
       grows = extends_both old c.loop-i.bank c.make-in-loop-i.new.self c.loop-i.invariant.grows
           (extends_both c.loop-i.bank c.test_at.new.bank c.make-in-loop-i.new.self c.test_at.ensures.grows c.make-in-loop-i.ensures.grows);
-      wide = digit_made which c.test_at.new.bank c.make-in-loop-i.new.self c.joining-op.result c.loop-i.all c.id_in-b.result c.in_ok-all-2.all c.loop-i.invariant.joins before
+      wide = digit_made which c.test_at.new.bank c.make-in-loop-i.new.self c.joining-op.result c.loop-i.all c.id_in-b.result c.in_ok-all-2.all
+          c.loop-i.invariant.joins before
           c.in_ok-all-2.ensures.width;
       bank = c.in_ok-all-2.ensures.bank;
     }
 
 pub quantified-returns-clause-nodes : goal.quantified-returns-clause-nodes
 quantified-returns-clause-nodes g t c =
-    let kinds = g.B.Book.kinds c.args.book.now in
-    let k = known_of c.args.self.now in
-    let old = c.args.bank.now in
-    let which = c.args.which in
-    let x = c.args.x.now in
-    let w = c.args.w in
-    let n = c.args.n in
-    let e = c.args.e.now in
-    let can = c.requires.can in
+    let kinds = g.B.Book.kinds c.args.book.now in let k = known_of c.args.self.now in let old = c.args.bank.now in let which = c.args.which in
+    let x = c.args.x.now in let w = c.args.w in let n = c.args.n in let e = c.args.e.now in
     let done : c.loop-i.i ≡ n.value = omega arith in
     c.loop-i.invariant.nodes ∙ ap (λ z. (joined kinds (joining which) (start_of which) z (test_at kinds k x w e) old).nodes) done
 
 pub quantified-returns-clause-form : goal.quantified-returns-clause-form
 quantified-returns-clause-form g t c =
-    let kinds = g.B.Book.kinds c.args.book.now in
-    let k = known_of c.args.self.now in
-    let old = c.args.bank.now in
-    let which = c.args.which in
-    let x = c.args.x.now in
-    let w = c.args.w in
-    let n = c.args.n in
-    let e = c.args.e.now in
-    let can = c.requires.can in
+    let kinds = g.B.Book.kinds c.args.book.now in let k = known_of c.args.self.now in let old = c.args.bank.now in let which = c.args.which in
+    let x = c.args.x.now in let w = c.args.w in let n = c.args.n in let e = c.args.e.now in
     let done : c.loop-i.i ≡ n.value = omega arith in
     c.loop-i.invariant.value ∙ ap (λ z. (joined kinds (joining which) (start_of which) z (test_at kinds k x w e) old).value) done
 
+-- a test at a number
+
 pub test_at-overflow_cast-width : goal.test_at-overflow_cast-width
 test_at-overflow_cast-width g t c =
-    let kinds = g.B.Book.kinds c.args.book.now in
-    let k = known_of c.args.self.now in
-    let old = c.args.bank.now in
-    let which = c.args.which in
-    let x = c.args.x.now in
-    let w = c.args.w in
-    let n = c.args.n in
-    let e = c.args.e.now in
-    let can = c.requires.can in
-    let i = c.args.i in
+    let kinds = g.B.Book.kinds c.args.book.now in let k = known_of c.args.self.now in let old = c.args.bank.now in let which = c.args.which in
+    let x = c.args.x.now in let w = c.args.w in let n = c.args.n in let e = c.args.e.now in let can = c.requires.can in let i = c.args.i in
     let fits = number_word kinds k can.first which x w n e i old c.requires.bank can.can c.requires.below in
     let most = fits.most in
     omega arith
 
 pub test_at-invariant_of-word : goal.test_at-invariant_of-word
 test_at-invariant_of-word g t c =
-    let kinds = g.B.Book.kinds c.args.book.now in
-    let k = known_of c.args.self.now in
-    let old = c.args.bank.now in
-    let which = c.args.which in
-    let x = c.args.x.now in
-    let w = c.args.w in
-    let n = c.args.n in
-    let e = c.args.e.now in
-    let can = c.requires.can in
-    let i = c.args.i in
+    let kinds = g.B.Book.kinds c.args.book.now in let k = known_of c.args.self.now in let old = c.args.bank.now in let which = c.args.which in
+    let x = c.args.x.now in let w = c.args.w in let n = c.args.n in let e = c.args.e.now in let can = c.requires.can in let i = c.args.i in
     let fits = number_word kinds k can.first which x w n e i old c.requires.bank can.can c.requires.below in
     record { least = fits.least; most = fits.most; fits = fits.fits }
 
 pub test_at-word-requires : goal.test_at-word-requires
 test_at-word-requires g t c =
-    let kinds = g.B.Book.kinds c.args.book.now in
-    let k = known_of c.args.self.now in
-    let old = c.args.bank.now in
-    let which = c.args.which in
-    let x = c.args.x.now in
-    let w = c.args.w in
-    let n = c.args.n in
-    let e = c.args.e.now in
-    let can = c.requires.can in
-    let i = c.args.i in
+    let kinds = g.B.Book.kinds c.args.book.now in let k = known_of c.args.self.now in let old = c.args.bank.now in let which = c.args.which in
+    let x = c.args.x.now in let w = c.args.w in let n = c.args.n in let e = c.args.e.now in let can = c.requires.can in let i = c.args.i in
     let fits = number_word kinds k can.first which x w n e i old c.requires.bank can.can c.requires.below in
     record { least = fits.least; most = fits.most; fits = fits.fits }
 
 pub test_at-value_by-requires : goal.test_at-value_by-requires
 test_at-value_by-requires g t c κs within =
-    let kinds = g.B.Book.kinds c.args.book.now in
-    let k = known_of c.args.self.now in
-    let old = c.args.bank.now in
-    let which = c.args.which in
-    let x = c.args.x.now in
-    let w = c.args.w in
-    let n = c.args.n in
-    let e = c.args.e.now in
-    let can = c.requires.can in
-    let i = c.args.i in
+    let kinds = g.B.Book.kinds c.args.book.now in let k = known_of c.args.self.now in let old = c.args.bank.now in let which = c.args.which in
+    let x = c.args.x.now in let w = c.args.w in let n = c.args.n in let e = c.args.e.now in let can = c.requires.can in let i = c.args.i in
     let fits = number_word kinds k can.first which x w n e i old c.requires.bank can.can c.requires.below in
     let mid = c.word.new.bank in
     let y = c.in_ok-value.value in
     let self = c.args.self.now in
     let seen = grown_seen kinds self.defs.now (env_of self.own.now) (env_of self.low.now) self.numbers.now c.in_ok-numbers.numbers.items c.push.new.self.items
-    c.as_slice.result.now _ x.text c.as_slice-name.result.now y refl refl c.in_ok-numbers.ensures c.in_ok-push.ensures.items c.as_slice.ensures.value c.as_slice-name.ensures in
+    c.as_slice.result.now _ x.text c.as_slice-name.result.now y refl refl c.in_ok-numbers.ensures c.in_ok-push.ensures.items c.as_slice.ensures.value
+    c.as_slice-name.ensures in
     let number = number_made kinds w.value i old in
     let same = seen ∙ ap (with_term kinds k x.text) c.in_ok-value.ensures.form in
-    let base = number_can kinds k can.first which x w n e i old c.requires.bank can.can c.requires.below in (
-      omega arith,
-      (
-        search rules,
-        (
-          c.word.ensures.bank,
-          subst (λ (z : SymKnown). CanTerm z mid e) (sym same)
-              (subst (λ z. CanTerm (with_term kinds k x.text number.value) z e) (sym c.in_ok-value.ensures.nodes) base),
-        ),
-      ),
-    )
+    let base = number_can kinds k can.first which x w n e i old c.requires.bank can.can c.requires.below in
+    let here = subst (λ (z : SymKnown). CanTerm z mid e) (sym same)
+    (subst (λ z. CanTerm (with_term kinds k x.text number.value) z e) (sym c.in_ok-value.ensures.nodes) base) in
+    (omega arith, (search rules, (c.word.ensures.bank, here)))
 
 pub test_at-returns-clause-nodes : goal.test_at-returns-clause-nodes
 test_at-returns-clause-nodes g t c =
-    let kinds = g.B.Book.kinds c.args.book.now in
-    let k = known_of c.args.self.now in
-    let old = c.args.bank.now in
-    let which = c.args.which in
-    let x = c.args.x.now in
-    let w = c.args.w in
-    let n = c.args.n in
-    let e = c.args.e.now in
-    let can = c.requires.can in
-    let i = c.args.i in
+    let kinds = g.B.Book.kinds c.args.book.now in let k = known_of c.args.self.now in let old = c.args.bank.now in let which = c.args.which in
+    let x = c.args.x.now in let w = c.args.w in let n = c.args.n in let e = c.args.e.now in let can = c.requires.can in let i = c.args.i in
     let fits = number_word kinds k can.first which x w n e i old c.requires.bank can.can c.requires.below in
     let mid = c.word.new.bank in
     let y = c.in_ok-value.value in
     let self = c.args.self.now in
     let seen = grown_seen kinds self.defs.now (env_of self.own.now) (env_of self.low.now) self.numbers.now c.in_ok-numbers.numbers.items c.push.new.self.items
-    c.as_slice.result.now _ x.text c.as_slice-name.result.now y refl refl c.in_ok-numbers.ensures c.in_ok-push.ensures.items c.as_slice.ensures.value c.as_slice-name.ensures in
+    c.as_slice.result.now _ x.text c.as_slice-name.result.now y refl refl c.in_ok-numbers.ensures c.in_ok-push.ensures.items c.as_slice.ensures.value
+    c.as_slice-name.ensures in
     let number = number_made kinds w.value i old in
     let same = seen ∙ ap (with_term kinds k x.text) c.in_ok-value.ensures.form in
     nodes_as c.value_by.result c.value_by.new.bank _ (test_at kinds k x w e i old)
@@ -1015,22 +779,15 @@ test_at-returns-clause-nodes g t c =
 
 pub test_at-returns-clause-form : goal.test_at-returns-clause-form
 test_at-returns-clause-form g t c =
-    let kinds = g.B.Book.kinds c.args.book.now in
-    let k = known_of c.args.self.now in
-    let old = c.args.bank.now in
-    let which = c.args.which in
-    let x = c.args.x.now in
-    let w = c.args.w in
-    let n = c.args.n in
-    let e = c.args.e.now in
-    let can = c.requires.can in
-    let i = c.args.i in
+    let kinds = g.B.Book.kinds c.args.book.now in let k = known_of c.args.self.now in let old = c.args.bank.now in let which = c.args.which in
+    let x = c.args.x.now in let w = c.args.w in let n = c.args.n in let e = c.args.e.now in let can = c.requires.can in let i = c.args.i in
     let fits = number_word kinds k can.first which x w n e i old c.requires.bank can.can c.requires.below in
     let mid = c.word.new.bank in
     let y = c.in_ok-value.value in
     let self = c.args.self.now in
     let seen = grown_seen kinds self.defs.now (env_of self.own.now) (env_of self.low.now) self.numbers.now c.in_ok-numbers.numbers.items c.push.new.self.items
-    c.as_slice.result.now _ x.text c.as_slice-name.result.now y refl refl c.in_ok-numbers.ensures c.in_ok-push.ensures.items c.as_slice.ensures.value c.as_slice-name.ensures in
+    c.as_slice.result.now _ x.text c.as_slice-name.result.now y refl refl c.in_ok-numbers.ensures c.in_ok-push.ensures.items c.as_slice.ensures.value
+    c.as_slice-name.ensures in
     let number = number_made kinds w.value i old in
     let same = seen ∙ ap (with_term kinds k x.text) c.in_ok-value.ensures.form in
     value_as c.value_by.result _ (test_at kinds k x w e i old)
@@ -1039,15 +796,7 @@ test_at-returns-clause-form g t c =
 
 pub test_at-returns-clause-grows : goal.test_at-returns-clause-grows
 test_at-returns-clause-grows g t c =
-    let kinds = g.B.Book.kinds c.args.book.now in
-    let k = known_of c.args.self.now in
-    let old = c.args.bank.now in
-    let which = c.args.which in
-    let x = c.args.x.now in
-    let w = c.args.w in
-    let n = c.args.n in
-    let e = c.args.e.now in
-    let can = c.requires.can in
-    let i = c.args.i in
+    let kinds = g.B.Book.kinds c.args.book.now in let k = known_of c.args.self.now in let old = c.args.bank.now in let which = c.args.which in
+    let x = c.args.x.now in let w = c.args.w in let n = c.args.n in let e = c.args.e.now in let can = c.requires.can in let i = c.args.i in
     let fits = number_word kinds k can.first which x w n e i old c.requires.bank can.can c.requires.below in
     extends_both old c.word.new.bank c.value_by.new.bank c.word.ensures.grows c.value_by.ensures.grows
