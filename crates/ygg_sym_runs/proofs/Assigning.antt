@@ -62,18 +62,18 @@ module _ (inputs : Inputs) (v : Values) where
       cases false e later = later e
 
   module _ (kinds : List RuleKind) where
-    pub places_count : (ps : List Value) (nodes : List Node) (as : List Id) → ArePlaces inputs v kinds ps nodes as → length ps ≡ length as
+    pub places_count : (ps : List Value) (nodes : List Node) (ids : List Id) → ArePlaces inputs v kinds ps nodes ids → length ps ≡ length ids
     places_count [] nodes [] h = refl
-    places_count [] nodes (a ∷ as) h = absurd h
+    places_count [] nodes (a ∷ ids) h = absurd h
     places_count (p ∷ ps) nodes [] h = absurd h
-    places_count (p ∷ ps) nodes (a ∷ as) h = ap suc (places_count ps nodes as h.1)
+    places_count (p ∷ ps) nodes (a ∷ ids) h = ap suc (places_count ps nodes ids h.1)
 
-    pub places_stand : (ps : List Value) (nodes : List Node) (as : List Id) → ArePlaces inputs v kinds ps nodes as → All (Stands nodes) as
+    pub places_stand : (ps : List Value) (nodes : List Node) (ids : List Id) → ArePlaces inputs v kinds ps nodes ids → All (Stands nodes) ids
     places_stand [] nodes [] h = All-nil (Stands nodes)
-    places_stand [] nodes (a ∷ as) h = absurd h
+    places_stand [] nodes (a ∷ ids) h = absurd h
     places_stand (p ∷ ps) nodes [] h = absurd h
-    places_stand (p ∷ ps) nodes (a ∷ as) h =
-        let d = h.0 in All-cons (Stands nodes) a as (stands nodes a d.width d.wide) (places_stand ps nodes as h.1)
+    places_stand (p ∷ ps) nodes (a ∷ ids) h =
+        let d = h.0 in All-cons (Stands nodes) a ids (stands nodes a d.width d.wide) (places_stand ps nodes ids h.1)
 
 module _ {S : Type 0} (M : SymMeaning S) (law : IsLower M) (kinds : List RuleKind) (defs : List Def) where
   abbrev D : Named Signature
@@ -176,14 +176,14 @@ module _ {S : Type 0} (M : SymMeaning S) (law : IsLower M) (kinds : List RuleKin
         }
 
     -- the part that it names may be written anew
-    pub change_can : (i : ℕ) (mid last : List Node) (as : List Id) (y : SymValue) → mid ≡ (sym_values kinds T K (places_of is) env nodes).nodes →
-        as ≡ map id_in (sym_values kinds T K (places_of is) env nodes).value → last ≡ (sym_source kinds T K from i env s mid).nodes →
-        y ≡ (sym_source kinds T K from i env s mid).value.value → IsBank last → CanPut last (sym_look_up x.text env) as y
-    change_can i mid last as y e f g h bank =
+    pub change_can : (i : ℕ) (mid last : List Node) (ids : List Id) (y : SymValue) → mid ≡ (sym_values kinds T K (places_of is) env nodes).nodes →
+        ids ≡ map id_in (sym_values kinds T K (places_of is) env nodes).value → last ≡ (sym_source kinds T K from i env s mid).nodes →
+        y ≡ (sym_source kinds T K from i env s mid).value.value → IsBank last → CanPut last (sym_look_up x.text env) ids y
+    change_can i mid last ids y e f g h bank =
         let p = sym_values kinds T K (places_of is) env nodes in
         let o = sym_source kinds T K from i env s p.nodes in
         let last_is : last ≡ o.nodes = g ∙ ap (λ ns. (sym_source kinds T K from i env s ns).nodes) e in
         let y_is : y ≡ o.value.value = h ∙ ap (λ ns. (sym_source kinds T K from i env s ns).value.value) e in
-        subst (λ ns. CanPut ns (sym_look_up x.text env) as y) (sym last_is)
+        subst (λ ns. CanPut ns (sym_look_up x.text env) ids y) (sym last_is)
         (subst (λ z. CanPut o.nodes (sym_look_up x.text env) z y) (sym f)
         (subst (λ z. CanPut o.nodes (sym_look_up x.text env) (map id_in p.value) z) (sym y_is) (change_made i (subst IsBank last_is bank))))

@@ -13,6 +13,9 @@ use Rattle.std.proofs.Common.{
   [],
   ◌∷◌,
   length,
+  take,
+  drop,
+  ◌++◌,
   set,
   get_or,
   Option,
@@ -30,6 +33,7 @@ use Rattle.std.specs.Prelude.{slice_get, slice_set}
 use Rattle.std.specs.Str.{bytes_eq}
 use Rattle.std.proofs.lemmas.Option.{slice_get_read, slice_get-map}
 use Rattle.std.proofs.lemmas.List.{map-set}
+use Rattle.std.proofs.Math.Seq.{take-append_seam}
 use Rattle.ygg_meaning.specs.Environments.{Name}
 use Rattle.ygg_type_sound.proofs.Tests.{bytes_same}
 use Rattle.ygg_bank.specs.Makes.{Make, Out, pure, and_make}
@@ -157,3 +161,9 @@ names_first names i b b' name x first within at same value =
     let pair : Name → SymValue → Name × SymValue = λ n w. (n, w) in
     let named : b.name.now ≡ name = ap (λ (x : Name × SymValue). x.0) (there names i b name first within at) in
     map-set entry names i b' ∙ ap (λ (y : Name × SymValue). set (env_of names) i y) (ap (λ n. pair n b'.value) (same ∙ named) ∙ ap (pair name) value)
+
+-- names that were lent as a slice are put back
+pub names_back : (items given new : List SymBinding) (k : ℕ) → given ≡ items → k ≡ length items → length new ≡ length given →
+    take k (new ++ drop (length new) items) ≡ new
+names_back items given new k same counted kept =
+    ap (λ (m : ℕ). take m (new ++ drop (length new) items)) (counted ∙ ap length (sym same) ∙ sym kept) ∙ take-append_seam new (drop (length new) items)

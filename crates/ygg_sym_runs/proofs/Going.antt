@@ -31,6 +31,18 @@ dropped_is before during after k counted dropped =
     let entry : SymBinding → Name × SymValue = λ (x : SymBinding). (x.name.now, x.value) in
     ap env_of dropped ∙ sym (take-map entry k during) ∙ ap (λ (m : ℕ). take m (env_of during)) (counted ∙ sym (length-map before entry))
 
+times_suc : (c r : ℕ) → suc c * r ≡ r + c * r
+times_suc c r = omega arith
+
+times_zero : (r : ℕ) → 0 * r ≡ 0
+times_zero r = omega arith
+
+place_goes : (at end room a b p : ℕ) → end ≡ at + room → at + a ≡ p → a ≡ room + b → end + b ≡ p
+place_goes at end room a b p u v t = omega (arith, u, v, t)
+
+place_ends : (at a p : ℕ) → at + a ≡ p → a ≡ 0 → at ≡ p
+place_ends at a p u v = omega (arith, u, v)
+
 -- where an end is put for the end of what a step left
 from_end : {S X : Type 0} (F : ℕ → SymEnv → S → List Node → X) (k k' : ℕ) (e e' : SymEnv) (s s' : S) (ns ns' : List Node) → k ≡ k' → e ≡ e' → s ≡ s' →
     ns ≡ ns' → F k e s ns ≡ F k' e' s' ns'
@@ -136,9 +148,8 @@ module _ {S : Type 0} (M : SymMeaning S) (defs : List Def) (kinds : List RuleKin
         let z = body i at env s now in
         let names = dropped_is before during after k counted dropped ∙ ap (take (length env)) r.names in
         record {
-          places = let u = r.place in let v = o.places in
-              let t : (n.value - i) * inner.room ≡ inner.room + c * inner.room = ap (λ d. d * inner.room) left in
-              omega (arith, u, v, t);
+          places = place_goes at end inner.room ((n.value - i) * inner.room) (c * inner.room) (place + n.value * inner.room) r.place o.places
+              (ap (λ d. d * inner.room) left ∙ times_suc c inner.room);
           rest = from_end (sym_times c (i + 1) inner.room body) end (at + inner.room) (env_of after) z.value.env s' z.value.to new z.nodes r.place names r.state
               r.nodes ∙ sym (ap (λ d. sym_times d i inner.room body at env s now) left) ∙ o.rest;
         }
@@ -147,11 +158,11 @@ module _ {S : Type 0} (M : SymMeaning S) (defs : List Def) (kinds : List RuleKin
         KeepsSingle old now → Turns place env0 s0 old i at env s now → Ended (turns_run M defs kinds x w n each) place env0 s0 old at env s now
     turns_end place env0 s0 old i at env s now l k o =
         let none : n.value - i ≡ 0 = omega arith in
-        let count : (n.value - i) * inner.room ≡ 0 = ap (λ d. d * inner.room) none in
+        let count : (n.value - i) * inner.room ≡ 0 = ap (λ d. d * inner.room) none ∙ times_zero inner.room in
         let rest : record { value = state env s; nodes = now } ≡ sym_times n.value 0 inner.room body place env0 s0 old =
         sym (ap (λ d. sym_times d i inner.room body at env s now) none) ∙ o.rest in
         record {
-          place = let q = o.places in omega (arith, q, count);
+          place = place_ends at ((n.value - i) * inner.room) (place + n.value * inner.room) o.places count;
           nodes = ap (λ (x : Out (SymState S)). x.nodes) rest;
           names = ap (λ (x : Out (SymState S)). x.value.env) rest;
           state = ap (λ (x : Out (SymState S)). x.value.to) rest;

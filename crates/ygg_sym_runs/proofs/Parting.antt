@@ -34,20 +34,20 @@ module _ {S : Type 0} (kinds : List RuleKind) (terms : SymFunctions) (N : SymMac
   }
 
   pub assign_ends : (x : tree.Name) (is : List Index) (from : Source) (i end : ℕ) (env env' : SymEnv) (s s' : S) (old mid next new : List Node)
-      (as : List Id) (y : SymValue) (name : Name) →
+      (ids : List Id) (y : SymValue) (name : Name) →
       end ≡ i + source_space N.space from → mid ≡ (sym_values kinds terms N (places_of is) env old).nodes →
-      as ≡ map id_in (sym_values kinds terms N (places_of is) env old).value → next ≡ (sym_source kinds terms N from i env s mid).nodes →
+      ids ≡ map id_in (sym_values kinds terms N (places_of is) env old).value → next ≡ (sym_source kinds terms N from i env s mid).nodes →
       y ≡ (sym_source kinds terms N from i env s mid).value.value → s' ≡ (sym_source kinds terms N from i env s mid).value.to → name ≡ x.text →
-      new ≡ (sym_change name (λ old. put_made kinds old as y) env next).nodes → env' ≡ (sym_change name (λ old. put_made kinds old as y) env next).value →
+      new ≡ (sym_change name (λ old. put_made kinds old ids y) env next).nodes → env' ≡ (sym_change name (λ old. put_made kinds old ids y) env next).value →
       KeepsSingle old mid → KeepsSingle mid next → KeepsSingle next new →
       Ended (sym_stmt kinds terms N (Stmt-F.Assign x is from)) i env s old end env' s' new
-  assign_ends x is from i end env env' s s' old mid next new as y name p e f g h t q u w k l m =
+  assign_ends x is from i end env env' s s' old mid next new ids y name p e f g h t q u w k l m =
       let v = sym_values kinds terms N (places_of is) env old in
       let o = sym_source kinds terms N from i env s v.nodes in
-      let C : Name → List Id → SymValue → List Node → Out SymEnv = λ n as y ns. sym_change n (λ old. put_made kinds old as y) env ns in
+      let C : Name → List Id → SymValue → List Node → Out SymEnv = λ n ids y ns. sym_change n (λ old. put_made kinds old ids y) env ns in
       let G : List Node → Out (SymGot S) = λ ns. sym_source kinds terms N from i env s ns in
-      let same : C name as y next ≡ C x.text (map id_in v.value) o.value.value o.nodes =
-      ap (λ (z : Name). C z as y next) q ∙ ap (λ (z : List Id). C x.text z y next) f
+      let same : C name ids y next ≡ C x.text (map id_in v.value) o.value.value o.nodes =
+      ap (λ (z : Name). C z ids y next) q ∙ ap (λ (z : List Id). C x.text z y next) f
       ∙ ap (λ (z : SymValue). C x.text (map id_in v.value) z next) (h ∙ ap (λ ns. (G ns).value.value) e)
       ∙ ap (λ ns. C x.text (map id_in v.value) o.value.value ns) (g ∙ ap (λ ns. (G ns).nodes) e) in
       record {

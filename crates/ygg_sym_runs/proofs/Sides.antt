@@ -1,5 +1,5 @@
 -- The two sides of an `if` over terms, and what lets their ends be merged.
-use Rattle.std.proofs.Common.{◌≡◌, ℕ, suc, Bool, true, ◌&&◌, List, [], ◌∷◌, map, length, All, Some, None, refl, sym, ap, ◌∙◌, subst, arith}
+use Rattle.std.proofs.Common.{◌≡◌, ℕ, suc, Bool, true, false, ◌&&◌, Result, IfOk, List, [], ◌∷◌, map, length, All, Some, None, refl, sym, ap, ◌∙◌, subst, arith}
 use Rattle.std.proofs.lemmas.List.{length-map}
 use Rattle.std.proofs.lemmas.List.Elements.{All-head, All-tail}
 use Rattle.ygg_value.specs.Shapes.{shape_of}
@@ -7,17 +7,23 @@ use Rattle.ygg_value.specs.Values.{word_in}
 use Rattle.ygg_value.specs.declared.shape.Shape.TheVariants as shape
 use Rattle.ygg_syntax.specs.declared.tree.Block.{Block}
 use Rattle.ygg_syntax.specs.declared.tree.Def.{Def}
+use Rattle.ygg_syntax.specs.declared.grammar.BlockKind.{BlockKind}
 use Rattle.ygg_syntax.specs.declared.tree.Expr.{Expr}
+use Rattle.ygg_syntax.specs.declared.tree.Name as tree_name
+use Rattle.ygg_syntax.specs.declared.tree.Numeral.{Numeral}
+use Rattle.ygg_syntax.specs.declared.tree.Stmt.{Stmt}
+use Rattle.ygg_syntax.specs.declared.tree.Stmt.TheOpen.{Stmt-F}
+use Rattle.ygg_syntax.specs.declared.tree.Stmt.TheVariants as tree
 use Rattle.ygg_type_rules.specs.Shapes.{is_word, width_of}
 use Rattle.ygg_type_rules.specs.TypeErrors.{none}
 use Rattle.ygg_type_rules.specs.Scopes.{Scope}
 use Rattle.ygg_type_rules.specs.Expressions.{typing, wanted, expected_errors}
-use Rattle.ygg_type_rules.specs.Statements.{block_errors}
+use Rattle.ygg_type_rules.specs.Statements.{node_walked, walked, block_errors}
 use Rattle.ygg_type_sound.proofs.Tests.{left as first_of, right as second_of}
 use Rattle.ygg_type_sound.proofs.Fits.{word_wide}
 use Rattle.ygg_type_sound.proofs.Rules.{wanted_has}
 use Rattle.ygg_type_progress.specs.Blocks.{eval_with}
-use Rattle.ygg_type_progress.specs.Kinds.{keeps}
+use Rattle.ygg_type_progress.specs.Kinds.{keeps, node_keeps, stmt_keeps}
 use Rattle.ygg_type_progress.specs.Questions.{plain, Follows}
 use Rattle.ygg_type_progress.proofs.Fits.{one_shape}
 use Rattle.ygg_meaning.specs.Environments.{Name, Env}
@@ -38,8 +44,9 @@ use Rattle.ygg_sym_expr.proofs.Grows.{value_grows}
 use Rattle.ygg_sym_expr.proofs.Shaped.{is_term, env_wider}
 use Rattle.ygg_sym_runs.specs.Joining.{CanJoinEnds}
 use Rattle.ygg_sym_runs.specs.Lower.{SymMeaning, IsLower}
-use Rattle.ygg_sym_runs.specs.Ready.{EnvAlike, known_with, CanChoose, CanEnter}
-use Rattle.ygg_sym_runs.specs.Runs.{plain_scope}
+use Rattle.ygg_sym_runs.specs.Ready.{EnvAlike, Ended, known_with, stmt_run, turns_run, CanCall, CanDo, CanStep, CanChoose, CanEnter}
+use Rattle.ygg_sym_runs.specs.Runs.{SymRun, plain_scope}
+use Rattle.ygg_sym_runs.proofs.Opened.{Walk, walked_if, keeps_if, walked_call, keeps_call, run_for}
 use Rattle.ygg_sym_runs.proofs.Parts.{eval_gives}
 use Rattle.ygg_sym_runs.proofs.Typed.{all_have}
 use Rattle.ygg_sym_runs.proofs.Walking.{ds, functions, terms, grow, mean, in_scope, can_term, Left}
@@ -89,7 +96,7 @@ module _ {S : Type 0} (M : SymMeaning S) (law : IsLower M) (kinds : List RuleKin
     pub choose_test : CanTerm (known_with defs env) nodes test
     choose_test = can_term M law kinds defs sc nodes env test can.names typed
 
-    pub choose_first : CanEnter M defs first nodes env s
+    abbrev pub choose_first : CanEnter M defs first nodes env s
     choose_first = record {
       scope = sc;
       names = can.names;
@@ -98,7 +105,7 @@ module _ {S : Type 0} (M : SymMeaning S) (law : IsLower M) (kinds : List RuleKin
       keeps = first_of (keeps M.kind first) (keeps M.kind second) can.keeps;
     }
 
-    pub choose_second : CanEnter M defs second nodes env s
+    abbrev pub choose_second : CanEnter M defs second nodes env s
     choose_second = record {
       scope = sc;
       names = can.names;
@@ -161,3 +168,40 @@ module _ {S : Type 0} (M : SymMeaning S) (law : IsLower M) (kinds : List RuleKin
           second_has = rs.has;
         };
       }
+
+  -- a statement that is laid open may be run so
+  step_as : (t : Stmt) (w : Walk) (k : BlockKind → Bool) (nodes : List Node) (env : SymEnv) (s : S) → walked t ≡ w → stmt_keeps t ≡ k →
+      CanStep M defs t nodes env s → CanDo M defs (λ scope. (w scope).type_errors) k nodes env s
+  step_as t w k nodes env s e f can = record {
+    scope = can.scope;
+    names = can.names;
+    stands = can.stands;
+    without_errors = subst (λ (q : Walk). none (q can.scope).type_errors ≡ true) e can.without_errors;
+    keeps = subst (λ (q : BlockKind → Bool). q M.kind ≡ true) f can.keeps;
+  }
+
+  pub step_if : (t : Stmt) (test : Expr) (first second : Block) (nodes : List Node) (env : SymEnv) (s : S) → t ≡ tree.If test first second →
+      CanStep M defs t nodes env s → CanChoose M defs test first second nodes env s
+  step_if t test first second nodes env s is can =
+      step_as t (node_walked (Stmt-F.If test (block_errors first None) (block_errors second None)))
+      (node_keeps (Stmt-F.If test (λ kind. keeps kind first) (λ kind. keeps kind second))) nodes env s
+      (ap walked is ∙ walked_if test first second) (ap stmt_keeps is ∙ keeps_if test first second) can
+
+  pub step_call : (t : Stmt) (f : tree_name.Name) (es xs : List Expr) (nodes : List Node) (env : SymEnv) (s : S) → t ≡ tree.Call f es → xs ≡ es →
+      CanStep M defs t nodes env s → CanCall M defs f xs nodes env s
+  step_call t f es xs nodes env s is same can =
+      let d = step_as t (node_walked (Stmt-F.Call f es)) (node_keeps (Stmt-F.Call f es)) nodes env s
+      (ap walked is ∙ walked_call f es) (ap stmt_keeps is ∙ keeps_call f es) can in
+      subst (λ (z : List Expr). CanCall M defs f z nodes env s) (sym same)
+      (record {
+        place = f.place;
+        used = false;
+        can = record { scope = d.scope; names = d.names; stands = d.stands; without_errors = d.without_errors; keeps = d.keeps };
+      })
+
+  -- a loop ends as a statement
+  pub ended_for : {E : Type 0} (t : Stmt) (x : tree_name.Name) (w n : Numeral) (each : Block) (i : ℕ) (env env' : SymEnv) (s s' : S) (old new : List Node)
+      (r : Result ℕ E) → t ≡ tree.For x w n each → IfOk r (λ end. Ended (turns_run M defs kinds x w n each) i env s old end env' s' new) →
+      IfOk r (λ end. Ended (stmt_run M defs kinds t) i env s old end env' s' new)
+  ended_for t x w n each i env env' s s' old new r is h =
+      subst (λ (q : SymRun S). IfOk r (λ end. Ended q i env s old end env' s' new)) (sym (ap (stmt_run M defs kinds) is ∙ run_for M defs kinds x w n each)) h

@@ -1,6 +1,7 @@
 -- What lets the block of a loop be run over terms, for one number after another.
 use Rattle.std.proofs.Common.{◌≡◌, ℕ, ◌<◌, ◌≤◌, ◌^◌, ◌+◌, true, false, List, [], ◌∷◌, ◌++◌, take, length, None, refl, sym, ap, ◌∙◌, subst, arith}
 use Rattle.std.proofs.lemmas.List.{length-map, take-map}
+use Rattle.ygg_value.specs.Number.{IsWord}
 use Rattle.ygg_value.specs.Words.{word}
 use Rattle.ygg_value.specs.declared.row.Value.{Value}
 use Rattle.ygg_value.specs.declared.row.Value.TheVariants as value
@@ -62,7 +63,7 @@ module _ {S : Type 0} (M : SymMeaning S) (law : IsLower M) (kinds : List RuleKin
       let wd = parts.width in
       let bound = parts.bound in
       let below : i < 2 ^ w.value = omega (arith, less, bound) in
-      let fits = record { least = wd.0; most = wd.1; fits = below } in
+      let fits : IsWord (word w.value i) = record { least = wd.0; most = wd.1; fits = below } in
       let v0 = zero_values y.nodes in
       let m0 = number_gives zeros v0 kinds w.value i nodes fits (zeros_fit y.nodes bank) in
       record {

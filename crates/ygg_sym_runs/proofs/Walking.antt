@@ -109,7 +109,7 @@ module _ {S : Type 0} (M : SymMeaning S) (law : IsLower M) (kinds : List RuleKin
   pub stands_later : (old new : List Node) (s : S) → Extends old new → KeepsSingle old new → Stands M old s → Stands M new s
   stands_later old new s g k n = record { serves = n.serves; has = M.low.wider old new s g n.has; single = k M.first n.single }
 
-  pub do_later : (t : Scope → TypeErrors) (p : BlockKind → Bool) (old new : List Node) (env : SymEnv) (s : S) → Extends old new → KeepsSingle old new →
+  abbrev pub do_later : (t : Scope → TypeErrors) (p : BlockKind → Bool) (old new : List Node) (env : SymEnv) (s : S) → Extends old new → KeepsSingle old new →
       CanDo M defs t p old env s → CanDo M defs t p new env s
   do_later t p old new env s g k can = record {
     scope = can.scope;
