@@ -20,6 +20,7 @@ use ygg_sym_expr::{SymBinding, SymEvaluator};
 use ygg_syntax::tree::{Def, Expr, Index, Name, Source};
 
 /// What stays the same while a block is run over terms: the definitions of its file, the machine below it, and the rules of terms.
+#[derive(Drop)]
 pub struct SymRunner<'a, W, B> {
     pub alloc: Global,
     pub defs: &'a [Def],
