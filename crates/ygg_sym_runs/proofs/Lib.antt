@@ -20,3 +20,4 @@ pub mod Turning
 pub mod Parting
 pub mod Nexts
 pub mod Sizes
+pub mod Rooms

@@ -15,12 +15,11 @@ use crate::lower::SymLower;
 use crate::names::{change, copy_names, join_names, name_value};
 use crate::question::Question;
 use crate::runner::SymRunner;
-use crate::written::id_in;
 use ygg_bank::{Bank, Id, NoMemory, Node};
 use ygg_list::Duplicate;
 use ygg_rules::Book;
 use ygg_shape_cells::SymValue;
-use ygg_sym_expr::SymBinding;
+use ygg_sym_expr::{SymBinding, id_in};
 use ygg_syntax::tree::{Block, Expr, Index, Name, Numeral, Source, Stmt};
 use ygg_value::Word;
 

@@ -24,7 +24,7 @@ fn rooms<W: SymLower>(machine: &W, all: &[Stmt]) -> Option<u64>
 {
     let mut sum: u64 = 0;
     for s in all {
-        let one = stmt_room(machine, s)?;
+        let one = statement_room(machine, s)?;
         sum = sum.checked_add(one)?;
     }
     Some(sum)
@@ -32,7 +32,7 @@ fn rooms<W: SymLower>(machine: &W, all: &[Stmt]) -> Option<u64>
 
 /// Those of a statement.
 #[cycle(room)]
-fn stmt_room<W: SymLower>(machine: &W, s: &Stmt) -> Option<u64>
+fn statement_room<W: SymLower>(machine: &W, s: &Stmt) -> Option<u64>
     ensures { Counts (fold-Stmt ℕ ℕ (stmt_room (W.means machine.now).space) (block_room (W.means machine.now).space) s.now) result }
 {
     match s {
