@@ -1,5 +1,7 @@
 -- How many places statements have, laid open by one layer.
-use Rattle.std.proofs.Common.{◌≡◌, ◌≤◌, ◌<◌, ◌^◌, ℕ, zero, suc, ◌+◌, ◌*◌, List, [], ◌∷◌, map, length, drop, get_or, Option, Some, None, refl, sym, ap, ◌∙◌, subst, arith}
+use Rattle.std.proofs.Common.{◌≡◌, ◌≤◌, ◌<◌, ◌^◌, ℕ, zero, suc, ◌+◌, ◌*◌, List, [], ◌∷◌, map, length, drop, get_or, Option, Some, None, ◌⊎◌, inl, inr, refl, sym, ap, ◌∙◌, subst, arith}
+use Rattle.std.specs.Prelude.{SomeIff}
+use Rattle.std.proofs.lemmas.Bool.{cases_lt}
 use Rattle.std.proofs.lemmas.List.{drop_more, drop_all}
 use Rattle.ygg_syntax.specs.declared.tree.Block.{Block, fold-Block, fold_out-Block}
 use Rattle.ygg_syntax.specs.declared.tree.Expr.{Expr}
@@ -54,6 +56,20 @@ module _ (space : Name → ℕ) where
 
   pub no_places : (all : List Stmt) (i : ℕ) → length all ≤ i → total (map places (drop i all)) ≡ 0
   no_places all i l = ap (λ z. total (map places z)) (drop_all i all l)
+
+swapped : (m n : ℕ) → m * n ≡ n * m
+swapped m n = omega arith
+
+too_much : (p q : ℕ) → p ≡ q → (p < 2 ^ 64 → ⊥) → 2 ^ 64 ≤ q
+too_much p q e h = go (cases_lt p (2 ^ 64)) where
+  go : (p < 2 ^ 64) ⊎ (2 ^ 64 ≤ p) → 2 ^ 64 ≤ q
+  go (inl l) = absurd (h l)
+  go (inr l) = subst (λ k. 2 ^ 64 ≤ k) e l
+
+-- a product of a count
+pub counts_product : (r : Option ℕ) (a n m : ℕ) → SomeIff r (a * n < 2 ^ 64) (a * n) → a ≡ m → Counts (n * m) r
+counts_product (Some k) a n m h e = h.1 ∙ ap (λ z. z * n) e ∙ swapped m n
+counts_product None a n m h e = too_much (a * n) (n * m) (ap (λ z. z * n) e ∙ swapped m n) h
 
 -- a count of what is as much
 pub counts_as : (m n : ℕ) (r : Option ℕ) → m ≡ n → Counts m r → Counts n r
