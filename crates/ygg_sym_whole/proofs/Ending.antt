@@ -58,11 +58,13 @@ module _ {S : Type 0} (M : SymMeaning S) (defs : List Def) where
         go b.answer w.scope a.names (second_of (none w.type_errors) (none (return_errors b.answer can.shape w.scope)) can.without_errors)
       where
         go : (answer : Option Expr) (scope : Scope) → InNames M defs scope new env' → none (return_errors answer can.shape scope) ≡ true →
-            ForSome answer (CanTerm (known_with defs env') new)
-        go None scope n f = tt
-        go (Some x) scope n f =
-            let t = typing x scope in
-            can_term M law kinds defs scope new env' x n (first_of (none t.type_errors) (none (wanted t.part can.shape)) f)
+            (x : Expr) → answer ≡ Some x → CanTerm (known_with defs env') new x
+        go None scope n f x e = absurd (cc)
+        go (Some y) scope n f x e =
+            let t = typing y scope in
+            let same : y ≡ x = cc in
+            subst (CanTerm (known_with defs env') new) same
+            (can_term M law kinds defs scope new env' y n (first_of (none t.type_errors) (none (wanted t.part can.shape)) f))
 
     -- a whole run
     pub whole_ends : (b : Block) (ss : List Stmt) (vars args env env' left : SymEnv) (s s' : S) (old mid new : List Node) (end k : ℕ) (y : Option SymValue) →
