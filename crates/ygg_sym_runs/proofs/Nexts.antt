@@ -1,5 +1,5 @@
 -- What lets the next part of a run be run.
-use Rattle.std.proofs.Common.{◌≡◌, ◌<◌, ◌+◌, ℕ, List, [], ◌∷◌, None, length, drop, get_or, sym, subst, true}
+use Rattle.std.proofs.Common.{◌≡◌, ◌<◌, ◌+◌, ℕ, List, [], None, length, drop, get_or, sym, subst}
 use Rattle.ygg_syntax.specs.declared.tree.Block.{Block}
 use Rattle.ygg_syntax.specs.declared.tree.Def.{Def}
 use Rattle.ygg_syntax.specs.declared.tree.Expr.{Expr}
@@ -7,7 +7,6 @@ use Rattle.ygg_syntax.specs.declared.tree.Stmt.{Stmt}
 use Rattle.ygg_syntax.specs.declared.tree.Stmt.TheVariants as tree
 use Rattle.ygg_type_rules.specs.Statements.{block_errors}
 use Rattle.ygg_type_progress.specs.Kinds.{keeps}
-use Rattle.ygg_rules.specs.declared.rule.RuleKind.{RuleKind}
 use Rattle.ygg_bank.proofs.Widths.{extends_both}
 use Rattle.ygg_bank.specs.Nodes.{Extends}
 use Rattle.ygg_bank.specs.declared.node.Node.{Node}

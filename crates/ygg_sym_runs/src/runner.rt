@@ -120,7 +120,10 @@ impl<'a, W: SymLower, B: Book> SymRunner<'a, W, B> {
         ensures bank { IsBank bank.new }
         ensures single { OnOk result (KeepsSingle bank.old bank.new) }
     {
-        match self.machine.handle(self.alloc, bank, self.book, place, question, state)? {
+        match self
+            .machine
+            .handle(self.alloc, bank, self.book, place, question, state)?
+        {
             Some(value) => Ok(value),
             None => Ok(SymValue::Word(Id(0))),
         }

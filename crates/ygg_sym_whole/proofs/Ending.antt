@@ -1,7 +1,7 @@
 -- Whole runs over terms end as they are defined to.
-use Rattle.std.proofs.Common.{◌≡◌, ℕ, List, ◌++◌, map, take, length, Option, Some, None, true, refl, sym, ap, ◌∙◌, subst}
+use Rattle.std.proofs.Common.{◌≡◌, ℕ, List, ◌++◌, map, take, length, Option, Some, None, true, sym, ap, ◌∙◌, subst}
 use Rattle.std.specs.Option.{ForSome}
-use Rattle.std.proofs.lemmas.List.{length-map, take-map}
+use Rattle.std.proofs.lemmas.List.{take-map}
 use Rattle.ygg_syntax.specs.declared.tree.Block.{Block}
 use Rattle.ygg_syntax.specs.declared.tree.Def.{Def}
 use Rattle.ygg_syntax.specs.declared.tree.Expr.{Expr}
@@ -18,14 +18,13 @@ use Rattle.ygg_bank.specs.Nodes.{IsBank}
 use Rattle.ygg_bank.specs.declared.node.Node.{Node}
 use Rattle.ygg_meaning.specs.Environments.{Name}
 use Rattle.ygg_shape_cells.specs.declared.terms.SymValue.{SymValue}
-use Rattle.ygg_value.specs.declared.shape.Shape.{Shape}
 use Rattle.ygg_sym_expr.specs.Names.{SymEnv}
 use Rattle.ygg_sym_expr.specs.Seen.{CanTerm, env_of}
 use Rattle.ygg_sym_expr.specs.declared.held.SymBinding.{SymBinding}
 use Rattle.ygg_sym_runs.specs.Lower.{SymMeaning, IsLower, KeepsSingle}
 use Rattle.ygg_sym_runs.specs.Ready.{InNames, CanRun, Ended, order_run, known_with, terms_of}
 use Rattle.ygg_sym_runs.proofs.Walking.{can_term, run_left}
-use Rattle.ygg_sym_below.specs.Wholes.{SymFinish, sym_returned, sym_whole}
+use Rattle.ygg_sym_below.specs.Wholes.{sym_returned}
 use Rattle.ygg_sym_whole.specs.Ready.{CanWhole, IsWhole}
 
 -- the names that come first
