@@ -6,3 +6,4 @@ pub mod Stops
 pub mod StopTerms
 pub mod Cuts
 pub mod Specs
+pub mod SpecCuts
