@@ -2,11 +2,13 @@
 #![tactic(auto)]
 
 mod asking;
+mod lower;
 mod lows;
 mod machine;
 mod power;
 mod tables;
 
-pub use lows::merge_lows;
+pub use lower::SymDisk;
+pub use lows::{Lows, merge_lows};
 pub use machine::handle;
 pub use power::{cut, lose};
