@@ -13,6 +13,7 @@ use Rattle.ygg_bank.specs.declared.node.Node.TheVariants.{Bin}
 use Rattle.ygg_shape_words.proofs.Keeps.{picked_keeps}
 use Rattle.ygg_shape_words.specs.Picking.{picked}
 use Rattle.ygg_sym_runs.proofs.Singles.{single_less, single_stays}
+use Rattle.ygg_sym_runs.specs.Lower as lower
 use Rattle.ygg_sym_runs.specs.Lower.{SymMeaning, CanAsk, KeepsSingle, SingleFrom}
 use Rattle.ygg_sym_runs.specs.Runs.{SymQuestion}
 use Rattle.ygg_sym_below.specs.StopTerms.{SymHalted}
@@ -20,16 +21,19 @@ use Rattle.ygg_sym_stops.specs.Halting.{halting_meaning}
 use Rattle.ygg_sym_stops.specs.HaltingKeeps.{question_wider}
 use Rattle.ygg_sym_stops.specs.Stopping.{Power, CanCut, CanLose}
 
+-- a state that stands among nodes stands among more of them
+pub stands_later : {S : Type 0} (M : SymMeaning S) (old new : List Node) (s : S) → Extends old new → KeepsSingle old new → lower.Stands M old s →
+    lower.Stands M new s
+stands_later M old new s g k st = record { serves = st.serves; has = M.low.wider old new s g st.has; single = k M.first st.single }
+
 -- a question that may be asked may be asked among more nodes
 pub ask_later : {S : Type 0} (M : SymMeaning S) (old new : List Node) (q : SymQuestion) (s : S) → Extends old new → KeepsSingle old new →
     CanAsk M old q s → CanAsk M new q s
-ask_later M old new q s g k a =
-    let st = a.stands in
-    record {
-      stands = record { serves = st.serves; has = M.low.wider old new s g st.has; single = k M.first st.single };
-      shaped = question_wider old new q g a.shaped;
-      fits = λ inputs v h. a.fits inputs v (fits_fewer inputs v old new g h);
-    }
+ask_later M old new q s g k a = record {
+  stands = stands_later M old new s g k a.stands;
+  shaped = question_wider old new q g a.shaped;
+  fits = λ inputs v h. a.fits inputs v (fits_fewer inputs v old new g h);
+}
 
 -- no other input came at two steps
 pub single_both : (a b c : List Node) → KeepsSingle a b → KeepsSingle b c → KeepsSingle a c
@@ -70,6 +74,14 @@ can_pick nodes t a b w p q = record {
 pub pick_single : (kinds : List RuleKind) (old new : List Node) (t a b : Id) → new ≡ (picked kinds t a b old).nodes → KeepsSingle old new
 pick_single kinds old new t a b e = λ first h. subst (SingleFrom first) (sym e) (picked_keeps kinds (SingleFrom first) (single_stays kinds first) t a b old h)
 
+-- power may fail where a state with stops stands
+pub lose_there : {S : Type 0} (M : SymMeaning S) (K : Power S) (nodes : List Node) (z : SymHalted S S) → lower.Stands (halting_meaning M K) nodes z →
+    CanLose M K nodes z.to
+lose_there M K nodes z st =
+    let h = st.has in
+    let l : min M.first K.first ≤ K.first = omega arith in
+    record { serves = st.serves; has = h.0; single = single_less (min M.first K.first) K.first nodes l st.single }
+
 module _ {S : Type 0} (M : SymMeaning S) (K : Power S) (nodes : List Node) (q : SymQuestion) (z : SymHalted S S) where
   -- of the machine itself
   pub ask_inner : CanAsk (halting_meaning M K) nodes q z → CanAsk M nodes q z.to
@@ -85,11 +97,7 @@ module _ {S : Type 0} (M : SymMeaning S) (K : Power S) (nodes : List Node) (q : 
 
   -- power may fail between questions
   pub can_lose : CanAsk (halting_meaning M K) nodes q z → CanLose M K nodes z.to
-  can_lose a =
-      let st = a.stands in
-      let h = st.has in
-      let l : min M.first K.first ≤ K.first = omega arith in
-      record { serves = st.serves; has = h.0; single = single_less (min M.first K.first) K.first nodes l st.single }
+  can_lose a = lose_there M K nodes z a.stands
 
   -- and within the question
   pub can_cut : CanAsk (halting_meaning M K) nodes q z → CanCut M K nodes q z.to

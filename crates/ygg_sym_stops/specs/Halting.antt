@@ -1,14 +1,16 @@
 -- A machine over terms with stops, as the machine on which a block runs.
-use Rattle.std.specs.Prelude.{min}
+use Rattle.std.specs.Prelude.{min, ℕ, List}
+use Rattle.ygg_rules.specs.declared.rule.RuleKind.{RuleKind}
 use Rattle.ygg_bank.proofs.Widths.{wider}
-use Rattle.ygg_bank.specs.Makes.{pure}
+use Rattle.ygg_bank.specs.Makes.{Make, and_make, pure}
 use Rattle.ygg_bank.specs.Nodes.{HasWidth}
 use Rattle.ygg_bank.specs.declared.node.Id.{Id}
 use Rattle.ygg_sym_expr.specs.Exprs.{SymFunctions}
 use Rattle.ygg_sym_expr.specs.Names.{no_term}
 use Rattle.ygg_sym_runs.specs.Meaning.{Low}
 use Rattle.ygg_sym_runs.specs.Lower.{SymMeaning}
-use Rattle.ygg_sym_below.specs.StopTerms.{SymHalted, halting_machine}
+use Rattle.ygg_sym_below.specs.Stops.{before_at}
+use Rattle.ygg_sym_below.specs.StopTerms.{SymFallen, SymHalted, halting_machine, sym_end}
 use Rattle.ygg_sym_stops.specs.Stopping.{Power, stops_on}
 
 -- functions that make no term: steps of machines ask none
@@ -45,3 +47,15 @@ module _ {S : Type 0} (M : SymMeaning S) where
     Serves = M.Serves;
     first = min M.first K.first;
   }
+
+  -- what is left at a stop after the last question, by the term that says whether it is set
+  abbrev pub last_left_made : Power S → List RuleKind → Id → SymHalted S S → Make S
+  last_left_made K kinds here z =
+      and_make (K.lose kinds z.to) (λ l. and_make ((M.machine kinds).merge here l z.fallen) (λ y. (M.machine kinds).merge z.stopped z.fallen y))
+
+  -- the stop after the last question of a run, what is then left, and whether a stop was reached
+  abbrev pub sym_fall : Power S → List RuleKind → ℕ → SymHalted S S → Make (SymFallen S)
+  sym_fall K kinds last z =
+      and_make (sym_end kinds no_functions (M.machine kinds) (stops_on M K kinds) last z) (λ fallen.
+      and_make ((stops_on M K kinds).bit (before_at last)) (λ here. and_make ((stops_on M K kinds).either z.stopped here) (λ reached.
+      pure (record { fallen = fallen; reached = reached }))))

@@ -1,10 +1,11 @@
 //! Machines over terms whose power fails at stops.
 #![tactic(auto)]
 
+mod ending;
 mod halting;
 mod stopping;
 mod stops;
 
 pub use halting::{Halted, Halting};
-pub use stopping::{bit, either};
+pub use ending::{Fallen, end_halting};
 pub use stops::SymStops;
