@@ -40,7 +40,8 @@ impl SymLower for DiskStops {
         question: Question<'_>,
         state: &mut Lows,
     ) -> Result<Option<SymValue>, NoMemory> {
-        self.machine.handle(alloc, bank, book, place, question, state)
+        self.machine
+            .handle(alloc, bank, book, place, question, state)
     }
 
     fn merge<B: Book>(
