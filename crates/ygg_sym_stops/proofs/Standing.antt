@@ -1,10 +1,10 @@
 -- What may be asked of a machine with stops, among more nodes, and of its parts.
-use Rattle.std.proofs.Common.{◌≡◌, ◌≤◌, ℕ, List, Some, Result, Ok, Err, OnOk, IfOk, sym, ap, ◌∙◌, subst, arith}
+use Rattle.std.proofs.Common.{◌≡◌, ◌≤◌, List, Some, Result, Ok, Err, OnOk, IfOk, sym, ap, ◌∙◌, subst, arith}
 use Rattle.std.specs.Prelude.{min}
 use Rattle.ygg_value.specs.declared.operation.Op.TheVariants.{Or}
 use Rattle.ygg_rules.specs.declared.rule.RuleKind.{RuleKind}
 use Rattle.ygg_bank.proofs.Meaning.{fits_fewer}
-use Rattle.ygg_bank.proofs.Widths.{stands, width_is, wider}
+use Rattle.ygg_bank.proofs.Widths.{stands, width_is}
 use Rattle.ygg_bank.specs.Making.{made}
 use Rattle.ygg_bank.specs.Nodes.{CanBin, CanPick, Extends, HasWidth, node_width, widths_of}
 use Rattle.ygg_bank.specs.declared.node.Id.{Id}

@@ -21,7 +21,7 @@ use Rattle.ygg_sym_runs.specs.Runs.{SymQuestion}
 use Rattle.ygg_sym_runs.specs.Meaning.{question_worth, is_set, QuestionShaped, IsHandled, IsLow, MachineMeans}
 use Rattle.ygg_sym_runs.specs.Lower.{SymMeaning, IsLower}
 use Rattle.ygg_sym_below.specs.Stops.{before_at, within_at}
-use Rattle.ygg_sym_below.specs.StopTerms.{SymHalted, Stops, sym_left, sym_halted, merge_halted, sym_end}
+use Rattle.ygg_sym_below.specs.StopTerms.{SymHalted, Stops, sym_left, sym_halted, merge_halted}
 use Rattle.ygg_sym_below.proofs.StopParts.{either_is, one_is}
 use Rattle.ygg_sym_stops.specs.Stopping.{Power, IsPower, stops_on}
 use Rattle.ygg_sym_stops.specs.Halting.{no_functions, halted_low, halting_meaning}

@@ -1,5 +1,5 @@
 -- Power that fails on a machine over terms: what its stops are made of, and what is asked of them.
-use Rattle.std.specs.Prelude.{◌≡◌, ◌≤◌, ◌+◌, ℕ, IsTrue, List}
+use Rattle.std.specs.Prelude.{◌≤◌, ◌+◌, ℕ, IsTrue, List}
 use Rattle.ygg_value.specs.declared.operation.Op.TheVariants.{Or}
 use Rattle.ygg_type_progress.specs.Questions.{question_fits}
 use Rattle.ygg_rules.specs.declared.rule.RuleKind.{RuleKind}

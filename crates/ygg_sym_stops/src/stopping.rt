@@ -40,7 +40,12 @@ pub fn within(place: u64) -> Result<u64, NoMemory>
 }
 
 /// The term that says whether the stop of a number is set. Its only error is out of memory, after which the bank may have more nodes.
-pub fn bit<W: SymStops, B: Book>(stops: &W, bank: &mut Bank, book: &B, number: u64) -> Result<Id, NoMemory>
+pub fn bit<W: SymStops, B: Book>(
+    stops: &W,
+    bank: &mut Bank,
+    book: &B,
+    number: u64,
+) -> Result<Id, NoMemory>
     requires { SingleFrom (W.power stops.now).first bank.old }
     ensures nodes { OnOk result (bank.new ≡ (made (B.kinds book.now) (Input ((W.power stops.now).stop + number) 1) bank.old).nodes) }
     ensures form { IfOk result (λ t. t ≡ (made (B.kinds book.now) (Input ((W.power stops.now).stop + number) 1) bank.old).value) }

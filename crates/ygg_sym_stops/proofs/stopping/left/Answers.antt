@@ -1,4 +1,3 @@
-use Rattle.std.proofs.Common.{Result, Ok, Err, OnOk, IfOk}
 use Rattle.ygg_sym_runs.specs.Lower.{question_of}
 use Rattle.ygg_sym_stops.specs.Halting.{halted_of}
 use Rattle.ygg_sym_stops.proofs.Leaving.{after_cut, after_inner, after_lost, can_inner, can_last, can_outer, merged_if}

@@ -1,6 +1,6 @@
 use Rattle.std.proofs.Common.{◌≡◌, subst}
 use Rattle.ygg_sym_runs.specs.Lower.{question_of}
-use Rattle.ygg_sym_below.specs.StopTerms.{SymHalted, sym_halted}
+use Rattle.ygg_sym_below.specs.StopTerms.{sym_halted}
 use Rattle.ygg_sym_stops.specs.Halting.{halted_of, no_functions}
 use Rattle.ygg_sym_stops.specs.Stopping.{stops_on}
 use Rattle.ygg_sym_stops.proofs.halting.HaltingSymLower.handle.Goals as goal

@@ -1,6 +1,6 @@
 use Rattle.std.proofs.Common.{subst, sym}
 use Rattle.ygg_bank.proofs.Widths.{extends_both, wider}
-use Rattle.ygg_sym_stops.specs.Halting.{halted_low, halted_of}
+use Rattle.ygg_sym_stops.specs.Halting.{halted_low}
 use Rattle.ygg_sym_stops.proofs.Standing.{can_pick, pick_single, single_both}
 use Rattle.ygg_sym_stops.proofs.halting.HaltingSymLower.merge.Goals as goal
 
