@@ -1,0 +1,2 @@
+//! The specification of a layer over terms.
+#![tactic(auto)]
