@@ -115,7 +115,8 @@ module _ {S B : Type 0} (cut : Question → S → B) (lose : S → B) (size : Qu
   found_later true b m h e f g = absurd (cc)
   found_later false true m h e f g = absurd (cc)
 
-  found : (es : List (Event S)) (end : S) (low last : ℕ) (within : Bool) (n : ℕ) (fallen : B) → Within size low es last →
+  -- the stop of a schedule that leaves something is the first where it alone is set
+  pub found : (es : List (Event S)) (end : S) (low last : ℕ) (within : Bool) (n : ℕ) (fallen : B) → Within size low es last →
       base_at cut lose within (asked_in es) n end ≡ Some fallen →
       first_stop (λ k. k == stop_at es last within n) es last ≡ Some (halt within n)
   found [] end low last true zero fallen w h = absurd (cc)

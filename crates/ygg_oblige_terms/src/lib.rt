@@ -1,0 +1,2 @@
+//! The terms of a file's obligations: definitions.
+#![tactic(auto)]
