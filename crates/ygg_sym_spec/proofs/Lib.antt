@@ -1,1 +1,5 @@
 pub mod Bare
+pub mod Bits
+pub mod Going
+pub mod Falling
+pub mod Asked
