@@ -2,6 +2,7 @@ use Rattle.std.proofs.Common.{ℕ, ◌≡◌, ◌+◌, ◌<◌, List, [], ◌∷
 use Rattle.ygg_direct.specs.Direct.{total}
 use Rattle.ygg_syntax.specs.declared.tree.Stmt.{Stmt}
 use Rattle.ygg_sym_runs.specs.Lower.{Counts}
+use Rattle.ygg_sym_spec.proofs.Opened.{space_for, space_if}
 use Rattle.ygg_sym_spec.specs.Spaces.{block_space, stmt_space}
 use Rattle.ygg_sym_spec.proofs.places.+room.Goals as goal
 
@@ -19,14 +20,17 @@ rest_so f (x ∷ all) (suc i) (suc j) s d l e h = rest_so f all i j s d (omega a
 pub statement-returns-in-If : goal.statement-returns-in-If
 statement-returns-in-If g t c =
     let space = (g.W.SymLower.means c.args.machine.now).space in
-    subst (λ z. Counts (stmt_space space z) c.plus.result) (sym c.in-If.is)
-    (c.plus.ensures (block_space space c.in-If.first) (block_space space c.in-If.second) c.inside.ensures c.inside-in-If.ensures)
+    let first = c.in-If.first in
+    let second = c.in-If.second in
+    subst (λ z. Counts (stmt_space space z) c.plus.result) (sym c.in-If.is) (subst (λ z. Counts z c.plus.result) (space_if space c.in-If.field-0 first second)
+    (c.plus.ensures (block_space space first) (block_space space second) c.inside.ensures c.inside-in-If.ensures))
 
 pub statement-returns-in-For : goal.statement-returns-in-For
 statement-returns-in-For g t c =
     let space = (g.W.SymLower.means c.args.machine.now).space in
     subst (λ z. Counts (stmt_space space z) c.times.result) (sym c.in-For.is)
-    (c.times.ensures (block_space space c.in-For.each) c.inside-in-For.ensures)
+    (subst (λ z. Counts z c.times.result) (space_for space c.in-For.field-0 c.in-For.field-1 c.in-For.n c.in-For.each)
+    (c.times.ensures (block_space space c.in-For.each) c.inside-in-For.ensures))
 
 pub statements-loop-s-preserved : goal.statements-loop-s-preserved
 statements-loop-s-preserved g t c =
