@@ -6,3 +6,15 @@ pub mod Ends
 pub mod Parts
 pub mod Agreement
 pub mod Singles
+pub mod Zeros
+pub mod Putted
+pub mod Changed
+pub mod Joined
+pub mod Opened
+pub mod Walking
+pub mod Several
+pub mod Going
+pub mod Sides
+pub mod Assigning
+pub mod Turning
+pub mod Parting

@@ -2,3 +2,5 @@ pub mod Putting
 pub mod Runs
 pub mod Meaning
 pub mod Lower
+pub mod Ready
+pub mod Joining
