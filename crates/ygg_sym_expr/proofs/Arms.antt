@@ -1,7 +1,5 @@
 -- The steps of the evaluator over terms, over plain variables: what each call asks, and what each construct makes.
 use Rattle.std.proofs.Common.{◌≡◌, ℕ, ◌<◌, ◌≤◌, List, map, replicate, length, get_or, All, refl, sym, ap, ◌∙◌, subst}
-use Rattle.ygg_value.specs.Number.{IsWord}
-use Rattle.ygg_value.specs.Words.{word}
 use Rattle.ygg_value.specs.Shapes.{Within}
 use Rattle.ygg_value.specs.declared.operation.Op.{Op}
 use Rattle.ygg_type_sound.proofs.Rules.{ConstantParts}
@@ -13,7 +11,7 @@ use Rattle.ygg_syntax.specs.declared.tree.Quantifier.{Quantifier}
 use Rattle.ygg_syntax.specs.declared.tree.Expr.{Expr}
 use Rattle.ygg_syntax.specs.declared.tree.Expr.TheVariants as tree
 use Rattle.ygg_rules.specs.declared.rule.RuleKind.{RuleKind}
-use Rattle.ygg_bank.specs.Makes.{Make, Out, pure, and_make}
+use Rattle.ygg_bank.specs.Makes.{Make, pure, and_make}
 use Rattle.ygg_bank.specs.Nodes.{Stands, HasWidth, IsBank, Extends}
 use Rattle.ygg_bank.specs.declared.node.Id.{Id}
 use Rattle.ygg_bank.specs.declared.node.Node.{Node}

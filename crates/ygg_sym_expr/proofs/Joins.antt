@@ -1,8 +1,8 @@
 -- Tests at all numbers below a bound, joined to a digit.
-use Rattle.std.proofs.Common.{◌≡◌, ◌<◌, ◌+◌, ℕ, suc, List, [], ◌∷◌, ◌++◌, add-one, append_assoc, sym, ap, ◌∙◌, subst, arith}
+use Rattle.std.proofs.Common.{◌≡◌, ◌<◌, ◌+◌, ℕ, List, [], ◌∷◌, ◌++◌, add-one, append_assoc, sym, ap, ◌∙◌, subst, arith}
 use Rattle.std.proofs.lemmas.List.{map-append}
 use Rattle.ygg_value.specs.Number.{IsWord}
-use Rattle.ygg_value.specs.Words.{word, result_width}
+use Rattle.ygg_value.specs.Words.{word}
 use Rattle.ygg_value.specs.declared.operation.Op.{Op}
 use Rattle.ygg_syntax.specs.declared.tree.Def.{Def}
 use Rattle.ygg_syntax.specs.declared.tree.Name as tree_name

@@ -1,5 +1,5 @@
 -- Names that are looked for in one list and then in another.
-use Rattle.std.proofs.Common.{◌≡◌, ℕ, Bool, true, false, cond, List, [], ◌∷◌, ◌++◌, Some, None, refl, sym, ◌∙◌}
+use Rattle.std.proofs.Common.{◌≡◌, ℕ, Bool, true, false, cond, List, [], ◌∷◌, ◌++◌, Some, None, refl, ◌∙◌}
 use Rattle.std.specs.Str.{bytes_eq}
 use Rattle.ygg_symbols.specs.Names.{look_up as found}
 use Rattle.ygg_type_sound.proofs.Names.{still_found, new_found}

@@ -1,37 +1,5 @@
 -- The definition of a name, among definitions without type errors, and what it makes.
-use Rattle.std.proofs.Common.{
-  ◌≡◌,
-  ℕ,
-  zero,
-  suc,
-  ◌+◌,
-  ◌<◌,
-  Bool,
-  true,
-  false,
-  cond,
-  if◌then◌else◌,
-  List,
-  [],
-  ◌∷◌,
-  ◌++◌,
-  length,
-  take,
-  map,
-  get_or,
-  All,
-  Some,
-  None,
-  is_some,
-  refl,
-  sym,
-  ap,
-  ◌∙◌,
-  subst,
-  arith,
-  append_assoc,
-  add-one,
-}
+use Rattle.std.proofs.Common.{◌≡◌, ℕ, zero, suc, ◌+◌, ◌<◌, Bool, true, false, cond, if◌then◌else◌, List, [], ◌∷◌, ◌++◌, length, take, map, get_or, Some, None, is_some, refl, sym, ap, ◌∙◌, subst, arith, append_assoc, add-one}
 use Rattle.std.specs.Str.{bytes_eq}
 use Rattle.std.proofs.Math.Seq.{take-suc}
 use Rattle.std.proofs.lemmas.Bool.{and_from}
@@ -54,9 +22,8 @@ use Rattle.ygg_type_rules.specs.Definitions.{
   with_definitions,
   definitions_errors,
 }
-use Rattle.ygg_meaning.specs.Environments.{Name, bind}
+use Rattle.ygg_meaning.specs.Environments.{Name}
 use Rattle.ygg_meaning.specs.Meaning.{functions_of}
-use Rattle.ygg_meaning.specs.Meaning as meaning
 use Rattle.ygg_type_sound.specs.Agrees.{Agrees}
 use Rattle.ygg_type_sound.proofs.Tests.{left, right, bytes_same, bytes_equal}
 use Rattle.ygg_type_sound.proofs.Names.{still_found, look_up_append, added_new, or_else, absent}
@@ -64,7 +31,7 @@ use Rattle.ygg_type_sound.proofs.Definitions.{DefinitionParts, definition_parts,
 use Rattle.ygg_eval_expr.specs.Known.{IsDefinition}
 use Rattle.ygg_eval_expr.proofs.Called.{Missing, missing_begun, missing_more}
 use Rattle.ygg_rules.specs.declared.rule.RuleKind.{RuleKind}
-use Rattle.ygg_bank.specs.Makes.{Make, Out, pure}
+use Rattle.ygg_bank.specs.Makes.{pure}
 use Rattle.ygg_bank.specs.declared.node.Node.{Node}
 use Rattle.ygg_shape_cells.specs.Terms.{worth}
 use Rattle.ygg_shape_cells.specs.declared.terms.SymValue.{SymValue}

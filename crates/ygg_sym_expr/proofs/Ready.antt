@@ -39,15 +39,13 @@ use Rattle.ygg_syntax.specs.declared.tree.Quantifier.{Quantifier}
 use Rattle.ygg_syntax.specs.declared.tree.Quantifier.TheVariants as quantifier
 use Rattle.ygg_syntax.specs.declared.tree.Expr.{Expr}
 use Rattle.ygg_syntax.specs.declared.tree.Expr.TheVariants as tree
-use Rattle.ygg_syntax.specs.declared.tree.Expr.TheOpen.{Expr-F}
 use Rattle.ygg_symbols.specs.Names.{look_up}
 use Rattle.ygg_type_rules.specs.declared.scope.Signature.{Signature}
 use Rattle.ygg_type_rules.specs.TypeErrors.{none}
 use Rattle.ygg_type_rules.specs.Scopes.{Scope, is_taken}
 use Rattle.ygg_type_rules.specs.Shapes.{is_word, width_of, word_shape}
 use Rattle.ygg_type_rules.specs.Comparisons.{operator_error}
-use Rattle.ygg_type_rules.specs.Definitions.{with_definitions}
-use Rattle.ygg_type_rules.specs.Expressions.{typing, node_typing, with_number, operator_rule}
+use Rattle.ygg_type_rules.specs.Expressions.{typing, with_number, operator_rule}
 use Rattle.ygg_meaning.specs.Environments.{Name}
 use Rattle.ygg_meaning.specs.Meaning.{Functions, functions_of, value_with}
 use Rattle.ygg_meaning.specs.Meaning as meaning
@@ -55,31 +53,15 @@ use Rattle.ygg_type_sound.specs.Agrees.{Agrees}
 use Rattle.ygg_type_sound.specs.Fitting.{all_fit}
 use Rattle.ygg_type_sound.proofs.Tests.{wanted_is}
 use Rattle.ygg_type_sound.proofs.Fits.{word_wide}
-use Rattle.ygg_type_sound.proofs.Rules.{ConstantParts, NumberParts, Operands, operands, operator_without_errors}
+use Rattle.ygg_type_sound.proofs.Rules.{ConstantParts, NumberParts, operands, operator_without_errors}
 use Rattle.ygg_type_sound.proofs.Sounds.{two_none}
-use Rattle.ygg_type_sound.proofs.Parts.{
-  HasValue,
-  QuantifiedTyped,
-  values_in,
-  typed_binary,
-  constant_typed,
-  apply_typed,
-  binary_typed,
-  not_typed,
-  at_typed,
-  pick_typed,
-  resize_typed,
-  fill_typed,
-  row_typed,
-  quantified_typed,
-}
-use Rattle.ygg_rules.specs.Views.{IsWidth}
+use Rattle.ygg_type_sound.proofs.Parts.{QuantifiedTyped, values_in, typed_binary, constant_typed, apply_typed, binary_typed, not_typed, at_typed, pick_typed, resize_typed, fill_typed, row_typed, quantified_typed}
 use Rattle.ygg_rules.specs.declared.rule.RuleKind.{RuleKind}
 use Rattle.ygg_bank.proofs.Makes.{made_bank}
 use Rattle.ygg_bank.proofs.Meaning.{fits_fewer}
 use Rattle.ygg_bank.proofs.Widths.{stands}
 use Rattle.ygg_bank.specs.Makes.{Make}
-use Rattle.ygg_bank.specs.Nodes.{Stands, HasWidth, CanBin, IsBank, Extends}
+use Rattle.ygg_bank.specs.Nodes.{Stands, HasWidth, CanBin, IsBank}
 use Rattle.ygg_bank.specs.Values.{Inputs, Values, Fits, value_of}
 use Rattle.ygg_bank.specs.declared.node.Id.{Id}
 use Rattle.ygg_bank.specs.declared.node.Node.{Node}
@@ -89,7 +71,7 @@ use Rattle.ygg_shape_cells.specs.Terms.{AreAlike, worth}
 use Rattle.ygg_shape_cells.specs.declared.terms.SymValue.{SymValue}
 use Rattle.ygg_shape.proofs.Answered.{no_inputs, some_fit}
 use Rattle.ygg_sym_expr.specs.Exprs.{id_in, all_made, number_made, with_name}
-use Rattle.ygg_sym_expr.specs.Meaning.{SomeShape, ScopeShaped, worths, scope_worth, IsWorth}
+use Rattle.ygg_sym_expr.specs.Meaning.{SomeShape, worths, scope_worth, IsWorth}
 use Rattle.ygg_sym_expr.specs.Seen.{SymKnown, CanTerm, CanCall, CanOperate, terms_called, terms_in, joining, test_at}
 use Rattle.ygg_sym_expr.proofs.Constructs.{makings}
 use Rattle.ygg_sym_expr.proofs.Grows.{functions_grow, word_grows, all_grow}
@@ -308,8 +290,7 @@ module _ (kinds : List RuleKind) (k : SymKnown) where
       let plain : is_word (shape_of test) ≡ true = ap is_word u.test in
       let last = worth_wider no_inputs v x.nodes y.nodes test z.value gy (worth_wider no_inputs v z.nodes x.nodes test z.value gx o) in
       let w = is_term no_inputs v test y.nodes z.value hy last plain in
-      let one : (word_in test).width ≡ 1 = sym (word_wide test plain) ∙ ap width_of u.test in
-      (
+      let one : (word_in test).width ≡ 1 = sym (word_wide test plain) ∙ ap width_of u.test in (
         subst (HasWidth y.nodes (id_in z.value)) one w.wide,
         alike_values no_inputs v kinds x.value y.value (value_with F a here) (value_with F b here) y.nodes hy
             (worth_wider no_inputs v x.nodes y.nodes (value_with F a here) x.value gy p) q (sym u.alike),

@@ -7,7 +7,6 @@ use Rattle.ygg_type_rules.specs.TypeErrors.{none}
 use Rattle.ygg_type_rules.specs.Expressions.{typing}
 use Rattle.ygg_type_rules.specs.Definitions.{with_definitions}
 use Rattle.ygg_meaning.specs.Meaning.{functions_of, value_with}
-
 use Rattle.ygg_type_sound.proofs.Sounds.{sound}
 use Rattle.ygg_rules.specs.declared.rule.RuleKind.{RuleKind}
 use Rattle.ygg_bank.proofs.Meaning.{fits_fewer}
@@ -15,9 +14,9 @@ use Rattle.ygg_bank.specs.Inputs.{InputsBelow, KeepsInputs}
 use Rattle.ygg_bank.specs.Nodes.{IsBank, Extends}
 use Rattle.ygg_bank.specs.Values.{Inputs, Values, Fits, value_of}
 use Rattle.ygg_bank.specs.declared.node.Node.{Node}
-use Rattle.ygg_shape_cells.specs.Terms.{IsShaped, worth}
+use Rattle.ygg_shape_cells.specs.Terms.{IsShaped}
 use Rattle.ygg_shape_cells.specs.declared.terms.SymValue.{SymValue}
-use Rattle.ygg_shape_words.proofs.Keeps.{inputs_stay, kept}
+use Rattle.ygg_shape_words.proofs.Keeps.{inputs_stay}
 use Rattle.ygg_shape.proofs.Answered.{no_inputs, some_fit}
 use Rattle.ygg_sym_expr.specs.Meaning.{Grows, SomeShape, scope_worth, IsWorth}
 use Rattle.ygg_sym_expr.specs.Seen.{SymKnown, CanTerm, terms_called, terms_in}

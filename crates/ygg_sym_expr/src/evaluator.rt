@@ -12,7 +12,16 @@ ghost use Rattle.ygg_sym_expr.specs.Names.{no_term};
 ghost use Rattle.ygg_sym_expr.specs.Exprs.{all_made, joined, sym_value};
 ghost use Rattle.ygg_sym_expr.specs.Meaning.{SomeShape};
 ghost use Rattle.ygg_sym_expr.specs.Seen.{
-    CanCall, CanQuantify, CanTerm, env_of, joining, known_of, start_of, terms_called, terms_in, test_at,
+  CanCall,
+  CanQuantify,
+  CanTerm,
+  env_of,
+  joining,
+  known_of,
+  start_of,
+  terms_called,
+  terms_in,
+  test_at,
 };
 
 use crate::held::{SymBinding, bound, copied, value_of};
@@ -125,7 +134,14 @@ impl<'a, 'n> SymEvaluator<'a, 'n> {
             Expr::Resize(_, a, w) => {
                 let a = self.value_by(bank, book, a.get())?;
                 let width = w.value as u8;
-                word(bank, book, Node::Resize { a: id_in(&a), width })
+                word(
+                    bank,
+                    book,
+                    Node::Resize {
+                        a: id_in(&a),
+                        width,
+                    },
+                )
             }
             Expr::Fill(_, m, a) => {
                 let a = self.value_by(bank, book, a.get())?;
@@ -187,8 +203,7 @@ impl<'a, 'n> SymEvaluator<'a, 'n> {
             Some(place) => {
                 let def = &self.defs[place];
                 let own = bound(self.alloc, def.parameters.as_slice(), args)?;
-                let inner =
-                    SymEvaluator::new(self.alloc, &self.defs[..place], own.as_slice(), &[]);
+                let inner = SymEvaluator::new(self.alloc, &self.defs[..place], own.as_slice(), &[]);
                 inner.value_by(bank, book, &def.body)
             }
             None => Ok(SymValue::Word(Id(0))),

@@ -15,7 +15,7 @@ use Rattle.ygg_direct.specs.Direct.{total}
 use Rattle.ygg_sym_expr.specs.Names.{SymEnv}
 use Rattle.ygg_sym_expr.specs.Exprs.{number_made}
 use Rattle.ygg_sym_expr.specs.Seen.{env_of}
-use Rattle.ygg_sym_expr.specs.declared.evaluator.SymBinding.{SymBinding}
+use Rattle.ygg_sym_expr.specs.declared.held.SymBinding.{SymBinding}
 use Rattle.ygg_sym_runs.specs.Lower.{SymMeaning, KeepsSingle}
 use Rattle.ygg_sym_runs.specs.Ready.{Ended, terms_of, stmt_run, order_run, inside_run, turns_run}
 use Rattle.ygg_sym_runs.specs.Runs.{SymRun, SymState, state, sym_in_order, sym_times, sym_each}

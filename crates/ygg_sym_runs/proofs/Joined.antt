@@ -15,7 +15,7 @@ use Rattle.ygg_shape_cells.specs.declared.terms.SymValue.{SymValue}
 use Rattle.ygg_sym_expr.specs.Names.{SymEnv}
 use Rattle.ygg_sym_expr.specs.Exprs.{SymFunctions}
 use Rattle.ygg_sym_expr.specs.Seen.{env_of}
-use Rattle.ygg_sym_expr.specs.declared.evaluator.SymBinding.{SymBinding}
+use Rattle.ygg_sym_expr.specs.declared.held.SymBinding.{SymBinding}
 use Rattle.ygg_sym_runs.specs.Lower.{SymMeaning, SingleFrom, CanMerge}
 use Rattle.ygg_sym_runs.specs.Ready.{EnvAlike, joined_names}
 use Rattle.ygg_sym_runs.specs.Runs.{SymMachine, SymState, state, merge_env, merge_state}

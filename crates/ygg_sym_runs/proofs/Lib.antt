@@ -18,3 +18,6 @@ pub mod Sides
 pub mod Assigning
 pub mod Turning
 pub mod Parting
+pub mod Nexts
+pub mod Sizes
+pub mod Rooms

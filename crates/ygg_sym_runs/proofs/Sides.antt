@@ -44,9 +44,9 @@ use Rattle.ygg_sym_expr.proofs.Grows.{value_grows}
 use Rattle.ygg_sym_expr.proofs.Shaped.{is_term, env_wider}
 use Rattle.ygg_sym_runs.specs.Joining.{CanJoinEnds}
 use Rattle.ygg_sym_runs.specs.Lower.{SymMeaning, IsLower}
-use Rattle.ygg_sym_runs.specs.Ready.{EnvAlike, Ended, known_with, stmt_run, turns_run, CanCall, CanDo, CanStep, CanChoose, CanEnter}
-use Rattle.ygg_sym_runs.specs.Runs.{SymRun, plain_scope}
-use Rattle.ygg_sym_runs.proofs.Opened.{Walk, walked_if, keeps_if, walked_call, keeps_call, run_for}
+use Rattle.ygg_sym_runs.specs.Ready.{EnvAlike, Ended, known_with, terms_of, stmt_run, inside_run, turns_run, CanCall, CanDo, CanStep, CanChoose, CanEnter, CanRepeat}
+use Rattle.ygg_sym_runs.specs.Runs.{SymRun, plain_scope, sym_stmt}
+use Rattle.ygg_sym_runs.proofs.Opened.{Walk, walked_if, keeps_if, walked_call, keeps_call, walked_for, keeps_for, run_for, run_if}
 use Rattle.ygg_sym_runs.proofs.Parts.{eval_gives}
 use Rattle.ygg_sym_runs.proofs.Typed.{all_have}
 use Rattle.ygg_sym_runs.proofs.Walking.{ds, functions, terms, grow, mean, in_scope, can_term, Left}
@@ -205,3 +205,19 @@ module _ {S : Type 0} (M : SymMeaning S) (law : IsLower M) (kinds : List RuleKin
       IfOk r (λ end. Ended (stmt_run M defs kinds t) i env s old end env' s' new)
   ended_for t x w n each i env env' s s' old new r is h =
       subst (λ (q : SymRun S). IfOk r (λ end. Ended q i env s old end env' s' new)) (sym (ap (stmt_run M defs kinds) is ∙ run_for M defs kinds x w n each)) h
+
+  -- an `if` ends as a statement
+  pub ended_if : (t : Stmt) (test : Expr) (first second : Block) (i end : ℕ) (env env' : SymEnv) (s s' : S) (old new : List Node) →
+      t ≡ tree.If test first second →
+      Ended (sym_stmt kinds (terms_of kinds defs) (M.machine kinds) (Stmt-F.If test (inside_run M defs kinds first) (inside_run M defs kinds second))) i env s
+      old end env' s' new → Ended (stmt_run M defs kinds t) i env s old end env' s' new
+  ended_if t test first second i end env env' s s' old new is h =
+      subst (λ (q : SymRun S). Ended q i env s old end env' s' new) (sym (ap (stmt_run M defs kinds) is ∙ run_if M defs kinds test first second)) h
+
+  -- a loop may be run
+  pub step_for : (t : Stmt) (x : tree_name.Name) (w n : Numeral) (each : Block) (nodes : List Node) (env : SymEnv) (s : S) → t ≡ tree.For x w n each →
+      CanStep M defs t nodes env s → CanRepeat M defs x w n each nodes env s
+  step_for t x w n each nodes env s is can =
+      let d = step_as t (node_walked (Stmt-F.For x w n (block_errors each None))) (node_keeps (Stmt-F.For x w n (λ kind. keeps kind each))) nodes env s
+      (ap walked is ∙ walked_for x w n each) (ap stmt_keeps is ∙ keeps_for x w n each) can in
+      record { scope = d.scope; names = d.names; stands = d.stands; without_errors = d.without_errors; keeps = d.keeps }

@@ -11,15 +11,15 @@ ghost use Rattle.ygg_sym_runs.specs.Runs.{places_of, plain_scope, sym_asks, sym_
 
 use crate::lower::SymLower;
 use crate::question::Question;
-use crate::written::id_in;
 use std::alloc::Global;
 use ygg_bank::{Bank, Id, NoMemory};
 use ygg_rules::Book;
 use ygg_shape_cells::{SymValue, SymValues};
-use ygg_sym_expr::{SymBinding, SymEvaluator};
+use ygg_sym_expr::{SymBinding, SymEvaluator, id_in};
 use ygg_syntax::tree::{Def, Expr, Index, Name, Source};
 
 /// What stays the same while a block is run over terms: the definitions of its file, the machine below it, and the rules of terms.
+#[derive(Drop)]
 pub struct SymRunner<'a, W, B> {
     pub alloc: Global,
     pub defs: &'a [Def],

@@ -8,19 +8,18 @@ ghost use Rattle.ygg_sym_expr.specs.Seen.{env_of};
 ghost use Rattle.ygg_sym_runs.specs.Joining.{CanJoinEnds};
 ghost use Rattle.ygg_sym_runs.specs.Lower.{KeepsSingle};
 ghost use Rattle.ygg_sym_runs.specs.Ready.{
-    CanAssign, CanCall, CanChoose, CanEnter, CanGet, CanRepeat, CanRun, CanStep, Ended, inside_run, order_run, stmt_run, terms_of, turns_run};
+    CanAssign, CanCall, CanEnter, CanGet, CanRepeat, CanRun, CanStep, Ended, inside_run, order_run, stmt_run, terms_of, turns_run};
 ghost use Rattle.ygg_sym_runs.specs.Runs.{merge_state, state, sym_stmt};
 
 use crate::lower::SymLower;
 use crate::names::{change, copy_names, join_names, name_value};
 use crate::question::Question;
 use crate::runner::SymRunner;
-use crate::written::id_in;
 use ygg_bank::{Bank, Id, NoMemory, Node};
 use ygg_list::Duplicate;
 use ygg_rules::Book;
 use ygg_shape_cells::SymValue;
-use ygg_sym_expr::SymBinding;
+use ygg_sym_expr::{SymBinding, id_in};
 use ygg_syntax::tree::{Block, Expr, Index, Name, Numeral, Source, Stmt};
 use ygg_value::Word;
 
@@ -164,37 +163,7 @@ impl<'a, W: SymLower, B: Book> SymRunner<'a, W, B> {
         Ok(())
     }
 
-    /// Both sides of an `if`, each with places of its own, merged by its test.
-    #[cycle(run)]
-    fn chosen(
-        &self,
-        test: &'a Expr,
-        first: &'a Block,
-        second: &'a Block,
-        place: u64,
-        bank: &mut Bank,
-        frame: &mut SymFrame<'a, W::State>,
-    ) -> Result<u64, NoMemory>
-        requires can { CanChoose (W.means self.now.machine.now) self.now.defs.now test.now first.now second.now bank.old
-            (env_of frame.old.names.items) frame.old.state }
-        requires bank { IsBank bank.old }
-        ensures ran { IfOk result (λ end. Ended (sym_stmt (B.kinds self.now.book.now) (terms_of (B.kinds self.now.book.now) self.now.defs.now)
-            ((W.means self.now.machine.now).machine (B.kinds self.now.book.now)) (Stmt-F.If test.now
-            (inside_run (W.means self.now.machine.now) self.now.defs.now (B.kinds self.now.book.now) first.now)
-            (inside_run (W.means self.now.machine.now) self.now.defs.now (B.kinds self.now.book.now) second.now)))
-            place (env_of frame.old.names.items) frame.old.state bank.old end (env_of frame.new.names.items) frame.new.state bank.new) }
-        ensures grows { Extends bank.old bank.new }
-        ensures bank { IsBank bank.new }
-    {
-        let value = self.value(test, bank, frame.names.as_slice())?;
-        let mut other = self.copy(frame)?;
-        let middle = self.block(first, place, bank, frame)?;
-        let end = self.block(second, middle, bank, &mut other)?;
-        self.join(id_in(&value), bank, frame, &other)?;
-        Ok(end)
-    }
-
-    /// A statement.
+    /// A statement; of an `if` both sides are run, each with places of its own, and merged by the test.
     #[cycle(run)]
     fn statement(
         &self,
@@ -216,7 +185,12 @@ impl<'a, W: SymLower, B: Book> SymRunner<'a, W, B> {
                 self.assigned(x, indices.as_slice(), from, place, bank, frame)
             }
             Stmt::If(test, first, second) => {
-                self.chosen(test, first, second, place, bank, frame)
+                let value = self.value(test, bank, frame.names.as_slice())?;
+                let mut other = self.copy(frame)?;
+                let middle = self.block(first, place, bank, frame)?;
+                let end = self.block(second, middle, bank, &mut other)?;
+                self.join(id_in(&value), bank, frame, &other)?;
+                Ok(end)
             }
             Stmt::For(x, w, n, each) => self.turns(x, *w, *n, each, place, bank, frame),
             Stmt::Call(f, es) => self.called(f, es.as_slice(), place, bank, frame),

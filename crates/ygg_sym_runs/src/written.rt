@@ -2,7 +2,6 @@
 
 ghost use Rattle.std.specs.Prelude.{◌≡◌, [], ◌∷◌, IfOk, OnOk};
 ghost use Rattle.ygg_bank.specs.Nodes.{Extends, IsBank};
-ghost use Rattle.ygg_sym_expr.specs.Exprs.{id_in};
 ghost use Rattle.ygg_sym_runs.specs.Lower.{KeepsSingle};
 ghost use Rattle.ygg_sym_runs.specs.Putting.{put_made};
 ghost use Rattle.ygg_sym_runs.specs.Ready.{CanPut};
@@ -12,18 +11,8 @@ use std::alloc::Global;
 use ygg_bank::{Bank, Id, NoMemory};
 use ygg_rules::Book;
 use ygg_shape::{select, store, store_word};
-use ygg_shape_cells::{SymRow, SymTable, SymValue};
-
-/// The term that a value is; a row or a table, which no typed file has there, counts as the first term.
-pub fn id_in(value: &SymValue) -> Id
-    ensures { result ≡ id_in value.now }
-{
-    match value {
-        SymValue::Word(term) => *term,
-        SymValue::Row(_) => Id(0),
-        SymValue::Table(_) => Id(0),
-    }
-}
+use ygg_shape_cells::{SymTable, SymValue};
+use ygg_sym_expr::id_in;
 
 /// The value with the part at these places written anew, the outermost place first; with no place, the new value. Its only error is out of
 /// memory, after which the bank may have more nodes.

@@ -6,7 +6,7 @@ use Rattle.ygg_shape.proofs.Steps.{EachTwo, each_two_goes}
 use Rattle.ygg_shape_cells.specs.declared.terms.SymValue.{SymValue}
 use Rattle.ygg_sym_expr.specs.Names.{SymEnv}
 use Rattle.ygg_sym_expr.specs.Seen.{env_of}
-use Rattle.ygg_sym_expr.specs.declared.evaluator.SymBinding.{SymBinding}
+use Rattle.ygg_sym_expr.specs.declared.held.SymBinding.{SymBinding}
 use Rattle.ygg_sym_runs.specs.Ready.{joined_name}
 use Rattle.ygg_sym_runs.proofs.Joined.{alike_at}
 use Rattle.ygg_sym_runs.proofs.names.join_names.Goals as goal

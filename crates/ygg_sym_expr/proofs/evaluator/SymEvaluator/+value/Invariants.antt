@@ -1,4 +1,4 @@
-use Rattle.std.proofs.Common.{◌≡◌, ◌≤◌, ◌+◌, ◌*◌, ◌++◌, drop, map}
+use Rattle.std.proofs.Common.{◌≡◌, ◌≤◌, ◌+◌, ◌*◌, drop}
 use Rattle.ygg_syntax_count.specs.Weights.{weights_of, weight_at, expr_weight, exprs_weight}
 use Rattle.ygg_bank.specs.Nodes.{Extends, HasWidth, IsBank}
 use Rattle.ygg_sym_expr.specs.Exprs.{joined, sym_value}

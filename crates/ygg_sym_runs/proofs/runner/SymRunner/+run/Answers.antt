@@ -1,4 +1,4 @@
-use Rattle.std.proofs.Common.{rules, ◌≡◌, ◌+◌, List, None, drop, refl, sym, ap, ◌∙◌, subst, arith}
+use Rattle.std.proofs.Common.{rules, ◌≡◌, ◌+◌, List, None, drop, length, refl, sym, ap, ◌∙◌, subst, arith}
 use Rattle.ygg_syntax.specs.declared.tree.Expr.{Expr}
 use Rattle.ygg_syntax.specs.declared.tree.Stmt.{Stmt}
 use Rattle.ygg_syntax.specs.declared.tree.Stmt.TheOpen.{Stmt-F}
@@ -8,15 +8,17 @@ use Rattle.ygg_bank.proofs.Widths.{extends_self, extends_both}
 use Rattle.ygg_sym_expr.specs.Exprs.{sym_value}
 use Rattle.ygg_sym_expr.specs.Names.{SymEnv}
 use Rattle.ygg_sym_expr.specs.Seen.{CanTerm, env_of}
-use Rattle.ygg_sym_expr.specs.declared.evaluator.SymBinding.{SymBinding}
+use Rattle.ygg_sym_expr.specs.declared.held.SymBinding.{SymBinding}
 use Rattle.ygg_sym_runs.specs.Ready.{known_with, terms_of, CanCall, CanEnter, CanRun, Ended, inside_run, stmt_run}
 use Rattle.ygg_sym_runs.specs.Runs.{SymRun, plain_scope}
 use Rattle.ygg_sym_runs.proofs.Going.{rest_is, dropped_is, block_ends, order_goes, order_ends, turns_begin, turns_go, turns_end}
+use Rattle.ygg_sym_runs.proofs.Nexts.{first_can, second_can, next_can}
 use Rattle.ygg_sym_runs.proofs.Opened.{walked_if, keeps_if, walked_call, keeps_call, run_for}
 use Rattle.ygg_sym_runs.proofs.Parting.{if_ends}
-use Rattle.ygg_sym_runs.proofs.Sides.{choose_test, choose_first, choose_second, choose_width, join_can, step_if, step_call, ended_for}
+use Rattle.ygg_sym_runs.proofs.Sides.{choose_test, choose_first, choose_second, choose_width, join_can, step_if, step_for, step_call, ended_for, ended_if}
+use Rattle.ygg_sym_runs.proofs.Sizes.{size_if, size_for, size_block, size_item}
 use Rattle.ygg_sym_runs.proofs.Turning.{repeat_parts, repeat_enters, repeat_again}
-use Rattle.ygg_sym_runs.proofs.Walking.{do_later, first_runs, rest_runs, block_left}
+use Rattle.ygg_sym_runs.proofs.Walking.{do_later, enter_runs, rest_runs, block_left}
 use Rattle.ygg_sym_runs.proofs.Zeros.{single_both}
 use Rattle.ygg_sym_runs.proofs.runner.SymRunner.+run.Goals as goal
 
@@ -32,8 +34,8 @@ block-returns-clause-ran g t c =
     c.len-outside.result c.args.place c.in_ok-end.end f.state c.statements.new.frame.state c.args.bank.now c.statements.new.bank c.as_slice.ensures
     (omega (arith, f.names.ok.0, c.len-outside.ensures)) c.truncate.ensures.items c.in_ok-end.ensures.ran
 
-pub chosen-value-requires : goal.chosen-value-requires
-chosen-value-requires g t c =
+pub statement-value-requires : goal.statement-value-requires
+statement-value-requires g t c =
     let r = c.args.self.now in
     let kinds = g.B.Book.kinds r.book.now in
     let M = g.W.SymLower.means r.machine.now in
@@ -43,17 +45,17 @@ chosen-value-requires g t c =
     let f = c.args.frame.now in
     let env = env_of f.names.items in
     let s = f.state in
-    let test = c.args.test.now in
-    let first = c.args.first.now in
-    let second = c.args.second.now in
-    let can = c.requires.can in
+    let test = c.in-If.test in
+    let first = c.in-If.first in
+    let second = c.in-If.second in
+    let can = step_if M law kinds defs c.args.s.now test first second at env s c.in-If.is c.requires.can in
     record {
-      can = subst (λ (bs : List SymBinding). CanTerm (known_with defs (env_of bs)) at test) (sym c.as_slice.ensures.value)
+      can = subst (λ (bs : List SymBinding). CanTerm (known_with defs (env_of bs)) at test) (sym c.as_slice-in-If.ensures.value)
           (choose_test M law kinds defs test first second at env s can);
     }
 
-pub chosen-block-requires : goal.chosen-block-requires
-chosen-block-requires g t c κs h =
+pub statement-join-requires-clause-can : goal.statement-join-requires-clause-can
+statement-join-requires-clause-can g t c =
     let r = c.args.self.now in
     let kinds = g.B.Book.kinds r.book.now in
     let M = g.W.SymLower.means r.machine.now in
@@ -63,91 +65,43 @@ chosen-block-requires g t c κs h =
     let f = c.args.frame.now in
     let env = env_of f.names.items in
     let s = f.state in
-    let test = c.args.test.now in
-    let first = c.args.first.now in
-    let second = c.args.second.now in
-    let can = c.requires.can in
+    let test = c.in-If.test in
+    let first = c.in-If.first in
+    let second = c.in-If.second in
+    let can = step_if M law kinds defs c.args.s.now test first second at env s c.in-If.is c.requires.can in
+    let vn = c.in_ok-value-in-If.ensures.nodes
+    ∙ ap (λ (bs : List SymBinding). (sym_value kinds (terms_of kinds defs) test (plain_scope (env_of bs)) at).nodes) c.as_slice-in-If.ensures.value in
+    let vf = c.in_ok-value-in-If.ensures.form
+    ∙ ap (λ (bs : List SymBinding). (sym_value kinds (terms_of kinds defs) test (plain_scope (env_of bs)) at).value) c.as_slice-in-If.ensures.value in
     let mid = c.value.new.bank in
-    let enter = do_later M law kinds defs (block_errors first None) (λ kind. keeps kind first) at mid env s c.value.ensures.grows c.in_ok-value.ensures.single
-    (choose_first M law kinds defs test first second at env s can) in
-    (search rules, (search rules, (search rules, (search rules, (enter, c.value.ensures.bank)))))
-
-pub chosen-block-requires-2 : goal.chosen-block-requires-2
-chosen-block-requires-2 g t c κs h =
-    let r = c.args.self.now in
-    let kinds = g.B.Book.kinds r.book.now in
-    let M = g.W.SymLower.means r.machine.now in
-    let law = g.met.W.SymLower.keeps r.machine.now in
-    let defs = r.defs.now in
-    let at = c.args.bank.now in
-    let f = c.args.frame.now in
-    let env = env_of f.names.items in
-    let s = f.state in
-    let test = c.args.test.now in
-    let first = c.args.first.now in
-    let second = c.args.second.now in
-    let can = c.requires.can in
-    let mid = c.value.new.bank in
-    let enter1 = do_later M law kinds defs (block_errors first None) (λ kind. keeps kind first) at mid env s c.value.ensures.grows c.in_ok-value.ensures.single
+    let enter = do_later M law kinds defs (block_errors first None) (λ kind. keeps kind first) at mid env s c.value.ensures.grows c.in_ok-value-in-If.ensures.single
     (choose_first M law kinds defs test first second at env s can) in
     let next = c.block.new.bank in
-    let ran = c.in_ok-middle.ensures.ran in
+    let ran = c.in_ok-middle-in-If.ensures.ran in
     let enter2 = do_later M law kinds defs (block_errors second None) (λ kind. keeps kind second) at next env s
-    (extends_both at mid next c.value.ensures.grows c.block.ensures.grows) (single_both at mid next c.in_ok-value.ensures.single ran.single)
+    (extends_both at mid next c.value.ensures.grows c.block.ensures.grows) (single_both at mid next c.in_ok-value-in-If.ensures.single ran.single)
     (choose_second M law kinds defs test first second at env s can) in
-    let o = c.in_ok-other.other in
-    let enter3 = subst (λ (z : SymEnv). CanEnter M defs second next z o.state) (sym c.in_ok-other.ensures.names)
-    (subst (λ z. CanEnter M defs second next env z) (sym c.in_ok-other.ensures.state) enter2) in
-    (search rules, (search rules, (search rules, (search rules, (enter3, c.block.ensures.bank)))))
-
-pub chosen-join-requires-clause-can : goal.chosen-join-requires-clause-can
-chosen-join-requires-clause-can g t c =
-    let r = c.args.self.now in
-    let kinds = g.B.Book.kinds r.book.now in
-    let M = g.W.SymLower.means r.machine.now in
-    let law = g.met.W.SymLower.keeps r.machine.now in
-    let defs = r.defs.now in
-    let at = c.args.bank.now in
-    let f = c.args.frame.now in
-    let env = env_of f.names.items in
-    let s = f.state in
-    let test = c.args.test.now in
-    let first = c.args.first.now in
-    let second = c.args.second.now in
-    let can = c.requires.can in
-    let vn = c.in_ok-value.ensures.nodes
-    ∙ ap (λ (bs : List SymBinding). (sym_value kinds (terms_of kinds defs) test (plain_scope (env_of bs)) at).nodes) c.as_slice.ensures.value in
-    let vf = c.in_ok-value.ensures.form
-    ∙ ap (λ (bs : List SymBinding). (sym_value kinds (terms_of kinds defs) test (plain_scope (env_of bs)) at).value) c.as_slice.ensures.value in
-    let mid = c.value.new.bank in
-    let enter = do_later M law kinds defs (block_errors first None) (λ kind. keeps kind first) at mid env s c.value.ensures.grows c.in_ok-value.ensures.single
-    (choose_first M law kinds defs test first second at env s can) in
-    let next = c.block.new.bank in
-    let ran = c.in_ok-middle.ensures.ran in
-    let enter2 = do_later M law kinds defs (block_errors second None) (λ kind. keeps kind second) at next env s
-    (extends_both at mid next c.value.ensures.grows c.block.ensures.grows) (single_both at mid next c.in_ok-value.ensures.single ran.single)
-    (choose_second M law kinds defs test first second at env s can) in
-    let o = c.in_ok-other.other in
-    let last = c.block-2.new.bank in
+    let o = c.in_ok-other-in-If.other in
+    let last = c.block-in-If.new.bank in
     let one = c.block.new.frame in
-    let two = c.block-2.new.frame in
-    let ran2 = subst (λ (z : SymEnv). Ended (inside_run M defs kinds second) c.in_ok-middle.middle z s next c.in_ok-end.end (env_of two.names.items) two.state last)
-    c.in_ok-other.ensures.names
-    (subst (λ z. Ended (inside_run M defs kinds second) c.in_ok-middle.middle (env_of o.names.items) z next c.in_ok-end.end (env_of two.names.items) two.state last)
-    c.in_ok-other.ensures.state c.in_ok-end.ensures.ran) in
+    let two = c.block-in-If.new.frame in
+    let ran2 = subst (λ (z : SymEnv). Ended (inside_run M defs kinds second) c.in_ok-middle-in-If.middle z s next c.in_ok-end-in-If.end (env_of two.names.items) two.state last)
+    c.in_ok-other-in-If.ensures.names
+    (subst (λ z. Ended (inside_run M defs kinds second) c.in_ok-middle-in-If.middle (env_of o.names.items) z next c.in_ok-end-in-If.end (env_of two.names.items) two.state last)
+    c.in_ok-other-in-If.ensures.state c.in_ok-end-in-If.ensures.ran) in
     let names = can.names in
     let left = block_left M law kinds defs first c.args.place mid next env (env_of one.names.items) s one.state enter ran.nodes ran.names ran.state
     c.block.ensures.bank ran.single in
-    let right = block_left M law kinds defs second c.in_ok-middle.middle next last env (env_of two.names.items) s two.state enter2 ran2.nodes ran2.names
-    ran2.state c.block-2.ensures.bank ran2.single in
-    let wide = choose_width M law kinds defs test first second at env s can mid c.in_ok-value.value c.id_in.result vn vf c.id_in.ensures
+    let right = block_left M law kinds defs second c.in_ok-middle-in-If.middle next last env (env_of two.names.items) s two.state enter2 ran2.nodes ran2.names
+    ran2.state c.block-in-If.ensures.bank ran2.single in
+    let wide = choose_width M law kinds defs test first second at env s can mid c.in_ok-value-in-If.value c.id_in.result vn vf c.id_in.ensures
     c.value.ensures.bank in
-    let grown = extends_both mid next last c.block.ensures.grows c.block-2.ensures.grows in
+    let grown = extends_both mid next last c.block.ensures.grows c.block-in-If.ensures.grows in
     join_can M law kinds defs can.scope env (env_of one.names.items) (env_of two.names.items) one.state two.state at mid next last c.id_in.result names.shaped
-    (extends_both at mid last c.value.ensures.grows grown) wide grown c.block-2.ensures.grows left right c.block-2.ensures.bank
+    (extends_both at mid last c.value.ensures.grows grown) wide grown c.block-in-If.ensures.grows left right c.block-in-If.ensures.bank
 
-pub chosen-returns-clause-ran : goal.chosen-returns-clause-ran
-chosen-returns-clause-ran g t c =
+pub statement-returns-in_ok-join-in-If-clause-ran : goal.statement-returns-in_ok-join-in-If-clause-ran
+statement-returns-in_ok-join-in-If-clause-ran g t c =
     let r = c.args.self.now in
     let kinds = g.B.Book.kinds r.book.now in
     let M = g.W.SymLower.means r.machine.now in
@@ -157,34 +111,103 @@ chosen-returns-clause-ran g t c =
     let f = c.args.frame.now in
     let env = env_of f.names.items in
     let s = f.state in
-    let test = c.args.test.now in
-    let first = c.args.first.now in
-    let second = c.args.second.now in
-    let can = c.requires.can in
-    let vn = c.in_ok-value.ensures.nodes
-    ∙ ap (λ (bs : List SymBinding). (sym_value kinds (terms_of kinds defs) test (plain_scope (env_of bs)) at).nodes) c.as_slice.ensures.value in
-    let vf = c.in_ok-value.ensures.form
-    ∙ ap (λ (bs : List SymBinding). (sym_value kinds (terms_of kinds defs) test (plain_scope (env_of bs)) at).value) c.as_slice.ensures.value in
-    let o = c.in_ok-other.other in
+    let test = c.in-If.test in
+    let first = c.in-If.first in
+    let second = c.in-If.second in
+    let can = step_if M law kinds defs c.args.s.now test first second at env s c.in-If.is c.requires.can in
+    let vn = c.in_ok-value-in-If.ensures.nodes
+    ∙ ap (λ (bs : List SymBinding). (sym_value kinds (terms_of kinds defs) test (plain_scope (env_of bs)) at).nodes) c.as_slice-in-If.ensures.value in
+    let vf = c.in_ok-value-in-If.ensures.form
+    ∙ ap (λ (bs : List SymBinding). (sym_value kinds (terms_of kinds defs) test (plain_scope (env_of bs)) at).value) c.as_slice-in-If.ensures.value in
+    let o = c.in_ok-other-in-If.other in
     let one = c.block.new.frame in
-    let two = c.block-2.new.frame in
-    if_ends kinds (terms_of kinds defs) (M.machine kinds) test (inside_run M defs kinds first) (inside_run M defs kinds second) c.args.place
-    c.in_ok-middle.middle c.in_ok-end.end env (env_of one.names.items) (env_of two.names.items) (env_of c.join.new.frame.names.items) (env_of o.names.items)
-    s one.state two.state c.join.new.frame.state o.state at c.value.new.bank c.block.new.bank c.block-2.new.bank c.join.new.bank c.in_ok-value.value
-    c.id_in.result vn vf c.id_in.ensures c.in_ok-middle.ensures.ran c.in_ok-other.ensures.names c.in_ok-other.ensures.state c.in_ok-end.ensures.ran
-    c.in_ok-join.ensures.nodes c.in_ok-join.ensures.names c.in_ok-join.ensures.state c.in_ok-value.ensures.single c.in_ok-join.ensures.single
+    let two = c.block-in-If.new.frame in
+    ended_if M law kinds defs c.args.s.now test first second c.args.place c.in_ok-end-in-If.end env (env_of c.join.new.frame.names.items) s
+    c.join.new.frame.state at c.join.new.bank c.in-If.is
+    (if_ends kinds (terms_of kinds defs) (M.machine kinds) test (inside_run M defs kinds first) (inside_run M defs kinds second) c.args.place
+    c.in_ok-middle-in-If.middle c.in_ok-end-in-If.end env (env_of one.names.items) (env_of two.names.items) (env_of c.join.new.frame.names.items) (env_of o.names.items)
+    s one.state two.state c.join.new.frame.state o.state at c.value.new.bank c.block.new.bank c.block-in-If.new.bank c.join.new.bank c.in_ok-value-in-If.value
+    c.id_in.result vn vf c.id_in.ensures c.in_ok-middle-in-If.ensures.ran c.in_ok-other-in-If.ensures.names c.in_ok-other-in-If.ensures.state c.in_ok-end-in-If.ensures.ran
+    c.in_ok-join-in-If.ensures.nodes c.in_ok-join-in-If.ensures.names c.in_ok-join-in-If.ensures.state c.in_ok-value-in-If.ensures.single c.in_ok-join-in-If.ensures.single)
 
-pub statement-chosen-requires : goal.statement-chosen-requires
-statement-chosen-requires g t c κs h =
-    let r = c.args.self.now in
-    let kinds = g.B.Book.kinds r.book.now in
-    let M = g.W.SymLower.means r.machine.now in
-    let law = g.met.W.SymLower.keeps r.machine.now in
-    let defs = r.defs.now in
-    let f = c.args.frame.now in
-    let can = step_if M law kinds defs c.args.s.now c.in-If.test c.in-If.first c.in-If.second c.args.bank.now (env_of f.names.items) f.state c.in-If.is
-    c.requires.can in
-    (search rules, (search rules, (search rules, (search rules, (can, c.requires.bank)))))
+pub statement-block-requires : goal.statement-block-requires
+statement-block-requires g t c κs h =
+    let smaller = size_if c.args.s.now c.in-If.test c.in-If.first c.in-If.second c.in-If.is in
+    (omega arith, (search rules, (search rules, (search rules, (
+          let r = c.args.self.now in
+          let kinds = g.B.Book.kinds r.book.now in
+          let M = g.W.SymLower.means r.machine.now in
+          let law = g.met.W.SymLower.keeps r.machine.now in
+          let defs = r.defs.now in
+          let f = c.args.frame.now in
+          let can = first_can M law defs c.args.s.now c.in-If.test c.in-If.first c.in-If.second c.args.bank.now c.value.new.bank (env_of f.names.items) f.state
+          c.in-If.is c.requires.can c.value.ensures.grows c.in_ok-value-in-If.ensures.single in
+          can,
+      c.value.ensures.bank)))))
+
+pub statement-block-requires-in-If : goal.statement-block-requires-in-If
+statement-block-requires-in-If g t c κs h =
+    let smaller = size_if c.args.s.now c.in-If.test c.in-If.first c.in-If.second c.in-If.is in
+    (omega arith, (search rules, (search rules, (search rules, (
+          let r = c.args.self.now in
+          let kinds = g.B.Book.kinds r.book.now in
+          let M = g.W.SymLower.means r.machine.now in
+          let law = g.met.W.SymLower.keeps r.machine.now in
+          let defs = r.defs.now in
+          let f = c.args.frame.now in
+          let o = c.in_ok-other-in-If.other in
+          let one = c.block.new.frame in
+          let can = second_can M law defs c.args.s.now c.in-If.test c.in-If.first c.in-If.second c.args.bank.now c.value.new.bank c.block.new.bank
+          (env_of f.names.items) (env_of one.names.items) (env_of o.names.items) f.state one.state o.state (inside_run M defs kinds c.in-If.first) c.args.place
+          c.in_ok-middle-in-If.middle c.in-If.is c.requires.can c.value.ensures.grows c.in_ok-value-in-If.ensures.single c.block.ensures.grows
+          c.in_ok-middle-in-If.ensures.ran c.in_ok-other-in-If.ensures.names c.in_ok-other-in-If.ensures.state in
+          can,
+      c.block.ensures.bank)))))
+
+pub statement-turns-requires : goal.statement-turns-requires
+statement-turns-requires g t c κs h =
+    let smaller = size_for c.args.s.now c.in-For.x c.in-For.w c.in-For.n c.in-For.each c.in-For.is in
+    (omega arith, (search rules, (search rules, (search rules, (
+          let r = c.args.self.now in
+          let kinds = g.B.Book.kinds r.book.now in
+          let M = g.W.SymLower.means r.machine.now in
+          let law = g.met.W.SymLower.keeps r.machine.now in
+          let defs = r.defs.now in
+          let f = c.args.frame.now in
+          let can = step_for M law kinds defs c.args.s.now c.in-For.x c.in-For.w c.in-For.n c.in-For.each c.args.bank.now (env_of f.names.items) f.state
+          c.in-For.is c.requires.can in
+          can,
+      c.requires.bank)))))
+
+pub block-statements-requires : goal.block-statements-requires
+block-statements-requires g t c κs h =
+    let smaller = size_block c.args.b.now c.as_slice.result.now c.as_slice.ensures in
+    (omega arith, (search rules, (search rules, (search rules, (
+          let r = c.args.self.now in
+          let kinds = g.B.Book.kinds r.book.now in
+          let M = g.W.SymLower.means r.machine.now in
+          let law = g.met.W.SymLower.keeps r.machine.now in
+          let defs = r.defs.now in
+          let f = c.args.frame.now in
+          let can = subst (λ (ss : List Stmt). CanRun M defs ss c.args.bank.now (env_of f.names.items) f.state) (sym c.as_slice.ensures)
+          (enter_runs M law kinds defs c.args.b.now c.args.bank.now (env_of f.names.items) f.state c.requires.can) in
+          can,
+      c.requires.bank)))))
+
+pub statements-statement-requires : goal.statements-statement-requires
+statements-statement-requires g t c κs h =
+    let smaller = size_item c.args.all.now c.loop-s.s-index c.s-item.result _ c.loop-s-test.true c.s-item.is in
+    (omega arith, (search rules, (search rules, (search rules, (
+          let r = c.args.self.now in
+          let kinds = g.B.Book.kinds r.book.now in
+          let M = g.W.SymLower.means r.machine.now in
+          let law = g.met.W.SymLower.keeps r.machine.now in
+          let defs = r.defs.now in
+          let f = c.loop-s.frame in
+          let can = next_can M law defs c.args.all.now c.loop-s.s-index c.s-item.result _ c.loop-s.bank (env_of f.names.items) f.state c.loop-s-test.true c.s-item.is
+          c.loop-s.invariant.can in
+          can,
+      c.loop-s.invariant.bank)))))
 
 pub statement-called-requires-clause-can : goal.statement-called-requires-clause-can
 statement-called-requires-clause-can g t c =
@@ -208,22 +231,6 @@ statement-returns-in-For-clause-ran g t c =
     let n = c.turns.new.frame in
     ended_for M law kinds defs c.args.s.now c.in-For.x c.in-For.w c.in-For.n c.in-For.each c.args.place (env_of f.names.items) (env_of n.names.items) f.state
     n.state c.args.bank.now c.turns.new.bank c.turns.result c.in-For.is c.turns.ensures.ran
-
-pub statements-statement-requires : goal.statements-statement-requires
-statements-statement-requires g t c κs h =
-    let r = c.args.self.now in
-    let kinds = g.B.Book.kinds r.book.now in
-    let M = g.W.SymLower.means r.machine.now in
-    let law = g.met.W.SymLower.keeps r.machine.now in
-    let defs = r.defs.now in
-    let f = c.loop-s.frame in
-    let all = c.args.all.now in
-    let i = c.loop-s.s-index in
-    let t = c.s-item.result in
-    let split = rest_is all i t _ c.loop-s-test.true c.s-item.is in
-    let can = subst (λ (ss : List Stmt). CanRun M defs ss c.loop-s.bank (env_of f.names.items) f.state) split c.loop-s.invariant.can in
-    let step = first_runs M law kinds defs t (drop (i + 1) all) c.loop-s.bank (env_of f.names.items) f.state can in
-    (search rules, (search rules, (search rules, (search rules, (step, c.loop-s.invariant.bank)))))
 
 pub statements-loop-s-init : goal.statements-loop-s-init
 statements-loop-s-init g t c =
@@ -345,21 +352,23 @@ turns-number-requires-clause-below g t c =
 
 pub turns-block-requires : goal.turns-block-requires
 turns-block-requires g t c κs h =
-    let r = c.args.self.now in
-    let kinds = g.B.Book.kinds r.book.now in
-    let M = g.W.SymLower.means r.machine.now in
-    let law = g.met.W.SymLower.keeps r.machine.now in
-    let defs = r.defs.now in
-    let f = c.loop-i.frame in
-    let x = c.args.x.now in
-    let w = c.args.w in
-    let n = c.args.n in
-    let each = c.args.each.now in
-    let env = env_of f.names.items in
-    let enter = repeat_enters M law kinds defs x w n each c.loop-i.bank c.number.new.bank env (env_of c.name_value.new.names.items) f.state c.loop-i.i
-    c.in_ok-number.number c.loop-i-test.true c.loop-i.invariant.can c.in_ok-number.ensures.nodes c.in_ok-number.ensures.form c.in_ok-name_value.ensures
-    c.number.ensures.bank c.in_ok-number.ensures.single in
-    (search rules, (search rules, (search rules, (search rules, (enter, c.number.ensures.bank)))))
+    (omega arith, (search rules, (search rules, (search rules, (
+          let r = c.args.self.now in
+          let kinds = g.B.Book.kinds r.book.now in
+          let M = g.W.SymLower.means r.machine.now in
+          let law = g.met.W.SymLower.keeps r.machine.now in
+          let defs = r.defs.now in
+          let f = c.loop-i.frame in
+          let x = c.args.x.now in
+          let w = c.args.w in
+          let n = c.args.n in
+          let each = c.args.each.now in
+          let env = env_of f.names.items in
+          let enter = repeat_enters M law kinds defs x w n each c.loop-i.bank c.number.new.bank env (env_of c.name_value.new.names.items) f.state c.loop-i.i
+          c.in_ok-number.number c.loop-i-test.true c.loop-i.invariant.can c.in_ok-number.ensures.nodes c.in_ok-number.ensures.form c.in_ok-name_value.ensures
+          c.number.ensures.bank c.in_ok-number.ensures.single in
+          enter,
+      c.number.ensures.bank)))))
 
 pub turns-loop-i-preserved : goal.turns-loop-i-preserved
 turns-loop-i-preserved g t c =
@@ -388,7 +397,7 @@ turns-loop-i-preserved g t c =
     let k = c.len-before.result in
     let ran = c.in_ok-at.ensures.ran in
     let so_far = c.loop-i.invariant in
-    let counted = omega (arith, f.names.ok.0, c.len-before.ensures) in
+    let counted : k ≡ length f.names.items = omega (arith, f.names.ok.0, c.len-before.ensures) in
     let cut = dropped_is f.names.items during after k counted c.truncate.ensures.items in
     let grown = extends_both now mid new c.number.ensures.grows c.block.ensures.grows in
     record {

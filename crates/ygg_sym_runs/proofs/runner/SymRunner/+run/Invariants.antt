@@ -1,10 +1,23 @@
-use Rattle.std.proofs.Common.{drop}
+use Rattle.std.proofs.Common.{drop, ◌+◌, ◌*◌}
 use Rattle.ygg_bank.specs.Nodes.{Extends, IsBank}
 use Rattle.ygg_sym_expr.specs.Seen.{env_of}
 use Rattle.ygg_sym_runs.specs.Lower.{KeepsSingle}
 use Rattle.ygg_sym_runs.specs.Ready.{CanRun, CanRepeat}
 use Rattle.ygg_sym_runs.proofs.Going.{Order, Turns}
+use Rattle.ygg_sym_runs.proofs.Sizes.{size, sizes, inside_size}
 use Rattle.ygg_sym_runs.proofs.runner.SymRunner.+run.Given as goal
+
+abbrev pub decreases-block : goal.decreases-block
+decreases-block g l = 4 * inside_size l.b.now
+
+abbrev pub decreases-statement : goal.decreases-statement
+decreases-statement g l = 4 * size l.s.now + 2
+
+abbrev pub decreases-statements : goal.decreases-statements
+decreases-statements g l = 4 * sizes l.all.now + 3
+
+abbrev pub decreases-turns : goal.decreases-turns
+decreases-turns g l = 4 * inside_size l.each.now + 1
 
 -- so far it has come, and the statements that are left may be run
 abbrev pub invariant-statements-loop-s : goal.invariant-statements-loop-s

@@ -6,7 +6,7 @@ use Rattle.ygg_shape_cells.specs.declared.terms.SymValue.{SymValue}
 use Rattle.ygg_sym_expr.specs.Names.{sym_look_up}
 use Rattle.ygg_sym_expr.specs.Exprs.{id_in}
 use Rattle.ygg_sym_expr.specs.Seen.{CanTerm, env_of}
-use Rattle.ygg_sym_expr.specs.declared.evaluator.SymBinding.{SymBinding}
+use Rattle.ygg_sym_expr.specs.declared.held.SymBinding.{SymBinding}
 use Rattle.ygg_type_rules.specs.Statements.{source_typing}
 use Rattle.ygg_type_progress.specs.Kinds.{source_keeps}
 use Rattle.ygg_sym_runs.specs.Putting.{put_made}

@@ -1,7 +1,7 @@
 use Rattle.std.proofs.Common.{◌≡◌, List, ap, sym, subst, ◌∙◌}
 use Rattle.ygg_bank.specs.Makes.{Out}
 use Rattle.ygg_sym_expr.specs.Seen.{env_of}
-use Rattle.ygg_sym_expr.specs.declared.evaluator.SymBinding.{SymBinding}
+use Rattle.ygg_sym_expr.specs.declared.held.SymBinding.{SymBinding}
 use Rattle.ygg_sym_runs.specs.Lower.{SingleFrom}
 use Rattle.ygg_sym_runs.specs.Ready.{terms_of, joined_names}
 use Rattle.ygg_sym_runs.specs.Runs.{SymState, state, merge_state}
