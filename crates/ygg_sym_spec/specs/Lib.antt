@@ -5,4 +5,3 @@ pub mod Chooser
 pub mod Choosing
 pub mod Machine
 pub mod Meaning
-pub mod Spaces

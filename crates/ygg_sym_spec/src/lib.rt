@@ -7,7 +7,6 @@ mod falls;
 mod layer;
 mod machine;
 mod picks;
-mod places;
 
 pub use blocks::{SpecDone, block, choices, crash, then_crash};
 pub use chooser::{Nothing, SymChooser};
@@ -15,4 +14,3 @@ pub use falls::fall;
 pub use layer::SymLayer;
 pub use machine::SymSpec;
 pub use picks::SymPicks;
-pub use places::room;
