@@ -1,5 +1,5 @@
 -- Power that fails on a specification over terms only adds nodes.
-use Rattle.std.specs.Prelude.{ℕ, ◌+◌, List, [], Option, Some, None, reverse}
+use Rattle.std.specs.Prelude.{ℕ, ◌+◌, List, Option, Some, None, reverse}
 use Rattle.ygg_syntax.specs.declared.tree.Block.{Block}
 use Rattle.ygg_syntax.specs.declared.tree.Def.{Def}
 use Rattle.ygg_syntax.specs.declared.tree.Operation.{Operation}

@@ -1,6 +1,4 @@
-use Rattle.std.proofs.Common.{subst, sym, ap, ◌∙◌}
-use Rattle.ygg_bank.specs.Makes.{Out}
-use Rattle.ygg_shape_cells.specs.declared.terms.SymValue.{SymValue}
+use Rattle.std.proofs.Common.{subst, sym}
 use Rattle.ygg_sym_spec.specs.Layers as layers
 use Rattle.ygg_sym_spec.specs.declared.picks.SymPicks.TheVariants as picks
 use Rattle.ygg_sym_spec_stops.proofs.Failed.{can_fall, choice_form, choice_nodes}
