@@ -21,7 +21,28 @@ use Rattle.ygg_symbols.specs.Names.{has, look_up}
 use Rattle.ygg_type_rules.specs.TypeErrors.{TypeErrors, both, unless}
 use Rattle.ygg_type_rules.specs.Scopes.{Scope, is_taken, name_in, with_local}
 use Rattle.ygg_type_rules.specs.Shapes.{word_shape}
-use Rattle.ygg_type_rules.specs.Expressions.{Typing, Own, construct, parts_of, wanted, index_rule, number_errors, with_number, all_in, apply_rule, operator_rule, not_rule, pick_rule, resize_rule, fill_rule, row_rule, quantified_rule, node_typing, typing, expected_errors}
+use Rattle.ygg_type_rules.specs.Expressions.{
+  Typing,
+  Own,
+  construct,
+  parts_of,
+  wanted,
+  index_rule,
+  number_errors,
+  with_number,
+  all_in,
+  apply_rule,
+  operator_rule,
+  not_rule,
+  pick_rule,
+  resize_rule,
+  fill_rule,
+  row_rule,
+  quantified_rule,
+  node_typing,
+  typing,
+  expected_errors,
+}
 use Rattle.ygg_type_rules.specs.Statements.{
   Walked,
   source_typing,

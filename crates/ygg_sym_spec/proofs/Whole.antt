@@ -76,7 +76,8 @@ module _ (l : SymLayer) (p : SymPicks) (nodes : List Node) (b : Block) (vars : L
           sound = can.sound;
           defs_is = typed.defs_is;
           lower_is = refl;
-          shaped = All-append (NameShaped nodes) (sym_bind state vars) (sym_bind args values) (low_shaped no_inputs (value_of no_inputs nodes) [] state vars nodes can.vars_are)
+          shaped = All-append (NameShaped nodes) (sym_bind state vars) (sym_bind args values)
+              (low_shaped no_inputs (value_of no_inputs nodes) [] state vars nodes can.vars_are)
               (low_shaped no_inputs (value_of no_inputs nodes) [] args values nodes can.args_are);
           agrees = λ inputs v h.
               let joined : worths v names_of ≡ bind state (map (worth v) vars) ++ bind args (map (worth v) values) =
