@@ -1,4 +1,4 @@
-//! What the terms of an expression are worth, where the nodes after it are a bank; that they are one, where the nodes before it are, is open.
+//! What the terms of an expression are worth, where the nodes after it are a bank, as the code makes them.
 
 ghost use Rattle.ygg_sym_expr.specs.Meaning.{ExpressionsMean};
 
