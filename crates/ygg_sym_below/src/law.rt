@@ -1,5 +1,4 @@
-//! What runs over terms are worth. The laws on values speak of runs whose nodes at the end are a bank; that they are one, where the nodes before
-//! them are, is open.
+//! What runs over terms are worth. The laws on values speak of runs whose nodes at the end are a bank, as the code makes them.
 
 ghost use Rattle.ygg_sym_below.specs.Laws.{FallsOnDisk, InputsOnDisk, InputsOnSpec, RunsOnDisk, RunsOnSpec};
 
