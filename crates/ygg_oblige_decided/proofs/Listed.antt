@@ -120,9 +120,11 @@ env_fits inputs nodes o place number w k e g =
 pub listed_zero : (nodes : List Node) (term : Id) → InOrder [] nodes → Refuting nodes term → (env : List Given) × IsZeroIn nodes term env
 listed_zero nodes term o r =
     let env = listed r.inputs nodes in
-    let same : SameOn (inputs_of env) r.inputs nodes = λ place number w e. has_listed r.inputs nodes place number w e in
-    (env, record {
-      widths = env_fits r.inputs nodes o;
-      numbers = λ place number w e. let s = same place number w e in subst (λ n. n < 2 ^ w) (sym s) (r.fit place number w e);
-      zero = ap (λ (x : Number). x.bits) (same_value_of (inputs_of env) r.inputs nodes term.0 same) ∙ r.is_zero;
-    })
+    let same : SameOn (inputs_of env) r.inputs nodes = λ place number w e. has_listed r.inputs nodes place number w e in (
+      env,
+      record {
+        widths = env_fits r.inputs nodes o;
+        numbers = λ place number w e. let s = same place number w e in subst (λ n. n < 2 ^ w) (sym s) (r.fit place number w e);
+        zero = ap (λ (x : Number). x.bits) (same_value_of (inputs_of env) r.inputs nodes term.0 same) ∙ r.is_zero;
+      },
+    )
