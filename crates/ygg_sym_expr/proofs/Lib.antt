@@ -4,3 +4,11 @@ pub mod Grows
 pub mod Parts
 pub mod Values
 pub mod Definitions
+pub mod Placed
+pub mod Naming
+pub mod Constructs
+pub mod Terms
+pub mod Ready
+pub mod Arms
+pub mod Lighter
+pub mod Joins
