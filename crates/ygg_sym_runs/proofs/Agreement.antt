@@ -86,11 +86,11 @@ use Rattle.ygg_sym_expr.proofs.Shaped.{is_term, env_wider}
 use Rattle.ygg_sym_expr.proofs.Grows.{FunctionsGrow, word_grows, value_grows}
 use Rattle.ygg_sym_expr.proofs.Parts.{number_gives}
 use Rattle.ygg_sym_expr.proofs.Values.{FunctionsMean, same_defs}
-use Rattle.ygg_sym_runs.specs.Putting.{put_made}
+use Rattle.ygg_sym_runs.specs.Putting.{put_made, led_to}
 use Rattle.ygg_sym_runs.specs.Runs.{Call, SymState, SymRun, SymMachine, plain_scope, places_of, state, sym_times, sym_in_order, sym_change, sym_values, sym_source, merge_env, sym_each, sym_stmt, sym_block, sym_of}
 use Rattle.ygg_sym_runs.specs.Meaning.{Low, is_set, question_worth, MachineMeans, RunIs}
 use Rattle.ygg_sym_runs.proofs.Worths.{env_fits_some, merge_env_grows, merge_env_gives}
-use Rattle.ygg_sym_runs.proofs.Putting.{led_to, ArePlaces, put_grows, put_gives}
+use Rattle.ygg_sym_runs.proofs.Putting.{ArePlaces, put_grows, put_gives}
 use Rattle.ygg_type_progress.proofs.Sounds.{call_fits, target_of}
 use Rattle.ygg_sym_runs.proofs.Typed.{Indices, all_have, indices_of_place}
 use Rattle.ygg_sym_runs.proofs.Ends.{if_env, if_to, if_both, follows_length, take_length, env_take, one_more, one_worth}
@@ -154,13 +154,13 @@ module _ (inputs : Inputs) (v : Values) where
           agrees = g2.agrees;
         }
 
-    is_here : (scope : Scope) (env : SymEnv) (from : S) (nodes : List Node) → In scope (worths v env) → EnvShaped nodes env → low.Has nodes from →
+    pub is_here : (scope : Scope) (env : SymEnv) (from : S) (nodes : List Node) → In scope (worths v env) → EnvShaped nodes env → low.Has nodes from →
         Is (worths v env) scope (stays (worths v env) (low.value v from)) nodes (state env from)
     is_here scope env from nodes g s l =
         record { shaped = s; has = l; is = refl; is_low = refl; follows = follows_same (worths v env); agrees = g.agrees }
 
     -- where a part leaves a scope that agrees
-    in_after : (scope after : Scope) (before : Env) (p : Reached L) (nodes : List Node) (z : SymState S) → after.lower ≡ scope.lower → after.defs ≡ scope.defs →
+    pub in_after : (scope after : Scope) (before : Env) (p : Reached L) (nodes : List Node) (z : SymState S) → after.lower ≡ scope.lower → after.defs ≡ scope.defs →
         In scope before → Is before after p nodes z → In after (worths v z.env)
     in_after scope after before p nodes z e f g h = record {
       lower_is = e ∙ g.lower_is;
@@ -168,11 +168,11 @@ module _ (inputs : Inputs) (v : Values) where
       agrees = subst (λ w. Agrees functions after (plain w)) (sym h.is) h.agrees;
     }
 
-    length_worths : (env : SymEnv) → length (worths v env) ≡ length env
+    pub length_worths : (env : SymEnv) → length (worths v env) ≡ length env
     length_worths env = length-map env (λ (b : Name × SymValue). (b.0, worth v b.1))
 
     -- the names that are new are forgotten
-    forgotten : (scope inner : Scope) (start : SymEnv) (more : Env) (p : Reached L) (nodes : List Node) (z : SymState S) →
+    pub forgotten : (scope inner : Scope) (start : SymEnv) (more : Env) (p : Reached L) (nodes : List Node) (z : SymState S) →
         Agrees functions scope (plain (worths v start)) → Is (worths v start ++ more) inner p nodes z →
         Exactly start scope (forgets (worths v start) p) nodes (state (take (length start) z.env) z.to)
     forgotten scope inner start more p nodes z g h =
@@ -233,7 +233,7 @@ module _ (inputs : Inputs) (v : Values) where
     as_many [] env = refl
     as_many (i ∷ is) env = ap suc (as_many is env)
 
-    places_wider : (old new : List Node) (ps : List Value) (places : List Id) → Extends old new → ArePlaces inputs v kinds ps old places →
+    pub places_wider : (old new : List Node) (ps : List Value) (places : List Id) → Extends old new → ArePlaces inputs v kinds ps old places →
         ArePlaces inputs v kinds ps new places
     places_wider old new [] [] g h = tt
     places_wider old new [] (a ∷ places) g h = absurd h
@@ -242,23 +242,23 @@ module _ (inputs : Inputs) (v : Values) where
         let d = h.0 in (record { width = d.width; wide = wider old new a d.width g d.wide; is = d.is }, places_wider old new ps places g h.1)
 
     -- what is put where by an assignment without a type error
-    record Assigned (x : tree_name.Name) (is : List Index) (s : Source) (scope : Scope) (env : Env) (w : Value) : Type 0 where
-      old : Value
-      found : look_up x.text env ≡ Some old
-      led : shape_of w ≡ led_to (shape_of old) (length (values_of eval (places_of is) env))
-      same : assign env x.text (with_part old (map (λ (p : Value). (word_in p).bits) (values_of eval (places_of is) env)) w) ≡ assigned eval env x.text is w
-      follows : Follows env (assigned eval env x.text is w)
-      agrees : Agrees functions scope (plain (assigned eval env x.text is w))
+    pub record Assigned (x : tree_name.Name) (is : List Index) (s : Source) (scope : Scope) (env : Env) (w : Value) : Type 0 where
+      pub old : Value
+      pub found : look_up x.text env ≡ Some old
+      pub led : shape_of w ≡ led_to (shape_of old) (length (values_of eval (places_of is) env))
+      pub same : assign env x.text (with_part old (map (λ (p : Value). (word_in p).bits) (values_of eval (places_of is) env)) w) ≡ assigned eval env x.text is w
+      pub follows : Follows env (assigned eval env x.text is w)
+      pub agrees : Agrees functions scope (plain (assigned eval env x.text is w))
 
-    record PlaceTyped (x : tree_name.Name) (is : List Index) (scope : Scope) (env : Env) : Type 0 where
-      old : Value
-      found : look_up x.text env ≡ Some old
-      limits : IsValue old
-      errors : none (indexed is scope (Some (shape_of old))).type_errors ≡ true
-      indices : Indices functions lower is scope env (shape_of old)
-      shown : (place_rule x is scope).shape ≡ Some (led_to (shape_of old) (length is))
+    pub record PlaceTyped (x : tree_name.Name) (is : List Index) (scope : Scope) (env : Env) : Type 0 where
+      pub old : Value
+      pub found : look_up x.text env ≡ Some old
+      pub limits : IsValue old
+      pub errors : none (indexed is scope (Some (shape_of old))).type_errors ≡ true
+      pub indices : Indices functions lower is scope env (shape_of old)
+      pub shown : (place_rule x is scope).shape ≡ Some (led_to (shape_of old) (length is))
 
-    place_typed : (x : tree_name.Name) (is : List Index) (scope : Scope) (env : Env) → In scope env →
+    pub place_typed : (x : tree_name.Name) (is : List Index) (scope : Scope) (env : Env) → In scope env →
         none (place_rule x is scope).type_errors ≡ true → PlaceTyped x is scope env
     place_typed x is scope env g e =
         let rule = target_rule x (name_in x.text scope) in
@@ -279,7 +279,7 @@ module _ (inputs : Inputs) (v : Values) where
               ∙ ix.led;
         }
 
-    assigned_so : (x : tree_name.Name) (is : List Index) (s : Source) (scope : Scope) (env : Env) (w : Value) → In scope env →
+    pub assigned_so : (x : tree_name.Name) (is : List Index) (s : Source) (scope : Scope) (env : Env) (w : Value) → In scope env →
         HasShape (source_typing s scope).part.shape w →
         none (wanted (source_typing s scope).part (place_rule x is scope).shape) ≡ true → (p : PlaceTyped x is scope env) → Assigned x is s scope env w
     assigned_so x is s scope env w g hs n p =

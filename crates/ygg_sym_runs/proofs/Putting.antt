@@ -8,7 +8,7 @@ use Rattle.ygg_value.specs.declared.row.Value.{Value}
 use Rattle.ygg_value.specs.declared.row.Value.TheVariants as value
 use Rattle.ygg_value.specs.declared.shape.Shape.{Shape}
 use Rattle.ygg_value.specs.declared.shape.Shape.TheVariants as shape
-use Rattle.ygg_type_rules.specs.Shapes.{is_word, width_of, part_shape}
+use Rattle.ygg_type_rules.specs.Shapes.{is_word, width_of}
 use Rattle.ygg_type_sound.proofs.Fits.{word_wide}
 use Rattle.ygg_rules.specs.declared.rule.RuleKind.{RuleKind}
 use Rattle.ygg_bank.proofs.Meaning.{fits_fewer}
@@ -32,15 +32,10 @@ use Rattle.ygg_sym_expr.proofs.Shaped.{worth_shape, is_term}
 use Rattle.ygg_shape.proofs.Grows.{selected_grows}
 use Rattle.ygg_shape_words.proofs.Keeps.{grows_stays}
 use Rattle.ygg_sym_runs.proofs.Below.{put_keeps}
-use Rattle.ygg_sym_runs.specs.Putting.{row_in, put_made}
-
--- the shape that so many indices lead to
-abbrev pub led_to : Shape → ℕ → Shape
-led_to s zero = s
-led_to s (suc n) = led_to (part_shape s) n
+use Rattle.ygg_sym_runs.specs.Putting.{row_in, put_made, led_to}
 
 -- a word stays one
-led_word : (w n : ℕ) → led_to (shape.Word w) n ≡ shape.Word w
+pub led_word : (w n : ℕ) → led_to (shape.Word w) n ≡ shape.Word w
 led_word w zero = refl
 led_word w (suc n) = led_word w n
 

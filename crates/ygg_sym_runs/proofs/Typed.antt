@@ -34,7 +34,7 @@ use Rattle.ygg_type_progress.proofs.Sounds.{ExpressionsHave, arguments_have}
 use Rattle.ygg_type_progress.proofs.TypeErrors.{Called, called}
 use Rattle.ygg_base.specs.declared.reason.Reason.TheVariants as reason
 use Rattle.ygg_sym_runs.specs.Runs.{places_of}
-use Rattle.ygg_sym_runs.proofs.Putting.{led_to}
+use Rattle.ygg_sym_runs.specs.Putting.{led_to}
 
 open_own : (b : Bool) (o : Option Shape) → b ≡ true → (if b then o else None) ≡ o
 open_own true o e = refl

@@ -1,3 +1,6 @@
 pub mod Putting
 pub mod Runs
 pub mod Meaning
+pub mod Lower
+pub mod Ready
+pub mod Joining

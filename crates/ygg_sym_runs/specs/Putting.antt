@@ -1,5 +1,7 @@
 -- Terms with a part written anew.
-use Rattle.std.specs.Prelude.{List, [], ◌∷◌}
+use Rattle.std.specs.Prelude.{ℕ, zero, suc, List, [], ◌∷◌}
+use Rattle.ygg_value.specs.declared.shape.Shape.{Shape}
+use Rattle.ygg_type_rules.specs.Shapes.{part_shape}
 use Rattle.ygg_rules.specs.declared.rule.RuleKind.{RuleKind}
 use Rattle.ygg_bank.specs.Makes.{Make, pure, and_make}
 use Rattle.ygg_bank.specs.declared.node.Id.{Id}
@@ -14,6 +16,11 @@ abbrev pub row_in : SymValue → List Id
 row_in (Word a) = []
 row_in (Row row) = row
 row_in (Table table) = []
+
+-- the shape that so many indices lead to
+abbrev pub led_to : Shape → ℕ → Shape
+led_to s zero = s
+led_to s (suc n) = led_to (part_shape s) n
 
 module _ (kinds : List RuleKind) where
   -- the value with the part at these places written anew, the outermost place first; with no place, the new value

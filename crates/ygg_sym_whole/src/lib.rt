@@ -1,0 +1,6 @@
+//! Whole runs of blocks over terms.
+#![tactic(auto)]
+
+mod whole;
+
+pub use whole::{Whole, whole};
