@@ -1,0 +1,6 @@
+//! Disks over terms whose power fails at stops.
+#![tactic(auto)]
+
+mod stops;
+
+pub use stops::DiskStops;

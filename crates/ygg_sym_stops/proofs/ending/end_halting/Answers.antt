@@ -1,0 +1,46 @@
+use Rattle.ygg_bank.proofs.Widths.{extends_both, wider}
+use Rattle.ygg_sym_stops.specs.Halting.{halted_of, halting_meaning}
+use Rattle.ygg_sym_stops.proofs.Standing.{lose_there, single_both, stands_later}
+use Rattle.ygg_sym_stops.proofs.ending.end_halting.Goals as goal
+
+pub bit-requires : goal.bit-requires
+bit-requires g c =
+    let M = g.W.SymLower.means c.args.stops.now in
+    let K = g.W.SymStops.power c.args.stops.now in
+    let z = halted_of c.args.to.now c.args.fallen.now c.args.stopped in
+    let can = lose_there M K c.args.bank.now z c.requires.stands in
+    can.single
+
+pub last_left-requires-clause-stands : goal.last_left-requires-clause-stands
+last_left-requires-clause-stands g c =
+    let H = halting_meaning (g.W.SymLower.means c.args.stops.now) (g.W.SymStops.power c.args.stops.now) in
+    let z = halted_of c.args.to.now c.args.fallen.now c.args.stopped in
+    stands_later H c.args.bank.now c.bit.new.bank z c.bit.ensures.grows c.in_ok-here.ensures.single c.requires.stands
+
+pub bit-requires-2 : goal.bit-requires-2
+bit-requires-2 g c =
+    let M = g.W.SymLower.means c.args.stops.now in
+    let K = g.W.SymStops.power c.args.stops.now in
+    let z = halted_of c.args.to.now c.args.fallen.now c.args.stopped in
+    let can = lose_there M K c.args.bank.now z c.requires.stands in
+    single_both c.args.bank.now c.bit.new.bank c.last_left.new.bank c.in_ok-here.ensures.single c.in_ok-left.ensures.single K.first can.single
+
+pub either-requires-clause-one : goal.either-requires-clause-one
+either-requires-clause-one g c =
+    let st = c.requires.stands in
+    let h = st.has in
+    wider c.args.bank.now c.bit-2.new.bank c.args.stopped 1
+    (extends_both c.args.bank.now c.bit.new.bank c.bit-2.new.bank c.bit.ensures.grows
+    (extends_both c.bit.new.bank c.last_left.new.bank c.bit-2.new.bank c.last_left.ensures.grows c.bit-2.ensures.grows)) h.2
+
+pub returns-clause-has : goal.returns-clause-has
+returns-clause-has g c =
+    let M = g.W.SymLower.means c.args.stops.now in
+    M.low.wider c.last_left.new.bank c.either.new.bank c.in_ok-left.left
+    (extends_both c.last_left.new.bank c.bit-2.new.bank c.either.new.bank c.bit-2.ensures.grows c.either.ensures.grows) c.in_ok-left.ensures.has
+
+pub returns-clause-single : goal.returns-clause-single
+returns-clause-single g c =
+    single_both c.args.bank.now c.bit.new.bank c.either.new.bank c.in_ok-here.ensures.single
+    (single_both c.bit.new.bank c.last_left.new.bank c.either.new.bank c.in_ok-left.ensures.single
+    (single_both c.last_left.new.bank c.bit-2.new.bank c.either.new.bank c.in_ok-again.ensures.single c.in_ok-reached.ensures.single))
