@@ -1,0 +1,33 @@
+use Rattle.ygg_sym_spec.proofs.Falling.{crash_can}
+use Rattle.ygg_sym_spec.proofs.Going.{both_single, form_along, nodes_along, then_goes}
+use Rattle.ygg_sym_spec.specs.Layers.{crash_of, then_crash_of}
+use Rattle.ygg_sym_spec.proofs.blocks.then_crash.Goals as goal
+
+pub crash-requires : goal.crash-requires
+crash-requires g c = record {
+  can = crash_can c.args.layer c.args.picks c.in_ok-later.later c.args.bank.now c.block.new.bank c.in_ok-later.ensures.first c.in_ok-done.ensures.single
+      c.args.b.now c.args.vars.now c.args.args.now c.args.values.now (c.in_ok-done.done).vars c.requires.can c.requires.crash c.in_ok-done.ensures.shape;
+}
+
+pub returns-clause-nodes : goal.returns-clause-nodes
+returns-clause-nodes g c =
+    let kinds = g.B.Book.kinds c.args.book.now in
+    nodes_along (crash_of kinds c.args.layer c.in_ok-later.later (c.in_ok-done.done).vars c.block.new.bank)
+    (then_crash_of kinds c.args.layer c.args.picks c.args.b.now c.args.vars.now c.args.args.now c.args.values.now c.args.bank.now) c.crash.new.bank
+    c.crash.result
+    (then_goes kinds c.args.layer c.args.picks c.in_ok-later.later c.in-Some.count c.args.b.now c.args.vars.now c.args.args.now c.args.values.now
+    c.args.bank.now c.block.new.bank (c.in_ok-done.done).answer (c.in_ok-done.done).vars c.in-Some.ensures c.in_ok-later.ensures.picks
+    c.in_ok-done.ensures.nodes c.in_ok-done.ensures.form) c.crash.ensures.nodes
+
+pub returns-clause-form : goal.returns-clause-form
+returns-clause-form g c =
+    let kinds = g.B.Book.kinds c.args.book.now in
+    form_along (crash_of kinds c.args.layer c.in_ok-later.later (c.in_ok-done.done).vars c.block.new.bank)
+    (then_crash_of kinds c.args.layer c.args.picks c.args.b.now c.args.vars.now c.args.args.now c.args.values.now c.args.bank.now) c.crash.result
+    (then_goes kinds c.args.layer c.args.picks c.in_ok-later.later c.in-Some.count c.args.b.now c.args.vars.now c.args.args.now c.args.values.now
+    c.args.bank.now c.block.new.bank (c.in_ok-done.done).answer (c.in_ok-done.done).vars c.in-Some.ensures c.in_ok-later.ensures.picks
+    c.in_ok-done.ensures.nodes c.in_ok-done.ensures.form) c.crash.ensures.form
+
+pub returns-clause-single : goal.returns-clause-single
+returns-clause-single g c =
+    both_single c.args.bank.now c.block.new.bank c.crash.new.bank c.crash.result c.in_ok-done.ensures.single c.crash.ensures.single

@@ -1,0 +1,84 @@
+//! Choices as the machine on which a block of a specification runs.
+
+use crate::picks::SymPicks;
+use std::alloc::Global;
+use std::marker::Model;
+use ygg_bank::{Bank, Id, NoMemory};
+use ygg_list::Duplicate;
+use ygg_rules::Book;
+use ygg_shape_cells::SymValue;
+use ygg_sym_runs::{Question, SymLower};
+
+/// The state of a machine that has none.
+#[derive(Drop)]
+pub struct Nothing;
+
+impl Model for Nothing {
+    ghost use Rattle.ygg_sym_below.specs.Specs.{Nothing};
+
+    ghost Value = { Nothing };
+
+    ghost view = { λ s. tt };
+}
+
+impl Duplicate for Nothing {
+    fn duplicate(&self, _alloc: Global) -> Result<Nothing, NoMemory> {
+        Ok(Nothing)
+    }
+}
+
+/// A machine that answers each choice by the pick of its place.
+#[derive(Clone, Copy)]
+pub struct SymChooser<'a> {
+    /// The picks.
+    pub picks: SymPicks<'a>,
+}
+
+impl<'a> SymLower for SymChooser<'a> {
+    ghost use Rattle.ygg_sym_spec.specs.Chooser.{chooser_meaning};
+    ghost use Rattle.ygg_sym_spec.specs.Choosing.{chooser_keeps};
+
+    type State = Nothing;
+
+    ghost means = { chooser_meaning };
+
+    fn space(&self, _name: &[u8]) -> Option<u64> {
+        Some(1)
+    }
+
+    fn handle<B: Book>(
+        &self,
+        _alloc: Global,
+        bank: &mut Bank,
+        book: &B,
+        place: u64,
+        question: Question<'_>,
+        _state: &mut Nothing,
+    ) -> Result<Option<SymValue>, NoMemory> {
+        // the bank's nodes stand in order
+        let _ = bank.len();
+        match question {
+            Question::Choice => {
+                let pick = self.picks.make(bank, book, place)?;
+                Ok(Some(SymValue::Word(pick)))
+            }
+            Question::Call(_, _) => Ok(None),
+        }
+    }
+
+    fn merge<B: Book>(
+        &self,
+        _alloc: Global,
+        bank: &mut Bank,
+        _book: &B,
+        _test: Id,
+        _yes: &Nothing,
+        _no: &Nothing,
+    ) -> Result<Nothing, NoMemory> {
+        // the bank's nodes stand in order
+        let _ = bank.len();
+        Ok(Nothing)
+    }
+
+    ghost keeps = { chooser_keeps };
+}

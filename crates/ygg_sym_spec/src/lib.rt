@@ -1,0 +1,16 @@
+//! The specification of a layer over terms.
+#![tactic(auto)]
+
+mod blocks;
+mod chooser;
+mod falls;
+mod layer;
+mod machine;
+mod picks;
+
+pub use blocks::{SpecDone, block, choices, crash, then_crash};
+pub use chooser::{Nothing, SymChooser};
+pub use falls::fall;
+pub use layer::SymLayer;
+pub use machine::SymSpec;
+pub use picks::SymPicks;
