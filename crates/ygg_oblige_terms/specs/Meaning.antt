@@ -1,12 +1,16 @@
 -- What the terms of obligations mean.
-use Rattle.std.specs.Prelude.{◌≡◌, List, [], ◌∷◌}
-use Rattle.ygg_meaning.specs.Obligations.{Schedule}
+use Rattle.std.specs.Prelude.{◌≡◌, ℕ, List, [], ◌∷◌}
+use Rattle.ygg_meaning.specs.Obligations.{Schedule, name_of}
 use Rattle.ygg_histories.specs.Claims.{Claim, ClaimViolated, claims_of}
 use Rattle.ygg_syntax.specs.declared.tree.File.{File}
 use Rattle.ygg_bank.specs.Nodes.{HasWidth}
 use Rattle.ygg_bank.specs.Values.{Inputs, InputsFit, value_of}
 use Rattle.ygg_bank.specs.declared.node.Id.{Id}
 use Rattle.ygg_bank.specs.declared.node.Node.{Node}
+
+-- the name of an obligation
+abbrev pub claim_name : Claim → List ℕ
+claim_name c = name_of c.layer.layer.name.text c.obligation
 
 -- an environment in which the term is 0
 pub record Refuting (nodes : List Node) (term : Id) : Type 0 where
