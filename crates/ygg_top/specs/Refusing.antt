@@ -7,7 +7,7 @@ use Rattle.ygg_base.specs.Reason.{refusal_at}
 use Rattle.ygg_base.specs.declared.tokens.Tokens.{Tokens}
 use Rattle.ygg_syntax.specs.declared.tree.File.{File}
 use Rattle.ygg_accept.specs.Accepting.{IsAccepted, RefusesLayers}
-use Rattle.ygg_top.specs.Verdict.{line}
+use Rattle.ygg_report.specs.Lines.{line}
 
 -- the most bytes of a layer file
 abbrev pub most_bytes : ℕ

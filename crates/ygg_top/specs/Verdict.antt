@@ -1,6 +1,5 @@
 -- What is found of a file: a verdict on each of its obligations, and what they come to.
-use Rattle.std.specs.Prelude.{◌≡◌, ℕ, Bool, true, false, ◌||◌, if◌then◌else◌, List, [], ◌∷◌, ◌++◌, length, codes}
-use Rattle.std.specs.Fmt.{decimal}
+use Rattle.std.specs.Prelude.{◌≡◌, ℕ, Bool, true, false, ◌||◌, if◌then◌else◌, List, [], ◌∷◌, ◌++◌, length}
 use Rattle.ygg_base.specs.declared.status.Status.{Status}
 use Rattle.ygg_base.specs.declared.status.Status.TheVariants.{Done, Refuted, Undecided}
 use Rattle.ygg_syntax.specs.declared.tree.File.{File}
@@ -17,11 +16,10 @@ use Rattle.ygg_cnf.specs.Logs.{SpentLog}
 use Rattle.ygg_cnf.specs.declared.log.Step.{Step}
 use Rattle.ygg_gates.specs.Groups.{translated}
 use Rattle.ygg_oblige_terms.specs.Terms.{file_made}
-use Rattle.ygg_oblige.specs.Names.{claim_name}
-
--- text as a line
-abbrev pub line : List ℕ → List ℕ
-line text = text ++ 10 ∷ []
+use Rattle.ygg_oblige_terms.specs.Meaning.{claim_name}
+use Rattle.ygg_report.specs.Lines.{verdict_text, verified_text, refuted_text, undecided_text}
+use Rattle.ygg_report.specs.declared.Verdict as report
+use Rattle.ygg_report.specs.declared.Verdict.TheVariants as reports
 
 -- a verdict on an obligation
 pub data Verdict : Type 0 where
@@ -32,23 +30,11 @@ pub data Verdict : Type 0 where
   -- the whole budget was spent on the clauses of its term
   Spent : Verdict
 
--- the line of a verdict that is found within a budget
-abbrev pub verdict_line : ℕ → Claim → Verdict → List ℕ
-verdict_line budget c Holds = line (codes "holds " ++ claim_name c)
-verdict_line budget c (Fails schedule) = line (codes "fails " ++ claim_name c)
-verdict_line budget c Spent = line (codes "spent " ++ claim_name c ++ 32 ∷ decimal budget)
-
--- the line of a file all of whose obligations hold, of which there are so many
-abbrev pub verified_line : ℕ → List ℕ
-verified_line count = line (codes "verified " ++ decimal count)
-
--- the line of the first obligation that is violated
-abbrev pub refuted_line : Claim → List ℕ
-refuted_line c = line (codes "refuted " ++ claim_name c)
-
--- the line of a file that isn't decided within the budget
-abbrev pub undecided_line : List ℕ
-undecided_line = line (codes "undecided")
+-- what is reported of a verdict that is found within a budget
+abbrev pub reported : ℕ → Verdict → report.Verdict
+reported budget Holds = reports.Holds
+reported budget (Fails schedule) = reports.Fails
+reported budget Spent = reports.Spent budget
 
 -- whether the obligation fails
 abbrev pub is_failed : Verdict → Bool
@@ -90,12 +76,12 @@ any_spent (v ∷ vs) = is_spent v || any_spent vs
 
 -- the lines of the verdicts, in order
 abbrev pub lines_of : ℕ → List Claim → List Verdict → List ℕ
-lines_of budget (c ∷ cs) (v ∷ vs) = verdict_line budget c v ++ lines_of budget cs vs
+lines_of budget (c ∷ cs) (v ∷ vs) = verdict_text (reported budget v) (claim_name c) ++ lines_of budget cs vs
 lines_of budget _ _ = []
 
 -- the line of the first obligation that fails
 abbrev pub first_refuted : List Claim → List Verdict → List ℕ
-first_refuted (c ∷ cs) (v ∷ vs) = if is_failed v then refuted_line c else first_refuted cs vs
+first_refuted (c ∷ cs) (v ∷ vs) = if is_failed v then refuted_text (claim_name c) else first_refuted cs vs
 first_refuted _ _ = []
 
 -- the status by verdicts: refuted where one is that an obligation fails, else undecided where one is spent, else done
@@ -104,7 +90,7 @@ status_by vs = if any_failed vs then Refuted else if any_spent vs then Undecided
 
 -- the last line by verdicts
 abbrev pub last_line : List Claim → List Verdict → List ℕ
-last_line cs vs = if any_failed vs then first_refuted cs vs else if any_spent vs then undecided_line else verified_line (length cs)
+last_line cs vs = if any_failed vs then first_refuted cs vs else if any_spent vs then undecided_text else verified_text (length cs)
 
 -- the text by verdicts: a line for each, and the last line
 abbrev pub text_by : ℕ → List Claim → List Verdict → List ℕ

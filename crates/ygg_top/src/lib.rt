@@ -4,6 +4,7 @@
 mod answer;
 mod command;
 mod file;
+mod finding;
 mod help;
 mod line;
 mod verdict;
