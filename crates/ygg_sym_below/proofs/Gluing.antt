@@ -97,7 +97,7 @@ module _ (past : Bool) (m : ClosedLayer) where
   size = question_space space
 
   abbrev places_in : Option Operation → ℕ
-  places_in o = elim o [ None ↦ 0 | Some o ↦ room_of one o.spec ]
+  places_in o = suc (elim o [ None ↦ 0 | Some o ↦ room_of one o.spec ])
 
   abbrev pub draws : IsDraw past size D
   draws = calling_draws past space (spec_acts past m) (spec_tidy past m)
@@ -147,7 +147,7 @@ module _ (past : Bool) (m : ClosedLayer) where
       let chosen = chosen_env bits o vars args in
       record {
         picks = f.taken;
-        few = f.few;
+        few = (let fewer = f.few in omega (arith, fewer));
         answer = λ more. ap (answer_of (eval_of m) o.spec.answer) (f.names more ∙ chosen);
         to = λ more. ap (λ (env : Env). based (take (length vars) env)) (f.names more ∙ chosen);
       }

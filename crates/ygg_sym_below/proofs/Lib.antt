@@ -15,3 +15,5 @@ pub mod Specs
 pub mod Gluing
 pub mod OnSpec
 pub mod MadeInputs
+pub mod Chosen
+pub mod Blocks

@@ -1,5 +1,5 @@
 -- The inputs that runs over terms make: those of their places alone.
-use Rattle.std.proofs.Common.{ℕ, ◌+◌, List, ◌++◌, reverse, Option, Some, None, arith}
+use Rattle.std.proofs.Common.{ℕ, suc, ◌+◌, List, ◌++◌, reverse, Option, Some, None, arith}
 use Rattle.ygg_syntax.specs.declared.tree.Block.{Block}
 use Rattle.ygg_syntax.specs.declared.tree.Expr.{Expr}
 use Rattle.ygg_syntax.specs.declared.tree.Operation.{Operation}
@@ -95,14 +95,14 @@ spec_below kinds terms keep m first = record {
 }
   where
     asked : (i : ℕ) (o : Option Operation) (xs s : List SymValue) (nodes : List Node) → InputsBelow (first + i) nodes →
-        InputsBelow (first + (i + (elim o [ None ↦ 0 | Some o ↦ room_of (λ f. 1) o.spec ])))
+        InputsBelow (first + (i + suc (elim o [ None ↦ 0 | Some o ↦ room_of (λ f. 1) o.spec ])))
         (spec_asked kinds terms m (λ k. input_pick kinds first (i + k)) o xs s nodes).nodes
-    asked i None xs s nodes p = below_as (first + i) (first + (i + 0)) nodes (omega arith) p
+    asked i None xs s nodes p = below_more (first + i) (first + (i + suc 0)) nodes (omega arith) p
     asked i (Some o) xs s nodes p =
         let room = room_of (λ f. 1) o.spec in
         let pick = λ (k : ℕ). input_pick kinds first (i + k) in
         let z = spec_asked kinds terms m pick (Some o) xs s nodes in
-        below_as (first + i + room) (first + (i + room)) z.nodes (omega arith)
+        below_more (first + i + room) (first + (i + suc room)) z.nodes (omega arith)
         (whole_below kinds terms keep (first + i) (sym_chooser pick) (chooser_below kinds first i) o.spec (sym_bind m.layer.state s)
         (sym_bind o.arguments xs) tt
         nodes p)

@@ -1,0 +1,3 @@
+pub mod Glued
+pub mod Digits
+pub mod Fresh
