@@ -4,7 +4,7 @@ use Rattle.std.specs.Prelude.{slice_get, length}
 use Rattle.std.proofs.lemmas.Bool.Decides.{nat_tests}
 use Rattle.ygg_value.specs.Number.{Number}
 use Rattle.ygg_value.specs.Words.{word}
-use Rattle.ygg_bank.specs.Nodes.{IsBank, InOrder, CanMake, OneWidth}
+use Rattle.ygg_bank.specs.Nodes.{InOrder}
 use Rattle.ygg_bank.specs.Values.{Inputs, InputsFit, EnvFits, value_of, values_after, reading, node_value, given_for, bits_or_zero, inputs_of}
 use Rattle.ygg_bank.specs.declared.env.Given.{Given}
 use Rattle.ygg_bank.specs.declared.env.Given.TheVariants as given
@@ -13,6 +13,7 @@ use Rattle.ygg_bank.specs.declared.node.Node.{Node}
 use Rattle.ygg_bank.specs.declared.node.Node.TheVariants.{Input, Const, Bin, Not, Resize, Pick}
 use Rattle.ygg_gates_meaning.specs.Laws.{IsZeroIn}
 use Rattle.ygg_oblige_terms.specs.Meaning.{Refuting}
+use Rattle.ygg_oblige_pieces.proofs.Glued.{one_width}
 
 -- the words of the inputs among nodes, in order
 abbrev pub listed : Inputs → List Node → List Given
@@ -109,11 +110,19 @@ has_listed inputs (Not a ∷ ns) (suc place) number w e = has_listed inputs ns p
 has_listed inputs (Resize a u ∷ ns) (suc place) number w e = has_listed inputs ns place number w e
 has_listed inputs (Pick t a b ∷ ns) (suc place) number w e = has_listed inputs ns place number w e
 
--- inputs among nodes in order that have one number have one width
-one_width : (before nodes : List Node) → InOrder before nodes → (i j number w u : ℕ) → slice_get nodes i ≡ Some (Input number w) →
-    slice_get (before ++ nodes) j ≡ Some (Input number u) → j < length before + i → u ≡ w
-one_width before nodes o i j number w u e f l = ?
+env_fits : (inputs : Inputs) (nodes : List Node) → InOrder [] nodes → EnvFits (listed inputs nodes) nodes
+env_fits inputs nodes o place number w k e g =
+    let f = found inputs nodes number k g in
+    let same : f.width ≡ w = one_width nodes f.place place number f.width w o f.at e in
+    ap (λ (x : Number). x.width) f.is ∙ same
 
 -- an environment in which a term is 0 can be listed
-pub listed_zero : (nodes : List Node) (term : Id) → IsBank nodes → Refuting nodes term → (env : List Given) × IsZeroIn nodes term env
-listed_zero nodes term bank r = ?
+pub listed_zero : (nodes : List Node) (term : Id) → InOrder [] nodes → Refuting nodes term → (env : List Given) × IsZeroIn nodes term env
+listed_zero nodes term o r =
+    let env = listed r.inputs nodes in
+    let same : SameOn (inputs_of env) r.inputs nodes = λ place number w e. has_listed r.inputs nodes place number w e in
+    (env, record {
+      widths = env_fits r.inputs nodes o;
+      numbers = λ place number w e. let s = same place number w e in subst (λ n. n < 2 ^ w) (sym s) (r.fit place number w e);
+      zero = ap (λ (x : Number). x.bits) (same_value_of (inputs_of env) r.inputs nodes term.0 same) ∙ r.is_zero;
+    })
