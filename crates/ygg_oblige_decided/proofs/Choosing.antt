@@ -24,6 +24,7 @@ use Rattle.std.proofs.Common.{
   refl,
   sym,
   ap,
+  subst,
   ◌∙◌,
   arith,
 }
@@ -98,11 +99,11 @@ keeps_more given x b value is keeps n c e = at (n == x) refl where
 -- one of the other literals, with what follows
 from_rest : (given : Given) (x : Lit) (xs : List Lit) (cs : List (List Lit)) → Decision given (Both xs cs) →
     ((value : ℕ → Bool) → Keeps given value → Satisfies value x → SatisfiesAll value cs → ⊥) → Decision given (Both (x ∷ xs) cs)
-from_rest given x xs cs (inl f) no =
+from_rest given x xs cs (inl f) never =
     inl (record { value = f.value; keeps = f.keeps; satisfies = (any_there (Satisfies f.value) x xs f.satisfies.0, f.satisfies.1) })
-from_rest given x xs cs (inr none) no = inr (λ value keeps both. go value keeps both.1 (any_cases (Satisfies value) x xs both.0)) where
+from_rest given x xs cs (inr none) never = inr (λ value keeps both. go value keeps both.1 (any_cases (Satisfies value) x xs both.0)) where
   go : (value : ℕ → Bool) → Keeps given value → SatisfiesAll value cs → Satisfies value x ⊎ SatisfiesClause value xs → ⊥
-  go value keeps rest (inl here) = no value keeps here rest
+  go value keeps rest (inl here) = never value keeps here rest
   go value keeps rest (inr there) = none value keeps (there, rest)
 
 -- a literal that is true already

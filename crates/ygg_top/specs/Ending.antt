@@ -1,5 +1,5 @@
 -- How a command ends, and what it prints.
-use Rattle.std.specs.Prelude.{◌≡◌, ◌⊎◌, ℕ, ◌≤◌, ◌<◌, List, ◌++◌, length, take, codes, Option, Some, None, IfSome, MatchBool, MatchOption, Result, Ok, Err}
+use Rattle.std.specs.Prelude.{◌≡◌, ◌⊎◌, ℕ, ◌<◌, List, ◌++◌, codes, Option, Some, None, IfSome, MatchBool, MatchOption, Result, Ok, Err}
 use Rattle.ygg_base.specs.declared.failure.Refusal.{Refusal}
 use Rattle.ygg_base.specs.declared.reason.Reason.TheVariants as reason
 use Rattle.ygg_base.specs.Reason.{refusal_at}
@@ -77,9 +77,8 @@ Adds before bytes now = IfSome before (λ b. now ≡ Some (b ++ bytes))
 
 -- a front of the bytes
 pub record IsFront (front bytes : List ℕ) : Type 0 where
-  pub count : ℕ
-  pub within : count ≤ length bytes
-  pub is : front ≡ take count bytes
+  pub rest : List ℕ
+  pub is : bytes ≡ front ++ rest
 
 -- the line of a library that failed
 abbrev pub library_fault : List ℕ
