@@ -1,12 +1,11 @@
 -- A block of a specification over terms, with a pick for each place, is worth what the block ends in with the bits of these picks.
-use Rattle.std.proofs.Common.{◌≡◌, ◌&&◌, ℕ, Bool, true, List, [], ◌∷◌, ◌++◌, map, take, length, All, refl, sym, ap, ◌∙◌, subst}
+use Rattle.std.proofs.Common.{◌≡◌, ℕ, Bool, true, List, [], ◌∷◌, ◌++◌, map, take, length, All, refl, sym, ap, ◌∙◌, subst}
 use Rattle.std.proofs.lemmas.List.{map-append, length-map}
 use Rattle.std.proofs.lemmas.List.Elements.{All-nil, All-cons, All-append}
 use Rattle.std.proofs.lemmas.Bool.{and_from as both_of}
 use Rattle.ygg_value.specs.declared.row.Value.{Value}
 use Rattle.ygg_value.specs.declared.shape.Shape.{Shape}
 use Rattle.std.specs.Prelude.{Option}
-use Rattle.std.specs.Str.{bytes_eq}
 use Rattle.ygg_syntax.specs.declared.grammar.BlockKind.TheVariants.{Spec}
 use Rattle.ygg_syntax.specs.declared.tree.Declared.{Declared}
 use Rattle.ygg_syntax.specs.declared.tree.Block.{Block}
@@ -15,12 +14,11 @@ use Rattle.ygg_type_rules.specs.declared.scope.Signature.{Signature}
 use Rattle.ygg_type_rules.specs.TypeErrors.{none}
 use Rattle.ygg_type_rules.specs.Scopes.{Scope}
 use Rattle.ygg_type_rules.specs.Statements.{block_errors}
-use Rattle.ygg_meaning.specs.Environments.{Name, Env, bind}
+use Rattle.ygg_meaning.specs.Environments.{Name, bind}
 use Rattle.ygg_meaning.specs.Shapes.{shape_in, fits, values_fit, env_fits}
 use Rattle.ygg_meaning.specs.Progress.{answer_of}
 use Rattle.ygg_meaning.specs.Layer.{ClosedLayer}
 use Rattle.ygg_type_sound.specs.Agrees.{Agrees}
-use Rattle.ygg_type_sound.proofs.Tests.{left as first_of, right as second_of, bytes_same}
 use Rattle.ygg_type_progress.specs.Kinds.{keeps}
 use Rattle.ygg_type_progress.specs.Questions.{plain, Follows}
 use Rattle.ygg_type_progress.specs.Blocks.{eval_with, is_returned}
@@ -61,20 +59,6 @@ pub record BlockOfSpec (defs : Named Signature) (m : ClosedLayer) (b : Block) (s
   pub kept : keeps Spec b ≡ true
   pub agrees : (xs ys : List Value) → values_fit m.layer.state xs ≡ true → values_fit args ys ≡ true →
       Agrees m.functions scope (plain (bind m.layer.state xs ++ bind args ys))
-
--- names with values of the declared shapes are the declared ones with these values
-pub names_back : (v : Values) (ds : List Declared) (env : SymEnv) → env_fits ds (worths v env) ≡ true →
-    env ≡ sym_bind ds (map (λ (b : Name × SymValue). b.1) env)
-names_back v [] [] e = refl
-names_back v [] (b ∷ env) e = absurd (cc)
-names_back v (d ∷ ds) [] e = absurd (cc)
-names_back v (d ∷ ds) (b ∷ env) e =
-    let name = bytes_eq d.name.text b.0 in
-    let fit = fits (shape_in d.shape) (worth v b.1) in
-    let here = first_of (name && fit) (env_fits ds (worths v env)) e in
-    let rest = second_of (name && fit) (env_fits ds (worths v env)) e in
-    ap (λ n. (n, b.1) ∷ env) (sym (bytes_same d.name.text b.0 (first_of name fit here)))
-    ∙ ap (λ more. (d.name.text, b.1) ∷ more) (names_back v ds env rest)
 
 module _ (inputs : Inputs) (v : Values) where
   -- what values of the declared shapes are worth has these shapes

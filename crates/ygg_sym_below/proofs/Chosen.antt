@@ -1,40 +1,12 @@
 -- Blocks of a specification with a pick for each place, given as a function of places: the same ends as with picks by place and from the front.
-use Rattle.std.proofs.Common.{
-  ◌≡◌,
-  ◌<◌,
-  ◌≤◌,
-  ◌+◌,
-  ◌-◌,
-  ℕ,
-  zero,
-  suc,
-  Bool,
-  true,
-  false,
-  if◌then◌else◌,
-  List,
-  [],
-  ◌∷◌,
-  ◌++◌,
-  take,
-  length,
-  Option,
-  Some,
-  None,
-  refl,
-  sym,
-  ap,
-  ◌∙◌,
-  subst,
-  arith,
-}
+use Rattle.std.proofs.Common.{◌≡◌, ◌<◌, ◌≤◌, ◌+◌, ℕ, zero, suc, Bool, List, [], ◌∷◌, ◌++◌, take, length, Some, refl, sym, ap, ◌∙◌, subst, arith}
 use Rattle.ygg_value.specs.Values.{digit}
 use Rattle.ygg_syntax.specs.declared.tree.Block.{Block}
 use Rattle.ygg_meaning.specs.Environments.{Env}
 use Rattle.ygg_meaning.specs.Progress.{Question, Choice, Call, Answer, answer_of}
 use Rattle.ygg_meaning.specs.Machine.{Picks}
 use Rattle.ygg_meaning.specs.Layer.{ClosedLayer, eval_of}
-use Rattle.ygg_direct.specs.Direct.{Handled, Event, Reached, Chained, Within, Alike, question_space, room_of, direct_run, seen_run}
+use Rattle.ygg_direct.specs.Direct.{Handled, Event, Reached, Chained, Within, Alike, question_space, room_of, direct_run}
 use Rattle.ygg_direct.specs.Acts.{next_of}
 use Rattle.ygg_direct.specs.Places.{Held, left_after, by_place, from_front, choosing, Result, outcome_by_place}
 use Rattle.ygg_direct.specs.SpecActs.{Ran, block_ran}
@@ -152,6 +124,7 @@ module _ (m : ClosedLayer) where
     -- picks from the front that lead where the picks of places lead, whatever follows them
     pub record Fronts (bits : ℕ → Bool) (b : Block) (vars args : Env) : Type 0 where
       pub picks : Picks
+      pub few : length picks ≤ room b
       pub taken : Picks
       pub is : (more : Picks) → block_ran past m b vars args (picks ++ more) ≡ ran (block_end m bits b vars args) taken more
 
@@ -162,6 +135,7 @@ module _ (m : ClosedLayer) where
         let r = direct_run (eval_of m) one (by_place (choosing past) places) b (vars ++ args) [] in
         record {
           picks = f.taken;
+          few = f.few;
           taken = r.to;
           is = λ more.
               ap (λ (env : Env). let x : Ran = record {

@@ -1,56 +1,27 @@
 -- A specification with picks by place in its blocks is the specification's function of picks with other picks.
-use Rattle.std.proofs.Common.{
-  ◌≡◌,
-  ◌+◌,
-  ◌-◌,
-  ◌≤◌,
-  ◌<◌,
-  ℕ,
-  zero,
-  suc,
-  Bool,
-  true,
-  false,
-  if◌then◌else◌,
-  List,
-  [],
-  ◌∷◌,
-  ◌++◌,
-  map,
-  take,
-  length,
-  Option,
-  Some,
-  None,
-  refl,
-  sym,
-  ap,
-  ◌∙◌,
-  arith,
-}
+use Rattle.std.proofs.Common.{◌≡◌, ◌+◌, ◌-◌, ◌≤◌, ◌<◌, ℕ, zero, suc, Bool, true, false, if◌then◌else◌, List, [], ◌∷◌, ◌++◌, map, length, Option, Some, None, refl, sym, ap, ◌∙◌, arith}
 use Rattle.std.specs.Prelude.{nat_lt}
 use Rattle.std.proofs.lemmas.Bool.Decides.{nat_tests}
 use Rattle.ygg_value.specs.declared.row.Value.{Value}
 use Rattle.ygg_syntax.specs.declared.tree.Operation.{Operation}
 use Rattle.ygg_syntax.specs.declared.tree.Block.{Block}
 use Rattle.ygg_meaning.specs.Environments.{Name, Env, bind}
-use Rattle.ygg_meaning.specs.Progress.{Eval, Question, Choice, Call, Answer, answer_of}
+use Rattle.ygg_meaning.specs.Progress.{Eval, Question, Choice, Call, Answer}
 use Rattle.ygg_meaning.specs.Machine.{Picks, State, based}
-use Rattle.ygg_meaning.specs.Layer.{ClosedLayer, eval_of, operation_of}
-use Rattle.ygg_direct.specs.Direct.{Handled, Event, Reached, direct_run, direct_of, room_of, question_space, total, Chained, Within, Alike}
+use Rattle.ygg_meaning.specs.Layer.{ClosedLayer, operation_of}
+use Rattle.ygg_direct.specs.Direct.{Handled, Event, Reached, direct_run, direct_of, room_of, question_space, total, Chained, Within, Alike, seen}
 use Rattle.ygg_direct.specs.Acts.{next_of}
-use Rattle.ygg_direct.specs.Places.{Draw, left_after, by_place, choosing, calling, IsDraw}
-use Rattle.ygg_direct.specs.SpecActs.{spec_does, spec_acts}
+use Rattle.ygg_direct.specs.Places.{Draw, left_after, calling, IsDraw}
+use Rattle.ygg_direct.specs.SpecActs.{Ran, spec_does, spec_acts}
 use Rattle.ygg_direct.specs.RunPlaces.{spec_space}
 use Rattle.ygg_direct.proofs.Order.{block_follows}
 use Rattle.ygg_direct.proofs.Mirror.{block_mirrors}
-use Rattle.ygg_direct.proofs.Placing.{fronted}
-use Rattle.ygg_direct.proofs.Choosing.{one, choosing_draws}
+use Rattle.ygg_direct.proofs.Choosing.{one}
 use Rattle.ygg_direct.proofs.RunPlacing.{calling_draws, spec_tidy}
 use Rattle.ygg_sym_below.specs.Wholes.{picks_from}
-use Rattle.ygg_sym_below.specs.Specs.{Nothing}
-use Rattle.ygg_sym_below.proofs.Placed.{by_bits, same_run}
-use Rattle.ygg_sym_below.proofs.Specs.{choose_at, spec_run, spec_ended, spec_at}
+use Rattle.ygg_sym_below.proofs.Placed.{by_bits}
+use Rattle.ygg_sym_below.proofs.SpecMeans.{spec_ended, spec_at}
+use Rattle.ygg_sym_below.proofs.Chosen.{fronts}
 
 -- bits that begin with a list
 from_list : (g : ℕ → Bool) (p n : ℕ) (l : Picks) → length l ≤ n → ((j : ℕ) → j < n → g (p + j) ≡ next_of false (left_after j l)) →
@@ -64,27 +35,33 @@ from_list g p (suc n) (x ∷ l) few h =
     let more : suc j < suc n = omega (arith, less) in ap g e ∙ h (suc j) more) in
     (r.0, ap (λ b. b ∷ picks_from g (p + 1) n) first ∙ ap (λ ps. x ∷ ps) r.1)
 
--- lists at places, one after another
+-- bits at places, one after another
 pub record Slot : Type 0 where
   pub place : ℕ
   pub size : ℕ
-  pub picks : Picks
+  pub bits : ℕ → Bool
 
--- the bits that lists at places make
-abbrev glue : List Slot → ℕ → Bool
+-- the bits that they make
+abbrev pub glue : List Slot → ℕ → Bool
 glue [] k = false
-glue (s ∷ slots) k = if nat_lt k (s.place + s.size) then next_of false (left_after (k - s.place) s.picks) else glue slots k
+glue (s ∷ slots) k = if nat_lt k (s.place + s.size) then s.bits (k - s.place) else glue slots k
 
-glue_here : (p n j : ℕ) (l : Picks) (other : Bool) → j < n →
-    (if nat_lt (p + j) (p + n) then next_of false (left_after ((p + j) - p) l) else other) ≡ next_of false (left_after j l)
-glue_here p n j l other less =
+pub glue_here : (p n j : ℕ) (bits : ℕ → Bool) (other : Bool) → j < n → (if nat_lt (p + j) (p + n) then bits ((p + j) - p) else other) ≡ bits j
+glue_here p n j bits other less =
     let t : nat_lt (p + j) (p + n) ≡ true = grind (arith, nat_tests) in
     let e : (p + j) - p ≡ j = omega arith in
-    ap (λ b. if b then next_of false (left_after ((p + j) - p) l) else other) t ∙ ap (λ k. next_of false (left_after k l)) e
+    ap (λ b. if b then bits ((p + j) - p) else other) t ∙ ap bits e
 
-glue_later : (p n k : ℕ) (l : Picks) (other : Bool) → p + n ≤ k → (if nat_lt k (p + n) then next_of false (left_after (k - p) l) else other) ≡ other
-glue_later p n k l other more =
-    let t : nat_lt k (p + n) ≡ false = grind (arith, nat_tests) in ap (λ b. if b then next_of false (left_after (k - p) l) else other) t
+pub glue_later : (p n k : ℕ) (bits : ℕ → Bool) (other : Bool) → p + n ≤ k → (if nat_lt k (p + n) then bits (k - p) else other) ≡ other
+glue_later p n k bits other more =
+    let t : nat_lt k (p + n) ≡ false = grind (arith, nat_tests) in ap (λ b. if b then bits (k - p) else other) t
+
+abbrev pub reached : Env → State Env → List (Event (State Env)) → Reached (State Env)
+reached env to events = record { env = env; to = to; events = events }
+
+pub same_events : (h : ℕ → Question → State Env → Handled (State Env)) (es : List (Event (State Env))) → map (seen h (λ z. z)) es ≡ es
+same_events h [] = refl
+same_events h (e ∷ es) = ap (λ z. e ∷ z) (same_events h es)
 
 module _ (past : Bool) (m : ClosedLayer) where
   abbrev D : Draw (State Env)
@@ -109,47 +86,16 @@ module _ (past : Bool) (m : ClosedLayer) where
     answer : (more : Picks) → (spec_does past m z o xs (picks ++ more)).answer ≡ (spec_ended m bits o xs z).answer
     to : (more : Picks) → (spec_does past m z o xs (picks ++ more)).to ≡ (spec_ended m bits o xs z).to
 
-  digit_at : (bits : ℕ → Bool) (p : ℕ) (q : Question) (z : Picks) →
-      (by_bits past one (choosing past) (choosing_draws past) bits p q z).answer ≡ (choose_at bits p q tt).answer
-  digit_at bits p Choice z = refl
-  digit_at bits p (Call f xs) z = refl
-
-  alike_chosen : (bits : ℕ → Bool) (es : List (Event Picks)) (from to : Picks) →
-      Chained (by_bits past one (choosing past) (choosing_draws past) bits) from es to →
-      Alike {R = Picks} {S = Nothing} (choose_at bits) (λ z. tt) es
-  alike_chosen bits [] from to c = tt
-  alike_chosen bits (e ∷ es) from to c =
-      let is : (choose_at bits e.place e.question tt).answer ≡ e.answer =
-      sym (digit_at bits e.place e.question from) ∙ ap (λ (h : Handled Picks). h.answer) c.1 in
-      (ap (λ a. let h : Handled Nothing = record { answer = a; to = tt } in h) is, alike_chosen bits es e.after to c.2)
-
-  chosen_env : (bits : ℕ → Bool) (o : Operation) (vars args : Env) →
-      (direct_run (eval_of m) one (by_place (choosing past) (picks_from bits 0 (room_of one o.spec))) o.spec (vars ++ args) []).env ≡
-      (spec_run m bits o vars args).env
-  chosen_env bits o vars args =
-      let b = o.spec in
-      let env = vars ++ args in
-      let s = same_run past one (choosing past) (choosing_draws past) bits (eval_of m) b env [] in
-      let r = direct_run (eval_of m) one (by_bits past one (choosing past) (choosing_draws past) bits) b env [] in
-      let f = block_follows (eval_of m) one (by_bits past one (choosing past) (choosing_draws past) bits) b.statements 0 env [] in
-      let mirrored = block_mirrors {R = Picks} {S = Nothing} (eval_of m) one (by_bits past one (choosing past) (choosing_draws past) bits)
-      (choose_at bits) (λ z. tt)
-      b.statements 0 env [] (alike_chosen bits r.events [] r.to f.chained) in
-      s.env ∙ sym (ap (λ (x : Reached Nothing). x.env) mirrored)
-
   local_at : (bits : ℕ → Bool) (o : Option Operation) (xs : List Value) (z : State Env) → LocalAt bits o xs z
   local_at bits None xs z = record { picks = []; few = omega arith; answer = λ more. refl; to = λ more. refl }
   local_at bits (Some o) xs z =
-      let vars = z.base in
-      let args = bind o.arguments xs in
-      let places = picks_from bits 0 (room_of one o.spec) in
-      let f = fronted past (eval_of m) one (choosing past) (choosing_draws past) o.spec (vars ++ args) [] places in
-      let chosen = chosen_env bits o vars args in
+      let f = fronts m past bits o.spec z.base (bind o.arguments xs) in
+      let fewer = f.few in
       record {
-        picks = f.taken;
-        few = (let fewer = f.few in omega (arith, fewer));
-        answer = λ more. ap (answer_of (eval_of m) o.spec.answer) (f.names more ∙ chosen);
-        to = λ more. ap (λ (env : Env). based (take (length vars) env)) (f.names more ∙ chosen);
+        picks = f.picks;
+        few = omega (arith, fewer);
+        answer = λ more. ap (λ (r : Ran). r.answer) (f.is more);
+        to = λ more. ap (λ (r : Ran). based r.vars) (f.is more);
       }
 
   -- picks of a question that lead where picks by place in its block lead
@@ -164,9 +110,14 @@ module _ (past : Bool) (m : ClosedLayer) where
   local bits i (Call f xs) z =
       let l = local_at (λ k. bits (i + k)) (operation_of m f) xs z in record { picks = l.picks; few = l.few; answer = l.answer; to = l.to }
 
+  -- the picks of a list, which goes on with 0
+  abbrev nth_of : Picks → ℕ → Bool
+  nth_of picks k = next_of false (left_after k picks)
+
   abbrev slots : (ℕ → Bool) → List (Event (State Env)) → List Slot
   slots bits = map (λ (e : Event (State Env)).
-      let s : Slot = record { place = e.place; size = size e.question; picks = (local bits e.place e.question e.before).picks } in s)
+      let s : Slot =
+      record { place = e.place; size = size e.question; bits = nth_of (local bits e.place e.question e.before).picks } in s)
 
   abbrev handled : State Env → Answer → Handled (State Env)
   handled to answer = record { answer = answer; to = to }
@@ -181,7 +132,7 @@ module _ (past : Bool) (m : ClosedLayer) where
       let other = glue (slots bits es) in
       let above = w.0 in
       let begins = from_list g p n l.picks l.few (λ j less.
-      let enough : low ≤ p + j = omega (arith, above) in h (p + j) enough ∙ glue_here p n j l.picks (other (p + j)) less) in
+      let enough : low ≤ p + j = omega (arith, above) in h (p + j) enough ∙ glue_here p n j (nth_of l.picks) (other (p + j)) less) in
       let at = ap (λ z. spec_at m bits p e.question z) c.0 ∙ c.1 in
       let answer_is : (D e.question e.before (picks_from g p n)).answer ≡ e.answer =
       ap (λ ps. (D e.question e.before ps).answer) begins.1 ∙ l.answer begins.0 ∙ ap (λ (x : Handled (State Env)). x.answer) at in
@@ -189,12 +140,13 @@ module _ (past : Bool) (m : ClosedLayer) where
       ap (λ ps. (D e.question e.before ps).to) begins.1 ∙ l.to begins.0 ∙ ap (λ (x : Handled (State Env)). x.to) at in (
         ap (handled (D e.question e.before (picks_from g p n)).to) answer_is ∙ ap (λ z. handled z e.answer) to_is,
         alike_glued bits g es e.after to (p + n) high c.2 w.1 (λ k more.
-            let enough : low ≤ k = omega (arith, above, more) in h k enough ∙ glue_later p n k l.picks (other k) more),
+            let enough : low ≤ k = omega (arith, above, more) in h k enough ∙ glue_later p n k (nth_of l.picks) (other k) more),
       )
 
   -- a run with picks by place in the blocks of operations is one with some picks for each call
   pub record Glued (bits : ℕ → Bool) (eval : Eval) (b : Block) (env : Env) (z : State Env) : Type 0 where
     pub other : ℕ → Bool
+    pub all : direct_run eval space (by_bits past space D draws other) b env z ≡ direct_run eval space (spec_at m bits) b env z
     pub env_is : (direct_run eval space (by_bits past space D draws other) b env z).env ≡ (direct_run eval space (spec_at m bits) b env z).env
     pub to_is : (direct_run eval space (by_bits past space D draws other) b env z).to ≡ (direct_run eval space (spec_at m bits) b env z).to
 
@@ -206,4 +158,9 @@ module _ (past : Bool) (m : ClosedLayer) where
       let a = alike_glued bits g r.events z r.to 0 (0 + total (map (λ d. d.room) (map (direct_of eval space (spec_at m bits)) b.statements))) f.chained f.within
       (λ k l. refl) in
       let mirrored = block_mirrors eval space (spec_at m bits) (by_bits past space D draws g) (λ z. z) b.statements 0 env z a in
-      record { other = g; env_is = ap (λ (x : Reached (State Env)). x.env) mirrored; to_is = ap (λ (x : Reached (State Env)). x.to) mirrored }
+      record {
+        other = g;
+        all = mirrored ∙ ap (reached r.env r.to) (same_events (by_bits past space D draws g) r.events);
+        env_is = ap (λ (x : Reached (State Env)). x.env) mirrored;
+        to_is = ap (λ (x : Reached (State Env)). x.to) mirrored;
+      }

@@ -38,7 +38,8 @@ use Rattle.ygg_sym_below.specs.Specs.{input_pick, sym_spec}
 use Rattle.ygg_sym_below.specs.Wholes.{sym_whole, picks_from}
 use Rattle.ygg_sym_below.specs.Laws.{picked_by, state_worth, RunsOnSpec}
 use Rattle.ygg_sym_below.proofs.Lows.{low_of, low_fits}
-use Rattle.ygg_sym_below.proofs.Specs.{input_pick_means, spec_at, spec_means}
+use Rattle.ygg_sym_below.proofs.Specs.{input_pick_means}
+use Rattle.ygg_sym_below.proofs.SpecMeans.{spec_at, spec_means}
 use Rattle.ygg_sym_below.proofs.Gluing.{draws, glued}
 use Rattle.ygg_sym_below.proofs.Placed.{same_run}
 use Rattle.ygg_sym_below.proofs.Whole.{whole_grows, whole_gives, take_less}

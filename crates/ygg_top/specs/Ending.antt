@@ -10,13 +10,13 @@ use Rattle.ygg_base.specs.Outside.{bytes_of}
 use Rattle.ygg_base.specs.Lexing.{tokens_of}
 use Rattle.ygg_syntax.specs.declared.tree.File.{File}
 use Rattle.ygg_print.specs.Canonical.{canonical, GivesAgain}
-use Rattle.ygg_report.specs.Lines.{line}
+use Rattle.ygg_report.specs.Lines.{ended, refused_line}
 use Rattle.ygg_rules.specs.declared.rule.RuleKind.{RuleKind}
 use Rattle.ygg_top.specs.declared.help.TheConstants.{HELP, VERSION}
 use Rattle.ygg_top.specs.declared.answer.CommandEnd.{CommandEnd}
 use Rattle.ygg_top.specs.declared.answer.CommandEnd.TheVariants as answer
 use Rattle.ygg_top.specs.Words.{is_alone, file_after, with_budget_after, usual_budget, IsBudget, IsNoBudget}
-use Rattle.ygg_top.specs.Refusing.{IsLayerFile, RefusesFile, RefusesUnread, refused_line}
+use Rattle.ygg_top.specs.Refusing.{IsLayerFile, RefusesFile, RefusesUnread}
 use Rattle.ygg_top.specs.Verdict.{Verified}
 
 -- `verify` within a budget of what stands under the name, under a book of these kinds: it is refused, or it is a layer file without a fault, and there
@@ -82,7 +82,7 @@ pub record IsFront (front bytes : List ℕ) : Type 0 where
 
 -- the line of a library that failed
 abbrev pub library_fault : List ℕ
-library_fault = line (codes "fault library")
+library_fault = ended (codes "fault library")
 
 -- a front of what the command would have printed: the line of a library that failed, where its count of faults has risen, or the command's text
 abbrev pub IsCutShort : List RuleKind → List (List ℕ) → Option (List Held) → (LibraryRose : Type 0) → List ℕ → Type 0

@@ -7,9 +7,9 @@ use Rattle.ygg_bank.specs.declared.node.Id.{Id}
 use Rattle.ygg_bank.specs.declared.node.Node.{Node}
 use Rattle.ygg_gates_meaning.specs.Laws.{IsZeroIn}
 use Rattle.ygg_decide.specs.Deciding.{IsNeverZero}
-use Rattle.ygg_report.specs.Lines.{verdict_text, refuted_text, undecided_text, verified_text}
-use Rattle.ygg_report.specs.declared.Verdict.{Verdict}
-use Rattle.ygg_report.specs.declared.Verdict.TheVariants.{Holds, Fails, Spent}
+use Rattle.ygg_report.specs.Lines.{verdict_line, refuted_line, undecided_line, verified_line}
+use Rattle.ygg_report.specs.declared.verdict.Verdict.{Verdict}
+use Rattle.ygg_report.specs.declared.verdict.Verdict.TheVariants.{Holds, Fails, Spent}
 use Rattle.ygg_bank.specs.Nodes.{HasWidth}
 use Rattle.ygg_oblige.specs.Obligations.{terms_in, names_in}
 use Rattle.ygg_oblige.specs.declared.obligation.Obligation.{Obligation}
@@ -31,7 +31,7 @@ AreFound nodes budget [] (v ∷ vs) = ⊥
 
 -- the lines of what is found of the first obligations of these names
 abbrev pub found_lines : List (List ℕ) → List Verdict → List ℕ
-found_lines (name ∷ names) (v ∷ vs) = verdict_text v name ++ found_lines names vs
+found_lines (name ∷ names) (v ∷ vs) = verdict_line v name ++ found_lines names vs
 found_lines _ _ = []
 
 -- whether an obligation was found to fail
@@ -62,7 +62,7 @@ first_failed (Spent count ∷ vs) = option_map suc (first_failed vs)
 abbrev pub IsUnreported : List Node → Id → List ℕ → ℕ → Option (List ℕ) → Option (List ℕ) → (SinkRose : Type 0) → Status → Type 0
 IsUnreported nodes term name budget before now SinkRose status.NoMemory = now ≡ before
 IsUnreported nodes term name budget before now SinkRose status.Fault =
-    SinkRose × (v : Verdict) × IsFound nodes term budget v × (front : List ℕ) × IsFront front (verdict_text v name) × Adds before front now
+    SinkRose × (v : Verdict) × IsFound nodes term budget v × (front : List ℕ) × IsFront front (verdict_line v name) × Adds before front now
 IsUnreported nodes term name budget before now SinkRose other = ⊥
 
 -- What was found of the first obligations of a list, all of whose lines were put.
@@ -108,7 +108,7 @@ name_at names (Some place) = get_or names place []
 -- the last line that a tally over obligations of these names comes to
 abbrev pub last_text : List (List ℕ) → Tally → List ℕ
 last_text names tally =
-    if is_some tally.refuted then refuted_text (name_at names tally.refuted) else if tally.spent then undecided_text else verified_text (length names)
+    if is_some tally.refuted then refuted_line (name_at names tally.refuted) else if tally.spent then undecided_line else verified_line (length names)
 
 -- the place, if there is one, is among so many
 abbrev pub IsAmong : ℕ → Option ℕ → Type 0

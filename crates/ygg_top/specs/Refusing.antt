@@ -1,13 +1,11 @@
 -- The one refusal of each file that is no layer file.
-use Rattle.std.specs.Prelude.{◌≡◌, ◌⊎◌, ℕ, ◌≤◌, ◌<◌, List, [], ◌∷◌, ◌++◌, length, codes, Option, Some, None}
-use Rattle.std.specs.Fmt.{decimal}
+use Rattle.std.specs.Prelude.{◌≡◌, ◌⊎◌, ℕ, ◌≤◌, ◌<◌, List, length, Option, Some, None}
 use Rattle.ygg_base.specs.declared.failure.Refusal.{Refusal}
 use Rattle.ygg_base.specs.declared.reason.Reason.TheVariants as reason
 use Rattle.ygg_base.specs.Reason.{refusal_at}
 use Rattle.ygg_base.specs.declared.tokens.Tokens.{Tokens}
 use Rattle.ygg_syntax.specs.declared.tree.File.{File}
 use Rattle.ygg_accept.specs.Accepting.{IsAccepted, RefusesLayers}
-use Rattle.ygg_report.specs.Lines.{line}
 
 -- the most bytes of a layer file
 abbrev pub most_bytes : ℕ
@@ -32,7 +30,3 @@ RefusesRead (Some bytes) r = (length bytes ≤ most_bytes) × RefusesLayers byte
 -- the refusal of a file that is to be verified or printed
 abbrev pub RefusesFile : Option (List ℕ) → Refusal → Type 0
 RefusesFile stored r = RefusesUnread stored r ⊎ RefusesRead stored r
-
--- the line that a refusal prints
-abbrev pub refused_line : Refusal → List ℕ
-refused_line r = line (codes "refused " ++ decimal r.number ++ 32 ∷ [] ++ decimal r.line ++ 58 ∷ [] ++ decimal r.column)

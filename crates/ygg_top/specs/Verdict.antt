@@ -17,9 +17,9 @@ use Rattle.ygg_cnf.specs.declared.log.Step.{Step}
 use Rattle.ygg_gates.specs.Groups.{translated}
 use Rattle.ygg_oblige_terms.specs.Terms.{file_made}
 use Rattle.ygg_oblige_terms.specs.Meaning.{claim_name}
-use Rattle.ygg_report.specs.Lines.{verdict_text, verified_text, refuted_text, undecided_text}
-use Rattle.ygg_report.specs.declared.Verdict as report
-use Rattle.ygg_report.specs.declared.Verdict.TheVariants as reports
+use Rattle.ygg_report.specs.Lines.{verdict_line, verified_line, refuted_line, undecided_line}
+use Rattle.ygg_report.specs.declared.verdict.Verdict as report
+use Rattle.ygg_report.specs.declared.verdict.Verdict.TheVariants as reports
 
 -- a verdict on an obligation
 pub data Verdict : Type 0 where
@@ -76,12 +76,12 @@ any_spent (v ∷ vs) = is_spent v || any_spent vs
 
 -- the lines of the verdicts, in order
 abbrev pub lines_of : ℕ → List Claim → List Verdict → List ℕ
-lines_of budget (c ∷ cs) (v ∷ vs) = verdict_text (reported budget v) (claim_name c) ++ lines_of budget cs vs
+lines_of budget (c ∷ cs) (v ∷ vs) = verdict_line (reported budget v) (claim_name c) ++ lines_of budget cs vs
 lines_of budget _ _ = []
 
 -- the line of the first obligation that fails
 abbrev pub first_refuted : List Claim → List Verdict → List ℕ
-first_refuted (c ∷ cs) (v ∷ vs) = if is_failed v then refuted_text (claim_name c) else first_refuted cs vs
+first_refuted (c ∷ cs) (v ∷ vs) = if is_failed v then refuted_line (claim_name c) else first_refuted cs vs
 first_refuted _ _ = []
 
 -- the status by verdicts: refuted where one is that an obligation fails, else undecided where one is spent, else done
@@ -90,7 +90,7 @@ status_by vs = if any_failed vs then Refuted else if any_spent vs then Undecided
 
 -- the last line by verdicts
 abbrev pub last_line : List Claim → List Verdict → List ℕ
-last_line cs vs = if any_failed vs then first_refuted cs vs else if any_spent vs then undecided_text else verified_text (length cs)
+last_line cs vs = if any_failed vs then first_refuted cs vs else if any_spent vs then undecided_line else verified_line (length cs)
 
 -- the text by verdicts: a line for each, and the last line
 abbrev pub text_by : ℕ → List Claim → List Verdict → List ℕ

@@ -1,14 +1,14 @@
 ghost use Rattle.std.specs.Prelude.{List, ◌≡◌, ◌<◌, ◌≤◌, length, Some, Err, IfOk, IfErr};
 ghost use Rattle.ygg_rules.specs.declared.rule.RuleKind.{RuleKind};
 ghost use Rattle.ygg_base.specs.Outside.{Rose};
-ghost use Rattle.ygg_top.specs.Refusing.{most_bytes, refused_line as refusal_bytes};
+ghost use Rattle.ygg_report.specs.Lines.{refused_line};
+ghost use Rattle.ygg_top.specs.Refusing.{most_bytes};
 ghost use Rattle.ygg_top.specs.Ending.{Reports, IsPutSo, IsAnswer, IsAnswerFor, IsAnswerOf, IsAnswerWithin, IsTextOf, IsUnread, Prints, Stands, Verifies};
 
 use crate::answer::CommandEnd;
 use crate::file::{file_of, printed};
 use crate::finding::put;
 use crate::help::{HELP, VERSION};
-use crate::line::refused_line;
 use crate::verdict;
 use crate::words::{USUAL_BUDGET, budget, file_after, is_alone, with_budget_after};
 use std::alloc::Global;
@@ -107,9 +107,9 @@ fn done(alloc: Global, text: &[u8]) -> CommandEnd
 
 /// The answer that is a refusal.
 fn refused(alloc: Global, at: Refusal) -> CommandEnd
-    ensures { IsTextOf Status.Refused (refusal_bytes at) result }
+    ensures { IsTextOf Status.Refused (refused_line at) result }
 {
-    match refused_line(alloc, at) {
+    match ygg_report::refused(alloc, at) {
         Ok(text) => CommandEnd::Ends(Status::Refused, text),
         Err(_) => CommandEnd::NoMemory,
     }

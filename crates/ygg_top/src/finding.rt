@@ -3,7 +3,7 @@
 ghost use Rattle.std.specs.Prelude.{◌≡◌, ◌<◌, ◌≤◌, IfOk, IfErr};
 ghost use Rattle.ygg_base.specs.Outside.{Rose};
 ghost use Rattle.ygg_bank.specs.Nodes.{HasWidth};
-ghost use Rattle.ygg_report.specs.Lines.{verdict_text};
+ghost use Rattle.ygg_report.specs.Lines.{verdict_line};
 ghost use Rattle.ygg_top.specs.Ending.{Adds, IsPut};
 ghost use Rattle.ygg_top.specs.Findings.{IsFound, IsUnreported};
 
@@ -58,7 +58,7 @@ pub fn report<B: Book, K: Sink>(
     requires width { HasWidth bank.old obligation.now.term 1 }
     requires budget { 0 < budget }
     ensures found { IfOk result (IsFound bank.old obligation.now.term budget) }
-    ensures put { IfOk result (λ v. Adds (K.taken sink.old) (verdict_text v obligation.now.name) (K.taken sink.new)) }
+    ensures put { IfOk result (λ v. Adds (K.taken sink.old) (verdict_line v obligation.now.name) (K.taken sink.new)) }
     ensures unreported { IfErr result (IsUnreported bank.old obligation.now.term obligation.now.name budget (K.taken sink.old) (K.taken sink.new)
         (Rose (K.faults sink.old) (K.faults sink.new))) }
     ensures same { bank.new ≡ bank.old }

@@ -6,7 +6,6 @@ mod command;
 mod file;
 mod finding;
 mod help;
-mod line;
 mod verdict;
 mod words;
 

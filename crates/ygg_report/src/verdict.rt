@@ -1,0 +1,19 @@
+/// A verdict on an obligation.
+#[derive(Clone, Copy, Debug, PartialEq, Eq)]
+pub enum Verdict {
+    /// No schedule violates it.
+    Holds,
+    /// A schedule violates it.
+    Fails,
+    /// So many clauses were learned, which is the whole budget, and nothing was found.
+    Spent(u32),
+}
+
+/// How many obligations a file has, and of how many of them each verdict was found.
+#[derive(Clone, Copy, Debug, PartialEq, Eq)]
+pub struct Tally {
+    pub obligations: u32,
+    pub holds: u32,
+    pub fails: u32,
+    pub spent: u32,
+}
