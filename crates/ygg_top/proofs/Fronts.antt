@@ -1,5 +1,6 @@
 -- Fronts of texts, and what a sink takes one thing after another.
 use Rattle.std.proofs.Common.{◌≡◌, ℕ, List, [], ◌∷◌, ◌++◌, Option, Some, None, refl, sym, ap, ◌∙◌, append_assoc}
+use Rattle.std.proofs.lemmas.List.{append-nil}
 use Rattle.ygg_top.specs.Ending.{Adds, IsFront}
 
 pub adds_more : (before middle now : Option (List ℕ)) (text more : List ℕ) → Adds before text middle → Adds middle more now → Adds before (text ++ more) now
@@ -10,7 +11,7 @@ adds_more (Some x) (Some y) now text more a b =
 
 pub adds_none : (before : Option (List ℕ)) → Adds before [] before
 adds_none None = tt
-adds_none (Some x) = ap (λ (z : List ℕ). Some z) (sym (append_nil x))
+adds_none (Some x) = ap (λ (z : List ℕ). Some z) (sym (append-nil x))
 
 pub front_after : (first front text : List ℕ) → IsFront front text → IsFront (first ++ front) (first ++ text)
 front_after first front text f = record { rest = f.rest; is = ap (λ (z : List ℕ). first ++ z) f.is ∙ sym (append_assoc first front f.rest) }

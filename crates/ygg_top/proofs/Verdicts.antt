@@ -1,0 +1,93 @@
+-- From verdicts on a file's obligations to how `verify` ends.
+use Rattle.std.proofs.Common.{◌≡◌, ◌⊎◌, inl, inr, ℕ, Bool, true, false, ◌||◌, if◌then◌else◌, List, [], ◌∷◌, ◌++◌, length, All, map, refl, sym, ap, ◌∙◌, subst}
+use Rattle.std.specs.Prelude.{is_some, Option, Some, None}
+use Rattle.std.proofs.lemmas.List.Elements.{All-nil, All-cons}
+use Rattle.ygg_base.specs.declared.status.Status.{Status}
+use Rattle.ygg_base.specs.declared.status.Status.TheVariants.{Done, Refuted, Refused, Undecided, Fault, NoMemory}
+use Rattle.ygg_syntax.specs.declared.tree.File.{File}
+use Rattle.ygg_syntax.specs.Files.{IsDerived}
+use Rattle.ygg_type_rules.specs.Files.{IsTyped}
+use Rattle.ygg_rules.specs.declared.rule.RuleKind.{RuleKind}
+use Rattle.ygg_histories.specs.Stack.{FileRefines}
+use Rattle.ygg_histories.specs.Claims.{Claim, ClaimHolds, claims_of}
+use Rattle.ygg_histories.specs.Laws.{RefinesByList}
+use Rattle.ygg_type_progress.specs.Laws.{TypedHistories}
+use Rattle.ygg_bank.specs.declared.node.Id.{Id}
+use Rattle.ygg_bank.specs.declared.node.Node.{Node}
+use Rattle.ygg_oblige_terms.specs.Terms.{file_made}
+use Rattle.ygg_top.specs.Verdict.{
+  Verdict,
+  Holds,
+  Fails,
+  Spent,
+  AreTrue,
+  any_failed,
+  any_spent,
+  status_by,
+  text_by,
+  lines_of,
+  last_line,
+  HistoriesAllowed,
+  Verified,
+}
+
+status_at : Bool → Bool → Status
+status_at failed spent = if failed then Refuted else if spent then Undecided else Done
+
+-- a file without a type error that derives, and the laws on files like it
+pub record Proper (f : File) : Type 0 where
+  pub derived : ∥ IsDerived f ∥₁
+  pub typed : IsTyped f
+  pub by_list : RefinesByList
+  pub histories : TypedHistories
+
+nothing_failed : (failed spent : Bool) → (if failed then Refuted else if spent then Undecided else Done) ≡ Done → (failed ≡ false) × (spent ≡ false)
+nothing_failed true spent e = absurd (cc e)
+nothing_failed false true e = absurd (cc e)
+nothing_failed false false e = (refl, refl)
+
+-- where no verdict is that an obligation fails or was spent, all hold
+all_hold : (nodes : List Node) (budget : ℕ) (cs : List Claim) (ts : List Id) (vs : List Verdict) → AreTrue nodes budget cs ts vs → any_failed vs ≡ false →
+    any_spent vs ≡ false → All ClaimHolds cs
+all_hold nodes budget [] [] [] t f s = All-nil ClaimHolds
+all_hold nodes budget (c ∷ cs) (t ∷ ts) (Holds ∷ vs) all f s = All-cons ClaimHolds c cs all.0 (all_hold nodes budget cs ts vs all.1 f s)
+all_hold nodes budget (c ∷ cs) (t ∷ ts) (Fails x ∷ vs) all f s = absurd (cc f)
+all_hold nodes budget (c ∷ cs) (t ∷ ts) (Spent ∷ vs) all f s = absurd (cc s)
+all_hold nodes budget [] [] (v ∷ vs) all f s = absurd all
+all_hold nodes budget [] (t ∷ ts) vs all f s = absurd all
+all_hold nodes budget (c ∷ cs) [] vs all f s = absurd all
+all_hold nodes budget (c ∷ cs) (t ∷ ts) [] all f s = absurd all
+
+module _ (kinds : List RuleKind) (f : File) (budget : ℕ) (p : Proper f) where
+  abbrev nodes : List Node
+  nodes = (file_made kinds f []).nodes
+
+  abbrev terms : List Id
+  terms = (file_made kinds f []).value
+
+  refines : (vs : List Verdict) → AreTrue nodes budget (claims_of f) terms vs → status_by vs ≡ Done → FileRefines f
+  refines vs t d =
+      let e = nothing_failed (any_failed vs) (any_spent vs) d in (p.by_list f).0 (all_hold nodes budget (claims_of f) terms vs t e.0 e.1)
+
+  -- true verdicts say how `verify` ends
+  pub verified : (vs : List Verdict) → AreTrue nodes budget (claims_of f) terms vs → Verified kinds f budget (status_by vs) (text_by budget (claims_of f) vs)
+  verified vs t = record {
+    verdicts = vs;
+    are_true = t;
+    status_is = refl;
+    text_is = refl;
+    refines = refines vs t;
+    allowed = λ d. p.histories f p.derived p.typed (refines vs t d);
+  }
+
+  -- a status and a text that are those of verdicts
+  pub verified_as : (vs : List Verdict) (status : Status) (text : List ℕ) → AreTrue nodes budget (claims_of f) terms vs → status ≡ status_by vs →
+      text ≡ text_by budget (claims_of f) vs → Verified kinds f budget status text
+  verified_as vs status text t s e = record {
+    verdicts = vs;
+    are_true = t;
+    status_is = s;
+    text_is = e;
+    refines = λ d. refines vs t (sym s ∙ d);
+    allowed = λ d. p.histories f p.derived p.typed (refines vs t (sym s ∙ d));
+  }
