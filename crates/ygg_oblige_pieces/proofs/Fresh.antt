@@ -6,10 +6,13 @@ use Rattle.std.proofs.Common.{
   ◌+◌,
   ◌-◌,
   ◌*◌,
-  ◌⊎◌,
   inl,
   inr,
   ℕ,
+  Bool,
+  if◌then◌else◌,
+  slice_get,
+  Some,
   zero,
   suc,
   true,
@@ -24,7 +27,6 @@ use Rattle.std.proofs.Common.{
   subst,
   arith,
 }
-use Rattle.std.specs.Prelude.{if◌then◌else◌}
 use Rattle.std.proofs.lemmas.Bool.{cases_lt, lt-ltb, le-ltb}
 use Rattle.std.proofs.lemmas.List.Elements.{All-head, All-tail}
 use Rattle.ygg_value.specs.Shapes.{IsShape}
@@ -43,7 +45,6 @@ use Rattle.ygg_bank.specs.Nodes.{Extends}
 use Rattle.ygg_bank.specs.Values.{Inputs, Values}
 use Rattle.ygg_bank.specs.declared.node.Node.{Node}
 use Rattle.ygg_bank.specs.declared.node.Node.TheVariants.{Input}
-use Rattle.std.specs.Prelude.{slice_get, Some}
 use Rattle.ygg_shape_cells.proofs.Wider.{shaped_wider}
 use Rattle.ygg_shape.proofs.Freshness.{row_on, rows_on, fresh_grows, fresh_below, fresh_gives, below_as}
 use Rattle.ygg_shape.proofs.Keeps.{each_from_keeps}
@@ -63,7 +64,7 @@ at_wider old new number w g a = record {
   stands = subst (λ ns. slice_get ns a.place ≡ Some (Input number w)) (sym g.is) (in_front old g.more a.place (Input number w) a.stands);
 }
 
-stand_wider : (number : ℕ) (ds : List Declared) (old new : List Node) → Extends old new → InputsStand number ds old → InputsStand number ds new
+pub stand_wider : (number : ℕ) (ds : List Declared) (old new : List Node) → Extends old new → InputsStand number ds old → InputsStand number ds new
 stand_wider number ds old new g h i l = at_wider old new (number + i) (word_width ds i) g (h i l)
 
 module _ (kinds : List RuleKind) where
@@ -84,27 +85,30 @@ module _ (kinds : List RuleKind) where
 
   row_stands : (number w i k j : ℕ) (nodes : List Node) → i ≤ j → j < i + k → InputAt (row_on kinds number w i k nodes).nodes (number + j) w
   row_stands number w i zero j nodes l m = absurd (omega arith)
-  row_stands number w i (suc k) j nodes l m = go (cases_lt i j) (λ r. row_stands number w (i + 1) k j (made kinds (Input (number + i) w) nodes).nodes (omega arith) (omega arith)) where
-    go : (i < j) ⊎ (j ≤ i) → (i < j → InputAt (row_on kinds number w (i + 1) k (made kinds (Input (number + i) w) nodes).nodes).nodes (number + j) w) →
-        InputAt (row_on kinds number w i (suc k) nodes).nodes (number + j) w
-    go (inl r) rest = rest r
-    go (inr r) rest =
-        let e : i ≡ j = omega arith in
-        at_wider (made kinds (Input (number + i) w) nodes).nodes (row_on kinds number w (i + 1) k (made kinds (Input (number + i) w) nodes).nodes).nodes (number + j) w (row_grows number w (i + 1) k (made kinds (Input (number + i) w) nodes).nodes)
-        (subst (λ z. InputAt (made kinds (Input (number + i) w) nodes).nodes (number + z) w) e (one_at (number + i) w nodes))
+  row_stands number w i (suc k) j nodes l m =
+      let o = made kinds (Input (number + i) w) nodes in
+      let rest = row_on kinds number w (i + 1) k o.nodes in
+      elim (cases_lt i j) [
+        | inl r ↦ row_stands number w (i + 1) k j o.nodes (omega arith) (omega arith)
+        | inr r ↦
+            let e : i ≡ j = omega arith in
+            at_wider o.nodes rest.nodes (number + j) w (row_grows number w (i + 1) k o.nodes)
+            (subst (λ z. InputAt o.nodes (number + z) w) e (one_at (number + i) w nodes))
+      ]
 
   rows_stand : (number n w i k j : ℕ) (nodes : List Node) → i * n ≤ j → j < (i + k) * n →
       InputAt (rows_on kinds number n w i k nodes).nodes (number + j) w
   rows_stand number n w i zero j nodes l m = absurd (omega arith)
   rows_stand number n w i (suc k) j nodes l m =
-      go (cases_lt j (i * n + n)) (λ r. rows_stand number n w (i + 1) k j (fresh_row kinds (number + i * n) n w nodes).nodes (omega arith) (omega arith)) where
-        go : (j < i * n + n) ⊎ (i * n + n ≤ j) → (i * n + n ≤ j → InputAt (rows_on kinds number n w (i + 1) k (fresh_row kinds (number + i * n) n w nodes).nodes).nodes (number + j) w) →
-            InputAt (rows_on kinds number n w i (suc k) nodes).nodes (number + j) w
-        go (inr r) rest = rest r
-        go (inl r) rest =
+      let o = fresh_row kinds (number + i * n) n w nodes in
+      let rest = rows_on kinds number n w (i + 1) k o.nodes in
+      elim (cases_lt j (i * n + n)) [
+        | inl r ↦
             let e : number + i * n + (j - i * n) ≡ number + j = omega arith in
-            at_wider (fresh_row kinds (number + i * n) n w nodes).nodes (rows_on kinds number n w (i + 1) k (fresh_row kinds (number + i * n) n w nodes).nodes).nodes (number + j) w (rows_grow number n w (i + 1) k (fresh_row kinds (number + i * n) n w nodes).nodes)
-            (subst (λ z. InputAt (fresh_row kinds (number + i * n) n w nodes).nodes z w) e (row_stands (number + i * n) w 0 n (j - i * n) nodes (omega arith) (omega arith)))
+            at_wider o.nodes rest.nodes (number + j) w (rows_grow number n w (i + 1) k o.nodes)
+            (subst (λ z. InputAt o.nodes z w) e (row_stands (number + i * n) w 0 n (j - i * n) nodes (omega arith) (omega arith)))
+        | inr r ↦ rows_stand number n w (i + 1) k j o.nodes (omega arith) (omega arith)
+      ]
 
   fresh_stands : (number : ℕ) (s : Shape) (nodes : List Node) (i : ℕ) → i < words_of s →
       InputAt (fresh_made kinds number s nodes).nodes (number + i) (width_of s)
@@ -125,17 +129,21 @@ module _ (kinds : List RuleKind) where
 
   pub all_stand : (number : ℕ) (ds : List Declared) (nodes : List Node) → InputsStand number ds (fresh_all kinds number ds nodes).nodes
   all_stand number [] nodes i l = absurd (omega arith)
-  all_stand number (d ∷ ds) nodes i l = go (cases_lt i (words_of (shape_in d.shape))) (all_stand (number + words_of (shape_in d.shape)) ds (fresh_made kinds number (shape_in d.shape) nodes).nodes) where
-    go : (i < words_of (shape_in d.shape)) ⊎ (words_of (shape_in d.shape) ≤ i) → InputsStand (number + words_of (shape_in d.shape)) ds (fresh_all kinds (number + words_of (shape_in d.shape)) ds (fresh_made kinds number (shape_in d.shape) nodes).nodes).nodes → InputAt (fresh_all kinds (number + words_of (shape_in d.shape)) ds (fresh_made kinds number (shape_in d.shape) nodes).nodes).nodes (number + i) (word_width (d ∷ ds) i)
-    go (inl k) more =
-        let e : word_width (d ∷ ds) i ≡ width_of (shape_in d.shape) = ap (λ t. if t then width_of (shape_in d.shape) else word_width ds (i - words_of (shape_in d.shape))) (lt-ltb i (words_of (shape_in d.shape)) k) in
-        subst (λ z. InputAt (fresh_all kinds (number + words_of (shape_in d.shape)) ds (fresh_made kinds number (shape_in d.shape) nodes).nodes).nodes (number + i) z) (sym e)
-        (at_wider (fresh_made kinds number (shape_in d.shape) nodes).nodes (fresh_all kinds (number + words_of (shape_in d.shape)) ds (fresh_made kinds number (shape_in d.shape) nodes).nodes).nodes (number + i) (width_of (shape_in d.shape)) (all_grows (number + words_of (shape_in d.shape)) ds (fresh_made kinds number (shape_in d.shape) nodes).nodes) (fresh_stands number (shape_in d.shape) nodes i k))
-    go (inr k) more =
-        let e : word_width (d ∷ ds) i ≡ word_width ds (i - words_of (shape_in d.shape)) = ap (λ t. if t then width_of (shape_in d.shape) else word_width ds (i - words_of (shape_in d.shape))) (le-ltb i (words_of (shape_in d.shape)) k) in
-        let f : number + words_of (shape_in d.shape) + (i - words_of (shape_in d.shape)) ≡ number + i = omega arith in
-        subst (λ z. InputAt (fresh_all kinds (number + words_of (shape_in d.shape)) ds (fresh_made kinds number (shape_in d.shape) nodes).nodes).nodes (number + i) z) (sym e)
-        (subst (λ z. InputAt (fresh_all kinds (number + words_of (shape_in d.shape)) ds (fresh_made kinds number (shape_in d.shape) nodes).nodes).nodes z (word_width ds (i - words_of (shape_in d.shape)))) f (more (i - words_of (shape_in d.shape)) (omega arith)))
+  all_stand number (d ∷ ds) nodes i l =
+      let s = shape_in d.shape in
+      let n = words_of s in
+      let o = fresh_made kinds number s nodes in
+      let rest = fresh_all kinds (number + n) ds o.nodes in
+      let wide : Bool → ℕ = λ t. if t then width_of s else word_width ds (i - n) in
+      elim (cases_lt i n) [
+        | inl k ↦
+            subst (λ z. InputAt rest.nodes (number + i) z) (sym (ap wide (lt-ltb i n k)))
+            (at_wider o.nodes rest.nodes (number + i) (width_of s) (all_grows (number + n) ds o.nodes) (fresh_stands number s nodes i k))
+        | inr k ↦
+            let e : number + n + (i - n) ≡ number + i = omega arith in
+            subst (λ z. InputAt rest.nodes (number + i) z) (sym (ap wide (le-ltb i n k)))
+            (subst (λ z. InputAt rest.nodes z (word_width ds (i - n))) e (all_stand (number + n) ds o.nodes (i - n) (omega arith)))
+      ]
 
   pub all_below : (number : ℕ) (ds : List Declared) (nodes : List Node) → InputsBelow number nodes →
       InputsBelow (number + words_in ds) (fresh_all kinds number ds nodes).nodes

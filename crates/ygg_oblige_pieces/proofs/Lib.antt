@@ -1,3 +1,11 @@
 pub mod Glued
 pub mod Digits
 pub mod Fresh
+pub mod Truth
+pub mod Compares
+pub mod Truths
+pub mod Starting
+pub mod Placed
+pub mod AnyPicks
+pub mod Outcomes
+pub mod Steps

@@ -1,16 +1,17 @@
 -- What the states that obligations begin with are worth, and the tests of states.
-use Rattle.std.specs.Prelude.{◌≡◌, ◌+◌, ℕ, true, IsTrue, List, map, All, Option}
+use Rattle.std.specs.Prelude.{◌≡◌, ◌+◌, ℕ, true, IsTrue, List, map, option_map, All, Option}
 use Rattle.ygg_syntax.specs.declared.tree.Declared.{Declared}
 use Rattle.ygg_syntax.specs.declared.tree.Def.{Def}
 use Rattle.ygg_syntax.specs.declared.tree.Expr.{Expr}
 use Rattle.ygg_syntax.specs.declared.tree.Operation.{Operation}
 use Rattle.ygg_type_rules.specs.Layers.{operation_signature}
+use Rattle.ygg_type_rules.specs.Shapes.{answer_shape}
 use Rattle.ygg_meaning.specs.Environments.{Env, same_env}
 use Rattle.ygg_meaning.specs.Meaning.{value_with, is_one}
 use Rattle.ygg_meaning.specs.Layer.{ClosedLayer}
 use Rattle.ygg_meaning.specs.Refines.{Below}
 use Rattle.ygg_meaning.specs.Related.{shaped, all_true, relates, settles, related, settled}
-use Rattle.ygg_meaning.specs.Shapes.{env_fits, zeros_of}
+use Rattle.ygg_meaning.specs.Shapes.{shape_in, env_fits, zeros_of}
 use Rattle.ygg_meaning.specs.Violates.{same_answer}
 use Rattle.ygg_type_progress.specs.Questions.{gives}
 use Rattle.ygg_rules.specs.declared.rule.RuleKind.{RuleKind}
@@ -46,10 +47,15 @@ pub record ComparingMeans (kinds : List RuleKind) : Type 0 where
   pub same : (inputs : Inputs) (v : Values) (ds : List Declared) (xs ys : List SymValue) (nodes : List Node) → LowShaped nodes ds xs → LowShaped nodes ds ys →
       Gives inputs v (all_compared kinds xs ys) nodes (IsTruth v (same_env (low_worth v ds xs) (low_worth v ds ys)))
   pub same_add : (xs ys : List SymValue) → AddsNoInputs (all_compared kinds xs ys)
-  pub answers : (inputs : Inputs) (v : Values) (o : Operation) (y z : Option SymValue) (nodes : List Node) → AnswerShaped nodes y → AnswerShaped nodes z →
+  pub answers : (inputs : Inputs) (v : Values) (o : Operation) (y z : Option SymValue) (nodes : List Node) →
+      answer_shape o.answer ≡ option_map shape_in o.answer → AnswerShaped nodes y → AnswerShaped nodes z →
       IsTrue (gives (operation_signature o) (answer_worth v y)) → IsTrue (gives (operation_signature o) (answer_worth v z)) →
       Gives inputs v (answers_compared kinds y z) nodes (IsTruth v (same_answer (answer_worth v y) (answer_worth v z)))
   pub answers_add : (y z : Option SymValue) → AddsNoInputs (answers_compared kinds y z)
+
+-- so it is for each book
+abbrev pub ComparingMeansSo : Type 0
+ComparingMeansSo = (kinds : List RuleKind) → ComparingMeans kinds
 
 -- a term that is 1 just where the layer's relation holds of this
 pub record RelatedIs (v : Values) (L : ClosedLayer) (s : Stand) (nodes : List Node) (a : Id) : Type 0 where

@@ -7,6 +7,7 @@ use Rattle.std.proofs.Common.{
   ◌&&◌,
   not,
   if◌then◌else◌,
+  option_map,
   List,
   [],
   ◌∷◌,
@@ -101,6 +102,11 @@ use Rattle.ygg_oblige_typed.proofs.Formulas.{IsBelow, layer_formulas}
 
 abbrev IsKept : Declared → Type 0
 IsKept d = IsShape (shape_in d.shape)
+
+-- the answer's type of an operation without a type error has a shape
+answer_is : (t : Option TypeText) → none (answer_type_errors t) ≡ true → answer_shape t ≡ option_map shape_in t
+answer_is None h = refl
+answer_is (Some t) h = (type_is t h).is
 
 -- declared shapes without type errors keep the limits
 shapes_kept : (ds : List Declared) → AllTyped ds → All IsKept ds
@@ -298,6 +304,7 @@ module _ (defs : List Def) (below : Below) (weights : Weights) (l : Layer) (low 
         let kept = operation_kept o k in
         record {
           shapes = arguments_kept o.arguments whole f.arguments;
+          answer_shaped = answer_is o.answer (first_of (none (answer_type_errors o.answer)) (none (operation_blocks_errors o weights inner)) c);
           implementation = implementation_typed o.arguments f.arguments o.implementation (answer_shape o.answer) fine kept.implementation;
           answers = λ a h. answer_given o.answer o.implementation.answer a kept.implementation_answers h;
           spec = operation_typed o f;

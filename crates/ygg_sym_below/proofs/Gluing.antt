@@ -1,5 +1,32 @@
 -- A specification with picks by place in its blocks is the specification's function of picks with other picks.
-use Rattle.std.proofs.Common.{◌≡◌, ◌+◌, ◌-◌, ◌≤◌, ◌<◌, ℕ, zero, suc, Bool, true, false, if◌then◌else◌, List, [], ◌∷◌, ◌++◌, map, length, Option, Some, None, refl, sym, ap, ◌∙◌, arith}
+use Rattle.std.proofs.Common.{
+  ◌≡◌,
+  ◌+◌,
+  ◌-◌,
+  ◌≤◌,
+  ◌<◌,
+  ℕ,
+  zero,
+  suc,
+  Bool,
+  true,
+  false,
+  if◌then◌else◌,
+  List,
+  [],
+  ◌∷◌,
+  ◌++◌,
+  map,
+  length,
+  Option,
+  Some,
+  None,
+  refl,
+  sym,
+  ap,
+  ◌∙◌,
+  arith,
+}
 use Rattle.std.specs.Prelude.{nat_lt}
 use Rattle.std.proofs.lemmas.Bool.Decides.{nat_tests}
 use Rattle.ygg_value.specs.declared.row.Value.{Value}

@@ -28,11 +28,11 @@ use Rattle.ygg_sym_expr.specs.Names.{sym_bind}
 use Rattle.ygg_sym_expr.specs.Meaning.{worths}
 use Rattle.ygg_sym_below.specs.Lows.{low_worth}
 use Rattle.ygg_sym_below.specs.Laws.{IsTypedOver}
+use Rattle.ygg_sym_below.proofs.Blocks.{values_worth}
 use Rattle.ygg_sym_below.proofs.Lows.{low_fits}
 use Rattle.ygg_sym_below.proofs.Specs.{bound_worth}
 use Rattle.ygg_sym_laws.specs.Typed.{BlockTyped}
 use Rattle.ygg_sym_laws.specs.Means.{Values3, Begins, AreWorth}
-use Rattle.ygg_sym_laws.proofs.Begun.{values_do}
 
 -- a layer on a disk
 abbrev pub on_disk : DiskText → Functions → Layer → ClosedLayer
@@ -69,8 +69,8 @@ module _ (kinds : List RuleKind) (defs : List Def) (d : DiskText) (functions : F
   pub begun : (inputs : Inputs) (v : Values) (x : Values3) (nodes : List Node) → Begins kinds defs (OnDisk d) L b vars args nodes x → Fits inputs v nodes →
       Begun inputs v x
   begun inputs v x nodes begins h =
-      let given = values_do inputs v nodes args x.args h begins.args_are in
-      let good = t.agrees (map (worth v) x.vars) (map (worth v) x.args) (values_do inputs v nodes vars x.vars h begins.vars_are) given in
+      let given = values_worth inputs v nodes args x.args h begins.args_are in
+      let good = t.agrees (map (worth v) x.vars) (map (worth v) x.args) (values_worth inputs v nodes vars x.vars h begins.vars_are) given in
       let bound : low_worth v vars x.vars ++ low_worth v args x.args ≡ worths v (sym_bind vars x.vars) ++ worths v (sym_bind args x.args) =
       ap (λ e. e ++ low_worth v args x.args) (sym (bound_worth inputs v kinds vars x.vars))
       ∙ ap (λ e. worths v (sym_bind vars x.vars) ++ e) (sym (bound_worth inputs v kinds args x.args)) in

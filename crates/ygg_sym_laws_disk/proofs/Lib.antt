@@ -1,5 +1,5 @@
-mod Begun
-mod Whole
-mod Falls
-mod Loss
-mod Start
+pub mod Begun
+pub mod Whole
+pub mod Falls
+pub mod Loss
+pub mod Start

@@ -111,7 +111,8 @@ module _ (kinds : List RuleKind) (defs : List Def) (sound : none (definitions_er
         let sa = sym_bind args x.args in
         let s = here in
         let machine = spec_at m bits in
-        let w = whole_gives inputs v kinds (names kinds defs) functions (terms kinds defs) (grow kinds defs) (mean_in kinds defs sound m spec inputs v functions same)
+        let mean = mean_in kinds defs sound m spec inputs v functions same in
+        let w = whole_gives inputs v kinds (names kinds defs) functions (terms kinds defs) (grow kinds defs) mean
         (low kinds defs sound m spec) Impl (operations kinds defs sound m spec) (machine_from kinds defs sound m spec first) machine
         (laws kinds defs sound m spec inputs v first) b typed.shape typed.scope sv sa x.low nodes s.inside typed.without_errors typed.kept s.shaped
         begins.low_are h in

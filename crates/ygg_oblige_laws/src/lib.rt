@@ -1,0 +1,4 @@
+//! What the terms of a file's obligations mean.
+#![tactic(auto)]
+
+pub mod law;
