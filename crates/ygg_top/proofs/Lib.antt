@@ -5,4 +5,5 @@ mod Fronts
 mod Judging
 mod Verdicts
 mod Reporting
+mod Ends
 mod Budgets

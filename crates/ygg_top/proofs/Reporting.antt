@@ -38,10 +38,12 @@ use Rattle.std.specs.Prelude.{slice_get, option_map, is_some, get_or}
 use Rattle.std.proofs.lemmas.List.{length-map, length-append, append-nil}
 use Rattle.ygg_base.specs.declared.status.Status.{Status}
 use Rattle.ygg_base.specs.declared.status.Status.TheVariants.{Done, Refuted, Refused, Undecided, Fault, NoMemory}
+use Rattle.ygg_base.specs.Outside.{Rose}
 use Rattle.ygg_syntax.specs.declared.tree.File.{File}
 use Rattle.ygg_rules.specs.declared.rule.RuleKind.{RuleKind}
 use Rattle.ygg_histories.specs.Claims.{Claim, claims_of}
-use Rattle.ygg_bank.specs.Nodes.{IsBank}
+use Rattle.std.proofs.lemmas.List.Elements.{All-nil, All-cons}
+use Rattle.ygg_bank.specs.Nodes.{IsBank, HasWidth}
 use Rattle.ygg_bank.specs.declared.node.Id.{Id}
 use Rattle.ygg_bank.specs.declared.node.Node.{Node}
 use Rattle.ygg_oblige_terms.specs.Terms.{file_made}
@@ -63,6 +65,8 @@ use Rattle.ygg_top.specs.Findings.{
   any_of,
   first_failed,
   name_at,
+  AreDigits,
+  IsAmong,
   IsUnreported,
   IsReported,
   IsStopped,
@@ -86,17 +90,118 @@ found_more nodes budget (o ∷ all) [] next v f e g =
 found_more nodes budget [] (w ∷ vs) next v f e g = absurd f
 found_more nodes budget (o ∷ all) (w ∷ vs) next v f e g = (f.0, found_more nodes budget all vs next v f.1 e g)
 
--- and so is its line
+-- nothing found gives no lines
+pub no_lines : (names : List (List ℕ)) → found_lines names [] ≡ []
+no_lines [] = refl
+no_lines (name ∷ names) = refl
+
+-- one more that is found gives one line more
 pub lines_more : (all : List Obligation) (vs : List report.Verdict) (next : Obligation) (v : report.Verdict) → slice_get all (length vs) ≡ Some next →
     found_lines (names_in all) (vs ++ v ∷ []) ≡ found_lines (names_in all) vs ++ verdict_line v next.name
 lines_more [] [] next v e = absurd (cc)
 lines_more (o ∷ all) [] next v e =
     let same : next ≡ o = cc in
-    append-nil (verdict_line v o.name) ∙ ap (λ (x : Obligation). verdict_line v x.name) (sym same)
+    ap (λ (ls : List ℕ). verdict_line v o.name ++ ls) (no_lines (names_in all)) ∙ append-nil (verdict_line v o.name)
+    ∙ ap (λ (x : Obligation). verdict_line v x.name) (sym same)
 lines_more [] (w ∷ vs) next v e = absurd (cc)
 lines_more (o ∷ all) (w ∷ vs) next v e =
     ap (λ (ls : List ℕ). verdict_line w o.name ++ ls) (lines_more all vs next v e)
     ∙ sym (append_assoc (verdict_line w o.name) (found_lines (names_in all) vs) (verdict_line v next.name))
+
+mapped : (o : Option ℕ) (b : Bool) (n : ℕ) →
+    option_map suc (if is_none o && b then Some n else o) ≡ (if is_none (option_map suc o) && b then Some (suc n) else option_map suc o)
+mapped None true n = refl
+mapped None false n = refl
+mapped (Some k) b n = refl
+
+or_none : (b : Bool) → (b || false) ≡ b
+or_none true = refl
+or_none false = refl
+
+or_assoc : (a b c : Bool) → (a || (b || c)) ≡ ((a || b) || c)
+or_assoc true b c = refl
+or_assoc false b c = refl
+
+-- which is the first that fails, with one more
+first_more : (vs : List report.Verdict) (v : report.Verdict) →
+    first_failed (vs ++ v ∷ []) ≡ (if is_none (first_failed vs) && finds_failed v then Some (length vs) else first_failed vs)
+first_more [] reports.Fails = refl
+first_more [] reports.Holds = refl
+first_more [] (reports.Spent count) = refl
+first_more (reports.Fails ∷ vs) v = refl
+first_more (reports.Holds ∷ vs) v = ap (option_map suc) (first_more vs v) ∙ mapped (first_failed vs) (finds_failed v) (length vs)
+first_more (reports.Spent count ∷ vs) v = ap (option_map suc) (first_more vs v) ∙ mapped (first_failed vs) (finds_failed v) (length vs)
+
+spent_more : (vs : List report.Verdict) (v : report.Verdict) → any_of finds_spent (vs ++ v ∷ []) ≡ (any_of finds_spent vs || finds_spent v)
+spent_more [] v = or_none (finds_spent v)
+spent_more (w ∷ vs) v = ap (λ b. finds_spent w || b) (spent_more vs v) ∙ or_assoc (finds_spent w) (any_of finds_spent vs) (finds_spent v)
+
+-- nothing is reported yet
+pub none_reported : (nodes : List Node) (budget : ℕ) (all : List Obligation) (before : Option (List ℕ)) (tally : Tally) → tally.refuted ≡ None →
+    tally.spent ≡ false → IsReported nodes budget all before before 0 tally
+none_reported nodes budget all before tally r s = record { found = []; counted = refl; are = tt; put = subst (λ (ls : List ℕ). Adds before ls before) (sym (no_lines (names_in all))) (adds_none before); failed = r; spent = s }
+
+-- one more obligation is reported
+pub one_reported : (nodes : List Node) (budget : ℕ) (all : List Obligation) (before middle now : Option (List ℕ)) (count : ℕ) (tally more : Tally)
+    (next : Obligation) (v : report.Verdict) → IsReported nodes budget all before middle count tally → slice_get all count ≡ Some next →
+    IsFound nodes next.term budget v → Adds middle (verdict_line v next.name) now →
+    more.refuted ≡ (if is_none tally.refuted && finds_failed v then Some count else tally.refuted) → more.spent ≡ (tally.spent || finds_spent v) →
+    IsReported nodes budget all before now (count + 1) more
+one_reported nodes budget all before middle now count tally more next v r at found put refuted spent =
+    let there : slice_get all (length r.found) ≡ Some next = ap (slice_get all) r.counted ∙ at in
+    let text = found_lines (names_in all) r.found in
+    let line = verdict_line v next.name in
+    let longer : length (r.found ++ v ∷ []) ≡ count + 1 =
+    length-append r.found (v ∷ []) ∙ (let e = r.counted in omega (arith, e)) in
+    record {
+      found = r.found ++ v ∷ [];
+      counted = longer;
+      are = found_more nodes budget all r.found next v r.are there found;
+      put = subst (λ (ls : List ℕ). Adds before ls now) (sym (lines_more all r.found next v there)) (adds_more before middle now text line r.put put);
+      failed =
+          refuted ∙ ap (λ (o : Option ℕ). if is_none o && finds_failed v then Some count else o) r.failed
+          ∙ ap (λ n. if is_none (first_failed r.found) && finds_failed v then Some n else first_failed r.found) (sym r.counted)
+          ∙ sym (first_more r.found v);
+      spent = spent ∙ ap (λ b. b || finds_spent v) r.spent ∙ sym (spent_more r.found v);
+    }
+
+later_among : (n : ℕ) (o : Option ℕ) → IsAmong n o → IsAmong (suc n) (option_map suc o)
+later_among n None h = tt
+later_among n (Some k) h = omega (arith, h)
+
+-- the first that was found to fail is among those that were found
+first_among : (vs : List report.Verdict) → IsAmong (length vs) (first_failed vs)
+first_among [] = tt
+first_among (reports.Fails ∷ vs) = omega arith
+first_among (reports.Holds ∷ vs) = later_among (length vs) (first_failed vs) (first_among vs)
+first_among (reports.Spent count ∷ vs) = later_among (length vs) (first_failed vs) (first_among vs)
+
+pub among : (nodes : List Node) (budget : ℕ) (all : List Obligation) (before now : Option (List ℕ)) (count : ℕ) (tally : Tally) →
+    IsReported nodes budget all before now count tally → IsAmong count tally.refuted
+among nodes budget all before now count tally r =
+    subst (λ (o : Option ℕ). IsAmong count o) (sym r.failed) (subst (λ n. IsAmong n (first_failed r.found)) r.counted (first_among r.found))
+
+-- the terms of obligations are single digits
+pub digits_of : (nodes : List Node) (cs : List Claim) (all : List Obligation) → AreTermsOf nodes cs (terms_in all) → AreDigits nodes all
+digits_of nodes [] [] t = All-nil (λ (o : Obligation). HasWidth nodes o.term 1)
+digits_of nodes [] (o ∷ all) t = absurd t
+digits_of nodes (c ∷ cs) [] t = absurd t
+digits_of nodes (c ∷ cs) (o ∷ all) t = All-cons (λ (o : Obligation). HasWidth nodes o.term 1) o all t.0.wide (digits_of nodes cs all t.1)
+
+-- a count that rose since later rose since before
+rose_since : (a b c : ℕ) → a ≤ b → Rose b c → Rose a c
+rose_since a b c l r = omega (arith, l, r)
+
+-- an obligation that was not reported, seen from before
+pub unreported_since : (nodes other : List Node) (term : Id) (name : List ℕ) (budget : ℕ) (middle now : Option (List ℕ)) (a b c : ℕ) (ended : Status) →
+    other ≡ nodes → a ≤ b → IsUnreported other term name budget middle now (Rose b c) ended → IsUnreported nodes term name budget middle now (Rose a c) ended
+unreported_since nodes other term name budget middle now a b c NoMemory same l u = u
+unreported_since nodes other term name budget middle now a b c Fault same l u =
+    (rose_since a b c l u.0, u.1, subst (λ (ns : List Node). IsFound ns term budget u.1) same u.2, u.3, u.4, u.5)
+unreported_since nodes other term name budget middle now a b c Done same l u = absurd u
+unreported_since nodes other term name budget middle now a b c Refuted same l u = absurd u
+unreported_since nodes other term name budget middle now a b c Refused same l u = absurd u
+unreported_since nodes other term name budget middle now a b c Undecided same l u = absurd u
 
 module _ (kinds : List RuleKind) (f : File) (budget : ℕ) (p : Proper f) (bank : IsBank (file_made kinds f []).nodes) (all : List Obligation)
     (terms_are : terms_in all ≡ (file_made kinds f []).value) (names_are : names_in all ≡ names_of (claims_of f))
@@ -255,3 +360,16 @@ module _ (kinds : List RuleKind) (f : File) (budget : ℕ) (p : Proper f) (bank 
       Streams kinds f budget before now SinkRose ended
   concluded before now SinkRose ended (inl s) = finished before now SinkRose ended s
   concluded before now SinkRose ended (inr s) = stopped before now SinkRose ended s
+
+-- the same over nodes and obligations that are those of the file
+pub concluded_in : (kinds : List RuleKind) (f : File) (budget : ℕ) (p : Proper f) (nodes : List Node) (made all : List Obligation) →
+    nodes ≡ (file_made kinds f []).nodes → IsBank nodes → all ≡ made → terms_in made ≡ (file_made kinds f []).value →
+    names_in made ≡ names_of (claims_of f) → AreTermsOf nodes (claims_of f) (terms_in made) → (before now : Option (List ℕ)) (SinkRose : Type 0)
+    (ended : Status) → IsConcluded nodes budget all before now SinkRose ended → Streams kinds f budget before now SinkRose ended
+concluded_in kinds f budget p nodes made all same bank is terms names mean before now SinkRose ended told =
+    let term_is : terms_in all ≡ (file_made kinds f []).value = ap terms_in is ∙ terms in
+    let name_is : names_in all ≡ names_of (claims_of f) = ap names_in is ∙ names in
+    let mean_all = subst (λ (os : List Obligation). AreTermsOf nodes (claims_of f) (terms_in os)) (sym is) mean in
+    concluded kinds f budget p (subst IsBank same bank) all term_is name_is
+    (subst (λ (ns : List Node). AreTermsOf ns (claims_of f) (terms_in all)) same mean_all) before now SinkRose ended
+    (subst (λ (ns : List Node). IsConcluded ns budget all before now SinkRose ended) same told)

@@ -68,7 +68,10 @@ fn report_all<B: Book, K: Sink>(
     };
     let mut place = 0;
     for o in all {
-        let verdict = report(alloc, bank, rules, o, budget, sink)?;
+        let verdict = match report(alloc, bank, rules, o, budget, sink) {
+            Ok(verdict) => verdict,
+            Err(status) => return Err(status),
+        };
         tally = counted(tally, verdict, place);
         place += 1;
     }
