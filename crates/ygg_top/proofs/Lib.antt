@@ -1,6 +1,9 @@
 mod Canonical
 mod Found
 mod Printing
-mod Refused
+mod Fronts
+mod Judging
 mod Verdicts
+mod Reporting
+mod Ends
 mod Budgets

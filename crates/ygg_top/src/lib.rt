@@ -4,8 +4,8 @@
 mod answer;
 mod command;
 mod file;
+mod finding;
 mod help;
-mod line;
 mod verdict;
 mod words;
 
