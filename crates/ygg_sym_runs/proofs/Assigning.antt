@@ -1,10 +1,9 @@
 -- What lets an assignment be run over terms.
-use Rattle.std.proofs.Common.{◌≡◌, ℕ, zero, suc, Bool, true, false, ◌&&◌, if◌then◌else◌, List, [], ◌∷◌, map, length, All, Option, Some, None, refl, sym, ap, ◌∙◌, subst}
+use Rattle.std.proofs.Common.{◌≡◌, ℕ, suc, Bool, true, false, ◌&&◌, if◌then◌else◌, List, [], ◌∷◌, map, length, All, Some, refl, sym, ap, ◌∙◌, subst}
 use Rattle.std.proofs.lemmas.List.Elements.{All-head, All-tail, All-cons, All-nil}
 use Rattle.std.specs.Str.{bytes_eq}
 use Rattle.ygg_value.specs.Shapes.{shape_of}
 use Rattle.ygg_value.specs.declared.row.Value.{Value}
-use Rattle.ygg_value.specs.declared.shape.Shape.{Shape}
 use Rattle.ygg_syntax.specs.declared.tree.Def.{Def}
 use Rattle.ygg_syntax.specs.declared.tree.Index.{Index}
 use Rattle.ygg_syntax.specs.declared.tree.Name as tree_name
@@ -23,8 +22,8 @@ use Rattle.ygg_meaning.specs.Progress.{values_of}
 use Rattle.ygg_rules.specs.declared.rule.RuleKind.{RuleKind}
 use Rattle.ygg_bank.proofs.Meaning.{fits_fewer}
 use Rattle.ygg_bank.proofs.Widths.{stands, extends_both}
-use Rattle.ygg_bank.specs.Nodes.{IsBank, Extends, Stands}
-use Rattle.ygg_bank.specs.Values.{Inputs, Values, Fits}
+use Rattle.ygg_bank.specs.Nodes.{IsBank, Stands}
+use Rattle.ygg_bank.specs.Values.{Inputs, Values}
 use Rattle.ygg_bank.specs.declared.node.Id.{Id}
 use Rattle.ygg_bank.specs.declared.node.Node.{Node}
 use Rattle.ygg_shape_cells.specs.Terms.{IsShaped, worth}

@@ -1,5 +1,5 @@
 -- Parts of a run one after another: what is left to be run, and the places that it has.
-use Rattle.std.proofs.Common.{◌≡◌, ◌<◌, ◌≤◌, ℕ, zero, suc, ◌+◌, ◌-◌, ◌*◌, List, [], ◌∷◌, ◌++◌, map, length, take, drop, get_or, refl, sym, ap, ◌∙◌, subst, arith}
+use Rattle.std.proofs.Common.{◌≡◌, ◌<◌, ◌≤◌, ℕ, suc, ◌+◌, ◌-◌, ◌*◌, List, [], ◌∷◌, ◌++◌, map, length, take, drop, get_or, sym, ap, ◌∙◌, subst, arith}
 use Rattle.std.proofs.lemmas.List.{drop_more, drop_all, length-map, take-map}
 use Rattle.ygg_syntax.specs.declared.tree.Block.{Block}
 use Rattle.ygg_syntax.specs.declared.tree.Def.{Def}

@@ -1,5 +1,5 @@
 -- What lets the next part of a run be run.
-use Rattle.std.proofs.Common.{◌≡◌, ◌<◌, ◌+◌, ℕ, List, [], ◌∷◌, None, length, drop, get_or, sym, subst, true}
+use Rattle.std.proofs.Common.{◌≡◌, ◌<◌, ◌+◌, ℕ, List, [], None, length, drop, get_or, sym, subst}
 use Rattle.ygg_syntax.specs.declared.tree.Block.{Block}
 use Rattle.ygg_syntax.specs.declared.tree.Def.{Def}
 use Rattle.ygg_syntax.specs.declared.tree.Expr.{Expr}
@@ -7,7 +7,6 @@ use Rattle.ygg_syntax.specs.declared.tree.Stmt.{Stmt}
 use Rattle.ygg_syntax.specs.declared.tree.Stmt.TheVariants as tree
 use Rattle.ygg_type_rules.specs.Statements.{block_errors}
 use Rattle.ygg_type_progress.specs.Kinds.{keeps}
-use Rattle.ygg_rules.specs.declared.rule.RuleKind.{RuleKind}
 use Rattle.ygg_bank.proofs.Widths.{extends_both}
 use Rattle.ygg_bank.specs.Nodes.{Extends}
 use Rattle.ygg_bank.specs.declared.node.Node.{Node}
@@ -21,15 +20,16 @@ use Rattle.ygg_sym_runs.proofs.Walking.{do_later, first_runs}
 use Rattle.ygg_sym_runs.proofs.Zeros.{single_both}
 
 -- the next statement
-pub next_can : {S : Type 0} (M : SymMeaning S) (law : IsLower M) (defs : List Def) (all : List Stmt) (i : ℕ) (t d : Stmt) (nodes : List Node) (env : SymEnv) (s : S) →
+pub next_can : {S : Type 0} (M : SymMeaning S) (law : IsLower M) (defs : List Def) (all : List Stmt) (i : ℕ) (t d : Stmt) (nodes : List Node)
+    (env : SymEnv) (s : S) →
     i < length all → t ≡ get_or all i d → CanRun M defs (drop i all) nodes env s → CanStep M defs t nodes env s
 next_can M law defs all i t d nodes env s less is can =
     first_runs M law [] defs t (drop (i + 1) all) nodes env s
     (subst (λ (ss : List Stmt). CanRun M defs ss nodes env s) (rest_is all i t d less is) can)
 
 -- the first side of an `if`
-pub first_can : {S : Type 0} (M : SymMeaning S) (law : IsLower M) (defs : List Def) (t : Stmt) (test : Expr) (first second : Block) (old new : List Node) (env : SymEnv)
-    (s : S) → t ≡ tree.If test first second → CanStep M defs t old env s → Extends old new → KeepsSingle old new → CanEnter M defs first new env s
+pub first_can : {S : Type 0} (M : SymMeaning S) (law : IsLower M) (defs : List Def) (t : Stmt) (test : Expr) (first second : Block)
+    (old new : List Node) (env : SymEnv) (s : S) → t ≡ tree.If test first second → CanStep M defs t old env s → Extends old new → KeepsSingle old new → CanEnter M defs first new env s
 first_can M law defs t test first second old new env s is can g k =
     do_later M law [] defs (block_errors first None) (λ kind. keeps kind first) old new env s g k
     (choose_first M law [] defs test first second old env s (step_if M law [] defs t test first second old env s is can))

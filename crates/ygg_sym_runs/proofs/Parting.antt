@@ -1,5 +1,5 @@
 -- Statements over terms end as they are defined to.
-use Rattle.std.proofs.Common.{◌≡◌, ℕ, ◌+◌, List, [], ◌∷◌, ◌++◌, map, refl, sym, ap, ◌∙◌, subst, arith}
+use Rattle.std.proofs.Common.{◌≡◌, ℕ, ◌+◌, List, [], ◌∷◌, ◌++◌, map, refl, ap, ◌∙◌, subst, arith}
 use Rattle.ygg_syntax.specs.declared.tree.Expr.{Expr}
 use Rattle.ygg_syntax.specs.declared.tree.Index.{Index}
 use Rattle.ygg_syntax.specs.declared.tree.Name as tree
@@ -7,7 +7,7 @@ use Rattle.ygg_syntax.specs.declared.tree.Source.{Source}
 use Rattle.ygg_syntax.specs.declared.tree.Stmt.TheOpen.{Stmt-F}
 use Rattle.ygg_meaning.specs.Environments.{Name}
 use Rattle.ygg_rules.specs.declared.rule.RuleKind.{RuleKind}
-use Rattle.ygg_bank.specs.Makes.{Make, Out}
+use Rattle.ygg_bank.specs.Makes.{Out}
 use Rattle.ygg_bank.specs.declared.node.Id.{Id}
 use Rattle.ygg_bank.specs.declared.node.Node.{Node}
 use Rattle.ygg_shape_cells.specs.declared.terms.SymValue.{SymValue}
@@ -95,7 +95,7 @@ module _ {S : Type 0} (kinds : List RuleKind) (terms : SymFunctions) (N : SymMac
       let env2_is : env2 ≡ b.value.env = second.names ∙ ap (λ (o : Out (SymState S)). o.value.env) qb in
       let s2_is : s2 ≡ b.value.to = second.state ∙ ap (λ (o : Out (SymState S)). o.value.to) qb in
       let W : Id → SymEnv → S → SymEnv → S → List Node → Out (SymState S) =
-          λ t e1 z1 e2 z2 ns. merge_state kinds terms N t (state e1 z1) (state e2 z2) ns in
+      λ t e1 z1 e2 z2 ns. merge_state kinds terms N t (state e1 z1) (state e2 z2) ns in
       let same : W t env1 s1 env2 s2 n2 ≡ W (id_in x.value) a.value.env a.value.to b.value.env b.value.to b.nodes =
       ap (λ (c : Id). W c env1 s1 env2 s2 n2) (g ∙ ap id_in f) ∙ ap (λ (c : SymEnv). W (id_in x.value) c s1 env2 s2 n2) p.names
       ∙ ap (λ (c : S). W (id_in x.value) a.value.env c env2 s2 n2) p.state

@@ -1,8 +1,7 @@
 -- The two sides of an `if` over terms, and what lets their ends be merged.
-use Rattle.std.proofs.Common.{◌≡◌, ℕ, suc, Bool, true, false, ◌&&◌, Result, IfOk, List, [], ◌∷◌, map, length, All, Some, None, refl, sym, ap, ◌∙◌, subst, arith}
+use Rattle.std.proofs.Common.{◌≡◌, ℕ, Bool, true, false, ◌&&◌, Result, IfOk, List, [], ◌∷◌, length, All, Some, None, sym, ap, ◌∙◌, subst, arith}
 use Rattle.std.proofs.lemmas.List.{length-map}
 use Rattle.std.proofs.lemmas.List.Elements.{All-head, All-tail}
-use Rattle.ygg_value.specs.Shapes.{shape_of}
 use Rattle.ygg_value.specs.Values.{word_in}
 use Rattle.ygg_value.specs.declared.shape.Shape.TheVariants as shape
 use Rattle.ygg_syntax.specs.declared.tree.Block.{Block}

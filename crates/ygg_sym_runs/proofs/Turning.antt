@@ -1,5 +1,5 @@
 -- What lets the block of a loop be run over terms, for one number after another.
-use Rattle.std.proofs.Common.{◌≡◌, ℕ, ◌<◌, ◌≤◌, ◌^◌, ◌+◌, true, false, List, [], ◌∷◌, ◌++◌, take, length, None, refl, sym, ap, ◌∙◌, subst, arith}
+use Rattle.std.proofs.Common.{◌≡◌, ℕ, ◌<◌, ◌^◌, false, List, [], ◌∷◌, ◌++◌, take, length, None, refl, sym, ap, ◌∙◌, subst, arith}
 use Rattle.std.proofs.lemmas.List.{length-map, take-map}
 use Rattle.ygg_value.specs.Number.{IsWord}
 use Rattle.ygg_value.specs.Words.{word}
@@ -11,7 +11,7 @@ use Rattle.ygg_syntax.specs.declared.tree.Name as tree_name
 use Rattle.ygg_syntax.specs.declared.tree.Numeral.{Numeral}
 use Rattle.ygg_type_rules.specs.Shapes.{word_shape}
 use Rattle.ygg_type_rules.specs.TypeErrors.{none}
-use Rattle.ygg_type_rules.specs.Scopes.{Scope, is_taken}
+use Rattle.ygg_type_rules.specs.Scopes.{is_taken}
 use Rattle.ygg_type_rules.specs.Expressions.{with_number, number_errors}
 use Rattle.ygg_type_rules.specs.Statements.{block_errors}
 use Rattle.ygg_type_sound.specs.Agrees.{Agrees}
@@ -26,7 +26,6 @@ use Rattle.ygg_meaning.specs.Meaning.{functions_of}
 use Rattle.ygg_rules.specs.declared.rule.RuleKind.{RuleKind}
 use Rattle.ygg_bank.proofs.Meaning.{fits_fewer}
 use Rattle.ygg_bank.specs.Nodes.{IsBank, Extends}
-use Rattle.ygg_bank.specs.Values.{Inputs, Values, Fits}
 use Rattle.ygg_bank.specs.declared.node.Node.{Node}
 use Rattle.ygg_bank.specs.declared.node.Node.TheVariants as node
 use Rattle.ygg_shape_cells.specs.Terms.{worth}
@@ -41,7 +40,7 @@ use Rattle.ygg_sym_expr.proofs.Values.{same_defs}
 use Rattle.ygg_sym_runs.specs.Lower.{SymMeaning, IsLower, KeepsSingle}
 use Rattle.ygg_sym_runs.specs.Ready.{CanEnter, CanRepeat, inside_run}
 use Rattle.ygg_sym_runs.proofs.Ends.{env_take, one_more, one_worth}
-use Rattle.ygg_sym_runs.proofs.Walking.{Left, block_left, stands_later}
+use Rattle.ygg_sym_runs.proofs.Walking.{block_left, stands_later}
 use Rattle.ygg_sym_runs.proofs.Zeros.{zeros, zero_values, zeros_fit}
 
 module _ {S : Type 0} (M : SymMeaning S) (law : IsLower M) (kinds : List RuleKind) (defs : List Def) (x : tree_name.Name) (w n : Numeral) (b : Block) where

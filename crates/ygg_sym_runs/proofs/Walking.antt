@@ -1,54 +1,44 @@
 -- What lets a part of a block be run over terms, carried on to the next part.
-use Rattle.std.proofs.Common.{◌≡◌, ℕ, ◌+◌, ◌<◌, ◌≤◌, ◌^◌, Bool, true, false, ◌&&◌, List, [], ◌∷◌, ◌++◌, map, take, length, All, reverse, Option, Some, None, refl, sym, ap, ◌∙◌, subst, arith}
-use Rattle.std.proofs.lemmas.List.{append-nil, length-map}
-use Rattle.std.proofs.lemmas.List.Elements.{All-head, All-tail, All-cons, All-nil}
-use Rattle.ygg_value.specs.Shapes.{shape_of}
-use Rattle.ygg_value.specs.declared.row.Value.{Value}
-use Rattle.ygg_value.specs.declared.shape.Shape.{Shape}
-use Rattle.ygg_value.specs.declared.shape.Shape.TheVariants as shape
-use Rattle.ygg_value.specs.Values.{word_in}
+use Rattle.std.proofs.Common.{◌≡◌, ℕ, Bool, true, List, [], ◌∷◌, map, length, All, reverse, None, refl, sym, ap, ◌∙◌, subst}
+use Rattle.std.proofs.lemmas.List.{append-nil}
+use Rattle.std.proofs.lemmas.List.Elements.{All-cons, All-nil}
 use Rattle.ygg_syntax.specs.declared.grammar.BlockKind.{BlockKind}
 use Rattle.ygg_syntax.specs.declared.tree.Block.{Block}
 use Rattle.ygg_syntax.specs.declared.tree.Def.{Def}
 use Rattle.ygg_syntax.specs.declared.tree.Expr.{Expr}
-use Rattle.ygg_syntax.specs.declared.tree.Index.{Index}
 use Rattle.ygg_syntax.specs.declared.tree.Name as tree_name
-use Rattle.ygg_syntax.specs.declared.tree.Numeral.{Numeral}
 use Rattle.ygg_syntax.specs.declared.tree.Place.{Place}
-use Rattle.ygg_syntax.specs.declared.tree.Source.{Source}
 use Rattle.ygg_syntax.specs.declared.tree.Source.TheVariants as source
 use Rattle.ygg_syntax.specs.declared.tree.Stmt.{Stmt}
-use Rattle.ygg_symbols.specs.Names.{Named, look_up}
+use Rattle.ygg_symbols.specs.Names.{Named}
 use Rattle.ygg_type_rules.specs.declared.scope.Signature.{Signature}
-use Rattle.ygg_type_rules.specs.Shapes.{is_word, width_of}
 use Rattle.ygg_type_rules.specs.TypeErrors.{TypeErrors, none}
 use Rattle.ygg_type_rules.specs.Scopes.{Scope}
 use Rattle.ygg_type_rules.specs.Expressions.{typing, typings, type_errors_in}
 use Rattle.ygg_type_rules.specs.Statements.{source_typing, call_typing, place_rule, return_errors, walked, block_errors}
 use Rattle.ygg_type_rules.specs.Statements as rules
 use Rattle.ygg_type_rules.specs.Definitions.{definitions_errors, with_definitions}
-use Rattle.ygg_meaning.specs.Environments.{Name, Env}
+use Rattle.ygg_meaning.specs.Environments.{Name}
 use Rattle.ygg_meaning.specs.Meaning.{Functions, functions_of}
 use Rattle.ygg_meaning.specs.Progress.{values_of}
 use Rattle.ygg_meaning.specs.Progress as progress
 use Rattle.ygg_type_sound.specs.Agrees.{Agrees}
 use Rattle.ygg_type_sound.proofs.Tests.{left as first_of, right as second_of}
 use Rattle.ygg_type_progress.specs.Blocks.{eval_with}
-use Rattle.ygg_type_progress.specs.Kinds.{may_call, source_keeps, all_keep, stmt_keeps}
+use Rattle.ygg_type_progress.specs.Kinds.{all_keep, stmt_keeps}
 use Rattle.ygg_type_progress.specs.Questions.{plain, question_fits, Follows}
 use Rattle.ygg_direct.specs.Direct.{forgets, in_order, direct_of}
 use Rattle.ygg_type_progress.proofs.Sounds.{call_fits}
 use Rattle.ygg_type_progress.proofs.TypeErrors.{called}
 use Rattle.ygg_rules.specs.declared.rule.RuleKind.{RuleKind}
 use Rattle.ygg_bank.proofs.Meaning.{fits_fewer}
-use Rattle.ygg_bank.specs.Nodes.{HasWidth, IsBank, Extends}
+use Rattle.ygg_bank.specs.Nodes.{IsBank, Extends}
 use Rattle.ygg_bank.specs.Values.{Inputs, Values, Fits}
-use Rattle.ygg_bank.specs.declared.node.Id.{Id}
 use Rattle.ygg_bank.specs.declared.node.Node.{Node}
 use Rattle.ygg_shape_cells.specs.declared.terms.SymValue.{SymValue}
 use Rattle.ygg_sym_expr.specs.Names.{SymEnv}
-use Rattle.ygg_sym_expr.specs.Exprs.{SymFunctions, id_in}
-use Rattle.ygg_sym_expr.specs.Meaning.{SomeShape, EnvShaped, worths}
+use Rattle.ygg_sym_expr.specs.Exprs.{SymFunctions}
+use Rattle.ygg_sym_expr.specs.Meaning.{worths}
 use Rattle.ygg_sym_expr.specs.Seen.{CanTerm}
 use Rattle.ygg_sym_expr.proofs.Definitions.{functions_mean}
 use Rattle.ygg_sym_expr.proofs.Grows.{FunctionsGrow, functions_grow}
@@ -56,8 +46,8 @@ use Rattle.ygg_sym_expr.proofs.Shaped.{env_wider}
 use Rattle.ygg_sym_expr.proofs.Values.{FunctionsMean}
 use Rattle.ygg_sym_runs.specs.Lower.{SymMeaning, IsLower, KeepsSingle, Stands, CanAsk}
 use Rattle.ygg_sym_runs.specs.Meaning.{MachineMeans, RunIs, question_worth}
-use Rattle.ygg_sym_runs.specs.Ready.{known_with, terms_of, stmt_run, inside_run, InNames, CanDo, CanCall, CanGet, CanAssign, CanStep, CanRun, CanEnter}
-use Rattle.ygg_sym_runs.specs.Runs.{SymMachine, Choice, Call, places_of, sym_values, sym_in_order}
+use Rattle.ygg_sym_runs.specs.Ready.{known_with, terms_of, stmt_run, inside_run, InNames, CanDo, CanCall, CanGet, CanStep, CanRun, CanEnter}
+use Rattle.ygg_sym_runs.specs.Runs.{SymMachine, Choice, Call, sym_values, sym_in_order}
 use Rattle.ygg_sym_runs.proofs.Typed.{all_have}
 use Rattle.ygg_sym_runs.proofs.Worths.{NameShaped}
 use Rattle.ygg_sym_runs.proofs.Parts.{InScope, values_grow, values_give}
@@ -373,11 +363,11 @@ module _ {S : Type 0} (M : SymMeaning S) (law : IsLower M) (kinds : List RuleKin
       let w = rules.in_order (map walked ts) can.scope in
       let same = kept n.sound st.serves ts can.scope in
       let run = λ (inputs : Inputs) (v : Values) (h : Fits inputs v o.nodes).
-          let m = mean n.sound inputs v in
-          let l = laws st.serves inputs v in
-          let g = block_grows inputs v kinds ds functions terms grow m M.low M.kind M.lower N (M.direct inputs v) l ts i env s nodes in
-          block_gives inputs v kinds ds functions terms grow m M.low M.kind M.lower N (M.direct inputs v) l ts i can.scope env s nodes
-          (in_scope can.scope nodes env n inputs v (fits_fewer inputs v nodes o.nodes g h)) can.without_errors can.keeps n.shaped st.has h in
+      let m = mean n.sound inputs v in
+      let l = laws st.serves inputs v in
+      let g = block_grows inputs v kinds ds functions terms grow m M.low M.kind M.lower N (M.direct inputs v) l ts i env s nodes in
+      block_gives inputs v kinds ds functions terms grow m M.low M.kind M.lower N (M.direct inputs v) l ts i can.scope env s nodes
+      (in_scope can.scope nodes env n inputs v (fits_fewer inputs v nodes o.nodes g h)) can.without_errors can.keeps n.shaped st.has h in
       let r0 = run zeros (zero_values o.nodes) (zeros_fit o.nodes bank) in
       record {
         names = record {

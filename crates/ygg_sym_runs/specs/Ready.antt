@@ -83,7 +83,8 @@ pub record CanJoin (nodes : List Node) (t : Id) (one two : SymEnv) : Type 0 wher
   pub alike : EnvAlike nodes one two
 
 -- what a part of a run that began at a place with these names, this state and these nodes ends with: what it is defined to
-pub record Ended {S : Type 0} (r : SymRun S) (from : ℕ) (env : SymEnv) (s : S) (old : List Node) (end : ℕ) (env' : SymEnv) (s' : S) (new : List Node) : Type 0 where
+pub record Ended {S : Type 0} (r : SymRun S) (from : ℕ) (env : SymEnv) (s : S) (old : List Node) (end : ℕ) (env' : SymEnv) (s' : S)
+    (new : List Node) : Type 0 where
   pub place : end ≡ from + r.room
   pub nodes : new ≡ (r.run from env s old).nodes
   pub names : env' ≡ (r.run from env s old).value.env

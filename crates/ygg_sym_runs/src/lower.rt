@@ -12,7 +12,14 @@ pub trait SymLower {
     ghost use Rattle.std.specs.Prelude.{◌≡◌, IfOk, OnOk};
     ghost use Rattle.ygg_bank.specs.Nodes.{Extends, IsBank};
     ghost use Rattle.ygg_sym_runs.specs.Lower.{
-        SymMeaning, IsLower, CanAsk, CanMerge, Counts, KeepsSingle, question_of};
+      SymMeaning,
+      IsLower,
+      CanAsk,
+      CanMerge,
+      Counts,
+      KeepsSingle,
+      question_of,
+    };
 
     /// Its states.
     type State: Duplicate + Drop;

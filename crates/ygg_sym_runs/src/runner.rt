@@ -37,9 +37,11 @@ impl<'a, W: SymLower, B: Book> SymRunner<'a, W, B> {
     ) -> Result<SymValue, NoMemory>
         requires can { CanTerm (known_with self.now.defs.now (env_of names.now)) bank.old e.now }
         ensures nodes { OnOk result (bank.new
-            ≡ (sym_value (B.kinds self.now.book.now) (terms_of (B.kinds self.now.book.now) self.now.defs.now) e.now (plain_scope (env_of names.now)) bank.old).nodes) }
+            ≡ (sym_value (B.kinds self.now.book.now) (terms_of (B.kinds self.now.book.now) self.now.defs.now) e.now
+            (plain_scope (env_of names.now)) bank.old).nodes) }
         ensures form { IfOk result (λ x. x
-            ≡ (sym_value (B.kinds self.now.book.now) (terms_of (B.kinds self.now.book.now) self.now.defs.now) e.now (plain_scope (env_of names.now)) bank.old).value) }
+            ≡ (sym_value (B.kinds self.now.book.now) (terms_of (B.kinds self.now.book.now) self.now.defs.now) e.now
+            (plain_scope (env_of names.now)) bank.old).value) }
         ensures grows { Extends bank.old bank.new }
         ensures bank { IsBank bank.new }
         ensures single { OnOk result (KeepsSingle bank.old bank.new) }
@@ -120,7 +122,10 @@ impl<'a, W: SymLower, B: Book> SymRunner<'a, W, B> {
         ensures bank { IsBank bank.new }
         ensures single { OnOk result (KeepsSingle bank.old bank.new) }
     {
-        match self.machine.handle(self.alloc, bank, self.book, place, question, state)? {
+        match self
+            .machine
+            .handle(self.alloc, bank, self.book, place, question, state)?
+        {
             Some(value) => Ok(value),
             None => Ok(SymValue::Word(Id(0))),
         }

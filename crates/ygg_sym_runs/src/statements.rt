@@ -8,7 +8,20 @@ ghost use Rattle.ygg_sym_expr.specs.Seen.{env_of};
 ghost use Rattle.ygg_sym_runs.specs.Joining.{CanJoinEnds};
 ghost use Rattle.ygg_sym_runs.specs.Lower.{KeepsSingle};
 ghost use Rattle.ygg_sym_runs.specs.Ready.{
-    CanAssign, CanCall, CanEnter, CanGet, CanRepeat, CanRun, CanStep, Ended, inside_run, order_run, stmt_run, terms_of, turns_run};
+  CanAssign,
+  CanCall,
+  CanEnter,
+  CanGet,
+  CanRepeat,
+  CanRun,
+  CanStep,
+  Ended,
+  inside_run,
+  order_run,
+  stmt_run,
+  terms_of,
+  turns_run,
+};
 ghost use Rattle.ygg_sym_runs.specs.Runs.{merge_state, state, sym_stmt};
 
 use crate::lower::SymLower;
@@ -108,8 +121,14 @@ impl<'a, W: SymLower, B: Book> SymRunner<'a, W, B> {
         let end = self.after_call(f, place)?;
         let args = self.values(es, bank, frame.names.as_slice())?;
         let question = Question::Call(f.text.as_slice(), args.as_slice());
-        self.machine
-            .handle(self.alloc, bank, self.book, place, question, &mut frame.state)?;
+        self.machine.handle(
+            self.alloc,
+            bank,
+            self.book,
+            place,
+            question,
+            &mut frame.state,
+        )?;
         Ok(end)
     }
 
@@ -155,9 +174,14 @@ impl<'a, W: SymLower, B: Book> SymRunner<'a, W, B> {
             frame.names.as_slice(),
             other.names.as_slice(),
         )?;
-        let state = self
-            .machine
-            .merge(self.alloc, bank, self.book, test, &frame.state, &other.state)?;
+        let state = self.machine.merge(
+            self.alloc,
+            bank,
+            self.book,
+            test,
+            &frame.state,
+            &other.state,
+        )?;
         frame.names = names;
         frame.state = state;
         Ok(())

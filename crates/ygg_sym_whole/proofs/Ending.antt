@@ -1,7 +1,7 @@
 -- Whole runs over terms end as they are defined to.
-use Rattle.std.proofs.Common.{◌≡◌, ℕ, List, ◌++◌, map, take, length, Option, Some, None, true, refl, sym, ap, ◌∙◌, subst}
+use Rattle.std.proofs.Common.{◌≡◌, ℕ, List, ◌++◌, map, take, length, Option, Some, None, true, sym, ap, ◌∙◌, subst}
 use Rattle.std.specs.Option.{ForSome}
-use Rattle.std.proofs.lemmas.List.{length-map, take-map}
+use Rattle.std.proofs.lemmas.List.{take-map}
 use Rattle.ygg_syntax.specs.declared.tree.Block.{Block}
 use Rattle.ygg_syntax.specs.declared.tree.Def.{Def}
 use Rattle.ygg_syntax.specs.declared.tree.Expr.{Expr}
@@ -18,14 +18,13 @@ use Rattle.ygg_bank.specs.Nodes.{IsBank}
 use Rattle.ygg_bank.specs.declared.node.Node.{Node}
 use Rattle.ygg_meaning.specs.Environments.{Name}
 use Rattle.ygg_shape_cells.specs.declared.terms.SymValue.{SymValue}
-use Rattle.ygg_value.specs.declared.shape.Shape.{Shape}
 use Rattle.ygg_sym_expr.specs.Names.{SymEnv}
 use Rattle.ygg_sym_expr.specs.Seen.{CanTerm, env_of}
 use Rattle.ygg_sym_expr.specs.declared.held.SymBinding.{SymBinding}
 use Rattle.ygg_sym_runs.specs.Lower.{SymMeaning, IsLower, KeepsSingle}
 use Rattle.ygg_sym_runs.specs.Ready.{InNames, CanRun, Ended, order_run, known_with, terms_of}
 use Rattle.ygg_sym_runs.proofs.Walking.{can_term, run_left}
-use Rattle.ygg_sym_below.specs.Wholes.{SymFinish, sym_returned, sym_whole}
+use Rattle.ygg_sym_below.specs.Wholes.{sym_returned}
 use Rattle.ygg_sym_whole.specs.Ready.{CanWhole, IsWhole}
 
 -- the names that come first
@@ -58,11 +57,13 @@ module _ {S : Type 0} (M : SymMeaning S) (defs : List Def) where
         go b.answer w.scope a.names (second_of (none w.type_errors) (none (return_errors b.answer can.shape w.scope)) can.without_errors)
       where
         go : (answer : Option Expr) (scope : Scope) → InNames M defs scope new env' → none (return_errors answer can.shape scope) ≡ true →
-            ForSome answer (CanTerm (known_with defs env') new)
-        go None scope n f = tt
-        go (Some x) scope n f =
-            let t = typing x scope in
-            can_term M law kinds defs scope new env' x n (first_of (none t.type_errors) (none (wanted t.part can.shape)) f)
+            (x : Expr) → answer ≡ Some x → CanTerm (known_with defs env') new x
+        go None scope n f x e = absurd (cc)
+        go (Some y) scope n f x e =
+            let t = typing y scope in
+            let same : y ≡ x = cc in
+            subst (CanTerm (known_with defs env') new) same
+            (can_term M law kinds defs scope new env' y n (first_of (none t.type_errors) (none (wanted t.part can.shape)) f))
 
     -- a whole run
     pub whole_ends : (b : Block) (ss : List Stmt) (vars args env env' left : SymEnv) (s s' : S) (old mid new : List Node) (end k : ℕ) (y : Option SymValue) →

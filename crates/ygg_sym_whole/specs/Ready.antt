@@ -1,5 +1,5 @@
 -- What lets a whole run over terms be made, and how it ends.
-use Rattle.std.specs.Prelude.{◌≡◌, ℕ, IsTrue, List, ◌++◌, length, Option}
+use Rattle.std.specs.Prelude.{◌≡◌, IsTrue, List, Option}
 use Rattle.ygg_value.specs.declared.shape.Shape.{Shape}
 use Rattle.ygg_syntax.specs.declared.tree.Block.{Block}
 use Rattle.ygg_syntax.specs.declared.tree.Def.{Def}

@@ -1,6 +1,6 @@
 //! Whole runs of blocks over terms.
 #![tactic(auto)]
 
-mod whole;
+mod running;
 
-pub use whole::{Whole, whole};
+pub use running::{WholeRun, whole};

@@ -1,7 +1,5 @@
-use Rattle.std.proofs.Common.{arith, ◌≡◌, subst, sym}
-use Rattle.std.proofs.lemmas.List.Elements.{All-head, All-tail}
+use Rattle.std.proofs.Common.{arith}
 use Rattle.ygg_bank.proofs.Widths.{extends_both, extends_length}
-use Rattle.ygg_bank.specs.Nodes.{Stands}
 use Rattle.ygg_sym_runs.proofs.Putted.{cell_row, cell_store, cell_places}
 use Rattle.ygg_sym_runs.proofs.written.put_cell.Goals as goal
 
@@ -30,6 +28,6 @@ pub store-requires-clause-at : goal.store-requires-clause-at
 store-requires-clause-at g c =
     let p = cell_places c.args.bank.now c.args.table.now c.args.at c.args.within c.args.new.now c.requires.can in
     let m = extends_length c.args.bank.now c.store_word.new.bank
-        (extends_both c.args.bank.now c.select.new.bank c.store_word.new.bank c.select.ensures.grows c.store_word.ensures.grows) in
+    (extends_both c.args.bank.now c.select.new.bank c.store_word.new.bank c.select.ensures.grows c.store_word.ensures.grows) in
     let q = p.0 in
     omega (arith, m, q)

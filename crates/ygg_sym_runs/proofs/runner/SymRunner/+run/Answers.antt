@@ -1,19 +1,16 @@
 use Rattle.std.proofs.Common.{rules, ◌≡◌, ◌+◌, List, None, drop, length, refl, sym, ap, ◌∙◌, subst, arith}
-use Rattle.ygg_syntax.specs.declared.tree.Expr.{Expr}
 use Rattle.ygg_syntax.specs.declared.tree.Stmt.{Stmt}
-use Rattle.ygg_syntax.specs.declared.tree.Stmt.TheOpen.{Stmt-F}
-use Rattle.ygg_type_rules.specs.Statements.{node_walked, walked, block_errors}
-use Rattle.ygg_type_progress.specs.Kinds.{keeps, node_keeps, stmt_keeps}
+use Rattle.ygg_type_rules.specs.Statements.{block_errors}
+use Rattle.ygg_type_progress.specs.Kinds.{keeps}
 use Rattle.ygg_bank.proofs.Widths.{extends_self, extends_both}
 use Rattle.ygg_sym_expr.specs.Exprs.{sym_value}
 use Rattle.ygg_sym_expr.specs.Names.{SymEnv}
 use Rattle.ygg_sym_expr.specs.Seen.{CanTerm, env_of}
 use Rattle.ygg_sym_expr.specs.declared.held.SymBinding.{SymBinding}
-use Rattle.ygg_sym_runs.specs.Ready.{known_with, terms_of, CanCall, CanEnter, CanRun, Ended, inside_run, stmt_run}
-use Rattle.ygg_sym_runs.specs.Runs.{SymRun, plain_scope}
+use Rattle.ygg_sym_runs.specs.Ready.{known_with, terms_of, CanRun, Ended, inside_run}
+use Rattle.ygg_sym_runs.specs.Runs.{plain_scope}
 use Rattle.ygg_sym_runs.proofs.Going.{rest_is, dropped_is, block_ends, order_goes, order_ends, turns_begin, turns_go, turns_end}
 use Rattle.ygg_sym_runs.proofs.Nexts.{first_can, second_can, next_can}
-use Rattle.ygg_sym_runs.proofs.Opened.{walked_if, keeps_if, walked_call, keeps_call, run_for}
 use Rattle.ygg_sym_runs.proofs.Parting.{if_ends}
 use Rattle.ygg_sym_runs.proofs.Sides.{choose_test, choose_first, choose_second, choose_width, join_can, step_if, step_for, step_call, ended_for, ended_if}
 use Rattle.ygg_sym_runs.proofs.Sizes.{size_if, size_for, size_block, size_item}
@@ -132,82 +129,142 @@ statement-returns-in_ok-join-in-If-clause-ran g t c =
 
 pub statement-block-requires : goal.statement-block-requires
 statement-block-requires g t c κs h =
-    let smaller = size_if c.args.s.now c.in-If.test c.in-If.first c.in-If.second c.in-If.is in
-    (omega arith, (search rules, (search rules, (search rules, (
-          let r = c.args.self.now in
-          let kinds = g.B.Book.kinds r.book.now in
-          let M = g.W.SymLower.means r.machine.now in
-          let law = g.met.W.SymLower.keeps r.machine.now in
-          let defs = r.defs.now in
-          let f = c.args.frame.now in
-          let can = first_can M law defs c.args.s.now c.in-If.test c.in-If.first c.in-If.second c.args.bank.now c.value.new.bank (env_of f.names.items) f.state
-          c.in-If.is c.requires.can c.value.ensures.grows c.in_ok-value-in-If.ensures.single in
-          can,
-      c.value.ensures.bank)))))
+    let smaller = size_if c.args.s.now c.in-If.test c.in-If.first c.in-If.second c.in-If.is in (
+      omega arith,
+      (
+        search rules,
+        (
+          search rules,
+          (
+            search rules,
+            (
+              let r = c.args.self.now in
+                  let kinds = g.B.Book.kinds r.book.now in
+                  let M = g.W.SymLower.means r.machine.now in
+                  let law = g.met.W.SymLower.keeps r.machine.now in
+                  let defs = r.defs.now in
+                  let f = c.args.frame.now in
+                  let can = first_can M law defs c.args.s.now c.in-If.test c.in-If.first c.in-If.second c.args.bank.now c.value.new.bank (env_of f.names.items) f.state
+                  c.in-If.is c.requires.can c.value.ensures.grows c.in_ok-value-in-If.ensures.single in
+                  can,
+              c.value.ensures.bank,
+            ),
+          ),
+        ),
+      ),
+    )
 
 pub statement-block-requires-in-If : goal.statement-block-requires-in-If
 statement-block-requires-in-If g t c κs h =
-    let smaller = size_if c.args.s.now c.in-If.test c.in-If.first c.in-If.second c.in-If.is in
-    (omega arith, (search rules, (search rules, (search rules, (
-          let r = c.args.self.now in
-          let kinds = g.B.Book.kinds r.book.now in
-          let M = g.W.SymLower.means r.machine.now in
-          let law = g.met.W.SymLower.keeps r.machine.now in
-          let defs = r.defs.now in
-          let f = c.args.frame.now in
-          let o = c.in_ok-other-in-If.other in
-          let one = c.block.new.frame in
-          let can = second_can M law defs c.args.s.now c.in-If.test c.in-If.first c.in-If.second c.args.bank.now c.value.new.bank c.block.new.bank
-          (env_of f.names.items) (env_of one.names.items) (env_of o.names.items) f.state one.state o.state (inside_run M defs kinds c.in-If.first) c.args.place
-          c.in_ok-middle-in-If.middle c.in-If.is c.requires.can c.value.ensures.grows c.in_ok-value-in-If.ensures.single c.block.ensures.grows
-          c.in_ok-middle-in-If.ensures.ran c.in_ok-other-in-If.ensures.names c.in_ok-other-in-If.ensures.state in
-          can,
-      c.block.ensures.bank)))))
+    let smaller = size_if c.args.s.now c.in-If.test c.in-If.first c.in-If.second c.in-If.is in (
+      omega arith,
+      (
+        search rules,
+        (
+          search rules,
+          (
+            search rules,
+            (
+              let r = c.args.self.now in
+                  let kinds = g.B.Book.kinds r.book.now in
+                  let M = g.W.SymLower.means r.machine.now in
+                  let law = g.met.W.SymLower.keeps r.machine.now in
+                  let defs = r.defs.now in
+                  let f = c.args.frame.now in
+                  let o = c.in_ok-other-in-If.other in
+                  let one = c.block.new.frame in
+                  let can = second_can M law defs c.args.s.now c.in-If.test c.in-If.first c.in-If.second c.args.bank.now c.value.new.bank c.block.new.bank
+                  (env_of f.names.items) (env_of one.names.items) (env_of o.names.items) f.state one.state o.state (inside_run M defs kinds c.in-If.first) c.args.place
+                  c.in_ok-middle-in-If.middle c.in-If.is c.requires.can c.value.ensures.grows c.in_ok-value-in-If.ensures.single c.block.ensures.grows
+                  c.in_ok-middle-in-If.ensures.ran c.in_ok-other-in-If.ensures.names c.in_ok-other-in-If.ensures.state in
+                  can,
+              c.block.ensures.bank,
+            ),
+          ),
+        ),
+      ),
+    )
 
 pub statement-turns-requires : goal.statement-turns-requires
 statement-turns-requires g t c κs h =
-    let smaller = size_for c.args.s.now c.in-For.x c.in-For.w c.in-For.n c.in-For.each c.in-For.is in
-    (omega arith, (search rules, (search rules, (search rules, (
-          let r = c.args.self.now in
-          let kinds = g.B.Book.kinds r.book.now in
-          let M = g.W.SymLower.means r.machine.now in
-          let law = g.met.W.SymLower.keeps r.machine.now in
-          let defs = r.defs.now in
-          let f = c.args.frame.now in
-          let can = step_for M law kinds defs c.args.s.now c.in-For.x c.in-For.w c.in-For.n c.in-For.each c.args.bank.now (env_of f.names.items) f.state
-          c.in-For.is c.requires.can in
-          can,
-      c.requires.bank)))))
+    let smaller = size_for c.args.s.now c.in-For.x c.in-For.w c.in-For.n c.in-For.each c.in-For.is in (
+      omega arith,
+      (
+        search rules,
+        (
+          search rules,
+          (
+            search rules,
+            (
+              let r = c.args.self.now in
+                  let kinds = g.B.Book.kinds r.book.now in
+                  let M = g.W.SymLower.means r.machine.now in
+                  let law = g.met.W.SymLower.keeps r.machine.now in
+                  let defs = r.defs.now in
+                  let f = c.args.frame.now in
+                  let can = step_for M law kinds defs c.args.s.now c.in-For.x c.in-For.w c.in-For.n c.in-For.each c.args.bank.now (env_of f.names.items) f.state
+                  c.in-For.is c.requires.can in
+                  can,
+              c.requires.bank,
+            ),
+          ),
+        ),
+      ),
+    )
 
 pub block-statements-requires : goal.block-statements-requires
 block-statements-requires g t c κs h =
-    let smaller = size_block c.args.b.now c.as_slice.result.now c.as_slice.ensures in
-    (omega arith, (search rules, (search rules, (search rules, (
-          let r = c.args.self.now in
-          let kinds = g.B.Book.kinds r.book.now in
-          let M = g.W.SymLower.means r.machine.now in
-          let law = g.met.W.SymLower.keeps r.machine.now in
-          let defs = r.defs.now in
-          let f = c.args.frame.now in
-          let can = subst (λ (ss : List Stmt). CanRun M defs ss c.args.bank.now (env_of f.names.items) f.state) (sym c.as_slice.ensures)
-          (enter_runs M law kinds defs c.args.b.now c.args.bank.now (env_of f.names.items) f.state c.requires.can) in
-          can,
-      c.requires.bank)))))
+    let smaller = size_block c.args.b.now c.as_slice.result.now c.as_slice.ensures in (
+      omega arith,
+      (
+        search rules,
+        (
+          search rules,
+          (
+            search rules,
+            (
+              let r = c.args.self.now in
+                  let kinds = g.B.Book.kinds r.book.now in
+                  let M = g.W.SymLower.means r.machine.now in
+                  let law = g.met.W.SymLower.keeps r.machine.now in
+                  let defs = r.defs.now in
+                  let f = c.args.frame.now in
+                  let can = subst (λ (ss : List Stmt). CanRun M defs ss c.args.bank.now (env_of f.names.items) f.state) (sym c.as_slice.ensures)
+                  (enter_runs M law kinds defs c.args.b.now c.args.bank.now (env_of f.names.items) f.state c.requires.can) in
+                  can,
+              c.requires.bank,
+            ),
+          ),
+        ),
+      ),
+    )
 
 pub statements-statement-requires : goal.statements-statement-requires
 statements-statement-requires g t c κs h =
-    let smaller = size_item c.args.all.now c.loop-s.s-index c.s-item.result _ c.loop-s-test.true c.s-item.is in
-    (omega arith, (search rules, (search rules, (search rules, (
-          let r = c.args.self.now in
-          let kinds = g.B.Book.kinds r.book.now in
-          let M = g.W.SymLower.means r.machine.now in
-          let law = g.met.W.SymLower.keeps r.machine.now in
-          let defs = r.defs.now in
-          let f = c.loop-s.frame in
-          let can = next_can M law defs c.args.all.now c.loop-s.s-index c.s-item.result _ c.loop-s.bank (env_of f.names.items) f.state c.loop-s-test.true c.s-item.is
-          c.loop-s.invariant.can in
-          can,
-      c.loop-s.invariant.bank)))))
+    let smaller = size_item c.args.all.now c.loop-s.s-index c.s-item.result _ c.loop-s-test.true c.s-item.is in (
+      omega arith,
+      (
+        search rules,
+        (
+          search rules,
+          (
+            search rules,
+            (
+              let r = c.args.self.now in
+                  let kinds = g.B.Book.kinds r.book.now in
+                  let M = g.W.SymLower.means r.machine.now in
+                  let law = g.met.W.SymLower.keeps r.machine.now in
+                  let defs = r.defs.now in
+                  let f = c.loop-s.frame in
+                  let can = next_can M law defs c.args.all.now c.loop-s.s-index c.s-item.result _ c.loop-s.bank (env_of f.names.items) f.state c.loop-s-test.true c.s-item.is
+                  c.loop-s.invariant.can in
+                  can,
+              c.loop-s.invariant.bank,
+            ),
+          ),
+        ),
+      ),
+    )
 
 pub statement-called-requires-clause-can : goal.statement-called-requires-clause-can
 statement-called-requires-clause-can g t c =
@@ -351,24 +408,36 @@ turns-number-requires-clause-below g t c =
     omega (arith, bound, c.loop-i-test.true)
 
 pub turns-block-requires : goal.turns-block-requires
-turns-block-requires g t c κs h =
-    (omega arith, (search rules, (search rules, (search rules, (
+turns-block-requires g t c κs h = (
+  omega arith,
+  (
+    search rules,
+    (
+      search rules,
+      (
+        search rules,
+        (
           let r = c.args.self.now in
-          let kinds = g.B.Book.kinds r.book.now in
-          let M = g.W.SymLower.means r.machine.now in
-          let law = g.met.W.SymLower.keeps r.machine.now in
-          let defs = r.defs.now in
-          let f = c.loop-i.frame in
-          let x = c.args.x.now in
-          let w = c.args.w in
-          let n = c.args.n in
-          let each = c.args.each.now in
-          let env = env_of f.names.items in
-          let enter = repeat_enters M law kinds defs x w n each c.loop-i.bank c.number.new.bank env (env_of c.name_value.new.names.items) f.state c.loop-i.i
-          c.in_ok-number.number c.loop-i-test.true c.loop-i.invariant.can c.in_ok-number.ensures.nodes c.in_ok-number.ensures.form c.in_ok-name_value.ensures
-          c.number.ensures.bank c.in_ok-number.ensures.single in
-          enter,
-      c.number.ensures.bank)))))
+              let kinds = g.B.Book.kinds r.book.now in
+              let M = g.W.SymLower.means r.machine.now in
+              let law = g.met.W.SymLower.keeps r.machine.now in
+              let defs = r.defs.now in
+              let f = c.loop-i.frame in
+              let x = c.args.x.now in
+              let w = c.args.w in
+              let n = c.args.n in
+              let each = c.args.each.now in
+              let env = env_of f.names.items in
+              let enter = repeat_enters M law kinds defs x w n each c.loop-i.bank c.number.new.bank env (env_of c.name_value.new.names.items) f.state c.loop-i.i
+              c.in_ok-number.number c.loop-i-test.true c.loop-i.invariant.can c.in_ok-number.ensures.nodes c.in_ok-number.ensures.form c.in_ok-name_value.ensures
+              c.number.ensures.bank c.in_ok-number.ensures.single in
+              enter,
+          c.number.ensures.bank,
+        ),
+      ),
+    ),
+  ),
+)
 
 pub turns-loop-i-preserved : goal.turns-loop-i-preserved
 turns-loop-i-preserved g t c =

@@ -1,4 +1,4 @@
-use Rattle.std.proofs.Common.{◌≡◌, List, All, map, ap, sym, subst, ◌∙◌, arith}
+use Rattle.std.proofs.Common.{List, All, map, ap, sym, subst, ◌∙◌, arith}
 use Rattle.ygg_bank.specs.Makes.{Out}
 use Rattle.ygg_bank.specs.declared.node.Node.{Node}
 use Rattle.ygg_meaning.specs.Environments.{Name}

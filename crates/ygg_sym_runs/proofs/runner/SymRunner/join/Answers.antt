@@ -1,9 +1,9 @@
-use Rattle.std.proofs.Common.{◌≡◌, List, ap, sym, subst, ◌∙◌}
+use Rattle.std.proofs.Common.{List, ap, sym, subst, ◌∙◌}
 use Rattle.ygg_bank.specs.Makes.{Out}
 use Rattle.ygg_sym_expr.specs.Seen.{env_of}
 use Rattle.ygg_sym_expr.specs.declared.held.SymBinding.{SymBinding}
 use Rattle.ygg_sym_runs.specs.Lower.{SingleFrom}
-use Rattle.ygg_sym_runs.specs.Ready.{terms_of, joined_names}
+use Rattle.ygg_sym_runs.specs.Ready.{terms_of}
 use Rattle.ygg_sym_runs.specs.Runs.{SymState, state, merge_state}
 use Rattle.ygg_sym_runs.proofs.Joined.{join_merges, ends_same, joined_single}
 use Rattle.ygg_sym_runs.proofs.Zeros.{single_both}
@@ -33,7 +33,7 @@ returns-clause-nodes g c =
     let one = c.as_slice.result.now in
     let two = c.as_slice-2.result.now in
     let W : List SymBinding → List SymBinding → Out (SymState g.row.W-State.Denot) =
-        λ xs ys. merge_state kinds terms N t (state (env_of xs) a) (state (env_of ys) b) at in
+    λ xs ys. merge_state kinds terms N t (state (env_of xs) a) (state (env_of ys) b) at in
     let same = ends_same kinds terms N t (env_of one) (env_of two) a b at c.join_names.new.bank (env_of c.in_ok-names.names.items)
     c.in_ok-names.ensures.nodes c.in_ok-names.ensures.form
     ∙ ap (λ (xs : List SymBinding). W xs two) c.as_slice.ensures.value ∙ ap (λ (ys : List SymBinding). W c.args.frame.now.names.items ys) c.as_slice-2.ensures.value in
@@ -53,7 +53,7 @@ returns-clause-names g c =
     let one = c.as_slice.result.now in
     let two = c.as_slice-2.result.now in
     let W : List SymBinding → List SymBinding → Out (SymState g.row.W-State.Denot) =
-        λ xs ys. merge_state kinds terms N t (state (env_of xs) a) (state (env_of ys) b) at in
+    λ xs ys. merge_state kinds terms N t (state (env_of xs) a) (state (env_of ys) b) at in
     let same = ends_same kinds terms N t (env_of one) (env_of two) a b at c.join_names.new.bank (env_of c.in_ok-names.names.items)
     c.in_ok-names.ensures.nodes c.in_ok-names.ensures.form
     ∙ ap (λ (xs : List SymBinding). W xs two) c.as_slice.ensures.value ∙ ap (λ (ys : List SymBinding). W c.args.frame.now.names.items ys) c.as_slice-2.ensures.value in
@@ -73,7 +73,7 @@ returns-clause-state g c =
     let one = c.as_slice.result.now in
     let two = c.as_slice-2.result.now in
     let W : List SymBinding → List SymBinding → Out (SymState g.row.W-State.Denot) =
-        λ xs ys. merge_state kinds terms N t (state (env_of xs) a) (state (env_of ys) b) at in
+    λ xs ys. merge_state kinds terms N t (state (env_of xs) a) (state (env_of ys) b) at in
     let same = ends_same kinds terms N t (env_of one) (env_of two) a b at c.join_names.new.bank (env_of c.in_ok-names.names.items)
     c.in_ok-names.ensures.nodes c.in_ok-names.ensures.form
     ∙ ap (λ (xs : List SymBinding). W xs two) c.as_slice.ensures.value ∙ ap (λ (ys : List SymBinding). W c.args.frame.now.names.items ys) c.as_slice-2.ensures.value in

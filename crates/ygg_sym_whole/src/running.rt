@@ -20,7 +20,7 @@ use ygg_syntax::tree::{Block, Expr};
 
 /// How a whole run ended.
 #[derive(Drop)]
-pub struct Whole<'a, S: Drop> {
+pub struct WholeRun<'a, S: Drop> {
     /// What the block returns.
     pub answer: Option<SymValue>,
     /// The variables, by name.
@@ -38,10 +38,10 @@ pub fn whole<'a, W: SymLower, B: Book>(
     count: usize,
     state: W::State,
     bank: &mut Bank,
-) -> Result<Whole<'a, W::State>, NoMemory>
+) -> Result<WholeRun<'a, W::State>, NoMemory>
     requires can { CanWhole (W.means runner.now.machine.now) runner.now.defs.now b.now bank.old (env_of names.items) state }
     ensures whole { IfOk result (λ end. (vars args : SymEnv) → env_of names.entry.items ≡ vars ++ args → length vars ≡ count →
-        IsWhole (W.means runner.now.machine.now) runner.now.defs.now (B.kinds runner.now.book.now) b.now vars args state.entry bank.old
+        IsWhole (W.means runner.now.machine.now) runner.now.defs.now (B.kinds runner.now.book.now) b.now vars args state bank.old
         end.answer (env_of end.names.items) end.state bank.new) }
     ensures grows { Extends bank.old bank.new }
     ensures bank { IsBank bank.new }
@@ -53,7 +53,7 @@ pub fn whole<'a, W: SymLower, B: Book>(
     let answer = returned(runner, &b.answer, bank, frame.names.as_slice())?;
     let SymFrame { mut names, state } = frame;
     names.truncate(count);
-    Ok(Whole {
+    Ok(WholeRun {
         answer,
         names,
         state,
