@@ -1,14 +1,12 @@
 -- What a call on a disk wants follows from what a typed block may ask; and what calls keep.
-use Rattle.std.proofs.Common.{◌≡◌, ◌≤◌, ◌+◌, ℕ, Some, None, List, [], ◌∷◌, map, refl, sym, subst, ap, Result, Ok, Err, OnOk, IsTrue, Bor, arith}
+use Rattle.std.proofs.Common.{◌≡◌, ℕ, Some, List, [], ◌∷◌, map, sym, subst, Result, Ok, Err, OnOk, Bor}
 use Rattle.ygg_syntax.specs.declared.tree.DiskText.{DiskText}
 use Rattle.ygg_type_rules.specs.Files.{disk_operations}
-use Rattle.ygg_meaning.specs.Environments.{Name}
 use Rattle.ygg_direct.proofs.DiskServes.{fitting_call}
 use Rattle.ygg_rules.specs.declared.rule.RuleKind.{RuleKind}
 use Rattle.ygg_bank.proofs.Widths.{stands}
-use Rattle.ygg_bank.specs.Inputs.{InputsBelow}
-use Rattle.ygg_bank.specs.Nodes.{HasWidth, IsBank, OneWidth}
-use Rattle.ygg_bank.specs.Values.{Inputs, Values, Fits, value_of}
+use Rattle.ygg_bank.specs.Nodes.{IsBank}
+use Rattle.ygg_bank.specs.Values.{Inputs, Values, value_of}
 use Rattle.ygg_bank.specs.declared.node.Id.{Id}
 use Rattle.ygg_bank.specs.declared.node.Node.{Node}
 use Rattle.ygg_shape.proofs.Answered.{no_inputs, some_fit}
@@ -20,7 +18,7 @@ use Rattle.ygg_meaning.specs.Shapes.{shape_in}
 use Rattle.ygg_sym_runs.specs.Lower.{CanAsk, KeepsSingle, SingleFrom, question_of}
 use Rattle.ygg_sym_runs.specs.declared.question.Question as asked
 use Rattle.ygg_sym_runs.specs.declared.question.Question.TheVariants as question
-use Rattle.ygg_sym_runs.specs.Runs.{SymQuestion, Choice, Call}
+use Rattle.ygg_sym_runs.specs.Runs.{SymQuestion}
 use Rattle.ygg_sym_runs.proofs.Singles.{single_stays, input_single}
 use Rattle.ygg_sym_below.specs.Disks.{SymCall, Read, Write, Flush, sym_call, disk_handles}
 use Rattle.ygg_sym_below.specs.Lows.{LowShaped, merge_lows}

@@ -1,20 +1,15 @@
 -- What stands among the nodes of a disk, and stays there.
-use Rattle.std.proofs.Common.{◌≡◌, ◌<◌, ◌≤◌, ℕ, zero, suc, Some, List, [], ◌∷◌, length, map, slice_get, refl, sym, subst, Result, Ok, Err, IfOk, OnOk, arith}
+use Rattle.std.proofs.Common.{◌≡◌, Some, List, [], ◌∷◌, slice_get, sym, subst, Result, Ok, Err, IfOk, OnOk}
 use Rattle.ygg_base.specs.declared.geometry.DiskKind.{DiskKind}
 use Rattle.ygg_base.specs.declared.geometry.DiskKind.TheVariants.{Sync, Async}
-use Rattle.ygg_value.specs.declared.shape.Shape.{Shape}
-use Rattle.ygg_value.specs.declared.shape.Shape.TheVariants as shape
 use Rattle.ygg_syntax.specs.declared.tree.Declared.{Declared}
 use Rattle.ygg_syntax.specs.declared.tree.DiskText.{DiskText}
-use Rattle.ygg_meaning.specs.Shapes.{shape_in}
 use Rattle.ygg_histories.specs.Stack.{tables_of_kind}
 use Rattle.ygg_rules.specs.declared.rule.RuleKind.{RuleKind}
-use Rattle.ygg_bank.proofs.Widths.{extends_both}
-use Rattle.ygg_bank.specs.Nodes.{Extends, HasWidth, IsBank, Stands}
+use Rattle.ygg_bank.specs.Nodes.{Extends, HasWidth, IsBank}
 use Rattle.ygg_bank.specs.declared.node.Id.{Id}
 use Rattle.ygg_bank.specs.declared.node.Node.{Node}
 use Rattle.ygg_shape_cells.proofs.Wider.{row_wider, shaped_wider}
-use Rattle.ygg_shape_cells.specs.Terms.{AreShaped}
 use Rattle.ygg_shape_cells.specs.declared.terms.SymValue.{SymValue}
 use Rattle.ygg_bank.specs.Values.{value_of}
 use Rattle.ygg_shape.proofs.Answered.{no_inputs, some_fit}

@@ -1,6 +1,5 @@
 -- What is asked of a disk over terms, and what a call wants of its terms.
-use Rattle.std.specs.Prelude.{◌≤◌, ℕ, List, [], ◌∷◌, length, Option, Some, None}
-use Rattle.ygg_value.specs.declared.shape.Shape.{Shape}
+use Rattle.std.specs.Prelude.{◌≤◌, List, [], ◌∷◌, length, Option, Some, None}
 use Rattle.ygg_value.specs.declared.shape.Shape.TheVariants as shape
 use Rattle.ygg_syntax.specs.declared.tree.DiskText.{DiskText}
 use Rattle.ygg_bank.specs.Nodes.{Stands}

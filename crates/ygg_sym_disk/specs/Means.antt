@@ -1,5 +1,5 @@
 -- What a disk over terms is as the machine on which a block runs.
-use Rattle.std.specs.Prelude.{◌≡◌, ℕ, false, IsTrue, List}
+use Rattle.std.specs.Prelude.{false, IsTrue, List}
 use Rattle.ygg_syntax.specs.declared.grammar.BlockKind.TheVariants.{Impl}
 use Rattle.ygg_type_rules.specs.TypeErrors.{none}
 use Rattle.ygg_type_rules.specs.Files.{disk_errors, disk_operations}

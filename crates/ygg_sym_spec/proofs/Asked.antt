@@ -1,14 +1,9 @@
 -- What an implementation may ask of a specification.
-use Rattle.std.proofs.Common.{◌≡◌, ◌≤◌, ◌+◌, ℕ, true, List, [], ◌∷◌, All, map, Option, Some, None, option_map, Result, Ok, Err, IfOk, OnOk, Bor, refl, sym, ap, ◌∙◌, subst, arith}
+use Rattle.std.proofs.Common.{◌≡◌, ◌≤◌, ◌+◌, ℕ, true, List, [], ◌∷◌, All, map, Option, Some, option_map, Result, Ok, Err, IfOk, OnOk, Bor, sym, ap, ◌∙◌, subst}
 use Rattle.std.proofs.lemmas.List.Elements.{All-head, All-tail}
-use Rattle.ygg_value.specs.declared.row.Value.{Value}
 use Rattle.ygg_syntax.specs.declared.tree.Declared.{Declared}
-use Rattle.ygg_syntax.specs.declared.tree.Operation.{Operation}
-use Rattle.ygg_symbols.specs.Names.{look_up}
 use Rattle.ygg_type_rules.specs.declared.scope.Signature.{Signature}
 use Rattle.ygg_type_rules.specs.Layers.{operation_signature}
-use Rattle.ygg_meaning.specs.Environments.{Name}
-use Rattle.ygg_meaning.specs.Layer.{operation_of}
 use Rattle.ygg_meaning.specs.Shapes.{shape_in, fits, values_fit}
 use Rattle.ygg_type_sound.specs.Fitting.{all_fit}
 use Rattle.ygg_type_sound.proofs.Tests.{left as first_of, right as second_of}

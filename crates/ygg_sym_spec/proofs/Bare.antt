@@ -1,5 +1,5 @@
 -- What makes no call is typed alike without operations below.
-use Rattle.std.proofs.Common.{◌≡◌, ℕ, Bool, true, false, ◌&&◌, ◌||◌, not, if◌then◌else◌, List, [], ◌∷◌, map, Option, Some, None, refl, sym, ap, ◌∙◌, subst}
+use Rattle.std.proofs.Common.{◌≡◌, ℕ, Bool, true, false, not, if◌then◌else◌, List, [], ◌∷◌, map, Option, Some, None, refl, sym, ap, ◌∙◌, subst}
 use Rattle.ygg_value.specs.declared.shape.Shape.{Shape}
 use Rattle.ygg_value.specs.declared.shape.Shape.TheVariants.{Word}
 use Rattle.ygg_base.specs.declared.reason.Reason.TheVariants as reason
@@ -41,7 +41,6 @@ use Rattle.ygg_type_rules.specs.Expressions.{
   quantified_rule,
   node_typing,
   typing,
-  typings,
   expected_errors,
 }
 use Rattle.ygg_type_rules.specs.Statements.{
@@ -60,7 +59,7 @@ use Rattle.ygg_type_rules.specs.Statements.{
   walked,
   block_errors,
 }
-use Rattle.ygg_type_progress.specs.Kinds.{may_call, source_keeps, all_keep, node_keeps, node_all_keep, stmt_keeps, keeps}
+use Rattle.ygg_type_progress.specs.Kinds.{source_keeps, all_keep, node_keeps, node_all_keep, stmt_keeps, keeps}
 use Rattle.ygg_type_sound.proofs.Tests.{left as first_of, right as second_of}
 use Rattle.ygg_sym_spec.specs.Bare.{bare}
 
@@ -171,8 +170,10 @@ in_order_alike : (ss : List Stmt) → ((s : Stmt) → Walks (stmt_keeps s) (walk
 in_order_alike [] each k scope = refl
 in_order_alike (s ∷ ss) each k scope =
     let first = walked s scope in
-    ap (λ (w : Walked). record { type_errors = both w.type_errors (in_order (map walked ss) w.scope).type_errors;
-      scope = (in_order (map walked ss) w.scope).scope }) (each s (first_of (stmt_keeps s Spec) _ k) scope)
+    ap (λ (w : Walked). record {
+      type_errors = both w.type_errors (in_order (map walked ss) w.scope).type_errors;
+      scope = (in_order (map walked ss) w.scope).scope;
+    }) (each s (first_of (stmt_keeps s Spec) _ k) scope)
     ∙ ap (λ (w : Walked). record { type_errors = both first.type_errors w.type_errors; scope = w.scope })
     (in_order_alike ss each (second_of (stmt_keeps s Spec) _ k) first.scope)
 
@@ -217,8 +218,10 @@ turns_case [] k scope = refl
 turns_case (s ∷ ss) k scope =
     let first = walked s.0 scope in
     let rest = map (λ (e : S). e.0) ss in
-    ap (λ (w : Walked). record { type_errors = both w.type_errors (in_order (map walked rest) w.scope).type_errors;
-      scope = (in_order (map walked rest) w.scope).scope }) (s.1 (first_of (stmt_keeps s.0 Spec) _ k) scope)
+    ap (λ (w : Walked). record {
+      type_errors = both w.type_errors (in_order (map walked rest) w.scope).type_errors;
+      scope = (in_order (map walked rest) w.scope).scope;
+    }) (s.1 (first_of (stmt_keeps s.0 Spec) _ k) scope)
     ∙ ap (λ (w : Walked). record { type_errors = both first.type_errors w.type_errors; scope = w.scope })
     (turns_case ss (second_of (stmt_keeps s.0 Spec) _ k) first.scope)
 

@@ -1,5 +1,5 @@
 -- Picks that are given, by place.
-use Rattle.std.proofs.Common.{◌≡◌, ◌≤◌, ◌<◌, ◌==◌, ◌+◌, ◌-◌, ℕ, zero, suc, Bool, false, List, [], ◌∷◌, length, get_or, take, drop, refl, sym, ap, ◌∙◌, arith}
+use Rattle.std.proofs.Common.{◌≡◌, ◌≤◌, ◌<◌, ◌+◌, ◌-◌, ℕ, zero, suc, Bool, false, List, [], ◌∷◌, length, get_or, take, drop, refl, sym, ap, ◌∙◌, arith}
 use Rattle.ygg_value.specs.Words.{word, bit_of}
 use Rattle.ygg_direct.specs.Acts.{next_of}
 use Rattle.ygg_direct.specs.Places.{left_after}
@@ -54,7 +54,8 @@ left_more (suc n) k (suc m) [] e = left_more n k m [] (omega arith)
 left_more (suc n) k (suc m) (x ∷ bits) e = left_more n k m bits (omega arith)
 
 -- the picks of what is left are the later picks
-pub given_more : (kinds : List RuleKind) (n k : ℕ) (given rest : List Bool) → rest ≡ left_after n given → given_pick kinds rest k ≡ given_pick kinds given (n + k)
+pub given_more : (kinds : List RuleKind) (n k : ℕ) (given rest : List Bool) → rest ≡ left_after n given →
+    given_pick kinds rest k ≡ given_pick kinds given (n + k)
 given_more kinds n k given rest e =
     ap (λ z. made kinds (Const (word 1 (bit_of (next_of false (left_after k z)))))) e
     ∙ ap (λ z. made kinds (Const (word 1 (bit_of (next_of false z))))) (left_more n k (n + k) given refl)

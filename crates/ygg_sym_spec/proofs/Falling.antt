@@ -1,5 +1,5 @@
 -- What blocks want stands after other steps.
-use Rattle.std.proofs.Common.{◌≡◌, ◌≤◌, ℕ, List, [], Some, refl, sym, subst}
+use Rattle.std.proofs.Common.{◌≡◌, ◌≤◌, List, [], Some, sym, subst}
 use Rattle.ygg_syntax.specs.declared.tree.Block.{Block}
 use Rattle.ygg_syntax.specs.declared.tree.Declared.{Declared}
 use Rattle.ygg_syntax.specs.declared.tree.Operation.{Operation}
@@ -65,7 +65,8 @@ module _ (l : SymLayer) (p : SymPicks) (nodes : List Node) (name : Name) (vars v
     single = can.single;
   }
 
-  pub call_can : (o : Operation) (args : List Declared) → Some o ≡ operation_of (closed l) name → args ≡ o.arguments → CanBlock l p nodes o.spec vars args values
+  pub call_can : (o : Operation) (args : List Declared) → Some o ≡ operation_of (closed l) name → args ≡ o.arguments →
+      CanBlock l p nodes o.spec vars args values
   call_can o args e f = record {
     sound = (can.serves).sound;
     typed = subst (SpecBlockTyped l.defs.now (closed l) o.spec) (sym f) (((can.serves).typed).operations name o (sym e)).spec;

@@ -1,5 +1,5 @@
 -- A block and then the `crash` block; and power that fails within an operation.
-use Rattle.std.proofs.Common.{◌≡◌, ◌+◌, ◌≤◌, ℕ, List, [], Option, Some, None, Result, Ok, Err, IfOk, OnOk, refl, sym, ap, ◌∙◌, subst}
+use Rattle.std.proofs.Common.{◌≡◌, ◌+◌, ℕ, List, Option, Some, None, Result, Ok, Err, IfOk, OnOk, refl, sym, ap, ◌∙◌, subst}
 use Rattle.ygg_syntax.specs.declared.tree.Block.{Block}
 use Rattle.ygg_syntax.specs.declared.tree.Declared.{Declared}
 use Rattle.ygg_syntax.specs.declared.tree.Operation.{Operation}
@@ -11,7 +11,7 @@ use Rattle.ygg_bank.specs.declared.node.Id.{Id}
 use Rattle.ygg_bank.specs.declared.node.Node.{Node}
 use Rattle.ygg_shape_cells.specs.declared.terms.SymValue.{SymValue}
 use Rattle.ygg_sym_expr.specs.Names.{sym_bind}
-use Rattle.ygg_sym_runs.specs.Lower.{KeepsSingle, SingleFrom}
+use Rattle.ygg_sym_runs.specs.Lower.{KeepsSingle}
 use Rattle.ygg_sym_below.specs.Disks.{Done, done}
 use Rattle.ygg_sym_below.specs.Lows.{merge_lows}
 use Rattle.ygg_sym_below.specs.SpecCuts.{picks_after, choice_room, crash_made, then_crash_made, fall_made, fall_asked}

@@ -1,8 +1,7 @@
 -- A block of a specification may be run on choices alone, and what it leaves stands.
-use Rattle.std.proofs.Common.{◌≡◌, ℕ, zero, suc, true, reverse, List, [], ◌∷◌, ◌++◌, length, map, Option, Some, None, Result, Ok, Err, IfOk, OnOk, IsTrue, refl, sym, ap, ◌∙◌, subst}
+use Rattle.std.proofs.Common.{◌≡◌, suc, reverse, List, [], ◌∷◌, ◌++◌, length, map, Option, IsTrue, refl, sym, ap, ◌∙◌, subst}
 use Rattle.std.proofs.lemmas.List.{map-append}
 use Rattle.std.proofs.lemmas.List.Elements.{All-append}
-use Rattle.ygg_syntax.specs.declared.grammar.BlockKind.TheVariants.{Spec}
 use Rattle.ygg_syntax.specs.declared.tree.Block.{Block}
 use Rattle.ygg_syntax.specs.declared.tree.Declared.{Declared}
 use Rattle.ygg_type_rules.specs.TypeErrors.{none}
@@ -16,7 +15,7 @@ use Rattle.ygg_type_progress.specs.Questions.{plain}
 use Rattle.ygg_rules.specs.declared.rule.RuleKind.{RuleKind}
 use Rattle.ygg_bank.proofs.Meaning.{fits_fewer}
 use Rattle.ygg_bank.specs.Nodes.{IsBank}
-use Rattle.ygg_bank.specs.Values.{Inputs, Values, Fits, value_of}
+use Rattle.ygg_bank.specs.Values.{value_of}
 use Rattle.ygg_bank.specs.declared.node.Node.{Node}
 use Rattle.ygg_shape.proofs.Answered.{no_inputs, some_fit}
 use Rattle.ygg_shape_cells.specs.Terms.{worth}
@@ -28,13 +27,11 @@ use Rattle.ygg_sym_expr.specs.declared.held.SymBinding.{SymBinding}
 use Rattle.ygg_sym_expr.proofs.Definitions.{functions_mean}
 use Rattle.ygg_sym_expr.proofs.Grows.{functions_grow}
 use Rattle.ygg_sym_runs.proofs.Worths.{NameShaped}
-use Rattle.ygg_sym_below.specs.Disks.{Done, done}
+use Rattle.ygg_sym_below.specs.Disks.{done}
 use Rattle.ygg_sym_below.specs.Lows.{LowShaped}
-use Rattle.ygg_sym_below.specs.Wholes.{SymFinish}
 use Rattle.ygg_sym_below.proofs.Blocks.{BlockOfSpec, block_made_gives, block_made_grows, low_stands, values_worth}
 use Rattle.ygg_sym_below.proofs.Specs.{bound_worth, low_shaped}
 use Rattle.ygg_sym_laws.specs.Means.{values_in}
-use Rattle.ygg_sym_laws.specs.Typed.{SpecBlockTyped}
 use Rattle.ygg_sym_whole.specs.Ready.{CanWhole, IsWhole}
 use Rattle.ygg_sym_below.specs.Specs.{Nothing}
 use Rattle.ygg_sym_spec.proofs.Bare.{block_alike}
@@ -79,7 +76,8 @@ module _ (l : SymLayer) (p : SymPicks) (nodes : List Node) (b : Block) (vars : L
           sound = can.sound;
           defs_is = typed.defs_is;
           lower_is = refl;
-          shaped = All-append (NameShaped nodes) (sym_bind state vars) (sym_bind args values) (low_shaped no_inputs (value_of no_inputs nodes) [] state vars nodes can.vars_are)
+          shaped = All-append (NameShaped nodes) (sym_bind state vars) (sym_bind args values)
+              (low_shaped no_inputs (value_of no_inputs nodes) [] state vars nodes can.vars_are)
               (low_shaped no_inputs (value_of no_inputs nodes) [] args values nodes can.args_are);
           agrees = λ inputs v h.
               let joined : worths v names_of ≡ bind state (map (worth v) vars) ++ bind args (map (worth v) values) =

@@ -1,5 +1,5 @@
 -- What choices over terms are as the machine on which a block of a specification runs.
-use Rattle.std.specs.Prelude.{ℕ, []}
+use Rattle.std.specs.Prelude.{[]}
 use Rattle.ygg_syntax.specs.declared.grammar.BlockKind.TheVariants.{Spec}
 use Rattle.ygg_sym_runs.specs.Lower.{SymMeaning}
 use Rattle.ygg_sym_below.specs.Specs.{Nothing, sym_chooser}

@@ -1,5 +1,5 @@
 -- A layer's specification in code, and what a block of it wants.
-use Rattle.std.specs.Prelude.{◌≡◌, ℕ, IsTrue, List, [], Option, Some}
+use Rattle.std.specs.Prelude.{◌≡◌, IsTrue, List, [], Some}
 use Rattle.ygg_syntax.specs.declared.tree.Block.{Block}
 use Rattle.ygg_syntax.specs.declared.tree.Declared.{Declared}
 use Rattle.ygg_syntax.specs.declared.tree.Operation.{Operation}

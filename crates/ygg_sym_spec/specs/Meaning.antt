@@ -1,5 +1,5 @@
 -- The specification of a layer over terms does what it means.
-use Rattle.std.specs.Prelude.{List, [], reverse, refl}
+use Rattle.std.specs.Prelude.{[], reverse, refl}
 use Rattle.ygg_type_rules.specs.Definitions.{with_definitions}
 use Rattle.ygg_sym_expr.proofs.Definitions.{functions_mean}
 use Rattle.ygg_sym_expr.proofs.Grows.{functions_grow}

@@ -70,7 +70,12 @@ pub fn block<'a, B: Book>(
     // the bank's nodes stand in order
     let _ = bank.len();
     let mut names = Vec::new(alloc);
-    bind(alloc, &mut names, layer.layer.state.as_slice(), vars.as_slice())?;
+    bind(
+        alloc,
+        &mut names,
+        layer.layer.state.as_slice(),
+        vars.as_slice(),
+    )?;
     let count = vars.len();
     bind(alloc, &mut names, args, values)?;
     let machine = SymChooser { picks };

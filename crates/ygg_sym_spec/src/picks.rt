@@ -39,7 +39,10 @@ impl<'a> SymPicks<'a> {
                 Some(number) => bank.make(Node::Input { number, width: 1 }, book),
                 None => Err(NoMemory),
             },
-            SymPicks::Given(given, _) => bank.make(Node::Const(bit_word(bit_in(given, place))), book),
+            SymPicks::Given(given, _) => bank.make(
+                Node::Const(bit_word(bit_in(given, place))),
+                book,
+            ),
         }
     }
 

@@ -1,6 +1,5 @@
 -- What power leaves of a specification over terms stands among the nodes.
-use Rattle.std.proofs.Common.{◌≡◌, ◌≤◌, List, [], Some, reverse, arith}
-use Rattle.std.specs.Prelude.{min}
+use Rattle.std.proofs.Common.{List, [], reverse, arith}
 use Rattle.ygg_syntax.specs.declared.tree.Block.{Block}
 use Rattle.ygg_syntax.specs.declared.tree.Declared.{Declared}
 use Rattle.ygg_syntax.specs.declared.tree.Def.{Def}
@@ -11,7 +10,7 @@ use Rattle.ygg_sym_expr.proofs.Grows.{functions_grow}
 use Rattle.ygg_sym_below.proofs.SpecStops.{FallsTyped, SomeBlock, spec_stops_mean}
 use Rattle.ygg_sym_laws.specs.Below.{signatures_of}
 use Rattle.ygg_sym_laws.specs.Typed.{SpecBlockTyped, SpecTyped}
-use Rattle.ygg_sym_spec.specs.Layers.{SpecServes, closed, terms_in}
+use Rattle.ygg_sym_spec.specs.Layers.{closed, terms_in}
 use Rattle.ygg_sym_spec.specs.Machine.{spec_meaning}
 use Rattle.ygg_sym_stops.specs.Stopping.{IsPower}
 use Rattle.ygg_sym_spec_stops.specs.Failing.{spec_power}

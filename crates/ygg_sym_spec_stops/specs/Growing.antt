@@ -1,5 +1,5 @@
 -- Power that fails on a specification over terms only adds nodes.
-use Rattle.std.specs.Prelude.{ℕ, ◌+◌, List, [], Option, Some, None, reverse}
+use Rattle.std.specs.Prelude.{ℕ, ◌+◌, List, Option, Some, None, reverse}
 use Rattle.ygg_syntax.specs.declared.tree.Block.{Block}
 use Rattle.ygg_syntax.specs.declared.tree.Def.{Def}
 use Rattle.ygg_syntax.specs.declared.tree.Operation.{Operation}
@@ -33,7 +33,8 @@ module _ (kinds : List RuleKind) (P : List Node → Type 0) (stays : Stays kinds
   loss_keeps : (pick : ℕ → Make Id) → AllKeep pick → (vars : List SymValue) → Keeps P (crash_made kinds terms m pick vars)
   loss_keeps pick fresh vars nodes p = crash_keeps kinds P stays terms keep m pick (λ k l. fresh k) vars nodes p
 
-  then_keeps : (pick : ℕ → Make Id) → AllKeep pick → (b : Block) (vars : List SymValue) (args : SymEnv) → Keeps P (then_crash_made kinds terms m pick b vars args)
+  then_keeps : (pick : ℕ → Make Id) → AllKeep pick → (b : Block) (vars : List SymValue) (args : SymEnv) →
+      Keeps P (then_crash_made kinds terms m pick b vars args)
   then_keeps pick fresh b vars args nodes p =
       let o = block_made kinds terms m pick b vars args nodes in
       loss_keeps (picks_after (choice_room b) pick) (λ k. fresh (choice_room b + k)) o.value.to o.nodes
@@ -67,10 +68,12 @@ module _ (kinds : List RuleKind) (defs : List Def) (m : ClosedLayer) (last : ℕ
   pub cut_grows : (q : SymQuestion) (vars : List SymValue) → Grows (spec_cuts kinds (sym_functions kinds (reverse defs)) m (input_pick kinds last) q vars)
   cut_grows q vars nodes =
       cuts_keep kinds (Extends nodes) (grows_stays kinds nodes) (sym_functions kinds (reverse defs))
-      (functions_keep kinds (Extends nodes) (grows_stays kinds nodes) (reverse defs)) m (input_pick kinds last) (fresh_grows nodes) q vars nodes (extends_self nodes)
+      (functions_keep kinds (Extends nodes) (grows_stays kinds nodes) (reverse defs)) m (input_pick kinds last) (fresh_grows nodes) q vars nodes
+      (extends_self nodes)
 
   -- and between questions
   pub loss_grows : (vars : List SymValue) → Grows (crash_made kinds (sym_functions kinds (reverse defs)) m (input_pick kinds last) vars)
   loss_grows vars nodes =
       loss_keeps kinds (Extends nodes) (grows_stays kinds nodes) (sym_functions kinds (reverse defs))
-      (functions_keep kinds (Extends nodes) (grows_stays kinds nodes) (reverse defs)) m (input_pick kinds last) (fresh_grows nodes) vars nodes (extends_self nodes)
+      (functions_keep kinds (Extends nodes) (grows_stays kinds nodes) (reverse defs)) m (input_pick kinds last) (fresh_grows nodes) vars nodes
+      (extends_self nodes)

@@ -1,5 +1,4 @@
 use Rattle.std.proofs.Common.{subst}
-use Rattle.ygg_base.specs.declared.geometry.DiskKind.TheVariants.{Sync, Async}
 use Rattle.ygg_histories.specs.Stack.{tables_of_kind}
 use Rattle.ygg_sym_below.specs.Lows.{LowShaped}
 use Rattle.ygg_sym_disk.proofs.Stands.{row_stands, stable_stands, view_stands}

@@ -1,4 +1,3 @@
-use Rattle.std.proofs.Common.{◌+◌}
 use Rattle.ygg_sym_runs.specs.Runs.{Call}
 use Rattle.ygg_sym_disk.proofs.Asked.{can_call, handled_single}
 use Rattle.ygg_sym_disk.proofs.lower.SymDiskSymLower.handle.Goals as goal

@@ -21,7 +21,8 @@ returns-in-Some-clause-nodes g c =
     nodes_along (call_of kinds m.layer c.in-Some.first c.in-Call.name.now c.in-Call.args.now c.args.state.now c.args.bank.now)
     (spec_handles kinds (terms_in kinds m.layer) (closed m.layer) (λ k. input_pick kinds m.first (c.args.place + k)) (question_of c.args.question)
     c.args.state.now c.args.bank.now) c.call.new.bank c.call.result
-    (call_goes kinds m c.args.place c.in-Some.first c.args.question c.in-Call.name c.in-Call.args c.args.state.now c.args.bank.now e.1 c.in-Call.is) c.call.ensures.nodes
+    (call_goes kinds m c.args.place c.in-Some.first c.args.question c.in-Call.name c.in-Call.args c.args.state.now c.args.bank.now
+    e.1 c.in-Call.is) c.call.ensures.nodes
 
 pub returns-in-Some-clause-answer : goal.returns-in-Some-clause-answer
 returns-in-Some-clause-answer g c =
@@ -31,7 +32,8 @@ returns-in-Some-clause-answer g c =
     answer_along (call_of kinds m.layer c.in-Some.first c.in-Call.name.now c.in-Call.args.now c.args.state.now c.args.bank.now)
     (spec_handles kinds (terms_in kinds m.layer) (closed m.layer) (λ k. input_pick kinds m.first (c.args.place + k)) (question_of c.args.question)
     c.args.state.now c.args.bank.now) c.call.new.state c.call.result
-    (call_goes kinds m c.args.place c.in-Some.first c.args.question c.in-Call.name c.in-Call.args c.args.state.now c.args.bank.now e.1 c.in-Call.is) c.call.ensures.form
+    (call_goes kinds m c.args.place c.in-Some.first c.args.question c.in-Call.name c.in-Call.args c.args.state.now c.args.bank.now
+    e.1 c.in-Call.is) c.call.ensures.form
 
 pub returns-in-Some-clause-state : goal.returns-in-Some-clause-state
 returns-in-Some-clause-state g c =
@@ -41,4 +43,5 @@ returns-in-Some-clause-state g c =
     state_along (call_of kinds m.layer c.in-Some.first c.in-Call.name.now c.in-Call.args.now c.args.state.now c.args.bank.now)
     (spec_handles kinds (terms_in kinds m.layer) (closed m.layer) (λ k. input_pick kinds m.first (c.args.place + k)) (question_of c.args.question)
     c.args.state.now c.args.bank.now) c.call.new.state c.call.result
-    (call_goes kinds m c.args.place c.in-Some.first c.args.question c.in-Call.name c.in-Call.args c.args.state.now c.args.bank.now e.1 c.in-Call.is) c.call.ensures.form
+    (call_goes kinds m c.args.place c.in-Some.first c.args.question c.in-Call.name c.in-Call.args c.args.state.now c.args.bank.now
+    e.1 c.in-Call.is) c.call.ensures.form

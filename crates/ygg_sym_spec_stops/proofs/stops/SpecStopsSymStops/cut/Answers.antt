@@ -1,6 +1,4 @@
-use Rattle.std.proofs.Common.{subst, sym, ap, ◌∙◌}
-use Rattle.ygg_bank.specs.Makes.{Out}
-use Rattle.ygg_shape_cells.specs.declared.terms.SymValue.{SymValue}
+use Rattle.std.proofs.Common.{subst, sym}
 use Rattle.ygg_sym_spec.specs.Layers as layers
 use Rattle.ygg_sym_spec.specs.declared.picks.SymPicks.TheVariants as picks
 use Rattle.ygg_sym_spec_stops.proofs.Failed.{can_fall, choice_form, choice_nodes}
@@ -8,7 +6,8 @@ use Rattle.ygg_sym_spec_stops.proofs.stops.SpecStopsSymStops.cut.Goals as goal
 
 pub fall-requires : goal.fall-requires
 fall-requires g c = record {
-  can = subst (λ z. layers.CanCut ((c.args.self.now).machine).layer (picks.Inputs (c.args.self.now).last) c.args.bank.now c.in-Call.name.now z c.in-Call.args.now)
+  can = subst (λ z. layers.CanCut ((c.args.self.now).machine).layer (picks.Inputs (c.args.self.now).last) c.args.bank.now c.in-Call.name.now z
+      c.in-Call.args.now)
       (sym c.state.view_is)
       (can_fall c.args.self.now c.args.question c.in-Call.name c.in-Call.args c.args.state.now c.args.bank.now c.len.ensures.bank c.in-Call.is c.requires.cuts);
 }
