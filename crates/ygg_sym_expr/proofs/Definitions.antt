@@ -69,7 +69,7 @@ use Rattle.ygg_sym_expr.proofs.Parts.{AllWorth}
 use Rattle.ygg_sym_expr.proofs.Values.{same_defs, FunctionsMean, value_means}
 
 -- parameters change no definitions
-parameters_defs : (ps : List Declared) (scope : Scope) → (with_parameters ps scope).defs ≡ scope.defs
+pub parameters_defs : (ps : List Declared) (scope : Scope) → (with_parameters ps scope).defs ≡ scope.defs
 parameters_defs [] scope = refl
 parameters_defs (p ∷ ps) scope = parameters_defs ps (with_parameter p scope) ∙ same_defs p.name.text (shape_of p.shape) false scope
 
@@ -115,21 +115,23 @@ meets_more before d defs meets parts name s h args fit = cases (bytes_eq d.name.
         has fit
     cases false e g = meets name s (other_found (look_up name defs) s g) args fit
 
+-- parameters with values of some shapes
+pub bound_shaped : (ps : List Declared) (xs : List SymValue) (nodes : List Node) → All (SomeShape nodes) xs → EnvShaped nodes (sym_bind ps xs)
+bound_shaped [] xs nodes h = All-nil (λ (b : Name × SymValue). SomeShape nodes b.1)
+bound_shaped (p ∷ ps) [] nodes h = All-nil (λ (b : Name × SymValue). SomeShape nodes b.1)
+bound_shaped (p ∷ ps) (x ∷ xs) nodes h =
+    All-cons (λ (b : Name × SymValue). SomeShape nodes b.1) (p.name.text, x) (sym_bind ps xs) (All-head (SomeShape nodes) x xs h)
+    (bound_shaped ps xs nodes (All-tail (SomeShape nodes) x xs h))
+
+-- and what they are worth
+pub bound_worth : (v : Values) (ps : List Declared) (xs : List SymValue) → worths v (sym_bind ps xs) ≡ bind ps (map (worth v) xs)
+bound_worth v [] xs = refl
+bound_worth v (p ∷ ps) [] = refl
+bound_worth v (p ∷ ps) (x ∷ xs) = ap (λ env. (p.name.text, worth v x) ∷ env) (bound_worth v ps xs)
+
 module _ (inputs : Inputs) (v : Values) (kinds : List RuleKind) where
   abbrev Mean : Named Signature → List Def → Type 0
   Mean defs before = FunctionsMean inputs v kinds defs (functions_from before) (sym_functions kinds before) (functions_grow kinds before)
-
-  bound_shaped : (ps : List Declared) (xs : List SymValue) (nodes : List Node) → All (SomeShape nodes) xs → EnvShaped nodes (sym_bind ps xs)
-  bound_shaped [] xs nodes h = All-nil (λ (b : Name × SymValue). SomeShape nodes b.1)
-  bound_shaped (p ∷ ps) [] nodes h = All-nil (λ (b : Name × SymValue). SomeShape nodes b.1)
-  bound_shaped (p ∷ ps) (x ∷ xs) nodes h =
-      All-cons (λ (b : Name × SymValue). SomeShape nodes b.1) (p.name.text, x) (sym_bind ps xs) (All-head (SomeShape nodes) x xs h)
-      (bound_shaped ps xs nodes (All-tail (SomeShape nodes) x xs h))
-
-  bound_worth : (ps : List Declared) (xs : List SymValue) → worths v (sym_bind ps xs) ≡ bind ps (map (worth v) xs)
-  bound_worth [] xs = refl
-  bound_worth (p ∷ ps) [] = refl
-  bound_worth (p ∷ ps) (x ∷ xs) = ap (λ env. (p.name.text, worth v x) ∷ env) (bound_worth ps xs)
 
   body_means : (before : List Def) (d : Def) (defs : Named Signature) → MeetsAll (functions_from before) defs → Mean defs before → DefinitionParts d defs →
       (xs : List SymValue) (wants : List Value) (nodes : List Node) → all_fit (definition_signature d).arguments wants ≡ true →
@@ -140,7 +142,7 @@ module _ (inputs : Inputs) (v : Values) (kinds : List RuleKind) where
       let scope = with_parameters d.parameters (definition_scope defs) in
       let from : SymScope = record { own = sym_bind d.parameters xs; low = [] } in
       let same : scope_worth v from ≡ called d.parameters wants =
-      ap (λ own. record { own = own; low = [] }) (bound_worth d.parameters xs ∙ ap (bind d.parameters) w.is) in
+      ap (λ own. record { own = own; low = [] }) (bound_worth v d.parameters xs ∙ ap (bind d.parameters) w.is) in
       let agrees = subst (Agrees (functions_from before) scope) (sym same) (body_agrees (functions_from before) d defs wants meets parts fit) in
       let t = typing d.body scope in
       let none_there = left (none t.type_errors) (none (wanted t.part (shape_of d.shape))) parts.body in

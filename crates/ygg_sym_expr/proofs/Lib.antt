@@ -4,3 +4,8 @@ pub mod Grows
 pub mod Parts
 pub mod Values
 pub mod Definitions
+pub mod Placed
+pub mod Naming
+pub mod Constructs
+pub mod Terms
+pub mod Ready

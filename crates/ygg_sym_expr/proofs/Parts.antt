@@ -59,7 +59,7 @@ use Rattle.ygg_bank.specs.declared.node.Node.TheVariants as node
 use Rattle.ygg_shape_words.proofs.Terms.{TermIs, made_is, digit_is, not_digit}
 use Rattle.ygg_shape.proofs.Makers.{merged_gives, compared_gives, selected_gives, word_selected_gives}
 use Rattle.ygg_shape_cells.specs.Making.{merged, compared}
-use Rattle.ygg_shape_cells.specs.Terms.{IsShaped, worth, numbers_of, row_width}
+use Rattle.ygg_shape_cells.specs.Terms.{IsShaped, AreAlike, worth, numbers_of, row_width}
 use Rattle.ygg_shape_cells.specs.declared.terms.SymValue.{SymValue}
 use Rattle.ygg_shape_cells.specs.declared.terms.SymValue.TheVariants.{Word, Row, Table}
 use Rattle.ygg_sym_expr.specs.Exprs.{id_in, word_made, number_made, applied, part_made, joined}
@@ -102,6 +102,19 @@ module _ (inputs : Inputs) (v : Values) (kinds : List RuleKind) where
 
   -- operators
 
+  -- an operation on two words to which it may be applied can be made
+  pub plain_can : (o : Op) (x y : SymValue) (a b : Value) (nodes : List Node) → Fits inputs v nodes → IsWorth v a nodes x → IsWorth v b nodes y →
+      Operands o a b → CanBin nodes o (id_in x) (id_in y)
+  plain_can o x y a b nodes f p q r =
+      let s = is_term inputs v a nodes x f p r.first in
+      let t = is_term inputs v b nodes y f q r.second in
+      record {
+        one = stands nodes (id_in x) (word_in a).width s.wide;
+        two = stands nodes (id_in y) (word_in b).width t.wide;
+        widths = can_widths o (word_in a) (word_in b) _ _ (width_is nodes (id_in x) (word_in a).width s.wide)
+            (width_is nodes (id_in y) (word_in b).width t.wide) r.can;
+      }
+
   plain_gives : (o : Op) (x y : SymValue) (a b : Value) (nodes : List Node) → IsWorth v a nodes x → IsWorth v b nodes y → Operands o a b →
       Gives inputs v (word_made kinds (node.Bin o (id_in x) (id_in y))) nodes (IsWorth v (value.Word (apply_to o (word_in a) (word_in b))))
   plain_gives o x y a b nodes p q r h =
@@ -109,13 +122,7 @@ module _ (inputs : Inputs) (v : Values) (kinds : List RuleKind) where
       (word_grows kinds (node.Bin o (id_in x) (id_in y)) nodes) h in
       let s = is_term inputs v a nodes x f p r.first in
       let t = is_term inputs v b nodes y f q r.second in
-      let can : CanBin nodes o (id_in x) (id_in y) = record {
-        one = stands nodes (id_in x) (word_in a).width s.wide;
-        two = stands nodes (id_in y) (word_in b).width t.wide;
-        widths = can_widths o (word_in a) (word_in b) _ _ (width_is nodes (id_in x) (word_in a).width s.wide)
-            (width_is nodes (id_in y) (word_in b).width t.wide) r.can;
-      } in
-      let m = word_gives (node.Bin o (id_in x) (id_in y)) nodes can h in
+      let m = word_gives (node.Bin o (id_in x) (id_in y)) nodes (plain_can o x y a b nodes f p q r) h in
       record {
         shaped = m.shaped;
         is = m.is ∙ ap (λ k. value.Word (apply_to o k (v (id_in y).0))) s.worth ∙ ap (λ k. value.Word (apply_to o (word_in a) k)) t.worth;
@@ -141,6 +148,19 @@ module _ (inputs : Inputs) (v : Values) (kinds : List RuleKind) where
         wide = m.wide;
         is = m.is ∙ ap (λ k. word 1 (bit_of (same_value k (worth v y)))) p.is ∙ ap (λ k. word 1 (bit_of (same_value a k))) q.is;
       }
+
+  -- values of one shape are alike
+  pub alike_values : (x y : SymValue) (a b : Value) (nodes : List Node) → Fits inputs v nodes → IsWorth v a nodes x → IsWorth v b nodes y →
+      shape_of a ≡ shape_of b → AreAlike nodes x y
+  alike_values x y a b nodes f p q e =
+      let s = p.shaped in
+      let t = q.shaped in
+      let sx : shape_of a ≡ s.shape = sym (ap shape_of p.is) ∙ worth_shape inputs v nodes s.shape x f s.stands in
+      let sy : shape_of b ≡ t.shape = sym (ap shape_of q.is) ∙ worth_shape inputs v nodes t.shape y f t.stands in
+      let same : t.shape ≡ s.shape = sym sy ∙ sym e ∙ sx in
+      let one = s.stands in
+      let two = subst (λ k. IsShaped nodes k y) same t.stands in
+      record { shape = s.shape; limits = one.limits; one_has = one.has; two_has = two.has }
 
   digit_worth : (b : Bool) (nodes : List Node) (a : Id) → Fits inputs v nodes → IsDigit b nodes a → IsWorth v (value.Word (word 1 (bit_of b))) nodes (Word a)
   digit_worth b nodes a h t = word_worth inputs v nodes 1 (word 1 (bit_of b)) a h t

@@ -154,7 +154,7 @@ same_defs x known assignable scope = cases (has x scope.variables)
     cases true = refl
     cases false = refl
 
-can_or : (nodes : List Node) (a b : Id) → HasWidth nodes a 1 → HasWidth nodes b 1 → CanBin nodes op.Or a b
+pub can_or : (nodes : List Node) (a b : Id) → HasWidth nodes a 1 → HasWidth nodes b 1 → CanBin nodes op.Or a b
 can_or nodes a b p q = record { one = stands nodes a 1 p; two = stands nodes b 1 q; widths = width_is nodes a 1 p ∙ sym (width_is nodes b 1 q) }
 
 module _ (inputs : Inputs) (v : Values) where
