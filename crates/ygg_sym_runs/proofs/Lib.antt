@@ -5,3 +5,4 @@ pub mod Typed
 pub mod Ends
 pub mod Parts
 pub mod Agreement
+pub mod Singles

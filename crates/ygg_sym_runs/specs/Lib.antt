@@ -1,3 +1,4 @@
 pub mod Putting
 pub mod Runs
 pub mod Meaning
+pub mod Lower

@@ -1,0 +1,78 @@
+-- What a call on a disk wants follows from what a typed block may ask; and what calls keep.
+use Rattle.std.proofs.Common.{◌≡◌, ◌≤◌, ◌+◌, ℕ, Some, None, List, [], ◌∷◌, map, refl, sym, subst, ap, Result, Ok, Err, OnOk, IsTrue, Bor, arith}
+use Rattle.ygg_syntax.specs.declared.tree.DiskText.{DiskText}
+use Rattle.ygg_type_rules.specs.Files.{disk_operations}
+use Rattle.ygg_meaning.specs.Environments.{Name}
+use Rattle.ygg_direct.proofs.DiskServes.{fitting_call}
+use Rattle.ygg_rules.specs.declared.rule.RuleKind.{RuleKind}
+use Rattle.ygg_bank.proofs.Widths.{stands}
+use Rattle.ygg_bank.specs.Inputs.{InputsBelow}
+use Rattle.ygg_bank.specs.Nodes.{HasWidth, IsBank, OneWidth}
+use Rattle.ygg_bank.specs.Values.{Inputs, Values, Fits, value_of}
+use Rattle.ygg_bank.specs.declared.node.Id.{Id}
+use Rattle.ygg_bank.specs.declared.node.Node.{Node}
+use Rattle.ygg_shape.proofs.Answered.{no_inputs, some_fit}
+use Rattle.ygg_shape.specs.Wholes.{AllAlike}
+use Rattle.ygg_shape_cells.specs.Terms.{AreShaped, worth}
+use Rattle.ygg_shape_cells.specs.declared.terms.SymValue.{SymValue}
+use Rattle.ygg_syntax.specs.declared.tree.Declared.{Declared}
+use Rattle.ygg_meaning.specs.Shapes.{shape_in}
+use Rattle.ygg_sym_runs.specs.Lower.{CanAsk, KeepsSingle, SingleFrom, question_of}
+use Rattle.ygg_sym_runs.specs.declared.question.Question as asked
+use Rattle.ygg_sym_runs.specs.declared.question.Question.TheVariants as question
+use Rattle.ygg_sym_runs.specs.Runs.{SymQuestion, Choice, Call}
+use Rattle.ygg_sym_runs.proofs.Singles.{single_stays, input_single}
+use Rattle.ygg_sym_below.specs.Disks.{SymCall, Read, Write, Flush, sym_call, disk_handles}
+use Rattle.ygg_sym_below.specs.Lows.{LowShaped, merge_lows}
+use Rattle.ygg_sym_below.proofs.Disks.{CallShaped, ask_is}
+use Rattle.ygg_sym_below.proofs.DiskKeeps.{disk_keeps}
+use Rattle.ygg_shape.proofs.Whole.{merged_all_keeps}
+use Rattle.ygg_sym_disk.specs.Asking.{CallStands}
+use Rattle.ygg_sym_disk.specs.Means.{disk_meaning}
+use Rattle.ygg_sym_disk.specs.declared.lower.SymDisk.{SymDisk}
+
+shaped_stands : (inputs : Inputs) (v : Values) (kinds : List RuleKind) (d : DiskText) (nodes : List Node) (call : SymCall) →
+    CallShaped inputs v kinds d nodes call → CallStands d nodes (Some call)
+shaped_stands inputs v kinds d nodes (Read at) c = stands nodes at c.0 c.1
+shaped_stands inputs v kinds d nodes (Write at row) c = (stands nodes at c.0 c.1, c.2)
+shaped_stands inputs v kinds d nodes Flush c = tt
+
+-- the call of a question that may be asked
+pub can_call : (m : SymDisk) (q : asked.Question) (name : Bor (List ℕ)) (xs : Bor (List SymValue)) (tables : List SymValue) (nodes : List Node) →
+    IsBank nodes → q ≡ question.Call name xs → CanAsk (disk_meaning m) nodes (question_of q) tables → CallStands m.disk nodes (sym_call name.now xs.now)
+can_call m q name xs tables nodes b e may =
+    let can = subst (λ z. CanAsk (disk_meaning m) nodes (question_of z) tables) e may in
+    let v = value_of no_inputs nodes in
+    let h = some_fit nodes b in
+    let right = (can.stands).serves in
+    let f = fitting_call (disk_operations m.disk) name.now (map (worth v) xs.now) (can.fits no_inputs v h) in
+    let a = ask_is no_inputs v [] m.disk right name.now xs.now nodes f.operation h can.shaped f.found f.fit in
+    subst (CallStands m.disk nodes) (sym a.terms) (shaped_stands no_inputs v [] m.disk nodes a.call a.shaped)
+
+-- two states of the same names are alike
+pub lows_alike : (nodes : List Node) (names : List Declared) (xs ys : List SymValue) → LowShaped nodes names xs → LowShaped nodes names ys →
+    AllAlike nodes xs ys
+lows_alike nodes names xs ys p q = record {
+  shapes = map (λ (d : Declared). shape_in d.shape) names;
+  ones_are = all names xs p;
+  twos_are = all names ys q;
+}
+  where
+    all : (names : List Declared) (xs : List SymValue) → LowShaped nodes names xs → AreShaped nodes (map (λ (d : Declared). shape_in d.shape) names) xs
+    all [] [] p = tt
+    all [] (x ∷ xs) p = absurd p
+    all (d ∷ names) [] p = absurd p
+    all (d ∷ names) (x ∷ xs) p = (p.0, all names xs p.1)
+
+-- the input of a question's place, and no others, come
+pub handled_single : {E A : Type 0} (kinds : List RuleKind) (m : SymDisk) (number : ℕ) (q : SymQuestion) (tables : List SymValue) (old new : List Node)
+    (r : Result A E) → OnOk r (new ≡ (disk_handles kinds m.disk.kind number q tables old).nodes) → OnOk r (KeepsSingle old new)
+handled_single kinds m number q tables old new (Ok a) e = λ first h. subst (SingleFrom first) (sym e)
+    (disk_keeps kinds (SingleFrom first) (single_stays kinds first) number (λ nodes p. input_single kinds first number nodes p) m.disk.kind q tables old h)
+handled_single kinds m number q tables old new (Err x) e = tt
+
+-- no input comes as states are merged
+pub merged_single : (kinds : List RuleKind) (t : Id) (xs ys : List SymValue) (old new : List Node) → new ≡ (merge_lows kinds t xs ys old).nodes →
+    KeepsSingle old new
+merged_single kinds t xs ys old new e = λ first h. subst (SingleFrom first) (sym e)
+    (merged_all_keeps kinds (SingleFrom first) (single_stays kinds first) t xs ys old h)

@@ -1,0 +1,24 @@
+use Rattle.std.proofs.Common.{subst}
+use Rattle.ygg_base.specs.declared.geometry.DiskKind.TheVariants.{Sync, Async}
+use Rattle.ygg_histories.specs.Stack.{tables_of_kind}
+use Rattle.ygg_sym_below.specs.Lows.{LowShaped}
+use Rattle.ygg_sym_disk.proofs.Stands.{row_stands, stable_stands, view_stands}
+use Rattle.ygg_sym_disk.proofs.power.cut_write.Goals as goal
+
+pub write_where-requires-clause-table : goal.write_where-requires-clause-table
+write_where-requires-clause-table g c =
+    view_stands c.args.disk c.args.disk.kind c.args.bank.now c.make.new.self c.args.tables.now c.at.result.now c.make.ensures.grows c.requires.tables
+    c.at.ensures
+
+pub write_where-requires-clause-row : goal.write_where-requires-clause-row
+write_where-requires-clause-row g c =
+    let call = c.requires.call in row_stands c.args.disk c.args.bank.now c.make.new.self c.args.row.now c.make.ensures.grows call.1
+
+pub write_where-requires-in-Async-clause-table : goal.write_where-requires-in-Async-clause-table
+write_where-requires-in-Async-clause-table g c =
+    stable_stands c.args.disk c.args.bank.now c.make.new.self c.args.tables.now c.at-in-Async.result.now c.make.ensures.grows
+    (subst (λ k. LowShaped c.args.bank.now (tables_of_kind k c.args.disk) c.args.tables.now) c.in-Async.is c.requires.tables) c.at-in-Async.ensures
+
+pub write_where-requires-in-Async-clause-row : goal.write_where-requires-in-Async-clause-row
+write_where-requires-in-Async-clause-row g c =
+    let call = c.requires.call in row_stands c.args.disk c.args.bank.now c.make.new.self c.args.row.now c.make.ensures.grows call.1

@@ -1,0 +1,14 @@
+//! The disks over terms: calls, power that fails, and states that are merged.
+#![tactic(auto)]
+
+mod asking;
+mod lower;
+mod lows;
+mod machine;
+mod power;
+mod tables;
+
+pub use lower::SymDisk;
+pub use lows::{Lows, merge_lows};
+pub use machine::handle;
+pub use power::{cut, lose};
