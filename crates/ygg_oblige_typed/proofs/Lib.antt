@@ -1,0 +1,4 @@
+pub mod Widening
+pub mod Formulas
+pub mod Blocks
+pub mod Files
