@@ -3,6 +3,7 @@ use Rattle.std.proofs.Common.{
   ◌≡◌,
   ◌≤◌,
   ℕ,
+  suc,
   ◌+◌,
   Bool,
   List,
@@ -241,7 +242,7 @@ module _ (past : Bool) where
           omega (arith, h, s, n)
 
       few : (s : State Env) (o : Option Operation) (args : List Value) (picks : Picks) →
-          length (spec_does past L s o args picks).notes ≤ elim o [ None ↦ 0 | Some o ↦ room_of (λ f. 1) o.spec ]
+          length (spec_does past L s o args picks).notes ≤ suc (elim o [ None ↦ 0 | Some o ↦ room_of (λ f. 1) o.spec ])
       few s None args picks = omega arith
       few s (Some o) args picks =
           let start : Held Picks = record { at = []; left = picks } in

@@ -50,9 +50,10 @@ module _ {B : Type 0} (space : Name → ℕ) (F : Acts B Bool) (L : ClosedLayer)
 abbrev pub disk_space : Name → ℕ
 disk_space name = 1
 
--- a call of a specification has as many places as its `spec` block
+-- A call of a specification has one place more than its `spec` block: a call whose block makes no choices has a place of its own too, by which its stops
+-- are told from those of other calls.
 abbrev pub spec_space : ClosedLayer → Name → ℕ
-spec_space L name = elim (operation_of L name) [ None ↦ 0 | Some o ↦ room_of (λ f. 1) o.spec ]
+spec_space L name = suc (elim (operation_of L name) [ None ↦ 0 | Some o ↦ room_of (λ f. 1) o.spec ])
 
 -- on a disk a block runs alike with picks by place and from the front
 abbrev pub RunsByPlaceOnDisk : Type 0

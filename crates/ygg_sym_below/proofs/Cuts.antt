@@ -1,10 +1,8 @@
 -- Power that fails on a disk over terms leaves what it leaves on the disk.
-use Rattle.std.proofs.Common.{◌≡◌, ◌+◌, ◌==◌, ◌||◌, ℕ, Bool, true, false, if◌then◌else◌, List, [], ◌∷◌, map, Option, Some, None, refl, sym, ap, ◌∙◌, subst}
+use Rattle.std.proofs.Common.{◌≡◌, ◌+◌, ◌==◌, ℕ, Bool, true, if◌then◌else◌, List, [], ◌∷◌, map, sym, ap, ◌∙◌, subst}
 use Rattle.std.specs.Prelude.{codes}
 use Rattle.ygg_base.specs.declared.geometry.DiskKind.{DiskKind}
 use Rattle.ygg_base.specs.declared.geometry.DiskKind.TheVariants.{Sync, Async}
-use Rattle.ygg_value.specs.Number.{Number}
-use Rattle.ygg_value.specs.Words.{word, bit_of, apply_to}
 use Rattle.ygg_value.specs.Values.{table_write}
 use Rattle.ygg_value.specs.declared.operation.Op.TheVariants.{Or}
 use Rattle.ygg_value.specs.declared.row.Value.TheVariants as value
@@ -23,33 +21,30 @@ use Rattle.ygg_type_progress.specs.Questions.{question_fits}
 use Rattle.ygg_rules.specs.declared.rule.RuleKind.{RuleKind}
 use Rattle.ygg_bank.proofs.Made.{made_grows}
 use Rattle.ygg_bank.proofs.Meaning.{fits_fewer}
-use Rattle.ygg_bank.proofs.Widths.{wider, width_is, stands, extends_self, extends_both}
+use Rattle.ygg_bank.proofs.Widths.{wider, extends_self}
 use Rattle.ygg_bank.specs.Making.{made}
-use Rattle.ygg_bank.specs.Nodes.{HasWidth, CanBin}
 use Rattle.ygg_bank.specs.Values.{Inputs, Values}
-use Rattle.ygg_bank.specs.declared.node.Id.{Id}
 use Rattle.ygg_bank.specs.declared.node.Node.{Node}
 use Rattle.ygg_bank.specs.declared.node.Node.TheVariants.{Input, Bin}
 use Rattle.ygg_shape_words.proofs.Grows.{picked_grows}
-use Rattle.ygg_shape_words.proofs.Picks.{picked_is}
-use Rattle.ygg_shape_words.proofs.Terms.{made_is, digit_is}
 use Rattle.ygg_shape_cells.proofs.Wider.{row_wider}
 use Rattle.ygg_shape_cells.specs.Terms.{worth, row_of}
 use Rattle.ygg_shape_cells.specs.declared.terms.SymValue.{SymValue}
 use Rattle.ygg_direct.specs.DiskActs.{kind_falls, state_in, table_in, disk_drops, disk_acts}
 use Rattle.ygg_direct.specs.RunPlaces.{cut_by}
 use Rattle.ygg_direct.proofs.DiskServes.{fitting_call}
-use Rattle.ygg_sym_expr.specs.Meaning.{Grows, Gives}
+use Rattle.ygg_sym_expr.specs.Meaning.{Gives}
 use Rattle.ygg_shape_cells.proofs.Wider.{shaped_wider}
 use Rattle.ygg_sym_runs.specs.Runs.{SymQuestion, Choice, Call}
-use Rattle.ygg_sym_runs.specs.Meaning.{Low, question_worth, is_set, QuestionShaped, IsLow}
+use Rattle.ygg_sym_runs.specs.Meaning.{Low, question_worth, QuestionShaped, IsLow}
 use Rattle.ygg_sym_below.specs.Lows.{LowShaped, low_worth}
-use Rattle.ygg_sym_below.specs.Disks.{SymCall, Read, Write, Flush, sym_call, writes_where}
+use Rattle.ygg_sym_below.specs.Disks.{SymCall, Read, Write, Flush, writes_where}
 use Rattle.ygg_sym_below.specs.StopTerms.{Stops}
 use Rattle.ygg_sym_below.specs.Cuts.{disk_loses, sync_cuts, async_cuts, kind_cuts, call_cuts, disk_cuts, disk_stops}
 use Rattle.ygg_sym_below.proofs.Lows.{low_of, low_wider, merge_lows_grows, merge_worth}
-use Rattle.ygg_sym_below.proofs.StopMeaning.{IsTest, StopsMean}
-use Rattle.ygg_sym_below.proofs.DiskKeeps.{where_grows}
+use Rattle.ygg_sym_below.proofs.StopMeaning.{StopsMean}
+use Rattle.ygg_sym_below.proofs.StopParts.{either_is, one_is}
+use Rattle.ygg_sym_below.proofs.DiskKeeps.{where_grows, cuts_grow}
 use Rattle.ygg_sym_below.proofs.Disks.{call_worth, CallShaped, where_give, table_is, pick_gives, AskIs, ask_is}
 
 -- what power leaves, as values of terms for declared names
@@ -59,40 +54,6 @@ left_of d = record {
   Has = λ nodes xs. LowShaped nodes (tables_of d) xs;
   wider = λ old new xs g h. low_wider old new (tables_of d) xs g h;
 }
-
-module _ (kinds : List RuleKind) where
-  sync_cuts_grow : (number : ℕ) (call : SymCall) (tables : List SymValue) → Grows (sync_cuts kinds number call tables)
-  sync_cuts_grow number (Read at) tables nodes = extends_self nodes
-  sync_cuts_grow number Flush tables nodes = extends_self nodes
-  sync_cuts_grow number (Write at row) [] nodes = extends_self nodes
-  sync_cuts_grow number (Write at row) (x ∷ []) nodes =
-      let k = made kinds (Input number 1) nodes in
-      extends_both nodes k.nodes (writes_where kinds k.value at row x k.nodes).nodes (made_grows kinds (Input number 1) nodes)
-      (where_grows kinds k.value at row x k.nodes)
-  sync_cuts_grow number (Write at row) (x ∷ y ∷ more) nodes = extends_self nodes
-
-  async_cuts_grow : (number : ℕ) (call : SymCall) (tables : List SymValue) → Grows (async_cuts kinds number call tables)
-  async_cuts_grow number (Read at) tables nodes = extends_self nodes
-  async_cuts_grow number Flush tables nodes = extends_self nodes
-  async_cuts_grow number (Write at row) [] nodes = extends_self nodes
-  async_cuts_grow number (Write at row) (x ∷ []) nodes = extends_self nodes
-  async_cuts_grow number (Write at row) (x ∷ y ∷ []) nodes =
-      let k = made kinds (Input number 1) nodes in
-      extends_both nodes k.nodes (writes_where kinds k.value at row y k.nodes).nodes (made_grows kinds (Input number 1) nodes)
-      (where_grows kinds k.value at row y k.nodes)
-  async_cuts_grow number (Write at row) (x ∷ y ∷ z ∷ more) nodes = extends_self nodes
-
-  kind_cuts_grow : (kind : DiskKind) (number : ℕ) (call : SymCall) (tables : List SymValue) → Grows (kind_cuts kinds kind number call tables)
-  kind_cuts_grow Sync number call tables = sync_cuts_grow number call tables
-  kind_cuts_grow Async number call tables = async_cuts_grow number call tables
-
-  cuts_grow : (kind : DiskKind) (number : ℕ) (q : SymQuestion) (tables : List SymValue) → Grows (disk_cuts kinds kind number q tables)
-  cuts_grow kind number Choice tables nodes = extends_self nodes
-  cuts_grow kind number (Call name args) tables nodes = asked (sym_call name args) nodes
-    where
-      asked : (o : Option SymCall) → Grows (call_cuts kinds kind number o tables)
-      asked None nodes = extends_self nodes
-      asked (Some call) nodes = kind_cuts_grow kind number call tables nodes
 
 module _ (inputs : Inputs) (v : Values) (kinds : List RuleKind) (d : DiskText) (past : Bool) where
   record LeftIs (kind : DiskKind) (want : (model_of kind).State) (nodes : List Node) (xs : List SymValue) : Type 0 where
@@ -167,22 +128,6 @@ module _ (inputs : Inputs) (v : Values) (kinds : List RuleKind) (d : DiskText) (
   kind_cut Sync number call tables nodes = sync_cut number call tables nodes
   kind_cut Async number call tables nodes = async_cut number call tables nodes
 
-  or_test : (a b : Number) → a ≡ word 1 (bit_of (a.bits == 1)) → b ≡ word 1 (bit_of (b.bits == 1)) →
-      ((apply_to Or a b).bits == 1) ≡ ((a.bits == 1) || (b.bits == 1))
-  or_test a b e f =
-      ap (λ (k : Number). (apply_to Or k b).bits == 1) e ∙ ap (λ (k : Number). (apply_to Or (word 1 (bit_of (a.bits == 1))) k).bits == 1) f
-      ∙ cases (a.bits == 1) (b.bits == 1)
-    where
-      cases : (x y : Bool) → ((apply_to Or (word 1 (bit_of x)) (word 1 (bit_of y))).bits == 1) ≡ (x || y)
-      cases true true = refl
-      cases true false = refl
-      cases false true = refl
-      cases false false = refl
-
-  test_if : (t : Bool) (a b : Number) → ((if t then a else b).bits == 1) ≡ (if t then a.bits == 1 else b.bits == 1)
-  test_if true a b = refl
-  test_if false a b = refl
-
   module _ (right : none (disk_errors d) ≡ true) (first last : ℕ) where
     abbrev pub K : Stops (List SymValue) (List SymValue)
     K = disk_stops kinds d.kind first last
@@ -222,11 +167,9 @@ module _ (inputs : Inputs) (v : Values) (kinds : List RuleKind) (d : DiskText) (
       merge_grows = λ t a b nodes. merge_lows_grows inputs v kinds t a b nodes;
       merge_is = λ t a b nodes w p q h. let m = merge_worth inputs v kinds (tables_of d) t a b nodes w p q h in record { has = m.has; is = m.is };
       either_grows = λ a b nodes. made_grows kinds (Bin Or a b) nodes;
-      either_is = λ a b nodes p q h. either_is a b nodes p q h;
+      either_is = λ a b nodes p q h. either_is inputs v kinds a b nodes p q h;
       pick_grows = λ t a b nodes. picked_grows kinds t a b nodes;
-      pick_is = λ t a b nodes w p q h.
-          let m = picked_is inputs v kinds 1 t a b nodes w p q h in
-          record { wide = m.wide; is = ap (λ (k : Number). k.bits == 1) m.is ∙ test_if (is_set v t) (v a.0) (v b.0) };
+      pick_is = λ t a b nodes w p q h. one_is inputs v kinds t a b nodes w p q h;
     }
       where
         cut_is : (q : SymQuestion) (s : List SymValue) (nodes : List Node) → question_fits Impl (disk_operations d) (question_worth v q) ≡ true →
@@ -239,20 +182,3 @@ module _ (inputs : Inputs) (v : Values) (kinds : List RuleKind) (d : DiskText) (
             let f = fitting_call (disk_operations d) name (map (worth v) xs) may in
             let ask = ask_is inputs v kinds d right name xs nodes f.operation fit shaped f.found f.fit in
             call_cut name xs s nodes ask p h
-
-        either_is : (a b : Id) (nodes : List Node) → HasWidth nodes a 1 → HasWidth nodes b 1 →
-            Gives inputs v (made kinds (Bin Or a b)) nodes (IsTest v (is_set v a || is_set v b))
-        either_is a b nodes p q h =
-            let o = made kinds (Bin Or a b) nodes in
-            let f = fits_fewer inputs v nodes o.nodes (made_grows kinds (Bin Or a b) nodes) h in
-            let can : CanBin nodes Or a b = record {
-              one = stands nodes a 1 p;
-              two = stands nodes b 1 q;
-              widths = width_is nodes a 1 p ∙ sym (width_is nodes b 1 q);
-            } in
-            let m = made_is inputs v kinds (Bin Or a b) nodes can h in
-            record {
-              wide = m.wide ∙ ap (λ z. Some z) (width_is nodes a 1 p);
-              is = ap (λ (k : Number). k.bits == 1) m.is
-                  ∙ or_test (v a.0) (v b.0) (digit_is (v a.0) (f.words a.0) (f.widths a.0 1 p)) (digit_is (v b.0) (f.words b.0) (f.widths b.0 1 q));
-            }

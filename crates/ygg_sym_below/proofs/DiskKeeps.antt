@@ -1,4 +1,4 @@
--- What holds of nodes, and stays as the input of a call and other nodes are made, holds after a call on a disk.
+-- What holds of nodes, and stays as the input of a call and other nodes are made, holds after a call on a disk, and after one that power cuts.
 use Rattle.std.proofs.Common.{ℕ, List, [], ◌∷◌, Option, Some, None}
 use Rattle.ygg_base.specs.declared.geometry.DiskKind.{DiskKind}
 use Rattle.ygg_base.specs.declared.geometry.DiskKind.TheVariants.{Sync, Async}
@@ -32,6 +32,7 @@ use Rattle.ygg_sym_below.specs.Disks.{
   disk_asked,
   disk_handles,
 }
+use Rattle.ygg_sym_below.specs.Cuts.{sync_cuts, async_cuts, kind_cuts, call_cuts, disk_cuts}
 
 module _ (kinds : List RuleKind) (P : List Node → Type 0) (stays : Stays kinds P) where
   pub reads_keeps : (at : Id) (x : SymValue) (tables : List SymValue) → Keeps P (reads kinds at x tables)
@@ -88,6 +89,36 @@ module _ (kinds : List RuleKind) (P : List Node → Type 0) (stays : Stays kinds
         asked None nodes p = p
         asked (Some call) nodes p = kind_keeps kind call tables nodes p
 
+    sync_cuts_keep : (call : SymCall) (tables : List SymValue) → Keeps P (sync_cuts kinds number call tables)
+    sync_cuts_keep (Read at) tables nodes p = p
+    sync_cuts_keep Flush tables nodes p = p
+    sync_cuts_keep (Write at row) [] nodes p = p
+    sync_cuts_keep (Write at row) (x ∷ []) nodes p =
+        let k = made kinds (Input number 1) nodes in where_keeps k.value at row x k.nodes (fresh nodes p)
+    sync_cuts_keep (Write at row) (x ∷ y ∷ more) nodes p = p
+
+    async_cuts_keep : (call : SymCall) (tables : List SymValue) → Keeps P (async_cuts kinds number call tables)
+    async_cuts_keep (Read at) tables nodes p = p
+    async_cuts_keep Flush tables nodes p = p
+    async_cuts_keep (Write at row) [] nodes p = p
+    async_cuts_keep (Write at row) (x ∷ []) nodes p = p
+    async_cuts_keep (Write at row) (x ∷ y ∷ []) nodes p =
+        let k = made kinds (Input number 1) nodes in where_keeps k.value at row y k.nodes (fresh nodes p)
+    async_cuts_keep (Write at row) (x ∷ y ∷ z ∷ more) nodes p = p
+
+    kind_cuts_keep : (kind : DiskKind) (call : SymCall) (tables : List SymValue) → Keeps P (kind_cuts kinds kind number call tables)
+    kind_cuts_keep Sync call tables = sync_cuts_keep call tables
+    kind_cuts_keep Async call tables = async_cuts_keep call tables
+
+    -- power that fails within what is asked
+    pub cuts_keep : (kind : DiskKind) (q : SymQuestion) (tables : List SymValue) → Keeps P (disk_cuts kinds kind number q tables)
+    cuts_keep kind Choice tables nodes p = p
+    cuts_keep kind (Call name args) tables nodes p = asked (sym_call name args) nodes p
+      where
+        asked : (o : Option SymCall) → Keeps P (call_cuts kinds kind number o tables)
+        asked None nodes p = p
+        asked (Some call) nodes p = kind_cuts_keep kind call tables nodes p
+
 module _ (kinds : List RuleKind) where
   pub reads_grows : (at : Id) (x : SymValue) (tables : List SymValue) → Grows (reads kinds at x tables)
   reads_grows at x tables nodes = reads_keeps kinds (Extends nodes) (grows_stays kinds nodes) at x tables nodes (extends_self nodes)
@@ -98,8 +129,13 @@ module _ (kinds : List RuleKind) where
   pub where_grows : (test at : Id) (row : List Id) (x : SymValue) → Grows (writes_where kinds test at row x)
   where_grows test at row x nodes = where_keeps kinds (Extends nodes) (grows_stays kinds nodes) test at row x nodes (extends_self nodes)
 
+  pub input_grows : (number : ℕ) (nodes : List Node) → Keeps (Extends nodes) (made kinds (Input number 1))
+  input_grows number nodes more p = extends_both nodes more (made kinds (Input number 1) more).nodes p (made_grows kinds (Input number 1) more)
+
   pub disk_grows : (kind : DiskKind) (number : ℕ) (q : SymQuestion) (tables : List SymValue) → Grows (disk_handles kinds kind number q tables)
   disk_grows kind number q tables nodes =
-      disk_keeps kinds (Extends nodes) (grows_stays kinds nodes) number
-      (λ more p. extends_both nodes more (made kinds (Input number 1) more).nodes p (made_grows kinds (Input number 1) more)) kind q tables nodes
-      (extends_self nodes)
+      disk_keeps kinds (Extends nodes) (grows_stays kinds nodes) number (input_grows number nodes) kind q tables nodes (extends_self nodes)
+
+  pub cuts_grow : (kind : DiskKind) (number : ℕ) (q : SymQuestion) (tables : List SymValue) → Grows (disk_cuts kinds kind number q tables)
+  cuts_grow kind number q tables nodes =
+      cuts_keep kinds (Extends nodes) (grows_stays kinds nodes) number (input_grows number nodes) kind q tables nodes (extends_self nodes)

@@ -22,6 +22,7 @@ use Rattle.ygg_bank.proofs.Made.{made_grows}
 use Rattle.ygg_bank.proofs.Meaning.{fits_fewer}
 use Rattle.ygg_bank.proofs.Widths.{wider, extends_both}
 use Rattle.ygg_bank.specs.Making.{made}
+use Rattle.ygg_bank.specs.Nodes.{HasWidth}
 use Rattle.ygg_bank.specs.Values.{Inputs, Values}
 use Rattle.ygg_bank.specs.declared.node.Id.{Id}
 use Rattle.ygg_bank.specs.declared.node.Node.{Node}
@@ -119,6 +120,7 @@ module _ {S F L B : Type 0} (inputs : Inputs) (v : Values) (kinds : List RuleKin
   -- what is left, and whether the stop was reached, of a direct run
   pub record FallenIs (last : ℕ) (run : Reached L) (nodes : List Node) (out : SymFallen F) : Type 0 where
     pub has : base.Has nodes out.fallen
+    pub wide : HasWidth nodes out.reached 1
     pub reached : is_set v out.reached ≡ is_some (first_stop bits run.events last)
     pub is : (stop : Halt) → first_stop bits run.events last ≡ Some stop →
         base_at cut lose stop.within (asked_in run.events) stop.event run.to ≡ Some (base.value v out.fallen)
@@ -187,6 +189,7 @@ module _ {S F L B : Type 0} (inputs : Inputs) (v : Values) (kinds : List RuleKin
       let stopped : is_set v z.value.to.stopped ≡ halted_run.to.stopped = ap (λ (w : Halted L B). w.stopped) a.is_low in
       record {
         has = base.wider e.nodes r.nodes e.value (extends_both e.nodes t.nodes r.nodes gt gr) c.has;
+        wide = rb.wide;
         reached = rb.is ∙ ap (λ x. x || is_set v t.value) stopped ∙ ap (λ x. halted_run.to.stopped || x) tb.is
             ∙ stopped_is machine cut lose bits eval M.space b (worths v env) start_worth last unset;
         is = λ stop first. stops_sound L B cut lose bits run.events run.to last (base.value v other) stop first ∙ ap (λ x. Some x) (sym left);

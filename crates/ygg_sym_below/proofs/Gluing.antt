@@ -37,7 +37,7 @@ use Rattle.ygg_meaning.specs.Environments.{Name, Env, bind}
 use Rattle.ygg_meaning.specs.Progress.{Eval, Question, Choice, Call, Answer, answer_of}
 use Rattle.ygg_meaning.specs.Machine.{Picks, State, based}
 use Rattle.ygg_meaning.specs.Layer.{ClosedLayer, eval_of, operation_of}
-use Rattle.ygg_direct.specs.Direct.{Handled, Event, Reached, direct_run, direct_of, room_of, question_space, total, Chained, Within, Alike}
+use Rattle.ygg_direct.specs.Direct.{Handled, Event, Reached, direct_run, direct_of, room_of, question_space, total, Chained, Within, Alike, seen}
 use Rattle.ygg_direct.specs.Acts.{next_of}
 use Rattle.ygg_direct.specs.Places.{Draw, left_after, by_place, choosing, calling, IsDraw}
 use Rattle.ygg_direct.specs.SpecActs.{spec_does, spec_acts}
@@ -86,6 +86,13 @@ glue_later : (p n k : ℕ) (l : Picks) (other : Bool) → p + n ≤ k → (if na
 glue_later p n k l other more =
     let t : nat_lt k (p + n) ≡ false = grind (arith, nat_tests) in ap (λ b. if b then next_of false (left_after (k - p) l) else other) t
 
+abbrev pub reached : Env → State Env → List (Event (State Env)) → Reached (State Env)
+reached env to events = record { env = env; to = to; events = events }
+
+pub same_events : (h : ℕ → Question → State Env → Handled (State Env)) (es : List (Event (State Env))) → map (seen h (λ z. z)) es ≡ es
+same_events h [] = refl
+same_events h (e ∷ es) = ap (λ z. e ∷ z) (same_events h es)
+
 module _ (past : Bool) (m : ClosedLayer) where
   abbrev D : Draw (State Env)
   D = calling (spec_acts past m)
@@ -97,7 +104,7 @@ module _ (past : Bool) (m : ClosedLayer) where
   size = question_space space
 
   abbrev places_in : Option Operation → ℕ
-  places_in o = elim o [ None ↦ 0 | Some o ↦ room_of one o.spec ]
+  places_in o = suc (elim o [ None ↦ 0 | Some o ↦ room_of one o.spec ])
 
   abbrev pub draws : IsDraw past size D
   draws = calling_draws past space (spec_acts past m) (spec_tidy past m)
@@ -147,7 +154,7 @@ module _ (past : Bool) (m : ClosedLayer) where
       let chosen = chosen_env bits o vars args in
       record {
         picks = f.taken;
-        few = f.few;
+        few = (let fewer = f.few in omega (arith, fewer));
         answer = λ more. ap (answer_of (eval_of m) o.spec.answer) (f.names more ∙ chosen);
         to = λ more. ap (λ (env : Env). based (take (length vars) env)) (f.names more ∙ chosen);
       }
@@ -195,6 +202,7 @@ module _ (past : Bool) (m : ClosedLayer) where
   -- a run with picks by place in the blocks of operations is one with some picks for each call
   pub record Glued (bits : ℕ → Bool) (eval : Eval) (b : Block) (env : Env) (z : State Env) : Type 0 where
     pub other : ℕ → Bool
+    pub all : direct_run eval space (by_bits past space D draws other) b env z ≡ direct_run eval space (spec_at m bits) b env z
     pub env_is : (direct_run eval space (by_bits past space D draws other) b env z).env ≡ (direct_run eval space (spec_at m bits) b env z).env
     pub to_is : (direct_run eval space (by_bits past space D draws other) b env z).to ≡ (direct_run eval space (spec_at m bits) b env z).to
 
@@ -206,4 +214,9 @@ module _ (past : Bool) (m : ClosedLayer) where
       let a = alike_glued bits g r.events z r.to 0 (0 + total (map (λ d. d.room) (map (direct_of eval space (spec_at m bits)) b.statements))) f.chained f.within
       (λ k l. refl) in
       let mirrored = block_mirrors eval space (spec_at m bits) (by_bits past space D draws g) (λ z. z) b.statements 0 env z a in
-      record { other = g; env_is = ap (λ (x : Reached (State Env)). x.env) mirrored; to_is = ap (λ (x : Reached (State Env)). x.to) mirrored }
+      record {
+        other = g;
+        all = mirrored ∙ ap (reached r.env r.to) (same_events (by_bits past space D draws g) r.events);
+        env_is = ap (λ (x : Reached (State Env)). x.env) mirrored;
+        to_is = ap (λ (x : Reached (State Env)). x.to) mirrored;
+      }

@@ -5,6 +5,7 @@ pub mod Placed
 pub mod Whole
 pub mod OnDisk
 pub mod StopMeaning
+pub mod StopParts
 pub mod Stopping
 pub mod Halted
 pub mod Stopped
@@ -15,3 +16,11 @@ pub mod Specs
 pub mod Gluing
 pub mod OnSpec
 pub mod MadeInputs
+pub mod Chosen
+pub mod Blocks
+pub mod StopKeeps
+pub mod GluedBack
+pub mod SpecFalls
+pub mod SameStops
+pub mod SpecBits
+pub mod SpecStops

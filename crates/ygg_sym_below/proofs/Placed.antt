@@ -1,15 +1,19 @@
 -- A machine that takes the picks of each question's place, and one that takes them from a list.
-use Rattle.std.proofs.Common.{◌≡◌, ◌+◌, ◌-◌, ◌≤◌, ℕ, zero, suc, Bool, List, [], ◌∷◌, ◌++◌, map, length, refl, sym, ap, ◌∙◌, subst, arith}
+use Rattle.std.proofs.Common.{◌≡◌, ◌+◌, ◌-◌, ◌≤◌, ◌<◌, ℕ, zero, suc, Bool, List, [], ◌∷◌, ◌++◌, map, length, take, refl, sym, ap, ◌∙◌, subst, arith}
 use Rattle.ygg_syntax.specs.declared.tree.Block.{Block}
 use Rattle.ygg_meaning.specs.Environments.{Name, Env}
-use Rattle.ygg_meaning.specs.Progress.{Eval, Question}
-use Rattle.ygg_meaning.specs.Machine.{Picks}
+use Rattle.ygg_meaning.specs.Progress.{Eval, Question, answer_of}
+use Rattle.ygg_meaning.specs.Machine.{Picks, State, on, memory_in}
+use Rattle.ygg_meaning.specs.Layer.{ClosedLayer, eval_of}
 use Rattle.ygg_direct.specs.Direct.{Handled, Event, Reached, direct_run, direct_of, room_of, question_space, total, Chained, Within, Alike, seen}
-use Rattle.ygg_direct.specs.Acts.{Taken}
-use Rattle.ygg_direct.specs.Places.{Drawn, Draw, left_after, by_place, IsDraw}
+use Rattle.ygg_direct.specs.Acts.{Taken, Acts, next_of, under}
+use Rattle.ygg_direct.specs.Places.{Drawn, Draw, left_after, by_place, calling, IsDraw}
+use Rattle.ygg_direct.specs.RunPlaces.{IsTidy, placed_run, runs_by_place}
 use Rattle.ygg_direct.proofs.Order.{block_follows}
 use Rattle.ygg_direct.proofs.Mirror.{block_mirrors}
 use Rattle.ygg_direct.proofs.Rooms.{room_is}
+use Rattle.ygg_direct.proofs.Placing.{after_more}
+use Rattle.ygg_direct.proofs.RunPlacing.{calling_draws}
 use Rattle.ygg_sym_below.specs.Wholes.{picks_from}
 
 left_from : (bits : ℕ → Bool) (i n k : ℕ) → left_after k (picks_from bits i (k + n)) ≡ picks_from bits (i + k) n
@@ -105,3 +109,65 @@ module _ {Z : Type 0} (past : Bool) (space : Name → ℕ) (D : Draw Z) (draws :
         env = ap (λ (x : Reached Z). x.env) m;
         to = ap (λ (x : Reached Z). x.to) m;
       }
+
+-- a list of picks by place, which goes on with `past` after its end
+abbrev pub bits_of : Bool → Picks → ℕ → Bool
+bits_of past picks i = next_of past (left_after i picks)
+
+taken_listed : (past : Bool) (picks taken left : Picks) (i n : ℕ) → length taken ≤ n → Taken past taken (picks_from (bits_of past picks) i n) left →
+    (rest : Picks) × Taken past taken (left_after i picks) rest
+taken_listed past picks [] left i n l t = (left_after i picks, refl)
+taken_listed past picks (p ∷ taken) left i zero l t = absurd (omega (arith, l))
+taken_listed past picks (p ∷ taken) left i (suc n) l t =
+    let r = taken_listed past picks taken left (i + 1) n (omega (arith, l)) t.1 in
+    (r.0, (t.0, subst (λ ps. Taken past taken ps r.0) (after_more i 1 (i + 1) picks refl) r.1))
+
+-- the picks of the first places alone count
+pub same_picks : (bits other : ℕ → Bool) (i n : ℕ) → ((k : ℕ) → i ≤ k → k < i + n → bits k ≡ other k) → picks_from bits i n ≡ picks_from other i n
+same_picks bits other i zero h = refl
+same_picks bits other i (suc n) h =
+    let here = h i (omega arith) (omega arith) in
+    let rest = same_picks bits other (i + 1) n (λ k l m. h k (omega (arith, l)) (omega (arith, m))) in
+    ap (λ b. b ∷ picks_from bits (i + 1) n) here ∙ ap (λ ps. other i ∷ ps) rest
+
+module _ {Z : Type 0} (past : Bool) (space : Name → ℕ) (D : Draw Z) (draws : IsDraw past (question_space space) D) (picks : Picks) where
+  abbrev listed : ℕ → Bool
+  listed = bits_of past picks
+
+  listed_draw : (i : ℕ) (q : Question) (z : Z) → by_place D picks i q z ≡ by_bits past space D draws listed i q z
+  listed_draw i q z =
+      let few = picks_from listed i (question_space space q) in
+      let r = D q z few in
+      let t = taken_listed past picks r.taken r.left i (question_space space q) (draws.few q z few) (draws.takes q z few) in
+      ap (λ (x : Drawn Z). record { answer = x.answer; to = x.to }) (draws.looks q z few (left_after i picks) t.0 t.1)
+
+  listed_alike : (es : List (Event Z)) (from to : Z) → Chained (by_bits past space D draws listed) from es to → Alike (by_place D picks) (λ z. z) es
+  listed_alike [] from to c = tt
+  listed_alike (e ∷ es) from to c =
+      let made = subst (λ z. by_bits past space D draws listed e.place e.question z ≡ record { answer = e.answer; to = e.after }) (sym c.0) c.1 in
+      (listed_draw e.place e.question e.before ∙ made, listed_alike es e.after to c.2)
+
+  -- a run by place looks at no more of a list of picks than the block has places
+  pub places_are : (eval : Eval) (b : Block) (env : Env) (z : Z) →
+      direct_run eval space (by_place D picks) b env z ≡ direct_run eval space (by_place D (picks_from listed 0 (room_of space b))) b env z
+  places_are eval b env z =
+      let r = direct_run eval space (by_bits past space D draws listed) b env z in
+      let g = block_follows eval space (by_bits past space D draws listed) b.statements 0 env z in
+      let m = block_mirrors eval space (by_bits past space D draws listed) (by_place D picks) (λ z. z) b.statements 0 env z
+      (listed_alike r.events z r.to g.chained) in
+      let s = same_run past space D draws listed eval b env z in
+      m ∙ ap (reached past space D draws listed r.env r.to) (same_events past space D draws listed r.events) ∙ sym s.all
+
+module _ {B : Type 0} (past : Bool) (space : Name → ℕ) (F : Acts B Bool) (tidy : IsTidy past space F) (L : ClosedLayer) (b : Block) (args : Env) (from : State B) where
+  -- so many picks by place as the block has places lead where a list leads
+  pub placed_are : (picks : Picks) → placed_run space F L b args from picks
+      ≡ placed_run space F L b args from (picks_from (bits_of past picks) 0 (room_of space b))
+  placed_are picks = places_are past space (calling F) (calling_draws past space F tidy) picks (eval_of L) b (memory_in from ++ args) (under from)
+
+  pub finish_are : (picks : Picks) → runs_by_place space F L b args from picks
+      ≡ runs_by_place space F L b args from (picks_from (bits_of past picks) 0 (room_of space b))
+  finish_are picks =
+      ap (λ (r : Reached (State B)). record {
+        answer = answer_of (eval_of L) b.answer r.env;
+        to = on (take (length (memory_in from)) (take (length (memory_in from ++ args)) r.env)) r.to;
+      }) (placed_are picks)

@@ -183,19 +183,19 @@ module _ (inputs : Inputs) (v : Values) (kinds : List RuleKind) where
         let b = next_of false (left_after i picks) in let m = made_is inputs v kinds (Const (word 1 (bit_of b))) nodes (digit_word b) h in m.is;
   }
 
-  bound_worth : (ps : List Declared) (xs : List SymValue) → worths v (sym_bind ps xs) ≡ bind ps (map (worth v) xs)
+  pub bound_worth : (ps : List Declared) (xs : List SymValue) → worths v (sym_bind ps xs) ≡ bind ps (map (worth v) xs)
   bound_worth [] xs = refl
   bound_worth (p ∷ ps) [] = refl
   bound_worth (p ∷ ps) (x ∷ xs) = ap (λ env. (p.name.text, worth v x) ∷ env) (bound_worth ps xs)
 
-  bound_shaped : (ps : List Declared) (xs : List SymValue) (nodes : List Node) → All (SomeShape nodes) xs → EnvShaped nodes (sym_bind ps xs)
+  pub bound_shaped : (ps : List Declared) (xs : List SymValue) (nodes : List Node) → All (SomeShape nodes) xs → EnvShaped nodes (sym_bind ps xs)
   bound_shaped [] xs nodes h = All-nil (NameShaped nodes)
   bound_shaped (p ∷ ps) [] nodes h = All-nil (NameShaped nodes)
   bound_shaped (p ∷ ps) (x ∷ xs) nodes h =
       All-cons (NameShaped nodes) (p.name.text, x) (sym_bind ps xs) (All-head (SomeShape nodes) x xs h)
       (bound_shaped ps xs nodes (All-tail (SomeShape nodes) x xs h))
 
-  low_shaped : (ds : List Declared) (xs : List SymValue) (nodes : List Node) → LowShaped nodes ds xs → EnvShaped nodes (sym_bind ds xs)
+  pub low_shaped : (ds : List Declared) (xs : List SymValue) (nodes : List Node) → LowShaped nodes ds xs → EnvShaped nodes (sym_bind ds xs)
   low_shaped [] [] nodes h = All-nil (NameShaped nodes)
   low_shaped [] (x ∷ xs) nodes h = absurd h
   low_shaped (d ∷ ds) [] nodes h = absurd h
@@ -203,11 +203,11 @@ module _ (inputs : Inputs) (v : Values) (kinds : List RuleKind) where
       All-cons (NameShaped nodes) (d.name.text, x) (sym_bind ds xs) (record { shape = shape_in d.shape; stands = h.0 }) (low_shaped ds xs nodes h.1)
 
   -- variables of the declared shapes are a state again
-  record Back (ds : List Declared) (env : SymEnv) (nodes : List Node) : Type 0 where
-    has : LowShaped nodes ds (map (λ (b : Name × SymValue). b.1) env)
-    is : low_worth v ds (map (λ (b : Name × SymValue). b.1) env) ≡ worths v env
+  pub record Back (ds : List Declared) (env : SymEnv) (nodes : List Node) : Type 0 where
+    pub has : LowShaped nodes ds (map (λ (b : Name × SymValue). b.1) env)
+    pub is : low_worth v ds (map (λ (b : Name × SymValue). b.1) env) ≡ worths v env
 
-  lows_back : (ds : List Declared) (env : SymEnv) (nodes : List Node) → Fits inputs v nodes → EnvShaped nodes env → env_fits ds (worths v env) ≡ true →
+  pub lows_back : (ds : List Declared) (env : SymEnv) (nodes : List Node) → Fits inputs v nodes → EnvShaped nodes env → env_fits ds (worths v env) ≡ true →
       Back ds env nodes
   lows_back [] [] nodes h s e = record { has = tt; is = refl }
   lows_back [] (b ∷ env) nodes h s e = absurd (cc)

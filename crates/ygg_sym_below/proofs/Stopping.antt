@@ -115,7 +115,8 @@ module _ {S B : Type 0} (cut : Question → S → B) (lose : S → B) (size : Qu
   found_later true b m h e f g = absurd (cc)
   found_later false true m h e f g = absurd (cc)
 
-  found : (es : List (Event S)) (end : S) (low last : ℕ) (within : Bool) (n : ℕ) (fallen : B) → Within size low es last →
+  -- the stop of a schedule that leaves something is the first where it alone is set
+  pub found : (es : List (Event S)) (end : S) (low last : ℕ) (within : Bool) (n : ℕ) (fallen : B) → Within size low es last →
       base_at cut lose within (asked_in es) n end ≡ Some fallen →
       first_stop (λ k. k == stop_at es last within n) es last ≡ Some (halt within n)
   found [] end low last true zero fallen w h = absurd (cc)
@@ -167,3 +168,12 @@ module _ {S B : Type 0} (handle : ℕ → Question → S → Handled S) (cut : Q
 
 pub halted_leaves : HaltedLeaves
 halted_leaves S B handle cut lose bits es from to last c = leaves handle cut lose bits es from to last c
+
+-- what is left hangs on what power leaves alone
+pub base_same : {S B : Type 0} (cut other : Question → S → B) (lose miss : S → B) → ((q : Question) (s : S) → cut q s ≡ other q s) →
+    ((s : S) → lose s ≡ miss s) → (within : Bool) (es : List (Question × S)) (n : ℕ) (end : S) → base_at cut lose within es n end ≡ base_at other miss within es n end
+base_same cut other lose miss h g within [] zero end = ap (λ b. if within then None else Some b) (g end)
+base_same cut other lose miss h g within [] (suc n) end = refl
+base_same cut other lose miss h g within (e ∷ es) zero end =
+    ap (λ b. Some (if within then b else lose e.1)) (h e.0 e.1) ∙ ap (λ b. Some (if within then other e.0 e.1 else b)) (g e.1)
+base_same cut other lose miss h g within (e ∷ es) (suc n) end = base_same cut other lose miss h g within es n end

@@ -1,5 +1,5 @@
 -- A layer's specification over terms, block by block, and power that fails on it: the picks of the failure have inputs of their own.
-use Rattle.std.specs.Prelude.{ℕ, suc, ◌+◌, List, [], ◌∷◌, map, Option, Some, None}
+use Rattle.std.specs.Prelude.{ℕ, suc, ◌+◌, List, [], map, Option, Some, None}
 use Rattle.ygg_value.specs.declared.operation.Op.TheVariants.{Or}
 use Rattle.ygg_syntax.specs.declared.tree.Block.{Block}
 use Rattle.ygg_syntax.specs.declared.tree.Operation.{Operation}

@@ -1,7 +1,8 @@
 -- What typing says of a layer and of what it is specified over.
-use Rattle.std.specs.Prelude.{◌≡◌, ◌++◌, IsTrue, List, [], Option, Some}
+use Rattle.std.specs.Prelude.{◌≡◌, ◌++◌, IsTrue, List, [], All, Option, Some}
 use Rattle.ygg_value.specs.declared.row.Value.{Value}
 use Rattle.ygg_value.specs.declared.shape.Shape.{Shape}
+use Rattle.ygg_value.specs.Shapes.{IsShape}
 use Rattle.ygg_syntax.specs.declared.grammar.BlockKind.{BlockKind}
 use Rattle.ygg_syntax.specs.declared.grammar.BlockKind.TheVariants.{Spec}
 use Rattle.ygg_syntax.specs.declared.tree.Declared.{Declared}
@@ -18,7 +19,7 @@ use Rattle.ygg_type_rules.specs.Layers.{operation_signature}
 use Rattle.ygg_type_rules.specs.Files.{disk_errors}
 use Rattle.ygg_meaning.specs.Environments.{Name, bind}
 use Rattle.ygg_meaning.specs.Meaning.{functions_of}
-use Rattle.ygg_meaning.specs.Shapes.{values_fit}
+use Rattle.ygg_meaning.specs.Shapes.{shape_in, values_fit}
 use Rattle.ygg_meaning.specs.Progress.{Answer}
 use Rattle.ygg_meaning.specs.Layer.{ClosedLayer, operation_of}
 use Rattle.ygg_meaning.specs.Refines.{Below, OnDisk, OnSpec}
@@ -61,6 +62,7 @@ pub record OperationTyped (defs : List Def) (m : ClosedLayer) (o : Operation) : 
 -- a specification without a type error, which answers whatever it is asked
 pub record SpecTyped (defs : List Def) (m : ClosedLayer) : Type 0 where
   pub functions : m.functions ≡ functions_of defs
+  pub limits : All (λ (d : Declared). IsShape (shape_in d.shape)) m.layer.state
   pub answers : SpecAnswers m
   pub sees : Sees m (signatures_of m.layer.operations)
   pub start : SpecBlockTyped defs m m.layer.start []

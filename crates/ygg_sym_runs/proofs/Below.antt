@@ -1,4 +1,4 @@
--- The inputs that a run makes have the numbers of its places.
+-- What holds of nodes stays at a run, where it does at each question of its places.
 use Rattle.std.proofs.Common.{◌≡◌, ◌≤◌, ◌+◌, ◌*◌, ℕ, zero, suc, List, [], ◌∷◌, ◌++◌, map, refl, sym, ap, ◌∙◌, subst, arith}
 use Rattle.std.specs.Str.{bytes_eq}
 use Rattle.ygg_value.specs.Words.{word}
@@ -16,11 +16,10 @@ use Rattle.ygg_bank.specs.Makes.{Make, pure, and_make}
 use Rattle.ygg_bank.specs.declared.node.Id.{Id}
 use Rattle.ygg_bank.specs.declared.node.Node.{Node}
 use Rattle.ygg_bank.specs.declared.node.Node.TheVariants as node
-use Rattle.ygg_shape_words.proofs.Keeps.{Stays, inputs_stay}
+use Rattle.ygg_shape_words.proofs.Keeps.{Stays}
 use Rattle.ygg_shape_cells.specs.Making.{merged, selected}
 use Rattle.ygg_shape_cells.specs.declared.terms.SymValue.{SymValue}
 use Rattle.ygg_shape_cells.specs.declared.terms.SymValue.TheVariants.{Word, Row, Table}
-use Rattle.ygg_shape.proofs.Freshness.{below_as}
 use Rattle.ygg_shape.proofs.Keeps.{merged_keeps, selected_keeps, stored_keeps}
 use Rattle.ygg_shape.specs.RowPlaces.{single, singles, word_stored}
 use Rattle.ygg_direct.specs.Direct.{total, source_space, stmt_room, block_room, room_of}
@@ -84,43 +83,38 @@ abbrev pub asked_space : (Name → ℕ) → SymQuestion → ℕ
 asked_space space Choice = 1
 asked_space space (Call f xs) = space f
 
--- what is asked of a machine: it makes the inputs of a question's places alone, where those of its first place on are free
-pub record MachineBelow {S : Type 0} (first : ℕ) (M : SymMachine S) : Type 0 where
-  pub merge : (t : Id) (a b : S) (next : ℕ) (nodes : List Node) → InputsBelow next nodes → InputsBelow next (M.merge t a b nodes).nodes
-  pub handle : (i : ℕ) (q : SymQuestion) (s : S) (nodes : List Node) → InputsBelow (first + i) nodes →
-      InputsBelow (first + (i + asked_space M.space q)) (M.handle i q s nodes).nodes
+-- what is asked of a machine: what holds of nodes stays at each question whose places are among the first so many
+pub record MachineKeeps {S : Type 0} (P : List Node → Type 0) (top : ℕ) (M : SymMachine S) : Type 0 where
+  pub merge : (t : Id) (a b : S) → Keeps P (M.merge t a b)
+  pub handle : (i : ℕ) (q : SymQuestion) (s : S) → i + asked_space M.space q ≤ top → Keeps P (M.handle i q s)
 
-module _ {S : Type 0} (first : ℕ) where
-  -- a part of a run from a place on makes the inputs of its places alone
-  abbrev pub RunBelow : ℕ → (ℕ → SymEnv → S → Make (SymState S)) → Type 0
-  RunBelow room run = (i : ℕ) (env : SymEnv) (from : S) (nodes : List Node) → InputsBelow (first + i) nodes → InputsBelow (first + (i + room)) (run i env from nodes).nodes
+module _ {S : Type 0} (P : List Node → Type 0) (top : ℕ) where
+  -- what holds stays at a part of a run from a place on
+  abbrev pub RunKeeps : ℕ → (ℕ → SymEnv → S → Make (SymState S)) → Type 0
+  RunKeeps room run = (i : ℕ) (env : SymEnv) (from : S) → i + room ≤ top → Keeps P (run i env from)
 
-  times_below : (count k room : ℕ) (body : ℕ → ℕ → SymEnv → S → Make (SymState S)) → ((k : ℕ) → RunBelow room (body k)) →
-      RunBelow (count * room) (sym_times count k room body)
-  times_below zero k room body g i env from nodes p = below_as (first + i) (first + (i + 0 * room)) nodes (omega arith) p
-  times_below (suc count) k room body g i env from nodes p =
+  times_keep : (count k room : ℕ) (body : ℕ → ℕ → SymEnv → S → Make (SymState S)) → ((k : ℕ) → RunKeeps room (body k)) →
+      RunKeeps (count * room) (sym_times count k room body)
+  times_keep zero k room body g i env from l nodes p = p
+  times_keep (suc count) k room body g i env from l nodes p =
       let z = body k i env from nodes in
-      let r = sym_times count (k + 1) room body (i + room) z.value.env z.value.to z.nodes in
-      let q = below_as (first + (i + room)) (first + (i + room)) z.nodes refl (g k i env from nodes p) in
-      below_as (first + (i + room + count * room)) (first + (i + suc count * room)) r.nodes (omega arith)
-      (times_below count (k + 1) room body g (i + room) z.value.env z.value.to z.nodes q)
+      let m : i + room ≤ top = omega (arith, l) in
+      let n : i + room + count * room ≤ top = omega (arith, l) in
+      times_keep count (k + 1) room body g (i + room) z.value.env z.value.to n z.nodes (g k i env from m nodes p)
 
-  module _ (kinds : List RuleKind) (terms : SymFunctions) (keep : (next : ℕ) → FunctionsKeep (InputsBelow next) terms) (M : SymMachine S)
-      (laws : MachineBelow first M) where
-    pub value_below : (e : Expr) (env : SymEnv) (next : ℕ) → Keeps (InputsBelow next) (sym_value kinds terms e (plain_scope env))
-    value_below e env next nodes p = value_keeps kinds (InputsBelow next) (inputs_stay kinds next) terms (keep next) e (plain_scope env) nodes p
+  module _ (kinds : List RuleKind) (stays : Stays kinds P) (terms : SymFunctions) (keep : FunctionsKeep P terms) (M : SymMachine S)
+      (laws : MachineKeeps P top M) where
+    pub plain_keeps : (e : Expr) (env : SymEnv) → Keeps P (sym_value kinds terms e (plain_scope env))
+    plain_keeps e env nodes p = value_keeps kinds P stays terms keep e (plain_scope env) nodes p
 
-    values_below : (es : List Expr) (env : SymEnv) (next : ℕ) → Keeps (InputsBelow next) (sym_values kinds terms M es env)
-    values_below es env next nodes p = all_keep kinds (InputsBelow next) (inputs_stay kinds next) terms (keep next) es (plain_scope env) nodes p
+    values_keep : (es : List Expr) (env : SymEnv) → Keeps P (sym_values kinds terms M es env)
+    values_keep es env nodes p = all_keep kinds P stays terms keep es (plain_scope env) nodes p
 
-    source_below : (s : Source) (i : ℕ) (env : SymEnv) (from : S) (nodes : List Node) → InputsBelow (first + i) nodes →
-        InputsBelow (first + (i + source_space M.space s)) (sym_source kinds terms M s i env from nodes).nodes
-    source_below (source.Value e) i env from nodes p =
-        let o = sym_value kinds terms e (plain_scope env) nodes in
-        below_as (first + i) (first + (i + 0)) o.nodes (omega arith) (value_below e env (first + i) nodes p)
-    source_below (source.Choose at) i env from nodes p = laws.handle i Choice from nodes p
-    source_below (source.Call at f es) i env from nodes p =
-        let o = sym_values kinds terms M es env nodes in laws.handle i (Call f.text o.value) from o.nodes (values_below es env (first + i) nodes p)
+    source_keeps : (s : Source) (i : ℕ) (env : SymEnv) (from : S) → i + source_space M.space s ≤ top → Keeps P (sym_source kinds terms M s i env from)
+    source_keeps (source.Value e) i env from l nodes p = plain_keeps e env nodes p
+    source_keeps (source.Choose at) i env from l nodes p = laws.handle i Choice from l nodes p
+    source_keeps (source.Call at f es) i env from l nodes p =
+        let o = sym_values kinds terms M es env nodes in laws.handle i (Call f.text o.value) from l o.nodes (values_keep es env nodes p)
 
     abbrev R : Stmt → SymRun S
     R = sym_of kinds terms M
@@ -134,10 +128,10 @@ module _ {S : Type 0} (first : ℕ) where
     abbrev N' : Block → ℕ
     N' = fold-Block ℕ ℕ (stmt_room M.space) (block_room M.space)
 
-    -- a part has so many places, and makes the inputs of these alone
+    -- a part has so many places, and keeps what holds where these are among the first
     record Placed (r : SymRun S) (n : ℕ) : Type 0 where
       room : r.room ≡ n
-      below : RunBelow r.room r.run
+      keeps : RunKeeps r.room r.run
 
     abbrev St : Type 0
     St = (s : Stmt) × Placed (R s) (N s)
@@ -158,61 +152,61 @@ module _ {S : Type 0} (first : ℕ) where
     order_room [] = refl
     order_room (s ∷ ss) = ap (λ n. n + total (map (λ r. r.room) (map R (heads ss)))) s.1.room ∙ ap (λ n. N s.0 + n) (order_room ss)
 
-    order_below : (ss : List St) → RunBelow (total (map (λ r. r.room) (map R (heads ss)))) (sym_in_order (map R (heads ss)))
-    order_below [] i env from nodes p = below_as (first + i) (first + (i + 0)) nodes (omega arith) p
-    order_below (s ∷ ss) i env from nodes p =
+    order_keeps : (ss : List St) → RunKeeps (total (map (λ r. r.room) (map R (heads ss)))) (sym_in_order (map R (heads ss)))
+    order_keeps [] i env from l nodes p = p
+    order_keeps (s ∷ ss) i env from l nodes p =
         let a = (R s.0).run i env from nodes in
-        let rest = sym_in_order (map R (heads ss)) (i + (R s.0).room) a.value.env a.value.to a.nodes in
-        let n = total (map (λ r. r.room) (map R (heads ss))) in
-        below_as (first + (i + (R s.0).room + n)) (first + (i + ((R s.0).room + n))) rest.nodes (omega arith)
-        (order_below ss (i + (R s.0).room) a.value.env a.value.to a.nodes (s.1.below i env from nodes p))
+        let rest = total (map (λ r. r.room) (map R (heads ss))) in
+        let m : i + (R s.0).room ≤ top = omega (arith, l) in
+        let n : i + (R s.0).room + rest ≤ top = omega (arith, l) in
+        order_keeps ss (i + (R s.0).room) a.value.env a.value.to n a.nodes (s.1.keeps i env from m nodes p)
 
-    if_below : (test : Expr) (a b : Bl) → RunBelow ((R' a.0).room + (R' b.0).room) (sym_stmt kinds terms M (Stmt-F.If test (R' a.0) (R' b.0))).run
-    if_below test a b i env from nodes p =
+    if_keep : (test : Expr) (a b : Bl) → RunKeeps ((R' a.0).room + (R' b.0).room) (sym_stmt kinds terms M (Stmt-F.If test (R' a.0) (R' b.0))).run
+    if_keep test a b i env from l nodes p =
         let x = sym_value kinds terms test (plain_scope env) nodes in
         let f = (R' a.0).run i env from x.nodes in
         let s = (R' b.0).run (i + (R' a.0).room) env from f.nodes in
         let e = merge_env kinds terms M (id_in x.value) f.value.env s.value.env s.nodes in
-        let next = first + (i + ((R' a.0).room + (R' b.0).room)) in
-        let one = a.1.below i env from x.nodes (value_below test env (first + i) nodes p) in
-        let two = below_as (first + (i + (R' a.0).room + (R' b.0).room)) next s.nodes (omega arith) (b.1.below (i + (R' a.0).room) env from f.nodes one) in
-        laws.merge (id_in x.value) f.value.to s.value.to next e.nodes
-        (merge_env_keeps (InputsBelow next) kinds (inputs_stay kinds next) terms M (id_in x.value) f.value.env s.value.env s.nodes two)
+        let m : i + (R' a.0).room ≤ top = omega (arith, l) in
+        let n : i + (R' a.0).room + (R' b.0).room ≤ top = omega (arith, l) in
+        let one = a.1.keeps i env from m x.nodes (plain_keeps test env nodes p) in
+        let two = b.1.keeps (i + (R' a.0).room) env from n f.nodes one in
+        laws.merge (id_in x.value) f.value.to s.value.to e.nodes
+        (merge_env_keeps P kinds stays terms M (id_in x.value) f.value.env s.value.env s.nodes two)
 
     stmt_case : (y : Stmt-F St Bl) →
         Placed (sym_stmt kinds terms M (map-Stmt Stmt Block (SymRun S) (SymRun S) R R' (bare y))) (stmt_room M.space (map-Stmt Stmt Block ℕ ℕ N N' (bare y)))
-    stmt_case (Stmt-F.Let x s) = record { room = refl; below = λ i env from nodes p. source_below s i env from nodes p }
+    stmt_case (Stmt-F.Let x s) = record { room = refl; keeps = λ i env from l nodes p. source_keeps s i env from l nodes p }
     stmt_case (Stmt-F.Assign x at s) = record {
       room = refl;
-      below = λ i env from nodes p.
+      keeps = λ i env from l nodes p.
           let a = sym_values kinds terms M (places_of at) env nodes in
           let g = sym_source kinds terms M s i env from a.nodes in
-          let next = first + (i + source_space M.space s) in
-          change_keeps (InputsBelow next) x.text (λ old. put_made kinds old (map id_in a.value) g.value.value)
-          (λ old. put_keeps (InputsBelow next) kinds (inputs_stay kinds next) old (map id_in a.value) g.value.value) env g.nodes
-          (source_below s i env from a.nodes (values_below (places_of at) env (first + i) nodes p));
+          change_keeps P x.text (λ old. put_made kinds old (map id_in a.value) g.value.value)
+          (λ old. put_keeps P kinds stays old (map id_in a.value) g.value.value) env g.nodes
+          (source_keeps s i env from l a.nodes (values_keep (places_of at) env nodes p));
     }
     stmt_case (Stmt-F.If test a b) = record {
       room = ap (λ n. n + (R' b.0).room) a.1.room ∙ ap (λ n. N' a.0 + n) b.1.room;
-      below = if_below test a b;
+      keeps = if_keep test a b;
     }
     stmt_case (Stmt-F.For x w n each) = record {
       room = ap (λ m. n.value * m) each.1.room;
-      below = times_below n.value 0 (R' each.0).room (sym_each kinds terms M x.text w.value (R' each.0))
-          (λ k i env from nodes p.
+      keeps = times_keep n.value 0 (R' each.0).room (sym_each kinds terms M x.text w.value (R' each.0))
+          (λ k i env from l nodes p.
           let y = number_made kinds w.value k nodes in
-          each.1.below i (env ++ (x.text, y.value) ∷ []) from y.nodes (inputs_stay kinds (first + i) (node.Const (word w.value k)) nodes tt p));
+          each.1.keeps i (env ++ (x.text, y.value) ∷ []) from l y.nodes (stays (node.Const (word w.value k)) nodes tt p));
     }
     stmt_case (Stmt-F.Call f es) = record {
       room = refl;
-      below = λ i env from nodes p.
-          let o = sym_values kinds terms M es env nodes in laws.handle i (Call f.text o.value) from o.nodes (values_below es env (first + i) nodes p);
+      keeps = λ i env from l nodes p.
+          let o = sym_values kinds terms M es env nodes in laws.handle i (Call f.text o.value) from l o.nodes (values_keep es env nodes p);
     }
 
     block_case : (y : Block-F St Bl) →
         Placed (sym_block kinds terms M (map-Block Stmt Block (SymRun S) (SymRun S) R R' (bare' y)))
         (block_room M.space (map-Block Stmt Block ℕ ℕ N N' (bare' y)))
-    block_case y = record { room = order_room y.statements; below = λ i env from nodes p. order_below y.statements i env from nodes p }
+    block_case y = record { room = order_room y.statements; keeps = λ i env from l nodes p. order_keeps y.statements i env from l nodes p }
 
     all_placed : (s : Stmt) → Placed (R s) (N s)
     all_placed =
@@ -237,13 +231,10 @@ module _ {S : Type 0} (first : ℕ) where
     bare_again [] = refl
     bare_again (s ∷ ss) = ap (λ z. s ∷ z) (bare_again ss)
 
-    -- a run of a block makes the inputs of its places alone
-    pub run_below : (b : Block) (env : SymEnv) (from : S) (nodes : List Node) → InputsBelow first nodes →
-        InputsBelow (first + room_of M.space b) (sym_run kinds terms M b env from nodes).nodes
-    run_below b env from nodes p =
-        let o = sym_run kinds terms M b env from nodes in
-        let q = subst (λ ss. RunBelow (total (map (λ r. r.room) (map R ss))) (sym_in_order (map R ss))) (bare_again b.statements)
-        (order_below (with_proofs b.statements)) in
+    -- what holds of nodes stays at a run of a block that has no more places
+    pub run_keeps : (b : Block) (env : SymEnv) (from : S) → room_of M.space b ≤ top → Keeps P (sym_run kinds terms M b env from)
+    run_keeps b env from l nodes p =
+        let q = subst (λ ss. RunKeeps (total (map (λ r. r.room) (map R ss))) (sym_in_order (map R ss))) (bare_again b.statements)
+        (order_keeps (with_proofs b.statements)) in
         let e = subst (λ ss. total (map (λ r. r.room) (map R ss)) ≡ total (map N ss)) (bare_again b.statements) (order_room (with_proofs b.statements)) in
-        below_as (first + (0 + total (map (λ r. r.room) (map R b.statements)))) (first + room_of M.space b) o.nodes (omega (arith, e))
-        (q 0 env from nodes (below_as first (first + 0) nodes (omega arith) p))
+        q 0 env from (omega (arith, e, l)) nodes p

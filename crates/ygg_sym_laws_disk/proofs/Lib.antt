@@ -1,0 +1,5 @@
+mod Begun
+mod Whole
+mod Falls
+mod Loss
+mod Start

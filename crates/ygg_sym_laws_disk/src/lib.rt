@@ -1,0 +1,4 @@
+//! The laws of runs over terms on a disk, both ways.
+#![tactic(auto)]
+
+pub mod law;
