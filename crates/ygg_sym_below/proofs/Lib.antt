@@ -24,3 +24,4 @@ pub mod SpecFalls
 pub mod SameStops
 pub mod SpecBits
 pub mod SpecStops
+pub mod SpecKeeps

@@ -42,6 +42,16 @@ abbrev first_and : Bool → (ℕ → Bool) → ℕ → Bool
 first_and p f zero = p
 first_and p f (suc k) = f k
 
+-- an operation's number is at most the sum of all
+pub among : (h : Operation → ℕ) (os : List Operation) (name : Name) (o : Operation) → operation_in os name ≡ Some o → h o ≤ total (map h os)
+among h [] name o e = absurd (cc)
+among h (x ∷ os) name o e = by_name (bytes_eq x.name.text name) e (λ f. among h os name o f)
+  where
+    by_name : (c : Bool) → (if c then Some x else operation_in os name) ≡ Some o → (operation_in os name ≡ Some o → h o ≤ total (map h os)) →
+        h o ≤ h x + total (map h os)
+    by_name true e rest = let f : x ≡ o = cc in let g : h x ≡ h o = ap h f in omega (arith, g)
+    by_name false e rest = let r = rest e in omega (arith, r)
+
 module _ (m : ClosedLayer) where
   -- what the `crash` block leaves
   abbrev pub crash_end : (ℕ → Bool) → Env → Env
@@ -172,16 +182,6 @@ module _ (m : ClosedLayer) where
                   ap (λ p. if p then then_end (bits_after 1 g) o.spec vars (bind o.arguments args) else crash_end (bits_after 1 g) vars) (same 0 zeroth)
                   ∙ rest;
             }
-
-    -- an operation's number is at most the sum of all
-    among : (h : Operation → ℕ) (os : List Operation) (name : Name) (o : Operation) → operation_in os name ≡ Some o → h o ≤ total (map h os)
-    among h [] name o e = absurd (cc)
-    among h (x ∷ os) name o e = by_name (bytes_eq x.name.text name) e (λ f. among h os name o f)
-      where
-        by_name : (c : Bool) → (if c then Some x else operation_in os name) ≡ Some o → (operation_in os name ≡ Some o → h o ≤ total (map h os)) →
-            h o ≤ h x + total (map h os)
-        by_name true e rest = let f : x ≡ o = cc in let g : h x ≡ h o = ap h f in omega (arith, g)
-        by_name false e rest = let r = rest e in omega (arith, r)
 
     drop_back : (f : Name) (o : Option Operation) → operation_of m f ≡ o → (s : State Env) (args : List Value) (last : Picks) →
         Decided (fall_room m) (λ g. drop_end g o s args ≡ (spec_drops past m s o args last).base)

@@ -1,0 +1,5 @@
+pub mod Begun
+pub mod Whole
+pub mod Falls
+pub mod Starts
+pub mod AnyLayer

@@ -1,0 +1,4 @@
+//! The laws of runs over terms on the specification of the layer below, both ways.
+#![tactic(auto)]
+
+pub mod law;
