@@ -1,5 +1,5 @@
 -- What typing says of a layer whose obligations are made.
-use Rattle.std.specs.Prelude.{◌≡◌, ◌++◌, IsTrue, List, [], All, Some}
+use Rattle.std.specs.Prelude.{◌≡◌, ◌++◌, IsTrue, List, [], All, Some, option_map}
 use Rattle.ygg_value.specs.Shapes.{IsShape}
 use Rattle.ygg_value.specs.declared.shape.Shape.TheVariants.{Word}
 use Rattle.ygg_syntax.specs.declared.grammar.BlockKind.TheVariants.{Impl}
@@ -8,6 +8,7 @@ use Rattle.ygg_syntax.specs.declared.tree.Def.{Def}
 use Rattle.ygg_syntax.specs.declared.tree.Expr.{Expr}
 use Rattle.ygg_syntax.specs.declared.tree.Operation.{Operation}
 use Rattle.ygg_syntax.specs.declared.tree.Tick.{Tick}
+use Rattle.ygg_type_rules.specs.Shapes.{answer_shape}
 use Rattle.ygg_type_rules.specs.TypeErrors.{none}
 use Rattle.ygg_type_rules.specs.Scopes.{Scope}
 use Rattle.ygg_type_rules.specs.Expressions.{typing}
@@ -36,9 +37,10 @@ pub record FormulaTyped (defs : List Def) (L : ClosedLayer) (own low : List Decl
 abbrev pub ShapesKept : List Declared → Type 0
 ShapesKept = All (λ (d : Declared). IsShape (shape_in d.shape))
 
--- an operation: its implementation over what the layer is specified over, its specification, and answers of one shape
+-- an operation: its implementation over what the layer is specified over, its specification, and answers of one shape, that of its answer's type
 pub record OperationFits (defs : List Def) (G : Below) (L : ClosedLayer) (o : Operation) : Type 0 where
   pub shapes : ShapesKept o.arguments
+  pub answer_shaped : answer_shape o.answer ≡ option_map shape_in o.answer
   pub implementation : BlockTyped defs L Impl (signatures_on G) o.implementation L.layer.memory o.arguments
   pub answers : AnswersAs o o.implementation implementation.shape
   pub spec : OperationTyped defs L o

@@ -1,7 +1,7 @@
 -- What a layer's own specification may do, over terms: one end for each list of picks.
-use Rattle.std.specs.Prelude.{ℕ, zero, suc, true, false, if◌then◌else◌, Bool, List, [], ◌∷◌, ◌++◌, Option, Some, None}
+use Rattle.std.specs.Prelude.{ℕ, zero, suc, true, false, if◌then◌else◌, List, [], ◌∷◌, ◌++◌, Option, Some, None}
 use Rattle.ygg_value.specs.Words.{word}
-use Rattle.ygg_value.specs.declared.operation.Op.TheVariants.{And, Or}
+use Rattle.ygg_value.specs.declared.operation.Op.TheVariants.{Or}
 use Rattle.ygg_syntax.specs.declared.tree.Block.{Block}
 use Rattle.ygg_syntax.specs.declared.tree.Operation.{Operation}
 use Rattle.ygg_meaning.specs.Machine.{Picks}

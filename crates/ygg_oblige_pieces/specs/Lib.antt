@@ -1,0 +1,4 @@
+pub mod Inputs
+pub mod Worth
+pub mod States
+pub mod Steps
