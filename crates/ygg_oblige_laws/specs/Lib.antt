@@ -1,0 +1,3 @@
+pub mod LayerMeans
+pub mod Parts
+pub mod ObligationMeans

@@ -1,0 +1,3 @@
+//! What the terms of a file's obligations mean.
+#![tactic(auto)]
+
