@@ -63,7 +63,7 @@ at_wider old new number w g a = record {
   stands = subst (λ ns. slice_get ns a.place ≡ Some (Input number w)) (sym g.is) (in_front old g.more a.place (Input number w) a.stands);
 }
 
-stand_wider : (number : ℕ) (ds : List Declared) (old new : List Node) → Extends old new → InputsStand number ds old → InputsStand number ds new
+pub stand_wider : (number : ℕ) (ds : List Declared) (old new : List Node) → Extends old new → InputsStand number ds old → InputsStand number ds new
 stand_wider number ds old new g h i l = at_wider old new (number + i) (word_width ds i) g (h i l)
 
 module _ (kinds : List RuleKind) where

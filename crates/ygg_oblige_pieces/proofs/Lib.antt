@@ -3,3 +3,7 @@ pub mod Digits
 pub mod Fresh
 pub mod Truth
 pub mod Compares
+pub mod Truths
+pub mod Starting
+pub mod Placed
+pub mod AnyPicks

@@ -30,10 +30,10 @@ adds kinds m k = record {
   inputs = λ nodes next h. k (InputsBelow next) (inputs_stay kinds next) nodes h;
 }
 
-one_word : IsWord (word 1 1)
+pub one_word : IsWord (word 1 1)
 one_word = record { least = omega arith; most = omega arith; fits = omega arith }
 
-none_word : IsWord (word 1 0)
+pub none_word : IsWord (word 1 0)
 none_word = record { least = omega arith; most = omega arith; fits = omega arith }
 
 pub truth_wider : (v : Values) (old new : List Node) (c : Bool) (a : Id) → Extends old new → IsTruth v c old a → IsTruth v c new a

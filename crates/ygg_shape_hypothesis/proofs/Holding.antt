@@ -176,7 +176,7 @@ one_digit nodes k a b o e h =
 alike_back : (nodes : List Node) (a b : Id) → WordsAlike nodes a b → WordsAlike nodes b a
 alike_back nodes a b h = record { width = h.width; one_has = h.two_has; two_has = h.one_has }
 
-found_fit : (nodes : List Node) (one none h : Id) → InOrder [] nodes → HasWidth nodes one 1 → HasWidth nodes none 1 → HasWidth nodes h 1 →
+pub found_fit : (nodes : List Node) (one none h : Id) → InOrder [] nodes → HasWidth nodes one 1 → HasWidth nodes none 1 → HasWidth nodes h 1 →
     AreFit nodes (found nodes one none (h.0 + 1) (first_marks h.0))
 found_fit nodes one none h o p q d =
     let P : ℕ → Type 0 = λ k. HasWidth nodes (id k) 1 in

@@ -57,7 +57,7 @@ module _ (kinds : List RuleKind) (P : List Node → Type 0) (stays : Stays kinds
   pub crash_keeps : (pick : ℕ → Make Id) → PicksKeep (room m.layer.crash) pick → (vars : List SymValue) → Keeps P (crash_made kinds terms m pick vars)
   crash_keeps pick fresh vars nodes p = block_keeps pick m.layer.crash fresh vars [] nodes p
 
-  then_keeps : (pick : ℕ → Make Id) (b : Block) → PicksKeep (room b + room m.layer.crash) pick → (vars : List SymValue) (args : SymEnv) →
+  pub then_keeps : (pick : ℕ → Make Id) (b : Block) → PicksKeep (room b + room m.layer.crash) pick → (vars : List SymValue) (args : SymEnv) →
       Keeps P (then_crash_made kinds terms m pick b vars args)
   then_keeps pick b fresh vars args nodes p =
       let o = block_made kinds terms m pick b vars args nodes in

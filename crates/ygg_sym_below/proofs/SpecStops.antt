@@ -82,7 +82,7 @@ module _ (inputs : Inputs) (v : Values) (kinds : List RuleKind) (defs : Named Si
   pub crash_grows : (pick : ℕ → Make Id) (bits : ℕ → Bool) → PickMeans inputs v pick bits → (vars : List SymValue) → Grows (crash_made kinds terms m pick vars)
   crash_grows pick bits picks vars nodes = block_made_grows inputs v kinds defs m terms grow mean pick bits picks m.layer.crash vars [] nodes
 
-  then_grows : (pick : ℕ → Make Id) (bits : ℕ → Bool) → PickMeans inputs v pick bits → (b : Block) (vars : List SymValue) (args : SymEnv) →
+  pub then_grows : (pick : ℕ → Make Id) (bits : ℕ → Bool) → PickMeans inputs v pick bits → (b : Block) (vars : List SymValue) (args : SymEnv) →
       Grows (then_crash_made kinds terms m pick b vars args)
   then_grows pick bits picks b vars args nodes =
       let o = block_made kinds terms m pick b vars args nodes in
@@ -124,7 +124,7 @@ module _ (inputs : Inputs) (v : Values) (kinds : List RuleKind) (defs : Named Si
         (All-nil (SomeShape nodes)) p h in
         record { has = b.has; is = b.is }
 
-    then_gives : (pick : ℕ → Make Id) (bits : ℕ → Bool) → PickMeans inputs v pick bits → (b : Block) (args : List Declared) → SomeBlock defs m b args →
+    pub then_gives : (pick : ℕ → Make Id) (bits : ℕ → Bool) → PickMeans inputs v pick bits → (b : Block) (args : List Declared) → SomeBlock defs m b args →
         (vars xs : List SymValue) (nodes : List Node) → values_fit args (map (worth v) xs) ≡ true → All (SomeShape nodes) xs →
         LowShaped nodes m.layer.state vars →
         Gives inputs v (then_crash_made kinds terms m pick b vars (sym_bind args xs)) nodes
