@@ -1,2 +1,3 @@
+pub mod Carried
 pub mod Left
-pub mod Zeros
+pub mod ZerosMade

@@ -7,7 +7,7 @@ ghost use Rattle.ygg_meaning.specs.Shapes.{shape_in};
 ghost use Rattle.ygg_sym_below.specs.Lows.{LowShaped};
 ghost use Rattle.ygg_sym_runs.specs.Lower.{KeepsSingle};
 ghost use Rattle.ygg_sym_laws.specs.Below.{zeros_made};
-ghost use Rattle.ygg_sym.specs.Declared.{AreKept};
+ghost use Rattle.ygg_sym.specs.Kept.{AreKept};
 
 use std::alloc::Global;
 use ygg_bank::{Bank, NoMemory};

@@ -1,6 +1,8 @@
 //! Runs over terms on what a layer is specified over: the disk, or the specification of the layer below.
 #![tactic(auto)]
 
+mod below;
 mod declared;
 
+pub use below::SymBelow;
 pub use declared::{shape_of, zeros};

@@ -1,5 +1,7 @@
 -- Zeros for declared names, name by name.
 use Rattle.std.proofs.Common.{◌≡◌, ◌<◌, ℕ, ◌+◌, List, [], ◌∷◌, ◌++◌, length, drop, get_or, refl, sym, ap, ◌∙◌, subst, OnOk, IfOk, Ok, Err, Result, All}
+use Rattle.std.proofs.lemmas.List.Elements.{All-head, All-tail}
+use Rattle.ygg_value.specs.Shapes.{IsShape}
 use Rattle.ygg_syntax.specs.declared.tree.Declared.{Declared}
 use Rattle.ygg_rules.specs.declared.rule.RuleKind.{RuleKind}
 use Rattle.ygg_meaning.specs.Shapes.{shape_in}
@@ -14,12 +16,12 @@ use Rattle.ygg_sym_runs.specs.Lower.{KeepsSingle, SingleFrom}
 use Rattle.ygg_sym_runs.proofs.Singles.{single_stays}
 use Rattle.ygg_sym_laws.specs.Below.{zeros_made}
 use Rattle.ygg_sym_laws.proofs.Zeros.{AreShapes, zeros_give, zeros_made_keep}
-use Rattle.ygg_sym.specs.Declared.{AreKept}
+use Rattle.ygg_sym.specs.Kept.{AreKept}
 use Rattle.ygg_sym.proofs.Left.{Left, left_goes, rest_is}
 
 shapes_are : (ds : List Declared) → AreKept ds → AreShapes ds
 shapes_are [] k = tt
-shapes_are (d ∷ ds) k = (k.head, shapes_are ds k.tail)
+shapes_are (d ∷ ds) k = (All-head (λ (d : Declared). IsShape (shape_in d.shape)) d ds k, shapes_are ds (All-tail (λ (d : Declared). IsShape (shape_in d.shape)) d ds k))
 
 module _ (kinds : List RuleKind) where
   pub zeros_go : (ds : List Declared) (old now : List Node) (i : ℕ) (so_far : List SymValue) (d e : Declared) (x : SymValue) (next : List Node) →
