@@ -3,6 +3,8 @@
 
 mod below;
 mod declared;
+mod begun;
 
 pub use below::SymBelow;
 pub use declared::{shape_of, zeros};
+pub use begun::start;
