@@ -1,5 +1,5 @@
 -- Comparing lists of values, and answers.
-use Rattle.std.proofs.Common.{◌≡◌, List, [], ◌∷◌, refl, ap}
+use Rattle.std.proofs.Common.{◌≡◌, List, [], ◌∷◌, refl, ap, ◌∙◌}
 use Rattle.ygg_value.specs.declared.operation.Op.TheVariants.{And}
 use Rattle.ygg_rules.specs.declared.rule.RuleKind.{RuleKind}
 use Rattle.ygg_bank.specs.Makes.{Out, goes_on}
@@ -22,3 +22,9 @@ compared_are kinds (x ∷ xs) [] nodes = refl
 compared_are kinds (x ∷ xs) (y ∷ ys) nodes =
     let a = compared kinds x y nodes in
     ap (λ (o : Out Id). goes_on o (λ rest. made kinds (Bin And a.value rest))) (compared_are kinds xs ys a.nodes)
+
+-- the same of comparisons that went as they are defined to
+pub compared_from : (kinds : List RuleKind) (xs ys : List SymValue) (old : List Node) (ids : List Id) (mid : List Node) →
+    ids ≡ (each_two (compared kinds) xs ys old).value → mid ≡ (each_two (compared kinds) xs ys old).nodes → conjunction kinds ids mid ≡ all_compared kinds xs ys old
+compared_from kinds xs ys old ids mid e f =
+    ap (λ z. conjunction kinds z mid) e ∙ ap (conjunction kinds (each_two (compared kinds) xs ys old).value) f ∙ compared_are kinds xs ys old
