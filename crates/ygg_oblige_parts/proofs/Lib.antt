@@ -6,3 +6,4 @@ pub mod Scoped
 pub mod Falling
 pub mod Bound
 pub mod Started
+pub mod StepPasses

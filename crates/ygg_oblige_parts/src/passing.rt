@@ -49,7 +49,7 @@ impl<'a, B: Book> Maker<'a, B> {
     /// How many picks the specification's step takes at most. Its only error is out of memory: no machine has memory for all lists of a million
     /// picks.
     pub fn most(&self, obligation: SymObligation<'a>) -> Result<u64, NoMemory>
-        ensures { IfOk result (λ n. n ≡ most (closed self.now.layer) (obligation_of obligation)) }
+        ensures { IfOk result (λ n. n ≡ most (closed self.now.layer) (obligation_of obligation.entry)) }
     {
         let layer = self.layer.layer;
         match obligation {
