@@ -161,3 +161,20 @@ pub passes_from : (kinds : List RuleKind) (out : Out Done) (s : Option SymValue 
     made kinds (Bin And same related) three
     ≡ goes_on out (λ out. and_make (s out.answer) (λ same. and_make (r out.to) (λ related. made kinds (Bin And same related))))
 passes_from kinds out s r d same related one two three a b e f h i = cc
+
+-- both lists of one pick more, where each step went as it is defined to
+both_from : (kinds : List RuleKind) (F : Picks → Make Id) (p q xs ys : Picks) (old one two : List Node) (a b : Id) → xs ≡ p → ys ≡ q →
+    a ≡ (F xs old).value → one ≡ (F xs old).nodes → b ≡ (F ys one).value → two ≡ (F ys one).nodes →
+    made kinds (Bin Or a b) two ≡ and_make (F p) (λ a. and_make (F q) (λ b. made kinds (Bin Or a b))) old
+both_from kinds F p q xs ys old one two a b e f g h i j = cc
+
+pub any_from : (kinds : List RuleKind) (test : Picks → Make Id) (n m : ℕ) (before xs ys : Picks) (old one two : List Node) (a b : Id) → n ≡ suc m →
+    xs ≡ before ++ false ∷ [] → ys ≡ before ++ true ∷ [] → a ≡ (any_picks kinds m xs test old).value → one ≡ (any_picks kinds m xs test old).nodes →
+    b ≡ (any_picks kinds m ys test one).value → two ≡ (any_picks kinds m ys test one).nodes →
+    made kinds (Bin Or a b) two ≡ any_picks kinds n before test old
+any_from kinds test n m before xs ys old one two a b e f g h i j k =
+    both_from kinds (λ p. any_picks kinds m p test) (before ++ false ∷ []) (before ++ true ∷ []) xs ys old one two a b f g h i j k
+    ∙ ap (λ (m : Make Id). m old) (any_more kinds n m before test e)
+
+pub none_left : (kinds : List RuleKind) (test : Picks → Make Id) (n : ℕ) (before : Picks) → n ≡ 0 → test before ≡ any_picks kinds n before test
+none_left kinds test n before e = ap (λ k. any_picks kinds k before test) (sym e)

@@ -1,6 +1,6 @@
 //! Whether some step of a layer's own specification passes, over terms.
 
-ghost use Rattle.std.specs.Prelude.{◌≡◌, ◌<◌, IfOk, OnOk};
+ghost use Rattle.std.specs.Prelude.{◌≡◌, ◌<◌, ◌++◌, ◌∷◌, [], IfOk, OnOk};
 ghost use Rattle.ygg_bank.specs.Nodes.{Extends, HasWidth, IsBank};
 ghost use Rattle.ygg_meaning.specs.Violates.{most};
 ghost use Rattle.ygg_sym_runs.specs.Lower.{KeepsSingle};
@@ -16,6 +16,7 @@ use crate::comparing::same_answers;
 use crate::digits::{constant, join};
 use crate::outcome::SymObligation;
 use crate::states::Maker;
+use std::alloc::Global;
 use ygg_bank::{Bank, Id, NoMemory};
 use ygg_rules::Book;
 use ygg_shape_cells::{SymValue, SymValues};
@@ -117,29 +118,26 @@ impl<'a, B: Book> Maker<'a, B> {
         bank: &mut Bank,
         step: &SymStep<'a, '_>,
         left: u64,
-        before: &mut Vec<bool>,
+        before: &[bool],
     ) -> Result<Id, NoMemory>
         requires bank { IsBank bank.old }
         requires can { StepCan self.now.layer self.now.below bank.old step.now }
         ensures nodes { OnOk result (bank.new
-            ≡ (any_picks (B.kinds self.now.book.now) left before.old.items (passes_of (B.kinds self.now.book.now) self.now.layer step.now) bank.old).nodes) }
+            ≡ (any_picks (B.kinds self.now.book.now) left before.now (passes_of (B.kinds self.now.book.now) self.now.layer step.now) bank.old).nodes) }
         ensures id { IfOk result (λ id. id
-            ≡ (any_picks (B.kinds self.now.book.now) left before.old.items (passes_of (B.kinds self.now.book.now) self.now.layer step.now) bank.old).value) }
-        ensures before { OnOk result (before.new.items ≡ before.old.items) }
+            ≡ (any_picks (B.kinds self.now.book.now) left before.now (passes_of (B.kinds self.now.book.now) self.now.layer step.now) bank.old).value) }
         ensures width { IfOk result (λ id. HasWidth bank.new id 1) }
         ensures grows { Extends bank.old bank.new }
         ensures single { OnOk result (KeepsSingle bank.old bank.new) }
         ensures bank { IsBank bank.new }
     {
         if left == 0 {
-            return self.passes(bank, step, before.as_slice());
+            return self.passes(bank, step, before);
         }
-        before.push(false)?;
-        let one = self.some_after(bank, step, left - 1, before)?;
-        before.pop();
-        before.push(true)?;
-        let two = self.some_after(bank, step, left - 1, before)?;
-        before.pop();
+        let without = more_picks(self.alloc, before, false)?;
+        let one = self.some_after(bank, step, left - 1, without.as_slice())?;
+        let chosen = more_picks(self.alloc, before, true)?;
+        let two = self.some_after(bank, step, left - 1, chosen.as_slice())?;
         join(bank, self.book, Op::Or, one, two)
     }
 
@@ -155,9 +153,17 @@ impl<'a, B: Book> Maker<'a, B> {
         ensures bank { IsBank bank.new }
     {
         let left = self.most(step.obligation)?;
-        let mut before = Vec::new(self.alloc);
-        self.some_after(bank, step, left, &mut before)
+        self.some_after(bank, step, left, &[])
     }
+}
+
+/// One pick more.
+fn more_picks(alloc: Global, picks: &[bool], pick: bool) -> Result<Vec<bool>, NoMemory>
+    ensures { IfOk result (λ more. more.items ≡ picks.now ++ pick ∷ []) }
+{
+    let mut more = Vec::from_slice(alloc, picks)?;
+    more.push(pick)?;
+    Ok(more)
 }
 
 /// How many choices a block makes at most, where they are below a million. Its only error is out of memory.
