@@ -1,17 +1,13 @@
 -- The specification's step, and the test of the end after it, in code.
-use Rattle.std.proofs.Common.{◌≡◌, ◌-◌, ◌+◌, ◌<◌, ◌++◌, zero, suc, ℕ, Bool, true, false, if◌then◌else◌, List, [], ◌∷◌, reverse, Option, Some, None, refl, sym, ap, ◌∙◌, subst, arith}
+use Rattle.std.proofs.Common.{◌≡◌, ◌++◌, suc, ℕ, true, false, if◌then◌else◌, List, [], ◌∷◌, reverse, Option, Some, None, sym, ap, ◌∙◌, subst}
 use Rattle.std.specs.Prelude.{is_none, is_some, option_map}
 use Rattle.ygg_value.specs.declared.operation.Op.TheVariants.{And, Or}
-use Rattle.ygg_syntax.specs.declared.tree.Block.{Block}
-use Rattle.ygg_syntax.specs.declared.tree.Declared.{Declared}
 use Rattle.ygg_syntax.specs.declared.tree.Def.{Def}
 use Rattle.ygg_syntax.specs.declared.tree.Operation.{Operation}
 use Rattle.ygg_syntax.specs.declared.tree.TypeText.{TypeText}
-use Rattle.ygg_symbols.specs.Names.{Named}
 use Rattle.ygg_type_rules.specs.Definitions.{with_definitions}
 use Rattle.ygg_type_rules.specs.Layers.{operation_signature}
 use Rattle.ygg_type_rules.specs.Shapes.{answer_shape}
-use Rattle.ygg_type_rules.specs.declared.scope.Signature.{Signature}
 use Rattle.ygg_meaning.specs.Layer.{ClosedLayer}
 use Rattle.ygg_meaning.specs.Machine.{Picks}
 use Rattle.ygg_meaning.specs.Obligations.{Obligation, Init, CallOf, CutOf, TickOf, CutTickOf, Idle, Again}
@@ -46,10 +42,8 @@ use Rattle.ygg_sym_below.specs.Lows.{LowShaped, low_worth}
 use Rattle.ygg_sym_below.specs.SpecCuts.{block_made}
 use Rattle.ygg_sym_below.specs.Specs.{given_pick}
 use Rattle.ygg_sym_laws.specs.Means.{terms_of}
-use Rattle.ygg_sym_laws.specs.Typed.{SpecBlockTyped}
 use Rattle.ygg_sym_spec.specs.Layers.{closed}
 use Rattle.ygg_sym_spec.specs.declared.layer.SymLayer.{SymLayer}
-use Rattle.ygg_sym.specs.Sites.{below_in}
 use Rattle.ygg_sym.specs.declared.below.SymBelow.{SymBelow}
 use Rattle.ygg_oblige_terms.specs.Layers.{OperationFits, LayerTyped}
 use Rattle.ygg_oblige_terms.specs.Numbers.{arguments_of}

@@ -6,7 +6,7 @@ use Rattle.ygg_value.specs.declared.shape.Shape.TheVariants as shape
 use Rattle.ygg_syntax.specs.declared.tree.Expr.{Expr}
 use Rattle.ygg_rules.specs.declared.rule.RuleKind.{RuleKind}
 use Rattle.ygg_bank.proofs.Widths.{wider}
-use Rattle.ygg_bank.specs.Makes.{Out, Make, goes_on}
+use Rattle.ygg_bank.specs.Makes.{Out, goes_on}
 use Rattle.ygg_bank.specs.Making.{made}
 use Rattle.ygg_bank.specs.Nodes.{Extends, HasWidth, IsBank}
 use Rattle.ygg_bank.specs.declared.node.Id.{Id}
@@ -16,7 +16,7 @@ use Rattle.ygg_shape_cells.specs.Terms.{IsShaped}
 use Rattle.ygg_shape_cells.specs.declared.terms.SymValue.{SymValue}
 use Rattle.ygg_shape_cells.specs.declared.terms.SymValue.TheVariants as value
 use Rattle.ygg_sym_expr.specs.Exprs.{id_in}
-use Rattle.ygg_sym_expr.specs.Seen.{SymKnown, CanTerm, terms_in}
+use Rattle.ygg_sym_expr.specs.Seen.{SymKnown, terms_in}
 use Rattle.ygg_bank.proofs.Meaning.{fits_fewer}
 use Rattle.ygg_sym_expr.proofs.Shaped.{scope_wider}
 use Rattle.ygg_sym_expr.proofs.Terms.{terms_shaped}

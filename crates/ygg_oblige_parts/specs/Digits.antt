@@ -1,5 +1,5 @@
 -- Terms of one digit, and the conjunction of several.
-use Rattle.std.specs.Prelude.{List, [], ◌∷◌, Option, Some, None}
+use Rattle.std.specs.Prelude.{List, [], ◌∷◌, Option, Some}
 use Rattle.ygg_value.specs.Words.{word}
 use Rattle.ygg_value.specs.declared.operation.Op.TheVariants.{And}
 use Rattle.ygg_rules.specs.declared.rule.RuleKind.{RuleKind}

@@ -13,6 +13,6 @@ pub use comparing::{all_equal, same_answers};
 pub use digits::{all, constant, join};
 pub use formulas::{digit, truths};
 pub use names::{add_names, fresh, words_in, words_of};
-pub use passing::SymStep;
 pub use outcome::SymObligation;
+pub use passing::SymStep;
 pub use states::{Maker, SymStarting, SymTrio};

@@ -80,7 +80,9 @@ impl<'a, B: Book> Maker<'a, B> {
         match &operation.on_crash {
             Some(b) => {
                 let given = SymPicks::Given(picks, first);
-                then_crash(self.alloc, bank, self.book, layer, given, b, vars, names, values)
+                then_crash(
+                    self.alloc, bank, self.book, layer, given, b, vars, names, values,
+                )
             }
             None => match picks {
                 [] => vars.copy(self.alloc),
@@ -88,7 +90,9 @@ impl<'a, B: Book> Maker<'a, B> {
                     let given = SymPicks::Given(rest, first);
                     if *happened {
                         let b = &operation.spec;
-                        then_crash(self.alloc, bank, self.book, layer, given, b, vars, names, values)
+                        then_crash(
+                            self.alloc, bank, self.book, layer, given, b, vars, names, values,
+                        )
                     } else {
                         crash(self.alloc, bank, self.book, layer, given, vars)
                     }
@@ -134,7 +138,17 @@ impl<'a, B: Book> Maker<'a, B> {
             SymObligation::Call(operation) => {
                 let b = &operation.spec;
                 let names = operation.arguments.as_slice();
-                block(self.alloc, bank, self.book, layer, given, b, vars, names, args.as_slice())
+                block(
+                    self.alloc,
+                    bank,
+                    self.book,
+                    layer,
+                    given,
+                    b,
+                    vars,
+                    names,
+                    args.as_slice(),
+                )
             }
             SymObligation::Cut(operation) => {
                 let vars = self.fall(bank, operation, vars, args, picks, first)?;

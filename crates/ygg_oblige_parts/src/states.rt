@@ -9,7 +9,13 @@ ghost use Rattle.ygg_sym_expr.specs.Seen.{env_of};
 ghost use Rattle.ygg_sym_runs.specs.Lower.{KeepsSingle};
 ghost use Rattle.ygg_sym_spec.specs.Layers.{closed, terms_in};
 ghost use Rattle.ygg_oblige_terms.specs.States.{
-    fresh_trio, related_made, replaced_all, replaced_trio, settled_made, starting, state_words,
+  fresh_trio,
+  related_made,
+  replaced_all,
+  replaced_trio,
+  settled_made,
+  starting,
+  state_words,
 };
 ghost use Rattle.ygg_oblige_pieces.specs.Worth.{TrioShaped};
 ghost use Rattle.ygg_oblige_parts.specs.Formulas.{CanTest, seen, truths_in};

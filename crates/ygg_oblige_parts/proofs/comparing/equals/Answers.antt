@@ -1,4 +1,4 @@
-use Rattle.std.proofs.Common.{[], ◌∷◌, ◌++◌, ◌+◌, ◌<◌, List, All, length, sym, subst, arith}
+use Rattle.std.proofs.Common.{◌+◌, ◌<◌, List, All, length, sym, subst, arith}
 use Rattle.ygg_bank.proofs.Widths.{extends_both}
 use Rattle.ygg_bank.specs.declared.node.Id.{Id}
 use Rattle.ygg_shape_cells.specs.Making.{compared}

@@ -1,5 +1,4 @@
 use Rattle.std.proofs.Common.{◌+◌}
-use Rattle.ygg_shape.proofs.Answered.{no_inputs}
 use Rattle.ygg_bank.specs.Inputs.{InputsBelow}
 use Rattle.ygg_oblige_terms.specs.States.{fresh_all, words_in}
 use Rattle.ygg_sym_below.specs.Lows.{LowShaped}

@@ -1,4 +1,4 @@
-use Rattle.std.proofs.Common.{◌≡◌, List, All, OnOk, IfOk, refl, sym, ap, ◌∙◌, subst}
+use Rattle.std.proofs.Common.{◌≡◌, All, OnOk, IfOk, refl, sym, ap, ◌∙◌, subst}
 use Rattle.ygg_meaning.specs.Related.{relations}
 use Rattle.ygg_bank.specs.declared.node.Id.{Id}
 use Rattle.ygg_sym_expr.specs.Names.{SymEnv}
