@@ -25,6 +25,7 @@ compared_are kinds (x ∷ xs) (y ∷ ys) nodes =
 
 -- the same of comparisons that went as they are defined to
 pub compared_from : (kinds : List RuleKind) (xs ys : List SymValue) (old : List Node) (ids : List Id) (mid : List Node) →
-    ids ≡ (each_two (compared kinds) xs ys old).value → mid ≡ (each_two (compared kinds) xs ys old).nodes → conjunction kinds ids mid ≡ all_compared kinds xs ys old
+    ids ≡ (each_two (compared kinds) xs ys old).value → mid ≡ (each_two (compared kinds) xs ys old).nodes →
+    conjunction kinds ids mid ≡ all_compared kinds xs ys old
 compared_from kinds xs ys old ids mid e f =
     ap (λ z. conjunction kinds z mid) e ∙ ap (conjunction kinds (each_two (compared kinds) xs ys old).value) f ∙ compared_are kinds xs ys old

@@ -27,7 +27,12 @@ pub started_from : (R : Out Id) (f : Id → Make (List Replacement)) (s : Make I
     low ≡ replaced_all settling x.low →
     (let S : Starting = record { related = related; from = from; settled = settled; settled_low = low } in S)
     ≡ (goes_on R (λ related. and_make (f related) (λ facts. and_make s (λ settled. and_make (f settled) (λ settling.
-    pure (let S : Starting = record { related = related; from = replaced_trio facts x; settled = settled; settled_low = replaced_all settling x.low } in S)))))).value
+    pure (let S : Starting = record {
+      related = related;
+      from = replaced_trio facts x;
+      settled = settled;
+      settled_low = replaced_all settling x.low;
+    } in S)))))).value
 started_from R f s x related settled known settling one two three from low a b c d e g h i j = cc
 
 module _ (kinds : List RuleKind) (terms : SymFunctions) (L : ClosedLayer) where

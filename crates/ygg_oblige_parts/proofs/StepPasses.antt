@@ -110,7 +110,8 @@ module _ (kinds : List RuleKind) (defs : List Def) (G : Below) (L : ClosedLayer)
       (low_stands no_inputs v nodes o.arguments args q) p h in
       let given = subst (λ y. gives (operation_signature o) y ≡ true) (sym b.answer)
       (spec.answers (block_end L bits o.spec (low_worth v L.layer.state vars) (low_worth v o.arguments args)).answer b.returned) in
-      alike_from no_inputs v out.nodes h o.answer y out.value.answer fits.answer_shaped (answer_wider nodes out.nodes y g a) b.shaped (kept no_inputs v hn) given
+      alike_from no_inputs v out.nodes h o.answer y out.value.answer fits.answer_shaped (answer_wider nodes out.nodes y g a) b.shaped
+      (kept no_inputs v hn) given
 
   -- so is the answer of the obligation's step
   pub step_alike : (o : Obligation) → ObligationTyped defs G L o → (picks : Picks) (vars args : List SymValue) (y : Option SymValue) (nodes : List Node) →

@@ -21,7 +21,10 @@ use Rattle.ygg_sym.proofs.Left.{Left, left_goes, rest_is}
 
 shapes_are : (ds : List Declared) → AreKept ds → AreShapes ds
 shapes_are [] k = tt
-shapes_are (d ∷ ds) k = (All-head (λ (d : Declared). IsShape (shape_in d.shape)) d ds k, shapes_are ds (All-tail (λ (d : Declared). IsShape (shape_in d.shape)) d ds k))
+shapes_are (d ∷ ds) k = (
+  All-head (λ (d : Declared). IsShape (shape_in d.shape)) d ds k,
+  shapes_are ds (All-tail (λ (d : Declared). IsShape (shape_in d.shape)) d ds k),
+)
 
 module _ (kinds : List RuleKind) where
   pub zeros_go : (ds : List Declared) (old now : List Node) (i : ℕ) (so_far : List SymValue) (d e : Declared) (x : SymValue) (next : List Node) →

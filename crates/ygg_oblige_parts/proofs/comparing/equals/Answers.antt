@@ -27,8 +27,8 @@ loop-place-preserved g c =
     record {
       went = subst (λ (z : List Id). EachTwo step c.args.one.now c.args.two.now c.args.bank.now (c.loop-place.place + 1) z c.equal.new.bank)
           (sym c.in_ok-push.ensures.items)
-          (each_two_goes step c.args.one.now c.args.two.now c.args.bank.now c.loop-place.place c.loop-place.ids.items c.loop-place.bank c.index-one-place.result _
-          c.index-two-place.result _ c.in_ok-id.id c.equal.new.bank c.loop-place-test.true q c.index-one-place.is c.index-two-place.is
+          (each_two_goes step c.args.one.now c.args.two.now c.args.bank.now c.loop-place.place c.loop-place.ids.items c.loop-place.bank
+          c.index-one-place.result _ c.index-two-place.result _ c.in_ok-id.id c.equal.new.bank c.loop-place-test.true q c.index-one-place.is c.index-two-place.is
           c.in_ok-id.ensures.nodes c.in_ok-id.ensures.form c.loop-place.invariant.went);
       digits = subst (λ (z : List Id). All (IsDigit c.equal.new.bank) z) (sym c.in_ok-push.ensures.items)
           (digits_more c.loop-place.bank c.equal.new.bank c.loop-place.ids.items c.in_ok-id.id c.equal.ensures.grows c.loop-place.invariant.digits

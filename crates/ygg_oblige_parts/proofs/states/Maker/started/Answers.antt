@@ -17,7 +17,8 @@ returns-clause-form g c =
     let kinds = g.B.Book.kinds c.args.self.now.book.now in
     let l = c.args.self.now.layer in
     let x = trio_of c.args.x in
-    started_from (related_made kinds (terms_in kinds l) (closed l) x c.args.bank.now) (facts_in kinds) (settled_made kinds (terms_in kinds l) (closed l) x.low) x
+    started_from (related_made kinds (terms_in kinds l) (closed l) x c.args.bank.now) (facts_in kinds)
+    (settled_made kinds (terms_in kinds l) (closed l) x.low) x
     c.in_ok-related.related c.in_ok-settled.settled c.in_ok-known.known c.in_ok-settling.settling c.related.new.bank c.facts.new.bank c.settled.new.bank
     (trio_of c.in_ok-from.from) c.in_ok-settled_low.settled_low c.in_ok-related.ensures.id c.in_ok-related.ensures.nodes c.in_ok-known.ensures.form
     c.in_ok-known.ensures.nodes c.in_ok-settled.ensures.id c.in_ok-settled.ensures.nodes c.in_ok-settling.ensures.form c.in_ok-from.ensures
