@@ -1,1 +1,5 @@
 pub mod Obligations
+<<<<<<< HEAD
+=======
+pub mod Numbering
+>>>>>>> hub/h/OBCODE
