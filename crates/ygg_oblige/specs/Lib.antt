@@ -1,5 +1,1 @@
 pub mod Obligations
-<<<<<<< HEAD
-=======
-pub mod Numbering
->>>>>>> hub/h/OBCODE
