@@ -15,7 +15,7 @@ use Rattle.ygg_sym_below.specs.Disks.{Done}
 use Rattle.ygg_sym_below.specs.Specs.{input_pick, spec_handles, sym_spec}
 use Rattle.ygg_sym_spec.specs.declared.layer.SymLayer.{SymLayer}
 use Rattle.ygg_sym_below.proofs.Lows.{low_of}
-use Rattle.ygg_sym_below.proofs.Specs.{spec_at}
+use Rattle.ygg_sym_below.proofs.SpecMeans.{spec_at}
 use Rattle.ygg_sym_laws.specs.Below.{signatures_of}
 use Rattle.ygg_sym_spec.specs.Layers.{SpecServes, closed, terms_in}
 use Rattle.ygg_sym_spec.specs.declared.machine.SymSpec.{SymSpec}

@@ -6,7 +6,8 @@ use Rattle.ygg_sym_expr.proofs.Grows.{functions_grow}
 use Rattle.ygg_sym_runs.specs.Lower.{IsLower}
 use Rattle.ygg_sym_below.specs.Specs.{input_pick}
 use Rattle.ygg_sym_below.specs.Laws.{picked_by}
-use Rattle.ygg_sym_below.proofs.Specs.{input_pick_means, spec_means}
+use Rattle.ygg_sym_below.proofs.Specs.{input_pick_means}
+use Rattle.ygg_sym_below.proofs.SpecMeans.{spec_means}
 use Rattle.ygg_sym_laws.specs.Below.{signatures_of}
 use Rattle.ygg_sym_spec.specs.Layers.{closed, terms_in}
 use Rattle.ygg_sym_spec.specs.Machine.{spec_meaning}
