@@ -44,6 +44,7 @@ use Rattle.ygg_sym_stops.specs.Stopping as stopping
 use Rattle.ygg_sym_stops.specs.Stopping.{Power}
 use Rattle.ygg_sym_cut.specs.Falls.{IsFall}
 use Rattle.ygg_sym_whole.specs.Ready.{CanWhole, IsWhole}
+use Rattle.ygg_sym_spec.proofs.Whole.{all_names, first_names}
 use Rattle.ygg_sym_spec.specs.Layers.{closed, terms_in}
 use Rattle.ygg_sym_spec.specs.declared.layer.SymLayer.{SymLayer}
 use Rattle.ygg_sym.specs.Running.{CanRunBlock, CutIs, EndIs, EndStands, cut_of, run_of}
@@ -59,10 +60,11 @@ pub least : (first stop last : ℕ) → first ≤ stop → first ≤ last → fi
 least first stop last l m = omega (arith, l, m)
 
 -- the names that were put one after another
-pub names_put : (start : List SymBinding) (put : SymEnv) (ds these : List Declared) (xs : List SymValue) (given : List Declared) (ys : List SymValue) →
-    start ≡ [] → put ≡ env_of start ++ sym_bind these xs ++ sym_bind given ys → these ≡ ds → put ≡ sym_bind ds xs ++ sym_bind given ys
-names_put start put ds these xs given ys e f g =
-    f ∙ ap (λ z. env_of z ++ sym_bind these xs ++ sym_bind given ys) e ∙ ap (λ z. sym_bind z xs ++ sym_bind given ys) g
+pub names_put : (start : List SymBinding) (one two : SymEnv) (ds these : List Declared) (xs those : List SymValue) (given : List Declared)
+    (ys slice : List SymValue) → start ≡ [] → one ≡ env_of start ++ sym_bind these those → two ≡ one ++ sym_bind given slice → these ≡ ds → those ≡ xs →
+    slice ≡ ys → two ≡ sym_bind ds xs ++ sym_bind given ys
+names_put start one two ds these xs those given ys slice e f g h k m =
+    all_names one two ds given xs ys (first_names start one ds these xs those e f h k) (g ∙ ap (λ z. one ++ sym_bind given z) m)
 
 -- whole runs of a block without a type error mean what they should, whatever it is run on
 whole_on : (kinds : List RuleKind) (l : SymLayer) (g : SymBelow) (b : Block) (names : List Declared) → BelowFits l g →

@@ -4,7 +4,6 @@
 mod below;
 mod declared;
 mod rooms;
-mod running;
 mod runs;
 mod begun;
 
