@@ -4,6 +4,7 @@
 mod below;
 mod declared;
 mod rooms;
+mod running;
 mod runs;
 mod begun;
 

@@ -12,6 +12,7 @@ ghost use Rattle.ygg_sym.specs.Running.{CanRunBlock, CutIs, EndIs, EndStands, cu
 use crate::begun::start;
 use crate::below::SymBelow;
 use crate::declared::zeros;
+use crate::running::{cut_on_disk, cut_on_spec, run_on_disk, run_on_spec};
 use std::alloc::Global;
 use ygg_bank::{Bank, Id, NoMemory};
 use ygg_rules::Book;
@@ -77,7 +78,10 @@ pub fn run<B: Book>(
 {
     // the bank's nodes stand in order
     let _ = bank.len();
-    Err(NoMemory)
+    match at.below {
+        SymBelow::Disk(disk) => run_on_disk(alloc, bank, book, at, disk, first, memory, args, low),
+        SymBelow::Layer(layer) => run_on_spec(alloc, bank, book, at, layer, first, memory, args, low),
+    }
 }
 
 /// A run of a block that power cuts; its picks are inputs numbered on from a number, its stops from another, and the failure's picks from a third.
@@ -108,7 +112,10 @@ pub fn cut<B: Book>(
 {
     // the bank's nodes stand in order
     let _ = bank.len();
-    Err(NoMemory)
+    match at.below {
+        SymBelow::Disk(disk) => cut_on_disk(alloc, bank, book, at, disk, first, stop, last, memory, args, low),
+        SymBelow::Layer(layer) => cut_on_spec(alloc, bank, book, at, layer, first, stop, last, memory, args, low),
+    }
 }
 
 /// What power loss between operations leaves; its picks are inputs numbered on from a number. Its only error is out of memory, after which the
