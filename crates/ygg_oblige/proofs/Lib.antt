@@ -1,1 +1,5 @@
-
+pub mod Sites
+pub mod Chains
+pub mod Alike
+pub mod Begun
+pub mod Kinds

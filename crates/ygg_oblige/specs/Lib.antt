@@ -1,1 +1,4 @@
 pub mod Obligations
+pub mod Numbering
+pub mod Making
+pub mod Parts

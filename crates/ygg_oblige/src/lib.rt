@@ -8,8 +8,12 @@ ghost use Rattle.ygg_oblige_terms.specs.Terms.{file_made};
 ghost use Rattle.ygg_oblige_terms.specs.Meaning.{AreTermsIn, claim_name};
 ghost use Rattle.ygg_oblige.specs.Obligations.{names_in, terms_in};
 
+mod numbers;
 mod obligation;
+mod terms;
 
+pub use numbers::{SymNumbers, arguments_of, block_of, numbers_of};
+pub use terms::term;
 pub use obligation::{Kind, Obligation, Obligations};
 
 use std::alloc::Global;
