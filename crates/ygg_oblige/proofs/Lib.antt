@@ -2,4 +2,4 @@ pub mod Sites
 pub mod Chains
 pub mod Alike
 pub mod Begun
-pub mod Kinds
+pub mod Cases
