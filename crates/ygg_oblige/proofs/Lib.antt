@@ -1,1 +1,3 @@
-
+pub mod KnownSo
+pub mod Going
+pub mod Walking

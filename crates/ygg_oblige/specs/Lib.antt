@@ -1,1 +1,5 @@
+pub mod Adding
+pub mod Listing
+pub mod Making
+pub mod Numbering
 pub mod Obligations

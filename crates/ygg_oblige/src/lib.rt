@@ -8,7 +8,13 @@ ghost use Rattle.ygg_oblige_terms.specs.Terms.{file_made};
 ghost use Rattle.ygg_oblige_terms.specs.Meaning.{AreTermsIn, claim_name};
 ghost use Rattle.ygg_oblige.specs.Obligations.{names_in, terms_in};
 
+mod file;
+mod layers;
+mod listing;
+mod names;
+mod numbers;
 mod obligation;
+mod terms;
 
 pub use obligation::{Kind, Obligation, Obligations};
 
@@ -17,9 +23,10 @@ use ygg_bank::{Bank, NoMemory};
 use ygg_rules::Book;
 use ygg_type::Typed;
 
-/// stub
+/// The obligations of a file in order, and their terms, made in a bank without nodes. Its only error is out of memory, after which the bank may
+/// have more nodes.
 pub fn obligations<B: Book>(
-    _alloc: Global,
+    alloc: Global,
     typed: &Typed,
     bank: &mut Bank,
     book: &B,
@@ -31,6 +38,8 @@ pub fn obligations<B: Book>(
     ensures mean { IfOk result (λ all. AreTermsIn typed.now.file bank.new (terms_in all)) }
     ensures bank { IsBank bank.new }
 {
+    // the bank's nodes stand in order
     let _ = bank.len();
-    Err(NoMemory)
+    let file = typed.file();
+    file::obligations_of_file(alloc, file, bank, book)
 }
