@@ -46,11 +46,11 @@ fn tables(alloc: Global, disk: DiskText) -> Result<Vec<Declared>, NoMemory>
 }
 
 /// The obligations of a file. Its only error is out of memory, after which the bank may have more nodes.
-pub fn obligations_of_file<B: Book>(
+pub fn obligations_of_file<'a, B: Book>(
     alloc: Global,
-    file: &File,
+    file: &'a File,
     bank: &mut Bank,
-    book: &B,
+    book: &'a B,
 ) -> Result<Obligations, NoMemory>
     requires bank { IsBank bank.old }
     requires empty { bank.old ≡ [] }

@@ -1,6 +1,0 @@
-pub mod Bare
-pub mod Bits
-pub mod Going
-pub mod Falling
-pub mod Asked
-pub mod Whole

@@ -1,12 +1,10 @@
 -- A layer's specification in code, and what a block of it wants.
-use Rattle.std.specs.Prelude.{◌≡◌, ℕ, IsTrue, List, [], Option, Some}
+use Rattle.std.specs.Prelude.{◌≡◌, ℕ, IsTrue, List, []}
 use Rattle.ygg_syntax.specs.declared.tree.Block.{Block}
 use Rattle.ygg_syntax.specs.declared.tree.Declared.{Declared}
-use Rattle.ygg_syntax.specs.declared.tree.Operation.{Operation}
 use Rattle.ygg_type_rules.specs.TypeErrors.{none}
 use Rattle.ygg_type_rules.specs.Definitions.{definitions_errors}
-use Rattle.ygg_meaning.specs.Environments.{Name}
-use Rattle.ygg_meaning.specs.Layer.{ClosedLayer, operation_of}
+use Rattle.ygg_meaning.specs.Layer.{ClosedLayer}
 use Rattle.ygg_meaning.specs.Meaning.{functions_of}
 use Rattle.ygg_rules.specs.declared.rule.RuleKind.{RuleKind}
 use Rattle.ygg_bank.specs.Makes.{Make}
@@ -17,9 +15,9 @@ use Rattle.ygg_sym_expr.specs.Exprs.{SymFunctions}
 use Rattle.ygg_sym_runs.specs.Lower.{SingleFrom}
 use Rattle.ygg_sym_below.specs.Disks.{Done}
 use Rattle.ygg_sym_below.specs.Lows.{LowShaped}
-use Rattle.ygg_sym_below.specs.SpecCuts.{block_made, crash_made, then_crash_made, fall_made, fall_asked}
+use Rattle.ygg_sym_below.specs.SpecCuts.{block_made, crash_made, then_crash_made, fall_asked}
 use Rattle.ygg_sym_laws.specs.Means.{terms_of}
-use Rattle.ygg_sym_laws.specs.Typed.{OperationTyped, SpecBlockTyped, SpecTyped}
+use Rattle.ygg_sym_laws.specs.Typed.{SpecBlockTyped, SpecTyped}
 use Rattle.ygg_sym_spec.specs.Picking.{first_number, picking}
 use Rattle.ygg_sym_spec.specs.declared.layer.SymLayer.{SymLayer}
 use Rattle.ygg_sym_spec.specs.declared.picks.SymPicks.{SymPicks}
@@ -58,27 +56,3 @@ module _ (kinds : List RuleKind) (l : SymLayer) (p : SymPicks) where
   -- what a block leaves and then the `crash` block
   abbrev pub then_crash_of : Block → List SymValue → List Declared → List SymValue → Make (List SymValue)
   then_crash_of b vars args values = then_crash_made kinds (terms_in kinds l) (closed l) (picking kinds p) b vars (sym_bind args values)
-
-  -- what power leaves that fails within a named operation
-  abbrev pub fall_of : Name → List SymValue → List SymValue → Make (List SymValue)
-  fall_of name values vars = fall_asked kinds (terms_in kinds l) (closed l) (picking kinds p) (operation_of (closed l) name) vars values
-
-  -- and within an operation of the layer
-  abbrev pub cut_of : Operation → List SymValue → List SymValue → Make (List SymValue)
-  cut_of o values vars = fall_made kinds (terms_in kinds l) (closed l) (picking kinds p) o o.on_crash vars values
-
--- an operation of the specification over variables and arguments of the declared shapes
-pub record CanFall (l : SymLayer) (p : SymPicks) (nodes : List Node) (o : Operation) (vars values : List SymValue) : Type 0 where
-  pub sound : IsTrue (none (definitions_errors l.defs.now [] []))
-  pub crash : SpecBlockTyped l.defs.now (closed l) (l.layer.now).crash []
-  pub operation : OperationTyped l.defs.now (closed l) o
-  pub vars_are : LowShaped nodes (l.layer.now).state vars
-  pub args_are : LowShaped nodes o.arguments values
-  pub single : SingleFrom (first_number p) nodes
-
--- a named operation, if it is one, over variables and arguments of the declared shapes
-pub record CanCut (l : SymLayer) (p : SymPicks) (nodes : List Node) (name : Name) (vars values : List SymValue) : Type 0 where
-  pub serves : SpecServes l
-  pub vars_are : LowShaped nodes (l.layer.now).state vars
-  pub args_are : (o : Operation) → operation_of (closed l) name ≡ Some o → LowShaped nodes o.arguments values
-  pub single : SingleFrom (first_number p) nodes

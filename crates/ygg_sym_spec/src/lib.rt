@@ -2,15 +2,9 @@
 #![tactic(auto)]
 
 mod blocks;
-mod chooser;
-mod falls;
 mod layer;
-mod machine;
 mod picks;
 
-pub use blocks::{SpecDone, block, choices, crash, then_crash};
-pub use chooser::{Nothing, SymChooser};
-pub use falls::fall;
+pub use blocks::{SpecDone, block, crash, then_crash};
 pub use layer::SymLayer;
-pub use machine::SymSpec;
 pub use picks::SymPicks;
