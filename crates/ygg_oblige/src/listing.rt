@@ -25,7 +25,7 @@ fn add<'a>(
     obligation: SymObligation<'a>,
     number: u32,
 ) -> Result<(), NoMemory>
-    ensures { OnOk result (asked_in list.new.items ≡ asked_in list.old.items ++ obligation_of obligation ∷ []) }
+    ensures { OnOk result (asked_in list.new.items ≡ asked_in list.old.items ++ obligation_of obligation.entry ∷ []) }
 {
     list.push(Asked { obligation, number })?;
     Ok(())

@@ -34,7 +34,7 @@ pub fn name_of(
     layer: &Layer,
     obligation: SymObligation<'_>,
 ) -> Result<Text, NoMemory>
-    ensures { IfOk result (λ t. t ≡ name_of layer.now.name.text (obligation_of obligation)) }
+    ensures { IfOk result (λ t. t ≡ name_of layer.now.name.text (obligation_of obligation.entry)) }
 {
     let name = &layer.name;
     match obligation {
