@@ -101,13 +101,15 @@ yggdrasil 1;
 disk async 2 of 1 of 8;
 layer safe {
   state t : table 2 of 1 of 8;
-  op load(a : word 8) -> row 1 of 8 spec {
+  op load(a : word 8) -> row \
+1 of 8 spec {
     return t[a];
   } impl {
     let r = call read(a);
     return r;
   }
-  op store(a : word 8, r : row 1 of 8) spec {
+  op store(a : word 8, r : row \
+1 of 8) spec {
     t[a] = r;
   } impl {
     call write(a, r);

@@ -781,7 +781,6 @@ pub test_at-returns-clause-form : goal.test_at-returns-clause-form
 test_at-returns-clause-form g t c =
     let kinds = g.B.Book.kinds c.args.book.now in let k = known_of c.args.self.now in let old = c.args.bank.now in let which = c.args.which in
     let x = c.args.x.now in let w = c.args.w in let n = c.args.n in let e = c.args.e.now in let can = c.requires.can in let i = c.args.i in
-    let fits = number_word kinds k can.first which x w n e i old c.requires.bank can.can c.requires.below in
     let mid = c.word.new.bank in
     let y = c.in_ok-value.value in
     let self = c.args.self.now in
@@ -798,5 +797,4 @@ pub test_at-returns-clause-grows : goal.test_at-returns-clause-grows
 test_at-returns-clause-grows g t c =
     let kinds = g.B.Book.kinds c.args.book.now in let k = known_of c.args.self.now in let old = c.args.bank.now in let which = c.args.which in
     let x = c.args.x.now in let w = c.args.w in let n = c.args.n in let e = c.args.e.now in let can = c.requires.can in let i = c.args.i in
-    let fits = number_word kinds k can.first which x w n e i old c.requires.bank can.can c.requires.below in
     extends_both old c.word.new.bank c.value_by.new.bank c.word.ensures.grows c.value_by.ensures.grows
