@@ -12,8 +12,12 @@ pub enum Verdict {
 /// How many obligations a file has, and of how many of them each verdict was found.
 #[derive(Clone, Copy, Debug, PartialEq, Eq)]
 pub struct Tally {
+    /// The obligations of the file.
     pub obligations: u32,
+    /// Those that hold.
     pub holds: u32,
+    /// Those that fail.
     pub fails: u32,
+    /// Those whose budget was spent.
     pub spent: u32,
 }

@@ -49,6 +49,7 @@ pub fn handle<B: Book>(
 }
 
 /// A call on a synchronous disk, which has one table.
+/// Its only error is out of memory, after which the bank may have more nodes.
 fn do_sync<B: Book>(
     alloc: Global,
     bank: &mut Bank,
@@ -84,6 +85,7 @@ fn do_sync<B: Book>(
 }
 
 /// A call on an asynchronous disk: what reads see, and what power loss leaves.
+/// Its only error is out of memory, after which the bank may have more nodes.
 fn do_async<B: Book>(
     alloc: Global,
     bank: &mut Bank,
@@ -124,6 +126,7 @@ fn do_async<B: Book>(
 }
 
 /// The tables after a write on an asynchronous disk: a pick says whether the row is stable at once.
+/// Its only error is out of memory, after which the bank may have more nodes.
 fn write_async<B: Book>(
     alloc: Global,
     bank: &mut Bank,
@@ -149,7 +152,7 @@ fn write_async<B: Book>(
     two_tables(alloc, seen, left)
 }
 
-/// One table.
+/// One table. Its only error is out of memory.
 pub fn one_table(alloc: Global, table: SymValue) -> Result<SymValues, NoMemory>
     ensures { IfOk result (λ tables. tables ≡ table ∷ []) }
 {
@@ -158,7 +161,7 @@ pub fn one_table(alloc: Global, table: SymValue) -> Result<SymValues, NoMemory>
     Ok(tables)
 }
 
-/// Two tables.
+/// Two tables. Its only error is out of memory.
 pub fn two_tables(alloc: Global, view: SymValue, stable: SymValue) -> Result<SymValues, NoMemory>
     ensures { IfOk result (λ tables. tables ≡ view ∷ stable ∷ []) }
 {
@@ -168,7 +171,7 @@ pub fn two_tables(alloc: Global, view: SymValue, stable: SymValue) -> Result<Sym
     Ok(tables)
 }
 
-/// A table as both tables.
+/// A table as both tables. Its only error is out of memory.
 pub fn twice(alloc: Global, table: &SymValue) -> Result<SymValues, NoMemory>
     ensures { IfOk result (λ tables. tables ≡ table.now ∷ table.now ∷ []) }
 {

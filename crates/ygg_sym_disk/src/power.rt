@@ -61,7 +61,7 @@ pub fn cut<B: Book>(
     }
 }
 
-/// What power leaves that fails within a write.
+/// What power leaves that fails within a write. Its only error is out of memory, after which the bank may have more nodes.
 fn cut_write<B: Book>(
     alloc: Global,
     bank: &mut Bank,

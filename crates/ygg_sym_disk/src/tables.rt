@@ -13,7 +13,7 @@ use ygg_shape::{select, store, store_where};
 use ygg_shape_cells::{SymRow, SymValue};
 use ygg_syntax::tree::DiskText;
 
-/// The row that a table has at a place.
+/// The row that a table has at a place. Its only error is out of memory, after which the bank may have more nodes.
 pub fn read<B: Book>(
     alloc: Global,
     bank: &mut Bank,
@@ -36,7 +36,7 @@ pub fn read<B: Book>(
     }
 }
 
-/// The table with a row written at a place.
+/// The table with a row written at a place. Its only error is out of memory, after which the bank may have more nodes.
 pub fn write<B: Book>(
     alloc: Global,
     bank: &mut Bank,
@@ -63,7 +63,7 @@ pub fn write<B: Book>(
     }
 }
 
-/// The table with a row written at a place where a test is 1.
+/// The table with a row written at a place where a test is 1. Its only error is out of memory, after which the bank may have more nodes.
 pub fn write_where<B: Book>(
     alloc: Global,
     bank: &mut Bank,
