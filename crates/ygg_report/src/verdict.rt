@@ -1,3 +1,6 @@
+ghost use Rattle.std.specs.Prelude.{◌≡◌};
+ghost use Rattle.ygg_report.specs.Tallies.{tally_of};
+
 /// A verdict on an obligation.
 #[derive(Clone, Copy, Debug, PartialEq, Eq)]
 pub enum Verdict {
@@ -13,11 +16,35 @@ pub enum Verdict {
 #[derive(Clone, Copy, Debug, PartialEq, Eq)]
 pub struct Tally {
     /// The obligations of the file.
-    pub obligations: u32,
+    pub obligations: usize,
     /// Those that hold.
-    pub holds: u32,
+    pub holds: usize,
     /// Those that fail.
-    pub fails: u32,
+    pub fails: usize,
     /// Those whose budget was spent.
-    pub spent: u32,
+    pub spent: usize,
+}
+
+impl Tally {
+    /// How many verdicts there are, and how many of each kind.
+    pub fn of(verdicts: &[Verdict]) -> Tally
+        ensures { result ≡ tally_of verdicts.now }
+    {
+        let mut holds = 0;
+        let mut fails = 0;
+        let mut spent = 0;
+        for verdict in verdicts {
+            match verdict {
+                Verdict::Holds => holds += 1,
+                Verdict::Fails => fails += 1,
+                Verdict::Spent(_) => spent += 1,
+            }
+        }
+        Tally {
+            obligations: verdicts.len(),
+            holds,
+            fails,
+            spent,
+        }
+    }
 }

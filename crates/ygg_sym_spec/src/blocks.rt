@@ -93,7 +93,7 @@ pub fn block<'a, B: Book>(
 }
 
 /// Puts declared names with values after others. Its only error is out of memory.
-fn bind<'a>(
+pub fn bind<'a>(
     alloc: Global,
     names: &mut Vec<SymBinding<'a>>,
     declared: &'a [Declared],
@@ -111,7 +111,7 @@ fn bind<'a>(
 }
 
 /// The values of names, in order. Its only error is out of memory.
-fn values_of(alloc: Global, names: &[SymBinding<'_>]) -> Result<SymValues, NoMemory>
+pub fn values_of(alloc: Global, names: &[SymBinding<'_>]) -> Result<SymValues, NoMemory>
     ensures { IfOk result (λ values. values ≡ values_in (env_of names.now)) }
 {
     let mut values = SymValues::new(alloc);

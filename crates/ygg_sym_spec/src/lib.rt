@@ -8,7 +8,7 @@ mod layer;
 mod machine;
 mod picks;
 
-pub use blocks::{SpecDone, block, choices, crash, then_crash};
+pub use blocks::{SpecDone, bind, block, choices, crash, then_crash, values_of};
 pub use chooser::{Nothing, SymChooser};
 pub use falls::fall;
 pub use layer::SymLayer;

@@ -1,6 +1,6 @@
 //! The picks of a specification over terms.
 
-ghost use Rattle.std.specs.Prelude.{◌≡◌, ◌+◌, ◌≤◌, ℕ, List, IfOk, OnOk};
+ghost use Rattle.std.specs.Prelude.{◌≡◌, ◌+◌, ◌≤◌, ℕ, List, IfOk, OnErr, OnOk};
 ghost use Rattle.ygg_direct.specs.Places.{left_after};
 ghost use Rattle.ygg_rules.specs.declared.rule.RuleKind.{RuleKind};
 ghost use Rattle.ygg_value.specs.Words.{bit_of, word};
@@ -31,6 +31,7 @@ impl<'a> SymPicks<'a> {
         ensures grows { Extends bank.old bank.new }
         ensures single { OnOk result (KeepsSingle bank.old bank.new) }
         ensures bank { IsBank bank.new }
+        ensures err { OnErr result (bank.new ≡ bank.old) }
     {
         // the bank's nodes stand in order
         let _ = bank.len();

@@ -68,7 +68,7 @@ pub fn bit<W: SymStops, B: Book>(
     }
 }
 
-/// The term that says whether one of two does. Its only error is out of memory, after which the bank is as before.
+/// The term that says whether one of two does. Its only error is out of memory, after which the bank may have more nodes.
 pub fn either<B: Book>(bank: &mut Bank, book: &B, a: Id, b: Id) -> Result<Id, NoMemory>
     requires one { HasWidth bank.old a 1 }
     requires two { HasWidth bank.old b 1 }

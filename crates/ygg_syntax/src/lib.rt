@@ -1,6 +1,5 @@
 //! The trees of layer files and their grammar: types and definitions alone.
 #![tactic(auto)]
 
-pub mod flag;
 pub mod grammar;
 pub mod tree;

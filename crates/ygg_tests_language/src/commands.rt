@@ -42,16 +42,26 @@ fn ends(
     found == status && sink.bytes() == printed
 }
 
+/// What is printed of the flag.
+const FLAG_VERIFIED: &[u8] = b"\
+holds flag.init
+holds flag.call.set
+holds flag.cut.set
+holds flag.idle
+holds flag.again
+verified 5
+";
+
 // The words, the bytes of the file, which calls of the library and of the sink fail, and how the command ends. More commands
 // are tried on the program itself.
-const COMMANDS: [(&[&[u8]], &[u8], &[u64], &[u64], Status, &[u8]); 6] = [
+const COMMANDS: [(&[&[u8]], &[u8], &[u64], &[u64], Status, &[u8]); 7] = [
     (
         &[b"verify", b"flag.ygg"],
         FLAG,
         &[],
         &[],
         Status::Done,
-        b"verified 5\n",
+        FLAG_VERIFIED,
     ),
     (
         &[b"print", b"flag.ygg"],
@@ -92,6 +102,14 @@ const COMMANDS: [(&[&[u8]], &[u8], &[u64], &[u64], Status, &[u8]); 6] = [
         &[1],
         Status::Fault,
         b"",
+    ),
+    (
+        &[b"verify", b"flag.ygg"],
+        FLAG,
+        &[],
+        &[2],
+        Status::Fault,
+        b"holds flag.init\n",
     ),
 ];
 

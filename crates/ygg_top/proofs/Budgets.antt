@@ -1,11 +1,10 @@
--- Words that are to be budgets.
-use Rattle.std.proofs.Common.{◌≡◌, ◌<◌, ◌^◌, ℕ, List, Some, None, Result, Ok, Err, refl, sym, ap, subst, ◌∙◌, arith}
+-- Words that are to be numbers.
+use Rattle.std.proofs.Common.{◌≡◌, ◌<◌, ◌^◌, ℕ, List, Some, Result, Ok, Err, refl, sym, ap, subst, ◌∙◌, arith}
 use Rattle.std.specs.Str.{IsAscii, IsUtf8}
 use Rattle.std.specs.Str.Parse.{ParsesUnsigned}
 use Rattle.std.proofs.lemmas.Str.{IsUtf8-from_ascii}
 use Rattle.std.proofs.lemmas.Fmt.{parse-decimal, IsAscii-decimal}
 use Rattle.std.specs.Fmt.{decimal}
-use Rattle.ygg_top.specs.Words.{IsBudget, IsNoBudget}
 
 -- a number's digits are a text
 pub is_text : (word : List ℕ) (n : ℕ) → n < 2 ^ 32 → word ≡ decimal n → IsUtf8 word
@@ -27,15 +26,3 @@ parsed word text n number small e same h = let r : Result ℕ ℕ = Ok number in
 
 pub unparsed : (word text : List ℕ) (n : ℕ) → n < 2 ^ 32 → word ≡ decimal n → text ≡ word → ParsesUnsigned {E = ℕ} 32 10 text (Err 0) → ⊥
 unparsed word text n small e same h = let r : Result ℕ ℕ = Err 0 in no_number 0 n r refl (given word text n r small e same h)
-
--- a word that isn't read as a number is no budget
-pub unread : (word : List ℕ) → ((n : ℕ) → n < 2 ^ 32 → word ≡ decimal n → None ≡ Some n) → IsNoBudget word
-unread word h budget b = let m = b.most in absurd (cc (h budget (omega (arith, m)) b.digits))
-
--- nor is one that is read as a number of another size, or that isn't written as the number that it is read as
-pub read_as : (word : List ℕ) (number : ℕ) → ((n : ℕ) → n < 2 ^ 32 → word ≡ decimal n → Some number ≡ Some n) → (IsBudget word number → ⊥) → IsNoBudget word
-read_as word number h none budget b =
-    let m = b.most in
-    let e : Some number ≡ Some budget = h budget (omega (arith, m)) b.digits in
-    let same : number ≡ budget = cc in
-    none (subst (IsBudget word) (sym same) b)

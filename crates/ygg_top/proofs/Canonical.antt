@@ -13,10 +13,8 @@ pub is_printed : (bytes text : List ℕ) (tokens : Tokens) (layers printed : Fil
 is_printed bytes text tokens layers printed small marks accepted same is again =
     let P : File → Type 0 = λ f. text ≡ canonical f in
     record {
-      small = small;
-      tokens = tokens;
       layers = layers;
-      accepted = accepted;
+      is_file = record { small = small; tokens = tokens; accepted = accepted };
       is = subst P same is;
       again = subst (IsReadAgain text) same again tokens.items (marks bytes tokens accepted.spells) accepted.derives;
     }

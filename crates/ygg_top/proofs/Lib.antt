@@ -1,6 +1,11 @@
 mod Canonical
 mod Found
 mod Printing
-mod Refused
+mod Fronts
+mod Judging
 mod Verdicts
+mod Reporting
+mod Ends
 mod Budgets
+mod Making
+mod Counts

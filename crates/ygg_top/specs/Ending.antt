@@ -1,5 +1,5 @@
 -- How a command ends, and what it prints.
-use Rattle.std.specs.Prelude.{◌≡◌, ◌⊎◌, ℕ, ◌≤◌, List, ◌++◌, length, take, codes, Option, Some, None, IfSome, MatchBool, MatchOption}
+use Rattle.std.specs.Prelude.{◌≡◌, ◌⊎◌, ℕ, ◌<◌, List, ◌++◌, codes, Option, Some, None, IfSome, MatchBool, MatchOption, Result, Ok, Err}
 use Rattle.ygg_base.specs.declared.failure.Refusal.{Refusal}
 use Rattle.ygg_base.specs.declared.reason.Reason.TheVariants as reason
 use Rattle.ygg_base.specs.Reason.{refusal_at}
@@ -7,41 +7,48 @@ use Rattle.ygg_base.specs.declared.lists.Held.{Held}
 use Rattle.ygg_base.specs.declared.status.Status.{Status}
 use Rattle.ygg_base.specs.declared.status.Status.TheVariants.{Done, Refused, Fault, NoMemory}
 use Rattle.ygg_base.specs.Outside.{bytes_of}
-use Rattle.ygg_base.specs.declared.tokens.Tokens.{Tokens}
 use Rattle.ygg_base.specs.Lexing.{tokens_of}
-use Rattle.ygg_syntax.specs.declared.flag.FlagFile.{FlagFile}
 use Rattle.ygg_syntax.specs.declared.tree.File.{File}
-use Rattle.ygg_accept.specs.Accepting.{IsAccepted}
 use Rattle.ygg_print.specs.Canonical.{canonical, GivesAgain}
+use Rattle.ygg_report.specs.Lines.{ended, refused_line}
+use Rattle.ygg_rules.specs.declared.rule.RuleKind.{RuleKind}
 use Rattle.ygg_top.specs.declared.help.TheConstants.{HELP, VERSION}
 use Rattle.ygg_top.specs.declared.answer.CommandEnd.{CommandEnd}
 use Rattle.ygg_top.specs.declared.answer.CommandEnd.TheVariants as answer
-use Rattle.ygg_top.specs.Words.{is_alone, file_after, with_budget_after, usual_budget, IsBudget, IsNoBudget}
-use Rattle.ygg_rules.specs.declared.rule.RuleKind.{RuleKind}
-use Rattle.ygg_top.specs.Refusing.{IsBuilt, RefusesVerified, RefusesPrinted, RefusesUnread, most_bytes, refused_line}
-use Rattle.ygg_top.specs.Verdict.{Verified, line}
+use Rattle.ygg_yard.specs.Texts.{made}
+use Rattle.ygg_top.specs.Words.{
+  is_alone,
+  file_after,
+  with_budget_after,
+  usual_budget,
+  most_operations,
+  IsNumber,
+  IsNoNumber,
+  IsBudget,
+  IsNoBudget,
+}
+use Rattle.ygg_top.specs.Refusing.{IsLayerFile, RefusesFile, RefusesUnread, RefusesRead}
+use Rattle.ygg_top.specs.Verdict.{Verified, Counted}
 
--- `verify` within a budget of what stands under the name, under a book of these kinds: it is refused, or it is built, and there are verdicts on the
--- layer file that it is
+-- `verify` within a budget of what stands under the name, under a book of these kinds: it is refused, or it is a layer file without a fault, and there
+-- are verdicts on it
 abbrev pub Verifies : List RuleKind → ℕ → Option (List ℕ) → Status → List ℕ → Type 0
-Verifies kinds budget stored Refused text = (r : Refusal) × RefusesVerified stored r × (text ≡ refused_line r)
+Verifies kinds budget stored Refused text = (r : Refusal) × RefusesFile stored r × (text ≡ refused_line r)
 Verifies kinds budget stored Fault text = ⊥
 Verifies kinds budget stored NoMemory text = ⊥
-Verifies kinds budget stored status text = (bytes : List ℕ) × (f : FlagFile) × (stored ≡ Some bytes) × IsBuilt bytes f × Verified kinds f budget status text
+Verifies kinds budget stored status text = (bytes : List ℕ) × (f : File) × (stored ≡ Some bytes) × IsLayerFile bytes f × Verified kinds f budget status text
 
 -- the bytes are a layer file without a fault, and this is its canonical text: from its tokens derives that file but for places, and no other
 pub record IsPrinted (bytes text : List ℕ) : Type 0 where
-  pub small : length bytes ≤ most_bytes
-  pub tokens : Tokens
   pub layers : File
-  pub accepted : IsAccepted bytes tokens layers
+  pub is_file : IsLayerFile bytes layers
   pub is : text ≡ canonical layers
   pub again : GivesAgain (tokens_of text) layers
 
 -- `print` of what stands under the name: it is refused, or its canonical text is printed
 abbrev pub Prints : Option (List ℕ) → Status → List ℕ → Type 0
 Prints stored Done text = (bytes : List ℕ) × (stored ≡ Some bytes) × IsPrinted bytes text
-Prints stored Refused text = (r : Refusal) × RefusesPrinted stored r × (text ≡ refused_line r)
+Prints stored Refused text = (r : Refusal) × RefusesFile stored r × (text ≡ refused_line r)
 Prints stored status text = ⊥
 
 -- what stands under the name in a library: the told file, or any where the library tells none
@@ -63,6 +70,19 @@ VerifiesWithin kinds files name word status text =
     ((budget : ℕ) × IsBudget word budget × DoesWith (Verifies kinds budget) files name status text)
     ⊎ (IsNoBudget word × IsRefused (refusal_at reason.Number 0 2) status text)
 
+-- `demo` of a number under a book of these kinds: the text that is made for it is refused, or it is a layer file without a fault, and there are verdicts on it
+abbrev pub DemosMade : List RuleKind → ℕ → Status → List ℕ → Type 0
+DemosMade kinds number Refused text = (r : Refusal) × RefusesRead (Some (made number)) r × (text ≡ refused_line r)
+DemosMade kinds number Fault text = ⊥
+DemosMade kinds number NoMemory text = ⊥
+DemosMade kinds number status text = (f : File) × IsLayerFile (made number) f × Counted kinds number f status text
+
+-- `demo` of a word: a word that is no number from 1 to 64 is refused 72 at `0:1`
+abbrev pub Demos : List RuleKind → List ℕ → Status → List ℕ → Type 0
+Demos kinds word status text =
+    ((number : ℕ) × IsNumber most_operations word number × DemosMade kinds number status text)
+    ⊎ (IsNoNumber most_operations word × IsRefused (refusal_at reason.Number 0 1) status text)
+
 -- a command of these words over a library, under a book of these kinds, ends with the status and prints the text
 abbrev pub Ends : List RuleKind → List (List ℕ) → Option (List Held) → Status → List ℕ → Type 0
 Ends kinds words files status text =
@@ -70,7 +90,9 @@ Ends kinds words files status text =
     (MatchBool (is_alone (codes "--version") words) ((status ≡ Done) × (text ≡ VERSION.now))
     (MatchOption (file_after (codes "verify") words)
     (MatchOption (with_budget_after (codes "verify") words)
-    (MatchOption (file_after (codes "print") words) (IsRefused (refusal_at reason.Words 0 0) status text)
+    (MatchOption (file_after (codes "print") words)
+    (MatchOption (file_after (codes "demo") words) (IsRefused (refusal_at reason.Words 0 0) status text)
+    (λ word. Demos kinds word status text))
     (λ name. DoesWith Prints files name status text))
     (λ asked. VerifiesWithin kinds files asked.0 asked.1 status text))
     (λ name. DoesWith (Verifies kinds usual_budget) files name status text)))
@@ -81,60 +103,116 @@ Adds before bytes now = IfSome before (λ b. now ≡ Some (b ++ bytes))
 
 -- a front of the bytes
 pub record IsFront (front bytes : List ℕ) : Type 0 where
-  pub count : ℕ
-  pub within : count ≤ length bytes
-  pub is : front ≡ take count bytes
+  pub rest : List ℕ
+  pub is : bytes ≡ front ++ rest
 
 -- the line of a library that failed
 abbrev pub library_fault : List ℕ
-library_fault = line (codes "fault library")
+library_fault = ended (codes "fault library")
 
 -- a front of what the command would have printed: the line of a library that failed, where its count of faults has risen, or the command's text
 abbrev pub IsCutShort : List RuleKind → List (List ℕ) → Option (List Held) → (LibraryRose : Type 0) → List ℕ → Type 0
 IsCutShort kinds words files LibraryRose front =
     (whole : List ℕ) × IsFront front whole × ((LibraryRose × (whole ≡ library_fault)) ⊎ ((status : Status) × Ends kinds words files status whole))
 
+-- A file is to be verified within a budget, and however that ends, it is this that the command does.
+abbrev pub VerifyingIs : List RuleKind → File → ℕ → (Status → List ℕ → Type 0) → Type 0
+VerifyingIs kinds f budget Does = (0 < budget) × ((status : Status) (text : List ℕ) → Verified kinds f budget status text → Does status text)
+
+-- a front of the text of a status and a text of this kind
+abbrev pub IsCutOf : (Status → List ℕ → Type 0) → List ℕ → Type 0
+IsCutOf Ended front = (status : Status) × (text : List ℕ) × Ended status text × IsFront front text
+
+-- a front of the text of a list of verdicts on the file that is true for the budget
+abbrev pub IsCutVerdict : List RuleKind → File → ℕ → List ℕ → Type 0
+IsCutVerdict kinds f budget = IsCutOf (Verified kinds f budget)
+
+-- verifying a file is what the command does, and this is a front of the text of a list of verdicts on it that is true for the budget
+pub record IsCutRun (kinds : List RuleKind) (words : List (List ℕ)) (files : Option (List Held)) (front : List ℕ) : Type 0 where
+  pub file : File
+  pub budget : ℕ
+  pub does : VerifyingIs kinds file budget (Ends kinds words files)
+  pub cut : IsCutVerdict kinds file budget front
+
 -- What the sink has taken by the end of a command, from `before` to `now`, and why a fault came: the library's count of faults has risen, or the sink's.
+-- Where no memory was left, nothing was printed; or the command was verifying a file, and a front of what it would have printed.
 abbrev pub Reports : List RuleKind → List (List ℕ) → Option (List Held) → Option (List ℕ) → Option (List ℕ) → (LibraryRose SinkRose : Type 0) → Status → Type 0
 Reports kinds words files before now LibraryRose SinkRose Fault =
     (LibraryRose × Adds before library_fault now)
     ⊎ (SinkRose × (front : List ℕ) × IsCutShort kinds words files LibraryRose front × Adds before front now)
-Reports kinds words files before now LibraryRose SinkRose NoMemory = now ≡ before
+Reports kinds words files before now LibraryRose SinkRose NoMemory =
+    (now ≡ before) ⊎ ((front : List ℕ) × IsCutRun kinds words files front × Adds before front now)
 Reports kinds words files before now LibraryRose SinkRose status = (text : List ℕ) × Ends kinds words files status text × Adds before text now
 
--- an answer that isn't printed yet: how the command ends and its text
+-- The file that is made for a number is to be verified, and however that ends, it is this that the command does.
+abbrev pub CountingIs : List RuleKind → ℕ → File → (Status → List ℕ → Type 0) → Type 0
+CountingIs kinds number f Does = (status : Status) (text : List ℕ) → Counted kinds number f status text → Does status text
+
+-- what is found before anything is printed: how the command ends and its text, or a file that is to be verified
 abbrev pub IsAnswer : List RuleKind → List (List ℕ) → Option (List Held) → CommandEnd → Type 0
 IsAnswer kinds words files (answer.Ends status text) = Ends kinds words files status text
+IsAnswer kinds words files (answer.Verifies typed budget) = VerifyingIs kinds typed.file budget (Ends kinds words files)
+IsAnswer kinds words files (answer.Demos typed number) = CountingIs kinds number typed.file (Ends kinds words files)
 IsAnswer kinds words files answer.LibraryFailed = Unit {0}
 IsAnswer kinds words files answer.NoMemory = Unit {0}
 
 -- what a command answers for a text, where `Does` says what it does with what stands under a name
-abbrev pub IsAnswerFor : (Option (List ℕ) → Status → List ℕ → Type 0) → List ℕ → CommandEnd → Type 0
-IsAnswerFor Does bytes (answer.Ends status text) = Does (Some bytes) status text
-IsAnswerFor Does bytes answer.LibraryFailed = ⊥
-IsAnswerFor Does bytes answer.NoMemory = Unit {0}
+abbrev pub IsAnswerFor : List RuleKind → (Option (List ℕ) → Status → List ℕ → Type 0) → List ℕ → CommandEnd → Type 0
+IsAnswerFor kinds Does bytes (answer.Ends status text) = Does (Some bytes) status text
+IsAnswerFor kinds Does bytes (answer.Verifies typed budget) = VerifyingIs kinds typed.file budget (Does (Some bytes))
+IsAnswerFor kinds Does bytes (answer.Demos typed number) = ⊥
+IsAnswerFor kinds Does bytes answer.LibraryFailed = ⊥
+IsAnswerFor kinds Does bytes answer.NoMemory = Unit {0}
+
+-- a text that is put whole, or cut short with a fault
+abbrev pub IsPut : Option (List ℕ) → Option (List ℕ) → List ℕ → (SinkRose : Type 0) → Result (Unit {0}) Status → Type 0
+IsPut before now text SinkRose (Ok done) = Adds before text now
+IsPut before now text SinkRose (Err Fault) = SinkRose × (front : List ℕ) × IsFront front text × Adds before front now
+IsPut before now text SinkRose (Err other) = ⊥
 
 -- a text that is put whole with its status, or cut short with a fault
-abbrev pub IsPut : Option (List ℕ) → Option (List ℕ) → List ℕ → Status → (SinkRose : Type 0) → Status → Type 0
-IsPut before now text status SinkRose result =
+abbrev pub IsPutSo : Option (List ℕ) → Option (List ℕ) → List ℕ → Status → (SinkRose : Type 0) → Status → Type 0
+IsPutSo before now text status SinkRose result =
     ((result ≡ status) × Adds before text now)
     ⊎ ((result ≡ Fault) × SinkRose × (front : List ℕ) × IsFront front text × Adds before front now)
+
+-- What the sink has taken by the end of what ends with a status and a text of this kind: the text, or a front of one where the sink failed. Where no memory
+-- was left, nothing was taken, or a front of this kind.
+abbrev pub Puts : (Status → List ℕ → Type 0) → (List ℕ → Type 0) → Option (List ℕ) → Option (List ℕ) → (SinkRose : Type 0) → Status → Type 0
+Puts Ended Left before now SinkRose Fault = SinkRose × (front : List ℕ) × IsCutOf Ended front × Adds before front now
+Puts Ended Left before now SinkRose NoMemory = (now ≡ before) ⊎ ((front : List ℕ) × Left front × Adds before front now)
+Puts Ended Left before now SinkRose Refused = ⊥
+Puts Ended Left before now SinkRose status = (text : List ℕ) × Ended status text × Adds before text now
+
+-- no front
+abbrev pub NoFront : List ℕ → Type 0
+NoFront front = ⊥
+
+-- What the sink has taken by the end of verifying a file: the text of a list of verdicts, or a front of one where the sink failed or no memory was left.
+abbrev pub Streams : List RuleKind → File → ℕ → Option (List ℕ) → Option (List ℕ) → (SinkRose : Type 0) → Status → Type 0
+Streams kinds f budget = Puts (Verified kinds f budget) (IsCutVerdict kinds f budget)
 
 -- this text with this status, unless no memory was left
 abbrev pub IsTextOf : Status → List ℕ → CommandEnd → Type 0
 IsTextOf status text (answer.Ends ended found) = (ended ≡ status) × (found ≡ text)
+IsTextOf status text (answer.Verifies typed budget) = ⊥
+IsTextOf status text (answer.Demos typed number) = ⊥
 IsTextOf status text answer.LibraryFailed = ⊥
 IsTextOf status text answer.NoMemory = Unit {0}
 
 -- what a command answers for a name, where `Does` says what it does with what stands under it
-abbrev pub IsAnswerOf : (Option (List ℕ) → Status → List ℕ → Type 0) → Option (List Held) → List ℕ → CommandEnd → Type 0
-IsAnswerOf Does files name (answer.Ends status text) = DoesWith Does files name status text
-IsAnswerOf Does files name answer.LibraryFailed = Unit {0}
-IsAnswerOf Does files name answer.NoMemory = Unit {0}
+abbrev pub IsAnswerOf : List RuleKind → (Option (List ℕ) → Status → List ℕ → Type 0) → Option (List Held) → List ℕ → CommandEnd → Type 0
+IsAnswerOf kinds Does files name (answer.Ends status text) = DoesWith Does files name status text
+IsAnswerOf kinds Does files name (answer.Verifies typed budget) = VerifyingIs kinds typed.file budget (DoesWith Does files name)
+IsAnswerOf kinds Does files name (answer.Demos typed number) = ⊥
+IsAnswerOf kinds Does files name answer.LibraryFailed = Unit {0}
+IsAnswerOf kinds Does files name answer.NoMemory = Unit {0}
 
 -- the same where a word is to be the budget
 abbrev pub IsAnswerWithin : List RuleKind → Option (List Held) → List ℕ → List ℕ → CommandEnd → Type 0
 IsAnswerWithin kinds files name word (answer.Ends status text) = VerifiesWithin kinds files name word status text
+IsAnswerWithin kinds files name word (answer.Verifies typed budget) = VerifyingIs kinds typed.file budget (VerifiesWithin kinds files name word)
+IsAnswerWithin kinds files name word (answer.Demos typed number) = ⊥
 IsAnswerWithin kinds files name word answer.LibraryFailed = Unit {0}
 IsAnswerWithin kinds files name word answer.NoMemory = Unit {0}
 
@@ -142,5 +220,15 @@ IsAnswerWithin kinds files name word answer.NoMemory = Unit {0}
 abbrev pub IsUnread : Option (List Held) → List ℕ → CommandEnd → Type 0
 IsUnread files name (answer.Ends status text) =
     (stored : Option (List ℕ)) × (r : Refusal) × Stands files name stored × RefusesUnread stored r × (status ≡ Refused) × (text ≡ refused_line r)
+IsUnread files name (answer.Verifies typed budget) = ⊥
+IsUnread files name (answer.Demos typed number) = ⊥
 IsUnread files name answer.LibraryFailed = Unit {0}
 IsUnread files name answer.NoMemory = Unit {0}
+
+-- what a command answers that is to make a file, where `Does` says what it does
+abbrev pub IsAnswerMade : List RuleKind → (Status → List ℕ → Type 0) → CommandEnd → Type 0
+IsAnswerMade kinds Does (answer.Ends status text) = Does status text
+IsAnswerMade kinds Does (answer.Demos typed number) = CountingIs kinds number typed.file Does
+IsAnswerMade kinds Does (answer.Verifies typed budget) = ⊥
+IsAnswerMade kinds Does answer.LibraryFailed = ⊥
+IsAnswerMade kinds Does answer.NoMemory = Unit {0}

@@ -1,5 +1,5 @@
 pub mod Words
 pub mod Verdict
-pub mod Findings
 pub mod Refusing
 pub mod Ending
+pub mod Findings

@@ -1,35 +1,27 @@
 -- What is found of a file: a verdict on each of its obligations, and what they come to.
-use Rattle.std.specs.Prelude.{◌≡◌, ℕ, Bool, true, false, ◌||◌, if◌then◌else◌, List, [], ◌∷◌, ◌++◌, length, codes}
-use Rattle.std.specs.Fmt.{decimal}
+use Rattle.std.specs.Prelude.{◌≡◌, ℕ, Bool, true, false, ◌||◌, if◌then◌else◌, List, [], ◌∷◌, ◌++◌, map, length}
 use Rattle.ygg_base.specs.declared.status.Status.{Status}
 use Rattle.ygg_base.specs.declared.status.Status.TheVariants.{Done, Refuted, Undecided}
-use Rattle.ygg_syntax.specs.declared.flag.FlagFile.{FlagFile}
 use Rattle.ygg_syntax.specs.declared.tree.File.{File}
 use Rattle.ygg_rules.specs.declared.rule.RuleKind.{RuleKind}
 use Rattle.ygg_meaning.specs.Environments.{Env}
 use Rattle.ygg_meaning.specs.Machine.{State}
-use Rattle.ygg_meaning.specs.Obligations.{Schedule, name_of}
-use Rattle.ygg_histories.specs.Stack.{BottomOf}
+use Rattle.ygg_meaning.specs.Obligations.{Schedule}
+use Rattle.ygg_histories.specs.Stack.{BottomOf, FileRefines}
 use Rattle.ygg_histories.specs.History.{Entry, History, Allows}
 use Rattle.ygg_histories.specs.Claims.{Claim, ClaimHolds, ClaimViolated, claims_of}
-use Rattle.ygg_flag.specs.Trees.{file_of}
-use Rattle.ygg_flag_terms.specs.Outcomes.{IsSpent}
-
--- text as a line
-abbrev pub line : List ℕ → List ℕ
-line text = text ++ 10 ∷ []
-
--- the line of a file all of whose obligations hold, of which there are so many
-abbrev pub verified_line : ℕ → List ℕ
-verified_line count = line (codes "verified " ++ decimal count)
-
--- the line of an obligation that is violated
-abbrev pub refuted_line : Claim → List ℕ
-refuted_line c = line (codes "refuted " ++ name_of c.layer.layer.name.text c.obligation)
-
--- the line of a file that isn't decided within the budget
-abbrev pub undecided_line : List ℕ
-undecided_line = line (codes "undecided")
+use Rattle.ygg_bank.specs.declared.node.Id.{Id}
+use Rattle.ygg_bank.specs.declared.node.Node.{Node}
+use Rattle.ygg_cnf.specs.Logs.{SpentLog}
+use Rattle.ygg_cnf.specs.declared.log.Step.{Step}
+use Rattle.ygg_gates.specs.Groups.{translated}
+use Rattle.ygg_oblige_terms.specs.Terms.{file_made}
+use Rattle.ygg_oblige_terms.specs.Meaning.{claim_name}
+use Rattle.ygg_report.specs.Lines.{verdict_line, verified_line, refuted_line, undecided_line, demo_line}
+use Rattle.ygg_report.specs.Tallies.{tally_of}
+use Rattle.ygg_report.specs.declared.verdict.Verdict as report
+use Rattle.ygg_report.specs.declared.verdict.Verdict.TheVariants as reports
+use Rattle.ygg_top.specs.Words.{usual_budget}
 
 -- a verdict on an obligation
 pub data Verdict : Type 0 where
@@ -39,6 +31,12 @@ pub data Verdict : Type 0 where
   Fails : (schedule : Schedule) → Verdict
   -- the whole budget was spent on the clauses of its term
   Spent : Verdict
+
+-- what is reported of a verdict that is found within a budget
+abbrev pub reported : ℕ → Verdict → report.Verdict
+reported budget Holds = reports.Holds
+reported budget (Fails schedule) = reports.Fails
+reported budget Spent = reports.Spent budget
 
 -- whether the obligation fails
 abbrev pub is_failed : Verdict → Bool
@@ -52,17 +50,21 @@ is_spent Holds = false
 is_spent (Fails schedule) = false
 is_spent Spent = true
 
--- a verdict on an obligation of a flag file is true for a budget, where a book of these kinds makes the terms
-abbrev pub IsTrue : List RuleKind → FlagFile → ℕ → Claim → Verdict → Type 0
-IsTrue kinds f budget c Holds = ClaimHolds c
-IsTrue kinds f budget c (Fails schedule) = ClaimViolated c schedule
-IsTrue kinds f budget c Spent = IsSpent kinds f budget c.obligation
+-- a log over the clauses of a term has exactly as many clauses as the budget says, each of which teaches
+abbrev pub SpendsOn : List Node → Id → ℕ → Type 0
+SpendsOn nodes term budget = (log : List Step) × SpentLog (translated nodes term).clauses log budget
 
--- a true verdict for each obligation, in order
-abbrev pub AreTrue : List RuleKind → FlagFile → ℕ → List Claim → List Verdict → Type 0
-AreTrue kinds f budget [] [] = Unit {0}
-AreTrue kinds f budget (c ∷ cs) (v ∷ vs) = IsTrue kinds f budget c v × AreTrue kinds f budget cs vs
-AreTrue kinds f budget _ _ = ⊥
+-- a verdict on an obligation, whose term this is, is true for a budget
+abbrev pub IsTrue : List Node → ℕ → Claim → Id → Verdict → Type 0
+IsTrue nodes budget c term Holds = ClaimHolds c
+IsTrue nodes budget c term (Fails schedule) = ClaimViolated c schedule
+IsTrue nodes budget c term Spent = SpendsOn nodes term budget
+
+-- a true verdict for each obligation and its term, in order
+abbrev pub AreTrue : List Node → ℕ → List Claim → List Id → List Verdict → Type 0
+AreTrue nodes budget [] [] [] = Unit {0}
+AreTrue nodes budget (c ∷ cs) (t ∷ ts) (v ∷ vs) = IsTrue nodes budget c t v × AreTrue nodes budget cs ts vs
+AreTrue nodes budget _ _ _ = ⊥
 
 -- whether some obligation fails
 abbrev pub any_failed : List Verdict → Bool
@@ -74,28 +76,53 @@ abbrev pub any_spent : List Verdict → Bool
 any_spent [] = false
 any_spent (v ∷ vs) = is_spent v || any_spent vs
 
+-- the lines of the verdicts, in order
+abbrev pub lines_of : ℕ → List Claim → List Verdict → List ℕ
+lines_of budget (c ∷ cs) (v ∷ vs) = verdict_line (reported budget v) (claim_name c) ++ lines_of budget cs vs
+lines_of budget _ _ = []
+
 -- the line of the first obligation that fails
 abbrev pub first_refuted : List Claim → List Verdict → List ℕ
-first_refuted (c ∷ cs) (v ∷ vs) = if is_failed v then refuted_line c else first_refuted cs vs
+first_refuted (c ∷ cs) (v ∷ vs) = if is_failed v then refuted_line (claim_name c) else first_refuted cs vs
 first_refuted _ _ = []
 
 -- the status by verdicts: refuted where one is that an obligation fails, else undecided where one is spent, else done
 abbrev pub status_by : List Verdict → Status
 status_by vs = if any_failed vs then Refuted else if any_spent vs then Undecided else Done
 
--- the line by verdicts
-abbrev pub line_by : List Claim → List Verdict → List ℕ
-line_by cs vs = if any_failed vs then first_refuted cs vs else if any_spent vs then undecided_line else verified_line (length cs)
+-- the last line by verdicts
+abbrev pub last_line : List Claim → List Verdict → List ℕ
+last_line cs vs = if any_failed vs then first_refuted cs vs else if any_spent vs then undecided_line else verified_line (length cs)
+
+-- the text by verdicts: a line for each, and the last line
+abbrev pub text_by : ℕ → List Claim → List Verdict → List ℕ
+text_by budget cs vs = lines_of budget cs vs ++ last_line cs vs
 
 -- the topmost specification allows every history of the file's bottom implementation on its disk
 abbrev pub HistoriesAllowed : File → Type 0
 HistoriesAllowed file = (entries : List Entry) (to : State Env) → History (BottomOf file) entries to → Allows file entries to
 
--- How `verify` ends for a flag file within a budget, and its line: there is one list of verdicts, true for the budget, that determines both; and where the
--- status is that all was done, so that every verdict is that an obligation holds, every history is allowed.
-pub record Verified (kinds : List RuleKind) (f : FlagFile) (budget : ℕ) (status : Status) (text : List ℕ) : Type 0 where
+-- How `verify` ends for a layer file within a budget, and its text: there is one list of verdicts, true for the budget, that determines both. Where the
+-- status is that all was done, so that every verdict is that an obligation holds, each layer refines its specification, and every history is allowed.
+pub record Verified (kinds : List RuleKind) (f : File) (budget : ℕ) (status : Status) (text : List ℕ) : Type 0 where
   pub verdicts : List Verdict
-  pub are_true : AreTrue kinds f budget (claims_of (file_of f)) verdicts
+  pub are_true : AreTrue (file_made kinds f []).nodes budget (claims_of f) (file_made kinds f []).value verdicts
   pub status_is : status ≡ status_by verdicts
-  pub text_is : text ≡ line_by (claims_of (file_of f)) verdicts
-  pub allowed : status ≡ Done → HistoriesAllowed (file_of f)
+  pub text_is : text ≡ text_by budget (claims_of f) verdicts
+  pub refines : status ≡ Done → FileRefines f
+  pub allowed : status ≡ Done → HistoriesAllowed f
+
+-- the line by verdicts on the file that `demo` makes for a number: how many there are, and how many hold, fail and are spent
+abbrev pub demo_text_by : ℕ → List Verdict → List ℕ
+demo_text_by number vs = demo_line number (tally_of (map (reported usual_budget) vs))
+
+-- How `demo` ends for the layer file that is made for a number, and its line: there is one list of verdicts, true for the usual budget, that determines both.
+-- Where the status is that all was done, so that every verdict is that an obligation holds, each layer refines its specification, and every history is
+-- allowed.
+pub record Counted (kinds : List RuleKind) (number : ℕ) (f : File) (status : Status) (text : List ℕ) : Type 0 where
+  pub verdicts : List Verdict
+  pub are_true : AreTrue (file_made kinds f []).nodes usual_budget (claims_of f) (file_made kinds f []).value verdicts
+  pub status_is : status ≡ status_by verdicts
+  pub text_is : text ≡ demo_text_by number verdicts
+  pub refines : status ≡ Done → FileRefines f
+  pub allowed : status ≡ Done → HistoriesAllowed f

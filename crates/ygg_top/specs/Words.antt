@@ -8,7 +8,7 @@ abbrev pub is_alone : List ℕ → List (List ℕ) → Bool
 is_alone word (only ∷ []) = bytes_eq only word
 is_alone word _ = false
 
--- the file that stands alone after this word
+-- the file, or other word, that stands alone after this word
 abbrev pub file_after : List ℕ → List (List ℕ) → Option (List ℕ)
 file_after word (command ∷ file ∷ []) = if bytes_eq command word then Some file else None
 file_after word _ = None
@@ -26,12 +26,24 @@ usual_budget = 200000
 abbrev pub most_budget : ℕ
 most_budget = 10000000
 
--- the word is this budget: a number from 1 on in decimal digits, without a sign or a leading zero
-pub record IsBudget (word : List ℕ) (budget : ℕ) : Type 0 where
-  pub digits : word ≡ decimal budget
-  pub least : 1 ≤ budget
-  pub most : budget ≤ most_budget
+-- the most operations of a file that `demo` makes
+abbrev pub most_operations : ℕ
+most_operations = 64
+
+-- the word is this number: one from 1 to the greatest in decimal digits, without a sign or a leading zero
+pub record IsNumber (greatest : ℕ) (word : List ℕ) (number : ℕ) : Type 0 where
+  pub digits : word ≡ decimal number
+  pub least : 1 ≤ number
+  pub most : number ≤ greatest
+
+-- the word is no such number
+abbrev pub IsNoNumber : ℕ → List ℕ → Type 0
+IsNoNumber greatest word = (number : ℕ) → IsNumber greatest word number → ⊥
+
+-- the word is this budget
+abbrev pub IsBudget : List ℕ → ℕ → Type 0
+IsBudget = IsNumber most_budget
 
 -- the word is no budget
 abbrev pub IsNoBudget : List ℕ → Type 0
-IsNoBudget word = (budget : ℕ) → IsBudget word budget → ⊥
+IsNoBudget = IsNoNumber most_budget

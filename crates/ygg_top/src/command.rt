@@ -1,24 +1,43 @@
-ghost use Rattle.std.specs.Prelude.{◌≡◌, ◌<◌, ◌≤◌, length, Some, Err, IfOk, IfErr};
+ghost use Rattle.std.specs.Prelude.{List, ◌≡◌, ◌<◌, ◌≤◌, length, Some, Err, IfOk, IfErr};
+ghost use Rattle.ygg_rules.specs.declared.rule.RuleKind.{RuleKind};
 ghost use Rattle.ygg_base.specs.Outside.{Rose};
-ghost use Rattle.ygg_top.specs.Refusing.{most_bytes, refused_line as refusal_bytes};
-ghost use Rattle.ygg_top.specs.Ending.{Reports, IsPut, IsAnswer, IsAnswerFor, IsAnswerOf, IsAnswerWithin, IsTextOf, IsUnread, Prints, Stands, Verifies};
+ghost use Rattle.ygg_report.specs.Lines.{refused_line};
+ghost use Rattle.ygg_top.specs.Refusing.{most_bytes};
+ghost use Rattle.ygg_top.specs.Words.{most_operations};
+ghost use Rattle.ygg_top.specs.Ending.{
+  Reports,
+  IsPutSo,
+  IsAnswer,
+  IsAnswerFor,
+  IsAnswerMade,
+  IsAnswerOf,
+  IsAnswerWithin,
+  IsTextOf,
+  IsUnread,
+  Demos,
+  DemosMade,
+  Prints,
+  Stands,
+  Verifies,
+};
 
 use crate::answer::CommandEnd;
 use crate::file::{file_of, printed};
+use crate::finding::put;
 use crate::help::{HELP, VERSION};
-use crate::line::refused_line;
-use crate::verdict::verdict;
-use crate::words::{USUAL_BUDGET, budget, file_after, is_alone, with_budget_after};
+use crate::words::{USUAL_BUDGET, budget, file_after, is_alone, operations, with_budget_after};
+use crate::{counting, verdict};
 use std::alloc::Global;
-use ygg_base::{Fetch, Library, Moved, Reason, Refusal, Refuse, Sink, Status, Text};
+use ygg_base::{Fetch, Library, Reason, Refusal, Refuse, Sink, Status, Text};
 use ygg_rules::{Book, RuleBook};
+use ygg_yard::make;
 
 /// The most bytes of a layer file.
 const MOST_BYTES: u64 = 1_048_576;
 
-/// Runs the command that the words name, and ends with its status: `verify FILE`, `verify FILE BUDGET`, `print FILE`, and alone
-/// `--help` or `--version`. Other words are refused 71 at `0:0`. Nothing is printed before all is decided. What is ensured holds for every
-/// book of rules: they only make terms smaller.
+/// Runs the command that the words name, and ends with its status: `verify FILE`, `verify FILE BUDGET`, `print FILE`, `demo N`, and alone
+/// `--help` or `--version`. Other words are refused 71 at `0:0`. Nothing is printed before all refusals are judged; the lines of `verify` are put one by one,
+/// each as soon as its obligation is decided, and the line of `demo` at the end. What is ensured holds for every book of rules: they only make terms smaller.
 pub fn ygg<L: Library, K: Sink>(
     alloc: Global,
     words: &[Text],
@@ -49,32 +68,29 @@ fn run<B: Book, L: Library, K: Sink>(
     ensures later_library { L.faults library.old ≤ L.faults library.new }
     ensures later_sink { K.faults sink.old ≤ K.faults sink.new }
 {
-    match answer(alloc, words, rules, library) {
-        CommandEnd::Ends(status, text) => put(sink, text.as_slice(), status),
-        CommandEnd::LibraryFailed => put(sink, b"fault library\n", Status::Fault),
+    match answer(alloc, words, library) {
+        CommandEnd::Ends(status, text) => put_all(sink, text.as_slice(), status),
+        CommandEnd::Verifies(typed, budget) => verdict::verify(alloc, rules, &typed, budget, sink),
+        CommandEnd::Demos(typed, number) => counting::demo(alloc, rules, &typed, number, sink),
+        CommandEnd::LibraryFailed => put_all(sink, b"fault library\n", Status::Fault),
         CommandEnd::NoMemory => Status::NoMemory,
     }
 }
 
 /// Prints the text, and ends with the status; or with a fault, where the sink fails.
-fn put<K: Sink>(sink: &mut K, text: &[u8], status: Status) -> Status
-    ensures told { IsPut (K.taken sink.old) (K.taken sink.new) text.now status (Rose (K.faults sink.old) (K.faults sink.new)) result }
+fn put_all<K: Sink>(sink: &mut K, text: &[u8], status: Status) -> Status
+    ensures told { IsPutSo (K.taken sink.old) (K.taken sink.new) text.now status (Rose (K.faults sink.old) (K.faults sink.new)) result }
     ensures later { K.faults sink.old ≤ K.faults sink.new }
 {
-    match sink.put(text) {
-        Moved::Done => status,
-        Moved::Failed => Status::Fault,
+    match put(sink, text) {
+        Ok(()) => status,
+        Err(fault) => fault,
     }
 }
 
 /// What the words ask for, over the library.
-fn answer<B: Book, L: Library>(
-    alloc: Global,
-    words: &[Text],
-    rules: &B,
-    library: &mut L,
-) -> CommandEnd
-    ensures told { IsAnswer (B.kinds rules.now) words.now (L.files library.old) result }
+fn answer<L: Library>(alloc: Global, words: &[Text], library: &mut L) -> CommandEnd
+    ensures told { (kinds : List RuleKind) → IsAnswer kinds words.now (L.files library.old) result }
     ensures cause { result ≡ CommandEnd.LibraryFailed → Rose (L.faults library.old) (L.faults library.new) }
     ensures kept { L.files library.new ≡ L.files library.old }
     ensures later { L.faults library.old ≤ L.faults library.new }
@@ -86,13 +102,16 @@ fn answer<B: Book, L: Library>(
         return done(alloc, VERSION);
     }
     if let Some(name) = file_after(words, b"verify") {
-        return verify(alloc, name, rules, USUAL_BUDGET, library);
+        return verify(alloc, name, USUAL_BUDGET, library);
     }
     if let Some((name, word)) = with_budget_after(words, b"verify") {
-        return verify_within(alloc, name, word, rules, library);
+        return verify_within(alloc, name, word, library);
     }
     if let Some(name) = file_after(words, b"print") {
         return print(alloc, name, library);
+    }
+    if let Some(word) = file_after(words, b"demo") {
+        return demo(alloc, word);
     }
     refused(alloc, Reason::Words.at(0, 0))
 }
@@ -109,9 +128,9 @@ fn done(alloc: Global, text: &[u8]) -> CommandEnd
 
 /// The answer that is a refusal.
 fn refused(alloc: Global, at: Refusal) -> CommandEnd
-    ensures { IsTextOf Status.Refused (refusal_bytes at) result }
+    ensures { IsTextOf Status.Refused (refused_line at) result }
 {
-    match refused_line(alloc, at) {
+    match ygg_report::refused(alloc, at) {
         Ok(text) => CommandEnd::Ends(Status::Refused, text),
         Err(_) => CommandEnd::NoMemory,
     }
@@ -134,49 +153,37 @@ fn fetched<L: Library>(alloc: Global, name: &Text, library: &mut L) -> Result<Te
     }
 }
 
-/// Fetches the file of that name and verifies it within the budget that a word is. Another word is refused 72 at `0:2`.
-fn verify_within<B: Book, L: Library>(
-    alloc: Global,
-    name: &Text,
-    word: &Text,
-    rules: &B,
-    library: &mut L,
-) -> CommandEnd
-    ensures told { IsAnswerWithin (B.kinds rules.now) (L.files library.old) name.now word.now result }
+/// Fetches the file of that name, which is to be verified within the budget that a word is. Another word is refused 72 at `0:2`.
+fn verify_within<L: Library>(alloc: Global, name: &Text, word: &Text, library: &mut L) -> CommandEnd
+    ensures told { (kinds : List RuleKind) → IsAnswerWithin kinds (L.files library.old) name.now word.now result }
     ensures cause { result ≡ CommandEnd.LibraryFailed → Rose (L.faults library.old) (L.faults library.new) }
     ensures kept { L.files library.new ≡ L.files library.old }
     ensures later { L.faults library.old ≤ L.faults library.new }
 {
     match budget(alloc, word.as_slice()) {
-        Ok(Some(budget)) => verify(alloc, name, rules, budget, library),
+        Ok(Some(budget)) => verify(alloc, name, budget, library),
         Ok(None) => refused(alloc, Reason::Number.at(0, 2)),
         Err(_) => CommandEnd::NoMemory,
     }
 }
 
-/// Fetches the file of that name and verifies it within a budget.
-fn verify<B: Book, L: Library>(
-    alloc: Global,
-    name: &Text,
-    rules: &B,
-    budget: u32,
-    library: &mut L,
-) -> CommandEnd
+/// Fetches the file of that name, which is to be verified within a budget.
+fn verify<L: Library>(alloc: Global, name: &Text, budget: u32, library: &mut L) -> CommandEnd
     requires { 0 < budget }
-    ensures told { IsAnswerOf (Verifies (B.kinds rules.now) budget) (L.files library.old) name.now result }
+    ensures told { (kinds : List RuleKind) → IsAnswerOf kinds (Verifies kinds budget) (L.files library.old) name.now result }
     ensures cause { result ≡ CommandEnd.LibraryFailed → Rose (L.faults library.old) (L.faults library.new) }
     ensures kept { L.files library.new ≡ L.files library.old }
     ensures later { L.faults library.old ≤ L.faults library.new }
 {
     match fetched(alloc, name, library) {
-        Ok(text) => verify_text(alloc, rules, budget, text.as_slice()),
+        Ok(text) => verify_text(alloc, budget, text.as_slice()),
         Err(answer) => answer,
     }
 }
 
 /// Fetches the file of that name and prints it in its canonical text.
 fn print<L: Library>(alloc: Global, name: &Text, library: &mut L) -> CommandEnd
-    ensures told { IsAnswerOf Prints (L.files library.old) name.now result }
+    ensures told { (kinds : List RuleKind) → IsAnswerOf kinds Prints (L.files library.old) name.now result }
     ensures cause { result ≡ CommandEnd.LibraryFailed → Rose (L.faults library.old) (L.faults library.new) }
     ensures kept { L.files library.new ≡ L.files library.old }
     ensures later { L.faults library.old ≤ L.faults library.new }
@@ -187,17 +194,14 @@ fn print<L: Library>(alloc: Global, name: &Text, library: &mut L) -> CommandEnd
     }
 }
 
-/// Verifies a layer file's text within a budget.
-fn verify_text<B: Book>(alloc: Global, rules: &B, budget: u32, text: &[u8]) -> CommandEnd
+/// The layer file of a text, which is to be verified within a budget.
+fn verify_text(alloc: Global, budget: u32, text: &[u8]) -> CommandEnd
     requires text { length text.now ≤ most_bytes }
     requires budget { 0 < budget }
-    ensures { IsAnswerFor (Verifies (B.kinds rules.now) budget) text.now result }
+    ensures { (kinds : List RuleKind) → IsAnswerFor kinds (Verifies kinds budget) text.now result }
 {
     match file_of(alloc, text) {
-        Ok(file) => match verdict(alloc, rules, &file, budget) {
-            Ok((status, line)) => CommandEnd::Ends(status, line),
-            Err(_) => CommandEnd::NoMemory,
-        },
+        Ok(typed) => CommandEnd::Verifies(typed, budget),
         Err(Refuse::At(at)) => refused(alloc, at),
         Err(Refuse::Memory) => CommandEnd::NoMemory,
     }
@@ -206,10 +210,37 @@ fn verify_text<B: Book>(alloc: Global, rules: &B, budget: u32, text: &[u8]) -> C
 /// Prints a layer file's text in its canonical form.
 fn print_text(alloc: Global, text: &[u8]) -> CommandEnd
     requires { length text.now ≤ most_bytes }
-    ensures { IsAnswerFor Prints text.now result }
+    ensures { (kinds : List RuleKind) → IsAnswerFor kinds Prints text.now result }
 {
     match printed(alloc, text) {
         Ok(canonical) => CommandEnd::Ends(Status::Done, canonical),
+        Err(Refuse::At(at)) => refused(alloc, at),
+        Err(Refuse::Memory) => CommandEnd::NoMemory,
+    }
+}
+
+/// The layer file that is made for the number that a word is, which is to be verified. Another word is refused 72 at `0:1`.
+fn demo(alloc: Global, word: &Text) -> CommandEnd
+    ensures { (kinds : List RuleKind) → IsAnswerMade kinds (Demos kinds word.now) result }
+{
+    match operations(alloc, word.as_slice()) {
+        Ok(Some(number)) => demo_of(alloc, number),
+        Ok(None) => refused(alloc, Reason::Number.at(0, 1)),
+        Err(_) => CommandEnd::NoMemory,
+    }
+}
+
+/// The layer file that is made for a number, which is to be verified.
+fn demo_of(alloc: Global, number: u32) -> CommandEnd
+    requires some { 1 ≤ number }
+    requires few { number ≤ most_operations }
+    ensures { (kinds : List RuleKind) → IsAnswerMade kinds (DemosMade kinds number) result }
+{
+    let Ok(text) = make(alloc, number) else {
+        return CommandEnd::NoMemory;
+    };
+    match file_of(alloc, text.as_slice()) {
+        Ok(typed) => CommandEnd::Demos(typed, number),
         Err(Refuse::At(at)) => refused(alloc, at),
         Err(Refuse::Memory) => CommandEnd::NoMemory,
     }

@@ -1,53 +1,24 @@
-ghost use Rattle.std.specs.Prelude.{◌≡◌, ◌≤◌, length, IfOk, IfErr, Some};
-ghost use Rattle.ygg_base.specs.declared.reason.Reason.TheVariants as reason;
+ghost use Rattle.std.specs.Prelude.{◌≡◌, ◌≤◌, length, IfOk, IfErr};
 ghost use Rattle.ygg_base.specs.Failure.{IfRefused};
-ghost use Rattle.ygg_base.specs.Reason.{refusal_at};
 ghost use Rattle.ygg_accept.specs.Accepting.{RefusesLayers};
 ghost use Rattle.ygg_top.specs.Ending.{IsPrinted};
-ghost use Rattle.ygg_top.specs.Refusing.{IsBuilt, IsFlag, IsNoFlag, RefusesText, most_bytes};
+ghost use Rattle.ygg_top.specs.Refusing.{IsLayerFile, most_bytes};
 
 use std::alloc::Global;
 use ygg_accept::accept;
-use ygg_base::{Reason, Refusal, Refuse, Text, Token};
-use ygg_flag_read::{Unread, built};
+use ygg_base::{Refuse, Text};
 use ygg_print::print;
 use ygg_print_layout::tokens_are_marks;
-use ygg_syntax::flag::FlagFile;
+use ygg_type::Typed;
 
-/// The most tokens of a file that is built so far.
-const MOST_TOKENS: usize = 4096;
-
-/// The refusal of every layer file that isn't built so far.
-fn not_built() -> Refusal
-    ensures { result ≡ refusal_at reason.NotBuilt 0 1 }
-{
-    Reason::NotBuilt.at(0, 1)
-}
-
-/// The flag file that the tokens are, where they are one. Else they are refused 12 at `0:1`.
-fn flag_of(alloc: Global, tokens: &[Token]) -> Result<FlagFile, Refuse>
-    ensures found { IfOk result (λ f. IsFlag tokens.now f) }
-    ensures refused { IfErr result (λ refuse. IfRefused refuse (IsNoFlag tokens.now)) }
-{
-    if tokens.len() > MOST_TOKENS {
-        return Err(Refuse::At(not_built()));
-    }
-    match built(alloc, tokens) {
-        Ok(file) => Ok(file),
-        Err(Unread::NotBuilt) => Err(Refuse::At(not_built())),
-        Err(Unread::Memory) => Err(Refuse::Memory),
-    }
-}
-
-/// The flag file that the bytes are, where they are one. Else the text is refused: 1 to 10 where it is no layer file without a
-/// fault, and 12 where it is one that isn't built so far.
-pub fn file_of(alloc: Global, text: &[u8]) -> Result<FlagFile, Refuse>
+/// The layer file that the bytes are. They are refused 1 to 10 where they are no layer file without a fault.
+pub fn file_of(alloc: Global, text: &[u8]) -> Result<Typed, Refuse>
     requires { length text.now ≤ most_bytes }
-    ensures found { IfOk result (λ f. IsBuilt text.now f) }
-    ensures refused { IfErr result (λ refuse. IfRefused refuse (RefusesText text.now)) }
+    ensures found { IfOk result (λ typed. IsLayerFile text.now typed.file) }
+    ensures refused { IfErr result (λ refuse. IfRefused refuse (RefusesLayers text.now)) }
 {
     match accept(alloc, text) {
-        Ok(accepted) => flag_of(alloc, accepted.tokens.as_slice()),
+        Ok(accepted) => Ok(accepted.typed),
         Err(refuse) => Err(refuse),
     }
 }

@@ -7,20 +7,31 @@ ygg verifies storage software that must survive power failure.
 
   ygg verify FILE [BUDGET]   decides every proof obligation of the layer file FILE
   ygg print FILE             prints FILE in its one canonical text
+  ygg demo N                 verifies a made file of N operations, from 1 to 64
   ygg --help                 prints this text
   ygg --version              prints the version
 
 BUDGET is how many clauses may be learned for each obligation, from 1 to
 10000000; left out, it is 200000.
 
-How commands end, and the line that they print:
+verify prints a line for each obligation, as soon as it is decided:
+
+  holds NAME     no schedule of states, arguments and a crash violates it
+  fails NAME     some schedule violates it
+  spent NAME K   K clauses were learned, the whole budget, and it is open
+
+demo prints one line at the end, and ends as verify does:
+
+  demo N obligations K holds H fails F spent S
+
+How commands end, and the last line that they print:
 
   0  verified N                   all N obligations hold
   0  the canonical text           print
   1  refuted NAME                 the first obligation that fails
   2  refused NUMBER LINE:COLUMN   the words or the file are refused there
-  3  undecided                    none fails, and one needs a greater budget
+  3  undecided                    none fails, and one has spent its budget
   4  fault library                the file could not be read
-  4  (no line)                    the output failed
-  5  (no line)                    no memory was left
+  4  (no such line)               the output failed
+  5  (no such line)               no memory was left
 ";

@@ -3,9 +3,10 @@
 
 mod answer;
 mod command;
+mod counting;
 mod file;
+mod finding;
 mod help;
-mod line;
 mod verdict;
 mod words;
 

@@ -1,67 +1,149 @@
-ghost use Rattle.std.specs.Prelude.{◌≡◌, ◌<◌, IfOk};
-ghost use Rattle.ygg_syntax.specs.FlagNames.{FitsNames};
-ghost use Rattle.ygg_flag_terms.specs.declared.deciding.Finding.TheVariants as found;
-ghost use Rattle.ygg_top.specs.Findings.{is_failed, is_spent};
-ghost use Rattle.ygg_top.specs.Verdict.{Verified};
+//! The verdicts on a file's obligations, each put as soon as it is found.
 
-use crate::line::{line_of, undecided_line, verified_line};
+ghost use Rattle.std.specs.Prelude.{◌≡◌, ◌<◌, ◌≤◌, ◌&&◌, ◌||◌, if◌then◌else◌, is_none, length, Some, IfOk, IfErr};
+ghost use Rattle.ygg_base.specs.Outside.{Rose};
+ghost use Rattle.ygg_top.specs.Ending.{Streams};
+ghost use Rattle.ygg_oblige.specs.Obligations.{names_in};
+ghost use Rattle.ygg_top.specs.Findings.{AreDigits, IsAmong, IsConcluded, IsReported, IsStopped, last_text, status_of};
+ghost use Rattle.ygg_report.specs.Tallies.{finds_failed, finds_spent};
+
+use crate::finding::{put, report};
 use std::alloc::Global;
-use ygg_base::{NoMemory, Status, Text};
-use ygg_flag::law::{five_obligations, histories, idle_and_again};
-use ygg_flag_terms::{Finding, decide_obligations};
+use ygg_bank::Bank;
+use ygg_base::{NoMemory, Sink, Status, Text};
+use ygg_histories::law::refines_by_list;
+use ygg_oblige::{Obligation, obligations};
+use ygg_report::{Verdict, refuted, undecided, verified};
 use ygg_rules::Book;
-use ygg_syntax::flag::FlagFile;
+use ygg_type::Typed;
+use ygg_type_progress::law::typed_histories;
 
-/// How many obligations a file of one layer with one operation has.
-const OBLIGATIONS: usize = 5;
-
-/// Whether an obligation was found to fail.
-fn fails(found: Finding) -> bool
-    ensures { result ≡ is_failed found }
-{
-    matches!(found, Finding::Fails)
+/// What was found of obligations so far.
+#[derive(Clone, Copy, Drop)]
+pub struct Tally {
+    /// The place of the first one that fails.
+    pub refuted: Option<usize>,
+    /// Whether the budget was spent on one.
+    pub spent: bool,
 }
 
-/// Whether the budget was spent on an obligation.
-fn is_spent(found: Finding) -> bool
-    ensures { result ≡ is_spent found }
+/// The tally with one more obligation, at a place.
+fn counted(tally: Tally, verdict: Verdict, place: usize) -> Tally
+    ensures refuted { result.refuted ≡ (if is_none tally.refuted && finds_failed verdict then Some place else tally.refuted) }
+    ensures spent { result.spent ≡ (tally.spent || finds_spent verdict) }
 {
-    matches!(found, Finding::Spent)
+    let fails = matches!(verdict, Verdict::Fails);
+    let refuted = if tally.refuted.is_none() && fails {
+        Some(place)
+    } else {
+        tally.refuted
+    };
+    let spends = matches!(verdict, Verdict::Spent(_));
+    Tally {
+        refuted,
+        spent: tally.spent || spends,
+    }
 }
 
-/// How `verify` ends for a flag file within a budget, and its line: the first obligation that fails is named. The rules only make
-/// the obligations' terms smaller. That `idle` and `again` hold is proved of every flag file. Its only error is out of memory.
-pub fn verdict<B: Book>(
+/// Decides obligations one after another, each within a budget, and puts their lines; or the status with which the command ends, where no memory is
+/// left or the sink fails.
+fn report_all<B: Book, K: Sink>(
+    alloc: Global,
+    bank: &mut Bank,
+    rules: &B,
+    all: &[Obligation],
+    budget: u32,
+    sink: &mut K,
+) -> Result<Tally, Status>
+    requires digits { AreDigits bank.old all.now }
+    requires budget { 0 < budget }
+    ensures reported { IfOk result (IsReported bank.old budget all.now (K.taken sink.old) (K.taken sink.new) (length all.now)) }
+    ensures stopped { IfErr result (IsStopped bank.old budget all.now (K.taken sink.old) (K.taken sink.new)
+        (Rose (K.faults sink.old) (K.faults sink.new))) }
+    ensures same { bank.new ≡ bank.old }
+    ensures later { K.faults sink.old ≤ K.faults sink.new }
+{
+    let mut tally = Tally {
+        refuted: None,
+        spent: false,
+    };
+    let mut place = 0;
+    for o in all {
+        let verdict = match report(alloc, bank, rules, o, budget, sink) {
+            Ok(verdict) => verdict,
+            Err(status) => return Err(status),
+        };
+        tally = counted(tally, verdict, place);
+        place += 1;
+    }
+    Ok(tally)
+}
+
+/// The last line, and the status that goes with it.
+fn last_line(alloc: Global, all: &[Obligation], tally: Tally) -> Result<(Status, Text), NoMemory>
+    requires { IsAmong (length all.now) tally.refuted }
+    ensures status { IfOk result (λ end. end.0 ≡ status_of tally) }
+    ensures text { IfOk result (λ end. end.1 ≡ last_text (names_in all.now) tally) }
+{
+    if let Some(place) = tally.refuted {
+        return Ok((Status::Refuted, refuted(alloc, &all[place].name)?));
+    }
+    if tally.spent {
+        return Ok((Status::Undecided, undecided(alloc)?));
+    }
+    Ok((Status::Done, verified(alloc, all.len())?))
+}
+
+/// Reports the obligations of a file, and puts the last line.
+fn report_file<B: Book, K: Sink>(
+    alloc: Global,
+    bank: &mut Bank,
+    rules: &B,
+    all: &[Obligation],
+    budget: u32,
+    sink: &mut K,
+) -> Status
+    requires digits { AreDigits bank.old all.now }
+    requires budget { 0 < budget }
+    ensures told { IsConcluded bank.old budget all.now (K.taken sink.old) (K.taken sink.new) (Rose (K.faults sink.old) (K.faults sink.new)) result }
+    ensures later { K.faults sink.old ≤ K.faults sink.new }
+{
+    let tally = match report_all(alloc, bank, rules, all, budget, sink) {
+        Ok(tally) => tally,
+        Err(status) => return status,
+    };
+    match last_line(alloc, all, tally) {
+        Ok((status, text)) => match put(sink, text.as_slice()) {
+            Ok(()) => status,
+            Err(status) => status,
+        },
+        Err(_) => Status::NoMemory,
+    }
+}
+
+/// Verifies a layer file within a budget: decides its obligations in order, puts the line of each as soon as it is decided, and then the last line. Nothing
+/// is put before all terms are made. The rules only make the terms smaller. Where the sink fails, the command ends with a fault.
+pub fn verify<B: Book, K: Sink>(
     alloc: Global,
     rules: &B,
-    file: &FlagFile,
+    typed: &Typed,
     budget: u32,
-) -> Result<(Status, Text), NoMemory>
-    requires names { FitsNames file.now }
-    requires budget { 0 < budget }
-    ensures { IfOk result (λ end. Verified (B.kinds rules.now) file.now budget end.0 end.1) }
+    sink: &mut K,
+) -> Status
+    requires { 0 < budget }
+    ensures told { Streams (B.kinds rules.now) typed.now.file budget (K.taken sink.old) (K.taken sink.new)
+        (Rose (K.faults sink.old) (K.faults sink.new)) result }
+    ensures later { K.faults sink.old ≤ K.faults sink.new }
 {
-    let found = decide_obligations(alloc, rules, file, budget)?;
-    let layer = file.layer.as_slice();
-    let operation = file.operation.as_slice();
-    five_obligations();
-    idle_and_again();
-    if fails(found.init) {
-        let text = line_of(alloc, &[b"refuted ", layer, b".init"])?;
-        return Ok((Status::Refuted, text));
-    }
-    if fails(found.call) {
-        let text = line_of(alloc, &[b"refuted ", layer, b".call.", operation])?;
-        return Ok((Status::Refuted, text));
-    }
-    if fails(found.cut) {
-        let text = line_of(alloc, &[b"refuted ", layer, b".cut.", operation])?;
-        return Ok((Status::Refuted, text));
-    }
-    if is_spent(found.init) || is_spent(found.call) || is_spent(found.cut) {
-        return Ok((Status::Undecided, undecided_line(alloc)?));
-    }
-    histories();
-    let text = verified_line(alloc, OBLIGATIONS)?;
-    Ok((Status::Done, text))
+    let Ok(mut bank) = Bank::new(alloc) else {
+        return Status::NoMemory;
+    };
+    let Ok(all) = obligations(alloc, typed, &mut bank, rules) else {
+        return Status::NoMemory;
+    };
+    // the file has no type error, and derives
+    let _ = typed.file();
+    typed_histories();
+    refines_by_list();
+    report_file(alloc, &mut bank, rules, all.as_slice(), budget, sink)
 }

@@ -1,7 +1,16 @@
-ghost use Rattle.std.specs.Prelude.{◌≡◌, ◌<◌, ◌^◌, ℕ, Option, Some, None, IfOk, MatchOption};
+ghost use Rattle.std.specs.Prelude.{◌≡◌, ◌<◌, ◌≤◌, ◌^◌, ℕ, Option, Some, None, IfOk, MatchOption};
 ghost use Rattle.std.specs.Fmt.{decimal};
 ghost use Rattle.std.specs.Option.{option_copied};
-ghost use Rattle.ygg_top.specs.Words.{is_alone as alone, file_after as file_named, with_budget_after as budget_named, IsBudget, IsNoBudget};
+ghost use Rattle.ygg_top.specs.Words.{
+  is_alone as alone,
+  file_after as file_named,
+  with_budget_after as budget_named,
+  IsNumber,
+  IsNoNumber,
+  IsBudget,
+  IsNoBudget,
+  most_operations,
+};
 
 use std::alloc::Global;
 use ygg_base::{NoMemory, Text};
@@ -11,6 +20,9 @@ pub const USUAL_BUDGET: u32 = 200_000;
 
 /// The greatest budget.
 const MOST_BUDGET: u32 = 10_000_000;
+
+/// The most operations of a file that `demo` makes.
+const MOST_OPERATIONS: u32 = 64;
 
 /// Whether the words are this one alone.
 pub fn is_alone(words: &[Text], word: &[u8]) -> bool
@@ -22,7 +34,7 @@ pub fn is_alone(words: &[Text], word: &[u8]) -> bool
     }
 }
 
-/// The file that stands alone after this word, where one does.
+/// The file, or other word, that stands alone after this word, where one does.
 pub fn file_after<'a>(words: &'a [Text], word: &[u8]) -> Option<&'a Text>
     ensures { option_copied result ≡ file_named word.now words.now }
 {
@@ -67,15 +79,14 @@ fn number_in(word: &[u8]) -> Option<u32>
     }
 }
 
-/// The budget that a word is: a number from 1 to 10,000,000 in decimal digits, without a sign or a leading zero. Its only error
-/// is out of memory.
-pub fn budget(alloc: Global, word: &[u8]) -> Result<Option<u32>, NoMemory>
-    ensures { IfOk result (λ found. MatchOption found (IsNoBudget word.now) (IsBudget word.now)) }
+/// The number that a word is: one from 1 to the greatest in decimal digits, without a sign or a leading zero. Its only error is out of memory.
+fn number_up_to(alloc: Global, word: &[u8], greatest: u32) -> Result<Option<u32>, NoMemory>
+    ensures { IfOk result (λ found. MatchOption found (IsNoNumber greatest word.now) (IsNumber greatest word.now)) }
 {
     let Some(number) = number_in(word) else {
         return Ok(None);
     };
-    if number < 1 || number > MOST_BUDGET {
+    if number < 1 || number > greatest {
         return Ok(None);
     }
     let written = format!(in alloc; "{number}")?;
@@ -84,4 +95,20 @@ pub fn budget(alloc: Global, word: &[u8]) -> Result<Option<u32>, NoMemory>
     } else {
         Ok(None)
     }
+}
+
+/// The budget that a word is: a number from 1 to 10,000,000 in decimal digits, without a sign or a leading zero. Its only error
+/// is out of memory.
+pub fn budget(alloc: Global, word: &[u8]) -> Result<Option<u32>, NoMemory>
+    ensures { IfOk result (λ found. MatchOption found (IsNoBudget word.now) (IsBudget word.now)) }
+{
+    number_up_to(alloc, word, MOST_BUDGET)
+}
+
+/// The number of operations that a word is: one from 1 to 64 in decimal digits, without a sign or a leading zero. Its only error
+/// is out of memory.
+pub fn operations(alloc: Global, word: &[u8]) -> Result<Option<u32>, NoMemory>
+    ensures { IfOk result (λ found. MatchOption found (IsNoNumber most_operations word.now) (IsNumber most_operations word.now)) }
+{
+    number_up_to(alloc, word, MOST_OPERATIONS)
 }

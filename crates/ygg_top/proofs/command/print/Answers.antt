@@ -1,5 +1,16 @@
-use Rattle.ygg_top.proofs.Found.{unread_prints}
+use Rattle.std.proofs.Common.{List, [], ℕ, subst}
+use Rattle.ygg_top.proofs.Found.{unread_prints, under_name, never_fails}
+use Rattle.ygg_top.specs.Ending.{Prints, IsAnswerFor}
 use Rattle.ygg_top.proofs.command.print.Goals as goal
 
 pub returns-in-Err-clause-told : goal.returns-in-Err-clause-told
-returns-in-Err-clause-told g c = unread_prints (g.L.Library.files c.args.library.now) c.args.name.now c.in-Err.answer c.in-Err.ensures.unread
+returns-in-Err-clause-told g c kinds =
+    unread_prints kinds (g.L.Library.files c.args.library.now) c.args.name.now c.in-Err.answer c.in-Err.ensures.unread
+
+pub returns-in-Ok-clause-told : goal.returns-in-Ok-clause-told
+returns-in-Ok-clause-told g c kinds =
+    under_name kinds Prints (g.L.Library.files c.args.library.now) c.args.name.now c.in-Ok.text c.print_text.result c.in-Ok.ensures.found.1
+    (subst (λ (bytes : List ℕ). IsAnswerFor kinds Prints bytes c.print_text.result) c.as_slice.ensures (c.print_text.ensures kinds))
+
+pub returns-in-Ok-clause-cause : goal.returns-in-Ok-clause-cause
+returns-in-Ok-clause-cause g c e = absurd (never_fails [] Prints c.as_slice.result.now c.print_text.result (c.print_text.ensures []) e)

@@ -1,4 +1,0 @@
-pub mod Bits
-pub mod Trees
-pub mod Obligations
-pub mod Laws

@@ -1,4 +1,0 @@
-pub mod Expecting
-pub mod Naming
-pub mod Parts
-pub mod Refusing

@@ -1,4 +1,0 @@
-pub mod Terms
-pub mod Widths
-pub mod Meaning
-pub mod Outcomes

@@ -1,0 +1,5 @@
+pub mod KnownSo
+pub mod Going
+pub mod Ticks
+pub mod Begun
+pub mod Walking

@@ -1,0 +1,11 @@
+use Rattle.std.proofs.Common.{drop}
+use Rattle.ygg_oblige.specs.Listing.{asked_in}
+use Rattle.ygg_oblige_parts.specs.Makers.{starting_of}
+use Rattle.ygg_oblige.proofs.Going.{Going}
+use Rattle.ygg_oblige.proofs.layers.add_all.Given as goal
+
+-- the obligations so far, and those that are left
+abbrev pub invariant-loop-each : goal.invariant-loop-each
+invariant-loop-each g l =
+    Going (g.B.Book.kinds l.maker.book.now) l.maker.layer l.maker.below (starting_of l.s) (asked_in l.asked) l.start l.fn.bank l.fn.all
+    (asked_in (drop l.each-index l.asked)) l.next l.bank l.all

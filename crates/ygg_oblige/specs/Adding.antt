@@ -1,0 +1,50 @@
+-- Obligations of a layer added in order, in code.
+use Rattle.std.specs.Prelude.{ℕ, List, map}
+use Rattle.ygg_meaning.specs.Obligations.{Obligation, name_of}
+use Rattle.ygg_rules.specs.declared.rule.RuleKind.{RuleKind}
+use Rattle.ygg_bank.specs.Makes.{Make}
+use Rattle.ygg_bank.specs.declared.node.Id.{Id}
+use Rattle.ygg_sym_spec.specs.Layers.{closed, terms_in}
+use Rattle.ygg_sym_spec.specs.declared.layer.SymLayer.{SymLayer}
+use Rattle.ygg_sym.specs.Sites.{below_in}
+use Rattle.ygg_sym.specs.declared.below.SymBelow.{SymBelow}
+use Rattle.ygg_oblige_kinds.specs.Making.{TickFits}
+use Rattle.ygg_oblige_laws.specs.ObligationMeans.{ObligationKnown}
+use Rattle.ygg_oblige_terms.specs.Numbers.{numbers_of}
+use Rattle.ygg_oblige_terms.specs.States.{Starting}
+use Rattle.ygg_oblige_terms.specs.Terms.{after_all, after_layer, layer_made, term_made, terms_made}
+
+-- the names of obligations of a layer, in order
+abbrev pub names_of : SymLayer → List Obligation → List (List ℕ)
+names_of l = map (name_of (l.layer.now).name.text)
+
+module _ (kinds : List RuleKind) (l : SymLayer) (g : SymBelow) where
+  -- what the obligation's operation or background step is known to do; a background step has no type error
+  pub record KnownAt (o : Obligation) : Type 0 where
+    pub means : ObligationKnown kinds l.defs.now (below_in g) (closed l) o
+    pub tick : TickFits l g o
+
+  -- the number after the inputs of an obligation
+  abbrev pub next_at : Obligation → ℕ → ℕ
+  next_at o start = (numbers_of (below_in g) (closed l) o start).next
+
+  -- the number after the inputs of obligations
+  abbrev pub after_at : List Obligation → ℕ → ℕ
+  after_at = after_all kinds (terms_in kinds l) (closed l) (below_in g)
+
+  -- the terms of the layer's obligations
+  abbrev pub layer_at : ℕ → Make (List Id)
+  layer_at = layer_made kinds (terms_in kinds l) (closed l) (below_in g)
+
+  -- the number after the layer's inputs
+  abbrev pub after_layer_at : ℕ → ℕ
+  after_layer_at = after_layer kinds (terms_in kinds l) (closed l) (below_in g)
+
+  module _ (S : Starting) where
+    -- the term of an obligation
+    abbrev pub term_at : Obligation → ℕ → Make Id
+    term_at o start = term_made kinds (terms_in kinds l) (closed l) (below_in g) S o (numbers_of (below_in g) (closed l) o start)
+
+    -- the terms of obligations in order
+    abbrev pub terms_at : List Obligation → ℕ → Make (List Id)
+    terms_at = terms_made kinds (terms_in kinds l) (closed l) (below_in g) S

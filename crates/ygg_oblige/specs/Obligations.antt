@@ -1,0 +1,12 @@
+-- Lists of obligations.
+use Rattle.std.specs.Prelude.{ℕ, List, map}
+use Rattle.ygg_bank.specs.declared.node.Id.{Id}
+use Rattle.ygg_oblige.specs.declared.obligation.Obligation.{Obligation}
+
+-- their terms, in order
+abbrev pub terms_in : List Obligation → List Id
+terms_in = map (λ (o : Obligation). o.term)
+
+-- their names, in order
+abbrev pub names_in : List Obligation → List (List ℕ)
+names_in = map (λ (o : Obligation). o.name)

@@ -1,0 +1,152 @@
+//! The obligations of a layer, with their terms.
+
+ghost use Rattle.std.specs.Prelude.{◌≡◌, ◌+◌, ◌∷◌, ◌++◌, [], All, IfOk, OnOk};
+ghost use Rattle.ygg_bank.specs.Inputs.{InputsBelow};
+ghost use Rattle.ygg_bank.specs.Nodes.{Extends, IsBank};
+ghost use Rattle.ygg_meaning.specs.Obligations.{name_of, obligations_of};
+ghost use Rattle.ygg_sym_spec.specs.Layers.{closed};
+ghost use Rattle.ygg_oblige_terms.specs.States.{state_words};
+ghost use Rattle.ygg_oblige_parts.specs.Makers.{StartingShaped, starting_of};
+ghost use Rattle.ygg_oblige_parts.specs.Steps.{obligation_of};
+ghost use Rattle.ygg_oblige.specs.Adding.{KnownAt, after_at, after_layer_at, layer_at, names_of, next_at, term_at, terms_at};
+ghost use Rattle.ygg_oblige.specs.Listing.{asked_in, kind_in};
+ghost use Rattle.ygg_oblige_kinds.specs.Making.{SiteFits};
+ghost use Rattle.ygg_oblige.specs.Obligations.{names_in, terms_in};
+
+use crate::listing::{Asked, asked_of};
+use crate::names::name_of;
+use crate::obligation::{Kind, Obligation, Obligations};
+use ygg_bank::{Bank, NoMemory};
+use ygg_oblige_kinds::{numbers_of, term};
+use ygg_oblige_parts::{Maker, SymObligation, SymStarting, words_in};
+use ygg_rules::Book;
+
+/// What an obligation asks.
+fn kind_of(obligation: SymObligation<'_>) -> Kind
+    ensures { result ≡ kind_in (obligation_of obligation.entry) }
+{
+    match obligation {
+        SymObligation::Init => Kind::Init,
+        SymObligation::Call(_) => Kind::Call,
+        SymObligation::Cut(_) => Kind::Cut,
+        SymObligation::Tick(_) => Kind::Tick,
+        SymObligation::CutTick(_) => Kind::CutTick,
+        SymObligation::Idle => Kind::Idle,
+        SymObligation::Again => Kind::Again,
+    }
+}
+
+/// Adds an obligation of a layer of this place whose inputs are numbered on from a number, and answers the number after them.
+fn add<'a, B: Book>(
+    maker: &Maker<'a, B>,
+    bank: &mut Bank,
+    asked: Asked<'a>,
+    s: &SymStarting,
+    place: u32,
+    start: u64,
+    all: &mut Obligations,
+) -> Result<u64, NoMemory>
+    requires bank { IsBank bank.old }
+    requires site { SiteFits maker.now.layer maker.now.below }
+    requires known { KnownAt (B.kinds maker.now.book.now) maker.now.layer maker.now.below (obligation_of asked.obligation) }
+    requires starting { StartingShaped (closed maker.now.layer) bank.old (starting_of s.now) }
+    requires free { InputsBelow start bank.old }
+    ensures nodes { OnOk result (bank.new ≡ (term_at (B.kinds maker.now.book.now) maker.now.layer maker.now.below (starting_of s.now)
+        (obligation_of asked.entry.obligation) start bank.old).nodes) }
+    ensures terms { OnOk result (terms_in all.new ≡ terms_in all.old ++ (term_at (B.kinds maker.now.book.now) maker.now.layer maker.now.below
+        (starting_of s.now) (obligation_of asked.entry.obligation) start bank.old).value ∷ []) }
+    ensures names { OnOk result (names_in all.new
+        ≡ names_in all.old ++ name_of (maker.now.layer.layer.now).name.text (obligation_of asked.entry.obligation) ∷ []) }
+    ensures next { IfOk result (λ n. n ≡ next_at (B.kinds maker.now.book.now) maker.now.layer maker.now.below (obligation_of asked.entry.obligation) start) }
+    ensures grows { Extends bank.old bank.new }
+    ensures bank { IsBank bank.new }
+{
+    let obligation = asked.obligation;
+    let n = numbers_of(maker, obligation, start)?;
+    let name = name_of(maker.alloc, maker.layer.layer, obligation)?;
+    let term = term(maker, bank, obligation, n, s, start)?;
+    all.push(Obligation {
+        name,
+        layer: place,
+        kind: kind_of(obligation),
+        number: asked.number,
+        term,
+    })?;
+    Ok(n.next)
+}
+
+/// Adds obligations in order, and answers the number after their inputs.
+fn add_all<'a, B: Book>(
+    maker: &Maker<'a, B>,
+    bank: &mut Bank,
+    asked: &[Asked<'a>],
+    s: &SymStarting,
+    place: u32,
+    start: u64,
+    all: &mut Obligations,
+) -> Result<u64, NoMemory>
+    requires bank { IsBank bank.old }
+    requires site { SiteFits maker.now.layer maker.now.below }
+    requires known { All (KnownAt (B.kinds maker.now.book.now) maker.now.layer maker.now.below) (asked_in asked.now) }
+    requires starting { StartingShaped (closed maker.now.layer) bank.old (starting_of s.now) }
+    requires free { InputsBelow start bank.old }
+    ensures nodes { OnOk result (bank.new ≡ (terms_at (B.kinds maker.now.book.now) maker.now.layer maker.now.below (starting_of s.now)
+        (asked_in asked.now) start bank.old).nodes) }
+    ensures terms { OnOk result (terms_in all.new ≡ terms_in all.old ++ (terms_at (B.kinds maker.now.book.now) maker.now.layer maker.now.below
+        (starting_of s.now) (asked_in asked.now) start bank.old).value) }
+    ensures names { OnOk result (names_in all.new ≡ names_in all.old ++ names_of maker.now.layer (asked_in asked.now)) }
+    ensures next { IfOk result (λ n. n ≡ after_at (B.kinds maker.now.book.now) maker.now.layer maker.now.below (asked_in asked.now) start) }
+    ensures bank { IsBank bank.new }
+{
+    let mut next = start;
+    for each in asked {
+        next = add(maker, bank, *each, s, place, next, all)?;
+    }
+    Ok(next)
+}
+
+/// The number after that of the last input of the states that a layer's obligations begin with.
+fn after_states<'a, B>(maker: &Maker<'a, B>, number: u64) -> Result<u64, NoMemory>
+    requires { SiteFits maker.now.layer maker.now.below }
+    ensures { IfOk result (λ n. n ≡ number + state_words (closed maker.now.layer)) }
+{
+    let layer = maker.layer;
+    let state = words_in(layer.layer.state.as_slice())?;
+    let memory = words_in(layer.layer.memory.as_slice())?;
+    let low = words_in(layer.low)?;
+    let Some(own) = state.checked_add(memory) else {
+        return Err(NoMemory);
+    };
+    let Some(words) = own.checked_add(low) else {
+        return Err(NoMemory);
+    };
+    match number.checked_add(words) {
+        Some(n) => Ok(n),
+        None => Err(NoMemory),
+    }
+}
+
+/// Adds the obligations of a layer of this place, their inputs numbered on from a number that is above those of all inputs, and answers the number
+/// after their inputs. Its only error is out of memory, after which the bank may have more nodes.
+pub fn add_layer<'a, B: Book>(
+    maker: &Maker<'a, B>,
+    bank: &mut Bank,
+    place: u32,
+    number: u64,
+    all: &mut Obligations,
+) -> Result<u64, NoMemory>
+    requires bank { IsBank bank.old }
+    requires site { SiteFits maker.now.layer maker.now.below }
+    requires free { InputsBelow number bank.old }
+    ensures nodes { OnOk result (bank.new ≡ (layer_at (B.kinds maker.now.book.now) maker.now.layer maker.now.below number bank.old).nodes) }
+    ensures terms { OnOk result (terms_in all.new ≡ terms_in all.old ++ (layer_at (B.kinds maker.now.book.now) maker.now.layer maker.now.below number
+        bank.old).value) }
+    ensures names { OnOk result (names_in all.new ≡ names_in all.old ++ names_of maker.now.layer (obligations_of maker.now.layer.layer.now)) }
+    ensures next { IfOk result (λ n. n ≡ after_layer_at (B.kinds maker.now.book.now) maker.now.layer maker.now.below number) }
+    ensures bank { IsBank bank.new }
+{
+    let start = after_states(maker, number)?;
+    let s = maker.starting(bank, number)?;
+    let asked = asked_of(maker.alloc, maker.layer.layer)?;
+    add_all(maker, bank, asked.as_slice(), &s, place, start, all)
+}

@@ -1,0 +1,42 @@
+//! The obligations of a layer file as terms.
+#![tactic(auto)]
+
+ghost use Rattle.std.specs.Prelude.{◌≡◌, [], map, IfOk, OnOk};
+ghost use Rattle.ygg_bank.specs.Nodes.{IsBank};
+ghost use Rattle.ygg_histories.specs.Claims.{claims_of};
+ghost use Rattle.ygg_oblige_terms.specs.Terms.{file_made};
+ghost use Rattle.ygg_oblige_terms.specs.Meaning.{AreTermsIn, claim_name};
+ghost use Rattle.ygg_oblige.specs.Obligations.{names_in, terms_in};
+
+mod file;
+mod layers;
+mod listing;
+mod names;
+mod obligation;
+
+pub use obligation::{Kind, Obligation, Obligations};
+use std::alloc::Global;
+use ygg_bank::{Bank, NoMemory};
+use ygg_rules::Book;
+use ygg_type::Typed;
+
+/// The obligations of a file in order, and their terms, made in a bank without nodes. Its only error is out of memory, after which the bank may
+/// have more nodes.
+pub fn obligations<B: Book>(
+    alloc: Global,
+    typed: &Typed,
+    bank: &mut Bank,
+    book: &B,
+) -> Result<Obligations, NoMemory>
+    requires empty { bank.old ≡ [] }
+    ensures nodes { OnOk result (bank.new ≡ (file_made (B.kinds book.now) typed.now.file []).nodes) }
+    ensures terms { IfOk result (λ all. terms_in all ≡ (file_made (B.kinds book.now) typed.now.file []).value) }
+    ensures names { IfOk result (λ all. names_in all ≡ map claim_name (claims_of typed.now.file)) }
+    ensures mean { IfOk result (λ all. AreTermsIn typed.now.file bank.new (terms_in all)) }
+    ensures bank { IsBank bank.new }
+{
+    // the bank's nodes stand in order
+    let _ = bank.len();
+    let file = typed.file();
+    file::obligations_of_file(alloc, file, bank, book)
+}

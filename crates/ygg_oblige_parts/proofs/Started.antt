@@ -1,0 +1,51 @@
+-- The states that obligations begin with, step by step.
+use Rattle.std.proofs.Common.{◌≡◌, ℕ, List, ap, ◌∙◌}
+use Rattle.ygg_syntax.specs.declared.tree.Def.{Def}
+use Rattle.ygg_meaning.specs.Layer.{ClosedLayer}
+use Rattle.ygg_meaning.specs.Refines.{Below}
+use Rattle.ygg_rules.specs.declared.rule.RuleKind.{RuleKind}
+use Rattle.ygg_bank.specs.Inputs.{InputsBelow}
+use Rattle.ygg_bank.specs.Makes.{Make, Out, pure, and_make, goes_on}
+use Rattle.ygg_bank.specs.Nodes.{IsBank}
+use Rattle.ygg_bank.specs.Values.{value_of}
+use Rattle.ygg_bank.specs.declared.node.Id.{Id}
+use Rattle.ygg_bank.specs.declared.node.Node.{Node}
+use Rattle.ygg_shape.proofs.Answered.{no_inputs, some_fit}
+use Rattle.ygg_shape_cells.specs.declared.terms.SymValue.{SymValue}
+use Rattle.ygg_shape_hypothesis.specs.declared.replacing.Replacement.{Replacement}
+use Rattle.ygg_sym_expr.specs.Exprs.{SymFunctions}
+use Rattle.ygg_sym_laws.specs.Means.{terms_of}
+use Rattle.ygg_oblige_terms.specs.Layers.{LayerTyped}
+use Rattle.ygg_oblige_terms.specs.States.{Trio, Starting, fresh_trio, replaced_all, replaced_trio, starting}
+use Rattle.ygg_oblige_pieces.proofs.Starting.{states_mean}
+use Rattle.ygg_oblige_parts.specs.Makers.{StartingShaped, started_made}
+
+-- what is made of steps, where each went as it is defined to
+pub started_from : (R : Out Id) (f : Id → Make (List Replacement)) (s : Make Id) (x : Trio) (related settled : Id) (known settling : List Replacement)
+    (one two three : List Node) (from : Trio) (low : List SymValue) → related ≡ R.value → one ≡ R.nodes → known ≡ (f related one).value →
+    two ≡ (f related one).nodes → settled ≡ (s two).value → three ≡ (s two).nodes → settling ≡ (f settled three).value → from ≡ replaced_trio known x →
+    low ≡ replaced_all settling x.low →
+    (let S : Starting = record { related = related; from = from; settled = settled; settled_low = low } in S)
+    ≡ (goes_on R (λ related. and_make (f related) (λ facts. and_make s (λ settled. and_make (f settled) (λ settling.
+    pure (let S : Starting = record {
+      related = related;
+      from = replaced_trio facts x;
+      settled = settled;
+      settled_low = replaced_all settling x.low;
+    } in S)))))).value
+started_from R f s x related settled known settling one two three from low a b c d e g h i j = cc
+
+module _ (kinds : List RuleKind) (terms : SymFunctions) (L : ClosedLayer) where
+  pub starting_from : (number : ℕ) (old : List Node) (x : Trio) (mid : List Node) → x ≡ (fresh_trio kinds terms L number old).value →
+      mid ≡ (fresh_trio kinds terms L number old).nodes → started_made kinds terms L x mid ≡ starting kinds terms L number old
+  starting_from number old x mid p q =
+      ap (λ z. started_made kinds terms L z mid) p ∙ ap (started_made kinds terms L (fresh_trio kinds terms L number old).value) q
+
+module _ (kinds : List RuleKind) (defs : List Def) (G : Below) (L : ClosedLayer) (typed : LayerTyped defs G L) where
+  pub starting_stands : (number : ℕ) (old : List Node) → InputsBelow number old → IsBank (starting kinds (terms_of kinds defs) L number old).nodes →
+      StartingShaped L (starting kinds (terms_of kinds defs) L number old).nodes (starting kinds (terms_of kinds defs) L number old).value
+  starting_stands number old below bank =
+      let o = starting kinds (terms_of kinds defs) L number old in
+      let m = states_mean kinds defs G L typed in
+      let s = m.starts no_inputs (value_of no_inputs o.nodes) number old below (some_fit o.nodes bank) in
+      record { related = s.related.wide; from = s.from_shaped; settled = s.settled.wide; low = s.low_shaped }

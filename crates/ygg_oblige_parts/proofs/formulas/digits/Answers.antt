@@ -1,0 +1,33 @@
+use Rattle.std.proofs.Common.{◌+◌, List, All, drop, sym, subst}
+use Rattle.ygg_bank.proofs.Widths.{extends_both}
+use Rattle.ygg_bank.specs.declared.node.Id.{Id}
+use Rattle.ygg_sym_expr.specs.Seen.{known_of}
+use Rattle.ygg_sym.proofs.Left.{Left}
+use Rattle.ygg_oblige_parts.specs.Digits.{IsDigit}
+use Rattle.ygg_oblige_parts.specs.Formulas.{digits_made}
+use Rattle.ygg_oblige_parts.proofs.Tested.{digits_go, digits_more, test_next, tests_next}
+use Rattle.ygg_oblige_parts.proofs.formulas.digits.Goals as goal
+
+pub digit-requires : goal.digit-requires
+digit-requires g c =
+    test_next (known_of c.args.evaluator.now) c.loop-e.bank c.args.es.now c.loop-e.e-index c.e-item.result _ c.loop-e-test.true c.e-item.is
+    c.loop-e.invariant.tests
+
+pub loop-e-preserved : goal.loop-e-preserved
+loop-e-preserved g c =
+    let kinds = g.B.Book.kinds c.args.book.now in
+    let k = known_of c.args.evaluator.now in
+    let es = c.args.es.now in
+    let old = c.args.bank.now in
+    let i = c.loop-e.e-index in
+    let new = c.digit.new.bank in
+    record {
+      went = subst (λ (z : List Id). Left (digits_made kinds k es old) (digits_made kinds k (drop (i + 1) es) new) z) (sym c.in_ok-push.ensures.items)
+          (digits_go kinds k es old c.loop-e.bank i c.loop-e.ids.items c.e-item.result _ c.in_ok-id.id new c.loop-e-test.true c.e-item.is
+          c.in_ok-id.ensures.nodes c.in_ok-id.ensures.form c.loop-e.invariant.went);
+      tests = tests_next k c.loop-e.bank new es i c.e-item.result _ c.loop-e-test.true c.e-item.is c.digit.ensures.grows c.loop-e.invariant.tests;
+      digits = subst (λ (z : List Id). All (IsDigit new) z) (sym c.in_ok-push.ensures.items)
+          (digits_more c.loop-e.bank new c.loop-e.ids.items c.in_ok-id.id c.digit.ensures.grows c.loop-e.invariant.digits c.in_ok-id.ensures.width);
+      grows = extends_both old c.loop-e.bank new c.loop-e.invariant.grows c.digit.ensures.grows;
+      bank = c.digit.ensures.bank;
+    }

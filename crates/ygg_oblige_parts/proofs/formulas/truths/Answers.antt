@@ -1,0 +1,18 @@
+use Rattle.std.proofs.Common.{◌≡◌, ◌∙◌, OnOk, IfOk, subst}
+use Rattle.ygg_bank.specs.Makes.{Out}
+use Rattle.ygg_bank.specs.declared.node.Id.{Id}
+use Rattle.ygg_sym_expr.specs.Seen.{known_of}
+use Rattle.ygg_oblige_parts.proofs.Tested.{truths_from}
+use Rattle.ygg_oblige_parts.proofs.formulas.truths.Goals as goal
+
+pub returns-clause-nodes : goal.returns-clause-nodes
+returns-clause-nodes g c =
+    subst (λ (o : Out Id). OnOk c.all.result (c.all.new.bank ≡ o.nodes))
+    (truths_from (g.B.Book.kinds c.args.book.now) (known_of c.args.evaluator.now) c.args.es.now c.args.bank.now c.as_slice.result.now c.digits.new.bank
+    (c.as_slice.ensures.value ∙ c.in_ok-ids.ensures.form) c.in_ok-ids.ensures.nodes) c.all.ensures.nodes
+
+pub returns-clause-id : goal.returns-clause-id
+returns-clause-id g c =
+    subst (λ (o : Out Id). IfOk c.all.result (λ (id : Id). id ≡ o.value))
+    (truths_from (g.B.Book.kinds c.args.book.now) (known_of c.args.evaluator.now) c.args.es.now c.args.bank.now c.as_slice.result.now c.digits.new.bank
+    (c.as_slice.ensures.value ∙ c.in_ok-ids.ensures.form) c.in_ok-ids.ensures.nodes) c.all.ensures.id

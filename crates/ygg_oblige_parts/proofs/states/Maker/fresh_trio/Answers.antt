@@ -1,0 +1,20 @@
+use Rattle.std.proofs.Common.{List, subst}
+use Rattle.ygg_syntax.specs.declared.tree.Declared.{Declared}
+use Rattle.ygg_bank.proofs.Widths.{extends_both}
+use Rattle.ygg_sym_below.specs.Lows.{LowShaped}
+use Rattle.ygg_sym_below.proofs.Lows.{low_wider}
+use Rattle.ygg_oblige_parts.proofs.states.Maker.fresh_trio.Goals as goal
+
+pub returns-clause-shape : goal.returns-clause-shape
+returns-clause-shape g c =
+    let l = c.args.self.now.layer.layer.now in
+    let one = c.fresh.new.bank in
+    let two = c.fresh-2.new.bank in
+    let three = c.fresh-3.new.bank in
+    let vars = subst (λ (ds : List Declared). LowShaped one ds c.in_ok-vars.vars) c.as_slice-state.ensures c.in_ok-vars.ensures.shape in
+    let memory = subst (λ (ds : List Declared). LowShaped two ds c.in_ok-memory.memory) c.as_slice-memory.ensures c.in_ok-memory.ensures.shape in
+    record {
+      vars = low_wider one three l.state c.in_ok-vars.vars (extends_both one two three c.fresh-2.ensures.grows c.fresh-3.ensures.grows) vars;
+      memory = low_wider two three l.memory c.in_ok-memory.memory c.fresh-3.ensures.grows memory;
+      low = c.in_ok-low.ensures.shape;
+    }

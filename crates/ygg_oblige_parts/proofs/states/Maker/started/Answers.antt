@@ -1,0 +1,25 @@
+use Rattle.ygg_bank.proofs.Widths.{extends_both}
+use Rattle.ygg_shape_hypothesis.specs.Finding.{facts_in}
+use Rattle.ygg_sym_below.proofs.Lows.{low_wider}
+use Rattle.ygg_sym_spec.specs.Layers.{closed, terms_in}
+use Rattle.ygg_oblige_terms.specs.States.{related_made, settled_made}
+use Rattle.ygg_oblige_parts.specs.Makers.{trio_of}
+use Rattle.ygg_oblige_parts.proofs.Started.{started_from}
+use Rattle.ygg_oblige_parts.proofs.states.Maker.started.Goals as goal
+
+pub settled-requires-clause-shaped : goal.settled-requires-clause-shaped
+settled-requires-clause-shaped g c =
+    low_wider c.args.bank.now c.facts.new.bank c.args.self.now.layer.low.now c.args.x.low
+    (extends_both c.args.bank.now c.related.new.bank c.facts.new.bank c.related.ensures.grows c.facts.ensures.grows) c.requires.shaped.low
+
+pub returns-clause-form : goal.returns-clause-form
+returns-clause-form g c =
+    let kinds = g.B.Book.kinds c.args.self.now.book.now in
+    let l = c.args.self.now.layer in
+    let x = trio_of c.args.x in
+    started_from (related_made kinds (terms_in kinds l) (closed l) x c.args.bank.now) (facts_in kinds)
+    (settled_made kinds (terms_in kinds l) (closed l) x.low) x
+    c.in_ok-related.related c.in_ok-settled.settled c.in_ok-known.known c.in_ok-settling.settling c.related.new.bank c.facts.new.bank c.settled.new.bank
+    (trio_of c.in_ok-from.from) c.in_ok-settled_low.settled_low c.in_ok-related.ensures.id c.in_ok-related.ensures.nodes c.in_ok-known.ensures.form
+    c.in_ok-known.ensures.nodes c.in_ok-settled.ensures.id c.in_ok-settled.ensures.nodes c.in_ok-settling.ensures.form c.in_ok-from.ensures
+    c.in_ok-settled_low.ensures

@@ -1,0 +1,48 @@
+-- A layer whose obligations' terms are made, and the states that they begin with.
+use Rattle.std.specs.Prelude.{List}
+use Rattle.ygg_meaning.specs.Layer.{ClosedLayer}
+use Rattle.ygg_rules.specs.declared.rule.RuleKind.{RuleKind}
+use Rattle.ygg_bank.specs.Makes.{Make, pure, and_make}
+use Rattle.ygg_bank.specs.Nodes.{HasWidth}
+use Rattle.ygg_bank.specs.declared.node.Node.{Node}
+use Rattle.ygg_shape_hypothesis.specs.Finding.{facts_in}
+use Rattle.ygg_sym_expr.specs.Exprs.{SymFunctions}
+use Rattle.ygg_sym_below.specs.Lows.{LowShaped}
+use Rattle.ygg_sym_spec.specs.Layers.{closed}
+use Rattle.ygg_sym_spec.specs.declared.layer.SymLayer.{SymLayer}
+use Rattle.ygg_sym.specs.Sites.{below_in}
+use Rattle.ygg_sym.specs.declared.below.SymBelow.{SymBelow}
+use Rattle.ygg_oblige_terms.specs.Layers.{LayerTyped}
+use Rattle.ygg_oblige_terms.specs.States.{Trio, Starting, related_made, settled_made, replaced_trio, replaced_all}
+use Rattle.ygg_oblige_pieces.specs.Worth.{TrioShaped}
+use Rattle.ygg_oblige_parts.specs.declared.states.SymTrio.{SymTrio}
+use Rattle.ygg_oblige_parts.specs.declared.states.SymStarting.{SymStarting}
+
+-- the layer has no type error on what it is specified over
+abbrev pub LayerFits : SymLayer → SymBelow → Type 0
+LayerFits l g = LayerTyped l.defs.now (below_in g) (closed l)
+
+-- the states that these are
+abbrev pub trio_of : SymTrio → Trio
+trio_of x = record { vars = x.vars; memory = x.memory; low = x.low }
+
+-- the beginning that this is
+abbrev pub starting_of : SymStarting → Starting
+starting_of s = record { related = s.related; from = trio_of s.from; settled = s.settled; settled_low = s.settled_low }
+
+-- the states that obligations begin with have the declared shapes among the nodes
+pub record StartingShaped (L : ClosedLayer) (nodes : List Node) (S : Starting) : Type 0 where
+  pub related : HasWidth nodes S.related 1
+  pub from : TrioShaped L nodes S.from
+  pub settled : HasWidth nodes S.settled 1
+  pub low : LowShaped nodes L.low S.settled_low
+
+module _ (kinds : List RuleKind) (terms : SymFunctions) (L : ClosedLayer) where
+  -- the states that obligations begin with, from their inputs
+  abbrev pub started_made : Trio → Make Starting
+  started_made x =
+      and_make (related_made kinds terms L x) (λ related.
+      and_make (facts_in kinds related) (λ facts.
+      and_make (settled_made kinds terms L x.low) (λ settled.
+      and_make (facts_in kinds settled) (λ settling.
+      pure (record { related = related; from = replaced_trio facts x; settled = settled; settled_low = replaced_all settling x.low })))))

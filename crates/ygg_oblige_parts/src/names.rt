@@ -1,0 +1,122 @@
+//! Names with values of terms, and how many words they have.
+
+ghost use Rattle.std.specs.Prelude.{◌≡◌, ◌++◌, ◌+◌, ◌<◌, ◌^◌, IfOk, OnOk};
+ghost use Rattle.ygg_bank.specs.Inputs.{InputsBelow};
+ghost use Rattle.ygg_bank.specs.Nodes.{Extends, IsBank};
+ghost use Rattle.ygg_shape.specs.Fresh.{words_of};
+ghost use Rattle.ygg_value.specs.Shapes.{IsShape};
+ghost use Rattle.ygg_meaning.specs.Shapes.{shape_in};
+ghost use Rattle.ygg_sym_below.specs.Lows.{LowShaped};
+ghost use Rattle.ygg_sym_expr.specs.Names.{sym_bind};
+ghost use Rattle.ygg_sym_expr.specs.Seen.{env_of};
+ghost use Rattle.ygg_oblige_terms.specs.Layers.{ShapesKept};
+ghost use Rattle.ygg_oblige_terms.specs.States.{fresh_all, words_in};
+
+use std::alloc::Global;
+use ygg_bank::{Bank, NoMemory};
+use ygg_list::Duplicate;
+use ygg_rules::Book;
+use ygg_shape::inputs_of;
+use ygg_shape_cells::{SymValue, SymValues};
+use ygg_sym::shape_of;
+use ygg_sym_expr::SymBinding;
+use ygg_syntax::tree::{Declared, TypeText};
+
+/// Adds the declared names with these values, in order. Its only error is out of memory.
+pub fn add_names<'a>(
+    alloc: Global,
+    names: &mut Vec<SymBinding<'a>>,
+    declared: &'a [Declared],
+    values: &[SymValue],
+) -> Result<(), NoMemory>
+    ensures { OnOk result (env_of names.new.items ≡ env_of names.old.items ++ sym_bind declared.now values.now) }
+{
+    for (i, variable) in declared.iter().enumerate() {
+        if i >= values.len() {
+            return Ok(());
+        }
+        names.push(SymBinding {
+            name: variable.name.text.as_slice(),
+            value: values[i].duplicate(alloc)?,
+        })?;
+    }
+    Ok(())
+}
+
+/// How many words a value has whose type this is.
+pub fn words_of(text: TypeText) -> u64
+    requires { IsShape (shape_in text) }
+    ensures { result ≡ words_of (shape_in text) }
+{
+    match text {
+        TypeText::Word(_) => 1,
+        TypeText::Row(words, _) => words.value,
+        TypeText::Table(rows, words, _) => rows.value * words.value,
+    }
+}
+
+/// How many words the values of declared names have. Its only error is out of memory: no machine has memory for 2^64 of them.
+pub fn words_in(declared: &[Declared]) -> Result<u64, NoMemory>
+    requires { ShapesKept declared.now }
+    ensures { IfOk result (λ n. n ≡ words_in declared.now) }
+{
+    let mut count: u64 = 0;
+    for variable in declared {
+        match count.checked_add(words_of(variable.shape)) {
+            Some(more) => count = more,
+            None => return Err(NoMemory),
+        }
+    }
+    Ok(count)
+}
+
+/// Inputs for declared names, numbered on from a number that is above those of all inputs. Its only error is out of memory, after which the bank
+/// may have more nodes.
+pub fn fresh<B: Book>(
+    alloc: Global,
+    bank: &mut Bank,
+    book: &B,
+    number: u64,
+    declared: &[Declared],
+) -> Result<SymValues, NoMemory>
+    requires kept { ShapesKept declared.now }
+    requires below { InputsBelow number bank.old }
+    requires room { number + words_in declared.now < 2 ^ 64 }
+    ensures nodes { OnOk result (bank.new ≡ (fresh_all (B.kinds book.now) number declared.now bank.old).nodes) }
+    ensures form { IfOk result (λ xs. xs ≡ (fresh_all (B.kinds book.now) number declared.now bank.old).value) }
+    ensures shape { IfOk result (LowShaped bank.new declared.now) }
+    ensures inputs { OnOk result (InputsBelow (number + words_in declared.now) bank.new) }
+    ensures grows { Extends bank.old bank.new }
+    ensures bank { IsBank bank.new }
+{
+    // the bank's nodes stand in order
+    let _ = bank.len();
+    fresh_by(alloc, bank, book, number, declared)
+}
+
+/// What `fresh` does.
+fn fresh_by<B: Book>(
+    alloc: Global,
+    bank: &mut Bank,
+    book: &B,
+    number: u64,
+    declared: &[Declared],
+) -> Result<SymValues, NoMemory>
+    requires bank { IsBank bank.old }
+    requires kept { ShapesKept declared.now }
+    requires below { InputsBelow number bank.old }
+    requires room { number + words_in declared.now < 2 ^ 64 }
+    ensures nodes { OnOk result (bank.new ≡ (fresh_all (B.kinds book.now) number declared.now bank.old).nodes) }
+    ensures form { IfOk result (λ xs. xs ≡ (fresh_all (B.kinds book.now) number declared.now bank.old).value) }
+    ensures grows { Extends bank.old bank.new }
+    ensures bank { IsBank bank.new }
+{
+    let mut values = SymValues::new(alloc);
+    let mut next = number;
+    for variable in declared {
+        let value = inputs_of(alloc, bank, book, next, shape_of(variable.shape))?;
+        next += words_of(variable.shape);
+        values.push(value)?;
+    }
+    Ok(values)
+}

@@ -1,0 +1,257 @@
+//! The states that a layer's obligations speak of, over terms.
+
+ghost use Rattle.std.specs.Prelude.{◌≡◌, ◌+◌, ◌<◌, ◌^◌, IfOk, OnOk, All};
+ghost use Rattle.ygg_bank.specs.Inputs.{InputsBelow};
+ghost use Rattle.ygg_bank.specs.Nodes.{Extends, HasWidth, IsBank};
+ghost use Rattle.ygg_meaning.specs.Related.{relations};
+ghost use Rattle.ygg_sym_below.specs.Lows.{LowShaped};
+ghost use Rattle.ygg_sym_expr.specs.Seen.{env_of};
+ghost use Rattle.ygg_sym_runs.specs.Lower.{KeepsSingle};
+ghost use Rattle.ygg_sym_spec.specs.Layers.{closed, terms_in};
+ghost use Rattle.ygg_oblige_terms.specs.States.{
+  fresh_trio,
+  related_made,
+  replaced_all,
+  replaced_trio,
+  settled_made,
+  starting,
+  state_words,
+};
+ghost use Rattle.ygg_oblige_pieces.specs.Worth.{TrioShaped};
+ghost use Rattle.ygg_oblige_parts.specs.Formulas.{CanTest, seen, truths_in};
+ghost use Rattle.ygg_oblige_parts.specs.Makers.{LayerFits, StartingShaped, started_made, starting_of, trio_of};
+
+use crate::digits::join;
+use crate::formulas::{digit, truths};
+use crate::names::{add_names, fresh, words_in};
+use std::alloc::Global;
+use ygg_bank::{Bank, Id, NoMemory};
+use ygg_rules::Book;
+use ygg_shape_cells::SymValues;
+use ygg_shape_hypothesis::{Replacements, facts, replace};
+use ygg_sym::SymBelow;
+use ygg_sym_expr::{SymBinding, SymEvaluator};
+use ygg_sym_spec::SymLayer;
+use ygg_value::Op;
+
+/// Variables of a specification, a memory, and a state below.
+#[derive(Drop)]
+pub struct SymTrio {
+    /// The specification's variables.
+    pub vars: SymValues,
+    /// The memory.
+    pub memory: SymValues,
+    /// The state below.
+    pub low: SymValues,
+}
+
+/// The states that a layer's obligations begin with.
+#[derive(Drop)]
+pub struct SymStarting {
+    /// Whether the layer's relation holds of the inputs.
+    pub related: Id,
+    /// The states, with what the relation says of their inputs put in their stead.
+    pub from: SymTrio,
+    /// Whether the state below is settled.
+    pub settled: Id,
+    /// That state, with what is said of its inputs put in their stead.
+    pub settled_low: SymValues,
+}
+
+/// What stays the same while the terms of a layer's obligations are made: the rules of terms, the layer, and what it is specified over.
+#[derive(Drop)]
+pub struct Maker<'a, B> {
+    /// Where memory comes from.
+    pub alloc: Global,
+    /// The rules of terms.
+    pub book: &'a B,
+    /// The layer.
+    pub layer: SymLayer<'a>,
+    /// What it is specified over.
+    pub below: SymBelow<'a>,
+}
+
+/// Values with terms in the stead of their inputs, so often that what is said of one input by another is followed a few times.
+fn replaced_all(
+    alloc: Global,
+    replacements: &Replacements,
+    values: &SymValues,
+) -> Result<SymValues, NoMemory>
+    ensures { IfOk result (λ xs. xs ≡ replaced_all replacements.now values.now) }
+{
+    let mut replaced = SymValues::new(alloc);
+    let all = values.as_slice();
+    for value in all {
+        let once = replace(alloc, replacements, value)?;
+        let twice = replace(alloc, replacements, &once)?;
+        let thrice = replace(alloc, replacements, &twice)?;
+        replaced.push(thrice)?;
+    }
+    Ok(replaced)
+}
+
+/// The states with terms in the stead of their inputs.
+fn replaced_trio(
+    alloc: Global,
+    replacements: &Replacements,
+    x: &SymTrio,
+) -> Result<SymTrio, NoMemory>
+    ensures { IfOk result (λ y. trio_of y ≡ replaced_trio replacements.now (trio_of x.now)) }
+{
+    Ok(SymTrio {
+        vars: replaced_all(alloc, replacements, &x.vars)?,
+        memory: replaced_all(alloc, replacements, &x.memory)?,
+        low: replaced_all(alloc, replacements, &x.low)?,
+    })
+}
+
+impl<'a, B: Book> Maker<'a, B> {
+    /// Whether the layer's relation holds of these names.
+    fn relations(
+        &self,
+        bank: &mut Bank,
+        own: &[SymBinding<'a>],
+        low: &[SymBinding<'a>],
+    ) -> Result<Id, NoMemory>
+        requires bank { IsBank bank.old }
+        requires tests { All (CanTest (seen self.now.layer.defs.now (env_of own.now) (env_of low.now)) bank.old) (relations (closed self.now.layer)) }
+        ensures nodes { OnOk result (bank.new ≡ (truths_in (B.kinds self.now.book.now) (seen self.now.layer.defs.now (env_of own.now) (env_of low.now))
+            (relations (closed self.now.layer)) bank.old).nodes) }
+        ensures id { IfOk result (λ id. id ≡ (truths_in (B.kinds self.now.book.now) (seen self.now.layer.defs.now (env_of own.now) (env_of low.now))
+            (relations (closed self.now.layer)) bank.old).value) }
+        ensures width { IfOk result (λ id. HasWidth bank.new id 1) }
+        ensures grows { Extends bank.old bank.new }
+        ensures bank { IsBank bank.new }
+    {
+        let layer = self.layer.layer;
+        let evaluator = SymEvaluator::new(self.alloc, self.layer.defs, own, low);
+        let first = digit(bank, self.book, &evaluator, &layer.relate)?;
+        let always = layer.always.as_slice();
+        let rest = truths(self.alloc, bank, self.book, &evaluator, always)?;
+        join(bank, self.book, Op::And, first, rest)
+    }
+
+    /// Whether the layer's relation holds of these states. Its only error is out of memory, after which the bank may have more nodes.
+    pub fn related(
+        &self,
+        bank: &mut Bank,
+        vars: &SymValues,
+        memory: &SymValues,
+        low: &SymValues,
+    ) -> Result<Id, NoMemory>
+        requires layer { LayerFits self.now.layer self.now.below }
+        requires shaped { TrioShaped (closed self.now.layer) bank.old (record { vars = vars.now; memory = memory.now; low = low.now }) }
+        ensures nodes { OnOk result (bank.new ≡ (related_made (B.kinds self.now.book.now) (terms_in (B.kinds self.now.book.now) self.now.layer)
+            (closed self.now.layer) (record { vars = vars.now; memory = memory.now; low = low.now }) bank.old).nodes) }
+        ensures id { IfOk result (λ id. id ≡ (related_made (B.kinds self.now.book.now) (terms_in (B.kinds self.now.book.now) self.now.layer)
+            (closed self.now.layer) (record { vars = vars.now; memory = memory.now; low = low.now }) bank.old).value) }
+        ensures width { IfOk result (λ id. HasWidth bank.new id 1) }
+        ensures grows { Extends bank.old bank.new }
+        ensures single { OnOk result (KeepsSingle bank.old bank.new) }
+        ensures bank { IsBank bank.new }
+    {
+        // the bank's nodes stand in order
+        let _ = bank.len();
+        let mut own = Vec::new(self.alloc);
+        let state = self.layer.layer.state.as_slice();
+        add_names(self.alloc, &mut own, state, vars.as_slice())?;
+        let declared = self.layer.layer.memory.as_slice();
+        add_names(self.alloc, &mut own, declared, memory.as_slice())?;
+        let mut behind = Vec::new(self.alloc);
+        add_names(self.alloc, &mut behind, self.layer.low, low.as_slice())?;
+        self.relations(bank, own.as_slice(), behind.as_slice())
+    }
+
+    /// Whether the state below is one that recovery may begin with. Its only error is out of memory, after which the bank may have more nodes.
+    pub fn settled(&self, bank: &mut Bank, low: &SymValues) -> Result<Id, NoMemory>
+        requires layer { LayerFits self.now.layer self.now.below }
+        requires shaped { LowShaped bank.old self.now.layer.low.now low.now }
+        ensures nodes { OnOk result (bank.new ≡ (settled_made (B.kinds self.now.book.now) (terms_in (B.kinds self.now.book.now) self.now.layer)
+            (closed self.now.layer) low.now bank.old).nodes) }
+        ensures id { IfOk result (λ id. id ≡ (settled_made (B.kinds self.now.book.now) (terms_in (B.kinds self.now.book.now) self.now.layer)
+            (closed self.now.layer) low.now bank.old).value) }
+        ensures width { IfOk result (λ id. HasWidth bank.new id 1) }
+        ensures grows { Extends bank.old bank.new }
+        ensures single { OnOk result (KeepsSingle bank.old bank.new) }
+        ensures bank { IsBank bank.new }
+    {
+        // the bank's nodes stand in order
+        let _ = bank.len();
+        let mut behind = Vec::new(self.alloc);
+        add_names(self.alloc, &mut behind, self.layer.low, low.as_slice())?;
+        let evaluator = SymEvaluator::new(self.alloc, self.layer.defs, &[], behind.as_slice());
+        let settled = self.layer.layer.settled.as_slice();
+        truths(self.alloc, bank, self.book, &evaluator, settled)
+    }
+
+    /// Fresh variables, memory and state below, numbered on from a number.
+    fn fresh_trio(&self, bank: &mut Bank, number: u64) -> Result<SymTrio, NoMemory>
+        requires bank { IsBank bank.old }
+        requires layer { LayerFits self.now.layer self.now.below }
+        requires below { InputsBelow number bank.old }
+        requires room { number + state_words (closed self.now.layer) < 2 ^ 64 }
+        ensures nodes { OnOk result (bank.new ≡ (fresh_trio (B.kinds self.now.book.now) (terms_in (B.kinds self.now.book.now) self.now.layer)
+            (closed self.now.layer) number bank.old).nodes) }
+        ensures form { IfOk result (λ x. trio_of x ≡ (fresh_trio (B.kinds self.now.book.now) (terms_in (B.kinds self.now.book.now) self.now.layer)
+            (closed self.now.layer) number bank.old).value) }
+        ensures shape { IfOk result (λ x. TrioShaped (closed self.now.layer) bank.new (trio_of x)) }
+        ensures grows { Extends bank.old bank.new }
+        ensures bank { IsBank bank.new }
+    {
+        let state = self.layer.layer.state.as_slice();
+        let memory = self.layer.layer.memory.as_slice();
+        let low = self.layer.low;
+        let after_state = number + words_in(state)?;
+        let after_memory = after_state + words_in(memory)?;
+        let vars = fresh(self.alloc, bank, self.book, number, state)?;
+        let memory = fresh(self.alloc, bank, self.book, after_state, memory)?;
+        let low = fresh(self.alloc, bank, self.book, after_memory, low)?;
+        Ok(SymTrio { vars, memory, low })
+    }
+
+    /// The states that the obligations begin with, their inputs numbered on from a number that is above those of all inputs. Its only error is
+    /// out of memory, after which the bank may have more nodes.
+    pub fn starting(&self, bank: &mut Bank, number: u64) -> Result<SymStarting, NoMemory>
+        requires layer { LayerFits self.now.layer self.now.below }
+        requires below { InputsBelow number bank.old }
+        requires room { number + state_words (closed self.now.layer) < 2 ^ 64 }
+        ensures nodes { OnOk result (bank.new ≡ (starting (B.kinds self.now.book.now) (terms_in (B.kinds self.now.book.now) self.now.layer)
+            (closed self.now.layer) number bank.old).nodes) }
+        ensures form { IfOk result (λ s. starting_of s ≡ (starting (B.kinds self.now.book.now) (terms_in (B.kinds self.now.book.now) self.now.layer)
+            (closed self.now.layer) number bank.old).value) }
+        ensures shape { IfOk result (λ s. StartingShaped (closed self.now.layer) bank.new (starting_of s)) }
+        ensures inputs { OnOk result (InputsBelow (number + state_words (closed self.now.layer)) bank.new) }
+        ensures grows { Extends bank.old bank.new }
+        ensures bank { IsBank bank.new }
+    {
+        // the bank's nodes stand in order
+        let _ = bank.len();
+        let x = self.fresh_trio(bank, number)?;
+        self.started(bank, x)
+    }
+
+    /// The states that the obligations begin with, from their inputs.
+    fn started(&self, bank: &mut Bank, x: SymTrio) -> Result<SymStarting, NoMemory>
+        requires layer { LayerFits self.now.layer self.now.below }
+        requires shaped { TrioShaped (closed self.now.layer) bank.old (trio_of x) }
+        ensures nodes { OnOk result (bank.new ≡ (started_made (B.kinds self.now.book.now) (terms_in (B.kinds self.now.book.now) self.now.layer)
+            (closed self.now.layer) (trio_of x) bank.old).nodes) }
+        ensures form { IfOk result (λ s. starting_of s ≡ (started_made (B.kinds self.now.book.now) (terms_in (B.kinds self.now.book.now) self.now.layer)
+            (closed self.now.layer) (trio_of x) bank.old).value) }
+        ensures grows { Extends bank.old bank.new }
+        ensures bank { IsBank bank.new }
+    {
+        let related = self.related(bank, &x.vars, &x.memory, &x.low)?;
+        let known = facts(self.alloc, bank, self.book, related)?;
+        let settled = self.settled(bank, &x.low)?;
+        let settling = facts(self.alloc, bank, self.book, settled)?;
+        let from = replaced_trio(self.alloc, &known, &x)?;
+        let settled_low = replaced_all(self.alloc, &settling, &x.low)?;
+        Ok(SymStarting {
+            related,
+            from,
+            settled,
+            settled_low,
+        })
+    }
+}

@@ -1,0 +1,4 @@
+pub mod Kept
+pub mod Sites
+pub mod Ends
+pub mod Running

@@ -1,0 +1,49 @@
+//! A specification's variables at its start.
+
+ghost use Rattle.std.specs.Prelude.{◌≡◌, IfOk, OnOk};
+ghost use Rattle.ygg_bank.specs.Nodes.{Extends, IsBank};
+ghost use Rattle.ygg_sym_below.specs.Lows.{LowShaped};
+ghost use Rattle.ygg_sym_runs.specs.Lower.{KeepsSingle, SingleFrom};
+ghost use Rattle.ygg_sym_laws.specs.Below.{start_made};
+ghost use Rattle.ygg_sym_spec.specs.Layers.{SpecServes, closed, terms_in};
+
+use crate::declared::zeros;
+use std::alloc::Global;
+use ygg_bank::{Bank, NoMemory};
+use ygg_rules::Book;
+use ygg_shape_cells::SymValues;
+use ygg_sym_spec::{SymLayer, SymPicks, block};
+
+/// The variables of a specification at its start. Inputs of the bank from the given number on are single digits. Its only error is out of memory,
+/// after which the bank may have more nodes.
+pub fn start<B: Book>(
+    alloc: Global,
+    bank: &mut Bank,
+    book: &B,
+    layer: SymLayer<'_>,
+    first: u64,
+) -> Result<SymValues, NoMemory>
+    requires serves { SpecServes layer }
+    requires single { SingleFrom first bank.old }
+    ensures nodes { OnOk result (bank.new ≡ (start_made (B.kinds book.now) (terms_in (B.kinds book.now) layer.entry) (closed layer.entry) bank.old).nodes) }
+    ensures form { IfOk result (λ xs. xs ≡ (start_made (B.kinds book.now) (terms_in (B.kinds book.now) layer.entry) (closed layer.entry) bank.old).value) }
+    ensures shape { IfOk result (LowShaped bank.new (layer.entry.layer.now).state) }
+    ensures grows { Extends bank.old bank.new }
+    ensures single { OnOk result (KeepsSingle bank.old bank.new) }
+    ensures bank { IsBank bank.new }
+{
+    let zeros = zeros(alloc, bank, book, layer.layer.state.as_slice())?;
+    let picks = SymPicks::Given(&[], first);
+    let done = block(
+        alloc,
+        bank,
+        book,
+        layer,
+        picks,
+        &layer.layer.start,
+        &zeros,
+        &[],
+        &[],
+    )?;
+    Ok(done.vars)
+}

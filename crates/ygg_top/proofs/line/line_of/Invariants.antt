@@ -1,7 +1,0 @@
-use Rattle.std.proofs.Common.{◌≡◌, ◌++◌, drop}
-use Rattle.std.specs.List.{flat_map}
-use Rattle.ygg_top.proofs.line.line_of.Given as goal
-
-abbrev pub invariant-loop-part : goal.invariant-loop-part
-invariant-loop-part l =
-    l.text ++ flat_map (λ part. part.now) (drop l.part-index l.parts) ≡ flat_map (λ part. part.now) l.parts
