@@ -1,0 +1,16 @@
+pub mod Cutting
+pub mod Hexadecimal
+pub mod Decimals
+pub mod Pieces
+pub mod Joining
+pub mod Finding
+pub mod Onward
+pub mod Standing
+pub mod NumbersAgain
+pub mod PiecesAgain
+pub mod ValuesAgain
+pub mod LinesAgain
+pub mod RunsAgain
+pub mod TextsAgain
+pub mod Shaped
+pub mod Fitted

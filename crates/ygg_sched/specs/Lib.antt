@@ -1,0 +1,12 @@
+pub mod Flaws
+pub mod Picks
+pub mod Sites
+pub mod Naming
+pub mod Words
+pub mod Numbers
+pub mod Values
+pub mod Lines
+pub mod Reading
+pub mod Printing
+pub mod Fitting
+pub mod Laws

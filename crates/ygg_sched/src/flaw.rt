@@ -1,0 +1,42 @@
+ghost use Rattle.std.specs.Prelude.{◌≡◌};
+ghost use Rattle.ygg_sched.specs.Flaws.{number_of, refusal_at};
+
+use ygg_base::Refusal;
+
+/// Why a line of a schedule is refused.
+#[derive(Clone, Copy, Debug, PartialEq, Eq, Drop)]
+pub enum Flaw {
+    /// It isn't of the form that stands there, or it follows `end`.
+    Line,
+    /// Its obligation isn't one of the file, or its variable isn't the one that stands there.
+    Name,
+    /// Its value hasn't the variable's shape.
+    Width,
+    /// It is missing, or has no line feed.
+    Missing,
+}
+
+impl Flaw {
+    /// The number that a refusal gives for it.
+    pub fn number(self) -> u8
+        ensures { result ≡ number_of self }
+    {
+        match self {
+            Flaw::Line => 31,
+            Flaw::Name => 32,
+            Flaw::Width => 33,
+            Flaw::Missing => 34,
+        }
+    }
+
+    /// The refusal for it at the line of this number.
+    pub fn at(self, line: u32) -> Refusal
+        ensures { result ≡ refusal_at self line }
+    {
+        Refusal {
+            number: self.number(),
+            line,
+            column: 1,
+        }
+    }
+}

@@ -1,0 +1,44 @@
+//! Schedules as texts: a value for everything that an obligation of a layer file speaks of, printed and read again by lines.
+//!
+//! ```text
+//! ygg-schedule 1
+//! obligation pair.cut.put
+//! state x 00
+//! state y 00
+//! low view 00;00;00;00;00
+//! low stable 00;00;00;00;00
+//! arg a 01
+//! arg b 02
+//! stop before 3
+//! picks 011
+//! wake 111
+//! end
+//! ```
+#![tactic(auto)]
+
+mod bits;
+mod claim;
+mod decimal;
+mod flaw;
+mod law;
+mod lines;
+mod naming;
+mod number;
+mod printing;
+mod reading;
+mod rest;
+mod schedule;
+mod value_reading;
+mod value_writing;
+mod words;
+
+pub use claim::{Claim, Low, Obligation};
+pub use flaw::Flaw;
+pub use law::{printed_is_read, read_fits, sites_are_claims};
+pub use naming::claim_named;
+pub use printing::print_schedule;
+pub use reading::read_schedule;
+pub use schedule::{Halt, Run, Schedule};
+
+#[cfg(test)]
+mod tests;
