@@ -39,6 +39,3 @@ pub use naming::claim_named;
 pub use printing::print_schedule;
 pub use reading::read_schedule;
 pub use schedule::{Halt, Run, Schedule};
-
-#[cfg(test)]
-mod tests;

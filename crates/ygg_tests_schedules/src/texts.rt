@@ -1,8 +1,8 @@
-use super::*;
 use std::alloc::Global;
 use std::test::Fail;
 use ygg_accept::accept;
 use ygg_base::{Bits, NoMemory, Refuse, Text};
+use ygg_sched::{Halt, Run, Schedule, print_schedule, read_schedule};
 use ygg_type::Typed;
 
 /// A pair that is written through a journal whose first flush is left out.
