@@ -1,0 +1,9 @@
+pub mod Zeros
+pub mod Schedules
+pub mod Asking
+pub mod Sites
+pub mod Runs
+pub mod Steps
+pub mod Ends
+pub mod Passing
+pub mod Showing

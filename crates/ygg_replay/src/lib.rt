@@ -1,0 +1,18 @@
+//! Replays of schedules: what an obligation asks of a schedule is run on values, on the layer's blocks and on what the layer is specified over.
+#![tactic(auto)]
+
+mod asking;
+mod conclusion;
+mod ends;
+mod formulas;
+mod runs;
+mod schedule;
+mod search;
+mod showing;
+mod site;
+mod spec;
+mod zeros;
+
+pub use asking::is_asked;
+pub use schedule::{Case, Halt, Kind, Replayed, Schedule};
+pub use showing::replay;

@@ -1,0 +1,14 @@
+//! A layer of a file.
+
+use std::alloc::Global;
+use ygg_syntax::tree::Layer;
+use ygg_type::Typed;
+
+/// A layer of a file with its place from the bottom one on, and where memory comes from.
+#[derive(Clone, Copy)]
+pub struct Site<'a> {
+    pub alloc: Global,
+    pub typed: &'a Typed,
+    pub place: u32,
+    pub layer: &'a Layer,
+}
