@@ -1,32 +1,8 @@
 -- What a schedule shows, by its hypotheses, its runs and its conclusion.
-use Rattle.std.proofs.Common.{
-  ◌≡◌,
-  ℕ,
-  Bool,
-  true,
-  false,
-  ◌&&◌,
-  IsTrue,
-  List,
-  [],
-  ◌∷◌,
-  ◌++◌,
-  length,
-  Option,
-  Some,
-  None,
-  inl,
-  inr,
-  refl,
-  sym,
-  ap,
-  ◌∙◌,
-  subst,
-}
-use Rattle.ygg_value.specs.declared.row.Value.{Value}
+use Rattle.std.proofs.Common.{◌≡◌, ℕ, Bool, true, false, ◌&&◌, length, Some, inl, inr, refl}
 use Rattle.ygg_syntax.specs.declared.tree.Layer.{Layer}
 use Rattle.ygg_syntax.specs.declared.tree.File.{File}
-use Rattle.ygg_meaning.specs.Environments.{Env, bind}
+use Rattle.ygg_meaning.specs.Environments.{Env}
 use Rattle.ygg_meaning.specs.Shapes.{values_fit, env_fits}
 use Rattle.ygg_meaning.specs.Machine.{Picks, Machine}
 use Rattle.ygg_meaning.specs.Layer.{ClosedLayer}

@@ -1,5 +1,5 @@
 -- Runs of a layer's blocks as the runs that an obligation speaks of.
-use Rattle.std.proofs.Common.{◌≡◌, ℕ, Bool, true, false, ◌&&◌, List, [], ◌∷◌, length, Option, Some, None, option_map, refl, sym, ap, ◌∙◌, subst}
+use Rattle.std.proofs.Common.{◌≡◌, true, ◌&&◌, List, [], ◌∷◌, length, Option, Some, None, option_map, refl, sym, ap, ◌∙◌, subst}
 use Rattle.ygg_value.specs.Values.{same_value}
 use Rattle.ygg_value.specs.declared.row.Value.{Value}
 use Rattle.ygg_syntax.specs.declared.tree.Block.{Block}
@@ -7,12 +7,12 @@ use Rattle.ygg_syntax.specs.declared.tree.Declared.{Declared}
 use Rattle.ygg_meaning.specs.Environments.{Env, bind, same_env}
 use Rattle.ygg_meaning.specs.Shapes.{shape_in, fits, values_fit, zeros_of}
 use Rattle.ygg_meaning.specs.Progress.{Answer}
-use Rattle.ygg_meaning.specs.Machine.{Picks, State, based, on, Machine}
+use Rattle.ygg_meaning.specs.Machine.{State, based, on}
 use Rattle.ygg_meaning.specs.Layer.{BlockRuns}
 use Rattle.ygg_meaning.specs.Obligations.{StopsAt}
 use Rattle.ygg_meaning.specs.Obligations as obligations
 use Rattle.ygg_meaning.specs.Refines.{Below, OnDisk, OnSpec, machine_below}
-use Rattle.ygg_meaning.specs.Violates.{CutShort, Formatted, LostBetween, RanWhole, Recovers}
+use Rattle.ygg_meaning.specs.Violates.{Formatted, LostBetween, RanWhole, Recovers}
 use Rattle.ygg_eval_lower.specs.Layers.{below_at}
 use Rattle.ygg_type_sound.proofs.Tests.{bytes_equal, right}
 use Rattle.ygg_eval_spec.specs.Kept.{Kept}

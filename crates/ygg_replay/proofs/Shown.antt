@@ -1,5 +1,5 @@
 -- What a schedule of an obligation shows, where its runs have ended.
-use Rattle.std.proofs.Common.{◌≡◌, true, [], Option, Some, None, sym, ◌∙◌, subst}
+use Rattle.std.proofs.Common.{◌≡◌, true, [], Some, None, sym, ◌∙◌, subst}
 use Rattle.ygg_meaning.specs.Machine.{Picks}
 use Rattle.ygg_meaning.specs.Obligations.{Obligation}
 use Rattle.ygg_meaning.specs.Related.{all_true}

@@ -1,6 +1,5 @@
 -- Whether a schedule is one of an obligation that is named by its place.
-use Rattle.std.specs.Prelude.{ℕ, Bool, true, false, ◌&&◌, slice_get, is_some, Option, Some, None}
-use Rattle.ygg_syntax.specs.declared.tree.Operation.{Operation}
+use Rattle.std.specs.Prelude.{ℕ, Bool, true, false, ◌&&◌, slice_get, is_some, Some, None}
 use Rattle.ygg_syntax.specs.declared.tree.Layer.{Layer}
 use Rattle.ygg_syntax.specs.declared.tree.File.{File}
 use Rattle.ygg_meaning.specs.Shapes.{values_fit}

@@ -11,6 +11,8 @@ mod search;
 mod showing;
 mod site;
 mod spec;
+#[cfg(test)]
+mod tests;
 mod zeros;
 
 pub use asking::is_asked;

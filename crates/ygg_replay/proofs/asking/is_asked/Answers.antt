@@ -1,5 +1,4 @@
-use Rattle.std.proofs.Common.{◌≡◌, ℕ, Bool, true, false, ◌&&◌, IsTrue, List, slice_get, Option, Some, None, is_some, option_map, refl, sym, ap, ◌∙◌, subst}
-use Rattle.ygg_value.specs.declared.row.Value.{Value}
+use Rattle.std.proofs.Common.{◌≡◌, ℕ, Bool, true, false, ◌&&◌, slice_get, Option, Some, None, is_some, option_map, refl, sym, ap, ◌∙◌, subst}
 use Rattle.ygg_syntax.specs.declared.tree.Operation.{Operation}
 use Rattle.ygg_syntax.specs.declared.tree.Tick.{Tick}
 use Rattle.ygg_syntax.specs.declared.tree.Layer.{Layer}
@@ -11,7 +10,7 @@ use Rattle.ygg_replay.specs.declared.schedule.Case.{Case}
 use Rattle.ygg_replay.specs.declared.schedule.Kind.{Kind}
 use Rattle.ygg_replay.specs.declared.schedule.Kind.TheVariants as kind
 use Rattle.ygg_replay.specs.declared.schedule.Schedule.{Schedule}
-use Rattle.ygg_replay.specs.Asking.{arguments_fit, fits_as}
+use Rattle.ygg_replay.specs.Asking.{fits_as}
 use Rattle.ygg_replay.specs.Schedules.{IsAsked, obligation_at, schedule_fits, states_fit}
 use Rattle.ygg_replay.proofs.asking.is_asked.Goals as goal
 

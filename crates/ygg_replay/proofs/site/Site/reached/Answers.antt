@@ -1,5 +1,5 @@
-use Rattle.std.proofs.Common.{◌≡◌, Some, refl, sym, ap, ◌∙◌, subst}
-use Rattle.ygg_meaning.specs.Obligations.{Obligation, CallOf, CutOf, TickOf, CutTickOf}
+use Rattle.std.proofs.Common.{◌≡◌, Some, refl, subst}
+use Rattle.ygg_meaning.specs.Obligations.{CallOf, CutOf, TickOf, CutTickOf}
 use Rattle.ygg_replay.specs.declared.schedule.Kind.{Kind}
 use Rattle.ygg_replay.specs.Schedules.{obligation_at}
 use Rattle.ygg_replay.proofs.Asked.{if_ok}
