@@ -47,8 +47,8 @@ const STACK: &[u8] = b"yggdrasil 1;
 disk sync 2 of 3 of 9;
 layer under {
   state t : table 2 of 3 of 9;
-  memory m : row 2 of 5;
-  op load(a : word 1) -> row 3 of 9 spec {
+  memory m : row  2 of 5;
+  op load(a : word 1) -> row  3 of 9 spec {
     return t[a];
   } impl {
     let r = call read(resize(a, 8));
