@@ -211,18 +211,10 @@ class Reader:
             part = self.expr()
             self.want(")")
             return word, name, width, bound, part
-        if word == "resize":
-            part = self.expr()
-            self.want(",")
-            width = self.number()
-            self.want(")")
-            return word, part, width
-        if word == "fill":
-            count = self.number()
-            self.want(",")
-            part = self.expr()
-            self.want(")")
-            return word, count, part
+        if word in ("resize", "fill"):
+            one, two = (self.expr, self.number) if word == "resize" else (self.number, self.expr)
+            parts = one(), self.want(","), two(), self.want(")")
+            return word, parts[0], parts[2]
         return (word if word in ("pick", "row") else "use"), word, self.listed(self.expr)
 
 
