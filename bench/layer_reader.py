@@ -213,8 +213,11 @@ class Reader:
             return word, name, width, bound, part
         if word in ("resize", "fill"):
             one, two = (self.expr, self.number) if word == "resize" else (self.number, self.expr)
-            parts = one(), self.want(","), two(), self.want(")")
-            return word, parts[0], parts[2]
+            first = one()
+            self.want(",")
+            second = two()
+            self.want(")")
+            return word, first, second
         return (word if word in ("pick", "row") else "use"), word, self.listed(self.expr)
 
 
