@@ -7,11 +7,12 @@ use Rattle.ygg_base.specs.declared.lists.Held.{Held}
 use Rattle.ygg_base.specs.declared.status.Status.{Status}
 use Rattle.ygg_base.specs.declared.status.Status.TheVariants.{Done, Refuted, Refused, Undecided, Fault, NoMemory}
 use Rattle.ygg_syntax.specs.declared.tree.File.{File}
+use Rattle.ygg_report.specs.Putting.{Adds, IsPutSo, NoFront, Puts}
 use Rattle.ygg_rules.specs.declared.rule.RuleKind.{RuleKind}
 use Rattle.ygg_top.specs.declared.help.TheConstants.{HELP, VERSION}
 use Rattle.ygg_top.specs.declared.answer.CommandEnd.{CommandEnd}
 use Rattle.ygg_top.specs.declared.answer.CommandEnd.TheVariants as answer
-use Rattle.ygg_top.specs.Words.{is_alone, file_after, with_budget_after, usual_budget, IsBudget}
+use Rattle.ygg_top.specs.Words.{is_alone, word_after, with_budget_after, usual_budget, IsBudget}
 use Rattle.ygg_top.specs.Verdict.{Verified, Counted}
 use Rattle.ygg_top.specs.Ending.{
   Verifies,
@@ -21,7 +22,6 @@ use Rattle.ygg_top.specs.Ending.{
   IsRefused,
   VerifiesWithin,
   Ends,
-  Adds,
   Reports,
   VerifyingIs,
   CountingIs,
@@ -29,11 +29,8 @@ use Rattle.ygg_top.specs.Ending.{
   IsAnswerOf,
   IsAnswerWithin,
   IsAnswerMade,
-  IsPutSo,
   IsCutRun,
   IsCutVerdict,
-  NoFront,
-  Puts,
   Streams,
 }
 
@@ -144,18 +141,18 @@ module _ (kinds : List RuleKind) (files : Option (List Held)) where
     -- a command of these words, by what its words are
     abbrev Asked : Bool → Bool → Option (List ℕ) → Option (List ℕ × List ℕ) → Option (List ℕ) → Option (List ℕ) → Type 0
     Asked help version verify within print demo =
-        (is_alone (codes "--help") words ≡ help) × (is_alone (codes "--version") words ≡ version) × (file_after (codes "verify") words ≡ verify)
-        × (with_budget_after (codes "verify") words ≡ within) × (file_after (codes "print") words ≡ print) × (file_after (codes "demo") words ≡ demo)
+        (is_alone (codes "--help") words ≡ help) × (is_alone (codes "--version") words ≡ version) × (word_after (codes "verify") words ≡ verify)
+        × (with_budget_after (codes "verify") words ≡ within) × (word_after (codes "print") words ≡ print) × (word_after (codes "demo") words ≡ demo)
 
     -- what the words ask for is done
     asked_ends : (help version : Bool) (verify : Option (List ℕ)) (within : Option (List ℕ × List ℕ)) (print demo : Option (List ℕ)) (status : Status)
         (text : List ℕ) → Asked help version verify within print demo → Chosen help version verify within print demo status text →
         Ends kinds words files status text
     asked_ends help version verify within print demo status text a is =
-        let v = file_after (codes "verify") words in
+        let v = word_after (codes "verify") words in
         let w = with_budget_after (codes "verify") words in
-        let p = file_after (codes "print") words in
-        let d = file_after (codes "demo") words in
+        let p = word_after (codes "print") words in
+        let d = word_after (codes "demo") words in
         subst (λ x. Chosen x (is_alone (codes "--version") words) v w p d status text) (sym a.0)
         (subst (λ x. Chosen help x v w p d status text) (sym a.1)
         (subst (λ x. Chosen help version x w p d status text) (sym a.2)
@@ -173,45 +170,45 @@ module _ (kinds : List RuleKind) (files : Option (List Held)) where
     asked_answer Does to (answer.Ends status text) is = to status text is
 
     pub verify_asked : (name : List ℕ) (found : CommandEnd) → is_alone (codes "--help") words ≡ false → is_alone (codes "--version") words ≡ false →
-        file_after (codes "verify") words ≡ Some name → IsAnswerOf kinds (Verifies kinds usual_budget) files name found → IsAnswer kinds words files found
+        word_after (codes "verify") words ≡ Some name → IsAnswerOf kinds (Verifies kinds usual_budget) files name found → IsAnswer kinds words files found
     verify_asked name found h v f is =
         asked_answer (DoesWith (Verifies kinds usual_budget) files name)
-        (λ status text does. asked_ends false false (Some name) (with_budget_after (codes "verify") words) (file_after (codes "print") words)
-        (file_after (codes "demo") words) status text (h, v, f, refl, refl, refl) does) found (by_name kinds (Verifies kinds usual_budget) files name found is)
+        (λ status text does. asked_ends false false (Some name) (with_budget_after (codes "verify") words) (word_after (codes "print") words)
+        (word_after (codes "demo") words) status text (h, v, f, refl, refl, refl) does) found (by_name kinds (Verifies kinds usual_budget) files name found is)
 
     pub budget_asked : (name word : List ℕ) (found : CommandEnd) → is_alone (codes "--help") words ≡ false → is_alone (codes "--version") words ≡ false →
-        file_after (codes "verify") words ≡ None → with_budget_after (codes "verify") words ≡ Some (name, word) →
+        word_after (codes "verify") words ≡ None → with_budget_after (codes "verify") words ≡ Some (name, word) →
         IsAnswerWithin kinds files name word found → IsAnswer kinds words files found
     budget_asked name word found h v f b is =
         asked_answer (VerifiesWithin kinds files name word)
-        (λ status text does. asked_ends false false None (Some (name, word)) (file_after (codes "print") words) (file_after (codes "demo") words) status text
+        (λ status text does. asked_ends false false None (Some (name, word)) (word_after (codes "print") words) (word_after (codes "demo") words) status text
         (h, v, f, b, refl, refl) does) found
         (by_budget kinds files name word found is)
 
     pub print_asked : (name : List ℕ) (found : CommandEnd) → is_alone (codes "--help") words ≡ false → is_alone (codes "--version") words ≡ false →
-        file_after (codes "verify") words ≡ None → with_budget_after (codes "verify") words ≡ None → file_after (codes "print") words ≡ Some name →
+        word_after (codes "verify") words ≡ None → with_budget_after (codes "verify") words ≡ None → word_after (codes "print") words ≡ Some name →
         IsAnswerOf kinds Prints files name found → IsAnswer kinds words files found
     print_asked name found h v f b p is =
         asked_answer (DoesWith Prints files name)
-        (λ status text does. asked_ends false false None None (Some name) (file_after (codes "demo") words) status text (h, v, f, b, p, refl) does) found
+        (λ status text does. asked_ends false false None None (Some name) (word_after (codes "demo") words) status text (h, v, f, b, p, refl) does) found
         (by_name kinds Prints files name found is)
 
     pub demo_asked : (word : List ℕ) (found : CommandEnd) → is_alone (codes "--help") words ≡ false → is_alone (codes "--version") words ≡ false →
-        file_after (codes "verify") words ≡ None → with_budget_after (codes "verify") words ≡ None → file_after (codes "print") words ≡ None →
-        file_after (codes "demo") words ≡ Some word → IsAnswerMade kinds (Demos kinds word) found → IsAnswer kinds words files found
+        word_after (codes "verify") words ≡ None → with_budget_after (codes "verify") words ≡ None → word_after (codes "print") words ≡ None →
+        word_after (codes "demo") words ≡ Some word → IsAnswerMade kinds (Demos kinds word) found → IsAnswer kinds words files found
     demo_asked word found h v f b p d is =
         asked_answer (Demos kinds word) (λ status text does. asked_ends false false None None None (Some word) status text (h, v, f, b, p, d) does) found
         (by_making kinds (Demos kinds word) found is)
 
     ends_no_fault : (text : List ℕ) → Ends kinds words files Fault text → ⊥
     ends_no_fault text is =
-        no_fault (is_alone (codes "--help") words) (is_alone (codes "--version") words) (file_after (codes "verify") words)
-        (with_budget_after (codes "verify") words) (file_after (codes "print") words) (file_after (codes "demo") words) text is
+        no_fault (is_alone (codes "--help") words) (is_alone (codes "--version") words) (word_after (codes "verify") words)
+        (with_budget_after (codes "verify") words) (word_after (codes "print") words) (word_after (codes "demo") words) text is
 
     ends_no_want : (text : List ℕ) → Ends kinds words files NoMemory text → ⊥
     ends_no_want text is =
-        no_want (is_alone (codes "--help") words) (is_alone (codes "--version") words) (file_after (codes "verify") words)
-        (with_budget_after (codes "verify") words) (file_after (codes "print") words) (file_after (codes "demo") words) text is
+        no_want (is_alone (codes "--help") words) (is_alone (codes "--version") words) (word_after (codes "verify") words)
+        (with_budget_after (codes "verify") words) (word_after (codes "print") words) (word_after (codes "demo") words) text is
 
     module _ (before now : Option (List ℕ)) (LibraryRose SinkRose : Type 0) where
       ends_whole : (status : Status) (text : List ℕ) → Ends kinds words files status text → Adds before text now →

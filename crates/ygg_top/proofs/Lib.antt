@@ -1,7 +1,5 @@
 mod Canonical
 mod Found
-mod Printing
-mod Fronts
 mod Judging
 mod Verdicts
 mod Reporting

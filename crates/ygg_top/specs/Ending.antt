@@ -1,5 +1,5 @@
 -- How a command ends, and what it prints.
-use Rattle.std.specs.Prelude.{◌≡◌, ◌⊎◌, ℕ, ◌<◌, List, ◌++◌, codes, Option, Some, None, IfSome, MatchBool, MatchOption, Result, Ok, Err}
+use Rattle.std.specs.Prelude.{◌≡◌, ◌⊎◌, ℕ, ◌<◌, List, ◌++◌, codes, Option, Some, None, MatchBool, MatchOption}
 use Rattle.ygg_base.specs.declared.failure.Refusal.{Refusal}
 use Rattle.ygg_base.specs.declared.reason.Reason.TheVariants as reason
 use Rattle.ygg_base.specs.Reason.{refusal_at}
@@ -11,6 +11,7 @@ use Rattle.ygg_base.specs.Lexing.{tokens_of}
 use Rattle.ygg_syntax.specs.declared.tree.File.{File}
 use Rattle.ygg_print.specs.Canonical.{canonical, GivesAgain}
 use Rattle.ygg_report.specs.Lines.{ended, refused_line}
+use Rattle.ygg_report.specs.Putting.{Adds, IsFront, IsCutOf, Puts}
 use Rattle.ygg_rules.specs.declared.rule.RuleKind.{RuleKind}
 use Rattle.ygg_top.specs.declared.help.TheConstants.{HELP, VERSION}
 use Rattle.ygg_top.specs.declared.answer.CommandEnd.{CommandEnd}
@@ -18,7 +19,7 @@ use Rattle.ygg_top.specs.declared.answer.CommandEnd.TheVariants as answer
 use Rattle.ygg_yard.specs.Texts.{made}
 use Rattle.ygg_top.specs.Words.{
   is_alone,
-  file_after,
+  word_after,
   with_budget_after,
   usual_budget,
   most_operations,
@@ -88,23 +89,14 @@ abbrev pub Ends : List RuleKind → List (List ℕ) → Option (List Held) → S
 Ends kinds words files status text =
     MatchBool (is_alone (codes "--help") words) ((status ≡ Done) × (text ≡ HELP.now))
     (MatchBool (is_alone (codes "--version") words) ((status ≡ Done) × (text ≡ VERSION.now))
-    (MatchOption (file_after (codes "verify") words)
+    (MatchOption (word_after (codes "verify") words)
     (MatchOption (with_budget_after (codes "verify") words)
-    (MatchOption (file_after (codes "print") words)
-    (MatchOption (file_after (codes "demo") words) (IsRefused (refusal_at reason.Words 0 0) status text)
+    (MatchOption (word_after (codes "print") words)
+    (MatchOption (word_after (codes "demo") words) (IsRefused (refusal_at reason.Words 0 0) status text)
     (λ word. Demos kinds word status text))
     (λ name. DoesWith Prints files name status text))
     (λ asked. VerifiesWithin kinds files asked.0 asked.1 status text))
     (λ name. DoesWith (Verifies kinds usual_budget) files name status text)))
-
--- a sink that tells its bytes has taken these besides
-abbrev pub Adds : Option (List ℕ) → List ℕ → Option (List ℕ) → Type 0
-Adds before bytes now = IfSome before (λ b. now ≡ Some (b ++ bytes))
-
--- a front of the bytes
-pub record IsFront (front bytes : List ℕ) : Type 0 where
-  pub rest : List ℕ
-  pub is : bytes ≡ front ++ rest
 
 -- the line of a library that failed
 abbrev pub library_fault : List ℕ
@@ -118,10 +110,6 @@ IsCutShort kinds words files LibraryRose front =
 -- A file is to be verified within a budget, and however that ends, it is this that the command does.
 abbrev pub VerifyingIs : List RuleKind → File → ℕ → (Status → List ℕ → Type 0) → Type 0
 VerifyingIs kinds f budget Does = (0 < budget) × ((status : Status) (text : List ℕ) → Verified kinds f budget status text → Does status text)
-
--- a front of the text of a status and a text of this kind
-abbrev pub IsCutOf : (Status → List ℕ → Type 0) → List ℕ → Type 0
-IsCutOf Ended front = (status : Status) × (text : List ℕ) × Ended status text × IsFront front text
 
 -- a front of the text of a list of verdicts on the file that is true for the budget
 abbrev pub IsCutVerdict : List RuleKind → File → ℕ → List ℕ → Type 0
@@ -163,30 +151,6 @@ IsAnswerFor kinds Does bytes (answer.Verifies typed budget) = VerifyingIs kinds 
 IsAnswerFor kinds Does bytes (answer.Demos typed number) = ⊥
 IsAnswerFor kinds Does bytes answer.LibraryFailed = ⊥
 IsAnswerFor kinds Does bytes answer.NoMemory = Unit {0}
-
--- a text that is put whole, or cut short with a fault
-abbrev pub IsPut : Option (List ℕ) → Option (List ℕ) → List ℕ → (SinkRose : Type 0) → Result (Unit {0}) Status → Type 0
-IsPut before now text SinkRose (Ok done) = Adds before text now
-IsPut before now text SinkRose (Err Fault) = SinkRose × (front : List ℕ) × IsFront front text × Adds before front now
-IsPut before now text SinkRose (Err other) = ⊥
-
--- a text that is put whole with its status, or cut short with a fault
-abbrev pub IsPutSo : Option (List ℕ) → Option (List ℕ) → List ℕ → Status → (SinkRose : Type 0) → Status → Type 0
-IsPutSo before now text status SinkRose result =
-    ((result ≡ status) × Adds before text now)
-    ⊎ ((result ≡ Fault) × SinkRose × (front : List ℕ) × IsFront front text × Adds before front now)
-
--- What the sink has taken by the end of what ends with a status and a text of this kind: the text, or a front of one where the sink failed. Where no memory
--- was left, nothing was taken, or a front of this kind.
-abbrev pub Puts : (Status → List ℕ → Type 0) → (List ℕ → Type 0) → Option (List ℕ) → Option (List ℕ) → (SinkRose : Type 0) → Status → Type 0
-Puts Ended Left before now SinkRose Fault = SinkRose × (front : List ℕ) × IsCutOf Ended front × Adds before front now
-Puts Ended Left before now SinkRose NoMemory = (now ≡ before) ⊎ ((front : List ℕ) × Left front × Adds before front now)
-Puts Ended Left before now SinkRose Refused = ⊥
-Puts Ended Left before now SinkRose status = (text : List ℕ) × Ended status text × Adds before text now
-
--- no front
-abbrev pub NoFront : List ℕ → Type 0
-NoFront front = ⊥
 
 -- What the sink has taken by the end of verifying a file: the text of a list of verdicts, or a front of one where the sink failed or no memory was left.
 abbrev pub Streams : List RuleKind → File → ℕ → Option (List ℕ) → Option (List ℕ) → (SinkRose : Type 0) → Status → Type 0

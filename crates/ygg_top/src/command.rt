@@ -6,7 +6,6 @@ ghost use Rattle.ygg_top.specs.Refusing.{most_bytes};
 ghost use Rattle.ygg_top.specs.Words.{most_operations};
 ghost use Rattle.ygg_top.specs.Ending.{
   Reports,
-  IsPutSo,
   IsAnswer,
   IsAnswerFor,
   IsAnswerMade,
@@ -23,12 +22,12 @@ ghost use Rattle.ygg_top.specs.Ending.{
 
 use crate::answer::CommandEnd;
 use crate::file::{file_of, printed};
-use crate::finding::put;
 use crate::help::{HELP, VERSION};
-use crate::words::{USUAL_BUDGET, budget, file_after, is_alone, operations, with_budget_after};
+use crate::words::{USUAL_BUDGET, budget, is_alone, operations, with_budget_after, word_after};
 use crate::{counting, verdict};
 use std::alloc::Global;
 use ygg_base::{Fetch, Library, Reason, Refusal, Refuse, Sink, Status, Text};
+use ygg_report::put_all;
 use ygg_rules::{Book, RuleBook};
 use ygg_yard::make;
 
@@ -77,17 +76,6 @@ fn run<B: Book, L: Library, K: Sink>(
     }
 }
 
-/// Prints the text, and ends with the status; or with a fault, where the sink fails.
-fn put_all<K: Sink>(sink: &mut K, text: &[u8], status: Status) -> Status
-    ensures told { IsPutSo (K.taken sink.old) (K.taken sink.new) text.now status (Rose (K.faults sink.old) (K.faults sink.new)) result }
-    ensures later { K.faults sink.old ≤ K.faults sink.new }
-{
-    match put(sink, text) {
-        Ok(()) => status,
-        Err(fault) => fault,
-    }
-}
-
 /// What the words ask for, over the library.
 fn answer<L: Library>(alloc: Global, words: &[Text], library: &mut L) -> CommandEnd
     ensures told { (kinds : List RuleKind) → IsAnswer kinds words.now (L.files library.old) result }
@@ -101,16 +89,16 @@ fn answer<L: Library>(alloc: Global, words: &[Text], library: &mut L) -> Command
     if is_alone(words, b"--version") {
         return done(alloc, VERSION);
     }
-    if let Some(name) = file_after(words, b"verify") {
+    if let Some(name) = word_after(words, b"verify") {
         return verify(alloc, name, USUAL_BUDGET, library);
     }
     if let Some((name, word)) = with_budget_after(words, b"verify") {
         return verify_within(alloc, name, word, library);
     }
-    if let Some(name) = file_after(words, b"print") {
+    if let Some(name) = word_after(words, b"print") {
         return print(alloc, name, library);
     }
-    if let Some(word) = file_after(words, b"demo") {
+    if let Some(word) = word_after(words, b"demo") {
         return demo(alloc, word);
     }
     refused(alloc, Reason::Words.at(0, 0))

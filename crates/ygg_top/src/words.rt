@@ -3,7 +3,7 @@ ghost use Rattle.std.specs.Fmt.{decimal};
 ghost use Rattle.std.specs.Option.{option_copied};
 ghost use Rattle.ygg_top.specs.Words.{
   is_alone as alone,
-  file_after as file_named,
+  word_after as word_named,
   with_budget_after as budget_named,
   IsNumber,
   IsNoNumber,
@@ -34,9 +34,9 @@ pub fn is_alone(words: &[Text], word: &[u8]) -> bool
     }
 }
 
-/// The file, or other word, that stands alone after this word, where one does.
-pub fn file_after<'a>(words: &'a [Text], word: &[u8]) -> Option<&'a Text>
-    ensures { option_copied result ≡ file_named word.now words.now }
+/// The word that stands alone after this one, where one does: a file, or a number.
+pub fn word_after<'a>(words: &'a [Text], word: &[u8]) -> Option<&'a Text>
+    ensures { option_copied result ≡ word_named word.now words.now }
 {
     match words {
         [command, file] => {

@@ -14,16 +14,16 @@ returns-in-Some-with_budget_after-clause-told g c kinds =
     budget_asked kinds (g.L.Library.files c.args.library.now) c.args.words.now c.in-Some-with_budget_after.name.now c.in-Some-with_budget_after.word.now
     c.verify_within.result (search rules) (search rules) (search rules) (search rules) (c.verify_within.ensures.told kinds)
 
-pub returns-in-Some-file_after-clause-told : goal.returns-in-Some-file_after-clause-told
-returns-in-Some-file_after-clause-told g c kinds =
-    print_asked kinds (g.L.Library.files c.args.library.now) c.args.words.now c.in-Some-file_after.name.now c.print.result
+pub returns-in-Some-word_after-clause-told : goal.returns-in-Some-word_after-clause-told
+returns-in-Some-word_after-clause-told g c kinds =
+    print_asked kinds (g.L.Library.files c.args.library.now) c.args.words.now c.in-Some-word_after.name.now c.print.result
     (search rules) (search rules) (search rules) (search rules) (search rules) (c.print.ensures.told kinds)
 
-pub returns-in-Some-file_after-2-clause-told : goal.returns-in-Some-file_after-2-clause-told
-returns-in-Some-file_after-2-clause-told g c kinds =
-    demo_asked kinds (g.L.Library.files c.args.library.now) c.args.words.now c.in-Some-file_after-2.word.now c.demo.result
+pub returns-in-Some-word_after-2-clause-told : goal.returns-in-Some-word_after-2-clause-told
+returns-in-Some-word_after-2-clause-told g c kinds =
+    demo_asked kinds (g.L.Library.files c.args.library.now) c.args.words.now c.in-Some-word_after-2.word.now c.demo.result
     (search rules) (search rules) (search rules) (search rules) (search rules) (search rules) (c.demo.ensures kinds)
 
-pub returns-in-Some-file_after-2-clause-cause : goal.returns-in-Some-file_after-2-clause-cause
-returns-in-Some-file_after-2-clause-cause g c e =
-    absurd (never_asks [] (Demos [] c.in-Some-file_after-2.word.now) c.demo.result (c.demo.ensures []) e)
+pub returns-in-Some-word_after-2-clause-cause : goal.returns-in-Some-word_after-2-clause-cause
+returns-in-Some-word_after-2-clause-cause g c e =
+    absurd (never_asks [] (Demos [] c.in-Some-word_after-2.word.now) c.demo.result (c.demo.ensures []) e)

@@ -1,7 +1,7 @@
 -- Fronts of texts, and what a sink takes one thing after another.
 use Rattle.std.proofs.Common.{◌≡◌, ℕ, List, [], ◌++◌, Option, Some, None, refl, sym, ap, ◌∙◌, append_assoc}
 use Rattle.std.proofs.lemmas.List.{append-nil}
-use Rattle.ygg_top.specs.Ending.{Adds, IsFront}
+use Rattle.ygg_report.specs.Putting.{Adds, IsFront}
 
 pub adds_more : (before middle now : Option (List ℕ)) (text more : List ℕ) → Adds before text middle → Adds middle more now → Adds before (text ++ more) now
 adds_more None middle now text more a b = tt

@@ -6,7 +6,7 @@ use Rattle.ygg_base.specs.declared.outside.Moved.TheVariants as moved
 use Rattle.ygg_base.specs.declared.status.Status.{Status}
 use Rattle.ygg_base.specs.declared.status.Status.TheVariants.{Done, Refuted, Refused, Undecided, Fault, NoMemory}
 use Rattle.ygg_base.specs.Outside.{PutGives}
-use Rattle.ygg_top.specs.Ending.{Adds, IsPut, Puts}
+use Rattle.ygg_report.specs.Putting.{Adds, IsPut, Puts}
 
 -- a put that failed has printed a front of the text
 pub cut_short : (before now : Option (List ℕ)) (text : List ℕ) (Rose : Type 0) → PutGives before text moved.Failed now → Rose →
