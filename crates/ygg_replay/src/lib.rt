@@ -1,7 +1,6 @@
 //! Replays of schedules: what an obligation asks of a schedule is run on values, on the layer's blocks and on what the layer is specified over.
 #![tactic(auto)]
 
-mod asking;
 mod conclusion;
 mod ends;
 mod formulas;
@@ -13,6 +12,5 @@ mod site;
 mod spec;
 mod zeros;
 
-pub use asking::is_asked;
-pub use schedule::{Case, Halt, Kind, Replayed, Schedule};
+pub use schedule::Replayed;
 pub use showing::replay;

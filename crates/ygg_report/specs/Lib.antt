@@ -1,3 +1,4 @@
+pub mod Picks
 pub mod Lines
 pub mod Putting
 pub mod Tallies

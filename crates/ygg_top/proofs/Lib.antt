@@ -1,5 +1,6 @@
 mod Canonical
 mod Found
+mod Endings
 mod Judging
 mod Verdicts
 mod Reporting

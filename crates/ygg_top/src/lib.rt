@@ -4,9 +4,11 @@
 mod answer;
 mod command;
 mod counting;
+mod fetching;
 mod file;
 mod finding;
 mod help;
+mod replaying;
 mod verdict;
 mod words;
 
