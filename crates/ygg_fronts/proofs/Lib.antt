@@ -1,0 +1,5 @@
+pub mod Fronting
+pub mod Acting
+pub mod Disk
+pub mod Spec
+pub mod NamedRuns

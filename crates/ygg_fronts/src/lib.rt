@@ -1,0 +1,4 @@
+//! The picks that a run with picks by place takes, from the front: in the order in which it takes them.
+#![tactic(auto)]
+
+pub mod law;

@@ -1,0 +1,67 @@
+-- Each obligation whose term is 0 in an environment is violated by the schedule that the environment names.
+use Rattle.std.proofs.Common.{◌≡◌, ℕ, false, List, []}
+use Rattle.ygg_syntax.specs.declared.tree.Def.{Def}
+use Rattle.ygg_meaning.specs.Layer.{ClosedLayer}
+use Rattle.ygg_meaning.specs.Obligations.{Obligation, Init, CallOf, CutOf, TickOf, CutTickOf, Idle, Again}
+use Rattle.ygg_meaning.specs.Refines.{Below, machine_below}
+use Rattle.ygg_meaning.specs.Violates.{Violates}
+use Rattle.ygg_rules.specs.declared.rule.RuleKind.{RuleKind}
+use Rattle.ygg_bank.specs.Nodes.{Extends}
+use Rattle.ygg_bank.specs.Values.{Inputs, Values, Fits}
+use Rattle.ygg_bank.specs.declared.node.Node.{Node}
+use Rattle.ygg_sym_runs.specs.Meaning.{is_set}
+use Rattle.ygg_sym_fronts.proofs.AnyLayer.{runs_are_named, loss_is_named}
+use Rattle.ygg_sym_fronts.proofs.Others.{start_named}
+use Rattle.ygg_sym_fronts.specs.Laws.{OverTyped}
+use Rattle.ygg_sym_laws.specs.Means.{terms_of}
+use Rattle.ygg_oblige_terms.specs.Layers.{LayerTyped}
+use Rattle.ygg_oblige_terms.specs.Numbers.{numbers_of}
+use Rattle.ygg_oblige_terms.specs.States.{starting}
+use Rattle.ygg_oblige_terms.specs.Terms.{term_made}
+use Rattle.ygg_oblige_laws.proofs.Frame.{Frame}
+use Rattle.ygg_oblige_laws.specs.LayerMeans.{LayerMeans}
+use Rattle.ygg_oblige_laws.specs.Parts.{PartsMean}
+use Rattle.ygg_oblige_schedules.specs.Schedules.{schedule_of}
+use Rattle.ygg_oblige_schedules.proofs.Falls as falls
+use Rattle.ygg_oblige_schedules.proofs.Known.{Known}
+use Rattle.ygg_oblige_schedules.proofs.Others as others
+use Rattle.ygg_oblige_schedules.proofs.Runs as runs
+
+-- what is known of a typed layer
+pub over_typed : (defs : List Def) (G : Below) (L : ClosedLayer) → LayerTyped defs G L → OverTyped defs G L
+over_typed defs G L typed = record { definitions = typed.definitions; functions = typed.functions; below = typed.below; low_is = typed.low_is }
+
+module _ (kinds : List RuleKind) (defs : List Def) (G : Below) (L : ClosedLayer) (parts : PartsMean kinds defs G L) (typed : LayerTyped defs G L)
+    (means : LayerMeans kinds defs G L) (number : ℕ) (before : List Node) (start : ℕ) (nodes final : List Node)
+    (frame : Frame kinds defs L number before start nodes final) (inputs : Inputs) (v : Values) (h : Fits inputs v final) where
+  over : OverTyped defs G L
+  over = over_typed defs G L typed
+
+  pub violated : (o : Obligation) → Known kinds defs G L o →
+      let out = term_made kinds (terms_of kinds defs) L G (starting kinds (terms_of kinds defs) L number before).value o (numbers_of G L o start) nodes in
+      Extends out.nodes final → is_set v out.value ≡ false → Violates L (machine_below G) o (schedule_of G L inputs number o start)
+  violated Init k g unset =
+      others.init_violated kinds defs G L parts typed means (runs_are_named kinds defs G L L.layer.recover L.layer.memory [] over typed.recover_typed) number
+      before start nodes final frame inputs v h (start_named kinds defs G L over) k.runs g unset
+  violated (CallOf o) k g unset =
+      runs.call_violated kinds defs G L parts number before start nodes final frame inputs v h o
+      (runs.refuted_so kinds defs G L parts number before start nodes final frame inputs v h (CallOf o)
+      (runs.call_case kinds defs G L o k.means k.runs) g unset)
+  violated (CutOf o) k g unset =
+      let waking = runs_are_named kinds defs G L L.layer.recover L.layer.memory [] over typed.recover_typed in
+      falls.cut_violated kinds defs G L parts typed means waking number before start nodes final frame inputs v h o
+      (falls.refuted_so kinds defs G L parts typed means waking number before start nodes final frame inputs v h (CutOf o)
+      (falls.cut_case kinds defs G L o k.means k.falls) g unset)
+  violated (TickOf t) k g unset =
+      runs.tick_violated kinds defs G L parts number before start nodes final frame inputs v h t
+      (runs.refuted_so kinds defs G L parts number before start nodes final frame inputs v h (TickOf t)
+      (runs.tick_case kinds defs G L t k.means k.runs) g unset)
+  violated (CutTickOf t) k g unset =
+      let waking = runs_are_named kinds defs G L L.layer.recover L.layer.memory [] over typed.recover_typed in
+      falls.tick_cut_violated kinds defs G L parts typed means waking number before start nodes final frame inputs v h t
+      (falls.refuted_so kinds defs G L parts typed means waking number before start nodes final frame inputs v h (CutTickOf t)
+      (falls.tick_cut_case kinds defs G L t k.means k.falls) g unset)
+  violated Idle k g unset =
+      others.idle_violated kinds defs G L parts typed means k.runs number before start nodes final frame inputs v h (loss_is_named kinds defs G L over) g unset
+  violated Again k g unset =
+      others.again_violated kinds defs G L parts typed means k.runs number before start nodes final frame inputs v h k.falls g unset

@@ -1,0 +1,60 @@
+-- The values of a schedule are those that the inputs give, and stops that are set.
+use Rattle.std.proofs.Common.{◌≡◌, ℕ, true, List, [], ◌∷◌, map, Option, Some, None, refl, sym, ap, ◌∙◌}
+use Rattle.std.proofs.lemmas.List.Elements.{All-nil}
+use Rattle.std.specs.Prelude.{is_some}
+use Rattle.ygg_value.specs.Shapes.{IsShape}
+use Rattle.ygg_value.specs.declared.row.Value.{Value}
+use Rattle.ygg_syntax.specs.declared.tree.Declared.{Declared}
+use Rattle.ygg_type_sound.proofs.Tests.{right}
+use Rattle.ygg_meaning.specs.Environments.{Env, bind}
+use Rattle.ygg_meaning.specs.Layer.{ClosedLayer}
+use Rattle.ygg_meaning.specs.Obligations.{Halt, Schedule, Obligation}
+use Rattle.ygg_meaning.specs.Refines.{Below}
+use Rattle.ygg_meaning.specs.Shapes.{shape_in, fits, values_fit}
+use Rattle.ygg_bank.specs.Values.{Inputs, Values, Fits}
+use Rattle.ygg_bank.specs.declared.node.Node.{Node}
+use Rattle.ygg_shape_cells.specs.Terms.{worth}
+use Rattle.ygg_shape_cells.specs.declared.terms.SymValue.{SymValue}
+use Rattle.ygg_sym_below.proofs.Blocks.{values_worth}
+use Rattle.ygg_oblige_terms.specs.Layers.{ShapesKept}
+use Rattle.ygg_oblige_terms.specs.Numbers.{numbers_of, arguments_of}
+use Rattle.ygg_oblige_terms.specs.States.{Starting}
+use Rattle.ygg_oblige_pieces.specs.Inputs.{given_env}
+use Rattle.ygg_oblige_pieces.specs.States.{given_stand}
+use Rattle.ygg_oblige_pieces.specs.Worth.{LowIs, trio_worth}
+use Rattle.ygg_oblige_schedules.specs.Schedules.{values_of, schedule_from, schedule_of}
+
+-- the values that names were bound to
+pub values_again : (ds : List Declared) (ys : List Value) → values_fit ds ys ≡ true → values_of (bind ds ys) ≡ ys
+values_again [] [] e = refl
+values_again [] (y ∷ ys) e = absurd (cc)
+values_again (d ∷ ds) [] e = absurd (cc)
+values_again (d ∷ ds) (y ∷ ys) e = ap (λ zs. y ∷ zs) (values_again ds ys (right (fits (shape_in d.shape) y) (values_fit ds ys) e))
+
+-- a schedule with these variables and arguments
+abbrev pub saying : Env → List Value → Schedule
+saying vars args = record { state = vars; memory = []; low = []; args = args; stop = None; picks = []; wake = []; other = [] }
+
+pub no_shapes : ShapesKept []
+no_shapes = All-nil (λ (d : Declared). IsShape (shape_in d.shape))
+
+-- a stop that there is
+pub record IsStop (s : Option Halt) : Type 0 where
+  pub stop : Halt
+  pub is : s ≡ Some stop
+
+pub some_stop : (s : Option Halt) → is_some s ≡ true → IsStop s
+some_stop None e = absurd (cc)
+some_stop (Some stop) e = record { stop = stop; is = refl }
+
+-- the schedule with the values that the terms are worth is that with the values that the inputs give
+pub schedule_same : (G : Below) (L : ClosedLayer) (inputs : Inputs) (v : Values) (number : ℕ) (o : Obligation) (start : ℕ) (S : Starting) (xs : List SymValue)
+    (nodes : List Node) → Fits inputs v nodes → LowIs v (arguments_of o) (given_env inputs start (arguments_of o)) nodes xs →
+    trio_worth v L S.from ≡ given_stand inputs number L →
+    schedule_from G L inputs (numbers_of G L o start) o (trio_worth v L S.from) (map (worth v) xs) ≡ schedule_of G L inputs number o start
+schedule_same G L inputs v number o start S xs nodes fit given from =
+    let n = numbers_of G L o start in
+    let ys = map (worth v) xs in
+    let again : ys ≡ values_of (given_env inputs start (arguments_of o)) =
+    sym (values_again (arguments_of o) ys (values_worth inputs v nodes (arguments_of o) xs fit given.shaped)) ∙ ap values_of given.is in
+    ap (λ s. schedule_from G L inputs n o s ys) from ∙ ap (λ zs. schedule_from G L inputs n o (given_stand inputs number L) zs) again

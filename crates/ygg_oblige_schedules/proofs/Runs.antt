@@ -1,0 +1,183 @@
+-- An environment in which the term of an obligation is 0 that speaks of a whole run names a schedule that violates it.
+use Rattle.std.proofs.Common.{◌≡◌, ℕ, true, false, List, [], map, refl, sym, ◌∙◌, subst}
+use Rattle.std.specs.Prelude.{IsTrue, Option}
+use Rattle.ygg_value.specs.declared.shape.Shape.{Shape}
+use Rattle.ygg_syntax.specs.declared.tree.Def.{Def}
+use Rattle.ygg_syntax.specs.declared.tree.Operation.{Operation}
+use Rattle.ygg_syntax.specs.declared.tree.Tick.{Tick}
+use Rattle.ygg_meaning.specs.Environments.{bind}
+use Rattle.ygg_meaning.specs.Layer.{ClosedLayer}
+use Rattle.ygg_meaning.specs.Obligations.{Schedule, Obligation, CallOf, TickOf, NoPicksPass}
+use Rattle.ygg_meaning.specs.Refines.{Below, machine_below}
+use Rattle.ygg_meaning.specs.Related.{shaped}
+use Rattle.ygg_meaning.specs.Shapes.{values_fit}
+use Rattle.ygg_meaning.specs.Violates.{Violates, most, spec_after, passes}
+use Rattle.ygg_type_progress.specs.Blocks.{is_returned}
+use Rattle.ygg_rules.specs.declared.rule.RuleKind.{RuleKind}
+use Rattle.ygg_bank.proofs.Meaning.{fits_fewer}
+use Rattle.ygg_bank.proofs.Widths.{extends_both}
+use Rattle.ygg_bank.specs.Makes.{Out}
+use Rattle.ygg_bank.specs.Nodes.{Extends}
+use Rattle.ygg_bank.specs.Values.{Inputs, Values, Fits}
+use Rattle.ygg_bank.specs.declared.node.Id.{Id}
+use Rattle.ygg_bank.specs.declared.node.Node.{Node}
+use Rattle.ygg_shape_cells.specs.Terms.{worth}
+use Rattle.ygg_shape_cells.specs.declared.terms.SymValue.{SymValue}
+use Rattle.ygg_sym_runs.specs.Meaning.{answer_worth, is_set}
+use Rattle.ygg_sym_below.proofs.Blocks.{values_worth}
+use Rattle.ygg_sym_below.specs.Laws.{picked_by}
+use Rattle.ygg_sym_below.specs.Lows.{low_worth}
+use Rattle.ygg_sym_laws.specs.Means.{terms_of, Begins, WholeMeans}
+use Rattle.ygg_sym_fronts.specs.Named.{RunSo, RunNamed}
+use Rattle.ygg_oblige_terms.specs.Layers.{ShapesKept}
+use Rattle.ygg_oblige_terms.specs.Numbers.{Numbers, numbers_of, arguments_of, block_of}
+use Rattle.ygg_oblige_terms.specs.States.{Starting, fresh_all}
+use Rattle.ygg_oblige_terms.specs.Terms.{Finish, ran}
+use Rattle.ygg_oblige_pieces.specs.Inputs.{given_env}
+use Rattle.ygg_oblige_pieces.specs.States.{given_stand, StartsSo}
+use Rattle.ygg_oblige_pieces.specs.Steps.{HasStep, variables_of, ObligationTyped, AnswerKept, StepIs, end_worth}
+use Rattle.ygg_oblige_pieces.specs.Worth.{LowIs, trio_worth}
+use Rattle.ygg_oblige_laws.proofs.Digits.{refuted, both_hold}
+use Rattle.ygg_oblige_laws.proofs.Frame.{Frame, states, starts_so, ready_so}
+use Rattle.ygg_oblige_laws.proofs.RunTerms.{run_made}
+use Rattle.ygg_oblige_laws.proofs.Schedules.{reads}
+use Rattle.ygg_oblige_laws.proofs.Setting.{ready_wider}
+use Rattle.ygg_oblige_laws.proofs.Shows.{related_there}
+use Rattle.ygg_oblige_laws.proofs.Wholes.{begun, runs_give, runs_grow, run_fit}
+use Rattle.ygg_oblige_laws.specs.LayerMeans.{TickMeans}
+use Rattle.ygg_oblige_laws.specs.ObligationMeans.{OperationKnown}
+use Rattle.ygg_oblige_laws.specs.Parts.{PartsMean}
+use Rattle.ygg_oblige_schedules.specs.Schedules.{whole_from, schedule_of}
+use Rattle.ygg_oblige_schedules.proofs.Given.{saying, no_shapes, schedule_same}
+
+-- an obligation that speaks of a whole run
+pub record RunCase (kinds : List RuleKind) (defs : List Def) (G : Below) (L : ClosedLayer) (o : Obligation) : Type 0 where
+  pub shape : Option Shape
+  pub whole : WholeMeans kinds defs G L (block_of L o) L.layer.memory (arguments_of o) shape
+  pub has : HasStep o
+  pub typed : ObligationTyped defs G L o
+  pub kept : (v : Values) (end : Finish) → IsTrue (is_returned (block_of L o).answer shape (answer_worth v end.answer)) → AnswerKept v o end
+  pub state : L.layer.state ≡ variables_of L o
+  pub args_shapes : ShapesKept (arguments_of o)
+  pub some : (v : Values) (vars args : List SymValue) → (x : Schedule) × StepIs v L o vars args x
+  pub named : RunNamed kinds defs G L (block_of L o) L.layer.memory (arguments_of o)
+
+module _ (kinds : List RuleKind) (defs : List Def) (G : Below) (L : ClosedLayer) where
+  pub call_case : (o : Operation) → OperationKnown kinds defs G L o → RunNamed kinds defs G L o.implementation L.layer.memory o.arguments →
+      RunCase kinds defs G L (CallOf o)
+  call_case o known named = record {
+    shape = known.means.shape;
+    whole = known.means.whole;
+    has = tt;
+    typed = known.fits;
+    kept = λ v end r. known.means.answers (answer_worth v end.answer) r;
+    state = refl;
+    args_shapes = known.fits.shapes;
+    some = λ v vars args. (saying (low_worth v L.layer.state vars) (map (worth v) args), (refl, refl));
+    named = named;
+  }
+
+  pub tick_case : (t : Tick) → TickMeans kinds defs G L t → RunNamed kinds defs G L t.body L.layer.memory [] → RunCase kinds defs G L (TickOf t)
+  tick_case t known named = record {
+    shape = known.shape;
+    whole = known.whole;
+    has = tt;
+    typed = tt;
+    kept = λ v end r. tt;
+    state = refl;
+    args_shapes = no_shapes;
+    some = λ v vars args. (saying (low_worth v L.layer.state vars) [], refl);
+    named = named;
+  }
+
+module _ (kinds : List RuleKind) (defs : List Def) (G : Below) (L : ClosedLayer) (parts : PartsMean kinds defs G L) (number : ℕ) (before : List Node)
+    (start : ℕ) (nodes final : List Node) (frame : Frame kinds defs L number before start nodes final) (inputs : Inputs) (v : Values)
+    (h : Fits inputs v final) where
+  abbrev first : Out Starting
+  first = states kinds defs G L parts number before start nodes final frame
+
+  abbrev S : Starting
+  S = first.value
+
+  module _ (o : Obligation) where
+    abbrev n : Numbers
+    n = numbers_of G L o start
+
+    abbrev args : Out (List SymValue)
+    args = fresh_all kinds start (arguments_of o) nodes
+
+    abbrev out : Out Id
+    out = run_made kinds defs G L o start S nodes
+
+    abbrev end : Finish
+    end = (ran kinds (terms_of kinds defs) L G n.run (block_of L o) S.from.memory (arguments_of o) args.value S.from.low args.nodes).value
+
+    -- the relation holds, and the run with the picks that the inputs name ends where no step of the specification passes
+    pub record Refuted : Type 0 where
+      pub related : is_set v S.related ≡ true
+      pub starts : StartsSo v L (given_stand inputs number L) first.nodes S
+      pub fit : Fits inputs v args.nodes
+      pub given : LowIs v (arguments_of o) (given_env inputs start (arguments_of o)) args.nodes args.value
+      pub run : RunSo kinds defs G L (block_of L o) L.layer.memory (arguments_of o) v (begun S args.value) (picked_by inputs n.run) end
+      pub fails : (x : Schedule) → StepIs v L o S.from.vars args.value x →
+          NoPicksPass (most L o) (λ picks. passes L o (end_worth v L end true) (spec_after L o x picks))
+
+    pub refuted_so : RunCase kinds defs G L o → Extends out.nodes final → is_set v out.value ≡ false → Refuted
+    refuted_so k g unset =
+        let ga = parts.fresh.grows kinds start (arguments_of o) nodes in
+        let go = runs_grow kinds defs G L parts inputs v o (block_of L o) k.shape k.whole k.has k.typed (k.kept v) k.state n S args.value args.nodes in
+        let gf = extends_both nodes args.nodes final ga (extends_both args.nodes out.nodes final go g) in
+        let ho = fits_fewer inputs v out.nodes final g h in
+        let ha = fits_fewer inputs v args.nodes out.nodes go ho in
+        let given = parts.fresh.gives inputs v kinds start (arguments_of o) nodes k.args_shapes frame.below ha in
+        let ready = ready_wider L S nodes args.nodes ga (ready_so kinds defs G L parts number before start nodes final frame inputs v gf h) in
+        let st = k.some v S.from.vars args.value in
+        let r = runs_give kinds defs G L parts inputs v o (block_of L o) k.shape k.whole k.has k.typed (k.kept v) k.state n S args.value args.nodes ready
+        given.shaped st.0 st.1 ho in
+        let z = refuted (is_set v S.related) (is_set v r.some) (sym r.is ∙ unset) in
+        let begins : Begins kinds defs G L (block_of L o) L.layer.memory (arguments_of o) args.nodes (begun S args.value) =
+        record { vars_are = ready.from.memory; args_are = given.shaped; low_are = ready.from.low } in
+        let ran_fit = run_fit kinds defs G L parts inputs v o (block_of L o) k.shape k.whole k.has k.typed (k.kept v) k.state n S args.value args.nodes ho in
+        record {
+          related = z.first;
+          starts = starts_so kinds defs G L parts number before start nodes final frame inputs v gf h;
+          fit = ha;
+          given = given;
+          run = k.named inputs v n.run (begun S args.value) args.nodes begins ran_fit;
+          fails = λ x step. (r.passes x step).none z.second;
+        }
+
+  pub call_violated : (o : Operation) → Refuted (CallOf o) → Violates L (machine_below G) (CallOf o) (schedule_of G L inputs number (CallOf o) start)
+  call_violated o r =
+      let xs = (args (CallOf o)).value in
+      let ys = map (worth v) xs in
+      let s = related_there v L (given_stand inputs number L) first.nodes S r.starts r.related in
+      let x = whole_from G L inputs (n (CallOf o)) o.implementation (trio_worth v L S.from) (bind o.arguments ys) ys in
+      let there : Violates L (machine_below G) (CallOf o) x = record {
+        end = end_worth v L (end (CallOf o)) true;
+        meets = record {
+          shapes = both_hold (shaped L x.state x.memory x.low) (values_fit o.arguments ys) s.shapes
+              (values_worth inputs v (args (CallOf o)).nodes o.arguments xs r.fit r.given.shaped);
+          hypotheses = s.holds;
+          reached = record { taken = x.picks; run = r.run.run; read = reads x.picks };
+        };
+        fails = r.fails x (refl, refl);
+      } in
+      subst (λ z. Violates L (machine_below G) (CallOf o) z)
+      (schedule_same G L inputs v number (CallOf o) start S xs (args (CallOf o)).nodes r.fit r.given (r.starts.from r.related)) there
+
+  pub tick_violated : (t : Tick) → Refuted (TickOf t) → Violates L (machine_below G) (TickOf t) (schedule_of G L inputs number (TickOf t) start)
+  tick_violated t r =
+      let s = related_there v L (given_stand inputs number L) first.nodes S r.starts r.related in
+      let x = whole_from G L inputs (n (TickOf t)) t.body (trio_worth v L S.from) [] [] in
+      let there : Violates L (machine_below G) (TickOf t) x = record {
+        end = end_worth v L (end (TickOf t)) true;
+        meets = record {
+          shapes = s.shapes;
+          hypotheses = s.holds;
+          reached = record { taken = x.picks; run = r.run.run; read = reads x.picks };
+        };
+        fails = r.fails x refl;
+      } in
+      subst (λ z. Violates L (machine_below G) (TickOf t) z)
+      (schedule_same G L inputs v number (TickOf t) start S [] (args (TickOf t)).nodes r.fit r.given (r.starts.from r.related)) there
