@@ -1,0 +1,13 @@
+pub mod Flaws
+pub mod Places
+pub mod Sizes
+pub mod Lines
+pub mod Words
+pub mod Left
+pub mod Numbers
+pub mod Headers
+pub mod Marks
+pub mod Reading
+pub mod States
+pub mod Printing
+pub mod Laws

@@ -1,0 +1,12 @@
+//! How literals, clauses and steps of logs are written. Each call adds to the end of a text, so that a long log need not stand in one text.
+//!
+//! ```text
+//! c 1 -2 0 3 4 0
+//! ```
+//!
+//! is the step that derives the clause of 1 and -2 from the clauses 3 and 4.
+#![tactic(auto)]
+
+mod lines;
+
+pub use lines::{put_clause, put_literals, put_number, put_step};
