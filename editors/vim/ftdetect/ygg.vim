@@ -1,0 +1,2 @@
+" Layer files of ygg are known by their ending.
+autocmd BufRead,BufNewFile *.ygg setfiletype ygg

@@ -1,0 +1,135 @@
+#!/usr/bin/env python3
+"""What documents show, checked: commands with their output, parts of files, and fragments of the language with their refusals.
+
+Run as a program it says what is wrong that can be seen without ./ygg, and ends with 1 where something is: links that lead nowhere, parts that
+aren't in the file that the next command names, and a gallery that doesn't say what tests/gallery.txt says. tests/run takes `commands` and
+`fragments` from here, and runs them.
+
+A block is a run of indented lines. A block whose first line is `$ ./ygg WORD ..` is a command, and the lines below are its output. In the pages
+of SHOWING every other block is a part of the file that the next command names. A fragment stands in a frame of tests/frames.txt: a block below a line that
+ends in ``In `NAME`:`` is typed in that frame, each line by itself where the frame is `relate`; below a line that ends in ``Refused in `NAME`:`` each
+fragment ends with a line that has a mark `^ N` under the token at which N is the refusal. Lines between three backquotes are pictures.
+"""
+import pathlib
+import re
+import sys
+
+TOP = pathlib.Path(__file__).resolve().parent.parent
+PAGES = ["README.md", "examples/README.md", *sorted(f"docs/{path.name}" for path in (TOP / "docs").glob("*.md"))]
+SHOWING = ["README.md", "docs/TUTORIAL.md", "docs/RELATIONS.md"]
+STATUSES = {"holds": 0, "verified": 0, "refuted": 1, "refused": 2, "undecided": 3}
+
+
+def blocks(page):
+    """The blocks of a page, each as the number of its first line, the last plain line above it, and its lines."""
+    above, inside, first, is_picture, was_blank = "", [], 0, False, True
+    for number, line in enumerate([*(TOP / page).read_text().splitlines(), ""], 1):
+        if line.startswith("```"):
+            is_picture = not is_picture
+        elif not is_picture and line.startswith("    ") and line.strip() and (inside or was_blank):
+            first = first if inside else number
+            inside.append(line[4:])
+            continue
+        elif line.strip() and not is_picture:
+            above = line
+        if inside:
+            yield first, above, inside
+            inside = []
+        was_blank = not line.strip()
+
+
+def commands(page):
+    """The commands of a page: the line's number, the words, the output, and the status that its last line tells."""
+    for number, _, lines in blocks(page):
+        if lines[0].startswith("$ ./ygg "):
+            output = "".join(line + "\n" for line in lines[1:])
+            yield number, lines[0].split()[2:], output, STATUSES.get(lines[-1].split()[0], 0)
+
+
+def fragments(page):
+    """The fragments of a page: the line's number, the text of a whole file, and its refusal, or None where it is typed."""
+    framed = (TOP / "tests" / "frames.txt").read_text().splitlines()
+    frames = {line.split(" ", 2)[1]: line.split(" ", 2)[2].split("HERE") for line in framed if line.startswith("= ")}
+    for number, above, lines in blocks(page):
+        found = re.search(r"(?:^|\W)(In|Refused in) `(\w+)`:$", above)
+        if not found or lines[0].startswith("$"):
+            continue
+        head, tail = frames[found[2]]
+        head, tail, part = head and head + "\n", tail and "\n" + tail, []
+        for offset, line in enumerate(lines):
+            mark = re.fullmatch(r" *\^ (\d+)", line)
+            if mark:
+                place = f"{head.count(chr(10)) + len(part)}:{line.index('^') + 1}"
+                yield number + offset, head + "\n".join(part) + tail, f"refused {mark[1]} {place}\n"
+                part = []
+                continue
+            part.append(line)
+            if found[1] == "In" and found[2] == "relate":
+                yield number + offset, head + line + tail, None
+                part = []
+        if part and found[1] == "In":
+            yield number, head + "\n".join(part) + tail, None
+        elif part:
+            yield number, head + "\n".join(part) + tail, "no mark stands below this"
+
+
+def misplaced(page):
+    """Parts of files in a page that the file of the next command doesn't have."""
+    waiting = []
+    for number, _, lines in blocks(page):
+        if not lines[0].startswith("$ "):
+            waiting.append((number, "\n".join(lines) + "\n"))
+        elif lines[0].startswith("$ ./ygg "):
+            name = lines[0].split()[3]
+            text = (TOP / name).read_text()
+            yield from (f"{page}:{place}: no part of {name}" for place, part in waiting if "\n" + part not in "\n" + text)
+            waiting = []
+
+
+def astray(page):
+    """Links of a page that lead nowhere."""
+    text = (TOP / page).read_text()
+    for target in re.findall(r"\]\(([^)\s]+)\)", text):
+        name, _, heading = target.partition("#")
+        path = (TOP / page).parent / name if name else TOP / page
+        if not path.exists():
+            yield f"{page}: no file {target}"
+        elif heading:
+            headings = re.findall(r"(?m)^#+ (.*)$", path.read_text())
+            if heading not in [re.sub(r"[^\w\- ]", "", one.lower()).replace(" ", "-") for one in headings]:
+                yield f"{page}: no heading {target}"
+
+
+def untold():
+    """What examples/README.md says of a file's failing obligations, where tests/gallery.txt says otherwise."""
+    told = {}
+    for item in re.split(r"(?m)^ *- (?=\[`)", (TOP / "examples" / "README.md").read_text())[1:]:
+        name = re.match(r"\[`([^`]*)`\]", item)[1]
+        head = item.partition(": ")[0]
+        told[name] = re.findall(r"`(\w+\.\w+(?:\.\w+)?)`", head.partition(" fails ")[2])
+    for part in (TOP / "tests" / "gallery.txt").read_text().split("\n= ")[1:]:
+        name, _, lines = part.partition("\n")
+        fails = [line[6:] for line in lines.splitlines() if line.startswith("fails ")]
+        if told.pop(name, None) != fails:
+            yield f"examples/README.md: {name} fails {fails}"
+    yield from (f"examples/README.md: {name} isn't in tests/gallery.txt" for name in told)
+
+
+def faults():
+    """All that is wrong and can be seen without ./ygg."""
+    for page in PAGES:
+        yield from astray(page)
+    for page in SHOWING:
+        yield from misplaced(page)
+    yield from untold()
+
+
+def main():
+    found = list(faults())
+    for line in found:
+        print(line)
+    return 1 if found else 0
+
+
+if __name__ == "__main__":
+    sys.exit(main())
