@@ -1,6 +1,7 @@
 mod Canonical
 mod Found
-mod Endings
+mod Printing
+mod Fronts
 mod Judging
 mod Verdicts
 mod Reporting

@@ -50,10 +50,9 @@ use Rattle.ygg_report.specs.Lines.{verdict_line, verified_line, refuted_line, un
 use Rattle.ygg_report.specs.Tallies.{finds_failed, finds_spent}
 use Rattle.ygg_report.specs.declared.verdict.Verdict as report
 use Rattle.ygg_report.specs.declared.verdict.Verdict.TheVariants as reports
-use Rattle.ygg_top.specs.declared.verdict.Summary.{Summary}
+use Rattle.ygg_top.specs.declared.verdict.Tally.{Tally}
 use Rattle.ygg_top.specs.Verdict.{Verified, AreTrue, text_by, status_by, last_line, lines_of, any_failed, any_spent, first_refuted}
-use Rattle.ygg_report.specs.Putting.{Adds, IsFront}
-use Rattle.ygg_top.specs.Ending.{IsCutVerdict, Streams}
+use Rattle.ygg_top.specs.Ending.{Adds, IsFront, IsCutVerdict, Streams}
 use Rattle.ygg_top.specs.Findings.{
   IsFound,
   AreFound,
@@ -72,8 +71,8 @@ use Rattle.ygg_top.specs.Findings.{
   status_of,
   last_text,
 }
-use Rattle.ygg_report.proofs.Fronts.{adds_more, adds_none, front_after, front_first, front_longer}
-use Rattle.ygg_report.proofs.Printing.{put_whole}
+use Rattle.ygg_top.proofs.Fronts.{adds_more, adds_none, front_after, front_first, front_longer}
+use Rattle.ygg_top.proofs.Printing.{put_whole}
 use Rattle.ygg_top.proofs.Judging.{names_of, completed, Whole, whole}
 use Rattle.ygg_top.proofs.Verdicts.{Proper, verified, verified_as}
 
@@ -134,9 +133,9 @@ spent_more [] v = or_none (finds_spent v)
 spent_more (w ∷ vs) v = ap (λ b. finds_spent w || b) (spent_more vs v) ∙ or_assoc (finds_spent w) (any_of finds_spent vs) (finds_spent v)
 
 -- nothing is reported yet
-pub none_reported : (nodes : List Node) (budget : ℕ) (all : List Obligation) (before : Option (List ℕ)) (summary : Summary) → summary.refuted ≡ None →
-    summary.spent ≡ false → IsReported nodes budget all before before 0 summary
-none_reported nodes budget all before summary r s = record {
+pub none_reported : (nodes : List Node) (budget : ℕ) (all : List Obligation) (before : Option (List ℕ)) (tally : Tally) → tally.refuted ≡ None →
+    tally.spent ≡ false → IsReported nodes budget all before before 0 tally
+none_reported nodes budget all before tally r s = record {
   found = [];
   counted = refl;
   are = tt;
@@ -147,12 +146,12 @@ none_reported nodes budget all before summary r s = record {
 }
 
 -- one more obligation is reported
-pub one_reported : (nodes : List Node) (budget : ℕ) (all : List Obligation) (before middle now : Option (List ℕ)) (count : ℕ) (summary more : Summary)
-    (next : Obligation) (v : report.Verdict) → IsReported nodes budget all before middle count summary → slice_get all count ≡ Some next →
+pub one_reported : (nodes : List Node) (budget : ℕ) (all : List Obligation) (before middle now : Option (List ℕ)) (count : ℕ) (tally more : Tally)
+    (next : Obligation) (v : report.Verdict) → IsReported nodes budget all before middle count tally → slice_get all count ≡ Some next →
     IsFound nodes next.term budget v → Adds middle (verdict_line v next.name) now →
-    more.refuted ≡ (if is_none summary.refuted && finds_failed v then Some count else summary.refuted) → more.spent ≡ (summary.spent || finds_spent v) →
+    more.refuted ≡ (if is_none tally.refuted && finds_failed v then Some count else tally.refuted) → more.spent ≡ (tally.spent || finds_spent v) →
     IsReported nodes budget all before now (count + 1) more
-one_reported nodes budget all before middle now count summary more next v r at found put refuted spent =
+one_reported nodes budget all before middle now count tally more next v r at found put refuted spent =
     let there : slice_get all (length r.found) ≡ Some next = ap (slice_get all) r.counted ∙ at in
     let text = found_lines (names_in all) r.found in
     let line = verdict_line v next.name in
@@ -181,9 +180,9 @@ first_among (reports.Fails ∷ vs) = omega arith
 first_among (reports.Holds ∷ vs) = later_among (length vs) (first_failed vs) (first_among vs)
 first_among (reports.Spent count ∷ vs) = later_among (length vs) (first_failed vs) (first_among vs)
 
-pub among : (nodes : List Node) (budget : ℕ) (all : List Obligation) (before now : Option (List ℕ)) (count : ℕ) (summary : Summary) →
-    IsReported nodes budget all before now count summary → IsAmong count summary.refuted
-among nodes budget all before now count summary r =
+pub among : (nodes : List Node) (budget : ℕ) (all : List Obligation) (before now : Option (List ℕ)) (count : ℕ) (tally : Tally) →
+    IsReported nodes budget all before now count tally → IsAmong count tally.refuted
+among nodes budget all before now count tally r =
     subst (λ (o : Option ℕ). IsAmong count o) (sym r.failed) (subst (λ n. IsAmong n (first_failed r.found)) r.counted (first_among r.found))
 
 -- the terms of obligations are single digits
@@ -281,7 +280,7 @@ module _ (kinds : List RuleKind) (f : File) (budget : ℕ) (p : Proper f) (bank 
   finished : (before now : Option (List ℕ)) (SinkRose : Type 0) (ended : Status) → IsFinished nodes budget all before now SinkRose ended →
       Streams kinds f budget before now SinkRose ended
   finished before now SinkRose ended s = at s.last where
-    r : IsReported nodes budget all before s.middle (length all) s.summary
+    r : IsReported nodes budget all before s.middle (length all) s.tally
     r = s.reported
 
     w : Whole nodes budget bank cs (terms_in all) r.found
@@ -290,50 +289,50 @@ module _ (kinds : List RuleKind) (f : File) (budget : ℕ) (p : Proper f) (bank 
     lines : found_lines names r.found ≡ lines_of budget cs w.verdicts
     lines = ap (λ (ns : List (List ℕ)). found_lines ns r.found) names_are ∙ sym w.lines
 
-    failed_is : is_some s.summary.refuted ≡ any_failed w.verdicts
+    failed_is : is_some s.tally.refuted ≡ any_failed w.verdicts
     failed_is = ap is_some r.failed ∙ sym w.failed
 
-    spent_is : s.summary.spent ≡ any_spent w.verdicts
+    spent_is : s.tally.spent ≡ any_spent w.verdicts
     spent_is = r.spent ∙ sym w.spent
 
-    first_is : any_failed w.verdicts ≡ true → first_refuted cs w.verdicts ≡ refuted_line (name_at names s.summary.refuted)
+    first_is : any_failed w.verdicts ≡ true → first_refuted cs w.verdicts ≡ refuted_line (name_at names s.tally.refuted)
     first_is e =
         w.first (sym w.failed ∙ e) ∙ ap (λ (ns : List (List ℕ)). refuted_line (name_at ns (first_failed r.found))) (sym names_are)
         ∙ ap (λ (o : Option ℕ). refuted_line (name_at names o)) (sym r.failed)
 
-    status_is : status_of s.summary ≡ status_by w.verdicts
+    status_is : status_of s.tally ≡ status_by w.verdicts
     status_is =
-        ap (λ b. if b then Refuted else if s.summary.spent then Undecided else Done) failed_is
+        ap (λ b. if b then Refuted else if s.tally.spent then Undecided else Done) failed_is
         ∙ ap (λ b. if any_failed w.verdicts then Refuted else if b then Undecided else Done) spent_is
 
-    last : last_text names s.summary ≡ last_line cs w.verdicts
+    last : last_text names s.tally ≡ last_line cs w.verdicts
     last =
-        ap (λ b. if is_some s.summary.refuted then refuted_line (name_at names s.summary.refuted) else if b then undecided_line else verified_line (length names))
+        ap (λ b. if is_some s.tally.refuted then refuted_line (name_at names s.tally.refuted) else if b then undecided_line else verified_line (length names))
         spent_is
-        ∙ last_is (any_failed w.verdicts) (any_spent w.verdicts) (first_refuted cs w.verdicts) s.summary.refuted true failed_is first_is (length cs)
+        ∙ last_is (any_failed w.verdicts) (any_spent w.verdicts) (first_refuted cs w.verdicts) s.tally.refuted true failed_is first_is (length cs)
         (ap length names_are ∙ length-map cs claim_name)
 
     text : List ℕ
-    text = found_lines names r.found ++ last_text names s.summary
+    text = found_lines names r.found ++ last_text names s.tally
 
-    is : Verified kinds f budget (status_of s.summary) text
-    is = verified_as kinds f budget p w.verdicts (status_of s.summary) text
+    is : Verified kinds f budget (status_of s.tally) text
+    is = verified_as kinds f budget p w.verdicts (status_of s.tally) text
         (subst (λ (ts : List Id). AreTrue nodes budget cs ts w.verdicts) terms_are w.are_true) status_is
-        (ap (λ (ls : List ℕ). ls ++ last_text names s.summary) lines ∙ ap (λ (l : List ℕ). lines_of budget cs w.verdicts ++ l) last)
+        (ap (λ (ls : List ℕ). ls ++ last_text names s.tally) lines ∙ ap (λ (l : List ℕ). lines_of budget cs w.verdicts ++ l) last)
 
-    whole_case : (e : Status) → e ≡ status_of s.summary → Adds s.middle (last_text names s.summary) now → Streams kinds f budget before now SinkRose e
+    whole_case : (e : Status) → e ≡ status_of s.tally → Adds s.middle (last_text names s.tally) now → Streams kinds f budget before now SinkRose e
     whole_case e same adds =
-        put_whole Ended (IsCutVerdict kinds f budget) before now SinkRose (is_some s.summary.refuted) s.summary.spent e text same
+        put_whole Ended (IsCutVerdict kinds f budget) before now SinkRose (is_some s.tally.refuted) s.tally.spent e text same
         (subst (λ (x : Status). Verified kinds f budget x text) (sym same) is)
-        (adds_more before s.middle now (found_lines names r.found) (last_text names s.summary) r.put adds)
+        (adds_more before s.middle now (found_lines names r.found) (last_text names s.tally) r.put adds)
 
-    fault_case : (e : Status) → e ≡ Fault → SinkRose → (front : List ℕ) → IsFront front (last_text names s.summary) → Adds s.middle front now →
+    fault_case : (e : Status) → e ≡ Fault → SinkRose → (front : List ℕ) → IsFront front (last_text names s.tally) → Adds s.middle front now →
         Streams kinds f budget before now SinkRose e
     fault_case e same rose front begins adds =
         subst (λ (x : Status). Streams kinds f budget before now SinkRose x) (sym same) (
           rose,
           found_lines names r.found ++ front,
-          (status_of s.summary, text, is, front_after (found_lines names r.found) front (last_text names s.summary) begins),
+          (status_of s.tally, text, is, front_after (found_lines names r.found) front (last_text names s.tally) begins),
           adds_more before s.middle now (found_lines names r.found) front r.put adds,
         )
 
@@ -342,11 +341,11 @@ module _ (kinds : List RuleKind) (f : File) (budget : ℕ) (p : Proper f) (bank 
         subst (λ (x : Status). Streams kinds f budget before now SinkRose x) (sym same)
         (inr (
           found_lines names r.found,
-          (status_of s.summary, text, is, front_first (found_lines names r.found) (last_text names s.summary)),
+          (status_of s.tally, text, is, front_first (found_lines names r.found) (last_text names s.tally)),
           subst (λ (b : Option (List ℕ)). Adds before (found_lines names r.found) b) (sym stays) r.put,
         ))
 
-    at : EndsWith (last_text names s.summary) (status_of s.summary) s.middle now SinkRose ended → Streams kinds f budget before now SinkRose ended
+    at : EndsWith (last_text names s.tally) (status_of s.tally) s.middle now SinkRose ended → Streams kinds f budget before now SinkRose ended
     at (inl put) = whole_case ended put.0 put.1
     at (inr (inl fault)) = fault_case ended fault.0 fault.1 fault.2 fault.3 fault.4
     at (inr (inr memory)) = memory_case ended memory.0 memory.1

@@ -39,9 +39,9 @@ use Rattle.ygg_report.specs.declared.verdict.Verdict.TheVariants.{Holds, Fails, 
 use Rattle.ygg_bank.specs.Nodes.{HasWidth}
 use Rattle.ygg_oblige.specs.Obligations.{terms_in, names_in}
 use Rattle.ygg_oblige.specs.declared.obligation.Obligation.{Obligation}
-use Rattle.ygg_top.specs.declared.verdict.Summary.{Summary}
+use Rattle.ygg_top.specs.declared.verdict.Tally.{Tally}
 use Rattle.ygg_top.specs.Verdict.{SpendsOn}
-use Rattle.ygg_report.specs.Putting.{Adds, IsFront}
+use Rattle.ygg_top.specs.Ending.{Adds, IsFront}
 
 -- what is found of a term within a budget is true
 abbrev pub IsFound : List Node → Id → ℕ → Verdict → Type 0
@@ -80,21 +80,21 @@ IsUnreported nodes term name budget before now SinkRose status.Fault =
 IsUnreported nodes term name budget before now SinkRose other = ⊥
 
 -- What was found of the first obligations of a list, all of whose lines were put.
-pub record IsReported (nodes : List Node) (budget : ℕ) (all : List Obligation) (before now : Option (List ℕ)) (count : ℕ) (summary : Summary) : Type 0 where
+pub record IsReported (nodes : List Node) (budget : ℕ) (all : List Obligation) (before now : Option (List ℕ)) (count : ℕ) (tally : Tally) : Type 0 where
   pub found : List Verdict
   pub counted : length found ≡ count
   pub are : AreFound nodes budget (terms_in all) found
   pub put : Adds before (found_lines (names_in all) found) now
-  pub failed : summary.refuted ≡ first_failed found
-  pub spent : summary.spent ≡ any_of finds_spent found
+  pub failed : tally.refuted ≡ first_failed found
+  pub spent : tally.spent ≡ any_of finds_spent found
 
 -- The first obligations were reported, and the next was not.
 pub record IsStopped (nodes : List Node) (budget : ℕ) (all : List Obligation) (before now : Option (List ℕ)) (SinkRose : Type 0) (ended : Status)
     : Type 0 where
   pub count : ℕ
   pub middle : Option (List ℕ)
-  pub summary : Summary
-  pub reported : IsReported nodes budget all before middle count summary
+  pub tally : Tally
+  pub reported : IsReported nodes budget all before middle count tally
   pub next : Obligation
   pub is : slice_get all count ≡ Some next
   pub unreported : IsUnreported nodes next.term next.name budget middle now SinkRose ended
@@ -110,9 +110,9 @@ EndsWith text whole before now SinkRose ended =
     ⊎ ((ended ≡ status.Fault) × SinkRose × (front : List ℕ) × IsFront front text × Adds before front now)
     ⊎ ((ended ≡ status.NoMemory) × (now ≡ before))
 
--- the status that a summary comes to
-abbrev pub status_of : Summary → Status
-status_of summary = if is_some summary.refuted then status.Refuted else if summary.spent then status.Undecided else status.Done
+-- the status that a tally comes to
+abbrev pub status_of : Tally → Status
+status_of tally = if is_some tally.refuted then status.Refuted else if tally.spent then status.Undecided else status.Done
 
 -- the status that counts of verdicts come to
 abbrev pub status_of_counts : counts.Tally → Status
@@ -123,10 +123,10 @@ abbrev pub name_at : List (List ℕ) → Option ℕ → List ℕ
 name_at names None = []
 name_at names (Some place) = get_or names place []
 
--- the last line that a summary over obligations of these names comes to
-abbrev pub last_text : List (List ℕ) → Summary → List ℕ
-last_text names summary =
-    if is_some summary.refuted then refuted_line (name_at names summary.refuted) else if summary.spent then undecided_line else verified_line (length names)
+-- the last line that a tally over obligations of these names comes to
+abbrev pub last_text : List (List ℕ) → Tally → List ℕ
+last_text names tally =
+    if is_some tally.refuted then refuted_line (name_at names tally.refuted) else if tally.spent then undecided_line else verified_line (length names)
 
 -- the place, if there is one, is among so many
 abbrev pub IsAmong : ℕ → Option ℕ → Type 0
@@ -137,9 +137,9 @@ IsAmong count (Some place) = place < count
 pub record IsFinished (nodes : List Node) (budget : ℕ) (all : List Obligation) (before now : Option (List ℕ)) (SinkRose : Type 0) (ended : Status)
     : Type 0 where
   pub middle : Option (List ℕ)
-  pub summary : Summary
-  pub reported : IsReported nodes budget all before middle (length all) summary
-  pub last : EndsWith (last_text (names_in all) summary) (status_of summary) middle now SinkRose ended
+  pub tally : Tally
+  pub reported : IsReported nodes budget all before middle (length all) tally
+  pub last : EndsWith (last_text (names_in all) tally) (status_of tally) middle now SinkRose ended
 
 -- how reporting the obligations of a file ends
 abbrev pub IsConcluded : List Node → ℕ → List Obligation → Option (List ℕ) → Option (List ℕ) → (SinkRose : Type 0) → Status → Type 0

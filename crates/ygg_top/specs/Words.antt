@@ -8,15 +8,15 @@ abbrev pub is_alone : List ℕ → List (List ℕ) → Bool
 is_alone word (only ∷ []) = bytes_eq only word
 is_alone word _ = false
 
--- the word that stands alone after this one: a file, or a number
-abbrev pub word_after : List ℕ → List (List ℕ) → Option (List ℕ)
-word_after word (command ∷ file ∷ []) = if bytes_eq command word then Some file else None
-word_after word _ = None
+-- the file, or other word, that stands alone after this word
+abbrev pub file_after : List ℕ → List (List ℕ) → Option (List ℕ)
+file_after word (command ∷ file ∷ []) = if bytes_eq command word then Some file else None
+file_after word _ = None
 
--- the two words that stand alone after this one: a file and a budget, or two files
-abbrev pub two_words_after : List ℕ → List (List ℕ) → Option (List ℕ × List ℕ)
-two_words_after word (command ∷ file ∷ budget ∷ []) = if bytes_eq command word then Some (file, budget) else None
-two_words_after word _ = None
+-- the file and the budget that stand alone after this word
+abbrev pub with_budget_after : List ℕ → List (List ℕ) → Option (List ℕ × List ℕ)
+with_budget_after word (command ∷ file ∷ budget ∷ []) = if bytes_eq command word then Some (file, budget) else None
+with_budget_after word _ = None
 
 -- the budget where none is given
 abbrev pub usual_budget : ℕ

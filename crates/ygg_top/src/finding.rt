@@ -4,15 +4,15 @@ ghost use Rattle.std.specs.Prelude.{◌≡◌, ◌<◌, ◌≤◌, IfOk, IfErr};
 ghost use Rattle.ygg_base.specs.Outside.{Rose};
 ghost use Rattle.ygg_bank.specs.Nodes.{HasWidth};
 ghost use Rattle.ygg_report.specs.Lines.{verdict_line};
-ghost use Rattle.ygg_report.specs.Putting.{Adds};
+ghost use Rattle.ygg_top.specs.Ending.{Adds, IsPut};
 ghost use Rattle.ygg_top.specs.Findings.{IsFound, IsUnreported};
 
 use std::alloc::Global;
 use ygg_bank::{Bank, Id};
-use ygg_base::{NoMemory, Sink, Status, Text};
+use ygg_base::{Moved, NoMemory, Sink, Status, Text};
 use ygg_decide::{Decided, decide};
 use ygg_oblige::Obligation;
-use ygg_report::{Verdict, line, put};
+use ygg_report::{Verdict, line};
 use ygg_rules::Book;
 
 /// Decides an obligation's term within a budget. Its only error is out of memory.
@@ -32,6 +32,17 @@ pub fn found<B: Book>(
         Decided::Valid(_log) => Ok(Verdict::Holds),
         Decided::Fails(_env) => Ok(Verdict::Fails),
         Decided::Spent(_log) => Ok(Verdict::Spent(budget)),
+    }
+}
+
+/// Puts a text, and says with which status the command ends where it can't.
+pub fn put<K: Sink>(sink: &mut K, text: &[u8]) -> Result<(), Status>
+    ensures told { IsPut (K.taken sink.old) (K.taken sink.new) text.now (Rose (K.faults sink.old) (K.faults sink.new)) result }
+    ensures later { K.faults sink.old ≤ K.faults sink.new }
+{
+    match sink.put(text) {
+        Moved::Done => Ok(()),
+        Moved::Failed => Err(Status::Fault),
     }
 }
 

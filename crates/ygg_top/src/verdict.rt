@@ -7,41 +7,41 @@ ghost use Rattle.ygg_oblige.specs.Obligations.{names_in};
 ghost use Rattle.ygg_top.specs.Findings.{AreDigits, IsAmong, IsConcluded, IsReported, IsStopped, last_text, status_of};
 ghost use Rattle.ygg_report.specs.Tallies.{finds_failed, finds_spent};
 
-use crate::finding::report;
+use crate::finding::{put, report};
 use std::alloc::Global;
 use ygg_bank::Bank;
 use ygg_base::{NoMemory, Sink, Status, Text};
 use ygg_histories::law::refines_by_list;
 use ygg_oblige::{Obligation, obligations};
-use ygg_report::{Verdict, put, refuted, undecided, verified};
+use ygg_report::{Verdict, refuted, undecided, verified};
 use ygg_rules::Book;
 use ygg_type::Typed;
 use ygg_type_progress::law::typed_histories;
 
 /// What was found of obligations so far.
 #[derive(Clone, Copy, Drop)]
-pub struct Summary {
+pub struct Tally {
     /// The place of the first one that fails.
     pub refuted: Option<usize>,
     /// Whether the budget was spent on one.
     pub spent: bool,
 }
 
-/// The summary with one more obligation, at a place.
-fn counted(summary: Summary, verdict: Verdict, place: usize) -> Summary
-    ensures refuted { result.refuted ≡ (if is_none summary.refuted && finds_failed verdict then Some place else summary.refuted) }
-    ensures spent { result.spent ≡ (summary.spent || finds_spent verdict) }
+/// The tally with one more obligation, at a place.
+fn counted(tally: Tally, verdict: Verdict, place: usize) -> Tally
+    ensures refuted { result.refuted ≡ (if is_none tally.refuted && finds_failed verdict then Some place else tally.refuted) }
+    ensures spent { result.spent ≡ (tally.spent || finds_spent verdict) }
 {
     let fails = matches!(verdict, Verdict::Fails);
-    let refuted = if summary.refuted.is_none() && fails {
+    let refuted = if tally.refuted.is_none() && fails {
         Some(place)
     } else {
-        summary.refuted
+        tally.refuted
     };
     let spends = matches!(verdict, Verdict::Spent(_));
-    Summary {
+    Tally {
         refuted,
-        spent: summary.spent || spends,
+        spent: tally.spent || spends,
     }
 }
 
@@ -54,7 +54,7 @@ fn report_all<B: Book, K: Sink>(
     all: &[Obligation],
     budget: u32,
     sink: &mut K,
-) -> Result<Summary, Status>
+) -> Result<Tally, Status>
     requires digits { AreDigits bank.old all.now }
     requires budget { 0 < budget }
     ensures reported { IfOk result (IsReported bank.old budget all.now (K.taken sink.old) (K.taken sink.new) (length all.now)) }
@@ -63,7 +63,7 @@ fn report_all<B: Book, K: Sink>(
     ensures same { bank.new ≡ bank.old }
     ensures later { K.faults sink.old ≤ K.faults sink.new }
 {
-    let mut summary = Summary {
+    let mut tally = Tally {
         refuted: None,
         spent: false,
     };
@@ -73,26 +73,22 @@ fn report_all<B: Book, K: Sink>(
             Ok(verdict) => verdict,
             Err(status) => return Err(status),
         };
-        summary = counted(summary, verdict, place);
+        tally = counted(tally, verdict, place);
         place += 1;
     }
-    Ok(summary)
+    Ok(tally)
 }
 
 /// The last line, and the status that goes with it.
-fn last_line(
-    alloc: Global,
-    all: &[Obligation],
-    summary: Summary,
-) -> Result<(Status, Text), NoMemory>
-    requires { IsAmong (length all.now) summary.refuted }
-    ensures status { IfOk result (λ end. end.0 ≡ status_of summary) }
-    ensures text { IfOk result (λ end. end.1 ≡ last_text (names_in all.now) summary) }
+fn last_line(alloc: Global, all: &[Obligation], tally: Tally) -> Result<(Status, Text), NoMemory>
+    requires { IsAmong (length all.now) tally.refuted }
+    ensures status { IfOk result (λ end. end.0 ≡ status_of tally) }
+    ensures text { IfOk result (λ end. end.1 ≡ last_text (names_in all.now) tally) }
 {
-    if let Some(place) = summary.refuted {
+    if let Some(place) = tally.refuted {
         return Ok((Status::Refuted, refuted(alloc, &all[place].name)?));
     }
-    if summary.spent {
+    if tally.spent {
         return Ok((Status::Undecided, undecided(alloc)?));
     }
     Ok((Status::Done, verified(alloc, all.len())?))
@@ -112,11 +108,11 @@ fn report_file<B: Book, K: Sink>(
     ensures told { IsConcluded bank.old budget all.now (K.taken sink.old) (K.taken sink.new) (Rose (K.faults sink.old) (K.faults sink.new)) result }
     ensures later { K.faults sink.old ≤ K.faults sink.new }
 {
-    let summary = match report_all(alloc, bank, rules, all, budget, sink) {
-        Ok(summary) => summary,
+    let tally = match report_all(alloc, bank, rules, all, budget, sink) {
+        Ok(tally) => tally,
         Err(status) => return status,
     };
-    match last_line(alloc, all, summary) {
+    match last_line(alloc, all, tally) {
         Ok((status, text)) => match put(sink, text.as_slice()) {
             Ok(()) => status,
             Err(status) => status,

@@ -1,6 +1,6 @@
 use Rattle.std.proofs.Common.{List, [], ℕ, subst}
 use Rattle.ygg_base.specs.Outside.{Rose}
-use Rattle.ygg_report.specs.Putting.{IsPutSo}
+use Rattle.ygg_top.specs.Ending.{IsPutSo}
 use Rattle.ygg_top.proofs.Ends.{put_reports, stream_reports, count_reports}
 use Rattle.ygg_top.proofs.command.run.Goals as goal
 

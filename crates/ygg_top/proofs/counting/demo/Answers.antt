@@ -8,11 +8,11 @@ use Rattle.ygg_oblige.specs.declared.obligation.Obligation.{Obligation}
 use Rattle.ygg_report.specs.Lines.{demo_line}
 use Rattle.ygg_report.specs.Tallies.{tally_of}
 use Rattle.ygg_report.specs.declared.verdict.Tally.{Tally}
-use Rattle.ygg_report.specs.Putting.{Adds, IsPut, NoFront}
+use Rattle.ygg_top.specs.Ending.{Adds, IsPut, NoFront}
 use Rattle.ygg_top.specs.Findings.{AreDigits, status_of_counts}
 use Rattle.ygg_top.specs.Verdict.{Counted}
 use Rattle.ygg_top.proofs.Counts.{counted_in}
-use Rattle.ygg_report.proofs.Printing.{put_whole, put_cut}
+use Rattle.ygg_top.proofs.Printing.{put_whole, put_cut}
 use Rattle.ygg_top.proofs.Reporting.{digits_of}
 use Rattle.ygg_top.proofs.Verdicts.{Proper}
 use Rattle.ygg_top.proofs.counting.demo.Goals as goal

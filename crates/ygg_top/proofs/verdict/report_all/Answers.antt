@@ -20,7 +20,7 @@ returns-in-Err-clause-stopped g c =
     record {
       count = c.loop-o.o-index;
       middle = g.K.Sink.taken c.loop-o.sink;
-      summary = c.loop-o.summary;
+      tally = c.loop-o.tally;
       reported = i.reported;
       next = c.o-item.result;
       is = slice_get_read c.args.all.now _ c.loop-o.o-index c.o-item.result refl c.loop-o-test.true c.o-item.is;
@@ -41,7 +41,7 @@ loop-o-preserved g c =
       later = let l = i.later in let m = c.report.ensures.later in omega (arith, l, m);
       reported =
           one_reported c.args.bank.now c.args.budget c.args.all.now (g.K.Sink.taken c.args.sink.now) (g.K.Sink.taken c.loop-o.sink)
-          (g.K.Sink.taken c.report.new.sink) c.loop-o.o-index c.loop-o.summary c.counted-summary.result c.o-item.result c.in-Ok.verdict i.reported here found
-          c.in-Ok.ensures.put (subst (λ n. c.counted-summary.result.refuted ≡ (if is_none c.loop-o.summary.refuted && finds_failed c.in-Ok.verdict then Some n else
-          c.loop-o.summary.refuted)) i.place c.counted-summary.ensures.refuted) c.counted-summary.ensures.spent;
+          (g.K.Sink.taken c.report.new.sink) c.loop-o.o-index c.loop-o.tally c.counted-tally.result c.o-item.result c.in-Ok.verdict i.reported here found
+          c.in-Ok.ensures.put (subst (λ n. c.counted-tally.result.refuted ≡ (if is_none c.loop-o.tally.refuted && finds_failed c.in-Ok.verdict then Some n else
+          c.loop-o.tally.refuted)) i.place c.counted-tally.ensures.refuted) c.counted-tally.ensures.spent;
     }

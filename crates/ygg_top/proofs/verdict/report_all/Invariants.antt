@@ -7,5 +7,5 @@ invariant-loop-o g l = record {
   place : l.place ≡ l.o-index;
   same : l.bank ≡ l.initial.bank;
   later : g.K.Sink.faults l.initial.sink ≤ g.K.Sink.faults l.sink;
-  reported : IsReported l.initial.bank l.budget l.all (g.K.Sink.taken l.initial.sink) (g.K.Sink.taken l.sink) l.o-index l.summary;
+  reported : IsReported l.initial.bank l.budget l.all (g.K.Sink.taken l.initial.sink) (g.K.Sink.taken l.sink) l.o-index l.tally;
 }
