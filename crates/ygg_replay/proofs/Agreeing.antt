@@ -1,6 +1,8 @@
 -- Whether a conclusion holds, by the kind of its obligation.
-use Rattle.std.proofs.Common.{◌≡◌, ℕ, Bool, true, ◌&&◌, List, slice_get, Option, Some, None, option_map, refl, sym, ap, ◌∙◌, subst, ◌⊎◌, inl, inr}
+use Rattle.std.proofs.Common.{◌≡◌, ℕ, Bool, true, false, ◌&&◌, List, slice_get, Option, Some, None, option_map, refl, sym, ap, ◌∙◌, subst, ◌⊎◌, inl, inr}
 use Rattle.ygg_value.specs.declared.row.Value.{Value}
+use Rattle.ygg_syntax.specs.declared.tree.Operation.{Operation}
+use Rattle.ygg_syntax.specs.declared.tree.Tick.{Tick}
 use Rattle.ygg_syntax.specs.declared.tree.Layer.{Layer}
 use Rattle.ygg_meaning.specs.Progress.{Answer}
 use Rattle.ygg_meaning.specs.Machine.{Picks}
@@ -12,14 +14,14 @@ use Rattle.ygg_eval_lower.specs.Layers.{variables_at}
 use Rattle.ygg_meaning.specs.Violates.{answers_alike, related_after, spec_after}
 use Rattle.ygg_replay.specs.declared.site.Site.{Site}
 use Rattle.ygg_replay.specs.declared.conclusion.Trial.{Trial}
-use Rattle.ygg_sched.specs.declared.case.Kind.{Kind}
-use Rattle.ygg_sched.specs.declared.case.Kind.TheVariants as kind
+use Rattle.ygg_replay.specs.declared.schedule.Kind.{Kind}
+use Rattle.ygg_replay.specs.declared.schedule.Kind.TheVariants as kind
 use Rattle.ygg_replay.specs.declared.ends.End.{End}
 use Rattle.ygg_replay.specs.Ends.{EndFits, end_at}
 use Rattle.ygg_replay.specs.Passing.{IsOf, passing, agreeing, answers_for}
-use Rattle.ygg_sched.specs.Cases.{obligation_at}
+use Rattle.ygg_replay.specs.Schedules.{obligation_at}
 use Rattle.ygg_replay.specs.Sites.{StatesFit, VarsFit, closed_in, vars_at, memory_at, low_at}
-use Rattle.ygg_replay.specs.Steps.{EndsSomehow, StepEnds, meant_at}
+use Rattle.ygg_replay.specs.Steps.{EndsIn, EndsSomehow, StepEnds, meant_at}
 
 -- what an obligation asks
 abbrev pub kind_in : Obligation → Kind

@@ -1,8 +1,9 @@
 -- Formulas of a layer, and what they say.
-use Rattle.std.proofs.Common.{◌≡◌, ℕ, Bool, List, [], slice_get, map, Some, option_map, Result, Ok, Err, IfOk, refl, sym, ap, ◌∙◌}
+use Rattle.std.proofs.Common.{◌≡◌, ℕ, Bool, true, List, [], slice_get, length, map, Option, Some, option_map, Result, Ok, Err, IfOk, refl, sym, ap, ◌∙◌, subst}
 use Rattle.std.proofs.lemmas.Option.{slice_get-map}
 use Rattle.ygg_value.specs.declared.row.Value.{Value}
 use Rattle.ygg_syntax.specs.declared.tree.Expr.{Expr}
+use Rattle.ygg_meaning.specs.Environments.{Env}
 use Rattle.ygg_meaning.specs.Related.{holds}
 use Rattle.ygg_eval_holds.specs.declared.formula.Formula.{Formula}
 use Rattle.ygg_eval_holds.specs.declared.formula.Which.TheVariants.{Relate, Always, Settled}
@@ -58,8 +59,8 @@ module _ (s : Site) (here : IsHere s) (state memory low : List Value) where
       Answers s.typed.now.file (always number) state memory low r → slice_get all_always number ≡ Some r
   always_holds number e there r h =
       slice_get-map (holds (closed_in s) (vars_at s state) (memory_at s memory) (low_at s low)) s.layer.now.always number
-      ∙ (ap (option_map (holds (closed_in s) (vars_at s state) (memory_at s memory) (low_at s low))) there
-      ∙ ap (λ b. Some b) (sym (h s.layer.now e here there)))
+      ∙ (ap (option_map (holds (closed_in s) (vars_at s state) (memory_at s memory) (low_at s low))) there ∙ ap (λ b. Some b)
+      (sym (h s.layer.now e here there)))
 
 module _ (s : Site) (here : IsHere s) (low : List Value) where
   -- one of `settled`

@@ -1,5 +1,29 @@
 -- What a layer is specified over, as it starts.
-use Rattle.std.proofs.Common.{◌≡◌, ℕ, zero, suc, ◌<◌, arith, get_or, length, true, ◌&&◌, List, [], ◌∷◌, slice_get, Option, Some, None, refl, sym, ap, ◌∙◌, subst}
+use Rattle.std.proofs.Common.{
+  ◌≡◌,
+  ℕ,
+  zero,
+  suc,
+  ◌<◌,
+  ◌-◌,
+  arith,
+  get_or,
+  length,
+  true,
+  ◌&&◌,
+  List,
+  [],
+  ◌∷◌,
+  slice_get,
+  Option,
+  Some,
+  None,
+  refl,
+  sym,
+  ap,
+  ◌∙◌,
+  subst,
+}
 use Rattle.ygg_base.specs.declared.geometry.DiskKind.{DiskKind}
 use Rattle.ygg_base.specs.declared.geometry.DiskKind.TheVariants.{Sync, Async}
 use Rattle.ygg_value.specs.declared.row.Value.{Value}
@@ -17,9 +41,9 @@ use Rattle.ygg_disk.specs.Kinds.{model_of}
 use Rattle.ygg_meaning.specs.Environments.{bind}
 use Rattle.ygg_meaning.specs.Shapes.{values_fit}
 use Rattle.ygg_meaning.specs.Progress.{Answer}
-use Rattle.ygg_meaning.specs.Machine.{based}
+use Rattle.ygg_meaning.specs.Machine.{State, based}
 use Rattle.ygg_meaning.specs.DiskMachine.{tables_in, zeros_on}
-use Rattle.ygg_meaning.specs.Spec.{start_outcome}
+use Rattle.ygg_meaning.specs.Spec.{Spec, start_outcome}
 use Rattle.ygg_meaning.specs.Refines.{Below, OnDisk, OnSpec, machine_below}
 use Rattle.ygg_meaning.proofs.Exact.{start_exact}
 use Rattle.ygg_histories.specs.Stack.{tables_of, tables_of_kind}

@@ -1,5 +1,33 @@
 -- Runs of a layer's blocks on what it is specified over, as runs of the layer on that machine.
-use Rattle.std.proofs.Common.{◌≡◌, ℕ, ◌≤◌, ◌<◌, Bool, true, false, List, [], take, length, Some, MatchBool, refl, sym, ap, ◌∙◌, subst, arith, ◌⊎◌, inl, inr, Ok}
+use Rattle.std.proofs.Common.{
+  ◌≡◌,
+  ℕ,
+  suc,
+  ◌≤◌,
+  ◌<◌,
+  Bool,
+  true,
+  false,
+  List,
+  [],
+  ◌++◌,
+  take,
+  length,
+  Option,
+  Some,
+  None,
+  MatchBool,
+  refl,
+  sym,
+  ap,
+  ◌∙◌,
+  subst,
+  arith,
+  ◌⊎◌,
+  inl,
+  inr,
+  Ok,
+}
 use Rattle.ygg_value.specs.declared.row.Value.{Value}
 use Rattle.ygg_syntax.specs.declared.grammar.BlockKind.{BlockKind}
 use Rattle.ygg_syntax.specs.declared.grammar.BlockKind.TheVariants as kind
@@ -176,8 +204,8 @@ module _ (s : Site) (p : Part) (number : ℕ) (b : Block) (args values : List Va
 
   -- one that came to its end before the stop is not
   pub spared : (stop : Stop) (values' : List Value) (to : Standing Kept) →
-      FinishedEarly spec_meaning file (kind_of p) s.place (dialogue_in file body layer b args values) from (variables_in layer p) values values'
-      (Some stop) to →
+      FinishedEarly spec_meaning file (kind_of p) s.place (dialogue_in file body layer b args values) from (variables_in layer p) values values' (Some stop)
+      to →
       (fallen : Env) → CutBy s b seen (record { within = stop.within; event = stop.event }) picks (state_at s values k.values) fallen → ⊥
   spared stop values' to e fallen c =
       let g = here (λ x block ds. FinishedEarly spec_meaning file x s.place block from ds values values' (Some stop) to) e in

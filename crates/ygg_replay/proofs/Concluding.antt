@@ -1,8 +1,32 @@
 -- What a schedule shows, by its hypotheses, its runs and its conclusion.
-use Rattle.std.proofs.Common.{◌≡◌, ℕ, Bool, true, false, ◌&&◌, length, Some, inl, inr, refl}
+use Rattle.std.proofs.Common.{
+  ◌≡◌,
+  ℕ,
+  Bool,
+  true,
+  false,
+  ◌&&◌,
+  IsTrue,
+  List,
+  [],
+  ◌∷◌,
+  ◌++◌,
+  length,
+  Option,
+  Some,
+  None,
+  inl,
+  inr,
+  refl,
+  sym,
+  ap,
+  ◌∙◌,
+  subst,
+}
+use Rattle.ygg_value.specs.declared.row.Value.{Value}
 use Rattle.ygg_syntax.specs.declared.tree.Layer.{Layer}
 use Rattle.ygg_syntax.specs.declared.tree.File.{File}
-use Rattle.ygg_meaning.specs.Environments.{Env}
+use Rattle.ygg_meaning.specs.Environments.{Env, bind}
 use Rattle.ygg_meaning.specs.Shapes.{values_fit, env_fits}
 use Rattle.ygg_meaning.specs.Machine.{Picks, Machine}
 use Rattle.ygg_meaning.specs.Layer.{ClosedLayer}
@@ -14,7 +38,7 @@ use Rattle.ygg_meaning.specs.Violates.{End, Meets, Reached, FallsSo, hypotheses,
 use Rattle.ygg_type_sound.proofs.Tests.{left, right}
 use Rattle.ygg_eval_lower.specs.Layers.{variables_at, closed_at}
 use Rattle.ygg_eval_lower.proofs.Blocks.{bind_fits}
-use Rattle.ygg_sched.specs.declared.schedule.Schedule.{Schedule}
+use Rattle.ygg_replay.specs.declared.schedule.Schedule.{Schedule}
 use Rattle.ygg_replay.specs.Schedules.{meant, schedule_fits, states_fit}
 use Rattle.ygg_replay.specs.Sites.{first_false}
 use Rattle.ygg_replay.proofs.Firsts.{first_is}

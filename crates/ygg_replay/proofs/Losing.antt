@@ -1,12 +1,13 @@
 -- Power that failed between operations of what a layer is specified over.
-use Rattle.std.proofs.Common.{◌≡◌, ℕ, Result, Ok, Err, OnOk, ◌∙◌, subst}
+use Rattle.std.proofs.Common.{◌≡◌, ℕ, List, Result, Ok, Err, OnOk, refl, sym, ap, ◌∙◌, subst}
 use Rattle.ygg_list.specs.declared.memory.NoMemory.{NoMemory}
 use Rattle.ygg_syntax.specs.declared.tree.File.{File}
+use Rattle.ygg_value.specs.declared.row.Value.{Value}
 use Rattle.ygg_disk.specs.declared.power.Power.{Power}
-use Rattle.ygg_meaning.specs.Environments.{bind}
+use Rattle.ygg_meaning.specs.Environments.{Env, bind}
 use Rattle.ygg_meaning.specs.Machine.{Picks, based}
 use Rattle.ygg_eval_lower.specs.Layers.{variables_at, machine_at}
-use Rattle.ygg_eval_lower.specs.Lower.{Standing, Happened, outage_of}
+use Rattle.ygg_eval_lower.specs.Lower.{Standing, Outage, Happened, outage_of}
 use Rattle.ygg_eval_spec.specs.Kept.{Kept, Loses}
 use Rattle.ygg_replay.specs.declared.site.Site.{Site}
 use Rattle.ygg_replay.specs.Sites.{IsBelow, low_at}

@@ -1,5 +1,5 @@
 -- The layer's own specification as a machine that is asked.
-use Rattle.std.proofs.Common.{◌≡◌, ℕ, suc, ◌≤◌, true, List, length, slice_get, Some, refl, sym, ap, ◌∙◌, subst, arith}
+use Rattle.std.proofs.Common.{◌≡◌, ℕ, suc, ◌≤◌, ◌<◌, true, List, length, slice_get, Some, refl, sym, ap, ◌∙◌, subst, arith}
 use Rattle.std.proofs.lemmas.Option.{slice_get_within}
 use Rattle.ygg_value.specs.declared.row.Value.{Value}
 use Rattle.ygg_syntax.specs.declared.tree.Operation.{Operation}
@@ -67,13 +67,14 @@ module _ (s : Site) (here : IsHere s) (state : List Value) (fit : VarsFit s stat
           (callable s.typed.now.file fine s.place s.layer.now number h.operation args here h.is h.fit) f s.layer.now o here there) all
 
   module _ (fine : none (type_errors_of s.typed.now.file) ≡ true) (derivable : ∥ IsDerivable s.typed.now.file ∥₁) (picks : Picks)
-      (fresh_is : power ≡ fresh picks) (k' : Kept) (power' : Power) where
+      (fresh_is : power ≡ fresh picks)
+      (k' : Kept) (power' : Power) where
     pub own_lost : Loses s.typed.now.file (record { machine = k; power = power }) Happened (record { machine = k'; power = power' }) →
         Serves spec_meaning s.typed.now.file k.number (record { machine = k'; power = power' }) → length picks ≡ crash_picks s.layer.now →
         EndsSomehow s (crash_outcome (closed_in s) (vars_at s state) (chosen picks)) k'.values
     own_lost lost serves all =
         let numbered : k'.number ≡ suc s.place = serves.numbered ∙ ap (λ (k : Kept). k.number) own in
-        let l = subst (λ (k : Kept). Loses s.typed.now.file (record { machine = k; power = power }) Happened (record { machine = k'; power = power' }))
-        own lost in
+        let l = subst (λ (k : Kept). Loses s.typed.now.file (record { machine = k; power = power }) Happened (record { machine = k'; power = power' })) own
+        lost in
         lost_ends s here fine derivable state power power' picks fresh_is k' numbered serves.fits
         (lost_so s.typed.now.file fine s.place state power power' k' l s.layer.now here) all

@@ -1,5 +1,30 @@
 -- Picks that a run takes from the front of a list.
-use Rattle.std.proofs.Common.{◌≡◌, ℕ, zero, suc, ◌+◌, Bool, true, false, if◌then◌else◌, [], ◌∷◌, length, drop, nat_lt, ◌≤◌, refl, ap, ◌∙◌, subst, arith}
+use Rattle.std.proofs.Common.{
+  ◌≡◌,
+  ℕ,
+  zero,
+  suc,
+  ◌+◌,
+  Bool,
+  true,
+  false,
+  if◌then◌else◌,
+  List,
+  [],
+  ◌∷◌,
+  length,
+  drop,
+  slice_get,
+  unwrap_or,
+  nat_lt,
+  ◌≤◌,
+  refl,
+  sym,
+  ap,
+  ◌∙◌,
+  subst,
+  arith,
+}
 use Rattle.std.proofs.lemmas.Bool.{ltb-false}
 use Rattle.ygg_disk.specs.Power.{pick_of, after_pick, Takes}
 use Rattle.ygg_disk.specs.declared.power.Picks.{Picks as Source}

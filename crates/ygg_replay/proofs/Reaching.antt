@@ -1,5 +1,5 @@
 -- The runs of operations and background steps as the runs that their obligations speak of.
-use Rattle.std.proofs.Common.{◌≡◌, ℕ, Bool, true, ◌&&◌, List, [], slice_get, Option, Some, None, option_map, refl, sym, ap, ◌∙◌, subst}
+use Rattle.std.proofs.Common.{◌≡◌, ℕ, Bool, true, false, ◌&&◌, IsTrue, List, [], slice_get, Option, Some, None, option_map, refl, sym, ap, ◌∙◌, subst}
 use Rattle.ygg_value.specs.declared.row.Value.{Value}
 use Rattle.ygg_syntax.specs.declared.tree.Block.{Block}
 use Rattle.ygg_syntax.specs.declared.tree.Declared.{Declared}
@@ -7,7 +7,7 @@ use Rattle.ygg_syntax.specs.declared.tree.Operation.{Operation}
 use Rattle.ygg_syntax.specs.declared.tree.Tick.{Tick}
 use Rattle.ygg_meaning.specs.Environments.{Env, bind}
 use Rattle.ygg_meaning.specs.Shapes.{values_fit}
-use Rattle.ygg_meaning.specs.Obligations.{Obligation, CallOf, CutOf, CutTickOf}
+use Rattle.ygg_meaning.specs.Obligations.{Obligation, CallOf, CutOf, TickOf, CutTickOf}
 use Rattle.ygg_meaning.specs.Violates.{FallsSo, RanWhole, Reached}
 use Rattle.ygg_meaning.specs.Violates as violates
 use Rattle.ygg_eval_lower.specs.declared.body.Part.TheVariants as part
@@ -15,7 +15,7 @@ use Rattle.ygg_eval_lower.specs.Bodies.{IsRunnable, block_in}
 use Rattle.ygg_eval_lower.specs.Layers.{variables_at}
 use Rattle.ygg_type_sound.proofs.Tests.{left, right}
 use Rattle.ygg_replay.specs.declared.site.Site.{Site}
-use Rattle.ygg_sched.specs.declared.schedule.Schedule.{Schedule}
+use Rattle.ygg_replay.specs.declared.schedule.Schedule.{Schedule}
 use Rattle.ygg_replay.specs.declared.ends.End.{End}
 use Rattle.ygg_replay.specs.Ends.{EndFits, FellAndRecovered, FellIn, ReachedOrNot, RecoveredOrNot, end_at, seen_at}
 use Rattle.ygg_replay.specs.Schedules.{schedule_fits, states_fit}

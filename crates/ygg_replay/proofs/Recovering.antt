@@ -1,5 +1,5 @@
 -- Runs of a layer's blocks as the runs that an obligation speaks of.
-use Rattle.std.proofs.Common.{◌≡◌, true, ◌&&◌, List, [], ◌∷◌, length, Option, Some, None, option_map, refl, sym, ap, ◌∙◌, subst}
+use Rattle.std.proofs.Common.{◌≡◌, ℕ, Bool, true, false, ◌&&◌, List, [], ◌∷◌, length, Option, Some, None, option_map, refl, sym, ap, ◌∙◌, subst}
 use Rattle.ygg_value.specs.Values.{same_value}
 use Rattle.ygg_value.specs.declared.row.Value.{Value}
 use Rattle.ygg_syntax.specs.declared.tree.Block.{Block}
@@ -7,22 +7,22 @@ use Rattle.ygg_syntax.specs.declared.tree.Declared.{Declared}
 use Rattle.ygg_meaning.specs.Environments.{Env, bind, same_env}
 use Rattle.ygg_meaning.specs.Shapes.{shape_in, fits, values_fit, zeros_of}
 use Rattle.ygg_meaning.specs.Progress.{Answer}
-use Rattle.ygg_meaning.specs.Machine.{State, based, on}
+use Rattle.ygg_meaning.specs.Machine.{Picks, State, based, on, Machine}
 use Rattle.ygg_meaning.specs.Layer.{BlockRuns}
 use Rattle.ygg_meaning.specs.Obligations.{StopsAt}
 use Rattle.ygg_meaning.specs.Obligations as obligations
 use Rattle.ygg_meaning.specs.Refines.{Below, OnDisk, OnSpec, machine_below}
-use Rattle.ygg_meaning.specs.Violates.{Formatted, LostBetween, RanWhole, Recovers}
+use Rattle.ygg_meaning.specs.Violates.{CutShort, Formatted, LostBetween, RanWhole, Recovers}
 use Rattle.ygg_eval_lower.specs.Layers.{below_at}
 use Rattle.ygg_type_sound.proofs.Tests.{bytes_equal, right}
 use Rattle.ygg_eval_spec.specs.Kept.{Kept}
 use Rattle.ygg_replay.specs.declared.site.Site.{Site}
-use Rattle.ygg_sched.specs.declared.schedule.Halt.{Halt}
-use Rattle.ygg_sched.specs.declared.schedule.Schedule.{Schedule}
+use Rattle.ygg_replay.specs.declared.schedule.Halt.{Halt}
+use Rattle.ygg_replay.specs.declared.schedule.Schedule.{Schedule}
 use Rattle.ygg_replay.specs.declared.ends.End.{End}
 use Rattle.ygg_replay.specs.Ends.{end_at, FellIn, same_list}
 use Rattle.ygg_replay.specs.Runs.{RanBy, CutBy, LostBy}
-use Rattle.ygg_sched.specs.Fitting.{halt_meant}
+use Rattle.ygg_replay.specs.Schedules.{halt_in}
 use Rattle.ygg_replay.specs.Sites.{closed_in, machine_in, memory_at, low_at, state_at}
 use Rattle.ygg_replay.specs.Steps.{meant_at}
 use Rattle.ygg_replay.specs.Zeros.{zero_values}
@@ -103,11 +103,11 @@ module _ (s : Site) where
   lost x fallen r = record { taken = r.taken; run = r.run; read = r.read }
 
   module _ (x : Schedule) (b : Block) (args : Env) (memory : List Value) (stop : Halt) (stops : x.stop ≡ Some stop) where
-    halts : (meant_at s x).stop ≡ Some (halt_meant stop)
-    halts = ap (λ (h : Option Halt). option_map halt_meant h) stops
+    halts : (meant_at s x).stop ≡ Some (halt_in stop)
+    halts = ap (λ (h : Option Halt). option_map halt_in h) stops
 
     -- power that cut a block at the schedule's stop
-    pub fell : (fallen : Env) → CutBy s b args (halt_meant stop) x.picks (state_at s memory x.low) fallen → FellIn s x b args memory fallen
+    pub fell : (fallen : Env) → CutBy s b args (halt_in stop) x.picks (state_at s memory x.low) fallen → FellIn s x b args memory fallen
     fell fallen c = record {
       taken = c.taken;
       run = c.run;
@@ -115,7 +115,7 @@ module _ (s : Site) where
       read = c.read;
     }
 
-    pub cut : (fallen : Env) → FellIn s x b args memory fallen → CutBy s b args (halt_meant stop) x.picks (state_at s memory x.low) fallen
+    pub cut : (fallen : Env) → FellIn s x b args memory fallen → CutBy s b args (halt_in stop) x.picks (state_at s memory x.low) fallen
     cut fallen c =
         let (within, event) = subst (λ (h : Option obligations.Halt). StopsAt h c.run.run.within (length c.run.run.calls)) halts c.stop in
         record { taken = c.taken; run = c.run; within = within; event = event; read = c.read }
@@ -123,8 +123,7 @@ module _ (s : Site) where
   -- without a stop it cuts none
   pub never : (x : Schedule) (b : Block) (args : Env) (memory : List Value) → x.stop ≡ None → (fallen : Env) → FellIn s x b args memory fallen → ⊥
   never x b args memory none fallen c =
-      subst (λ (h : Option obligations.Halt). StopsAt h c.run.run.within (length c.run.run.calls))
-      (ap (λ (h : Option Halt). option_map halt_meant h) none) c.stop
+      subst (λ (h : Option obligations.Halt). StopsAt h c.run.run.within (length c.run.run.calls)) (ap (λ (h : Option Halt). option_map halt_in h) none) c.stop
 
 -- declared names with values are the same where the values are
 pub same_bound : (ds : List Declared) (vs ws : List Value) → values_fit ds vs ≡ true → values_fit ds ws ≡ true →

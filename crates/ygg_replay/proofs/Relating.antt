@@ -1,5 +1,5 @@
 -- Whether a layer's relation holds, by the first of its expressions that does not.
-use Rattle.std.proofs.Common.{◌≡◌, ℕ, Bool, true, ◌&&◌, List, false, not, Option, Some, None, is_none, is_some, refl, sym, ap, ◌∙◌}
+use Rattle.std.proofs.Common.{◌≡◌, ℕ, Bool, true, ◌&&◌, List, [], false, not, Option, Some, None, is_none, is_some, refl, sym, ap, ◌∙◌}
 use Rattle.ygg_value.specs.declared.row.Value.{Value}
 use Rattle.ygg_meaning.specs.Shapes.{env_fits}
 use Rattle.ygg_meaning.specs.Related.{all_true, related, relates, settled, settles, shaped}

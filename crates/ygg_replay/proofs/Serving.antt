@@ -1,19 +1,24 @@
 -- What a layer is specified over serves the layer's blocks.
-use Rattle.std.proofs.Common.{◌≡◌, ℕ, ◌≤◌, arith, length, List, Option, Some, refl, sym, ap, ◌∙◌, subst}
+use Rattle.std.proofs.Common.{◌≡◌, ℕ, ◌≤◌, arith, length, Bool, true, IsTrue, IsSome, List, [], Option, Some, None, refl, sym, ap, ◌∙◌, subst}
 use Rattle.std.proofs.lemmas.Option.{slice_get_within}
 use Rattle.ygg_value.specs.declared.row.Value.{Value}
+use Rattle.ygg_syntax.specs.declared.tree.Layer.{Layer}
 use Rattle.ygg_syntax.specs.declared.tree.Block.{Block}
+use Rattle.ygg_syntax.specs.declared.tree.File.{File}
 use Rattle.ygg_disk.specs.declared.power.Power.{Power}
+use Rattle.ygg_meaning.specs.Environments.{Env}
+use Rattle.ygg_meaning.specs.Machine.{Picks}
 use Rattle.ygg_meaning.specs.Shapes.{values_fit}
+use Rattle.ygg_eval_lower.specs.declared.body.Body.{Body}
 use Rattle.ygg_eval_lower.specs.declared.body.Part.{Part}
 use Rattle.ygg_eval_lower.specs.declared.body.Stop.{Stop}
-use Rattle.ygg_eval_lower.specs.Bodies.{IsBlock, block_in}
+use Rattle.ygg_eval_lower.specs.Bodies.{IsBlock, block_in, variables_in}
 use Rattle.ygg_eval_lower.specs.Layers.{variables_at}
 use Rattle.ygg_eval_lower.specs.Lower.{Serves}
 use Rattle.ygg_eval_block.specs.Runs.{CanServe}
 use Rattle.ygg_eval_spec.specs.Kept.{Kept, spec_meaning}
 use Rattle.ygg_replay.specs.declared.site.Site.{Site}
-use Rattle.ygg_replay.specs.Sites.{IsHere, IsBelow, LowFits}
+use Rattle.ygg_replay.specs.Sites.{IsHere, IsBelow, LowFits, low_at}
 
 pub serves : (s : Site) (k : Kept) (power : Power) → IsBelow s k → Serves spec_meaning s.typed.now.file s.place (record { machine = k; power = power })
 serves s k power b = record { numbered = b.number; fits = b.kept; fuse = λ h. refl }

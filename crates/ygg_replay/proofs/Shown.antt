@@ -1,18 +1,17 @@
 -- What a schedule of an obligation shows, where its runs have ended.
-use Rattle.std.proofs.Common.{◌≡◌, true, [], Some, None, sym, ◌∙◌, subst}
+use Rattle.std.proofs.Common.{◌≡◌, true, [], Option, Some, None, sym, ◌∙◌, subst}
 use Rattle.ygg_meaning.specs.Machine.{Picks}
 use Rattle.ygg_meaning.specs.Obligations.{Obligation}
 use Rattle.ygg_meaning.specs.Related.{all_true}
 use Rattle.ygg_meaning.specs.Replayed.{Shows, Passes, Replays, IsFirstPassing}
 use Rattle.ygg_meaning.specs.Violates.{Reached, hypotheses, most, passes, spec_after}
 use Rattle.ygg_replay.specs.declared.site.Site.{Site}
-use Rattle.ygg_sched.specs.declared.case.Case.{Case}
-use Rattle.ygg_sched.specs.declared.schedule.Schedule.{Schedule}
+use Rattle.ygg_replay.specs.declared.schedule.Case.{Case}
+use Rattle.ygg_replay.specs.declared.schedule.Schedule.{Schedule}
 use Rattle.ygg_replay.specs.declared.ends.End.{End}
 use Rattle.ygg_replay.specs.Ends.{end_at}
 use Rattle.ygg_replay.specs.Passing.{IsFirstAfter}
-use Rattle.ygg_sched.specs.Cases.{obligation_at}
-use Rattle.ygg_replay.specs.Schedules.{schedule_fits}
+use Rattle.ygg_replay.specs.Schedules.{obligation_at, schedule_fits}
 use Rattle.ygg_replay.specs.Showing.{CanShow}
 use Rattle.ygg_replay.specs.Sites.{closed_in, machine_in}
 use Rattle.ygg_replay.specs.Steps.{meant_at}

@@ -1,5 +1,30 @@
 -- Steps of a specification that took the first of some picks, as steps with all of them.
-use Rattle.std.proofs.Common.{◌≡◌, Bool, true, false, List, [], ◌∷◌, ◌++◌, length, Option, Some, None, ◌⊎◌, inl, inr, refl, sym, ap, ◌∙◌}
+use Rattle.std.proofs.Common.{
+  ◌≡◌,
+  ℕ,
+  suc,
+  ◌≤◌,
+  Bool,
+  true,
+  false,
+  List,
+  [],
+  ◌∷◌,
+  ◌++◌,
+  map,
+  length,
+  Option,
+  Some,
+  None,
+  ◌⊎◌,
+  inl,
+  inr,
+  refl,
+  sym,
+  ap,
+  ◌∙◌,
+  subst,
+}
 use Rattle.std.proofs.lemmas.List.{map-append}
 use Rattle.ygg_value.specs.Values.{digit}
 use Rattle.ygg_value.specs.declared.row.Value.{Value}
@@ -10,9 +35,9 @@ use Rattle.ygg_meaning.specs.Progress.{Answer}
 use Rattle.ygg_meaning.specs.Machine.{Picks}
 use Rattle.ygg_meaning.specs.Layer.{ClosedLayer}
 use Rattle.ygg_meaning.specs.Obligations.{IsRead}
-use Rattle.ygg_meaning.specs.Spec.{Outcome, chosen, block_outcome, then_block, call_outcome, crash_outcome, fall_with}
+use Rattle.ygg_meaning.specs.Spec.{Outcome, chosen, block_outcome, then_block, call_outcome, crash_outcome, fall_with, fall_outcome}
 use Rattle.ygg_meaning.proofs.Exact.{Exact, block_exact, then_exact}
-use Rattle.ygg_direct.specs.Acts.{Taken}
+use Rattle.ygg_direct.specs.Acts.{next_of, later, Taken}
 use Rattle.ygg_direct.proofs.Taking.{left_after, read_taken}
 
 chosen_more : (p q : Picks) → chosen (p ++ q) ≡ chosen p ++ chosen q

@@ -1,11 +1,39 @@
 -- Steps of a layer's specification as a machine, as steps of the layer with all the picks that are given.
-use Rattle.std.proofs.Common.{◌≡◌, ℕ, suc, true, List, [], length, slice_get, Option, Some, None, option_map, sym, ap, ◌∙◌, subst, arith}
+use Rattle.std.proofs.Common.{
+  ◌≡◌,
+  ℕ,
+  suc,
+  ◌+◌,
+  ◌≤◌,
+  Bool,
+  true,
+  List,
+  [],
+  ◌∷◌,
+  ◌++◌,
+  length,
+  slice_get,
+  Option,
+  Some,
+  None,
+  option_map,
+  refl,
+  sym,
+  ap,
+  ◌∙◌,
+  subst,
+  arith,
+}
 use Rattle.std.proofs.lemmas.Option.{slice_get-map}
 use Rattle.ygg_value.specs.declared.row.Value.{Value}
+use Rattle.ygg_syntax.specs.declared.grammar.BlockKind.TheVariants.{Spec}
+use Rattle.ygg_syntax.specs.declared.tree.Block.{Block}
 use Rattle.ygg_syntax.specs.declared.tree.Declared.{Declared}
 use Rattle.ygg_syntax.specs.declared.tree.Operation.{Operation}
 use Rattle.ygg_syntax.specs.declared.tree.Layer.{Layer}
 use Rattle.ygg_syntax.specs.declared.tree.File.{File}
+use Rattle.ygg_syntax.specs.Choices.{choices_of}
+use Rattle.ygg_syntax.specs.Files.{IsDerivable}
 use Rattle.ygg_symbols.specs.Names.{Named}
 use Rattle.ygg_type_rules.specs.declared.scope.Signature.{Signature}
 use Rattle.ygg_type_rules.specs.TypeErrors.{none}
@@ -15,19 +43,27 @@ use Rattle.ygg_disk.specs.declared.power.Power.{Power}
 use Rattle.ygg_meaning.specs.Environments.{Name, Env, bind}
 use Rattle.ygg_meaning.specs.Shapes.{values_fit}
 use Rattle.ygg_meaning.specs.Progress.{Answer}
-use Rattle.ygg_meaning.specs.Machine.{Picks, State, based}
+use Rattle.ygg_meaning.specs.Machine.{Picks, State, based, Machine}
+use Rattle.ygg_meaning.specs.Layer.{ClosedLayer}
+use Rattle.ygg_meaning.specs.Obligations.{call_picks, crash_picks, fall_picks}
 use Rattle.ygg_meaning.specs.Refines.{Below, OnDisk, OnSpec, machine_below}
-use Rattle.ygg_meaning.specs.Spec.{Outcome, chosen, call_outcome, crash_outcome, fall_outcome, SpecCalls, SpecFalls, SpecLoses}
+use Rattle.ygg_meaning.specs.Spec.{Outcome, chosen, call_outcome, crash_outcome, fall_with, fall_outcome, SpecCalls, SpecFalls, SpecLoses}
 use Rattle.ygg_histories.specs.Stack.{tables_of}
 use Rattle.ygg_type_sound.proofs.Parameters.{same_fit}
-use Rattle.ygg_direct.proofs.Matching.{Matches}
+use Rattle.ygg_type_progress.specs.Kinds.{keeps}
+use Rattle.ygg_direct.proofs.Matching.{Matches, block_matches, fall_on_crash, fall_maybe}
 use Rattle.ygg_direct.specs.Places.{Result}
+use Rattle.ygg_eval_lower.specs.declared.body.Part.TheVariants as part
 use Rattle.ygg_eval_lower.specs.Layers.{variables_at, closed_at, below_at, machine_at, signatures_of, signatures_at}
 use Rattle.ygg_eval_lower.specs.Lower.{IsCallable, Called, Fell, Whole, Happened}
 use Rattle.ygg_eval_spec.specs.Kept.{Kept, spec_meaning, Loses}
 use Rattle.ygg_eval_spec.specs.Taken.{TakesOnly}
 use Rattle.ygg_eval_spec.proofs.Named.{find_first, typed_operations}
 use Rattle.ygg_eval_spec.proofs.OnSpec.{AsksSpec, asks_spec, at_operation, layer_variables}
+use Rattle.ygg_replay.proofs.Picks.{reads}
+use Rattle.ygg_replay.proofs.SpecSteps.{Extends, call_extends, crash_extends, fall_extends, with_all}
+use Rattle.ygg_replay.proofs.Typing.{block_kept}
+use Rattle.ygg_replay.specs.Runs.{fresh}
 
 -- what a step gives with as many picks as it takes at most
 pub exists : (n : ℕ) (O : Picks → Option Outcome) (P : Picks → Result) → Matches n O P → (picks : Picks) → length picks ≡ n → (o : Outcome) × (O picks ≡ Some o)

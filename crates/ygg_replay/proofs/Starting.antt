@@ -1,12 +1,12 @@
 -- The start of a specification, and of what a layer is specified over.
-use Rattle.std.proofs.Common.{◌≡◌, ℕ, true, IsTrue, List, [], ◌∷◌, take, length, Some, None, Ok, ◌⊎◌, inl, inr, refl, sym, ap, ◌∙◌, subst}
+use Rattle.std.proofs.Common.{◌≡◌, ℕ, suc, Bool, true, IsTrue, List, [], ◌∷◌, ◌++◌, take, length, Some, None, Ok, ◌⊎◌, inl, inr, refl, sym, ap, ◌∙◌, subst}
 use Rattle.ygg_value.specs.declared.row.Value.{Value}
 use Rattle.ygg_syntax.specs.declared.grammar.BlockKind.{BlockKind}
 use Rattle.ygg_syntax.specs.declared.grammar.BlockKind.TheVariants as kind
 use Rattle.ygg_syntax.specs.declared.tree.Block.{Block}
 use Rattle.ygg_syntax.specs.declared.tree.Declared.{Declared}
 use Rattle.ygg_meaning.specs.Environments.{Env, bind}
-use Rattle.ygg_meaning.specs.Shapes.{values_fit}
+use Rattle.ygg_meaning.specs.Shapes.{values_fit, zeros_of}
 use Rattle.ygg_meaning.specs.Progress.{Answer, Question, Choice, Call, Ends}
 use Rattle.ygg_meaning.specs.Runs.{Dialogue}
 use Rattle.ygg_meaning.specs.Spec.{block_outcome}
@@ -22,7 +22,7 @@ use Rattle.ygg_eval_spec.specs.Kept.{Kept, spec_meaning}
 use Rattle.ygg_eval_spec.proofs.Runs.{ended_outcome}
 use Rattle.ygg_eval_spec.proofs.Values.{bind_count}
 use Rattle.ygg_replay.specs.declared.site.Site.{Site}
-use Rattle.ygg_replay.specs.Sites.{IsHere, closed_in}
+use Rattle.ygg_replay.specs.Sites.{IsHere, closed_in, vars_at, VarsFit}
 use Rattle.ygg_replay.specs.Steps.{IsStart}
 use Rattle.ygg_replay.specs.Zeros.{zero_values}
 use Rattle.ygg_replay.proofs.Typing.{bind_zeros, memory_zeros}

@@ -1,5 +1,28 @@
 -- How steps of the layer's specification end, with all the picks that are given.
-use Rattle.std.proofs.Common.{◌≡◌, ℕ, suc, ◌+◌, true, List, [], length, slice_get, Option, Some, None, option_map, refl, sym, ap, ◌∙◌, false, arith}
+use Rattle.std.proofs.Common.{
+  ◌≡◌,
+  ℕ,
+  suc,
+  ◌+◌,
+  Bool,
+  true,
+  List,
+  [],
+  ◌∷◌,
+  length,
+  slice_get,
+  Option,
+  Some,
+  None,
+  option_map,
+  refl,
+  sym,
+  ap,
+  ◌∙◌,
+  subst,
+  false,
+  arith,
+}
 use Rattle.std.specs.Prelude.{option_and_then}
 use Rattle.ygg_value.specs.declared.row.Value.{Value}
 use Rattle.ygg_syntax.specs.declared.grammar.BlockKind.TheVariants.{Spec}

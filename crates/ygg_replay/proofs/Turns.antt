@@ -5,7 +5,7 @@ use Rattle.ygg_syntax.specs.declared.grammar.BlockKind.TheVariants as kind
 use Rattle.ygg_syntax.specs.declared.tree.File.{File}
 use Rattle.ygg_meaning.specs.Environments.{Name, Env}
 use Rattle.ygg_meaning.specs.Progress.{Question, Choice, Call, Answer, Progress, Asks, Ends, Stray}
-use Rattle.ygg_meaning.specs.Machine.{Picks, State, based}
+use Rattle.ygg_meaning.specs.Machine.{Picks, State, based, Machine}
 use Rattle.ygg_meaning.specs.Runs.{Dialogue, WholeCall, Reaches, FallenRun, notes_of}
 use Rattle.ygg_meaning.specs.Runs as runs
 use Rattle.ygg_eval_lower.specs.declared.body.Stop.{Stop}
@@ -16,7 +16,7 @@ use Rattle.ygg_eval_lower.specs.Conversations.{Exchange, Exchanged, Answered, Ta
 use Rattle.ygg_eval_block.specs.Runs.{Came, StoppedAt}
 use Rattle.ygg_eval_block.specs.Runs as block_runs
 use Rattle.ygg_eval_spec.specs.Taken.{TakesOnly}
-use Rattle.ygg_eval_spec.specs.Kept.{Kept, spec_meaning, named_in}
+use Rattle.ygg_eval_spec.specs.Kept.{Kept, Stepped, spec_meaning, named_in}
 use Rattle.ygg_eval_spec.specs.Keeping.{takes_both}
 use Rattle.ygg_eval_spec.proofs.Stepping.{no_pick}
 use Rattle.ygg_type_progress.specs.Questions.{question_fits}
@@ -99,8 +99,8 @@ module _ (file : File) (number : ℕ) (block : Dialogue) where
     pub event : stop.event ≡ length run.calls
     pub takes : TakesOnly taken from.power to.power
 
-  pub stopped : (stop : Stop) (from to : Standing Kept) → from.machine.number ≡ number →
-      StoppedAt spec_meaning file kind.Impl number block from (Some stop) to →
+  pub stopped : (stop : Stop) (from to : Standing Kept) → from.machine.number ≡ number → StoppedAt spec_meaning file kind.Impl number block from (Some stop)
+      to →
       FellThere stop from to
   stopped stop from to numbered e = at e.within e.is e.falls
     where

@@ -1,6 +1,6 @@
 -- What typing says of a layer of a file.
-use Rattle.std.proofs.Common.{◌≡◌, ℕ, suc, true, List, [], ◌∷◌, slice_get, Some, length, refl, ap, ◌∙◌}
-use Rattle.std.specs.List.{list_all}
+use Rattle.std.proofs.Common.{◌≡◌, ℕ, suc, Bool, true, List, [], ◌∷◌, slice_get, Option, Some, None, map, length, refl, sym, ap, ◌∙◌, subst}
+use Rattle.std.specs.List.{All, list_all}
 use Rattle.std.proofs.lemmas.List.Elements.{All-nil, All-cons}
 use Rattle.ygg_value.specs.Shapes.{IsShape, zero_of}
 use Rattle.ygg_syntax.specs.declared.tree.Block.{Block}
@@ -19,7 +19,7 @@ use Rattle.ygg_meaning.specs.Shapes.{env_fits, shape_in, values_fit, zeros_of}
 use Rattle.ygg_type_sound.proofs.Parameters.{type_is}
 use Rattle.ygg_type_progress.specs.Kinds.{keeps, layer_keeps}
 use Rattle.ygg_type_progress.proofs.Derived.{derivable_derived}
-use Rattle.ygg_type_progress.proofs.Typed.{parts}
+use Rattle.ygg_type_progress.proofs.Typed.{Parts, parts}
 use Rattle.ygg_type_progress.proofs.Views.{AllTyped, LayerVariables, zeros_fit}
 use Rattle.ygg_eval_lower.specs.declared.body.Body.{Body}
 use Rattle.ygg_eval_lower.specs.Bodies.{kind_of, IsBlock}

@@ -4,16 +4,17 @@ use Rattle.ygg_value.specs.Values.{same_value}
 use Rattle.ygg_value.specs.declared.row.Value.{Value}
 use Rattle.ygg_syntax.specs.declared.tree.Block.{Block}
 use Rattle.ygg_meaning.specs.Environments.{Env, bind}
+use Rattle.ygg_meaning.specs.Machine.{Picks}
 use Rattle.ygg_meaning.specs.Related.{settled}
 use Rattle.ygg_meaning.specs.Obligations.{Obligation}
 use Rattle.ygg_meaning.specs.Violates.{Reached, FallsSo, Recovers, CutShort}
 use Rattle.ygg_meaning.specs.Violates as violates
 use Rattle.ygg_meaning.specs.Replayed.{has_stop}
 use Rattle.ygg_eval_lower.specs.declared.body.Part.{Part}
-use Rattle.ygg_eval_lower.specs.Bodies.{arguments_in}
+use Rattle.ygg_eval_lower.specs.Bodies.{block_in, arguments_in}
 use Rattle.ygg_eval_spec.specs.Kept.{Kept}
 use Rattle.ygg_replay.specs.declared.site.Site.{Site}
-use Rattle.ygg_sched.specs.declared.schedule.Schedule.{Schedule}
+use Rattle.ygg_replay.specs.declared.schedule.Schedule.{Schedule}
 use Rattle.ygg_replay.specs.declared.ends.End.{End}
 use Rattle.ygg_replay.specs.Steps.{meant_at}
 use Rattle.ygg_replay.specs.Sites.{closed_in, machine_in, low_at, state_at, MemoryFits, IsBelow}

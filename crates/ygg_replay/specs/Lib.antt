@@ -1,5 +1,6 @@
 pub mod Zeros
 pub mod Schedules
+pub mod Asking
 pub mod Sites
 pub mod Runs
 pub mod Steps

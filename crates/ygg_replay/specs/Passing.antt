@@ -1,19 +1,20 @@
 -- Whether a conclusion holds with a list of the specification's picks, and the first such list.
-use Rattle.std.specs.Prelude.{◌≡◌, ℕ, Bool, true, IsTrue, ◌++◌, length, Option, Some, None}
+use Rattle.std.specs.Prelude.{◌≡◌, ℕ, Bool, true, IsTrue, List, ◌++◌, length, Option, Some, None}
 use Rattle.ygg_meaning.specs.Progress.{Answer}
 use Rattle.ygg_meaning.specs.Machine.{Picks}
 use Rattle.ygg_meaning.specs.Obligations.{Obligation, Init, CallOf, CutOf, TickOf, CutTickOf, Idle, Again, NoPicksPass}
 use Rattle.ygg_meaning.specs.Violates.{most, passes, related_after, same_answer, spec_after}
 use Rattle.ygg_meaning.specs.Replayed.{IsFirstPassing}
 use Rattle.ygg_replay.specs.declared.site.Site.{Site}
-use Rattle.ygg_sched.specs.declared.case.Case.{Case}
-use Rattle.ygg_sched.specs.declared.case.Kind.{Kind}
-use Rattle.ygg_sched.specs.declared.case.Kind.TheVariants as kind
+use Rattle.ygg_replay.specs.declared.schedule.Schedule.{Schedule}
+use Rattle.ygg_replay.specs.declared.schedule.Case.{Case}
+use Rattle.ygg_replay.specs.declared.schedule.Kind.{Kind}
+use Rattle.ygg_replay.specs.declared.schedule.Kind.TheVariants as kind
+use Rattle.ygg_replay.specs.declared.ends.End.{End}
 use Rattle.ygg_replay.specs.declared.conclusion.Trial.{Trial}
 use Rattle.ygg_replay.specs.Steps.{meant_at}
 use Rattle.ygg_replay.specs.Ends.{end_at, EndFits}
-use Rattle.ygg_sched.specs.Cases.{obligation_at}
-use Rattle.ygg_replay.specs.Schedules.{schedule_fits}
+use Rattle.ygg_replay.specs.Schedules.{obligation_at, schedule_fits}
 use Rattle.ygg_replay.specs.Sites.{closed_in}
 
 -- the obligation that is asked
@@ -30,8 +31,8 @@ agreeing s t (CallOf o) picks = passing s t (CallOf o) picks
 agreeing s t Init picks = related_after (closed_in s) (end_at s t.end.now).to (spec_after (closed_in s) Init (meant_at s t.schedule.now) picks)
 agreeing s t (CutOf o) picks = related_after (closed_in s) (end_at s t.end.now).to (spec_after (closed_in s) (CutOf o) (meant_at s t.schedule.now) picks)
 agreeing s t (TickOf k) picks = related_after (closed_in s) (end_at s t.end.now).to (spec_after (closed_in s) (TickOf k) (meant_at s t.schedule.now) picks)
-agreeing s t (CutTickOf k) picks =
-    related_after (closed_in s) (end_at s t.end.now).to (spec_after (closed_in s) (CutTickOf k) (meant_at s t.schedule.now) picks)
+agreeing s t (CutTickOf k) picks = related_after (closed_in s) (end_at s t.end.now).to
+    (spec_after (closed_in s) (CutTickOf k) (meant_at s t.schedule.now) picks)
 agreeing s t Idle picks = related_after (closed_in s) (end_at s t.end.now).to (spec_after (closed_in s) Idle (meant_at s t.schedule.now) picks)
 agreeing s t Again picks = related_after (closed_in s) (end_at s t.end.now).to (spec_after (closed_in s) Again (meant_at s t.schedule.now) picks)
 

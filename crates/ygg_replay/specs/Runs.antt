@@ -5,7 +5,7 @@ use Rattle.ygg_syntax.specs.declared.tree.Block.{Block}
 use Rattle.ygg_disk.specs.declared.power.Power.{Power}
 use Rattle.ygg_meaning.specs.Environments.{Env, bind}
 use Rattle.ygg_meaning.specs.Progress.{Answer}
-use Rattle.ygg_meaning.specs.Machine.{Picks, State, based}
+use Rattle.ygg_meaning.specs.Machine.{Picks, State, based, on}
 use Rattle.ygg_meaning.specs.Layer.{BlockRuns, BlockFalls}
 use Rattle.ygg_meaning.specs.Obligations.{Halt, IsRead}
 use Rattle.ygg_eval_lower.specs.declared.body.Part.{Part}

@@ -1,27 +1,44 @@
 -- Schedules as they are handed in, and the obligations and schedules that they stand for.
-use Rattle.std.specs.Prelude.{◌≡◌, ℕ, Bool, true, ◌&&◌, IsTrue, List, slice_get, Option, Some}
+use Rattle.std.specs.Prelude.{◌≡◌, ℕ, Bool, true, ◌&&◌, IsTrue, List, [], slice_get, Option, Some, None}
 use Rattle.std.specs.Option.{option_map}
 use Rattle.ygg_value.specs.declared.row.Value.{Value}
+use Rattle.ygg_syntax.specs.declared.tree.Declared.{Declared}
 use Rattle.ygg_syntax.specs.declared.tree.Layer.{Layer}
 use Rattle.ygg_syntax.specs.declared.tree.File.{File}
 use Rattle.ygg_meaning.specs.Environments.{Env, bind}
 use Rattle.ygg_meaning.specs.Shapes.{values_fit}
+use Rattle.ygg_meaning.specs.Machine.{Machine}
+use Rattle.ygg_meaning.specs.Layer.{ClosedLayer}
 use Rattle.ygg_meaning.specs.Obligations.{Obligation, Init, CallOf, CutOf, TickOf, CutTickOf, Idle, Again}
 use Rattle.ygg_meaning.specs.Obligations as obligations
 use Rattle.ygg_meaning.specs.Replayed.{Shows, Hypothesis, Passes, Replays}
 use Rattle.ygg_meaning.specs.Replayed as replayed
 use Rattle.ygg_eval_lower.specs.Layers.{variables_at, closed_at, machine_at}
-use Rattle.ygg_sched.specs.declared.case.Case.{Case}
-use Rattle.ygg_sched.specs.declared.schedule.Halt.{Halt}
-use Rattle.ygg_sched.specs.declared.schedule.Schedule.{Schedule}
-use Rattle.ygg_sched.specs.Cases.{obligation_at}
-use Rattle.ygg_sched.specs.Fitting.{halt_meant}
+use Rattle.ygg_replay.specs.declared.schedule.Kind.{Kind}
+use Rattle.ygg_replay.specs.declared.schedule.Kind.TheVariants as kind
+use Rattle.ygg_replay.specs.declared.schedule.Case.{Case}
+use Rattle.ygg_replay.specs.declared.schedule.Halt.{Halt}
+use Rattle.ygg_replay.specs.declared.schedule.Schedule.{Schedule}
 use Rattle.ygg_replay.specs.declared.schedule.Replayed.{Replayed}
 use Rattle.ygg_replay.specs.declared.schedule.Replayed.TheVariants as answer
 
+-- the obligation of a layer that is meant, if there is one
+abbrev pub obligation_at : Layer → Kind → ℕ → Option Obligation
+obligation_at l kind.Init number = Some Init
+obligation_at l kind.Call number = option_map CallOf (slice_get l.operations number)
+obligation_at l kind.Cut number = option_map CutOf (slice_get l.operations number)
+obligation_at l kind.Tick number = option_map TickOf (slice_get l.ticks number)
+obligation_at l kind.CutTick number = option_map CutTickOf (slice_get l.ticks number)
+obligation_at l kind.Idle number = Some Idle
+obligation_at l kind.Again number = Some Again
+
+-- a stop
+abbrev pub halt_in : Halt → obligations.Halt
+halt_in h = record { within = h.within; event = h.event }
+
 -- where the run stops, if it does
 abbrev pub halt_of : Option Halt → Option obligations.Halt
-halt_of = option_map halt_meant
+halt_of = option_map halt_in
 
 -- the base below a layer, by name
 abbrev pub low_in : File → ℕ → List Value → Env

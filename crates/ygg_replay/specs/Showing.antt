@@ -3,11 +3,10 @@ use Rattle.std.specs.Prelude.{◌≡◌, IsTrue, Some}
 use Rattle.ygg_meaning.specs.Obligations.{Obligation}
 use Rattle.ygg_meaning.specs.Replayed.{Replays}
 use Rattle.ygg_replay.specs.declared.site.Site.{Site}
-use Rattle.ygg_sched.specs.declared.case.Case.{Case}
-use Rattle.ygg_sched.specs.declared.schedule.Schedule.{Schedule}
+use Rattle.ygg_replay.specs.declared.schedule.Case.{Case}
+use Rattle.ygg_replay.specs.declared.schedule.Schedule.{Schedule}
 use Rattle.ygg_replay.specs.declared.schedule.Replayed.{Replayed}
-use Rattle.ygg_sched.specs.Cases.{obligation_at}
-use Rattle.ygg_replay.specs.Schedules.{schedule_fits, shown_by}
+use Rattle.ygg_replay.specs.Schedules.{obligation_at, schedule_fits, shown_by}
 use Rattle.ygg_replay.specs.Sites.{closed_in, machine_in}
 use Rattle.ygg_replay.specs.Steps.{meant_at}
 

@@ -1,5 +1,5 @@
 -- How steps of the layer's own specification end.
-use Rattle.std.specs.Prelude.{◌≡◌, ℕ, suc, List, length, slice_get, Option, Some}
+use Rattle.std.specs.Prelude.{◌≡◌, ℕ, suc, List, [], length, slice_get, Option, Some}
 use Rattle.ygg_value.specs.declared.row.Value.{Value}
 use Rattle.ygg_syntax.specs.declared.tree.Operation.{Operation}
 use Rattle.std.specs.Prelude.{IsTrue}
@@ -8,11 +8,10 @@ use Rattle.ygg_meaning.specs.Progress.{Answer}
 use Rattle.ygg_meaning.specs.Spec.{Outcome, start_outcome}
 use Rattle.ygg_eval_spec.specs.Kept.{Kept}
 use Rattle.ygg_replay.specs.declared.site.Site.{Site}
-use Rattle.ygg_sched.specs.declared.case.Kind.{Kind}
-use Rattle.ygg_sched.specs.declared.case.Kind.TheVariants as kind
-use Rattle.ygg_sched.specs.declared.schedule.Schedule.{Schedule}
-use Rattle.ygg_sched.specs.Cases.{obligation_at}
-use Rattle.ygg_replay.specs.Schedules.{meant, schedule_fits}
+use Rattle.ygg_replay.specs.declared.schedule.Kind.{Kind}
+use Rattle.ygg_replay.specs.declared.schedule.Kind.TheVariants as kind
+use Rattle.ygg_replay.specs.declared.schedule.Schedule.{Schedule}
+use Rattle.ygg_replay.specs.Schedules.{meant, obligation_at, schedule_fits}
 use Rattle.ygg_meaning.specs.Machine.{Picks}
 use Rattle.ygg_meaning.specs.Obligations.{Obligation, Init, CallOf, CutOf, TickOf, CutTickOf, Idle, Again}
 use Rattle.ygg_meaning.specs.Obligations as obligations

@@ -5,12 +5,12 @@ ghost use Rattle.ygg_meaning.specs.Obligations.{Obligation};
 ghost use Rattle.ygg_meaning.specs.Violates.{same_answer};
 ghost use Rattle.ygg_replay.specs.Passing.{AreAll, CanConclude, IsOf, agreeing, answers_for, passing};
 ghost use Rattle.ygg_replay.specs.Sites.{IsHere};
-ghost use Rattle.ygg_sched.specs.declared.case.Kind.TheVariants as kind;
+ghost use Rattle.ygg_replay.specs.declared.schedule.Kind.TheVariants as kind;
 
 use crate::ends::End;
+use crate::schedule::{Case, Kind, Schedule};
 use crate::site::Site;
 use ygg_list::NoMemory;
-use ygg_sched::{Case, Kind, Schedule};
 use ygg_value::{Value, same};
 
 /// What the conclusion of an obligation is asked of: the obligation, its schedule, and how the runs have ended that it speaks of.

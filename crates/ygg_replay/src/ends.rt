@@ -21,18 +21,17 @@ ghost use Rattle.ygg_replay.specs.Ends.{
   seen_at,
 };
 ghost use Rattle.ygg_replay.specs.Runs.{RanBy};
-ghost use Rattle.ygg_sched.specs.Cases.{obligation_at};
-ghost use Rattle.ygg_replay.specs.Schedules.{schedule_fits};
+ghost use Rattle.ygg_replay.specs.Schedules.{obligation_at, schedule_fits};
 ghost use Rattle.ygg_replay.specs.Sites.{IsBelow, IsHere, LowFits, closed_in, low_at, machine_in, state_at};
 ghost use Rattle.ygg_replay.specs.Steps.{meant_at};
 ghost use Rattle.ygg_replay.specs.Zeros.{zero_values};
 
+use crate::schedule::{Kind, Schedule};
 use crate::site::Site;
 use crate::zeros::zeros;
 use ygg_base::{Bits, DiskKind};
 use ygg_eval::{Part, SpecLower, spec_lower};
 use ygg_list::{NoMemory, Sequence};
-use ygg_sched::{Kind, Schedule};
 use ygg_value::{Shape, Value, Values, same, zero};
 
 /// How the runs of an obligation have ended: with an answer, if they give one, in a memory over a machine below, and on the side the test in

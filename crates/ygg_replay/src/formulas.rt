@@ -46,8 +46,8 @@ impl<'a> Site<'a> {
     ) -> Result<Option<usize>, NoMemory>
         requires here { IsHere self.now }
         requires fits { StatesFit self.now state.now memory.now low.now }
-        ensures { IfOk result (λ place. place ≡ option_map suc (first_false (map (holds (closed_in self.now) (vars_at self.now state.now)
-            (memory_at self.now memory.now) (low_at self.now low.now)) self.now.layer.now.always))) }
+        ensures { IfOk result (λ place. place ≡ option_map suc (first_false (map (holds (closed_in self.now) (vars_at self.now state.now) (memory_at self.now memory.now)
+            (low_at self.now low.now)) self.now.layer.now.always))) }
     {
         for place in 0..self.layer.always.len() {
             let formula = Formula {

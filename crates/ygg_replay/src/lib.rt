@@ -1,6 +1,7 @@
 //! Replays of schedules: what an obligation asks of a schedule is run on values, on the layer's blocks and on what the layer is specified over.
 #![tactic(auto)]
 
+mod asking;
 mod conclusion;
 mod ends;
 mod formulas;
@@ -12,5 +13,6 @@ mod site;
 mod spec;
 mod zeros;
 
-pub use schedule::Replayed;
+pub use asking::is_asked;
+pub use schedule::{Case, Halt, Kind, Replayed, Schedule};
 pub use showing::replay;

@@ -4,16 +4,16 @@ ghost use Rattle.std.specs.Prelude.{◌≡◌, IfOk, IsTrue, OnOk};
 ghost use Rattle.ygg_syntax.specs.declared.grammar.BlockKind.TheVariants as kind;
 ghost use Rattle.ygg_eval_lower.specs.Bodies.{IsRunnable, kind_of};
 ghost use Rattle.ygg_replay.specs.Runs.{LostBy, PartCut, PartRan, fresh};
-ghost use Rattle.ygg_sched.specs.Fitting.{halt_meant};
+ghost use Rattle.ygg_replay.specs.Schedules.{halt_in};
 ghost use Rattle.ygg_replay.specs.Sites.{IsBelow, IsHere, MemoryFits, low_at};
 
+use crate::schedule::Halt;
 use crate::site::Site;
 use std::alloc::Global;
 use ygg_base::Bits;
 use ygg_disk::{Picks, Power};
 use ygg_eval::{Body, Ended, Lower, Part, SpecLower, Stop, run_body};
 use ygg_list::NoMemory;
-use ygg_sched::Halt;
 use ygg_value::{Value, Values};
 
 /// Power that does not fail, with these picks, and 0 past their end. Its only error is out of memory.
@@ -83,7 +83,7 @@ impl<'a> Site<'a> {
         requires kind { kind_of part ≡ kind.Impl }
         requires block { IsRunnable self.now.typed.now.file (record { layer = self.now.place; part = part; number = number }) args.now memory }
         requires lower { IsBelow self.now lower.old }
-        ensures cut { IfOk result (λ stopped. PartCut self.now part number args.now (halt_meant stop) picks.now memory lower.old.values stopped
+        ensures cut { IfOk result (λ stopped. PartCut self.now part number args.now (halt_in stop) picks.now memory lower.old.values stopped
             (low_at self.now lower.new.values)) }
         ensures lower { OnOk result (IsBelow self.now lower.new) }
     {

@@ -9,11 +9,11 @@ ghost use Rattle.ygg_replay.specs.Passing.{CanConclude, IsFirstAfter, IsOf, pass
 ghost use Rattle.ygg_replay.specs.Sites.{IsHere, closed_in};
 
 use crate::conclusion::Trial;
+use crate::schedule::{Case, Kind};
 use crate::site::Site;
 use std::alloc::Global;
 use ygg_base::Bits;
 use ygg_list::NoMemory;
-use ygg_sched::{Case, Kind};
 use ygg_syntax::tree::{Block, Operation};
 use ygg_syntax_count::choices;
 
@@ -78,8 +78,7 @@ impl<'a> Site<'a> {
         requires here { IsHere self.now }
         requires can { CanConclude self.now trial }
         requires all { (o : Obligation) → IsOf self.now trial.case o → length before.now + left ≡ most (closed_in self.now) o }
-        ensures { IfOk result (λ found. (o : Obligation) → IsOf self.now trial.entry.case o →
-            IsFirstAfter left (passing self.now trial.entry o) before.now found) }
+        ensures { IfOk result (λ found. (o : Obligation) → IsOf self.now trial.entry.case o → IsFirstAfter left (passing self.now trial.entry o) before.now found) }
     {
         if left == 0 {
             if self.passes(trial, before)? {
@@ -100,8 +99,8 @@ impl<'a> Site<'a> {
     pub fn first_passing(&self, trial: Trial<'_>) -> Result<Option<Bits>, NoMemory>
         requires here { IsHere self.now }
         requires can { CanConclude self.now trial }
-        ensures { IfOk result (λ found. (o : Obligation) → IsOf self.now trial.entry.case o →
-            IsFirstAfter (most (closed_in self.now) o) (passing self.now trial.entry o) [] found) }
+        ensures { IfOk result (λ found. (o : Obligation) → IsOf self.now trial.entry.case o → IsFirstAfter (most (closed_in self.now) o) (passing self.now trial.entry o) []
+            found) }
     {
         let most = self.most(trial.case)?;
         self.first_after(trial, most, &[])

@@ -5,19 +5,17 @@ ghost use Rattle.ygg_meaning.specs.Obligations.{Obligation};
 ghost use Rattle.ygg_meaning.specs.Obligations as obligations;
 ghost use Rattle.ygg_meaning.specs.Related.{all_true};
 ghost use Rattle.ygg_meaning.specs.Violates.{hypotheses};
-ghost use Rattle.ygg_sched.specs.Cases.{obligation_at};
-ghost use Rattle.ygg_replay.specs.Schedules.{IsAsked, IsShown};
+ghost use Rattle.ygg_replay.specs.Schedules.{IsAsked, IsShown, obligation_at};
 ghost use Rattle.ygg_replay.specs.Showing.{CanShow, ShowsHere};
 ghost use Rattle.ygg_replay.specs.Sites.{IsHere, closed_in, first_false};
 ghost use Rattle.ygg_replay.specs.Steps.{meant_at};
 
 use crate::conclusion::Trial;
 use crate::formulas::number_of;
-use crate::schedule::Replayed;
+use crate::schedule::{Case, Kind, Replayed, Schedule};
 use crate::site::Site;
 use std::alloc::Global;
 use ygg_list::NoMemory;
-use ygg_sched::{Case, Kind, Schedule};
 use ygg_type::Typed;
 
 impl<'a> Site<'a> {

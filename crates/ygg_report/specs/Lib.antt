@@ -1,4 +1,3 @@
-pub mod Picks
 pub mod Lines
 pub mod Putting
 pub mod Tallies

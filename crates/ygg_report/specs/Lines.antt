@@ -1,11 +1,10 @@
 -- The lines that commands print.
-use Rattle.std.specs.Prelude.{ℕ, Bool, List, [], ◌∷◌, ◌++◌, codes}
+use Rattle.std.specs.Prelude.{ℕ, List, [], ◌∷◌, ◌++◌, codes}
 use Rattle.std.specs.Fmt.{decimal}
 use Rattle.ygg_base.specs.declared.failure.Refusal.{Refusal}
 use Rattle.ygg_report.specs.declared.verdict.Verdict.{Verdict}
 use Rattle.ygg_report.specs.declared.verdict.Verdict.TheVariants.{Holds, Fails, Spent}
 use Rattle.ygg_report.specs.declared.verdict.Tally.{Tally}
-use Rattle.ygg_report.specs.Picks.{bits_text}
 
 -- text with its line feed
 abbrev pub ended : List ℕ → List ℕ
@@ -40,18 +39,6 @@ found_words t = codes " holds " ++ decimal t.holds ++ codes " fails " ++ decimal
 -- the line of the file that `demo` makes for a number
 abbrev pub demo_line : ℕ → Tally → List ℕ
 demo_line number t = ended (made_words number t ++ found_words t)
-
--- the line of a schedule that violates the obligation of this name
-abbrev pub shows_line : List ℕ → List ℕ
-shows_line name = ended (codes "shows " ++ name)
-
--- the line of a schedule whose first false hypothesis has this number
-abbrev pub hypothesis_line : ℕ → List ℕ
-hypothesis_line number = ended (codes "hypothesis " ++ decimal number)
-
--- the line of a schedule with which the conclusion holds where the specification takes these picks
-abbrev pub holds_with_line : List Bool → List ℕ
-holds_with_line picks = ended (codes "holds " ++ bits_text picks)
 
 -- the line of a refusal
 abbrev pub refused_line : Refusal → List ℕ

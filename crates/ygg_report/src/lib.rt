@@ -2,11 +2,9 @@
 #![tactic(auto)]
 
 mod lines;
-mod picks;
 mod putting;
 mod verdict;
 
-pub use lines::{demo, holds_with, hypothesis, line, refused, refuted, shows, undecided, verified};
-pub use picks::put_bits;
+pub use lines::{demo, line, refused, refuted, undecided, verified};
 pub use putting::{put, put_all};
 pub use verdict::{Tally, Verdict};

@@ -1,12 +1,11 @@
 ghost use Rattle.std.specs.Prelude.{◌≡◌, IfOk};
 ghost use Rattle.std.specs.List.{flat_map};
 ghost use Rattle.ygg_report.specs.declared.verdict.Verdict.TheVariants.{Spent};
-ghost use Rattle.ygg_report.specs.Lines.{ended, verdict_line, verified_line, refuted_line, undecided_line, made_words, found_words, demo_line, shows_line, hypothesis_line, holds_with_line, refused_line};
+ghost use Rattle.ygg_report.specs.Lines.{ended, verdict_line, verified_line, refuted_line, undecided_line, made_words, found_words, demo_line, refused_line};
 
-use crate::picks::put_bits;
 use crate::verdict::{Tally, Verdict};
 use std::alloc::Global;
-use ygg_base::{Bits, NoMemory, Refusal, Text};
+use ygg_base::{NoMemory, Refusal, Text};
 
 /// A line of these parts. Its only error is out of memory.
 fn line_of(alloc: Global, parts: &[&[u8]]) -> Result<Text, NoMemory>
@@ -95,31 +94,6 @@ pub fn demo(alloc: Global, number: u32, tally: &Tally) -> Result<Text, NoMemory>
     let last = found(alloc, tally)?;
     let text = line_of(alloc, &[first.as_slice(), last.as_slice()])?;
     Ok(text)
-}
-
-/// The line of a schedule that violates the obligation of this name: `shows NAME`. Its only error is out of memory.
-pub fn shows(alloc: Global, name: &Text) -> Result<Text, NoMemory>
-    ensures { IfOk result (λ text. text ≡ shows_line name.now) }
-{
-    line_of(alloc, &[b"shows ", name.as_slice()])
-}
-
-/// The line of a schedule whose first false hypothesis has this number, counted from 0: `hypothesis I`. Its only error is out of memory.
-pub fn hypothesis(alloc: Global, number: u32) -> Result<Text, NoMemory>
-    ensures { IfOk result (λ text. text ≡ hypothesis_line number) }
-{
-    let written = format!(in alloc; "hypothesis {number}\n")?;
-    let text = Text::from_slice(alloc, written.as_bytes())?;
-    Ok(text)
-}
-
-/// The line of a schedule with which the conclusion holds where the specification takes these picks: `holds BITS`. Its only error is out of memory.
-pub fn holds_with(alloc: Global, picks: &Bits) -> Result<Text, NoMemory>
-    ensures { IfOk result (λ text. text ≡ holds_with_line picks.now) }
-{
-    let mut bits = Text::new(alloc);
-    put_bits(&mut bits, picks)?;
-    line_of(alloc, &[b"holds ", bits.as_slice()])
 }
 
 /// The line of a refusal: `refused NUMBER LINE:COLUMN`. Its only error is out of memory.

@@ -1,11 +1,10 @@
 -- What is found first, by its name.
-use Rattle.std.proofs.Common.{◌≡◌, ℕ, suc, ◌+◌, ◌<◌, Bool, true, false, cond, List, [], ◌∷◌, ◌++◌, map, length, get_or, drop, slice_get, Option, Some, None, refl, sym, ap, ◌∙◌, add-one}
+use Rattle.std.proofs.Common.{◌≡◌, ℕ, ◌+◌, ◌<◌, Bool, true, false, cond, List, [], ◌∷◌, ◌++◌, map, length, get_or, drop, Option, Some, None, refl, sym, ap, ◌∙◌}
 use Rattle.std.specs.Prelude.{◌==◌}
 use Rattle.std.specs.List.{find}
 use Rattle.std.specs.Option.{option_map, option_or}
 use Rattle.std.specs.Str.{bytes_eq}
 use Rattle.std.proofs.lemmas.List.{drop_more}
-use Rattle.std.proofs.lemmas.Option.{slice_get_read}
 use Rattle.std.proofs.lemmas.List.Folds.{find-append}
 use Rattle.ygg_syntax.specs.declared.tree.Declared.{Declared}
 use Rattle.ygg_syntax.specs.declared.tree.Operation.{Operation}
@@ -102,17 +101,10 @@ module _ (name : List ℕ) (operations : List Operation) (ticks : List Tick) whe
       find (is_suffix name) (all_of operations ticks) ≡ find (is_suffix name) (Idle ∷ Again ∷ [])
   own_last fails none nothing = own_is ∙ rw (fails, none, nothing) refl
 
--- what stands at a place of a list
-pub stands_in : {X : Type 0} (xs : List X) (i : ℕ) (x : X) → i < length xs → x ≡ get_or xs i x → slice_get xs i ≡ Some x
-stands_in xs i x within is = slice_get_read xs (length xs) i x refl within is
-
 -- the operation at a place, and those after it
 module _ (name : List ℕ) (operations : List Operation) (i : ℕ) (o : Operation) (within : i < length operations) (is : o ≡ get_or operations i o) where
   split_calls : drop i operations ≡ o ∷ drop (i + 1) operations
   split_calls = drop_more operations i o within ∙ ap (λ (x : Operation). x ∷ drop (i + 1) operations) (sym is)
-
-  pub call_found : is_suffix name (CallOf o) ≡ true → find (is_suffix name) (calls_of (drop i operations)) ≡ Some (CallOf o)
-  call_found passes = rw (split_calls, passes) refl
 
   pub cut_found : is_suffix name (CallOf o) ≡ false → is_suffix name (CutOf o) ≡ true →
       find (is_suffix name) (calls_of (drop i operations)) ≡ Some (CutOf o)
@@ -127,9 +119,6 @@ module _ (name : List ℕ) (ticks : List Tick) (i : ℕ) (t : Tick) (within : i 
   split_ticks : drop i ticks ≡ t ∷ drop (i + 1) ticks
   split_ticks = drop_more ticks i t within ∙ ap (λ (x : Tick). x ∷ drop (i + 1) ticks) (sym is)
 
-  pub tick_found : is_suffix name (TickOf t) ≡ true → find (is_suffix name) (ticks_of (drop i ticks)) ≡ Some (TickOf t)
-  tick_found passes = rw (split_ticks, passes) refl
-
   pub cut_tick_found : is_suffix name (TickOf t) ≡ false → is_suffix name (CutTickOf t) ≡ true →
       find (is_suffix name) (ticks_of (drop i ticks)) ≡ Some (CutTickOf t)
   cut_tick_found fails passes = rw (split_ticks, fails, passes) refl
@@ -138,19 +127,18 @@ module _ (name : List ℕ) (ticks : List Tick) (i : ℕ) (t : Tick) (within : i 
       find (is_suffix name) (ticks_of (drop i ticks)) ≡ find (is_suffix name) (ticks_of (drop (i + 1) ticks))
   ticks_passed fails neither = rw (split_ticks, fails, neither) refl
 
--- an obligation with its layer, the place of that, and the variables below
-abbrev pub placed : ℕ → Layer → List Declared → Obligation → Site
-placed place l below o = record { place = place; layer = l; low = below; obligation = o }
+-- an obligation with its layer and the variables below
+abbrev pub placed : Layer → List Declared → Obligation → Site
+placed l below o = record { layer = l; low = below; obligation = o }
 
 -- the first of a layer and of those above it
-pub found_on : (name : List ℕ) (place : ℕ) (below : List Declared) (l : Layer) (ls : List Layer) →
-    find (is_named name) (sites_on place below (l ∷ ls))
-    ≡ option_or (option_map (placed place l below) (find (λ o. bytes_eq (name_of l.name.text o) name) (obligations_of l)))
-    (find (is_named name) (sites_on (suc place) l.state ls))
-found_on name place below l ls =
-    find-append (is_named name) (sites_at place l below) (sites_on (suc place) l.state ls)
-    ∙ ap (λ (o : Option Site). option_or o (find (is_named name) (sites_on (suc place) l.state ls)))
-    (find-map (is_named name) (placed place l below) (obligations_of l))
+pub found_on : (name : List ℕ) (below : List Declared) (l : Layer) (ls : List Layer) →
+    find (is_named name) (sites_on below (l ∷ ls))
+    ≡ option_or (option_map (placed l below) (find (λ o. bytes_eq (name_of l.name.text o) name) (obligations_of l)))
+    (find (is_named name) (sites_on l.state ls))
+found_on name below l ls =
+    find-append (is_named name) (sites_at l below) (sites_on l.state ls)
+    ∙ ap (λ (o : Option Site). option_or o (find (is_named name) (sites_on l.state ls))) (find-map (is_named name) (placed l below) (obligations_of l))
 
 -- the layer at a place, and those above it
 module _ (name : List ℕ) (below : List Declared) (layers : List Layer) (i : ℕ) (l : Layer) (within : i < length layers) (is : l ≡ get_or layers i l) where
@@ -158,13 +146,11 @@ module _ (name : List ℕ) (below : List Declared) (layers : List Layer) (i : �
   split_layers = drop_more layers i l within ∙ ap (λ (x : Layer). x ∷ drop (i + 1) layers) (sym is)
 
   pub site_found : (o : Obligation) → find (λ x. bytes_eq (name_of l.name.text x) name) (obligations_of l) ≡ Some o →
-      find (is_named name) (sites_on i below (drop i layers)) ≡ Some (placed i l below o)
+      find (is_named name) (sites_on below (drop i layers)) ≡ Some (placed l below o)
   site_found o found =
-      ap (λ (ls : List Layer). find (is_named name) (sites_on i below ls)) split_layers ∙ found_on name i below l (drop (i + 1) layers) ∙ rw found refl
+      ap (λ (ls : List Layer). find (is_named name) (sites_on below ls)) split_layers ∙ found_on name below l (drop (i + 1) layers) ∙ rw found refl
 
   pub sites_passed : find (λ x. bytes_eq (name_of l.name.text x) name) (obligations_of l) ≡ None →
-      find (is_named name) (sites_on i below (drop i layers)) ≡ find (is_named name) (sites_on (i + 1) l.state (drop (i + 1) layers))
+      find (is_named name) (sites_on below (drop i layers)) ≡ find (is_named name) (sites_on l.state (drop (i + 1) layers))
   sites_passed none =
-      ap (λ (ls : List Layer). find (is_named name) (sites_on i below ls)) split_layers
-      ∙ found_on name i below l (drop (i + 1) layers)
-      ∙ rw none (ap (λ (place : ℕ). find (is_named name) (sites_on place l.state (drop (i + 1) layers))) (sym (add-one i)))
+      ap (λ (ls : List Layer). find (is_named name) (sites_on below ls)) split_layers ∙ found_on name below l (drop (i + 1) layers) ∙ rw none refl

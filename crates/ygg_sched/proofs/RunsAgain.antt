@@ -12,8 +12,7 @@ use Rattle.std.proofs.lemmas.Str.Parse.{IsNumeralModel, numerals_by_fold}
 use Rattle.ygg_base.specs.Lexing.{is_digit, number_of, value_after, has_leading_zero}
 use Rattle.ygg_sched.specs.declared.schedule.Halt.{Halt}
 use Rattle.ygg_sched.specs.Words.{after_front}
-use Rattle.ygg_report.specs.Picks.{digits_text, bits_text}
-use Rattle.ygg_sched.specs.Numbers.{decimal_in, picks_in, bits_in, stop_in, halt}
+use Rattle.ygg_sched.specs.Numbers.{decimal_in, picks_in, bits_in, digits_text, bits_text, stop_in, halt}
 use Rattle.ygg_sched.specs.Lines.{stop_at, bits_at}
 use Rattle.ygg_sched.specs.Printing.{stop_words, stop_lines, bits_line, bits_lines}
 use Rattle.ygg_sched.specs.Reading.{stop_if, bits_if}

@@ -1,5 +1,5 @@
 -- Which schedules are those of a file, and what a schedule says of its obligation.
-use Rattle.std.specs.Prelude.{◌≡◌, ℕ, ◌<◌, ◌^◌, Bool, false, not, ◌==◌, ◌&&◌, IsTrue, List, [], ◌∷◌, Option, Some, is_some, IfSome}
+use Rattle.std.specs.Prelude.{◌≡◌, ℕ, ◌<◌, ◌^◌, Bool, false, not, ◌==◌, ◌&&◌, IsTrue, List, [], ◌∷◌, Option, Some, is_some, IfSome, option_map}
 use Rattle.std.specs.List.{list_all}
 use Rattle.ygg_value.specs.declared.row.Value.{Value}
 use Rattle.ygg_value.specs.Shapes.{IsValue, shape_of as value_shape}
@@ -7,6 +7,7 @@ use Rattle.ygg_syntax.specs.declared.tree.TypeText.{TypeText}
 use Rattle.ygg_syntax.specs.declared.tree.Declared.{Declared}
 use Rattle.ygg_syntax.specs.declared.tree.File.{File}
 use Rattle.ygg_type_rules.specs.Shapes.{shape_of}
+use Rattle.ygg_meaning.specs.Environments.{bind}
 use Rattle.ygg_meaning.specs.Obligations as meaning
 use Rattle.ygg_sched.specs.declared.schedule.Halt.{Halt}
 use Rattle.ygg_sched.specs.declared.schedule.Schedule.{Schedule}
@@ -69,3 +70,16 @@ pub record IsPlain (s : Site) (name : List ℕ) : Type 0 where
 -- what the stop means
 abbrev pub halt_meant : Halt → meaning.Halt
 halt_meant h = record { within = h.within; event = h.event }
+
+-- The values for all that the obligation speaks of: the variables by their names, the arguments in their order.
+abbrev pub meant : Site → Schedule → meaning.Schedule
+meant s x = record {
+  state = bind (state_lines s) x.state;
+  memory = bind (memory_lines s) x.memory;
+  low = bind (low_lines s) x.low;
+  args = x.args;
+  stop = option_map halt_meant x.stop;
+  picks = x.picks;
+  wake = x.wake;
+  other = x.other;
+}

@@ -1,7 +1,6 @@
 pub mod Flaws
 pub mod Picks
 pub mod Sites
-pub mod Cases
 pub mod Naming
 pub mod Words
 pub mod Numbers

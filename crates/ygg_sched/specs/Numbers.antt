@@ -58,6 +58,20 @@ picks_in (b ∷ bs) = elim (pick_in b) [ None ↦ None | Some pick ↦ option_ma
 abbrev pub bits_in : List ℕ → Option (List Bool)
 bits_in bytes = if bytes_eq bytes (codes "-") then Some [] else if is_empty bytes then None else picks_in bytes
 
+-- the digit of a pick
+abbrev pub pick_digit : Bool → ℕ
+pick_digit pick = if pick then 49 else 48
+
+-- the digits of picks
+abbrev pub digits_text : List Bool → List ℕ
+digits_text [] = []
+digits_text (pick ∷ picks) = pick_digit pick ∷ digits_text picks
+
+-- the word of picks
+abbrev pub bits_text : List Bool → List ℕ
+bits_text [] = codes "-"
+bits_text (pick ∷ picks) = digits_text (pick ∷ picks)
+
 -- a stop before so many calls are whole, or within the call of this number
 abbrev pub halt : Bool → ℕ → Halt
 halt within event = record { within = within; event = event }

@@ -6,7 +6,7 @@ use Rattle.ygg_syntax.specs.declared.tree.Declared.{Declared}
 use Rattle.ygg_syntax.specs.declared.tree.File.{File}
 use Rattle.ygg_sched.specs.declared.schedule.Halt.{Halt}
 use Rattle.ygg_sched.specs.declared.schedule.Schedule.{Schedule}
-use Rattle.ygg_report.specs.Picks.{bits_text}
+use Rattle.ygg_sched.specs.Numbers.{bits_text}
 use Rattle.ygg_sched.specs.Values.{value_text}
 use Rattle.ygg_sched.specs.Sites.{Site, site_named, state_lines, memory_lines, low_lines, argument_lines, has_wake, has_other}
 

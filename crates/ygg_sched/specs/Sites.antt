@@ -1,5 +1,5 @@
 -- The obligations of a file by their names, and which lines a schedule of each has.
-use Rattle.std.specs.Prelude.{ℕ, suc, Bool, true, false, if◌then◌else◌, List, [], ◌∷◌, ◌++◌, map, Option}
+use Rattle.std.specs.Prelude.{ℕ, Bool, true, false, if◌then◌else◌, List, [], ◌∷◌, ◌++◌, map, Option}
 use Rattle.std.specs.List.{find}
 use Rattle.std.specs.Str.{bytes_eq}
 use Rattle.ygg_syntax.specs.declared.tree.Declared.{Declared}
@@ -13,25 +13,24 @@ use Rattle.ygg_sched.specs.declared.claim.Low.{Low}
 use Rattle.ygg_sched.specs.declared.claim.Low.TheVariants as low
 use Rattle.ygg_sched.specs.declared.claim.Claim.{Claim}
 
--- an obligation, its layer with the place of that in the file, from 0, and the variables that `low` names there
+-- an obligation, its layer, and the variables that `low` names there
 pub record Site : Type 0 where
-  pub place : ℕ
   pub layer : Layer
   pub low : List Declared
   pub obligation : Obligation
 
--- the obligations of a layer at this place over these variables below, in order
-abbrev pub sites_at : ℕ → Layer → List Declared → List Site
-sites_at place l below = map (λ o. record { place = place; layer = l; low = below; obligation = o }) (obligations_of l)
+-- the obligations of a layer over these variables below, in order
+abbrev pub sites_at : Layer → List Declared → List Site
+sites_at l below = map (λ o. record { layer = l; low = below; obligation = o }) (obligations_of l)
 
--- the obligations of layers from this place up, over these variables below, those of the lowest layer first
-abbrev pub sites_on : ℕ → List Declared → List Layer → List Site
-sites_on place below [] = []
-sites_on place below (l ∷ ls) = sites_at place l below ++ sites_on (suc place) l.state ls
+-- the obligations of layers over these variables below, those of the lowest layer first
+abbrev pub sites_on : List Declared → List Layer → List Site
+sites_on below [] = []
+sites_on below (l ∷ ls) = sites_at l below ++ sites_on l.state ls
 
 -- the obligations of a file, in order
 abbrev pub sites_of : File → List Site
-sites_of f = sites_on 0 (tables_of f.disk) f.layers
+sites_of f = sites_on (tables_of f.disk) f.layers
 
 -- whether it is the name of the obligation
 abbrev pub is_named : List ℕ → Site → Bool
@@ -134,4 +133,4 @@ obligation_in asked.Again = Again
 
 -- the same with its layer
 abbrev pub site_in : Claim → Site
-site_in c = record { place = c.place; layer = c.layer.now; low = low_in c.low; obligation = obligation_in c.obligation }
+site_in c = record { layer = c.layer.now; low = low_in c.low; obligation = obligation_in c.obligation }

@@ -2,12 +2,11 @@
 
 ghost use Rattle.std.specs.Prelude.{◌≡◌, ◌++◌, IfOk, OnOk};
 ghost use Rattle.std.specs.Option.{option_map};
-ghost use Rattle.ygg_sched.specs.Numbers.{pick_in, picks_in, bits_in};
+ghost use Rattle.ygg_sched.specs.Numbers.{pick_in, picks_in, bits_in, bits_text, digits_text};
 ghost use Rattle.ygg_sched.specs.Printing.{bits_line};
 
 use std::alloc::Global;
 use ygg_base::{Bits, NoMemory, Text};
-use ygg_report::put_bits;
 
 /// The pick that a digit is.
 fn pick_in(byte: u8) -> Option<bool>
@@ -45,6 +44,27 @@ pub fn bits_in(alloc: Global, bytes: &[u8]) -> Result<Option<Bits>, NoMemory>
         return Ok(None);
     }
     picks_in(alloc, bytes)
+}
+
+/// Adds a digit for each pick. Its only error is out of memory.
+fn put_digits(out: &mut Text, picks: &[bool]) -> Result<(), NoMemory>
+    ensures { OnOk result (out.new ≡ out.old ++ digits_text picks.now) }
+{
+    for pick in picks {
+        out.push(if *pick { b'1' } else { b'0' })?;
+    }
+    Ok(())
+}
+
+/// Adds the word of picks. Its only error is out of memory.
+fn put_bits(out: &mut Text, picks: &Bits) -> Result<(), NoMemory>
+    ensures { OnOk result (out.new ≡ out.old ++ bits_text picks.now) }
+{
+    if picks.is_empty() {
+        out.push(b'-')
+    } else {
+        put_digits(out, picks.as_slice())
+    }
 }
 
 /// Adds a line of picks that begins with these bytes. Its only error is out of memory.

@@ -1,7 +1,3 @@
-ghost use Rattle.std.specs.Prelude.{◌≡◌, IfOk};
-
-use crate::case::{Case, Kind};
-use ygg_base::NoMemory;
 use ygg_syntax::tree::{Declared, DiskText, Layer, Operation, Tick};
 
 /// An obligation of a layer, with its operation or background step.
@@ -37,45 +33,15 @@ pub enum Low<'a> {
 pub struct Claim<'a> {
     /// Its layer.
     pub layer: &'a Layer,
-    /// The layer's place in the file, from 0.
-    pub place: usize,
     /// The variables that `low` names there.
     pub low: Low<'a>,
     /// The obligation.
     pub obligation: Obligation<'a>,
-    /// The place of its operation or background step in the layer's list, from 0, else 0.
-    pub number: usize,
-}
-
-/// A place in a list as a number of 32 digits. No machine has memory for a list that has more places.
-fn place_of(place: usize) -> Result<u32, NoMemory>
-    ensures { IfOk result (λ number. number ≡ place) }
-{
-    match u32::try_from(place) {
-        Ok(number) => Ok(number),
-        Err(_) => Err(NoMemory),
-    }
 }
 
 impl<'a> Obligation<'a> {
     ghost use Rattle.std.specs.Prelude.{◌≡◌};
-    ghost use Rattle.ygg_sched.specs.Cases.{kind_of};
     ghost use Rattle.ygg_sched.specs.Sites.{obligation_in, has_state, has_low, arguments_of, has_stop, has_wake, has_other};
-
-    /// What it asks.
-    pub fn kind(self) -> Kind
-        ensures { result ≡ kind_of (obligation_in self.entry) }
-    {
-        match self {
-            Obligation::Init => Kind::Init,
-            Obligation::Call(_) => Kind::Call,
-            Obligation::Cut(_) => Kind::Cut,
-            Obligation::Tick(_) => Kind::Tick,
-            Obligation::CutTick(_) => Kind::CutTick,
-            Obligation::Idle => Kind::Idle,
-            Obligation::Again => Kind::Again,
-        }
-    }
 
     /// Whether it speaks of the specification's variables and of the memory.
     pub fn has_state(self) -> bool
@@ -162,21 +128,8 @@ impl<'a> Obligation<'a> {
 }
 
 impl<'a> Claim<'a> {
-    ghost use Rattle.std.specs.Prelude.{◌≡◌, IfOk};
-    ghost use Rattle.ygg_sched.specs.Cases.{IsCaseOf, StandsAt};
-    ghost use Rattle.ygg_sched.specs.Sites.{obligation_in, site_in, low_in, state_lines, memory_lines, low_lines, argument_lines};
-
-    /// The obligation by its places. Its only error is out of memory: no machine has it for a list with more places than a `u32` has numbers.
-    pub fn case(self) -> Result<Case, NoMemory>
-        requires { StandsAt (self.layer.now).operations (self.layer.now).ticks (obligation_in self.obligation) self.number }
-        ensures { IfOk result (IsCaseOf (site_in self.entry)) }
-    {
-        Ok(Case {
-            layer: place_of(self.place)?,
-            kind: self.obligation.kind(),
-            number: place_of(self.number)?,
-        })
-    }
+    ghost use Rattle.std.specs.Prelude.{◌≡◌};
+    ghost use Rattle.ygg_sched.specs.Sites.{site_in, low_in, state_lines, memory_lines, low_lines, argument_lines};
 
     /// The variables that have lines `state`.
     pub fn state(self) -> &'a [Declared]

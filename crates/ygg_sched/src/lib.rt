@@ -17,7 +17,6 @@
 #![tactic(auto)]
 
 mod bits;
-mod case;
 mod claim;
 mod decimal;
 mod flaw;
@@ -33,11 +32,10 @@ mod value_reading;
 mod value_writing;
 mod words;
 
-pub use case::{Case, Kind};
 pub use claim::{Claim, Low, Obligation};
 pub use flaw::Flaw;
 pub use law::{printed_is_read, read_fits, sites_are_claims};
-pub use naming::{case_named, claim_named};
+pub use naming::claim_named;
 pub use printing::print_schedule;
 pub use reading::read_schedule;
 pub use schedule::{Halt, Run, Schedule};

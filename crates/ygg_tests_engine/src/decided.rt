@@ -123,9 +123,9 @@ fn terms_of_two_inputs(rt: HostRuntime) -> Result<(), Fail> {
     let alloc = rt.alloc();
     let empty = RuleBook::new(Vec::new(alloc));
     let all = all_rules(alloc)?;
-    for tried in ALL {
-        assert!(rt; is_decided(&rt, alloc, &empty, tried)?);
-        assert!(rt; is_decided(&rt, alloc, &all, tried)?);
+    for tried in &ALL {
+        assert!(rt; is_decided(&rt, alloc, &empty, *tried)?);
+        assert!(rt; is_decided(&rt, alloc, &all, *tried)?);
     }
     Ok(())
 }
@@ -164,7 +164,7 @@ fn has_clauses(
     assert!(rt; bank.width(term) == 1);
     let blasted = clauses_of(alloc, bank, term)?;
     let found = blasted.clauses().as_slice();
-    for (clause, wanted) in found.iter().zip(CLAUSES) {
+    for (clause, wanted) in found.iter().zip(&CLAUSES) {
         if !is_clause(clause.as_slice(), wanted) {
             return Ok(false);
         }

@@ -1,4 +1,4 @@
-//! Tests of the crates that compute: values, rules, the bank and its shapes, clauses of terms, deciding, and propagation. They stand apart
+//! Tests of the crates that compute: values, rules, the bank, rows and tables of terms, clauses of terms, deciding, and propagation. They stand apart
 //! because a crate that has tests is proved twice. The checker and the solver are tried from outside, by the program ygg_bench.
 #![tactic(auto)]
 
@@ -9,6 +9,8 @@ mod decided;
 #[cfg(test)]
 mod lists;
 #[cfg(test)]
+mod operands;
+#[cfg(test)]
 mod operators;
 #[cfg(test)]
 mod propagation;
@@ -16,6 +18,8 @@ mod propagation;
 mod rules;
 #[cfg(test)]
 mod shapes;
+#[cfg(test)]
+mod tables;
 #[cfg(test)]
 mod terms;
 #[cfg(test)]

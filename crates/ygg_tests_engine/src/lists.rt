@@ -64,11 +64,14 @@ fn lists_are_made_and_copied(rt: HostRuntime) -> Result<(), Fail> {
     Ok(())
 }
 
+/// Variables, and whether they are true where 1 and 3 alone are.
+const TRUTHS: [(u64, bool); 5] = [(0, false), (1, true), (2, false), (3, true), (4, false)];
+
 #[test]
 fn variables_past_the_end_are_false(rt: HostRuntime) -> Result<(), Fail> {
     let assignment = Assignment::from_slice(rt.alloc(), &[true, false, true])?;
-    for (variable, wanted) in [(0, false), (1, true), (2, false), (3, true), (4, false)] {
-        assert!(rt; truth(&assignment, variable) == wanted, "of {variable}");
+    for (variable, wanted) in &TRUTHS {
+        assert!(rt; truth(&assignment, *variable) == *wanted);
     }
     Ok(())
 }

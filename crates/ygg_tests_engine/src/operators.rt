@@ -87,16 +87,23 @@ fn are_right(
     Ok(true)
 }
 
+/// How many operations are right at widths 1 and 3, the implication at width 1, up to the first that isn't.
+fn operations_right(rt: &impl Abort, alloc: Global) -> Result<usize, NoMemory> {
+    let book = RuleBook::new(Vec::new(alloc));
+    let mut count: usize = 0;
+    for op in &OPERATIONS {
+        let one = are_right(rt, alloc, &book, *op, 1)?;
+        let three = *op == Op::Imp || are_right(rt, alloc, &book, *op, 3)?;
+        if !one || !three {
+            return Ok(count);
+        }
+        count = count.saturating_add(1);
+    }
+    Ok(count)
+}
+
 #[test]
 fn each_operation_is_its_table(rt: HostRuntime) -> Result<(), Fail> {
-    let alloc = rt.alloc();
-    let book = RuleBook::new(Vec::new(alloc));
-    for op in OPERATIONS {
-        assert!(rt; are_right(&rt, alloc, &book, op, 1)?, "{op:?} at width 1");
-        assert!(rt;
-            op == Op::Imp || are_right(&rt, alloc, &book, op, 3)?,
-            "{op:?} at width 3"
-        );
-    }
+    assert!(rt; operations_right(&rt, rt.alloc())? == OPERATIONS.len());
     Ok(())
 }

@@ -237,16 +237,18 @@ fn play<P: Propagate>(alloc: Global, propagation: &mut P, seed: u64) -> Result<u
     Ok(noted)
 }
 
+/// Whether both play alike from this seed.
+fn agree(alloc: Global, seed: u64) -> Result<bool, NoMemory> {
+    let mut plain = PlainSpread::new(alloc, ROOM)?;
+    let wanted = play(alloc, &mut plain, seed)?;
+    let mut watched = Watch::new(alloc, ROOM)?;
+    Ok(play(alloc, &mut watched, seed)? == wanted)
+}
+
 #[test]
 fn both_propagations_agree(rt: HostRuntime) -> Result<(), Fail> {
     for seed in 0..40 {
-        let mut plain = PlainSpread::new(rt.alloc(), ROOM)?;
-        let wanted = play(rt.alloc(), &mut plain, seed)?;
-        let mut watched = Watch::new(rt.alloc(), ROOM)?;
-        assert!(rt;
-            play(rt.alloc(), &mut watched, seed)? == wanted,
-            "of seed {seed}"
-        );
+        assert!(rt; agree(rt.alloc(), seed)?);
     }
     Ok(())
 }

@@ -128,7 +128,7 @@ fn answered(alloc: Global, part: Part) -> Result<usize, NoMemory> {
 
 #[test]
 fn expressions_at_the_edges(rt: HostRuntime) -> Result<(), Fail> {
-    assert_eq!(rt; answered(rt.alloc(), Part::Spec)?, ROWS.len());
-    assert_eq!(rt; answered(rt.alloc(), Part::Impl)?, ROWS.len());
+    assert!(rt; answered(rt.alloc(), Part::Spec)? == ROWS.len());
+    assert!(rt; answered(rt.alloc(), Part::Impl)? == ROWS.len());
     Ok(())
 }

@@ -165,7 +165,7 @@ fn put_ends(alloc: Global) -> Result<bool, NoMemory> {
 
 #[test]
 fn falls_of_the_journal(rt: HostRuntime) -> Result<(), Fail> {
-    assert_eq!(rt; put_falls(rt.alloc())?, 21);
+    assert!(rt; put_falls(rt.alloc())? == 21);
     assert!(rt; put_ends(rt.alloc())?);
     Ok(())
 }
@@ -371,6 +371,6 @@ fn held(alloc: Global) -> Result<usize, NoMemory> {
 
 #[test]
 fn falls_of_a_specification(rt: HostRuntime) -> Result<(), Fail> {
-    assert_eq!(rt; held(rt.alloc())?, STORIES.len());
+    assert!(rt; held(rt.alloc())? == STORIES.len());
     Ok(())
 }

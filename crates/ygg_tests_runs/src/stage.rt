@@ -13,7 +13,7 @@ use ygg_type::Typed;
 use ygg_value::{Row, Shape, Table, Value, Values, Word, row_write, same, table_write, zero};
 
 /// A value that a test names: a word's width and number, or the numbers of rows and tables, of 8 digits each.
-#[derive(Clone, Copy, Debug, PartialEq, Eq)]
+#[derive(Clone, Copy)]
 pub enum Named {
     Word(u8, u64),
     Row(&'static [u64]),

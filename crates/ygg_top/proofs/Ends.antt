@@ -1,25 +1,25 @@
 -- From what the words ask for to how a command ends.
-use Rattle.std.proofs.Common.{◌≡◌, inl, inr, ℕ, Bool, true, false, List, Option, Some, None, sym, subst}
+use Rattle.std.proofs.Common.{◌≡◌, inl, inr, ℕ, Bool, true, false, List, Option, Some, None, refl, sym, subst}
 use Rattle.std.specs.Prelude.{codes, MatchBool, MatchOption}
+use Rattle.ygg_base.specs.declared.reason.Reason.TheVariants as reason
+use Rattle.ygg_base.specs.Reason.{refusal_at}
 use Rattle.ygg_base.specs.declared.lists.Held.{Held}
 use Rattle.ygg_base.specs.declared.status.Status.{Status}
 use Rattle.ygg_base.specs.declared.status.Status.TheVariants.{Done, Refuted, Refused, Undecided, Fault, NoMemory}
 use Rattle.ygg_syntax.specs.declared.tree.File.{File}
-use Rattle.ygg_meaning.specs.Replayed.{Replayed, Shows, Hypothesis, Passes}
-use Rattle.ygg_replay_text.specs.Ending.{Replaying, status_of}
 use Rattle.ygg_report.specs.Putting.{Adds, IsPutSo, NoFront, Puts}
 use Rattle.ygg_rules.specs.declared.rule.RuleKind.{RuleKind}
+use Rattle.ygg_top.specs.declared.help.TheConstants.{HELP, VERSION}
 use Rattle.ygg_top.specs.declared.answer.CommandEnd.{CommandEnd}
 use Rattle.ygg_top.specs.declared.answer.CommandEnd.TheVariants as answer
-use Rattle.ygg_top.specs.Words.{is_alone, word_after, two_words_after, usual_budget, IsBudget}
+use Rattle.ygg_top.specs.Words.{is_alone, word_after, with_budget_after, usual_budget, IsBudget}
 use Rattle.ygg_top.specs.Verdict.{Verified, Counted}
-use Rattle.ygg_top.specs.Standing.{DoesWith}
-use Rattle.ygg_top.specs.Replaying.{ReplaysStored, Replays, ReplaysNamed}
 use Rattle.ygg_top.specs.Ending.{
   Verifies,
   Prints,
   Demos,
-  DemosMade,
+  DoesWith,
+  IsRefused,
   VerifiesWithin,
   Ends,
   Reports,
@@ -29,7 +29,6 @@ use Rattle.ygg_top.specs.Ending.{
   IsAnswerOf,
   IsAnswerWithin,
   IsAnswerMade,
-  IsEnding,
   IsCutRun,
   IsCutVerdict,
   Streams,
@@ -75,106 +74,92 @@ by_making kinds Does (answer.Verifies typed budget) is = absurd is
 by_making kinds Does (answer.Demos typed number) is = is
 by_making kinds Does (answer.Ends status text) is = is
 
-by_ending : (kinds : List RuleKind) (Does : Status → List ℕ → Type 0) (found : CommandEnd) → IsEnding Does found → IsAnswerBy kinds Does found
-by_ending kinds Does answer.NoMemory is = tt
-by_ending kinds Does answer.LibraryFailed is = tt
-by_ending kinds Does (answer.Verifies typed budget) is = absurd is
-by_ending kinds Does (answer.Demos typed number) is = absurd is
-by_ending kinds Does (answer.Ends status text) is = is
-
--- a status with which nothing ends that a command does
-record Never (kinds : List RuleKind) (s : Status) : Type 0 where
-  done : s ≡ Done → ⊥
-  refused : s ≡ Refused → ⊥
-  verified : (budget : ℕ) (stored : Option (List ℕ)) (text : List ℕ) → Verifies kinds budget stored s text → ⊥
-  printed : (stored : Option (List ℕ)) (text : List ℕ) → Prints stored s text → ⊥
-  made : (number : ℕ) (text : List ℕ) → DemosMade kinds number s text → ⊥
-  replayed : (f : File) (bytes text : List ℕ) → Replaying f bytes s text → ⊥
-
-fault_shown : (answer : Replayed) → Fault ≡ status_of answer → ⊥
-fault_shown Shows e = absurd (cc e)
-fault_shown (Hypothesis number) e = absurd (cc e)
-fault_shown (Passes picks) e = absurd (cc e)
-
-fault_replayed : (f : File) (bytes text : List ℕ) → Replaying f bytes Fault text → ⊥
-fault_replayed f bytes text (inl is) = let e = is.status_is in absurd (cc e)
-fault_replayed f bytes text (inr is) = fault_shown is.answer is.status_is
-
-want_shown : (answer : Replayed) → NoMemory ≡ status_of answer → ⊥
-want_shown Shows e = absurd (cc e)
-want_shown (Hypothesis number) e = absurd (cc e)
-want_shown (Passes picks) e = absurd (cc e)
-
-want_replayed : (f : File) (bytes text : List ℕ) → Replaying f bytes NoMemory text → ⊥
-want_replayed f bytes text (inl is) = let e = is.status_is in absurd (cc e)
-want_replayed f bytes text (inr is) = want_shown is.answer is.status_is
-
--- nothing ends with a fault
-never_fault : (kinds : List RuleKind) → Never kinds Fault
-never_fault kinds = record {
-  done = λ e. absurd (cc e);
-  refused = λ e. absurd (cc e);
-  verified = λ budget stored text is. is;
-  printed = λ stored text is. is;
-  made = λ number text is. is;
-  replayed = fault_replayed;
-}
-
--- nothing ends with want of memory
-never_want : (kinds : List RuleKind) → Never kinds NoMemory
-never_want kinds = record {
-  done = λ e. absurd (cc e);
-  refused = λ e. absurd (cc e);
-  verified = λ budget stored text is. is;
-  printed = λ stored text is. is;
-  made = λ number text is. is;
-  replayed = want_replayed;
-}
-
--- what never holds in either case never holds
-neither : (b : Bool) (P Q : Type 0) → (P → ⊥) → (Q → ⊥) → MatchBool b P Q → ⊥
-neither true P Q p q is = p is
-neither false P Q p q is = q is
-
-none_of : {X : Type 0} (o : Option X) (P : Type 0) (Q : X → Type 0) → (P → ⊥) → ((x : X) → Q x → ⊥) → MatchOption o P Q → ⊥
-none_of None P Q p q is = p is
-none_of (Some x) P Q p q is = q x is
-
 module _ (kinds : List RuleKind) (files : Option (List Held)) where
-  module _ (s : Status) (never : Never kinds s) where
-    never_within : (name word text : List ℕ) → VerifiesWithin kinds files name word s text → ⊥
-    never_within name word text (inl is) = never.verified is.0 is.2.0 text is.2.2
-    never_within name word text (inr is) = never.refused is.1.0
+  -- how a command ends, by what its words are
+  abbrev Chosen : Bool → Bool → Option (List ℕ) → Option (List ℕ × List ℕ) → Option (List ℕ) → Option (List ℕ) → Status → List ℕ → Type 0
+  Chosen help version verify within print demo status text =
+      MatchBool help ((status ≡ Done) × (text ≡ HELP.now))
+      (MatchBool version ((status ≡ Done) × (text ≡ VERSION.now))
+      (MatchOption verify
+      (MatchOption within
+      (MatchOption print
+      (MatchOption demo (IsRefused (refusal_at reason.Words 0 0) status text)
+      (λ word. Demos kinds word status text))
+      (λ name. DoesWith Prints files name status text))
+      (λ asked. VerifiesWithin kinds files asked.0 asked.1 status text))
+      (λ name. DoesWith (Verifies kinds usual_budget) files name status text)))
 
-    never_demo : (word text : List ℕ) → Demos kinds word s text → ⊥
-    never_demo word text (inl is) = never.made is.0 text is.2
-    never_demo word text (inr is) = never.refused is.1.0
+  not_done : Fault ≡ Done → ⊥
+  not_done e = absurd (cc e)
 
-    never_stored : (f : File) (stored : Option (List ℕ)) (text : List ℕ) → ReplaysStored f stored s text → ⊥
-    never_stored f stored text (inl is) = never.refused is.2.0
-    never_stored f stored text (inr is) = never.replayed f is.0 text is.3
+  not_refused : Fault ≡ Refused → ⊥
+  not_refused e = absurd (cc e)
 
-    never_replay : (schedule : List ℕ) (stored : Option (List ℕ)) (text : List ℕ) → Replays files schedule stored s text → ⊥
-    never_replay schedule stored text (inl is) = never.refused is.2.0
-    never_replay schedule stored text (inr is) = never_stored is.1 is.4.0 text is.4.2
+  within_no_fault : (name word : List ℕ) (text : List ℕ) → VerifiesWithin kinds files name word Fault text → ⊥
+  within_no_fault name word text (inl is) = absurd (is.2.2)
+  within_no_fault name word text (inr is) = not_refused is.1.0
 
-    -- no command ends so
-    never_ends : (words : List (List ℕ)) (text : List ℕ) → Ends kinds words files s text → ⊥
-    never_ends words text =
-        neither (is_alone (codes "--help") words) _ _ (λ is. never.done is.0)
-        (neither (is_alone (codes "--version") words) _ _ (λ is. never.done is.0)
-        (none_of (word_after (codes "verify") words) _ _
-        (none_of (two_words_after (codes "verify") words) _ _
-        (none_of (word_after (codes "print") words) _ _
-        (none_of (word_after (codes "demo") words) _ _
-        (none_of (two_words_after (codes "replay") words) _ _ (λ is. never.refused is.0)
-        (λ asked is. never_replay asked.1 is.0 text is.2))
-        (λ word is. never_demo word text is))
-        (λ name is. never.printed is.0 text is.2))
-        (λ asked is. never_within asked.0 asked.1 text is))
-        (λ name is. never.verified usual_budget is.0 text is.2)))
+  demo_no_fault : (word text : List ℕ) → Demos kinds word Fault text → ⊥
+  demo_no_fault word text (inl is) = is.2
+  demo_no_fault word text (inr is) = not_refused is.1.0
+
+  no_fault : (help version : Bool) (verify : Option (List ℕ)) (within : Option (List ℕ × List ℕ)) (print demo : Option (List ℕ)) (text : List ℕ) →
+      Chosen help version verify within print demo Fault text → ⊥
+  no_fault true version verify within print demo text is = not_done is.0
+  no_fault false true verify within print demo text is = not_done is.0
+  no_fault false false (Some name) within print demo text is = absurd (is.2)
+  no_fault false false None (Some asked) print demo text is = within_no_fault asked.0 asked.1 text is
+  no_fault false false None None (Some name) demo text is = absurd (is.2)
+  no_fault false false None None None (Some word) text is = demo_no_fault word text is
+  no_fault false false None None None None text is = not_refused is.0
+
+  want_not_done : NoMemory ≡ Done → ⊥
+  want_not_done e = absurd (cc e)
+
+  want_not_refused : NoMemory ≡ Refused → ⊥
+  want_not_refused e = absurd (cc e)
+
+  within_no_want : (name word : List ℕ) (text : List ℕ) → VerifiesWithin kinds files name word NoMemory text → ⊥
+  within_no_want name word text (inl is) = absurd (is.2.2)
+  within_no_want name word text (inr is) = want_not_refused is.1.0
+
+  demo_no_want : (word text : List ℕ) → Demos kinds word NoMemory text → ⊥
+  demo_no_want word text (inl is) = is.2
+  demo_no_want word text (inr is) = want_not_refused is.1.0
+
+  no_want : (help version : Bool) (verify : Option (List ℕ)) (within : Option (List ℕ × List ℕ)) (print demo : Option (List ℕ)) (text : List ℕ) →
+      Chosen help version verify within print demo NoMemory text → ⊥
+  no_want true version verify within print demo text is = want_not_done is.0
+  no_want false true verify within print demo text is = want_not_done is.0
+  no_want false false (Some name) within print demo text is = absurd (is.2)
+  no_want false false None (Some asked) print demo text is = within_no_want asked.0 asked.1 text is
+  no_want false false None None (Some name) demo text is = absurd (is.2)
+  no_want false false None None None (Some word) text is = demo_no_want word text is
+  no_want false false None None None None text is = want_not_refused is.0
 
   module _ (words : List (List ℕ)) where
+    -- a command of these words, by what its words are
+    abbrev Asked : Bool → Bool → Option (List ℕ) → Option (List ℕ × List ℕ) → Option (List ℕ) → Option (List ℕ) → Type 0
+    Asked help version verify within print demo =
+        (is_alone (codes "--help") words ≡ help) × (is_alone (codes "--version") words ≡ version) × (word_after (codes "verify") words ≡ verify)
+        × (with_budget_after (codes "verify") words ≡ within) × (word_after (codes "print") words ≡ print) × (word_after (codes "demo") words ≡ demo)
+
+    -- what the words ask for is done
+    asked_ends : (help version : Bool) (verify : Option (List ℕ)) (within : Option (List ℕ × List ℕ)) (print demo : Option (List ℕ)) (status : Status)
+        (text : List ℕ) → Asked help version verify within print demo → Chosen help version verify within print demo status text →
+        Ends kinds words files status text
+    asked_ends help version verify within print demo status text a is =
+        let v = word_after (codes "verify") words in
+        let w = with_budget_after (codes "verify") words in
+        let p = word_after (codes "print") words in
+        let d = word_after (codes "demo") words in
+        subst (λ x. Chosen x (is_alone (codes "--version") words) v w p d status text) (sym a.0)
+        (subst (λ x. Chosen help x v w p d status text) (sym a.1)
+        (subst (λ x. Chosen help version x w p d status text) (sym a.2)
+        (subst (λ x. Chosen help version verify x p d status text) (sym a.3)
+        (subst (λ x. Chosen help version verify within x d status text) (sym a.4)
+        (subst (λ x. Chosen help version verify within print x status text) (sym a.5) is)))))
+
     -- an answer that is what the words ask for
     asked_answer : (Does : Status → List ℕ → Type 0) → ((status : Status) (text : List ℕ) → Does status text → Ends kinds words files status text) →
         (found : CommandEnd) → IsAnswerBy kinds Does found → IsAnswer kinds words files found
@@ -184,43 +169,46 @@ module _ (kinds : List RuleKind) (files : Option (List Held)) where
     asked_answer Does to (answer.Demos typed number) is = λ status text verdict. to status text (is status text verdict)
     asked_answer Does to (answer.Ends status text) is = to status text is
 
-    module _ (found : CommandEnd) (h : is_alone (codes "--help") words ≡ false) (v : is_alone (codes "--version") words ≡ false) where
-      pub verify_asked : (name : List ℕ) → word_after (codes "verify") words ≡ Some name → IsAnswerOf kinds (Verifies kinds usual_budget) files name found →
-          IsAnswer kinds words files found
-      verify_asked name f is =
-          asked_answer (DoesWith (Verifies kinds usual_budget) files name) (λ status text does. rw (h, v, f) does) found
-          (by_name kinds (Verifies kinds usual_budget) files name found is)
+    pub verify_asked : (name : List ℕ) (found : CommandEnd) → is_alone (codes "--help") words ≡ false → is_alone (codes "--version") words ≡ false →
+        word_after (codes "verify") words ≡ Some name → IsAnswerOf kinds (Verifies kinds usual_budget) files name found → IsAnswer kinds words files found
+    verify_asked name found h v f is =
+        asked_answer (DoesWith (Verifies kinds usual_budget) files name)
+        (λ status text does. asked_ends false false (Some name) (with_budget_after (codes "verify") words) (word_after (codes "print") words)
+        (word_after (codes "demo") words) status text (h, v, f, refl, refl, refl) does) found (by_name kinds (Verifies kinds usual_budget) files name found is)
 
-      module _ (f : word_after (codes "verify") words ≡ None) where
-        pub budget_asked : (name word : List ℕ) → two_words_after (codes "verify") words ≡ Some (name, word) →
-            IsAnswerWithin kinds files name word found → IsAnswer kinds words files found
-        budget_asked name word b is =
-            asked_answer (VerifiesWithin kinds files name word) (λ status text does. rw (h, v, f, b) does) found (by_budget kinds files name word found is)
+    pub budget_asked : (name word : List ℕ) (found : CommandEnd) → is_alone (codes "--help") words ≡ false → is_alone (codes "--version") words ≡ false →
+        word_after (codes "verify") words ≡ None → with_budget_after (codes "verify") words ≡ Some (name, word) →
+        IsAnswerWithin kinds files name word found → IsAnswer kinds words files found
+    budget_asked name word found h v f b is =
+        asked_answer (VerifiesWithin kinds files name word)
+        (λ status text does. asked_ends false false None (Some (name, word)) (word_after (codes "print") words) (word_after (codes "demo") words) status text
+        (h, v, f, b, refl, refl) does) found
+        (by_budget kinds files name word found is)
 
-        module _ (b : two_words_after (codes "verify") words ≡ None) where
-          pub print_asked : (name : List ℕ) → word_after (codes "print") words ≡ Some name → IsAnswerOf kinds Prints files name found →
-              IsAnswer kinds words files found
-          print_asked name p is =
-              asked_answer (DoesWith Prints files name) (λ status text does. rw (h, v, f, b, p) does) found (by_name kinds Prints files name found is)
+    pub print_asked : (name : List ℕ) (found : CommandEnd) → is_alone (codes "--help") words ≡ false → is_alone (codes "--version") words ≡ false →
+        word_after (codes "verify") words ≡ None → with_budget_after (codes "verify") words ≡ None → word_after (codes "print") words ≡ Some name →
+        IsAnswerOf kinds Prints files name found → IsAnswer kinds words files found
+    print_asked name found h v f b p is =
+        asked_answer (DoesWith Prints files name)
+        (λ status text does. asked_ends false false None None (Some name) (word_after (codes "demo") words) status text (h, v, f, b, p, refl) does) found
+        (by_name kinds Prints files name found is)
 
-          module _ (p : word_after (codes "print") words ≡ None) where
-            pub demo_asked : (word : List ℕ) → word_after (codes "demo") words ≡ Some word → IsAnswerMade kinds (Demos kinds word) found →
-                IsAnswer kinds words files found
-            demo_asked word d is =
-                asked_answer (Demos kinds word) (λ status text does. rw (h, v, f, b, p, d) does) found (by_making kinds (Demos kinds word) found is)
-
-            module _ (d : word_after (codes "demo") words ≡ None) where
-              pub replay_asked : (name schedule : List ℕ) → two_words_after (codes "replay") words ≡ Some (name, schedule) →
-                  IsEnding (ReplaysNamed files name schedule) found → IsAnswer kinds words files found
-              replay_asked name schedule r is =
-                  asked_answer (ReplaysNamed files name schedule) (λ status text does. rw (h, v, f, b, p, d, r) does) found
-                  (by_ending kinds (ReplaysNamed files name schedule) found is)
+    pub demo_asked : (word : List ℕ) (found : CommandEnd) → is_alone (codes "--help") words ≡ false → is_alone (codes "--version") words ≡ false →
+        word_after (codes "verify") words ≡ None → with_budget_after (codes "verify") words ≡ None → word_after (codes "print") words ≡ None →
+        word_after (codes "demo") words ≡ Some word → IsAnswerMade kinds (Demos kinds word) found → IsAnswer kinds words files found
+    demo_asked word found h v f b p d is =
+        asked_answer (Demos kinds word) (λ status text does. asked_ends false false None None None (Some word) status text (h, v, f, b, p, d) does) found
+        (by_making kinds (Demos kinds word) found is)
 
     ends_no_fault : (text : List ℕ) → Ends kinds words files Fault text → ⊥
-    ends_no_fault text is = never_ends Fault (never_fault kinds) words text is
+    ends_no_fault text is =
+        no_fault (is_alone (codes "--help") words) (is_alone (codes "--version") words) (word_after (codes "verify") words)
+        (with_budget_after (codes "verify") words) (word_after (codes "print") words) (word_after (codes "demo") words) text is
 
     ends_no_want : (text : List ℕ) → Ends kinds words files NoMemory text → ⊥
-    ends_no_want text is = never_ends NoMemory (never_want kinds) words text is
+    ends_no_want text is =
+        no_want (is_alone (codes "--help") words) (is_alone (codes "--version") words) (word_after (codes "verify") words)
+        (with_budget_after (codes "verify") words) (word_after (codes "print") words) (word_after (codes "demo") words) text is
 
     module _ (before now : Option (List ℕ)) (LibraryRose SinkRose : Type 0) where
       ends_whole : (status : Status) (text : List ℕ) → Ends kinds words files status text → Adds before text now →

@@ -40,8 +40,7 @@ use Rattle.ygg_report.specs.Lines.{refused_line}
 use Rattle.ygg_top.specs.Refusing.{IsLayerFile, RefusesRead, most_bytes}
 use Rattle.ygg_rules.specs.declared.rule.RuleKind.{RuleKind}
 use Rattle.ygg_top.specs.Verdict.{Verified, Counted, any_failed, any_spent}
-use Rattle.ygg_top.specs.Standing.{Stands}
-use Rattle.ygg_top.specs.Ending.{Verifies, Prints, Demos, DemosMade, IsTextOf, IsUnread, IsAnswerOf, IsAnswerFor, IsAnswerMade, VerifyingIs, CountingIs}
+use Rattle.ygg_top.specs.Ending.{Verifies, Prints, Demos, DemosMade, IsTextOf, IsUnread, IsAnswerOf, IsAnswerFor, IsAnswerMade, VerifyingIs, CountingIs, Stands}
 use Rattle.ygg_top.specs.Words.{most_operations, IsNumber, IsNoNumber}
 use Rattle.ygg_accept.specs.Accepting.{RefusesLayers}
 use Rattle.ygg_yard.specs.Texts.{made}
@@ -84,29 +83,29 @@ some_longer zero = (0 ∷ [], omega arith)
 some_longer (suc n) = let shorter = some_longer n in (0 ∷ shorter.0, omega (arith, shorter.1))
 
 -- a library that says that a file is too large holds such a file, or may hold one
-pub too_large : (place : ℕ) (files : Option (List Held)) (name : List ℕ) (at : Refusal) (found : CommandEnd)
-    → IfSome files (λ held. FitsFile (bytes_of held name) most_bytes TooLarge) → at ≡ refusal_at reason.TooLarge 0 place
-    → IsTextOf Refused (refused_line at) found → IsUnread place files name found
-too_large place files name at answer.NoMemory told same is = tt
-too_large place files name at answer.LibraryFailed told same is = absurd is
-too_large place files name at (answer.Verifies typed budget) told same is = absurd is
-too_large place files name at (answer.Demos typed number) told same is = absurd is
-too_large place None name at (answer.Ends status line) told same is = let long = some_longer most_bytes in (Some long.0, at, tt, (long.1, same), is.0, is.1)
-too_large place (Some held) name at (answer.Ends status line) told same is = (Some told.0, at, sym told.1, (told.2, same), is.0, is.1)
+pub too_large : (files : Option (List Held)) (name : List ℕ) (at : Refusal) (found : CommandEnd)
+    → IfSome files (λ held. FitsFile (bytes_of held name) most_bytes TooLarge) → at ≡ refusal_at reason.TooLarge 0 1 → IsTextOf Refused (refused_line at) found
+    → IsUnread files name found
+too_large files name at answer.NoMemory told same is = tt
+too_large files name at answer.LibraryFailed told same is = absurd is
+too_large files name at (answer.Verifies typed budget) told same is = absurd is
+too_large files name at (answer.Demos typed number) told same is = absurd is
+too_large None name at (answer.Ends status line) told same is = let long = some_longer most_bytes in (Some long.0, at, tt, (long.1, same), is.0, is.1)
+too_large (Some held) name at (answer.Ends status line) told same is = (Some told.0, at, sym told.1, (told.2, same), is.0, is.1)
 
 -- nothing under a name is refused as such
-pub absent : (place : ℕ) (files : Option (List Held)) (name : List ℕ) (at : Refusal) (found : CommandEnd)
-    → IfSome files (λ held. FitsFile (bytes_of held name) most_bytes Absent) → at ≡ refusal_at reason.Absent 0 place
-    → IsTextOf Refused (refused_line at) found → IsUnread place files name found
-absent place files name at answer.NoMemory told same is = tt
-absent place files name at answer.LibraryFailed told same is = absurd is
-absent place files name at (answer.Verifies typed budget) told same is = absurd is
-absent place files name at (answer.Demos typed number) told same is = absurd is
-absent place None name at (answer.Ends status line) told same is = (None, at, tt, same, is.0, is.1)
-absent place (Some held) name at (answer.Ends status line) told same is = (None, at, sym told, same, is.0, is.1)
+pub absent : (files : Option (List Held)) (name : List ℕ) (at : Refusal) (found : CommandEnd)
+    → IfSome files (λ held. FitsFile (bytes_of held name) most_bytes Absent) → at ≡ refusal_at reason.Absent 0 1 → IsTextOf Refused (refused_line at) found
+    → IsUnread files name found
+absent files name at answer.NoMemory told same is = tt
+absent files name at answer.LibraryFailed told same is = absurd is
+absent files name at (answer.Verifies typed budget) told same is = absurd is
+absent files name at (answer.Demos typed number) told same is = absurd is
+absent None name at (answer.Ends status line) told same is = (None, at, tt, same, is.0, is.1)
+absent (Some held) name at (answer.Ends status line) told same is = (None, at, sym told, same, is.0, is.1)
 
 -- what is refused unread is refused whether it is to be verified or to be printed
-pub unread_verifies : (kinds : List RuleKind) (budget : ℕ) (files : Option (List Held)) (name : List ℕ) (found : CommandEnd) → IsUnread 1 files name found
+pub unread_verifies : (kinds : List RuleKind) (budget : ℕ) (files : Option (List Held)) (name : List ℕ) (found : CommandEnd) → IsUnread files name found
     → IsAnswerOf kinds (Verifies kinds budget) files name found
 unread_verifies kinds budget files name answer.NoMemory unread = tt
 unread_verifies kinds budget files name answer.LibraryFailed unread = tt
@@ -116,7 +115,7 @@ unread_verifies kinds budget files name (answer.Ends status text) unread =
     let P : Status → Type 0 = λ (s : Status). Verifies kinds budget unread.0 s text in
     (unread.0, unread.2, subst P (sym unread.4) (unread.1, inl unread.3, unread.5))
 
-pub unread_prints : (kinds : List RuleKind) (files : Option (List Held)) (name : List ℕ) (found : CommandEnd) → IsUnread 1 files name found →
+pub unread_prints : (kinds : List RuleKind) (files : Option (List Held)) (name : List ℕ) (found : CommandEnd) → IsUnread files name found →
     IsAnswerOf kinds Prints files name found
 unread_prints kinds files name answer.NoMemory unread = tt
 unread_prints kinds files name answer.LibraryFailed unread = tt

@@ -1,6 +1,5 @@
 mod Canonical
 mod Found
-mod Endings
 mod Judging
 mod Verdicts
 mod Reporting

@@ -1,11 +1,12 @@
 -- How a command ends, and what it prints.
-use Rattle.std.specs.Prelude.{◌≡◌, ◌⊎◌, ℕ, ◌<◌, List, codes, Option, Some, MatchBool, MatchOption}
+use Rattle.std.specs.Prelude.{◌≡◌, ◌⊎◌, ℕ, ◌<◌, List, ◌++◌, codes, Option, Some, None, MatchBool, MatchOption}
 use Rattle.ygg_base.specs.declared.failure.Refusal.{Refusal}
 use Rattle.ygg_base.specs.declared.reason.Reason.TheVariants as reason
 use Rattle.ygg_base.specs.Reason.{refusal_at}
 use Rattle.ygg_base.specs.declared.lists.Held.{Held}
 use Rattle.ygg_base.specs.declared.status.Status.{Status}
 use Rattle.ygg_base.specs.declared.status.Status.TheVariants.{Done, Refused, Fault, NoMemory}
+use Rattle.ygg_base.specs.Outside.{bytes_of}
 use Rattle.ygg_base.specs.Lexing.{tokens_of}
 use Rattle.ygg_syntax.specs.declared.tree.File.{File}
 use Rattle.ygg_print.specs.Canonical.{canonical, GivesAgain}
@@ -19,7 +20,7 @@ use Rattle.ygg_yard.specs.Texts.{made}
 use Rattle.ygg_top.specs.Words.{
   is_alone,
   word_after,
-  two_words_after,
+  with_budget_after,
   usual_budget,
   most_operations,
   IsNumber,
@@ -28,8 +29,6 @@ use Rattle.ygg_top.specs.Words.{
   IsNoBudget,
 }
 use Rattle.ygg_top.specs.Refusing.{IsLayerFile, RefusesFile, RefusesUnread, RefusesRead}
-use Rattle.ygg_top.specs.Standing.{Stands, DoesWith, IsRefused}
-use Rattle.ygg_top.specs.Replaying.{ReplaysNamed}
 use Rattle.ygg_top.specs.Verdict.{Verified, Counted}
 
 -- `verify` within a budget of what stands under the name, under a book of these kinds: it is refused, or it is a layer file without a fault, and there
@@ -52,6 +51,19 @@ abbrev pub Prints : Option (List ℕ) → Status → List ℕ → Type 0
 Prints stored Done text = (bytes : List ℕ) × (stored ≡ Some bytes) × IsPrinted bytes text
 Prints stored Refused text = (r : Refusal) × RefusesFile stored r × (text ≡ refused_line r)
 Prints stored status text = ⊥
+
+-- what stands under the name in a library: the told file, or any where the library tells none
+abbrev pub Stands : Option (List Held) → List ℕ → Option (List ℕ) → Type 0
+Stands None name stored = Unit {0}
+Stands (Some files) name stored = stored ≡ bytes_of files name
+
+-- a command does this with what stands under the name
+abbrev pub DoesWith : (Option (List ℕ) → Status → List ℕ → Type 0) → Option (List Held) → List ℕ → Status → List ℕ → Type 0
+DoesWith Does files name status text = (stored : Option (List ℕ)) × Stands files name stored × Does stored status text
+
+-- the refusal, as status and line
+abbrev pub IsRefused : Refusal → Status → List ℕ → Type 0
+IsRefused r status text = (status ≡ Refused) × (text ≡ refused_line r)
 
 -- `verify` of a name with a word for the budget: a word that is no budget is refused 72 at `0:2`, before anything is looked at
 abbrev pub VerifiesWithin : List RuleKind → Option (List Held) → List ℕ → List ℕ → Status → List ℕ → Type 0
@@ -78,11 +90,9 @@ Ends kinds words files status text =
     MatchBool (is_alone (codes "--help") words) ((status ≡ Done) × (text ≡ HELP.now))
     (MatchBool (is_alone (codes "--version") words) ((status ≡ Done) × (text ≡ VERSION.now))
     (MatchOption (word_after (codes "verify") words)
-    (MatchOption (two_words_after (codes "verify") words)
+    (MatchOption (with_budget_after (codes "verify") words)
     (MatchOption (word_after (codes "print") words)
-    (MatchOption (word_after (codes "demo") words)
-    (MatchOption (two_words_after (codes "replay") words) (IsRefused (refusal_at reason.Words 0 0) status text)
-    (λ asked. ReplaysNamed files asked.0 asked.1 status text))
+    (MatchOption (word_after (codes "demo") words) (IsRefused (refusal_at reason.Words 0 0) status text)
     (λ word. Demos kinds word status text))
     (λ name. DoesWith Prints files name status text))
     (λ asked. VerifiesWithin kinds files asked.0 asked.1 status text))
@@ -170,22 +180,14 @@ IsAnswerWithin kinds files name word (answer.Demos typed number) = ⊥
 IsAnswerWithin kinds files name word answer.LibraryFailed = Unit {0}
 IsAnswerWithin kinds files name word answer.NoMemory = Unit {0}
 
--- the answer where no text was fetched under the name that is the word at this place: a refusal of what stands there before its bytes are looked at
-abbrev pub IsUnread : ℕ → Option (List Held) → List ℕ → CommandEnd → Type 0
-IsUnread place files name (answer.Ends status text) =
-    (stored : Option (List ℕ)) × (r : Refusal) × Stands files name stored × RefusesUnread place stored r × (status ≡ Refused) × (text ≡ refused_line r)
-IsUnread place files name (answer.Verifies typed budget) = ⊥
-IsUnread place files name (answer.Demos typed number) = ⊥
-IsUnread place files name answer.LibraryFailed = Unit {0}
-IsUnread place files name answer.NoMemory = Unit {0}
-
--- a status and a text that end so, unless the library failed or no memory was left
-abbrev pub IsEnding : (Status → List ℕ → Type 0) → CommandEnd → Type 0
-IsEnding Does (answer.Ends status text) = Does status text
-IsEnding Does (answer.Verifies typed budget) = ⊥
-IsEnding Does (answer.Demos typed number) = ⊥
-IsEnding Does answer.LibraryFailed = Unit {0}
-IsEnding Does answer.NoMemory = Unit {0}
+-- the answer where no text was fetched: a refusal of what stands under the name before its bytes are looked at
+abbrev pub IsUnread : Option (List Held) → List ℕ → CommandEnd → Type 0
+IsUnread files name (answer.Ends status text) =
+    (stored : Option (List ℕ)) × (r : Refusal) × Stands files name stored × RefusesUnread stored r × (status ≡ Refused) × (text ≡ refused_line r)
+IsUnread files name (answer.Verifies typed budget) = ⊥
+IsUnread files name (answer.Demos typed number) = ⊥
+IsUnread files name answer.LibraryFailed = Unit {0}
+IsUnread files name answer.NoMemory = Unit {0}
 
 -- what a command answers that is to make a file, where `Does` says what it does
 abbrev pub IsAnswerMade : List RuleKind → (Status → List ℕ → Type 0) → CommandEnd → Type 0

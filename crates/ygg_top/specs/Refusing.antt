@@ -1,4 +1,4 @@
--- The one refusal of each file that is no layer file, and of each file that is not read.
+-- The one refusal of each file that is no layer file.
 use Rattle.std.specs.Prelude.{◌≡◌, ◌⊎◌, ℕ, ◌≤◌, ◌<◌, List, length, Option, Some, None}
 use Rattle.ygg_base.specs.declared.failure.Refusal.{Refusal}
 use Rattle.ygg_base.specs.declared.reason.Reason.TheVariants as reason
@@ -7,7 +7,7 @@ use Rattle.ygg_base.specs.declared.tokens.Tokens.{Tokens}
 use Rattle.ygg_syntax.specs.declared.tree.File.{File}
 use Rattle.ygg_accept.specs.Accepting.{IsAccepted, RefusesLayers}
 
--- the most bytes of a layer file, or of a schedule
+-- the most bytes of a layer file
 abbrev pub most_bytes : ℕ
 most_bytes = 1048576
 
@@ -17,16 +17,16 @@ pub record IsLayerFile (bytes : List ℕ) (f : File) : Type 0 where
   pub tokens : Tokens
   pub accepted : IsAccepted bytes tokens f
 
--- a refusal of what stands under the name that is the word at this place, before its bytes are looked at: nothing stands there, or too many bytes
-abbrev pub RefusesUnread : ℕ → Option (List ℕ) → Refusal → Type 0
-RefusesUnread place None r = r ≡ refusal_at reason.Absent 0 place
-RefusesUnread place (Some bytes) r = (most_bytes < length bytes) × (r ≡ refusal_at reason.TooLarge 0 place)
+-- a refusal of what stands under a name before its bytes are looked at: nothing stands there, or too many bytes
+abbrev pub RefusesUnread : Option (List ℕ) → Refusal → Type 0
+RefusesUnread None r = r ≡ refusal_at reason.Absent 0 1
+RefusesUnread (Some bytes) r = (most_bytes < length bytes) × (r ≡ refusal_at reason.TooLarge 0 1)
 
 -- a refusal of the bytes that stand under a name
 abbrev pub RefusesRead : Option (List ℕ) → Refusal → Type 0
 RefusesRead None r = ⊥
 RefusesRead (Some bytes) r = (length bytes ≤ most_bytes) × RefusesLayers bytes r
 
--- the refusal of the layer file of a command, which is the word after it
+-- the refusal of a file that is to be verified or printed
 abbrev pub RefusesFile : Option (List ℕ) → Refusal → Type 0
-RefusesFile stored r = RefusesUnread 1 stored r ⊎ RefusesRead stored r
+RefusesFile stored r = RefusesUnread stored r ⊎ RefusesRead stored r

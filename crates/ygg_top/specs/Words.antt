@@ -13,10 +13,10 @@ abbrev pub word_after : List ℕ → List (List ℕ) → Option (List ℕ)
 word_after word (command ∷ file ∷ []) = if bytes_eq command word then Some file else None
 word_after word _ = None
 
--- the two words that stand alone after this one: a file and a budget, or two files
-abbrev pub two_words_after : List ℕ → List (List ℕ) → Option (List ℕ × List ℕ)
-two_words_after word (command ∷ file ∷ budget ∷ []) = if bytes_eq command word then Some (file, budget) else None
-two_words_after word _ = None
+-- the file and the budget that stand alone after this word
+abbrev pub with_budget_after : List ℕ → List (List ℕ) → Option (List ℕ × List ℕ)
+with_budget_after word (command ∷ file ∷ budget ∷ []) = if bytes_eq command word then Some (file, budget) else None
+with_budget_after word _ = None
 
 -- the budget where none is given
 abbrev pub usual_budget : ℕ

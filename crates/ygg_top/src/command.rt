@@ -1,27 +1,42 @@
-ghost use Rattle.std.specs.Prelude.{List, ◌≡◌, ◌<◌, ◌≤◌, length};
+ghost use Rattle.std.specs.Prelude.{List, ◌≡◌, ◌<◌, ◌≤◌, length, Some, Err, IfOk, IfErr};
 ghost use Rattle.ygg_rules.specs.declared.rule.RuleKind.{RuleKind};
 ghost use Rattle.ygg_base.specs.Outside.{Rose};
+ghost use Rattle.ygg_report.specs.Lines.{refused_line};
 ghost use Rattle.ygg_top.specs.Refusing.{most_bytes};
 ghost use Rattle.ygg_top.specs.Words.{most_operations};
-ghost use Rattle.ygg_top.specs.Ending.{Reports, IsAnswer, IsAnswerFor, IsAnswerMade, IsAnswerOf, IsAnswerWithin, IsTextOf, Demos, DemosMade, Prints, Verifies};
+ghost use Rattle.ygg_top.specs.Ending.{
+  Reports,
+  IsAnswer,
+  IsAnswerFor,
+  IsAnswerMade,
+  IsAnswerOf,
+  IsAnswerWithin,
+  IsTextOf,
+  IsUnread,
+  Demos,
+  DemosMade,
+  Prints,
+  Stands,
+  Verifies,
+};
 
 use crate::answer::CommandEnd;
-use crate::fetching::{fetched, refused};
 use crate::file::{file_of, printed};
 use crate::help::{HELP, VERSION};
-use crate::replaying::replay;
-use crate::words::{USUAL_BUDGET, budget, is_alone, operations, two_words_after, word_after};
+use crate::words::{USUAL_BUDGET, budget, is_alone, operations, with_budget_after, word_after};
 use crate::{counting, verdict};
 use std::alloc::Global;
-use ygg_base::{Library, Reason, Refuse, Sink, Status, Text};
+use ygg_base::{Fetch, Library, Reason, Refusal, Refuse, Sink, Status, Text};
 use ygg_report::put_all;
 use ygg_rules::{Book, RuleBook};
 use ygg_yard::make;
 
-/// Runs the command that the words name, and ends with its status: `verify FILE`, `verify FILE BUDGET`, `print FILE`, `demo N`,
-/// `replay FILE SCHEDULE`, and alone `--help` or `--version`. Other words are refused 71 at `0:0`. Nothing is printed before all refusals are judged; the
-/// lines of `verify` are put one by one, each as soon as its obligation is decided, and those of `demo` and `replay` at the end.
-/// What is ensured holds for every book of rules: they only make terms smaller.
+/// The most bytes of a layer file.
+const MOST_BYTES: u64 = 1_048_576;
+
+/// Runs the command that the words name, and ends with its status: `verify FILE`, `verify FILE BUDGET`, `print FILE`, `demo N`, and alone
+/// `--help` or `--version`. Other words are refused 71 at `0:0`. Nothing is printed before all refusals are judged; the lines of `verify` are put one by one,
+/// each as soon as its obligation is decided, and the line of `demo` at the end. What is ensured holds for every book of rules: they only make terms smaller.
 pub fn ygg<L: Library, K: Sink>(
     alloc: Global,
     words: &[Text],
@@ -77,7 +92,7 @@ fn answer<L: Library>(alloc: Global, words: &[Text], library: &mut L) -> Command
     if let Some(name) = word_after(words, b"verify") {
         return verify(alloc, name, USUAL_BUDGET, library);
     }
-    if let Some((name, word)) = two_words_after(words, b"verify") {
+    if let Some((name, word)) = with_budget_after(words, b"verify") {
         return verify_within(alloc, name, word, library);
     }
     if let Some(name) = word_after(words, b"print") {
@@ -85,9 +100,6 @@ fn answer<L: Library>(alloc: Global, words: &[Text], library: &mut L) -> Command
     }
     if let Some(word) = word_after(words, b"demo") {
         return demo(alloc, word);
-    }
-    if let Some((name, schedule)) = two_words_after(words, b"replay") {
-        return replay(alloc, name, schedule, library);
     }
     refused(alloc, Reason::Words.at(0, 0))
 }
@@ -99,6 +111,33 @@ fn done(alloc: Global, text: &[u8]) -> CommandEnd
     match Text::from_slice(alloc, text) {
         Ok(text) => CommandEnd::Ends(Status::Done, text),
         Err(_) => CommandEnd::NoMemory,
+    }
+}
+
+/// The answer that is a refusal.
+fn refused(alloc: Global, at: Refusal) -> CommandEnd
+    ensures { IsTextOf Status.Refused (refused_line at) result }
+{
+    match ygg_report::refused(alloc, at) {
+        Ok(text) => CommandEnd::Ends(Status::Refused, text),
+        Err(_) => CommandEnd::NoMemory,
+    }
+}
+
+/// The text that stands under the name, or the answer where none is fetched.
+fn fetched<L: Library>(alloc: Global, name: &Text, library: &mut L) -> Result<Text, CommandEnd>
+    ensures found { IfOk result (λ text. (length text ≤ most_bytes) × Stands (L.files library.old) name.now (Some text)) }
+    ensures unread { IfErr result (IsUnread (L.files library.old) name.now) }
+    ensures cause { result ≡ Err CommandEnd.LibraryFailed → Rose (L.faults library.old) (L.faults library.new) }
+    ensures kept { L.files library.new ≡ L.files library.old }
+    ensures later { L.faults library.old ≤ L.faults library.new }
+{
+    match library.fetch(name, MOST_BYTES) {
+        Fetch::Found(text) => Ok(text),
+        Fetch::Absent => Err(refused(alloc, Reason::Absent.at(0, 1))),
+        Fetch::TooLarge => Err(refused(alloc, Reason::TooLarge.at(0, 1))),
+        Fetch::Failed => Err(CommandEnd::LibraryFailed),
+        Fetch::Memory => Err(CommandEnd::NoMemory),
     }
 }
 
@@ -124,7 +163,7 @@ fn verify<L: Library>(alloc: Global, name: &Text, budget: u32, library: &mut L) 
     ensures kept { L.files library.new ≡ L.files library.old }
     ensures later { L.faults library.old ≤ L.faults library.new }
 {
-    match fetched(alloc, name, 1, library) {
+    match fetched(alloc, name, library) {
         Ok(text) => verify_text(alloc, budget, text.as_slice()),
         Err(answer) => answer,
     }
@@ -137,7 +176,7 @@ fn print<L: Library>(alloc: Global, name: &Text, library: &mut L) -> CommandEnd
     ensures kept { L.files library.new ≡ L.files library.old }
     ensures later { L.faults library.old ≤ L.faults library.new }
 {
-    match fetched(alloc, name, 1, library) {
+    match fetched(alloc, name, library) {
         Ok(text) => print_text(alloc, text.as_slice()),
         Err(answer) => answer,
     }

@@ -4,11 +4,9 @@
 mod answer;
 mod command;
 mod counting;
-mod fetching;
 mod file;
 mod finding;
 mod help;
-mod replaying;
 mod verdict;
 mod words;
 

@@ -4,7 +4,7 @@ ghost use Rattle.std.specs.Option.{option_copied};
 ghost use Rattle.ygg_top.specs.Words.{
   is_alone as alone,
   word_after as word_named,
-  two_words_after as words_named,
+  with_budget_after as budget_named,
   IsNumber,
   IsNoNumber,
   IsBudget,
@@ -50,14 +50,14 @@ pub fn word_after<'a>(words: &'a [Text], word: &[u8]) -> Option<&'a Text>
     }
 }
 
-/// The two words that stand alone after this one, where two do: a file and a budget, or two files.
-pub fn two_words_after<'a>(words: &'a [Text], word: &[u8]) -> Option<(&'a Text, &'a Text)>
-    ensures { MatchOption result (words_named word.now words.now ≡ None) (λ asked. words_named word.now words.now ≡ Some (asked.0.now, asked.1.now)) }
+/// The file and the budget's word that stand alone after this word, where both do.
+pub fn with_budget_after<'a>(words: &'a [Text], word: &[u8]) -> Option<(&'a Text, &'a Text)>
+    ensures { MatchOption result (budget_named word.now words.now ≡ None) (λ asked. budget_named word.now words.now ≡ Some (asked.0.now, asked.1.now)) }
 {
     match words {
-        [command, first, second] => {
+        [command, file, budget] => {
             if command.as_slice() == word {
-                Some((first, second))
+                Some((file, budget))
             } else {
                 None
             }

@@ -5,16 +5,15 @@ use Rattle.ygg_sched.specs.Sites.{low_in, sites_on, is_named}
 use Rattle.ygg_sched.proofs.Finding.{site_found, sites_passed}
 use Rattle.ygg_sched.proofs.naming.claim_in.Goals as goal
 
-pub returns-in-Some-clause-named : goal.returns-in-Some-clause-named
-returns-in-Some-clause-named c =
-    sym (site_found c.args.name.now (low_in c.loop-place.low) c.args.layers.now c.loop-place.place c.index-layers-place.result c.loop-place-test.true
-    c.index-layers-place.is _ (sym c.in-Some.ensures.named))
-    ∙ c.loop-place.invariant
+pub returns-in-Some : goal.returns-in-Some
+returns-in-Some c =
+    sym (site_found c.args.name.now (low_in c.loop-layer.low) c.args.layers.now c.loop-layer.layer-index c.layer-item.result c.loop-layer-test.true
+    c.layer-item.is _ (sym c.in-Some.ensures))
+    ∙ c.loop-layer.invariant
 
-pub loop-place-preserved : goal.loop-place-preserved
-loop-place-preserved c =
-    ap (λ (ds : List Declared). find (is_named c.args.name.now) (sites_on (c.loop-place.place + 1) ds (drop (c.loop-place.place + 1) c.args.layers.now)))
-    c.as_slice.ensures
-    ∙ sym (sites_passed c.args.name.now (low_in c.loop-place.low) c.args.layers.now c.loop-place.place c.index-layers-place.result c.loop-place-test.true
-    c.index-layers-place.is (sym c.in-None.ensures.named))
-    ∙ c.loop-place.invariant
+pub loop-layer-preserved : goal.loop-layer-preserved
+loop-layer-preserved c =
+    ap (λ (ds : List Declared). find (is_named c.args.name.now) (sites_on ds (drop (c.loop-layer.layer-index + 1) c.args.layers.now))) c.as_slice.ensures
+    ∙ sym (sites_passed c.args.name.now (low_in c.loop-layer.low) c.args.layers.now c.loop-layer.layer-index c.layer-item.result c.loop-layer-test.true
+    c.layer-item.is (sym c.in-None.ensures))
+    ∙ c.loop-layer.invariant

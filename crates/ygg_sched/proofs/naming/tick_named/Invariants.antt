@@ -4,5 +4,5 @@ use Rattle.ygg_sched.specs.Naming.{ticks_of, is_suffix}
 use Rattle.ygg_sched.proofs.naming.tick_named.Given as goal
 
 -- what is left decides
-abbrev pub invariant-loop-number : goal.invariant-loop-number
-invariant-loop-number l = find (is_suffix l.name) (ticks_of (drop l.number l.ticks)) ≡ find (is_suffix l.name) (ticks_of l.ticks)
+abbrev pub invariant-loop-tick : goal.invariant-loop-tick
+invariant-loop-tick l = find (is_suffix l.name) (ticks_of (drop l.tick-index l.ticks)) ≡ find (is_suffix l.name) (ticks_of l.ticks)

@@ -1,4 +1,4 @@
-use Rattle.std.proofs.Common.{◌≡◌, ℕ, suc, ◌-◌, Some, None, sym, ◌∙◌, subst, arith}
+use Rattle.std.proofs.Common.{◌≡◌, ℕ, suc, ◌-◌, ◌++◌, ◌∷◌, [], true, false, Some, None, sym, ap, ◌∙◌, subst, arith}
 use Rattle.ygg_meaning.specs.Machine.{Picks}
 use Rattle.ygg_replay.specs.Passing.{IsFirstAfter, passing}
 use Rattle.ygg_replay.proofs.Asked.{if_ok}

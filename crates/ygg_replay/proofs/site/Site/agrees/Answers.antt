@@ -1,4 +1,4 @@
-use Rattle.std.proofs.Common.{◌≡◌, true, false, ◌&&◌, List, sym, ap, ◌∙◌, subst}
+use Rattle.std.proofs.Common.{◌≡◌, Bool, true, false, ◌&&◌, List, sym, ap, ◌∙◌, subst}
 use Rattle.ygg_value.specs.declared.row.Value.{Value}
 use Rattle.ygg_meaning.specs.Related.{related}
 use Rattle.ygg_replay.specs.Passing.{answers_for}

@@ -1,4 +1,4 @@
-use Rattle.std.proofs.Common.{◌≡◌, ℕ, ◌+◌, ◌<◌, true, false, length, Some, option_map, suc, sym, ap, ◌∙◌, subst, arith}
+use Rattle.std.proofs.Common.{◌≡◌, ℕ, ◌+◌, ◌<◌, Bool, true, false, length, Some, option_map, suc, slice_get, sym, ap, ◌∙◌, subst, arith}
 use Rattle.ygg_eval_holds.specs.Formulas.{IsAsked, Answers}
 use Rattle.ygg_eval_spec.proofs.OnSpec.{there}
 use Rattle.ygg_replay.proofs.Asked.{always, always_asked, always_holds, all_always}
@@ -28,8 +28,8 @@ returns-then-not-branch c =
     c.args.memory.now c.args.low.now c.in_ok-holds.field-0) c.in_ok-number_of.ensures c.in_ok-holds.ensures) in
     let no : c.in_ok-holds.field-0 ≡ false = c.if-not-branch.true in
     let next : c.loop-place.place + 1 ≡ suc c.loop-place.place = omega arith in
-    ap (λ k. Some k) next
-    ∙ ap (option_map (λ (k : ℕ). suc k)) (sym (passed_until (all_always s c.requires.here c.args.state.now c.args.memory.now c.args.low.now)
+    ap (λ k. Some k) next ∙ ap (option_map (λ (k : ℕ). suc k)) (sym (passed_until
+    (all_always s c.requires.here c.args.state.now c.args.memory.now c.args.low.now)
     c.loop-place.place (said ∙ ap (λ b. Some b) no) c.loop-place.invariant))
 
 pub loop-place-preserved : goal.loop-place-preserved

@@ -1,4 +1,4 @@
-use Rattle.std.proofs.Common.{◌≡◌, ℕ, ◌<◌, true, false, length, [], Some, sym, ap, ◌∙◌, subst, arith}
+use Rattle.std.proofs.Common.{◌≡◌, ℕ, ◌+◌, ◌<◌, Bool, true, false, length, [], Some, slice_get, sym, ap, ◌∙◌, subst, arith}
 use Rattle.std.proofs.Common.{List}
 use Rattle.ygg_value.specs.declared.row.Value.{Value}
 use Rattle.ygg_eval_holds.specs.Formulas.{IsAsked, Answers}

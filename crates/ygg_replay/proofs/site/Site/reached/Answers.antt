@@ -1,7 +1,7 @@
-use Rattle.std.proofs.Common.{◌≡◌, Some, refl, subst}
-use Rattle.ygg_meaning.specs.Obligations.{CallOf, CutOf, TickOf, CutTickOf}
-use Rattle.ygg_sched.specs.declared.case.Kind.{Kind}
-use Rattle.ygg_sched.specs.Cases.{obligation_at}
+use Rattle.std.proofs.Common.{◌≡◌, Some, refl, sym, ap, ◌∙◌, subst}
+use Rattle.ygg_meaning.specs.Obligations.{Obligation, CallOf, CutOf, TickOf, CutTickOf}
+use Rattle.ygg_replay.specs.declared.schedule.Kind.{Kind}
+use Rattle.ygg_replay.specs.Schedules.{obligation_at}
 use Rattle.ygg_replay.proofs.Asked.{if_ok}
 use Rattle.ygg_replay.proofs.Reaching.{can_operate, can_tick, called, fallen, fallen_tick}
 use Rattle.ygg_replay.proofs.site.Site.reached.Goals as goal

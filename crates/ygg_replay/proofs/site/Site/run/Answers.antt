@@ -15,8 +15,8 @@ returns-clause-ran c = λ b h.
     let is = block_is s c.args.part c.args.number b c.requires.here h in
     let ends = rw c.in-Whole.is at (c.in_ok-answer.ensures.ends s.layer.now b is) in
     ran s c.args.part c.args.number b c.args.args.now c.args.memory.now c.args.lower.now c.in_ok-power.power c.args.picks.now c.requires.kind
-    c.requires.lower.number (runnable_fits _ _ _ _ s.layer.now b c.requires.block is) (c.in_ok-power.ensures ∙ ap fresh c.as_slice.ensures)
-    _ c.in-Whole.answer _ ends.1
+    c.requires.lower.number (runnable_fits _ _ _ _ s.layer.now b c.requires.block is) (c.in_ok-power.ensures ∙ ap fresh c.as_slice.ensures) _
+    c.in-Whole.answer _ ends.1
 
 pub returns-clause-lower : goal.returns-clause-lower
 returns-clause-lower c =

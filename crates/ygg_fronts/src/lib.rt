@@ -1,4 +1,0 @@
-//! The picks that a run with picks by place takes, from the front: in the order in which it takes them.
-#![tactic(auto)]
-
-pub mod law;

@@ -1,4 +1,0 @@
-pub mod Places
-pub mod Values
-pub mod Bridge
-pub mod Once

@@ -1,3 +1,0 @@
-pub mod Shown
-pub mod Ending
-pub mod Laws

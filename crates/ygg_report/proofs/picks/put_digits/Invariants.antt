@@ -1,7 +1,0 @@
-use Rattle.std.proofs.Common.{◌≡◌, ◌++◌, drop}
-use Rattle.ygg_report.specs.Picks.{digits_text}
-use Rattle.ygg_report.proofs.picks.put_digits.Given as goal
-
--- what is written so far, and then the digits of what is left
-abbrev pub invariant-loop-pick : goal.invariant-loop-pick
-invariant-loop-pick l = l.out ++ digits_text (drop l.pick-index l.picks) ≡ l.initial.out ++ digits_text l.picks
