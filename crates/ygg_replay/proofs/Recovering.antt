@@ -123,8 +123,7 @@ module _ (s : Site) where
   -- without a stop it cuts none
   pub never : (x : Schedule) (b : Block) (args : Env) (memory : List Value) → x.stop ≡ None → (fallen : Env) → FellIn s x b args memory fallen → ⊥
   never x b args memory none fallen c =
-      subst (λ (h : Option obligations.Halt). StopsAt h c.run.run.within (length c.run.run.calls))
-      (ap (λ (h : Option Halt). option_map halt_meant h) none) c.stop
+      subst (λ (h : Option obligations.Halt). StopsAt h c.run.run.within (length c.run.run.calls)) (ap (λ (h : Option Halt). option_map halt_meant h) none) c.stop
 
 -- declared names with values are the same where the values are
 pub same_bound : (ds : List Declared) (vs ws : List Value) → values_fit ds vs ≡ true → values_fit ds ws ≡ true →

@@ -30,8 +30,7 @@ agreeing s t (CallOf o) picks = passing s t (CallOf o) picks
 agreeing s t Init picks = related_after (closed_in s) (end_at s t.end.now).to (spec_after (closed_in s) Init (meant_at s t.schedule.now) picks)
 agreeing s t (CutOf o) picks = related_after (closed_in s) (end_at s t.end.now).to (spec_after (closed_in s) (CutOf o) (meant_at s t.schedule.now) picks)
 agreeing s t (TickOf k) picks = related_after (closed_in s) (end_at s t.end.now).to (spec_after (closed_in s) (TickOf k) (meant_at s t.schedule.now) picks)
-agreeing s t (CutTickOf k) picks =
-    related_after (closed_in s) (end_at s t.end.now).to (spec_after (closed_in s) (CutTickOf k) (meant_at s t.schedule.now) picks)
+agreeing s t (CutTickOf k) picks = related_after (closed_in s) (end_at s t.end.now).to (spec_after (closed_in s) (CutTickOf k) (meant_at s t.schedule.now) picks)
 agreeing s t Idle picks = related_after (closed_in s) (end_at s t.end.now).to (spec_after (closed_in s) Idle (meant_at s t.schedule.now) picks)
 agreeing s t Again picks = related_after (closed_in s) (end_at s t.end.now).to (spec_after (closed_in s) Again (meant_at s t.schedule.now) picks)
 

@@ -106,7 +106,7 @@ impl<'a> Site<'a> {
     }
 
     /// The values that what the layer is specified over starts with. Its only error is out of memory.
-    fn low_at_start(&self) -> Result<Values, NoMemory>
+    pub fn low_at_start(&self) -> Result<Values, NoMemory>
         requires { IsHere self.now }
         ensures starts { IfOk result (λ low. (machine_in self.now).Starts (based (low_at self.now low)) []) }
         ensures fits { IfOk result (LowFits self.now) }

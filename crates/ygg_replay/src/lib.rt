@@ -14,3 +14,5 @@ mod zeros;
 
 pub use schedule::Replayed;
 pub use showing::replay;
+pub use site::Site;
+pub use zeros::zeros;

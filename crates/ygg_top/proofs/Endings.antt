@@ -1,5 +1,5 @@
 -- From what is fetched and replayed to how `replay` ends.
-use Rattle.std.proofs.Common.{◌≡◌, ◌≤◌, ℕ, List, Option, Some, length, inl, inr, refl}
+use Rattle.std.proofs.Common.{◌≡◌, ◌≤◌, ℕ, List, Option, Some, length, inl, inr, refl, sym, subst}
 use Rattle.ygg_base.specs.declared.failure.Refusal.{Refusal}
 use Rattle.ygg_base.specs.declared.lists.Held.{Held}
 use Rattle.ygg_base.specs.declared.status.Status.{Status}
@@ -12,7 +12,7 @@ use Rattle.ygg_top.specs.declared.answer.CommandEnd.{CommandEnd}
 use Rattle.ygg_top.specs.declared.answer.CommandEnd.TheVariants as answer
 use Rattle.ygg_top.specs.Refusing.{IsLayerFile, most_bytes}
 use Rattle.ygg_top.specs.Standing.{Stands, DoesWith}
-use Rattle.ygg_top.specs.Replaying.{ReplaysStored, ReplaysNamed}
+use Rattle.ygg_top.specs.Replaying.{ReplaysStored, Replays, ReplaysNamed}
 use Rattle.ygg_top.specs.Ending.{IsTextOf, IsUnread, IsEnding}
 
 -- what ends in one way and so in another
@@ -31,7 +31,7 @@ unread_schedule f files name answer.NoMemory is = tt
 unread_schedule f files name answer.LibraryFailed is = tt
 unread_schedule f files name (answer.Verifies typed budget) is = is
 unread_schedule f files name (answer.Demos typed number) is = is
-unread_schedule f files name (answer.Ends status text) is = (is.0, is.2, inl (is.1, is.3, (is.4, is.5)))
+unread_schedule f files name (answer.Ends status text) is = (is.0, is.2, inl (is.1, is.3, is.4, is.5))
 
 -- one that was fetched
 pub read_schedule : (f : File) (files : Option (List Held)) (name bytes : List ℕ) (found : CommandEnd) → Stands files name (Some bytes) →
@@ -47,7 +47,7 @@ unread_file files name schedule answer.NoMemory is = tt
 unread_file files name schedule answer.LibraryFailed is = tt
 unread_file files name schedule (answer.Verifies typed budget) is = is
 unread_file files name schedule (answer.Demos typed number) is = is
-unread_file files name schedule (answer.Ends status text) is = (is.0, is.2, inl (is.1, inl is.3, (is.4, is.5)))
+unread_file files name schedule (answer.Ends status text) is = (is.0, is.2, inl (is.1, inl is.3, is.4, is.5))
 
 -- one that was refused
 pub refused_file : (files : Option (List Held)) (name schedule bytes : List ℕ) (at : Refusal) (found : CommandEnd) → Stands files name (Some bytes) →
@@ -57,7 +57,7 @@ refused_file files name schedule bytes at answer.LibraryFailed stands small refu
 refused_file files name schedule bytes at (answer.Verifies typed budget) stands small refuses is = is
 refused_file files name schedule bytes at (answer.Demos typed number) stands small refuses is = is
 refused_file files name schedule bytes at (answer.Ends status text) stands small refuses is =
-    (Some bytes, stands, inl (at, inr (small, refuses), (is.0, is.1)))
+    (Some bytes, stands, inl (at, inr (small, refuses), is.0, is.1))
 
 -- one for which a schedule is replayed
 pub read_file : (files : Option (List Held)) (name schedule bytes : List ℕ) (f : File) (found : CommandEnd) → Stands files name (Some bytes) →

@@ -1,6 +1,8 @@
 -- From what the words ask for to how a command ends.
-use Rattle.std.proofs.Common.{◌≡◌, inl, inr, ℕ, Bool, true, false, List, Option, Some, None, sym, subst}
+use Rattle.std.proofs.Common.{◌≡◌, inl, inr, ℕ, Bool, true, false, List, Option, Some, None, refl, sym, subst}
 use Rattle.std.specs.Prelude.{codes, MatchBool, MatchOption}
+use Rattle.ygg_base.specs.declared.reason.Reason.TheVariants as reason
+use Rattle.ygg_base.specs.Reason.{refusal_at}
 use Rattle.ygg_base.specs.declared.lists.Held.{Held}
 use Rattle.ygg_base.specs.declared.status.Status.{Status}
 use Rattle.ygg_base.specs.declared.status.Status.TheVariants.{Done, Refuted, Refused, Undecided, Fault, NoMemory}
@@ -9,11 +11,12 @@ use Rattle.ygg_meaning.specs.Replayed.{Replayed, Shows, Hypothesis, Passes}
 use Rattle.ygg_replay_text.specs.Ending.{Replaying, status_of}
 use Rattle.ygg_report.specs.Putting.{Adds, IsPutSo, NoFront, Puts}
 use Rattle.ygg_rules.specs.declared.rule.RuleKind.{RuleKind}
+use Rattle.ygg_top.specs.declared.help.TheConstants.{HELP, VERSION}
 use Rattle.ygg_top.specs.declared.answer.CommandEnd.{CommandEnd}
 use Rattle.ygg_top.specs.declared.answer.CommandEnd.TheVariants as answer
 use Rattle.ygg_top.specs.Words.{is_alone, word_after, two_words_after, usual_budget, IsBudget}
 use Rattle.ygg_top.specs.Verdict.{Verified, Counted}
-use Rattle.ygg_top.specs.Standing.{DoesWith}
+use Rattle.ygg_top.specs.Standing.{DoesWith, IsRefused}
 use Rattle.ygg_top.specs.Replaying.{ReplaysStored, Replays, ReplaysNamed}
 use Rattle.ygg_top.specs.Ending.{
   Verifies,

@@ -1,11 +1,12 @@
 -- How a command ends, and what it prints.
-use Rattle.std.specs.Prelude.{◌≡◌, ◌⊎◌, ℕ, ◌<◌, List, codes, Option, Some, MatchBool, MatchOption}
+use Rattle.std.specs.Prelude.{◌≡◌, ◌⊎◌, ℕ, ◌<◌, List, ◌++◌, codes, Option, Some, None, MatchBool, MatchOption}
 use Rattle.ygg_base.specs.declared.failure.Refusal.{Refusal}
 use Rattle.ygg_base.specs.declared.reason.Reason.TheVariants as reason
 use Rattle.ygg_base.specs.Reason.{refusal_at}
 use Rattle.ygg_base.specs.declared.lists.Held.{Held}
 use Rattle.ygg_base.specs.declared.status.Status.{Status}
 use Rattle.ygg_base.specs.declared.status.Status.TheVariants.{Done, Refused, Fault, NoMemory}
+use Rattle.ygg_base.specs.Outside.{bytes_of}
 use Rattle.ygg_base.specs.Lexing.{tokens_of}
 use Rattle.ygg_syntax.specs.declared.tree.File.{File}
 use Rattle.ygg_print.specs.Canonical.{canonical, GivesAgain}

@@ -1,9 +1,11 @@
-ghost use Rattle.std.specs.Prelude.{List, ◌≡◌, ◌<◌, ◌≤◌, length};
+ghost use Rattle.std.specs.Prelude.{List, ◌≡◌, ◌<◌, ◌≤◌, length, Some, Err, IfOk, IfErr};
 ghost use Rattle.ygg_rules.specs.declared.rule.RuleKind.{RuleKind};
 ghost use Rattle.ygg_base.specs.Outside.{Rose};
+ghost use Rattle.ygg_report.specs.Lines.{refused_line};
 ghost use Rattle.ygg_top.specs.Refusing.{most_bytes};
 ghost use Rattle.ygg_top.specs.Words.{most_operations};
-ghost use Rattle.ygg_top.specs.Ending.{Reports, IsAnswer, IsAnswerFor, IsAnswerMade, IsAnswerOf, IsAnswerWithin, IsTextOf, Demos, DemosMade, Prints, Verifies};
+ghost use Rattle.ygg_top.specs.Standing.{Stands};
+ghost use Rattle.ygg_top.specs.Ending.{Reports, IsAnswer, IsAnswerFor, IsAnswerMade, IsAnswerOf, IsAnswerWithin, IsTextOf, IsUnread, Demos, DemosMade, Prints, Verifies};
 
 use crate::answer::CommandEnd;
 use crate::fetching::{fetched, refused};
@@ -13,15 +15,14 @@ use crate::replaying::replay;
 use crate::words::{USUAL_BUDGET, budget, is_alone, operations, two_words_after, word_after};
 use crate::{counting, verdict};
 use std::alloc::Global;
-use ygg_base::{Library, Reason, Refuse, Sink, Status, Text};
+use ygg_base::{Fetch, Library, Reason, Refusal, Refuse, Sink, Status, Text};
 use ygg_report::put_all;
 use ygg_rules::{Book, RuleBook};
 use ygg_yard::make;
 
 /// Runs the command that the words name, and ends with its status: `verify FILE`, `verify FILE BUDGET`, `print FILE`, `demo N`,
-/// `replay FILE SCHEDULE`, and alone `--help` or `--version`. Other words are refused 71 at `0:0`. Nothing is printed before all refusals are judged; the
-/// lines of `verify` are put one by one, each as soon as its obligation is decided, and those of `demo` and `replay` at the end.
-/// What is ensured holds for every book of rules: they only make terms smaller.
+/// `replay FILE SCHEDULE`, and alone `--help` or `--version`. Other words are refused 71 at `0:0`. Nothing is printed before all refusals are judged; the lines of `verify` are put one by one,
+/// each as soon as its obligation is decided, and the line of `demo` at the end. What is ensured holds for every book of rules: they only make terms smaller.
 pub fn ygg<L: Library, K: Sink>(
     alloc: Global,
     words: &[Text],

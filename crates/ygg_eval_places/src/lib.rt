@@ -1,0 +1,16 @@
+//! Runs of blocks on values in which each choice and each call has a place of its own in the unrolled text.
+#![tactic(auto)]
+
+mod places;
+mod room;
+mod source;
+mod walker;
+mod whole;
+
+pub use places::{Places, Question};
+pub use room::{add, room};
+pub use walker::Walker;
+pub use whole::run_places;
+
+#[test]
+fn compiles() {}

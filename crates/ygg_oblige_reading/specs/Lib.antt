@@ -1,0 +1,4 @@
+pub mod Meant
+pub mod Here
+pub mod Runs
+pub mod Schedules

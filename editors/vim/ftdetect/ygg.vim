@@ -1,2 +1,0 @@
-" Layer files of ygg are known by their ending.
-autocmd BufRead,BufNewFile *.ygg setfiletype ygg
