@@ -49,6 +49,7 @@ use Rattle.ygg_top.specs.Verdict.{Counted, AreTrue, status_by, any_failed, any_s
 use Rattle.ygg_top.specs.Findings.{AreFound, any_of, first_failed, status_of_counts}
 use Rattle.ygg_top.proofs.Judging.{Whole, whole}
 use Rattle.ygg_top.proofs.Verdicts.{Proper, verified}
+use Rattle.ygg_top.proofs.Reporting.{writes_in}
 
 counted_more : (b : Bool) (n : ℕ) (c : Bool) → nat_lt 0 n ≡ c → nat_lt 0 (cond b 1 0 + n) ≡ (b || c)
 counted_more true n c e = lt-ltb 0 (1 + n) (omega arith)
@@ -90,7 +91,7 @@ module _ (kinds : List RuleKind) (f : File) (number : ℕ) (p : Proper f) where
 
     w : Whole (file_made kinds f []).nodes usual_budget bank (claims_of f) (terms_in all) vs
     w =
-        whole (file_made kinds f []).nodes usual_budget bank (claims_of f) (terms_in all) vs mean found
+        whole (file_made kinds f []).nodes usual_budget bank (claims_of f) (terms_in all) vs mean (writes_in kinds f p all bank terms mean) found
         (each ∙ sym (length-map all (λ (o : Obligation). o.term)))
 
     are_true : AreTrue (file_made kinds f []).nodes usual_budget (claims_of f) (file_made kinds f []).value w.verdicts

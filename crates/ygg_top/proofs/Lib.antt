@@ -1,6 +1,7 @@
 mod Canonical
 mod Found
 mod Endings
+mod Written
 mod Judging
 mod Verdicts
 mod Reporting

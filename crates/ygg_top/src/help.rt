@@ -35,7 +35,8 @@ How commands end, and the last line that they print:
 
   0  verified N                   all N obligations hold
   0  the canonical text           print
-  1  refuted NAME                 the first obligation that fails
+  1  refuted NAME                 the first obligation that fails, and then a
+                                  schedule that violates it
   1  shows NAME                   replay: the obligation is violated
   2  refused NUMBER LINE:COLUMN   the words or a file are refused there
   2  hypothesis I, or holds BITS  replay: the obligation is not violated

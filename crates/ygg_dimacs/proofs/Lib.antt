@@ -1,8 +1,0 @@
-mod Splitting
-mod Digits
-mod Decimals
-mod Sets
-mod Taking
-mod Numbered
-mod Again
-mod Lining
