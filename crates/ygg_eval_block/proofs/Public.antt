@@ -91,11 +91,11 @@ question_is : (p q : Question) → Asks p ≡ Asks q → p ≡ q
 question_is p q h = cc
 
 -- what the values are of names that follow declared ones: as many, under the same names, and of their shapes
-record Bound (ds : List Declared) (vs : List Value) (left : Env) : Type 0 where
+pub record Bound (ds : List Declared) (vs : List Value) (left : Env) : Type 0 where
   pub leaves : bind ds (values_in (take (length vs) left)) ≡ take (length vs) left
   pub fit : values_fit ds (values_in (take (length vs) left)) ≡ true
 
-bound : (ds : List Declared) (vs : List Value) (rest left : Env) → values_fit ds vs ≡ true → Follows (bind ds vs ++ rest) left → Bound ds vs left
+pub bound : (ds : List Declared) (vs : List Value) (rest left : Env) → values_fit ds vs ≡ true → Follows (bind ds vs ++ rest) left → Bound ds vs left
 bound [] [] rest left fit f = record { leaves = refl; fit = refl }
 bound [] (v ∷ vs) rest left fit f = absurd (cc)
 bound (d ∷ ds) [] rest left fit f = absurd (cc)
@@ -109,7 +109,7 @@ bound (d ∷ ds) (v ∷ vs) rest (c ∷ left) fit (name, keeps, f) =
     }
 
 -- as many names as values that fit
-bind_counted : (ds : List Declared) (vs : List Value) → values_fit ds vs ≡ true → length (bind ds vs) ≡ length vs
+pub bind_counted : (ds : List Declared) (vs : List Value) → values_fit ds vs ≡ true → length (bind ds vs) ≡ length vs
 bind_counted [] [] h = refl
 bind_counted [] (v ∷ vs) h = absurd (cc)
 bind_counted (d ∷ ds) [] h = absurd (cc)
@@ -122,7 +122,7 @@ env_of-take (suc n) [] = refl
 env_of-take (suc n) (b ∷ bs) = ap (λ e. (b.name.now, held_value b.held) ∷ e) (env_of-take n bs)
 
 -- the front of a front
-take_shorter : (n m : ℕ) (xs : Env) → n ≤ m → take n (take m xs) ≡ take n xs
+pub take_shorter : (n m : ℕ) (xs : Env) → n ≤ m → take n (take m xs) ≡ take n xs
 take_shorter zero m xs h = refl
 take_shorter (suc n) zero xs h = absurd (omega arith)
 take_shorter (suc n) (suc m) [] h = refl

@@ -74,7 +74,7 @@ use Rattle.ygg_eval_block.proofs.Fitting.{walked_defs}
 use Rattle.ygg_eval_block.proofs.Public.{Coming, coming, ends_in, stops_at, starves_in, finishes, finishes_early, stops_after, starves_after, starves_at_end}
 
 -- statements leave the definitions as they are
-in_order_defs : (ss : List Stmt) (scope : Scope) → (in_order (map walked ss) scope).scope.defs ≡ scope.defs
+pub in_order_defs : (ss : List Stmt) (scope : Scope) → (in_order (map walked ss) scope).scope.defs ≡ scope.defs
 in_order_defs [] scope = refl
 in_order_defs (s ∷ ss) scope = in_order_defs ss (walked s scope).scope ∙ walked_defs s scope
 

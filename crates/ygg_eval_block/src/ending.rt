@@ -48,7 +48,7 @@ pub fn names_of<'a, 'v>(
 }
 
 /// Gives the values of the first names back. Its only error is out of memory.
-fn give_back(
+pub fn give_back(
     alloc: Global,
     mut names: Vec<Binding<'_, '_>>,
     count: usize,
@@ -69,7 +69,7 @@ fn give_back(
 
 impl<'a> Runner<'a> {
     /// What a block returns.
-    fn answer(
+    pub fn answer(
         &self,
         answer: &'a Option<Expr>,
         names: &[Binding<'a, '_>],

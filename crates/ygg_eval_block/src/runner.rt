@@ -55,7 +55,7 @@ impl<'a> Runner<'a> {
     }
 
     /// The values of arguments.
-    fn values(&self, es: &'a [Expr], names: &[Binding<'a, '_>]) -> Result<Values, NoMemory>
+    pub fn values(&self, es: &'a [Expr], names: &[Binding<'a, '_>]) -> Result<Values, NoMemory>
         requires { All (CanEvaluate (known_in self.now.typed.now.file (env_of names.now))) es.now }
         ensures { IfOk result (λ vs. vs ≡ values_of (eval_in self.now.typed.now.file) es.now (env_of names.now)) }
     {

@@ -67,7 +67,7 @@ impl<'a> Runner<'a> {
     }
 
     /// Gives a variable, or the part of it that these indices name, a value. Its only error is out of memory.
-    fn write(
+    pub fn write(
         &self,
         x: &'a Name,
         indices: &'a [Index],
@@ -242,7 +242,7 @@ impl<'a> Runner<'a> {
 }
 
 /// Puts a name with a value after others. Its only error is out of memory.
-fn name_value<'a>(
+pub fn name_value<'a>(
     names: &mut Vec<Binding<'a, '_>>,
     x: &'a Name,
     value: Value,
@@ -257,7 +257,7 @@ fn name_value<'a>(
 }
 
 /// Puts the name of a loop with a number of this width after others. Its only error is out of memory.
-fn name_number<'a>(
+pub fn name_number<'a>(
     names: &mut Vec<Binding<'a, '_>>,
     x: &'a Name,
     w: Numeral,

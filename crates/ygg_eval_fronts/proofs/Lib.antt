@@ -1,0 +1,7 @@
+pub mod Noting
+pub mod Calls
+pub mod OnDisk
+pub mod OnSpec
+pub mod Watching
+pub mod Spaces
+pub mod Fronting

@@ -1,0 +1,4 @@
+pub mod Belows
+pub mod Keeping
+pub mod Steps
+pub mod Fronts

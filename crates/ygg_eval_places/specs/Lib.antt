@@ -1,0 +1,4 @@
+pub mod Machines
+pub mod Ready
+pub mod Walks
+pub mod Wholes
