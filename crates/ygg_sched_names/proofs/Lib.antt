@@ -1,0 +1,13 @@
+pub mod Apart
+pub mod Lists
+pub mod Marks
+pub mod Keys
+pub mod Taken
+pub mod Plain
+pub mod Kept
+pub mod Spare
+pub mod Facts
+pub mod Asked
+pub mod Good
+pub mod Printed
+pub mod Accepted
