@@ -34,7 +34,7 @@ fn table(alloc: Global, name: &[u8], disk: DiskText) -> Result<Declared, NoMemor
 }
 
 /// The tables that a disk shows. Its only error is out of memory.
-fn tables(alloc: Global, disk: DiskText) -> Result<Vec<Declared>, NoMemory>
+pub fn tables(alloc: Global, disk: DiskText) -> Result<Vec<Declared>, NoMemory>
     ensures { IfOk result (λ ds. ds.items ≡ tables_of disk) }
 {
     let mut tables = Vec::new(alloc);

@@ -106,7 +106,7 @@ fn add_all<'a, B: Book>(
 }
 
 /// The number after that of the last input of the states that a layer's obligations begin with.
-fn after_states<'a, B>(maker: &Maker<'a, B>, number: u64) -> Result<u64, NoMemory>
+pub fn after_states<'a, B>(maker: &Maker<'a, B>, number: u64) -> Result<u64, NoMemory>
     requires { SiteFits maker.now.layer maker.now.below }
     ensures { IfOk result (λ n. n ≡ number + state_words (closed maker.now.layer)) }
 {

@@ -14,6 +14,9 @@ mod listing;
 mod names;
 mod obligation;
 
+pub use file::tables;
+pub use layers::after_states;
+pub use names::name_of;
 pub use obligation::{Kind, Obligation, Obligations};
 use std::alloc::Global;
 use ygg_bank::{Bank, NoMemory};

@@ -28,7 +28,7 @@ ghost use Rattle.ygg_replay.specs.Steps.{meant_at};
 ghost use Rattle.ygg_replay.specs.Zeros.{zero_values};
 
 use crate::site::Site;
-use crate::zeros::zeros;
+use crate::zeroing::zeros;
 use ygg_base::{Bits, DiskKind};
 use ygg_eval::{Part, SpecLower, spec_lower};
 use ygg_list::{NoMemory, Sequence};
@@ -106,7 +106,7 @@ impl<'a> Site<'a> {
     }
 
     /// The values that what the layer is specified over starts with. Its only error is out of memory.
-    fn low_at_start(&self) -> Result<Values, NoMemory>
+    pub fn low_at_start(&self) -> Result<Values, NoMemory>
         requires { IsHere self.now }
         ensures starts { IfOk result (λ low. (machine_in self.now).Starts (based (low_at self.now low)) []) }
         ensures fits { IfOk result (LowFits self.now) }

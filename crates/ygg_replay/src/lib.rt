@@ -10,7 +10,9 @@ mod search;
 mod showing;
 mod site;
 mod spec;
-mod zeros;
+mod zeroing;
 
 pub use schedule::Replayed;
 pub use showing::replay;
+pub use site::Site;
+pub use zeroing::zeros;

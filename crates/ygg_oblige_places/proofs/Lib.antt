@@ -1,0 +1,5 @@
+pub mod Lists
+pub mod Counting
+pub mod Starting
+pub mod Walking
+pub mod Placing

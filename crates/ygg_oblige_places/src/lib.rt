@@ -1,0 +1,9 @@
+//! The obligations of a file by their places in its list, with the inputs that each of them has.
+#![tactic(auto)]
+
+mod listed;
+mod site;
+mod starts;
+
+pub use listed::{Listed, obligation_at};
+pub use site::{Site, site_at};

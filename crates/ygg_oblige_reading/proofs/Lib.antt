@@ -1,0 +1,10 @@
+pub mod Zeros
+pub mod Starts
+pub mod Stands
+pub mod Parts
+pub mod Means
+pub mod Falling
+pub mod Values
+pub mod Fitted
+pub mod EachKind
+pub mod Placed

@@ -1,0 +1,9 @@
+//! The schedule of an obligation, read from an environment: the values are those of its inputs, and the picks are those that the runs take
+//! which it names by place.
+#![tactic(auto)]
+
+mod named;
+mod reader;
+mod starting;
+
+pub use named::schedule;
