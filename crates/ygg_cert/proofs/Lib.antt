@@ -1,0 +1,10 @@
+pub mod Matched
+pub mod Reached
+pub mod Logged
+pub mod Stood
+pub mod Read
+pub mod Worth
+pub mod Printed
+pub mod Once
+pub mod Told
+pub mod Stepped

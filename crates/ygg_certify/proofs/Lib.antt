@@ -1,0 +1,2 @@
+mod Refining
+mod Certified

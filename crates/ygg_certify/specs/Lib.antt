@@ -1,0 +1,3 @@
+pub mod FileGoals
+pub mod Certifying
+pub mod Checking

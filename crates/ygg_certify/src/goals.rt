@@ -1,0 +1,46 @@
+//! The goals of a layer file: the clauses of the terms of its obligations.
+
+ghost use Rattle.std.specs.Prelude.{◌≡◌, IfOk};
+ghost use Rattle.ygg_certify.specs.FileGoals.{goal_in};
+
+use std::alloc::Global;
+use ygg_bank::Bank;
+use ygg_blast::clauses_of;
+use ygg_cert::{Goal, Goals};
+use ygg_list::NoMemory;
+use ygg_oblige::Obligation;
+
+/// Obligations with the bank of their terms. The clauses of a term are made when its goal is asked for, so that those of one obligation alone are in memory.
+#[derive(Drop)]
+pub struct FileGoals<'a> {
+    pub bank: &'a Bank,
+    pub all: &'a [Obligation],
+}
+
+/// The clauses of an obligation's term. Its only error is out of memory.
+fn goal_in(alloc: Global, bank: &Bank, o: &Obligation) -> Result<Goal, NoMemory>
+    ensures { IfOk result (λ goal. goal ≡ goal_in bank.now o.now) }
+{
+    // the terms of a file stand in its bank, so this is never so
+    if o.term.0 as usize >= bank.len() {
+        return Err(NoMemory);
+    }
+    let blasted = clauses_of(alloc, bank, o.term)?;
+    Ok(Goal {
+        name: o.name.copy(alloc)?,
+        clauses: blasted.clauses().copy(alloc)?,
+    })
+}
+
+impl Goals for FileGoals<'_> {
+    ghost use Rattle.ygg_certify.specs.FileGoals.{goals_in};
+
+    ghost wanted = { λ goals. goals_in goals.bank.now goals.all.now };
+
+    fn goal(&self, alloc: Global, place: usize) -> Result<Option<Goal>, NoMemory> {
+        match self.all.get(place) {
+            Some(o) => Ok(Some(goal_in(alloc, self.bank, o)?)),
+            None => Ok(None),
+        }
+    }
+}

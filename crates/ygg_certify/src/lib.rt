@@ -1,0 +1,12 @@
+//! Certificates of layer files: checked, and made.
+#![tactic(auto)]
+
+mod certifying;
+mod checking;
+mod goals;
+mod saying;
+
+pub use certifying::{Certifying, certify};
+pub use checking::check_file;
+pub use goals::FileGoals;
+pub use saying::check;

@@ -1,0 +1,2 @@
+mod Certificate
+mod Firsts

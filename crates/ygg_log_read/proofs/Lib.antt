@@ -1,0 +1,6 @@
+pub mod Decimals
+pub mod Words
+pub mod Turning
+pub mod Leading
+pub mod Ending
+pub mod Decoding

@@ -1,0 +1,8 @@
+//! The line of a derived clause, as logs and certificates have it, read byte by byte: each byte is either wrong, so that no further bytes make such a line, or
+//! leads on.
+#![tactic(auto)]
+
+mod reader;
+mod spot;
+
+pub use reader::{Heard, StepReader};

@@ -1,0 +1,79 @@
+//! A line of a derived clause that is read byte by byte.
+
+ghost use Rattle.std.specs.Prelude.{◌≡◌, [], ◌∷◌, ◌++◌, List, ℕ, IfOk};
+ghost use Rattle.ygg_log_read.specs.Reading.{IsReading, Hears};
+
+use crate::spot::{Spot, Turn, turn_at};
+use std::alloc::Global;
+use ygg_cnf::{Clause, Lit};
+use ygg_list::{NoMemory, Sequence};
+
+/// What the reader says of a byte.
+#[derive(Clone, Copy)]
+pub enum Heard {
+    /// The bytes so far can be continued to a line.
+    More,
+    /// They are a line.
+    Whole,
+    /// They can't be continued to a line. The reader is then of no use.
+    Wrong,
+}
+
+/// The bytes of a line of a derived clause so far: its literals and numbers that are read whole, and where the reading stands.
+#[derive(Drop)]
+pub struct StepReader {
+    spot: Spot,
+    clause: Clause,
+    chain: Sequence<u64>,
+}
+
+impl StepReader {
+    /// A reader of no bytes. It takes no memory.
+    pub fn new(alloc: Global) -> StepReader
+        ensures { IsReading [] result }
+    {
+        StepReader {
+            spot: Spot::Begin,
+            clause: Clause::new(alloc),
+            chain: Sequence::new(alloc),
+        }
+    }
+
+    /// The clause of the line, once it is whole.
+    pub fn clause(&self) -> &Clause
+        ensures { result.now ≡ self.now.clause }
+    {
+        &self.clause
+    }
+
+    /// The numbers of the clauses that it is derived from, once the line is whole.
+    pub fn chain(&self) -> &[u64]
+        ensures { result.now ≡ self.now.chain }
+    {
+        self.chain.as_slice()
+    }
+
+    /// Reads a byte. Its only error is out of memory, after which the reader is of no use.
+    pub fn read(&mut self, byte: u8) -> Result<Heard, NoMemory>
+        ensures { (before : List ℕ) → IsReading before self.old → IfOk result (Hears (before ++ byte ∷ []) self.new) }
+    {
+        match turn_at(self.spot, byte) {
+            Turn::To(spot) => {
+                self.spot = spot;
+                Ok(Heard::More)
+            }
+            Turn::Literal(lit) => {
+                self.clause.push(lit)?;
+                self.spot = Spot::Literal;
+                Ok(Heard::More)
+            }
+            Turn::Number(number) => {
+                self.chain.push(number)?;
+                self.spot = Spot::Number;
+                Ok(Heard::More)
+            }
+            Turn::Whole => Ok(Heard::Whole),
+            Turn::Wrong => Ok(Heard::Wrong),
+        }
+    }
+}
