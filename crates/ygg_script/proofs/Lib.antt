@@ -1,0 +1,4 @@
+pub mod Pieces
+pub mod Arguments
+pub mod Onward
+pub mod Fitted
