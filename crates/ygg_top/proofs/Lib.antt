@@ -1,6 +1,8 @@
 mod Canonical
 mod Found
 mod Endings
+mod Shown
+mod Written
 mod Judging
 mod Verdicts
 mod Reporting

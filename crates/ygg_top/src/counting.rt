@@ -17,6 +17,7 @@ use ygg_base::{NoMemory, Sink, Status};
 use ygg_histories::law::refines_by_list;
 use ygg_list::Sequence;
 use ygg_oblige::{Obligation, obligations};
+use ygg_oblige_schedules::law::file_schedules;
 use ygg_report::{Tally, Verdict, put};
 use ygg_rules::Book;
 use ygg_type::Typed;
@@ -36,8 +37,8 @@ fn all_found<B: Book>(
 {
     let mut verdicts = Sequence::new(alloc);
     for o in all {
-        let verdict = found(alloc, bank, rules, o.term, USUAL_BUDGET)?;
-        verdicts.push(verdict)?;
+        let finding = found(alloc, bank, rules, o.term, USUAL_BUDGET)?;
+        verdicts.push(finding.verdict)?;
     }
     Ok(verdicts)
 }
@@ -78,6 +79,7 @@ pub fn demo<B: Book, K: Sink>(
     let _ = typed.file();
     typed_histories();
     refines_by_list();
+    file_schedules();
     let Ok(verdicts) = all_found(alloc, &mut bank, rules, all.as_slice()) else {
         return Status::NoMemory;
     };

@@ -2,6 +2,7 @@
 #![tactic(auto)]
 
 mod answer;
+mod asking;
 mod command;
 mod counting;
 mod fetching;
@@ -9,6 +10,7 @@ mod file;
 mod finding;
 mod help;
 mod replaying;
+mod solving;
 mod verdict;
 mod words;
 

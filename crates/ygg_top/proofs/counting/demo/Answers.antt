@@ -33,6 +33,7 @@ returns-in-Ok-put-clause-told g c =
       typed = c.file.ensures.typed;
       by_list = c.refines_by_list.ensures;
       histories = c.typed_histories.ensures;
+      schedules = c.file_schedules.ensures;
     } in
     let e = c.in-Ok-obligations.ensures in
     let found = c.in-Ok-all_found.ensures in
@@ -60,6 +61,7 @@ returns-clause-told g c =
       typed = c.file.ensures.typed;
       by_list = c.refines_by_list.ensures;
       histories = c.typed_histories.ensures;
+      schedules = c.file_schedules.ensures;
     } in
     let e = c.in-Ok-obligations.ensures in
     let found = c.in-Ok-all_found.ensures in

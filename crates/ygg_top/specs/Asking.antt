@@ -1,0 +1,29 @@
+-- How `cnf` ends.
+use Rattle.std.specs.Prelude.{◌≡◌, ◌⊎◌, ℕ, List, Option, Some}
+use Rattle.ygg_base.specs.declared.failure.Refusal.{Refusal}
+use Rattle.ygg_base.specs.declared.lists.Held.{Held}
+use Rattle.ygg_base.specs.declared.status.Status.{Status}
+use Rattle.ygg_syntax.specs.declared.tree.File.{File}
+use Rattle.ygg_rules.specs.declared.rule.RuleKind.{RuleKind}
+use Rattle.ygg_dimacs_oblige.specs.Printed.{IsNamed, Printed}
+use Rattle.ygg_top.specs.Refusing.{IsLayerFile, RefusesFile}
+use Rattle.ygg_top.specs.Standing.{DoesWith, IsRefused}
+
+-- the refusal of a name that no obligation of the file has
+abbrev pub no_obligation : Refusal
+no_obligation = record { number = 74; line = 0; column = 2 }
+
+-- `cnf` for a layer file of a name, under a book of these kinds: no obligation of the file has it, which is refused, or the clauses of one of this name
+-- are printed
+abbrev pub Asks : List RuleKind → File → List ℕ → Status → List ℕ → Type 0
+Asks kinds f name status text = ((IsNamed f name → ⊥) × IsRefused no_obligation status text) ⊎ Printed kinds f name status text
+
+-- the same of what stands under the file's name: it is refused, before the obligation's name is looked at, or it is a layer file without a fault
+abbrev pub AsksStored : List RuleKind → List ℕ → Option (List ℕ) → Status → List ℕ → Type 0
+AsksStored kinds name stored status text =
+    ((r : Refusal) × RefusesFile stored r × IsRefused r status text)
+    ⊎ ((bytes : List ℕ) × (f : File) × (stored ≡ Some bytes) × IsLayerFile bytes f × Asks kinds f name status text)
+
+-- `cnf` of a file's name and an obligation's name
+abbrev pub AsksNamed : List RuleKind → Option (List Held) → (file name : List ℕ) → Status → List ℕ → Type 0
+AsksNamed kinds files file name = DoesWith (AsksStored kinds name) files file
