@@ -1,5 +1,6 @@
 mod Canonical
 mod Found
+mod Checked
 mod Endings
 mod Shown
 mod Written

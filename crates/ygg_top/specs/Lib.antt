@@ -6,5 +6,6 @@ pub mod Showing
 pub mod Verdict
 pub mod Solving
 pub mod Asking
+pub mod Checking
 pub mod Ending
 pub mod Findings

@@ -3,6 +3,7 @@
 
 mod answer;
 mod asking;
+mod checking;
 mod command;
 mod counting;
 mod fetching;

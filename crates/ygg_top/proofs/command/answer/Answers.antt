@@ -10,6 +10,7 @@ use Rattle.ygg_top.proofs.Ends.{
   solve_asked,
   solve_within_asked,
   clauses_asked,
+  check_asked,
   nothing_asked,
 }
 use Rattle.ygg_top.proofs.command.answer.Goals as goal
@@ -54,3 +55,9 @@ returns-in-Some-two_words_after-4-clause-told g c kinds =
     clauses_asked kinds (g.L.Library.files c.args.library.now) c.args.words.now c.ask.result (search rules) (search rules) (search rules) (search rules)
     (search rules) (search rules) (search rules) (search rules) (search rules)
     c.in-Some-two_words_after-4.file.now c.in-Some-two_words_after-4.name.now (search rules) (c.ask.ensures.told kinds)
+
+pub returns-in-Some-two_words_after-5-clause-told : goal.returns-in-Some-two_words_after-5-clause-told
+returns-in-Some-two_words_after-5-clause-told g c kinds =
+    check_asked kinds (g.L.Library.files c.args.library.now) c.args.words.now c.check.result (search rules) (search rules) (search rules) (search rules)
+    (search rules) (search rules) (search rules) (search rules) (search rules) (search rules)
+    c.in-Some-two_words_after-5.file.now c.in-Some-two_words_after-5.certificate.now (search rules) (c.check.ensures.told kinds)
