@@ -5,7 +5,7 @@ ghost use Rattle.ygg_base.specs.Outside.{Rose};
 ghost use Rattle.ygg_report.specs.Putting.{Puts, IsCutOf};
 ghost use Rattle.ygg_solver.specs.Answers.{IsNumbered};
 ghost use Rattle.ygg_dimacs_solve.specs.Solved.{Solved};
-ghost use Rattle.ygg_pieces.specs.Pieces.{FinishesWith};
+ghost use Rattle.ygg_dimacs_solve.specs.Pieces.{FinishesWith};
 ghost use Rattle.ygg_report.specs.Lines.{undecided_line};
 
 use crate::pieces::{put_satisfiable, put_unsatisfiable};

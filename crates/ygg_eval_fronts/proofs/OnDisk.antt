@@ -2,7 +2,6 @@
 use Rattle.std.proofs.Common.{
   ◌≡◌,
   ◌≤◌,
-  ◌<◌,
   ℕ,
   Bool,
   true,
@@ -26,7 +25,6 @@ use Rattle.std.proofs.Common.{
   subst,
 }
 use Rattle.std.specs.Prelude.{slice_get}
-use Rattle.std.proofs.lemmas.Bool.Decides.{nat_tests}
 use Rattle.std.proofs.lemmas.List.{append-nil}
 use Rattle.ygg_value.specs.declared.row.Value.{Value}
 use Rattle.ygg_base.specs.declared.geometry.DiskKind.{DiskKind}
@@ -62,12 +60,6 @@ use Rattle.ygg_eval_fronts.proofs.Calls.{callable}
 -- the pick where one was taken
 abbrev pub seen_pick : Bool → Source → Picks
 seen_pick pick after = if nat_lt 0 after.next then pick ∷ [] else []
-
-pub is_seen : (n : ℕ) → 0 < n → nat_lt 0 n ≡ true
-is_seen n h = grind (arith, nat_tests)
-
-pub is_unseen : (n : ℕ) → n ≤ 0 → nat_lt 0 n ≡ false
-is_unseen n h = grind (arith, nat_tests)
 
 -- past the end of one pick
 abbrev spent : Bool → Source

@@ -25,11 +25,9 @@ use ygg_value::{Value, Values};
 fn power_of(alloc: Global, pick: bool) -> Result<Power, NoMemory>
     ensures { IfOk result (λ power. power ≡ one_pick pick) }
 {
-    let mut bits = Bits::new(alloc);
-    bits.push(pick)?;
     Ok(Power {
         picks: Picks {
-            bits,
+            bits: Bits::from_slice(alloc, &[pick])?,
             next: 0,
             past: false,
         },
@@ -43,8 +41,8 @@ fn power_of(alloc: Global, pick: bool) -> Result<Power, NoMemory>
 fn note(pick: bool, power: &Power, picks: &mut Bits) -> Result<(), NoMemory>
     ensures { OnOk result (picks.new ≡ picks.old ++ (if nat_lt 0 power.now.picks.next then pick ∷ [] else [])) }
 {
-    if power.picks.next > 0 {
-        return picks.push(pick);
+    if 0 < power.picks.next {
+        picks.push(pick)?;
     }
     Ok(())
 }

@@ -1,5 +1,5 @@
 use Rattle.std.proofs.Common.{◌++◌, ◌≤◌, drop}
-use Rattle.ygg_pieces.specs.Pieces.{Flows}
+use Rattle.ygg_dimacs_solve.specs.Pieces.{Flows}
 use Rattle.ygg_dimacs.specs.Printing.{clause_lines}
 use Rattle.ygg_dimacs_solve.proofs.pieces.pass_clauses.Given as goal
 

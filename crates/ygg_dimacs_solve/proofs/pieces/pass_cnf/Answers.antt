@@ -1,9 +1,9 @@
 use Rattle.std.proofs.lemmas.List.{append-nil}
-use Rattle.ygg_pieces.specs.Pieces.{Finishes}
+use Rattle.ygg_dimacs_solve.specs.Pieces.{Finishes}
 use Rattle.std.proofs.Common.{length, List, ℕ, [], ◌++◌, ◌∙◌, ap, subst}
 use Rattle.ygg_base.specs.Outside.{Rose}
 use Rattle.ygg_dimacs.specs.Printing.{header_line, clause_lines}
-use Rattle.ygg_pieces.proofs.Flowing.{text_done, rose_since}
+use Rattle.ygg_dimacs_solve.proofs.Flowing.{text_done, rose_since}
 use Rattle.ygg_dimacs_solve.proofs.pieces.pass_cnf.Goals as goal
 
 pub returns-in-Ok-pass_clauses-clause-told : goal.returns-in-Ok-pass_clauses-clause-told

@@ -3,7 +3,7 @@ use Rattle.ygg_base.specs.Outside.{Rose}
 use Rattle.ygg_cnf.specs.Literals.{truth_of}
 use Rattle.ygg_log_text.specs.Lines.{literal_words}
 use Rattle.ygg_dimacs_solve.specs.Solved.{true_literals}
-use Rattle.ygg_pieces.proofs.Flowing.{text_done, text_short, rose_since}
+use Rattle.ygg_dimacs_solve.proofs.Flowing.{text_done, text_short, rose_since}
 use Rattle.ygg_dimacs_solve.proofs.pieces.pass_satisfiable.Goals as goal
 
 pub returns-in-Ok-pass_values-clause-told : goal.returns-in-Ok-pass_values-clause-told

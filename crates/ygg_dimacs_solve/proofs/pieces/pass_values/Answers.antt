@@ -1,8 +1,7 @@
 use Rattle.std.proofs.Common.{arith}
 use Rattle.ygg_base.specs.Outside.{Rose}
 use Rattle.ygg_cnf.specs.Literals.{truth_of}
-use Rattle.ygg_pieces.proofs.Flowing.{rose_since}
-use Rattle.ygg_dimacs_solve.proofs.Values.{value_short, value_on}
+use Rattle.ygg_dimacs_solve.proofs.Flowing.{value_short, value_on, rose_since}
 use Rattle.ygg_dimacs_solve.proofs.pieces.pass_values.Goals as goal
 
 pub returns-in-Err-clause-told : goal.returns-in-Err-clause-told

@@ -1,0 +1,11 @@
+pub mod GroundSteps
+pub mod Grounded
+pub mod GroundKeeps
+pub mod Floors
+pub mod FloorKeeps
+pub mod Commands
+pub mod Towers
+pub mod FloorStacks
+pub mod Stacks
+pub mod Zeros
+pub mod Answered

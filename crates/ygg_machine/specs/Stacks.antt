@@ -1,0 +1,2 @@
+-- Stacks: all layers of a file on a ground.
+use Rattle.std.specs.Prelude.{◌≡◌}
