@@ -1,14 +1,18 @@
 //! The command-line program: real files, standard output and the process's words around the top call.
 #![tactic(auto)]
 
+mod outside;
+#[cfg(test)]
+mod tests;
+
 ghost use Rattle.std.specs.Prelude.{◌≡◌, [], ◌∷◌};
 ghost use Rattle.ygg_rules.specs.declared.rule.RuleKind.TheVariants as kind;
 
+use crate::outside::{FileLibrary, OutSink};
 use std::env;
 use std::io::ErrorKind;
 use std::process::ExitCode;
 use ygg_base::{NoMemory, Status, Text, status_number};
-use ygg_outside::{FileLibrary, OutSink};
 use ygg_rules::{
     Book, Rule, RuleBook, RuleKind, add_zero, and_ones, and_zero, eq_self, fold, or_zero, pick_same,
 };

@@ -1,17 +1,15 @@
 //! The checker judges a derivation.
 
-use crate::input;
 use std::alloc::Global;
 use std::time::Instant;
 use ygg_chain::Checker;
 use ygg_cnf::{Clauses, Log, Step};
 use ygg_list::NoMemory;
 
-/// Judges the derivation that standard input has, and prints how many resolution steps it takes and how many nanoseconds that took.
-pub fn measure(rt: &HostRuntime) -> anyhow::Result<()> {
-    let input = input::read(rt)?;
+/// Judges a derivation, and prints how many resolution steps it takes and how many nanoseconds that took.
+pub fn measure(rt: &HostRuntime, clauses: &Clauses, log: &Log) -> anyhow::Result<()> {
     let start = Instant::now(rt)?;
-    let judged = steps_of(rt.alloc(), &input.clauses, &input.log)?;
+    let judged = steps_of(rt.alloc(), clauses, log)?;
     let time = start.elapsed(rt)?;
     match judged {
         Some((steps, true)) => println!(rt; "refuted in {steps} steps")?,

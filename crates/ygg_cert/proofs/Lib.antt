@@ -2,7 +2,6 @@ pub mod Matched
 pub mod Reached
 pub mod Logged
 pub mod Stood
-pub mod Read
 pub mod Worth
 pub mod Printed
 pub mod Once

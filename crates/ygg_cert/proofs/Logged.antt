@@ -1,11 +1,12 @@
 -- The lines of a log, byte by byte.
 use Rattle.std.proofs.Common.{◌≡◌, ℕ, ◌+◌, ◌<◌, List, [], ◌∷◌, ◌++◌, length, refl, sym, ap, subst, ◌∙◌, append_assoc, arith, ◌⊎◌, inl, inr}
-use Rattle.std.specs.Prelude.{codes}
+use Rattle.std.specs.Prelude.{Contains, codes}
+use Rattle.std.proofs.lemmas.List.{append-nil, append_cancel_left, length-append}
 use Rattle.ygg_cnf.specs.declared.lit.Lit.{Lit}
 use Rattle.ygg_cnf.specs.declared.log.Step.{Step}
 use Rattle.ygg_cnf.specs.declared.log.Step.TheVariants.{Added}
 use Rattle.ygg_log_text.specs.Lines.{step_line}
-use Rattle.ygg_log_read.specs.Steps.{IsStep, BeginsStep}
+use Rattle.ygg_log_read.specs.Steps.{IsStep, HasStep, BeginsStep}
 use Rattle.ygg_log_read.specs.Reading.{IsReading}
 use Rattle.ygg_log_read.specs.declared.reader.StepReader.{StepReader}
 use Rattle.ygg_cert.specs.declared.item.Goal.{Goal}
@@ -14,7 +15,7 @@ use Rattle.ygg_cert.specs.declared.verdict.Heard.TheVariants as heard
 use Rattle.ygg_cert.specs.declared.log.LogReading.{LogReading}
 use Rattle.ygg_cert.specs.declared.log.LogLine.TheVariants as line
 use Rattle.ygg_cert.specs.Texts.{closing_line}
-use Rattle.ygg_cert.specs.Places.{Within, IsLineOf, IsDerived, GoesOn}
+use Rattle.ygg_cert.specs.Places.{Place, Between, Within, MayStand, IsLineOf, IsDerived, IsBad, Leads, Continues, GoesOn}
 use Rattle.ygg_cert.specs.Standing.{IsInLine, IsLogAt, IsStepAt, Turns, Closes, Adds}
 
 -- a new log

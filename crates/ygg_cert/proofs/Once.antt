@@ -2,6 +2,7 @@
 use Rattle.std.proofs.Common.{◌≡◌, ℕ, suc, ◌+◌, ◌<◌, List, [], ◌∷◌, ◌++◌, length, refl, sym, ap, subst, ◌∙◌, append_assoc, arith, ◌⊎◌, inl, inr}
 use Rattle.std.specs.Prelude.{Contains}
 use Rattle.std.proofs.lemmas.List.{append-nil, append_cancel_left, length-append}
+use Rattle.ygg_cnf.specs.declared.lit.Lit.{Lit}
 use Rattle.ygg_cnf.specs.declared.log.Step.{Step}
 use Rattle.ygg_cnf.specs.declared.log.Step.TheVariants.{Added}
 use Rattle.ygg_cnf.specs.Logs.{clause_of}
@@ -12,7 +13,7 @@ use Rattle.ygg_cert.specs.declared.item.Goal.{Goal}
 use Rattle.ygg_cert.specs.declared.verdict.CertEnd.{CertEnd}
 use Rattle.ygg_cert.specs.declared.verdict.CertEnd.TheVariants as cert
 use Rattle.ygg_cert.specs.Texts.{closing_line}
-use Rattle.ygg_cert.specs.Places.{Place, Start, Between, Within, End, MayStand, IsLineOf, IsDerived, IsBad, Leads, GoesOn}
+use Rattle.ygg_cert.specs.Places.{Place, Start, Between, Within, End, MayStand, IsLineOf, IsDerived, IsBad, Leads, Continues, GoesOn}
 use Rattle.ygg_cert.specs.Judging.{joined, LeadBy, Reaches, Judges, wrong_after, short_after}
 
 -- the line after a log is the line of no step

@@ -1,5 +1,5 @@
 -- What is printed of logs that refute is checked.
-use Rattle.std.proofs.Common.{◌≡◌, ℕ, List, [], ◌∷◌, ◌++◌, length, refl, sym, ap, subst, ◌∙◌, append_assoc, arith, ◌⊎◌, inl, inr}
+use Rattle.std.proofs.Common.{◌≡◌, ℕ, ◌+◌, List, [], ◌∷◌, ◌++◌, length, map, refl, sym, ap, subst, ◌∙◌, append_assoc, arith, ◌⊎◌, inl, inr}
 use Rattle.std.specs.Prelude.{All, Contains}
 use Rattle.std.specs.List.{flat_map}
 use Rattle.std.proofs.Math.Seq.{get_or-append_seam}
@@ -7,14 +7,14 @@ use Rattle.std.proofs.lemmas.List.{append-nil, length-append}
 use Rattle.std.proofs.lemmas.List.Elements.{All-head, All-tail, Contains-append_left}
 use Rattle.ygg_cnf.specs.declared.lit.Lit.{Lit}
 use Rattle.ygg_cnf.specs.declared.log.Step.{Step}
-use Rattle.ygg_cnf.specs.Logs.{clause_of, Derives, EndsEmpty}
+use Rattle.ygg_cnf.specs.Logs.{clause_of, Derives, EndsEmpty, Refutes}
 use Rattle.ygg_log_text.specs.Lines.{step_line}
 use Rattle.ygg_log_read.specs.Steps.{IsStep}
 use Rattle.ygg_cert.specs.declared.item.Goal.{Goal}
 use Rattle.ygg_cert.specs.declared.item.Item.{Item}
 use Rattle.ygg_cert.specs.Texts.{first_line, opening_line, closing_line, last_line, item_text, certificate_of}
 use Rattle.ygg_cert.specs.Places.{Place, Start, Between, Within, End, Leads}
-use Rattle.ygg_cert.specs.Judging.{joined, LeadBy, IsWhole}
+use Rattle.ygg_cert.specs.Judging.{joined, LeadBy, Reaches, IsWhole}
 use Rattle.ygg_cert.specs.Laws.{IsItemOf, AreItemsOf}
 
 -- a text whose lines lead from a place to another

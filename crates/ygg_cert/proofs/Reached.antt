@@ -1,11 +1,12 @@
 -- What lines lead to.
-use Rattle.std.proofs.Common.{◌≡◌, ℕ, ◌+◌, List, [], ◌∷◌, ◌++◌, refl, sym, ap, subst, ◌∙◌, append_assoc}
+use Rattle.std.proofs.Common.{◌≡◌, ℕ, ◌+◌, List, [], ◌∷◌, ◌++◌, length, refl, sym, ap, subst, ◌∙◌, append_assoc, arith, ◌⊎◌, inl, inr}
 use Rattle.std.proofs.lemmas.List.{append-nil, length-append}
+use Rattle.ygg_base.specs.declared.failure.Refusal.{Refusal}
 use Rattle.ygg_cert.specs.declared.item.Goal.{Goal}
 use Rattle.ygg_cert.specs.declared.verdict.CertEnd.{CertEnd}
 use Rattle.ygg_cert.specs.declared.verdict.CertEnd.TheVariants as cert
-use Rattle.ygg_cert.specs.Places.{Place, Start, Between, Within, End, Leads, GoesOn}
-use Rattle.ygg_cert.specs.Judging.{joined, LeadBy, Reaches, IsFaulty}
+use Rattle.ygg_cert.specs.Places.{Place, Start, Between, Within, End, Leads, Continues, GoesOn}
+use Rattle.ygg_cert.specs.Judging.{joined, LeadBy, Reaches, IsBadAt, IsWrongAt, IsFaulty}
 
 -- no text
 pub reaches_none : (goals : List Goal) → Reaches goals [] (Start goals) 0 []

@@ -1,6 +1,6 @@
 -- The steps of a log over clauses whose literals may be written may be written too.
-use Rattle.std.proofs.Common.{◌≡◌, ℕ, zero, suc, ◌+◌, ◌^◌, ◌<◌, ◌≤◌, List, [], ◌∷◌, ◌++◌, length, refl, arith, inl, inr}
-use Rattle.std.specs.Prelude.{All, Contains}
+use Rattle.std.proofs.Common.{◌≡◌, ℕ, zero, suc, ◌+◌, ◌^◌, ◌<◌, ◌≤◌, List, [], ◌∷◌, ◌++◌, length, get_or, refl, arith, ◌⊎◌, inl, inr}
+use Rattle.std.specs.Prelude.{All, Contains, ◌↔◌}
 use Rattle.std.proofs.lemmas.List.{length-append}
 use Rattle.std.proofs.lemmas.List.Elements.{All-nil, All-cons, All-push, All-contains, All-weaker}
 use Rattle.ygg_cnf.specs.declared.lit.Lit.{Lit}

@@ -1,13 +1,14 @@
 -- What a certificate that is checked is worth.
-use Rattle.std.proofs.Common.{◌≡◌, ℕ, zero, suc, List, [], ◌∷◌, ◌++◌, refl, sym, ap, subst, arith, ◌⊎◌, inl, inr}
+use Rattle.std.proofs.Common.{◌≡◌, ℕ, zero, suc, ◌+◌, ◌<◌, List, [], ◌∷◌, ◌++◌, length, get_or, refl, sym, ap, subst, ◌∙◌, append_assoc, arith, ◌⊎◌, inl, inr}
 use Rattle.std.specs.Prelude.{All, Contains}
-use Rattle.std.proofs.lemmas.List.Elements.{All-nil, All-cons}
+use Rattle.std.proofs.lemmas.List.Elements.{All-nil, All-cons, Contains-append_left}
 use Rattle.ygg_cnf.specs.declared.lit.Lit.{Lit}
 use Rattle.ygg_cnf.specs.declared.log.Step.{Step}
-use Rattle.ygg_cnf.specs.Logs.{clause_of, EndsEmpty, Refutes}
+use Rattle.ygg_cnf.specs.Logs.{clause_of, Derives, EndsEmpty, Refutes}
 use Rattle.ygg_cert.specs.declared.item.Goal.{Goal}
-use Rattle.ygg_cert.specs.Places.{Place, Start, Between, Within, End, IsDerived, Leads}
-use Rattle.ygg_cert.specs.Judging.{LeadBy, IsWhole}
+use Rattle.ygg_cert.specs.Texts.{closing_line}
+use Rattle.ygg_cert.specs.Places.{Place, Start, Between, Within, End, IsLineOf, IsDerived, Leads}
+use Rattle.ygg_cert.specs.Judging.{LeadBy, Reaches, IsWhole}
 use Rattle.ygg_cert.specs.Laws.{IsRefuted}
 
 -- a log refutes the clauses

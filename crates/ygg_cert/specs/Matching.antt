@@ -1,5 +1,5 @@
 -- A line that alone may stand at a place, of which some bytes are read.
-use Rattle.std.specs.Prelude.{◌≡◌, ℕ, List, ◌∷◌, ◌++◌, length}
+use Rattle.std.specs.Prelude.{◌≡◌, ℕ, List, [], ◌∷◌, ◌++◌, length}
 use Rattle.ygg_cert.specs.declared.expected.Expected.{Expected}
 use Rattle.ygg_cert.specs.declared.verdict.Heard.{Heard}
 use Rattle.ygg_cert.specs.declared.verdict.Heard.TheVariants.{More, Added, Whole, Bad, Wrong, Nothing}

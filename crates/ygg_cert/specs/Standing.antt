@@ -8,13 +8,14 @@ use Rattle.ygg_cert.specs.declared.verdict.Heard.TheVariants as heard
 use Rattle.ygg_cert.specs.declared.log.LogLine.{LogLine}
 use Rattle.ygg_cert.specs.declared.log.LogLine.TheVariants as line
 use Rattle.ygg_cert.specs.declared.log.LogReading.{LogReading}
-use Rattle.ygg_cert.specs.declared.phase.Next.{Next}
+use Rattle.ygg_cert.specs.declared.phase.Then.{Then}
+use Rattle.ygg_cert.specs.declared.phase.Then.TheVariants as follow
 use Rattle.ygg_cert.specs.declared.phase.Phase.{Phase}
 use Rattle.ygg_cert.specs.declared.phase.Phase.TheVariants as phase
 use Rattle.ygg_cert.specs.declared.reading.Reading.{Reading}
-use Rattle.ygg_cert.specs.Texts.{first_line, goal_line, closing_line, last_line}
-use Rattle.ygg_cert.specs.Places.{Place, Start, Between, Within, End, IsDerived, IsBad, Leads, GoesOn}
-use Rattle.ygg_cert.specs.Judging.{Reaches, IsBadAt, IsWrongAt, wrong_after}
+use Rattle.ygg_cert.specs.Texts.{closing_line}
+use Rattle.ygg_cert.specs.Places.{Place, Start, Between, Within, End, MayStand, IsDerived, IsBad, Leads, GoesOn}
+use Rattle.ygg_cert.specs.Judging.{Reaches, IsFaulty}
 use Rattle.ygg_cert.specs.Matching.{IsMatching}
 
 -- these bytes of a line of a log are read
@@ -62,59 +63,58 @@ Turns old bytes new (heard.Bad number) = (new.name ≡ old.name) × ((gs : List 
 Turns old bytes new heard.Wrong = (gs : List Goal) → GoesOn (Within old.name old.checker gs) bytes → ⊥
 Turns old bytes new heard.Nothing = ⊥
 
--- this goal is next, with so many behind
-pub record IsNext (goals : List Goal) (goal : Goal) (passed : ℕ) : Type 0 where
-  pub is : drop passed goals ≡ goal ∷ drop (passed + 1) goals
-  pub within : passed < length goals
+-- a line leads to where this begins, with so many goals behind
+abbrev pub Follows : List Goal → ℕ → Place → List ℕ → Then → Type 0
+Follows goals passed place line follow.Goals = Leads place line (Between goals) × (passed ≡ 0)
+Follows goals passed place line (follow.Log log) =
+    Leads place line (Within log.name log.checker (drop (passed + 1) goals)) × IsLogAt [] log × (passed < length goals)
+Follows goals passed place line follow.End = Leads place line End × (passed ≡ length goals)
 
--- these bytes of the line before the log of the next goal are read, and that log is made
-pub record IsOpening (goals : List Goal) (place : Place) (bytes : List ℕ) (n : Next) : Type 0 where
-  pub goal : Goal
-  pub here : place ≡ Between (goal ∷ drop (n.passed + 1) goals)
-  pub line : IsMatching (goal_line goal) bytes n.line
-  pub name : n.log.name ≡ goal.name
-  pub checker : n.log.checker ≡ goal.clauses
-  pub log : IsLogAt [] n.log
-  pub within : n.passed < length goals
+-- a line alone may stand at a place
+pub record IsOnly (place : Place) (line : List ℕ) : Type 0 where
+  pub may : MayStand place line
+  pub only : (bytes : List ℕ) → GoesOn place bytes → (more : List ℕ) × ((others : List ℕ) × (bytes ++ more ≡ line ++ others))
 
--- the reader stands at the place, and these bytes of the line that stands there are read
-abbrev pub IsAt : List Goal → Place → List ℕ → Next → Type 0
-IsAt goals place bytes n = is_at n.phase
-  where
-    is_at : Phase → Type 0
-    is_at phase.First = (place ≡ Start goals) × IsMatching first_line bytes n.line × (n.passed ≡ 0)
-    is_at phase.Opening = IsOpening goals place bytes n
-    is_at phase.Log = (place ≡ Within n.log.name n.log.checker (drop (n.passed + 1) goals)) × IsLogAt bytes n.log × (n.passed < length goals)
-    is_at phase.Last = (place ≡ Between []) × IsMatching last_line bytes n.line × (n.passed ≡ length goals)
-    is_at phase.End = (place ≡ End) × (bytes ≡ []) × (n.passed ≡ length goals)
-    is_at _ = ⊥
+-- the reader stands at the place, so many goals are behind, and these bytes of the line that stands there are read
+abbrev pub IsAt : List Goal → Place → ℕ → List ℕ → Phase → Type 0
+IsAt goals place passed bytes (phase.Exact e after) =
+    (line : List ℕ) × (IsMatching line bytes e × IsOnly place line × Follows goals passed place line after)
+IsAt goals place passed bytes (phase.Log log) =
+    (place ≡ Within log.name log.checker (drop (passed + 1) goals)) × IsLogAt bytes log × (passed < length goals)
+IsAt goals place passed bytes phase.End = (place ≡ End) × (bytes ≡ []) × (passed ≡ length goals)
+IsAt goals place passed bytes (phase.Over end) = ⊥
+IsAt goals place passed bytes phase.GivenUp = ⊥
 
--- the line that the reader stands in is read whole, and leads to the place
-abbrev pub IsDone : List Goal → Place → Next → Type 0
-IsDone goals to n = is_done n.phase
-  where
-    is_done : Phase → Type 0
-    is_done phase.First = (to ≡ Between goals) × (n.passed ≡ 0)
-    is_done phase.Opening = (to ≡ Within n.log.name n.log.checker (drop (n.passed + 1) goals)) × IsLogAt [] n.log × (n.passed < length goals)
-    is_done phase.Log = (to ≡ Between (drop (n.passed + 1) goals)) × (n.passed < length goals)
-    is_done phase.Last = (to ≡ End) × (n.passed ≡ length goals)
-    is_done _ = ⊥
+-- the line that the phase reads leads to the place
+abbrev pub IsDone : List Goal → Place → ℕ → Phase → Type 0
+IsDone goals to passed (phase.Exact e follow.Goals) = (to ≡ Between goals) × (passed ≡ 0)
+IsDone goals to passed (phase.Exact e (follow.Log log)) =
+    (to ≡ Within log.name log.checker (drop (passed + 1) goals)) × IsLogAt [] log × (passed < length goals)
+IsDone goals to passed (phase.Exact e follow.End) = (to ≡ End) × (passed ≡ length goals)
+IsDone goals to passed (phase.Log log) = (to ≡ Between (drop (passed + 1) goals)) × (passed < length goals)
+IsDone goals to passed phase.End = ⊥
+IsDone goals to passed (phase.Over end) = ⊥
+IsDone goals to passed phase.GivenUp = ⊥
+
+-- the phase reads the log of this name
+abbrev pub IsNamed : List ℕ → Phase → Type 0
+IsNamed name (phase.Log log) = log.name ≡ name
+IsNamed name _ = ⊥
 
 -- nothing more is read: a line is at fault, or no memory was left
 abbrev pub IsEnded : Phase → Type 0
-IsEnded (phase.Bad number) = Unit {0}
-IsEnded phase.Wrong = Unit {0}
+IsEnded (phase.Over end) = Unit {0}
 IsEnded phase.GivenUp = Unit {0}
 IsEnded _ = ⊥
 
--- what is said of these bytes of the line at a place, by what is read next after the last of them
-abbrev pub Hears : List Goal → Place → List ℕ → Next → Heard → Type 0
-Hears goals place bytes new heard.More = IsAt goals place bytes new
-Hears goals place bytes new heard.Added = (to : Place) × (Leads place bytes to × IsAt goals to [] new)
-Hears goals place bytes new heard.Whole = (to : Place) × (Leads place bytes to × IsDone goals to new)
-Hears goals place bytes new (heard.Bad number) = IsBad place bytes new.log.name number
-Hears goals place bytes new heard.Wrong = GoesOn place bytes → ⊥
-Hears goals place bytes new heard.Nothing = ⊥
+-- what is said of these bytes of the line at a place, by the phase after the last of them
+abbrev pub Hears : List Goal → Place → ℕ → List ℕ → Phase → Heard → Type 0
+Hears goals place passed bytes new heard.More = IsAt goals place passed bytes new
+Hears goals place passed bytes new heard.Added = (to : Place) × (Leads place bytes to × IsAt goals to passed [] new)
+Hears goals place passed bytes new heard.Whole = (to : Place) × (Leads place bytes to × IsDone goals to passed new)
+Hears goals place passed bytes new (heard.Bad number) = (name : List ℕ) × (IsNamed name new × IsBad place bytes name number)
+Hears goals place passed bytes new heard.Wrong = GoesOn place bytes → ⊥
+Hears goals place passed bytes new heard.Nothing = ⊥
 
 -- the reader has read a text in which no line is at fault
 pub record IsOn (goals : List Goal) (text : List ℕ) (r : Reading) : Type 0 where
@@ -122,14 +122,19 @@ pub record IsOn (goals : List Goal) (text : List ℕ) (r : Reading) : Type 0 whe
   pub bytes : List ℕ
   pub reaches : Reaches goals text place r.lines bytes
   pub column : r.column ≡ length bytes
-  pub at : IsAt goals place bytes r.next
+  pub at : IsAt goals place r.passed bytes r.phase
+
+-- the reader stands at the place, before its line, with one more line read than so many
+pub record IsAfter (goals : List Goal) (to : Place) (lines : ℕ) (r : Reading) : Type 0 where
+  pub at : IsAt goals to r.passed [] r.phase
+  pub lines_are : r.lines ≡ lines + 1
+  pub column : r.column ≡ 0
 
 -- the reader of certificates for goals has read the text, or was given up
 abbrev pub IsFed : List Goal → List ℕ → Reading → Type 0
-IsFed goals text r = fed r.next.phase
+IsFed goals text r = fed r.phase
   where
     fed : Phase → Type 0
-    fed (phase.Bad number) = IsBadAt goals text r.next.log.name number
-    fed phase.Wrong = IsWrongAt goals text (wrong_after r.lines)
+    fed (phase.Over end) = IsFaulty goals text end
     fed phase.GivenUp = Unit {0}
     fed _ = IsOn goals text r

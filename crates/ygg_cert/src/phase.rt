@@ -1,164 +1,132 @@
 //! What a reader of certificates reads next.
 
-ghost use Rattle.std.specs.Prelude.{◌≡◌, ◌+◌, ◌≤◌, ◌∷◌, ◌++◌, [], List, ℕ, IfOk, OnOk, length, drop};
+ghost use Rattle.std.specs.Prelude.{◌≡◌, ◌+◌, ◌<◌, ◌≤◌, ◌∷◌, ◌++◌, [], List, ℕ, IfOk, length, drop};
 ghost use Rattle.ygg_cert.specs.declared.item.Goal.{Goal};
 ghost use Rattle.ygg_cert.specs.Places.{Place, Between};
-ghost use Rattle.ygg_cert.specs.Standing.{IsAt, IsDone, IsEnded, IsNext, Hears};
-ghost use Rattle.ygg_cert.specs.Texts.{first_line};
+ghost use Rattle.ygg_cert.specs.Standing.{IsAt, IsDone, IsEnded, IsNamed, Hears};
 
 use crate::expected::Expected;
 use crate::item::Goal;
 use crate::log::LogReading;
-use crate::printing::{put_first, put_last, put_opening};
+use crate::printing::{put_last, put_opening};
 use crate::source::Goals;
-use crate::verdict::Heard;
+use crate::verdict::{CertEnd, Heard};
 use std::alloc::Global;
 use ygg_base::Text;
-use ygg_cnf::Clauses;
 use ygg_list::NoMemory;
 
-/// Which line is read next.
-#[derive(Clone, Copy)]
-pub enum Phase {
-    /// The first line.
-    First,
-    /// The line before the log of a goal.
-    Opening,
-    /// The lines of a log.
-    Log,
-    /// The last line.
-    Last,
-    /// None: the text is whole.
+/// What comes after a line that alone may stand at its place.
+#[derive(Drop)]
+pub enum Then {
+    /// The goals.
+    Goals,
+    /// The log of a goal.
+    Log(LogReading),
+    /// The end of the text.
     End,
-    /// None: in the log that was read, the clause of this number isn't derived; or, with 0, no empty clause is held.
-    Bad(u64),
-    /// None: a line is another than the one that may stand there.
-    Wrong,
-    /// None: no memory was left.
-    GivenUp,
 }
 
 /// What is read next.
 #[derive(Drop)]
-pub struct Next {
-    pub phase: Phase,
-    /// The line that alone may stand there, outside of logs.
-    pub line: Expected,
-    /// The log that is read, or that comes next.
-    pub log: LogReading,
-    /// How many goals are behind.
-    pub passed: usize,
+pub enum Phase {
+    /// A line that alone may stand there.
+    Exact(Expected, Then),
+    /// The lines of a log.
+    Log(LogReading),
+    /// Nothing: the text is whole.
+    End,
+    /// Nothing: a line is at fault.
+    Over(CertEnd),
+    /// Nothing: no memory was left.
+    GivenUp,
 }
 
-impl Next {
-    /// The first line. Its only error is out of memory.
-    pub fn new(alloc: Global) -> Result<Next, NoMemory>
-        ensures phase { IfOk result (λ next. next.phase ≡ Phase.First) }
-        ensures line { IfOk result (λ next. next.line.line ≡ first_line) }
-        ensures matched { IfOk result (λ next. next.line.matched ≡ 0) }
-        ensures passed { IfOk result (λ next. next.passed ≡ 0) }
-    {
-        let mut line = Text::new(alloc);
-        put_first(&mut line)?;
-        // no log is read before the first goal
-        let none = Goal {
-            name: Text::new(alloc),
-            clauses: Clauses::new(alloc),
-        };
-        Ok(Next {
-            phase: Phase::First,
-            line: Expected::new(line),
-            log: LogReading::new(alloc, none)?,
-            passed: 0,
-        })
-    }
-
+impl Phase {
     /// Reads a byte. Its only error is out of memory.
     pub fn read(&mut self, alloc: Global, byte: u8) -> Result<Heard, NoMemory>
-        ensures heard { (goals : List Goal) (place : Place) (before : List ℕ) → IsAt goals place before self.old →
-            IfOk result (Hears goals place (before ++ byte ∷ []) self.new) }
-        ensures ended { IsEnded self.old.phase → (result ≡ Ok Heard.Nothing) × (self.new ≡ self.old) }
+        ensures heard { (goals : List Goal) (place : Place) (passed : ℕ) (before : List ℕ) → IsAt goals place passed before self.old →
+            IfOk result (Hears goals place passed (before ++ byte ∷ []) self.new) }
+        ensures ended { IsEnded self.old → (result ≡ Ok Heard.Nothing) × (self.new ≡ self.old) }
     {
-        match self.phase {
-            Phase::First => Ok(self.line.read(byte)),
-            Phase::Opening => Ok(self.line.read(byte)),
-            Phase::Log => self.log.read(alloc, byte),
-            Phase::Last => Ok(self.line.read(byte)),
+        match self {
+            Phase::Exact(line, _) => Ok(line.read(byte)),
+            Phase::Log(log) => log.read(alloc, byte),
             Phase::End => Ok(Heard::Wrong),
-            Phase::Bad(_) => Ok(Heard::Nothing),
-            Phase::Wrong => Ok(Heard::Nothing),
+            Phase::Over(_) => Ok(Heard::Nothing),
             Phase::GivenUp => Ok(Heard::Nothing),
         }
     }
 
-    /// Goes on with the line before the log of a goal. Its only error is out of memory.
-    fn open(&mut self, alloc: Global, goal: Goal) -> Result<(), NoMemory>
-        ensures { (goals : List Goal) → IsNext goals goal self.old.passed → OnOk result (IsAt goals (Between (drop self.old.passed goals)) [] self.new) }
+    /// What is said of a text with a line at fault in the log that is being read.
+    pub fn into_bad(self, id: u64) -> CertEnd
+        ensures { (name : List ℕ) → IsNamed name self → result ≡ CertEnd.Bad name id }
     {
-        let mut line = Text::new(alloc);
-        put_opening(&mut line, goal.name.as_slice(), goal.clauses.len() as u64)?;
-        self.log = LogReading::new(alloc, goal)?;
-        self.line = Expected::new(line);
-        self.phase = Phase::Opening;
-        Ok(())
-    }
-
-    /// Goes on with the last line. Its only error is out of memory.
-    fn close(&mut self, alloc: Global) -> Result<(), NoMemory>
-        ensures { (goals : List Goal) → drop self.old.passed goals ≡ [] → self.old.passed ≡ length goals →
-            OnOk result (IsAt goals (Between (drop self.old.passed goals)) [] self.new) }
-    {
-        let mut line = Text::new(alloc);
-        put_last(&mut line)?;
-        self.line = Expected::new(line);
-        self.phase = Phase::Last;
-        Ok(())
-    }
-
-    /// Goes on after the goals that are behind. Its only error is out of memory.
-    fn after_goals<G: Goals>(&mut self, alloc: Global, goals: &G) -> Result<(), NoMemory>
-        ensures { self.old.passed ≤ length (G.wanted goals.now) →
-            OnOk result (IsAt (G.wanted goals.now) (Between (drop self.old.passed (G.wanted goals.now))) [] self.new) }
-    {
-        match goals.goal(alloc, self.passed)? {
-            Some(goal) => self.open(alloc, goal),
-            None => self.close(alloc),
+        match self {
+            Phase::Log(log) => CertEnd::Bad {
+                name: log.into_name(),
+                id,
+            },
+            _ => CertEnd::Memory,
         }
     }
+}
 
-    /// Goes on after the log that is read. Its only error is out of memory.
-    fn after_log<G: Goals>(&mut self, alloc: Global, goals: &G) -> Result<(), NoMemory>
-        ensures { self.old.passed + 1 ≤ length (G.wanted goals.now) →
-            OnOk result (IsAt (G.wanted goals.now) (Between (drop (self.old.passed + 1) (G.wanted goals.now))) [] self.new) }
-    {
-        // no machine has memory for as many goals
-        let Some(passed) = self.passed.checked_add(1) else {
-            return Err(NoMemory);
-        };
-        self.passed = passed;
-        self.after_goals(alloc, goals)
+/// The line before the log of a goal, after which the log comes. Its only error is out of memory.
+fn opening(alloc: Global, goal: Goal) -> Result<Phase, NoMemory>
+    ensures { (goals : List Goal) (passed : ℕ) → drop passed goals ≡ goal ∷ drop (passed + 1) goals → passed < length goals →
+        IfOk result (IsAt goals (Between (drop passed goals)) passed []) }
+{
+    let mut line = Text::new(alloc);
+    put_opening(&mut line, goal.name.as_slice(), goal.clauses.len() as u64)?;
+    let log = LogReading::new(alloc, goal)?;
+    Ok(Phase::Exact(Expected::new(line), Then::Log(log)))
+}
+
+/// The last line. Its only error is out of memory.
+fn ending(alloc: Global) -> Result<Phase, NoMemory>
+    ensures { (goals : List Goal) (passed : ℕ) → drop passed goals ≡ [] → passed ≡ length goals →
+        IfOk result (IsAt goals (Between (drop passed goals)) passed []) }
+{
+    let mut line = Text::new(alloc);
+    put_last(&mut line)?;
+    Ok(Phase::Exact(Expected::new(line), Then::End))
+}
+
+/// What is read after so many goals. Its only error is out of memory.
+fn after_goals<G: Goals>(alloc: Global, goals: &G, passed: usize) -> Result<Phase, NoMemory>
+    ensures { passed ≤ length (G.wanted goals.now) →
+        IfOk result (IsAt (G.wanted goals.now) (Between (drop passed (G.wanted goals.now))) passed []) }
+{
+    match goals.goal(alloc, passed)? {
+        Some(goal) => opening(alloc, goal),
+        None => ending(alloc),
     }
+}
 
-    /// Goes on after the line that is read. Its only error is out of memory.
-    pub fn go_on<G: Goals>(&mut self, alloc: Global, goals: &G) -> Result<(), NoMemory>
-        ensures { (to : Place) → IsDone (G.wanted goals.now) to self.old → OnOk result (IsAt (G.wanted goals.now) to [] self.new) }
-    {
-        match self.phase {
-            Phase::First => self.after_goals(alloc, goals),
-            Phase::Opening => {
-                self.phase = Phase::Log;
-                Ok(())
-            }
-            Phase::Log => self.after_log(alloc, goals),
-            Phase::Last => {
-                self.phase = Phase::End;
-                Ok(())
-            }
-            // no line is read there
-            Phase::End => Ok(()),
-            Phase::Bad(_) => Ok(()),
-            Phase::Wrong => Ok(()),
-            Phase::GivenUp => Ok(()),
+/// What is read after the line that a phase reads, and how many goals are then behind. Its only error is out of memory.
+pub fn following<G: Goals>(
+    alloc: Global,
+    goals: &G,
+    phase: Phase,
+    passed: usize,
+) -> Result<(Phase, usize), NoMemory>
+    ensures { (to : Place) → IsDone (G.wanted goals.now) to passed phase → IfOk result (λ next. IsAt (G.wanted goals.now) to next.1 [] next.0) }
+{
+    match phase {
+        Phase::Exact(_line, then) => match then {
+            Then::Goals => Ok((after_goals(alloc, goals, 0)?, 0)),
+            Then::Log(log) => Ok((Phase::Log(log), passed)),
+            Then::End => Ok((Phase::End, passed)),
+        },
+        Phase::Log(_log) => {
+            // no machine has memory for as many goals
+            let Some(next) = passed.checked_add(1) else {
+                return Err(NoMemory);
+            };
+            Ok((after_goals(alloc, goals, next)?, next))
         }
+        Phase::End => Ok((Phase::End, passed)),
+        Phase::Over(end) => Ok((Phase::Over(end), passed)),
+        Phase::GivenUp => Ok((Phase::GivenUp, passed)),
     }
 }

@@ -39,8 +39,8 @@ impl CertReader {
         ensures wanted { self.new.wanted ≡ self.old.wanted }
         ensures fed { (text : List ℕ) → IsFed self.old.wanted text self.old.reading → IsFed self.new.wanted (text ++ piece.now) self.new.reading }
         ensures told { (text : List ℕ) → IsFed self.old.wanted text self.old.reading → SoFar self.old.wanted (text ++ piece.now) result }
-        ensures answer { result ≡ fed_of self.new.reading.next.phase }
-        ensures still { IsEnded self.old.reading.next.phase → self.new.reading ≡ self.old.reading }
+        ensures answer { result ≡ fed_of self.new.reading.phase }
+        ensures still { IsEnded self.old.reading.phase → self.new.reading ≡ self.old.reading }
     {
         self.reading.feed(self.alloc, &self.wanted, piece)
     }
@@ -48,7 +48,7 @@ impl CertReader {
     /// What is said of the pieces joined. After `Memory` no more is said.
     pub fn finish(self) -> CertEnd
         ensures judged { (text : List ℕ) → IsFed self.wanted text self.reading → Judges self.wanted text result }
-        ensures lost { fed_of self.reading.next.phase ≡ Fed.Memory → result ≡ CertEnd.Memory }
+        ensures lost { fed_of self.reading.phase ≡ Fed.Memory → result ≡ CertEnd.Memory }
     {
         let CertReader {
             alloc: _,

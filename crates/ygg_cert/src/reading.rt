@@ -2,21 +2,26 @@
 
 ghost use Rattle.std.specs.Prelude.{◌≡◌, ◌+◌, ◌∷◌, ◌++◌, [], List, ℕ, IfOk, IsOk, OnOk};
 ghost use Rattle.ygg_cert.specs.declared.item.Goal.{Goal};
+ghost use Rattle.ygg_cert.specs.Places.{Place};
 ghost use Rattle.ygg_cert.specs.Judging.{Judges, SoFar, wrong_after, short_after};
-ghost use Rattle.ygg_cert.specs.Standing.{IsEnded, IsFed};
-ghost use Rattle.ygg_cert.specs.Telling.{IsChecked, IsRefusal, Tells, fed_of};
+ghost use Rattle.ygg_cert.specs.Standing.{IsAfter, IsDone, IsEnded, IsFed};
+ghost use Rattle.ygg_cert.specs.Telling.{SaysShort, fed_of};
 
-use crate::phase::{Next, Phase};
+use crate::expected::Expected;
+use crate::phase::{Phase, Then, following};
+use crate::printing::put_first;
 use crate::source::Goals;
 use crate::verdict::{CertEnd, Fed, Heard};
 use std::alloc::Global;
+use std::mem;
 use ygg_base::{Refusal, Text};
 use ygg_list::NoMemory;
 
-/// What is read of a certificate: what comes next, how many lines are read whole, and how many bytes of the line after them.
+/// What is read of a certificate: how many of the goals are behind, how many lines are read whole and how many bytes of the line after them, and what comes next.
 #[derive(Drop)]
 pub struct Reading {
-    next: Next,
+    phase: Phase,
+    passed: usize,
     lines: u32,
     column: u32,
 }
@@ -36,20 +41,37 @@ impl Reading {
     pub fn new(alloc: Global) -> Result<Reading, NoMemory>
         ensures { (goals : List Goal) → IfOk result (IsFed goals []) }
     {
-        let next = Next::new(alloc)?;
+        let mut line = Text::new(alloc);
+        put_first(&mut line)?;
         Ok(Reading {
-            next,
+            phase: Phase::Exact(Expected::new(line), Then::Goals),
+            passed: 0,
             lines: 0,
             column: 0,
         })
     }
 
-    /// Goes on to the next line. Its only error is out of memory.
-    fn next_line(&mut self) -> Result<(), NoMemory>
-        ensures lines { OnOk result (self.new.lines ≡ self.old.lines + 1) }
-        ensures column { OnOk result (self.new.column ≡ 0) }
-        ensures next { self.new.next ≡ self.old.next }
+    /// The refusal of the line after those that are read whole, for another line than may stand there.
+    fn wrong(&self) -> Result<Refusal, NoMemory>
+        ensures { IfOk result (λ refusal. refusal ≡ wrong_after self.now.lines) }
     {
+        let number = if self.lines == 0 { 21 } else { 22 };
+        Ok(Refusal {
+            number,
+            line: counted(self.lines)?,
+            column: 1,
+        })
+    }
+
+    /// Goes on after a line that is read whole. Its only error is out of memory.
+    fn line_over<G: Goals>(&mut self, alloc: Global, goals: &G) -> Result<(), NoMemory>
+        ensures { (to : Place) → IsDone (G.wanted goals.now) to self.old.passed self.old.phase →
+            OnOk result (IsAfter (G.wanted goals.now) to self.old.lines self.new) }
+    {
+        let phase = mem::replace(&mut self.phase, Phase::GivenUp);
+        let (phase, passed) = following(alloc, goals, phase, self.passed)?;
+        self.phase = phase;
+        self.passed = passed;
         self.lines = counted(self.lines)?;
         self.column = 0;
         Ok(())
@@ -58,17 +80,20 @@ impl Reading {
     /// Reads a byte. Its only error is out of memory.
     fn byte<G: Goals>(&mut self, alloc: Global, goals: &G, byte: u8) -> Result<(), NoMemory>
         ensures fed { (text : List ℕ) → IsFed (G.wanted goals.now) text self.old → OnOk result (IsFed (G.wanted goals.now) (text ++ byte ∷ []) self.new) }
-        ensures still { IsEnded self.old.next.phase → IsOk result × (self.new ≡ self.old) }
+        ensures still { IsEnded self.old.phase → IsOk result × (self.new ≡ self.old) }
     {
-        match self.next.read(alloc, byte)? {
+        match self.phase.read(alloc, byte)? {
             Heard::More => self.column = counted(self.column)?,
-            Heard::Added => self.next_line()?,
-            Heard::Whole => {
-                self.next.go_on(alloc, goals)?;
-                self.next_line()?;
+            Heard::Added => {
+                self.lines = counted(self.lines)?;
+                self.column = 0;
             }
-            Heard::Bad(id) => self.next.phase = Phase::Bad(id),
-            Heard::Wrong => self.next.phase = Phase::Wrong,
+            Heard::Whole => self.line_over(alloc, goals)?,
+            Heard::Bad(id) => {
+                let phase = mem::replace(&mut self.phase, Phase::GivenUp);
+                self.phase = Phase::Over(phase.into_bad(id));
+            }
+            Heard::Wrong => self.phase = Phase::Over(CertEnd::Refused(self.wrong()?)),
             Heard::Nothing => {}
         }
         Ok(())
@@ -77,23 +102,25 @@ impl Reading {
     /// Reads a byte, and gives up where no memory is left.
     fn read<G: Goals>(&mut self, alloc: Global, goals: &G, byte: u8)
         ensures fed { (text : List ℕ) → IsFed (G.wanted goals.now) text self.old → IsFed (G.wanted goals.now) (text ++ byte ∷ []) self.new }
-        ensures still { IsEnded self.old.next.phase → self.new ≡ self.old }
+        ensures still { IsEnded self.old.phase → self.new ≡ self.old }
     {
         match self.byte(alloc, goals, byte) {
             Ok(()) => {}
-            Err(_) => self.next.phase = Phase::GivenUp,
+            Err(_) => self.phase = Phase::GivenUp,
         }
     }
 
     /// What is said of the bytes so far.
     fn so_far(&self) -> Fed
-        ensures { result ≡ fed_of self.now.next.phase }
+        ensures answer { result ≡ fed_of self.now.phase }
+        ensures told { (goals : List Goal) (text : List ℕ) → IsFed goals text self.now → SoFar goals text result }
     {
-        match self.next.phase {
-            Phase::Bad(_) => Fed::Over,
-            Phase::Wrong => Fed::Over,
+        match &self.phase {
+            Phase::Exact(_, _) => Fed::More,
+            Phase::Log(_) => Fed::More,
+            Phase::End => Fed::More,
+            Phase::Over(_) => Fed::Over,
             Phase::GivenUp => Fed::Memory,
-            _ => Fed::More,
         }
     }
 
@@ -101,8 +128,8 @@ impl Reading {
     pub fn feed<G: Goals>(&mut self, alloc: Global, goals: &G, piece: &[u8]) -> Fed
         ensures fed { (text : List ℕ) → IsFed (G.wanted goals.now) text self.old → IsFed (G.wanted goals.now) (text ++ piece.now) self.new }
         ensures told { (text : List ℕ) → IsFed (G.wanted goals.now) text self.old → SoFar (G.wanted goals.now) (text ++ piece.now) result }
-        ensures answer { result ≡ fed_of self.new.next.phase }
-        ensures still { IsEnded self.old.next.phase → self.new ≡ self.old }
+        ensures answer { result ≡ fed_of self.new.phase }
+        ensures still { IsEnded self.old.phase → self.new ≡ self.old }
     {
         for byte in piece {
             self.read(alloc, goals, *byte);
@@ -113,82 +140,28 @@ impl Reading {
     /// What is said of the text, of which all is read.
     pub fn finish(self) -> CertEnd
         ensures judged { (goals : List Goal) (text : List ℕ) → IsFed goals text self → Judges goals text result }
-        ensures lost { fed_of self.next.phase ≡ Fed.Memory → result ≡ CertEnd.Memory }
+        ensures lost { fed_of self.phase ≡ Fed.Memory → result ≡ CertEnd.Memory }
     {
         let Reading {
-            next,
+            phase,
+            passed,
             lines,
             column,
         } = self;
-        let Next {
-            phase,
-            line: _,
-            log,
-            passed,
-        } = next;
-        told(phase, log.into_name(), passed, lines, column)
+        match phase {
+            Phase::End => match u32::try_from(passed) {
+                Ok(count) => CertEnd::Checked(count),
+                Err(_) => CertEnd::Memory,
+            },
+            Phase::Exact(_line, _then) => short(lines, column),
+            Phase::Log(_log) => short(lines, column),
+            Phase::Over(end) => end,
+            Phase::GivenUp => CertEnd::Memory,
+        }
     }
 }
 
-/// What is said of a text of which all is read: in which phase, in the log of which name, after how many goals and lines, and how many bytes of the line after them.
-fn told(phase: Phase, name: Text, passed: usize, lines: u32, bytes: u32) -> CertEnd
-    ensures { Tells phase name passed lines bytes result }
-{
-    match phase {
-        Phase::First => short(lines, bytes),
-        Phase::Opening => short(lines, bytes),
-        Phase::Log => short(lines, bytes),
-        Phase::Last => short(lines, bytes),
-        Phase::End => whole(passed),
-        Phase::Bad(id) => CertEnd::Bad { name, id },
-        Phase::Wrong => wrong(lines),
-        Phase::GivenUp => CertEnd::Memory,
-    }
-}
-
-/// What is said of a text that is whole after so many goals.
-fn whole(passed: usize) -> CertEnd
-    ensures { IsChecked passed result }
-{
-    match u32::try_from(passed) {
-        Ok(count) => CertEnd::Checked(count),
-        Err(_) => CertEnd::Memory,
-    }
-}
-
-/// What is said of a text in which after so many lines comes another than may stand there.
-fn wrong(lines: u32) -> CertEnd
-    ensures { IsRefusal (wrong_after lines) result }
-{
-    match wrong_after(lines) {
-        Ok(refusal) => CertEnd::Refused(refusal),
-        Err(_) => CertEnd::Memory,
-    }
-}
-
-/// What is said of a text that ends after so many lines and bytes, within or before a line that may stand there.
-fn short(lines: u32, bytes: u32) -> CertEnd
-    ensures { IsRefusal (short_after lines bytes) result }
-{
-    match short_after(lines, bytes) {
-        Ok(refusal) => CertEnd::Refused(refusal),
-        Err(_) => CertEnd::Memory,
-    }
-}
-
-/// The refusal of the line after so many, for another line than may stand there. Its only error is out of memory.
-fn wrong_after(lines: u32) -> Result<Refusal, NoMemory>
-    ensures { IfOk result (λ refusal. refusal ≡ wrong_after lines) }
-{
-    let number = if lines == 0 { 21 } else { 22 };
-    Ok(Refusal {
-        number,
-        line: counted(lines)?,
-        column: 1,
-    })
-}
-
-/// The refusal of a text that ends after so many lines and bytes. Its only error is out of memory.
+/// The refusal of a text that ends after so many lines and bytes.
 fn short_after(lines: u32, bytes: u32) -> Result<Refusal, NoMemory>
     ensures { IfOk result (λ refusal. refusal ≡ short_after lines bytes) }
 {
@@ -197,4 +170,14 @@ fn short_after(lines: u32, bytes: u32) -> Result<Refusal, NoMemory>
         line: counted(lines)?,
         column: counted(bytes)?,
     })
+}
+
+/// What is said of a text that ends after so many lines and bytes, within or before a line that may stand there.
+fn short(lines: u32, bytes: u32) -> CertEnd
+    ensures { SaysShort lines bytes result }
+{
+    match short_after(lines, bytes) {
+        Ok(refusal) => CertEnd::Refused(refusal),
+        Err(_) => CertEnd::Memory,
+    }
 }

@@ -59,22 +59,10 @@ fn texts_are_judged(rt: HostRuntime) -> Result<(), Fail> {
         (b"ygg-cert 1\no a.init 4\nc 2 0 1 2 0\ne\n", (1000, 0, 0)),
         (b"ygg-cert 1\no a.init 4\nc 2 0 1 2 0\ne\r", (22, 4, 1)),
         (b"ygg-cert 1\no a.init 4\nc 02 0", (22, 3, 1)),
-        (
-            b"ygg-cert 1\no a.init 4\nc 18446744073709551615 0",
-            (24, 3, 25),
-        ),
-        (
-            b"ygg-cert 1\no a.init 4\nc 18446744073709551616",
-            (22, 3, 1),
-        ),
-        (
-            b"ygg-cert 1\no a.init 4\nc 2 0 1 2 0\nc -2 0 3 4 0\nc 0 5 6 0\ne\nend",
-            (24, 7, 4),
-        ),
-        (
-            b"ygg-cert 1\no a.init 4\nc 2 0 1 2 0\nc -2 0 3 4 0\nc 0 5 6 0\ne\nend\n\n",
-            (22, 8, 1),
-        ),
+        (b"ygg-cert 1\no a.init 4\nc 18446744073709551615 0", (24, 3, 25)),
+        (b"ygg-cert 1\no a.init 4\nc 18446744073709551616", (22, 3, 1)),
+        (b"ygg-cert 1\no a.init 4\nc 2 0 1 2 0\nc -2 0 3 4 0\nc 0 5 6 0\ne\nend", (24, 7, 4)),
+        (b"ygg-cert 1\no a.init 4\nc 2 0 1 2 0\nc -2 0 3 4 0\nc 0 5 6 0\ne\nend\n\n", (22, 8, 1)),
     ];
     for (text, wanted) in rows {
         assert_eq!(rt; of(alloc, text)?, wanted);

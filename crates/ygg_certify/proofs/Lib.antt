@@ -1,2 +1,1 @@
 mod Refining
-mod Certified

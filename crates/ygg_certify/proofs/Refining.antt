@@ -1,5 +1,5 @@
 -- What is known of a layer file whose certificate is checked.
-use Rattle.std.proofs.Common.{◌≡◌, ℕ, Bool, List, [], ◌∷◌, map, refl, ap, subst, ◌∙◌}
+use Rattle.std.proofs.Common.{◌≡◌, ℕ, Bool, List, [], ◌∷◌, map, refl, sym, ap, subst, ◌∙◌}
 use Rattle.std.specs.Prelude.{All}
 use Rattle.std.proofs.lemmas.List.Elements.{All-nil, All-cons, All-head, All-tail}
 use Rattle.ygg_syntax.specs.declared.tree.File.{File}
@@ -28,9 +28,9 @@ use Rattle.ygg_oblige.specs.Obligations.{names_in, terms_in}
 use Rattle.ygg_cert.specs.declared.item.Goal.{Goal}
 use Rattle.ygg_cert.specs.declared.verdict.CertEnd.{CertEnd}
 use Rattle.ygg_cert.specs.declared.verdict.CertEnd.TheVariants.{Checked, Bad, Refused, Memory}
-use Rattle.ygg_cert.specs.Judging.{IsWhole, Judges}
+use Rattle.ygg_cert.specs.Judging.{Judges}
 use Rattle.ygg_cert.specs.Laws.{IsRefuted, CheckedIsRefuted}
-use Rattle.ygg_certify.specs.FileGoals.{goal_by, goals_by, goals_in, goals_of, IsRight, IfChecked}
+use Rattle.ygg_certify.specs.FileGoals.{goal_by, goals_by, goals_in, goals_of, HistoriesAllowed, IsRight, IfChecked}
 
 -- the goals of obligations by their names and terms
 goals_same : (nodes : List Node) (all : List Obligation) → goals_in nodes all ≡ goals_by nodes (names_in all) (terms_in all)
@@ -45,17 +45,6 @@ goals_are kinds f nodes all nodes_are terms names =
     ∙ ap (λ (n : List Node). goals_by n (names_in all) (terms_in all)) nodes_are
     ∙ ap (λ (t : List Id). goals_by (file_made kinds f []).nodes (names_in all) t) terms
     ∙ ap (λ (n : List (List ℕ)). goals_by (file_made kinds f []).nodes n (file_made kinds f []).value) names
-
--- its nodes and terms
-pub bank_in : (kinds : List RuleKind) (f : File) (nodes : List Node) → nodes ≡ (file_made kinds f []).nodes → IsBank nodes → IsBank (file_made kinds f []).nodes
-bank_in kinds f nodes nodes_are bank = subst (λ (n : List Node). IsBank n) nodes_are bank
-
-pub terms_of : (kinds : List RuleKind) (f : File) (nodes : List Node) (all : List Obligation) → nodes ≡ (file_made kinds f []).nodes →
-    terms_in all ≡ (file_made kinds f []).value → AreTermsOf nodes (claims_of f) (terms_in all)
-    → AreTermsOf (file_made kinds f []).nodes (claims_of f) (file_made kinds f []).value
-terms_of kinds f nodes all nodes_are terms mean =
-    subst (λ (ts : List Id). AreTermsOf (file_made kinds f []).nodes (claims_of f) ts) terms
-    (subst (λ (n : List Node). AreTermsOf n (claims_of f) (terms_in all)) nodes_are mean)
 
 -- what the laws say that are needed
 pub record Laws : Type 0 where
@@ -84,24 +73,17 @@ all_hold laws nodes (c ∷ cs) (t ∷ ts) bank terms refuted =
 all_hold laws nodes [] (t ∷ ts) bank terms refuted = absurd terms
 all_hold laws nodes (c ∷ cs) [] bank terms refuted = absurd terms
 
--- a file for whose goals a text is whole
-pub whole_right : (laws : Laws) (kinds : List RuleKind) (f : File) (text : List ℕ) (count : ℕ) → ∥ IsDerived f ∥₁ → IsTyped f →
-    IsBank (file_made kinds f []).nodes → AreTermsOf (file_made kinds f []).nodes (claims_of f) (file_made kinds f []).value →
-    IsWhole (goals_of kinds f) text count
-    → IsRight f
-whole_right laws kinds f text count derived typed bank terms whole = (refines, laws.histories f derived typed refines)
-  where
-    refines : FileRefines f
-    refines =
-        (laws.by_list f).0
-        (all_hold laws (file_made kinds f []).nodes (claims_of f) (file_made kinds f []).value bank terms (laws.refuted (goals_of kinds f) text count whole))
-
 -- a file whose certificate is checked
 pub is_right : (laws : Laws) (kinds : List RuleKind) (f : File) (text : List ℕ) (end : CertEnd) → ∥ IsDerived f ∥₁ → IsTyped f →
     IsBank (file_made kinds f []).nodes → AreTermsOf (file_made kinds f []).nodes (claims_of f) (file_made kinds f []).value →
     Judges (goals_of kinds f) text end
     → IfChecked end (IsRight f)
-is_right laws kinds f text (Checked count) derived typed bank terms judged = whole_right laws kinds f text count derived typed bank terms judged
+is_right laws kinds f text (Checked count) derived typed bank terms judged = (refines, laws.histories f derived typed refines)
+  where
+    refines : FileRefines f
+    refines =
+        (laws.by_list f).0
+        (all_hold laws (file_made kinds f []).nodes (claims_of f) (file_made kinds f []).value bank terms (laws.refuted (goals_of kinds f) text count judged))
 is_right laws kinds f text (Bad name id) derived typed bank terms judged = tt
 is_right laws kinds f text (Refused refusal) derived typed bank terms judged = tt
 is_right laws kinds f text Memory derived typed bank terms judged = tt

@@ -1,3 +1,1 @@
 pub mod FileGoals
-pub mod Certifying
-pub mod Checking

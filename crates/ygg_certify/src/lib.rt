@@ -1,12 +1,8 @@
-//! Certificates of layer files: checked, and made.
+//! Certificates of layer files.
 #![tactic(auto)]
 
-mod certifying;
 mod checking;
 mod goals;
-mod saying;
 
-pub use certifying::{Certifying, certify};
 pub use checking::check_file;
 pub use goals::FileGoals;
-pub use saying::check;

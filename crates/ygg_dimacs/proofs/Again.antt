@@ -1,27 +1,28 @@
 -- The text of clauses is read as the same clauses.
-use Rattle.std.proofs.Common.{◌≡◌, ℕ, suc, ◌+◌, ◌^◌, ◌<◌, ◌≤◌, Bool, true, false, List, [], ◌∷◌, ◌++◌, append_assoc, length, length-append, All, Some, Ok, map, refl, sym, ap, ◌∙◌, subst, arith}
-use Rattle.std.specs.Prelude.{◌==◌, ◌||◌, if◌then◌else◌, codes}
-use Rattle.std.specs.List.{list_all, slice_split}
+use Rattle.std.proofs.Common.{◌≡◌, ℕ, zero, suc, ◌+◌, ◌*◌, ◌^◌, ◌<◌, ◌≤◌, Bool, true, false, List, [], ◌∷◌, ◌++◌, append_assoc, length, length-append, All, Option, Some, None, Ok, Err, map, refl, sym, ap, ◌∙◌, subst, arith, lit<, lit≤}
+use Rattle.std.specs.Prelude.{nat_le, ◌==◌, ◌&&◌, ◌||◌, if◌then◌else◌, codes}
+use Rattle.std.specs.List.{list_all, slice_split, flat_map}
 use Rattle.std.specs.Fmt.{decimal}
 use Rattle.std.proofs.lemmas.Bool.{and_from, and_parts}
 use Rattle.std.proofs.lemmas.Bool.Decides.{nat_tests}
 use Rattle.std.proofs.lemmas.List.Folds.{list_all-append}
 use Rattle.std.proofs.lemmas.List.Splits.{slice_split_at, slice_split_none}
 use Rattle.std.proofs.lemmas.List.Elements.{All-nil, All-cons, All-head, All-tail}
-use Rattle.ygg_base.specs.Lexing.{is_empty, is_blank}
+use Rattle.ygg_base.specs.Lexing.{is_digit, is_empty, is_blank}
 use Rattle.ygg_cnf.specs.declared.lit.Lit.{Lit}
 use Rattle.ygg_cnf.specs.Literals.{once, with_literals, with_literal, IsOnce}
 use Rattle.ygg_cnf.proofs.Once.{once_is_kept}
 use Rattle.ygg_log_text.specs.Lines.{literal_word, literal_words, clause_line}
+use Rattle.ygg_dimacs.specs.declared.cnf.Cnf.{Cnf}
 use Rattle.ygg_dimacs.specs.Places.{Place, Line, Word, place, word_at}
 use Rattle.ygg_dimacs.specs.Lines.{numbered, pieces_of, is_last, is_passed_over, content_of, end_from}
-use Rattle.ygg_dimacs.specs.Words.{words_among, words_from, words_of_all}
-use Rattle.ygg_dimacs.specs.Numbers.{literal}
+use Rattle.ygg_dimacs.specs.Words.{word_of, words_among, words_from, words_of, words_of_all}
+use Rattle.ygg_dimacs.specs.Numbers.{literal, literal_in, number_in}
 use Rattle.ygg_dimacs.proofs.Taking.{by_literal, next_word, by_some, by_none}
 use Rattle.ygg_dimacs.specs.Headers.{header, header_in, header_of, most_variables, most_clauses}
-use Rattle.ygg_dimacs.specs.Reading.{after_clauses, clauses_in, cnf, over, cnf_in}
+use Rattle.ygg_dimacs.specs.Reading.{Read, after_clauses, clauses_in, cnf, over, cnf_in, cnf_of}
 use Rattle.ygg_dimacs.specs.Printing.{header_line, clause_lines, cnf_text, AreWithin}
-use Rattle.ygg_dimacs.specs.Laws.{PrintedIsRead}
+use Rattle.ygg_dimacs.specs.Laws.{IsPlain, PrintedIsRead}
 use Rattle.ygg_dimacs.proofs.Decimals.{number_again, is_literal_byte, literal_bytes, literal_some, literal_again, zero_again, decimal_digits, decimal_some}
 use Rattle.ygg_dimacs.proofs.Numbered.{by_header, header_step}
 use Rattle.ygg_dimacs.proofs.Lining.{line, content_kept}
@@ -60,8 +61,7 @@ body_bytes variables (x ∷ xs) all =
     let fit = All-head (IsFit variables) x xs all in
     let others = body_bytes variables xs (All-tail (IsFit variables) x xs all) in
     ap (list_all is_line_byte) (body_more x xs)
-    ∙ both (literal_word x) (32 ∷ body xs) (line_bytes (literal_word x) (literal_bytes x (omega (arith, fit.few))))
-    (and_from true (list_all is_line_byte (body xs)) refl others)
+    ∙ both (literal_word x) (32 ∷ body xs) (line_bytes (literal_word x) (literal_bytes x (omega (arith, fit.few)))) (and_from true (list_all is_line_byte (body xs)) refl others)
 
 -- none of them is a line feed
 no_feed : (bytes : List ℕ) → list_all is_line_byte bytes ≡ true → All (λ b. (b == 10) ≡ false) bytes
@@ -105,8 +105,7 @@ body_words : (variables n column : ℕ) (x : Lit) (xs : List Lit) → IsFit vari
     words_from n column (body (x ∷ xs)) ≡ word_at n column (literal_word x) ∷ words_from n (column + length (literal_word x) + 1) (body xs)
 body_words variables n column x xs fit =
     ap (words_from n column) (body_more x xs)
-    ∙ ap (words_among n column)
-    (slice_split_at is_blank (literal_word x) 32 (body xs) (no_blank (literal_word x) (literal_bytes x (omega (arith, fit.few)))) refl)
+    ∙ ap (words_among n column) (slice_split_at is_blank (literal_word x) 32 (body xs) (no_blank (literal_word x) (literal_bytes x (omega (arith, fit.few)))) refl)
     ∙ ap (λ (test : Bool). (if test then [] else word_at n column (literal_word x) ∷ []) ++ words_from n (column + length (literal_word x) + 1) (body xs))
     (literal_some x (omega (arith, fit.few)))
 
@@ -174,18 +173,14 @@ head_bytes variables clauses v c =
     (All-cons P 32 t refl numbers)))))
 
 -- it is read again
-head_again : (variables clauses : ℕ) → variables ≤ most_variables → clauses ≤ most_clauses →
-    header_in (head variables clauses) ≡ Some (header variables clauses)
+head_again : (variables clauses : ℕ) → variables ≤ most_variables → clauses ≤ most_clauses → header_in (head variables clauses) ≡ Some (header variables clauses)
 head_again variables clauses v c =
     let numbers : slice_split is_blank (decimal variables ++ 32 ∷ decimal clauses) ≡ decimal variables ∷ decimal clauses ∷ [] =
     slice_split_at is_blank (decimal variables) 32 (decimal clauses) (no_blank (decimal variables) (decimal_digits variables (omega arith))) refl
-    ∙ ap (λ (x : List (List ℕ)). decimal variables ∷ x)
-    (slice_split_none is_blank (decimal clauses) (no_blank (decimal clauses) (decimal_digits clauses (omega arith)))) in
-    let pieces : slice_split is_blank (head variables clauses) ≡ (112 ∷ []) ∷ (99 ∷ 110 ∷ 102 ∷ []) ∷ decimal variables ∷ decimal clauses ∷ [] =
-    rw numbers refl in
+    ∙ ap (λ (x : List (List ℕ)). decimal variables ∷ x) (slice_split_none is_blank (decimal clauses) (no_blank (decimal clauses) (decimal_digits clauses (omega arith)))) in
+    let pieces : slice_split is_blank (head variables clauses) ≡ (112 ∷ []) ∷ (99 ∷ 110 ∷ 102 ∷ []) ∷ decimal variables ∷ decimal clauses ∷ [] = rw numbers refl in
     let words : words_from 1 1 (head variables clauses)
-    ≡ word_at 1 1 (112 ∷ []) ∷ word_at 1 3 (99 ∷ 110 ∷ 102 ∷ []) ∷ word_at 1 7 (decimal variables)
-    ∷ word_at 1 (7 + length (decimal variables) + 1) (decimal clauses) ∷ [] =
+    ≡ word_at 1 1 (112 ∷ []) ∷ word_at 1 3 (99 ∷ 110 ∷ 102 ∷ []) ∷ word_at 1 7 (decimal variables) ∷ word_at 1 (7 + length (decimal variables) + 1) (decimal clauses) ∷ [] =
     ap (words_among 1 1) pieces ∙ rw (decimal_some variables (omega arith), decimal_some clauses (omega arith)) refl in
     ap header_of words ∙ rw (number_again most_variables variables v (omega arith), number_again most_clauses clauses c (omega arith)) refl
 
@@ -199,8 +194,7 @@ all_fit : (variables : ℕ) (cs : List (List Lit)) → variables ≤ most_variab
     All (All (IsFit variables)) cs
 all_fit variables [] few some within = All-nil (All (IsFit variables))
 all_fit variables (xs ∷ cs) few some within =
-    All-cons (All (IsFit variables)) xs cs
-    (each xs (All-head (All (λ (x : Lit). 0 < x.var)) xs cs some) (All-head (All (λ (x : Lit). x.var ≤ variables)) xs cs within))
+    All-cons (All (IsFit variables)) xs cs (each xs (All-head (All (λ (x : Lit). 0 < x.var)) xs cs some) (All-head (All (λ (x : Lit). x.var ≤ variables)) xs cs within))
     (all_fit variables cs few (All-tail (All (λ (x : Lit). 0 < x.var)) xs cs some) (All-tail (All (λ (x : Lit). x.var ≤ variables)) xs cs within))
   where
     each : (ys : List Lit) → All (λ (x : Lit). 0 < x.var) ys → All (λ (x : Lit). x.var ≤ variables) ys → All (IsFit variables) ys

@@ -1,6 +1,6 @@
 -- A number in decimal digits is read again.
-use Rattle.std.proofs.Common.{◌≡◌, ℕ, ◌+◌, ◌-◌, ◌*◌, ◌/◌, ◌%◌, ◌^◌, ◌<◌, ◌≤◌, Bool, true, false, List, [], ◌∷◌, ◌++◌, length, Some, refl, ◌∙◌, lit<, arith}
-use Rattle.std.specs.Prelude.{nat_le, ◌==◌, ◌||◌}
+use Rattle.std.proofs.Common.{◌≡◌, ℕ, zero, suc, ◌+◌, ◌-◌, ◌*◌, ◌/◌, ◌%◌, ◌^◌, ◌<◌, ◌≤◌, Bool, true, false, List, [], ◌∷◌, ◌++◌, length, Option, Some, None, refl, sym, ap, ◌∙◌, lit<, lit≤, arith}
+use Rattle.std.specs.Prelude.{nat_le, ◌==◌, ◌&&◌, ◌||◌}
 use Rattle.std.specs.List.{list_all}
 use Rattle.std.specs.Fmt.{decimal}
 use Rattle.std.proofs.Math.Nat.{mod-lt}
@@ -11,7 +11,7 @@ use Rattle.std.proofs.lemmas.Fmt.{decimal_by_steps, length-decimal-le}
 use Rattle.ygg_base.specs.Lexing.{is_digit, is_empty, value_after}
 use Rattle.ygg_cnf.specs.declared.lit.Lit.{Lit}
 use Rattle.ygg_log_text.specs.Lines.{literal_word}
-use Rattle.ygg_dimacs.specs.Numbers.{number_in, literal, literal_in}
+use Rattle.ygg_dimacs.specs.Numbers.{are_digits, at_most, number_in, literal, literal_in}
 
 -- some digits that give this number
 record IsDecimal (n : ℕ) (ds : List ℕ) : Type 0 where
@@ -43,8 +43,7 @@ more n ds great d =
     let last : n % 10 < 10 = mod-lt n (lit< tt) in
     record {
       digits = list_all-append is_digit ds ((48 + n % 10) ∷ [])
-          ∙ and_from (list_all is_digit ds) (list_all is_digit ((48 + n % 10) ∷ [])) d.digits
-          (and_from (is_digit (48 + n % 10)) true (is_digit_at (n % 10) last) refl);
+          ∙ and_from (list_all is_digit ds) (list_all is_digit ((48 + n % 10) ∷ [])) d.digits (and_from (is_digit (48 + n % 10)) true (is_digit_at (n % 10) last) refl);
       value = value_push ds 0 (48 + n % 10) ∙ omega (arith, d.value);
       some = not_empty_push ds (48 + n % 10);
     }

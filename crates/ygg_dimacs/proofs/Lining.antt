@@ -1,13 +1,15 @@
 -- Lines one after another.
-use Rattle.std.proofs.Common.{◌≡◌, ℕ, suc, ◌+◌, ◌<◌, Bool, true, false, not, cond, List, [], ◌∷◌, ◌++◌, length, Option, Some, refl, ap, ◌∙◌, arith}
+use Rattle.std.proofs.Common.{◌≡◌, ℕ, zero, suc, ◌+◌, ◌<◌, ◌≤◌, Bool, true, false, not, cond, List, [], ◌∷◌, ◌++◌, length, Option, Some, None, refl, sym, ap, ◌∙◌, subst, arith}
 use Rattle.std.specs.Prelude.{◌==◌, if◌then◌else◌, filter, take_while}
 use denote.Ref.{Bor}
 use Rattle.ygg_dimacs.specs.declared.places.Line as code_line
 use Rattle.ygg_dimacs.specs.declared.places.Rest.{Rest}
 use Rattle.ygg_dimacs.specs.Left.{lines_in, line_of, left_lines, left_content, left_end, IsNextLine, IsNextContent}
-use Rattle.std.specs.List.{prefix_len}
+use Rattle.std.specs.List.{slice_split, count_by, prefix_len}
+use Rattle.std.proofs.lemmas.List.{append-nil}
 use Rattle.std.proofs.lemmas.List.Splits.{length-slice_split}
-use Rattle.ygg_dimacs.specs.Places.{Place, Line, place}
+use Rattle.ygg_base.specs.Lexing.{is_blank}
+use Rattle.ygg_dimacs.specs.Places.{Place, Line, Word, place}
 use Rattle.ygg_dimacs.specs.Lines.{numbered, pieces_of, is_last, is_passed_over, content_of, end_from}
 use Rattle.ygg_dimacs.specs.Words.{word_of, words_among, words_from}
 use Rattle.ygg_dimacs.specs.Words as words

@@ -1,5 +1,5 @@
 -- The clauses that are read have variables from 1 on.
-use Rattle.std.proofs.Common.{◌≡◌, ℕ, zero, suc, ◌<◌, Bool, true, false, List, [], ◌∷◌, ◌++◌, All, Option, Some, None, Result, Ok, Err, refl, sym, ◌∙◌, subst, arith}
+use Rattle.std.proofs.Common.{◌≡◌, ℕ, zero, suc, ◌<◌, Bool, true, false, List, [], ◌∷◌, ◌++◌, All, Option, Some, None, Result, Ok, Err, refl, sym, ap, ◌∙◌, subst, arith}
 use Rattle.std.specs.Prelude.{◌==◌, if◌then◌else◌, IfOk}
 use Rattle.std.specs.List.{list_any}
 use Rattle.std.proofs.lemmas.Bool.Decides.{nat_tests}
@@ -40,8 +40,7 @@ joined part (Err e) cs all rest is = absurd (cc is)
 
 numbered_in : (variables : ℕ) (end : Place) (left : ℕ) (part : List Lit) (ws : List Word) (cs : List (List Lit)) → All Numbered part →
     clauses_in variables end left part ws ≡ Ok cs → All (All Numbered) cs
-numbered_in variables end zero part [] cs all is =
-    let none : cs ≡ [] = cc is in subst (λ (x : List (List Lit)). All (All Numbered) x) (sym none) (All-nil (All Numbered))
+numbered_in variables end zero part [] cs all is = let none : cs ≡ [] = cc is in subst (λ (x : List (List Lit)). All (All Numbered) x) (sym none) (All-nil (All Numbered))
 numbered_in variables end zero part (w ∷ ws) cs all is = absurd (cc is)
 numbered_in variables end (suc left) part [] cs all is = absurd (cc is)
 numbered_in variables end (suc left) part (w ∷ ws) cs all is =
@@ -91,8 +90,7 @@ by_lines (first ∷ ls) end c is = by_case (header_in first.bytes) (sym (header_
         (λ cs. numbered_in h.variables end h.clauses [] (words_of_all ls) cs (All-nil Numbered)) e
 
 -- whatever is answered
-pub gives_numbered : (text : List ℕ) (r : Result Cnf Refuse) → Gives (λ (x : Cnf). x) r (cnf_of text) →
-    IfOk r (λ c. All (All (λ (x : Lit). 0 < x.var)) c.clauses)
+pub gives_numbered : (text : List ℕ) (r : Result Cnf Refuse) → Gives (λ (x : Cnf). x) r (cnf_of text) → IfOk r (λ c. All (All (λ (x : Lit). 0 < x.var)) c.clauses)
 gives_numbered text (Ok c) is = by_lines (content_of (lines_of text)) (end_from (place 1 1) (lines_of text)) c is
 gives_numbered text (Err (At refusal)) is = tt
 gives_numbered text (Err Memory) is = tt

@@ -1,5 +1,5 @@
 -- How words change what has been read.
-use Rattle.std.proofs.Common.{◌≡◌, ℕ, zero, suc, ◌+◌, ◌<◌, ◌≤◌, Bool, true, false, List, [], ◌∷◌, ◌++◌, append_assoc, Option, Some, None, Ok, Err, refl, sym, ap, ◌∙◌, arith, add-one}
+use Rattle.std.proofs.Common.{◌≡◌, ℕ, zero, suc, ◌+◌, ◌<◌, ◌≤◌, Bool, true, false, List, [], ◌∷◌, ◌++◌, append_assoc, Option, Some, None, Result, Ok, Err, refl, sym, ap, ◌∙◌, subst, arith, add-one}
 use Rattle.std.specs.Prelude.{◌==◌, if◌then◌else◌}
 use Rattle.std.proofs.lemmas.List.{append-nil}
 use Rattle.std.proofs.lemmas.Bool.Decides.{nat_tests}
@@ -54,16 +54,12 @@ step s end w ws left found some is =
 pub by_some : (variables : ℕ) (end : Place) (left : ℕ) (part : List Lit) (w : Word) (ws : List Word) (x : Lit) → (x.var == 0) ≡ false →
     by_literal variables end left part w ws (Some x) ≡ clauses_in variables end (suc left) (with_literal part x) ws
 by_some variables end left part w ws x test =
-    ap
-    (λ (b : Bool). if b then after_clauses (part ∷ []) (clauses_in variables end left [] ws) else clauses_in variables end (suc left) (with_literal part x) ws)
-    test
+    ap (λ (b : Bool). if b then after_clauses (part ∷ []) (clauses_in variables end left [] ws) else clauses_in variables end (suc left) (with_literal part x) ws) test
 
 pub by_none : (variables : ℕ) (end : Place) (left : ℕ) (part : List Lit) (w : Word) (ws : List Word) (x : Lit) → (x.var == 0) ≡ true →
     by_literal variables end left part w ws (Some x) ≡ after_clauses (part ∷ []) (clauses_in variables end left [] ws)
 by_none variables end left part w ws x test =
-    ap
-    (λ (b : Bool). if b then after_clauses (part ∷ []) (clauses_in variables end left [] ws) else clauses_in variables end (suc left) (with_literal part x) ws)
-    test
+    ap (λ (b : Bool). if b then after_clauses (part ∷ []) (clauses_in variables end left [] ws) else clauses_in variables end (suc left) (with_literal part x) ws) test
 
 pub no_number : (s : State) (w : Word) → 0 < s.left → literal_in s.variables w.bytes ≡ None → Stops s (w ∷ []) (refusal_at Number w.line w.column)
 no_number s w some is end ws = by_left s.left refl some
@@ -80,8 +76,7 @@ ends_clause before after w x is zero_var left part done variables = record {
   on = λ end ws.
       let test : (x.var == 0) ≡ true = grind (arith, nat_tests) in
       let one : before.left ≡ suc after.left = sym left ∙ add-one after.left in
-      let there : clauses_in before.variables end before.left before.part (w ∷ ws)
-      ≡ after_clauses (before.part ∷ []) (clauses_in before.variables end after.left [] ws) =
+      let there : clauses_in before.variables end before.left before.part (w ∷ ws) ≡ after_clauses (before.part ∷ []) (clauses_in before.variables end after.left [] ws) =
       step before end w ws after.left (Some x) one is ∙ by_none before.variables end after.left before.part w ws x test in
       ap (after_clauses before.done) there
       ∙ after_twice before.done (before.part ∷ []) (clauses_in before.variables end after.left [] ws)

@@ -1,5 +1,5 @@
 -- The header of a text of clauses.
-use Rattle.std.specs.Prelude.{ℕ, ◌&&◌, if◌then◌else◌, List, [], ◌∷◌, Option, None, codes, option_and_then}
+use Rattle.std.specs.Prelude.{ℕ, Bool, ◌&&◌, if◌then◌else◌, List, [], ◌∷◌, map, Option, Some, None, codes, option_and_then}
 use Rattle.std.specs.Option.{option_map}
 use Rattle.std.specs.Str.{bytes_eq}
 use Rattle.ygg_dimacs.specs.declared.header.Header.{Header}
@@ -22,8 +22,7 @@ header variables clauses = record { variables = variables; clauses = clauses }
 -- the header that the words `p`, `cnf` and two numbers are
 abbrev pub header_by : List ℕ → List ℕ → List ℕ → List ℕ → Option Header
 header_by p cnf variables clauses =
-    if bytes_eq p (codes "p") && bytes_eq cnf (codes "cnf")
-    then option_and_then (λ v. option_map (header v) (number_in most_clauses clauses)) (number_in most_variables variables)
+    if bytes_eq p (codes "p") && bytes_eq cnf (codes "cnf") then option_and_then (λ v. option_map (header v) (number_in most_clauses clauses)) (number_in most_variables variables)
     else None
 
 -- the header that four words are

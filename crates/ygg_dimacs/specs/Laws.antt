@@ -1,5 +1,5 @@
 -- What holds of the texts of clauses.
-use Rattle.std.specs.Prelude.{◌≡◌, ◌<◌, ◌≤◌, length, All, Ok}
+use Rattle.std.specs.Prelude.{◌≡◌, ◌<◌, ◌≤◌, length, map, All, Ok, ℕ}
 use Rattle.ygg_cnf.specs.declared.lit.Lit.{Lit}
 use Rattle.ygg_cnf.specs.Literals.{IsOnce}
 use Rattle.ygg_dimacs.specs.declared.cnf.Cnf.{Cnf}

@@ -1,5 +1,5 @@
 -- What the reader has left of a text, as lines and words.
-use Rattle.std.specs.Prelude.{◌≡◌, ℕ, List, [], ◌∷◌, Option, Some, None, if◌then◌else◌}
+use Rattle.std.specs.Prelude.{◌≡◌, ℕ, List, [], ◌∷◌, ◌++◌, Option, Some, None, Result, Ok, Err, if◌then◌else◌}
 use denote.Ref.{Bor}
 use Rattle.ygg_dimacs.specs.declared.places.Place as code_place
 use Rattle.ygg_dimacs.specs.declared.places.Line as code_line

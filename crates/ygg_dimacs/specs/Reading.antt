@@ -1,11 +1,12 @@
 -- The clauses that a text is, or its first refusal.
-use Rattle.std.specs.Prelude.{◌≡◌, ℕ, zero, suc, ◌==◌, if◌then◌else◌, List, [], ◌∷◌, ◌++◌, Some, None, Result, Ok, Err}
+use Rattle.std.specs.Prelude.{◌≡◌, ℕ, zero, suc, ◌==◌, if◌then◌else◌, List, [], ◌∷◌, ◌++◌, Option, Some, None, Result, Ok, Err}
 use Rattle.ygg_base.specs.declared.failure.Refusal.{Refusal}
 use Rattle.ygg_base.specs.declared.failure.Refuse.{Refuse}
 use Rattle.ygg_base.specs.declared.failure.Refuse.TheVariants.{At, Memory}
 use Rattle.ygg_cnf.specs.declared.lit.Lit.{Lit}
 use Rattle.ygg_cnf.specs.Literals.{with_literal}
 use Rattle.ygg_dimacs.specs.declared.cnf.Cnf.{Cnf}
+use Rattle.ygg_dimacs.specs.declared.flaw.Flaw.{Flaw}
 use Rattle.ygg_dimacs.specs.declared.flaw.Flaw.TheVariants.{Header, Number, Count}
 use Rattle.ygg_dimacs.specs.declared.header.Header as head
 use Rattle.ygg_dimacs.specs.Flaws.{refusal_at}

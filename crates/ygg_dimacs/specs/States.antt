@@ -1,5 +1,5 @@
 -- What has been read of the clauses of a text, and how words change it.
-use Rattle.std.specs.Prelude.{◌≡◌, ◌≤◌, List, ◌++◌, Err, Ok, Result}
+use Rattle.std.specs.Prelude.{◌≡◌, ℕ, ◌≤◌, List, [], ◌∷◌, ◌++◌, Err, Ok, Result}
 use Rattle.ygg_base.specs.declared.failure.Refusal.{Refusal}
 use Rattle.ygg_base.specs.declared.failure.Refuse.{Refuse}
 use Rattle.ygg_base.specs.declared.failure.Refuse.TheVariants.{At, Memory}

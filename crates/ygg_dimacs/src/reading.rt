@@ -177,11 +177,10 @@ fn read_text(alloc: Global, text: &[u8]) -> Result<Cnf, Refuse>
 
 /// The clauses that a text is. Words stand between spaces, tabs, carriage returns and line feeds. Lines of blanks and lines that begin with `c` are passed
 /// over; a line that begins with `%` isn't read, and neither is what follows it. The first other line is `p cnf V C`, with at most 4,000,000 variables and
-/// 4,294,967,295 clauses; then come numbers of 1 to 10 digits with or without `-` before them, up to V, of which 0 ends a clause. A clause keeps a literal
-/// once.
+/// 4,294,967,295 clauses; then come numbers of 1 to 10 digits with or without `-` before them, up to V, of which 0 ends a clause. A clause keeps a literal once.
 ///
-/// A text that is none is refused at its first place that is at fault: 61 at the first byte of the first line that counts and isn't the header, or at the end
-/// of what is read; 62 at a word that is no such number, while fewer than C clauses have ended; 63 at the first word after them, or at the end of what is
+/// A text that is none is refused at its first place that is at fault: 61 at the first byte of the first line that counts and isn't the header, or at the end of
+/// what is read; 62 at a word that is no such number, while fewer than C clauses have ended; 63 at the first word after them, or at the end of what is
 /// read where fewer have ended. The other error is out of memory. Its time grows with the text's length.
 pub fn read_cnf(alloc: Global, text: &[u8]) -> Result<Cnf, Refuse>
     requires { length text.now ≤ 67108864 }

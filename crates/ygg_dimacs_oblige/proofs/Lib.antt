@@ -1,2 +1,1 @@
-mod Placed
-mod Sites
+mod Naming

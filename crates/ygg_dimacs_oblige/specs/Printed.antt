@@ -7,6 +7,7 @@ use Rattle.ygg_rules.specs.declared.rule.RuleKind.{RuleKind}
 use Rattle.ygg_meaning.specs.Obligations.{Schedule}
 use Rattle.ygg_histories.specs.Claims.{Claim, ClaimViolated, claims_of}
 use Rattle.ygg_bank.specs.declared.node.Id.{Id}
+use Rattle.ygg_bank.specs.declared.node.Node.{Node}
 use Rattle.ygg_cnf.specs.declared.lit.Lit.{Lit}
 use Rattle.ygg_cnf.specs.Literals.{SatisfiesAll}
 use Rattle.ygg_gates.specs.Groups.{translated}

@@ -6,7 +6,7 @@ ghost use Rattle.ygg_bank.specs.Nodes.{HasWidth};
 ghost use Rattle.ygg_gates.specs.Groups.{translated};
 ghost use Rattle.ygg_report.specs.Putting.{Puts, IsCutOf};
 ghost use Rattle.ygg_oblige.specs.Obligations.{names_in};
-ghost use Rattle.ygg_pieces.specs.Pieces.{FinishesWith};
+ghost use Rattle.ygg_dimacs_solve.specs.Pieces.{FinishesWith};
 ghost use Rattle.ygg_dimacs_oblige.specs.Printed.{greatest_in, greatest_of, clauses_text, Printed, IsNamed, IsPlace};
 
 use std::alloc::Global;

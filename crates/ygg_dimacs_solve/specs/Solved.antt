@@ -1,5 +1,6 @@
 -- What solving clauses comes to, and what is printed of it.
 use Rattle.std.specs.Prelude.{◌≡◌, ◌⊎◌, ℕ, zero, suc, ◌≤◌, Bool, not, List, [], ◌∷◌, ◌++◌, length, codes}
+use Rattle.std.specs.List.{flat_map}
 use Rattle.ygg_base.specs.declared.status.Status.{Status}
 use Rattle.ygg_base.specs.declared.status.Status.TheVariants.{Done, Undecided}
 use Rattle.ygg_cnf.specs.declared.lit.Lit.{Lit}
@@ -7,8 +8,7 @@ use Rattle.ygg_cnf.specs.declared.log.Step.{Step}
 use Rattle.ygg_cnf.specs.Literals.{SatisfiesAll}
 use Rattle.ygg_cnf.specs.Logs.{Refutes, SpentLog}
 use Rattle.ygg_report.specs.Lines.{undecided_line}
-use Rattle.ygg_log_text.specs.Lines.{literal_words}
-use Rattle.ygg_pieces.specs.Pieces.{log_lines}
+use Rattle.ygg_log_text.specs.Lines.{literal_words, step_line}
 use Rattle.ygg_dimacs.specs.declared.cnf.Cnf.{Cnf}
 
 -- the literal of a variable that is true under these truth values
@@ -23,6 +23,10 @@ true_literals value (suc n) = true_literals value n ++ true_literal value (suc n
 -- that clauses are satisfiable, with the true literals of so many variables
 abbrev pub satisfiable_text : (ℕ → Bool) → ℕ → List ℕ
 satisfiable_text value variables = codes "satisfiable\nv " ++ literal_words (true_literals value variables) ++ codes "0\n"
+
+-- the lines of a log
+abbrev pub log_lines : List Step → List ℕ
+log_lines log = flat_map step_line log
 
 -- that clauses are unsatisfiable, with the log
 abbrev pub unsatisfiable_text : List Step → List ℕ

@@ -1,20 +1,75 @@
-//! What is found of clauses, and clauses themselves, put piece by piece.
+//! Long texts put piece by piece: bytes are kept until there are enough of them, and then put.
 
 ghost use Rattle.std.specs.Prelude.{◌≤◌, [], ◌∷◌};
 ghost use Rattle.ygg_base.specs.Outside.{Rose};
 ghost use Rattle.ygg_cnf.specs.Literals.{truth_of};
-ghost use Rattle.ygg_log_text.specs.Lines.{literal_words, clause_line};
+ghost use Rattle.ygg_log_text.specs.Lines.{literal_words, clause_line, step_line};
 ghost use Rattle.ygg_dimacs.specs.Printing.{clause_lines, cnf_text};
 ghost use Rattle.ygg_dimacs.specs.Reading.{cnf};
-ghost use Rattle.ygg_pieces.specs.Pieces.{Passes, Finishes, FinishesWith};
-ghost use Rattle.ygg_dimacs_solve.specs.Solved.{true_literal, true_literals, satisfiable_text, unsatisfiable_text};
+ghost use Rattle.ygg_dimacs_solve.specs.Pieces.{Passes, Finishes, FinishesWith};
+ghost use Rattle.ygg_dimacs_solve.specs.Solved.{true_literal, true_literals, log_lines, satisfiable_text, unsatisfiable_text};
 
 use std::alloc::Global;
 use ygg_base::{Sink, Status, Text};
 use ygg_cnf::{Assignment, Clause, Lit, Step, truth};
 use ygg_dimacs::put_header;
-use ygg_log_text::{put_clause, put_literals};
-use ygg_pieces::{finish, pass, pass_log};
+use ygg_log_text::{put_clause, put_literals, put_step};
+use ygg_report::put;
+
+/// How many bytes are kept at most before they are put.
+const PIECE: usize = 65_536;
+
+/// Puts what is kept, where that is a whole piece.
+fn pass<K: Sink>(alloc: Global, sink: &mut K, kept: &mut Text) -> Result<(), Status>
+    ensures told { Passes (K.taken sink.old) kept.old (K.taken sink.new) kept.new [] (Rose (K.faults sink.old) (K.faults sink.new)) result }
+    ensures later { K.faults sink.old ≤ K.faults sink.new }
+{
+    if kept.len() < PIECE {
+        return Ok(());
+    }
+    match put(sink, kept.as_slice()) {
+        Ok(()) => {
+            *kept = Text::new(alloc);
+            Ok(())
+        }
+        Err(status) => Err(status),
+    }
+}
+
+/// Goes on with the line of a step of a log.
+fn pass_step<K: Sink>(
+    alloc: Global,
+    sink: &mut K,
+    kept: &mut Text,
+    step: &Step,
+) -> Result<(), Status>
+    ensures told { Passes (K.taken sink.old) kept.old (K.taken sink.new) kept.new (step_line step.now) (Rose (K.faults sink.old) (K.faults sink.new)) result }
+    ensures later { K.faults sink.old ≤ K.faults sink.new }
+{
+    let Ok(()) = put_step(kept, step) else {
+        return Err(Status::NoMemory);
+    };
+    pass(alloc, sink, kept)
+}
+
+/// Goes on with the lines of a log.
+fn pass_log<K: Sink>(
+    alloc: Global,
+    sink: &mut K,
+    kept: &mut Text,
+    log: &[Step],
+) -> Result<(), Status>
+    ensures told { Passes (K.taken sink.old) kept.old (K.taken sink.new) kept.new (log_lines log.now) (Rose (K.faults sink.old) (K.faults sink.new)) result }
+    ensures later { K.faults sink.old ≤ K.faults sink.new }
+{
+    for step in log {
+        match pass_step(alloc, sink, kept, step) {
+            Ok(()) => {}
+            Err(status) => return Err(status),
+        }
+    }
+    Ok(())
+}
 
 /// Goes on with the line of a clause.
 fn pass_clause<K: Sink>(
@@ -23,8 +78,7 @@ fn pass_clause<K: Sink>(
     kept: &mut Text,
     clause: &Clause,
 ) -> Result<(), Status>
-    ensures told { Passes (K.taken sink.old) kept.old (K.taken sink.new) kept.new (clause_line clause.now)
-        (Rose (K.faults sink.old) (K.faults sink.new)) result }
+    ensures told { Passes (K.taken sink.old) kept.old (K.taken sink.new) kept.new (clause_line clause.now) (Rose (K.faults sink.old) (K.faults sink.new)) result }
     ensures later { K.faults sink.old ≤ K.faults sink.new }
 {
     let Ok(()) = put_clause(kept, clause) else {
@@ -40,8 +94,7 @@ fn pass_clauses<K: Sink>(
     kept: &mut Text,
     clauses: &[Clause],
 ) -> Result<(), Status>
-    ensures told { Passes (K.taken sink.old) kept.old (K.taken sink.new) kept.new (clause_lines clauses.now)
-        (Rose (K.faults sink.old) (K.faults sink.new)) result }
+    ensures told { Passes (K.taken sink.old) kept.old (K.taken sink.new) kept.new (clause_lines clauses.now) (Rose (K.faults sink.old) (K.faults sink.new)) result }
     ensures later { K.faults sink.old ≤ K.faults sink.new }
 {
     for clause in clauses {
@@ -96,6 +149,17 @@ fn pass_values<K: Sink>(
     Ok(())
 }
 
+/// Puts what is kept, and then bytes.
+fn finish<K: Sink>(sink: &mut K, kept: &mut Text, bytes: &[u8]) -> Result<(), Status>
+    ensures told { Finishes (K.taken sink.old) kept.old (K.taken sink.new) bytes.now (Rose (K.faults sink.old) (K.faults sink.new)) result }
+    ensures later { K.faults sink.old ≤ K.faults sink.new }
+{
+    let Ok(()) = kept.extend_from_slice(bytes) else {
+        return Err(Status::NoMemory);
+    };
+    put(sink, kept.as_slice())
+}
+
 /// Puts that clauses are satisfiable, with the true literals of so many variables.
 fn pass_satisfiable<K: Sink>(
     alloc: Global,
@@ -137,8 +201,7 @@ fn pass_cnf<K: Sink>(
     variables: u64,
     clauses: &[Clause],
 ) -> Result<(), Status>
-    ensures told { Finishes (K.taken sink.old) [] (K.taken sink.new) (cnf_text (cnf variables clauses.now))
-        (Rose (K.faults sink.old) (K.faults sink.new)) result }
+    ensures told { Finishes (K.taken sink.old) [] (K.taken sink.new) (cnf_text (cnf variables clauses.now)) (Rose (K.faults sink.old) (K.faults sink.new)) result }
     ensures later { K.faults sink.old ≤ K.faults sink.new }
 {
     let mut kept = Text::new(alloc);
@@ -170,8 +233,7 @@ pub fn put_satisfiable<K: Sink>(
 
 /// Puts that clauses are unsatisfiable, with the log, and says with which status the command ends.
 pub fn put_unsatisfiable<K: Sink>(alloc: Global, sink: &mut K, log: &[Step]) -> Status
-    ensures told { FinishesWith Status.Done (K.taken sink.old) (K.taken sink.new) (unsatisfiable_text log.now)
-        (Rose (K.faults sink.old) (K.faults sink.new)) result }
+    ensures told { FinishesWith Status.Done (K.taken sink.old) (K.taken sink.new) (unsatisfiable_text log.now) (Rose (K.faults sink.old) (K.faults sink.new)) result }
     ensures later { K.faults sink.old ≤ K.faults sink.new }
 {
     match pass_unsatisfiable(alloc, sink, log) {
@@ -187,8 +249,7 @@ pub fn put_clauses<K: Sink>(
     variables: u64,
     clauses: &[Clause],
 ) -> Status
-    ensures told { FinishesWith Status.Done (K.taken sink.old) (K.taken sink.new) (cnf_text (cnf variables clauses.now))
-        (Rose (K.faults sink.old) (K.faults sink.new)) result }
+    ensures told { FinishesWith Status.Done (K.taken sink.old) (K.taken sink.new) (cnf_text (cnf variables clauses.now)) (Rose (K.faults sink.old) (K.faults sink.new)) result }
     ensures later { K.faults sink.old ≤ K.faults sink.new }
 {
     match pass_cnf(alloc, sink, variables, clauses) {

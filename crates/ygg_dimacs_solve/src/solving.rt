@@ -5,7 +5,7 @@ ghost use Rattle.ygg_base.specs.Outside.{Rose};
 ghost use Rattle.ygg_report.specs.Putting.{Puts, IsCutOf};
 ghost use Rattle.ygg_solver.specs.Answers.{IsNumbered};
 ghost use Rattle.ygg_dimacs_solve.specs.Solved.{Solved};
-ghost use Rattle.ygg_pieces.specs.Pieces.{FinishesWith};
+ghost use Rattle.ygg_dimacs_solve.specs.Pieces.{FinishesWith};
 ghost use Rattle.ygg_report.specs.Lines.{undecided_line};
 
 use crate::pieces::{put_satisfiable, put_unsatisfiable};
@@ -26,9 +26,9 @@ fn put_undecided<K: Sink>(alloc: Global, sink: &mut K) -> Status
     }
 }
 
-/// Solves clauses within a budget of learned clauses, and puts what comes of it: `satisfiable` and the true literal of each variable, or `unsatisfiable` and
-/// the log that refutes the clauses, with status 0; or `undecided` with status 3, where the whole budget was spent. Long texts are put piece by piece. The
-/// other ends are a fault of the sink and out of memory, after which a front of such a text may have been put.
+/// Solves clauses within a budget of learned clauses, and puts what comes of it: `satisfiable` and the true literal of each variable, or `unsatisfiable` and the
+/// log that refutes the clauses, with status 0; or `undecided` with status 3, where the whole budget was spent. Long texts are put piece by piece. The other ends are a
+/// fault of the sink and out of memory, after which a front of such a text may have been put.
 pub fn solve_cnf<K: Sink>(alloc: Global, cnf: &Cnf, budget: u32, sink: &mut K) -> Status
     requires budget { 0 < budget }
     requires numbered { IsNumbered cnf.now.clauses }

@@ -40,11 +40,11 @@ layer_before (x ∷ ls) (suc n) l h g = layer_before ls n l h g
 
 module _ (past : Bool) (file : File) (kept : list_all layer_keeps file.layers ≡ true) (typed : IsTyped file) where
   -- a disk of a typed file has no type errors
-  pub disk_fine : none (disk_errors file.disk) ≡ true
+  disk_fine : none (disk_errors file.disk) ≡ true
   disk_fine = first_of (none (disk_errors file.disk)) _ (none_listed (type_errors_of file) typed)
 
   -- a layer as the one above sees it
-  pub layer_sees : (place : ℕ) (m : Layer) → slice_get file.layers place ≡ Some m → Sees (closed_at file place m) (signatures_of m.operations)
+  layer_sees : (place : ℕ) (m : Layer) → slice_get file.layers place ≡ Some m → Sees (closed_at file place m) (signatures_of m.operations)
   layer_sees place m here =
       let at = layer_typing file kept typed place m here in
       let scope = layer_scope (with_definitions file.defs []) at.below m in
@@ -56,7 +56,7 @@ module _ (past : Bool) (file : File) (kept : list_all layer_keeps file.layers �
             (find_operation m.operations m.crash [] (weights_of file.defs) scope p.operations p.operations_kept name o found).arguments) ∙ fit;
       }
 
-  pub layer_answers : (place : ℕ) (m : Layer) → slice_get file.layers place ≡ Some m → SpecAnswers (closed_at file place m)
+  layer_answers : (place : ℕ) (m : Layer) → slice_get file.layers place ≡ Some m → SpecAnswers (closed_at file place m)
   layer_answers place m here =
       let at = layer_typing file kept typed place m here in
       spec_answers (functions_of file.defs) (with_definitions file.defs []) at.below (weights_of file.defs) m (closed_at file place m).low

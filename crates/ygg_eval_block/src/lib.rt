@@ -9,7 +9,6 @@ mod run;
 mod runner;
 mod statements;
 
-pub use below::place_of;
 pub use ending::{give_back, names_of};
 pub use run::{Ended, run_body};
 pub use runner::Runner;

@@ -1,7 +1,3 @@
+pub mod Files
+pub mod Fits
 pub mod Noting
-pub mod Calls
-pub mod OnDisk
-pub mod OnSpec
-pub mod Watching
-pub mod Spaces
-pub mod Fronting

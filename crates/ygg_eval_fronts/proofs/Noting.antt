@@ -27,9 +27,9 @@ use Rattle.std.proofs.Common.{
 use Rattle.std.proofs.lemmas.List.{append-nil}
 use Rattle.ygg_syntax.specs.declared.tree.Block.{Block}
 use Rattle.ygg_meaning.specs.Environments.{Name, Env}
-use Rattle.ygg_meaning.specs.Machine.{State}
+use Rattle.ygg_meaning.specs.Machine.{Picks, State}
 use Rattle.ygg_meaning.specs.Obligations.{Halt}
-use Rattle.ygg_meaning.specs.Progress.{Eval, Question}
+use Rattle.ygg_meaning.specs.Progress.{Eval, Question, Answer}
 use Rattle.ygg_meaning.specs.Refines.{Below}
 use Rattle.ygg_direct.specs.Direct.{Handled, Event, Reached, Chained, Alike, seen, seen_run, direct_run}
 use Rattle.ygg_direct.specs.RunPlaces.{base_at, asked_in}
@@ -81,7 +81,6 @@ module _ (G : Below) (bits stops last : ℕ → Bool) where
   pub record IsCut (from : Noted) (es : List (Event (State Env))) (end : State Env) (stop : Halt) (c : Cut) : Type 0 where
     pub stop_is : c.stop ≡ halt stop.within (from.asked + stop.event)
     pub left : base_at (cut_on G last) (lose_on G last) stop.within (asked_in es) stop.event end ≡ Some c.base
-    pub shaped : c.shaped ≡ true
     pub picks : c.picks ≡ from.picks
         ++ stopped_picks (takes_on G bits) (cut_takes_on G last) (lose_takes_on G last) stop.within es stop.event end
 
@@ -96,8 +95,7 @@ module _ (G : Below) (bits stops last : ℕ → Bool) where
   stays_fallen [] from to ch c h = ap (λ (z : Noted). z.fallen) (sym ch) ∙ h
   stays_fallen (e ∷ es) from to ch c h =
       stays_fallen es e.after to ch.2 c
-      (sym (ap (λ (z : Noted). z.fallen) (after_is e from ch.1))
-      ∙ ap (λ o. first_of G bits stops last o (falls_by G bits stops last e.place e.question from)) h)
+      (sym (ap (λ (z : Noted). z.fallen) (after_is e from ch.1)) ∙ ap (λ o. first_of G bits stops last o (falls_by G bits stops last e.place e.question from)) h)
 
   -- what the state after a question says of power
   fallen_after : (e : Event Noted) (from : Noted) → from.fallen ≡ None → N e.place e.question from ≡ record { answer = e.answer; to = e.after } →
@@ -115,7 +113,6 @@ module _ (G : Below) (bits stops last : ℕ → Bool) where
   goes_on from next e es end (Some stop) (Some c) a p h = record {
     stop_is = h.stop_is ∙ ap (halt stop.within) (let k = a in omega (arith, k));
     left = h.left;
-    shaped = h.shaped;
     picks = h.picks ∙ ap (λ ps. ps ++ stopped_picks (takes_on G bits) (cut_takes_on G last) (lose_takes_on G last) stop.within es stop.event end) p
         ∙ append_assoc from.picks (takes_on G bits e.place e.question e.before)
         (stopped_picks (takes_on G bits) (cut_takes_on G last) (lose_takes_on G last) stop.within es stop.event end);
@@ -131,9 +128,11 @@ module _ (G : Below) (bits stops last : ℕ → Bool) where
     where
       here : (b : Bool) → Fails from [] from.at (if b then Some (halt false 0) else None)
           (if b then Some (falls_there false (lose_on G last from.at) (lose_takes_on G last from.at) from) else None)
-      here true = record { stop_is = ap (halt false) (omega arith); left = refl; shaped = refl; picks = refl }
+      here true = record { stop_is = ap (halt false) (omega arith); left = refl; picks = refl }
       here false = refl
-  fails (e ∷ es) from to place c h = cases (stops (before_at e.place)) (stops (within_at e.place)) refl refl (λ f. fails es e.after to place c.2 f)
+  fails (e ∷ es) from to place c h =
+      subst (λ (z : Noted). Fails from (map plain (e ∷ es)) to.at (first_stop stops (map plain (e ∷ es)) place) (fallen_at_end G bits stops last place to)) refl
+      (cases (stops (before_at e.place)) (stops (within_at e.place)) refl refl)
     where
       others : List (Event (State Env))
       others = map plain es
@@ -152,17 +151,14 @@ module _ (G : Below) (bits stops last : ℕ → Bool) where
           ∙ ap (λ x. if b then Some (falls_there false (lose_on G last from.at) (lose_takes_on G last from.at) from) else
           (if x then Some (falls_there true (cut_on G last e.question from.at) (cut_takes_on G last e.question from.at) from) else None)) ew
 
-      ended : (f : Option Cut) → to.fallen ≡ f →
-          fallen_at_end G bits stops last place to ≡ first_of G bits stops last f (falls_before G bits stops last place to None)
+      ended : (f : Option Cut) → to.fallen ≡ f → fallen_at_end G bits stops last place to ≡ first_of G bits stops last f (falls_before G bits stops last place to None)
       ended f e = ap (λ o. first_of G bits stops last o (falls_before G bits stops last place to None)) e
 
       cases : (b w : Bool) → stops (before_at e.place) ≡ b → stops (within_at e.place) ≡ w →
-          (e.after.fallen ≡ None → Fails e.after others to.at (first_stop stops others place) (fallen_at_end G bits stops last place to)) →
           Fails from (plain e ∷ others) to.at
-          (if stops (before_at e.place) then Some (halt false 0)
-          else (if stops (within_at e.place) then Some (halt true 0) else further (first_stop stops others place)))
+          (if stops (before_at e.place) then Some (halt false 0) else (if stops (within_at e.place) then Some (halt true 0) else further (first_stop stops others place)))
           (fallen_at_end G bits stops last place to)
-      cases b w eb ew again =
+      cases b w eb ew =
           subst (λ x. Fails from (plain e ∷ others) to.at
           (if x then Some (halt false 0) else (if stops (within_at e.place) then Some (halt true 0) else further (first_stop stops others place)))
           (fallen_at_end G bits stops last place to)) (sym eb)
@@ -182,7 +178,6 @@ module _ (G : Below) (bits stops last : ℕ → Bool) where
               (record {
                 stop_is = ap (halt false) (omega arith);
                 left = ap (λ z. Some (lose_on G last z)) same;
-                shaped = refl;
                 picks = ap (λ z. from.picks ++ lose_takes_on G last z) (sym same);
               })
           by_bits false true f =
@@ -191,14 +186,13 @@ module _ (G : Below) (bits stops last : ℕ → Bool) where
               (record {
                 stop_is = ap (halt true) (omega arith);
                 left = ap (λ z. Some (cut_on G last e.question z)) same;
-                shaped = refl;
                 picks = ap (λ z. from.picks ++ cut_takes_on G last e.question z) (sym same);
               })
           by_bits false false f =
               goes_on from e.after (plain e) others to.at (first_stop stops others place) (fallen_at_end G bits stops last place to)
               (sym (ap (λ (z : Noted). z.asked) (after_is e from c.1)))
               (sym (ap (λ (z : Noted). z.picks) (after_is e from c.1)) ∙ ap (λ z. from.picks ++ takes_on G bits e.place e.question z) (sym same))
-              (again f)
+              (fails es e.after to place c.2 f)
 
   module _ (eval : Eval) (space : Name → ℕ) (b : Block) (env : Env) (z : Noted) where
     abbrev run : Reached Noted
@@ -223,6 +217,5 @@ module _ (G : Below) (bits stops last : ℕ → Bool) where
         Fails z r.events r.to (first_stop stops r.events place)
         (fallen_at_end G bits stops last place (direct_run eval space (notes_below G bits stops last) b env z).to)
     fails_noted place h =
-        subst (λ (r : Reached (State Env)).
-        Fails z r.events r.to (first_stop stops r.events place) (fallen_at_end G bits stops last place run.to)) (sym mirrored)
+        subst (λ (r : Reached (State Env)). Fails z r.events r.to (first_stop stops r.events place) (fallen_at_end G bits stops last place run.to)) (sym mirrored)
         (fails run.events z run.to place chained h)

@@ -1,7 +1,8 @@
 -- What a layer is specified over, as a machine that answers by place and notes what it takes.
-use Rattle.std.specs.Prelude.{◌≤◌, ℕ, suc, Bool, true, false, IsTrue, if◌then◌else◌, ◌++◌, length, Option, Some, None}
+use Rattle.std.specs.Prelude.{◌≡◌, ◌≤◌, ℕ, suc, ◌+◌, Bool, true, IsTrue, if◌then◌else◌, List, ◌++◌, length, Option, Some, None}
 use Rattle.std.specs.List.{list_all}
 use Rattle.std.specs.Option.{option_map}
+use Rattle.ygg_value.specs.declared.row.Value.{Value}
 use Rattle.ygg_syntax.specs.declared.grammar.BlockKind.TheVariants.{Impl}
 use Rattle.ygg_syntax.specs.declared.tree.File.{File}
 use Rattle.ygg_type_rules.specs.Files.{IsTyped}
@@ -25,12 +26,10 @@ use Rattle.ygg_eval_fronts.specs.declared.below.BelowPlaces.{BelowPlaces}
 use Rattle.ygg_eval_fronts.specs.declared.below.BelowState.{BelowState}
 use Rattle.ygg_eval_fronts.specs.declared.below.Fallen.{Fallen}
 
--- where power fails in a run, what it leaves, whether the values of that are of their shapes, and the picks that were taken till then, with those of
--- the failure
+-- where power fails in a run, what it leaves, and the picks that were taken till then, with those of the failure
 pub record Cut : Type 0 where
   pub stop : Halt
   pub base : Env
-  pub shaped : Bool
   pub picks : Picks
 
 -- a state within a run: what has been taken, how many questions were asked, where power fails, and whether the values are of their shapes
@@ -47,7 +46,7 @@ failing o z = record { at = z.at; shaped = z.shaped; picks = z.picks; asked = z.
 
 -- power fails there
 abbrev pub falls_there : Bool → Env → Picks → Noted → Cut
-falls_there within base more z = record { stop = halt within z.asked; base = base; shaped = true; picks = z.picks ++ more }
+falls_there within base more z = record { stop = halt within z.asked; base = base; picks = z.picks ++ more }
 
 module _ (G : Below) (bits stops last : ℕ → Bool) where
   -- power fails between questions, where the stop before this place is set and it hasn't failed before
@@ -87,12 +86,7 @@ halt_of stop = halt stop.within stop.event
 
 -- what is left where power failed
 abbrev pub cut_of : File → ℕ → Fallen → Cut
-cut_of file number f = record {
-  stop = halt_of f.stop;
-  base = bind (variables_at file number) f.low;
-  shaped = values_fit (variables_at file number) f.low;
-  picks = f.picks;
-}
+cut_of file number f = record { stop = halt_of f.stop; base = bind (variables_at file number) f.low; picks = f.picks }
 
 -- a state of the machine
 abbrev pub noted_of : File → ℕ → BelowState → Noted

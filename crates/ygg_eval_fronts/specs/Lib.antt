@@ -1,4 +1,3 @@
 pub mod Belows
-pub mod Keeping
 pub mod Steps
 pub mod Fronts

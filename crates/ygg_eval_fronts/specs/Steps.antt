@@ -1,14 +1,12 @@
 -- Single steps of the machine below, on values.
-use Rattle.std.specs.Prelude.{◌≡◌, ℕ, Bool, false, IsTrue, List, [], ◌∷◌, ◌++◌, slice_get, Some, None}
+use Rattle.std.specs.Prelude.{◌≡◌, ℕ, Bool, IsTrue, List, ◌++◌, slice_get, Some}
 use Rattle.ygg_value.specs.declared.row.Value.{Value}
 use Rattle.ygg_syntax.specs.declared.tree.Block.{Block}
 use Rattle.ygg_syntax.specs.declared.tree.File.{File}
 use Rattle.ygg_syntax.specs.declared.tree.Layer.{Layer}
-use Rattle.ygg_disk.specs.declared.power.Power.{Power}
-use Rattle.ygg_disk.specs.declared.turn.Turn.{Turn}
-use Rattle.ygg_disk.specs.declared.turn.Turn.TheVariants as turn
-use Rattle.ygg_meaning.specs.Environments.{Env, bind}
-use Rattle.ygg_meaning.specs.Layer.{ClosedLayer}
+use Rattle.ygg_syntax.specs.declared.tree.Operation.{Operation}
+use Rattle.ygg_meaning.specs.Environments.{Env, Name, bind}
+use Rattle.ygg_meaning.specs.Layer.{ClosedLayer, operation_of}
 use Rattle.ygg_meaning.specs.Machine.{Picks, State, based}
 use Rattle.ygg_meaning.specs.Progress.{Answer, Question}
 use Rattle.ygg_meaning.specs.Shapes.{values_fit}
@@ -18,17 +16,7 @@ use Rattle.ygg_sym_below.proofs.SpecFalls.{crash_end, then_end}
 use Rattle.ygg_eval_lower.specs.Bodies.{arguments_in}
 use Rattle.ygg_eval_lower.specs.Layers.{below_at, closed_at, variables_at}
 use Rattle.ygg_eval_lower.specs.declared.body.Body.{Body}
-
--- power with one pick
-abbrev pub one_pick : Bool → Power
-one_pick pick = record { picks = record { bits = pick ∷ []; next = 0; past = false }; fuse = None; passed = 0; events = None }
-
--- what a call answered that ended whole
-abbrev pub whole_answer : Turn → Answer
-whole_answer turn.Done = None
-whole_answer (turn.Answer v) = Some v
-whole_answer turn.Down = None
-whole_answer turn.Failed = None
+use Rattle.ygg_eval_lower.specs.declared.body.Part.{Part}
 
 module _ (file : File) (number : ℕ) where
   -- the state that these values are
@@ -36,8 +24,8 @@ module _ (file : File) (number : ℕ) where
   state_of low = based (bind (variables_at file number) low)
 
   -- a question at a place was answered so
-  pub record Answered (bits : ℕ → Bool) (i : ℕ) (q : Question) (low : List Value) (given : Answer) (low' : List Value) (picks picks' : Picks) : Type 0 where
-    pub answer : given ≡ (handle_on (below_at file number) bits i q (state_of low)).answer
+  pub record Answered (bits : ℕ → Bool) (i : ℕ) (q : Question) (low : List Value) (answer : Answer) (low' : List Value) (picks picks' : Picks) : Type 0 where
+    pub answer : answer ≡ (handle_on (below_at file number) bits i q (state_of low)).answer
     pub to : state_of low' ≡ (handle_on (below_at file number) bits i q (state_of low)).to
     pub fit : IsTrue (values_fit (variables_at file number) low')
     pub taken : picks' ≡ picks ++ takes_on (below_at file number) bits i q (state_of low)
@@ -53,6 +41,17 @@ module _ (file : File) (number : ℕ) where
     pub base : bind (variables_at file number) fallen ≡ lose_on (below_at file number) last (state_of low)
     pub fit : IsTrue (values_fit (variables_at file number) fallen)
     pub taken : picks' ≡ picks ++ lose_takes_on (below_at file number) last (state_of low)
+
+-- the block of this part of the operation that a call names, with arguments that fit
+pub record IsBodyOf (file : File) (layer : ℕ) (part : Part) (name : Name) (args : List Value) (body : Body) : Type 0 where
+  pub layer_is : body.layer ≡ layer
+  pub part_is : body.part ≡ part
+  pub l : Layer
+  pub o : Operation
+  pub here : slice_get file.layers layer ≡ Some l
+  pub there : slice_get l.operations body.number ≡ Some o
+  pub found : operation_of (closed_at file layer l) name ≡ Some o
+  pub fit : IsTrue (values_fit o.arguments args)
 
 -- what the `crash` block of a layer leaves, with the picks that it takes
 pub record CrashedOf (m : ClosedLayer) (bits : ℕ → Bool) (low low' : List Value) (picks picks' : Picks) : Type 0 where

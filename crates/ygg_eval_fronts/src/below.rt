@@ -1,11 +1,10 @@
 //! What a layer is specified over, as a machine that answers by place and notes what it takes.
 
-ghost use Rattle.std.specs.Prelude.{◌≡◌, true, false, IfOk, OnOk, Some};
+ghost use Rattle.std.specs.Prelude.{◌≡◌, IfOk, OnOk, Some};
 ghost use Rattle.ygg_eval_choices.specs.Bits.{bits_in};
 ghost use Rattle.ygg_eval_fronts.specs.Belows.{
   below_meaning,
   failing,
-  fallen_at_end,
   falls_by,
   falls_there,
   first_of,
@@ -20,7 +19,7 @@ ghost use Rattle.ygg_fronts.specs.Fronts.{cut_on, cut_takes_on, lose_on, lose_ta
 ghost use Rattle.ygg_meaning.specs.Progress.{Call};
 
 use crate::stops::{stops_before, stops_within};
-use crate::{disk, losing, spec};
+use crate::{disk, spec};
 use std::alloc::Global;
 use ygg_base::{Bits, Text};
 use ygg_eval_choices::{Choices, choices_room};
@@ -64,6 +63,17 @@ pub struct BelowPlaces<'a> {
     pub bits: PlacedBits<'a>,
 }
 
+/// Equal picks.
+fn copy_picks(alloc: Global, picks: &[bool]) -> Result<Bits, NoMemory>
+    ensures { IfOk result (λ copy. copy ≡ picks.now) }
+{
+    let mut copy = Bits::new(alloc);
+    for pick in picks {
+        copy.push(*pick)?;
+    }
+    Ok(copy)
+}
+
 impl BelowPlaces<'_> {
     /// Power fails within a call.
     fn cut(
@@ -73,8 +83,8 @@ impl BelowPlaces<'_> {
         args: &Values,
         state: &mut BelowState,
     ) -> Result<(), NoMemory>
-        requires { CanAnswer (below_meaning self.now) (Call name.now args.now) (noted_of self.now.typed.now.file self.now.number state.old) }
-        ensures { OnOk result (noted_of self.now.typed.now.file self.now.number state.new
+        requires can { CanAnswer (below_meaning self.now) (Call name.now args.now) (noted_of self.now.typed.now.file self.now.number state.old) }
+        ensures cut { OnOk result (noted_of self.now.typed.now.file self.now.number state.new
             ≡ failing (Some (falls_there true
             (cut_on (below_at self.now.typed.now.file self.now.number) (bits_in self.now.bits.last) (Call name.now args.now)
             (noted_of self.now.typed.now.file self.now.number state.old).at)
@@ -82,26 +92,41 @@ impl BelowPlaces<'_> {
             (noted_of self.now.typed.now.file self.now.number state.old).at)
             (noted_of self.now.typed.now.file self.now.number state.old))) (noted_of self.now.typed.now.file self.now.number state.old)) }
     {
-        let mut picks = state.picks.copy(alloc)?;
-        let low = losing::cut(
-            alloc,
-            self.typed,
-            self.number,
-            name,
-            args,
-            &state.low,
-            self.bits.last,
-            &mut picks,
-        )?;
+        let mut picks = copy_picks(alloc, state.picks.as_slice())?;
+        let low = if self.number == 0 {
+            disk::cut(
+                alloc,
+                self.typed,
+                name,
+                args,
+                self.bits.last,
+                &state.low,
+                &mut picks,
+            )?
+        } else {
+            let mut low = state.low.copy(alloc)?;
+            let layer = self.number - 1;
+            spec::cut(
+                alloc,
+                self.typed,
+                layer,
+                name,
+                args,
+                self.bits.last,
+                &mut low,
+                &mut picks,
+            )?;
+            low
+        };
         self.falls(true, low, picks, state);
         Ok(())
     }
 
     /// Power fails between calls.
-    fn lose(&self, alloc: Global, state: &mut BelowState) -> Result<(), NoMemory>
+    pub fn lose(&self, alloc: Global, state: &mut BelowState) -> Result<(), NoMemory>
         requires serves { Stands self.now.typed.now.file self.now.number }
         requires good { IsGood (below_at self.now.typed.now.file self.now.number) (noted_of self.now.typed.now.file self.now.number state.old) }
-        ensures { OnOk result (noted_of self.now.typed.now.file self.now.number state.new
+        ensures lost { OnOk result (noted_of self.now.typed.now.file self.now.number state.new
             ≡ failing (Some (falls_there false
             (lose_on (below_at self.now.typed.now.file self.now.number) (bits_in self.now.bits.last)
             (noted_of self.now.typed.now.file self.now.number state.old).at)
@@ -109,24 +134,29 @@ impl BelowPlaces<'_> {
             (noted_of self.now.typed.now.file self.now.number state.old).at)
             (noted_of self.now.typed.now.file self.now.number state.old))) (noted_of self.now.typed.now.file self.now.number state.old)) }
     {
-        let mut picks = state.picks.copy(alloc)?;
-        let low = losing::lose(
-            alloc,
-            self.typed,
-            self.number,
-            &state.low,
-            self.bits.last,
-            &mut picks,
-        )?;
+        let mut picks = copy_picks(alloc, state.picks.as_slice())?;
+        let low = if self.number == 0 {
+            disk::lose(alloc, self.typed, self.bits.last, &state.low, &mut picks)?
+        } else {
+            let mut low = state.low.copy(alloc)?;
+            let layer = self.number - 1;
+            spec::lose(
+                alloc,
+                self.typed,
+                layer,
+                self.bits.last,
+                &mut low,
+                &mut picks,
+            )?;
+            low
+        };
         self.falls(false, low, picks, state);
         Ok(())
     }
 
     /// Power has failed after as many questions as were asked.
     fn falls(&self, within: bool, low: Values, picks: Bits, state: &mut BelowState)
-        ensures { state.new ≡ record state.old {
-          fallen = Some (record { stop = record { within = within; event = state.old.asked }; low = low; picks = picks });
-        } }
+        ensures { state.new ≡ record state.old { fallen = Some (record { stop = record { within = within; event = state.old.asked }; low = low; picks = picks }) } }
     {
         let stop = Stop {
             within,
@@ -144,8 +174,8 @@ impl BelowPlaces<'_> {
         args: &Values,
         state: &mut BelowState,
     ) -> Result<(), NoMemory>
-        requires { CanAnswer (below_meaning self.now) (Call name.now args.now) (noted_of self.now.typed.now.file self.now.number state.old) }
-        ensures { OnOk result (noted_of self.now.typed.now.file self.now.number state.new
+        requires can { CanAnswer (below_meaning self.now) (Call name.now args.now) (noted_of self.now.typed.now.file self.now.number state.old) }
+        ensures watched { OnOk result (noted_of self.now.typed.now.file self.now.number state.new
             ≡ failing (first_of (below_at self.now.typed.now.file self.now.number) (bits_in self.now.bits.run) (bits_in self.now.bits.stops)
             (bits_in self.now.bits.last) (noted_of self.now.typed.now.file self.now.number state.old).fallen
             (falls_by (below_at self.now.typed.now.file self.now.number) (bits_in self.now.bits.run) (bits_in self.now.bits.stops)
@@ -155,32 +185,11 @@ impl BelowPlaces<'_> {
         if state.fallen.is_some() {
             return Ok(());
         }
-        let before = stops_before(self.bits.stops, place)?;
-        if before {
+        if stops_before(self.bits.stops, place)? {
             return self.lose(alloc, state);
         }
-        let within = stops_within(self.bits.stops, place)?;
-        if within {
+        if stops_within(self.bits.stops, place)? {
             return self.cut(alloc, name, args, state);
-        }
-        Ok(())
-    }
-
-    /// Power fails after all questions of a run, where the stop at the place after them is set and it hasn't failed before.
-    pub fn end(&self, alloc: Global, place: u64, state: &mut BelowState) -> Result<(), NoMemory>
-        requires serves { Stands self.now.typed.now.file self.now.number }
-        requires good { IsGood (below_at self.now.typed.now.file self.now.number) (noted_of self.now.typed.now.file self.now.number state.old) }
-        ensures { OnOk result (noted_of self.now.typed.now.file self.now.number state.new
-            ≡ failing (fallen_at_end (below_at self.now.typed.now.file self.now.number) (bits_in self.now.bits.run) (bits_in self.now.bits.stops)
-            (bits_in self.now.bits.last) place (noted_of self.now.typed.now.file self.now.number state.old))
-            (noted_of self.now.typed.now.file self.now.number state.old)) }
-    {
-        if state.fallen.is_some() {
-            return Ok(());
-        }
-        let before = stops_before(self.bits.stops, place)?;
-        if before {
-            return self.lose(alloc, state);
         }
         Ok(())
     }
@@ -194,7 +203,7 @@ impl BelowPlaces<'_> {
         args: &Values,
         state: &mut BelowState,
     ) -> Result<Option<Value>, NoMemory>
-        requires { CanAnswer (below_meaning self.now) (Call name.now args.now) (noted_of self.now.typed.now.file self.now.number state.old) }
+        requires can { CanAnswer (below_meaning self.now) (Call name.now args.now) (noted_of self.now.typed.now.file self.now.number state.old) }
         ensures answered { IfOk result (λ answer. Answered self.now.typed.now.file self.now.number (bits_in self.now.bits.run) place
             (Call name.now args.now) state.old.low answer state.new.low state.old.picks state.new.picks) }
         ensures asked { OnOk result (state.new.asked ≡ state.old.asked) }
@@ -215,7 +224,7 @@ impl BelowPlaces<'_> {
         spec::call(
             alloc,
             self.typed,
-            self.number,
+            self.number - 1,
             name,
             args,
             self.bits.run,
@@ -228,7 +237,7 @@ impl BelowPlaces<'_> {
 
 impl Places for BelowPlaces<'_> {
     ghost use Rattle.ygg_eval_fronts.specs.Belows.{below_meaning};
-    ghost use Rattle.ygg_eval_fronts.specs.Keeping.{belows_fit};
+    ghost use Rattle.ygg_eval_fronts.proofs.Fits.{belows_fit};
 
     type State = BelowState;
 

@@ -1,7 +1,8 @@
 //! Runs of blocks by place, to their end or to where power fails.
 
-ghost use Rattle.std.specs.Prelude.{◌≡◌, IfOk, IsTrue};
-ghost use Rattle.ygg_eval_fronts.specs.Belows.{Stands};
+ghost use Rattle.std.specs.Prelude.{◌≡◌, IfOk, OnOk, IsTrue};
+ghost use Rattle.ygg_eval_choices.specs.Bits.{bits_in};
+ghost use Rattle.ygg_eval_fronts.specs.Belows.{failing, fallen_at_end, noted_of, IsGood, Stands};
 ghost use Rattle.ygg_eval_fronts.specs.Fronts.{BodyFronted};
 ghost use Rattle.ygg_eval_lower.specs.Bodies.{IsBlock, IsRunnable, kind_of};
 ghost use Rattle.ygg_eval_lower.specs.Layers.{below_at, variables_at};
@@ -12,6 +13,7 @@ ghost use Rattle.ygg_syntax.specs.declared.tree.Block.{Block};
 ghost use Rattle.ygg_syntax.specs.declared.tree.Layer.{Layer};
 
 use crate::below::{BelowPlaces, BelowState, Fallen, PlacedBits};
+use crate::stops::stops_before;
 use std::alloc::Global;
 use ygg_base::Bits;
 use ygg_eval_lower::{Body, block_of};
@@ -57,9 +59,8 @@ pub fn run_fronts(
         asked: 0,
         fallen: None,
     };
-    let last = places(&machine, body)?;
     let answer = run_places(alloc, typed, body, args, values, &machine, &mut state)?;
-    machine.end(alloc, last, &mut state)?;
+    end(alloc, &machine, body, &mut state)?;
     let BelowState {
         low,
         picks,
@@ -74,18 +75,35 @@ pub fn run_fronts(
     })
 }
 
-/// How many places a block of a layer has on the machine below it. Its only error is out of memory, where they are 2^64 or more.
-fn places(machine: &BelowPlaces<'_>, body: Body) -> Result<u64, NoMemory>
+/// Power fails after all questions of a block, where the stop there is set and it hasn't failed before.
+fn end(
+    alloc: Global,
+    machine: &BelowPlaces<'_>,
+    body: Body,
+    state: &mut BelowState,
+) -> Result<(), NoMemory>
     requires there { (l : Layer) × (b : Block) × IsBlock machine.now.typed.now.file body l b }
+    requires number { machine.now.number ≡ body.layer }
     requires serves { Stands machine.now.typed.now.file machine.now.number }
-    ensures { IfOk result (λ n. (l : Layer) (b : Block) → IsBlock machine.now.typed.now.file body l b →
-        n ≡ places_on (below_at machine.now.typed.now.file machine.now.number) b) }
+    requires good { IsGood (below_at machine.now.typed.now.file machine.now.number) (noted_of machine.now.typed.now.file machine.now.number state.old) }
+    ensures ended { OnOk result ((l : Layer) (b : Block) → IsBlock machine.now.typed.now.file body l b →
+        noted_of machine.now.typed.now.file machine.now.number state.new
+        ≡ failing (fallen_at_end (below_at machine.now.typed.now.file machine.now.number) (bits_in machine.now.bits.run) (bits_in machine.now.bits.stops)
+        (bits_in machine.now.bits.last) (places_on (below_at machine.now.typed.now.file machine.now.number) b)
+        (noted_of machine.now.typed.now.file machine.now.number state.old)) (noted_of machine.now.typed.now.file machine.now.number state.old)) }
 {
+    if state.fallen.is_some() {
+        return Ok(());
+    }
     let Some(layer) = machine.typed.file().layers.get(body.layer as usize) else {
         unreachable!();
     };
     let Some(block) = block_of(layer, body.part, body.number) else {
         unreachable!();
     };
-    room(machine, block)
+    let last = room(machine, block)?;
+    if stops_before(machine.bits.stops, last)? {
+        machine.lose(alloc, state)?;
+    }
+    Ok(())
 }

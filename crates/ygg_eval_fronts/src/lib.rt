@@ -4,10 +4,10 @@
 mod below;
 mod disk;
 mod fronts;
-mod losing;
 mod spec;
 mod stops;
+#[cfg(test)]
+mod tests;
 
 pub use below::{BelowState, Fallen, PlacedBits};
 pub use fronts::{Front, run_fronts};
-pub use losing::{Lost, lose_fronts};

@@ -4,7 +4,3 @@ pub mod Stands
 pub mod Parts
 pub mod Means
 pub mod Falling
-pub mod Values
-pub mod Fitted
-pub mod EachKind
-pub mod Placed

@@ -1,5 +1,5 @@
 -- An obligation of a file with its inputs, in code.
-use Rattle.std.specs.Prelude.{◌≡◌, IsTrue, List, slice_get, Some}
+use Rattle.std.specs.Prelude.{◌≡◌, ◌≤◌, ℕ, IsTrue, List, length, slice_get, Some}
 use Rattle.ygg_value.specs.declared.row.Value.{Value}
 use Rattle.ygg_syntax.specs.declared.grammar.BlockKind.TheVariants as kind
 use Rattle.ygg_syntax.specs.declared.tree.File.{File}

@@ -1,5 +1,4 @@
 pub mod Meant
-pub mod Fitted
 pub mod Here
 pub mod Runs
 pub mod Schedules

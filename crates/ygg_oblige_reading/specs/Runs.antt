@@ -1,5 +1,5 @@
 -- The runs that an obligation speaks of, in code.
-use Rattle.std.specs.Prelude.{◌≡◌, ℕ, Bool, IsTrue, List, Option, Some, None}
+use Rattle.std.specs.Prelude.{◌≡◌, ℕ, Bool, IsTrue, List, [], Option, Some, None}
 use Rattle.ygg_value.specs.declared.row.Value.{Value}
 use Rattle.ygg_syntax.specs.declared.tree.Block as tree
 use Rattle.ygg_syntax.specs.declared.tree.Layer.{Layer}
@@ -46,7 +46,7 @@ module _ (r : Reader) (block : Block) (args memory low : List Value) where
     pub left : left_at (below_of r) (layer_at l) b (memory_env l) (args_env l) (low_env r low) (picked_by (inputs_of r) (numbers_of r).run)
         (picked_by (inputs_of r) (numbers_of r).last) stop ≡ Some (low_env r f.low)
     pub fit : LowFits r f.low
-    pub picks : f.picks
+    pub picks : f.picks.items
         ≡ fall_picks (below_of r) (layer_at l) b (memory_env l) (args_env l) (low_env r low) (picked_by (inputs_of r) (numbers_of r).run)
         (picked_by (inputs_of r) (numbers_of r).last) stop
 

@@ -1,10 +1,12 @@
 -- Schedules in code, as those that an environment names.
-use Rattle.std.specs.Prelude.{◌≡◌, ◌<◌, ◌^◌, IsTrue, List, length, Option, IfSome, Some}
+use Rattle.std.specs.Prelude.{◌≡◌, ℕ, Bool, true, IsTrue, List, [], Option, slice_get, Some, None}
 use Rattle.std.specs.Option.{option_map}
 use Rattle.ygg_value.specs.declared.row.Value.{Value}
 use Rattle.ygg_syntax.specs.declared.tree.Block as tree
-use Rattle.ygg_meaning.specs.Environments.{Env}
-use Rattle.ygg_meaning.specs.Obligations.{Obligation, name_of}
+use Rattle.ygg_syntax.specs.declared.tree.Layer.{Layer}
+use Rattle.ygg_meaning.specs.Environments.{Env, bind}
+use Rattle.ygg_meaning.specs.Machine.{Picks}
+use Rattle.ygg_meaning.specs.Obligations.{Obligation, Halt, name_of}
 use Rattle.ygg_meaning.specs.Obligations as meaning
 use Rattle.ygg_meaning.specs.Violates.{shapes_fit}
 use Rattle.ygg_syntax.specs.declared.grammar.BlockKind.TheVariants as kind
@@ -18,23 +20,12 @@ use Rattle.ygg_oblige_pieces.specs.States.{given_stand}
 use Rattle.ygg_oblige_pieces.specs.Worth as worth
 use Rattle.ygg_oblige_schedules.specs.Schedules.{left_of, picks_of, schedule_of, stop_of, wake_picks}
 use Rattle.ygg_sched.specs.Fitting.{halt_meant}
-use Rattle.ygg_sched.specs.declared.schedule.Halt.{Halt}
 use Rattle.ygg_sched.specs.declared.schedule.Schedule.{Schedule}
-use Rattle.ygg_oblige_reading.specs.Here.{below_of, body_of, file_of, inputs_of, layer_of, numbers_of, obligation_of}
+use Rattle.ygg_oblige_reading.specs.Here.{below_of, body_of, file_of, inputs_of, layer_of, low_env, numbers_of, obligation_of}
 use Rattle.ygg_oblige_reading.specs.Meant.{meant}
 use Rattle.ygg_oblige_reading.specs.declared.reader.Block.{Block}
 use Rattle.ygg_oblige_reading.specs.declared.reader.Reader.{Reader}
-use Rattle.ygg_oblige_reading.specs.declared.named.CutParts.{CutParts}
-
--- a schedule has as many values of states as are meant
-pub record AsMany (x : Schedule) (want : meaning.Schedule) : Type 0 where
-  pub state : length x.state ≡ length want.state
-  pub memory : length x.memory ≡ length want.memory
-  pub low : length x.low ≡ length want.low
-
--- the number in a stop can be printed and read again
-abbrev pub IsBounded : Option Halt → Type 0
-IsBounded stop = IfSome stop (λ h. h.event < 2 ^ 64)
+use Rattle.ygg_oblige_reading.specs.declared.schedule.CutParts.{CutParts}
 
 module _ (r : Reader) where
   -- the schedule that a schedule means
@@ -49,12 +40,10 @@ module _ (r : Reader) where
   abbrev pub named_here : meaning.Schedule
   named_here = schedule_of (below_of r) (layer_of r) (inputs_of r) r.site.states (obligation_of r) (numbers_of r).args
 
-  -- the schedule has the obligation's name and means this one, with no more values, and the number in its stop can be printed
+  -- the schedule has the obligation's name, and means this one
   pub record IsRead (want : meaning.Schedule) (x : Schedule) : Type 0 where
     pub name : x.name ≡ name_of r.site.layer.now.name.text (obligation_of r)
     pub means : meant_here x ≡ want
-    pub many : AsMany x want
-    pub bounded : IsBounded x.stop
 
   -- the values that the inputs give have the declared shapes
   abbrev pub NamedShaped : Type 0
@@ -66,7 +55,6 @@ module _ (r : Reader) where
 
   -- the stop and the picks of a run of a block that power cuts, and those of the recovery after it
   pub record PartsAre (b : tree.Block) (memory given low : Env) (p : CutParts) : Type 0 where
-    pub bounded : IsBounded p.stop
     pub stop : option_map halt_meant p.stop ≡ stop_of (below_of r) (layer_of r) (inputs_of r) (numbers_of r) b memory given low
     pub picks : p.picks
         ≡ picks_of (below_of r) (layer_of r) (inputs_of r) (numbers_of r) b memory given low

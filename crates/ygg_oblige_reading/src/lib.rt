@@ -2,8 +2,8 @@
 //! which it names by place.
 #![tactic(auto)]
 
-mod named;
 mod reader;
+mod schedule;
 mod starting;
 
-pub use named::schedule;
+pub use schedule::schedule;

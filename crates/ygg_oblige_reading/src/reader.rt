@@ -81,20 +81,6 @@ impl<'a> Reader<'a> {
         Ok(low)
     }
 
-    /// The values of the specification's variables that the obligation begins with. Its only error is out of memory.
-    fn state(&self) -> Result<Values, NoMemory>
-        requires kept { ShapesKept self.now.site.layer.now.state }
-        requires fit { IsTrue (env_fits self.now.site.layer.now.state
-            (given_env (inputs_of self.now) self.now.site.states self.now.site.layer.now.state)) }
-        ensures fits { IfOk result (λ state. IsTrue (values_fit self.now.site.layer.now.state state)) }
-        ensures is { IfOk result (λ state. bind self.now.site.layer.now.state state
-            ≡ given_env (inputs_of self.now) self.now.site.states self.now.site.layer.now.state) }
-    {
-        let declared = self.site.layer.state.as_slice();
-        let state = self.table.values(self.alloc, self.site.states, declared)?;
-        Ok(state)
-    }
-
     /// The values of the memory that the obligation begins with, whose inputs are numbered on from a number. Its only error is out of memory.
     fn memory(&self, from: u64) -> Result<Values, NoMemory>
         requires kept { ShapesKept self.now.site.layer.now.memory }
@@ -114,9 +100,10 @@ impl<'a> Reader<'a> {
         requires fit { IsTrue (stand_fits (layer_of self.now) (given_stand (inputs_of self.now) self.now.site.states (layer_of self.now))) }
         ensures { IfOk result (StandIs self.now) }
     {
-        let words = words_in(self.site.layer.state.as_slice())?;
+        let declared = self.site.layer.state.as_slice();
+        let words = words_in(declared)?;
         let from = further(self.site.states, words)?;
-        let state = self.state()?;
+        let state = self.table.values(self.alloc, self.site.states, declared)?;
         let memory = self.memory(from)?;
         let low = self.low()?;
         Ok(Stand { state, memory, low })
@@ -160,7 +147,7 @@ impl<'a> Reader<'a> {
             number: block.number,
         };
         let front = run_fronts(self.alloc, self.typed, body, args, &mut memory, low, bits)?;
-        Ok(front.picks)
+        Ok(Bits::from_vec(front.picks))
     }
 
     /// Where power cuts a run of a block, what it leaves, and the picks that are taken till then; `None` where it comes to no stop that is set.
@@ -196,7 +183,7 @@ impl<'a> Reader<'a> {
         requires here { IsHere self.now }
         requires low { LowFits self.now low.now }
         ensures { IfOk result (λ lost. FellBetween (file_of self.now) self.now.site.place (picked_by (inputs_of self.now) (numbers_of self.now).last) low.now
-            lost.low [] lost.picks) }
+            lost.low [] lost.picks.items) }
     {
         let last = self.choices(self.site.numbers.last);
         let lost = lose_fronts(self.alloc, self.typed, self.site.place, low, last)?;

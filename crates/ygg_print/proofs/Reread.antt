@@ -36,7 +36,7 @@ all_left P (leaves {k = k} {written = written} may w) all =
     all_left P w (All-tail P close written (All-tail P brace (close ∷ written) (All-tail P (mark.Keyword k) (brace ∷ close ∷ written) all)))
 
 -- the printed marks of a file that derives from tokens of the language are marks of the language
-pub printed_are : (source : List Token) (file : File) → AreOfLanguage source → Derives source file → All IsMark (file_printed file)
+printed_are : (source : List Token) (file : File) → AreOfLanguage source → Derives source file → All IsMark (file_printed file)
 printed_are source file are d = all_left IsMark (left_out source file d) are
 
 -- a canonical text is read again

@@ -1,32 +1,5 @@
 -- The first false one of some tests.
-use Rattle.std.proofs.Common.{
-  ◌≡◌,
-  ℕ,
-  zero,
-  suc,
-  ◌+◌,
-  Bool,
-  true,
-  false,
-  List,
-  [],
-  ◌∷◌,
-  ◌++◌,
-  drop,
-  length,
-  Option,
-  Some,
-  None,
-  is_none,
-  option_map,
-  slice_get,
-  ◌≤◌,
-  refl,
-  sym,
-  ap,
-  ◌∙◌,
-  arith,
-}
+use Rattle.std.proofs.Common.{◌≡◌, ℕ, zero, suc, ◌+◌, Bool, true, false, List, [], ◌∷◌, ◌++◌, drop, length, Option, Some, None, is_none, option_map, slice_get, ◌≤◌, refl, sym, ap, ◌∙◌, arith}
 use Rattle.ygg_meaning.specs.Related.{all_true}
 use Rattle.ygg_replay.specs.Sites.{first_false}
 

@@ -28,7 +28,7 @@ ghost use Rattle.ygg_replay.specs.Steps.{meant_at};
 ghost use Rattle.ygg_replay.specs.Zeros.{zero_values};
 
 use crate::site::Site;
-use crate::zeroing::zeros;
+use crate::zeros::zeros;
 use ygg_base::{Bits, DiskKind};
 use ygg_eval::{Part, SpecLower, spec_lower};
 use ygg_list::{NoMemory, Sequence};

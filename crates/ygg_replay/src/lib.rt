@@ -10,9 +10,9 @@ mod search;
 mod showing;
 mod site;
 mod spec;
-mod zeroing;
+mod zeros;
 
 pub use schedule::Replayed;
 pub use showing::replay;
 pub use site::Site;
-pub use zeroing::zeros;
+pub use zeros::zeros;

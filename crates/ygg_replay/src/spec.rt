@@ -10,7 +10,7 @@ ghost use Rattle.ygg_replay.specs.Steps.{CanStep, EndsIn, EndsSomehow, HasOperat
 
 use crate::runs::power_with;
 use crate::site::Site;
-use crate::zeroing::zeros;
+use crate::zeros::zeros;
 use ygg_disk::Turn;
 use ygg_eval::{Body, Ended, Lower, Part, SpecLower, run_body, spec_lower};
 use ygg_list::{NoMemory, Sequence};

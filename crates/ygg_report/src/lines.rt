@@ -1,20 +1,7 @@
 ghost use Rattle.std.specs.Prelude.{◌≡◌, IfOk};
 ghost use Rattle.std.specs.List.{flat_map};
 ghost use Rattle.ygg_report.specs.declared.verdict.Verdict.TheVariants.{Spent};
-ghost use Rattle.ygg_report.specs.Lines.{
-  ended,
-  verdict_line,
-  verified_line,
-  refuted_line,
-  undecided_line,
-  made_words,
-  found_words,
-  demo_line,
-  shows_line,
-  hypothesis_line,
-  holds_with_line,
-  refused_line,
-};
+ghost use Rattle.ygg_report.specs.Lines.{ended, verdict_line, verified_line, refuted_line, undecided_line, made_words, found_words, demo_line, shows_line, hypothesis_line, holds_with_line, refused_line};
 
 use crate::picks::put_bits;
 use crate::verdict::{Tally, Verdict};

@@ -10,7 +10,7 @@ use Rattle.ygg_meaning.specs.Layer.{ClosedLayer}
 use Rattle.ygg_meaning.specs.Refines.{Below}
 use Rattle.ygg_histories.specs.Stack.{Layers, below_of, layers_on, tables_of}
 use Rattle.ygg_histories.specs.Claims.{Claim, claims_at, claims_on}
-use Rattle.ygg_sched.specs.Sites.{sites_at, sites_on}
+use Rattle.ygg_sched.specs.Sites.{Site, sites_at, sites_on}
 use Rattle.ygg_sched.specs.Laws.{asked_at, asked_of, SitesAreClaims}
 
 -- an obligation with its layer and the variables below

@@ -1,13 +1,14 @@
-//! The worked row of propagation, on the plain one and on that by watched literals.
+//! Both propagations: a worked row, and the same calls, drawn at random, whose answers and values are those that the contract
+//! determines.
 
-ghost use Rattle.std.specs.Prelude.{◌≡◌, ℕ, ◌<◌, [], ◌∷◌, ◌++◌, All, IfOk, OnOk};
+ghost use Rattle.std.specs.Prelude.{◌≡◌, ℕ, ◌<◌, [], ◌∷◌, ◌++◌, All, IfOk, OnOk, IfSome};
 ghost use Rattle.ygg_watch_plain.specs.Propagation.{IsWithin};
 
 use std::alloc::Global;
 use std::test::Fail;
 use ygg_cnf::{Clause, Clauses, Lit};
 use ygg_list::NoMemory;
-use ygg_watch::{Found, Propagate, watch};
+use ygg_watch::{Found, PlainSpread, Propagate, Watch, watch};
 use ygg_watch_plain::plain_spread;
 
 /// The literal of a variable.
@@ -114,5 +115,138 @@ fn the_worked_row(rt: HostRuntime) -> Result<(), Fail> {
     let clauses = three(rt.alloc())?;
     assert!(rt; is_worked_plainly(rt.alloc(), &clauses)?);
     assert!(rt; is_worked_by_watches(rt.alloc(), &clauses)?);
+    Ok(())
+}
+
+/// Variables are below this number.
+const ROOM: u64 = 20;
+
+/// Numbers that look random, by the generator of Knuth's MMIX.
+#[derive(Drop)]
+struct Draw {
+    state: u64,
+}
+
+impl Draw {
+    /// A number below the given one.
+    fn below(&mut self, end: u64) -> u64
+        requires { 0 < end }
+        ensures { result < end }
+    {
+        self.state = self
+            .state
+            .wrapping_mul(6364136223846793005)
+            .wrapping_add(1442695040888963407);
+        (self.state >> 33) % end
+    }
+
+    fn lit(&mut self) -> Lit
+        ensures { result.var < ROOM }
+    {
+        let var = self.below(ROOM);
+        let negated = self.below(2) == 1;
+        Lit { var, negated }
+    }
+}
+
+/// A clause of one to four literals.
+fn clause_of(alloc: Global, draw: &mut Draw) -> Result<Clause, NoMemory>
+    ensures { IfOk result (IsWithin ROOM) }
+{
+    let (a, b) = (draw.lit(), draw.lit());
+    match draw.below(4) {
+        0 => Clause::from_slice(alloc, &[a]),
+        1 => Clause::from_slice(alloc, &[a, b]),
+        2 => Clause::from_slice(alloc, &[a, b, draw.lit()]),
+        _ => Clause::from_slice(alloc, &[a, b, draw.lit(), draw.lit()]),
+    }
+}
+
+/// Adds a clause, and decides a literal where its variable is free. Answers the level that is open then.
+fn extend<P: Propagate>(
+    alloc: Global,
+    propagation: &mut P,
+    draw: &mut Draw,
+    level: u64,
+) -> Result<u64, NoMemory>
+    requires variable_count { (P.state propagation.old).variable_count ≡ ROOM }
+    requires level { level ≡ (P.state propagation.old).level }
+    ensures variable_count { (P.state propagation.new).variable_count ≡ ROOM }
+    ensures level { IfOk result (λ now. now ≡ (P.state propagation.new).level) }
+{
+    propagation.add(&clause_of(alloc, draw)?)?;
+    let lit = draw.lit();
+    if level < ROOM && propagation.assigned(lit.var).is_none() {
+        propagation.decide(lit);
+        return Ok(level + 1);
+    }
+    Ok(level)
+}
+
+/// Spreads, and answers the level that is open then. Where a clause is false, what was assigned at the greatest level is not
+/// determined, so that level is closed, and as many more as are drawn. Where none is open, nothing is answered.
+fn spread<P: Propagate>(propagation: &mut P, draw: &mut Draw, level: u64) -> Option<u64>
+    requires variable_count { (P.state propagation.old).variable_count ≡ ROOM }
+    requires level { level ≡ (P.state propagation.old).level }
+    ensures variable_count { (P.state propagation.new).variable_count ≡ ROOM }
+    ensures level { IfSome result (λ now. now ≡ (P.state propagation.new).level) }
+{
+    if propagation.spread() == Found::Quiet {
+        return Some(level);
+    }
+    if level == 0 {
+        return None;
+    }
+    let level = draw.below(level);
+    propagation.back(level);
+    Some(level)
+}
+
+/// Mixes the value and the level of each variable into a number.
+fn note<P: Propagate>(propagation: &P, noted: u64) -> u64 {
+    let mut noted = noted;
+    for var in 0..ROOM {
+        let told = match propagation.assigned(var) {
+            Some(found) => found
+                .level
+                .wrapping_mul(2)
+                .wrapping_add(1 + found.value as u64),
+            None => 0,
+        };
+        noted = noted.wrapping_mul(6364136223846793005).wrapping_add(told);
+    }
+    noted
+}
+
+/// Plays turns, and notes the values after each, until a clause is false at level 0.
+fn play<P: Propagate>(alloc: Global, propagation: &mut P, seed: u64) -> Result<u64, NoMemory>
+    requires variable_count { (P.state propagation.old).variable_count ≡ ROOM }
+    requires level { (P.state propagation.old).level ≡ 0 }
+{
+    let mut draw = Draw { state: seed };
+    let mut level = 0;
+    let mut noted = 0;
+    for _turn in 0..200 {
+        level = extend(alloc, propagation, &mut draw, level)?;
+        level = match spread(propagation, &mut draw, level) {
+            Some(level) => level,
+            None => return Ok(noted),
+        };
+        noted = note(propagation, noted);
+    }
+    Ok(noted)
+}
+
+#[test]
+fn both_propagations_agree(rt: HostRuntime) -> Result<(), Fail> {
+    for seed in 0..40 {
+        let mut plain = PlainSpread::new(rt.alloc(), ROOM)?;
+        let wanted = play(rt.alloc(), &mut plain, seed)?;
+        let mut watched = Watch::new(rt.alloc(), ROOM)?;
+        assert!(rt;
+            play(rt.alloc(), &mut watched, seed)? == wanted,
+            "of seed {seed}"
+        );
+    }
     Ok(())
 }

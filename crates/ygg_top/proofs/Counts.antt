@@ -48,8 +48,7 @@ use Rattle.ygg_top.specs.Words.{usual_budget}
 use Rattle.ygg_top.specs.Verdict.{Counted, AreTrue, status_by, any_failed, any_spent}
 use Rattle.ygg_top.specs.Findings.{AreFound, any_of, first_failed, status_of_counts}
 use Rattle.ygg_top.proofs.Judging.{Whole, whole}
-use Rattle.ygg_top.proofs.Verdicts.{Proper, refines, allowed}
-use Rattle.ygg_top.proofs.Reporting.{writes_in}
+use Rattle.ygg_top.proofs.Verdicts.{Proper, verified}
 
 counted_more : (b : Bool) (n : ℕ) (c : Bool) → nat_lt 0 n ≡ c → nat_lt 0 (cond b 1 0 + n) ≡ (b || c)
 counted_more true n c e = lt-ltb 0 (1 + n) (omega arith)
@@ -83,15 +82,15 @@ module _ (kinds : List RuleKind) (f : File) (number : ℕ) (p : Proper f) where
     are_true = are_true;
     status_is = status_is;
     text_is = ap (λ (xs : List report.Verdict). demo_line number (tally_of xs)) (sym w.says);
-    refines = λ d. refines kinds f usual_budget p w.verdicts are_true (sym status_is ∙ d);
-    allowed = λ d. allowed kinds f usual_budget p w.verdicts are_true (sym status_is ∙ d);
+    refines = λ d. (verified kinds f usual_budget p w.verdicts are_true).refines (sym status_is ∙ d);
+    allowed = λ d. (verified kinds f usual_budget p w.verdicts are_true).allowed (sym status_is ∙ d);
   } where
     nodes : List Node
     nodes = (file_made kinds f []).nodes
 
     w : Whole (file_made kinds f []).nodes usual_budget bank (claims_of f) (terms_in all) vs
     w =
-        whole (file_made kinds f []).nodes usual_budget bank (claims_of f) (terms_in all) vs mean (writes_in kinds f p all bank terms mean) found
+        whole (file_made kinds f []).nodes usual_budget bank (claims_of f) (terms_in all) vs mean found
         (each ∙ sym (length-map all (λ (o : Obligation). o.term)))
 
     are_true : AreTrue (file_made kinds f []).nodes usual_budget (claims_of f) (file_made kinds f []).value w.verdicts

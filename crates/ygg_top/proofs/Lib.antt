@@ -1,8 +1,6 @@
 mod Canonical
 mod Found
 mod Endings
-mod Shown
-mod Written
 mod Judging
 mod Verdicts
 mod Reporting

@@ -14,22 +14,7 @@ use Rattle.ygg_type_progress.specs.Laws.{TypedHistories}
 use Rattle.ygg_bank.specs.declared.node.Id.{Id}
 use Rattle.ygg_bank.specs.declared.node.Node.{Node}
 use Rattle.ygg_oblige_terms.specs.Terms.{file_made}
-use Rattle.ygg_oblige_schedules.specs.Laws.{FileSchedules}
-use Rattle.ygg_top.specs.Verdict.{
-  Verdict,
-  Holds,
-  Fails,
-  Spent,
-  AreTrue,
-  any_failed,
-  any_spent,
-  status_by,
-  last_lines,
-  IsRefutation,
-  HistoriesAllowed,
-  ByVerdicts,
-  Verified,
-}
+use Rattle.ygg_top.specs.Verdict.{Verdict, Holds, Fails, Spent, AreTrue, any_failed, any_spent, status_by, text_by, Verified}
 
 -- a file without a type error that derives, and the laws on files like it
 pub record Proper (f : File) : Type 0 where
@@ -37,7 +22,6 @@ pub record Proper (f : File) : Type 0 where
   pub typed : IsTyped f
   pub by_list : RefinesByList
   pub histories : TypedHistories
-  pub schedules : FileSchedules
 
 nothing_failed : (failed spent : Bool) → (if failed then Refuted else if spent then Undecided else Done) ≡ Done → (failed ≡ false) × (spent ≡ false)
 nothing_failed true spent e = absurd (cc e)
@@ -56,12 +40,6 @@ all_hold nodes budget [] (t ∷ ts) vs all f s = absurd all
 all_hold nodes budget (c ∷ cs) [] vs all f s = absurd all
 all_hold nodes budget (c ∷ cs) (t ∷ ts) [] all f s = absurd all
 
--- where no verdict fails the status is not that of a refutation
-pub none_failed : (failed spent : Bool) → failed ≡ false → (if failed then Refuted else if spent then Undecided else Done) ≡ Refuted → ⊥
-none_failed true spent n e = absurd (cc n)
-none_failed false true n e = absurd (cc e)
-none_failed false false n e = absurd (cc e)
-
 module _ (kinds : List RuleKind) (f : File) (budget : ℕ) (p : Proper f) where
   abbrev nodes : List Node
   nodes = (file_made kinds f []).nodes
@@ -69,19 +47,29 @@ module _ (kinds : List RuleKind) (f : File) (budget : ℕ) (p : Proper f) where
   abbrev terms : List Id
   terms = (file_made kinds f []).value
 
-  pub refines : (vs : List Verdict) → AreTrue nodes budget (claims_of f) terms vs → status_by vs ≡ Done → FileRefines f
+  refines : (vs : List Verdict) → AreTrue nodes budget (claims_of f) terms vs → status_by vs ≡ Done → FileRefines f
   refines vs t d =
       let e = nothing_failed (any_failed vs) (any_spent vs) d in (p.by_list f).0 (all_hold nodes budget (claims_of f) terms vs t e.0 e.1)
 
-  pub allowed : (vs : List Verdict) → AreTrue nodes budget (claims_of f) terms vs → status_by vs ≡ Done → HistoriesAllowed f
-  allowed vs t d = p.histories f p.derived p.typed (refines vs t d)
+  -- true verdicts say how `verify` ends
+  pub verified : (vs : List Verdict) → AreTrue nodes budget (claims_of f) terms vs → Verified kinds f budget (status_by vs) (text_by budget (claims_of f) vs)
+  verified vs t = record {
+    verdicts = vs;
+    are_true = t;
+    status_is = refl;
+    text_is = refl;
+    refines = refines vs t;
+    allowed = λ d. p.histories f p.derived p.typed (refines vs t d);
+  }
 
-  -- how `verify` ends by true verdicts, with what is printed where one fails
-  pub verified : (status : Status) (text : List ℕ) (by : ByVerdicts kinds f budget status text) →
-      (status ≡ Refuted → IsRefutation f (claims_of f) (last_lines f (claims_of f) by.verdicts)) → Verified kinds f budget status text
-  verified status text by refuted = record {
-    by = by;
-    refuted = refuted;
-    refines = λ d. refines by.verdicts by.are_true (sym by.status_is ∙ d);
-    allowed = λ d. allowed by.verdicts by.are_true (sym by.status_is ∙ d);
+  -- a status and a text that are those of verdicts
+  pub verified_as : (vs : List Verdict) (status : Status) (text : List ℕ) → AreTrue nodes budget (claims_of f) terms vs → status ≡ status_by vs →
+      text ≡ text_by budget (claims_of f) vs → Verified kinds f budget status text
+  verified_as vs status text t s e = record {
+    verdicts = vs;
+    are_true = t;
+    status_is = s;
+    text_is = e;
+    refines = λ d. refines vs t (sym s ∙ d);
+    allowed = λ d. p.histories f p.derived p.typed (refines vs t (sym s ∙ d));
   }

@@ -10,23 +10,27 @@ use Rattle.ygg_base.specs.Lexing.{tokens_of}
 use Rattle.ygg_syntax.specs.declared.tree.File.{File}
 use Rattle.ygg_print.specs.Canonical.{canonical, GivesAgain}
 use Rattle.ygg_report.specs.Lines.{ended, refused_line}
-use Rattle.ygg_report.specs.Putting.{Adds, IsFront, IsCutOf}
+use Rattle.ygg_report.specs.Putting.{Adds, IsFront, IsCutOf, Puts}
 use Rattle.ygg_rules.specs.declared.rule.RuleKind.{RuleKind}
-use Rattle.ygg_solver.specs.Answers.{IsNumbered}
-use Rattle.ygg_dimacs.specs.declared.cnf.Cnf.{Cnf}
-use Rattle.ygg_dimacs_solve.specs.Solved.{Solved}
-use Rattle.ygg_dimacs_oblige.specs.Printed.{IsNamed, Printed}
 use Rattle.ygg_top.specs.declared.help.TheConstants.{HELP, VERSION}
 use Rattle.ygg_top.specs.declared.answer.CommandEnd.{CommandEnd}
 use Rattle.ygg_top.specs.declared.answer.CommandEnd.TheVariants as answer
 use Rattle.ygg_yard.specs.Texts.{made}
-use Rattle.ygg_top.specs.Words.{is_alone, word_after, two_words_after, usual_budget, most_operations, IsNumber, IsNoNumber}
+use Rattle.ygg_top.specs.Words.{
+  is_alone,
+  word_after,
+  two_words_after,
+  usual_budget,
+  most_operations,
+  IsNumber,
+  IsNoNumber,
+  IsBudget,
+  IsNoBudget,
+}
 use Rattle.ygg_top.specs.Refusing.{IsLayerFile, RefusesFile, RefusesUnread, RefusesRead}
-use Rattle.ygg_top.specs.Standing.{Stands, DoesWith, DoesWithin, IsRefused}
+use Rattle.ygg_top.specs.Standing.{Stands, DoesWith, IsRefused}
 use Rattle.ygg_top.specs.Replaying.{ReplaysNamed}
-use Rattle.ygg_top.specs.Solving.{Solves}
-use Rattle.ygg_top.specs.Asking.{AsksNamed}
-use Rattle.ygg_top.specs.Verdict.{ByVerdicts, Verified, Counted}
+use Rattle.ygg_top.specs.Verdict.{Verified, Counted}
 
 -- `verify` within a budget of what stands under the name, under a book of these kinds: it is refused, or it is a layer file without a fault, and there
 -- are verdicts on it
@@ -48,6 +52,12 @@ abbrev pub Prints : Option (List ℕ) → Status → List ℕ → Type 0
 Prints stored Done text = (bytes : List ℕ) × (stored ≡ Some bytes) × IsPrinted bytes text
 Prints stored Refused text = (r : Refusal) × RefusesFile stored r × (text ≡ refused_line r)
 Prints stored status text = ⊥
+
+-- `verify` of a name with a word for the budget: a word that is no budget is refused 72 at `0:2`, before anything is looked at
+abbrev pub VerifiesWithin : List RuleKind → Option (List Held) → List ℕ → List ℕ → Status → List ℕ → Type 0
+VerifiesWithin kinds files name word status text =
+    ((budget : ℕ) × IsBudget word budget × DoesWith (Verifies kinds budget) files name status text)
+    ⊎ (IsNoBudget word × IsRefused (refusal_at reason.Number 0 2) status text)
 
 -- `demo` of a number under a book of these kinds: the text that is made for it is refused, or it is a layer file without a fault, and there are verdicts on it
 abbrev pub DemosMade : List RuleKind → ℕ → Status → List ℕ → Type 0
@@ -71,17 +81,11 @@ Ends kinds words files status text =
     (MatchOption (two_words_after (codes "verify") words)
     (MatchOption (word_after (codes "print") words)
     (MatchOption (word_after (codes "demo") words)
-    (MatchOption (two_words_after (codes "replay") words)
-    (MatchOption (word_after (codes "solve") words)
-    (MatchOption (two_words_after (codes "solve") words)
-    (MatchOption (two_words_after (codes "cnf") words) (IsRefused (refusal_at reason.Words 0 0) status text)
-    (λ asked. AsksNamed kinds files asked.0 asked.1 status text))
-    (λ asked. DoesWithin Solves files asked.0 asked.1 status text))
-    (λ name. DoesWith (Solves usual_budget) files name status text))
+    (MatchOption (two_words_after (codes "replay") words) (IsRefused (refusal_at reason.Words 0 0) status text)
     (λ asked. ReplaysNamed files asked.0 asked.1 status text))
     (λ word. Demos kinds word status text))
     (λ name. DoesWith Prints files name status text))
-    (λ asked. DoesWithin (Verifies kinds) files asked.0 asked.1 status text))
+    (λ asked. VerifiesWithin kinds files asked.0 asked.1 status text))
     (λ name. DoesWith (Verifies kinds usual_budget) files name status text)))
 
 -- the line of a library that failed
@@ -99,7 +103,7 @@ VerifyingIs kinds f budget Does = (0 < budget) × ((status : Status) (text : Lis
 
 -- a front of the text of a list of verdicts on the file that is true for the budget
 abbrev pub IsCutVerdict : List RuleKind → File → ℕ → List ℕ → Type 0
-IsCutVerdict kinds f budget = IsCutOf (ByVerdicts kinds f budget)
+IsCutVerdict kinds f budget = IsCutOf (Verified kinds f budget)
 
 -- verifying a file is what the command does, and this is a front of the text of a list of verdicts on it that is true for the budget
 pub record IsCutRun (kinds : List RuleKind) (words : List (List ℕ)) (files : Option (List Held)) (front : List ℕ) : Type 0 where
@@ -108,81 +112,85 @@ pub record IsCutRun (kinds : List RuleKind) (words : List (List ℕ)) (files : O
   pub does : VerifyingIs kinds file budget (Ends kinds words files)
   pub cut : IsCutVerdict kinds file budget front
 
--- Clauses over variables from 1 on are to be solved within a budget, and however that ends, it is this that the command does.
-abbrev pub SolvingIs : Cnf → ℕ → (Status → List ℕ → Type 0) → Type 0
-SolvingIs c budget Does = (0 < budget) × IsNumbered c.clauses × ((status : Status) (text : List ℕ) → Solved c budget status text → Does status text)
-
--- solving clauses is what the command does, and this is a front of what comes of it
-pub record IsCutSolving (kinds : List RuleKind) (words : List (List ℕ)) (files : Option (List Held)) (front : List ℕ) : Type 0 where
-  pub cnf : Cnf
-  pub budget : ℕ
-  pub does : SolvingIs cnf budget (Ends kinds words files)
-  pub cut : IsCutOf (Solved cnf budget) front
-
--- The clauses of an obligation of this name are to be printed, and however that ends, it is this that the command does.
-abbrev pub AskingIs : List RuleKind → File → List ℕ → (Status → List ℕ → Type 0) → Type 0
-AskingIs kinds f name Does = IsNamed f name × ((status : Status) (text : List ℕ) → Printed kinds f name status text → Does status text)
-
--- printing the clauses of an obligation is what the command does, and this is a front of their text
-pub record IsCutAsking (kinds : List RuleKind) (words : List (List ℕ)) (files : Option (List Held)) (front : List ℕ) : Type 0 where
-  pub file : File
-  pub name : List ℕ
-  pub does : AskingIs kinds file name (Ends kinds words files)
-  pub cut : IsCutOf (Printed kinds file name) front
-
--- the command puts its text piece by piece, and this is a front of it
-abbrev pub IsLeft : List RuleKind → List (List ℕ) → Option (List Held) → List ℕ → Type 0
-IsLeft kinds words files front =
-    IsCutRun kinds words files front ⊎ IsCutSolving kinds words files front ⊎ IsCutAsking kinds words files front
-
 -- What the sink has taken by the end of a command, from `before` to `now`, and why a fault came: the library's count of faults has risen, or the sink's.
--- Where the sink failed, it is a front of what the command would have printed, or of the text of true verdicts on the file that it was verifying. Where no
--- memory was left, nothing was printed; or the command was verifying a file, solving clauses or printing those of an obligation, and such a front.
+-- Where no memory was left, nothing was printed; or the command was verifying a file, and a front of what it would have printed.
 abbrev pub Reports : List RuleKind → List (List ℕ) → Option (List Held) → Option (List ℕ) → Option (List ℕ) → (LibraryRose SinkRose : Type 0) → Status → Type 0
 Reports kinds words files before now LibraryRose SinkRose Fault =
     (LibraryRose × Adds before library_fault now)
-    ⊎ (SinkRose × (front : List ℕ) × (IsCutShort kinds words files LibraryRose front ⊎ IsCutRun kinds words files front) × Adds before front now)
+    ⊎ (SinkRose × (front : List ℕ) × IsCutShort kinds words files LibraryRose front × Adds before front now)
 Reports kinds words files before now LibraryRose SinkRose NoMemory =
-    (now ≡ before) ⊎ ((front : List ℕ) × IsLeft kinds words files front × Adds before front now)
+    (now ≡ before) ⊎ ((front : List ℕ) × IsCutRun kinds words files front × Adds before front now)
 Reports kinds words files before now LibraryRose SinkRose status = (text : List ℕ) × Ends kinds words files status text × Adds before text now
 
 -- The file that is made for a number is to be verified, and however that ends, it is this that the command does.
 abbrev pub CountingIs : List RuleKind → ℕ → File → (Status → List ℕ → Type 0) → Type 0
 CountingIs kinds number f Does = (status : Status) (text : List ℕ) → Counted kinds number f status text → Does status text
 
--- what is found before anything is printed, where the command does this: how it ends and its text, or what is still to be done
-abbrev pub Answers : List RuleKind → (Status → List ℕ → Type 0) → CommandEnd → Type 0
-Answers kinds Does (answer.Ends status text) = Does status text
-Answers kinds Does (answer.Verifies typed budget) = VerifyingIs kinds typed.file budget Does
-Answers kinds Does (answer.Demos typed number) = CountingIs kinds number typed.file Does
-Answers kinds Does (answer.Solves cnf budget) = SolvingIs cnf budget Does
-Answers kinds Does (answer.Asks typed name) = AskingIs kinds typed.file name Does
-Answers kinds Does answer.LibraryFailed = Unit {0}
-Answers kinds Does answer.NoMemory = Unit {0}
+-- what is found before anything is printed: how the command ends and its text, or a file that is to be verified
+abbrev pub IsAnswer : List RuleKind → List (List ℕ) → Option (List Held) → CommandEnd → Type 0
+IsAnswer kinds words files (answer.Ends status text) = Ends kinds words files status text
+IsAnswer kinds words files (answer.Verifies typed budget) = VerifyingIs kinds typed.file budget (Ends kinds words files)
+IsAnswer kinds words files (answer.Demos typed number) = CountingIs kinds number typed.file (Ends kinds words files)
+IsAnswer kinds words files answer.LibraryFailed = Unit {0}
+IsAnswer kinds words files answer.NoMemory = Unit {0}
+
+-- what a command answers for a text, where `Does` says what it does with what stands under a name
+abbrev pub IsAnswerFor : List RuleKind → (Option (List ℕ) → Status → List ℕ → Type 0) → List ℕ → CommandEnd → Type 0
+IsAnswerFor kinds Does bytes (answer.Ends status text) = Does (Some bytes) status text
+IsAnswerFor kinds Does bytes (answer.Verifies typed budget) = VerifyingIs kinds typed.file budget (Does (Some bytes))
+IsAnswerFor kinds Does bytes (answer.Demos typed number) = ⊥
+IsAnswerFor kinds Does bytes answer.LibraryFailed = ⊥
+IsAnswerFor kinds Does bytes answer.NoMemory = Unit {0}
+
+-- What the sink has taken by the end of verifying a file: the text of a list of verdicts, or a front of one where the sink failed or no memory was left.
+abbrev pub Streams : List RuleKind → File → ℕ → Option (List ℕ) → Option (List ℕ) → (SinkRose : Type 0) → Status → Type 0
+Streams kinds f budget = Puts (Verified kinds f budget) (IsCutVerdict kinds f budget)
+
+-- this text with this status, unless no memory was left
+abbrev pub IsTextOf : Status → List ℕ → CommandEnd → Type 0
+IsTextOf status text (answer.Ends ended found) = (ended ≡ status) × (found ≡ text)
+IsTextOf status text (answer.Verifies typed budget) = ⊥
+IsTextOf status text (answer.Demos typed number) = ⊥
+IsTextOf status text answer.LibraryFailed = ⊥
+IsTextOf status text answer.NoMemory = Unit {0}
+
+-- what a command answers for a name, where `Does` says what it does with what stands under it
+abbrev pub IsAnswerOf : List RuleKind → (Option (List ℕ) → Status → List ℕ → Type 0) → Option (List Held) → List ℕ → CommandEnd → Type 0
+IsAnswerOf kinds Does files name (answer.Ends status text) = DoesWith Does files name status text
+IsAnswerOf kinds Does files name (answer.Verifies typed budget) = VerifyingIs kinds typed.file budget (DoesWith Does files name)
+IsAnswerOf kinds Does files name (answer.Demos typed number) = ⊥
+IsAnswerOf kinds Does files name answer.LibraryFailed = Unit {0}
+IsAnswerOf kinds Does files name answer.NoMemory = Unit {0}
+
+-- the same where a word is to be the budget
+abbrev pub IsAnswerWithin : List RuleKind → Option (List Held) → List ℕ → List ℕ → CommandEnd → Type 0
+IsAnswerWithin kinds files name word (answer.Ends status text) = VerifiesWithin kinds files name word status text
+IsAnswerWithin kinds files name word (answer.Verifies typed budget) = VerifyingIs kinds typed.file budget (VerifiesWithin kinds files name word)
+IsAnswerWithin kinds files name word (answer.Demos typed number) = ⊥
+IsAnswerWithin kinds files name word answer.LibraryFailed = Unit {0}
+IsAnswerWithin kinds files name word answer.NoMemory = Unit {0}
+
+-- the answer where no text was fetched under the name that is the word at this place: a refusal of what stands there before its bytes are looked at
+abbrev pub IsUnread : ℕ → Option (List Held) → List ℕ → CommandEnd → Type 0
+IsUnread place files name (answer.Ends status text) =
+    (stored : Option (List ℕ)) × (r : Refusal) × Stands files name stored × RefusesUnread place stored r × (status ≡ Refused) × (text ≡ refused_line r)
+IsUnread place files name (answer.Verifies typed budget) = ⊥
+IsUnread place files name (answer.Demos typed number) = ⊥
+IsUnread place files name answer.LibraryFailed = Unit {0}
+IsUnread place files name answer.NoMemory = Unit {0}
 
 -- a status and a text that end so, unless the library failed or no memory was left
 abbrev pub IsEnding : (Status → List ℕ → Type 0) → CommandEnd → Type 0
 IsEnding Does (answer.Ends status text) = Does status text
 IsEnding Does (answer.Verifies typed budget) = ⊥
 IsEnding Does (answer.Demos typed number) = ⊥
-IsEnding Does (answer.Solves cnf budget) = ⊥
-IsEnding Does (answer.Asks typed name) = ⊥
 IsEnding Does answer.LibraryFailed = Unit {0}
 IsEnding Does answer.NoMemory = Unit {0}
 
--- all was done, with this text
-abbrev pub IsDone : List ℕ → Status → List ℕ → Type 0
-IsDone whole status text = (status ≡ Done) × (text ≡ whole)
-
--- How a command ends that fetches no text of at most so many bytes under the name that is the word at this place: with a refusal of what stands there,
--- before its bytes are looked at.
-abbrev pub IsUnread : (most place : ℕ) → Option (List Held) → List ℕ → Status → List ℕ → Type 0
-IsUnread most place files name status text =
-    (stored : Option (List ℕ)) × (r : Refusal) × Stands files name stored × RefusesUnread most place stored r × IsRefused r status text
-
--- What the sink has taken by the end of verifying a file: the text of a list of verdicts, or a front of one where the sink failed or no memory was left.
-abbrev pub Streams : List RuleKind → File → ℕ → Option (List ℕ) → Option (List ℕ) → (SinkRose : Type 0) → Status → Type 0
-Streams kinds f budget before now SinkRose Fault = SinkRose × (front : List ℕ) × IsCutVerdict kinds f budget front × Adds before front now
-Streams kinds f budget before now SinkRose NoMemory = (now ≡ before) ⊎ ((front : List ℕ) × IsCutVerdict kinds f budget front × Adds before front now)
-Streams kinds f budget before now SinkRose Refused = ⊥
-Streams kinds f budget before now SinkRose status = (text : List ℕ) × Verified kinds f budget status text × Adds before text now
+-- what a command answers that is to make a file, where `Does` says what it does
+abbrev pub IsAnswerMade : List RuleKind → (Status → List ℕ → Type 0) → CommandEnd → Type 0
+IsAnswerMade kinds Does (answer.Ends status text) = Does status text
+IsAnswerMade kinds Does (answer.Demos typed number) = CountingIs kinds number typed.file Does
+IsAnswerMade kinds Does (answer.Verifies typed budget) = ⊥
+IsAnswerMade kinds Does answer.LibraryFailed = ⊥
+IsAnswerMade kinds Does answer.NoMemory = Unit {0}

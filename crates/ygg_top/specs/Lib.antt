@@ -1,10 +1,7 @@
 pub mod Words
+pub mod Verdict
 pub mod Refusing
 pub mod Standing
 pub mod Replaying
-pub mod Showing
-pub mod Verdict
-pub mod Solving
-pub mod Asking
 pub mod Ending
 pub mod Findings

@@ -17,10 +17,10 @@ pub record IsLayerFile (bytes : List ℕ) (f : File) : Type 0 where
   pub tokens : Tokens
   pub accepted : IsAccepted bytes tokens f
 
--- a refusal of what stands under the name that is the word at this place, before its bytes are looked at: nothing stands there, or more bytes than so many
-abbrev pub RefusesUnread : (most place : ℕ) → Option (List ℕ) → Refusal → Type 0
-RefusesUnread most place None r = r ≡ refusal_at reason.Absent 0 place
-RefusesUnread most place (Some bytes) r = (most < length bytes) × (r ≡ refusal_at reason.TooLarge 0 place)
+-- a refusal of what stands under the name that is the word at this place, before its bytes are looked at: nothing stands there, or too many bytes
+abbrev pub RefusesUnread : ℕ → Option (List ℕ) → Refusal → Type 0
+RefusesUnread place None r = r ≡ refusal_at reason.Absent 0 place
+RefusesUnread place (Some bytes) r = (most_bytes < length bytes) × (r ≡ refusal_at reason.TooLarge 0 place)
 
 -- a refusal of the bytes that stand under a name
 abbrev pub RefusesRead : Option (List ℕ) → Refusal → Type 0
@@ -29,4 +29,4 @@ RefusesRead (Some bytes) r = (length bytes ≤ most_bytes) × RefusesLayers byte
 
 -- the refusal of the layer file of a command, which is the word after it
 abbrev pub RefusesFile : Option (List ℕ) → Refusal → Type 0
-RefusesFile stored r = RefusesUnread most_bytes 1 stored r ⊎ RefusesRead stored r
+RefusesFile stored r = RefusesUnread 1 stored r ⊎ RefusesRead stored r

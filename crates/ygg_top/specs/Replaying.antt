@@ -11,7 +11,7 @@ use Rattle.ygg_top.specs.Standing.{DoesWith, IsRefused}
 -- `replay` for a layer file of what stands under the schedule's name, the second word after the command: it is refused unread, or its text is replayed
 abbrev pub ReplaysStored : File → Option (List ℕ) → Status → List ℕ → Type 0
 ReplaysStored f stored status text =
-    ((r : Refusal) × RefusesUnread most_bytes 2 stored r × IsRefused r status text)
+    ((r : Refusal) × RefusesUnread 2 stored r × IsRefused r status text)
     ⊎ ((bytes : List ℕ) × (stored ≡ Some bytes) × (length bytes ≤ most_bytes) × Replaying f bytes status text)
 
 -- the same of what stands under the file's name: it is refused, before the schedule is looked at, or it is a layer file without a fault

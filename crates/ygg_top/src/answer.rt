@@ -1,5 +1,4 @@
 use ygg_base::{Status, Text};
-use ygg_dimacs::Cnf;
 use ygg_type::Typed;
 
 /// What a command has found, before anything of it is printed.
@@ -11,10 +10,6 @@ pub enum CommandEnd {
     Verifies(Typed, u32),
     /// The layer file that `demo` makes for this number, which is to be verified.
     Demos(Typed, u32),
-    /// Clauses that are to be solved within this budget.
-    Solves(Cnf, u32),
-    /// A layer file, of whose obligation of this name the clauses are to be printed.
-    Asks(Typed, Text),
     /// The library failed.
     LibraryFailed,
     /// No memory was left.

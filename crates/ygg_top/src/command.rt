@@ -1,31 +1,26 @@
-ghost use Rattle.std.specs.Prelude.{List, ◌≡◌, ◌<◌, ◌≤◌, length, Some};
+ghost use Rattle.std.specs.Prelude.{List, ◌≡◌, ◌<◌, ◌≤◌, length};
 ghost use Rattle.ygg_rules.specs.declared.rule.RuleKind.{RuleKind};
 ghost use Rattle.ygg_base.specs.Outside.{Rose};
 ghost use Rattle.ygg_top.specs.Refusing.{most_bytes};
 ghost use Rattle.ygg_top.specs.Words.{most_operations};
-ghost use Rattle.ygg_top.specs.Standing.{DoesWith, DoesWithin};
-ghost use Rattle.ygg_top.specs.Ending.{Reports, Ends, Answers, IsDone, IsEnding, Demos, DemosMade, Prints, Verifies};
+ghost use Rattle.ygg_top.specs.Ending.{Reports, IsAnswer, IsAnswerFor, IsAnswerMade, IsAnswerOf, IsAnswerWithin, IsTextOf, Demos, DemosMade, Prints, Verifies};
 
 use crate::answer::CommandEnd;
-use crate::asking::ask;
-use crate::fetching::{MOST_BYTES, fetched, refused};
+use crate::fetching::{fetched, refused};
 use crate::file::{file_of, printed};
 use crate::help::{HELP, VERSION};
 use crate::replaying::replay;
-use crate::solving::{solve, solve_within};
 use crate::words::{USUAL_BUDGET, budget, is_alone, operations, two_words_after, word_after};
 use crate::{counting, verdict};
 use std::alloc::Global;
 use ygg_base::{Library, Reason, Refuse, Sink, Status, Text};
-use ygg_dimacs_oblige::put_obligation;
-use ygg_dimacs_solve::solve_cnf;
 use ygg_report::put_all;
 use ygg_rules::{Book, RuleBook};
 use ygg_yard::make;
 
-/// Runs the command that the words name, and ends with its status: `verify FILE`, `verify FILE BUDGET`, `print FILE`, `demo N`, `replay FILE SCHEDULE`,
-/// `solve CNF`, `solve CNF BUDGET`, `cnf FILE OBLIGATION`, and alone `--help` or `--version`. Other words are refused 71 at `0:0`. Nothing is printed before all refusals are judged;
-/// the lines of `verify` are put one by one, each as soon as its obligation is decided, long texts of `solve` and `cnf` piece by piece, and the others at the end.
+/// Runs the command that the words name, and ends with its status: `verify FILE`, `verify FILE BUDGET`, `print FILE`, `demo N`,
+/// `replay FILE SCHEDULE`, and alone `--help` or `--version`. Other words are refused 71 at `0:0`. Nothing is printed before all refusals are judged; the
+/// lines of `verify` are put one by one, each as soon as its obligation is decided, and those of `demo` and `replay` at the end.
 /// What is ensured holds for every book of rules: they only make terms smaller.
 pub fn ygg<L: Library, K: Sink>(
     alloc: Global,
@@ -61,14 +56,6 @@ fn run<B: Book, L: Library, K: Sink>(
         CommandEnd::Ends(status, text) => put_all(sink, text.as_slice(), status),
         CommandEnd::Verifies(typed, budget) => verdict::verify(alloc, rules, &typed, budget, sink),
         CommandEnd::Demos(typed, number) => counting::demo(alloc, rules, &typed, number, sink),
-        CommandEnd::Solves(cnf, budget) => solve_cnf(alloc, &cnf, budget, sink),
-        CommandEnd::Asks(typed, name) => put_obligation(
-            alloc,
-            rules,
-            &typed,
-            name.as_slice(),
-            sink,
-        ),
         CommandEnd::LibraryFailed => put_all(sink, b"fault library\n", Status::Fault),
         CommandEnd::NoMemory => Status::NoMemory,
     }
@@ -76,7 +63,7 @@ fn run<B: Book, L: Library, K: Sink>(
 
 /// What the words ask for, over the library.
 fn answer<L: Library>(alloc: Global, words: &[Text], library: &mut L) -> CommandEnd
-    ensures told { (kinds : List RuleKind) → Answers kinds (Ends kinds words.now (L.files library.old)) result }
+    ensures told { (kinds : List RuleKind) → IsAnswer kinds words.now (L.files library.old) result }
     ensures cause { result ≡ CommandEnd.LibraryFailed → Rose (L.faults library.old) (L.faults library.new) }
     ensures kept { L.files library.new ≡ L.files library.old }
     ensures later { L.faults library.old ≤ L.faults library.new }
@@ -102,22 +89,12 @@ fn answer<L: Library>(alloc: Global, words: &[Text], library: &mut L) -> Command
     if let Some((name, schedule)) = two_words_after(words, b"replay") {
         return replay(alloc, name, schedule, library);
     }
-    if let Some(name) = word_after(words, b"solve") {
-        return solve(alloc, name, USUAL_BUDGET, library);
-    }
-    if let Some((name, word)) = two_words_after(words, b"solve") {
-        return solve_within(alloc, name, word, library);
-    }
-    if let Some((file, name)) = two_words_after(words, b"cnf") {
-        return ask(alloc, file, name, library);
-    }
     refused(alloc, Reason::Words.at(0, 0))
 }
 
 /// A text that is printed as it is.
 fn done(alloc: Global, text: &[u8]) -> CommandEnd
-    ensures told { IsEnding (IsDone text.now) result }
-    ensures here { ¬ (result ≡ CommandEnd.LibraryFailed) }
+    ensures { IsTextOf Status.Done text.now result }
 {
     match Text::from_slice(alloc, text) {
         Ok(text) => CommandEnd::Ends(Status::Done, text),
@@ -127,7 +104,7 @@ fn done(alloc: Global, text: &[u8]) -> CommandEnd
 
 /// Fetches the file of that name, which is to be verified within the budget that a word is. Another word is refused 72 at `0:2`.
 fn verify_within<L: Library>(alloc: Global, name: &Text, word: &Text, library: &mut L) -> CommandEnd
-    ensures told { (kinds : List RuleKind) → Answers kinds (DoesWithin (Verifies kinds) (L.files library.old) name.now word.now) result }
+    ensures told { (kinds : List RuleKind) → IsAnswerWithin kinds (L.files library.old) name.now word.now result }
     ensures cause { result ≡ CommandEnd.LibraryFailed → Rose (L.faults library.old) (L.faults library.new) }
     ensures kept { L.files library.new ≡ L.files library.old }
     ensures later { L.faults library.old ≤ L.faults library.new }
@@ -142,12 +119,12 @@ fn verify_within<L: Library>(alloc: Global, name: &Text, word: &Text, library: &
 /// Fetches the file of that name, which is to be verified within a budget.
 fn verify<L: Library>(alloc: Global, name: &Text, budget: u32, library: &mut L) -> CommandEnd
     requires { 0 < budget }
-    ensures told { (kinds : List RuleKind) → Answers kinds (DoesWith (Verifies kinds budget) (L.files library.old) name.now) result }
+    ensures told { (kinds : List RuleKind) → IsAnswerOf kinds (Verifies kinds budget) (L.files library.old) name.now result }
     ensures cause { result ≡ CommandEnd.LibraryFailed → Rose (L.faults library.old) (L.faults library.new) }
     ensures kept { L.files library.new ≡ L.files library.old }
     ensures later { L.faults library.old ≤ L.faults library.new }
 {
-    match fetched(alloc, name, MOST_BYTES, 1, library) {
+    match fetched(alloc, name, 1, library) {
         Ok(text) => verify_text(alloc, budget, text.as_slice()),
         Err(answer) => answer,
     }
@@ -155,12 +132,12 @@ fn verify<L: Library>(alloc: Global, name: &Text, budget: u32, library: &mut L) 
 
 /// Fetches the file of that name and prints it in its canonical text.
 fn print<L: Library>(alloc: Global, name: &Text, library: &mut L) -> CommandEnd
-    ensures told { (kinds : List RuleKind) → Answers kinds (DoesWith Prints (L.files library.old) name.now) result }
+    ensures told { (kinds : List RuleKind) → IsAnswerOf kinds Prints (L.files library.old) name.now result }
     ensures cause { result ≡ CommandEnd.LibraryFailed → Rose (L.faults library.old) (L.faults library.new) }
     ensures kept { L.files library.new ≡ L.files library.old }
     ensures later { L.faults library.old ≤ L.faults library.new }
 {
-    match fetched(alloc, name, MOST_BYTES, 1, library) {
+    match fetched(alloc, name, 1, library) {
         Ok(text) => print_text(alloc, text.as_slice()),
         Err(answer) => answer,
     }
@@ -170,8 +147,7 @@ fn print<L: Library>(alloc: Global, name: &Text, library: &mut L) -> CommandEnd
 fn verify_text(alloc: Global, budget: u32, text: &[u8]) -> CommandEnd
     requires text { length text.now ≤ most_bytes }
     requires budget { 0 < budget }
-    ensures told { (kinds : List RuleKind) → Answers kinds (Verifies kinds budget (Some text.now)) result }
-    ensures here { ¬ (result ≡ CommandEnd.LibraryFailed) }
+    ensures { (kinds : List RuleKind) → IsAnswerFor kinds (Verifies kinds budget) text.now result }
 {
     match file_of(alloc, text) {
         Ok(typed) => CommandEnd::Verifies(typed, budget),
@@ -183,8 +159,7 @@ fn verify_text(alloc: Global, budget: u32, text: &[u8]) -> CommandEnd
 /// Prints a layer file's text in its canonical form.
 fn print_text(alloc: Global, text: &[u8]) -> CommandEnd
     requires { length text.now ≤ most_bytes }
-    ensures told { (kinds : List RuleKind) → Answers kinds (Prints (Some text.now)) result }
-    ensures here { ¬ (result ≡ CommandEnd.LibraryFailed) }
+    ensures { (kinds : List RuleKind) → IsAnswerFor kinds Prints text.now result }
 {
     match printed(alloc, text) {
         Ok(canonical) => CommandEnd::Ends(Status::Done, canonical),
@@ -195,8 +170,7 @@ fn print_text(alloc: Global, text: &[u8]) -> CommandEnd
 
 /// The layer file that is made for the number that a word is, which is to be verified. Another word is refused 72 at `0:1`.
 fn demo(alloc: Global, word: &Text) -> CommandEnd
-    ensures told { (kinds : List RuleKind) → Answers kinds (Demos kinds word.now) result }
-    ensures here { ¬ (result ≡ CommandEnd.LibraryFailed) }
+    ensures { (kinds : List RuleKind) → IsAnswerMade kinds (Demos kinds word.now) result }
 {
     match operations(alloc, word.as_slice()) {
         Ok(Some(number)) => demo_of(alloc, number),
@@ -209,8 +183,7 @@ fn demo(alloc: Global, word: &Text) -> CommandEnd
 fn demo_of(alloc: Global, number: u32) -> CommandEnd
     requires some { 1 ≤ number }
     requires few { number ≤ most_operations }
-    ensures told { (kinds : List RuleKind) → Answers kinds (DemosMade kinds number) result }
-    ensures here { ¬ (result ≡ CommandEnd.LibraryFailed) }
+    ensures { (kinds : List RuleKind) → IsAnswerMade kinds (DemosMade kinds number) result }
 {
     let Ok(text) = make(alloc, number) else {
         return CommandEnd::NoMemory;

@@ -17,7 +17,6 @@ use ygg_base::{NoMemory, Sink, Status};
 use ygg_histories::law::refines_by_list;
 use ygg_list::Sequence;
 use ygg_oblige::{Obligation, obligations};
-use ygg_oblige_schedules::law::file_schedules;
 use ygg_report::{Tally, Verdict, put};
 use ygg_rules::Book;
 use ygg_type::Typed;
@@ -37,8 +36,8 @@ fn all_found<B: Book>(
 {
     let mut verdicts = Sequence::new(alloc);
     for o in all {
-        let finding = found(alloc, bank, rules, o.term, USUAL_BUDGET)?;
-        verdicts.push(finding.verdict)?;
+        let verdict = found(alloc, bank, rules, o.term, USUAL_BUDGET)?;
+        verdicts.push(verdict)?;
     }
     Ok(verdicts)
 }
@@ -79,7 +78,6 @@ pub fn demo<B: Book, K: Sink>(
     let _ = typed.file();
     typed_histories();
     refines_by_list();
-    file_schedules();
     let Ok(verdicts) = all_found(alloc, &mut bank, rules, all.as_slice()) else {
         return Status::NoMemory;
     };

@@ -5,24 +5,15 @@ ghost use Rattle.ygg_base.specs.Outside.{Rose};
 ghost use Rattle.ygg_bank.specs.Nodes.{HasWidth};
 ghost use Rattle.ygg_report.specs.Lines.{verdict_line};
 ghost use Rattle.ygg_report.specs.Putting.{Adds};
-ghost use Rattle.ygg_top.specs.Findings.{IsFound, IsKept, IsUnreported};
+ghost use Rattle.ygg_top.specs.Findings.{IsFound, IsUnreported};
 
 use std::alloc::Global;
-use ygg_bank::{Bank, Env, Id};
+use ygg_bank::{Bank, Id};
 use ygg_base::{NoMemory, Sink, Status, Text};
 use ygg_decide::{Decided, decide};
 use ygg_oblige::Obligation;
 use ygg_report::{Verdict, line, put};
 use ygg_rules::Book;
-
-/// What is found of an obligation.
-#[derive(Drop)]
-pub struct Finding {
-    /// The verdict.
-    pub verdict: Verdict,
-    /// An environment in which its term is 0, where it fails.
-    pub env: Option<Env>,
-}
 
 /// Decides an obligation's term within a budget. Its only error is out of memory.
 pub fn found<B: Book>(
@@ -31,26 +22,16 @@ pub fn found<B: Book>(
     rules: &B,
     term: Id,
     budget: u32,
-) -> Result<Finding, NoMemory>
+) -> Result<Verdict, NoMemory>
     requires width { HasWidth bank.old term 1 }
     requires budget { 0 < budget }
-    ensures found { IfOk result (λ f. IsFound bank.old term budget f.verdict) }
-    ensures kept { IfOk result (λ f. IsKept bank.old term f.verdict f.env) }
+    ensures found { IfOk result (IsFound bank.old term budget) }
     ensures same { bank.new ≡ bank.old }
 {
     match decide(alloc, bank, rules, term, budget)? {
-        Decided::Valid(_log) => Ok(Finding {
-            verdict: Verdict::Holds,
-            env: None,
-        }),
-        Decided::Fails(env) => Ok(Finding {
-            verdict: Verdict::Fails,
-            env: Some(env),
-        }),
-        Decided::Spent(_log) => Ok(Finding {
-            verdict: Verdict::Spent(budget),
-            env: None,
-        }),
+        Decided::Valid(_log) => Ok(Verdict::Holds),
+        Decided::Fails(_env) => Ok(Verdict::Fails),
+        Decided::Spent(_log) => Ok(Verdict::Spent(budget)),
     }
 }
 
@@ -62,25 +43,24 @@ pub fn report<B: Book, K: Sink>(
     obligation: &Obligation,
     budget: u32,
     sink: &mut K,
-) -> Result<Finding, Status>
+) -> Result<Verdict, Status>
     requires width { HasWidth bank.old obligation.now.term 1 }
     requires budget { 0 < budget }
-    ensures found { IfOk result (λ f. IsFound bank.old obligation.now.term budget f.verdict) }
-    ensures kept { IfOk result (λ f. IsKept bank.old obligation.now.term f.verdict f.env) }
-    ensures put { IfOk result (λ f. Adds (K.taken sink.old) (verdict_line f.verdict obligation.now.name) (K.taken sink.new)) }
+    ensures found { IfOk result (IsFound bank.old obligation.now.term budget) }
+    ensures put { IfOk result (λ v. Adds (K.taken sink.old) (verdict_line v obligation.now.name) (K.taken sink.new)) }
     ensures unreported { IfErr result (IsUnreported bank.old obligation.now.term obligation.now.name budget (K.taken sink.old) (K.taken sink.new)
         (Rose (K.faults sink.old) (K.faults sink.new))) }
     ensures same { bank.new ≡ bank.old }
     ensures later { K.faults sink.old ≤ K.faults sink.new }
 {
-    let Ok(finding) = found(alloc, bank, rules, obligation.term, budget) else {
+    let Ok(verdict) = found(alloc, bank, rules, obligation.term, budget) else {
         return Err(Status::NoMemory);
     };
-    let Ok(text) = line(alloc, &finding.verdict, &obligation.name) else {
+    let Ok(text) = line(alloc, &verdict, &obligation.name) else {
         return Err(Status::NoMemory);
     };
     match put(sink, text.as_slice()) {
-        Ok(()) => Ok(finding),
+        Ok(()) => Ok(verdict),
         Err(status) => Err(status),
     }
 }

@@ -2,7 +2,6 @@
 #![tactic(auto)]
 
 mod answer;
-mod asking;
 mod command;
 mod counting;
 mod fetching;
@@ -10,7 +9,6 @@ mod file;
 mod finding;
 mod help;
 mod replaying;
-mod solving;
 mod verdict;
 mod words;
 

@@ -9,7 +9,7 @@ ghost use Rattle.ygg_top.specs.Replaying.{ReplaysNamed, ReplaysStored};
 ghost use Rattle.ygg_top.specs.Standing.{DoesWith};
 
 use crate::answer::CommandEnd;
-use crate::fetching::{MOST_BYTES, fetched, refused};
+use crate::fetching::{fetched, refused};
 use crate::file::file_of;
 use std::alloc::Global;
 use ygg_base::{Library, Refuse, Text};
@@ -40,7 +40,7 @@ fn replay_for<L: Library>(
     ensures kept { L.files library.new ≡ L.files library.old }
     ensures later { L.faults library.old ≤ L.faults library.new }
 {
-    match fetched(alloc, schedule, MOST_BYTES, 2, library) {
+    match fetched(alloc, schedule, 2, library) {
         Ok(text) => replay_schedule(alloc, typed, text.as_slice()),
         Err(answer) => answer,
     }
@@ -58,7 +58,7 @@ pub fn replay<L: Library>(
     ensures kept { L.files library.new ≡ L.files library.old }
     ensures later { L.faults library.old ≤ L.faults library.new }
 {
-    let text = match fetched(alloc, name, MOST_BYTES, 1, library) {
+    let text = match fetched(alloc, name, 1, library) {
         Ok(text) => text,
         Err(answer) => return answer,
     };

@@ -1,68 +1,46 @@
 //! The verdicts on a file's obligations, each put as soon as it is found.
 
-ghost use Rattle.std.specs.Prelude.{◌≡◌, ◌<◌, ◌≤◌, ◌||◌, length, IfOk, IfErr, IfSome};
+ghost use Rattle.std.specs.Prelude.{◌≡◌, ◌<◌, ◌≤◌, ◌&&◌, ◌||◌, if◌then◌else◌, is_none, length, Some, IfOk, IfErr};
 ghost use Rattle.ygg_base.specs.Outside.{Rose};
-ghost use Rattle.ygg_histories.specs.Claims.{claims_of};
-ghost use Rattle.ygg_oblige.specs.Obligations.{names_in};
-ghost use Rattle.ygg_report.specs.Tallies.{finds_spent};
 ghost use Rattle.ygg_top.specs.Ending.{Streams};
-ghost use Rattle.ygg_top.specs.Findings.{AreDigits, AreShaped, IsConcluded, IsEnd, IsRefuting, IsReported, IsShaped, IsStopped, first_kept};
+ghost use Rattle.ygg_oblige.specs.Obligations.{names_in};
+ghost use Rattle.ygg_top.specs.Findings.{AreDigits, IsAmong, IsConcluded, IsReported, IsStopped, last_text, status_of};
+ghost use Rattle.ygg_report.specs.Tallies.{finds_failed, finds_spent};
 
-use crate::finding::{Finding, report};
+use crate::finding::report;
 use std::alloc::Global;
-use ygg_bank::{Bank, Env};
+use ygg_bank::Bank;
 use ygg_base::{NoMemory, Sink, Status, Text};
 use ygg_histories::law::refines_by_list;
 use ygg_oblige::{Obligation, obligations};
-use ygg_oblige_reading::schedule;
-use ygg_oblige_schedules::law::file_schedules;
-use ygg_replay_text::one_ending;
-use ygg_report::{Verdict, put_all, refuted, undecided, verified};
+use ygg_report::{Verdict, put, refuted, undecided, verified};
 use ygg_rules::Book;
-use ygg_sched::print_schedule;
-use ygg_sched_names::printed_shows;
 use ygg_type::Typed;
 use ygg_type_progress::law::typed_histories;
 
-/// What is kept of an obligation that fails.
-#[derive(Drop)]
-pub struct Refutation {
-    /// Its place among the file's.
-    pub place: usize,
-    /// An environment in which its term is 0.
-    pub env: Env,
-}
-
 /// What was found of obligations so far.
-#[derive(Drop)]
+#[derive(Clone, Copy, Drop)]
 pub struct Summary {
-    /// The first one that fails.
-    pub refuted: Option<Refutation>,
+    /// The place of the first one that fails.
+    pub refuted: Option<usize>,
     /// Whether the budget was spent on one.
     pub spent: bool,
 }
 
-/// The first refutation: the one that is known, or else the one of an obligation at a place, where there is an environment.
-fn first_kept(known: Option<Refutation>, env: Option<Env>, place: usize) -> Option<Refutation>
-    ensures { result ≡ first_kept known env place }
-{
-    match known {
-        Some(refutation) => Some(refutation),
-        None => match env {
-            Some(env) => Some(Refutation { place, env }),
-            None => None,
-        },
-    }
-}
-
 /// The summary with one more obligation, at a place.
-fn counted(summary: Summary, finding: Finding, place: usize) -> Summary
-    ensures refuted { result.refuted ≡ first_kept summary.refuted finding.env place }
-    ensures spent { result.spent ≡ (summary.spent || finds_spent finding.verdict) }
+fn counted(summary: Summary, verdict: Verdict, place: usize) -> Summary
+    ensures refuted { result.refuted ≡ (if is_none summary.refuted && finds_failed verdict then Some place else summary.refuted) }
+    ensures spent { result.spent ≡ (summary.spent || finds_spent verdict) }
 {
-    let spends = matches!(finding.verdict, Verdict::Spent(_));
+    let fails = matches!(verdict, Verdict::Fails);
+    let refuted = if summary.refuted.is_none() && fails {
+        Some(place)
+    } else {
+        summary.refuted
+    };
+    let spends = matches!(verdict, Verdict::Spent(_));
     Summary {
-        refuted: first_kept(summary.refuted, finding.env, place),
+        refuted,
         spent: summary.spent || spends,
     }
 }
@@ -91,53 +69,28 @@ fn report_all<B: Book, K: Sink>(
     };
     let mut place = 0;
     for o in all {
-        let finding = match report(alloc, bank, rules, o, budget, sink) {
-            Ok(finding) => finding,
+        let verdict = match report(alloc, bank, rules, o, budget, sink) {
+            Ok(verdict) => verdict,
             Err(status) => return Err(status),
         };
-        summary = counted(summary, finding, place);
+        summary = counted(summary, verdict, place);
         place += 1;
     }
     Ok(summary)
 }
 
-/// What is printed of an obligation that fails: its line, and the text of the schedule that its environment names. Its only error is out of memory.
-fn refuting<B: Book>(
+/// The last line, and the status that goes with it.
+fn last_line(
     alloc: Global,
-    typed: &Typed,
-    rules: &B,
     all: &[Obligation],
-    refuted_at: &Refutation,
-) -> Result<Text, NoMemory>
-    requires each { length all.now ≡ length (claims_of typed.now.file) }
-    requires there { refuted_at.now.place < length all.now }
-    requires shaped { IsShaped (B.kinds rules.now) typed.now.file refuted_at.now }
-    ensures { IfOk result (IsRefuting (B.kinds rules.now) typed.now.file (names_in all.now) refuted_at.now) }
-{
-    let place = refuted_at.place;
-    let named = schedule(alloc, typed, place, &refuted_at.env, rules)?;
-    let written = print_schedule(alloc, &named, typed)?;
-    let mut text = refuted(alloc, &all[place].name)?;
-    text.extend_from_slice(written.as_slice())?;
-    Ok(text)
-}
-
-/// What is printed after the lines of the verdicts, and the status that goes with it. Its only error is out of memory.
-fn last_lines<B: Book>(
-    alloc: Global,
-    typed: &Typed,
-    rules: &B,
-    all: &[Obligation],
-    summary: &Summary,
+    summary: Summary,
 ) -> Result<(Status, Text), NoMemory>
-    requires each { length all.now ≡ length (claims_of typed.now.file) }
-    requires there { IfSome summary.now.refuted (λ r. r.place < length all.now) }
-    requires shaped { IfSome summary.now.refuted (IsShaped (B.kinds rules.now) typed.now.file) }
-    ensures { IfOk result (λ end. IsEnd (B.kinds rules.now) typed.now.file (names_in all.now) summary.now end.0 end.1) }
+    requires { IsAmong (length all.now) summary.refuted }
+    ensures status { IfOk result (λ end. end.0 ≡ status_of summary) }
+    ensures text { IfOk result (λ end. end.1 ≡ last_text (names_in all.now) summary) }
 {
-    if let Some(refuted_at) = &summary.refuted {
-        let text = refuting(alloc, typed, rules, all, refuted_at)?;
-        return Ok((Status::Refuted, text));
+    if let Some(place) = summary.refuted {
+        return Ok((Status::Refuted, refuted(alloc, &all[place].name)?));
     }
     if summary.spent {
         return Ok((Status::Undecided, undecided(alloc)?));
@@ -145,10 +98,9 @@ fn last_lines<B: Book>(
     Ok((Status::Done, verified(alloc, all.len())?))
 }
 
-/// Reports the obligations of a file, and puts what is printed after their lines.
+/// Reports the obligations of a file, and puts the last line.
 fn report_file<B: Book, K: Sink>(
     alloc: Global,
-    typed: &Typed,
     bank: &mut Bank,
     rules: &B,
     all: &[Obligation],
@@ -156,26 +108,25 @@ fn report_file<B: Book, K: Sink>(
     sink: &mut K,
 ) -> Status
     requires digits { AreDigits bank.old all.now }
-    requires each { length all.now ≡ length (claims_of typed.now.file) }
-    requires shaped { AreShaped (B.kinds rules.now) typed.now.file bank.old all.now }
     requires budget { 0 < budget }
-    ensures told { IsConcluded (B.kinds rules.now) typed.now.file bank.old budget all.now (K.taken sink.old) (K.taken sink.new)
-        (Rose (K.faults sink.old) (K.faults sink.new)) result }
+    ensures told { IsConcluded bank.old budget all.now (K.taken sink.old) (K.taken sink.new) (Rose (K.faults sink.old) (K.faults sink.new)) result }
     ensures later { K.faults sink.old ≤ K.faults sink.new }
 {
     let summary = match report_all(alloc, bank, rules, all, budget, sink) {
         Ok(summary) => summary,
         Err(status) => return status,
     };
-    match last_lines(alloc, typed, rules, all, &summary) {
-        Ok((status, text)) => put_all(sink, text.as_slice(), status),
+    match last_line(alloc, all, summary) {
+        Ok((status, text)) => match put(sink, text.as_slice()) {
+            Ok(()) => status,
+            Err(status) => status,
+        },
         Err(_) => Status::NoMemory,
     }
 }
 
-/// Verifies a layer file within a budget: decides its obligations in order, puts the line of each as soon as it is decided, and then the last line, after
-/// which stands a schedule of the first obligation that fails, where one does. Nothing is put before all terms are made. The rules only make the terms
-/// smaller. Where the sink fails, the command ends with a fault.
+/// Verifies a layer file within a budget: decides its obligations in order, puts the line of each as soon as it is decided, and then the last line. Nothing
+/// is put before all terms are made. The rules only make the terms smaller. Where the sink fails, the command ends with a fault.
 pub fn verify<B: Book, K: Sink>(
     alloc: Global,
     rules: &B,
@@ -198,8 +149,5 @@ pub fn verify<B: Book, K: Sink>(
     let _ = typed.file();
     typed_histories();
     refines_by_list();
-    file_schedules();
-    one_ending();
-    printed_shows();
-    report_file(alloc, typed, &mut bank, rules, all.as_slice(), budget, sink)
+    report_file(alloc, &mut bank, rules, all.as_slice(), budget, sink)
 }

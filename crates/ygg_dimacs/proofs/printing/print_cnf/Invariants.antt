@@ -1,5 +1,5 @@
-use Rattle.std.proofs.Common.{◌≡◌, ◌++◌, drop}
-use Rattle.ygg_dimacs.specs.Printing.{clause_lines}
+use Rattle.std.proofs.Common.{◌≡◌, ◌++◌, drop, length}
+use Rattle.ygg_dimacs.specs.Printing.{header_line, clause_lines}
 use Rattle.ygg_dimacs.proofs.printing.print_cnf.Given as goal
 
 -- what is there, and then the lines that are still to come

@@ -14,8 +14,7 @@ returns-in-Err c =
       marks = c.new-2.result;
       done = c.new-3.result;
     } in
-    clauses_stop before c.take_lines.new.state (words_of_all (left_content c.args.rest)) (left_end c.args.rest) c.in-Err.refuse c.new-3.ensures c.new.ensures
-    c.in-Err.ensures
+    clauses_stop before c.take_lines.new.state (words_of_all (left_content c.args.rest)) (left_end c.args.rest) c.in-Err.refuse c.new-3.ensures c.new.ensures c.in-Err.ensures
 
 pub returns-then-state-gt0 : goal.returns-then-state-gt0
 returns-then-state-gt0 c =
@@ -27,8 +26,7 @@ returns-then-state-gt0 c =
       marks = c.new-2.result;
       done = c.new-3.result;
     } in
-    clauses_few before c.take_lines.new.state (words_of_all (left_content c.args.rest)) c.in-Ok.end (left_end c.args.rest) c.at.result c.new-3.ensures
-    c.new.ensures
+    clauses_few before c.take_lines.new.state (words_of_all (left_content c.args.rest)) c.in-Ok.end (left_end c.args.rest) c.at.result c.new-3.ensures c.new.ensures
     c.in-Ok.ensures.0 c.if-state-gt0.true c.in-Ok.ensures.2 c.at.ensures
 
 pub returns : goal.returns

@@ -1,4 +1,4 @@
-use Rattle.std.proofs.Common.{◌≡◌, List, ◌++◌}
+use Rattle.std.proofs.Common.{◌≡◌, ℕ, List, ◌++◌}
 use Rattle.ygg_dimacs.specs.Sizes.{left_size}
 use Rattle.ygg_dimacs.specs.Places.{Place, Word}
 use Rattle.ygg_dimacs.specs.Words.{words_of_all}

@@ -1,4 +1,4 @@
-use Rattle.std.proofs.Common.{◌≡◌, List, ◌++◌, length}
+use Rattle.std.proofs.Common.{◌≡◌, ℕ, List, ◌++◌, length}
 use Rattle.ygg_dimacs.specs.Places.{Place, Word}
 use Rattle.ygg_dimacs.specs.Left.{left_words}
 use Rattle.ygg_dimacs.specs.States.{IsReady, read_on}

@@ -1,6 +1,7 @@
-use Rattle.std.proofs.Common.{length, refl, sym, ◌∙◌, arith}
+use Rattle.std.proofs.Common.{length, refl, sym, ap, ◌∙◌, arith}
+use Rattle.std.specs.Str.{bytes_eq}
 use Rattle.std.proofs.lemmas.Option.{slice_get_read}
-use Rattle.ygg_dimacs_oblige.proofs.Placed.{named_none, next_none, eq_true, eq_false}
+use Rattle.ygg_dimacs_oblige.proofs.Naming.{named_none, next_none, eq_true, eq_false}
 use Rattle.ygg_dimacs_oblige.proofs.printing.place_of.Goals as goal
 
 pub returns-then-eq-clause-found : goal.returns-then-eq-clause-found

@@ -2,7 +2,7 @@ use Rattle.std.proofs.Common.{inr, refl, []}
 use Rattle.ygg_bank.proofs.Widths.{stands}
 use Rattle.ygg_gates.specs.Groups.{translated}
 use Rattle.ygg_dimacs_oblige.specs.Printed.{clauses_text}
-use Rattle.ygg_pieces.proofs.Flowing.{cut_here}
+use Rattle.ygg_dimacs_solve.proofs.Flowing.{cut_here}
 use Rattle.ygg_dimacs_oblige.proofs.printing.put_term.Goals as goal
 
 pub clauses_of-requires : goal.clauses_of-requires

@@ -1,7 +1,7 @@
-use Rattle.std.proofs.Common.{◌≤◌}
+use Rattle.std.proofs.Common.{◌++◌, ◌≤◌}
 use Rattle.ygg_cnf.specs.Literals.{truth_of}
 use Rattle.ygg_log_text.specs.Lines.{literal_words}
-use Rattle.ygg_pieces.specs.Pieces.{Flows}
+use Rattle.ygg_dimacs_solve.specs.Pieces.{Flows}
 use Rattle.ygg_dimacs_solve.specs.Solved.{true_literals}
 use Rattle.ygg_dimacs_solve.proofs.pieces.pass_values.Given as goal
 

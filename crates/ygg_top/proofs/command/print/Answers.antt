@@ -1,7 +1,6 @@
-use Rattle.std.proofs.Common.{List, ℕ, Some, subst}
-use Rattle.ygg_top.proofs.Endings.{under_name}
-use Rattle.ygg_top.proofs.Found.{unread_prints}
-use Rattle.ygg_top.specs.Ending.{Prints, Answers}
+use Rattle.std.proofs.Common.{List, [], ℕ, subst}
+use Rattle.ygg_top.proofs.Found.{unread_prints, under_name, never_fails}
+use Rattle.ygg_top.specs.Ending.{Prints, IsAnswerFor}
 use Rattle.ygg_top.proofs.command.print.Goals as goal
 
 pub returns-in-Err-clause-told : goal.returns-in-Err-clause-told
@@ -11,4 +10,7 @@ returns-in-Err-clause-told g c kinds =
 pub returns-in-Ok-clause-told : goal.returns-in-Ok-clause-told
 returns-in-Ok-clause-told g c kinds =
     under_name kinds Prints (g.L.Library.files c.args.library.now) c.args.name.now c.in-Ok.text c.print_text.result c.in-Ok.ensures.found.1
-    (subst (λ (bytes : List ℕ). Answers kinds (Prints (Some bytes)) c.print_text.result) c.as_slice.ensures (c.print_text.ensures.told kinds))
+    (subst (λ (bytes : List ℕ). IsAnswerFor kinds Prints bytes c.print_text.result) c.as_slice.ensures (c.print_text.ensures kinds))
+
+pub returns-in-Ok-clause-cause : goal.returns-in-Ok-clause-cause
+returns-in-Ok-clause-cause g c e = absurd (never_fails [] Prints c.as_slice.result.now c.print_text.result (c.print_text.ensures []) e)

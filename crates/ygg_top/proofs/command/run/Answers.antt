@@ -1,8 +1,7 @@
-use Rattle.std.proofs.Common.{List, [], ℕ, subst, sym}
+use Rattle.std.proofs.Common.{List, [], ℕ, subst}
 use Rattle.ygg_base.specs.Outside.{Rose}
-use Rattle.ygg_report.specs.Putting.{IsCutOf, IsPutSo, Puts}
-use Rattle.ygg_dimacs_oblige.specs.Printed.{IsNamed, Printed}
-use Rattle.ygg_top.proofs.Ends.{put_reports, stream_reports, count_reports, solve_reports, ask_reports}
+use Rattle.ygg_report.specs.Putting.{IsPutSo}
+use Rattle.ygg_top.proofs.Ends.{put_reports, stream_reports, count_reports}
 use Rattle.ygg_top.proofs.command.run.Goals as goal
 
 pub verify-requires : goal.verify-requires
@@ -27,29 +26,3 @@ returns-in-Demos-clause-told g c =
     count_reports (g.B.Book.kinds c.args.rules.now) (g.L.Library.files c.args.library.now) c.args.words.now (g.K.Sink.taken c.args.sink.now)
     (g.K.Sink.taken c.demo.new.sink) _ _ c.in-Demos.typed.file c.in-Demos.number c.demo.result
     (c.in-Demos.ensures.told (g.B.Book.kinds c.args.rules.now)) c.demo.ensures.told
-
-pub solve_cnf-requires-clause-budget : goal.solve_cnf-requires-clause-budget
-solve_cnf-requires-clause-budget g c = (c.in-Solves.ensures.told []).0
-
-pub solve_cnf-requires-clause-numbered : goal.solve_cnf-requires-clause-numbered
-solve_cnf-requires-clause-numbered g c = (c.in-Solves.ensures.told []).1
-
-pub returns-in-Solves-clause-told : goal.returns-in-Solves-clause-told
-returns-in-Solves-clause-told g c =
-    solve_reports (g.B.Book.kinds c.args.rules.now) (g.L.Library.files c.args.library.now) c.args.words.now (g.K.Sink.taken c.args.sink.now)
-    (g.K.Sink.taken c.solve_cnf.new.sink) _ _ c.in-Solves.cnf c.in-Solves.budget c.solve_cnf.result
-    (c.in-Solves.ensures.told (g.B.Book.kinds c.args.rules.now)) c.solve_cnf.ensures.told
-
-pub put_obligation-requires : goal.put_obligation-requires
-put_obligation-requires g c =
-    subst (λ (name : List ℕ). IsNamed c.in-Asks.typed.file name) (sym c.as_slice-in-Asks.ensures) (c.in-Asks.ensures.told []).0
-
-pub returns-in-Asks-clause-told : goal.returns-in-Asks-clause-told
-returns-in-Asks-clause-told g c =
-    let put = subst (λ (name : List ℕ). Puts (Printed (g.B.Book.kinds c.args.rules.now) c.in-Asks.typed.file name)
-    (IsCutOf (Printed (g.B.Book.kinds c.args.rules.now) c.in-Asks.typed.file name)) (g.K.Sink.taken c.args.sink.now)
-    (g.K.Sink.taken c.put_obligation.new.sink) (Rose (g.K.Sink.faults c.args.sink.now) (g.K.Sink.faults c.put_obligation.new.sink))
-    c.put_obligation.result) c.as_slice-in-Asks.ensures c.put_obligation.ensures.told in
-    ask_reports (g.B.Book.kinds c.args.rules.now) (g.L.Library.files c.args.library.now) c.args.words.now (g.K.Sink.taken c.args.sink.now)
-    (g.K.Sink.taken c.put_obligation.new.sink) _ _ c.in-Asks.typed.file c.in-Asks.name c.put_obligation.result
-    (c.in-Asks.ensures.told (g.B.Book.kinds c.args.rules.now)) put

@@ -1,7 +1,6 @@
 use Rattle.std.proofs.Common.{List, ℕ, subst}
-use Rattle.ygg_top.specs.Ending.{Verifies}
 use Rattle.ygg_top.specs.Words.{IsBudget}
-use Rattle.ygg_top.proofs.Endings.{within_budget}
+use Rattle.ygg_top.proofs.Ends.{within_budget}
 use Rattle.ygg_top.proofs.command.verify_within.Goals as goal
 
 pub returns-in-Ok-Some-clause-told : goal.returns-in-Ok-Some-clause-told
@@ -9,5 +8,5 @@ returns-in-Ok-Some-clause-told g c kinds =
     let found = rw c.in-Ok-Some.field-0-is at c.in-Ok-Some.ensures in
     let is : IsBudget c.args.word.now c.in-Ok-Some.budget =
     subst (λ (word : List ℕ). IsBudget word c.in-Ok-Some.budget) c.as_slice.ensures found in
-    within_budget kinds (Verifies kinds) (g.L.Library.files c.args.library.now) c.args.name.now c.args.word.now c.in-Ok-Some.budget c.verify.result is
+    within_budget kinds (g.L.Library.files c.args.library.now) c.args.name.now c.args.word.now c.in-Ok-Some.budget c.verify.result is
     (c.verify.ensures.told kinds)

@@ -13,10 +13,10 @@ use Rattle.ygg_top.proofs.counting.all_found.Goals as goal
 pub loop-o-preserved : goal.loop-o-preserved
 loop-o-preserved g c =
     let i = c.loop-o.invariant in
-    let v = c.in_ok-finding.finding.verdict in
+    let v = c.in_ok-verdict.verdict in
     let vs = c.loop-o.verdicts in
     let here = slice_get_read c.args.all.now _ c.loop-o.o-index c.o-item.result refl c.loop-o-test.true c.o-item.is in
-    let found = subst (λ (ns : List Node). IsFound ns c.o-item.result.term usual_budget v) i.same c.in_ok-finding.ensures.found in
+    let found = subst (λ (ns : List Node). IsFound ns c.o-item.result.term usual_budget v) i.same c.in_ok-verdict.ensures.found in
     let pushed = c.in_ok-push.ensures.ok in
     record {
       each = ap length pushed ∙ length-append vs (v ∷ []) ∙ (let e = i.each in omega (arith, e));

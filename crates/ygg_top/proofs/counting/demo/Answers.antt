@@ -33,7 +33,6 @@ returns-in-Ok-put-clause-told g c =
       typed = c.file.ensures.typed;
       by_list = c.refines_by_list.ensures;
       histories = c.typed_histories.ensures;
-      schedules = c.file_schedules.ensures;
     } in
     let e = c.in-Ok-obligations.ensures in
     let found = c.in-Ok-all_found.ensures in
@@ -61,7 +60,6 @@ returns-clause-told g c =
       typed = c.file.ensures.typed;
       by_list = c.refines_by_list.ensures;
       histories = c.typed_histories.ensures;
-      schedules = c.file_schedules.ensures;
     } in
     let e = c.in-Ok-obligations.ensures in
     let found = c.in-Ok-all_found.ensures in

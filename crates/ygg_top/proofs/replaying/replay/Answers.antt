@@ -25,4 +25,4 @@ returns-in-Err-At-clause-told g c =
     let refuses = rw c.in-Err-At.field-0-is at c.in-Err-At.ensures.refused in
     refused_file (g.L.Library.files c.args.library.now) c.args.name.now c.args.schedule.now c.in-Ok.text c.in-Err-At.at c.refused.result
     c.in-Ok.ensures.found.1 c.in-Ok.ensures.found.0
-    (subst (λ (bytes : List ℕ). RefusesLayers bytes c.in-Err-At.at) c.as_slice.ensures refuses) c.refused.ensures.told
+    (subst (λ (bytes : List ℕ). RefusesLayers bytes c.in-Err-At.at) c.as_slice.ensures refuses) c.refused.ensures

@@ -1,7 +1,8 @@
-use Rattle.std.proofs.Common.{◌≡◌, ◌+◌, List, refl, ap, subst, ◌∙◌, arith}
+use Rattle.std.proofs.Common.{◌≡◌, ◌&&◌, if◌then◌else◌, is_none, ◌+◌, List, Some, refl, ap, subst, ◌∙◌, arith}
 use Rattle.std.proofs.lemmas.Option.{slice_get_read}
 use Rattle.ygg_bank.specs.declared.node.Node.{Node}
-use Rattle.ygg_top.specs.Findings.{IsFound, IsKept, first_kept}
+use Rattle.ygg_report.specs.Tallies.{finds_failed}
+use Rattle.ygg_top.specs.Findings.{IsFound}
 use Rattle.ygg_top.proofs.Reporting.{none_reported, one_reported, unreported_since}
 use Rattle.ygg_top.proofs.verdict.report_all.Goals as goal
 
@@ -32,18 +33,15 @@ returns-in-Err-clause-stopped g c =
 pub loop-o-preserved : goal.loop-o-preserved
 loop-o-preserved g c =
     let i = c.loop-o.invariant in
-    let f = c.in-Ok.finding in
-    let o = c.o-item.result in
-    let here = slice_get_read c.args.all.now _ c.loop-o.o-index o refl c.loop-o-test.true c.o-item.is in
-    let found = subst (λ (ns : List Node). IsFound ns o.term c.args.budget f.verdict) i.same c.in-Ok.ensures.found in
-    let kept = subst (λ (ns : List Node). IsKept ns o.term f.verdict f.env) i.same c.in-Ok.ensures.kept in
-    let refuted = subst (λ n. c.counted-summary.result.refuted ≡ first_kept c.loop-o.summary.refuted f.env n) i.place c.counted-summary.ensures.refuted in
+    let here = slice_get_read c.args.all.now _ c.loop-o.o-index c.o-item.result refl c.loop-o-test.true c.o-item.is in
+    let found = subst (λ (ns : List Node). IsFound ns c.o-item.result.term c.args.budget c.in-Ok.verdict) i.same c.in-Ok.ensures.found in
     record {
       place = ap (λ n. n + 1) i.place;
       same = c.report.ensures.same ∙ i.same;
       later = let l = i.later in let m = c.report.ensures.later in omega (arith, l, m);
       reported =
           one_reported c.args.bank.now c.args.budget c.args.all.now (g.K.Sink.taken c.args.sink.now) (g.K.Sink.taken c.loop-o.sink)
-          (g.K.Sink.taken c.report.new.sink) c.loop-o.o-index c.loop-o.summary c.counted-summary.result o f.verdict f.env i.reported here found kept
-          c.in-Ok.ensures.put refuted c.counted-summary.ensures.spent;
+          (g.K.Sink.taken c.report.new.sink) c.loop-o.o-index c.loop-o.summary c.counted-summary.result c.o-item.result c.in-Ok.verdict i.reported here found
+          c.in-Ok.ensures.put (subst (λ n. c.counted-summary.result.refuted ≡ (if is_none c.loop-o.summary.refuted && finds_failed c.in-Ok.verdict then Some n else
+          c.loop-o.summary.refuted)) i.place c.counted-summary.ensures.refuted) c.counted-summary.ensures.spent;
     }

@@ -1,10 +1,8 @@
-use Rattle.std.proofs.Common.{◌≡◌, ◌++◌, take, refl, sym, subst, ◌∙◌}
-use Rattle.ygg_cert.specs.declared.verdict.Fed.{Fed}
+use Rattle.std.proofs.Common.{◌≡◌, ℕ, List, ◌++◌, take, refl, sym, ap, subst, ◌∙◌}
+use Rattle.ygg_cert.specs.declared.phase.Phase.{Phase}
 use Rattle.ygg_cert.specs.declared.reading.Reading.{Reading}
-use Rattle.ygg_cert.specs.Judging.{SoFar}
-use Rattle.ygg_cert.specs.Standing.{IsEnded}
-use Rattle.ygg_cert.proofs.Read.{piece_none, piece_more, piece_all}
-use Rattle.ygg_cert.proofs.Told.{fed_so_far}
+use Rattle.ygg_cert.specs.Standing.{IsEnded, IsFed}
+use Rattle.ygg_cert.proofs.Stood.{piece_none, piece_more, piece_all}
 use Rattle.ygg_cert.proofs.reading.Reading.feed.Goals as goal
 
 pub loop-byte-init : goal.loop-byte-init
@@ -17,7 +15,7 @@ loop-byte-preserved g c = record {
       (c.read.ensures.fed (text ++ take c.loop-byte.byte-index c.args.piece.now) (c.loop-byte.invariant.fed text was));
   still = λ ended.
       let before : c.loop-byte.self ≡ c.args.self.now = c.loop-byte.invariant.still ended in
-      c.read.ensures.still (subst (λ (r : Reading). IsEnded r.next.phase) (sym before) ended) ∙ before;
+      c.read.ensures.still (subst (λ (r : Reading). IsEnded r.phase) (sym before) ended) ∙ before;
 }
 
 pub returns-clause-fed : goal.returns-clause-fed
@@ -26,9 +24,8 @@ returns-clause-fed g c text was =
 
 pub returns-clause-told : goal.returns-clause-told
 returns-clause-told g c text was =
-    subst (λ (f : Fed). SoFar (g.G.Goals.wanted c.args.goals.now) (text ++ c.args.piece.now) f) (sym c.so_far.ensures)
-    (fed_so_far (g.G.Goals.wanted c.args.goals.now) (text ++ c.args.piece.now) c.loop-byte.self
-    (piece_all _ text c.args.piece.now c.loop-byte.byte-index c.loop-byte.self c.loop-byte-test.false (c.loop-byte.invariant.fed text was)))
+    c.so_far.ensures.told _ (text ++ c.args.piece.now)
+    (piece_all _ text c.args.piece.now c.loop-byte.byte-index c.loop-byte.self c.loop-byte-test.false (c.loop-byte.invariant.fed text was))
 
 pub returns-clause-still : goal.returns-clause-still
 returns-clause-still g c ended = c.loop-byte.invariant.still ended

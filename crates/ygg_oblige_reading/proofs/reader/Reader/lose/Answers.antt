@@ -1,4 +1,4 @@
-use Rattle.std.proofs.Common.{ℕ, Bool, [], subst, arith}
+use Rattle.std.proofs.Common.{◌≤◌, ℕ, Bool, [], subst, arith}
 use Rattle.std.proofs.lemmas.Option.{slice_get_within}
 use Rattle.ygg_eval_fronts.specs.Steps.{FellBetween}
 use Rattle.ygg_oblige_reading.specs.Here.{file_of}
@@ -12,5 +12,5 @@ lose_fronts-requires-clause-there c =
 pub returns : goal.returns
 returns c =
     let r = c.args.self.now in
-    subst (λ (bits : ℕ → Bool). FellBetween (file_of r) r.site.place bits c.args.low.now c.in_ok-lost.lost.low [] c.in_ok-lost.lost.picks)
-    c.choices-last.ensures c.in_ok-lost.ensures.lost
+    subst (λ (bits : ℕ → Bool). FellBetween (file_of r) r.site.place bits c.args.low.now c.in_ok-lost.lost.low [] c.in_ok-lost.lost.picks.items)
+    c.choices-last.ensures c.in_ok-lost.ensures

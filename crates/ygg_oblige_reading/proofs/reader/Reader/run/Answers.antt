@@ -11,6 +11,6 @@ returns c =
     let args = c.args.args.now in
     let memory = c.args.memory in
     let low = c.args.low in
-    λ l b is. (c.in_ok-front.ensures.fronted l b is).picks
+    λ l b is. c.from_vec.ensures ∙ (c.in_ok-front.ensures l b is).picks
     ∙ ap (λ (bits : ℕ → Bool). run_picks (below_of r) (layer_at r block args memory low l) b (memory_env r block args memory low l)
     (args_env r block args memory low l) (low_env r low) bits) c.choices.ensures

@@ -1,2 +1,0 @@
-mod Certificate
-mod Firsts
