@@ -7,6 +7,5 @@ mod scanner;
 mod spelling;
 
 pub use law::follows_rules;
-pub use recognize::is_name_byte;
 pub use scanner::tokens;
-pub use spelling::{Spelled, keyword_of};
+pub use spelling::Spelled;

@@ -20,7 +20,7 @@ pub fn is_blank(byte: u8) -> bool
 }
 
 /// Whether the byte may stand in a name after its first.
-pub fn is_name_byte(byte: u8) -> bool
+fn is_name_byte(byte: u8) -> bool
     ensures { result ≡ is_name_byte byte }
 {
     byte.is_ascii_lowercase() || byte.is_ascii_digit() || byte == b'_'

@@ -42,7 +42,7 @@ use Rattle.ygg_sched.specs.Laws.{ReadFits}
 use Rattle.ygg_sched.proofs.Shaped.{chosen, and_then_is, map_is, value_fits}
 
 -- the first of two steps that are read
-pub bind_ok : {A B : Type 0} (r : Read A) (f : A → Read B) (y : B) → (r >>= f) ≡ Ok y → (x : A) × (r ≡ Ok x) × (f x ≡ Ok y)
+bind_ok : {A B : Type 0} (r : Read A) (f : A → Read B) (y : B) → (r >>= f) ≡ Ok y → (x : A) × (r ≡ Ok x) × (f x ≡ Ok y)
 bind_ok (Ok x) f y e = (x, refl, e)
 bind_ok (Err refusal) f y e = absurd cc
 
@@ -80,7 +80,7 @@ variables_fit word (d ∷ ds) at x e =
     (variable_fits word d.name.text d.shape at a.0 a.1, variables_fit word ds a.0.1 b.0 b.1)
 
 -- a number that is read
-pub decimal_fits : (bytes : List ℕ) (n : ℕ) → decimal_in bytes ≡ Some n → n < 2 ^ 64
+decimal_fits : (bytes : List ℕ) (n : ℕ) → decimal_in bytes ≡ Some n → n < 2 ^ 64
 decimal_fits bytes n e = by_test (not (is_empty bytes) && list_all is_digit bytes) refl
   where
     by_test : (test : Bool) → (not (is_empty bytes) && list_all is_digit bytes) ≡ test → n < 2 ^ 64

@@ -54,7 +54,7 @@ fn number_of(digits: &[u8]) -> Option<u64>
 }
 
 /// The number below 2 ^ 64 that decimal digits without a leading zero give.
-pub fn decimal_in(bytes: &[u8]) -> Option<u64>
+fn decimal_in(bytes: &[u8]) -> Option<u64>
     ensures { result ≡ decimal_in bytes.now }
 {
     if bytes.is_empty() || !are_digits(bytes) {

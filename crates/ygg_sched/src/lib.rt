@@ -33,16 +33,11 @@ mod value_reading;
 mod value_writing;
 mod words;
 
-pub use bits::bits_in;
 pub use case::{Case, Kind};
 pub use claim::{Claim, Low, Obligation};
-pub use decimal::decimal_in;
 pub use flaw::Flaw;
 pub use law::{printed_is_read, read_fits, sites_are_claims};
 pub use naming::{case_named, claim_named};
 pub use printing::print_schedule;
 pub use reading::read_schedule;
-pub use rest::Rest;
 pub use schedule::{Halt, Run, Schedule};
-pub use value_reading::value_in;
-pub use words::{after_front, cut};

@@ -53,6 +53,8 @@ ending_to Does Other (answer.Verifies typed budget) to is = is
 ending_to Does Other (answer.Demos typed number) to is = is
 ending_to Does Other (answer.Solves cnf budget) to is = is
 ending_to Does Other (answer.Asks typed name) to is = is
+ending_to Does Other (answer.Checks typed bytes) to is = is
+ending_to Does Other (answer.Certifies typed budget) to is = is
 ending_to Does Other (answer.Ends status text) to is = to status text is
 
 -- an ending is an answer
@@ -64,6 +66,8 @@ ending_answers kinds Does Other (answer.Verifies typed budget) to is = absurd is
 ending_answers kinds Does Other (answer.Demos typed number) to is = absurd is
 ending_answers kinds Does Other (answer.Solves cnf budget) to is = absurd is
 ending_answers kinds Does Other (answer.Asks typed name) to is = absurd is
+ending_answers kinds Does Other (answer.Checks typed bytes) to is = absurd is
+ending_answers kinds Does Other (answer.Certifies typed budget) to is = absurd is
 ending_answers kinds Does Other (answer.Ends status text) to is = to status text is
 
 -- an answer of what does one thing and so another
@@ -75,6 +79,8 @@ answer_to kinds Does Other (answer.Verifies typed budget) to is = (is.0, λ stat
 answer_to kinds Does Other (answer.Demos typed number) to is = λ status text verdict. to status text (is status text verdict)
 answer_to kinds Does Other (answer.Solves cnf budget) to is = (is.0, is.1, λ status text solved. to status text (is.2 status text solved))
 answer_to kinds Does Other (answer.Asks typed name) to is = (is.0, λ status text printed. to status text (is.1 status text printed))
+answer_to kinds Does Other (answer.Checks typed bytes) to is = λ status text checked. to status text (is status text checked)
+answer_to kinds Does Other (answer.Certifies typed budget) to is = (is.0, λ status text ended. to status text (is.1 status text ended))
 answer_to kinds Does Other (answer.Ends status text) to is = to status text is
 
 -- what is done where a refusal's status and line are is done where a status and a text are so

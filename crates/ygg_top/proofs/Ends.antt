@@ -15,6 +15,7 @@ use Rattle.ygg_rules.specs.declared.rule.RuleKind.{RuleKind}
 use Rattle.ygg_dimacs.specs.declared.cnf.Cnf.{Cnf}
 use Rattle.ygg_dimacs_solve.specs.Solved.{Solved}
 use Rattle.ygg_dimacs_oblige.specs.Printed.{Printed}
+use Rattle.ygg_certify.specs.Checking.{Checks}
 use Rattle.ygg_top.specs.declared.answer.CommandEnd.{CommandEnd}
 use Rattle.ygg_top.specs.declared.help.TheConstants.{HELP, VERSION}
 use Rattle.ygg_top.specs.Words.{is_alone, word_after, two_words_after, usual_budget}
@@ -23,6 +24,8 @@ use Rattle.ygg_top.specs.Standing.{DoesWith, DoesWithin, IsRefused}
 use Rattle.ygg_top.specs.Replaying.{ReplaysStored, Replays, ReplaysNamed}
 use Rattle.ygg_top.specs.Solving.{Solves}
 use Rattle.ygg_top.specs.Asking.{Asks, AsksStored, AsksNamed}
+use Rattle.ygg_top.specs.Certifying.{Certified, CertifiesStored}
+use Rattle.ygg_top.specs.Checking.{ChecksStored, ChecksFor, ChecksNamed}
 use Rattle.ygg_top.specs.Ending.{
   Verifies,
   Prints,
@@ -34,11 +37,13 @@ use Rattle.ygg_top.specs.Ending.{
   CountingIs,
   SolvingIs,
   AskingIs,
+  CertifyingIs,
   Answers,
   IsDone,
   IsEnding,
   IsCutRun,
   IsLeft,
+  PutsOnce,
   Streams,
 }
 use Rattle.ygg_top.proofs.Endings.{answer_to, ending_answers, refused_answers}
@@ -53,6 +58,8 @@ record Never (kinds : List RuleKind) (s : Status) : Type 0 where
   replayed : (f : File) (bytes text : List ℕ) → Replaying f bytes s text → ⊥
   solved : (c : Cnf) (budget : ℕ) (text : List ℕ) → Solved c budget s text → ⊥
   asked : (f : File) (name text : List ℕ) → Printed kinds f name s text → ⊥
+  checked : (f : File) (bytes text : List ℕ) → Checks kinds f bytes s text → ⊥
+  certified : (f : File) (budget : ℕ) (text : List ℕ) → Certified kinds f budget s text → ⊥
 
 fault_shown : (answer : Replayed) → Fault ≡ status_of answer → ⊥
 fault_shown Shows e = absurd (cc e)
@@ -83,6 +90,8 @@ never_fault kinds = record {
   replayed = fault_replayed;
   solved = λ c budget text is. is;
   asked = λ f name text is. is;
+  checked = λ f bytes text is. is;
+  certified = λ f budget text is. is;
 }
 
 -- nothing ends with want of memory
@@ -96,6 +105,8 @@ never_want kinds = record {
   replayed = want_replayed;
   solved = λ c budget text is. is;
   asked = λ f name text is. is;
+  checked = λ f bytes text is. is;
+  certified = λ f budget text is. is;
 }
 
 -- what never holds in either case never holds
@@ -138,6 +149,18 @@ module _ (kinds : List RuleKind) (files : Option (List Held)) where
         at (inl none) = never.refused none.1.0
         at (inr printed) = never.asked is.1 name text printed
 
+    never_checks_stored : (f : File) (stored : Option (List ℕ)) (text : List ℕ) → ChecksStored kinds f stored s text → ⊥
+    never_checks_stored f stored text (inl is) = never.refused is.2.0
+    never_checks_stored f stored text (inr is) = never.checked f is.0 text is.3
+
+    never_checks : (certificate : List ℕ) (stored : Option (List ℕ)) (text : List ℕ) → ChecksFor kinds files certificate stored s text → ⊥
+    never_checks certificate stored text (inl is) = never.refused is.2.0
+    never_checks certificate stored text (inr is) = never_checks_stored is.1 is.4.0 text is.4.2
+
+    never_certifies : (budget : ℕ) (stored : Option (List ℕ)) (text : List ℕ) → CertifiesStored kinds budget stored s text → ⊥
+    never_certifies budget stored text (inl is) = never.refused is.2.0
+    never_certifies budget stored text (inr is) = never.certified is.1 budget text is.4
+
     -- no command ends so
     never_ends : (words : List (List ℕ)) (text : List ℕ) → Ends kinds words files s text → ⊥
     never_ends words text =
@@ -150,7 +173,13 @@ module _ (kinds : List RuleKind) (files : Option (List Held)) where
         (none_of (two_words_after (codes "replay") words) _ _
         (none_of (word_after (codes "solve") words) _ _
         (none_of (two_words_after (codes "solve") words) _ _
-        (none_of (two_words_after (codes "cnf") words) _ _ (λ is. never.refused is.0)
+        (none_of (two_words_after (codes "cnf") words) _ _
+        (none_of (two_words_after (codes "check") words) _ _
+        (none_of (word_after (codes "certify") words) _ _
+        (none_of (two_words_after (codes "certify") words) _ _ (λ is. never.refused is.0)
+        (λ asked is. never_within (CertifiesStored kinds) asked.0 asked.1 text (λ budget stored does. never_certifies budget stored text does) is))
+        (λ name is. never_certifies usual_budget is.0 text is.2))
+        (λ asked is. never_checks asked.1 is.0 text is.2))
         (λ asked is. never_asks asked.1 is.0 text is.2))
         (λ asked is. never_within Solves asked.0 asked.1 text (λ budget stored does. never_solves budget stored text does) is))
         (λ name is. never_solves usual_budget is.0 text is.2))
@@ -210,12 +239,32 @@ module _ (kinds : List RuleKind) (files : Option (List Held)) where
                     clauses_asked file name a is =
                         asked_answer (AsksNamed kinds files file name) (λ status text does. rw (h, v, f, b, p, d, r, s, t, a) does) is
 
-                    -- other words
-                    pub nothing_asked : (at : Refusal) → two_words_after (codes "cnf") words ≡ None → at ≡ refusal_at reason.Words 0 0 →
-                        IsEnding (IsRefused at) found → Answers kinds (Ends kinds words files) found
-                    nothing_asked at a same is =
-                        refused_answers kinds (Ends kinds words files) at (refusal_at reason.Words 0 0) found same
-                        (λ status text does. rw (h, v, f, b, p, d, r, s, t, a) does) is
+                    module _ (a : two_words_after (codes "cnf") words ≡ None) where
+                      pub check_asked : (file certificate : List ℕ) → two_words_after (codes "check") words ≡ Some (file, certificate) →
+                          Answers kinds (ChecksNamed kinds files file certificate) found → Answers kinds (Ends kinds words files) found
+                      check_asked file certificate k is =
+                          asked_answer (ChecksNamed kinds files file certificate) (λ status text does. rw (h, v, f, b, p, d, r, s, t, a, k) does) is
+
+                      module _ (k : two_words_after (codes "check") words ≡ None) where
+                        pub certify_asked : (name : List ℕ) → word_after (codes "certify") words ≡ Some name →
+                            Answers kinds (DoesWith (CertifiesStored kinds usual_budget) files name) found → Answers kinds (Ends kinds words files) found
+                        certify_asked name c is =
+                            asked_answer (DoesWith (CertifiesStored kinds usual_budget) files name)
+                            (λ status text does. rw (h, v, f, b, p, d, r, s, t, a, k, c) does) is
+
+                        module _ (c : word_after (codes "certify") words ≡ None) where
+                          pub certify_within_asked : (name word : List ℕ) → two_words_after (codes "certify") words ≡ Some (name, word) →
+                              Answers kinds (DoesWithin (CertifiesStored kinds) files name word) found → Answers kinds (Ends kinds words files) found
+                          certify_within_asked name word w is =
+                              asked_answer (DoesWithin (CertifiesStored kinds) files name word)
+                              (λ status text does. rw (h, v, f, b, p, d, r, s, t, a, k, c, w) does) is
+
+                          -- other words
+                          pub nothing_asked : (at : Refusal) → two_words_after (codes "certify") words ≡ None → at ≡ refusal_at reason.Words 0 0 →
+                              IsEnding (IsRefused at) found → Answers kinds (Ends kinds words files) found
+                          nothing_asked at w same is =
+                              refused_answers kinds (Ends kinds words files) at (refusal_at reason.Words 0 0) found same
+                              (λ status text does. rw (h, v, f, b, p, d, r, s, t, a, k, c, w) does) is
 
     -- the text that is printed for a word alone
     pub help_asked : (found : CommandEnd) (whole : List ℕ) → is_alone (codes "--help") words ≡ true → whole ≡ HELP.now → IsEnding (IsDone whole) found →
@@ -296,4 +345,20 @@ module _ (kinds : List RuleKind) (files : Option (List Held)) where
           Reports kinds words files before now LibraryRose SinkRose result
       ask_reports f name result v s =
           puts_reports (Printed kinds f name) (IsCutOf (Printed kinds f name)) result v.1
-          (λ front cut. inr (inr (record { file = f; name = name; does = v; cut = cut }))) s
+          (λ front cut. inr (inr (inl (record { file = f; name = name; does = v; cut = cut })))) s
+
+      -- what ends with a status and a text that the command may end with, and is put at once
+      pub once_reports : (Ended : Status → List ℕ → Type 0) (result : Status) →
+          ((status : Status) (text : List ℕ) → Ended status text → Ends kinds words files status text) → PutsOnce Ended before now SinkRose result →
+          Reports kinds words files before now LibraryRose SinkRose result
+      once_reports Ended result v (inl put) = put_reports put.0 put.1 result (v put.0 put.1 put.2) put.3
+      once_reports Ended result v (inr want) =
+          subst (λ (s : Status). Reports kinds words files before now LibraryRose SinkRose s) (sym want.0) (inl want.1)
+
+      -- a file that is certified
+      pub certify_reports : (f : File) (budget : ℕ) (result : Status) → CertifyingIs kinds f budget (Ends kinds words files) →
+          Puts (Certified kinds f budget) (IsCutOf (Certified kinds f budget)) before now SinkRose result →
+          Reports kinds words files before now LibraryRose SinkRose result
+      certify_reports f budget result v s =
+          puts_reports (Certified kinds f budget) (IsCutOf (Certified kinds f budget)) result v.1
+          (λ front cut. inr (inr (inr (record { file = f; budget = budget; does = v; cut = cut })))) s

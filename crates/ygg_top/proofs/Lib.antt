@@ -1,11 +1,14 @@
 mod Canonical
 mod Found
+mod Checked
 mod Endings
 mod Shown
 mod Written
 mod Judging
 mod Verdicts
 mod Reporting
+mod Opened
+mod Certifies
 mod Ends
 mod Budgets
 mod Making

@@ -10,12 +10,13 @@ use Rattle.ygg_base.specs.Lexing.{tokens_of}
 use Rattle.ygg_syntax.specs.declared.tree.File.{File}
 use Rattle.ygg_print.specs.Canonical.{canonical, GivesAgain}
 use Rattle.ygg_report.specs.Lines.{ended, refused_line}
-use Rattle.ygg_report.specs.Putting.{Adds, IsFront, IsCutOf}
+use Rattle.ygg_report.specs.Putting.{Adds, IsFront, IsCutOf, IsPutSo}
 use Rattle.ygg_rules.specs.declared.rule.RuleKind.{RuleKind}
 use Rattle.ygg_solver.specs.Answers.{IsNumbered}
 use Rattle.ygg_dimacs.specs.declared.cnf.Cnf.{Cnf}
 use Rattle.ygg_dimacs_solve.specs.Solved.{Solved}
 use Rattle.ygg_dimacs_oblige.specs.Printed.{IsNamed, Printed}
+use Rattle.ygg_certify.specs.Checking.{Checks}
 use Rattle.ygg_top.specs.declared.help.TheConstants.{HELP, VERSION}
 use Rattle.ygg_top.specs.declared.answer.CommandEnd.{CommandEnd}
 use Rattle.ygg_top.specs.declared.answer.CommandEnd.TheVariants as answer
@@ -26,6 +27,8 @@ use Rattle.ygg_top.specs.Standing.{Stands, DoesWith, DoesWithin, IsRefused}
 use Rattle.ygg_top.specs.Replaying.{ReplaysNamed}
 use Rattle.ygg_top.specs.Solving.{Solves}
 use Rattle.ygg_top.specs.Asking.{AsksNamed}
+use Rattle.ygg_top.specs.Checking.{ChecksNamed}
+use Rattle.ygg_top.specs.Certifying.{Certified, CertifiesStored}
 use Rattle.ygg_top.specs.Verdict.{ByVerdicts, Verified, Counted}
 
 -- `verify` within a budget of what stands under the name, under a book of these kinds: it is refused, or it is a layer file without a fault, and there
@@ -74,7 +77,13 @@ Ends kinds words files status text =
     (MatchOption (two_words_after (codes "replay") words)
     (MatchOption (word_after (codes "solve") words)
     (MatchOption (two_words_after (codes "solve") words)
-    (MatchOption (two_words_after (codes "cnf") words) (IsRefused (refusal_at reason.Words 0 0) status text)
+    (MatchOption (two_words_after (codes "cnf") words)
+    (MatchOption (two_words_after (codes "check") words)
+    (MatchOption (word_after (codes "certify") words)
+    (MatchOption (two_words_after (codes "certify") words) (IsRefused (refusal_at reason.Words 0 0) status text)
+    (λ asked. DoesWithin (CertifiesStored kinds) files asked.0 asked.1 status text))
+    (λ name. DoesWith (CertifiesStored kinds usual_budget) files name status text))
+    (λ asked. ChecksNamed kinds files asked.0 asked.1 status text))
     (λ asked. AsksNamed kinds files asked.0 asked.1 status text))
     (λ asked. DoesWithin Solves files asked.0 asked.1 status text))
     (λ name. DoesWith (Solves usual_budget) files name status text))
@@ -130,14 +139,26 @@ pub record IsCutAsking (kinds : List RuleKind) (words : List (List ℕ)) (files 
   pub does : AskingIs kinds file name (Ends kinds words files)
   pub cut : IsCutOf (Printed kinds file name) front
 
+-- A file is to be certified within a budget, and however that ends, it is this that the command does.
+abbrev pub CertifyingIs : List RuleKind → File → ℕ → (Status → List ℕ → Type 0) → Type 0
+CertifyingIs kinds f budget Does = (0 < budget) × ((status : Status) (text : List ℕ) → Certified kinds f budget status text → Does status text)
+
+-- certifying a file is what the command does, and this is a front of what comes of it
+pub record IsCutCertifying (kinds : List RuleKind) (words : List (List ℕ)) (files : Option (List Held)) (front : List ℕ) : Type 0 where
+  pub file : File
+  pub budget : ℕ
+  pub does : CertifyingIs kinds file budget (Ends kinds words files)
+  pub cut : IsCutOf (Certified kinds file budget) front
+
 -- the command puts its text piece by piece, and this is a front of it
 abbrev pub IsLeft : List RuleKind → List (List ℕ) → Option (List Held) → List ℕ → Type 0
 IsLeft kinds words files front =
-    IsCutRun kinds words files front ⊎ IsCutSolving kinds words files front ⊎ IsCutAsking kinds words files front
+    IsCutRun kinds words files front ⊎ IsCutSolving kinds words files front ⊎ IsCutAsking kinds words files front ⊎ IsCutCertifying kinds words files front
 
 -- What the sink has taken by the end of a command, from `before` to `now`, and why a fault came: the library's count of faults has risen, or the sink's.
 -- Where the sink failed, it is a front of what the command would have printed, or of the text of true verdicts on the file that it was verifying. Where no
--- memory was left, nothing was printed; or the command was verifying a file, solving clauses or printing those of an obligation, and such a front.
+-- memory was left, nothing was printed; or the command was verifying a file, solving clauses, printing those of an obligation or certifying a file, and such
+-- a front.
 abbrev pub Reports : List RuleKind → List (List ℕ) → Option (List Held) → Option (List ℕ) → Option (List ℕ) → (LibraryRose SinkRose : Type 0) → Status → Type 0
 Reports kinds words files before now LibraryRose SinkRose Fault =
     (LibraryRose × Adds before library_fault now)
@@ -150,6 +171,10 @@ Reports kinds words files before now LibraryRose SinkRose status = (text : List 
 abbrev pub CountingIs : List RuleKind → ℕ → File → (Status → List ℕ → Type 0) → Type 0
 CountingIs kinds number f Does = (status : Status) (text : List ℕ) → Counted kinds number f status text → Does status text
 
+-- A text is to be checked as the certificate of a file, and however that ends, it is this that the command does.
+abbrev pub CheckingIs : List RuleKind → File → List ℕ → (Status → List ℕ → Type 0) → Type 0
+CheckingIs kinds f bytes Does = (status : Status) (text : List ℕ) → Checks kinds f bytes status text → Does status text
+
 -- what is found before anything is printed, where the command does this: how it ends and its text, or what is still to be done
 abbrev pub Answers : List RuleKind → (Status → List ℕ → Type 0) → CommandEnd → Type 0
 Answers kinds Does (answer.Ends status text) = Does status text
@@ -157,6 +182,8 @@ Answers kinds Does (answer.Verifies typed budget) = VerifyingIs kinds typed.file
 Answers kinds Does (answer.Demos typed number) = CountingIs kinds number typed.file Does
 Answers kinds Does (answer.Solves cnf budget) = SolvingIs cnf budget Does
 Answers kinds Does (answer.Asks typed name) = AskingIs kinds typed.file name Does
+Answers kinds Does (answer.Checks typed bytes) = CheckingIs kinds typed.file bytes Does
+Answers kinds Does (answer.Certifies typed budget) = CertifyingIs kinds typed.file budget Does
 Answers kinds Does answer.LibraryFailed = Unit {0}
 Answers kinds Does answer.NoMemory = Unit {0}
 
@@ -167,6 +194,8 @@ IsEnding Does (answer.Verifies typed budget) = ⊥
 IsEnding Does (answer.Demos typed number) = ⊥
 IsEnding Does (answer.Solves cnf budget) = ⊥
 IsEnding Does (answer.Asks typed name) = ⊥
+IsEnding Does (answer.Checks typed bytes) = ⊥
+IsEnding Does (answer.Certifies typed budget) = ⊥
 IsEnding Does answer.LibraryFailed = Unit {0}
 IsEnding Does answer.NoMemory = Unit {0}
 
@@ -186,3 +215,8 @@ Streams kinds f budget before now SinkRose Fault = SinkRose × (front : List ℕ
 Streams kinds f budget before now SinkRose NoMemory = (now ≡ before) ⊎ ((front : List ℕ) × IsCutVerdict kinds f budget front × Adds before front now)
 Streams kinds f budget before now SinkRose Refused = ⊥
 Streams kinds f budget before now SinkRose status = (text : List ℕ) × Verified kinds f budget status text × Adds before text now
+
+-- What ends with a status and a text of this kind, which is put whole or cut short with a fault; or no memory was left, and nothing was put.
+abbrev pub PutsOnce : (Status → List ℕ → Type 0) → Option (List ℕ) → Option (List ℕ) → (SinkRose : Type 0) → Status → Type 0
+PutsOnce Ended before now SinkRose result =
+    ((status : Status) × (text : List ℕ) × Ended status text × IsPutSo before now text status SinkRose result) ⊎ ((result ≡ NoMemory) × (now ≡ before))

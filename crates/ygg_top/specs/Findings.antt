@@ -154,12 +154,16 @@ pub record IsShaped (kinds : List RuleKind) (f : File) (r : Refutation) : Type 0
 pub record AreShaped (kinds : List RuleKind) (f : File) (nodes : List Node) (all : List Obligation) : Type 0 where
   pub are : (r : Refutation) → IsZeroAt nodes all r.place r.env → IsShaped kinds f r
 
--- what is printed of a refutation of one of a file's obligations of these names: the line, and the text of the schedule that its environment names
-pub record IsRefuting (kinds : List RuleKind) (f : File) (names : List (List ℕ)) (r : Refutation) (text : List ℕ) : Type 0 where
+-- what is printed of a file's obligation of this name at the place that an environment refutes: the line, and the text of the schedule that the environment names
+pub record IsRefutingBy (kinds : List RuleKind) (f : File) (name : List ℕ) (place : ℕ) (env : List Given) (text : List ℕ) : Type 0 where
   pub schedule : Schedule
-  pub named : IsNamed kinds f (inputs_of r.env) r.place schedule
+  pub named : IsNamed kinds f (inputs_of env) place schedule
   pub bounded : IfSome schedule.stop (λ h. h.event < 2 ^ 64)
-  pub text_is : text ≡ refutation f (get_or names r.place []) schedule
+  pub text_is : text ≡ refutation f name schedule
+
+-- what is printed of a refutation of one of a file's obligations of these names
+abbrev pub IsRefuting : List RuleKind → File → List (List ℕ) → Refutation → List ℕ → Type 0
+IsRefuting kinds f names r = IsRefutingBy kinds f (get_or names r.place []) r.place r.env
 
 -- what is printed last by a summary over a file's obligations of these names
 abbrev pub IsLast : List RuleKind → File → List (List ℕ) → Summary → List ℕ → Type 0

@@ -6,5 +6,7 @@ pub mod Showing
 pub mod Verdict
 pub mod Solving
 pub mod Asking
+pub mod Checking
+pub mod Certifying
 pub mod Ending
 pub mod Findings

@@ -15,6 +15,10 @@ pub enum CommandEnd {
     Solves(Cnf, u32),
     /// A layer file, of whose obligation of this name the clauses are to be printed.
     Asks(Typed, Text),
+    /// A text that is to be checked as the certificate of a layer file.
+    Checks(Typed, Text),
+    /// A layer file that is to be certified within this budget.
+    Certifies(Typed, u32),
     /// The library failed.
     LibraryFailed,
     /// No memory was left.

@@ -8,6 +8,8 @@ ghost use Rattle.ygg_top.specs.Ending.{Reports, Ends, Answers, IsDone, IsEnding,
 
 use crate::answer::CommandEnd;
 use crate::asking::ask;
+use crate::certifying::{certify, certify_within, put_certified};
+use crate::checking::{check, put_checked};
 use crate::fetching::{MOST_BYTES, fetched, refused};
 use crate::file::{file_of, printed};
 use crate::help::{HELP, VERSION};
@@ -24,7 +26,8 @@ use ygg_rules::{Book, RuleBook};
 use ygg_yard::make;
 
 /// Runs the command that the words name, and ends with its status: `verify FILE`, `verify FILE BUDGET`, `print FILE`, `demo N`, `replay FILE SCHEDULE`,
-/// `solve CNF`, `solve CNF BUDGET`, `cnf FILE OBLIGATION`, and alone `--help` or `--version`. Other words are refused 71 at `0:0`. Nothing is printed before all refusals are judged;
+/// `solve CNF`, `solve CNF BUDGET`, `cnf FILE OBLIGATION`, `check FILE CERT`, `certify FILE`,
+/// `certify FILE BUDGET`, and alone `--help` or `--version`. Other words are refused 71 at `0:0`. Nothing is printed before all refusals are judged;
 /// the lines of `verify` are put one by one, each as soon as its obligation is decided, long texts of `solve` and `cnf` piece by piece, and the others at the end.
 /// What is ensured holds for every book of rules: they only make terms smaller.
 pub fn ygg<L: Library, K: Sink>(
@@ -69,6 +72,14 @@ fn run<B: Book, L: Library, K: Sink>(
             name.as_slice(),
             sink,
         ),
+        CommandEnd::Checks(typed, text) => put_checked(
+            alloc,
+            rules,
+            &typed,
+            text.as_slice(),
+            sink,
+        ),
+        CommandEnd::Certifies(typed, budget) => put_certified(alloc, rules, &typed, budget, sink),
         CommandEnd::LibraryFailed => put_all(sink, b"fault library\n", Status::Fault),
         CommandEnd::NoMemory => Status::NoMemory,
     }
@@ -110,6 +121,15 @@ fn answer<L: Library>(alloc: Global, words: &[Text], library: &mut L) -> Command
     }
     if let Some((file, name)) = two_words_after(words, b"cnf") {
         return ask(alloc, file, name, library);
+    }
+    if let Some((file, certificate)) = two_words_after(words, b"check") {
+        return check(alloc, file, certificate, library);
+    }
+    if let Some(name) = word_after(words, b"certify") {
+        return certify(alloc, name, USUAL_BUDGET, library);
+    }
+    if let Some((name, word)) = two_words_after(words, b"certify") {
+        return certify_within(alloc, name, word, library);
     }
     refused(alloc, Reason::Words.at(0, 0))
 }

@@ -3,6 +3,8 @@
 
 mod answer;
 mod asking;
+mod certifying;
+mod checking;
 mod command;
 mod counting;
 mod fetching;

@@ -2,11 +2,13 @@
 
 ghost use Rattle.std.specs.Prelude.{◌≡◌, ◌<◌, ◌≤◌, ◌||◌, length, IfOk, IfErr, IfSome};
 ghost use Rattle.ygg_base.specs.Outside.{Rose};
+ghost use Rattle.ygg_bank.specs.Values.{inputs_of};
 ghost use Rattle.ygg_histories.specs.Claims.{claims_of};
 ghost use Rattle.ygg_oblige.specs.Obligations.{names_in};
+ghost use Rattle.ygg_oblige_reading.specs.Meant.{NamesShaped};
 ghost use Rattle.ygg_report.specs.Tallies.{finds_spent};
 ghost use Rattle.ygg_top.specs.Ending.{Streams};
-ghost use Rattle.ygg_top.specs.Findings.{AreDigits, AreShaped, IsConcluded, IsEnd, IsRefuting, IsReported, IsShaped, IsStopped, first_kept};
+ghost use Rattle.ygg_top.specs.Findings.{AreDigits, AreShaped, IsConcluded, IsEnd, IsRefutingBy, IsReported, IsShaped, IsStopped, first_kept};
 
 use crate::finding::{Finding, report};
 use std::alloc::Global;
@@ -101,23 +103,23 @@ fn report_all<B: Book, K: Sink>(
     Ok(summary)
 }
 
-/// What is printed of an obligation that fails: its line, and the text of the schedule that its environment names. Its only error is out of memory.
-fn refuting<B: Book>(
+/// What is printed of the obligation of a name and a place that fails: its line, and the text of the schedule that the environment names. Its only error is out of
+/// memory.
+pub fn refuting<B: Book>(
     alloc: Global,
     typed: &Typed,
     rules: &B,
-    all: &[Obligation],
-    refuted_at: &Refutation,
+    name: &Text,
+    place: usize,
+    env: &Env,
 ) -> Result<Text, NoMemory>
-    requires each { length all.now ≡ length (claims_of typed.now.file) }
-    requires there { refuted_at.now.place < length all.now }
-    requires shaped { IsShaped (B.kinds rules.now) typed.now.file refuted_at.now }
-    ensures { IfOk result (IsRefuting (B.kinds rules.now) typed.now.file (names_in all.now) refuted_at.now) }
+    requires there { place < length (claims_of typed.now.file) }
+    requires shaped { NamesShaped (B.kinds rules.now) typed.now.file (inputs_of env.now) place }
+    ensures { IfOk result (IsRefutingBy (B.kinds rules.now) typed.now.file name.now place env.now) }
 {
-    let place = refuted_at.place;
-    let named = schedule(alloc, typed, place, &refuted_at.env, rules)?;
+    let named = schedule(alloc, typed, place, env, rules)?;
     let written = print_schedule(alloc, &named, typed)?;
-    let mut text = refuted(alloc, &all[place].name)?;
+    let mut text = refuted(alloc, name)?;
     text.extend_from_slice(written.as_slice())?;
     Ok(text)
 }
@@ -136,7 +138,8 @@ fn last_lines<B: Book>(
     ensures { IfOk result (λ end. IsEnd (B.kinds rules.now) typed.now.file (names_in all.now) summary.now end.0 end.1) }
 {
     if let Some(refuted_at) = &summary.refuted {
-        let text = refuting(alloc, typed, rules, all, refuted_at)?;
+        let place = refuted_at.place;
+        let text = refuting(alloc, typed, rules, &all[place].name, place, &refuted_at.env)?;
         return Ok((Status::Refuted, text));
     }
     if summary.spent {

@@ -10,6 +10,9 @@ use Rattle.ygg_top.proofs.Ends.{
   solve_asked,
   solve_within_asked,
   clauses_asked,
+  check_asked,
+  certify_asked,
+  certify_within_asked,
   nothing_asked,
 }
 use Rattle.ygg_top.proofs.command.answer.Goals as goal
@@ -54,3 +57,21 @@ returns-in-Some-two_words_after-4-clause-told g c kinds =
     clauses_asked kinds (g.L.Library.files c.args.library.now) c.args.words.now c.ask.result (search rules) (search rules) (search rules) (search rules)
     (search rules) (search rules) (search rules) (search rules) (search rules)
     c.in-Some-two_words_after-4.file.now c.in-Some-two_words_after-4.name.now (search rules) (c.ask.ensures.told kinds)
+
+pub returns-in-Some-two_words_after-5-clause-told : goal.returns-in-Some-two_words_after-5-clause-told
+returns-in-Some-two_words_after-5-clause-told g c kinds =
+    check_asked kinds (g.L.Library.files c.args.library.now) c.args.words.now c.check.result (search rules) (search rules) (search rules) (search rules)
+    (search rules) (search rules) (search rules) (search rules) (search rules) (search rules)
+    c.in-Some-two_words_after-5.file.now c.in-Some-two_words_after-5.certificate.now (search rules) (c.check.ensures.told kinds)
+
+pub returns-in-Some-word_after-4-clause-told : goal.returns-in-Some-word_after-4-clause-told
+returns-in-Some-word_after-4-clause-told g c kinds =
+    certify_asked kinds (g.L.Library.files c.args.library.now) c.args.words.now c.certify.result (search rules) (search rules) (search rules) (search rules)
+    (search rules) (search rules) (search rules) (search rules) (search rules) (search rules) (search rules)
+    c.in-Some-word_after-4.name.now (search rules) (c.certify.ensures.told kinds)
+
+pub returns-in-Some-two_words_after-6-clause-told : goal.returns-in-Some-two_words_after-6-clause-told
+returns-in-Some-two_words_after-6-clause-told g c kinds =
+    certify_within_asked kinds (g.L.Library.files c.args.library.now) c.args.words.now c.certify_within.result (search rules) (search rules) (search rules)
+    (search rules) (search rules) (search rules) (search rules) (search rules) (search rules) (search rules) (search rules) (search rules)
+    c.in-Some-two_words_after-6.name.now c.in-Some-two_words_after-6.word.now (search rules) (c.certify_within.ensures.told kinds)

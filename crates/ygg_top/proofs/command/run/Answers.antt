@@ -2,7 +2,9 @@ use Rattle.std.proofs.Common.{List, [], ℕ, subst, sym}
 use Rattle.ygg_base.specs.Outside.{Rose}
 use Rattle.ygg_report.specs.Putting.{IsCutOf, IsPutSo, Puts}
 use Rattle.ygg_dimacs_oblige.specs.Printed.{IsNamed, Printed}
-use Rattle.ygg_top.proofs.Ends.{put_reports, stream_reports, count_reports, solve_reports, ask_reports}
+use Rattle.ygg_certify.specs.Checking.{Checks}
+use Rattle.ygg_top.specs.Ending.{PutsOnce}
+use Rattle.ygg_top.proofs.Ends.{put_reports, stream_reports, count_reports, solve_reports, ask_reports, once_reports, certify_reports}
 use Rattle.ygg_top.proofs.command.run.Goals as goal
 
 pub verify-requires : goal.verify-requires
@@ -53,3 +55,21 @@ returns-in-Asks-clause-told g c =
     ask_reports (g.B.Book.kinds c.args.rules.now) (g.L.Library.files c.args.library.now) c.args.words.now (g.K.Sink.taken c.args.sink.now)
     (g.K.Sink.taken c.put_obligation.new.sink) _ _ c.in-Asks.typed.file c.in-Asks.name c.put_obligation.result
     (c.in-Asks.ensures.told (g.B.Book.kinds c.args.rules.now)) put
+
+pub returns-in-Checks-clause-told : goal.returns-in-Checks-clause-told
+returns-in-Checks-clause-told g c =
+    let put = subst (λ (bytes : List ℕ). PutsOnce (Checks (g.B.Book.kinds c.args.rules.now) c.in-Checks.typed.file bytes) (g.K.Sink.taken c.args.sink.now)
+    (g.K.Sink.taken c.put_checked.new.sink) (Rose (g.K.Sink.faults c.args.sink.now) (g.K.Sink.faults c.put_checked.new.sink))
+    c.put_checked.result) c.as_slice-in-Checks.ensures c.put_checked.ensures.told in
+    once_reports (g.B.Book.kinds c.args.rules.now) (g.L.Library.files c.args.library.now) c.args.words.now (g.K.Sink.taken c.args.sink.now)
+    (g.K.Sink.taken c.put_checked.new.sink) _ _ (Checks (g.B.Book.kinds c.args.rules.now) c.in-Checks.typed.file c.in-Checks.text) c.put_checked.result
+    (c.in-Checks.ensures.told (g.B.Book.kinds c.args.rules.now)) put
+
+pub put_certified-requires : goal.put_certified-requires
+put_certified-requires g c = (c.in-Certifies.ensures.told []).0
+
+pub returns-in-Certifies-clause-told : goal.returns-in-Certifies-clause-told
+returns-in-Certifies-clause-told g c =
+    certify_reports (g.B.Book.kinds c.args.rules.now) (g.L.Library.files c.args.library.now) c.args.words.now (g.K.Sink.taken c.args.sink.now)
+    (g.K.Sink.taken c.put_certified.new.sink) _ _ c.in-Certifies.typed.file c.in-Certifies.budget c.put_certified.result
+    (c.in-Certifies.ensures.told (g.B.Book.kinds c.args.rules.now)) c.put_certified.ensures.told

@@ -1,4 +1,0 @@
-pub mod Pieces
-pub mod Arguments
-pub mod Onward
-pub mod Fitted
