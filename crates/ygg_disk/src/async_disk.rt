@@ -16,7 +16,7 @@ use ygg_value::{Row, Table, Value, Word, table_write};
 
 /// An asynchronous disk in memory, which contracts see as its two tables: what reads see, and what power loss leaves. Each
 /// write takes a pick, which says whether it is stable at once.
-#[derive(Debug, Drop)]
+#[derive(Drop)]
 pub struct AsyncDisk {
     alloc: Global,
     geometry: Geometry,

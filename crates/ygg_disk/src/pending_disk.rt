@@ -18,7 +18,7 @@ use ygg_value::{Row, Table, Value, Word, table_write};
 
 /// A disk with a write-back cache in memory, which contracts see as its stable rows and its pending writes with their marks.
 /// The mark of a write is its pick, which says whether the next power loss keeps it.
-#[derive(Debug, Drop)]
+#[derive(Drop)]
 pub struct PendingDisk {
     alloc: Global,
     geometry: Geometry,

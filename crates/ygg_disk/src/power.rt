@@ -5,7 +5,7 @@ use crate::turn::Events;
 use ygg_base::Bits;
 
 /// Where power fails: at the disk call with so many whole calls before it, before that call or within it.
-#[derive(Clone, Copy, Debug, PartialEq, Eq, Drop)]
+#[derive(Clone, Copy, PartialEq, Eq, Drop)]
 pub struct Fuse {
     pub within: bool,
     pub call: u64,
@@ -13,7 +13,7 @@ pub struct Fuse {
 
 /// The choices that a disk makes, in order. A pick is the bit at `next`, which then rises by one; past the end of
 /// `bits` a pick is `past`, and `next` stays.
-#[derive(Debug, Drop)]
+#[derive(Drop)]
 pub struct Picks {
     pub bits: Bits,
     pub next: u64,
@@ -21,7 +21,7 @@ pub struct Picks {
 }
 
 /// What a disk is told of power, and what it tells of its calls.
-#[derive(Debug, Drop)]
+#[derive(Drop)]
 pub struct Power {
     /// The picks that are taken.
     pub picks: Picks,

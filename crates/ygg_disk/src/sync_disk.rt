@@ -15,7 +15,7 @@ use ygg_value::{Row, Table, Value, Word, table_write};
 
 /// A synchronous disk in memory, which contracts see as its table. Power that fails within a write takes a pick, which says
 /// whether the row was written.
-#[derive(Debug, Drop)]
+#[derive(Drop)]
 pub struct SyncDisk {
     alloc: Global,
     geometry: Geometry,

@@ -4,7 +4,7 @@ use ygg_list::{Duplicate, NoMemory, Sequence};
 use ygg_value::{Row, Value, Word};
 
 /// How a call ended.
-#[derive(Debug, Drop)]
+#[derive(Drop)]
 pub enum Turn {
     /// It was whole, and has no answer.
     Done,
@@ -17,7 +17,7 @@ pub enum Turn {
 }
 
 /// What a call on a disk did.
-#[derive(Debug, Drop)]
+#[derive(Drop)]
 pub enum Did {
     /// It read a row.
     Read,
@@ -28,7 +28,7 @@ pub enum Did {
 }
 
 /// A call on a disk that began.
-#[derive(Debug, Drop)]
+#[derive(Drop)]
 pub struct Event {
     /// Whether the disk was the second of two.
     pub second: bool,

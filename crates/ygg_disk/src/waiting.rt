@@ -14,7 +14,7 @@ use ygg_list::{Duplicate, NoMemory};
 use ygg_value::{Row, Table, Word, table_write};
 
 /// A write that isn't stable yet, and whether power loss keeps it.
-#[derive(Debug, Drop)]
+#[derive(Drop)]
 pub struct Waiting {
     pub at: Word,
     pub row: Row,

@@ -3,7 +3,7 @@ use ygg_base::{Bits, Duplicate, NoMemory, Sequence};
 use ygg_value::Values;
 
 /// A command of a script.
-#[derive(Debug, Drop)]
+#[derive(Drop)]
 pub enum Command {
     /// The operation at this place, from 0, of the topmost layer, with these arguments.
     Call {

@@ -1,0 +1,4 @@
+mod Places
+mod Turns
+mod Attached
+mod Losing

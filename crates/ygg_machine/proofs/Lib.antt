@@ -1,0 +1,15 @@
+pub mod Typing
+pub mod Running
+pub mod Grounding
+pub mod Telling
+pub mod Beginning
+pub mod Ticking
+pub mod Calling
+pub mod Numbered
+pub mod Noting
+pub mod Serving
+pub mod Towering
+pub mod Stepping
+pub mod Fields
+pub mod Leaving
+pub mod Seeing

@@ -1,0 +1,8 @@
+//! Scripts played on the layers of a file.
+#![tactic(auto)]
+
+mod gathering;
+mod playing;
+mod stacking;
+
+pub use playing::{play, put_play};

@@ -1,0 +1,5 @@
+mod Mirroring
+mod Extended
+mod Done
+mod Answering
+mod Going

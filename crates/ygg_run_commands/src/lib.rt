@@ -1,0 +1,10 @@
+//! The commands of a script run on the layers of a file, and their answers put as they are given.
+#![tactic(auto)]
+
+mod doing;
+mod halting;
+pub mod law;
+mod running;
+
+pub use halting::Halted;
+pub use running::run_on;

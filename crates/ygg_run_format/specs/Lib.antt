@@ -1,0 +1,4 @@
+pub mod Formatted
+pub mod Formatting
+pub mod Leaving
+pub mod Sealing

@@ -1,0 +1,10 @@
+/// How formatting ended.
+#[derive(Clone, Copy, PartialEq, Eq, Drop)]
+pub enum FormatEnd {
+    /// The layers are formatted.
+    Done,
+    /// The device failed.
+    Failed,
+    /// No memory was left.
+    Memory,
+}

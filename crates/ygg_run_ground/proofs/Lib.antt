@@ -1,0 +1,4 @@
+pub mod Held
+pub mod Keeping
+pub mod Telling
+mod Leaving

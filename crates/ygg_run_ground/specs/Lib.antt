@@ -1,0 +1,5 @@
+pub mod Sight
+pub mod Turning
+pub mod DeviceMeaning
+pub mod Standing
+pub mod Laws

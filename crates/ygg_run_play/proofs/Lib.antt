@@ -1,0 +1,6 @@
+pub mod Falling
+mod Leaving
+mod Finishing
+mod Lines
+mod Going
+mod Ending

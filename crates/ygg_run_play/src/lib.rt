@@ -1,0 +1,12 @@
+//! Scripts played on a machine in memory, line by line.
+#![tactic(auto)]
+
+mod deed;
+mod halting;
+mod line;
+mod playing;
+mod scene;
+
+pub use halting::Halted;
+pub use playing::play_on;
+pub use scene::{Outcome, Scene};

@@ -1,0 +1,8 @@
+//! All layers of a file on a ground, and what is done with them.
+#![tactic(auto)]
+
+mod errand;
+mod levels;
+
+pub use errand::Errand;
+pub use levels::on_stack;

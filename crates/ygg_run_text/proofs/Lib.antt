@@ -1,0 +1,10 @@
+pub mod Endings
+pub mod Alike
+pub mod Blocks
+pub mod Layered
+pub mod Disks
+pub mod Names
+pub mod Scripted
+pub mod OneText
+pub mod Shown
+pub mod Histories

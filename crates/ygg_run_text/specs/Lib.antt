@@ -1,0 +1,4 @@
+pub mod Named
+pub mod Lines
+pub mod Played
+pub mod Laws

@@ -1,0 +1,20 @@
+//! What a script names on a file's layers, and its text: disk calls, answers and power failing, line by line.
+//!
+//! ```text
+//! write 0 05 kept
+//! done
+//! down
+//! up
+//! read 0
+//! answer 05
+//! played 3
+//! ```
+#![tactic(auto)]
+
+mod calls;
+mod ends;
+mod law;
+
+pub use calls::put_events;
+pub use ends::{played, put_answer, put_down, put_played, put_up, unreached};
+pub use law::{files_have_one_way, plays_are_histories, scripts_have_one_text};
