@@ -30,6 +30,3 @@ pub use reader::{CertReader, check_cert, check_goals};
 pub use reading::Reading;
 pub use source::Goals;
 pub use verdict::{CertEnd, Fed};
-
-#[cfg(test)]
-mod tests;

@@ -4,7 +4,7 @@ ghost use Rattle.std.specs.Prelude.{◌≡◌, ◌+◌, ◌≤◌, ◌∷◌, �
 ghost use Rattle.ygg_cert.specs.declared.item.Goal.{Goal};
 ghost use Rattle.ygg_cert.specs.Places.{Place, Between};
 ghost use Rattle.ygg_cert.specs.Standing.{IsAt, IsDone, IsEnded, IsNext, Hears};
-ghost use Rattle.ygg_cert.specs.Texts.{first_line};
+ghost use Rattle.ygg_cert.specs.Texts.{first_line, opening_line};
 
 use crate::expected::Expected;
 use crate::item::Goal;
@@ -48,6 +48,15 @@ pub struct Next {
     pub log: LogReading,
     /// How many goals are behind.
     pub passed: usize,
+}
+
+/// The line before the log of a goal. Its only error is out of memory.
+fn opening(alloc: Global, goal: &Goal) -> Result<Text, NoMemory>
+    ensures { IfOk result (λ line. line ≡ opening_line goal.now.name (length goal.now.clauses)) }
+{
+    let mut line = Text::new(alloc);
+    put_opening(&mut line, goal.name.as_slice(), goal.clauses.len() as u64)?;
+    Ok(line)
 }
 
 impl Next {
@@ -95,10 +104,8 @@ impl Next {
     fn open(&mut self, alloc: Global, goal: Goal) -> Result<(), NoMemory>
         ensures { (goals : List Goal) → IsNext goals goal self.old.passed → OnOk result (IsAt goals (Between (drop self.old.passed goals)) [] self.new) }
     {
-        let mut line = Text::new(alloc);
-        put_opening(&mut line, goal.name.as_slice(), goal.clauses.len() as u64)?;
+        self.line = Expected::new(opening(alloc, &goal)?);
         self.log = LogReading::new(alloc, goal)?;
-        self.line = Expected::new(line);
         self.phase = Phase::Opening;
         Ok(())
     }

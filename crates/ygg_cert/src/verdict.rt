@@ -16,7 +16,7 @@ pub enum CertEnd {
 }
 
 /// What is said of the bytes of a text so far.
-#[derive(Clone, Copy, Debug, PartialEq, Eq, Drop)]
+#[derive(Clone, Copy, PartialEq, Eq, Drop)]
 pub enum Fed {
     /// They hold no line at fault.
     More,

@@ -126,6 +126,8 @@ certified laws printed kinds f budget findings before now SinkRose (Ends status)
 certified laws printed kinds f budget findings before now SinkRose (Open left) derived typed bank terms found told = (
   told.0,
   record {
+    bank = bank;
+    mean = terms;
     found =
         subst (λ (xs : List Finding). AreFound (file_made kinds f []).nodes budget (map claim_name (claims_of f)) (file_made kinds f []).value xs) (sym told.1)
         found;

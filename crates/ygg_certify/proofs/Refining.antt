@@ -1,7 +1,9 @@
 -- What is known of a layer file whose certificate is checked.
-use Rattle.std.proofs.Common.{◌≡◌, ℕ, Bool, List, [], ◌∷◌, map, refl, ap, subst, ◌∙◌}
-use Rattle.std.specs.Prelude.{All}
+use Rattle.std.proofs.Common.{◌≡◌, ℕ, suc, Bool, List, [], ◌∷◌, length, map, Option, None, Some, Result, Ok, Err, refl, ap, subst, ◌∙◌}
+use Rattle.std.specs.Prelude.{All, IfSome, IfOk}
 use Rattle.std.proofs.lemmas.List.Elements.{All-nil, All-cons, All-head, All-tail}
+use Rattle.ygg_base.specs.declared.status.Status.{Status}
+use Rattle.ygg_base.specs.Outside.{Reading}
 use Rattle.ygg_syntax.specs.declared.tree.File.{File}
 use Rattle.ygg_syntax.specs.Files.{IsDerived}
 use Rattle.ygg_type_rules.specs.Files.{IsTyped}
@@ -30,7 +32,9 @@ use Rattle.ygg_cert.specs.declared.verdict.CertEnd.{CertEnd}
 use Rattle.ygg_cert.specs.declared.verdict.CertEnd.TheVariants.{Checked, Bad, Refused, Memory}
 use Rattle.ygg_cert.specs.Judging.{IsWhole, Judges}
 use Rattle.ygg_cert.specs.Laws.{IsRefuted, CheckedIsRefuted}
-use Rattle.ygg_certify.specs.FileGoals.{goal_by, goals_by, goals_in, goals_of, IsRight, IfChecked}
+use Rattle.ygg_cert_open.specs.Opened.{JudgesOpen}
+use Rattle.ygg_certify.specs.FileGoals.{goal_by, goals_by, goals_in, goals_of, IsRight, IfChecked, ChecksAll}
+use Rattle.ygg_certify.specs.Checking.{Checks, ChecksOpen}
 
 -- the goals of obligations by their names and terms
 goals_same : (nodes : List Node) (all : List Obligation) → goals_in nodes all ≡ goals_by nodes (names_in all) (terms_in all)
@@ -67,7 +71,8 @@ pub record Laws : Type 0 where
   pub histories : TypedHistories
 
 -- an obligation whose goal is refuted holds
-one_holds : (laws : Laws) (nodes : List Node) (c : Claim) (t : Id) → IsBank nodes → IsTermOf nodes c t → IsRefuted (goal_by nodes (claim_name c) t) → ClaimHolds c
+one_holds : (laws : Laws) (nodes : List Node) (c : Claim) (t : Id) → IsBank nodes → IsTermOf nodes c t → IsRefuted (goal_by nodes (claim_name c) t)
+    → ClaimHolds c
 one_holds laws nodes c t bank term (log, refutes) = laws.holds nodes c t bank term never
   where
     never : IsNeverZero nodes t
@@ -105,3 +110,65 @@ is_right laws kinds f text (Checked count) derived typed bank terms judged = who
 is_right laws kinds f text (Bad name id) derived typed bank terms judged = tt
 is_right laws kinds f text (Refused refusal) derived typed bank terms judged = tt
 is_right laws kinds f text Memory derived typed bank terms judged = tt
+
+-- what is said of what is open, in terms of the file's goals
+pub judged_open : (goals wanted : List Goal) (given : Option Reading) (end : CertEnd) → goals ≡ wanted → JudgesOpen goals given end
+    → JudgesOpen wanted given end
+judged_open goals wanted given end same judged = subst (λ (gs : List Goal). JudgesOpen gs given end) same judged
+
+-- a fact of what is said of any bytes
+by_read : (Fact : CertEnd → Type 0) (goals : List Goal) (given : Option Reading) (end : CertEnd) → ((text : List ℕ) → Judges goals text end → Fact end) →
+    JudgesOpen goals given end
+    → Fact end
+by_read Fact goals None end fact judged = absurd judged
+by_read Fact goals (Some file) end fact judged = fact judged.read judged.judged
+
+-- a file whose open certificate is checked
+pub open_right : (laws : Laws) (kinds : List RuleKind) (f : File) (given : Option Reading) (end : CertEnd) → ∥ IsDerived f ∥₁ → IsTyped f →
+    IsBank (file_made kinds f []).nodes → AreTermsOf (file_made kinds f []).nodes (claims_of f) (file_made kinds f []).value →
+    JudgesOpen (goals_of kinds f) given end
+    → IfChecked end (IsRight f)
+open_right laws kinds f given end derived typed bank terms judged =
+    by_read (λ (e : CertEnd). IfChecked e (IsRight f)) (goals_of kinds f) given end (λ text j. is_right laws kinds f text end derived typed bank terms j) judged
+
+-- there is a goal for each obligation
+each_goal : (nodes : List Node) (cs : List Claim) (ts : List Id) → AreTermsOf nodes cs ts → length (goals_by nodes (map claim_name cs) ts) ≡ length cs
+each_goal nodes [] [] terms = refl
+each_goal nodes [] (t ∷ ts) terms = absurd terms
+each_goal nodes (c ∷ cs) [] terms = absurd terms
+each_goal nodes (c ∷ cs) (t ∷ ts) terms = ap suc (each_goal nodes cs ts terms.1)
+
+all_by : (goals : List Goal) (each : ℕ) (text : List ℕ) (end : CertEnd) → length goals ≡ each → Judges goals text end → ChecksAll end each
+all_by goals each text (Checked count) same judged = judged.all ∙ same
+all_by goals each text (Bad name id) same judged = tt
+all_by goals each text (Refused refusal) same judged = tt
+all_by goals each text Memory same judged = tt
+
+-- an open certificate that is checked is so for all obligations
+pub open_all : (kinds : List RuleKind) (f : File) (given : Option Reading) (end : CertEnd) →
+    AreTermsOf (file_made kinds f []).nodes (claims_of f) (file_made kinds f []).value → JudgesOpen (goals_of kinds f) given end
+    → ChecksAll end (length (claims_of f))
+open_all kinds f given end terms judged =
+    by_read (λ (e : CertEnd). ChecksAll e (length (claims_of f))) (goals_of kinds f) given end
+    (λ text j. all_by (goals_of kinds f) (length (claims_of f)) text end each j) judged
+  where
+    each : length (goals_of kinds f) ≡ length (claims_of f)
+    each = each_goal (file_made kinds f []).nodes (claims_of f) (file_made kinds f []).value terms
+
+-- what `check` says of bytes, it says of what is open
+pub said_open : (kinds : List RuleKind) (f : File) (given : Option Reading) (end : CertEnd) (status : Status) (text : List ℕ) →
+    ((bytes : List ℕ) → Judges (goals_of kinds f) bytes end → Checks kinds f bytes status text) → JudgesOpen (goals_of kinds f) given end
+    → ChecksOpen kinds f given status text
+said_open kinds f None end status text said judged = absurd judged
+said_open kinds f (Some file) end status text said judged =
+    record { read = judged.read; few = judged.few; said = said judged.read judged.judged; whole = by_rest file.rest judged.whole }
+  where
+    by_rest : (rest : Option (List ℕ)) → IfSome rest (λ (all : List ℕ). Judges (goals_of kinds f) all end)
+        → IfSome rest (λ (all : List ℕ). Checks kinds f all status text)
+    by_rest None was = tt
+    by_rest (Some all) was = said all was
+
+-- a fact where there is an answer, by another
+pub if_ok : {A E : Type 0} (P Q : A → Type 0) (r : Result A E) → ((x : A) → P x → Q x) → IfOk r P → IfOk r Q
+if_ok P Q (Ok x) follows p = follows x p
+if_ok P Q (Err e) follows p = tt

@@ -5,12 +5,13 @@ use Rattle.ygg_base.specs.declared.status.Status.TheVariants.{Done}
 use Rattle.ygg_syntax.specs.declared.tree.File.{File}
 use Rattle.ygg_rules.specs.declared.rule.RuleKind.{RuleKind}
 use Rattle.ygg_histories.specs.Claims.{claims_of}
+use Rattle.ygg_bank.specs.Nodes.{IsBank}
 use Rattle.ygg_bank.specs.declared.node.Id.{Id}
 use Rattle.ygg_bank.specs.declared.node.Node.{Node}
 use Rattle.ygg_report.specs.Putting.{IsCutOf, Puts}
 use Rattle.ygg_pieces.specs.Pieces.{FinishesWith}
 use Rattle.ygg_oblige_terms.specs.Terms.{file_made}
-use Rattle.ygg_oblige_terms.specs.Meaning.{claim_name}
+use Rattle.ygg_oblige_terms.specs.Meaning.{AreTermsOf, claim_name}
 use Rattle.ygg_cert.specs.declared.item.Item.{Item}
 use Rattle.ygg_cert.specs.Texts.{certificate_of}
 use Rattle.ygg_cert.specs.Judging.{IsWhole}
@@ -40,8 +41,10 @@ pub record IsCertificate (kinds : List RuleKind) (f : File) (text : List ℕ) : 
 abbrev pub Certifies : List RuleKind → File → Status → List ℕ → Type 0
 Certifies kinds f status text = (status ≡ Done) × IsCertificate kinds f text
 
--- what was found within a budget of the file's obligations, not all of which were found to hold
+-- what was found within a budget of the file's obligations, not all of which were found to hold; it was found of terms in a bank that mean the obligations
 pub record IsOpen (kinds : List RuleKind) (f : File) (budget : ℕ) (findings : List Finding) : Type 0 where
+  pub bank : IsBank (file_made kinds f []).nodes
+  pub mean : AreTermsOf (file_made kinds f []).nodes (claims_of f) (file_made kinds f []).value
   pub found : AreFound (file_made kinds f []).nodes budget (map claim_name (claims_of f)) (file_made kinds f []).value findings
   pub open_one : All IsHeld findings → ⊥
 

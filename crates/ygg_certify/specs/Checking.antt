@@ -1,11 +1,13 @@
 -- What `check` says of a text as the certificate of a layer file.
-use Rattle.std.specs.Prelude.{◌≡◌, ◌⊎◌, ℕ, List, ◌++◌, codes}
+use Rattle.std.specs.Prelude.{◌≡◌, ◌⊎◌, ℕ, ◌≤◌, List, ◌++◌, length, codes, Option, None, Some, IfSome}
 use Rattle.std.specs.Fmt.{decimal}
 use Rattle.ygg_base.specs.declared.failure.Refusal.{Refusal}
 use Rattle.ygg_base.specs.declared.status.Status.{Status}
 use Rattle.ygg_base.specs.declared.status.Status.TheVariants.{Done, Refuted, Refused}
+use Rattle.ygg_base.specs.Outside.{Reading}
 use Rattle.ygg_syntax.specs.declared.tree.File.{File}
 use Rattle.ygg_rules.specs.declared.rule.RuleKind.{RuleKind}
+use Rattle.ygg_histories.specs.Claims.{claims_of}
 use Rattle.ygg_report.specs.Lines.{ended, refused_line}
 use Rattle.ygg_cert.specs.Judging.{IsWhole, IsBadAt, IsWrongAt, IsCutAt}
 use Rattle.ygg_certify.specs.FileGoals.{goals_of, IsRight}
@@ -18,10 +20,12 @@ checked_line count = ended (codes "checked " ++ decimal count)
 abbrev pub bad_line : List ℕ → ℕ → List ℕ
 bad_line name number = ended (codes "bad " ++ name ++ codes " " ++ decimal number)
 
--- The text is a certificate of the file, for as many obligations as the line says. Each layer then refines its specification, and every history is allowed.
+-- The text is a certificate of the file, for as many obligations as the line says, which are all of the file's. Each layer then refines its specification, and
+-- every history is allowed.
 pub record IsChecked (kinds : List RuleKind) (f : File) (bytes text : List ℕ) : Type 0 where
   pub count : ℕ
   pub whole : IsWhole (goals_of kinds f) bytes count
+  pub all : count ≡ length (claims_of f)
   pub right : IsRight f
   pub text_is : text ≡ checked_line count
 
@@ -44,3 +48,16 @@ Checks kinds f bytes Done text = IsChecked kinds f bytes text
 Checks kinds f bytes Refuted text = IsBad kinds f bytes text
 Checks kinds f bytes Refused text = IsRefused kinds f bytes text
 Checks kinds f bytes status text = ⊥
+
+-- How `check` ends for a layer file and an open file, and what it prints: so it ends for the bytes that were read, which are no more than the file may give,
+-- and, where its bytes from the position on are told, for all of these, whether or not all were read.
+pub record ChecksFile (kinds : List RuleKind) (f : File) (certificate : Reading) (status : Status) (text : List ℕ) : Type 0 where
+  pub read : List ℕ
+  pub few : length read ≤ certificate.room
+  pub said : Checks kinds f read status text
+  pub whole : IfSome certificate.rest (λ all. Checks kinds f all status text)
+
+-- the same of what is open
+abbrev pub ChecksOpen : List RuleKind → File → Option Reading → Status → List ℕ → Type 0
+ChecksOpen kinds f None status text = ⊥
+ChecksOpen kinds f (Some certificate) status text = ChecksFile kinds f certificate status text

@@ -1,5 +1,5 @@
 -- What a certificate of a layer file is for.
-use Rattle.std.specs.Prelude.{ℕ, List, [], ◌∷◌, map}
+use Rattle.std.specs.Prelude.{◌≡◌, ℕ, List, [], ◌∷◌, map}
 use Rattle.ygg_syntax.specs.declared.tree.File.{File}
 use Rattle.ygg_rules.specs.declared.rule.RuleKind.{RuleKind}
 use Rattle.ygg_meaning.specs.Environments.{Env}
@@ -52,3 +52,10 @@ IfChecked (Checked count) fact = fact
 IfChecked (Bad name id) fact = Unit {0}
 IfChecked (Refused refusal) fact = Unit {0}
 IfChecked Memory fact = Unit {0}
+
+-- where a text is checked, it is for so many obligations
+abbrev pub ChecksAll : CertEnd → ℕ → Type 0
+ChecksAll (Checked count) each = count ≡ each
+ChecksAll (Bad name id) each = Unit {0}
+ChecksAll (Refused refusal) each = Unit {0}
+ChecksAll Memory each = Unit {0}

@@ -63,8 +63,8 @@ fn conclude<K: Sink>(alloc: Global, findings: Findings, sink: &mut K) -> Certify
     }
 }
 
-/// Certifies a layer file: decides its obligations in order, each within a budget, and puts the certificate piece by piece where all hold. Nothing is put before
-/// all are decided. The rules only make the terms smaller.
+/// Certifies a layer file: decides its obligations in order, each within a budget, and puts the certificate piece by piece where all hold. Nothing is put
+/// before all are decided. The rules only make the terms smaller.
 pub fn certify<B: Book, K: Sink>(
     alloc: Global,
     rules: &B,

@@ -1,12 +1,17 @@
-//! A text as the certificate of a layer file.
+//! A file of a library as the certificate of a layer file.
 
-ghost use Rattle.ygg_cert.specs.Judging.{Judges};
-ghost use Rattle.ygg_certify.specs.FileGoals.{IfChecked, IsRight, goals_of};
+ghost use Rattle.std.specs.Prelude.{◌≡◌, ◌≤◌, length, IfOk, IsErr};
+ghost use Rattle.ygg_base.specs.Outside.{IsOpen, Rose};
+ghost use Rattle.ygg_histories.specs.Claims.{claims_of};
+ghost use Rattle.ygg_cert_open.specs.Opened.{JudgesOpen};
+ghost use Rattle.ygg_certify.specs.FileGoals.{ChecksAll, IfChecked, IsRight, goals_of};
 
 use crate::goals::FileGoals;
 use std::alloc::Global;
 use ygg_bank::Bank;
-use ygg_cert::{CertEnd, check_goals, checked_is_refuted};
+use ygg_base::Library;
+use ygg_cert::{CertEnd, checked_is_refuted};
+use ygg_cert_open::{LibraryFailed, check_open};
 use ygg_cnf::derivations_are_sound;
 use ygg_gates_meaning::clauses_mean_terms;
 use ygg_histories::law::refines_by_list;
@@ -16,17 +21,28 @@ use ygg_rules::Book;
 use ygg_type::Typed;
 use ygg_type_progress::law::typed_histories;
 
-/// What is said of a text as the certificate of a layer file, for the terms that the rules make of its obligations. Where it is checked, each layer refines its
-/// specification, and every history is allowed.
-pub fn check_file<B: Book>(alloc: Global, rules: &B, typed: &Typed, text: &[u8]) -> CertEnd
-    ensures judged { Judges (goals_of (B.kinds rules.now) typed.now.file) text.now result }
-    ensures right { IfChecked result (IsRight typed.now.file) }
+/// What is said of the file that the library has open as the certificate of a layer file, for the terms that the rules make of its obligations. It is read in
+/// pieces, and no further than to the first line at fault. Where it is checked, it is so for all of the file's obligations, each layer refines its
+/// specification, and every history is allowed. Where the library fails, that is the answer.
+pub fn check_file<B: Book, L: Library>(
+    alloc: Global,
+    rules: &B,
+    typed: &Typed,
+    library: &mut L,
+) -> Result<CertEnd, LibraryFailed>
+    requires { IsOpen (L.reading library.old) }
+    ensures judged { IfOk result (JudgesOpen (goals_of (B.kinds rules.now) typed.now.file) (L.reading library.old)) }
+    ensures right { IfOk result (λ end. IfChecked end (IsRight typed.now.file)) }
+    ensures all { IfOk result (λ end. ChecksAll end (length (claims_of typed.now.file))) }
+    ensures cause { IsErr result → Rose (L.faults library.old) (L.faults library.new) }
+    ensures kept { L.files library.new ≡ L.files library.old }
+    ensures later { L.faults library.old ≤ L.faults library.new }
 {
     let Ok(mut bank) = Bank::new(alloc) else {
-        return CertEnd::Memory;
+        return Ok(CertEnd::Memory);
     };
     let Ok(all) = obligations(alloc, typed, &mut bank, rules) else {
-        return CertEnd::Memory;
+        return Ok(CertEnd::Memory);
     };
     // the file has no type error, and derives
     let _ = typed.file();
@@ -40,5 +56,5 @@ pub fn check_file<B: Book>(alloc: Global, rules: &B, typed: &Typed, text: &[u8])
         bank: &bank,
         all: all.as_slice(),
     };
-    check_goals(alloc, text, &goals)
+    check_open(alloc, &goals, library)
 }

@@ -1,6 +1,7 @@
 //! The goals of a layer file: the clauses of the terms of its obligations.
 
-ghost use Rattle.std.specs.Prelude.{◌≡◌, IfOk};
+ghost use Rattle.std.specs.Prelude.{◌≡◌, All, IfOk};
+ghost use Rattle.ygg_bank.specs.Nodes.{HasWidth};
 ghost use Rattle.ygg_certify.specs.FileGoals.{goal_in};
 
 use std::alloc::Global;
@@ -12,19 +13,17 @@ use ygg_oblige::Obligation;
 
 /// Obligations with the bank of their terms. The clauses of a term are made when its goal is asked for, so that those of one obligation alone are in memory.
 #[derive(Drop)]
-pub struct FileGoals<'a> {
+pub(crate) struct FileGoals<'a> {
     pub bank: &'a Bank,
     pub all: &'a [Obligation],
+    ghost digits: { All (λ o. HasWidth bank.now o.term 1) all.now },
 }
 
 /// The clauses of an obligation's term. Its only error is out of memory.
 fn goal_in(alloc: Global, bank: &Bank, o: &Obligation) -> Result<Goal, NoMemory>
+    requires { HasWidth bank.now o.now.term 1 }
     ensures { IfOk result (λ goal. goal ≡ goal_in bank.now o.now) }
 {
-    // the terms of a file stand in its bank, so this is never so
-    if o.term.0 as usize >= bank.len() {
-        return Err(NoMemory);
-    }
     let blasted = clauses_of(alloc, bank, o.term)?;
     Ok(Goal {
         name: o.name.copy(alloc)?,

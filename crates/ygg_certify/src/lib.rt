@@ -8,5 +8,4 @@ mod saying;
 
 pub use certifying::{Certifying, certify};
 pub use checking::check_file;
-pub use goals::FileGoals;
-pub use saying::check;
+pub use saying::{Unchecked, check};

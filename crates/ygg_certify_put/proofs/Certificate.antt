@@ -11,8 +11,9 @@ use Rattle.ygg_certify_put.specs.declared.finding.Finding.{Finding}
 use Rattle.ygg_certify_put.specs.Findings.{item_of, lines_of, log_of}
 
 -- the lines of a log that went on
-pub lines_passed : (before middle now : Option (List ℕ)) (kept opened mid closed left : List ℕ) (f : Finding) (Later Since : Type 0) (r : Result (Unit {0}) Status) →
-    opened ≡ kept ++ opening_line f.name f.clauses → Flows before opened middle mid (log_lines (log_of f.outcome)) → closed ≡ mid ++ closing_line →
+pub lines_passed : (before middle now : Option (List ℕ)) (kept opened mid closed left : List ℕ) (f : Finding) (Later Since : Type 0)
+    (r : Result (Unit {0}) Status) → opened ≡ kept ++ opening_line f.name f.clauses → Flows before opened middle mid (log_lines (log_of f.outcome)) →
+    closed ≡ mid ++ closing_line →
     Passes middle closed now left [] Later r → (Later → Since)
     → Passes before kept now left (lines_of f) Since r
 lines_passed before middle now kept opened mid closed left f Later Since r opens f_log closes passed since = by_result r passed
@@ -38,7 +39,8 @@ pub lines_short : (before now : Option (List ℕ)) (kept opened left : List ℕ)
     → Passes before kept now left (lines_of f) SinkRose (Err s)
 lines_short before now kept opened left f SinkRose s opens passed =
     passes_short before now kept left left (opening_line f.name f.clauses ++ log_lines (log_of f.outcome)) closing_line SinkRose s
-    (passes_on before before now kept opened left left (opening_line f.name f.clauses) (log_lines (log_of f.outcome)) SinkRose SinkRose s opening passed (λ rose. rose))
+    (passes_on before before now kept opened left left (opening_line f.name f.clauses) (log_lines (log_of f.outcome)) SinkRose SinkRose s opening
+    passed (λ rose. rose))
   where
     opening : Flows before kept before opened (opening_line f.name f.clauses)
     opening = subst (λ (x : List ℕ). Flows before kept before x (opening_line f.name f.clauses)) (sym opens) (begun before kept (opening_line f.name f.clauses))
@@ -59,4 +61,5 @@ lines_lost before middle kept opened mid left f SinkRose s opens f_log passed =
 pub lines_same : (findings : List Finding) → flat_map lines_of findings ≡ flat_map item_text (map item_of findings)
 lines_same [] = refl
 lines_same (f ∷ findings) =
-    flat_map-cons lines_of f findings ∙ ap (λ (x : List ℕ). lines_of f ++ x) (lines_same findings) ∙ sym (flat_map-cons item_text (item_of f) (map item_of findings))
+    flat_map-cons lines_of f findings ∙ ap (λ (x : List ℕ). lines_of f ++ x) (lines_same findings)
+    ∙ sym (flat_map-cons item_text (item_of f) (map item_of findings))

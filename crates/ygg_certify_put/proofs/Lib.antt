@@ -1,2 +1,3 @@
 mod Certificate
 mod Firsts
+mod Standing

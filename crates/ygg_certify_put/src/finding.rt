@@ -1,16 +1,17 @@
 //! What is found of terms by deciding them.
 
-ghost use Rattle.std.specs.Prelude.{◌≡◌, ◌<◌, true, false, length, All, IfOk};
+ghost use Rattle.std.specs.Prelude.{◌≡◌, ◌<◌, ◌^◌, true, false, length, All, IfOk};
 ghost use Rattle.ygg_bank.specs.Nodes.{HasWidth, Stands};
 ghost use Rattle.ygg_gates.specs.Groups.{translated};
-ghost use Rattle.ygg_log_read.specs.Steps.{IsStep};
+ghost use Rattle.ygg_log_read.specs.Steps.{IsLiteral};
 ghost use Rattle.ygg_certify_put.specs.Findings.{IsFinding, IsHeld, IsOutcome};
 
-use crate::standing::steps_may;
+use crate::literals::literals_may;
 use std::alloc::Global;
 use ygg_bank::{Bank, Env, Id};
 use ygg_base::Text;
 use ygg_blast::clauses_of;
+use ygg_cert::steps_may;
 use ygg_cnf::Log;
 use ygg_decide::{Decided, decide};
 use ygg_list::{NoMemory, Sequence};
@@ -39,25 +40,17 @@ pub struct Finding {
 /// What is found of terms, in order.
 pub type Findings = Sequence<Finding>;
 
-/// How many clauses a term has. Its only error is out of memory.
+/// How many clauses a term has, and that their literals may stand in a certificate. Its only error is out of memory.
 fn count(alloc: Global, bank: &Bank, term: Id) -> Result<u64, NoMemory>
     requires { Stands bank.now term }
-    ensures { IfOk result (λ count. count ≡ length (translated bank.now term).clauses) }
+    ensures count { IfOk result (λ count. count ≡ length (translated bank.now term).clauses) }
+    ensures few { IfOk result (λ count. count < 2 ^ 63) }
+    ensures may { IfOk result (λ count. All (All IsLiteral) (translated bank.now term).clauses) }
 {
     let blasted = clauses_of(alloc, bank, term)?;
-    Ok(blasted.clauses().len() as u64)
-}
-
-/// The log, where it may stand in a certificate. Its only error is out of memory.
-fn standing(log: Log) -> Result<Log, NoMemory>
-    ensures same { IfOk result (λ standing. standing ≡ log) }
-    ensures may { IfOk result (λ standing. All IsStep standing) }
-{
-    // no variable has the number 0, and no clause has, so this is never so
-    if !steps_may(log.as_slice()) {
-        return Err(NoMemory);
-    }
-    Ok(log)
+    let clauses = blasted.clauses().as_slice();
+    literals_may(clauses);
+    Ok(clauses.len() as u64)
 }
 
 /// Decides a term within a budget. Its only error is out of memory.
@@ -70,11 +63,15 @@ fn outcome_of<B: Book>(
 ) -> Result<Outcome, NoMemory>
     requires width { HasWidth bank.old term 1 }
     requires budget { 0 < budget }
+    requires few { length (translated bank.old term).clauses < 2 ^ 63 }
+    requires may { All (All IsLiteral) (translated bank.old term).clauses }
     ensures found { IfOk result (IsOutcome bank.old term budget) }
     ensures same { bank.new ≡ bank.old }
 {
+    // so the steps of a log over the clauses may stand in a certificate
+    steps_may();
     match decide(alloc, bank, rules, term, budget)? {
-        Decided::Valid(log) => Ok(Outcome::Holds(standing(log)?)),
+        Decided::Valid(log) => Ok(Outcome::Holds(log)),
         Decided::Fails(env) => Ok(Outcome::Fails(env)),
         Decided::Spent(_log) => Ok(Outcome::Spent),
     }

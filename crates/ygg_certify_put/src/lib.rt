@@ -2,8 +2,8 @@
 #![tactic(auto)]
 
 mod finding;
+mod literals;
 mod putting;
-mod standing;
 
 pub use finding::{Finding, Findings, Outcome, all_hold, find};
 pub use putting::put_findings;

@@ -54,7 +54,8 @@ fn pass_findings<K: Sink>(
     kept: &mut Text,
     findings: &[Finding],
 ) -> Result<(), Status>
-    ensures told { Passes (K.taken sink.old) kept.old (K.taken sink.new) kept.new (flat_map lines_of findings.now) (Rose (K.faults sink.old) (K.faults sink.new)) result }
+    ensures told { Passes (K.taken sink.old) kept.old (K.taken sink.new) kept.new (flat_map lines_of findings.now)
+        (Rose (K.faults sink.old) (K.faults sink.new)) result }
     ensures later { K.faults sink.old ≤ K.faults sink.new }
 {
     for finding in findings {
@@ -85,8 +86,8 @@ fn pass_certificate<K: Sink>(
     }
 }
 
-/// Puts the certificate of what was found piece by piece, and says with which status the command ends: that all was done; or a fault of the sink or out of memory,
-/// after which a front of the certificate may have been put.
+/// Puts the certificate of what was found piece by piece, and says with which status the command ends: that all was done; or a fault of the sink or out of
+/// memory, after which a front of the certificate may have been put.
 pub fn put_findings<K: Sink>(alloc: Global, sink: &mut K, findings: &[Finding]) -> Status
     ensures told { FinishesWith Status.Done (K.taken sink.old) (K.taken sink.new) (text_of findings.now) (Rose (K.faults sink.old) (K.faults sink.new)) result }
     ensures later { K.faults sink.old ≤ K.faults sink.new }

@@ -12,7 +12,8 @@ returns-in-Err-clause-told g c =
     (Rose (g.K.Sink.faults c.loop-finding.sink) (g.K.Sink.faults c.pass_finding.new.sink))
     (Rose (g.K.Sink.faults c.args.sink.now) (g.K.Sink.faults c.pass_finding.new.sink)) c.args.findings.now c.loop-finding.finding-index c.finding-item.result
     c.in-Err.status c.loop-finding-test.true c.finding-item.is c.loop-finding.invariant.flows c.in-Err.ensures.told
-    (rose_since (g.K.Sink.faults c.args.sink.now) (g.K.Sink.faults c.loop-finding.sink) (g.K.Sink.faults c.pass_finding.new.sink) c.loop-finding.invariant.later)
+    (rose_since (g.K.Sink.faults c.args.sink.now) (g.K.Sink.faults c.loop-finding.sink) (g.K.Sink.faults c.pass_finding.new.sink)
+    c.loop-finding.invariant.later)
 
 pub returns-in-Err-clause-later : goal.returns-in-Err-clause-later
 returns-in-Err-clause-later g c = omega (arith, c.loop-finding.invariant.later, c.pass_finding.ensures.later)

@@ -1,7 +1,7 @@
 use Rattle.std.proofs.Common.{take}
 use Rattle.std.specs.Prelude.{All}
 use Rattle.ygg_log_read.specs.Steps.{IsLiteral}
-use Rattle.ygg_certify_put.proofs.standing.literals_may.Given as goal
+use Rattle.ygg_certify_put.proofs.literals.clause_may.Given as goal
 
 abbrev pub invariant-loop-lit : goal.invariant-loop-lit
 invariant-loop-lit l = All IsLiteral (take l.lit-index l.clause)
