@@ -7,7 +7,7 @@ ghost use Rattle.ygg_bank.specs.Nodes.{HasWidth, IsBank, Stands};
 ghost use Rattle.ygg_bank.specs.declared.node.Id.{Id};
 ghost use Rattle.ygg_bank.specs.declared.node.Node.{Node};
 ghost use Rattle.ygg_cnf.specs.Literals.{SatisfiesAll, truth_of};
-ghost use Rattle.ygg_gates.specs.Groups.{circuit_clauses, translated};
+ghost use Rattle.ygg_gates.specs.Groups.{circuit_clauses, circuit_of, translated};
 ghost use Rattle.ygg_gates.specs.Sources.{environment_by, number_from};
 
 use crate::clauses::{push_clause, push_gates};
@@ -18,7 +18,7 @@ use std::marker::Model;
 use ygg_bank::{Bank, Env, Given, Id};
 use ygg_cnf::{Assignment, Clauses, Lit, truth};
 use ygg_gates::InputVariables;
-use ygg_gates_circuit::{lowest, true_literal};
+use ygg_gates_circuit::true_literal;
 use ygg_list::{NoMemory, Sequence};
 use ygg_value::Word;
 
@@ -53,8 +53,7 @@ fn clauses_of_groups(alloc: Global, groups: &Groups, term: Id) -> Result<Clauses
     let mut clauses = Clauses::new(alloc);
     push_clause(alloc, &mut clauses, &[true_literal()])?;
     push_gates(alloc, &mut clauses, groups.gates.as_slice())?;
-    let literal = lowest(groups.table.at(term.0));
-    push_clause(alloc, &mut clauses, &[literal.complement()])?;
+    push_clause(alloc, &mut clauses, &[groups.goal(term)])?;
     Ok(clauses)
 }
 
@@ -71,13 +70,21 @@ pub fn clauses_of(alloc: Global, bank: &Bank, term: Id) -> Result<Blasted, NoMem
     blasted_of(alloc, bank, term)
 }
 
+/// The gates of all nodes that a term reaches. Its only error is out of memory.
+pub fn circuit_of(alloc: Global, bank: &Bank, term: Id) -> Result<Groups, NoMemory>
+    requires { Stands bank.now term }
+    ensures { IfOk result (λ groups. groups ≡ circuit_of bank.now term) }
+{
+    let reached = reached(alloc, bank, term)?;
+    groups_of(alloc, bank, term, reached.as_slice())
+}
+
 /// What `clauses_of` does.
 fn blasted_of(alloc: Global, bank: &Bank, term: Id) -> Result<Blasted, NoMemory>
     requires { Stands bank.now term }
     ensures { IfOk result (λ blasted. blasted ≡ translated bank.now term) }
 {
-    let reached = reached(alloc, bank, term)?;
-    let groups = groups_of(alloc, bank, term, reached.as_slice())?;
+    let groups = circuit_of(alloc, bank, term)?;
     let clauses = clauses_of_groups(alloc, &groups, term)?;
     Ok(Blasted {
         clauses,

@@ -1,7 +1,8 @@
 //! The clauses of gates.
 
-ghost use Rattle.std.specs.Prelude.{◌≡◌, ◌<◌, ◌^◌, ◌++◌, ◌∷◌, [], length, OnOk};
+ghost use Rattle.std.specs.Prelude.{◌≡◌, ◌<◌, ◌^◌, ◌++◌, ◌∷◌, [], length, IfOk, OnOk};
 ghost use Rattle.ygg_cnf.specs.Literals.{once};
+ghost use Rattle.ygg_gates.specs.Circuits.{literal};
 ghost use Rattle.ygg_gates.specs.Clauses.{clauses_from, gate_clauses};
 
 use std::alloc::Global;
@@ -67,6 +68,19 @@ fn push_gate(alloc: Global, clauses: &mut Clauses, o: Lit, gate: Gate) -> Result
         Gate::Xor { a, b } => push_xor(alloc, clauses, o, a, b),
         Gate::Mux { test, yes, no } => push_mux(alloc, clauses, o, test, yes, no),
     }
+}
+
+/// The clauses of a gate that has this variable. Its only error is out of memory.
+pub fn clauses_of_gate(alloc: Global, variable: u64, gate: Gate) -> Result<Clauses, NoMemory>
+    ensures { IfOk result (λ clauses. clauses ≡ gate_clauses (literal variable) gate) }
+{
+    let mut clauses = Clauses::new(alloc);
+    let output = Lit {
+        var: variable,
+        negated: false,
+    };
+    push_gate(alloc, &mut clauses, output, gate)?;
+    Ok(clauses)
 }
 
 /// Adds the clauses of gates in order, the first of which has the variable 2.

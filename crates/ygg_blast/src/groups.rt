@@ -3,7 +3,8 @@
 ghost use Rattle.std.specs.Prelude.{◌≡◌, ◌<◌, ◌+◌, ◌^◌, ◌++◌, ℕ, true, slice_get, length, OnOk, IfOk};
 ghost use Rattle.ygg_bank.specs.Nodes.{Stands};
 ghost use Rattle.ygg_blast.specs.Places.{has_place, AllBelow, Ascends};
-ghost use Rattle.ygg_gates.specs.Groups.{circuit, circuit_of, node_bits, reaches, sources_of, with_node};
+ghost use Rattle.ygg_cnf.specs.Literals.{complement};
+ghost use Rattle.ygg_gates.specs.Groups.{bits_at, circuit, circuit_of, lowest as low_bit, node_bits, reaches, sources_of, with_node};
 ghost use Rattle.ygg_rules.specs.Views.{IsWidth};
 
 use crate::table::BitTable;
@@ -17,7 +18,7 @@ use ygg_gates_circuit::{
 };
 use ygg_list::{NoMemory, Sequence};
 
-/// What is made of the first nodes: the bits of each, none where it isn't reached; the inputs; and the gates.
+/// What is made of the first nodes: the bits of each, none where it isn't reached; the inputs; and the gates, the first of which has the variable 2.
 #[derive(Drop)]
 pub struct Groups {
     pub table: BitTable,
@@ -31,6 +32,15 @@ impl Model for Groups {
     ghost Value = { Circuit };
 
     ghost view = { λ g. record { table = g.table; sources = g.sources; gates = g.gates.items } };
+}
+
+impl Groups {
+    /// The complement of a term's literal: the last clause has it alone.
+    pub fn goal(&self, term: Id) -> Lit
+        ensures { result ≡ complement (low_bit (bits_at self.now.table term)) }
+    {
+        lowest(self.table.at(term.0)).complement()
+    }
 }
 
 /// The bits of a node, and its gates.

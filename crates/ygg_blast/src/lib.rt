@@ -8,5 +8,7 @@ mod pending;
 mod table;
 mod visits;
 
-pub use blasted::{Blasted, clauses_of, environment};
+pub use blasted::{Blasted, circuit_of, clauses_of, environment};
+pub use clauses::clauses_of_gate;
+pub use groups::Groups;
 pub use ygg_list::NoMemory;

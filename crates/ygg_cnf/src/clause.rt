@@ -10,7 +10,7 @@ use ygg_list::{Duplicate, NoMemory, Sequence};
 
 /// A clause: a list of literals, which is read as a set. Order and repetition don't matter, and a clause with a literal and
 /// its complement is true under every assignment. Where a clause is read or made of literals that may repeat, `once` keeps each once.
-#[derive(Debug, Drop)]
+#[derive(Drop)]
 pub struct Clause {
     lits: SmallVec<Lit, 4>,
 }

@@ -3,7 +3,7 @@ ghost use Rattle.ygg_cnf.specs.Literals.{complement};
 
 /// A variable or its complement. Variables are numbered from 1; texts write a literal as its variable, with `-` before it
 /// where it is negated.
-#[derive(Clone, Copy, Debug, Default, PartialEq, Eq)]
+#[derive(Clone, Copy, Default, PartialEq, Eq)]
 pub struct Lit {
     pub var: u64,
     pub negated: bool,

@@ -3,7 +3,7 @@ use std::alloc::Global;
 use ygg_list::{Duplicate, NoMemory, Sequence};
 
 /// An entry of a log.
-#[derive(Debug, Drop)]
+#[derive(Drop)]
 pub enum Step {
     /// A clause, and the numbers, counted from 1, of the clauses that it is derived from, in the order of the steps. It takes the
     /// number after all clauses before it.

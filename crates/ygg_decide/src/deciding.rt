@@ -13,7 +13,7 @@ use ygg_rules::Book;
 use ygg_solver::{Answer, solve};
 
 /// What deciding a term within a budget of learned clauses comes to.
-#[derive(Debug, Drop)]
+#[derive(Drop)]
 pub enum Decided {
     /// The term is 1 in every environment: this log, of at most as many clauses as the budget says, refutes its clauses.
     Valid(Log),

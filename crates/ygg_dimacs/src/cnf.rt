@@ -1,7 +1,7 @@
 use ygg_cnf::Clauses;
 
 /// Clauses, and the number of variables that their text states. Variables are numbered from 1.
-#[derive(Debug, Drop)]
+#[derive(Drop)]
 pub struct Cnf {
     /// The number of variables.
     pub variables: u64,

@@ -20,7 +20,8 @@ use Rattle.ygg_oblige_decided.proofs.Decided.{zero_is_violated}
 use Rattle.ygg_oblige_decided.proofs.Listed.{listed_zero}
 use Rattle.ygg_oblige.specs.declared.obligation.Obligation.{Obligation}
 use Rattle.ygg_oblige.specs.Obligations.{names_in, terms_in}
-use Rattle.ygg_dimacs_oblige.specs.Printed.{AskFor, IsClausesOf, IsPlace, clauses_text}
+use Rattle.ygg_dimacs_term.specs.Counted.{clauses_text}
+use Rattle.ygg_dimacs_oblige.specs.Printed.{AskFor, IsClausesOf, IsPlace}
 
 -- the clauses of an obligation's term ask for what violates it
 pub asks_for : (nodes : List Node) (c : Claim) (term : Id) → IsBank nodes → IsTermOf nodes c term → AskFor (translated nodes term).clauses c

@@ -1,5 +1,5 @@
 -- The clauses of an obligation, printed.
-use Rattle.std.specs.Prelude.{◌≡◌, ◌↔◌, ◌<◌, ℕ, Bool, List, [], ◌∷◌, length, max, slice_get, Some, Contains, map}
+use Rattle.std.specs.Prelude.{◌≡◌, ◌↔◌, ◌<◌, ℕ, Bool, List, [], length, slice_get, Some, Contains, map}
 use Rattle.ygg_base.specs.declared.status.Status.{Status}
 use Rattle.ygg_base.specs.declared.status.Status.TheVariants.{Done}
 use Rattle.ygg_syntax.specs.declared.tree.File.{File}
@@ -13,22 +13,7 @@ use Rattle.ygg_gates.specs.Groups.{translated}
 use Rattle.ygg_oblige.specs.declared.obligation.Obligation.{Obligation}
 use Rattle.ygg_oblige_terms.specs.Terms.{file_made}
 use Rattle.ygg_oblige_terms.specs.Meaning.{claim_name}
-use Rattle.ygg_dimacs.specs.Reading.{cnf}
-use Rattle.ygg_dimacs.specs.Printing.{cnf_text}
-
--- the greatest variable of a clause, or this one
-abbrev pub greatest_in : ℕ → List Lit → ℕ
-greatest_in most [] = most
-greatest_in most (x ∷ xs) = greatest_in (max most x.var) xs
-
--- the greatest variable of clauses, or this one
-abbrev pub greatest_of : ℕ → List (List Lit) → ℕ
-greatest_of most [] = most
-greatest_of most (c ∷ cs) = greatest_of (greatest_in most c) cs
-
--- the text of clauses over the variables up to their greatest
-abbrev pub clauses_text : List (List Lit) → List ℕ
-clauses_text clauses = cnf_text (cnf (greatest_of 0 clauses) clauses)
+use Rattle.ygg_dimacs_term.specs.Counted.{clauses_text}
 
 -- some truth values satisfy the clauses exactly where some schedule violates the obligation
 abbrev pub AskFor : List (List Lit) → Claim → Type 0

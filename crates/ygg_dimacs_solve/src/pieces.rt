@@ -1,57 +1,17 @@
-//! What is found of clauses, and clauses themselves, put piece by piece.
+//! What is found of clauses, put piece by piece.
 
 ghost use Rattle.std.specs.Prelude.{◌≤◌, [], ◌∷◌};
 ghost use Rattle.ygg_base.specs.Outside.{Rose};
 ghost use Rattle.ygg_cnf.specs.Literals.{truth_of};
-ghost use Rattle.ygg_log_text.specs.Lines.{literal_words, clause_line};
-ghost use Rattle.ygg_dimacs.specs.Printing.{clause_lines, cnf_text};
-ghost use Rattle.ygg_dimacs.specs.Reading.{cnf};
+ghost use Rattle.ygg_log_text.specs.Lines.{literal_words};
 ghost use Rattle.ygg_pieces.specs.Pieces.{Passes, Finishes, FinishesWith};
 ghost use Rattle.ygg_dimacs_solve.specs.Solved.{true_literal, true_literals, satisfiable_text, unsatisfiable_text};
 
 use std::alloc::Global;
 use ygg_base::{Sink, Status, Text};
-use ygg_cnf::{Assignment, Clause, Lit, Step, truth};
-use ygg_dimacs::put_header;
-use ygg_log_text::{put_clause, put_literals};
+use ygg_cnf::{Assignment, Lit, Step, truth};
+use ygg_log_text::put_literals;
 use ygg_pieces::{finish, pass, pass_log};
-
-/// Goes on with the line of a clause.
-fn pass_clause<K: Sink>(
-    alloc: Global,
-    sink: &mut K,
-    kept: &mut Text,
-    clause: &Clause,
-) -> Result<(), Status>
-    ensures told { Passes (K.taken sink.old) kept.old (K.taken sink.new) kept.new (clause_line clause.now)
-        (Rose (K.faults sink.old) (K.faults sink.new)) result }
-    ensures later { K.faults sink.old ≤ K.faults sink.new }
-{
-    let Ok(()) = put_clause(kept, clause) else {
-        return Err(Status::NoMemory);
-    };
-    pass(alloc, sink, kept)
-}
-
-/// Goes on with the lines of clauses.
-fn pass_clauses<K: Sink>(
-    alloc: Global,
-    sink: &mut K,
-    kept: &mut Text,
-    clauses: &[Clause],
-) -> Result<(), Status>
-    ensures told { Passes (K.taken sink.old) kept.old (K.taken sink.new) kept.new (clause_lines clauses.now)
-        (Rose (K.faults sink.old) (K.faults sink.new)) result }
-    ensures later { K.faults sink.old ≤ K.faults sink.new }
-{
-    for clause in clauses {
-        match pass_clause(alloc, sink, kept, clause) {
-            Ok(()) => {}
-            Err(status) => return Err(status),
-        }
-    }
-    Ok(())
-}
 
 /// Goes on with the literal of a variable that is true.
 fn pass_value<K: Sink>(
@@ -130,27 +90,6 @@ fn pass_unsatisfiable<K: Sink>(alloc: Global, sink: &mut K, log: &[Step]) -> Res
     }
 }
 
-/// Puts the text of clauses over so many variables.
-fn pass_cnf<K: Sink>(
-    alloc: Global,
-    sink: &mut K,
-    variables: u64,
-    clauses: &[Clause],
-) -> Result<(), Status>
-    ensures told { Finishes (K.taken sink.old) [] (K.taken sink.new) (cnf_text (cnf variables clauses.now))
-        (Rose (K.faults sink.old) (K.faults sink.new)) result }
-    ensures later { K.faults sink.old ≤ K.faults sink.new }
-{
-    let mut kept = Text::new(alloc);
-    let Ok(()) = put_header(&mut kept, variables, clauses.len() as u64) else {
-        return Err(Status::NoMemory);
-    };
-    match pass_clauses(alloc, sink, &mut kept, clauses) {
-        Ok(()) => finish(sink, &mut kept, b""),
-        Err(status) => Err(status),
-    }
-}
-
 /// Puts that clauses are satisfiable, with the true literals of so many variables, and says with which status the command ends.
 pub fn put_satisfiable<K: Sink>(
     alloc: Global,
@@ -175,23 +114,6 @@ pub fn put_unsatisfiable<K: Sink>(alloc: Global, sink: &mut K, log: &[Step]) -> 
     ensures later { K.faults sink.old ≤ K.faults sink.new }
 {
     match pass_unsatisfiable(alloc, sink, log) {
-        Ok(()) => Status::Done,
-        Err(status) => status,
-    }
-}
-
-/// Puts the text of clauses over so many variables, and says with which status the command ends.
-pub fn put_clauses<K: Sink>(
-    alloc: Global,
-    sink: &mut K,
-    variables: u64,
-    clauses: &[Clause],
-) -> Status
-    ensures told { FinishesWith Status.Done (K.taken sink.old) (K.taken sink.new) (cnf_text (cnf variables clauses.now))
-        (Rose (K.faults sink.old) (K.faults sink.new)) result }
-    ensures later { K.faults sink.old ≤ K.faults sink.new }
-{
-    match pass_cnf(alloc, sink, variables, clauses) {
         Ok(()) => Status::Done,
         Err(status) => status,
     }

@@ -13,7 +13,7 @@ use std::alloc::Global;
 use ygg_base::{Sink, Status};
 use ygg_dimacs::Cnf;
 use ygg_report::{put_all, undecided};
-use ygg_solver::{Answer, solve};
+use ygg_solver::{Answer, solve_owned};
 
 /// Puts that the budget was spent, and says with which status the command ends.
 fn put_undecided<K: Sink>(alloc: Global, sink: &mut K) -> Status
@@ -28,19 +28,21 @@ fn put_undecided<K: Sink>(alloc: Global, sink: &mut K) -> Status
 
 /// Solves clauses within a budget of learned clauses, and puts what comes of it: `satisfiable` and the true literal of each variable, or `unsatisfiable` and
 /// the log that refutes the clauses, with status 0; or `undecided` with status 3, where the whole budget was spent. Long texts are put piece by piece. The
-/// other ends are a fault of the sink and out of memory, after which a front of such a text may have been put.
-pub fn solve_cnf<K: Sink>(alloc: Global, cnf: &Cnf, budget: u32, sink: &mut K) -> Status
+/// other ends are a fault of the sink and out of memory, after which a front of such a text may have been put. The memory of the clauses that are handed over is
+/// given back before the search begins.
+pub fn solve_cnf<K: Sink>(alloc: Global, cnf: Cnf, budget: u32, sink: &mut K) -> Status
     requires budget { 0 < budget }
-    requires numbered { IsNumbered cnf.now.clauses }
-    ensures told { Puts (Solved cnf.now budget) (IsCutOf (Solved cnf.now budget)) (K.taken sink.old) (K.taken sink.new)
+    requires numbered { IsNumbered cnf.clauses }
+    ensures told { Puts (Solved cnf budget) (IsCutOf (Solved cnf budget)) (K.taken sink.old) (K.taken sink.new)
         (Rose (K.faults sink.old) (K.faults sink.new)) result }
     ensures later { K.faults sink.old ≤ K.faults sink.new }
 {
-    let Ok(answer) = solve(alloc, &cnf.clauses, budget) else {
+    let Cnf { variables, clauses } = cnf;
+    let Ok(answer) = solve_owned(alloc, clauses, budget) else {
         return Status::NoMemory;
     };
     match answer {
-        Answer::Sat(assignment) => put_satisfiable(alloc, sink, &assignment, cnf.variables),
+        Answer::Sat(assignment) => put_satisfiable(alloc, sink, &assignment, variables),
         Answer::Unsat(log) => put_unsatisfiable(alloc, sink, log.as_slice()),
         Answer::Spent(_) => put_undecided(alloc, sink),
     }

@@ -6,7 +6,7 @@ use ygg_cnf::Lit;
 use ygg_list::{Duplicate, NoMemory};
 
 /// What gives a variable its value. The k-th gate of a list, counted from 0, is that of the variable k + 2.
-#[derive(Clone, Copy, Debug, PartialEq, Eq)]
+#[derive(Clone, Copy, PartialEq, Eq)]
 pub enum Gate {
     /// Nothing: either value will do.
     Free,
@@ -19,7 +19,7 @@ pub enum Gate {
 }
 
 /// What joins two bits to one.
-#[derive(Clone, Copy, Debug, PartialEq, Eq)]
+#[derive(Clone, Copy, PartialEq, Eq)]
 pub enum Joint {
     /// True where both are.
     And,
@@ -32,7 +32,7 @@ pub enum Joint {
 }
 
 /// Where bits are moved.
-#[derive(Clone, Copy, Debug, PartialEq, Eq)]
+#[derive(Clone, Copy, PartialEq, Eq)]
 pub enum Way {
     /// Towards the high bits.
     Up,
@@ -41,14 +41,14 @@ pub enum Way {
 }
 
 /// A bit of a sum, and the carry to the next bit.
-#[derive(Clone, Copy, Debug, PartialEq, Eq)]
+#[derive(Clone, Copy, PartialEq, Eq)]
 pub struct Carried {
     pub bit: Lit,
     pub carry: Lit,
 }
 
 /// The variables of an input: as many as it has bits, counted on from the first, which is the lowest bit's.
-#[derive(Clone, Copy, Debug)]
+#[derive(Clone, Copy)]
 pub struct InputVariables {
     /// The input's number.
     pub number: u64,

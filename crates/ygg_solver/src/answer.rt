@@ -1,7 +1,7 @@
 use ygg_cnf::{Assignment, Log};
 
 /// What solving clauses within a budget of learned clauses came to.
-#[derive(Debug, Drop)]
+#[derive(Drop)]
 pub enum Answer {
     /// This assignment satisfies every clause.
     Sat(Assignment),

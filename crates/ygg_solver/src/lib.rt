@@ -21,5 +21,5 @@ mod names;
 mod solving;
 
 pub use answer::Answer;
-pub use solving::{solve, solve_and_count};
+pub use solving::{solve, solve_and_count, solve_owned};
 pub use ygg_watch_order::Work;

@@ -56,7 +56,24 @@ pub fn solve_and_count(
     solve_kept(alloc, &variables, kept, budget)
 }
 
-/// The same of clauses whose variables are places, read by the variables that have the places.
+/// The same as `solve`, where the clauses are handed over: their memory is given back before the search begins.
+pub fn solve_owned(alloc: Global, clauses: Clauses, budget: u32) -> Result<Answer, NoMemory>
+    requires budget { 0 < budget }
+    requires numbered { IsNumbered clauses }
+    ensures answer { IfOk result (IsAnswer clauses budget) }
+    ensures empty { IfOk result (λ answer. Contains clauses [] → answer ≡ Answer.Unsat []) }
+{
+    if has_empty(&clauses) {
+        return Ok(Answer::Unsat(Log::new(alloc)));
+    }
+    let mut variables = Variables::new(alloc);
+    let kept = number_all(alloc, &mut variables, &clauses)?;
+    drop(clauses);
+    let (answer, _) = solve_kept(alloc, &variables, kept, budget)?;
+    Ok(answer)
+}
+
+/// What `solve_and_count` does with clauses whose variables are places, read by the variables that have the places.
 fn solve_kept(
     alloc: Global,
     variables: &Variables,

@@ -7,7 +7,7 @@ use ygg_list::NoMemory;
 use ygg_watch_trail::Entry;
 
 /// What is known of a place: nothing, that seen literals imply its literal, or that it was not found so.
-#[derive(Clone, Copy, Debug, PartialEq, Eq)]
+#[derive(Clone, Copy, PartialEq, Eq)]
 enum Known {
     Nothing,
     Implied,
@@ -222,7 +222,7 @@ impl Removal {
 }
 
 /// What the look at a place's reason came to: its literal is implied, is not found to be, or hangs on another place.
-#[derive(Clone, Copy, Debug)]
+#[derive(Clone, Copy)]
 enum Next {
     Implied,
     Other,

@@ -34,7 +34,7 @@ fn second(clause: &[Lit], first: Lit, trail: &Assignments) -> Option<Lit>
 }
 
 /// How the look at a clause ended.
-#[derive(Clone, Copy, Debug)]
+#[derive(Clone, Copy)]
 pub enum Examined {
     /// The clause is watched, or has a literal that is true for as long as the clause counts as looked at.
     Fine,

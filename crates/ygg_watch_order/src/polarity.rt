@@ -2,7 +2,7 @@ use std::alloc::Global;
 use ygg_list::NoMemory;
 
 /// How much speaks for either value of a variable.
-#[derive(Clone, Copy, Debug)]
+#[derive(Clone, Copy)]
 struct Votes {
     yes: u64,
     no: u64,

@@ -1,5 +1,5 @@
 /// The sequence 1, 1, 2, 1, 1, 2, 4, .. of Luby, Sinclair and Zuckerman, one number at a time, as Knuth generates it.
-#[derive(Clone, Copy, Debug)]
+#[derive(Clone, Copy)]
 struct Luby {
     round: u64,
     length: u64,
@@ -31,7 +31,7 @@ impl Luby {
 const UNIT: u64 = 32;
 
 /// When to begin again: after `UNIT` times as many conflicts as the next number of the sequence says.
-#[derive(Clone, Copy, Debug)]
+#[derive(Clone, Copy)]
 pub struct Restarts {
     luby: Luby,
     left: u64,

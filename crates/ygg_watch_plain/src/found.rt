@@ -1,5 +1,5 @@
 /// How propagation ended.
-#[derive(Clone, Copy, Debug, PartialEq, Eq)]
+#[derive(Clone, Copy, PartialEq, Eq)]
 pub enum Found {
     /// No held clause is false, and none is left with one literal.
     Quiet,
@@ -9,7 +9,7 @@ pub enum Found {
 
 /// The value of a variable, with the level at which it was assigned and the number of the clause that implied it. A decided
 /// variable has no reason.
-#[derive(Clone, Copy, Debug, PartialEq, Eq)]
+#[derive(Clone, Copy, PartialEq, Eq)]
 pub struct Assigned {
     pub value: bool,
     pub level: u64,

@@ -9,7 +9,7 @@ use ygg_cnf::{Clause, Lit};
 use ygg_watch_trail::Assignments;
 
 /// The first clause that is false or has a single literal left, with its number.
-#[derive(Clone, Copy, Debug)]
+#[derive(Clone, Copy)]
 enum Scanned {
     Quiet,
     False(u64),

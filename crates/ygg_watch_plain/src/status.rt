@@ -5,7 +5,7 @@ use ygg_cnf::Lit;
 use ygg_watch_trail::Assignments;
 
 /// What is left of a clause: a true literal, two that are not assigned, one, or none.
-#[derive(Clone, Copy, Debug)]
+#[derive(Clone, Copy)]
 pub enum ClauseStatus {
     True(Lit),
     Open(Lit, Lit),

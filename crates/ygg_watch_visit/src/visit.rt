@@ -28,7 +28,7 @@ fn replacement(clause: &[Lit], other: Lit, trail: &Assignments) -> Option<Lit>
 }
 
 /// What is to be done about a clause one of whose watched literals is false.
-#[derive(Clone, Copy, Debug)]
+#[derive(Clone, Copy)]
 pub enum Judged {
     /// The other watched literal is true.
     Keep,

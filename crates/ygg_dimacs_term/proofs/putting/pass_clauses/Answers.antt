@@ -3,7 +3,7 @@ use Rattle.ygg_base.specs.Outside.{Rose}
 use Rattle.ygg_log_text.specs.Lines.{clause_line}
 use Rattle.ygg_dimacs.specs.Printing.{clause_lines}
 use Rattle.ygg_pieces.proofs.Flowing.{line_short, line_on, rose_since}
-use Rattle.ygg_dimacs_solve.proofs.pieces.pass_clauses.Goals as goal
+use Rattle.ygg_dimacs_term.proofs.putting.pass_clauses.Goals as goal
 
 pub returns-in-Err-clause-told : goal.returns-in-Err-clause-told
 returns-in-Err-clause-told g c =

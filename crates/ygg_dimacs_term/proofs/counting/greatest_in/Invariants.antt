@@ -1,6 +1,6 @@
 use Rattle.std.proofs.Common.{◌≡◌, drop}
-use Rattle.ygg_dimacs_oblige.specs.Printed.{greatest_in}
-use Rattle.ygg_dimacs_oblige.proofs.printing.greatest_in.Given as goal
+use Rattle.ygg_dimacs_term.specs.Counted.{greatest_in}
+use Rattle.ygg_dimacs_term.proofs.counting.greatest_in.Given as goal
 
 -- what is left decides
 abbrev pub invariant-loop-literal : goal.invariant-loop-literal

@@ -1,0 +1,2 @@
+pub mod Gatewise
+pub mod Texts

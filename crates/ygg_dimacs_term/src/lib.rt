@@ -1,0 +1,8 @@
+//! The clauses of a term as a text. They are counted first, for the header, and then made a second time and put, those of one gate after another, so that they
+//! don't stand in memory together.
+#![tactic(auto)]
+
+mod counting;
+mod putting;
+
+pub use putting::put_term;
