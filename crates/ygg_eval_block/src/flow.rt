@@ -1,7 +1,7 @@
 //! How a part of a block ends.
 
 /// Why a run ends before its block does.
-#[derive(Clone, Copy, Debug, PartialEq, Eq)]
+#[derive(Clone, Copy, PartialEq, Eq)]
 pub enum Break {
     /// The stop was reached, and power failed there.
     Stopped,
@@ -12,7 +12,7 @@ pub enum Break {
 }
 
 /// Whether a part of a block goes on, with what it gives, or the run ends in it.
-#[derive(Debug, Drop)]
+#[derive(Drop)]
 pub enum Flow<T> {
     Goes(T),
     Breaks(Break),

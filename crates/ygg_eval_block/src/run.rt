@@ -23,7 +23,7 @@ use ygg_type::Typed;
 use ygg_value::{Value, Values};
 
 /// How a run of a block ended.
-#[derive(Debug, Drop)]
+#[derive(Drop)]
 pub enum Ended {
     /// The block came to its end, with this answer; no stop was asked for.
     Whole(Option<Value>),

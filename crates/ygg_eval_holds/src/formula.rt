@@ -7,7 +7,7 @@ ghost use Rattle.ygg_eval_holds.specs.Formulas.{formula_in};
 use ygg_syntax::tree::{Expr, Layer};
 
 /// Which expressions of a layer.
-#[derive(Clone, Copy, Debug, PartialEq, Eq)]
+#[derive(Clone, Copy, PartialEq, Eq)]
 pub enum Which {
     /// `relate`.
     Relate,
@@ -20,7 +20,7 @@ pub enum Which {
 }
 
 /// An expression of a layer: the layer's place from the bottom one on, and the expression's place in its list, both from 0.
-#[derive(Clone, Copy, Debug, PartialEq, Eq)]
+#[derive(Clone, Copy, PartialEq, Eq)]
 pub struct Formula {
     pub layer: u32,
     pub which: Which,

@@ -29,7 +29,7 @@ pub trait Lower {
         ensures serves { AfterWhole (ending_of result) (Serves means typed.now.file (means.number self.old)
             (record { machine = self.new; power = power.new })) };
 
-    /// Power fails within a call of an operation. Its only error is out of memory.
+    /// Power fails within a call of an operation, where the machine can be stopped. Its only error is out of memory.
     fn fall(
         &mut self,
         typed: &Typed,
@@ -37,18 +37,16 @@ pub trait Lower {
         args: &Values,
         power: &mut Power,
     ) -> Result<(), NoMemory>
-        requires stops { IsTrue means.can_stop }
         requires serves { Serves means typed.now.file (means.number self.old) (record { machine = self.old; power = power.old }) }
         requires operation { IsCallable (signatures_at typed.now.file (means.number self.old)) op args.now }
-        ensures fell { Fell means typed.now.file (signatures_at typed.now.file (means.number self.old)) op args.now (outage_of result)
+        ensures fell { IsTrue means.can_stop → Fell means typed.now.file (signatures_at typed.now.file (means.number self.old)) op args.now (outage_of result)
             (record { machine = self.old; power = power.old }) (record { machine = self.new; power = power.new }) }
         ensures serves { OnOk result (Serves means typed.now.file (means.number self.old) (record { machine = self.new; power = power.new })) };
 
-    /// Power fails between operations. Its only error is out of memory.
+    /// Power fails between operations, where the machine can be stopped. Its only error is out of memory.
     fn lose(&mut self, typed: &Typed, power: &mut Power) -> Result<(), NoMemory>
-        requires stops { IsTrue means.can_stop }
         requires serves { Serves means typed.now.file (means.number self.old) (record { machine = self.old; power = power.old }) }
-        ensures lost { means.Loses typed.now.file (record { machine = self.old; power = power.old }) (outage_of result)
+        ensures lost { IsTrue means.can_stop → means.Loses typed.now.file (record { machine = self.old; power = power.old }) (outage_of result)
             (record { machine = self.new; power = power.new }) }
         ensures serves { OnOk result (Serves means typed.now.file (means.number self.old) (record { machine = self.new; power = power.new })) };
 

@@ -16,7 +16,7 @@ use ygg_value::Values;
 /// The specification of a layer, or the disk, which contracts see as its number in the file and the values of its variables or tables.
 /// It never answers `Down` or `Failed`, and it can be stopped. Each choice that a specification or a disk makes takes the next pick of
 /// `power`; nothing else of `power` is looked at or changed.
-#[derive(Debug, Drop)]
+#[derive(Drop)]
 pub struct SpecLower {
     alloc: Global,
     number: u32,

@@ -1,9 +1,11 @@
 -- Obligations of a layer added in order: those so far, and those that are left.
-use Rattle.std.proofs.Common.{◌≡◌, ℕ, List, [], ◌∷◌, ◌++◌, sym, ap, ◌∙◌, subst, append_assoc}
+use Rattle.std.proofs.Common.{◌≡◌, ◌<◌, ◌≤◌, ◌⊎◌, ℕ, List, [], ◌∷◌, ◌++◌, length, inl, inr, sym, ap, ◌∙◌, subst, append_assoc}
 use Rattle.std.specs.Prelude.{All}
+use Rattle.std.proofs.lemmas.Bool.{cases_lt}
 use Rattle.std.proofs.lemmas.List.{append-nil, map-append}
 use Rattle.std.proofs.lemmas.List.Elements.{All-head, All-tail}
 use Rattle.ygg_rules.specs.declared.rule.RuleKind.{RuleKind}
+use Rattle.ygg_bank.proofs.Places.{here_or_last, last_is}
 use Rattle.ygg_bank.proofs.Widths.{wider}
 use Rattle.ygg_bank.specs.Inputs.{InputsBelow}
 use Rattle.ygg_bank.specs.Makes.{Out}
@@ -31,7 +33,7 @@ use Rattle.ygg_oblige_pieces.proofs.Steps.{steps_mean}
 use Rattle.ygg_oblige_laws.proofs.Free.{term_below}
 use Rattle.ygg_oblige_laws.proofs.Whole.{means_typed}
 use Rattle.ygg_oblige_laws.specs.Parts.{PartsMean}
-use Rattle.ygg_oblige_parts.specs.Makers.{StartingShaped}
+use Rattle.ygg_oblige_kinds.specs.Makers.{StartingShaped}
 use Rattle.ygg_oblige.specs.Adding.{KnownAt, after_at, names_of, next_at, term_at, terms_at}
 use Rattle.ygg_oblige.specs.Obligations as listed
 use Rattle.ygg_oblige.specs.declared.obligation.Obligation as code
@@ -59,6 +61,15 @@ starting_wider L old new S g s = record {
   low = low_wider old new L.low S.settled_low g s.low;
 }
 
+-- one more has its place at the end of the list
+pub one_placed : (all : List code.Obligation) (item : code.Obligation) → listed.ArePlaced all → item.place ≡ length all →
+    listed.ArePlaced (all ++ item ∷ [])
+one_placed all item placed at place o there = go (cases_lt place (length all))
+  where
+    go : (place < length all) ⊎ (length all ≤ place) → o.place ≡ place
+    go (inl before) = placed place o (here_or_last all item place o there before)
+    go (inr past) = let last = last_is all item o place past there in ap (λ (x : code.Obligation). x.place) last.1 ∙ at ∙ sym last.0
+
 module _ (kinds : List RuleKind) (l : SymLayer) (g : SymBelow) (S : Starting) where
   -- of obligations that were to be added to a list and a bank, these are left, and the list and the bank are now so
   pub record Going (os : List Obligation) (start : ℕ) (bank : List Node) (all : List code.Obligation)
@@ -69,6 +80,7 @@ module _ (kinds : List RuleKind) (l : SymLayer) (g : SymBelow) (S : Starting) wh
     pub after : after_at kinds l g left next ≡ after_at kinds l g os start
     pub known : All (KnownAt kinds l g) left
     pub starting : StartingShaped (closed l) now S
+    pub placed : listed.ArePlaced so_far
     pub free : InputsBelow next now
     pub is_bank : IsBank now
 
@@ -79,6 +91,7 @@ module _ (kinds : List RuleKind) (l : SymLayer) (g : SymBelow) (S : Starting) wh
     pub terms : listed.terms_in then_all ≡ listed.terms_in so_far ++ (term_at kinds l g S o next now).value ∷ []
     pub names : listed.names_in then_all ≡ listed.names_in so_far ++ name_of (l.layer.now).name.text o ∷ []
     pub next_is : next_then ≡ next_at kinds l g o next
+    pub placed : listed.ArePlaced then_all
     pub grows : Extends now then_nodes
     pub is_bank : IsBank then_nodes
 
@@ -87,9 +100,10 @@ module _ (kinds : List RuleKind) (l : SymLayer) (g : SymBelow) (S : Starting) wh
       n ≡ numbers_of (below_in g) (closed l) o start →
       now ≡ (term_made kinds (terms_in kinds l) (closed l) (below_in g) S o n old).nodes →
       item.term ≡ (term_made kinds (terms_in kinds l) (closed l) (below_in g) S o n old).value →
-      item.name ≡ name_of (l.layer.now).name.text o → after ≡ before ++ item ∷ [] → Extends old now → IsBank now →
+      item.name ≡ name_of (l.layer.now).name.text o → item.place ≡ length before → listed.ArePlaced before → after ≡ before ++ item ∷ [] → Extends old now →
+      IsBank now →
       Added o start old before n.next now after
-  added_one o start n old now before after item is e f h k w b =
+  added_one o start n old now before after item is e f h j p k w b =
       let same = ap (λ (z : Numbers). term_made kinds (terms_in kinds l) (closed l) (below_in g) S o z old) is in
       record {
         nodes = e ∙ ap (λ (z : Out Id). z.nodes) same;
@@ -97,6 +111,7 @@ module _ (kinds : List RuleKind) (l : SymLayer) (g : SymBelow) (S : Starting) wh
             ∙ ap (λ z. listed.terms_in before ++ z ∷ []) (f ∙ ap (λ (z : Out Id). z.value) same);
         names = ap listed.names_in k ∙ map-append (λ (x : code.Obligation). x.name) before (item ∷ []) ∙ ap (λ z. listed.names_in before ++ z ∷ []) h;
         next_is = ap (λ (z : Numbers). z.next) is;
+        placed = subst listed.ArePlaced (sym k) (one_placed before item p j);
         grows = w;
         is_bank = b;
       }
@@ -123,6 +138,7 @@ module _ (kinds : List RuleKind) (l : SymLayer) (g : SymBelow) (S : Starting) wh
             after = ap (λ (z : ℕ). after_at kinds l g more z) a.next_is ∙ w.after;
             known = All-tail (KnownAt kinds l g) o more w.known;
             starting = starting_wider (closed l) now then_nodes S a.grows w.starting;
+            placed = a.placed;
             free = subst (λ (z : ℕ). InputsBelow z then_nodes) (sym a.next_is) (subst (InputsBelow n) (sym a.nodes)
                 (term_below kinds l.defs.now (below_in g) (closed l) (parts_of kinds l.defs.now (below_in g) (closed l) typed)
                 (means_typed kinds l.defs.now (below_in g) (closed l) typed) next S o (All-head (KnownAt kinds l g) o more w.known).means now w.free));
@@ -136,6 +152,7 @@ module _ (kinds : List RuleKind) (l : SymLayer) (g : SymBelow) (S : Starting) wh
     pub terms : listed.terms_in so_far ≡ listed.terms_in all ++ (terms_at kinds l g S os start bank).value
     pub names : listed.names_in so_far ≡ listed.names_in all ++ names_of l os
     pub after : next ≡ after_at kinds l g os start
+    pub placed : listed.ArePlaced so_far
 
   pub gone_all : (os : List Obligation) (start : ℕ) (bank : List Node) (all : List code.Obligation) (left : List Obligation) (next : ℕ)
       (now : List Node) (so_far : List code.Obligation) → left ≡ [] → Going os start bank all left next now so_far →
@@ -147,4 +164,5 @@ module _ (kinds : List RuleKind) (l : SymLayer) (g : SymBelow) (S : Starting) wh
         terms = sym (append-nil (listed.terms_in so_far)) ∙ d.terms;
         names = sym (append-nil (listed.names_in so_far)) ∙ d.names;
         after = d.after;
+        placed = d.placed;
       }

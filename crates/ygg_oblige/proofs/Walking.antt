@@ -70,6 +70,7 @@ module _ (kinds : List RuleKind) (file : File) where
     pub nodes : now ≡ (layers_made kinds (terms_of kinds file.defs) file.disk lower []).nodes
     pub terms : listed.terms_in all ≡ (layers_made kinds (terms_of kinds file.defs) file.disk lower []).value
     pub names : listed.names_in all ≡ map claim_name (claims_on file.disk lower)
+    pub placed : listed.ArePlaced all
     pub typed : LayersTyped file.defs file.disk (layers_on (functions_of file.defs) low left lower)
     pub free : InputsBelow number now
     pub is_bank : IsBank now
@@ -82,6 +83,7 @@ module _ (kinds : List RuleKind) (file : File) where
     pub names : listed.names_in then_all ≡ listed.names_in all ++ names_of l (obligations_of l.layer.now)
     pub next_is : number_then ≡ after_layer_at kinds l g number
     pub is_bank : IsBank then_nodes
+    pub placed : listed.ArePlaced then_all
 
   module _ (l : SymLayer) (g : SymBelow) (left : List Layer) (number : ℕ) (now : List Node) (all : List code.Obligation)
       (defs : l.defs.now ≡ file.defs) (w : Walked l.low.now (l.layer.now ∷ left) g number now all) where
@@ -145,6 +147,7 @@ module _ (kinds : List RuleKind) (file : File) where
           names = a.names ∙ ap (λ (z : List (List ℕ)). z ++ names_of l obligations) w.names
               ∙ ap (λ (z : List (List ℕ)). map claim_name (claims_on file.disk w.lower) ++ z) (sym (names_at L G obligations))
               ∙ sym (map-append claim_name (claims_on file.disk w.lower) (claims_at L G));
+          placed = a.placed;
           typed = w.typed;
           free = subst (λ (n : ℕ). InputsBelow n then_nodes) (sym a.next_is) (subst (InputsBelow (after_layer_at kinds l g number)) (sym a.nodes)
               (layer_inputs kinds l.defs.now (below_in g) (closed l) number now site_fits.layer w.free));
@@ -153,6 +156,9 @@ module _ (kinds : List RuleKind) (file : File) where
 
   nothing : InputsBelow 0 []
   nothing place number w e = absurd (cc)
+
+  none_placed : listed.ArePlaced []
+  none_placed place o there = absurd (cc)
 
   -- before the first layer
   pub walk_begun : (low : List Declared) (now : List Node) → low ≡ tables_of file.disk → now ≡ [] → IsBank now →
@@ -167,6 +173,7 @@ module _ (kinds : List RuleKind) (file : File) where
         nodes = f;
         terms = refl;
         names = refl;
+        placed = none_placed;
         typed = subst (LayersTyped file.defs file.disk) (sym same_layers) t;
         free = subst (InputsBelow 0) (sym f) nothing;
         is_bank = b;
@@ -177,6 +184,7 @@ module _ (kinds : List RuleKind) (file : File) where
     pub nodes : now ≡ (file_made kinds file []).nodes
     pub terms : listed.terms_in all ≡ (file_made kinds file []).value
     pub names : listed.names_in all ≡ map claim_name (claims_of file)
+    pub placed : listed.ArePlaced all
 
   pub walked_all : (low : List Declared) (left : List Layer) (g : SymBelow) (number : ℕ) (now : List Node) (all : List code.Obligation) → left ≡ [] →
       Walked low left g number now all → WalkedAll now all
@@ -186,4 +194,5 @@ module _ (kinds : List RuleKind) (file : File) where
         nodes = w.nodes ∙ ap (λ (z : Layers). (layers_made kinds (terms_of kinds file.defs) file.disk z []).nodes) is;
         terms = w.terms ∙ ap (λ (z : Layers). (layers_made kinds (terms_of kinds file.defs) file.disk z []).value) is;
         names = w.names ∙ ap (λ (z : Layers). map claim_name (claims_on file.disk z)) is;
+        placed = w.placed;
       }

@@ -6,19 +6,19 @@ ghost use Rattle.ygg_bank.specs.Nodes.{Extends, IsBank};
 ghost use Rattle.ygg_meaning.specs.Obligations.{name_of, obligations_of};
 ghost use Rattle.ygg_sym_spec.specs.Layers.{closed};
 ghost use Rattle.ygg_oblige_terms.specs.States.{state_words};
-ghost use Rattle.ygg_oblige_parts.specs.Makers.{StartingShaped, starting_of};
-ghost use Rattle.ygg_oblige_parts.specs.Steps.{obligation_of};
+ghost use Rattle.ygg_oblige_kinds.specs.Makers.{StartingShaped, starting_of};
+ghost use Rattle.ygg_oblige_kinds.specs.Steps.{obligation_of};
 ghost use Rattle.ygg_oblige.specs.Adding.{KnownAt, after_at, after_layer_at, layer_at, names_of, next_at, term_at, terms_at};
-ghost use Rattle.ygg_oblige.specs.Listing.{asked_in, kind_in};
+ghost use Rattle.ygg_oblige.specs.Kinds.{kind_in};
+ghost use Rattle.ygg_oblige_list.specs.Listing.{asked_in};
 ghost use Rattle.ygg_oblige_kinds.specs.Making.{SiteFits};
-ghost use Rattle.ygg_oblige.specs.Obligations.{names_in, terms_in};
+ghost use Rattle.ygg_oblige.specs.Obligations.{ArePlaced, names_in, terms_in};
 
-use crate::listing::{Asked, asked_of};
 use crate::names::name_of;
 use crate::obligation::{Kind, Obligation, Obligations};
 use ygg_bank::{Bank, NoMemory};
-use ygg_oblige_kinds::{numbers_of, term};
-use ygg_oblige_parts::{Maker, SymObligation, SymStarting, words_in};
+use ygg_oblige_kinds::{Maker, SymObligation, SymStarting, numbers_of, term, words_in};
+use ygg_oblige_list::{Asked, asked_of};
 use ygg_rules::Book;
 
 /// What an obligation asks.
@@ -51,6 +51,7 @@ fn add<'a, B: Book>(
     requires known { KnownAt (B.kinds maker.now.book.now) maker.now.layer maker.now.below (obligation_of asked.obligation) }
     requires starting { StartingShaped (closed maker.now.layer) bank.old (starting_of s.now) }
     requires free { InputsBelow start bank.old }
+    requires placed { ArePlaced all.old }
     ensures nodes { OnOk result (bank.new ≡ (term_at (B.kinds maker.now.book.now) maker.now.layer maker.now.below (starting_of s.now)
         (obligation_of asked.entry.obligation) start bank.old).nodes) }
     ensures terms { OnOk result (terms_in all.new ≡ terms_in all.old ++ (term_at (B.kinds maker.now.book.now) maker.now.layer maker.now.below
@@ -60,16 +61,19 @@ fn add<'a, B: Book>(
     ensures next { IfOk result (λ n. n ≡ next_at (B.kinds maker.now.book.now) maker.now.layer maker.now.below (obligation_of asked.entry.obligation) start) }
     ensures grows { Extends bank.old bank.new }
     ensures bank { IsBank bank.new }
+    ensures placed { OnOk result (ArePlaced all.new) }
 {
     let obligation = asked.obligation;
     let n = numbers_of(maker, obligation, start)?;
     let name = name_of(maker.alloc, maker.layer.layer, obligation)?;
     let term = term(maker, bank, obligation, n, s, start)?;
+    let listed = all.len();
     all.push(Obligation {
         name,
         layer: place,
         kind: kind_of(obligation),
         number: asked.number,
+        place: listed,
         term,
     })?;
     Ok(n.next)
@@ -90,6 +94,7 @@ fn add_all<'a, B: Book>(
     requires known { All (KnownAt (B.kinds maker.now.book.now) maker.now.layer maker.now.below) (asked_in asked.now) }
     requires starting { StartingShaped (closed maker.now.layer) bank.old (starting_of s.now) }
     requires free { InputsBelow start bank.old }
+    requires placed { ArePlaced all.old }
     ensures nodes { OnOk result (bank.new ≡ (terms_at (B.kinds maker.now.book.now) maker.now.layer maker.now.below (starting_of s.now)
         (asked_in asked.now) start bank.old).nodes) }
     ensures terms { OnOk result (terms_in all.new ≡ terms_in all.old ++ (terms_at (B.kinds maker.now.book.now) maker.now.layer maker.now.below
@@ -97,6 +102,7 @@ fn add_all<'a, B: Book>(
     ensures names { OnOk result (names_in all.new ≡ names_in all.old ++ names_of maker.now.layer (asked_in asked.now)) }
     ensures next { IfOk result (λ n. n ≡ after_at (B.kinds maker.now.book.now) maker.now.layer maker.now.below (asked_in asked.now) start) }
     ensures bank { IsBank bank.new }
+    ensures placed { OnOk result (ArePlaced all.new) }
 {
     let mut next = start;
     for each in asked {
@@ -138,12 +144,14 @@ pub fn add_layer<'a, B: Book>(
     requires bank { IsBank bank.old }
     requires site { SiteFits maker.now.layer maker.now.below }
     requires free { InputsBelow number bank.old }
+    requires placed { ArePlaced all.old }
     ensures nodes { OnOk result (bank.new ≡ (layer_at (B.kinds maker.now.book.now) maker.now.layer maker.now.below number bank.old).nodes) }
     ensures terms { OnOk result (terms_in all.new ≡ terms_in all.old ++ (layer_at (B.kinds maker.now.book.now) maker.now.layer maker.now.below number
         bank.old).value) }
     ensures names { OnOk result (names_in all.new ≡ names_in all.old ++ names_of maker.now.layer (obligations_of maker.now.layer.layer.now)) }
     ensures next { IfOk result (λ n. n ≡ after_layer_at (B.kinds maker.now.book.now) maker.now.layer maker.now.below number) }
     ensures bank { IsBank bank.new }
+    ensures placed { OnOk result (ArePlaced all.new) }
 {
     let start = after_states(maker, number)?;
     let s = maker.starting(bank, number)?;

@@ -6,11 +6,10 @@ ghost use Rattle.ygg_bank.specs.Nodes.{IsBank};
 ghost use Rattle.ygg_histories.specs.Claims.{claims_of};
 ghost use Rattle.ygg_oblige_terms.specs.Terms.{file_made};
 ghost use Rattle.ygg_oblige_terms.specs.Meaning.{AreTermsIn, claim_name};
-ghost use Rattle.ygg_oblige.specs.Obligations.{names_in, terms_in};
+ghost use Rattle.ygg_oblige.specs.Obligations.{ArePlaced, names_in, terms_in};
 
 mod file;
 mod layers;
-mod listing;
 mod names;
 mod obligation;
 
@@ -20,6 +19,7 @@ pub use names::name_of;
 pub use obligation::{Kind, Obligation, Obligations};
 use std::alloc::Global;
 use ygg_bank::{Bank, NoMemory};
+pub use ygg_oblige_kinds::{Maker, SymNumbers, SymObligation, numbers_of, words_in};
 use ygg_rules::Book;
 use ygg_type::Typed;
 
@@ -35,6 +35,7 @@ pub fn obligations<B: Book>(
     ensures nodes { OnOk result (bank.new ≡ (file_made (B.kinds book.now) typed.now.file []).nodes) }
     ensures terms { IfOk result (λ all. terms_in all ≡ (file_made (B.kinds book.now) typed.now.file []).value) }
     ensures names { IfOk result (λ all. names_in all ≡ map claim_name (claims_of typed.now.file)) }
+    ensures placed { IfOk result ArePlaced }
     ensures mean { IfOk result (λ all. AreTermsIn typed.now.file bank.new (terms_in all)) }
     ensures bank { IsBank bank.new }
 {

@@ -2,12 +2,12 @@
 
 ghost use Rattle.std.specs.Prelude.{◌≡◌, ◌++◌, IfOk};
 ghost use Rattle.ygg_meaning.specs.Obligations.{name_of};
-ghost use Rattle.ygg_oblige_parts.specs.Steps.{obligation_of};
+ghost use Rattle.ygg_oblige_kinds.specs.Steps.{obligation_of};
 
 use std::alloc::Global;
 use ygg_bank::NoMemory;
 use ygg_base::Text;
-use ygg_oblige_parts::SymObligation;
+use ygg_oblige_kinds::SymObligation;
 use ygg_syntax::tree::{Layer, Name};
 
 /// A layer's name with a mark after it.

@@ -3,7 +3,7 @@ use ygg_base::Text;
 use ygg_list::Sequence;
 
 /// What an obligation asks of a layer.
-#[derive(Clone, Copy, Debug, PartialEq, Eq, Drop)]
+#[derive(Clone, Copy, PartialEq, Eq, Drop)]
 pub enum Kind {
     /// Formatting gives a state that is related to the specification's start.
     Init,
@@ -22,7 +22,7 @@ pub enum Kind {
 }
 
 /// An obligation of a layer, and the term that is 1 in every environment exactly where it holds.
-#[derive(Debug, Drop)]
+#[derive(Drop)]
 pub struct Obligation {
     /// Its name, as reports print it.
     pub name: Text,
@@ -32,6 +32,8 @@ pub struct Obligation {
     pub kind: Kind,
     /// The place, from 0, of its operation or background step in the layer's list, else 0.
     pub number: u32,
+    /// Its place in the file's list, from 0.
+    pub place: usize,
     /// Its term, of width 1.
     pub term: Id,
 }

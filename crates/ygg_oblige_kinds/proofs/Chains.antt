@@ -61,24 +61,29 @@ pub both_from : (kinds : List RuleKind) (m : List SymValue → List SymValue →
 both_from kinds m a b xs ys d e zs ws old p q r s memories bases one two f h i j = cc
 
 -- two recoveries, after the first of which the base is settled, and both of which end alike
-pub again_from : (kinds : List RuleKind) (C : Out (SymFallen (List SymValue))) (r : List SymValue → Make Finish) (q : Make Finish)
-    (s : List SymValue → Make Id) (m : List SymValue → List SymValue → Make Id) (settled : Id) (fallen : List SymValue) (reached : Id)
-    (memory low other base : List SymValue) (side same conclusion hypothesis : Id) (one two three four five six seven : List Node) →
-    fallen ≡ C.value.fallen → reached ≡ C.value.reached → one ≡ C.nodes →
-    memory ≡ values_in (r fallen one).value.vars → low ≡ (r fallen one).value.to → two ≡ (r fallen one).nodes →
-    other ≡ values_in (q two).value.vars → base ≡ (q two).value.to → three ≡ (q two).nodes →
-    side ≡ (s fallen three).value → four ≡ (s fallen three).nodes →
+pub alike_from : (kinds : List RuleKind) (r q : Make Finish) (s : Make Id) (m : List SymValue → List SymValue → Make Id)
+    (memory low other base : List SymValue) (side same : Id) (old one two three four : List Node) →
+    memory ≡ values_in (r old).value.vars → low ≡ (r old).value.to → one ≡ (r old).nodes →
+    other ≡ values_in (q one).value.vars → base ≡ (q one).value.to → two ≡ (q one).nodes →
+    side ≡ (s two).value → three ≡ (s two).nodes →
     (let both = and_make (m memory other) (λ memories. and_make (m low base) (λ bases. made kinds (Bin And memories bases))) in
-    same ≡ (both four).value → five ≡ (both four).nodes →
-    conclusion ≡ (made kinds (Bin And side same) five).value → six ≡ (made kinds (Bin And side same) five).nodes →
-    hypothesis ≡ (made kinds (Bin And settled reached) six).value → seven ≡ (made kinds (Bin And settled reached) six).nodes →
-    made kinds (Bin Imp hypothesis conclusion) seven
-    ≡ goes_on C (λ left. and_make (r left.fallen) (λ end. and_make q (λ other. and_make (s left.fallen) (λ side.
+    same ≡ (both three).value → four ≡ (both three).nodes →
+    made kinds (Bin And side same) four
+    ≡ goes_on (r old) (λ end. and_make q (λ other. and_make s (λ side.
     and_make (m (values_in end.vars) (values_in other.vars)) (λ memories. and_make (m end.to other.to) (λ bases.
-    and_make (made kinds (Bin And memories bases)) (λ same. and_make (made kinds (Bin And side same)) (λ conclusion.
-    and_make (made kinds (Bin And settled left.reached)) (λ hypothesis. made kinds (Bin Imp hypothesis conclusion)))))))))))
-again_from kinds C r q s m settled fallen reached memory low other base side same conclusion hypothesis one two three four five six seven
-    a b c d e f h i j k l n o t u v w = cc
+    and_make (made kinds (Bin And memories bases)) (λ same. made kinds (Bin And side same))))))))
+alike_from kinds r q s m memory low other base side same old one two three four a b c d e f h i j k = cc
+
+-- a recovery that power cuts, and what is asked of those after it
+pub again_from : (kinds : List RuleKind) (C : Out (SymFallen (List SymValue))) (a : List SymValue → Make Id) (settled : Id)
+    (fallen : List SymValue) (reached conclusion hypothesis : Id) (one two three : List Node) →
+    fallen ≡ C.value.fallen → reached ≡ C.value.reached → one ≡ C.nodes →
+    conclusion ≡ (a fallen one).value → two ≡ (a fallen one).nodes →
+    hypothesis ≡ (made kinds (Bin And settled reached) two).value → three ≡ (made kinds (Bin And settled reached) two).nodes →
+    made kinds (Bin Imp hypothesis conclusion) three
+    ≡ goes_on C (λ left. and_make (a left.fallen) (λ conclusion.
+    and_make (made kinds (Bin And settled left.reached)) (λ hypothesis. made kinds (Bin Imp hypothesis conclusion))))
+again_from kinds C a settled fallen reached conclusion hypothesis one two three b c d e f h i = cc
 
 -- a whole run from a state below that another step made, without arguments, and the step after it
 pub formats_from : (L : Out (List SymValue)) (Z : List Declared → Make (List SymValue)) (R : List SymValue → List SymValue → List SymValue → Make Finish)

@@ -1,3 +1,5 @@
+pub use Rattle.ygg_oblige_parts.specs.Makers
+pub use Rattle.ygg_oblige_parts.specs.Steps
 pub mod Numbering
 pub mod Making
 pub mod Parts

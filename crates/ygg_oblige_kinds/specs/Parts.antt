@@ -10,14 +10,15 @@ use Rattle.ygg_bank.specs.declared.node.Node.TheVariants.{Bin}
 use Rattle.ygg_shape_cells.specs.declared.terms.SymValue.{SymValue}
 use Rattle.ygg_sym_below.specs.StopTerms.{SymFallen}
 use Rattle.ygg_sym_laws.specs.Below.{zeros_made, lost_made}
+use Rattle.ygg_sym_laws.specs.Means.{values_in}
 use Rattle.ygg_sym_spec.specs.Layers.{closed, terms_in}
 use Rattle.ygg_sym_spec.specs.declared.layer.SymLayer.{SymLayer}
 use Rattle.ygg_sym.specs.Sites.{below_in}
 use Rattle.ygg_sym.specs.declared.below.SymBelow.{SymBelow}
 use Rattle.ygg_sym.specs.declared.runs.SymEnd.{SymEnd}
 use Rattle.ygg_oblige_terms.specs.Numbers.{Numbers, arguments_of, block_of}
-use Rattle.ygg_oblige_terms.specs.States.{Starting, fresh_all, all_compared}
-use Rattle.ygg_oblige_terms.specs.Terms.{cut_short, falls_through, recovers, runs_through}
+use Rattle.ygg_oblige_terms.specs.States.{Starting, fresh_all, all_compared, settled_made}
+use Rattle.ygg_oblige_terms.specs.Terms.{cut_short, falls_through, recovered, recovers, runs_through}
 
 module _ (kinds : List RuleKind) where
   -- whether two runs leave the same memory and the same state below
@@ -40,6 +41,16 @@ module _ (kinds : List RuleKind) (l : SymLayer) (g : SymBelow) where
   recovery_cut n low =
       and_make (zeros_made kinds (l.layer.now).memory) (λ zeros.
       cut_short kinds (terms_in kinds l) (closed l) (below_in g) n (l.layer.now).recover zeros [] [] low)
+
+  -- a recovery from what power left, which is to be settled, ends like one from the first base
+  abbrev pub recovers_alike : Numbers → List SymValue → List SymValue → Make Id
+  recovers_alike n low fallen =
+      and_make (recovered kinds (terms_in kinds l) (closed l) (below_in g) n.wake fallen) (λ end.
+      and_make (recovered kinds (terms_in kinds l) (closed l) (below_in g) n.other low) (λ other.
+      and_make (settled_made kinds (terms_in kinds l) (closed l) fallen) (λ side.
+      and_make (all_compared kinds (values_in end.vars) (values_in other.vars)) (λ memories.
+      and_make (all_compared kinds end.to other.to) (λ bases.
+      and_make (made kinds (Bin And memories bases)) (λ same. made kinds (Bin And side same)))))))
 
   -- power loss between operations, and a recovery
   abbrev pub idles : Numbers → Starting → Make Id

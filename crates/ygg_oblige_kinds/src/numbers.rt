@@ -16,7 +16,7 @@ use ygg_syntax::tree::{Block, Declared, Layer};
 
 /// Where the inputs of an obligation begin: those of its arguments, of the run's picks, of its stops, of the failure's picks, of the recovery's
 /// picks and of the other recovery's; and the number after all of them.
-#[derive(Clone, Copy, Debug, PartialEq, Eq)]
+#[derive(Clone, Copy, PartialEq, Eq)]
 pub struct SymNumbers {
     /// The first input of its arguments.
     pub args: u64,

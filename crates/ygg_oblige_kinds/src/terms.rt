@@ -16,7 +16,7 @@ ghost use Rattle.ygg_oblige_parts.specs.Passing.{StepFits, some_in};
 ghost use Rattle.ygg_oblige_parts.specs.Steps.{obligation_of};
 ghost use Rattle.ygg_oblige_kinds.specs.Making.{AfterRun, CanBegin, CanOblige, CanRecover, CanWake, EndShaped, SiteFits, SpeaksOfNoAnswer, TickFits};
 ghost use Rattle.ygg_oblige_kinds.specs.Numbering.{numbers_in};
-ghost use Rattle.ygg_oblige_kinds.specs.Parts.{cut_term, idles, recovery_cut, runs_through_in, falls_through_in, same_ends, whole_term};
+ghost use Rattle.ygg_oblige_kinds.specs.Parts.{cut_term, idles, recovers_alike, recovery_cut, runs_through_in, falls_through_in, same_ends, whole_term};
 
 use crate::numbers::{SymNumbers, arguments_of, block_of};
 use ygg_bank::{Bank, Id, NoMemory};
@@ -299,6 +299,35 @@ fn same_ends<'a, B: Book>(
     join(bank, maker.book, Op::And, memories, bases)
 }
 
+/// Whether a recovery from what power left, which is to be settled, ends like one from the first base.
+fn recovers_alike<'a, B: Book>(
+    maker: &Maker<'a, B>,
+    bank: &mut Bank,
+    n: SymNumbers,
+    low: &SymValues,
+    fallen: &SymValues,
+) -> Result<Id, NoMemory>
+    requires bank { IsBank bank.old }
+    requires site { SiteFits maker.now.layer maker.now.below }
+    requires low { LowShaped bank.old maker.now.layer.low.now low.now }
+    requires fallen { LowShaped bank.old maker.now.layer.low.now fallen.now }
+    requires single { SingleFrom n.run bank.old }
+    requires after { AfterRun (numbers_in n) }
+    ensures nodes { OnOk result (bank.new ≡ (recovers_alike (B.kinds maker.now.book.now) maker.now.layer maker.now.below
+        (numbers_in n) low.now fallen.now bank.old).nodes) }
+    ensures id { IfOk result (λ id. id ≡ (recovers_alike (B.kinds maker.now.book.now) maker.now.layer maker.now.below
+        (numbers_in n) low.now fallen.now bank.old).value) }
+    ensures width { IfOk result (λ id. HasWidth bank.new id 1) }
+    ensures grows { Extends bank.old bank.new }
+    ensures bank { IsBank bank.new }
+{
+    let end = recovered(maker, bank, n.wake, fallen)?;
+    let other = recovered(maker, bank, n.other, low)?;
+    let side = maker.settled(bank, fallen)?;
+    let same = same_ends(maker, bank, &end, &other)?;
+    join(bank, maker.book, Op::And, side, same)
+}
+
 /// A recovery that power cuts, another after it, and one whole recovery from the first base.
 fn recovers_again<'a, B: Book>(
     maker: &Maker<'a, B>,
@@ -320,11 +349,7 @@ fn recovers_again<'a, B: Book>(
     ensures bank { IsBank bank.new }
 {
     let left = recovery_cut(maker, bank, n, &s.settled_low)?;
-    let end = recovered(maker, bank, n.wake, &left.fallen)?;
-    let other = recovered(maker, bank, n.other, &s.settled_low)?;
-    let side = maker.settled(bank, &left.fallen)?;
-    let same = same_ends(maker, bank, &end, &other)?;
-    let conclusion = join(bank, maker.book, Op::And, side, same)?;
+    let conclusion = recovers_alike(maker, bank, n, &s.settled_low, &left.fallen)?;
     let hypothesis = join(bank, maker.book, Op::And, s.settled, left.reached)?;
     join(bank, maker.book, Op::Imp, hypothesis, conclusion)
 }

@@ -31,7 +31,8 @@ use Rattle.ygg_oblige_places.specs.Sites.{IsPlaced, IsSite, layer_here, obligati
 use Rattle.ygg_oblige_places.specs.declared.site.Site.{Site}
 
 -- an item of what a layer adds to a list, behind what the layers below have added
-module _ {X : Type 0} (F : Layers → List X) (own : ClosedLayer → Layers → List X) (step : (L : ClosedLayer) (lower : Layers) → F (L ∷ lower) ≡ F lower ++ own L lower)
+module _ {X : Type 0} (F : Layers → List X) (own : ClosedLayer → Layers → List X)
+    (step : (L : ClosedLayer) (lower : Layers) → F (L ∷ lower) ≡ F lower ++ own L lower)
   where
     added_at : (upper lower : Layers) (L : ClosedLayer) (k n : ℕ) (x : X) → slice_get (own L lower) k ≡ Some x → length (F lower) + k ≡ n →
         slice_get (F (upper ++ L ∷ lower)) n ≡ Some x
@@ -128,7 +129,8 @@ module _ (kinds : List RuleKind) (f : File) (place : ℕ) (s : Site) (w : IsSite
       record {
         here = ap (slice_get f.layers) (sym w.counts) ∙ at.there ∙ ap (λ (l : Layer). Some l) (sym layer);
         low_is = low_here;
-        claim = claim_at ∙ ap (λ (H : Below). Some (claim_with H L)) below_here ∙ ap (λ (K : ClosedLayer). Some (claim_with (below_at f s.place) K)) closed_here;
+        claim = claim_at ∙ ap (λ (H : Below). Some (claim_with H L)) below_here
+            ∙ ap (λ (K : ClosedLayer). Some (claim_with (below_at f s.place) K)) closed_here;
         names = λ inputs. schedule_at inputs ∙ ap (λ (H : Below). Some (schedule_of H L inputs s.states o s.numbers.args)) below_here
             ∙ ap (λ (K : ClosedLayer). Some (schedule_of (below_at f s.place) K inputs s.states o s.numbers.args)) closed_here;
         numbers = w.numbers ∙ ap (numbers_of G L o) (sym starts) ∙ ap (λ (H : Below). numbers_of H L o s.numbers.args) below_here

@@ -24,7 +24,7 @@ use Rattle.ygg_oblige_terms.specs.Numbers.{Numbers, numbers_of}
 use Rattle.ygg_oblige_terms.specs.States.{state_words}
 use Rattle.ygg_oblige_terms.specs.Terms.{after_all, after_layer, after_layers}
 use Rattle.ygg_oblige_typed.specs.Layers.{LayersTyped}
-use Rattle.ygg_oblige_kinds.specs.Making.{SiteFits}
+use Rattle.ygg_oblige.specs.Making.{SiteFits}
 use Rattle.ygg_oblige.specs.Adding.{after_layer_at}
 use Rattle.ygg_oblige.proofs.Walking.{HasDefs, lower_typed, same_defs}
 use Rattle.ygg_oblige_places.specs.Listing.{StandsIn}

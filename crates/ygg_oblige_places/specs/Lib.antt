@@ -1,2 +1,4 @@
+pub use Rattle.ygg_oblige.specs.Obligations
+pub use Rattle.ygg_oblige.specs.declared.obligation.Obligation
 pub mod Listing
 pub mod Sites

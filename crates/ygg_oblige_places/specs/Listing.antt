@@ -6,7 +6,7 @@ use Rattle.ygg_meaning.specs.Obligations.{Obligation, Init, CallOf, CutOf, TickO
 use Rattle.ygg_oblige_terms.specs.Layers.{ShapesKept}
 use Rattle.ygg_oblige_terms.specs.Numbers.{arguments_of}
 use Rattle.ygg_oblige.specs.Listing.{calls_of, ticks_of}
-use Rattle.ygg_oblige_parts.specs.Steps.{obligation_of}
+use Rattle.ygg_oblige.specs.Steps.{obligation_of}
 use Rattle.ygg_oblige_places.specs.declared.listed.Listed.{Listed}
 
 -- the obligation

@@ -12,8 +12,9 @@ use Rattle.ygg_oblige_terms.specs.Layers.{LayerTyped}
 use Rattle.ygg_oblige_terms.specs.Numbers.{numbers_of}
 use Rattle.ygg_oblige_terms.specs.States.{state_words}
 use Rattle.ygg_oblige_terms.specs.Terms.{after_all, after_layers}
-use Rattle.ygg_oblige_parts.specs.Steps.{obligation_of}
-use Rattle.ygg_oblige_kinds.specs.Numbering.{numbers_in}
+pub use Rattle.ygg_oblige.specs.declared.obligation.Kind.TheVariants.{Init}
+pub use Rattle.ygg_oblige.specs.Steps.{obligation_of}
+pub use Rattle.ygg_oblige.specs.Numbering.{numbers_in}
 use Rattle.ygg_sym_spec.specs.Layers.{closed}
 use Rattle.ygg_sym_spec.specs.declared.layer.SymLayer.{SymLayer}
 use Rattle.ygg_sym.specs.Sites.{below_in}

@@ -7,3 +7,4 @@ mod starts;
 
 pub use listed::{Listed, obligation_at};
 pub use site::{Site, site_at};
+pub use ygg_oblige::{Obligation, SymObligation, name_of, obligations, tables, words_in};

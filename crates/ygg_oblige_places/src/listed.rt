@@ -9,7 +9,7 @@ ghost use Rattle.ygg_oblige.specs.Listing.{calls_of, ticks_of};
 ghost use Rattle.ygg_oblige_places.specs.Listing.{ListedStands, last_ones, later_ones, listed_in, other_ones};
 
 use ygg_list::NoMemory;
-use ygg_oblige_parts::SymObligation;
+use ygg_oblige::SymObligation;
 use ygg_syntax::tree::{Layer, Operation, Tick};
 
 /// An obligation of a layer, and the place of its operation or background step in the layer's list, else 0.

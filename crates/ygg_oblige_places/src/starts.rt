@@ -7,8 +7,7 @@ ghost use Rattle.ygg_oblige_places.specs.Listing.{ArgumentsKept};
 
 use crate::listed::obligation_at;
 use ygg_list::NoMemory;
-use ygg_oblige_kinds::numbers_of;
-use ygg_oblige_parts::Maker;
+use ygg_oblige::{Maker, numbers_of};
 use ygg_rules::Book;
 use ygg_syntax::tree::Layer;
 

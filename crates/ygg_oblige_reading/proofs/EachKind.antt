@@ -86,7 +86,8 @@ module _ (r : Reader) where
     pub named_at : from_here o (given o) ≡ named_here r
     named_at =
         ap (λ (q : Obligation). from_here q (given q)) (sym e)
-        ∙ ap (λ (n : Numbers). schedule_from (below_of r) (layer_of r) (inputs_of r) n (obligation_of r) (given_here r) (given (obligation_of r))) stands.numbers
+        ∙ ap (λ (n : Numbers). schedule_from (below_of r) (layer_of r) (inputs_of r) n (obligation_of r) (given_here r) (given (obligation_of r)))
+        stands.numbers
 
     pub shaped_at : NamedShaped r → shapes_fit (layer_of r) o (from_here o (given o)) ≡ true
     shaped_at h = ap (shapes_fit (layer_of r) o) named_at ∙ ap (λ (q : Obligation). shapes_fit (layer_of r) q (named_here r)) (sym e) ∙ h

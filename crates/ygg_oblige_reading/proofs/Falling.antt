@@ -35,16 +35,18 @@ module _ (r : Reader) (block : Block) (args memory low : List Value) (l : Layer)
     (last : bits_in bits.last ≡ picked_by (inputs_of r) (numbers_of r).last) where
   abbrev left_with : (ℕ → Bool) → (ℕ → Bool) → Halt → Option (List (List ℕ × Value))
   left_with x y s =
-      left_at (below_of r) (layer_at r block args memory low l) b (memory_env r block args memory low l) (args_env r block args memory low l) (low_env r low) x y s
+      left_at (below_of r) (layer_at r block args memory low l) b (memory_env r block args memory low l) (args_env r block args memory low l)
+      (low_env r low) x y s
 
   abbrev picks_with : (ℕ → Bool) → (ℕ → Bool) → Halt → List Bool
   picks_with x y s =
-      fall_picks (below_of r) (layer_at r block args memory low l) b (memory_env r block args memory low l) (args_env r block args memory low l) (low_env r low) x
-      y s
+      fall_picks (below_of r) (layer_at r block args memory low l) b (memory_env r block args memory low l) (args_env r block args memory low l)
+      (low_env r low) x y s
 
   abbrev stop_with : (ℕ → Bool) → (ℕ → Bool) → Option Halt
   stop_with x y =
-      run_stop (below_of r) (layer_at r block args memory low l) b (memory_env r block args memory low l) (args_env r block args memory low l) (low_env r low) x y
+      run_stop (below_of r) (layer_at r block args memory low l) b (memory_env r block args memory low l) (args_env r block args memory low l)
+      (low_env r low) x y
 
   fell_with : (s : Option Halt) (f : Option Fallen) → Falls (file_of r) (body_of r block) l b args memory low bits s f →
       FellSo r block args memory low l b s f

@@ -8,3 +8,4 @@ pub mod Values
 pub mod Fitted
 pub mod EachKind
 pub mod Placed
+pub mod Exactly

@@ -116,8 +116,8 @@ module _ (r : Reader) where
     bounded = bounded;
   }
 
-  module _ (block : Block) (args own below : List Value) (memory low : Env) (implements : kind_of block.part ≡ kind.Impl) (is_memory : bind l.memory own ≡ memory)
-      (is_low : low_env r below ≡ low) (b : tree.Block) (is : IsBlock (file_of r) (body_of r block) l b) where
+  module _ (block : Block) (args own below : List Value) (memory low : Env) (implements : kind_of block.part ≡ kind.Impl)
+      (is_memory : bind l.memory own ≡ memory) (is_low : low_env r below ≡ low) (b : tree.Block) (is : IsBlock (file_of r) (body_of r block) l b) where
     -- the memory of a run
     pub memory_is : memory_env r block args own below l ≡ memory
     memory_is = ap (λ (ds : List Declared). bind ds own) (memory_of l block.part implements) ∙ is_memory

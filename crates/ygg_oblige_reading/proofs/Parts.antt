@@ -34,7 +34,9 @@ module _ (r : Reader) (block : Block) (args memory low : List Value) (b : tree.B
   stops = stop_of (below_of r) (layer_of r) (inputs_of r) (numbers_of r) b own given below
 
   abbrev wakes : Option Halt → List Bool
-  wakes s = wake_picks (below_of r) (layer_of r) (inputs_of r) (numbers_of r).wake (left_of (below_of r) (layer_of r) (inputs_of r) (numbers_of r) b own given below s)
+  wakes s =
+      wake_picks (below_of r) (layer_of r) (inputs_of r) (numbers_of r).wake
+      (left_of (below_of r) (layer_of r) (inputs_of r) (numbers_of r) b own given below s)
 
   abbrev takes : Option Halt → List Bool
   takes s = picks_of (below_of r) (layer_of r) (inputs_of r) (numbers_of r) b own given below s

@@ -101,5 +101,6 @@ module _ (kinds : List RuleKind) (r : Reader) (place : ℕ) (inputs : Inputs) (p
         claim_there = p.claim;
         asked = z.2;
         name = h.name ∙ ap (λ (a : Layer × List Declared × Obligation). name_of a.0.name.text a.2) (sym z.2);
-        fits = subst (λ (a : Layer × List Declared × Obligation). FitsAt (record { place = z.0.place; layer = a.0; low = a.1; obligation = a.2 }) x) (sym z.2) fits;
+        fits = subst (λ (a : Layer × List Declared × Obligation). FitsAt (record { place = z.0.place; layer = a.0; low = a.1; obligation = a.2 }) x)
+            (sym z.2) fits;
       }

@@ -36,4 +36,5 @@ bind_zeros (d ∷ ds) = ap (λ rest. (d.name.text, zero_of (shape_in d.shape)) �
 
 pub zeros_fit : (ds : List Declared) → values_fit ds (zero_values ds) ≡ true
 zeros_fit [] = refl
-zeros_fit (d ∷ ds) = and_from (fits (shape_in d.shape) (zero_of (shape_in d.shape))) (values_fit ds (zero_values ds)) (zero_fits (shape_in d.shape)) (zeros_fit ds)
+zeros_fit (d ∷ ds) =
+    and_from (fits (shape_in d.shape) (zero_of (shape_in d.shape))) (values_fit ds (zero_values ds)) (zero_fits (shape_in d.shape)) (zeros_fit ds)

@@ -14,9 +14,8 @@ use Rattle.ygg_eval_lower.specs.Layers.{below_at, closed_at, variables_at}
 use Rattle.ygg_eval_lower.specs.declared.body.Body.{Body}
 use Rattle.ygg_oblige_terms.specs.Layers.{ShapesKept}
 use Rattle.ygg_oblige_terms.specs.Numbers.{Numbers}
-use Rattle.ygg_oblige_kinds.specs.Numbering.{numbers_in}
 use Rattle.ygg_oblige_given.specs.Tables.{inputs_in}
-use Rattle.ygg_oblige_places.specs.Sites.{obligation_here}
+use Rattle.ygg_oblige_places.specs.Sites.{numbers_in, obligation_here}
 use Rattle.ygg_oblige_reading.specs.declared.reader.Block.{Block}
 use Rattle.ygg_oblige_reading.specs.declared.reader.Reader.{Reader}
 

@@ -72,7 +72,8 @@ module _ (r : Reader) where
         ≡ picks_of (below_of r) (layer_of r) (inputs_of r) (numbers_of r) b memory given low
         (stop_of (below_of r) (layer_of r) (inputs_of r) (numbers_of r) b memory given low)
     pub wake : p.wake
-        ≡ wake_picks (below_of r) (layer_of r) (inputs_of r) (numbers_of r).wake (left_of (below_of r) (layer_of r) (inputs_of r) (numbers_of r) b memory given low
+        ≡ wake_picks (below_of r) (layer_of r) (inputs_of r) (numbers_of r).wake
+        (left_of (below_of r) (layer_of r) (inputs_of r) (numbers_of r) b memory given low
         (stop_of (below_of r) (layer_of r) (inputs_of r) (numbers_of r) b memory given low))
 
   -- a block of the layer's implementation that there is, and arguments that fit it

@@ -3,16 +3,13 @@
 ghost use Rattle.std.specs.Prelude.{◌≡◌, ◌<◌, ◌^◌, [], IfOk, IfSome, IsTrue, Some, length};
 ghost use Rattle.std.specs.Option.{option_map};
 ghost use Rattle.ygg_sched.specs.Fitting.{halt_meant};
-ghost use Rattle.ygg_bank.specs.Values as bank;
 ghost use Rattle.ygg_eval_lower.specs.Bodies.{arguments_in};
-ghost use Rattle.ygg_histories.specs.Claims.{claims_of};
 ghost use Rattle.ygg_meaning.specs.Environments.{bind};
 ghost use Rattle.ygg_meaning.specs.Obligations.{Again, Idle, Init, name_of};
 ghost use Rattle.ygg_meaning.specs.Shapes.{env_fits, values_fit};
 ghost use Rattle.ygg_oblige_given.specs.Tables.{given_values};
 ghost use Rattle.ygg_oblige_schedules.specs.Schedules.{cut_from, schedule_from, stop_of, whole_from, woken_picks};
 ghost use Rattle.ygg_oblige_terms.specs.Layers.{ShapesKept};
-ghost use Rattle.ygg_oblige_reading.specs.Fitted.{IsFitted};
 ghost use Rattle.ygg_oblige_reading.specs.Here.{
   below_of,
   inputs_of,
@@ -24,7 +21,6 @@ ghost use Rattle.ygg_oblige_reading.specs.Here.{
   IsHere,
   LowFits,
 };
-ghost use Rattle.ygg_oblige_reading.specs.Meant.{IsNamed, NamesShaped};
 ghost use Rattle.ygg_oblige_reading.specs.Runs.{args_env, memory_env, stand_fits};
 ghost use Rattle.ygg_oblige_reading.specs.Schedules.{
   given_here,
@@ -40,19 +36,13 @@ ghost use Rattle.ygg_oblige_reading.specs.Schedules.{
 
 use crate::reader::{Block, Reader, Stand};
 use std::alloc::Global;
-use ygg_bank::Env;
 use ygg_base::{Bits, Text};
 use ygg_eval_fronts::{Fallen, Lost};
 use ygg_eval_lower::Part;
 use ygg_list::NoMemory;
-use ygg_oblige::{name_of, tables};
-use ygg_oblige_given::InputTable;
-use ygg_oblige_parts::SymObligation;
-use ygg_oblige_places::site_at;
-use ygg_rules::Book;
+use ygg_oblige_places::{SymObligation, name_of};
 use ygg_sched::{Halt, Schedule};
 use ygg_syntax::tree::Declared;
-use ygg_type::Typed;
 use ygg_value::Values;
 
 /// The stop of a run that power cuts, its picks, and those of the recovery after it.
@@ -278,7 +268,7 @@ impl<'a> Reader<'a> {
     }
 
     /// The schedule of the obligation. Its only error is out of memory.
-    fn schedule(&self) -> Result<Schedule, NoMemory>
+    pub fn schedule(&self) -> Result<Schedule, NoMemory>
         requires here { IsHere self.now }
         requires stands { StandsHere self.now }
         requires fit { NamedShaped self.now }
@@ -309,35 +299,4 @@ impl<'a> Reader<'a> {
             SymObligation::Again => self.again(),
         }
     }
-}
-
-/// The schedule that an environment names for the obligation at a place in the file's list: the values of its inputs, and the picks, as many as the runs
-/// take and in the order in which they take them. Its only error is out of memory.
-pub fn schedule<B: Book>(
-    alloc: Global,
-    typed: &Typed,
-    place: usize,
-    env: &Env,
-    book: &B,
-) -> Result<Schedule, NoMemory>
-    requires there { place < length (claims_of typed.now.file) }
-    requires shaped { NamesShaped (B.kinds book.now) typed.now.file (bank.inputs_of env.now) place }
-    // It has the obligation's name, and means the schedule that the environment names.
-    ensures named { IfOk result (IsNamed (B.kinds book.now) typed.now.file (bank.inputs_of env.now) place) }
-    // It has a value of its type for each variable that has a line in the schedule's text, and nothing for which there is no line.
-    ensures fits { IfOk result (IsFitted typed.now.file place) }
-    // The number in its stop can be printed and read again.
-    ensures bounded { IfOk result (λ x. IfSome x.stop (λ h. h.event < 2 ^ 64)) }
-{
-    let file = typed.file();
-    let tables = tables(alloc, file.disk)?;
-    let site = site_at(alloc, file, tables.as_slice(), book, place)?;
-    let table = InputTable::new(alloc, env)?;
-    let reader = Reader {
-        alloc,
-        typed,
-        site,
-        table: &table,
-    };
-    reader.schedule()
 }

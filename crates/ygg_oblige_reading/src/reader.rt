@@ -30,8 +30,7 @@ use ygg_eval_fronts::{Fallen, Lost, PlacedBits, lose_fronts, run_fronts};
 use ygg_eval_lower::{Body, Part};
 use ygg_list::NoMemory;
 use ygg_oblige_given::{InputTable, further};
-use ygg_oblige_parts::words_in;
-use ygg_oblige_places::Site;
+use ygg_oblige_places::{Site, words_in};
 use ygg_type::Typed;
 use ygg_value::Values;
 

@@ -1,10 +1,9 @@
--- Each obligation whose term is 0 in an environment is violated by the schedule that the environment names.
-use Rattle.std.proofs.Common.{◌≡◌, ℕ, false, List, []}
+-- Each obligation's term is 0 exactly where the schedule that the environment names violates it.
+use Rattle.std.proofs.Common.{ℕ, List, []}
 use Rattle.ygg_syntax.specs.declared.tree.Def.{Def}
 use Rattle.ygg_meaning.specs.Layer.{ClosedLayer}
 use Rattle.ygg_meaning.specs.Obligations.{Obligation, Init, CallOf, CutOf, TickOf, CutTickOf, Idle, Again}
-use Rattle.ygg_meaning.specs.Refines.{Below, machine_below}
-use Rattle.ygg_meaning.specs.Violates.{Violates}
+use Rattle.ygg_meaning.specs.Refines.{Below}
 use Rattle.ygg_rules.specs.declared.rule.RuleKind.{RuleKind}
 use Rattle.ygg_bank.specs.Nodes.{Extends}
 use Rattle.ygg_bank.specs.Values.{Inputs, Values, Fits}
@@ -23,6 +22,7 @@ use Rattle.ygg_oblige_laws.specs.LayerMeans.{LayerMeans}
 use Rattle.ygg_oblige_laws.specs.Parts.{PartsMean}
 use Rattle.ygg_oblige_schedules.specs.Schedules.{schedule_of}
 use Rattle.ygg_oblige_schedules.proofs.Falls as falls
+use Rattle.ygg_oblige_schedules.proofs.Judged.{NamedSo}
 use Rattle.ygg_oblige_schedules.proofs.Known.{Known}
 use Rattle.ygg_oblige_schedules.proofs.Others as others
 use Rattle.ygg_oblige_schedules.proofs.Runs as runs
@@ -37,31 +37,29 @@ module _ (kinds : List RuleKind) (defs : List Def) (G : Below) (L : ClosedLayer)
   over : OverTyped defs G L
   over = over_typed defs G L typed
 
-  pub violated : (o : Obligation) → Known kinds defs G L o →
+  pub judged : (o : Obligation) → Known kinds defs G L o →
       let out = term_made kinds (terms_of kinds defs) L G (starting kinds (terms_of kinds defs) L number before).value o (numbers_of G L o start) nodes in
-      Extends out.nodes final → is_set v out.value ≡ false → Violates L (machine_below G) o (schedule_of G L inputs number o start)
-  violated Init k g unset =
-      others.init_violated kinds defs G L parts typed means (runs_are_named kinds defs G L L.layer.recover L.layer.memory [] over typed.recover_typed) number
-      before start nodes final frame inputs v h (start_named kinds defs G L over) k.runs g unset
-  violated (CallOf o) k g unset =
-      runs.call_violated kinds defs G L parts number before start nodes final frame inputs v h o
-      (runs.refuted_so kinds defs G L parts number before start nodes final frame inputs v h (CallOf o)
-      (runs.call_case kinds defs G L o k.means k.runs) g unset)
-  violated (CutOf o) k g unset =
+      Extends out.nodes final → NamedSo L G o (schedule_of G L inputs number o start) (is_set v out.value)
+  judged Init k g =
+      others.init_judged kinds defs G L parts typed means (runs_are_named kinds defs G L L.layer.recover L.layer.memory [] over typed.recover_typed) number
+      before start nodes final frame inputs v h (start_named kinds defs G L over) k.runs g
+  judged (CallOf o) k g =
+      runs.call_judged kinds defs G L parts number before start nodes final frame inputs v h o
+      (runs.ran_so kinds defs G L parts number before start nodes final frame inputs v h (CallOf o) (runs.call_case kinds defs G L o k.means k.runs) g)
+  judged (CutOf o) k g =
       let waking = runs_are_named kinds defs G L L.layer.recover L.layer.memory [] over typed.recover_typed in
-      falls.cut_violated kinds defs G L parts typed means waking number before start nodes final frame inputs v h o
-      (falls.refuted_so kinds defs G L parts typed means waking number before start nodes final frame inputs v h (CutOf o)
-      (falls.cut_case kinds defs G L o k.means k.falls) g unset)
-  violated (TickOf t) k g unset =
-      runs.tick_violated kinds defs G L parts number before start nodes final frame inputs v h t
-      (runs.refuted_so kinds defs G L parts number before start nodes final frame inputs v h (TickOf t)
-      (runs.tick_case kinds defs G L t k.means k.runs) g unset)
-  violated (CutTickOf t) k g unset =
+      falls.cut_judged kinds defs G L parts typed means waking number before start nodes final frame inputs v h o
+      (falls.cut_so kinds defs G L parts typed means waking number before start nodes final frame inputs v h (CutOf o)
+      (falls.cut_case kinds defs G L o k.means k.falls) g)
+  judged (TickOf t) k g =
+      runs.tick_judged kinds defs G L parts number before start nodes final frame inputs v h t
+      (runs.ran_so kinds defs G L parts number before start nodes final frame inputs v h (TickOf t) (runs.tick_case kinds defs G L t k.means k.runs) g)
+  judged (CutTickOf t) k g =
       let waking = runs_are_named kinds defs G L L.layer.recover L.layer.memory [] over typed.recover_typed in
-      falls.tick_cut_violated kinds defs G L parts typed means waking number before start nodes final frame inputs v h t
-      (falls.refuted_so kinds defs G L parts typed means waking number before start nodes final frame inputs v h (CutTickOf t)
-      (falls.tick_cut_case kinds defs G L t k.means k.falls) g unset)
-  violated Idle k g unset =
-      others.idle_violated kinds defs G L parts typed means k.runs number before start nodes final frame inputs v h (loss_is_named kinds defs G L over) g unset
-  violated Again k g unset =
-      others.again_violated kinds defs G L parts typed means k.runs number before start nodes final frame inputs v h k.falls g unset
+      falls.tick_cut_judged kinds defs G L parts typed means waking number before start nodes final frame inputs v h t
+      (falls.cut_so kinds defs G L parts typed means waking number before start nodes final frame inputs v h (CutTickOf t)
+      (falls.tick_cut_case kinds defs G L t k.means k.falls) g)
+  judged Idle k g =
+      others.idle_judged kinds defs G L parts typed means k.runs number before start nodes final frame inputs v h (loss_is_named kinds defs G L over) g
+  judged Again k g =
+      others.again_judged kinds defs G L parts typed means k.runs number before start nodes final frame inputs v h k.falls g

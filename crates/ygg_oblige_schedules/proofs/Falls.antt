@@ -1,5 +1,6 @@
--- An environment in which the term of an obligation is 0 that speaks of a run that power cuts names a schedule that violates it.
-use Rattle.std.proofs.Common.{◌≡◌, ◌&&◌, ℕ, Bool, true, false, List, [], map, Some, refl, sym, ap, ◌∙◌, subst}
+-- The term of an obligation that speaks of a run that power cuts is 0 exactly where the schedule that the environment names violates it.
+use Rattle.std.proofs.Common.{◌≡◌, ◌&&◌, ◌||◌, not, ℕ, Bool, true, List, [], map, length, Option, Some, refl, sym, ap, ◌∙◌, subst}
+use Rattle.std.specs.Prelude.{is_some}
 use Rattle.ygg_syntax.specs.declared.tree.Def.{Def}
 use Rattle.ygg_syntax.specs.declared.tree.Operation.{Operation}
 use Rattle.ygg_syntax.specs.declared.tree.Tick.{Tick}
@@ -9,7 +10,7 @@ use Rattle.ygg_meaning.specs.Obligations.{Halt, Schedule, Obligation, CutOf, Cut
 use Rattle.ygg_meaning.specs.Refines.{Below, machine_below}
 use Rattle.ygg_meaning.specs.Related.{shaped, settled}
 use Rattle.ygg_meaning.specs.Shapes.{values_fit}
-use Rattle.ygg_meaning.specs.Violates.{Recovers, Violates}
+use Rattle.ygg_meaning.specs.Violates.{End, Meets, Recovers}
 use Rattle.ygg_rules.specs.declared.rule.RuleKind.{RuleKind}
 use Rattle.ygg_bank.proofs.Meaning.{fits_fewer}
 use Rattle.ygg_bank.proofs.Widths.{extends_both}
@@ -26,30 +27,30 @@ use Rattle.ygg_sym_below.specs.Laws.{picked_by}
 use Rattle.ygg_sym_below.specs.Lows.{low_worth}
 use Rattle.ygg_sym_below.specs.StopTerms.{SymFallen}
 use Rattle.ygg_sym_laws.specs.Means.{terms_of, Begins, FallMeans}
-use Rattle.ygg_fronts.specs.Fronts.{run_stop, left_at, fall_picks}
-use Rattle.ygg_fronts.specs.Laws.{FallsThere}
-use Rattle.ygg_sym_fronts.specs.Named.{RunNamed, FallNamed}
+use Rattle.ygg_fronts.specs.Fronts.{run_stop}
+use Rattle.ygg_sym_fronts.specs.Named.{RunNamed, FallSo, FallNamed}
 use Rattle.ygg_oblige_terms.specs.Layers.{ShapesKept, LayerTyped}
 use Rattle.ygg_oblige_terms.specs.Numbers.{Numbers, numbers_of, arguments_of, block_of}
 use Rattle.ygg_oblige_terms.specs.States.{Starting, fresh_all}
 use Rattle.ygg_oblige_terms.specs.Terms.{Finish, recovered}
 use Rattle.ygg_oblige_pieces.specs.Inputs.{given_env}
 use Rattle.ygg_oblige_pieces.specs.States.{given_stand, StartsSo}
-use Rattle.ygg_oblige_pieces.specs.Steps.{HasStep, variables_of, ObligationTyped, AnswerKept, StepIs, end_worth}
+use Rattle.ygg_oblige_pieces.specs.Steps.{HasStep, variables_of, ObligationTyped, AnswerKept, StepIs, PassesSo, end_worth}
 use Rattle.ygg_oblige_pieces.specs.Worth.{LowIs, trio_worth}
-use Rattle.ygg_oblige_laws.proofs.Digits.{refuted, both_true, both_hold}
+use Rattle.ygg_oblige_laws.proofs.Digits.{both_hold}
 use Rattle.ygg_oblige_laws.proofs.Falls.{cut_of, falls_give, falls_grow}
 use Rattle.ygg_oblige_laws.proofs.FallTerms.{fall_made}
 use Rattle.ygg_oblige_laws.proofs.Frame.{Frame, states, starts_so, ready_so}
-use Rattle.ygg_oblige_laws.proofs.Schedules.{reads, Sided, Fails, sided_fails}
+use Rattle.ygg_oblige_laws.proofs.Schedules.{reads, Sided}
 use Rattle.ygg_oblige_laws.proofs.Setting.{ready_wider}
 use Rattle.ygg_oblige_laws.proofs.Shows.{related_there}
 use Rattle.ygg_oblige_laws.proofs.Wholes.{begun}
 use Rattle.ygg_oblige_laws.specs.LayerMeans.{TickMeans, LayerMeans}
 use Rattle.ygg_oblige_laws.specs.ObligationMeans.{OperationKnown}
 use Rattle.ygg_oblige_laws.specs.Parts.{PartsMean}
-use Rattle.ygg_oblige_schedules.specs.Schedules.{wake_picks, cut_from, schedule_of}
-use Rattle.ygg_oblige_schedules.proofs.Given.{saying, no_shapes, some_stop, schedule_same}
+use Rattle.ygg_oblige_schedules.specs.Schedules.{values_of, wake_picks, cut_from, schedule_from, schedule_of}
+use Rattle.ygg_oblige_schedules.proofs.Given.{saying, no_shapes, some_stop, arguments_fit, schedule_same}
+use Rattle.ygg_oblige_schedules.proofs.Judged.{either, not_both, stops_there, Judged, NamedSo, unmet_so, met_sided}
 use Rattle.ygg_oblige_schedules.proofs.Recovering.{recovers_named}
 
 -- an obligation that speaks of a run that power cuts
@@ -131,27 +132,24 @@ module _ (kinds : List RuleKind) (defs : List Def) (G : Below) (L : ClosedLayer)
     abbrev bits : ℕ → Bool
     bits = picked_by inputs n.run
 
-    abbrev fails : ℕ → Bool
-    fails = picked_by inputs n.last
-
-    -- The relation holds, the run with the picks that the inputs name comes to a stop that is set, and after a recovery from what power leaves there the
-    -- base is not settled or no step of the specification passes.
-    pub record Refuted : Type 0 where
-      pub related : is_set v S.related ≡ true
+    -- The run with the picks that the inputs name, which power cuts where it comes to a stop that is set; and the term: 0 where the relation holds, there is
+    -- such a stop, and after a recovery from what power leaves there the base is not settled or no step of the specification passes.
+    pub record Cut : Type 0 where
       pub starts : StartsSo v L (given_stand inputs number L) first.nodes S
       pub fit : Fits inputs v args.nodes
       pub given : LowIs v (arguments_of o) (given_env inputs start (arguments_of o)) args.nodes args.value
-      pub stop : Halt
-      pub stops : run_stop G L (block_of L o) memory given_worth low bits (picked_by inputs n.stop) ≡ Some stop
-      pub left : left_at G L (block_of L o) memory given_worth low bits fails stop ≡ Some fallen
-      pub falls : FallsThere G L (block_of L o) memory given_worth low stop (fall_picks G L (block_of L o) memory given_worth low bits fails stop) fallen
+      pub run : FallSo kinds defs G L (block_of L o) L.layer.memory (arguments_of o) v (begun S args.value) bits (picked_by inputs n.stop)
+          (picked_by inputs n.last) cut.value
       pub end : Finish
       pub recovered_so : (x : Schedule) → x.wake ≡ wake_picks G L inputs n.wake (Some fallen) →
           Recovers L (machine_below G) x fallen (end_worth v L end true).to
-      pub fails_so : (x : Schedule) → StepIs v L o S.from.vars args.value x → Fails L o x (end_worth v L end (settled L fallen))
+      pub some : Id
+      pub is : is_set v out.value ≡ (not (is_set v S.related && is_set v cut.value.reached) || (settled L fallen && is_set v some))
+      pub passing : List Node
+      pub passes : (x : Schedule) → StepIs v L o S.from.vars args.value x → PassesSo v L o x (end_worth v L end true) passing some
 
-    pub refuted_so : FallCase kinds defs G L o → Extends out.nodes final → is_set v out.value ≡ false → Refuted
-    refuted_so k g unset =
+    pub cut_so : FallCase kinds defs G L o → Extends out.nodes final → Cut
+    cut_so k g =
         let ga = parts.fresh.grows kinds start (arguments_of o) nodes in
         let go = falls_grow kinds defs G L parts inputs v means.recover_shape means.recover_whole typed.memory_shapes o k.has k.typed (k.kept v)
         (block_of L o) k.falls k.state n S args.value args.nodes in
@@ -164,76 +162,111 @@ module _ (kinds : List RuleKind) (defs : List Def) (G : Below) (L : ClosedLayer)
         let f = falls_give kinds defs G L parts inputs v means.recover_shape means.recover_whole typed.memory_shapes o k.has k.typed (k.kept v)
         (block_of L o) k.falls k.state n S args.value args.nodes ready given.shaped st.0 st.1 ho in
         let r = f.recovers in
-        let z = refuted (is_set v f.hypothesis) (settled L fallen && is_set v r.some) (sym r.is ∙ unset) in
-        let hs = both_true (is_set v S.related) (is_set v cut.value.reached) (sym f.hypothesis_is ∙ z.first) in
         let begins : Begins kinds defs G L (block_of L o) L.layer.memory (arguments_of o) args.nodes (begun S args.value) =
         record { vars_are = ready.from.memory; args_are = given.shaped; low_are = ready.from.low } in
-        let c = k.named inputs v n.run n.stop n.last (begun S args.value) args.nodes begins f.cut_fit in
-        let stop = some_stop _ (sym c.reached ∙ hs.1) in
-        let end = (recovered kinds (terms_of kinds defs) L G n.wake cut.value.fallen r.at).value in
         record {
-          related = hs.0;
           starts = starts_so kinds defs G L parts number before start nodes final frame inputs v gf h;
           fit = ha;
           given = given;
-          stop = stop.stop;
-          stops = stop.is;
-          left = c.left stop.stop stop.is;
-          falls = c.run stop.stop stop.is;
-          end = end;
+          run = k.named inputs v n.run n.stop n.last (begun S args.value) args.nodes begins f.cut_fit;
+          end = (recovered kinds (terms_of kinds defs) L G n.wake cut.value.fallen r.at).value;
           recovered_so = λ x e. recovers_named kinds defs G L parts inputs v means.recover_shape means.recover_whole typed.memory_shapes waking n.wake
               cut.value.fallen r.at r.low_shaped r.fit x e;
-          fails_so = λ x step. sided_fails v L o x r.passing r.some k.sided (end_worth v L end (settled L fallen)) (r.passes x step) z.second;
+          some = r.some;
+          is = subst (λ z. is_set v out.value ≡ (not z || (settled L fallen && is_set v r.some))) f.hypothesis_is r.is;
+          passing = r.passing;
+          passes = r.passes;
         }
 
-  pub cut_violated : (o : Operation) → Refuted (CutOf o) → Violates L (machine_below G) (CutOf o) (schedule_of G L inputs number (CutOf o) start)
-  cut_violated o r =
-      let xs = (args (CutOf o)).value in
-      let ys = map (worth v) xs in
-      let s = related_there v L (given_stand inputs number L) first.nodes S r.starts r.related in
-      let stand = trio_worth v L S.from in
-      let from = cut_from G L inputs (n (CutOf o)) o.implementation stand (bind o.arguments ys) ys in
-      let x = from (Some r.stop) in
-      let there : Violates L (machine_below G) (CutOf o) x = record {
-        end = end_worth v L r.end (settled L (fallen (CutOf o)));
-        meets = record {
-          shapes = both_hold (shaped L x.state x.memory x.low) (values_fit o.arguments ys) s.shapes
-              (values_worth inputs v (args (CutOf o)).nodes o.arguments xs r.fit r.given.shaped);
-          hypotheses = s.holds;
-          reached = record {
-            fallen = fallen (CutOf o);
-            falls = record { taken = x.picks; run = r.falls.run; stop = r.falls.stops; read = reads x.picks };
-            recovers = r.recovered_so x (ap (wake_picks G L inputs (n (CutOf o)).wake) r.left);
-            side = refl;
-          };
-        };
-        fails = r.fails_so x (refl, refl);
-      } in
-      subst (λ z. Violates L (machine_below G) (CutOf o) z)
-      (ap from (sym r.stops)
-      ∙ schedule_same G L inputs v number (CutOf o) start S xs (args (CutOf o)).nodes r.fit r.given (r.starts.from r.related)) there
+    -- the schedule that the environment names
+    abbrev named : Schedule
+    named = schedule_of G L inputs number o start
 
-  pub tick_cut_violated : (t : Tick) → Refuted (CutTickOf t) →
-      Violates L (machine_below G) (CutTickOf t) (schedule_of G L inputs number (CutTickOf t) start)
-  tick_cut_violated t r =
-      let s = related_there v L (given_stand inputs number L) first.nodes S r.starts r.related in
-      let stand = trio_worth v L S.from in
-      let from = cut_from G L inputs (n (CutTickOf t)) t.body stand [] [] in
-      let x = from (Some r.stop) in
-      let there : Violates L (machine_below G) (CutTickOf t) x = record {
-        end = end_worth v L r.end (settled L (fallen (CutTickOf t)));
-        meets = record {
-          shapes = s.shapes;
-          hypotheses = s.holds;
-          reached = record {
-            fallen = fallen (CutTickOf t);
-            falls = record { taken = x.picks; run = r.falls.run; stop = r.falls.stops; read = reads x.picks };
-            recovers = r.recovered_so x (ap (wake_picks G L inputs (n (CutTickOf t)).wake) r.left);
-            side = refl;
-          };
-        };
-        fails = r.fails_so x refl;
-      } in
-      subst (λ z. Violates L (machine_below G) (CutTickOf t) z)
-      (ap from (sym r.stops)
-      ∙ schedule_same G L inputs v number (CutTickOf t) start S [] (args (CutTickOf t)).nodes r.fit r.given (r.starts.from r.related)) there
+    -- where the run comes to a stop that is set
+    abbrev stops : Option Halt
+    stops = run_stop G L (block_of L o) memory given_worth low bits (picked_by inputs n.stop)
+
+    -- the schedule with what the terms are worth, and this stop
+    abbrev stopping : Option Halt → Schedule
+    stopping = cut_from G L inputs n (block_of L o) (trio_worth v L S.from) (bind (arguments_of o) (map (worth v) args.value)) (map (worth v) args.value)
+
+    abbrev reached : Bool
+    reached = is_set v cut.value.reached
+
+    judged_by : (r : Cut) → schedule_from G L inputs n o (trio_worth v L S.from) (map (worth v) args.value) ≡ stopping stops →
+        ((end : End) → Meets L (machine_below G) o named end → is_set v S.related ≡ true) →
+        ((end : End) → Meets L (machine_below G) o (stopping stops) end → is_some stops ≡ true) →
+        (is_set v S.related ≡ true → reached ≡ true → (stop : Halt) → stops ≡ Some stop → Judged L G o (stopping (Some stop)) (is_set v out.value)) →
+        Judged L G o named (is_set v out.value)
+    judged_by r same related stopped there =
+        let digit = is_set v out.value in
+        let conclusion = settled L fallen && is_set v r.some in
+        let judged = λ (x : Schedule). Judged L G o x digit in
+        let unmet = λ (x : Schedule). unmet_so L G o x digit (is_set v S.related && reached) conclusion r.is in
+        either (is_set v S.related)
+        (λ e. subst judged (schedule_same inputs v o start args.value args.nodes r.fit r.given G L number S (r.starts.from e))
+        (subst judged (sym same) (either reached
+        (λ s. let there_is = some_stop stops (sym r.run.reached ∙ s) in
+        subst (λ z. judged (stopping z)) (sym there_is.is) (there e s there_is.stop there_is.is))
+        (λ s. unmet (stopping stops) (ap (λ z. z && reached) e ∙ s)
+        (λ end m. not_both reached (r.run.reached ∙ stopped end m) s)))))
+        (λ e. unmet named (ap (λ z. z && reached) e) (λ end m. not_both (is_set v S.related) (related end m) e))
+
+  pub cut_judged : (o : Operation) → Cut (CutOf o) → NamedSo L G (CutOf o) (schedule_of G L inputs number (CutOf o) start) (is_set v (out (CutOf o)).value)
+  cut_judged o r =
+      let xs = (args (CutOf o)).value in
+      let stand = given_stand inputs number L in
+      let ended = end_worth v L r.end (settled L (fallen (CutOf o))) in
+      let arguments = arguments_fit inputs v (CutOf o) start xs (args (CutOf o)).nodes r.fit r.given in
+      record {
+        shaped = both_hold (shaped L stand.vars stand.memory stand.low) (values_fit o.arguments (values_of (given_env inputs start o.arguments)))
+            r.starts.fits arguments;
+        judged = judged_by (CutOf o) r refl (λ end m. r.starts.related.relates ∙ m.hypotheses)
+            (λ end m. stops_there (stops (CutOf o)) m.reached.falls.run.run.within (length m.reached.falls.run.run.calls) m.reached.falls.stop)
+            (λ e reached stop is.
+            let x = stopping (CutOf o) (Some stop) in
+            let falls = r.run.run stop is in
+            let s = related_there v L stand first.nodes S r.starts e in
+            met_sided L G (CutOf o) x (is_set v (out (CutOf o)).value) v ended
+            (record {
+              shapes = both_hold (shaped L x.state x.memory x.low) (values_fit o.arguments x.args) s.shapes
+                  (values_worth inputs v (args (CutOf o)).nodes o.arguments xs r.fit r.given.shaped);
+              hypotheses = s.holds;
+              reached = record {
+                fallen = fallen (CutOf o);
+                falls = record { taken = x.picks; run = falls.run; stop = falls.stops; read = reads x.picks };
+                recovers = r.recovered_so x (ap (wake_picks G L inputs (n (CutOf o)).wake) (r.run.left stop is));
+                side = refl;
+              };
+            }) (is_set v S.related && is_set v (cut (CutOf o)).value.reached)
+            (both_hold (is_set v S.related) (is_set v (cut (CutOf o)).value.reached) e reached) r.passing r.some (λ e out. refl) r.is
+            (r.passes x (refl, refl)));
+      }
+
+  pub tick_cut_judged : (t : Tick) → Cut (CutTickOf t) →
+      NamedSo L G (CutTickOf t) (schedule_of G L inputs number (CutTickOf t) start) (is_set v (out (CutTickOf t)).value)
+  tick_cut_judged t r =
+      let stand = given_stand inputs number L in
+      let ended = end_worth v L r.end (settled L (fallen (CutTickOf t))) in
+      record {
+        shaped = r.starts.fits;
+        judged = judged_by (CutTickOf t) r refl (λ end m. r.starts.related.relates ∙ m.hypotheses)
+            (λ end m. stops_there (stops (CutTickOf t)) m.reached.falls.run.run.within (length m.reached.falls.run.run.calls) m.reached.falls.stop)
+            (λ e reached stop is.
+            let x = stopping (CutTickOf t) (Some stop) in
+            let falls = r.run.run stop is in
+            let s = related_there v L stand first.nodes S r.starts e in
+            met_sided L G (CutTickOf t) x (is_set v (out (CutTickOf t)).value) v ended
+            (record {
+              shapes = s.shapes;
+              hypotheses = s.holds;
+              reached = record {
+                fallen = fallen (CutTickOf t);
+                falls = record { taken = x.picks; run = falls.run; stop = falls.stops; read = reads x.picks };
+                recovers = r.recovered_so x (ap (wake_picks G L inputs (n (CutTickOf t)).wake) (r.run.left stop is));
+                side = refl;
+              };
+            }) (is_set v S.related && is_set v (cut (CutTickOf t)).value.reached)
+            (both_hold (is_set v S.related) (is_set v (cut (CutTickOf t)).value.reached) e reached) r.passing r.some (λ e out. refl) r.is
+            (r.passes x refl));
+      }

@@ -1,5 +1,5 @@
 -- The values of a schedule are those that the inputs give, and stops that are set.
-use Rattle.std.proofs.Common.{◌≡◌, ℕ, true, List, [], ◌∷◌, map, Option, Some, None, refl, sym, ap, ◌∙◌}
+use Rattle.std.proofs.Common.{◌≡◌, ℕ, true, List, [], ◌∷◌, map, Option, Some, None, refl, sym, ap, ◌∙◌, subst}
 use Rattle.std.proofs.lemmas.List.Elements.{All-nil}
 use Rattle.std.specs.Prelude.{is_some}
 use Rattle.ygg_value.specs.Shapes.{IsShape}
@@ -47,14 +47,22 @@ pub some_stop : (s : Option Halt) → is_some s ≡ true → IsStop s
 some_stop None e = absurd (cc)
 some_stop (Some stop) e = record { stop = stop; is = refl }
 
--- the schedule with the values that the terms are worth is that with the values that the inputs give
-pub schedule_same : (G : Below) (L : ClosedLayer) (inputs : Inputs) (v : Values) (number : ℕ) (o : Obligation) (start : ℕ) (S : Starting) (xs : List SymValue)
-    (nodes : List Node) → Fits inputs v nodes → LowIs v (arguments_of o) (given_env inputs start (arguments_of o)) nodes xs →
-    trio_worth v L S.from ≡ given_stand inputs number L →
-    schedule_from G L inputs (numbers_of G L o start) o (trio_worth v L S.from) (map (worth v) xs) ≡ schedule_of G L inputs number o start
-schedule_same G L inputs v number o start S xs nodes fit given from =
-    let n = numbers_of G L o start in
-    let ys = map (worth v) xs in
-    let again : ys ≡ values_of (given_env inputs start (arguments_of o)) =
-    sym (values_again (arguments_of o) ys (values_worth inputs v nodes (arguments_of o) xs fit given.shaped)) ∙ ap values_of given.is in
-    ap (λ s. schedule_from G L inputs n o s ys) from ∙ ap (λ zs. schedule_from G L inputs n o (given_stand inputs number L) zs) again
+module _ (inputs : Inputs) (v : Values) (o : Obligation) (start : ℕ) (xs : List SymValue) (nodes : List Node) (fit : Fits inputs v nodes)
+    (given : LowIs v (arguments_of o) (given_env inputs start (arguments_of o)) nodes xs) where
+  -- the values that the terms of arguments are worth are those that the inputs give
+  pub arguments_same : map (worth v) xs ≡ values_of (given_env inputs start (arguments_of o))
+  arguments_same =
+      sym (values_again (arguments_of o) (map (worth v) xs) (values_worth inputs v nodes (arguments_of o) xs fit given.shaped))
+      ∙ ap values_of given.is
+
+  -- they have the declared shapes
+  pub arguments_fit : values_fit (arguments_of o) (values_of (given_env inputs start (arguments_of o))) ≡ true
+  arguments_fit = subst (λ ys. values_fit (arguments_of o) ys ≡ true) arguments_same (values_worth inputs v nodes (arguments_of o) xs fit given.shaped)
+
+  -- the schedule with the values that the terms are worth is that with the values that the inputs give
+  pub schedule_same : (G : Below) (L : ClosedLayer) (number : ℕ) (S : Starting) → trio_worth v L S.from ≡ given_stand inputs number L →
+      schedule_from G L inputs (numbers_of G L o start) o (trio_worth v L S.from) (map (worth v) xs) ≡ schedule_of G L inputs number o start
+  schedule_same G L number S from =
+      let n = numbers_of G L o start in
+      ap (λ s. schedule_from G L inputs n o s (map (worth v) xs)) from
+      ∙ ap (λ zs. schedule_from G L inputs n o (given_stand inputs number L) zs) arguments_same

@@ -1,4 +1,5 @@
 pub mod Given
+pub mod Judged
 pub mod Recovering
 pub mod Known
 pub mod Runs

@@ -1,15 +1,16 @@
--- An environment in which the term of another obligation is 0 names a schedule that violates it: formatting, power loss between operations, and a recovery
--- after another.
-use Rattle.std.proofs.Common.{◌≡◌, ◌&&◌, ℕ, true, false, List, [], Some, refl, sym, ap, ◌∙◌, subst}
+-- The term of another obligation is 0 exactly where the schedule that the environment names violates it: formatting, power loss between operations, and a
+-- recovery after another.
+use Rattle.std.proofs.Common.{◌≡◌, ◌&&◌, ℕ, true, List, [], length, Some, refl, sym, ap, ◌∙◌, subst}
+use Rattle.std.specs.Prelude.{is_some}
 use Rattle.ygg_syntax.specs.declared.tree.Def.{Def}
+use Rattle.ygg_type_sound.proofs.Tests.{right}
 use Rattle.ygg_meaning.specs.Environments.{Env}
 use Rattle.ygg_meaning.specs.Layer.{ClosedLayer, BlockRuns}
 use Rattle.ygg_meaning.specs.Machine.{on, based}
-use Rattle.ygg_meaning.specs.Obligations.{Init, Idle, Again}
+use Rattle.ygg_meaning.specs.Obligations.{Halt, Schedule, Init, Idle, Again}
 use Rattle.ygg_meaning.specs.Refines.{Below, machine_below}
 use Rattle.ygg_meaning.specs.Related.{settled}
-use Rattle.ygg_meaning.specs.Shapes.{zeros_of}
-use Rattle.ygg_meaning.specs.Violates.{Violates}
+use Rattle.ygg_meaning.specs.Shapes.{env_fits, zeros_of}
 use Rattle.ygg_rules.specs.declared.rule.RuleKind.{RuleKind}
 use Rattle.ygg_bank.proofs.Meaning.{fits_fewer}
 use Rattle.ygg_bank.proofs.Widths.{extends_both}
@@ -37,10 +38,10 @@ use Rattle.ygg_oblige_pieces.specs.States.{given_stand}
 use Rattle.ygg_oblige_pieces.specs.Steps.{end_worth}
 use Rattle.ygg_oblige_pieces.specs.Worth.{Stand, trio_worth}
 use Rattle.ygg_oblige_laws.proofs.Again.{ends_alike, cut_again, again_gives, again_grows}
-use Rattle.ygg_oblige_laws.proofs.Digits.{refuted, both_true}
+use Rattle.ygg_oblige_laws.proofs.Digits.{both_hold}
 use Rattle.ygg_oblige_laws.proofs.Falls.{recovers_give, recovers_grows}
 use Rattle.ygg_oblige_laws.proofs.Frame.{Frame, states, starts_so, ready_so}
-use Rattle.ygg_oblige_laws.proofs.Schedules.{reads, sided_fails}
+use Rattle.ygg_oblige_laws.proofs.Schedules.{reads}
 use Rattle.ygg_oblige_laws.proofs.Setting.{ready_wider}
 use Rattle.ygg_oblige_laws.proofs.Shows.{related_there, settled_there}
 use Rattle.ygg_oblige_laws.proofs.Wholes.{woken}
@@ -48,6 +49,7 @@ use Rattle.ygg_oblige_laws.specs.LayerMeans.{LayerMeans}
 use Rattle.ygg_oblige_laws.specs.Parts.{PartsMean}
 use Rattle.ygg_oblige_schedules.specs.Schedules.{woken_picks, wake_picks, again_from, schedule_from, schedule_of}
 use Rattle.ygg_oblige_schedules.proofs.Given.{saying, some_stop}
+use Rattle.ygg_oblige_schedules.proofs.Judged.{either, not_both, stops_there, Judged, NamedSo, unmet_so, met_plain, met_sided, met_again}
 use Rattle.ygg_oblige_schedules.proofs.Recovering.{recovery_named, recovers_named}
 
 module _ (kinds : List RuleKind) (defs : List Def) (G : Below) (L : ClosedLayer) (parts : PartsMean kinds defs G L) (typed : LayerTyped defs G L)
@@ -67,9 +69,9 @@ module _ (kinds : List RuleKind) (defs : List Def) (G : Below) (L : ClosedLayer)
   abbrev init_made : Out Id
   init_made = formats kinds (terms_of kinds defs) L G (numbers_of G L Init start) nodes
 
-  pub init_violated : StartNamed kinds defs G L → RunNamed kinds defs G L L.layer.format L.layer.memory [] → Extends init_made.nodes final →
-      is_set v init_made.value ≡ false → Violates L (machine_below G) Init (schedule_of G L inputs number Init start)
-  init_violated begins_named format_named g unset =
+  pub init_judged : StartNamed kinds defs G L → RunNamed kinds defs G L L.layer.format L.layer.memory [] → Extends init_made.nodes final →
+      NamedSo L G Init (schedule_of G L inputs number Init start) (is_set v init_made.value)
+  init_judged begins_named format_named g =
       let n = numbers_of G L Init start in
       let terms = terms_of kinds defs in
       let l = lows_at_start kinds terms G nodes in
@@ -107,25 +109,25 @@ module _ (kinds : List RuleKind) (defs : List Def) (G : Below) (L : ClosedLayer)
         low_are = after.low_are;
       }) tt hs in
       record {
-        end = end_worth v L r.value true;
-        meets = record {
-          shapes = refl;
-          hypotheses = refl;
-          reached = record {
-            taken = x.picks;
-            run = record {
-              lower = based base;
-              first = [];
-              second = x.picks;
-              answer = answer;
-              starts = starts defs G typed.below;
-              formats = run;
-              takes = refl;
-            };
-            read = reads x.picks;
-          };
-        };
-        fails = passes.none unset;
+        shaped = refl;
+        judged = met_plain L G Init x (is_set v init_made.value) v (end_worth v L r.value true)
+            (record {
+              shapes = refl;
+              hypotheses = refl;
+              reached = record {
+                taken = x.picks;
+                run = record {
+                  lower = based base;
+                  first = [];
+                  second = x.picks;
+                  answer = answer;
+                  starts = starts defs G typed.below;
+                  formats = run;
+                  takes = refl;
+                };
+                read = reads x.picks;
+              };
+            }) true refl s.nodes s.value refl passes;
       }
 
   -- power loss between operations
@@ -135,9 +137,9 @@ module _ (kinds : List RuleKind) (defs : List Def) (G : Below) (L : ClosedLayer)
   abbrev idle_made : Out Id
   idle_made = recovers kinds (terms_of kinds defs) L G Idle (numbers_of G L Idle start) S.related S.from.vars [] lost.value lost.nodes
 
-  pub idle_violated : LossNamed kinds defs G L → Extends idle_made.nodes final →
-      is_set v idle_made.value ≡ false → Violates L (machine_below G) Idle (schedule_of G L inputs number Idle start)
-  idle_violated loss_named g unset =
+  pub idle_judged : LossNamed kinds defs G L → Extends idle_made.nodes final →
+      NamedSo L G Idle (schedule_of G L inputs number Idle start) (is_set v idle_made.value)
+  idle_judged loss_named g =
       let n = numbers_of G L Idle start in
       let gl = means.loss.grows n.last S.from.low nodes in
       let gt = recovers_grows kinds defs G L parts inputs v means.recover_shape means.recover_whole typed.memory_shapes Idle tt tt (λ end. tt) n S.related
@@ -152,35 +154,41 @@ module _ (kinds : List RuleKind) (defs : List Def) (G : Below) (L : ClosedLayer)
       S.from.vars [] lost.value lost.nodes later.related later.from.vars tt after (saying (low_worth v L.layer.state S.from.vars) []) refl ht in
       let l = loss_named inputs v n.last S.from.low nodes ready.from.low hl in
       let fallen = low_worth v L.low lost.value in
-      let z = refuted (is_set v S.related) (settled L fallen && is_set v r.some) (sym r.is ∙ unset) in
       let begins = starts_so kinds defs G L parts number before start nodes final frame inputs v gf h in
-      let s = related_there v L (given_stand inputs number L) first.nodes S begins z.first in
+      let digit = is_set v idle_made.value in
+      let stand = given_stand inputs number L in
+      let named = schedule_of G L inputs number Idle start in
       let x = schedule_from G L inputs n Idle (trio_worth v L S.from) [] in
       let end = end_worth v L (recovered kinds (terms_of kinds defs) L G n.wake lost.value r.at).value (settled L fallen) in
-      let there : Violates L (machine_below G) Idle x = record {
-        end = end;
-        meets = record {
-          shapes = s.shapes;
-          hypotheses = s.holds;
-          reached = record {
-            fallen = fallen;
-            falls = record { taken = x.picks; run = l.loses; read = reads x.picks };
-            recovers = recovers_named kinds defs G L parts inputs v means.recover_shape means.recover_whole typed.memory_shapes waking n.wake lost.value r.at
-                r.low_shaped r.fit x (ap (woken_picks G L inputs n.wake) (sym l.is));
-            side = refl;
-          };
-        };
-        fails = sided_fails v L Idle x r.passing r.some (λ e out. refl) end (r.passes x refl) z.second;
-      } in
-      subst (λ y. Violates L (machine_below G) Idle y) (ap (λ (e : Stand). schedule_from G L inputs n Idle e []) (begins.from z.first)) there
+      record {
+        shaped = begins.fits;
+        judged = either (is_set v S.related)
+            (λ e.
+            let s = related_there v L stand first.nodes S begins e in
+            subst (λ y. Judged L G Idle y digit) (ap (λ (e : Stand). schedule_from G L inputs n Idle e []) (begins.from e))
+            (met_sided L G Idle x digit v end
+            (record {
+              shapes = s.shapes;
+              hypotheses = s.holds;
+              reached = record {
+                fallen = fallen;
+                falls = record { taken = x.picks; run = l.loses; read = reads x.picks };
+                recovers = recovers_named kinds defs G L parts inputs v means.recover_shape means.recover_whole typed.memory_shapes waking n.wake lost.value
+                    r.at r.low_shaped r.fit x (ap (woken_picks G L inputs n.wake) (sym l.is));
+                side = refl;
+              };
+            }) (is_set v S.related) e r.passing r.some (λ e out. refl) r.is (r.passes x refl)))
+            (λ e. unmet_so L G Idle named digit (is_set v S.related) (settled L fallen && is_set v r.some) r.is e
+            (λ end m. not_both (is_set v S.related) (begins.related.relates ∙ m.hypotheses) e));
+      }
 
   -- a recovery after another
   abbrev again_made : Out Id
   again_made = recovers_again kinds (terms_of kinds defs) L G (numbers_of G L Again start) S nodes
 
-  pub again_violated : FallNamed kinds defs G L L.layer.recover L.layer.memory [] → Extends again_made.nodes final →
-      is_set v again_made.value ≡ false → Violates L (machine_below G) Again (schedule_of G L inputs number Again start)
-  again_violated cut_named g unset =
+  pub again_judged : FallNamed kinds defs G L L.layer.recover L.layer.memory [] → Extends again_made.nodes final →
+      NamedSo L G Again (schedule_of G L inputs number Again start) (is_set v again_made.value)
+  again_judged cut_named g =
       let n = numbers_of G L Again start in
       let terms = terms_of kinds defs in
       let shape = means.recover_shape in
@@ -197,46 +205,60 @@ module _ (kinds : List RuleKind) (defs : List Def) (G : Below) (L : ClosedLayer)
       let run = (recovered kinds terms L G n.wake left.fallen a.end_at).value in
       let other = (recovered kinds terms L G n.other S.settled_low a.other_at).value in
       let alike = settled L fallen && ends_alike kinds defs G L parts inputs v shape whole shapes run other in
-      let z = refuted (is_set v S.settled && is_set v left.reached) alike (sym a.is ∙ unset) in
-      let hs = both_true (is_set v S.settled) (is_set v left.reached) z.first in
       let begins = starts_so kinds defs G L parts number before start nodes final frame inputs v gf h in
-      let s = settled_there v L (given_stand inputs number L) first.nodes S begins hs.0 in
+      let stand = given_stand inputs number L in
+      let digit = is_set v again_made.value in
+      let named = schedule_of G L inputs number Again start in
       let bits = picked_by inputs n.run in
       let set = picked_by inputs n.stop in
       let last = picked_by inputs n.last in
       let woke = a.begins in
       let worth_zeros = low_worth v L.layer.memory a.zeros in
       let c = cut_named inputs v n.run n.stop n.last (woken a.zeros S.settled_low) a.at woke.begins a.cut_fit in
-      let there = some_stop _ (sym c.reached ∙ hs.1) in
-      let stop = there.stop in
-      let stops : run_stop G L L.layer.recover zeros [] low bits set ≡ Some stop =
-      ap (λ m. run_stop G L L.layer.recover m [] low bits set) (sym woke.zeros_are) ∙ there.is in
-      let left_is : left_at G L L.layer.recover zeros [] low bits last stop ≡ Some fallen =
-      ap (λ m. left_at G L L.layer.recover m [] low bits last stop) (sym woke.zeros_are) ∙ c.left stop there.is in
-      let falls = subst (λ m. FallsThere G L L.layer.recover m [] low stop (fall_picks G L L.layer.recover m [] low bits last stop) fallen) woke.zeros_are
-      (c.run stop there.is) in
-      let x = again_from G L inputs n low (Some stop) in
+      let stops = run_stop G L L.layer.recover zeros [] low bits set in
+      let reached : is_set v left.reached ≡ is_some stops =
+      c.reached ∙ ap (λ m. is_some (run_stop G L L.layer.recover m [] low bits set)) woke.zeros_are in
       let o = recovery_named kinds defs G L parts inputs v shape whole shapes waking n.other S.settled_low a.other_at a.other_low a.other_fit in
-      let violated : Violates L (machine_below G) Again x = record {
-        end = end_worth v L run alike;
-        meets = record {
-          shapes = s.shapes;
-          hypotheses = s.holds;
-          reached = record {
-            fallen = fallen;
-            falls = record { taken = x.picks; run = falls.run; stop = falls.stops; read = reads x.picks };
-            recovers = recovers_named kinds defs G L parts inputs v shape whole shapes waking n.wake left.fallen a.end_at a.end_low a.end_fit x
-                (ap (wake_picks G L inputs n.wake) left_is);
-            taken = x.other;
-            answer = answer_worth v other.answer;
-            to = (end_worth v L other true).to;
-            run = o;
-            read = reads x.other;
-            side = refl;
-          };
+      let hypothesis = is_set v S.settled && is_set v left.reached in
+      let unmet = λ (x : Schedule). unmet_so L G Again x digit hypothesis alike a.is in
+      let met = λ (e : is_set v S.settled ≡ true) (t : is_set v left.reached ≡ true) (stop : Halt) (is : stops ≡ Some stop).
+      let s = settled_there v L stand first.nodes S begins e in
+      let there_is = ap (λ m. run_stop G L L.layer.recover m [] low bits set) woke.zeros_are ∙ is in
+      let left_is : left_at G L L.layer.recover zeros [] low bits last stop ≡ Some fallen =
+      ap (λ m. left_at G L L.layer.recover m [] low bits last stop) (sym woke.zeros_are) ∙ c.left stop there_is in
+      let falls = subst (λ m. FallsThere G L L.layer.recover m [] low stop (fall_picks G L L.layer.recover m [] low bits last stop) fallen) woke.zeros_are
+      (c.run stop there_is) in
+      let x = again_from G L inputs n low (Some stop) in
+      met_again L G x digit (end_worth v L run alike)
+      (record {
+        shapes = s.shapes;
+        hypotheses = s.holds;
+        reached = record {
+          fallen = fallen;
+          falls = record { taken = x.picks; run = falls.run; stop = falls.stops; read = reads x.picks };
+          recovers = recovers_named kinds defs G L parts inputs v shape whole shapes waking n.wake left.fallen a.end_at a.end_low a.end_fit x
+              (ap (wake_picks G L inputs n.wake) left_is);
+          taken = x.other;
+          answer = answer_worth v other.answer;
+          to = (end_worth v L other true).to;
+          run = o;
+          read = reads x.other;
+          side = refl;
         };
-        fails = λ picks len. z.second;
-      } in
-      subst (λ y. Violates L (machine_below G) Again y)
-      (ap (again_from G L inputs n low) (sym stops)
-      ∙ ap (λ (e : Env). again_from G L inputs n e (run_stop G L L.layer.recover zeros [] e bits set)) (begins.low hs.0)) violated
+      }) hypothesis (both_hold (is_set v S.settled) (is_set v left.reached) e t) a.is in
+      record {
+        shaped = right (env_fits L.layer.state stand.vars && env_fits L.layer.memory stand.memory) (env_fits L.low stand.low) begins.fits;
+        judged = either (is_set v S.settled)
+            (λ e.
+            subst (λ y. Judged L G Again y digit)
+            (ap (λ (e : Env). again_from G L inputs n e (run_stop G L L.layer.recover zeros [] e bits set)) (begins.low e))
+            (either (is_set v left.reached)
+            (λ t.
+            let there = some_stop stops (sym reached ∙ t) in
+            subst (λ z. Judged L G Again (again_from G L inputs n low z) digit) (sym there.is) (met e t there.stop there.is))
+            (λ t. unmet (again_from G L inputs n low stops) (ap (λ z. z && is_set v left.reached) e ∙ t)
+            (λ end m. not_both (is_set v left.reached)
+            (reached ∙ stops_there stops m.reached.falls.run.run.within (length m.reached.falls.run.run.calls) m.reached.falls.stop) t))))
+            (λ e. unmet named (ap (λ z. z && is_set v left.reached) e)
+            (λ end m. not_both (is_set v S.settled) (begins.settled.settles ∙ m.hypotheses) e));
+      }

@@ -1,17 +1,16 @@
--- An environment in which the term of an obligation is 0 that speaks of a whole run names a schedule that violates it.
-use Rattle.std.proofs.Common.{◌≡◌, ℕ, true, false, List, [], map, refl, sym, ◌∙◌, subst}
+-- The term of an obligation that speaks of a whole run is 0 exactly where the schedule that the environment names violates it.
+use Rattle.std.proofs.Common.{◌≡◌, ◌||◌, not, ℕ, true, List, [], map, refl, ◌∙◌, subst}
 use Rattle.std.specs.Prelude.{IsTrue, Option}
 use Rattle.ygg_value.specs.declared.shape.Shape.{Shape}
 use Rattle.ygg_syntax.specs.declared.tree.Def.{Def}
 use Rattle.ygg_syntax.specs.declared.tree.Operation.{Operation}
 use Rattle.ygg_syntax.specs.declared.tree.Tick.{Tick}
-use Rattle.ygg_meaning.specs.Environments.{bind}
 use Rattle.ygg_meaning.specs.Layer.{ClosedLayer}
-use Rattle.ygg_meaning.specs.Obligations.{Schedule, Obligation, CallOf, TickOf, NoPicksPass}
+use Rattle.ygg_meaning.specs.Obligations.{Schedule, Obligation, CallOf, TickOf}
 use Rattle.ygg_meaning.specs.Refines.{Below, machine_below}
 use Rattle.ygg_meaning.specs.Related.{shaped}
 use Rattle.ygg_meaning.specs.Shapes.{values_fit}
-use Rattle.ygg_meaning.specs.Violates.{Violates, most, spec_after, passes}
+use Rattle.ygg_meaning.specs.Violates.{End, Meets}
 use Rattle.ygg_type_progress.specs.Blocks.{is_returned}
 use Rattle.ygg_rules.specs.declared.rule.RuleKind.{RuleKind}
 use Rattle.ygg_bank.proofs.Meaning.{fits_fewer}
@@ -35,9 +34,9 @@ use Rattle.ygg_oblige_terms.specs.States.{Starting, fresh_all}
 use Rattle.ygg_oblige_terms.specs.Terms.{Finish, ran}
 use Rattle.ygg_oblige_pieces.specs.Inputs.{given_env}
 use Rattle.ygg_oblige_pieces.specs.States.{given_stand, StartsSo}
-use Rattle.ygg_oblige_pieces.specs.Steps.{HasStep, variables_of, ObligationTyped, AnswerKept, StepIs, end_worth}
+use Rattle.ygg_oblige_pieces.specs.Steps.{HasStep, variables_of, ObligationTyped, AnswerKept, StepIs, PassesSo, end_worth}
 use Rattle.ygg_oblige_pieces.specs.Worth.{LowIs, trio_worth}
-use Rattle.ygg_oblige_laws.proofs.Digits.{refuted, both_hold}
+use Rattle.ygg_oblige_laws.proofs.Digits.{both_hold}
 use Rattle.ygg_oblige_laws.proofs.Frame.{Frame, states, starts_so, ready_so}
 use Rattle.ygg_oblige_laws.proofs.RunTerms.{run_made}
 use Rattle.ygg_oblige_laws.proofs.Schedules.{reads}
@@ -47,8 +46,9 @@ use Rattle.ygg_oblige_laws.proofs.Wholes.{begun, runs_give, runs_grow, run_fit}
 use Rattle.ygg_oblige_laws.specs.LayerMeans.{TickMeans}
 use Rattle.ygg_oblige_laws.specs.ObligationMeans.{OperationKnown}
 use Rattle.ygg_oblige_laws.specs.Parts.{PartsMean}
-use Rattle.ygg_oblige_schedules.specs.Schedules.{whole_from, schedule_of}
-use Rattle.ygg_oblige_schedules.proofs.Given.{saying, no_shapes, schedule_same}
+use Rattle.ygg_oblige_schedules.specs.Schedules.{values_of, schedule_from, schedule_of}
+use Rattle.ygg_oblige_schedules.proofs.Given.{saying, no_shapes, arguments_fit, schedule_same}
+use Rattle.ygg_oblige_schedules.proofs.Judged.{either, not_both, Judged, NamedSo, unmet_so, met_plain}
 
 -- an obligation that speaks of a whole run
 pub record RunCase (kinds : List RuleKind) (defs : List Def) (G : Below) (L : ClosedLayer) (o : Obligation) : Type 0 where
@@ -112,18 +112,19 @@ module _ (kinds : List RuleKind) (defs : List Def) (G : Below) (L : ClosedLayer)
     abbrev end : Finish
     end = (ran kinds (terms_of kinds defs) L G n.run (block_of L o) S.from.memory (arguments_of o) args.value S.from.low args.nodes).value
 
-    -- the relation holds, and the run with the picks that the inputs name ends where no step of the specification passes
-    pub record Refuted : Type 0 where
-      pub related : is_set v S.related ≡ true
+    -- the run with the picks that the inputs name, and the term: 0 where the relation holds and no step of the specification passes
+    pub record Ran : Type 0 where
       pub starts : StartsSo v L (given_stand inputs number L) first.nodes S
       pub fit : Fits inputs v args.nodes
       pub given : LowIs v (arguments_of o) (given_env inputs start (arguments_of o)) args.nodes args.value
       pub run : RunSo kinds defs G L (block_of L o) L.layer.memory (arguments_of o) v (begun S args.value) (picked_by inputs n.run) end
-      pub fails : (x : Schedule) → StepIs v L o S.from.vars args.value x →
-          NoPicksPass (most L o) (λ picks. passes L o (end_worth v L end true) (spec_after L o x picks))
+      pub some : Id
+      pub is : is_set v out.value ≡ (not (is_set v S.related) || is_set v some)
+      pub passing : List Node
+      pub passes : (x : Schedule) → StepIs v L o S.from.vars args.value x → PassesSo v L o x (end_worth v L end true) passing some
 
-    pub refuted_so : RunCase kinds defs G L o → Extends out.nodes final → is_set v out.value ≡ false → Refuted
-    refuted_so k g unset =
+    pub ran_so : RunCase kinds defs G L o → Extends out.nodes final → Ran
+    ran_so k g =
         let ga = parts.fresh.grows kinds start (arguments_of o) nodes in
         let go = runs_grow kinds defs G L parts inputs v o (block_of L o) k.shape k.whole k.has k.typed (k.kept v) k.state n S args.value args.nodes in
         let gf = extends_both nodes args.nodes final ga (extends_both args.nodes out.nodes final go g) in
@@ -134,50 +135,73 @@ module _ (kinds : List RuleKind) (defs : List Def) (G : Below) (L : ClosedLayer)
         let st = k.some v S.from.vars args.value in
         let r = runs_give kinds defs G L parts inputs v o (block_of L o) k.shape k.whole k.has k.typed (k.kept v) k.state n S args.value args.nodes ready
         given.shaped st.0 st.1 ho in
-        let z = refuted (is_set v S.related) (is_set v r.some) (sym r.is ∙ unset) in
         let begins : Begins kinds defs G L (block_of L o) L.layer.memory (arguments_of o) args.nodes (begun S args.value) =
         record { vars_are = ready.from.memory; args_are = given.shaped; low_are = ready.from.low } in
         let ran_fit = run_fit kinds defs G L parts inputs v o (block_of L o) k.shape k.whole k.has k.typed (k.kept v) k.state n S args.value args.nodes ho in
         record {
-          related = z.first;
           starts = starts_so kinds defs G L parts number before start nodes final frame inputs v gf h;
           fit = ha;
           given = given;
           run = k.named inputs v n.run (begun S args.value) args.nodes begins ran_fit;
-          fails = λ x step. (r.passes x step).none z.second;
+          some = r.some;
+          is = r.is;
+          passing = r.passing;
+          passes = r.passes;
         }
 
-  pub call_violated : (o : Operation) → Refuted (CallOf o) → Violates L (machine_below G) (CallOf o) (schedule_of G L inputs number (CallOf o) start)
-  call_violated o r =
-      let xs = (args (CallOf o)).value in
-      let ys = map (worth v) xs in
-      let s = related_there v L (given_stand inputs number L) first.nodes S r.starts r.related in
-      let x = whole_from G L inputs (n (CallOf o)) o.implementation (trio_worth v L S.from) (bind o.arguments ys) ys in
-      let there : Violates L (machine_below G) (CallOf o) x = record {
-        end = end_worth v L (end (CallOf o)) true;
-        meets = record {
-          shapes = both_hold (shaped L x.state x.memory x.low) (values_fit o.arguments ys) s.shapes
-              (values_worth inputs v (args (CallOf o)).nodes o.arguments xs r.fit r.given.shaped);
-          hypotheses = s.holds;
-          reached = record { taken = x.picks; run = r.run.run; read = reads x.picks };
-        };
-        fails = r.fails x (refl, refl);
-      } in
-      subst (λ z. Violates L (machine_below G) (CallOf o) z)
-      (schedule_same G L inputs v number (CallOf o) start S xs (args (CallOf o)).nodes r.fit r.given (r.starts.from r.related)) there
+    -- the schedule that the environment names
+    abbrev named : Schedule
+    named = schedule_of G L inputs number o start
 
-  pub tick_violated : (t : Tick) → Refuted (TickOf t) → Violates L (machine_below G) (TickOf t) (schedule_of G L inputs number (TickOf t) start)
-  tick_violated t r =
-      let s = related_there v L (given_stand inputs number L) first.nodes S r.starts r.related in
-      let x = whole_from G L inputs (n (TickOf t)) t.body (trio_worth v L S.from) [] [] in
-      let there : Violates L (machine_below G) (TickOf t) x = record {
-        end = end_worth v L (end (TickOf t)) true;
-        meets = record {
-          shapes = s.shapes;
-          hypotheses = s.holds;
-          reached = record { taken = x.picks; run = r.run.run; read = reads x.picks };
-        };
-        fails = r.fails x refl;
-      } in
-      subst (λ z. Violates L (machine_below G) (TickOf t) z)
-      (schedule_same G L inputs v number (TickOf t) start S [] (args (TickOf t)).nodes r.fit r.given (r.starts.from r.related)) there
+    -- the schedule with what the terms are worth
+    abbrev worth_schedule : Schedule
+    worth_schedule = schedule_from G L inputs n o (trio_worth v L S.from) (map (worth v) args.value)
+
+    -- where the relation holds, these are the same
+    judged_by : Ran → ((end : End) → Meets L (machine_below G) o named end → is_set v S.related ≡ true) →
+        (is_set v S.related ≡ true → Judged L G o worth_schedule (is_set v out.value)) → Judged L G o named (is_set v out.value)
+    judged_by r related there =
+        either (is_set v S.related)
+        (λ e. subst (λ z. Judged L G o z (is_set v out.value))
+        (schedule_same inputs v o start args.value args.nodes r.fit r.given G L number S (r.starts.from e))
+        (there e))
+        (λ e. unmet_so L G o named (is_set v out.value) (is_set v S.related) (is_set v r.some) r.is e
+        (λ end m. not_both (is_set v S.related) (related end m) e))
+
+  pub call_judged : (o : Operation) → Ran (CallOf o) → NamedSo L G (CallOf o) (schedule_of G L inputs number (CallOf o) start) (is_set v (out (CallOf o)).value)
+  call_judged o r =
+      let xs = (args (CallOf o)).value in
+      let x = worth_schedule (CallOf o) in
+      let stand = given_stand inputs number L in
+      let ended = end_worth v L (end (CallOf o)) true in
+      let arguments = arguments_fit inputs v (CallOf o) start xs (args (CallOf o)).nodes r.fit r.given in
+      record {
+        shaped = both_hold (shaped L stand.vars stand.memory stand.low) (values_fit o.arguments (values_of (given_env inputs start o.arguments)))
+            r.starts.fits arguments;
+        judged = judged_by (CallOf o) r (λ end m. r.starts.related.relates ∙ m.hypotheses) (λ e.
+            let s = related_there v L stand first.nodes S r.starts e in
+            met_plain L G (CallOf o) x (is_set v (out (CallOf o)).value) v ended
+            (record {
+              shapes = both_hold (shaped L x.state x.memory x.low) (values_fit o.arguments x.args) s.shapes
+                  (values_worth inputs v (args (CallOf o)).nodes o.arguments xs r.fit r.given.shaped);
+              hypotheses = s.holds;
+              reached = record { taken = x.picks; run = r.run.run; read = reads x.picks };
+            }) (is_set v S.related) e r.passing r.some r.is (r.passes x (refl, refl)));
+      }
+
+  pub tick_judged : (t : Tick) → Ran (TickOf t) → NamedSo L G (TickOf t) (schedule_of G L inputs number (TickOf t) start) (is_set v (out (TickOf t)).value)
+  tick_judged t r =
+      let x = worth_schedule (TickOf t) in
+      let stand = given_stand inputs number L in
+      let ended = end_worth v L (end (TickOf t)) true in
+      record {
+        shaped = r.starts.fits;
+        judged = judged_by (TickOf t) r (λ end m. r.starts.related.relates ∙ m.hypotheses) (λ e.
+            let s = related_there v L stand first.nodes S r.starts e in
+            met_plain L G (TickOf t) x (is_set v (out (TickOf t)).value) v ended
+            (record {
+              shapes = s.shapes;
+              hypotheses = s.holds;
+              reached = record { taken = x.picks; run = r.run.run; read = reads x.picks };
+            }) (is_set v S.related) e r.passing r.some r.is (r.passes x refl));
+      }

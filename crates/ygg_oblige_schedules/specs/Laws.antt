@@ -1,5 +1,5 @@
--- The schedule that an environment names violates an obligation whose term is 0 in it.
-use Rattle.std.specs.Prelude.{◌≡◌, ℕ, List, [], ◌∷◌}
+-- The schedule that an environment names violates the obligation exactly where its term is 0 in the environment.
+use Rattle.std.specs.Prelude.{◌≡◌, ◌↔◌, ℕ, IsTrue, List, [], ◌∷◌}
 use Rattle.ygg_syntax.specs.Files.{IsDerived}
 use Rattle.ygg_syntax.specs.declared.tree.Def.{Def}
 use Rattle.ygg_syntax.specs.declared.tree.File.{File}
@@ -7,6 +7,7 @@ use Rattle.ygg_type_rules.specs.Files.{IsTyped}
 use Rattle.ygg_meaning.specs.Layer.{ClosedLayer}
 use Rattle.ygg_meaning.specs.Obligations.{Schedule}
 use Rattle.ygg_meaning.specs.Refines.{Below}
+use Rattle.ygg_meaning.specs.Violates.{shapes_fit}
 use Rattle.ygg_histories.specs.Claims.{Claim, ClaimViolated, claims_at, claims_of}
 use Rattle.ygg_histories.specs.Stack.{layers_of}
 use Rattle.ygg_rules.specs.declared.rule.RuleKind.{RuleKind}
@@ -20,11 +21,16 @@ use Rattle.ygg_oblige_terms.specs.Layers.{LayerTyped}
 use Rattle.ygg_oblige_terms.specs.Terms.{layer_made, file_made}
 use Rattle.ygg_oblige_schedules.specs.Schedules.{layer_schedules, all_schedules}
 
--- each of the obligations whose term is 0 in the environment is violated by its schedule
-abbrev pub AllShown : Inputs → List Node → List Claim → List Id → List Schedule → Type 0
-AllShown inputs nodes [] [] [] = Unit {0}
-AllShown inputs nodes (c ∷ cs) (t ∷ ts) (x ∷ xs) = ((value_of inputs nodes t.0).bits ≡ 0 → ClaimViolated c x) × AllShown inputs nodes cs ts xs
-AllShown inputs nodes _ _ _ = ⊥
+-- the schedule violates the obligation exactly where its term is 0 in the environment; its values have the declared shapes in either case
+pub record IsExact (inputs : Inputs) (nodes : List Node) (c : Claim) (term : Id) (x : Schedule) : Type 0 where
+  pub shaped : IsTrue (shapes_fit c.layer c.obligation x)
+  pub exact : (value_of inputs nodes term.0).bits ≡ 0 ↔ ClaimViolated c x
+
+-- each schedule does of its obligation
+abbrev pub AllExact : Inputs → List Node → List Claim → List Id → List Schedule → Type 0
+AllExact inputs nodes [] [] [] = Unit {0}
+AllExact inputs nodes (c ∷ cs) (t ∷ ts) (x ∷ xs) = IsExact inputs nodes c t x × AllExact inputs nodes cs ts xs
+AllExact inputs nodes _ _ _ = ⊥
 
 -- so it is for the obligations of a layer, in every bank that begins with their terms
 abbrev pub LayerSchedules : Type 0
@@ -32,11 +38,11 @@ LayerSchedules =
     (kinds : List RuleKind) (defs : List Def) (G : Below) (L : ClosedLayer) (number : ℕ) (before final : List Node) → LayerTyped defs G L →
     InputsBelow number before → let out = layer_made kinds (terms_of kinds defs) L G number before in
     Extends out.nodes final → IsBank final → (inputs : Inputs) → InputsFit inputs final →
-    AllShown inputs final (claims_at L G) out.value (layer_schedules G L inputs number)
+    AllExact inputs final (claims_at L G) out.value (layer_schedules G L inputs number)
 
 -- and for the obligations of a file in the grammar without a type error, in the bank that their terms make
 abbrev pub FileSchedules : Type 0
 FileSchedules =
     (kinds : List RuleKind) (file : File) → ∥ IsDerived file ∥₁ → IsTyped file → let out = file_made kinds file [] in
     IsBank out.nodes → (inputs : Inputs) → InputsFit inputs out.nodes →
-    AllShown inputs out.nodes (claims_of file) out.value (all_schedules kinds (terms_of kinds file.defs) file.disk inputs (layers_of file))
+    AllExact inputs out.nodes (claims_of file) out.value (all_schedules kinds (terms_of kinds file.defs) file.disk inputs (layers_of file))

@@ -1,9 +1,9 @@
-//! The schedule that an environment names violates an obligation whose term is 0 in it.
+//! The schedule that an environment names violates the obligation exactly where its term is 0 in the environment.
 
 ghost use Rattle.ygg_oblige_schedules.specs.Laws.{FileSchedules, LayerSchedules};
 
-/// In every bank that begins with the terms of a typed layer's obligations, an environment in which one of them is 0 names a schedule that violates the
-/// obligation: its values are those of the environment, and its picks those that the runs take, from the front.
+/// In every bank that begins with the terms of a typed layer's obligations, the schedule that an environment names for an obligation violates it exactly where
+/// its term is 0 in the environment: its values are those of the environment, of the declared shapes, and its picks those that the runs take, from the front.
 pub fn layer_schedules()
     ensures { LayerSchedules }
 {}

@@ -3,7 +3,7 @@ mod Turns
 mod Blocks
 mod Stops
 mod Firsts
-mod Searching
+mod Tried
 mod SpecSteps
 mod Typing
 mod Specified

@@ -10,7 +10,7 @@ use Rattle.ygg_sched.specs.declared.case.Case.{Case}
 use Rattle.ygg_sched.specs.declared.schedule.Schedule.{Schedule}
 use Rattle.ygg_replay.specs.declared.ends.End.{End}
 use Rattle.ygg_replay.specs.Ends.{end_at}
-use Rattle.ygg_replay.specs.Passing.{IsFirstAfter}
+use Rattle.ygg_replay_search.specs.Searching.{IsFirstAfter}
 use Rattle.ygg_sched.specs.Cases.{obligation_at}
 use Rattle.ygg_replay.specs.Schedules.{schedule_fits}
 use Rattle.ygg_replay.specs.Showing.{CanShow}

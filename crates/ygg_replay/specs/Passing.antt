@@ -1,10 +1,10 @@
 -- Whether a conclusion holds with a list of the specification's picks, and the first such list.
-use Rattle.std.specs.Prelude.{◌≡◌, ℕ, Bool, true, IsTrue, ◌++◌, length, Option, Some, None}
+use Rattle.std.specs.Prelude.{◌≡◌, ℕ, Bool, true, false, IsTrue, length, Some, unwrap_or}
+use Rattle.std.specs.Option.{option_map}
 use Rattle.ygg_meaning.specs.Progress.{Answer}
 use Rattle.ygg_meaning.specs.Machine.{Picks}
-use Rattle.ygg_meaning.specs.Obligations.{Obligation, Init, CallOf, CutOf, TickOf, CutTickOf, Idle, Again, NoPicksPass}
+use Rattle.ygg_meaning.specs.Obligations.{Obligation, Init, CallOf, CutOf, TickOf, CutTickOf, Idle, Again}
 use Rattle.ygg_meaning.specs.Violates.{most, passes, related_after, same_answer, spec_after}
-use Rattle.ygg_meaning.specs.Replayed.{IsFirstPassing}
 use Rattle.ygg_replay.specs.declared.site.Site.{Site}
 use Rattle.ygg_sched.specs.declared.case.Case.{Case}
 use Rattle.ygg_sched.specs.declared.case.Kind.{Kind}
@@ -14,7 +14,7 @@ use Rattle.ygg_replay.specs.Steps.{meant_at}
 use Rattle.ygg_replay.specs.Ends.{end_at, EndFits}
 use Rattle.ygg_sched.specs.Cases.{obligation_at}
 use Rattle.ygg_replay.specs.Schedules.{schedule_fits}
-use Rattle.ygg_replay.specs.Sites.{closed_in}
+use Rattle.ygg_replay.specs.Sites.{IsHere, closed_in}
 
 -- the obligation that is asked
 abbrev pub IsOf : Site → Case → Obligation → Type 0
@@ -45,11 +45,13 @@ answers_for kind.CutTick y z = true
 answers_for kind.Idle y z = true
 answers_for kind.Again y z = true
 
--- the first list that passes which begins so and goes on with so many picks, if there is one
-abbrev pub IsFirstAfter : ℕ → (Picks → Bool) → Picks → Option Picks → Type 0
-IsFirstAfter count test before None = NoPicksPass count (λ picks. test (before ++ picks))
-IsFirstAfter count test before (Some found) =
-    (picks : Picks) × (found ≡ before ++ picks) × IsFirstPassing count (λ picks. test (before ++ picks)) picks
+-- the same of the obligation that is asked
+abbrev pub passing_asked : Site → Trial → Picks → Bool
+passing_asked s t picks = unwrap_or (option_map (λ o. passing s t o picks) (obligation_at s.layer.now t.case.kind t.case.number)) false
+
+-- how many picks its step takes at most
+abbrev pub most_asked : Site → Trial → ℕ
+most_asked s t = unwrap_or (option_map (most (closed_in s)) (obligation_at s.layer.now t.case.kind t.case.number)) 0
 
 -- the conclusion may be asked: the obligation is one of the layer, the schedule has the declared shapes, and so has the end of the runs
 pub record CanConclude (s : Site) (t : Trial) : Type 0 where
@@ -57,6 +59,11 @@ pub record CanConclude (s : Site) (t : Trial) : Type 0 where
   pub is : IsOf s t.case obligation
   pub fit : IsTrue (schedule_fits s.typed.now.file s.place s.layer.now t.schedule.now obligation)
   pub end_fits : EndFits s t.end.now
+
+-- it may be asked of a layer that stands at its place
+pub record CanTry (s : Site) (t : Trial) : Type 0 where
+  pub here : IsHere s
+  pub can : CanConclude s t
 
 -- with as many picks as the specification's step takes at most
 abbrev pub AreAll : Site → Trial → Picks → Type 0

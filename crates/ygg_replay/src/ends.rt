@@ -37,7 +37,7 @@ use ygg_value::{Shape, Value, Values, same, zero};
 
 /// How the runs of an obligation have ended: with an answer, if they give one, in a memory over a machine below, and on the side the test in
 /// which the specification has no say.
-#[derive(Debug, Drop)]
+#[derive(Drop)]
 pub struct End {
     pub answer: Option<Value>,
     pub memory: Values,

@@ -3,7 +3,7 @@
 use ygg_base::Bits;
 
 /// What replaying a schedule shows.
-#[derive(Debug, Drop)]
+#[derive(Drop)]
 pub enum Replayed {
     /// The schedule violates its obligation: the hypotheses hold, and the conclusion fails whatever the specification picks.
     Shows,

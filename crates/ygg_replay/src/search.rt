@@ -1,18 +1,19 @@
 //! The search for the first list of the specification's picks with which a conclusion holds.
 
-ghost use Rattle.std.specs.Prelude.{◌≡◌, ◌<◌, ◌+◌, ◌∷◌, ◌++◌, [], IfOk, length};
+ghost use Rattle.std.specs.Prelude.{◌≡◌, ◌<◌, [], IfOk};
 ghost use Rattle.ygg_syntax.specs.Choices.{choices_of};
 ghost use Rattle.ygg_syntax_count.specs.Budget.{limit};
 ghost use Rattle.ygg_meaning.specs.Obligations.{Obligation, fall_picks};
 ghost use Rattle.ygg_meaning.specs.Violates.{most};
-ghost use Rattle.ygg_replay.specs.Passing.{CanConclude, IsFirstAfter, IsOf, passing};
+ghost use Rattle.ygg_replay.specs.Passing.{CanConclude, IsOf, passing};
 ghost use Rattle.ygg_replay.specs.Sites.{IsHere, closed_in};
+ghost use Rattle.ygg_replay_search.specs.Searching.{IsFirstAfter};
 
 use crate::conclusion::Trial;
 use crate::site::Site;
-use std::alloc::Global;
 use ygg_base::Bits;
 use ygg_list::NoMemory;
+use ygg_replay_search::{Test, first_passing};
 use ygg_sched::{Case, Kind};
 use ygg_syntax::tree::{Block, Operation};
 use ygg_syntax_count::choices;
@@ -32,13 +33,25 @@ fn count(block: &Block) -> Result<u64, NoMemory>
     Ok(n)
 }
 
-/// One pick more. Its only error is out of memory.
-fn more_picks(alloc: Global, picks: &[bool], pick: bool) -> Result<Vec<bool>, NoMemory>
-    ensures { IfOk result (λ more. more.items ≡ picks.now ++ pick ∷ []) }
-{
-    let mut more = Vec::from_slice(alloc, picks)?;
-    more.push(pick)?;
-    Ok(more)
+/// A trial, as a test of the lists of picks of which the specification's step may take one.
+#[derive(Drop)]
+struct Trying<'a> {
+    site: &'a Site<'a>,
+    trial: Trial<'a>,
+}
+
+impl Test for Trying<'_> {
+    ghost use Rattle.ygg_replay.specs.Passing.{CanTry, most_asked, passing_asked};
+
+    ghost ready = { λ t. CanTry t.site.now t.trial };
+
+    ghost count = { λ t. most_asked t.site.now t.trial };
+
+    ghost passing = { λ t. passing_asked t.site.now t.trial };
+
+    fn passes(&self, picks: &[bool]) -> Result<bool, NoMemory> {
+        self.site.passes(self.trial, picks)
+    }
 }
 
 impl<'a> Site<'a> {
@@ -68,33 +81,6 @@ impl<'a> Site<'a> {
         }
     }
 
-    /// The first list of picks that begins so, goes on with so many, and passes. Its only error is out of memory.
-    fn first_after(
-        &self,
-        trial: Trial<'_>,
-        left: u64,
-        before: &[bool],
-    ) -> Result<Option<Bits>, NoMemory>
-        requires here { IsHere self.now }
-        requires can { CanConclude self.now trial }
-        requires all { (o : Obligation) → IsOf self.now trial.case o → length before.now + left ≡ most (closed_in self.now) o }
-        ensures { IfOk result (λ found. (o : Obligation) → IsOf self.now trial.entry.case o →
-            IsFirstAfter left (passing self.now trial.entry o) before.now found) }
-    {
-        if left == 0 {
-            if self.passes(trial, before)? {
-                return Ok(Some(Bits::from_slice(self.alloc, before)?));
-            }
-            return Ok(None);
-        }
-        let without = more_picks(self.alloc, before, false)?;
-        if let Some(first) = self.first_after(trial, left - 1, without.as_slice())? {
-            return Ok(Some(first));
-        }
-        let chosen = more_picks(self.alloc, before, true)?;
-        self.first_after(trial, left - 1, chosen.as_slice())
-    }
-
     /// The first list of as many picks as the specification's step takes at most with which the conclusion holds. Its only error is out of
     /// memory.
     pub fn first_passing(&self, trial: Trial<'_>) -> Result<Option<Bits>, NoMemory>
@@ -104,6 +90,7 @@ impl<'a> Site<'a> {
             IsFirstAfter (most (closed_in self.now) o) (passing self.now trial.entry o) [] found) }
     {
         let most = self.most(trial.case)?;
-        self.first_after(trial, most, &[])
+        let trying = Trying { site: self, trial };
+        first_passing(self.alloc, &trying, most)
     }
 }

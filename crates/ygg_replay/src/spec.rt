@@ -18,7 +18,7 @@ use ygg_sched::{Kind, Schedule};
 use ygg_value::{Value, Values};
 
 /// How a step of a specification has ended: its answer, if it gives one, and the specification after it.
-#[derive(Debug, Drop)]
+#[derive(Drop)]
 pub struct Outcome {
     pub answer: Option<Value>,
     pub after: SpecLower,

@@ -45,4 +45,5 @@ pub use reading::read_schedule;
 pub use rest::Rest;
 pub use schedule::{Halt, Run, Schedule};
 pub use value_reading::value_in;
+pub use value_writing::put_value;
 pub use words::{after_front, cut};

@@ -1,4 +1,4 @@
-use Rattle.std.proofs.Common.{◌++◌, Bool, ap, ◌∙◌}
+use Rattle.std.proofs.Common.{◌++◌, Bool, refl, ap, ◌∙◌}
 use Rattle.ygg_eval_lower.specs.Layers.{signatures_at}
 use Rattle.ygg_eval_choices.specs.Bits.{bits_in}
 use Rattle.ygg_eval_choices.proofs.Noting.{if_ok}
@@ -28,4 +28,4 @@ returns c =
     if_ok c.copy-2.result c.copy-2.ensures (λ low' copied.
     fell c.args.typed.now.file c.args.low.now (bits_in c.args.last) c.args.name.now c.args.args.now c.place_of-op.result c.place_of-op.ensures
     c.in_ok-disk.disk c.fall.new.self c.in_ok-power.power c.fall.new.power c.args.picks.now c.note.new.picks low' disk
-    (c.in_ok-power.ensures ∙ ap one_pick c.in_ok-pick.ensures) c.in_ok-fall.ensures.fell c.in_ok-fall.ensures.serves (copied ∙ c.state.ensures) noted)
+    (c.in_ok-power.ensures ∙ ap one_pick c.in_ok-pick.ensures) (c.in_ok-fall.ensures.fell refl) c.in_ok-fall.ensures.serves (copied ∙ c.state.ensures) noted)

@@ -33,7 +33,7 @@ loop-i-preserved g c =
     (subst (λ (z : List Layer). Walked kinds file now.low.now z now.below now.number now.bank now.all)
     (next_layer file.layers c.as_slice-layer-items.result.now now.i c.layer-item.result _ c.as_slice-layer-items.ensures c.loop-i-test.true c.layer-item.is)
     now.invariant) c.as_slice-low.result.now c.in_ok-number.number c.add_layer.new.bank c.add_layer.new.all c.as_slice-low.ensures
-    (record { nodes = e.nodes; terms = e.terms; names = e.names; next_is = e.next; is_bank = e.bank })
+    (record { nodes = e.nodes; terms = e.terms; names = e.names; next_is = e.next; is_bank = e.bank; placed = e.placed })
 
 pub returns : goal.returns
 returns g c =
@@ -41,4 +41,4 @@ returns g c =
     let now = c.loop-i in
     let done = walked_all (g.B.Book.kinds c.args.book.now) file now.low.now (drop now.i file.layers) now.below now.number now.bank now.all
     (drop_of_length-le file.layers (subst (λ (z : List Layer). length z ≤ now.i) c.as_slice-layer-items.ensures c.loop-i-test.false)) now.invariant in
-    record { nodes = done.nodes; terms = done.terms; names = done.names; bank = now.invariant.is_bank }
+    record { nodes = done.nodes; terms = done.terms; names = done.names; placed = done.placed; bank = now.invariant.is_bank }

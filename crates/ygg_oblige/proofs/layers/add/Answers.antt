@@ -1,5 +1,5 @@
-use Rattle.ygg_oblige_parts.specs.Makers.{starting_of}
-use Rattle.ygg_oblige_parts.specs.Steps.{obligation_of}
+use Rattle.ygg_oblige_kinds.specs.Makers.{starting_of}
+use Rattle.ygg_oblige_kinds.specs.Steps.{obligation_of}
 use Rattle.ygg_oblige_kinds.specs.Numbering.{numbers_in}
 use Rattle.ygg_oblige.proofs.Going.{added_one}
 use Rattle.ygg_oblige.proofs.KnownSo.{known_shapes, known_typed}
@@ -22,5 +22,5 @@ returns g c =
     let e = c.in_ok-term.ensures in
     let a = added_one (g.B.Book.kinds m.book.now) m.layer m.below (starting_of c.args.s.now) (obligation_of c.args.asked.obligation) c.args.start
     (numbers_in c.in_ok-n.n) c.args.bank.now c.term.new.bank c.args.all.now c.push.new.self _ c.in_ok-n.ensures e.nodes e.id c.in_ok-name.ensures
-    c.in_ok-push.ensures.ok e.grows e.bank in
-    record { nodes = a.nodes; terms = a.terms; names = a.names; next = a.next_is; grows = a.grows; bank = a.is_bank }
+    c.len-listed.ensures c.requires.placed c.in_ok-push.ensures.ok e.grows e.bank in
+    record { nodes = a.nodes; terms = a.terms; names = a.names; next = a.next_is; grows = a.grows; bank = a.is_bank; placed = a.placed }

@@ -3,9 +3,9 @@ use Rattle.ygg_bank.specs.Inputs.{InputsBelow}
 use Rattle.ygg_bank.specs.Makes.{Out}
 use Rattle.ygg_bank.specs.declared.node.Id.{Id}
 use Rattle.ygg_meaning.specs.Obligations.{Obligation}
-use Rattle.ygg_oblige_parts.specs.Makers.{starting_of}
+use Rattle.ygg_oblige_kinds.specs.Makers.{starting_of}
 use Rattle.ygg_oblige.specs.Adding.{names_of}
-use Rattle.ygg_oblige.specs.Listing.{asked_in}
+use Rattle.ygg_oblige_list.specs.Listing.{asked_in}
 use Rattle.ygg_oblige.specs.Obligations as listed
 use Rattle.ygg_oblige.proofs.Begun.{after_is, layer_is, layer_known}
 use Rattle.ygg_oblige.proofs.layers.add_layer.Goals as goal

@@ -110,3 +110,13 @@ returns-clause-id g c =
     c.block_of.result.now (block_of L o) c.arguments_of.result.now (arguments_of o) e.fallen e.reached c.in_ok-hypothesis.hypothesis c.cut.new.bank
     c.join.new.bank (c.block_of.ensures L refl) c.arguments_of.ensures c.in_ok-left.ensures.end.fallen c.in_ok-left.ensures.end.reached
     c.in_ok-left.ensures.nodes c.in_ok-hypothesis.ensures.id c.in_ok-hypothesis.ensures.nodes) c.recovers.ensures.id
+
+pub returns-in_err-hypothesis-clause-grows : goal.returns-in_err-hypothesis-clause-grows
+returns-in_err-hypothesis-clause-grows g c =
+    extends_both c.args.bank.now c.cut.new.bank c.join.new.bank c.cut.ensures.grows c.join.ensures.grows
+
+pub returns-clause-grows : goal.returns-clause-grows
+returns-clause-grows g c =
+    extends_both c.args.bank.now c.cut.new.bank c.recovers.new.bank c.cut.ensures.grows
+    (extends_both c.cut.new.bank c.join.new.bank c.recovers.new.bank c.join.ensures.grows
+    c.recovers.ensures.grows)

@@ -14,6 +14,7 @@ use Rattle.ygg_sym_laws.specs.Below.{lows_at_start, run_made, zeros_made}
 use Rattle.ygg_oblige_parts.specs.Passing.{some_in}
 use Rattle.ygg_oblige_kinds.proofs.Alike.{no_values}
 use Rattle.ygg_oblige_kinds.proofs.Chains.{formats_from}
+use Rattle.ygg_bank.proofs.Widths.{extends_both}
 use Rattle.ygg_oblige_kinds.proofs.terms.formats.Goals as goal
 
 pub low_at_start-requires-clause-below : goal.low_at_start-requires-clause-below
@@ -87,3 +88,20 @@ returns-clause-id g c =
     e.answer e.memory e.low c.low_at_start.new.bank c.zeros.new.bank c.run.new.bank c.as_slice.ensures c.in_ok-low.ensures.form c.in_ok-low.ensures.nodes
     c.in_ok-memory.ensures.form c.in_ok-memory.ensures.nodes c.new-none.ensures c.in_ok-end.ensures.end.answer c.in_ok-end.ensures.end.memory
     c.in_ok-end.ensures.end.low c.in_ok-end.ensures.nodes) c.passes_after.ensures.id
+
+pub returns-in_err-memory-clause-grows : goal.returns-in_err-memory-clause-grows
+returns-in_err-memory-clause-grows g c =
+    extends_both c.args.bank.now c.low_at_start.new.bank c.zeros.new.bank c.low_at_start.ensures.grows c.zeros.ensures.grows
+
+pub returns-in_err-end-clause-grows : goal.returns-in_err-end-clause-grows
+returns-in_err-end-clause-grows g c =
+    extends_both c.args.bank.now c.low_at_start.new.bank c.run.new.bank c.low_at_start.ensures.grows
+    (extends_both c.low_at_start.new.bank c.zeros.new.bank c.run.new.bank c.zeros.ensures.grows
+    c.run.ensures.grows)
+
+pub returns-clause-grows : goal.returns-clause-grows
+returns-clause-grows g c =
+    extends_both c.args.bank.now c.low_at_start.new.bank c.passes_after.new.bank c.low_at_start.ensures.grows
+    (extends_both c.low_at_start.new.bank c.zeros.new.bank c.passes_after.new.bank c.zeros.ensures.grows
+    (extends_both c.zeros.new.bank c.run.new.bank c.passes_after.new.bank c.run.ensures.grows
+    c.passes_after.ensures.grows))

@@ -1,5 +1,5 @@
 use Rattle.std.proofs.Common.{◌≡◌, OnOk, IfOk, subst}
-use Rattle.ygg_bank.proofs.Widths.{wider}
+use Rattle.ygg_bank.proofs.Widths.{extends_both, wider}
 use Rattle.ygg_bank.specs.Makes.{Out}
 use Rattle.ygg_bank.specs.declared.node.Id.{Id}
 use Rattle.ygg_sym_below.proofs.Lows.{low_wider}
@@ -67,3 +67,7 @@ returns-clause-id g c =
     (without_from (lost_made kinds (terms_in kinds l) (below_in below) c.args.n.last s.from.low c.args.bank.now)
     (λ fallen none. recovers kinds (terms_in kinds l) L (below_in below) Idle (numbers_in c.args.n) s.related s.from.vars none fallen) c.in_ok-fallen.fallen
     c.new-none.result c.lost.new.bank c.in_ok-fallen.ensures.form c.new-none.ensures c.in_ok-fallen.ensures.nodes) c.recovers.ensures.id
+
+pub returns-clause-grows : goal.returns-clause-grows
+returns-clause-grows g c =
+    extends_both c.args.bank.now c.lost.new.bank c.recovers.new.bank c.lost.ensures.grows c.recovers.ensures.grows

@@ -14,6 +14,7 @@ use Rattle.ygg_sym.specs.Running.{EndIs}
 use Rattle.ygg_oblige_terms.specs.Terms.{Finish}
 use Rattle.ygg_oblige_kinds.proofs.Alike.{no_values}
 use Rattle.ygg_oblige_kinds.proofs.Chains.{zeros_from}
+use Rattle.ygg_bank.proofs.Widths.{extends_both}
 use Rattle.ygg_oblige_kinds.proofs.terms.recovered.Goals as goal
 
 pub zeros-requires : goal.zeros-requires
@@ -63,3 +64,7 @@ returns-clause-end g c =
 pub returns-clause-single : goal.returns-clause-single
 returns-clause-single g c =
     single_then c.args.bank.now c.zeros.new.bank c.run.new.bank c.run.result c.in_ok-memory.ensures.single c.run.ensures.single
+
+pub returns-clause-grows : goal.returns-clause-grows
+returns-clause-grows g c =
+    extends_both c.args.bank.now c.zeros.new.bank c.run.new.bank c.zeros.ensures.grows c.run.ensures.grows

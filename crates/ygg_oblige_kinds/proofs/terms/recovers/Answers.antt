@@ -92,3 +92,28 @@ returns-clause-id g c =
     c.in_ok-end.ensures.end.answer c.in_ok-end.ensures.end.memory c.in_ok-end.ensures.end.low c.in_ok-end.ensures.nodes c.in_ok-side.ensures.id
     c.in_ok-side.ensures.nodes c.in_ok-some.ensures.id c.in_ok-some.ensures.nodes c.in_ok-conclusion.ensures.id c.in_ok-conclusion.ensures.nodes)
     c.join-2.ensures.id
+
+pub returns-in_err-side-clause-grows : goal.returns-in_err-side-clause-grows
+returns-in_err-side-clause-grows g c =
+    extends_both c.args.bank.now c.recovered.new.bank c.settled.new.bank c.recovered.ensures.grows c.settled.ensures.grows
+
+pub returns-in_err-some-clause-grows : goal.returns-in_err-some-clause-grows
+returns-in_err-some-clause-grows g c =
+    extends_both c.args.bank.now c.recovered.new.bank c.passes_after.new.bank c.recovered.ensures.grows
+    (extends_both c.recovered.new.bank c.settled.new.bank c.passes_after.new.bank c.settled.ensures.grows
+    c.passes_after.ensures.grows)
+
+pub returns-in_err-conclusion-clause-grows : goal.returns-in_err-conclusion-clause-grows
+returns-in_err-conclusion-clause-grows g c =
+    extends_both c.args.bank.now c.recovered.new.bank c.join.new.bank c.recovered.ensures.grows
+    (extends_both c.recovered.new.bank c.settled.new.bank c.join.new.bank c.settled.ensures.grows
+    (extends_both c.settled.new.bank c.passes_after.new.bank c.join.new.bank c.passes_after.ensures.grows
+    c.join.ensures.grows))
+
+pub returns-clause-grows : goal.returns-clause-grows
+returns-clause-grows g c =
+    extends_both c.args.bank.now c.recovered.new.bank c.join-2.new.bank c.recovered.ensures.grows
+    (extends_both c.recovered.new.bank c.settled.new.bank c.join-2.new.bank c.settled.ensures.grows
+    (extends_both c.settled.new.bank c.passes_after.new.bank c.join-2.new.bank c.passes_after.ensures.grows
+    (extends_both c.passes_after.new.bank c.join.new.bank c.join-2.new.bank c.join.ensures.grows
+    c.join-2.ensures.grows)))

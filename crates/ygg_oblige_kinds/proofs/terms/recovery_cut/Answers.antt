@@ -15,6 +15,7 @@ use Rattle.ygg_sym_laws.specs.Below.{cut_made, zeros_made}
 use Rattle.ygg_sym.specs.Running.{CutIs}
 use Rattle.ygg_oblige_kinds.proofs.Alike.{no_values}
 use Rattle.ygg_oblige_kinds.proofs.Chains.{zeros_from}
+use Rattle.ygg_bank.proofs.Widths.{extends_both}
 use Rattle.ygg_oblige_kinds.proofs.terms.recovery_cut.Goals as goal
 
 pub zeros-requires : goal.zeros-requires
@@ -64,3 +65,7 @@ returns-clause-end g c =
 pub returns-clause-single : goal.returns-clause-single
 returns-clause-single g c =
     single_then c.args.bank.now c.zeros.new.bank c.cut.new.bank c.cut.result c.in_ok-memory.ensures.single c.cut.ensures.single
+
+pub returns-clause-grows : goal.returns-clause-grows
+returns-clause-grows g c =
+    extends_both c.args.bank.now c.zeros.new.bank c.cut.new.bank c.zeros.ensures.grows c.cut.ensures.grows

@@ -1,5 +1,5 @@
 use Rattle.std.proofs.Common.{◌≡◌, List, OnOk, IfOk, refl, sym, subst}
-use Rattle.ygg_bank.proofs.Widths.{wider}
+use Rattle.ygg_bank.proofs.Widths.{extends_both, wider}
 use Rattle.ygg_bank.specs.Makes.{Out}
 use Rattle.ygg_bank.specs.declared.node.Id.{Id}
 use Rattle.ygg_syntax.specs.declared.tree.Declared.{Declared}
@@ -99,3 +99,13 @@ returns-clause-id g c =
     c.arguments_of.result.now (arguments_of o) e.answer e.memory e.low c.in_ok-some.some c.run.new.bank c.passes_after.new.bank
     (c.block_of.ensures L refl) c.arguments_of.ensures c.in_ok-end.ensures.end.answer c.in_ok-end.ensures.end.memory c.in_ok-end.ensures.end.low
     c.in_ok-end.ensures.nodes c.in_ok-some.ensures.id c.in_ok-some.ensures.nodes) c.join.ensures.id
+
+pub returns-in_err-some-clause-grows : goal.returns-in_err-some-clause-grows
+returns-in_err-some-clause-grows g c =
+    extends_both c.args.bank.now c.run.new.bank c.passes_after.new.bank c.run.ensures.grows c.passes_after.ensures.grows
+
+pub returns-clause-grows : goal.returns-clause-grows
+returns-clause-grows g c =
+    extends_both c.args.bank.now c.run.new.bank c.join.new.bank c.run.ensures.grows
+    (extends_both c.run.new.bank c.passes_after.new.bank c.join.new.bank c.passes_after.ensures.grows
+    c.join.ensures.grows)

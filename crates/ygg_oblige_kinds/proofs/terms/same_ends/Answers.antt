@@ -1,5 +1,5 @@
 use Rattle.std.proofs.Common.{◌≡◌, OnOk, IfOk, subst}
-use Rattle.ygg_bank.proofs.Widths.{wider}
+use Rattle.ygg_bank.proofs.Widths.{extends_both, wider}
 use Rattle.ygg_bank.specs.Makes.{Out}
 use Rattle.ygg_bank.specs.declared.node.Id.{Id}
 use Rattle.ygg_sym_below.proofs.Lows.{low_wider}
@@ -45,3 +45,13 @@ returns-clause-id g c =
     c.as_slice-3.ensures c.as_slice-4.ensures c.in_ok-memories.memories c.in_ok-bases.bases c.all_equal.new.bank c.all_equal-2.new.bank
     c.in_ok-memories.ensures.id c.in_ok-memories.ensures.nodes
     c.in_ok-bases.ensures.id c.in_ok-bases.ensures.nodes) c.join.ensures.id
+
+pub returns-in_err-bases-clause-grows : goal.returns-in_err-bases-clause-grows
+returns-in_err-bases-clause-grows g c =
+    extends_both c.args.bank.now c.all_equal.new.bank c.all_equal-2.new.bank c.all_equal.ensures.grows c.all_equal-2.ensures.grows
+
+pub returns-clause-grows : goal.returns-clause-grows
+returns-clause-grows g c =
+    extends_both c.args.bank.now c.all_equal.new.bank c.join.new.bank c.all_equal.ensures.grows
+    (extends_both c.all_equal.new.bank c.all_equal-2.new.bank c.join.new.bank c.all_equal-2.ensures.grows
+    c.join.ensures.grows)

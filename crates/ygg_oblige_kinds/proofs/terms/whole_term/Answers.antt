@@ -12,6 +12,7 @@ use Rattle.ygg_oblige_kinds.specs.Numbering.{numbers_in}
 use Rattle.ygg_oblige_kinds.specs.Parts.{runs_through_in}
 use Rattle.ygg_oblige_kinds.proofs.Begun.{can_oblige, room}
 use Rattle.ygg_oblige_kinds.proofs.Chains.{args_from}
+use Rattle.ygg_bank.proofs.Widths.{extends_both}
 use Rattle.ygg_oblige_kinds.proofs.terms.whole_term.Goals as goal
 
 pub fresh-requires-clause-kept : goal.fresh-requires-clause-kept
@@ -59,3 +60,7 @@ returns-clause-id g c =
     (runs_through_in kinds l below o (numbers_in c.args.n) s) c.in_ok-args.args c.args.bank.now c.fresh.new.bank c.arguments_of.ensures
     c.in_ok-args.ensures.form
     c.in_ok-args.ensures.nodes) c.runs_through.ensures.id
+
+pub returns-clause-grows : goal.returns-clause-grows
+returns-clause-grows g c =
+    extends_both c.args.bank.now c.fresh.new.bank c.runs_through.new.bank c.fresh.ensures.grows c.runs_through.ensures.grows

@@ -7,6 +7,7 @@ use Rattle.ygg_sym_runs.proofs.Zeros.{single_kept}
 use Rattle.ygg_oblige_terms.specs.States.{all_compared}
 use Rattle.ygg_oblige_pieces.proofs.Compares.{same_keeps}
 use Rattle.ygg_oblige_parts.proofs.Compared.{compared_from}
+use Rattle.ygg_bank.proofs.Widths.{extends_both}
 use Rattle.ygg_oblige_parts.proofs.comparing.all_equal.Goals as goal
 
 pub returns-clause-nodes : goal.returns-clause-nodes
@@ -26,3 +27,7 @@ returns-clause-single g c =
     let kinds = g.B.Book.kinds c.args.book.now in
     single_kept c.args.bank.now c.all.new.bank (all_compared kinds c.args.one.now c.args.two.now c.args.bank.now).nodes c.all.result
     (returns-clause-nodes g c) (λ first h. same_keeps kinds (SingleFrom first) (single_stays kinds first) c.args.one.now c.args.two.now c.args.bank.now h)
+
+pub returns-clause-grows : goal.returns-clause-grows
+returns-clause-grows g c =
+    extends_both c.args.bank.now c.equals.new.bank c.all.new.bank c.equals.ensures.grows c.all.ensures.grows

@@ -37,3 +37,11 @@ loop-place-preserved g c =
       grows = extends_both c.args.bank.now c.loop-place.bank c.equal.new.bank c.loop-place.invariant.grows c.equal.ensures.grows;
       bank = c.equal.ensures.bank;
     }
+
+pub returns-in_err-id-clause-grows : goal.returns-in_err-id-clause-grows
+returns-in_err-id-clause-grows g c =
+    extends_both c.args.bank.now c.loop-place.bank c.equal.new.bank c.loop-place.invariant.grows c.equal.ensures.grows
+
+pub returns-in_err-push-clause-grows : goal.returns-in_err-push-clause-grows
+returns-in_err-push-clause-grows g c =
+    extends_both c.args.bank.now c.loop-place.bank c.equal.new.bank c.loop-place.invariant.grows c.equal.ensures.grows

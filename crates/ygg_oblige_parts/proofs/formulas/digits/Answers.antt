@@ -31,3 +31,9 @@ loop-e-preserved g c =
       grows = extends_both old c.loop-e.bank new c.loop-e.invariant.grows c.digit.ensures.grows;
       bank = c.digit.ensures.bank;
     }
+
+pub returns-in_err-id-clause-grows : goal.returns-in_err-id-clause-grows
+returns-in_err-id-clause-grows g c = extends_both c.args.bank.now c.loop-e.bank c.digit.new.bank c.loop-e.invariant.grows c.digit.ensures.grows
+
+pub returns-in_err-push-clause-grows : goal.returns-in_err-push-clause-grows
+returns-in_err-push-clause-grows g c = extends_both c.args.bank.now c.loop-e.bank c.digit.new.bank c.loop-e.invariant.grows c.digit.ensures.grows

@@ -31,7 +31,8 @@ returns-then-left-count g c =
     let now = c.loop-i in
     let s = c.in_ok-site.site in
     placed kinds file c.args.place s (found_there kinds file c.args.place _ _ (drop (now.i + 1) file.layers) now.i now.number now.left _ s c.in_ok-site.ensures
-    c.in_ok-layer_number.ensures c.as_slice.ensures (subst (λ (z : List Layer). Walked kinds file c.args.place now.low.now z now.i now.below now.number now.left)
+    c.in_ok-layer_number.ensures c.as_slice.ensures
+    (subst (λ (z : List Layer). Walked kinds file c.args.place now.low.now z now.i now.below now.number now.left)
     (next_layer file.layers c.as_slice-layer-items.result.now now.i c.layer-item.result _ c.as_slice-layer-items.ensures c.loop-i-test.true c.layer-item.is)
     now.invariant))
 

@@ -1,5 +1,5 @@
 use Rattle.std.proofs.Common.{◌≡◌, ◌-◌, ◌∙◌, suc, OnOk, IfOk, rules, subst, arith}
-use Rattle.ygg_bank.proofs.Widths.{wider}
+use Rattle.ygg_bank.proofs.Widths.{extends_both, wider}
 use Rattle.ygg_bank.specs.Makes.{Make, Out}
 use Rattle.ygg_bank.specs.declared.node.Id.{Id}
 use Rattle.ygg_sym_runs.proofs.Zeros.{single_both, single_then}
@@ -54,3 +54,13 @@ pub returns-clause-single : goal.returns-clause-single
 returns-clause-single g t c =
     single_then c.args.bank.now c.some_after-2.new.bank c.join.new.bank c.join.result
     (single_both c.args.bank.now c.some_after.new.bank c.some_after-2.new.bank c.in_ok-one.ensures.single c.in_ok-two.ensures.single) c.join.ensures.single
+
+pub returns-in_err-two-clause-grows : goal.returns-in_err-two-clause-grows
+returns-in_err-two-clause-grows g t c =
+    extends_both c.args.bank.now c.some_after.new.bank c.some_after-2.new.bank c.some_after.ensures.grows c.some_after-2.ensures.grows
+
+pub returns-clause-grows : goal.returns-clause-grows
+returns-clause-grows g t c =
+    extends_both c.args.bank.now c.some_after.new.bank c.join.new.bank c.some_after.ensures.grows
+    (extends_both c.some_after.new.bank c.some_after-2.new.bank c.join.new.bank c.some_after-2.ensures.grows
+    c.join.ensures.grows)

@@ -18,3 +18,19 @@ returns-clause-shape g c =
       memory = low_wider two three l.memory c.in_ok-memory.memory c.fresh-3.ensures.grows memory;
       low = c.in_ok-low.ensures.shape;
     }
+
+pub returns-in_err-memory-clause-grows : goal.returns-in_err-memory-clause-grows
+returns-in_err-memory-clause-grows g c =
+    extends_both c.args.bank.now c.fresh.new.bank c.fresh-2.new.bank c.fresh.ensures.grows c.fresh-2.ensures.grows
+
+pub returns-in_err-low-clause-grows : goal.returns-in_err-low-clause-grows
+returns-in_err-low-clause-grows g c =
+    extends_both c.args.bank.now c.fresh.new.bank c.fresh-3.new.bank c.fresh.ensures.grows
+    (extends_both c.fresh.new.bank c.fresh-2.new.bank c.fresh-3.new.bank c.fresh-2.ensures.grows
+    c.fresh-3.ensures.grows)
+
+pub returns-clause-grows : goal.returns-clause-grows
+returns-clause-grows g c =
+    extends_both c.args.bank.now c.fresh.new.bank c.fresh-3.new.bank c.fresh.ensures.grows
+    (extends_both c.fresh.new.bank c.fresh-2.new.bank c.fresh-3.new.bank c.fresh-2.ensures.grows
+    c.fresh-3.ensures.grows)

@@ -88,3 +88,20 @@ returns-clause-single g c =
     single_then old three c.join.new.bank c.join.result
     (single_both old two three (single_both old one two c.in_ok-done.ensures.single c.in_ok-same.ensures.single) c.in_ok-related.ensures.single)
     c.join.ensures.single
+
+pub returns-in_err-same-clause-grows : goal.returns-in_err-same-clause-grows
+returns-in_err-same-clause-grows g c =
+    extends_both c.args.bank.now c.outcome.new.bank c.same.new.bank c.outcome.ensures.grows c.same.ensures.grows
+
+pub returns-in_err-related-clause-grows : goal.returns-in_err-related-clause-grows
+returns-in_err-related-clause-grows g c =
+    extends_both c.args.bank.now c.outcome.new.bank c.related.new.bank c.outcome.ensures.grows
+    (extends_both c.outcome.new.bank c.same.new.bank c.related.new.bank c.same.ensures.grows
+    c.related.ensures.grows)
+
+pub returns-clause-grows : goal.returns-clause-grows
+returns-clause-grows g c =
+    extends_both c.args.bank.now c.outcome.new.bank c.join.new.bank c.outcome.ensures.grows
+    (extends_both c.outcome.new.bank c.same.new.bank c.join.new.bank c.same.ensures.grows
+    (extends_both c.same.new.bank c.related.new.bank c.join.new.bank c.related.ensures.grows
+    c.join.ensures.grows))

@@ -2,7 +2,7 @@ use Rattle.std.proofs.Common.{◌≡◌, ◌∷◌, List, All, OnOk, IfOk, sym, 
 use Rattle.std.proofs.lemmas.List.Elements.{All-head, All-tail}
 use Rattle.ygg_syntax.specs.declared.tree.Expr.{Expr}
 use Rattle.ygg_meaning.specs.Related.{relations}
-use Rattle.ygg_bank.proofs.Widths.{wider}
+use Rattle.ygg_bank.proofs.Widths.{extends_both, wider}
 use Rattle.ygg_bank.specs.Makes.{Out}
 use Rattle.ygg_bank.specs.declared.node.Id.{Id}
 use Rattle.ygg_sym_expr.specs.Seen.{SymKnown, env_of, known_of}
@@ -58,3 +58,13 @@ returns-clause-id g c =
     c.in_ok-first.ensures.form c.in_ok-first.ensures.nodes c.in_ok-rest.ensures.id c.in_ok-rest.ensures.nodes
     ∙ ap (λ (es : List Expr). truths_in kinds k (e ∷ es) old) c.as_slice-always.ensures
     ∙ ap (λ (k : SymKnown). truths_in kinds k (relations (closed l)) old) c.new-evaluator.ensures) c.join.ensures.id
+
+pub returns-in_err-rest-clause-grows : goal.returns-in_err-rest-clause-grows
+returns-in_err-rest-clause-grows g c =
+    extends_both c.args.bank.now c.digit.new.bank c.truths.new.bank c.digit.ensures.grows c.truths.ensures.grows
+
+pub returns-clause-grows : goal.returns-clause-grows
+returns-clause-grows g c =
+    extends_both c.args.bank.now c.digit.new.bank c.join.new.bank c.digit.ensures.grows
+    (extends_both c.digit.new.bank c.truths.new.bank c.join.new.bank c.truths.ensures.grows
+    c.join.ensures.grows)

@@ -23,3 +23,41 @@ returns-clause-form g c =
     (trio_of c.in_ok-from.from) c.in_ok-settled_low.settled_low c.in_ok-related.ensures.id c.in_ok-related.ensures.nodes c.in_ok-known.ensures.form
     c.in_ok-known.ensures.nodes c.in_ok-settled.ensures.id c.in_ok-settled.ensures.nodes c.in_ok-settling.ensures.form c.in_ok-from.ensures
     c.in_ok-settled_low.ensures
+
+pub returns-in_err-known-clause-grows : goal.returns-in_err-known-clause-grows
+returns-in_err-known-clause-grows g c =
+    extends_both c.args.bank.now c.related.new.bank c.facts.new.bank c.related.ensures.grows c.facts.ensures.grows
+
+pub returns-in_err-settled-clause-grows : goal.returns-in_err-settled-clause-grows
+returns-in_err-settled-clause-grows g c =
+    extends_both c.args.bank.now c.related.new.bank c.settled.new.bank c.related.ensures.grows
+    (extends_both c.related.new.bank c.facts.new.bank c.settled.new.bank c.facts.ensures.grows
+    c.settled.ensures.grows)
+
+pub returns-in_err-settling-clause-grows : goal.returns-in_err-settling-clause-grows
+returns-in_err-settling-clause-grows g c =
+    extends_both c.args.bank.now c.related.new.bank c.facts-2.new.bank c.related.ensures.grows
+    (extends_both c.related.new.bank c.facts.new.bank c.facts-2.new.bank c.facts.ensures.grows
+    (extends_both c.facts.new.bank c.settled.new.bank c.facts-2.new.bank c.settled.ensures.grows
+    c.facts-2.ensures.grows))
+
+pub returns-in_err-from-clause-grows : goal.returns-in_err-from-clause-grows
+returns-in_err-from-clause-grows g c =
+    extends_both c.args.bank.now c.related.new.bank c.facts-2.new.bank c.related.ensures.grows
+    (extends_both c.related.new.bank c.facts.new.bank c.facts-2.new.bank c.facts.ensures.grows
+    (extends_both c.facts.new.bank c.settled.new.bank c.facts-2.new.bank c.settled.ensures.grows
+    c.facts-2.ensures.grows))
+
+pub returns-in_err-settled_low-clause-grows : goal.returns-in_err-settled_low-clause-grows
+returns-in_err-settled_low-clause-grows g c =
+    extends_both c.args.bank.now c.related.new.bank c.facts-2.new.bank c.related.ensures.grows
+    (extends_both c.related.new.bank c.facts.new.bank c.facts-2.new.bank c.facts.ensures.grows
+    (extends_both c.facts.new.bank c.settled.new.bank c.facts-2.new.bank c.settled.ensures.grows
+    c.facts-2.ensures.grows))
+
+pub returns-clause-grows : goal.returns-clause-grows
+returns-clause-grows g c =
+    extends_both c.args.bank.now c.related.new.bank c.facts-2.new.bank c.related.ensures.grows
+    (extends_both c.related.new.bank c.facts.new.bank c.facts-2.new.bank c.facts.ensures.grows
+    (extends_both c.facts.new.bank c.settled.new.bank c.facts-2.new.bank c.settled.ensures.grows
+    c.facts-2.ensures.grows))

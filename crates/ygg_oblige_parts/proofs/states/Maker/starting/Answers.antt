@@ -9,6 +9,7 @@ use Rattle.ygg_oblige_pieces.proofs.Starting.{states_mean}
 use Rattle.ygg_oblige_parts.specs.Makers.{StartingShaped, starting_of, trio_of}
 use Rattle.ygg_oblige_parts.specs.declared.states.SymStarting.{SymStarting}
 use Rattle.ygg_oblige_parts.proofs.Started.{starting_from, starting_stands}
+use Rattle.ygg_bank.proofs.Widths.{extends_both}
 use Rattle.ygg_oblige_parts.proofs.states.Maker.starting.Goals as goal
 
 pub returns-clause-nodes : goal.returns-clause-nodes
@@ -45,3 +46,7 @@ returns-clause-inputs g c =
     c.started.result (returns-clause-nodes g c)
     (let m = states_mean kinds l.defs.now (below_in c.args.self.now.below) L c.requires.layer in
     m.starting_below c.args.number c.args.bank.now c.requires.below)
+
+pub returns-clause-grows : goal.returns-clause-grows
+returns-clause-grows g c =
+    extends_both c.args.bank.now c.fresh_trio.new.bank c.started.new.bank c.fresh_trio.ensures.grows c.started.ensures.grows

@@ -15,7 +15,8 @@ pub returns-in-None : goal.returns-in-None
 returns-in-None c =
     let r = c.args.self.now in
     let fell = subst (λ (f : Option Fallen). FallsHere r c.args.block c.args.args.now c.args.memory c.args.low f) c.in-None.is c.in_ok-fallen.ensures in
-    λ b is. no_parts r c.args.block c.args.args.now c.args.memory c.args.low b _ _ refl (fell r.site.layer.now b is) refl c.no_picks.ensures c.no_picks-in-None.ensures
+    λ b is. no_parts r c.args.block c.args.args.now c.args.memory c.args.low b _ _ refl (fell r.site.layer.now b is) refl
+    c.no_picks.ensures c.no_picks-in-None.ensures
 
 pub returns-in-Some : goal.returns-in-Some
 returns-in-Some c =

@@ -30,5 +30,6 @@ returns c =
     let picks =
     picks_are r _ c.none.result c.in_ok-memory.memory c.in_ok-low.low (zeros_of l.memory) (low_at_start (below_of r)) refl c.in_ok-memory.ensures.is
     c.in_ok-low.ensures.is l.format (record { layer = c.requires.here.here; block = refl }) _ c.in_ok-picks.picks c.in_ok-picks.ensures in
-    read_so r want _ c.in_ok-name.ensures (has_none r _ _ _ want c.none-2.ensures c.none-3.ensures c.none-4.ensures refl refl refl) c.none-5.ensures tt refl picks
+    read_so r want _ c.in_ok-name.ensures (has_none r _ _ _ want c.none-2.ensures c.none-3.ensures c.none-4.ensures refl refl refl)
+    c.none-5.ensures tt refl picks
     c.no_picks.ensures c.no_picks-2.ensures

@@ -14,7 +14,8 @@ values-requires-clause-fit c =
     let r = c.args.self.now in
     let l = r.site.layer.now in
     let from : c.in_ok-from.from ≡ r.site.states + words_in l.state + words_in l.memory =
-    c.in_ok-from.ensures ∙ ap (λ n. n + c.in_ok-memory.memory) (c.in_ok-after_state.ensures ∙ ap (λ n. r.site.states + n) (c.in_ok-state.ensures ∙ ap words_in c.as_slice.ensures))
+    c.in_ok-from.ensures
+    ∙ ap (λ n. n + c.in_ok-memory.memory) (c.in_ok-after_state.ensures ∙ ap (λ n. r.site.states + n) (c.in_ok-state.ensures ∙ ap words_in c.as_slice.ensures))
     ∙ ap (λ n. r.site.states + words_in l.state + n) (c.in_ok-memory.ensures ∙ ap words_in c.as_slice-2.ensures) in
     fits_at (inputs_of r) r.site.low.now _ c.in_ok-from.from _ c.requires.here.low_is from c.requires.fit
 
@@ -28,7 +29,8 @@ returns-clause-is c =
     let l = r.site.layer.now in
     let low = variables_at (file_of r) r.site.place in
     let from : c.in_ok-from.from ≡ r.site.states + words_in l.state + words_in l.memory =
-    c.in_ok-from.ensures ∙ ap (λ n. n + c.in_ok-memory.memory) (c.in_ok-after_state.ensures ∙ ap (λ n. r.site.states + n) (c.in_ok-state.ensures ∙ ap words_in c.as_slice.ensures))
+    c.in_ok-from.ensures
+    ∙ ap (λ n. n + c.in_ok-memory.memory) (c.in_ok-after_state.ensures ∙ ap (λ n. r.site.states + n) (c.in_ok-state.ensures ∙ ap words_in c.as_slice.ensures))
     ∙ ap (λ n. r.site.states + words_in l.state + n) (c.in_ok-memory.ensures ∙ ap words_in c.as_slice-2.ensures) in
     ap (λ (ds : List Declared). bind ds c.in_ok-low.low) (sym c.requires.here.low_is) ∙ c.in_ok-low.ensures.bound
     ∙ ap (λ (ds : List Declared). given_env (inputs_of r) c.in_ok-from.from ds) c.requires.here.low_is ∙ ap (λ n. given_env (inputs_of r) n low) from

@@ -4,7 +4,7 @@ use Rattle.ygg_meaning.specs.Obligations.{Init, CallOf, CutOf, TickOf, CutTickOf
 use Rattle.ygg_meaning.specs.Obligations as meaning
 use Rattle.ygg_meaning.specs.Shapes.{values_fit}
 use Rattle.ygg_oblige_terms.specs.Layers.{ShapesKept}
-use Rattle.ygg_oblige_parts.specs.Steps.{obligation_of}
+use Rattle.ygg_oblige_places.specs.Sites.{obligation_of}
 use Rattle.ygg_oblige_given.specs.Tables.{given_values}
 use Rattle.ygg_eval_choices.proofs.Noting.{if_ok}
 use Rattle.ygg_oblige_reading.specs.Here.{inputs_of, numbers_of}
@@ -98,7 +98,8 @@ again-requires-clause-fit c = shaped_at c.args.self.now c.requires.stands Again 
 pub returns-in-Init : goal.returns-in-Init
 returns-in-Init c =
     let r = c.args.self.now in
-    subst (λ (w : meaning.Schedule). IfOk c.formatting.result (IsRead r w)) (named_at r c.requires.stands Init (ap obligation_of c.in-Init.is)) c.formatting.ensures
+    subst (λ (w : meaning.Schedule). IfOk c.formatting.result (IsRead r w)) (named_at r c.requires.stands Init (ap obligation_of c.in-Init.is))
+    c.formatting.ensures
 
 pub returns-in_ok-args-in-Call : goal.returns-in_ok-args-in-Call
 returns-in_ok-args-in-Call c =

@@ -1,7 +1,0 @@
-use Rattle.std.proofs.Common.{◌≡◌, ◌++◌, drop}
-use Rattle.ygg_oblige.specs.Listing.{asked_in, ticks_of}
-use Rattle.ygg_oblige.proofs.listing.add_ticks.Given as goal
-
--- those so far, and then those of what is left
-abbrev pub invariant-loop-i : goal.invariant-loop-i
-invariant-loop-i l = asked_in l.list.items ++ ticks_of (drop l.i l.ticks) ≡ asked_in l.initial.list.items ++ ticks_of l.ticks

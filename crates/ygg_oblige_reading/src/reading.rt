@@ -1,0 +1,70 @@
+//! The schedule that an environment names for an obligation of a file.
+
+ghost use Rattle.std.specs.Prelude.{◌<◌, ◌^◌, IfOk, IfSome, length};
+ghost use Rattle.ygg_bank.specs.Values.{InputsFit, inputs_of};
+ghost use Rattle.ygg_histories.specs.Claims.{claims_of};
+ghost use Rattle.ygg_oblige_reading.specs.Fitted.{IsFitted};
+ghost use Rattle.ygg_oblige_reading.specs.Meant.{FitsTerms, IsExactly, IsMadeIn, IsNamed, ViolatesAtZero};
+
+use crate::reader::Reader;
+use std::alloc::Global;
+use ygg_bank::{Bank, Env};
+use ygg_list::NoMemory;
+use ygg_oblige_given::InputTable;
+use ygg_oblige_places::{Obligation, site_at, tables};
+use ygg_rules::Book;
+use ygg_sched::Schedule;
+use ygg_type::Typed;
+
+/// The schedule that an environment names for the obligation at a place in the file's list: the values of its inputs, and the picks, as many as the runs
+/// take and in the order in which they take them. Its only error is out of memory.
+pub fn schedule_at<B: Book>(
+    alloc: Global,
+    typed: &Typed,
+    place: usize,
+    env: &Env,
+    book: &B,
+) -> Result<Schedule, NoMemory>
+    requires there { place < length (claims_of typed.now.file) }
+    requires fit { FitsTerms (B.kinds book.now) typed.now.file (inputs_of env.now) }
+    // It has the obligation's name, and means the schedule that the environment names.
+    ensures named { IfOk result (IsNamed (B.kinds book.now) typed.now.file (inputs_of env.now) place) }
+    // It violates the obligation exactly where the term that is made of it is 0 in the environment.
+    ensures exact { IfOk result (IsExactly (B.kinds book.now) typed.now.file (inputs_of env.now) place) }
+    // It has a value of its type for each variable that has a line in the schedule's text, and nothing for which there is no line.
+    ensures fits { IfOk result (IsFitted typed.now.file place) }
+    // The number in its stop can be printed and read again.
+    ensures bounded { IfOk result (λ x. IfSome x.stop (λ h. h.event < 2 ^ 64)) }
+{
+    let file = typed.file();
+    let tables = tables(alloc, file.disk)?;
+    let site = site_at(alloc, file, tables.as_slice(), book, place)?;
+    let table = InputTable::new(alloc, env)?;
+    let reader = Reader {
+        alloc,
+        typed,
+        site,
+        table: &table,
+    };
+    reader.schedule()
+}
+
+/// The schedule that an environment names for one of the file's obligations, the terms of which are in a bank: it violates the obligation exactly where the
+/// obligation's term is 0 in the environment. Its only error is out of memory.
+pub fn schedule<B: Book>(
+    alloc: Global,
+    typed: &Typed,
+    obligation: &Obligation,
+    bank: &Bank,
+    env: &Env,
+    book: &B,
+) -> Result<Schedule, NoMemory>
+    requires made { IsMadeIn (B.kinds book.now) typed.now.file bank.now obligation.now }
+    requires fit { InputsFit (inputs_of env.now) bank.now }
+    ensures named { IfOk result (IsNamed (B.kinds book.now) typed.now.file (inputs_of env.now) obligation.now.place) }
+    ensures exact { IfOk result (ViolatesAtZero typed.now.file (inputs_of env.now) bank.now obligation.now) }
+    ensures fits { IfOk result (IsFitted typed.now.file obligation.now.place) }
+    ensures bounded { IfOk result (λ x. IfSome x.stop (λ h. h.event < 2 ^ 64)) }
+{
+    schedule_at(alloc, typed, obligation.place, env, book)
+}
