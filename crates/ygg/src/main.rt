@@ -1,14 +1,14 @@
 //! The command-line program: real files, standard output and the process's words around the top call.
 #![tactic(auto)]
 
-ghost use Rattle.std.specs.Prelude.{◌≡◌, [], ◌∷◌};
+ghost use Rattle.std.specs.Prelude.{◌≡◌, [], ◌∷◌, ◌++◌, IfOk, map};
 ghost use Rattle.ygg_rules.specs.declared.rule.RuleKind.TheVariants as kind;
 
 use std::env;
 use std::io::ErrorKind;
 use std::process::ExitCode;
 use ygg_base::{NoMemory, Status, Text, status_number};
-use ygg_outside::{FileLibrary, OutSink};
+use ygg_outside::{FileDevice, FileLibrary, OutSink};
 use ygg_rules::{
     Book, Rule, RuleBook, RuleKind, add_zero, and_ones, and_zero, eq_self, fold, or_zero, pick_same,
 };
@@ -38,30 +38,54 @@ fn words_of(rt: &HostRuntime) -> Result<Vec<Text>, NoMemory> {
     Ok(words)
 }
 
-/// Runs the command that the words name, over the system's files and standard output, under the book of all seven rules, in the order of
+/// Runs the command that the words name, over the system's files, images in files and standard output, under the book of all seven rules, in the order of
 /// their table.
 fn run_under(rt: &HostRuntime, words: &[Text], rules: &RuleBook) -> Status
     requires { ⟦<RuleBook as Book>⟧.kinds rules.now
         ≡ kind.Fold ∷ kind.AndOnes ∷ kind.AndZero ∷ kind.OrZero ∷ kind.AddZero ∷ kind.EqSelf ∷ kind.PickSame ∷ [] }
 {
     let mut library = FileLibrary::new(rt);
+    let mut device = FileDevice::new(rt);
     let mut sink = OutSink::new(rt.stdout());
-    ygg(rt.alloc(), words, rules, &mut library, &mut sink)
+    ygg(
+        rt.alloc(),
+        words,
+        rules,
+        &mut library,
+        &mut device,
+        &mut sink,
+    )
 }
 
-/// Runs the command that the words name. Its only error is out of memory for the words and the rules.
+/// The rules, and one more. Its only error is out of memory.
+fn with(rules: Vec<Rule>, rule: Rule) -> Result<Vec<Rule>, NoMemory>
+    ensures { IfOk result (λ all. map (λ rule. rule.kind) all.items ≡ map (λ rule. rule.kind) rules.items ++ rule.kind ∷ []) }
+{
+    let mut all = rules;
+    all.push(rule)?;
+    Ok(all)
+}
+
+/// Runs the command that the words name. Its only error is out of memory for the rules and the words.
 fn run(rt: &HostRuntime) -> Result<Status, NoMemory> {
     let alloc = rt.alloc();
-    let words = words_of(rt)?;
-    let mut rules = Vec::new(alloc);
-    rules.push(Rule::new(RuleKind::Fold, Box::new(alloc, fold)?))?;
-    rules.push(Rule::new(RuleKind::AndOnes, Box::new(alloc, and_ones)?))?;
-    rules.push(Rule::new(RuleKind::AndZero, Box::new(alloc, and_zero)?))?;
-    rules.push(Rule::new(RuleKind::OrZero, Box::new(alloc, or_zero)?))?;
-    rules.push(Rule::new(RuleKind::AddZero, Box::new(alloc, add_zero)?))?;
-    rules.push(Rule::new(RuleKind::EqSelf, Box::new(alloc, eq_self)?))?;
-    rules.push(Rule::new(RuleKind::PickSame, Box::new(alloc, pick_same)?))?;
+    let rules = Vec::new(alloc);
+    let rule = Rule::new(RuleKind::Fold, Box::new(alloc, fold)?);
+    let rules = with(rules, rule)?;
+    let rule = Rule::new(RuleKind::AndOnes, Box::new(alloc, and_ones)?);
+    let rules = with(rules, rule)?;
+    let rule = Rule::new(RuleKind::AndZero, Box::new(alloc, and_zero)?);
+    let rules = with(rules, rule)?;
+    let rule = Rule::new(RuleKind::OrZero, Box::new(alloc, or_zero)?);
+    let rules = with(rules, rule)?;
+    let rule = Rule::new(RuleKind::AddZero, Box::new(alloc, add_zero)?);
+    let rules = with(rules, rule)?;
+    let rule = Rule::new(RuleKind::EqSelf, Box::new(alloc, eq_self)?);
+    let rules = with(rules, rule)?;
+    let rule = Rule::new(RuleKind::PickSame, Box::new(alloc, pick_same)?);
+    let rules = with(rules, rule)?;
     let rules = RuleBook::new(rules);
+    let words = words_of(rt)?;
     Ok(run_under(rt, words.as_slice(), &rules))
 }
 

@@ -1,12 +1,2 @@
-mod Canonical
-mod Found
-mod Endings
-mod Shown
-mod Written
-mod Judging
-mod Verdicts
-mod Reporting
-mod Ends
-mod Budgets
-mod Making
-mod Counts
+pub mod Imaged
+mod Naming

@@ -1,10 +1,3 @@
 pub mod Words
-pub mod Refusing
-pub mod Standing
-pub mod Replaying
-pub mod Showing
-pub mod Verdict
-pub mod Solving
-pub mod Asking
 pub mod Ending
-pub mod Findings
+pub mod Imaging

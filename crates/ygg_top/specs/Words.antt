@@ -1,49 +1,43 @@
--- What the words of a command ask for.
-use Rattle.std.specs.Prelude.{◌≡◌, ℕ, ◌≤◌, Bool, false, if◌then◌else◌, List, [], ◌∷◌, Option, Some, None}
-use Rattle.std.specs.Fmt.{decimal}
+-- What the first word of a command asks for.
+use Rattle.std.specs.Prelude.{ℕ, List, codes, if◌then◌else◌}
 use Rattle.std.specs.Str.{bytes_eq}
+use Rattle.ygg_top.specs.declared.words.Alone.{Alone}
+use Rattle.ygg_top.specs.declared.words.Alone.TheVariants as alone
+use Rattle.ygg_top.specs.declared.words.OnImage.{OnImage}
+use Rattle.ygg_top.specs.declared.words.OnImage.TheVariants as on
+use Rattle.ygg_top.specs.declared.words.One.{One}
+use Rattle.ygg_top.specs.declared.words.One.TheVariants as one
+use Rattle.ygg_top.specs.declared.words.Two.{Two}
+use Rattle.ygg_top.specs.declared.words.Two.TheVariants as two
 
--- the words are this one alone
-abbrev pub is_alone : List ℕ → List (List ℕ) → Bool
-is_alone word (only ∷ []) = bytes_eq only word
-is_alone word _ = false
+-- what a word asks for that stands alone
+abbrev pub alone_of : List ℕ → Alone
+alone_of word =
+    if bytes_eq word (codes "--help") then alone.Help else
+    if bytes_eq word (codes "--version") then alone.Version else alone.Other
 
--- the word that stands alone after this one: a file, or a number
-abbrev pub word_after : List ℕ → List (List ℕ) → Option (List ℕ)
-word_after word (command ∷ file ∷ []) = if bytes_eq command word then Some file else None
-word_after word _ = None
+-- what a word asks for after which one word stands
+abbrev pub one_of : List ℕ → One
+one_of word =
+    if bytes_eq word (codes "verify") then one.Verify else
+    if bytes_eq word (codes "print") then one.Print else
+    if bytes_eq word (codes "demo") then one.Demo else
+    if bytes_eq word (codes "solve") then one.Solve else
+    if bytes_eq word (codes "certify") then one.Certify else one.Other
 
--- the two words that stand alone after this one: a file and a budget, or two files
-abbrev pub two_words_after : List ℕ → List (List ℕ) → Option (List ℕ × List ℕ)
-two_words_after word (command ∷ file ∷ budget ∷ []) = if bytes_eq command word then Some (file, budget) else None
-two_words_after word _ = None
+-- what a word asks for after which two words stand
+abbrev pub two_of : List ℕ → Two
+two_of word =
+    if bytes_eq word (codes "verify") then two.Verify else
+    if bytes_eq word (codes "replay") then two.Replay else
+    if bytes_eq word (codes "play") then two.Play else
+    if bytes_eq word (codes "solve") then two.Solve else
+    if bytes_eq word (codes "cnf") then two.Cnf else
+    if bytes_eq word (codes "certify") then two.Certify else
+    if bytes_eq word (codes "check") then two.Check else two.Other
 
--- the budget where none is given
-abbrev pub usual_budget : ℕ
-usual_budget = 200000
-
--- the greatest budget
-abbrev pub most_budget : ℕ
-most_budget = 10000000
-
--- the most operations of a file that `demo` makes
-abbrev pub most_operations : ℕ
-most_operations = 64
-
--- the word is this number: one from 1 to the greatest in decimal digits, without a sign or a leading zero
-pub record IsNumber (greatest : ℕ) (word : List ℕ) (number : ℕ) : Type 0 where
-  pub digits : word ≡ decimal number
-  pub least : 1 ≤ number
-  pub most : number ≤ greatest
-
--- the word is no such number
-abbrev pub IsNoNumber : ℕ → List ℕ → Type 0
-IsNoNumber greatest word = (number : ℕ) → IsNumber greatest word number → ⊥
-
--- the word is this budget
-abbrev pub IsBudget : List ℕ → ℕ → Type 0
-IsBudget = IsNumber most_budget
-
--- the word is no budget
-abbrev pub IsNoBudget : List ℕ → Type 0
-IsNoBudget = IsNoNumber most_budget
+-- what a word asks for that names a command on an image
+abbrev pub on_image : List ℕ → OnImage
+on_image word =
+    if bytes_eq word (codes "format") then on.Format else
+    if bytes_eq word (codes "run") then on.Run else on.Other

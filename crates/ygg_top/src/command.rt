@@ -1,223 +1,188 @@
-ghost use Rattle.std.specs.Prelude.{List, ◌≡◌, ◌<◌, ◌≤◌, length, Some};
-ghost use Rattle.ygg_rules.specs.declared.rule.RuleKind.{RuleKind};
-ghost use Rattle.ygg_base.specs.Outside.{Rose};
-ghost use Rattle.ygg_top.specs.Refusing.{most_bytes};
-ghost use Rattle.ygg_top.specs.Words.{most_operations};
-ghost use Rattle.ygg_top.specs.Standing.{DoesWith, DoesWithin};
-ghost use Rattle.ygg_top.specs.Ending.{Reports, Ends, Answers, IsDone, IsEnding, Demos, DemosMade, Prints, Verifies};
+//! The command that the words name.
 
-use crate::answer::CommandEnd;
-use crate::asking::ask;
-use crate::fetching::{MOST_BYTES, fetched, refused};
-use crate::file::{file_of, printed};
+ghost use Rattle.std.specs.Prelude.{◌≡◌, ◌≤◌};
+ghost use Rattle.ygg_base.specs.declared.status.Status.TheVariants.{Refused};
+ghost use Rattle.ygg_base.specs.Outside.{Rose};
+ghost use Rattle.ygg_report.specs.Putting.{NoFront};
+ghost use Rattle.ygg_top_command.specs.Reports.{Told};
+ghost use Rattle.ygg_top_device.specs.Breaking.{ToldOn};
+ghost use Rattle.ygg_top.specs.Ending.{EndsAlone, EndsOne, EndsTwo, LeavesOne, LeavesTwo, NamesNone};
+ghost use Rattle.ygg_top.specs.Imaging.{EndsOn, IsLeftOn, IsBrokenOn, KeepsOn, UsesImage};
+
 use crate::help::{HELP, VERSION};
-use crate::replaying::replay;
-use crate::solving::{solve, solve_within};
-use crate::words::{USUAL_BUDGET, budget, is_alone, operations, two_words_after, word_after};
-use crate::{counting, verdict};
+use crate::words::{Alone, OnImage, One, Two};
 use std::alloc::Global;
-use ygg_base::{Library, Reason, Refuse, Sink, Status, Text};
-use ygg_dimacs_oblige::put_obligation;
-use ygg_dimacs_solve::solve_cnf;
+use ygg_base::{Library, Reason, Sink, Status, Text};
+use ygg_base_device::Device;
 use ygg_report::put_all;
 use ygg_rules::{Book, RuleBook};
-use ygg_yard::make;
+use ygg_top_cnf::cnf;
+use ygg_top_command::{Stop, USUAL_BUDGET, end};
+use ygg_top_format::format;
+use ygg_top_play::play;
+use ygg_top_print::print;
+use ygg_top_replay::replay;
+use ygg_top_run::{certify, certify_within, check, demo, run, verify, verify_within};
+use ygg_top_solve::{solve, solve_within};
 
 /// Runs the command that the words name, and ends with its status: `verify FILE`, `verify FILE BUDGET`, `print FILE`, `demo N`, `replay FILE SCHEDULE`,
-/// `solve CNF`, `solve CNF BUDGET`, `cnf FILE OBLIGATION`, and alone `--help` or `--version`. Other words are refused 71 at `0:0`. Nothing is printed before all refusals are judged;
-/// the lines of `verify` are put one by one, each as soon as its obligation is decided, long texts of `solve` and `cnf` piece by piece, and the others at the end.
+/// `play FILE SCRIPT`, `solve CNF`, `solve CNF BUDGET`, `cnf FILE OBLIGATION`, `certify FILE`, `certify FILE BUDGET`, `check FILE CERTIFICATE`,
+/// `format FILE IMAGE`, `run FILE CERTIFICATE IMAGE SCRIPT`, and alone `--help` or `--version`. Other words are refused 71 at `0:0`. Nothing is printed before
+/// all refusals are judged; the lines of `verify` are put one by one, each as soon as its obligation is decided, those of `play` as its history goes on, and
+/// those of `run` as its commands are done; long texts of `certify`, `solve` and `cnf` piece by piece, and the others at the end. Only `format` and `run` use
+/// the device.
 /// What is ensured holds for every book of rules: they only make terms smaller.
-pub fn ygg<L: Library, K: Sink>(
+pub fn ygg<L: Library, D: Device, K: Sink>(
     alloc: Global,
     words: &[Text],
     rules: &RuleBook,
     library: &mut L,
+    device: &mut D,
     sink: &mut K,
 ) -> Status
-    ensures told { Reports (⟦<RuleBook as Book>⟧.kinds rules.now) words.now (L.files library.old) (K.taken sink.old) (K.taken sink.new)
-        (Rose (L.faults library.old) (L.faults library.new)) (Rose (K.faults sink.old) (K.faults sink.new)) result }
+    ensures told { ToldOn (EndsOn (⟦<RuleBook as Book>⟧.kinds rules.now) (L.files library.old) (D.images device.old) (D.images device.new) words.now)
+        (IsLeftOn (⟦<RuleBook as Book>⟧.kinds rules.now) (L.files library.old) (D.images device.old) (D.images device.new) words.now)
+        (IsBrokenOn (⟦<RuleBook as Book>⟧.kinds rules.now) (L.files library.old) (D.images device.old) (D.images device.new) words.now)
+        (K.taken sink.old) (K.taken sink.new) (Rose (L.faults library.old) (L.faults library.new)) (Rose (D.faults device.old) (D.faults device.new))
+        (Rose (K.faults sink.old) (K.faults sink.new)) result }
     ensures kept { L.files library.new ≡ L.files library.old }
+    ensures leaves { KeepsOn (⟦<RuleBook as Book>⟧.kinds rules.now) (L.files library.old) (D.images device.old) (D.images device.new) (D.attached device.new)
+        words.now }
+    ensures unwritten { result ≡ Refused → D.images device.new ≡ D.images device.old }
+    ensures spared { (UsesImage words.now → ⊥) → device.new ≡ device.old }
     ensures later_library { L.faults library.old ≤ L.faults library.new }
+    ensures later_device { D.faults device.old ≤ D.faults device.new }
     ensures later_sink { K.faults sink.old ≤ K.faults sink.new }
 {
-    run(alloc, words, rules, library, sink)
+    named(alloc, words, rules, library, device, sink)
 }
 
 /// The same for whatever answers as a book of rules does.
-fn run<B: Book, L: Library, K: Sink>(
+fn named<B: Book, L: Library, D: Device, K: Sink>(
     alloc: Global,
     words: &[Text],
     rules: &B,
     library: &mut L,
+    device: &mut D,
     sink: &mut K,
 ) -> Status
-    ensures told { Reports (B.kinds rules.now) words.now (L.files library.old) (K.taken sink.old) (K.taken sink.new)
+    ensures told { ToldOn (EndsOn (B.kinds rules.now) (L.files library.old) (D.images device.old) (D.images device.new) words.now)
+        (IsLeftOn (B.kinds rules.now) (L.files library.old) (D.images device.old) (D.images device.new) words.now)
+        (IsBrokenOn (B.kinds rules.now) (L.files library.old) (D.images device.old) (D.images device.new) words.now)
+        (K.taken sink.old) (K.taken sink.new) (Rose (L.faults library.old) (L.faults library.new)) (Rose (D.faults device.old) (D.faults device.new))
+        (Rose (K.faults sink.old) (K.faults sink.new)) result }
+    ensures kept { L.files library.new ≡ L.files library.old }
+    ensures leaves { KeepsOn (B.kinds rules.now) (L.files library.old) (D.images device.old) (D.images device.new) (D.attached device.new) words.now }
+    ensures unwritten { result ≡ Refused → D.images device.new ≡ D.images device.old }
+    ensures spared { (UsesImage words.now → ⊥) → device.new ≡ device.old }
+    ensures later_library { L.faults library.old ≤ L.faults library.new }
+    ensures later_device { D.faults device.old ≤ D.faults device.new }
+    ensures later_sink { K.faults sink.old ≤ K.faults sink.new }
+{
+    match words {
+        [] => unnamed(alloc, sink),
+        [only] => alone(alloc, Alone::of(only.as_slice()), sink),
+        [command, first] => {
+            let command = One::of(command.as_slice());
+            with_one(alloc, rules, command, first, library, sink)
+        }
+        [command, first, second] => match OnImage::of(command.as_slice()) {
+            OnImage::Format => format(alloc, first, second, library, device, sink),
+            OnImage::Run | OnImage::Other => {
+                let command = Two::of(command.as_slice());
+                with_two(alloc, rules, command, first, second, library, sink)
+            }
+        },
+        [_, _, _, _] => unnamed(alloc, sink),
+        [command, file, certificate, image, script] => match OnImage::of(command.as_slice()) {
+            OnImage::Run => run(
+                alloc,
+                rules,
+                file,
+                certificate,
+                image,
+                script,
+                library,
+                device,
+                sink,
+            ),
+            OnImage::Format | OnImage::Other => unnamed(alloc, sink),
+        },
+        _ => unnamed(alloc, sink),
+    }
+}
+
+/// Refuses words that name no command.
+fn unnamed<K: Sink>(alloc: Global, sink: &mut K) -> Status
+    ensures told { Told NamesNone NoFront (K.taken sink.old) (K.taken sink.new) ⊥ (Rose (K.faults sink.old) (K.faults sink.new)) result }
+    ensures later { K.faults sink.old ≤ K.faults sink.new }
+{
+    end(alloc, Stop::Refused(Reason::Words.at(0, 0)), sink)
+}
+
+/// A command of a word alone.
+fn alone<K: Sink>(alloc: Global, command: Alone, sink: &mut K) -> Status
+    ensures told { Told (EndsAlone command) NoFront (K.taken sink.old) (K.taken sink.new) ⊥ (Rose (K.faults sink.old) (K.faults sink.new)) result }
+    ensures later { K.faults sink.old ≤ K.faults sink.new }
+{
+    match command {
+        Alone::Help => put_all(sink, HELP, Status::Done),
+        Alone::Version => put_all(sink, VERSION, Status::Done),
+        Alone::Other => unnamed(alloc, sink),
+    }
+}
+
+/// A command with one word after it.
+fn with_one<B: Book, L: Library, K: Sink>(
+    alloc: Global,
+    rules: &B,
+    command: One,
+    word: &Text,
+    library: &mut L,
+    sink: &mut K,
+) -> Status
+    ensures told { Told (EndsOne (B.kinds rules.now) (L.files library.old) command word.now)
+        (LeavesOne (B.kinds rules.now) (L.files library.old) command word.now) (K.taken sink.old) (K.taken sink.new)
         (Rose (L.faults library.old) (L.faults library.new)) (Rose (K.faults sink.old) (K.faults sink.new)) result }
     ensures kept { L.files library.new ≡ L.files library.old }
     ensures later_library { L.faults library.old ≤ L.faults library.new }
     ensures later_sink { K.faults sink.old ≤ K.faults sink.new }
 {
-    match answer(alloc, words, library) {
-        CommandEnd::Ends(status, text) => put_all(sink, text.as_slice(), status),
-        CommandEnd::Verifies(typed, budget) => verdict::verify(alloc, rules, &typed, budget, sink),
-        CommandEnd::Demos(typed, number) => counting::demo(alloc, rules, &typed, number, sink),
-        CommandEnd::Solves(cnf, budget) => solve_cnf(alloc, &cnf, budget, sink),
-        CommandEnd::Asks(typed, name) => put_obligation(
-            alloc,
-            rules,
-            &typed,
-            name.as_slice(),
-            sink,
-        ),
-        CommandEnd::LibraryFailed => put_all(sink, b"fault library\n", Status::Fault),
-        CommandEnd::NoMemory => Status::NoMemory,
+    match command {
+        One::Verify => verify(alloc, rules, word, USUAL_BUDGET, library, sink),
+        One::Print => print(alloc, word, library, sink),
+        One::Demo => demo(alloc, rules, word, sink),
+        One::Solve => solve(alloc, word, USUAL_BUDGET, library, sink),
+        One::Certify => certify(alloc, rules, word, USUAL_BUDGET, library, sink),
+        One::Other => unnamed(alloc, sink),
     }
 }
 
-/// What the words ask for, over the library.
-fn answer<L: Library>(alloc: Global, words: &[Text], library: &mut L) -> CommandEnd
-    ensures told { (kinds : List RuleKind) → Answers kinds (Ends kinds words.now (L.files library.old)) result }
-    ensures cause { result ≡ CommandEnd.LibraryFailed → Rose (L.faults library.old) (L.faults library.new) }
+/// A command with two words after it.
+fn with_two<B: Book, L: Library, K: Sink>(
+    alloc: Global,
+    rules: &B,
+    command: Two,
+    first: &Text,
+    second: &Text,
+    library: &mut L,
+    sink: &mut K,
+) -> Status
+    ensures told { Told (EndsTwo (B.kinds rules.now) (L.files library.old) command first.now second.now)
+        (LeavesTwo (B.kinds rules.now) (L.files library.old) command first.now second.now) (K.taken sink.old) (K.taken sink.new)
+        (Rose (L.faults library.old) (L.faults library.new)) (Rose (K.faults sink.old) (K.faults sink.new)) result }
     ensures kept { L.files library.new ≡ L.files library.old }
-    ensures later { L.faults library.old ≤ L.faults library.new }
+    ensures later_library { L.faults library.old ≤ L.faults library.new }
+    ensures later_sink { K.faults sink.old ≤ K.faults sink.new }
 {
-    if is_alone(words, b"--help") {
-        return done(alloc, HELP);
-    }
-    if is_alone(words, b"--version") {
-        return done(alloc, VERSION);
-    }
-    if let Some(name) = word_after(words, b"verify") {
-        return verify(alloc, name, USUAL_BUDGET, library);
-    }
-    if let Some((name, word)) = two_words_after(words, b"verify") {
-        return verify_within(alloc, name, word, library);
-    }
-    if let Some(name) = word_after(words, b"print") {
-        return print(alloc, name, library);
-    }
-    if let Some(word) = word_after(words, b"demo") {
-        return demo(alloc, word);
-    }
-    if let Some((name, schedule)) = two_words_after(words, b"replay") {
-        return replay(alloc, name, schedule, library);
-    }
-    if let Some(name) = word_after(words, b"solve") {
-        return solve(alloc, name, USUAL_BUDGET, library);
-    }
-    if let Some((name, word)) = two_words_after(words, b"solve") {
-        return solve_within(alloc, name, word, library);
-    }
-    if let Some((file, name)) = two_words_after(words, b"cnf") {
-        return ask(alloc, file, name, library);
-    }
-    refused(alloc, Reason::Words.at(0, 0))
-}
-
-/// A text that is printed as it is.
-fn done(alloc: Global, text: &[u8]) -> CommandEnd
-    ensures told { IsEnding (IsDone text.now) result }
-    ensures here { ¬ (result ≡ CommandEnd.LibraryFailed) }
-{
-    match Text::from_slice(alloc, text) {
-        Ok(text) => CommandEnd::Ends(Status::Done, text),
-        Err(_) => CommandEnd::NoMemory,
-    }
-}
-
-/// Fetches the file of that name, which is to be verified within the budget that a word is. Another word is refused 72 at `0:2`.
-fn verify_within<L: Library>(alloc: Global, name: &Text, word: &Text, library: &mut L) -> CommandEnd
-    ensures told { (kinds : List RuleKind) → Answers kinds (DoesWithin (Verifies kinds) (L.files library.old) name.now word.now) result }
-    ensures cause { result ≡ CommandEnd.LibraryFailed → Rose (L.faults library.old) (L.faults library.new) }
-    ensures kept { L.files library.new ≡ L.files library.old }
-    ensures later { L.faults library.old ≤ L.faults library.new }
-{
-    match budget(alloc, word.as_slice()) {
-        Ok(Some(budget)) => verify(alloc, name, budget, library),
-        Ok(None) => refused(alloc, Reason::Number.at(0, 2)),
-        Err(_) => CommandEnd::NoMemory,
-    }
-}
-
-/// Fetches the file of that name, which is to be verified within a budget.
-fn verify<L: Library>(alloc: Global, name: &Text, budget: u32, library: &mut L) -> CommandEnd
-    requires { 0 < budget }
-    ensures told { (kinds : List RuleKind) → Answers kinds (DoesWith (Verifies kinds budget) (L.files library.old) name.now) result }
-    ensures cause { result ≡ CommandEnd.LibraryFailed → Rose (L.faults library.old) (L.faults library.new) }
-    ensures kept { L.files library.new ≡ L.files library.old }
-    ensures later { L.faults library.old ≤ L.faults library.new }
-{
-    match fetched(alloc, name, MOST_BYTES, 1, library) {
-        Ok(text) => verify_text(alloc, budget, text.as_slice()),
-        Err(answer) => answer,
-    }
-}
-
-/// Fetches the file of that name and prints it in its canonical text.
-fn print<L: Library>(alloc: Global, name: &Text, library: &mut L) -> CommandEnd
-    ensures told { (kinds : List RuleKind) → Answers kinds (DoesWith Prints (L.files library.old) name.now) result }
-    ensures cause { result ≡ CommandEnd.LibraryFailed → Rose (L.faults library.old) (L.faults library.new) }
-    ensures kept { L.files library.new ≡ L.files library.old }
-    ensures later { L.faults library.old ≤ L.faults library.new }
-{
-    match fetched(alloc, name, MOST_BYTES, 1, library) {
-        Ok(text) => print_text(alloc, text.as_slice()),
-        Err(answer) => answer,
-    }
-}
-
-/// The layer file of a text, which is to be verified within a budget.
-fn verify_text(alloc: Global, budget: u32, text: &[u8]) -> CommandEnd
-    requires text { length text.now ≤ most_bytes }
-    requires budget { 0 < budget }
-    ensures told { (kinds : List RuleKind) → Answers kinds (Verifies kinds budget (Some text.now)) result }
-    ensures here { ¬ (result ≡ CommandEnd.LibraryFailed) }
-{
-    match file_of(alloc, text) {
-        Ok(typed) => CommandEnd::Verifies(typed, budget),
-        Err(Refuse::At(at)) => refused(alloc, at),
-        Err(Refuse::Memory) => CommandEnd::NoMemory,
-    }
-}
-
-/// Prints a layer file's text in its canonical form.
-fn print_text(alloc: Global, text: &[u8]) -> CommandEnd
-    requires { length text.now ≤ most_bytes }
-    ensures told { (kinds : List RuleKind) → Answers kinds (Prints (Some text.now)) result }
-    ensures here { ¬ (result ≡ CommandEnd.LibraryFailed) }
-{
-    match printed(alloc, text) {
-        Ok(canonical) => CommandEnd::Ends(Status::Done, canonical),
-        Err(Refuse::At(at)) => refused(alloc, at),
-        Err(Refuse::Memory) => CommandEnd::NoMemory,
-    }
-}
-
-/// The layer file that is made for the number that a word is, which is to be verified. Another word is refused 72 at `0:1`.
-fn demo(alloc: Global, word: &Text) -> CommandEnd
-    ensures told { (kinds : List RuleKind) → Answers kinds (Demos kinds word.now) result }
-    ensures here { ¬ (result ≡ CommandEnd.LibraryFailed) }
-{
-    match operations(alloc, word.as_slice()) {
-        Ok(Some(number)) => demo_of(alloc, number),
-        Ok(None) => refused(alloc, Reason::Number.at(0, 1)),
-        Err(_) => CommandEnd::NoMemory,
-    }
-}
-
-/// The layer file that is made for a number, which is to be verified.
-fn demo_of(alloc: Global, number: u32) -> CommandEnd
-    requires some { 1 ≤ number }
-    requires few { number ≤ most_operations }
-    ensures told { (kinds : List RuleKind) → Answers kinds (DemosMade kinds number) result }
-    ensures here { ¬ (result ≡ CommandEnd.LibraryFailed) }
-{
-    let Ok(text) = make(alloc, number) else {
-        return CommandEnd::NoMemory;
-    };
-    match file_of(alloc, text.as_slice()) {
-        Ok(typed) => CommandEnd::Demos(typed, number),
-        Err(Refuse::At(at)) => refused(alloc, at),
-        Err(Refuse::Memory) => CommandEnd::NoMemory,
+    match command {
+        Two::Verify => verify_within(alloc, rules, first, second, library, sink),
+        Two::Replay => replay(alloc, first, second, library, sink),
+        Two::Play => play(alloc, first, second, library, sink),
+        Two::Solve => solve_within(alloc, first, second, library, sink),
+        Two::Cnf => cnf(alloc, rules, first, second, library, sink),
+        Two::Certify => certify_within(alloc, rules, first, second, library, sink),
+        Two::Check => check(alloc, rules, first, second, library, sink),
+        Two::Other => unnamed(alloc, sink),
     }
 }

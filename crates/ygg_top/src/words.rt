@@ -1,114 +1,148 @@
-ghost use Rattle.std.specs.Prelude.{◌≡◌, ◌<◌, ◌≤◌, ◌^◌, ℕ, Option, Some, None, IfOk, MatchOption};
-ghost use Rattle.std.specs.Fmt.{decimal};
-ghost use Rattle.std.specs.Option.{option_copied};
-ghost use Rattle.ygg_top.specs.Words.{
-  is_alone as alone,
-  word_after as word_named,
-  two_words_after as words_named,
-  IsNumber,
-  IsNoNumber,
-  IsBudget,
-  IsNoBudget,
-  most_operations,
-};
+//! What the first word of a command asks for, by the number of words after it.
 
-use std::alloc::Global;
-use ygg_base::{NoMemory, Text};
+ghost use Rattle.std.specs.Prelude.{◌≡◌};
+ghost use Rattle.ygg_top.specs.Words.{alone_of, on_image, one_of, two_of};
 
-/// The budget where none is given.
-pub const USUAL_BUDGET: u32 = 200_000;
-
-/// The greatest budget.
-const MOST_BUDGET: u32 = 10_000_000;
-
-/// The most operations of a file that `demo` makes.
-const MOST_OPERATIONS: u32 = 64;
-
-/// Whether the words are this one alone.
-pub fn is_alone(words: &[Text], word: &[u8]) -> bool
-    ensures { result ≡ alone word.now words.now }
-{
-    match words {
-        [only] => only.as_slice() == word,
-        _ => false,
-    }
+/// The commands of a word alone.
+#[derive(Clone, Copy, Drop)]
+pub enum Alone {
+    /// `--help`.
+    Help,
+    /// `--version`.
+    Version,
+    /// None.
+    Other,
 }
 
-/// The word that stands alone after this one, where one does: a file, or a number.
-pub fn word_after<'a>(words: &'a [Text], word: &[u8]) -> Option<&'a Text>
-    ensures { option_copied result ≡ word_named word.now words.now }
-{
-    match words {
-        [command, file] => {
-            if command.as_slice() == word {
-                Some(file)
-            } else {
-                None
-            }
+/// The commands with one word after them.
+#[derive(Clone, Copy, Drop)]
+pub enum One {
+    /// `verify FILE`.
+    Verify,
+    /// `print FILE`.
+    Print,
+    /// `demo N`.
+    Demo,
+    /// `solve CNF`.
+    Solve,
+    /// `certify FILE`.
+    Certify,
+    /// None.
+    Other,
+}
+
+/// The commands with two words after them.
+#[derive(Clone, Copy, Drop)]
+pub enum Two {
+    /// `verify FILE BUDGET`.
+    Verify,
+    /// `replay FILE SCHEDULE`.
+    Replay,
+    /// `play FILE SCRIPT`.
+    Play,
+    /// `solve CNF BUDGET`.
+    Solve,
+    /// `cnf FILE OBLIGATION`.
+    Cnf,
+    /// `certify FILE BUDGET`.
+    Certify,
+    /// `check FILE CERTIFICATE`.
+    Check,
+    /// None.
+    Other,
+}
+
+/// The commands on an image.
+#[derive(Clone, Copy, Drop)]
+pub enum OnImage {
+    /// `format FILE IMAGE`.
+    Format,
+    /// `run FILE CERTIFICATE IMAGE SCRIPT`.
+    Run,
+    /// None.
+    Other,
+}
+
+impl Alone {
+    /// What the word asks for.
+    pub fn of(word: &[u8]) -> Alone
+        ensures { result ≡ alone_of word.now }
+    {
+        if word == b"--help".as_slice() {
+            return Alone::Help;
         }
-        _ => None,
-    }
-}
-
-/// The two words that stand alone after this one, where two do: a file and a budget, or two files.
-pub fn two_words_after<'a>(words: &'a [Text], word: &[u8]) -> Option<(&'a Text, &'a Text)>
-    ensures { MatchOption result (words_named word.now words.now ≡ None) (λ asked. words_named word.now words.now ≡ Some (asked.0.now, asked.1.now)) }
-{
-    match words {
-        [command, first, second] => {
-            if command.as_slice() == word {
-                Some((first, second))
-            } else {
-                None
-            }
+        if word == b"--version".as_slice() {
+            return Alone::Version;
         }
-        _ => None,
+        Alone::Other
     }
 }
 
-/// The number that a word may be read as: where it is one in decimal digits without a sign or a leading zero, that one.
-fn number_in(word: &[u8]) -> Option<u32>
-    ensures { (n : ℕ) → n < 2 ^ 32 → word.now ≡ decimal n → result ≡ Some n }
-{
-    match std::str::from_utf8(word) {
-        Ok(text) => match text.parse::<u32>() {
-            Ok(number) => Some(number),
-            Err(_) => None,
-        },
-        Err(_) => None,
+impl One {
+    /// What the word asks for.
+    pub fn of(word: &[u8]) -> One
+        ensures { result ≡ one_of word.now }
+    {
+        if word == b"verify".as_slice() {
+            return One::Verify;
+        }
+        if word == b"print".as_slice() {
+            return One::Print;
+        }
+        if word == b"demo".as_slice() {
+            return One::Demo;
+        }
+        if word == b"solve".as_slice() {
+            return One::Solve;
+        }
+        if word == b"certify".as_slice() {
+            return One::Certify;
+        }
+        One::Other
     }
 }
 
-/// The number that a word is: one from 1 to the greatest in decimal digits, without a sign or a leading zero. Its only error is out of memory.
-fn number_up_to(alloc: Global, word: &[u8], greatest: u32) -> Result<Option<u32>, NoMemory>
-    ensures { IfOk result (λ found. MatchOption found (IsNoNumber greatest word.now) (IsNumber greatest word.now)) }
-{
-    let Some(number) = number_in(word) else {
-        return Ok(None);
-    };
-    if number < 1 || number > greatest {
-        return Ok(None);
-    }
-    let written = format!(in alloc; "{number}")?;
-    if written.as_bytes() == word {
-        Ok(Some(number))
-    } else {
-        Ok(None)
+impl Two {
+    /// What the word asks for.
+    pub fn of(word: &[u8]) -> Two
+        ensures { result ≡ two_of word.now }
+    {
+        if word == b"verify".as_slice() {
+            return Two::Verify;
+        }
+        if word == b"replay".as_slice() {
+            return Two::Replay;
+        }
+        if word == b"play".as_slice() {
+            return Two::Play;
+        }
+        if word == b"solve".as_slice() {
+            return Two::Solve;
+        }
+        if word == b"cnf".as_slice() {
+            return Two::Cnf;
+        }
+        if word == b"certify".as_slice() {
+            return Two::Certify;
+        }
+        if word == b"check".as_slice() {
+            return Two::Check;
+        }
+        Two::Other
     }
 }
 
-/// The budget that a word is: a number from 1 to 10,000,000 in decimal digits, without a sign or a leading zero. Its only error
-/// is out of memory.
-pub fn budget(alloc: Global, word: &[u8]) -> Result<Option<u32>, NoMemory>
-    ensures { IfOk result (λ found. MatchOption found (IsNoBudget word.now) (IsBudget word.now)) }
-{
-    number_up_to(alloc, word, MOST_BUDGET)
-}
-
-/// The number of operations that a word is: one from 1 to 64 in decimal digits, without a sign or a leading zero. Its only error
-/// is out of memory.
-pub fn operations(alloc: Global, word: &[u8]) -> Result<Option<u32>, NoMemory>
-    ensures { IfOk result (λ found. MatchOption found (IsNoNumber most_operations word.now) (IsNumber most_operations word.now)) }
-{
-    number_up_to(alloc, word, MOST_OPERATIONS)
+impl OnImage {
+    /// What the word asks for.
+    pub fn of(word: &[u8]) -> OnImage
+        ensures { result ≡ on_image word.now }
+    {
+        if word == b"format".as_slice() {
+            return OnImage::Format;
+        }
+        if word == b"run".as_slice() {
+            return OnImage::Run;
+        }
+        OnImage::Other
+    }
 }

@@ -1,0 +1,5 @@
+mod Checked
+mod Again
+mod Opened
+mod Certifies
+mod Failing

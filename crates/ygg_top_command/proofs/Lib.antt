@@ -1,0 +1,3 @@
+mod Budgets
+pub mod Stops
+pub mod Telling

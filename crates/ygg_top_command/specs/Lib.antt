@@ -1,0 +1,5 @@
+pub mod Words
+pub mod Refusing
+pub mod Standing
+pub mod Fetched
+pub mod Reports

@@ -1,0 +1,12 @@
+//! What all commands share: texts and layer files that are fetched by name, numbers among the words, refusals, and what is told of how a command ends.
+#![tactic(auto)]
+
+mod fetching;
+mod file;
+mod stopping;
+mod words;
+
+pub use fetching::{MOST_BYTES, fetched};
+pub use file::{close, file_of, layer_file};
+pub use stopping::{Stop, end};
+pub use words::{USUAL_BUDGET, budget, number_up_to};

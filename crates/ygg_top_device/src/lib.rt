@@ -1,0 +1,6 @@
+//! What commands on images share: a device that fails, and what is told of how such a command ends.
+#![tactic(auto)]
+
+mod failing;
+
+pub use failing::end_broken;

@@ -1,0 +1,5 @@
+pub mod Ending
+pub mod Imaged
+pub mod Scripted
+pub mod Certified
+pub mod Named

@@ -1,0 +1,4 @@
+pub mod Showing
+pub mod Verdict
+pub mod Verifying
+pub mod Findings
