@@ -2,11 +2,12 @@
 """What documents show, checked: commands with their output, parts of files, and fragments of the language with their refusals.
 
 Run as a program it says what is wrong that can be seen without ./ygg, and ends with 1 where something is: links that lead nowhere, parts that
-aren't in the file that the next command names, and a gallery that doesn't say what tests/gallery.txt says. tests/run takes `commands` and
+aren't in a file that the next command names, and a gallery that doesn't say what tests/gallery.txt says. tests/run takes `commands` and
 `fragments` from here, and runs them.
 
-A block is a run of indented lines. A block whose first line is `$ ./ygg WORD ..` is a command, and the lines below are its output. In the pages
-of SHOWING every other block is a part of the file that the next command names. A fragment stands in a frame of tests/frames.txt: a block below a line that
+A block is a run of indented lines. A block whose first line is `$ ./ygg WORD ..` is a command, and the lines below are its output; with `> NAME` at its end
+the output goes to a file that later commands of the page may name. In the pages
+of SHOWING every other block is a part of a file that the next command names. A fragment stands in a frame of tests/frames.txt: a block below a line that
 ends in ``In `NAME`:`` is typed in that frame, each line by itself where the frame is `relate`; below a line that ends in ``Refused in `NAME`:`` each
 fragment ends with a line that has a mark `^ N` under the token at which N is the refusal. Lines between three backquotes are pictures.
 """
@@ -39,11 +40,12 @@ def blocks(page):
 
 
 def commands(page):
-    """The commands of a page: the line's number, the words, the output, and the status that its last line tells."""
+    """The commands of a page: the line's number, the words, the file that the output goes to or None, the output, and the status that its last line tells."""
     for number, _, lines in blocks(page):
         if lines[0].startswith("$ ./ygg "):
+            words, _, target = lines[0].removeprefix("$ ./ygg ").partition(" > ")
             output = "".join(line + "\n" for line in lines[1:])
-            yield number, lines[0].split()[2:], output, STATUSES.get(lines[-1].split()[0], 0)
+            yield number, words.split(), target or None, output, STATUSES.get(lines[-1].split()[0], 0)
 
 
 def fragments(page):
@@ -74,15 +76,15 @@ def fragments(page):
 
 
 def misplaced(page):
-    """Parts of files in a page that the file of the next command doesn't have."""
+    """Parts of files in a page that no file of the next command has."""
     waiting = []
     for number, _, lines in blocks(page):
         if not lines[0].startswith("$ "):
             waiting.append((number, "\n".join(lines) + "\n"))
         elif lines[0].startswith("$ ./ygg "):
-            name = lines[0].split()[3]
-            text = (TOP / name).read_text()
-            yield from (f"{page}:{place}: no part of {name}" for place, part in waiting if "\n" + part not in "\n" + text)
+            names = [name for name in lines[0].split()[3:] if (TOP / name).is_file()]
+            texts = ["\n" + (TOP / name).read_text() for name in names]
+            yield from (f"{page}:{place}: no part of {' or '.join(names)}" for place, part in waiting if not any("\n" + part in text for text in texts))
             waiting = []
 
 

@@ -14,10 +14,10 @@ use Rattle.ygg_base.specs.declared.reason.Reason.TheVariants.{
   TooLong,
   TooManyChoices,
   TooLarge,
-  NotBuilt,
   Words,
   Number,
   Absent,
+  NoObligation,
 }
 
 -- the number of each reason
@@ -33,10 +33,10 @@ number_of Limit = 8
 number_of TooLong = 9
 number_of TooManyChoices = 10
 number_of TooLarge = 11
-number_of NotBuilt = 12
 number_of Words = 71
 number_of Number = 72
 number_of Absent = 73
+number_of NoObligation = 74
 
 -- the refusal for a reason at a line and a column
 abbrev pub refusal_at : Reason → ℕ → ℕ → Refusal

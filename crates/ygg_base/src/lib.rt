@@ -16,7 +16,7 @@ mod tokens;
 pub use failure::{Refusal, Refuse};
 pub use geometry::{DiskKind, Geometry};
 pub use lists::{Bits, Files, Held, Numbers, Text};
-pub use outside::{Fetch, Library, Moved, Sink};
+pub use outside::{Fetch, Library, Moved, Opened, Piece, Sink};
 pub use reason::Reason;
 pub use shelf::Shelf;
 pub use sink::TextSink;

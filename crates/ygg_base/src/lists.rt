@@ -11,7 +11,7 @@ pub type Bits = Sequence<bool>;
 pub type Numbers = Sequence<u64>;
 
 /// A file by its name and its bytes.
-#[derive(Debug, Drop)]
+#[derive(Drop)]
 pub struct Held {
     pub name: Text,
     pub bytes: Text,

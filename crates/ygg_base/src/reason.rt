@@ -4,7 +4,7 @@ ghost use Rattle.ygg_base.specs.Reason.{number_of, refusal_at};
 use crate::failure::Refusal;
 
 /// Why a text or the words of a command are refused. The definitions of the language say of each rule which of these breaks it.
-#[derive(Clone, Copy, Debug, PartialEq, Eq, Drop)]
+#[derive(Clone, Copy, PartialEq, Eq, Drop)]
 pub enum Reason {
     /// A byte of 128 or more.
     NotAscii,
@@ -28,14 +28,14 @@ pub enum Reason {
     TooManyChoices,
     /// A file with more bytes than are read.
     TooLarge,
-    /// A file whose like isn't verified yet.
-    NotBuilt,
     /// The words of a command.
     Words,
     /// A word that is to be a number.
     Number,
     /// A file that isn't there.
     Absent,
+    /// A name that no obligation of the file has.
+    NoObligation,
 }
 
 impl Reason {
@@ -55,10 +55,10 @@ impl Reason {
             Reason::TooLong => 9,
             Reason::TooManyChoices => 10,
             Reason::TooLarge => 11,
-            Reason::NotBuilt => 12,
             Reason::Words => 71,
             Reason::Number => 72,
             Reason::Absent => 73,
+            Reason::NoObligation => 74,
         }
     }
 

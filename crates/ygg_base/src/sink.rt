@@ -7,7 +7,7 @@ use std::alloc::Global;
 use ygg_list::NoMemory;
 
 /// A sink in memory that tells its bytes, and some of whose calls fail.
-#[derive(Debug, Drop)]
+#[derive(Drop)]
 pub struct TextSink {
     text: Vec<u8>,
     fails: Numbers,

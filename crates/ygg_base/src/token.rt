@@ -3,7 +3,7 @@ use std::alloc::Global;
 use ygg_list::{Duplicate, NoMemory};
 
 /// A word of the language that is no name.
-#[derive(Clone, Copy, Debug, PartialEq, Eq, Drop)]
+#[derive(Clone, Copy, PartialEq, Eq, Drop)]
 pub enum Keyword {
     Yggdrasil,
     Disk,
@@ -47,7 +47,7 @@ pub enum Keyword {
 }
 
 /// A sign of the language. Where the sign has several meanings it has the name of its shape.
-#[derive(Clone, Copy, Debug, PartialEq, Eq, Drop)]
+#[derive(Clone, Copy, PartialEq, Eq, Drop)]
 pub enum Symbol {
     BraceOpen,
     BraceClose,
@@ -80,7 +80,7 @@ pub enum Symbol {
 }
 
 /// What a token is.
-#[derive(Debug, Drop)]
+#[derive(Drop)]
 pub enum Mark {
     Name(Text),
     Num(u64),
@@ -89,7 +89,7 @@ pub enum Mark {
 }
 
 /// A token and the place of its first byte, counted from 1.
-#[derive(Debug, Drop)]
+#[derive(Drop)]
 pub struct Token {
     pub mark: Mark,
     pub line: u32,

@@ -5,7 +5,7 @@ use std::alloc::Global;
 use ygg_list::{Duplicate, NoMemory, Sequence};
 
 /// The tokens of a text in order, and the place after its last byte, counted from 1.
-#[derive(Debug, Drop)]
+#[derive(Drop)]
 pub struct Tokens {
     pub items: Sequence<Token>,
     pub line: u32,

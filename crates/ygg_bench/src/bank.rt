@@ -11,11 +11,16 @@ pub fn measure(rt: &HostRuntime, count: u64) -> anyhow::Result<()> {
     report(rt, &book, count)
 }
 
-/// Makes the terms, and prints how many there are and how long it took.
+/// Makes the terms in a bank of their own.
 fn report(rt: &HostRuntime, book: &RuleBook, count: u64) -> anyhow::Result<()> {
     let mut bank = Bank::new(rt.alloc())?;
+    timed(rt, &mut bank, book, count)
+}
+
+/// Makes the terms in this bank, and prints how many there are and how long it took.
+fn timed(rt: &HostRuntime, bank: &mut Bank, book: &RuleBook, count: u64) -> anyhow::Result<()> {
     let start = Instant::now(rt)?;
-    fill(&mut bank, book, count)?;
+    fill(bank, book, count)?;
     let time = start.elapsed(rt)?;
     println!(rt; "{} terms", bank.len())?;
     eprintln!(rt; "{} ns", time.as_nanos())?;

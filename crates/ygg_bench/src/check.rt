@@ -1,6 +1,6 @@
 //! The checker judges a derivation.
 
-use crate::input;
+use crate::input::{self, Input};
 use std::alloc::Global;
 use std::time::Instant;
 use ygg_chain::Checker;
@@ -10,6 +10,11 @@ use ygg_list::NoMemory;
 /// Judges the derivation that standard input has, and prints how many resolution steps it takes and how many nanoseconds that took.
 pub fn measure(rt: &HostRuntime) -> anyhow::Result<()> {
     let input = input::read(rt)?;
+    judge(rt, &input)
+}
+
+/// Judges a derivation, and prints how many resolution steps it takes and how many nanoseconds that took.
+fn judge(rt: &HostRuntime, input: &Input) -> anyhow::Result<()> {
     let start = Instant::now(rt)?;
     let judged = steps_of(rt.alloc(), &input.clauses, &input.log)?;
     let time = start.elapsed(rt)?;
@@ -29,6 +34,11 @@ fn steps_of(
     log: &Log,
 ) -> Result<Option<(usize, bool)>, NoMemory> {
     let mut checker = Checker::new(alloc, clauses)?;
+    steps_with(&mut checker, log)
+}
+
+/// How many resolution steps the log takes over what the checker holds.
+fn steps_with(checker: &mut Checker, log: &Log) -> Result<Option<(usize, bool)>, NoMemory> {
     let mut steps: usize = 0;
     for Step::Added { clause, chain } in log.as_slice() {
         if !checker.follows(chain.as_slice(), clause.as_slice()) {
