@@ -5,11 +5,11 @@ use ygg_list::{Duplicate, NoMemory};
 use ygg_value::{Op, Word};
 
 /// The place of a node in its bank, counted from 0.
-#[derive(Clone, Copy, Debug, PartialEq, Eq, Hash, Drop)]
+#[derive(Clone, Copy, PartialEq, Eq, Hash, Drop)]
 pub struct Id(pub usize);
 
 /// A term over the nodes that stand before it in the bank. Widths are in binary digits, from 1 to 64.
-#[derive(Clone, Copy, Debug, PartialEq, Eq, Hash, Drop)]
+#[derive(Clone, Copy, PartialEq, Eq, Hash, Drop)]
 pub enum Node {
     /// What the environment gives for this number.
     Input { number: u64, width: u8 },

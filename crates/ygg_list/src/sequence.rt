@@ -36,7 +36,7 @@ impl Duplicate for bool {
 }
 
 /// Items in order, which contracts see as their list. All list types of the project are this one.
-#[derive(Debug, Drop)]
+#[derive(Drop)]
 pub struct Sequence<T> {
     items: Vec<T>,
 }

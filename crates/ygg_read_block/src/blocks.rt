@@ -15,6 +15,7 @@ use std::alloc::Global;
 use ygg_base::{Keyword, Symbol};
 use ygg_list::NoMemory;
 use ygg_read_expr::Reader;
+use ygg_read_expr::both::both;
 use ygg_syntax::grammar::BlockKind;
 use ygg_syntax::tree::{Block, Place, Stmt};
 
@@ -161,13 +162,28 @@ fn branch(reader: &mut Reader<'_>, kind: BlockKind) -> Result<Option<Stmt>, NoMe
     let Some(test) = reader.expression()? else {
         return Ok(None);
     };
+    let Some(read) = both(test, sides(reader, kind))? else {
+        return Ok(None);
+    };
+    let (test, (first, second)) = read;
+    Ok(Some(Stmt::If(test, first, second)))
+}
+
+/// Reads the two blocks of an `if`, of which the second may be left out.
+#[cycle(blocks)]
+fn sides(reader: &mut Reader<'_>, kind: BlockKind) -> Result<Option<(Block, Block)>, NoMemory>
+    ensures reads { IfRead result (λ read. Reads (block kind read.0 ∷ optional word.Else kind read.1 ∷ []) reader.old reader.new) }
+    ensures goes { OnRead result (Goes (pending.block kind ∷ pending.perhaps (pending.else_block kind) ∷ []) reader.old reader.new) }
+    ensures refused { IfRefused result (Stops (pending.block kind ∷ pending.perhaps (pending.else_block kind) ∷ []) reader.old reader.new) }
+    ensures shorter { OnRead result (length reader.new < length reader.old) }
+{
     let Some(first) = block(reader, kind)? else {
         return Ok(None);
     };
-    let Some(second) = optional(reader, Keyword::Else, kind)? else {
+    let Some(read) = both(first, optional(reader, Keyword::Else, kind))? else {
         return Ok(None);
     };
-    Ok(Some(Stmt::If(test, first, second)))
+    Ok(Some(read))
 }
 
 /// Reads what follows a `for`.

@@ -126,9 +126,10 @@ fn parts(reader: &mut Reader<'_>) -> Result<Option<(LayerSetup, LayerSteps, Laye
     let Some(setup) = setup(reader)? else {
         return Ok(None);
     };
-    let Some((steps, claims)) = code(reader)? else {
+    let Some(read) = both(setup, code(reader))? else {
         return Ok(None);
     };
+    let (setup, (steps, claims)) = read;
     Ok(Some((setup, steps, claims)))
 }
 
@@ -139,24 +140,15 @@ fn setup(reader: &mut Reader<'_>) -> Result<Option<LayerSetup>, NoMemory>
     ensures refused { IfRefused result (Stops setup_pending reader.old reader.new) }
     ensures shorter { OnRead result (length reader.new ≤ length reader.old) }
 {
-    let Some((state, start)) = variables_and_block(
-        reader,
-        Keyword::State,
-        Keyword::Start,
-        BlockKind::Plain,
-    )?
+    let Some(seen) = variables_and_block(reader, Keyword::State, Keyword::Start, BlockKind::Plain)?
     else {
         return Ok(None);
     };
-    let Some((memory, format)) = variables_and_block(
-        reader,
-        Keyword::Memory,
-        Keyword::Format,
-        BlockKind::Impl,
-    )?
-    else {
+    let unseen = variables_and_block(reader, Keyword::Memory, Keyword::Format, BlockKind::Impl);
+    let Some(read) = both(seen, unseen)? else {
         return Ok(None);
     };
+    let ((state, start), (memory, format)) = read;
     Ok(Some(LayerSetup {
         state,
         start,

@@ -8,7 +8,7 @@ use std::marker::Model;
 use ygg_value::{Op, Word};
 
 /// What is known of an operand of a term.
-#[derive(Clone, Copy, Debug, PartialEq, Eq, Drop)]
+#[derive(Clone, Copy, PartialEq, Eq, Drop)]
 pub struct Operand {
     /// The number of the operand's term.
     pub id: usize,
@@ -46,7 +46,7 @@ impl Operand {
 }
 
 /// What a term does with its operands.
-#[derive(Clone, Copy, Debug, PartialEq, Eq, Drop)]
+#[derive(Clone, Copy, PartialEq, Eq, Drop)]
 pub enum Act {
     /// A binary operation on two operands.
     Bin(Op),
@@ -61,7 +61,7 @@ pub enum Act {
 /// A term that is asked for, before it is made. Contracts see it as a `Seen`, which fits: the operands that
 /// the act takes are there and no others, the widths are those of such a term, and a known word has its
 /// operand's width. Operands of one number are equal.
-#[derive(Debug, Drop)]
+#[derive(Drop)]
 pub struct View {
     /// What the term does.
     pub act: Act,
@@ -168,7 +168,7 @@ pub fn width_of(op: Op, width: u8) -> u8
 }
 
 /// What stands for the term that was asked for. Operands are numbered 0, 1 and 2.
-#[derive(Clone, Copy, Debug, PartialEq, Eq, Drop)]
+#[derive(Clone, Copy, PartialEq, Eq, Drop)]
 pub enum Rewrite {
     /// The term itself.
     Keep,

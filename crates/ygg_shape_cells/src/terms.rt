@@ -11,7 +11,7 @@ pub type SymRow = Sequence<Id>;
 pub type SymTable = Sequence<SymRow>;
 
 /// A word, a row or a table of terms.
-#[derive(Debug, Drop)]
+#[derive(Drop)]
 pub enum SymValue {
     /// The term of a word.
     Word(Id),

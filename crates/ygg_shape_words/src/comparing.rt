@@ -21,7 +21,7 @@ use ygg_value::{Op, Word};
 pub const SPLIT_LIMIT: u32 = 600;
 
 /// Two words, and the term that says whether they are equal.
-#[derive(Clone, Copy, Debug, PartialEq, Eq, Drop)]
+#[derive(Clone, Copy, PartialEq, Eq, Drop)]
 pub struct Compared {
     /// One word.
     pub one: Id,
@@ -32,7 +32,7 @@ pub struct Compared {
 }
 
 /// How far a comparison has come.
-#[derive(Debug, Drop)]
+#[derive(Drop)]
 pub struct Progress {
     // how many pairs may still be split
     fuel: u32,

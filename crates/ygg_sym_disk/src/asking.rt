@@ -10,7 +10,7 @@ use ygg_bank::Id;
 use ygg_shape_cells::{SymRow, SymValue};
 
 /// What is asked of a disk, with the place.
-#[derive(Clone, Copy, Debug, PartialEq, Eq, Drop)]
+#[derive(Clone, Copy, PartialEq, Eq, Drop)]
 pub enum Ask {
     /// No call of a disk.
     Nothing,

@@ -10,7 +10,7 @@ use ygg_sym_runs::{Question, SymLower};
 use ygg_syntax::tree::DiskText;
 
 /// A disk over terms, whose picks are inputs of the bank: of each place the one whose number is so much above the first.
-#[derive(Clone, Copy, Debug, PartialEq, Eq)]
+#[derive(Clone, Copy, PartialEq, Eq)]
 pub struct SymDisk {
     /// Its kind and size.
     pub disk: DiskText,

@@ -9,7 +9,7 @@ use ygg_sym_runs::{Question, SymLower};
 use ygg_sym_stops::SymStops;
 
 /// A disk over terms whose power fails at stops.
-#[derive(Clone, Copy, Debug, PartialEq, Eq)]
+#[derive(Clone, Copy, PartialEq, Eq)]
 pub struct DiskStops {
     /// The disk.
     pub machine: SymDisk,

@@ -58,3 +58,34 @@ pub choice_form : (kinds : List RuleKind) (m : SpecStops) (q : asked.Question) (
     q ≡ question.Choice → these ≡ vars → left ≡ (layers.crash_of kinds (m.machine).layer (picks.Inputs m.last) these old).value →
     left ≡ ((spec_power m).cut kinds (question_of q) vars old).value
 choice_form kinds m q vars these old left e f g = g ∙ ap (λ (o : Out (List SymValue)). o.value) (choice_so kinds m q vars these old e f)
+
+-- what power leaves of a call
+call_so : (kinds : List RuleKind) (m : SpecStops) (q : asked.Question) (name : Bor (List ℕ)) (xs : Bor (List SymValue)) (vars these : List SymValue)
+    (old : List Node) → q ≡ question.Call name xs → these ≡ vars →
+    layers.fall_of kinds (m.machine).layer (picks.Inputs m.last) name.now xs.now these old ≡ (spec_power m).cut kinds (question_of q) vars old
+call_so kinds m q name xs vars these old e f =
+    ap (λ z. layers.fall_of kinds (m.machine).layer (picks.Inputs m.last) name.now xs.now z old) f
+    ∙ ap (λ z. (spec_power m).cut kinds (question_of z) vars old) (sym e)
+
+pub call_nodes : (kinds : List RuleKind) (m : SpecStops) (q : asked.Question) (name : Bor (List ℕ)) (xs : Bor (List SymValue)) (vars these : List SymValue)
+    (old new : List Node) → q ≡ question.Call name xs → these ≡ vars →
+    new ≡ (layers.fall_of kinds (m.machine).layer (picks.Inputs m.last) name.now xs.now these old).nodes →
+    new ≡ ((spec_power m).cut kinds (question_of q) vars old).nodes
+call_nodes kinds m q name xs vars these old new e f g = g ∙ ap (λ (o : Out (List SymValue)). o.nodes) (call_so kinds m q name xs vars these old e f)
+
+pub call_form : (kinds : List RuleKind) (m : SpecStops) (q : asked.Question) (name : Bor (List ℕ)) (xs : Bor (List SymValue)) (vars these : List SymValue)
+    (old : List Node) (left : List SymValue) → q ≡ question.Call name xs → these ≡ vars →
+    left ≡ (layers.fall_of kinds (m.machine).layer (picks.Inputs m.last) name.now xs.now these old).value →
+    left ≡ ((spec_power m).cut kinds (question_of q) vars old).value
+call_form kinds m q name xs vars these old left e f g = g ∙ ap (λ (o : Out (List SymValue)). o.value) (call_so kinds m q name xs vars these old e f)
+
+-- and between questions
+pub lose_nodes : (kinds : List RuleKind) (m : SpecStops) (vars these : List SymValue) (old new : List Node) → these ≡ vars →
+    new ≡ (layers.crash_of kinds (m.machine).layer (picks.Inputs m.last) these old).nodes → new ≡ ((spec_power m).lose kinds vars old).nodes
+lose_nodes kinds m vars these old new f g =
+    g ∙ ap (λ (z : List SymValue). (layers.crash_of kinds (m.machine).layer (picks.Inputs m.last) z old).nodes) f
+
+pub lose_form : (kinds : List RuleKind) (m : SpecStops) (vars these : List SymValue) (old : List Node) (left : List SymValue) → these ≡ vars →
+    left ≡ (layers.crash_of kinds (m.machine).layer (picks.Inputs m.last) these old).value → left ≡ ((spec_power m).lose kinds vars old).value
+lose_form kinds m vars these old left f g =
+    g ∙ ap (λ (z : List SymValue). (layers.crash_of kinds (m.machine).layer (picks.Inputs m.last) z old).value) f

@@ -1,3 +1,4 @@
+pub mod Chains
 pub mod Standing
 pub mod Leaving
 pub mod Lasting

@@ -187,13 +187,27 @@ fn beginning<'a>(
     Ok(())
 }
 
+/// The first type error of a file, found by a checker and weights that know nothing yet.
+fn found<'a>(
+    checker: &mut Typer<'a>,
+    weights: &mut Weights<'a>,
+    file: &'a File,
+) -> Result<Option<TypeError>, NoMemory>
+    requires scope { scope_of checker.old ≡ definition_scope [] }
+    requires weights { weights.old ≡ [] }
+    requires first { checker.old.first.type_error ≡ None }
+    ensures { IfOk result (λ found. found ≡ first_after None (type_errors_of file.now)) }
+{
+    beginning(checker, weights, file)?;
+    layers(checker, weights, file.layers.as_slice())?;
+    Ok(checker.first.type_error)
+}
+
 /// The first type error of a file, if there is one. Its only error is out of memory.
 pub fn first_type_error(alloc: Global, file: &File) -> Result<Option<TypeError>, NoMemory>
     ensures { IfOk result (λ found. found ≡ first_after None (type_errors_of file.now)) }
 {
     let mut checker = empty(alloc);
     let mut weights = Weights::new(alloc);
-    beginning(&mut checker, &mut weights, file)?;
-    layers(&mut checker, &weights, file.layers.as_slice())?;
-    Ok(checker.first.type_error)
+    found(&mut checker, &mut weights, file)
 }

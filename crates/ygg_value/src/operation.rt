@@ -1,5 +1,5 @@
 /// A binary operation on words. Arithmetic is modulo 2 to the width, and comparisons are unsigned.
-#[derive(Clone, Copy, Debug, PartialEq, Eq, Hash)]
+#[derive(Clone, Copy, PartialEq, Eq, Hash)]
 pub enum Op {
     /// The sum.
     Add,

@@ -10,7 +10,7 @@ use std::marker::Model;
 use ygg_list::{Duplicate, Sequence};
 
 /// 1 to 64 words of one width, which contracts see as that width and the list of their numbers.
-#[derive(Debug, Drop)]
+#[derive(Drop)]
 pub struct Row {
     width: u8,
     words: Vec<u64>,
@@ -27,7 +27,7 @@ impl Model for Row {
 }
 
 /// 1 to 256 rows of as many words each, at most 4,096 words in all, which contracts see as the list of the rows' lists of numbers.
-#[derive(Debug, Drop)]
+#[derive(Drop)]
 pub struct Table {
     width: u8,
     words: u8,
@@ -49,7 +49,7 @@ impl Model for Table {
 }
 
 /// A word, a row or a table.
-#[derive(Debug, Drop)]
+#[derive(Drop)]
 pub enum Value {
     Word(Word),
     Row(Row),

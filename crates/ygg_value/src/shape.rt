@@ -1,5 +1,5 @@
 /// What a value is like, without its numbers. Widths are in binary digits.
-#[derive(Clone, Copy, Debug, PartialEq, Eq)]
+#[derive(Clone, Copy, PartialEq, Eq)]
 pub enum Shape {
     /// A number of 1 to 64 digits.
     Word { width: u8 },

@@ -8,7 +8,7 @@ use std::marker::Model;
 use ygg_list::Duplicate;
 
 /// A number of 1 to 64 binary digits, below 2 to its width.
-#[derive(Clone, Copy, Debug, PartialEq, Eq, Hash)]
+#[derive(Clone, Copy, PartialEq, Eq, Hash)]
 pub struct Word {
     /// How many binary digits the word has.
     pub width: u8,

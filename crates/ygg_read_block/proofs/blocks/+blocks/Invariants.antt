@@ -14,6 +14,9 @@ decreases-optional l = 2 * length l.reader.now
 abbrev pub decreases-repetition : goal.decreases-repetition
 decreases-repetition l = 2 * length l.reader.now
 
+abbrev pub decreases-sides : goal.decreases-sides
+decreases-sides l = 2 * length l.reader.now + 1
+
 abbrev pub decreases-statement : goal.decreases-statement
 decreases-statement l = 2 * length l.reader.now
 

@@ -1,5 +1,5 @@
 use Rattle.std.proofs.Common.{IfOk, subst}
-use Rattle.ygg_bank.proofs.Widths.{wider, width_is}
+use Rattle.ygg_bank.proofs.Widths.{wider, width_is, extends_both}
 use Rattle.ygg_bank.specs.Nodes.{HasWidth}
 use Rattle.ygg_bank.specs.declared.node.Id.{Id}
 use Rattle.ygg_shape_words.proofs.Fit.{can_and}
@@ -16,3 +16,6 @@ returns-clause-width g c =
     subst (λ w. IfOk c.make.result (λ (id : Id). HasWidth c.make.new.self id w))
     (width_is c.same.new.bank c.args.so_far 1 (wider c.args.bank.now c.same.new.bank c.args.so_far 1 c.same.ensures.grows c.requires.so_far))
     c.make.ensures.width
+
+pub returns-clause-grows : goal.returns-clause-grows
+returns-clause-grows g c = extends_both c.args.bank.now c.same.new.bank c.make.new.self c.same.ensures.grows c.make.ensures.grows

@@ -1,3 +1,4 @@
+use Rattle.ygg_bank.proofs.Widths.{extends_both}
 use Rattle.ygg_shape_cells.proofs.Wider.{alike_words, alike_rows, alike_tables, rows_alike_wider, tables_alike_wider}
 use Rattle.ygg_shape.proofs.comparing.equal_by.Goals as goal
 
@@ -23,3 +24,12 @@ compare_rows-requires-clause-rows g c =
     (alike_tables c.args.bank.now c.args.one.now c.args.two.now c.in-Table-Table.one c.in-Table-Table.two c.requires c.in-Table-Table.is-0
     c.in-Table-Table.is-1)
     c.as_slice-in-Table-Table.ensures c.as_slice-in-Table-Table-2.ensures
+
+pub returns-in_ok-so_far-in-Row-Row-clause-grows : goal.returns-in_ok-so_far-in-Row-Row-clause-grows
+returns-in_ok-so_far-in-Row-Row-clause-grows g c =
+    extends_both c.args.bank.now c.make.new.self c.compare_row.new.bank c.make.ensures.grows c.compare_row.ensures.grows
+
+pub returns-in_ok-so_far-in-Table-Table-clause-grows : goal.returns-in_ok-so_far-in-Table-Table-clause-grows
+returns-in_ok-so_far-in-Table-Table-clause-grows g c =
+    extends_both c.args.bank.now c.make-in-Table-Table.new.self c.compare_rows.new.bank c.make-in-Table-Table.ensures.grows
+    c.compare_rows.ensures.grows

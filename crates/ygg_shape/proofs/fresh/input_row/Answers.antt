@@ -26,3 +26,11 @@ loop-place-preserved g c =
       grows = extends_both c.args.bank.now c.loop-place.bank c.make.new.self c.loop-place.invariant.grows c.make.ensures.grows;
       bank = c.make.ensures.bank;
     }
+
+pub returns-in_err-term-clause-grows : goal.returns-in_err-term-clause-grows
+returns-in_err-term-clause-grows g c =
+    extends_both c.args.bank.now c.loop-place.bank c.make.new.self c.loop-place.invariant.grows c.make.ensures.grows
+
+pub returns-in_err-push-clause-grows : goal.returns-in_err-push-clause-grows
+returns-in_err-push-clause-grows g c =
+    extends_both c.args.bank.now c.loop-place.bank c.make.new.self c.loop-place.invariant.grows c.make.ensures.grows

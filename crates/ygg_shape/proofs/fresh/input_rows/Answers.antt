@@ -23,3 +23,11 @@ loop-place-preserved g c =
       grows = extends_both c.args.bank.now c.loop-place.bank c.input_row.new.bank c.loop-place.invariant.grows c.input_row.ensures.grows;
       bank = c.input_row.ensures.bank;
     }
+
+pub returns-in_err-row-clause-grows : goal.returns-in_err-row-clause-grows
+returns-in_err-row-clause-grows g c =
+    extends_both c.args.bank.now c.loop-place.bank c.input_row.new.bank c.loop-place.invariant.grows c.input_row.ensures.grows
+
+pub returns-in_err-push-clause-grows : goal.returns-in_err-push-clause-grows
+returns-in_err-push-clause-grows g c =
+    extends_both c.args.bank.now c.loop-place.bank c.input_row.new.bank c.loop-place.invariant.grows c.input_row.ensures.grows

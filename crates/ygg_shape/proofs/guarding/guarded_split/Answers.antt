@@ -29,3 +29,17 @@ merge_row-requires-clause-rows g c =
     rows_alike_wider c.args.bank.now c.make-2.new.self c.args.yes.now c.args.no.now c.args.yes.now c.args.no.now
     (extends_both c.args.bank.now c.make.new.self c.make-2.new.self c.make.ensures.grows
     (extends_both c.make.new.self c.same.new.bank c.make-2.new.self c.same.ensures.grows c.make-2.ensures.grows)) c.requires.rows refl refl
+
+pub returns-in_err-b-clause-grows : goal.returns-in_err-b-clause-grows
+returns-in_err-b-clause-grows g c = extends_both c.args.bank.now c.make.new.self c.same.new.bank c.make.ensures.grows c.same.ensures.grows
+
+pub returns-in_err-both-clause-grows : goal.returns-in_err-both-clause-grows
+returns-in_err-both-clause-grows g c =
+    extends_both c.args.bank.now c.make.new.self c.make-2.new.self c.make.ensures.grows
+    (extends_both c.make.new.self c.same.new.bank c.make-2.new.self c.same.ensures.grows c.make-2.ensures.grows)
+
+pub returns-clause-grows : goal.returns-clause-grows
+returns-clause-grows g c =
+    extends_both c.args.bank.now c.make.new.self c.merge_row.new.bank c.make.ensures.grows
+    (extends_both c.make.new.self c.same.new.bank c.merge_row.new.bank c.same.ensures.grows
+    (extends_both c.same.new.bank c.make-2.new.self c.merge_row.new.bank c.make-2.ensures.grows c.merge_row.ensures.grows))

@@ -1,5 +1,5 @@
 use Rattle.std.proofs.Common.{◌∙◌}
-use Rattle.ygg_bank.proofs.Widths.{wider}
+use Rattle.ygg_bank.proofs.Widths.{wider, extends_both}
 use Rattle.ygg_shape_cells.proofs.Wider.{rows_at}
 use Rattle.ygg_shape.proofs.merging.merge_rows.Goals as goal
 
@@ -11,3 +11,11 @@ merge_row-requires-clause-rows g c =
     rows_at c.args.bank.now c.loop-place.bank c.args.yes.now c.args.no.now c.loop-place.place c.as_slice.result.now _
     c.as_slice-in-loop-place.result.now _ c.loop-place.invariant.grows c.requires.rows
     c.loop-place-test.true (c.as_slice.ensures ∙ c.index-yes-place.is) (c.as_slice-in-loop-place.ensures ∙ c.index-no-place.is)
+
+pub returns-in_err-row-clause-grows : goal.returns-in_err-row-clause-grows
+returns-in_err-row-clause-grows g c =
+    extends_both c.args.bank.now c.loop-place.bank c.merge_row.new.bank c.loop-place.invariant.grows c.merge_row.ensures.grows
+
+pub returns-in_err-push-clause-grows : goal.returns-in_err-push-clause-grows
+returns-in_err-push-clause-grows g c =
+    extends_both c.args.bank.now c.loop-place.bank c.merge_row.new.bank c.loop-place.invariant.grows c.merge_row.ensures.grows

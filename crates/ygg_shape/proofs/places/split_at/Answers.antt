@@ -15,3 +15,11 @@ pub merge_row-requires-clause-rows : goal.merge_row-requires-clause-rows
 merge_row-requires-clause-rows g c =
     rows_alike_wider c.args.bank.now c.same.new.bank c.args.yes.now c.args.no.now c.args.yes.now c.args.no.now
     (extends_both c.args.bank.now c.make.new.self c.same.new.bank c.make.ensures.grows c.same.ensures.grows) c.requires.rows refl refl
+
+pub returns-in_err-test-clause-grows : goal.returns-in_err-test-clause-grows
+returns-in_err-test-clause-grows g c = extends_both c.args.bank.now c.make.new.self c.same.new.bank c.make.ensures.grows c.same.ensures.grows
+
+pub returns-clause-grows : goal.returns-clause-grows
+returns-clause-grows g c =
+    extends_both c.args.bank.now c.make.new.self c.merge_row.new.bank c.make.ensures.grows
+    (extends_both c.make.new.self c.same.new.bank c.merge_row.new.bank c.same.ensures.grows c.merge_row.ensures.grows)

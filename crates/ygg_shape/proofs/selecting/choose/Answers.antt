@@ -44,3 +44,7 @@ loop-number-preserved g c =
           (subst (IsRow c.loop-number.bank n w) (sym same) (c.loop-number.invariant.shape n w q p));
       bank = c.where_at.ensures.bank;
     }
+
+pub returns-in_err-row-clause-grows : goal.returns-in_err-row-clause-grows
+returns-in_err-row-clause-grows g c =
+    extends_both c.args.bank.now c.loop-number.bank c.where_at.new.bank c.loop-number.invariant.grows c.where_at.ensures.grows

@@ -1,4 +1,4 @@
-use Rattle.ygg_bank.proofs.Widths.{wider}
+use Rattle.ygg_bank.proofs.Widths.{wider, extends_both}
 use Rattle.ygg_shape_cells.proofs.Wider.{rows_wider}
 use Rattle.ygg_shape.proofs.selecting.select_by.Goals as goal
 
@@ -15,3 +15,7 @@ choose-requires-clause-rows g c =
       rows_are = rows_wider c.args.bank.now c.zeros.new.bank t.words t.width c.args.table.now c.zeros.ensures.grows h.rows;
       row_is = c.in_ok-past-in-None.ensures.shape t.words t.width h;
     }
+
+pub returns-in_ok-past-in-None-clause-grows : goal.returns-in_ok-past-in-None-clause-grows
+returns-in_ok-past-in-None-clause-grows g c =
+    extends_both c.args.bank.now c.zeros.new.bank c.choose.new.bank c.zeros.ensures.grows c.choose.ensures.grows

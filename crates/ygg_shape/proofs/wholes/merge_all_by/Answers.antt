@@ -32,3 +32,11 @@ loop-place-preserved g c =
       grows = extends_both c.args.bank.now c.loop-place.bank c.merge.new.bank c.loop-place.invariant.grows c.merge.ensures.grows;
       bank = c.merge.ensures.bank;
     }
+
+pub returns-in_err-answer-clause-grows : goal.returns-in_err-answer-clause-grows
+returns-in_err-answer-clause-grows g c =
+    extends_both c.args.bank.now c.loop-place.bank c.merge.new.bank c.loop-place.invariant.grows c.merge.ensures.grows
+
+pub returns-in_err-push-clause-grows : goal.returns-in_err-push-clause-grows
+returns-in_err-push-clause-grows g c =
+    extends_both c.args.bank.now c.loop-place.bank c.merge.new.bank c.loop-place.invariant.grows c.merge.ensures.grows

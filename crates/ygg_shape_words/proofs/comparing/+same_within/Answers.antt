@@ -200,3 +200,60 @@ returns-in_err-learn-in-Against-clause-inputs g t c = λ next h. c.same_within-i
 
 pub returns-in_ok-learn-in-Against-clause-inputs : goal.returns-in_ok-learn-in-Against-clause-inputs
 returns-in_ok-learn-in-Against-clause-inputs g t c = λ next h. c.same_within-in-Against.ensures.inputs next (c.make-in-Against.ensures.inputs next h)
+
+pub returns-in_err-no-in-Split-clause-grows : goal.returns-in_err-no-in-Split-clause-grows
+returns-in_err-no-in-Split-clause-grows g t c =
+    extends_both c.args.bank.now c.same_within.new.bank c.same_within-in-Split.new.bank c.same_within.ensures.grows c.same_within-in-Split.ensures.grows
+
+pub returns-in_err-answer-in-Split-clause-grows : goal.returns-in_err-answer-in-Split-clause-grows
+returns-in_err-answer-in-Split-clause-grows g t c =
+    extends_both c.args.bank.now c.same_within.new.bank c.pick.new.bank c.same_within.ensures.grows
+    (extends_both c.same_within.new.bank c.same_within-in-Split.new.bank c.pick.new.bank c.same_within-in-Split.ensures.grows c.pick.ensures.grows)
+
+pub returns-in_err-learn-in-Split-clause-grows : goal.returns-in_err-learn-in-Split-clause-grows
+returns-in_err-learn-in-Split-clause-grows g t c =
+    extends_both c.args.bank.now c.same_within.new.bank c.pick.new.bank c.same_within.ensures.grows
+    (extends_both c.same_within.new.bank c.same_within-in-Split.new.bank c.pick.new.bank c.same_within-in-Split.ensures.grows c.pick.ensures.grows)
+
+pub returns-in_ok-learn-in-Split-clause-grows : goal.returns-in_ok-learn-in-Split-clause-grows
+returns-in_ok-learn-in-Split-clause-grows g t c =
+    extends_both c.args.bank.now c.same_within.new.bank c.pick.new.bank c.same_within.ensures.grows
+    (extends_both c.same_within.new.bank c.same_within-in-Split.new.bank c.pick.new.bank c.same_within-in-Split.ensures.grows c.pick.ensures.grows)
+
+pub returns-in_err-second-in-Either-clause-grows : goal.returns-in_err-second-in-Either-clause-grows
+returns-in_err-second-in-Either-clause-grows g t c =
+    extends_both c.args.bank.now c.same_within-in-Either.new.bank c.same_within-in-Either-2.new.bank c.same_within-in-Either.ensures.grows
+    c.same_within-in-Either-2.ensures.grows
+
+pub returns-in_err-answer-in-Either-clause-grows : goal.returns-in_err-answer-in-Either-clause-grows
+returns-in_err-answer-in-Either-clause-grows g t c =
+    extends_both c.args.bank.now c.same_within-in-Either.new.bank c.either.new.bank c.same_within-in-Either.ensures.grows
+    (extends_both c.same_within-in-Either.new.bank c.same_within-in-Either-2.new.bank c.either.new.bank c.same_within-in-Either-2.ensures.grows
+    c.either.ensures.grows)
+
+pub returns-in_err-learn-in-Either-clause-grows : goal.returns-in_err-learn-in-Either-clause-grows
+returns-in_err-learn-in-Either-clause-grows g t c =
+    extends_both c.args.bank.now c.same_within-in-Either.new.bank c.either.new.bank c.same_within-in-Either.ensures.grows
+    (extends_both c.same_within-in-Either.new.bank c.same_within-in-Either-2.new.bank c.either.new.bank c.same_within-in-Either-2.ensures.grows
+    c.either.ensures.grows)
+
+pub returns-in_ok-learn-in-Either-clause-grows : goal.returns-in_ok-learn-in-Either-clause-grows
+returns-in_ok-learn-in-Either-clause-grows g t c =
+    extends_both c.args.bank.now c.same_within-in-Either.new.bank c.either.new.bank c.same_within-in-Either.ensures.grows
+    (extends_both c.same_within-in-Either.new.bank c.same_within-in-Either-2.new.bank c.either.new.bank c.same_within-in-Either-2.ensures.grows
+    c.either.ensures.grows)
+
+pub returns-in_err-answer-in-Against-clause-grows : goal.returns-in_err-answer-in-Against-clause-grows
+returns-in_err-answer-in-Against-clause-grows g t c =
+    extends_both c.args.bank.now c.make-in-Against.new.self c.same_within-in-Against.new.bank c.make-in-Against.ensures.grows
+    c.same_within-in-Against.ensures.grows
+
+pub returns-in_err-learn-in-Against-clause-grows : goal.returns-in_err-learn-in-Against-clause-grows
+returns-in_err-learn-in-Against-clause-grows g t c =
+    extends_both c.args.bank.now c.make-in-Against.new.self c.same_within-in-Against.new.bank c.make-in-Against.ensures.grows
+    c.same_within-in-Against.ensures.grows
+
+pub returns-in_ok-learn-in-Against-clause-grows : goal.returns-in_ok-learn-in-Against-clause-grows
+returns-in_ok-learn-in-Against-clause-grows g t c =
+    extends_both c.args.bank.now c.make-in-Against.new.self c.same_within-in-Against.new.bank c.make-in-Against.ensures.grows
+    c.same_within-in-Against.ensures.grows

@@ -25,3 +25,16 @@ write_where-requires-clause-row g c =
     let call = c.requires.call in
     row_stands c.args.disk c.args.bank.now c.write.new.bank c.args.row.now
     (extends_both c.args.bank.now c.make.new.self c.write.new.bank c.make.ensures.grows c.write.ensures.grows) call.1
+
+pub returns-in_err-seen-clause-grows : goal.returns-in_err-seen-clause-grows
+returns-in_err-seen-clause-grows g c = extends_both c.args.bank.now c.make.new.self c.write.new.bank c.make.ensures.grows c.write.ensures.grows
+
+pub returns-in_err-left-clause-grows : goal.returns-in_err-left-clause-grows
+returns-in_err-left-clause-grows g c =
+    extends_both c.args.bank.now c.make.new.self c.write_where.new.bank c.make.ensures.grows
+    (extends_both c.make.new.self c.write.new.bank c.write_where.new.bank c.write.ensures.grows c.write_where.ensures.grows)
+
+pub returns-clause-grows : goal.returns-clause-grows
+returns-clause-grows g c =
+    extends_both c.args.bank.now c.make.new.self c.write_where.new.bank c.make.ensures.grows
+    (extends_both c.make.new.self c.write.new.bank c.write_where.new.bank c.write.ensures.grows c.write_where.ensures.grows)

@@ -1,4 +1,5 @@
 use Rattle.std.proofs.Common.{subst}
+use Rattle.ygg_bank.proofs.Widths.{extends_both}
 use Rattle.ygg_histories.specs.Stack.{tables_of_kind}
 use Rattle.ygg_sym_below.specs.Lows.{LowShaped}
 use Rattle.ygg_sym_disk.proofs.Stands.{row_stands, stable_stands, view_stands}
@@ -21,3 +22,19 @@ write_where-requires-in-Async-clause-table g c =
 pub write_where-requires-in-Async-clause-row : goal.write_where-requires-in-Async-clause-row
 write_where-requires-in-Async-clause-row g c =
     let call = c.requires.call in row_stands c.args.disk c.args.bank.now c.make.new.self c.args.row.now c.make.ensures.grows call.1
+
+pub returns-in_err-left-in-Sync-clause-grows : goal.returns-in_err-left-in-Sync-clause-grows
+returns-in_err-left-in-Sync-clause-grows g c =
+    extends_both c.args.bank.now c.make.new.self c.write_where.new.bank c.make.ensures.grows c.write_where.ensures.grows
+
+pub returns-in_ok-left-in-Sync-clause-grows : goal.returns-in_ok-left-in-Sync-clause-grows
+returns-in_ok-left-in-Sync-clause-grows g c =
+    extends_both c.args.bank.now c.make.new.self c.write_where.new.bank c.make.ensures.grows c.write_where.ensures.grows
+
+pub returns-in_err-left-in-Async-clause-grows : goal.returns-in_err-left-in-Async-clause-grows
+returns-in_err-left-in-Async-clause-grows g c =
+    extends_both c.args.bank.now c.make.new.self c.write_where-in-Async.new.bank c.make.ensures.grows c.write_where-in-Async.ensures.grows
+
+pub returns-in_ok-left-in-Async-clause-grows : goal.returns-in_ok-left-in-Async-clause-grows
+returns-in_ok-left-in-Async-clause-grows g c =
+    extends_both c.args.bank.now c.make.new.self c.write_where-in-Async.new.bank c.make.ensures.grows c.write_where-in-Async.ensures.grows

@@ -31,3 +31,17 @@ store-requires-clause-at g c =
     (extends_both c.args.bank.now c.select.new.bank c.store_word.new.bank c.select.ensures.grows c.store_word.ensures.grows) in
     let q = p.0 in
     omega (arith, m, q)
+
+pub returns-in_err-written-clause-grows : goal.returns-in_err-written-clause-grows
+returns-in_err-written-clause-grows g c =
+    extends_both c.args.bank.now c.select.new.bank c.store_word.new.bank c.select.ensures.grows c.store_word.ensures.grows
+
+pub returns-in_err-answer-clause-grows : goal.returns-in_err-answer-clause-grows
+returns-in_err-answer-clause-grows g c =
+    extends_both c.args.bank.now c.select.new.bank c.store.new.bank c.select.ensures.grows
+    (extends_both c.select.new.bank c.store_word.new.bank c.store.new.bank c.store_word.ensures.grows c.store.ensures.grows)
+
+pub returns-clause-grows : goal.returns-clause-grows
+returns-clause-grows g c =
+    extends_both c.args.bank.now c.select.new.bank c.store.new.bank c.select.ensures.grows
+    (extends_both c.select.new.bank c.store_word.new.bank c.store.new.bank c.store_word.ensures.grows c.store.ensures.grows)

@@ -1,3 +1,4 @@
+use Rattle.ygg_bank.proofs.Widths.{extends_both}
 use Rattle.ygg_sym_spec.proofs.Falling.{crash_can}
 use Rattle.ygg_sym_spec.proofs.Going.{both_single, form_along, nodes_along, then_goes}
 use Rattle.ygg_sym_spec.specs.Layers.{crash_of, then_crash_of}
@@ -31,3 +32,6 @@ returns-clause-form g c =
 pub returns-clause-single : goal.returns-clause-single
 returns-clause-single g c =
     both_single c.args.bank.now c.block.new.bank c.crash.new.bank c.crash.result c.in_ok-done.ensures.single c.crash.ensures.single
+
+pub returns-clause-grows : goal.returns-clause-grows
+returns-clause-grows g c = extends_both c.args.bank.now c.block.new.bank c.crash.new.bank c.block.ensures.grows c.crash.ensures.grows

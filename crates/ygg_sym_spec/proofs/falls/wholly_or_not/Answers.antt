@@ -69,3 +69,18 @@ returns-clause-single g c =
     (then_single c.make.new.bank c.then_crash.new.bank c.crash.new.bank c.in_ok-all.ensures.single c.in_ok-nothing.ensures.single))
     (lows_single (g.B.Book.kinds c.args.book.now) c.in_ok-happened.happened c.in_ok-all.all c.in_ok-nothing.nothing c.crash.new.bank c.merge_lows.new.bank
     c.merge_lows.result c.merge_lows.ensures.nodes)
+
+pub returns-in_err-all-clause-grows : goal.returns-in_err-all-clause-grows
+returns-in_err-all-clause-grows g c =
+    extends_both c.args.bank.now c.make.new.bank c.then_crash.new.bank c.make.ensures.grows c.then_crash.ensures.grows
+
+pub returns-in_err-nothing-clause-grows : goal.returns-in_err-nothing-clause-grows
+returns-in_err-nothing-clause-grows g c =
+    extends_both c.args.bank.now c.make.new.bank c.crash.new.bank c.make.ensures.grows
+    (extends_both c.make.new.bank c.then_crash.new.bank c.crash.new.bank c.then_crash.ensures.grows c.crash.ensures.grows)
+
+pub returns-clause-grows : goal.returns-clause-grows
+returns-clause-grows g c =
+    extends_both c.args.bank.now c.make.new.bank c.merge_lows.new.bank c.make.ensures.grows
+    (extends_both c.make.new.bank c.then_crash.new.bank c.merge_lows.new.bank c.then_crash.ensures.grows
+    (extends_both c.then_crash.new.bank c.crash.new.bank c.merge_lows.new.bank c.crash.ensures.grows c.merge_lows.ensures.grows))

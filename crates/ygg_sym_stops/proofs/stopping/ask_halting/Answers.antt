@@ -1,7 +1,14 @@
 use Rattle.ygg_bank.proofs.Widths.{extends_both, wider}
 use Rattle.ygg_sym_runs.specs.Lower.{question_of}
-use Rattle.ygg_sym_stops.specs.Halting.{halted_of, halting_meaning}
+use Rattle.ygg_sym_stops.specs.Halting.{halted_of, halting_meaning, no_functions}
 use Rattle.ygg_sym_stops.proofs.Standing.{ask_inner, ask_later, single_both, stopped_wide}
+use Rattle.std.proofs.Common.{ap, ◌∙◌}
+use Rattle.ygg_bank.specs.Makes.{Out}
+use Rattle.ygg_sym_runs.specs.Runs.{SymHandled}
+use Rattle.ygg_sym_below.specs.Stops.{before_at, within_at}
+use Rattle.ygg_sym_below.specs.StopTerms.{SymHalted, sym_left}
+use Rattle.ygg_sym_stops.specs.Stopping.{stops_on}
+use Rattle.ygg_sym_stops.proofs.Chains.{halted_from}
 use Rattle.ygg_sym_stops.proofs.stopping.ask_halting.Goals as goal
 
 pub left-requires-clause-asks : goal.left-requires-clause-asks
@@ -56,3 +63,103 @@ returns-clause-single g c =
     (single_both c.bit-2.new.bank c.left.new.bank c.handle.new.bank c.in_ok-fallen.ensures.single
     (single_both c.left.new.bank c.either.new.bank c.handle.new.bank c.in_ok-some.ensures.single
     (single_both c.either.new.bank c.either-2.new.bank c.handle.new.bank c.in_ok-stopped.ensures.single c.in_ok-answer.ensures.single))))
+
+pub returns-in_err-inner-clause-grows : goal.returns-in_err-inner-clause-grows
+returns-in_err-inner-clause-grows g c =
+    extends_both c.args.bank.now c.bit.new.bank c.bit-2.new.bank c.bit.ensures.grows c.bit-2.ensures.grows
+
+pub returns-in_err-fallen-clause-grows : goal.returns-in_err-fallen-clause-grows
+returns-in_err-fallen-clause-grows g c =
+    extends_both c.args.bank.now c.bit.new.bank c.left.new.bank c.bit.ensures.grows
+    (extends_both c.bit.new.bank c.bit-2.new.bank c.left.new.bank c.bit-2.ensures.grows
+    c.left.ensures.grows)
+
+pub returns-in_err-some-clause-grows : goal.returns-in_err-some-clause-grows
+returns-in_err-some-clause-grows g c =
+    extends_both c.args.bank.now c.bit.new.bank c.either.new.bank c.bit.ensures.grows
+    (extends_both c.bit.new.bank c.bit-2.new.bank c.either.new.bank c.bit-2.ensures.grows
+    (extends_both c.bit-2.new.bank c.left.new.bank c.either.new.bank c.left.ensures.grows
+    c.either.ensures.grows))
+
+pub returns-in_err-stopped-clause-grows : goal.returns-in_err-stopped-clause-grows
+returns-in_err-stopped-clause-grows g c =
+    extends_both c.args.bank.now c.bit.new.bank c.either-2.new.bank c.bit.ensures.grows
+    (extends_both c.bit.new.bank c.bit-2.new.bank c.either-2.new.bank c.bit-2.ensures.grows
+    (extends_both c.bit-2.new.bank c.left.new.bank c.either-2.new.bank c.left.ensures.grows
+    (extends_both c.left.new.bank c.either.new.bank c.either-2.new.bank c.either.ensures.grows
+    c.either-2.ensures.grows)))
+
+pub returns-in_err-answer-clause-grows : goal.returns-in_err-answer-clause-grows
+returns-in_err-answer-clause-grows g c =
+    extends_both c.args.bank.now c.bit.new.bank c.handle.new.bank c.bit.ensures.grows
+    (extends_both c.bit.new.bank c.bit-2.new.bank c.handle.new.bank c.bit-2.ensures.grows
+    (extends_both c.bit-2.new.bank c.left.new.bank c.handle.new.bank c.left.ensures.grows
+    (extends_both c.left.new.bank c.either.new.bank c.handle.new.bank c.either.ensures.grows
+    (extends_both c.either.new.bank c.either-2.new.bank c.handle.new.bank c.either-2.ensures.grows
+    c.handle.ensures.grows))))
+
+pub returns-clause-grows : goal.returns-clause-grows
+returns-clause-grows g c =
+    extends_both c.args.bank.now c.bit.new.bank c.handle.new.bank c.bit.ensures.grows
+    (extends_both c.bit.new.bank c.bit-2.new.bank c.handle.new.bank c.bit-2.ensures.grows
+    (extends_both c.bit-2.new.bank c.left.new.bank c.handle.new.bank c.left.ensures.grows
+    (extends_both c.left.new.bank c.either.new.bank c.handle.new.bank c.either.ensures.grows
+    (extends_both c.either.new.bank c.either-2.new.bank c.handle.new.bank c.either-2.ensures.grows
+    c.handle.ensures.grows))))
+
+pub returns-clause-nodes : goal.returns-clause-nodes
+returns-clause-nodes g c =
+    let M = g.W.SymLower.means c.args.stops.now in
+    let K = g.W.SymStops.power c.args.stops.now in
+    let kinds = g.B.Book.kinds c.args.book.now in
+    let q = question_of c.args.question in
+    let z = halted_of c.args.to.now c.args.fallen.now c.args.stopped in
+    let K2 = stops_on M K kinds in
+    ap (λ (o : Out (SymHandled (SymHalted _ _))). o.nodes) (halted_from (K2.bit (before_at c.args.place)) (K2.bit (within_at c.args.place))
+    (λ here within. sym_left kinds no_functions (M.machine kinds) K2 here within q z) K2.either ((M.machine kinds).handle c.args.place q c.args.to.now)
+    c.args.stopped c.in_ok-here.here c.in_ok-inner.inner c.in_ok-some.some c.in_ok-stopped.stopped c.in_ok-fallen.fallen c.handle.new.state
+    c.in_ok-answer.answer c.args.bank.now c.bit.new.bank c.bit-2.new.bank c.left.new.bank c.either.new.bank c.either-2.new.bank c.handle.new.bank
+    (c.in_ok-here.ensures.form ∙ ap (λ n. (K2.bit n c.args.bank.now).value) c.in_ok-before.ensures)
+    (c.in_ok-here.ensures.nodes ∙ ap (λ n. (K2.bit n c.args.bank.now).nodes) c.in_ok-before.ensures)
+    (c.in_ok-inner.ensures.form ∙ ap (λ n. (K2.bit n c.bit.new.bank).value) c.in_ok-within.ensures)
+    (c.in_ok-inner.ensures.nodes ∙ ap (λ n. (K2.bit n c.bit.new.bank).nodes) c.in_ok-within.ensures)
+    c.in_ok-fallen.ensures.form c.in_ok-fallen.ensures.nodes c.in_ok-some.ensures.form c.in_ok-some.ensures.nodes c.in_ok-stopped.ensures.form
+    c.in_ok-stopped.ensures.nodes c.in_ok-answer.ensures.answer c.in_ok-answer.ensures.state c.in_ok-answer.ensures.nodes)
+
+pub returns-clause-answer : goal.returns-clause-answer
+returns-clause-answer g c =
+    let M = g.W.SymLower.means c.args.stops.now in
+    let K = g.W.SymStops.power c.args.stops.now in
+    let kinds = g.B.Book.kinds c.args.book.now in
+    let q = question_of c.args.question in
+    let z = halted_of c.args.to.now c.args.fallen.now c.args.stopped in
+    let K2 = stops_on M K kinds in
+    ap (λ (o : Out (SymHandled (SymHalted _ _))). o.value.answer) (halted_from (K2.bit (before_at c.args.place)) (K2.bit (within_at c.args.place))
+    (λ here within. sym_left kinds no_functions (M.machine kinds) K2 here within q z) K2.either ((M.machine kinds).handle c.args.place q c.args.to.now)
+    c.args.stopped c.in_ok-here.here c.in_ok-inner.inner c.in_ok-some.some c.in_ok-stopped.stopped c.in_ok-fallen.fallen c.handle.new.state
+    c.in_ok-answer.answer c.args.bank.now c.bit.new.bank c.bit-2.new.bank c.left.new.bank c.either.new.bank c.either-2.new.bank c.handle.new.bank
+    (c.in_ok-here.ensures.form ∙ ap (λ n. (K2.bit n c.args.bank.now).value) c.in_ok-before.ensures)
+    (c.in_ok-here.ensures.nodes ∙ ap (λ n. (K2.bit n c.args.bank.now).nodes) c.in_ok-before.ensures)
+    (c.in_ok-inner.ensures.form ∙ ap (λ n. (K2.bit n c.bit.new.bank).value) c.in_ok-within.ensures)
+    (c.in_ok-inner.ensures.nodes ∙ ap (λ n. (K2.bit n c.bit.new.bank).nodes) c.in_ok-within.ensures)
+    c.in_ok-fallen.ensures.form c.in_ok-fallen.ensures.nodes c.in_ok-some.ensures.form c.in_ok-some.ensures.nodes c.in_ok-stopped.ensures.form
+    c.in_ok-stopped.ensures.nodes c.in_ok-answer.ensures.answer c.in_ok-answer.ensures.state c.in_ok-answer.ensures.nodes)
+
+pub returns-clause-state : goal.returns-clause-state
+returns-clause-state g c =
+    let M = g.W.SymLower.means c.args.stops.now in
+    let K = g.W.SymStops.power c.args.stops.now in
+    let kinds = g.B.Book.kinds c.args.book.now in
+    let q = question_of c.args.question in
+    let z = halted_of c.args.to.now c.args.fallen.now c.args.stopped in
+    let K2 = stops_on M K kinds in
+    ap (λ (o : Out (SymHandled (SymHalted _ _))). o.value.to) (halted_from (K2.bit (before_at c.args.place)) (K2.bit (within_at c.args.place))
+    (λ here within. sym_left kinds no_functions (M.machine kinds) K2 here within q z) K2.either ((M.machine kinds).handle c.args.place q c.args.to.now)
+    c.args.stopped c.in_ok-here.here c.in_ok-inner.inner c.in_ok-some.some c.in_ok-stopped.stopped c.in_ok-fallen.fallen c.handle.new.state
+    c.in_ok-answer.answer c.args.bank.now c.bit.new.bank c.bit-2.new.bank c.left.new.bank c.either.new.bank c.either-2.new.bank c.handle.new.bank
+    (c.in_ok-here.ensures.form ∙ ap (λ n. (K2.bit n c.args.bank.now).value) c.in_ok-before.ensures)
+    (c.in_ok-here.ensures.nodes ∙ ap (λ n. (K2.bit n c.args.bank.now).nodes) c.in_ok-before.ensures)
+    (c.in_ok-inner.ensures.form ∙ ap (λ n. (K2.bit n c.bit.new.bank).value) c.in_ok-within.ensures)
+    (c.in_ok-inner.ensures.nodes ∙ ap (λ n. (K2.bit n c.bit.new.bank).nodes) c.in_ok-within.ensures)
+    c.in_ok-fallen.ensures.form c.in_ok-fallen.ensures.nodes c.in_ok-some.ensures.form c.in_ok-some.ensures.nodes c.in_ok-stopped.ensures.form
+    c.in_ok-stopped.ensures.nodes c.in_ok-answer.ensures.answer c.in_ok-answer.ensures.state c.in_ok-answer.ensures.nodes)

@@ -496,3 +496,41 @@ turns-returns-clause-ran g t c =
     let f0 = c.args.frame.now in
     turns_end M defs kinds x w n each c.args.place (env_of f0.names.items) f0.state c.args.bank.now c.loop-i.i c.loop-i.at env f.state c.loop-i.bank
     (omega (arith, c.loop-i-test.false)) c.loop-i.invariant.single c.loop-i.invariant.went
+
+pub statement-returns-in_err-middle-in-If-clause-grows : goal.statement-returns-in_err-middle-in-If-clause-grows
+statement-returns-in_err-middle-in-If-clause-grows g t c =
+    extends_both c.args.bank.now c.value.new.bank c.block.new.bank c.value.ensures.grows c.block.ensures.grows
+
+pub statement-returns-in_err-end-in-If-clause-grows : goal.statement-returns-in_err-end-in-If-clause-grows
+statement-returns-in_err-end-in-If-clause-grows g t c =
+    extends_both c.args.bank.now c.value.new.bank c.block-in-If.new.bank c.value.ensures.grows
+    (extends_both c.value.new.bank c.block.new.bank c.block-in-If.new.bank c.block.ensures.grows c.block-in-If.ensures.grows)
+
+pub statement-returns-in_err-join-in-If-clause-grows : goal.statement-returns-in_err-join-in-If-clause-grows
+statement-returns-in_err-join-in-If-clause-grows g t c =
+    extends_both c.args.bank.now c.value.new.bank c.join.new.bank c.value.ensures.grows
+    (extends_both c.value.new.bank c.block.new.bank c.join.new.bank c.block.ensures.grows
+    (extends_both c.block.new.bank c.block-in-If.new.bank c.join.new.bank c.block-in-If.ensures.grows c.join.ensures.grows))
+
+pub statement-returns-in_ok-join-in-If-clause-grows : goal.statement-returns-in_ok-join-in-If-clause-grows
+statement-returns-in_ok-join-in-If-clause-grows g t c =
+    extends_both c.args.bank.now c.value.new.bank c.join.new.bank c.value.ensures.grows
+    (extends_both c.value.new.bank c.block.new.bank c.join.new.bank c.block.ensures.grows
+    (extends_both c.block.new.bank c.block-in-If.new.bank c.join.new.bank c.block-in-If.ensures.grows c.join.ensures.grows))
+
+pub statements-returns-in_err-at-clause-grows : goal.statements-returns-in_err-at-clause-grows
+statements-returns-in_err-at-clause-grows g t c =
+    extends_both c.args.bank.now c.loop-s.bank c.statement.new.bank c.loop-s.invariant.grows c.statement.ensures.grows
+
+pub turns-returns-in_err-number-clause-grows : goal.turns-returns-in_err-number-clause-grows
+turns-returns-in_err-number-clause-grows g t c =
+    extends_both c.args.bank.now c.loop-i.bank c.number.new.bank c.loop-i.invariant.grows c.number.ensures.grows
+
+pub turns-returns-in_err-name_value-clause-grows : goal.turns-returns-in_err-name_value-clause-grows
+turns-returns-in_err-name_value-clause-grows g t c =
+    extends_both c.args.bank.now c.loop-i.bank c.number.new.bank c.loop-i.invariant.grows c.number.ensures.grows
+
+pub turns-returns-in_err-at-clause-grows : goal.turns-returns-in_err-at-clause-grows
+turns-returns-in_err-at-clause-grows g t c =
+    extends_both c.args.bank.now c.loop-i.bank c.block.new.bank c.loop-i.invariant.grows
+    (extends_both c.loop-i.bank c.number.new.bank c.block.new.bank c.number.ensures.grows c.block.ensures.grows)

@@ -1,4 +1,5 @@
 use Rattle.std.proofs.Common.{List, All, map, ap, sym, subst, ◌∙◌, arith}
+use Rattle.ygg_bank.proofs.Widths.{extends_both}
 use Rattle.ygg_bank.specs.Makes.{Out}
 use Rattle.ygg_bank.specs.declared.node.Node.{Node}
 use Rattle.ygg_meaning.specs.Environments.{Name}
@@ -113,3 +114,16 @@ returns-clause-ran g c =
     c.change.auto.names)
     ∙ c.in_ok-change.ensures.names ∙ ap (λ (bs : List SymBinding). (sym_change name put (env_of bs) next).value) c.deref_mut.ensures.value)
     c.in_ok-places.ensures.single c.in_ok-value.ensures.single c.in_ok-change.ensures.single
+
+pub returns-in_err-value-clause-grows : goal.returns-in_err-value-clause-grows
+returns-in_err-value-clause-grows g c = extends_both c.args.bank.now c.places.new.bank c.source.new.bank c.places.ensures.grows c.source.ensures.grows
+
+pub returns-in_err-change-clause-grows : goal.returns-in_err-change-clause-grows
+returns-in_err-change-clause-grows g c =
+    extends_both c.args.bank.now c.places.new.bank c.change.new.bank c.places.ensures.grows
+    (extends_both c.places.new.bank c.source.new.bank c.change.new.bank c.source.ensures.grows c.change.ensures.grows)
+
+pub returns-clause-grows : goal.returns-clause-grows
+returns-clause-grows g c =
+    extends_both c.args.bank.now c.places.new.bank c.change.new.bank c.places.ensures.grows
+    (extends_both c.places.new.bank c.source.new.bank c.change.new.bank c.source.ensures.grows c.change.ensures.grows)

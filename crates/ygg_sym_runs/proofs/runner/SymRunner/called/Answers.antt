@@ -1,4 +1,5 @@
 use Rattle.std.proofs.Common.{List, All, ap, sym, subst, ◌∙◌}
+use Rattle.ygg_bank.proofs.Widths.{extends_both}
 use Rattle.ygg_sym_expr.specs.Seen.{CanTerm, env_of}
 use Rattle.ygg_sym_expr.specs.declared.held.SymBinding.{SymBinding}
 use Rattle.ygg_sym_runs.specs.Ready.{known_with, terms_of}
@@ -58,3 +59,10 @@ returns-clause-ran g c =
     (c.as_slice-3.ensures ∙ c.in_ok-args.ensures.form
     ∙ ap (λ (bs : List SymBinding). (sym_values kinds terms N es (env_of bs) at).value) c.as_slice.ensures.value)
     c.as_slice-2.ensures c.in_ok-handle.ensures.nodes c.in_ok-handle.ensures.state c.in_ok-args.ensures.single c.in_ok-handle.ensures.single
+
+pub returns-in_err-handle-clause-grows : goal.returns-in_err-handle-clause-grows
+returns-in_err-handle-clause-grows g c =
+    extends_both c.args.bank.now c.values.new.bank c.handle.new.bank c.values.ensures.grows c.handle.ensures.grows
+
+pub returns-clause-grows : goal.returns-clause-grows
+returns-clause-grows g c = extends_both c.args.bank.now c.values.new.bank c.handle.new.bank c.values.ensures.grows c.handle.ensures.grows

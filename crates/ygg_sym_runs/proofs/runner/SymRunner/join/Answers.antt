@@ -1,4 +1,5 @@
 use Rattle.std.proofs.Common.{List, ap, sym, subst, ◌∙◌}
+use Rattle.ygg_bank.proofs.Widths.{extends_both}
 use Rattle.ygg_bank.specs.Makes.{Out}
 use Rattle.ygg_sym_expr.specs.Seen.{env_of}
 use Rattle.ygg_sym_expr.specs.declared.held.SymBinding.{SymBinding}
@@ -87,3 +88,10 @@ returns-clause-single g c =
     let two = env_of c.as_slice-2.result.now in
     single_both at c.join_names.new.bank c.merge.new.bank
     (λ first h. subst (SingleFrom first) (sym c.in_ok-names.ensures.nodes) (joined_single kinds c.args.test one two at first h)) c.in_ok-state.ensures.single
+
+pub returns-in_err-state-clause-grows : goal.returns-in_err-state-clause-grows
+returns-in_err-state-clause-grows g c =
+    extends_both c.args.bank.now c.join_names.new.bank c.merge.new.bank c.join_names.ensures.grows c.merge.ensures.grows
+
+pub returns-clause-grows : goal.returns-clause-grows
+returns-clause-grows g c = extends_both c.args.bank.now c.join_names.new.bank c.merge.new.bank c.join_names.ensures.grows c.merge.ensures.grows

@@ -32,3 +32,11 @@ loop-index-preserved g c =
       bank = c.value.ensures.bank;
       single = single_both old c.loop-index.bank c.value.new.bank c.loop-index.invariant.single c.in_ok-value.ensures.single;
     }
+
+pub returns-in_err-value-clause-grows : goal.returns-in_err-value-clause-grows
+returns-in_err-value-clause-grows g c =
+    extends_both c.args.bank.now c.loop-index.bank c.value.new.bank c.loop-index.invariant.grows c.value.ensures.grows
+
+pub returns-in_err-push-clause-grows : goal.returns-in_err-push-clause-grows
+returns-in_err-push-clause-grows g c =
+    extends_both c.args.bank.now c.loop-index.bank c.value.new.bank c.loop-index.invariant.grows c.value.ensures.grows

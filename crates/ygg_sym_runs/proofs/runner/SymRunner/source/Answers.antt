@@ -1,4 +1,5 @@
 use Rattle.std.proofs.Common.{List, sym, subst, ◌∙◌}
+use Rattle.ygg_bank.proofs.Widths.{extends_both}
 use Rattle.ygg_syntax.specs.declared.tree.Expr.{Expr}
 use Rattle.ygg_syntax.specs.declared.tree.Source.{Source}
 use Rattle.ygg_sym_expr.specs.Seen.{env_of}
@@ -45,3 +46,7 @@ pub returns-in_ok-args-in-Call-clause-single : goal.returns-in_ok-args-in-Call-c
 returns-in_ok-args-in-Call-clause-single g c =
     single_then c.args.bank.now c.values.new.bank c.ask-in-Call.new.bank c.ask-in-Call.result c.in_ok-args-in-Call.ensures.single
     c.ask-in-Call.ensures.single
+
+pub returns-in_ok-args-in-Call-clause-grows : goal.returns-in_ok-args-in-Call-clause-grows
+returns-in_ok-args-in-Call-clause-grows g c =
+    extends_both c.args.bank.now c.values.new.bank c.ask-in-Call.new.bank c.values.ensures.grows c.ask-in-Call.ensures.grows

@@ -31,3 +31,9 @@ loop-e-preserved g c =
       bank = c.value.ensures.bank;
       single = single_both old c.loop-e.bank c.value.new.bank c.loop-e.invariant.single c.in_ok-value.ensures.single;
     }
+
+pub returns-in_err-value-clause-grows : goal.returns-in_err-value-clause-grows
+returns-in_err-value-clause-grows g c = extends_both c.args.bank.now c.loop-e.bank c.value.new.bank c.loop-e.invariant.grows c.value.ensures.grows
+
+pub returns-in_err-push-clause-grows : goal.returns-in_err-push-clause-grows
+returns-in_err-push-clause-grows g c = extends_both c.args.bank.now c.loop-e.bank c.value.new.bank c.loop-e.invariant.grows c.value.ensures.grows

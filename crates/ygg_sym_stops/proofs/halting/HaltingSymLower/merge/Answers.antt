@@ -40,3 +40,19 @@ returns-clause-single g c =
     single_both c.args.bank.now c.merge.new.bank c.pick.new.bank c.in_ok-to.ensures.single
     (single_both c.merge.new.bank c.merge-2.new.bank c.pick.new.bank c.in_ok-fallen.ensures.single
     (pick_single (g.B.Book.kinds c.args.book.now) c.merge-2.new.bank c.pick.new.bank c.args.test yes.stopped no.stopped c.in_ok-stopped.ensures.nodes))
+
+pub returns-in_err-fallen-clause-grows : goal.returns-in_err-fallen-clause-grows
+returns-in_err-fallen-clause-grows g c =
+    extends_both c.args.bank.now c.merge.new.bank c.merge-2.new.bank c.merge.ensures.grows c.merge-2.ensures.grows
+
+pub returns-in_err-stopped-clause-grows : goal.returns-in_err-stopped-clause-grows
+returns-in_err-stopped-clause-grows g c =
+    extends_both c.args.bank.now c.merge.new.bank c.pick.new.bank c.merge.ensures.grows
+    (extends_both c.merge.new.bank c.merge-2.new.bank c.pick.new.bank c.merge-2.ensures.grows
+    c.pick.ensures.grows)
+
+pub returns-clause-grows : goal.returns-clause-grows
+returns-clause-grows g c =
+    extends_both c.args.bank.now c.merge.new.bank c.pick.new.bank c.merge.ensures.grows
+    (extends_both c.merge.new.bank c.merge-2.new.bank c.pick.new.bank c.merge-2.ensures.grows
+    c.pick.ensures.grows)

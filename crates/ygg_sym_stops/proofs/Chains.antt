@@ -1,0 +1,57 @@
+-- What the steps of a stop make, one after another.
+use Rattle.std.proofs.Common.{◌≡◌, List, Option, Result, OnOk, IfOk, subst}
+use Rattle.ygg_bank.specs.Makes.{Make, Out, pure, and_make}
+use Rattle.ygg_bank.specs.declared.node.Id.{Id}
+use Rattle.ygg_bank.specs.declared.node.Node.{Node}
+use Rattle.ygg_shape_cells.specs.declared.terms.SymValue.{SymValue}
+use Rattle.ygg_sym_runs.specs.Runs.{SymHandled}
+use Rattle.ygg_sym_below.specs.StopTerms.{SymFallen, SymHalted}
+
+-- what is the same as the step that was made
+pub nodes_as : {E A B : Type 0} (o more : Out B) (new : List Node) (r : Result A E) → o ≡ more → OnOk r (new ≡ o.nodes) → OnOk r (new ≡ more.nodes)
+nodes_as o more new r e h = subst (λ (z : Out _). OnOk r (new ≡ z.nodes)) e h
+
+pub form_as : {E A : Type 0} (o more : Out A) (r : Result A E) → o ≡ more → IfOk r (λ x. x ≡ o.value) → IfOk r (λ x. x ≡ more.value)
+form_as o more r e h = subst (λ (z : Out _). IfOk r (λ x. x ≡ z.value)) e h
+
+-- what is left after the last question
+pub last_from : {S : Type 0} (lose : Make S) (merge : Id → S → S → Make S) (here stopped : Id) (fallen lost outer : S) (old one two : List Node) →
+    lost ≡ (lose old).value → one ≡ (lose old).nodes → outer ≡ (merge here lost fallen one).value → two ≡ (merge here lost fallen one).nodes →
+    merge stopped fallen outer two ≡ and_make lose (λ l. and_make (merge here l fallen) (λ y. merge stopped fallen y)) old
+last_from lose merge here stopped fallen lost outer old one two a b c d = cc
+
+-- what is left after a question
+pub left_from : {S : Type 0} (cut lose : Make S) (merge : Id → S → S → Make S) (here within stopped : Id) (fallen left inner lost outer : S)
+    (old one two three four : List Node) → left ≡ (cut old).value → one ≡ (cut old).nodes → inner ≡ (merge within left fallen one).value →
+    two ≡ (merge within left fallen one).nodes → lost ≡ (lose two).value → three ≡ (lose two).nodes → outer ≡ (merge here lost inner three).value →
+    four ≡ (merge here lost inner three).nodes →
+    merge stopped fallen outer four
+    ≡ and_make cut (λ c. and_make (merge within c fallen) (λ x. and_make lose (λ l. and_make (merge here l x) (λ y. merge stopped fallen y)))) old
+left_from cut lose merge here within stopped fallen left inner lost outer old one two three four a b c d e f g h = cc
+
+-- a question on the machine with stops
+pub halted_from : {S : Type 0} (before within : Make Id) (leave : Id → Id → Make S) (either : Id → Id → Make Id) (handle : Make (SymHandled S))
+    (halted here inner some stopped : Id) (fallen to : S) (answer : Option SymValue) (old one two three four five new : List Node) →
+    here ≡ (before old).value → one ≡ (before old).nodes → inner ≡ (within one).value → two ≡ (within one).nodes →
+    fallen ≡ (leave here inner two).value → three ≡ (leave here inner two).nodes → some ≡ (either halted here three).value →
+    four ≡ (either halted here three).nodes → stopped ≡ (either some inner four).value → five ≡ (either some inner four).nodes →
+    answer ≡ (handle five).value.answer → to ≡ (handle five).value.to → new ≡ (handle five).nodes →
+    (let o : Out (SymHandled (SymHalted S S)) = record {
+      value = record { answer = answer; to = record { to = to; fallen = fallen; stopped = stopped } };
+      nodes = new;
+    } in o)
+    ≡ and_make before (λ here. and_make within (λ inner. and_make (leave here inner) (λ fallen. and_make (either halted here) (λ some.
+    and_make (either some inner) (λ stopped. and_make handle (λ h. pure (record {
+      answer = h.answer;
+      to = record { to = h.to; fallen = fallen; stopped = stopped };
+    }))))))) old
+halted_from before within leave either handle halted here inner some stopped fallen to answer old one two three four five new a b c d e f g h i j k l m = cc
+
+-- the stop after the last question of a run
+pub fall_from : {S : Type 0} (bit : Make Id) (leave : Id → Make S) (either : Id → Id → Make Id) (halted here again reached : Id) (left : S)
+    (old one two three new : List Node) → here ≡ (bit old).value → one ≡ (bit old).nodes → left ≡ (leave here one).value → two ≡ (leave here one).nodes →
+    again ≡ (bit two).value → three ≡ (bit two).nodes → reached ≡ (either halted again three).value → new ≡ (either halted again three).nodes →
+    (let o : Out (SymFallen S) = record { value = record { fallen = left; reached = reached }; nodes = new } in o)
+    ≡ and_make (and_make bit leave) (λ fallen. and_make bit (λ here. and_make (either halted here) (λ reached.
+    pure (record { fallen = fallen; reached = reached })))) old
+fall_from bit leave either halted here again reached left old one two three new a b c d e f g h = cc
