@@ -7,8 +7,8 @@ use Rattle.ygg_bank.specs.declared.node.Node.{Node}
 use Rattle.ygg_meaning.specs.Obligations.{Obligation, obligations_of}
 use Rattle.ygg_sym_spec.specs.Layers.{closed, terms_in}
 use Rattle.ygg_sym_spec.specs.declared.layer.SymLayer.{SymLayer}
-use Rattle.ygg_sym.specs.Sites.{below_in}
-use Rattle.ygg_sym.specs.declared.below.SymBelow.{SymBelow}
+use Rattle.ygg_oblige_kinds.specs.Sites.{below_in}
+use Rattle.ygg_oblige_kinds.specs.SymBelow.{SymBelow}
 use Rattle.ygg_oblige_terms.specs.Layers.{LayerTyped}
 use Rattle.ygg_oblige_terms.specs.States.{Starting, starting, state_words}
 use Rattle.ygg_oblige_laws.proofs.EachKind.{all_known}

@@ -19,17 +19,17 @@ use Rattle.ygg_syntax.specs.declared.tree.Def.{Def}
 use Rattle.ygg_sym_below.proofs.Lows.{low_wider}
 use Rattle.ygg_sym_spec.specs.Layers.{closed, terms_in}
 use Rattle.ygg_sym_spec.specs.declared.layer.SymLayer.{SymLayer}
-use Rattle.ygg_sym.specs.Sites.{below_in}
-use Rattle.ygg_sym.specs.declared.below.SymBelow.{SymBelow}
+use Rattle.ygg_oblige_kinds.specs.Sites.{below_in}
+use Rattle.ygg_oblige_kinds.specs.SymBelow.{SymBelow}
 use Rattle.ygg_oblige_terms.specs.Layers.{LayerTyped}
 use Rattle.ygg_oblige_terms.specs.Numbers.{Numbers, numbers_of}
 use Rattle.ygg_oblige_terms.specs.States.{Starting}
 use Rattle.ygg_oblige_terms.specs.Terms.{term_made}
-use Rattle.ygg_oblige_pieces.proofs.Compares.{comparing_means}
-use Rattle.ygg_oblige_pieces.proofs.Fresh.{fresh_means}
-use Rattle.ygg_oblige_pieces.proofs.Glued.{glued_means}
-use Rattle.ygg_oblige_pieces.proofs.Starting.{states_mean}
-use Rattle.ygg_oblige_pieces.proofs.Steps.{steps_mean}
+use Rattle.ygg_oblige_laws.proofs.Compares.{comparing_means}
+use Rattle.ygg_oblige_laws.proofs.Fresh.{fresh_means}
+use Rattle.ygg_oblige_laws.proofs.Glued.{glued_means}
+use Rattle.ygg_oblige_laws.proofs.Starting.{states_mean}
+use Rattle.ygg_oblige_laws.proofs.Steps.{steps_mean}
 use Rattle.ygg_oblige_laws.proofs.Free.{term_below}
 use Rattle.ygg_oblige_laws.proofs.Whole.{means_typed}
 use Rattle.ygg_oblige_laws.specs.Parts.{PartsMean}

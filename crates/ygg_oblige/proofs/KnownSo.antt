@@ -8,11 +8,11 @@ use Rattle.ygg_meaning.specs.Shapes.{shape_in}
 use Rattle.ygg_meaning.specs.Obligations.{Obligation, Init, CallOf, CutOf, TickOf, CutTickOf, Idle, Again}
 use Rattle.ygg_sym_spec.specs.Layers.{closed}
 use Rattle.ygg_sym_spec.specs.declared.layer.SymLayer.{SymLayer}
-use Rattle.ygg_sym.specs.Sites.{below_in}
-use Rattle.ygg_sym.specs.declared.below.SymBelow.{SymBelow}
+use Rattle.ygg_oblige_kinds.specs.Sites.{below_in}
+use Rattle.ygg_oblige_kinds.specs.SymBelow.{SymBelow}
 use Rattle.ygg_oblige_terms.specs.Layers.{ShapesKept}
 use Rattle.ygg_oblige_terms.specs.Numbers.{arguments_of}
-use Rattle.ygg_oblige_pieces.specs.Steps.{ObligationTyped}
+use Rattle.ygg_oblige_laws.specs.Steps.{ObligationTyped}
 use Rattle.ygg_oblige.specs.Adding.{KnownAt}
 
 nothing_kept : ShapesKept []

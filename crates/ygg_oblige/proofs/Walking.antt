@@ -21,10 +21,10 @@ use Rattle.ygg_histories.specs.Stack.{Layers, below_of, layers_on, layers_of, ta
 use Rattle.ygg_sym_laws.specs.Means.{terms_of}
 use Rattle.ygg_sym_spec.specs.Layers.{closed}
 use Rattle.ygg_sym_spec.specs.declared.layer.SymLayer.{SymLayer}
-use Rattle.ygg_sym.specs.Sites.{SameDefs, below_in}
-use Rattle.ygg_sym.specs.declared.below.SymBelow.{SymBelow}
-use Rattle.ygg_sym.specs.declared.below.SymBelow.TheVariants as on
-use Rattle.ygg_sym.proofs.Left.{rest_is}
+use Rattle.ygg_oblige_kinds.specs.Sites.{SameDefs, below_in}
+use Rattle.ygg_oblige_kinds.specs.SymBelow.{SymBelow}
+use Rattle.ygg_oblige_kinds.specs.SymBelow.TheVariants as on
+use Rattle.ygg_oblige_kinds.proofs.Left.{rest_is}
 use Rattle.ygg_oblige_terms.specs.Layers.{LayerTyped}
 use Rattle.ygg_oblige_terms.specs.Meaning.{claim_name}
 use Rattle.ygg_oblige_terms.specs.Terms.{after_layer, after_layers, file_made, layer_made, layers_made}

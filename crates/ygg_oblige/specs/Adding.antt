@@ -6,8 +6,8 @@ use Rattle.ygg_bank.specs.Makes.{Make}
 use Rattle.ygg_bank.specs.declared.node.Id.{Id}
 use Rattle.ygg_sym_spec.specs.Layers.{closed, terms_in}
 use Rattle.ygg_sym_spec.specs.declared.layer.SymLayer.{SymLayer}
-use Rattle.ygg_sym.specs.Sites.{below_in}
-use Rattle.ygg_sym.specs.declared.below.SymBelow.{SymBelow}
+use Rattle.ygg_oblige_kinds.specs.Sites.{below_in}
+use Rattle.ygg_oblige_kinds.specs.SymBelow.{SymBelow}
 use Rattle.ygg_oblige_kinds.specs.Making.{TickFits}
 use Rattle.ygg_oblige_laws.specs.ObligationMeans.{ObligationKnown}
 use Rattle.ygg_oblige_terms.specs.Numbers.{numbers_of}

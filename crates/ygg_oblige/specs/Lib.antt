@@ -1,3 +1,5 @@
+pub use Rattle.ygg_oblige_kinds.specs.SymBelow
+pub use Rattle.ygg_oblige_kinds.specs.Sites
 pub use Rattle.ygg_oblige_kinds.specs.Making
 pub use Rattle.ygg_oblige_kinds.specs.Numbering
 pub use Rattle.ygg_oblige_kinds.specs.Steps

@@ -14,10 +14,9 @@ use crate::obligation::Obligations;
 use std::alloc::Global;
 use ygg_bank::{Bank, NoMemory};
 use ygg_base::{DiskKind, Text};
-use ygg_oblige_kinds::Maker;
+use ygg_oblige_kinds::{Maker, SymBelow};
 use ygg_oblige_list::place_of;
 use ygg_rules::Book;
-use ygg_sym::SymBelow;
 use ygg_sym_spec::SymLayer;
 use ygg_syntax::tree::{Declared, DiskText, File, Name, Place, TypeText};
 

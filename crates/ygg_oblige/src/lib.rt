@@ -19,7 +19,7 @@ pub use names::name_of;
 pub use obligation::{Kind, Obligation, Obligations};
 use std::alloc::Global;
 use ygg_bank::{Bank, NoMemory};
-pub use ygg_oblige_kinds::{Maker, SymNumbers, SymObligation, numbers_of, words_in};
+pub use ygg_oblige_kinds::{Maker, SymBelow, SymNumbers, SymObligation, numbers_of, words_in};
 use ygg_rules::Book;
 use ygg_type::Typed;
 

@@ -15,12 +15,12 @@ use Rattle.ygg_sym_runs.proofs.Singles.{below_single, single_less}
 use Rattle.ygg_sym_runs.specs.Lower.{SingleFrom}
 use Rattle.ygg_sym_spec.specs.Layers.{closed}
 use Rattle.ygg_sym_spec.specs.declared.layer.SymLayer.{SymLayer}
-use Rattle.ygg_sym.specs.Sites.{below_in}
-use Rattle.ygg_sym.specs.declared.below.SymBelow.{SymBelow}
+use Rattle.ygg_oblige_parts.specs.Sites.{below_in}
+use Rattle.ygg_oblige_parts.specs.SymBelow.{SymBelow}
 use Rattle.ygg_oblige_terms.specs.Numbers.{Numbers, arguments_of, numbers_of}
 use Rattle.ygg_oblige_terms.specs.Layers.{ShapesKept}
 use Rattle.ygg_oblige_terms.specs.States.{Starting, words_in}
-use Rattle.ygg_oblige_pieces.specs.Steps.{HasStep, ObligationTyped, variables_of}
+use Rattle.ygg_oblige_parts.specs.ObligePiecesSteps.{HasStep, ObligationTyped, variables_of}
 use Rattle.ygg_oblige_parts.specs.Makers.{StartingShaped}
 use Rattle.ygg_oblige_kinds.specs.Making.{CanBegin, CanOblige, SiteFits, TickFits}
 use Rattle.ygg_oblige_kinds.proofs.Sites.{after_run, block_fits}

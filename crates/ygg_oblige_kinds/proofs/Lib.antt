@@ -1,3 +1,5 @@
+pub use Rattle.ygg_oblige_parts.proofs.Carried
+pub use Rattle.ygg_oblige_parts.proofs.Left
 pub mod Sites
 pub mod Chains
 pub mod Alike

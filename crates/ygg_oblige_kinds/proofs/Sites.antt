@@ -10,13 +10,13 @@ use Rattle.ygg_bank.specs.declared.node.Node.{Node}
 use Rattle.ygg_sym_runs.specs.Meaning.{answer_worth}
 use Rattle.ygg_sym_spec.specs.Layers.{closed}
 use Rattle.ygg_sym_spec.specs.declared.layer.SymLayer.{SymLayer}
-use Rattle.ygg_sym.specs.Running.{EndStands}
-use Rattle.ygg_sym.specs.Sites.{BelowFits, below_in}
-use Rattle.ygg_sym.specs.declared.below.SymBelow.{SymBelow}
-use Rattle.ygg_sym.specs.declared.runs.SymBlock.{SymBlock}
-use Rattle.ygg_sym.specs.declared.runs.SymEnd.{SymEnd}
+use Rattle.ygg_oblige_parts.specs.Running.{EndStands}
+use Rattle.ygg_oblige_parts.specs.Sites.{BelowFits, below_in}
+use Rattle.ygg_oblige_parts.specs.SymBelow.{SymBelow}
+use Rattle.ygg_oblige_parts.specs.SymBlock.{SymBlock}
+use Rattle.ygg_oblige_parts.specs.SymEnd.{SymEnd}
 use Rattle.ygg_oblige_terms.specs.Numbers.{Numbers, arguments_of, block_of, numbers_of}
-use Rattle.ygg_oblige_pieces.specs.Steps.{AnswerKept, ObligationTyped}
+use Rattle.ygg_oblige_parts.specs.ObligePiecesSteps.{AnswerKept, ObligationTyped}
 use Rattle.ygg_oblige_parts.specs.Passing.{answered}
 use Rattle.ygg_oblige_kinds.specs.Making.{AfterRun, BlockFits, SiteFits, TickFits}
 

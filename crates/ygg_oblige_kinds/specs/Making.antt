@@ -18,13 +18,13 @@ use Rattle.ygg_sym_laws.specs.Below.{signatures_on}
 use Rattle.ygg_sym_laws.specs.Typed.{BlockTyped}
 use Rattle.ygg_sym_spec.specs.Layers.{closed}
 use Rattle.ygg_sym_spec.specs.declared.layer.SymLayer.{SymLayer}
-use Rattle.ygg_sym.specs.Sites.{SameDefs, below_in}
-use Rattle.ygg_sym.specs.declared.below.SymBelow.{SymBelow}
-use Rattle.ygg_sym.specs.declared.runs.SymEnd.{SymEnd}
+use Rattle.ygg_oblige_parts.specs.Sites.{SameDefs, below_in}
+use Rattle.ygg_oblige_parts.specs.SymBelow.{SymBelow}
+use Rattle.ygg_oblige_parts.specs.SymEnd.{SymEnd}
 use Rattle.ygg_oblige_terms.specs.Layers.{ShapesKept}
 use Rattle.ygg_oblige_terms.specs.Numbers.{Numbers, arguments_of, block_of}
 use Rattle.ygg_oblige_terms.specs.States.{Starting, words_in}
-use Rattle.ygg_oblige_pieces.specs.Steps.{AnswerKept, HasStep, ObligationTyped, variables_of}
+use Rattle.ygg_oblige_parts.specs.ObligePiecesSteps.{AnswerKept, HasStep, ObligationTyped, variables_of}
 use Rattle.ygg_oblige_parts.specs.Makers.{LayerFits, StartingShaped}
 use Rattle.ygg_oblige_parts.specs.Passing.{answered}
 

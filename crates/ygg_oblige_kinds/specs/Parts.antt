@@ -13,9 +13,9 @@ use Rattle.ygg_sym_laws.specs.Below.{zeros_made, lost_made}
 use Rattle.ygg_sym_laws.specs.Means.{values_in}
 use Rattle.ygg_sym_spec.specs.Layers.{closed, terms_in}
 use Rattle.ygg_sym_spec.specs.declared.layer.SymLayer.{SymLayer}
-use Rattle.ygg_sym.specs.Sites.{below_in}
-use Rattle.ygg_sym.specs.declared.below.SymBelow.{SymBelow}
-use Rattle.ygg_sym.specs.declared.runs.SymEnd.{SymEnd}
+use Rattle.ygg_oblige_parts.specs.Sites.{below_in}
+use Rattle.ygg_oblige_parts.specs.SymBelow.{SymBelow}
+use Rattle.ygg_oblige_parts.specs.SymEnd.{SymEnd}
 use Rattle.ygg_oblige_terms.specs.Numbers.{Numbers, arguments_of, block_of}
 use Rattle.ygg_oblige_terms.specs.States.{Starting, fresh_all, all_compared, settled_made}
 use Rattle.ygg_oblige_terms.specs.Terms.{cut_short, falls_through, recovered, recovers, runs_through}

@@ -6,4 +6,4 @@ mod terms;
 
 pub use numbers::{SymNumbers, numbers_of};
 pub use terms::term;
-pub use ygg_oblige_parts::{Maker, SymObligation, SymStarting, words_in};
+pub use ygg_oblige_parts::{Maker, SymBelow, SymObligation, SymStarting, words_in};

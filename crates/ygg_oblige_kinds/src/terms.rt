@@ -6,11 +6,11 @@ ghost use Rattle.ygg_bank.specs.Nodes.{Extends, HasWidth, IsBank};
 ghost use Rattle.ygg_sym_below.specs.Lows.{LowShaped};
 ghost use Rattle.ygg_sym_runs.specs.Lower.{KeepsSingle, SingleFrom};
 ghost use Rattle.ygg_sym_spec.specs.Layers.{closed, terms_in};
-ghost use Rattle.ygg_sym.specs.Running.{CutIs, EndIs};
-ghost use Rattle.ygg_sym.specs.Sites.{below_in};
+ghost use Rattle.ygg_oblige_parts.specs.Running.{CutIs, EndIs};
+ghost use Rattle.ygg_oblige_parts.specs.Sites.{below_in};
 ghost use Rattle.ygg_oblige_terms.specs.Numbers.{numbers_of};
 ghost use Rattle.ygg_oblige_terms.specs.Terms.{formats, recovered, recovers, recovers_again, term_made};
-ghost use Rattle.ygg_oblige_pieces.specs.Steps.{ObligationTyped};
+ghost use Rattle.ygg_oblige_parts.specs.ObligePiecesSteps.{ObligationTyped};
 ghost use Rattle.ygg_oblige_parts.specs.Makers.{StartingShaped, starting_of};
 ghost use Rattle.ygg_oblige_parts.specs.Passing.{StepFits, some_in};
 ghost use Rattle.ygg_oblige_parts.specs.Steps.{obligation_of};
@@ -20,10 +20,12 @@ ghost use Rattle.ygg_oblige_kinds.specs.Parts.{cut_term, idles, recovers_alike, 
 
 use crate::numbers::{SymNumbers, arguments_of, block_of};
 use ygg_bank::{Bank, Id, NoMemory};
-use ygg_oblige_parts::{Maker, SymObligation, SymStarting, SymStep, all_equal, fresh, join};
+use ygg_oblige_parts::{
+    Maker, SymBlock, SymCut, SymEnd, SymObligation, SymStarting, SymStep, all_equal, cut, fresh,
+    join, lost, low_at_start, run, zeros,
+};
 use ygg_rules::Book;
 use ygg_shape_cells::SymValues;
-use ygg_sym::{SymBlock, SymCut, SymEnd, cut, lost, low_at_start, run, zeros};
 use ygg_value::Op;
 
 /// Whether the specification's step passes after a run that has ended so. Inputs of the bank from the given number on are single digits.

@@ -1,3 +1,8 @@
+pub use Rattle.ygg_oblige_pieces.proofs.Steps
+pub use Rattle.ygg_oblige_pieces.proofs.Starting
+pub use Rattle.ygg_oblige_pieces.proofs.Glued
+pub use Rattle.ygg_oblige_pieces.proofs.Fresh
+pub use Rattle.ygg_oblige_pieces.proofs.Compares
 pub mod Digits
 pub mod Setting
 pub mod Wholes

@@ -1,3 +1,4 @@
+pub use Rattle.ygg_oblige_pieces.specs.Steps
 pub mod LayerMeans
 pub mod Parts
 pub mod ObligationMeans

@@ -1,3 +1,5 @@
+pub use Rattle.ygg_sym.proofs.Left
+pub use Rattle.ygg_sym.proofs.Carried
 pub mod Compared
 pub mod Joining
 pub mod Named

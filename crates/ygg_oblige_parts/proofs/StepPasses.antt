@@ -41,9 +41,9 @@ use Rattle.ygg_sym_below.specs.Disks.{Done}
 use Rattle.ygg_sym_below.specs.Lows.{LowShaped, low_worth}
 use Rattle.ygg_sym_below.specs.SpecCuts.{block_made}
 use Rattle.ygg_sym_below.specs.Specs.{given_pick}
-use Rattle.ygg_sym_laws.specs.Means.{terms_of}
-use Rattle.ygg_sym_spec.specs.Layers.{closed}
-use Rattle.ygg_sym_spec.specs.declared.layer.SymLayer.{SymLayer}
+use Rattle.ygg_oblige_terms.specs.Means.{terms_of}
+use Rattle.ygg_sym.specs.Layers.{closed}
+use Rattle.ygg_sym.specs.SymLayer.{SymLayer}
 use Rattle.ygg_sym.specs.declared.below.SymBelow.{SymBelow}
 use Rattle.ygg_oblige_terms.specs.Layers.{OperationFits, LayerTyped}
 use Rattle.ygg_oblige_terms.specs.Numbers.{arguments_of}

@@ -8,8 +8,8 @@ use Rattle.ygg_bank.specs.declared.node.Node.{Node}
 use Rattle.ygg_shape_hypothesis.specs.Finding.{facts_in}
 use Rattle.ygg_sym_expr.specs.Exprs.{SymFunctions}
 use Rattle.ygg_sym_below.specs.Lows.{LowShaped}
-use Rattle.ygg_sym_spec.specs.Layers.{closed}
-use Rattle.ygg_sym_spec.specs.declared.layer.SymLayer.{SymLayer}
+use Rattle.ygg_sym.specs.Layers.{closed}
+use Rattle.ygg_sym.specs.SymLayer.{SymLayer}
 use Rattle.ygg_sym.specs.Sites.{below_in}
 use Rattle.ygg_sym.specs.declared.below.SymBelow.{SymBelow}
 use Rattle.ygg_oblige_terms.specs.Layers.{LayerTyped}

@@ -17,8 +17,8 @@ use Rattle.ygg_sym_expr.specs.Exprs.{SymFunctions}
 use Rattle.ygg_sym_runs.specs.Meaning.{AnswerShaped}
 use Rattle.ygg_sym_runs.specs.Lower.{SingleFrom}
 use Rattle.ygg_sym_below.specs.Lows.{LowShaped}
-use Rattle.ygg_sym_spec.specs.Layers.{closed, terms_in}
-use Rattle.ygg_sym_spec.specs.declared.layer.SymLayer.{SymLayer}
+use Rattle.ygg_sym.specs.Layers.{closed, terms_in}
+use Rattle.ygg_sym.specs.SymLayer.{SymLayer}
 use Rattle.ygg_sym.specs.Sites.{below_in}
 use Rattle.ygg_sym.specs.declared.below.SymBelow.{SymBelow}
 use Rattle.ygg_oblige_terms.specs.Numbers.{arguments_of}

@@ -15,3 +15,6 @@ pub use names::{fresh, words_in};
 pub use outcome::SymObligation;
 pub use passing::SymStep;
 pub use states::{Maker, SymStarting, SymTrio};
+pub use ygg_sym::{
+    SymBelow, SymBlock, SymCut, SymEnd, cut, failure_room, lost, low_at_start, places, run, zeros,
+};

@@ -5,7 +5,7 @@ ghost use Rattle.ygg_bank.specs.Nodes.{Extends, IsBank};
 ghost use Rattle.ygg_sym_below.specs.Disks.{done};
 ghost use Rattle.ygg_sym_below.specs.Lows.{LowShaped};
 ghost use Rattle.ygg_sym_runs.specs.Lower.{KeepsSingle, SingleFrom};
-ghost use Rattle.ygg_sym_spec.specs.Layers.{closed, terms_in};
+ghost use Rattle.ygg_sym.specs.Layers.{closed, terms_in};
 ghost use Rattle.ygg_sym.specs.Sites.{below_in};
 ghost use Rattle.ygg_oblige_terms.specs.Layers.{OperationFits};
 ghost use Rattle.ygg_oblige_terms.specs.Numbers.{arguments_of};
@@ -18,8 +18,7 @@ use crate::states::Maker;
 use ygg_bank::{Bank, NoMemory};
 use ygg_rules::Book;
 use ygg_shape_cells::SymValues;
-use ygg_sym::start;
-use ygg_sym_spec::{SpecDone, SymPicks, block, crash, then_crash};
+use ygg_sym::{SpecDone, SymPicks, block, crash, start, then_crash};
 use ygg_syntax::tree::{Operation, Tick};
 
 /// An obligation of a layer, with its operation or background step.

@@ -4,7 +4,7 @@ ghost use Rattle.std.specs.Prelude.{◌≡◌, ◌<◌, ◌++◌, ◌∷◌, [],
 ghost use Rattle.ygg_bank.specs.Nodes.{Extends, HasWidth, IsBank};
 ghost use Rattle.ygg_meaning.specs.Violates.{most};
 ghost use Rattle.ygg_sym_runs.specs.Lower.{KeepsSingle};
-ghost use Rattle.ygg_sym_spec.specs.Layers.{closed};
+ghost use Rattle.ygg_sym.specs.Layers.{closed};
 ghost use Rattle.ygg_oblige_terms.specs.Outcomes.{any_picks};
 ghost use Rattle.ygg_oblige_terms.specs.Terms.{same_answers_made};
 ghost use Rattle.ygg_syntax.specs.Choices.{choices_of};

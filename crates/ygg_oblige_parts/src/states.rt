@@ -7,7 +7,7 @@ ghost use Rattle.ygg_meaning.specs.Related.{relations};
 ghost use Rattle.ygg_sym_below.specs.Lows.{LowShaped};
 ghost use Rattle.ygg_sym_expr.specs.Seen.{env_of};
 ghost use Rattle.ygg_sym_runs.specs.Lower.{KeepsSingle};
-ghost use Rattle.ygg_sym_spec.specs.Layers.{closed, terms_in};
+ghost use Rattle.ygg_sym.specs.Layers.{closed, terms_in};
 ghost use Rattle.ygg_oblige_terms.specs.States.{
   fresh_trio,
   related_made,
@@ -29,9 +29,8 @@ use ygg_bank::{Bank, Id, NoMemory};
 use ygg_rules::Book;
 use ygg_shape_cells::SymValues;
 use ygg_shape_hypothesis::{Replacements, facts, replace};
-use ygg_sym::SymBelow;
+use ygg_sym::{SymBelow, SymLayer};
 use ygg_sym_expr::{SymBinding, SymEvaluator};
-use ygg_sym_spec::SymLayer;
 use ygg_value::Op;
 
 /// Variables of a specification, a memory, and a state below.

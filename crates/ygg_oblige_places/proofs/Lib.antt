@@ -1,3 +1,5 @@
+pub use Rattle.ygg_oblige_schedules.proofs.Given
+pub use Rattle.ygg_oblige_schedules.proofs.Layered
 pub mod Lists
 pub mod Counting
 pub mod Starting

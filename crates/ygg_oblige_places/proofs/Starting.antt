@@ -9,8 +9,8 @@ use Rattle.ygg_sym_expr.specs.Exprs.{SymFunctions}
 use Rattle.ygg_meaning.specs.Obligations.{Obligation, obligations_of}
 use Rattle.ygg_sym_spec.specs.Layers.{closed}
 use Rattle.ygg_sym_spec.specs.declared.layer.SymLayer.{SymLayer}
-use Rattle.ygg_sym.specs.Sites.{below_in}
-use Rattle.ygg_sym.specs.declared.below.SymBelow.{SymBelow}
+use Rattle.ygg_oblige.specs.Sites.{below_in}
+use Rattle.ygg_oblige.specs.SymBelow.{SymBelow}
 use Rattle.ygg_oblige_terms.specs.Layers.{LayerTyped}
 use Rattle.ygg_oblige.proofs.Begun.{layer_known}
 use Rattle.ygg_oblige.proofs.KnownSo.{known_shapes}

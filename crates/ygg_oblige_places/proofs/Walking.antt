@@ -16,9 +16,9 @@ use Rattle.ygg_histories.specs.Stack.{Layers, below_of, layers_on, layers_of, ta
 use Rattle.ygg_sym_laws.specs.Means.{terms_of}
 use Rattle.ygg_sym_spec.specs.Layers.{closed}
 use Rattle.ygg_sym_spec.specs.declared.layer.SymLayer.{SymLayer}
-use Rattle.ygg_sym.specs.Sites.{below_in}
-use Rattle.ygg_sym.specs.declared.below.SymBelow.{SymBelow}
-use Rattle.ygg_sym.specs.declared.below.SymBelow.TheVariants as on
+use Rattle.ygg_oblige.specs.Sites.{below_in}
+use Rattle.ygg_oblige.specs.SymBelow.{SymBelow}
+use Rattle.ygg_oblige.specs.SymBelow.TheVariants as on
 use Rattle.ygg_oblige_terms.specs.Layers.{LayerTyped}
 use Rattle.ygg_oblige_terms.specs.Numbers.{Numbers, numbers_of}
 use Rattle.ygg_oblige_terms.specs.States.{state_words}

@@ -17,8 +17,8 @@ pub use Rattle.ygg_oblige.specs.Steps.{obligation_of}
 pub use Rattle.ygg_oblige.specs.Numbering.{numbers_in}
 use Rattle.ygg_sym_spec.specs.Layers.{closed}
 use Rattle.ygg_sym_spec.specs.declared.layer.SymLayer.{SymLayer}
-use Rattle.ygg_sym.specs.Sites.{below_in}
-use Rattle.ygg_sym.specs.declared.below.SymBelow.{SymBelow}
+use Rattle.ygg_oblige.specs.Sites.{below_in}
+use Rattle.ygg_oblige.specs.SymBelow.{SymBelow}
 use Rattle.ygg_oblige.specs.Adding.{after_at}
 use Rattle.ygg_eval_lower.specs.Layers.{below_at, closed_at, variables_at}
 use Rattle.ygg_bank.specs.Values.{Inputs}

@@ -4,7 +4,7 @@ ghost use Rattle.std.specs.Prelude.{◌≡◌, ◌<◌, ◌+◌, length, take, s
 ghost use Rattle.ygg_histories.specs.Claims.{claims_of};
 ghost use Rattle.ygg_histories.specs.Stack.{layers_of, tables_of};
 ghost use Rattle.ygg_meaning.specs.Obligations.{obligations_of};
-ghost use Rattle.ygg_sym.specs.Sites.{below_in};
+ghost use Rattle.ygg_oblige.specs.Sites.{below_in};
 ghost use Rattle.ygg_sym_spec.specs.Layers.{closed};
 ghost use Rattle.ygg_oblige.specs.Adding.{after_at, after_layer_at};
 ghost use Rattle.ygg_oblige.specs.Making.{SiteFits};
@@ -19,9 +19,8 @@ use crate::listed::{number_of, obligation_at};
 use crate::starts::{count_of, start_of};
 use std::alloc::Global;
 use ygg_list::NoMemory;
-use ygg_oblige::{Maker, SymNumbers, SymObligation, after_states, numbers_of};
+use ygg_oblige::{Maker, SymBelow, SymNumbers, SymObligation, after_states, numbers_of};
 use ygg_rules::Book;
-use ygg_sym::SymBelow;
 use ygg_sym_spec::SymLayer;
 use ygg_syntax::tree::{Declared, File, Layer};
 

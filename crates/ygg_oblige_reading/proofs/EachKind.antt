@@ -20,7 +20,7 @@ use Rattle.ygg_oblige_terms.specs.Layers.{ShapesKept}
 use Rattle.ygg_oblige_terms.specs.Numbers.{Numbers, arguments_of}
 use Rattle.ygg_oblige_given.specs.Tables.{given_values}
 use Rattle.ygg_oblige_places.specs.Listing.{StandsIn}
-use Rattle.ygg_oblige_schedules.specs.Schedules.{cut_from, schedule_from, stop_of, whole_from}
+use Rattle.ygg_oblige_places.specs.Schedules.{cut_from, schedule_from, stop_of, whole_from}
 use Rattle.ygg_sched.specs.declared.schedule.Schedule.{Schedule}
 use Rattle.ygg_oblige_reading.specs.Here.{below_of, body_of, file_of, inputs_of, layer_of, numbers_of, obligation_of, IsHere}
 use Rattle.ygg_oblige_reading.specs.Runs.{stand_fits}

@@ -14,9 +14,9 @@ use Rattle.ygg_bank.specs.declared.node.Node.{Node}
 use Rattle.ygg_sym_laws.specs.Means.{terms_of}
 use Rattle.ygg_oblige_terms.specs.Terms.{file_made}
 use Rattle.ygg_oblige_places.specs.Obligation.{Obligation}
-use Rattle.ygg_oblige_schedules.specs.Laws.{AllExact, IsExact}
-use Rattle.ygg_oblige_schedules.specs.Schedules.{all_schedules}
-use Rattle.ygg_oblige_schedules.proofs.Layered.{file_named}
+use Rattle.ygg_oblige_places.specs.Laws.{AllExact, IsExact}
+use Rattle.ygg_oblige_places.specs.Schedules.{all_schedules}
+use Rattle.ygg_oblige_places.proofs.Layered.{file_named}
 use Rattle.ygg_sched.specs.declared.schedule.Schedule.{Schedule}
 use Rattle.ygg_oblige_reading.specs.Meant.{FitsTerms, IsExactly, IsMadeIn, IsNamed, Names, NamesShaped, ViolatesAtZero, meant}
 

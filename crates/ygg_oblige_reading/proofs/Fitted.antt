@@ -15,7 +15,7 @@ use Rattle.ygg_bank.specs.Values.{Inputs}
 use Rattle.ygg_oblige_terms.specs.Layers.{ShapesKept}
 use Rattle.ygg_oblige_terms.specs.Numbers.{Numbers, arguments_of}
 use Rattle.ygg_oblige_pieces.specs.Worth.{Stand}
-use Rattle.ygg_oblige_schedules.specs.Schedules.{schedule_from}
+use Rattle.ygg_oblige_places.specs.Schedules.{schedule_from}
 use Rattle.ygg_sched.specs.Fitting.{AreOfTypes, halt_meant}
 use Rattle.ygg_sched.specs.Sites.{Site}
 use Rattle.ygg_sched.specs.declared.schedule.Halt.{Halt}

@@ -15,7 +15,7 @@ use Rattle.ygg_fronts.specs.Fronts.{lose_on, run_picks}
 use Rattle.ygg_eval_lower.specs.Bodies.{IsBlock, kind_of}
 use Rattle.ygg_eval_lower.specs.Layers.{variables_at}
 use Rattle.ygg_eval_fronts.specs.Steps.{FellBetween}
-use Rattle.ygg_oblige_schedules.specs.Schedules.{woken_picks}
+use Rattle.ygg_oblige_places.specs.Schedules.{woken_picks}
 use Rattle.ygg_sched.specs.Fitting.{halt_meant}
 use Rattle.ygg_sched.specs.declared.schedule.Schedule.{Schedule}
 use Rattle.ygg_oblige_reading.specs.Here.{below_of, body_of, file_of, inputs_of, layer_of, low_env, numbers_of, obligation_of}

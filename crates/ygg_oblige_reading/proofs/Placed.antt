@@ -18,7 +18,7 @@ use Rattle.ygg_oblige_given.specs.Tables.{given_values}
 use Rattle.ygg_oblige_places.specs.Listing.{StandsIn}
 use Rattle.ygg_oblige_places.specs.Sites.{IsPlaced}
 use Rattle.ygg_oblige_places.proofs.Starting.{item_of}
-use Rattle.ygg_oblige_schedules.proofs.Given.{no_shapes}
+use Rattle.ygg_oblige_places.proofs.Given.{no_shapes}
 use Rattle.ygg_sched.specs.Laws.{asked_at, asked_of}
 use Rattle.ygg_sched.specs.Sites.{sites_of}
 use Rattle.ygg_sched.specs.declared.schedule.Schedule.{Schedule}

@@ -17,7 +17,7 @@ use Rattle.ygg_oblige_terms.specs.Meaning.{claim_name}
 use Rattle.ygg_oblige_terms.specs.Terms.{file_made}
 use Rattle.ygg_oblige_places.specs.Obligation.{Obligation}
 pub use Rattle.ygg_oblige_places.specs.Sites.{Init}
-use Rattle.ygg_oblige_schedules.specs.Schedules.{all_schedules}
+use Rattle.ygg_oblige_places.specs.Schedules.{all_schedules}
 use Rattle.ygg_sched.specs.Fitting.{halt_meant}
 use Rattle.ygg_sched.specs.declared.schedule.Schedule.{Schedule}
 

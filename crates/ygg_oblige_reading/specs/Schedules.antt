@@ -16,7 +16,7 @@ use Rattle.ygg_oblige_terms.specs.Numbers as terms
 use Rattle.ygg_oblige_places.specs.Listing.{StandsIn}
 use Rattle.ygg_oblige_pieces.specs.States.{given_stand}
 use Rattle.ygg_oblige_pieces.specs.Worth as worth
-use Rattle.ygg_oblige_schedules.specs.Schedules.{left_of, picks_of, schedule_of, stop_of, wake_picks}
+use Rattle.ygg_oblige_places.specs.Schedules.{left_of, picks_of, schedule_of, stop_of, wake_picks}
 use Rattle.ygg_sched.specs.Fitting.{halt_meant}
 use Rattle.ygg_sched.specs.declared.schedule.Halt.{Halt}
 use Rattle.ygg_sched.specs.declared.schedule.Schedule.{Schedule}

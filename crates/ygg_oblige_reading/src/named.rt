@@ -8,7 +8,7 @@ ghost use Rattle.ygg_meaning.specs.Environments.{bind};
 ghost use Rattle.ygg_meaning.specs.Obligations.{Again, Idle, Init, name_of};
 ghost use Rattle.ygg_meaning.specs.Shapes.{env_fits, values_fit};
 ghost use Rattle.ygg_oblige_given.specs.Tables.{given_values};
-ghost use Rattle.ygg_oblige_schedules.specs.Schedules.{cut_from, schedule_from, stop_of, whole_from, woken_picks};
+ghost use Rattle.ygg_oblige_places.specs.Schedules.{cut_from, schedule_from, stop_of, whole_from, woken_picks};
 ghost use Rattle.ygg_oblige_terms.specs.Layers.{ShapesKept};
 ghost use Rattle.ygg_oblige_reading.specs.Here.{
   below_of,

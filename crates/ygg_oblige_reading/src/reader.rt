@@ -8,7 +8,7 @@ ghost use Rattle.ygg_meaning.specs.Shapes.{env_fits, values_fit};
 ghost use Rattle.ygg_oblige_pieces.specs.Inputs.{given_env};
 ghost use Rattle.ygg_oblige_pieces.specs.States.{given_stand};
 ghost use Rattle.ygg_oblige_terms.specs.Layers.{ShapesKept};
-ghost use Rattle.ygg_oblige_schedules.specs.Schedules.{woken_picks};
+ghost use Rattle.ygg_oblige_places.specs.Schedules.{woken_picks};
 ghost use Rattle.ygg_sym_below.specs.Laws.{picked_by};
 ghost use Rattle.ygg_oblige_reading.specs.Here.{
   below_of,

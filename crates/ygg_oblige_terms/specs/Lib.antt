@@ -1,3 +1,7 @@
+pub use Rattle.ygg_sym_laws.specs.Means
+pub use Rattle.ygg_sym_laws.specs.Typed
+pub use Rattle.ygg_sym_laws.specs.Below
+pub use Rattle.ygg_sym_laws.specs.Specs
 pub mod States
 pub mod Outcomes
 pub mod Numbers

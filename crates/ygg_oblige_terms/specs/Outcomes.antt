@@ -16,9 +16,9 @@ use Rattle.ygg_shape_cells.specs.Making.{compared}
 use Rattle.ygg_shape_cells.specs.declared.terms.SymValue.{SymValue}
 use Rattle.ygg_sym_expr.specs.Names.{sym_bind}
 use Rattle.ygg_sym_expr.specs.Exprs.{SymFunctions}
-use Rattle.ygg_sym_below.specs.Disks.{Done, done}
-use Rattle.ygg_sym_below.specs.Specs.{given_pick}
-use Rattle.ygg_sym_below.specs.SpecCuts.{block_made, crash_made, then_crash_made}
+use Rattle.ygg_sym_laws.specs.Disks.{Done, done}
+use Rattle.ygg_sym_laws.specs.Specs.{given_pick}
+use Rattle.ygg_sym_laws.specs.SpecCuts.{block_made, crash_made, then_crash_made}
 use Rattle.ygg_sym_laws.specs.Below.{start_made}
 
 module _ (kinds : List RuleKind) where

@@ -93,9 +93,9 @@ use Rattle.ygg_type_progress.proofs.Typed.{IsTypedLayer, Parts, parts}
 use Rattle.ygg_type_progress.proofs.Specs.{spec_answers}
 use Rattle.ygg_type_progress.proofs.Files.{have}
 use Rattle.ygg_direct.specs.Laws.{Sees}
-use Rattle.ygg_sym_below.specs.Specs.{SpecBlock}
-use Rattle.ygg_sym_laws.specs.Below.{lows_on, signatures_of, signatures_on}
-use Rattle.ygg_sym_laws.specs.Typed.{BlockTyped, SpecBlockTyped, OperationTyped, SpecTyped, BelowTyped}
+use Rattle.ygg_oblige_terms.specs.Specs.{SpecBlock}
+use Rattle.ygg_oblige_terms.specs.Below.{lows_on, signatures_of, signatures_on}
+use Rattle.ygg_oblige_terms.specs.Typed.{BlockTyped, SpecBlockTyped, OperationTyped, SpecTyped, BelowTyped}
 use Rattle.ygg_oblige_terms.specs.Layers.{OperationFits, LayerTyped}
 use Rattle.ygg_oblige_typed.proofs.Widening.{plain_keeps}
 use Rattle.ygg_oblige_typed.proofs.Formulas.{IsBelow, layer_formulas}

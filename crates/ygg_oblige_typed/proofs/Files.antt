@@ -26,8 +26,8 @@ use Rattle.ygg_type_progress.proofs.Operations.{added_all, operations_shaped}
 use Rattle.ygg_type_progress.proofs.Typed.{IsTypedLayer, parts}
 use Rattle.ygg_type_progress.proofs.Files.{on_disk}
 use Rattle.ygg_type_progress.proofs.Derived.{derived_kept}
-use Rattle.ygg_sym_laws.specs.Below.{lows_on, signatures_on}
-use Rattle.ygg_sym_laws.specs.Typed.{BelowTyped}
+use Rattle.ygg_oblige_terms.specs.Below.{lows_on, signatures_on}
+use Rattle.ygg_oblige_terms.specs.Typed.{BelowTyped}
 use Rattle.ygg_oblige_typed.specs.Layers.{LayersTyped}
 use Rattle.ygg_oblige_typed.proofs.Formulas.{IsBelow, disk_is_below, layer_is_below}
 use Rattle.ygg_oblige_typed.proofs.Blocks.{own_typed, layer_typed}

@@ -19,9 +19,9 @@ use Rattle.ygg_sym_laws.specs.Below.{lost_made, lows_at_start, lows_on, start_ma
 use Rattle.ygg_sym_laws.specs.Means.{LossMeans, terms_of}
 use Rattle.ygg_sym_laws_disk.proofs.Loss.{disk_loss}
 use Rattle.ygg_sym_laws_spec.proofs.AnyLayer.{spec_loss}
-use Rattle.ygg_sym_spec.specs.Layers.{closed, crash_of, terms_in}
-use Rattle.ygg_sym_spec.specs.declared.layer.SymLayer.{SymLayer}
-use Rattle.ygg_sym_spec.specs.declared.picks.SymPicks.TheVariants as picks
+use Rattle.ygg_sym_spec_stops.specs.Layers.{closed, crash_of, terms_in}
+use Rattle.ygg_sym_spec_stops.specs.SymLayer.{SymLayer}
+use Rattle.ygg_sym_spec_stops.specs.SymPicks.TheVariants as picks
 use Rattle.ygg_sym.specs.Sites.{BelowFits, below_in}
 use Rattle.ygg_sym.specs.declared.below.SymBelow.{SymBelow}
 use Rattle.ygg_sym.specs.declared.below.SymBelow.TheVariants.{Disk, Layer}

@@ -15,11 +15,11 @@ use Rattle.ygg_sym_disk.specs.Means.{disk_meaning}
 use Rattle.ygg_sym_laws.specs.Below.{lows_on, machine_on, signatures_on, space_on, stops_on}
 use Rattle.ygg_sym_laws.specs.Means.{terms_of}
 use Rattle.ygg_sym_laws.specs.Typed.{BelowTyped, SpecTyped}
-use Rattle.ygg_sym_stops.specs.Stopping as stopping
+use Rattle.ygg_sym_cut.specs.Stopping as stopping
 use Rattle.ygg_sym_disk_stops.specs.Failing.{disk_power}
-use Rattle.ygg_sym_spec.specs.Layers.{SpecServes, closed, terms_in}
-use Rattle.ygg_sym_spec.specs.Machine.{spec_meaning}
-use Rattle.ygg_sym_spec.specs.declared.layer.SymLayer.{SymLayer}
+use Rattle.ygg_sym_spec_stops.specs.Layers.{SpecServes, closed, terms_in}
+use Rattle.ygg_sym_spec_stops.specs.Machine.{spec_meaning}
+use Rattle.ygg_sym_spec_stops.specs.SymLayer.{SymLayer}
 use Rattle.ygg_sym_spec_stops.specs.Failing.{spec_power}
 use Rattle.ygg_sym.specs.Sites.{BelowFits, below_in}
 use Rattle.ygg_sym.specs.declared.below.SymBelow.{SymBelow}

@@ -39,12 +39,12 @@ use Rattle.ygg_sym_laws.specs.Typed.{BlockTyped}
 use Rattle.ygg_sym_laws_disk.proofs.Falls.{disk_falls}
 use Rattle.ygg_sym_laws_disk.proofs.Whole.{disk_whole}
 use Rattle.ygg_sym_laws_spec.proofs.AnyLayer.{spec_falls, spec_whole}
-use Rattle.ygg_sym_stops.specs.Stopping as stopping
-use Rattle.ygg_sym_stops.specs.Stopping.{Power}
+use Rattle.ygg_sym_cut.specs.Stopping as stopping
+use Rattle.ygg_sym_cut.specs.Stopping.{Power}
 use Rattle.ygg_sym_cut.specs.Falls.{IsFall}
-use Rattle.ygg_sym_whole.specs.Ready.{CanWhole}
-use Rattle.ygg_sym_spec.specs.Layers.{closed, terms_in}
-use Rattle.ygg_sym_spec.specs.declared.layer.SymLayer.{SymLayer}
+use Rattle.ygg_sym_cut.specs.Ready.{CanWhole}
+use Rattle.ygg_sym_spec_stops.specs.Layers.{closed, terms_in}
+use Rattle.ygg_sym_spec_stops.specs.SymLayer.{SymLayer}
 use Rattle.ygg_sym.specs.Ends.{IsRun}
 use Rattle.ygg_sym.specs.declared.running.Ran.{Ran}
 use Rattle.ygg_sym.specs.Running.{CanRunBlock, CutIs, EndIs, EndStands, cut_of, run_of}

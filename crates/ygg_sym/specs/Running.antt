@@ -15,7 +15,7 @@ use Rattle.ygg_sym_below.specs.Wholes.{SymFinish}
 use Rattle.ygg_sym_laws.specs.Below.{cut_made, run_made, signatures_on}
 use Rattle.ygg_sym_laws.specs.Means.{values_in}
 use Rattle.ygg_sym_laws.specs.Typed.{BlockTyped}
-use Rattle.ygg_sym_spec.specs.Layers.{closed, terms_in}
+use Rattle.ygg_sym_spec_stops.specs.Layers.{closed, terms_in}
 use Rattle.ygg_sym.specs.Sites.{BelowFits, below_in}
 use Rattle.ygg_sym.specs.declared.runs.SymBlock.{SymBlock}
 use Rattle.ygg_sym.specs.declared.runs.SymCut.{SymCut}

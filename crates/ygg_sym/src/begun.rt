@@ -5,14 +5,14 @@ ghost use Rattle.ygg_bank.specs.Nodes.{Extends, IsBank};
 ghost use Rattle.ygg_sym_below.specs.Lows.{LowShaped};
 ghost use Rattle.ygg_sym_runs.specs.Lower.{KeepsSingle, SingleFrom};
 ghost use Rattle.ygg_sym_laws.specs.Below.{start_made};
-ghost use Rattle.ygg_sym_spec.specs.Layers.{SpecServes, closed, terms_in};
+ghost use Rattle.ygg_sym_spec_stops.specs.Layers.{SpecServes, closed, terms_in};
 
 use crate::declared::zeros;
 use std::alloc::Global;
 use ygg_bank::{Bank, NoMemory};
 use ygg_rules::Book;
 use ygg_shape_cells::SymValues;
-use ygg_sym_spec::{SymLayer, SymPicks, block};
+use ygg_sym_spec_stops::{SymLayer, SymPicks, block};
 
 /// The variables of a specification at its start. Inputs of the bank from the given number on are single digits. Its only error is out of memory,
 /// after which the bank may have more nodes.

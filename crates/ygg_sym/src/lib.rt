@@ -13,3 +13,4 @@ pub use below::SymBelow;
 pub use declared::{shape_of, zeros};
 pub use rooms::{failure_room, places};
 pub use runs::{SymBlock, SymCut, SymEnd, cut, lost, low_at_start, run};
+pub use ygg_sym_spec_stops::{SpecDone, SymLayer, SymPicks, block, crash, then_crash};

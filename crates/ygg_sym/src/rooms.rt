@@ -4,14 +4,14 @@ ghost use Rattle.std.specs.Prelude.{◌≡◌, ◌+◌, IfOk};
 ghost use Rattle.ygg_meaning.specs.Refines.{OnDisk, OnSpec};
 ghost use Rattle.ygg_sym_below.specs.SpecCuts.{choice_room, fall_places, fall_room};
 ghost use Rattle.ygg_sym_laws.specs.Below.{failure_room, places_on};
-ghost use Rattle.ygg_sym_spec.specs.Layers.{closed};
+ghost use Rattle.ygg_sym_spec_stops.specs.Layers.{closed};
 ghost use Rattle.ygg_sym.specs.Sites.{below_in};
 
 use crate::below::SymBelow;
 use ygg_bank::NoMemory;
 use ygg_sym_disk::SymDisk;
 use ygg_sym_runs::room;
-use ygg_sym_spec::{SymLayer, SymSpec, choices};
+use ygg_sym_spec_stops::{SymLayer, SymSpec, choices};
 use ygg_syntax::tree::{Block, DiskText, Operation};
 
 /// How many places a block has, each call of it as many as the machine below says. Its only error is out of memory: no machine has memory for so

@@ -5,7 +5,7 @@ ghost use Rattle.ygg_bank.specs.Nodes.{Extends, IsBank};
 ghost use Rattle.ygg_sym_expr.specs.Names.{sym_bind};
 ghost use Rattle.ygg_sym_expr.specs.Seen.{env_of};
 ghost use Rattle.ygg_sym_runs.specs.Lower.{KeepsSingle, SingleFrom};
-ghost use Rattle.ygg_sym_whole.specs.Ready.{CanWhole};
+ghost use Rattle.ygg_sym_cut.specs.Ready.{CanWhole};
 ghost use Rattle.ygg_sym_cut.specs.Falls.{IsFall};
 ghost use Rattle.ygg_sym.specs.Ends.{IsRun};
 ghost use Rattle.ygg_sym.specs.Running.{CanRunBlock, CutIs, EndIs, cut_of, run_of};
@@ -16,15 +16,12 @@ use std::alloc::Global;
 use ygg_bank::{Bank, NoMemory};
 use ygg_rules::Book;
 use ygg_shape_cells::{SymValue, SymValues};
-use ygg_sym_cut::cut_short;
+use ygg_sym_cut::{Fallen, SymStops, cut_short, whole};
 use ygg_sym_disk::{Lows, SymDisk};
 use ygg_sym_disk_stops::DiskStops;
 use ygg_sym_expr::SymBinding;
 use ygg_sym_runs::{SymLower, SymRunner};
-use ygg_sym_spec::{SymLayer, SymSpec, bind, values_of};
-use ygg_sym_spec_stops::SpecStops;
-use ygg_sym_stops::{Fallen, SymStops};
-use ygg_sym_whole::whole;
+use ygg_sym_spec_stops::{SpecStops, SymLayer, SymSpec, bind, values_of};
 use ygg_syntax::tree::{Block, Declared, DiskText};
 
 /// What a whole run on a machine leaves.

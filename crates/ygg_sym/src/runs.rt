@@ -5,7 +5,7 @@ ghost use Rattle.ygg_bank.specs.Nodes.{Extends, HasWidth, IsBank};
 ghost use Rattle.ygg_sym_below.specs.Lows.{LowShaped};
 ghost use Rattle.ygg_sym_runs.specs.Lower.{KeepsSingle, SingleFrom};
 ghost use Rattle.ygg_sym_laws.specs.Below.{lost_made, lows_at_start};
-ghost use Rattle.ygg_sym_spec.specs.Layers.{terms_in};
+ghost use Rattle.ygg_sym_spec_stops.specs.Layers.{terms_in};
 ghost use Rattle.ygg_sym.specs.Sites.{below_in, BelowFits};
 ghost use Rattle.ygg_sym.specs.Running.{CanRunBlock, CutIs, EndIs, EndStands, cut_of, run_of};
 
@@ -18,7 +18,7 @@ use ygg_bank::{Bank, Id, NoMemory};
 use ygg_rules::Book;
 use ygg_shape_cells::{SymValue, SymValues};
 use ygg_sym_disk::lose;
-use ygg_sym_spec::{SymLayer, SymPicks, crash};
+use ygg_sym_spec_stops::{SymLayer, SymPicks, crash};
 use ygg_syntax::tree::{Block, Declared};
 
 /// What a whole run leaves.

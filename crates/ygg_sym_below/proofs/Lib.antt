@@ -1,3 +1,6 @@
+pub use Rattle.ygg_sym_runs.proofs.Parts
+pub use Rattle.ygg_sym_runs.proofs.Worths
+pub use Rattle.ygg_sym_expr.proofs.Keeps
 pub mod Lows
 pub mod DiskKeeps
 pub mod Disks

@@ -24,7 +24,7 @@ use Rattle.ygg_sym_runs.specs.Lower.{SymMeaning, IsLower, KeepsSingle, SingleFro
 use Rattle.ygg_sym_runs.specs.Ready.{CanRun, Ended, order_run, terms_of}
 use Rattle.ygg_sym_runs.proofs.Singles.{single_stays}
 use Rattle.ygg_sym_runs.proofs.Walking.{run_left}
-use Rattle.ygg_sym_below.specs.StopTerms.{SymFallen, SymHalted}
+use Rattle.ygg_sym_stops.specs.StopTerms.{SymFallen, SymHalted}
 use Rattle.ygg_sym_whole.specs.Ready.{CanWhole}
 use Rattle.ygg_sym_stops.specs.Halting.{halted_of, halting_meaning, sym_fall}
 use Rattle.ygg_sym_stops.specs.Stopping.{Power}

@@ -11,7 +11,7 @@ use Rattle.ygg_direct.specs.Direct.{room_of}
 use Rattle.ygg_sym_expr.specs.Names.{SymEnv}
 use Rattle.ygg_sym_runs.specs.Lower.{SymMeaning, KeepsSingle}
 use Rattle.ygg_sym_runs.specs.Ready.{terms_of}
-use Rattle.ygg_sym_below.specs.StopTerms.{SymFallen, stop_whole}
+use Rattle.ygg_sym_stops.specs.StopTerms.{SymFallen, stop_whole}
 use Rattle.ygg_sym_stops.specs.Stopping.{Power, stops_on}
 
 module _ {S : Type 0} (M : SymMeaning S) (K : Power S) (defs : List Def) (kinds : List RuleKind) where

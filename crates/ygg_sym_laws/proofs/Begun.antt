@@ -9,8 +9,8 @@ use Rattle.ygg_bank.specs.Values.{Inputs, Values, Fits}
 use Rattle.ygg_bank.specs.declared.node.Node.{Node}
 use Rattle.ygg_rules.specs.declared.rule.RuleKind.{RuleKind}
 use Rattle.ygg_shape_cells.specs.Terms.{worth}
-use Rattle.ygg_sym_expr.specs.Names.{SymEnv, sym_bind}
-use Rattle.ygg_sym_expr.specs.Meaning.{EnvShaped, worths}
+use Rattle.ygg_sym_below.specs.Names.{SymEnv, sym_bind}
+use Rattle.ygg_sym_below.specs.SymExprMeaning.{EnvShaped, worths}
 use Rattle.ygg_sym_below.specs.Lows.{LowShaped, low_worth}
 use Rattle.ygg_sym_below.proofs.Specs.{lows_back}
 use Rattle.ygg_sym_laws.specs.Means.{values_in}

@@ -13,8 +13,8 @@ use Rattle.ygg_shape_words.proofs.Keeps.{Stays, grows_stays}
 use Rattle.ygg_shape_cells.proofs.Wider.{shaped_wider}
 use Rattle.ygg_shape.proofs.Whole.{zero_made_keeps, zero_gives}
 use Rattle.ygg_shape.specs.Wholes.{zero_made}
-use Rattle.ygg_sym_expr.specs.Meaning.{Grows}
-use Rattle.ygg_sym_expr.proofs.Keeps.{Keeps}
+use Rattle.ygg_sym_below.specs.SymExprMeaning.{Grows}
+use Rattle.ygg_sym_below.proofs.Keeps.{Keeps}
 use Rattle.ygg_sym_below.specs.Lows.{LowShaped, low_worth}
 use Rattle.ygg_shape_cells.specs.declared.terms.SymValue.{SymValue}
 use Rattle.ygg_sym_laws.specs.Below.{zeros_made}

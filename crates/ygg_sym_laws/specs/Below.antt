@@ -16,11 +16,11 @@ use Rattle.ygg_rules.specs.declared.rule.RuleKind.{RuleKind}
 use Rattle.ygg_bank.specs.Makes.{Make, pure, and_make}
 use Rattle.ygg_shape_cells.specs.declared.terms.SymValue.{SymValue}
 use Rattle.ygg_shape.specs.Wholes.{zero_made}
-use Rattle.ygg_direct.specs.Direct.{room_of}
-use Rattle.ygg_direct.specs.RunPlaces.{disk_space, spec_space}
-use Rattle.ygg_sym_expr.specs.Names.{SymEnv}
-use Rattle.ygg_sym_expr.specs.Exprs.{SymFunctions}
-use Rattle.ygg_sym_runs.specs.Runs.{SymMachine}
+use Rattle.ygg_sym_below.specs.Direct.{room_of}
+use Rattle.ygg_sym_below.specs.RunPlaces.{disk_space, spec_space}
+use Rattle.ygg_sym_below.specs.Names.{SymEnv}
+use Rattle.ygg_sym_below.specs.Exprs.{SymFunctions}
+use Rattle.ygg_sym_below.specs.Runs.{SymMachine}
 use Rattle.ygg_sym_below.specs.Disks.{sym_disk}
 use Rattle.ygg_sym_below.specs.Cuts.{disk_loses, disk_stops}
 use Rattle.ygg_sym_below.specs.Specs.{input_pick, given_pick, sym_spec}

@@ -11,7 +11,7 @@ use Rattle.ygg_meaning.specs.Machine.{Picks, State, based, on, Machine}
 use Rattle.ygg_meaning.specs.Layer.{ClosedLayer, BlockRuns, BlockFalls}
 use Rattle.ygg_meaning.specs.Obligations.{Halt, StopsAt}
 use Rattle.ygg_meaning.specs.Refines.{Below, machine_below}
-use Rattle.ygg_type_progress.specs.Blocks.{is_returned}
+use Rattle.ygg_sym_below.specs.Blocks.{is_returned}
 use Rattle.ygg_rules.specs.declared.rule.RuleKind.{RuleKind}
 use Rattle.ygg_bank.specs.Inputs.{InputsBelow}
 use Rattle.ygg_bank.specs.Makes.{Make}
@@ -19,10 +19,10 @@ use Rattle.ygg_bank.specs.Nodes.{HasWidth}
 use Rattle.ygg_bank.specs.Values.{Inputs, Values, Fits}
 use Rattle.ygg_bank.specs.declared.node.Node.{Node}
 use Rattle.ygg_shape_cells.specs.declared.terms.SymValue.{SymValue}
-use Rattle.ygg_sym_expr.specs.Names.{SymEnv, sym_bind}
-use Rattle.ygg_sym_expr.specs.Exprs.{SymFunctions, sym_functions}
-use Rattle.ygg_sym_expr.specs.Meaning.{Grows, worths}
-use Rattle.ygg_sym_runs.specs.Meaning.{AnswerShaped, answer_worth, is_set}
+use Rattle.ygg_sym_below.specs.Names.{SymEnv, sym_bind}
+use Rattle.ygg_sym_below.specs.Exprs.{SymFunctions, sym_functions}
+use Rattle.ygg_sym_below.specs.SymExprMeaning.{Grows, worths}
+use Rattle.ygg_sym_below.specs.Meaning.{AnswerShaped, answer_worth, is_set}
 use Rattle.ygg_sym_below.specs.Lows.{LowShaped, low_worth}
 use Rattle.ygg_sym_below.specs.StopTerms.{SymFallen}
 use Rattle.ygg_sym_below.specs.Wholes.{SymFinish}

@@ -24,11 +24,11 @@ use Rattle.ygg_meaning.specs.Progress.{Answer}
 use Rattle.ygg_meaning.specs.Layer.{ClosedLayer, operation_of}
 use Rattle.ygg_meaning.specs.Refines.{Below, OnDisk, OnSpec}
 use Rattle.ygg_type_sound.specs.Agrees.{Agrees}
-use Rattle.ygg_type_progress.specs.Kinds.{keeps}
-use Rattle.ygg_type_progress.specs.Questions.{plain, gives}
-use Rattle.ygg_type_progress.specs.Blocks.{is_returned}
-use Rattle.ygg_type_progress.specs.Machines.{SpecAnswers}
-use Rattle.ygg_direct.specs.Laws.{Sees}
+use Rattle.ygg_sym_below.specs.Kinds.{keeps}
+use Rattle.ygg_sym_below.specs.Questions.{plain, gives}
+use Rattle.ygg_sym_below.specs.Blocks.{is_returned}
+use Rattle.ygg_sym_below.specs.Machines.{SpecAnswers}
+use Rattle.ygg_sym_below.specs.DirectLaws.{Sees}
 use Rattle.ygg_sym_below.specs.Specs.{SpecBlock}
 use Rattle.ygg_sym_laws.specs.Below.{signatures_of}
 

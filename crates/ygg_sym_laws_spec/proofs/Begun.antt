@@ -31,10 +31,10 @@ use Rattle.ygg_sym_expr.specs.Meaning.{EnvShaped, worths}
 use Rattle.ygg_sym_expr.proofs.Grows.{FunctionsGrow, functions_grow}
 use Rattle.ygg_sym_expr.proofs.Values.{FunctionsMean}
 use Rattle.ygg_sym_expr.proofs.Definitions.{functions_mean}
-use Rattle.ygg_sym_runs.specs.Runs.{SymMachine}
-use Rattle.ygg_sym_runs.specs.Meaning.{Low, MachineMeans}
-use Rattle.ygg_sym_runs.proofs.Worths.{NameShaped}
-use Rattle.ygg_sym_runs.proofs.Parts.{InScope}
+use Rattle.ygg_sym_below.specs.Runs.{SymMachine}
+use Rattle.ygg_sym_below.specs.Meaning.{Low, MachineMeans}
+use Rattle.ygg_sym_below.proofs.Worths.{NameShaped}
+use Rattle.ygg_sym_below.proofs.Parts.{InScope}
 use Rattle.ygg_sym_below.specs.Lows.{low_worth}
 use Rattle.ygg_sym_below.specs.Laws.{picked_by}
 use Rattle.ygg_sym_below.specs.Specs.{input_pick, sym_spec}

@@ -31,7 +31,7 @@ use Rattle.ygg_direct.specs.Direct.{Reached, direct_run, room_of}
 use Rattle.ygg_direct.specs.RunPlaces.{spec_space}
 use Rattle.ygg_sym_expr.specs.Names.{sym_bind}
 use Rattle.ygg_sym_expr.specs.Meaning.{Grows}
-use Rattle.ygg_sym_runs.specs.Meaning.{is_set}
+use Rattle.ygg_sym_below.specs.Meaning.{is_set}
 use Rattle.ygg_sym_below.specs.Laws.{picked_by}
 use Rattle.ygg_sym_below.specs.Lows.{low_worth}
 use Rattle.ygg_sym_below.specs.SpecCuts.{spec_stops}

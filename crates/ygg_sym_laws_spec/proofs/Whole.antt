@@ -33,7 +33,7 @@ use Rattle.ygg_direct.specs.Direct.{Reached, direct_run, room_of}
 use Rattle.ygg_direct.specs.RunPlaces.{Finish, spec_space}
 use Rattle.ygg_sym_expr.specs.Names.{sym_bind}
 use Rattle.ygg_sym_expr.specs.Meaning.{Grows, worths}
-use Rattle.ygg_sym_runs.specs.Meaning.{answer_worth}
+use Rattle.ygg_sym_below.specs.Meaning.{answer_worth}
 use Rattle.ygg_sym_below.specs.Laws.{picked_by}
 use Rattle.ygg_sym_below.specs.Lows.{low_worth}
 use Rattle.ygg_sym_below.specs.Wholes.{SymFinish}

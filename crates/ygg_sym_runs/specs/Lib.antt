@@ -1,3 +1,4 @@
+pub use Rattle.ygg_sym_expr.specs.Exprs
 pub mod Putting
 pub mod Runs
 pub mod Meaning

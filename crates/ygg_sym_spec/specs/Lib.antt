@@ -1,3 +1,5 @@
+pub use Rattle.ygg_sym_laws.specs.Typed
+pub use Rattle.ygg_sym_laws.specs.Below
 pub mod Bare
 pub mod Picking
 pub mod Layers

@@ -14,3 +14,4 @@ pub use falls::fall;
 pub use layer::SymLayer;
 pub use machine::SymSpec;
 pub use picks::SymPicks;
+pub use ygg_sym_disk::Lows;

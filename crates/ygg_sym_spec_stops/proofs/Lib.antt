@@ -1,1 +1,2 @@
+pub use Rattle.ygg_sym_spec.proofs.Whole
 pub mod Failed

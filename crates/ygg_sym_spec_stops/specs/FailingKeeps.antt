@@ -8,8 +8,8 @@ use Rattle.ygg_meaning.specs.Layer.{ClosedLayer}
 use Rattle.ygg_sym_expr.proofs.Definitions.{functions_mean}
 use Rattle.ygg_sym_expr.proofs.Grows.{functions_grow}
 use Rattle.ygg_sym_below.proofs.SpecStops.{FallsTyped, SomeBlock, spec_stops_mean}
-use Rattle.ygg_sym_laws.specs.Below.{signatures_of}
-use Rattle.ygg_sym_laws.specs.Typed.{SpecBlockTyped, SpecTyped}
+use Rattle.ygg_sym_spec.specs.Below.{signatures_of}
+use Rattle.ygg_sym_spec.specs.Typed.{SpecBlockTyped, SpecTyped}
 use Rattle.ygg_sym_spec.specs.Layers.{closed, terms_in}
 use Rattle.ygg_sym_spec.specs.Machine.{spec_meaning}
 use Rattle.ygg_sym_stops.specs.Stopping.{IsPower}

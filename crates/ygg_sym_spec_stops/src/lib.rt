@@ -4,3 +4,6 @@
 mod stops;
 
 pub use stops::SpecStops;
+pub use ygg_sym_spec::{
+    SpecDone, SymLayer, SymPicks, SymSpec, bind, block, choices, crash, then_crash, values_of,
+};

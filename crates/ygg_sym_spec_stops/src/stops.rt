@@ -4,9 +4,8 @@ use std::alloc::Global;
 use ygg_bank::{Bank, Id, NoMemory};
 use ygg_rules::Book;
 use ygg_shape_cells::SymValue;
-use ygg_sym_disk::Lows;
 use ygg_sym_runs::{Question, SymLower};
-use ygg_sym_spec::{SymPicks, SymSpec, crash, fall};
+use ygg_sym_spec::{Lows, SymPicks, SymSpec, crash, fall};
 use ygg_sym_stops::SymStops;
 
 /// The specification of a layer over terms whose power fails at stops.

@@ -63,8 +63,8 @@ use Rattle.ygg_histories.specs.Stack.{layers_of}
 use Rattle.ygg_meaning.specs.Obligations as meaning
 use Rattle.ygg_sym_laws.specs.Means.{terms_of}
 use Rattle.ygg_oblige_reading.specs.Meant.{IsMadeIn}
-use Rattle.ygg_oblige_schedules.specs.Laws.{AllExact}
-use Rattle.ygg_oblige_schedules.specs.Schedules.{all_schedules}
+use Rattle.ygg_sched_names.specs.ObligeSchedulesLaws.{AllExact}
+use Rattle.ygg_sched_names.specs.Schedules.{all_schedules}
 use Rattle.ygg_replay_text.specs.Shown.{meant}
 use Rattle.ygg_replay_text.specs.Ending.{Replaying}
 use Rattle.ygg_top_verify.specs.declared.verdict.Refutation.{Refutation}

@@ -14,7 +14,7 @@ use Rattle.ygg_type_progress.specs.Laws.{TypedHistories}
 use Rattle.ygg_bank.specs.declared.node.Id.{Id}
 use Rattle.ygg_bank.specs.declared.node.Node.{Node}
 use Rattle.ygg_oblige_terms.specs.Terms.{file_made}
-use Rattle.ygg_oblige_schedules.specs.Laws.{FileSchedules}
+use Rattle.ygg_sched_names.specs.ObligeSchedulesLaws.{FileSchedules}
 use Rattle.ygg_top_verify.specs.Verdict.{
   Verdict,
   Holds,

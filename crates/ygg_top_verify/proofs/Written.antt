@@ -29,8 +29,8 @@ use Rattle.ygg_oblige_terms.specs.Meaning.{Refuting, AreTermsOf, claim_name}
 use Rattle.ygg_oblige_terms.specs.Numbers.{numbers_of}
 use Rattle.ygg_oblige_terms.specs.States.{state_words}
 use Rattle.ygg_oblige_terms.specs.Terms.{after_layers, file_made}
-use Rattle.ygg_oblige_schedules.specs.Laws.{AllExact, FileSchedules}
-use Rattle.ygg_oblige_schedules.specs.Schedules.{values_of, schedule_of, schedules_of, layer_schedules, all_schedules}
+use Rattle.ygg_sched_names.specs.ObligeSchedulesLaws.{AllExact, FileSchedules}
+use Rattle.ygg_sched_names.specs.Schedules.{values_of, schedule_of, schedules_of, layer_schedules, all_schedules}
 use Rattle.ygg_sched.specs.Fitting.{halt_meant}
 use Rattle.ygg_sched.specs.declared.schedule.Halt.{Halt}
 use Rattle.ygg_sched.specs.declared.schedule.Schedule.{Schedule}

@@ -9,6 +9,5 @@ mod verdict;
 
 pub use command::{demo, verify, verify_within};
 pub use verdict::refuted_by;
-pub use ygg_oblige_schedules::law::file_schedules;
 pub use ygg_replay_text::one_ending;
-pub use ygg_sched_names::printed_shows;
+pub use ygg_sched_names::{file_schedules, printed_shows};

@@ -5,7 +5,7 @@ use Rattle.ygg_bank.specs.declared.node.Id.{Id}
 use Rattle.ygg_bank.specs.declared.node.Node.{Node}
 use Rattle.ygg_histories.specs.Claims.{claims_of}
 use Rattle.ygg_histories.specs.Stack.{layers_of}
-use Rattle.ygg_sym.proofs.Carried.{on_value_of}
+use Rattle.ygg_oblige_kinds.proofs.Carried.{on_value_of}
 use Rattle.ygg_oblige_terms.specs.Meaning.{AreTermsIn, claim_name}
 use Rattle.ygg_oblige_terms.specs.Terms.{file_made}
 use Rattle.ygg_oblige_typed.proofs.Files.{typed_layers}

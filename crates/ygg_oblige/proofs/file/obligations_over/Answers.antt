@@ -1,7 +1,7 @@
 use Rattle.std.proofs.Common.{◌≤◌, ◌+◌, List, length, drop, sym, subst}
 use Rattle.std.proofs.Math.ListN.{drop_of_length-le}
 use Rattle.ygg_syntax.specs.declared.tree.Layer.{Layer}
-use Rattle.ygg_sym.specs.declared.below.SymBelow.TheVariants as on
+use Rattle.ygg_oblige_kinds.specs.SymBelow.TheVariants as on
 use Rattle.ygg_oblige.specs.declared.obligation.Obligation as code
 use Rattle.ygg_oblige.proofs.Walking.{Walked, next_layer, site_fits, walk_begun, walked_all, walked_on}
 use Rattle.ygg_oblige.proofs.file.obligations_over.Goals as goal

@@ -3,7 +3,7 @@ use Rattle.std.specs.Prelude.{All}
 use Rattle.std.proofs.Math.ListN.{drop_of_length-le}
 use Rattle.std.proofs.lemmas.List.Elements.{All-head}
 use Rattle.ygg_meaning.specs.Obligations.{Obligation}
-use Rattle.ygg_sym.proofs.Left.{rest_is}
+use Rattle.ygg_oblige_kinds.proofs.Left.{rest_is}
 use Rattle.ygg_oblige_kinds.specs.Makers.{starting_of}
 use Rattle.ygg_oblige_kinds.specs.Steps.{obligation_of}
 use Rattle.ygg_oblige.specs.Adding.{KnownAt}

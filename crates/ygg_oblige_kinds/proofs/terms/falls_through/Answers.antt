@@ -6,18 +6,17 @@ use Rattle.ygg_sym_below.specs.Lows.{LowShaped}
 use Rattle.ygg_sym_below.proofs.Lows.{low_wider}
 use Rattle.ygg_sym_runs.proofs.Singles.{single_less}
 use Rattle.ygg_sym_spec.specs.Layers.{closed, terms_in}
-use Rattle.ygg_sym.specs.Sites.{below_in}
-use Rattle.ygg_oblige_kinds.proofs.Sites.{below_fits}
+use Rattle.ygg_oblige_parts.specs.Sites.{below_in}
+use Rattle.ygg_oblige_kinds.proofs.Sites.{below_fits, block_fits_is}
 use Rattle.ygg_syntax.specs.declared.tree.Declared.{Declared}
 use Rattle.ygg_sym_expr.specs.Names.{sym_bind}
 use Rattle.ygg_sym_laws.specs.Below.{cut_made}
 use Rattle.ygg_oblige_terms.specs.Numbers.{arguments_of, block_of}
 use Rattle.ygg_oblige_terms.specs.Terms.{recovers}
-use Rattle.ygg_oblige_pieces.specs.Steps.{variables_of}
+use Rattle.ygg_oblige_parts.specs.ObligePiecesSteps.{variables_of}
 use Rattle.ygg_oblige_parts.specs.Steps.{obligation_of}
 use Rattle.ygg_oblige_kinds.specs.Numbering.{numbers_in}
 use Rattle.ygg_oblige_kinds.proofs.Chains.{falls_from}
-use Rattle.ygg_oblige_kinds.proofs.Sites.{block_fits_is}
 use Rattle.ygg_oblige_kinds.proofs.terms.falls_through.Goals as goal
 
 pub cut-requires-clause-can : goal.cut-requires-clause-can

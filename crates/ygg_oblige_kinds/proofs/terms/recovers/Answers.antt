@@ -4,11 +4,11 @@ use Rattle.ygg_bank.specs.Makes.{Out}
 use Rattle.ygg_bank.specs.declared.node.Id.{Id}
 use Rattle.ygg_sym_below.proofs.Lows.{low_wider}
 use Rattle.ygg_sym_spec.specs.Layers.{closed, terms_in}
-use Rattle.ygg_sym.specs.Sites.{below_in}
+use Rattle.ygg_oblige_parts.specs.Sites.{below_in}
 use Rattle.ygg_oblige_terms.specs.Numbers.{arguments_of}
 use Rattle.ygg_oblige_terms.specs.States.{settled_made}
 use Rattle.ygg_oblige_terms.specs.Terms.{recovered}
-use Rattle.ygg_oblige_pieces.specs.Steps.{variables_of}
+use Rattle.ygg_oblige_parts.specs.ObligePiecesSteps.{variables_of}
 use Rattle.ygg_oblige_parts.specs.Passing.{some_in}
 use Rattle.ygg_oblige_parts.specs.Steps.{obligation_of}
 use Rattle.ygg_oblige_kinds.proofs.Alike.{answer_wider}

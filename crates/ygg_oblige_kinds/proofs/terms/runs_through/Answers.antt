@@ -8,10 +8,10 @@ use Rattle.ygg_sym_below.proofs.Lows.{low_wider}
 use Rattle.ygg_sym_expr.specs.Names.{sym_bind}
 use Rattle.ygg_sym_laws.specs.Below.{run_made}
 use Rattle.ygg_sym_spec.specs.Layers.{closed, terms_in}
-use Rattle.ygg_sym.specs.Sites.{below_in}
-use Rattle.ygg_sym.specs.declared.runs.SymBlock.{SymBlock}
+use Rattle.ygg_oblige_parts.specs.Sites.{below_in}
+use Rattle.ygg_oblige_parts.specs.SymBlock.{SymBlock}
 use Rattle.ygg_oblige_terms.specs.Numbers.{arguments_of, block_of}
-use Rattle.ygg_oblige_pieces.specs.Steps.{variables_of}
+use Rattle.ygg_oblige_parts.specs.ObligePiecesSteps.{variables_of}
 use Rattle.ygg_oblige_parts.specs.Passing.{some_in}
 use Rattle.ygg_oblige_parts.specs.Steps.{obligation_of}
 use Rattle.ygg_oblige_kinds.proofs.Chains.{runs_from}

@@ -3,7 +3,7 @@ use Rattle.std.specs.Prelude.{IfSome, Option}
 use Rattle.std.specs.Option.{option_map}
 use Rattle.ygg_meaning.specs.Obligations.{obligations_of}
 use Rattle.ygg_oblige_places.specs.declared.listed.Listed.{Listed}
-use Rattle.ygg_sym.specs.Sites.{below_in}
+use Rattle.ygg_oblige.specs.Sites.{below_in}
 use Rattle.ygg_sym_spec.specs.Layers.{closed}
 use Rattle.ygg_oblige_terms.specs.Numbers.{numbers_of}
 use Rattle.ygg_oblige.specs.Adding.{after_at}

@@ -3,7 +3,7 @@ use Rattle.std.specs.Prelude.{slice_get, Some}
 use Rattle.std.specs.Option.{option_map}
 use Rattle.ygg_meaning.specs.Obligations.{obligations_of}
 use Rattle.ygg_oblige_places.specs.declared.listed.Listed.{Listed}
-use Rattle.ygg_sym.specs.Sites.{below_in}
+use Rattle.ygg_oblige.specs.Sites.{below_in}
 use Rattle.ygg_sym_spec.specs.Layers.{closed, terms_in}
 use Rattle.ygg_oblige_terms.specs.Numbers.{Numbers, numbers_of}
 use Rattle.ygg_oblige.specs.Adding.{after_at}

@@ -1,6 +1,6 @@
 use Rattle.std.proofs.Common.{◌++◌, length, refl, sym, ap, subst, ◌∙◌}
 use Rattle.ygg_sym_expr.specs.Names.{sym_bind}
-use Rattle.ygg_sym_spec.proofs.Whole.{lows_count}
+use Rattle.ygg_sym_spec_stops.proofs.Whole.{lows_count}
 use Rattle.ygg_sym_disk.specs.Means.{disk_meaning}
 use Rattle.ygg_sym.proofs.Placed.{disk_lower, disk_same, disk_stands}
 use Rattle.ygg_sym.proofs.Ran.{can_whole, run_nodes, run_end}

@@ -8,7 +8,7 @@ use Rattle.ygg_shape_cells.specs.declared.terms.SymValue.{SymValue}
 use Rattle.ygg_sym_below.proofs.Lows.{low_wider}
 use Rattle.ygg_sym_below.specs.Disks.{Done, done}
 use Rattle.ygg_sym_runs.proofs.Zeros.{single_both, single_then}
-use Rattle.ygg_sym_spec.specs.Layers.{closed, terms_in}
+use Rattle.ygg_sym.specs.Layers.{closed, terms_in}
 use Rattle.ygg_sym.specs.Sites.{below_in}
 use Rattle.ygg_oblige_terms.specs.Outcomes.{outcome_made}
 use Rattle.ygg_oblige_terms.specs.States.{related_made}

@@ -6,7 +6,7 @@ use Rattle.ygg_bank.proofs.Widths.{extends_both, wider}
 use Rattle.ygg_bank.specs.Makes.{Out}
 use Rattle.ygg_bank.specs.declared.node.Id.{Id}
 use Rattle.ygg_sym_expr.specs.Seen.{SymKnown, env_of, known_of}
-use Rattle.ygg_sym_spec.specs.Layers.{closed}
+use Rattle.ygg_sym.specs.Layers.{closed}
 use Rattle.ygg_oblige_parts.specs.Formulas.{CanTest, seen, truths_in}
 use Rattle.ygg_oblige_parts.proofs.Tested.{tests_later, truths_more}
 use Rattle.ygg_oblige_parts.proofs.states.Maker.relations.Goals as goal

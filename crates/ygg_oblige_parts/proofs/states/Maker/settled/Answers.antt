@@ -5,7 +5,7 @@ use Rattle.ygg_sym_expr.specs.Seen.{SymKnown, env_of, known_of}
 use Rattle.ygg_sym_runs.specs.Lower.{SingleFrom}
 use Rattle.ygg_sym_runs.proofs.Singles.{single_stays}
 use Rattle.ygg_sym_runs.proofs.Zeros.{single_kept}
-use Rattle.ygg_sym_spec.specs.Layers.{closed, terms_in}
+use Rattle.ygg_sym.specs.Layers.{closed, terms_in}
 use Rattle.ygg_sym.specs.Sites.{below_in}
 use Rattle.ygg_oblige_terms.specs.States.{settled_made}
 use Rattle.ygg_oblige_pieces.proofs.Truths.{defs_keep}

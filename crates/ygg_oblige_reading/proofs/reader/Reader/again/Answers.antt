@@ -4,7 +4,7 @@ use Rattle.ygg_meaning.specs.Shapes.{values_fit, zeros_of}
 use Rattle.ygg_eval_lower.specs.Bodies.{IsBlock}
 use Rattle.ygg_eval_lower.specs.Layers.{variables_at}
 use Rattle.ygg_eval_lower.specs.declared.body.Part.TheVariants as part
-use Rattle.ygg_oblige_schedules.specs.Schedules.{schedule_from}
+use Rattle.ygg_oblige_places.specs.Schedules.{schedule_from}
 use Rattle.ygg_oblige_reading.specs.Here.{below_of, body_of, file_of, inputs_of, layer_of, low_env, numbers_of}
 use Rattle.ygg_oblige_reading.specs.Schedules.{given_here}
 use Rattle.ygg_oblige_reading.proofs.Means.{HasStand, none_bound, parts_are, read_so, wake_is}

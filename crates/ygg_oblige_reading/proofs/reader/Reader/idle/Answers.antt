@@ -4,7 +4,7 @@ use Rattle.ygg_meaning.specs.Machine.{based}
 use Rattle.ygg_meaning.specs.Obligations.{Idle}
 use Rattle.ygg_sym_below.specs.Laws.{picked_by}
 use Rattle.ygg_fronts.specs.Fronts.{lose_on, loss_picks}
-use Rattle.ygg_oblige_schedules.specs.Schedules.{schedule_from}
+use Rattle.ygg_oblige_places.specs.Schedules.{schedule_from}
 use Rattle.ygg_oblige_reading.specs.Here.{below_of, inputs_of, layer_of, numbers_of}
 use Rattle.ygg_oblige_reading.specs.Schedules.{given_here}
 use Rattle.ygg_oblige_reading.proofs.Means.{has_stand, left_is, read_so, wake_is}

@@ -4,7 +4,7 @@ use Rattle.ygg_meaning.specs.Environments.{bind}
 use Rattle.ygg_meaning.specs.Shapes.{values_fit}
 use Rattle.ygg_eval_lower.specs.Bodies.{arguments_in, variables_in}
 use Rattle.ygg_eval_lower.specs.Layers.{variables_at}
-use Rattle.ygg_oblige_schedules.specs.Schedules.{whole_from}
+use Rattle.ygg_oblige_places.specs.Schedules.{whole_from}
 use Rattle.ygg_oblige_reading.specs.Here.{below_of, file_of, inputs_of, layer_of, low_env, numbers_of}
 use Rattle.ygg_oblige_reading.specs.Schedules.{given_here}
 use Rattle.ygg_oblige_reading.proofs.Falling.{memory_of}
