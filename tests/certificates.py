@@ -127,8 +127,13 @@ def damaged(text, many):
     yield "bytes after the end", text + "e\n"
     yield "a byte after the end", text + "e"
     yield "without the last byte", text[:-1]
+    yield "an empty line after the end", text + "\n"
     yield "empty", ""
+    yield "the first line without its end", lines[0]
     places = [place for place, line in enumerate(lines) if line.startswith("o ")]
+    begun = "\n".join(lines[: places[0] + 1]) + "\n"
+    for end in ("x", "c 02 0", f"c {GREATEST} 0", f"c {GREATEST + 1}", "e\r", "c 0 1 0\n", "c 0 0\n", "e\n"):
+        yield f"the first obligation's line and then {end!r}", begun + end
     for place in places:
         name, count = lines[place].split()[1:]
         for line in (f"o {name} 0", f"o {name} {int(count) + 1}", f"o {name}x {count}", f"o {name} 0{count}", f"o {name} {count} "):

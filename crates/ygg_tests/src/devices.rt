@@ -1,98 +1,140 @@
 //! The device in memory: what is written is read, and what fails or is lost.
 
-ghost use Rattle.std.specs.Prelude.{◌≡◌, length};
-
 use std::alloc::Global;
-use std::test::Fail;
 use ygg_base::{Bits, Moved, Numbers, Text};
 use ygg_base_device::{Attach, Device, Made, RamDevice};
+use ygg_list::NoMemory;
 
-/// A device whose calls and writes of these numbers fail, and whose writes reach so far.
-fn device(
-    alloc: Global,
-    fails: &[u64],
-    write_fails: &[u64],
-    reach: &[bool],
-) -> Result<RamDevice, Fail> {
-    let fails = Numbers::from_slice(alloc, fails)?;
-    let write_fails = Numbers::from_slice(alloc, write_fails)?;
-    let reach = Bits::from_slice(alloc, reach)?;
+/// What is done with an image of two blocks of four bytes, and what comes of it.
+#[derive(Clone, Copy)]
+enum Step {
+    /// It isn't there.
+    Absent,
+    /// It is made.
+    Create(Made),
+    /// Its second block is written.
+    Put([u8; 4], Moved),
+    /// It is flushed, and its second block is read.
+    Got([u8; 4]),
+    /// Power is lost.
+    Lose,
+}
+
+/// A device whose calls and writes of these numbers fail, and whose writes reach so far; and what is done with it.
+struct Story {
+    fails: &'static [u64],
+    write_fails: &'static [u64],
+    reach: &'static [bool],
+    steps: &'static [Step],
+}
+
+const STORIES: [Story; 3] = [
+    Story {
+        fails: &[],
+        write_fails: &[],
+        reach: &[],
+        steps: &[
+            Step::Absent,
+            Step::Create(Made::Done),
+            Step::Got([0, 0, 0, 0]),
+            Step::Put([1, 2, 3, 4], Moved::Done),
+            Step::Got([1, 2, 3, 4]),
+        ],
+    },
+    // the first and the fourth call fail, and the second write
+    Story {
+        fails: &[1, 4],
+        write_fails: &[2],
+        reach: &[],
+        steps: &[
+            Step::Create(Made::Failed),
+            Step::Create(Made::Done),
+            Step::Put([1, 2, 3, 4], Moved::Failed),
+            Step::Put([1, 2, 3, 4], Moved::Failed),
+            Step::Put([5, 6, 7, 8], Moved::Done),
+            Step::Got([5, 6, 7, 8]),
+        ],
+    },
+    // the first write doesn't reach
+    Story {
+        fails: &[],
+        write_fails: &[],
+        reach: &[false],
+        steps: &[
+            Step::Create(Made::Done),
+            Step::Put([1, 2, 3, 4], Moved::Done),
+            Step::Lose,
+            Step::Got([0, 0, 0, 0]),
+            Step::Put([1, 2, 3, 4], Moved::Done),
+            Step::Lose,
+            Step::Got([1, 2, 3, 4]),
+        ],
+    },
+];
+
+/// The device of a story.
+fn device(alloc: Global, story: &Story) -> Result<RamDevice, NoMemory> {
+    let fails = Numbers::from_slice(alloc, story.fails)?;
+    let write_fails = Numbers::from_slice(alloc, story.write_fails)?;
+    let reach = Bits::from_slice(alloc, story.reach)?;
     Ok(RamDevice::new(alloc, fails, write_fails, reach))
 }
 
 /// Writes the second of two blocks of four bytes of an image.
-fn put<D: Device>(device: &mut D, name: &Text, bytes: &[u8]) -> Moved
-    requires { length bytes.now ≡ 4 }
-{
+pub(crate) fn put<D: Device>(device: &mut D, name: &Text, bytes: [u8; 4]) -> Moved {
     match device.attach(name, 4) {
-        Attach::Attached { bytes: 8 } => device.write(1, bytes),
+        Attach::Attached { bytes: 8 } => device.write(1, &bytes),
         _ => Moved::Failed,
     }
 }
 
-/// Flushes the image, and reads the second of its two blocks of four bytes.
-fn got<D: Device>(device: &mut D, name: &Text, into: &mut [u8]) -> Moved
-    requires { length into.old ≡ 4 }
-{
-    match device.attach(name, 4) {
-        Attach::Attached { bytes: 8 } => {
-            if device.flush() == Moved::Done {
-                device.read(1, into)
-            } else {
-                Moved::Failed
+/// Flushes the image, and says whether these bytes are read of the second of its two blocks of four bytes.
+pub(crate) fn is_got<D: Device>(device: &mut D, name: &Text, wanted: [u8; 4]) -> bool {
+    let mut block = [7u8; 4];
+    device.attach(name, 4) == Attach::Attached { bytes: 8 }
+        && device.flush() == Moved::Done
+        && device.read(1, &mut block) == Moved::Done
+        && block == wanted
+}
+
+/// Whether what is to come of each step comes of it.
+fn all_come(device: &mut RamDevice, name: &Text, steps: &[Step]) -> bool {
+    for step in steps {
+        let comes = match *step {
+            Step::Absent => device.attach(name, 4) == Attach::Absent,
+            Step::Create(made) => device.create(name, 4, 2) == made,
+            Step::Put(bytes, moved) => put(device, name, bytes) == moved,
+            Step::Got(bytes) => is_got(device, name, bytes),
+            Step::Lose => {
+                device.lose();
+                true
             }
+        };
+        if !comes {
+            return false;
         }
-        _ => Moved::Failed,
     }
+    true
+}
+
+/// Whether a story is as it must be.
+fn holds(alloc: Global, story: &Story) -> Result<bool, NoMemory> {
+    let name = Text::from_slice(alloc, b"image")?;
+    let mut device = device(alloc, story)?;
+    Ok(all_come(&mut device, &name, story.steps))
+}
+
+/// Whether each story is.
+fn all_hold(alloc: Global) -> Result<bool, NoMemory> {
+    for story in &STORIES {
+        if !holds(alloc, story)? {
+            return Ok(false);
+        }
+    }
+    Ok(true)
 }
 
 #[test]
-fn what_is_written_is_read(rt: HostRuntime) -> Result<(), Fail> {
-    let one = Text::from_slice(rt.alloc(), b"one")?;
-    let other = Text::from_slice(rt.alloc(), b"other")?;
-    let mut device = device(rt.alloc(), &[], &[], &[])?;
-    let mut block = [7u8; 4];
-    assert!(rt; device.attach(&one, 4) == Attach::Absent);
-    assert!(rt; device.create(&one, 4, 2) == Made::Done);
-    assert!(rt; device.create(&other, 4, 2) == Made::Done);
-    assert!(rt; got(&mut device, &one, &mut block) == Moved::Done && block == [0, 0, 0, 0]);
-    assert!(rt; put(&mut device, &one, &[1, 2, 3, 4]) == Moved::Done);
-    assert!(rt; got(&mut device, &one, &mut block) == Moved::Done && block == [1, 2, 3, 4]);
-    assert!(rt; got(&mut device, &other, &mut block) == Moved::Done && block == [0, 0, 0, 0]);
-    Ok(())
-}
-
-#[test]
-fn calls_and_writes_fail_where_they_are_to(rt: HostRuntime) -> Result<(), Fail> {
-    let one = Text::from_slice(rt.alloc(), b"one")?;
-    let mut device = device(rt.alloc(), &[1, 4], &[2], &[])?;
-    let mut block = [7u8; 4];
-    assert!(rt; device.create(&one, 4, 2) == Made::Failed);
-    assert!(rt; device.create(&one, 4, 2) == Made::Done);
-    assert!(rt;
-        put(&mut device, &one, &[1, 2, 3, 4]) == Moved::Failed,
-        "the fourth call fails"
-    );
-    assert!(rt;
-        put(&mut device, &one, &[1, 2, 3, 4]) == Moved::Failed,
-        "the second write fails"
-    );
-    assert!(rt; put(&mut device, &one, &[5, 6, 7, 8]) == Moved::Done);
-    assert!(rt; got(&mut device, &one, &mut block) == Moved::Done && block == [5, 6, 7, 8]);
-    Ok(())
-}
-
-#[test]
-fn a_write_that_does_not_reach_is_lost(rt: HostRuntime) -> Result<(), Fail> {
-    let one = Text::from_slice(rt.alloc(), b"one")?;
-    let mut device = device(rt.alloc(), &[], &[], &[false])?;
-    let mut block = [7u8; 4];
-    assert!(rt; device.create(&one, 4, 2) == Made::Done);
-    assert!(rt; put(&mut device, &one, &[1, 2, 3, 4]) == Moved::Done);
-    device.lose();
-    assert!(rt; got(&mut device, &one, &mut block) == Moved::Done && block == [0, 0, 0, 0]);
-    assert!(rt; put(&mut device, &one, &[1, 2, 3, 4]) == Moved::Done);
-    device.lose();
-    assert!(rt; got(&mut device, &one, &mut block) == Moved::Done && block == [1, 2, 3, 4]);
-    Ok(())
+fn what_is_written_is_read_fails_or_is_lost(rt: HostRuntime) {
+    assert!(rt; matches!(all_hold(rt.alloc()), Ok(true)));
 }

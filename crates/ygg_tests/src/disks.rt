@@ -1,11 +1,9 @@
 //! The worked rows of the three disks: two writes to the one row, a flush or none, and what is read after power loss.
 
 ghost use Rattle.std.specs.Prelude.{◌≡◌, length, IsTrue, IfOk};
-ghost use Rattle.ygg_base.specs.declared.geometry.DiskKind.TheVariants as kind;
 ghost use Rattle.ygg_value.specs.declared.shape.Shape.TheVariants as shape;
 
 use std::alloc::Global;
-use std::test::Fail;
 use ygg_base::{Bits, DiskKind, Geometry};
 use ygg_disk::rows::zero_row;
 use ygg_disk::{Ground, Picks, Power, Turn, fresh_async, fresh_pending, fresh_sync};
@@ -46,33 +44,26 @@ const STORIES: [Story; 3] = [
 ];
 
 /// The size of the disks: one row of one word of 8 digits.
-fn small() -> Geometry
-    ensures { result ≡ record { kind = kind.Async; rows = 1; words = 1; width = 8 } }
-{
-    Geometry {
-        kind: DiskKind::Async,
-        rows: 1,
-        words: 1,
-        width: 8,
-    }
-}
+const SMALL: Geometry = Geometry {
+    kind: DiskKind::Async,
+    rows: 1,
+    words: 1,
+    width: 8,
+};
 
-/// The word of this number.
-fn word(number: u8) -> Word
-    ensures { result.width ≡ 8 }
-{
-    Word {
-        width: 8,
-        bits: number as u64,
-    }
-}
+/// The place of the row on the disk, and of the word in the row.
+const FIRST: Word = Word { width: 8, bits: 0 };
 
 /// The row of this number.
 fn row_of(alloc: Global, number: u8) -> Result<Row, NoMemory>
     ensures { IfOk result (λ row. shape.Row (length row.words) row.width ≡ shape.Row 1 8) }
 {
-    let mut row = zero_row(alloc, small())?;
-    row_write(&mut row, word(0), word(number));
+    let mut row = zero_row(alloc, SMALL)?;
+    let word = Word {
+        width: 8,
+        bits: number as u64,
+    };
+    row_write(&mut row, FIRST, word);
     Ok(row)
 }
 
@@ -102,48 +93,53 @@ fn write<G: Ground>(
     ensures row { G.means.row disk.new ≡ shape.Row 1 8 }
 {
     let row = row_of(alloc, number)?;
-    let _done = disk.write(word(0), &row, power)?;
+    let _done = disk.write(FIRST, &row, power)?;
     Ok(())
 }
 
-/// Makes what was written stable.
-fn flush<G: Ground>(disk: &mut G, power: &mut Power) -> Result<(), NoMemory>
-    requires loses { IsTrue G.means.can_lose }
-{
-    let _done = disk.flush(power)?;
-    Ok(())
-}
-
-/// The word of the row, where it is answered.
-fn read<G: Ground>(disk: &mut G, power: &mut Power) -> Result<Option<u64>, NoMemory>
-    requires loses { IsTrue G.means.can_lose }
-{
-    match disk.read(word(0), power)? {
-        Turn::Answer(Value::Row(row)) => Ok(Some(row_read(&row, word(0)).bits)),
-        _ => Ok(None),
-    }
-}
-
-/// What is read at the end.
-fn left<G: Ground>(
+/// What is done before power is lost.
+fn write_both<G: Ground>(
     alloc: Global,
     disk: &mut G,
     power: &mut Power,
     flushes: bool,
-) -> Result<Option<u64>, NoMemory>
+) -> Result<(), NoMemory>
     requires loses { IsTrue G.means.can_lose }
     requires row { G.means.row disk.old ≡ shape.Row 1 8 }
 {
     write(alloc, disk, power, 5)?;
     write(alloc, disk, power, 7)?;
     if flushes {
-        flush(disk, power)?;
+        let _done = disk.flush(power)?;
     }
-    disk.lose();
-    read(disk, power)
+    Ok(())
+}
+
+/// Whether this is the answer of a read.
+fn is_read(turn: &Turn, wanted: u64) -> bool {
+    match turn {
+        Turn::Answer(Value::Row(row)) => row_read(row, FIRST).bits == wanted,
+        _ => false,
+    }
 }
 
 /// Whether this is read at the end.
+fn shows<G: Ground>(
+    alloc: Global,
+    disk: &mut G,
+    power: &mut Power,
+    flushes: bool,
+    wanted: u64,
+) -> Result<bool, NoMemory>
+    requires loses { IsTrue G.means.can_lose }
+    requires row { G.means.row disk.old ≡ shape.Row 1 8 }
+{
+    write_both(alloc, disk, power, flushes)?;
+    disk.lose();
+    Ok(is_read(&disk.read(FIRST, power)?, wanted))
+}
+
+/// The same with the picks of a story.
 fn is_left<G: Ground>(
     alloc: Global,
     disk: &mut G,
@@ -154,40 +150,35 @@ fn is_left<G: Ground>(
     requires row { G.means.row disk.old ≡ shape.Row 1 8 }
 {
     let mut power = power_of(alloc, &story.picks)?;
-    let found = left(alloc, disk, &mut power, story.flushes)?;
-    Ok(found == Some(wanted))
+    shows(alloc, disk, &mut power, story.flushes, wanted)
 }
 
 fn is_left_on_async(alloc: Global, story: Story) -> Result<bool, NoMemory> {
-    is_left(alloc, &mut fresh_async(alloc, small())?, story, story.late)
+    is_left(alloc, &mut fresh_async(alloc, SMALL)?, story, story.late)
 }
 
 fn is_left_on_pending(alloc: Global, story: Story) -> Result<bool, NoMemory> {
-    is_left(
-        alloc,
-        &mut fresh_pending(alloc, small())?,
-        story,
-        story.late,
-    )
+    is_left(alloc, &mut fresh_pending(alloc, SMALL)?, story, story.late)
 }
 
 fn is_left_on_sync(alloc: Global, story: Story) -> Result<bool, NoMemory> {
-    is_left(alloc, &mut fresh_sync(alloc, small())?, story, story.sync)
+    is_left(alloc, &mut fresh_sync(alloc, SMALL)?, story, story.sync)
 }
 
-/// Whether a story shows on each disk what it must.
-fn holds(alloc: Global, story: Story) -> Result<bool, NoMemory> {
-    Ok(
-        is_left_on_async(alloc, story)?
-            && is_left_on_pending(alloc, story)?
-            && is_left_on_sync(alloc, story)?,
-    )
+/// Whether each story shows on each disk what it must.
+fn all_hold(alloc: Global) -> Result<bool, NoMemory> {
+    for story in &STORIES {
+        let holds = is_left_on_async(alloc, *story)?
+            && is_left_on_pending(alloc, *story)?
+            && is_left_on_sync(alloc, *story)?;
+        if !holds {
+            return Ok(false);
+        }
+    }
+    Ok(true)
 }
 
 #[test]
-fn what_power_loss_leaves(rt: HostRuntime) -> Result<(), Fail> {
-    for story in &STORIES {
-        assert!(rt; holds(rt.alloc(), *story)?);
-    }
-    Ok(())
+fn what_power_loss_leaves(rt: HostRuntime) {
+    assert!(rt; matches!(all_hold(rt.alloc()), Ok(true)));
 }

@@ -11,8 +11,6 @@ mod devices;
 #[cfg(test)]
 mod disks;
 #[cfg(test)]
-mod judged;
-#[cfg(test)]
 mod outside;
 #[cfg(test)]
 mod propagation;

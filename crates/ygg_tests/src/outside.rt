@@ -2,154 +2,203 @@
 
 ghost use Rattle.std.specs.Prelude.{◌≡◌, ◌<◌, length};
 
+use crate::devices::{is_got, put};
 use std::alloc::Global;
 use std::fs;
 use std::io::{self, Write};
-use std::test::Fail;
 use ygg_base::{Fetch, Library, Moved, Opened, Piece, Sink, Text};
 use ygg_base_device::{Attach, Device, Made};
 use ygg_outside::{FileDevice, FileLibrary, OutSink};
 
-#[test]
-fn reads_files(rt: HostRuntime) -> Result<(), Fail> {
-    fs::write(&rt, "stored", "four")?;
-    let mut library = FileLibrary::new(&rt);
-    let stored = Text::from_slice(rt.alloc(), b"stored")?;
-    let absent = Text::from_slice(rt.alloc(), b"absent")?;
-    let folder = Text::from_slice(rt.alloc(), b".")?;
-    match library.fetch(&stored, 4) {
-        Fetch::Found(text) => assert_eq!(rt; text.as_slice(), b"four".as_slice()),
-        _ => assert!(rt; false, "the file has four bytes"),
-    }
-    assert!(rt; matches!(library.fetch(&stored, 3), Fetch::TooLarge));
-    assert!(rt; matches!(library.fetch(&absent, 4), Fetch::Absent));
-    assert!(rt; matches!(library.fetch(&folder, 4), Fetch::Failed));
-    fs::remove_file(&rt, "stored")?;
-    Ok(())
+/// What is asked for a path.
+#[derive(Clone, Copy)]
+enum Asked {
+    /// Whether it answers so within so many bytes, and these bytes come.
+    Answers(u64, Opened, &'static [u8]),
+    /// Whether it fails at what comes past the limit that it was opened with.
+    Grows,
+    /// Whether the long file's bytes come in pieces of at most so many.
+    Reads(usize),
+    /// Whether an image can be made there.
+    Makes,
+    /// Whether it is no image.
+    IsNoImage,
 }
 
-/// So many bytes, whose values go by their places.
-fn patterned(alloc: Global, count: usize) -> Result<Vec<u8>, Fail> {
-    let mut bytes = Vec::new(alloc);
-    for place in 0..count {
-        bytes.push((place % 251) as u8)?;
-    }
-    Ok(bytes)
+const ASKED: [(&[u8], Asked); 10] = [
+    (b"image", Asked::Makes),
+    (b".", Asked::IsNoImage),
+    (b"stored", Asked::Answers(4, Opened::Open, b"four")),
+    (
+        b"image",
+        Asked::Answers(8, Opened::Open, &[0, 0, 0, 0, 1, 2, 3, 4]),
+    ),
+    (b"stored", Asked::Answers(3, Opened::TooLarge, &[])),
+    (b"absent", Asked::Answers(4, Opened::Absent, &[])),
+    (b".", Asked::Answers(4, Opened::Failed, &[])),
+    (b"growing", Asked::Grows),
+    (b"long", Asked::Reads(1_000)),
+    (b"long", Asked::Reads(65_536)),
+];
+
+/// Whether a file fails that gets seven bytes after it was opened with room for five.
+fn fails_grown<L: Library>(rt: &HostRuntime, library: &mut L, name: &Text) -> bool {
+    let mut slice = [0u8; 8];
+    library.open(name, 5) == Opened::Open
+        && fs::write(rt, "growing", "seven..").is_ok()
+        && library.next(&mut slice) == Piece::Got(5)
+        && library.next(&mut slice) == Piece::Failed
 }
 
-/// Opens a file and reads it to its end, through a slice of so many bytes. Another file is fetched before each piece.
-fn read_through<L: Library>(
-    alloc: Global,
+/// How many bytes the long file has.
+const LONG: usize = 70_000;
+
+/// The byte at a place of it.
+fn byte_at(place: usize) -> u8 {
+    (place % 251) as u8
+}
+
+/// Writes it.
+fn writes_long(rt: &HostRuntime) -> bool {
+    let mut bytes = [0u8; LONG];
+    for (place, byte) in bytes.iter_mut().enumerate() {
+        *byte = byte_at(place);
+    }
+    fs::write(rt, "long", bytes.as_slice()).is_ok()
+}
+
+/// Whether these are its bytes from a place on.
+fn are_there(bytes: &[u8], from: usize) -> bool {
+    for (place, byte) in bytes.iter().enumerate() {
+        if *byte != byte_at(from.saturating_add(place)) {
+            return false;
+        }
+    }
+    true
+}
+
+/// Opens the long file and reads it to its end, through a slice of so many bytes, and says whether its bytes come. The file is fetched too before each piece.
+fn read_through<L: Library>(library: &mut L, name: &Text, slice: &mut [u8]) -> bool
+    requires { 0 < length slice.old }
+{
+    if library.open(name, LONG as u64) != Opened::Open {
+        return false;
+    }
+    let mut come: usize = 0;
+    for _ in 0..1_000_000 {
+        if !matches!(library.fetch(name, LONG as u64), Fetch::Found(_)) {
+            return false;
+        }
+        match library.next(slice) {
+            Piece::Got(count) => {
+                if !are_there(&slice[..count], come) {
+                    return false;
+                }
+                come = come.saturating_add(count);
+            }
+            Piece::End => return come == LONG,
+            Piece::Failed => return false,
+        }
+    }
+    false
+}
+
+/// Whether the long file is read through a slice of so many bytes.
+fn is_long_read<L: Library>(library: &mut L, name: &Text, count: usize) -> bool {
+    let mut slice = [0u8; 65_536];
+    0 < count && count <= slice.len() && read_through(library, name, &mut slice[..count])
+}
+
+/// Whether an image of two blocks of four bytes that isn't there can be made, and its second block written and read.
+fn is_made<D: Device>(device: &mut D, name: &Text) -> bool {
+    device.attach(name, 4) == Attach::Absent
+        && device.create(name, 4, 2) == Made::Done
+        && put(device, name, [1, 2, 3, 4]) == Moved::Done
+        && is_got(device, name, [1, 2, 3, 4])
+}
+
+/// Whether a library opens a name so, and fetches it so, with these bytes where it has it.
+fn is_answered<L: Library>(
     library: &mut L,
     name: &Text,
     limit: u64,
-    other: &Text,
-    slice: &mut [u8],
-) -> Result<Option<Vec<u8>>, Fail>
-    requires { 0 < length slice.old }
-{
-    let mut bytes = Vec::new(alloc);
-    if library.open(name, limit) != Opened::Open {
-        return Ok(None);
-    }
-    for _ in 0..1_000_000 {
-        if !matches!(library.fetch(other, 4), Fetch::Found(_)) {
-            return Ok(None);
+    wanted: Opened,
+    bytes: &[u8],
+) -> bool {
+    library.open(name, limit) == wanted
+        && match library.fetch(name, limit) {
+            Fetch::Found(text) => wanted == Opened::Open && text.as_slice() == bytes,
+            Fetch::Absent => wanted == Opened::Absent,
+            Fetch::TooLarge => wanted == Opened::TooLarge,
+            Fetch::Failed => wanted == Opened::Failed,
+            Fetch::Memory => false,
         }
-        match library.next(slice) {
-            Piece::Got(count) => bytes.extend_from_slice(&slice[..count])?,
-            Piece::End => return Ok(Some(bytes)),
-            Piece::Failed => return Ok(None),
+}
+
+/// Whether a library answers what it must.
+fn answers<L: Library>(rt: &HostRuntime, library: &mut L, name: &Text, asked: Asked) -> bool {
+    match asked {
+        Asked::Answers(limit, wanted, bytes) => is_answered(library, name, limit, wanted, bytes),
+        Asked::Grows => fails_grown(rt, library, name),
+        Asked::Reads(count) => is_long_read(library, name, count),
+        _ => false,
+    }
+}
+
+/// Whether a device answers what it must.
+fn serves<D: Device>(device: &mut D, name: &Text, asked: Asked) -> bool {
+    match asked {
+        Asked::Makes => is_made(device, name),
+        Asked::IsNoImage => device.attach(name, 4) == Attach::Failed,
+        _ => false,
+    }
+}
+
+/// Whether the files of the system do for a name, as a library or as a device.
+fn is_so(rt: &HostRuntime, name: &Text, asked: Asked) -> bool {
+    answers(rt, &mut FileLibrary::new(rt), name, asked)
+        || serves(&mut FileDevice::new(rt), name, asked)
+}
+
+/// Whether they do for a path.
+fn is_so_at(rt: &HostRuntime, path: &[u8], asked: Asked) -> bool {
+    match Text::from_slice(rt.alloc(), path) {
+        Ok(name) => is_so(rt, &name, asked),
+        Err(_) => false,
+    }
+}
+
+/// Whether they do for each path.
+fn are_so(rt: &HostRuntime) -> bool {
+    for (path, asked) in &ASKED {
+        if !is_so_at(rt, path, *asked) {
+            return false;
         }
     }
-    Ok(None)
+    true
+}
+
+/// Removes the files of the test, also those that an earlier run left when it was cut off.
+fn remove(rt: &HostRuntime) {
+    for path in &["stored", "growing", "long", "image"] {
+        let _ = fs::remove_file(rt, path);
+    }
+}
+
+/// Whether all is so, with files that are written before and removed then.
+fn holds(rt: &HostRuntime) -> bool {
+    remove(rt);
+    let holds = fs::write(rt, "stored", "four").is_ok()
+        && fs::write(rt, "growing", "four").is_ok()
+        && writes_long(rt)
+        && are_so(rt);
+    remove(rt);
+    holds
 }
 
 #[test]
-fn reads_an_open_file_in_pieces(rt: HostRuntime) -> Result<(), Fail> {
-    let whole = patterned(rt.alloc(), 70_000)?;
-    fs::write(&rt, "long", whole.as_slice())?;
-    fs::write(&rt, "other", "four")?;
-    let long = Text::from_slice(rt.alloc(), b"long")?;
-    let other = Text::from_slice(rt.alloc(), b"other")?;
-    let mut library = FileLibrary::new(&rt);
-    let mut slice = [0u8; 1_000];
-    let read = read_through(rt.alloc(), &mut library, &long, 70_000, &other, &mut slice)?;
-    assert!(rt; read.is_some_and(|bytes| bytes.as_slice() == whole.as_slice()));
-    let mut slice = [0u8; 65_536];
-    let read = read_through(rt.alloc(), &mut library, &long, 70_000, &other, &mut slice)?;
-    assert!(rt; read.is_some_and(|bytes| bytes.as_slice() == whole.as_slice()));
-    fs::remove_file(&rt, "long")?;
-    fs::remove_file(&rt, "other")?;
-    Ok(())
-}
-
-#[test]
-fn opens_no_file_that_is_absent_too_large_or_a_folder(rt: HostRuntime) -> Result<(), Fail> {
-    fs::write(&rt, "larger", "four")?;
-    let mut library = FileLibrary::new(&rt);
-    let larger = Text::from_slice(rt.alloc(), b"larger")?;
-    let absent = Text::from_slice(rt.alloc(), b"absent")?;
-    let folder = Text::from_slice(rt.alloc(), b".")?;
-    assert!(rt; library.open(&larger, 3) == Opened::TooLarge);
-    assert!(rt; library.open(&absent, 3) == Opened::Absent);
-    assert!(rt; library.open(&folder, 3) == Opened::Failed);
-    fs::remove_file(&rt, "larger")?;
-    Ok(())
-}
-
-#[test]
-fn a_file_that_grows_past_its_limit_fails(rt: HostRuntime) -> Result<(), Fail> {
-    fs::write(&rt, "growing", "four")?;
-    let growing = Text::from_slice(rt.alloc(), b"growing")?;
-    let mut library = FileLibrary::new(&rt);
-    let mut slice = [0u8; 8];
-    assert!(rt; library.open(&growing, 5) == Opened::Open);
-    fs::write(&rt, "growing", "seven..")?;
-    assert!(rt; library.next(&mut slice) == Piece::Got(5));
-    assert!(rt; library.next(&mut slice) == Piece::Failed);
-    fs::remove_file(&rt, "growing")?;
-    Ok(())
-}
-
-/// Makes an image of two blocks of four bytes, writes and reads the second one, and flushes it.
-fn write_and_read<D: Device>(device: &mut D, name: &Text, bytes: &[u8], into: &mut [u8]) -> bool
-    requires bytes { length bytes.now ≡ 4 }
-    requires into { length into.old ≡ 4 }
-{
-    device.create(name, 4, 2) == Made::Done
-        && device.write(1, bytes) == Moved::Done
-        && device.flush() == Moved::Done
-        && device.read(1, into) == Moved::Done
-}
-
-#[test]
-fn images_are_files_that_are_read_and_written_in_blocks(rt: HostRuntime) -> Result<(), Fail> {
-    // one that an earlier run left when it was cut off
-    let _ = fs::remove_file(&rt, "image");
-    let image = Text::from_slice(rt.alloc(), b"image")?;
-    let folder = Text::from_slice(rt.alloc(), b".")?;
-    let mut device = FileDevice::new(&rt);
-    let mut block = [7u8; 4];
-    assert!(rt; device.attach(&image, 4) == Attach::Absent);
-    assert!(rt;
-        write_and_read(&mut device, &image, &[1, 2, 3, 4], &mut block) && block == [1, 2, 3, 4]
-    );
-    assert!(rt; device.attach(&image, 4) == Attach::Attached { bytes: 8 });
-    assert!(rt; device.attach(&folder, 4) == Attach::Failed);
-    let stored = fs::read(&rt, "image")?;
-    assert_eq!(rt; stored.as_slice(), [0, 0, 0, 0, 1, 2, 3, 4].as_slice());
-    fs::remove_file(&rt, "image")?;
-    Ok(())
-}
-
-#[test]
-fn writes_all_bytes(rt: HostRuntime) -> Result<(), Fail> {
-    let mut sink = OutSink::new(Vec::new(rt.alloc()));
-    assert!(rt; sink.put(b"one ") == Moved::Done);
-    assert!(rt; sink.put(b"two") == Moved::Done);
-    assert_eq!(rt; sink.out().as_slice(), b"one two".as_slice());
-    Ok(())
+fn files_and_images_are_read_and_written(rt: HostRuntime) {
+    assert!(rt; holds(&rt));
 }
 
 /// Takes one byte at a call, up to so many bytes, and then nothing.
@@ -172,14 +221,34 @@ impl Write for Slow {
     }
 }
 
-#[test]
-fn short_writes_go_on_and_a_write_of_nothing_fails(rt: HostRuntime) -> Result<(), Fail> {
-    for (room, wanted) in [(3, Moved::Done), (2, Moved::Failed), (0, Moved::Failed)] {
-        let taken = Vec::new(rt.alloc());
-        let mut sink = OutSink::new(Slow { taken, room });
-        assert!(rt; sink.put(b"two") == wanted, "room for {room}");
-        let taken = sink.out().taken.as_slice();
-        assert!(rt; taken.len() == room && b"two".as_slice().starts_with(taken));
+/// How much room there is, and what comes of putting four bytes and then three.
+const ROOMS: [(usize, Moved, Moved); 4] = [
+    (7, Moved::Done, Moved::Done),
+    (6, Moved::Done, Moved::Failed),
+    (4, Moved::Done, Moved::Failed),
+    (0, Moved::Failed, Moved::Failed),
+];
+
+/// Whether this comes of it, and the room is filled.
+fn fills(alloc: Global, room: usize, first: Moved, second: Moved) -> bool {
+    let taken = Vec::new(alloc);
+    let mut sink = OutSink::new(Slow { taken, room });
+    let puts = sink.put(b"one ") == first && sink.put(b"two") == second;
+    let taken = sink.out().taken.as_slice();
+    puts && taken.len() == room && b"one two".as_slice().starts_with(taken)
+}
+
+/// Whether it does of each.
+fn all_fill(alloc: Global) -> bool {
+    for (room, first, second) in &ROOMS {
+        if !fills(alloc, *room, *first, *second) {
+            return false;
+        }
     }
-    Ok(())
+    true
+}
+
+#[test]
+fn short_writes_go_on_and_a_write_of_nothing_fails(rt: HostRuntime) {
+    assert!(rt; all_fill(rt.alloc()));
 }

@@ -4,7 +4,6 @@ ghost use Rattle.std.specs.Prelude.{◌≡◌, ℕ, ◌<◌, [], ◌∷◌, ◌+
 ghost use Rattle.ygg_watch_plain.specs.Propagation.{IsWithin};
 
 use std::alloc::Global;
-use std::test::Fail;
 use ygg_cnf::{Clause, Clauses, Lit};
 use ygg_list::NoMemory;
 use ygg_watch::{Found, Propagate, watch};
@@ -109,10 +108,13 @@ fn is_worked_by_watches(alloc: Global, clauses: &Clauses) -> Result<bool, NoMemo
     is_worked(alloc, &mut propagation)
 }
 
+/// Whether it holds of both.
+fn holds(alloc: Global) -> Result<bool, NoMemory> {
+    let clauses = three(alloc)?;
+    Ok(is_worked_plainly(alloc, &clauses)? && is_worked_by_watches(alloc, &clauses)?)
+}
+
 #[test]
-fn the_worked_row(rt: HostRuntime) -> Result<(), Fail> {
-    let clauses = three(rt.alloc())?;
-    assert!(rt; is_worked_plainly(rt.alloc(), &clauses)?);
-    assert!(rt; is_worked_by_watches(rt.alloc(), &clauses)?);
-    Ok(())
+fn the_worked_row(rt: HostRuntime) {
+    assert!(rt; matches!(holds(rt.alloc()), Ok(true)));
 }

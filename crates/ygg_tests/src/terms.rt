@@ -1,30 +1,13 @@
-//! The worked rows of rules, of the bank and of clauses.
+//! The worked rows of rules and of clauses. That the bank shares terms, `tests/run` asks `ygg_bench`.
 
 ghost use Rattle.std.specs.Prelude.{◌≡◌, []};
 
 use std::alloc::{AllocError, Global};
-use std::process::Abort;
-use std::test::Fail;
 use ygg_bank::{Bank, Id, NoMemory, Node};
 use ygg_blast::clauses_of;
 use ygg_cnf::{Clause, Lit};
-use ygg_rules::{
-    Operand, Rewrite, Rule, RuleBook, RuleKind, View, add_zero, and_ones, and_zero, eq_self, fold,
-    or_zero, pick_same,
-};
+use ygg_rules::{Operand, Rewrite, Rule, RuleBook, RuleKind, View, add_zero};
 use ygg_value::{Op, Word};
-
-/// Adds the seven rules, in the order of their table.
-fn add_all(alloc: Global, rules: &mut Vec<Rule>) -> Result<(), AllocError> {
-    rules.push(Rule::new(RuleKind::Fold, Box::new(alloc, fold)?))?;
-    rules.push(Rule::new(RuleKind::AndOnes, Box::new(alloc, and_ones)?))?;
-    rules.push(Rule::new(RuleKind::AndZero, Box::new(alloc, and_zero)?))?;
-    rules.push(Rule::new(RuleKind::OrZero, Box::new(alloc, or_zero)?))?;
-    rules.push(Rule::new(RuleKind::AddZero, Box::new(alloc, add_zero)?))?;
-    rules.push(Rule::new(RuleKind::EqSelf, Box::new(alloc, eq_self)?))?;
-    rules.push(Rule::new(RuleKind::PickSame, Box::new(alloc, pick_same)?))?;
-    Ok(())
-}
 
 /// What a book answers of the sum of an unknown operand and 0.
 fn of_sum_with_zero(book: &RuleBook) -> Rewrite {
@@ -32,24 +15,11 @@ fn of_sum_with_zero(book: &RuleBook) -> Rewrite {
     book.view(&View::bin(Op::Add, Operand::unknown(0, 8), zero))
 }
 
-#[test]
-fn sum_with_zero(rt: HostRuntime) -> Result<(), Fail> {
-    let empty = RuleBook::new(Vec::new(rt.alloc()));
-    assert!(rt; of_sum_with_zero(&empty) == Rewrite::Keep);
-    let mut rules = Vec::new(rt.alloc());
-    add_all(rt.alloc(), &mut rules)?;
-    assert!(rt; of_sum_with_zero(&RuleBook::new(rules)) == Rewrite::Operand(0));
-    Ok(())
-}
-
-/// Whether a constant that is made twice has one place.
-fn is_shared(alloc: Global) -> Result<bool, NoMemory> {
-    let book = RuleBook::new(Vec::new(alloc));
-    let mut bank = Bank::new(alloc)?;
-    let five = Word { width: 8, bits: 5 };
-    let first = bank.make(Node::Const(five), &book)?;
-    let second = bank.make(Node::Const(five), &book)?;
-    Ok(first == second && bank.len() == 1)
+/// Whether the rule for it answers its operand.
+fn is_rewritten(alloc: Global) -> Result<bool, AllocError> {
+    let mut rules = Vec::new(alloc);
+    rules.push(Rule::new(RuleKind::AddZero, Box::new(alloc, add_zero)?))?;
+    Ok(of_sum_with_zero(&RuleBook::new(rules)) == Rewrite::Operand(0))
 }
 
 /// The conjunction of two inputs of one digit, in a bank without nodes.
@@ -109,19 +79,37 @@ fn are_clauses(found: &[Clause]) -> bool {
     found.len() == CLAUSES.len()
 }
 
-/// Whether the conjunction has these clauses.
-fn has_clauses(rt: &impl Abort, alloc: Global) -> Result<bool, NoMemory> {
-    let book = RuleBook::new(Vec::new(alloc));
-    let mut bank = Bank::new(alloc)?;
-    let term = conjunction(&mut bank, &book)?;
-    assert!(rt; term.0 < bank.len());
-    let blasted = clauses_of(alloc, &bank, term)?;
+/// Whether a term has these clauses.
+fn has_clauses(alloc: Global, bank: &Bank, term: Id) -> Result<bool, NoMemory> {
+    if term.0 >= bank.len() {
+        return Ok(false);
+    }
+    let blasted = clauses_of(alloc, bank, term)?;
     Ok(are_clauses(blasted.clauses().as_slice()))
 }
 
+/// Whether the row of clauses holds in a bank without nodes.
+fn holds(alloc: Global, bank: &mut Bank, book: &RuleBook) -> Result<bool, NoMemory>
+    requires { bank.old ≡ [] }
+{
+    let term = conjunction(bank, book)?;
+    has_clauses(alloc, bank, term)
+}
+
+/// Whether it does under a book without rules, which keeps all terms.
+fn holds_without_rules(alloc: Global) -> Result<bool, NoMemory> {
+    let book = RuleBook::new(Vec::new(alloc));
+    if of_sum_with_zero(&book) != Rewrite::Keep {
+        return Ok(false);
+    }
+    let mut bank = Bank::new(alloc)?;
+    holds(alloc, &mut bank, &book)
+}
+
 #[test]
-fn terms_are_shared_and_have_their_clauses(rt: HostRuntime) -> Result<(), Fail> {
-    assert!(rt; is_shared(rt.alloc())?);
-    assert!(rt; has_clauses(&rt, rt.alloc())?);
-    Ok(())
+fn terms_are_rewritten_and_have_their_clauses(rt: HostRuntime) {
+    assert!(rt;
+        matches!(is_rewritten(rt.alloc()), Ok(true))
+            && matches!(holds_without_rules(rt.alloc()), Ok(true))
+    );
 }
