@@ -240,6 +240,35 @@ fn remove_at(
     Ok(())
 }
 
+/// Takes the literals of places below `end` that have reasons out of the seen set, the last one first.
+fn remove_below(
+    seen: &mut [bool],
+    clauses: &[Clause],
+    trail: &[Entry],
+    start: usize,
+    at: usize,
+    end: usize,
+    chain: &mut Vec<u64>,
+) -> Result<(), NoMemory>
+    requires sound { IsSound clauses.now trail.now }
+    requires within { start ≤ length trail.now }
+    requires below { end ≤ start }
+    requires fits { All (All (Fits (length seen.old))) clauses.now }
+    requires reduced { IsReduced clauses.now seen.old trail.now start at chain.old.items }
+    ensures { OnOk result (IsReduced clauses.now seen.new trail.now start at chain.new.items) }
+{
+    let mut place = end;
+    while place > 0 {
+        place -= 1;
+        if is_seen_at(seen, trail, place) {
+            if let Some(id) = entry_at(trail, place).reason {
+                remove_at(seen, clauses, trail, start, at, place, id, chain)?;
+            }
+        }
+    }
+    Ok(())
+}
+
 /// Takes removable literals out of the seen set, whatever places are said to be removable.
 fn minimize(
     seen: &mut [bool],
@@ -263,6 +292,11 @@ fn minimize(
                 remove_at(seen, clauses, trail, start, at, *place, id, chain)?;
             }
         }
+    }
+    // What is left of level 0, and comes in with what is left of it, goes in the order of the trail.
+    let end = removal.lowest_end();
+    if end <= start {
+        remove_below(seen, clauses, trail, start, at, end, chain)?;
     }
     Ok(())
 }

@@ -27,9 +27,11 @@ pub struct Removal {
     /// The seen places that are asked for, some of them more than once.
     is_seen: Vec<usize>,
     /// The places that are being asked for, each because of the one below it.
-    stack: Vec<usize>,
+    stack: Vec<Asked>,
     /// By level, whether a seen literal is of it. A literal of another level is not implied.
     levels: Vec<bool>,
+    /// The places of level 0 that were come by are below it. They are implied by no others, and aren't asked for.
+    lowest_end: usize,
 }
 
 impl Removal {
@@ -42,12 +44,18 @@ impl Removal {
             is_seen: Vec::new(alloc),
             stack: Vec::new(alloc),
             levels: Vec::new(alloc),
+            lowest_end: 0,
         }
     }
 
     /// The places whose literals were found to be implied. One that another hangs on stands before it.
     pub fn implied(&self) -> &[usize] {
         self.implied.as_slice()
+    }
+
+    /// A number that the places of level 0 are below whose literals are seen, or come in with the reasons of implied places.
+    pub fn lowest_end(&self) -> usize {
+        self.lowest_end
     }
 
     /// Forgets what was found, and makes room for so many places.
@@ -59,6 +67,7 @@ impl Removal {
         self.implied.clear();
         self.is_seen.clear();
         self.stack.clear();
+        self.lowest_end = 0;
         if self.known.len() < size {
             self.known.resize(size, Known::Nothing)?;
         }
@@ -77,12 +86,26 @@ impl Removal {
         }
     }
 
-    /// Whether the place is of level 0 or of a level that has a seen literal.
+    /// Whether the place is of a level that has a seen literal.
     fn is_near(&self, trail: &[Entry], place: usize) -> bool {
         match trail.get(place) {
-            Some(entry) => entry.level == 0 || self.levels.get(entry.level as usize) == Some(&true),
+            Some(entry) => self.levels.get(entry.level as usize) == Some(&true),
             None => false,
         }
+    }
+
+    /// Whether the place is of level 0. Such a place is kept in mind.
+    fn is_lowest(&mut self, trail: &[Entry], place: usize) -> bool {
+        let Some(entry) = trail.get(place) else {
+            return false;
+        };
+        if entry.level > 0 {
+            return false;
+        }
+        if place >= self.lowest_end {
+            self.lowest_end = place.saturating_add(1);
+        }
+        true
     }
 
     /// Keeps what is known of a place.
@@ -92,7 +115,7 @@ impl Removal {
         Ok(())
     }
 
-    /// Gathers the seen places below `start` that a clause of the chain has, and notes their levels. Each seen literal is
+    /// Gathers the seen places below `start` that a clause of the chain has, but for those of level 0, and notes their levels. Each seen literal is
     /// one of a clause that was resolved, so none is missed, and the rest of the trail is not looked at.
     fn gather(
         &mut self,
@@ -107,7 +130,7 @@ impl Removal {
             if let Some(clause) = clauses.get((*id as usize).wrapping_sub(1)) {
                 for lit in clause.as_slice() {
                     let place = place_of(places, *lit);
-                    if place < start && has_seen(seen, *lit) {
+                    if place < start && has_seen(seen, *lit) && !self.is_lowest(trail, place) {
                         self.note(trail, place, true);
                         self.is_seen.push(place)?;
                     }
@@ -125,10 +148,11 @@ impl Removal {
         trail: &[Entry],
         places: &[usize],
     ) -> Result<(), NoMemory> {
+        let steps = trail.len().saturating_add(trail.len());
         for at in 0..self.is_seen.len() {
             let place = read_place(self.is_seen.as_slice(), at);
             if known_at(self.known.as_slice(), place) == Known::Nothing {
-                self.ask(seen, clauses, trail, places, place, trail.len())?;
+                self.ask(seen, clauses, trail, places, place, steps)?;
             }
         }
         Ok(())
@@ -142,7 +166,7 @@ impl Removal {
         }
     }
 
-    /// Asks for one seen place, in at most so many steps.
+    /// Asks for one seen place, in at most so many steps. Each of them settles a place or asks for another one.
     fn ask(
         &mut self,
         seen: &[bool],
@@ -153,23 +177,25 @@ impl Removal {
         steps: usize,
     ) -> Result<(), NoMemory> {
         self.stack.clear();
-        self.stack.push(place)?;
+        self.stack.push(Asked {
+            place,
+            looked: 0,
+            is_seen: true,
+        })?;
         for _ in 0..steps {
-            let Some(top) = self.stack.last() else {
+            let Some(top) = self.stack.pop() else {
                 return Ok(());
             };
-            let now = *top;
-            match self.step(seen, clauses, trail, places, now) {
+            match self.step(seen, clauses, trail, places, top) {
                 Next::Implied => {
-                    self.settle(now, Known::Implied)?;
-                    self.implied.push(now)?;
-                    let _ = self.stack.pop();
+                    self.settle(top.place, Known::Implied)?;
+                    self.implied.push(top.place)?;
                 }
                 Next::Other => {
-                    self.settle(now, Known::Other)?;
-                    let _ = self.stack.pop();
+                    self.give_up(top)?;
                 }
-                Next::Ask(other) => {
+                Next::Ask { other, looked } => {
+                    self.stack.push(Asked { looked, ..top })?;
                     self.stack.push(other)?;
                 }
             }
@@ -177,16 +203,33 @@ impl Removal {
         Ok(())
     }
 
-    /// Looks at the reason of a place.
+    /// Settles that a place is not found to be implied, and with it those that hang on it. None hangs on a seen one.
+    fn give_up(&mut self, asked: Asked) -> Result<(), NoMemory> {
+        let mut asked = asked;
+        for _ in 0..self.stack.len() {
+            self.settle(asked.place, Known::Other)?;
+            if asked.is_seen {
+                return Ok(());
+            }
+            let Some(below) = self.stack.pop() else {
+                return Ok(());
+            };
+            asked = below;
+        }
+        self.settle(asked.place, Known::Other)
+    }
+
+    /// Looks at the literals of a place's reason that need a look. A seen literal need not be implied, but is asked for too, so
+    /// that it stands before those whose reasons have it.
     fn step(
-        &self,
+        &mut self,
         seen: &[bool],
         clauses: &[Clause],
         trail: &[Entry],
         places: &[usize],
-        place: usize,
+        asked: Asked,
     ) -> Next {
-        let Some(entry) = trail.get(place) else {
+        let Some(entry) = trail.get(asked.place) else {
             return Next::Other;
         };
         let Some(id) = entry.reason else {
@@ -195,24 +238,36 @@ impl Removal {
         let Some(clause) = clauses.get((id as usize).wrapping_sub(1)) else {
             return Next::Other;
         };
-        for lit in clause.as_slice() {
-            if lit.var != entry.lit.var && !has_seen(seen, *lit) {
-                let Some(other) = places.get(lit.var as usize) else {
-                    return Next::Other;
-                };
-                if *other >= place {
+        let lits = clause.as_slice();
+        for at in asked.looked..lits.len() {
+            let lit = lits[at];
+            if lit.var != entry.lit.var {
+                let place = place_of(places, lit);
+                if place >= asked.place {
                     return Next::Other;
                 }
-                match known_at(self.known.as_slice(), *other) {
+                match known_at(self.known.as_slice(), place) {
                     Known::Implied => {}
                     Known::Other => {
-                        return Next::Other;
-                    }
-                    Known::Nothing => {
-                        if !self.is_near(trail, *other) {
+                        if !has_seen(seen, lit) {
                             return Next::Other;
                         }
-                        return Next::Ask(*other);
+                    }
+                    Known::Nothing => {
+                        if !self.is_lowest(trail, place) {
+                            let is_seen = has_seen(seen, lit);
+                            if !is_seen && !self.is_near(trail, place) {
+                                return Next::Other;
+                            }
+                            return Next::Ask {
+                                other: Asked {
+                                    place,
+                                    looked: 0,
+                                    is_seen,
+                                },
+                                looked: at + 1,
+                            };
+                        }
                     }
                 }
             }
@@ -221,12 +276,20 @@ impl Removal {
     }
 }
 
-/// What the look at a place's reason came to: its literal is implied, is not found to be, or hangs on another place.
+/// A place that is being asked for, how many literals of its reason need no further look, and whether its own literal is seen.
+#[derive(Clone, Copy)]
+struct Asked {
+    place: usize,
+    looked: usize,
+    is_seen: bool,
+}
+
+/// What the look at a place's reason came to: its literal is implied, is not found to be, or another place is asked for first.
 #[derive(Clone, Copy)]
 enum Next {
     Implied,
     Other,
-    Ask(usize),
+    Ask { other: Asked, looked: usize },
 }
 
 /// What is known of a place.

@@ -1,4 +1,4 @@
-use Rattle.std.proofs.Common.{◌↔◌, ◌∙◌, ⊎_elim, inr, sym, subst, Contains, ℕ, List, ◌++◌, []}
+use Rattle.std.proofs.Common.{◌↔◌, ◌∙◌, ⊎_elim, inr, sym, subst, Contains, ℕ, List, ◌++◌}
 use Rattle.ygg_cnf_set.specs.LiteralSet.{InSet}
 use Rattle.ygg_cnf.proofs.Steps.{one_clause, first_step}
 use Rattle.ygg_cnf.specs.Derivations.{HasClause, DerivesClause}
