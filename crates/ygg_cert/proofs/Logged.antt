@@ -1,11 +1,13 @@
 -- The lines of a log, byte by byte.
-use Rattle.std.proofs.Common.{◌≡◌, ℕ, ◌+◌, ◌<◌, List, [], ◌∷◌, ◌++◌, length, refl, sym, ap, subst, ◌∙◌, append_assoc, arith, ◌⊎◌, inl, inr}
+use Rattle.std.proofs.Common.{◌≡◌, ℕ, ◌+◌, ◌<◌, List, [], ◌∷◌, ◌++◌, length, take, refl, sym, ap, subst, ◌∙◌, append_assoc, arith, ◌⊎◌, inl, inr}
 use Rattle.std.specs.Prelude.{codes}
+use Rattle.std.proofs.lemmas.List.{append-nil}
 use Rattle.ygg_cnf.specs.declared.lit.Lit.{Lit}
 use Rattle.ygg_cnf.specs.declared.log.Step.{Step}
 use Rattle.ygg_cnf.specs.declared.log.Step.TheVariants.{Added}
 use Rattle.ygg_log_text.specs.Lines.{step_line}
 use Rattle.ygg_log_read.specs.Steps.{IsStep, BeginsStep}
+use Rattle.ygg_log_read.specs.Numbers.{IsRun}
 use Rattle.ygg_log_read.specs.Reading.{IsReading}
 use Rattle.ygg_log_read.specs.declared.reader.StepReader.{StepReader}
 use Rattle.ygg_cert.specs.declared.item.Goal.{Goal}
@@ -147,3 +149,19 @@ closing_wrong log before byte was at other = turns_wrong log (before ++ byte ∷
       where
         by_step : (step : Step) → (before ++ byte ∷ []) ++ more ≡ step_line step ++ has.others → ⊥
         by_step (Added clause chain) is = differ 101 99 _ _ (sym (ap (λ (x : List ℕ). x ++ more) whole) ∙ is) (omega arith)
+
+-- some more bytes of the line of a step, and none
+pub run_turns : (old new : LogReading) (before piece : List ℕ) (count : ℕ) → old.at ≡ line.Step → IsLogAt before old → new.name ≡ old.name →
+    new.checker ≡ old.checker → new.held ≡ old.held → new.at ≡ line.Step → IsRun piece old.step new.step count
+    → Turns old (before ++ take count piece) new heard.More
+run_turns old new before piece count here was named held counted at run =
+    (record { counted = counted ∙ was.counted ∙ ap length (sym held); line = in_line }, named, held)
+  where
+    in_line : IsInLine (before ++ take count piece) new
+    in_line = let step = rw here at was.line in rw at (
+      run.reading before step.0,
+      (λ more others is. step.1 (take count piece ++ more) others (sym (append_assoc before (take count piece) more) ∙ is)),
+    )
+
+pub none_turns : (log : LogReading) (before piece : List ℕ) → IsLogAt before log → Turns log (before ++ take 0 piece) log heard.More
+none_turns log before piece was = (subst (λ (x : List ℕ). IsLogAt x log) (sym (append-nil before)) was, refl, refl)

@@ -1,6 +1,33 @@
 -- What a reader of certificates has read after a byte and after a piece.
-use Rattle.std.proofs.Common.{◌≡◌, ℕ, ◌+◌, ◌<◌, ◌≤◌, List, [], ◌∷◌, ◌++◌, length, take, get_or, Result, Ok, refl, sym, ap, subst, ◌∙◌, append_assoc, ◌⊎◌, inl, inr}
-use Rattle.std.proofs.lemmas.List.{append-nil, take_more, take_all, length-append}
+use Rattle.std.proofs.Common.{
+  ◌≡◌,
+  ℕ,
+  ◌+◌,
+  ◌-◌,
+  ◌<◌,
+  ◌≤◌,
+  List,
+  [],
+  ◌∷◌,
+  ◌++◌,
+  length,
+  take,
+  drop,
+  get_or,
+  Result,
+  Ok,
+  refl,
+  sym,
+  ap,
+  subst,
+  ◌∙◌,
+  append_assoc,
+  ◌⊎◌,
+  inl,
+  inr,
+  arith,
+}
+use Rattle.std.proofs.lemmas.List.{append-nil, take_more, take_all, length-append, take-take, drop-take, take-append-drop, take_rest, length-drop}
 use Rattle.ygg_cert.specs.declared.item.Goal.{Goal}
 use Rattle.ygg_cert.specs.declared.expected.Expected.{Expected}
 use Rattle.ygg_cert.specs.declared.verdict.Heard.{Heard}
@@ -230,3 +257,49 @@ piece_all goals text piece i r past was = subst (λ (x : List ℕ). IsFed goals 
 
 pub piece_none : (goals : List Goal) (text piece : List ℕ) (r : Reading) → IsFed goals text r → IsFed goals (text ++ take 0 piece) r
 piece_none goals text piece r was = subst (λ (x : List ℕ). IsFed goals x r) (sym (append-nil text)) was
+
+-- some more bytes of a line, or none where nothing more is read
+pub run_fed : (goals : List Goal) (text bytes : List ℕ) (old new : Reading) → (IsEnded old.next.phase → (bytes ≡ []) × (new ≡ old)) →
+    ((place : Place) (before : List ℕ) → IsAt goals place before old.next → IsAt goals place (before ++ bytes) new.next) → new.lines ≡ old.lines →
+    new.column ≡ old.column + length bytes → IsFed goals text old
+    → IsFed goals (text ++ bytes) new
+run_fed goals text bytes old new ends goes_on lines column was = by_fed (fed_on goals text old was)
+  where
+    by_fed : IsEnded old.next.phase ⊎ IsOn goals text old → IsFed goals (text ++ bytes) new
+    by_fed (inl ended) =
+        let (none, same) = ends ended in
+        subst (λ (r : Reading). IsFed goals (text ++ bytes) r) (sym same)
+        (subst (λ (x : List ℕ). IsFed goals (text ++ x) old) (sym none) (subst (λ (x : List ℕ). IsFed goals x old) (sym (append-nil text)) was))
+    by_fed (inr on) =
+        on_fed goals (text ++ bytes) new
+        (record {
+          place = on.place;
+          bytes = on.bytes ++ bytes;
+          reaches =
+              subst (λ (n : ℕ). Reaches goals (text ++ bytes) on.place n (on.bytes ++ bytes)) (sym lines)
+              (reaches_more goals text on.place old.lines on.bytes bytes on.reaches);
+          column = column ∙ ap (λ (n : ℕ). n + length bytes) on.column ∙ sym (length-append on.bytes bytes);
+          at = goes_on on.place on.bytes on.at;
+        })
+
+-- the bytes of a run in a piece
+run_taken : (piece : List ℕ) (i count : ℕ) → take i piece ++ take count (drop i piece) ≡ take (i + count) piece
+run_taken piece i count =
+    ap (λ (x : List ℕ). x ++ take count (drop i piece)) (sym (take-take i (i + count) piece (omega arith)))
+    ∙ ap (λ (x : List ℕ). take i (take (i + count) piece) ++ x) (sym (drop-take i count piece))
+    ∙ take-append-drop i (take (i + count) piece)
+
+pub piece_run : (goals : List Goal) (text piece : List ℕ) (i count : ℕ) (r : Reading) →
+    IsFed goals ((text ++ take i piece) ++ take count (take (length piece - i) (drop i piece))) r → IsFed goals (text ++ take (i + count) piece) r
+piece_run goals text piece i count r was =
+    subst (λ (x : List ℕ). IsFed goals x r)
+    (ap (λ (x : List ℕ). (text ++ take i piece) ++ take count x) (take_rest piece i)
+    ∙ append_assoc text (take i piece) (take count (drop i piece)) ∙ ap (λ (x : List ℕ). text ++ x) (run_taken piece i count)) was
+
+pub run_within : (piece : List ℕ) (i count : ℕ) → i ≤ length piece → count ≤ length (take (length piece - i) (drop i piece)) → i + count ≤ length piece
+run_within piece i count start within =
+    let rest = ap length (take_rest piece i) in let left = length-drop i piece in omega (arith, rest, left, within, start)
+
+-- the number that is given
+pub ok_count : {E : Type 0} (r : Result ℕ E) (a b : ℕ) → r ≡ Ok a → r ≡ Ok b → a ≡ b
+ok_count r a b one two = cc

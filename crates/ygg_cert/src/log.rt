@@ -1,7 +1,8 @@
 //! The lines of one log.
 
-ghost use Rattle.std.specs.Prelude.{◌≡◌, ◌+◌, ◌∷◌, ◌++◌, [], List, ℕ, IfOk, length};
+ghost use Rattle.std.specs.Prelude.{◌≡◌, ◌≤◌, ◌+◌, ◌∷◌, ◌++◌, [], List, ℕ, IfOk, length, take};
 ghost use Rattle.ygg_cert.specs.Standing.{IsLogAt, IsStepAt, Turns, Closes, Adds};
+ghost use Rattle.ygg_cert.specs.declared.verdict.Heard.TheVariants.{More};
 
 use crate::item::Goal;
 use crate::verdict::Heard;
@@ -103,6 +104,19 @@ impl LogReading {
             StepHeard::More => Ok(Heard::More),
             StepHeard::Wrong => Ok(Heard::Wrong),
             StepHeard::Whole => self.add(alloc),
+        }
+    }
+
+    /// Reads the first bytes of a piece, as far as they go on with the numbers of a step, and gives how many they are. Its only error is out of memory.
+    pub fn run_on(&mut self, piece: &[u8]) -> Result<usize, NoMemory>
+        ensures within { IfOk result (λ count. count ≤ length piece.now) }
+        ensures turns { (before : List ℕ) → IsLogAt before self.old →
+            IfOk result (λ count. Turns self.old (before ++ take count piece.now) self.new More) }
+    {
+        match self.at {
+            LogLine::Step => self.step.run_on(piece),
+            LogLine::Begin => Ok(0),
+            LogLine::Closing => Ok(0),
         }
     }
 

@@ -1,6 +1,6 @@
 //! What a reader of certificates reads next.
 
-ghost use Rattle.std.specs.Prelude.{◌≡◌, ◌+◌, ◌≤◌, ◌∷◌, ◌++◌, [], List, ℕ, IfOk, OnOk, length, drop};
+ghost use Rattle.std.specs.Prelude.{◌≡◌, ◌+◌, ◌≤◌, ◌∷◌, ◌++◌, [], List, ℕ, IfOk, OnOk, length, drop, take, Ok};
 ghost use Rattle.ygg_cert.specs.declared.item.Goal.{Goal};
 ghost use Rattle.ygg_cert.specs.Places.{Place, Between};
 ghost use Rattle.ygg_cert.specs.Standing.{IsAt, IsDone, IsEnded, IsNext, Hears};
@@ -97,6 +97,20 @@ impl Next {
             Phase::Bad(_) => Ok(Heard::Nothing),
             Phase::Wrong => Ok(Heard::Nothing),
             Phase::GivenUp => Ok(Heard::Nothing),
+        }
+    }
+
+    /// Reads the first bytes of a piece, as far as they go on with the numbers of a step, and gives how many they are. Its only error is out of memory.
+    pub fn run_on(&mut self, piece: &[u8]) -> Result<usize, NoMemory>
+        ensures within { IfOk result (λ count. count ≤ length piece.now) }
+        ensures at { (goals : List Goal) (place : Place) (before : List ℕ) → IsAt goals place before self.old →
+            IfOk result (λ count. IsAt goals place (before ++ take count piece.now) self.new) }
+        ensures ended { IsEnded self.old.phase → (result ≡ Ok 0) × (self.new ≡ self.old) }
+    {
+        if let Phase::Log = self.phase {
+            self.log.run_on(piece)
+        } else {
+            Ok(0)
         }
     }
 

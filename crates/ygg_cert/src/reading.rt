@@ -1,6 +1,6 @@
 //! A certificate that is read in pieces.
 
-ghost use Rattle.std.specs.Prelude.{◌≡◌, ◌+◌, ◌∷◌, ◌++◌, [], List, ℕ, IfOk, IsOk, OnOk};
+ghost use Rattle.std.specs.Prelude.{◌≡◌, ◌≤◌, ◌+◌, ◌∷◌, ◌++◌, [], List, ℕ, IfOk, IsOk, OnOk, length, take};
 ghost use Rattle.ygg_cert.specs.declared.item.Goal.{Goal};
 ghost use Rattle.ygg_cert.specs.Judging.{Judges, SoFar, wrong_after, short_after};
 ghost use Rattle.ygg_cert.specs.Standing.{IsEnded, IsFed};
@@ -26,6 +26,19 @@ fn counted(number: u32) -> Result<u32, NoMemory>
     ensures { IfOk result (λ more. more ≡ number + 1) }
 {
     match number.checked_add(1) {
+        Some(more) => Ok(more),
+        None => Err(NoMemory),
+    }
+}
+
+/// A number greater by so many. No text within the limit has so many bytes that there is none.
+fn counted_by(number: u32, count: usize) -> Result<u32, NoMemory>
+    ensures { IfOk result (λ more. more ≡ number + count) }
+{
+    let Ok(count) = u32::try_from(count) else {
+        return Err(NoMemory);
+    };
+    match number.checked_add(count) {
         Some(more) => Ok(more),
         None => Err(NoMemory),
     }
@@ -85,6 +98,36 @@ impl Reading {
         }
     }
 
+    /// Reads the first bytes of a piece, as far as they go on with the numbers of a step, and gives how many they are. Its only error is out of memory.
+    fn run(&mut self, piece: &[u8]) -> Result<usize, NoMemory>
+        ensures within { IfOk result (λ count. count ≤ length piece.now) }
+        ensures fed { (goals : List Goal) (text : List ℕ) → IsFed goals text self.old →
+            IfOk result (λ count. IsFed goals (text ++ take count piece.now) self.new) }
+        ensures still { IsEnded self.old.next.phase → IsOk result × (self.new ≡ self.old) }
+    {
+        let count = self.next.run_on(piece)?;
+        if count == 0 {
+            return Ok(0);
+        }
+        self.column = counted_by(self.column, count)?;
+        Ok(count)
+    }
+
+    /// The same, which gives up where no memory is left.
+    fn run_on(&mut self, piece: &[u8]) -> usize
+        ensures within { result ≤ length piece.now }
+        ensures fed { (goals : List Goal) (text : List ℕ) → IsFed goals text self.old → IsFed goals (text ++ take result piece.now) self.new }
+        ensures still { IsEnded self.old.next.phase → self.new ≡ self.old }
+    {
+        match self.run(piece) {
+            Ok(count) => count,
+            Err(_) => {
+                self.next.phase = Phase::GivenUp;
+                0
+            }
+        }
+    }
+
     /// What is said of the bytes so far.
     fn so_far(&self) -> Fed
         ensures { result ≡ fed_of self.now.next.phase }
@@ -104,8 +147,11 @@ impl Reading {
         ensures answer { result ≡ fed_of self.new.next.phase }
         ensures still { IsEnded self.old.next.phase → self.new ≡ self.old }
     {
-        for byte in piece {
-            self.read(alloc, goals, *byte);
+        let mut done = 0;
+        while done < piece.len() {
+            self.read(alloc, goals, piece[done]);
+            done += 1;
+            done += self.run_on(&piece[done..]);
         }
         self.so_far()
     }

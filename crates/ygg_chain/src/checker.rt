@@ -3,14 +3,16 @@ ghost use Rattle.ygg_cnf.specs.declared.lit.Lit.{Lit};
 ghost use Rattle.ygg_cnf.specs.Derivations.{HasClause, Resolves, DerivesClause};
 ghost use Rattle.ygg_chain.specs.Places.{StandsFor, clauses_at};
 ghost use Rattle.ygg_cnf_set.specs.LiteralSet.{InSet, IsSetOf};
+ghost use Rattle.ygg_chain.specs.Counts.{trues};
 ghost use Rattle.ygg_chain.specs.Held.{Holds, IsKept, InSetAs, IsSetOfAs, IsNumbered, IsNamed};
 
+use crate::counting::{insert_all, remove, resolve};
 use crate::places::Variables;
 use crate::store::{Store, enter_all};
 use std::alloc::Global;
 use std::marker::Model;
 use ygg_cnf::{Clause, Clauses, Lit};
-use ygg_cnf_set::{contains, contains_any, insert_all, pivot, remove, remove_all, resolve};
+use ygg_cnf_set::{contains, contains_any, pivot, remove_all};
 use ygg_list::NoMemory;
 
 /// Holds clauses, numbered from 1, and judges chains over them. Its memory is for the clauses and for the variables that
@@ -95,19 +97,22 @@ fn judge(seen: &mut [bool], store: &Store, chain: &[u64], clause: &[Lit]) -> boo
     ensures answer { IsTrue result ↔ DerivesClause (Holds store.now.variables store.now.clauses) chain.now clause.now }
     ensures clear { IsSetOf seen.new (λ _. ⊥) }
 {
-    let resolved = resolve_chain(seen, store, chain);
-    let same = take_set(seen, store, chain, clause);
+    let mut count = 0;
+    let resolved = resolve_chain(seen, &mut count, store, chain);
+    let same = take_set(seen, &mut count, store, chain, clause);
     resolved && same
 }
 
 /// Resolves the chain's first clause with the others in turn, as far as each step has one pivot. The literals that are left
 /// are then in the set.
-fn resolve_chain(seen: &mut [bool], store: &Store, chain: &[u64]) -> bool
+fn resolve_chain(seen: &mut [bool], count: &mut usize, store: &Store, chain: &[u64]) -> bool
     requires kept { IsKept store.now.variables store.now.clauses (length seen.old) }
     requires clear { IsSetOf seen.old (λ _. ⊥) }
+    requires counted { count.old ≡ trues seen.old }
     ensures exact { (clause : List Lit) → DerivesClause (Holds store.now.variables store.now.clauses) chain.now clause
         ↔ (IsTrue result × IsSetOfAs store.now.variables seen.new clause) }
     ensures named { (y : Lit) → InSet seen.new y → IsNamed store.now.clauses chain.now y }
+    ensures counted { count.new ≡ trues seen.new }
 {
     let Some((first, rest)) = chain.split_first() else {
         return false;
@@ -115,19 +120,21 @@ fn resolve_chain(seen: &mut [bool], store: &Store, chain: &[u64]) -> bool
     let Some(start) = store.numbered(*first) else {
         return false;
     };
-    insert_all(seen, start);
-    resolve_rest(seen, store, rest)
+    insert_all(seen, count, start);
+    resolve_rest(seen, count, store, rest)
 }
 
 /// Resolves the set with the clauses of the numbers in turn, as far as each step has one pivot.
-fn resolve_rest(seen: &mut [bool], store: &Store, ids: &[u64]) -> bool
-    requires { IsKept store.now.variables store.now.clauses (length seen.old) }
+fn resolve_rest(seen: &mut [bool], count: &mut usize, store: &Store, ids: &[u64]) -> bool
+    requires kept { IsKept store.now.variables store.now.clauses (length seen.old) }
+    requires counted { count.old ≡ trues seen.old }
     ensures exact { (clause : List Lit) → Resolves (Holds store.now.variables store.now.clauses)
         (InSetAs store.now.variables seen.old) ids.now clause ↔ (IsTrue result × IsSetOfAs store.now.variables seen.new clause) }
     ensures named { (y : Lit) → InSet seen.new y → InSet seen.old y ⊎ IsNamed store.now.clauses ids.now y }
+    ensures counted { count.new ≡ trues seen.new }
 {
     for id in ids {
-        if !resolve_next(seen, store, *id) {
+        if !resolve_next(seen, count, store, *id) {
             return false;
         }
     }
@@ -135,12 +142,14 @@ fn resolve_rest(seen: &mut [bool], store: &Store, ids: &[u64]) -> bool
 }
 
 /// Resolves the set with the clause of the number, where it has one pivot.
-fn resolve_next(seen: &mut [bool], store: &Store, id: u64) -> bool
-    requires { IsKept store.now.variables store.now.clauses (length seen.old) }
+fn resolve_next(seen: &mut [bool], count: &mut usize, store: &Store, id: u64) -> bool
+    requires kept { IsKept store.now.variables store.now.clauses (length seen.old) }
+    requires counted { count.old ≡ trues seen.old }
     ensures exact { (ids : List ℕ) (clause : List Lit) →
         Resolves (Holds store.now.variables store.now.clauses) (InSetAs store.now.variables seen.old) (id ∷ ids) clause
         ↔ (IsTrue result × Resolves (Holds store.now.variables store.now.clauses) (InSetAs store.now.variables seen.new) ids clause) }
     ensures named { (y : Lit) → InSet seen.new y → InSet seen.old y ⊎ IsNumbered store.now.clauses id y }
+    ensures counted { count.new ≡ trues seen.new }
 {
     let Some(next) = store.numbered(id) else {
         return false;
@@ -148,21 +157,28 @@ fn resolve_next(seen: &mut [bool], store: &Store, id: u64) -> bool
     let Some(x) = pivot(seen, next) else {
         return false;
     };
-    resolve(seen, next, x);
+    resolve(seen, count, next, x);
     true
 }
 
 /// Whether the literals of the set are those of the clause. It empties the set, whose literals are all of clauses that the chain
 /// names.
-fn take_set(seen: &mut [bool], store: &Store, chain: &[u64], clause: &[Lit]) -> bool
+fn take_set(
+    seen: &mut [bool],
+    count: &mut usize,
+    store: &Store,
+    chain: &[u64],
+    clause: &[Lit],
+) -> bool
     requires kept { IsKept store.now.variables store.now.clauses (length seen.old) }
     requires named { (y : Lit) → InSet seen.old y → IsNamed store.now.clauses chain.now y }
+    requires counted { count.old ≡ trues seen.old }
     ensures answer { IsTrue result ↔ IsSetOfAs store.now.variables seen.old clause.now }
     ensures clear { IsSetOf seen.new (λ _. ⊥) }
 {
     let all = all_seen_as(seen, &store.variables, clause);
-    remove_all_as(seen, &store.variables, clause);
-    let none = take_named(seen, store, chain);
+    remove_all_as(seen, count, &store.variables, clause);
+    let none = take_left(seen, *count, store, chain);
     all && none
 }
 
@@ -191,23 +207,40 @@ fn all_seen_as(seen: &[bool], variables: &Variables, clause: &[Lit]) -> bool
 }
 
 /// Takes the literal out, if it has a place.
-fn remove_as(seen: &mut [bool], variables: &Variables, lit: Lit)
-    requires { 2 * length variables.now ≤ length seen.old }
-    ensures { IsSetOf seen.new (λ x. InSet seen.old x × (StandsFor variables.now x lit → ⊥)) }
+fn remove_as(seen: &mut [bool], count: &mut usize, variables: &Variables, lit: Lit)
+    requires room { 2 * length variables.now ≤ length seen.old }
+    requires counted { count.old ≡ trues seen.old }
+    ensures set { IsSetOf seen.new (λ x. InSet seen.old x × (StandsFor variables.now x lit → ⊥)) }
+    ensures counted { count.new ≡ trues seen.new }
 {
     if let Some(placed) = variables.place(lit) {
-        remove(seen, placed);
+        remove(seen, count, placed);
     }
 }
 
 /// Takes the clause's literals out.
-fn remove_all_as(seen: &mut [bool], variables: &Variables, clause: &[Lit])
-    requires { 2 * length variables.now ≤ length seen.old }
-    ensures { IsSetOf seen.new (λ x. InSet seen.old x × ((y : Lit) → Contains clause.now y → StandsFor variables.now x y → ⊥)) }
+fn remove_all_as(seen: &mut [bool], count: &mut usize, variables: &Variables, clause: &[Lit])
+    requires room { 2 * length variables.now ≤ length seen.old }
+    requires counted { count.old ≡ trues seen.old }
+    ensures set { IsSetOf seen.new (λ x. InSet seen.old x × ((y : Lit) → Contains clause.now y → StandsFor variables.now x y → ⊥)) }
+    ensures counted { count.new ≡ trues seen.new }
 {
     for lit in clause {
-        remove_as(seen, variables, *lit);
+        remove_as(seen, count, variables, *lit);
     }
+}
+
+/// Takes out all literals of the clauses that the chain names, and says whether there were none. Where the set is empty it looks at none of them.
+fn take_left(seen: &mut [bool], count: usize, store: &Store, chain: &[u64]) -> bool
+    requires kept { IsKept store.now.variables store.now.clauses (length seen.old) }
+    requires counted { count ≡ trues seen.old }
+    ensures answer { IsTrue result ↔ ((y : Lit) → InSet seen.old y → IsNamed store.now.clauses chain.now y → ⊥) }
+    ensures taken { IsSetOf seen.new (λ y. InSet seen.old y × (IsNamed store.now.clauses chain.now y → ⊥)) }
+{
+    if count == 0 {
+        return true;
+    }
+    take_named(seen, store, chain)
 }
 
 /// Takes out all literals of the clauses that the chain names, and says whether there were none.

@@ -2,6 +2,7 @@
 #![tactic(auto)]
 
 mod checker;
+mod counting;
 mod places;
 mod store;
 

@@ -12,7 +12,7 @@ use ygg_list::{Duplicate, NoMemory, Sequence};
 /// its complement is true under every assignment. Where a clause is read or made of literals that may repeat, `once` keeps each once.
 #[derive(Drop)]
 pub struct Clause {
-    lits: SmallVec<Lit, 4>,
+    lits: SmallVec<Lit, 3>,
 }
 
 /// Clauses in order. The first has the number 1.

@@ -4,3 +4,4 @@ pub mod Turning
 pub mod Leading
 pub mod Ending
 pub mod Decoding
+pub mod Running

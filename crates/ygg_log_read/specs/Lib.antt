@@ -1,3 +1,4 @@
 pub mod Steps
 pub mod Spots
 pub mod Reading
+pub mod Numbers

@@ -2,6 +2,7 @@
 //! leads on.
 #![tactic(auto)]
 
+mod numbers;
 mod reader;
 mod spot;
 

@@ -1,8 +1,10 @@
 //! A line of a derived clause that is read byte by byte.
 
 ghost use Rattle.std.specs.Prelude.{◌≡◌, [], ◌∷◌, ◌++◌, List, ℕ, IfOk};
+ghost use Rattle.ygg_log_read.specs.Numbers.{IsRun};
 ghost use Rattle.ygg_log_read.specs.Reading.{IsReading, Hears};
 
+use crate::numbers::{read_numbers, spot_of};
 use crate::spot::{Spot, Turn, turn_at};
 use std::alloc::Global;
 use ygg_cnf::{Clause, Lit};
@@ -51,6 +53,19 @@ impl StepReader {
         ensures { result.now ≡ self.now.chain }
     {
         self.chain.as_slice()
+    }
+
+    /// Reads the first bytes of a piece, where the reading stands in the digits of a clause's number, as far as they are digits and the spaces after
+    /// numbers. Gives how many they are. Its only error is out of memory, after which the reader is of no use.
+    pub fn run_on(&mut self, piece: &[u8]) -> Result<usize, NoMemory>
+        ensures { IfOk result (IsRun piece.now self.old self.new) }
+    {
+        let Spot::Digits { number } = self.spot else {
+            return Ok(0);
+        };
+        let run = read_numbers(&mut self.chain, number, piece)?;
+        self.spot = spot_of(run.number);
+        Ok(run.count)
     }
 
     /// Reads a byte. Its only error is out of memory, after which the reader is of no use.

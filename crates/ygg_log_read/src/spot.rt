@@ -44,7 +44,7 @@ pub enum Turn {
 }
 
 /// The number with one more digit, unless the byte is no digit or the number 2 ^ 64 or more.
-fn longer(number: u64, byte: u8) -> Option<u64>
+pub fn longer(number: u64, byte: u8) -> Option<u64>
     ensures some { IfSome result (λ longer. (48 ≤ byte) × (byte < 58) × (longer ≡ 10 * number + (byte - 48)) × (longer < 2 ^ 64)) }
     ensures none { IsNone result → 48 ≤ byte → byte < 58 → 2 ^ 64 ≤ 10 * number + (byte - 48) }
 {

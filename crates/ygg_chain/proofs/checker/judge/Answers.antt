@@ -1,5 +1,6 @@
 use Rattle.std.proofs.Common.{sym, ◌∙◌}
 use Rattle.std.proofs.lemmas.Bool.{false≢true}
+use Rattle.ygg_chain.proofs.CountLemmas.{empty_counted}
 use Rattle.ygg_chain.proofs.checker.judge.Goals as goal
 
 pub returns-then-resolved-clause-answer : goal.returns-then-resolved-clause-answer
@@ -10,3 +11,6 @@ returns-then-resolved-clause-answer c =
 pub returns-else-resolved-clause-answer : goal.returns-else-resolved-clause-answer
 returns-else-resolved-clause-answer c =
     ((λ t. absurd (false≢true (sym c.if-resolved.false ∙ t))), (λ d. ((c.resolve_chain-resolved.ensures.exact c.args.clause.now).0 d).0))
+
+pub resolve_chain-resolved-requires-clause-counted : goal.resolve_chain-resolved-requires-clause-counted
+resolve_chain-resolved-requires-clause-counted c = empty_counted c.args.seen.now c.requires.clear

@@ -12,8 +12,8 @@ returns-in_default-numbered-clause-exact c clause = (
   (λ p. absurd (false≢true p.0)),
 )
 
-pub insert_all-requires : goal.insert_all-requires
-insert_all-requires c =
+pub insert_all-requires-clause-fits : goal.insert_all-requires-clause-fits
+insert_all-requires-clause-fits c =
     fits_numbered c.args.store.now.variables c.args.store.now.clauses (length c.args.seen.now) c.in-Some.first.now c.in-Some-numbered.start.now
     c.requires.kept c.in-Some-numbered.ensures
 
@@ -21,7 +21,10 @@ pub returns-clause-exact : goal.returns-clause-exact
 returns-clause-exact c clause =
     let step = kept_first c.args.store.now.variables c.args.store.now.clauses (length c.args.seen.now) c.requires.kept c.insert_all.new.seen
     c.in-Some.first.now c.in-Some.rest.now c.in-Some-numbered.start.now clause c.in-Some-numbered.ensures
-    (λ y. ((λ m. ⊎_elim (λ n. absurd ((c.requires.clear y).0 n)) (λ d. d) ((c.insert_all.ensures y).0 m)), (λ d. (c.insert_all.ensures y).1 (inr d)))) in
+    (λ y. (
+      (λ m. ⊎_elim (λ n. absurd ((c.requires.clear y).0 n)) (λ d. d) ((c.insert_all.ensures.set y).0 m)),
+      (λ d. (c.insert_all.ensures.set y).1 (inr d)),
+    )) in
     let rest = c.resolve_rest.ensures.exact clause in (
       (λ d. rest.0 (step.0 (subst (λ (l : List ℕ). DerivesClause (Holds c.args.store.now.variables c.args.store.now.clauses) l clause)
           c.in-Some.ensures.cases.0 d))),
@@ -35,6 +38,6 @@ returns-clause-named c y m =
     (named_first c.args.store.now.clauses c.in-Some.first.now c.in-Some.rest.now y
     (⊎_elim
     (λ n. ⊎_elim (λ b. absurd ((c.requires.clear y).0 b)) (λ d. inl (c.in-Some-numbered.start.now, (c.in-Some-numbered.ensures, d)))
-    ((c.insert_all.ensures y).0 n))
+    ((c.insert_all.ensures.set y).0 n))
     (λ k. inr k)
     (c.resolve_rest.ensures.named y m)))

@@ -34,6 +34,7 @@ loop-id-preserved c =
                 (InSetAs c.args.store.now.variables c.loop-id.seen) l clause)
                 (sym e) (step.1 (c.if-not-resolve_next.false, r)))),
           );
+      counted = c.resolve_next.ensures.counted;
       named = λ y m.
           ⊎_elim
           (λ n. ⊎_elim (λ b. inl b) (λ k. inr ((named_more c.args.store.now.clauses c.args.ids.now c.loop-id.id-index y c.loop-id-test.true).1 (inl k)))
