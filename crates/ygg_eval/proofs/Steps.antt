@@ -13,6 +13,7 @@ use Rattle.std.proofs.Common.{
   ◌++◌,
   Option,
   Some,
+  None,
   Result,
   Ok,
   Err,
@@ -104,7 +105,7 @@ module _ {S : Type 0} (M : Meaning S) (keeps : IsLower M) (file : File) (number 
     pub calls : List (WholeCall M.behavior.Base M.behavior.Note)
     pub answers_are : runs.answers_of calls ≡ answers
     pub path : (cause : Cause) → Reaches (M.behavior.machine cause file number) block told (at_state from) calls (at_state to)
-    pub leaves : M.behavior.Leaves file from (notes_of calls) to
+    pub leaves : M.behavior.Leaves None file from (notes_of calls) to
 
   no_turn : (told : List Answer) (from to : Standing S) → M.number from.machine ≡ number → from ≡ to → Turns told from [] to
   no_turn told from to numbered same = subst (λ (s : Standing S). Turns told from [] s) same (record {
@@ -135,7 +136,7 @@ module _ {S : Type 0} (M : Meaning S) (keeps : IsLower M) (file : File) (number 
           subst (λ (n : ℕ). (M.behavior.machine cause file n).Calls (at_state from) name args k.steps.notes a (at_state next)) numbered (k.steps.step cause),
           more.path cause,
         );
-        leaves = keeps.leaves_both file from next to k.steps.notes (notes_of more.calls) k.steps.leaves more.leaves;
+        leaves = keeps.leaves_both None file from next to k.steps.notes (notes_of more.calls) k.steps.leaves more.leaves;
       }
 
   turns : (told : List Answer) (from : Standing S) (xs : List (Exchange S)) (to : Standing S) → M.number from.machine ≡ number →
@@ -210,7 +211,7 @@ module _ {S : Type 0} (M : Meaning S) (keeps : IsLower M) (file : File) (number 
             s.step);
         takes = refl;
       };
-      leaves = keeps.leaves_both file from at to (notes_of t.calls) s.notes t.leaves s.leaves;
+      leaves = keeps.leaves_both (Some PowerLoss) file from at to (notes_of t.calls) s.notes t.leaves s.leaves;
     }
 
     -- a call is given up
@@ -229,6 +230,7 @@ module _ {S : Type 0} (M : Meaning S) (keeps : IsLower M) (file : File) (number 
             s.step);
         takes = refl;
       };
+      leaves = keeps.leaves_both (Some GivenUp) file from at to (notes_of t.calls) s.notes t.leaves s.leaves;
     }
 
     -- power fails between calls
@@ -245,7 +247,7 @@ module _ {S : Type 0} (M : Meaning S) (keeps : IsLower M) (file : File) (number 
         falls = subst (λ (n : ℕ). (M.behavior.machine PowerLoss file n).Loses (at_state at) s.notes (at_state to).base) t.number_is s.step;
         takes = refl;
       };
-      leaves = keeps.leaves_both file from at to (notes_of t.calls) s.notes t.leaves s.leaves;
+      leaves = keeps.leaves_both (Some PowerLoss) file from at to (notes_of t.calls) s.notes t.leaves s.leaves;
     }
 
     -- it is given up between calls
@@ -262,6 +264,7 @@ module _ {S : Type 0} (M : Meaning S) (keeps : IsLower M) (file : File) (number 
         falls = subst (λ (n : ℕ). (M.behavior.machine GivenUp file n).Loses (at_state at) s.notes (at_state to).base) t.number_is s.step;
         takes = refl;
       };
+      leaves = keeps.leaves_both (Some GivenUp) file from at to (notes_of t.calls) s.notes t.leaves s.leaves;
     }
 
     -- nothing was begun after so many whole calls
@@ -277,6 +280,7 @@ module _ {S : Type 0} (M : Meaning S) (keeps : IsLower M) (file : File) (number 
         falls = subst (λ (n : ℕ). (M.behavior.machine GivenUp file n).Loses (at_state to) [] (at_state to).base) t.number_is (keeps.rests file to.machine);
         takes = refl;
       };
+      leaves = keeps.leaves_both (Some GivenUp) file from to to (notes_of t.calls) [] t.leaves (keeps.leaves_rest file to);
     }
 
     abbrev Kept : Result Ended NoMemory → Type 0

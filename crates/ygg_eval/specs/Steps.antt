@@ -1,5 +1,5 @@
 -- A run of a block that calls a machine below, as a run on the machine whose steps those calls are.
-use Rattle.std.specs.Prelude.{◌≡◌, ℕ, IsTrue, List, length, take, Option, Result, Ok, Err}
+use Rattle.std.specs.Prelude.{◌≡◌, ℕ, IsTrue, List, length, take, Option, Some, None, Result, Ok, Err}
 use Rattle.ygg_base.specs.Outside.{Rose}
 use Rattle.ygg_list.specs.declared.memory.NoMemory.{NoMemory}
 use Rattle.ygg_value.specs.declared.row.Value.{Value}
@@ -25,7 +25,7 @@ module _ {S : Type 0} (M : Meaning S) (file : File) (number : ℕ) (block : Dial
     pub env : Env
     pub run : (cause : Cause) → WholeRun (M.behavior.machine cause file number) block (M.behavior.state file from.machine) notes env answer
         (M.behavior.state file to.machine)
-    pub leaves : M.behavior.Leaves file from notes to
+    pub leaves : M.behavior.Leaves None file from notes to
     pub passes : Passes from.power to.power
     pub variables_are : bind variables values' ≡ take (length values) env
     pub fit : IsTrue (values_fit variables values')
@@ -34,12 +34,13 @@ module _ {S : Type 0} (M : Meaning S) (file : File) (number : ℕ) (block : Dial
   pub record RunsDown : Type 0 where
     pub notes : List M.behavior.Note
     pub run : FallenRun (M.behavior.machine PowerLoss file number) block (M.behavior.state file from.machine) notes (M.behavior.state file to.machine).base
-    pub leaves : M.behavior.Leaves file from notes to
+    pub leaves : M.behavior.Leaves (Some PowerLoss) file from notes to
 
   -- the run was given up: the block's first calls were made, all of them whole but at most the last
   pub record RunsInPart : Type 0 where
     pub notes : List M.behavior.Note
     pub run : FallenRun (M.behavior.machine GivenUp file number) block (M.behavior.state file from.machine) notes (M.behavior.state file to.machine).base
+    pub leaves : M.behavior.Leaves (Some GivenUp) file from notes to
 
   -- what of the machine's steps a run is, by how it ended
   abbrev pub RunSteps : Result Ended NoMemory → Type 0

@@ -1,5 +1,5 @@
 -- What a machine does on which blocks are run.
-use Rattle.std.specs.Prelude.{◌≡◌, ℕ, ◌≤◌, Bool, true, false, IsTrue, IsSome, List, [], ◌++◌, slice_get, Some, None, Result, Ok, Err}
+use Rattle.std.specs.Prelude.{◌≡◌, ℕ, ◌≤◌, Bool, true, false, IsTrue, IsSome, List, [], ◌++◌, slice_get, Option, Some, None, Result, Ok, Err}
 use Rattle.ygg_base.specs.Outside.{Rose}
 use Rattle.ygg_list.specs.declared.memory.NoMemory.{NoMemory}
 use Rattle.ygg_value.specs.declared.row.Value.{Value}
@@ -68,8 +68,8 @@ pub record Behavior (S : Type 0) : Type 1 where
   pub machine : Cause → File → ℕ → Machine Base Note
   -- its state
   pub state : File → S → State Base
-  -- what steps with these notes leave of power
-  pub Leaves : File → Standing S → List Note → Standing S → Type 0
+  -- what steps with these notes leave of power: whole ones, or ones of which the last was cut for this cause
+  pub Leaves : Option Cause → File → Standing S → List Note → Standing S → Type 0
 
 -- what a machine of the states S means to the layer above it
 pub record Meaning (S : Type 0) : Type 1 where
@@ -171,31 +171,33 @@ module _ {S : Type 0} (M : Meaning S) (file : File) (from to : Standing S) where
   pub record StepsWhole (name : Name) (args : List Value) (answer : Answer) : Type 0 where
     pub notes : List M.behavior.Note
     pub step : (cause : Cause) → (machine_of cause).Calls state_before name args notes answer state_after
-    pub leaves : M.behavior.Leaves file from notes to
+    pub leaves : M.behavior.Leaves None file from notes to
 
   -- power failed within an operation, or before it began
   pub record StepsDown (name : Name) (args : List Value) : Type 0 where
     pub notes : List M.behavior.Note
     pub within : Bool
     pub step : FallsOrLoses within (machine_of PowerLoss) state_before name args notes state_after.base
-    pub leaves : M.behavior.Leaves file from notes to
+    pub leaves : M.behavior.Leaves (Some PowerLoss) file from notes to
 
   -- an operation was given up: the first of its steps were made, all of them whole but at most the last
   pub record StepsInPart (name : Name) (args : List Value) : Type 0 where
     pub notes : List M.behavior.Note
     pub within : Bool
     pub step : FallsOrLoses within (machine_of GivenUp) state_before name args notes state_after.base
+    pub leaves : M.behavior.Leaves (Some GivenUp) file from notes to
 
   -- power loss between operations is a step of the machine
   pub record StepsLost : Type 0 where
     pub notes : List M.behavior.Note
     pub step : (machine_of PowerLoss).Loses state_before notes state_after.base
-    pub leaves : M.behavior.Leaves file from notes to
+    pub leaves : M.behavior.Leaves (Some PowerLoss) file from notes to
 
   -- it was given up between operations
   pub record StepsGivenUp : Type 0 where
     pub notes : List M.behavior.Note
     pub step : (machine_of GivenUp).Loses state_before notes state_after.base
+    pub leaves : M.behavior.Leaves (Some GivenUp) file from notes to
 
   -- what of the machine's steps a call is, by how it ended
   abbrev pub CallSteps : Name → List Value → Ending → Type 0
@@ -242,9 +244,10 @@ pub record IsLower {S : Type 0} (M : Meaning S) : Type 0 where
   pub falls : (file : File) (from to : Standing S) (name : Name) (args : List Value) (outage : Outage) → M.Falls file from name args outage to →
       KeepsInFall M file from to name args outage
   pub loses : (file : File) (from to : Standing S) (outage : Outage) → M.Loses file from outage to → KeepsInLoss M file from to outage
-  -- giving up between operations does nothing
+  -- giving up between operations does nothing, to power neither
   pub rests : (file : File) (s : S) → (M.behavior.machine GivenUp file (M.number s)).Loses (M.behavior.state file s) [] (M.behavior.state file s).base
-  -- no step leaves power as it is, and steps after one another leave what they leave in turn
-  pub leaves_none : (file : File) (at : Standing S) → M.behavior.Leaves file at [] at
-  pub leaves_both : (file : File) (from at to : Standing S) (first second : List M.behavior.Note) → M.behavior.Leaves file from first at →
-      M.behavior.Leaves file at second to → M.behavior.Leaves file from (first ++ second) to
+  pub leaves_rest : (file : File) (at : Standing S) → M.behavior.Leaves (Some GivenUp) file at [] at
+  -- no step leaves power as it is, and steps after whole ones leave what both leave in turn
+  pub leaves_none : (file : File) (at : Standing S) → M.behavior.Leaves None file at [] at
+  pub leaves_both : (how : Option Cause) (file : File) (from at to : Standing S) (first second : List M.behavior.Note) →
+      M.behavior.Leaves None file from first at → M.behavior.Leaves how file at second to → M.behavior.Leaves how file from (first ++ second) to

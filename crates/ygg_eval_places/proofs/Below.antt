@@ -49,7 +49,7 @@ resting number = record {
       WakeFalls = λ f notes f'. Unit {0};
     };
     state = λ file s. based tt;
-    Leaves = λ file from notes to. Unit {0};
+    Leaves = λ how file from notes to. Unit {0};
   };
 }
 

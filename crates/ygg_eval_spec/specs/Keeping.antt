@@ -1,6 +1,6 @@
 -- The specification of a layer, the disk, and a machine without memory keep what a machine below a layer keeps. These are proofs that stand
 -- among the specifications, since the machines give them as the values of their field `keeps`.
-use Rattle.std.specs.Prelude.{◌≡◌, ℕ, ◌≤◌, Bool, true, List, [], ◌∷◌, ◌++◌}
+use Rattle.std.specs.Prelude.{◌≡◌, ℕ, ◌≤◌, Bool, true, List, [], ◌∷◌, ◌++◌, Option, Some, None}
 use Rattle.std.proofs.Common.{refl, sym, ap, ◌∙◌, subst}
 use Rattle.std.proofs.Math.Nat.{le_refl}
 use Rattle.ygg_value.specs.declared.row.Value.{Value}
@@ -34,7 +34,7 @@ use Rattle.ygg_eval_lower.specs.Lower.{
 }
 use Rattle.ygg_eval_lower.specs.Layers.{machine_at}
 use Rattle.ygg_eval_spec.specs.Taken.{TakesOnly}
-use Rattle.ygg_eval_spec.specs.Kept.{Kept, Stepped, Calls, Falls, Loses, named_in, machine_by, spec_meaning, silent_meaning}
+use Rattle.ygg_eval_spec.specs.Kept.{Kept, Stepped, Calls, Falls, Loses, TakesBy, named_in, machine_by, spec_meaning, silent_meaning}
 
 -- where only picks were taken, power stands where it stood
 picks_pass : (picks : Picks) (before after : Power) → TakesOnly picks before after → Passes before after
@@ -65,7 +65,7 @@ calls_kept file from to name args (Whole answer) h = record {
 calls_kept file from to name args Down h = absurd h
 calls_kept file from to name args Failed h = absurd h
 calls_kept file from to name args Starved h =
-    record { goes_on = record { number = h; later = le_refl 0 }; steps = record { notes = []; within = true; step = tt }; power = tt }
+    record { goes_on = record { number = h; later = le_refl 0 }; steps = record { notes = []; within = true; step = tt; leaves = tt }; power = tt }
 
 falls_kept : (file : File) (from to : Standing Kept) (name : Name) (args : List Value) (outage : Outage) → Falls file from name args outage to →
     KeepsInFall spec_meaning file from to name args outage
@@ -74,12 +74,13 @@ falls_kept file from to name args Happened h = record {
   steps = record { notes = h.picks; within = true; step = h.step; leaves = h.takes };
 }
 falls_kept file from to name args Lacking h =
-    record { goes_on = record { number = h; later = le_refl 0 }; steps = record { notes = []; within = true; step = tt } }
+    record { goes_on = record { number = h; later = le_refl 0 }; steps = record { notes = []; within = true; step = tt; leaves = tt } }
 
 loses_kept : (file : File) (from to : Standing Kept) (outage : Outage) → Loses file from outage to → KeepsInLoss spec_meaning file from to outage
 loses_kept file from to Happened h =
     record { goes_on = record { number = h.number; later = le_refl 0 }; steps = record { notes = h.picks; step = h.step; leaves = h.takes } }
-loses_kept file from to Lacking h = record { goes_on = record { number = h; later = le_refl 0 }; steps = record { notes = []; step = tt } }
+loses_kept file from to Lacking h =
+    record { goes_on = record { number = h; later = le_refl 0 }; steps = record { notes = []; step = tt; leaves = tt } }
 
 -- picks that are taken in turn
 pub takes_more : (first second : List Bool) (a b c : Source) → Takes first a b → Takes second b c → Takes (first ++ second) a c
@@ -93,6 +94,13 @@ takes_both first second a b c t u = record {
   others = u.others ∙ ap (λ (p : Power). record p { picks = c.picks }) t.others;
 }
 
+-- the same after whole steps, however the second ended
+takes_then : (how : Option Cause) (first second : List Bool) (a b c : Power) → TakesOnly first a b → TakesBy how second b c →
+    TakesBy how (first ++ second) a c
+takes_then None first second a b c t u = takes_both first second a b c t u
+takes_then (Some PowerLoss) first second a b c t u = takes_both first second a b c t u
+takes_then (Some GivenUp) first second a b c t u = tt
+
 -- the specification of a layer, or the disk, is a machine below a layer
 pub spec_keeps : IsLower spec_meaning
 spec_keeps = record {
@@ -100,8 +108,9 @@ spec_keeps = record {
   falls = falls_kept;
   loses = loses_kept;
   rests = λ file s. tt;
+  leaves_rest = λ file at. tt;
   leaves_none = λ file at. record { picks = refl; others = refl };
-  leaves_both = λ file from at to first second t u. takes_both first second from.power at.power to.power t u;
+  leaves_both = λ how file from at to first second t u. takes_then how first second from.power at.power to.power t u;
 }
 
 -- a call that found no memory
@@ -123,18 +132,18 @@ module _ {S : Type 0} where
   silent_calls file from to name args Down h = absurd h
   silent_calls file from to name args Failed h = absurd h
   silent_calls file from to name args Starved h =
-      record { goes_on = record { number = refl; later = le_refl 0 }; steps = record { notes = []; within = true; step = tt }; power = tt }
+      record { goes_on = record { number = refl; later = le_refl 0 }; steps = record { notes = []; within = true; step = tt; leaves = tt }; power = tt }
 
   silent_falls : (file : File) (from to : Standing S) (name : Name) (args : List Value) (outage : Outage) → IsLacking outage →
       KeepsInFall silent_meaning file from to name args outage
   silent_falls file from to name args Happened h = absurd h
   silent_falls file from to name args Lacking h =
-      record { goes_on = record { number = refl; later = le_refl 0 }; steps = record { notes = []; within = true; step = tt } }
+      record { goes_on = record { number = refl; later = le_refl 0 }; steps = record { notes = []; within = true; step = tt; leaves = tt } }
 
   silent_loses : (file : File) (from to : Standing S) (outage : Outage) → IsLacking outage → KeepsInLoss silent_meaning file from to outage
   silent_loses file from to Happened h = absurd h
   silent_loses file from to Lacking h =
-      record { goes_on = record { number = refl; later = le_refl 0 }; steps = record { notes = []; step = tt } }
+      record { goes_on = record { number = refl; later = le_refl 0 }; steps = record { notes = []; step = tt; leaves = tt } }
 
   -- a machine without memory is one below a layer
   pub silent_keeps : IsLower (silent_meaning {S = S})
@@ -143,6 +152,7 @@ module _ {S : Type 0} where
     falls = λ file from to name args outage h. silent_falls file from to name args outage (subst IsLacking (sym h) tt);
     loses = λ file from to outage h. silent_loses file from to outage (subst IsLacking (sym h) tt);
     rests = λ file s. tt;
+    leaves_rest = λ file at. tt;
     leaves_none = λ file at. tt;
-    leaves_both = λ file from at to first second t u. tt;
+    leaves_both = λ how file from at to first second t u. tt;
   }

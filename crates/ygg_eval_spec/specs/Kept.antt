@@ -1,5 +1,5 @@
 -- The specification of a layer, or the disk, with the values that it keeps, and its steps.
-use Rattle.std.specs.Prelude.{◌≡◌, ℕ, ◌≤◌, Bool, true, IsTrue, List, length}
+use Rattle.std.specs.Prelude.{◌≡◌, ℕ, ◌≤◌, Bool, true, IsTrue, List, length, Option, Some, None}
 use Rattle.ygg_value.specs.declared.row.Value.{Value}
 use Rattle.ygg_syntax.specs.declared.tree.File.{File}
 use Rattle.ygg_disk.specs.declared.power.Power.{Power}
@@ -76,6 +76,12 @@ abbrev pub machine_by : Cause → File → ℕ → Machine Env Bool
 machine_by PowerLoss file number = machine_at file number
 machine_by GivenUp file number = record (machine_at file number) { Falls = λ s name args picks f. Unit {0}; Loses = λ s picks f. Unit {0} }
 
+-- what steps with these picks leave of power: they are taken, and nothing else changes; once it is given up nothing is said of that either
+abbrev pub TakesBy : Option Cause → Picks → Power → Power → Type 0
+TakesBy None picks before after = TakesOnly picks before after
+TakesBy (Some PowerLoss) picks before after = TakesOnly picks before after
+TakesBy (Some GivenUp) picks before after = Unit {0}
+
 -- its steps, with their picks
 abbrev pub spec_behavior : Behavior Kept
 spec_behavior = record {
@@ -83,7 +89,7 @@ spec_behavior = record {
   Note = Bool;
   machine = machine_by;
   state = λ file k. based (named_in file k);
-  Leaves = λ file from picks to. TakesOnly picks from.power to.power;
+  Leaves = λ how file from picks to. TakesBy how picks from.power to.power;
 }
 
 -- The specification of a layer, or the disk. It can be stopped and lose power, and has no faults.
@@ -116,7 +122,7 @@ unknown_behavior = record {
     WakeFalls = λ f picks f'. Unit {0};
   };
   state = λ file s. based tt;
-  Leaves = λ file from picks to. Unit {0};
+  Leaves = λ how file from picks to. Unit {0};
 }
 
 -- a machine that has no memory for any step

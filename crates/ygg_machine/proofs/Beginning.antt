@@ -1,5 +1,5 @@
 -- A command of the machine below, and after it a block of the layer from memory of zeros.
-use Rattle.std.proofs.Common.{◌≡◌, ℕ, suc, ◌≤◌, List, [], ◌++◌, ◌⊎◌, false, Some, None, inl, inr, refl, sym, ◌∙◌, subst, arith}
+use Rattle.std.proofs.Common.{◌≡◌, ℕ, suc, ◌≤◌, List, [], ◌++◌, ◌⊎◌, false, Option, Some, None, inl, inr, refl, sym, ◌∙◌, subst, arith}
 use Rattle.std.specs.Prelude.{slice_get}
 use Rattle.ygg_base.specs.Outside.{Rose}
 use Rattle.ygg_syntax.specs.declared.tree.Block.{Block}
@@ -46,6 +46,7 @@ begun_kept {S} M keeps file l b from to ending (inr (is, same)) = (
           takes = refl;
         };
       };
+      leaves = keeps.leaves_rest file (lower_of from);
     };
   }),
 )
@@ -98,8 +99,8 @@ module _ {S : Type 0} (N : Meaning S) (Falls : Cause → List N.behavior.Note �
   }
 
 module _ {S : Type 0} (N : Meaning S)
-    (both : (file : File) (from at to : Standing S) (first second : List N.behavior.Note) → N.behavior.Leaves file from first at →
-    N.behavior.Leaves file at second to → N.behavior.Leaves file from (first ++ second) to)
+    (both : (how : Option Cause) (file : File) (from at to : Standing S) (first second : List N.behavior.Note) → N.behavior.Leaves None file from first at →
+    N.behavior.Leaves how file at second to → N.behavior.Leaves how file from (first ++ second) to)
     (file : File) (l : Layer) (b : Block) (lower upper : Command N.behavior.Base N.behavior.Note) (from : Standing (Raised S))
     (there : slice_get file.layers (place_of N from.machine) ≡ Some l)
     (J : Joins (closed_at file (place_of N from.machine) l) b (λ cause. N.behavior.machine cause file (place_of N from.machine)) lower upper
@@ -153,6 +154,7 @@ module _ {S : Type 0} (N : Meaning S)
         stopped = record {
           notes = e.so.stopped.notes;
           leaves = leaves GivenUp to e.so.stopped.notes number (J.under GivenUp e.so.stopped.notes _ e.so.stopped.leaves);
+          left = e.so.stopped.left;
         };
         rose = e.so.rose;
         passes = e.so.passes;
@@ -163,7 +165,7 @@ module _ {S : Type 0} (N : Meaning S)
 
     pub under_starved : CommandEnds N file lower Starved (lower_of from) (lower_of to) → Ends Starved to
     under_starved e = record {
-      so = record { notes = e.so.notes; leaves = leaves GivenUp to e.so.notes number (J.under GivenUp e.so.notes _ e.so.leaves) };
+      so = record { notes = e.so.notes; leaves = leaves GivenUp to e.so.notes number (J.under GivenUp e.so.notes _ e.so.leaves); left = e.so.left };
       later = e.later;
     }
 
@@ -209,7 +211,7 @@ module _ {S : Type 0} (N : Meaning S)
         notes = first.so.notes ++ k.steps.notes;
         does = λ cause. does cause to (first.so.notes ++ k.steps.notes) (k.goes_on.number ∙ number)
             (J.whole cause at first.so.notes k.steps.notes answer answer' _ (first.so.does cause) (run_from cause k.steps.notes answer' (k.steps.run cause)));
-        left = both file (lower_of from) (lower_of mid) (lower_of to) first.so.notes k.steps.notes first.so.left k.steps.leaves;
+        left = both None file (lower_of from) (lower_of mid) (lower_of to) first.so.notes k.steps.notes first.so.left k.steps.leaves;
         passes = passes_both from.power mid.power to.power first.so.passes k.steps.passes;
       };
       later = lasts (Whole answer') k;
@@ -218,7 +220,7 @@ module _ {S : Type 0} (N : Meaning S)
       so = record {
         notes = first.so.notes ++ k.steps.notes;
         leaves = cut_from PowerLoss k.steps.notes (k.goes_on.number ∙ number) k.steps.run;
-        left = both file (lower_of from) (lower_of mid) (lower_of to) first.so.notes k.steps.notes first.so.left k.steps.leaves;
+        left = both (Some PowerLoss) file (lower_of from) (lower_of mid) (lower_of to) first.so.notes k.steps.notes first.so.left k.steps.leaves;
         passes = passes_both from.power mid.power to.power first.so.passes k.steps.passes;
         named = k.steps.named;
       };
@@ -229,6 +231,8 @@ module _ {S : Type 0} (N : Meaning S)
         stopped = record {
           notes = first.so.notes ++ k.steps.part.notes;
           leaves = cut_from GivenUp k.steps.part.notes (k.goes_on.number ∙ number) k.steps.part.run;
+          left = both (Some GivenUp) file (lower_of from) (lower_of mid) (lower_of to) first.so.notes k.steps.part.notes first.so.left
+              k.steps.part.leaves;
         };
         rose = rose_after (N.faults from.machine.below) (N.faults mid.machine.below) (N.faults to.machine.below) first.later k.steps.rose;
         passes = passes_both from.power mid.power to.power first.so.passes k.steps.passes;
@@ -240,6 +244,7 @@ module _ {S : Type 0} (N : Meaning S)
       so = record {
         notes = first.so.notes ++ k.steps.notes;
         leaves = cut_from GivenUp k.steps.notes (k.goes_on.number ∙ number) k.steps.run;
+        left = both (Some GivenUp) file (lower_of from) (lower_of mid) (lower_of to) first.so.notes k.steps.notes first.so.left k.steps.leaves;
       };
       later = lasts Starved k;
     }

@@ -79,6 +79,7 @@ module _ {S : Type 0} (N : Meaning S) (file : File) (l : Layer) (o : Operation) 
       stopped = record {
         notes = k.steps.part.notes;
         leaves = falls k.goes_on.number GivenUp k.steps.part.notes (record { operation = o; is = is; fit = fit; step = k.steps.part.run });
+        left = k.steps.part.leaves;
       };
       rose = k.steps.rose;
       passes = k.steps.passes;
@@ -90,6 +91,7 @@ module _ {S : Type 0} (N : Meaning S) (file : File) (l : Layer) (o : Operation) 
     so = record {
       notes = k.steps.notes;
       leaves = falls k.goes_on.number GivenUp k.steps.notes (record { operation = o; is = is; fit = fit; step = k.steps.run });
+      left = k.steps.leaves;
     };
     later = k.goes_on.later;
   }

@@ -11,5 +11,5 @@ pub mod Serving
 pub mod Towering
 pub mod Stepping
 pub mod Fields
-pub mod Leaving
+pub mod Counting
 pub mod Seeing

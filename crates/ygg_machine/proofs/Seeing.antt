@@ -12,32 +12,26 @@ use Rattle.ygg_histories.specs.Noted.{Note}
 use Rattle.ygg_histories.specs.Mirror.{SameOn, Mirrors}
 use Rattle.ygg_eval_lower.specs.Layers.{signatures_at}
 use Rattle.ygg_eval_lower.specs.Lower.{Standing, Meaning, Ending, Whole, Down, Failed, Starved, Cause, PowerLoss, GivenUp, AfterWhole, Serves}
-use Rattle.ygg_machine.specs.Marks.{Mark, calls_of, IsMarked}
-use Rattle.ygg_machine.specs.Marked.{WholeBy, CutBy, LossBy}
-use Rattle.ygg_machine.specs.Leaves.{LeaveWhole, LeaveCut}
-use Rattle.ygg_machine.specs.FloorStacks.{Told, Retold, is_told}
+use Rattle.ygg_machine.specs.Leaves.{LeaveBy}
+use Rattle.ygg_machine.specs.FloorStacks.{Told, Retold, Renoted, is_told}
 use Rattle.ygg_machine.specs.Commands.{Command, formatting, calling, ticking, waking, Ended}
 use Rattle.ygg_machine.specs.Towers.{Rooted, CommandEnds, FormatEnds, StillStands, LosesPower}
 use Rattle.ygg_machine.specs.Bottoms.{bottom_on, FormatFalls, View, state_seen, ViewRuns, StillLooks, ViewEnds, ViewLoses, LosesAll, stage_seen, formats}
-use Rattle.ygg_machine.specs.Viewed.{Seen, SeesSteps, IsSeen, told_calls}
-use Rattle.ygg_machine.proofs.Leaving.{leaves_whole, leaves_cut}
+use Rattle.ygg_machine.specs.Viewed.{Seen, SeesSteps, IsSeen}
 
 -- commands of two machines, of which the one mirrors the other
-module _ {B C X Y : Type 0} (base : B → C) (tell : List X → List Y) (Whole Cut Loss : List X → Type 0) (M : Cause → Machine B X)
-    (N : Cause → Machine C Y) where
+module _ {B C X Y : Type 0} (base : B → C) (tell : List X → List Y) (M : Cause → Machine B X) (N : Cause → Machine C Y) where
   abbrev told : State B → State C
   told s = record { memories = s.memories; base = base s.base }
 
-  -- what the first command does and leaves the second does and leaves, and the notes of the first are marked
+  -- what the first command does and leaves the second does and leaves
   pub record Carries (first : Command B X) (second : Command C Y) : Type 0 where
     pub does : (cause : Cause) (s s' : State B) (notes : List X) (answer : Answer) → first.Does (M cause) s notes answer s' →
         second.Does (N cause) (told s) (tell notes) answer (told s')
     pub leaves : (cause : Cause) (s : State B) (notes : List X) (fallen : B) → first.Leaves cause (M cause) s notes fallen →
         second.Leaves cause (N cause) (told s) (tell notes) (base fallen)
-    pub whole : (s s' : State B) (notes : List X) (answer : Answer) → first.Does (M PowerLoss) s notes answer s' → Whole notes
-    pub cut : (s : State B) (notes : List X) (fallen : B) → first.Leaves PowerLoss (M PowerLoss) s notes fallen → Cut notes
 
-  module _ (U : (cause : Cause) → Mirrors (Told base) (Retold tell) (M cause) (N cause)) (marked : IsMarked Whole Cut Loss (M PowerLoss)) where
+  module _ (U : (cause : Cause) → Mirrors (Told base) (Retold tell) (M cause) (N cause)) where
     same : (s : State B) → SameOn (Told base) (told s) s
     same s = record { memories = refl; bases = refl }
 
@@ -51,8 +45,6 @@ module _ {B C X Y : Type 0} (base : B → C) (tell : List X → List Y) (Whole C
           let (g, ns, step, r, are) = (U cause).falls (told s) s name args notes fallen (same s) h in
           subst (λ (x : C). (N cause).Falls (told s) name args (tell notes) x) r
           (subst (λ (x : List Y). (N cause).Falls (told s) name args x g) are step);
-      whole = λ s s' notes answer h. marked.calls s s' name args notes answer h;
-      cut = λ s notes fallen h. marked.falls s name args notes fallen h;
     }
 
     pub ticking_carries : (name : TickName) → Carries (ticking name) (ticking name)
@@ -67,8 +59,6 @@ module _ {B C X Y : Type 0} (base : B → C) (tell : List X → List Y) (Whole C
           let (g, ns, step, r, are) = (U cause).tick_falls (told s) s name notes fallen (same s) h in
           subst (λ (x : C). (N cause).TickFalls (told s) name (tell notes) x) r
           (subst (λ (x : List Y). (N cause).TickFalls (told s) name x g) are step);
-      whole = λ s s' notes answer h. marked.ticks s s' name notes h.1;
-      cut = λ s notes fallen h. marked.tick_falls s name notes fallen h;
     }
 
     pub waking_carries : Carries waking waking
@@ -83,23 +73,18 @@ module _ {B C X Y : Type 0} (base : B → C) (tell : List X → List Y) (Whole C
           let (g, ns, step, r, are) = (U cause).wake_falls (base s.base) s.base fallen notes refl h in
           subst (λ (x : C). (N cause).WakeFalls (base s.base) (tell notes) x) r
           (subst (λ (x : List Y). (N cause).WakeFalls (base s.base) x g) are step);
-      whole = λ s s' notes answer h. marked.wakes s.base notes s' h.1;
-      cut = λ s notes fallen h. marked.wake_falls s.base fallen notes h;
     }
 
     pub formatting_carries : (Falls : Cause → List X → B → Type 0) (Also : Cause → List Y → C → Type 0) →
         ((cause : Cause) (notes : List X) (fallen : B) → Falls cause notes fallen → Also cause (tell notes) (base fallen)) →
-        ((notes : List X) (fallen : B) → Falls PowerLoss notes fallen → Cut notes) →
         Carries (formatting Falls) (formatting Also)
-    formatting_carries Falls Also also falls_marked = record {
+    formatting_carries Falls Also also = record {
       does = λ cause s s' notes answer h.
           let (t, ns, step, r, are) = (U cause).starts s' notes h.1 in (
             h.0,
             subst (λ (x : State C). (N cause).Starts x (tell notes)) (is_told base t s' r) (subst (λ (x : List Y). (N cause).Starts t x) are step),
           );
       leaves = λ cause s notes fallen h. also cause notes fallen h;
-      whole = λ s s' notes answer h. marked.starts s' notes h.1;
-      cut = λ s notes fallen h. falls_marked notes fallen h;
     }
 
 module _ {T : Type 0} (M : Meaning T) (R : T → Rooted T) (Stands : File → T → Type 0) (X : Seen T) (sees : IsSeen M R Stands X) (file : File)
@@ -123,32 +108,32 @@ module _ {T : Type 0} (M : Meaning T) (R : T → Rooted T) (Stands : File → T 
   high n cause = bottom_on X.means cause file (X.look from.machine).base n
 
   module _ (first : Command N.behavior.Base N.behavior.Note) (second : Command X.Ground Note)
-      (carry : Carries V.base (told_calls V.mark) (WholeBy V.mark) (CutBy V.mark) (LossBy V.mark) low (high (N.number from.machine)) first second) where
+      (carry : Carries V.base (map V.note) low (high (N.number from.machine)) first second) where
     abbrev Seen_so : Ending → Type 0
     Seen_so e = Ended (high (N.number from.machine)) second (stage_seen X.means file view from.power) (stage_seen X.means file view' to.power)
-        (λ notes. LeaveWhole X.means notes from.power to.power) (λ notes. LeaveCut X.means notes from.power to.power) e
+        (λ how notes. LeaveBy X.means how notes from.power to.power) e
 
     does_so : (cause : Cause) (notes : List N.behavior.Note) (answer : Answer) →
         first.Does (low cause) (N.behavior.state file from.machine) notes answer (N.behavior.state file to.machine) →
-        second.Does (high (N.number from.machine) cause) (state_seen file view) (told_calls V.mark notes) answer (state_seen file view')
+        second.Does (high (N.number from.machine) cause) (state_seen file view) (map V.note notes) answer (state_seen file view')
     does_so cause notes answer h =
         subst (λ (s : State X.Ground). second.Does (bottom_on X.means cause file (X.look from.machine).base (N.number from.machine)) s
-        (told_calls V.mark notes) answer
+        (map V.note notes) answer
         (state_seen file (X.look to.machine))) (V.state file from.machine)
         (subst (λ (s : State X.Ground). second.Does (bottom_on X.means cause file (X.look from.machine).base (N.number from.machine))
         (record { memories = (N.behavior.state file from.machine).memories; base = V.base (N.behavior.state file from.machine).base })
-        (told_calls V.mark notes) answer s)
+        (map V.note notes) answer s)
         (V.state file to.machine) (carry.does cause (N.behavior.state file from.machine) (N.behavior.state file to.machine) notes answer h))
 
     leaves_so : (cause : Cause) (notes : List N.behavior.Note) →
         first.Leaves cause (low cause) (N.behavior.state file from.machine) notes (N.behavior.state file to.machine).base →
-        second.Leaves cause (high (N.number from.machine) cause) (state_seen file view) (told_calls V.mark notes) view'.base
+        second.Leaves cause (high (N.number from.machine) cause) (state_seen file view) (map V.note notes) view'.base
     leaves_so cause notes h =
         subst (λ (s : State X.Ground). second.Leaves cause (bottom_on X.means cause file (X.look from.machine).base (N.number from.machine)) s
-        (told_calls V.mark notes) (X.look to.machine).base) (V.state file from.machine)
+        (map V.note notes) (X.look to.machine).base) (V.state file from.machine)
         (subst (λ (s : State X.Ground). second.Leaves cause (bottom_on X.means cause file (X.look from.machine).base (N.number from.machine))
         (record { memories = (N.behavior.state file from.machine).memories; base = V.base (N.behavior.state file from.machine).base })
-        (told_calls V.mark notes) s.base)
+        (map V.note notes) s.base)
         (V.state file to.machine) (carry.leaves cause (N.behavior.state file from.machine) notes (N.behavior.state file to.machine).base h))
 
     later_so : N.faults from.machine ≤ N.faults to.machine → X.means.faults view.base ≤ X.means.faults view'.base
@@ -164,22 +149,18 @@ module _ {T : Type 0} (M : Meaning T) (R : T → Rooted T) (Stands : File → T 
     seen_so : (e : Ending) → CommandEnds N file first e from to → Seen_so e
     seen_so (Whole answer) h = record {
       so = record {
-        notes = told_calls V.mark h.so.notes;
+        notes = map V.note h.so.notes;
         does = λ cause. does_so cause h.so.notes answer (h.so.does cause);
-        left = leaves_whole X.means (map V.mark h.so.notes) from.power to.power
-            (carry.whole (N.behavior.state file from.machine) (N.behavior.state file to.machine) h.so.notes answer (h.so.does PowerLoss))
-            (V.leaves file from to h.so.notes h.so.left);
+        left = V.leaves None file from to h.so.notes h.so.left;
         passes = h.so.passes;
       };
       later = later_so h.later;
     }
     seen_so Down h = record {
       so = record {
-        notes = told_calls V.mark h.so.notes;
+        notes = map V.note h.so.notes;
         leaves = leaves_so PowerLoss h.so.notes h.so.leaves;
-        left = leaves_cut X.means (map V.mark h.so.notes) from.power to.power
-            (carry.cut (N.behavior.state file from.machine) h.so.notes (N.behavior.state file to.machine).base h.so.leaves)
-            (V.leaves file from to h.so.notes h.so.left);
+        left = V.leaves (Some PowerLoss) file from to h.so.notes h.so.left;
         passes = h.so.passes;
         named = h.so.named;
       };
@@ -187,7 +168,11 @@ module _ {T : Type 0} (M : Meaning T) (R : T → Rooted T) (Stands : File → T 
     }
     seen_so Failed h = record {
       so = record {
-        stopped = record { notes = told_calls V.mark h.so.stopped.notes; leaves = leaves_so GivenUp h.so.stopped.notes h.so.stopped.leaves };
+        stopped = record {
+          notes = map V.note h.so.stopped.notes;
+          leaves = leaves_so GivenUp h.so.stopped.notes h.so.stopped.leaves;
+          left = V.leaves (Some GivenUp) file from to h.so.stopped.notes h.so.stopped.left;
+        };
         rose = rose_so h.so.rose;
         passes = h.so.passes;
         unnamed = h.so.unnamed;
@@ -195,38 +180,39 @@ module _ {T : Type 0} (M : Meaning T) (R : T → Rooted T) (Stands : File → T 
       later = later_so h.later;
     }
     seen_so Starved h = record {
-      so = record { notes = told_calls V.mark h.so.notes; leaves = leaves_so GivenUp h.so.notes h.so.leaves };
+      so = record {
+        notes = map V.note h.so.notes;
+        leaves = leaves_so GivenUp h.so.notes h.so.leaves;
+        left = V.leaves (Some GivenUp) file from to h.so.notes h.so.left;
+      };
       later = later_so h.later;
     }
 
-  mirrors : (cause : Cause) → Mirrors (Told V.base) (Retold (told_calls V.mark)) (low cause) (high (N.number from.machine) cause)
+  mirrors : (cause : Cause) → Mirrors (Told V.base) (Renoted V.note) (low cause) (high (N.number from.machine) cause)
   mirrors cause = V.steps cause file from.machine stands
-
-  marks : IsMarked (WholeBy V.mark) (CutBy V.mark) (LossBy V.mark) (low PowerLoss)
-  marks = V.marked file (N.number from.machine)
 
   at_height : (second : ℕ → Command X.Ground Note) (e : Ending) →
       Ended (high (N.number from.machine)) (second (N.number from.machine)) (stage_seen X.means file view from.power) (stage_seen X.means file view' to.power)
-      (λ notes. LeaveWhole X.means notes from.power to.power) (λ notes. LeaveCut X.means notes from.power to.power) e → ViewEnds X.means file (second view.height) e view from.power view' to.power
+      (λ how notes. LeaveBy X.means how notes from.power to.power) e → ViewEnds X.means file (second view.height) e view from.power view' to.power
   at_height second e h =
       subst (λ (n : ℕ). Ended (λ cause. bottom_on X.means cause file (X.look from.machine).base n) (second n)
       (stage_seen X.means file (X.look from.machine) from.power) (stage_seen X.means file (X.look to.machine) to.power)
-      (λ notes. LeaveWhole X.means notes from.power to.power) (λ notes. LeaveCut X.means notes from.power to.power) e) (V.number from.machine) h
+      (λ how notes. LeaveBy X.means how notes from.power to.power) e) (V.number from.machine) h
 
   pub call_seen : (name : Name) (args : List Value) (e : Ending) → CommandEnds N file (calling name args) e from to →
       ViewEnds X.means file (calling name args) e view from.power view' to.power
   call_seen name args e h =
       at_height (λ n. calling name args) e (seen_so (calling name args) (calling name args)
-      (calling_carries V.base (told_calls V.mark) (WholeBy V.mark) (CutBy V.mark) (LossBy V.mark) low (high (N.number from.machine)) mirrors marks name args) e h)
+      (calling_carries V.base (map V.note) low (high (N.number from.machine)) mirrors name args) e h)
 
   pub tick_seen : (name : TickName) (e : Ending) → CommandEnds N file (ticking name) e from to →
       ViewEnds X.means file (ticking name) e view from.power view' to.power
   tick_seen name e h =
       at_height (λ n. ticking name) e (seen_so (ticking name) (ticking name)
-      (ticking_carries V.base (told_calls V.mark) (WholeBy V.mark) (CutBy V.mark) (LossBy V.mark) low (high (N.number from.machine)) mirrors marks name) e h)
+      (ticking_carries V.base (map V.note) low (high (N.number from.machine)) mirrors name) e h)
 
   pub wake_seen : (e : Ending) → CommandEnds N file waking e from to → ViewEnds X.means file waking e view from.power view' to.power
-  wake_seen e h = at_height (λ n. waking) e (seen_so waking waking (waking_carries V.base (told_calls V.mark) (WholeBy V.mark) (CutBy V.mark) (LossBy V.mark) low (high (N.number from.machine)) mirrors marks) e h)
+  wake_seen e h = at_height (λ n. waking) e (seen_so waking waking (waking_carries V.base (map V.note) low (high (N.number from.machine)) mirrors) e h)
 
   pub format_seen : (e : Ending) → FormatEnds (R from.machine) file e from to →
       ViewEnds X.means file (formats X.means file view) e view from.power view' to.power
@@ -234,21 +220,20 @@ module _ {T : Type 0} (M : Meaning T) (R : T → Rooted T) (Stands : File → T 
       at_height (λ n. formatting (λ cause notes fallen. FormatFalls X.means cause file (X.look from.machine).base n notes fallen)) e
       (seen_so (formatting (λ cause notes fallen. (R from.machine).FormatFalls cause file notes fallen))
       (formatting (λ cause notes fallen. FormatFalls X.means cause file (X.look from.machine).base (N.number from.machine) notes fallen))
-      (formatting_carries V.base (told_calls V.mark) (WholeBy V.mark) (CutBy V.mark) (LossBy V.mark) low (high (N.number from.machine)) mirrors marks
+      (formatting_carries V.base (map V.note) low (high (N.number from.machine)) mirrors
       (λ cause notes fallen. (R from.machine).FormatFalls cause file notes fallen)
       (λ cause notes fallen. FormatFalls X.means cause file (X.look from.machine).base (N.number from.machine) notes fallen)
-      (λ cause notes fallen falls. V.falls cause file notes fallen stands falls) (λ notes fallen falls. V.falls_marked file notes fallen falls)) e h)
+      (λ cause notes fallen falls. V.falls cause file notes fallen stands falls)) e h)
 
-  pub lose_seen : (notes : List N.behavior.Note) →
-      (N.behavior.machine PowerLoss file (N.number from.machine)).Loses (N.behavior.state file from.machine) notes (N.behavior.state file to.machine).base →
+  pub lose_seen : (N.behavior.machine PowerLoss file (N.number from.machine)).Loses (N.behavior.state file from.machine) []
+      (N.behavior.state file to.machine).base →
       ViewLoses X.means file view view'
-  lose_seen notes h =
+  lose_seen h =
       let (g, ns, step, r, are) = (mirrors PowerLoss).loses (record {
         memories = (N.behavior.state file from.machine).memories;
         base = V.base (N.behavior.state file from.machine).base;
-      }) (N.behavior.state file from.machine) notes (N.behavior.state file to.machine).base (record { memories = refl; bases = refl }) h in
-      let none : ns ≡ [] = are ∙ ap (λ (ms : List Mark). calls_of ms) (marks.loses (N.behavior.state file from.machine) notes
-      (N.behavior.state file to.machine).base h) in
+      }) (N.behavior.state file from.machine) [] (N.behavior.state file to.machine).base (record { memories = refl; bases = refl }) h in
+      let none : ns ≡ [] = are in
       let here = subst (λ (x : X.Ground). (bottom_on X.means PowerLoss file (X.look from.machine).base (N.number from.machine)).Loses (record {
         memories = (N.behavior.state file from.machine).memories;
         base = V.base (N.behavior.state file from.machine).base;
@@ -301,7 +286,7 @@ loses_seen {T} M R Stands X sees from to h =
         stands = sees.stood file to (h.stands file (sees.stands file from v));
       };
       lost = λ file v. lose_seen M R Stands X sees file (record { machine = from; power = unlit }) (record { machine = to; power = unlit })
-          (sees.stands file from v) (h.lost file (sees.stands file from v)).0 (h.lost file (sees.stands file from v)).1;
+          (sees.stands file from v) (h.lost file (sees.stands file from v));
     }
 
 -- a call of the operation at a place

@@ -1,5 +1,5 @@
 -- What a layer's block does on a machine below it does on one that means the same.
-use Rattle.std.proofs.Common.{◌≡◌, ℕ, ◌≤◌, IsTrue, List, map, sym, ap, ◌∙◌, subst}
+use Rattle.std.proofs.Common.{◌≡◌, ℕ, ◌≤◌, IsTrue, List, map, Some, None, sym, ap, ◌∙◌, subst}
 use Rattle.ygg_base.specs.Outside.{Rose}
 use Rattle.ygg_value.specs.declared.row.Value.{Value}
 use Rattle.ygg_syntax.specs.declared.tree.Block.{Block}
@@ -45,7 +45,8 @@ module _ {S : Type 0} (M N : Meaning S) (Stands : File → S → Type 0) (T : Te
       (subst (λ (x : State N.behavior.Base). BlockRuns (closed_at file (place_of M from.machine) l)
       (N.behavior.machine cause file (place_of M from.machine)) b (bind ds vs)
       (told (state_on M file (place_of M from.machine) l from.machine)) (map T.note notes) answer x) (sym (state_told to.machine))
-      (block_told T.base (map T.note) (renoted_joined T.note) (M.behavior.machine cause file (place_of M from.machine)) (N.behavior.machine cause file (place_of M from.machine))
+      (block_told T.base (map T.note) (renoted_joined T.note) (M.behavior.machine cause file (place_of M from.machine))
+      (N.behavior.machine cause file (place_of M from.machine))
       (T.steps cause file from.machine.below stands) L b ds vs fit (state_on M file place l from.machine) (state_on M file place l to.machine) notes
       answer r))
 
@@ -60,7 +61,8 @@ module _ {S : Type 0} (M N : Meaning S) (Stands : File → S → Type 0) (T : Te
       (subst (λ (x : State N.behavior.Base). BlockFalls (closed_at file (place_of M from.machine) l)
       (N.behavior.machine cause file (place_of M from.machine)) b (bind ds vs)
       (told (state_on M file (place_of M from.machine) l from.machine)) (map T.note notes) x.base) (sym (T.state file to.machine.below))
-      (fall_told T.base (map T.note) (renoted_joined T.note) (M.behavior.machine cause file (place_of M from.machine)) (N.behavior.machine cause file (place_of M from.machine))
+      (fall_told T.base (map T.note) (renoted_joined T.note) (M.behavior.machine cause file (place_of M from.machine))
+      (N.behavior.machine cause file (place_of M from.machine))
       (T.steps cause file from.machine.below stands) L b ds vs fit (state_on M file place l from.machine) (M.behavior.state file to.machine.below).base
       notes r))
 
@@ -75,20 +77,24 @@ module _ {S : Type 0} (M N : Meaning S) (Stands : File → S → Type 0) (T : Te
       (subst (λ (n : ℕ). Rose (M.faults from.machine.below) n) (sym (T.faults to.machine.below)) h)
 
   in_part_told : BlockInPart M file place l b (bind ds vs) from to → BlockInPart N file place l b (bind ds vs) from to
-  in_part_told p = record { notes = map T.note p.notes; run = falls_told GivenUp p.notes p.run }
+  in_part_told p = record {
+    notes = map T.note p.notes;
+    run = falls_told GivenUp p.notes p.run;
+    leaves = T.leaves (Some GivenUp) file (lower_of from) (lower_of to) p.notes p.leaves;
+  }
 
   steps_told : (e : Ending) → BlockSteps M file place l b (bind ds vs) from to e → BlockSteps N file place l b (bind ds vs) from to e
   steps_told (Whole answer) k = record {
     notes = map T.note k.notes;
     run = λ cause. whole_told cause k.notes answer (k.run cause);
-    leaves = T.leaves file (lower_of from) (lower_of to) k.notes k.leaves;
+    leaves = T.leaves None file (lower_of from) (lower_of to) k.notes k.leaves;
     passes = k.passes;
     fit = k.fit;
   }
   steps_told Down k = record {
     notes = map T.note k.notes;
     run = falls_told PowerLoss k.notes k.run;
-    leaves = T.leaves file (lower_of from) (lower_of to) k.notes k.leaves;
+    leaves = T.leaves (Some PowerLoss) file (lower_of from) (lower_of to) k.notes k.leaves;
     passes = k.passes;
     named = k.named;
   }

@@ -77,6 +77,7 @@ module _ {S : Type 0} (N : Meaning S) (file : File) (l : Layer) (name : TickName
         stopped = record {
           notes = k.steps.part.notes;
           leaves = falls k.goes_on.number GivenUp k.steps.part.notes (inl (record { tick = t; here = here; is = is; step = k.steps.part.run }));
+          left = k.steps.part.leaves;
         };
         rose = k.steps.rose;
         passes = k.steps.passes;
@@ -88,6 +89,7 @@ module _ {S : Type 0} (N : Meaning S) (file : File) (l : Layer) (name : TickName
       so = record {
         notes = k.steps.notes;
         leaves = falls k.goes_on.number GivenUp k.steps.notes (inl (record { tick = t; here = here; is = is; step = k.steps.run }));
+        left = k.steps.leaves;
       };
       later = k.goes_on.later;
     }
@@ -140,11 +142,16 @@ module _ {S : Type 0} (N : Meaning S) (file : File) (l : Layer) (name : TickName
     }
     ticks_under Failed e = record {
       so = record {
-        stopped = record { notes = e.so.stopped.notes; leaves = cut_under GivenUp e.so.stopped.notes e.so.stopped.leaves };
+        stopped = record {
+          notes = e.so.stopped.notes;
+          leaves = cut_under GivenUp e.so.stopped.notes e.so.stopped.leaves;
+          left = e.so.stopped.left;
+        };
         rose = e.so.rose;
         passes = e.so.passes;
         unnamed = e.so.unnamed;
       };
       later = e.later;
     }
-    ticks_under Starved e = record { so = record { notes = e.so.notes; leaves = cut_under GivenUp e.so.notes e.so.leaves }; later = e.later }
+    ticks_under Starved e =
+        record { so = record { notes = e.so.notes; leaves = cut_under GivenUp e.so.notes e.so.leaves; left = e.so.left }; later = e.later }

@@ -1,5 +1,5 @@
 -- A layer on a tower: its formatting, its waking and its background steps, as commands of the layers on the ground.
-use Rattle.std.proofs.Common.{◌≡◌, ℕ, suc, ◌<◌, true, List, [], length, slice_get, Some, option_map, inl, inr, refl, sym, ap, ◌∙◌, subst}
+use Rattle.std.proofs.Common.{◌≡◌, ℕ, suc, ◌<◌, true, [], length, slice_get, Some, option_map, inl, inr, refl, sym, ap, ◌∙◌, subst}
 use Rattle.ygg_syntax.specs.declared.tree.Block.{Block}
 use Rattle.ygg_syntax.specs.declared.tree.Layer.{Layer}
 use Rattle.ygg_syntax.specs.declared.tree.Tick.{Tick}
@@ -193,23 +193,19 @@ module _ {S : Type 0} (M : Meaning S) (R : S → Rooted S) (Stands : File → S 
   number_kept = let T = stacks.tells from.below in sym (T.number to.below) ∙ h.number ∙ T.number from.below
 
   lost_there : (file : File) → StandsOn M Stands file from →
-      (notes : List (R from.below).meaning.behavior.Note)
-      × ((floor_meaning (R from.below).meaning).behavior.machine PowerLoss file ((floor_meaning (R from.below).meaning).number from)).Loses
-      ((floor_meaning (R from.below).meaning).behavior.state file from) notes
+      ((floor_meaning (R from.below).meaning).behavior.machine PowerLoss file ((floor_meaning (R from.below).meaning).number from)).Loses
+      ((floor_meaning (R from.below).meaning).behavior.state file from) []
       ((floor_meaning (R from.below).meaning).behavior.state file to).base
   lost_there file stands =
       let (l, there) = layer_there file (place_of M from) stands.there in
-      let (notes, falls) = h.lost file stands.below in (
-        notes,
-        at_place (R from.below).meaning file (λ X s s'. X.Loses s notes s'.base) ((R from.below).meaning.behavior.machine PowerLoss file
-            (place_of (R from.below).meaning from)) l from to
-            (ap (λ (n : ℕ). slice_get file.layers n) ((stacks.tells from.below).number from.below) ∙ there) h.number (record {
-              memory = bind l.memory from.memory;
-              lower = (R from.below).meaning.behavior.state file from.below;
-              from_is = refl;
-              falls = falls;
-            }),
-      )
+      at_place (R from.below).meaning file (λ X s s'. X.Loses s [] s'.base) ((R from.below).meaning.behavior.machine PowerLoss file
+      (place_of (R from.below).meaning from)) l from to
+      (ap (λ (n : ℕ). slice_get file.layers n) ((stacks.tells from.below).number from.below) ∙ there) h.number (record {
+        memory = bind l.memory from.memory;
+        lower = (R from.below).meaning.behavior.state file from.below;
+        from_is = refl;
+        falls = h.lost file stands.below;
+      })
 
   -- power loss between commands
   pub loses_power : LosesPower (floor_meaning (R from.below).meaning) (StandsOn M Stands) from to

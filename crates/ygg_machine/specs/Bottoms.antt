@@ -11,7 +11,7 @@ use Rattle.ygg_meaning.specs.Shapes.{values_fit}
 use Rattle.ygg_histories.specs.Noted.{Note}
 use Rattle.ygg_eval_lower.specs.Lower.{Cause, PowerLoss, Ending}
 use Rattle.ygg_machine.specs.GroundSteps.{ground_machine}
-use Rattle.ygg_machine.specs.Leaves.{LeaveWhole, LeaveCut}
+use Rattle.ygg_machine.specs.Leaves.{LeaveBy}
 use Rattle.ygg_machine.specs.Grounded.{HasRows}
 use Rattle.ygg_machine.specs.Floors.{memory_at, layer_over}
 use Rattle.ygg_machine.specs.Commands.{Stage, Command, formatting, Ended}
@@ -75,12 +75,12 @@ module _ {S : Type 0} (G : disk.Meaning S) (file : File) where
   abbrev pub stage_seen : View S → Power → Stage S
   stage_seen v power = record { state = state_seen file v; faults = G.faults v.base; power = power }
 
-  -- A command ended so, as one of the layers on the ground, and left this of `power`: where it was whole, so were all its disk calls, and the fuse named
-  -- none of them; where power failed in it, that was where the fuse says.
+  -- A command ended so, as one of the layers on the ground, and its disk calls left this of `power`: where it was whole, so were they all, and the fuse
+  -- named none of them; where power failed in it, that was where the fuse says; where it was given up, all were whole but at most the last, which failed.
   abbrev pub ViewEnds : Command S Note → Ending → View S → Power → View S → Power → Type 0
   ViewEnds command ending v power v' power' =
       Ended (λ cause. bottom_on G cause file v.base v.height) command (stage_seen v power) (stage_seen v' power')
-      (λ notes. LeaveWhole G notes power power') (λ notes. LeaveCut G notes power power') ending
+      (λ how notes. LeaveBy G how notes power power') ending
 
   -- formatting, where this is left of one that is cut
   abbrev pub formats : View S → Command S Note

@@ -1,5 +1,5 @@
 -- What a command does to a machine: formatting, a call, a background step, waking.
-use Rattle.std.specs.Prelude.{◌≡◌, ℕ, ◌≤◌, ◌<◌, List, length, Some, None, slice_get}
+use Rattle.std.specs.Prelude.{◌≡◌, ℕ, ◌≤◌, ◌<◌, List, length, Option, Some, None, slice_get}
 use Rattle.ygg_base.specs.Outside.{Rose}
 use Rattle.ygg_value.specs.declared.row.Value.{Value}
 use Rattle.ygg_syntax.specs.declared.tree.Layer.{Layer}
@@ -52,21 +52,21 @@ pub record Stage (B : Type 0) : Type 0 where
   pub faults : ℕ
   pub power : Power
 
--- A machine, which by the cause says what a step leaves that is cut, does a command. The last two say what notes leave of power: those of a whole
--- command, and those of one that power cuts.
-module _ {B X : Type 0} (M : Cause → Machine B X) (command : Command B X) (from to : Stage B) (Left LeftCut : List X → Type 0) where
+-- A machine, which by the cause says what a step leaves that is cut, does a command. The last says what notes leave of power: those of a whole command,
+-- and those of one that is cut for a cause.
+module _ {B X : Type 0} (M : Cause → Machine B X) (command : Command B X) (from to : Stage B) (Left : Option Cause → List X → Type 0) where
   -- it was whole
   pub record Done (answer : Answer) : Type 0 where
     pub notes : List X
     pub does : (cause : Cause) → command.Does (M cause) from.state notes answer to.state
-    pub left : Left notes
+    pub left : Left None notes
     pub passes : Passes from.power to.power
 
   -- power failed in it, at the call that the fuse names
   pub record Fell : Type 0 where
     pub notes : List X
     pub leaves : command.Leaves PowerLoss (M PowerLoss) from.state notes to.state.base
-    pub left : LeftCut notes
+    pub left : Left (Some PowerLoss) notes
     pub passes : Passes from.power to.power
     pub named : IsNamed to.power
 
@@ -74,6 +74,7 @@ module _ {B X : Type 0} (M : Cause → Machine B X) (command : Command B X) (fro
   pub record Stopped : Type 0 where
     pub notes : List X
     pub leaves : command.Leaves GivenUp (M GivenUp) from.state notes to.state.base
+    pub left : Left (Some GivenUp) notes
 
   -- what lies below failed, before the fuse's call was reached
   pub record Broke : Type 0 where

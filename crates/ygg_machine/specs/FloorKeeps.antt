@@ -53,7 +53,7 @@ module _ {S : Type 0} (M : Meaning S) (file : File) (place : ℕ) where
     pub record BlockWhole (answer : Answer) : Type 0 where
       pub notes : List M.behavior.Note
       pub run : (cause : Cause) → BlockRuns (closed_at file place l) (Below cause) b args (state_on l from.machine) notes answer (state_on l to.machine)
-      pub leaves : M.behavior.Leaves file (lower_of from) notes (lower_of to)
+      pub leaves : M.behavior.Leaves None file (lower_of from) notes (lower_of to)
       pub passes : Passes from.power to.power
       pub fit : IsTrue (values_fit l.memory to.machine.memory)
 
@@ -61,7 +61,7 @@ module _ {S : Type 0} (M : Meaning S) (file : File) (place : ℕ) where
     pub record BlockDown : Type 0 where
       pub notes : List M.behavior.Note
       pub run : BlockFalls (closed_at file place l) (Below PowerLoss) b args (state_on l from.machine) notes (state_on l to.machine).base
-      pub leaves : M.behavior.Leaves file (lower_of from) notes (lower_of to)
+      pub leaves : M.behavior.Leaves (Some PowerLoss) file (lower_of from) notes (lower_of to)
       pub passes : Passes from.power to.power
       pub named : IsNamed to.power
 
@@ -69,6 +69,7 @@ module _ {S : Type 0} (M : Meaning S) (file : File) (place : ℕ) where
     pub record BlockInPart : Type 0 where
       pub notes : List M.behavior.Note
       pub run : BlockFalls (closed_at file place l) (Below GivenUp) b args (state_on l from.machine) notes (state_on l to.machine).base
+      pub leaves : M.behavior.Leaves (Some GivenUp) file (lower_of from) notes (lower_of to)
 
     -- what lies below failed
     pub record BlockBroke : Type 0 where
@@ -134,7 +135,7 @@ module _ {S : Type 0} (M : Meaning S) (keeps : IsLower M) (file : File) (l : Lay
 
   in_part : RunsInPart M file place block l.memory from.machine.memory to.machine.memory (lower_of from) (lower_of to) → BlockInPart M file place l b
       args from to
-  in_part p = record { notes = p.notes; run = falls GivenUp p.notes p.run }
+  in_part p = record { notes = p.notes; run = falls GivenUp p.notes p.run; leaves = p.leaves }
 
   by_result : (result : Result Ended NoMemory) →
       RunSteps M file place block l.memory from.machine.memory to.machine.memory (lower_of from) (lower_of to) result →
@@ -239,14 +240,19 @@ module _ {S : Type 0} (M : Meaning S) (keeps : IsLower M) (file : File) (from to
   call_kept Failed k = record {
     goes_on = on_number k.goes_on;
     steps = (
-      record { notes = k.steps.part.notes; within = true; step = falling k.goes_on GivenUp k.steps.part.notes k.steps.part.run },
+      record {
+        notes = k.steps.part.notes;
+        within = true;
+        step = falling k.goes_on GivenUp k.steps.part.notes k.steps.part.run;
+        leaves = k.steps.part.leaves;
+      },
       k.steps.rose,
     );
     power = (k.steps.passes, k.steps.unnamed);
   }
   call_kept Starved k = record {
     goes_on = on_number k.goes_on;
-    steps = record { notes = k.steps.notes; within = true; step = falling k.goes_on GivenUp k.steps.notes k.steps.run };
+    steps = record { notes = k.steps.notes; within = true; step = falling k.goes_on GivenUp k.steps.notes k.steps.run; leaves = k.steps.leaves };
     power = tt;
   }
 
@@ -271,6 +277,7 @@ floor_keeps M keeps = record {
   falls = λ file from to name args outage h. absurd h;
   loses = λ file from to outage h. absurd h;
   rests = rests_over M keeps;
+  leaves_rest = λ file at. keeps.leaves_rest file (lower_of at);
   leaves_none = λ file at. keeps.leaves_none file (lower_of at);
-  leaves_both = λ file from at to first second a b. keeps.leaves_both file (lower_of from) (lower_of at) (lower_of to) first second a b;
+  leaves_both = λ how file from at to first second a b. keeps.leaves_both how file (lower_of from) (lower_of at) (lower_of to) first second a b;
 }

@@ -27,8 +27,9 @@ use Rattle.ygg_eval_lower.specs.Conversations.{Asking, Exchange, Exchanged, Answ
 use Rattle.ygg_eval_block.specs.Runs.{Came, EndedIn, RunEnds}
 use Rattle.ygg_eval_block.specs.declared.run.Ended.{Ended}
 use Rattle.ygg_eval_block.specs.declared.run.Ended.TheVariants as ended
-use Rattle.ygg_machine.specs.GroundSteps.{ground_steps, ground_calls}
-use Rattle.ygg_machine.specs.Marks.{Mark, marked_machine, LeaveMarks}
+use Rattle.ygg_meaning.specs.DiskMachine.{machine_on}
+use Rattle.ygg_machine.specs.GroundSteps.{ground_steps, ground_machine, ground_calls}
+use Rattle.ygg_machine.specs.Leaves.{LeaveBy}
 use Rattle.ygg_machine.specs.Grounded.{HasRows, ground_meaning, ground_from}
 use Rattle.ygg_machine.specs.Floors.{Raised, lower_of, memory_at, place_of, idle_on, layer_over, CallsFloor, floor_meaning}
 use Rattle.ygg_machine.specs.GroundKeeps.{ground_keeps}
@@ -60,11 +61,11 @@ is_told {B} {C} base t s r =
 pub same_state : {B : Type 0} (t s : State B) → SameOn (Told (λ (b : B). b)) t s → t ≡ s
 same_state {B} t s r = is_told (λ (b : B). b) t s r
 
-module _ {S : Type 0} (G : ground.Meaning S) where
-  same_marks : (a : List Mark) → a ≡ map the_same a
-  same_marks [] = refl
-  same_marks (m ∷ ms) = ap (λ l. m ∷ l) (same_marks ms)
+pub same_notes : {X : Type 0} (a : List X) → a ≡ map the_same a
+same_notes [] = refl
+same_notes (n ∷ ns) = ap (λ l. n ∷ l) (same_notes ns)
 
+module _ {S : Type 0} (G : ground.Meaning S) where
   -- calls from whatever state are those from one
   calls_from : (cause : Cause) (start s s' : S) (call : disk.Call) (notes : List Note) (reply : disk.Reply) →
       (ground_steps G cause s).Calls s call notes reply s' → (ground_steps G cause start).Calls s call notes reply s'
@@ -84,35 +85,35 @@ module _ {S : Type 0} (G : ground.Meaning S) where
   itself s = record { memories = refl; bases = refl }
 
   module _ (cause : Cause) (start : S) where
-    abbrev from_any : Machine S Mark
-    from_any = marked_machine cause (ground_calls G cause)
+    abbrev from_any : Machine S Note
+    from_any = machine_on (ground_calls G cause)
 
-    abbrev from_one : Machine S Mark
-    from_one = marked_machine cause (ground_steps G cause start)
+    abbrev from_one : Machine S Note
+    from_one = ground_machine G cause start
 
     started : Mirrors (Told the_same) (Renoted the_same) from_any from_one
     started = record {
       starts = λ s a (b, none, is, h). absurd h;
-      calls = λ t s s' name args a answer r (b, b', call, reply, named, is, (notes, marks, h), y, to). (
+      calls = λ t s s' name args a answer r (b, b', call, reply, named, is, h, y, to). (
         s',
         a,
         subst (λ x. from_one.Calls x name args a answer s') (sym (same_state t s r))
-            (b, b', call, reply, named, is, (notes, marks, calls_from cause start b b' call notes reply h), y, to),
+            (b, b', call, reply, named, is, calls_from cause start b b' call a reply h, y, to),
         itself s',
-        same_marks a,
+        same_notes a,
       );
-      falls = λ t s name args a f r (b, call, named, is, (notes, marks, h)). (
+      falls = λ t s name args a f r (b, call, named, is, h). (
         f,
         a,
-        subst (λ x. from_one.Falls x name args a f) (sym (same_state t s r)) (b, call, named, is, (notes, marks, falls_from cause start b f call notes h)),
+        subst (λ x. from_one.Falls x name args a f) (sym (same_state t s r)) (b, call, named, is, falls_from cause start b f call a h),
         refl,
-        same_marks a,
+        same_notes a,
       );
       ticks = λ t s s' name a r h. absurd h;
       tick_falls = λ t s name a f r h. absurd h;
-      loses = λ t s a f r (b, marks, is, h).
-          (f, a, subst (λ x. from_one.Loses x a f) (sym (same_state t s r)) (b, marks, is, loses_from cause start b f h), refl, same_marks a);
-      wakes = λ g f a s r h. (s, a, subst (λ x. from_one.Wakes x a s) (sym r) h, itself s, same_marks a);
+      loses = λ t s a f r (b, none, is, h).
+          (f, a, subst (λ x. from_one.Loses x a f) (sym (same_state t s r)) (b, none, is, loses_from cause start b f h), refl, same_notes a);
+      wakes = λ g f a s r h. (s, a, subst (λ x. from_one.Wakes x a s) (sym r) h, itself s, same_notes a);
       wake_falls = λ g f f' a r h. absurd h;
     }
 
@@ -123,8 +124,7 @@ module _ {S : Type 0} (G : ground.Meaning S) where
     number = λ s. refl;
     faults = λ s. refl;
     state = λ file s. refl;
-    leaves = λ file from to marks h. subst (λ ms. LeaveMarks G ms from.power to.power) (same_marks marks) h;
-    leaves_none = (ground_keeps G).leaves_none;
+    leaves = λ how file from to notes h. subst (λ ns. LeaveBy G how ns from.power to.power) (same_notes notes) h;
     leaves_both = (ground_keeps G).leaves_both;
     steps = λ cause file s h. started cause start;
   }
@@ -236,9 +236,8 @@ module _ {S : Type 0} (M N : Meaning S) (Stands : File → S → Type 0) (keeps 
     number = λ s. ap suc (T.number s.below);
     faults = λ s. T.faults s.below;
     state = state_there;
-    leaves = λ file from to notes h. T.leaves file (lower_of from) (lower_of to) notes h;
-    leaves_none = λ file at. T.leaves_none file (lower_of at);
-    leaves_both = λ file from at to first second a b. T.leaves_both file (lower_of from) (lower_of at) (lower_of to) first second a b;
+    leaves = λ how file from to notes h. T.leaves how file (lower_of from) (lower_of to) notes h;
+    leaves_both = λ how file from at to first second a b. T.leaves_both how file (lower_of from) (lower_of at) (lower_of to) first second a b;
     steps = steps_there;
   }
 

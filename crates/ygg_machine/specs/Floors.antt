@@ -148,7 +148,7 @@ module _ {S : Type 0} (M : Meaning S) where
     Note = M.behavior.Note;
     machine = floor_machine;
     state = λ file s. on (bind (memory_at file (place_of s)) s.memory) (M.behavior.state file s.below);
-    Leaves = λ file from notes to. M.behavior.Leaves file (lower_of from) notes (lower_of to);
+    Leaves = λ how file from notes to. M.behavior.Leaves how file (lower_of from) notes (lower_of to);
   }
 
   -- a layer on the machine below. It can't be stopped: its falls come by the fuse

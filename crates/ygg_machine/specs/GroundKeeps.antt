@@ -8,6 +8,7 @@ use Rattle.std.specs.Prelude.{
   ◌<◌,
   ◌≤◌,
   ◌^◌,
+  ◌⊎◌,
   Bool,
   true,
   false,
@@ -24,7 +25,7 @@ use Rattle.std.specs.Prelude.{
   Ok,
   Err,
 }
-use Rattle.std.proofs.Common.{inl, inr, refl, sym, ap, ◌∙◌, subst, arith}
+use Rattle.std.proofs.Common.{inl, inr, refl, sym, ap, ◌∙◌, subst, arith, append_assoc}
 use Rattle.std.proofs.Math.Nat.{le_refl, le-min, min-le_left}
 use Rattle.ygg_list.specs.declared.memory.NoMemory.{NoMemory}
 use Rattle.ygg_value.specs.declared.row.Value.{Value}
@@ -33,7 +34,7 @@ use Rattle.ygg_syntax.specs.declared.tree.File.{File}
 use Rattle.ygg_disk.specs.Disk as disk
 use Rattle.ygg_disk.specs.Ground as ground
 use Rattle.ygg_disk.specs.Fate.{IsFate}
-use Rattle.ygg_disk.specs.Power.{IsNamed, counted}
+use Rattle.ygg_disk.specs.Power.{IsNamed, Begun, BegunInVain, counted}
 use Rattle.ygg_disk.specs.declared.fate.Fate.TheVariants as fate
 use Rattle.ygg_disk.specs.declared.power.Fuse.{Fuse}
 use Rattle.ygg_disk.specs.declared.power.Picks.{Picks}
@@ -43,6 +44,7 @@ use Rattle.ygg_disk.specs.declared.turn.Turn.{Turn}
 use Rattle.ygg_disk.specs.declared.turn.Turn.TheVariants as turn
 use Rattle.ygg_meaning.specs.Environments.{Name}
 use Rattle.ygg_meaning.specs.DiskMachine.{disk_call, answer_to}
+use Rattle.ygg_histories.specs.Noted.{Note}
 use Rattle.ygg_eval_lower.specs.Lower.{
   Standing,
   Ending,
@@ -59,7 +61,7 @@ use Rattle.ygg_eval_lower.specs.Lower.{
   IsLower,
 }
 use Rattle.ygg_machine.specs.GroundSteps.{ground_calls}
-use Rattle.ygg_machine.specs.Marks.{Mark, Began, Lost, LeaveMarks}
+use Rattle.ygg_machine.specs.Leaves.{LeaveWhole, LeaveBy}
 use Rattle.ygg_machine.specs.Grounded.{CallsGround, ground_meaning}
 
 -- the count of whole calls doesn't fall, and rises by one at most
@@ -123,11 +125,54 @@ fuse_burns G call before after picks None passed events power' d = absurd d
 fuse_burns G call before after picks (Some f) passed events power' d = (f, refl, d)
 
 module _ {S : Type 0} (G : ground.Meaning S) where
-  -- what calls leave of power, one list after another
-  leave_both : (first second : List Mark) (from at to : Power) → LeaveMarks G first from at → LeaveMarks G second at to →
-      LeaveMarks G (first ++ second) from to
-  leave_both [] second from at to a b = subst (λ (p : Power). LeaveMarks G second p to) a b
-  leave_both (m ∷ ms) second from at to (next, begun, a) b = (next, begun, leave_both ms second next at to a b)
+  -- what calls leave of power after whole ones
+  leave_both : (first second : List Note) (a b c : Power) → LeaveWhole G first a b → LeaveWhole G second b c → LeaveWhole G (first ++ second) a c
+  leave_both [] second a b c x y = subst (λ (p : Power). LeaveWhole G second p c) x y
+  leave_both (n ∷ ns) second a b c (whole, unnamed, next, begun, x) y = (whole, unnamed, next, begun, leave_both ns second next b c x y)
+
+  after_both : (first notes whole rest : List Note) → notes ≡ whole ++ rest → first ++ notes ≡ (first ++ whole) ++ rest
+  after_both first notes whole rest is = ap (λ (ns : List Note). first ++ ns) is ∙ sym (append_assoc first whole rest)
+
+  -- how calls end that power cuts: within a last one, or before it
+  abbrev LastCut : Bool → List Note → List Note → Power → Power → Type 0
+  LastCut within notes whole at after =
+      MatchBool within ((last : Note) × (last.cut ≡ true) × (notes ≡ whole ++ last ∷ []) × Begun G.follows true last.call last.picks at after)
+      ((notes ≡ whole) × (after ≡ at))
+
+  last_cut : (within : Bool) (first notes whole : List Note) (at after : Power) → LastCut within notes whole at after →
+      LastCut within (first ++ notes) (first ++ whole) at after
+  last_cut true first notes whole at after (last, cut, is, begun) = (last, cut, after_both first notes whole (last ∷ []) is, begun)
+  last_cut false first notes whole at after (is, same) = (ap (λ (ns : List Note). first ++ ns) is, same)
+
+  -- how calls end that are given up: with a last one that failed, or without
+  abbrev LastInPart : List Note → List Note → Power → Power → Type 0
+  LastInPart notes whole at after =
+      ((notes ≡ whole) × (after ≡ at))
+      ⊎ ((call : disk.Call) × (notes ≡ whole ++ record { call = call; cut = true; picks = [] } ∷ []) × ¬ IsNamed at × BegunInVain call at after)
+
+  last_in_part : (first notes whole : List Note) (at after : Power) → LastInPart notes whole at after → LastInPart (first ++ notes) (first ++ whole) at after
+  last_in_part first notes whole at after (inl (is, same)) = inl (ap (λ (ns : List Note). first ++ ns) is, same)
+  last_in_part first notes whole at after (inr (call, is, unnamed, vain)) =
+      inr (call, after_both first notes whole (record { call = call; cut = true; picks = [] } ∷ []) is, unnamed, vain)
+
+  leave_then : (how : Option Cause) (first second : List Note) (a b c : Power) → LeaveWhole G first a b → LeaveBy G how second b c →
+      LeaveBy G how (first ++ second) a c
+  leave_then None first second a b c x y = leave_both first second a b c x y
+  leave_then (Some PowerLoss) first second a b c x y = record {
+    whole = first ++ y.whole;
+    at = y.at;
+    leaves = leave_both first y.whole a b y.at x y.leaves;
+    fuse = y.fuse;
+    set = y.set;
+    named = y.named;
+    last = last_cut y.fuse.within first second y.whole y.at c y.last;
+  }
+  leave_then (Some GivenUp) first second a b c x y = record {
+    whole = first ++ y.whole;
+    at = y.at;
+    leaves = leave_both first y.whole a b y.at x y.leaves;
+    last = last_in_part first second y.whole y.at c y.last;
+  }
 
   module _ (file : File) (from to : Standing S) (name : Name) (args : List Value) (call : disk.Call) (is : disk_call name args ≡ Some call)
       (later : G.faults from.machine ≤ G.faults to.machine) (counts : from.power.passed < 2 ^ 64) where
@@ -144,19 +189,9 @@ module _ {S : Type 0} (G : ground.Meaning S) where
     whole reply w unnamed = record {
       goes_on = record { number = refl; later = later };
       steps = record {
-        notes = Began (record { call = call; cut = false; picks = w.picks }) ∷ [];
-        step = λ cause. (
-          from.machine,
-          to.machine,
-          call,
-          reply,
-          is,
-          refl,
-          (record { call = call; cut = false; picks = w.picks } ∷ [], refl, step_by cause reply w),
-          refl,
-          refl,
-        );
-        leaves = (to.power, (unnamed, w.leaves), refl);
+        notes = record { call = call; cut = false; picks = w.picks } ∷ [];
+        step = λ cause. (from.machine, to.machine, call, reply, is, refl, step_by cause reply w, refl, refl);
+        leaves = (refl, unnamed, to.power, w.leaves, refl);
       };
       power = passes_whole from.power to.power w.leaves.fuse w.leaves.passed counts unnamed;
     }
@@ -165,16 +200,18 @@ module _ {S : Type 0} (G : ground.Meaning S) where
     cut c named within = record {
       goes_on = record { number = refl; later = later };
       steps = record {
-        notes = Began (record { call = call; cut = true; picks = c.picks }) ∷ [];
+        notes = record { call = call; cut = true; picks = c.picks } ∷ [];
         within = true;
-        step = (
-          from.machine,
-          call,
-          is,
-          refl,
-          (record { call = call; cut = true; picks = c.picks } ∷ [], refl, (c.picks, refl, c.step, c.told)),
-        );
-        leaves = (to.power, (within, c.leaves), refl);
+        step = (from.machine, call, is, refl, (c.picks, refl, c.step, c.told));
+        leaves = record {
+          whole = [];
+          at = from.power;
+          leaves = refl;
+          fuse = record { within = true; call = from.power.passed };
+          set = within;
+          named = refl;
+          last = (record { call = call; cut = true; picks = c.picks }, refl, refl, c.leaves);
+        };
       };
       power = (passes_same from.power to.power c.leaves.fuse c.leaves.passed, named_after from.power to.power c.leaves.fuse c.leaves.passed named);
     }
@@ -183,10 +220,18 @@ module _ {S : Type 0} (G : ground.Meaning S) where
     stopped s named before = record {
       goes_on = record { number = refl; later = later };
       steps = record {
-        notes = Lost ∷ [];
+        notes = [];
         within = false;
         step = (from.machine, refl, refl, s.lost);
-        leaves = (to.power, (before, s.leaves), refl);
+        leaves = record {
+          whole = [];
+          at = from.power;
+          leaves = refl;
+          fuse = record { within = false; call = from.power.passed };
+          set = before;
+          named = refl;
+          last = (refl, s.leaves);
+        };
       };
       power = (
         passes_same from.power to.power (ap (λ (p : Power). p.fuse) s.leaves) (ap (λ (p : Power). p.passed) s.leaves),
@@ -211,9 +256,10 @@ module _ {S : Type 0} (G : ground.Meaning S) where
       goes_on = record { number = refl; later = later };
       steps = (
         record {
-          notes = Began (record { call = call; cut = true; picks = [] }) ∷ [];
+          notes = record { call = call; cut = true; picks = [] } ∷ [];
           within = true;
-          step = (from.machine, call, is, refl, (record { call = call; cut = true; picks = [] } ∷ [], refl, (inr refl, f.breaks)));
+          step = (from.machine, call, is, refl, (inr refl, f.breaks));
+          leaves = record { whole = []; at = from.power; leaves = refl; last = inr (call, refl, unnamed, f.leaves) };
         },
         f.cause,
       );
@@ -226,7 +272,12 @@ module _ {S : Type 0} (G : ground.Meaning S) where
     starved : ground.Starved G call from.machine to.machine from.power to.power → Keeps Starved
     starved s = record {
       goes_on = record { number = refl; later = later };
-      steps = record { notes = []; within = true; step = (from.machine, call, is, refl, ([], refl, (inl refl, s.breaks))) };
+      steps = record {
+        notes = [];
+        within = true;
+        step = (from.machine, call, is, refl, (inl refl, s.breaks));
+        leaves = record { whole = []; at = from.power; leaves = refl; last = inl (refl, s.leaves) };
+      };
       power = tt;
     }
 
@@ -262,6 +313,7 @@ module _ {S : Type 0} (G : ground.Meaning S) where
     falls = λ file from to name args outage h. absurd h;
     loses = λ file from to outage h. absurd h;
     rests = λ file s. (s, refl, refl, refl);
+    leaves_rest = λ file at. record { whole = []; at = at.power; leaves = refl; last = inl (refl, refl) };
     leaves_none = λ file at. refl;
-    leaves_both = λ file from at to first second a b. leave_both first second from.power at.power to.power a b;
+    leaves_both = λ how file from at to first second a b. leave_then how first second from.power at.power to.power a b;
   }

@@ -11,10 +11,11 @@ use Rattle.ygg_disk.specs.Ground as ground
 use Rattle.ygg_disk.specs.declared.turn.Turn.{Turn}
 use Rattle.ygg_meaning.specs.Environments.{Name}
 use Rattle.ygg_meaning.specs.Machine.{based}
-use Rattle.ygg_meaning.specs.DiskMachine.{disk_call}
+use Rattle.ygg_meaning.specs.DiskMachine.{disk_call, machine_on}
+use Rattle.ygg_histories.specs.Noted.{Note}
 use Rattle.ygg_eval_lower.specs.Lower.{Standing, Behavior, Meaning, Ending, ending_of}
-use Rattle.ygg_machine.specs.GroundSteps.{ground_steps, ground_calls}
-use Rattle.ygg_machine.specs.Marks.{Mark, marked_machine, LeaveMarks}
+use Rattle.ygg_machine.specs.GroundSteps.{ground_machine, ground_calls}
+use Rattle.ygg_machine.specs.Leaves.{LeaveBy}
 
 -- the shape of the rows of a file's disk
 abbrev pub row_of : DiskText → Shape
@@ -38,14 +39,14 @@ module _ {S : Type 0} (G : ground.Meaning S) where
     -- the count of whole calls is one of 64 digits
     pub counts : from.power.passed < 2 ^ 64
 
-  -- its steps are the calls on the ground, with their marks; of formatting nothing is said
+  -- its steps are the calls on the ground; of formatting nothing is said
   abbrev pub ground_behavior : Behavior S
   ground_behavior = record {
     Base = S;
-    Note = Mark;
-    machine = λ cause file number. marked_machine cause (ground_calls G cause);
+    Note = Note;
+    machine = λ cause file number. machine_on (ground_calls G cause);
     state = λ file s. based s;
-    Leaves = λ file from marks to. LeaveMarks G marks from.power to.power;
+    Leaves = λ how file from notes to. LeaveBy G how notes from.power to.power;
   }
 
   -- a ground, which can't be stopped: its falls come by the fuse
@@ -65,5 +66,5 @@ module _ {S : Type 0} (G : ground.Meaning S) where
   -- the same ground, formatted from this state
   abbrev pub ground_from : S → Meaning S
   ground_from start = record ground_meaning {
-    behavior = record ground_behavior { machine = λ cause file number. marked_machine cause (ground_steps G cause start) };
+    behavior = record ground_behavior { machine = λ cause file number. ground_machine G cause start };
   }

@@ -1,10 +1,12 @@
--- What the disk calls of a command leave of power: all of them are whole, or power fails where the fuse says.
-use Rattle.std.specs.Prelude.{◌≡◌, ◌≤◌, ◌<◌, ◌+◌, ◌^◌, true, false, MatchBool, List, [], ◌∷◌, ◌++◌, length, Some}
+-- What the disk calls of a command leave of power: all of them are whole, or power fails where the fuse says, or the command is given up.
+use Rattle.std.specs.Prelude.{◌≡◌, ◌≤◌, ◌<◌, ◌+◌, ◌^◌, true, false, MatchBool, List, [], ◌∷◌, ◌++◌, ◌⊎◌, length, Option, Some, None}
+use Rattle.ygg_disk.specs.Disk.{Call}
 use Rattle.ygg_disk.specs.Ground.{Meaning}
-use Rattle.ygg_disk.specs.Power.{IsNamed, Begun}
+use Rattle.ygg_disk.specs.Power.{IsNamed, Begun, BegunInVain}
 use Rattle.ygg_disk.specs.declared.power.Fuse.{Fuse}
 use Rattle.ygg_disk.specs.declared.power.Power.{Power}
 use Rattle.ygg_histories.specs.Noted.{Note}
+use Rattle.ygg_eval_lower.specs.Lower.{Cause, PowerLoss, GivenUp}
 
 -- the calls are whole, one after another, and the fuse names none of them
 abbrev pub LeaveWhole : {S : Type 0} → Meaning S → List Note → Power → Power → Type 0
@@ -23,6 +25,21 @@ pub record LeaveCut {S : Type 0} (G : Meaning S) (notes : List Note) (before aft
   pub last : MatchBool fuse.within
       ((last : Note) × (last.cut ≡ true) × (notes ≡ whole ++ last ∷ []) × Begun G.follows true last.call last.picks at after)
       ((notes ≡ whole) × (after ≡ at))
+
+-- The first calls are whole, and the fuse names none of them: they took their picks, are counted, and have their events. These are all, or one more began,
+-- which failed: it has its event, took no pick and isn't counted.
+pub record LeaveInPart {S : Type 0} (G : Meaning S) (notes : List Note) (before after : Power) : Type 0 where
+  pub whole : List Note
+  pub at : Power
+  pub leaves : LeaveWhole G whole before at
+  pub last : ((notes ≡ whole) × (after ≡ at))
+      ⊎ ((call : Call) × (notes ≡ whole ++ record { call = call; cut = true; picks = [] } ∷ []) × ¬ IsNamed at × BegunInVain call at after)
+
+-- what calls leave of power that are whole, or of which the last was cut for this cause
+abbrev pub LeaveBy : {S : Type 0} → Meaning S → Option Cause → List Note → Power → Power → Type 0
+LeaveBy G None notes before after = LeaveWhole G notes before after
+LeaveBy G (Some PowerLoss) notes before after = LeaveCut G notes before after
+LeaveBy G (Some GivenUp) notes before after = LeaveInPart G notes before after
 
 -- whole calls are counted, where a fuse is set whose call was still to come
 abbrev pub WholeAreCounted : {S : Type 0} → Meaning S → Type 0

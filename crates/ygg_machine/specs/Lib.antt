@@ -12,7 +12,4 @@ pub mod Viewed
 pub mod Zeros
 pub mod Answered
 pub mod Told
-pub mod Marks
-pub mod Marked
 pub mod Leaves
-pub mod Flows

@@ -1,5 +1,5 @@
 -- Layers on one another as what can be formatted and woken, and has background steps, beside being a machine below a layer.
-use Rattle.std.specs.Prelude.{◌≡◌, ℕ, ◌≤◌, ◌<◌, List, [], ◌++◌, map, length, slice_get, Some, ◌⊎◌}
+use Rattle.std.specs.Prelude.{◌≡◌, ℕ, ◌≤◌, ◌<◌, List, [], ◌++◌, map, length, slice_get, Option, Some, None, ◌⊎◌}
 use Rattle.ygg_value.specs.declared.row.Value.{Value}
 use Rattle.ygg_syntax.specs.declared.tree.Layer.{Layer}
 use Rattle.ygg_syntax.specs.declared.tree.File.{File}
@@ -58,11 +58,10 @@ pub record Tells {S : Type 0} (Stands : File → S → Type 0) (M N : Meaning S)
   pub faults : (s : S) → N.faults s ≡ M.faults s
   pub state : (file : File) (s : S) →
       N.behavior.state file s ≡ record { memories = (M.behavior.state file s).memories; base = base (M.behavior.state file s).base }
-  pub leaves : (file : File) (from to : Standing S) (notes : List M.behavior.Note) → M.behavior.Leaves file from notes to →
-      N.behavior.Leaves file from (map note notes) to
-  pub leaves_none : (file : File) (at : Standing S) → N.behavior.Leaves file at [] at
-  pub leaves_both : (file : File) (from at to : Standing S) (first second : List N.behavior.Note) → N.behavior.Leaves file from first at →
-      N.behavior.Leaves file at second to → N.behavior.Leaves file from (first ++ second) to
+  pub leaves : (how : Option Cause) (file : File) (from to : Standing S) (notes : List M.behavior.Note) → M.behavior.Leaves how file from notes to →
+      N.behavior.Leaves how file from (map note notes) to
+  pub leaves_both : (how : Option Cause) (file : File) (from at to : Standing S) (first second : List N.behavior.Note) →
+      N.behavior.Leaves None file from first at → N.behavior.Leaves how file at second to → N.behavior.Leaves how file from (first ++ second) to
   pub steps : (cause : Cause) (file : File) (s : S) → Stands file s →
       Mirrors (λ c b. c ≡ base b) (λ a b. b ≡ map note a) (M.behavior.machine cause file (M.number s)) (N.behavior.machine cause file (M.number s))
 
@@ -74,7 +73,7 @@ stage_of M file at = record { state = M.behavior.state file at.machine; faults =
 abbrev pub CommandEnds : {S : Type 0} → (M : Meaning S) → File → Command M.behavior.Base M.behavior.Note → Ending → Standing S → Standing S → Type 0
 CommandEnds M file command ending from to =
     Ended (λ cause. M.behavior.machine cause file (M.number from.machine)) command (stage_of M file from) (stage_of M file to)
-    (λ notes. M.behavior.Leaves file from notes to) (λ notes. M.behavior.Leaves file from notes to) ending
+    (λ how notes. M.behavior.Leaves how file from notes to) ending
 
 -- formatting ended so
 abbrev pub FormatEnds : {S : Type 0} → Rooted S → File → Ending → Standing S → Standing S → Type 0
@@ -91,8 +90,7 @@ pub record LosesPower {S : Type 0} (M : Meaning S) (Stands : File → S → Type
   pub later : M.faults from ≤ M.faults to
   pub stands : (file : File) → Stands file from → Stands file to
   pub lost : (file : File) → Stands file from →
-      (notes : List M.behavior.Note)
-      × (M.behavior.machine PowerLoss file (M.number from)).Loses (M.behavior.state file from) notes (M.behavior.state file to).base
+      (M.behavior.machine PowerLoss file (M.number from)).Loses (M.behavior.state file from) [] (M.behavior.state file to).base
 
 -- What each tower keeps: wherever it is formatted from, it means what it means as a machine below a layer; such a machine stands, and what stands does
 -- so however a call ends.

@@ -1,6 +1,6 @@
 -- What stands on which ground, and how its commands look from above. These are proofs that stand among the specifications, since grounds and floors give
 -- them as the values of their fields.
-use Rattle.std.specs.Prelude.{◌≡◌, ℕ, zero, suc, ◌<◌, IsTrue, List, [], ◌∷◌, ◌++◌, map, length, slice_get, Option, Some, None, ◌⊎◌}
+use Rattle.std.specs.Prelude.{◌≡◌, ℕ, suc, ◌<◌, IsTrue, List, [], ◌∷◌, map, length, slice_get, Option, Some, None, ◌⊎◌}
 use Rattle.std.proofs.lemmas.List.{map-append}
 use Rattle.std.proofs.Common.{inl, inr, refl, sym, ap, ◌∙◌, subst, arith}
 use Rattle.ygg_value.specs.declared.row.Value.{Value}
@@ -12,16 +12,15 @@ use Rattle.ygg_meaning.specs.Machine.{State, based, on, Machine}
 use Rattle.ygg_meaning.specs.Layer.{Layered}
 use Rattle.ygg_meaning.specs.Shapes.{values_fit, zeros_of}
 use Rattle.ygg_histories.specs.Noted.{Note}
-use Rattle.ygg_histories.specs.Mirror.{SameOn, IsJoined, Mirrors}
+use Rattle.ygg_histories.specs.Mirror.{SameOn, Mirrors}
 use Rattle.ygg_histories.proofs.Mirrored.{layered_mirrors, formatted_mirrors}
 use Rattle.ygg_eval_lower.specs.Layers.{closed_at}
-use Rattle.ygg_eval_lower.specs.Lower.{Standing, Meaning, Cause, PowerLoss, GivenUp}
-use Rattle.ygg_machine.specs.GroundSteps.{ground_steps, ground_machine}
-use Rattle.ygg_machine.specs.Marks.{Mark, Began, Lost, calls_of, loss_mark, marked_machine, LeaveMarks, IsMarked}
-use Rattle.ygg_machine.specs.Marked.{WholeBy, CutBy, LossBy, marks_by, ground_marked, fall_marked, over_marked}
+use Rattle.ygg_eval_lower.specs.Lower.{Standing, Meaning, Cause}
+use Rattle.ygg_machine.specs.GroundSteps.{ground_machine}
+use Rattle.ygg_machine.specs.Leaves.{LeaveBy}
 use Rattle.ygg_machine.specs.Grounded.{HasRows, ground_meaning}
 use Rattle.ygg_machine.specs.Floors.{Raised, lower_of, memory_at, place_of, idle_on, layer_over, FitsFloor, floor_meaning}
-use Rattle.ygg_machine.specs.FloorStacks.{Told, Retold, is_told, same_state, layer_there}
+use Rattle.ygg_machine.specs.FloorStacks.{Told, Renoted, renoted_joined, is_told, same_state, same_notes, layer_there}
 use Rattle.ygg_machine.specs.Towers.{Rooted, ground_rooted, floor_rooted, StandsOn, FormatFallsHere}
 use Rattle.ygg_machine.specs.Bottoms.{
   bottom_on,
@@ -35,31 +34,6 @@ use Rattle.ygg_machine.specs.Bottoms.{
   ViewRuns,
 }
 use Rattle.ygg_machine.specs.BlocksTold.{may_format, fall_told}
-
-calls_back : (ns : List Note) → calls_of (map Began ns) ≡ ns
-calls_back [] = refl
-calls_back (n ∷ ns) = ap (λ (l : List Note). n ∷ l) (calls_back ns)
-
-calls_append : (a b : List Mark) → calls_of (a ++ b) ≡ calls_of a ++ calls_of b
-calls_append [] b = refl
-calls_append (Began n ∷ a) b = ap (λ (l : List Note). n ∷ l) (calls_append a b)
-calls_append (Lost ∷ a) b = calls_append a b
-
--- the disk calls of notes by what they mark
-abbrev pub told_calls : {X : Type 0} → (X → Mark) → List X → List Note
-told_calls mark a = calls_of (map mark a)
-
-pub calls_joined : {X : Type 0} (mark : X → Mark) → IsJoined (Retold (told_calls mark))
-calls_joined mark = record {
-  none = refl;
-  append = λ a c b d x y.
-      ap (λ (l : List Note). l ++ d) x ∙ ap (λ (l : List Note). calls_of (map mark a) ++ l) y
-      ∙ sym (ap (λ (ms : List Mark). calls_of ms) (map-append mark a c) ∙ calls_append (map mark a) (map mark c));
-}
-
-same_marks : (a : List Mark) → a ≡ map (λ (m : Mark). m) a
-same_marks [] = refl
-same_marks (m ∷ ms) = ap (λ (l : List Mark). m ∷ l) (same_marks ms)
 
 -- what is seen from above of what has these states: its ground, and how it looks
 pub record Seen (T : Type 0) : Type 1 where
@@ -79,19 +53,17 @@ floor_seen X = record { Ground = X.Ground; means = X.means; look = λ t. raised_
 pub record SeesSteps {T : Type 0} (N : Meaning T) (Falls : Cause → File → List N.behavior.Note → N.behavior.Base → Type 0) (Stands : File → T → Type 0)
     (X : Seen T) (start : T) : Type 0 where
   pub base : N.behavior.Base → X.Ground
-  pub mark : N.behavior.Note → Mark
+  pub note : N.behavior.Note → Note
   pub number : (t : T) → N.number t ≡ (X.look t).height
   pub faults : (t : T) → N.faults t ≡ X.means.faults (X.look t).base
   pub state : (file : File) (t : T) →
       record { memories = (N.behavior.state file t).memories; base = base (N.behavior.state file t).base } ≡ state_seen file (X.look t)
-  pub leaves : (file : File) (from to : Standing T) (notes : List N.behavior.Note) → N.behavior.Leaves file from notes to →
-      LeaveMarks X.means (map mark notes) from.power to.power
+  pub leaves : (how : Option Cause) (file : File) (from to : Standing T) (notes : List N.behavior.Note) → N.behavior.Leaves how file from notes to →
+      LeaveBy X.means how (map note notes) from.power to.power
   pub steps : (cause : Cause) (file : File) (t : T) → Stands file t →
-      Mirrors (Told base) (Retold (told_calls mark)) (N.behavior.machine cause file (N.number t)) (bottom_on X.means cause file (X.look start).base (N.number t))
+      Mirrors (Told base) (Renoted note) (N.behavior.machine cause file (N.number t)) (bottom_on X.means cause file (X.look start).base (N.number t))
   pub falls : (cause : Cause) (file : File) (notes : List N.behavior.Note) (fallen : N.behavior.Base) → Stands file start → Falls cause file notes fallen →
-      FormatFalls X.means cause file (X.look start).base (N.number start) (told_calls mark notes) (base fallen)
-  pub marked : (file : File) (n : ℕ) → IsMarked (WholeBy mark) (CutBy mark) (LossBy mark) (N.behavior.machine PowerLoss file n)
-  pub falls_marked : (file : File) (notes : List N.behavior.Note) (fallen : N.behavior.Base) → Falls PowerLoss file notes fallen → CutBy mark notes
+      FormatFalls X.means cause file (X.look start).base (N.number start) (map note notes) (base fallen)
 
 -- a tower is what is seen of it
 pub record IsSeen {T : Type 0} (M : Meaning T) (R : T → Rooted T) (Stands : File → T → Type 0) (X : Seen T) : Type 0 where
@@ -104,51 +76,21 @@ pub record IsSeen {T : Type 0} (M : Meaning T) (R : T → Rooted T) (Stands : Fi
   pub steps : (start : T) →
       SeesSteps (R start).meaning (λ cause file notes fallen. (R start).FormatFalls cause file notes fallen) Stands X start
 
--- the machine of a ground, without the marks
-module _ {S : Type 0} (G : disk.Meaning S) (cause : Cause) (start : S) where
-  abbrev marked : Machine S Mark
-  marked = marked_machine cause (ground_steps G cause start)
-
-  abbrev plain : Machine S Note
-  plain = ground_machine G cause start
-
+-- a machine mirrors itself
+module _ {S : Type 0} (M : Machine S Note) where
   itself : (s : State S) → SameOn (Told (λ (s : S). s)) s s
   itself s = record { memories = refl; bases = refl }
 
-  the_calls : (marks : List Mark) (notes : List Note) → marks ≡ map Began notes → notes ≡ told_calls (λ (m : Mark). m) marks
-  the_calls marks notes is =
-      sym (ap (λ (ms : List Mark). calls_of ms) (sym (same_marks marks) ∙ is) ∙ calls_back notes)
-
-  no_calls : (marks : List Mark) → marks ≡ [] → [] ≡ told_calls (λ (m : Mark). m) marks
-  no_calls marks is = the_calls marks [] is
-
-  lost_calls : (c : Cause) (marks : List Mark) → marks ≡ loss_mark c → [] ≡ told_calls (λ (m : Mark). m) marks
-  lost_calls PowerLoss marks is = sym (ap (λ (ms : List Mark). calls_of ms) (sym (same_marks marks) ∙ is))
-  lost_calls GivenUp marks is = sym (ap (λ (ms : List Mark). calls_of ms) (sym (same_marks marks) ∙ is))
-
-  plain_mirrors : Mirrors (Told (λ (s : S). s)) (Retold (told_calls (λ (m : Mark). m))) marked plain
-  plain_mirrors = record {
-    starts = λ s a (b, none, is, h). (s, [], (b, refl, is, h), itself s, no_calls a none);
-    calls = λ t s s' name args a answer r (b, b', call, reply, named, is, (notes, marks, h), y, to). (
-      s',
-      notes,
-      subst (λ x. (ground_machine G cause start).Calls x name args notes answer s') (sym (same_state t s r)) (b, b', call, reply, named, is, h, y, to),
-      itself s',
-      the_calls a notes marks,
-    );
-    falls = λ t s name args a f r (b, call, named, is, (notes, marks, h)). (
-      f,
-      notes,
-      subst (λ x. (ground_machine G cause start).Falls x name args notes f) (sym (same_state t s r)) (b, call, named, is, h),
-      refl,
-      the_calls a notes marks,
-    );
-    ticks = λ t s s' name a r h. absurd h;
-    tick_falls = λ t s name a f r h. absurd h;
-    loses = λ t s a f r (b, marks, is, h).
-        (f, [], subst (λ x. (ground_machine G cause start).Loses x [] f) (sym (same_state t s r)) (b, refl, is, h), refl, lost_calls cause a marks);
-    wakes = λ g f a s r (none, is). (s, [], subst (λ x. (ground_machine G cause start).Wakes x [] s) (sym r) (refl, is), itself s, no_calls a none);
-    wake_falls = λ g f f' a r h. absurd h;
+  same_mirrors : Mirrors (Told (λ (s : S). s)) (Renoted (λ (n : Note). n)) M M
+  same_mirrors = record {
+    starts = λ s a h. (s, a, h, itself s, same_notes a);
+    calls = λ t s s' name args a answer r h. (s', a, subst (λ x. M.Calls x name args a answer s') (sym (same_state t s r)) h, itself s', same_notes a);
+    falls = λ t s name args a f r h. (f, a, subst (λ x. M.Falls x name args a f) (sym (same_state t s r)) h, refl, same_notes a);
+    ticks = λ t s s' name a r h. (s', a, subst (λ x. M.Ticks x name a s') (sym (same_state t s r)) h, itself s', same_notes a);
+    tick_falls = λ t s name a f r h. (f, a, subst (λ x. M.TickFalls x name a f) (sym (same_state t s r)) h, refl, same_notes a);
+    loses = λ t s a f r h. (f, a, subst (λ x. M.Loses x a f) (sym (same_state t s r)) h, refl, same_notes a);
+    wakes = λ g f a s r h. (s, a, subst (λ x. M.Wakes x a s) (sym r) h, itself s, same_notes a);
+    wake_falls = λ g f f' a r h. (f', a, subst (λ x. M.WakeFalls x a f') (sym r) h, refl, same_notes a);
   }
 
 module _ {S : Type 0} (G : disk.Meaning S) where
@@ -157,9 +99,9 @@ module _ {S : Type 0} (G : disk.Meaning S) where
   no_memories file s = refl
 
   lowest_steps : (cause : Cause) (file : File) (start : S) →
-      Mirrors (Told (λ (s : S). s)) (Retold (told_calls (λ (m : Mark). m))) (marked_machine cause (ground_steps G cause start)) (bottom_on G cause file start 0)
+      Mirrors (Told (λ (s : S). s)) (Renoted (λ (n : Note). n)) (ground_machine G cause start) (bottom_on G cause file start 0)
   unfolding bottom_on
-  lowest_steps cause file start = plain_mirrors G cause start
+  lowest_steps cause file start = same_mirrors (ground_machine G cause start)
 
   none_fit : (file : File) (vs : List (List Value)) → MemoriesFit file 0 vs
   unfolding MemoriesFit
@@ -176,15 +118,13 @@ module _ {S : Type 0} (G : disk.Meaning S) where
     fitted = λ file t h. record { memories = none_fit file []; rows = h };
     steps = λ start. record {
       base = λ s. s;
-      mark = λ m. m;
+      note = λ n. n;
       number = λ t. refl;
       faults = λ t. refl;
       state = no_memories;
-      leaves = λ file from to marks h. subst (λ ms. LeaveMarks G ms from.power to.power) (same_marks marks) h;
+      leaves = λ how file from to notes h. subst (λ ns. LeaveBy G how ns from.power to.power) (same_notes notes) h;
       steps = λ cause file t h. lowest_steps cause file start;
       falls = λ cause file notes fallen h falls. absurd falls;
-      marked = λ file n. ground_marked G start;
-      falls_marked = λ file notes fallen falls. absurd falls;
     };
   }
 
@@ -260,7 +200,7 @@ module _ {T : Type 0} (M : Meaning T) (R : T → Rooted T) (Stands : File → T 
     next_on cause file n s = refl
 
     steps_on : (cause : Cause) (file : File) (t : Raised T) → StandsOn M Stands file t →
-        Mirrors (Told V.base) (Retold (told_calls V.mark)) (layer_over file (place_of N t) (N.behavior.machine cause file (place_of N t)))
+        Mirrors (Told V.base) (Renoted V.note) (layer_over file (place_of N t) (N.behavior.machine cause file (place_of N t)))
         (bottom_on X.means cause file (X.look start.below).base (suc (place_of N t)))
     steps_on cause file t h =
         let n = place_of N t in
@@ -269,10 +209,10 @@ module _ {T : Type 0} (M : Meaning T) (R : T → Rooted T) (Stands : File → T 
         let within : place_of N t < length file.layers =
         subst (λ (n : ℕ). n < length file.layers) (sees.number t.below ∙ sym (V.number t.below)) h.there in
         let (l, there) = layer_there file (place_of N t) within in
-        subst (λ (Y : Machine X.Ground Note). Mirrors (Told V.base) (Retold (told_calls V.mark))
+        subst (λ (Y : Machine X.Ground Note). Mirrors (Told V.base) (Renoted V.note)
         (layer_over file (place_of N t) (N.behavior.machine cause file (place_of N t))) Y)
         (sym (next_on cause file (place_of N t) (X.look start.below).base))
-        (subst (λ (o : Option Layer). Mirrors (Told V.base) (Retold (told_calls V.mark))
+        (subst (λ (o : Option Layer). Mirrors (Told V.base) (Renoted V.note)
         (elim o [
           | None ↦ idle_on (N.behavior.machine cause file (place_of N t))
           | Some l ↦ Layered (closed_at file (place_of N t) l)
@@ -282,10 +222,10 @@ module _ {T : Type 0} (M : Meaning T) (R : T → Rooted T) (Stands : File → T 
           | None ↦ idle_on (bottom_on X.means cause file (X.look start.below).base (place_of N t))
           | Some l ↦ Layered (closed_at file (place_of N t) l) (bottom_on X.means cause file (X.look start.below).base (place_of N t))
         ])) (sym there)
-        (formatted_mirrors (Told V.base) (Retold (told_calls V.mark)) (calls_joined V.mark) (Unit {0}) (Layered (closed_at file (place_of N t) l) low)
+        (formatted_mirrors (Told V.base) (Renoted V.note) (renoted_joined V.note) (Unit {0}) (Layered (closed_at file (place_of N t) l) low)
         (Layered (closed_at file (place_of N t) l) high) tt
-        (layered_mirrors (Told V.base) (Retold (told_calls V.mark)) (calls_joined V.mark) (Unit {0}) low high
-        (may_format (Told V.base) (Retold (told_calls V.mark)) low high (V.steps cause file t.below h.below)) (closed_at file (place_of N t) l))))
+        (layered_mirrors (Told V.base) (Renoted V.note) (renoted_joined V.note) (Unit {0}) low high
+        (may_format (Told V.base) (Renoted V.note) low high (V.steps cause file t.below h.below)) (closed_at file (place_of N t) l))))
 
     falls_more : (cause : Cause) (file : File) (n : ℕ) (s fallen : X.Ground) (notes : List Note) →
         FormatFalls X.means cause file s n notes fallen ⊎ FormatFallsHere (bottom_on X.means cause file s n) file n notes fallen →
@@ -295,7 +235,7 @@ module _ {T : Type 0} (M : Meaning T) (R : T → Rooted T) (Stands : File → T 
 
     falls_here : (cause : Cause) (file : File) (notes : List N.behavior.Note) (fallen : N.behavior.Base) → StandsOn M Stands file start →
         FormatFallsHere (N.behavior.machine cause file (place_of N start)) file (place_of N start) notes fallen →
-        FormatFallsHere (bottom_on X.means cause file (X.look start.below).base (place_of N start)) file (place_of N start) (told_calls V.mark notes) (V.base fallen)
+        FormatFallsHere (bottom_on X.means cause file (X.look start.below).base (place_of N start)) file (place_of N start) (map V.note notes) (V.base fallen)
     falls_here cause file notes fallen stands h =
         let U = V.steps cause file start.below stands.below in
         let low = N.behavior.machine cause file (place_of N start) in
@@ -306,53 +246,35 @@ module _ {T : Type 0} (M : Meaning T) (R : T → Rooted T) (Stands : File → T 
           layer = h.layer;
           there = h.there;
           lower = record { memories = h.lower.memories; base = V.base h.lower.base };
-          first = told_calls V.mark h.first;
-          second = told_calls V.mark h.second;
+          first = map V.note h.first;
+          second = map V.note h.second;
           starts = subst (λ (x : State X.Ground). (bottom_on X.means cause file (X.look start.below).base (place_of N start)).Starts x
-              (told_calls V.mark h.first)) told
+              (map V.note h.first)) told
               (subst (λ (x : List Note). (bottom_on X.means cause file (X.look start.below).base (place_of N start)).Starts t x) are starts);
-          falls = fall_told V.base (told_calls V.mark) (calls_joined V.mark) low high U (closed_at file (place_of N start) h.layer) h.layer.format [] [] refl
+          falls = fall_told V.base (map V.note) (renoted_joined V.note) low high U (closed_at file (place_of N start) h.layer) h.layer.format [] [] refl
               (on (zeros_of h.layer.memory) h.lower) fallen h.second h.falls;
-          takes = ap (λ (x : List N.behavior.Note). told_calls V.mark x) h.takes ∙ ap (λ (ms : List Mark). calls_of ms) (map-append V.mark h.first h.second)
-              ∙ calls_append (map V.mark h.first) (map V.mark h.second);
+          takes = ap (λ (x : List N.behavior.Note). map V.note x) h.takes ∙ map-append V.note h.first h.second;
         }
-
-    marked_on : (file : File) (n : ℕ) → IsMarked (WholeBy V.mark) (CutBy V.mark) (LossBy V.mark) ((floor_meaning N).behavior.machine PowerLoss file n)
-    marked_on file zero = V.marked file 0
-    marked_on file (suc n) =
-        over_marked (WholeBy V.mark) (CutBy V.mark) (LossBy V.mark) (marks_by V.mark) (N.behavior.machine PowerLoss file n) (V.marked file n) file n
-
-    falls_marked_on : (file : File) (notes : List N.behavior.Note) (fallen : N.behavior.Base) → (floor_rooted R start).FormatFalls PowerLoss file notes fallen →
-        CutBy V.mark notes
-    falls_marked_on file notes fallen (inl h) = V.falls_marked file notes fallen h
-    falls_marked_on file notes fallen (inr h) =
-        let m = V.marked file (place_of N start) in
-        subst (λ (a : List N.behavior.Note). CutBy V.mark a) (sym h.takes)
-        ((marks_by V.mark).ends h.first h.second (m.starts h.lower h.first h.starts)
-        (fall_marked (WholeBy V.mark) (CutBy V.mark) (LossBy V.mark) (marks_by V.mark) (N.behavior.machine PowerLoss file (place_of N start)) m
-        (closed_at file (place_of N start) h.layer) h.layer.format [] (on (zeros_of h.layer.memory) h.lower) h.second fallen h.falls))
 
     steps_of_floor : SeesSteps (floor_meaning (R start.below).meaning) (λ cause file notes fallen. (floor_rooted R start).FormatFalls cause file notes fallen)
         (StandsOn M Stands) (floor_seen X) start
     steps_of_floor = record {
       base = V.base;
-      mark = V.mark;
+      note = V.note;
       number = λ t. ap suc (V.number t.below);
       faults = λ t. V.faults t.below;
       state = state_on;
-      leaves = λ file from to notes h. V.leaves file (lower_of from) (lower_of to) notes h;
+      leaves = λ how file from to notes h. V.leaves how file (lower_of from) (lower_of to) notes h;
       steps = steps_on;
       falls = λ cause file notes fallen stands h.
-          falls_more cause file (place_of N start) (X.look start.below).base (V.base fallen) (told_calls V.mark notes) (either cause file notes fallen stands h);
-      marked = marked_on;
-      falls_marked = falls_marked_on;
+          falls_more cause file (place_of N start) (X.look start.below).base (V.base fallen) (map V.note notes) (either cause file notes fallen stands h);
     }
       where
         either : (cause : Cause) (file : File) (notes : List N.behavior.Note) (fallen : N.behavior.Base) → StandsOn M Stands file start →
             (R start.below).FormatFalls cause file notes fallen
             ⊎ FormatFallsHere (N.behavior.machine cause file (place_of N start)) file (place_of N start) notes fallen →
-            FormatFalls X.means cause file (X.look start.below).base (place_of N start) (told_calls V.mark notes) (V.base fallen)
-            ⊎ FormatFallsHere (bottom_on X.means cause file (X.look start.below).base (place_of N start)) file (place_of N start) (told_calls V.mark notes)
+            FormatFalls X.means cause file (X.look start.below).base (place_of N start) (map V.note notes) (V.base fallen)
+            ⊎ FormatFallsHere (bottom_on X.means cause file (X.look start.below).base (place_of N start)) file (place_of N start) (map V.note notes)
             (V.base fallen)
         either cause file notes fallen stands (inl h) = inl (V.falls cause file notes fallen stands.below h)
         either cause file notes fallen stands (inr h) = inr (falls_here cause file notes fallen stands h)

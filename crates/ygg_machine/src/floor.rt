@@ -238,7 +238,6 @@ impl<W: Tower + Drop> Floor<W> {
     ghost use Rattle.ygg_eval_lower.specs.Layers.{signatures_at};
     ghost use Rattle.ygg_eval_lower.specs.Lower.{Standing, Serves, AfterWhole, IsCallable, ending_of};
     ghost use Rattle.ygg_machine.specs.Commands.{calling};
-    ghost use Rattle.ygg_machine.specs.Flows.{Flows};
     ghost use Rattle.ygg_machine.specs.Floors.{floor_meaning, RunsSilently, Begins, IsFirst};
     ghost use Rattle.ygg_machine.specs.Towers.{StandsOn, StillStands, CommandEnds, floor_rooted};
 
@@ -260,7 +259,6 @@ impl<W: Tower + Drop> Floor<W> {
             (record { machine = self.new; power = power.new }) }
         ensures serves { AfterWhole (ending_of result) (Serves W.means typed.now.file (W.means.number self.old.below)
             (record { machine = self.new.below; power = power.new })) }
-        ensures leaves { Flows W.flow (ending_of result) power.old power.new }
     {
         let args = Sequence::new(self.alloc);
         silent_result_of(self.run(typed, part, number, &args, power))
@@ -277,7 +275,6 @@ impl<W: Tower + Drop> Floor<W> {
             (record { machine = self.new; power = power.new }) }
         ensures serves { AfterWhole (ending_of result) (Serves W.means typed.now.file (W.means.number self.old.below)
             (record { machine = self.new.below; power = power.new })) }
-        ensures leaves { Flows W.flow (ending_of result) power.old power.new }
     {
         self.clear(typed)?;
         self.run_silently(typed, part, 0, power)
@@ -301,7 +298,6 @@ impl<W: Tower + Drop> Floor<W> {
         ensures serves { AfterWhole (ending_of result) (Serves (floor_meaning W.means) typed.now.file (suc (W.means.number self.old.below))
             (record { machine = self.new; power = power.new })) }
         ensures stands { StillStands (floor_meaning W.means) (StandsOn W.means W.stands) typed.now.file self.old self.new }
-        ensures leaves { Flows W.flow (ending_of result) power.old power.new }
     {
         self.call(typed, op, args, power)
     }
@@ -310,17 +306,12 @@ impl<W: Tower + Drop> Floor<W> {
 impl<W: Tower + Drop> Tower for Floor<W> {
     ghost use Rattle.ygg_machine.specs.Towers.{StandsOn, floor_rooted};
     ghost use Rattle.ygg_machine.specs.FloorStacks.{floor_stacks};
-    ghost use Rattle.ygg_machine.specs.Flows.{floor_flows};
 
     ghost rooted = { floor_rooted W.rooted };
 
     ghost stands = { StandsOn W.means W.stands };
 
-    ghost flow = { W.flow };
-
     ghost stacks = { floor_stacks W.means W.rooted W.stands W.keeps W.stacks };
-
-    ghost flows = { floor_flows W.means W.flow W.flows };
 
     fn format(&mut self, typed: &Typed, power: &mut Power) -> Result<Turn, NoMemory> {
         let ended = self.below.format(typed, power);
@@ -363,6 +354,4 @@ impl<W: Viewed + Drop> Viewed for Floor<W> {
     ghost seen = { floor_seen W.seen };
 
     ghost sees = { floor_sees W.means W.rooted W.stands W.seen W.sees };
-
-    ghost gives_up = { W.gives_up };
 }

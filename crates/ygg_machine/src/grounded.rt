@@ -101,17 +101,12 @@ impl<G: Ground + Drop> Tower for Grounded<G> {
     ghost use Rattle.ygg_machine.specs.Grounded.{HasRows};
     ghost use Rattle.ygg_machine.specs.Towers.{ground_rooted};
     ghost use Rattle.ygg_machine.specs.FloorStacks.{ground_stacks};
-    ghost use Rattle.ygg_machine.specs.Flows.{ground_flow, ground_flows};
 
     ghost rooted = { ground_rooted G.means };
 
     ghost stands = { HasRows G.means };
 
-    ghost flow = { ground_flow G.means };
-
     ghost stacks = { ground_stacks G.means };
-
-    ghost flows = { ground_flows G.means };
 
     fn format(&mut self, typed: &Typed, power: &mut Power) -> Result<Turn, NoMemory> {
         Ok(Turn::Done)
@@ -139,11 +134,8 @@ impl<G: Ground + Drop> Tower for Grounded<G> {
 
 impl<G: Ground + Drop> Viewed for Grounded<G> {
     ghost use Rattle.ygg_machine.specs.Viewed.{ground_seen, ground_sees};
-    ghost use Rattle.ygg_machine.specs.Flows.{ground_gives_up};
 
     ghost seen = { ground_seen G.means };
 
     ghost sees = { ground_sees G.means };
-
-    ghost gives_up = { ground_gives_up G.means };
 }

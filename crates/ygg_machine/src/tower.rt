@@ -14,16 +14,12 @@ pub trait Tower: Lower {
     ghost use Rattle.ygg_syntax.specs.declared.tree.File.{File};
     ghost use Rattle.ygg_machine.specs.Commands.{ticking, waking, IsTickAt, HasTick};
     ghost use Rattle.ygg_machine.specs.Towers.{Rooted, IsTower, FormatEnds, CommandEnds, StillStands, LosesPower};
-    ghost use Rattle.ygg_machine.specs.Flows.{Flow, Flows, CallsFlow};
 
     /// What it means where it is formatted from a state.
     ghost rooted: { Self → Rooted Self };
 
     /// What is so of it while it runs and after power failed: the file has its layers, and its ground the rows of the file's disk.
     ghost stands: { File → Self → Type 0 };
-
-    /// What its disk calls leave of `power`: whole ones in turn, and the first calls of a command that is given up.
-    ghost flow: { Flow };
 
     /// Formats the layers, the lowest first, each from memory of zeros.
     fn format(&mut self, typed: &Typed, power: &mut Power) -> Result<Turn, NoMemory>
@@ -33,8 +29,7 @@ pub trait Tower: Lower {
             (record { machine = self.old; power = power.old }) (record { machine = self.new; power = power.new }) }
         ensures serves { AfterWhole (ending_of result) (Serves Self.means typed.now.file (Self.means.number self.old)
             (record { machine = self.new; power = power.new })) }
-        ensures stands { StillStands Self.means stands typed.now.file self.old self.new }
-        ensures leaves { Flows flow (ending_of result) power.old power.new };
+        ensures stands { StillStands Self.means stands typed.now.file self.old self.new };
 
     /// Makes a background step of one of the layers; the memory of those above it stays. Layers and background steps count from 0. Of a layer that isn't
     /// there nothing is done.
@@ -52,8 +47,7 @@ pub trait Tower: Lower {
             (record { machine = self.old; power = power.old }) (record { machine = self.new; power = power.new }) }
         ensures serves { AfterWhole (ending_of result) (Serves Self.means typed.now.file (Self.means.number self.old)
             (record { machine = self.new; power = power.new })) }
-        ensures stands { StillStands Self.means stands typed.now.file self.old self.new }
-        ensures leaves { Flows flow (ending_of result) power.old power.new };
+        ensures stands { StillStands Self.means stands typed.now.file self.old self.new };
 
     /// Wakes the layers after power failed, the lowest first: each recovers from memory of zeros.
     fn wake(&mut self, typed: &Typed, power: &mut Power) -> Result<Turn, NoMemory>
@@ -63,8 +57,7 @@ pub trait Tower: Lower {
             (record { machine = self.old; power = power.old }) (record { machine = self.new; power = power.new }) }
         ensures serves { AfterWhole (ending_of result) (Serves Self.means typed.now.file (Self.means.number self.old)
             (record { machine = self.new; power = power.new })) }
-        ensures stands { StillStands Self.means stands typed.now.file self.old self.new }
-        ensures leaves { Flows flow (ending_of result) power.old power.new };
+        ensures stands { StillStands Self.means stands typed.now.file self.old self.new };
 
     /// Power fails between commands. It takes no memory.
     fn lose_power(&mut self)
@@ -73,7 +66,4 @@ pub trait Tower: Lower {
 
     /// What each tower keeps.
     ghost stacks: { IsTower Self.means rooted stands };
-
-    /// What each call leaves of `power`.
-    ghost flows: { CallsFlow Self.means flow };
 }

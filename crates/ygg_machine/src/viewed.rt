@@ -10,16 +10,12 @@ use ygg_value::Values;
 /// A tower that is seen as layers on a ground.
 pub trait Viewed: Tower {
     ghost use Rattle.ygg_machine.specs.Viewed.{Seen, IsSeen};
-    ghost use Rattle.ygg_machine.specs.Flows.{GivesUpOn};
 
     /// Its ground, and how it looks.
     ghost seen: { Seen Self };
 
     /// It is what is seen of it.
     ghost sees: { IsSeen Self.means Self.rooted Self.stands seen };
-
-    /// What is left of `power` where a command is given up.
-    ghost gives_up: { GivesUpOn Self.flow seen.means };
 }
 
 ghost use Rattle.std.specs.Prelude.{◌≡◌, ◌<◌, IsTrue, IsSome, Some, None, slice_get};
@@ -31,7 +27,6 @@ ghost use Rattle.ygg_eval_lower.specs.Lower.{AfterWhole, IsCallable, ending_of};
 ghost use Rattle.ygg_machine.specs.Commands.{calling, ticking, waking, IsTickAt, HasTick};
 ghost use Rattle.ygg_machine.specs.Bottoms.{ViewStands, ViewRuns, ViewEnds, StillLooks, LosesAll, formats};
 ghost use Rattle.ygg_machine.specs.Viewed.{floor_seen};
-ghost use Rattle.ygg_machine.specs.Flows.{OnGivenUp, GaveUp};
 
 /// Formats all layers, the lowest first.
 pub fn format<T: Viewed>(tower: &mut T, typed: &Typed, power: &mut Power) -> Result<Turn, NoMemory>
@@ -41,7 +36,6 @@ pub fn format<T: Viewed>(tower: &mut T, typed: &Typed, power: &mut Power) -> Res
         (T.seen.look tower.old) power.old (T.seen.look tower.new) power.new }
     ensures runs { AfterWhole (ending_of result) (ViewRuns T.seen.means typed.now.file (T.seen.look tower.new)) }
     ensures looks { StillLooks T.seen.means typed.now.file (T.seen.look tower.old) (T.seen.look tower.new) }
-    ensures left { OnGivenUp (ending_of result) (GaveUp T.seen.means power.old power.new) }
 {
     tower.format(typed, power)
 }
@@ -63,7 +57,6 @@ pub fn call<W: Viewed + Drop>(
         ((floor_seen W.seen).look tower.new) power.new }
     ensures runs { AfterWhole (ending_of result) (ViewRuns W.seen.means typed.now.file ((floor_seen W.seen).look tower.new)) }
     ensures looks { StillLooks W.seen.means typed.now.file ((floor_seen W.seen).look tower.old) ((floor_seen W.seen).look tower.new) }
-    ensures left { OnGivenUp (ending_of result) (GaveUp W.seen.means power.old power.new) }
 {
     tower.operate(typed, op, args, power)
 }
@@ -84,7 +77,6 @@ pub fn tick<T: Viewed>(
         ViewEnds T.seen.means typed.now.file (ticking name) (ending_of result) (T.seen.look tower.old) power.old (T.seen.look tower.new) power.new }
     ensures runs { AfterWhole (ending_of result) (ViewRuns T.seen.means typed.now.file (T.seen.look tower.new)) }
     ensures looks { StillLooks T.seen.means typed.now.file (T.seen.look tower.old) (T.seen.look tower.new) }
-    ensures left { OnGivenUp (ending_of result) (GaveUp T.seen.means power.old power.new) }
 {
     tower.tick(typed, layer, number, power)
 }
@@ -96,7 +88,6 @@ pub fn wake<T: Viewed>(tower: &mut T, typed: &Typed, power: &mut Power) -> Resul
     ensures ends { ViewEnds T.seen.means typed.now.file waking (ending_of result) (T.seen.look tower.old) power.old (T.seen.look tower.new) power.new }
     ensures runs { AfterWhole (ending_of result) (ViewRuns T.seen.means typed.now.file (T.seen.look tower.new)) }
     ensures looks { StillLooks T.seen.means typed.now.file (T.seen.look tower.old) (T.seen.look tower.new) }
-    ensures left { OnGivenUp (ending_of result) (GaveUp T.seen.means power.old power.new) }
 {
     tower.wake(typed, power)
 }

@@ -2,7 +2,6 @@ use Rattle.ygg_machine.specs.Floors.{floor_meaning}
 use Rattle.ygg_machine.specs.FloorStacks.{floor_stacks}
 use Rattle.ygg_machine.specs.Towers.{floor_rooted, StandsOn}
 use Rattle.ygg_machine.specs.Viewed.{floor_seen, floor_sees}
-use Rattle.ygg_machine.specs.Flows.{given_up}
 use Rattle.ygg_machine.proofs.Seeing.{call_seen_as, runs_seen, serves_seen}
 use Rattle.ygg_machine.proofs.viewed.call.Goals as goal
 
@@ -27,7 +26,3 @@ returns-clause-runs g c =
     runs_seen (floor_meaning g.W.Lower.means) (floor_rooted g.W.Tower.rooted) (StandsOn g.W.Lower.means g.W.Tower.stands) (floor_seen g.W.Viewed.seen)
     (floor_sees g.W.Lower.means g.W.Tower.rooted g.W.Tower.stands g.W.Viewed.seen g.met.W.Viewed.sees)
     c.args.typed.now.file _ (record { machine = c.operate.new.self; power = c.operate.new.power }) _ c.operate.ensures.serves
-
-pub returns-clause-left : goal.returns-clause-left
-returns-clause-left g c =
-    given_up g.W.Tower.flow g.W.Viewed.seen.means g.met.W.Viewed.gives_up _ c.args.power.now c.operate.new.power c.operate.ensures.leaves

@@ -1,4 +1,3 @@
-use Rattle.ygg_machine.specs.Flows.{given_up}
 use Rattle.ygg_machine.proofs.Seeing.{format_seen, runs_seen, still_looks}
 use Rattle.ygg_machine.proofs.viewed.format.Goals as goal
 
@@ -21,7 +20,3 @@ pub returns-clause-looks : goal.returns-clause-looks
 returns-clause-looks g c =
     still_looks g.T.Lower.means g.T.Tower.rooted g.T.Tower.stands g.T.Viewed.seen g.met.T.Viewed.sees
     c.args.typed.now.file c.args.tower.now c.format.new.self c.format.ensures.stands
-
-pub returns-clause-left : goal.returns-clause-left
-returns-clause-left g c =
-    given_up g.T.Tower.flow g.T.Viewed.seen.means g.met.T.Viewed.gives_up _ c.args.power.now c.format.new.power c.format.ensures.leaves

@@ -1,5 +1,4 @@
 use Rattle.std.proofs.Common.{ℕ, ◌<◌, sym, subst}
-use Rattle.ygg_machine.specs.Flows.{given_up}
 use Rattle.ygg_machine.proofs.Seeing.{tick_seen, runs_seen, serves_seen, still_looks}
 use Rattle.ygg_machine.proofs.viewed.tick.Goals as goal
 
@@ -26,7 +25,3 @@ pub returns-clause-looks : goal.returns-clause-looks
 returns-clause-looks g c =
     still_looks g.T.Lower.means g.T.Tower.rooted g.T.Tower.stands g.T.Viewed.seen g.met.T.Viewed.sees
     c.args.typed.now.file c.args.tower.now c.tick.new.self c.tick.ensures.stands
-
-pub returns-clause-left : goal.returns-clause-left
-returns-clause-left g c =
-    given_up g.T.Tower.flow g.T.Viewed.seen.means g.met.T.Viewed.gives_up _ c.args.power.now c.tick.new.power c.tick.ensures.leaves

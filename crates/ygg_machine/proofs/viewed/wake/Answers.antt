@@ -1,5 +1,4 @@
 use Rattle.std.proofs.Common.{Bool, IsTrue, sym, subst}
-use Rattle.ygg_machine.specs.Flows.{given_up}
 use Rattle.ygg_machine.proofs.Seeing.{wake_seen, runs_seen, still_looks}
 use Rattle.ygg_machine.proofs.viewed.wake.Goals as goal
 
@@ -25,7 +24,3 @@ pub returns-clause-looks : goal.returns-clause-looks
 returns-clause-looks g c =
     still_looks g.T.Lower.means g.T.Tower.rooted g.T.Tower.stands g.T.Viewed.seen g.met.T.Viewed.sees
     c.args.typed.now.file c.args.tower.now c.wake.new.self c.wake.ensures.stands
-
-pub returns-clause-left : goal.returns-clause-left
-returns-clause-left g c =
-    given_up g.T.Tower.flow g.T.Viewed.seen.means g.met.T.Viewed.gives_up _ c.args.power.now c.wake.new.power c.wake.ensures.leaves

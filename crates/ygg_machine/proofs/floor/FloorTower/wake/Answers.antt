@@ -1,6 +1,5 @@
 use Rattle.std.proofs.Common.{inr, refl}
 use Rattle.ygg_eval_lower.specs.declared.body.Part.TheVariants as part
-use Rattle.ygg_machine.specs.Flows.{flows_both}
 use Rattle.ygg_machine.proofs.Fields.{wake_cut_as, wake_done_as, done_stands_as, done_serves_as}
 use Rattle.ygg_machine.proofs.floor.FloorTower.wake.Goals as goal
 
@@ -34,8 +33,3 @@ returns-clause-stands g c =
     c.wake-ended.new.self c.args.self.now c.self.view_is c.args.power.now c.wake-ended.new.power c.requires.stands c.wake-ended.ensures.stands
     _ (c.was_cut.ensures.whole c.if-was_cut.false) _
     (record { machine = c.begin.new.self; power = c.begin.new.power }) part.Recover (inr refl) c.begin.ensures.began
-
-pub returns-clause-leaves : goal.returns-clause-leaves
-returns-clause-leaves g c =
-    flows_both g.W.Tower.flow _ _ c.args.power.now c.wake-ended.new.power c.begin.new.power (c.was_cut.ensures.whole c.if-was_cut.false)
-    c.wake-ended.ensures.leaves c.begin.ensures.leaves
