@@ -1,0 +1,2 @@
+//! The tree of the file that is made for a number of operations.
+#![tactic(auto)]

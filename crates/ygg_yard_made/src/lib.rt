@@ -1,0 +1,4 @@
+//! The files that are made are layer files without a fault, whose obligations hold.
+#![tactic(auto)]
+
+pub mod law;

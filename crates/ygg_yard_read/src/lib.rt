@@ -1,0 +1,4 @@
+//! The files that are made, read.
+#![tactic(auto)]
+
+pub mod law;

@@ -1,0 +1,4 @@
+//! The files that are made refine their specifications.
+#![tactic(auto)]
+
+pub mod law;

@@ -1,0 +1,4 @@
+pub mod Folds
+pub mod Named
+pub mod Blocks
+pub mod Typed

@@ -1,0 +1,4 @@
+//! The files that are made have no type error.
+#![tactic(auto)]
+
+pub mod law;
