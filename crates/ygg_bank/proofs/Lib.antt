@@ -9,3 +9,7 @@ pub mod Inputs
 pub mod Makes
 pub mod Stored
 pub mod Reading
+pub mod Children
+pub mod Visiting
+pub mod Evaluating
+pub mod Environments

@@ -3,3 +3,5 @@ pub mod Makes
 pub mod Making
 pub mod Values
 pub mod Inputs
+pub mod Reaching
+pub mod Pending

@@ -1,9 +1,10 @@
 -- Values of nodes.
-use Rattle.std.specs.Prelude.{ℕ, ◌≡◌, ◌<◌, ◌^◌, ◌==◌, if◌then◌else◌, Option, Some, None, List, [], ◌∷◌, ◌++◌, length, slice_get, get_or}
+use Rattle.std.specs.Prelude.{ℕ, ◌≡◌, ◌<◌, ◌^◌, ◌==◌, true, if◌then◌else◌, Option, Some, None, List, [], ◌∷◌, ◌++◌, length, slice_get, get_or}
 use Rattle.ygg_value.specs.Number.{Number, IsWord}
 use Rattle.ygg_value.specs.Words.{word, apply_to, not_of, resized}
 use Rattle.ygg_bank.specs.Nodes.{InOrder, HasWidth}
 use Rattle.ygg_bank.specs.Making.{id}
+use Rattle.ygg_bank.specs.Reaching.{has_child}
 use Rattle.ygg_bank.specs.declared.env.Given.{Given}
 use Rattle.ygg_bank.specs.declared.env.Given.TheVariants as given
 use Rattle.ygg_bank.specs.declared.node.Id.{Id}
@@ -56,6 +57,11 @@ abbrev pub given_for : List Given → ℕ → Option Number
 given_for [] number = None
 given_for (given.Word n w ∷ rest) number = if n == number then Some w else given_for rest number
 
+-- what is given for a number after one more item: what was given, or else the item's word, where it has the number
+abbrev pub also_given : Option Number → Given → ℕ → Option Number
+also_given (Some k) item number = Some k
+also_given None (given.Word n w) number = if n == number then Some w else None
+
 -- the number of a word that is given; 0 where none is
 abbrev pub bits_or_zero : Option Number → ℕ
 bits_or_zero None = 0
@@ -77,7 +83,15 @@ AnswersFor old n new answer = (inputs : Inputs) → InputsFit inputs new → val
 abbrev pub KeepsValues : List Node → List Node → Type 0
 KeepsValues old new = (inputs : Inputs) (place : ℕ) → place < length old → value_of inputs new place ≡ value_of inputs old place
 
--- the list holds the values of the nodes before a place
-pub record AreValues (inputs : Inputs) (nodes : List Node) (place : ℕ) (values : List Number) : Type 0 where
-  pub count : length values ≡ place
-  pub each : (k : ℕ) → k < place → slice_get values k ≡ Some (value_of inputs nodes k)
+-- the numbers of inputs for which these words are given
+abbrev pub numbers_given : (ℕ → Option Number) → Inputs
+numbers_given given number = bits_or_zero (given number)
+
+-- where a word is given for an input among the nodes, it has the input's width
+abbrev pub GivenFit : (ℕ → Option Number) → List Node → Type 0
+GivenFit given nodes = (place number w : ℕ) (k : Number) → slice_get nodes place ≡ Some (Input number w) → given number ≡ Some k → k.width ≡ w
+
+-- the values of the children of the node at a place are known
+abbrev pub KnowsChildren : Inputs → List Node → ℕ → (ℕ → Option Number) → Type 0
+KnowsChildren inputs nodes place known =
+    (n : Node) (p : ℕ) → slice_get nodes place ≡ Some n → has_child n p ≡ true → known p ≡ Some (value_of inputs nodes p)

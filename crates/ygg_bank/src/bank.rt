@@ -1,15 +1,18 @@
 //! The bank.
 
-ghost use Rattle.std.specs.Prelude.{ℕ, ◌≡◌, ◌<◌, length, slice_get, take, Some, IfOk, OnOk, OnErr, []};
+ghost use Rattle.std.specs.Prelude.{ℕ, ◌≡◌, ◌<◌, ◌+◌, ◌↔◌, true, length, nat_eq, slice_get, take, Some, IsSome, IfOk, OnOk, OnErr, []};
+ghost use Rattle.indexmap.specs.IndexMap.{get};
 ghost use Rattle.ygg_rules.specs.Views.{IsOperand, IsWidth, operand};
 ghost use Rattle.ygg_bank.specs.Inputs.{InputsBelow, next_after};
 ghost use Rattle.ygg_bank.specs.Making.{made, added, operand_of, view_of, id_of};
 ghost use Rattle.ygg_bank.specs.Nodes.{CanMake, Extends, HasWidth, InOrder, IsBank, Stands, node_width, width_at, widths_of};
-ghost use Rattle.ygg_bank.specs.Values.{AnswersFor, AreValues, EnvFits, KeepsValues, inputs_of, value_of};
+ghost use Rattle.ygg_bank.specs.Reaching.{has_place, AllBelow, Ascends, Reaches};
+ghost use Rattle.ygg_bank.specs.Values.{AnswersFor, EnvFits, GivenFit, KeepsValues, KnowsChildren, inputs_of, numbers_given, value_of};
 
-use crate::env::{Env, given_for};
+use crate::env::{Env, words_by_number};
 use crate::node::{Id, Node};
-use indexmap::IndexSet;
+use crate::visits::reached;
+use indexmap::{IndexMap, IndexSet};
 use std::alloc::Global;
 use std::marker::Model;
 use ygg_list::NoMemory;
@@ -93,45 +96,76 @@ impl Bank {
         }
     }
 
-    /// The value of a node: the operations applied to what the environment gives, in one pass over the nodes before it. Its only
-    /// error is out of memory.
+    /// The value of a node: the operations applied to what the environment gives, in one pass over the nodes that it reaches. Time and
+    /// memory go by how many these are, and by how many items the environment has. Its only error is out of memory.
     pub fn value(&self, alloc: Global, id: Id, env: &Env) -> Result<Word, NoMemory>
         requires stands { Stands self.now id }
         requires env { EnvFits env.now self.now }
         ensures { IfOk result (λ word. word ≡ value_of (inputs_of env.now) self.now id.0) }
     {
-        let mut values = Vec::new(alloc);
-        for place in 0..id.0 {
-            let value = self.value_at(place, values.as_slice(), env);
-            if values.push(value).is_err() {
-                return Err(NoMemory);
-            }
-        }
-        Ok(self.value_at(id.0, values.as_slice(), env))
+        // the bank's nodes stand in order
+        let _ = self.len();
+        let given = words_by_number(alloc, env)?;
+        let places = reached(alloc, self, id)?;
+        let values = self.values_at(alloc, id, places.as_slice(), &given)?;
+        Ok(word_at(&values, id))
     }
 
-    /// The value of the node at a place, where those of the nodes before it are known.
-    fn value_at(&self, place: usize, values: &[Word], env: &Env) -> Word
+    /// The values of the nodes that a term reaches, whose places these are. Its only error is out of memory.
+    fn values_at(
+        &self,
+        alloc: Global,
+        term: Id,
+        places: &[usize],
+        given: &IndexMap<u64, Word>,
+    ) -> Result<IndexMap<usize, Word>, NoMemory>
+        requires ordered { InOrder [] self.now }
+        requires stands { Stands self.now term }
+        requires ascends { Ascends places.now }
+        requires below { AllBelow (term.0 + 1) places.now }
+        requires each { (p : ℕ) → (has_place places.now p ≡ true) ↔ Reaches self.now term.0 p }
+        requires given { GivenFit (get nat_eq given.now) self.now }
+        ensures { IfOk result (λ values. get nat_eq values term.0 ≡ Some (value_of (numbers_given (get nat_eq given.now)) self.now term.0)) }
+    {
+        let mut values = IndexMap::new(alloc);
+        for place in places {
+            let value = self.value_at(*place, &values, given);
+            values.insert(*place, value)?;
+        }
+        Ok(values)
+    }
+
+    /// The value of the node at a place, where those of its children are known.
+    fn value_at(
+        &self,
+        place: usize,
+        values: &IndexMap<usize, Word>,
+        given: &IndexMap<u64, Word>,
+    ) -> Word
         requires stands { place < length self.now }
-        requires before { AreValues (inputs_of env.now) self.now place values.now }
-        requires env { EnvFits env.now self.now }
-        ensures { result ≡ value_of (inputs_of env.now) self.now place }
+        requires children { KnowsChildren (numbers_given (get nat_eq given.now)) self.now place (get nat_eq values.now) }
+        requires given { GivenFit (get nat_eq given.now) self.now }
+        ensures { result ≡ value_of (numbers_given (get nat_eq given.now)) self.now place }
     {
         match self.stored(place) {
-            Node::Input { number, width } => match given_for(env, number) {
-                Some(word) => word,
+            Node::Input { number, width } => match given.get(&number) {
+                Some(word) => *word,
                 None => Word { width, bits: 0 },
             },
             Node::Const(word) => word,
-            Node::Bin { op, a, b } => apply(op, values[a.0], values[b.0]),
-            Node::Not { a } => not(values[a.0]),
-            Node::Resize { a, width } => resize(values[a.0], width),
+            Node::Bin { op, a, b } => {
+                let one = word_at(values, a);
+                let two = word_at(values, b);
+                apply(op, one, two)
+            }
+            Node::Not { a } => not(word_at(values, a)),
+            Node::Resize { a, width } => resize(word_at(values, a), width),
             Node::Pick { test, yes, no } => {
-                let chosen = values[test.0];
+                let chosen = word_at(values, test);
                 if chosen.bits == 1 {
-                    values[yes.0]
+                    word_at(values, yes)
                 } else {
-                    values[no.0]
+                    word_at(values, no)
                 }
             }
         }
@@ -246,6 +280,14 @@ impl Bank {
             }
         }
     }
+}
+
+/// The word at a place, which has one.
+fn word_at(values: &IndexMap<usize, Word>, id: Id) -> Word
+    requires { IsSome (get nat_eq values.now id.0) }
+    ensures { get nat_eq values.now id.0 ≡ Some result }
+{
+    *values.get(&id.0).unwrap()
 }
 
 /// The place of an operand that a rule names.

@@ -36,12 +36,12 @@ use Rattle.std.proofs.lemmas.Bool.{eq-eqb, ne_eqb}
 use Rattle.std.proofs.lemmas.List.{append-nil, drop_more, drop_all, length-replicate}
 use Rattle.ygg_cnf.specs.declared.lit.Lit.{Lit}
 use Rattle.ygg_bank.specs.Nodes.{Stands}
+use Rattle.ygg_bank.specs.Reaching.{has_place, AllFrom, AllBelow, Ascends}
 use Rattle.ygg_bank.specs.declared.node.Id.{Id}
 use Rattle.ygg_bank.specs.declared.node.Node.{Node}
 use Rattle.ygg_gates.specs.Groups.{Circuit, circuit, circuit_of, no_nodes, reaches, with_node}
 use Rattle.ygg_gates.specs.Sources.{Variables}
 use Rattle.ygg_gates.specs.declared.gate.Gate.{Gate}
-use Rattle.ygg_blast.specs.Places.{has_place, AllFrom, AllBelow, Ascends}
 use Rattle.ygg_blast.proofs.Steps.{Grouping, groups_begin, groups_go, groups_are}
 
 -- with so many nodes more that have no bits

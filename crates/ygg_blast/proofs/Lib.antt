@@ -3,5 +3,5 @@ pub mod Reading
 pub mod Zero
 pub mod Named
 pub mod Kept
-pub mod Visiting
+pub mod Tested
 pub mod Filling

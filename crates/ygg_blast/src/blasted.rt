@@ -12,13 +12,13 @@ ghost use Rattle.ygg_gates.specs.Sources.{environment_by, number_from};
 
 use crate::clauses::{push_clause, push_gates};
 use crate::groups::{Groups, groups_of};
-use crate::visits::reached;
 use std::alloc::Global;
 use std::marker::Model;
-use ygg_bank::{Bank, Env, Given, Id};
+use ygg_bank::{Bank, Env, Given, Id, reached};
 use ygg_cnf::{Assignment, Clauses, Lit, truth};
 use ygg_gates::InputVariables;
 use ygg_gates_circuit::true_literal;
+use ygg_gates_meaning::groups_are_of_reached_nodes;
 use ygg_list::{NoMemory, Sequence};
 use ygg_value::Word;
 
@@ -75,6 +75,9 @@ pub fn circuit_of(alloc: Global, bank: &Bank, term: Id) -> Result<Groups, NoMemo
     requires { Stands bank.now term }
     ensures { IfOk result (λ groups. groups ≡ circuit_of bank.now term) }
 {
+    // the bank's nodes stand in order
+    let _ = bank.len();
+    groups_are_of_reached_nodes();
     let reached = reached(alloc, bank, term)?;
     groups_of(alloc, bank, term, reached.as_slice())
 }

@@ -2,7 +2,7 @@
 
 ghost use Rattle.std.specs.Prelude.{◌≡◌, ◌<◌, ◌+◌, ◌^◌, ◌++◌, ℕ, true, slice_get, length, OnOk, IfOk};
 ghost use Rattle.ygg_bank.specs.Nodes.{Stands};
-ghost use Rattle.ygg_blast.specs.Places.{has_place, AllBelow, Ascends};
+ghost use Rattle.ygg_bank.specs.Reaching.{has_place, AllBelow, Ascends};
 ghost use Rattle.ygg_cnf.specs.Literals.{complement};
 ghost use Rattle.ygg_gates.specs.Groups.{bits_at, circuit, circuit_of, lowest as low_bit, node_bits, reaches, sources_of, with_node};
 ghost use Rattle.ygg_rules.specs.Views.{IsWidth};

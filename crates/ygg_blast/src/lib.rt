@@ -4,9 +4,7 @@
 mod blasted;
 mod clauses;
 mod groups;
-mod pending;
 mod table;
-mod visits;
 
 pub use blasted::{Blasted, circuit_of, clauses_of, environment};
 pub use clauses::clauses_of_gate;

@@ -2,6 +2,7 @@
 use Rattle.std.specs.Prelude.{ℕ, ◌+◌, ◌==◌, ◌&&◌, ◌||◌, Bool, true, false, List, [], ◌∷◌, ◌++◌, length, take, get_or}
 use Rattle.ygg_cnf.specs.Literals.{complement}
 use Rattle.ygg_cnf.specs.declared.lit.Lit.{Lit}
+use Rattle.ygg_bank.specs.Reaching.{has_child}
 use Rattle.ygg_bank.specs.declared.node.Id.{Id}
 use Rattle.ygg_bank.specs.declared.node.Node.{Node}
 use Rattle.ygg_bank.specs.declared.node.Node.TheVariants as node
@@ -11,15 +12,6 @@ use Rattle.ygg_gates.specs.Rows.{free_bits, constant_bits, resized_bits, joined_
 use Rattle.ygg_gates.specs.declared.gate.Gate.{Gate}
 use Rattle.ygg_gates.specs.declared.gate.Joint.TheVariants as joint
 use Rattle.ygg_gates.specs.Sources.{Variables}
-
--- whether a node has a child at this place
-abbrev pub has_child : Node → ℕ → Bool
-has_child (node.Input n w) place = false
-has_child (node.Const k) place = false
-has_child (node.Bin o a b) place = a.0 == place || b.0 == place
-has_child (node.Not a) place = a.0 == place
-has_child (node.Resize a w) place = a.0 == place
-has_child (node.Pick t a b) place = t.0 == place || a.0 == place || b.0 == place
 
 -- whether a term reaches a place by way of nodes, the first of which stands at this place: it reaches itself, and the children of
 -- each of the nodes that it reaches

@@ -35,6 +35,7 @@ use Rattle.std.proofs.lemmas.Bool.{false≢true, cases_lt}
 use Rattle.std.proofs.lemmas.List.{length_push}
 use Rattle.ygg_cnf.specs.declared.lit.Lit.{Lit}
 use Rattle.ygg_value.specs.Words.{bit_of}
+use Rattle.ygg_bank.proofs.Children.{one_child, two_child, only_child, test_child, yes_child, no_child}
 use Rattle.ygg_bank.proofs.Exist.{value_is, value_width}
 use Rattle.ygg_bank.proofs.Widths.{has_width}
 use Rattle.ygg_bank.specs.Making.{id}
@@ -65,12 +66,6 @@ use Rattle.ygg_gates_meaning.proofs.Shapes.{
   part_next,
   part_step,
   rest_later,
-  one_child,
-  two_child,
-  only_child,
-  test_child,
-  yes_child,
-  no_child,
 }
 use Rattle.ygg_gates_meaning.proofs.Steps.{follows_before}
 use Rattle.ygg_gates_meaning.proofs.Truths.{Follows}

@@ -1,13 +1,11 @@
 -- What a term reaches.
 use Rattle.std.proofs.Common.{
   ◌≡◌,
-  ◌<◌,
   ◌≤◌,
   ℕ,
   zero,
   suc,
   ◌+◌,
-  ◌==◌,
   Bool,
   true,
   false,
@@ -33,39 +31,20 @@ use Rattle.std.proofs.Common.{
   length-append,
   append_assoc,
 }
-use Rattle.std.proofs.lemmas.Bool.{false≢true, eq-eqb}
+use Rattle.std.proofs.lemmas.Bool.{eq-eqb}
 use Rattle.std.proofs.lemmas.Bool.Decides.{Decides-eqb}
 use Rattle.std.proofs.lemmas.List.{length-take, take-append-drop}
+use Rattle.ygg_bank.proofs.Children.{child_before}
 use Rattle.ygg_bank.proofs.Places.{in_front}
 use Rattle.ygg_bank.proofs.Widths.{ordered_fewer, stored_can}
-use Rattle.ygg_bank.specs.Nodes.{CanMake, InOrder, IsBank, Stands}
+use Rattle.ygg_bank.specs.Nodes.{InOrder, IsBank, Stands}
+use Rattle.ygg_bank.specs.Reaching.{has_child, Reaches}
+use Rattle.ygg_bank.specs.Reaching.Reaches.{itself, child}
 use Rattle.ygg_bank.specs.declared.node.Id.{Id}
 use Rattle.ygg_bank.specs.declared.node.Node.{Node}
-use Rattle.ygg_bank.specs.declared.node.Node.TheVariants.{Input, Const, Bin, Not, Resize, Pick}
-use Rattle.ygg_gates.specs.Groups.{has_child, reaches, reaches_from, up_to}
+use Rattle.ygg_gates.specs.Groups.{reaches, reaches_from, up_to}
 use Rattle.ygg_gates_meaning.proofs.Lists.{among_first, middle}
-use Rattle.ygg_gates_meaning.specs.Reaching.{Reaches}
-use Rattle.ygg_gates_meaning.specs.Reaching.Reaches.{itself, child}
 use Rattle.ygg_gates_meaning.proofs.Truths.{and_left, and_right, and_both, or_cases, or_first, or_second}
-
-stands_at : (a p n : ℕ) → (a == p) ≡ true → a < n → p < n
-stands_at a p n e l = let s : a ≡ p = (Decides-eqb a p).0 e in omega arith
-
--- children stand before their node
-pub child_before : (before : List Node) (n : Node) (p : ℕ) → CanMake before n → has_child n p ≡ true → p < length before
-child_before before (Input m w) p c h = absurd (false≢true h)
-child_before before (Const k) p c h = absurd (false≢true h)
-child_before before (Bin o a b) p c h =
-    ⊎_elim (λ (e : (a.0 == p) ≡ true). stands_at a.0 p (length before) e c.one) (λ (e : (b.0 == p) ≡ true). stands_at b.0 p (length before) e c.two)
-    (or_cases (a.0 == p) (b.0 == p) h)
-child_before before (Not a) p c h = stands_at a.0 p (length before) h c
-child_before before (Resize a w) p c h = stands_at a.0 p (length before) h c.0
-child_before before (Pick t a b) p c h =
-    ⊎_elim
-    (λ (e : (t.0 == p || a.0 == p) ≡ true).
-    ⊎_elim (λ (f : (t.0 == p) ≡ true). stands_at t.0 p (length before) f c.test) (λ (f : (a.0 == p) ≡ true). stands_at a.0 p (length before) f c.yes)
-    (or_cases (t.0 == p) (a.0 == p) e))
-    (λ (e : (b.0 == p) ≡ true). stands_at b.0 p (length before) e c.no) (or_cases (t.0 == p || a.0 == p) (b.0 == p) h)
 
 or_own : (a b : Bool) → (a || (a && b)) ≡ true → a ≡ true
 or_own true b h = refl

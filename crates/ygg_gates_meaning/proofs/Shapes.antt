@@ -5,11 +5,9 @@ use Rattle.std.proofs.Common.{
   ◌≤◌,
   ℕ,
   ◌+◌,
-  ◌==◌,
   Bool,
   true,
   false,
-  ◌||◌,
   List,
   [],
   ◌∷◌,
@@ -28,25 +26,26 @@ use Rattle.std.proofs.Common.{
   refl,
   append_assoc,
 }
-use Rattle.std.proofs.lemmas.Bool.{false≢true, eq-eqb, cases_lt}
+use Rattle.std.proofs.lemmas.Bool.{false≢true, cases_lt}
 use Rattle.std.proofs.lemmas.List.{length-take, length_push, take-append-drop, take_more, get_or_append_left, get_or_push}
 use Rattle.std.proofs.lemmas.Option.{slice_get_within, get_or_from_slice_get}
 use Rattle.ygg_cnf.specs.declared.lit.Lit.{Lit}
+use Rattle.ygg_bank.proofs.Children.{one_child, two_child, only_child, test_child, yes_child, no_child}
 use Rattle.ygg_bank.proofs.Places.{at_end}
 use Rattle.ygg_bank.proofs.Widths.{widths_more, widths_length, wider, has_width, stored_can}
 use Rattle.ygg_bank.specs.Making.{id}
 use Rattle.ygg_bank.specs.Nodes.{width_at, node_width, widths_of, HasWidth, Stands, CanMake, InOrder, Extends}
+use Rattle.ygg_bank.specs.Reaching.{has_child}
 use Rattle.ygg_bank.specs.declared.node.Id.{Id}
 use Rattle.ygg_bank.specs.declared.node.Node.{Node}
 use Rattle.ygg_bank.specs.declared.node.Node.TheVariants.{Input, Const, Bin, Not, Resize, Pick}
 use Rattle.ygg_gates.specs.Circuits.{Out, next_variable}
-use Rattle.ygg_gates.specs.Groups.{Circuit, has_child, bits_at, node_bits, with_node, with_nodes}
+use Rattle.ygg_gates.specs.Groups.{Circuit, bits_at, node_bits, with_node, with_nodes}
 use Rattle.ygg_gates_meaning.proofs.Following.{Closed}
 use Rattle.ygg_gates_meaning.proofs.Lists.{middle}
 use Rattle.ygg_gates_meaning.proofs.NodeGates.{ChildBits, ChildrenBits, NodeMeans, node_good}
 use Rattle.ygg_gates_meaning.proofs.Numbers.{AreBits, bits_more}
 use Rattle.ygg_gates_meaning.proofs.Steps.{Good, Grows, grows_self, grows_both, grows_length}
-use Rattle.ygg_gates_meaning.proofs.Truths.{or_first, or_second}
 
 -- the first nodes, and all
 pub front : (ns : List Node) (k : ℕ) → Extends (take k ns) ns
@@ -84,25 +83,6 @@ module _ (ns : List Node) (r : ℕ → Bool) (c : Circuit) (n : Node) where
 
   child : (a : Id) → IsNext ns r c n → r a.0 ≡ true → Stands earlier a → ChildBits earlier c.table (next_variable c.gates) a
   child a h e s = h.shaped.bits a.0 (width_at (widths_of earlier) a) (child_place a s) e (child_width a s)
-
--- each child is a child
-pub one_child : (o : _) (a b : Id) → has_child (Bin o a b) a.0 ≡ true
-one_child o a b = or_first (a.0 == a.0) (b.0 == a.0) (eq-eqb a.0 a.0 refl)
-
-pub two_child : (o : _) (a b : Id) → has_child (Bin o a b) b.0 ≡ true
-two_child o a b = or_second (a.0 == b.0) (b.0 == b.0) (eq-eqb b.0 b.0 refl)
-
-pub only_child : (a : Id) → (a.0 == a.0) ≡ true
-only_child a = eq-eqb a.0 a.0 refl
-
-pub test_child : (t a b : Id) → has_child (Pick t a b) t.0 ≡ true
-test_child t a b = or_first (t.0 == t.0 || a.0 == t.0) (b.0 == t.0) (or_first (t.0 == t.0) (a.0 == t.0) (eq-eqb t.0 t.0 refl))
-
-pub yes_child : (t a b : Id) → has_child (Pick t a b) a.0 ≡ true
-yes_child t a b = or_first (t.0 == a.0 || a.0 == a.0) (b.0 == a.0) (or_second (t.0 == a.0) (a.0 == a.0) (eq-eqb a.0 a.0 refl))
-
-pub no_child : (t a b : Id) → has_child (Pick t a b) b.0 ≡ true
-no_child t a b = or_second (t.0 == b.0 || a.0 == b.0) (b.0 == b.0) (eq-eqb b.0 b.0 refl)
 
 children : (ns : List Node) (r : ℕ → Bool) (c : Circuit) (n : Node) → IsNext ns r c n → r (length c.table) ≡ true →
     ChildrenBits (take (length c.table) ns) c.table (next_variable c.gates) n

@@ -1,6 +1,6 @@
 use Rattle.std.proofs.Common.{reverse}
-use Rattle.ygg_blast.proofs.Visiting.{Visiting}
-use Rattle.ygg_blast.proofs.visits.reached.Given as goal
+use Rattle.ygg_bank.proofs.Visiting.{Visiting}
+use Rattle.ygg_bank.proofs.visits.reached.Given as goal
 
 abbrev pub invariant-loop-place : goal.invariant-loop-place
 invariant-loop-place l = Visiting l.bank l.fn.term l.below l.pending (reverse l.places.items)

@@ -1,7 +1,7 @@
-use Rattle.std.proofs.Common.{ap, ◌∙◌, reverse}
-use Rattle.ygg_blast.specs.Places.{has_place}
-use Rattle.ygg_blast.proofs.Visiting.{begins_with, goes, goes_with, visited_all}
-use Rattle.ygg_blast.proofs.visits.reached.Goals as goal
+use Rattle.std.proofs.Common.{◌≡◌, ◌↔◌, true, sym, subst, reverse}
+use Rattle.ygg_bank.specs.Reaching.{has_place, Reaches}
+use Rattle.ygg_bank.proofs.Visiting.{begins_with, goes, goes_with, visited_all}
+use Rattle.ygg_bank.proofs.visits.reached.Goals as goal
 
 pub loop-place-init : goal.loop-place-init
 loop-place-init c =
@@ -18,7 +18,6 @@ loop-place-preserved c =
 
 pub returns-clause-each : goal.returns-clause-each
 returns-clause-each c p =
-    ap (λ z. has_place z p) c.reverse.ensures.items
-    ∙ visited_all c.args.bank.now c.args.term c.loop-place.below c.loop-place.pending
-    (reverse c.loop-place.places.items) c.len.ensures.bank c.requires c.groups_are_of_reached_nodes.ensures c.in_default.ensures.none
-    c.loop-place.invariant p
+    subst (λ z. (has_place z p ≡ true) ↔ Reaches c.args.bank.now c.args.term.0 p) (sym c.reverse.ensures.items)
+    (visited_all c.args.bank.now c.args.term c.loop-place.below c.loop-place.pending (reverse c.loop-place.places.items) c.in_default.ensures.none
+    c.loop-place.invariant p)

@@ -1,11 +1,11 @@
 //! Places that are to be visited.
 
 ghost use Rattle.std.specs.Prelude.{◌≡◌, ◌≤◌, ◌==◌, ◌||◌, ◌&&◌, ℕ, true, false, not, OnOk, IfSome, IfNone};
-ghost use Rattle.ygg_blast.specs.Pending.{has};
-ghost use Rattle.ygg_gates.specs.Groups.{has_child};
+ghost use Rattle.ygg_bank.specs.Pending.{has};
+ghost use Rattle.ygg_bank.specs.Reaching.{has_child};
 
+use crate::node::Node;
 use std::collections::BTreeSet;
-use ygg_bank::Node;
 use ygg_list::NoMemory;
 
 /// Adds a place. Its only error is out of memory.
