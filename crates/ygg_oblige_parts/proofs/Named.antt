@@ -12,8 +12,8 @@ use Rattle.ygg_shape.proofs.Answered.{no_inputs, some_fit}
 use Rattle.ygg_shape_cells.specs.declared.terms.SymValue.{SymValue}
 use Rattle.ygg_sym_below.specs.Lows.{LowShaped}
 use Rattle.ygg_sym.proofs.Left.{Left, left_goes, rest_is}
-use Rattle.ygg_oblige_terms.specs.Layers.{ShapesKept}
-use Rattle.ygg_oblige_terms.specs.States.{fresh_all, words_in}
+use Rattle.ygg_oblige_pieces.specs.Layers.{ShapesKept}
+use Rattle.ygg_oblige_pieces.specs.ObligeTermsStates.{fresh_all, words_in}
 use Rattle.ygg_oblige_pieces.proofs.Fresh.{all_gives}
 
 module _ (kinds : List RuleKind) where

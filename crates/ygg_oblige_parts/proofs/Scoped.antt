@@ -28,8 +28,8 @@ use Rattle.ygg_bank.specs.Values.{value_of}
 use Rattle.ygg_sym_below.proofs.Lows.{low_fits}
 use Rattle.ygg_sym_below.proofs.Specs.{bound_worth, low_shaped}
 use Rattle.ygg_sym_below.specs.Lows.{LowShaped, low_worth}
-use Rattle.ygg_oblige_terms.specs.Layers.{FormulaTyped, LayerTyped}
-use Rattle.ygg_oblige_terms.specs.States.{Trio}
+use Rattle.ygg_oblige_pieces.specs.Layers.{FormulaTyped, LayerTyped}
+use Rattle.ygg_oblige_pieces.specs.ObligeTermsStates.{Trio}
 use Rattle.ygg_oblige_pieces.proofs.Truths.{both_fit}
 use Rattle.ygg_oblige_pieces.specs.Worth.{TrioShaped}
 use Rattle.ygg_oblige_parts.specs.Formulas.{CanTest, seen}

@@ -14,9 +14,9 @@ use Rattle.ygg_shape.proofs.Answered.{no_inputs, some_fit}
 use Rattle.ygg_shape_cells.specs.declared.terms.SymValue.{SymValue}
 use Rattle.ygg_shape_hypothesis.specs.declared.replacing.Replacement.{Replacement}
 use Rattle.ygg_sym_expr.specs.Exprs.{SymFunctions}
-use Rattle.ygg_oblige_terms.specs.Means.{terms_of}
-use Rattle.ygg_oblige_terms.specs.Layers.{LayerTyped}
-use Rattle.ygg_oblige_terms.specs.States.{Trio, Starting, fresh_trio, replaced_all, replaced_trio, starting}
+use Rattle.ygg_oblige_pieces.specs.Means.{terms_of}
+use Rattle.ygg_oblige_pieces.specs.Layers.{LayerTyped}
+use Rattle.ygg_oblige_pieces.specs.ObligeTermsStates.{Trio, Starting, fresh_trio, replaced_all, replaced_trio, starting}
 use Rattle.ygg_oblige_pieces.proofs.Starting.{states_mean}
 use Rattle.ygg_oblige_parts.specs.Makers.{StartingShaped, started_made}
 

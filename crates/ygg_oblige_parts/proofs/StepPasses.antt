@@ -41,13 +41,13 @@ use Rattle.ygg_sym_below.specs.Disks.{Done}
 use Rattle.ygg_sym_below.specs.Lows.{LowShaped, low_worth}
 use Rattle.ygg_sym_below.specs.SpecCuts.{block_made}
 use Rattle.ygg_sym_below.specs.Specs.{given_pick}
-use Rattle.ygg_oblige_terms.specs.Means.{terms_of}
+use Rattle.ygg_oblige_pieces.specs.Means.{terms_of}
 use Rattle.ygg_sym.specs.Layers.{closed}
 use Rattle.ygg_sym.specs.SymLayer.{SymLayer}
 use Rattle.ygg_sym.specs.declared.below.SymBelow.{SymBelow}
-use Rattle.ygg_oblige_terms.specs.Layers.{OperationFits, LayerTyped}
-use Rattle.ygg_oblige_terms.specs.Numbers.{arguments_of}
-use Rattle.ygg_oblige_terms.specs.Outcomes.{any_picks, outcome_made}
+use Rattle.ygg_oblige_pieces.specs.Layers.{OperationFits, LayerTyped}
+use Rattle.ygg_oblige_pieces.specs.Numbers.{arguments_of}
+use Rattle.ygg_oblige_pieces.specs.Outcomes.{any_picks, outcome_made}
 use Rattle.ygg_oblige_pieces.proofs.Truths.{layer_mean}
 use Rattle.ygg_oblige_pieces.specs.Steps.{ObligationTyped, AnswerKept, variables_of}
 use Rattle.ygg_oblige_parts.specs.Digits.{AnswersAlike}

@@ -11,7 +11,7 @@ use Rattle.ygg_bank.specs.declared.node.Node.{Node}
 use Rattle.ygg_sym_expr.specs.Exprs.{id_in}
 use Rattle.ygg_sym_expr.specs.Names.{SymEnv}
 use Rattle.ygg_sym_expr.specs.Seen.{SymKnown, CanTerm, terms_called, terms_in}
-use Rattle.ygg_oblige_terms.specs.States.{truths_made}
+use Rattle.ygg_oblige_pieces.specs.ObligeTermsStates.{truths_made}
 
 -- these definitions, and these names
 abbrev pub seen : List Def → SymEnv → SymEnv → SymKnown

@@ -1,3 +1,5 @@
+pub use Rattle.ygg_sym.specs.SymLayer
+pub use Rattle.ygg_sym.specs.Layers
 pub use Rattle.ygg_oblige_pieces.specs.Steps as ObligePiecesSteps
 pub use Rattle.ygg_sym.specs.Kept
 pub use Rattle.ygg_sym.specs.declared.runs.SymBlock

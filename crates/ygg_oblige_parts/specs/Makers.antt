@@ -12,8 +12,8 @@ use Rattle.ygg_sym.specs.Layers.{closed}
 use Rattle.ygg_sym.specs.SymLayer.{SymLayer}
 use Rattle.ygg_sym.specs.Sites.{below_in}
 use Rattle.ygg_sym.specs.declared.below.SymBelow.{SymBelow}
-use Rattle.ygg_oblige_terms.specs.Layers.{LayerTyped}
-use Rattle.ygg_oblige_terms.specs.States.{Trio, Starting, related_made, settled_made, replaced_trio, replaced_all}
+use Rattle.ygg_oblige_pieces.specs.Layers.{LayerTyped}
+use Rattle.ygg_oblige_pieces.specs.ObligeTermsStates.{Trio, Starting, related_made, settled_made, replaced_trio, replaced_all}
 use Rattle.ygg_oblige_pieces.specs.Worth.{TrioShaped}
 use Rattle.ygg_oblige_parts.specs.declared.states.SymTrio.{SymTrio}
 use Rattle.ygg_oblige_parts.specs.declared.states.SymStarting.{SymStarting}

@@ -21,10 +21,10 @@ use Rattle.ygg_sym.specs.Layers.{closed, terms_in}
 use Rattle.ygg_sym.specs.SymLayer.{SymLayer}
 use Rattle.ygg_sym.specs.Sites.{below_in}
 use Rattle.ygg_sym.specs.declared.below.SymBelow.{SymBelow}
-use Rattle.ygg_oblige_terms.specs.Numbers.{arguments_of}
-use Rattle.ygg_oblige_terms.specs.Outcomes.{any_picks, outcome_made}
-use Rattle.ygg_oblige_terms.specs.States.{related_made}
-use Rattle.ygg_oblige_terms.specs.Terms.{Finish, same_answers_made}
+use Rattle.ygg_oblige_pieces.specs.Numbers.{arguments_of}
+use Rattle.ygg_oblige_pieces.specs.Outcomes.{any_picks, outcome_made}
+use Rattle.ygg_oblige_pieces.specs.ObligeTermsStates.{related_made}
+use Rattle.ygg_oblige_pieces.specs.Terms.{Finish, same_answers_made}
 use Rattle.ygg_oblige_pieces.specs.Steps.{AnswerKept, HasStep, ObligationTyped, variables_of}
 use Rattle.ygg_oblige_parts.specs.Digits.{AnswersAlike}
 use Rattle.ygg_oblige_parts.specs.Makers.{LayerFits}

@@ -1,45 +1,19 @@
 //! Comparing states, and comparing answers.
 
-ghost use Rattle.std.specs.Prelude.{◌≡◌, IfOk, OnOk, All};
+ghost use Rattle.std.specs.Prelude.{◌≡◌, IfOk, OnOk};
 ghost use Rattle.ygg_bank.specs.Nodes.{Extends, HasWidth, IsBank};
 ghost use Rattle.ygg_shape.specs.Wholes.{AllAlike};
-ghost use Rattle.ygg_shape_cells.specs.Lists.{each_two};
-ghost use Rattle.ygg_shape_cells.specs.Making.{compared};
 ghost use Rattle.ygg_sym_runs.specs.Lower.{KeepsSingle};
-ghost use Rattle.ygg_oblige_terms.specs.Outcomes.{answers_compared};
-ghost use Rattle.ygg_oblige_terms.specs.States.{all_compared};
-ghost use Rattle.ygg_oblige_parts.specs.Digits.{AnswersAlike, IsDigit};
+ghost use Rattle.ygg_oblige_pieces.specs.Outcomes.{answers_compared};
+ghost use Rattle.ygg_oblige_pieces.specs.ObligeTermsStates.{all_compared};
+ghost use Rattle.ygg_oblige_parts.specs.Digits.{AnswersAlike};
 
-use crate::digits::{all, constant};
+use crate::digits::constant;
 use std::alloc::Global;
 use ygg_bank::{Bank, Id, NoMemory};
 use ygg_rules::Book;
-use ygg_shape::equal;
+use ygg_shape::{equal, equal_all};
 use ygg_shape_cells::SymValue;
-
-/// For each place whether the values there are equal.
-fn equals<B: Book>(
-    alloc: Global,
-    bank: &mut Bank,
-    book: &B,
-    one: &[SymValue],
-    two: &[SymValue],
-) -> Result<Vec<Id>, NoMemory>
-    requires bank { IsBank bank.old }
-    requires alike { AllAlike bank.old one.now two.now }
-    ensures nodes { OnOk result (bank.new ≡ (each_two (compared (B.kinds book.now)) one.now two.now bank.old).nodes) }
-    ensures form { IfOk result (λ ids. ids.items ≡ (each_two (compared (B.kinds book.now)) one.now two.now bank.old).value) }
-    ensures digits { IfOk result (λ ids. All (IsDigit bank.new) ids.items) }
-    ensures grows { Extends bank.old bank.new }
-    ensures bank { IsBank bank.new }
-{
-    let mut ids = Vec::new(alloc);
-    for place in 0..one.len() {
-        let id = equal(bank, book, &one[place], &two[place])?;
-        ids.push(id)?;
-    }
-    Ok(ids)
-}
 
 /// Whether two lists of values are equal, value by value. Its only error is out of memory, after which the bank may have more nodes.
 pub fn all_equal<B: Book>(
@@ -57,10 +31,7 @@ pub fn all_equal<B: Book>(
     ensures single { OnOk result (KeepsSingle bank.old bank.new) }
     ensures bank { IsBank bank.new }
 {
-    // the bank's nodes stand in order
-    let _ = bank.len();
-    let ids = equals(alloc, bank, book, one, two)?;
-    all(bank, book, ids.as_slice())
+    equal_all(alloc, bank, book, one, two)
 }
 
 /// Whether two answers are the same. Its only error is out of memory, after which the bank may have more nodes.

@@ -9,8 +9,8 @@ ghost use Rattle.ygg_meaning.specs.Shapes.{shape_in};
 ghost use Rattle.ygg_sym_below.specs.Lows.{LowShaped};
 ghost use Rattle.ygg_sym_expr.specs.Names.{sym_bind};
 ghost use Rattle.ygg_sym_expr.specs.Seen.{env_of};
-ghost use Rattle.ygg_oblige_terms.specs.Layers.{ShapesKept};
-ghost use Rattle.ygg_oblige_terms.specs.States.{fresh_all, words_in};
+ghost use Rattle.ygg_oblige_pieces.specs.Layers.{ShapesKept};
+ghost use Rattle.ygg_oblige_pieces.specs.ObligeTermsStates.{fresh_all, words_in};
 
 use std::alloc::Global;
 use ygg_bank::{Bank, NoMemory};

@@ -8,7 +8,7 @@ ghost use Rattle.ygg_sym_below.specs.Lows.{LowShaped};
 ghost use Rattle.ygg_sym_expr.specs.Seen.{env_of};
 ghost use Rattle.ygg_sym_runs.specs.Lower.{KeepsSingle};
 ghost use Rattle.ygg_sym.specs.Layers.{closed, terms_in};
-ghost use Rattle.ygg_oblige_terms.specs.States.{
+ghost use Rattle.ygg_oblige_pieces.specs.ObligeTermsStates.{
   fresh_trio,
   related_made,
   replaced_all,

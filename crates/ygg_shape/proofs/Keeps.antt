@@ -13,6 +13,8 @@ use Rattle.ygg_bank.specs.declared.node.Node.{Node}
 use Rattle.ygg_bank.specs.declared.node.Node.TheVariants.{Const, Bin}
 use Rattle.ygg_shape_words.proofs.Keeps.{Stays, picked_keeps, same_words_keeps}
 use Rattle.ygg_shape_words.specs.Same.{same_words}
+use Rattle.ygg_shape_sums.proofs.Keeps.{equated_words_keeps}
+use Rattle.ygg_shape_sums.specs.Equates.{equated_words}
 use Rattle.ygg_shape_words.specs.Picking.{picked}
 use Rattle.ygg_shape_cells.specs.Lists.{each_two, each_from, fold_two, fold_from}
 use Rattle.ygg_shape_cells.specs.Making.{
@@ -88,7 +90,7 @@ module _ (kinds : List RuleKind) (P : List Node → Type 0) (stays : Stays kinds
 
   pub compared_word_keeps : (s a b : Id) (nodes : List Node) → P nodes → P (compared_word kinds s a b nodes).nodes
   compared_word_keeps s a b nodes p =
-      let o = same_words kinds a b nodes in stays (Bin And s o.value) o.nodes tt (same_words_keeps kinds P stays a b nodes p)
+      let o = equated_words kinds a b nodes in stays (Bin And s o.value) o.nodes tt (equated_words_keeps kinds P stays a b nodes p)
 
   pub compared_row_keeps : (s : Id) (xs ys : List Id) (nodes : List Node) → P nodes → P (compared_row kinds s xs ys nodes).nodes
   compared_row_keeps s xs ys nodes p = fold_two_keeps P (compared_word kinds) compared_word_keeps s xs ys nodes p
@@ -97,7 +99,7 @@ module _ (kinds : List RuleKind) (P : List Node → Type 0) (stays : Stays kinds
   compared_rows_keeps s xs ys nodes p = fold_two_keeps P (compared_row kinds) compared_row_keeps s xs ys nodes p
 
   pub compared_keeps : (one two : SymValue) (nodes : List Node) → P nodes → P (compared kinds one two nodes).nodes
-  compared_keeps (value.Word a) (value.Word b) nodes p = same_words_keeps kinds P stays a b nodes p
+  compared_keeps (value.Word a) (value.Word b) nodes p = equated_words_keeps kinds P stays a b nodes p
   compared_keeps (value.Row x) (value.Row y) nodes p =
       let o = made kinds (Const (word 1 1)) nodes in compared_row_keeps o.value x y o.nodes (stays (Const (word 1 1)) nodes tt p)
   compared_keeps (value.Table x) (value.Table y) nodes p =

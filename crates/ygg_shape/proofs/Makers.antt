@@ -57,7 +57,7 @@ use Rattle.ygg_shape_cells.specs.declared.terms.SymValue.TheVariants.{Word, Row,
 use Rattle.ygg_shape.proofs.Answered.{selected_row, read_is, stored_rows, stored_size}
 use Rattle.ygg_shape.proofs.Grows.{merged_grows, compared_grows, selected_grows, stored_grows, stored_where_grows}
 use Rattle.ygg_shape.proofs.Guarded.{rows_where, where_size, where_is}
-use Rattle.ygg_shape.proofs.Singles.{single_table, single_row, read_is as word_is, write_is, counts}
+use Rattle.ygg_shape.proofs.Singles.{single_table, single_row, singles_count, read_is as word_is, write_is, counts, firsts_row}
 use Rattle.ygg_shape.proofs.Worth.{grid, table_worth, table_like, merged_is, compared_is}
 use Rattle.ygg_shape.specs.Guarding.{stored_where}
 use Rattle.ygg_shape.specs.RowPlaces.{single, singles, first, RowStands, word_selected, word_stored}
@@ -164,28 +164,9 @@ module _ (inputs : Inputs) (v : Values) (kinds : List RuleKind) where
       let t = (m.shaped).has in
       let rows = (t.1).rows in
       record {
-        shaped = record { limits = l; has = firsts_row o.nodes w n o.value (t.0 ∙ size row ∙ p.count) rows };
+        shaped = record { limits = l; has = firsts_row o.nodes w n o.value (t.0 ∙ singles_count row ∙ p.count) rows };
         is = ap value.Row (write_is v row a o.value (v at.0).bits (counts o.nodes 1 w o.value rows)
             (table_back (table_of v o.value) (table_write (table_of v (singles row)) (v at.0).bits (row_of v (single a))) m.is));
       } where
-        size : (row : List Id) → length (singles row) ≡ length row
-        size [] = refl
-        size (a ∷ row) = omega (arith, size row)
-
         table_back : (a b : Grid) → value.Table a ≡ value.Table b → a ≡ b
         table_back a b e = cc
-
-        firsts_wide : (nodes : List Node) (w : ℕ) (rows : List (List Id)) → All (IsRow nodes 1 w) rows → All (λ (a : Id). HasWidth nodes a w) (map first rows)
-        firsts_wide nodes w [] q = All-nil (λ (a : Id). HasWidth nodes a w)
-        firsts_wide nodes w ([] ∷ rows) q = let r = All-head (IsRow nodes 1 w) [] rows q in absurd (omega (arith, r.count))
-        firsts_wide nodes w ((a ∷ row) ∷ rows) q =
-            let r = All-head (IsRow nodes 1 w) (a ∷ row) rows q in
-            All-cons (λ (a : Id). HasWidth nodes a w) a (map first rows) (r.wide 0 a (omega arith))
-            (firsts_wide nodes w rows (All-tail (IsRow nodes 1 w) (a ∷ row) rows q))
-
-        firsts_count : (rows : List (List Id)) → length (map first rows) ≡ length rows
-        firsts_count [] = refl
-        firsts_count (row ∷ rows) = omega (arith, firsts_count rows)
-
-        firsts_row : (nodes : List Node) (w n : ℕ) (rows : List (List Id)) → length rows ≡ n → All (IsRow nodes 1 w) rows → IsRow nodes n w (map first rows)
-        firsts_row nodes w n rows e q = record { count = firsts_count rows ∙ e; wide = firsts_wide nodes w rows q }

@@ -53,6 +53,9 @@ use Rattle.ygg_shape_words.proofs.Picks.{picked_is}
 use Rattle.ygg_shape_words.proofs.Terms.{TermIs, holds, made_is, either, number_if, bit_is, and_digits}
 use Rattle.ygg_shape_words.specs.Picking.{picked}
 use Rattle.ygg_shape_words.specs.Same.{same_words}
+use Rattle.ygg_shape_sums.proofs.Equates.{equated_words_is}
+use Rattle.ygg_shape_sums.proofs.Keeps.{equated_words_grows}
+use Rattle.ygg_shape_sums.specs.Equates.{equated_words}
 use Rattle.ygg_shape_words.specs.Forms.{WordsAlike}
 use Rattle.ygg_shape.proofs.Grows.{merged_row_grows, compared_word_grows, compared_row_grows}
 use Rattle.ygg_shape_cells.proofs.Wider.{IsWide, all_wider, row_wider}
@@ -106,10 +109,10 @@ module _ (inputs : Inputs) (v : Values) (kinds : List RuleKind) where
       TermIs inputs v (compared_word kinds so_far a b nodes).nodes 1 (word 1 (bit_of (s && ((v a.0).bits == (v b.0).bits))))
       (compared_word kinds so_far a b nodes).value
   compared_word_is s so_far a b nodes d p e h =
-      let o = same_words kinds a b nodes in
-      let g = same_words_grows kinds a b nodes in
+      let o = equated_words kinds a b nodes in
+      let g = equated_words_grows kinds a b nodes in
       let q = made kinds (Bin And so_far o.value) o.nodes in
-      let x = same_words_is inputs v kinds a b nodes p (fits_fewer inputs v o.nodes q.nodes (made_grows kinds (Bin And so_far o.value) o.nodes) h) in
+      let x = equated_words_is inputs v kinds a b nodes p (fits_fewer inputs v o.nodes q.nodes (made_grows kinds (Bin And so_far o.value) o.nodes) h) in
       let c = wider nodes o.nodes so_far 1 g d in
       let y = made_is inputs v kinds (Bin And so_far o.value) o.nodes (can_and o.nodes so_far o.value 1 c x.wide) h in
       record {

@@ -2,6 +2,8 @@
 use Rattle.std.proofs.Common.{
   ◌≡◌,
   ◌≤◌,
+  ◌<◌,
+  Some,
   ℕ,
   zero,
   suc,
@@ -29,8 +31,10 @@ use Rattle.std.proofs.Common.{
 }
 use Rattle.std.proofs.lemmas.List.Elements.{All-head, All-tail, All-cons, All-nil, All-weaker}
 use Rattle.ygg_value.specs.Number.{Digits, Grid}
+use Rattle.ygg_value.specs.Shapes.{IsShape}
 use Rattle.ygg_value.specs.Values.{row_read, row_write, table_read, table_write}
 use Rattle.ygg_value.specs.Words.{word}
+use Rattle.ygg_value.specs.declared.shape.Shape.TheVariants as shape
 use Rattle.ygg_bank.specs.Nodes.{HasWidth}
 use Rattle.ygg_bank.specs.Values.{Values, value_of}
 use Rattle.ygg_bank.specs.declared.node.Id.{Id}
@@ -192,3 +196,56 @@ pub written : {E : Type 0} (nodes : List Node) (row : List Id) (answer rows : Li
     IsWordWritten nodes row at w (map first answer) → IfOk r (IsWordWritten nodes row at w)
 written nodes row answer rows at w (Ok x) e g h = subst (IsWordWritten nodes row at w) (sym (e ∙ ap (map first) g)) h
 written nodes row answer rows at w (Err y) e g h = tt
+
+firsts_wide : (nodes : List Node) (w : ℕ) (rows : List (List Id)) → All (IsRow nodes 1 w) rows → All (λ (a : Id). HasWidth nodes a w) (map first rows)
+firsts_wide nodes w [] q = All-nil (λ (a : Id). HasWidth nodes a w)
+firsts_wide nodes w ([] ∷ rows) q = let r = All-head (IsRow nodes 1 w) [] rows q in absurd (omega (arith, r.count))
+firsts_wide nodes w ((a ∷ row) ∷ rows) q =
+    let r = All-head (IsRow nodes 1 w) (a ∷ row) rows q in
+    All-cons (λ (a : Id). HasWidth nodes a w) a (map first rows) (r.wide 0 a (omega arith))
+    (firsts_wide nodes w rows (All-tail (IsRow nodes 1 w) (a ∷ row) rows q))
+
+firsts_count : (rows : List (List Id)) → length (map first rows) ≡ length rows
+firsts_count [] = refl
+firsts_count (row ∷ rows) = omega (arith, firsts_count rows)
+
+-- the first words of rows of one word are a row
+pub firsts_row : (nodes : List Node) (w n : ℕ) (rows : List (List Id)) → length rows ≡ n → All (IsRow nodes 1 w) rows → IsRow nodes n w (map first rows)
+firsts_row nodes w n rows e q = record { count = firsts_count rows ∙ e; wide = firsts_wide nodes w rows q }
+
+pub singles_count : (row : List Id) → length (singles row) ≡ length row
+singles_count = map_length single
+
+-- a row that stands is of the shape that all its words have
+same_shape : (nodes : List Node) (row : List Id) (h : RowStands nodes row) (n w : ℕ) → IsRow nodes n w row → IsShape (shape.Row n w) × (w ≡ h.width)
+same_shape nodes row h n w p =
+    let i = h.is in
+    let l = h.limits in
+    let a : Id = record { 0 = 0 } in
+    let some : 0 < length row = omega (arith, i.count, l.0.0) in
+    let words : h.words ≡ n = sym i.count ∙ p.count in
+    let both : Some w ≡ Some h.width = sym (p.wide 0 a some) ∙ i.wide 0 a some in
+    let width : w ≡ h.width = cc in
+    (subst (λ z. IsShape (shape.Row n z)) (sym width) (subst (λ z. IsShape (shape.Row z h.width)) words l), width)
+
+-- what a call needs of a row in each shape that it has
+pub own_table : (nodes : List Node) (row : List Id) (table : List (List Id)) (h : RowStands nodes row) (n w : ℕ) → IsRow nodes n w row →
+    table ≡ singles row → IsTable nodes 1 w table
+own_table nodes row table h n w p e =
+    let s = same_shape nodes row h n w p in
+    table_ready nodes row table (record { words = n; width = w; limits = s.0; is = p }) e
+
+pub own_row : (nodes : List Node) (row one : List Id) (a : Id) (h : CanWrite nodes row a) (n w : ℕ) → IsRow nodes n w row → one ≡ single a → IsRow nodes 1 w one
+own_row nodes row one a h n w p e =
+    let s = same_shape nodes row h.stands n w p in
+    subst (IsRow nodes 1 w) (sym e) (single_row nodes w a (subst (λ z. HasWidth nodes a z) (sym s.1) h.word_has))
+
+-- the shapes of what the calls answer
+pub first_has : (nodes : List Node) (w : ℕ) (answer row : List Id) (a : Id) → row ≡ answer → IsRow nodes 1 w answer → HasWidth nodes (get_or row 0 a) w
+first_has nodes w answer row a e r = subst (λ z. HasWidth nodes (get_or z 0 a) w) (sym e) (r.wide 0 a (omega (arith, r.count)))
+
+pub firsts_shaped : {E : Type 0} (nodes : List Node) (n w : ℕ) (answer rows : List (List Id)) (r : Result (List Id) E) →
+    IfOk r (λ x. x ≡ map first rows) → rows ≡ answer → length answer ≡ n → All (IsRow nodes 1 w) answer → IfOk r (IsRow nodes n w)
+firsts_shaped nodes n w answer rows (Ok x) e g c h =
+    subst (IsRow nodes n w) (sym (e ∙ ap (map first) g)) (firsts_row nodes w n answer c h)
+firsts_shaped nodes n w answer rows (Err y) e g c h = tt

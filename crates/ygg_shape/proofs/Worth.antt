@@ -20,11 +20,11 @@ use Rattle.ygg_bank.specs.Values.{Inputs, Values, Fits}
 use Rattle.ygg_bank.specs.declared.node.Id.{Id}
 use Rattle.ygg_bank.specs.declared.node.Node.{Node}
 use Rattle.ygg_bank.specs.declared.node.Node.TheVariants.{Const, Bin}
-use Rattle.ygg_shape_words.proofs.Compares.{same_words_is}
+use Rattle.ygg_shape_sums.proofs.Equates.{equated_words_is}
 use Rattle.ygg_shape_words.proofs.Fit.{alike}
 use Rattle.ygg_shape_words.proofs.Picks.{picked_is}
 use Rattle.ygg_shape_words.proofs.Terms.{TermIs, holds, made_is}
-use Rattle.ygg_shape_words.specs.Same.{same_words}
+use Rattle.ygg_shape_sums.specs.Equates.{equated_words}
 use Rattle.ygg_shape.proofs.Grows.{compared_row_grows, compared_rows_grows}
 use Rattle.ygg_shape.proofs.Rows.{merged_row_is, compared_row_is}
 use Rattle.ygg_shape.proofs.Tables.{merged_rows_is, merged_rows_length, compared_rows_is}
@@ -160,8 +160,8 @@ module _ (inputs : Inputs) (v : Values) (kinds : List RuleKind) where
       Extends nodes (compared kinds one two nodes).nodes → Fits inputs v (compared kinds one two nodes).nodes →
       ComparedIs one two (compared kinds one two nodes).nodes (compared kinds one two nodes).value
   compared_words w (Word a) (Word b) nodes p q g h =
-      let m = same_words_is inputs v kinds a b nodes (alike nodes a b w p q) h in
-      let f = fits_fewer inputs v nodes (same_words kinds a b nodes).nodes g h in
+      let m = equated_words_is inputs v kinds a b nodes (alike nodes a b w p q) h in
+      let f = fits_fewer inputs v nodes (equated_words kinds a b nodes).nodes g h in
       let same = same_number (v a.0).width (v b.0).width (f.widths a.0 w p ∙ sym (f.widths b.0 w q)) in
       record { wide = m.wide; is = m.is ∙ ap (λ z. word 1 (bit_of (z && ((v a.0).bits == (v b.0).bits)))) (sym same) }
   compared_words w (Word a) (Row y) nodes p q g h = absurd q

@@ -12,7 +12,7 @@ ghost use Rattle.ygg_shape_cells.specs.Terms.{AreAlike, RowsAlike, TablesAlike};
 use ygg_bank::{Bank, Id, NoMemory, Node};
 use ygg_rules::Book;
 use ygg_shape_cells::{SymRow, SymValue};
-use ygg_shape_words::same;
+use ygg_shape_sums::equate;
 use ygg_value::{Op, Word};
 
 /// The term that is 1 where the two values are equal, and 0 where they aren't, in every environment. Its only error is out of memory,
@@ -50,7 +50,7 @@ fn equal_by<B: Book>(
     ensures bank { IsBank bank.new }
 {
     match (one, two) {
-        (SymValue::Word(one), SymValue::Word(two)) => same(bank, book, *one, *two),
+        (SymValue::Word(one), SymValue::Word(two)) => equate(bank, book, *one, *two),
         (SymValue::Row(one), SymValue::Row(two)) => {
             let so_far = bank.make(Node::Const(Word { width: 1, bits: 1 }), book)?;
             compare_row(bank, book, so_far, one.as_slice(), two.as_slice())
@@ -132,7 +132,7 @@ fn compare_word<B: Book>(
     ensures grows { Extends bank.old bank.new }
     ensures bank { IsBank bank.new }
 {
-    let b = same(bank, book, one, two)?;
+    let b = equate(bank, book, one, two)?;
     let op = Op::And;
     bank.make(Node::Bin { op, a: so_far, b }, book)
 }

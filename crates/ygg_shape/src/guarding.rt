@@ -14,7 +14,7 @@ use ygg_bank::{Bank, Id, NoMemory, Node};
 use ygg_rules::Book;
 use ygg_shape_cells::cells::put_row;
 use ygg_shape_cells::{SymRow, SymTable};
-use ygg_shape_words::{fits, known, same};
+use ygg_shape_sums::{fits, known, same};
 use ygg_value::{Op, Word};
 
 /// A test of width 1, a place, and how many binary digits the place has.

@@ -9,6 +9,7 @@ mod places;
 pub mod row_words;
 pub mod selecting;
 pub mod storing;
+pub mod whole_comparing;
 pub mod wholes;
 
 pub use comparing::equal;
@@ -18,5 +19,6 @@ pub use merging::merge;
 pub use row_words::{select_word, store_word};
 pub use selecting::select;
 pub use storing::store;
+pub use whole_comparing::equal_all;
 pub use wholes::{merge_all, zero};
 pub use ygg_shape_cells::{SymRow, SymTable, SymValue, SymValues};

@@ -14,7 +14,7 @@ use ygg_bank::{Bank, Id, NoMemory};
 use ygg_list::Duplicate;
 use ygg_rules::Book;
 use ygg_shape_cells::{SymRow, SymTable, SymValue};
-use ygg_shape_words::pick;
+use ygg_shape_sums::pick;
 
 /// The value that is `yes` where the test is 1, and `no` where it is 0, in every environment. It picks word by word, and asks nothing
 /// of words that are one term. Its only error is out of memory, after which the bank may have more nodes.

@@ -11,7 +11,7 @@ use std::alloc::Global;
 use ygg_bank::{Bank, Id, NoMemory, Node};
 use ygg_rules::Book;
 use ygg_shape_cells::SymRow;
-use ygg_shape_words::{fits, same};
+use ygg_shape_sums::{fits, same};
 use ygg_value::Word;
 
 /// A place that is a term, and how many binary digits it has.

@@ -1,9 +1,10 @@
 //! Reading and writing a row at a place that is a term: as a table of one word a row.
 
-ghost use Rattle.std.specs.Prelude.{◌≡◌, ◌≤◌, length, All, map, IfOk, OnOk};
+ghost use Rattle.std.specs.Prelude.{ℕ, ◌≡◌, ◌≤◌, length, All, map, IfOk, OnOk};
 ghost use Rattle.ygg_bank.specs.Inputs.{KeepsInputs};
 ghost use Rattle.ygg_bank.specs.Nodes.{Extends, HasWidth, IsBank, Stands};
 ghost use Rattle.ygg_bank.specs.Values.{KeepsValues};
+ghost use Rattle.ygg_shape_cells.specs.Terms.{IsRow};
 ghost use Rattle.ygg_shape.specs.RowPlaces.{CanWrite, IsWordRead, IsWordWritten, RowStands, first, singles, word_selected, word_stored};
 
 use crate::selecting::select;
@@ -39,6 +40,7 @@ pub fn select_word<B: Book>(
     requires at { Stands bank.old at }
     ensures nodes { OnOk result (bank.new ≡ (word_selected (B.kinds book.now) row.now at bank.old).nodes) }
     ensures form { IfOk result (λ id. id ≡ (word_selected (B.kinds book.now) row.now at bank.old).value) }
+    ensures shape { (words width : ℕ) → IsRow bank.old words width row.now → IfOk result (λ id. HasWidth bank.new id width) }
     ensures value { IfOk result (IsWordRead bank.new row.now at) }
     ensures grows { Extends bank.old bank.new }
     ensures keeps { KeepsValues bank.old bank.new }
@@ -80,6 +82,7 @@ pub fn store_word<B: Book>(
     requires at { Stands bank.old at }
     ensures nodes { OnOk result (bank.new ≡ (word_stored (B.kinds book.now) row.now at word bank.old).nodes) }
     ensures form { IfOk result (λ answer. answer ≡ (word_stored (B.kinds book.now) row.now at word bank.old).value) }
+    ensures shape { (words width : ℕ) → IsRow bank.old words width row.now → IfOk result (IsRow bank.new words width) }
     ensures value { IfOk result (IsWordWritten bank.new row.now at word) }
     ensures grows { Extends bank.old bank.new }
     ensures keeps { KeepsValues bank.old bank.new }

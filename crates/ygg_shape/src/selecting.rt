@@ -15,7 +15,7 @@ use ygg_bank::{Bank, Id, NoMemory};
 use ygg_rules::Book;
 use ygg_shape_cells::cells::{row_or_zeros, zeros};
 use ygg_shape_cells::{SymRow, SymTable};
-use ygg_shape_words::known;
+use ygg_shape_sums::known;
 
 /// The row at a place of a table, counted from 0, and zeros past the end, in every environment. Where the place is a constant no pick is
 /// made; else a chain of picks over all rows. Its only error is out of memory, after which the bank may have more nodes.

@@ -15,7 +15,7 @@ use ygg_bank::{Bank, Id, NoMemory};
 use ygg_rules::Book;
 use ygg_shape_cells::cells::put_row;
 use ygg_shape_cells::{SymRow, SymTable};
-use ygg_shape_words::known;
+use ygg_shape_sums::known;
 
 /// The table with a row at a place, counted from 0, and the same table past the end, in every environment. Where the place is a constant no
 /// node is made; else a pick for each word. Its only error is out of memory, after which the bank may have more nodes.

@@ -1,13 +1,14 @@
 //! Lists of values, and zeros of a shape.
 
-ghost use Rattle.std.specs.Prelude.{◌≡◌, replicate, IfOk, OnOk};
+ghost use Rattle.std.specs.Prelude.{◌≡◌, List, replicate, IfOk, OnOk};
 ghost use Rattle.ygg_value.specs.Shapes.{IsShape};
 ghost use Rattle.ygg_rules.specs.Views.{IsWidth};
 ghost use Rattle.ygg_bank.specs.Inputs.{KeepsInputs};
 ghost use Rattle.ygg_bank.specs.Nodes.{Extends, HasWidth, IsBank};
 ghost use Rattle.ygg_bank.specs.Values.{KeepsValues};
 ghost use Rattle.ygg_shape_cells.specs.Making.{zeros};
-ghost use Rattle.ygg_shape_cells.specs.Terms.{IsShaped};
+ghost use Rattle.ygg_value.specs.declared.shape.Shape.{Shape};
+ghost use Rattle.ygg_shape_cells.specs.Terms.{AreShaped, IsShaped};
 ghost use Rattle.ygg_shape.specs.Wholes.{AllAlike, AreMerged, IsZero, merged_all, zero_made};
 
 use crate::merging::merge;
@@ -31,6 +32,8 @@ pub fn merge_all<B: Book>(
     requires values { AllAlike bank.old yes.now no.now }
     ensures nodes { OnOk result (bank.new ≡ (merged_all (B.kinds book.now) test yes.now no.now bank.old).nodes) }
     ensures form { IfOk result (λ answers. answers ≡ (merged_all (B.kinds book.now) test yes.now no.now bank.old).value) }
+    ensures shape { (shapes : List Shape) → AreShaped bank.old shapes yes.now → AreShaped bank.old shapes no.now →
+        IfOk result (AreShaped bank.new shapes) }
     ensures value { IfOk result (AreMerged bank.new test yes.now no.now) }
     ensures grows { Extends bank.old bank.new }
     ensures keeps { KeepsValues bank.old bank.new }

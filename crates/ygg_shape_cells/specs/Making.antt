@@ -12,6 +12,7 @@ use Rattle.ygg_bank.specs.declared.node.Node.{Node}
 use Rattle.ygg_bank.specs.declared.node.Node.TheVariants.{Const, Bin}
 use Rattle.ygg_shape_words.specs.Picking.{picked}
 use Rattle.ygg_shape_words.specs.Same.{same_words}
+use Rattle.ygg_shape_sums.specs.Equates.{equated_words}
 use Rattle.ygg_shape_cells.specs.Lists.{each_two, each_from, fold_two, fold_from}
 use Rattle.ygg_shape_cells.specs.Terms.{words_in}
 use Rattle.ygg_shape_cells.specs.declared.terms.SymValue.{SymValue}
@@ -34,7 +35,7 @@ merged kinds test one two = pure one
 
 -- whether two words are equal, joined to what is known so far
 abbrev pub compared_word : List RuleKind → Id → Id → Id → Make Id
-compared_word kinds so_far one two = and_make (same_words kinds one two) (λ same. made kinds (Bin And so_far same))
+compared_word kinds so_far one two = and_make (equated_words kinds one two) (λ same. made kinds (Bin And so_far same))
 
 -- whether two rows are equal, joined to what is known so far, word by word
 abbrev pub compared_row : List RuleKind → Id → List Id → List Id → Make Id
@@ -46,7 +47,7 @@ compared_rows kinds = fold_two (compared_row kinds)
 
 -- whether two values are equal; unlike values aren't
 abbrev pub compared : List RuleKind → SymValue → SymValue → Make Id
-compared kinds (Word one) (Word two) = same_words kinds one two
+compared kinds (Word one) (Word two) = equated_words kinds one two
 compared kinds (Row one) (Row two) = and_make (made kinds (Const (word 1 1))) (λ so_far. compared_row kinds so_far one two)
 compared kinds (Table one) (Table two) = and_make (made kinds (Const (word 1 1))) (λ so_far. compared_rows kinds so_far one two)
 compared kinds one two = made kinds (Const (word 1 0))

@@ -1,8 +1,8 @@
 use Rattle.std.proofs.Common.{◌≡◌, ◌+◌, drop}
 use Rattle.ygg_bank.specs.Inputs.{InputsBelow}
 use Rattle.ygg_bank.specs.Nodes.{Extends, IsBank}
-use Rattle.ygg_oblige_terms.specs.Layers.{ShapesKept}
-use Rattle.ygg_oblige_terms.specs.States.{fresh_all, words_in}
+use Rattle.ygg_oblige_pieces.specs.Layers.{ShapesKept}
+use Rattle.ygg_oblige_pieces.specs.ObligeTermsStates.{fresh_all, words_in}
 use Rattle.ygg_sym.proofs.Left.{Left}
 use Rattle.ygg_oblige_parts.proofs.names.fresh_by.Given as goal
 

@@ -7,15 +7,15 @@ use Rattle.ygg_shape.proofs.comparing.compare_word.Goals as goal
 
 pub make-requires : goal.make-requires
 make-requires g c =
-    let k = can_and c.same.new.bank c.args.so_far c.in_ok-b.b 1
-    (wider c.args.bank.now c.same.new.bank c.args.so_far 1 c.same.ensures.grows c.requires.so_far) c.in_ok-b.ensures.width in
+    let k = can_and c.equate.new.bank c.args.so_far c.in_ok-b.b 1
+    (wider c.args.bank.now c.equate.new.bank c.args.so_far 1 c.equate.ensures.grows c.requires.so_far) c.in_ok-b.ensures.width in
     record { one = k.one; two = k.two; widths = k.widths }
 
 pub returns-clause-width : goal.returns-clause-width
 returns-clause-width g c =
     subst (λ w. IfOk c.make.result (λ (id : Id). HasWidth c.make.new.self id w))
-    (width_is c.same.new.bank c.args.so_far 1 (wider c.args.bank.now c.same.new.bank c.args.so_far 1 c.same.ensures.grows c.requires.so_far))
+    (width_is c.equate.new.bank c.args.so_far 1 (wider c.args.bank.now c.equate.new.bank c.args.so_far 1 c.equate.ensures.grows c.requires.so_far))
     c.make.ensures.width
 
 pub returns-clause-grows : goal.returns-clause-grows
-returns-clause-grows g c = extends_both c.args.bank.now c.same.new.bank c.make.new.self c.same.ensures.grows c.make.ensures.grows
+returns-clause-grows g c = extends_both c.args.bank.now c.equate.new.bank c.make.new.self c.equate.ensures.grows c.make.ensures.grows

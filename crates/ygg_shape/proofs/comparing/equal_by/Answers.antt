@@ -2,8 +2,8 @@ use Rattle.ygg_bank.proofs.Widths.{extends_both}
 use Rattle.ygg_shape_cells.proofs.Wider.{alike_words, alike_rows, alike_tables, rows_alike_wider, tables_alike_wider}
 use Rattle.ygg_shape.proofs.comparing.equal_by.Goals as goal
 
-pub same-requires : goal.same-requires
-same-requires g c =
+pub equate-requires : goal.equate-requires
+equate-requires g c =
     record {
       words = alike_words c.args.bank.now c.args.one.now c.args.two.now c.in-Word-Word.one c.in-Word-Word.two c.requires c.in-Word-Word.is-0
           c.in-Word-Word.is-1;

@@ -1,6 +1,6 @@
 use Rattle.std.proofs.Common.{◌≤◌, length, sym, ap, ◌∙◌, subst, arith}
 use Rattle.ygg_shape_cells.specs.Terms.{TableStands, IsTable}
-use Rattle.ygg_shape.proofs.Singles.{singles_stand, singles_table, read_value, first_is}
+use Rattle.ygg_shape.proofs.Singles.{singles_stand, singles_table, read_value, first_is, own_table, first_has}
 use Rattle.ygg_shape.specs.RowPlaces.{first, singles}
 use Rattle.ygg_shape.proofs.row_words.select_word.Goals as goal
 
@@ -27,3 +27,9 @@ returns-clause-value g c =
     read_value c.select.new.bank c.args.row.now c.in_ok-answer.answer c.in_ok-table.table c.args.at _ some
     (c.in_ok-table.ensures ∙ ap singles c.as_slice.ensures) c.in_ok-answer.ensures.value r.count
     (ap first (sym c.as_slice-words.ensures) ∙ first_is c.as_slice-words.result.now)
+
+pub returns-clause-shape : goal.returns-clause-shape
+returns-clause-shape g c n w p =
+    first_has c.select.new.bank w c.in_ok-answer.answer c.as_slice-words.result.now _ c.as_slice-words.ensures
+    (c.in_ok-answer.ensures.shape 1 w
+    (own_table c.args.bank.now c.args.row.now c.in_ok-table.table c.requires.row n w p (c.in_ok-table.ensures ∙ ap singles c.as_slice.ensures)))

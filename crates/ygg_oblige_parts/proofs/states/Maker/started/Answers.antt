@@ -2,7 +2,7 @@ use Rattle.ygg_bank.proofs.Widths.{extends_both}
 use Rattle.ygg_shape_hypothesis.specs.Finding.{facts_in}
 use Rattle.ygg_sym_below.proofs.Lows.{low_wider}
 use Rattle.ygg_sym.specs.Layers.{closed, terms_in}
-use Rattle.ygg_oblige_terms.specs.States.{related_made, settled_made}
+use Rattle.ygg_oblige_pieces.specs.ObligeTermsStates.{related_made, settled_made}
 use Rattle.ygg_oblige_parts.specs.Makers.{trio_of}
 use Rattle.ygg_oblige_parts.proofs.Started.{started_from}
 use Rattle.ygg_oblige_parts.proofs.states.Maker.started.Goals as goal

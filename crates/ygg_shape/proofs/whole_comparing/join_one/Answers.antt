@@ -1,0 +1,15 @@
+use Rattle.std.proofs.Common.{IfOk, subst}
+use Rattle.ygg_bank.proofs.Widths.{width_is}
+use Rattle.ygg_bank.specs.Nodes.{HasWidth}
+use Rattle.ygg_bank.specs.declared.node.Id.{Id}
+use Rattle.ygg_shape_words.proofs.Fit.{can_and}
+use Rattle.ygg_shape.proofs.whole_comparing.join_one.Goals as goal
+
+pub make-requires : goal.make-requires
+make-requires g c =
+    let k = can_and c.args.bank.now c.args.a c.args.b 1 c.requires.one c.requires.two in
+    record { one = k.one; two = k.two; widths = k.widths }
+
+pub returns-clause-width : goal.returns-clause-width
+returns-clause-width g c =
+    subst (λ w. IfOk c.make.result (λ (id : Id). HasWidth c.make.new.self id w)) (width_is c.args.bank.now c.args.a 1 c.requires.one) c.make.ensures.width

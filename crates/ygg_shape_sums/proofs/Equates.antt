@@ -1,0 +1,191 @@
+-- What an equality of sums is worth.
+use Rattle.std.proofs.Common.{◌≡◌, ◌<◌, ◌==◌, ◌+◌, ◌-◌, ◌*◌, ◌%◌, ◌^◌, ℕ, zero, suc, Bool, true, false, if◌then◌else◌, Option}
+use Rattle.std.proofs.Common.{Some, None, Result, Ok, Err, OnOk, IfOk, List, [], ◌∷◌, ◌++◌, refl, sym, ap, ◌∙◌, subst, arith}
+use Rattle.std.proofs.Math.Nat.{mod-eq_of_lt}
+use Rattle.std.proofs.lemmas.List.Elements.{All-push, All-nil}
+use Rattle.ygg_value.specs.Number.{Number}
+use Rattle.ygg_value.specs.Words.{word, bit_of}
+use Rattle.ygg_rules.specs.Views.{IsWidth}
+use Rattle.ygg_rules.specs.declared.rule.RuleKind.{RuleKind}
+use Rattle.ygg_bank.proofs.Exist.{values_fit}
+use Rattle.ygg_bank.proofs.Meaning.{fits_fewer}
+use Rattle.ygg_bank.proofs.Widths.{wider, width_is, width_fits}
+use Rattle.ygg_bank.specs.Makes.{Out, pure, and_make}
+use Rattle.ygg_bank.specs.Nodes.{width_at, widths_of, HasWidth, Extends, InOrder, IsBank}
+use Rattle.ygg_bank.specs.Values.{Inputs, Values, Fits, value_of}
+use Rattle.ygg_bank.specs.declared.node.Id.{Id}
+use Rattle.ygg_bank.specs.declared.node.Node.{Node}
+use Rattle.ygg_shape_words.proofs.Compares.{same_words_is}
+use Rattle.ygg_shape_words.proofs.Grows.{picked_grows}
+use Rattle.ygg_shape_words.proofs.Picks.{picked_is}
+use Rattle.ygg_shape_words.proofs.Terms.{TermIs, holds, equal}
+use Rattle.ygg_shape_words.specs.Forms.{WordsAlike}
+use Rattle.ygg_shape_words.specs.Picking.{picked}
+use Rattle.ygg_shape_words.specs.Same.{same_words, IsSame}
+use Rattle.ygg_shape_sums.proofs.Fit.{two_fit, gathered_fit, split_digit, parts_wider, facts_wider, facts_more}
+use Rattle.ygg_shape_sums.proofs.Keeps.{vanishes_within_grows, equated_words_grows}
+use Rattle.ygg_shape_sums.proofs.Modulo.{Like, like, like_both, like_add, less_and, sides_equal}
+use Rattle.ygg_shape_sums.proofs.Sides.{vanishes_is}
+use Rattle.ygg_shape_sums.proofs.Worth.{bits, worth, FactsHold, gathered_sum_is}
+use Rattle.ygg_shape_sums.specs.Parts.{Sum, PartsFit, part, empty}
+use Rattle.ygg_shape_sums.specs.Readings.{FactsFit, fact}
+use Rattle.ygg_shape_sums.specs.Gathers.{gathered_sum, split_of}
+use Rattle.ygg_shape_sums.specs.Equates.{Found, Step, split_as, vanishes_within, difference, are_sums, equated_words}
+use Rattle.ygg_shape_sums.specs.declared.equating.TheConstants.{EQUATE_LIMIT}
+use Rattle.ygg_shape_sums.specs.declared.gathering.TheConstants.{READ_LIMIT}
+use Rattle.ygg_shape_sums.specs.declared.parts.Part.{Part}
+use Rattle.ygg_shape_sums.specs.declared.reading.Fact.{Fact}
+use Rattle.ygg_shape_sums.specs.declared.reading.TheConstants.{LESS_ONE}
+
+-- a sum that was read has words of the width
+pub sum_fits : (nodes : List Node) (w : ℕ) (facts : List Fact) (s : Sum) → InOrder [] nodes → PartsFit nodes w s.parts →
+    PartsFit nodes w (gathered_sum nodes facts s).parts
+sum_fits nodes w facts s o h =
+    gathered_fit nodes w READ_LIMIT facts s.parts (empty s.number) o h (All-nil (λ (p : Part). HasWidth nodes p.term w))
+
+pub difference_fits : (nodes : List Node) (w : ℕ) (a b : Id) → HasWidth nodes a w → HasWidth nodes b w → PartsFit nodes w (difference a b).parts
+difference_fits nodes w a b p q = two_fit nodes w (part 1 a) (part LESS_ONE b) p q
+
+module _ (inputs : Inputs) (v : Values) (w : ℕ) (wide : IsWidth w) (kinds : List RuleKind) where
+  -- the digit that says whether the sum is 0
+  abbrev zero_digit : Sum → Number
+  zero_digit s = word 1 (bit_of (worth inputs v s % 2 ^ w == 0))
+
+  -- a digit that says, where the facts hold, whether the sum is 0
+  record FoundIs (facts : List Fact) (s : Sum) (o : Out Found) : Type 0 where
+    has : HasWidth o.nodes o.value.term 1
+    is : FactsHold inputs v facts → v o.value.term.0 ≡ zero_digit s
+
+  abbrev IsGood : Step → Type 0
+  IsGood next = (left : ℕ) (facts : List Fact) (s : Sum) (nodes : List Node) → FactsFit nodes facts → PartsFit nodes w s.parts →
+      Fits inputs v (next left facts s nodes).nodes → FoundIs facts s (next left facts s nodes)
+
+  abbrev OnlyGrows : Step → Type 0
+  OnlyGrows next = (left : ℕ) (facts : List Fact) (s : Sum) (nodes : List Node) → Extends nodes (next left facts s nodes).nodes
+
+  one_more : (facts : List Fact) (t : Id) (d : Bool) → FactsHold inputs v facts → holds inputs v t ≡ d → FactsHold inputs v (facts ++ fact t d ∷ [])
+  one_more facts t d h e = All-push (λ (f : Fact). holds inputs v f.test ≡ f.yes) facts (fact t d) h e
+
+  by_test : (c : Bool) (x y z : Number) → (c ≡ true → x ≡ z) → (c ≡ false → y ≡ z) → (if c then x else y) ≡ z
+  by_test true x y z h i = h refl
+  by_test false x y z h i = i refl
+
+  split_as_is : (next : Step) (left : ℕ) (facts : List Fact) (s : Sum) (n : Option Id) (nodes : List Node) → IsGood next → OnlyGrows next →
+      FactsFit nodes facts → PartsFit nodes w s.parts → ((t : Id) → n ≡ Some t → HasWidth nodes t 1) →
+      Fits inputs v (split_as kinds w next left facts s n nodes).nodes → FoundIs facts s (split_as kinds w next left facts s n nodes)
+  split_as_is next left facts s None nodes good grow f p d h =
+      let m = vanishes_is inputs v w wide kinds s nodes p h in record { has = m.wide; is = λ k. m.is }
+  split_as_is next left facts s (Some t) nodes good grow f p d h =
+      let yes_facts = facts ++ fact t true ∷ [] in
+      let no_facts = facts ++ fact t false ∷ [] in
+      let o = next (left - 1) yes_facts s nodes in
+      let c = o.value in
+      let m = next c.left no_facts s o.nodes in
+      let l = m.value in
+      let r = picked kinds t c.term l.term m.nodes in
+      let og = grow (left - 1) yes_facts s nodes in
+      let mg = grow c.left no_facts s o.nodes in
+      let mh = fits_fewer inputs v m.nodes r.nodes (picked_grows kinds t c.term l.term m.nodes) h in
+      let oh = fits_fewer inputs v o.nodes m.nodes mg mh in
+      let digit = d t refl in
+      let later = wider nodes o.nodes t 1 og digit in
+      let one = good (left - 1) yes_facts s nodes (facts_more nodes facts t true f digit) p oh in
+      let two = good c.left no_facts s o.nodes (facts_more o.nodes facts t false (facts_wider nodes o.nodes facts og f) later)
+      (parts_wider nodes o.nodes w s.parts og p) mh in
+      let z = picked_is inputs v kinds 1 t c.term l.term m.nodes (wider o.nodes m.nodes t 1 mg later) (wider o.nodes m.nodes c.term 1 mg one.has) two.has h in
+      record {
+        has = z.wide;
+        is = λ k. z.is ∙ by_test (holds inputs v t) (v c.term.0) (v l.term.0) (zero_digit s) (λ e. one.is (one_more facts t true k e))
+            (λ e. two.is (one_more facts t false k e));
+      }
+
+  read_is : (nodes : List Node) (facts : List Fact) (s : Sum) (o : Out Found) → Fits inputs v nodes → PartsFit nodes w s.parts →
+      FoundIs facts (gathered_sum nodes facts s) o → FoundIs facts s o
+  read_is nodes facts s o f p g = record {
+    has = g.has;
+    is = λ k. let l = gathered_sum_is inputs v w wide.most nodes f facts s k p in g.is k ∙ ap (λ z. word 1 (bit_of (z == 0))) l.is;
+  }
+
+  vanishes_within_is : (depth : ℕ) → IsGood (vanishes_within kinds w depth)
+  unfolding vanishes_within
+  vanishes_within_is zero left facts s nodes f p h =
+      let m = vanishes_is inputs v w wide kinds s nodes p h in record { has = m.wide; is = λ k. m.is }
+  vanishes_within_is (suc depth) left facts s nodes f p h =
+      let g = gathered_sum nodes facts s in
+      let n = split_of nodes left g.parts in
+      let step = vanishes_within kinds w depth in
+      let own = fits_fewer inputs v nodes (split_as kinds w step left facts g n nodes).nodes (vanishes_within_grows kinds w (suc depth) left facts s nodes) h in
+      let q = sum_fits nodes w facts s own.ordered p in
+      read_is nodes facts s (split_as kinds w step left facts g n nodes) own p
+      (split_as_is step left facts g n nodes (vanishes_within_is depth) (vanishes_within_grows kinds w depth) f q
+      (λ t. split_digit nodes w left g.parts t own.ordered q) h)
+
+  -- a difference is 0 where the words are equal
+  difference_is : (nodes : List Node) (a b : Id) → Fits inputs v nodes → HasWidth nodes a w → HasWidth nodes b w →
+      (worth inputs v (difference a b) % 2 ^ w == 0) ≡ equal inputs v a b
+  difference_is nodes a b f p q =
+      let m = 2 ^ w in
+      let x = bits inputs v a in
+      let y = bits inputs v b in
+      let t = worth inputs v (difference a b) in
+      let l : Like m (t + y) x =
+      like_both m (t + y) (x + (LESS_ONE * y + y)) x (like m (t + y) (x + (LESS_ONE * y + y)) (regroup x y))
+      (like_both m (x + (LESS_ONE * y + y)) (x + 0) x (like_add m x x (LESS_ONE * y + y) 0 (like m x x refl) (less_and w y wide.most))
+      (like m (x + 0) x (right x))) in
+      sym (sides_equal w t x y wide.most l) ∙ ap (λ z. z == y % m) (own a p) ∙ ap (λ z. x == z) (own b q) where
+        regroup : (x y : ℕ) → 0 + (1 * x + (LESS_ONE * y + 0)) + y ≡ x + (LESS_ONE * y + y)
+        regroup x y = omega arith
+
+        right : (x : ℕ) → x + 0 ≡ x
+        right x = omega arith
+
+        own : (a : Id) → HasWidth nodes a w → bits inputs v a % 2 ^ w ≡ bits inputs v a
+        own a p =
+            let r = f.words a.0 in
+            let l : bits inputs v a < 2 ^ w = subst (λ u. bits inputs v a < 2 ^ u) (f.widths a.0 w p) r.fits in mod-eq_of_lt l
+
+  sums_is : (a b : Id) (nodes : List Node) → HasWidth nodes a w → HasWidth nodes b w →
+      Fits inputs v (vanishes_within kinds w EQUATE_LIMIT EQUATE_LIMIT [] (difference a b) nodes).nodes →
+      (let o = vanishes_within kinds w EQUATE_LIMIT EQUATE_LIMIT [] (difference a b) nodes in
+      TermIs inputs v o.nodes 1 (word 1 (bit_of (equal inputs v a b))) o.value.term)
+  sums_is a b nodes p q h =
+      let s = difference a b in
+      let o = vanishes_within kinds w EQUATE_LIMIT EQUATE_LIMIT [] s nodes in
+      let f = fits_fewer inputs v nodes o.nodes (vanishes_within_grows kinds w EQUATE_LIMIT EQUATE_LIMIT [] s nodes) h in
+      let m = vanishes_within_is EQUATE_LIMIT EQUATE_LIMIT [] s nodes (All-nil (λ (f : Fact). HasWidth nodes f.test 1)) (difference_fits nodes w a b p q) h in
+      record {
+        wide = m.has;
+        is = m.is (All-nil (λ (f : Fact). holds inputs v f.test ≡ f.yes)) ∙ ap (λ z. word 1 (bit_of z)) (difference_is nodes a b f p q);
+      }
+
+either_is : (inputs : Inputs) (v : Values) (want : Number) (c : Bool) (one two : Out Id) →
+    (Fits inputs v one.nodes → TermIs inputs v one.nodes 1 want one.value) →
+    (Fits inputs v two.nodes → TermIs inputs v two.nodes 1 want two.value) → Fits inputs v (if c then one else two).nodes →
+    TermIs inputs v (if c then one else two).nodes 1 want (if c then one else two).value
+either_is inputs v want true one two h i f = h f
+either_is inputs v want false one two h i f = i f
+
+-- the equality of two words is what it says
+pub equated_words_is : (inputs : Inputs) (v : Values) (kinds : List RuleKind) (a b : Id) (nodes : List Node) → WordsAlike nodes a b →
+    Fits inputs v (equated_words kinds a b nodes).nodes →
+    TermIs inputs v (equated_words kinds a b nodes).nodes 1 (word 1 (bit_of (equal inputs v a b))) (equated_words kinds a b nodes).value
+equated_words_is inputs v kinds a b nodes w h =
+    let f = fits_fewer inputs v nodes (equated_words kinds a b nodes).nodes (equated_words_grows kinds a b nodes) h in
+    let u = width_at (widths_of nodes) a in
+    let e : w.width ≡ u = sym (width_is nodes a w.width w.one_has) in
+    let p : HasWidth nodes a u = subst (HasWidth nodes a) e w.one_has in
+    either_is inputs v (word 1 (bit_of (equal inputs v a b))) (are_sums nodes a b)
+    (and_make (vanishes_within kinds u EQUATE_LIMIT EQUATE_LIMIT [] (difference a b)) (λ r. pure r.term) nodes) (same_words kinds a b nodes)
+    (sums_is inputs v u (width_fits nodes a u f.ordered p) kinds a b nodes p (subst (HasWidth nodes b) e w.two_has))
+    (same_words_is inputs v kinds a b nodes w) h
+
+-- what the call says of its answer
+pub equated_value : {E : Type 0} (kinds : List RuleKind) (a b : Id) (old new : List Node) (r : Result Id E) → IsBank new →
+    OnOk r (new ≡ (equated_words kinds a b old).nodes) → IfOk r (λ answer. answer ≡ (equated_words kinds a b old).value) → WordsAlike old a b →
+    IfOk r (IsSame new a b)
+equated_value kinds a b old new (Ok answer) k e g w =
+    let o = equated_words kinds a b old in
+    let c = subst IsBank e k in
+    subst (λ z. IsSame z a b answer) (sym e) (subst (IsSame o.nodes a b) (sym g) (λ inputs fit.
+    let m = equated_words_is inputs (value_of inputs o.nodes) kinds a b old w (values_fit inputs o.nodes c.ordered fit) in m.is))
+equated_value kinds a b old new (Err x) k e g w = tt

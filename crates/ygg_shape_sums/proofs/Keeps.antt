@@ -1,0 +1,113 @@
+-- What holds of nodes, and stays as nodes other than inputs are made, holds after words are equated.
+use Rattle.std.proofs.Common.{ℕ, zero, suc, Bool, true, false, ◌==◌, ◌-◌, ◌++◌, ◌∷◌, if◌then◌else◌, Option, Some, None, List, []}
+use Rattle.ygg_value.specs.Words.{word}
+use Rattle.ygg_value.specs.declared.operation.Op.TheVariants.{Add, Mul}
+use Rattle.ygg_rules.specs.declared.rule.RuleKind.{RuleKind}
+use Rattle.ygg_bank.proofs.Widths.{extends_self}
+use Rattle.ygg_bank.specs.Makes.{Make, Out, pure, and_make}
+use Rattle.ygg_bank.specs.Making.{made}
+use Rattle.ygg_bank.specs.Nodes.{width_at, widths_of, Extends}
+use Rattle.ygg_bank.specs.declared.node.Id.{Id}
+use Rattle.ygg_bank.specs.declared.node.Node.{Node}
+use Rattle.ygg_bank.specs.declared.node.Node.TheVariants.{Const, Bin}
+use Rattle.ygg_shape_words.proofs.Keeps.{Stays, grows_stays, picked_keeps, same_words_keeps}
+use Rattle.ygg_shape_words.specs.Same.{same_words}
+use Rattle.ygg_shape_sums.specs.Parts.{Sum}
+use Rattle.ygg_shape_sums.specs.Readings.{fact}
+use Rattle.ygg_shape_sums.specs.Gathers.{gathered_sum, split_of}
+use Rattle.ygg_shape_sums.specs.Sides.{share, more, all_more, side, vanishes}
+use Rattle.ygg_shape_sums.specs.Equates.{Step, split_as, vanishes_within, difference, are_sums, equated_words}
+use Rattle.ygg_shape_sums.specs.declared.equating.TheConstants.{EQUATE_LIMIT}
+use Rattle.ygg_shape_sums.specs.declared.parts.Part.{Part}
+use Rattle.ygg_shape_sums.specs.declared.reading.Fact.{Fact}
+
+-- a step after which what held still holds
+abbrev pub Keeping : (List Node → Type 0) → Make Id → Type 0
+Keeping P step = (nodes : List Node) → P nodes → P (step nodes).nodes
+
+keeping_if : (P : List Node → Type 0) (c : Bool) (one two : Make Id) → Keeping P one → Keeping P two → Keeping P (if c then one else two)
+keeping_if P true one two k l nodes p = k nodes p
+keeping_if P false one two k l nodes p = l nodes p
+
+module _ (kinds : List RuleKind) (P : List Node → Type 0) (stays : Stays kinds P) where
+  more_keeps : (w n : ℕ) (x a : Id) (nodes : List Node) → P nodes → P (more kinds w n x a nodes).nodes
+  more_keeps w n x a nodes p =
+      let many : Make Id = and_make (made kinds (Const (word w n))) (λ k. and_make (made kinds (Bin Mul x k)) (λ m. made kinds (Bin Add a m))) in
+      let add : Make Id = made kinds (Bin Add a x) in
+      keeping_if P (n == 0) (pure a) (if n == 1 then add else many) (λ nodes p. p)
+      (keeping_if P (n == 1) add many (λ nodes. stays (Bin Add a x) nodes tt) (λ nodes p.
+      let k = made kinds (Const (word w n)) nodes in
+      let m = made kinds (Bin Mul x k.value) k.nodes in
+      stays (Bin Add a m.value) m.nodes tt (stays (Bin Mul x k.value) k.nodes tt (stays (Const (word w n)) nodes tt p)))) nodes p
+
+  all_more_keeps : (w : ℕ) (second : Bool) (ps : List Part) (a : Id) (nodes : List Node) → P nodes → P (all_more kinds w second ps a nodes).nodes
+  all_more_keeps w second [] a nodes p = p
+  all_more_keeps w second (q ∷ ps) a nodes p =
+      let o = more kinds w (share w second q.times) q.term a nodes in
+      all_more_keeps w second ps o.value o.nodes (more_keeps w (share w second q.times) q.term a nodes p)
+
+  side_keeps : (w : ℕ) (second : Bool) (s : Sum) (nodes : List Node) → P nodes → P (side kinds w second s nodes).nodes
+  side_keeps w second s nodes p =
+      let z = made kinds (Const (word w 0)) nodes in
+      let a = all_more kinds w second s.parts z.value z.nodes in
+      let k = made kinds (Const (word w (share w second s.number))) a.nodes in
+      stays (Bin Add a.value k.value) k.nodes tt (stays (Const (word w (share w second s.number))) a.nodes tt
+      (all_more_keeps w second s.parts z.value z.nodes (stays (Const (word w 0)) nodes tt p)))
+
+  vanishes_keeps : (w : ℕ) (s : Sum) (nodes : List Node) → P nodes → P (vanishes kinds w s nodes).nodes
+  vanishes_keeps w s nodes p =
+      let one = side kinds w false s nodes in
+      let two = side kinds w true s one.nodes in
+      same_words_keeps kinds P stays one.value two.value two.nodes (side_keeps w true s one.nodes (side_keeps w false s nodes p))
+
+  abbrev StepKeeps : Step → Type 0
+  StepKeeps next = (left : ℕ) (facts : List Fact) (s : Sum) (nodes : List Node) → P nodes → P (next left facts s nodes).nodes
+
+  split_as_keeps : (w : ℕ) (next : Step) (left : ℕ) (facts : List Fact) (s : Sum) (t : Option Id) (nodes : List Node) → StepKeeps next → P nodes →
+      P (split_as kinds w next left facts s t nodes).nodes
+  split_as_keeps w next left facts s None nodes g p = vanishes_keeps w s nodes p
+  split_as_keeps w next left facts s (Some t) nodes g p =
+      let o = next (left - 1) (facts ++ fact t true ∷ []) s nodes in
+      let k = o.value in
+      let m = next k.left (facts ++ fact t false ∷ []) s o.nodes in
+      let l = m.value in
+      picked_keeps kinds P stays t k.term l.term m.nodes
+      (g k.left (facts ++ fact t false ∷ []) s o.nodes (g (left - 1) (facts ++ fact t true ∷ []) s nodes p))
+
+  vanishes_within_keeps : (w depth : ℕ) → StepKeeps (vanishes_within kinds w depth)
+  unfolding vanishes_within
+  vanishes_within_keeps w zero left facts s nodes p = vanishes_keeps w s nodes p
+  vanishes_within_keeps w (suc depth) left facts s nodes p =
+      let g = gathered_sum nodes facts s in
+      split_as_keeps w (vanishes_within kinds w depth) left facts g (split_of nodes left g.parts) nodes (vanishes_within_keeps w depth) p
+
+  pub equated_words_keeps : (a b : Id) (nodes : List Node) → P nodes → P (equated_words kinds a b nodes).nodes
+  equated_words_keeps a b nodes p =
+      kept_if (are_sums nodes a b)
+      (and_make (vanishes_within kinds (width_at (widths_of nodes) a) EQUATE_LIMIT EQUATE_LIMIT [] (difference a b)) (λ r. pure r.term) nodes)
+      (same_words kinds a b nodes) (vanishes_within_keeps (width_at (widths_of nodes) a) EQUATE_LIMIT EQUATE_LIMIT [] (difference a b) nodes p)
+      (same_words_keeps kinds P stays a b nodes p) where
+        kept_if : (c : Bool) (one two : Out Id) → P one.nodes → P two.nodes → P (if c then one else two).nodes
+        kept_if true one two h i = h
+        kept_if false one two h i = i
+
+module _ (kinds : List RuleKind) where
+  abbrev only : (first : List Node) → Stays kinds (Extends first)
+  only first = grows_stays kinds first
+
+  pub more_grows : (w n : ℕ) (x a : Id) (nodes : List Node) → Extends nodes (more kinds w n x a nodes).nodes
+  more_grows w n x a nodes = more_keeps kinds (Extends nodes) (only nodes) w n x a nodes (extends_self nodes)
+
+  pub all_more_grows : (w : ℕ) (second : Bool) (ps : List Part) (a : Id) (nodes : List Node) → Extends nodes (all_more kinds w second ps a nodes).nodes
+  all_more_grows w second ps a nodes = all_more_keeps kinds (Extends nodes) (only nodes) w second ps a nodes (extends_self nodes)
+
+  pub side_grows : (w : ℕ) (second : Bool) (s : Sum) (nodes : List Node) → Extends nodes (side kinds w second s nodes).nodes
+  side_grows w second s nodes = side_keeps kinds (Extends nodes) (only nodes) w second s nodes (extends_self nodes)
+
+  pub vanishes_within_grows : (w depth left : ℕ) (facts : List Fact) (s : Sum) (nodes : List Node) →
+      Extends nodes (vanishes_within kinds w depth left facts s nodes).nodes
+  vanishes_within_grows w depth left facts s nodes =
+      vanishes_within_keeps kinds (Extends nodes) (only nodes) w depth left facts s nodes (extends_self nodes)
+
+  pub equated_words_grows : (a b : Id) (nodes : List Node) → Extends nodes (equated_words kinds a b nodes).nodes
+  equated_words_grows a b nodes = equated_words_keeps kinds (Extends nodes) (only nodes) a b nodes (extends_self nodes)

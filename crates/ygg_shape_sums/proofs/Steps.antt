@@ -1,0 +1,213 @@
+-- What the code answers is what the definitions say.
+use Rattle.std.proofs.Common.{◌≡◌, ◌<◌, ◌≤◌, ◌==◌, ℕ, zero, suc, ◌+◌, ◌-◌, ◌%◌, ◌^◌, Bool, true, false, if◌then◌else◌, Some, None}
+use Rattle.std.proofs.Common.{List, [], ◌∷◌, ◌++◌, length, take, drop, get_or, slice_get, slice_set, append_assoc, length-drop, refl, sym, ap, ◌∙◌, arith}
+use Rattle.std.specs.List.{insert}
+use Rattle.std.specs.Prelude.{nat_lt}
+use Rattle.std.proofs.lemmas.List.{drop_more, drop_all, drop-append-le, drop-set-lt, take_more, take_more_set, take-append-drop, take_all}
+use Rattle.ygg_rules.specs.declared.rule.RuleKind.{RuleKind}
+use Rattle.ygg_bank.specs.Makes.{Make, Out, pure, and_make}
+use Rattle.ygg_bank.specs.declared.node.Id.{Id}
+use Rattle.ygg_bank.specs.declared.node.Node.{Node}
+use Rattle.ygg_shape_words.specs.Picking.{picked}
+use Rattle.ygg_shape_sums.specs.Parts.{Sum, part, merged}
+use Rattle.ygg_shape_sums.specs.Readings.{read, fact}
+use Rattle.ygg_shape_sums.specs.Gathers.{parts_of, counted, with_all, gathered, gathered_sum, below, is_sum, has_sum, split_of}
+use Rattle.ygg_shape_sums.specs.Sides.{share, more, all_more, vanishes}
+use Rattle.ygg_shape_sums.specs.Equates.{Found, IsFound, found, split_as, vanishes_within}
+use Rattle.ygg_shape_sums.specs.declared.parts.Part.{Part}
+use Rattle.ygg_shape_sums.specs.declared.reading.Fact.{Fact}
+
+-- the item at a place, and those after it
+pub rest_is : {X : Type 0} (xs : List X) (i : ℕ) (x d : X) → i < length xs → x ≡ get_or xs i d → drop i xs ≡ x ∷ drop (i + 1) xs
+rest_is xs i x d l e = drop_more xs i d l ∙ ap (λ z. z ∷ drop (i + 1) xs) (sym e)
+
+-- what is left to be read, and what it makes
+pub gathered_goes : (fuel left : ℕ) (nodes : List Node) (facts : List Fact) (todo longer : List Part) (i : ℕ) (p d : Part) (s t : Sum) → 0 < fuel →
+    left ≡ fuel - 1 → i < length todo → p ≡ get_or todo i d → longer ≡ todo ++ parts_of p (read nodes facts (slice_get nodes p.term.0)) →
+    t ≡ counted p (read nodes facts (slice_get nodes p.term.0)) s →
+    gathered left nodes facts (drop (i + 1) longer) t ≡ gathered fuel nodes facts (drop i todo) s
+unfolding gathered
+gathered_goes zero left nodes facts todo longer i p d s t k e l g h j = absurd (omega arith)
+gathered_goes (suc fuel) left nodes facts todo longer i p d s t k e l g h j =
+    let r = read nodes facts (slice_get nodes p.term.0) in
+    let f : left ≡ fuel = omega arith in
+    ap (λ z. gathered z nodes facts (drop (i + 1) longer) t) f
+    ∙ ap (λ z. gathered fuel nodes facts (drop (i + 1) longer) z) j
+    ∙ ap (λ z. gathered fuel nodes facts (drop (i + 1) z) (counted p r s)) h
+    ∙ ap (λ z. gathered fuel nodes facts z (counted p r s)) (drop-append-le (i + 1) todo (parts_of p r) (omega arith))
+    ∙ ap (λ z. gathered (suc fuel) nodes facts z s) (sym (rest_is todo i p d l g))
+
+pub gathered_done : (fuel : ℕ) (nodes : List Node) (facts : List Fact) (todo : List Part) (i : ℕ) (s : Sum) → 0 < fuel → length todo ≤ i →
+    gathered fuel nodes facts (drop i todo) s ≡ s
+unfolding gathered
+gathered_done zero nodes facts todo i s k l = absurd (omega arith)
+gathered_done (suc fuel) nodes facts todo i s k l = ap (λ z. gathered (suc fuel) nodes facts z s) (drop_all i todo l)
+
+pub gathered_spent : (fuel : ℕ) (nodes : List Node) (facts : List Fact) (ps : List Part) (s : Sum) → fuel ≡ 0 →
+    gathered fuel nodes facts ps s ≡ with_all ps s
+unfolding gathered
+gathered_spent zero nodes facts ps s e = refl
+gathered_spent (suc fuel) nodes facts ps s e = absurd (omega arith)
+
+pub looked_goes : (fuel left : ℕ) (nodes : List Node) (todo longer : List Part) (i : ℕ) (p d : Part) → 0 < fuel → left ≡ fuel - 1 → i < length todo →
+    p ≡ get_or todo i d → is_sum (read nodes [] (slice_get nodes p.term.0)) ≡ false → longer ≡ todo ++ below p (slice_get nodes p.term.0) →
+    has_sum left nodes (drop (i + 1) longer) ≡ has_sum fuel nodes (drop i todo)
+unfolding has_sum
+looked_goes zero left nodes todo longer i p d k e l g n h = absurd (omega arith)
+looked_goes (suc fuel) left nodes todo longer i p d k e l g n h =
+    let b = below p (slice_get nodes p.term.0) in
+    let f : left ≡ fuel = omega arith in
+    ap (λ z. has_sum z nodes (drop (i + 1) longer)) f
+    ∙ ap (λ z. has_sum fuel nodes (drop (i + 1) z)) h
+    ∙ ap (λ z. has_sum fuel nodes z) (drop-append-le (i + 1) todo b (omega arith))
+    ∙ ap (λ c. if c then true else has_sum fuel nodes (drop (i + 1) todo ++ b)) (sym n)
+    ∙ ap (λ z. has_sum (suc fuel) nodes z) (sym (rest_is todo i p d l g))
+
+pub looked_there : (fuel : ℕ) (nodes : List Node) (todo : List Part) (i : ℕ) (p d : Part) → 0 < fuel → i < length todo → p ≡ get_or todo i d →
+    is_sum (read nodes [] (slice_get nodes p.term.0)) ≡ true → true ≡ has_sum fuel nodes (drop i todo)
+unfolding has_sum
+looked_there zero nodes todo i p d k l g n = absurd (omega arith)
+looked_there (suc fuel) nodes todo i p d k l g n =
+    ap (λ c. if c then true else has_sum fuel nodes (drop (i + 1) todo ++ below p (slice_get nodes p.term.0))) (sym n)
+    ∙ ap (λ z. has_sum (suc fuel) nodes z) (sym (rest_is todo i p d l g))
+
+pub looked_done : (fuel : ℕ) (nodes : List Node) (todo : List Part) (i : ℕ) → length todo ≤ i → false ≡ has_sum fuel nodes (drop i todo)
+unfolding has_sum
+looked_done zero nodes todo i l = refl
+looked_done (suc fuel) nodes todo i l = ap (λ z. has_sum (suc fuel) nodes z) (sym (drop_all i todo l))
+
+pub looked_spent : (fuel : ℕ) (nodes : List Node) (ps : List Part) → fuel ≡ 0 → false ≡ has_sum fuel nodes ps
+unfolding has_sum
+looked_spent zero nodes ps e = refl
+looked_spent (suc fuel) nodes ps e = absurd (omega arith)
+
+-- a step was made, and goes on
+pub goes : {A B : Type 0} (m : Make A) (f : A → Make B) (nodes new : List Node) (a : A) → new ≡ (m nodes).nodes → a ≡ (m nodes).value →
+    f a new ≡ and_make m f nodes
+goes m f nodes new a e g = ap (λ z. f z new) g ∙ ap (f (m nodes).value) e
+
+module _ (kinds : List RuleKind) where
+  abbrev pub out : {A : Type 0} → A → List Node → Out A
+  out a nodes = record { value = a; nodes = nodes }
+
+  pub within_zero : (w depth left : ℕ) (facts : List Fact) (s : Sum) (old new : List Node) (r : Id) → depth ≡ 0 → new ≡ (vanishes kinds w s old).nodes →
+      r ≡ (vanishes kinds w s old).value → IsFound (vanishes_within kinds w depth left facts s) old new r left
+  unfolding vanishes_within
+  within_zero w zero left facts s old new r d e g = record { nodes = e; value = ap (found left) g }
+  within_zero w (suc depth) left facts s old new r d e g = absurd (omega arith)
+
+  pub within_whole : (w depth left : ℕ) (facts : List Fact) (s g : Sum) (old new : List Node) (r : Id) → 0 < depth → g ≡ gathered_sum old facts s →
+      None ≡ split_of old left g.parts → new ≡ (vanishes kinds w g old).nodes → r ≡ (vanishes kinds w g old).value →
+      IsFound (vanishes_within kinds w depth left facts s) old new r left
+  unfolding vanishes_within
+  within_whole w zero left facts s g old new r d i n e h = absurd (omega arith)
+  within_whole w (suc depth) left facts s g old new r d i n e h =
+      let step = vanishes_within kinds w depth in
+      let whole : out (found left r) new ≡ vanishes_within kinds w (suc depth) left facts s old =
+      goes (vanishes kinds w g) (λ r. pure (found left r)) old new r e h
+      ∙ ap (λ z. split_as kinds w step left facts g z old) n
+      ∙ ap (λ z. split_as kinds w step left facts z (split_of old left z.parts) old) i in
+      record { nodes = ap (λ (o : Out Found). o.nodes) whole; value = ap (λ (o : Out Found). o.value) whole }
+
+  pub within_split : (w depth left l0 l1 l2 : ℕ) (facts yes_facts no_facts : List Fact) (s g : Sum) (t r1 r2 r : Id) (old n1 n2 new : List Node) → 0 < depth →
+      g ≡ gathered_sum old facts s → Some t ≡ split_of old left g.parts → l0 ≡ left - 1 → yes_facts ≡ facts ++ fact t true ∷ [] →
+      no_facts ≡ facts ++ fact t false ∷ [] → IsFound (vanishes_within kinds w (depth - 1) l0 yes_facts g) old n1 r1 l1 →
+      IsFound (vanishes_within kinds w (depth - 1) l1 no_facts g) n1 n2 r2 l2 → new ≡ (picked kinds t r1 r2 n2).nodes → r ≡ (picked kinds t r1 r2 n2).value →
+      IsFound (vanishes_within kinds w depth left facts s) old new r l2
+  unfolding vanishes_within
+  within_split w zero left l0 l1 l2 facts yes_facts no_facts s g t r1 r2 r old n1 n2 new d i n e x y f h k j = absurd (omega arith)
+  within_split w (suc depth) left l0 l1 l2 facts yes_facts no_facts s g t r1 r2 r old n1 n2 new d i n e x y f h k j =
+      let step = vanishes_within kinds w depth in
+      let same : suc depth - 1 ≡ depth = omega arith in
+      let last : Found → Found → Id → Make Found = λ one two r. pure (found two.left r) in
+      let second : Found → Found → Make Found = λ one two. and_make (picked kinds t one.term two.term) (last one two) in
+      let first : Found → Make Found = λ one. and_make (step one.left (facts ++ fact t false ∷ []) g) (second one) in
+      let one : Found = found l1 r1 in
+      let two : Found = found l2 r2 in
+      let f_nodes : n1 ≡ (step (left - 1) (facts ++ fact t true ∷ []) g old).nodes =
+      f.nodes ∙ ap (λ z. (vanishes_within kinds w z l0 yes_facts g old).nodes) same ∙ ap (λ z. (step z yes_facts g old).nodes) e
+      ∙ ap (λ z. (step (left - 1) z g old).nodes) x in
+      let f_value : one ≡ (step (left - 1) (facts ++ fact t true ∷ []) g old).value =
+      f.value ∙ ap (λ z. (vanishes_within kinds w z l0 yes_facts g old).value) same ∙ ap (λ z. (step z yes_facts g old).value) e
+      ∙ ap (λ z. (step (left - 1) z g old).value) x in
+      let h_nodes : n2 ≡ (step l1 (facts ++ fact t false ∷ []) g n1).nodes =
+      h.nodes ∙ ap (λ z. (vanishes_within kinds w z l1 no_facts g n1).nodes) same ∙ ap (λ z. (step l1 z g n1).nodes) y in
+      let h_value : two ≡ (step l1 (facts ++ fact t false ∷ []) g n1).value =
+      h.value ∙ ap (λ z. (vanishes_within kinds w z l1 no_facts g n1).value) same ∙ ap (λ z. (step l1 z g n1).value) y in
+      let whole : out (found l2 r) new ≡ vanishes_within kinds w (suc depth) left facts s old =
+      goes (picked kinds t r1 r2) (last one two) n2 new r k j
+      ∙ goes (step l1 (facts ++ fact t false ∷ []) g) (second one) n1 n2 two h_nodes h_value
+      ∙ goes (step (left - 1) (facts ++ fact t true ∷ []) g) first old n1 one f_nodes f_value
+      ∙ ap (λ z. split_as kinds w step left facts g z old) n
+      ∙ ap (λ z. split_as kinds w step left facts z (split_of old left z.parts) old) i in
+      record { nodes = ap (λ (o : Out Found). o.nodes) whole; value = ap (λ (o : Out Found). o.value) whole }
+
+-- what the terms of a side have made so far, and what the rest will make
+pub record AllMore (kinds : List RuleKind) (w : ℕ) (second : Bool) (ps : List Part) (first : Id) (old : List Node) (i : ℕ) (so_far : Id) (now : List Node) :
+    Type 0 where
+  pub value : (all_more kinds w second (drop i ps) so_far now).value ≡ (all_more kinds w second ps first old).value
+  pub nodes : (all_more kinds w second (drop i ps) so_far now).nodes ≡ (all_more kinds w second ps first old).nodes
+
+pub all_more_goes : (kinds : List RuleKind) (w : ℕ) (second : Bool) (ps : List Part) (first : Id) (old : List Node) (i : ℕ) (so_far : Id) (now : List Node)
+    (p d : Part) (n : ℕ) (a : Id) (next : List Node) → i < length ps → p ≡ get_or ps i d → n ≡ share w second p.times →
+    next ≡ (more kinds w n p.term so_far now).nodes → a ≡ (more kinds w n p.term so_far now).value →
+    AllMore kinds w second ps first old i so_far now → AllMore kinds w second ps first old (i + 1) a next
+all_more_goes kinds w second ps first old i so_far now p d n a next l e s g h r =
+    let rest = all_more kinds w second (drop (i + 1) ps) in
+    let whole : rest a next ≡ all_more kinds w second (drop i ps) so_far now =
+    goes (more kinds w n p.term so_far) rest now next a g h
+    ∙ ap (λ z. and_make (more kinds w z p.term so_far) rest now) s
+    ∙ ap (λ z. all_more kinds w second z so_far now) (sym (rest_is ps i p d l e)) in
+    record { value = ap (λ (o : Out Id). o.value) whole ∙ r.value; nodes = ap (λ (o : Out Id). o.nodes) whole ∙ r.nodes }
+
+pub all_more_done : (kinds : List RuleKind) (w : ℕ) (second : Bool) (ps : List Part) (first : Id) (old : List Node) (i : ℕ) (so_far : Id) (now : List Node) →
+    length ps ≤ i → AllMore kinds w second ps first old i so_far now → AllMore kinds w second ps first old (length ps) so_far now
+all_more_done kinds w second ps first old i so_far now l r =
+    let d : drop (length ps) ps ≡ drop i ps = drop_all (length ps) ps (omega arith) ∙ sym (drop_all i ps l) in
+    record {
+      value = ap (λ z. (all_more kinds w second z so_far now).value) d ∙ r.value;
+      nodes = ap (λ z. (all_more kinds w second z so_far now).nodes) d ∙ r.nodes;
+    }
+
+set_is : {X : Type 0} (xs : List X) (i : ℕ) (y : X) → i < length xs → slice_set xs i y ≡ take i xs ++ y ∷ drop (i + 1) xs
+set_is xs i y l =
+    sym (take-append-drop (i + 1) (slice_set xs i y)) ∙ ap (λ z. z ++ drop (i + 1) (slice_set xs i y)) (take_more_set xs i y l)
+    ∙ ap (λ z. (take i xs ++ y ∷ []) ++ z) (drop-set-lt (i + 1) xs i y (omega arith)) ∙ append_assoc (take i xs) (y ∷ []) (drop (i + 1) xs)
+
+-- the items before a place, and the one there
+taken : {X : Type 0} (xs : List X) (i : ℕ) (x d : X) → i < length xs → x ≡ get_or xs i d → take (i + 1) xs ≡ take i xs ++ x ∷ []
+taken xs i x d l e = take_more xs i d l ∙ ap (λ z. take i xs ++ z ∷ []) (sym e)
+
+-- what is merged at a place, where the parts before it are other terms of lower places
+module _ (p q d : Part) (ps : List Part) (i : ℕ) (l : i < length ps) (e : q ≡ get_or ps i d) (h : merged p ps ≡ take i ps ++ merged p (drop i ps)) where
+  merged_here : merged p ps ≡ take i ps ++ (if q.term.0 == p.term.0 then part ((q.times + p.times) % 2 ^ 64) q.term ∷ drop (i + 1) ps
+      else if nat_lt p.term.0 q.term.0 then p ∷ q ∷ drop (i + 1) ps else q ∷ merged p (drop (i + 1) ps))
+  merged_here = h ∙ ap (λ z. take i ps ++ merged p z) (rest_is ps i q d l e)
+
+  by_tests : (b c : Bool) → (q.term.0 == p.term.0) ≡ b → nat_lt p.term.0 q.term.0 ≡ c →
+      merged p ps ≡ take i ps ++ (if b then part ((q.times + p.times) % 2 ^ 64) q.term ∷ drop (i + 1) ps
+      else if c then p ∷ q ∷ drop (i + 1) ps else q ∷ merged p (drop (i + 1) ps))
+  by_tests b c f g =
+      merged_here
+      ∙ ap (λ (z : Bool). take i ps ++ (if z then part ((q.times + p.times) % 2 ^ 64) q.term ∷ drop (i + 1) ps
+      else if nat_lt p.term.0 q.term.0 then p ∷ q ∷ drop (i + 1) ps else q ∷ merged p (drop (i + 1) ps))) f
+      ∙ ap (λ (z : Bool). take i ps ++ (if b then part ((q.times + p.times) % 2 ^ 64) q.term ∷ drop (i + 1) ps
+      else if z then p ∷ q ∷ drop (i + 1) ps else q ∷ merged p (drop (i + 1) ps))) g
+
+  pub merged_there : (q.term.0 == p.term.0) ≡ true → merged p ps ≡ slice_set ps i (part ((q.times + p.times) % 2 ^ 64) q.term)
+  merged_there f = by_tests true (nat_lt p.term.0 q.term.0) f refl ∙ sym (set_is ps i (part ((q.times + p.times) % 2 ^ 64) q.term) l)
+
+  pub merged_before : (q.term.0 == p.term.0) ≡ false → nat_lt p.term.0 q.term.0 ≡ true → merged p ps ≡ insert ps i p
+  merged_before f g = by_tests false true f g ∙ ap (λ z. take i ps ++ p ∷ z) (sym (rest_is ps i q d l e))
+
+  pub merged_after : (q.term.0 == p.term.0) ≡ false → nat_lt p.term.0 q.term.0 ≡ false → merged p ps ≡ take (i + 1) ps ++ merged p (drop (i + 1) ps)
+  merged_after f g =
+      by_tests false false f g ∙ sym (append_assoc (take i ps) (q ∷ []) (merged p (drop (i + 1) ps)))
+      ∙ ap (λ z. z ++ merged p (drop (i + 1) ps)) (sym (taken ps i q d l e))
+
+pub merged_end : (p : Part) (ps : List Part) (i : ℕ) → length ps ≤ i → merged p ps ≡ take i ps ++ merged p (drop i ps) → merged p ps ≡ ps ++ p ∷ []
+merged_end p ps i l h = h ∙ ap (λ z. take i ps ++ merged p z) (drop_all i ps l) ∙ ap (λ z. z ++ p ∷ []) (take_all i ps l)
+
+-- all items from a place on
+pub rest_all : {X : Type 0} (xs : List X) (n : ℕ) → take (length xs - n) (drop n xs) ≡ drop n xs
+rest_all xs n = take_all (length xs - n) (drop n xs) (let e : length (drop n xs) ≡ length xs - n = length-drop n xs in omega arith)

@@ -1,0 +1,64 @@
+-- What the equality of two words makes in a bank, under a book of these kinds.
+use Rattle.std.specs.Prelude.{ℕ, zero, suc, Bool, true, false, ◌-◌, ◌≡◌, ◌==◌, if◌then◌else◌, Option, Some, None, List, [], ◌∷◌, ◌++◌}
+use Rattle.ygg_rules.specs.declared.rule.RuleKind.{RuleKind}
+use Rattle.ygg_bank.specs.Makes.{Make, pure, and_make}
+use Rattle.ygg_bank.specs.Nodes.{width_at, widths_of}
+use Rattle.ygg_bank.specs.declared.node.Id.{Id}
+use Rattle.ygg_bank.specs.declared.node.Node.{Node}
+use Rattle.ygg_shape_words.specs.Picking.{picked}
+use Rattle.ygg_shape_words.specs.Same.{same_words}
+use Rattle.ygg_shape_sums.specs.Parts.{Sum, part}
+use Rattle.ygg_shape_sums.specs.Readings.{fact}
+use Rattle.ygg_shape_sums.specs.Gathers.{gathered_sum, has_sum, split_of}
+use Rattle.ygg_shape_sums.specs.Sides.{vanishes}
+use Rattle.ygg_shape_sums.specs.declared.equating.TheConstants.{EQUATE_LIMIT}
+use Rattle.ygg_shape_sums.specs.declared.gathering.TheConstants.{READ_LIMIT}
+use Rattle.ygg_shape_sums.specs.declared.reading.Fact.{Fact}
+use Rattle.ygg_shape_sums.specs.declared.reading.TheConstants.{LESS_ONE}
+
+-- the term that says whether a sum is 0, and how many splits are left then
+pub record Found : Type 0 where
+  pub term : Id
+  pub left : ℕ
+
+abbrev pub found : ℕ → Id → Found
+found left term = record { term = term; left = left }
+
+-- a step that says whether a sum is 0, with so many splits, where the facts hold
+abbrev pub Step : Type 0
+Step = ℕ → List Fact → Sum → Make Found
+
+-- whether a sum is 0, split on a test or not, where the halves are compared by the step
+abbrev pub split_as : List RuleKind → ℕ → Step → ℕ → List Fact → Sum → Option Id → Make Found
+split_as kinds w next left facts s None = and_make (vanishes kinds w s) (λ r. pure (found left r))
+split_as kinds w next left facts s (Some t) =
+    and_make (next (left - 1) (facts ++ fact t true ∷ []) s) (λ one. and_make (next one.left (facts ++ fact t false ∷ []) s)
+    (λ two. and_make (picked kinds t one.term two.term) (λ r. pure (found two.left r))))
+
+-- whether a sum is 0 where the facts hold, with so many splits one within another
+unfoldable pub vanishes_within : List RuleKind → ℕ → ℕ → Step
+vanishes_within kinds w zero left facts s = split_as kinds w (λ left facts s. pure (found left (record { 0 = 0 }))) left facts s None
+vanishes_within kinds w (suc depth) left facts s = λ nodes.
+    let g = gathered_sum nodes facts s in split_as kinds w (vanishes_within kinds w depth) left facts g (split_of nodes left g.parts) nodes
+
+-- one word less another
+abbrev pub difference : Id → Id → Sum
+difference a b = record { number = 0; parts = part 1 a ∷ part LESS_ONE b ∷ [] }
+
+-- whether two words are to be compared as sums
+abbrev pub are_sums : List Node → Id → Id → Bool
+are_sums nodes a b = if a.0 == b.0 then false else has_sum READ_LIMIT nodes (part 1 a ∷ part LESS_ONE b ∷ [])
+
+-- whether the difference of two words is 0
+abbrev pub subtracted : List RuleKind → Id → Id → Make Id
+subtracted kinds a b nodes =
+    and_make (vanishes_within kinds (width_at (widths_of nodes) a) EQUATE_LIMIT EQUATE_LIMIT [] (difference a b)) (λ r. pure r.term) nodes
+
+-- whether two words are equal: whether their difference is 0, where there are sums, and else as `same` says
+abbrev pub equated_words : List RuleKind → Id → Id → Make Id
+equated_words kinds a b nodes = if are_sums nodes a b then subtracted kinds a b nodes else same_words kinds a b nodes
+
+-- the step answers this, and leaves so many splits
+pub record IsFound (step : Make Found) (old new : List Node) (term : Id) (left : ℕ) : Type 0 where
+  pub nodes : new ≡ (step old).nodes
+  pub value : found left term ≡ (step old).value

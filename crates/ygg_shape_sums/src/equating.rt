@@ -1,0 +1,175 @@
+//! The equality of two words that may be sums.
+
+ghost use Rattle.std.specs.Prelude.{◌≡◌, ◌++◌, ◌∷◌, [], IfOk, OnOk};
+ghost use Rattle.ygg_rules.specs.Views.{IsWidth};
+ghost use Rattle.ygg_bank.specs.Inputs.{KeepsInputs};
+ghost use Rattle.ygg_bank.specs.Nodes.{Extends, HasWidth, IsBank};
+ghost use Rattle.ygg_bank.specs.Values.{KeepsValues};
+ghost use Rattle.ygg_shape_words.specs.Forms.{WordsAlike};
+ghost use Rattle.ygg_shape_words.specs.Same.{IsSame};
+ghost use Rattle.ygg_shape_sums.specs.Equates.{IsFound, are_sums, difference, equated_words, subtracted, vanishes_within};
+ghost use Rattle.ygg_shape_sums.specs.Parts.{PartsFit, Sum};
+ghost use Rattle.ygg_shape_sums.specs.Readings.{FactsFit, fact};
+
+use crate::gathering::{gather, has_sum, split_of};
+use crate::parts::{Part, Total, copied};
+use crate::reading::{Fact, LESS_ONE};
+use crate::siding::vanishes;
+use ygg_bank::{Bank, Id, NoMemory};
+use ygg_rules::Book;
+use ygg_shape_words::{pick, same};
+
+/// How often a comparison of sums may be split.
+pub const EQUATE_LIMIT: u32 = 40;
+
+/// Whether a sum is 0 where the facts hold, with so many splits one within another.
+fn vanishes_within<B: Book>(
+    bank: &mut Bank,
+    book: &B,
+    width: u8,
+    depth: u32,
+    left: &mut u32,
+    facts: &[Fact],
+    total: &Total,
+) -> Result<Id, NoMemory>
+    requires bank { IsBank bank.old }
+    requires width { IsWidth width }
+    requires facts { FactsFit bank.old facts.now }
+    requires parts { PartsFit bank.old width total.now.parts }
+    ensures made { IfOk result (λ id. IsFound (vanishes_within (B.kinds book.now) width depth left.old facts.now total.now) bank.old bank.new id left.new) }
+    ensures width { IfOk result (λ id. HasWidth bank.new id 1) }
+    ensures grows { Extends bank.old bank.new }
+    ensures bank { IsBank bank.new }
+{
+    if depth == 0 {
+        let answer = vanishes(bank, book, width, total)?;
+        return Ok(answer);
+    }
+    let sum = gather(bank, facts, total)?;
+    match split_of(bank, *left, sum.parts())? {
+        None => {
+            let answer = vanishes(bank, book, width, &sum)?;
+            Ok(answer)
+        }
+        Some(test) => {
+            *left = left.saturating_sub(1);
+            let where_yes = with(bank, facts, test, true)?;
+            let yes = vanishes_within(
+                bank,
+                book,
+                width,
+                depth - 1,
+                left,
+                where_yes.as_slice(),
+                &sum,
+            )?;
+            let where_no = with(bank, facts, test, false)?;
+            let no = vanishes_within(
+                bank,
+                book,
+                width,
+                depth - 1,
+                left,
+                where_no.as_slice(),
+                &sum,
+            )?;
+            let answer = pick(bank, book, test, yes, no)?;
+            Ok(answer)
+        }
+    }
+}
+
+/// One fact more.
+fn with(bank: &Bank, facts: &[Fact], test: Id, yes: bool) -> Result<Vec<Fact>, NoMemory>
+    ensures { IfOk result (λ more. more.items ≡ facts.now ++ fact test yes ∷ []) }
+{
+    let mut more = copied(bank.allocator(), facts)?;
+    if more.push(Fact { test, yes }).is_err() {
+        return Err(NoMemory);
+    }
+    Ok(more)
+}
+
+/// One word less another. Its only error is out of memory.
+fn difference(bank: &Bank, one: Id, two: Id) -> Result<Total, NoMemory>
+    ensures { IfOk result (λ (sum : Sum). sum ≡ difference one two) }
+{
+    let first = Part {
+        times: 1,
+        term: one,
+    };
+    let second = Part {
+        times: LESS_ONE,
+        term: two,
+    };
+    Total::of(bank.allocator(), &[first, second])
+}
+
+/// The term that is 1 where two words of one width are equal, and 0 where they aren't, in every environment. Where there are sums or
+/// differences, also below picks, one word is subtracted from the other: what stands on both sides goes, and picks are moved out, up to
+/// `EQUATE_LIMIT`. All else is as `same` has it. Its only error is out of memory, after which the bank may have more nodes.
+pub fn equate<B: Book>(bank: &mut Bank, book: &B, one: Id, two: Id) -> Result<Id, NoMemory>
+    requires words { WordsAlike bank.old one two }
+    ensures nodes { OnOk result (bank.new ≡ (equated_words (B.kinds book.now) one two bank.old).nodes) }
+    ensures form { IfOk result (λ id. id ≡ (equated_words (B.kinds book.now) one two bank.old).value) }
+    ensures width { IfOk result (λ id. HasWidth bank.new id 1) }
+    ensures value { IfOk result (IsSame bank.new one two) }
+    ensures grows { Extends bank.old bank.new }
+    ensures keeps { KeepsValues bank.old bank.new }
+    ensures bank { IsBank bank.new }
+    ensures inputs { OnOk result (KeepsInputs bank.old bank.new) }
+{
+    // the bank's nodes stand in order
+    let _ = bank.len();
+    equate_by(bank, book, one, two)
+}
+
+/// What `equate` does.
+fn equate_by<B: Book>(bank: &mut Bank, book: &B, one: Id, two: Id) -> Result<Id, NoMemory>
+    requires bank { IsBank bank.old }
+    requires words { WordsAlike bank.old one two }
+    ensures nodes { OnOk result (bank.new ≡ (equated_words (B.kinds book.now) one two bank.old).nodes) }
+    ensures form { IfOk result (λ id. id ≡ (equated_words (B.kinds book.now) one two bank.old).value) }
+    ensures width { IfOk result (λ id. HasWidth bank.new id 1) }
+    ensures grows { Extends bank.old bank.new }
+    ensures bank { IsBank bank.new }
+{
+    if are_sums(bank, one, two)? {
+        let answer = sums(bank, book, one, two)?;
+        Ok(answer)
+    } else {
+        let answer = same(bank, book, one, two)?;
+        Ok(answer)
+    }
+}
+
+/// Whether two words are to be compared as sums.
+fn are_sums(bank: &Bank, one: Id, two: Id) -> Result<bool, NoMemory>
+    requires bank { IsBank bank.now }
+    requires words { WordsAlike bank.now one two }
+    ensures { IfOk result (λ found. found ≡ are_sums bank.now one two) }
+{
+    if one.0 == two.0 {
+        return Ok(false);
+    }
+    let total = difference(bank, one, two)?;
+    let found = has_sum(bank, total.parts())?;
+    Ok(found)
+}
+
+/// Whether the difference of two words is 0.
+fn sums<B: Book>(bank: &mut Bank, book: &B, one: Id, two: Id) -> Result<Id, NoMemory>
+    requires bank { IsBank bank.old }
+    requires words { WordsAlike bank.old one two }
+    ensures nodes { OnOk result (bank.new ≡ (subtracted (B.kinds book.now) one two bank.old).nodes) }
+    ensures form { IfOk result (λ id. id ≡ (subtracted (B.kinds book.now) one two bank.old).value) }
+    ensures width { IfOk result (λ id. HasWidth bank.new id 1) }
+    ensures grows { Extends bank.old bank.new }
+    ensures bank { IsBank bank.new }
+{
+    let total = difference(bank, one, two)?;
+    let width = bank.width(one);
+    let mut left = EQUATE_LIMIT;
+    let answer = vanishes_within(bank, book, width, EQUATE_LIMIT, &mut left, &[], &total)?;
+    Ok(answer)
+}
