@@ -8,7 +8,7 @@ ghost use Rattle.ygg_watch_visit.specs.Watching.{IsStanding, IsWatchedAt};
 use ygg_cnf::{Clause, Lit};
 use ygg_watch_plain::{ClauseStatus, status_of};
 use ygg_watch_trail::Assignments;
-use ygg_watch_visit::{Checkpoint, link, lits_of, set_watch, watch_of};
+use ygg_watch_visit::{Checkpoint, Links, lits_of};
 
 /// A literal of the clause other than the given one: one that is not false, or else the one that became so last, which
 /// going back makes free first.
@@ -45,27 +45,19 @@ pub enum Examined {
     Stuck,
 }
 
-/// Whether the clause is not watched: its two watches are of one literal.
-fn is_unwatched(watched: &[Lit], at: usize) -> bool
-    requires { 2 * at + 1 < length watched.now }
-    ensures { IsTrue result ↔ (lit_of watched.now (2 * at) ≡ lit_of watched.now (2 * at + 1)) }
-{
-    watch_of(watched, 2 * at) == watch_of(watched, 2 * at + 1)
-}
-
 /// Whether a clause's watches need no look: neither is false, or one is true.
-fn stands(clauses: &[Clause], watched: &[Lit], trail: &Assignments, at: usize) -> bool
-    requires member { IsMember clauses.now watched.now }
-    requires size { length watched.now ≡ 2 * length clauses.now }
+fn stands(clauses: &[Clause], links: &Links, trail: &Assignments, at: usize) -> bool
+    requires member { IsMember clauses.now links.now.watched }
+    requires size { length links.now.watched ≡ 2 * length clauses.now }
     requires at { at < length clauses.now }
     requires variables { All (IsWithin trail.now.variable_count) clauses.now }
-    ensures { IsTrue result → IsStanding watched.now trail.now.entries.items at }
+    ensures { IsTrue result → IsStanding links.now.watched trail.now.entries.items at }
 {
-    if is_unwatched(watched, at) {
+    if links.is_unwatched(at) {
         return false;
     }
-    let first = watch_of(watched, 2 * at);
-    let other = watch_of(watched, 2 * at + 1);
+    let first = links.watch(2 * at);
+    let other = links.watch(2 * at + 1);
     if trail.is_true(first) || trail.is_true(other) {
         return true;
     }
@@ -75,9 +67,7 @@ fn stands(clauses: &[Clause], watched: &[Lit], trail: &Assignments, at: usize) -
 /// Begins to watch two literals of a clause that is not watched.
 fn attach(
     clauses: &[Clause],
-    watched: &mut [Lit],
-    next: &mut [usize],
-    firsts: &mut [usize],
+    links: &mut Links,
     trail: &Assignments,
     frames: &[Checkpoint],
     head: usize,
@@ -85,92 +75,86 @@ fn attach(
     first: Lit,
     other: Lit,
 )
-    requires live { IsLive clauses.now watched.old next.old firsts.old [] trail.now.entries.items trail.now.variable_count frames.now head seen }
-    requires free { lit_of watched.old (2 * seen) ≡ lit_of watched.old (2 * seen + 1) }
+    requires live { IsLive clauses.now links.old.watched links.old.next links.old.firsts []
+        trail.now.entries.items trail.now.variable_count frames.now head seen }
+    requires free { lit_of links.old.watched (2 * seen) ≡ lit_of links.old.watched (2 * seen + 1) }
     requires pair { (clause : _) × ((slice_get clauses.now seen ≡ Some clause) × (Contains clause first × (Contains clause other × (first ≢ other)))) }
-    ensures live { IsLive clauses.now watched.new next.new firsts.new [] trail.now.entries.items trail.now.variable_count frames.now head seen }
-    ensures watched { watched.new ≡ set (set watched.old (2 * seen) first) (2 * seen + 1) other }
+    ensures live { IsLive clauses.now links.new.watched links.new.next links.new.firsts []
+        trail.now.entries.items trail.now.variable_count frames.now head seen }
+    ensures watched { links.new.watched ≡ set (set links.old.watched (2 * seen) first) (2 * seen + 1) other }
 {
-    set_watch(watched, 2 * seen, first);
-    set_watch(watched, 2 * seen + 1, other);
+    links.set_watch(2 * seen, first);
+    links.set_watch(2 * seen + 1, other);
     let code_first = trail.code(first);
     let code_other = trail.code(other);
-    link(next, firsts, 2 * seen, code_first);
-    link(next, firsts, 2 * seen + 1, code_other);
+    links.link(2 * seen, code_first);
+    links.link(2 * seen + 1, code_other);
 }
 
 /// Begins to watch a literal and another one of its clause, where it has one and is not watched.
 fn settle(
     clauses: &[Clause],
-    watched: &mut [Lit],
-    next: &mut [usize],
-    firsts: &mut [usize],
+    links: &mut Links,
     trail: &Assignments,
     frames: &[Checkpoint],
     head: usize,
     seen: usize,
     first: Lit,
 )
-    requires live { IsLive clauses.now watched.old next.old firsts.old [] trail.now.entries.items trail.now.variable_count frames.now head seen }
+    requires live { IsLive clauses.now links.old.watched links.old.next links.old.firsts []
+        trail.now.entries.items trail.now.variable_count frames.now head seen }
     requires here { (clause : _) × ((slice_get clauses.now seen ≡ Some clause) × Contains clause first) }
-    ensures live { IsLive clauses.now watched.new next.new firsts.new [] trail.now.entries.items trail.now.variable_count frames.now head seen }
+    ensures live { IsLive clauses.now links.new.watched links.new.next links.new.firsts []
+        trail.now.entries.items trail.now.variable_count frames.now head seen }
 {
-    if !is_unwatched(watched, seen) {
+    if !links.is_unwatched(seen) {
         return;
     }
     if let Some(other) = second(lits_of(clauses, seen), first, trail) {
-        attach(
-            clauses, watched, next, firsts, trail, frames, head, seen, first, other,
-        );
+        attach(clauses, links, trail, frames, head, seen, first, other);
     }
 }
 
 /// Looks at a clause that was not looked at since a level below was gone back to.
 fn examine(
     clauses: &[Clause],
-    watched: &mut [Lit],
-    next: &mut [usize],
-    firsts: &mut [usize],
+    links: &mut Links,
     trail: &mut Assignments,
     frames: &[Checkpoint],
     head: usize,
     seen: usize,
 ) -> Examined
-    requires live { IsLive clauses.now watched.old next.old firsts.old [] trail.old.entries.items trail.old.variable_count frames.now head seen }
+    requires live { IsLive clauses.now links.old.watched links.old.next links.old.firsts []
+        trail.old.entries.items trail.old.variable_count frames.now head seen }
     requires at { seen < length clauses.now }
-    ensures live { IsLive clauses.now watched.new next.new firsts.new [] trail.new.entries.items trail.new.variable_count frames.now head seen }
+    ensures live { IsLive clauses.now links.new.watched links.new.next links.new.firsts []
+        trail.new.entries.items trail.new.variable_count frames.now head seen }
     ensures fine { result ≡ Examined.Fine → (clause : _) → slice_get clauses.now seen ≡ Some clause →
-        IsWatchedAt watched.new trail.new.entries.items frames.now head seen clause }
+        IsWatchedAt links.new.watched trail.new.entries.items frames.now head seen clause }
     ensures conflict { result ≡ Examined.False → IsConflict clauses.now trail.new.entries.items (seen + 1) }
     ensures spreads { Spreads (state_of clauses.now trail.old) (state_of clauses.now trail.new) }
     ensures starts { trail.new.starts.items ≡ trail.old.starts.items }
     ensures variable_count { trail.new.variable_count ≡ trail.old.variable_count }
 {
-    if stands(clauses, watched, trail, seen) {
+    if stands(clauses, links, trail, seen) {
         return Examined::Fine;
     }
     match status_of(lits_of(clauses, seen), trail) {
         ClauseStatus::False => Examined::False,
         ClauseStatus::True(lit) => {
-            settle(
-                clauses, watched, next, firsts, trail, frames, head, seen, lit,
-            );
+            settle(clauses, links, trail, frames, head, seen, lit);
             Examined::Fine
         }
         ClauseStatus::Unit(lit) => {
-            settle(
-                clauses, watched, next, firsts, trail, frames, head, seen, lit,
-            );
+            settle(clauses, links, trail, frames, head, seen, lit);
             trail.push(lit, Some(seen as u64 + 1));
             Examined::Fine
         }
         ClauseStatus::Open(lit, other) => {
-            if !is_unwatched(watched, seen) {
+            if !links.is_unwatched(seen) {
                 return Examined::Stuck;
             }
-            attach(
-                clauses, watched, next, firsts, trail, frames, head, seen, lit, other,
-            );
+            attach(clauses, links, trail, frames, head, seen, lit, other);
             Examined::Fine
         }
     }
@@ -179,17 +163,17 @@ fn examine(
 /// Looks at each clause that was not looked at.
 pub fn examine_all(
     clauses: &[Clause],
-    watched: &mut [Lit],
-    next: &mut [usize],
-    firsts: &mut [usize],
+    links: &mut Links,
     trail: &mut Assignments,
     frames: &[Checkpoint],
     head: usize,
     seen: &mut usize,
 ) -> Examined
-    requires live { IsLive clauses.now watched.old next.old firsts.old [] trail.old.entries.items trail.old.variable_count frames.now head seen.old }
+    requires live { IsLive clauses.now links.old.watched links.old.next links.old.firsts []
+        trail.old.entries.items trail.old.variable_count frames.now head seen.old }
     requires within { seen.old ≤ length clauses.now }
-    ensures live { IsLive clauses.now watched.new next.new firsts.new [] trail.new.entries.items trail.new.variable_count frames.now head seen.new }
+    ensures live { IsLive clauses.now links.new.watched links.new.next links.new.firsts []
+        trail.new.entries.items trail.new.variable_count frames.now head seen.new }
     ensures within { seen.new ≤ length clauses.now }
     ensures fine { result ≡ Examined.Fine → length clauses.now ≤ seen.new }
     ensures conflict { result ≡ Examined.False → IsConflict clauses.now trail.new.entries.items (seen.new + 1) }
@@ -198,7 +182,7 @@ pub fn examine_all(
     ensures variable_count { trail.new.variable_count ≡ trail.old.variable_count }
 {
     while *seen < clauses.len() {
-        match examine(clauses, watched, next, firsts, trail, frames, head, *seen) {
+        match examine(clauses, links, trail, frames, head, *seen) {
             Examined::Fine => {
                 *seen += 1;
             }

@@ -7,13 +7,11 @@ use ygg_cnf::{Clause, Lit};
 use ygg_list::NoMemory;
 use ygg_watch_plain::{Assigned, Found, Propagate, Trail, spread};
 use ygg_watch_trail::{Assignments, Entry};
-use ygg_watch_visit::{Checkpoint, visit_all};
+use ygg_watch_visit::{Checkpoint, Links, visit_all};
 
 /// Propagation that watches two literals of each clause, and reads a clause only where a watched one becomes false.
 ///
-/// Node 2 * k and node 2 * k + 1 are the two watches of the clause with the number k + 1. `watched` has the literal of each
-/// node. The nodes of a literal form its watch list: `firsts` has the first one by literal and `next` the one after by node, each plus
-/// 1, and 0 at the end. A clause both of whose watches are one literal is in no watch list.
+/// Two nodes of `links` are the watches of each clause. A clause both of whose watches are one literal is in no watch list.
 ///
 /// The first `head` assigned literals and the first `seen` clauses have been looked at. A clause that was looked at has a true
 /// literal beside each watched one that is false by such a literal. `frames` has both numbers as they were when each level
@@ -21,9 +19,7 @@ use ygg_watch_visit::{Checkpoint, visit_all};
 #[derive(Drop)]
 pub struct Watch {
     clauses: Vec<Clause>,
-    watched: Vec<Lit>,
-    next: Vec<usize>,
-    firsts: Vec<usize>,
+    links: Links,
     trail: Assignments,
     frames: Vec<Checkpoint>,
     head: usize,
@@ -40,21 +36,19 @@ impl Model for Watch {
 
     ghost view = { λ s. state_of s.clauses.items s.trail };
 
-    ghost invariant = { λ s. IsState s.clauses.items s.watched.items s.next.items s.firsts.items s.trail.entries.items s.trail.starts.items
+    ghost invariant = { λ s. IsState s.clauses.items s.links.watched s.links.next s.links.firsts s.trail.entries.items s.trail.starts.items
         s.trail.variable_count s.frames.items (vec_capacity s.frames) s.head s.seen };
 }
 
 impl Watch {
-    /// No clause is held, and variables are those below `variable_count`. Its only error is out of memory.
+    /// No clause is held, and variables are those below `variable_count`. Its only error is out of memory, which more than 2,147,483,648 variables come to.
     pub fn new(alloc: Global, variable_count: u64) -> Result<Watch, NoMemory>
         ensures { IfOk result (λ p. p ≡ record { clauses = []; trail = []; level = 0; variable_count = variable_count }) }
     {
         let trail = Assignments::new(alloc, variable_count)?;
         Ok(Watch {
             clauses: Vec::new(alloc),
-            watched: Vec::new(alloc),
-            next: Vec::new(alloc),
-            firsts: Vec::from_elem(alloc, 0, 2 * variable_count as usize)?,
+            links: Links::new(alloc, 2 * variable_count as usize)?,
             trail,
             frames: Vec::with_capacity(alloc, variable_count as usize)?,
             head: 0,
@@ -68,17 +62,9 @@ impl Propagate for Watch {
 
     fn add(&mut self, clause: &Clause) -> Result<(), NoMemory> {
         let kept = clause.copy(*self.clauses.allocator())?;
-        self.watched.reserve(2)?;
-        self.next.reserve(2)?;
-        self.clauses.push(kept)?;
-        let none = Lit {
-            var: 0,
-            negated: false,
-        };
-        self.watched.push_reserved(none);
-        self.watched.push_reserved(none);
-        self.next.push_reserved(0);
-        self.next.push_reserved(0);
+        self.clauses.reserve(1)?;
+        self.links.add()?;
+        self.clauses.push_reserved(kept);
         Ok(())
     }
 
@@ -93,9 +79,7 @@ impl Propagate for Watch {
     fn spread(&mut self) -> Found {
         match examine_all(
             self.clauses.as_slice(),
-            self.watched.as_mut_slice(),
-            self.next.as_mut_slice(),
-            self.firsts.as_mut_slice(),
+            &mut self.links,
             &mut self.trail,
             self.frames.as_slice(),
             self.head,
@@ -111,9 +95,7 @@ impl Propagate for Watch {
         }
         match visit_all(
             self.clauses.as_slice(),
-            self.watched.as_mut_slice(),
-            self.next.as_mut_slice(),
-            self.firsts.as_mut_slice(),
+            &mut self.links,
             &mut self.trail,
             self.frames.as_slice(),
             &mut self.head,

@@ -1,3 +1,4 @@
 pub mod ListLemmas
 pub mod WatchLemmas
 pub mod StepLemmas
+pub mod LinkLemmas

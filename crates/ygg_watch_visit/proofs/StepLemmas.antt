@@ -16,7 +16,6 @@ use Rattle.std.proofs.Common.{
   ◌++◌,
   length,
   take,
-  drop,
   get_or,
   set,
   ◌⊎◌,
@@ -43,7 +42,7 @@ use Rattle.std.proofs.Common.{
 }
 use Rattle.std.proofs.Math.Seq.{get_or-append_seam}
 use Rattle.std.proofs.lemmas.Bool.{cases_eq, cases_lt}
-use Rattle.std.proofs.lemmas.List.{get_or-take, get_or_append_left, take-append-le, take_all}
+use Rattle.std.proofs.lemmas.List.{get_or-take, get_or_append_left}
 use Rattle.std.proofs.lemmas.List.Elements.{All-push}
 use Rattle.std.proofs.lemmas.Option.{same_Some, slice_get-get_or, slice_get_within}
 use Rattle.ygg_cnf_set.specs.LiteralSet.{code_of}
@@ -494,27 +493,22 @@ pub back_same : (clauses : List (List Lit)) (trail : List Entry) (starts : List 
 back_same clauses trail starts variable_count level t e =
     rw (keep_all level trail (λ q d h. let r = t.low q d h in omega (arith, r, e)), e) refl
 
--- what a slice writes back is the slice
-pub written_back : {X : Type 0} (n : ℕ) (now before : List X) → length now ≡ length before → n ≡ length before → take n (now ++ drop (length now) before) ≡ now
-written_back n now before e l = take-append-le n now (drop (length now) before) (omega (arith, e, l)) ∙ take_all n now (omega (arith, e, l))
-
-pub closed : (clauses given : List (List Lit)) (watched watched2 : List Lit) (next next2 firsts firsts2 : List ℕ) (trail : List Entry)
-    (starts : List ℕ) (variable_count : ℕ) (frames frames2 : List Checkpoint) (capacity head seen : ℕ)
-    → IsLive given watched2 next2 firsts2 [] trail variable_count frames2 head seen → given ≡ clauses → frames2 ≡ frames → watched ≡ watched2 → next ≡ next2 →
-    firsts ≡ firsts2
-    → length frames ≡ length starts → variable_count ≤ capacity → seen ≤ length given
+pub closed : (clauses given : List (List Lit)) (watched : List Lit) (next firsts : List ℕ) (trail : List Entry) (starts : List ℕ) (variable_count : ℕ)
+    (frames frames2 : List Checkpoint) (capacity head seen : ℕ)
+    → IsLive given watched next firsts [] trail variable_count frames2 head seen → given ≡ clauses → frames2 ≡ frames → length frames ≡ length starts →
+    variable_count ≤ capacity → seen ≤ length given
     → IsState clauses watched next firsts trail starts variable_count frames capacity head seen
-closed clauses given watched watched2 next next2 firsts firsts2 trail starts variable_count frames frames2 capacity head seen v e1 e2 e3 e4 e5 l c w =
+closed clauses given watched next firsts trail starts variable_count frames frames2 capacity head seen v e1 e2 l c w =
     record {
       live = subst (λ (z : List (List Lit)). IsLive z watched next firsts [] trail variable_count frames head seen) e1
-          (subst (λ (z : List Checkpoint). IsLive given watched next firsts [] trail variable_count z head seen) e2 (rw (e3, e4, e5) v));
+          (subst (λ (z : List Checkpoint). IsLive given watched next firsts [] trail variable_count z head seen) e2 v);
       levels = l;
       capacity_is = c;
       seen_within = subst (λ (z : List (List Lit)). seen ≤ length z) e1 w;
     }
 
-pub live_as : (c1 c2 : List (List Lit)) (w1 w2 : List Lit) (n1 n2 f1 f2 : List ℕ) (trail : List Entry) (variable_count : ℕ) (r1 r2 : List Checkpoint)
+pub live_as : (c1 c2 : List (List Lit)) (watched : List Lit) (next firsts : List ℕ) (trail : List Entry) (variable_count : ℕ) (r1 r2 : List Checkpoint)
     (head seen : ℕ)
-    → IsLive c1 w1 n1 f1 [] trail variable_count r1 head seen → c2 ≡ c1 → w2 ≡ w1 → n2 ≡ n1 → f2 ≡ f1 → r2 ≡ r1 →
-    IsLive c2 w2 n2 f2 [] trail variable_count r2 head seen
-live_as c1 c2 w1 w2 n1 n2 f1 f2 trail variable_count r1 r2 head seen v e1 e2 e3 e4 e5 = rw (e1, e2, e3, e4, e5) v
+    → IsLive c1 watched next firsts [] trail variable_count r1 head seen → c2 ≡ c1 → r2 ≡ r1 →
+    IsLive c2 watched next firsts [] trail variable_count r2 head seen
+live_as c1 c2 watched next firsts trail variable_count r1 r2 head seen v e1 e2 = rw (e1, e2) v

@@ -6,5 +6,5 @@ mod links;
 mod visit;
 
 pub use frame::Checkpoint;
-pub use links::{link, lits_of, set_watch, watch_of};
+pub use links::{Links, lits_of};
 pub use visit::{Judged, visit_all};

@@ -9,12 +9,12 @@ ghost use Rattle.ygg_watch_visit.specs.State.{IsLive};
 ghost use Rattle.ygg_watch_visit.specs.Watching.{IsDone, IsJudged};
 
 use crate::frame::Checkpoint;
-use crate::links::{link, lits_of, next_of, set_watch, sibling_of, take_first, watch_of};
+use crate::links::{Links, lits_of, sibling_of};
 use ygg_cnf::{Clause, Lit};
 use ygg_watch_trail::Assignments;
 
-/// A literal of the clause that is not false, other than the given one.
-fn replacement(clause: &[Lit], other: Lit, trail: &Assignments) -> Option<Lit>
+/// The first literal that is not false, other than the given one. Each one before it is counted.
+fn replacement(clause: &[Lit], other: Lit, trail: &Assignments, count: &mut usize) -> Option<Lit>
     requires { IsWithin trail.now.variable_count clause.now }
     ensures some { IfSome result (λ y. Contains clause.now y × ((y ≢ other) × (IsFalse trail.now.entries.items y → ⊥))) }
     ensures none { IfNone result ((y : _) → Contains clause.now y → y ≢ other → IsFalse trail.now.entries.items y) }
@@ -23,8 +23,32 @@ fn replacement(clause: &[Lit], other: Lit, trail: &Assignments) -> Option<Lit>
         if !trail.is_false(*lit) && *lit != other {
             return Some(*lit);
         }
+        *count = count.wrapping_add(1);
     }
     None
+}
+
+/// A literal of the clause that is not false, other than the given one: the first one from a place on, or else the first one before it. The place becomes
+/// its own.
+fn replacement_from(
+    clause: &[Lit],
+    other: Lit,
+    trail: &Assignments,
+    place: &mut usize,
+) -> Option<Lit>
+    requires { IsWithin trail.now.variable_count clause.now }
+    ensures some { IfSome result (λ y. Contains clause.now y × ((y ≢ other) × (IsFalse trail.now.entries.items y → ⊥))) }
+    ensures none { IfNone result ((y : _) → Contains clause.now y → y ≢ other → IsFalse trail.now.entries.items y) }
+{
+    if *place > clause.len() {
+        *place = 0;
+    }
+    let (before, after) = clause.split_at(*place);
+    if let Some(lit) = replacement(after, other, trail, place) {
+        return Some(lit);
+    }
+    *place = 0;
+    replacement(before, other, trail, place)
 }
 
 /// What is to be done about a clause one of whose watched literals is false.
@@ -40,8 +64,15 @@ pub enum Judged {
     False,
 }
 
-/// Looks at a clause with a false watch.
-fn judge(clause: &[Lit], other: Lit, trail: &Assignments) -> Judged
+/// Looks at the clause of a number with a false watch. Where another literal is to be watched, `place` becomes its place.
+fn judge(
+    clause: &[Lit],
+    other: Lit,
+    trail: &Assignments,
+    links: &Links,
+    at: usize,
+    place: &mut usize,
+) -> Judged
     requires within { IsWithin trail.now.variable_count clause.now }
     requires here { Contains clause.now other }
     ensures { IsJudged clause.now other trail.now.entries.items result }
@@ -49,7 +80,8 @@ fn judge(clause: &[Lit], other: Lit, trail: &Assignments) -> Judged
     if trail.is_true(other) {
         return Judged::Keep;
     }
-    match replacement(clause, other, trail) {
+    *place = links.start(at);
+    match replacement_from(clause, other, trail, place) {
         Some(lit) => Judged::Move(lit),
         None => {
             if trail.is_false(other) {
@@ -62,64 +94,77 @@ fn judge(clause: &[Lit], other: Lit, trail: &Assignments) -> Judged
 }
 
 /// Puts the pending nodes back into the watch list of their literal.
-fn put_back(watched: &[Lit], next: &mut [usize], firsts: &mut [usize], from: usize, code: usize)
-    requires pending { (rest : List ℕ) × (IsPending next.old watched.now from code rest × IsLists next.old watched.now firsts.old rest) }
-    requires size { length watched.now ≡ length next.old }
-    requires code { code < length firsts.old }
-    ensures { IsLists next.new watched.now firsts.new [] }
+fn put_back(links: &mut Links, from: usize, code: usize)
+    requires pending { (rest : List ℕ) × (IsPending links.old.next links.old.watched from code rest
+        × IsLists links.old.next links.old.watched links.old.firsts rest) }
+    requires size { length links.old.watched ≡ length links.old.next }
+    requires code { code < length links.old.firsts }
+    ensures lists { IsLists links.new.next links.new.watched links.new.firsts [] }
+    ensures watched { links.new.watched ≡ links.old.watched }
+    ensures next { length links.new.next ≡ length links.old.next }
+    ensures firsts { length links.new.firsts ≡ length links.old.firsts }
 {
     let mut at = from;
     while at != 0 {
         let node = at - 1;
-        at = next_of(next, node);
-        link(next, firsts, node, code);
+        at = links.next(node);
+        links.link(node, code);
     }
 }
 
 /// Looks at each watch of a literal that is false. Gives the number of a clause that is false, if it finds one.
 fn visit(
     clauses: &[Clause],
-    watched: &mut [Lit],
-    next: &mut [usize],
-    firsts: &mut [usize],
+    links: &mut Links,
     trail: &mut Assignments,
     frames: &[Checkpoint],
     head: usize,
     seen: usize,
     lit: Lit,
 ) -> Option<u64>
-    requires live { IsLive clauses.now watched.old next.old firsts.old [] trail.old.entries.items trail.old.variable_count frames.now head seen }
+    requires live { IsLive clauses.now links.old.watched links.old.next links.old.firsts []
+        trail.old.entries.items trail.old.variable_count frames.now head seen }
     requires entry { (e : _) × (IsAt trail.old.entries.items head e × (e.lit ≡ complement lit)) }
-    ensures live { IsLive clauses.now watched.new next.new firsts.new [] trail.new.entries.items trail.new.variable_count frames.now head seen }
+    ensures live { IsLive clauses.now links.new.watched links.new.next links.new.firsts []
+        trail.new.entries.items trail.new.variable_count frames.now head seen }
     ensures spreads { Spreads (state_of clauses.now trail.old) (state_of clauses.now trail.new) }
     ensures starts { trail.new.starts.items ≡ trail.old.starts.items }
     ensures variable_count { trail.new.variable_count ≡ trail.old.variable_count }
-    ensures done { IfNone result (IsDone watched.new trail.new.entries.items (code_of lit) []) }
+    ensures done { IfNone result (IsDone links.new.watched trail.new.entries.items (code_of lit) []) }
     ensures found { IfSome result (λ id. IsConflict clauses.now trail.new.entries.items id) }
 {
     let code_now = trail.code(lit);
-    let mut at = take_first(firsts, code_now);
+    let mut at = links.take_first(code_now);
     while at != 0 {
         let node = at - 1;
-        at = next_of(next, node);
-        let other = watch_of(watched, sibling_of(node));
+        at = links.next(node);
+        let other = links.watch(sibling_of(node));
         let mut to = code_now;
-        match judge(lits_of(clauses, node / 2), other, trail) {
+        let mut place = 0;
+        match judge(
+            lits_of(clauses, node / 2),
+            other,
+            trail,
+            links,
+            node / 2,
+            &mut place,
+        ) {
             Judged::Keep => {}
             Judged::Move(lit) => {
-                set_watch(watched, node, lit);
+                links.set_watch(node, lit);
+                links.set_start(node / 2, place);
                 to = trail.code(lit);
             }
             Judged::Imply => {
                 trail.push(other, Some((node / 2) as u64 + 1));
             }
             Judged::False => {
-                link(next, firsts, node, code_now);
-                put_back(watched, next, firsts, at, code_now);
+                links.link(node, code_now);
+                put_back(links, at, code_now);
                 return Some((node / 2) as u64 + 1);
             }
         }
-        link(next, firsts, node, to);
+        links.link(node, to);
     }
     None
 }
@@ -127,16 +172,16 @@ fn visit(
 /// Looks at each entry that was not looked at. Gives the number of a clause that is false, if it finds one.
 pub fn visit_all(
     clauses: &[Clause],
-    watched: &mut [Lit],
-    next: &mut [usize],
-    firsts: &mut [usize],
+    links: &mut Links,
     trail: &mut Assignments,
     frames: &[Checkpoint],
     head: &mut usize,
     seen: usize,
 ) -> Option<u64>
-    requires live { IsLive clauses.now watched.old next.old firsts.old [] trail.old.entries.items trail.old.variable_count frames.now head.old seen }
-    ensures live { IsLive clauses.now watched.new next.new firsts.new [] trail.new.entries.items trail.new.variable_count frames.now head.new seen }
+    requires live { IsLive clauses.now links.old.watched links.old.next links.old.firsts []
+        trail.old.entries.items trail.old.variable_count frames.now head.old seen }
+    ensures live { IsLive clauses.now links.new.watched links.new.next links.new.firsts []
+        trail.new.entries.items trail.new.variable_count frames.now head.new seen }
     ensures spreads { Spreads (state_of clauses.now trail.old) (state_of clauses.now trail.new) }
     ensures starts { trail.new.starts.items ≡ trail.old.starts.items }
     ensures variable_count { trail.new.variable_count ≡ trail.old.variable_count }
@@ -145,9 +190,7 @@ pub fn visit_all(
 {
     while *head < trail.len() {
         let lit = trail.at(*head).lit.complement();
-        if let Some(id) = visit(
-            clauses, watched, next, firsts, trail, frames, *head, seen, lit,
-        ) {
+        if let Some(id) = visit(clauses, links, trail, frames, *head, seen, lit) {
             return Some(id);
         }
         *head += 1;

@@ -14,7 +14,8 @@ use Rattle.ygg_watch.proofs.examine.examine.Goals as goal
 
 pub returns-then-stands-clause-fine : goal.returns-then-stands-clause-fine
 returns-then-stands-clause-fine c _ clause is =
-    watched_standing c.args.watched.now c.args.trail.now.entries.items c.args.trail.now.variable_count c.args.frames.now c.args.head c.args.seen clause
+    watched_standing c.args.links.now.watched c.args.trail.now.entries.items c.args.trail.now.variable_count c.args.frames.now c.args.head c.args.seen
+    clause
     c.args.trail.now.trail c.requires.live.framed (c.stands.ensures c.if-stands.true)
 
 pub status_of-requires : goal.status_of-requires
@@ -33,9 +34,9 @@ returns-in-False-clause-conflict c _ = (
 
 pub returns-in-Unit-clause-live : goal.returns-in-Unit-clause-live
 returns-in-Unit-clause-live c =
-    subst (λ m. IsLive c.args.clauses.now c.settle-in-Unit.new.watched c.settle-in-Unit.new.next c.settle-in-Unit.new.firsts
+    subst (λ m. IsLive c.args.clauses.now c.settle-in-Unit.new.links.watched c.settle-in-Unit.new.links.next c.settle-in-Unit.new.links.firsts
     [] c.push.new.self.entries.items m c.args.frames.now c.args.head c.args.seen) (sym c.push.ensures.variable_count)
-    (live_push c.args.clauses.now c.settle-in-Unit.new.watched c.settle-in-Unit.new.next c.settle-in-Unit.new.firsts
+    (live_push c.args.clauses.now c.settle-in-Unit.new.links.watched c.settle-in-Unit.new.links.next c.settle-in-Unit.new.links.firsts
     [] c.args.trail.now.entries.items c.push.new.self.entries.items c.args.trail.now.variable_count c.args.frames.now c.args.head c.args.seen _
     c.settle-in-Unit.ensures.live c.push.ensures.entries)
 
@@ -44,8 +45,10 @@ returns-in-Unit-clause-fine c _ clause is =
     let lits : List Lit = c.lits_of.result.now in
     let same : lits ≡ clause = same_Some lits clause (sym c.lits_of.ensures ∙ is) in
     let e : Entry = record { lit = c.in-Unit.lit; level = length c.args.trail.now.starts.items; reason = Some (c.args.seen + 1) } in
-    subst (λ (t : List Entry). IsWatchedAt c.settle-in-Unit.new.watched t c.args.frames.now c.args.head c.args.seen clause) (sym c.push.ensures.entries)
-    (watched_satisfied c.settle-in-Unit.new.watched (c.args.trail.now.entries.items ++ e ∷ []) c.args.frames.now c.args.head c.args.seen clause c.in-Unit.lit
+    subst (λ (t : List Entry). IsWatchedAt c.settle-in-Unit.new.links.watched t c.args.frames.now c.args.head c.args.seen clause) (sym
+    c.push.ensures.entries)
+    (watched_satisfied c.settle-in-Unit.new.links.watched (c.args.trail.now.entries.items ++ e ∷ []) c.args.frames.now c.args.head c.args.seen clause
+    c.in-Unit.lit
     (framed_push c.args.trail.now.entries.items c.args.frames.now c.args.head c.args.seen e c.requires.live.framed)
     (subst (λ (w : List Lit). Contains w c.in-Unit.lit) same c.in-Unit.ensures.0)
     (length c.args.trail.now.entries.items, (e, (at_last c.args.trail.now.entries.items e, refl))))
@@ -55,14 +58,15 @@ returns-in-Unit-clause-spreads c =
     step_spreads (state_of c.args.clauses.now c.args.trail.now) (state_of c.args.clauses.now c.args.trail.now)
     (c.args.seen + 1) c.in-Unit.lit c.lits_of.result.now (spreads_none (state_of c.args.clauses.now c.args.trail.now))
     (has_clause c.args.clauses.now c.args.seen c.lits_of.result.now c.lits_of.ensures) c.in-Unit.ensures
-    (lit_within c.args.clauses.now c.args.trail.now.variable_count c.args.seen c.lits_of.result.now c.in-Unit.lit c.requires.live.variables c.lits_of.ensures
+    (lit_within c.args.clauses.now c.args.trail.now.variable_count c.args.seen c.lits_of.result.now c.in-Unit.lit c.requires.live.variables
+    c.lits_of.ensures
     c.in-Unit.ensures.0) (state_of c.args.clauses.now c.push.new.self)
     (state_same c.args.clauses.now _ _ _ _ _ _ _ c.push.ensures.entries c.push.ensures.starts c.push.ensures.variable_count)
 
 pub returns-else-not-is_unwatched-clause-fine : goal.returns-else-not-is_unwatched-clause-fine
 returns-else-not-is_unwatched-clause-fine c _ clause is =
     let o = c.in-Open.ensures in
-    let w : List Lit = c.args.watched.now in
+    let w : List Lit = c.args.links.now.watched in
     let l : 2 * c.args.seen + 1 < length w = let a = c.requires.at in let b = c.requires.live.watched_size in omega (arith, a, b) in
     let trail = c.args.trail.now.entries.items in
     subst (λ (z : List Lit). IsWatchedAt z trail c.args.frames.now c.args.head c.args.seen clause) (sym c.attach.ensures.watched)

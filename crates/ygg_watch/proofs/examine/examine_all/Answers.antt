@@ -5,7 +5,7 @@ use Rattle.ygg_watch.proofs.examine.examine_all.Goals as goal
 
 pub loop-seen-preserved : goal.loop-seen-preserved
 loop-seen-preserved c = record {
-  live = live_seen c.args.clauses.now c.examine.new.watched c.examine.new.next c.examine.new.firsts c.examine.new.trail.entries.items
+  live = live_seen c.args.clauses.now c.examine.new.links.watched c.examine.new.links.next c.examine.new.links.firsts c.examine.new.trail.entries.items
       c.examine.new.trail.variable_count c.args.frames.now c.args.head c.loop-seen.seen
       c.examine.ensures.live (c.in-Fine.ensures.fine refl);
   within = omega arith;

@@ -6,7 +6,7 @@ use Rattle.ygg_watch.proofs.examine.examine_all.Given as goal
 
 abbrev pub invariant-loop-seen : goal.invariant-loop-seen
 invariant-loop-seen l = record {
-  live : IsLive l.clauses l.watched l.next l.firsts [] l.trail.entries.items l.trail.variable_count l.frames l.head l.seen;
+  live : IsLive l.clauses l.links.watched l.links.next l.links.firsts [] l.trail.entries.items l.trail.variable_count l.frames l.head l.seen;
   within : l.seen ≤ length l.clauses;
   spreads : Spreads (state_of l.clauses l.initial.trail) (state_of l.clauses l.trail);
   starts : l.trail.starts.items ≡ l.initial.trail.starts.items;

@@ -1,50 +1,56 @@
-use Rattle.std.proofs.Common.{◌≡◌, ◌-◌, ℕ, List, length, get_or, set, sym, subst, ◌∙◌, arith}
+use Rattle.std.proofs.Common.{◌≡◌, ◌-◌, ℕ, List, length, get_or, length-set, sym, subst, ◌∙◌, arith}
 use Rattle.ygg_watch_visit.proofs.ListLemmas.{walk, walk_pending, node_within, put_step, put_end}
-use Rattle.ygg_watch_visit.specs.Lists.{IsPending, IsLists}
+use Rattle.ygg_watch_visit.specs.Lists.{IsPending}
 use Rattle.ygg_watch_visit.proofs.visit.put_back.Goals as goal
 
-pub next_of-at-requires : goal.next_of-at-requires
-next_of-at-requires c =
-    let p = c.loop-at.invariant.pending in let w = node_within c.loop-at.next c.args.watched.now c.loop-at.at c.args.code p.0 p.1.0 c.loop-at-test.true in
+pub next-at-requires : goal.next-at-requires
+next-at-requires c =
+    let p = c.loop-at.invariant.pending in let w = node_within c.loop-at.links.next c.loop-at.links.watched c.loop-at.at c.args.code p.0 p.1.0
+    c.loop-at-test.true in
     let s = c.loop-at.invariant.size in omega (arith, w, s)
 
 pub link-requires-clause-node : goal.link-requires-clause-node
 link-requires-clause-node c =
-    let p = c.loop-at.invariant.pending in let w = node_within c.loop-at.next c.args.watched.now c.loop-at.at c.args.code p.0 p.1.0 c.loop-at-test.true in
+    let p = c.loop-at.invariant.pending in let w = node_within c.loop-at.links.next c.loop-at.links.watched c.loop-at.at c.args.code p.0 p.1.0
+    c.loop-at-test.true in
     let s = c.loop-at.invariant.size in omega (arith, w, s)
 
 pub loop-at-preserved : goal.loop-at-preserved
 loop-at-preserved c =
     let p = c.loop-at.invariant.pending in
-    let s = put_step c.loop-at.next c.args.watched.now c.loop-at.firsts c.loop-at.at c.args.code p.0 p.1.0 p.1.1 c.loop-at-test.true
+    let s = put_step c.loop-at.links.next c.loop-at.links.watched c.loop-at.links.firsts c.loop-at.at c.args.code p.0 p.1.0 p.1.1 c.loop-at-test.true
     c.loop-at.invariant.size c.loop-at.invariant.code in
+    let next : length c.link.new.self.next ≡ length c.loop-at.links.next = rw c.link.ensures.next (length-set c.loop-at.links.next _ _) in
+    let firsts : length c.link.new.self.firsts ≡ length c.loop-at.links.firsts = rw c.link.ensures.firsts (length-set c.loop-at.links.firsts _ _) in
     record {
       pending = (
         s.0,
         (
-          subst (λ m. IsPending c.link.new.next c.args.watched.now m c.args.code s.0) (sym c.next_of-at.ensures)
-              (subst (λ (n : List ℕ). IsPending n c.args.watched.now (get_or c.loop-at.next (c.loop-at.at - 1) 0) c.args.code s.0)
-              (sym c.link.ensures.next) s.1.1.0),
-          subst (λ (n : List ℕ). IsLists n c.args.watched.now c.link.new.firsts s.0) (sym c.link.ensures.next)
-              (subst (λ (f : List ℕ). IsLists (set c.loop-at.next (c.loop-at.at - 1) (get_or c.loop-at.firsts c.args.code 0)) c.args.watched.now f
-              s.0) (sym c.link.ensures.firsts) s.1.1.1),
+          rw (c.next-at.ensures, c.link.ensures.next, c.link.ensures.watched) s.1.1.0,
+          rw (c.link.ensures.next, c.link.ensures.watched, c.link.ensures.firsts) s.1.1.1,
         ),
       );
-      size = c.loop-at.invariant.size ∙ sym (c.link.auto.next);
-      code = let a = c.loop-at.invariant.code in let b = c.link.auto.firsts in omega (arith, a, b);
+      size = rw c.link.ensures.watched (c.loop-at.invariant.size ∙ sym next);
+      code = let a = c.loop-at.invariant.code in omega (arith, a, firsts);
+      watched = c.link.ensures.watched ∙ c.loop-at.invariant.watched;
+      next = next ∙ c.loop-at.invariant.next;
+      firsts = firsts ∙ c.loop-at.invariant.firsts;
     }
 
 pub loop-at-smaller : goal.loop-at-smaller
 loop-at-smaller c =
     let p = c.loop-at.invariant.pending in
-    let s = put_step c.loop-at.next c.args.watched.now c.loop-at.firsts c.loop-at.at c.args.code p.0 p.1.0 p.1.1 c.loop-at-test.true
+    let s = put_step c.loop-at.links.next c.loop-at.links.watched c.loop-at.links.firsts c.loop-at.at c.args.code p.0 p.1.0 p.1.1 c.loop-at-test.true
     c.loop-at.invariant.size c.loop-at.invariant.code in
-    let before : walk (length c.loop-at.next) c.loop-at.next c.loop-at.at ≡ length p.0 =
-    walk_pending c.loop-at.next c.args.watched.now c.loop-at.at c.args.code p.0 c.loop-at.invariant.size p.1.0 in
-    let after : walk (length c.link.new.next) c.link.new.next (get_or c.loop-at.next (c.loop-at.at - 1) 0) ≡ length s.0
-    = walk_pending c.link.new.next c.args.watched.now _ c.args.code s.0 (c.loop-at.invariant.size ∙ sym (c.link.auto.next))
-    (subst (λ (n : List ℕ). IsPending n c.args.watched.now (get_or c.loop-at.next (c.loop-at.at - 1) 0) c.args.code s.0) (sym c.link.ensures.next) s.1.1.0) in
-    let less = s.1.0 in rw c.next_of-at.ensures (omega (arith, before, after, less))
+    let before : walk (length c.loop-at.links.next) c.loop-at.links.next c.loop-at.at ≡ length p.0 =
+    walk_pending c.loop-at.links.next c.loop-at.links.watched c.loop-at.at c.args.code p.0 c.loop-at.invariant.size p.1.0 in
+    let after : walk (length c.link.new.self.next) c.link.new.self.next (get_or c.loop-at.links.next (c.loop-at.at - 1) 0) ≡ length s.0
+    = walk_pending c.link.new.self.next c.loop-at.links.watched _ c.args.code s.0 (rw c.link.ensures.next (c.loop-at.invariant.size ∙ sym (length-set
+    c.loop-at.links.next _ _)))
+    (subst (λ (n : List ℕ). IsPending n c.loop-at.links.watched (get_or c.loop-at.links.next (c.loop-at.at - 1) 0) c.args.code s.0) (sym
+    c.link.ensures.next) s.1.1.0) in
+    let less = s.1.0 in rw c.next-at.ensures (omega (arith, before, after, less))
 
-pub returns : goal.returns
-returns c = put_end c.loop-at.next c.args.watched.now c.loop-at.firsts c.loop-at.at c.args.code c.loop-at.invariant.pending c.loop-at-test.false
+pub returns-clause-lists : goal.returns-clause-lists
+returns-clause-lists c = put_end c.loop-at.links.next c.loop-at.links.watched c.loop-at.links.firsts c.loop-at.at c.args.code
+    c.loop-at.invariant.pending c.loop-at-test.false

@@ -13,16 +13,16 @@ use Rattle.ygg_watch_visit.proofs.visit.visit.Given as goal
 
 abbrev pub invariant-loop-at : goal.invariant-loop-at
 invariant-loop-at l = record {
-  pending : (rest : List ℕ) × (IsPending l.next l.watched l.at l.code_now rest
-      × (IsLive l.clauses l.watched l.next l.firsts rest l.trail.entries.items l.trail.variable_count l.frames l.head l.seen
-      × IsDone l.watched l.trail.entries.items l.code_now rest));
+  pending : (rest : List ℕ) × (IsPending l.links.next l.links.watched l.at l.code_now rest
+      × (IsLive l.clauses l.links.watched l.links.next l.links.firsts rest l.trail.entries.items l.trail.variable_count l.frames l.head l.seen
+      × IsDone l.links.watched l.trail.entries.items l.code_now rest));
   entry : (e : Entry) × (IsAt l.trail.entries.items l.head e × (e.lit ≡ complement l.fn.lit));
   spreads : Spreads (state_of l.clauses l.initial.trail) (state_of l.clauses l.trail);
   starts : l.trail.starts.items ≡ l.initial.trail.starts.items;
   variable_count : l.trail.variable_count ≡ l.initial.trail.variable_count;
   code : l.code_now ≡ code_of l.fn.lit;
-  code_within : l.code_now < length l.firsts;
+  code_within : l.code_now < length l.links.firsts;
 }
 
 abbrev pub decreases-loop-at : goal.decreases-loop-at
-decreases-loop-at l = walk (length l.next) l.next l.at
+decreases-loop-at l = walk (length l.links.next) l.links.next l.at

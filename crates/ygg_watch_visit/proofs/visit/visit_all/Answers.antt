@@ -17,7 +17,7 @@ loop-head-smaller c =
 
 pub loop-head-preserved : goal.loop-head-preserved
 loop-head-preserved c = record {
-  live = live_head c.args.clauses.now c.visit.new.watched c.visit.new.next c.visit.new.firsts c.loop-head.trail.entries.items
+  live = live_head c.args.clauses.now c.visit.new.links.watched c.visit.new.links.next c.visit.new.links.firsts c.loop-head.trail.entries.items
       c.visit.new.trail.entries.items c.visit.new.trail.variable_count c.args.frames.now c.loop-head.head c.args.seen
       c.at.result c.complement-lit.result c.visit.ensures.live
       (at_spread (state_of c.args.clauses.now c.loop-head.trail)

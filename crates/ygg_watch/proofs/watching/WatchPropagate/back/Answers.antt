@@ -8,22 +8,27 @@ use Rattle.ygg_watch.proofs.watching.WatchPropagate.back.Goals as goal
 pub invariant_of-self : goal.invariant_of-self
 invariant_of-self c =
     let i = c.self.inside in let v = c.self.invariant in
-    let below : c.args.level < length i.frames.items = let a = c.if-at-len.true in let b = c.len.ensures in let k = i.frames.ok in omega (arith, a, b, k) in
+    let below : c.args.level < length i.frames.items = let a = c.if-at-len.true in let b = c.len.ensures in let k = i.frames.ok in omega (
+      arith,
+      a,
+      b,
+      k,
+    ) in
     let frame : c.index-frame.result.now ≡ frame_of i.frames.items c.args.level =
     frame_is i.frames.items c.args.level c.index-frame.result.now below c.index-frame.ensures in
-    let live : IsLive i.clauses.items i.watched.items i.next.items i.firsts.items
+    let live : IsLive i.clauses.items i.links.watched i.links.next i.links.firsts
     [] c.back.new.self.entries.items i.trail.variable_count c.truncate.new.self.items (frame_of i.frames.items c.args.level).head
     (frame_of i.frames.items c.args.level).seen
-    = live_gone_back i.clauses.items i.watched.items i.next.items i.firsts.items i.trail.entries.items c.back.new.self.entries.items
+    = live_gone_back i.clauses.items i.links.watched i.links.next i.links.firsts i.trail.entries.items c.back.new.self.entries.items
     i.trail.starts.items i.trail.variable_count i.frames.items c.truncate.new.self.items i.head i.seen c.args.level
     v.live i.trail.levelled v.levels below c.back.ensures.entries c.truncate.ensures.items in
     let count : length c.truncate.new.self.items ≡ c.args.level = ap (λ (z : List Checkpoint). length z) c.truncate.ensures.items
     ∙ simp length-take (omega (arith, below)) in
     record {
-      live = subst (λ m. IsLive i.clauses.items i.watched.items i.next.items i.firsts.items
+      live = subst (λ m. IsLive i.clauses.items i.links.watched i.links.next i.links.firsts
           [] c.back.new.self.entries.items m c.truncate.new.self.items c.index-frame.result.now.head c.index-frame.result.now.seen)
           (sym c.back.ensures.variable_count)
-          (subst (λ (f : Checkpoint). IsLive i.clauses.items i.watched.items i.next.items i.firsts.items
+          (subst (λ (f : Checkpoint). IsLive i.clauses.items i.links.watched i.links.next i.links.firsts
           [] c.back.new.self.entries.items i.trail.variable_count c.truncate.new.self.items f.head f.seen) (sym frame) live);
       levels = let s = c.back.ensures.starts in omega (arith, count, s);
       capacity_is = let m = v.capacity_is in let e = c.truncate.ensures.capacity in let r = c.back.ensures.variable_count in omega (arith, m, e, r);

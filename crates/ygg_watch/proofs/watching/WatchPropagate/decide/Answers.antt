@@ -18,9 +18,10 @@ invariant_of-self c =
     let i = c.self.inside in let v = c.self.invariant in
     let l = v.levels in let more = ap (λ (z : List Checkpoint). length z) c.push_reserved.ensures.items in
     record {
-      live = subst (λ m. IsLive i.clauses.items i.watched.items i.next.items i.firsts.items
+      live = subst (λ m. IsLive i.clauses.items i.links.watched i.links.next i.links.firsts
           [] c.decide.new.self.entries.items m c.push_reserved.new.self.items i.head i.seen) (sym c.decide.ensures.variable_count)
-          (live_decided i.clauses.items i.watched.items i.next.items i.firsts.items i.trail.entries.items c.decide.new.self.entries.items i.trail.variable_count
+          (live_decided i.clauses.items i.links.watched i.links.next i.links.firsts i.trail.entries.items c.decide.new.self.entries.items
+          i.trail.variable_count
           i.frames.items c.push_reserved.new.self.items i.head i.seen _ v.live
           (λ q d h. let w = i.trail.levelled.low q d h in omega (arith, w, l)) c.decide.ensures.entries c.push_reserved.ensures.items);
       levels = let s = c.decide.ensures.starts in omega (arith, more, s, l, length-append {A = Checkpoint});

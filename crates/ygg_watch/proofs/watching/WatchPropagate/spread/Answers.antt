@@ -1,11 +1,11 @@
-use Rattle.std.proofs.Common.{◌+◌, ◌≡◌, ◌≤◌, ◌++◌, ℕ, length, arith, sym, ap, subst, List, [], ◌∙◌, take, drop, refl}
+use Rattle.std.proofs.Common.{◌+◌, ◌≡◌, ◌≤◌, ℕ, length, arith, sym, ap, subst, List, [], ◌∙◌, refl}
 use Rattle.ygg_cnf.specs.declared.lit.Lit.{Lit}
 use Rattle.ygg_watch_plain.proofs.PropagationLemmas.{variable_count_spreads}
 use Rattle.ygg_watch_plain.specs.Status.{state_of}
 use Rattle.ygg_watch_plain.specs.Propagation.{Propagation, Spreads}
 use Rattle.ygg_watch_trail.specs.Trail.{IsQuietBefore}
 use Rattle.ygg_watch_visit.proofs.WatchLemmas.{quiet_of}
-use Rattle.ygg_watch_visit.proofs.StepLemmas.{written_back, closed, live_as, live_spread, spreads_on}
+use Rattle.ygg_watch_visit.proofs.StepLemmas.{closed, live_as, live_spread, spreads_on}
 use Rattle.ygg_watch.proofs.watching.WatchPropagate.spread.Goals.{in-Some, in-None}
 use Rattle.ygg_watch_plain.proofs.StatusLemmas.{quiet_exact, conflict_exact}
 use Rattle.ygg_watch_plain.specs.Propagation.{IsConflict}
@@ -14,31 +14,16 @@ use Rattle.ygg_watch.proofs.watching.WatchPropagate.spread.Goals as goal
 pub invariant_of-self-in-Stuck : goal.invariant_of-self-in-Stuck
 invariant_of-self-in-Stuck c =
     let i = c.self.inside in let v = c.self.invariant in
-    let size_watched : length c.examine_all.new.watched ≡ length i.watched.items = c.examine_all.auto.watched
-    ∙ ap (λ (z : List Lit). length z) c.as_mut_slice.ensures.value in
-    let len_watched : i.watched.len ≡ length i.watched.items = i.watched.ok.0 in
-    let one_watched : take i.watched.len (c.examine_all.new.watched ++ drop (length c.examine_all.new.watched) i.watched.items)
-    ≡ c.examine_all.new.watched = written_back i.watched.len c.examine_all.new.watched i.watched.items size_watched len_watched in
-    let size_next : length c.examine_all.new.next ≡ length i.next.items = c.examine_all.auto.next
-    ∙ ap (λ (z : List ℕ). length z) c.as_mut_slice-2.ensures.value in
-    let len_next : i.next.len ≡ length i.next.items = i.next.ok.0 in
-    let one_next : take i.next.len (c.examine_all.new.next ++ drop (length c.examine_all.new.next) i.next.items) ≡ c.examine_all.new.next =
-    written_back i.next.len c.examine_all.new.next i.next.items size_next len_next in
-    let size_firsts : length c.examine_all.new.firsts ≡ length i.firsts.items = c.examine_all.auto.firsts
-    ∙ ap (λ (z : List ℕ). length z) c.as_mut_slice-3.ensures.value in
-    let len_firsts : i.firsts.len ≡ length i.firsts.items = i.firsts.ok.0 in
-    let one_firsts : take i.firsts.len (c.examine_all.new.firsts ++ drop (length c.examine_all.new.firsts) i.firsts.items)
-    ≡ c.examine_all.new.firsts = written_back i.firsts.len c.examine_all.new.firsts i.firsts.items size_firsts len_firsts in
     let variable_count : c.examine_all.new.trail.variable_count ≡ c.spread.new.trail.variable_count =
     variable_count_spreads (state_of c.as_slice-in-Stuck.result.now c.examine_all.new.trail)
     (state_of c.as_slice-in-Stuck.result.now c.spread.new.trail) c.spread.ensures.spreads in
-    closed i.clauses.items c.as_slice.result.now _ c.examine_all.new.watched _ c.examine_all.new.next _ c.examine_all.new.firsts
+    closed i.clauses.items c.as_slice.result.now c.examine_all.new.links.watched c.examine_all.new.links.next c.examine_all.new.links.firsts
     c.spread.new.trail.entries.items c.spread.new.trail.starts.items c.spread.new.trail.variable_count i.frames.items c.as_slice-2.result.now _ i.head
     c.examine_all.new.seen
-    (live_spread c.as_slice.result.now c.examine_all.new.watched c.examine_all.new.next c.examine_all.new.firsts []
+    (live_spread c.as_slice.result.now c.examine_all.new.links.watched c.examine_all.new.links.next c.examine_all.new.links.firsts []
     (state_of c.as_slice-in-Stuck.result.now c.examine_all.new.trail) (state_of c.as_slice-in-Stuck.result.now c.spread.new.trail)
     c.as_slice-2.result.now i.head c.examine_all.new.seen c.examine_all.ensures.live c.spread.ensures.spreads)
-    c.as_slice.ensures.value c.as_slice-2.ensures.value one_watched one_next one_firsts
+    c.as_slice.ensures.value c.as_slice-2.ensures.value
     (v.levels ∙ ap (λ (z : List ℕ). length z) (sym (c.spread.ensures.starts ∙ c.examine_all.ensures.starts)))
     (let m = v.capacity_is in let r = c.examine_all.ensures.variable_count in omega (arith, m, r, variable_count)) c.examine_all.ensures.within
 
@@ -63,73 +48,22 @@ returns-in-Stuck-clause-open c q =
 pub visit_all-requires : goal.visit_all-requires
 visit_all-requires c =
     let i = c.self.inside in let v = c.self.invariant in
-    let size_watched : length c.examine_all.new.watched ≡ length i.watched.items = c.examine_all.auto.watched
-    ∙ ap (λ (z : List Lit). length z) c.as_mut_slice.ensures.value in
-    let len_watched : i.watched.len ≡ length i.watched.items = i.watched.ok.0 in
-    let one_watched : take i.watched.len (c.examine_all.new.watched ++ drop (length c.examine_all.new.watched) i.watched.items)
-    ≡ c.examine_all.new.watched = written_back i.watched.len c.examine_all.new.watched i.watched.items size_watched len_watched in
-    let size_next : length c.examine_all.new.next ≡ length i.next.items = c.examine_all.auto.next
-    ∙ ap (λ (z : List ℕ). length z) c.as_mut_slice-2.ensures.value in
-    let len_next : i.next.len ≡ length i.next.items = i.next.ok.0 in
-    let one_next : take i.next.len (c.examine_all.new.next ++ drop (length c.examine_all.new.next) i.next.items) ≡ c.examine_all.new.next =
-    written_back i.next.len c.examine_all.new.next i.next.items size_next len_next in
-    let size_firsts : length c.examine_all.new.firsts ≡ length i.firsts.items = c.examine_all.auto.firsts
-    ∙ ap (λ (z : List ℕ). length z) c.as_mut_slice-3.ensures.value in
-    let len_firsts : i.firsts.len ≡ length i.firsts.items = i.firsts.ok.0 in
-    let one_firsts : take i.firsts.len (c.examine_all.new.firsts ++ drop (length c.examine_all.new.firsts) i.firsts.items)
-    ≡ c.examine_all.new.firsts = written_back i.firsts.len c.examine_all.new.firsts i.firsts.items size_firsts len_firsts in
     record {
-      live = live_as c.as_slice.result.now c.as_slice-3.result.now c.examine_all.new.watched c.as_mut_slice-4.result.now c.examine_all.new.next
-          c.as_mut_slice-5.result.now c.examine_all.new.firsts c.as_mut_slice-6.result.now
+      live = live_as c.as_slice.result.now c.as_slice-3.result.now c.examine_all.new.links.watched c.examine_all.new.links.next
+          c.examine_all.new.links.firsts
           c.examine_all.new.trail.entries.items c.examine_all.new.trail.variable_count c.as_slice-2.result.now c.as_slice-4.result.now i.head
           c.examine_all.new.seen c.examine_all.ensures.live
-          (c.as_slice-3.ensures.value ∙ sym c.as_slice.ensures.value) (c.as_mut_slice-4.ensures.value ∙ one_watched)
-          (c.as_mut_slice-5.ensures.value ∙ one_next) (c.as_mut_slice-6.ensures.value ∙ one_firsts)
+          (c.as_slice-3.ensures.value ∙ sym c.as_slice.ensures.value)
           (c.as_slice-4.ensures.value ∙ sym c.as_slice-2.ensures.value);
     }
 
 pub invariant_of-self-2 : goal.invariant_of-self-2
 invariant_of-self-2 c =
     let i = c.self.inside in let v = c.self.invariant in
-    let size_watched : length c.examine_all.new.watched ≡ length i.watched.items = c.examine_all.auto.watched
-    ∙ ap (λ (z : List Lit). length z) c.as_mut_slice.ensures.value in
-    let len_watched : i.watched.len ≡ length i.watched.items = i.watched.ok.0 in
-    let one_watched : take i.watched.len (c.examine_all.new.watched ++ drop (length c.examine_all.new.watched) i.watched.items)
-    ≡ c.examine_all.new.watched = written_back i.watched.len c.examine_all.new.watched i.watched.items size_watched len_watched in
-    let size_next : length c.examine_all.new.next ≡ length i.next.items = c.examine_all.auto.next
-    ∙ ap (λ (z : List ℕ). length z) c.as_mut_slice-2.ensures.value in
-    let len_next : i.next.len ≡ length i.next.items = i.next.ok.0 in
-    let one_next : take i.next.len (c.examine_all.new.next ++ drop (length c.examine_all.new.next) i.next.items) ≡ c.examine_all.new.next =
-    written_back i.next.len c.examine_all.new.next i.next.items size_next len_next in
-    let size_firsts : length c.examine_all.new.firsts ≡ length i.firsts.items = c.examine_all.auto.firsts
-    ∙ ap (λ (z : List ℕ). length z) c.as_mut_slice-3.ensures.value in
-    let len_firsts : i.firsts.len ≡ length i.firsts.items = i.firsts.ok.0 in
-    let one_firsts : take i.firsts.len (c.examine_all.new.firsts ++ drop (length c.examine_all.new.firsts) i.firsts.items)
-    ≡ c.examine_all.new.firsts = written_back i.firsts.len c.examine_all.new.firsts i.firsts.items size_firsts len_firsts in
-    let two_watched : take i.watched.len (c.visit_all.new.watched
-    ++ drop (length c.visit_all.new.watched) (take i.watched.len
-    (c.examine_all.new.watched ++ drop (length c.examine_all.new.watched) i.watched.items))) ≡ c.visit_all.new.watched
-    = written_back i.watched.len c.visit_all.new.watched
-    (take i.watched.len (c.examine_all.new.watched ++ drop (length c.examine_all.new.watched) i.watched.items))
-    (c.visit_all.auto.watched ∙ ap (λ (z : List Lit). length z) c.as_mut_slice-4.ensures.value)
-    (len_watched ∙ (sym size_watched ∙ sym (ap (λ (z : List Lit). length z) one_watched))) in
-    let two_next : take i.next.len (c.visit_all.new.next
-    ++ drop (length c.visit_all.new.next) (take i.next.len (c.examine_all.new.next ++ drop (length c.examine_all.new.next) i.next.items)))
-    ≡ c.visit_all.new.next
-    = written_back i.next.len c.visit_all.new.next (take i.next.len (c.examine_all.new.next ++ drop (length c.examine_all.new.next) i.next.items))
-    (c.visit_all.auto.next ∙ ap (λ (z : List ℕ). length z) c.as_mut_slice-5.ensures.value)
-    (len_next ∙ (sym size_next ∙ sym (ap (λ (z : List ℕ). length z) one_next))) in
-    let two_firsts : take i.firsts.len (c.visit_all.new.firsts
-    ++ drop (length c.visit_all.new.firsts) (take i.firsts.len
-    (c.examine_all.new.firsts ++ drop (length c.examine_all.new.firsts) i.firsts.items))) ≡ c.visit_all.new.firsts
-    = written_back i.firsts.len c.visit_all.new.firsts
-    (take i.firsts.len (c.examine_all.new.firsts ++ drop (length c.examine_all.new.firsts) i.firsts.items))
-    (c.visit_all.auto.firsts ∙ ap (λ (z : List ℕ). length z) c.as_mut_slice-6.ensures.value)
-    (len_firsts ∙ (sym size_firsts ∙ sym (ap (λ (z : List ℕ). length z) one_firsts))) in
-    closed i.clauses.items c.as_slice-3.result.now _ c.visit_all.new.watched _ c.visit_all.new.next _ c.visit_all.new.firsts
+    closed i.clauses.items c.as_slice-3.result.now c.visit_all.new.links.watched c.visit_all.new.links.next c.visit_all.new.links.firsts
     c.visit_all.new.trail.entries.items c.visit_all.new.trail.starts.items c.visit_all.new.trail.variable_count i.frames.items c.as_slice-4.result.now _
     c.visit_all.new.head c.examine_all.new.seen
-    c.visit_all.ensures.live c.as_slice-3.ensures.value c.as_slice-4.ensures.value two_watched two_next two_firsts
+    c.visit_all.ensures.live c.as_slice-3.ensures.value c.as_slice-4.ensures.value
     (v.levels ∙ ap (λ (z : List ℕ). length z) (sym (c.visit_all.ensures.starts ∙ c.examine_all.ensures.starts)))
     (let m = v.capacity_is in let r = c.examine_all.ensures.variable_count in let r2 = c.visit_all.ensures.variable_count in omega (arith, m, r, r2))
     (subst (λ (z : List (List Lit)). c.examine_all.new.seen ≤ length z)
@@ -151,10 +85,11 @@ returns-clause-spreads c =
 pub returns-clause-open : goal.returns-clause-open
 returns-clause-open c q =
     let v = c.visit_all.ensures.live in
-    subst (λ (l : List (List Lit)). IsQuietBefore l c.visit_all.new.trail.entries.items (length c.visit_all.new.trail.entries.items)) c.as_slice-3.ensures.value
+    subst (λ (l : List (List Lit)). IsQuietBefore l c.visit_all.new.trail.entries.items (length c.visit_all.new.trail.entries.items))
+    c.as_slice-3.ensures.value
     (elim c.match-visit_all.branch [
       | in-Some w ↦ absurd (let e = sym w.result-is ∙ q in cc)
-      | in-None w ↦ quiet_of c.as_slice-3.result.now c.visit_all.new.watched c.visit_all.new.trail.entries.items c.as_slice-4.result.now
+      | in-None w ↦ quiet_of c.as_slice-3.result.now c.visit_all.new.links.watched c.visit_all.new.trail.entries.items c.as_slice-4.result.now
           c.visit_all.new.head c.examine_all.new.seen v.watched_size v.member
           (rw w.in-None.is at c.visit_all.ensures.done)
           (subst (λ (z : List (List Lit)). length z ≤ c.examine_all.new.seen) (c.as_slice.ensures.value ∙ sym c.as_slice-3.ensures.value)
