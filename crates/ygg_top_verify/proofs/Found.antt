@@ -7,9 +7,8 @@ use Rattle.ygg_syntax.specs.declared.tree.File.{File}
 use Rattle.ygg_report.specs.Lines.{refused_line}
 use Rattle.ygg_report.specs.Putting.{NoFront, Puts}
 use Rattle.ygg_rules.specs.declared.rule.RuleKind.{RuleKind}
-use Rattle.ygg_yard.specs.Texts.{made}
-use Rattle.ygg_top_command.specs.declared.stopping.Stop.{Stop}
-use Rattle.ygg_top_command.specs.declared.stopping.Stop.TheVariants as stop
+use Rattle.ygg_top_command.specs.declared.stopping.CommandStop.{CommandStop}
+use Rattle.ygg_top_command.specs.declared.stopping.CommandStop.TheVariants as stop
 use Rattle.ygg_top_command.specs.Fetched.{StandsFile}
 use Rattle.ygg_top_command.specs.Refusing.{IsLayerFile}
 use Rattle.ygg_top_command.specs.Reports.{MayStop, Told}
@@ -17,7 +16,7 @@ use Rattle.ygg_top_command.specs.Standing.{DoesWith, DoesWithin}
 use Rattle.ygg_top_command.specs.Words.{IsBudget, IsNumber}
 use Rattle.ygg_top_command.proofs.Telling.{puts_told, told_to}
 use Rattle.ygg_top_verify.specs.Verdict.{Verified, Counted, any_failed, any_spent}
-use Rattle.ygg_top_verify.specs.Verifying.{Verifies, Demos, DemosMade, VerifyingIs, IsCutRun, Streams, IsUnmade, IsNumberless, most_operations}
+use Rattle.ygg_top_verify.specs.Verifying.{Verifies, Demos, DemosMade, VerifyingIs, IsCutRun, Streams, IsMadeFor, IsNumberless, most_operations}
 
 -- what is so of each status that verdicts may come to is so of the one that they come to
 by_verdicts : (P : Status → Type 0) (failed spent : Bool) (status : Status) → status ≡ (if failed then Refuted else if spent then Undecided else Done) →
@@ -81,33 +80,24 @@ module _ (kinds : List RuleKind) (files : Option (List Held)) (name : List ℕ) 
         told_to Does Other (IsCutRun kinds Does) (IsCutRun kinds Other) before now LibraryRose LibraryRose SinkRose result to
         (λ front cut. cut_run_to kinds Does Other front to cut) (λ rose. rose) told
 
--- the verdicts on the layer file that is made for a number are how `demo` of the number ends
-verdict_demos : (kinds : List RuleKind) (number : ℕ) (f : File) (status : Status) (text : List ℕ) → IsLayerFile (made number) f →
-    Counted kinds number f status text → DemosMade kinds number status text
-verdict_demos kinds number f status text is verdict =
-    by_verdicts (λ (s : Status). Counted kinds number f s text → DemosMade kinds number s text) (any_failed verdict.verdicts) (any_spent verdict.verdicts)
-    status verdict.status_is (λ v. (f, is, v)) (λ v. (f, is, v)) (λ v. (f, is, v)) verdict
-
 module _ (kinds : List RuleKind) where
-  -- where no file is made, `demo` may stop
-  pub none_made : (number : ℕ) (why : Stop) → IsUnmade number why → MayStop (DemosMade kinds number) ⊥ why
-  none_made number (stop.Refused r) none = (r, none, refl)
-  none_made number stop.LibraryFailed none = none
-  none_made number stop.NoMemory none = tt
+  -- where no memory is left for the file, `demo` may stop
+  pub none_made : (number : ℕ) (why : CommandStop) → why ≡ stop.NoMemory → MayStop (DemosMade kinds number) ⊥ why
+  none_made number why none = subst (λ (s : CommandStop). MayStop (DemosMade kinds number) ⊥ s) (sym none) tt
 
   -- where there is no number, it may stop too
-  pub no_number : (word : List ℕ) (why : Stop) → IsNumberless word why → MayStop (Demos kinds word) ⊥ why
+  pub no_number : (word : List ℕ) (why : CommandStop) → IsNumberless word why → MayStop (Demos kinds word) ⊥ why
   no_number word (stop.Refused r) none = inr (none.0, (refl, ap refused_line none.1))
   no_number word stop.LibraryFailed none = none
   no_number word stop.NoMemory none = tt
 
   module _ (before now : Option (List ℕ)) (SinkRose : Type 0) (result : Status) where
     -- the verdicts on the file that is made are counted
-    pub made_told : (number : ℕ) (f : File) → IsLayerFile (made number) f → Puts (Counted kinds number f) NoFront before now SinkRose result →
+    pub made_told : (number : ℕ) (f : File) → IsMadeFor number f → Puts (Counted kinds number f) NoFront before now SinkRose result →
         Told (DemosMade kinds number) NoFront before now ⊥ SinkRose result
     made_told number f is puts =
-        puts_told (DemosMade kinds number) NoFront before now ⊥ SinkRose result (Counted kinds number f) NoFront
-        (λ status text verdict. verdict_demos kinds number f status text is verdict) (λ front none. none) puts
+        puts_told (DemosMade kinds number) NoFront before now ⊥ SinkRose result (Counted kinds number f) NoFront (λ status text verdict. (f, is.file, verdict))
+        (λ front none. none) puts
 
     -- a word that is a number
     pub number_told : (word : List ℕ) (number : ℕ) → IsNumber most_operations word number →

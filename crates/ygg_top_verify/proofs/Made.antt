@@ -1,17 +1,21 @@
--- How long the texts are that `demo` makes, and why there is no file of one.
-use Rattle.std.proofs.Common.{◌≡◌, ◌≤◌, ◌*◌, ℕ, zero, suc, List, ◌++◌, Some, length, subst, sym, arith}
+-- How long the texts are that `demo` makes, and which files they are.
+use Rattle.std.proofs.Common.{◌≡◌, ◌≤◌, ◌*◌, ℕ, zero, suc, List, ◌++◌, length, subst, arith}
 use Rattle.std.proofs.lemmas.List.{length-append}
 use Rattle.std.proofs.lemmas.Fmt.{length-decimal-le}
 use Rattle.std.specs.Fmt.{decimal}
+use Rattle.ygg_base.specs.declared.failure.Refusal.{Refusal}
 use Rattle.ygg_base.specs.declared.failure.Refuse.{Refuse}
 use Rattle.ygg_base.specs.declared.failure.Refuse.TheVariants.{At, Memory}
 use Rattle.ygg_base.specs.Failure.{IfRefused}
+use Rattle.ygg_syntax.specs.declared.tree.File.{File}
 use Rattle.ygg_accept.specs.Accepting.{RefusesLayers}
-use Rattle.ygg_yard.specs.Texts.{begun_with, operation_with, operations_text, file_ended, made}
-use Rattle.ygg_top_command.specs.declared.stopping.Stop.{Stop}
+use Rattle.ygg_yard_made.specs.Laws.{IsSound}
+use Rattle.ygg_yard_made.specs.Texts.{begun_with, operation_with, operations_text, file_ended, made}
+use Rattle.ygg_top_command.specs.declared.stopping.CommandStop.{CommandStop}
+use Rattle.ygg_top_command.specs.declared.stopping.CommandStop.TheVariants.{NoMemory}
 use Rattle.ygg_top_command.specs.Fetched.{stop_of}
-use Rattle.ygg_top_command.specs.Refusing.{RefusesRead, most_bytes}
-use Rattle.ygg_top_verify.specs.Verifying.{IsUnmade}
+use Rattle.ygg_top_command.specs.Refusing.{IsLayerFile, most_bytes}
+use Rattle.ygg_top_verify.specs.Verifying.{IsMadeFor}
 
 -- a number with two digits
 two : (n : ℕ) → n ≤ 64 → length (decimal n) ≤ 2
@@ -40,9 +44,13 @@ pub made_small : (n : ℕ) → n ≤ 64 → length (made n) ≤ most_bytes
 made_small n h =
     small (begun_with (decimal n)) (operations_text n) file_ended n h (begun_length (decimal n) (two n h)) (operations_length n h) (omega arith)
 
--- a made text that isn't read
-pub unmade : (number : ℕ) (bytes : List ℕ) (refuse : Refuse) (why : Stop) → bytes ≡ made number → length bytes ≤ most_bytes →
-    IfRefused refuse (RefusesLayers bytes) → why ≡ stop_of refuse → IsUnmade number why
-unmade number bytes (At at) why same small refuses is =
-    subst (λ (s : Stop). IsUnmade number s) (sym is) (subst (λ (bs : List ℕ). RefusesRead (Some bs) at) same (small, refuses))
-unmade number bytes Memory why same small refuses is = subst (λ (s : Stop). IsUnmade number s) (sym is) tt
+-- where a made text isn't read, no memory was left, since it is never refused
+pub unmade : (number : ℕ) (bytes : List ℕ) (refuse : Refuse) (why : CommandStop) → bytes ≡ made number → ((r : Refusal) → RefusesLayers (made number) r → ⊥) →
+    IfRefused refuse (RefusesLayers bytes) → why ≡ stop_of refuse → why ≡ NoMemory
+unmade number bytes (At at) why same never refuses is = absurd (never at (subst (λ (bs : List ℕ). RefusesLayers bs at) same refuses))
+unmade number bytes Memory why same never refuses is = is
+
+-- a made text that is read is the layer file, and its obligations hold
+pub made_for : (number : ℕ) (bytes : List ℕ) (f : File) → bytes ≡ made number → IsSound number → IsLayerFile bytes f → IsMadeFor number f
+made_for number bytes f same sound is =
+    let file = subst (λ (bs : List ℕ). IsLayerFile bs f) same is in record { file = file; hold = sound.sound file.tokens f file.accepted }

@@ -1,5 +1,5 @@
 -- What is found of a file: a verdict on each of its obligations, and what they come to.
-use Rattle.std.specs.Prelude.{◌≡◌, ℕ, Bool, true, false, ◌||◌, if◌then◌else◌, List, [], ◌∷◌, ◌++◌, map, length, slice_get, Some}
+use Rattle.std.specs.Prelude.{◌≡◌, ℕ, ◌+◌, ◌*◌, Bool, true, false, ◌||◌, if◌then◌else◌, List, [], ◌∷◌, ◌++◌, map, length, slice_get, Some}
 use Rattle.ygg_base.specs.declared.status.Status.{Status}
 use Rattle.ygg_base.specs.declared.status.Status.TheVariants.{Done, Refuted, Undecided}
 use Rattle.ygg_syntax.specs.declared.tree.File.{File}
@@ -18,11 +18,13 @@ use Rattle.ygg_oblige_terms.specs.Terms.{file_made}
 use Rattle.ygg_oblige_terms.specs.Meaning.{claim_name}
 use Rattle.ygg_report.specs.Lines.{verdict_line, verified_line, refuted_line, undecided_line, demo_line}
 use Rattle.ygg_report.specs.Tallies.{tally_of}
+use Rattle.ygg_report.specs.declared.verdict.Tally.{Tally}
 use Rattle.ygg_report.specs.declared.verdict.Verdict as report
 use Rattle.ygg_report.specs.declared.verdict.Verdict.TheVariants as reports
 use Rattle.ygg_sched.specs.declared.schedule.Schedule.{Schedule}
 use Rattle.ygg_sched.specs.Printing.{text_of}
 use Rattle.ygg_replay_text.specs.Shown.{meant}
+use Rattle.ygg_yard_made.specs.Laws.{HoldsAll}
 use Rattle.ygg_top_command.specs.Words.{usual_budget}
 use Rattle.ygg_top_verify.specs.Showing.{IsShownAgain}
 
@@ -142,17 +144,23 @@ pub record Verified (kinds : List RuleKind) (f : File) (budget : ℕ) (status : 
   pub refines : status ≡ Done → FileRefines f
   pub allowed : status ≡ Done → HistoriesAllowed f
 
--- the line by verdicts on the file that `demo` makes for a number: how many there are, and how many hold, fail and are spent
-abbrev pub demo_text_by : ℕ → List Verdict → List ℕ
-demo_text_by number vs = demo_line number (tally_of (map (reported usual_budget) vs))
+-- the counts of verdicts on the file that `demo` makes for a number: it has two obligations for each operation and three more, so many hold, none fails, and
+-- so many are spent
+abbrev pub demo_tally : (number holds spent : ℕ) → Tally
+demo_tally number holds spent = record { obligations = 2 * number + 3; holds = holds; fails = 0; spent = spent }
 
--- How `demo` ends for the layer file that is made for a number, and its line: there is one list of verdicts, true for the usual budget, that determines both.
--- Where the status is that all was done, so that every verdict is that an obligation holds, each layer refines its specification, and every history is
--- allowed.
+-- How `demo` ends for the layer file that is made for a number, and its line. All obligations of the file hold, so each layer refines its specification, and
+-- every history is allowed. There is one list of verdicts, true for the usual budget, none of which is that an obligation fails: the status and the line say
+-- how many of them are that one holds, and of how many the budget was spent.
 pub record Counted (kinds : List RuleKind) (number : ℕ) (f : File) (status : Status) (text : List ℕ) : Type 0 where
+  pub hold : HoldsAll number f
+  pub refines : FileRefines f
+  pub allowed : HistoriesAllowed f
   pub verdicts : List Verdict
   pub are_true : AreTrue (file_made kinds f []).nodes usual_budget (claims_of f) (file_made kinds f []).value verdicts
-  pub status_is : status ≡ status_by verdicts
-  pub text_is : text ≡ demo_text_by number verdicts
-  pub refines : status ≡ Done → FileRefines f
-  pub allowed : status ≡ Done → HistoriesAllowed f
+  pub holds : ℕ
+  pub spent : ℕ
+  pub each : holds + spent ≡ 2 * number + 3
+  pub tally_is : tally_of (map (reported usual_budget) verdicts) ≡ demo_tally number holds spent
+  pub status_is : status ≡ (if any_spent verdicts then Undecided else Done)
+  pub text_is : text ≡ demo_line number (demo_tally number holds spent)

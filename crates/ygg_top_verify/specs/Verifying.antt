@@ -9,11 +9,12 @@ use Rattle.ygg_syntax.specs.declared.tree.File.{File}
 use Rattle.ygg_report.specs.Lines.{refused_line}
 use Rattle.ygg_report.specs.Putting.{Adds, IsCutOf}
 use Rattle.ygg_rules.specs.declared.rule.RuleKind.{RuleKind}
-use Rattle.ygg_yard.specs.Texts.{made}
-use Rattle.ygg_top_command.specs.declared.stopping.Stop.{Stop}
-use Rattle.ygg_top_command.specs.declared.stopping.Stop.TheVariants as stop
+use Rattle.ygg_yard_made.specs.Laws.{HoldsAll}
+use Rattle.ygg_yard_made.specs.Texts.{made}
+use Rattle.ygg_top_command.specs.declared.stopping.CommandStop.{CommandStop}
+use Rattle.ygg_top_command.specs.declared.stopping.CommandStop.TheVariants as stop
 use Rattle.ygg_top_command.specs.Words.{IsNumber, IsNoNumber}
-use Rattle.ygg_top_command.specs.Refusing.{IsLayerFile, RefusesFile, RefusesRead}
+use Rattle.ygg_top_command.specs.Refusing.{IsLayerFile, RefusesFile}
 use Rattle.ygg_top_command.specs.Standing.{IsRefused}
 use Rattle.ygg_top_verify.specs.Verdict.{ByVerdicts, Verified, Counted}
 
@@ -29,11 +30,9 @@ Verifies kinds budget stored status text = (bytes : List ℕ) × (f : File) × (
 abbrev pub most_operations : ℕ
 most_operations = 64
 
--- `demo` of a number under a book of these kinds: the text that is made for it is refused, or it is a layer file without a fault, and there are verdicts on it
+-- `demo` of a number under a book of these kinds: the text that is made for it is a layer file without a fault, and there are verdicts on it, none of which is
+-- that an obligation fails
 abbrev pub DemosMade : List RuleKind → ℕ → Status → List ℕ → Type 0
-DemosMade kinds number Refused text = (r : Refusal) × RefusesRead (Some (made number)) r × (text ≡ refused_line r)
-DemosMade kinds number Fault text = ⊥
-DemosMade kinds number NoMemory text = ⊥
 DemosMade kinds number status text = (f : File) × IsLayerFile (made number) f × Counted kinds number f status text
 
 -- `demo` of a word: a word that is no number from 1 to 64 is refused 72 at `0:1`
@@ -64,14 +63,13 @@ Streams kinds f budget before now SinkRose NoMemory = (now ≡ before) ⊎ ((fro
 Streams kinds f budget before now SinkRose Refused = ⊥
 Streams kinds f budget before now SinkRose status = (text : List ℕ) × Verified kinds f budget status text × Adds before text now
 
--- why there is no file that is made for a number: the text that is made for it is refused, or no memory was left
-abbrev pub IsUnmade : ℕ → Stop → Type 0
-IsUnmade number (stop.Refused r) = RefusesRead (Some (made number)) r
-IsUnmade number stop.LibraryFailed = ⊥
-IsUnmade number stop.NoMemory = Unit {0}
+-- the layer file that is made for a number, whose obligations all hold
+pub record IsMadeFor (number : ℕ) (f : File) : Type 0 where
+  pub file : IsLayerFile (made number) f
+  pub hold : HoldsAll number f
 
 -- why there is no number of operations where a word, the first after the command's, is to be one
-abbrev pub IsNumberless : List ℕ → Stop → Type 0
+abbrev pub IsNumberless : List ℕ → CommandStop → Type 0
 IsNumberless word (stop.Refused r) = IsNoNumber most_operations word × (r ≡ refusal_at reason.Number 0 1)
 IsNumberless word stop.LibraryFailed = ⊥
 IsNumberless word stop.NoMemory = Unit {0}

@@ -8,6 +8,7 @@ ghost use Rattle.ygg_report.specs.Putting.{NoFront, Puts};
 ghost use Rattle.ygg_top_verify.specs.Findings.{AreDigits, AreFound, status_of_counts};
 ghost use Rattle.ygg_top_verify.specs.Verdict.{Counted};
 ghost use Rattle.ygg_top_command.specs.Words.{usual_budget};
+ghost use Rattle.ygg_yard_made.specs.Laws.{HoldsAll};
 
 use crate::finding::found;
 use std::alloc::Global;
@@ -51,8 +52,8 @@ fn status_of(tally: &Tally) -> Status
     status_by(tally.fails > 0, tally.spent > 0)
 }
 
-/// Verifies the layer file that is made for a number: decides its obligations in order, each within the usual budget, and then puts one line that counts the
-/// verdicts. The rules only make the terms smaller. Where the sink fails, the command ends with a fault.
+/// Verifies the layer file that is made for a number, all of whose obligations hold: decides them in order, each within the usual budget, and then puts one
+/// line that counts the verdicts. The rules only make the terms smaller. Where the sink fails, the command ends with a fault.
 pub fn put_counts<B: Book, K: Sink>(
     alloc: Global,
     rules: &B,
@@ -60,6 +61,7 @@ pub fn put_counts<B: Book, K: Sink>(
     number: u32,
     sink: &mut K,
 ) -> Status
+    requires { HoldsAll number typed.now.file }
     ensures told { Puts (Counted (B.kinds rules.now) number typed.now.file) NoFront (K.taken sink.old) (K.taken sink.new)
         (Rose (K.faults sink.old) (K.faults sink.new)) result }
     ensures later { K.faults sink.old ≤ K.faults sink.new }

@@ -17,7 +17,7 @@ use ygg_rules::Book;
 
 /// What is found of an obligation.
 #[derive(Drop)]
-pub struct Finding {
+pub struct Decision {
     /// The verdict.
     pub verdict: Verdict,
     /// An environment in which its term is 0, where it fails.
@@ -31,7 +31,7 @@ pub fn found<B: Book>(
     rules: &B,
     term: Id,
     budget: u32,
-) -> Result<Finding, NoMemory>
+) -> Result<Decision, NoMemory>
     requires width { HasWidth bank.old term 1 }
     requires budget { 0 < budget }
     ensures found { IfOk result (λ f. IsFound bank.old term budget f.verdict) }
@@ -39,15 +39,15 @@ pub fn found<B: Book>(
     ensures same { bank.new ≡ bank.old }
 {
     match decide(alloc, bank, rules, term, budget)? {
-        Decided::Valid(_log) => Ok(Finding {
+        Decided::Valid(_log) => Ok(Decision {
             verdict: Verdict::Holds,
             env: None,
         }),
-        Decided::Fails(env) => Ok(Finding {
+        Decided::Fails(env) => Ok(Decision {
             verdict: Verdict::Fails,
             env: Some(env),
         }),
-        Decided::Spent(_log) => Ok(Finding {
+        Decided::Spent(_log) => Ok(Decision {
             verdict: Verdict::Spent(budget),
             env: None,
         }),
@@ -62,7 +62,7 @@ pub fn report<B: Book, K: Sink>(
     obligation: &Obligation,
     budget: u32,
     sink: &mut K,
-) -> Result<Finding, Status>
+) -> Result<Decision, Status>
     requires width { HasWidth bank.old obligation.now.term 1 }
     requires budget { 0 < budget }
     ensures found { IfOk result (λ f. IsFound bank.old obligation.now.term budget f.verdict) }

@@ -1,45 +1,45 @@
 //! The layer file that `demo` makes for a number.
 
-ghost use Rattle.std.specs.Prelude.{◌≤◌, IfOk, IfErr};
-ghost use Rattle.ygg_top_command.specs.Refusing.{IsLayerFile};
+ghost use Rattle.std.specs.Prelude.{◌≡◌, ◌≤◌, IfOk, IfErr};
 ghost use Rattle.ygg_top_command.specs.Words.{IsNumber};
-ghost use Rattle.ygg_top_verify.specs.Verifying.{IsNumberless, IsUnmade, most_operations};
-ghost use Rattle.ygg_yard.specs.Texts.{made};
+ghost use Rattle.ygg_top_verify.specs.Verifying.{IsMadeFor, IsNumberless, most_operations};
 
 use std::alloc::Global;
 use ygg_base::Reason;
-use ygg_top_command::{Stop, file_of, number_up_to};
+use ygg_top_command::{CommandStop, file_of, number_up_to};
 use ygg_type::Typed;
-use ygg_yard::make;
+use ygg_yard_made::law::made_is_sound;
+use ygg_yard_made::make;
 
 /// The most operations of a file that `demo` makes.
 const MOST_OPERATIONS: u32 = 64;
 
 /// The number of operations that a word is: one from 1 to 64 in decimal digits, without a sign or a leading zero. Another word, the first after the
 /// command's, is refused 72 at `0:1`.
-pub fn operations(alloc: Global, word: &[u8]) -> Result<u32, Stop>
+pub fn operations(alloc: Global, word: &[u8]) -> Result<u32, CommandStop>
     ensures found { IfOk result (IsNumber most_operations word.now) }
     ensures none { IfErr result (IsNumberless word.now) }
 {
     match number_up_to(alloc, word, MOST_OPERATIONS) {
         Ok(Some(number)) => Ok(number),
-        Ok(None) => Err(Stop::Refused(Reason::Number.at(0, 1))),
-        Err(_) => Err(Stop::NoMemory),
+        Ok(None) => Err(CommandStop::Refused(Reason::Number.at(0, 1))),
+        Err(_) => Err(CommandStop::NoMemory),
     }
 }
 
-/// The layer file that is made for a number of operations; or why there is none: its text is refused 1 to 10 where it is no layer file without a fault.
-pub fn made_file(alloc: Global, number: u32) -> Result<Typed, Stop>
+/// The layer file that is made for a number of operations, whose text is never refused. Its only error is out of memory.
+pub fn made_file(alloc: Global, number: u32) -> Result<Typed, CommandStop>
     requires some { 1 ≤ number }
     requires few { number ≤ most_operations }
-    ensures found { IfOk result (λ typed. IsLayerFile (made number) typed.file) }
-    ensures none { IfErr result (IsUnmade number) }
+    ensures found { IfOk result (λ typed. IsMadeFor number typed.file) }
+    ensures none { IfErr result (λ stop. stop ≡ CommandStop.NoMemory) }
 {
+    made_is_sound();
     let Ok(text) = make(alloc, number) else {
-        return Err(Stop::NoMemory);
+        return Err(CommandStop::NoMemory);
     };
     match file_of(alloc, text.as_slice()) {
         Ok(typed) => Ok(typed),
-        Err(refuse) => Err(Stop::of(refuse)),
+        Err(refuse) => Err(CommandStop::of(refuse)),
     }
 }

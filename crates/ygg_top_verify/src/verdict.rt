@@ -22,7 +22,7 @@ ghost use Rattle.ygg_top_verify.specs.Findings.{
   first_kept,
 };
 
-use crate::finding::{Finding, report};
+use crate::finding::{Decision, report};
 use std::alloc::Global;
 use ygg_bank::{Bank, Env};
 use ygg_base::{NoMemory, Sink, Status, Text};
@@ -69,7 +69,7 @@ fn first_kept(known: Option<Refutation>, env: Option<Env>, place: usize) -> Opti
 }
 
 /// The summary with one more obligation, at a place.
-fn counted(summary: Summary, finding: Finding, place: usize) -> Summary
+fn counted(summary: Summary, finding: Decision, place: usize) -> Summary
     ensures refuted { result.refuted ≡ first_kept summary.refuted finding.env place }
     ensures spent { result.spent ≡ (summary.spent || finds_spent finding.verdict) }
 {

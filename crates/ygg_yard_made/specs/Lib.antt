@@ -1,1 +1,2 @@
+pub use Rattle.ygg_yard.specs.Texts
 pub mod Laws

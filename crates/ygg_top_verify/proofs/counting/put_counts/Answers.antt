@@ -42,8 +42,8 @@ returns-in-Ok-put-clause-told g c =
     let line = demo_line c.args.number tally in
     let line_is = c.as_slice-3.ensures ∙ c.in-Ok-demo.ensures ∙ ap (λ (t : Tally). demo_line c.args.number t) tally_is in
     let status_is = c.status_of.ensures ∙ ap status_of_counts tally_is in
-    let is = counted_in kinds f c.args.number p c.obligations.new.bank c.in-Ok-obligations.all c.as_slice.result.now c.in-Ok-all_found.verdicts e.nodes e.bank
-    c.as_slice.ensures e.terms e.mean found.found found.each in
+    let is = counted_in kinds f c.args.number p c.requires c.obligations.new.bank c.in-Ok-obligations.all c.as_slice.result.now c.in-Ok-all_found.verdicts
+    e.nodes e.bank c.as_slice.ensures e.terms e.mean found.found found.each in
     let before = g.K.Sink.taken c.args.sink.now in
     let now = g.K.Sink.taken c.put.new.sink in
     put_whole (Counted kinds c.args.number f) NoFront before now (Rose (g.K.Sink.faults c.args.sink.now) (g.K.Sink.faults c.put.new.sink))
@@ -69,8 +69,8 @@ returns-clause-told g c =
     let tally_is : c.of-tally.result ≡ tally = c.of-tally.ensures ∙ ap tally_of c.as_slice-2.ensures in
     let line = demo_line c.args.number tally in
     let line_is = c.as_slice-3.ensures ∙ c.in-Ok-demo.ensures ∙ ap (λ (t : Tally). demo_line c.args.number t) tally_is in
-    let is = counted_in kinds f c.args.number p c.obligations.new.bank c.in-Ok-obligations.all c.as_slice.result.now c.in-Ok-all_found.verdicts e.nodes e.bank
-    c.as_slice.ensures e.terms e.mean found.found found.each in
+    let is = counted_in kinds f c.args.number p c.requires c.obligations.new.bank c.in-Ok-obligations.all c.as_slice.result.now c.in-Ok-all_found.verdicts
+    e.nodes e.bank c.as_slice.ensures e.terms e.mean found.found found.each in
     let before = g.K.Sink.taken c.args.sink.now in
     let now = g.K.Sink.taken c.put.new.sink in
     let Rises = Rose (g.K.Sink.faults c.args.sink.now) (g.K.Sink.faults c.put.new.sink) in

@@ -1,6 +1,6 @@
 use Rattle.std.proofs.Common.{◌≤◌, List, ℕ, ◌∙◌, length, sym, subst}
-use Rattle.ygg_top_command.specs.Refusing.{IsLayerFile, most_bytes}
-use Rattle.ygg_top_verify.proofs.Made.{made_small, unmade}
+use Rattle.ygg_top_command.specs.Refusing.{most_bytes}
+use Rattle.ygg_top_verify.proofs.Made.{made_small, made_for, unmade}
 use Rattle.ygg_top_verify.proofs.making.made_file.Goals as goal
 
 pub file_of-requires : goal.file_of-requires
@@ -9,10 +9,11 @@ file_of-requires c =
 
 pub returns-in-Ok-file_of-clause-found : goal.returns-in-Ok-file_of-clause-found
 returns-in-Ok-file_of-clause-found c =
-    subst (λ (bytes : List ℕ). IsLayerFile bytes c.in-Ok-file_of.typed.file) (c.as_slice.ensures ∙ c.in-Ok.ensures) c.in-Ok-file_of.ensures.found
+    made_for c.args.number c.as_slice.result.now c.in-Ok-file_of.typed.file (c.as_slice.ensures ∙ c.in-Ok.ensures)
+    (c.made_is_sound.ensures c.args.number c.requires.some c.requires.few) c.in-Ok-file_of.ensures.found
 
 pub returns-clause-none : goal.returns-clause-none
 returns-clause-none c =
-    let same = c.as_slice.ensures ∙ c.in-Ok.ensures in
-    let small = subst (λ (bytes : List ℕ). length bytes ≤ most_bytes) (sym same) (made_small c.args.number c.requires.few) in
-    unmade c.args.number c.as_slice.result.now c.in-Err.refuse c.of.result same small c.in-Err.ensures.refused c.of.ensures
+    let sound = c.made_is_sound.ensures c.args.number c.requires.some c.requires.few in
+    unmade c.args.number c.as_slice.result.now c.in-Err.refuse c.of.result (c.as_slice.ensures ∙ c.in-Ok.ensures) sound.never c.in-Err.ensures.refused
+    c.of.ensures
