@@ -1,5 +1,5 @@
 -- The layers of a file from the lowest up: those so far, and those that are left.
-use Rattle.std.proofs.Common.{◌≡◌, ◌<◌, ℕ, ◌+◌, List, [], ◌∷◌, ◌++◌, length, drop, get_or, map, refl, sym, ap, ◌∙◌, subst}
+use Rattle.std.proofs.Common.{◌≡◌, ◌<◌, ℕ, ◌+◌, List, [], ◌∷◌, ◌++◌, length, drop, get_or, map, slice_get, Some, refl, sym, ap, ◌∙◌, subst}
 use Rattle.std.proofs.lemmas.List.{map-append}
 use Rattle.ygg_rules.specs.declared.rule.RuleKind.{RuleKind}
 use Rattle.ygg_bank.specs.Inputs.{InputsBelow}
@@ -30,8 +30,9 @@ use Rattle.ygg_oblige_terms.specs.Meaning.{claim_name}
 use Rattle.ygg_oblige_terms.specs.Terms.{after_layer, after_layers, file_made, layer_made, layers_made}
 use Rattle.ygg_oblige_typed.specs.Layers.{LayersTyped}
 use Rattle.ygg_oblige_laws.proofs.Whole.{layer_inputs}
-use Rattle.ygg_oblige.specs.Adding.{after_layer_at, layer_at, names_of}
+use Rattle.ygg_oblige.specs.Adding.{AddsAsked, after_layer_at, layer_at, names_of}
 use Rattle.ygg_oblige_kinds.specs.Making.{SiteFits}
+use Rattle.ygg_oblige.proofs.Asking.{claims_on_more}
 use Rattle.ygg_oblige.specs.Obligations as listed
 use Rattle.ygg_oblige.specs.declared.obligation.Obligation as code
 
@@ -71,12 +72,13 @@ module _ (kinds : List RuleKind) (file : File) where
     pub terms : listed.terms_in all ≡ (layers_made kinds (terms_of kinds file.defs) file.disk lower []).value
     pub names : listed.names_in all ≡ map claim_name (claims_on file.disk lower)
     pub placed : listed.ArePlaced all
+    pub claims : listed.AreClaims file (claims_on file.disk lower) all
     pub typed : LayersTyped file.defs file.disk (layers_on (functions_of file.defs) low left lower)
     pub free : InputsBelow number now
     pub is_bank : IsBank now
 
-  -- a layer's obligations are added
-  pub record LayerAdded (l : SymLayer) (g : SymBelow) (number : ℕ) (now : List Node) (all : List code.Obligation)
+  -- the obligations of the layer at a place are added
+  pub record LayerAdded (place : ℕ) (l : SymLayer) (g : SymBelow) (number : ℕ) (now : List Node) (all : List code.Obligation)
       (number_then : ℕ) (then_nodes : List Node) (then_all : List code.Obligation) : Type 0 where
     pub nodes : then_nodes ≡ (layer_at kinds l g number now).nodes
     pub terms : listed.terms_in then_all ≡ listed.terms_in all ++ (layer_at kinds l g number now).value
@@ -84,6 +86,7 @@ module _ (kinds : List RuleKind) (file : File) where
     pub next_is : number_then ≡ after_layer_at kinds l g number
     pub is_bank : IsBank then_nodes
     pub placed : listed.ArePlaced then_all
+    pub asked : AddsAsked place l.layer.now (obligations_of l.layer.now) all then_all
 
   module _ (l : SymLayer) (g : SymBelow) (left : List Layer) (number : ℕ) (now : List Node) (all : List code.Obligation)
       (defs : l.defs.now ≡ file.defs) (w : Walked l.low.now (l.layer.now ∷ left) g number now all) where
@@ -131,10 +134,10 @@ module _ (kinds : List RuleKind) (file : File) where
         ∙ ap (λ (n : ℕ). after_with file.defs G n) w.number_is
 
     -- and then the layers above it are left
-    pub walked_on : (low_then : List Declared) (number_then : ℕ) (then_nodes : List Node) (then_all : List code.Obligation) →
-        low_then ≡ (l.layer.now).state → LayerAdded l g number now all number_then then_nodes then_all →
-        Walked low_then left (on.Layer l) number_then then_nodes then_all
-    walked_on low_then number_then then_nodes then_all e a =
+    pub walked_on : (place : ℕ) (low_then : List Declared) (number_then : ℕ) (then_nodes : List Node) (then_all : List code.Obligation) →
+        slice_get file.layers place ≡ Some l.layer.now → low_then ≡ (l.layer.now).state →
+        LayerAdded place l g number now all number_then then_nodes then_all → Walked low_then left (on.Layer l) number_then then_nodes then_all
+    walked_on place low_then number_then then_nodes then_all here e a =
         subst (λ (z : List Declared). Walked z left (on.Layer l) number_then then_nodes then_all) (sym e) (record {
           lower = L ∷ w.lower;
           layers = w.layers;
@@ -148,6 +151,7 @@ module _ (kinds : List RuleKind) (file : File) where
               ∙ ap (λ (z : List (List ℕ)). map claim_name (claims_on file.disk w.lower) ++ z) (sym (names_at L G obligations))
               ∙ sym (map-append claim_name (claims_on file.disk w.lower) (claims_at L G));
           placed = a.placed;
+          claims = claims_on_more file place L G here (claims_on file.disk w.lower) all then_all w.claims a.asked;
           typed = w.typed;
           free = subst (λ (n : ℕ). InputsBelow n then_nodes) (sym a.next_is) (subst (InputsBelow (after_layer_at kinds l g number)) (sym a.nodes)
               (layer_inputs kinds l.defs.now (below_in g) (closed l) number now site_fits.layer w.free));
@@ -174,6 +178,7 @@ module _ (kinds : List RuleKind) (file : File) where
         terms = refl;
         names = refl;
         placed = none_placed;
+        claims = tt;
         typed = subst (LayersTyped file.defs file.disk) (sym same_layers) t;
         free = subst (InputsBelow 0) (sym f) nothing;
         is_bank = b;
@@ -185,6 +190,7 @@ module _ (kinds : List RuleKind) (file : File) where
     pub terms : listed.terms_in all ≡ (file_made kinds file []).value
     pub names : listed.names_in all ≡ map claim_name (claims_of file)
     pub placed : listed.ArePlaced all
+    pub claims : listed.AreClaims file (claims_of file) all
 
   pub walked_all : (low : List Declared) (left : List Layer) (g : SymBelow) (number : ℕ) (now : List Node) (all : List code.Obligation) → left ≡ [] →
       Walked low left g number now all → WalkedAll now all
@@ -195,4 +201,5 @@ module _ (kinds : List RuleKind) (file : File) where
         terms = w.terms ∙ ap (λ (z : Layers). (layers_made kinds (terms_of kinds file.defs) file.disk z []).value) is;
         names = w.names ∙ ap (λ (z : Layers). map claim_name (claims_on file.disk z)) is;
         placed = w.placed;
+        claims = subst (λ (z : Layers). listed.AreClaims file (claims_on file.disk z) all) is w.claims;
       }

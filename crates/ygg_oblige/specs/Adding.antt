@@ -1,5 +1,6 @@
 -- Obligations of a layer added in order, in code.
-use Rattle.std.specs.Prelude.{ℕ, List, map}
+use Rattle.std.specs.Prelude.{◌≡◌, ℕ, List, [], ◌∷◌, ◌++◌, map}
+use Rattle.ygg_syntax.specs.declared.tree.Layer.{Layer}
 use Rattle.ygg_meaning.specs.Obligations.{Obligation, name_of}
 use Rattle.ygg_rules.specs.declared.rule.RuleKind.{RuleKind}
 use Rattle.ygg_bank.specs.Makes.{Make}
@@ -13,10 +14,31 @@ use Rattle.ygg_oblige_laws.specs.ObligationMeans.{ObligationKnown}
 use Rattle.ygg_oblige_terms.specs.Numbers.{numbers_of}
 use Rattle.ygg_oblige_terms.specs.States.{Starting}
 use Rattle.ygg_oblige_terms.specs.Terms.{after_all, after_layer, layer_made, term_made, terms_made}
+use Rattle.ygg_oblige_list.specs.Listing.{IsNumberIn}
+use Rattle.ygg_oblige.specs.Kinds.{kind_in}
+use Rattle.ygg_oblige.specs.declared.obligation.Obligation as code
 
 -- the names of obligations of a layer, in order
 abbrev pub names_of : SymLayer → List Obligation → List (List ℕ)
 names_of l = map (name_of (l.layer.now).name.text)
+
+-- an obligation is this one of the layer at a place
+pub record IsAsked (place : ℕ) (l : Layer) (o : Obligation) (item : code.Obligation) : Type 0 where
+  pub layer : item.layer ≡ place
+  pub kind : item.kind ≡ kind_in o
+  pub number : IsNumberIn l o item.number
+
+-- the obligations are these of the layer at a place, in order
+abbrev pub AreAsked : ℕ → Layer → List Obligation → List code.Obligation → Type 0
+AreAsked place l [] [] = Unit {0}
+AreAsked place l (o ∷ os) (item ∷ items) = IsAsked place l o item × AreAsked place l os items
+AreAsked place l _ _ = ⊥
+
+-- these obligations of the layer at a place are added to a list
+pub record AddsAsked (place : ℕ) (l : Layer) (os : List Obligation) (old new : List code.Obligation) : Type 0 where
+  pub items : List code.Obligation
+  pub are : AreAsked place l os items
+  pub added : new ≡ old ++ items
 
 module _ (kinds : List RuleKind) (l : SymLayer) (g : SymBelow) where
   -- what the obligation's operation or background step is known to do; a background step has no type error

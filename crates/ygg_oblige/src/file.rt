@@ -7,7 +7,7 @@ ghost use Rattle.ygg_histories.specs.Stack.{layers_of, table_named, tables_of};
 ghost use Rattle.ygg_oblige_terms.specs.Meaning.{claim_name};
 ghost use Rattle.ygg_oblige_terms.specs.Terms.{file_made};
 ghost use Rattle.ygg_oblige_typed.specs.Layers.{LayersTyped};
-ghost use Rattle.ygg_oblige.specs.Obligations.{ArePlaced, names_in, terms_in};
+ghost use Rattle.ygg_oblige.specs.Obligations.{AreClaims, ArePlaced, names_in, terms_in};
 
 use crate::layers::add_layer;
 use crate::obligation::Obligations;
@@ -61,6 +61,7 @@ fn obligations_over<'a, B: Book>(
     ensures terms { IfOk result (λ all. terms_in all ≡ (file_made (B.kinds book.now) file.now []).value) }
     ensures names { IfOk result (λ all. names_in all ≡ map claim_name (claims_of file.now)) }
     ensures placed { IfOk result ArePlaced }
+    ensures claims { IfOk result (AreClaims file.now (claims_of file.now)) }
     ensures bank { IsBank bank.new }
 {
     let mut all = Obligations::new(alloc);
@@ -100,6 +101,7 @@ pub fn obligations_of_file<'a, B: Book>(
     ensures terms { IfOk result (λ all. terms_in all ≡ (file_made (B.kinds book.now) file.now []).value) }
     ensures names { IfOk result (λ all. names_in all ≡ map claim_name (claims_of file.now)) }
     ensures placed { IfOk result ArePlaced }
+    ensures claims { IfOk result (AreClaims file.now (claims_of file.now)) }
     ensures bank { IsBank bank.new }
 {
     let tables = tables(alloc, file.disk)?;

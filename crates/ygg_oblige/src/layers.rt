@@ -8,9 +8,19 @@ ghost use Rattle.ygg_sym_spec.specs.Layers.{closed};
 ghost use Rattle.ygg_oblige_terms.specs.States.{state_words};
 ghost use Rattle.ygg_oblige_kinds.specs.Makers.{StartingShaped, starting_of};
 ghost use Rattle.ygg_oblige_kinds.specs.Steps.{obligation_of};
-ghost use Rattle.ygg_oblige.specs.Adding.{KnownAt, after_at, after_layer_at, layer_at, names_of, next_at, term_at, terms_at};
+ghost use Rattle.ygg_oblige.specs.Adding.{
+  AddsAsked,
+  KnownAt,
+  after_at,
+  after_layer_at,
+  layer_at,
+  names_of,
+  next_at,
+  term_at,
+  terms_at,
+};
 ghost use Rattle.ygg_oblige.specs.Kinds.{kind_in};
-ghost use Rattle.ygg_oblige_list.specs.Listing.{asked_in};
+ghost use Rattle.ygg_oblige_list.specs.Listing.{AreNumbered, IsNumberIn, asked_in};
 ghost use Rattle.ygg_oblige_kinds.specs.Making.{SiteFits};
 ghost use Rattle.ygg_oblige.specs.Obligations.{ArePlaced, names_in, terms_in};
 
@@ -52,6 +62,7 @@ fn add<'a, B: Book>(
     requires starting { StartingShaped (closed maker.now.layer) bank.old (starting_of s.now) }
     requires free { InputsBelow start bank.old }
     requires placed { ArePlaced all.old }
+    requires number { IsNumberIn maker.now.layer.layer.now (obligation_of asked.obligation) asked.number }
     ensures nodes { OnOk result (bank.new ≡ (term_at (B.kinds maker.now.book.now) maker.now.layer maker.now.below (starting_of s.now)
         (obligation_of asked.entry.obligation) start bank.old).nodes) }
     ensures terms { OnOk result (terms_in all.new ≡ terms_in all.old ++ (term_at (B.kinds maker.now.book.now) maker.now.layer maker.now.below
@@ -62,6 +73,7 @@ fn add<'a, B: Book>(
     ensures grows { Extends bank.old bank.new }
     ensures bank { IsBank bank.new }
     ensures placed { OnOk result (ArePlaced all.new) }
+    ensures asked { OnOk result (AddsAsked place maker.now.layer.layer.now (obligation_of asked.entry.obligation ∷ []) all.old all.new) }
 {
     let obligation = asked.obligation;
     let n = numbers_of(maker, obligation, start)?;
@@ -95,6 +107,7 @@ fn add_all<'a, B: Book>(
     requires starting { StartingShaped (closed maker.now.layer) bank.old (starting_of s.now) }
     requires free { InputsBelow start bank.old }
     requires placed { ArePlaced all.old }
+    requires numbered { AreNumbered maker.now.layer.layer.now asked.now }
     ensures nodes { OnOk result (bank.new ≡ (terms_at (B.kinds maker.now.book.now) maker.now.layer maker.now.below (starting_of s.now)
         (asked_in asked.now) start bank.old).nodes) }
     ensures terms { OnOk result (terms_in all.new ≡ terms_in all.old ++ (terms_at (B.kinds maker.now.book.now) maker.now.layer maker.now.below
@@ -103,6 +116,7 @@ fn add_all<'a, B: Book>(
     ensures next { IfOk result (λ n. n ≡ after_at (B.kinds maker.now.book.now) maker.now.layer maker.now.below (asked_in asked.now) start) }
     ensures bank { IsBank bank.new }
     ensures placed { OnOk result (ArePlaced all.new) }
+    ensures asked { OnOk result (AddsAsked place maker.now.layer.layer.now (asked_in asked.now) all.old all.new) }
 {
     let mut next = start;
     for each in asked {
@@ -152,6 +166,7 @@ pub fn add_layer<'a, B: Book>(
     ensures next { IfOk result (λ n. n ≡ after_layer_at (B.kinds maker.now.book.now) maker.now.layer maker.now.below number) }
     ensures bank { IsBank bank.new }
     ensures placed { OnOk result (ArePlaced all.new) }
+    ensures asked { OnOk result (AddsAsked place maker.now.layer.layer.now (obligations_of maker.now.layer.layer.now) all.old all.new) }
 {
     let start = after_states(maker, number)?;
     let s = maker.starting(bank, number)?;

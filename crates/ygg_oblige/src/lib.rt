@@ -6,7 +6,7 @@ ghost use Rattle.ygg_bank.specs.Nodes.{IsBank};
 ghost use Rattle.ygg_histories.specs.Claims.{claims_of};
 ghost use Rattle.ygg_oblige_terms.specs.Terms.{file_made};
 ghost use Rattle.ygg_oblige_terms.specs.Meaning.{AreTermsIn, claim_name};
-ghost use Rattle.ygg_oblige.specs.Obligations.{ArePlaced, names_in, terms_in};
+ghost use Rattle.ygg_oblige.specs.Obligations.{AreClaims, ArePlaced, names_in, terms_in};
 
 mod file;
 mod layers;
@@ -36,6 +36,7 @@ pub fn obligations<B: Book>(
     ensures terms { IfOk result (λ all. terms_in all ≡ (file_made (B.kinds book.now) typed.now.file []).value) }
     ensures names { IfOk result (λ all. names_in all ≡ map claim_name (claims_of typed.now.file)) }
     ensures placed { IfOk result ArePlaced }
+    ensures claims { IfOk result (AreClaims typed.now.file (claims_of typed.now.file)) }
     ensures mean { IfOk result (λ all. AreTermsIn typed.now.file bank.new (terms_in all)) }
     ensures bank { IsBank bank.new }
 {

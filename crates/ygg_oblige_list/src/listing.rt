@@ -3,12 +3,12 @@
 ghost use Rattle.std.specs.Prelude.{◌≡◌, ◌∷◌, ◌++◌, [], IfOk, OnOk};
 ghost use Rattle.ygg_meaning.specs.Obligations.{obligations_of};
 ghost use Rattle.ygg_oblige_parts.specs.Steps.{obligation_of};
-ghost use Rattle.ygg_oblige_list.specs.Listing.{asked_in, calls_of, ticks_of};
+ghost use Rattle.ygg_oblige_list.specs.Listing.{AreNumbered, asked_in, calls_of, ticks_of};
 
 use std::alloc::Global;
 use ygg_list::NoMemory;
 use ygg_oblige_parts::SymObligation;
-use ygg_syntax::tree::{Layer, Operation, Tick};
+use ygg_syntax::tree::Layer;
 
 /// An obligation, and the place of its operation or background step in the layer's list, else 0.
 #[derive(Clone, Copy)]
@@ -35,17 +35,20 @@ fn add<'a>(
     obligation: SymObligation<'a>,
     number: u32,
 ) -> Result<(), NoMemory>
-    ensures { OnOk result (asked_in list.new.items ≡ asked_in list.old.items ++ obligation_of obligation.entry ∷ []) }
+    ensures asked { OnOk result (asked_in list.new.items ≡ asked_in list.old.items ++ obligation_of obligation.entry ∷ []) }
+    ensures added { OnOk result (list.new.items ≡ list.old.items ++ record { obligation = obligation.entry; number = number } ∷ []) }
 {
     list.push(Asked { obligation, number })?;
     Ok(())
 }
 
-/// Adds the obligations of operations.
-fn add_calls<'a>(list: &mut Vec<Asked<'a>>, operations: &'a [Operation]) -> Result<(), NoMemory>
-    ensures { OnOk result (asked_in list.new.items ≡ asked_in list.old.items ++ calls_of operations.now) }
+/// Adds the obligations of a layer's operations.
+fn add_calls<'a>(list: &mut Vec<Asked<'a>>, layer: &'a Layer) -> Result<(), NoMemory>
+    requires { AreNumbered layer.now list.old.items }
+    ensures asked { OnOk result (asked_in list.new.items ≡ asked_in list.old.items ++ calls_of layer.now.operations) }
+    ensures numbered { OnOk result (AreNumbered layer.now list.new.items) }
 {
-    for (i, operation) in operations.iter().enumerate() {
+    for (i, operation) in layer.operations.as_slice().iter().enumerate() {
         let number = place_of(i)?;
         add(list, SymObligation::Call(operation), number)?;
         add(list, SymObligation::Cut(operation), number)?;
@@ -53,11 +56,13 @@ fn add_calls<'a>(list: &mut Vec<Asked<'a>>, operations: &'a [Operation]) -> Resu
     Ok(())
 }
 
-/// Adds the obligations of background steps.
-fn add_ticks<'a>(list: &mut Vec<Asked<'a>>, ticks: &'a [Tick]) -> Result<(), NoMemory>
-    ensures { OnOk result (asked_in list.new.items ≡ asked_in list.old.items ++ ticks_of ticks.now) }
+/// Adds the obligations of a layer's background steps.
+fn add_ticks<'a>(list: &mut Vec<Asked<'a>>, layer: &'a Layer) -> Result<(), NoMemory>
+    requires { AreNumbered layer.now list.old.items }
+    ensures asked { OnOk result (asked_in list.new.items ≡ asked_in list.old.items ++ ticks_of layer.now.ticks) }
+    ensures numbered { OnOk result (AreNumbered layer.now list.new.items) }
 {
-    for (i, tick) in ticks.iter().enumerate() {
+    for (i, tick) in layer.ticks.as_slice().iter().enumerate() {
         let number = place_of(i)?;
         add(list, SymObligation::Tick(tick), number)?;
         add(list, SymObligation::CutTick(tick), number)?;
@@ -65,14 +70,15 @@ fn add_ticks<'a>(list: &mut Vec<Asked<'a>>, ticks: &'a [Tick]) -> Result<(), NoM
     Ok(())
 }
 
-/// The obligations of a layer, in order. Its only error is out of memory.
+/// The obligations of a layer, in order, each with its number. Its only error is out of memory.
 pub fn asked_of<'a>(alloc: Global, layer: &'a Layer) -> Result<Vec<Asked<'a>>, NoMemory>
-    ensures { IfOk result (λ list. asked_in list.items ≡ obligations_of layer.now) }
+    ensures asked { IfOk result (λ list. asked_in list.items ≡ obligations_of layer.now) }
+    ensures numbered { IfOk result (λ list. AreNumbered layer.now list.items) }
 {
     let mut list = Vec::new(alloc);
     add(&mut list, SymObligation::Init, 0)?;
-    add_calls(&mut list, layer.operations.as_slice())?;
-    add_ticks(&mut list, layer.ticks.as_slice())?;
+    add_calls(&mut list, layer)?;
+    add_ticks(&mut list, layer)?;
     add(&mut list, SymObligation::Idle, 0)?;
     add(&mut list, SymObligation::Again, 0)?;
     Ok(list)

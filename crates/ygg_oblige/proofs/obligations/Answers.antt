@@ -36,6 +36,10 @@ returns-clause-names g c =
     subst (λ (z : File). IfOk c.obligations_of_file.result (λ (all : List code.Obligation). listed.names_in all ≡ map claim_name (claims_of z)))
     c.file-file.ensures.same c.obligations_of_file.ensures.names
 
+pub returns-clause-claims : goal.returns-clause-claims
+returns-clause-claims g c =
+    subst (λ (z : File). IfOk c.obligations_of_file.result (listed.AreClaims z (claims_of z))) c.file-file.ensures.same c.obligations_of_file.ensures.claims
+
 pub returns-clause-mean : goal.returns-clause-mean
 returns-clause-mean g c =
     let f = c.args.typed.now.file in

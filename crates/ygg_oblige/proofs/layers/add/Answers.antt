@@ -1,6 +1,8 @@
+use Rattle.std.proofs.Common.{refl}
 use Rattle.ygg_oblige_kinds.specs.Makers.{starting_of}
 use Rattle.ygg_oblige_kinds.specs.Steps.{obligation_of}
 use Rattle.ygg_oblige_kinds.specs.Numbering.{numbers_in}
+use Rattle.ygg_oblige.proofs.Asking.{asked_one}
 use Rattle.ygg_oblige.proofs.Going.{added_one}
 use Rattle.ygg_oblige.proofs.KnownSo.{known_shapes, known_typed}
 use Rattle.ygg_oblige.proofs.layers.add.Goals as goal
@@ -23,4 +25,6 @@ returns g c =
     let a = added_one (g.B.Book.kinds m.book.now) m.layer m.below (starting_of c.args.s.now) (obligation_of c.args.asked.obligation) c.args.start
     (numbers_in c.in_ok-n.n) c.args.bank.now c.term.new.bank c.args.all.now c.push.new.self _ c.in_ok-n.ensures e.nodes e.id c.in_ok-name.ensures
     c.len-listed.ensures c.requires.placed c.in_ok-push.ensures.ok e.grows e.bank in
-    record { nodes = a.nodes; terms = a.terms; names = a.names; next = a.next_is; grows = a.grows; bank = a.is_bank; placed = a.placed }
+    let asked = asked_one c.args.place m.layer.layer.now (obligation_of c.args.asked.obligation) c.args.all.now c.push.new.self _ c.in_ok-push.ensures.ok
+    refl c.kind_of.ensures c.requires.number in
+    record { nodes = a.nodes; terms = a.terms; names = a.names; next = a.next_is; grows = a.grows; bank = a.is_bank; placed = a.placed; asked = asked }

@@ -1,7 +1,10 @@
 use Rattle.std.proofs.Common.{◌≡◌, ◌++◌, drop}
-use Rattle.ygg_oblige_list.specs.Listing.{asked_in, ticks_of}
+use Rattle.ygg_oblige_list.specs.Listing.{AreNumbered, asked_in, ticks_of}
 use Rattle.ygg_oblige_list.proofs.listing.add_ticks.Given as goal
 
 -- those so far, and then those of what is left
 abbrev pub invariant-loop-i : goal.invariant-loop-i
-invariant-loop-i l = asked_in l.list.items ++ ticks_of (drop l.i l.ticks) ≡ asked_in l.initial.list.items ++ ticks_of l.ticks
+invariant-loop-i l = record {
+  asked : asked_in l.list.items ++ ticks_of (drop l.i l.layer.ticks) ≡ asked_in l.initial.list.items ++ ticks_of l.layer.ticks;
+  numbered : AreNumbered l.layer l.list.items;
+}
