@@ -1,0 +1,11 @@
+pub mod NextNumber
+pub mod Numbered
+pub mod Typed
+pub mod Laws
+pub mod Chosen
+pub mod Whole
+pub mod Silent
+pub mod Cuts
+pub mod Bounded
+pub mod Standing
+pub mod Sited
