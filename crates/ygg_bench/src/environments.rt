@@ -7,7 +7,7 @@ ghost use Rattle.ygg_bank.specs.Values.{EnvFits};
 ghost use Rattle.ygg_bench.specs.Tried.{FitsAt};
 
 use crate::shapes::{count_of, width_of};
-use crate::terms::{FIRST, Maker, SECOND, Setting, known_place, place_width, word_of};
+use crate::terms::{FIRST, SECOND, Setting, TriedMaker, known_place, place_width, word_of};
 use crate::values::{Operands, built, meant};
 use std::alloc::Global;
 use ygg_bank::{Bank, Env, Given, Id, NoMemory, Node, Words, given_for};
@@ -15,16 +15,16 @@ use ygg_value::{Shape, Value, Word, same, shape_of};
 
 /// How many values were compared, how many of them differ, and how many digits a bank's inputs have together at most where it is tried.
 #[derive(Clone, Copy)]
-pub struct Tally {
+pub struct Comparisons {
     pub compared: u64,
     pub differ: u64,
     limit: u64,
 }
 
-impl Tally {
+impl Comparisons {
     /// Nothing was compared.
-    pub fn new(limit: u64) -> Tally {
-        Tally {
+    pub fn new(limit: u64) -> Comparisons {
+        Comparisons {
             compared: 0,
             differ: 0,
             limit,
@@ -44,10 +44,10 @@ impl Tally {
 pub fn compare_all(
     alloc: Global,
     bank: &Bank,
-    maker: Maker,
+    maker: TriedMaker,
     setting: Setting,
     terms: &[Id],
-    tally: &mut Tally,
+    tally: &mut Comparisons,
 ) -> Result<(), NoMemory>
     requires one { IsShape setting.one }
     requires two { IsShape setting.two }
@@ -86,7 +86,7 @@ struct Environment {
 fn differs_in(
     alloc: Global,
     bank: &Bank,
-    maker: Maker,
+    maker: TriedMaker,
     setting: Setting,
     terms: &[Id],
     number: u64,
@@ -102,7 +102,7 @@ fn differs_in(
 fn differs_under(
     alloc: Global,
     bank: &Bank,
-    maker: Maker,
+    maker: TriedMaker,
     setting: Setting,
     terms: &[Id],
     environment: &Environment,
@@ -133,7 +133,7 @@ fn environment_of(alloc: Global, setting: Setting, number: u64) -> Result<Enviro
 /// What a maker means in an environment.
 fn expected_in(
     alloc: Global,
-    maker: Maker,
+    maker: TriedMaker,
     setting: Setting,
     environment: &Environment,
 ) -> Result<Value, NoMemory>

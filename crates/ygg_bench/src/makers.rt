@@ -4,9 +4,11 @@ ghost use Rattle.std.specs.Prelude.{◌≡◌, []};
 ghost use Rattle.ygg_value.specs.Shapes.{IsShape};
 ghost use Rattle.ygg_bench.specs.Tried.{AreInputs};
 
-use crate::environments::{Tally, compare_all};
+use crate::environments::{Comparisons, compare_all};
 use crate::shapes::{Pair, is_shape, other_of};
-use crate::terms::{Inputs, Known, Maker, Place, Setting, WordMaker, inputs_in, terms_of};
+use crate::terms::{
+    Inputs, Known, Setting, TriedMaker, TriedPlace, WordMaker, inputs_in, terms_of,
+};
 use std::alloc::Global;
 use ygg_bank::{Bank, NoMemory};
 use ygg_rules::{
@@ -16,10 +18,10 @@ use ygg_value::{Op, Shape};
 
 /// Makers, the sizes of their first values, what their second values are, their places, and which values are constants.
 struct Group {
-    makers: &'static [(&'static str, Maker)],
+    makers: &'static [(&'static str, TriedMaker)],
     sizes: &'static [Size],
     pair: Pair,
-    places: &'static [Place],
+    places: &'static [TriedPlace],
     known: &'static [Known],
 }
 
@@ -62,55 +64,59 @@ const GROUPS: [Group; 5] = [
     },
 ];
 
-const OF_DIGITS: [(&str, Maker); 1] = [("imp", Maker::Word(WordMaker::Bin(Op::Imp)))];
+const OF_DIGITS: [(&str, TriedMaker); 1] = [("imp", TriedMaker::Word(WordMaker::Bin(Op::Imp)))];
 
-const OF_WORDS: [(&str, Maker); 27] = [
-    ("add", Maker::Word(WordMaker::Bin(Op::Add))),
-    ("sub", Maker::Word(WordMaker::Bin(Op::Sub))),
-    ("mul", Maker::Word(WordMaker::Bin(Op::Mul))),
-    ("and", Maker::Word(WordMaker::Bin(Op::And))),
-    ("or", Maker::Word(WordMaker::Bin(Op::Or))),
-    ("xor", Maker::Word(WordMaker::Bin(Op::Xor))),
-    ("shl", Maker::Word(WordMaker::Bin(Op::Shl))),
-    ("shr", Maker::Word(WordMaker::Bin(Op::Shr))),
-    ("eq", Maker::Word(WordMaker::Bin(Op::Eq))),
-    ("ne", Maker::Word(WordMaker::Bin(Op::Ne))),
-    ("lt", Maker::Word(WordMaker::Bin(Op::Lt))),
-    ("le", Maker::Word(WordMaker::Bin(Op::Le))),
-    ("gt", Maker::Word(WordMaker::Bin(Op::Gt))),
-    ("ge", Maker::Word(WordMaker::Bin(Op::Ge))),
-    ("not", Maker::Word(WordMaker::Not)),
-    ("resize", Maker::Word(WordMaker::Resize)),
-    ("resize_twice", Maker::Word(WordMaker::ResizeTwice)),
-    ("pick", Maker::Word(WordMaker::Pick)),
-    ("same", Maker::Word(WordMaker::Same)),
-    ("same_sum", Maker::SameOf(WordMaker::Bin(Op::Add))),
-    ("same_difference", Maker::SameOf(WordMaker::Bin(Op::Sub))),
-    ("same_xor", Maker::SameOf(WordMaker::Bin(Op::Xor))),
-    ("same_not", Maker::SameOf(WordMaker::Not)),
-    ("same_resized", Maker::SameOf(WordMaker::Resize)),
-    ("same_widened", Maker::SameOf(WordMaker::Widen)),
-    ("same_pick", Maker::SameOf(WordMaker::Pick)),
-    ("same_same", Maker::SameOf(WordMaker::Same)),
+const OF_WORDS: [(&str, TriedMaker); 27] = [
+    ("add", TriedMaker::Word(WordMaker::Bin(Op::Add))),
+    ("sub", TriedMaker::Word(WordMaker::Bin(Op::Sub))),
+    ("mul", TriedMaker::Word(WordMaker::Bin(Op::Mul))),
+    ("and", TriedMaker::Word(WordMaker::Bin(Op::And))),
+    ("or", TriedMaker::Word(WordMaker::Bin(Op::Or))),
+    ("xor", TriedMaker::Word(WordMaker::Bin(Op::Xor))),
+    ("shl", TriedMaker::Word(WordMaker::Bin(Op::Shl))),
+    ("shr", TriedMaker::Word(WordMaker::Bin(Op::Shr))),
+    ("eq", TriedMaker::Word(WordMaker::Bin(Op::Eq))),
+    ("ne", TriedMaker::Word(WordMaker::Bin(Op::Ne))),
+    ("lt", TriedMaker::Word(WordMaker::Bin(Op::Lt))),
+    ("le", TriedMaker::Word(WordMaker::Bin(Op::Le))),
+    ("gt", TriedMaker::Word(WordMaker::Bin(Op::Gt))),
+    ("ge", TriedMaker::Word(WordMaker::Bin(Op::Ge))),
+    ("not", TriedMaker::Word(WordMaker::Not)),
+    ("resize", TriedMaker::Word(WordMaker::Resize)),
+    ("resize_twice", TriedMaker::Word(WordMaker::ResizeTwice)),
+    ("pick", TriedMaker::Word(WordMaker::Pick)),
+    ("same", TriedMaker::Word(WordMaker::Same)),
+    ("same_sum", TriedMaker::SameOf(WordMaker::Bin(Op::Add))),
+    (
+        "same_difference",
+        TriedMaker::SameOf(WordMaker::Bin(Op::Sub)),
+    ),
+    ("same_xor", TriedMaker::SameOf(WordMaker::Bin(Op::Xor))),
+    ("same_not", TriedMaker::SameOf(WordMaker::Not)),
+    ("same_resized", TriedMaker::SameOf(WordMaker::Resize)),
+    ("same_widened", TriedMaker::SameOf(WordMaker::Widen)),
+    ("same_pick", TriedMaker::SameOf(WordMaker::Pick)),
+    ("same_same", TriedMaker::SameOf(WordMaker::Same)),
 ];
 
-const OF_VALUES: [(&str, Maker); 5] = [
-    ("inputs_of", Maker::Inputs),
-    ("zero", Maker::Zero),
-    ("merge", Maker::Merge),
-    ("merge_all", Maker::MergeAll),
-    ("equal", Maker::Equal),
+const OF_VALUES: [(&str, TriedMaker); 6] = [
+    ("inputs_of", TriedMaker::Inputs),
+    ("zero", TriedMaker::Zero),
+    ("merge", TriedMaker::Merge),
+    ("merge_all", TriedMaker::MergeAll),
+    ("equal", TriedMaker::Equal),
+    ("equal_all", TriedMaker::EqualAll),
 ];
 
-const IN_ROWS: [(&str, Maker); 2] = [
-    ("select_word", Maker::SelectWord),
-    ("store_word", Maker::StoreWord),
+const IN_ROWS: [(&str, TriedMaker); 2] = [
+    ("select_word", TriedMaker::SelectWord),
+    ("store_word", TriedMaker::StoreWord),
 ];
 
-const IN_TABLES: [(&str, Maker); 3] = [
-    ("select", Maker::Select),
-    ("store", Maker::Store),
-    ("store_where", Maker::StoreWhere),
+const IN_TABLES: [(&str, TriedMaker); 3] = [
+    ("select", TriedMaker::Select),
+    ("store", TriedMaker::Store),
+    ("store_where", TriedMaker::StoreWhere),
 ];
 
 /// How many rows a table has, how many words a row, and how many digits a word. A row has 0 rows, and a word 0 words too.
@@ -157,14 +163,14 @@ const VALUES: [Size; 12] = [
     (2, 1, 3),
 ];
 
-const NO_PLACES: [Place; 1] = [Place::Known(0)];
+const NO_PLACES: [TriedPlace; 1] = [TriedPlace::Known(0)];
 
-const PLACES: [Place; 5] = [
-    Place::Digit,
-    Place::Digits,
-    Place::Known(0),
-    Place::Known(1),
-    Place::Known(5),
+const PLACES: [TriedPlace; 5] = [
+    TriedPlace::Digit,
+    TriedPlace::Digits,
+    TriedPlace::Known(0),
+    TriedPlace::Known(1),
+    TriedPlace::Known(5),
 ];
 
 const UNKNOWN: [Known; 1] = [Known::Neither];
@@ -243,7 +249,7 @@ fn try_group(
 }
 
 /// Prints what came of a maker.
-fn report(rt: &HostRuntime, name: &str, tally: Tally) -> anyhow::Result<()> {
+fn report(rt: &HostRuntime, name: &str, tally: Comparisons) -> anyhow::Result<()> {
     println!(rt;
         "{name} compared {} differ {}",
         tally.compared, tally.differ
@@ -257,10 +263,10 @@ fn tally_of(
     none: &RuleBook,
     seven: &RuleBook,
     group: &Group,
-    maker: Maker,
+    maker: TriedMaker,
     limit: u64,
-) -> Result<Tally, NoMemory> {
-    let mut tally = Tally::new(limit);
+) -> Result<Comparisons, NoMemory> {
+    let mut tally = Comparisons::new(limit);
     try_maker(alloc, none, group, maker, &mut tally)?;
     try_maker(alloc, seven, group, maker, &mut tally)?;
     Ok(tally)
@@ -271,8 +277,8 @@ fn try_maker(
     alloc: Global,
     book: &RuleBook,
     group: &Group,
-    maker: Maker,
-    tally: &mut Tally,
+    maker: TriedMaker,
+    tally: &mut Comparisons,
 ) -> Result<(), NoMemory> {
     for size in group.sizes {
         let one = shape_of(*size);
@@ -298,9 +304,9 @@ fn try_maker(
 fn try_setting(
     alloc: Global,
     book: &RuleBook,
-    maker: Maker,
+    maker: TriedMaker,
     setting: Setting,
-    tally: &mut Tally,
+    tally: &mut Comparisons,
 ) -> Result<(), NoMemory>
     requires one { IsShape setting.one }
     requires two { IsShape setting.two }
@@ -314,9 +320,9 @@ fn try_bank(
     alloc: Global,
     bank: &mut Bank,
     book: &RuleBook,
-    maker: Maker,
+    maker: TriedMaker,
     setting: Setting,
-    tally: &mut Tally,
+    tally: &mut Comparisons,
 ) -> Result<(), NoMemory>
     requires empty { bank.old ≡ [] }
     requires one { IsShape setting.one }
@@ -331,10 +337,10 @@ fn try_inputs(
     alloc: Global,
     bank: &mut Bank,
     book: &RuleBook,
-    maker: Maker,
+    maker: TriedMaker,
     setting: Setting,
     inputs: &Inputs,
-    tally: &mut Tally,
+    tally: &mut Comparisons,
 ) -> Result<(), NoMemory>
     requires one { IsShape setting.one }
     requires two { IsShape setting.two }

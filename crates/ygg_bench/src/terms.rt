@@ -17,8 +17,8 @@ use ygg_bank::{Bank, Id, NoMemory, Node};
 use ygg_list::Duplicate;
 use ygg_rules::Book;
 use ygg_shape::{
-    SymRow, SymTable, SymValue, SymValues, equal, inputs_of, merge, merge_all, select, select_word,
-    store, store_where, store_word, zero,
+    SymRow, SymTable, SymValue, SymValues, equal, equal_all, inputs_of, merge, merge_all, select,
+    select_word, store, store_where, store_word, zero,
 };
 use ygg_shape_words::{pick, resize, same};
 use ygg_value::{Op, Shape, Word};
@@ -44,7 +44,7 @@ pub enum WordMaker {
 
 /// What is made of a test, a place and two values.
 #[derive(Clone, Copy)]
-pub enum Maker {
+pub enum TriedMaker {
     /// The first value, whose words are inputs.
     Inputs,
     /// Zeros of the first value's shape.
@@ -59,6 +59,8 @@ pub enum Maker {
     MergeAll,
     /// Whether two values are equal.
     Equal,
+    /// Whether two values and the same in turn are equal, one by one.
+    EqualAll,
     /// The word of a row at the place.
     SelectWord,
     /// The row with a word at the place.
@@ -88,7 +90,7 @@ pub const SECOND: u64 = 5000;
 
 /// A place.
 #[derive(Clone, Copy)]
-pub enum Place {
+pub enum TriedPlace {
     /// An input of one digit.
     Digit,
     /// An input of three digits.
@@ -139,7 +141,7 @@ pub fn word_of(bits: u64, width: u8) -> Word
 /// A place, the shapes of two values, and which of them are constants.
 #[derive(Clone, Copy)]
 pub struct Setting {
-    pub at: Place,
+    pub at: TriedPlace,
     pub one: Shape,
     pub two: Shape,
     pub known: Known,
@@ -155,23 +157,23 @@ pub struct Inputs {
 }
 
 /// How many digits a place has.
-pub fn place_width(place: Place) -> u8
+pub fn place_width(place: TriedPlace) -> u8
     ensures { Within 64 result }
 {
     match place {
-        Place::Digit => 1,
-        Place::Digits | Place::Known(_) => 3,
+        TriedPlace::Digit => 1,
+        TriedPlace::Digits | TriedPlace::Known(_) => 3,
     }
 }
 
 /// The word that a place is, where it is a constant.
-pub fn known_place(place: Place) -> Option<Word> {
+pub fn known_place(place: TriedPlace) -> Option<Word> {
     match place {
-        Place::Known(number) => Some(Word {
+        TriedPlace::Known(number) => Some(Word {
             width: 64,
             bits: number,
         }),
-        Place::Digit | Place::Digits => None,
+        TriedPlace::Digit | TriedPlace::Digits => None,
     }
 }
 
@@ -233,7 +235,7 @@ fn value_in<B: Book>(
 }
 
 /// A place, in a bank that has an input of the number 0 alone.
-fn place_in<B: Book>(bank: &mut Bank, book: &B, place: Place) -> Result<Id, NoMemory>
+fn place_in<B: Book>(bank: &mut Bank, book: &B, place: TriedPlace) -> Result<Id, NoMemory>
     requires { InputsBelow 1 bank.old }
     ensures at { IfOk result (HasSome bank.new) }
     ensures inputs { OnOk result (InputsBelow 2 bank.new) }
@@ -257,7 +259,7 @@ pub fn terms_of<B: Book>(
     alloc: Global,
     bank: &mut Bank,
     book: &B,
-    maker: Maker,
+    maker: TriedMaker,
     setting: Setting,
     inputs: &Inputs,
 ) -> Result<SymRow, NoMemory>
@@ -287,7 +289,7 @@ fn made_of<B: Book>(
     alloc: Global,
     bank: &mut Bank,
     book: &B,
-    maker: Maker,
+    maker: TriedMaker,
     setting: Setting,
     inputs: &Inputs,
 ) -> Result<SymValue, NoMemory>
@@ -296,13 +298,19 @@ fn made_of<B: Book>(
     // the bank's nodes stand in order
     let _ = bank.len();
     match maker {
-        Maker::Inputs => inputs.one.duplicate(alloc),
-        Maker::Zero => zero(alloc, bank, book, setting.one),
-        Maker::Merge | Maker::MergeAll | Maker::Equal | Maker::Word(_) | Maker::SameOf(_) => {
-            of_alike(alloc, bank, book, maker, setting, inputs)
-        }
-        Maker::SelectWord | Maker::StoreWord | Maker::Select | Maker::Store | Maker::StoreWhere =>
-            of_parts(alloc, bank, book, maker, setting, inputs),
+        TriedMaker::Inputs => inputs.one.duplicate(alloc),
+        TriedMaker::Zero => zero(alloc, bank, book, setting.one),
+        TriedMaker::Merge
+        | TriedMaker::MergeAll
+        | TriedMaker::Equal
+        | TriedMaker::EqualAll
+        | TriedMaker::Word(_)
+        | TriedMaker::SameOf(_) => { of_alike(alloc, bank, book, maker, setting, inputs) }
+        TriedMaker::SelectWord
+        | TriedMaker::StoreWord
+        | TriedMaker::Select
+        | TriedMaker::Store
+        | TriedMaker::StoreWhere => of_parts(alloc, bank, book, maker, setting, inputs),
     }
 }
 
@@ -311,7 +319,7 @@ fn of_alike<B: Book>(
     alloc: Global,
     bank: &mut Bank,
     book: &B,
-    maker: Maker,
+    maker: TriedMaker,
     setting: Setting,
     inputs: &Inputs,
 ) -> Result<SymValue, NoMemory>
@@ -323,7 +331,7 @@ fn of_alike<B: Book>(
         return Ok(SymValue::Word(test));
     }
     match (maker, &inputs.one, &inputs.two) {
-        (Maker::Word(_) | Maker::SameOf(_), SymValue::Word(one), SymValue::Word(two)) => {
+        (TriedMaker::Word(_) | TriedMaker::SameOf(_), SymValue::Word(one), SymValue::Word(two)) => {
             Ok(SymValue::Word(of_words(bank, book, maker, test, *one, *two)?))
         }
         (_, one, two) => of_values(alloc, bank, book, maker, test, one, two),
@@ -335,7 +343,7 @@ fn of_parts<B: Book>(
     alloc: Global,
     bank: &mut Bank,
     book: &B,
-    maker: Maker,
+    maker: TriedMaker,
     setting: Setting,
     inputs: &Inputs,
 ) -> Result<SymValue, NoMemory>
@@ -362,7 +370,7 @@ fn of_values<B: Book>(
     alloc: Global,
     bank: &mut Bank,
     book: &B,
-    maker: Maker,
+    maker: TriedMaker,
     test: Id,
     one: &SymValue,
     two: &SymValue,
@@ -371,8 +379,9 @@ fn of_values<B: Book>(
     requires values { AreAlike bank.old one.now two.now }
 {
     match maker {
-        Maker::Merge => merge(alloc, bank, book, test, one, two),
-        Maker::MergeAll => merged_second(alloc, bank, book, test, one, two),
+        TriedMaker::Merge => merge(alloc, bank, book, test, one, two),
+        TriedMaker::MergeAll => merged_second(alloc, bank, book, test, one, two),
+        TriedMaker::EqualAll => in_turn(alloc, bank, book, one, two),
         _ => Ok(SymValue::Word(equal(bank, book, one, two)?)),
     }
 }
@@ -398,6 +407,22 @@ fn merged_second<B: Book>(
     }
 }
 
+/// Whether two values and the same in turn are equal, one by one.
+fn in_turn<B: Book>(
+    alloc: Global,
+    bank: &mut Bank,
+    book: &B,
+    one: &SymValue,
+    two: &SymValue,
+) -> Result<SymValue, NoMemory>
+    requires { AreAlike bank.old one.now two.now }
+{
+    let ones = both(alloc, one, two)?;
+    let twos = both(alloc, two, one)?;
+    let answer = equal_all(alloc, bank, book, ones.as_slice(), twos.as_slice())?;
+    Ok(SymValue::Word(answer))
+}
+
 /// Two values in order.
 fn both(alloc: Global, one: &SymValue, two: &SymValue) -> Result<SymValues, NoMemory>
     ensures { IfOk result (λ values. values ≡ one.now ∷ two.now ∷ []) }
@@ -412,7 +437,7 @@ fn both(alloc: Global, one: &SymValue, two: &SymValue) -> Result<SymValues, NoMe
 fn of_words<B: Book>(
     bank: &mut Bank,
     book: &B,
-    maker: Maker,
+    maker: TriedMaker,
     test: Id,
     one: Id,
     two: Id,
@@ -422,8 +447,8 @@ fn of_words<B: Book>(
     requires words { WordsAlike bank.old one two }
 {
     match maker {
-        Maker::Word(maker) => word_in(bank, book, maker, test, one, two),
-        Maker::SameOf(maker) => {
+        TriedMaker::Word(maker) => word_in(bank, book, maker, test, one, two),
+        TriedMaker::SameOf(maker) => {
             let term = word_in(bank, book, maker, test, one, two)?;
             compared(bank, book, term)
         }
@@ -496,7 +521,7 @@ fn of_row<B: Book>(
     alloc: Global,
     bank: &mut Bank,
     book: &B,
-    maker: Maker,
+    maker: TriedMaker,
     at: Id,
     row: &SymRow,
     word: Id,
@@ -505,7 +530,7 @@ fn of_row<B: Book>(
     requires at { Stands bank.old at }
 {
     match maker {
-        Maker::StoreWord => Ok(SymValue::Row(store_word(alloc, bank, book, row, at, word)?)),
+        TriedMaker::StoreWord => Ok(SymValue::Row(store_word(alloc, bank, book, row, at, word)?)),
         _ => Ok(SymValue::Word(select_word(alloc, bank, book, row, at)?)),
     }
 }
@@ -515,7 +540,7 @@ fn of_table<B: Book>(
     alloc: Global,
     bank: &mut Bank,
     book: &B,
-    maker: Maker,
+    maker: TriedMaker,
     test: Id,
     at: Id,
     table: &SymTable,
@@ -526,8 +551,8 @@ fn of_table<B: Book>(
     requires at { Stands bank.old at }
 {
     match maker {
-        Maker::Store => Ok(SymValue::Table(store(alloc, bank, book, table, at, row)?)),
-        Maker::StoreWhere => Ok(SymValue::Table(store_where(
+        TriedMaker::Store => Ok(SymValue::Table(store(alloc, bank, book, table, at, row)?)),
+        TriedMaker::StoreWhere => Ok(SymValue::Table(store_where(
             alloc, bank, book, test, table, at, row,
         )?)),
         _ => Ok(SymValue::Row(select(alloc, bank, book, table, at)?)),

@@ -4,7 +4,7 @@ ghost use Rattle.ygg_value.specs.Shapes.{IsShape};
 ghost use Rattle.ygg_value.specs.declared.shape.Shape.TheVariants as shape;
 
 use crate::shapes::{is_part, width_of};
-use crate::terms::{COMPARED, Maker, RESIZED, RESIZED_FIRST, WordMaker, word_of};
+use crate::terms::{COMPARED, RESIZED, RESIZED_FIRST, TriedMaker, WordMaker, word_of};
 use std::alloc::Global;
 use ygg_bank::NoMemory;
 use ygg_list::Duplicate;
@@ -23,20 +23,20 @@ pub struct Operands {
 }
 
 /// What a maker's term is, where its inputs are these.
-pub fn meant(alloc: Global, maker: Maker, operands: &Operands) -> Result<Value, NoMemory> {
+pub fn meant(alloc: Global, maker: TriedMaker, operands: &Operands) -> Result<Value, NoMemory> {
     let is_one = operands.test.bits == 1;
     let (one, two) = (&operands.one, &operands.two);
     match maker {
-        Maker::Inputs => copy_value(alloc, one),
-        Maker::Zero => zero(alloc, shape_of(one)),
-        Maker::Merge => copy_value(alloc, if is_one { one } else { two }),
-        Maker::MergeAll => copy_value(alloc, if is_one { two } else { one }),
-        Maker::Equal => Ok(digit(same(one, two))),
-        Maker::SelectWord | Maker::Select => read(alloc, one, operands.at, two),
-        Maker::StoreWord | Maker::Store => written(alloc, true, one, operands.at, two),
-        Maker::StoreWhere => written(alloc, is_one, one, operands.at, two),
-        Maker::Word(maker) => word_meant(alloc, maker, operands),
-        Maker::SameOf(maker) => {
+        TriedMaker::Inputs => copy_value(alloc, one),
+        TriedMaker::Zero => zero(alloc, shape_of(one)),
+        TriedMaker::Merge => copy_value(alloc, if is_one { one } else { two }),
+        TriedMaker::MergeAll => copy_value(alloc, if is_one { two } else { one }),
+        TriedMaker::Equal | TriedMaker::EqualAll => Ok(digit(same(one, two))),
+        TriedMaker::SelectWord | TriedMaker::Select => read(alloc, one, operands.at, two),
+        TriedMaker::StoreWord | TriedMaker::Store => written(alloc, true, one, operands.at, two),
+        TriedMaker::StoreWhere => written(alloc, is_one, one, operands.at, two),
+        TriedMaker::Word(maker) => word_meant(alloc, maker, operands),
+        TriedMaker::SameOf(maker) => {
             let word = word_meant(alloc, maker, operands)?;
             let compared = word_of(COMPARED, width_of(shape_of(&word)));
             Ok(digit(same(&word, &Value::Word(compared))))
