@@ -6,7 +6,8 @@ use Rattle.std.proofs.lemmas.Option.{slice_get-get_or}
 use Rattle.ygg_base.specs.declared.outside.Moved.TheVariants.{Done, Failed}
 use Rattle.ygg_base_device.specs.declared.image.Stored.{Stored}
 use Rattle.ygg_base_device.specs.declared.image.Place.{Place}
-use Rattle.ygg_base_device.specs.Devices.{Image, Attachment, image_of, block_at, blocks_in, zeros, Reads, Writes, Flushes, OthersStay, AttachedTurns, ImageTurns}
+use Rattle.ygg_base_device.specs.Devices.{Image, Attachment, image_of, block_at, blocks_in, zeros}
+use Rattle.ygg_base_device.specs.Devices.{Reads, Writes, Flushes, OthersStay, AttachedTurns, ImageTurns}
 use Rattle.ygg_base_device.specs.Ram.{
   image_at,
   images_in,
@@ -83,7 +84,8 @@ module _ (Turns : Attachment → (before now : Image) → Type 0) (still : (a : 
       } in
       subst (λ (o : Option Attachment). AttachedTurns Turns o (images_in stored) (images_in stored)) (sym (attachment stored p s here.1)) turns
 
-  attached_still : (attached : Option Place) → AreSeen stored attached → AttachedTurns Turns (attachment_of stored attached) (images_in stored) (images_in stored)
+  attached_still : (attached : Option Place) → AreSeen stored attached →
+      AttachedTurns Turns (attachment_of stored attached) (images_in stored) (images_in stored)
   attached_still None seen = tt
   attached_still (Some p) seen = placed_still p (seen p refl)
 

@@ -1,5 +1,6 @@
 -- Images by their names and by their places.
-use Rattle.std.proofs.Common.{◌≡◌, ◌<◌, ◌≤◌, ◌+◌, ◌*◌, ◌++◌, ℕ, zero, suc, Bool, true, false, List, [], ◌∷◌, Option, Some, None, inl, inr, ◌⊎◌, length, refl, sym, ap, subst, ◌∙◌, arith}
+use Rattle.std.proofs.Common.{◌≡◌, ◌<◌, ◌≤◌, ◌+◌, ◌*◌, ◌++◌, ℕ, zero, suc, Bool, true, false, List, []}
+use Rattle.std.proofs.Common.{◌∷◌, Option, Some, None, inl, inr, ◌⊎◌, length, refl, sym, ap, subst, ◌∙◌, arith}
 use Rattle.std.specs.Prelude.{slice_get, slice_set, slice_index_or, if◌then◌else◌, All, option_map}
 use Rattle.std.specs.Str.{bytes_eq}
 use Rattle.std.proofs.lemmas.List.Elements.{All-set}
@@ -113,7 +114,8 @@ pub attachment : (stored : List Stored) (p : Place) (s : Stored) → slice_get s
     attachment_of stored (Some p) ≡ Some (seen_at p s.name)
 attachment stored p s e = ap (λ o. option_map (λ (s : Stored). seen_at p s.name) o) e
 
-module _ (Turns : Attachment → (before now : Image) → Type 0) (p : Place) (before now : List Stored) (placed : ArePlaced before p) (t : IsTurned Turns p before now) where
+module _ (Turns : Attachment → (before now : Image) → Type 0) (p : Place) (before now : List Stored) (placed : ArePlaced before p)
+    (t : IsTurned Turns p before now) where
   seen : IsSeen before p t.old
   seen = placed.1 t.old t.stands
 

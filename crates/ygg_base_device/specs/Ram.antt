@@ -1,5 +1,6 @@
 -- What a device in memory holds.
-use Rattle.std.specs.Prelude.{◌≡◌, ℕ, zero, suc, ◌+◌, ◌*◌, ◌≤◌, ◌<◌, List, [], ◌∷◌, ◌++◌, length, take, drop, map, Option, None, Some, option_map, slice_get, slice_set, All}
+use Rattle.std.specs.Prelude.{◌≡◌, ℕ, zero, suc, ◌+◌, ◌*◌, ◌≤◌, ◌<◌, List, [], ◌∷◌}
+use Rattle.std.specs.Prelude.{◌++◌, length, take, drop, map, Option, None, Some, option_map, slice_get, slice_set, All}
 use Rattle.ygg_base_device.specs.declared.image.Stored.{Stored}
 use Rattle.ygg_base_device.specs.declared.image.Place.{Place}
 use Rattle.ygg_base_device.specs.Devices.{Image, Attachment, image_of, lost, blocks_in, AttachedTurns, OthersStay}

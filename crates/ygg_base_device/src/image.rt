@@ -1,6 +1,7 @@
 //! Images in memory.
 
-ghost use Rattle.std.specs.Prelude.{◌≡◌, ◌+◌, ◌*◌, ◌<◌, ◌≤◌, ◌^◌, if◌then◌else◌, length, take, drop, replicate, Some, None, IfOk, OnErr, IfSome, IsNone, All, slice_get};
+ghost use Rattle.std.specs.Prelude.{◌≡◌, ◌+◌, ◌*◌, ◌<◌, ◌≤◌, ◌^◌, if◌then◌else◌, length, take};
+ghost use Rattle.std.specs.Prelude.{drop, replicate, Some, None, IfOk, OnErr, IfSome, IsNone, All, slice_get};
 ghost use Rattle.ygg_base_device.specs.Devices.{image_of, blocks_in, block_at, Writes, Flushes, Reads, IsBlock};
 ghost use Rattle.ygg_base_device.specs.Ram.{
   images_in,

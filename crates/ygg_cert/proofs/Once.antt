@@ -205,7 +205,8 @@ no_further goals place count rest (cert.Refused refusal) (inr (next, (more, (may
 no_further goals place count rest cert.Memory ends further = absurd ends
 
 -- at one place one judgement is made
-ends_once : (goals : List Goal) (place : Place) (count : ℕ) (rest : List ℕ) (a b : CertEnd) → Ends goals place count rest a → Ends goals place count rest b → a ≡ b
+ends_once : (goals : List Goal) (place : Place) (count : ℕ) (rest : List ℕ) (a b : CertEnd) → Ends goals place count rest a →
+    Ends goals place count rest b → a ≡ b
 ends_once goals place count rest (cert.Checked m) (cert.Checked n) one two = ap (λ (k : ℕ). cert.Checked k) (one.2 ∙ sym two.2)
 ends_once goals place count rest (cert.Checked m) (cert.Bad name number) one (line, (others, (is, bad))) =
     absurd (subst (λ (p : Place). IsBad p line name number) one.0 bad)
@@ -281,7 +282,8 @@ compared from p q (x ∷ xs) (y ∷ ys) t u (a, (first, rest)) (b, (second, othe
     by_rest (inl (count, here, left)) = inl (ap (λ (n : ℕ). suc n) count, here, left)
     by_rest (inr further) = inr further
 
-pub judged_once : (goals : List Goal) (text : List ℕ) (a b : CertEnd) → (a ≡ cert.Memory → ⊥) → (b ≡ cert.Memory → ⊥) → Judges goals text a → Judges goals text b
+pub judged_once : (goals : List Goal) (text : List ℕ) (a b : CertEnd) → (a ≡ cert.Memory → ⊥) → (b ≡ cert.Memory → ⊥) →
+    Judges goals text a → Judges goals text b
     → a ≡ b
 judged_once goals text a b some_a some_b one two = by_places (made goals text a some_a one) (made goals text b some_b two)
   where

@@ -78,7 +78,8 @@ item_path : (g : Goal) (gs : List Goal) (i : Item) (to : Place) (text : List ℕ
     → Path (Between (g ∷ gs)) to (item_text i ++ text)
 item_path g gs i to text of path =
     subst (λ (x : List ℕ). Path (Between (g ∷ gs)) to x) (sym grouped)
-    (line_path (Between (g ∷ gs)) (Within g.name g.clauses gs) to (opening_line i.name i.clauses) (flat_map step_line i.log ++ (closing_line ++ text)) (opens, refl)
+    (line_path (Between (g ∷ gs)) (Within g.name g.clauses gs) to (opening_line i.name i.clauses) (flat_map step_line i.log ++ (closing_line ++ text))
+    (opens, refl)
     (log_path g.name g.clauses gs to i.log (closing_line ++ text) of.refutes.derives of.may
     (line_path (Within g.name (clauses_after g.clauses i.log) gs) (Between gs) to closing_line text
     (inl (refl, empty_held g.clauses i.log of.refutes.empty, refl)) path)))

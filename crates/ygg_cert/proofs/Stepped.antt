@@ -18,7 +18,8 @@ all_from (x ∷ clause) each =
     All-cons IsLiteral x clause (each x (zero, omega arith, refl)) (all_from clause (λ y has. each y (suc has.0, omega (arith, has.1), has.2)))
 
 -- a clause that is derived has literals of clauses that are named
-resolved : (held : ℕ → List Lit → Type 0) (set : Lit → Type 0) (ids : List ℕ) (clause : List Lit) → ((id : ℕ) (named : List Lit) → held id named → All IsLiteral named) →
+resolved : (held : ℕ → List Lit → Type 0) (set : Lit → Type 0) (ids : List ℕ) (clause : List Lit) →
+    ((id : ℕ) (named : List Lit) → held id named → All IsLiteral named) →
     ((y : Lit) → set y → IsLiteral y) → Resolves held set ids clause
     → All IsLiteral clause
 resolved held set [] clause named each same = all_from clause (λ y has. each y ((same y).1 has))
@@ -40,7 +41,8 @@ one_step : (clauses : List (List Lit)) (step : Step) → All (All IsLiteral) cla
     DerivesClause (HasClause clauses) (chain_of step) (clause_of step)
     → IsStep step
 one_step clauses (Added clause chain) may few derives = record {
-  literals = derived (HasClause clauses) chain clause (λ id named has. All-contains (All IsLiteral) clauses named may (numbered_among clauses id named has)) derives;
+  literals = derived (HasClause clauses) chain clause (λ id named has. All-contains (All IsLiteral) clauses named may
+      (numbered_among clauses id named has)) derives;
   numbers =
       All-weaker (λ id. (0 < id) × (id ≤ length clauses)) IsNumber
       (λ id within. (within.0, omega (arith, within.1, few))) chain (chain_within clauses chain clause derives);
@@ -53,7 +55,8 @@ steps_may clauses (step ∷ log) may few derives =
     let one : IsStep step = one_step clauses step may (omega arith) derives.0 in
     let more : length (clauses ++ clause_of step ∷ []) ≡ length clauses + 1 = length-append clauses (clause_of step ∷ []) in
     All-cons IsStep step log one
-    (steps_may (clauses ++ clause_of step ∷ []) log (All-push (All IsLiteral) clauses (clause_of step) may (literals_in step one)) (omega (arith, more, few)) derives.1)
+    (steps_may (clauses ++ clause_of step ∷ []) log (All-push (All IsLiteral) clauses (clause_of step) may (literals_in step one))
+    (omega (arith, more, few)) derives.1)
   where
     literals_in : (s : Step) → IsStep s → All IsLiteral (clause_of s)
     literals_in s is = is.literals

@@ -47,7 +47,8 @@ last_only b on = (on.more, (on.others, on.is ∙ ap (λ (x : List ℕ). x ++ on.
 
 -- the first line
 first_here : (goals : List Goal) (place : Place) (before bytes : List ℕ) (e f : Expected) (log : LogReading) (passed : ℕ) (h : Heard) →
-    ((l : List ℕ) → IsMatching l before e → Matches l bytes f h) → IsAt goals place before (record { phase = phase.First; line = e; log = log; passed = passed })
+    ((l : List ℕ) → IsMatching l before e → Matches l bytes f h) →
+    IsAt goals place before (record { phase = phase.First; line = e; log = log; passed = passed })
     → Hears goals place bytes (record { phase = phase.First; line = f; log = log; passed = passed }) h
 first_here goals place before bytes e f log passed h matches (here, m, none) =
     exact_hears goals place (Between goals) first_line before bytes e (record { phase = phase.First; line = f; log = log; passed = passed }) h matches m
@@ -72,7 +73,8 @@ opening_here goals place before bytes e f log passed h matches was =
     exact_hears goals place (Within log.name log.checker (drop (passed + 1) goals)) (goal_line was.goal) before bytes e
     (record { phase = phase.Opening; line = f; log = log; passed = passed }) h matches was.line
     (λ b on. goal_only was.goal (drop (passed + 1) goals) b (subst (λ (p : Place). GoesOn p b) was.here on))
-    (subst (λ (p : Place). Leads p (goal_line was.goal) (Within log.name log.checker (drop (passed + 1) goals))) (sym was.here) (refl, to)) (refl, was.log, was.within)
+    (subst (λ (p : Place). Leads p (goal_line was.goal) (Within log.name log.checker (drop (passed + 1) goals))) (sym was.here) (refl, to))
+    (refl, was.log, was.within)
     (λ more. record {
       goal = was.goal;
       here = was.here;
@@ -206,7 +208,8 @@ pub all_behind : (goals : List Goal) (passed : ℕ) → slice_get goals passed �
 all_behind goals passed none within = let past = none_left goals passed none in omega arith
 
 -- after the first line
-pub first_done : (goals : List Goal) (to : Place) (n : Next) → n.phase ≡ phase.First → IsDone goals to n → (to ≡ Between (drop n.passed goals)) × (n.passed ≤ length goals)
+pub first_done : (goals : List Goal) (to : Place) (n : Next) → n.phase ≡ phase.First → IsDone goals to n →
+    (to ≡ Between (drop n.passed goals)) × (n.passed ≤ length goals)
 first_done goals to n is done =
     let d = rw is at done in
     (d.0 ∙ ap (λ (k : ℕ). Between (drop k goals)) (sym d.1), omega (arith, d.1))

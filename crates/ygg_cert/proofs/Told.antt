@@ -64,7 +64,8 @@ log_cut goals place bytes log passed here at =
     subst (λ (p : Place). IsFront p bytes) (sym here) (line_cut log (drop (passed + 1) goals) bytes at)
 
 -- a text that ends too early
-cut_at : (goals : List Goal) (text : List ℕ) (r : Reading) (on : IsOn goals text r) → IsFront on.place on.bytes → IsCutAt goals text (short_after r.lines r.column)
+cut_at : (goals : List Goal) (text : List ℕ) (r : Reading) (on : IsOn goals text r) → IsFront on.place on.bytes →
+    IsCutAt goals text (short_after r.lines r.column)
 cut_at goals text r on cut = record {
   place = on.place;
   count = r.lines;
@@ -108,7 +109,8 @@ pub fed_so_far : (goals : List Goal) (text : List ℕ) (r : Reading) → IsFed g
 fed_so_far goals text r was = so_far_by goals text r.next.phase r.next.line r.next.log r.next.passed r.lines r.column was
 
 -- what is said of a text that is refused, or whole
-refused_cut : (goals : List Goal) (text : List ℕ) (refusal : Refusal) (end : CertEnd) → IsCutAt goals text refusal → IsRefusal refusal end → Judges goals text end
+refused_cut : (goals : List Goal) (text : List ℕ) (refusal : Refusal) (end : CertEnd) → IsCutAt goals text refusal → IsRefusal refusal end →
+    Judges goals text end
 refused_cut goals text refusal (cert.Checked count) cut says = absurd says
 refused_cut goals text refusal (cert.Bad name number) cut says = absurd says
 refused_cut goals text refusal (cert.Refused said) cut says = inr (subst (λ (x : Refusal). IsCutAt goals text x) (sym says) cut)

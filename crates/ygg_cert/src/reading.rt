@@ -176,7 +176,8 @@ impl Reading {
     }
 }
 
-/// What is said of a text of which all is read: in which phase, in the log of which name, after how many goals and lines, and how many bytes of the line after them.
+/// What is said of a text of which all is read: in which phase, in the log of which name, after how many goals and lines, and how many
+/// bytes of the line after them.
 fn told(phase: Phase, name: Text, passed: usize, lines: u32, bytes: u32) -> CertEnd
     ensures { Tells phase name passed lines bytes result }
 {

@@ -7,7 +7,8 @@ use ygg_base::{Refusal, Text};
 pub enum CertEnd {
     /// It is a certificate for all of so many goals.
     Checked(u32),
-    /// In the log of the goal of this name, the clause of this number isn't derived by its chain; or, with the number 0, the log ends and no empty clause is held.
+    /// In the log of the goal of this name, the clause of this number isn't derived by its chain; or, with the number 0, the log ends and
+    /// no empty clause is held.
     Bad { name: Text, id: u64 },
     /// It is refused: 21 where its first line is another, 22 where a line is another than the one that may stand there, 24 where it ends too early.
     Refused(Refusal),

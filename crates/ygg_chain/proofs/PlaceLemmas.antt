@@ -1,5 +1,6 @@
 -- Places of variables, and what stands for a literal.
-use Rattle.std.proofs.Common.{◌≡◌, ℕ, ◌<◌, ◌+◌, true, List, [], ◌∷◌, ◌++◌, length, map, get_or, take, ◌↔◌, position, Contains, All, Some, ⊎_elim, refl, sym, ap, subst, ◌∙◌, arith, nat_eq, slice_get, length-append, Result, Ok, Err, OnOk, OnErr}
+use Rattle.std.proofs.Common.{◌≡◌, ℕ, ◌<◌, ◌+◌, true, List, [], ◌∷◌, ◌++◌, length, map, get_or, take, ◌↔◌, position, Contains}
+use Rattle.std.proofs.Common.{All, Some, ⊎_elim, refl, sym, ap, subst, ◌∙◌, arith, nat_eq, slice_get, length-append, Result, Ok, Err, OnOk, OnErr}
 use Rattle.std.specs.List.{IsDistinct as IsDistinctBy}
 use Rattle.std.proofs.lemmas.Bool.{eqb-false, eqb-true, cases_lt}
 use Rattle.std.proofs.lemmas.List.Quantifiers.{position-Some}

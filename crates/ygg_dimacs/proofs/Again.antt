@@ -1,5 +1,6 @@
 -- The text of clauses is read as the same clauses.
-use Rattle.std.proofs.Common.{◌≡◌, ℕ, suc, ◌+◌, ◌^◌, ◌<◌, ◌≤◌, Bool, true, false, List, [], ◌∷◌, ◌++◌, append_assoc, length, length-append, All, Some, Ok, map, refl, sym, ap, ◌∙◌, subst, arith}
+use Rattle.std.proofs.Common.{◌≡◌, ℕ, suc, ◌+◌, ◌^◌, ◌<◌, ◌≤◌, Bool, true, false, List, [], ◌∷◌}
+use Rattle.std.proofs.Common.{◌++◌, append_assoc, length, length-append, All, Some, Ok, map, refl, sym, ap, ◌∙◌, subst, arith}
 use Rattle.std.specs.Prelude.{◌==◌, ◌||◌, if◌then◌else◌, codes}
 use Rattle.std.specs.List.{list_all, slice_split}
 use Rattle.std.specs.Fmt.{decimal}
@@ -13,7 +14,7 @@ use Rattle.ygg_cnf.specs.declared.lit.Lit.{Lit}
 use Rattle.ygg_cnf.specs.Literals.{once, with_literals, with_literal, IsOnce}
 use Rattle.ygg_cnf.proofs.Once.{once_is_kept}
 use Rattle.ygg_log_text.specs.Lines.{literal_word, literal_words, clause_line}
-use Rattle.ygg_dimacs.specs.Places.{Place, Line, Word, place, word_at}
+use Rattle.ygg_dimacs.specs.Places.{TextPlace, Line, TextWord, place, word_at}
 use Rattle.ygg_dimacs.specs.Lines.{numbered, pieces_of, is_last, is_passed_over, content_of, end_from}
 use Rattle.ygg_dimacs.specs.Words.{words_among, words_from, words_of_all}
 use Rattle.ygg_dimacs.specs.Numbers.{literal}
@@ -111,7 +112,7 @@ body_words variables n column x xs fit =
     (literal_some x (omega (arith, fit.few)))
 
 -- they are read as the clause
-clause_read : (variables : ℕ) (end : Place) (left : ℕ) (part xs : List Lit) (n column : ℕ) (ws : List Word) → All (IsFit variables) xs →
+clause_read : (variables : ℕ) (end : TextPlace) (left : ℕ) (part xs : List Lit) (n column : ℕ) (ws : List TextWord) → All (IsFit variables) xs →
     clauses_in variables end (suc left) part (words_from n column (body xs) ++ ws)
     ≡ after_clauses (with_literals part xs ∷ []) (clauses_in variables end left [] ws)
 clause_read variables end left part [] n column ws all =
@@ -122,13 +123,13 @@ clause_read variables end left part (x ∷ xs) n column ws all =
     let fit = All-head (IsFit variables) x xs all in
     let some_var : (x.var == 0) ≡ false = let s = fit.some in grind (arith, nat_tests) in
     let next : ℕ = column + length (literal_word x) + 1 in
-    let first : Word = word_at n column (literal_word x) in
-    let others : List Word = words_from n next (body xs) ++ ws in
+    let first : TextWord = word_at n column (literal_word x) in
+    let others : List TextWord = words_from n next (body xs) ++ ws in
     let here : clauses_in variables end (suc left) part (word_at n column (literal_word x) ∷ (words_from n next (body xs) ++ ws))
     ≡ clauses_in variables end (suc left) (with_literal part x) (words_from n next (body xs) ++ ws) =
     next_word variables end left part first others ∙ ap (by_literal variables end left part first others) (literal_again variables x fit.within fit.few)
     ∙ by_some variables end left part first others x some_var in
-    ap (λ (v : List Word). clauses_in variables end (suc left) part (v ++ ws)) (body_words variables n column x xs fit)
+    ap (λ (v : List TextWord). clauses_in variables end (suc left) part (v ++ ws)) (body_words variables n column x xs fit)
     ∙ here
     ∙ clause_read variables end left (with_literal part x) xs n next ws (All-tail (IsFit variables) x xs all)
 
@@ -137,7 +138,7 @@ lines_more : (xs : List Lit) (others : List ℕ) → clause_line xs ++ others �
 lines_more xs others = simp append_assoc
 
 -- are read as the clauses
-lines_read : (variables : ℕ) (end : Place) (k : ℕ) (cs : List (List Lit)) → All (All (IsFit variables)) cs →
+lines_read : (variables : ℕ) (end : TextPlace) (k : ℕ) (cs : List (List Lit)) → All (All (IsFit variables)) cs →
     clauses_in variables end (length cs) [] (words_of_all (content_of (numbered k (pieces_of (clause_lines cs))))) ≡ Ok (map once cs)
 lines_read variables end k [] all = refl
 lines_read variables end k (xs ∷ cs) all =
@@ -229,7 +230,7 @@ again c p =
     ap pieces_of (head_line c.variables n (clause_lines c.clauses))
     ∙ slice_split_at (λ b. b == 10) h 10 (clause_lines c.clauses) (head_bytes c.variables n (omega arith) (omega arith)) refl in
     let rest : List Line = numbered 2 (pieces_of (clause_lines c.clauses)) in
-    let read : (end : Place) → cnf_in (line 1 h ∷ content_of rest) end ≡ Ok (cnf c.variables (map once c.clauses)) = λ end.
+    let read : (end : TextPlace) → cnf_in (line 1 h ∷ content_of rest) end ≡ Ok (cnf c.variables (map once c.clauses)) = λ end.
     header_step (line 1 h) (content_of rest) end
     ∙ ap (by_header (line 1 h) (content_of rest) end) (head_again c.variables n v (omega arith))
     ∙ ap (over c.variables) (lines_read c.variables end 2 c.clauses (all_fit c.variables c.clauses v p.numbered p.within)) in

@@ -1,5 +1,6 @@
 -- The clauses that are read have variables from 1 on.
-use Rattle.std.proofs.Common.{◌≡◌, ℕ, zero, suc, ◌<◌, Bool, true, false, List, [], ◌∷◌, ◌++◌, All, Option, Some, None, Result, Ok, Err, refl, sym, ◌∙◌, subst, arith}
+use Rattle.std.proofs.Common.{◌≡◌, ℕ, zero, suc, ◌<◌, Bool, true, false, List, [], ◌∷◌, ◌++◌}
+use Rattle.std.proofs.Common.{All, Option, Some, None, Result, Ok, Err, refl, sym, ◌∙◌, subst, arith}
 use Rattle.std.specs.Prelude.{◌==◌, if◌then◌else◌, IfOk}
 use Rattle.std.specs.List.{list_any}
 use Rattle.std.proofs.lemmas.Bool.Decides.{nat_tests}
@@ -10,9 +11,9 @@ use Rattle.ygg_cnf.specs.declared.lit.Lit.{Lit}
 use Rattle.ygg_cnf.specs.Literals.{is_same, with_literal}
 use Rattle.ygg_dimacs.specs.declared.cnf.Cnf.{Cnf}
 use Rattle.ygg_dimacs.specs.declared.header.Header.{Header}
-use Rattle.ygg_dimacs.specs.declared.flaw.Flaw.TheVariants as flaw
+use Rattle.ygg_dimacs.specs.declared.flaw.ClausesFlaw.TheVariants as flaw
 use Rattle.ygg_dimacs.specs.Flaws.{refusal_at}
-use Rattle.ygg_dimacs.specs.Places.{Place, Line, Word, place}
+use Rattle.ygg_dimacs.specs.Places.{TextPlace, Line, TextWord, place}
 use Rattle.ygg_dimacs.specs.Lines.{content_of, end_from}
 use Rattle.ygg_dimacs.specs.Numbers.{literal_in}
 use Rattle.ygg_dimacs.specs.Headers.{header_in}
@@ -38,7 +39,7 @@ joined part (Ok others) cs all rest is =
     subst (λ (x : List (List Lit)). All (All Numbered) x) same (All-cons (All Numbered) part others all (rest others refl))
 joined part (Err e) cs all rest is = absurd (cc is)
 
-numbered_in : (variables : ℕ) (end : Place) (left : ℕ) (part : List Lit) (ws : List Word) (cs : List (List Lit)) → All Numbered part →
+numbered_in : (variables : ℕ) (end : TextPlace) (left : ℕ) (part : List Lit) (ws : List TextWord) (cs : List (List Lit)) → All Numbered part →
     clauses_in variables end left part ws ≡ Ok cs → All (All Numbered) cs
 numbered_in variables end zero part [] cs all is =
     let none : cs ≡ [] = cc is in subst (λ (x : List (List Lit)). All (All Numbered) x) (sym none) (All-nil (All Numbered))
@@ -69,18 +70,18 @@ clauses_over variables (Ok cs) c all is =
 clauses_over variables (Err e) c all is = absurd (cc is)
 
 -- what the first line that counts gives, by the header that it is
-abbrev pub by_header : Line → List Line → Place → Option Header → Read Cnf
+abbrev pub by_header : Line → List Line → TextPlace → Option Header → Read Cnf
 by_header first ls end None = Err (refusal_at flaw.Header first.number 1)
 by_header first ls end (Some h) = after_header h ls end
 
-pub header_step : (first : Line) (ls : List Line) (end : Place) → cnf_in (first ∷ ls) end ≡ by_header first ls end (header_in first.bytes)
+pub header_step : (first : Line) (ls : List Line) (end : TextPlace) → cnf_in (first ∷ ls) end ≡ by_header first ls end (header_in first.bytes)
 header_step first ls end = by_case (header_in first.bytes) refl
   where
     by_case : (h : Option Header) → header_in first.bytes ≡ h → cnf_in (first ∷ ls) end ≡ by_header first ls end (header_in first.bytes)
     by_case None e = rw (e, cnf_in, by_header) refl
     by_case (Some h) e = rw (e, cnf_in, by_header) refl
 
-by_lines : (ls : List Line) (end : Place) (c : Cnf) → cnf_in ls end ≡ Ok c → All (All Numbered) c.clauses
+by_lines : (ls : List Line) (end : TextPlace) (c : Cnf) → cnf_in ls end ≡ Ok c → All (All Numbered) c.clauses
 by_lines [] end c is = absurd (cc is)
 by_lines (first ∷ ls) end c is = by_case (header_in first.bytes) (sym (header_step first ls end) ∙ is)
   where

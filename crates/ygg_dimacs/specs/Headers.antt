@@ -3,7 +3,7 @@ use Rattle.std.specs.Prelude.{ℕ, ◌&&◌, if◌then◌else◌, List, [], ◌�
 use Rattle.std.specs.Option.{option_map}
 use Rattle.std.specs.Str.{bytes_eq}
 use Rattle.ygg_dimacs.specs.declared.header.Header.{Header}
-use Rattle.ygg_dimacs.specs.Places.{Word}
+use Rattle.ygg_dimacs.specs.Places.{TextWord}
 use Rattle.ygg_dimacs.specs.Words.{words_from}
 use Rattle.ygg_dimacs.specs.Numbers.{number_in}
 
@@ -27,7 +27,7 @@ header_by p cnf variables clauses =
     else None
 
 -- the header that four words are
-abbrev pub header_of : List Word → Option Header
+abbrev pub header_of : List TextWord → Option Header
 header_of (p ∷ cnf ∷ variables ∷ clauses ∷ []) = header_by p.bytes cnf.bytes variables.bytes clauses.bytes
 header_of _ = None
 

@@ -2,7 +2,7 @@
 use Rattle.std.specs.Prelude.{ℕ, ◌+◌, Bool, false, not, ◌==◌, ◌||◌, if◌then◌else◌, List, [], ◌∷◌, filter, take_while, length}
 use Rattle.std.specs.List.{list_all, slice_split}
 use Rattle.ygg_base.specs.Lexing.{is_blank}
-use Rattle.ygg_dimacs.specs.Places.{Place, Line, place}
+use Rattle.ygg_dimacs.specs.Places.{TextPlace, Line, place}
 
 -- whether bytes begin with this one
 abbrev pub begins : ℕ → List ℕ → Bool
@@ -32,6 +32,6 @@ content_of ls = filter (λ l. not (is_passed_over l.bytes)) (take_while (λ l. n
 
 -- The end of what is read, where what stands before these lines ended at a place: the beginning of the first line that isn't read, or else the place after
 -- the last line.
-abbrev pub end_from : Place → List Line → Place
+abbrev pub end_from : TextPlace → List Line → TextPlace
 end_from end [] = end
 end_from end (l ∷ ls) = if is_last l then place l.number 1 else end_from (place l.number (length l.bytes + 1)) ls

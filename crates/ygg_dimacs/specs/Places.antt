@@ -2,12 +2,12 @@
 use Rattle.std.specs.Prelude.{ℕ, List}
 
 -- a place: a line, and a column in it, counted from 1 by line feeds and bytes
-pub record Place : Type 0 where
+pub record TextPlace : Type 0 where
   pub line : ℕ
   pub column : ℕ
 
 -- the place in this line and column
-abbrev pub place : ℕ → ℕ → Place
+abbrev pub place : ℕ → ℕ → TextPlace
 place line column = record { line = line; column = column }
 
 -- a line with its number
@@ -16,11 +16,11 @@ pub record Line : Type 0 where
   pub bytes : List ℕ
 
 -- a word with the place of its first byte
-pub record Word : Type 0 where
+pub record TextWord : Type 0 where
   pub line : ℕ
   pub column : ℕ
   pub bytes : List ℕ
 
 -- the word of these bytes at this place
-abbrev pub word_at : ℕ → ℕ → List ℕ → Word
+abbrev pub word_at : ℕ → ℕ → List ℕ → TextWord
 word_at line column bytes = record { line = line; column = column; bytes = bytes }

@@ -6,10 +6,10 @@ use Rattle.ygg_base.specs.declared.failure.Refuse.TheVariants.{At, Memory}
 use Rattle.ygg_cnf.specs.declared.lit.Lit.{Lit}
 use Rattle.ygg_cnf.specs.Literals.{with_literal}
 use Rattle.ygg_dimacs.specs.declared.cnf.Cnf.{Cnf}
-use Rattle.ygg_dimacs.specs.declared.flaw.Flaw.TheVariants.{Header, Number, Count}
+use Rattle.ygg_dimacs.specs.declared.flaw.ClausesFlaw.TheVariants.{Header, Number, Count}
 use Rattle.ygg_dimacs.specs.declared.header.Header as head
 use Rattle.ygg_dimacs.specs.Flaws.{refusal_at}
-use Rattle.ygg_dimacs.specs.Places.{Place, Line, Word, place}
+use Rattle.ygg_dimacs.specs.Places.{TextPlace, Line, TextWord, place}
 use Rattle.ygg_dimacs.specs.Lines.{numbered, pieces_of, content_of, end_from}
 use Rattle.ygg_dimacs.specs.Words.{words_of_all}
 use Rattle.ygg_dimacs.specs.Numbers.{literal_in}
@@ -32,7 +32,7 @@ after_clauses done (Err refusal) = Err refusal
 
 -- The clauses that words are, as many as are still to end, the first of which goes on from these literals. A literal is kept once in its clause, and the
 -- number 0 ends the clause. A word that is no literal is refused, and a word after the last clause, and the end of the words before it.
-abbrev pub clauses_in : ℕ → Place → ℕ → List Lit → List Word → Read (List (List Lit))
+abbrev pub clauses_in : ℕ → TextPlace → ℕ → List Lit → List TextWord → Read (List (List Lit))
 clauses_in variables end zero part [] = Ok []
 clauses_in variables end zero part (w ∷ ws) = Err (refusal_at Count w.line w.column)
 clauses_in variables end (suc left) part [] = Err (refusal_at Count end.line end.column)
@@ -53,11 +53,11 @@ over variables (Ok clauses) = Ok (cnf variables clauses)
 over variables (Err refusal) = Err refusal
 
 -- what the lines after a header give
-abbrev pub after_header : head.Header → List Line → Place → Read Cnf
+abbrev pub after_header : head.Header → List Line → TextPlace → Read Cnf
 after_header h ls end = over h.variables (clauses_in h.variables end h.clauses [] (words_of_all ls))
 
 -- what lines that count give, the first of which is to be the header
-abbrev pub cnf_in : List Line → Place → Read Cnf
+abbrev pub cnf_in : List Line → TextPlace → Read Cnf
 cnf_in [] end = Err (refusal_at Header end.line end.column)
 cnf_in (first ∷ ls) end = elim (header_in first.bytes) [
   | None ↦ Err (refusal_at Header first.number 1)

@@ -5,7 +5,7 @@ use ygg_base::Refusal;
 
 /// Why a text of clauses is refused.
 #[derive(Clone, Copy, PartialEq, Eq, Drop)]
-pub enum Flaw {
+pub enum ClausesFlaw {
     /// The first line that counts isn't the header, or there is none.
     Header,
     /// A word isn't a number of digits within the header's number of variables.
@@ -14,15 +14,15 @@ pub enum Flaw {
     Count,
 }
 
-impl Flaw {
+impl ClausesFlaw {
     /// The number that a refusal gives for it.
     pub fn number(self) -> u8
         ensures { result ≡ number_of self }
     {
         match self {
-            Flaw::Header => 61,
-            Flaw::Number => 62,
-            Flaw::Count => 63,
+            ClausesFlaw::Header => 61,
+            ClausesFlaw::Number => 62,
+            ClausesFlaw::Count => 63,
         }
     }
 

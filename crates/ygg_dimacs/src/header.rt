@@ -5,7 +5,7 @@ ghost use Rattle.ygg_dimacs.specs.Headers.{header_by, header_of, header_in, most
 ghost use Rattle.ygg_dimacs.specs.Left.{left_words, word_of};
 
 use crate::numbers::number_in;
-use crate::places::{Line, Onward, Word};
+use crate::places::{Line, Onward, TextWord};
 use crate::words::next_word;
 
 /// The greatest number of variables that a text may state.

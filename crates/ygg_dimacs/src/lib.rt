@@ -22,7 +22,7 @@ mod reading;
 mod words;
 
 pub use cnf::Cnf;
-pub use flaw::Flaw;
+pub use flaw::ClausesFlaw;
 pub use law::printed_is_read;
 pub use printing::{print_cnf, put_header};
 pub use reading::read_cnf;

@@ -8,7 +8,7 @@ ghost use Rattle.ygg_dimacs.specs.Lines.{begins, is_passed_over};
 ghost use Rattle.ygg_dimacs.specs.Left.{left_lines, IsNextLine, IsNextContent, IsNoContent};
 
 use crate::cutting::{cut_line, is_blank};
-use crate::places::{Line, Place, Rest};
+use crate::places::{Line, TextPlace, TextRest};
 
 /// Whether the bytes begin with this one.
 fn begins(bytes: &[u8], mark: u8) -> bool
@@ -35,7 +35,7 @@ fn is_passed_over(bytes: &[u8]) -> bool
 }
 
 /// The first line that is left, and what is left after it.
-fn next_line(at: Rest<'_>) -> Option<(Line<'_>, Rest<'_>)>
+fn next_line(at: TextRest<'_>) -> Option<(Line<'_>, TextRest<'_>)>
     ensures next { MatchOption result (left_lines at.entry ≡ []) (λ x. IsNextLine at.entry x.0 x.1) }
     ensures smaller { MatchOption result (at.entry.bytes ≡ None) (λ x. left_size x.1.bytes < left_size at.entry.bytes) }
 {
@@ -48,7 +48,7 @@ fn next_line(at: Rest<'_>) -> Option<(Line<'_>, Rest<'_>)>
     match more {
         Some(others) => Some((
             line,
-            Rest {
+            TextRest {
                 bytes: Some(others),
                 line: at.line + 1,
                 column: 1,
@@ -56,7 +56,7 @@ fn next_line(at: Rest<'_>) -> Option<(Line<'_>, Rest<'_>)>
         )),
         None => Some((
             line,
-            Rest {
+            TextRest {
                 bytes: None,
                 line: at.line,
                 column: first.len() as u32 + 1,
@@ -66,14 +66,14 @@ fn next_line(at: Rest<'_>) -> Option<(Line<'_>, Rest<'_>)>
 }
 
 /// The first line that counts, and what is left after it; or the end of what is read, where no line that counts is left.
-pub fn next_content(at: Rest<'_>) -> Result<(Line<'_>, Rest<'_>), Place>
+pub fn next_content(at: TextRest<'_>) -> Result<(Line<'_>, TextRest<'_>), TextPlace>
     ensures next { MatchResult result (λ x. IsNextContent at.entry x.0 x.1) (IsNoContent at.entry) }
     ensures smaller { IfOk result (λ x. left_size x.1.bytes < left_size at.entry.bytes) }
 {
     let mut left = at;
     while let Some((line, after)) = next_line(left) {
         if begins(line.bytes, b'%') {
-            return Err(Place {
+            return Err(TextPlace {
                 line: line.number,
                 column: 1,
             });
@@ -84,7 +84,7 @@ pub fn next_content(at: Rest<'_>) -> Result<(Line<'_>, Rest<'_>), Place>
             return Ok((line, after));
         }
     }
-    Err(Place {
+    Err(TextPlace {
         line: left.line,
         column: left.column,
     })

@@ -5,7 +5,7 @@ ghost use Rattle.ygg_dimacs.specs.Sizes.{left_size};
 
 /// A place: line and column, counted from 1.
 #[derive(Clone, Copy)]
-pub struct Place {
+pub struct TextPlace {
     /// The line.
     pub line: u32,
     /// The column.
@@ -24,7 +24,7 @@ pub struct Line<'a> {
 
 /// A word with the place of its first byte.
 #[derive(Clone, Copy)]
-pub struct Word<'a> {
+pub struct TextWord<'a> {
     /// Its bytes.
     pub bytes: &'a [u8],
     /// Its line.
@@ -35,7 +35,7 @@ pub struct Word<'a> {
 
 /// What is left of a text: the lines of these bytes from a number on, or none after the place at which the text has ended.
 #[derive(Clone, Copy)]
-pub struct Rest<'a> {
+pub struct TextRest<'a> {
     /// The bytes, where lines are left.
     pub bytes: Option<&'a [u8]>,
     /// The number of the first line that is left, or the line of the end.

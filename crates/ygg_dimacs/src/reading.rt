@@ -1,7 +1,7 @@
 //! From a text to its clauses.
 
 ghost use Rattle.std.specs.Prelude.{◌≡◌, ◌<◌, ◌≤◌, ◌+◌, [], ◌∷◌, ◌++◌, Some, length, All, IfOk, OnOk};
-ghost use Rattle.ygg_dimacs.specs.Places.{Word as a_word};
+ghost use Rattle.ygg_dimacs.specs.Places.{TextWord as a_word};
 ghost use Rattle.ygg_dimacs.specs.Headers.{most_variables};
 ghost use Rattle.ygg_dimacs.specs.Numbers.{literal_in as literal_of};
 ghost use Rattle.ygg_dimacs.specs.Words.{words_of_all};
@@ -10,12 +10,12 @@ ghost use Rattle.ygg_dimacs.specs.Left.{left_content, left_end, left_words, word
 ghost use Rattle.ygg_dimacs.specs.States.{IsReady, Goes, Takes, TakesAll};
 
 use crate::cnf::Cnf;
-use crate::flaw::Flaw;
+use crate::flaw::ClausesFlaw;
 use crate::header::{Header, header_in};
 use crate::lines::next_content;
 use crate::marks::{clear, include};
 use crate::numbers::literal_in;
-use crate::places::{Line, Onward, Place, Rest, Word};
+use crate::places::{Line, Onward, TextPlace, TextRest, TextWord};
 use crate::words::next_word;
 use std::alloc::Global;
 use std::mem;
@@ -73,15 +73,15 @@ fn take_literal(state: &mut State, literal: Lit) -> Result<(), NoMemory>
 }
 
 /// Takes the next word.
-fn take_word(state: &mut State, word: Word<'_>) -> Result<(), Refuse>
+fn take_word(state: &mut State, word: TextWord<'_>) -> Result<(), Refuse>
     requires { IsReady state.old }
     ensures { Takes state.old (word_of word.entry ∷ []) state.new result }
 {
     if state.left == 0 {
-        return Err(Refuse::At(Flaw::Count.at(word.line, word.column)));
+        return Err(Refuse::At(ClausesFlaw::Count.at(word.line, word.column)));
     }
     let Some(literal) = literal_in(word.bytes, state.variables) else {
-        return Err(Refuse::At(Flaw::Number.at(word.line, word.column)));
+        return Err(Refuse::At(ClausesFlaw::Number.at(word.line, word.column)));
     };
     match take_literal(state, literal) {
         Ok(()) => Ok(()),
@@ -103,7 +103,7 @@ fn take_words(state: &mut State, at: Onward<'_>) -> Result<(), Refuse>
 }
 
 /// Takes the lines that are left, and gives the end of what is read.
-fn take_lines(state: &mut State, rest: Rest<'_>) -> Result<Place, Refuse>
+fn take_lines(state: &mut State, rest: TextRest<'_>) -> Result<TextPlace, Refuse>
     requires { IsReady state.old }
     ensures { TakesAll state.old (words_of_all (left_content rest.entry)) (left_end rest.entry) state.new result }
 {
@@ -127,7 +127,7 @@ fn take_lines(state: &mut State, rest: Rest<'_>) -> Result<Place, Refuse>
 }
 
 /// The clauses of the lines after a header.
-fn read_clauses(alloc: Global, header: Header, rest: Rest<'_>) -> Result<Clauses, Refuse>
+fn read_clauses(alloc: Global, header: Header, rest: TextRest<'_>) -> Result<Clauses, Refuse>
     requires { header.variables ≤ most_variables }
     ensures { Gives (λ x. x) result (clauses_in header.variables (left_end rest.entry) header.clauses [] (words_of_all (left_content rest.entry))) }
 {
@@ -144,7 +144,7 @@ fn read_clauses(alloc: Global, header: Header, rest: Rest<'_>) -> Result<Clauses
         Err(refuse) => return Err(refuse),
     };
     if state.left > 0 {
-        return Err(Refuse::At(Flaw::Count.at(end.line, end.column)));
+        return Err(Refuse::At(ClausesFlaw::Count.at(end.line, end.column)));
     }
     let State { done, .. } = state;
     Ok(done)
@@ -155,7 +155,7 @@ fn read_text(alloc: Global, text: &[u8]) -> Result<Cnf, Refuse>
     requires { length text.now ≤ 67108864 }
     ensures { Gives (λ x. x) result (cnf_of text.now) }
 {
-    let start = Rest {
+    let start = TextRest {
         bytes: Some(text),
         line: 1,
         column: 1,
@@ -169,9 +169,9 @@ fn read_text(alloc: Global, text: &[u8]) -> Result<Cnf, Refuse>
                     clauses,
                 })
             }
-            None => Err(Refuse::At(Flaw::Header.at(first.number, 1))),
+            None => Err(Refuse::At(ClausesFlaw::Header.at(first.number, 1))),
         },
-        Err(end) => Err(Refuse::At(Flaw::Header.at(end.line, end.column))),
+        Err(end) => Err(Refuse::At(ClausesFlaw::Header.at(end.line, end.column))),
     }
 }
 

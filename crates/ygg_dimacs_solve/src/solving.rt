@@ -28,7 +28,8 @@ fn put_undecided<K: Sink>(alloc: Global, sink: &mut K) -> Status
 
 /// Solves clauses within a budget of learned clauses, and puts what comes of it: `satisfiable` and the true literal of each variable, or `unsatisfiable` and
 /// the log that refutes the clauses, with status 0; or `undecided` with status 3, where the whole budget was spent. Long texts are put piece by piece. The
-/// other ends are a fault of the sink and out of memory, after which a front of such a text may have been put. The memory of the clauses that are handed over is
+/// other ends are a fault of the sink and out of memory, after which a front of such a text may have been put. The memory of the clauses
+/// that are handed over is
 /// given back before the search begins.
 pub fn solve_cnf<K: Sink>(alloc: Global, cnf: Cnf, budget: u32, sink: &mut K) -> Status
     requires budget { 0 < budget }

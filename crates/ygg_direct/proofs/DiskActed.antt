@@ -4,11 +4,11 @@ use Rattle.ygg_syntax.specs.declared.tree.DiskText.{DiskText}
 use Rattle.ygg_base.specs.declared.geometry.DiskKind.{DiskKind}
 use Rattle.ygg_base.specs.declared.geometry.DiskKind.TheVariants.{Sync, Async}
 use Rattle.ygg_disk.specs.Disk as disk
-use Rattle.ygg_meaning.specs.Environments.{Env}
-use Rattle.ygg_meaning.specs.Progress.{Answer}
-use Rattle.ygg_meaning.specs.Machine.{Picks, State, based}
+use Rattle.ygg_type_sound.specs.Environments.{Env}
+use Rattle.ygg_type_sound.specs.Progress.{Answer}
+use Rattle.ygg_type_sound.specs.Machine.{Picks, State, based}
 use Rattle.ygg_disk.specs.Kinds.{model_of}
-use Rattle.ygg_meaning.specs.DiskMachine.{answer_to, tables_in, DiskMachine}
+use Rattle.ygg_type_sound.specs.DiskMachine.{answer_to, tables_in, DiskMachine}
 use Rattle.ygg_direct.specs.Acts.{next_of, later, Taken, Did, Fell, noted_picks, IsActed}
 use Rattle.ygg_direct.specs.DiskActs.{Replied, Dropped, kind_calls, kind_falls, state_in, disk_does, disk_drops, disk_acts}
 

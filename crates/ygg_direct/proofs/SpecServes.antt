@@ -27,15 +27,15 @@ use Rattle.ygg_syntax.specs.declared.grammar.BlockKind.TheVariants.{Impl}
 use Rattle.ygg_syntax.specs.declared.tree.Block.{Block}
 use Rattle.ygg_syntax.specs.declared.tree.Operation.{Operation}
 use Rattle.ygg_symbols.specs.Names.{Named, look_up}
-use Rattle.ygg_type_rules.specs.declared.scope.Signature.{Signature}
-use Rattle.ygg_type_rules.specs.Definitions.{parameter_shapes}
-use Rattle.ygg_type_rules.specs.Layers.{operation_signature}
-use Rattle.ygg_meaning.specs.Environments.{Name, Env, bind}
-use Rattle.ygg_meaning.specs.Shapes.{values_fit}
-use Rattle.ygg_meaning.specs.Progress.{Question, Call, Answer}
-use Rattle.ygg_meaning.specs.Machine.{Picks, State, based}
-use Rattle.ygg_meaning.specs.Layer.{ClosedLayer, eval_of, operation_of}
-use Rattle.ygg_meaning.specs.Spec.{chosen, outcome_at, block_outcome, then_block, call_outcome, fall_with, Spec}
+use Rattle.ygg_type_sound.specs.Signature.{Signature}
+use Rattle.ygg_type_sound.specs.Definitions.{parameter_shapes}
+use Rattle.ygg_type_sound.specs.Layers.{operation_signature}
+use Rattle.ygg_type_sound.specs.Environments.{Name, Env, bind}
+use Rattle.ygg_type_sound.specs.MeaningShapes.{values_fit}
+use Rattle.ygg_type_sound.specs.Progress.{Question, Call, Answer}
+use Rattle.ygg_type_sound.specs.Machine.{Picks, State, based}
+use Rattle.ygg_type_sound.specs.Layer.{ClosedLayer, eval_of, operation_of}
+use Rattle.ygg_type_sound.specs.Spec.{chosen, outcome_at, block_outcome, then_block, call_outcome, fall_with, Spec}
 use Rattle.ygg_type_sound.specs.Fitting.{all_fit}
 use Rattle.ygg_type_progress.specs.Questions.{answer_fits, question_fits}
 use Rattle.ygg_type_progress.specs.Machines.{IsStateOf, SpecAnswers}

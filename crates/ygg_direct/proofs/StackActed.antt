@@ -4,14 +4,14 @@ use Rattle.std.proofs.lemmas.List.{append-nil}
 use Rattle.ygg_value.specs.declared.row.Value.{Value}
 use Rattle.ygg_syntax.specs.declared.tree.DiskText.{DiskText}
 use Rattle.ygg_disk.specs.Disk as disk
-use Rattle.ygg_meaning.specs.Environments.{Name, Env, bind}
-use Rattle.ygg_meaning.specs.Progress.{Answer}
-use Rattle.ygg_meaning.specs.Machine.{Picks, State, based, Machine}
-use Rattle.ygg_meaning.specs.Layer.{ClosedLayer, Layered, operation_of}
+use Rattle.ygg_type_sound.specs.Environments.{Name, Env, bind}
+use Rattle.ygg_type_sound.specs.Progress.{Answer}
+use Rattle.ygg_type_sound.specs.Machine.{Picks, State, based, Machine}
+use Rattle.ygg_type_sound.specs.Layer.{ClosedLayer, Layered, operation_of}
 use Rattle.ygg_disk.specs.Kinds.{model_of}
-use Rattle.ygg_meaning.specs.DiskMachine.{answer_to, tables_in}
-use Rattle.ygg_histories.specs.Stack.{Layers, Stacked}
-use Rattle.ygg_histories.specs.Noted.{Note, picks_in, NotedDisk}
+use Rattle.ygg_type_sound.specs.DiskMachine.{answer_to, tables_in}
+use Rattle.ygg_type_progress.specs.Stack.{Layers, Stacked}
+use Rattle.ygg_type_progress.specs.Noted.{Note, picks_in, NotedDisk}
 use Rattle.ygg_direct.specs.Acts.{Taken, Did, Acts, Notes, AreCalls}
 use Rattle.ygg_direct.specs.DiskActs.{Replied, kind_calls}
 use Rattle.ygg_direct.specs.StackActs.{noted_does, noted_acts, layer_does, stack_acts, StacksDirectly}

@@ -30,15 +30,15 @@ use Rattle.ygg_syntax.specs.declared.tree.Block.{Block}
 use Rattle.ygg_syntax.specs.declared.tree.DiskText.{DiskText}
 use Rattle.ygg_syntax.specs.declared.tree.Operation.{Operation}
 use Rattle.ygg_disk.specs.Disk as disk
-use Rattle.ygg_meaning.specs.Environments.{Name, Env, bind}
-use Rattle.ygg_meaning.specs.Progress.{Question, Choice, Call, Answer, Ends}
-use Rattle.ygg_meaning.specs.Machine.{Picks, State, based, on, memory_in, Machine}
-use Rattle.ygg_meaning.specs.Runs.{FallenRun, FallsAt, answers_of, notes_of}
-use Rattle.ygg_meaning.specs.Layer.{ClosedLayer, Layered, operation_of, dialogue_of, BlockFalls}
+use Rattle.ygg_type_sound.specs.Environments.{Name, Env, bind}
+use Rattle.ygg_type_sound.specs.Progress.{Question, Choice, Call, Answer, Ends}
+use Rattle.ygg_type_sound.specs.Machine.{Picks, State, based, on, memory_in, Machine}
+use Rattle.ygg_type_sound.specs.Runs.{FallenRun, FallsAt, answers_of, notes_of}
+use Rattle.ygg_type_sound.specs.Layer.{ClosedLayer, Layered, operation_of, dialogue_of, BlockFalls}
 use Rattle.ygg_disk.specs.Kinds.{model_of}
-use Rattle.ygg_meaning.specs.DiskMachine.{disk_call, answer_to, tables_in}
-use Rattle.ygg_meaning.specs.Obligations.{Halt}
-use Rattle.ygg_histories.specs.Stack.{Layers, Stacked}
+use Rattle.ygg_type_sound.specs.DiskMachine.{disk_call, answer_to, tables_in}
+use Rattle.ygg_type_sound.specs.Obligations.{Halt}
+use Rattle.ygg_type_progress.specs.Stack.{Layers, Stacked}
 use Rattle.ygg_direct.specs.Direct.{Handled, Event, Reached, told_by, Chained}
 use Rattle.ygg_direct.specs.Acts.{Taken, Took, under, Did, Fell, Acts, Notes, AreCalls, Standing, serve, run_from, runs}
 use Rattle.ygg_direct.specs.Places.{left_after}

@@ -3,12 +3,12 @@ use Rattle.std.proofs.Common.{◌≡◌, Bool, true, false, ◌++◌, length, ap
 use Rattle.ygg_syntax.specs.declared.grammar.BlockKind.TheVariants.{Impl}
 use Rattle.ygg_syntax.specs.declared.tree.Block.{Block}
 use Rattle.ygg_symbols.specs.Names.{Named}
-use Rattle.ygg_type_rules.specs.declared.scope.Signature.{Signature}
-use Rattle.ygg_type_rules.specs.Files.{disk_operations}
-use Rattle.ygg_meaning.specs.Environments.{Env}
-use Rattle.ygg_meaning.specs.Layer.{ClosedLayer, dialogue_of}
-use Rattle.ygg_meaning.specs.DiskMachine.{DiskMachine}
-use Rattle.ygg_meaning.specs.Spec.{Spec}
+use Rattle.ygg_type_sound.specs.Signature.{Signature}
+use Rattle.ygg_type_sound.specs.Files.{disk_operations}
+use Rattle.ygg_type_sound.specs.Environments.{Env}
+use Rattle.ygg_type_sound.specs.Layer.{ClosedLayer, dialogue_of}
+use Rattle.ygg_type_sound.specs.DiskMachine.{DiskMachine}
+use Rattle.ygg_type_sound.specs.Spec.{Spec}
 use Rattle.ygg_type_progress.specs.Questions.{answer_fits, question_fits}
 use Rattle.ygg_type_progress.specs.Machines.{IsSized, IsStateOf}
 use Rattle.ygg_type_progress.proofs.Files.{have}

@@ -8,10 +8,10 @@ use Rattle.ygg_syntax.specs.declared.tree.DiskText.{DiskText}
 use Rattle.ygg_base.specs.declared.geometry.DiskKind.{DiskKind}
 use Rattle.ygg_base.specs.declared.geometry.DiskKind.TheVariants.{Sync, Async}
 use Rattle.ygg_disk.specs.Disk as disk
-use Rattle.ygg_meaning.specs.Environments.{Env}
-use Rattle.ygg_meaning.specs.Machine.{Picks, State, based}
+use Rattle.ygg_type_sound.specs.Environments.{Env}
+use Rattle.ygg_type_sound.specs.Machine.{Picks, State, based}
 use Rattle.ygg_disk.specs.Kinds.{model_of}
-use Rattle.ygg_meaning.specs.DiskMachine.{disk_call, answer_to, tables_in}
+use Rattle.ygg_type_sound.specs.DiskMachine.{disk_call, answer_to, tables_in}
 use Rattle.ygg_direct.specs.Acts.{next_of, later, Did, Fell, Acts}
 
 -- what a call does on a disk of the states S: its reply, the state after it, the picks that it takes and those that are left

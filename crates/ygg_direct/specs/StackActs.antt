@@ -4,14 +4,14 @@ use Rattle.ygg_value.specs.declared.row.Value.{Value}
 use Rattle.ygg_syntax.specs.declared.tree.DiskText.{DiskText}
 use Rattle.ygg_syntax.specs.declared.tree.Operation.{Operation}
 use Rattle.ygg_disk.specs.Disk as disk
-use Rattle.ygg_meaning.specs.Environments.{Name, Env, bind}
-use Rattle.ygg_meaning.specs.Progress.{Answer}
-use Rattle.ygg_meaning.specs.Machine.{Picks, State, based}
-use Rattle.ygg_meaning.specs.Layer.{ClosedLayer, operation_of}
+use Rattle.ygg_type_sound.specs.Environments.{Name, Env, bind}
+use Rattle.ygg_type_sound.specs.Progress.{Answer}
+use Rattle.ygg_type_sound.specs.Machine.{Picks, State, based}
+use Rattle.ygg_type_sound.specs.Layer.{ClosedLayer, operation_of}
 use Rattle.ygg_disk.specs.Kinds.{model_of}
-use Rattle.ygg_meaning.specs.DiskMachine.{disk_call, answer_to, tables_in}
-use Rattle.ygg_histories.specs.Stack.{Layers, Stacked}
-use Rattle.ygg_histories.specs.Noted.{Note, picks_in, NotedDisk}
+use Rattle.ygg_type_sound.specs.DiskMachine.{disk_call, answer_to, tables_in}
+use Rattle.ygg_type_progress.specs.Stack.{Layers, Stacked}
+use Rattle.ygg_type_progress.specs.Noted.{Note, picks_in, NotedDisk}
 use Rattle.ygg_direct.specs.Acts.{Did, Fell, Acts, Taken, runs}
 use Rattle.ygg_direct.specs.DiskActs.{kind_calls, kind_falls, state_in}
 

@@ -42,12 +42,12 @@ use Rattle.ygg_value.specs.declared.shape.Shape.{Shape}
 use Rattle.ygg_syntax_count.specs.Weights.{weights_of, weight_at, expr_weight}
 use Rattle.ygg_syntax_count.proofs.Searched.{Searched, begun, other as searched_other, found as searched_found}
 use Rattle.ygg_symbols.specs.Names.{Named, look_up, has, added}
-use Rattle.ygg_type_rules.specs.declared.scope.Signature.{Signature}
-use Rattle.ygg_type_rules.specs.TypeErrors.{none}
-use Rattle.ygg_type_rules.specs.Shapes.{shape_of}
-use Rattle.ygg_type_rules.specs.Scopes.{Scope, with_local}
-use Rattle.ygg_type_rules.specs.Expressions.{typing, wanted}
-use Rattle.ygg_type_rules.specs.Definitions.{
+use Rattle.ygg_type_sound.specs.Signature.{Signature}
+use Rattle.ygg_type_sound.specs.TypeErrors.{none}
+use Rattle.ygg_type_sound.specs.Shapes.{shape_of}
+use Rattle.ygg_type_sound.specs.Scopes.{Scope, with_local}
+use Rattle.ygg_type_sound.specs.Expressions.{typing, wanted}
+use Rattle.ygg_type_sound.specs.Definitions.{
   with_parameter,
   with_parameters,
   definition_signature,
@@ -57,8 +57,8 @@ use Rattle.ygg_type_rules.specs.Definitions.{
   with_definitions,
   definitions_errors,
 }
-use Rattle.ygg_meaning.specs.Environments.{nothing, bind}
-use Rattle.ygg_meaning.specs.Meaning.{value_with, functions_from, functions_of}
+use Rattle.ygg_type_sound.specs.Environments.{nothing, bind}
+use Rattle.ygg_type_sound.specs.Meaning.{value_with, functions_from, functions_of}
 use Rattle.ygg_type_sound.proofs.Tests.{left, right, bytes_same, bytes_equal}
 use Rattle.ygg_type_sound.proofs.Names.{still_found, look_up_append, added_new, or_else, absent}
 use Rattle.ygg_type_sound.proofs.Definitions.{DefinitionParts, definition_parts, called, body_agrees, definitions_meet}

@@ -6,7 +6,7 @@ use Rattle.ygg_value.specs.Number.{Digits, Grid}
 use Rattle.ygg_value.specs.Values.{word_in}
 use Rattle.ygg_value.specs.declared.row.Value.{Value}
 use Rattle.ygg_value.specs.declared.row.Value.TheVariants.{Word, Row, Table}
-use Rattle.ygg_meaning.specs.Shapes.{fits}
+use Rattle.ygg_type_sound.specs.MeaningShapes.{fits}
 use Rattle.ygg_type_sound.proofs.Tests.{left}
 use Rattle.ygg_eval_expr.specs.Writing.{shape_led_to, CanWrite}
 

@@ -40,10 +40,10 @@ use Rattle.ygg_value.specs.Values.{word_in}
 use Rattle.ygg_value.specs.Shapes.{Within}
 use Rattle.ygg_value.specs.declared.row.Value.{Value}
 use Rattle.ygg_symbols.specs.Names.{look_up}
-use Rattle.ygg_type_rules.specs.declared.scope.Signature.{Signature}
-use Rattle.ygg_type_rules.specs.Shapes.{word_shape}
-use Rattle.ygg_type_rules.specs.Expressions.{with_number as typing_number}
-use Rattle.ygg_meaning.specs.Meaning.{functions_of, row_of, filled}
+use Rattle.ygg_type_sound.specs.Signature.{Signature}
+use Rattle.ygg_type_sound.specs.Shapes.{word_shape}
+use Rattle.ygg_type_sound.specs.Expressions.{with_number as typing_number}
+use Rattle.ygg_type_sound.specs.Meaning.{functions_of, row_of, filled}
 use Rattle.ygg_type_sound.specs.Fitting.{all_fit}
 use Rattle.ygg_type_sound.proofs.Rules.{is_equality, Operands}
 use Rattle.ygg_type_sound.proofs.Lists.{IsWordOf, RowParts}

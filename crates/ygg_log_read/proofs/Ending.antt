@@ -10,7 +10,7 @@ use Rattle.ygg_cnf.specs.declared.log.Step.TheVariants.{Added}
 use Rattle.ygg_log_text.specs.Lines.{literal_word, literal_words, number_words, step_line}
 use Rattle.ygg_log_read.specs.declared.spot.Spot.{Spot}
 use Rattle.ygg_log_read.specs.declared.spot.Spot.TheVariants as spot
-use Rattle.ygg_log_read.specs.declared.spot.Turn.TheVariants as turn
+use Rattle.ygg_log_read.specs.declared.spot.SpotTurn.TheVariants as turn
 use Rattle.ygg_log_read.specs.declared.reader.StepReader.{StepReader}
 use Rattle.ygg_log_read.specs.Steps.{IsNumber, IsLiteral, IsStep, HasStep, BeginsStep}
 use Rattle.ygg_log_read.specs.Spots.{IsSpot, front_of, GoesOn, Leads, Turns}

@@ -29,7 +29,7 @@ use Rattle.std.proofs.lemmas.List.{append-nil, take_more}
 use Rattle.ygg_cnf.specs.declared.lit.Lit.{Lit}
 use Rattle.ygg_log_read.specs.declared.spot.Spot.{Spot}
 use Rattle.ygg_log_read.specs.declared.spot.Spot.TheVariants as spot
-use Rattle.ygg_log_read.specs.declared.spot.Turn.TheVariants as turn
+use Rattle.ygg_log_read.specs.declared.spot.SpotTurn.TheVariants as turn
 use Rattle.ygg_log_read.specs.declared.reader.StepReader.{StepReader}
 use Rattle.ygg_log_read.specs.Spots.{Turns}
 use Rattle.ygg_log_read.specs.Reading.{IsReading}

@@ -1,12 +1,13 @@
 -- Where each byte leads.
-use Rattle.std.proofs.Common.{◌≡◌, ℕ, ◌+◌, ◌-◌, ◌*◌, ◌^◌, ◌<◌, ◌≤◌, ◌⊎◌, inl, inr, Bool, true, false, List, [], ◌∷◌, ◌++◌, refl, sym, ap, ◌∙◌, append_assoc, arith}
+use Rattle.std.proofs.Common.{◌≡◌, ℕ, ◌+◌, ◌-◌, ◌*◌, ◌^◌, ◌<◌, ◌≤◌, ◌⊎◌, inl, inr, Bool}
+use Rattle.std.proofs.Common.{true, false, List, [], ◌∷◌, ◌++◌, refl, sym, ap, ◌∙◌, append_assoc, arith}
 use Rattle.std.specs.Prelude.{codes}
 use Rattle.std.specs.Fmt.{decimal}
 use Rattle.std.proofs.lemmas.List.{append-nil}
 use Rattle.ygg_cnf.specs.declared.lit.Lit.{Lit}
 use Rattle.ygg_log_text.specs.Lines.{literal_word, literal_words, number_words}
 use Rattle.ygg_log_read.specs.declared.spot.Spot.TheVariants as spot
-use Rattle.ygg_log_read.specs.declared.spot.Turn.TheVariants as turn
+use Rattle.ygg_log_read.specs.declared.spot.SpotTurn.TheVariants as turn
 use Rattle.ygg_log_read.specs.Steps.{IsNumber}
 use Rattle.ygg_log_read.specs.Spots.{Turns, After, EndsNumber, BeginsNumbers, BeginsLiterals}
 use Rattle.ygg_log_read.proofs.Decimals.{decimal_one, decimal_more}
@@ -103,7 +104,8 @@ literal_first b above below = record {
   where
     on : (bytes : List ℕ) → BeginsLiterals (b ∷ bytes) → EndsNumber (decimal (b - 48)) BeginsLiterals bytes
     on bytes begins =
-        (first_digit BeginsLiterals b bytes (other_one (other_one (literals_on b bytes begins) (λ zero. let e = zero.0 in omega arith)) (λ minus. let e = minus.0 in omega arith))).2
+        (first_digit BeginsLiterals b bytes (other_one (other_one (literals_on b bytes begins) (λ zero. let e = zero.0 in omega arith))
+        (λ minus. let e = minus.0 in omega arith))).2
 
 pub literal_digit : (b m : ℕ) → 48 < b → b < 58 → m ≡ b - 48 → Turns spot.Literal b (turn.To (spot.Variable false m))
 literal_digit b m above below e = rw e (literal_first b above below)
@@ -228,7 +230,8 @@ pub digits_digit : (n m b : ℕ) → IsNumber n → 48 ≤ b → b < 58 → m �
 digits_digit n m b is low high e small =
     let whole : 10 * n + (b - 48) < 2 ^ 64 = omega arith in
     let turns : Turns (spot.Digits n) b (turn.To (spot.Digits (10 * n + (b - 48)))) = record {
-      front = λ clause chain bare. ap (λ (x : List ℕ). codes "c " ++ literal_words clause ++ codes "0 " ++ number_words chain ++ x) (decimal_more n b is.0 low high whole)
+      front = λ clause chain bare. ap (λ (x : List ℕ). codes "c " ++ literal_words clause ++ codes "0 " ++ number_words chain ++ x)
+          (decimal_more n b is.0 low high whole)
           ∙ sym (append_assoc (codes "c " ++ literal_words clause ++ codes "0 " ++ number_words chain) (decimal n) (b ∷ []));
       bare = λ clause chain bare. tt;
       on = λ bytes. digit_on BeginsNumbers n b bytes is low;

@@ -3,11 +3,11 @@ use Rattle.std.specs.Prelude.{ℕ, zero, suc, ◌≤◌, List, ◌++◌, length,
 use Rattle.ygg_cnf.specs.declared.lit.Lit.{Lit}
 use Rattle.ygg_log_read.specs.declared.numbers.Among.{Among}
 use Rattle.ygg_log_read.specs.declared.numbers.Among.TheVariants as among
-use Rattle.ygg_log_read.specs.declared.numbers.Run.{Run}
+use Rattle.ygg_log_read.specs.declared.numbers.NumberRun.{NumberRun}
 use Rattle.ygg_log_read.specs.declared.reader.StepReader.{StepReader}
 use Rattle.ygg_log_read.specs.declared.spot.Spot.{Spot}
 use Rattle.ygg_log_read.specs.declared.spot.Spot.TheVariants as spot
-use Rattle.ygg_log_read.specs.declared.spot.Turn.TheVariants as turn
+use Rattle.ygg_log_read.specs.declared.spot.SpotTurn.TheVariants as turn
 use Rattle.ygg_log_read.specs.Spots.{Turns}
 use Rattle.ygg_log_read.specs.Reading.{IsReading}
 
@@ -32,5 +32,5 @@ pub record IsRun (piece : List ℕ) (old new : StepReader) (count : ℕ) : Type 
   pub reading : (before : List ℕ) → IsReading before old → IsReading (before ++ take count piece) new
 
 -- the bytes of a run lead from the digits of the one number, after these numbers, to those of the other
-abbrev pub Runs : List ℕ → ℕ → List ℕ → List ℕ → Run → Type 0
+abbrev pub Runs : List ℕ → ℕ → List ℕ → List ℕ → NumberRun → Type 0
 Runs piece number old new run = (clause : List Lit) → IsRun piece (reader_at number clause old) (reader_at run.number clause new) run.count

@@ -3,8 +3,8 @@ use Rattle.std.specs.Prelude.{◌≡◌, ℕ, List, ◌++◌}
 use Rattle.ygg_cnf.specs.declared.log.Step.TheVariants.{Added}
 use Rattle.ygg_log_text.specs.Lines.{step_line}
 use Rattle.ygg_log_read.specs.declared.reader.StepReader.{StepReader}
-use Rattle.ygg_log_read.specs.declared.reader.Heard.{Heard}
-use Rattle.ygg_log_read.specs.declared.reader.Heard.TheVariants.{More, Whole, Wrong}
+use Rattle.ygg_log_read.specs.declared.reader.StepHeard.{StepHeard}
+use Rattle.ygg_log_read.specs.declared.reader.StepHeard.TheVariants.{More, Whole, Wrong}
 use Rattle.ygg_log_read.specs.Steps.{IsStep, HasStep, BeginsStep}
 use Rattle.ygg_log_read.specs.Spots.{IsSpot, IsBare, front_of, GoesOn}
 
@@ -17,7 +17,7 @@ pub record IsReading (bytes : List ℕ) (reader : StepReader) : Type 0 where
   pub may : IsStep (Added reader.clause reader.chain)
 
 -- what is said of these bytes: they can be continued, they are the line of the reader's step, or they can't be continued to a line
-abbrev pub Hears : List ℕ → StepReader → Heard → Type 0
+abbrev pub Hears : List ℕ → StepReader → StepHeard → Type 0
 Hears bytes reader More = IsReading bytes reader
 Hears bytes reader Whole = IsStep (Added reader.clause reader.chain) × (bytes ≡ step_line (Added reader.clause reader.chain))
 Hears bytes reader Wrong = BeginsStep bytes → ⊥

@@ -6,8 +6,8 @@ use Rattle.ygg_cnf.specs.declared.log.Step.TheVariants.{Added}
 use Rattle.ygg_log_text.specs.Lines.{literal_word, literal_words, number_words, step_line}
 use Rattle.ygg_log_read.specs.declared.spot.Spot.{Spot}
 use Rattle.ygg_log_read.specs.declared.spot.Spot.TheVariants as spot
-use Rattle.ygg_log_read.specs.declared.spot.Turn.{Turn}
-use Rattle.ygg_log_read.specs.declared.spot.Turn.TheVariants as turn
+use Rattle.ygg_log_read.specs.declared.spot.SpotTurn.{SpotTurn}
+use Rattle.ygg_log_read.specs.declared.spot.SpotTurn.TheVariants as turn
 use Rattle.ygg_log_read.specs.Steps.{IsNumber, IsLiteral}
 
 -- the number whose digits are being read is one that a line may have
@@ -92,13 +92,14 @@ GoesOn spot.End bytes = After 10 (λ rest. Unit {0}) bytes
 -- The byte leads from a place, after literals and numbers, to a place after others: what stands before the one and the byte stand before the other, and what
 -- goes on from the one with this byte goes on from the other.
 pub record Leads (from : Spot) (byte : ℕ) (to : Spot) (grow : List Lit → List Lit) (reach : List ℕ → List ℕ) : Type 0 where
-  pub front : (clause : List Lit) (chain : List ℕ) → IsBare from clause chain → front_of to (grow clause) (reach chain) ≡ front_of from clause chain ++ byte ∷ []
+  pub front : (clause : List Lit) (chain : List ℕ) → IsBare from clause chain →
+      front_of to (grow clause) (reach chain) ≡ front_of from clause chain ++ byte ∷ []
   pub bare : (clause : List Lit) (chain : List ℕ) → IsBare from clause chain → IsBare to (grow clause) (reach chain)
   pub on : (bytes : List ℕ) → GoesOn from (byte ∷ bytes) → GoesOn to bytes
   pub is : IsSpot to
 
 -- what the byte does at the place
-abbrev pub Turns : Spot → ℕ → Turn → Type 0
+abbrev pub Turns : Spot → ℕ → SpotTurn → Type 0
 Turns from byte (turn.To to) = Leads from byte to (λ clause. clause) (λ chain. chain)
 Turns from byte (turn.Literal x) = IsLiteral x × Leads from byte spot.Literal (λ clause. clause ++ x ∷ []) (λ chain. chain)
 Turns from byte (turn.Number n) = IsNumber n × Leads from byte spot.Number (λ clause. clause) (λ chain. chain ++ n ∷ [])

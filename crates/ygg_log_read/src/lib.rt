@@ -6,4 +6,4 @@ mod numbers;
 mod reader;
 mod spot;
 
-pub use reader::{Heard, StepReader};
+pub use reader::{StepHeard, StepReader};

@@ -19,7 +19,7 @@ pub enum Among {
 
 /// How many bytes are read, and the number in whose digits the reading stands: 0 where it stands before the next number.
 #[derive(Clone, Copy)]
-pub struct Run {
+pub struct NumberRun {
     pub count: usize,
     pub number: u64,
 }
@@ -58,7 +58,11 @@ pub fn spot_of(number: u64) -> Spot
 
 /// Reads the first bytes of a piece, as far as they are digits and the spaces after numbers. The numbers that end come to the chain. Its only error is out of
 /// memory.
-pub fn read_numbers(chain: &mut Sequence<u64>, first: u64, piece: &[u8]) -> Result<Run, NoMemory>
+pub fn read_numbers(
+    chain: &mut Sequence<u64>,
+    first: u64,
+    piece: &[u8],
+) -> Result<NumberRun, NoMemory>
     ensures { IfOk result (Runs piece.now first chain.old chain.new) }
 {
     let mut number = first;
@@ -70,9 +74,9 @@ pub fn read_numbers(chain: &mut Sequence<u64>, first: u64, piece: &[u8]) -> Resu
                 chain.push(whole)?;
                 number = 0;
             }
-            Among::Other => return Ok(Run { count, number }),
+            Among::Other => return Ok(NumberRun { count, number }),
         }
         count += 1;
     }
-    Ok(Run { count, number })
+    Ok(NumberRun { count, number })
 }

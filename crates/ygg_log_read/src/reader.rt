@@ -5,14 +5,14 @@ ghost use Rattle.ygg_log_read.specs.Numbers.{IsRun};
 ghost use Rattle.ygg_log_read.specs.Reading.{IsReading, Hears};
 
 use crate::numbers::{read_numbers, spot_of};
-use crate::spot::{Spot, Turn, turn_at};
+use crate::spot::{Spot, SpotTurn, turn_at};
 use std::alloc::Global;
 use ygg_cnf::{Clause, Lit};
 use ygg_list::{NoMemory, Sequence};
 
 /// What the reader says of a byte.
 #[derive(Clone, Copy)]
-pub enum Heard {
+pub enum StepHeard {
     /// The bytes so far can be continued to a line.
     More,
     /// They are a line.
@@ -69,26 +69,26 @@ impl StepReader {
     }
 
     /// Reads a byte. Its only error is out of memory, after which the reader is of no use.
-    pub fn read(&mut self, byte: u8) -> Result<Heard, NoMemory>
+    pub fn read(&mut self, byte: u8) -> Result<StepHeard, NoMemory>
         ensures { (before : List ℕ) → IsReading before self.old → IfOk result (Hears (before ++ byte ∷ []) self.new) }
     {
         match turn_at(self.spot, byte) {
-            Turn::To(spot) => {
+            SpotTurn::To(spot) => {
                 self.spot = spot;
-                Ok(Heard::More)
+                Ok(StepHeard::More)
             }
-            Turn::Literal(lit) => {
+            SpotTurn::Literal(lit) => {
                 self.clause.push(lit)?;
                 self.spot = Spot::Literal;
-                Ok(Heard::More)
+                Ok(StepHeard::More)
             }
-            Turn::Number(number) => {
+            SpotTurn::Number(number) => {
                 self.chain.push(number)?;
                 self.spot = Spot::Number;
-                Ok(Heard::More)
+                Ok(StepHeard::More)
             }
-            Turn::Whole => Ok(Heard::Whole),
-            Turn::Wrong => Ok(Heard::Wrong),
+            SpotTurn::Whole => Ok(StepHeard::Whole),
+            SpotTurn::Wrong => Ok(StepHeard::Wrong),
         }
     }
 }

@@ -30,7 +30,7 @@ pub enum Spot {
 
 /// What a byte does there.
 #[derive(Clone, Copy)]
-pub enum Turn {
+pub enum SpotTurn {
     /// It leads on.
     To(Spot),
     /// It ends a literal.
@@ -55,31 +55,31 @@ pub fn longer(number: u64, byte: u8) -> Option<u64>
 }
 
 /// Where a byte leads in the digits of a literal's variable.
-fn in_variable(negated: bool, number: u64, byte: u8) -> Turn
+fn in_variable(negated: bool, number: u64, byte: u8) -> SpotTurn
     ensures { 0 < number → Turns (Spot.Variable negated number) byte result }
 {
     if byte == b' ' {
-        return Turn::Literal(Lit {
+        return SpotTurn::Literal(Lit {
             var: number,
             negated,
         });
     }
     match longer(number, byte) {
-        Some(number) => Turn::To(Spot::Variable { negated, number }),
-        None => Turn::Wrong,
+        Some(number) => SpotTurn::To(Spot::Variable { negated, number }),
+        None => SpotTurn::Wrong,
     }
 }
 
 /// Where a byte leads in the digits of the number of a clause.
-fn in_number(number: u64, byte: u8) -> Turn
+fn in_number(number: u64, byte: u8) -> SpotTurn
     ensures { 0 < number → Turns (Spot.Digits number) byte result }
 {
     if byte == b' ' {
-        return Turn::Number(number);
+        return SpotTurn::Number(number);
     }
     match longer(number, byte) {
-        Some(number) => Turn::To(Spot::Digits { number }),
-        None => Turn::Wrong,
+        Some(number) => SpotTurn::To(Spot::Digits { number }),
+        None => SpotTurn::Wrong,
     }
 }
 
@@ -95,71 +95,75 @@ fn first_digit(byte: u8) -> Option<u64>
 }
 
 /// Where a byte leads before a literal.
-fn at_literal(byte: u8) -> Turn
+fn at_literal(byte: u8) -> SpotTurn
     ensures { Turns Spot.Literal byte result }
 {
     if byte == b'-' {
-        return Turn::To(Spot::Minus);
+        return SpotTurn::To(Spot::Minus);
     }
     if byte == b'0' {
-        return Turn::To(Spot::Middle);
+        return SpotTurn::To(Spot::Middle);
     }
     match first_digit(byte) {
-        Some(number) => Turn::To(Spot::Variable {
+        Some(number) => SpotTurn::To(Spot::Variable {
             negated: false,
             number,
         }),
-        None => Turn::Wrong,
+        None => SpotTurn::Wrong,
     }
 }
 
 /// Where a byte leads after the `-` of a literal.
-fn after_minus(byte: u8) -> Turn
+fn after_minus(byte: u8) -> SpotTurn
     ensures { Turns Spot.Minus byte result }
 {
     match first_digit(byte) {
-        Some(number) => Turn::To(Spot::Variable {
+        Some(number) => SpotTurn::To(Spot::Variable {
             negated: true,
             number,
         }),
-        None => Turn::Wrong,
+        None => SpotTurn::Wrong,
     }
 }
 
 /// Where a byte leads before the number of a clause.
-fn at_number(byte: u8) -> Turn
+fn at_number(byte: u8) -> SpotTurn
     ensures { Turns Spot.Number byte result }
 {
     if byte == b'0' {
-        return Turn::To(Spot::End);
+        return SpotTurn::To(Spot::End);
     }
     match first_digit(byte) {
-        Some(number) => Turn::To(Spot::Digits { number }),
-        None => Turn::Wrong,
+        Some(number) => SpotTurn::To(Spot::Digits { number }),
+        None => SpotTurn::Wrong,
     }
 }
 
 /// Where a byte leads that must be this one.
-fn only(byte: u8, wanted: u8, turn: Turn) -> Turn
+fn only(byte: u8, wanted: u8, turn: SpotTurn) -> SpotTurn
     ensures same { byte ≡ wanted → result ≡ turn }
-    ensures other { (byte ≡ wanted → ⊥) → result ≡ Turn.Wrong }
+    ensures other { (byte ≡ wanted → ⊥) → result ≡ SpotTurn.Wrong }
 {
-    if byte == wanted { turn } else { Turn::Wrong }
+    if byte == wanted {
+        turn
+    } else {
+        SpotTurn::Wrong
+    }
 }
 
 /// Where a byte leads.
-pub fn turn_at(spot: Spot, byte: u8) -> Turn
+pub fn turn_at(spot: Spot, byte: u8) -> SpotTurn
     ensures { IsSpot spot → Turns spot byte result }
 {
     match spot {
-        Spot::Begin => only(byte, b'c', Turn::To(Spot::Opened)),
-        Spot::Opened => only(byte, b' ', Turn::To(Spot::Literal)),
+        Spot::Begin => only(byte, b'c', SpotTurn::To(Spot::Opened)),
+        Spot::Opened => only(byte, b' ', SpotTurn::To(Spot::Literal)),
         Spot::Literal => at_literal(byte),
         Spot::Minus => after_minus(byte),
         Spot::Variable { negated, number } => in_variable(negated, number, byte),
-        Spot::Middle => only(byte, b' ', Turn::To(Spot::Number)),
+        Spot::Middle => only(byte, b' ', SpotTurn::To(Spot::Number)),
         Spot::Number => at_number(byte),
         Spot::Digits { number } => in_number(number, byte),
-        Spot::End => only(byte, b'\n', Turn::Whole),
+        Spot::End => only(byte, b'\n', SpotTurn::Whole),
     }
 }

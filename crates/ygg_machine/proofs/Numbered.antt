@@ -12,7 +12,7 @@ use Rattle.ygg_histories.specs.Noted.{Note}
 use Rattle.ygg_histories.specs.Stack.{Layers, Stacked, layers_on, layers_of, tables_of}
 use Rattle.ygg_eval_lower.specs.Layers.{closed_at, variables_from, variables_at}
 use Rattle.ygg_eval_lower.specs.Lower.{Cause}
-use Rattle.ygg_eval_spec.proofs.OnSpec.{layer_variables}
+use Rattle.ygg_eval.proofs.OnSpec.{layer_variables}
 use Rattle.ygg_machine.specs.GroundSteps.{ground_machine}
 use Rattle.ygg_machine.specs.Floors.{idle_on}
 use Rattle.ygg_machine.specs.FloorStacks.{layer_there}

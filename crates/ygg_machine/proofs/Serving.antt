@@ -23,7 +23,7 @@ use Rattle.ygg_eval_lower.specs.Layers.{closed_at, signatures_at}
 use Rattle.ygg_eval_lower.specs.Lower.{Standing, Meaning, Ending, Whole, Down, Failed, Starved, AfterWhole, GivesWhole, Serves, Called, IsCallable}
 use Rattle.ygg_eval_block.specs.Runs.{RunEnds, Finished}
 use Rattle.ygg_eval_block.specs.declared.run.Ended.{Ended}
-use Rattle.ygg_eval_spec.proofs.OnSpec.{AsksSpec, asks_spec}
+use Rattle.ygg_eval.proofs.OnSpec.{AsksSpec, asks_spec}
 use Rattle.ygg_machine.specs.Floors.{Raised, lower_of, place_of, RunsOn, FitsFloor, floor_meaning}
 use Rattle.ygg_machine.proofs.Typing.{implementation_gives}
 

@@ -42,7 +42,7 @@ use Rattle.ygg_eval_lower.specs.declared.body.Part.TheVariants as part
 use Rattle.ygg_eval_lower.specs.Bodies.{arguments_in, IsBlock, IsRunnable}
 use Rattle.ygg_eval_lower.specs.Lower.{Standing, Meaning, Ending, Whole, Down, Failed, Starved, AfterWhole, Serves}
 use Rattle.ygg_eval_block.specs.declared.run.Ended.{Ended}
-use Rattle.ygg_eval_spec.proofs.OnSpec.{there}
+use Rattle.ygg_eval.proofs.OnSpec.{there}
 use Rattle.ygg_machine.specs.Commands.{HasTick}
 use Rattle.ygg_machine.specs.Floors.{
   Raised,

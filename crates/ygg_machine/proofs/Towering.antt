@@ -21,7 +21,7 @@ use Rattle.ygg_machine.specs.FloorStacks.{run_lasts, layer_there}
 use Rattle.ygg_machine.specs.Commands.{Command, formatting, waking, ticking, IsTickAt, HasTick}
 use Rattle.ygg_machine.specs.Towers.{Rooted, floor_rooted, StandsOn, Tells, IsTower, CommandEnds, FormatEnds, StillStands, LosesPower}
 use Rattle.ygg_machine.proofs.Beginning.{Joins, formatting_joins, waking_joins, begun_kept, under_down, under_failed, under_starved, then_ends}
-use Rattle.ygg_eval_spec.proofs.OnSpec.{there as element}
+use Rattle.ygg_eval.proofs.OnSpec.{there as element}
 use Rattle.ygg_machine.proofs.Telling.{kept_told}
 use Rattle.ygg_machine.proofs.Typing.{tick_found}
 use Rattle.ygg_machine.proofs.Ticking.{ticks_here, ticks_under}

@@ -95,7 +95,7 @@ use Rattle.ygg_eval_lower.specs.Layers.{closed_at, signatures_at}
 use Rattle.ygg_eval_lower.specs.Lower.{Standing, Meaning}
 use Rattle.ygg_eval_lower.proofs.Blocks.{LayerAt, bind_fits, blocks_kept, layer_typing}
 use Rattle.ygg_eval_block.specs.Runs.{Finished}
-use Rattle.ygg_eval_spec.proofs.Values.{bound_fits}
+use Rattle.ygg_eval.proofs.Values.{bound_fits}
 use Rattle.ygg_machine.specs.Floors.{memory_at}
 use Rattle.ygg_machine.specs.Zeros.{AreShapes, zero_values}
 

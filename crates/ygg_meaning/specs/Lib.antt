@@ -1,3 +1,13 @@
+pub use Rattle.ygg_disk.specs.Kinds
+pub use Rattle.ygg_disk.specs.Disk
+pub use Rattle.ygg_syntax.specs.declared.tree.TypeText
+pub use Rattle.ygg_syntax.specs.declared.tree.Declared
+pub use Rattle.ygg_syntax.specs.declared.tree.Quantifier
+pub use Rattle.ygg_syntax.specs.declared.tree.Numeral
+pub use Rattle.ygg_syntax.specs.declared.tree.Name
+pub use Rattle.ygg_syntax.specs.declared.tree.Place
+pub use Rattle.ygg_syntax.specs.declared.tree.Expr
+pub use Rattle.ygg_syntax.specs.declared.tree.Def
 pub mod Environments
 pub mod Meaning
 pub mod Shapes

@@ -107,7 +107,8 @@ from_rest given x xs cs (inr none) never = inr (λ value keeps both. go value ke
   go value keeps rest (inr there) = none value keeps (there, rest)
 
 -- a literal that is true already
-when_true : (given : Given) (x : Lit) (xs : List Lit) (cs : List (List Lit)) → given x.var ≡ Some (not x.negated) → Decision given (λ value. SatisfiesAll value cs) →
+when_true : (given : Given) (x : Lit) (xs : List Lit) (cs : List (List Lit)) → given x.var ≡ Some (not x.negated) →
+    Decision given (λ value. SatisfiesAll value cs) →
     Decision given (Both (x ∷ xs) cs)
 when_true given x xs cs e (inl f) =
     inl (record { value = f.value; keeps = f.keeps; satisfies = (any_here (Satisfies f.value) x xs (f.keeps x.var (not x.negated) e), f.satisfies) })
@@ -139,7 +140,8 @@ same_or_not false true = inr (λ e. absurd (cc e))
 same_or_not false false = inl refl
 
 -- the literals in turn, where the clauses after can be decided whatever is given
-tried : (cs : List (List Lit)) → ((given : Given) → Decision given (λ value. SatisfiesAll value cs)) → (xs : List Lit) (given : Given) → Decision given (Both xs cs)
+tried : (cs : List (List Lit)) → ((given : Given) → Decision given (λ value. SatisfiesAll value cs)) → (xs : List Lit) (given : Given) →
+    Decision given (Both xs cs)
 tried cs rest [] given = inr (λ value keeps both. none_in (Satisfies value) both.0)
 tried cs rest (x ∷ xs) given = by (given x.var) refl (tried cs rest xs given) where
   by : (o : Option Bool) → given x.var ≡ o → Decision given (Both xs cs) → Decision given (Both (x ∷ xs) cs)

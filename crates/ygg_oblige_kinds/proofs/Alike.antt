@@ -10,7 +10,7 @@ use Rattle.ygg_sym_below.specs.Lows.{LowShaped}
 use Rattle.ygg_sym_disk.proofs.Asked.{lows_alike}
 use Rattle.ygg_sym_expr.proofs.Shaped.{some_wider}
 use Rattle.ygg_sym_runs.specs.Meaning.{AnswerShaped}
-use Rattle.ygg_sym_spec.specs.declared.layer.SymLayer.{SymLayer}
+use Rattle.ygg_oblige_parts.specs.SymLayer.{SymLayer}
 use Rattle.ygg_oblige_parts.specs.SymEnd.{SymEnd}
 use Rattle.ygg_oblige_kinds.specs.Making.{EndShaped}
 

@@ -13,8 +13,8 @@ use Rattle.ygg_sym_below.proofs.Lows.{low_wider}
 use Rattle.ygg_sym_below.specs.Lows.{LowShaped}
 use Rattle.ygg_sym_runs.proofs.Singles.{below_single, single_less}
 use Rattle.ygg_sym_runs.specs.Lower.{SingleFrom}
-use Rattle.ygg_sym_spec.specs.Layers.{closed}
-use Rattle.ygg_sym_spec.specs.declared.layer.SymLayer.{SymLayer}
+use Rattle.ygg_oblige_parts.specs.Layers.{closed}
+use Rattle.ygg_oblige_parts.specs.SymLayer.{SymLayer}
 use Rattle.ygg_oblige_parts.specs.Sites.{below_in}
 use Rattle.ygg_oblige_parts.specs.SymBelow.{SymBelow}
 use Rattle.ygg_oblige_terms.specs.Numbers.{Numbers, arguments_of, numbers_of}

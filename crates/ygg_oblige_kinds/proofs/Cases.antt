@@ -14,8 +14,8 @@ use Rattle.ygg_bank.specs.Makes.{Make}
 use Rattle.ygg_bank.specs.declared.node.Id.{Id}
 use Rattle.ygg_bank.specs.declared.node.Node.{Node}
 use Rattle.ygg_sym_runs.specs.Lower.{SingleFrom}
-use Rattle.ygg_sym_spec.specs.Layers.{closed, terms_in}
-use Rattle.ygg_sym_spec.specs.declared.layer.SymLayer.{SymLayer}
+use Rattle.ygg_oblige_parts.specs.Layers.{closed, terms_in}
+use Rattle.ygg_oblige_parts.specs.SymLayer.{SymLayer}
 use Rattle.ygg_oblige_parts.specs.Sites.{below_in}
 use Rattle.ygg_oblige_parts.specs.SymBelow.{SymBelow}
 use Rattle.ygg_oblige_terms.specs.Numbers.{Numbers, arguments_of, numbers_of}

@@ -8,8 +8,8 @@ use Rattle.ygg_meaning.specs.Refines.{Below}
 use Rattle.ygg_bank.specs.Values.{Inputs, Values, Fits}
 use Rattle.ygg_bank.specs.declared.node.Node.{Node}
 use Rattle.ygg_sym_runs.specs.Meaning.{answer_worth}
-use Rattle.ygg_sym_spec.specs.Layers.{closed}
-use Rattle.ygg_sym_spec.specs.declared.layer.SymLayer.{SymLayer}
+use Rattle.ygg_oblige_parts.specs.Layers.{closed}
+use Rattle.ygg_oblige_parts.specs.SymLayer.{SymLayer}
 use Rattle.ygg_oblige_parts.specs.Running.{EndStands}
 use Rattle.ygg_oblige_parts.specs.Sites.{BelowFits, below_in}
 use Rattle.ygg_oblige_parts.specs.SymBelow.{SymBelow}

@@ -16,8 +16,8 @@ use Rattle.ygg_sym_runs.specs.Meaning.{AnswerShaped, answer_worth}
 use Rattle.ygg_sym_below.specs.Lows.{LowShaped}
 use Rattle.ygg_sym_laws.specs.Below.{signatures_on}
 use Rattle.ygg_sym_laws.specs.Typed.{BlockTyped}
-use Rattle.ygg_sym_spec.specs.Layers.{closed}
-use Rattle.ygg_sym_spec.specs.declared.layer.SymLayer.{SymLayer}
+use Rattle.ygg_oblige_parts.specs.Layers.{closed}
+use Rattle.ygg_oblige_parts.specs.SymLayer.{SymLayer}
 use Rattle.ygg_oblige_parts.specs.Sites.{SameDefs, below_in}
 use Rattle.ygg_oblige_parts.specs.SymBelow.{SymBelow}
 use Rattle.ygg_oblige_parts.specs.SymEnd.{SymEnd}

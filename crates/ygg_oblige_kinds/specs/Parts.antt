@@ -11,8 +11,8 @@ use Rattle.ygg_shape_cells.specs.declared.terms.SymValue.{SymValue}
 use Rattle.ygg_sym_below.specs.StopTerms.{SymFallen}
 use Rattle.ygg_sym_laws.specs.Below.{zeros_made, lost_made}
 use Rattle.ygg_sym_laws.specs.Means.{values_in}
-use Rattle.ygg_sym_spec.specs.Layers.{closed, terms_in}
-use Rattle.ygg_sym_spec.specs.declared.layer.SymLayer.{SymLayer}
+use Rattle.ygg_oblige_parts.specs.Layers.{closed, terms_in}
+use Rattle.ygg_oblige_parts.specs.SymLayer.{SymLayer}
 use Rattle.ygg_oblige_parts.specs.Sites.{below_in}
 use Rattle.ygg_oblige_parts.specs.SymBelow.{SymBelow}
 use Rattle.ygg_oblige_parts.specs.SymEnd.{SymEnd}

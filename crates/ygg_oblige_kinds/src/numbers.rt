@@ -4,7 +4,7 @@ ghost use Rattle.std.specs.Prelude.{◌≡◌, ◌+◌, IfOk};
 ghost use Rattle.ygg_oblige_terms.specs.Numbers.{arguments_of, block_of, numbers_from, numbers_of};
 ghost use Rattle.ygg_meaning.specs.Layer.{ClosedLayer};
 ghost use Rattle.ygg_oblige_parts.specs.Sites.{below_in};
-ghost use Rattle.ygg_sym_spec.specs.Layers.{closed};
+ghost use Rattle.ygg_oblige_parts.specs.Layers.{closed};
 ghost use Rattle.ygg_oblige_terms.specs.Layers.{ShapesKept};
 ghost use Rattle.ygg_oblige_parts.specs.Steps.{obligation_of};
 ghost use Rattle.ygg_oblige_kinds.specs.Numbering.{numbers_in};

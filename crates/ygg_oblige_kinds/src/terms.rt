@@ -5,7 +5,7 @@ ghost use Rattle.ygg_bank.specs.Inputs.{InputsBelow};
 ghost use Rattle.ygg_bank.specs.Nodes.{Extends, HasWidth, IsBank};
 ghost use Rattle.ygg_sym_below.specs.Lows.{LowShaped};
 ghost use Rattle.ygg_sym_runs.specs.Lower.{KeepsSingle, SingleFrom};
-ghost use Rattle.ygg_sym_spec.specs.Layers.{closed, terms_in};
+ghost use Rattle.ygg_oblige_parts.specs.Layers.{closed, terms_in};
 ghost use Rattle.ygg_oblige_parts.specs.Running.{CutIs, EndIs};
 ghost use Rattle.ygg_oblige_parts.specs.Sites.{below_in};
 ghost use Rattle.ygg_oblige_terms.specs.Numbers.{numbers_of};

@@ -28,10 +28,10 @@ use Rattle.ygg_sym_below.specs.StopTerms.{SymFallen}
 use Rattle.ygg_sym_below.proofs.Lows.{low_wider}
 use Rattle.ygg_sym_laws.specs.Below.{zeros_made}
 use Rattle.ygg_sym_laws.specs.Means.{terms_of, values_in, WorthFall, WholeMeans, FallMeans}
-use Rattle.ygg_oblige_terms.specs.Layers.{ShapesKept}
-use Rattle.ygg_oblige_terms.specs.Numbers.{Numbers}
-use Rattle.ygg_oblige_terms.specs.States.{Starting, settled_made, all_compared}
-use Rattle.ygg_oblige_terms.specs.Terms.{Finish, recovered, cut_short, recovers_again}
+use Rattle.ygg_oblige_typed.specs.ObligeTermsLayers.{ShapesKept}
+use Rattle.ygg_oblige_typed.specs.Numbers.{Numbers}
+use Rattle.ygg_oblige_typed.specs.States.{Starting, settled_made, all_compared}
+use Rattle.ygg_oblige_typed.specs.Terms.{Finish, recovered, cut_short, recovers_again}
 use Rattle.ygg_oblige_pieces.specs.Steps.{end_worth}
 use Rattle.ygg_oblige_laws.proofs.Digits.{both_is, implied_is}
 use Rattle.ygg_oblige_laws.proofs.Setting.{Ready}

@@ -24,11 +24,11 @@ use Rattle.ygg_sym_expr.specs.Meaning.{Grows}
 use Rattle.ygg_sym_runs.specs.Meaning.{answer_worth}
 use Rattle.ygg_sym_below.specs.Lows.{low_worth}
 use Rattle.ygg_sym_laws.specs.Means.{terms_of}
-use Rattle.ygg_oblige_terms.specs.Layers.{ShapesKept, OperationFits, LayerTyped}
-use Rattle.ygg_oblige_terms.specs.Meaning.{IsTermOf}
-use Rattle.ygg_oblige_terms.specs.Numbers.{numbers_of}
-use Rattle.ygg_oblige_terms.specs.States.{Starting}
-use Rattle.ygg_oblige_terms.specs.Terms.{term_made}
+use Rattle.ygg_oblige_typed.specs.ObligeTermsLayers.{ShapesKept, OperationFits, LayerTyped}
+use Rattle.ygg_oblige_typed.specs.Meaning.{IsTermOf}
+use Rattle.ygg_oblige_typed.specs.Numbers.{numbers_of}
+use Rattle.ygg_oblige_typed.specs.States.{Starting}
+use Rattle.ygg_oblige_typed.specs.Terms.{term_made}
 use Rattle.ygg_oblige_laws.proofs.Frame.{Frame, states}
 use Rattle.ygg_oblige_laws.proofs.FallTerms.{FallKind, recovery_there, fall_grows, fall_term}
 use Rattle.ygg_oblige_laws.proofs.OtherTerms.{init_grows, init_term, idle_grows, idle_term, again_grow, again_term}

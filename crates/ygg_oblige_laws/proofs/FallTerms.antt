@@ -24,11 +24,11 @@ use Rattle.ygg_sym_expr.specs.Meaning.{Grows}
 use Rattle.ygg_sym_runs.specs.Meaning.{is_set}
 use Rattle.ygg_sym_below.specs.Lows.{LowShaped, low_worth}
 use Rattle.ygg_sym_laws.specs.Means.{terms_of, FallMeans}
-use Rattle.ygg_oblige_terms.specs.Layers.{ShapesKept, LayerTyped}
-use Rattle.ygg_oblige_terms.specs.Meaning.{IsTermOf}
-use Rattle.ygg_oblige_terms.specs.Numbers.{Numbers, numbers_of, arguments_of, block_of}
-use Rattle.ygg_oblige_terms.specs.States.{Starting, words_in, fresh_all}
-use Rattle.ygg_oblige_terms.specs.Terms.{Finish, falls_through}
+use Rattle.ygg_oblige_typed.specs.ObligeTermsLayers.{ShapesKept, LayerTyped}
+use Rattle.ygg_oblige_typed.specs.Meaning.{IsTermOf}
+use Rattle.ygg_oblige_typed.specs.Numbers.{Numbers, numbers_of, arguments_of, block_of}
+use Rattle.ygg_oblige_typed.specs.States.{Starting, words_in, fresh_all}
+use Rattle.ygg_oblige_typed.specs.Terms.{Finish, falls_through}
 use Rattle.ygg_oblige_pieces.specs.Inputs.{given_env, AreDigits, Part, PartFits, InTurn, glued, env_part}
 use Rattle.ygg_oblige_pieces.specs.States.{given_stand, StartsSo}
 use Rattle.ygg_oblige_pieces.specs.Steps.{HasStep, variables_of, ObligationTyped, AnswerKept, StepIs}

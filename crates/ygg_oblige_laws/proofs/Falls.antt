@@ -28,10 +28,10 @@ use Rattle.ygg_sym_below.specs.Lows.{LowShaped, low_worth}
 use Rattle.ygg_sym_below.specs.StopTerms.{SymFallen}
 use Rattle.ygg_sym_below.proofs.Lows.{low_wider}
 use Rattle.ygg_sym_laws.specs.Means.{terms_of, values_in, Begins, WorthFall, WholeMeans, FallMeans}
-use Rattle.ygg_oblige_terms.specs.Layers.{ShapesKept}
-use Rattle.ygg_oblige_terms.specs.Numbers.{Numbers, arguments_of}
-use Rattle.ygg_oblige_terms.specs.States.{Starting, settled_made}
-use Rattle.ygg_oblige_terms.specs.Terms.{Finish, some_passes, recovered, cut_short, recovers, falls_through}
+use Rattle.ygg_oblige_typed.specs.ObligeTermsLayers.{ShapesKept}
+use Rattle.ygg_oblige_typed.specs.Numbers.{Numbers, arguments_of}
+use Rattle.ygg_oblige_typed.specs.States.{Starting, settled_made}
+use Rattle.ygg_oblige_typed.specs.Terms.{Finish, some_passes, recovered, cut_short, recovers, falls_through}
 use Rattle.ygg_oblige_pieces.specs.Steps.{HasStep, variables_of, ObligationTyped, AnswerKept, StepIs, end_worth, PassesSo}
 use Rattle.ygg_oblige_laws.proofs.Digits.{both_is, implied_is}
 use Rattle.ygg_oblige_laws.proofs.Setting.{Ready, ready_wider, answer_wider}

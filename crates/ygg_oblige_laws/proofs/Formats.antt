@@ -22,9 +22,9 @@ use Rattle.ygg_sym_below.specs.Lows.{low_worth}
 use Rattle.ygg_sym_below.proofs.Lows.{low_wider}
 use Rattle.ygg_sym_laws.specs.Below.{places_on, zeros_made, lows_at_start}
 use Rattle.ygg_sym_laws.specs.Means.{AreBits, terms_of, values_in, Begins, EndsSo, StartMeans, WholeMeans}
-use Rattle.ygg_oblige_terms.specs.Layers.{ShapesKept}
-use Rattle.ygg_oblige_terms.specs.Numbers.{Numbers}
-use Rattle.ygg_oblige_terms.specs.Terms.{Finish, some_passes, ran, formats}
+use Rattle.ygg_oblige_typed.specs.ObligeTermsLayers.{ShapesKept}
+use Rattle.ygg_oblige_typed.specs.Numbers.{Numbers}
+use Rattle.ygg_oblige_typed.specs.Terms.{Finish, some_passes, ran, formats}
 use Rattle.ygg_oblige_pieces.specs.Steps.{end_worth, PassesSo}
 use Rattle.ygg_oblige_laws.proofs.Setting.{EndsWith}
 use Rattle.ygg_oblige_laws.proofs.Wholes.{woken}

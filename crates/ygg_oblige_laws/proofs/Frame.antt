@@ -19,8 +19,8 @@ use Rattle.ygg_bank.specs.declared.node.Id.{Id}
 use Rattle.ygg_bank.specs.declared.node.Node.{Node}
 use Rattle.ygg_sym_runs.specs.Meaning.{is_set}
 use Rattle.ygg_sym_laws.specs.Means.{terms_of}
-use Rattle.ygg_oblige_terms.specs.Meaning.{IsTermOf}
-use Rattle.ygg_oblige_terms.specs.States.{Starting, words_in, state_words, starting}
+use Rattle.ygg_oblige_typed.specs.Meaning.{IsTermOf}
+use Rattle.ygg_oblige_typed.specs.States.{Starting, words_in, state_words, starting}
 use Rattle.ygg_oblige_pieces.specs.Inputs.{Part, PartFits, glued, GluedMeans}
 use Rattle.ygg_oblige_pieces.specs.States.{given_stand, StartsSo, StatesStand}
 use Rattle.ygg_oblige_laws.proofs.Digits.{unset_zero, zero_unset}

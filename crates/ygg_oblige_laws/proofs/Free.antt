@@ -22,9 +22,9 @@ use Rattle.ygg_sym_expr.proofs.Keeps.{Keeps}
 use Rattle.ygg_sym_runs.proofs.Below.{below_more}
 use Rattle.ygg_sym_laws.specs.Below.{places_on, failure_room, zeros_made, lows_at_start, lost_made}
 use Rattle.ygg_sym_laws.specs.Means.{terms_of, values_in, WholeMeans, FallMeans}
-use Rattle.ygg_oblige_terms.specs.Numbers.{Numbers, numbers_of, arguments_of}
-use Rattle.ygg_oblige_terms.specs.States.{Starting, words_in, fresh_all, all_compared, settled_made}
-use Rattle.ygg_oblige_terms.specs.Terms.{
+use Rattle.ygg_oblige_typed.specs.Numbers.{Numbers, numbers_of, arguments_of}
+use Rattle.ygg_oblige_typed.specs.States.{Starting, words_in, fresh_all, all_compared, settled_made}
+use Rattle.ygg_oblige_typed.specs.Terms.{
   Finish,
   some_passes,
   ran,

@@ -14,9 +14,9 @@ use Rattle.ygg_bank.specs.declared.node.Node.{Node}
 use Rattle.ygg_sym_runs.specs.Meaning.{is_set}
 use Rattle.ygg_sym_laws.specs.Below.{places_on, failure_room}
 use Rattle.ygg_sym_laws.specs.Means.{AreBits}
-use Rattle.ygg_oblige_terms.specs.Layers.{ShapesKept}
-use Rattle.ygg_oblige_terms.specs.Numbers.{Numbers, numbers_of, block_of}
-use Rattle.ygg_oblige_terms.specs.States.{Starting, words_in, state_words}
+use Rattle.ygg_oblige_typed.specs.ObligeTermsLayers.{ShapesKept}
+use Rattle.ygg_oblige_typed.specs.Numbers.{Numbers, numbers_of, block_of}
+use Rattle.ygg_oblige_typed.specs.States.{Starting, words_in, state_words}
 use Rattle.ygg_oblige_pieces.specs.Inputs.{given_env, AreDigits, EnvDigits, Part, InTurn, PartFits, env_part, bits_part, FreshMeans, GluedMeans}
 use Rattle.ygg_oblige_pieces.specs.States.{given_stand, StartsSo, StatesStand}
 use Rattle.ygg_oblige_pieces.specs.Worth.{Stand}

@@ -18,11 +18,11 @@ use Rattle.ygg_bank.specs.Nodes.{IsBank, Extends}
 use Rattle.ygg_bank.specs.declared.node.Id.{Id}
 use Rattle.ygg_bank.specs.declared.node.Node.{Node}
 use Rattle.ygg_sym_laws.specs.Means.{terms_of}
-use Rattle.ygg_oblige_terms.specs.Layers.{LayerTyped}
-use Rattle.ygg_oblige_terms.specs.Meaning.{AreTermsOf, AreTermsIn}
-use Rattle.ygg_oblige_terms.specs.Numbers.{numbers_of}
-use Rattle.ygg_oblige_terms.specs.States.{Starting, state_words, starting}
-use Rattle.ygg_oblige_terms.specs.Terms.{term_made, terms_made, after_all, layer_made, after_layer, layers_made, after_layers, file_made}
+use Rattle.ygg_oblige_typed.specs.ObligeTermsLayers.{LayerTyped}
+use Rattle.ygg_oblige_typed.specs.Meaning.{AreTermsOf, AreTermsIn}
+use Rattle.ygg_oblige_typed.specs.Numbers.{numbers_of}
+use Rattle.ygg_oblige_typed.specs.States.{Starting, state_words, starting}
+use Rattle.ygg_oblige_typed.specs.Terms.{term_made, terms_made, after_all, layer_made, after_layer, layers_made, after_layers, file_made}
 use Rattle.ygg_oblige_laws.proofs.EachKind.{term_grows, term_means, all_known}
 use Rattle.ygg_oblige_laws.proofs.Frame.{Frame}
 use Rattle.ygg_oblige_laws.proofs.Free.{term_below}

@@ -23,11 +23,11 @@ use Rattle.ygg_bank.specs.declared.node.Node.{Node}
 use Rattle.ygg_sym_expr.specs.Meaning.{Grows}
 use Rattle.ygg_sym_laws.specs.Below.{lost_made}
 use Rattle.ygg_sym_laws.specs.Means.{terms_of}
-use Rattle.ygg_oblige_terms.specs.Layers.{LayerTyped}
-use Rattle.ygg_oblige_terms.specs.Meaning.{IsTermOf}
-use Rattle.ygg_oblige_terms.specs.Numbers.{numbers_of}
-use Rattle.ygg_oblige_terms.specs.States.{Starting, words_in, state_words}
-use Rattle.ygg_oblige_terms.specs.Terms.{formats, recovers, recovers_again}
+use Rattle.ygg_oblige_typed.specs.ObligeTermsLayers.{LayerTyped}
+use Rattle.ygg_oblige_typed.specs.Meaning.{IsTermOf}
+use Rattle.ygg_oblige_typed.specs.Numbers.{numbers_of}
+use Rattle.ygg_oblige_typed.specs.States.{Starting, words_in, state_words}
+use Rattle.ygg_oblige_typed.specs.Terms.{formats, recovers, recovers_again}
 use Rattle.ygg_oblige_pieces.specs.Inputs.{AreDigits, Part, PartFits, InTurn, glued, env_part}
 use Rattle.ygg_oblige_pieces.specs.States.{given_stand, StartsSo}
 use Rattle.ygg_oblige_laws.proofs.Again.{AgainSo, again_gives, again_grows}

@@ -23,10 +23,10 @@ use Rattle.ygg_sym_runs.specs.Meaning.{is_set}
 use Rattle.ygg_sym_below.specs.Lows.{LowShaped, low_worth}
 use Rattle.ygg_sym_laws.specs.Below.{places_on}
 use Rattle.ygg_sym_laws.specs.Means.{AreBits, terms_of, Begins, AreWorth, EndsSo, WholeMeans, FallBits, AreFallBits, FallsTo}
-use Rattle.ygg_oblige_terms.specs.Layers.{ShapesKept}
-use Rattle.ygg_oblige_terms.specs.Numbers.{Numbers, arguments_of}
-use Rattle.ygg_oblige_terms.specs.States.{Starting}
-use Rattle.ygg_oblige_terms.specs.Terms.{Finish, ran, recovered}
+use Rattle.ygg_oblige_typed.specs.ObligeTermsLayers.{ShapesKept}
+use Rattle.ygg_oblige_typed.specs.Numbers.{Numbers, arguments_of}
+use Rattle.ygg_oblige_typed.specs.States.{Starting}
+use Rattle.ygg_oblige_typed.specs.Terms.{Finish, ran, recovered}
 use Rattle.ygg_oblige_pieces.specs.Steps.{StepIs, end_worth, PassesSo}
 use Rattle.ygg_oblige_laws.proofs.Again.{cut_again, ends_alike, AgainSo}
 use Rattle.ygg_oblige_laws.proofs.Digits.{refutes, both_hold}

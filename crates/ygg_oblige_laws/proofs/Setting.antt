@@ -21,7 +21,7 @@ use Rattle.ygg_sym_below.specs.Lows.{LowShaped, low_worth}
 use Rattle.ygg_sym_below.proofs.Lows.{low_wider}
 use Rattle.ygg_sym_laws.specs.Below.{places_on}
 use Rattle.ygg_sym_laws.specs.Means.{AreBits, Values3, Begins, AreWorth, whole_run, cut_run, EndsSo, FallBits, AreFallBits, FallsTo}
-use Rattle.ygg_oblige_terms.specs.States.{Starting}
+use Rattle.ygg_oblige_typed.specs.States.{Starting}
 use Rattle.ygg_oblige_pieces.specs.Worth.{TrioShaped}
 
 -- the states that obligations begin with stand among the nodes

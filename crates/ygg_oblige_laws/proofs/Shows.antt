@@ -24,10 +24,10 @@ use Rattle.ygg_sym_runs.specs.Meaning.{answer_worth, is_set}
 use Rattle.ygg_sym_below.specs.Lows.{LowShaped, low_worth}
 use Rattle.ygg_sym_below.proofs.Blocks.{values_worth}
 use Rattle.ygg_sym_laws.specs.Means.{terms_of, WholeMeans, StartMeans}
-use Rattle.ygg_oblige_terms.specs.Layers.{ShapesKept}
-use Rattle.ygg_oblige_terms.specs.Numbers.{Numbers}
-use Rattle.ygg_oblige_terms.specs.States.{Starting}
-use Rattle.ygg_oblige_terms.specs.Terms.{Finish, recovered}
+use Rattle.ygg_oblige_typed.specs.ObligeTermsLayers.{ShapesKept}
+use Rattle.ygg_oblige_typed.specs.Numbers.{Numbers}
+use Rattle.ygg_oblige_typed.specs.States.{Starting}
+use Rattle.ygg_oblige_typed.specs.Terms.{Finish, recovered}
 use Rattle.ygg_oblige_pieces.specs.Steps.{end_worth}
 use Rattle.ygg_oblige_pieces.specs.States.{StartsSo}
 use Rattle.ygg_oblige_pieces.specs.Worth.{Stand}

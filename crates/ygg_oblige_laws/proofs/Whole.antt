@@ -19,7 +19,7 @@ use Rattle.ygg_sym_laws_disk.proofs.Loss.{disk_loss}
 use Rattle.ygg_sym_laws_disk.proofs.Start.{disk_start}
 use Rattle.ygg_sym_laws_disk.proofs.Whole.{disk_whole}
 use Rattle.ygg_oblige_pieces.proofs.AnyLayer.{spec_falls, spec_loss, spec_start, spec_whole}
-use Rattle.ygg_oblige_terms.specs.Layers.{OperationFits, LayerTyped}
+use Rattle.ygg_oblige_typed.specs.ObligeTermsLayers.{OperationFits, LayerTyped}
 use Rattle.ygg_oblige_pieces.proofs.Compares.{comparing_means}
 use Rattle.ygg_oblige_pieces.proofs.Fresh.{fresh_means}
 use Rattle.ygg_oblige_pieces.proofs.Glued.{glued_means}

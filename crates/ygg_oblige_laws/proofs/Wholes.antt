@@ -31,10 +31,10 @@ use Rattle.ygg_sym_below.specs.Lows.{LowShaped, low_worth}
 use Rattle.ygg_sym_below.proofs.Lows.{low_wider}
 use Rattle.ygg_sym_laws.specs.Below.{places_on, zeros_made}
 use Rattle.ygg_sym_laws.specs.Means.{AreBits, values_in, terms_of, Values3, Begins, WholeAfter, WorthRun, EndsSo, WholeMeans}
-use Rattle.ygg_oblige_terms.specs.Layers.{ShapesKept}
-use Rattle.ygg_oblige_terms.specs.Numbers.{Numbers, arguments_of}
-use Rattle.ygg_oblige_terms.specs.States.{Starting}
-use Rattle.ygg_oblige_terms.specs.Terms.{Finish, some_passes, ran, recovered, runs_through}
+use Rattle.ygg_oblige_typed.specs.ObligeTermsLayers.{ShapesKept}
+use Rattle.ygg_oblige_typed.specs.Numbers.{Numbers, arguments_of}
+use Rattle.ygg_oblige_typed.specs.States.{Starting}
+use Rattle.ygg_oblige_typed.specs.Terms.{Finish, some_passes, ran, recovered, runs_through}
 use Rattle.ygg_oblige_pieces.specs.Steps.{HasStep, variables_of, ObligationTyped, AnswerKept, StepShaped, StepIs, end_worth, PassesSo}
 use Rattle.ygg_oblige_laws.proofs.Digits.{implied_is}
 use Rattle.ygg_oblige_laws.proofs.Setting.{Ready, EndsWith}

@@ -12,9 +12,9 @@ use Rattle.ygg_bank.specs.Inputs.{InputsBelow}
 use Rattle.ygg_bank.specs.Nodes.{IsBank, Extends}
 use Rattle.ygg_bank.specs.declared.node.Node.{Node}
 use Rattle.ygg_sym_laws.specs.Means.{terms_of}
-use Rattle.ygg_oblige_terms.specs.Layers.{LayerTyped}
-use Rattle.ygg_oblige_terms.specs.Meaning.{AreTermsOf, AreTermsIn}
-use Rattle.ygg_oblige_terms.specs.Terms.{layer_made, after_layer, file_made}
+use Rattle.ygg_oblige_typed.specs.ObligeTermsLayers.{LayerTyped}
+use Rattle.ygg_oblige_typed.specs.Meaning.{AreTermsOf, AreTermsIn}
+use Rattle.ygg_oblige_typed.specs.Terms.{layer_made, after_layer, file_made}
 
 -- the terms of a layer's obligations, in every bank that begins with them
 abbrev pub LayerTermsMean : Type 0

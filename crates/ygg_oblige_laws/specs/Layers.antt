@@ -6,7 +6,7 @@ use Rattle.ygg_meaning.specs.Layer.{ClosedLayer}
 use Rattle.ygg_meaning.specs.Refines.{Below}
 use Rattle.ygg_histories.specs.Stack.{Layers, below_of}
 use Rattle.ygg_rules.specs.declared.rule.RuleKind.{RuleKind}
-use Rattle.ygg_oblige_terms.specs.Layers.{LayerTyped}
+use Rattle.ygg_oblige_typed.specs.ObligeTermsLayers.{LayerTyped}
 use Rattle.ygg_oblige_laws.specs.LayerMeans.{LayerMeans}
 
 -- a layer without a type error on what it is specified over, and what its runs over terms are worth

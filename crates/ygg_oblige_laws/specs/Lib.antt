@@ -1,3 +1,6 @@
+pub use Rattle.ygg_oblige_pieces.specs.Worth
+pub use Rattle.ygg_oblige_pieces.specs.States
+pub use Rattle.ygg_oblige_pieces.specs.Inputs
 pub use Rattle.ygg_oblige_pieces.specs.Steps
 pub mod LayerMeans
 pub mod Parts

@@ -6,7 +6,7 @@ use Rattle.ygg_meaning.specs.Layer.{ClosedLayer}
 use Rattle.ygg_meaning.specs.Obligations.{Obligation, Init, CallOf, CutOf, TickOf, CutTickOf, Idle, Again}
 use Rattle.ygg_meaning.specs.Refines.{Below}
 use Rattle.ygg_rules.specs.declared.rule.RuleKind.{RuleKind}
-use Rattle.ygg_oblige_terms.specs.Layers.{OperationFits}
+use Rattle.ygg_oblige_typed.specs.ObligeTermsLayers.{OperationFits}
 use Rattle.ygg_oblige_laws.specs.LayerMeans.{OperationMeans, TickMeans}
 
 -- an operation without a type error, and what its runs over terms are worth

@@ -20,7 +20,7 @@ use Rattle.ygg_shape_words.proofs.Keeps.{Stays}
 use Rattle.ygg_direct.proofs.Placing.{long_append}
 use Rattle.ygg_sym_expr.specs.Meaning.{Grows, Gives}
 use Rattle.ygg_sym_expr.proofs.Keeps.{Keeps}
-use Rattle.ygg_sym_runs.specs.Meaning.{is_set}
+use Rattle.ygg_sym_laws_spec.specs.Meaning.{is_set}
 use Rattle.ygg_oblige_terms.specs.Outcomes.{any_picks}
 use Rattle.ygg_oblige_pieces.proofs.Truth.{or_gives}
 use Rattle.ygg_oblige_pieces.specs.Worth.{IsTruth}

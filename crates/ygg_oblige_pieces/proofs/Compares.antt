@@ -34,12 +34,12 @@ use Rattle.ygg_shape.proofs.Keeps.{compared_keeps}
 use Rattle.ygg_shape.proofs.Makers.{compared_gives}
 use Rattle.ygg_sym_expr.specs.Meaning.{SomeShape, Grows, Gives}
 use Rattle.ygg_sym_expr.proofs.Keeps.{Keeps}
-use Rattle.ygg_sym_runs.proofs.Worths.{shape_fits}
-use Rattle.ygg_sym_runs.specs.Meaning.{AnswerShaped, answer_worth}
-use Rattle.ygg_sym_below.proofs.Lows.{low_wider}
-use Rattle.ygg_sym_below.specs.Lows.{LowShaped, low_worth}
-use Rattle.ygg_sym_laws.specs.Below.{zeros_made}
-use Rattle.ygg_sym_laws.proofs.Zeros.{AreShapes, zeros_made_keep, zeros_give}
+use Rattle.ygg_sym_laws_spec.proofs.Worths.{shape_fits}
+use Rattle.ygg_sym_laws_spec.specs.Meaning.{AnswerShaped, answer_worth}
+use Rattle.ygg_sym_laws_spec.proofs.Lows.{low_wider}
+use Rattle.ygg_sym_laws_spec.specs.Lows.{LowShaped, low_worth}
+use Rattle.ygg_sym_laws_spec.specs.Below.{zeros_made}
+use Rattle.ygg_sym_laws_spec.proofs.Zeros.{AreShapes, zeros_made_keep, zeros_give}
 use Rattle.ygg_oblige_terms.specs.Layers.{ShapesKept}
 use Rattle.ygg_oblige_terms.specs.Outcomes.{answers_compared}
 use Rattle.ygg_oblige_terms.specs.States.{all_compared}

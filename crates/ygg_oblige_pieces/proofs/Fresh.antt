@@ -50,8 +50,8 @@ use Rattle.ygg_shape.proofs.Freshness.{row_on, rows_on, fresh_grows, fresh_below
 use Rattle.ygg_shape.proofs.Keeps.{each_from_keeps}
 use Rattle.ygg_shape.specs.Fresh.{fresh_row, fresh_made, words_of, given_value}
 use Rattle.ygg_sym_expr.specs.Meaning.{Grows, Gives}
-use Rattle.ygg_sym_below.proofs.Lows.{low_fits}
-use Rattle.ygg_sym_below.specs.Lows.{low_worth}
+use Rattle.ygg_sym_laws_spec.proofs.Lows.{low_fits}
+use Rattle.ygg_sym_laws_spec.specs.Lows.{low_worth}
 use Rattle.ygg_oblige_terms.specs.Layers.{ShapesKept}
 use Rattle.ygg_oblige_terms.specs.States.{words_in, fresh_all}
 use Rattle.ygg_oblige_pieces.proofs.Digits.{env_digits}

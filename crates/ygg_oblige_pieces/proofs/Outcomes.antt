@@ -45,21 +45,21 @@ use Rattle.ygg_sym_expr.proofs.Grows.{FunctionsGrow, functions_grow}
 use Rattle.ygg_sym_expr.proofs.Keeps.{Keeps, FunctionsKeep}
 use Rattle.ygg_sym_expr.proofs.Shaped.{some_wider}
 use Rattle.ygg_sym_expr.proofs.Values.{FunctionsMean}
-use Rattle.ygg_sym_runs.specs.Meaning.{AnswerShaped, answer_worth}
-use Rattle.ygg_sym_below.proofs.Blocks.{BlockOfSpec, values_worth, low_stands, block_made_gives}
-use Rattle.ygg_sym_below.proofs.Chosen.{block_end, nth, placed_end}
-use Rattle.ygg_sym_below.proofs.Lows.{low_wider}
-use Rattle.ygg_sym_below.proofs.SpecKeeps.{block_keeps, crash_keeps, then_keeps}
-use Rattle.ygg_sym_below.proofs.SpecStops.{SomeBlock, FallsTyped, crash_gives, then_grows, then_gives}
-use Rattle.ygg_sym_below.proofs.Specs.{given_pick_means}
-use Rattle.ygg_sym_below.specs.Disks.{Done, done}
-use Rattle.ygg_sym_below.specs.Lows.{LowShaped, low_worth}
-use Rattle.ygg_sym_below.specs.SpecCuts.{block_made, crash_made, then_crash_made}
-use Rattle.ygg_sym_below.specs.Specs.{given_pick}
-use Rattle.ygg_sym_laws.proofs.Zeros.{zeros_made_keep}
-use Rattle.ygg_sym_laws.specs.Below.{zeros_made, start_made}
-use Rattle.ygg_sym_laws.specs.Means.{terms_of, values_in}
-use Rattle.ygg_sym_laws.specs.Typed.{SpecBlockTyped}
+use Rattle.ygg_sym_laws_spec.specs.Meaning.{AnswerShaped, answer_worth}
+use Rattle.ygg_sym_laws_spec.proofs.Blocks.{BlockOfSpec, values_worth, low_stands, block_made_gives}
+use Rattle.ygg_sym_laws_spec.proofs.Chosen.{block_end, nth, placed_end}
+use Rattle.ygg_sym_laws_spec.proofs.Lows.{low_wider}
+use Rattle.ygg_sym_laws_spec.proofs.SpecKeeps.{block_keeps, crash_keeps, then_keeps}
+use Rattle.ygg_sym_laws_spec.proofs.SpecStops.{SomeBlock, FallsTyped, crash_gives, then_grows, then_gives}
+use Rattle.ygg_sym_laws_spec.proofs.Specs.{given_pick_means}
+use Rattle.ygg_sym_laws_spec.specs.Disks.{Done, done}
+use Rattle.ygg_sym_laws_spec.specs.Lows.{LowShaped, low_worth}
+use Rattle.ygg_sym_laws_spec.specs.SpecCuts.{block_made, crash_made, then_crash_made}
+use Rattle.ygg_sym_laws_spec.specs.Specs.{given_pick}
+use Rattle.ygg_sym_laws_spec.proofs.Zeros.{zeros_made_keep}
+use Rattle.ygg_sym_laws_spec.specs.Below.{zeros_made, start_made}
+use Rattle.ygg_sym_laws_spec.specs.Means.{terms_of, values_in}
+use Rattle.ygg_sym_laws_spec.specs.Typed.{SpecBlockTyped}
 use Rattle.ygg_sym_laws_spec.proofs.AnyLayer.{spec_start}
 use Rattle.ygg_sym_laws_spec.proofs.Begun.{falls_typed}
 use Rattle.ygg_oblige_terms.specs.Layers.{OperationFits, LayerTyped}

@@ -44,8 +44,8 @@ use Rattle.ygg_direct.proofs.Choosing.{choices_room}
 use Rattle.ygg_direct.proofs.Failing.{fails_by_place}
 use Rattle.ygg_direct.proofs.Matching.{Fronts, Puts, Matches, block_matches, then_matches, fall_on_crash, fails_alike}
 use Rattle.ygg_direct.proofs.Placing.{after_more, zeros_long, long_append}
-use Rattle.ygg_sym_below.proofs.Chosen.{room, same_below, nth, placed_end}
-use Rattle.ygg_sym_below.proofs.SpecFalls.{bits_after, crash_end, then_end}
+use Rattle.ygg_sym_laws_spec.proofs.Chosen.{room, same_below, nth, placed_end}
+use Rattle.ygg_sym_laws_spec.proofs.SpecFalls.{bits_after, crash_end, then_end}
 
 -- a step that leaves places at the end
 raised : (n k : ℕ) (O : Picks → Option Outcome) (P : Picks → Result) → Matches n O P → Matches (n + k) O P

@@ -35,10 +35,10 @@ use Rattle.ygg_shape_hypothesis.specs.declared.replacing.Replacement.{Replacemen
 use Rattle.ygg_sym_expr.specs.Exprs.{SymFunctions}
 use Rattle.ygg_sym_expr.specs.Meaning.{Grows, Gives}
 use Rattle.ygg_sym_expr.proofs.Keeps.{Keeps, FunctionsKeep}
-use Rattle.ygg_sym_runs.specs.Meaning.{is_set}
-use Rattle.ygg_sym_below.proofs.Lows.{low_wider}
-use Rattle.ygg_sym_below.specs.Lows.{LowShaped, low_worth}
-use Rattle.ygg_sym_laws.specs.Means.{terms_of}
+use Rattle.ygg_sym_laws_spec.specs.Meaning.{is_set}
+use Rattle.ygg_sym_laws_spec.proofs.Lows.{low_wider}
+use Rattle.ygg_sym_laws_spec.specs.Lows.{LowShaped, low_worth}
+use Rattle.ygg_sym_laws_spec.specs.Means.{terms_of}
 use Rattle.ygg_oblige_terms.specs.Layers.{LayerTyped}
 use Rattle.ygg_oblige_terms.specs.States.{words_in, Trio, replaced_all, fresh_all, trio_scope, related_made, settled_made, fresh_trio, state_words, starting}
 use Rattle.ygg_oblige_pieces.proofs.Fresh.{all_grows, all_stand, all_below, all_gives, given_fits, stand_wider}

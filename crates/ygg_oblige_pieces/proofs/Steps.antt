@@ -18,12 +18,12 @@ use Rattle.ygg_shape_cells.specs.declared.terms.SymValue.{SymValue}
 use Rattle.ygg_direct.specs.Places.{outcome_by_place}
 use Rattle.ygg_direct.specs.SpecPlaces.{crash_by_place, ChoosesAlone}
 use Rattle.ygg_sym_expr.specs.Meaning.{Grows, Gives}
-use Rattle.ygg_sym_runs.specs.Meaning.{answer_worth}
-use Rattle.ygg_sym_below.proofs.Lows.{low_wider}
-use Rattle.ygg_sym_below.specs.Specs.{given_pick}
-use Rattle.ygg_sym_below.specs.SpecCuts.{crash_made}
-use Rattle.ygg_sym_laws.specs.Below.{start_made}
-use Rattle.ygg_sym_laws.specs.Means.{terms_of, values_in}
+use Rattle.ygg_sym_laws_spec.specs.Meaning.{answer_worth}
+use Rattle.ygg_sym_laws_spec.proofs.Lows.{low_wider}
+use Rattle.ygg_sym_laws_spec.specs.Specs.{given_pick}
+use Rattle.ygg_sym_laws_spec.specs.SpecCuts.{crash_made}
+use Rattle.ygg_sym_laws_spec.specs.Below.{start_made}
+use Rattle.ygg_sym_laws_spec.specs.Means.{terms_of, values_in}
 use Rattle.ygg_oblige_terms.specs.Layers.{LayerTyped}
 use Rattle.ygg_oblige_terms.specs.Numbers.{arguments_of}
 use Rattle.ygg_oblige_terms.specs.Outcomes.{fall_with_picks}

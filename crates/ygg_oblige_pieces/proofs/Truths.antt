@@ -46,11 +46,11 @@ use Rattle.ygg_sym_expr.proofs.Grows.{FunctionsGrow, functions_grow, value_grows
 use Rattle.ygg_sym_expr.proofs.Keeps.{Keeps, FunctionsKeep, functions_keep, value_keeps}
 use Rattle.ygg_sym_expr.proofs.Shaped.{is_term, scope_wider}
 use Rattle.ygg_sym_expr.proofs.Values.{FunctionsMean, value_means}
-use Rattle.ygg_sym_runs.proofs.Worths.{NameShaped}
-use Rattle.ygg_sym_below.proofs.Lows.{low_fits}
-use Rattle.ygg_sym_below.proofs.Specs.{bound_worth, low_shaped}
-use Rattle.ygg_sym_below.specs.Lows.{LowShaped, low_worth}
-use Rattle.ygg_sym_laws.specs.Means.{terms_of}
+use Rattle.ygg_sym_laws_spec.proofs.Worths.{NameShaped}
+use Rattle.ygg_sym_laws_spec.proofs.Lows.{low_fits}
+use Rattle.ygg_sym_laws_spec.proofs.Specs.{bound_worth, low_shaped}
+use Rattle.ygg_sym_laws_spec.specs.Lows.{LowShaped, low_worth}
+use Rattle.ygg_sym_laws_spec.specs.Means.{terms_of}
 use Rattle.ygg_oblige_terms.specs.Layers.{FormulaTyped, LayerTyped}
 use Rattle.ygg_oblige_terms.specs.States.{Trio, truths_made, trio_scope, related_made, settled_made}
 use Rattle.ygg_oblige_pieces.proofs.Truth.{adds, truth_wider, one_gives, and_gives}

@@ -35,7 +35,7 @@ use Rattle.ygg_bank.specs.declared.node.Node.{Node}
 use Rattle.ygg_bank.specs.declared.node.Node.TheVariants.{Input}
 use Rattle.ygg_shape.specs.Fresh.{words_of, given_value}
 use Rattle.ygg_sym_expr.specs.Meaning.{Grows, Gives}
-use Rattle.ygg_sym_laws.specs.Means.{AreBits}
+use Rattle.ygg_sym_laws_spec.specs.Means.{AreBits}
 use Rattle.ygg_oblige_terms.specs.Layers.{ShapesKept}
 use Rattle.ygg_oblige_terms.specs.States.{words_in, fresh_all}
 use Rattle.ygg_oblige_pieces.specs.Worth.{LowIs}

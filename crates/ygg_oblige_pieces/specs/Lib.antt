@@ -1,3 +1,9 @@
+pub use Rattle.ygg_sym_laws_spec.specs.Means
+pub use Rattle.ygg_oblige_terms.specs.Numbers
+pub use Rattle.ygg_oblige_terms.specs.Layers
+pub use Rattle.ygg_oblige_terms.specs.Terms
+pub use Rattle.ygg_oblige_terms.specs.States as ObligeTermsStates
+pub use Rattle.ygg_oblige_terms.specs.Outcomes
 pub mod Inputs
 pub mod Worth
 pub mod States

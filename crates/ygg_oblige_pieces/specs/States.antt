@@ -24,10 +24,10 @@ use Rattle.ygg_bank.specs.declared.node.Node.{Node}
 use Rattle.ygg_shape_cells.specs.declared.terms.SymValue.{SymValue}
 use Rattle.ygg_sym_expr.specs.Names.{SymScope}
 use Rattle.ygg_sym_expr.specs.Meaning.{ScopeShaped, Grows, Gives, worths, scope_worth}
-use Rattle.ygg_sym_runs.specs.Meaning.{AnswerShaped, answer_worth, is_set}
-use Rattle.ygg_sym_below.specs.Lows.{LowShaped, low_worth}
-use Rattle.ygg_sym_laws.specs.Below.{zeros_made}
-use Rattle.ygg_sym_laws.specs.Means.{terms_of}
+use Rattle.ygg_sym_laws_spec.specs.Meaning.{AnswerShaped, answer_worth, is_set}
+use Rattle.ygg_sym_laws_spec.specs.Lows.{LowShaped, low_worth}
+use Rattle.ygg_sym_laws_spec.specs.Below.{zeros_made}
+use Rattle.ygg_sym_laws_spec.specs.Means.{terms_of}
 use Rattle.ygg_oblige_terms.specs.Layers.{ShapesKept, FormulaTyped, LayerTyped}
 use Rattle.ygg_oblige_terms.specs.Outcomes.{answers_compared}
 use Rattle.ygg_oblige_terms.specs.States.{Trio, Starting, words_in, state_words, all_compared, truths_made, related_made, settled_made, starting}

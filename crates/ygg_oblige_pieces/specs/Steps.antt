@@ -17,9 +17,9 @@ use Rattle.ygg_bank.specs.declared.node.Id.{Id}
 use Rattle.ygg_bank.specs.declared.node.Node.{Node}
 use Rattle.ygg_shape_cells.specs.declared.terms.SymValue.{SymValue}
 use Rattle.ygg_sym_expr.specs.Meaning.{Gives}
-use Rattle.ygg_sym_runs.specs.Meaning.{AnswerShaped, answer_worth, is_set}
-use Rattle.ygg_sym_below.specs.Lows.{LowShaped, low_worth}
-use Rattle.ygg_sym_laws.specs.Means.{terms_of, values_in}
+use Rattle.ygg_sym_laws_spec.specs.Meaning.{AnswerShaped, answer_worth, is_set}
+use Rattle.ygg_sym_laws_spec.specs.Lows.{LowShaped, low_worth}
+use Rattle.ygg_sym_laws_spec.specs.Means.{terms_of, values_in}
 use Rattle.ygg_oblige_terms.specs.Layers.{OperationFits, LayerTyped}
 use Rattle.ygg_oblige_terms.specs.Numbers.{arguments_of}
 use Rattle.ygg_oblige_terms.specs.Terms.{Finish, some_passes}

@@ -8,8 +8,8 @@ use Rattle.ygg_bank.specs.Values.{Values}
 use Rattle.ygg_bank.specs.declared.node.Id.{Id}
 use Rattle.ygg_bank.specs.declared.node.Node.{Node}
 use Rattle.ygg_shape_cells.specs.declared.terms.SymValue.{SymValue}
-use Rattle.ygg_sym_runs.specs.Meaning.{is_set}
-use Rattle.ygg_sym_below.specs.Lows.{LowShaped, low_worth}
+use Rattle.ygg_sym_laws_spec.specs.Meaning.{is_set}
+use Rattle.ygg_sym_laws_spec.specs.Lows.{LowShaped, low_worth}
 use Rattle.ygg_oblige_terms.specs.States.{Trio}
 
 -- values of the declared shapes that are worth these names with these values

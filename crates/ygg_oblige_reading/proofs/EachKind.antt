@@ -25,14 +25,14 @@ use Rattle.ygg_sched.specs.declared.schedule.Schedule.{Schedule}
 use Rattle.ygg_oblige_reading.specs.Here.{below_of, body_of, file_of, inputs_of, layer_of, numbers_of, obligation_of, IsHere}
 use Rattle.ygg_oblige_reading.specs.Runs.{stand_fits}
 use Rattle.ygg_oblige_reading.specs.Schedules.{given_here, named_here, HasBlock, IsRead, NamedShaped, OfBlock, StandsHere}
-use Rattle.ygg_oblige_reading.specs.declared.reader.Block.{Block}
-use Rattle.ygg_oblige_reading.specs.declared.reader.Reader.{Reader}
+use Rattle.ygg_oblige_reading.specs.declared.reader.FirstBlock.{FirstBlock}
+use Rattle.ygg_oblige_reading.specs.declared.reader.EnvironmentReader.{EnvironmentReader}
 
 -- the arguments of an operation
 arguments_are : (l : Layer) (number : ℕ) (o : Operation) → slice_get l.operations number ≡ Some o → arguments_at l number ≡ o.arguments
 arguments_are l number o h = ap (λ (x : Option Operation). elim x as (λ x. List Declared) [ None ↦ [] | Some o ↦ o.arguments ]) h
 
-module _ (r : Reader) where
+module _ (r : EnvironmentReader) where
   abbrev l : Layer
   l = r.site.layer.now
 
@@ -53,10 +53,10 @@ module _ (r : Reader) where
       cut_from (below_of r) (layer_of r) (inputs_of r) (numbers_of r) b (given_here r) (bind ds args) args
       (stop_of (below_of r) (layer_of r) (inputs_of r) (numbers_of r) b (given_here r).memory (bind ds args) (given_here r).low)
 
-  abbrev implementation : Block
+  abbrev implementation : FirstBlock
   implementation = record { part = part.Impl; number = r.site.number }
 
-  abbrev background : Block
+  abbrev background : FirstBlock
   background = record { part = part.Tick; number = r.site.number }
 
   pub has_implementation : (o : Operation) (args : List Value) → slice_get l.operations r.site.number ≡ Some o → values_fit o.arguments args ≡ true →

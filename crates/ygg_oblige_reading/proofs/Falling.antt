@@ -16,8 +16,8 @@ use Rattle.ygg_eval_fronts.specs.declared.below.Fallen.{Fallen}
 use Rattle.ygg_eval_fronts.specs.declared.below.PlacedBits.{PlacedBits}
 use Rattle.ygg_oblige_reading.specs.Here.{below_of, body_of, file_of, inputs_of, low_env, numbers_of}
 use Rattle.ygg_oblige_reading.specs.Runs.{FellSo, args_env, layer_at, memory_env}
-use Rattle.ygg_oblige_reading.specs.declared.reader.Block.{Block}
-use Rattle.ygg_oblige_reading.specs.declared.reader.Reader.{Reader}
+use Rattle.ygg_oblige_reading.specs.declared.reader.FirstBlock.{FirstBlock}
+use Rattle.ygg_oblige_reading.specs.declared.reader.EnvironmentReader.{EnvironmentReader}
 
 -- the blocks of an implementation change the memory
 pub memory_of : (l : Layer) (p : Part) → kind_of p ≡ kind.Impl → variables_in l p ≡ l.memory
@@ -30,7 +30,7 @@ memory_of l part.Impl h = refl
 memory_of l part.Tick h = refl
 memory_of l part.Recover h = refl
 
-module _ (r : Reader) (block : Block) (args memory low : List Value) (l : Layer) (b : tree.Block) (bits : PlacedBits)
+module _ (r : EnvironmentReader) (block : FirstBlock) (args memory low : List Value) (l : Layer) (b : tree.Block) (bits : PlacedBits)
     (run : bits_in bits.run ≡ picked_by (inputs_of r) (numbers_of r).run) (stops : bits_in bits.stops ≡ picked_by (inputs_of r) (numbers_of r).stop)
     (last : bits_in bits.last ≡ picked_by (inputs_of r) (numbers_of r).last) where
   abbrev left_with : (ℕ → Bool) → (ℕ → Bool) → Halt → Option (List (List ℕ × Value))

@@ -22,8 +22,8 @@ use Rattle.ygg_oblige_reading.specs.Here.{below_of, body_of, file_of, inputs_of,
 use Rattle.ygg_oblige_reading.specs.Runs.{PicksAre, StandIs, args_env, memory_env}
 use Rattle.ygg_oblige_reading.specs.Schedules.{IsBounded, IsRead, PartsAre, given_here, meant_here}
 use Rattle.ygg_oblige_reading.specs.declared.named.CutParts.{CutParts}
-use Rattle.ygg_oblige_reading.specs.declared.reader.Block.{Block}
-use Rattle.ygg_oblige_reading.specs.declared.reader.Reader.{Reader}
+use Rattle.ygg_oblige_reading.specs.declared.reader.FirstBlock.{FirstBlock}
+use Rattle.ygg_oblige_reading.specs.declared.reader.EnvironmentReader.{EnvironmentReader}
 use Rattle.ygg_oblige_reading.specs.declared.reader.Stand.{Stand}
 use Rattle.ygg_oblige_reading.proofs.Falling.{memory_of}
 use Rattle.ygg_oblige_reading.proofs.Values.{bound_count}
@@ -59,7 +59,7 @@ pub none_bound : (ds : List Declared) (vs : List Value) → vs ≡ [] → bind d
 none_bound [] vs e = refl
 none_bound (d ∷ ds) vs e = ap (bind (d ∷ ds)) e
 
-module _ (r : Reader) where
+module _ (r : EnvironmentReader) where
   abbrev l : Layer
   l = r.site.layer.now
 
@@ -116,7 +116,7 @@ module _ (r : Reader) where
     bounded = bounded;
   }
 
-  module _ (block : Block) (args own below : List Value) (memory low : Env) (implements : kind_of block.part ≡ kind.Impl)
+  module _ (block : FirstBlock) (args own below : List Value) (memory low : Env) (implements : kind_of block.part ≡ kind.Impl)
       (is_memory : bind l.memory own ≡ memory) (is_low : low_env r below ≡ low) (b : tree.Block) (is : IsBlock (file_of r) (body_of r block) l b) where
     -- the memory of a run
     pub memory_is : memory_env r block args own below l ≡ memory

@@ -13,11 +13,11 @@ use Rattle.ygg_eval_fronts.specs.declared.below.Fallen.{Fallen}
 use Rattle.ygg_oblige_reading.specs.Here.{below_of, inputs_of, layer_of, low_env, numbers_of, LowFits}
 use Rattle.ygg_oblige_reading.specs.Runs.{FallsHere, FellSo, args_env, memory_env}
 use Rattle.ygg_oblige_reading.specs.Schedules.{IsBounded, OfBlock, PartsAre}
-use Rattle.ygg_oblige_reading.specs.declared.reader.Block.{Block}
-use Rattle.ygg_oblige_reading.specs.declared.reader.Reader.{Reader}
+use Rattle.ygg_oblige_reading.specs.declared.reader.FirstBlock.{FirstBlock}
+use Rattle.ygg_oblige_reading.specs.declared.reader.EnvironmentReader.{EnvironmentReader}
 use Rattle.ygg_oblige_reading.specs.declared.named.CutParts.{CutParts}
 
-module _ (r : Reader) (block : Block) (args memory low : List Value) (b : tree.Block) (p : CutParts) where
+module _ (r : EnvironmentReader) (block : FirstBlock) (args memory low : List Value) (b : tree.Block) (p : CutParts) where
   abbrev l : Layer
   l = r.site.layer.now
 
@@ -65,12 +65,12 @@ module _ (r : Reader) (block : Block) (args memory low : List Value) (b : tree.B
   }
 
 -- what power leaves of a run that it cuts has the declared shapes
-pub left_fits : (r : Reader) (block : Block) (args memory low : List Value) (l : Layer) (b : tree.Block) (s : Option Halt) (f : Fallen) →
+pub left_fits : (r : EnvironmentReader) (block : FirstBlock) (args memory low : List Value) (l : Layer) (b : tree.Block) (s : Option Halt) (f : Fallen) →
     FellSo r block args memory low l b s (Some f) → LowFits r f.low
 left_fits r block args memory low l b None f h = absurd (cc)
 left_fits r block args memory low l b (Some at) f h = h.fit
 
-module _ (r : Reader) (block : Block) (args memory low : List Value) (f : Fallen)
+module _ (r : EnvironmentReader) (block : FirstBlock) (args memory low : List Value) (f : Fallen)
     (fell : FallsHere r block args memory low (Some f)) where
   abbrev Parts : CutParts → Type 0
   Parts p = OfBlock r block (λ b. PartsAre r b (memory_env r block args memory low r.site.layer.now) (args_env r block args memory low r.site.layer.now)

@@ -27,7 +27,7 @@ use Rattle.ygg_oblige_reading.specs.Fitted.{FitsAt, IsFitted}
 use Rattle.ygg_oblige_reading.specs.Here.{below_of, file_of, inputs_of, layer_of, numbers_of, obligation_of, IsHere}
 use Rattle.ygg_oblige_reading.specs.Meant.{IsNamed, Names, NamesShaped}
 use Rattle.ygg_oblige_reading.specs.Schedules.{given_here, named_here, IsRead, NamedShaped, StandsHere}
-use Rattle.ygg_oblige_reading.specs.declared.reader.Reader.{Reader}
+use Rattle.ygg_oblige_reading.specs.declared.reader.EnvironmentReader.{EnvironmentReader}
 use Rattle.ygg_oblige_reading.proofs.Fitted.{Kept, fits_at}
 
 -- an obligation to which a claim is the same, where there is a claim
@@ -35,7 +35,8 @@ found : {A B : Type 0} (f : A → B) (o : Option A) (y : B) → option_map f o �
 found f None y h = absurd (cc)
 found f (Some a) y h = let same : f a ≡ y = cc in (a, refl, same)
 
-module _ (kinds : List RuleKind) (r : Reader) (place : ℕ) (inputs : Inputs) (p : IsPlaced kinds (file_of r) place r.site) (table : inputs_of r ≡ inputs)
+module _ (kinds : List RuleKind) (r : EnvironmentReader) (place : ℕ) (inputs : Inputs) (p : IsPlaced kinds (file_of r) place r.site)
+    (table : inputs_of r ≡ inputs)
     (shaped : NamesShaped kinds (file_of r) inputs place) where
   abbrev l : Layer
   l = r.site.layer.now

@@ -16,10 +16,10 @@ use Rattle.ygg_oblige_terms.specs.Layers.{ShapesKept}
 use Rattle.ygg_oblige_terms.specs.Numbers.{Numbers}
 use Rattle.ygg_oblige_given.specs.Tables.{inputs_in}
 use Rattle.ygg_oblige_places.specs.Sites.{numbers_in, obligation_here}
-use Rattle.ygg_oblige_reading.specs.declared.reader.Block.{Block}
-use Rattle.ygg_oblige_reading.specs.declared.reader.Reader.{Reader}
+use Rattle.ygg_oblige_reading.specs.declared.reader.FirstBlock.{FirstBlock}
+use Rattle.ygg_oblige_reading.specs.declared.reader.EnvironmentReader.{EnvironmentReader}
 
-module _ (r : Reader) where
+module _ (r : EnvironmentReader) where
   -- the file
   abbrev pub file_of : File
   file_of = r.typed.now.file
@@ -45,7 +45,7 @@ module _ (r : Reader) where
   numbers_of = numbers_in r.site.numbers
 
   -- a block of the layer
-  abbrev pub body_of : Block → Body
+  abbrev pub body_of : FirstBlock → Body
   body_of b = record { layer = r.site.place; part = b.part; number = b.number }
 
   -- the layer is one of the file, and the shapes of its variables keep the limits
@@ -65,6 +65,6 @@ module _ (r : Reader) where
   low_env low = bind (variables_at file_of r.site.place) low
 
   -- a block of an implementation that can be run with these arguments and this memory
-  pub record CanRun (b : Block) (args memory : List Value) : Type 0 where
+  pub record CanRun (b : FirstBlock) (args memory : List Value) : Type 0 where
     pub kind : kind_of b.part ≡ kind.Impl
     pub block : IsRunnable file_of (body_of b) args memory

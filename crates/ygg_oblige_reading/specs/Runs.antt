@@ -15,14 +15,14 @@ use Rattle.ygg_eval_lower.specs.Layers.{closed_at}
 use Rattle.ygg_eval_fronts.specs.Belows.{halt_of}
 use Rattle.ygg_eval_fronts.specs.declared.below.Fallen.{Fallen}
 use Rattle.ygg_oblige_reading.specs.Here.{below_of, body_of, file_of, inputs_of, layer_of, low_env, numbers_of, LowFits}
-use Rattle.ygg_oblige_reading.specs.declared.reader.Block.{Block}
-use Rattle.ygg_oblige_reading.specs.declared.reader.Reader.{Reader}
+use Rattle.ygg_oblige_reading.specs.declared.reader.FirstBlock.{FirstBlock}
+use Rattle.ygg_oblige_reading.specs.declared.reader.EnvironmentReader.{EnvironmentReader}
 use Rattle.ygg_oblige_reading.specs.declared.reader.Stand.{Stand}
 use Rattle.ygg_oblige_pieces.specs.Worth as worth
 use Rattle.ygg_oblige_pieces.specs.States.{given_stand}
 use Rattle.ygg_meaning.specs.Related.{shaped}
 
-module _ (r : Reader) (block : Block) (args memory low : List Value) where
+module _ (r : EnvironmentReader) (block : FirstBlock) (args memory low : List Value) where
   -- the layer that is meant
   abbrev pub layer_at : Layer → ClosedLayer
   layer_at l = closed_at (file_of r) r.site.place l
@@ -67,7 +67,7 @@ abbrev pub stand_fits : ClosedLayer → worth.Stand → Bool
 stand_fits L s = shaped L s.vars s.memory s.low
 
 -- the states that the obligation begins with
-pub record StandIs (r : Reader) (s : Stand) : Type 0 where
+pub record StandIs (r : EnvironmentReader) (s : Stand) : Type 0 where
   pub state_fits : IsTrue (values_fit r.site.layer.now.state s.state)
   pub memory_fits : IsTrue (values_fit r.site.layer.now.memory s.memory)
   pub low_fits : LowFits r s.low

@@ -22,8 +22,8 @@ use Rattle.ygg_sched.specs.declared.schedule.Halt.{Halt}
 use Rattle.ygg_sched.specs.declared.schedule.Schedule.{Schedule}
 use Rattle.ygg_oblige_reading.specs.Here.{below_of, body_of, file_of, inputs_of, layer_of, numbers_of, obligation_of}
 use Rattle.ygg_oblige_reading.specs.Meant.{meant}
-use Rattle.ygg_oblige_reading.specs.declared.reader.Block.{Block}
-use Rattle.ygg_oblige_reading.specs.declared.reader.Reader.{Reader}
+use Rattle.ygg_oblige_reading.specs.declared.reader.FirstBlock.{FirstBlock}
+use Rattle.ygg_oblige_reading.specs.declared.reader.EnvironmentReader.{EnvironmentReader}
 use Rattle.ygg_oblige_reading.specs.declared.named.CutParts.{CutParts}
 
 -- a schedule has as many values of states as are meant
@@ -36,7 +36,7 @@ pub record AsMany (x : Schedule) (want : meaning.Schedule) : Type 0 where
 abbrev pub IsBounded : Option Halt → Type 0
 IsBounded stop = IfSome stop (λ h. h.event < 2 ^ 64)
 
-module _ (r : Reader) where
+module _ (r : EnvironmentReader) where
   -- the schedule that a schedule means
   abbrev pub meant_here : Schedule → meaning.Schedule
   meant_here x = meant (record { layer = layer_of r; below = below_of r; obligation = obligation_of r }) x
@@ -61,7 +61,7 @@ module _ (r : Reader) where
   NamedShaped = IsTrue (shapes_fit (layer_of r) (obligation_of r) named_here)
 
   -- what the block that is meant comes to
-  abbrev pub OfBlock : Block → (tree.Block → Type 0) → Type 0
+  abbrev pub OfBlock : FirstBlock → (tree.Block → Type 0) → Type 0
   OfBlock block P = (b : tree.Block) → IsBlock (file_of r) (body_of r block) r.site.layer.now b → P b
 
   -- the stop and the picks of a run of a block that power cuts, and those of the recovery after it
@@ -77,7 +77,7 @@ module _ (r : Reader) where
         (stop_of (below_of r) (layer_of r) (inputs_of r) (numbers_of r) b memory given low))
 
   -- a block of the layer's implementation that there is, and arguments that fit it
-  pub record HasBlock (block : Block) (args : List Value) : Type 0 where
+  pub record HasBlock (block : FirstBlock) (args : List Value) : Type 0 where
     pub kind : kind_of block.part ≡ kind.Impl
     pub body : tree.Block
     pub there : block_in r.site.layer.now block.part block.number ≡ Some body

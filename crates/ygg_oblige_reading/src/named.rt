@@ -34,7 +34,7 @@ ghost use Rattle.ygg_oblige_reading.specs.Schedules.{
   StandsHere,
 };
 
-use crate::reader::{Block, Reader, Stand};
+use crate::reader::{EnvironmentReader, FirstBlock, Stand};
 use std::alloc::Global;
 use ygg_base::{Bits, Text};
 use ygg_eval_fronts::{Fallen, Lost};
@@ -53,7 +53,7 @@ pub struct CutParts {
     pub wake: Bits,
 }
 
-impl<'a> Reader<'a> {
+impl<'a> EnvironmentReader<'a> {
     /// The obligation's name. Its only error is out of memory.
     fn name(&self) -> Result<Text, NoMemory>
         ensures { IfOk result (λ name. name ≡ name_of self.now.site.layer.now.name.text (obligation_of self.now)) }
@@ -83,7 +83,7 @@ impl<'a> Reader<'a> {
     {
         let low = self.low_at_start()?;
         let memory = self.zero_memory()?;
-        let block = Block {
+        let block = FirstBlock {
             part: Part::Format,
             number: 0,
         };
@@ -102,7 +102,7 @@ impl<'a> Reader<'a> {
     }
 
     /// A whole run of a block. Its only error is out of memory.
-    fn whole(&self, block: Block, args: Values) -> Result<Schedule, NoMemory>
+    fn whole(&self, block: FirstBlock, args: Values) -> Result<Schedule, NoMemory>
         requires here { IsHere self.now }
         requires fit { IsTrue (stand_fits (layer_of self.now) (given_here self.now)) }
         requires block { HasBlock self.now block args }
@@ -128,7 +128,7 @@ impl<'a> Reader<'a> {
     }
 
     /// A run of a block that power cuts, and the recovery after it. Its only error is out of memory.
-    fn fallen(&self, block: Block, args: Values) -> Result<Schedule, NoMemory>
+    fn fallen(&self, block: FirstBlock, args: Values) -> Result<Schedule, NoMemory>
         requires here { IsHere self.now }
         requires fit { IsTrue (stand_fits (layer_of self.now) (given_here self.now)) }
         requires block { HasBlock self.now block args }
@@ -186,7 +186,7 @@ impl<'a> Reader<'a> {
     {
         let low = self.low()?;
         let memory = self.zero_memory()?;
-        let block = Block {
+        let block = FirstBlock {
             part: Part::Recover,
             number: 0,
         };
@@ -210,7 +210,7 @@ impl<'a> Reader<'a> {
     /// The stop and the picks of a run that power cuts and of the recovery after it. Its only error is out of memory.
     fn cut_parts(
         &self,
-        block: Block,
+        block: FirstBlock,
         args: &Values,
         memory: Values,
         low: Values,
@@ -280,20 +280,20 @@ impl<'a> Reader<'a> {
             SymObligation::Call(operation) => {
                 let args = self.arguments(operation.arguments.as_slice())?;
                 let part = Part::Impl;
-                self.whole(Block { part, number }, args)
+                self.whole(FirstBlock { part, number }, args)
             }
             SymObligation::Cut(operation) => {
                 let args = self.arguments(operation.arguments.as_slice())?;
                 let part = Part::Impl;
-                self.fallen(Block { part, number }, args)
+                self.fallen(FirstBlock { part, number }, args)
             }
             SymObligation::Tick(_) => {
                 let part = Part::Tick;
-                self.whole(Block { part, number }, self.none())
+                self.whole(FirstBlock { part, number }, self.none())
             }
             SymObligation::CutTick(_) => {
                 let part = Part::Tick;
-                self.fallen(Block { part, number }, self.none())
+                self.fallen(FirstBlock { part, number }, self.none())
             }
             SymObligation::Idle => self.idle(),
             SymObligation::Again => self.again(),

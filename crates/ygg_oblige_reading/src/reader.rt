@@ -36,7 +36,7 @@ use ygg_value::Values;
 
 /// An obligation of a file with the inputs that it has, and what these are.
 #[derive(Clone, Copy)]
-pub struct Reader<'a> {
+pub struct EnvironmentReader<'a> {
     /// Where memory comes from.
     pub alloc: Global,
     /// The file.
@@ -57,14 +57,14 @@ pub struct Stand {
 
 /// The block that an obligation's first run is of.
 #[derive(Clone, Copy)]
-pub struct Block {
+pub struct FirstBlock {
     /// Which one of the layer.
     pub part: Part,
     /// The place of its operation or background step, else 0.
     pub number: u32,
 }
 
-impl<'a> Reader<'a> {
+impl<'a> EnvironmentReader<'a> {
     /// The values of the state below that the obligation begins with. Its only error is out of memory.
     pub fn low(&self) -> Result<Values, NoMemory>
         requires here { IsHere self.now }
@@ -134,7 +134,7 @@ impl<'a> Reader<'a> {
     /// The picks of a whole run of a block, whose inputs are numbered on from a number. Its only error is out of memory.
     pub fn run(
         &self,
-        block: Block,
+        block: FirstBlock,
         args: &Values,
         mut memory: Values,
         low: Values,
@@ -166,7 +166,7 @@ impl<'a> Reader<'a> {
     /// Its only error is out of memory.
     pub fn cut(
         &self,
-        block: Block,
+        block: FirstBlock,
         args: &Values,
         mut memory: Values,
         low: Values,
@@ -210,7 +210,7 @@ impl<'a> Reader<'a> {
     {
         let memory = self.zero_memory()?;
         let none = Values::new(self.alloc);
-        let block = Block {
+        let block = FirstBlock {
             part: Part::Recover,
             number: 0,
         };

@@ -6,7 +6,7 @@ ghost use Rattle.ygg_histories.specs.Claims.{claims_of};
 ghost use Rattle.ygg_oblige_reading.specs.Fitted.{IsFitted};
 ghost use Rattle.ygg_oblige_reading.specs.Meant.{FitsTerms, IsExactly, IsMadeIn, IsNamed, ViolatesAtZero};
 
-use crate::reader::Reader;
+use crate::reader::EnvironmentReader;
 use std::alloc::Global;
 use ygg_bank::{Bank, Env};
 use ygg_list::NoMemory;
@@ -40,7 +40,7 @@ pub fn schedule_at<B: Book>(
     let tables = tables(alloc, file.disk)?;
     let site = site_at(alloc, file, tables.as_slice(), book, place)?;
     let table = InputTable::new(alloc, env)?;
-    let reader = Reader {
+    let reader = EnvironmentReader {
         alloc,
         typed,
         site,

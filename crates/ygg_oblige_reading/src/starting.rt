@@ -6,12 +6,12 @@ ghost use Rattle.ygg_meaning.specs.Environments.{bind};
 ghost use Rattle.ygg_meaning.specs.Shapes.{values_fit, zeros_of};
 ghost use Rattle.ygg_oblige_reading.specs.Here.{below_of, low_env, IsHere, LowFits};
 
-use crate::reader::Reader;
+use crate::reader::EnvironmentReader;
 use ygg_list::NoMemory;
-use ygg_replay::{Site, zeros};
+use ygg_replay::{ReplaySite, zeros};
 use ygg_value::Values;
 
-impl<'a> Reader<'a> {
+impl<'a> EnvironmentReader<'a> {
     /// A memory of zeros. Its only error is out of memory.
     pub fn zero_memory(&self) -> Result<Values, NoMemory>
         requires { IsHere self.now }
@@ -28,7 +28,7 @@ impl<'a> Reader<'a> {
         ensures is { IfOk result (λ low. low_env self.now low ≡ low_at_start (below_of self.now)) }
         ensures fits { IfOk result (LowFits self.now) }
     {
-        let site = Site {
+        let site = ReplaySite {
             alloc: self.alloc,
             typed: self.typed,
             place: self.site.place,

@@ -33,10 +33,10 @@ use Rattle.ygg_oblige_terms.specs.Layers.{ShapesKept, LayerTyped}
 use Rattle.ygg_oblige_terms.specs.Numbers.{Numbers, numbers_of, arguments_of, block_of}
 use Rattle.ygg_oblige_terms.specs.States.{Starting, fresh_all}
 use Rattle.ygg_oblige_terms.specs.Terms.{Finish, recovered}
-use Rattle.ygg_oblige_pieces.specs.Inputs.{given_env}
-use Rattle.ygg_oblige_pieces.specs.States.{given_stand, StartsSo}
-use Rattle.ygg_oblige_pieces.specs.Steps.{HasStep, variables_of, ObligationTyped, AnswerKept, StepIs, PassesSo, end_worth}
-use Rattle.ygg_oblige_pieces.specs.Worth.{LowIs, trio_worth}
+use Rattle.ygg_oblige_laws.specs.Inputs.{given_env}
+use Rattle.ygg_oblige_laws.specs.States.{given_stand, StartsSo}
+use Rattle.ygg_oblige_laws.specs.Steps.{HasStep, variables_of, ObligationTyped, AnswerKept, StepIs, PassesSo, end_worth}
+use Rattle.ygg_oblige_laws.specs.Worth.{LowIs, trio_worth}
 use Rattle.ygg_oblige_laws.proofs.Digits.{both_hold}
 use Rattle.ygg_oblige_laws.proofs.Falls.{cut_of, falls_give, falls_grow}
 use Rattle.ygg_oblige_laws.proofs.FallTerms.{fall_made}

@@ -19,9 +19,9 @@ use Rattle.ygg_sym_below.proofs.Blocks.{values_worth}
 use Rattle.ygg_oblige_terms.specs.Layers.{ShapesKept}
 use Rattle.ygg_oblige_terms.specs.Numbers.{numbers_of, arguments_of}
 use Rattle.ygg_oblige_terms.specs.States.{Starting}
-use Rattle.ygg_oblige_pieces.specs.Inputs.{given_env}
-use Rattle.ygg_oblige_pieces.specs.States.{given_stand}
-use Rattle.ygg_oblige_pieces.specs.Worth.{LowIs, trio_worth}
+use Rattle.ygg_oblige_laws.specs.Inputs.{given_env}
+use Rattle.ygg_oblige_laws.specs.States.{given_stand}
+use Rattle.ygg_oblige_laws.specs.Worth.{LowIs, trio_worth}
 use Rattle.ygg_oblige_schedules.specs.Schedules.{values_of, schedule_from, schedule_of}
 
 -- the values that names were bound to

@@ -10,7 +10,7 @@ use Rattle.ygg_bank.specs.Values.{Values}
 use Rattle.ygg_bank.specs.declared.node.Id.{Id}
 use Rattle.ygg_bank.specs.declared.node.Node.{Node}
 use Rattle.ygg_sym_runs.specs.Meaning.{is_set}
-use Rattle.ygg_oblige_pieces.specs.Steps.{PassesSo}
+use Rattle.ygg_oblige_laws.specs.Steps.{PassesSo}
 use Rattle.ygg_oblige_laws.proofs.Digits.{refuted, refutes}
 use Rattle.ygg_oblige_laws.proofs.Schedules.{Fails, Sided, with_side, fails_unset, sided_fails, sided_unset}
 

@@ -23,11 +23,11 @@ use Rattle.ygg_oblige_terms.specs.Layers.{LayerTyped}
 use Rattle.ygg_oblige_terms.specs.Numbers.{numbers_of}
 use Rattle.ygg_oblige_terms.specs.States.{Starting, state_words, starting}
 use Rattle.ygg_oblige_terms.specs.Terms.{term_made, terms_made, layer_made, layers_made, after_layers}
-use Rattle.ygg_oblige_pieces.proofs.Compares.{comparing_means}
-use Rattle.ygg_oblige_pieces.proofs.Fresh.{fresh_means}
-use Rattle.ygg_oblige_pieces.proofs.Glued.{glued_means}
-use Rattle.ygg_oblige_pieces.proofs.Starting.{states_mean}
-use Rattle.ygg_oblige_pieces.proofs.Steps.{steps_mean}
+use Rattle.ygg_oblige_laws.proofs.Compares.{comparing_means}
+use Rattle.ygg_oblige_laws.proofs.Fresh.{fresh_means}
+use Rattle.ygg_oblige_laws.proofs.Glued.{glued_means}
+use Rattle.ygg_oblige_laws.proofs.Starting.{states_mean}
+use Rattle.ygg_oblige_laws.proofs.Steps.{steps_mean}
 use Rattle.ygg_oblige_typed.proofs.Files.{typed_layers}
 use Rattle.ygg_oblige_typed.specs.Layers.{LayersTyped}
 use Rattle.ygg_oblige_laws.proofs.Digits.{unset_zero, zero_unset}

@@ -34,9 +34,9 @@ use Rattle.ygg_oblige_terms.specs.Layers.{LayerTyped}
 use Rattle.ygg_oblige_terms.specs.Numbers.{numbers_of}
 use Rattle.ygg_oblige_terms.specs.States.{Starting}
 use Rattle.ygg_oblige_terms.specs.Terms.{ran, some_passes, recovered, recovers, recovers_again, formats}
-use Rattle.ygg_oblige_pieces.specs.States.{given_stand}
-use Rattle.ygg_oblige_pieces.specs.Steps.{end_worth}
-use Rattle.ygg_oblige_pieces.specs.Worth.{Stand, trio_worth}
+use Rattle.ygg_oblige_laws.specs.States.{given_stand}
+use Rattle.ygg_oblige_laws.specs.Steps.{end_worth}
+use Rattle.ygg_oblige_laws.specs.Worth.{Stand, trio_worth}
 use Rattle.ygg_oblige_laws.proofs.Again.{ends_alike, cut_again, again_gives, again_grows}
 use Rattle.ygg_oblige_laws.proofs.Digits.{both_hold}
 use Rattle.ygg_oblige_laws.proofs.Falls.{recovers_give, recovers_grows}

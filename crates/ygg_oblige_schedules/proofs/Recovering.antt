@@ -23,7 +23,7 @@ use Rattle.ygg_fronts.specs.Fronts.{run_picks}
 use Rattle.ygg_sym_fronts.specs.Named.{RunNamed}
 use Rattle.ygg_oblige_terms.specs.Layers.{ShapesKept}
 use Rattle.ygg_oblige_terms.specs.Terms.{ran, recovered}
-use Rattle.ygg_oblige_pieces.specs.Steps.{end_worth}
+use Rattle.ygg_oblige_laws.specs.Steps.{end_worth}
 use Rattle.ygg_oblige_laws.proofs.Schedules.{reads, wakes_below}
 use Rattle.ygg_oblige_laws.proofs.Wholes.{woken, woken_gives}
 use Rattle.ygg_oblige_laws.specs.Parts.{PartsMean}

@@ -29,9 +29,9 @@ use Rattle.ygg_sym_expr.specs.Exprs.{SymFunctions}
 use Rattle.ygg_oblige_terms.specs.Numbers.{Numbers, numbers_of, arguments_of}
 use Rattle.ygg_oblige_terms.specs.States.{state_words}
 use Rattle.ygg_oblige_terms.specs.Terms.{after_layers}
-use Rattle.ygg_oblige_pieces.specs.Inputs.{given_env}
-use Rattle.ygg_oblige_pieces.specs.States.{given_stand}
-use Rattle.ygg_oblige_pieces.specs.Worth.{Stand}
+use Rattle.ygg_oblige_laws.specs.Inputs.{given_env}
+use Rattle.ygg_oblige_laws.specs.States.{given_stand}
+use Rattle.ygg_oblige_laws.specs.Worth.{Stand}
 use Rattle.ygg_fronts.specs.Fronts.{lose_on, loss_picks, low_at_start, run_picks, run_stop, left_at, fall_picks}
 
 -- the values of names, in order

@@ -14,8 +14,8 @@ use Rattle.ygg_bank.specs.declared.node.Id.{Id}
 use Rattle.ygg_bank.specs.declared.node.Node.TheVariants.{Const, Bin}
 use Rattle.ygg_shape_cells.specs.Making.{compared}
 use Rattle.ygg_shape_cells.specs.declared.terms.SymValue.{SymValue}
-use Rattle.ygg_sym_expr.specs.Names.{sym_bind}
-use Rattle.ygg_sym_expr.specs.Exprs.{SymFunctions}
+use Rattle.ygg_sym_laws.specs.Names.{sym_bind}
+use Rattle.ygg_sym_laws.specs.Exprs.{SymFunctions}
 use Rattle.ygg_sym_laws.specs.Disks.{Done, done}
 use Rattle.ygg_sym_laws.specs.Specs.{given_pick}
 use Rattle.ygg_sym_laws.specs.SpecCuts.{block_made, crash_made, then_crash_made}

@@ -18,8 +18,8 @@ use Rattle.ygg_shape.specs.Fresh.{fresh_made, words_of}
 use Rattle.ygg_shape_hypothesis.specs.Finding.{facts_in}
 use Rattle.ygg_shape_hypothesis.specs.Replacing.{replaced_value}
 use Rattle.ygg_shape_hypothesis.specs.declared.replacing.Replacement.{Replacement}
-use Rattle.ygg_sym_expr.specs.Names.{SymScope, sym_bind}
-use Rattle.ygg_sym_expr.specs.Exprs.{SymFunctions, id_in, sym_value}
+use Rattle.ygg_sym_laws.specs.Names.{SymScope, sym_bind}
+use Rattle.ygg_sym_laws.specs.Exprs.{SymFunctions, id_in, sym_value}
 
 -- how many words the values of declared names have
 abbrev pub words_in : List Declared → ℕ

@@ -18,8 +18,8 @@ use Rattle.ygg_bank.specs.Making.{made}
 use Rattle.ygg_bank.specs.declared.node.Id.{Id}
 use Rattle.ygg_bank.specs.declared.node.Node.TheVariants.{Const, Bin}
 use Rattle.ygg_shape_cells.specs.declared.terms.SymValue.{SymValue}
-use Rattle.ygg_sym_expr.specs.Names.{sym_bind}
-use Rattle.ygg_sym_expr.specs.Exprs.{SymFunctions}
+use Rattle.ygg_sym_laws.specs.Names.{sym_bind}
+use Rattle.ygg_sym_laws.specs.Exprs.{SymFunctions}
 use Rattle.ygg_sym_laws.specs.StopTerms.{SymFallen}
 use Rattle.ygg_sym_laws.specs.Wholes.{SymFinish}
 use Rattle.ygg_sym_laws.specs.Below.{zeros_made, lows_at_start, run_made, cut_made, lost_made}

@@ -10,7 +10,7 @@ use Rattle.ygg_meaning.specs.Shapes.{values_fit}
 use Rattle.ygg_meaning.specs.Related.{related}
 use Rattle.ygg_eval_lower.specs.Layers.{variables_at}
 use Rattle.ygg_meaning.specs.Violates.{answers_alike, related_after, spec_after}
-use Rattle.ygg_replay.specs.declared.site.Site.{Site}
+use Rattle.ygg_replay.specs.declared.site.ReplaySite.{ReplaySite}
 use Rattle.ygg_replay.specs.declared.conclusion.Trial.{Trial}
 use Rattle.ygg_sched.specs.declared.case.Kind.{Kind}
 use Rattle.ygg_sched.specs.declared.case.Kind.TheVariants as kind
@@ -55,7 +55,7 @@ by_kind kind.CutTick agrees side = side && agrees
 by_kind kind.Idle agrees side = side && agrees
 by_kind kind.Again agrees side = side
 
-module _ (s : Site) (t : Trial) (picks : Picks) where
+module _ (s : ReplaySite) (t : Trial) (picks : Picks) where
   by_obligation : (o : Obligation) → passing s t o picks ≡ by_kind (kind_in o) (agreeing s t o picks) t.end.now.side
   by_obligation Init = refl
   by_obligation (CallOf o) = refl
@@ -95,7 +95,7 @@ module _ (s : Site) (t : Trial) (picks : Picks) where
         agreed o (λ e. other (same ∙ e)) ends ∙ ap (λ k. answers_for k t.end.now.answer answer && relates_to) (sym same)
 
 -- the variables after the specification's step have the shapes that are declared
-module _ (s : Site) (t : Trial) (answer : Answer) (state : List Value) (picks : Picks) where
+module _ (s : ReplaySite) (t : Trial) (answer : Answer) (state : List Value) (picks : Picks) where
   ended_fits : (o : Obligation) → ¬ (kind_in o ≡ kind.Again) → StepEnds s o t.schedule.now picks answer state → VarsFit s state
   ended_fits Init other h = h.1.fit
   ended_fits (CallOf o) other h = h.fit
@@ -111,7 +111,7 @@ module _ (s : Site) (t : Trial) (answer : Answer) (state : List Value) (picks : 
       ended_fits o (λ e. other (same ∙ e)) ends
 
 -- and so have they beside the end of the runs
-pub ends_fit : (s : Site) (e : End) (state : List Value) → VarsFit s state → EndFits s e → StatesFit s state e.memory e.lower.values
+pub ends_fit : (s : ReplaySite) (e : End) (state : List Value) → VarsFit s state → EndFits s e → StatesFit s state e.memory e.lower.values
 ends_fit s e state h f = record {
   vars_fit = h;
   memory_fits = f.memory;

@@ -7,14 +7,14 @@ use Rattle.ygg_meaning.specs.Related.{holds}
 use Rattle.ygg_eval_holds.specs.declared.formula.Formula.{Formula}
 use Rattle.ygg_eval_holds.specs.declared.formula.Which.TheVariants.{Relate, Always, Settled}
 use Rattle.ygg_eval_holds.specs.Formulas.{IsAsked, Answers}
-use Rattle.ygg_replay.specs.declared.site.Site.{Site}
+use Rattle.ygg_replay.specs.declared.site.ReplaySite.{ReplaySite}
 use Rattle.ygg_replay.specs.Sites.{IsHere, LowFits, StatesFit, closed_in, vars_at, memory_at, low_at}
 
 pub if_ok : {T E : Type 0} (P Q : T → Type 0) (r : Result T E) → IfOk r P → ((x : T) → P x → Q x) → IfOk r Q
 if_ok P Q (Ok x) h f = f x h
 if_ok P Q (Err e) h f = tt
 
-module _ (s : Site) (here : IsHere s) (state memory low : List Value) where
+module _ (s : ReplaySite) (here : IsHere s) (state memory low : List Value) where
   -- the formula of `relate`
   abbrev pub relate : Formula
   relate = record { layer = s.place; which = Relate; number = 0 }
@@ -61,7 +61,7 @@ module _ (s : Site) (here : IsHere s) (state memory low : List Value) where
       ∙ (ap (option_map (holds (closed_in s) (vars_at s state) (memory_at s memory) (low_at s low))) there
       ∙ ap (λ b. Some b) (sym (h s.layer.now e here there)))
 
-module _ (s : Site) (here : IsHere s) (low : List Value) where
+module _ (s : ReplaySite) (here : IsHere s) (low : List Value) where
   -- one of `settled`
   abbrev pub settled : ℕ → Formula
   settled number = record { layer = s.place; which = Settled; number = number }

@@ -32,7 +32,7 @@ use Rattle.ygg_eval_block.specs.declared.run.Ended.{Ended}
 use Rattle.ygg_eval_block.specs.declared.run.Ended.TheVariants as ended
 use Rattle.ygg_eval_spec.specs.Kept.{Kept, spec_meaning}
 use Rattle.ygg_eval_spec.proofs.Values.{bind_count}
-use Rattle.ygg_replay.specs.declared.site.Site.{Site}
+use Rattle.ygg_replay.specs.declared.site.ReplaySite.{ReplaySite}
 use Rattle.ygg_replay.specs.Sites.{closed_in, machine_in, low_at, state_at}
 use Rattle.ygg_replay.specs.Runs.{fresh, RanBy, CutBy}
 use Rattle.ygg_replay.proofs.Picks.{reads}
@@ -59,7 +59,7 @@ short_beyond : (within : Bool) (calls event : ℕ) → MatchBool within (calls �
 short_beyond true calls event h = h
 short_beyond false calls event h = omega (arith, h)
 
-module _ (s : Site) (p : Part) (number : ℕ) (b : Block) (args values : List Value) (k : Kept) (power : Power) (picks : Picks)
+module _ (s : ReplaySite) (p : Part) (number : ℕ) (b : Block) (args values : List Value) (k : Kept) (power : Power) (picks : Picks)
     (implements : kind_of p ≡ kind.Impl) (numbered : k.number ≡ s.place)
     (fit : values_fit (variables_in s.layer.now p) values ≡ true) (fresh_is : power ≡ fresh picks) where
   abbrev file : File

@@ -8,12 +8,12 @@ use Rattle.ygg_meaning.specs.Machine.{Picks, based}
 use Rattle.ygg_eval_lower.specs.Layers.{variables_at, machine_at}
 use Rattle.ygg_eval_lower.specs.Lower.{Standing, Happened, outage_of}
 use Rattle.ygg_eval_spec.specs.Kept.{Kept, Loses}
-use Rattle.ygg_replay.specs.declared.site.Site.{Site}
+use Rattle.ygg_replay.specs.declared.site.ReplaySite.{ReplaySite}
 use Rattle.ygg_replay.specs.Sites.{IsBelow, low_at}
 use Rattle.ygg_replay.specs.Runs.{fresh, LostBy}
 use Rattle.ygg_replay.proofs.Picks.{reads}
 
-pub lost_by : (s : Site) (k k' : Kept) (power power' : Power) (picks : Picks) → IsBelow s k → power ≡ fresh picks →
+pub lost_by : (s : ReplaySite) (k k' : Kept) (power power' : Power) (picks : Picks) → IsBelow s k → power ≡ fresh picks →
     Loses s.typed.now.file (record { machine = k; power = power }) Happened (record { machine = k'; power = power' }) →
     LostBy s (low_at s k.values) picks (low_at s k'.values)
 lost_by s k k' power power' picks b fresh_is h =

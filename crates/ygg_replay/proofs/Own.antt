@@ -15,14 +15,14 @@ use Rattle.ygg_eval_lower.specs.Layers.{signatures_at}
 use Rattle.ygg_eval_lower.specs.Lower.{Serves, IsCallable, Called, Fell, Happened, Whole}
 use Rattle.ygg_eval_spec.specs.Kept.{Kept, spec_meaning, Loses}
 use Rattle.ygg_eval_spec.proofs.OnSpec.{fits_at}
-use Rattle.ygg_replay.specs.declared.site.Site.{Site}
+use Rattle.ygg_replay.specs.declared.site.ReplaySite.{ReplaySite}
 use Rattle.ygg_replay.specs.Runs.{fresh}
 use Rattle.ygg_replay.specs.Sites.{IsHere, closed_in, vars_at, VarsFit}
 use Rattle.ygg_replay.specs.Steps.{EndsIn, EndsSomehow, HasOperation, own_machine}
 use Rattle.ygg_replay.proofs.Specified.{callable, called_gave, fell_dropped, lost_so}
 use Rattle.ygg_replay.proofs.Stepped.{called_ends, dropped_ends, lost_ends}
 
-module _ (s : Site) (here : IsHere s) (state : List Value) (fit : VarsFit s state) (k : Kept) (own : k ≡ own_machine s state) (power : Power) where
+module _ (s : ReplaySite) (here : IsHere s) (state : List Value) (fit : VarsFit s state) (k : Kept) (own : k ≡ own_machine s state) (power : Power) where
   pub own_serves : Serves spec_meaning s.typed.now.file k.number (record { machine = k; power = power })
   own_serves =
       let within = slice_get_within (s.typed.now.file).layers s.place s.layer.now here in

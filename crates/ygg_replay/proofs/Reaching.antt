@@ -14,7 +14,7 @@ use Rattle.ygg_eval_lower.specs.declared.body.Part.TheVariants as part
 use Rattle.ygg_eval_lower.specs.Bodies.{IsRunnable, block_in}
 use Rattle.ygg_eval_lower.specs.Layers.{variables_at}
 use Rattle.ygg_type_sound.proofs.Tests.{left, right}
-use Rattle.ygg_replay.specs.declared.site.Site.{Site}
+use Rattle.ygg_replay.specs.declared.site.ReplaySite.{ReplaySite}
 use Rattle.ygg_sched.specs.declared.schedule.Schedule.{Schedule}
 use Rattle.ygg_replay.specs.declared.ends.End.{End}
 use Rattle.ygg_replay.specs.Ends.{EndFits, FellAndRecovered, FellIn, ReachedOrNot, RecoveredOrNot, end_at, seen_at}
@@ -26,7 +26,7 @@ use Rattle.ygg_replay.specs.Steps.{meant_at}
 abbrev arguments_of : Option Operation → List Declared
 arguments_of r = elim r [ None ↦ [] | Some o ↦ o.arguments ]
 
-module _ (s : Site) (x : Schedule) where
+module _ (s : ReplaySite) (x : Schedule) where
   abbrev states : Bool
   states = states_fit s.typed.now.file s.place s.layer.now x
 

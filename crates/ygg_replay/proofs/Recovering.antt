@@ -16,7 +16,7 @@ use Rattle.ygg_meaning.specs.Violates.{Formatted, LostBetween, RanWhole, Recover
 use Rattle.ygg_eval_lower.specs.Layers.{below_at}
 use Rattle.ygg_type_sound.proofs.Tests.{bytes_equal, right}
 use Rattle.ygg_eval_spec.specs.Kept.{Kept}
-use Rattle.ygg_replay.specs.declared.site.Site.{Site}
+use Rattle.ygg_replay.specs.declared.site.ReplaySite.{ReplaySite}
 use Rattle.ygg_sched.specs.declared.schedule.Halt.{Halt}
 use Rattle.ygg_sched.specs.declared.schedule.Schedule.{Schedule}
 use Rattle.ygg_replay.specs.declared.ends.End.{End}
@@ -33,7 +33,7 @@ wakes_itself : (below : Below) (base : Env) → (machine_below below).Wakes base
 wakes_itself (OnDisk d) base = (refl, refl)
 wakes_itself (OnSpec L) base = (refl, refl)
 
-module _ (s : Site) where
+module _ (s : ReplaySite) where
   -- a state of the layer with a memory of zeros
   zeros_are : (low : Env) → on (memory_at s (zero_values s.layer.now.memory)) (based low) ≡ on (zeros_of s.layer.now.memory) (based low)
   zeros_are low = ap (λ m. on m (based low)) (bind_zeros s.layer.now.memory)

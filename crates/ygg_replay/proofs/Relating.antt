@@ -5,12 +5,12 @@ use Rattle.ygg_meaning.specs.Shapes.{env_fits}
 use Rattle.ygg_meaning.specs.Related.{all_true, related, relates, settled, settles, shaped}
 use Rattle.ygg_eval_lower.specs.Layers.{variables_at}
 use Rattle.ygg_eval_lower.proofs.Blocks.{bind_fits}
-use Rattle.ygg_replay.specs.declared.site.Site.{Site}
+use Rattle.ygg_replay.specs.declared.site.ReplaySite.{ReplaySite}
 use Rattle.ygg_replay.specs.Sites.{LowFits, StatesFit, closed_in, first_false, low_at, memory_at, vars_at}
 use Rattle.ygg_replay.proofs.Concluding.{both_true}
 use Rattle.ygg_replay.proofs.Firsts.{all_are}
 
-pub related_is : (s : Site) (state memory low : List Value) → StatesFit s state memory low → (r : Option ℕ) →
+pub related_is : (s : ReplaySite) (state memory low : List Value) → StatesFit s state memory low → (r : Option ℕ) →
     r ≡ first_false (relates (closed_in s) (vars_at s state) (memory_at s memory) (low_at s low)) →
     is_none r ≡ related (closed_in s) (vars_at s state) (memory_at s memory) (low_at s low)
 related_is s state memory low f r h =
@@ -23,7 +23,7 @@ related_is s state memory low f r h =
     (bind_fits (variables_at s.typed.now.file s.place) low f.low_fits) in
     ap is_none h ∙ sym (all_are bs) ∙ ap (λ b. b && all_true bs) (sym fit)
 
-pub settled_is : (s : Site) (low : List Value) → LowFits s low → (r : Option ℕ) → r ≡ first_false (settles (closed_in s) (low_at s low)) →
+pub settled_is : (s : ReplaySite) (low : List Value) → LowFits s low → (r : Option ℕ) → r ≡ first_false (settles (closed_in s) (low_at s low)) →
     is_none r ≡ settled (closed_in s) (low_at s low)
 settled_is s low f r h =
     let bs = settles (closed_in s) (low_at s low) in

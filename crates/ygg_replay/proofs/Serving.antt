@@ -12,30 +12,30 @@ use Rattle.ygg_eval_lower.specs.Layers.{variables_at}
 use Rattle.ygg_eval_lower.specs.Lower.{Serves}
 use Rattle.ygg_eval_block.specs.Runs.{CanServe}
 use Rattle.ygg_eval_spec.specs.Kept.{Kept, spec_meaning}
-use Rattle.ygg_replay.specs.declared.site.Site.{Site}
+use Rattle.ygg_replay.specs.declared.site.ReplaySite.{ReplaySite}
 use Rattle.ygg_replay.specs.Sites.{IsHere, IsBelow, LowFits}
 
-pub serves : (s : Site) (k : Kept) (power : Power) → IsBelow s k → Serves spec_meaning s.typed.now.file s.place (record { machine = k; power = power })
+pub serves : (s : ReplaySite) (k : Kept) (power : Power) → IsBelow s k → Serves spec_meaning s.typed.now.file s.place (record { machine = k; power = power })
 serves s k power b = record { numbered = b.number; fits = b.kept; fuse = λ h. refl }
 
-pub can_serve : (s : Site) (part : Part) (number : ℕ) (stop : Option Stop) (k : Kept) (power : Power) → IsBelow s k →
+pub can_serve : (s : ReplaySite) (part : Part) (number : ℕ) (stop : Option Stop) (k : Kept) (power : Power) → IsBelow s k →
     CanServe spec_meaning s.typed.now.file (record { layer = s.place; part = part; number = number }) stop (record { machine = k; power = power })
 can_serve s part number stop k power b = record { calls = λ h. serves s k power b; stops = λ h. (refl, serves s k power b) }
 
 -- and still does, if it serves still
-pub is_below : (s : Site) (k : Kept) (power : Power) → Serves spec_meaning s.typed.now.file s.place (record { machine = k; power = power }) → IsBelow s k
+pub is_below : (s : ReplaySite) (k : Kept) (power : Power) → Serves spec_meaning s.typed.now.file s.place (record { machine = k; power = power }) → IsBelow s k
 is_below s k power h = record { number = h.numbered; kept = h.fits }
 
 -- its values are those of the base
-pub low_fits : (s : Site) (k : Kept) → IsBelow s k → LowFits s k.values
+pub low_fits : (s : ReplaySite) (k : Kept) → IsBelow s k → LowFits s k.values
 low_fits s k b = ap (λ n. values_fit (variables_at s.typed.now.file n) k.values) (sym b.number) ∙ b.kept.fit
 
-pub block_is : (s : Site) (part : Part) (number : ℕ) (b : Block) → IsHere s → block_in s.layer.now part number ≡ Some b →
+pub block_is : (s : ReplaySite) (part : Part) (number : ℕ) (b : Block) → IsHere s → block_in s.layer.now part number ≡ Some b →
     IsBlock s.typed.now.file (record { layer = s.place; part = part; number = number }) s.layer.now b
 block_is s part number b here h = record { layer = here; block = h }
 
 -- with values of the declared shapes it is what the layer is specified over
-pub below_at_start : (s : Site) (low : List Value) (k : Kept) → IsHere s → LowFits s low → k ≡ record { number = s.place; values = low } → IsBelow s k
+pub below_at_start : (s : ReplaySite) (low : List Value) (k : Kept) → IsHere s → LowFits s low → k ≡ record { number = s.place; values = low } → IsBelow s k
 below_at_start s low k here fit is =
     let within = slice_get_within (s.typed.now.file).layers s.place s.layer.now here in
     let there : s.place ≤ length (s.typed.now.file).layers = omega (arith, within) in

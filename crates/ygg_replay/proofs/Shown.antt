@@ -5,7 +5,7 @@ use Rattle.ygg_meaning.specs.Obligations.{Obligation}
 use Rattle.ygg_meaning.specs.Related.{all_true}
 use Rattle.ygg_meaning.specs.Replayed.{Shows, Passes, Replays, IsFirstPassing}
 use Rattle.ygg_meaning.specs.Violates.{Reached, hypotheses, most, passes, spec_after}
-use Rattle.ygg_replay.specs.declared.site.Site.{Site}
+use Rattle.ygg_replay.specs.declared.site.ReplaySite.{ReplaySite}
 use Rattle.ygg_sched.specs.declared.case.Case.{Case}
 use Rattle.ygg_sched.specs.declared.schedule.Schedule.{Schedule}
 use Rattle.ygg_replay.specs.declared.ends.End.{End}
@@ -18,7 +18,7 @@ use Rattle.ygg_replay.specs.Sites.{closed_in, machine_in}
 use Rattle.ygg_replay.specs.Steps.{meant_at}
 use Rattle.ygg_replay.proofs.Concluding.{passed, shapes, violated}
 
-module _ (s : Site) (which : Case) (x : Schedule) (can : CanShow s which x) (o : Obligation)
+module _ (s : ReplaySite) (which : Case) (x : Schedule) (can : CanShow s which x) (o : Obligation)
     (is : obligation_at s.layer.now which.kind which.number ≡ Some o) where
   fitting : schedule_fits s.typed.now.file s.place s.layer.now x o ≡ true
   fitting =

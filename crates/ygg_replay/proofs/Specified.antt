@@ -30,7 +30,8 @@ use Rattle.ygg_eval_spec.proofs.Named.{find_first, typed_operations}
 use Rattle.ygg_eval_spec.proofs.OnSpec.{AsksSpec, asks_spec, at_operation, layer_variables}
 
 -- what a step gives with as many picks as it takes at most
-pub exists : (n : ℕ) (O : Picks → Option Outcome) (P : Picks → Result) → Matches n O P → (picks : Picks) → length picks ≡ n → (o : Outcome) × (O picks ≡ Some o)
+pub exists : (n : ℕ) (O : Picks → Option Outcome) (P : Picks → Result) → Matches n O P → (picks : Picks) → length picks ≡ n →
+    (o : Outcome) × (O picks ≡ Some o)
 exists n O P m picks all = let p = m.place picks (omega (arith, all)) in (_, p.gives)
 
 module _ (file : File) (fine : none (type_errors_of file) ≡ true) (place : ℕ) where

@@ -21,7 +21,7 @@ use Rattle.ygg_eval_block.specs.Runs.{Finished, RunEnds}
 use Rattle.ygg_eval_spec.specs.Kept.{Kept, spec_meaning}
 use Rattle.ygg_eval_spec.proofs.Runs.{ended_outcome}
 use Rattle.ygg_eval_spec.proofs.Values.{bind_count}
-use Rattle.ygg_replay.specs.declared.site.Site.{Site}
+use Rattle.ygg_replay.specs.declared.site.ReplaySite.{ReplaySite}
 use Rattle.ygg_replay.specs.Sites.{IsHere, closed_in}
 use Rattle.ygg_replay.specs.Steps.{IsStart}
 use Rattle.ygg_replay.specs.Zeros.{zero_values}
@@ -42,7 +42,7 @@ silent file number block from to (x ∷ xs) env answer (asks, ex, rest) ends = a
     at (Call name args) h = absurd (cc)
 
 -- the `start` block ran wholly from zeros
-pub started : (s : Site) (state : List Value) (answer : Answer) (from to : Standing Kept) →
+pub started : (s : ReplaySite) (state : List Value) (answer : Answer) (from to : Standing Kept) →
     values_fit s.layer.now.state (zero_values s.layer.now.state) ≡ true →
     Finished spec_meaning s.typed.now.file kind.Plain s.place
     (dialogue_in s.typed.now.file (record { layer = s.place; part = part.Start; number = 0 }) s.layer.now s.layer.now.start [] (zero_values s.layer.now.state))
@@ -65,7 +65,7 @@ started s state answer from to fit f =
     )
 
 -- and from values that are zeros, with arguments that are none
-pub started_so : (s : Site) (state values args : List Value) (answer : Answer) (from to : Standing Kept) →
+pub started_so : (s : ReplaySite) (state values args : List Value) (answer : Answer) (from to : Standing Kept) →
     values_fit s.layer.now.state (zero_values s.layer.now.state) ≡ true → values ≡ zero_values s.layer.now.state → args ≡ [] →
     Finished spec_meaning s.typed.now.file kind.Plain s.place
     (dialogue_in s.typed.now.file (record { layer = s.place; part = part.Start; number = 0 }) s.layer.now s.layer.now.start args values)
@@ -77,7 +77,7 @@ started_so s state values args answer from to fit are none f =
     started s state answer from to fit (subst (λ (given : List Value). Ran given (zero_values s.layer.now.state)) none (subst (Ran args) are f))
 
 -- the `start` block can be run so
-pub start_runs : (s : Site) (values args : List Value) → IsHere s → values_fit s.layer.now.state (zero_values s.layer.now.state) ≡ true →
+pub start_runs : (s : ReplaySite) (values args : List Value) → IsHere s → values_fit s.layer.now.state (zero_values s.layer.now.state) ≡ true →
     values ≡ zero_values s.layer.now.state → args ≡ [] →
     IsRunnable s.typed.now.file (record { layer = s.place; part = part.Start; number = 0 }) args values
 start_runs s values args here fit are none = record {
@@ -89,7 +89,7 @@ start_runs s values args here fit are none = record {
 }
 
 -- a block on a memory of zeros that sees no arguments can be
-pub memory_runs : (s : Site) (p : Part) (b : Block) (values args : List Value) → IsHere s → block_in s.layer.now p 0 ≡ Some b →
+pub memory_runs : (s : ReplaySite) (p : Part) (b : Block) (values args : List Value) → IsHere s → block_in s.layer.now p 0 ≡ Some b →
     arguments_in s.layer.now p 0 ≡ [] → variables_in s.layer.now p ≡ s.layer.now.memory → values ≡ zero_values s.layer.now.memory → args ≡ [] →
     IsRunnable s.typed.now.file (record { layer = s.place; part = p; number = 0 }) args values
 memory_runs s p b values args here is sees changes are none = record {

@@ -25,7 +25,7 @@ use Rattle.ygg_eval_lower.specs.declared.body.Part.TheVariants as part
 use Rattle.ygg_eval_spec.specs.Kept.{Kept, IsKept}
 use Rattle.ygg_eval_spec.proofs.OnSpec.{layer_fits}
 use Rattle.ygg_eval_lower.specs.Layers.{variables_at}
-use Rattle.ygg_replay.specs.declared.site.Site.{Site}
+use Rattle.ygg_replay.specs.declared.site.ReplaySite.{ReplaySite}
 use Rattle.ygg_replay.specs.Runs.{fresh}
 use Rattle.ygg_replay.specs.Sites.{IsHere, closed_in, vars_at, VarsFit}
 use Rattle.ygg_replay.specs.Steps.{EndsIn, EndsSomehow}
@@ -34,7 +34,7 @@ use Rattle.ygg_replay.proofs.SpecSteps.{call_extends, crash_extends, fall_extend
 use Rattle.ygg_replay.proofs.Specified.{exists, Gave, Dropped, LostSo}
 use Rattle.ygg_replay.proofs.Typing.{block_kept}
 
-module _ (s : Site) (here : IsHere s) (fine : none (type_errors_of s.typed.now.file) ≡ true) (derivable : ∥ IsDerivable s.typed.now.file ∥₁)
+module _ (s : ReplaySite) (here : IsHere s) (fine : none (type_errors_of s.typed.now.file) ≡ true) (derivable : ∥ IsDerivable s.typed.now.file ∥₁)
     (state : List Value) (power power' : Power) (picks : Picks) (fresh_is : power ≡ fresh picks) (k : Kept) (numbered : k.number ≡ suc s.place)
     (is_kept : IsKept s.typed.now.file k) where
   abbrev file : File

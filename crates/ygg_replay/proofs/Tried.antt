@@ -5,12 +5,12 @@ use Rattle.ygg_meaning.specs.Machine.{Picks}
 use Rattle.ygg_meaning.specs.Obligations.{Obligation}
 use Rattle.ygg_meaning.specs.Violates.{most}
 use Rattle.ygg_replay_search.specs.Searching.{IsFirstAfter}
-use Rattle.ygg_replay.specs.declared.site.Site.{Site}
+use Rattle.ygg_replay.specs.declared.site.ReplaySite.{ReplaySite}
 use Rattle.ygg_replay.specs.declared.conclusion.Trial.{Trial}
 use Rattle.ygg_replay.specs.Passing.{IsOf, most_asked, passing, passing_asked}
 use Rattle.ygg_replay.specs.Sites.{closed_in}
 
-module _ (s : Site) (t : Trial) (o : Obligation) (is : IsOf s t.case o) where
+module _ (s : ReplaySite) (t : Trial) (o : Obligation) (is : IsOf s t.case o) where
   pub most_is : most_asked s t ≡ most (closed_in s) o
   most_is = ap (λ x. unwrap_or (option_map (most (closed_in s)) x) 0) is
 

@@ -8,7 +8,7 @@ use Rattle.ygg_meaning.specs.Layer.{BlockRuns}
 use Rattle.ygg_meaning.specs.Obligations.{Again}
 use Rattle.ygg_meaning.specs.Violates.{CutShort, FallsSo, RecoveredTwice, same_state}
 use Rattle.ygg_eval_lower.specs.Layers.{variables_at}
-use Rattle.ygg_replay.specs.declared.site.Site.{Site}
+use Rattle.ygg_replay.specs.declared.site.ReplaySite.{ReplaySite}
 use Rattle.ygg_sched.specs.declared.schedule.Schedule.{Schedule}
 use Rattle.ygg_replay.specs.declared.ends.End.{End}
 use Rattle.ygg_replay.specs.Ends.{EndFits, FellIn, RecoveredFrom, end_at, same_list}
@@ -20,7 +20,7 @@ use Rattle.ygg_replay.proofs.Recovering.{same_bound}
 use Rattle.ygg_replay.proofs.Serving.{low_fits}
 use Rattle.ygg_replay.proofs.Typing.{bind_zeros}
 
-module _ (s : Site) where
+module _ (s : ReplaySite) where
   -- a memory of values that are zeros is one of zeros
   from_zeros : (x : Schedule) (memory low : List Value) → memory ≡ zero_values s.layer.now.memory → low ≡ x.low →
       state_at s memory low ≡ on (zeros_of s.layer.now.memory) (based (low_at s x.low))

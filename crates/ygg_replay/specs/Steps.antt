@@ -7,7 +7,7 @@ use Rattle.ygg_meaning.specs.Shapes.{values_fit}
 use Rattle.ygg_meaning.specs.Progress.{Answer}
 use Rattle.ygg_meaning.specs.Spec.{Outcome, start_outcome}
 use Rattle.ygg_eval_spec.specs.Kept.{Kept}
-use Rattle.ygg_replay.specs.declared.site.Site.{Site}
+use Rattle.ygg_replay.specs.declared.site.ReplaySite.{ReplaySite}
 use Rattle.ygg_sched.specs.declared.case.Kind.{Kind}
 use Rattle.ygg_sched.specs.declared.case.Kind.TheVariants as kind
 use Rattle.ygg_sched.specs.declared.schedule.Schedule.{Schedule}
@@ -20,35 +20,35 @@ use Rattle.ygg_meaning.specs.Violates.{most, spec_after}
 use Rattle.ygg_replay.specs.Sites.{closed_in, vars_at, VarsFit}
 
 -- the layer's specification with these values of its variables
-abbrev pub own_machine : Site → List Value → Kept
+abbrev pub own_machine : ReplaySite → List Value → Kept
 own_machine s state = record { number = suc s.place; values = state }
 
 -- the layer has this operation at the place, with arguments of its shapes
-pub record HasOperation (s : Site) (number : ℕ) (args : List Value) : Type 0 where
+pub record HasOperation (s : ReplaySite) (number : ℕ) (args : List Value) : Type 0 where
   pub operation : Operation
   pub is : slice_get (s.layer.now).operations number ≡ Some operation
   pub fit : IsTrue (values_fit operation.arguments args)
 
 -- a step has ended with this answer in these values of the variables
-pub record EndsIn (s : Site) (out : Option Outcome) (answer : Answer) (state : List Value) : Type 0 where
+pub record EndsIn (s : ReplaySite) (out : Option Outcome) (answer : Answer) (state : List Value) : Type 0 where
   pub left : List Answer
   pub is : out ≡ Some (record { vars = vars_at s state; answer = answer; left = left })
   pub fit : VarsFit s state
 
 -- a step has ended in these values of the variables, whatever its answer
-abbrev pub EndsSomehow : Site → Option Outcome → List Value → Type 0
+abbrev pub EndsSomehow : ReplaySite → Option Outcome → List Value → Type 0
 EndsSomehow s out state = (answer : Answer) × EndsIn s out answer state
 
 -- the variables that the specification starts with
-abbrev pub IsStart : Site → List Value → Type 0
+abbrev pub IsStart : ReplaySite → List Value → Type 0
 IsStart s state = EndsSomehow s (start_outcome (closed_in s)) state
 
 -- the schedule that is meant
-abbrev pub meant_at : Site → Schedule → obligations.Schedule
+abbrev pub meant_at : ReplaySite → Schedule → obligations.Schedule
 meant_at s x = meant s.typed.now.file s.place s.layer.now x
 
 -- a step of the specification is asked for, with as many picks as it takes at most
-pub record CanStep (s : Site) (asked : Kind) (number : ℕ) (x : Schedule) (picks : Picks) : Type 0 where
+pub record CanStep (s : ReplaySite) (asked : Kind) (number : ℕ) (x : Schedule) (picks : Picks) : Type 0 where
   pub obligation : Obligation
   pub is : obligation_at s.layer.now asked number ≡ Some obligation
   pub fit : IsTrue (schedule_fits s.typed.now.file s.place s.layer.now x obligation)
@@ -56,7 +56,7 @@ pub record CanStep (s : Site) (asked : Kind) (number : ℕ) (x : Schedule) (pick
   pub all : length picks ≡ most (closed_in s) obligation
 
 -- the specification's step of an obligation has ended so; of answers an operation's alone is spoken of
-abbrev pub StepEnds : Site → Obligation → Schedule → Picks → Answer → List Value → Type 0
+abbrev pub StepEnds : ReplaySite → Obligation → Schedule → Picks → Answer → List Value → Type 0
 StepEnds s Init x picks answer state = EndsSomehow s (spec_after (closed_in s) Init (meant_at s x) picks) state
 StepEnds s (CallOf o) x picks answer state = EndsIn s (spec_after (closed_in s) (CallOf o) (meant_at s x) picks) answer state
 StepEnds s (CutOf o) x picks answer state = EndsSomehow s (spec_after (closed_in s) (CutOf o) (meant_at s x) picks) state

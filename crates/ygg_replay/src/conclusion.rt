@@ -8,7 +8,7 @@ ghost use Rattle.ygg_replay.specs.Sites.{IsHere};
 ghost use Rattle.ygg_sched.specs.declared.case.Kind.TheVariants as kind;
 
 use crate::ends::End;
-use crate::site::Site;
+use crate::site::ReplaySite;
 use ygg_list::NoMemory;
 use ygg_sched::{Case, Kind, Schedule};
 use ygg_value::{Value, same};
@@ -42,7 +42,7 @@ fn answers_for(kind: Kind, given: &Option<Value>, wanted: &Option<Value>) -> boo
     }
 }
 
-impl<'a> Site<'a> {
+impl<'a> ReplaySite<'a> {
     /// Whether the specification's step with these picks gives the answer that is spoken of, if one is, and variables that are related to the
     /// end of the runs. Its only error is out of memory.
     fn agrees(&self, trial: Trial<'_>, picks: &[bool]) -> Result<bool, NoMemory>

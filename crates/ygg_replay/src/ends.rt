@@ -27,7 +27,7 @@ ghost use Rattle.ygg_replay.specs.Sites.{IsBelow, IsHere, LowFits, closed_in, lo
 ghost use Rattle.ygg_replay.specs.Steps.{meant_at};
 ghost use Rattle.ygg_replay.specs.Zeros.{zero_values};
 
-use crate::site::Site;
+use crate::site::ReplaySite;
 use crate::zeroing::zeros;
 use ygg_base::{Bits, DiskKind};
 use ygg_eval::{Part, SpecLower, spec_lower};
@@ -73,7 +73,7 @@ impl End {
     }
 }
 
-impl<'a> Site<'a> {
+impl<'a> ReplaySite<'a> {
     /// What the layer is specified over, with these values. Its only error is out of memory.
     fn below(&self, low: &Values) -> Result<SpecLower, NoMemory>
         requires here { IsHere self.now }
@@ -115,7 +115,7 @@ impl<'a> Site<'a> {
             return self.fresh_tables();
         }
         let place = self.place - 1;
-        let below = Site {
+        let below = ReplaySite {
             alloc: self.alloc,
             typed: self.typed,
             place,

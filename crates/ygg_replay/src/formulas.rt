@@ -5,7 +5,7 @@ ghost use Rattle.std.specs.Option.{option_map};
 ghost use Rattle.ygg_meaning.specs.Related.{holds, related, relates, settled, settles};
 ghost use Rattle.ygg_replay.specs.Sites.{IsHere, LowFits, StatesFit, closed_in, first_false, low_at, memory_at, vars_at};
 
-use crate::site::Site;
+use crate::site::ReplaySite;
 use ygg_eval::{Formula, Which, holds};
 use ygg_list::{NoMemory, Sequence};
 use ygg_value::Values;
@@ -21,7 +21,7 @@ pub fn number_of(place: usize) -> Result<u32, NoMemory>
     }
 }
 
-impl<'a> Site<'a> {
+impl<'a> ReplaySite<'a> {
     /// Whether the layer's `relate` expression holds.
     fn relate_holds(&self, state: &Values, memory: &Values, low: &Values) -> Result<bool, NoMemory>
         requires here { IsHere self.now }

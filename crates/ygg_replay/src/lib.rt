@@ -14,5 +14,5 @@ mod zeroing;
 
 pub use schedule::Replayed;
 pub use showing::replay;
-pub use site::Site;
+pub use site::ReplaySite;
 pub use zeroing::zeros;

@@ -7,7 +7,7 @@ ghost use Rattle.ygg_replay.specs.Runs.{LostBy, PartCut, PartRan, fresh};
 ghost use Rattle.ygg_sched.specs.Fitting.{halt_meant};
 ghost use Rattle.ygg_replay.specs.Sites.{IsBelow, IsHere, MemoryFits, low_at};
 
-use crate::site::Site;
+use crate::site::ReplaySite;
 use std::alloc::Global;
 use ygg_base::Bits;
 use ygg_disk::{Picks, Power};
@@ -32,7 +32,7 @@ pub fn power_with(alloc: Global, picks: &[bool]) -> Result<Power, NoMemory>
     })
 }
 
-impl<'a> Site<'a> {
+impl<'a> ReplaySite<'a> {
     /// Runs a block of the layer wholly with these picks, and gives its answer. Its only error is out of memory, after which nothing is said
     /// of the memory and the machine below.
     pub fn run(

@@ -10,7 +10,7 @@ ghost use Rattle.ygg_replay.specs.Sites.{IsHere, closed_in};
 ghost use Rattle.ygg_replay_search.specs.Searching.{IsFirstAfter};
 
 use crate::conclusion::Trial;
-use crate::site::Site;
+use crate::site::ReplaySite;
 use ygg_base::Bits;
 use ygg_list::NoMemory;
 use ygg_replay_search::{Test, first_passing};
@@ -36,7 +36,7 @@ fn count(block: &Block) -> Result<u64, NoMemory>
 /// A trial, as a test of the lists of picks of which the specification's step may take one.
 #[derive(Drop)]
 struct Trying<'a> {
-    site: &'a Site<'a>,
+    site: &'a ReplaySite<'a>,
     trial: Trial<'a>,
 }
 
@@ -54,7 +54,7 @@ impl Test for Trying<'_> {
     }
 }
 
-impl<'a> Site<'a> {
+impl<'a> ReplaySite<'a> {
     /// How many picks an operation that power has cut takes at most.
     fn most_in_fall(&self, operation: &Operation) -> Result<u64, NoMemory>
         ensures { IfOk result (λ n. n ≡ fall_picks self.now.layer.now operation.now) }

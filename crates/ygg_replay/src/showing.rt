@@ -14,13 +14,13 @@ ghost use Rattle.ygg_replay.specs.Steps.{meant_at};
 use crate::conclusion::Trial;
 use crate::formulas::number_of;
 use crate::schedule::Replayed;
-use crate::site::Site;
+use crate::site::ReplaySite;
 use std::alloc::Global;
 use ygg_list::NoMemory;
 use ygg_sched::{Case, Kind, Schedule};
 use ygg_type::Typed;
 
-impl<'a> Site<'a> {
+impl<'a> ReplaySite<'a> {
     /// The first hypothesis on the first states that is false, counted from 0.
     fn false_hypothesis(&self, case: Case, schedule: &Schedule) -> Result<Option<usize>, NoMemory>
         requires here { IsHere self.now }
@@ -102,7 +102,7 @@ pub fn replay(
     let Some(layer) = typed.file().layers.get(case.layer as usize) else {
         unreachable!();
     };
-    let site = Site {
+    let site = ReplaySite {
         alloc,
         typed,
         place: case.layer,

@@ -6,7 +6,7 @@ use ygg_type::Typed;
 
 /// A layer of a file with its place from the bottom one on, and where memory comes from.
 #[derive(Clone, Copy)]
-pub struct Site<'a> {
+pub struct ReplaySite<'a> {
     pub alloc: Global,
     pub typed: &'a Typed,
     pub place: u32,

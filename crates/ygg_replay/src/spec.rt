@@ -9,7 +9,7 @@ ghost use Rattle.ygg_replay.specs.Sites.{IsHere, VarsFit, closed_in, vars_at};
 ghost use Rattle.ygg_replay.specs.Steps.{CanStep, EndsIn, EndsSomehow, HasOperation, IsStart, StepEnds, own_machine};
 
 use crate::runs::power_with;
-use crate::site::Site;
+use crate::site::ReplaySite;
 use crate::zeroing::zeros;
 use ygg_disk::Turn;
 use ygg_eval::{Body, Ended, Lower, Part, SpecLower, run_body, spec_lower};
@@ -19,12 +19,12 @@ use ygg_value::{Value, Values};
 
 /// How a step of a specification has ended: its answer, if it gives one, and the specification after it.
 #[derive(Drop)]
-pub struct Outcome {
+pub struct StepOutcome {
     pub answer: Option<Value>,
     pub after: SpecLower,
 }
 
-impl<'a> Site<'a> {
+impl<'a> ReplaySite<'a> {
     /// The layer's specification with these values of its variables. Its only error is out of memory.
     fn specification(&self, state: Values) -> Result<SpecLower, NoMemory>
         requires here { IsHere self.now }
@@ -68,7 +68,12 @@ impl<'a> Site<'a> {
     }
 
     /// A whole operation with these picks. Its only error is out of memory.
-    fn called(&self, number: u32, schedule: &Schedule, picks: &[bool]) -> Result<Outcome, NoMemory>
+    fn called(
+        &self,
+        number: u32,
+        schedule: &Schedule,
+        picks: &[bool],
+    ) -> Result<StepOutcome, NoMemory>
         requires here { IsHere self.now }
         requires vars { VarsFit self.now schedule.now.state }
         requires operation { HasOperation self.now number schedule.now.args }
@@ -83,11 +88,16 @@ impl<'a> Site<'a> {
             Turn::Answer(value) => Some(value),
             Turn::Down | Turn::Failed => unreachable!(),
         };
-        Ok(Outcome { answer, after })
+        Ok(StepOutcome { answer, after })
     }
 
     /// Power fails within an operation, with these picks. Its only error is out of memory.
-    fn fallen(&self, number: u32, schedule: &Schedule, picks: &[bool]) -> Result<Outcome, NoMemory>
+    fn fallen(
+        &self,
+        number: u32,
+        schedule: &Schedule,
+        picks: &[bool],
+    ) -> Result<StepOutcome, NoMemory>
         requires here { IsHere self.now }
         requires vars { VarsFit self.now schedule.now.state }
         requires operation { HasOperation self.now number schedule.now.args }
@@ -99,14 +109,14 @@ impl<'a> Site<'a> {
         let mut after = self.specification(schedule.state.copy(self.alloc)?)?;
         let mut power = power_with(self.alloc, picks)?;
         after.fall(self.typed, number, &schedule.args, &mut power)?;
-        Ok(Outcome {
+        Ok(StepOutcome {
             answer: None,
             after,
         })
     }
 
     /// Power fails between operations, with these picks. Its only error is out of memory.
-    fn lost(&self, schedule: &Schedule, picks: &[bool]) -> Result<Outcome, NoMemory>
+    fn lost(&self, schedule: &Schedule, picks: &[bool]) -> Result<StepOutcome, NoMemory>
         requires here { IsHere self.now }
         requires vars { VarsFit self.now schedule.now.state }
         requires all { length picks.now ≡ crash_picks self.now.layer.now }
@@ -116,7 +126,7 @@ impl<'a> Site<'a> {
         let mut after = self.specification(schedule.state.copy(self.alloc)?)?;
         let mut power = power_with(self.alloc, picks)?;
         after.lose(self.typed, &mut power)?;
-        Ok(Outcome {
+        Ok(StepOutcome {
             answer: None,
             after,
         })
@@ -130,20 +140,20 @@ impl<'a> Site<'a> {
         number: u32,
         schedule: &Schedule,
         picks: &[bool],
-    ) -> Result<Outcome, NoMemory>
+    ) -> Result<StepOutcome, NoMemory>
         requires here { IsHere self.now }
         requires can { CanStep self.now kind number schedule.now picks.now }
         ensures { IfOk result (λ r. (o : Obligation) → obligation_at self.now.layer.now kind number ≡ Some o →
             StepEnds self.now o schedule.now picks.now r.answer r.after.values) }
     {
         match kind {
-            Kind::Init => Ok(Outcome {
+            Kind::Init => Ok(StepOutcome {
                 answer: None,
                 after: self.specification(self.start()?)?,
             }),
             Kind::Call => self.called(number, schedule, picks),
             Kind::Cut => self.fallen(number, schedule, picks),
-            Kind::Tick => Ok(Outcome {
+            Kind::Tick => Ok(StepOutcome {
                 answer: None,
                 after: self.specification(schedule.state.copy(self.alloc)?)?,
             }),

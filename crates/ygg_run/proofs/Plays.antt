@@ -9,10 +9,11 @@ use Rattle.ygg_script.specs.declared.command.Command.{Command}
 use Rattle.ygg_run_text.specs.Played.{Noted, IsPlay}
 use Rattle.ygg_run_text.proofs.OneText.{files_have_one_way, one_text}
 use Rattle.ygg_run_play.specs.Playing.{IsPlayed}
-use Rattle.ygg_run_play.specs.declared.halting.Halted.TheVariants as halted
+use Rattle.ygg_run_play.specs.declared.halting.PlayHalted.TheVariants as halted
 use Rattle.ygg_run.specs.Playing.{PlaysTo, IsFrontOfPlay}
 
-module _ (f : File) (typed : IsTyped f) (script : List Command) (before now : Option (List ℕ)) (SinkRose : Type 0) (text : List ℕ) (plays : IsPlay f script text)
+module _ (f : File) (typed : IsTyped f) (script : List Command) (before now : Option (List ℕ)) (SinkRose : Type 0) (text : List ℕ)
+    (plays : IsPlay f script text)
   where
     -- the sink failed within the text
     pub fault_puts : IsPlayed (Noted f) f script before now SinkRose (Err halted.SinkFailed) →

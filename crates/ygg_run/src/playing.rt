@@ -12,7 +12,7 @@ use crate::gathering::{Gathered, Unheard};
 use crate::stacking::play_in_memory;
 use std::alloc::Global;
 use ygg_base::{Refusal, Refuse, Sink, Status, Text};
-use ygg_run_play::Halted;
+use ygg_run_play::PlayHalted;
 use ygg_script::Script;
 use ygg_type::Typed;
 
@@ -27,13 +27,15 @@ pub fn play(alloc: Global, typed: &Typed, script: &Script) -> Result<Text, Refus
     let mut gathered = Gathered::new(alloc);
     match play_in_memory(alloc, typed, script, &mut gathered) {
         Ok(()) => Ok(gathered.text),
-        Err(Halted::Unreached(at)) => Err(Refuse::At(at)),
-        Err(Halted::SinkFailed | Halted::Memory) => Err(Refuse::Memory),
+        Err(PlayHalted::Unreached(at)) => Err(Refuse::At(at)),
+        Err(PlayHalted::SinkFailed | PlayHalted::Memory) => Err(Refuse::Memory),
     }
 }
 
-/// Puts the same text line by line as the play goes on, and says with which status the command ends: done; a fault where the sink fails, or out of memory, where
-/// what was put is a front of the text. A script whose stops aren't all reached is refused before anything is put: it is played to its end first with nothing put.
+/// Puts the same text line by line as the play goes on, and says with which status the command ends: done; a fault where the sink fails, or
+/// out of memory, where
+/// what was put is a front of the text. A script whose stops aren't all reached is refused before anything is put: it is played to its end
+/// first with nothing put.
 pub fn put_play<K: Sink>(
     alloc: Global,
     typed: &Typed,
@@ -50,9 +52,9 @@ pub fn put_play<K: Sink>(
 {
     match play_in_memory(alloc, typed, script, &mut Unheard) {
         Ok(()) => Ok(put_whole(alloc, typed, script, sink)),
-        Err(Halted::Unreached(at)) => Err(at),
-        Err(Halted::SinkFailed) => unreachable!(),
-        Err(Halted::Memory) => Ok(Status::NoMemory),
+        Err(PlayHalted::Unreached(at)) => Err(at),
+        Err(PlayHalted::SinkFailed) => unreachable!(),
+        Err(PlayHalted::Memory) => Ok(Status::NoMemory),
     }
 }
 
@@ -67,8 +69,8 @@ fn put_whole<K: Sink>(alloc: Global, typed: &Typed, script: &Script, sink: &mut 
 {
     match play_in_memory(alloc, typed, script, sink) {
         Ok(()) => Status::Done,
-        Err(Halted::Unreached(_)) => unreachable!(),
-        Err(Halted::SinkFailed) => Status::Fault,
-        Err(Halted::Memory) => Status::NoMemory,
+        Err(PlayHalted::Unreached(_)) => unreachable!(),
+        Err(PlayHalted::SinkFailed) => Status::Fault,
+        Err(PlayHalted::Memory) => Status::NoMemory,
     }
 }

@@ -8,7 +8,7 @@ ghost use Rattle.ygg_run_play.specs.Playing.{IsPlayed};
 
 use std::alloc::Global;
 use ygg_base::{DiskKind, Sink};
-use ygg_run_play::{Halted, play_on};
+use ygg_run_play::{PlayHalted, play_on};
 use ygg_run_tower::{Playable, Staged, async_ground, raised, sync_ground};
 use ygg_script::Script;
 use ygg_type::Typed;
@@ -33,7 +33,7 @@ trait Room {
         below: W,
         script: &Script,
         sink: &mut K,
-    ) -> Result<(), Halted>
+    ) -> Result<(), PlayHalted>
         requires below { IsUnwritten W.seen.means typed.now.file place (W.seen.look below) }
         requires more { place < length typed.now.file.layers }
         requires room { length typed.now.file.layers ≤ place + most }
@@ -62,7 +62,7 @@ impl Room for One {
         below: W,
         script: &Script,
         sink: &mut K,
-    ) -> Result<(), Halted> {
+    ) -> Result<(), PlayHalted> {
         let mut layers = Staged {
             tower: raised(alloc, place, below),
         };
@@ -82,7 +82,7 @@ impl<R: Room> Room for More<R> {
         below: W,
         script: &Script,
         sink: &mut K,
-    ) -> Result<(), Halted> {
+    ) -> Result<(), PlayHalted> {
         if place + 1 == typed.layers() {
             One::play(alloc, typed, place, below, script, sink)
         } else {
@@ -108,7 +108,7 @@ pub fn play_in_memory<K: Sink>(
     typed: &Typed,
     script: &Script,
     sink: &mut K,
-) -> Result<(), Halted>
+) -> Result<(), PlayHalted>
     requires script { IsScriptOf typed.now.file script.now }
     requires few { length script.now ≤ 4294967293 }
     ensures played { IsPlayed (Noted typed.now.file) typed.now.file script.now (K.taken sink.old) (K.taken sink.new)

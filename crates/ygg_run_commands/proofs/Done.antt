@@ -22,8 +22,8 @@ use Rattle.ygg_run_text.specs.Named.{operation_name, tick_name}
 use Rattle.ygg_run_commands.specs.OnGround.{layers_on}
 use Rattle.ygg_run_commands.specs.Running.{StopsWaking}
 use Rattle.ygg_run_commands.specs.Doing.{given_of, AllRun, Woke, DidPart, DidSo, Did}
-use Rattle.ygg_run_commands.specs.declared.halting.Halted.{Halted}
-use Rattle.ygg_run_commands.specs.declared.halting.Halted.TheVariants.{DeviceFailed, Memory}
+use Rattle.ygg_run_commands.specs.declared.halting.RunHalted.{RunHalted}
+use Rattle.ygg_run_commands.specs.declared.halting.RunHalted.TheVariants.{DeviceFailed, Memory}
 use Rattle.ygg_run_commands.proofs.Mirroring.{same_state, numbered_mirrors}
 
 module _ {S : Type 0} (G : Meaning S) (f : File) (v v' : View S) (all : v.height ≡ length f.layers) (looks : StillLooks G f v v') (p p' : Power)
@@ -73,21 +73,21 @@ module _ {S : Type 0} (G : Meaning S) (f : File) (v v' : View S) (all : v.height
       Woke G f v v' (Ok tt)
   woke e a is h runs = woke_so e a (sym is) h runs
 
-  unwoken_so : (e : Ending) (x : Halted) → given_of e ≡ Err x → ViewEnds G f command.waking e v p v' p' → Woke G f v v' (Err x)
+  unwoken_so : (e : Ending) (x : RunHalted) → given_of e ≡ Err x → ViewEnds G f command.waking e v p v' p' → Woke G f v v' (Err x)
   unwoken_so (Whole answer) x is h = absurd (cc)
   unwoken_so Down x is h = absurd (never_down command.waking Down h refl)
   unwoken_so Failed x is h =
       let same : DeviceFailed ≡ x = cc in
-      subst (λ (y : Halted). Woke G f v v' (Err y)) same
+      subst (λ (y : RunHalted). Woke G f v v' (Err y)) same
       (record { so = (h.so.rose, wake_stops h.so.stopped.notes h.so.stopped.leaves); later = h.later })
   unwoken_so Starved x is h =
       let same : Memory ≡ x = cc in
-      subst (λ (y : Halted). Woke G f v v' (Err y)) same (record { so = wake_stops h.so.notes h.so.leaves; later = h.later })
+      subst (λ (y : RunHalted). Woke G f v v' (Err y)) same (record { so = wake_stops h.so.notes h.so.leaves; later = h.later })
 
-  pub unwoken : (e : Ending) (x : Halted) (result : Result (Unit {0}) Halted) → Err x ≡ given_of e → IsErrAnd result (λ y. y ≡ x) →
+  pub unwoken : (e : Ending) (x : RunHalted) (result : Result (Unit {0}) RunHalted) → Err x ≡ given_of e → IsErrAnd result (λ y. y ≡ x) →
       ViewEnds G f command.waking e v p v' p' → Woke G f v v' result
   unwoken e x (Ok done) is same h = absurd same
-  unwoken e x (Err y) is same h = subst (λ (z : Halted). Woke G f v v' (Err z)) (sym same) (unwoken_so e x (sym is) h)
+  unwoken e x (Err y) is same h = subst (λ (z : RunHalted). Woke G f v v' (Err z)) (sym same) (unwoken_so e x (sym is) h)
 
   -- an operation
   module _ (op : ℕ) (args : List Value) where
@@ -119,10 +119,10 @@ module _ {S : Type 0} (G : Meaning S) (f : File) (v v' : View S) (all : v.height
     called_so Failed h runs = (h.so.rose, call_stops h.so.stopped.notes h.so.stopped.leaves)
     called_so Starved h runs = call_stops h.so.notes h.so.leaves
 
-    pub called : (e : Ending) (result : Result Answer Halted) → result ≡ given_of e → ViewEnds G f (command.calling name args) e v p v' p' →
+    pub called : (e : Ending) (result : Result Answer RunHalted) → result ≡ given_of e → ViewEnds G f (command.calling name args) e v p v' p' →
         AfterWhole e (ViewRuns G f v') → Did G f v v' (Call op args) result
     called e result is h runs =
-        record { so = subst (λ (r : Result Answer Halted). DidSo G f v v' (Call op args) r) (sym is) (called_so e h runs); later = h.later }
+        record { so = subst (λ (r : Result Answer RunHalted). DidSo G f v v' (Call op args) r) (sym is) (called_so e h runs); later = h.later }
 
   -- a background step
   module _ (layer number : ℕ) where
@@ -153,7 +153,7 @@ module _ {S : Type 0} (G : Meaning S) (f : File) (v v' : View S) (all : v.height
     ticked_so Failed h runs = (h.so.rose, tick_stops h.so.stopped.notes h.so.stopped.leaves)
     ticked_so Starved h runs = tick_stops h.so.notes h.so.leaves
 
-    pub ticked : (e : Ending) (result : Result Answer Halted) → result ≡ given_of e → ViewEnds G f (command.ticking step_name) e v p v' p' →
+    pub ticked : (e : Ending) (result : Result Answer RunHalted) → result ≡ given_of e → ViewEnds G f (command.ticking step_name) e v p v' p' →
         AfterWhole e (ViewRuns G f v') → Did G f v v' (Tick layer number) result
     ticked e result is h runs =
-        record { so = subst (λ (r : Result Answer Halted). DidSo G f v v' (Tick layer number) r) (sym is) (ticked_so e h runs); later = h.later }
+        record { so = subst (λ (r : Result Answer RunHalted). DidSo G f v v' (Tick layer number) r) (sym is) (ticked_so e h runs); later = h.later }

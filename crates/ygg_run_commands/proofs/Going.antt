@@ -1,5 +1,6 @@
 -- The commands of a script one after another: what is known where some of them are still to be run.
-use Rattle.std.proofs.Common.{◌≡◌, ◌≤◌, ℕ, ◌+◌, true, All, List, [], ◌∷◌, ◌++◌, length, Option, None, Result, Ok, Err, IsErrAnd, inl, inr, refl, sym, ap, ◌∙◌, subst, append_assoc, arith, codes}
+use Rattle.std.proofs.Common.{◌≡◌, ◌≤◌, ℕ, ◌+◌, true, All, List, [], ◌∷◌, ◌++◌, length, Option, None}
+use Rattle.std.proofs.Common.{Result, Ok, Err, IsErrAnd, inl, inr, refl, sym, ap, ◌∙◌, subst, append_assoc, arith, codes}
 use Rattle.std.proofs.lemmas.Grind.{flat_map-append}
 use Rattle.std.proofs.lemmas.List.{append-nil}
 use Rattle.std.proofs.lemmas.List.Elements.{All-head, All-tail}
@@ -24,8 +25,8 @@ use Rattle.ygg_run_commands.specs.Ran.{Ran, AllRan, run_lines, ran_line}
 use Rattle.ygg_run_commands.specs.OnGround.{layers_on}
 use Rattle.ygg_run_commands.specs.Running.{Runs, StopsBefore, IsRun, text_before}
 use Rattle.ygg_run_commands.specs.Doing.{IsPut, entry_line, AllRun, FaultsRose, Woke, DidWhole, DidPart, AnswersSo}
-use Rattle.ygg_run_commands.specs.declared.halting.Halted.{Halted}
-use Rattle.ygg_run_commands.specs.declared.halting.Halted.TheVariants.{DeviceFailed, SinkFailed, Memory}
+use Rattle.ygg_run_commands.specs.declared.halting.RunHalted.{RunHalted}
+use Rattle.ygg_run_commands.specs.declared.halting.RunHalted.TheVariants.{DeviceFailed, SinkFailed, Memory}
 
 -- a count has risen since it was a smaller one
 pub rose_since : (before middle now : ℕ) → before ≤ middle → Rose middle now → Rose before now
@@ -85,7 +86,7 @@ module _ {S : Type 0} (G : Meaning S) (f : File) (script : List Command) (from :
     pub line : ℕ
     pub plain : first_not_plain line rest ≡ None
 
-  abbrev Ends : (to : View S) → (now : Option (List ℕ)) → (DeviceRose SinkRose : Type 0) → Result (Unit {0}) Halted → Type 0
+  abbrev Ends : (to : View S) → (now : Option (List ℕ)) → (DeviceRose SinkRose : Type 0) → Result (Unit {0}) RunHalted → Type 0
   Ends to now DeviceRose SinkRose result = IsRun M f script from.base to.base first now DeviceRose SinkRose result
 
   module _ (v : View S) where
@@ -121,7 +122,7 @@ module _ {S : Type 0} (G : Meaning S) (f : File) (script : List Command) (from :
     none_begun w = record { done = []; is = refl; at = state_seen f v; runs = woken_runs w; leaves = inl refl }
 
     -- `up` couldn't be put
-    up_halted : (now : Option (List ℕ)) (DeviceRose SinkRose : Type 0) (x : Halted) → Woke G f from v (Ok tt) →
+    up_halted : (now : Option (List ℕ)) (DeviceRose SinkRose : Type 0) (x : RunHalted) → Woke G f from v (Ok tt) →
         IsPut (ended (codes "up")) first now SinkRose (Err x) → Ends v now DeviceRose SinkRose (Err x)
     up_halted now DeviceRose SinkRose DeviceFailed w put = absurd put
     up_halted now DeviceRose SinkRose SinkFailed w (rose, front, is, adds) = (
@@ -144,7 +145,7 @@ module _ {S : Type 0} (G : Meaning S) (f : File) (script : List Command) (from :
         )
 
   -- the waking was given up
-  waking_halted : (v : View S) (SinkRose : Type 0) (x : Halted) → Woke G f from v (Err x) → Ends v first (FaultsRose G f from v) SinkRose (Err x)
+  waking_halted : (v : View S) (SinkRose : Type 0) (x : RunHalted) → Woke G f from v (Err x) → Ends v first (FaultsRose G f from v) SinkRose (Err x)
   waking_halted v SinkRose DeviceFailed w = (w.so.0, inl (w.so.1, refl))
   waking_halted v SinkRose SinkFailed w = absurd w.so
   waking_halted v SinkRose Memory w = inl (w.so, refl)
@@ -193,7 +194,7 @@ module _ {S : Type 0} (G : Meaning S) (f : File) (script : List Command) (from :
     put_still same = subst (λ (o : Option (List ℕ)). Adds first (run_lines g.es) o) (sym same) g.put
 
     -- it was given up, or its line couldn't be put
-    more_halted : (SinkRose AllRose : Type 0) (x : Halted) → (SinkRose → AllRose) → AnswersSo G f v v' c now now' SinkRose (Err x) →
+    more_halted : (SinkRose AllRose : Type 0) (x : RunHalted) → (SinkRose → AllRose) → AnswersSo G f v v' c now now' SinkRose (Err x) →
         Ends v' now' (FaultsRose G f from v') AllRose (Err x)
     more_halted SinkRose AllRose DeviceFailed all (rose, part, same) = (
       rose_since (G.faults from.base) (G.faults v.base) (G.faults v'.base) g.later rose,
@@ -230,7 +231,7 @@ module _ {S : Type 0} (G : Meaning S) (f : File) (script : List Command) (from :
     none_left : StopsBefore M f script [] from.base g.es v.base
     none_left = record { done = g.done; is = g.is; at = state_seen f v; runs = g.runs; leaves = inl refl }
 
-    pub ran_all : (DeviceRose SinkRose AllRose : Type 0) → (SinkRose → AllRose) → (result : Result (Unit {0}) Halted) →
+    pub ran_all : (DeviceRose SinkRose AllRose : Type 0) → (SinkRose → AllRose) → (result : Result (Unit {0}) RunHalted) →
         IsPut (ran_line (length script)) now now' SinkRose result → Ends v now' DeviceRose AllRose result
     ran_all DeviceRose SinkRose AllRose all (Ok done) put =
         (g.es, state_seen f v, all_done, refl, adds_more first now now' (run_lines g.es) (ran_line (length script)) g.put put)
@@ -255,23 +256,23 @@ module _ {S : Type 0} (G : Meaning S) (f : File) (script : List Command) (from :
         )
 
   -- an end that was handed on
-  handed : (v : View S) (now : Option (List ℕ)) (DeviceRose SinkRose : Type 0) (x : Halted) (result : Result (Unit {0}) Halted) →
+  handed : (v : View S) (now : Option (List ℕ)) (DeviceRose SinkRose : Type 0) (x : RunHalted) (result : Result (Unit {0}) RunHalted) →
       IsErrAnd result (λ y. y ≡ x) → Ends v now DeviceRose SinkRose (Err x) → Ends v now DeviceRose SinkRose result
   handed v now DeviceRose SinkRose x (Ok done) same h = absurd same
-  handed v now DeviceRose SinkRose x (Err y) same h = subst (λ (z : Halted). Ends v now DeviceRose SinkRose (Err z)) (sym same) h
+  handed v now DeviceRose SinkRose x (Err y) same h = subst (λ (z : RunHalted). Ends v now DeviceRose SinkRose (Err z)) (sym same) h
 
-  pub not_woken : (v : View S) (SinkRose : Type 0) (x : Halted) (result : Result (Unit {0}) Halted) → IsErrAnd result (λ y. y ≡ x) →
+  pub not_woken : (v : View S) (SinkRose : Type 0) (x : RunHalted) (result : Result (Unit {0}) RunHalted) → IsErrAnd result (λ y. y ≡ x) →
       Woke G f from v (Err x) → Ends v first (FaultsRose G f from v) SinkRose result
   not_woken v SinkRose x result same w = handed v first (FaultsRose G f from v) SinkRose x result same (waking_halted v SinkRose x w)
 
-  pub not_up : (v : View S) (now : Option (List ℕ)) (DeviceRose SinkRose : Type 0) (x : Halted) (result : Result (Unit {0}) Halted) →
+  pub not_up : (v : View S) (now : Option (List ℕ)) (DeviceRose SinkRose : Type 0) (x : RunHalted) (result : Result (Unit {0}) RunHalted) →
       IsErrAnd result (λ y. y ≡ x) → Woke G f from v (Ok tt) → IsPut (ended (codes "up")) first now SinkRose (Err x) →
       Ends v now DeviceRose SinkRose result
   not_up v now DeviceRose SinkRose x result same w put =
       handed v now DeviceRose SinkRose x result same (up_halted v now DeviceRose SinkRose x w put)
 
   pub not_answered : (c : Command) (cs : List Command) (v v' : View S) (now now' : Option (List ℕ)) → Going (c ∷ cs) v now → (SinkRose AllRose : Type 0)
-      (x : Halted) (result : Result (Unit {0}) Halted) → IsErrAnd result (λ y. y ≡ x) → (SinkRose → AllRose) →
+      (x : RunHalted) (result : Result (Unit {0}) RunHalted) → IsErrAnd result (λ y. y ≡ x) → (SinkRose → AllRose) →
       AnswersSo G f v v' c now now' SinkRose (Err x) → Ends v' now' (FaultsRose G f from v') AllRose result
   not_answered c cs v v' now now' g SinkRose AllRose x result same all h =
       handed v' now' (FaultsRose G f from v') AllRose x result same (more_halted c cs v v' now now' g SinkRose AllRose x all h)

@@ -15,18 +15,18 @@ use Rattle.ygg_run_text.specs.Lines.{answer_text}
 use Rattle.ygg_run_commands.specs.Ran.{Ran, answer_in}
 use Rattle.ygg_run_commands.specs.OnGround.{layers_on}
 use Rattle.ygg_run_commands.specs.Running.{LeftOf, StopsWaking}
-use Rattle.ygg_run_commands.specs.declared.halting.Halted.{Halted}
-use Rattle.ygg_run_commands.specs.declared.halting.Halted.TheVariants.{DeviceFailed, SinkFailed, Memory}
+use Rattle.ygg_run_commands.specs.declared.halting.RunHalted.{RunHalted}
+use Rattle.ygg_run_commands.specs.declared.halting.RunHalted.TheVariants.{DeviceFailed, SinkFailed, Memory}
 
 -- what is given by what ended so, in which power can't fail
-abbrev pub given_of : Ending → Result Answer Halted
+abbrev pub given_of : Ending → Result Answer RunHalted
 given_of (Whole answer) = Ok answer
 given_of Down = Err Memory
 given_of Failed = Err DeviceFailed
 given_of Starved = Err Memory
 
 -- a text was put, or a front of it where the sink failed
-abbrev pub IsPut : List ℕ → (before now : Option (List ℕ)) → (SinkRose : Type 0) → Result (Unit {0}) Halted → Type 0
+abbrev pub IsPut : List ℕ → (before now : Option (List ℕ)) → (SinkRose : Type 0) → Result (Unit {0}) RunHalted → Type 0
 IsPut text before now SinkRose (Ok done) = Adds before text now
 IsPut text before now SinkRose (Err SinkFailed) = SinkRose × (front : List ℕ) × IsFront front text × Adds before front now
 IsPut text before now SinkRose (Err DeviceFailed) = ⊥
@@ -53,14 +53,14 @@ module _ {S : Type 0} (G : Meaning S) (f : File) where
 
   module _ (v v' : View S) where
     -- how a waking ended
-    abbrev pub WakesSo : Result (Unit {0}) Halted → Type 0
+    abbrev pub WakesSo : Result (Unit {0}) RunHalted → Type 0
     WakesSo (Ok done) = AllRun v' × (notes : List Note) × ((cause : Cause) → (layers_on G f cause).Wakes v.base notes (state_seen f v'))
     WakesSo (Err DeviceFailed) = FaultsRose v v' × StopsWaking (layers_on G f) f v.base v'.base
     WakesSo (Err SinkFailed) = ⊥
     WakesSo (Err Memory) = StopsWaking (layers_on G f) f v.base v'.base
 
     -- and the count of faults hasn't fallen
-    pub record Woke (result : Result (Unit {0}) Halted) : Type 0 where
+    pub record Woke (result : Result (Unit {0}) RunHalted) : Type 0 where
       pub so : WakesSo result
       pub later : G.faults v.base ≤ G.faults v'.base
 
@@ -76,24 +76,24 @@ module _ {S : Type 0} (G : Meaning S) (f : File) where
       DidPart = LeftOf (layers_on G f) f c (state_seen f v) v'.base
 
       -- how it ended
-      abbrev pub DidSo : Result Answer Halted → Type 0
+      abbrev pub DidSo : Result Answer RunHalted → Type 0
       DidSo (Ok answer) = (e : Entry) × DidWhole e × (answer_in e ≡ answer)
       DidSo (Err DeviceFailed) = FaultsRose v v' × DidPart
       DidSo (Err SinkFailed) = ⊥
       DidSo (Err Memory) = DidPart
 
-      pub record Did (result : Result Answer Halted) : Type 0 where
+      pub record Did (result : Result Answer RunHalted) : Type 0 where
         pub so : DidSo result
         pub later : G.faults v.base ≤ G.faults v'.base
 
       -- how it ended, if its line was to be put
-      abbrev pub AnswersSo : (before now : Option (List ℕ)) → (SinkRose : Type 0) → Result (Unit {0}) Halted → Type 0
+      abbrev pub AnswersSo : (before now : Option (List ℕ)) → (SinkRose : Type 0) → Result (Unit {0}) RunHalted → Type 0
       AnswersSo before now SinkRose (Ok done) = (e : Entry) × DidWhole e × Adds before (entry_line e) now
       AnswersSo before now SinkRose (Err DeviceFailed) = FaultsRose v v' × DidPart × (now ≡ before)
       AnswersSo before now SinkRose (Err SinkFailed) =
           SinkRose × (e : Entry) × DidWhole e × (front : List ℕ) × IsFront front (entry_line e) × Adds before front now
       AnswersSo before now SinkRose (Err Memory) = (DidPart ⊎ ((e : Entry) × DidWhole e)) × (now ≡ before)
 
-      pub record Answered (before now : Option (List ℕ)) (SinkRose : Type 0) (result : Result (Unit {0}) Halted) : Type 0 where
+      pub record Answered (before now : Option (List ℕ)) (SinkRose : Type 0) (result : Result (Unit {0}) RunHalted) : Type 0 where
         pub so : AnswersSo before now SinkRose result
         pub later : G.faults v.base ≤ G.faults v'.base

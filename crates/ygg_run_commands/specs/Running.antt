@@ -9,8 +9,8 @@ use Rattle.ygg_script.specs.declared.command.Command.{Command}
 use Rattle.ygg_script.specs.declared.command.Command.TheVariants.{Call, Tick, Lost, Fail, Keep}
 use Rattle.ygg_run_text.specs.Named.{operation_name, tick_name}
 use Rattle.ygg_run_commands.specs.Ran.{AllRan, run_lines, run_text}
-use Rattle.ygg_run_commands.specs.declared.halting.Halted.{Halted}
-use Rattle.ygg_run_commands.specs.declared.halting.Halted.TheVariants.{DeviceFailed, SinkFailed, Memory}
+use Rattle.ygg_run_commands.specs.declared.halting.RunHalted.{RunHalted}
+use Rattle.ygg_run_commands.specs.declared.halting.RunHalted.TheVariants.{DeviceFailed, SinkFailed, Memory}
 
 -- what may be printed while these commands are left: the last line only where none is
 abbrev pub text_before : (script rest : List Command) → List Entry → List ℕ
@@ -50,7 +50,7 @@ module _ {B X : Type 0} (M : Cause → Machine B X) (f : File) where
 
   -- How a run ended, what it left and what the sink has taken: all of its text where it was whole; the lines of what was whole where what lies below the
   -- layers failed; and a front of such lines where the sink failed or no memory was left.
-  abbrev pub IsRun : List Command → (from to : B) → (before now : Option (List ℕ)) → (DeviceRose SinkRose : Type 0) → Result (Unit {0}) Halted → Type 0
+  abbrev pub IsRun : List Command → (from to : B) → (before now : Option (List ℕ)) → (DeviceRose SinkRose : Type 0) → Result (Unit {0}) RunHalted → Type 0
   IsRun script from to before now DeviceRose SinkRose (Ok done) =
       (es : List Entry) × (at : State B) × Runs script from es at × (to ≡ at.base) × Adds before (run_text script es) now
   IsRun script from to before now DeviceRose SinkRose (Err DeviceFailed) =

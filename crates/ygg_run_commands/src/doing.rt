@@ -8,7 +8,7 @@ ghost use Rattle.ygg_script.specs.Plain.{is_plain};
 ghost use Rattle.ygg_script.specs.declared.command.Command.TheVariants as command;
 ghost use Rattle.ygg_run_commands.specs.Doing.{given_of, AllStand, AllRun, Woke, Did};
 
-use crate::halting::Halted;
+use crate::halting::RunHalted;
 use std::alloc::Global;
 use ygg_base::Bits;
 use ygg_disk::{Picks, Power, Turn};
@@ -35,16 +35,16 @@ fn steady(alloc: Global) -> Power
 }
 
 /// What was given by what ended so, in which power can't fail.
-fn given(turned: Result<Turn, NoMemory>) -> Result<Option<Value>, Halted>
+fn given(turned: Result<Turn, NoMemory>) -> Result<Option<Value>, RunHalted>
     requires { ending_of turned ≢ Down }
     ensures { result ≡ given_of (ending_of turned) }
 {
     match turned {
         Ok(Turn::Done) => Ok(None),
         Ok(Turn::Answer(answer)) => Ok(Some(answer)),
-        Ok(Turn::Failed) => Err(Halted::DeviceFailed),
+        Ok(Turn::Failed) => Err(RunHalted::DeviceFailed),
         Ok(Turn::Down) => unreachable!(),
-        Err(_) => Err(Halted::Memory),
+        Err(_) => Err(RunHalted::Memory),
     }
 }
 
@@ -53,7 +53,7 @@ pub fn wake<W: Viewed + Drop>(
     alloc: Global,
     tower: &mut Floor<W>,
     typed: &Typed,
-) -> Result<(), Halted>
+) -> Result<(), RunHalted>
     requires { AllStand W.seen.means typed.now.file ((floor_seen W.seen).look tower.old) }
     ensures { Woke W.seen.means typed.now.file ((floor_seen W.seen).look tower.old) ((floor_seen W.seen).look tower.new) result }
 {
@@ -69,7 +69,7 @@ fn call<W: Viewed + Drop>(
     typed: &Typed,
     op: u32,
     args: &Values,
-) -> Result<Option<Value>, Halted>
+) -> Result<Option<Value>, RunHalted>
     requires runs { AllRun W.seen.means typed.now.file ((floor_seen W.seen).look tower.old) }
     requires fits { IsCallOf typed.now.file op args.now }
     ensures { Did W.seen.means typed.now.file ((floor_seen W.seen).look tower.old) ((floor_seen W.seen).look tower.new)
@@ -86,7 +86,7 @@ fn tick<W: Viewed + Drop>(
     typed: &Typed,
     layer: u32,
     number: u32,
-) -> Result<Option<Value>, Halted>
+) -> Result<Option<Value>, RunHalted>
     requires runs { AllRun W.seen.means typed.now.file ((floor_seen W.seen).look tower.old) }
     requires fits { IsTickOf typed.now.file layer number }
     ensures { Did W.seen.means typed.now.file ((floor_seen W.seen).look tower.old) ((floor_seen W.seen).look tower.new)
@@ -102,7 +102,7 @@ pub fn run_command<W: Viewed + Drop>(
     tower: &mut Floor<W>,
     typed: &Typed,
     command: &Command,
-) -> Result<Option<Value>, Halted>
+) -> Result<Option<Value>, RunHalted>
     requires runs { AllRun W.seen.means typed.now.file ((floor_seen W.seen).look tower.old) }
     requires fits { IsCommandOf typed.now.file command.now }
     requires plain { is_plain command.now ≡ true }

@@ -6,5 +6,5 @@ mod halting;
 pub mod law;
 mod running;
 
-pub use halting::Halted;
+pub use halting::RunHalted;
 pub use running::run_on;

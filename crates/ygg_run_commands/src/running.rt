@@ -13,7 +13,7 @@ ghost use Rattle.ygg_run_commands.specs.Running.{IsRun};
 ghost use Rattle.ygg_run_commands.specs.Doing.{IsPut, AllStand, AllRun, FaultsRose, Answered};
 
 use crate::doing::{run_command, wake};
-use crate::halting::Halted;
+use crate::halting::RunHalted;
 use std::alloc::Global;
 use ygg_base::{Sink, Text};
 use ygg_list::NoMemory;
@@ -25,13 +25,13 @@ use ygg_type::Typed;
 use ygg_value::Value;
 
 /// Puts a text. Its only error is that the sink failed.
-fn put_text<K: Sink>(sink: &mut K, text: &[u8]) -> Result<(), Halted>
+fn put_text<K: Sink>(sink: &mut K, text: &[u8]) -> Result<(), RunHalted>
     ensures put { IsPut text.now (K.taken sink.old) (K.taken sink.new) (Rose (K.faults sink.old) (K.faults sink.new)) result }
     ensures later { K.faults sink.old ≤ K.faults sink.new }
 {
     match put(sink, text) {
         Ok(()) => Ok(()),
-        Err(_) => Err(Halted::SinkFailed),
+        Err(_) => Err(RunHalted::SinkFailed),
     }
 }
 
@@ -51,7 +51,7 @@ fn answer<W: Viewed + Drop, K: Sink>(
     typed: &Typed,
     next: &Command,
     sink: &mut K,
-) -> Result<(), Halted>
+) -> Result<(), RunHalted>
     requires runs { AllRun W.seen.means typed.now.file ((floor_seen W.seen).look tower.old) }
     requires fits { IsCommandOf typed.now.file next.now }
     requires plain { is_plain next.now ≡ true }
@@ -65,13 +65,13 @@ fn answer<W: Viewed + Drop, K: Sink>(
 }
 
 /// Puts the last line: how many commands were run.
-fn put_ran<K: Sink>(alloc: Global, count: usize, sink: &mut K) -> Result<(), Halted>
+fn put_ran<K: Sink>(alloc: Global, count: usize, sink: &mut K) -> Result<(), RunHalted>
     ensures put { IsPut (ran_line count) (K.taken sink.old) (K.taken sink.new) (Rose (K.faults sink.old) (K.faults sink.new)) result }
     ensures later { K.faults sink.old ≤ K.faults sink.new }
 {
     match format!(in alloc; "ran {count}\n") {
         Ok(line) => put_text(sink, line.as_bytes()),
-        Err(_) => Err(Halted::Memory),
+        Err(_) => Err(RunHalted::Memory),
     }
 }
 
@@ -83,7 +83,7 @@ pub fn run_on<W: Viewed + Drop, K: Sink>(
     typed: &Typed,
     script: &[Command],
     sink: &mut K,
-) -> Result<(), Halted>
+) -> Result<(), RunHalted>
     requires stands { AllStand W.seen.means typed.now.file ((floor_seen W.seen).look tower.old) }
     requires script { IsScriptOf typed.now.file script.now }
     requires plain { plain_of script.now ≡ None }

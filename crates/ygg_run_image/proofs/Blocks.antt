@@ -55,7 +55,8 @@ module _ (size count : ℕ) (bytes : List ℕ) (long : length bytes ≡ (count +
     rest-written at h =
         let start : (at + 1) * size ≡ size + at * size = let more = suc-mul at size in omega (arith, more) in
         let tail = drop ((at + 1) * size + size) bytes in
-        let one : length (take size bytes) ≡ size = length-take-le size bytes (let f = block_fits 0 (omega arith) in let none = zero-mul size in omega (arith, f, none)) in
+        let one : length (take size bytes) ≡ size = length-take-le size bytes
+        (let f = block_fits 0 (omega arith) in let none = zero-mul size in omega (arith, f, none)) in
         let front : take ((at + 1) * size) bytes ≡ take size bytes ++ take (at * size) rest = ap (λ n. take n bytes) start ∙ take-add size (at * size) bytes in
         let behind : tail ≡ drop size (drop (at * size) rest) =
         ap (λ n. drop (n + size) bytes) start

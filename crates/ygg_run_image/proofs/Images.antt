@@ -1,5 +1,6 @@
 -- Images and the rows that they hold.
-use Rattle.std.proofs.Common.{◌≡◌, ℕ, zero, suc, ◌+◌, ◌-◌, ◌*◌, ◌<◌, ◌≤◌, Bool, List, [], ◌∷◌, ◌++◌, length, set, take, drop, replicate, map, All, refl, sym, ap, subst, ◌∙◌, arith}
+use Rattle.std.proofs.Common.{◌≡◌, ℕ, zero, suc, ◌+◌, ◌-◌, ◌*◌, ◌<◌, ◌≤◌, Bool, List, [], ◌∷◌}
+use Rattle.std.proofs.Common.{◌++◌, length, set, take, drop, replicate, map, All, refl, sym, ap, subst, ◌∙◌, arith}
 use Rattle.std.proofs.Math.Nat.{le-max_left, suc-mul}
 use Rattle.std.proofs.lemmas.List.{take-append-drop, drop_at, drop-replicate, length-append, length-map, length-replicate, map-set}
 use Rattle.std.proofs.lemmas.List.Elements.{All-map, All-replicate}
@@ -14,7 +15,8 @@ use Rattle.ygg_value.proofs.Rows.{length-first_chunks, first_chunks-replicate, s
 use Rattle.ygg_disk.specs.Size.{table_shape, zeros_of}
 use Rattle.ygg_run_image.specs.Image.{block_bytes, header, image, image_bytes, row_block, rows_in, words_in}
 use Rattle.ygg_run_image.specs.Judged.{AreWords, HoldsRows, IsRowBlock}
-use Rattle.ygg_run_image.specs.Laws.{AreRows, AreBlocks, ImagesHoldTheirRows, ImagesAreBlocks, BlocksAreImages, HeadersHoldNoRows, WrittenRowsAreHeld, ZerosHoldZeros}
+use Rattle.ygg_run_image.specs.Laws.{AreRows, AreBlocks, ImagesHoldTheirRows, ImagesAreBlocks}
+use Rattle.ygg_run_image.specs.Laws.{BlocksAreImages, HeadersHoldNoRows, WrittenRowsAreHeld, ZerosHoldZeros}
 use Rattle.ygg_run_image.proofs.Blocks.{length-rest, block-chunk, length-written, rest-header, chunks-written}
 use Rattle.ygg_run_image.proofs.Pieces.{length-pieces, chunks-pieces}
 use Rattle.ygg_run_image.proofs.Rows.{length-row_block, words-row_block, row_block-words, words-are, zeros-are, zeros-block}
@@ -126,7 +128,8 @@ module _ (g : Geometry) where
 
     pub blocks-image : (sealed : Bool) → take (block_bytes g) bytes ≡ header g sealed → bytes ≡ image g sealed (rows_in g bytes)
     blocks-image sealed first =
-        sym (take-append-drop (block_bytes g) bytes) ∙ ap (λ front. front ++ drop (block_bytes g) bytes) first ∙ ap (λ rest. header g sealed ++ rest) blocks-rows
+        sym (take-append-drop (block_bytes g) bytes) ∙ ap (λ front. front ++ drop (block_bytes g) bytes) first
+        ∙ ap (λ rest. header g sealed ++ rest) blocks-rows
 
     module _ (block : List ℕ) (is : length block ≡ block_bytes g) where
       pub header-blocks : AreBlocks g (with_block (block_bytes g) 0 block bytes) × (rows_in g (with_block (block_bytes g) 0 block bytes) ≡ rows_in g bytes)
@@ -151,7 +154,8 @@ module _ (g : Geometry) where
 
   pub row-written : (bytes : List ℕ) → AreBlocks g bytes → (at : ℕ) (words : List ℕ) → at < g.rows → AreWords g words →
       AreBlocks g (with_block (block_bytes g) (at + 1) (row_block g words) bytes)
-      × (rows_in g (with_block (block_bytes g) (at + 1) (row_block g words) bytes) ≡ table_write (rows_in g bytes) at (record { width = g.width; words = words }))
+      × (rows_in g (with_block (block_bytes g) (at + 1) (row_block g words) bytes) ≡ table_write (rows_in g bytes) at
+      (record { width = g.width; words = words }))
   row-written bytes are at words h fit =
       let block = row_block g words in
       let is = length-row_block g words fit.many in
@@ -182,7 +186,8 @@ module _ (g : Geometry) where
       let cuts : chunks bytes ≡ replicate g.rows (replicate size 0) =
       ap (first_chunks size g.rows) (drop-replicate size (image_bytes g) 0 ∙ ap (λ n. replicate n 0) many) ∙ first_chunks-replicate size g.rows 0 in
       let block : IsRowBlock g (replicate size 0) = (replicate g.words 0, zeros-are g, sym (zeros-block g)) in
-      let words : words_in g (replicate size 0) ≡ replicate g.words 0 = ap (words_in g) (sym (zeros-block g)) ∙ words-row_block g (replicate g.words 0) (zeros-are g) in (
+      let words : words_in g (replicate size 0) ≡ replicate g.words 0 = ap (words_in g) (sym (zeros-block g))
+      ∙ words-row_block g (replicate g.words 0) (zeros-are g) in (
         record {
           limits = limits;
           whole = whole;

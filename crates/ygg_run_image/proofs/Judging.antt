@@ -15,7 +15,8 @@ pub images_are_accepted : ImagesAreAccepted
 images_are_accepted g rows are =
     let blocks = image-blocks g rows are true in
     let least : 16 ≤ block_bytes g = le-max_left 16 _ in
-    let long : block_bytes g ≤ length (image g true rows) = let all = mul-le-mul_right {m = 1} {n = g.rows + 1} (block_bytes g) (omega arith) in omega (arith, all, blocks.whole) in
+    let long : block_bytes g ≤ length (image g true rows) = let all = mul-le-mul_right {m = 1} {n = g.rows + 1} (block_bytes g) (omega arith) in
+    omega (arith, all, blocks.whole) in
     (record { long = long; begins = refl; sealed = refl }, record { sized = refl; whole = blocks.whole }, blocks.rows)
 
 module _ (g : Geometry) (block bytes : List ℕ) (long : block_bytes g ≤ length bytes) (begins : take (block_bytes g) bytes ≡ block) where

@@ -1,5 +1,6 @@
 -- Rows and their blocks.
-use Rattle.std.proofs.Common.{◌≡◌, ℕ, zero, suc, ◌+◌, ◌-◌, ◌*◌, ◌%◌, ◌^◌, ◌<◌, ◌≤◌, List, [], ◌∷◌, ◌++◌, length, take, drop, get_or, replicate, map, All, inl, inr, refl, sym, ap, ◌∙◌, arith}
+use Rattle.std.proofs.Common.{◌≡◌, ℕ, zero, suc, ◌+◌, ◌-◌, ◌*◌, ◌%◌, ◌^◌, ◌<◌, ◌≤◌, List, [], ◌∷◌}
+use Rattle.std.proofs.Common.{◌++◌, length, take, drop, get_or, replicate, map, All, inl, inr, refl, sym, ap, ◌∙◌, arith}
 use Rattle.std.proofs.Math.Nat.{le-max_right, mod-lt, zero-mul, suc-mul}
 use Rattle.std.proofs.lemmas.Bool.{cases_lt}
 use Rattle.std.proofs.lemmas.Grind.{flat_map-append, take_at_read}
@@ -106,7 +107,8 @@ module _ (g : Geometry) where
   zeros-block =
       let fits : g.words * word_bytes g ≤ block_bytes g = le-max_right 16 (g.words * word_bytes g) in
       let row = zero_words g.words in
-      let long : length (flat_map word_block (replicate g.words 0)) ≡ g.words * word_bytes g = ap length row ∙ length-replicate {A = ℕ} (g.words * word_bytes g) 0 in
+      let long : length (flat_map word_block (replicate g.words 0)) ≡ g.words * word_bytes g = ap length row
+      ∙ length-replicate {A = ℕ} (g.words * word_bytes g) 0 in
       ap (λ bs. bs ++ replicate (block_bytes g - length (flat_map word_block (replicate g.words 0))) 0) row
       ∙ ap (λ n. replicate (g.words * word_bytes g) 0 ++ replicate (block_bytes g - n) 0) long
       ∙ replicate-append-replicate (g.words * word_bytes g) (block_bytes g - g.words * word_bytes g) 0
@@ -122,7 +124,8 @@ module _ (g : Geometry) (words : List ℕ) where
 
   -- one more
   pub begun-next : (count : ℕ) → count < length words →
-      take (count * word_bytes g) (begun count) ++ bytes_high_first (word_bytes g) (get_or words count 0) ++ drop (count * word_bytes g + word_bytes g) (begun count)
+      take (count * word_bytes g) (begun count) ++ bytes_high_first (word_bytes g) (get_or words count 0) ++ drop
+      (count * word_bytes g + word_bytes g) (begun count)
       ≡ begun (count + 1)
   begun-next count h =
       let size = word_bytes g in

@@ -1,5 +1,6 @@
 -- Images that are attached and accepted.
-use Rattle.std.proofs.Common.{◌≡◌, ℕ, ◌+◌, ◌*◌, ◌/◌, ◌<◌, ◌≤◌, ◌-◌, ◌^◌, List, length, Option, Some, None, Result, Ok, Err, OnOk, IfSome, refl, sym, ap, ◌∙◌, subst, arith, min}
+use Rattle.std.proofs.Common.{◌≡◌, ℕ, ◌+◌, ◌*◌, ◌/◌, ◌<◌, ◌≤◌, ◌-◌, ◌^◌, List, length, Option, Some}
+use Rattle.std.proofs.Common.{None, Result, Ok, Err, OnOk, IfSome, refl, sym, ap, ◌∙◌, subst, arith, min}
 use Rattle.std.proofs.Math.Nat.{le-max_left, min-eq_left}
 use Rattle.std.proofs.lemmas.Nat.{div-mul-add}
 use Rattle.ygg_base.specs.declared.geometry.Geometry.{Geometry}
@@ -50,4 +51,11 @@ pub finds_attached : (g : Geometry) (name : List ℕ) (size bytes : ℕ) (images
 finds_attached g name size bytes None images' at result is kept fits judged = tt
 finds_attached g name size bytes (Some told) images' at result is kept (image, there, long, even) judged =
     found_so g name told image there result
-    (judged image (record { told = told; at = record { name = name; size = size; count = blocks_in size bytes }; tells = kept; attaches = is; is = there; long = long }))
+    (judged image (record {
+      told = told;
+      at = record { name = name; size = size; count = blocks_in size bytes };
+      tells = kept;
+      attaches = is;
+      is = there;
+      long = long;
+    }))

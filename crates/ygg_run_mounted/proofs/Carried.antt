@@ -16,8 +16,8 @@ use Rattle.ygg_script.specs.declared.command.Command.TheVariants.{Call, Tick, Lo
 use Rattle.ygg_run_text.specs.Named.{operation_name, tick_name}
 use Rattle.ygg_run_commands.specs.Ran.{AllRan}
 use Rattle.ygg_run_commands.specs.Running.{Runs, LeftOf, StopsWaking, StopsBefore, IsRun}
-use Rattle.ygg_run_commands.specs.declared.halting.Halted.{Halted}
-use Rattle.ygg_run_commands.specs.declared.halting.Halted.TheVariants.{DeviceFailed, SinkFailed, Memory}
+use Rattle.ygg_run_commands.specs.declared.halting.RunHalted.{RunHalted}
+use Rattle.ygg_run_commands.specs.declared.halting.RunHalted.TheVariants.{DeviceFailed, SinkFailed, Memory}
 
 -- the one shows the other
 abbrev pub Along : {S T : Type 0} → (S → T) → T → S → Type 0
@@ -131,7 +131,7 @@ module _ {S T : Type 0} (look : S → T) (M : Cause → Machine S Note) (N : Cau
       by_cases (inr (next, later, is, h)) = inr (next, later, is, left_of next x.at left h)
 
   pub carried : (script : List Command) (from to : S) (before now : Option (List ℕ)) (DeviceRose SinkRose LaterDevice LaterSink : Type 0) →
-      (DeviceRose → LaterDevice) → (SinkRose → LaterSink) → (result : Result (Unit {0}) Halted) →
+      (DeviceRose → LaterDevice) → (SinkRose → LaterSink) → (result : Result (Unit {0}) RunHalted) →
       IsRun M f script from to before now DeviceRose SinkRose result → IsRun N f script (look from) (look to) before now LaterDevice LaterSink result
   carried script from to before now DeviceRose SinkRose LaterDevice LaterSink device sink (Ok done) (es, s, r, is, adds) =
       (es, at s, runs script from es s r, ap look is, adds)

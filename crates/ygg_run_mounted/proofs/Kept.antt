@@ -16,8 +16,8 @@ use Rattle.ygg_run_text.specs.Named.{operation_name, tick_name}
 use Rattle.ygg_run_commands.specs.Ran.{AllRan}
 use Rattle.ygg_run_commands.specs.OnGround.{layers_on}
 use Rattle.ygg_run_commands.specs.Running.{Runs, LeftOf, StopsWaking, StopsBefore, IsRun}
-use Rattle.ygg_run_commands.specs.declared.halting.Halted.{Halted}
-use Rattle.ygg_run_commands.specs.declared.halting.Halted.TheVariants.{DeviceFailed, SinkFailed, Memory}
+use Rattle.ygg_run_commands.specs.declared.halting.RunHalted.{RunHalted}
+use Rattle.ygg_run_commands.specs.declared.halting.RunHalted.TheVariants.{DeviceFailed, SinkFailed, Memory}
 
 module _ {S : Type 0} (G : Meaning S) (I : S → Type 0) (start : S) (k : (cause : Cause) → Keeps I (ground_machine G cause start)) where
   -- from whatever state
@@ -91,7 +91,8 @@ module _ {S : Type 0} (G : Meaning S) (I : S → Type 0) (start : S) (k : (cause
         by_cases (inl same) = subst (λ (b : S). I b) (sym same) at
         by_cases (inr (next, later, is, h)) = left_keeps next x.at left at h
 
-    pub run_keeps : (script : List Command) (from to : S) (before now : Option (List ℕ)) (DeviceRose SinkRose : Type 0) → (result : Result (Unit {0}) Halted) →
+    pub run_keeps : (script : List Command) (from to : S) (before now : Option (List ℕ)) (DeviceRose SinkRose : Type 0) →
+        (result : Result (Unit {0}) RunHalted) →
         I from → IsRun (layers_on G f) f script from to before now DeviceRose SinkRose result → I to
     run_keeps script from to before now DeviceRose SinkRose (Ok done) i (es, s, r, is, adds) =
         subst (λ (b : S). I b) (sym is) (runs_keep script from es s i r)

@@ -13,7 +13,7 @@ use Rattle.ygg_run_image.specs.Laws.{BlocksAreImages, ImagesHoldTheirRows}
 use Rattle.ygg_run_commands.specs.OnGround.{layers_on}
 use Rattle.ygg_run_commands.specs.Running.{IsRun}
 use Rattle.ygg_run_commands.specs.Extending.{RunsExtend}
-use Rattle.ygg_run_commands.specs.declared.halting.Halted.{Halted}
+use Rattle.ygg_run_commands.specs.declared.halting.RunHalted.{RunHalted}
 use Rattle.ygg_run_ground.specs.DeviceMeaning.{device_meaning}
 use Rattle.ygg_run_ground.specs.Sight.{Sight, Holds}
 use Rattle.ygg_run_ground.specs.Standing.{KeepsHeader, StaysOn}
@@ -27,7 +27,7 @@ use Rattle.ygg_run_mounted.proofs.Whole.{leaves_run}
 
 module _ {S : Type 0} (look : S → Sight) (f : File) (script : List Command) (from to : S) (taken taken' : Option (List ℕ)) (DeviceRose SinkRose : Type 0)
     (geometry : (look from).geometry ≡ geometry_of f.disk) (holds : Holds (look from).geometry (look from).images (look from).attached)
-    (result : Result (Unit {0}) Halted)
+    (result : Result (Unit {0}) RunHalted)
     (run : IsRun (layers_on (device_meaning look) f) f script from to taken taken' DeviceRose SinkRose result) where
   -- the ground stayed on its device
   pub stayed : StaysOn (look from) (look to)
@@ -46,7 +46,7 @@ module _ {S : Type 0} (look : S → Sight) (f : File) (script : List Command) (f
   kept : Tells (AttachedTurns (KeepsHeader (geometry_of f.disk)) (look from).attached) (look from).images (look to).images
   kept = subst (λ (g : Geometry). Tells (AttachedTurns (KeepsHeader g) (look from).attached) (look from).images (look to).images) geometry stayed.images
 
-  part : (why : Halted) → IsRun (layers_on (device_meaning look) f) f script from to taken taken' DeviceRose SinkRose (Err why) →
+  part : (why : RunHalted) → IsRun (layers_on (device_meaning look) f) f script from to taken taken' DeviceRose SinkRose (Err why) →
       RanPart f script (look from).images (look to).images (look from).attached taken taken' DeviceRose SinkRose why
   part why h =
       let on_sights = run_seen look f script from to taken taken' DeviceRose SinkRose DeviceRose SinkRose (λ rose. rose) (λ rose. rose) (Err why) h in
@@ -72,7 +72,7 @@ module _ {S : Type 0} (look : S → Sight) (f : File) (script : List Command) (f
       limits : IsShape (table_shape (geometry_of f.disk))
       limits = subst (λ (g : Geometry). IsShape (table_shape g)) geometry holds.limits
 
-      by_result : (r : Result (Unit {0}) Halted) → IsRun (layers_on (device_meaning look) f) f script from to taken taken' DeviceRose SinkRose r →
+      by_result : (r : Result (Unit {0}) RunHalted) → IsRun (layers_on (device_meaning look) f) f script from to taken taken' DeviceRose SinkRose r →
           RanSo f script (look from).images (look to).images (look from).attached taken taken' DeviceRose SinkRose r
       by_result (Ok done) (es, at, runs, is, adds) = record {
         entries = es;

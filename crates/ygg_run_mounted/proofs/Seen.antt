@@ -15,7 +15,7 @@ use Rattle.ygg_machine.specs.Told.{SameNotes}
 use Rattle.ygg_script.specs.declared.command.Command.{Command}
 use Rattle.ygg_run_commands.specs.OnGround.{layers_on}
 use Rattle.ygg_run_commands.specs.Running.{IsRun}
-use Rattle.ygg_run_commands.specs.declared.halting.Halted.{Halted}
+use Rattle.ygg_run_commands.specs.declared.halting.RunHalted.{RunHalted}
 use Rattle.ygg_run_ground.specs.DeviceMeaning.{device_meaning}
 use Rattle.ygg_run_ground.specs.Sight.{Sight}
 use Rattle.ygg_run_ground.specs.Turning.{Moves}
@@ -77,7 +77,7 @@ module _ {S : Type 0} (look : S → Sight) where
 
   -- a run on a ground over a device is one on what is seen of it
   pub run_seen : (f : File) (script : List Command) (from to : S) (before now : Option (List ℕ)) (DeviceRose SinkRose LaterDevice LaterSink : Type 0) →
-      (DeviceRose → LaterDevice) → (SinkRose → LaterSink) → (result : Result (Unit {0}) Halted) →
+      (DeviceRose → LaterDevice) → (SinkRose → LaterSink) → (result : Result (Unit {0}) RunHalted) →
       IsRun (layers_on (device_meaning look) f) f script from to before now DeviceRose SinkRose result →
       IsRun (layers_on on_device f) f script (sight from) (sight to) before now LaterDevice LaterSink result
   run_seen f = carried sight (layers_on (device_meaning look) f) (layers_on on_device f) (layers_seen f) f

@@ -7,8 +7,8 @@ use Rattle.ygg_report.specs.Putting.{Adds}
 use Rattle.ygg_script.specs.declared.command.Command.{Command}
 use Rattle.ygg_run_commands.specs.Ran.{run_lines}
 use Rattle.ygg_run_commands.specs.Running.{IsRun}
-use Rattle.ygg_run_commands.specs.declared.halting.Halted.{Halted}
-use Rattle.ygg_run_commands.specs.declared.halting.Halted.TheVariants.{DeviceFailed, SinkFailed, Memory}
+use Rattle.ygg_run_commands.specs.declared.halting.RunHalted.{RunHalted}
+use Rattle.ygg_run_commands.specs.declared.halting.RunHalted.TheVariants.{DeviceFailed, SinkFailed, Memory}
 
 -- nothing is added where nothing was taken
 pub adds_none : (before now : Option (List ℕ)) → now ≡ before → Adds before [] now
@@ -18,10 +18,10 @@ adds_none (Some b) now same = same ∙ ap (λ (l : List ℕ). Some l) (sym (appe
 module _ {B X : Type 0} (M : Cause → Machine B X) (f : File) (script : List Command) (from to : B) (before now : Option (List ℕ))
     (DeviceRose SinkRose : Type 0) where
   -- the text, and that it is what such a run puts
-  abbrev pub HasText : Halted → Type 0
+  abbrev pub HasText : RunHalted → Type 0
   HasText why = (text : List ℕ) × Adds before text now × IsRun M f script from to (Some []) (Some text) DeviceRose SinkRose (Err why)
 
-  pub text_of : (why : Halted) → IsRun M f script from to before now DeviceRose SinkRose (Err why) → HasText why
+  pub text_of : (why : RunHalted) → IsRun M f script from to before now DeviceRose SinkRose (Err why) → HasText why
   text_of DeviceFailed (rose, inl (x, same)) = ([], adds_none before now same, (rose, inl (x, refl)))
   text_of DeviceFailed (rose, inr (rest, es, x, adds)) = (run_lines es, adds, (rose, inr (rest, es, x, refl)))
   text_of SinkFailed (rose, rest, es, x, front, is, adds) = (front, adds, (rose, rest, es, x, front, is, refl))

@@ -66,7 +66,8 @@ module _ (g : Geometry) where
 
   -- the disk that is told of an image shows the rows that it holds
   pub rows_told : (kind : DiskKind) (i : Image) (x : (model_of kind).State) →
-      Some (record { kind = g.kind; state = state_of g.kind g i }) ≡ Some (disk_in kind x) → look_up (codes "view") (tables_in kind x) ≡ Table (rows_in g i.view)
+      Some (record { kind = g.kind; state = state_of g.kind g i }) ≡ Some (disk_in kind x) →
+      look_up (codes "view") (tables_in kind x) ≡ Table (rows_in g i.view)
   unfolding shown_by
   rows_told kind i x same =
       let told : Some (shown_by (record { kind = g.kind; state = state_of g.kind g i })) ≡ Some (shown_by (disk_in kind x)) =

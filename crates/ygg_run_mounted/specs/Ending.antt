@@ -15,8 +15,8 @@ use Rattle.ygg_run_mount.specs.declared.unmounted.Unmounted.TheVariants as unmou
 use Rattle.ygg_run_commands.specs.OnGround.{layers_on}
 use Rattle.ygg_run_commands.specs.Ran.{AllRan, run_text}
 use Rattle.ygg_run_commands.specs.Running.{IsRun}
-use Rattle.ygg_run_commands.specs.declared.halting.Halted.{Halted}
-use Rattle.ygg_run_commands.specs.declared.halting.Halted.TheVariants as halted
+use Rattle.ygg_run_commands.specs.declared.halting.RunHalted.{RunHalted}
+use Rattle.ygg_run_commands.specs.declared.halting.RunHalted.TheVariants as halted
 use Rattle.ygg_run_mounted.specs.OnDevice.{on_device, seen}
 use Rattle.ygg_run_mounted.specs.Extending.{HasRun, KeepsImage}
 use Rattle.ygg_run_mounted.specs.declared.run_end.RunEnd.{RunEnd}
@@ -30,7 +30,7 @@ end_unmounted unmounted.DeviceFailed = DeviceFailed
 end_unmounted unmounted.Memory = Memory
 
 -- how a run ends on an image that was mounted
-abbrev pub end_of : Result (Unit {0}) Halted → RunEnd
+abbrev pub end_of : Result (Unit {0}) RunHalted → RunEnd
 end_of (Ok done) = Done
 end_of (Err halted.DeviceFailed) = DeviceFailed
 end_of (Err halted.SinkFailed) = SinkFailed
@@ -43,7 +43,7 @@ module _ (f : File) (script : List Command) (name : List ℕ) (before now : Opti
 
   -- The image was mounted, and a run on it was given up after this text: the calls that it has made are first ones of those that the waking and the commands
   -- make.
-  pub record IsGivenUp (DeviceRose SinkRose : Type 0) (why : Halted) (text : List ℕ) : Type 0 where
+  pub record IsGivenUp (DeviceRose SinkRose : Type 0) (why : RunHalted) (text : List ℕ) : Type 0 where
     pub images : Option (List Image)
     pub mounts : Tells (Mounts (geometry_of f.disk) name (Ok tt)) before images
     pub run : IsRun (layers_on on_device f) f script (mounted images) (mounted now) (Some []) (Some text) DeviceRose SinkRose (Err why)
@@ -55,7 +55,7 @@ module _ (f : File) (script : List Command) (name : List ℕ) (before now : Opti
     IsNotMounted why = Tells (Mounts (geometry_of f.disk) name (Err why)) before now × (taken' ≡ taken)
 
     -- a run was given up, and the sink has taken its text
-    abbrev pub HaltsBy : Halted → Type 0
+    abbrev pub HaltsBy : RunHalted → Type 0
     HaltsBy why = (text : List ℕ) × Adds taken text taken' × IsGivenUp DeviceRose SinkRose why text
 
     -- the run was whole: an entry for each command, and the text of all of them

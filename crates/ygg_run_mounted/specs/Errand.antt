@@ -8,7 +8,7 @@ use Rattle.ygg_script.specs.Fitting.{IsScriptOf}
 use Rattle.ygg_script.specs.Plain.{plain_of}
 use Rattle.ygg_run_commands.specs.OnGround.{layers_on}
 use Rattle.ygg_run_commands.specs.Running.{IsRun}
-use Rattle.ygg_run_commands.specs.declared.halting.Halted.{Halted}
+use Rattle.ygg_run_commands.specs.declared.halting.RunHalted.{RunHalted}
 
 -- a script of the file that a device can be run by
 pub record SuitsFile (f : File) (script : List Command) : Type 0 where
@@ -17,7 +17,7 @@ pub record SuitsFile (f : File) (script : List Command) : Type 0 where
 
 -- a run of a script on the layers of a file, which ended so, and what it made of the ground and of the sink, which is still the same
 pub record RunsCommands {S : Type 0} (G : Meaning S) (f : File) (script : List Command) (from to : S) (sink sink' : ℕ) (before now : Option (List ℕ))
-    (faults faults' : ℕ) (ended : Result (Unit {0}) Halted) : Type 0 where
+    (faults faults' : ℕ) (ended : Result (Unit {0}) RunHalted) : Type 0 where
   pub same : sink' ≡ sink
   pub run : IsRun (layers_on G f) f script from to before now (Rose (G.faults from) (G.faults to)) (Rose faults faults') ended
   pub later_ground : G.faults from ≤ G.faults to

@@ -11,7 +11,7 @@ use Rattle.ygg_run_mount.specs.Mounting.{Mounts, whole_image}
 use Rattle.ygg_run_commands.specs.OnGround.{layers_on}
 use Rattle.ygg_run_commands.specs.Ran.{AllRan, run_text}
 use Rattle.ygg_run_commands.specs.Running.{IsRun}
-use Rattle.ygg_run_commands.specs.declared.halting.Halted.{Halted}
+use Rattle.ygg_run_commands.specs.declared.halting.RunHalted.{RunHalted}
 use Rattle.ygg_run_mounted.specs.OnDevice.{on_device, seen}
 use Rattle.ygg_run_mounted.specs.Extending.{HasRun}
 
@@ -26,7 +26,7 @@ module _ (f : File) (script : List Command) (before now : Option (List Image)) (
         Tells (Mounts (geometry_of f.disk) name (Ok tt)) first before → Tells (ImageTurns (HasRun f entries) name) first now
 
   -- it was given up, after this text
-  pub record RanPart (why : Halted) : Type 0 where
+  pub record RanPart (why : RunHalted) : Type 0 where
     pub text : List ℕ
     pub puts : Adds taken text taken'
     pub run : IsRun (layers_on on_device f) f script (seen (geometry_of f.disk) before attached) (seen (geometry_of f.disk) now attached) (Some []) (Some text)
@@ -34,6 +34,6 @@ module _ (f : File) (script : List Command) (before now : Option (List Image)) (
     pub stays : StaysOn (seen (geometry_of f.disk) before attached) (seen (geometry_of f.disk) now attached)
 
   -- by how it ended
-  abbrev pub RanSo : Result (Unit {0}) Halted → Type 0
+  abbrev pub RanSo : Result (Unit {0}) RunHalted → Type 0
   RanSo (Ok done) = RanWhole
   RanSo (Err why) = RanPart why

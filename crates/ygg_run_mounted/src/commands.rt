@@ -7,7 +7,7 @@ ghost use Rattle.ygg_run_mounted.specs.Errand.{SuitsFile, RunsCommands};
 use std::alloc::Global;
 use ygg_base::Sink;
 use ygg_machine::{Floor, Viewed};
-use ygg_run_commands::{Halted, run_on};
+use ygg_run_commands::{RunHalted, run_on};
 use ygg_run_stack::Errand;
 use ygg_script::Command;
 use ygg_type::Typed;
@@ -17,7 +17,7 @@ use ygg_type::Typed;
 pub(crate) struct Commands<'a, K: Sink> {
     pub script: &'a [Command],
     pub sink: &'a mut K,
-    pub ended: Result<(), Halted>,
+    pub ended: Result<(), RunHalted>,
 }
 
 impl<K: Sink> Errand for Commands<'_, K> {

@@ -18,7 +18,7 @@ use std::alloc::Global;
 use ygg_base::{Sink, Text};
 use ygg_base_device::Device;
 use ygg_disk::Ground;
-use ygg_run_commands::Halted;
+use ygg_run_commands::RunHalted;
 use ygg_run_commands::law::runs_extend;
 use ygg_run_ground::DeviceGround;
 use ygg_run_image::law::images_are_of_rows;
@@ -34,7 +34,7 @@ fn run_over<G: Ground + Drop, K: Sink>(
     script: &[Command],
     ground: G,
     sink: &mut K,
-) -> (G, Result<(), Halted>)
+) -> (G, Result<(), RunHalted>)
     requires suits { SuitsFile typed.now.file script.now }
     requires rows { HasRows G.means typed.now.file ground }
     ensures run { RunsCommands G.means typed.now.file script.now ground result.0 0 0 (K.taken sink.old) (K.taken sink.new)
@@ -45,7 +45,7 @@ fn run_over<G: Ground + Drop, K: Sink>(
     let mut commands = Commands {
         script,
         sink,
-        ended: Err(Halted::Memory),
+        ended: Err(RunHalted::Memory),
     };
     let ground = on_stack(alloc, typed, ground, &mut commands);
     (ground, commands.ended)
@@ -58,7 +58,7 @@ fn run_ground<'a, D: Device, K: Sink>(
     script: &[Command],
     ground: DeviceGround<'a, D>,
     sink: &mut K,
-) -> (DeviceGround<'a, D>, Result<(), Halted>)
+) -> (DeviceGround<'a, D>, Result<(), RunHalted>)
     requires suits { SuitsFile typed.now.file script.now }
     requires geometry { ground.geometry ≡ geometry_of typed.now.file.disk }
     ensures same_reference { result.0.device.ghost_name ≡ ground.entry.device.ghost_name }
@@ -81,7 +81,7 @@ fn run_mounted<D: Device, K: Sink>(
     script: &[Command],
     device: &mut D,
     sink: &mut K,
-) -> Result<(), Halted>
+) -> Result<(), RunHalted>
     requires suits { SuitsFile typed.now.file script.now }
     requires holds { Holds (geometry_of typed.now.file.disk) (D.images device.old) (D.attached device.old) }
     ensures ran { RanSo typed.now.file script.now (D.images device.old) (D.images device.new) (D.attached device.old) (K.taken sink.old) (K.taken sink.new)
@@ -108,14 +108,14 @@ fn not_mounted(why: Unmounted) -> RunEnd
 }
 
 /// How a run ends on an image that was mounted.
-fn ended(ended: Result<(), Halted>) -> RunEnd
+fn ended(ended: Result<(), RunHalted>) -> RunEnd
     ensures { result ≡ end_of ended }
 {
     match ended {
         Ok(()) => RunEnd::Done,
-        Err(Halted::DeviceFailed) => RunEnd::DeviceFailed,
-        Err(Halted::SinkFailed) => RunEnd::SinkFailed,
-        Err(Halted::Memory) => RunEnd::Memory,
+        Err(RunHalted::DeviceFailed) => RunEnd::DeviceFailed,
+        Err(RunHalted::SinkFailed) => RunEnd::SinkFailed,
+        Err(RunHalted::Memory) => RunEnd::Memory,
     }
 }
 

@@ -19,8 +19,8 @@ use Rattle.ygg_run_text.proofs.OneText.{one_text}
 use Rattle.ygg_run_play.specs.Scene.{Leave}
 use Rattle.ygg_run_play.specs.Doing.{left_of, ArePut}
 use Rattle.ygg_run_play.specs.Playing.{IsPlayFront, IsPlayed, IsNamedFront, ArePlayed}
-use Rattle.ygg_run_play.specs.declared.halting.Halted.{Halted}
-use Rattle.ygg_run_play.specs.declared.halting.Halted.TheVariants as halted
+use Rattle.ygg_run_play.specs.declared.halting.PlayHalted.{PlayHalted}
+use Rattle.ygg_run_play.specs.declared.halting.PlayHalted.TheVariants as halted
 use Rattle.ygg_run_play.proofs.Leaving.{leave_taken}
 
 -- where no picks are left each pick that is taken is 1, and none are left
@@ -44,11 +44,11 @@ last_line script = played_line (count_by is_played script)
 
 module _ (M : Machine Env Note) (f : File) (script : List Command) where
   -- nothing was put
-  pub none_played : (before : Option (List ℕ)) (SinkRose : Type 0) (result : Result (Unit {0}) Halted) → IsErrAnd result (λ h. h ≡ halted.Memory) →
+  pub none_played : (before : Option (List ℕ)) (SinkRose : Type 0) (result : Result (Unit {0}) PlayHalted) → IsErrAnd result (λ h. h ≡ halted.Memory) →
       IsPlayed M f script before before SinkRose result
   none_played before SinkRose (Ok done) same = absurd same
   none_played before SinkRose (Err h) same =
-      subst (λ (x : Halted). IsPlayed M f script before before SinkRose (Err x)) (sym same)
+      subst (λ (x : PlayHalted). IsPlayed M f script before before SinkRose (Err x)) (sym same)
       ([], (λ one text plays. record { rest = text; is = refl }), adds_none before)
 
   module _ (start : State Env) (fresh : IsFresh M start) where
@@ -60,19 +60,19 @@ module _ (M : Machine Env Note) (f : File) (script : List Command) where
         (front_longer front (moments_lines p.moments) (played_line (count_by is_played script)) cut)
 
     -- a line was given up
-    pub lines_halted : (before now : Option (List ℕ)) (SinkRose Rose : Type 0) (h : Halted) (result : Result (Unit {0}) Halted) → (SinkRose → Rose) →
+    pub lines_halted : (before now : Option (List ℕ)) (SinkRose Rose : Type 0) (h : PlayHalted) (result : Result (Unit {0}) PlayHalted) → (SinkRose → Rose) →
         IsErrAnd result (λ r. r ≡ h) → ArePlayed M f script start before now SinkRose (Err h) → IsPlayed M f script before now Rose result
     lines_halted before now SinkRose Rose h (Ok done) more same played = absurd same
     lines_halted before now SinkRose Rose h (Err r) more same played =
-        subst (λ (x : Halted). IsPlayed M f script before now Rose (Err x)) (sym same) (by h played)
+        subst (λ (x : PlayHalted). IsPlayed M f script before now Rose (Err x)) (sym same) (by h played)
       where
-        by : (h : Halted) → ArePlayed M f script start before now SinkRose (Err h) → IsPlayed M f script before now Rose (Err h)
+        by : (h : PlayHalted) → ArePlayed M f script start before now SinkRose (Err h) → IsPlayed M f script before now Rose (Err h)
         by (halted.Unreached at) (line, is, unreached) = (line, is, record { start = start; fresh = fresh; unreached = unreached })
         by halted.SinkFailed (rose, front, named, adds) = (more rose, front, named_front front named, adds)
         by halted.Memory (front, named, adds) = (front, named_front front named, adds)
 
     -- all lines were played, and the last was put or not
-    pub end_played : (before middle now : Option (List ℕ)) (SinkRose Rose : Type 0) (result : Result (Unit {0}) Halted) → (SinkRose → Rose) →
+    pub end_played : (before middle now : Option (List ℕ)) (SinkRose Rose : Type 0) (result : Result (Unit {0}) PlayHalted) → (SinkRose → Rose) →
         (ms : List (Moment Note)) × Names M f script [] (Up start) ms × Adds before (moments_lines ms) middle →
         ArePut (played_line (count_by is_played script)) middle now SinkRose result → IsPlayed M f script before now Rose result
     end_played before middle now SinkRose Rose result more (ms, names, adds) put = by result put
@@ -86,7 +86,7 @@ module _ (M : Machine Env Note) (f : File) (script : List Command) where
         front : (some : List ℕ) → IsFront some (text_of script ms) → IsPlayFront M f script some
         front some cut one text p = subst (λ (t : List ℕ). IsFront some t) ((one_text M f one script).text (text_of script ms) text plays p) cut
 
-        by : (result : Result (Unit {0}) Halted) → ArePut last middle now SinkRose result → IsPlayed M f script before now Rose result
+        by : (result : Result (Unit {0}) PlayHalted) → ArePut last middle now SinkRose result → IsPlayed M f script before now Rose result
         by (Ok done) put = (text_of script ms, plays, adds_more before middle now (moments_lines ms) last adds put)
         by (Err (halted.Unreached r)) put = absurd put
         by (Err halted.SinkFailed) (rose, (some, cut, put)) = (

@@ -1,5 +1,6 @@
 -- What became of what a machine did, with the stop that follows it.
-use Rattle.std.proofs.Common.{◌≡◌, ◌≤◌, ◌<◌, ℕ, ◌+◌, ◌^◌, Bool, true, false, List, [], ◌∷◌, ◌++◌, length, MatchBool, MatchOption, Option, Some, None, refl, sym, ap, ◌∙◌, subst, arith}
+use Rattle.std.proofs.Common.{◌≡◌, ◌≤◌, ◌<◌, ℕ, ◌+◌, ◌^◌, Bool, true, false, List, [], ◌∷◌}
+use Rattle.std.proofs.Common.{◌++◌, length, MatchBool, MatchOption, Option, Some, None, refl, sym, ap, ◌∙◌, subst, arith}
 use Rattle.std.proofs.lemmas.List.{length-map, length-append}
 use Rattle.ygg_disk.specs.declared.power.Fuse.{Fuse}
 use Rattle.ygg_disk.specs.declared.power.Power.{Power}
@@ -13,8 +14,8 @@ use Rattle.ygg_run_text.specs.Named.{EndsAt, Misses}
 use Rattle.ygg_run_text.specs.Lines.{events_of, calls_lines}
 use Rattle.ygg_run_play.specs.Scene.{Deed, Leave, AreWhole, AreCut, Whole, Cut, Ends, After, FallsAfterAll}
 use Rattle.ygg_run_play.specs.Doing.{left_of, IsReady, CutsAfterAll, Counted, Missed, StopsSo, IsStopped}
-use Rattle.ygg_run_play.specs.declared.scene.Outcome.{Outcome}
-use Rattle.ygg_run_play.specs.declared.scene.Outcome.TheVariants as outcome
+use Rattle.ygg_run_play.specs.declared.scene.CommandOutcome.{CommandOutcome}
+use Rattle.ygg_run_play.specs.declared.scene.CommandOutcome.TheVariants as outcome
 use Rattle.ygg_run_play.proofs.Leaving.{leave_taken, leave_fuse, leave_events, leave_counted, leave_cut, leave_split}
 
 -- the events are those that are shown
@@ -61,10 +62,10 @@ module _ (M : Machine Env Note) (deed : Deed) (from : State Env) (before after :
     abbrev Lost : Type 0
     Lost = Runs old → M.Loses (state old) [] (state new).base × Stands new
 
-    abbrev Said : Outcome → Type 0
+    abbrev Said : CommandOutcome → Type 0
     Said ended = Counted M deed before.fuse from (left_of before.picks) after (state new) (Runs new) (Stands new) lines lines' ended
 
-    said : (ended : Outcome) (notes : List Note) → Leave notes before after →
+    said : (ended : CommandOutcome) (notes : List Note) → Leave notes before after →
         StopsSo M deed before.fuse from (left_of before.picks) ended notes (state new) → After ended (Runs new) (Stands new) → Said ended
     said ended notes left so stands =
         let taken = leave_taken notes before after ready.past left in
@@ -112,7 +113,7 @@ module _ (M : Machine Env Note) (deed : Deed) (from : State Env) (before after :
           cuts (law runs) from (state old) answer w.notes (state new).base w.leads gone.0,
         ) gone.1
 
-    counted_by : (was ended : Outcome) (stop : Option Fuse) → after.fuse ≡ stop → Ends M deed from before was (state old) after →
+    counted_by : (was ended : CommandOutcome) (stop : Option Fuse) → after.fuse ≡ stop → Ends M deed from before was (state old) after →
         After was (Runs old) (Stands old) → IsStopped stop (length calls) was (Some ended) (new ≡ old) Lost → Said ended
     counted_by (outcome.Whole answer) ended None none w runs (same, still) =
         subst Said (sym same)
@@ -126,7 +127,7 @@ module _ (M : Machine Env Note) (deed : Deed) (from : State Env) (before after :
         cut_said (state old) c (ap state (sym still)) (subst Stands (sym still) stands)
 
     -- what a machine did with which it ended so
-    pub is_counted : (was ended : Outcome) → Ends M deed from before was (state old) after → After was (Runs old) (Stands old) →
+    pub is_counted : (was ended : CommandOutcome) → Ends M deed from before was (state old) after → After was (Runs old) (Stands old) →
         IsStopped after.fuse (length calls) was (Some ended) (new ≡ old) Lost → Said ended
     is_counted was ended ends stands stopped = counted_by was ended after.fuse refl ends stands stopped
 
@@ -135,7 +136,7 @@ module _ (M : Machine Env Note) (deed : Deed) (from : State Env) (before after :
   misses_by true call notes other long most = most
   misses_by false call notes other long most = omega (arith, λ (e : call ≡ length notes). other (e ∙ sym long), most)
 
-  missed_by : (Same Lost : Type 0) (was : Outcome) (to : State Env) (stop : Option Fuse) → after.fuse ≡ stop → Ends M deed from before was to after →
+  missed_by : (Same Lost : Type 0) (was : CommandOutcome) (to : State Env) (stop : Option Fuse) → after.fuse ≡ stop → Ends M deed from before was to after →
       IsStopped stop (length calls) was None Same Lost → Missed M deed before.fuse from (left_of before.picks)
   missed_by Same Lost was to None none ends stopped = absurd stopped
   missed_by Same Lost outcome.Down to (Some stop) is c stopped = absurd stopped
@@ -159,6 +160,6 @@ module _ (M : Machine Env Note) (deed : Deed) (from : State Env) (before after :
       }
 
   -- what a machine did whose stop isn't reached
-  pub is_missed : (Same Lost : Type 0) (was : Outcome) (to : State Env) → Ends M deed from before was to after →
+  pub is_missed : (Same Lost : Type 0) (was : CommandOutcome) (to : State Env) → Ends M deed from before was to after →
       IsStopped after.fuse (length calls) was None Same Lost → Missed M deed before.fuse from (left_of before.picks)
   is_missed Same Lost was to ends stopped = missed_by Same Lost was to after.fuse refl ends stopped

@@ -1,5 +1,6 @@
 -- A script line by line: what is known where some of its lines are still to be played.
-use Rattle.std.proofs.Common.{◌≡◌, ◌≤◌, ℕ, ◌+◌, Bool, true, false, IsTrue, ◌&&◌, All, List, [], ◌∷◌, ◌++◌, length, Option, None, is_some, Result, Ok, Err, IsErrAnd, inl, inr, refl, sym, ap, ◌∙◌, subst, append_assoc, arith}
+use Rattle.std.proofs.Common.{◌≡◌, ◌≤◌, ℕ, ◌+◌, Bool, true, false, IsTrue, ◌&&◌, All, List, [], ◌∷◌, ◌++◌, length}
+use Rattle.std.proofs.Common.{Option, None, is_some, Result, Ok, Err, IsErrAnd, inl, inr, refl, sym, ap, ◌∙◌, subst, append_assoc, arith}
 use Rattle.std.proofs.lemmas.Grind.{flat_map-append}
 use Rattle.std.proofs.lemmas.List.{append-nil}
 use Rattle.std.proofs.lemmas.List.Elements.{All-head, All-tail}
@@ -21,8 +22,8 @@ use Rattle.ygg_run_text.specs.Named.{Happens, Leading, Names, stop_after}
 use Rattle.ygg_run_text.specs.Lines.{moment_lines, moments_lines}
 use Rattle.ygg_run_play.specs.Doing.{left_of, Holds, StepEnds, standing, is_fail}
 use Rattle.ygg_run_play.specs.Playing.{Playing, IsNamedFront, ArePlayed}
-use Rattle.ygg_run_play.specs.declared.halting.Halted.{Halted}
-use Rattle.ygg_run_play.specs.declared.halting.Halted.TheVariants as halted
+use Rattle.ygg_run_play.specs.declared.halting.PlayHalted.{PlayHalted}
+use Rattle.ygg_run_play.specs.declared.halting.PlayHalted.TheVariants as halted
 
 -- a line stands where power has failed exactly where it is the stop of the one before it
 pub fails_so : (c : Command) (cs : List Command) → is_some (stop_after (c ∷ cs)) ≡ is_fail c
@@ -163,7 +164,7 @@ module _ (M : Machine Env Note) (f : File) (script : List Command) (start : Stat
     }
 
     -- where it is given up
-    pub given_up : (picks' : disk.Picks) (state' : State Env) (now' : Option (List ℕ)) (SinkRose More : Type 0) (h : Halted) → (SinkRose → More) →
+    pub given_up : (picks' : disk.Picks) (state' : State Env) (now' : Option (List ℕ)) (SinkRose More : Type 0) (h : PlayHalted) → (SinkRose → More) →
         StepEnds M f c (stop_after cs) (line + 1) picks picks' (standing (is_fail c) state) state' now now' SinkRose (Err h) →
         ArePlayed M f script start before now' More (Err h)
     given_up picks' state' now' SinkRose More (halted.Unreached r) more (is, missed) =
@@ -184,13 +185,13 @@ module _ (M : Machine Env Note) (f : File) (script : List Command) (start : Stat
     )
 
     -- where it is given up by this error
-    pub given_up_so : (picks' : disk.Picks) (state' : State Env) (now' : Option (List ℕ)) (SinkRose More : Type 0) (h : Halted)
-        (result : Result (Unit {0}) Halted) → (SinkRose → More) → IsErrAnd result (λ r. r ≡ h) →
+    pub given_up_so : (picks' : disk.Picks) (state' : State Env) (now' : Option (List ℕ)) (SinkRose More : Type 0) (h : PlayHalted)
+        (result : Result (Unit {0}) PlayHalted) → (SinkRose → More) → IsErrAnd result (λ r. r ≡ h) →
         StepEnds M f c (stop_after cs) (line + 1) picks picks' (standing (is_fail c) state) state' now now' SinkRose (Err h) →
         ArePlayed M f script start before now' More result
     given_up_so picks' state' now' SinkRose More h (Ok done) more same did = absurd same
     given_up_so picks' state' now' SinkRose More h (Err r) more same did =
-        subst (λ (x : Halted). ArePlayed M f script start before now' More (Err x)) (sym same)
+        subst (λ (x : PlayHalted). ArePlayed M f script start before now' More (Err x)) (sym same)
         (given_up picks' state' now' SinkRose More h more did)
 
   -- at the end

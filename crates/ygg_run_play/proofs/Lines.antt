@@ -1,5 +1,6 @@
 -- From what a machine did to what a line of a script says.
-use Rattle.std.proofs.Common.{◌≡◌, ℕ, Bool, true, List, [], ◌∷◌, ◌++◌, codes, Option, Some, None, is_some, Result, Ok, Err, IsErrAnd, refl, sym, ap, ◌∙◌, subst, append_assoc}
+use Rattle.std.proofs.Common.{◌≡◌, ℕ, Bool, true, List, [], ◌∷◌, ◌++◌, codes, Option, Some}
+use Rattle.std.proofs.Common.{None, is_some, Result, Ok, Err, IsErrAnd, refl, sym, ap, ◌∙◌, subst, append_assoc}
 use Rattle.std.proofs.lemmas.List.{append-nil}
 use Rattle.ygg_value.specs.declared.row.Value.{Value}
 use Rattle.ygg_syntax.specs.declared.tree.File.{File}
@@ -32,13 +33,13 @@ use Rattle.ygg_run_play.specs.Doing.{
   command_end,
   waking_end,
 }
-use Rattle.ygg_run_play.specs.declared.scene.Outcome.{Outcome}
-use Rattle.ygg_run_play.specs.declared.scene.Outcome.TheVariants as outcome
-use Rattle.ygg_run_play.specs.declared.halting.Halted.{Halted}
-use Rattle.ygg_run_play.specs.declared.halting.Halted.TheVariants as halted
+use Rattle.ygg_run_play.specs.declared.scene.CommandOutcome.{CommandOutcome}
+use Rattle.ygg_run_play.specs.declared.scene.CommandOutcome.TheVariants as outcome
+use Rattle.ygg_run_play.specs.declared.halting.PlayHalted.{PlayHalted}
+use Rattle.ygg_run_play.specs.declared.halting.PlayHalted.TheVariants as halted
 
 -- the deed is what the line says, and these are the ends of its lines
-pub record IsLine (f : File) (c : Command) (deed : Deed) (end : Outcome → List ℕ) : Type 0 where
+pub record IsLine (f : File) (c : Command) (deed : Deed) (end : CommandOutcome → List ℕ) : Type 0 where
   pub whole : (answer : Answer) (notes : List Note) → Wholly f c notes (deed.whole answer notes ∷ [])
   pub cut : (notes : List Note) → CutShort f c notes (deed.cut notes ∷ [])
   pub whole_notes : (answer : Answer) (notes : List Note) → notes_in (deed.whole answer notes) ≡ notes
@@ -106,7 +107,7 @@ one_lines m notes end lines lines' lines'' is ends first second =
     ∙ ap (λ (ns : List Note). lines ++ (calls_lines ns ++ ended end)) (sym is)
     ∙ ap (λ (e : List ℕ). lines ++ (calls_lines (notes_in m) ++ ended e)) (sym ends) ∙ ap (λ (l : List ℕ). lines ++ l) (sym (append-nil (moment_lines m)))
 
-module _ (M : Machine Env Note) (f : File) (c : Command) (deed : Deed) (end : Outcome → List ℕ) (line : IsLine f c deed end) where
+module _ (M : Machine Env Note) (f : File) (c : Command) (deed : Deed) (end : CommandOutcome → List ℕ) (line : IsLine f c deed end) where
   one_leads : (picks left : Picks) (from to : Standing Env) (m : Moment Note) (notes : List Note) → notes_in m ≡ notes → Traces M from (m ∷ []) to →
       Taken true (picks_in notes) picks left → Leading M f c picks from (m ∷ []) to left
   one_leads picks left from to m notes is leads taken = record {
@@ -115,7 +116,7 @@ module _ (M : Machine Env Note) (f : File) (c : Command) (deed : Deed) (end : Ou
         (subst (λ (took : Picks). Taken true took picks left) (sym (one_picks m notes is)) taken);
   }
 
-  line_by : (before after : Power) (from to : State Env) (Runs Stands : Type 0) (lines lines' lines'' : List ℕ) (ended_so : Outcome) (notes : List Note)
+  line_by : (before after : Power) (from to : State Env) (Runs Stands : Type 0) (lines lines' lines'' : List ℕ) (ended_so : CommandOutcome) (notes : List Note)
       (stop : Option Fuse) → before.fuse ≡ stop → StopsSo M deed stop from (left_of before.picks) ended_so notes to →
       Taken true (picks_in notes) (left_of before.picks) (left_of after.picks) → after.picks.past ≡ true → After ended_so Runs Stands →
       lines' ≡ lines ++ calls_lines notes → lines'' ≡ lines' ++ ended (end ended_so) →
@@ -151,7 +152,7 @@ module _ (M : Machine Env Note) (f : File) (c : Command) (deed : Deed) (end : Ou
       }
 
   -- a line whose deed has ended so
-  pub line_done : (before after : Power) (from to : State Env) (Runs Stands : Type 0) (lines lines' lines'' : List ℕ) (ended_so : Outcome) →
+  pub line_done : (before after : Power) (from to : State Env) (Runs Stands : Type 0) (lines lines' lines'' : List ℕ) (ended_so : CommandOutcome) →
       Counted M deed before.fuse from (left_of before.picks) after to Runs Stands lines lines' ended_so → lines'' ≡ lines' ++ ended (end ended_so) →
       LineDone M f c before after (deed.from from) to Runs Stands lines lines''
   line_done before after from to Runs Stands lines lines' lines'' ended_so d second =
@@ -226,15 +227,15 @@ keep_done M f picks before after s Runs Stands lines none past runs is = record 
 }
 
 -- a line that is given up, since its deed ended so
-pub line_halted : (M : Machine Env Note) (f : File) (c : Command) (deed : Deed) (end : Outcome → List ℕ) → IsLine f c deed end → (number : ℕ)
-    (before after : Power) (from to : State Env) (Runs Stands : Type 0) (lines lines' : List ℕ) (h : Halted) (result : Result (Unit {0}) Halted) →
+pub line_halted : (M : Machine Env Note) (f : File) (c : Command) (deed : Deed) (end : CommandOutcome → List ℕ) → IsLine f c deed end → (number : ℕ)
+    (before after : Power) (from to : State Env) (Runs Stands : Type 0) (lines lines' : List ℕ) (h : PlayHalted) (result : Result (Unit {0}) PlayHalted) →
     IsErrAnd result (λ r. r ≡ h) → IsHalted (Missed M deed before.fuse from (left_of before.picks)) number h →
     LineEnds M f c number before after (deed.from from) to Runs Stands lines lines' result
 line_halted M f c deed end line number before after from to Runs Stands lines lines' h (Ok done) same halts = absurd same
 line_halted M f c deed end line number before after from to Runs Stands lines lines' h (Err r) same halts =
-    subst (λ (x : Halted). IsHalted (IsMissed M f c before.fuse (left_of before.picks) (deed.from from)) number x) (sym same) (by h halts)
+    subst (λ (x : PlayHalted). IsHalted (IsMissed M f c before.fuse (left_of before.picks) (deed.from from)) number x) (sym same) (by h halts)
   where
-    by : (h : Halted) → IsHalted (Missed M deed before.fuse from (left_of before.picks)) number h →
+    by : (h : PlayHalted) → IsHalted (Missed M deed before.fuse from (left_of before.picks)) number h →
         IsHalted (IsMissed M f c before.fuse (left_of before.picks) (deed.from from)) number h
     by (halted.Unreached at) (is, missed) = (is, line_missed M f c deed end line before.fuse (left_of before.picks) from missed)
     by halted.SinkFailed none = none
@@ -243,7 +244,7 @@ line_halted M f c deed end line number before after from to Runs Stands lines li
 -- the line `lost`, as what follows power failing ends
 pub lost_ends : (M : Machine Env Note) (f : File) (within : Bool) (call number : ℕ) (before after : Power) (from to : State Env) (fallen : Env)
     (Runs Stands : Type 0) (lines lines' lines'' : List ℕ) → M.Loses from [] fallen → lines' ≡ lines ++ ended (codes "down") →
-    (result : Result (Unit {0}) Halted) → LineEnds M f (Fail within call) number before after (Down fallen) to Runs Stands lines' lines'' result →
+    (result : Result (Unit {0}) PlayHalted) → LineEnds M f (Fail within call) number before after (Down fallen) to Runs Stands lines' lines'' result →
     LineEnds M f Lost number before after (Up from) to Runs Stands lines lines'' result
 lost_ends M f within call number before after from to fallen Runs Stands lines lines' lines'' lost first (Ok done) d =
     lost_done M f within call before after from to fallen Runs Stands lines lines' lines'' lost first d

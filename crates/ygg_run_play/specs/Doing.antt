@@ -17,10 +17,10 @@ use Rattle.ygg_run_text.specs.Named.{EndsAt, Misses, Happens, Leading, IsMissed}
 use Rattle.ygg_run_text.specs.Lines.{answer_text, calls_lines, moments_lines}
 use Rattle.ygg_run_text.specs.Played.{unreached_at}
 use Rattle.ygg_run_play.specs.Scene.{Deed, Gives, After, FallsAfterAll}
-use Rattle.ygg_run_play.specs.declared.scene.Outcome.{Outcome}
-use Rattle.ygg_run_play.specs.declared.scene.Outcome.TheVariants as outcome
-use Rattle.ygg_run_play.specs.declared.halting.Halted.{Halted}
-use Rattle.ygg_run_play.specs.declared.halting.Halted.TheVariants as halted
+use Rattle.ygg_run_play.specs.declared.scene.CommandOutcome.{CommandOutcome}
+use Rattle.ygg_run_play.specs.declared.scene.CommandOutcome.TheVariants as outcome
+use Rattle.ygg_run_play.specs.declared.halting.PlayHalted.{PlayHalted}
+use Rattle.ygg_run_play.specs.declared.halting.PlayHalted.TheVariants as halted
 
 -- the picks that are left
 abbrev pub left_of : disk.Picks → Picks
@@ -57,12 +57,12 @@ CutsAfterAll M deed =
 
 module _ (M : Machine Env Note) (deed : Deed) (stop : Option Fuse) (from : State Env) (picks : Picks) where
   -- a deed was whole where no stop follows it, and else power failed where the stop says
-  abbrev pub StopsSo : Outcome → List Note → State Env → Type 0
+  abbrev pub StopsSo : CommandOutcome → List Note → State Env → Type 0
   StopsSo (outcome.Whole answer) notes to = (stop ≡ None) × Gives deed answer × Leads M (deed.whole answer notes) (deed.from from) (Up to)
   StopsSo outcome.Down notes to = (point : Fuse) × (stop ≡ Some point) × EndsAt point notes × Leads M (deed.cut notes) (deed.from from) (Down to.base)
 
   -- so it ended, with these disk calls, and left these picks
-  pub record Stopped (ended : Outcome) (notes : List Note) (to : State Env) (left : Picks) : Type 0 where
+  pub record Stopped (ended : CommandOutcome) (notes : List Note) (to : State Env) (left : Picks) : Type 0 where
     pub so : StopsSo ended notes to
     pub takes : Taken true (picks_in notes) picks left
 
@@ -80,7 +80,7 @@ module _ (M : Machine Env Note) (deed : Deed) (stop : Option Fuse) (from : State
     pub misses : Misses point notes
 
   -- the deed ended so, and the lines of its disk calls were added
-  pub record Counted (after : Power) (to : State Env) (Runs Stands : Type 0) (lines lines' : List ℕ) (ended : Outcome) : Type 0 where
+  pub record Counted (after : Power) (to : State Env) (Runs Stands : Type 0) (lines lines' : List ℕ) (ended : CommandOutcome) : Type 0 where
     pub notes : List Note
     pub stopped : Stopped ended notes to (left_of after.picks)
     pub past : after.picks.past ≡ true
@@ -89,7 +89,7 @@ module _ (M : Machine Env Note) (deed : Deed) (stop : Option Fuse) (from : State
 
 -- What becomes of a machine that ended so after that many disk calls: where a stop is set, power has failed, or it fails now, exactly where no call is to be
 -- begun and so many are whole. Else the stop isn't reached.
-abbrev pub IsStopped : Option Fuse → (calls : ℕ) → Outcome → Option Outcome → (Same Gone : Type 0) → Type 0
+abbrev pub IsStopped : Option Fuse → (calls : ℕ) → CommandOutcome → Option CommandOutcome → (Same Gone : Type 0) → Type 0
 IsStopped None calls ended (Some now) Same Gone = (now ≡ ended) × Same
 IsStopped (Some stop) calls outcome.Down (Some outcome.Down) Same Gone = Same
 IsStopped (Some stop) calls (outcome.Whole answer) (Some outcome.Down) Same Gone = (stop.within ≡ false) × (stop.call ≡ calls) × Gone
@@ -97,16 +97,16 @@ IsStopped (Some stop) calls (outcome.Whole answer) None Same Gone = MatchBool st
 IsStopped _ calls ended now Same Gone = ⊥
 
 -- what ends the lines of a command, and of a waking
-abbrev pub command_end : Outcome → List ℕ
+abbrev pub command_end : CommandOutcome → List ℕ
 command_end (outcome.Whole answer) = answer_text answer
 command_end outcome.Down = codes "down"
 
-abbrev pub waking_end : Outcome → List ℕ
+abbrev pub waking_end : CommandOutcome → List ℕ
 waking_end (outcome.Whole answer) = codes "up"
 waking_end outcome.Down = codes "down"
 
 -- why it ended so that nothing is printed of it
-abbrev pub IsHalted : (Misses : Type 0) → (line : ℕ) → Halted → Type 0
+abbrev pub IsHalted : (Misses : Type 0) → (line : ℕ) → PlayHalted → Type 0
 IsHalted Misses line (halted.Unreached r) = (r ≡ unreached_at line) × Misses
 IsHalted Misses line halted.SinkFailed = ⊥
 IsHalted Misses line halted.Memory = Unit {0}
@@ -123,7 +123,7 @@ pub record LineDone (M : Machine Env Note) (f : File) (c : Command) (before afte
 
 -- the same, or the stop that follows, on the line of this number, isn't reached
 abbrev pub LineEnds : Machine Env Note → File → Command → (line : ℕ) → (before after : Power) → (from : Standing Env) → (to : State Env) →
-    (Runs Stands : Type 0) → (lines lines' : List ℕ) → Result (Unit {0}) Halted → Type 0
+    (Runs Stands : Type 0) → (lines lines' : List ℕ) → Result (Unit {0}) PlayHalted → Type 0
 LineEnds M f c line before after from to Runs Stands lines lines' (Ok done) = LineDone M f c before after from to Runs Stands lines lines'
 LineEnds M f c line before after from to Runs Stands lines lines' (Err h) = IsHalted (IsMissed M f c before.fuse (left_of before.picks) from) line h
 
@@ -140,16 +140,17 @@ abbrev pub IsCutPut : (before now : Option (List ℕ)) → List ℕ → Type 0
 IsCutPut before now lines = (front : List ℕ) × IsFront front lines × Adds before front now
 
 -- lines were put; or a front of them where the sink failed; or none, since no memory was left
-abbrev pub ArePut : List ℕ → (before now : Option (List ℕ)) → (SinkRose : Type 0) → Result (Unit {0}) Halted → Type 0
+abbrev pub ArePut : List ℕ → (before now : Option (List ℕ)) → (SinkRose : Type 0) → Result (Unit {0}) PlayHalted → Type 0
 ArePut lines before now SinkRose (Ok done) = Adds before lines now
 ArePut lines before now SinkRose (Err (halted.Unreached r)) = ⊥
 ArePut lines before now SinkRose (Err halted.SinkFailed) = SinkRose × IsCutPut before now lines
 ArePut lines before now SinkRose (Err halted.Memory) = now ≡ before
 
--- How a step of a play ends: the line is done and its lines are put; or the stop that follows, on the line of this number, isn't reached; or the sink failed, or
+-- How a step of a play ends: the line is done and its lines are put; or the stop that follows, on the line of this number, isn't reached;
+-- or the sink failed, or
 -- no memory was left before anything was put.
 abbrev pub StepEnds : Machine Env Note → File → Command → (stop : Option Fuse) → (line : ℕ) → (before after : disk.Picks) → (from : Standing Env) →
-    (to : State Env) → (taken taken' : Option (List ℕ)) → (SinkRose : Type 0) → Result (Unit {0}) Halted → Type 0
+    (to : State Env) → (taken taken' : Option (List ℕ)) → (SinkRose : Type 0) → Result (Unit {0}) PlayHalted → Type 0
 StepEnds M f c stop line before after from to taken taken' SinkRose (Ok done) =
     LinePut M f c stop (left_of before) from (standing (is_some stop) to) (left_of after) (λ lines. Adds taken lines taken')
 StepEnds M f c stop line before after from to taken taken' SinkRose (Err (halted.Unreached r)) =

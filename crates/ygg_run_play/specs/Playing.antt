@@ -11,8 +11,8 @@ use Rattle.ygg_run_text.specs.Named.{Names, Unreached}
 use Rattle.ygg_run_text.specs.Lines.{moments_lines}
 use Rattle.ygg_run_text.specs.Played.{Plays, MissesAt, unreached_at}
 use Rattle.ygg_run_text.specs.Laws.{HasOneWay}
-use Rattle.ygg_run_play.specs.declared.halting.Halted.{Halted}
-use Rattle.ygg_run_play.specs.declared.halting.Halted.TheVariants as halted
+use Rattle.ygg_run_play.specs.declared.halting.PlayHalted.{PlayHalted}
+use Rattle.ygg_run_play.specs.declared.halting.PlayHalted.TheVariants as halted
 
 module _ (M : Machine Env Note) (f : File) where
   -- these bytes are a front of whatever text the script has
@@ -21,7 +21,7 @@ module _ (M : Machine Env Note) (f : File) where
 
   -- What the sink has taken by the end of a play: the text of the script; or a front of it, where the sink failed or no memory was left; or what comes
   -- before a stop that isn't reached.
-  abbrev pub IsPlayed : List Command → Option (List ℕ) → Option (List ℕ) → (SinkRose : Type 0) → Result (Unit {0}) Halted → Type 0
+  abbrev pub IsPlayed : List Command → Option (List ℕ) → Option (List ℕ) → (SinkRose : Type 0) → Result (Unit {0}) PlayHalted → Type 0
   IsPlayed script before now SinkRose (Ok done) = (text : List ℕ) × Plays M f script text × Adds before text now
   IsPlayed script before now SinkRose (Err (halted.Unreached r)) = (line : ℕ) × (r ≡ unreached_at line) × MissesAt M f script line
   IsPlayed script before now SinkRose (Err halted.SinkFailed) = SinkRose × (front : List ℕ) × IsPlayFront script front × Adds before front now
@@ -42,7 +42,7 @@ module _ (M : Machine Env Note) (f : File) where
     IsNamedFront front = HasOneWay M f → (ms : List (Moment Note)) → Names M f script [] (Up start) ms → IsFront front (moments_lines ms)
 
     -- how the lines of a script end that are played from where it was formatted
-    abbrev pub ArePlayed : Option (List ℕ) → Option (List ℕ) → (SinkRose : Type 0) → Result (Unit {0}) Halted → Type 0
+    abbrev pub ArePlayed : Option (List ℕ) → Option (List ℕ) → (SinkRose : Type 0) → Result (Unit {0}) PlayHalted → Type 0
     ArePlayed before now SinkRose (Ok done) = (ms : List (Moment Note)) × Names M f script [] (Up start) ms × Adds before (moments_lines ms) now
     ArePlayed before now SinkRose (Err (halted.Unreached r)) = (line : ℕ) × (r ≡ unreached_at line) × Unreached M f 2 script [] (Up start) line
     ArePlayed before now SinkRose (Err halted.SinkFailed) = SinkRose × (front : List ℕ) × IsNamedFront front × Adds before front now

@@ -10,8 +10,8 @@ use Rattle.ygg_meaning.specs.Machine.{State, TickName, Machine}
 use Rattle.ygg_histories.specs.Noted.{Note}
 use Rattle.ygg_histories.specs.Trace.{Standing, Up, Down, Moment, Calls, Ticks, Fails, WakeFails, Wakes, Leads}
 use Rattle.ygg_histories.specs.Under.{InCall, InTick}
-use Rattle.ygg_run_play.specs.declared.scene.Outcome.{Outcome}
-use Rattle.ygg_run_play.specs.declared.scene.Outcome.TheVariants as outcome
+use Rattle.ygg_run_play.specs.declared.scene.CommandOutcome.{CommandOutcome}
+use Rattle.ygg_run_play.specs.declared.scene.CommandOutcome.TheVariants as outcome
 
 -- what is done: where it begins, whether it is silent and gives no answer, and the moment that it is, whole with an answer or cut by power
 pub record Deed : Type 0 where
@@ -71,12 +71,12 @@ module _ (M : Machine Env Note) (deed : Deed) (from : State Env) (before : Power
     pub named : after.passed ≡ fuse.call
 
   -- how it ended
-  abbrev pub Ends : Outcome → State Env → Power → Type 0
+  abbrev pub Ends : CommandOutcome → State Env → Power → Type 0
   Ends (outcome.Whole answer) to after = Whole answer to after
   Ends outcome.Down to after = Cut to after
 
 -- what holds after a whole deed, and what after power failed
-abbrev pub After : Outcome → (Runs Stands : Type 0) → Type 0
+abbrev pub After : CommandOutcome → (Runs Stands : Type 0) → Type 0
 After (outcome.Whole answer) Runs Stands = Runs
 After outcome.Down Runs Stands = Stands
 

@@ -9,8 +9,8 @@ ghost use Rattle.ygg_report.specs.Lines.{ended};
 ghost use Rattle.ygg_run_play.specs.Scene.{Deed, Ends, After};
 ghost use Rattle.ygg_run_play.specs.Doing.{left_of, IsReady, CutsAfterAll, Counted, Missed, IsHalted, IsStopped, command_end, waking_end};
 
-use crate::halting::Halted;
-use crate::scene::{Outcome, Scene};
+use crate::halting::PlayHalted;
+use crate::scene::{CommandOutcome, Scene};
 use std::alloc::Global;
 use ygg_base::Text;
 use ygg_disk::{Event, Events, Fuse, Power};
@@ -43,10 +43,10 @@ fn calls_of(power: &Power) -> &[Event]
 /// disk call; of a stop that isn't reached there is nothing to say.
 fn stopped<S: Scene>(
     scene: &mut S,
-    outcome: Outcome,
+    outcome: CommandOutcome,
     stop: Option<Fuse>,
     calls: u64,
-) -> Option<Outcome>
+) -> Option<CommandOutcome>
     ensures stopped { (f : File) → IsStopped stop calls outcome result (scene.new ≡ scene.old)
         (S.runs f scene.old → (S.machine f).Loses (S.state f scene.old) [] (S.state f scene.new).base × S.stands f scene.new) }
     ensures few { calls < 2 ^ 64 }
@@ -55,13 +55,13 @@ fn stopped<S: Scene>(
         return Some(outcome);
     };
     match outcome {
-        Outcome::Down => Some(Outcome::Down),
-        Outcome::Whole(_) => {
+        CommandOutcome::Down => Some(CommandOutcome::Down),
+        CommandOutcome::Whole(_) => {
             if stop.within || stop.call != calls {
                 return None;
             }
             scene.lose();
-            Some(Outcome::Down)
+            Some(CommandOutcome::Down)
         }
     }
 }
@@ -71,11 +71,11 @@ fn stopped<S: Scene>(
 pub fn counted<S: Scene>(
     alloc: Global,
     scene: &mut S,
-    outcome: Outcome,
+    outcome: CommandOutcome,
     power: &Power,
     line: u32,
     lines: &mut Text,
-) -> Result<Outcome, Halted>
+) -> Result<CommandOutcome, PlayHalted>
     ensures counted { (f : File) (deed : Deed) (from : State Env) (before : ghost_power.Power) → CutsAfterAll (S.machine f) deed → IsReady before →
         Ends (S.machine f) deed from before outcome (S.state f scene.old) power.now → After outcome (S.runs f scene.old) (S.stands f scene.old) →
         IfOk result (Counted (S.machine f) deed before.fuse from (left_of before.picks) power.now (S.state f scene.new) (S.runs f scene.new)
@@ -86,30 +86,30 @@ pub fn counted<S: Scene>(
 {
     let calls = calls_of(power);
     let Some(outcome) = stopped(scene, outcome, power.fuse, calls.len() as u64) else {
-        return Err(Halted::Unreached(unreached(line)));
+        return Err(PlayHalted::Unreached(unreached(line)));
     };
     match put_events(alloc, lines, calls) {
         Ok(()) => Ok(outcome),
-        Err(_) => Err(Halted::Memory),
+        Err(_) => Err(PlayHalted::Memory),
     }
 }
 
 /// Adds the line that ends a command: its answer, `done`, or `down` where power failed. Its only error is out of memory.
-pub fn end_command(alloc: Global, outcome: Outcome, lines: &mut Text) -> Result<(), NoMemory>
+pub fn end_command(alloc: Global, outcome: CommandOutcome, lines: &mut Text) -> Result<(), NoMemory>
     ensures { OnOk result (lines.new ≡ lines.old ++ ended (command_end outcome)) }
 {
     match outcome {
-        Outcome::Whole(answer) => put_answer(alloc, lines, answer.as_ref()),
-        Outcome::Down => put_down(lines),
+        CommandOutcome::Whole(answer) => put_answer(alloc, lines, answer.as_ref()),
+        CommandOutcome::Down => put_down(lines),
     }
 }
 
 /// Adds the line that ends a waking: `up`, or `down` where power failed. Its only error is out of memory.
-pub fn end_waking(outcome: Outcome, lines: &mut Text) -> Result<(), NoMemory>
+pub fn end_waking(outcome: CommandOutcome, lines: &mut Text) -> Result<(), NoMemory>
     ensures { OnOk result (lines.new ≡ lines.old ++ ended (waking_end outcome)) }
 {
     match outcome {
-        Outcome::Whole(_) => put_up(lines),
-        Outcome::Down => put_down(lines),
+        CommandOutcome::Whole(_) => put_up(lines),
+        CommandOutcome::Down => put_down(lines),
     }
 }

@@ -7,6 +7,6 @@ mod line;
 mod playing;
 mod scene;
 
-pub use halting::Halted;
+pub use halting::PlayHalted;
 pub use playing::play_on;
-pub use scene::{Outcome, Scene};
+pub use scene::{CommandOutcome, Scene};

@@ -4,11 +4,11 @@ ghost use Rattle.std.specs.Prelude.{◌≡◌, ℕ, Bool, false, true, None, IfO
 ghost use Rattle.ygg_script.specs.declared.command.Command.TheVariants as command;
 ghost use Rattle.ygg_script.specs.Fitting.{IsCallOf, IsTickOf, IsCommandOf};
 ghost use Rattle.ygg_script.specs.Reading.{is_stoppable};
-ghost use Rattle.ygg_run_play.specs.declared.halting.Halted.TheVariants as halted;
+ghost use Rattle.ygg_run_play.specs.declared.halting.PlayHalted.TheVariants as halted;
 ghost use Rattle.ygg_run_play.specs.Doing.{IsReady, LineEnds, Holds, standing, is_fail};
 
 use crate::deed::{counted, end_command, end_waking};
-use crate::halting::Halted;
+use crate::halting::PlayHalted;
 use crate::scene::Scene;
 use std::alloc::Global;
 use ygg_base::{Bits, Text};
@@ -19,14 +19,14 @@ use ygg_script::Command;
 use ygg_type::Typed;
 use ygg_value::Values;
 
-impl From<NoMemory> for Halted {
+impl From<NoMemory> for PlayHalted {
     ghost use Rattle.std.specs.Prelude.{◌≡◌};
-    ghost use Rattle.ygg_run_play.specs.declared.halting.Halted.TheVariants as halted;
+    ghost use Rattle.ygg_run_play.specs.declared.halting.PlayHalted.TheVariants as halted;
 
     ghost from_gives = { λ error made. made ≡ halted.Memory };
 
-    fn from(_error: NoMemory) -> Halted {
-        Halted::Memory
+    fn from(_error: NoMemory) -> PlayHalted {
+        PlayHalted::Memory
     }
 }
 
@@ -40,7 +40,7 @@ fn call<S: Scene>(
     line: u32,
     power: &mut Power,
     lines: &mut Text,
-) -> Result<(), Halted>
+) -> Result<(), PlayHalted>
     requires fits { IsCallOf typed.now.file op args.now }
     requires ready { IsReady power.old }
     requires runs { S.runs typed.now.file scene.old }
@@ -64,7 +64,7 @@ fn tick<S: Scene>(
     line: u32,
     power: &mut Power,
     lines: &mut Text,
-) -> Result<(), Halted>
+) -> Result<(), PlayHalted>
     requires fits { IsTickOf typed.now.file layer number }
     requires ready { IsReady power.old }
     requires runs { S.runs typed.now.file scene.old }
@@ -86,7 +86,7 @@ fn wake<S: Scene>(
     line: u32,
     power: &mut Power,
     lines: &mut Text,
-) -> Result<(), Halted>
+) -> Result<(), PlayHalted>
     requires ready { IsReady power.old }
     requires stands { S.stands typed.now.file scene.old }
     ensures { (within : Bool) (call : ℕ) → LineEnds (S.machine typed.now.file) typed.now.file (command.Fail within call) line power.old power.new
@@ -107,7 +107,7 @@ fn lost<S: Scene>(
     line: u32,
     power: &mut Power,
     lines: &mut Text,
-) -> Result<(), Halted>
+) -> Result<(), PlayHalted>
     requires ready { IsReady power.old }
     requires runs { S.runs typed.now.file scene.old }
     ensures { LineEnds (S.machine typed.now.file) typed.now.file (command.Lost) line power.old power.new
@@ -120,7 +120,7 @@ fn lost<S: Scene>(
 }
 
 /// The line `keep`: these picks take the place of those that are left. Its only error is out of memory.
-fn keep(alloc: Global, picks: &Bits, power: &mut Power) -> Result<(), Halted>
+fn keep(alloc: Global, picks: &Bits, power: &mut Power) -> Result<(), PlayHalted>
     ensures kept { IfOk result (λ done. power.new ≡ record power.old { picks = record { bits = picks.now; next = 0; past = power.old.picks.past } }) }
     ensures memory { IfErr result (λ error. error ≡ halted.Memory) }
 {
@@ -139,7 +139,7 @@ pub fn do_line<S: Scene>(
     line: u32,
     power: &mut Power,
     lines: &mut Text,
-) -> Result<(), Halted>
+) -> Result<(), PlayHalted>
     requires fits { IsCommandOf typed.now.file command.now }
     requires ready { IsReady power.old }
     requires stop { is_stoppable command.now ≡ false → power.old.fuse ≡ None }

@@ -11,7 +11,7 @@ ghost use Rattle.ygg_run_play.specs.Doing.{left_of, Holds, ArePut, StepEnds, sta
 ghost use Rattle.ygg_run_play.specs.Playing.{IsPlayed, ArePlayed};
 
 use crate::deed::make_ready;
-use crate::halting::Halted;
+use crate::halting::PlayHalted;
 use crate::line::do_line;
 use crate::scene::Scene;
 use std::alloc::Global;
@@ -37,13 +37,13 @@ fn stop_in(rest: &[Command]) -> Option<Fuse>
 }
 
 /// Puts these lines.
-fn put_lines<K: Sink>(sink: &mut K, lines: &Text) -> Result<(), Halted>
+fn put_lines<K: Sink>(sink: &mut K, lines: &Text) -> Result<(), PlayHalted>
     ensures put { ArePut lines.now (K.taken sink.old) (K.taken sink.new) (Rose (K.faults sink.old) (K.faults sink.new)) result }
     ensures later { K.faults sink.old ≤ K.faults sink.new }
 {
     match put(sink, lines.as_slice()) {
         Ok(()) => Ok(()),
-        Err(_) => Err(Halted::SinkFailed),
+        Err(_) => Err(PlayHalted::SinkFailed),
     }
 }
 
@@ -57,7 +57,7 @@ fn step<S: Scene, K: Sink>(
     line: u32,
     power: &mut Power,
     sink: &mut K,
-) -> Result<(), Halted>
+) -> Result<(), PlayHalted>
     requires fits { IsCommandOf typed.now.file command.now }
     requires past { power.old.picks.past ≡ true }
     requires stop { is_stoppable command.now ≡ false → stop_after rest.now ≡ None }
@@ -83,7 +83,7 @@ fn play_lines<S: Scene, K: Sink>(
     script: &[Command],
     power: &mut Power,
     sink: &mut K,
-) -> Result<(), Halted>
+) -> Result<(), PlayHalted>
     requires script { IsScriptOf typed.now.file script.now }
     requires few { length script.now ≤ 4294967293 }
     requires past { power.old.picks.past ≡ true }
@@ -104,7 +104,7 @@ fn play_lines<S: Scene, K: Sink>(
 }
 
 /// Puts the last line: how many lines of the script were played.
-fn put_end<K: Sink>(alloc: Global, script: &[Command], sink: &mut K) -> Result<(), Halted>
+fn put_end<K: Sink>(alloc: Global, script: &[Command], sink: &mut K) -> Result<(), PlayHalted>
     ensures put { ArePut (played_line (count_by is_played script.now)) (K.taken sink.old) (K.taken sink.new)
         (Rose (K.faults sink.old) (K.faults sink.new)) result }
     ensures later { K.faults sink.old ≤ K.faults sink.new }
@@ -132,7 +132,8 @@ fn steady(alloc: Global) -> Power
     }
 }
 
-/// Formats a machine of a file and plays a script of the file on it, whose lines are put line by line. A stop that isn't reached is refused 44 at its line, after
+/// Formats a machine of a file and plays a script of the file on it, whose lines are put line by line. A stop that isn't reached is refused
+/// 44 at its line, after
 /// the lines before the one that it stops; where the sink fails or no memory is left, it has taken a front of the text.
 pub fn play_on<S: Scene, K: Sink>(
     alloc: Global,
@@ -140,7 +141,7 @@ pub fn play_on<S: Scene, K: Sink>(
     typed: &Typed,
     script: &Script,
     sink: &mut K,
-) -> Result<(), Halted>
+) -> Result<(), PlayHalted>
     requires fresh { S.fresh typed.now.file scene.old }
     requires script { IsScriptOf typed.now.file script.now }
     requires few { length script.now ≤ 4294967293 }

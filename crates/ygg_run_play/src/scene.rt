@@ -7,7 +7,7 @@ use ygg_value::{Value, Values};
 
 /// How a command or a waking ended.
 #[derive(Drop)]
-pub enum Outcome {
+pub enum CommandOutcome {
     /// It was whole, with this answer, if it gives one.
     Whole(Option<Value>),
     /// Power failed before it returned.
@@ -56,7 +56,7 @@ pub trait Scene {
         op: u32,
         args: &Values,
         power: &mut Power,
-    ) -> Result<Outcome, NoMemory>
+    ) -> Result<CommandOutcome, NoMemory>
         requires runs { runs typed.now.file self.old }
         requires operation { IsCallOf typed.now.file op args.now }
         ensures ends { IfOk result (λ ended. Ends (machine typed.now.file) (calling (operation_name typed.now.file op) args.now)
@@ -70,7 +70,7 @@ pub trait Scene {
         layer: u32,
         number: u32,
         power: &mut Power,
-    ) -> Result<Outcome, NoMemory>
+    ) -> Result<CommandOutcome, NoMemory>
         requires runs { runs typed.now.file self.old }
         requires tick { IsTickOf typed.now.file layer number }
         ensures ends { IfOk result (λ ended. Ends (machine typed.now.file) (ticking (tick_name typed.now.file layer number))
@@ -78,7 +78,7 @@ pub trait Scene {
         ensures after { IfOk result (λ ended. After ended (runs typed.now.file self.new) (stands typed.now.file self.new)) };
 
     /// Wakes all layers. Its only error is out of memory, after which it is given up.
-    fn wake(&mut self, typed: &Typed, power: &mut Power) -> Result<Outcome, NoMemory>
+    fn wake(&mut self, typed: &Typed, power: &mut Power) -> Result<CommandOutcome, NoMemory>
         requires stands { stands typed.now.file self.old }
         ensures ends { IfOk result (λ ended. Ends (machine typed.now.file) waking (state typed.now.file self.old) power.old ended
             (state typed.now.file self.new) power.new) }

@@ -1,5 +1,6 @@
 -- Commands of layers on a disk in memory, as what is done in a scene.
-use Rattle.std.proofs.Common.{◌≡◌, ◌≢◌, ℕ, Bool, true, false, MatchBool, IsSomeAnd, IsTrue, List, [], ◌∷◌, ◌++◌, length, Option, Some, None, refl, sym, ap, ◌∙◌, subst, arith}
+use Rattle.std.proofs.Common.{◌≡◌, ◌≢◌, ℕ, Bool, true, false, MatchBool, IsSomeAnd, IsTrue, List, []}
+use Rattle.std.proofs.Common.{◌∷◌, ◌++◌, length, Option, Some, None, refl, sym, ap, ◌∙◌, subst, arith}
 use Rattle.std.proofs.lemmas.List.Elements.{All-nil, All-cons}
 use Rattle.ygg_base.specs.Outside.{Rose}
 use Rattle.ygg_value.specs.declared.row.Value.{Value}
@@ -26,8 +27,8 @@ use Rattle.ygg_machine.specs.Told.{SameNotes}
 use Rattle.ygg_machine.proofs.Noting.{stacks_note}
 use Rattle.ygg_run_text.specs.Played.{Noted}
 use Rattle.ygg_run_play.specs.Scene.{Deed, Gives, calling, ticking, waking, Leave, AreWhole, AreCut, Ends, After}
-use Rattle.ygg_run_play.specs.declared.scene.Outcome.{Outcome}
-use Rattle.ygg_run_play.specs.declared.scene.Outcome.TheVariants as outcome
+use Rattle.ygg_run_play.specs.declared.scene.CommandOutcome.{CommandOutcome}
+use Rattle.ygg_run_play.specs.declared.scene.CommandOutcome.TheVariants as outcome
 use Rattle.ygg_run_tower.specs.Playing.{IsPlayable, tables_told, state_played, IsOnDisk, IsUnwritten, Plays, MayWake, ending_in}
 
 -- what disk calls leave of power
@@ -139,7 +140,8 @@ module _ {S : Type 0} (G : Meaning S) (playable : IsPlayable G) (f : File) where
     pub call_is : (name : Name) (args : List Value) → IsDeed (command.calling name args) (calling name args)
     call_is name args = record {
       whole = λ notes answer h.
-          let (t, ns, step, same, are) = (mirrors v here.height).calls (state_played G f v) (state_seen f v) (state_seen f v') name args notes answer shown h in (
+          let (t, ns, step, same, are) = (mirrors v here.height).calls (state_played G f v) (state_seen f v) (state_seen f v') name
+          args notes answer shown h in (
             tt,
             subst (λ (x : State Env). (Noted f).Calls (state_played G f v) name args notes answer x) (state_is t v' same)
                 (subst (λ (x : List Note). (Noted f).Calls (state_played G f v) name args x answer t) are step),
@@ -188,10 +190,10 @@ module _ {S : Type 0} (G : Meaning S) (playable : IsPlayable G) (f : File) where
     }
 
     module _ (command : Command S Note) (deed : Deed) (is : IsDeed command deed) (p p' : Power) where
-      abbrev Ended : Outcome → Type 0
+      abbrev Ended : CommandOutcome → Type 0
       Ended o = Ends (Noted f) deed (state_played G f v) p o (state_played G f v') p' × IsOnDisk G f v'
 
-      deed_ends : (o : Outcome) → ViewEnds G f command (ending_in o) v p v' p' → Ended o
+      deed_ends : (o : CommandOutcome) → ViewEnds G f command (ending_in o) v p v' p' → Ended o
       deed_ends (outcome.Whole answer) h =
           let (gives, leads, told) = is.whole h.so.notes answer (h.so.does PowerLoss) in (
             record {
@@ -212,18 +214,18 @@ module _ {S : Type 0} (G : Meaning S) (playable : IsPlayable G) (f : File) where
           )
 
       -- it ended so
-      pub ends_so : (o : Outcome) (e : Ending) → ending_in o ≡ e → ViewEnds G f command e v p v' p' →
+      pub ends_so : (o : CommandOutcome) (e : Ending) → ending_in o ≡ e → ViewEnds G f command e v p v' p' →
           Ends (Noted f) deed (state_played G f v) p o (state_played G f v') p'
       ends_so o e same h = (deed_ends o (subst (λ (x : Ending). ViewEnds G f command x v p v' p') (sym same) h)).0
 
       -- what is so of the layers after it
-      pub after_so : (o : Outcome) (e : Ending) → ending_in o ≡ e → ViewEnds G f command e v p v' p' → ending.AfterWhole e (ViewRuns G f v') →
+      pub after_so : (o : CommandOutcome) (e : Ending) → ending_in o ≡ e → ViewEnds G f command e v p v' p' → ending.AfterWhole e (ViewRuns G f v') →
           After o (Plays G f v') (MayWake G f v')
       after_so o e same h runs =
           at o (deed_ends o (subst (λ (x : Ending). ViewEnds G f command x v p v' p') (sym same) h)).1
           (subst (λ (x : Ending). ending.AfterWhole x (ViewRuns G f v')) (sym same) runs)
         where
-          at : (o : Outcome) → IsOnDisk G f v' → ending.AfterWhole (ending_in o) (ViewRuns G f v') → After o (Plays G f v') (MayWake G f v')
+          at : (o : CommandOutcome) → IsOnDisk G f v' → ending.AfterWhole (ending_in o) (ViewRuns G f v') → After o (Plays G f v') (MayWake G f v')
           at (outcome.Whole answer) told runs = record { runs = runs; on_disk = told }
           at outcome.Down told runs = record { stands = looks.stands; on_disk = told }
 

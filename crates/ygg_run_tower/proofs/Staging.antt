@@ -12,7 +12,7 @@ use Rattle.ygg_machine.specs.Floors.{Raised}
 use Rattle.ygg_machine.specs.Viewed.{Seen, floor_seen}
 use Rattle.ygg_run_text.specs.Played.{Noted}
 use Rattle.ygg_run_play.specs.Scene.{Deed, Leave, Ends, After}
-use Rattle.ygg_run_play.specs.declared.scene.Outcome.{Outcome}
+use Rattle.ygg_run_play.specs.declared.scene.CommandOutcome.{CommandOutcome}
 use Rattle.ygg_run_tower.specs.Playing.{IsPlayable, state_played, IsOnDisk, IsUnwritten, Plays, MayWake, ending_in}
 use Rattle.ygg_run_tower.proofs.Played.{IsDeed, ends_so, after_so, unfailed, lost_so, stands_so, format_starts, format_whole, format_unfailed}
 
@@ -37,7 +37,7 @@ module _ {T : Type 0} (X : Seen T) (playable : IsPlayable X.means) (f : File) wh
       pub staged_unfailed : e ≢ Failed
       staged_unfailed = unfailed X.means playable f (look inside) (look new) (here_inside here) looks command p p' e ends
 
-      pub staged_ends : (o : Outcome) → ending_in o ≡ e →
+      pub staged_ends : (o : CommandOutcome) → ending_in o ≡ e →
           Ends (Noted f) deed (state_played X.means f ((floor_seen X).look self)) p o (state_played X.means f ((floor_seen X).look new)) p'
       staged_ends o same =
           subst (λ (s : Raised T). Ends (Noted f) deed (state_played X.means f ((floor_seen X).look s)) p o
@@ -45,7 +45,7 @@ module _ {T : Type 0} (X : Seen T) (playable : IsPlayable X.means) (f : File) wh
           (ends_so X.means playable f (look inside) (look new) (here_inside here) looks command deed
           (which (look inside) (look new) (here_inside here) looks) p p' o e same ends)
 
-      pub staged_after : (o : Outcome) → ending_in o ≡ e → AfterWhole e (ViewRuns X.means f ((floor_seen X).look new)) →
+      pub staged_after : (o : CommandOutcome) → ending_in o ≡ e → AfterWhole e (ViewRuns X.means f ((floor_seen X).look new)) →
           After o (Plays X.means f ((floor_seen X).look new)) (MayWake X.means f ((floor_seen X).look new))
       staged_after o same runs =
           after_so X.means playable f (look inside) (look new) (here_inside here) looks command deed

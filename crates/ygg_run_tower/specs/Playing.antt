@@ -14,8 +14,8 @@ use Rattle.ygg_histories.specs.Grounds.{TellsZeros}
 use Rattle.ygg_eval_lower.specs.Lower.{Ending, Whole, Down}
 use Rattle.ygg_machine.specs.Grounded.{HasRows}
 use Rattle.ygg_machine.specs.Bottoms.{View, ViewStands, ViewRuns, memories_of}
-use Rattle.ygg_run_play.specs.declared.scene.Outcome.{Outcome}
-use Rattle.ygg_run_play.specs.declared.scene.Outcome.TheVariants as outcome
+use Rattle.ygg_run_play.specs.declared.scene.CommandOutcome.{CommandOutcome}
+use Rattle.ygg_run_play.specs.declared.scene.CommandOutcome.TheVariants as outcome
 
 -- a ground that is a disk in memory: it follows `power`, can lose it, and has no faults
 pub record IsPlayable {S : Type 0} (G : Meaning S) : Type 0 where
@@ -64,6 +64,6 @@ module _ {S : Type 0} (G : Meaning S) (f : File) where
     pub on_disk : IsOnDisk v
 
 -- how a command of a scene ended, as one of a tower
-abbrev pub ending_in : Outcome → Ending
+abbrev pub ending_in : CommandOutcome → Ending
 ending_in (outcome.Whole answer) = Whole answer
 ending_in outcome.Down = Down

@@ -9,7 +9,7 @@ use std::marker::Model;
 use ygg_disk::{Power, Turn};
 use ygg_list::NoMemory;
 use ygg_machine::{Floor, viewed};
-use ygg_run_play::{Outcome, Scene};
+use ygg_run_play::{CommandOutcome, Scene};
 use ygg_type::Typed;
 use ygg_value::Values;
 
@@ -28,14 +28,14 @@ impl<W: Playable + Drop> Model for Staged<W> {
 }
 
 /// How a command ended, which can't have failed.
-fn outcome_of(turn: Turn) -> Outcome
+fn outcome_of(turn: Turn) -> CommandOutcome
     requires { ending_of (Ok turn) ≢ Failed }
     ensures { ending_in result ≡ ending_of (Ok turn) }
 {
     match turn {
-        Turn::Done => Outcome::Whole(None),
-        Turn::Answer(answer) => Outcome::Whole(Some(answer)),
-        Turn::Down => Outcome::Down,
+        Turn::Done => CommandOutcome::Whole(None),
+        Turn::Answer(answer) => CommandOutcome::Whole(Some(answer)),
+        Turn::Down => CommandOutcome::Down,
         Turn::Failed => unreachable!(),
     }
 }
@@ -70,7 +70,7 @@ impl<W: Playable + Drop> Scene for Staged<W> {
         op: u32,
         args: &Values,
         power: &mut Power,
-    ) -> Result<Outcome, NoMemory> {
+    ) -> Result<CommandOutcome, NoMemory> {
         let turn = viewed::call(&mut self.tower, typed, op, args, power)?;
         Ok(outcome_of(turn))
     }
@@ -81,12 +81,12 @@ impl<W: Playable + Drop> Scene for Staged<W> {
         layer: u32,
         number: u32,
         power: &mut Power,
-    ) -> Result<Outcome, NoMemory> {
+    ) -> Result<CommandOutcome, NoMemory> {
         let turn = viewed::tick(&mut self.tower, typed, layer, number, power)?;
         Ok(outcome_of(turn))
     }
 
-    fn wake(&mut self, typed: &Typed, power: &mut Power) -> Result<Outcome, NoMemory> {
+    fn wake(&mut self, typed: &Typed, power: &mut Power) -> Result<CommandOutcome, NoMemory> {
         let turn = viewed::wake(&mut self.tower, typed, power)?;
         Ok(outcome_of(turn))
     }

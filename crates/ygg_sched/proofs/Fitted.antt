@@ -11,8 +11,8 @@ use Rattle.ygg_value.specs.declared.row.Value.{Value}
 use Rattle.ygg_syntax.specs.declared.tree.Declared.{Declared}
 use Rattle.ygg_syntax.specs.declared.tree.TypeText.{TypeText}
 use Rattle.ygg_syntax.specs.declared.tree.File.{File}
-use Rattle.ygg_sched.specs.declared.flaw.Flaw.{Flaw}
-use Rattle.ygg_sched.specs.declared.flaw.Flaw.TheVariants.{Line, Name, Width}
+use Rattle.ygg_sched.specs.declared.flaw.ScheduleFlaw.{ScheduleFlaw}
+use Rattle.ygg_sched.specs.declared.flaw.ScheduleFlaw.TheVariants.{Line, Name, Width}
 use Rattle.ygg_sched.specs.declared.schedule.Halt.{Halt}
 use Rattle.ygg_sched.specs.declared.schedule.Schedule.{Schedule}
 use Rattle.ygg_sched.specs.Sites.{Site, site_named, state_lines, memory_lines, low_lines, argument_lines, has_stop, has_wake, has_other}
@@ -47,7 +47,7 @@ bind_ok (Ok x) f y e = (x, refl, e)
 bind_ok (Err refusal) f y e = absurd cc
 
 -- what is wanted and there
-wanted_ok : {A : Type 0} (flaw : Flaw) (at : Left) (o : Option A) (x : A) → wanted flaw at o ≡ Ok x → o ≡ Some x
+wanted_ok : {A : Type 0} (flaw : ScheduleFlaw) (at : Left) (o : Option A) (x : A) → wanted flaw at o ≡ Ok x → o ≡ Some x
 wanted_ok flaw at None x e = absurd cc
 wanted_ok flaw at (Some y) x e = cc
 

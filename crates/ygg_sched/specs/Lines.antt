@@ -7,8 +7,8 @@ use Rattle.ygg_base.specs.declared.failure.Refuse.TheVariants.{At, Memory}
 use Rattle.ygg_value.specs.declared.row.Value.{Value}
 use Rattle.ygg_syntax.specs.declared.tree.TypeText.{TypeText}
 use Rattle.ygg_syntax.specs.declared.tree.File.{File}
-use Rattle.ygg_sched.specs.declared.flaw.Flaw.{Flaw}
-use Rattle.ygg_sched.specs.declared.flaw.Flaw.TheVariants.{Line, Name, Width, Missing}
+use Rattle.ygg_sched.specs.declared.flaw.ScheduleFlaw.{ScheduleFlaw}
+use Rattle.ygg_sched.specs.declared.flaw.ScheduleFlaw.TheVariants.{Line, Name, Width, Missing}
 use Rattle.ygg_sched.specs.declared.rest.Rest.{Rest}
 use Rattle.ygg_sched.specs.declared.schedule.Halt.{Halt}
 use Rattle.ygg_sched.specs.Flaws.{refusal_at}
@@ -43,12 +43,12 @@ Gives view (Err (At refusal)) read = read ≡ Err refusal
 Gives view (Err Memory) read = Unit {0}
 
 -- something that is there, or else the refusal for a flaw of this line
-abbrev pub wanted : {A : Type 0} → Flaw → Left → Option A → Read A
+abbrev pub wanted : {A : Type 0} → ScheduleFlaw → Left → Option A → Read A
 wanted flaw at None = Err (refusal_at flaw at.line)
 wanted flaw at (Some x) = Ok x
 
 -- a test that passes, or else the refusal for a flaw of this line
-abbrev pub checked : Flaw → Left → Bool → Read (Unit {0})
+abbrev pub checked : ScheduleFlaw → Left → Bool → Read (Unit {0})
 checked flaw at test = if test then Ok tt else Err (refusal_at flaw at.line)
 
 -- a line and what follows its line feed, where there is one

@@ -5,7 +5,7 @@ use ygg_base::Refusal;
 
 /// Why a line of a schedule is refused.
 #[derive(Clone, Copy, PartialEq, Eq, Drop)]
-pub enum Flaw {
+pub enum ScheduleFlaw {
     /// It isn't of the form that stands there, or it follows `end`.
     Line,
     /// Its obligation isn't one of the file, or its variable isn't the one that stands there.
@@ -16,16 +16,16 @@ pub enum Flaw {
     Missing,
 }
 
-impl Flaw {
+impl ScheduleFlaw {
     /// The number that a refusal gives for it.
     pub fn number(self) -> u8
         ensures { result ≡ number_of self }
     {
         match self {
-            Flaw::Line => 31,
-            Flaw::Name => 32,
-            Flaw::Width => 33,
-            Flaw::Missing => 34,
+            ScheduleFlaw::Line => 31,
+            ScheduleFlaw::Name => 32,
+            ScheduleFlaw::Width => 33,
+            ScheduleFlaw::Missing => 34,
         }
     }
 

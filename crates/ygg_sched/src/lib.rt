@@ -37,7 +37,7 @@ pub use bits::bits_in;
 pub use case::{Case, Kind};
 pub use claim::{Claim, Low, Obligation};
 pub use decimal::decimal_in;
-pub use flaw::Flaw;
+pub use flaw::ScheduleFlaw;
 pub use law::{printed_is_read, read_fits, sites_are_claims};
 pub use naming::{case_named, claim_named};
 pub use printing::print_schedule;

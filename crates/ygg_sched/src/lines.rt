@@ -21,7 +21,7 @@ ghost use Rattle.ygg_sched.specs.Lines.{
 use crate::bits::bits_in;
 use crate::claim::Claim;
 use crate::decimal::stop_in;
-use crate::flaw::Flaw;
+use crate::flaw::ScheduleFlaw;
 use crate::naming::claim_named;
 use crate::rest::Rest;
 use crate::schedule::Halt;
@@ -33,7 +33,7 @@ use ygg_syntax::tree::{File, TypeText};
 use ygg_value::Value;
 
 /// The refusal of the line that comes next, for a flaw.
-fn refused(at: Rest<'_>, flaw: Flaw) -> Refuse
+fn refused(at: Rest<'_>, flaw: ScheduleFlaw) -> Refuse
     ensures { result ≡ Refuse.At (refusal_at flaw at.entry.line) }
 {
     Refuse::At(flaw.at(at.line))
@@ -52,7 +52,7 @@ fn line_at(at: Rest<'_>) -> Result<(&[u8], Rest<'_>), Refuse>
                 line: at.line + 1,
             },
         )),
-        None => Err(refused(at, Flaw::Missing)),
+        None => Err(refused(at, ScheduleFlaw::Missing)),
     }
 }
 
@@ -63,7 +63,7 @@ pub fn fixed_line<'a>(at: Rest<'a>, text: &[u8]) -> Result<Rest<'a>, Refuse>
 {
     let (line, after) = line_at(at)?;
     if line != text {
-        return Err(refused(at, Flaw::Line));
+        return Err(refused(at, ScheduleFlaw::Line));
     }
     Ok(after)
 }
@@ -86,10 +86,10 @@ pub fn obligation_line<'a, 'f>(
 {
     let (line, after) = line_at(at)?;
     let Some(name) = obligation_in(line) else {
-        return Err(refused(at, Flaw::Line));
+        return Err(refused(at, ScheduleFlaw::Line));
     };
     let Some(claim) = claim_named(file, name) else {
-        return Err(refused(at, Flaw::Name));
+        return Err(refused(at, ScheduleFlaw::Name));
     };
     Ok((name, claim, after))
 }
@@ -114,14 +114,14 @@ pub fn variable_line<'a>(
 {
     let (line, after) = line_at(at)?;
     let Some((variable, written)) = variable_in(line, word) else {
-        return Err(refused(at, Flaw::Line));
+        return Err(refused(at, ScheduleFlaw::Line));
     };
     if variable != name {
-        return Err(refused(at, Flaw::Name));
+        return Err(refused(at, ScheduleFlaw::Name));
     }
     match value_in(alloc, text, written) {
         Ok(Some(value)) => Ok((value, after)),
-        Ok(None) => Err(refused(at, Flaw::Width)),
+        Ok(None) => Err(refused(at, ScheduleFlaw::Width)),
         Err(_) => Err(Refuse::Memory),
     }
 }
@@ -134,7 +134,7 @@ pub fn stop_line(at: Rest<'_>) -> Result<(Halt, Rest<'_>), Refuse>
     let (line, after) = line_at(at)?;
     match stop_in(line) {
         Some(halt) => Ok((halt, after)),
-        None => Err(refused(at, Flaw::Line)),
+        None => Err(refused(at, ScheduleFlaw::Line)),
     }
 }
 
@@ -145,11 +145,11 @@ pub fn bits_line<'a>(alloc: Global, at: Rest<'a>, word: &[u8]) -> Result<(Bits, 
 {
     let (line, after) = line_at(at)?;
     let Some(written) = after_front(line, word) else {
-        return Err(refused(at, Flaw::Line));
+        return Err(refused(at, ScheduleFlaw::Line));
     };
     match bits_in(alloc, written) {
         Ok(Some(bits)) => Ok((bits, after)),
-        Ok(None) => Err(refused(at, Flaw::Line)),
+        Ok(None) => Err(refused(at, ScheduleFlaw::Line)),
         Err(_) => Err(Refuse::Memory),
     }
 }
@@ -162,6 +162,6 @@ pub fn nothing(at: Rest<'_>) -> Result<(), Refuse>
     if at.bytes.is_empty() {
         Ok(())
     } else {
-        Err(refused(at, Flaw::Line))
+        Err(refused(at, ScheduleFlaw::Line))
     }
 }

@@ -51,8 +51,8 @@ use Rattle.ygg_sched.proofs.Shaped.{and_then_is, map_is, value_fits}
 use Rattle.ygg_sched.proofs.Fitted.{bind_ok, decimal_fits}
 use Rattle.ygg_script.specs.declared.command.Command.{Command}
 use Rattle.ygg_script.specs.declared.command.Command.TheVariants.{Call, Tick, Lost, Fail, Keep}
-use Rattle.ygg_script.specs.declared.flaw.Flaw.{Flaw}
-use Rattle.ygg_script.specs.declared.flaw.Flaw.TheVariants as flaw
+use Rattle.ygg_script.specs.declared.flaw.ScriptFlaw.{ScriptFlaw}
+use Rattle.ygg_script.specs.declared.flaw.ScriptFlaw.TheVariants as flaw
 use Rattle.ygg_script.specs.Flaws.{refusal_at, wanted}
 use Rattle.ygg_script.specs.Names.{call_in, tick_in}
 use Rattle.ygg_script.specs.Places.{top_operations, arguments_at, layer_place, values_in}
@@ -68,7 +68,7 @@ unfolding read
 ok_is x y e = cc
 
 -- what is wanted and there
-wanted_ok : {A : Type 0} (why : Flaw) (line : ℕ) (o : Option A) (x : A) → wanted why line o ≡ Ok x → o ≡ Some x
+wanted_ok : {A : Type 0} (why : ScriptFlaw) (line : ℕ) (o : Option A) (x : A) → wanted why line o ≡ Ok x → o ≡ Some x
 wanted_ok why line None x e = absurd cc
 wanted_ok why line (Some y) x e = cc
 

@@ -9,7 +9,7 @@ use Rattle.ygg_base.specs.declared.failure.Refuse.TheVariants.{At, Memory}
 use Rattle.ygg_syntax.specs.declared.tree.File.{File}
 use Rattle.ygg_sched.specs.Lines.{Read, ◌>>=◌, Gives}
 use Rattle.ygg_script.specs.declared.command.Command.{Command}
-use Rattle.ygg_script.specs.declared.flaw.Flaw.TheVariants.{Line}
+use Rattle.ygg_script.specs.declared.flaw.ScriptFlaw.TheVariants.{Line}
 use Rattle.ygg_script.specs.Flaws.{refusal_at}
 use Rattle.ygg_script.specs.Lines.{command_at}
 use Rattle.ygg_script.specs.Reading.{is_stoppable, pieces_of, is_last, is_nothing, commands_at, script_in, script_of}

@@ -10,7 +10,7 @@ use Rattle.ygg_sched.specs.Numbers.{decimal_in, bits_in}
 use Rattle.ygg_sched.specs.Lines.{Read, ◌>>=◌}
 use Rattle.ygg_script.specs.declared.command.Command.{Command}
 use Rattle.ygg_script.specs.declared.command.Command.TheVariants.{Call, Tick, Lost, Fail, Keep}
-use Rattle.ygg_script.specs.declared.flaw.Flaw.TheVariants.{Line, Operation, Argument}
+use Rattle.ygg_script.specs.declared.flaw.ScriptFlaw.TheVariants.{Line, Operation, Argument}
 use Rattle.ygg_script.specs.Flaws.{refusal_at, wanted, checked}
 use Rattle.ygg_script.specs.Names.{call_in, tick_in}
 use Rattle.ygg_script.specs.Places.{top_operations, arguments_at, layer_place, values_in}

@@ -3,7 +3,7 @@ use Rattle.std.specs.Prelude.{ℕ, ◌+◌, Bool, true, false, if◌then◌else�
 use Rattle.ygg_base.specs.declared.failure.Refusal.{Refusal}
 use Rattle.ygg_script.specs.declared.command.Command.{Command}
 use Rattle.ygg_script.specs.declared.command.Command.TheVariants.{Call, Tick, Lost, Fail, Keep}
-use Rattle.ygg_script.specs.declared.flaw.Flaw.TheVariants.{Line}
+use Rattle.ygg_script.specs.declared.flaw.ScriptFlaw.TheVariants.{Line}
 use Rattle.ygg_script.specs.Flaws.{refusal_at}
 
 -- an operation or a background step

@@ -6,7 +6,7 @@ use Rattle.ygg_sched.specs.Words.{is_empty, parts}
 use Rattle.ygg_sched.specs.Lines.{Read, ◌>>=◌}
 use Rattle.ygg_script.specs.declared.command.Command.{Command}
 use Rattle.ygg_script.specs.declared.command.Command.TheVariants.{Call, Tick, Lost, Fail, Keep}
-use Rattle.ygg_script.specs.declared.flaw.Flaw.TheVariants.{Line}
+use Rattle.ygg_script.specs.declared.flaw.ScriptFlaw.TheVariants.{Line}
 use Rattle.ygg_script.specs.Flaws.{refusal_at}
 use Rattle.ygg_script.specs.Lines.{command_at}
 

@@ -5,7 +5,7 @@ use ygg_base::Refusal;
 
 /// Why a line of a script is refused.
 #[derive(Clone, Copy, PartialEq, Eq, Drop)]
-pub enum Flaw {
+pub enum ScriptFlaw {
     /// It isn't of a form that may stand there, it is missing, it has no line feed, or it follows `end`.
     Line,
     /// Its operation, layer or background step isn't one of the file.
@@ -14,15 +14,15 @@ pub enum Flaw {
     Argument,
 }
 
-impl Flaw {
+impl ScriptFlaw {
     /// The number that a refusal gives for it.
     pub fn number(self) -> u8
         ensures { result ≡ number_of self }
     {
         match self {
-            Flaw::Line => 41,
-            Flaw::Operation => 42,
-            Flaw::Argument => 43,
+            ScriptFlaw::Line => 41,
+            ScriptFlaw::Operation => 42,
+            ScriptFlaw::Argument => 43,
         }
     }
 

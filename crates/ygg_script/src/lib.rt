@@ -21,6 +21,6 @@ mod plain;
 mod reading;
 
 pub use command::{Command, Script};
-pub use flaw::Flaw;
+pub use flaw::ScriptFlaw;
 pub use plain::plain_script;
 pub use reading::read_script;

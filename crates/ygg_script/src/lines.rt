@@ -6,7 +6,7 @@ ghost use Rattle.ygg_script.specs.Flaws.{refusal_at};
 ghost use Rattle.ygg_script.specs.Lines.{call_at, tick_at, point_in, fail_at, keep_at, command_at};
 
 use crate::command::Command;
-use crate::flaw::Flaw;
+use crate::flaw::ScriptFlaw;
 use crate::names::{call_in, tick_in};
 use crate::places::{arguments_at, layer_named, operation_named, tick_named, values_in};
 use std::alloc::Global;
@@ -15,7 +15,7 @@ use ygg_sched::{after_front, bits_in, decimal_in};
 use ygg_type::Typed;
 
 /// The refusal of the line of this number, for a flaw.
-pub fn refused(line: u32, flaw: Flaw) -> Refuse
+pub fn refused(line: u32, flaw: ScriptFlaw) -> Refuse
     ensures { result ≡ Refuse.At (refusal_at flaw line) }
 {
     Refuse::At(flaw.at(line))
@@ -27,16 +27,16 @@ fn call_line(alloc: Global, typed: &Typed, line: u32, bytes: &[u8]) -> Result<Co
     ensures { Gives (λ x. x) result (call_at typed.now.file line bytes.now) }
 {
     let Some((name, words)) = call_in(bytes) else {
-        return Err(refused(line, Flaw::Line));
+        return Err(refused(line, ScriptFlaw::Line));
     };
     let op = match operation_named(alloc, typed, name) {
         Ok(Some(op)) => op,
-        Ok(None) => return Err(refused(line, Flaw::Operation)),
+        Ok(None) => return Err(refused(line, ScriptFlaw::Operation)),
         Err(_) => return Err(Refuse::Memory),
     };
     match values_in(alloc, arguments_at(typed, op), words) {
         Ok(Some(args)) => Ok(Command::Call { op, args }),
-        Ok(None) => Err(refused(line, Flaw::Argument)),
+        Ok(None) => Err(refused(line, ScriptFlaw::Argument)),
         Err(_) => Err(Refuse::Memory),
     }
 }
@@ -47,14 +47,14 @@ fn tick_line(alloc: Global, typed: &Typed, line: u32, bytes: &[u8]) -> Result<Co
     ensures { Gives (λ x. x) result (tick_at typed.now.file line bytes.now) }
 {
     let Some((owner, name)) = tick_in(bytes) else {
-        return Err(refused(line, Flaw::Line));
+        return Err(refused(line, ScriptFlaw::Line));
     };
     let Some(layer) = layer_named(typed, owner) else {
-        return Err(refused(line, Flaw::Operation));
+        return Err(refused(line, ScriptFlaw::Operation));
     };
     match tick_named(alloc, typed, layer, name) {
         Ok(Some(number)) => Ok(Command::Tick { layer, number }),
-        Ok(None) => Err(refused(line, Flaw::Operation)),
+        Ok(None) => Err(refused(line, ScriptFlaw::Operation)),
         Err(_) => Err(Refuse::Memory),
     }
 }
@@ -82,11 +82,11 @@ fn fail_line(line: u32, bytes: &[u8], stoppable: bool) -> Result<Command, Refuse
     ensures { Gives (λ x. x) result (fail_at stoppable line bytes.now) }
 {
     if !stoppable {
-        return Err(refused(line, Flaw::Line));
+        return Err(refused(line, ScriptFlaw::Line));
     }
     match point_in(bytes) {
         Some(command) => Ok(command),
-        None => Err(refused(line, Flaw::Line)),
+        None => Err(refused(line, ScriptFlaw::Line)),
     }
 }
 
@@ -97,7 +97,7 @@ fn keep_line(alloc: Global, line: u32, bytes: &[u8]) -> Result<Command, Refuse>
 {
     match bits_in(alloc, bytes) {
         Ok(Some(picks)) => Ok(Command::Keep(picks)),
-        Ok(None) => Err(refused(line, Flaw::Line)),
+        Ok(None) => Err(refused(line, ScriptFlaw::Line)),
         Err(_) => Err(Refuse::Memory),
     }
 }
@@ -128,6 +128,6 @@ pub fn command_line(
     if text == b"lost".as_slice() {
         Ok(Command::Lost)
     } else {
-        Err(refused(line, Flaw::Line))
+        Err(refused(line, ScriptFlaw::Line))
     }
 }

@@ -9,7 +9,7 @@ ghost use Rattle.ygg_script.specs.Left.{IsNextLine};
 ghost use Rattle.ygg_script.specs.Reading.{pieces_of, commands_at, script_of};
 
 use crate::command::{Command, Script};
-use crate::flaw::Flaw;
+use crate::flaw::ScriptFlaw;
 use crate::lines::{command_line, refused};
 use std::alloc::Global;
 use ygg_base::Refuse;
@@ -19,7 +19,7 @@ use ygg_type::Typed;
 /// The next line and what is left after it, or the refusal of one that is missing or has no line feed.
 fn next_line(at: Rest<'_>) -> Result<(&[u8], Rest<'_>), Refuse>
     ensures ok { IfOk result (λ x. IsNextLine at.entry x.0.now x.1) }
-    ensures err { IfErr result (λ refuse. (refuse ≡ Refuse.At (refusal_at Flaw.Line at.entry.line))
+    ensures err { IfErr result (λ refuse. (refuse ≡ Refuse.At (refusal_at ScriptFlaw.Line at.entry.line))
         × (pieces_of at.entry.bytes.now ≡ at.entry.bytes.now ∷ [])) }
 {
     let (line, more) = cut(at.bytes, b'\n');
@@ -31,7 +31,7 @@ fn next_line(at: Rest<'_>) -> Result<(&[u8], Rest<'_>), Refuse>
                 line: at.line + 1,
             },
         )),
-        None => Err(refused(at.line, Flaw::Line)),
+        None => Err(refused(at.line, ScriptFlaw::Line)),
     }
 }
 
@@ -66,7 +66,7 @@ fn command_lines(alloc: Global, typed: &Typed, at: Rest<'_>) -> Result<Script, R
             if after.bytes.is_empty() {
                 return Ok(script);
             }
-            return Err(refused(after.line, Flaw::Line));
+            return Err(refused(after.line, ScriptFlaw::Line));
         }
         let command = command_line(alloc, typed, rest.line, text, stoppable)?;
         stoppable = command.is_stoppable();
@@ -88,7 +88,7 @@ fn script_in(alloc: Global, text: &[u8], typed: &Typed) -> Result<Script, Refuse
     if is_text(first, b"ygg-script 1") {
         command_lines(alloc, typed, after)
     } else {
-        Err(refused(1, Flaw::Line))
+        Err(refused(1, ScriptFlaw::Line))
     }
 }
 

@@ -8,7 +8,7 @@ use std::alloc::Global;
 use ygg_chain::Variables;
 use ygg_cnf::{Clauses, Log};
 use ygg_list::NoMemory;
-use ygg_solver_search::{End, order_for, search_clauses};
+use ygg_solver_search::{SearchEnd, order_for, search_clauses};
 use ygg_watch::Watch;
 use ygg_watch_order::{Order, Work};
 use ygg_watch_plain::{Trail, load};
@@ -114,8 +114,8 @@ fn solve_numbered(
         variable_count,
         budget,
     )? {
-        End::Model => Ok(Answer::Sat(assignment_of(alloc, variables, propagation.trail())?)),
-        End::Refuted(log) => Ok(Answer::Unsat(name_log(alloc, variables, log)?)),
-        End::Spent(log) => Ok(Answer::Spent(name_log(alloc, variables, log)?)),
+        SearchEnd::Model => Ok(Answer::Sat(assignment_of(alloc, variables, propagation.trail())?)),
+        SearchEnd::Refuted(log) => Ok(Answer::Unsat(name_log(alloc, variables, log)?)),
+        SearchEnd::Spent(log) => Ok(Answer::Spent(name_log(alloc, variables, log)?)),
     }
 }

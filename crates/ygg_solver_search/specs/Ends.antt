@@ -7,11 +7,11 @@ use Rattle.ygg_watch_trail.specs.Assignments.{IsTrail}
 use Rattle.ygg_watch_trail.specs.declared.entry.Entry.{Entry}
 use Rattle.ygg_watch_plain.specs.Propagation.{IsWithin}
 use Rattle.ygg_solver_search.specs.Kept.{trail_value}
-use Rattle.ygg_solver_search.specs.declared.searching.End.{End}
-use Rattle.ygg_solver_search.specs.declared.searching.End.TheVariants as end
+use Rattle.ygg_solver_search.specs.declared.searching.SearchEnd.{SearchEnd}
+use Rattle.ygg_solver_search.specs.declared.searching.SearchEnd.TheVariants as end
 
 -- the end of a search is true of the clauses and the budget; it leaves the values in the trail, and no clause of its log has a variable from room on
-abbrev pub IsEnd : List (List Lit) → List Entry → ℕ → ℕ → End → Type 0
+abbrev pub IsEnd : List (List Lit) → List Entry → ℕ → ℕ → SearchEnd → Type 0
 IsEnd clauses trail variable_count budget end.Model = IsTrail trail variable_count × SatisfiesAll (trail_value trail) clauses
 IsEnd clauses trail variable_count budget (end.Refuted log) = Refutes clauses log × ((length log ≤ budget) × All (IsWithin variable_count) (map clause_of log))
 IsEnd clauses trail variable_count budget (end.Spent log) = SpentLog clauses log budget × All (IsWithin variable_count) (map clause_of log)

@@ -7,4 +7,4 @@ mod run;
 mod searching;
 
 pub use advice::order_for;
-pub use searching::{End, search_clauses};
+pub use searching::{SearchEnd, search_clauses};

@@ -15,7 +15,7 @@ use ygg_watch_trail::Entry;
 
 /// How a search ended.
 #[derive(Drop)]
-pub enum End {
+pub enum SearchEnd {
     /// The trail assigns each variable, and satisfies every clause.
     Model,
     /// The log derives the empty clause.
@@ -66,7 +66,7 @@ pub fn search<P: Trail>(
     seen: &mut [bool],
     variable_count: u64,
     budget: u32,
-) -> Result<End, NoMemory>
+) -> Result<SearchEnd, NoMemory>
     requires variable_count { variable_count ≡ (P.state propagation.old).variable_count }
     requires seen { 2 * variable_count ≤ length seen.old }
     requires budget { 0 < budget }
@@ -82,7 +82,7 @@ pub fn search<P: Trail>(
     let mut restarts = Restarts::new();
     loop {
         let Some(conflict) = to_conflict(propagation, order, variable_count) else {
-            return Ok(End::Model);
+            return Ok(SearchEnd::Model);
         };
         let trail = propagation.trail();
         let held = clauses.as_slice();
@@ -92,7 +92,7 @@ pub fn search<P: Trail>(
                 clause: Clause::new(alloc),
                 chain: Sequence::from_vec(chain),
             })?;
-            return Ok(End::Refuted(log));
+            return Ok(SearchEnd::Refuted(log));
         };
         let Learned {
             clause,
@@ -121,7 +121,7 @@ pub fn search<P: Trail>(
             chain: Sequence::from_vec(chain),
         })?;
         if log.len() == budget as usize {
-            return Ok(End::Spent(log));
+            return Ok(SearchEnd::Spent(log));
         }
     }
 }
@@ -134,7 +134,7 @@ pub fn search_clauses<P: Trail>(
     clauses: Clauses,
     variable_count: u64,
     budget: u32,
-) -> Result<End, NoMemory>
+) -> Result<SearchEnd, NoMemory>
     requires variable_count { variable_count ≡ (P.state propagation.old).variable_count }
     requires small { variable_count < 2 ^ 63 }
     requires budget { 0 < budget }

@@ -11,12 +11,12 @@ use Rattle.ygg_bank.specs.declared.node.Node.{Node}
 use Rattle.ygg_shape.proofs.Answered.{no_inputs, some_fit}
 use Rattle.ygg_shape_cells.specs.declared.terms.SymValue.{SymValue}
 use Rattle.ygg_sym_runs.specs.Lower.{KeepsSingle}
-use Rattle.ygg_sym_below.specs.Cuts.{disk_loses}
-use Rattle.ygg_sym_below.specs.Lows.{LowShaped}
-use Rattle.ygg_sym_below.specs.SpecCuts.{crash_made}
-use Rattle.ygg_sym_below.specs.Specs.{input_pick}
-use Rattle.ygg_sym_laws.specs.Below.{lost_made, lows_at_start, lows_on, start_made, zeros_made}
-use Rattle.ygg_sym_laws.specs.Means.{LossMeans, terms_of}
+use Rattle.ygg_sym_disk.specs.Cuts.{disk_loses}
+use Rattle.ygg_sym_disk.specs.SymBelowLows.{LowShaped}
+use Rattle.ygg_sym_disk.specs.SpecCuts.{crash_made}
+use Rattle.ygg_sym_disk.specs.Specs.{input_pick}
+use Rattle.ygg_sym_laws_disk.specs.Below.{lost_made, lows_at_start, lows_on, start_made, zeros_made}
+use Rattle.ygg_sym_laws_disk.specs.Means.{LossMeans, terms_of}
 use Rattle.ygg_sym_laws_disk.proofs.Loss.{disk_loss}
 use Rattle.ygg_sym_laws_spec.proofs.AnyLayer.{spec_loss}
 use Rattle.ygg_sym_spec_stops.specs.Layers.{closed, crash_of, terms_in}

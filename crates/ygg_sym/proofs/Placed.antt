@@ -8,13 +8,13 @@ use Rattle.ygg_rules.specs.declared.rule.RuleKind.{RuleKind}
 use Rattle.ygg_bank.specs.declared.node.Node.{Node}
 use Rattle.ygg_shape_cells.specs.declared.terms.SymValue.{SymValue}
 use Rattle.ygg_sym_runs.specs.Lower.{SingleFrom, Stands}
-use Rattle.ygg_sym_below.specs.Lows.{LowShaped}
-use Rattle.ygg_sym_below.specs.SpecCuts.{spec_stops}
-use Rattle.ygg_sym_below.specs.Specs.{input_pick, sym_spec}
+use Rattle.ygg_sym_disk.specs.SymBelowLows.{LowShaped}
+use Rattle.ygg_sym_disk.specs.SpecCuts.{spec_stops}
+use Rattle.ygg_sym_disk.specs.Specs.{input_pick, sym_spec}
 use Rattle.ygg_sym_disk.specs.Means.{disk_meaning}
-use Rattle.ygg_sym_laws.specs.Below.{lows_on, machine_on, signatures_on, space_on, stops_on}
-use Rattle.ygg_sym_laws.specs.Means.{terms_of}
-use Rattle.ygg_sym_laws.specs.Typed.{BelowTyped, SpecTyped}
+use Rattle.ygg_sym_laws_disk.specs.Below.{lows_on, machine_on, signatures_on, space_on, stops_on}
+use Rattle.ygg_sym_laws_disk.specs.Means.{terms_of}
+use Rattle.ygg_sym_laws_disk.specs.Typed.{BelowTyped, SpecTyped}
 use Rattle.ygg_sym_cut.specs.Stopping as stopping
 use Rattle.ygg_sym_disk_stops.specs.Failing.{disk_power}
 use Rattle.ygg_sym_spec_stops.specs.Layers.{SpecServes, closed, terms_in}

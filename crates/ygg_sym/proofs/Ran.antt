@@ -28,14 +28,14 @@ use Rattle.ygg_sym_runs.specs.Lower.{SymMeaning, Stands}
 use Rattle.ygg_sym_runs.specs.Meaning.{AnswerShaped, answer_worth}
 use Rattle.ygg_sym_runs.specs.Runs.{SymMachine}
 use Rattle.ygg_sym_runs.proofs.Worths.{NameShaped}
-use Rattle.ygg_sym_below.specs.Lows.{LowShaped}
-use Rattle.ygg_sym_below.specs.StopTerms.{Stops, SymFallen, stop_whole}
-use Rattle.ygg_sym_below.specs.Wholes.{sym_whole}
-use Rattle.ygg_sym_below.proofs.Blocks.{values_worth}
-use Rattle.ygg_sym_below.proofs.Specs.{bound_worth, low_shaped}
-use Rattle.ygg_sym_laws.specs.Below.{machine_on, signatures_on, space_on, stops_on}
-use Rattle.ygg_sym_laws.specs.Means.{Begins, FallMeans, Values3, WholeMeans}
-use Rattle.ygg_sym_laws.specs.Typed.{BlockTyped}
+use Rattle.ygg_sym_disk.specs.SymBelowLows.{LowShaped}
+use Rattle.ygg_sym_disk.specs.StopTerms.{Stops, SymFallen, stop_whole}
+use Rattle.ygg_sym_disk.specs.Wholes.{sym_whole}
+use Rattle.ygg_sym_disk.proofs.Blocks.{values_worth}
+use Rattle.ygg_sym_disk.proofs.Specs.{bound_worth, low_shaped}
+use Rattle.ygg_sym_laws_disk.specs.Below.{machine_on, signatures_on, space_on, stops_on}
+use Rattle.ygg_sym_laws_disk.specs.Means.{Begins, FallMeans, Values3, WholeMeans}
+use Rattle.ygg_sym_laws_disk.specs.Typed.{BlockTyped}
 use Rattle.ygg_sym_laws_disk.proofs.Falls.{disk_falls}
 use Rattle.ygg_sym_laws_disk.proofs.Whole.{disk_whole}
 use Rattle.ygg_sym_laws_spec.proofs.AnyLayer.{spec_falls, spec_whole}

@@ -11,11 +11,11 @@ use Rattle.ygg_bank.specs.declared.node.Node.{Node}
 use Rattle.ygg_shape.specs.Wholes.{zero_made}
 use Rattle.ygg_shape.proofs.Answered.{no_inputs, some_fit}
 use Rattle.ygg_shape_cells.specs.declared.terms.SymValue.{SymValue}
-use Rattle.ygg_sym_below.specs.Lows.{LowShaped}
+use Rattle.ygg_sym_disk.specs.SymBelowLows.{LowShaped}
 use Rattle.ygg_sym_runs.specs.Lower.{KeepsSingle, SingleFrom}
 use Rattle.ygg_sym_runs.proofs.Singles.{single_stays}
-use Rattle.ygg_sym_laws.specs.Below.{zeros_made}
-use Rattle.ygg_sym_laws.proofs.Zeros.{AreShapes, zeros_give, zeros_made_keep}
+use Rattle.ygg_sym_laws_disk.specs.Below.{zeros_made}
+use Rattle.ygg_sym_laws_disk.proofs.Zeros.{AreShapes, zeros_give, zeros_made_keep}
 use Rattle.ygg_sym.specs.Kept.{AreKept}
 use Rattle.ygg_sym.proofs.Left.{Left, left_goes, rest_is}
 

@@ -7,8 +7,8 @@ use Rattle.ygg_bank.specs.declared.node.Node.{Node}
 use Rattle.ygg_sym_expr.specs.Names.{SymEnv}
 use Rattle.ygg_sym_runs.specs.Lower.{SymMeaning, KeepsSingle}
 use Rattle.ygg_sym_runs.specs.Ready.{terms_of}
-use Rattle.ygg_sym_below.specs.Wholes.{sym_whole}
-use Rattle.ygg_sym_laws.specs.Means.{values_in}
+use Rattle.ygg_sym_disk.specs.Wholes.{sym_whole}
+use Rattle.ygg_sym_laws_disk.specs.Means.{values_in}
 use Rattle.ygg_sym.specs.declared.running.Ran.{Ran}
 
 module _ {S : Type 0} (M : SymMeaning S) (defs : List Def) (kinds : List RuleKind) where

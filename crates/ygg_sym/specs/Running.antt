@@ -9,12 +9,12 @@ use Rattle.ygg_bank.specs.declared.node.Node.{Node}
 use Rattle.ygg_shape_cells.specs.declared.terms.SymValue.{SymValue}
 use Rattle.ygg_sym_expr.specs.Names.{sym_bind}
 use Rattle.ygg_sym_runs.specs.Meaning.{AnswerShaped, answer_worth}
-use Rattle.ygg_sym_below.specs.Lows.{LowShaped}
-use Rattle.ygg_sym_below.specs.StopTerms.{SymFallen}
-use Rattle.ygg_sym_below.specs.Wholes.{SymFinish}
-use Rattle.ygg_sym_laws.specs.Below.{cut_made, run_made, signatures_on}
-use Rattle.ygg_sym_laws.specs.Means.{values_in}
-use Rattle.ygg_sym_laws.specs.Typed.{BlockTyped}
+use Rattle.ygg_sym_disk.specs.SymBelowLows.{LowShaped}
+use Rattle.ygg_sym_disk.specs.StopTerms.{SymFallen}
+use Rattle.ygg_sym_disk.specs.Wholes.{SymFinish}
+use Rattle.ygg_sym_laws_disk.specs.Below.{cut_made, run_made, signatures_on}
+use Rattle.ygg_sym_laws_disk.specs.Means.{values_in}
+use Rattle.ygg_sym_laws_disk.specs.Typed.{BlockTyped}
 use Rattle.ygg_sym_spec_stops.specs.Layers.{closed, terms_in}
 use Rattle.ygg_sym.specs.Sites.{BelowFits, below_in}
 use Rattle.ygg_sym.specs.declared.runs.SymBlock.{SymBlock}

@@ -3,8 +3,8 @@ use Rattle.std.specs.Prelude.{◌≡◌, IsTrue, []}
 use Rattle.ygg_type_rules.specs.TypeErrors.{none}
 use Rattle.ygg_type_rules.specs.Definitions.{definitions_errors}
 use Rattle.ygg_meaning.specs.Refines.{Below, OnDisk, OnSpec}
-use Rattle.ygg_sym_laws.specs.Below.{lows_on}
-use Rattle.ygg_sym_laws.specs.Typed.{BelowTyped}
+use Rattle.ygg_sym_laws_disk.specs.Below.{lows_on}
+use Rattle.ygg_sym_laws_disk.specs.Typed.{BelowTyped}
 use Rattle.ygg_sym_spec_stops.specs.Layers.{closed}
 use Rattle.ygg_sym_spec_stops.specs.SymLayer.{SymLayer}
 use Rattle.ygg_sym.specs.declared.below.SymBelow.{SymBelow}

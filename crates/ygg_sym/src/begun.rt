@@ -2,9 +2,9 @@
 
 ghost use Rattle.std.specs.Prelude.{◌≡◌, IfOk, OnOk};
 ghost use Rattle.ygg_bank.specs.Nodes.{Extends, IsBank};
-ghost use Rattle.ygg_sym_below.specs.Lows.{LowShaped};
+ghost use Rattle.ygg_sym_disk.specs.SymBelowLows.{LowShaped};
 ghost use Rattle.ygg_sym_runs.specs.Lower.{KeepsSingle, SingleFrom};
-ghost use Rattle.ygg_sym_laws.specs.Below.{start_made};
+ghost use Rattle.ygg_sym_laws_disk.specs.Below.{start_made};
 ghost use Rattle.ygg_sym_spec_stops.specs.Layers.{SpecServes, closed, terms_in};
 
 use crate::declared::zeros;

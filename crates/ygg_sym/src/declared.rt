@@ -4,9 +4,9 @@ ghost use Rattle.std.specs.Prelude.{◌≡◌, IfOk, OnOk};
 ghost use Rattle.ygg_value.specs.Shapes.{IsShape};
 ghost use Rattle.ygg_bank.specs.Nodes.{Extends, IsBank};
 ghost use Rattle.ygg_meaning.specs.Shapes.{shape_in};
-ghost use Rattle.ygg_sym_below.specs.Lows.{LowShaped};
+ghost use Rattle.ygg_sym_disk.specs.SymBelowLows.{LowShaped};
 ghost use Rattle.ygg_sym_runs.specs.Lower.{KeepsSingle};
-ghost use Rattle.ygg_sym_laws.specs.Below.{zeros_made};
+ghost use Rattle.ygg_sym_laws_disk.specs.Below.{zeros_made};
 ghost use Rattle.ygg_sym.specs.Kept.{AreKept};
 
 use std::alloc::Global;

@@ -2,8 +2,8 @@
 
 ghost use Rattle.std.specs.Prelude.{◌≡◌, ◌+◌, IfOk};
 ghost use Rattle.ygg_meaning.specs.Refines.{OnDisk, OnSpec};
-ghost use Rattle.ygg_sym_below.specs.SpecCuts.{choice_room, fall_places, fall_room};
-ghost use Rattle.ygg_sym_laws.specs.Below.{failure_room, places_on};
+ghost use Rattle.ygg_sym_disk.specs.SpecCuts.{choice_room, fall_places, fall_room};
+ghost use Rattle.ygg_sym_laws_disk.specs.Below.{failure_room, places_on};
 ghost use Rattle.ygg_sym_spec_stops.specs.Layers.{closed};
 ghost use Rattle.ygg_sym.specs.Sites.{below_in};
 

@@ -16,7 +16,7 @@ use std::alloc::Global;
 use ygg_bank::{Bank, NoMemory};
 use ygg_rules::Book;
 use ygg_shape_cells::{SymValue, SymValues};
-use ygg_sym_cut::{Fallen, SymStops, cut_short, whole};
+use ygg_sym_cut::{StopEnd, SymStops, cut_short, whole};
 use ygg_sym_disk::{Lows, SymDisk};
 use ygg_sym_disk_stops::DiskStops;
 use ygg_sym_expr::SymBinding;
@@ -289,7 +289,7 @@ fn cut_with<'a, W: SymStops, B: Book>(
     args: &SymValues,
     from: W::State,
     bank: &mut Bank,
-) -> Result<Fallen<W::State>, NoMemory>
+) -> Result<StopEnd<W::State>, NoMemory>
     requires can { CanWhole (W.means runner.now.machine.now) runner.now.defs.now b.now bank.old
         (sym_bind variables.now vars.now ++ sym_bind names.now args.now) from }
     requires single { SingleFrom (W.power runner.now.machine.now).first bank.old }

@@ -2,9 +2,9 @@
 
 ghost use Rattle.std.specs.Prelude.{◌≡◌, ◌≤◌, IfOk, OnOk};
 ghost use Rattle.ygg_bank.specs.Nodes.{Extends, HasWidth, IsBank};
-ghost use Rattle.ygg_sym_below.specs.Lows.{LowShaped};
+ghost use Rattle.ygg_sym_disk.specs.SymBelowLows.{LowShaped};
 ghost use Rattle.ygg_sym_runs.specs.Lower.{KeepsSingle, SingleFrom};
-ghost use Rattle.ygg_sym_laws.specs.Below.{lost_made, lows_at_start};
+ghost use Rattle.ygg_sym_laws_disk.specs.Below.{lost_made, lows_at_start};
 ghost use Rattle.ygg_sym_spec_stops.specs.Layers.{terms_in};
 ghost use Rattle.ygg_sym.specs.Sites.{below_in, BelowFits};
 ghost use Rattle.ygg_sym.specs.Running.{CanRunBlock, CutIs, EndIs, EndStands, cut_of, run_of};

@@ -104,7 +104,8 @@ module _ (kinds : List RuleKind) (defs : List Def) (d : DiskText) (L : ClosedLay
         defs_is = typed.defs_is;
         agrees = subst (λ e. Agrees L.functions typed.scope (plain e)) (sym joined) good;
       } in
-      let w = whole_gives inputs v kinds ds L.functions terms grow mean low Impl (disk_operations d) M machine laws b typed.shape typed.scope vars args from nodes
+      let w = whole_gives inputs v kinds ds L.functions terms grow mean low Impl (disk_operations d) M machine laws b typed.shape
+      typed.scope vars args from nodes
       inside typed.without_errors typed.kept (All-append (NameShaped nodes) vars args sv sa) sl h in
       let base = based (low_worth v (tables_of d) from) in
       let F = disk_acts past d in

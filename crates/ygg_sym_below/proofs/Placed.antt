@@ -158,7 +158,8 @@ module _ {Z : Type 0} (past : Bool) (space : Name → ℕ) (D : Draw Z) (draws :
       let s = same_run past space D draws listed eval b env z in
       m ∙ ap (reached past space D draws listed r.env r.to) (same_events past space D draws listed r.events) ∙ sym s.all
 
-module _ {B : Type 0} (past : Bool) (space : Name → ℕ) (F : Acts B Bool) (tidy : IsTidy past space F) (L : ClosedLayer) (b : Block) (args : Env) (from : State B) where
+module _ {B : Type 0} (past : Bool) (space : Name → ℕ) (F : Acts B Bool) (tidy : IsTidy past space F) (L : ClosedLayer) (b : Block)
+    (args : Env) (from : State B) where
   -- so many picks by place as the block has places lead where a list leads
   pub placed_are : (picks : Picks) → placed_run space F L b args from picks
       ≡ placed_run space F L b args from (picks_from (bits_of past picks) 0 (room_of space b))

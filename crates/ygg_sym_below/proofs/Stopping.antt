@@ -171,7 +171,8 @@ halted_leaves S B handle cut lose bits es from to last c = leaves handle cut los
 
 -- what is left hangs on what power leaves alone
 pub base_same : {S B : Type 0} (cut other : Question → S → B) (lose miss : S → B) → ((q : Question) (s : S) → cut q s ≡ other q s) →
-    ((s : S) → lose s ≡ miss s) → (within : Bool) (es : List (Question × S)) (n : ℕ) (end : S) → base_at cut lose within es n end ≡ base_at other miss within es n end
+    ((s : S) → lose s ≡ miss s) → (within : Bool) (es : List (Question × S)) (n : ℕ) (end : S) → base_at cut lose within
+    es n end ≡ base_at other miss within es n end
 base_same cut other lose miss h g within [] zero end = ap (λ b. if within then None else Some b) (g end)
 base_same cut other lose miss h g within [] (suc n) end = refl
 base_same cut other lose miss h g within (e ∷ es) zero end =

@@ -28,7 +28,7 @@ use Rattle.ygg_sym_stops.specs.StopTerms.{SymFallen, SymHalted}
 use Rattle.ygg_sym_whole.specs.Ready.{CanWhole}
 use Rattle.ygg_sym_stops.specs.Halting.{halted_of, halting_meaning, sym_fall}
 use Rattle.ygg_sym_stops.specs.Stopping.{Power}
-use Rattle.ygg_sym_stops.specs.declared.ending.Fallen.{Fallen}
+use Rattle.ygg_sym_stops.specs.declared.ending.StopEnd.{StopEnd}
 use Rattle.ygg_sym_cut.specs.Falls.{IsFall}
 use Rattle.ygg_sym_cut.proofs.Rooms.{rooms_are}
 
@@ -48,7 +48,8 @@ module _ {S : Type 0} (M : SymMeaning S) (K : Power S) (defs : List Def) where
   H = halting_meaning M K
 
   -- the statements may be run on the machine with stops
-  pub cut_runs : (b : Block) (old new : List Node) (env : SymEnv) (s : S) (never : Id) → CanWhole M defs b old env s → SingleFrom K.first old → Extends old new →
+  pub cut_runs : (b : Block) (old new : List Node) (env : SymEnv) (s : S) (never : Id) → CanWhole M defs b old env s →
+      SingleFrom K.first old → Extends old new →
       KeepsSingle old new → HasWidth new never 1 → CanRun H defs b.statements new env (halted_of s s never)
   cut_runs b old new env s never can single g k w =
       let n = can.names in
@@ -113,7 +114,7 @@ module _ {S : Type 0} (M : SymMeaning S) (K : Power S) (defs : List Def) where
 
     -- so it is wherever there was memory
     pub cut_if : {E : Type 0} (b : Block) (ss : List Stmt) (env env' : SymEnv) (s : S) (never : Id) (z' : SymHalted S S) (old first mid new : List Node)
-        (last : ℕ) (r : Result (Fallen S) E) → ss ≡ b.statements → first ≡ (made kinds (Const (word 1 0)) old).nodes →
+        (last : ℕ) (r : Result (StopEnd S) E) → ss ≡ b.statements → first ≡ (made kinds (Const (word 1 0)) old).nodes →
         never ≡ (made kinds (Const (word 1 0)) old).value → Ended (order_run H defs kinds ss) 0 env (halted_of s s never) first last env' z' mid →
         OnOk r (new ≡ (sym_fall M K kinds last z' mid).nodes) → IfOk r (λ end. end.fallen ≡ (sym_fall M K kinds last z' mid).value.fallen) →
         IfOk r (λ end. end.reached ≡ (sym_fall M K kinds last z' mid).value.reached) → IfOk r (λ end. M.low.Has new end.fallen) →

@@ -14,7 +14,7 @@ use ygg_list::Duplicate;
 use ygg_rules::Book;
 use ygg_sym_expr::SymBinding;
 use ygg_sym_runs::{SymFrame, SymLower, SymRunner};
-use ygg_sym_stops::{Fallen, Halted, Halting, SymStops, end_halting};
+use ygg_sym_stops::{Halting, StopEnd, StopState, SymStops, end_halting};
 use ygg_syntax::tree::Block;
 use ygg_value::Word;
 
@@ -27,7 +27,7 @@ pub fn cut_short<'a, W: SymStops, B: Book>(
     names: Vec<SymBinding<'a>>,
     from: W::State,
     bank: &mut Bank,
-) -> Result<Fallen<W::State>, NoMemory>
+) -> Result<StopEnd<W::State>, NoMemory>
     requires can { CanWhole (W.means runner.now.machine.now) runner.now.defs.now b.now bank.old (env_of names.items) from }
     requires single { SingleFrom (W.power runner.now.machine.now).first bank.old }
     ensures fall { IfOk result (λ end. (vars args : SymEnv) → env_of names.entry.items ≡ vars ++ args →
@@ -49,7 +49,7 @@ pub fn cut_short<'a, W: SymStops, B: Book>(
         machine: &halting,
         book: runner.book,
     };
-    let state = Halted {
+    let state = StopState {
         to: from,
         fallen,
         stopped: never,

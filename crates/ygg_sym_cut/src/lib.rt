@@ -4,5 +4,5 @@
 mod cut;
 
 pub use cut::cut_short;
-pub use ygg_sym_stops::{Fallen, SymStops};
+pub use ygg_sym_stops::{StopEnd, SymStops};
 pub use ygg_sym_whole::whole;

@@ -32,12 +32,12 @@ use Rattle.ygg_syntax.specs.declared.tree.Def.{Def}
 use Rattle.ygg_value.specs.declared.row.Value.{Value}
 use Rattle.ygg_syntax_count.specs.Weights.{weights_of, expr_weight}
 use Rattle.ygg_symbols.specs.Names.{Named, look_up}
-use Rattle.ygg_type_rules.specs.declared.scope.Signature.{Signature}
-use Rattle.ygg_type_rules.specs.TypeErrors.{none}
-use Rattle.ygg_type_rules.specs.Shapes.{shape_of}
-use Rattle.ygg_type_rules.specs.Scopes.{Scope}
-use Rattle.ygg_type_rules.specs.Expressions.{typing, wanted, expected_errors}
-use Rattle.ygg_type_rules.specs.Definitions.{
+use Rattle.ygg_type_sound.specs.Signature.{Signature}
+use Rattle.ygg_type_sound.specs.TypeErrors.{none}
+use Rattle.ygg_type_sound.specs.Shapes.{shape_of}
+use Rattle.ygg_type_sound.specs.Scopes.{Scope}
+use Rattle.ygg_type_sound.specs.Expressions.{typing, wanted, expected_errors}
+use Rattle.ygg_type_sound.specs.Definitions.{
   with_parameter,
   with_parameters,
   definition_signature,
@@ -47,8 +47,8 @@ use Rattle.ygg_type_rules.specs.Definitions.{
   with_definitions,
   definitions_errors,
 }
-use Rattle.ygg_meaning.specs.Environments.{Name, bind}
-use Rattle.ygg_meaning.specs.Meaning.{functions_from, functions_of, value_with}
+use Rattle.ygg_type_sound.specs.Environments.{Name, bind}
+use Rattle.ygg_type_sound.specs.Meaning.{functions_from, functions_of, value_with}
 use Rattle.ygg_type_sound.specs.Fitting.{HasShape, all_fit}
 use Rattle.ygg_type_sound.specs.Agrees.{Agrees}
 use Rattle.ygg_type_sound.proofs.Tests.{left, right, bytes_same}
@@ -60,7 +60,7 @@ use Rattle.ygg_bank.specs.Values.{Inputs, Values}
 use Rattle.ygg_bank.specs.declared.node.Node.{Node}
 use Rattle.ygg_shape_cells.specs.Terms.{worth}
 use Rattle.ygg_shape_cells.specs.declared.terms.SymValue.{SymValue}
-use Rattle.ygg_meaning.specs.Shapes.{shape_in}
+use Rattle.ygg_type_sound.specs.MeaningShapes.{shape_in}
 use Rattle.ygg_sym_expr.specs.Names.{SymScope, sym_bind}
 use Rattle.ygg_sym_expr.specs.Exprs.{sym_value, sym_functions}
 use Rattle.ygg_sym_expr.specs.Meaning.{SomeShape, EnvShaped, ScopeShaped, Gives, worths, scope_worth, IsWorth}

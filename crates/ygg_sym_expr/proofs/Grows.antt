@@ -3,7 +3,7 @@ use Rattle.std.proofs.Common.{ℕ, List, map}
 use Rattle.ygg_value.specs.declared.operation.Op.{Op}
 use Rattle.ygg_syntax.specs.declared.tree.Def.{Def}
 use Rattle.ygg_syntax.specs.declared.tree.Expr.{Expr}
-use Rattle.ygg_meaning.specs.Environments.{Name}
+use Rattle.ygg_type_sound.specs.Environments.{Name}
 use Rattle.ygg_rules.specs.declared.rule.RuleKind.{RuleKind}
 use Rattle.ygg_bank.proofs.Made.{made_grows}
 use Rattle.ygg_bank.proofs.Widths.{extends_self, extends_both}

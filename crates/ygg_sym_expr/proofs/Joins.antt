@@ -11,7 +11,7 @@ use Rattle.ygg_syntax.specs.declared.tree.Quantifier.{Quantifier}
 use Rattle.ygg_syntax.specs.declared.tree.Quantifier.TheVariants as quantifier
 use Rattle.ygg_syntax.specs.declared.tree.Expr.{Expr}
 use Rattle.ygg_syntax.specs.declared.tree.Expr.TheVariants as tree
-use Rattle.ygg_meaning.specs.Environments.{Name}
+use Rattle.ygg_type_sound.specs.Environments.{Name}
 use Rattle.ygg_rules.specs.declared.rule.RuleKind.{RuleKind}
 use Rattle.ygg_bank.proofs.Widths.{width_is}
 use Rattle.ygg_bank.specs.Makes.{Make}

@@ -9,7 +9,7 @@ use Rattle.ygg_syntax.specs.declared.tree.Quantifier.TheVariants.{All, Any}
 use Rattle.ygg_syntax.specs.declared.tree.Expr.{Expr, map-Expr}
 use Rattle.ygg_syntax.specs.declared.tree.Expr.TheOpen.{Expr-F}
 use Rattle.ygg_syntax.specs.declared.tree.Expr.TheFolds.{ind-Expr, fold-roll-Expr}
-use Rattle.ygg_meaning.specs.Environments.{Name}
+use Rattle.ygg_type_sound.specs.Environments.{Name}
 use Rattle.ygg_rules.specs.declared.rule.RuleKind.{RuleKind}
 use Rattle.ygg_bank.specs.Makes.{Make}
 use Rattle.ygg_bank.specs.declared.node.Id.{Id}

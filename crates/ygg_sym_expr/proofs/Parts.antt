@@ -38,13 +38,13 @@ use Rattle.ygg_value.specs.declared.row.Value.{Value}
 use Rattle.ygg_value.specs.declared.row.Value.TheVariants as value
 use Rattle.ygg_value.specs.declared.shape.Shape.{Shape}
 use Rattle.ygg_value.specs.declared.shape.Shape.TheVariants as shape
-use Rattle.ygg_type_rules.specs.Shapes.{is_word, width_of}
-use Rattle.ygg_type_rules.specs.Comparisons.{operator_error}
+use Rattle.ygg_type_sound.specs.Shapes.{is_word, width_of}
+use Rattle.ygg_type_sound.specs.Comparisons.{operator_error}
 use Rattle.ygg_type_sound.proofs.Tests.{wanted_is}
 use Rattle.ygg_type_sound.proofs.Fits.{word_wide}
 use Rattle.ygg_type_sound.proofs.Rules.{Operands, operands, PickParts}
 use Rattle.ygg_type_sound.proofs.Lists.{IsWordOf, RowParts}
-use Rattle.ygg_meaning.specs.Meaning.{is_one, row_of, filled}
+use Rattle.ygg_type_sound.specs.Meaning.{is_one, row_of, filled}
 use Rattle.ygg_rules.specs.declared.rule.RuleKind.{RuleKind}
 use Rattle.ygg_bank.proofs.Made.{made_grows}
 use Rattle.ygg_bank.proofs.Meaning.{fits_fewer}

@@ -40,11 +40,11 @@ use Rattle.std.proofs.lemmas.Option.{slice_get-get_or}
 use Rattle.ygg_syntax.specs.declared.tree.Def.{Def}
 use Rattle.ygg_syntax_count.specs.Weights.{weights_of, expr_weight}
 use Rattle.ygg_symbols.specs.Names.{Named, look_up, has}
-use Rattle.ygg_type_rules.specs.declared.scope.Signature.{Signature}
-use Rattle.ygg_type_rules.specs.TypeErrors.{none}
-use Rattle.ygg_type_rules.specs.Shapes.{shape_of}
-use Rattle.ygg_type_rules.specs.Expressions.{typing, wanted}
-use Rattle.ygg_type_rules.specs.Definitions.{
+use Rattle.ygg_type_sound.specs.Signature.{Signature}
+use Rattle.ygg_type_sound.specs.TypeErrors.{none}
+use Rattle.ygg_type_sound.specs.Shapes.{shape_of}
+use Rattle.ygg_type_sound.specs.Expressions.{typing, wanted}
+use Rattle.ygg_type_sound.specs.Definitions.{
   with_parameters,
   definition_signature,
   definition_scope,
@@ -53,8 +53,8 @@ use Rattle.ygg_type_rules.specs.Definitions.{
   with_definitions,
   definitions_errors,
 }
-use Rattle.ygg_meaning.specs.Environments.{Name}
-use Rattle.ygg_meaning.specs.Meaning.{functions_of}
+use Rattle.ygg_type_sound.specs.Environments.{Name}
+use Rattle.ygg_type_sound.specs.Meaning.{functions_of}
 use Rattle.ygg_type_sound.specs.Agrees.{Agrees}
 use Rattle.ygg_type_sound.proofs.Tests.{left, right, bytes_same, bytes_equal}
 use Rattle.ygg_type_sound.proofs.Names.{still_found, look_up_append, added_new, or_else, absent}

@@ -40,15 +40,15 @@ use Rattle.ygg_syntax.specs.declared.tree.Quantifier.TheVariants as quantifier
 use Rattle.ygg_syntax.specs.declared.tree.Expr.{Expr}
 use Rattle.ygg_syntax.specs.declared.tree.Expr.TheVariants as tree
 use Rattle.ygg_symbols.specs.Names.{look_up}
-use Rattle.ygg_type_rules.specs.declared.scope.Signature.{Signature}
-use Rattle.ygg_type_rules.specs.TypeErrors.{none}
-use Rattle.ygg_type_rules.specs.Scopes.{Scope, is_taken}
-use Rattle.ygg_type_rules.specs.Shapes.{is_word, width_of, word_shape}
-use Rattle.ygg_type_rules.specs.Comparisons.{operator_error}
-use Rattle.ygg_type_rules.specs.Expressions.{typing, with_number, operator_rule}
-use Rattle.ygg_meaning.specs.Environments.{Name}
-use Rattle.ygg_meaning.specs.Meaning.{Functions, functions_of, value_with}
-use Rattle.ygg_meaning.specs.Meaning as meaning
+use Rattle.ygg_type_sound.specs.Signature.{Signature}
+use Rattle.ygg_type_sound.specs.TypeErrors.{none}
+use Rattle.ygg_type_sound.specs.Scopes.{Scope, is_taken}
+use Rattle.ygg_type_sound.specs.Shapes.{is_word, width_of, word_shape}
+use Rattle.ygg_type_sound.specs.Comparisons.{operator_error}
+use Rattle.ygg_type_sound.specs.Expressions.{typing, with_number, operator_rule}
+use Rattle.ygg_type_sound.specs.Environments.{Name}
+use Rattle.ygg_type_sound.specs.Meaning.{Functions, functions_of, value_with}
+use Rattle.ygg_type_sound.specs.Meaning as meaning
 use Rattle.ygg_type_sound.specs.Agrees.{Agrees}
 use Rattle.ygg_type_sound.specs.Fitting.{all_fit}
 use Rattle.ygg_type_sound.proofs.Tests.{wanted_is}

@@ -8,7 +8,7 @@ use Rattle.ygg_value.specs.declared.row.Value.{Value}
 use Rattle.ygg_value.specs.declared.row.Value.TheVariants as value
 use Rattle.ygg_value.specs.declared.shape.Shape.{Shape}
 use Rattle.ygg_value.specs.declared.shape.Shape.TheVariants as shape
-use Rattle.ygg_type_rules.specs.Shapes.{is_word}
+use Rattle.ygg_type_sound.specs.Shapes.{is_word}
 use Rattle.ygg_bank.proofs.Widths.{width_fits}
 use Rattle.ygg_bank.specs.Nodes.{HasWidth, Extends}
 use Rattle.ygg_bank.specs.Values.{Inputs, Values, Fits}

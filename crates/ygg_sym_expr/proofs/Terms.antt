@@ -3,10 +3,10 @@ use Rattle.std.proofs.Common.{◌≡◌, true, List, [], reverse, Ok, Err, Resul
 use Rattle.ygg_value.specs.Shapes.{shape_of}
 use Rattle.ygg_value.specs.declared.shape.Shape.{Shape}
 use Rattle.ygg_syntax.specs.declared.tree.Expr.{Expr}
-use Rattle.ygg_type_rules.specs.TypeErrors.{none}
-use Rattle.ygg_type_rules.specs.Expressions.{typing}
-use Rattle.ygg_type_rules.specs.Definitions.{with_definitions}
-use Rattle.ygg_meaning.specs.Meaning.{functions_of, value_with}
+use Rattle.ygg_type_sound.specs.TypeErrors.{none}
+use Rattle.ygg_type_sound.specs.Expressions.{typing}
+use Rattle.ygg_type_sound.specs.Definitions.{with_definitions}
+use Rattle.ygg_type_sound.specs.Meaning.{functions_of, value_with}
 use Rattle.ygg_type_sound.proofs.Sounds.{sound}
 use Rattle.ygg_rules.specs.declared.rule.RuleKind.{RuleKind}
 use Rattle.ygg_bank.proofs.Meaning.{fits_fewer}

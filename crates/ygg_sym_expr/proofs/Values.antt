@@ -49,15 +49,15 @@ use Rattle.ygg_syntax.specs.declared.tree.Expr.TheVariants as tree
 use Rattle.ygg_syntax.specs.declared.tree.Expr.TheOpen.{Expr-F}
 use Rattle.ygg_syntax.specs.declared.tree.Expr.TheFolds.{ind-Expr, fold-roll-Expr}
 use Rattle.ygg_symbols.specs.Names.{Named, look_up, has, added}
-use Rattle.ygg_type_rules.specs.declared.scope.Signature.{Signature}
-use Rattle.ygg_type_rules.specs.TypeErrors.{none}
-use Rattle.ygg_type_rules.specs.Scopes.{Scope, name_in, low_in, with_local}
-use Rattle.ygg_type_rules.specs.Shapes.{word_shape}
-use Rattle.ygg_type_rules.specs.Expressions.{Typing, node_typing, typing, with_number, name_rule, low_rule, operator_rule}
-use Rattle.ygg_meaning.specs.Environments.{Name, Env}
-use Rattle.ygg_meaning.specs.Environments as names
-use Rattle.ygg_meaning.specs.Meaning.{Functions, is_one, all_below, any_below, quantified, row_of, value_with}
-use Rattle.ygg_meaning.specs.Meaning as meaning
+use Rattle.ygg_type_sound.specs.Signature.{Signature}
+use Rattle.ygg_type_sound.specs.TypeErrors.{none}
+use Rattle.ygg_type_sound.specs.Scopes.{Scope, name_in, low_in, with_local}
+use Rattle.ygg_type_sound.specs.Shapes.{word_shape}
+use Rattle.ygg_type_sound.specs.Expressions.{Typing, node_typing, typing, with_number, name_rule, low_rule, operator_rule}
+use Rattle.ygg_type_sound.specs.Environments.{Name, Env}
+use Rattle.ygg_type_sound.specs.Environments as names
+use Rattle.ygg_type_sound.specs.Meaning.{Functions, is_one, all_below, any_below, quantified, row_of, value_with}
+use Rattle.ygg_type_sound.specs.Meaning as meaning
 use Rattle.ygg_type_sound.specs.Fitting.{IsHeld, all_fit}
 use Rattle.ygg_type_sound.specs.Agrees.{Agrees}
 use Rattle.ygg_type_sound.proofs.Names.{value_found}

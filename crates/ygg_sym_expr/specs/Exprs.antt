@@ -10,7 +10,7 @@ use Rattle.ygg_syntax.specs.declared.tree.Quantifier.TheVariants.{All, Any}
 use Rattle.ygg_syntax.specs.declared.tree.Expr.{Expr}
 use Rattle.ygg_syntax.specs.declared.tree.Expr.TheOpen.{Expr-F}
 use Rattle.ygg_syntax.specs.declared.tree.Expr.TheFolds.{fold-Expr}
-use Rattle.ygg_meaning.specs.Environments.{Name}
+use Rattle.ygg_type_sound.specs.Environments.{Name}
 use Rattle.ygg_rules.specs.declared.rule.RuleKind.{RuleKind}
 use Rattle.ygg_bank.specs.Makes.{Make, pure, and_make}
 use Rattle.ygg_bank.specs.Making.{id, made}

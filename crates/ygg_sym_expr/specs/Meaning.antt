@@ -4,13 +4,13 @@ use Rattle.ygg_value.specs.declared.row.Value.{Value}
 use Rattle.ygg_value.specs.declared.shape.Shape.{Shape}
 use Rattle.ygg_syntax.specs.declared.tree.Def.{Def}
 use Rattle.ygg_syntax.specs.declared.tree.Expr.{Expr}
-use Rattle.ygg_type_rules.specs.TypeErrors.{none}
-use Rattle.ygg_type_rules.specs.Scopes.{Scope}
-use Rattle.ygg_type_rules.specs.Expressions.{typing}
-use Rattle.ygg_type_rules.specs.Definitions.{definitions_errors, with_definitions}
-use Rattle.ygg_meaning.specs.Environments.{Name, Env}
-use Rattle.ygg_meaning.specs.Meaning.{value_with, functions_of}
-use Rattle.ygg_meaning.specs.Meaning as meaning
+use Rattle.ygg_type_sound.specs.TypeErrors.{none}
+use Rattle.ygg_type_sound.specs.Scopes.{Scope}
+use Rattle.ygg_type_sound.specs.Expressions.{typing}
+use Rattle.ygg_type_sound.specs.Definitions.{definitions_errors, with_definitions}
+use Rattle.ygg_type_sound.specs.Environments.{Name, Env}
+use Rattle.ygg_type_sound.specs.Meaning.{value_with, functions_of}
+use Rattle.ygg_type_sound.specs.Meaning as meaning
 use Rattle.ygg_type_sound.specs.Agrees.{Agrees}
 use Rattle.ygg_rules.specs.declared.rule.RuleKind.{RuleKind}
 use Rattle.ygg_bank.specs.Makes.{Make}

@@ -2,7 +2,7 @@
 use Rattle.std.specs.Prelude.{if◌then◌else◌, List, [], ◌∷◌}
 use Rattle.std.specs.Str.{bytes_eq}
 use Rattle.ygg_syntax.specs.declared.tree.Declared.{Declared}
-use Rattle.ygg_meaning.specs.Environments.{Name}
+use Rattle.ygg_type_sound.specs.Environments.{Name}
 use Rattle.ygg_bank.specs.Making.{id}
 use Rattle.ygg_shape_cells.specs.declared.terms.SymValue.{SymValue}
 use Rattle.ygg_shape_cells.specs.declared.terms.SymValue.TheVariants.{Word}

@@ -1,3 +1,11 @@
+pub use Rattle.ygg_sym_below.specs.Exprs
+pub use Rattle.ygg_sym_below.specs.Names
+pub use Rattle.ygg_sym_below.specs.Stops
+pub use Rattle.ygg_sym_below.specs.Cuts
+pub use Rattle.ygg_sym_below.specs.Runs
+pub use Rattle.ygg_sym_below.specs.Lows
+pub use Rattle.ygg_sym_below.specs.Laws
+pub use Rattle.ygg_sym_below.specs.Meaning
 pub use Rattle.ygg_sym_below.specs.Wholes
 pub use Rattle.ygg_sym_below.specs.StopTerms
 pub use Rattle.ygg_sym_below.specs.SpecCuts

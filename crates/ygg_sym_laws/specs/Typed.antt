@@ -42,7 +42,8 @@ pub record BlockTyped (defs : List Def) (L : ClosedLayer) (kind : BlockKind) (lo
   pub defs_is : scope.defs ≡ with_definitions defs []
   pub without_errors : IsTrue (none (block_errors b shape scope))
   pub kept : IsTrue (keeps kind b)
-  pub agrees : (xs ys : List Value) → IsTrue (values_fit vars xs) → IsTrue (values_fit args ys) → Agrees L.functions scope (plain (bind vars xs ++ bind args ys))
+  pub agrees : (xs ys : List Value) → IsTrue (values_fit vars xs) → IsTrue (values_fit args ys) →
+      Agrees L.functions scope (plain (bind vars xs ++ bind args ys))
 
 -- a block of a layer's own specification without a type error; it sees no operations below
 pub record SpecBlockTyped (defs : List Def) (m : ClosedLayer) (b : Block) (args : List Declared) : Type 0 where

@@ -26,11 +26,11 @@ use Rattle.ygg_direct.specs.Laws.{IsTypedBlock}
 use Rattle.ygg_direct.specs.RunPlaces.{disk_space}
 use Rattle.ygg_sym_expr.specs.Names.{sym_bind}
 use Rattle.ygg_sym_expr.specs.Meaning.{worths}
-use Rattle.ygg_sym_below.specs.Lows.{low_worth}
-use Rattle.ygg_sym_below.specs.Laws.{IsTypedOver}
-use Rattle.ygg_sym_below.proofs.Blocks.{values_worth}
-use Rattle.ygg_sym_below.proofs.Lows.{low_fits}
-use Rattle.ygg_sym_below.proofs.Specs.{bound_worth}
+use Rattle.ygg_sym_laws.specs.Lows.{low_worth}
+use Rattle.ygg_sym_laws.specs.Laws.{IsTypedOver}
+use Rattle.ygg_sym_laws.proofs.Blocks.{values_worth}
+use Rattle.ygg_sym_laws.proofs.Lows.{low_fits}
+use Rattle.ygg_sym_laws.proofs.Specs.{bound_worth}
 use Rattle.ygg_sym_laws.specs.Typed.{BlockTyped}
 use Rattle.ygg_sym_laws.specs.Means.{Values3, Begins, AreWorth}
 

@@ -1,5 +1,6 @@
 -- Runs over terms on a disk that power cuts, both ways.
-use Rattle.std.proofs.Common.{◌≡◌, ◌==◌, ◌≤◌, ◌+◌, ◌*◌, ℕ, Bool, true, false, List, [], ◌∷◌, ◌++◌, length, Option, Some, None, reverse, refl, sym, ap, ◌∙◌, subst, arith}
+use Rattle.std.proofs.Common.{◌≡◌, ◌==◌, ◌≤◌, ◌+◌, ◌*◌, ℕ, Bool, true, false, List, [], ◌∷◌}
+use Rattle.std.proofs.Common.{◌++◌, length, Option, Some, None, reverse, refl, sym, ap, ◌∙◌, subst, arith}
 use Rattle.std.specs.Prelude.{is_some}
 use Rattle.ygg_base.specs.declared.geometry.DiskKind.{DiskKind}
 use Rattle.ygg_base.specs.declared.geometry.DiskKind.TheVariants.{Sync, Async}
@@ -49,22 +50,22 @@ use Rattle.ygg_sym_expr.specs.Names.{sym_bind}
 use Rattle.ygg_sym_expr.specs.Exprs.{sym_functions}
 use Rattle.ygg_sym_expr.specs.Meaning.{Grows, worths}
 use Rattle.ygg_sym_expr.proofs.Keeps.{functions_keep}
-use Rattle.ygg_sym_runs.specs.Meaning.{is_set}
-use Rattle.ygg_sym_below.specs.Lows.{low_worth}
-use Rattle.ygg_sym_below.specs.Disks.{sym_disk}
-use Rattle.ygg_sym_below.specs.Stops.{first_stop, stop_at}
-use Rattle.ygg_sym_below.specs.StopTerms.{SymFallen}
-use Rattle.ygg_sym_below.specs.Wholes.{picks_from}
-use Rattle.ygg_sym_below.specs.Cuts.{disk_stops}
-use Rattle.ygg_sym_below.specs.Laws.{picked_by, state_worth}
-use Rattle.ygg_sym_below.proofs.Placed.{bits_of, same_picks, placed_are}
-use Rattle.ygg_sym_below.proofs.FallsOnDisk.{FallOnDisk, fall_on_disk}
-use Rattle.ygg_sym_below.proofs.SameStops.{first_stop_same}
-use Rattle.ygg_sym_below.proofs.Stopping.{found, base_same}
-use Rattle.ygg_sym_below.proofs.Specs.{bound_worth, low_shaped}
-use Rattle.ygg_sym_below.proofs.DiskKeeps.{input_grows}
-use Rattle.ygg_sym_below.proofs.MadeInputs.{disk_below, disk_grow, terms_below}
-use Rattle.ygg_sym_below.proofs.StopKeeps.{fallen_keeps, disk_stops_keep, disk_asked_one, disk_stops_below}
+use Rattle.ygg_sym_laws.specs.Meaning.{is_set}
+use Rattle.ygg_sym_laws.specs.Lows.{low_worth}
+use Rattle.ygg_sym_laws.specs.Disks.{sym_disk}
+use Rattle.ygg_sym_laws.specs.Stops.{first_stop, stop_at}
+use Rattle.ygg_sym_laws.specs.StopTerms.{SymFallen}
+use Rattle.ygg_sym_laws.specs.Wholes.{picks_from}
+use Rattle.ygg_sym_laws.specs.Cuts.{disk_stops}
+use Rattle.ygg_sym_laws.specs.Laws.{picked_by, state_worth}
+use Rattle.ygg_sym_laws.proofs.Placed.{bits_of, same_picks, placed_are}
+use Rattle.ygg_sym_laws.proofs.FallsOnDisk.{FallOnDisk, fall_on_disk}
+use Rattle.ygg_sym_laws.proofs.SameStops.{first_stop_same}
+use Rattle.ygg_sym_laws.proofs.Stopping.{found, base_same}
+use Rattle.ygg_sym_laws.proofs.Specs.{bound_worth, low_shaped}
+use Rattle.ygg_sym_laws.proofs.DiskKeeps.{input_grows}
+use Rattle.ygg_sym_laws.proofs.MadeInputs.{disk_below, disk_grow, terms_below}
+use Rattle.ygg_sym_laws.proofs.StopKeeps.{fallen_keeps, disk_stops_keep, disk_asked_one, disk_stops_below}
 use Rattle.ygg_sym_laws.specs.Typed.{BlockTyped}
 use Rattle.ygg_sym_laws.specs.Means.{Values3, Begins, AreWorth, WorthFall, FallBits, AreFallBits, FallsTo, FallMeans, cut_run}
 use Rattle.ygg_sym_laws_disk.specs.Laws.{DiskFalls}
@@ -179,7 +180,8 @@ module _ (kinds : List RuleKind) (defs : List Def) (d : DiskText) (functions : F
       }
 
   module _ (inputs : Inputs) (v : Values) (first stop last : ℕ) (x : Values3) (nodes : List Node)
-      (begins : Begins kinds defs (OnDisk d) L b vars args nodes x) (h : Fits inputs v (cut_run kinds defs (OnDisk d) L b vars args first stop last x nodes).nodes)
+      (begins : Begins kinds defs (OnDisk d) L b vars args nodes x)
+      (h : Fits inputs v (cut_run kinds defs (OnDisk d) L b vars args first stop last x nodes).nodes)
     where
       abbrev out : Out (SymFallen (List SymValue))
       out = cut_run kinds defs (OnDisk d) L b vars args first stop last x nodes
@@ -189,10 +191,12 @@ module _ (kinds : List RuleKind) (defs : List Def) (d : DiskText) (functions : F
           begun kinds defs d functions layer b vars args t sound right same inputs v x nodes begins
           (fits_fewer inputs v nodes out.nodes (fall_grows first stop last x nodes) h)
 
-      fall_here : FallOnDisk kinds defs d L b (typed kinds defs d functions layer b vars args t sound right same) sound right same inputs v false first stop last
+      fall_here : FallOnDisk kinds defs d L b (typed kinds defs d functions layer b vars args t sound right same) sound right same
+          inputs v false first stop last
           (sym_bind vars x.vars) (sym_bind args x.args) x.low out.nodes out.value
       fall_here =
-          fall_on_disk kinds defs d L b (typed kinds defs d functions layer b vars args t sound right same) sound right same inputs v false (sym_bind vars x.vars)
+          fall_on_disk kinds defs d L b (typed kinds defs d functions layer b vars args t sound right same) sound right same inputs
+          v false (sym_bind vars x.vars)
           (sym_bind args x.args) x.low first stop last nodes (low_shaped inputs v kinds vars x.vars nodes begins.vars_are)
           (low_shaped inputs v kinds args x.args nodes begins.args_are) begins.low_are h begun_here.agreed
 

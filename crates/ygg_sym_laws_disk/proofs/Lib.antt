@@ -1,3 +1,4 @@
+pub use Rattle.ygg_sym_laws.proofs.Zeros
 pub mod Begun
 pub mod Whole
 pub mod Falls

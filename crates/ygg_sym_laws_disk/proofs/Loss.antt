@@ -22,11 +22,11 @@ use Rattle.ygg_direct.specs.Acts.{Fell}
 use Rattle.ygg_direct.specs.DiskActs.{disk_acts}
 use Rattle.ygg_direct.proofs.DiskActed.{disk_acted}
 use Rattle.ygg_direct.proofs.Placing.{taken_self}
-use Rattle.ygg_sym_runs.specs.Meaning.{IsLow}
-use Rattle.ygg_sym_below.specs.Lows.{LowShaped, low_worth}
-use Rattle.ygg_sym_below.specs.Cuts.{disk_loses}
-use Rattle.ygg_sym_below.proofs.Lows.{low_fits}
-use Rattle.ygg_sym_below.proofs.Cuts.{left_of, disk_stops_mean}
+use Rattle.ygg_sym_laws.specs.Meaning.{IsLow}
+use Rattle.ygg_sym_laws.specs.Lows.{LowShaped, low_worth}
+use Rattle.ygg_sym_laws.specs.Cuts.{disk_loses}
+use Rattle.ygg_sym_laws.proofs.Lows.{low_fits}
+use Rattle.ygg_sym_laws.proofs.Cuts.{left_of, disk_stops_mean}
 use Rattle.ygg_sym_laws.specs.Means.{LossMeans}
 use Rattle.ygg_sym_laws_disk.specs.Laws.{DiskLoss}
 use Rattle.ygg_sym_laws_disk.proofs.Begun.{on_disk}

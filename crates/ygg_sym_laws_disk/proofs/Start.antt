@@ -22,7 +22,7 @@ use Rattle.ygg_bank.specs.Inputs.{InputsBelow}
 use Rattle.ygg_bank.specs.Values.{Inputs, Values, Fits}
 use Rattle.ygg_bank.specs.declared.node.Node.{Node}
 use Rattle.ygg_shape_words.proofs.Keeps.{inputs_stay}
-use Rattle.ygg_sym_below.specs.Lows.{low_worth}
+use Rattle.ygg_sym_laws.specs.Lows.{low_worth}
 use Rattle.ygg_sym_laws.specs.Below.{zeros_made}
 use Rattle.ygg_sym_laws.specs.Means.{StartMeans}
 use Rattle.ygg_sym_laws.proofs.Zeros.{AreShapes, zeros_made_keep, zeros_made_grow, AreZeros, zeros_give}

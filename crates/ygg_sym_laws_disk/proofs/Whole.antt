@@ -40,15 +40,15 @@ use Rattle.ygg_sym_expr.specs.Names.{sym_bind}
 use Rattle.ygg_sym_expr.specs.Exprs.{sym_functions}
 use Rattle.ygg_sym_expr.specs.Meaning.{Grows, worths}
 use Rattle.ygg_sym_expr.proofs.Keeps.{functions_keep}
-use Rattle.ygg_sym_runs.specs.Meaning.{answer_worth}
-use Rattle.ygg_sym_below.specs.Lows.{low_worth}
-use Rattle.ygg_sym_below.specs.Disks.{sym_disk}
-use Rattle.ygg_sym_below.specs.Wholes.{SymFinish, picks_from}
-use Rattle.ygg_sym_below.specs.Laws.{picked_by, state_worth}
-use Rattle.ygg_sym_below.proofs.Placed.{bits_of, same_picks, finish_are}
-use Rattle.ygg_sym_below.proofs.OnDisk.{WholeOnDisk, whole_on_disk}
-use Rattle.ygg_sym_below.proofs.Specs.{bound_worth, low_shaped}
-use Rattle.ygg_sym_below.proofs.MadeInputs.{whole_keeps, disk_below, disk_grow, terms_below}
+use Rattle.ygg_sym_laws.specs.Meaning.{answer_worth}
+use Rattle.ygg_sym_laws.specs.Lows.{low_worth}
+use Rattle.ygg_sym_laws.specs.Disks.{sym_disk}
+use Rattle.ygg_sym_laws.specs.Wholes.{SymFinish, picks_from}
+use Rattle.ygg_sym_laws.specs.Laws.{picked_by, state_worth}
+use Rattle.ygg_sym_laws.proofs.Placed.{bits_of, same_picks, finish_are}
+use Rattle.ygg_sym_laws.proofs.OnDisk.{WholeOnDisk, whole_on_disk}
+use Rattle.ygg_sym_laws.proofs.Specs.{bound_worth, low_shaped}
+use Rattle.ygg_sym_laws.proofs.MadeInputs.{whole_keeps, disk_below, disk_grow, terms_below}
 use Rattle.ygg_sym_laws.specs.Typed.{BlockTyped}
 use Rattle.ygg_sym_laws.specs.Means.{AreBits, values_in, Values3, Begins, AreWorth, WholeAfter, WorthRun, EndsSo, WholeMeans, whole_run}
 use Rattle.ygg_sym_laws_disk.specs.Laws.{DiskWhole}
@@ -90,11 +90,14 @@ module _ (kinds : List RuleKind) (defs : List Def) (d : DiskText) (functions : F
     out = whole_run kinds defs (OnDisk d) L b vars args first x nodes
 
     begun_here : Begun kinds defs d functions layer b vars args t sound right same inputs v x
-    begun_here = begun kinds defs d functions layer b vars args t sound right same inputs v x nodes begins (fits_fewer inputs v nodes out.nodes (whole_grows first x nodes) h)
+    begun_here = begun kinds defs d functions layer b vars args t sound right same inputs v x nodes begins
+        (fits_fewer inputs v nodes out.nodes (whole_grows first x nodes) h)
 
-    whole_here : WholeOnDisk kinds defs d L b (typed kinds defs d functions layer b vars args t sound right same) sound right same inputs v false first (sym_bind vars x.vars) (sym_bind args x.args) x.low out.nodes out.value
+    whole_here : WholeOnDisk kinds defs d L b (typed kinds defs d functions layer b vars args t sound right same) sound right same
+        inputs v false first (sym_bind vars x.vars) (sym_bind args x.args) x.low out.nodes out.value
     whole_here =
-        whole_on_disk kinds defs d L b (typed kinds defs d functions layer b vars args t sound right same) sound right same inputs v false (sym_bind vars x.vars) (sym_bind args x.args) x.low first nodes
+        whole_on_disk kinds defs d L b (typed kinds defs d functions layer b vars args t sound right same) sound right same inputs
+        v false (sym_bind vars x.vars) (sym_bind args x.args) x.low first nodes
         (low_shaped inputs v kinds vars x.vars nodes begins.vars_are) (low_shaped inputs v kinds args x.args nodes begins.args_are) begins.low_are h
         begun_here.agreed
 
@@ -143,7 +146,8 @@ module _ (kinds : List RuleKind) (defs : List Def) (d : DiskText) (functions : F
         let F = disk_acts false d in
         let at = stands kinds defs d functions layer b vars args t sound right same inputs v x memory given low begun_here worth in
         let sized : IsSized d (based low) = record { tables = low; is = refl; sized = at.sized } in
-        let direct = direct_on_disk false d L b given memory (based low) right (typed_block kinds defs d functions layer b vars args t sound right same memory given at.good) sized in
+        let direct = direct_on_disk false d L b given memory (based low) right
+        (typed_block kinds defs d functions layer b vars args t sound right same memory given at.good) sized in
         let did = (direct.0 (taken ++ []) [] answer to taken).0 (record { run = run; took = taken_self false taken [] }) in
         let bits = picked_by inputs first in
         let places = picks_from bits 0 (room b) in
@@ -175,7 +179,8 @@ module _ (kinds : List RuleKind) (defs : List Def) (d : DiskText) (functions : F
     grows = λ first x nodes. whole_grows first x nodes;
     inputs_below = λ first next x nodes p l.
         whole_keeps kinds (InputsBelow next) (inputs_stay kinds next) (sym_functions kinds (reverse defs)) (terms_below kinds defs next) (room b)
-        (sym_disk kinds d.kind first) (disk_below kinds d.kind first (room b) next l) b (sym_bind vars x.vars) (sym_bind args x.args) x.low (omega arith) nodes p;
+        (sym_disk kinds d.kind first) (disk_below kinds d.kind first (room b) next l) b (sym_bind vars x.vars) (sym_bind args x.args)
+        x.low (omega arith) nodes p;
   }
 
 pub disk_whole : DiskWhole

@@ -31,18 +31,18 @@ use Rattle.ygg_sym_expr.specs.Meaning.{EnvShaped, worths}
 use Rattle.ygg_sym_expr.proofs.Grows.{FunctionsGrow, functions_grow}
 use Rattle.ygg_sym_expr.proofs.Values.{FunctionsMean}
 use Rattle.ygg_sym_expr.proofs.Definitions.{functions_mean}
-use Rattle.ygg_sym_below.specs.Runs.{SymMachine}
-use Rattle.ygg_sym_below.specs.Meaning.{Low, MachineMeans}
-use Rattle.ygg_sym_below.proofs.Worths.{NameShaped}
-use Rattle.ygg_sym_below.proofs.Parts.{InScope}
-use Rattle.ygg_sym_below.specs.Lows.{low_worth}
-use Rattle.ygg_sym_below.specs.Laws.{picked_by}
-use Rattle.ygg_sym_below.specs.Specs.{input_pick, sym_spec}
-use Rattle.ygg_sym_below.proofs.Blocks.{values_worth}
-use Rattle.ygg_sym_below.proofs.Lows.{low_of, low_fits}
-use Rattle.ygg_sym_below.proofs.Specs.{input_pick_means, bound_worth, low_shaped}
-use Rattle.ygg_sym_below.proofs.SpecMeans.{spec_at, spec_means}
-use Rattle.ygg_sym_below.proofs.SpecStops.{SomeBlock, FallsTyped}
+use Rattle.ygg_sym_laws.specs.Runs.{SymMachine}
+use Rattle.ygg_sym_laws.specs.Meaning.{Low, MachineMeans}
+use Rattle.ygg_sym_laws.proofs.Worths.{NameShaped}
+use Rattle.ygg_sym_laws.proofs.Parts.{InScope}
+use Rattle.ygg_sym_laws.specs.Lows.{low_worth}
+use Rattle.ygg_sym_laws.specs.Laws.{picked_by}
+use Rattle.ygg_sym_laws.specs.Specs.{input_pick, sym_spec}
+use Rattle.ygg_sym_laws.proofs.Blocks.{values_worth}
+use Rattle.ygg_sym_laws.proofs.Lows.{low_of, low_fits}
+use Rattle.ygg_sym_laws.proofs.Specs.{input_pick_means, bound_worth, low_shaped}
+use Rattle.ygg_sym_laws.proofs.SpecMeans.{spec_at, spec_means}
+use Rattle.ygg_sym_laws.proofs.SpecStops.{SomeBlock, FallsTyped}
 use Rattle.ygg_sym_laws.specs.Below.{signatures_of}
 use Rattle.ygg_sym_laws.specs.Typed.{BlockTyped, SpecBlockTyped, SpecTyped}
 use Rattle.ygg_sym_laws.specs.Means.{Values3, Begins}

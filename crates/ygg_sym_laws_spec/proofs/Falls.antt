@@ -31,20 +31,20 @@ use Rattle.ygg_direct.specs.Direct.{Reached, direct_run, room_of}
 use Rattle.ygg_direct.specs.RunPlaces.{spec_space}
 use Rattle.ygg_sym_expr.specs.Names.{sym_bind}
 use Rattle.ygg_sym_expr.specs.Meaning.{Grows}
-use Rattle.ygg_sym_below.specs.Meaning.{is_set}
-use Rattle.ygg_sym_below.specs.Laws.{picked_by}
-use Rattle.ygg_sym_below.specs.Lows.{low_worth}
-use Rattle.ygg_sym_below.specs.SpecCuts.{spec_stops}
-use Rattle.ygg_sym_below.specs.StopTerms.{SymFallen, Stops}
-use Rattle.ygg_sym_below.proofs.Fallen.{FallenIs, fallen_grows, fallen_gives}
-use Rattle.ygg_sym_below.proofs.MadeInputs.{spec_below, terms_below}
-use Rattle.ygg_sym_below.proofs.SpecBits.{FallBack, run_at, fall_back, fall_sound}
-use Rattle.ygg_sym_below.proofs.SpecFalls.{cut_end, lose_end}
-use Rattle.ygg_sym_below.proofs.SpecKeeps.{spec_stops_below, spec_asked_one}
-use Rattle.ygg_sym_below.proofs.SpecMeans.{spec_at}
-use Rattle.ygg_sym_below.proofs.SpecStops.{vars_of, spec_stops_mean}
-use Rattle.ygg_sym_below.proofs.StopKeeps.{fallen_keeps}
-use Rattle.ygg_sym_below.proofs.StopMeaning.{StopsMean}
+use Rattle.ygg_sym_laws.specs.Meaning.{is_set}
+use Rattle.ygg_sym_laws.specs.Laws.{picked_by}
+use Rattle.ygg_sym_laws.specs.Lows.{low_worth}
+use Rattle.ygg_sym_laws.specs.SpecCuts.{spec_stops}
+use Rattle.ygg_sym_laws.specs.StopTerms.{SymFallen, Stops}
+use Rattle.ygg_sym_laws.proofs.Fallen.{FallenIs, fallen_grows, fallen_gives}
+use Rattle.ygg_sym_laws.proofs.MadeInputs.{spec_below, terms_below}
+use Rattle.ygg_sym_laws.proofs.SpecBits.{FallBack, run_at, fall_back, fall_sound}
+use Rattle.ygg_sym_laws.proofs.SpecFalls.{cut_end, lose_end}
+use Rattle.ygg_sym_laws.proofs.SpecKeeps.{spec_stops_below, spec_asked_one}
+use Rattle.ygg_sym_laws.proofs.SpecMeans.{spec_at}
+use Rattle.ygg_sym_laws.proofs.SpecStops.{vars_of, spec_stops_mean}
+use Rattle.ygg_sym_laws.proofs.StopKeeps.{fallen_keeps}
+use Rattle.ygg_sym_laws.proofs.StopMeaning.{StopsMean}
 use Rattle.ygg_sym_laws.specs.Below.{signatures_of}
 use Rattle.ygg_sym_laws.specs.Typed.{BlockTyped, SpecTyped}
 use Rattle.ygg_sym_laws.specs.Means.{Values3, Begins, AreWorth, WorthFall, AreFallBits, FallsTo, FallMeans, cut_run}

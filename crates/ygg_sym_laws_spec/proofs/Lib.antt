@@ -1,3 +1,12 @@
+pub use Rattle.ygg_sym_laws.proofs.Worths
+pub use Rattle.ygg_sym_laws.proofs.Specs
+pub use Rattle.ygg_sym_laws.proofs.SpecStops
+pub use Rattle.ygg_sym_laws.proofs.SpecKeeps
+pub use Rattle.ygg_sym_laws.proofs.Blocks
+pub use Rattle.ygg_sym_laws.proofs.SpecFalls
+pub use Rattle.ygg_sym_laws.proofs.Chosen
+pub use Rattle.ygg_sym_laws.proofs.Lows
+pub use Rattle.ygg_sym_laws.proofs.Zeros
 pub mod Begun
 pub mod Whole
 pub mod Falls

@@ -33,18 +33,18 @@ use Rattle.ygg_direct.proofs.Placing.{taken_self}
 use Rattle.ygg_direct.proofs.SpecActed.{block_whole}
 use Rattle.ygg_direct.proofs.SpecServes.{ran_alone}
 use Rattle.ygg_sym_expr.specs.Meaning.{SomeShape, Grows}
-use Rattle.ygg_sym_below.specs.Laws.{picked_by}
-use Rattle.ygg_sym_below.specs.Lows.{LowShaped, low_worth}
-use Rattle.ygg_sym_below.specs.SpecCuts.{fall_room}
-use Rattle.ygg_sym_below.specs.Specs.{input_pick, given_pick}
-use Rattle.ygg_sym_below.proofs.Blocks.{block_made_grows, block_made_gives}
-use Rattle.ygg_sym_below.proofs.Chosen.{Decided, block_end, fronts, backs}
-use Rattle.ygg_sym_below.proofs.Lows.{low_fits}
-use Rattle.ygg_sym_below.proofs.MadeInputs.{fresh_below, terms_below}
-use Rattle.ygg_sym_below.proofs.SpecFalls.{crash_end}
-use Rattle.ygg_sym_below.proofs.SpecKeeps.{block_keeps, lose_keeps}
-use Rattle.ygg_sym_below.proofs.Specs.{input_pick_means, given_pick_means}
-use Rattle.ygg_sym_below.proofs.SpecStops.{crash_grows, crash_gives}
+use Rattle.ygg_sym_laws.specs.Laws.{picked_by}
+use Rattle.ygg_sym_laws.specs.Lows.{LowShaped, low_worth}
+use Rattle.ygg_sym_laws.specs.SpecCuts.{fall_room}
+use Rattle.ygg_sym_laws.specs.Specs.{input_pick, given_pick}
+use Rattle.ygg_sym_laws.proofs.Blocks.{block_made_grows, block_made_gives}
+use Rattle.ygg_sym_laws.proofs.Chosen.{Decided, block_end, fronts, backs}
+use Rattle.ygg_sym_laws.proofs.Lows.{low_fits}
+use Rattle.ygg_sym_laws.proofs.MadeInputs.{fresh_below, terms_below}
+use Rattle.ygg_sym_laws.proofs.SpecFalls.{crash_end}
+use Rattle.ygg_sym_laws.proofs.SpecKeeps.{block_keeps, lose_keeps}
+use Rattle.ygg_sym_laws.proofs.Specs.{input_pick_means, given_pick_means}
+use Rattle.ygg_sym_laws.proofs.SpecStops.{crash_grows, crash_gives}
 use Rattle.ygg_sym_laws.specs.Below.{zeros_made, lost_made, lows_at_start}
 use Rattle.ygg_sym_laws.specs.Typed.{SpecTyped}
 use Rattle.ygg_sym_laws.specs.Means.{LossMeans, StartMeans}

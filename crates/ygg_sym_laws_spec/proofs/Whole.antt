@@ -33,15 +33,15 @@ use Rattle.ygg_direct.specs.Direct.{Reached, direct_run, room_of}
 use Rattle.ygg_direct.specs.RunPlaces.{Finish, spec_space}
 use Rattle.ygg_sym_expr.specs.Names.{sym_bind}
 use Rattle.ygg_sym_expr.specs.Meaning.{Grows, worths}
-use Rattle.ygg_sym_below.specs.Meaning.{answer_worth}
-use Rattle.ygg_sym_below.specs.Laws.{picked_by}
-use Rattle.ygg_sym_below.specs.Lows.{low_worth}
-use Rattle.ygg_sym_below.specs.Wholes.{SymFinish}
-use Rattle.ygg_sym_below.proofs.MadeInputs.{whole_keeps, spec_below, terms_below}
-use Rattle.ygg_sym_below.proofs.SpecBits.{run_at, answer_at, to_at, run_back, run_sound}
-use Rattle.ygg_sym_below.proofs.Specs.{bound_worth}
-use Rattle.ygg_sym_below.proofs.SpecMeans.{spec_at}
-use Rattle.ygg_sym_below.proofs.Whole.{whole_grows, whole_gives}
+use Rattle.ygg_sym_laws.specs.Meaning.{answer_worth}
+use Rattle.ygg_sym_laws.specs.Laws.{picked_by}
+use Rattle.ygg_sym_laws.specs.Lows.{low_worth}
+use Rattle.ygg_sym_laws.specs.Wholes.{SymFinish}
+use Rattle.ygg_sym_laws.proofs.MadeInputs.{whole_keeps, spec_below, terms_below}
+use Rattle.ygg_sym_laws.proofs.SpecBits.{run_at, answer_at, to_at, run_back, run_sound}
+use Rattle.ygg_sym_laws.proofs.Specs.{bound_worth}
+use Rattle.ygg_sym_laws.proofs.SpecMeans.{spec_at}
+use Rattle.ygg_sym_laws.proofs.Whole.{whole_grows, whole_gives}
 use Rattle.ygg_sym_laws.specs.Below.{signatures_of}
 use Rattle.ygg_sym_laws.specs.Typed.{BlockTyped, SpecTyped}
 use Rattle.ygg_sym_laws.specs.Means.{values_in, Values3, Begins, AreWorth, WholeAfter, WorthRun, EndsSo, WholeMeans, whole_run}

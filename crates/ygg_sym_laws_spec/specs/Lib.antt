@@ -1,1 +1,9 @@
+pub use Rattle.ygg_sym_laws.specs.Meaning
+pub use Rattle.ygg_sym_laws.specs.Specs
+pub use Rattle.ygg_sym_laws.specs.SpecCuts
+pub use Rattle.ygg_sym_laws.specs.Disks
+pub use Rattle.ygg_sym_laws.specs.Lows
+pub use Rattle.ygg_sym_laws.specs.Typed
+pub use Rattle.ygg_sym_laws.specs.Means
+pub use Rattle.ygg_sym_laws.specs.Below
 pub mod Laws

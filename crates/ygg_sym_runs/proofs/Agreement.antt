@@ -1,5 +1,6 @@
 -- A run over terms of a block without a type error is worth the direct run.
-use Rattle.std.proofs.Common.{◌≡◌, ℕ, zero, suc, ◌+◌, ◌*◌, ◌<◌, ◌≤◌, ◌^◌, ◌==◌, Bool, true, false, ◌&&◌, if◌then◌else◌, not, List, [], ◌∷◌, ◌++◌, map, take, length, Some, None, refl, sym, ap, ◌∙◌, subst, arith}
+use Rattle.std.proofs.Common.{◌≡◌, ℕ, zero, suc, ◌+◌, ◌*◌, ◌<◌, ◌≤◌, ◌^◌, ◌==◌, Bool, true, false, ◌&&◌, if◌then◌else◌}
+use Rattle.std.proofs.Common.{not, List, [], ◌∷◌, ◌++◌, map, take, length, Some, None, refl, sym, ap, ◌∙◌, subst, arith}
 use Rattle.std.proofs.lemmas.List.{append-nil, length-map, take-map}
 use Rattle.ygg_value.specs.Number.{Number}
 use Rattle.ygg_value.specs.Words.{word}
@@ -78,7 +79,8 @@ use Rattle.ygg_bank.specs.declared.node.Node.{Node}
 use Rattle.ygg_bank.specs.declared.node.Node.TheVariants as node
 use Rattle.ygg_shape_cells.specs.Terms.{worth}
 use Rattle.ygg_shape_cells.specs.declared.terms.SymValue.{SymValue}
-use Rattle.ygg_direct.specs.Direct.{Handled, Reached, Direct, total, then_run, stays, forgets, times, in_order, source_got, stmt_direct, block_direct, direct_of}
+use Rattle.ygg_direct.specs.Direct.{Handled, Reached, Direct, total, then_run, stays}
+use Rattle.ygg_direct.specs.Direct.{forgets, times, in_order, source_got, stmt_direct, block_direct, direct_of}
 use Rattle.ygg_sym_expr.specs.Names.{SymEnv}
 use Rattle.ygg_sym_expr.specs.Exprs.{SymFunctions, id_in, number_made, sym_value}
 use Rattle.ygg_sym_expr.specs.Meaning.{EnvShaped, Grows, Gives, worths}
@@ -87,7 +89,8 @@ use Rattle.ygg_sym_expr.proofs.Grows.{FunctionsGrow, word_grows, value_grows}
 use Rattle.ygg_sym_expr.proofs.Parts.{number_gives}
 use Rattle.ygg_sym_expr.proofs.Values.{FunctionsMean, same_defs}
 use Rattle.ygg_sym_runs.specs.Putting.{put_made, led_to}
-use Rattle.ygg_sym_runs.specs.Runs.{Call, SymState, SymRun, SymMachine, plain_scope, places_of, state, sym_times, sym_in_order, sym_change, sym_values, sym_source, merge_env, sym_each, sym_stmt, sym_block, sym_of}
+use Rattle.ygg_sym_runs.specs.Runs.{Call, SymState, SymRun, SymMachine, plain_scope, places_of, state, sym_times}
+use Rattle.ygg_sym_runs.specs.Runs.{sym_in_order, sym_change, sym_values, sym_source, merge_env, sym_each, sym_stmt, sym_block, sym_of}
 use Rattle.ygg_sym_runs.specs.Meaning.{Low, is_set, question_worth, MachineMeans, RunIs}
 use Rattle.ygg_sym_runs.proofs.Worths.{env_fits_some, merge_env_grows, merge_env_gives}
 use Rattle.ygg_sym_runs.proofs.Putting.{ArePlaces, put_grows, put_gives}
@@ -160,7 +163,8 @@ module _ (inputs : Inputs) (v : Values) where
         record { shaped = s; has = l; is = refl; is_low = refl; follows = follows_same (worths v env); agrees = g.agrees }
 
     -- where a part leaves a scope that agrees
-    pub in_after : (scope after : Scope) (before : Env) (p : Reached L) (nodes : List Node) (z : SymState S) → after.lower ≡ scope.lower → after.defs ≡ scope.defs →
+    pub in_after : (scope after : Scope) (before : Env) (p : Reached L) (nodes : List Node) (z : SymState S) → after.lower ≡ scope.lower →
+        after.defs ≡ scope.defs →
         In scope before → Is before after p nodes z → In after (worths v z.env)
     in_after scope after before p nodes z e f g h = record {
       lower_is = e ∙ g.lower_is;

@@ -90,7 +90,8 @@ module _ {S : Type 0} (M : SymMeaning S) (law : IsLower M) (kinds : List RuleKin
   abbrev K : SymMachine S
   K = N M law kinds defs
 
-  module _ (x : tree_name.Name) (is : List Index) (from : Source) (nodes : List Node) (env : SymEnv) (s : S) (can : CanAssign M defs x is from nodes env s) where
+  module _ (x : tree_name.Name) (is : List Index) (from : Source) (nodes : List Node) (env : SymEnv) (s : S)
+      (can : CanAssign M defs x is from nodes env s) where
     abbrev sc : Scope
     sc = can.scope
 

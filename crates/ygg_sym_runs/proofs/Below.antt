@@ -221,7 +221,8 @@ module _ {S : Type 0} (P : List Node → Type 0) (top : ℕ) where
         subst (λ r. Placed r (N' (roll-Block x))) (sym (fold-roll-Block (SymRun S) (SymRun S) (sym_stmt kinds terms M) (sym_block kinds terms M) x))
         (subst (λ n. Placed (sym_block kinds terms M (map-Block Stmt Block (SymRun S) (SymRun S) R R' x)) n)
         (sym (fold-roll-Block ℕ ℕ (stmt_room M.space) (block_room M.space) x))
-        (subst (λ z. Placed (sym_block kinds terms M (map-Block Stmt Block (SymRun S) (SymRun S) R R' z)) (block_room M.space (map-Block Stmt Block ℕ ℕ N N' z)))
+        (subst (λ z. Placed (sym_block kinds terms M (map-Block Stmt Block (SymRun S) (SymRun S) R R' z))
+        (block_room M.space (map-Block Stmt Block ℕ ℕ N N' z)))
         is (block_case y))))
 
     abbrev with_proofs : List Stmt → List St

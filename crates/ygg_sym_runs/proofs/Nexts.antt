@@ -29,7 +29,8 @@ next_can M law defs all i t d nodes env s less is can =
 
 -- the first side of an `if`
 pub first_can : {S : Type 0} (M : SymMeaning S) (law : IsLower M) (defs : List Def) (t : Stmt) (test : Expr) (first second : Block)
-    (old new : List Node) (env : SymEnv) (s : S) → t ≡ tree.If test first second → CanStep M defs t old env s → Extends old new → KeepsSingle old new → CanEnter M defs first new env s
+    (old new : List Node) (env : SymEnv) (s : S) → t ≡ tree.If test first second → CanStep M defs t old env s → Extends old new →
+    KeepsSingle old new → CanEnter M defs first new env s
 first_can M law defs t test first second old new env s is can g k =
     do_later M law [] defs (block_errors first None) (λ kind. keeps kind first) old new env s g k
     (choose_first M law [] defs test first second old env s (step_if M law [] defs t test first second old env s is can))

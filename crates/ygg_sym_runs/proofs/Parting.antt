@@ -17,7 +17,8 @@ use Rattle.ygg_sym_expr.specs.Exprs.{SymFunctions, id_in, sym_value}
 use Rattle.ygg_sym_runs.specs.Lower.{KeepsSingle}
 use Rattle.ygg_sym_runs.specs.Putting.{put_made}
 use Rattle.ygg_sym_runs.specs.Ready.{Ended}
-use Rattle.ygg_sym_runs.specs.Runs.{Call, SymRun, SymState, SymHandled, SymGot, SymMachine, plain_scope, places_of, state, sym_change, sym_values, sym_source, merge_state, sym_stmt}
+use Rattle.ygg_sym_runs.specs.Runs.{Call, SymRun, SymState, SymHandled, SymGot, SymMachine, plain_scope}
+use Rattle.ygg_sym_runs.specs.Runs.{places_of, state, sym_change, sym_values, sym_source, merge_state, sym_stmt}
 use Rattle.ygg_sym_runs.proofs.Zeros.{single_both}
 
 module _ {S : Type 0} (kinds : List RuleKind) (terms : SymFunctions) (N : SymMachine S) where

@@ -33,7 +33,8 @@ word_has nodes w n new f = cases new (subst (λ s. IsShaped nodes s new) (led_wo
 -- a word of a row may be written
 pub row_can : (nodes : List Node) (old new : SymValue) (row : List Id) (places : List Id) → CanPut nodes old places new → old ≡ Row row →
     (length places ≡ 0 → ⊥) → (a : Id) → a ≡ id_in new → CanWrite nodes row a
-row_can nodes old new row places can e some a is = subst (CanWrite nodes row) (sym is) (go can.shape places (subst (λ x. IsShaped nodes can.shape x) e can.old_is) can.new_is some)
+row_can nodes old new row places can e some a is = subst (CanWrite nodes row) (sym is)
+    (go can.shape places (subst (λ x. IsShaped nodes can.shape x) e can.old_is) can.new_is some)
   where
     go : (s : Shape) (places : List Id) → IsShaped nodes s (Row row) → IsShaped nodes (led_to s (length places)) new → (length places ≡ 0 → ⊥) →
         CanWrite nodes row (id_in new)

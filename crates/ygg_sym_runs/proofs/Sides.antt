@@ -43,7 +43,8 @@ use Rattle.ygg_sym_expr.proofs.Grows.{value_grows}
 use Rattle.ygg_sym_expr.proofs.Shaped.{is_term, env_wider}
 use Rattle.ygg_sym_runs.specs.Joining.{CanJoinEnds}
 use Rattle.ygg_sym_runs.specs.Lower.{SymMeaning, IsLower}
-use Rattle.ygg_sym_runs.specs.Ready.{EnvAlike, Ended, known_with, terms_of, stmt_run, inside_run, turns_run, CanCall, CanDo, CanStep, CanChoose, CanEnter, CanRepeat}
+use Rattle.ygg_sym_runs.specs.Ready.{EnvAlike, Ended, known_with, terms_of, stmt_run, inside_run}
+use Rattle.ygg_sym_runs.specs.Ready.{turns_run, CanCall, CanDo, CanStep, CanChoose, CanEnter, CanRepeat}
 use Rattle.ygg_sym_runs.specs.Runs.{SymRun, plain_scope, sym_stmt}
 use Rattle.ygg_sym_runs.proofs.Opened.{Walk, walked_if, keeps_if, walked_call, keeps_call, walked_for, keeps_for, run_for, run_if}
 use Rattle.ygg_sym_runs.proofs.Parts.{eval_gives}

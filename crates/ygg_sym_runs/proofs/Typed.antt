@@ -1,5 +1,6 @@
 -- What a statement without a type error asks, and what it puts where.
-use Rattle.std.proofs.Common.{◌≡◌, Bool, true, false, ◌&&◌, if◌then◌else◌, not, List, [], ◌∷◌, length, All, Option, Some, None, is_none, refl, sym, ap, ◌∙◌, subst}
+use Rattle.std.proofs.Common.{◌≡◌, Bool, true, false, ◌&&◌, if◌then◌else◌, not, List, [], ◌∷◌}
+use Rattle.std.proofs.Common.{length, All, Option, Some, None, is_none, refl, sym, ap, ◌∙◌, subst}
 use Rattle.std.proofs.lemmas.Bool.{and_from as both_of}
 use Rattle.std.proofs.lemmas.List.Elements.{All-cons, All-nil}
 use Rattle.ygg_value.specs.declared.row.Value.{Value}
@@ -56,7 +57,8 @@ module _ (functions : Functions) (lower : Named Signature) where
 
       shown : (call_typing at true x es scope).part.shape ≡ c.operation.answer
       shown = ap (λ (o : Option Signature). (call_rule true x o (parts_of (typings es scope))).shape) c.found
-          ∙ c.shape (have_shapes (parts_of (typings es scope)) (values_of (eval_with functions) es env) (arguments_have functions lower all_have es scope env g c.parts))
+          ∙ c.shape (have_shapes (parts_of (typings es scope)) (values_of (eval_with functions) es env)
+          (arguments_have functions lower all_have es scope env g c.parts))
 
       fitting : (answers : Bool) → answers ≡ true → (a : Answer) → (if answers then answer_has c.operation.answer a else is_none a) ≡ true →
           answer_has c.operation.answer a ≡ true

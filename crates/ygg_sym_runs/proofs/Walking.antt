@@ -207,7 +207,8 @@ module _ {S : Type 0} (M : SymMeaning S) (law : IsLower M) (kinds : List RuleKin
       let o = (stmt_run M defs kinds t).run i env s nodes in
       let v0 = zero_values o.nodes in
       let h0 = zeros_fit o.nodes bank in
-      let a0 = all_agree zeros v0 kinds ds functions terms grow (mean n.sound zeros v0) M.low M.kind M.lower N (M.direct zeros v0) (laws st.serves zeros v0) t in
+      let a0 = all_agree zeros v0 kinds ds functions terms grow (mean n.sound zeros v0) M.low M.kind M.lower N (M.direct zeros v0)
+      (laws st.serves zeros v0) t in
       let g = a0.grows i env s nodes in
       let r0 = a0.gives i can.scope env s nodes (in_scope can.scope nodes env n zeros v0 (fits_fewer zeros v0 nodes o.nodes g h0)) can.without_errors
       can.keeps n.shaped st.has h0 in

@@ -13,7 +13,7 @@ use ygg_rules::Book;
 
 /// What power leaves of a run.
 #[derive(Drop)]
-pub struct Fallen<S: Drop> {
+pub struct StopEnd<S: Drop> {
     /// What is left.
     pub fallen: S,
     /// The term that says whether the run comes to a stop that is set.
@@ -31,7 +31,7 @@ pub fn end_halting<W: SymStops, B: Book>(
     to: &W::State,
     fallen: &W::State,
     stopped: Id,
-) -> Result<Fallen<W::State>, NoMemory>
+) -> Result<StopEnd<W::State>, NoMemory>
     requires stands { Stands (halting_meaning (W.means stops.now) (W.power stops.now)) bank.old (halted_of to.now fallen.now stopped) }
     ensures nodes { OnOk result (bank.new
         ≡ (sym_fall (W.means stops.now) (W.power stops.now) (B.kinds book.now) last (halted_of to.now fallen.now stopped) bank.old).nodes) }
@@ -52,7 +52,7 @@ pub fn end_halting<W: SymStops, B: Book>(
     let left = last_left(stops, alloc, bank, book, here, to, fallen, stopped)?;
     let again = bit(stops, bank, book, number)?;
     let reached = either(bank, book, stopped, again)?;
-    Ok(Fallen {
+    Ok(StopEnd {
         fallen: left,
         reached,
     })

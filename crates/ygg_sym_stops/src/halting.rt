@@ -13,7 +13,7 @@ use ygg_sym_runs::{Question, SymLower};
 
 /// A state of a machine with stops.
 #[derive(Drop)]
-pub struct Halted<S: Drop> {
+pub struct StopState<S: Drop> {
     /// The machine's own state.
     pub to: S,
     /// What was left when power failed.
@@ -22,7 +22,7 @@ pub struct Halted<S: Drop> {
     pub stopped: Id,
 }
 
-impl<S: Drop> Model for Halted<S> {
+impl<S: Drop> Model for StopState<S> {
     ghost use Rattle.ygg_sym_below.specs.StopTerms.{SymHalted};
 
     ghost Value = { SymHalted S S };
@@ -30,9 +30,9 @@ impl<S: Drop> Model for Halted<S> {
     ghost view = { λ z. record { to = z.to; fallen = z.fallen; stopped = z.stopped } };
 }
 
-impl<S: Duplicate + Drop> Duplicate for Halted<S> {
-    fn duplicate(&self, alloc: Global) -> Result<Halted<S>, NoMemory> {
-        Ok(Halted {
+impl<S: Duplicate + Drop> Duplicate for StopState<S> {
+    fn duplicate(&self, alloc: Global) -> Result<StopState<S>, NoMemory> {
+        Ok(StopState {
             to: self.to.duplicate(alloc)?,
             fallen: self.fallen.duplicate(alloc)?,
             stopped: self.stopped,
@@ -51,7 +51,7 @@ impl<'a, W: SymStops> SymLower for Halting<'a, W> {
     ghost use Rattle.ygg_sym_stops.specs.Halting.{halting_meaning};
     ghost use Rattle.ygg_sym_stops.specs.HaltingKeeps.{halting_keeps};
 
-    type State = Halted<W::State>;
+    type State = StopState<W::State>;
 
     ghost means = { λ h. halting_meaning (W.means h.stops.now) (W.power h.stops.now) };
 
@@ -66,7 +66,7 @@ impl<'a, W: SymStops> SymLower for Halting<'a, W> {
         book: &B,
         place: u64,
         question: Question<'_>,
-        state: &mut Halted<W::State>,
+        state: &mut StopState<W::State>,
     ) -> Result<Option<SymValue>, NoMemory> {
         let done = ask_halting(
             self.stops,
@@ -90,9 +90,9 @@ impl<'a, W: SymStops> SymLower for Halting<'a, W> {
         bank: &mut Bank,
         book: &B,
         test: Id,
-        yes: &Halted<W::State>,
-        no: &Halted<W::State>,
-    ) -> Result<Halted<W::State>, NoMemory> {
+        yes: &StopState<W::State>,
+        no: &StopState<W::State>,
+    ) -> Result<StopState<W::State>, NoMemory> {
         // the bank's nodes stand in order
         let _ = bank.len();
         let to = self.stops.merge(alloc, bank, book, test, &yes.to, &no.to)?;
@@ -100,7 +100,7 @@ impl<'a, W: SymStops> SymLower for Halting<'a, W> {
             .stops
             .merge(alloc, bank, book, test, &yes.fallen, &no.fallen)?;
         let stopped = pick(bank, book, test, yes.stopped, no.stopped)?;
-        Ok(Halted {
+        Ok(StopState {
             to,
             fallen,
             stopped,

@@ -6,6 +6,6 @@ mod halting;
 mod stopping;
 mod stops;
 
-pub use ending::{Fallen, end_halting};
-pub use halting::{Halted, Halting};
+pub use ending::{StopEnd, end_halting};
+pub use halting::{Halting, StopState};
 pub use stops::SymStops;

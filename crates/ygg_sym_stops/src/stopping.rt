@@ -120,7 +120,7 @@ pub fn left<W: SymStops, B: Book>(
 
 /// A question on a machine with stops: its answer, and what is left.
 #[derive(Drop)]
-pub struct Asked<S: Drop> {
+pub struct StopAnswer<S: Drop> {
     /// What the machine answers.
     pub answer: Option<SymValue>,
     /// What is left.
@@ -141,7 +141,7 @@ pub fn ask_halting<W: SymStops, B: Book>(
     to: &mut W::State,
     fallen: &W::State,
     stopped: Id,
-) -> Result<Asked<W::State>, NoMemory>
+) -> Result<StopAnswer<W::State>, NoMemory>
     requires asks { CanAsk (halting_meaning (W.means stops.now) (W.power stops.now)) bank.old (question_of question) (halted_of to.old fallen.now stopped) }
     ensures nodes { OnOk result (bank.new ≡ (sym_halted (B.kinds book.now) no_functions ((W.means stops.now).machine (B.kinds book.now))
         (stops_on (W.means stops.now) (W.power stops.now) (B.kinds book.now)) place (question_of question.entry)
@@ -167,7 +167,7 @@ pub fn ask_halting<W: SymStops, B: Book>(
     let some = either(bank, book, stopped, here)?;
     let stopped = either(bank, book, some, inner)?;
     let answer = stops.handle(alloc, bank, book, place, question, to)?;
-    Ok(Asked {
+    Ok(StopAnswer {
         answer,
         fallen,
         stopped,

@@ -17,7 +17,7 @@ use ygg_base_device::Device;
 use ygg_report::put_all;
 use ygg_rules::{Book, RuleBook};
 use ygg_top_cnf::cnf;
-use ygg_top_command::{Stop, USUAL_BUDGET, end};
+use ygg_top_command::{CommandStop, USUAL_BUDGET, end};
 use ygg_top_format::format;
 use ygg_top_play::play;
 use ygg_top_print::print;
@@ -117,7 +117,7 @@ fn unnamed<K: Sink>(alloc: Global, sink: &mut K) -> Status
     ensures told { Told NamesNone NoFront (K.taken sink.old) (K.taken sink.new) ⊥ (Rose (K.faults sink.old) (K.faults sink.new)) result }
     ensures later { K.faults sink.old ≤ K.faults sink.new }
 {
-    end(alloc, Stop::Refused(Reason::Words.at(0, 0)), sink)
+    end(alloc, CommandStop::Refused(Reason::Words.at(0, 0)), sink)
 }
 
 /// A command of a word alone.

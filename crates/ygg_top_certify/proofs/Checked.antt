@@ -13,8 +13,8 @@ use Rattle.ygg_syntax.specs.declared.tree.File.{File}
 use Rattle.ygg_rules.specs.declared.rule.RuleKind.{RuleKind}
 use Rattle.ygg_report.specs.Lines.{refused_line}
 use Rattle.ygg_certify.specs.Checking.{Checks, ChecksOpen}
-use Rattle.ygg_top_command.specs.declared.stopping.Stop.{Stop}
-use Rattle.ygg_top_command.specs.declared.stopping.Stop.TheVariants as stop
+use Rattle.ygg_top_command.specs.declared.stopping.CommandStop.{CommandStop}
+use Rattle.ygg_top_command.specs.declared.stopping.CommandStop.TheVariants as stop
 use Rattle.ygg_top_command.specs.Fetched.{IsUnread, StandsFile}
 use Rattle.ygg_top_command.specs.Reports.{IsDoneWith, MayStop}
 use Rattle.ygg_top_command.specs.Standing.{DoesWith}
@@ -69,21 +69,21 @@ module _ (kinds : List RuleKind) (files : Option (List Held)) where
     file_does f status text (bytes, stands, is) does = (Some bytes, stands, inr (bytes, f, refl, is, does))
 
     -- or isn't
-    pub file_stops : (f : File) (Less More : Type 0) (s : Stop) → StandsFile files file f → (Less → More) →
+    pub file_stops : (f : File) (Less More : Type 0) (s : CommandStop) → StandsFile files file f → (Less → More) →
         MayStop (DoesWith (ChecksStored kinds f) files certificate) Less s → MayStop (ChecksNamed kinds files file certificate) More s
     file_stops f Less More (stop.Refused r) stands rises stops = file_does f Refused (refused_line r) stands stops
     file_stops f Less More stop.LibraryFailed stands rises rose = rises rose
     file_stops f Less More stop.NoMemory stands rises u = tt
 
     -- the same of what was done for it, where the library tells the same files
-    pub does_named : (then : Option (List Held)) (f : File) (r : Result (Status × List ℕ) Stop) → then ≡ files → StandsFile files file f →
+    pub does_named : (then : Option (List Held)) (f : File) (r : Result (Status × List ℕ) CommandStop) → then ≡ files → StandsFile files file f →
         IfOk r (λ end. DoesWith (ChecksStored kinds f) then certificate end.0 end.1)
         → IfOk r (λ end. ChecksNamed kinds files file certificate end.0 end.1)
     does_named then f (Err s) same stands done = tt
     does_named then f (Ok end) same stands done =
         file_does f end.0 end.1 stands (subst (λ (o : Option (List Held)). DoesWith (ChecksStored kinds f) o certificate end.0 end.1) same done)
 
-    pub stops_named : (then : Option (List Held)) (f : File) (a b c : ℕ) (r : Result (Status × List ℕ) Stop) → then ≡ files → a ≤ b →
+    pub stops_named : (then : Option (List Held)) (f : File) (a b c : ℕ) (r : Result (Status × List ℕ) CommandStop) → then ≡ files → a ≤ b →
         StandsFile files file f → IfErr r (MayStop (DoesWith (ChecksStored kinds f) then certificate) (Rose b c))
         → IfErr r (MayStop (ChecksNamed kinds files file certificate) (Rose a c))
     stops_named then f a b c (Ok end) same later stands stops = tt

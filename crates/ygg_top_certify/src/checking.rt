@@ -13,7 +13,7 @@ use ygg_base::{Library, Opened, Reason, Sink, Status, Text};
 use ygg_certify::Unchecked;
 use ygg_report::put_all;
 use ygg_rules::Book;
-use ygg_top_command::{Stop, close, end, layer_file};
+use ygg_top_command::{CommandStop, close, end, layer_file};
 use ygg_type::Typed;
 
 /// The most bytes of a certificate.
@@ -21,7 +21,7 @@ const MOST_BYTES: u64 = 67_108_864;
 
 /// Opens the certificate of that name, the second word after the command's; or says why none is opened: it is refused 73 where nothing stands there, and 11
 /// where it has more than 67,108,864 bytes, both at `0:2`.
-fn opened<L: Library>(name: &Text, library: &mut L) -> Result<(), Stop>
+fn opened<L: Library>(name: &Text, library: &mut L) -> Result<(), CommandStop>
     ensures opens { OnOk result (OpensNamed most_certificate_bytes (L.files library.old) name.now (L.reading library.new)) }
     ensures unread { IfErr result (IsUnread most_certificate_bytes 2 (L.files library.old) name.now (Rose (L.faults library.old) (L.faults library.new))) }
     ensures kept { L.files library.new ≡ L.files library.old }
@@ -29,10 +29,10 @@ fn opened<L: Library>(name: &Text, library: &mut L) -> Result<(), Stop>
 {
     match library.open(name, MOST_BYTES) {
         Opened::Open => Ok(()),
-        Opened::Absent => Err(Stop::Refused(Reason::Absent.at(0, 2))),
-        Opened::TooLarge => Err(Stop::Refused(Reason::TooLarge.at(0, 2))),
-        Opened::Failed => Err(Stop::LibraryFailed),
-        Opened::Memory => Err(Stop::NoMemory),
+        Opened::Absent => Err(CommandStop::Refused(Reason::Absent.at(0, 2))),
+        Opened::TooLarge => Err(CommandStop::Refused(Reason::TooLarge.at(0, 2))),
+        Opened::Failed => Err(CommandStop::LibraryFailed),
+        Opened::Memory => Err(CommandStop::NoMemory),
     }
 }
 
@@ -43,7 +43,7 @@ pub fn checked_stored<B: Book, L: Library>(
     typed: &Typed,
     name: &Text,
     library: &mut L,
-) -> Result<(Status, Text), Stop>
+) -> Result<(Status, Text), CommandStop>
     ensures done { IfOk result (λ end. DoesWith (ChecksStored (B.kinds rules.now) typed.now.file) (L.files library.old) name.now end.0 end.1) }
     ensures stops { IfErr result (MayStop (DoesWith (ChecksStored (B.kinds rules.now) typed.now.file) (L.files library.old) name.now)
         (Rose (L.faults library.old) (L.faults library.new))) }
@@ -56,8 +56,8 @@ pub fn checked_stored<B: Book, L: Library>(
     }
     match ygg_certify::check(alloc, rules, typed, library) {
         Ok(end) => Ok(end),
-        Err(Unchecked::LibraryFailed) => Err(Stop::LibraryFailed),
-        Err(Unchecked::NoMemory) => Err(Stop::NoMemory),
+        Err(Unchecked::LibraryFailed) => Err(CommandStop::LibraryFailed),
+        Err(Unchecked::NoMemory) => Err(CommandStop::NoMemory),
     }
 }
 
@@ -68,7 +68,7 @@ fn checked<B: Book, L: Library>(
     file: &Text,
     certificate: &Text,
     library: &mut L,
-) -> Result<(Status, Text), Stop>
+) -> Result<(Status, Text), CommandStop>
     ensures done { IfOk result (λ end. ChecksNamed (B.kinds rules.now) (L.files library.old) file.now certificate.now end.0 end.1) }
     ensures stops { IfErr result (MayStop (ChecksNamed (B.kinds rules.now) (L.files library.old) file.now certificate.now)
         (Rose (L.faults library.old) (L.faults library.new))) }

@@ -9,7 +9,7 @@ use std::alloc::Global;
 use ygg_base::{Library, Reason, Sink, Status, Text};
 use ygg_dimacs_oblige::{is_obligation, put_obligation};
 use ygg_rules::Book;
-use ygg_top_command::{Stop, close, end, layer_file};
+use ygg_top_command::{CommandStop, close, end, layer_file};
 use ygg_type::Typed;
 
 /// Puts the text of the clauses of the obligation of this name of a layer file. A name that no obligation of it has is refused 74 at `0:2`.
@@ -27,7 +27,11 @@ fn cnf_of<B: Book, K: Sink>(
     if is_obligation(typed.file(), name) {
         return put_obligation(alloc, rules, typed, name, sink);
     }
-    end(alloc, Stop::Refused(Reason::NoObligation.at(0, 2)), sink)
+    end(
+        alloc,
+        CommandStop::Refused(Reason::NoObligation.at(0, 2)),
+        sink,
+    )
 }
 
 /// Puts the text of the clauses of the obligation of the one name of the layer file of the other: they are those that deciding it takes, and some truth values

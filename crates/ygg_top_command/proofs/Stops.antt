@@ -10,8 +10,8 @@ use Rattle.ygg_base.specs.declared.status.Status.TheVariants as status
 use Rattle.ygg_base.specs.Outside.{bytes_of, FitsFile}
 use Rattle.ygg_base.specs.Reason.{refusal_at}
 use Rattle.ygg_report.specs.Lines.{refused_line}
-use Rattle.ygg_top_command.specs.declared.stopping.Stop.{Stop}
-use Rattle.ygg_top_command.specs.declared.stopping.Stop.TheVariants.{Refused, LibraryFailed, NoMemory}
+use Rattle.ygg_top_command.specs.declared.stopping.CommandStop.{CommandStop}
+use Rattle.ygg_top_command.specs.declared.stopping.CommandStop.TheVariants.{Refused, LibraryFailed, NoMemory}
 use Rattle.ygg_top_command.specs.Fetched.{IsUnread, IsNoFile, IsBudgetless}
 use Rattle.ygg_top_command.specs.Refusing.{RefusesUnread, RefusesFile}
 use Rattle.ygg_top_command.specs.Reports.{MayStop}
@@ -34,7 +34,7 @@ module _ (files : Option (List Held)) (name : List ℕ) (LibraryRose : Type 0) w
 
   module _ (Does : Option (List ℕ) → Status → List ℕ → Type 0) where
     -- a command of a text that isn't fetched
-    pub unread_stop : (most place : ℕ) (stop : Stop) →
+    pub unread_stop : (most place : ℕ) (stop : CommandStop) →
         ((stored : Option (List ℕ)) (r : Refusal) → RefusesUnread most place stored r → Does stored status.Refused (refused_line r)) →
         IsUnread most place files name LibraryRose stop → MayStop (DoesWith Does files name) LibraryRose stop
     unread_stop most place (Refused r) does unread = (unread.0, unread.1, does unread.0 r unread.2)
@@ -42,7 +42,7 @@ module _ (files : Option (List Held)) (name : List ℕ) (LibraryRose : Type 0) w
     unread_stop most place NoMemory does unread = tt
 
     -- a command of a layer file where there is none
-    pub file_stop : (stop : Stop) →
+    pub file_stop : (stop : CommandStop) →
         ((stored : Option (List ℕ)) (r : Refusal) → RefusesFile stored r → Does stored status.Refused (refused_line r)) →
         IsNoFile files name LibraryRose stop → MayStop (DoesWith Does files name) LibraryRose stop
     file_stop (Refused r) does none = (none.0, none.1, does none.0 r none.2)
@@ -50,7 +50,7 @@ module _ (files : Option (List Held)) (name : List ℕ) (LibraryRose : Type 0) w
     file_stop NoMemory does none = tt
 
   -- a command with a word for the budget that is none
-  pub budget_stop : (Does : ℕ → Option (List ℕ) → Status → List ℕ → Type 0) (word : List ℕ) (stop : Stop) → IsBudgetless word stop →
+  pub budget_stop : (Does : ℕ → Option (List ℕ) → Status → List ℕ → Type 0) (word : List ℕ) (stop : CommandStop) → IsBudgetless word stop →
       MayStop (DoesWithin Does files name word) LibraryRose stop
   budget_stop Does word (Refused r) none = inr (none.0, (refl, ap refused_line none.1))
   budget_stop Does word LibraryFailed none = absurd none

@@ -4,8 +4,8 @@ use Rattle.ygg_base.specs.declared.status.Status.{Status}
 use Rattle.ygg_base.specs.declared.status.Status.TheVariants as status
 use Rattle.ygg_report.specs.Lines.{refused_line}
 use Rattle.ygg_report.specs.Putting.{Adds, IsPutSo, Puts}
-use Rattle.ygg_top_command.specs.declared.stopping.Stop.{Stop}
-use Rattle.ygg_top_command.specs.declared.stopping.Stop.TheVariants.{Refused, LibraryFailed, NoMemory}
+use Rattle.ygg_top_command.specs.declared.stopping.CommandStop.{CommandStop}
+use Rattle.ygg_top_command.specs.declared.stopping.CommandStop.TheVariants.{Refused, LibraryFailed, NoMemory}
 use Rattle.ygg_top_command.specs.Reports.{Reports, IsCutShort, Told, EndsBy, MayStop, IsDoneWith, library_fault}
 
 module _ (Does : Status → List ℕ → Type 0) (Left : List ℕ → Type 0) (before now : Option (List ℕ)) (LibraryRose SinkRose : Type 0) where
@@ -50,7 +50,7 @@ module _ (Does : Status → List ℕ → Type 0) (Left : List ℕ → Type 0) (b
   lost_told lost same = so Does Left before now LibraryRose SinkRose status.NoMemory result lost (inl same)
 
   -- a command that stops
-  pub stop_told : (stop : Stop) → MayStop Does LibraryRose stop → EndsBy stop before now SinkRose result →
+  pub stop_told : (stop : CommandStop) → MayStop Does LibraryRose stop → EndsBy stop before now SinkRose result →
       Told Does Left before now LibraryRose SinkRose result
   stop_told (Refused r) may (inl put) = put_told status.Refused (refused_line r) tt may put
   stop_told (Refused r) may (inr lost) = lost_told lost.0 lost.1

@@ -4,8 +4,8 @@ use Rattle.ygg_base.specs.declared.status.Status.{Status}
 use Rattle.ygg_base.specs.declared.status.Status.TheVariants as status
 use Rattle.ygg_report.specs.Lines.{ended, refused_line}
 use Rattle.ygg_report.specs.Putting.{Adds, IsFront, IsPutSo}
-use Rattle.ygg_top_command.specs.declared.stopping.Stop.{Stop}
-use Rattle.ygg_top_command.specs.declared.stopping.Stop.TheVariants.{Refused, LibraryFailed, NoMemory}
+use Rattle.ygg_top_command.specs.declared.stopping.CommandStop.{CommandStop}
+use Rattle.ygg_top_command.specs.declared.stopping.CommandStop.TheVariants.{Refused, LibraryFailed, NoMemory}
 
 -- the line of a library that failed
 abbrev pub library_fault : List ℕ
@@ -36,14 +36,14 @@ pub record Told (Does : Status → List ℕ → Type 0) (Left : List ℕ → Typ
 
 -- how a command that stops ends: the line of a refusal, or that of a library that failed, is put whole or cut short with a fault; or nothing is put, since no
 -- memory was left
-abbrev pub EndsBy : Stop → Option (List ℕ) → Option (List ℕ) → (SinkRose : Type 0) → Status → Type 0
+abbrev pub EndsBy : CommandStop → Option (List ℕ) → Option (List ℕ) → (SinkRose : Type 0) → Status → Type 0
 EndsBy (Refused r) before now SinkRose ended =
     IsPutSo before now (refused_line r) status.Refused SinkRose ended ⊎ ((ended ≡ status.NoMemory) × (now ≡ before))
 EndsBy LibraryFailed before now SinkRose ended = IsPutSo before now library_fault status.Fault SinkRose ended
 EndsBy NoMemory before now SinkRose ended = (ended ≡ status.NoMemory) × (now ≡ before)
 
 -- a command that does this may stop so
-abbrev pub MayStop : (Does : Status → List ℕ → Type 0) → (LibraryRose : Type 0) → Stop → Type 0
+abbrev pub MayStop : (Does : Status → List ℕ → Type 0) → (LibraryRose : Type 0) → CommandStop → Type 0
 MayStop Does LibraryRose (Refused r) = Does status.Refused (refused_line r)
 MayStop Does LibraryRose LibraryFailed = LibraryRose
 MayStop Does LibraryRose NoMemory = Unit {0}

@@ -5,7 +5,7 @@ ghost use Rattle.ygg_base.specs.Outside.{Rose};
 ghost use Rattle.ygg_top_command.specs.Fetched.{IsUnread};
 ghost use Rattle.ygg_top_command.specs.Standing.{Stands};
 
-use crate::stopping::Stop;
+use crate::stopping::CommandStop;
 use ygg_base::{Fetch, Library, Reason, Text};
 
 /// The most bytes of a layer file, or of a schedule.
@@ -18,7 +18,7 @@ pub fn fetched<L: Library>(
     most: u64,
     place: u32,
     library: &mut L,
-) -> Result<Text, Stop>
+) -> Result<Text, CommandStop>
     ensures found { IfOk result (λ text. (length text ≤ most) × Stands (L.files library.old) name.now (Some text)) }
     ensures unread { IfErr result (IsUnread most place (L.files library.old) name.now (Rose (L.faults library.old) (L.faults library.new))) }
     ensures kept { L.files library.new ≡ L.files library.old }
@@ -26,9 +26,9 @@ pub fn fetched<L: Library>(
 {
     match library.fetch(name, most) {
         Fetch::Found(text) => Ok(text),
-        Fetch::Absent => Err(Stop::Refused(Reason::Absent.at(0, place))),
-        Fetch::TooLarge => Err(Stop::Refused(Reason::TooLarge.at(0, place))),
-        Fetch::Failed => Err(Stop::LibraryFailed),
-        Fetch::Memory => Err(Stop::NoMemory),
+        Fetch::Absent => Err(CommandStop::Refused(Reason::Absent.at(0, place))),
+        Fetch::TooLarge => Err(CommandStop::Refused(Reason::TooLarge.at(0, place))),
+        Fetch::Failed => Err(CommandStop::LibraryFailed),
+        Fetch::Memory => Err(CommandStop::NoMemory),
     }
 }

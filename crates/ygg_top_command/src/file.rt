@@ -8,7 +8,7 @@ ghost use Rattle.ygg_top_command.specs.Fetched.{IsNoFile, StandsFile};
 ghost use Rattle.ygg_top_command.specs.Refusing.{IsLayerFile, most_bytes};
 
 use crate::fetching::{MOST_BYTES, fetched};
-use crate::stopping::Stop;
+use crate::stopping::CommandStop;
 use std::alloc::Global;
 use ygg_accept::accept;
 use ygg_base::{Library, Refuse, Text};
@@ -28,7 +28,11 @@ pub fn file_of(alloc: Global, text: &[u8]) -> Result<Typed, Refuse>
 
 /// The layer file that stands under the name, the first word after the command's; or why there is none: what stands there is refused 73 or 11 at `0:1`, or 1
 /// to 10 where it is no layer file without a fault.
-pub fn layer_file<L: Library>(alloc: Global, name: &Text, library: &mut L) -> Result<Typed, Stop>
+pub fn layer_file<L: Library>(
+    alloc: Global,
+    name: &Text,
+    library: &mut L,
+) -> Result<Typed, CommandStop>
     ensures found { IfOk result (λ typed. StandsFile (L.files library.old) name.now typed.file) }
     ensures none { IfErr result (IsNoFile (L.files library.old) name.now (Rose (L.faults library.old) (L.faults library.new))) }
     ensures kept { L.files library.new ≡ L.files library.old }
@@ -40,7 +44,7 @@ pub fn layer_file<L: Library>(alloc: Global, name: &Text, library: &mut L) -> Re
     };
     match file_of(alloc, text.as_slice()) {
         Ok(typed) => Ok(typed),
-        Err(refuse) => Err(Stop::of(refuse)),
+        Err(refuse) => Err(CommandStop::of(refuse)),
     }
 }
 

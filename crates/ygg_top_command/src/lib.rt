@@ -8,5 +8,5 @@ mod words;
 
 pub use fetching::{MOST_BYTES, fetched};
 pub use file::{close, file_of, layer_file};
-pub use stopping::{Stop, end};
+pub use stopping::{CommandStop, end};
 pub use words::{USUAL_BUDGET, budget, number_up_to};

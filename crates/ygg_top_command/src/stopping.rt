@@ -11,7 +11,7 @@ use ygg_report::{put_all, refused};
 
 /// Why a command stops before it does anything.
 #[derive(Clone, Copy, PartialEq, Eq, Drop)]
-pub enum Stop {
+pub enum CommandStop {
     /// The words, or what stands under a name, are refused.
     Refused(Refusal),
     /// The library failed.
@@ -20,29 +20,29 @@ pub enum Stop {
     NoMemory,
 }
 
-impl Stop {
+impl CommandStop {
     /// The same where a text isn't read.
-    pub fn of(refuse: Refuse) -> Stop
+    pub fn of(refuse: Refuse) -> CommandStop
         ensures { result ≡ stop_of refuse }
     {
         match refuse {
-            Refuse::At(at) => Stop::Refused(at),
-            Refuse::Memory => Stop::NoMemory,
+            Refuse::At(at) => CommandStop::Refused(at),
+            Refuse::Memory => CommandStop::NoMemory,
         }
     }
 }
 
 /// Ends a command that stops: puts the line of a refusal, or that of a library that failed.
-pub fn end<K: Sink>(alloc: Global, stop: Stop, sink: &mut K) -> Status
+pub fn end<K: Sink>(alloc: Global, stop: CommandStop, sink: &mut K) -> Status
     ensures told { EndsBy stop (K.taken sink.old) (K.taken sink.new) (Rose (K.faults sink.old) (K.faults sink.new)) result }
     ensures later { K.faults sink.old ≤ K.faults sink.new }
 {
     match stop {
-        Stop::Refused(at) => match refused(alloc, at) {
+        CommandStop::Refused(at) => match refused(alloc, at) {
             Ok(line) => put_all(sink, line.as_slice(), Status::Refused),
             Err(_) => Status::NoMemory,
         },
-        Stop::LibraryFailed => put_all(sink, b"fault library\n", Status::Fault),
-        Stop::NoMemory => Status::NoMemory,
+        CommandStop::LibraryFailed => put_all(sink, b"fault library\n", Status::Fault),
+        CommandStop::NoMemory => Status::NoMemory,
     }
 }

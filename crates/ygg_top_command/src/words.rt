@@ -5,7 +5,7 @@ ghost use Rattle.std.specs.Fmt.{decimal};
 ghost use Rattle.ygg_top_command.specs.Words.{IsNumber, IsNoNumber, IsBudget, IsNoBudget};
 ghost use Rattle.ygg_top_command.specs.Fetched.{IsBudgetless};
 
-use crate::stopping::Stop;
+use crate::stopping::CommandStop;
 use std::alloc::Global;
 use ygg_base::{NoMemory, Reason};
 
@@ -48,13 +48,13 @@ pub fn number_up_to(alloc: Global, word: &[u8], greatest: u32) -> Result<Option<
 
 /// The budget that a word is: a number from 1 to 10,000,000 in decimal digits, without a sign or a leading zero. Another word, the second after the
 /// command's, is refused 72 at `0:2`.
-pub fn budget(alloc: Global, word: &[u8]) -> Result<u32, Stop>
+pub fn budget(alloc: Global, word: &[u8]) -> Result<u32, CommandStop>
     ensures found { IfOk result (IsBudget word.now) }
     ensures none { IfErr result (IsBudgetless word.now) }
 {
     match number_up_to(alloc, word, MOST_BUDGET) {
         Ok(Some(budget)) => Ok(budget),
-        Ok(None) => Err(Stop::Refused(Reason::Number.at(0, 2))),
-        Err(_) => Err(Stop::NoMemory),
+        Ok(None) => Err(CommandStop::Refused(Reason::Number.at(0, 2))),
+        Err(_) => Err(CommandStop::NoMemory),
     }
 }

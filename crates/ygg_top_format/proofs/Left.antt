@@ -7,7 +7,7 @@ use Rattle.ygg_base_device.specs.Devices.{Image, Tells}
 use Rattle.ygg_syntax.specs.declared.tree.File.{File}
 use Rattle.ygg_report.specs.Putting.{IsPutSo, NoFront}
 use Rattle.ygg_run_format.specs.Leaving.{IsFormattedOn}
-use Rattle.ygg_top_command.specs.declared.stopping.Stop.{Stop}
+use Rattle.ygg_top_command.specs.declared.stopping.CommandStop.{CommandStop}
 use Rattle.ygg_top_command.specs.Fetched.{IsNoFile, StandsFile}
 use Rattle.ygg_top_command.specs.Reports.{EndsBy, Told}
 use Rattle.ygg_top_command.proofs.Stops.{file_stop}
@@ -51,7 +51,7 @@ module _ (before now : Option (List ℕ)) (old new : Option (List Image)) (image
         to (inr b) = inr (record { rose = b.rose; lines = b.lines; whole = (b.whole, (f, stands)); puts = b.puts })
 
     -- none does
-    pub file_stopped : new ≡ old → (stop : Stop) → IsNoFile files file LibraryRose stop → EndsBy stop before now SinkRose result →
+    pub file_stopped : new ≡ old → (stop : CommandStop) → IsNoFile files file LibraryRose stop → EndsBy stop before now SinkRose result →
         ToldOn (FormatsNamed files old new file image) NoFront (FormatsBroken files file) before now LibraryRose DeviceRose SinkRose result
     file_stopped same stop none ends =
         told_on before now LibraryRose DeviceRose SinkRose result (FormatsNamed files old new file image) NoFront (FormatsBroken files file)

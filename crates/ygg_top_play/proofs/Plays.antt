@@ -13,8 +13,8 @@ use Rattle.ygg_sched.specs.Lines.{Gives}
 use Rattle.ygg_script.specs.declared.command.Command.{Command}
 use Rattle.ygg_script.specs.Reading.{script_of}
 use Rattle.ygg_run.specs.Playing.{RefusesPlay, PlaysTo, IsFrontOfPlay}
-use Rattle.ygg_top_command.specs.declared.stopping.Stop.{Stop}
-use Rattle.ygg_top_command.specs.declared.stopping.Stop.TheVariants.{Refused, LibraryFailed, NoMemory}
+use Rattle.ygg_top_command.specs.declared.stopping.CommandStop.{CommandStop}
+use Rattle.ygg_top_command.specs.declared.stopping.CommandStop.TheVariants.{Refused, LibraryFailed, NoMemory}
 use Rattle.ygg_top_command.specs.Fetched.{IsUnread, StandsFile, stop_of}
 use Rattle.ygg_top_command.specs.Refusing.{RefusesFile, most_bytes}
 use Rattle.ygg_top_command.specs.Reports.{MayStop}
@@ -32,7 +32,7 @@ use Rattle.ygg_top_play.specs.Playing.{
 
 module _ (f : File) (files : Option (List Held)) (name : List ℕ) (LibraryRose : Type 0) where
   -- nothing is fetched
-  pub unread_script : (stop : Stop) → IsUnread most_bytes 2 files name LibraryRose stop → IsNoScript f files name LibraryRose stop
+  pub unread_script : (stop : CommandStop) → IsUnread most_bytes 2 files name LibraryRose stop → IsNoScript f files name LibraryRose stop
   unread_script (Refused r) unread = (unread.0, unread.1, inl unread.2)
   unread_script LibraryFailed unread = unread
   unread_script NoMemory unread = tt
@@ -44,7 +44,7 @@ module _ (f : File) (files : Option (List Held)) (name : List ℕ) (LibraryRose 
   no_script bytes stands small refuse.Memory reads = tt
 
   -- a command that stops for it
-  pub script_stop : (stop : Stop) → IsNoScript f files name LibraryRose stop → MayStop (DoesWith (PlaysStored f) files name) LibraryRose stop
+  pub script_stop : (stop : CommandStop) → IsNoScript f files name LibraryRose stop → MayStop (DoesWith (PlaysStored f) files name) LibraryRose stop
   script_stop (Refused r) none = (none.0, none.1, inl (r, none.2, (refl, refl)))
   script_stop LibraryFailed none = none
   script_stop NoMemory none = tt

@@ -9,8 +9,8 @@ use Rattle.ygg_report.specs.Putting.{IsFront}
 use Rattle.ygg_script.specs.declared.command.Command.{Command}
 use Rattle.ygg_script.specs.Reading.{script_of}
 use Rattle.ygg_run.specs.Playing.{RefusesPlay, PlaysTo}
-use Rattle.ygg_top_command.specs.declared.stopping.Stop.{Stop}
-use Rattle.ygg_top_command.specs.declared.stopping.Stop.TheVariants.{Refused, LibraryFailed, NoMemory}
+use Rattle.ygg_top_command.specs.declared.stopping.CommandStop.{CommandStop}
+use Rattle.ygg_top_command.specs.declared.stopping.CommandStop.TheVariants.{Refused, LibraryFailed, NoMemory}
 use Rattle.ygg_top_command.specs.Refusing.{IsLayerFile, RefusesFile, RefusesUnread, most_bytes}
 use Rattle.ygg_top_command.specs.Standing.{Stands, DoesWith, IsRefused}
 
@@ -33,7 +33,7 @@ abbrev pub StandsScript : File → Option (List Held) → List ℕ → List Comm
 StandsScript f files name script = (bytes : List ℕ) × Stands files name (Some bytes) × IsScriptText f bytes script
 
 -- why there is no script under the name: what stands there is refused, or the library failed
-abbrev pub IsNoScript : File → Option (List Held) → List ℕ → (LibraryRose : Type 0) → Stop → Type 0
+abbrev pub IsNoScript : File → Option (List Held) → List ℕ → (LibraryRose : Type 0) → CommandStop → Type 0
 IsNoScript f files name LibraryRose (Refused r) = (stored : Option (List ℕ)) × Stands files name stored × RefusesScript f stored r
 IsNoScript f files name LibraryRose LibraryFailed = LibraryRose
 IsNoScript f files name LibraryRose NoMemory = Unit {0}

@@ -12,7 +12,7 @@ use std::alloc::Global;
 use ygg_base::{Library, Sink, Status, Text};
 use ygg_run::put_play;
 use ygg_script::{Script, read_script};
-use ygg_top_command::{MOST_BYTES, Stop, close, end, fetched, layer_file};
+use ygg_top_command::{CommandStop, MOST_BYTES, close, end, fetched, layer_file};
 use ygg_type::Typed;
 
 /// The script for a layer file that stands under the name, the second word after the command's; or why there is none: what stands there is refused 73 or 11 at
@@ -22,7 +22,7 @@ fn script_for<L: Library>(
     typed: &Typed,
     name: &Text,
     library: &mut L,
-) -> Result<Script, Stop>
+) -> Result<Script, CommandStop>
     ensures found { IfOk result (λ script. StandsScript typed.now.file (L.files library.old) name.now script) }
     ensures fits { IfOk result (λ script. IsScriptOf typed.now.file script) }
     ensures few { IfOk result (λ script. length script ≤ most_bytes) }
@@ -36,7 +36,7 @@ fn script_for<L: Library>(
     };
     match read_script(alloc, text.as_slice(), typed) {
         Ok(script) => Ok(script),
-        Err(refuse) => Err(Stop::of(refuse)),
+        Err(refuse) => Err(CommandStop::of(refuse)),
     }
 }
 
@@ -50,7 +50,7 @@ fn play_script<K: Sink>(alloc: Global, typed: &Typed, script: &Script, sink: &mu
 {
     match put_play(alloc, typed, script, sink) {
         Ok(status) => status,
-        Err(at) => end(alloc, Stop::Refused(at), sink),
+        Err(at) => end(alloc, CommandStop::Refused(at), sink),
     }
 }
 

@@ -5,7 +5,7 @@ use Rattle.ygg_base.specs.declared.status.Status.TheVariants.{Done}
 use Rattle.ygg_syntax.specs.declared.tree.File.{File}
 use Rattle.ygg_print_layout.specs.Laws.{TokensAreMarks}
 use Rattle.ygg_print.specs.Canonical.{canonical, IsReadAgain}
-use Rattle.ygg_top_command.specs.declared.stopping.Stop.{Stop}
+use Rattle.ygg_top_command.specs.declared.stopping.CommandStop.{CommandStop}
 use Rattle.ygg_top_command.specs.Fetched.{IsNoFile, StandsFile}
 use Rattle.ygg_top_command.specs.Refusing.{IsLayerFile}
 use Rattle.ygg_top_command.specs.Reports.{MayStop}
@@ -30,7 +30,7 @@ pub prints : (files : Option (List Held)) (name text : List ℕ) (layers : File)
 prints files name text layers stands is = (Some stands.0, stands.1, (stands.0, refl, is stands.0 stands.2))
 
 -- nothing where there is none
-pub print_stop : (files : Option (List Held)) (name : List ℕ) (LibraryRose : Type 0) (stop : Stop) → IsNoFile files name LibraryRose stop →
+pub print_stop : (files : Option (List Held)) (name : List ℕ) (LibraryRose : Type 0) (stop : CommandStop) → IsNoFile files name LibraryRose stop →
     MayStop (DoesWith Prints files name) LibraryRose stop
 print_stop files name LibraryRose stop none =
     file_stop files name LibraryRose Prints stop (λ stored r refuses. (r, refuses, refl)) none

@@ -13,7 +13,7 @@ use std::alloc::Global;
 use ygg_base::{Library, Sink, Status, Text};
 use ygg_replay_text::replay_text;
 use ygg_report::put_all;
-use ygg_top_command::{MOST_BYTES, Stop, close, end, fetched, layer_file};
+use ygg_top_command::{CommandStop, MOST_BYTES, close, end, fetched, layer_file};
 use ygg_type::Typed;
 
 /// The end of replaying the schedule that stands under the name, the second word after the command's, for a layer file; or why there is none.
@@ -22,7 +22,7 @@ fn replayed<L: Library>(
     typed: &Typed,
     schedule: &Text,
     library: &mut L,
-) -> Result<(Status, Text), Stop>
+) -> Result<(Status, Text), CommandStop>
     ensures done { IfOk result (λ ending. IsDoneWith ending.0) }
     ensures replays { IfOk result (λ ending. DoesWith (ReplaysStored typed.now.file) (L.files library.old) schedule.now ending.0 ending.1) }
     ensures unread { IfErr result (IsUnread most_bytes 2 (L.files library.old) schedule.now (Rose (L.faults library.old) (L.faults library.new))) }
@@ -32,7 +32,7 @@ fn replayed<L: Library>(
     let text = fetched(schedule, MOST_BYTES, 2, library)?;
     match replay_text(alloc, typed, text.as_slice()) {
         Ok(ending) => Ok(ending),
-        Err(_) => Err(Stop::NoMemory),
+        Err(_) => Err(CommandStop::NoMemory),
     }
 }
 

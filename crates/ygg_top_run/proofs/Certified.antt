@@ -12,8 +12,8 @@ use Rattle.ygg_histories.specs.History.{Entry}
 use Rattle.ygg_report.specs.Lines.{refused_line}
 use Rattle.ygg_script.specs.declared.command.Command.{Command}
 use Rattle.ygg_run_mounted.specs.Extending.{HasRun}
-use Rattle.ygg_top_command.specs.declared.stopping.Stop.{Stop}
-use Rattle.ygg_top_command.specs.declared.stopping.Stop.TheVariants.{Refused, LibraryFailed, NoMemory}
+use Rattle.ygg_top_command.specs.declared.stopping.CommandStop.{CommandStop}
+use Rattle.ygg_top_command.specs.declared.stopping.CommandStop.TheVariants.{Refused, LibraryFailed, NoMemory}
 use Rattle.ygg_top_command.specs.Reports.{IsDoneWith, MayStop}
 use Rattle.ygg_top_command.specs.Standing.{DoesWith, Stands}
 use Rattle.ygg_top_certify.specs.Checking.{ChecksStored}
@@ -79,7 +79,7 @@ module _ (f : File) (right : FileRefines f) (image : List ℕ) (before now : Opt
 
 module _ (kinds : List RuleKind) (f : File) (files : Option (List Held)) (certificate image script : List ℕ) where
   -- a command that stops since the certificate is refused, or isn't read
-  pub certificate_stops : (before : Option (List Image)) (LibraryRose : Type 0) (stop : Stop) →
+  pub certificate_stops : (before : Option (List Image)) (LibraryRose : Type 0) (stop : CommandStop) →
       MayStop (DoesWith (ChecksStored kinds f) files certificate) LibraryRose stop →
       MayStop (RunsCertified kinds files before before f certificate image script) LibraryRose stop
   certificate_stops before LibraryRose (Refused r) (stored, stands, checks) = inl (stored, stands, checks, λ same. absurd (cc same), refl)

@@ -3,8 +3,8 @@ use Rattle.std.proofs.Common.{◌≡◌, ◌⊎◌, ℕ, List, ◌++◌, Option,
 use Rattle.ygg_base.specs.declared.status.Status.{Status}
 use Rattle.ygg_base.specs.declared.status.Status.TheVariants.{Fault}
 use Rattle.ygg_report.specs.Putting.{Adds, IsFront, IsPutSo}
-use Rattle.ygg_top_command.specs.declared.stopping.Stop.{Stop}
-use Rattle.ygg_top_command.specs.declared.stopping.Stop.TheVariants.{Refused, LibraryFailed, NoMemory}
+use Rattle.ygg_top_command.specs.declared.stopping.CommandStop.{CommandStop}
+use Rattle.ygg_top_command.specs.declared.stopping.CommandStop.TheVariants.{Refused, LibraryFailed, NoMemory}
 use Rattle.ygg_top_command.specs.Reports.{EndsBy, Told}
 use Rattle.ygg_top_command.proofs.Telling.{more_told}
 use Rattle.ygg_top_device.specs.Breaking.{IsBroken, ToldOn}
@@ -33,12 +33,12 @@ put_more before now text status Less More result more (inl put) = inl put
 put_more before now text status Less More result more (inr (is, rose, front, cut, adds)) = inr (is, more rose, front, cut, adds)
 
 -- a command that stops where nothing was put before
-pub ends_since : (stop : Stop) (before middle now : Option (List ℕ)) (Less More : Type 0) (result : Status) → (Less → More) → middle ≡ before →
+pub ends_since : (stop : CommandStop) (before middle now : Option (List ℕ)) (Less More : Type 0) (result : Status) → (Less → More) → middle ≡ before →
     EndsBy stop middle now Less result → EndsBy stop before now More result
 ends_since stop before middle now Less More result more same ends =
     rises stop (subst (λ (o : Option (List ℕ)). EndsBy stop o now Less result) same ends)
   where
-    rises : (s : Stop) → EndsBy s before now Less result → EndsBy s before now More result
+    rises : (s : CommandStop) → EndsBy s before now Less result → EndsBy s before now More result
     rises (Refused r) (inl put) = inl (put_more before now _ _ Less More result more put)
     rises (Refused r) (inr lost) = inr lost
     rises LibraryFailed put = put_more before now _ _ Less More result more put

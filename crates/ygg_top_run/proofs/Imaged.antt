@@ -9,15 +9,15 @@ use Rattle.ygg_base_device.specs.Devices.{Image}
 use Rattle.ygg_syntax.specs.declared.tree.File.{File}
 use Rattle.ygg_report.specs.Putting.{Adds, IsPutSo}
 use Rattle.ygg_script.specs.declared.command.Command.{Command}
-use Rattle.ygg_run_commands.specs.declared.halting.Halted.{Halted}
-use Rattle.ygg_run_commands.specs.declared.halting.Halted.TheVariants as halted
+use Rattle.ygg_run_commands.specs.declared.halting.RunHalted.{RunHalted}
+use Rattle.ygg_run_commands.specs.declared.halting.RunHalted.TheVariants as halted
 use Rattle.ygg_run_mount.specs.declared.unmounted.Unmounted.TheVariants as unmounted
 use Rattle.ygg_run_mounted.specs.Ending.{HaltsBy, IsGivenUp, IsNotMounted, RunsTo}
 use Rattle.ygg_run_mounted.specs.declared.run_end.RunEnd.TheVariants as run_end
 use Rattle.ygg_run_mounted.specs.Extending.{HasRun}
 use Rattle.ygg_run_mounted.proofs.Ends.{risen}
 use Rattle.ygg_run_mounted.proofs.Texts.{adds_none}
-use Rattle.ygg_top_command.specs.declared.stopping.Stop.TheVariants.{Refused}
+use Rattle.ygg_top_command.specs.declared.stopping.CommandStop.TheVariants.{Refused}
 use Rattle.ygg_top_command.specs.Reports.{EndsBy}
 use Rattle.ygg_top_command.proofs.Telling.{stop_told}
 use Rattle.ygg_top_device.specs.Breaking.{ToldOn, device_fault}
@@ -54,7 +54,7 @@ module _ (f : File) (image : List ℕ) (before now : Option (List Image)) (scrip
   }
 
   -- why it was given up isn't said once more
-  given_up : (AnyDevice AnySink : Type 0) (why : Halted) (text : List ℕ) → IsGivenUp f script image before now AnyDevice AnySink why text →
+  given_up : (AnyDevice AnySink : Type 0) (why : RunHalted) (text : List ℕ) → IsGivenUp f script image before now AnyDevice AnySink why text →
       IsGivenUp f script image before now (Unit {0}) (Unit {0}) why text
   given_up AnyDevice AnySink why text x = record {
     images = x.images;

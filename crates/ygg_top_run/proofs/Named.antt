@@ -5,8 +5,8 @@ use Rattle.ygg_base.specs.declared.status.Status.{Status}
 use Rattle.ygg_base_device.specs.Devices.{Image}
 use Rattle.ygg_syntax.specs.declared.tree.File.{File}
 use Rattle.ygg_rules.specs.declared.rule.RuleKind.{RuleKind}
-use Rattle.ygg_top_command.specs.declared.stopping.Stop.{Stop}
-use Rattle.ygg_top_command.specs.declared.stopping.Stop.TheVariants.{Refused, LibraryFailed, NoMemory}
+use Rattle.ygg_top_command.specs.declared.stopping.CommandStop.{CommandStop}
+use Rattle.ygg_top_command.specs.declared.stopping.CommandStop.TheVariants.{Refused, LibraryFailed, NoMemory}
 use Rattle.ygg_top_command.specs.Fetched.{IsNoFile, StandsFile}
 use Rattle.ygg_top_command.specs.Reports.{MayStop}
 use Rattle.ygg_top_device.specs.Breaking.{ToldOn}
@@ -17,7 +17,7 @@ use Rattle.ygg_top_run.proofs.Ending.{more_on}
 
 module _ (kinds : List RuleKind) (files : Option (List Held)) (file certificate image script : List ℕ) where
   -- a command that stops where there is no layer file
-  pub file_stops : (before : Option (List Image)) (LibraryRose : Type 0) (stop : Stop) → IsNoFile files file LibraryRose stop →
+  pub file_stops : (before : Option (List Image)) (LibraryRose : Type 0) (stop : CommandStop) → IsNoFile files file LibraryRose stop →
       MayStop (RunsNamed kinds files before before file certificate image script) LibraryRose stop
   file_stops before LibraryRose (Refused r) (stored, stands, refuses) = inl (stored, stands, r, refuses, (refl, refl), refl)
   file_stops before LibraryRose LibraryFailed rose = rose

@@ -6,8 +6,8 @@ use Rattle.ygg_base_device.specs.Devices.{Image}
 use Rattle.ygg_syntax.specs.declared.tree.File.{File}
 use Rattle.ygg_histories.specs.History.{Entry}
 use Rattle.ygg_script.specs.declared.command.Command.{Command}
-use Rattle.ygg_top_command.specs.declared.stopping.Stop.{Stop}
-use Rattle.ygg_top_command.specs.declared.stopping.Stop.TheVariants.{Refused, LibraryFailed, NoMemory}
+use Rattle.ygg_top_command.specs.declared.stopping.CommandStop.{CommandStop}
+use Rattle.ygg_top_command.specs.declared.stopping.CommandStop.TheVariants.{Refused, LibraryFailed, NoMemory}
 use Rattle.ygg_top_command.specs.Reports.{MayStop}
 use Rattle.ygg_top_device.specs.Breaking.{ToldOn}
 use Rattle.ygg_top_device.proofs.Breaks.{told_on_to}
@@ -17,7 +17,7 @@ use Rattle.ygg_top_run.proofs.Ending.{more_on}
 
 module _ (f : File) (files : Option (List Held)) (image script : List ℕ) (Turns : List Entry → (before now : Image) → Type 0) where
   -- a command that stops where there is no script
-  pub script_stops : (before : Option (List Image)) (LibraryRose : Type 0) (stop : Stop) → IsNoScript f files script LibraryRose stop →
+  pub script_stops : (before : Option (List Image)) (LibraryRose : Type 0) (stop : CommandStop) → IsNoScript f files script LibraryRose stop →
       MayStop (RunsScript f files image script before before Turns) LibraryRose stop
   script_stops before LibraryRose (Refused r) (stored, stands, refuses) = inl (stored, stands, r, refuses, (refl, refl), refl)
   script_stops before LibraryRose LibraryFailed rose = rose

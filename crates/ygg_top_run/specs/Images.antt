@@ -16,7 +16,7 @@ use Rattle.ygg_run_image.specs.declared.reason.ImageReason.{ImageReason}
 use Rattle.ygg_run_mount.specs.Mounting.{IsFlushed, Mounts}
 use Rattle.ygg_run_mount.specs.declared.unmounted.Unmounted.TheVariants as unmounted
 use Rattle.ygg_run_commands.specs.Ran.{AllRan, run_text}
-use Rattle.ygg_run_commands.specs.declared.halting.Halted.TheVariants.{DeviceFailed, SinkFailed, Memory}
+use Rattle.ygg_run_commands.specs.declared.halting.RunHalted.TheVariants.{DeviceFailed, SinkFailed, Memory}
 use Rattle.ygg_run_mounted.specs.Ending.{IsGivenUp}
 use Rattle.ygg_run_mounted.specs.Extending.{KeepsImage}
 use Rattle.ygg_top_command.specs.Standing.{IsRefused}

@@ -8,8 +8,8 @@ use Rattle.ygg_syntax.specs.declared.tree.File.{File}
 use Rattle.ygg_histories.specs.History.{Entry}
 use Rattle.ygg_script.specs.declared.command.Command.{Command}
 use Rattle.ygg_script.specs.Plain.{plain_of}
-use Rattle.ygg_top_command.specs.declared.stopping.Stop.{Stop}
-use Rattle.ygg_top_command.specs.declared.stopping.Stop.TheVariants.{Refused, LibraryFailed, NoMemory}
+use Rattle.ygg_top_command.specs.declared.stopping.CommandStop.{CommandStop}
+use Rattle.ygg_top_command.specs.declared.stopping.CommandStop.TheVariants.{Refused, LibraryFailed, NoMemory}
 use Rattle.ygg_top_command.specs.Refusing.{RefusesUnread, most_bytes}
 use Rattle.ygg_top_command.specs.Standing.{Stands, IsRefused}
 use Rattle.ygg_top_play.specs.Playing.{IsScriptText, RefusesLines, StandsScript}
@@ -30,7 +30,7 @@ abbrev pub StandsPlain : File → Option (List Held) → List ℕ → List Comma
 StandsPlain f files name script = StandsScript f files name script × (plain_of script ≡ None)
 
 -- why there is no such script under the name: what stands there is refused, or the library failed
-abbrev pub IsNoScript : File → Option (List Held) → List ℕ → (LibraryRose : Type 0) → Stop → Type 0
+abbrev pub IsNoScript : File → Option (List Held) → List ℕ → (LibraryRose : Type 0) → CommandStop → Type 0
 IsNoScript f files name LibraryRose (Refused r) = (stored : Option (List ℕ)) × Stands files name stored × RefusesScript f stored r
 IsNoScript f files name LibraryRose LibraryFailed = LibraryRose
 IsNoScript f files name LibraryRose NoMemory = Unit {0}

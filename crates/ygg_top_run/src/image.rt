@@ -14,7 +14,7 @@ use ygg_base::{Reason, Refusal, Sink, Status, Text};
 use ygg_base_device::Device;
 use ygg_run_mounted::RunEnd;
 use ygg_script::Script;
-use ygg_top_command::{Stop, end};
+use ygg_top_command::{CommandStop, end};
 use ygg_top_device::end_broken;
 use ygg_type::Typed;
 
@@ -52,8 +52,8 @@ pub(crate) fn run_image<D: Device, K: Sink>(
 {
     match ygg_run_mounted::run(alloc, typed, script, name, device, sink) {
         RunEnd::Done => Status::Done,
-        RunEnd::Refused(number) => end(alloc, Stop::Refused(refused(number)), sink),
-        RunEnd::Absent => end(alloc, Stop::Refused(Reason::Absent.at(0, 3)), sink),
+        RunEnd::Refused(number) => end(alloc, CommandStop::Refused(refused(number)), sink),
+        RunEnd::Absent => end(alloc, CommandStop::Refused(Reason::Absent.at(0, 3)), sink),
         RunEnd::DeviceFailed => end_broken(sink),
         RunEnd::SinkFailed => Status::Fault,
         RunEnd::Memory => Status::NoMemory,

@@ -15,7 +15,7 @@ use std::alloc::Global;
 use ygg_base::{Library, Sink, Status, Text};
 use ygg_base_device::Device;
 use ygg_script::{Script, plain_script, read_script};
-use ygg_top_command::{MOST_BYTES, Stop, end, fetched};
+use ygg_top_command::{CommandStop, MOST_BYTES, end, fetched};
 use ygg_type::Typed;
 
 /// The script for a layer file that stands under the name, the fourth word after the command's; or why there is none: what stands there is refused 73 or 11 at
@@ -25,7 +25,7 @@ fn script_for<L: Library>(
     typed: &Typed,
     name: &Text,
     library: &mut L,
-) -> Result<Script, Stop>
+) -> Result<Script, CommandStop>
     ensures found { IfOk result (λ script. StandsPlain typed.now.file (L.files library.old) name.now script) }
     ensures fits { IfOk result (λ script. IsScriptOf typed.now.file script) }
     ensures plain { IfOk result (λ script. plain_of script ≡ None) }
@@ -39,11 +39,11 @@ fn script_for<L: Library>(
     };
     let script = match read_script(alloc, text.as_slice(), typed) {
         Ok(script) => script,
-        Err(refuse) => return Err(Stop::of(refuse)),
+        Err(refuse) => return Err(CommandStop::of(refuse)),
     };
     match plain_script(&script) {
         None => Ok(script),
-        Some(at) => Err(Stop::Refused(at)),
+        Some(at) => Err(CommandStop::Refused(at)),
     }
 }
 

@@ -6,8 +6,8 @@ use Rattle.ygg_report.specs.Putting.{IsCutOf}
 use Rattle.ygg_solver.specs.Answers.{IsNumbered}
 use Rattle.ygg_dimacs.specs.declared.cnf.Cnf.{Cnf}
 use Rattle.ygg_dimacs_solve.specs.Solved.{Solved}
-use Rattle.ygg_top_command.specs.declared.stopping.Stop.{Stop}
-use Rattle.ygg_top_command.specs.declared.stopping.Stop.TheVariants.{Refused, LibraryFailed, NoMemory}
+use Rattle.ygg_top_command.specs.declared.stopping.CommandStop.{CommandStop}
+use Rattle.ygg_top_command.specs.declared.stopping.CommandStop.TheVariants.{Refused, LibraryFailed, NoMemory}
 use Rattle.ygg_top_command.specs.Fetched.{IsUnread}
 use Rattle.ygg_top_command.specs.Reports.{MayStop}
 use Rattle.ygg_top_command.specs.Standing.{DoesWith, DoesWithin}
@@ -17,13 +17,14 @@ use Rattle.ygg_top_solve.specs.Solving.{Solves, IsCutSolving, most_clause_bytes}
 
 module _ (files : Option (List Held)) (name : List ℕ) (LibraryRose : Type 0) where
   -- where nothing is fetched there are no clauses
-  pub unread_clauses : (stop : Stop) → IsUnread most_clause_bytes 1 files name LibraryRose stop → IsNoClauses files name LibraryRose stop
+  pub unread_clauses : (stop : CommandStop) → IsUnread most_clause_bytes 1 files name LibraryRose stop → IsNoClauses files name LibraryRose stop
   unread_clauses (Refused r) unread = (unread.0, unread.1, inl unread.2)
   unread_clauses LibraryFailed unread = unread
   unread_clauses NoMemory unread = tt
 
   -- a command of clauses where there are none
-  pub clauses_stop : (budget : ℕ) (stop : Stop) → IsNoClauses files name LibraryRose stop → MayStop (DoesWith (Solves budget) files name) LibraryRose stop
+  pub clauses_stop : (budget : ℕ) (stop : CommandStop) → IsNoClauses files name LibraryRose stop →
+      MayStop (DoesWith (Solves budget) files name) LibraryRose stop
   clauses_stop budget (Refused r) none = (none.0, none.1, inl (r, none.2, (refl, refl)))
   clauses_stop budget LibraryFailed none = none
   clauses_stop budget NoMemory none = tt

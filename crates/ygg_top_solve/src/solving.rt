@@ -12,14 +12,14 @@ use std::alloc::Global;
 use ygg_base::{Library, Sink, Status, Text};
 use ygg_dimacs::{Cnf, read_cnf};
 use ygg_dimacs_solve::solve_cnf;
-use ygg_top_command::{Stop, budget, end, fetched};
+use ygg_top_command::{CommandStop, budget, end, fetched};
 
 /// The most bytes of a text of clauses.
 const MOST_CLAUSE_BYTES: u64 = 67_108_864;
 
 /// The clauses of the text that stands under the name, the first word after the command's; or why there are none: what stands there is refused 73 or 11 at
 /// `0:1`, or 61 to 63 where it is no text of clauses.
-fn clauses<L: Library>(alloc: Global, name: &Text, library: &mut L) -> Result<Cnf, Stop>
+fn clauses<L: Library>(alloc: Global, name: &Text, library: &mut L) -> Result<Cnf, CommandStop>
     ensures found { IfOk result (StandsClauses (L.files library.old) name.now) }
     ensures numbered { IfOk result (λ cnf. IsNumbered cnf.clauses) }
     ensures none { IfErr result (IsNoClauses (L.files library.old) name.now (Rose (L.faults library.old) (L.faults library.new))) }
@@ -32,7 +32,7 @@ fn clauses<L: Library>(alloc: Global, name: &Text, library: &mut L) -> Result<Cn
     };
     match read_cnf(alloc, text.as_slice()) {
         Ok(cnf) => Ok(cnf),
-        Err(refuse) => Err(Stop::of(refuse)),
+        Err(refuse) => Err(CommandStop::of(refuse)),
     }
 }
 

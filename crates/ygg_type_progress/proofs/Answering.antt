@@ -31,16 +31,16 @@ use Rattle.ygg_syntax.specs.declared.tree.DiskText.{DiskText}
 use Rattle.ygg_syntax.specs.declared.tree.Declared.{Declared}
 use Rattle.ygg_syntax.specs.declared.tree.Operation.{Operation}
 use Rattle.ygg_syntax.specs.declared.tree.Layer.{Layer}
-use Rattle.ygg_syntax_count.specs.Weights.{Weights}
+use Rattle.ygg_type_sound.specs.Weights.{Weights}
 use Rattle.ygg_symbols.specs.Names.{Named, look_up}
-use Rattle.ygg_type_rules.specs.declared.scope.Visibility.TheVariants.{Implementation}
-use Rattle.ygg_type_rules.specs.declared.scope.Signature.{Signature}
-use Rattle.ygg_type_rules.specs.TypeErrors.{none}
-use Rattle.ygg_type_rules.specs.Scopes.{Scope, seen_as}
-use Rattle.ygg_type_rules.specs.Statements.{in_order, walked}
-use Rattle.ygg_type_rules.specs.Definitions.{parameter_shapes}
-use Rattle.ygg_type_rules.specs.Layers.{Below, layer_scope, operation_signature}
-use Rattle.ygg_type_rules.specs.Files.{disk_operations}
+use Rattle.ygg_type_sound.specs.Visibility.TheVariants.{Implementation}
+use Rattle.ygg_type_sound.specs.Signature.{Signature}
+use Rattle.ygg_type_sound.specs.TypeErrors.{none}
+use Rattle.ygg_type_sound.specs.Scopes.{Scope, seen_as}
+use Rattle.ygg_type_sound.specs.Statements.{in_order, walked}
+use Rattle.ygg_type_sound.specs.Definitions.{parameter_shapes}
+use Rattle.ygg_type_sound.specs.Layers.{Below, layer_scope, operation_signature}
+use Rattle.ygg_type_sound.specs.Files.{disk_operations}
 use Rattle.ygg_meaning.specs.Environments.{Name, Env}
 use Rattle.ygg_meaning.specs.Meaning.{Functions}
 use Rattle.ygg_meaning.specs.Shapes.{values_fit, zeros_of}

@@ -4,7 +4,7 @@ use Rattle.std.proofs.Math.Bool.{Bool-set}
 use Rattle.std.proofs.Math.Logic.{∥∥₁_elim, ∥∥₁_map}
 use Rattle.ygg_syntax.specs.declared.tree.File.{File}
 use Rattle.ygg_syntax.specs.Files.{IsDerived, IsDerivable}
-use Rattle.ygg_type_rules.specs.Files.{IsTyped}
+use Rattle.ygg_type_sound.specs.Files.{IsTyped}
 use Rattle.ygg_meaning.specs.Environments.{Env}
 use Rattle.ygg_meaning.specs.Machine.{Machine}
 use Rattle.ygg_meaning.specs.DiskMachine.{DiskMachine, disk_store}

@@ -11,12 +11,12 @@ use Rattle.ygg_syntax.specs.declared.tree.DiskText.{DiskText}
 use Rattle.ygg_base.specs.declared.geometry.DiskKind.{DiskKind}
 use Rattle.ygg_base.specs.declared.geometry.DiskKind.TheVariants.{Sync, Async}
 use Rattle.ygg_symbols.specs.Names.{Named, look_up}
-use Rattle.ygg_type_rules.specs.declared.scope.Signature.{Signature}
-use Rattle.ygg_type_rules.specs.TypeErrors.{none, unless}
-use Rattle.ygg_type_rules.specs.Limits.{width_fits, words_fit, rows_fit, words_fit_in}
-use Rattle.ygg_type_rules.specs.Files.{disk_errors, address, disk_row, disk_operations}
-use Rattle.ygg_disk.specs.Disk as disk
-use Rattle.ygg_disk.specs.Kinds.{Model, model_of}
+use Rattle.ygg_type_sound.specs.Signature.{Signature}
+use Rattle.ygg_type_sound.specs.TypeErrors.{none, unless}
+use Rattle.ygg_type_sound.specs.Limits.{width_fits, words_fit, rows_fit, words_fit_in}
+use Rattle.ygg_type_sound.specs.Files.{disk_errors, address, disk_row, disk_operations}
+use Rattle.ygg_meaning.specs.Disk as disk
+use Rattle.ygg_meaning.specs.Kinds.{Model, model_of}
 use Rattle.ygg_meaning.specs.Environments.{Name, Env}
 use Rattle.ygg_meaning.specs.Progress.{Answer}
 use Rattle.ygg_meaning.specs.Machine.{Picks, State, based}

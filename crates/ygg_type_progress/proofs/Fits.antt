@@ -42,11 +42,11 @@ use Rattle.ygg_value.specs.declared.row.Value.{Value}
 use Rattle.ygg_value.specs.declared.row.Value.TheVariants.{Word, Row, Table}
 use Rattle.ygg_value.specs.Values.{word_in, row_in, row_write, table_read, table_write, with_part}
 use Rattle.ygg_syntax.specs.declared.tree.Index.{Index}
-use Rattle.ygg_type_rules.specs.TypeErrors.{none, both, unless}
-use Rattle.ygg_type_rules.specs.Shapes.{is_word, part_shape}
-use Rattle.ygg_type_rules.specs.Scopes.{Scope}
-use Rattle.ygg_type_rules.specs.Expressions.{Own, index_rule, wanted_word, typing}
-use Rattle.ygg_type_rules.specs.Statements.{indexed}
+use Rattle.ygg_type_sound.specs.TypeErrors.{none, both, unless}
+use Rattle.ygg_type_sound.specs.Shapes.{is_word, part_shape}
+use Rattle.ygg_type_sound.specs.Scopes.{Scope}
+use Rattle.ygg_type_sound.specs.Expressions.{Own, index_rule, wanted_word, typing}
+use Rattle.ygg_type_sound.specs.Statements.{indexed}
 use Rattle.ygg_meaning.specs.Environments.{Env}
 use Rattle.ygg_meaning.specs.Progress.{Eval, indices_of}
 use Rattle.ygg_meaning.specs.Shapes.{fits, words_fit}

@@ -31,16 +31,16 @@ use Rattle.ygg_base.specs.declared.reason.Reason.TheVariants as reason
 use Rattle.ygg_syntax.specs.declared.tree.TypeText.{TypeText}
 use Rattle.ygg_syntax.specs.declared.tree.Operation.{Operation}
 use Rattle.ygg_syntax.specs.declared.tree.Block.{Block}
-use Rattle.ygg_syntax_count.specs.Weights.{Weights}
+use Rattle.ygg_type_sound.specs.Weights.{Weights}
 use Rattle.ygg_symbols.specs.Names.{Named, look_up, has}
-use Rattle.ygg_type_rules.specs.declared.scope.Visibility.TheVariants.{Specification, Implementation}
-use Rattle.ygg_type_rules.specs.declared.scope.Signature.{Signature}
-use Rattle.ygg_type_rules.specs.TypeErrors.{none, unless}
-use Rattle.ygg_type_rules.specs.Shapes.{answer_shape}
-use Rattle.ygg_type_rules.specs.Scopes.{Scope, seen_as}
-use Rattle.ygg_type_rules.specs.Statements.{block_errors}
-use Rattle.ygg_type_rules.specs.Definitions.{answer_type_errors, with_parameters, parameters_errors}
-use Rattle.ygg_type_rules.specs.Layers.{
+use Rattle.ygg_type_sound.specs.Visibility.TheVariants.{Specification, Implementation}
+use Rattle.ygg_type_sound.specs.Signature.{Signature}
+use Rattle.ygg_type_sound.specs.TypeErrors.{none, unless}
+use Rattle.ygg_type_sound.specs.Shapes.{answer_shape}
+use Rattle.ygg_type_sound.specs.Scopes.{Scope, seen_as}
+use Rattle.ygg_type_sound.specs.Statements.{block_errors}
+use Rattle.ygg_type_sound.specs.Definitions.{answer_type_errors, with_parameters, parameters_errors}
+use Rattle.ygg_type_sound.specs.Layers.{
   operation_signature,
   with_operation,
   with_operations,

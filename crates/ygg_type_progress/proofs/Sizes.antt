@@ -35,15 +35,15 @@ use Rattle.ygg_syntax.specs.declared.tree.DiskText.{DiskText}
 use Rattle.ygg_base.specs.declared.geometry.DiskKind.{DiskKind}
 use Rattle.ygg_base.specs.declared.geometry.DiskKind.TheVariants.{Sync, Async}
 use Rattle.ygg_symbols.specs.Names.{look_up}
-use Rattle.ygg_type_rules.specs.declared.scope.Signature.{Signature}
-use Rattle.ygg_type_rules.specs.TypeErrors.{none}
-use Rattle.ygg_type_rules.specs.Files.{address, disk_row, disk_errors, disk_operations}
-use Rattle.ygg_disk.specs.Disk as disk
+use Rattle.ygg_type_sound.specs.Signature.{Signature}
+use Rattle.ygg_type_sound.specs.TypeErrors.{none}
+use Rattle.ygg_type_sound.specs.Files.{address, disk_row, disk_errors, disk_operations}
+use Rattle.ygg_meaning.specs.Disk as disk
 use Rattle.ygg_meaning.specs.Environments.{Name, Env}
 use Rattle.ygg_meaning.specs.Shapes.{fits, words_fit, env_fits}
 use Rattle.ygg_meaning.specs.Progress.{Answer}
 use Rattle.ygg_meaning.specs.Machine.{Picks, State, based}
-use Rattle.ygg_disk.specs.Kinds.{model_of}
+use Rattle.ygg_meaning.specs.Kinds.{model_of}
 use Rattle.ygg_meaning.specs.DiskMachine.{disk_call, answer_to, tables_in, DiskMachine}
 use Rattle.ygg_histories.specs.Stack.{tables_of_kind, tables_of}
 use Rattle.ygg_type_sound.specs.Fitting.{fits_wanted, all_fit}

@@ -55,14 +55,14 @@ use Rattle.ygg_syntax.specs.declared.tree.Block.{Block, roll-Block, map-Block, f
 use Rattle.ygg_syntax.specs.declared.tree.Stmt.TheOpen.{Stmt-F, Block-F}
 use Rattle.ygg_syntax.specs.declared.tree.Stmt.TheFolds.{ind-Stmt, fold-roll-Stmt, fold-roll-Block}
 use Rattle.ygg_symbols.specs.Names.{Named, look_up}
-use Rattle.ygg_type_rules.specs.declared.scope.TypedExpr.{TypedExpr}
-use Rattle.ygg_type_rules.specs.declared.scope.Local.{Local}
-use Rattle.ygg_type_rules.specs.declared.scope.Signature.{Signature}
-use Rattle.ygg_type_rules.specs.TypeErrors.{TypeErrors, none, nothing, one, both, unless, type_error}
-use Rattle.ygg_type_rules.specs.Limits.{width_fits}
-use Rattle.ygg_type_rules.specs.Shapes.{word_shape, part_shape, is_word}
-use Rattle.ygg_type_rules.specs.Scopes.{Scope, name_in, is_taken, with_local}
-use Rattle.ygg_type_rules.specs.Expressions.{
+use Rattle.ygg_type_sound.specs.TypedExpr.{TypedExpr}
+use Rattle.ygg_type_sound.specs.Local.{Local}
+use Rattle.ygg_type_sound.specs.Signature.{Signature}
+use Rattle.ygg_type_sound.specs.TypeErrors.{TypeErrors, none, nothing, one, both, unless, type_error}
+use Rattle.ygg_type_sound.specs.Limits.{width_fits}
+use Rattle.ygg_type_sound.specs.Shapes.{word_shape, part_shape, is_word}
+use Rattle.ygg_type_sound.specs.Scopes.{Scope, name_in, is_taken, with_local}
+use Rattle.ygg_type_sound.specs.Expressions.{
   own,
   wanted,
   wanted_word,
@@ -75,7 +75,7 @@ use Rattle.ygg_type_rules.specs.Expressions.{
   with_number,
   number_errors,
 }
-use Rattle.ygg_type_rules.specs.Statements.{
+use Rattle.ygg_type_sound.specs.Statements.{
   Walked,
   source_typing,
   call_rule,

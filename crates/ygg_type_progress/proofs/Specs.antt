@@ -42,16 +42,16 @@ use Rattle.ygg_syntax.specs.declared.tree.Expr.{Expr}
 use Rattle.ygg_syntax.specs.declared.tree.Block.{Block}
 use Rattle.ygg_syntax.specs.declared.tree.Operation.{Operation}
 use Rattle.ygg_syntax.specs.declared.tree.Layer.{Layer}
-use Rattle.ygg_syntax_count.specs.Weights.{Weights}
+use Rattle.ygg_type_sound.specs.Weights.{Weights}
 use Rattle.ygg_symbols.specs.Names.{Named}
-use Rattle.ygg_type_rules.specs.declared.scope.Visibility.TheVariants.{Specification}
-use Rattle.ygg_type_rules.specs.declared.scope.Signature.{Signature}
-use Rattle.ygg_type_rules.specs.TypeErrors.{none}
-use Rattle.ygg_type_rules.specs.Shapes.{answer_shape}
-use Rattle.ygg_type_rules.specs.Scopes.{Scope, seen_as}
-use Rattle.ygg_type_rules.specs.Statements.{block_errors, in_order, return_errors, walked}
-use Rattle.ygg_type_rules.specs.Definitions.{with_parameters}
-use Rattle.ygg_type_rules.specs.Layers.{Below, layer_scope, operation_signature}
+use Rattle.ygg_type_sound.specs.Visibility.TheVariants.{Specification}
+use Rattle.ygg_type_sound.specs.Signature.{Signature}
+use Rattle.ygg_type_sound.specs.TypeErrors.{none}
+use Rattle.ygg_type_sound.specs.Shapes.{answer_shape}
+use Rattle.ygg_type_sound.specs.Scopes.{Scope, seen_as}
+use Rattle.ygg_type_sound.specs.Statements.{block_errors, in_order, return_errors, walked}
+use Rattle.ygg_type_sound.specs.Definitions.{with_parameters}
+use Rattle.ygg_type_sound.specs.Layers.{Below, layer_scope, operation_signature}
 use Rattle.ygg_meaning.specs.Environments.{Name, Env, bind}
 use Rattle.ygg_meaning.specs.Meaning.{Functions}
 use Rattle.ygg_meaning.specs.Shapes.{values_fit, env_fits, zeros_of}

@@ -7,11 +7,11 @@ use Rattle.ygg_syntax.specs.declared.tree.Place.{Place}
 use Rattle.ygg_syntax.specs.declared.tree.Name.{Name}
 use Rattle.ygg_syntax.specs.declared.tree.Expr.{Expr}
 use Rattle.ygg_symbols.specs.Names.{look_up}
-use Rattle.ygg_type_rules.specs.declared.scope.Signature.{Signature}
-use Rattle.ygg_type_rules.specs.TypeErrors.{TypeErrors, nothing, one, both, none, type_error, unless, listed}
-use Rattle.ygg_type_rules.specs.Scopes.{Scope}
-use Rattle.ygg_type_rules.specs.Expressions.{type_errors_in, all_shaped, parts_of, typings, arguments_wanted, arguments_errors}
-use Rattle.ygg_type_rules.specs.Statements.{call_rule, call_typing}
+use Rattle.ygg_type_sound.specs.Signature.{Signature}
+use Rattle.ygg_type_sound.specs.TypeErrors.{TypeErrors, nothing, one, both, none, type_error, unless, listed}
+use Rattle.ygg_type_sound.specs.Scopes.{Scope}
+use Rattle.ygg_type_sound.specs.Expressions.{type_errors_in, all_shaped, parts_of, typings, arguments_wanted, arguments_errors}
+use Rattle.ygg_type_sound.specs.Statements.{call_rule, call_typing}
 use Rattle.ygg_type_sound.proofs.Tests.{left as first_of, right as second_of, passed}
 
 -- a call without a type error: there is the operation, which answers where the answer is used, and takes as many arguments

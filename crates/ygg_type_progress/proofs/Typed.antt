@@ -4,16 +4,16 @@ use Rattle.std.specs.List.{list_all}
 use Rattle.ygg_base.specs.declared.reason.Reason.TheVariants as reason
 use Rattle.ygg_syntax.specs.declared.grammar.BlockKind.TheVariants.{Plain, Spec, Impl}
 use Rattle.ygg_syntax.specs.declared.tree.Layer.{Layer}
-use Rattle.ygg_syntax_count.specs.Weights.{Weights}
+use Rattle.ygg_type_sound.specs.Weights.{Weights}
 use Rattle.ygg_symbols.specs.Names.{Named}
-use Rattle.ygg_type_rules.specs.declared.scope.Visibility.TheVariants.{Specification, Implementation}
-use Rattle.ygg_type_rules.specs.declared.scope.Signature.{Signature}
-use Rattle.ygg_type_rules.specs.TypeErrors.{none, unless}
-use Rattle.ygg_type_rules.specs.Limits.{picks_fit}
+use Rattle.ygg_type_sound.specs.Visibility.TheVariants.{Specification, Implementation}
+use Rattle.ygg_type_sound.specs.Signature.{Signature}
+use Rattle.ygg_type_sound.specs.TypeErrors.{none, unless}
+use Rattle.ygg_type_sound.specs.Limits.{picks_fit}
 use Rattle.ygg_syntax.specs.Choices.{choices_of}
-use Rattle.ygg_type_rules.specs.Scopes.{seen_as}
-use Rattle.ygg_type_rules.specs.Statements.{block_errors}
-use Rattle.ygg_type_rules.specs.Layers.{
+use Rattle.ygg_type_sound.specs.Scopes.{seen_as}
+use Rattle.ygg_type_sound.specs.Statements.{block_errors}
+use Rattle.ygg_type_sound.specs.Layers.{
   Below,
   layer_scope,
   declared_errors,

@@ -34,18 +34,18 @@ use Rattle.ygg_value.specs.declared.row.Value.{Value}
 use Rattle.ygg_syntax.specs.declared.tree.Declared.{Declared}
 use Rattle.ygg_syntax.specs.declared.tree.Layer.{Layer}
 use Rattle.ygg_symbols.specs.Names.{Named, look_up, has, added}
-use Rattle.ygg_type_rules.specs.declared.scope.Owner.{Owner}
-use Rattle.ygg_type_rules.specs.declared.scope.Owner.TheVariants.{State, Memory}
-use Rattle.ygg_type_rules.specs.declared.scope.Visibility.{Visibility}
-use Rattle.ygg_type_rules.specs.declared.scope.Visibility.TheVariants.{Specification, Implementation}
-use Rattle.ygg_type_rules.specs.declared.scope.Variable.{Variable}
-use Rattle.ygg_type_rules.specs.declared.scope.Local.{Local}
-use Rattle.ygg_type_rules.specs.declared.scope.Signature.{Signature}
-use Rattle.ygg_type_rules.specs.TypeErrors.{none, both, unless}
-use Rattle.ygg_type_rules.specs.Shapes.{shape_of}
-use Rattle.ygg_type_rules.specs.Scopes.{Scope, sees, seen_variable, is_taken, seen_as}
-use Rattle.ygg_type_rules.specs.Definitions.{type_text_errors, with_parameter, with_parameters, parameters_errors}
-use Rattle.ygg_type_rules.specs.Layers.{Below, with_variable, with_variables, variables_errors, variables_of, layer_scope, declared_errors}
+use Rattle.ygg_type_sound.specs.Owner.{Owner}
+use Rattle.ygg_type_sound.specs.Owner.TheVariants.{State, Memory}
+use Rattle.ygg_type_sound.specs.Visibility.{Visibility}
+use Rattle.ygg_type_sound.specs.Visibility.TheVariants.{Specification, Implementation}
+use Rattle.ygg_type_sound.specs.Variable.{Variable}
+use Rattle.ygg_type_sound.specs.Local.{Local}
+use Rattle.ygg_type_sound.specs.Signature.{Signature}
+use Rattle.ygg_type_sound.specs.TypeErrors.{none, both, unless}
+use Rattle.ygg_type_sound.specs.Shapes.{shape_of}
+use Rattle.ygg_type_sound.specs.Scopes.{Scope, sees, seen_variable, is_taken, seen_as}
+use Rattle.ygg_type_sound.specs.Definitions.{type_text_errors, with_parameter, with_parameters, parameters_errors}
+use Rattle.ygg_type_sound.specs.Layers.{Below, with_variable, with_variables, variables_errors, variables_of, layer_scope, declared_errors}
 use Rattle.ygg_meaning.specs.Environments.{Name, Env, bind}
 use Rattle.ygg_meaning.specs.Meaning.{Functions}
 use Rattle.ygg_meaning.specs.Shapes.{shape_in, fits, values_fit, env_fits, zeros_of}

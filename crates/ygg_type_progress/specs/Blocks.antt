@@ -4,9 +4,9 @@ use Rattle.ygg_value.specs.declared.shape.Shape.{Shape}
 use Rattle.ygg_syntax.specs.declared.grammar.BlockKind.{BlockKind}
 use Rattle.ygg_syntax.specs.declared.tree.Expr.{Expr}
 use Rattle.ygg_syntax.specs.declared.tree.Block.{Block}
-use Rattle.ygg_type_rules.specs.TypeErrors.{none}
-use Rattle.ygg_type_rules.specs.Scopes.{Scope}
-use Rattle.ygg_type_rules.specs.Statements.{block_errors}
+use Rattle.ygg_type_sound.specs.TypeErrors.{none}
+use Rattle.ygg_type_sound.specs.Scopes.{Scope}
+use Rattle.ygg_type_sound.specs.Statements.{block_errors}
 use Rattle.ygg_meaning.specs.Environments.{Env}
 use Rattle.ygg_meaning.specs.Meaning.{Functions, value_with}
 use Rattle.ygg_meaning.specs.Progress.{Eval, Question, Answer, Progress, Asks, Ends, after}

@@ -3,8 +3,8 @@ use Rattle.std.specs.Prelude.{◌≡◌, IsTrue, All, List, ◌++◌}
 use Rattle.ygg_syntax.specs.declared.tree.DiskText.{DiskText}
 use Rattle.ygg_syntax.specs.declared.tree.File.{File}
 use Rattle.ygg_syntax.specs.Files.{IsDerived}
-use Rattle.ygg_type_rules.specs.TypeErrors.{none}
-use Rattle.ygg_type_rules.specs.Files.{IsTyped, disk_errors}
+use Rattle.ygg_type_sound.specs.TypeErrors.{none}
+use Rattle.ygg_type_sound.specs.Files.{IsTyped, disk_errors}
 use Rattle.ygg_meaning.specs.Environments.{Env}
 use Rattle.ygg_meaning.specs.Machine.{State}
 use Rattle.ygg_meaning.specs.DiskMachine.{DiskMachine}

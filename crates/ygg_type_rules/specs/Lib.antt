@@ -1,3 +1,4 @@
+pub use Rattle.ygg_syntax_count.specs.Weights
 pub mod TypeErrors
 pub mod Limits
 pub mod Shapes

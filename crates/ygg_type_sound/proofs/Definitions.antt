@@ -4,12 +4,12 @@ use Rattle.std.specs.Prelude.{◌&&◌, not}
 use Rattle.std.specs.Str.{bytes_eq}
 use Rattle.std.proofs.lemmas.List.{append-nil, reverse-append}
 use Rattle.ygg_base.specs.declared.reason.Reason.TheVariants as reason
-use Rattle.ygg_syntax.specs.declared.tree.Declared.{Declared}
-use Rattle.ygg_syntax.specs.declared.tree.Def.{Def}
-use Rattle.ygg_syntax.specs.declared.tree.Expr.{Expr}
+use Rattle.ygg_meaning.specs.Declared.{Declared}
+use Rattle.ygg_meaning.specs.Def.{Def}
+use Rattle.ygg_meaning.specs.Expr.{Expr}
 use Rattle.ygg_value.specs.declared.shape.Shape.{Shape}
 use Rattle.ygg_value.specs.declared.row.Value.{Value}
-use Rattle.ygg_syntax_count.specs.Weights.{weights_of, expr_weight}
+use Rattle.ygg_type_rules.specs.Weights.{weights_of, expr_weight}
 use Rattle.ygg_symbols.specs.Names.{Named, look_up, has}
 use Rattle.ygg_type_rules.specs.declared.scope.Signature.{Signature}
 use Rattle.ygg_type_rules.specs.TypeErrors.{none, unless}

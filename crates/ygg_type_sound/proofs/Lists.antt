@@ -33,8 +33,8 @@ use Rattle.std.proofs.lemmas.Bool.{eqb-true, and_from, cases_lt}
 use Rattle.std.proofs.lemmas.Option.{slice_get-get_or}
 use Rattle.std.proofs.lemmas.List.Elements.{All-cons, All-nil, All-head, All-tail}
 use Rattle.ygg_base.specs.declared.reason.Reason.TheVariants as reason
-use Rattle.ygg_syntax.specs.declared.tree.Place.{Place}
-use Rattle.ygg_syntax.specs.declared.tree.Name.{Name}
+use Rattle.ygg_meaning.specs.Place.{Place}
+use Rattle.ygg_meaning.specs.Name.{Name}
 use Rattle.ygg_value.specs.Number.{IsRow}
 use Rattle.ygg_value.specs.Values.{word_in}
 use Rattle.ygg_value.specs.Shapes.{IsValue, shape_of}

@@ -4,9 +4,9 @@ use Rattle.std.specs.Prelude.{◌&&◌, not, nat_le}
 use Rattle.std.proofs.lemmas.Bool.{leb-true, and_from}
 use Rattle.std.proofs.lemmas.List.{append-nil}
 use Rattle.ygg_base.specs.declared.reason.Reason.TheVariants as reason
-use Rattle.ygg_syntax.specs.declared.tree.TypeText.{TypeText}
-use Rattle.ygg_syntax.specs.declared.tree.TypeText.TheVariants as text
-use Rattle.ygg_syntax.specs.declared.tree.Declared.{Declared}
+use Rattle.ygg_meaning.specs.TypeText.{TypeText}
+use Rattle.ygg_meaning.specs.TypeText.TheVariants as text
+use Rattle.ygg_meaning.specs.Declared.{Declared}
 use Rattle.ygg_value.specs.Shapes.{IsShape, Within}
 use Rattle.ygg_value.specs.declared.row.Value.{Value}
 use Rattle.ygg_value.specs.declared.shape.Shape.TheVariants as shape

@@ -1,14 +1,14 @@
 -- What is known of the parts of an expression without a type error, and of their values.
 use Rattle.std.proofs.Common.{◌≡◌, ℕ, ◌<◌, ◌^◌, true, false, List, [], ◌∷◌, map, All, Some, sym, ap, ◌∙◌, subst}
 use Rattle.std.proofs.lemmas.List.Elements.{All-cons, All-nil}
-use Rattle.ygg_syntax.specs.declared.tree.Place.{Place}
-use Rattle.ygg_syntax.specs.declared.tree.Name.{Name}
-use Rattle.ygg_syntax.specs.declared.tree.Numeral.{Numeral}
-use Rattle.ygg_syntax.specs.declared.tree.Quantifier.{Quantifier}
-use Rattle.ygg_syntax.specs.declared.tree.Expr.{Expr}
-use Rattle.ygg_syntax.specs.declared.tree.Expr.TheVariants as tree
-use Rattle.ygg_syntax.specs.declared.tree.Expr.TheOpen.{Expr-F}
-use Rattle.ygg_syntax.specs.declared.tree.Expr.TheFolds.{fold-roll-Expr}
+use Rattle.ygg_meaning.specs.Place.{Place}
+use Rattle.ygg_meaning.specs.Name.{Name}
+use Rattle.ygg_meaning.specs.Numeral.{Numeral}
+use Rattle.ygg_meaning.specs.Quantifier.{Quantifier}
+use Rattle.ygg_meaning.specs.Expr.{Expr}
+use Rattle.ygg_meaning.specs.Expr.TheVariants as tree
+use Rattle.ygg_meaning.specs.Expr.TheOpen.{Expr-F}
+use Rattle.ygg_meaning.specs.Expr.TheFolds.{fold-roll-Expr}
 use Rattle.ygg_value.specs.declared.operation.Op.{Op}
 use Rattle.ygg_value.specs.declared.row.Value.{Value}
 use Rattle.ygg_value.specs.Shapes.{shape_of}

@@ -31,9 +31,9 @@ use Rattle.std.proofs.lemmas.List.{length-replicate, get_or_past}
 use Rattle.std.proofs.lemmas.List.Elements.{All-get_or, All-replicate}
 use Rattle.ygg_base.specs.declared.reason.Reason.{Reason}
 use Rattle.ygg_base.specs.declared.reason.Reason.TheVariants as reason
-use Rattle.ygg_syntax.specs.declared.tree.Place.{Place}
-use Rattle.ygg_syntax.specs.declared.tree.Name.{Name}
-use Rattle.ygg_syntax.specs.declared.tree.Numeral.{Numeral}
+use Rattle.ygg_meaning.specs.Place.{Place}
+use Rattle.ygg_meaning.specs.Name.{Name}
+use Rattle.ygg_meaning.specs.Numeral.{Numeral}
 use Rattle.ygg_value.specs.declared.operation.Op.{Op}
 use Rattle.ygg_value.specs.declared.operation.Op.TheVariants.{Add, Sub, Mul, And, Or, Xor, Shl, Shr, Eq, Ne, Lt, Le, Gt, Ge, Imp}
 use Rattle.ygg_value.specs.Number.{Digits, Grid, IsTable}

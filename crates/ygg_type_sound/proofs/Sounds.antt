@@ -2,10 +2,10 @@
 use Rattle.std.proofs.Common.{◌≡◌, ℕ, true, List, [], ◌∷◌, map, Option, Some, None, refl, sym, subst}
 use Rattle.std.specs.Prelude.{◌&&◌}
 use Rattle.std.proofs.lemmas.Nat.{pow_pos}
-use Rattle.ygg_syntax.specs.declared.tree.Name.{Name}
-use Rattle.ygg_syntax.specs.declared.tree.Expr.{Expr, roll-Expr, map-Expr}
-use Rattle.ygg_syntax.specs.declared.tree.Expr.TheOpen.{Expr-F}
-use Rattle.ygg_syntax.specs.declared.tree.Expr.TheFolds.{ind-Expr, fold-roll-Expr}
+use Rattle.ygg_meaning.specs.Name.{Name}
+use Rattle.ygg_meaning.specs.Expr.{Expr, roll-Expr, map-Expr}
+use Rattle.ygg_meaning.specs.Expr.TheOpen.{Expr-F}
+use Rattle.ygg_meaning.specs.Expr.TheFolds.{ind-Expr, fold-roll-Expr}
 use Rattle.ygg_value.specs.declared.row.Value.{Value}
 use Rattle.ygg_value.specs.declared.shape.Shape.{Shape}
 use Rattle.ygg_value.specs.declared.shape.Shape.TheVariants.{Word}

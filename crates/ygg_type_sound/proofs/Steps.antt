@@ -3,8 +3,8 @@ use Rattle.std.proofs.Common.{◌≡◌, ℕ, ◌<◌, ◌^◌, Bool, true, fals
 use Rattle.std.specs.Prelude.{◌||◌}
 use Rattle.std.specs.Str.{bytes_eq}
 use Rattle.std.proofs.lemmas.Bool.{or_parts}
-use Rattle.ygg_syntax.specs.declared.tree.Name.{Name}
-use Rattle.ygg_syntax.specs.declared.tree.Numeral.{Numeral}
+use Rattle.ygg_meaning.specs.Name.{Name}
+use Rattle.ygg_meaning.specs.Numeral.{Numeral}
 use Rattle.ygg_value.specs.Words.{word}
 use Rattle.ygg_value.specs.declared.row.Value.{Value}
 use Rattle.ygg_value.specs.declared.row.Value.TheVariants as value

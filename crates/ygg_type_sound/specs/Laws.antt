@@ -1,7 +1,7 @@
 -- Laws of typing and values.
 use Rattle.std.specs.Prelude.{◌≡◌, ℕ, IsTrue, List, [], Some}
-use Rattle.ygg_syntax.specs.declared.tree.Def.{Def}
-use Rattle.ygg_syntax.specs.declared.tree.Expr.{Expr}
+use Rattle.ygg_meaning.specs.Def.{Def}
+use Rattle.ygg_meaning.specs.Expr.{Expr}
 use Rattle.ygg_symbols.specs.Names.{look_up}
 use Rattle.ygg_type_rules.specs.declared.scope.Signature.{Signature}
 use Rattle.ygg_type_rules.specs.TypeErrors.{none}

@@ -1,6 +1,6 @@
 use Rattle.std.proofs.Common.{◌≡◌, List, ◌++◌}
 use Rattle.ygg_dimacs.specs.Sizes.{left_size}
-use Rattle.ygg_dimacs.specs.Places.{Place, Word}
+use Rattle.ygg_dimacs.specs.Places.{TextPlace, TextWord}
 use Rattle.ygg_dimacs.specs.Words.{words_of_all}
 use Rattle.ygg_dimacs.specs.Left.{left_content, left_end}
 use Rattle.ygg_dimacs.specs.States.{IsReady, read_on}
@@ -12,7 +12,7 @@ invariant-loop-line l = record {
   ready : IsReady l.state;
   variables : l.state.variables ≡ l.initial.state.variables;
   ends : left_end l.fn.rest ≡ left_end l.left;
-  on : (end : Place) (ws : List Word) → read_on l.initial.state end (words_of_all (left_content l.fn.rest) ++ ws)
+  on : (end : TextPlace) (ws : List TextWord) → read_on l.initial.state end (words_of_all (left_content l.fn.rest) ++ ws)
       ≡ read_on l.state end (words_of_all (left_content l.left) ++ ws);
 }
 

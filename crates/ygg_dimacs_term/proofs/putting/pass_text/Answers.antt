@@ -14,5 +14,6 @@ returns-in-Ok-pass_gates-clause-told g c =
 
 pub returns-clause-told : goal.returns-clause-told
 returns-clause-told g c =
-    text_cut (g.K.Sink.taken c.args.sink.now) (g.K.Sink.taken c.pass_gates.new.sink) c.in-Ok.kept c.pass_gates.new.kept c.args.gates.now c.args.goal c.args.total
+    text_cut (g.K.Sink.taken c.args.sink.now) (g.K.Sink.taken c.pass_gates.new.sink) c.in-Ok.kept c.pass_gates.new.kept c.args.gates.now
+    c.args.goal c.args.total
     (Rose (g.K.Sink.faults c.args.sink.now) (g.K.Sink.faults c.pass_gates.new.sink)) c.in-Err.status c.requires.counted c.in-Ok.ensures c.in-Err.ensures.told

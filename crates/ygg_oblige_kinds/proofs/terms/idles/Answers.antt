@@ -4,7 +4,7 @@ use Rattle.ygg_bank.specs.Makes.{Out}
 use Rattle.ygg_bank.specs.declared.node.Id.{Id}
 use Rattle.ygg_sym_below.proofs.Lows.{low_wider}
 use Rattle.ygg_sym_runs.proofs.Singles.{single_less}
-use Rattle.ygg_sym_spec.specs.Layers.{closed, terms_in}
+use Rattle.ygg_oblige_parts.specs.Layers.{closed, terms_in}
 use Rattle.ygg_oblige_parts.specs.Sites.{below_in}
 use Rattle.ygg_oblige_kinds.proofs.Sites.{below_fits}
 use Rattle.ygg_meaning.specs.Obligations.{Idle}

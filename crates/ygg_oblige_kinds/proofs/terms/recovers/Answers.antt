@@ -3,7 +3,7 @@ use Rattle.ygg_bank.proofs.Widths.{extends_both, wider}
 use Rattle.ygg_bank.specs.Makes.{Out}
 use Rattle.ygg_bank.specs.declared.node.Id.{Id}
 use Rattle.ygg_sym_below.proofs.Lows.{low_wider}
-use Rattle.ygg_sym_spec.specs.Layers.{closed, terms_in}
+use Rattle.ygg_oblige_parts.specs.Layers.{closed, terms_in}
 use Rattle.ygg_oblige_parts.specs.Sites.{below_in}
 use Rattle.ygg_oblige_terms.specs.Numbers.{arguments_of}
 use Rattle.ygg_oblige_terms.specs.States.{settled_made}

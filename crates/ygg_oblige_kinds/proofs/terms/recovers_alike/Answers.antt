@@ -4,7 +4,7 @@ use Rattle.ygg_bank.specs.Makes.{Out}
 use Rattle.ygg_bank.specs.declared.node.Id.{Id}
 use Rattle.ygg_sym_below.proofs.Lows.{low_wider}
 use Rattle.ygg_sym_runs.proofs.Singles.{single_less}
-use Rattle.ygg_sym_spec.specs.Layers.{closed, terms_in}
+use Rattle.ygg_oblige_parts.specs.Layers.{closed, terms_in}
 use Rattle.ygg_oblige_parts.specs.Sites.{below_in}
 use Rattle.ygg_oblige_terms.specs.States.{all_compared, settled_made}
 use Rattle.ygg_oblige_terms.specs.Terms.{recovered}
@@ -100,4 +100,5 @@ pub returns-clause-grows : goal.returns-clause-grows
 returns-clause-grows g c =
     extends_both c.args.bank.now c.recovered.new.bank c.join.new.bank c.recovered.ensures.grows
     (extends_both c.recovered.new.bank c.recovered-2.new.bank c.join.new.bank c.recovered-2.ensures.grows
-    (extends_both c.recovered-2.new.bank c.settled.new.bank c.join.new.bank c.settled.ensures.grows (extends_both c.settled.new.bank c.same_ends.new.bank c.join.new.bank c.same_ends.ensures.grows c.join.ensures.grows)))
+    (extends_both c.recovered-2.new.bank c.settled.new.bank c.join.new.bank c.settled.ensures.grows
+    (extends_both c.settled.new.bank c.same_ends.new.bank c.join.new.bank c.same_ends.ensures.grows c.join.ensures.grows)))

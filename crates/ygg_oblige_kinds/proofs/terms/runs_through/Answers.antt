@@ -7,7 +7,7 @@ use Rattle.ygg_sym_below.specs.Lows.{LowShaped}
 use Rattle.ygg_sym_below.proofs.Lows.{low_wider}
 use Rattle.ygg_sym_expr.specs.Names.{sym_bind}
 use Rattle.ygg_sym_laws.specs.Below.{run_made}
-use Rattle.ygg_sym_spec.specs.Layers.{closed, terms_in}
+use Rattle.ygg_oblige_parts.specs.Layers.{closed, terms_in}
 use Rattle.ygg_oblige_parts.specs.Sites.{below_in}
 use Rattle.ygg_oblige_parts.specs.SymBlock.{SymBlock}
 use Rattle.ygg_oblige_terms.specs.Numbers.{arguments_of, block_of}

@@ -1,7 +1,7 @@
 use Rattle.std.proofs.Common.{◌≡◌, List, OnOk, IfOk, sym, subst, arith}
 use Rattle.ygg_bank.specs.Makes.{Out}
 use Rattle.ygg_bank.specs.declared.node.Id.{Id}
-use Rattle.ygg_sym_spec.specs.Layers.{closed}
+use Rattle.ygg_oblige_parts.specs.Layers.{closed}
 use Rattle.ygg_syntax.specs.declared.tree.Declared.{Declared}
 use Rattle.ygg_oblige_terms.specs.Layers.{ShapesKept}
 use Rattle.ygg_oblige_terms.specs.Numbers.{arguments_of}

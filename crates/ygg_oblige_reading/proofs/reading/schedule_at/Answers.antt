@@ -7,7 +7,7 @@ use Rattle.ygg_eval_choices.proofs.Noting.{if_ok}
 use Rattle.ygg_oblige_typed.proofs.Files.{typed_layers}
 use Rattle.ygg_oblige_typed.specs.Layers.{LayersTyped}
 use Rattle.ygg_oblige_places.specs.Sites.{IsPlaced}
-use Rattle.ygg_oblige_reading.specs.declared.reader.Reader.{Reader}
+use Rattle.ygg_oblige_reading.specs.declared.reader.EnvironmentReader.{EnvironmentReader}
 use Rattle.ygg_oblige_reading.proofs.Exactly.{exactly_so, shaped_so}
 use Rattle.ygg_oblige_reading.proofs.Placed.{fitted, here, named, named_shaped, stands}
 use Rattle.ygg_oblige_reading.proofs.reading.schedule_at.Goals as goal
@@ -43,7 +43,7 @@ schedule-requires-clause-fit g c =
     let shaped = shaped_so kinds f (derivable_derived f c.file-file.ensures.derivable) c.file-file.ensures.typed (inputs_of c.args.env.now) c.requires.fit
     c.args.place in
     let placed = subst (λ (z : File). IsPlaced kinds z c.args.place c.in_ok-site.site) c.file-file.ensures.same c.in_ok-site.ensures in
-    let r : Reader =
+    let r : EnvironmentReader =
     record {
       alloc = c.args.alloc;
       typed = c.args.typed;

@@ -3,7 +3,7 @@ use Rattle.ygg_base.specs.Outside.{Rose}
 use Rattle.ygg_type_rules.specs.Files.{type_errors_of}
 use Rattle.ygg_type.proofs.Least.{is_empty}
 use Rattle.ygg_run_text.specs.Played.{Noted}
-use Rattle.ygg_run_play.specs.declared.halting.Halted.{Halted}
+use Rattle.ygg_run_play.specs.declared.halting.PlayHalted.{PlayHalted}
 use Rattle.ygg_run_play.specs.Playing.{IsPlayed}
 use Rattle.ygg_run.proofs.Plays.{fault_puts, memory_puts, not_missed}
 use Rattle.ygg_run.proofs.playing.put_whole.Goals as goal
@@ -15,9 +15,10 @@ unreachable-requires g c =
     let before = g.K.Sink.taken c.args.sink.now in
     let now = g.K.Sink.taken c.play_in_memory.new.sink in
     let SinkRose = Rose (g.K.Sink.faults c.args.sink.now) (g.K.Sink.faults c.play_in_memory.new.sink) in
-    not_missed f (is_empty (type_errors_of f) c.args.typed.now.typed) script before now SinkRose c.requires.plays.0 c.requires.plays.1 c.in-Err-Unreached.field-0-0
-    (subst (λ (result : Result (Unit {0}) Halted). IsPlayed (Noted f) f script before now SinkRose result)
-    (c.in-Err-Unreached.is ∙ ap (λ (h : Halted). Err h) c.in-Err-Unreached.field-0-is) c.play_in_memory.ensures.played)
+    not_missed f (is_empty (type_errors_of f) c.args.typed.now.typed) script before now SinkRose c.requires.plays.0 c.requires.plays.1
+    c.in-Err-Unreached.field-0-0
+    (subst (λ (result : Result (Unit {0}) PlayHalted). IsPlayed (Noted f) f script before now SinkRose result)
+    (c.in-Err-Unreached.is ∙ ap (λ (h : PlayHalted). Err h) c.in-Err-Unreached.field-0-is) c.play_in_memory.ensures.played)
 
 pub returns-in-Err-SinkFailed-clause-put : goal.returns-in-Err-SinkFailed-clause-put
 returns-in-Err-SinkFailed-clause-put g c =
@@ -27,8 +28,8 @@ returns-in-Err-SinkFailed-clause-put g c =
     let now = g.K.Sink.taken c.play_in_memory.new.sink in
     let SinkRose = Rose (g.K.Sink.faults c.args.sink.now) (g.K.Sink.faults c.play_in_memory.new.sink) in
     fault_puts f (is_empty (type_errors_of f) c.args.typed.now.typed) script before now SinkRose c.requires.plays.0 c.requires.plays.1
-    (subst (λ (result : Result (Unit {0}) Halted). IsPlayed (Noted f) f script before now SinkRose result)
-    (c.in-Err-SinkFailed.is ∙ ap (λ (h : Halted). Err h) c.in-Err-SinkFailed.field-0-is) c.play_in_memory.ensures.played)
+    (subst (λ (result : Result (Unit {0}) PlayHalted). IsPlayed (Noted f) f script before now SinkRose result)
+    (c.in-Err-SinkFailed.is ∙ ap (λ (h : PlayHalted). Err h) c.in-Err-SinkFailed.field-0-is) c.play_in_memory.ensures.played)
 
 pub returns-in-Err-Memory-clause-put : goal.returns-in-Err-Memory-clause-put
 returns-in-Err-Memory-clause-put g c =
@@ -38,5 +39,5 @@ returns-in-Err-Memory-clause-put g c =
     let now = g.K.Sink.taken c.play_in_memory.new.sink in
     let SinkRose = Rose (g.K.Sink.faults c.args.sink.now) (g.K.Sink.faults c.play_in_memory.new.sink) in
     memory_puts f (is_empty (type_errors_of f) c.args.typed.now.typed) script before now SinkRose c.requires.plays.0 c.requires.plays.1
-    (subst (λ (result : Result (Unit {0}) Halted). IsPlayed (Noted f) f script before now SinkRose result)
-    (c.in-Err-Memory.is ∙ ap (λ (h : Halted). Err h) c.in-Err-Memory.field-0-is) c.play_in_memory.ensures.played)
+    (subst (λ (result : Result (Unit {0}) PlayHalted). IsPlayed (Noted f) f script before now SinkRose result)
+    (c.in-Err-Memory.is ∙ ap (λ (h : PlayHalted). Err h) c.in-Err-Memory.field-0-is) c.play_in_memory.ensures.played)

@@ -3,7 +3,8 @@ use Rattle.ygg_base.specs.Outside.{Rose}
 use Rattle.ygg_machine.specs.Viewed.{floor_seen}
 use Rattle.ygg_script.specs.declared.command.Command.{Command}
 use Rattle.ygg_run_commands.specs.Doing.{FaultsRose}
-use Rattle.ygg_run_commands.proofs.Going.{Going, going_first, going_more, next_fits, next_plain, not_woken, not_up, not_answered, ran_all, no_commands, rose_since}
+use Rattle.ygg_run_commands.proofs.Going.{Going, going_first, going_more, next_fits, next_plain}
+use Rattle.ygg_run_commands.proofs.Going.{not_woken, not_up, not_answered, ran_all, no_commands, rose_since}
 use Rattle.ygg_run_commands.proofs.running.run_on.Goals as goal
 
 pub returns-in_err-wake-clause-run : goal.returns-in_err-wake-clause-run

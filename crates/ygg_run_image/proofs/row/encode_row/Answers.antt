@@ -19,7 +19,8 @@ loop-place-preserved c =
     let width : c.word.inside.width ≡ g.width = ap (λ (w : Number). w.width) (c.word.view_is ∙ c.row_read-word.ensures) ∙ c.requires.row.width in
     let fits : get_or words place 0 < 2 ^ g.width = subst (λ n. n < 2 ^ g.width) bits (subst (λ w. c.word.inside.bits < 2 ^ w) width c.word.invariant.fits) in (
       c.put_number.ensures
-          ∙ begun-step g words place c.word_size-size.result c.word.inside.bits c.loop-place.block c.word_size-size.ensures.bytes bits c.loop-place.invariant.0 less,
+          ∙ begun-step g words place c.word_size-size.result c.word.inside.bits c.loop-place.block c.word_size-size.ensures.bytes
+          bits c.loop-place.invariant.0 less,
       fits-next words place (2 ^ g.width) c.loop-place.invariant.1 fits,
     )
 

@@ -22,8 +22,10 @@ returns g c =
     let M = g.S.Scene.machine f in
     let from = g.S.Scene.state f c.args.scene.now in
     let deed = calling (operation_name f c.args.op) c.args.args.now in
-    line_done M f (Call c.args.op c.args.args.now) deed command_end (call_line f c.args.op c.args.args.now) c.args.power.now c.call.new.power from (g.S.Scene.state f c.counted.new.scene)
+    line_done M f (Call c.args.op c.args.args.now) deed command_end (call_line f c.args.op c.args.args.now) c.args.power.now
+    c.call.new.power from (g.S.Scene.state f c.counted.new.scene)
     (g.S.Scene.runs f c.counted.new.scene) (g.S.Scene.stands f c.counted.new.scene) c.args.lines.now c.counted.new.lines c.end_command.new.lines
     c.in_ok-outcome-2.outcome
-    (c.in_ok-outcome-2.ensures.counted f deed from c.args.power.now (call_cut M f c.args.op c.args.args.now) c.requires.ready c.in_ok-outcome.ensures.ends c.in_ok-outcome.ensures.after)
+    (c.in_ok-outcome-2.ensures.counted f deed from c.args.power.now (call_cut M f c.args.op c.args.args.now) c.requires.ready
+    c.in_ok-outcome.ensures.ends c.in_ok-outcome.ensures.after)
     c.in_ok-end_command.ensures

@@ -11,7 +11,8 @@ returns-in_err-outcome-2 g c =
     let M = g.S.Scene.machine f in
     let from = g.S.Scene.state f c.args.scene.now in
     let deed = ticking (tick_name f c.args.layer c.args.number) in
-    line_halted M f (Tick c.args.layer c.args.number) deed command_end (tick_line f c.args.layer c.args.number) c.args.line c.args.power.now c.tick.new.power from
+    line_halted M f (Tick c.args.layer c.args.number) deed command_end (tick_line f c.args.layer c.args.number) c.args.line
+    c.args.power.now c.tick.new.power from
     (g.S.Scene.state f c.counted.new.scene) (g.S.Scene.runs f c.counted.new.scene) (g.S.Scene.stands f c.counted.new.scene) c.args.lines.now
     c.counted.new.lines c.in_err-outcome-2.field-0.0 c.from_residual-in_err-outcome-2.result c.from_residual-in_err-outcome-2.ensures.1
     (c.in_err-outcome-2.ensures.halted f deed from c.args.power.now c.requires.ready c.in_ok-outcome.ensures.ends)
@@ -22,8 +23,10 @@ returns g c =
     let M = g.S.Scene.machine f in
     let from = g.S.Scene.state f c.args.scene.now in
     let deed = ticking (tick_name f c.args.layer c.args.number) in
-    line_done M f (Tick c.args.layer c.args.number) deed command_end (tick_line f c.args.layer c.args.number) c.args.power.now c.tick.new.power from (g.S.Scene.state f c.counted.new.scene)
+    line_done M f (Tick c.args.layer c.args.number) deed command_end (tick_line f c.args.layer c.args.number) c.args.power.now
+    c.tick.new.power from (g.S.Scene.state f c.counted.new.scene)
     (g.S.Scene.runs f c.counted.new.scene) (g.S.Scene.stands f c.counted.new.scene) c.args.lines.now c.counted.new.lines c.end_command.new.lines
     c.in_ok-outcome-2.outcome
-    (c.in_ok-outcome-2.ensures.counted f deed from c.args.power.now (tick_cut M f c.args.layer c.args.number) c.requires.ready c.in_ok-outcome.ensures.ends c.in_ok-outcome.ensures.after)
+    (c.in_ok-outcome-2.ensures.counted f deed from c.args.power.now (tick_cut M f c.args.layer c.args.number) c.requires.ready
+    c.in_ok-outcome.ensures.ends c.in_ok-outcome.ensures.after)
     c.in_ok-end_command.ensures

@@ -172,25 +172,31 @@ pub returns-in_err-no-in-Split-clause-inputs : goal.returns-in_err-no-in-Split-c
 returns-in_err-no-in-Split-clause-inputs g t c = λ next h. c.same_within-in-Split.ensures.inputs next (c.same_within.ensures.inputs next h)
 
 pub returns-in_err-answer-in-Split-clause-inputs : goal.returns-in_err-answer-in-Split-clause-inputs
-returns-in_err-answer-in-Split-clause-inputs g t c = λ next h. c.pick.ensures.inputs next (c.same_within-in-Split.ensures.inputs next (c.same_within.ensures.inputs next h))
+returns-in_err-answer-in-Split-clause-inputs g t c = λ next h. c.pick.ensures.inputs next
+    (c.same_within-in-Split.ensures.inputs next (c.same_within.ensures.inputs next h))
 
 pub returns-in_err-learn-in-Split-clause-inputs : goal.returns-in_err-learn-in-Split-clause-inputs
-returns-in_err-learn-in-Split-clause-inputs g t c = λ next h. c.pick.ensures.inputs next (c.same_within-in-Split.ensures.inputs next (c.same_within.ensures.inputs next h))
+returns-in_err-learn-in-Split-clause-inputs g t c = λ next h. c.pick.ensures.inputs next
+    (c.same_within-in-Split.ensures.inputs next (c.same_within.ensures.inputs next h))
 
 pub returns-in_ok-learn-in-Split-clause-inputs : goal.returns-in_ok-learn-in-Split-clause-inputs
-returns-in_ok-learn-in-Split-clause-inputs g t c = λ next h. c.pick.ensures.inputs next (c.same_within-in-Split.ensures.inputs next (c.same_within.ensures.inputs next h))
+returns-in_ok-learn-in-Split-clause-inputs g t c = λ next h. c.pick.ensures.inputs next
+    (c.same_within-in-Split.ensures.inputs next (c.same_within.ensures.inputs next h))
 
 pub returns-in_err-second-in-Either-clause-inputs : goal.returns-in_err-second-in-Either-clause-inputs
 returns-in_err-second-in-Either-clause-inputs g t c = λ next h. c.same_within-in-Either-2.ensures.inputs next (c.same_within-in-Either.ensures.inputs next h)
 
 pub returns-in_err-answer-in-Either-clause-inputs : goal.returns-in_err-answer-in-Either-clause-inputs
-returns-in_err-answer-in-Either-clause-inputs g t c = λ next h. c.either.ensures.inputs next (c.same_within-in-Either-2.ensures.inputs next (c.same_within-in-Either.ensures.inputs next h))
+returns-in_err-answer-in-Either-clause-inputs g t c = λ next h. c.either.ensures.inputs next
+    (c.same_within-in-Either-2.ensures.inputs next (c.same_within-in-Either.ensures.inputs next h))
 
 pub returns-in_err-learn-in-Either-clause-inputs : goal.returns-in_err-learn-in-Either-clause-inputs
-returns-in_err-learn-in-Either-clause-inputs g t c = λ next h. c.either.ensures.inputs next (c.same_within-in-Either-2.ensures.inputs next (c.same_within-in-Either.ensures.inputs next h))
+returns-in_err-learn-in-Either-clause-inputs g t c = λ next h. c.either.ensures.inputs next
+    (c.same_within-in-Either-2.ensures.inputs next (c.same_within-in-Either.ensures.inputs next h))
 
 pub returns-in_ok-learn-in-Either-clause-inputs : goal.returns-in_ok-learn-in-Either-clause-inputs
-returns-in_ok-learn-in-Either-clause-inputs g t c = λ next h. c.either.ensures.inputs next (c.same_within-in-Either-2.ensures.inputs next (c.same_within-in-Either.ensures.inputs next h))
+returns-in_ok-learn-in-Either-clause-inputs g t c = λ next h. c.either.ensures.inputs next
+    (c.same_within-in-Either-2.ensures.inputs next (c.same_within-in-Either.ensures.inputs next h))
 
 pub returns-in_err-answer-in-Against-clause-inputs : goal.returns-in_err-answer-in-Against-clause-inputs
 returns-in_err-answer-in-Against-clause-inputs g t c = λ next h. c.same_within-in-Against.ensures.inputs next (c.make-in-Against.ensures.inputs next h)

@@ -1,6 +1,6 @@
 use Rattle.std.proofs.Common.{List, subst}
 use Rattle.ygg_syntax.specs.declared.tree.Declared.{Declared}
-use Rattle.ygg_sym_below.specs.Lows.{LowShaped}
+use Rattle.ygg_sym_disk.specs.SymBelowLows.{LowShaped}
 use Rattle.ygg_sym_runs.proofs.Zeros.{single_both}
 use Rattle.ygg_sym.proofs.begun.start.Goals as goal
 

@@ -1,7 +1,7 @@
 use Rattle.std.proofs.Common.{sym, ap, subst, ◌∙◌}
 use Rattle.ygg_sym_expr.specs.Names.{sym_bind}
 use Rattle.ygg_sym_expr.specs.Seen.{env_of}
-use Rattle.ygg_sym_laws.specs.Means.{values_in}
+use Rattle.ygg_sym_laws_disk.specs.Means.{values_in}
 use Rattle.ygg_sym_cut.specs.Ready.{CanWhole}
 use Rattle.ygg_sym.proofs.Ran.{bound_many}
 use Rattle.ygg_sym.proofs.running.run_with.Goals as goal

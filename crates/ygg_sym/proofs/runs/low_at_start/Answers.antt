@@ -2,7 +2,7 @@ use Rattle.std.proofs.Common.{◌≡◌, List, OnOk, IfOk, subst, sym}
 use Rattle.ygg_bank.specs.Makes.{Out}
 use Rattle.ygg_syntax.specs.declared.tree.Declared.{Declared}
 use Rattle.ygg_shape_cells.specs.declared.terms.SymValue.{SymValue}
-use Rattle.ygg_sym_below.specs.Lows.{LowShaped}
+use Rattle.ygg_sym_disk.specs.SymBelowLows.{LowShaped}
 use Rattle.ygg_sym.specs.Sites.{BelowFits}
 use Rattle.ygg_sym.specs.declared.below.SymBelow.TheVariants.{Layer}
 use Rattle.ygg_sym.proofs.Losing.{disk_begun, lows_are, spec_begun}

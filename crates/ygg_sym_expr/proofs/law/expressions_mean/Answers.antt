@@ -1,6 +1,6 @@
 use Rattle.std.proofs.Common.{[], reverse}
-use Rattle.ygg_type_rules.specs.Definitions.{with_definitions}
-use Rattle.ygg_meaning.specs.Meaning.{functions_of}
+use Rattle.ygg_type_sound.specs.Definitions.{with_definitions}
+use Rattle.ygg_type_sound.specs.Meaning.{functions_of}
 use Rattle.ygg_bank.proofs.Exist.{values_fit}
 use Rattle.ygg_bank.specs.Values.{value_of}
 use Rattle.ygg_sym_expr.specs.Exprs.{sym_value, sym_functions}

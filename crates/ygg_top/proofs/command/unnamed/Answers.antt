@@ -2,7 +2,7 @@ use Rattle.std.proofs.Common.{refl, ap}
 use Rattle.ygg_base.specs.Outside.{Rose}
 use Rattle.ygg_report.specs.Putting.{NoFront}
 use Rattle.ygg_report.specs.Lines.{refused_line}
-use Rattle.ygg_top_command.specs.declared.stopping.Stop.TheVariants.{Refused}
+use Rattle.ygg_top_command.specs.declared.stopping.CommandStop.TheVariants.{Refused}
 use Rattle.ygg_top_command.proofs.Telling.{stop_told}
 use Rattle.ygg_top.specs.Ending.{NamesNone}
 use Rattle.ygg_top.proofs.command.unnamed.Goals as goal

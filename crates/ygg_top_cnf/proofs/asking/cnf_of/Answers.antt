@@ -1,7 +1,7 @@
 use Rattle.ygg_base.specs.Outside.{Rose}
 use Rattle.ygg_report.specs.Putting.{IsCutOf}
 use Rattle.ygg_dimacs_oblige.specs.Printed.{Printed}
-use Rattle.ygg_top_command.specs.declared.stopping.Stop.TheVariants.{Refused}
+use Rattle.ygg_top_command.specs.declared.stopping.CommandStop.TheVariants.{Refused}
 use Rattle.ygg_top_command.proofs.Telling.{puts_told, stop_told}
 use Rattle.ygg_top_cnf.specs.Asking.{Asks, IsCutAsking}
 use Rattle.ygg_top_cnf.proofs.Asked.{has_name, has_none, asked, front_asked, unnamed}

@@ -1,6 +1,6 @@
 use Rattle.std.proofs.Common.{refl, subst, inl, inr}
 use Rattle.ygg_base.specs.Outside.{Rose}
-use Rattle.ygg_top_command.specs.declared.stopping.Stop.TheVariants.{Refused}
+use Rattle.ygg_top_command.specs.declared.stopping.CommandStop.TheVariants.{Refused}
 use Rattle.ygg_top_command.specs.Reports.{EndsBy}
 use Rattle.ygg_top_command.proofs.Telling.{puts_told, stop_told}
 use Rattle.ygg_run.specs.Playing.{PlaysTo, IsFrontOfPlay}

@@ -1,6 +1,6 @@
 use Rattle.std.proofs.Common.{List, ℕ, sym, subst}
 use Rattle.ygg_base.specs.Outside.{Rose}
-use Rattle.ygg_top_command.specs.declared.stopping.Stop.{Stop}
+use Rattle.ygg_top_command.specs.declared.stopping.CommandStop.{CommandStop}
 use Rattle.ygg_top_play.specs.Playing.{IsNoScript}
 use Rattle.ygg_top_play.proofs.Plays.{unread_script, no_script}
 use Rattle.ygg_top_play.proofs.playing.script_for.Goals as goal

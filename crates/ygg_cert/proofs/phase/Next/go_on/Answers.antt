@@ -7,11 +7,13 @@ use Rattle.ygg_cert.proofs.phase.Next.go_on.Goals as goal
 pub returns-in-First : goal.returns-in-First
 returns-in-First g c to done =
     let d = first_done (g.G.Goals.wanted c.args.goals.now) to c.args.self.now c.in-First.is done in
-    subst (λ (p : Place). OnOk c.after_goals.result (IsAt (g.G.Goals.wanted c.args.goals.now) p [] c.after_goals.new.self)) (sym d.0) (c.after_goals.ensures d.1)
+    subst (λ (p : Place). OnOk c.after_goals.result (IsAt (g.G.Goals.wanted c.args.goals.now) p [] c.after_goals.new.self)) (sym d.0)
+    (c.after_goals.ensures d.1)
 
 pub returns-in-Opening : goal.returns-in-Opening
 returns-in-Opening g c to done =
-    opening_done (g.G.Goals.wanted c.args.goals.now) to c.args.self.now.line c.args.self.now.log c.args.self.now.phase c.args.self.now.passed c.in-Opening.is done
+    opening_done (g.G.Goals.wanted c.args.goals.now) to c.args.self.now.line c.args.self.now.log c.args.self.now.phase c.args.self.now.passed
+    c.in-Opening.is done
 
 pub returns-in-Log : goal.returns-in-Log
 returns-in-Log g c to done =

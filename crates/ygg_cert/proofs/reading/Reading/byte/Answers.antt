@@ -1,7 +1,8 @@
 use Rattle.std.proofs.Common.{refl, ap}
 use Rattle.ygg_cert.specs.declared.phase.Next.{Next}
 use Rattle.ygg_cert.specs.declared.verdict.Heard.TheVariants as heard
-use Rattle.ygg_cert.proofs.Read.{heard_live, more_differs, added_differs, whole_differs, bad_differs, wrong_differs, byte_more, byte_added, byte_whole, byte_bad, byte_wrong, byte_nothing}
+use Rattle.ygg_cert.proofs.Read.{heard_live, more_differs, added_differs, whole_differs, bad_differs, wrong_differs}
+use Rattle.ygg_cert.proofs.Read.{byte_more, byte_added, byte_whole, byte_bad, byte_wrong, byte_nothing}
 use Rattle.ygg_cert.proofs.reading.Reading.byte.Goals as goal
 
 pub returns-in_ok-self-in-More-clause-fed : goal.returns-in_ok-self-in-More-clause-fed

@@ -12,5 +12,6 @@ cut-requires-clause-pick g c = let can = c.requires.cuts in let l = can.loses in
 
 pub returns-in_ok-values-in-Call-clause-single : goal.returns-in_ok-values-in-Call-clause-single
 returns-in_ok-values-in-Call-clause-single g c =
-    cut_single (g.B.Book.kinds c.args.book.now) c.args.self.now (Call c.in-Call.name.now c.in-Call.args.now) c.state.inside.values c.args.bank.now c.cut.new.bank
+    cut_single (g.B.Book.kinds c.args.book.now) c.args.self.now (Call c.in-Call.name.now c.in-Call.args.now) c.state.inside.values
+    c.args.bank.now c.cut.new.bank
     c.in_ok-values-in-Call.ensures.nodes

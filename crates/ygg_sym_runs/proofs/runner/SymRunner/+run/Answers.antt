@@ -71,7 +71,8 @@ statement-join-requires-clause-can g t c =
     let vf = c.in_ok-value-in-If.ensures.form
     ∙ ap (λ (bs : List SymBinding). (sym_value kinds (terms_of kinds defs) test (plain_scope (env_of bs)) at).value) c.as_slice-in-If.ensures.value in
     let mid = c.value.new.bank in
-    let enter = do_later M law kinds defs (block_errors first None) (λ kind. keeps kind first) at mid env s c.value.ensures.grows c.in_ok-value-in-If.ensures.single
+    let enter = do_later M law kinds defs (block_errors first None) (λ kind. keeps kind first) at mid env s c.value.ensures.grows
+    c.in_ok-value-in-If.ensures.single
     (choose_first M law kinds defs test first second at env s can) in
     let next = c.block.new.bank in
     let ran = c.in_ok-middle-in-If.ensures.ran in
@@ -82,9 +83,11 @@ statement-join-requires-clause-can g t c =
     let last = c.block-in-If.new.bank in
     let one = c.block.new.frame in
     let two = c.block-in-If.new.frame in
-    let ran2 = subst (λ (z : SymEnv). Ended (inside_run M defs kinds second) c.in_ok-middle-in-If.middle z s next c.in_ok-end-in-If.end (env_of two.names.items) two.state last)
+    let ran2 = subst (λ (z : SymEnv). Ended (inside_run M defs kinds second) c.in_ok-middle-in-If.middle z s next c.in_ok-end-in-If.end
+    (env_of two.names.items) two.state last)
     c.in_ok-other-in-If.ensures.names
-    (subst (λ z. Ended (inside_run M defs kinds second) c.in_ok-middle-in-If.middle (env_of o.names.items) z next c.in_ok-end-in-If.end (env_of two.names.items) two.state last)
+    (subst (λ z. Ended (inside_run M defs kinds second) c.in_ok-middle-in-If.middle (env_of o.names.items) z next c.in_ok-end-in-If.end
+    (env_of two.names.items) two.state last)
     c.in_ok-other-in-If.ensures.state c.in_ok-end-in-If.ensures.ran) in
     let names = can.names in
     let left = block_left M law kinds defs first c.args.place mid next env (env_of one.names.items) s one.state enter ran.nodes ran.names ran.state
@@ -122,10 +125,13 @@ statement-returns-in_ok-join-in-If-clause-ran g t c =
     ended_if M law kinds defs c.args.s.now test first second c.args.place c.in_ok-end-in-If.end env (env_of c.join.new.frame.names.items) s
     c.join.new.frame.state at c.join.new.bank c.in-If.is
     (if_ends kinds (terms_of kinds defs) (M.machine kinds) test (inside_run M defs kinds first) (inside_run M defs kinds second) c.args.place
-    c.in_ok-middle-in-If.middle c.in_ok-end-in-If.end env (env_of one.names.items) (env_of two.names.items) (env_of c.join.new.frame.names.items) (env_of o.names.items)
+    c.in_ok-middle-in-If.middle c.in_ok-end-in-If.end env (env_of one.names.items) (env_of two.names.items) (env_of c.join.new.frame.names.items)
+    (env_of o.names.items)
     s one.state two.state c.join.new.frame.state o.state at c.value.new.bank c.block.new.bank c.block-in-If.new.bank c.join.new.bank c.in_ok-value-in-If.value
-    c.id_in.result vn vf c.id_in.ensures c.in_ok-middle-in-If.ensures.ran c.in_ok-other-in-If.ensures.names c.in_ok-other-in-If.ensures.state c.in_ok-end-in-If.ensures.ran
-    c.in_ok-join-in-If.ensures.nodes c.in_ok-join-in-If.ensures.names c.in_ok-join-in-If.ensures.state c.in_ok-value-in-If.ensures.single c.in_ok-join-in-If.ensures.single)
+    c.id_in.result vn vf c.id_in.ensures c.in_ok-middle-in-If.ensures.ran c.in_ok-other-in-If.ensures.names c.in_ok-other-in-If.ensures.state
+    c.in_ok-end-in-If.ensures.ran
+    c.in_ok-join-in-If.ensures.nodes c.in_ok-join-in-If.ensures.names c.in_ok-join-in-If.ensures.state c.in_ok-value-in-If.ensures.single
+    c.in_ok-join-in-If.ensures.single)
 
 pub statement-block-requires : goal.statement-block-requires
 statement-block-requires g t c κs h =
@@ -144,7 +150,8 @@ statement-block-requires g t c κs h =
                   let law = g.met.W.SymLower.keeps r.machine.now in
                   let defs = r.defs.now in
                   let f = c.args.frame.now in
-                  let can = first_can M law defs c.args.s.now c.in-If.test c.in-If.first c.in-If.second c.args.bank.now c.value.new.bank (env_of f.names.items) f.state
+                  let can = first_can M law defs c.args.s.now c.in-If.test c.in-If.first c.in-If.second c.args.bank.now c.value.new.bank
+                  (env_of f.names.items) f.state
                   c.in-If.is c.requires.can c.value.ensures.grows c.in_ok-value-in-If.ensures.single in
                   can,
               c.value.ensures.bank,
@@ -174,7 +181,8 @@ statement-block-requires-in-If g t c κs h =
                   let o = c.in_ok-other-in-If.other in
                   let one = c.block.new.frame in
                   let can = second_can M law defs c.args.s.now c.in-If.test c.in-If.first c.in-If.second c.args.bank.now c.value.new.bank c.block.new.bank
-                  (env_of f.names.items) (env_of one.names.items) (env_of o.names.items) f.state one.state o.state (inside_run M defs kinds c.in-If.first) c.args.place
+                  (env_of f.names.items) (env_of one.names.items) (env_of o.names.items) f.state one.state o.state
+                  (inside_run M defs kinds c.in-If.first) c.args.place
                   c.in_ok-middle-in-If.middle c.in-If.is c.requires.can c.value.ensures.grows c.in_ok-value-in-If.ensures.single c.block.ensures.grows
                   c.in_ok-middle-in-If.ensures.ran c.in_ok-other-in-If.ensures.names c.in_ok-other-in-If.ensures.state in
                   can,
@@ -256,7 +264,8 @@ statements-statement-requires g t c κs h =
                   let law = g.met.W.SymLower.keeps r.machine.now in
                   let defs = r.defs.now in
                   let f = c.loop-s.frame in
-                  let can = next_can M law defs c.args.all.now c.loop-s.s-index c.s-item.result _ c.loop-s.bank (env_of f.names.items) f.state c.loop-s-test.true c.s-item.is
+                  let can = next_can M law defs c.args.all.now c.loop-s.s-index c.s-item.result _ c.loop-s.bank (env_of f.names.items)
+                  f.state c.loop-s-test.true c.s-item.is
                   c.loop-s.invariant.can in
                   can,
               c.loop-s.invariant.bank,
@@ -429,7 +438,8 @@ turns-block-requires g t c κs h = (
               let each = c.args.each.now in
               let env = env_of f.names.items in
               let enter = repeat_enters M law kinds defs x w n each c.loop-i.bank c.number.new.bank env (env_of c.name_value.new.names.items) f.state c.loop-i.i
-              c.in_ok-number.number c.loop-i-test.true c.loop-i.invariant.can c.in_ok-number.ensures.nodes c.in_ok-number.ensures.form c.in_ok-name_value.ensures
+              c.in_ok-number.number c.loop-i-test.true c.loop-i.invariant.can c.in_ok-number.ensures.nodes c.in_ok-number.ensures.form
+              c.in_ok-name_value.ensures
               c.number.ensures.bank c.in_ok-number.ensures.single in
               enter,
           c.number.ensures.bank,

@@ -72,7 +72,8 @@ change-requires g c =
     ∙ ap (λ (bs : List SymBinding). (sym_source kinds terms N from i (env_of bs) f.state mid).value.value) c.as_slice-2.ensures.value)
     c.source.ensures.bank in
     record {
-      can = subst (λ (bs : List SymBinding). CanPut c.source.new.bank (sym_look_up c.as_slice-3.result.now (env_of bs)) c.as_slice-4.result.now c.in_ok-value.value)
+      can = subst (λ (bs : List SymBinding). CanPut c.source.new.bank (sym_look_up c.as_slice-3.result.now (env_of bs))
+          c.as_slice-4.result.now c.in_ok-value.value)
           (sym c.deref_mut.ensures.value)
           (subst (λ (n : Name). CanPut c.source.new.bank (sym_look_up n (env_of items)) c.as_slice-4.result.now c.in_ok-value.value)
           (sym c.as_slice-3.ensures) can);

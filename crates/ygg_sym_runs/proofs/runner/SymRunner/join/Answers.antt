@@ -37,7 +37,8 @@ returns-clause-nodes g c =
     λ xs ys. merge_state kinds terms N t (state (env_of xs) a) (state (env_of ys) b) at in
     let same = ends_same kinds terms N t (env_of one) (env_of two) a b at c.join_names.new.bank (env_of c.in_ok-names.names.items)
     c.in_ok-names.ensures.nodes c.in_ok-names.ensures.form
-    ∙ ap (λ (xs : List SymBinding). W xs two) c.as_slice.ensures.value ∙ ap (λ (ys : List SymBinding). W c.args.frame.now.names.items ys) c.as_slice-2.ensures.value in
+    ∙ ap (λ (xs : List SymBinding). W xs two) c.as_slice.ensures.value
+    ∙ ap (λ (ys : List SymBinding). W c.args.frame.now.names.items ys) c.as_slice-2.ensures.value in
     c.in_ok-state.ensures.nodes ∙ ap (λ (o : Out (SymState g.row.W-State.Denot)). o.nodes) same
 
 pub returns-clause-names : goal.returns-clause-names
@@ -57,7 +58,8 @@ returns-clause-names g c =
     λ xs ys. merge_state kinds terms N t (state (env_of xs) a) (state (env_of ys) b) at in
     let same = ends_same kinds terms N t (env_of one) (env_of two) a b at c.join_names.new.bank (env_of c.in_ok-names.names.items)
     c.in_ok-names.ensures.nodes c.in_ok-names.ensures.form
-    ∙ ap (λ (xs : List SymBinding). W xs two) c.as_slice.ensures.value ∙ ap (λ (ys : List SymBinding). W c.args.frame.now.names.items ys) c.as_slice-2.ensures.value in
+    ∙ ap (λ (xs : List SymBinding). W xs two) c.as_slice.ensures.value
+    ∙ ap (λ (ys : List SymBinding). W c.args.frame.now.names.items ys) c.as_slice-2.ensures.value in
     ap (λ (o : Out (SymState g.row.W-State.Denot)). o.value.env) same
 
 pub returns-clause-state : goal.returns-clause-state
@@ -77,7 +79,8 @@ returns-clause-state g c =
     λ xs ys. merge_state kinds terms N t (state (env_of xs) a) (state (env_of ys) b) at in
     let same = ends_same kinds terms N t (env_of one) (env_of two) a b at c.join_names.new.bank (env_of c.in_ok-names.names.items)
     c.in_ok-names.ensures.nodes c.in_ok-names.ensures.form
-    ∙ ap (λ (xs : List SymBinding). W xs two) c.as_slice.ensures.value ∙ ap (λ (ys : List SymBinding). W c.args.frame.now.names.items ys) c.as_slice-2.ensures.value in
+    ∙ ap (λ (xs : List SymBinding). W xs two) c.as_slice.ensures.value
+    ∙ ap (λ (ys : List SymBinding). W c.args.frame.now.names.items ys) c.as_slice-2.ensures.value in
     c.in_ok-state.ensures.form ∙ ap (λ (o : Out (SymState g.row.W-State.Denot)). o.value.to) same
 
 pub returns-clause-single : goal.returns-clause-single

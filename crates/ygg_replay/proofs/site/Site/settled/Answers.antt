@@ -1,8 +1,0 @@
-use Rattle.std.proofs.Common.{◌∙◌}
-use Rattle.ygg_replay.proofs.Relating.{none_when, settled_is}
-use Rattle.ygg_replay.proofs.site.Site.settled.Goals as goal
-
-pub returns : goal.returns
-returns c =
-    none_when c.in_ok-place.place c.is_none.result c.is_none.ensures
-    ∙ settled_is c.args.self.now c.args.low.now c.requires.fits c.in_ok-place.place c.in_ok-place.ensures
