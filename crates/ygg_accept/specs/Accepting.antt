@@ -6,7 +6,7 @@ use Rattle.ygg_base.specs.Lexing.{tokens_of}
 use Rattle.ygg_syntax.specs.declared.tree.File.{File}
 use Rattle.ygg_syntax.specs.Files.{Derives}
 use Rattle.ygg_read.specs.Refused.{IsRefusal}
-use Rattle.ygg_type_rules.specs.Files.{IsTyped}
+use Rattle.ygg_type.specs.ygg_type_rules.Files.{IsTyped}
 use Rattle.ygg_type.specs.Typed.{IsFirstTypeError}
 
 -- the text has these tokens, from which this file derives and no other, and the file has no type error

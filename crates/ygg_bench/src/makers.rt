@@ -66,7 +66,7 @@ const GROUPS: [Group; 5] = [
 
 const OF_DIGITS: [(&str, TriedMaker); 1] = [("imp", TriedMaker::Word(WordMaker::Bin(Op::Imp)))];
 
-const OF_WORDS: [(&str, TriedMaker); 27] = [
+const OF_WORDS: [(&str, TriedMaker); 28] = [
     ("add", TriedMaker::Word(WordMaker::Bin(Op::Add))),
     ("sub", TriedMaker::Word(WordMaker::Bin(Op::Sub))),
     ("mul", TriedMaker::Word(WordMaker::Bin(Op::Mul))),
@@ -91,6 +91,7 @@ const OF_WORDS: [(&str, TriedMaker); 27] = [
         "same_difference",
         TriedMaker::SameOf(WordMaker::Bin(Op::Sub)),
     ),
+    ("same_product", TriedMaker::SameOf(WordMaker::Bin(Op::Mul))),
     ("same_xor", TriedMaker::SameOf(WordMaker::Bin(Op::Xor))),
     ("same_not", TriedMaker::SameOf(WordMaker::Not)),
     ("same_resized", TriedMaker::SameOf(WordMaker::Resize)),

@@ -1,3 +1,4 @@
+pub use Rattle.ygg_gates_meaning.proofs as of_ygg_gates_meaning
 pub mod Steps
 pub mod Reading
 pub mod Zero

@@ -30,3 +30,5 @@ pub use reader::{CertReader, check_cert, check_goals};
 pub use reading::Reading;
 pub use source::Goals;
 pub use verdict::{CertEnd, Fed};
+pub use ygg_cnf::{Clause, Lit, Log, Step, derivations_are_sound};
+pub use ygg_log_text::put_number;

@@ -5,22 +5,22 @@ use Rattle.std.proofs.lemmas.List.{take_more}
 use Rattle.std.proofs.lemmas.List.Elements.{All-nil, All-cons, All-head, All-tail}
 use Rattle.ygg_syntax.specs.declared.tree.File.{File}
 use Rattle.ygg_syntax.specs.Files.{IsDerived}
-use Rattle.ygg_type_rules.specs.Files.{IsTyped}
-use Rattle.ygg_rules.specs.declared.rule.RuleKind.{RuleKind}
-use Rattle.ygg_histories.specs.Claims.{Claim, claims_of}
-use Rattle.ygg_bank.specs.Nodes.{HasWidth, IsBank}
-use Rattle.ygg_bank.specs.declared.node.Id.{Id}
-use Rattle.ygg_bank.specs.declared.node.Node.{Node}
-use Rattle.ygg_cnf.specs.Logs.{Refutes}
-use Rattle.ygg_gates.specs.Groups.{translated}
-use Rattle.ygg_oblige_terms.specs.Terms.{file_made}
-use Rattle.ygg_oblige_terms.specs.Meaning.{AreTermsOf, claim_name}
+use Rattle.ygg_type.specs.ygg_type_rules.Files.{IsTyped}
+use Rattle.ygg_oblige_decided.specs.ygg_rules.declared.rule.RuleKind.{RuleKind}
+use Rattle.ygg_oblige_decided.specs.ygg_histories.Claims.{Claim, claims_of}
+use Rattle.ygg_oblige_decided.specs.ygg_bank.Nodes.{HasWidth, IsBank}
+use Rattle.ygg_oblige_decided.specs.ygg_bank.declared.node.Id.{Id}
+use Rattle.ygg_oblige_decided.specs.ygg_bank.declared.node.Node.{Node}
+use Rattle.ygg_cert_open.specs.ygg_cnf.Logs.{Refutes}
+use Rattle.ygg_oblige_decided.specs.ygg_gates.Groups.{translated}
+use Rattle.ygg_oblige_decided.specs.ygg_oblige_terms.Terms.{file_made}
+use Rattle.ygg_oblige_decided.specs.ygg_oblige_terms.Meaning.{AreTermsOf, claim_name}
 use Rattle.ygg_oblige.specs.declared.obligation.Obligation.{Obligation}
 use Rattle.ygg_oblige.specs.Obligations.{names_in, terms_in}
-use Rattle.ygg_log_read.specs.Steps.{IsStep}
-use Rattle.ygg_pieces.proofs.Flowing.{puts_done}
-use Rattle.ygg_cert.specs.Laws.{IsItemOf, AreItemsOf, PrintedIsChecked}
-use Rattle.ygg_cert.specs.Judging.{IsWhole}
+use Rattle.ygg_cert_open.specs.ygg_log_read.Steps.{IsStep}
+use Rattle.ygg_certify_put.proofs.of_ygg_pieces.Flowing.{puts_done}
+use Rattle.ygg_cert_open.specs.ygg_cert.Laws.{IsItemOf, AreItemsOf, PrintedIsChecked}
+use Rattle.ygg_cert_open.specs.ygg_cert.Judging.{IsWhole}
 use Rattle.ygg_certify_put.specs.declared.finding.Outcome.{Outcome}
 use Rattle.ygg_certify_put.specs.declared.finding.Outcome.TheVariants as outcome
 use Rattle.ygg_certify_put.specs.declared.finding.Finding.{Finding}

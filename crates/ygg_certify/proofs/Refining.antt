@@ -6,32 +6,32 @@ use Rattle.ygg_base.specs.declared.status.Status.{Status}
 use Rattle.ygg_base.specs.Outside.{Reading}
 use Rattle.ygg_syntax.specs.declared.tree.File.{File}
 use Rattle.ygg_syntax.specs.Files.{IsDerived}
-use Rattle.ygg_type_rules.specs.Files.{IsTyped}
-use Rattle.ygg_rules.specs.declared.rule.RuleKind.{RuleKind}
-use Rattle.ygg_histories.specs.Stack.{FileRefines}
-use Rattle.ygg_histories.specs.Claims.{Claim, ClaimHolds, claims_of}
-use Rattle.ygg_histories.specs.Laws.{RefinesByList}
-use Rattle.ygg_type_progress.specs.Laws.{TypedHistories}
-use Rattle.ygg_bank.specs.Nodes.{IsBank}
-use Rattle.ygg_bank.specs.declared.node.Id.{Id}
-use Rattle.ygg_bank.specs.declared.node.Node.{Node}
-use Rattle.ygg_cnf.specs.declared.lit.Lit.{Lit}
-use Rattle.ygg_cnf.specs.declared.log.Step.{Step}
-use Rattle.ygg_cnf.specs.Literals.{SatisfiesAll}
-use Rattle.ygg_cnf.specs.Logs.{Refutes}
-use Rattle.ygg_gates.specs.Groups.{translated}
-use Rattle.ygg_gates_meaning.specs.Laws.{SatisfiableExactly}
-use Rattle.ygg_decide.specs.Deciding.{IsNeverZero}
-use Rattle.ygg_oblige_terms.specs.Terms.{file_made}
-use Rattle.ygg_oblige_terms.specs.Meaning.{IsTermOf, AreTermsOf, claim_name}
+use Rattle.ygg_type.specs.ygg_type_rules.Files.{IsTyped}
+use Rattle.ygg_oblige_decided.specs.ygg_rules.declared.rule.RuleKind.{RuleKind}
+use Rattle.ygg_oblige_decided.specs.ygg_histories.Stack.{FileRefines}
+use Rattle.ygg_oblige_decided.specs.ygg_histories.Claims.{Claim, ClaimHolds, claims_of}
+use Rattle.ygg_oblige_decided.specs.ygg_histories.Laws.{RefinesByList}
+use Rattle.ygg_oblige_decided.specs.ygg_type_progress.Laws.{TypedHistories}
+use Rattle.ygg_oblige_decided.specs.ygg_bank.Nodes.{IsBank}
+use Rattle.ygg_oblige_decided.specs.ygg_bank.declared.node.Id.{Id}
+use Rattle.ygg_oblige_decided.specs.ygg_bank.declared.node.Node.{Node}
+use Rattle.ygg_cert_open.specs.ygg_cnf.declared.lit.Lit.{Lit}
+use Rattle.ygg_cert_open.specs.ygg_cnf.declared.log.Step.{Step}
+use Rattle.ygg_cert_open.specs.ygg_cnf.Literals.{SatisfiesAll}
+use Rattle.ygg_cert_open.specs.ygg_cnf.Logs.{Refutes}
+use Rattle.ygg_oblige_decided.specs.ygg_gates.Groups.{translated}
+use Rattle.ygg_oblige_decided.specs.ygg_gates_meaning.Laws.{SatisfiableExactly}
+use Rattle.ygg_oblige_decided.specs.ygg_decide.Deciding.{IsNeverZero}
+use Rattle.ygg_oblige_decided.specs.ygg_oblige_terms.Terms.{file_made}
+use Rattle.ygg_oblige_decided.specs.ygg_oblige_terms.Meaning.{IsTermOf, AreTermsOf, claim_name}
 use Rattle.ygg_oblige_decided.specs.Laws.{NeverZeroHolds}
 use Rattle.ygg_oblige.specs.declared.obligation.Obligation.{Obligation}
 use Rattle.ygg_oblige.specs.Obligations.{names_in, terms_in}
-use Rattle.ygg_cert.specs.declared.item.Goal.{Goal}
-use Rattle.ygg_cert.specs.declared.verdict.CertEnd.{CertEnd}
-use Rattle.ygg_cert.specs.declared.verdict.CertEnd.TheVariants.{Checked, Bad, Refused, Memory}
-use Rattle.ygg_cert.specs.Judging.{IsWhole, Judges}
-use Rattle.ygg_cert.specs.Laws.{IsRefuted, CheckedIsRefuted}
+use Rattle.ygg_cert_open.specs.ygg_cert.declared.item.Goal.{Goal}
+use Rattle.ygg_cert_open.specs.ygg_cert.declared.verdict.CertEnd.{CertEnd}
+use Rattle.ygg_cert_open.specs.ygg_cert.declared.verdict.CertEnd.TheVariants.{Checked, Bad, Refused, Memory}
+use Rattle.ygg_cert_open.specs.ygg_cert.Judging.{IsWhole, Judges}
+use Rattle.ygg_cert_open.specs.ygg_cert.Laws.{IsRefuted, CheckedIsRefuted}
 use Rattle.ygg_cert_open.specs.Opened.{JudgesOpen}
 use Rattle.ygg_certify.specs.FileGoals.{goal_by, goals_by, goals_in, goals_of, IsRight, IfChecked, ChecksAll}
 use Rattle.ygg_certify.specs.Checking.{Checks, ChecksOpen}

@@ -1,21 +1,21 @@
 -- What a certificate of a layer file is for.
 use Rattle.std.specs.Prelude.{◌≡◌, ℕ, List, [], ◌∷◌, map}
 use Rattle.ygg_syntax.specs.declared.tree.File.{File}
-use Rattle.ygg_rules.specs.declared.rule.RuleKind.{RuleKind}
-use Rattle.ygg_meaning.specs.Environments.{Env}
-use Rattle.ygg_meaning.specs.Machine.{State}
-use Rattle.ygg_histories.specs.Stack.{BottomOf, FileRefines}
-use Rattle.ygg_histories.specs.History.{Entry, History, Allows}
-use Rattle.ygg_histories.specs.Claims.{claims_of}
-use Rattle.ygg_bank.specs.declared.node.Id.{Id}
-use Rattle.ygg_bank.specs.declared.node.Node.{Node}
-use Rattle.ygg_gates.specs.Groups.{translated}
-use Rattle.ygg_oblige_terms.specs.Terms.{file_made}
-use Rattle.ygg_oblige_terms.specs.Meaning.{claim_name}
+use Rattle.ygg_oblige_decided.specs.ygg_rules.declared.rule.RuleKind.{RuleKind}
+use Rattle.ygg_oblige_decided.specs.ygg_meaning.Environments.{Env}
+use Rattle.ygg_oblige_decided.specs.ygg_meaning.Machine.{State}
+use Rattle.ygg_oblige_decided.specs.ygg_histories.Stack.{BottomOf, FileRefines}
+use Rattle.ygg_oblige_decided.specs.ygg_histories.History.{Entry, History, Allows}
+use Rattle.ygg_oblige_decided.specs.ygg_histories.Claims.{claims_of}
+use Rattle.ygg_oblige_decided.specs.ygg_bank.declared.node.Id.{Id}
+use Rattle.ygg_oblige_decided.specs.ygg_bank.declared.node.Node.{Node}
+use Rattle.ygg_oblige_decided.specs.ygg_gates.Groups.{translated}
+use Rattle.ygg_oblige_decided.specs.ygg_oblige_terms.Terms.{file_made}
+use Rattle.ygg_oblige_decided.specs.ygg_oblige_terms.Meaning.{claim_name}
 use Rattle.ygg_oblige.specs.declared.obligation.Obligation.{Obligation}
-use Rattle.ygg_cert.specs.declared.item.Goal.{Goal}
-use Rattle.ygg_cert.specs.declared.verdict.CertEnd.{CertEnd}
-use Rattle.ygg_cert.specs.declared.verdict.CertEnd.TheVariants.{Checked, Bad, Refused, Memory}
+use Rattle.ygg_cert_open.specs.ygg_cert.declared.item.Goal.{Goal}
+use Rattle.ygg_cert_open.specs.ygg_cert.declared.verdict.CertEnd.{CertEnd}
+use Rattle.ygg_cert_open.specs.ygg_cert.declared.verdict.CertEnd.TheVariants.{Checked, Bad, Refused, Memory}
 
 -- the clauses of a term, under a name
 abbrev pub goal_by : List Node → List ℕ → Id → Goal

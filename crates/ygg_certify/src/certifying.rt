@@ -2,24 +2,19 @@
 
 ghost use Rattle.std.specs.Prelude.{◌≡◌, ◌<◌, ◌≤◌, All, IfOk};
 ghost use Rattle.ygg_base.specs.Outside.{Rose};
-ghost use Rattle.ygg_bank.specs.Nodes.{HasWidth};
+ghost use Rattle.ygg_oblige_decided.specs.ygg_bank.Nodes.{HasWidth};
 ghost use Rattle.ygg_oblige.specs.Obligations.{names_in, terms_in};
 ghost use Rattle.ygg_certify.specs.Certifying.{AreFound, Concludes, IsCertifying};
 
 use std::alloc::Global;
-use ygg_bank::Bank;
 use ygg_base::{Sink, Status};
-use ygg_cert::{checked_is_refuted, printed_is_checked};
+use ygg_cert_open::{checked_is_refuted, derivations_are_sound, printed_is_checked};
 use ygg_certify_put::{Findings, all_hold, find, put_findings};
-use ygg_cnf::derivations_are_sound;
-use ygg_gates_meaning::clauses_mean_terms;
-use ygg_histories::law::refines_by_list;
 use ygg_list::NoMemory;
 use ygg_oblige::{Obligation, obligations};
 use ygg_oblige_decided::law::never_zero_holds;
-use ygg_rules::Book;
+use ygg_oblige_decided::{Bank, Book, clauses_mean_terms, refines_by_list, typed_histories};
 use ygg_type::Typed;
-use ygg_type_progress::law::typed_histories;
 
 /// What certifying a layer file comes to.
 #[derive(Drop)]

@@ -2,24 +2,20 @@
 
 ghost use Rattle.std.specs.Prelude.{◌≡◌, ◌≤◌, length, IfOk, IsErr};
 ghost use Rattle.ygg_base.specs.Outside.{IsOpen, Rose};
-ghost use Rattle.ygg_histories.specs.Claims.{claims_of};
+ghost use Rattle.ygg_oblige_decided.specs.ygg_histories.Claims.{claims_of};
 ghost use Rattle.ygg_cert_open.specs.Opened.{JudgesOpen};
 ghost use Rattle.ygg_certify.specs.FileGoals.{ChecksAll, IfChecked, IsRight, goals_of};
 
 use crate::goals::FileGoals;
 use std::alloc::Global;
-use ygg_bank::Bank;
 use ygg_base::Library;
-use ygg_cert::{CertEnd, checked_is_refuted};
-use ygg_cert_open::{LibraryFailed, check_open};
-use ygg_cnf::derivations_are_sound;
-use ygg_gates_meaning::clauses_mean_terms;
-use ygg_histories::law::refines_by_list;
+use ygg_cert_open::{
+    CertEnd, LibraryFailed, check_open, checked_is_refuted, derivations_are_sound,
+};
 use ygg_oblige::obligations;
 use ygg_oblige_decided::law::never_zero_holds;
-use ygg_rules::Book;
+use ygg_oblige_decided::{Bank, Book, clauses_mean_terms, refines_by_list, typed_histories};
 use ygg_type::Typed;
-use ygg_type_progress::law::typed_histories;
 
 /// What is said of the file that the library has open as the certificate of a layer file, for the terms that the rules make of its obligations. It is read in
 /// pieces, and no further than to the first line at fault. Where it is checked, it is so for all of the file's obligations, each layer refines its

@@ -1,15 +1,14 @@
 //! The goals of a layer file: the clauses of the terms of its obligations.
 
 ghost use Rattle.std.specs.Prelude.{◌≡◌, All, IfOk};
-ghost use Rattle.ygg_bank.specs.Nodes.{HasWidth};
+ghost use Rattle.ygg_oblige_decided.specs.ygg_bank.Nodes.{HasWidth};
 ghost use Rattle.ygg_certify.specs.FileGoals.{goal_in};
 
 use std::alloc::Global;
-use ygg_bank::Bank;
-use ygg_blast::clauses_of;
-use ygg_cert::{Goal, Goals};
+use ygg_cert_open::{Goal, Goals};
 use ygg_list::NoMemory;
 use ygg_oblige::Obligation;
+use ygg_oblige_decided::{Bank, clauses_of};
 
 /// Obligations with the bank of their terms. The clauses of a term are made when its goal is asked for, so that those of one obligation alone are in memory.
 #[derive(Drop)]

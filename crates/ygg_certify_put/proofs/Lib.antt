@@ -1,3 +1,4 @@
+pub use Rattle.ygg_pieces.proofs as of_ygg_pieces
 mod Certificate
 mod Firsts
 mod Standing

@@ -1,16 +1,16 @@
 -- Which literals and logs may stand in a certificate.
 use Rattle.std.proofs.Common.{◌≡◌, ℕ, ◌<◌, ◌≤◌, ◌^◌, List, length, get_or, sym, subst, arith}
 use Rattle.std.specs.Prelude.{All}
-use Rattle.ygg_bank.specs.declared.node.Id.{Id}
-use Rattle.ygg_bank.specs.declared.node.Node.{Node}
-use Rattle.ygg_cnf.specs.declared.lit.Lit.{Lit}
-use Rattle.ygg_cnf.specs.declared.log.Step.{Step}
-use Rattle.ygg_cnf.specs.Logs.{Refutes}
-use Rattle.ygg_gates.specs.Groups.{translated}
+use Rattle.ygg_decide.specs.ygg_bank.declared.node.Id.{Id}
+use Rattle.ygg_decide.specs.ygg_bank.declared.node.Node.{Node}
+use Rattle.ygg_cert.specs.ygg_cnf.declared.lit.Lit.{Lit}
+use Rattle.ygg_cert.specs.ygg_cnf.declared.log.Step.{Step}
+use Rattle.ygg_cert.specs.ygg_cnf.Logs.{Refutes}
+use Rattle.ygg_decide.specs.ygg_gates.Groups.{translated}
 use Rattle.ygg_decide.specs.declared.deciding.Decided.{Decided}
 use Rattle.ygg_decide.specs.declared.deciding.Decided.TheVariants.{Valid}
 use Rattle.ygg_decide.specs.Deciding.{IsDecided}
-use Rattle.ygg_log_read.specs.Steps.{IsLiteral, IsStep}
+use Rattle.ygg_cert.specs.ygg_log_read.Steps.{IsLiteral, IsStep}
 use Rattle.ygg_cert.specs.Laws.{StepsMay}
 use Rattle.ygg_certify_put.specs.declared.finding.Outcome.TheVariants.{Holds}
 use Rattle.ygg_certify_put.specs.Findings.{IsOutcome}

@@ -1,12 +1,12 @@
 -- What is found of terms by deciding them, and the certificate of those that are 1 in every environment.
 use Rattle.std.specs.Prelude.{◌≡◌, ℕ, ◌≤◌, List, [], length, All, map}
-use Rattle.ygg_bank.specs.declared.node.Id.{Id}
-use Rattle.ygg_bank.specs.declared.node.Node.{Node}
-use Rattle.ygg_cnf.specs.declared.log.Step.{Step}
-use Rattle.ygg_cnf.specs.Logs.{Refutes, SpentLog}
-use Rattle.ygg_gates.specs.Groups.{translated}
-use Rattle.ygg_gates_meaning.specs.Laws.{IsZeroIn}
-use Rattle.ygg_log_read.specs.Steps.{IsStep}
+use Rattle.ygg_decide.specs.ygg_bank.declared.node.Id.{Id}
+use Rattle.ygg_decide.specs.ygg_bank.declared.node.Node.{Node}
+use Rattle.ygg_cert.specs.ygg_cnf.declared.log.Step.{Step}
+use Rattle.ygg_cert.specs.ygg_cnf.Logs.{Refutes, SpentLog}
+use Rattle.ygg_decide.specs.ygg_gates.Groups.{translated}
+use Rattle.ygg_decide.specs.ygg_gates_meaning.Laws.{IsZeroIn}
+use Rattle.ygg_cert.specs.ygg_log_read.Steps.{IsStep}
 use Rattle.ygg_cert.specs.declared.item.Item.{Item}
 use Rattle.ygg_cert.specs.Texts.{item_text, certificate_of}
 use Rattle.ygg_certify_put.specs.declared.finding.Outcome.{Outcome}

@@ -1,1 +1,2 @@
+pub use Rattle.ygg_pieces.specs as ygg_pieces
 pub mod Findings

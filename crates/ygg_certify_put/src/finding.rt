@@ -1,21 +1,17 @@
 //! What is found of terms by deciding them.
 
 ghost use Rattle.std.specs.Prelude.{◌≡◌, ◌<◌, ◌^◌, true, false, length, All, IfOk};
-ghost use Rattle.ygg_bank.specs.Nodes.{HasWidth, Stands};
-ghost use Rattle.ygg_gates.specs.Groups.{translated};
-ghost use Rattle.ygg_log_read.specs.Steps.{IsLiteral};
+ghost use Rattle.ygg_decide.specs.ygg_bank.Nodes.{HasWidth, Stands};
+ghost use Rattle.ygg_decide.specs.ygg_gates.Groups.{translated};
+ghost use Rattle.ygg_cert.specs.ygg_log_read.Steps.{IsLiteral};
 ghost use Rattle.ygg_certify_put.specs.Findings.{IsFinding, IsHeld, IsOutcome};
 
 use crate::literals::literals_may;
 use std::alloc::Global;
-use ygg_bank::{Bank, Env, Id};
 use ygg_base::Text;
-use ygg_blast::clauses_of;
-use ygg_cert::steps_may;
-use ygg_cnf::Log;
-use ygg_decide::{Decided, decide};
+use ygg_cert::{Log, steps_may};
+use ygg_decide::{Bank, Book, Decided, Env, Id, clauses_of, decide};
 use ygg_list::{NoMemory, Sequence};
-use ygg_rules::Book;
 
 /// What is found of a term by deciding it within a budget of learned clauses.
 #[derive(Drop)]

@@ -1,9 +1,9 @@
 //! Which literals may stand in a certificate.
 
 ghost use Rattle.std.specs.Prelude.{◌<◌, All};
-ghost use Rattle.ygg_log_read.specs.Steps.{IsLiteral, IsNumber};
+ghost use Rattle.ygg_cert.specs.ygg_log_read.Steps.{IsLiteral, IsNumber};
 
-use ygg_cnf::{Clause, Lit};
+use ygg_cert::{Clause, Lit};
 
 /// The number of a variable may stand in a certificate, since it isn't 0. It does nothing: its contract is the fact.
 fn number_may(number: u64)

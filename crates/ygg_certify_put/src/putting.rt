@@ -9,8 +9,7 @@ ghost use Rattle.ygg_certify_put.specs.Findings.{lines_of, log_of, text_of};
 use crate::finding::{Finding, Outcome};
 use std::alloc::Global;
 use ygg_base::{Sink, Status, Text};
-use ygg_cert::{put_closing, put_first, put_opening};
-use ygg_cnf::Step;
+use ygg_cert::{Step, put_closing, put_first, put_opening};
 use ygg_pieces::{finish, pass, pass_log};
 
 /// The steps of the log that was found; none where none was.

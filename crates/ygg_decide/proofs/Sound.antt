@@ -1,15 +1,15 @@
 -- What a refutation of a term's clauses says of the term.
 use Rattle.std.proofs.Common.{◌≡◌, ℕ, Bool, List, subst}
-use Rattle.ygg_cnf.specs.Literals.{SatisfiesAll, truth_of}
-use Rattle.ygg_cnf.specs.Logs.{Refutes}
-use Rattle.ygg_cnf.specs.declared.lit.Lit.{Lit}
-use Rattle.ygg_cnf.specs.declared.log.Step.{Step}
-use Rattle.ygg_bank.specs.declared.node.Id.{Id}
-use Rattle.ygg_bank.specs.declared.node.Node.{Node}
+use Rattle.ygg_blast.specs.ygg_cnf.Literals.{SatisfiesAll, truth_of}
+use Rattle.ygg_blast.specs.ygg_cnf.Logs.{Refutes}
+use Rattle.ygg_blast.specs.ygg_cnf.declared.lit.Lit.{Lit}
+use Rattle.ygg_blast.specs.ygg_cnf.declared.log.Step.{Step}
+use Rattle.ygg_blast.specs.ygg_bank.declared.node.Id.{Id}
+use Rattle.ygg_blast.specs.ygg_bank.declared.node.Node.{Node}
 use Rattle.ygg_solver.specs.Answers.{IsAnswer}
 use Rattle.ygg_solver.specs.declared.answer.Answer.{Answer}
 use Rattle.ygg_solver.specs.declared.answer.Answer.TheVariants.{Sat, Unsat}
-use Rattle.ygg_gates_meaning.specs.Laws.{AreExact}
+use Rattle.ygg_blast.specs.ygg_gates_meaning.Laws.{AreExact}
 use Rattle.ygg_decide.specs.Deciding.{IsNeverZero}
 
 -- a term whose clauses are refuted is 0 in no environment

@@ -1,11 +1,11 @@
 -- What is said of a term by deciding it.
 use Rattle.std.specs.Prelude.{ℕ, ◌≤◌, List, length}
-use Rattle.ygg_cnf.specs.Logs.{Refutes, SpentLog}
-use Rattle.ygg_bank.specs.declared.env.Given.{Given}
-use Rattle.ygg_bank.specs.declared.node.Id.{Id}
-use Rattle.ygg_bank.specs.declared.node.Node.{Node}
-use Rattle.ygg_gates.specs.Groups.{translated}
-use Rattle.ygg_gates_meaning.specs.Laws.{IsZeroIn}
+use Rattle.ygg_blast.specs.ygg_cnf.Logs.{Refutes, SpentLog}
+use Rattle.ygg_blast.specs.ygg_bank.declared.env.Given.{Given}
+use Rattle.ygg_blast.specs.ygg_bank.declared.node.Id.{Id}
+use Rattle.ygg_blast.specs.ygg_bank.declared.node.Node.{Node}
+use Rattle.ygg_blast.specs.ygg_gates.Groups.{translated}
+use Rattle.ygg_blast.specs.ygg_gates_meaning.Laws.{IsZeroIn}
 use Rattle.ygg_decide.specs.declared.deciding.Decided.{Decided}
 use Rattle.ygg_decide.specs.declared.deciding.Decided.TheVariants.{Valid, Fails, Spent}
 

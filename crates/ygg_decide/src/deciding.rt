@@ -1,15 +1,14 @@
 ghost use Rattle.std.specs.Prelude.{◌≡◌, ◌<◌, IfOk};
-ghost use Rattle.ygg_bank.specs.Nodes.{HasWidth};
-ghost use Rattle.ygg_gates.specs.Groups.{translated};
-ghost use Rattle.ygg_gates_meaning.specs.Laws.{AreExact};
+ghost use Rattle.ygg_blast.specs.ygg_bank.Nodes.{HasWidth};
+ghost use Rattle.ygg_blast.specs.ygg_gates.Groups.{translated};
+ghost use Rattle.ygg_blast.specs.ygg_gates_meaning.Laws.{AreExact};
 ghost use Rattle.ygg_solver.specs.Answers.{IsNumbered};
 ghost use Rattle.ygg_decide.specs.Deciding.{IsDecided, IsSound};
 
 use std::alloc::Global;
-use ygg_bank::{Bank, Env, Id, NoMemory};
-use ygg_blast::{Blasted, clauses_of, environment};
-use ygg_cnf::{Log, derivations_are_sound};
-use ygg_rules::Book;
+use ygg_blast::{
+    Bank, Blasted, Book, Env, Id, Log, NoMemory, clauses_of, derivations_are_sound, environment,
+};
 use ygg_solver::{Answer, solve};
 
 /// What deciding a term within a budget of learned clauses comes to.

@@ -6,17 +6,17 @@ use Rattle.std.proofs.lemmas.Bool.{and_parts, and_from}
 use Rattle.std.proofs.lemmas.Bool.Decides.{nat_tests}
 use Rattle.std.proofs.lemmas.Option.{get_or_from_slice_get}
 use Rattle.ygg_syntax.specs.declared.tree.File.{File}
-use Rattle.ygg_rules.specs.declared.rule.RuleKind.{RuleKind}
-use Rattle.ygg_histories.specs.Claims.{Claim, claims_of}
-use Rattle.ygg_bank.specs.Nodes.{IsBank}
-use Rattle.ygg_bank.specs.declared.node.Id.{Id}
-use Rattle.ygg_bank.specs.declared.node.Node.{Node}
-use Rattle.ygg_gates.specs.Groups.{translated}
-use Rattle.ygg_gates_meaning.specs.Laws.{AreExact}
-use Rattle.ygg_gates_meaning.proofs.Whole.{satisfiable_exactly}
-use Rattle.ygg_oblige_terms.specs.Terms.{file_made}
-use Rattle.ygg_oblige_terms.specs.Meaning.{claim_name, IsTermOf, AreTermsOf}
-use Rattle.ygg_oblige_decided.proofs.Decided.{zero_is_violated}
+use Rattle.ygg_dimacs_term.specs.ygg_rules.declared.rule.RuleKind.{RuleKind}
+use Rattle.ygg_sched.specs.ygg_histories.Claims.{Claim, claims_of}
+use Rattle.ygg_dimacs_term.specs.ygg_bank.Nodes.{IsBank}
+use Rattle.ygg_dimacs_term.specs.ygg_bank.declared.node.Id.{Id}
+use Rattle.ygg_dimacs_term.specs.ygg_bank.declared.node.Node.{Node}
+use Rattle.ygg_dimacs_term.specs.ygg_gates.Groups.{translated}
+use Rattle.ygg_dimacs_term.specs.ygg_gates_meaning.Laws.{AreExact}
+use Rattle.ygg_dimacs_term.proofs.of_ygg_gates_meaning.Whole.{satisfiable_exactly}
+use Rattle.ygg_oblige_decided.specs.ygg_oblige_terms.Terms.{file_made}
+use Rattle.ygg_oblige_decided.specs.ygg_oblige_terms.Meaning.{claim_name, IsTermOf, AreTermsOf}
+use Rattle.ygg_oblige_decided.proofs.Deciding.{zero_is_violated}
 use Rattle.ygg_oblige_decided.proofs.Listed.{listed_zero}
 use Rattle.ygg_oblige.specs.declared.obligation.Obligation.{Obligation}
 use Rattle.ygg_oblige.specs.Obligations.{names_in, terms_in}

@@ -4,9 +4,9 @@ use Rattle.std.specs.Prelude.{Contains, MatchBool, is_some}
 use Rattle.std.specs.List.{find}
 use Rattle.std.specs.Option.{option_map}
 use Rattle.ygg_syntax.specs.declared.tree.File.{File}
-use Rattle.ygg_meaning.specs.Obligations.{name_of}
-use Rattle.ygg_histories.specs.Claims.{Claim, claims_of}
-use Rattle.ygg_oblige_terms.specs.Meaning.{claim_name}
+use Rattle.ygg_sched.specs.ygg_meaning.Obligations.{name_of}
+use Rattle.ygg_sched.specs.ygg_histories.Claims.{Claim, claims_of}
+use Rattle.ygg_oblige_decided.specs.ygg_oblige_terms.Meaning.{claim_name}
 use Rattle.ygg_sched.specs.declared.claim.Claim as code
 use Rattle.ygg_sched.specs.Laws.{asked_at, asked_of}
 use Rattle.ygg_sched.specs.Sites.{Site, sites_of, is_named, site_named, site_in}

@@ -1,1 +1,2 @@
+pub use Rattle.ygg_dimacs_term.specs.ygg_rules
 pub mod Printed

@@ -3,16 +3,16 @@ use Rattle.std.specs.Prelude.{◌≡◌, ◌↔◌, ◌<◌, ℕ, Bool, List, []
 use Rattle.ygg_base.specs.declared.status.Status.{Status}
 use Rattle.ygg_base.specs.declared.status.Status.TheVariants.{Done}
 use Rattle.ygg_syntax.specs.declared.tree.File.{File}
-use Rattle.ygg_rules.specs.declared.rule.RuleKind.{RuleKind}
-use Rattle.ygg_meaning.specs.Obligations.{Schedule}
-use Rattle.ygg_histories.specs.Claims.{Claim, ClaimViolated, claims_of}
-use Rattle.ygg_bank.specs.declared.node.Id.{Id}
-use Rattle.ygg_cnf.specs.declared.lit.Lit.{Lit}
-use Rattle.ygg_cnf.specs.Literals.{SatisfiesAll}
-use Rattle.ygg_gates.specs.Groups.{translated}
+use Rattle.ygg_dimacs_term.specs.ygg_rules.declared.rule.RuleKind.{RuleKind}
+use Rattle.ygg_sched.specs.ygg_meaning.Obligations.{Schedule}
+use Rattle.ygg_sched.specs.ygg_histories.Claims.{Claim, ClaimViolated, claims_of}
+use Rattle.ygg_dimacs_term.specs.ygg_bank.declared.node.Id.{Id}
+use Rattle.ygg_dimacs_term.specs.ygg_cnf.declared.lit.Lit.{Lit}
+use Rattle.ygg_dimacs_term.specs.ygg_cnf.Literals.{SatisfiesAll}
+use Rattle.ygg_dimacs_term.specs.ygg_gates.Groups.{translated}
 use Rattle.ygg_oblige.specs.declared.obligation.Obligation.{Obligation}
-use Rattle.ygg_oblige_terms.specs.Terms.{file_made}
-use Rattle.ygg_oblige_terms.specs.Meaning.{claim_name}
+use Rattle.ygg_oblige_decided.specs.ygg_oblige_terms.Terms.{file_made}
+use Rattle.ygg_oblige_decided.specs.ygg_oblige_terms.Meaning.{claim_name}
 use Rattle.ygg_dimacs_term.specs.Counted.{clauses_text}
 
 -- some truth values satisfy the clauses exactly where some schedule violates the obligation

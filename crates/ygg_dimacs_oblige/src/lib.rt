@@ -6,3 +6,4 @@ mod printing;
 
 pub use naming::is_obligation;
 pub use printing::put_obligation;
+pub use ygg_dimacs_term::{Book, RuleBook};

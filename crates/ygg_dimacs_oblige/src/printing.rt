@@ -2,17 +2,15 @@
 
 ghost use Rattle.std.specs.Prelude.{◌≤◌, IfSome, IsNone, Contains};
 ghost use Rattle.ygg_base.specs.Outside.{Rose};
-ghost use Rattle.ygg_report.specs.Putting.{Puts, IsCutOf};
+ghost use Rattle.ygg_sched.specs.ygg_report.Putting.{Puts, IsCutOf};
 ghost use Rattle.ygg_oblige.specs.Obligations.{names_in};
 ghost use Rattle.ygg_dimacs_oblige.specs.Printed.{Printed, IsNamed, IsPlace};
 
 use std::alloc::Global;
-use ygg_bank::Bank;
 use ygg_base::{Sink, Status};
-use ygg_dimacs_term::put_term;
+use ygg_dimacs_term::{Bank, Book, put_term};
 use ygg_oblige::{Obligation, obligations};
-use ygg_rules::Book;
-use ygg_type::Typed;
+use ygg_sched::Typed;
 
 /// The place of the first obligation of this name.
 fn place_of(all: &[Obligation], name: &[u8]) -> Option<usize>

@@ -4,7 +4,7 @@ use Rattle.std.proofs.Common.{◌++◌, Option, Err, sym, ap, ◌∙◌, subst, 
 use Rattle.std.proofs.lemmas.List.{append-nil}
 use Rattle.std.proofs.lemmas.Grind.{flat_map-append}
 use Rattle.ygg_base.specs.declared.status.Status.{Status}
-use Rattle.ygg_cnf.specs.declared.lit.Lit.{Lit}
+use Rattle.ygg_solver.specs.ygg_cnf.declared.lit.Lit.{Lit}
 use Rattle.ygg_log_text.specs.Lines.{literal_word, literal_words}
 use Rattle.ygg_pieces.specs.Pieces.{Flows, Passes}
 use Rattle.ygg_pieces.proofs.Flowing.{joined, passes_on, passes_short}

@@ -2,10 +2,10 @@
 use Rattle.std.specs.Prelude.{◌≡◌, ◌⊎◌, ℕ, zero, suc, ◌≤◌, Bool, not, List, [], ◌∷◌, ◌++◌, length, codes}
 use Rattle.ygg_base.specs.declared.status.Status.{Status}
 use Rattle.ygg_base.specs.declared.status.Status.TheVariants.{Done, Undecided}
-use Rattle.ygg_cnf.specs.declared.lit.Lit.{Lit}
-use Rattle.ygg_cnf.specs.declared.log.Step.{Step}
-use Rattle.ygg_cnf.specs.Literals.{SatisfiesAll}
-use Rattle.ygg_cnf.specs.Logs.{Refutes, SpentLog}
+use Rattle.ygg_solver.specs.ygg_cnf.declared.lit.Lit.{Lit}
+use Rattle.ygg_solver.specs.ygg_cnf.declared.log.Step.{Step}
+use Rattle.ygg_solver.specs.ygg_cnf.Literals.{SatisfiesAll}
+use Rattle.ygg_solver.specs.ygg_cnf.Logs.{Refutes, SpentLog}
 use Rattle.ygg_report.specs.Lines.{undecided_line}
 use Rattle.ygg_log_text.specs.Lines.{literal_words}
 use Rattle.ygg_pieces.specs.Pieces.{log_lines}

@@ -5,3 +5,5 @@ mod pieces;
 mod solving;
 
 pub use solving::solve_cnf;
+pub use ygg_dimacs::{Cnf, read_cnf};
+pub use ygg_report::put_all;

@@ -2,16 +2,16 @@
 
 ghost use Rattle.std.specs.Prelude.{◌≤◌, [], ◌∷◌};
 ghost use Rattle.ygg_base.specs.Outside.{Rose};
-ghost use Rattle.ygg_cnf.specs.Literals.{truth_of};
+ghost use Rattle.ygg_solver.specs.ygg_cnf.Literals.{truth_of};
 ghost use Rattle.ygg_log_text.specs.Lines.{literal_words};
 ghost use Rattle.ygg_pieces.specs.Pieces.{Passes, Finishes, FinishesWith};
 ghost use Rattle.ygg_dimacs_solve.specs.Solved.{true_literal, true_literals, satisfiable_text, unsatisfiable_text};
 
 use std::alloc::Global;
 use ygg_base::{Sink, Status, Text};
-use ygg_cnf::{Assignment, Lit, Step, truth};
 use ygg_log_text::put_literals;
 use ygg_pieces::{finish, pass, pass_log};
+use ygg_solver::{Assignment, Lit, Step, truth};
 
 /// Goes on with the literal of a variable that is true.
 fn pass_value<K: Sink>(

@@ -1,10 +1,10 @@
 -- Clauses counted gate by gate.
 use Rattle.std.proofs.Common.{◌≡◌, ◌<◌, ◌≤◌, ℕ, suc, ◌+◌, List, [], ◌∷◌, ◌++◌, length, drop, get_or, max, refl, sym, ap, ◌∙◌, arith}
 use Rattle.std.proofs.lemmas.List.{drop_more, drop_all, length-append}
-use Rattle.ygg_cnf.specs.declared.lit.Lit.{Lit}
-use Rattle.ygg_gates.specs.Circuits.{literal}
-use Rattle.ygg_gates.specs.Clauses.{clauses_from, gate_clauses}
-use Rattle.ygg_gates.specs.declared.gate.Gate.{Gate}
+use Rattle.ygg_blast.specs.ygg_cnf.declared.lit.Lit.{Lit}
+use Rattle.ygg_blast.specs.ygg_gates.Circuits.{literal}
+use Rattle.ygg_blast.specs.ygg_gates.Clauses.{clauses_from, gate_clauses}
+use Rattle.ygg_blast.specs.ygg_gates.declared.gate.Gate.{Gate}
 use Rattle.ygg_dimacs_term.specs.declared.counting.Total.{Total}
 use Rattle.ygg_dimacs_term.specs.Counted.{greatest_in, greatest_of, between, Counts, IsCountOf}
 

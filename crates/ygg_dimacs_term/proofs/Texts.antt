@@ -6,10 +6,10 @@ use Rattle.std.proofs.lemmas.Grind.{flat_map-append}
 use Rattle.ygg_base.specs.declared.status.Status.{Status}
 use Rattle.ygg_base.specs.declared.status.Status.TheVariants.{Done, Refuted, Refused, Undecided, Fault, NoMemory}
 use Rattle.ygg_report.proofs.Fronts.{adds_more}
-use Rattle.ygg_cnf.specs.declared.lit.Lit.{Lit}
-use Rattle.ygg_gates.specs.Circuits.{literal, true_literal}
-use Rattle.ygg_gates.specs.Clauses.{clauses_from, gate_clauses}
-use Rattle.ygg_gates.specs.declared.gate.Gate.{Gate}
+use Rattle.ygg_blast.specs.ygg_cnf.declared.lit.Lit.{Lit}
+use Rattle.ygg_blast.specs.ygg_gates.Circuits.{literal, true_literal}
+use Rattle.ygg_blast.specs.ygg_gates.Clauses.{clauses_from, gate_clauses}
+use Rattle.ygg_blast.specs.ygg_gates.declared.gate.Gate.{Gate}
 use Rattle.ygg_log_text.specs.Lines.{clause_line}
 use Rattle.ygg_dimacs.specs.Printing.{header_line, clause_lines}
 use Rattle.ygg_pieces.specs.Pieces.{Flows, Cuts, Passes, Finishes}

@@ -1,9 +1,9 @@
 -- The text of clauses, which begins with how many they are and their greatest variable.
 use Rattle.std.specs.Prelude.{◌≡◌, ℕ, ◌+◌, List, [], ◌∷◌, ◌++◌, length, max}
-use Rattle.ygg_cnf.specs.declared.lit.Lit.{Lit}
-use Rattle.ygg_gates.specs.Circuits.{true_literal}
-use Rattle.ygg_gates.specs.Clauses.{clauses_from}
-use Rattle.ygg_gates.specs.declared.gate.Gate.{Gate}
+use Rattle.ygg_blast.specs.ygg_cnf.declared.lit.Lit.{Lit}
+use Rattle.ygg_blast.specs.ygg_gates.Circuits.{true_literal}
+use Rattle.ygg_blast.specs.ygg_gates.Clauses.{clauses_from}
+use Rattle.ygg_blast.specs.ygg_gates.declared.gate.Gate.{Gate}
 use Rattle.ygg_dimacs.specs.Reading.{cnf}
 use Rattle.ygg_dimacs.specs.Printing.{cnf_text}
 use Rattle.ygg_dimacs_term.specs.declared.counting.Total.{Total}

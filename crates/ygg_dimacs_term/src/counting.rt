@@ -1,13 +1,11 @@
 //! How many clauses gates have, and their greatest variable.
 
 ghost use Rattle.std.specs.Prelude.{◌≡◌, ◌<◌, ◌^◌, length, IfOk};
-ghost use Rattle.ygg_gates.specs.Clauses.{clauses_from};
+ghost use Rattle.ygg_blast.specs.ygg_gates.Clauses.{clauses_from};
 ghost use Rattle.ygg_dimacs_term.specs.Counted.{greatest_in, greatest_of, between, Counts, IsCountOf};
 
 use std::alloc::Global;
-use ygg_blast::clauses_of_gate;
-use ygg_cnf::{Clause, Lit};
-use ygg_gates::Gate;
+use ygg_blast::{Clause, Gate, Lit, clauses_of_gate};
 use ygg_list::NoMemory;
 
 /// How many clauses there are, and the greatest variable of their literals.

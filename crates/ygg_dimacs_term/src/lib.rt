@@ -6,3 +6,4 @@ mod counting;
 mod putting;
 
 pub use putting::put_term;
+pub use ygg_blast::{Bank, Book, RuleBook};

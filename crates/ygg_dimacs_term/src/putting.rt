@@ -2,10 +2,10 @@
 
 ghost use Rattle.std.specs.Prelude.{◌≡◌, ◌<◌, ◌≤◌, ◌^◌, ◌++◌, [], ◌∷◌, length, IfOk};
 ghost use Rattle.ygg_base.specs.Outside.{Rose};
-ghost use Rattle.ygg_bank.specs.Nodes.{HasWidth};
-ghost use Rattle.ygg_gates.specs.Circuits.{literal, true_literal as one};
-ghost use Rattle.ygg_gates.specs.Clauses.{clauses_from, gate_clauses};
-ghost use Rattle.ygg_gates.specs.Groups.{translated};
+ghost use Rattle.ygg_blast.specs.ygg_bank.Nodes.{HasWidth};
+ghost use Rattle.ygg_blast.specs.ygg_gates.Circuits.{literal, true_literal as one};
+ghost use Rattle.ygg_blast.specs.ygg_gates.Clauses.{clauses_from, gate_clauses};
+ghost use Rattle.ygg_blast.specs.ygg_gates.Groups.{translated};
 ghost use Rattle.ygg_log_text.specs.Lines.{clause_line};
 ghost use Rattle.ygg_dimacs.specs.Printing.{header_line, clause_lines};
 ghost use Rattle.ygg_pieces.specs.Pieces.{Passes, Finishes, FinishesWith};
@@ -13,13 +13,9 @@ ghost use Rattle.ygg_dimacs_term.specs.Counted.{between, clauses_text, IsCountOf
 
 use crate::counting::{Total, count};
 use std::alloc::Global;
-use ygg_bank::{Bank, Id};
 use ygg_base::{NoMemory, Sink, Status, Text};
-use ygg_blast::{circuit_of, clauses_of_gate};
-use ygg_cnf::{Clause, Lit};
+use ygg_blast::{Bank, Clause, Gate, Id, Lit, circuit_of, clauses_of_gate, true_literal};
 use ygg_dimacs::put_header;
-use ygg_gates::Gate;
-use ygg_gates_circuit::true_literal;
 use ygg_log_text::put_clause;
 use ygg_pieces::{finish, pass};
 

@@ -1,3 +1,5 @@
+pub use Rattle.ygg_type_progress.proofs.of_ygg_histories
+pub use Rattle.ygg_type_progress.proofs as of_ygg_type_progress
 pub mod Order
 pub mod Mirror
 pub mod Taking

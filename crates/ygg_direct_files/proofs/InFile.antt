@@ -4,27 +4,27 @@ use Rattle.std.specs.List.{list_all}
 use Rattle.ygg_syntax.specs.declared.tree.Block.{Block}
 use Rattle.ygg_syntax.specs.declared.tree.Layer.{Layer}
 use Rattle.ygg_syntax.specs.declared.tree.File.{File}
-use Rattle.ygg_syntax_count.specs.Weights.{weights_of}
-use Rattle.ygg_symbols.specs.Names.{Named, look_up}
-use Rattle.ygg_type_rules.specs.declared.scope.Signature.{Signature}
-use Rattle.ygg_type_rules.specs.TypeErrors.{none}
-use Rattle.ygg_type_rules.specs.Definitions.{with_definitions}
-use Rattle.ygg_type_rules.specs.Layers.{layer_scope}
-use Rattle.ygg_type_rules.specs.Files.{IsTyped, type_errors_of, disk_errors}
-use Rattle.ygg_meaning.specs.Environments.{Env, bind}
-use Rattle.ygg_meaning.specs.Meaning.{functions_of}
-use Rattle.ygg_meaning.specs.Machine.{State, on}
-use Rattle.ygg_meaning.specs.Layer.{ClosedLayer}
-use Rattle.ygg_meaning.specs.Refines.{Below, OnDisk, OnSpec, machine_below}
-use Rattle.ygg_type_sound.proofs.Parameters.{same_fit}
-use Rattle.ygg_type_sound.proofs.Tests.{left as first_of}
-use Rattle.ygg_type_progress.specs.Kinds.{keeps, layer_keeps}
-use Rattle.ygg_type_progress.specs.Machines.{SpecAnswers}
-use Rattle.ygg_type_progress.proofs.TypeErrors.{none_listed}
-use Rattle.ygg_type_progress.proofs.Files.{have}
-use Rattle.ygg_type_progress.proofs.Operations.{added_all, find_operation, seen_operations}
-use Rattle.ygg_type_progress.proofs.Typed.{parts}
-use Rattle.ygg_type_progress.proofs.Specs.{spec_answers}
+use Rattle.ygg_direct.specs.ygg_syntax_count.Weights.{weights_of}
+use Rattle.ygg_direct.specs.ygg_symbols.Names.{Named, look_up}
+use Rattle.ygg_direct.specs.ygg_type_rules.declared.scope.Signature.{Signature}
+use Rattle.ygg_direct.specs.ygg_type_rules.TypeErrors.{none}
+use Rattle.ygg_direct.specs.ygg_type_rules.Definitions.{with_definitions}
+use Rattle.ygg_direct.specs.ygg_type_rules.Layers.{layer_scope}
+use Rattle.ygg_direct.specs.ygg_type_rules.Files.{IsTyped, type_errors_of, disk_errors}
+use Rattle.ygg_direct.specs.ygg_meaning.Environments.{Env, bind}
+use Rattle.ygg_direct.specs.ygg_meaning.Meaning.{functions_of}
+use Rattle.ygg_direct.specs.ygg_meaning.Machine.{State, on}
+use Rattle.ygg_direct.specs.ygg_meaning.Layer.{ClosedLayer}
+use Rattle.ygg_direct.specs.ygg_meaning.Refines.{Below, OnDisk, OnSpec, machine_below}
+use Rattle.ygg_direct.specs.ygg_type_sound_proofs_Parameters.{same_fit}
+use Rattle.ygg_direct.specs.ygg_type_sound_proofs_Tests.{left as first_of}
+use Rattle.ygg_direct.specs.ygg_type_progress.Kinds.{keeps, layer_keeps}
+use Rattle.ygg_direct.specs.ygg_type_progress.Machines.{SpecAnswers}
+use Rattle.ygg_direct.specs.ygg_type_progress_proofs_TypeErrors.{none_listed}
+use Rattle.ygg_direct.specs.ygg_type_progress_proofs_Files.{have}
+use Rattle.ygg_direct.specs.ygg_type_progress_proofs_Operations.{added_all, find_operation, seen_operations}
+use Rattle.ygg_direct.specs.ygg_type_progress_proofs_Typed.{parts}
+use Rattle.ygg_direct.specs.ygg_type_progress_proofs_Specs.{spec_answers}
 use Rattle.ygg_eval_lower.specs.Bodies.{variables_in, arguments_in}
 use Rattle.ygg_eval_lower.specs.Layers.{closed_at, below_at, signatures_of, signatures_at}
 use Rattle.ygg_eval_lower.proofs.Blocks.{block_typing, blocks_kept, layer_typing}

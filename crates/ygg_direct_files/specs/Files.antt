@@ -5,13 +5,13 @@ use Rattle.ygg_syntax.specs.declared.grammar.BlockKind.TheVariants.{Impl}
 use Rattle.ygg_syntax.specs.declared.tree.Block.{Block}
 use Rattle.ygg_syntax.specs.declared.tree.Layer.{Layer}
 use Rattle.ygg_syntax.specs.declared.tree.File.{File}
-use Rattle.ygg_type_rules.specs.Files.{IsTyped}
+use Rattle.ygg_direct.specs.ygg_type_rules.Files.{IsTyped}
 use Rattle.ygg_syntax.specs.Files.{IsDerived}
-use Rattle.ygg_meaning.specs.Environments.{Env, bind}
-use Rattle.ygg_meaning.specs.Shapes.{values_fit}
-use Rattle.ygg_meaning.specs.Machine.{State, on}
-use Rattle.ygg_meaning.specs.Refines.{Below, OnDisk, OnSpec}
-use Rattle.ygg_type_progress.specs.Machines.{IsSized, IsStateOf}
+use Rattle.ygg_direct.specs.ygg_meaning.Environments.{Env, bind}
+use Rattle.ygg_direct.specs.ygg_meaning.Shapes.{values_fit}
+use Rattle.ygg_direct.specs.ygg_meaning.Machine.{State, on}
+use Rattle.ygg_direct.specs.ygg_meaning.Refines.{Below, OnDisk, OnSpec}
+use Rattle.ygg_direct.specs.ygg_type_progress.Machines.{IsSized, IsStateOf}
 use Rattle.ygg_eval_lower.specs.declared.body.Body.{Body}
 use Rattle.ygg_eval_lower.specs.Bodies.{kind_of, variables_in, arguments_in, IsBlock}
 use Rattle.ygg_eval_lower.specs.Layers.{closed_at, below_at, machine_at}

@@ -2,3 +2,6 @@
 #![tactic(auto)]
 
 pub mod law;
+
+pub use ygg_direct::{Picks, Power, Turn};
+pub use ygg_eval_lower::{Body, Lower, Part, Stop, Typed, block_of};

@@ -18,7 +18,8 @@
 mod law;
 
 pub use law::runs_are_steps;
-pub use ygg_eval_block::{Ended, run_body};
-pub use ygg_eval_holds::{Formula, Which, holds};
-pub use ygg_eval_lower::{Body, Lower, Part, Stop};
-pub use ygg_eval_spec::{SpecLower, spec_lower};
+pub use ygg_eval_holds::{
+    AsyncDisk, Body, Formula, Ground, Lower, Part, Picks, Power, Stop, SyncDisk, Turn, Typed,
+    Which, fresh_async, fresh_sync, holds,
+};
+pub use ygg_eval_spec::{Ended, SpecLower, run_body, spec_lower};

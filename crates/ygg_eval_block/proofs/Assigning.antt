@@ -41,31 +41,31 @@ use Rattle.ygg_syntax.specs.declared.tree.Name.{Name}
 use Rattle.ygg_syntax.specs.declared.tree.Index.{Index}
 use Rattle.ygg_syntax.specs.declared.tree.Source.{Source}
 use Rattle.ygg_syntax.specs.declared.tree.File.{File}
-use Rattle.ygg_symbols.specs.Names.{look_up}
-use Rattle.ygg_type_rules.specs.declared.scope.TypedExpr.{TypedExpr}
-use Rattle.ygg_type_rules.specs.declared.scope.Local.{Local}
-use Rattle.ygg_type_rules.specs.TypeErrors.{none, nothing, one, both, unless, type_error}
-use Rattle.ygg_type_rules.specs.Shapes.{part_shape, is_word}
-use Rattle.ygg_type_rules.specs.Scopes.{Scope, name_in}
-use Rattle.ygg_type_rules.specs.Expressions.{own, wanted, wanted_word, typing, index_rule}
-use Rattle.ygg_type_rules.specs.Statements.{source_typing, target_rule, indexed, place_rule}
-use Rattle.ygg_meaning.specs.Environments.{Env}
-use Rattle.ygg_meaning.specs.Environments as meaning
-use Rattle.ygg_meaning.specs.Meaning.{Functions, functions_of, value_with}
-use Rattle.ygg_meaning.specs.Progress.{indices_of, assigned}
-use Rattle.ygg_meaning.specs.Shapes.{fits}
-use Rattle.ygg_type_sound.specs.Agrees.{Agrees}
-use Rattle.ygg_type_sound.specs.Fitting.{HasShape, fits_wanted}
-use Rattle.ygg_type_sound.proofs.Tests.{left as first_of, right as second_of}
-use Rattle.ygg_type_sound.proofs.Rules.{wanted_has}
-use Rattle.ygg_type_sound.proofs.Fits.{value_fits}
-use Rattle.ygg_type_sound.proofs.Names.{value_found}
+use Rattle.ygg_eval_expr.specs.ygg_symbols.Names.{look_up}
+use Rattle.ygg_eval_expr.specs.ygg_type_rules.declared.scope.TypedExpr.{TypedExpr}
+use Rattle.ygg_eval_expr.specs.ygg_type_rules.declared.scope.Local.{Local}
+use Rattle.ygg_eval_expr.specs.ygg_type_rules.TypeErrors.{none, nothing, one, both, unless, type_error}
+use Rattle.ygg_eval_expr.specs.ygg_type_rules.Shapes.{part_shape, is_word}
+use Rattle.ygg_eval_expr.specs.ygg_type_rules.Scopes.{Scope, name_in}
+use Rattle.ygg_eval_expr.specs.ygg_type_rules.Expressions.{own, wanted, wanted_word, typing, index_rule}
+use Rattle.ygg_eval_expr.specs.ygg_type_rules.Statements.{source_typing, target_rule, indexed, place_rule}
+use Rattle.ygg_eval_expr.specs.ygg_meaning.Environments.{Env}
+use Rattle.ygg_eval_expr.specs.ygg_meaning.Environments as meaning
+use Rattle.ygg_eval_expr.specs.ygg_meaning.Meaning.{Functions, functions_of, value_with}
+use Rattle.ygg_eval_expr.specs.ygg_meaning.Progress.{indices_of, assigned}
+use Rattle.ygg_eval_expr.specs.ygg_meaning.Shapes.{fits}
+use Rattle.ygg_eval_expr.specs.ygg_type_sound.Agrees.{Agrees}
+use Rattle.ygg_eval_expr.specs.ygg_type_sound.Fitting.{HasShape, fits_wanted}
+use Rattle.ygg_eval_expr.specs.ygg_type_sound_proofs_Tests.{left as first_of, right as second_of}
+use Rattle.ygg_eval_expr.specs.ygg_type_sound_proofs_Rules.{wanted_has}
+use Rattle.ygg_eval_expr.specs.ygg_type_sound_proofs_Fits.{value_fits}
+use Rattle.ygg_eval_expr.specs.ygg_type_sound_proofs_Names.{value_found}
 use Rattle.ygg_eval_expr.specs.declared.held.Binding.{Binding}
 use Rattle.ygg_eval_expr.specs.Held.{env_of}
 use Rattle.ygg_eval_expr.specs.Known.{CanEvaluate}
 use Rattle.ygg_eval_expr.specs.Writing.{shape_led_to, CanWrite}
-use Rattle.ygg_type_progress.specs.Questions.{plain}
-use Rattle.ygg_type_progress.proofs.Files.{have}
+use Rattle.ygg_eval_lower.specs.ygg_type_progress.Questions.{plain}
+use Rattle.ygg_eval_lower.specs.ygg_type_progress_proofs_Files.{have}
 use Rattle.ygg_eval_lower.specs.declared.body.Stop.{Stop}
 use Rattle.ygg_eval_lower.specs.Lower.{Standing, Meaning}
 use Rattle.ygg_eval_block.specs.Ready.{eval_in, known_in, Fits, CanAsk, CanAssign, IsGiven}

@@ -44,12 +44,12 @@ use Rattle.ygg_syntax.specs.declared.tree.Stmt.{Stmt, map-Stmt, out-Stmt, fold_o
 use Rattle.ygg_syntax.specs.declared.tree.Stmt.TheVariants as tree
 use Rattle.ygg_syntax.specs.declared.tree.Stmt.TheOpen.{Stmt-F}
 use Rattle.ygg_syntax.specs.declared.tree.File.{File}
-use Rattle.ygg_symbols.specs.Names.{Named, look_up, has, added}
-use Rattle.ygg_type_rules.specs.declared.scope.Signature.{Signature}
-use Rattle.ygg_type_rules.specs.TypeErrors.{none}
-use Rattle.ygg_type_rules.specs.Scopes.{Scope, with_local}
-use Rattle.ygg_type_rules.specs.Expressions.{typing, typings, type_errors_in, parts_of, expected_errors}
-use Rattle.ygg_type_rules.specs.Statements.{
+use Rattle.ygg_eval_expr.specs.ygg_symbols.Names.{Named, look_up, has, added}
+use Rattle.ygg_eval_expr.specs.ygg_type_rules.declared.scope.Signature.{Signature}
+use Rattle.ygg_eval_expr.specs.ygg_type_rules.TypeErrors.{none}
+use Rattle.ygg_eval_expr.specs.ygg_type_rules.Scopes.{Scope, with_local}
+use Rattle.ygg_eval_expr.specs.ygg_type_rules.Expressions.{typing, typings, type_errors_in, parts_of, expected_errors}
+use Rattle.ygg_eval_expr.specs.ygg_type_rules.Statements.{
   Walked,
   source_typing,
   call_rule,
@@ -61,23 +61,23 @@ use Rattle.ygg_type_rules.specs.Statements.{
   walked,
   block_errors,
 }
-use Rattle.ygg_meaning.specs.Environments.{Env}
-use Rattle.ygg_meaning.specs.Meaning.{Functions, functions_of, value_with}
-use Rattle.ygg_meaning.specs.Progress.{Answer, Point, Waits, Goes, Question, Call, forget_since, in_turn, run_of, values_of, value_in}
-use Rattle.ygg_meaning.specs.Shapes.{fits}
-use Rattle.ygg_type_sound.specs.Agrees.{Agrees}
-use Rattle.ygg_type_sound.specs.Fitting.{HasShape, fits_wanted}
-use Rattle.ygg_type_sound.proofs.Tests.{left as first_of, right as second_of}
-use Rattle.ygg_type_sound.proofs.Lists.{AllHave, have_shapes, arguments_fit}
-use Rattle.ygg_type_sound.proofs.Fits.{fits_has, digit_has}
+use Rattle.ygg_eval_expr.specs.ygg_meaning.Environments.{Env}
+use Rattle.ygg_eval_expr.specs.ygg_meaning.Meaning.{Functions, functions_of, value_with}
+use Rattle.ygg_eval_expr.specs.ygg_meaning.Progress.{Answer, Point, Waits, Goes, Question, Call, forget_since, in_turn, run_of, values_of, value_in}
+use Rattle.ygg_eval_expr.specs.ygg_meaning.Shapes.{fits}
+use Rattle.ygg_eval_expr.specs.ygg_type_sound.Agrees.{Agrees}
+use Rattle.ygg_eval_expr.specs.ygg_type_sound.Fitting.{HasShape, fits_wanted}
+use Rattle.ygg_eval_expr.specs.ygg_type_sound_proofs_Tests.{left as first_of, right as second_of}
+use Rattle.ygg_eval_expr.specs.ygg_type_sound_proofs_Lists.{AllHave, have_shapes, arguments_fit}
+use Rattle.ygg_eval_expr.specs.ygg_type_sound_proofs_Fits.{fits_has, digit_has}
 use Rattle.ygg_eval_expr.specs.Known.{CanEvaluate}
-use Rattle.ygg_type_progress.specs.Kinds.{all_keep, node_keeps, stmt_keeps, keeps}
-use Rattle.ygg_type_progress.specs.Questions.{plain, answer_has, gives, answer_fits, Follows}
-use Rattle.ygg_type_progress.proofs.TypeErrors.{Called, called}
-use Rattle.ygg_type_progress.proofs.Following.{follows_cut, agrees_after}
-use Rattle.ygg_type_progress.proofs.Asking.{all_known}
-use Rattle.ygg_type_progress.proofs.Sounds.{Told, all_sound, statements_sound}
-use Rattle.ygg_type_progress.proofs.Files.{have}
+use Rattle.ygg_eval_lower.specs.ygg_type_progress.Kinds.{all_keep, node_keeps, stmt_keeps, keeps}
+use Rattle.ygg_eval_lower.specs.ygg_type_progress.Questions.{plain, answer_has, gives, answer_fits, Follows}
+use Rattle.ygg_eval_lower.specs.ygg_type_progress_proofs_TypeErrors.{Called, called}
+use Rattle.ygg_eval_lower.specs.ygg_type_progress_proofs_Following.{follows_cut, agrees_after}
+use Rattle.ygg_eval_lower.specs.ygg_type_progress_proofs_Asking.{all_known}
+use Rattle.ygg_eval_lower.specs.ygg_type_progress_proofs_Sounds.{Told, all_sound, statements_sound}
+use Rattle.ygg_eval_lower.specs.ygg_type_progress_proofs_Files.{have}
 use Rattle.ygg_eval_lower.specs.declared.body.Stop.{Stop}
 use Rattle.ygg_eval_lower.specs.Layers.{signatures_at}
 use Rattle.ygg_eval_lower.specs.Lower.{Standing, Meaning}

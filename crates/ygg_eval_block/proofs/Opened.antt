@@ -10,12 +10,12 @@ use Rattle.ygg_syntax.specs.declared.tree.Stmt.TheVariants as tree
 use Rattle.ygg_syntax.specs.declared.tree.Stmt.TheOpen.{Stmt-F}
 use Rattle.ygg_syntax.specs.declared.tree.Stmt.TheFolds.{fold-roll-Stmt}
 use Rattle.ygg_syntax.specs.declared.tree.Block.{Block, fold-Block, fold_out-Block}
-use Rattle.ygg_type_rules.specs.TypeErrors.{TypeErrors}
-use Rattle.ygg_type_rules.specs.Scopes.{Scope}
-use Rattle.ygg_type_rules.specs.Statements.{Walked, node_walked, node_inside, walked, block_errors}
-use Rattle.ygg_meaning.specs.Progress.{Eval, Run, stmt_run, block_run, run_of}
+use Rattle.ygg_eval_expr.specs.ygg_type_rules.TypeErrors.{TypeErrors}
+use Rattle.ygg_eval_expr.specs.ygg_type_rules.Scopes.{Scope}
+use Rattle.ygg_eval_expr.specs.ygg_type_rules.Statements.{Walked, node_walked, node_inside, walked, block_errors}
+use Rattle.ygg_eval_expr.specs.ygg_meaning.Progress.{Eval, Run, stmt_run, block_run, run_of}
 use Rattle.ygg_eval_block.specs.Ready.{inside_run}
-use Rattle.ygg_type_progress.specs.Kinds.{node_keeps, node_all_keep, stmt_keeps, keeps}
+use Rattle.ygg_eval_lower.specs.ygg_type_progress.Kinds.{node_keeps, node_all_keep, stmt_keeps, keeps}
 
 module _ (eval : Eval) where
   abbrev R' : Block → Run

@@ -32,14 +32,14 @@ use Rattle.ygg_syntax.specs.declared.tree.DiskText.{DiskText}
 use Rattle.ygg_syntax.specs.declared.tree.Operation.{Operation}
 use Rattle.ygg_syntax.specs.declared.tree.Layer.{Layer}
 use Rattle.ygg_syntax.specs.declared.tree.File.{File}
-use Rattle.ygg_symbols.specs.Names.{Named, look_up, has}
-use Rattle.ygg_type_rules.specs.declared.scope.Signature.{Signature}
-use Rattle.ygg_type_rules.specs.Layers.{operation_signature}
-use Rattle.ygg_type_rules.specs.Files.{address, disk_row, disk_operations}
-use Rattle.ygg_type.specs.Typed.{operations_at, operation_place}
-use Rattle.ygg_meaning.specs.Environments.{Name}
-use Rattle.ygg_type_sound.specs.Fitting.{all_fit}
-use Rattle.ygg_type_sound.proofs.Tests.{bytes_same}
+use Rattle.ygg_eval_expr.specs.ygg_symbols.Names.{Named, look_up, has}
+use Rattle.ygg_eval_expr.specs.ygg_type_rules.declared.scope.Signature.{Signature}
+use Rattle.ygg_eval_expr.specs.ygg_type_rules.Layers.{operation_signature}
+use Rattle.ygg_eval_expr.specs.ygg_type_rules.Files.{address, disk_row, disk_operations}
+use Rattle.ygg_eval_lower.specs.ygg_type.Typed.{operations_at, operation_place}
+use Rattle.ygg_eval_expr.specs.ygg_meaning.Environments.{Name}
+use Rattle.ygg_eval_expr.specs.ygg_type_sound.Fitting.{all_fit}
+use Rattle.ygg_eval_expr.specs.ygg_type_sound_proofs_Tests.{bytes_same}
 use Rattle.ygg_eval_lower.specs.Layers.{signatures_of, signatures_at}
 use Rattle.ygg_eval_lower.specs.Lower.{Standing, Meaning, Serves, IsCallable}
 use Rattle.ygg_eval_block.specs.Ready.{IsPlace, place_on_disk}

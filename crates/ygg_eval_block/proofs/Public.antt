@@ -40,20 +40,20 @@ use Rattle.ygg_syntax.specs.declared.grammar.BlockKind.{BlockKind}
 use Rattle.ygg_syntax.specs.declared.tree.Block.{Block}
 use Rattle.ygg_syntax.specs.declared.tree.Declared.{Declared}
 use Rattle.ygg_syntax.specs.declared.tree.File.{File}
-use Rattle.ygg_symbols.specs.Names.{Named}
+use Rattle.ygg_eval_expr.specs.ygg_symbols.Names.{Named}
 use Rattle.ygg_value.specs.declared.shape.Shape.{Shape}
-use Rattle.ygg_type_rules.specs.declared.scope.Signature.{Signature}
-use Rattle.ygg_type_rules.specs.Scopes.{Scope}
-use Rattle.ygg_meaning.specs.Environments.{Env, bind}
-use Rattle.ygg_meaning.specs.Shapes.{shape_in, fits, values_fit}
-use Rattle.ygg_type_sound.proofs.Tests.{left as first_of, right as second_of}
-use Rattle.ygg_meaning.specs.Meaning.{functions_of}
-use Rattle.ygg_meaning.specs.Progress.{Answer, Question, Point, Waits, Goes, Asks, Ends, in_turn, run_of, answer_of, ended, after}
-use Rattle.ygg_meaning.specs.Runs.{Dialogue}
-use Rattle.ygg_type_progress.specs.Questions.{answer_fits, question_fits, AnswersFit, Follows}
+use Rattle.ygg_eval_expr.specs.ygg_type_rules.declared.scope.Signature.{Signature}
+use Rattle.ygg_eval_expr.specs.ygg_type_rules.Scopes.{Scope}
+use Rattle.ygg_eval_expr.specs.ygg_meaning.Environments.{Env, bind}
+use Rattle.ygg_eval_expr.specs.ygg_meaning.Shapes.{shape_in, fits, values_fit}
+use Rattle.ygg_eval_expr.specs.ygg_type_sound_proofs_Tests.{left as first_of, right as second_of}
+use Rattle.ygg_eval_expr.specs.ygg_meaning.Meaning.{functions_of}
+use Rattle.ygg_eval_expr.specs.ygg_meaning.Progress.{Answer, Question, Point, Waits, Goes, Asks, Ends, in_turn, run_of, answer_of, ended, after}
+use Rattle.ygg_eval_expr.specs.ygg_meaning.Runs.{Dialogue}
+use Rattle.ygg_eval_lower.specs.ygg_type_progress.Questions.{answer_fits, question_fits, AnswersFit, Follows}
 use Rattle.ygg_eval_lower.specs.declared.body.Stop.{Stop}
 use Rattle.ygg_eval_lower.specs.Layers.{signatures_at}
-use Rattle.ygg_type_progress.specs.Blocks.{IsSound}
+use Rattle.ygg_eval_lower.specs.ygg_type_progress.Blocks.{IsSound}
 use Rattle.ygg_eval_lower.specs.Lower.{Standing, Meaning, Ending, Outage, Happened, Lacking, Serves}
 use Rattle.ygg_eval_lower.specs.Lower as ending
 use Rattle.ygg_eval_lower.specs.Conversations.{Exchange, Exchanged, Talks, asked, answers_of, calls_in}

@@ -7,19 +7,19 @@ use Rattle.ygg_syntax.specs.declared.tree.Name.{Name}
 use Rattle.ygg_syntax.specs.declared.tree.Numeral.{Numeral}
 use Rattle.ygg_syntax.specs.declared.tree.Block.{Block}
 use Rattle.ygg_syntax.specs.declared.tree.File.{File}
-use Rattle.ygg_type_rules.specs.TypeErrors.{none}
-use Rattle.ygg_type_rules.specs.Shapes.{word_shape}
-use Rattle.ygg_type_rules.specs.Scopes.{is_taken}
-use Rattle.ygg_type_rules.specs.Expressions.{with_number, number_errors}
-use Rattle.ygg_type_rules.specs.Statements.{block_errors}
-use Rattle.ygg_meaning.specs.Environments.{Env}
-use Rattle.ygg_meaning.specs.Meaning.{functions_of}
-use Rattle.ygg_meaning.specs.Progress.{and_then, forget_since, for_each}
-use Rattle.ygg_type_sound.proofs.Tests.{left as first_of, right as second_of}
-use Rattle.ygg_type_sound.proofs.Rules.{NumberParts, number_parts}
-use Rattle.ygg_type_sound.proofs.Steps.{agrees_with_number}
-use Rattle.ygg_type_progress.specs.Questions.{plain}
-use Rattle.ygg_type_progress.proofs.Following.{follows_front, agrees_after}
+use Rattle.ygg_eval_expr.specs.ygg_type_rules.TypeErrors.{none}
+use Rattle.ygg_eval_expr.specs.ygg_type_rules.Shapes.{word_shape}
+use Rattle.ygg_eval_expr.specs.ygg_type_rules.Scopes.{is_taken}
+use Rattle.ygg_eval_expr.specs.ygg_type_rules.Expressions.{with_number, number_errors}
+use Rattle.ygg_eval_expr.specs.ygg_type_rules.Statements.{block_errors}
+use Rattle.ygg_eval_expr.specs.ygg_meaning.Environments.{Env}
+use Rattle.ygg_eval_expr.specs.ygg_meaning.Meaning.{functions_of}
+use Rattle.ygg_eval_expr.specs.ygg_meaning.Progress.{and_then, forget_since, for_each}
+use Rattle.ygg_eval_expr.specs.ygg_type_sound_proofs_Tests.{left as first_of, right as second_of}
+use Rattle.ygg_eval_expr.specs.ygg_type_sound_proofs_Rules.{NumberParts, number_parts}
+use Rattle.ygg_eval_expr.specs.ygg_type_sound_proofs_Steps.{agrees_with_number}
+use Rattle.ygg_eval_lower.specs.ygg_type_progress.Questions.{plain}
+use Rattle.ygg_eval_lower.specs.ygg_type_progress_proofs_Following.{follows_front, agrees_after}
 use Rattle.ygg_eval_lower.specs.declared.body.Stop.{Stop}
 use Rattle.ygg_eval_lower.specs.Lower.{Standing, Meaning}
 use Rattle.ygg_eval_block.specs.declared.flow.Flow.{Flow}

@@ -36,9 +36,9 @@ use Rattle.ygg_syntax.specs.declared.tree.Stmt.{Stmt}
 use Rattle.ygg_syntax.specs.declared.tree.Stmt.TheVariants as tree
 use Rattle.ygg_syntax.specs.declared.tree.Stmt.TheOpen.{Stmt-F}
 use Rattle.ygg_syntax.specs.declared.tree.File.{File}
-use Rattle.ygg_meaning.specs.Environments.{Env}
-use Rattle.ygg_meaning.specs.Meaning.{is_one}
-use Rattle.ygg_meaning.specs.Progress.{Run, and_then, forget_since, in_turn, for_each, run_of, stmt_run}
+use Rattle.ygg_eval_expr.specs.ygg_meaning.Environments.{Env}
+use Rattle.ygg_eval_expr.specs.ygg_meaning.Meaning.{is_one}
+use Rattle.ygg_eval_expr.specs.ygg_meaning.Progress.{Run, and_then, forget_since, in_turn, for_each, run_of, stmt_run}
 use Rattle.ygg_eval_expr.specs.declared.held.Binding.{Binding}
 use Rattle.ygg_eval_expr.specs.Held.{env_of, held_value}
 use Rattle.ygg_eval_lower.specs.declared.body.Stop.{Stop}

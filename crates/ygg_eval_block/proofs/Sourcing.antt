@@ -10,12 +10,12 @@ use Rattle.ygg_syntax.specs.declared.tree.Expr.{Expr}
 use Rattle.ygg_syntax.specs.declared.tree.Source.{Source}
 use Rattle.ygg_syntax.specs.declared.tree.Source.TheVariants as source
 use Rattle.ygg_syntax.specs.declared.tree.File.{File}
-use Rattle.ygg_disk.specs.declared.power.Power.{Power}
-use Rattle.ygg_disk.specs.Power.{pick_of, after_pick}
-use Rattle.ygg_meaning.specs.Environments.{Env}
-use Rattle.ygg_meaning.specs.Progress.{Answer, Call, Choice, ask, from_source, value_in, values_of}
-use Rattle.ygg_meaning.specs.Shapes.{fits}
-use Rattle.ygg_type_sound.proofs.Fits.{digit_has, value_fits}
+use Rattle.ygg_eval_expr.specs.ygg_disk.declared.power.Power.{Power}
+use Rattle.ygg_eval_expr.specs.ygg_disk.Power.{pick_of, after_pick}
+use Rattle.ygg_eval_expr.specs.ygg_meaning.Environments.{Env}
+use Rattle.ygg_eval_expr.specs.ygg_meaning.Progress.{Answer, Call, Choice, ask, from_source, value_in, values_of}
+use Rattle.ygg_eval_expr.specs.ygg_meaning.Shapes.{fits}
+use Rattle.ygg_eval_expr.specs.ygg_type_sound_proofs_Fits.{digit_has, value_fits}
 use Rattle.ygg_eval_lower.specs.declared.body.Stop.{Stop}
 use Rattle.ygg_eval_lower.specs.Lower.{Standing, Meaning, Serves}
 use Rattle.ygg_eval_block.specs.declared.flow.Flow.{Flow}

@@ -34,23 +34,23 @@ use Rattle.ygg_syntax.specs.declared.tree.Expr.{Expr}
 use Rattle.ygg_syntax.specs.declared.tree.Layer.{Layer}
 use Rattle.ygg_syntax.specs.declared.tree.Stmt.{Stmt}
 use Rattle.ygg_syntax.specs.declared.tree.File.{File}
-use Rattle.ygg_type_rules.specs.TypeErrors.{none}
-use Rattle.ygg_type_rules.specs.Scopes.{Scope}
-use Rattle.ygg_type_rules.specs.Expressions.{typing}
-use Rattle.ygg_type_rules.specs.Statements.{in_order, walked, return_errors}
-use Rattle.ygg_meaning.specs.Environments.{Env, bind}
-use Rattle.ygg_meaning.specs.Meaning.{functions_of}
-use Rattle.ygg_meaning.specs.Shapes.{values_fit}
-use Rattle.ygg_meaning.specs.Progress.{Answer, Goes, in_turn, run_of, ended, after}
+use Rattle.ygg_eval_expr.specs.ygg_type_rules.TypeErrors.{none}
+use Rattle.ygg_eval_expr.specs.ygg_type_rules.Scopes.{Scope}
+use Rattle.ygg_eval_expr.specs.ygg_type_rules.Expressions.{typing}
+use Rattle.ygg_eval_expr.specs.ygg_type_rules.Statements.{in_order, walked, return_errors}
+use Rattle.ygg_eval_expr.specs.ygg_meaning.Environments.{Env, bind}
+use Rattle.ygg_eval_expr.specs.ygg_meaning.Meaning.{functions_of}
+use Rattle.ygg_eval_expr.specs.ygg_meaning.Shapes.{values_fit}
+use Rattle.ygg_eval_expr.specs.ygg_meaning.Progress.{Answer, Goes, in_turn, run_of, ended, after}
 use Rattle.ygg_eval_expr.specs.Known.{CanEvaluate}
-use Rattle.ygg_type_sound.specs.Agrees.{Agrees}
-use Rattle.ygg_type_sound.proofs.Tests.{left as first_of, right as second_of}
-use Rattle.ygg_type_progress.specs.Questions.{plain, AnswersFit}
-use Rattle.ygg_type_progress.specs.Blocks.{IsSound}
-use Rattle.ygg_type_progress.proofs.Sounds.{Fine, Met, Left, block_sound, statements_sound}
-use Rattle.ygg_type_progress.proofs.Files.{have}
-use Rattle.ygg_type_progress.proofs.Derived.{derivable_derived}
-use Rattle.ygg_type_rules.specs.Files.{IsTyped}
+use Rattle.ygg_eval_expr.specs.ygg_type_sound.Agrees.{Agrees}
+use Rattle.ygg_eval_expr.specs.ygg_type_sound_proofs_Tests.{left as first_of, right as second_of}
+use Rattle.ygg_eval_lower.specs.ygg_type_progress.Questions.{plain, AnswersFit}
+use Rattle.ygg_eval_lower.specs.ygg_type_progress.Blocks.{IsSound}
+use Rattle.ygg_eval_lower.specs.ygg_type_progress_proofs_Sounds.{Fine, Met, Left, block_sound, statements_sound}
+use Rattle.ygg_eval_lower.specs.ygg_type_progress_proofs_Files.{have}
+use Rattle.ygg_eval_lower.proofs.of_ygg_type_progress.Derived.{derivable_derived}
+use Rattle.ygg_eval_expr.specs.ygg_type_rules.Files.{IsTyped}
 use Rattle.ygg_syntax.specs.Files.{IsDerivable}
 use Rattle.ygg_eval_lower.specs.declared.body.Body.{Body}
 use Rattle.ygg_eval_lower.specs.declared.body.Stop.{Stop}

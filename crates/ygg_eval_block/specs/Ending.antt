@@ -8,13 +8,13 @@ use Rattle.ygg_syntax.specs.declared.tree.Block.{Block}
 use Rattle.ygg_syntax.specs.declared.tree.Declared.{Declared}
 use Rattle.ygg_syntax.specs.declared.tree.Expr.{Expr}
 use Rattle.ygg_syntax.specs.declared.tree.File.{File}
-use Rattle.ygg_type_rules.specs.TypeErrors.{none}
-use Rattle.ygg_type_rules.specs.Scopes.{Scope}
-use Rattle.ygg_type_rules.specs.Statements.{block_errors}
-use Rattle.ygg_meaning.specs.Environments.{Name, Env, bind}
-use Rattle.ygg_meaning.specs.Shapes.{values_fit}
-use Rattle.ygg_meaning.specs.Progress.{answer_of, after}
-use Rattle.ygg_type_progress.specs.Kinds.{keeps}
+use Rattle.ygg_eval_expr.specs.ygg_type_rules.TypeErrors.{none}
+use Rattle.ygg_eval_expr.specs.ygg_type_rules.Scopes.{Scope}
+use Rattle.ygg_eval_expr.specs.ygg_type_rules.Statements.{block_errors}
+use Rattle.ygg_eval_expr.specs.ygg_meaning.Environments.{Name, Env, bind}
+use Rattle.ygg_eval_expr.specs.ygg_meaning.Shapes.{values_fit}
+use Rattle.ygg_eval_expr.specs.ygg_meaning.Progress.{answer_of, after}
+use Rattle.ygg_eval_lower.specs.ygg_type_progress.Kinds.{keeps}
 use Rattle.ygg_eval_lower.specs.declared.body.Stop.{Stop}
 use Rattle.ygg_eval_lower.specs.Lower.{Standing, Meaning, Happened, Lacking, Serves}
 use Rattle.ygg_eval_block.specs.Ready.{eval_in, Fits}

@@ -1,7 +1,7 @@
 -- The first of a name.
 use Rattle.std.specs.Prelude.{ℕ, ◌+◌, if◌then◌else◌, [], ◌∷◌, Option, Some, None}
 use Rattle.std.specs.Str.{bytes_eq}
-use Rattle.ygg_meaning.specs.Environments.{Name, Env}
+use Rattle.ygg_eval_expr.specs.ygg_meaning.Environments.{Name, Env}
 
 -- the place of the first of a name, where the first of these has this place
 abbrev pub first_place : ℕ → Env → Name → Option ℕ

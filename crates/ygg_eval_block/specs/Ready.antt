@@ -15,22 +15,22 @@ use Rattle.ygg_syntax.specs.declared.tree.Numeral.{Numeral}
 use Rattle.ygg_syntax.specs.declared.tree.Place.{Place}
 use Rattle.ygg_syntax.specs.declared.tree.Source.{Source}
 use Rattle.ygg_syntax.specs.declared.tree.Stmt.{Stmt}
-use Rattle.ygg_symbols.specs.Names.{Named, look_up}
-use Rattle.ygg_type_rules.specs.declared.scope.Signature.{Signature}
-use Rattle.ygg_type_rules.specs.TypeErrors.{TypeErrors, none, both}
-use Rattle.ygg_type_rules.specs.Scopes.{Scope, is_taken}
-use Rattle.ygg_type_rules.specs.Expressions.{with_number, number_errors}
-use Rattle.ygg_type_rules.specs.Statements.{source_typing, call_typing, place_rule, assignment_errors, in_order, walked, block_errors}
-use Rattle.ygg_type_rules.specs.Definitions.{definitions_errors, with_definitions}
-use Rattle.ygg_meaning.specs.Environments.{Env}
-use Rattle.ygg_meaning.specs.Meaning.{functions_of}
-use Rattle.ygg_meaning.specs.Progress.{Eval, Run, forget_since, in_turn, run_of}
-use Rattle.ygg_type_sound.specs.Agrees.{Agrees}
-use Rattle.ygg_type_sound.specs.Fitting.{HasShape, all_fit}
+use Rattle.ygg_eval_expr.specs.ygg_symbols.Names.{Named, look_up}
+use Rattle.ygg_eval_expr.specs.ygg_type_rules.declared.scope.Signature.{Signature}
+use Rattle.ygg_eval_expr.specs.ygg_type_rules.TypeErrors.{TypeErrors, none, both}
+use Rattle.ygg_eval_expr.specs.ygg_type_rules.Scopes.{Scope, is_taken}
+use Rattle.ygg_eval_expr.specs.ygg_type_rules.Expressions.{with_number, number_errors}
+use Rattle.ygg_eval_expr.specs.ygg_type_rules.Statements.{source_typing, call_typing, place_rule, assignment_errors, in_order, walked, block_errors}
+use Rattle.ygg_eval_expr.specs.ygg_type_rules.Definitions.{definitions_errors, with_definitions}
+use Rattle.ygg_eval_expr.specs.ygg_meaning.Environments.{Env}
+use Rattle.ygg_eval_expr.specs.ygg_meaning.Meaning.{functions_of}
+use Rattle.ygg_eval_expr.specs.ygg_meaning.Progress.{Eval, Run, forget_since, in_turn, run_of}
+use Rattle.ygg_eval_expr.specs.ygg_type_sound.Agrees.{Agrees}
+use Rattle.ygg_eval_expr.specs.ygg_type_sound.Fitting.{HasShape, all_fit}
 use Rattle.ygg_eval_expr.specs.Known.{Known}
-use Rattle.ygg_type_progress.specs.Kinds.{may_call, source_keeps, all_keep, stmt_keeps, keeps}
-use Rattle.ygg_type_progress.specs.Questions.{plain}
-use Rattle.ygg_type_progress.specs.Blocks.{eval_with}
+use Rattle.ygg_eval_lower.specs.ygg_type_progress.Kinds.{may_call, source_keeps, all_keep, stmt_keeps, keeps}
+use Rattle.ygg_eval_lower.specs.ygg_type_progress.Questions.{plain}
+use Rattle.ygg_eval_lower.specs.ygg_type_progress.Blocks.{eval_with}
 use Rattle.ygg_eval_lower.specs.declared.body.Stop.{Stop}
 use Rattle.ygg_eval_lower.specs.Layers.{signatures_at}
 use Rattle.ygg_eval_lower.specs.Lower.{Standing, Meaning, Serves}

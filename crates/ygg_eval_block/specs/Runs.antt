@@ -7,11 +7,11 @@ use Rattle.ygg_syntax.specs.declared.tree.Declared.{Declared}
 use Rattle.ygg_syntax.specs.declared.tree.File.{File}
 use Rattle.ygg_syntax.specs.declared.tree.Layer.{Layer}
 use Rattle.ygg_syntax.specs.declared.tree.Block.{Block}
-use Rattle.ygg_meaning.specs.Environments.{Name, Env, bind}
-use Rattle.ygg_meaning.specs.Shapes.{values_fit}
-use Rattle.ygg_meaning.specs.Progress.{Answer, Call, Asks, Ends}
-use Rattle.ygg_meaning.specs.Runs.{Dialogue}
-use Rattle.ygg_type_progress.specs.Kinds.{may_call}
+use Rattle.ygg_eval_expr.specs.ygg_meaning.Environments.{Name, Env, bind}
+use Rattle.ygg_eval_expr.specs.ygg_meaning.Shapes.{values_fit}
+use Rattle.ygg_eval_expr.specs.ygg_meaning.Progress.{Answer, Call, Asks, Ends}
+use Rattle.ygg_eval_expr.specs.ygg_meaning.Runs.{Dialogue}
+use Rattle.ygg_eval_lower.specs.ygg_type_progress.Kinds.{may_call}
 use Rattle.ygg_eval_lower.specs.declared.body.Body.{Body}
 use Rattle.ygg_eval_lower.specs.declared.body.Stop.{Stop}
 use Rattle.ygg_eval_lower.specs.Bodies.{IsBlock, dialogue_in, variables_in, kind_of}

@@ -3,9 +3,9 @@ use Rattle.std.specs.Prelude.{◌≡◌, ℕ, suc, ◌+◌, ◌≤◌, Bool, tru
 use Rattle.ygg_list.specs.declared.memory.NoMemory.{NoMemory}
 use Rattle.ygg_value.specs.declared.row.Value.{Value}
 use Rattle.ygg_syntax.specs.declared.tree.File.{File}
-use Rattle.ygg_disk.specs.declared.power.Power.{Power}
-use Rattle.ygg_meaning.specs.Environments.{Name, Env}
-use Rattle.ygg_meaning.specs.Progress.{Answer, Question, Call, Point, Waits, Goes, value_in}
+use Rattle.ygg_eval_expr.specs.ygg_disk.declared.power.Power.{Power}
+use Rattle.ygg_eval_expr.specs.ygg_meaning.Environments.{Name, Env}
+use Rattle.ygg_eval_expr.specs.ygg_meaning.Progress.{Answer, Question, Call, Point, Waits, Goes, value_in}
 use Rattle.ygg_eval_lower.specs.declared.body.Stop.{Stop}
 use Rattle.ygg_eval_lower.specs.Lower.{Standing, Meaning, Ending, Outage, Happened, Lacking, Serves}
 use Rattle.ygg_eval_lower.specs.Lower as ending

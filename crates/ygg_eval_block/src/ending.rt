@@ -2,13 +2,13 @@
 
 ghost use Rattle.std.specs.Prelude.{◌≡◌, ◌++◌, IfOk, OnOk, IsTrue, IsSome, take};
 ghost use Rattle.std.specs.Option.{ForSome};
-ghost use Rattle.ygg_meaning.specs.Environments.{bind};
+ghost use Rattle.ygg_eval_expr.specs.ygg_meaning.Environments.{bind};
 ghost use Rattle.ygg_eval_expr.specs.Held.{env_of};
 ghost use Rattle.ygg_eval_expr.specs.Known.{CanEvaluate};
 ghost use Rattle.ygg_eval_lower.specs.Bodies.{variables_in, arguments_in};
 ghost use Rattle.ygg_eval_lower.specs.Lower.{Serves};
 ghost use Rattle.ygg_eval_block.specs.Steps.{stands};
-ghost use Rattle.ygg_meaning.specs.Progress.{answer_of};
+ghost use Rattle.ygg_eval_expr.specs.ygg_meaning.Progress.{answer_of};
 ghost use Rattle.ygg_eval_block.specs.Ready.{eval_in, known_in};
 ghost use Rattle.ygg_eval_block.specs.Ending.{values_in, EndsSo};
 
@@ -17,8 +17,7 @@ use crate::run::Ended;
 use crate::runner::Runner;
 use std::alloc::Global;
 use std::mem;
-use ygg_disk::Power;
-use ygg_eval_expr::{Binding, lend_values};
+use ygg_eval_expr::{Binding, Power, lend_values};
 use ygg_eval_lower::{Body, Lower, arguments_of, variables_of};
 use ygg_list::NoMemory;
 use ygg_syntax::tree::{Expr, Layer};

@@ -14,3 +14,5 @@ pub use ending::{give_back, names_of};
 pub use run::{Ended, run_body};
 pub use runner::Runner;
 pub use statements::{name_number, name_value};
+pub use ygg_eval_expr::{Binding, Power, Turn, digit, read_row};
+pub use ygg_eval_lower::{Body, Lower, Part, Typed, block_of};

@@ -3,7 +3,7 @@
 ghost use Rattle.std.specs.Prelude.{◌≡◌, ◌<◌, ◌++◌, OnOk, IfOk, IfSome, length, map};
 ghost use Rattle.ygg_value.specs.Number.{Number};
 ghost use Rattle.ygg_value.specs.Values.{with_part};
-ghost use Rattle.ygg_meaning.specs.Environments.{assign, bind, look_up};
+ghost use Rattle.ygg_eval_expr.specs.ygg_meaning.Environments.{assign, bind, look_up};
 ghost use Rattle.ygg_eval_expr.specs.Held.{env_of, held_value};
 ghost use Rattle.ygg_eval_expr.specs.Writing.{CanWrite};
 ghost use Rattle.ygg_eval_block.specs.Naming.{first_place};

@@ -14,12 +14,10 @@ use crate::flow::{Break, Flow};
 use crate::runner::Runner;
 use crate::statements::Frame;
 use std::alloc::Global;
-use ygg_disk::Power;
-use ygg_eval_expr::Binding;
-use ygg_eval_lower::{Body, Lower, Stop, block_of};
+use ygg_eval_expr::{Binding, Power};
+use ygg_eval_lower::{Body, Lower, Stop, Typed, block_of};
 use ygg_list::NoMemory;
 use ygg_syntax::tree::Block;
-use ygg_type::Typed;
 use ygg_value::{Value, Values};
 
 /// How a run of a block ended.

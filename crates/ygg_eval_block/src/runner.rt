@@ -3,8 +3,8 @@
 ghost use Rattle.std.specs.Prelude.{◌≡◌, IfOk, All, IsTrue, map};
 ghost use Rattle.ygg_value.specs.Number.{Number};
 ghost use Rattle.ygg_value.specs.declared.row.Value.{Value as AnyValue};
-ghost use Rattle.ygg_meaning.specs.Meaning.{is_one};
-ghost use Rattle.ygg_meaning.specs.Progress.{Call as CallQuestion, from_source, indices_of, values_of};
+ghost use Rattle.ygg_eval_expr.specs.ygg_meaning.Meaning.{is_one};
+ghost use Rattle.ygg_eval_expr.specs.ygg_meaning.Progress.{Call as CallQuestion, from_source, indices_of, values_of};
 ghost use Rattle.ygg_eval_expr.specs.Held.{env_of};
 ghost use Rattle.ygg_eval_expr.specs.Known.{CanEvaluate};
 ghost use Rattle.ygg_eval_block.specs.Steps.{stands, value_result, Front, Ran, CallRan, CutEnds, Made};
@@ -14,12 +14,10 @@ use crate::below::place_of;
 use crate::flow::{Break, Flow};
 use std::alloc::Global;
 use ygg_base::Text;
-use ygg_disk::{Power, Turn};
-use ygg_eval_expr::{Binding, Evaluator, digit, is_one, word_in};
-use ygg_eval_lower::{Lower, Stop};
+use ygg_eval_expr::{Binding, Evaluator, Power, Turn, digit, is_one, word_in};
+use ygg_eval_lower::{Lower, Stop, Typed};
 use ygg_list::NoMemory;
 use ygg_syntax::tree::{Expr, Index, Name, Source};
-use ygg_type::Typed;
 use ygg_value::{Value, Values, Word};
 
 /// What stays the same while a block is run: its file, the number of the machine below, and where the run stops.

@@ -3,11 +3,11 @@
 ghost use Rattle.std.specs.Prelude.{◌≡◌, ◌≤◌, ◌<◌, ◌^◌, ◌++◌, ◌∷◌, [], length, map, All, OnOk};
 ghost use Rattle.ygg_value.specs.Words.{word};
 ghost use Rattle.ygg_value.specs.declared.row.Value.TheVariants.{Word as AsWord};
-ghost use Rattle.ygg_meaning.specs.Progress.{Call as CallQuestion, ask, assigned, for_each, from_source, in_turn, run_of, values_of};
+ghost use Rattle.ygg_eval_expr.specs.ygg_meaning.Progress.{Call as CallQuestion, ask, assigned, for_each, from_source, in_turn, run_of, values_of};
 ghost use Rattle.ygg_eval_expr.specs.Held.{env_of};
 ghost use Rattle.ygg_eval_expr.specs.Known.{CanEvaluate};
 ghost use Rattle.ygg_eval_expr.specs.Writing.{CanWrite};
-ghost use Rattle.ygg_meaning.specs.Environments.{look_up};
+ghost use Rattle.ygg_eval_expr.specs.ygg_meaning.Environments.{look_up};
 ghost use Rattle.ygg_eval_block.specs.Steps.{goes_on, stands, without_answer, Ran};
 ghost use Rattle.ygg_eval_block.specs.Ready.{
   eval_in,
@@ -27,8 +27,7 @@ ghost use Rattle.ygg_eval_block.specs.Ready.{
 use crate::flow::Flow;
 use crate::names::write_name;
 use crate::runner::Runner;
-use ygg_disk::Power;
-use ygg_eval_expr::{Binding, CowValue};
+use ygg_eval_expr::{Binding, CowValue, Power};
 use ygg_eval_lower::Lower;
 use ygg_list::NoMemory;
 use ygg_syntax::tree::{Block, Expr, Index, Name, Numeral, Source, Stmt};

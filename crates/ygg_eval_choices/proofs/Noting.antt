@@ -7,22 +7,22 @@ use Rattle.ygg_value.specs.declared.row.Value.{Value}
 use Rattle.ygg_syntax.specs.declared.tree.Block.{Block}
 use Rattle.ygg_syntax.specs.declared.tree.File.{File}
 use Rattle.ygg_syntax.specs.declared.tree.Layer.{Layer}
-use Rattle.ygg_meaning.specs.Environments.{Env, bind}
-use Rattle.ygg_meaning.specs.Layer.{ClosedLayer, eval_of}
-use Rattle.ygg_meaning.specs.Machine.{Picks}
-use Rattle.ygg_meaning.specs.Progress.{Question, Answer, answer_of}
-use Rattle.ygg_direct.specs.Places as places
-use Rattle.ygg_direct.specs.Direct.{Handled, Event, Reached, Chained, Alike, seen, seen_run, direct_run}
-use Rattle.ygg_direct.proofs.Choosing.{one}
-use Rattle.ygg_direct.proofs.Mirror.{block_mirrors}
-use Rattle.ygg_direct.proofs.Order.{block_follows}
-use Rattle.ygg_sym_below.specs.Specs.{Nothing}
-use Rattle.ygg_sym_below.proofs.Chosen.{block_run_at}
-use Rattle.ygg_sym_below.proofs.Specs.{choose_at}
+use Rattle.ygg_eval_places.specs.ygg_meaning.Environments.{Env, bind}
+use Rattle.ygg_eval_places.specs.ygg_meaning.Layer.{ClosedLayer, eval_of}
+use Rattle.ygg_eval_places.specs.ygg_meaning.Machine.{Picks}
+use Rattle.ygg_eval_places.specs.ygg_meaning.Progress.{Question, Answer, answer_of}
+use Rattle.ygg_eval_places.specs.ygg_direct.Places as places
+use Rattle.ygg_eval_places.specs.ygg_direct.Direct.{Handled, Event, Reached, Chained, Alike, seen, seen_run, direct_run}
+use Rattle.ygg_eval_places.specs.ygg_direct_proofs_Choosing.{one}
+use Rattle.ygg_eval_places.specs.ygg_direct_proofs_Mirror.{block_mirrors}
+use Rattle.ygg_eval_places.specs.ygg_direct_proofs_Order.{block_follows}
+use Rattle.ygg_fronts.specs.ygg_sym_below.Specs.{Nothing}
+use Rattle.ygg_fronts.specs.ygg_sym_below_proofs_Chosen.{block_run_at}
+use Rattle.ygg_fronts.specs.ygg_sym_below_proofs_Specs.{choose_at}
 use Rattle.ygg_fronts.specs.Taking.{picks_of, one_each, block_takes}
-use Rattle.ygg_eval_lower.specs.Bodies.{arguments_in, variables_in}
-use Rattle.ygg_eval_lower.specs.Layers.{closed_at}
-use Rattle.ygg_eval_lower.specs.declared.body.Body.{Body}
+use Rattle.ygg_eval_places.specs.ygg_eval_lower.Bodies.{arguments_in, variables_in}
+use Rattle.ygg_eval_places.specs.ygg_eval_lower.Layers.{closed_at}
+use Rattle.ygg_eval_places.specs.ygg_eval_lower.declared.body.Body.{Body}
 use Rattle.ygg_eval_places.specs.Wholes.{Walked, BodyWalked}
 use Rattle.ygg_eval_choices.specs.Bits.{bits_in}
 use Rattle.ygg_eval_choices.specs.Chosen.{notes_choice, choice_meaning, Chose, BlockChose}

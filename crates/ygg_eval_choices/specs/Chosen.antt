@@ -6,18 +6,18 @@ use Rattle.ygg_syntax.specs.declared.grammar.BlockKind.TheVariants.{Spec}
 use Rattle.ygg_syntax.specs.declared.tree.Block.{Block}
 use Rattle.ygg_syntax.specs.declared.tree.File.{File}
 use Rattle.ygg_syntax.specs.declared.tree.Layer.{Layer}
-use Rattle.ygg_meaning.specs.Environments.{bind}
-use Rattle.ygg_meaning.specs.Layer.{ClosedLayer}
-use Rattle.ygg_meaning.specs.Machine.{Picks}
-use Rattle.ygg_meaning.specs.Progress.{Question, Answer}
-use Rattle.ygg_meaning.specs.Shapes.{values_fit}
-use Rattle.ygg_direct.specs.Direct.{Handled}
-use Rattle.ygg_direct.specs.Places.{Result}
-use Rattle.ygg_sym_below.proofs.Chosen.{block_end}
+use Rattle.ygg_eval_places.specs.ygg_meaning.Environments.{bind}
+use Rattle.ygg_eval_places.specs.ygg_meaning.Layer.{ClosedLayer}
+use Rattle.ygg_eval_places.specs.ygg_meaning.Machine.{Picks}
+use Rattle.ygg_eval_places.specs.ygg_meaning.Progress.{Question, Answer}
+use Rattle.ygg_eval_places.specs.ygg_meaning.Shapes.{values_fit}
+use Rattle.ygg_eval_places.specs.ygg_direct.Direct.{Handled}
+use Rattle.ygg_eval_places.specs.ygg_direct.Places.{Result}
+use Rattle.ygg_fronts.specs.ygg_sym_below_proofs_Chosen.{block_end}
 use Rattle.ygg_fronts.specs.Taking.{block_takes}
-use Rattle.ygg_eval_lower.specs.Bodies.{IsBlock, arguments_in, variables_in}
-use Rattle.ygg_eval_lower.specs.Layers.{closed_at, signatures_at}
-use Rattle.ygg_eval_lower.specs.declared.body.Body.{Body}
+use Rattle.ygg_eval_places.specs.ygg_eval_lower.Bodies.{IsBlock, arguments_in, variables_in}
+use Rattle.ygg_eval_places.specs.ygg_eval_lower.Layers.{closed_at, signatures_at}
+use Rattle.ygg_eval_places.specs.ygg_eval_lower.declared.body.Body.{Body}
 use Rattle.ygg_eval_places.specs.Machines.{PlaceMeaning}
 use Rattle.ygg_eval_choices.specs.Bits.{bits_in}
 use Rattle.ygg_eval_choices.specs.declared.bits.Choices.{Choices}

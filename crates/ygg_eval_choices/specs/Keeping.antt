@@ -2,9 +2,9 @@
 use Rattle.std.specs.Prelude.{◌≡◌, ℕ, Bool, true, false, List, Some, refl}
 use Rattle.ygg_value.specs.Values.{digit}
 use Rattle.ygg_value.specs.declared.shape.Shape.TheVariants as shape
-use Rattle.ygg_meaning.specs.Progress.{Question, Choice, Call}
-use Rattle.ygg_meaning.specs.Machine.{Picks}
-use Rattle.ygg_type_progress.specs.Questions.{answer_fits, answer_has}
+use Rattle.ygg_eval_places.specs.ygg_meaning.Progress.{Question, Choice, Call}
+use Rattle.ygg_eval_places.specs.ygg_meaning.Machine.{Picks}
+use Rattle.ygg_eval_places.specs.ygg_type_progress.Questions.{answer_fits, answer_has}
 use Rattle.ygg_eval_places.specs.Machines.{IsPlaces, CanAnswer}
 use Rattle.ygg_eval_choices.specs.Chosen.{choice_meaning}
 use Rattle.ygg_eval_choices.specs.declared.choices.ChoicePlaces.{ChoicePlaces}

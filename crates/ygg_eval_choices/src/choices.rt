@@ -3,10 +3,8 @@
 use crate::bits::Choices;
 use std::alloc::Global;
 use ygg_base::{Bits, Text};
-use ygg_eval_expr::digit;
-use ygg_eval_places::{Places, Question};
+use ygg_eval_places::{Places, Question, Typed, digit};
 use ygg_list::NoMemory;
-use ygg_type::Typed;
 use ygg_value::Value;
 
 /// The choices of a layer's specification: each takes the bit of its place. The state is the picks that were taken so far.

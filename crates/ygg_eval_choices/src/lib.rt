@@ -8,3 +8,5 @@ mod run;
 
 pub use bits::{Choices, bit_at};
 pub use run::{choices_room, run_choices};
+pub use ygg_eval_places::{Places, Question, add, room, run_places};
+pub use ygg_fronts::{Bank, Env};

@@ -1,21 +1,19 @@
 //! Runs of such blocks.
 
 ghost use Rattle.std.specs.Prelude.{◌≡◌, IfOk};
-ghost use Rattle.ygg_direct.specs.Direct.{room_of};
+ghost use Rattle.ygg_eval_places.specs.ygg_direct.Direct.{room_of};
 ghost use Rattle.ygg_syntax.specs.declared.tree.Block.{Block};
 ghost use Rattle.ygg_syntax.specs.declared.tree.Layer.{Layer};
 ghost use Rattle.ygg_syntax.specs.declared.grammar.BlockKind.TheVariants as kind;
 ghost use Rattle.ygg_eval_choices.specs.Chosen.{BlockChose};
-ghost use Rattle.ygg_eval_lower.specs.Bodies.{IsBlock, IsRunnable, kind_of};
+ghost use Rattle.ygg_eval_places.specs.ygg_eval_lower.Bodies.{IsBlock, IsRunnable, kind_of};
 
 use crate::bits::Choices;
 use crate::choices::ChoicePlaces;
 use std::alloc::Global;
 use ygg_base::Bits;
-use ygg_eval_lower::{Body, block_of};
-use ygg_eval_places::{room, run_places};
+use ygg_eval_places::{Body, Typed, block_of, room, run_places};
 use ygg_list::NoMemory;
-use ygg_type::Typed;
 use ygg_value::{Value, Values};
 
 /// Runs a block of a layer's specification to its end, each choice taking the bit of its place, and gives its answer. The picks that it takes

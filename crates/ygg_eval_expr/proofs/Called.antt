@@ -39,9 +39,9 @@ use Rattle.ygg_syntax.specs.declared.tree.Declared.{Declared}
 use Rattle.ygg_syntax.specs.declared.tree.Def.{Def}
 use Rattle.ygg_value.specs.declared.row.Value.{Value}
 use Rattle.ygg_value.specs.declared.shape.Shape.{Shape}
-use Rattle.ygg_syntax_count.specs.Weights.{weights_of, weight_at, expr_weight}
-use Rattle.ygg_syntax_count.proofs.Searched.{Searched, begun, other as searched_other, found as searched_found}
-use Rattle.ygg_symbols.specs.Names.{Named, look_up, has, added}
+use Rattle.ygg_type_sound.specs.ygg_syntax_count.Weights.{weights_of, weight_at, expr_weight}
+use Rattle.ygg_type_sound.proofs.of_ygg_syntax_count.Searched.{Searched, begun, other as searched_other, found as searched_found}
+use Rattle.ygg_type_sound.specs.ygg_symbols.Names.{Named, look_up, has, added}
 use Rattle.ygg_type_sound.specs.Signature.{Signature}
 use Rattle.ygg_type_sound.specs.TypeErrors.{none}
 use Rattle.ygg_type_sound.specs.Shapes.{shape_of}

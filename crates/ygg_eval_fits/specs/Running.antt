@@ -2,7 +2,7 @@
 use Rattle.std.specs.Prelude.{Bool, ◌&&◌, List, is_some}
 use Rattle.ygg_value.specs.declared.row.Value.{Value}
 use Rattle.ygg_syntax.specs.declared.tree.Layer.{Layer}
-use Rattle.ygg_meaning.specs.Shapes.{values_fit}
+use Rattle.ygg_eval_lower.specs.ygg_meaning.Shapes.{values_fit}
 use Rattle.ygg_eval_lower.specs.declared.body.Body.{Body}
 use Rattle.ygg_eval_lower.specs.Bodies.{block_in, variables_in, arguments_in}
 

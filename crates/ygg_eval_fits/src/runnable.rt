@@ -5,9 +5,8 @@ ghost use Rattle.ygg_eval_lower.specs.Bodies.{IsRunnable};
 ghost use Rattle.ygg_eval_fits.specs.Running.{runs_in};
 
 use crate::shapes::values_fit;
-use ygg_eval_lower::{Body, arguments_of, block_of, variables_of};
+use ygg_eval_lower::{Body, Typed, arguments_of, block_of, variables_of};
 use ygg_syntax::tree::Layer;
-use ygg_type::Typed;
 use ygg_value::Values;
 
 /// Whether a layer has the block, and the values have the shapes that are declared.

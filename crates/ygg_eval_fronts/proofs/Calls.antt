@@ -5,19 +5,19 @@ use Rattle.ygg_value.specs.declared.row.Value.{Value}
 use Rattle.ygg_syntax.specs.declared.grammar.BlockKind.TheVariants.{Impl}
 use Rattle.ygg_syntax.specs.declared.tree.Block.{Block}
 use Rattle.ygg_syntax.specs.declared.tree.File.{File}
-use Rattle.ygg_symbols.specs.Names.{Named, has}
-use Rattle.ygg_type_rules.specs.declared.scope.Signature.{Signature}
-use Rattle.ygg_meaning.specs.Environments.{Name}
-use Rattle.ygg_meaning.specs.Progress.{Call}
-use Rattle.ygg_meaning.specs.Shapes.{values_fit}
-use Rattle.ygg_type_sound.specs.Fitting.{all_fit}
-use Rattle.ygg_type_progress.specs.Questions.{question_fits}
-use Rattle.ygg_direct.proofs.DiskServes.{fitting_call}
-use Rattle.ygg_sym_below.proofs.Chosen.{room}
-use Rattle.ygg_sym_below.proofs.SpecFalls.{bits_after}
-use Rattle.ygg_eval_lower.specs.Layers.{signatures_at, variables_at}
-use Rattle.ygg_eval_lower.specs.Lower.{IsCallable}
-use Rattle.ygg_eval_block.specs.Ready.{IsPlace}
+use Rattle.ygg_direct_files.specs.ygg_symbols.Names.{Named, has}
+use Rattle.ygg_direct_files.specs.ygg_type_rules.declared.scope.Signature.{Signature}
+use Rattle.ygg_direct_files.specs.ygg_meaning.Environments.{Name}
+use Rattle.ygg_direct_files.specs.ygg_meaning.Progress.{Call}
+use Rattle.ygg_direct_files.specs.ygg_meaning.Shapes.{values_fit}
+use Rattle.ygg_direct_files.specs.ygg_type_sound.Fitting.{all_fit}
+use Rattle.ygg_direct_files.specs.ygg_type_progress.Questions.{question_fits}
+use Rattle.ygg_direct_files.specs.ygg_direct_proofs_DiskServes.{fitting_call}
+use Rattle.ygg_eval_choices.specs.ygg_sym_below_proofs_Chosen.{room}
+use Rattle.ygg_eval_choices.specs.ygg_sym_below_proofs_SpecFalls.{bits_after}
+use Rattle.ygg_direct_files.specs.ygg_eval_lower.Layers.{signatures_at, variables_at}
+use Rattle.ygg_direct_files.specs.ygg_eval_lower.Lower.{IsCallable}
+use Rattle.ygg_eval_spec.specs.ygg_eval_block.Ready.{IsPlace}
 use Rattle.ygg_eval_choices.specs.Bits.{bit_at, bits_in}
 use Rattle.ygg_eval_choices.specs.declared.bits.Choices.{Choices}
 

@@ -4,21 +4,21 @@ use Rattle.ygg_value.specs.declared.row.Value.{Value}
 use Rattle.ygg_syntax.specs.declared.tree.Block.{Block}
 use Rattle.ygg_syntax.specs.declared.tree.File.{File}
 use Rattle.ygg_syntax.specs.declared.tree.Layer.{Layer}
-use Rattle.ygg_meaning.specs.Environments.{Env, bind}
-use Rattle.ygg_meaning.specs.Machine.{Picks, State, on}
-use Rattle.ygg_meaning.specs.Obligations.{Halt}
-use Rattle.ygg_meaning.specs.Progress.{Answer, answer_of}
-use Rattle.ygg_meaning.specs.Refines.{Below}
-use Rattle.ygg_meaning.specs.Shapes.{values_fit}
-use Rattle.ygg_direct.specs.Direct.{Reached, direct_run}
-use Rattle.ygg_sym_below.specs.Stops.{halt, first_stop}
-use Rattle.ygg_sym_laws.specs.Below.{places_on, space_on}
-use Rattle.ygg_fronts.specs.Fronts.{takes_on, cut_takes_on, lose_takes_on, run_by_place, run_stop, stopped_picks}
-use Rattle.ygg_fronts.specs.Taking.{picks_of}
-use Rattle.ygg_eval_block.specs.Ready.{eval_in}
-use Rattle.ygg_eval_lower.specs.Bodies.{arguments_in, variables_in}
-use Rattle.ygg_eval_lower.specs.Layers.{below_at, closed_at, variables_at}
-use Rattle.ygg_eval_lower.specs.declared.body.Body.{Body}
+use Rattle.ygg_direct_files.specs.ygg_meaning.Environments.{Env, bind}
+use Rattle.ygg_direct_files.specs.ygg_meaning.Machine.{Picks, State, on}
+use Rattle.ygg_direct_files.specs.ygg_meaning.Obligations.{Halt}
+use Rattle.ygg_direct_files.specs.ygg_meaning.Progress.{Answer, answer_of}
+use Rattle.ygg_direct_files.specs.ygg_meaning.Refines.{Below}
+use Rattle.ygg_direct_files.specs.ygg_meaning.Shapes.{values_fit}
+use Rattle.ygg_direct_files.specs.ygg_direct.Direct.{Reached, direct_run}
+use Rattle.ygg_eval_choices.specs.ygg_sym_below.Stops.{halt, first_stop}
+use Rattle.ygg_eval_choices.specs.ygg_sym_laws.Below.{places_on, space_on}
+use Rattle.ygg_eval_choices.specs.ygg_fronts.Fronts.{takes_on, cut_takes_on, lose_takes_on, run_by_place, run_stop, stopped_picks}
+use Rattle.ygg_eval_choices.specs.ygg_fronts.Taking.{picks_of}
+use Rattle.ygg_eval_spec.specs.ygg_eval_block.Ready.{eval_in}
+use Rattle.ygg_direct_files.specs.ygg_eval_lower.Bodies.{arguments_in, variables_in}
+use Rattle.ygg_direct_files.specs.ygg_eval_lower.Layers.{below_at, closed_at, variables_at}
+use Rattle.ygg_direct_files.specs.ygg_eval_lower.declared.body.Body.{Body}
 use Rattle.ygg_eval_choices.specs.Bits.{bits_in}
 use Rattle.ygg_eval_fronts.specs.Belows.{Noted, cut_of, failing, fallen_at_end, noted_of, notes_below}
 use Rattle.ygg_eval_fronts.specs.Fronts.{Falls, Fronted}

@@ -1,3 +1,4 @@
+pub use Rattle.ygg_eval_choices.proofs as of_ygg_eval_choices
 pub mod Noting
 pub mod Calls
 pub mod OnDisk

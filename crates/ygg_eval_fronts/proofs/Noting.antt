@@ -26,18 +26,18 @@ use Rattle.std.proofs.Common.{
 }
 use Rattle.std.proofs.lemmas.List.{append-nil}
 use Rattle.ygg_syntax.specs.declared.tree.Block.{Block}
-use Rattle.ygg_meaning.specs.Environments.{Name, Env}
-use Rattle.ygg_meaning.specs.Machine.{State}
-use Rattle.ygg_meaning.specs.Obligations.{Halt}
-use Rattle.ygg_meaning.specs.Progress.{Eval, Question}
-use Rattle.ygg_meaning.specs.Refines.{Below}
-use Rattle.ygg_direct.specs.Direct.{Handled, Event, Reached, Chained, Alike, seen, seen_run, direct_run}
-use Rattle.ygg_direct.specs.RunPlaces.{base_at, asked_in}
-use Rattle.ygg_direct.proofs.Mirror.{block_mirrors}
-use Rattle.ygg_direct.proofs.Order.{block_follows}
-use Rattle.ygg_sym_below.specs.Stops.{before_at, within_at, halt, further, first_stop}
-use Rattle.ygg_fronts.specs.Fronts.{handle_on, takes_on, cut_on, cut_takes_on, lose_on, lose_takes_on, stopped_picks}
-use Rattle.ygg_fronts.specs.Taking.{picks_of}
+use Rattle.ygg_direct_files.specs.ygg_meaning.Environments.{Name, Env}
+use Rattle.ygg_direct_files.specs.ygg_meaning.Machine.{State}
+use Rattle.ygg_direct_files.specs.ygg_meaning.Obligations.{Halt}
+use Rattle.ygg_direct_files.specs.ygg_meaning.Progress.{Eval, Question}
+use Rattle.ygg_direct_files.specs.ygg_meaning.Refines.{Below}
+use Rattle.ygg_direct_files.specs.ygg_direct.Direct.{Handled, Event, Reached, Chained, Alike, seen, seen_run, direct_run}
+use Rattle.ygg_direct_files.specs.ygg_direct.RunPlaces.{base_at, asked_in}
+use Rattle.ygg_direct_files.specs.ygg_direct_proofs_Mirror.{block_mirrors}
+use Rattle.ygg_direct_files.specs.ygg_direct_proofs_Order.{block_follows}
+use Rattle.ygg_eval_choices.specs.ygg_sym_below.Stops.{before_at, within_at, halt, further, first_stop}
+use Rattle.ygg_eval_choices.specs.ygg_fronts.Fronts.{handle_on, takes_on, cut_on, cut_takes_on, lose_on, lose_takes_on, stopped_picks}
+use Rattle.ygg_eval_choices.specs.ygg_fronts.Taking.{picks_of}
 use Rattle.ygg_eval_fronts.specs.Belows.{Cut, Noted, falls_there, falls_before, falls_by, first_of, notes_below, fallen_at_end}
 
 module _ (G : Below) (bits stops last : ℕ → Bool) where

@@ -34,27 +34,27 @@ use Rattle.ygg_base.specs.declared.geometry.DiskKind.TheVariants.{Sync, Async}
 use Rattle.ygg_syntax.specs.declared.grammar.BlockKind.TheVariants.{Impl}
 use Rattle.ygg_syntax.specs.declared.tree.DiskText.{DiskText}
 use Rattle.ygg_syntax.specs.declared.tree.File.{File}
-use Rattle.ygg_type_rules.specs.declared.scope.Signature.{Signature}
-use Rattle.ygg_disk.specs.Disk as disk
-use Rattle.ygg_disk.specs.Kinds.{model_of}
-use Rattle.ygg_disk.specs.Power.{Takes}
-use Rattle.ygg_disk.specs.declared.power.Picks.{Picks as Source}
-use Rattle.ygg_disk.specs.declared.power.Power.{Power}
-use Rattle.ygg_disk.specs.declared.turn.Turn.{Turn}
-use Rattle.ygg_disk.specs.declared.turn.Turn.TheVariants as turn
-use Rattle.ygg_meaning.specs.DiskMachine.{disk_call}
-use Rattle.ygg_meaning.specs.Environments.{Name, Env, bind}
-use Rattle.ygg_meaning.specs.Machine.{Picks, State, based}
-use Rattle.ygg_meaning.specs.Progress.{Answer, Call}
-use Rattle.ygg_meaning.specs.Shapes.{values_fit}
-use Rattle.ygg_type_progress.specs.Questions.{question_fits}
-use Rattle.ygg_direct.specs.Acts.{Taken, Did, Fell as Left}
-use Rattle.ygg_direct.specs.DiskActs.{kind_calls, kind_falls, state_in, disk_does, disk_drops}
-use Rattle.ygg_direct.proofs.DiskActed.{disk_acted}
-use Rattle.ygg_fronts.specs.Taking.{whole_picks, cut_picks}
-use Rattle.ygg_eval_lower.specs.Layers.{machine_at, signatures_at, variables_at}
-use Rattle.ygg_eval_lower.specs.Lower.{Standing, Whole, Happened, Called, Fell, AfterWhole, IsCallable, Serves, ending_of}
-use Rattle.ygg_eval_block.specs.Ready.{IsPlace}
+use Rattle.ygg_direct_files.specs.ygg_type_rules.declared.scope.Signature.{Signature}
+use Rattle.ygg_direct_files.specs.ygg_disk.Disk as disk
+use Rattle.ygg_direct_files.specs.ygg_disk.Kinds.{model_of}
+use Rattle.ygg_direct_files.specs.ygg_disk.Power.{Takes}
+use Rattle.ygg_direct_files.specs.ygg_disk.declared.power.Picks.{Picks as Source}
+use Rattle.ygg_direct_files.specs.ygg_disk.declared.power.Power.{Power}
+use Rattle.ygg_direct_files.specs.ygg_disk.declared.turn.Turn.{Turn}
+use Rattle.ygg_direct_files.specs.ygg_disk.declared.turn.Turn.TheVariants as turn
+use Rattle.ygg_direct_files.specs.ygg_meaning.DiskMachine.{disk_call}
+use Rattle.ygg_direct_files.specs.ygg_meaning.Environments.{Name, Env, bind}
+use Rattle.ygg_direct_files.specs.ygg_meaning.Machine.{Picks, State, based}
+use Rattle.ygg_direct_files.specs.ygg_meaning.Progress.{Answer, Call}
+use Rattle.ygg_direct_files.specs.ygg_meaning.Shapes.{values_fit}
+use Rattle.ygg_direct_files.specs.ygg_type_progress.Questions.{question_fits}
+use Rattle.ygg_direct_files.specs.ygg_direct.Acts.{Taken, Did, Fell as Left}
+use Rattle.ygg_direct_files.specs.ygg_direct.DiskActs.{kind_calls, kind_falls, state_in, disk_does, disk_drops}
+use Rattle.ygg_direct_files.proofs.of_ygg_direct.DiskActed.{disk_acted}
+use Rattle.ygg_eval_choices.specs.ygg_fronts.Taking.{whole_picks, cut_picks}
+use Rattle.ygg_direct_files.specs.ygg_eval_lower.Layers.{machine_at, signatures_at, variables_at}
+use Rattle.ygg_direct_files.specs.ygg_eval_lower.Lower.{Standing, Whole, Happened, Called, Fell, AfterWhole, IsCallable, Serves, ending_of}
+use Rattle.ygg_eval_spec.specs.ygg_eval_block.Ready.{IsPlace}
 use Rattle.ygg_eval_spec.specs.Kept.{Kept, Loses, named_in, spec_meaning, standing}
 use Rattle.ygg_eval_fronts.specs.Steps.{Answered, FellWithin, FellBetween, one_pick, whole_answer}
 use Rattle.ygg_eval_fronts.proofs.Calls.{callable}

@@ -35,30 +35,30 @@ use Rattle.ygg_syntax.specs.declared.tree.Declared.{Declared}
 use Rattle.ygg_syntax.specs.declared.tree.File.{File}
 use Rattle.ygg_syntax.specs.declared.tree.Layer.{Layer}
 use Rattle.ygg_syntax.specs.declared.tree.Operation.{Operation}
-use Rattle.ygg_type_rules.specs.TypeErrors.{none}
-use Rattle.ygg_type_rules.specs.Files.{type_errors_of}
-use Rattle.ygg_type_rules.specs.Layers.{operation_signature}
-use Rattle.ygg_type_rules.specs.declared.scope.Signature.{Signature}
-use Rattle.ygg_meaning.specs.Environments.{Name, Env, bind}
-use Rattle.ygg_meaning.specs.Layer.{ClosedLayer, operation_in, operation_of}
-use Rattle.ygg_meaning.specs.Machine.{Picks, based}
-use Rattle.ygg_meaning.specs.Progress.{Answer, Call}
-use Rattle.ygg_meaning.specs.Refines.{Below, OnDisk, OnSpec}
-use Rattle.ygg_meaning.specs.Shapes.{values_fit}
-use Rattle.ygg_histories.specs.Stack.{tables_of}
-use Rattle.ygg_type_progress.specs.Questions.{question_fits}
-use Rattle.ygg_direct.specs.Places.{Result}
-use Rattle.ygg_sym_below.proofs.Chosen.{room, block_end}
-use Rattle.ygg_sym_below.proofs.SpecFalls.{bits_after, crash_end, then_end, fall_end, drop_end}
-use Rattle.ygg_sym_below.proofs.SpecMeans.{spec_ended}
-use Rattle.ygg_fronts.specs.Fronts.{handle_on, takes_on, cut_on, cut_takes_on, lose_on, lose_takes_on}
-use Rattle.ygg_fronts.specs.Taking.{block_takes, operation_takes, crash_takes, then_takes, fall_takes, drop_takes}
-use Rattle.ygg_eval_lower.specs.Bodies.{IsBlock, IsRunnable, arguments_at, arguments_in, block_in, kind_of, variables_in}
-use Rattle.ygg_eval_lower.specs.Layers.{below_at, closed_at, signatures_at, variables_at}
-use Rattle.ygg_eval_lower.specs.declared.body.Body.{Body}
-use Rattle.ygg_eval_lower.specs.declared.body.Part.{Part}
-use Rattle.ygg_eval_lower.specs.declared.body.Part.TheVariants as part
-use Rattle.ygg_eval_block.specs.Ready.{IsPlace}
+use Rattle.ygg_direct_files.specs.ygg_type_rules.TypeErrors.{none}
+use Rattle.ygg_direct_files.specs.ygg_type_rules.Files.{type_errors_of}
+use Rattle.ygg_direct_files.specs.ygg_type_rules.Layers.{operation_signature}
+use Rattle.ygg_direct_files.specs.ygg_type_rules.declared.scope.Signature.{Signature}
+use Rattle.ygg_direct_files.specs.ygg_meaning.Environments.{Name, Env, bind}
+use Rattle.ygg_direct_files.specs.ygg_meaning.Layer.{ClosedLayer, operation_in, operation_of}
+use Rattle.ygg_direct_files.specs.ygg_meaning.Machine.{Picks, based}
+use Rattle.ygg_direct_files.specs.ygg_meaning.Progress.{Answer, Call}
+use Rattle.ygg_direct_files.specs.ygg_meaning.Refines.{Below, OnDisk, OnSpec}
+use Rattle.ygg_direct_files.specs.ygg_meaning.Shapes.{values_fit}
+use Rattle.ygg_direct_files.specs.ygg_histories.Stack.{tables_of}
+use Rattle.ygg_direct_files.specs.ygg_type_progress.Questions.{question_fits}
+use Rattle.ygg_direct_files.specs.ygg_direct.Places.{Result}
+use Rattle.ygg_eval_choices.specs.ygg_sym_below_proofs_Chosen.{room, block_end}
+use Rattle.ygg_eval_choices.specs.ygg_sym_below_proofs_SpecFalls.{bits_after, crash_end, then_end, fall_end, drop_end}
+use Rattle.ygg_eval_choices.specs.ygg_sym_below_proofs_SpecMeans.{spec_ended}
+use Rattle.ygg_eval_choices.specs.ygg_fronts.Fronts.{handle_on, takes_on, cut_on, cut_takes_on, lose_on, lose_takes_on}
+use Rattle.ygg_eval_choices.specs.ygg_fronts.Taking.{block_takes, operation_takes, crash_takes, then_takes, fall_takes, drop_takes}
+use Rattle.ygg_direct_files.specs.ygg_eval_lower.Bodies.{IsBlock, IsRunnable, arguments_at, arguments_in, block_in, kind_of, variables_in}
+use Rattle.ygg_direct_files.specs.ygg_eval_lower.Layers.{below_at, closed_at, signatures_at, variables_at}
+use Rattle.ygg_direct_files.specs.ygg_eval_lower.declared.body.Body.{Body}
+use Rattle.ygg_direct_files.specs.ygg_eval_lower.declared.body.Part.{Part}
+use Rattle.ygg_direct_files.specs.ygg_eval_lower.declared.body.Part.TheVariants as part
+use Rattle.ygg_eval_spec.specs.ygg_eval_block.Ready.{IsPlace}
 use Rattle.ygg_eval_spec.proofs.OnSpec.{AsksSpec, asks_spec, fits_at, layer_variables}
 use Rattle.ygg_eval_choices.specs.Chosen.{Chose}
 use Rattle.ygg_eval_fronts.specs.Steps.{Answered, CrashedOf, FellBetween, FellWithin, ThenCrashed}

@@ -28,22 +28,22 @@ use Rattle.ygg_value.specs.declared.row.Value.{Value}
 use Rattle.ygg_syntax.specs.Files.{IsDerivable}
 use Rattle.ygg_syntax.specs.declared.tree.Declared.{Declared}
 use Rattle.ygg_syntax.specs.declared.tree.File.{File}
-use Rattle.ygg_type_rules.specs.TypeErrors.{none}
-use Rattle.ygg_type_rules.specs.Files.{type_errors_of}
-use Rattle.ygg_type.proofs.Least.{is_empty}
-use Rattle.ygg_meaning.specs.Environments.{Env, bind}
-use Rattle.ygg_meaning.specs.Machine.{Picks, State, based}
-use Rattle.ygg_meaning.specs.Obligations.{Halt}
-use Rattle.ygg_meaning.specs.Progress.{Answer, Question}
-use Rattle.ygg_meaning.specs.Refines.{Below}
-use Rattle.ygg_meaning.specs.Shapes.{env_fits, values_fit}
-use Rattle.ygg_histories.specs.Stack.{tables_of}
-use Rattle.ygg_type_progress.proofs.Derived.{derivable_derived}
+use Rattle.ygg_direct_files.specs.ygg_type_rules.TypeErrors.{none}
+use Rattle.ygg_direct_files.specs.ygg_type_rules.Files.{type_errors_of}
+use Rattle.ygg_direct_files.specs.ygg_type_proofs_Least.{is_empty}
+use Rattle.ygg_direct_files.specs.ygg_meaning.Environments.{Env, bind}
+use Rattle.ygg_direct_files.specs.ygg_meaning.Machine.{Picks, State, based}
+use Rattle.ygg_direct_files.specs.ygg_meaning.Obligations.{Halt}
+use Rattle.ygg_direct_files.specs.ygg_meaning.Progress.{Answer, Question}
+use Rattle.ygg_direct_files.specs.ygg_meaning.Refines.{Below}
+use Rattle.ygg_direct_files.specs.ygg_meaning.Shapes.{env_fits, values_fit}
+use Rattle.ygg_direct_files.specs.ygg_histories.Stack.{tables_of}
+use Rattle.ygg_direct_files.proofs.of_ygg_type_progress.Derived.{derivable_derived}
 use Rattle.ygg_direct_files.specs.Files.{IsStateBelow}
-use Rattle.ygg_sym_below.specs.Stops.{before_at, within_at, halt}
-use Rattle.ygg_fronts.specs.Fronts.{handle_on, takes_on, cut_on, cut_takes_on, lose_on, lose_takes_on}
-use Rattle.ygg_eval_lower.specs.Layers.{below_at, variables_at}
-use Rattle.ygg_eval_lower.proofs.Blocks.{bind_fits, blocks_kept}
+use Rattle.ygg_eval_choices.specs.ygg_sym_below.Stops.{before_at, within_at, halt}
+use Rattle.ygg_eval_choices.specs.ygg_fronts.Fronts.{handle_on, takes_on, cut_on, cut_takes_on, lose_on, lose_takes_on}
+use Rattle.ygg_direct_files.specs.ygg_eval_lower.Layers.{below_at, variables_at}
+use Rattle.ygg_direct_files.specs.ygg_eval_lower_proofs_Blocks.{bind_fits, blocks_kept}
 use Rattle.ygg_eval_spec.proofs.OnDisk.{variables_zero}
 use Rattle.ygg_eval_spec.proofs.OnSpec.{layer_fits, there}
 use Rattle.ygg_eval_fronts.specs.Belows.{

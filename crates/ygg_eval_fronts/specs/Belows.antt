@@ -4,22 +4,22 @@ use Rattle.std.specs.List.{list_all}
 use Rattle.std.specs.Option.{option_map}
 use Rattle.ygg_syntax.specs.declared.grammar.BlockKind.TheVariants.{Impl}
 use Rattle.ygg_syntax.specs.declared.tree.File.{File}
-use Rattle.ygg_type_rules.specs.Files.{IsTyped}
-use Rattle.ygg_meaning.specs.Environments.{Env, bind}
-use Rattle.ygg_meaning.specs.Machine.{Picks, State, based}
-use Rattle.ygg_meaning.specs.Obligations.{Halt}
-use Rattle.ygg_meaning.specs.Progress.{Question}
-use Rattle.ygg_meaning.specs.Refines.{Below}
-use Rattle.ygg_meaning.specs.Shapes.{values_fit}
-use Rattle.ygg_type_progress.specs.Kinds.{layer_keeps}
-use Rattle.ygg_direct.specs.Direct.{Handled}
+use Rattle.ygg_direct_files.specs.ygg_type_rules.Files.{IsTyped}
+use Rattle.ygg_direct_files.specs.ygg_meaning.Environments.{Env, bind}
+use Rattle.ygg_direct_files.specs.ygg_meaning.Machine.{Picks, State, based}
+use Rattle.ygg_direct_files.specs.ygg_meaning.Obligations.{Halt}
+use Rattle.ygg_direct_files.specs.ygg_meaning.Progress.{Question}
+use Rattle.ygg_direct_files.specs.ygg_meaning.Refines.{Below}
+use Rattle.ygg_direct_files.specs.ygg_meaning.Shapes.{values_fit}
+use Rattle.ygg_direct_files.specs.ygg_type_progress.Kinds.{layer_keeps}
+use Rattle.ygg_direct_files.specs.ygg_direct.Direct.{Handled}
 use Rattle.ygg_direct_files.specs.Files.{IsStateBelow}
-use Rattle.ygg_sym_below.specs.Stops.{before_at, within_at, halt}
-use Rattle.ygg_sym_laws.specs.Below.{space_on}
-use Rattle.ygg_fronts.specs.Fronts.{handle_on, takes_on, cut_on, cut_takes_on, lose_on, lose_takes_on}
-use Rattle.ygg_eval_lower.specs.Layers.{below_at, signatures_at, variables_at}
-use Rattle.ygg_eval_lower.specs.declared.body.Stop.{Stop}
-use Rattle.ygg_eval_places.specs.Machines.{PlaceMeaning}
+use Rattle.ygg_eval_choices.specs.ygg_sym_below.Stops.{before_at, within_at, halt}
+use Rattle.ygg_eval_choices.specs.ygg_sym_laws.Below.{space_on}
+use Rattle.ygg_eval_choices.specs.ygg_fronts.Fronts.{handle_on, takes_on, cut_on, cut_takes_on, lose_on, lose_takes_on}
+use Rattle.ygg_direct_files.specs.ygg_eval_lower.Layers.{below_at, signatures_at, variables_at}
+use Rattle.ygg_direct_files.specs.ygg_eval_lower.declared.body.Stop.{Stop}
+use Rattle.ygg_eval_choices.specs.ygg_eval_places.Machines.{PlaceMeaning}
 use Rattle.ygg_eval_choices.specs.Bits.{bits_in}
 use Rattle.ygg_eval_fronts.specs.declared.below.BelowPlaces.{BelowPlaces}
 use Rattle.ygg_eval_fronts.specs.declared.below.BelowState.{BelowState}

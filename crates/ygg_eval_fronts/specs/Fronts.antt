@@ -4,16 +4,16 @@ use Rattle.ygg_value.specs.declared.row.Value.{Value}
 use Rattle.ygg_syntax.specs.declared.tree.Block.{Block}
 use Rattle.ygg_syntax.specs.declared.tree.File.{File}
 use Rattle.ygg_syntax.specs.declared.tree.Layer.{Layer}
-use Rattle.ygg_meaning.specs.Environments.{Env, bind}
-use Rattle.ygg_meaning.specs.Layer.{ClosedLayer}
-use Rattle.ygg_meaning.specs.Machine.{on, based}
-use Rattle.ygg_meaning.specs.Obligations.{Halt}
-use Rattle.ygg_meaning.specs.Refines.{Below}
-use Rattle.ygg_meaning.specs.Shapes.{values_fit}
-use Rattle.ygg_fronts.specs.Fronts.{answer_by_place, state_by_place, run_picks, run_stop, left_at, fall_picks}
-use Rattle.ygg_eval_lower.specs.Bodies.{IsBlock, arguments_in, variables_in}
-use Rattle.ygg_eval_lower.specs.Layers.{below_at, closed_at, variables_at}
-use Rattle.ygg_eval_lower.specs.declared.body.Body.{Body}
+use Rattle.ygg_direct_files.specs.ygg_meaning.Environments.{Env, bind}
+use Rattle.ygg_direct_files.specs.ygg_meaning.Layer.{ClosedLayer}
+use Rattle.ygg_direct_files.specs.ygg_meaning.Machine.{on, based}
+use Rattle.ygg_direct_files.specs.ygg_meaning.Obligations.{Halt}
+use Rattle.ygg_direct_files.specs.ygg_meaning.Refines.{Below}
+use Rattle.ygg_direct_files.specs.ygg_meaning.Shapes.{values_fit}
+use Rattle.ygg_eval_choices.specs.ygg_fronts.Fronts.{answer_by_place, state_by_place, run_picks, run_stop, left_at, fall_picks}
+use Rattle.ygg_direct_files.specs.ygg_eval_lower.Bodies.{IsBlock, arguments_in, variables_in}
+use Rattle.ygg_direct_files.specs.ygg_eval_lower.Layers.{below_at, closed_at, variables_at}
+use Rattle.ygg_direct_files.specs.ygg_eval_lower.declared.body.Body.{Body}
 use Rattle.ygg_eval_choices.specs.Bits.{bits_in}
 use Rattle.ygg_eval_fronts.specs.Belows.{halt_of}
 use Rattle.ygg_eval_fronts.specs.declared.below.Fallen.{Fallen}

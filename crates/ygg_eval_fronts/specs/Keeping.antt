@@ -5,30 +5,30 @@ use Rattle.std.proofs.Common.{refl, ap, subst}
 use Rattle.ygg_syntax.specs.declared.grammar.BlockKind.TheVariants.{Impl}
 use Rattle.ygg_syntax.specs.declared.tree.File.{File}
 use Rattle.ygg_syntax.specs.declared.tree.Layer.{Layer}
-use Rattle.ygg_symbols.specs.Names.{Named as NamedList}
-use Rattle.ygg_type_rules.specs.Files.{disk_operations}
-use Rattle.ygg_type_rules.specs.declared.scope.Signature.{Signature}
-use Rattle.ygg_meaning.specs.Environments.{Env}
-use Rattle.ygg_meaning.specs.Machine.{Machine, State}
-use Rattle.ygg_meaning.specs.Progress.{Question, Choice, Call}
-use Rattle.ygg_meaning.specs.Refines.{Below, OnDisk, OnSpec}
-use Rattle.ygg_type_progress.specs.Questions.{answer_fits, question_fits}
-use Rattle.ygg_direct.specs.Direct.{Handled}
-use Rattle.ygg_direct.specs.Acts.{Acts, Did, noted_picks}
-use Rattle.ygg_direct.specs.DiskActs.{disk_acts}
-use Rattle.ygg_direct.specs.SpecActs.{spec_acts}
-use Rattle.ygg_direct.proofs.DiskServes.{disk_serves}
-use Rattle.ygg_direct.proofs.SpecServes.{spec_serves}
-use Rattle.ygg_direct.proofs.Made.{Serves}
+use Rattle.ygg_direct_files.specs.ygg_symbols.Names.{Named as NamedList}
+use Rattle.ygg_direct_files.specs.ygg_type_rules.Files.{disk_operations}
+use Rattle.ygg_direct_files.specs.ygg_type_rules.declared.scope.Signature.{Signature}
+use Rattle.ygg_direct_files.specs.ygg_meaning.Environments.{Env}
+use Rattle.ygg_direct_files.specs.ygg_meaning.Machine.{Machine, State}
+use Rattle.ygg_direct_files.specs.ygg_meaning.Progress.{Question, Choice, Call}
+use Rattle.ygg_direct_files.specs.ygg_meaning.Refines.{Below, OnDisk, OnSpec}
+use Rattle.ygg_direct_files.specs.ygg_type_progress.Questions.{answer_fits, question_fits}
+use Rattle.ygg_direct_files.specs.ygg_direct.Direct.{Handled}
+use Rattle.ygg_direct_files.specs.ygg_direct.Acts.{Acts, Did, noted_picks}
+use Rattle.ygg_direct_files.specs.ygg_direct.DiskActs.{disk_acts}
+use Rattle.ygg_direct_files.specs.ygg_direct.SpecActs.{spec_acts}
+use Rattle.ygg_direct_files.specs.ygg_direct_proofs_DiskServes.{disk_serves}
+use Rattle.ygg_direct_files.specs.ygg_direct_proofs_SpecServes.{spec_serves}
+use Rattle.ygg_direct_files.specs.ygg_direct_proofs_Made.{Serves}
 use Rattle.ygg_direct_files.specs.Files.{IsStateBelow}
 use Rattle.ygg_direct_files.proofs.InFile.{disk_fine, layer_sees, layer_answers}
-use Rattle.ygg_fronts.specs.Fronts.{handle_on, takes_on}
-use Rattle.ygg_fronts.specs.Taking.{Takes}
-use Rattle.ygg_fronts.proofs.Acting.{Named}
-use Rattle.ygg_fronts.proofs.Disk.{disk_named}
-use Rattle.ygg_fronts.proofs.Spec.{spec_named}
-use Rattle.ygg_eval_lower.specs.Layers.{below_at, closed_at, signatures_at, signatures_of}
-use Rattle.ygg_eval_places.specs.Machines.{IsPlaces}
+use Rattle.ygg_eval_choices.specs.ygg_fronts.Fronts.{handle_on, takes_on}
+use Rattle.ygg_eval_choices.specs.ygg_fronts.Taking.{Takes}
+use Rattle.ygg_eval_choices.specs.ygg_fronts_proofs_Acting.{Named}
+use Rattle.ygg_eval_choices.specs.ygg_fronts_proofs_Disk.{disk_named}
+use Rattle.ygg_eval_choices.specs.ygg_fronts_proofs_Spec.{spec_named}
+use Rattle.ygg_direct_files.specs.ygg_eval_lower.Layers.{below_at, closed_at, signatures_at, signatures_of}
+use Rattle.ygg_eval_choices.specs.ygg_eval_places.Machines.{IsPlaces}
 use Rattle.ygg_eval_choices.specs.Bits.{bits_in}
 use Rattle.ygg_eval_spec.proofs.OnSpec.{there}
 use Rattle.ygg_eval_fronts.specs.Belows.{Stands, below_meaning}

@@ -4,20 +4,20 @@ use Rattle.ygg_value.specs.declared.row.Value.{Value}
 use Rattle.ygg_syntax.specs.declared.tree.Block.{Block}
 use Rattle.ygg_syntax.specs.declared.tree.File.{File}
 use Rattle.ygg_syntax.specs.declared.tree.Layer.{Layer}
-use Rattle.ygg_disk.specs.declared.power.Power.{Power}
-use Rattle.ygg_disk.specs.declared.turn.Turn.{Turn}
-use Rattle.ygg_disk.specs.declared.turn.Turn.TheVariants as turn
-use Rattle.ygg_meaning.specs.Environments.{Env, bind}
-use Rattle.ygg_meaning.specs.Layer.{ClosedLayer}
-use Rattle.ygg_meaning.specs.Machine.{Picks, State, based}
-use Rattle.ygg_meaning.specs.Progress.{Answer, Question}
-use Rattle.ygg_meaning.specs.Shapes.{values_fit}
-use Rattle.ygg_fronts.specs.Fronts.{handle_on, takes_on, cut_on, cut_takes_on, lose_on, lose_takes_on}
-use Rattle.ygg_fronts.specs.Taking.{crash_takes, then_takes}
-use Rattle.ygg_sym_below.proofs.SpecFalls.{crash_end, then_end}
-use Rattle.ygg_eval_lower.specs.Bodies.{arguments_in}
-use Rattle.ygg_eval_lower.specs.Layers.{below_at, closed_at, variables_at}
-use Rattle.ygg_eval_lower.specs.declared.body.Body.{Body}
+use Rattle.ygg_direct_files.specs.ygg_disk.declared.power.Power.{Power}
+use Rattle.ygg_direct_files.specs.ygg_disk.declared.turn.Turn.{Turn}
+use Rattle.ygg_direct_files.specs.ygg_disk.declared.turn.Turn.TheVariants as turn
+use Rattle.ygg_direct_files.specs.ygg_meaning.Environments.{Env, bind}
+use Rattle.ygg_direct_files.specs.ygg_meaning.Layer.{ClosedLayer}
+use Rattle.ygg_direct_files.specs.ygg_meaning.Machine.{Picks, State, based}
+use Rattle.ygg_direct_files.specs.ygg_meaning.Progress.{Answer, Question}
+use Rattle.ygg_direct_files.specs.ygg_meaning.Shapes.{values_fit}
+use Rattle.ygg_eval_choices.specs.ygg_fronts.Fronts.{handle_on, takes_on, cut_on, cut_takes_on, lose_on, lose_takes_on}
+use Rattle.ygg_eval_choices.specs.ygg_fronts.Taking.{crash_takes, then_takes}
+use Rattle.ygg_eval_choices.specs.ygg_sym_below_proofs_SpecFalls.{crash_end, then_end}
+use Rattle.ygg_direct_files.specs.ygg_eval_lower.Bodies.{arguments_in}
+use Rattle.ygg_direct_files.specs.ygg_eval_lower.Layers.{below_at, closed_at, variables_at}
+use Rattle.ygg_direct_files.specs.ygg_eval_lower.declared.body.Body.{Body}
 
 -- power with one pick
 abbrev pub one_pick : Bool → Power

@@ -14,20 +14,18 @@ ghost use Rattle.ygg_eval_fronts.specs.Belows.{
   Stands,
 };
 ghost use Rattle.ygg_eval_fronts.specs.Steps.{Answered};
-ghost use Rattle.ygg_eval_lower.specs.Layers.{below_at};
-ghost use Rattle.ygg_eval_places.specs.Machines.{CanAnswer};
-ghost use Rattle.ygg_fronts.specs.Fronts.{cut_on, cut_takes_on, lose_on, lose_takes_on};
-ghost use Rattle.ygg_meaning.specs.Progress.{Call};
+ghost use Rattle.ygg_direct_files.specs.ygg_eval_lower.Layers.{below_at};
+ghost use Rattle.ygg_eval_choices.specs.ygg_eval_places.Machines.{CanAnswer};
+ghost use Rattle.ygg_eval_choices.specs.ygg_fronts.Fronts.{cut_on, cut_takes_on, lose_on, lose_takes_on};
+ghost use Rattle.ygg_direct_files.specs.ygg_meaning.Progress.{Call};
 
 use crate::stops::{stops_before, stops_within};
 use crate::{disk, losing, spec};
 use std::alloc::Global;
 use ygg_base::{Bits, Text};
-use ygg_eval_choices::{Choices, choices_room};
-use ygg_eval_lower::{Body, Part, Stop};
-use ygg_eval_places::{Places, Question, add};
+use ygg_direct_files::{Body, Part, Stop, Typed};
+use ygg_eval_choices::{Choices, Places, Question, add, choices_room};
 use ygg_list::NoMemory;
-use ygg_type::Typed;
 use ygg_value::{Value, Values};
 
 /// The bits of a run by place: those of its choices, those of its stops, of which that before the question at a place i has the number 2 i and

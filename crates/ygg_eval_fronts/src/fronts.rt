@@ -3,10 +3,10 @@
 ghost use Rattle.std.specs.Prelude.{◌≡◌, IfOk, IsTrue};
 ghost use Rattle.ygg_eval_fronts.specs.Belows.{Stands};
 ghost use Rattle.ygg_eval_fronts.specs.Fronts.{BodyFronted};
-ghost use Rattle.ygg_eval_lower.specs.Bodies.{IsBlock, IsRunnable, kind_of};
-ghost use Rattle.ygg_eval_lower.specs.Layers.{below_at, variables_at};
-ghost use Rattle.ygg_meaning.specs.Shapes.{values_fit};
-ghost use Rattle.ygg_sym_laws.specs.Below.{places_on};
+ghost use Rattle.ygg_direct_files.specs.ygg_eval_lower.Bodies.{IsBlock, IsRunnable, kind_of};
+ghost use Rattle.ygg_direct_files.specs.ygg_eval_lower.Layers.{below_at, variables_at};
+ghost use Rattle.ygg_direct_files.specs.ygg_meaning.Shapes.{values_fit};
+ghost use Rattle.ygg_eval_choices.specs.ygg_sym_laws.Below.{places_on};
 ghost use Rattle.ygg_syntax.specs.declared.grammar.BlockKind.TheVariants as kind;
 ghost use Rattle.ygg_syntax.specs.declared.tree.Block.{Block};
 ghost use Rattle.ygg_syntax.specs.declared.tree.Layer.{Layer};
@@ -14,10 +14,9 @@ ghost use Rattle.ygg_syntax.specs.declared.tree.Layer.{Layer};
 use crate::below::{BelowPlaces, BelowState, Fallen, PlacedBits};
 use std::alloc::Global;
 use ygg_base::Bits;
-use ygg_eval_lower::{Body, block_of};
-use ygg_eval_places::{room, run_places};
+use ygg_direct_files::{Body, Typed, block_of};
+use ygg_eval_choices::{room, run_places};
 use ygg_list::NoMemory;
-use ygg_type::Typed;
 use ygg_value::{Value, Values};
 
 /// What a run by place comes to: its answer, the values of the state below after it, the picks that it takes, from the front, and where power

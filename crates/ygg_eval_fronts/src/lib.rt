@@ -11,3 +11,4 @@ mod stops;
 pub use below::{BelowState, Fallen, PlacedBits};
 pub use fronts::{Front, run_fronts};
 pub use losing::{Lost, lose_fronts};
+pub use ygg_eval_choices::{Bank, Choices, Env};

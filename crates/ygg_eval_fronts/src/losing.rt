@@ -3,18 +3,18 @@
 ghost use Rattle.std.specs.Prelude.{◌≡◌, ◌≤◌, [], IfOk, IsTrue, length};
 ghost use Rattle.ygg_eval_choices.specs.Bits.{bits_in};
 ghost use Rattle.ygg_eval_fronts.specs.Steps.{FellBetween, FellWithin};
-ghost use Rattle.ygg_eval_lower.specs.Layers.{signatures_at, variables_at};
-ghost use Rattle.ygg_meaning.specs.Progress.{Call};
-ghost use Rattle.ygg_meaning.specs.Shapes.{values_fit};
+ghost use Rattle.ygg_direct_files.specs.ygg_eval_lower.Layers.{signatures_at, variables_at};
+ghost use Rattle.ygg_direct_files.specs.ygg_meaning.Progress.{Call};
+ghost use Rattle.ygg_direct_files.specs.ygg_meaning.Shapes.{values_fit};
 ghost use Rattle.ygg_syntax.specs.declared.grammar.BlockKind.TheVariants.{Impl};
-ghost use Rattle.ygg_type_progress.specs.Questions.{question_fits};
+ghost use Rattle.ygg_direct_files.specs.ygg_type_progress.Questions.{question_fits};
 
 use crate::{disk, spec};
 use std::alloc::Global;
 use ygg_base::{Bits, Text};
+use ygg_direct_files::Typed;
 use ygg_eval_choices::Choices;
 use ygg_list::NoMemory;
-use ygg_type::Typed;
 use ygg_value::Values;
 
 /// What power loss leaves of the values below, and the picks that it takes, from the front.

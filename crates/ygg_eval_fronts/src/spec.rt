@@ -3,23 +3,22 @@
 ghost use Rattle.std.specs.Prelude.{◌≡◌, ◌<◌, ◌≤◌, suc, is_some, slice_get, IfOk, OnOk, IsTrue, Some, length};
 ghost use Rattle.ygg_eval_choices.specs.Bits.{bits_in};
 ghost use Rattle.ygg_eval_fronts.specs.Steps.{Answered, Crashed, FellBetween, FellWithin, ThenCrashed};
-ghost use Rattle.ygg_eval_lower.specs.Bodies.{IsBlock, IsRunnable, block_in, kind_of};
-ghost use Rattle.ygg_eval_lower.specs.Layers.{signatures_at, variables_at};
-ghost use Rattle.ygg_meaning.specs.Progress.{Call};
-ghost use Rattle.ygg_meaning.specs.Shapes.{values_fit};
+ghost use Rattle.ygg_direct_files.specs.ygg_eval_lower.Bodies.{IsBlock, IsRunnable, block_in, kind_of};
+ghost use Rattle.ygg_direct_files.specs.ygg_eval_lower.Layers.{signatures_at, variables_at};
+ghost use Rattle.ygg_direct_files.specs.ygg_meaning.Progress.{Call};
+ghost use Rattle.ygg_direct_files.specs.ygg_meaning.Shapes.{values_fit};
 ghost use Rattle.ygg_syntax.specs.declared.grammar.BlockKind.TheVariants as kind;
 ghost use Rattle.ygg_syntax.specs.declared.grammar.BlockKind.TheVariants.{Impl};
 ghost use Rattle.ygg_syntax.specs.declared.tree.Block.{Block};
 ghost use Rattle.ygg_syntax.specs.declared.tree.Layer.{Layer};
-ghost use Rattle.ygg_type_progress.specs.Questions.{question_fits};
+ghost use Rattle.ygg_direct_files.specs.ygg_type_progress.Questions.{question_fits};
 
 use std::alloc::Global;
 use ygg_base::{Bits, Text};
-use ygg_eval_block::place_of;
+use ygg_direct_files::{Body, Part, Typed, block_of};
 use ygg_eval_choices::{Choices, choices_room, run_choices};
-use ygg_eval_lower::{Body, Part, block_of};
+use ygg_eval_spec::place_of;
 use ygg_list::NoMemory;
-use ygg_type::Typed;
 use ygg_value::{Value, Values};
 
 /// A whole call at a place: the operation's `spec` block is run, whose places begin at that of the call. Its only error is out of memory,

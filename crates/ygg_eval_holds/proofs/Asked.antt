@@ -39,17 +39,17 @@ use Rattle.ygg_syntax.specs.declared.tree.Layer.{Layer}
 use Rattle.ygg_syntax.specs.declared.tree.File.{File}
 use Rattle.ygg_value.specs.declared.row.Value.{Value}
 use Rattle.ygg_value.specs.declared.shape.Shape.TheVariants.{Word}
-use Rattle.ygg_syntax_count.specs.Weights.{Weights, weights_of, expr_weight}
-use Rattle.ygg_symbols.specs.Names.{Named, has, added}
-use Rattle.ygg_type_rules.specs.declared.scope.Signature.{Signature}
-use Rattle.ygg_type_rules.specs.declared.scope.Visibility.{Visibility}
-use Rattle.ygg_type_rules.specs.declared.scope.Visibility.TheVariants as view
-use Rattle.ygg_type_rules.specs.TypeErrors.{none, unless}
-use Rattle.ygg_type_rules.specs.Limits.{weight_fits}
-use Rattle.ygg_type_rules.specs.Scopes.{Scope, seen_as}
-use Rattle.ygg_type_rules.specs.Expressions.{typing, wanted, expected_errors}
-use Rattle.ygg_type_rules.specs.Definitions.{definitions_errors, with_definitions}
-use Rattle.ygg_type_rules.specs.Layers.{
+use Rattle.ygg_eval_expr.specs.ygg_syntax_count.Weights.{Weights, weights_of, expr_weight}
+use Rattle.ygg_eval_expr.specs.ygg_symbols.Names.{Named, has, added}
+use Rattle.ygg_eval_expr.specs.ygg_type_rules.declared.scope.Signature.{Signature}
+use Rattle.ygg_eval_expr.specs.ygg_type_rules.declared.scope.Visibility.{Visibility}
+use Rattle.ygg_eval_expr.specs.ygg_type_rules.declared.scope.Visibility.TheVariants as view
+use Rattle.ygg_eval_expr.specs.ygg_type_rules.TypeErrors.{none, unless}
+use Rattle.ygg_eval_expr.specs.ygg_type_rules.Limits.{weight_fits}
+use Rattle.ygg_eval_expr.specs.ygg_type_rules.Scopes.{Scope, seen_as}
+use Rattle.ygg_eval_expr.specs.ygg_type_rules.Expressions.{typing, wanted, expected_errors}
+use Rattle.ygg_eval_expr.specs.ygg_type_rules.Definitions.{definitions_errors, with_definitions}
+use Rattle.ygg_eval_expr.specs.ygg_type_rules.Layers.{
   Known as NamesKnown,
   Below,
   below_of,
@@ -63,16 +63,16 @@ use Rattle.ygg_type_rules.specs.Layers.{
   relations_errors,
   parts_errors,
 }
-use Rattle.ygg_type_rules.specs.Files.{disk_errors, disk_below, layer_errors, count_error, layers_errors, type_errors_of, IsTyped}
-use Rattle.ygg_meaning.specs.Environments.{Env, bind}
-use Rattle.ygg_meaning.specs.Meaning.{functions_of, is_one}
-use Rattle.ygg_meaning.specs.Shapes.{values_fit}
-use Rattle.ygg_histories.specs.Stack.{tables_of}
-use Rattle.ygg_type_sound.specs.Agrees.{Agrees}
-use Rattle.ygg_type_sound.proofs.Tests.{left, right}
-use Rattle.ygg_type_sound.proofs.Definitions.{MeetsAll, definitions_meet}
-use Rattle.ygg_type_progress.proofs.TypeErrors.{none_listed}
-use Rattle.ygg_type_progress.proofs.Views.{LayerVariables, layer_variables}
+use Rattle.ygg_eval_expr.specs.ygg_type_rules.Files.{disk_errors, disk_below, layer_errors, count_error, layers_errors, type_errors_of, IsTyped}
+use Rattle.ygg_eval_expr.specs.ygg_meaning.Environments.{Env, bind}
+use Rattle.ygg_eval_expr.specs.ygg_meaning.Meaning.{functions_of, is_one}
+use Rattle.ygg_eval_expr.specs.ygg_meaning.Shapes.{values_fit}
+use Rattle.ygg_eval_lower.specs.ygg_histories.Stack.{tables_of}
+use Rattle.ygg_eval_expr.specs.ygg_type_sound.Agrees.{Agrees}
+use Rattle.ygg_eval_expr.specs.ygg_type_sound_proofs_Tests.{left, right}
+use Rattle.ygg_eval_expr.specs.ygg_type_sound_proofs_Definitions.{MeetsAll, definitions_meet}
+use Rattle.ygg_eval_lower.specs.ygg_type_progress_proofs_TypeErrors.{none_listed}
+use Rattle.ygg_eval_lower.proofs.of_ygg_type_progress.Views.{LayerVariables, layer_variables}
 use Rattle.ygg_eval_expr.specs.Known.{Known, value_in, CanEvaluate}
 use Rattle.ygg_eval_holds.specs.declared.formula.Formula.{Formula}
 use Rattle.ygg_eval_holds.specs.declared.formula.Which.{Which}

@@ -35,19 +35,19 @@ use Rattle.ygg_syntax.specs.declared.tree.Block.{Block}
 use Rattle.ygg_syntax.specs.declared.tree.Operation.{Operation}
 use Rattle.ygg_syntax.specs.declared.tree.Layer.{Layer}
 use Rattle.ygg_value.specs.declared.shape.Shape.{Shape}
-use Rattle.ygg_syntax_count.specs.Weights.{Weights}
-use Rattle.ygg_symbols.specs.Names.{Named, look_up, has}
-use Rattle.ygg_type_rules.specs.declared.scope.Owner.{Owner}
-use Rattle.ygg_type_rules.specs.declared.scope.Owner.TheVariants.{State, Memory}
-use Rattle.ygg_type_rules.specs.declared.scope.Visibility.TheVariants.{Relation, Settled}
-use Rattle.ygg_type_rules.specs.declared.scope.Variable.{Variable}
-use Rattle.ygg_type_rules.specs.declared.scope.Local.{Local}
-use Rattle.ygg_type_rules.specs.declared.scope.Signature.{Signature}
-use Rattle.ygg_type_rules.specs.TypeErrors.{none, unless}
-use Rattle.ygg_type_rules.specs.Shapes.{shape_of}
-use Rattle.ygg_type_rules.specs.Scopes.{Scope, seen_variable, state_shape, seen_as}
-use Rattle.ygg_type_rules.specs.Definitions.{answer_type_errors, parameters_errors, with_parameters}
-use Rattle.ygg_type_rules.specs.Layers.{
+use Rattle.ygg_eval_expr.specs.ygg_syntax_count.Weights.{Weights}
+use Rattle.ygg_eval_expr.specs.ygg_symbols.Names.{Named, look_up, has}
+use Rattle.ygg_eval_expr.specs.ygg_type_rules.declared.scope.Owner.{Owner}
+use Rattle.ygg_eval_expr.specs.ygg_type_rules.declared.scope.Owner.TheVariants.{State, Memory}
+use Rattle.ygg_eval_expr.specs.ygg_type_rules.declared.scope.Visibility.TheVariants.{Relation, Settled}
+use Rattle.ygg_eval_expr.specs.ygg_type_rules.declared.scope.Variable.{Variable}
+use Rattle.ygg_eval_expr.specs.ygg_type_rules.declared.scope.Local.{Local}
+use Rattle.ygg_eval_expr.specs.ygg_type_rules.declared.scope.Signature.{Signature}
+use Rattle.ygg_eval_expr.specs.ygg_type_rules.TypeErrors.{none, unless}
+use Rattle.ygg_eval_expr.specs.ygg_type_rules.Shapes.{shape_of}
+use Rattle.ygg_eval_expr.specs.ygg_type_rules.Scopes.{Scope, seen_variable, state_shape, seen_as}
+use Rattle.ygg_eval_expr.specs.ygg_type_rules.Definitions.{answer_type_errors, parameters_errors, with_parameters}
+use Rattle.ygg_eval_expr.specs.ygg_type_rules.Layers.{
   Below,
   variables_of,
   below_of,
@@ -60,20 +60,20 @@ use Rattle.ygg_type_rules.specs.Layers.{
   operation_errors,
   operations_errors,
 }
-use Rattle.ygg_type_rules.specs.Files.{disk_errors, disk_table, disk_below}
-use Rattle.ygg_meaning.specs.Environments.{Env}
-use Rattle.ygg_meaning.specs.Meaning.{Functions}
-use Rattle.ygg_meaning.specs.Shapes.{env_fits}
-use Rattle.ygg_histories.specs.Stack.{tables_of_kind, tables_of}
-use Rattle.ygg_type_sound.specs.Fitting.{IsShaped, IsHeld}
-use Rattle.ygg_type_sound.specs.Agrees.{Agrees}
-use Rattle.ygg_type_sound.proofs.Tests.{left, right}
-use Rattle.ygg_type_sound.proofs.Names.{or_else, look_up_append, new_found, absent}
-use Rattle.ygg_type_sound.proofs.Steps.{held_more}
-use Rattle.ygg_type_sound.proofs.Definitions.{MeetsAll}
-use Rattle.ygg_type_progress.proofs.Views.{entries, AllTyped, held_in, has_in, LayerVariables, LowerShaped}
-use Rattle.ygg_type_progress.proofs.Operations.{answer_shaped}
-use Rattle.ygg_type_progress.proofs.Files.{on_disk}
+use Rattle.ygg_eval_expr.specs.ygg_type_rules.Files.{disk_errors, disk_table, disk_below}
+use Rattle.ygg_eval_expr.specs.ygg_meaning.Environments.{Env}
+use Rattle.ygg_eval_expr.specs.ygg_meaning.Meaning.{Functions}
+use Rattle.ygg_eval_expr.specs.ygg_meaning.Shapes.{env_fits}
+use Rattle.ygg_eval_lower.specs.ygg_histories.Stack.{tables_of_kind, tables_of}
+use Rattle.ygg_eval_expr.specs.ygg_type_sound.Fitting.{IsShaped, IsHeld}
+use Rattle.ygg_eval_expr.specs.ygg_type_sound.Agrees.{Agrees}
+use Rattle.ygg_eval_expr.specs.ygg_type_sound_proofs_Tests.{left, right}
+use Rattle.ygg_eval_expr.specs.ygg_type_sound_proofs_Names.{or_else, look_up_append, new_found, absent}
+use Rattle.ygg_eval_expr.specs.ygg_type_sound_proofs_Steps.{held_more}
+use Rattle.ygg_eval_expr.specs.ygg_type_sound_proofs_Definitions.{MeetsAll}
+use Rattle.ygg_eval_lower.proofs.of_ygg_type_progress.Views.{entries, AllTyped, held_in, has_in, LayerVariables, LowerShaped}
+use Rattle.ygg_eval_lower.specs.ygg_type_progress_proofs_Operations.{answer_shaped}
+use Rattle.ygg_eval_lower.specs.ygg_type_progress_proofs_Files.{on_disk}
 
 -- each operation of a layer that gives an answer gives one of some shape
 shaped_more : (o : Operation) (known : Named Signature) → LowerShaped known → none (answer_type_errors o.answer) ≡ true → LowerShaped (with_operation o known)

@@ -4,9 +4,9 @@ use Rattle.ygg_value.specs.declared.row.Value.{Value}
 use Rattle.ygg_syntax.specs.declared.tree.Expr.{Expr}
 use Rattle.ygg_syntax.specs.declared.tree.Layer.{Layer}
 use Rattle.ygg_syntax.specs.declared.tree.File.{File}
-use Rattle.ygg_meaning.specs.Environments.{Env, bind}
-use Rattle.ygg_meaning.specs.Shapes.{values_fit}
-use Rattle.ygg_meaning.specs.Related.{holds}
+use Rattle.ygg_eval_expr.specs.ygg_meaning.Environments.{Env, bind}
+use Rattle.ygg_eval_expr.specs.ygg_meaning.Shapes.{values_fit}
+use Rattle.ygg_eval_expr.specs.ygg_meaning.Related.{holds}
 use Rattle.ygg_eval_lower.specs.Layers.{variables_at, closed_at}
 use Rattle.ygg_eval_holds.specs.declared.formula.Formula.{Formula}
 use Rattle.ygg_eval_holds.specs.declared.formula.Which.{Which}

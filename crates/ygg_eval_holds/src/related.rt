@@ -1,9 +1,9 @@
 //! Whether a formula holds.
 
 ghost use Rattle.std.specs.Prelude.{◌≡◌, ◌++◌, ◌<◌, length, IfOk, OnOk, IsTrue, slice_get, Some};
-ghost use Rattle.ygg_meaning.specs.Environments.{bind};
-ghost use Rattle.ygg_meaning.specs.Shapes.{values_fit};
-ghost use Rattle.ygg_histories.specs.Stack.{tables_of};
+ghost use Rattle.ygg_eval_expr.specs.ygg_meaning.Environments.{bind};
+ghost use Rattle.ygg_eval_expr.specs.ygg_meaning.Shapes.{values_fit};
+ghost use Rattle.ygg_eval_lower.specs.ygg_histories.Stack.{tables_of};
 ghost use Rattle.ygg_eval_expr.specs.Held.{env_of};
 ghost use Rattle.ygg_eval_lower.specs.Layers.{variables_from};
 ghost use Rattle.ygg_eval_holds.specs.Formulas.{IsAsked, Answers, own_in, sees_all};
@@ -12,9 +12,9 @@ use crate::formula::{Formula, Which, expression_of};
 use std::alloc::Global;
 use ygg_base::DiskKind;
 use ygg_eval_expr::{Binding, CowValue, Evaluator, is_one, lend_values};
+use ygg_eval_lower::Typed;
 use ygg_list::NoMemory;
 use ygg_syntax::tree::{DiskText, Layer};
-use ygg_type::Typed;
 use ygg_value::{Value, Values};
 
 /// Puts the tables of a disk with these values after others. Its only error is out of memory.

@@ -40,17 +40,18 @@ use Rattle.ygg_syntax.specs.declared.tree.Operation.{Operation}
 use Rattle.ygg_syntax.specs.declared.tree.Tick.{Tick}
 use Rattle.ygg_syntax.specs.declared.tree.Layer.{Layer}
 use Rattle.ygg_syntax.specs.declared.tree.File.{File}
-use Rattle.ygg_syntax_count.specs.Weights.{Weights, weights_of}
-use Rattle.ygg_symbols.specs.Names.{Named, has, added}
-use Rattle.ygg_type_rules.specs.declared.scope.Visibility.{Visibility}
-use Rattle.ygg_type_rules.specs.declared.scope.Visibility.TheVariants.{Specification, Implementation}
-use Rattle.ygg_type_rules.specs.declared.scope.Signature.{Signature}
-use Rattle.ygg_type_rules.specs.TypeErrors.{none, unless}
-use Rattle.ygg_type_rules.specs.Shapes.{shape_of, answer_shape}
-use Rattle.ygg_type_rules.specs.Scopes.{Scope, seen_as}
-use Rattle.ygg_type_rules.specs.Statements.{block_errors}
-use Rattle.ygg_type_rules.specs.Definitions.{definitions_errors, with_definitions, with_parameter, with_parameters, parameters_errors, answer_type_errors}
-use Rattle.ygg_type_rules.specs.Layers.{
+use Rattle.ygg_type_progress.specs.ygg_syntax_count.Weights.{Weights, weights_of}
+use Rattle.ygg_type_progress.specs.ygg_symbols.Names.{Named, has, added}
+use Rattle.ygg_type_progress.specs.ygg_type_rules.declared.scope.Visibility.{Visibility}
+use Rattle.ygg_type_progress.specs.ygg_type_rules.declared.scope.Visibility.TheVariants.{Specification, Implementation}
+use Rattle.ygg_type_progress.specs.ygg_type_rules.declared.scope.Signature.{Signature}
+use Rattle.ygg_type_progress.specs.ygg_type_rules.TypeErrors.{none, unless}
+use Rattle.ygg_type_progress.specs.ygg_type_rules.Shapes.{shape_of, answer_shape}
+use Rattle.ygg_type_progress.specs.ygg_type_rules.Scopes.{Scope, seen_as}
+use Rattle.ygg_type_progress.specs.ygg_type_rules.Statements.{block_errors}
+use Rattle.ygg_type_progress.specs.ygg_type_rules.Definitions.{definitions_errors, with_definitions, with_parameter}
+use Rattle.ygg_type_progress.specs.ygg_type_rules.Definitions.{with_parameters, parameters_errors, answer_type_errors}
+use Rattle.ygg_type_progress.specs.ygg_type_rules.Layers.{
   Known,
   Below,
   below_of,
@@ -69,13 +70,14 @@ use Rattle.ygg_type_rules.specs.Layers.{
   ticks_errors,
   relations_errors,
 }
-use Rattle.ygg_type_rules.specs.Files.{IsTyped, type_errors_of, disk_errors, disk_operations, disk_below, count_error, layer_errors, layers_errors}
-use Rattle.ygg_meaning.specs.Environments.{bind}
-use Rattle.ygg_meaning.specs.Meaning.{Functions, functions_of}
-use Rattle.ygg_meaning.specs.Shapes.{shape_in, fits, values_fit, env_fits}
-use Rattle.ygg_type_sound.specs.Agrees.{Agrees}
-use Rattle.ygg_type_sound.proofs.Definitions.{MeetsAll, definitions_meet}
-use Rattle.ygg_type_sound.proofs.Tests.{left as first_of, right as second_of, bytes_equal}
+use Rattle.ygg_type_progress.specs.ygg_type_rules.Files.{IsTyped, type_errors_of, disk_errors, disk_operations, disk_below}
+use Rattle.ygg_type_progress.specs.ygg_type_rules.Files.{count_error, layer_errors, layers_errors}
+use Rattle.ygg_type_progress.specs.ygg_meaning.Environments.{bind}
+use Rattle.ygg_type_progress.specs.ygg_meaning.Meaning.{Functions, functions_of}
+use Rattle.ygg_type_progress.specs.ygg_meaning.Shapes.{shape_in, fits, values_fit, env_fits}
+use Rattle.ygg_type_progress.specs.ygg_type_sound.Agrees.{Agrees}
+use Rattle.ygg_type_progress.specs.ygg_type_sound_proofs_Definitions.{MeetsAll, definitions_meet}
+use Rattle.ygg_type_progress.specs.ygg_type_sound_proofs_Tests.{left as first_of, right as second_of, bytes_equal}
 use Rattle.ygg_type_progress.specs.Kinds.{keeps, on_crash_keeps, returns_declared, operation_keeps, tick_keeps, layer_keeps}
 use Rattle.ygg_type_progress.specs.Questions.{plain}
 use Rattle.ygg_type_progress.proofs.TypeErrors.{none_listed}

@@ -10,10 +10,10 @@ use Rattle.ygg_syntax.specs.declared.tree.Operation.{Operation}
 use Rattle.ygg_syntax.specs.declared.tree.Tick.{Tick}
 use Rattle.ygg_syntax.specs.declared.tree.Layer.{Layer}
 use Rattle.ygg_syntax.specs.declared.tree.File.{File}
-use Rattle.ygg_meaning.specs.Environments.{bind}
-use Rattle.ygg_meaning.specs.Shapes.{values_fit}
-use Rattle.ygg_meaning.specs.Layer.{dialogue_of}
-use Rattle.ygg_meaning.specs.Runs.{Dialogue}
+use Rattle.ygg_type_progress.specs.ygg_meaning.Environments.{bind}
+use Rattle.ygg_type_progress.specs.ygg_meaning.Shapes.{values_fit}
+use Rattle.ygg_type_progress.specs.ygg_meaning.Layer.{dialogue_of}
+use Rattle.ygg_type_progress.specs.ygg_meaning.Runs.{Dialogue}
 use Rattle.ygg_eval_lower.specs.declared.body.Body.{Body}
 use Rattle.ygg_eval_lower.specs.declared.body.Part.{Part}
 use Rattle.ygg_eval_lower.specs.declared.body.Part.TheVariants.{Start, Spec, OnCrash, Crash, Format, Impl, Tick as TickPart, Recover}

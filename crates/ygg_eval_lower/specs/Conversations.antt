@@ -3,8 +3,8 @@ use Rattle.std.specs.Prelude.{◌≡◌, ℕ, ◌+◌, IsTrue, List, [], ◌∷�
 use Rattle.ygg_value.specs.Values.{digit}
 use Rattle.ygg_syntax.specs.declared.grammar.BlockKind.{BlockKind}
 use Rattle.ygg_syntax.specs.declared.tree.File.{File}
-use Rattle.ygg_disk.specs.Power.{pick_of, after_pick}
-use Rattle.ygg_meaning.specs.Progress.{Question, Choice, Call, Answer, Point, Waits, Goes, Progress, Asks, Ends, Stray}
+use Rattle.ygg_type_progress.specs.ygg_disk.Power.{pick_of, after_pick}
+use Rattle.ygg_type_progress.specs.ygg_meaning.Progress.{Question, Choice, Call, Answer, Point, Waits, Goes, Progress, Asks, Ends, Stray}
 use Rattle.ygg_type_progress.specs.Questions.{answer_fits, question_fits}
 use Rattle.ygg_eval_lower.specs.Layers.{signatures_at}
 use Rattle.ygg_eval_lower.specs.Lower.{Standing, Meaning, Whole}

@@ -8,15 +8,15 @@ use Rattle.ygg_syntax.specs.declared.tree.Index.{Index}
 use Rattle.ygg_syntax.specs.declared.tree.Name.{Name}
 use Rattle.ygg_syntax.specs.declared.tree.Source.{Source}
 use Rattle.ygg_syntax.specs.declared.tree.Source.TheVariants as source
-use Rattle.ygg_type_rules.specs.TypeErrors.{TypeErrors}
-use Rattle.ygg_type_rules.specs.Scopes.{Scope}
-use Rattle.ygg_type_rules.specs.Statements.{source_typing, call_typing, place_rule, assignment_errors}
-use Rattle.ygg_meaning.specs.Environments.{Env, look_up}
-use Rattle.ygg_meaning.specs.Machine.{based}
-use Rattle.ygg_type_progress.specs.Kinds.{may_call, source_keeps}
-use Rattle.ygg_eval_expr.specs.Known.{CanEvaluate}
-use Rattle.ygg_eval_expr.specs.Writing.{CanWrite}
-use Rattle.ygg_eval_lower.specs.Lower.{Standing, Meaning, Behavior}
+use Rattle.ygg_direct.specs.ygg_type_rules.TypeErrors.{TypeErrors}
+use Rattle.ygg_direct.specs.ygg_type_rules.Scopes.{Scope}
+use Rattle.ygg_direct.specs.ygg_type_rules.Statements.{source_typing, call_typing, place_rule, assignment_errors}
+use Rattle.ygg_direct.specs.ygg_meaning.Environments.{Env, look_up}
+use Rattle.ygg_direct.specs.ygg_meaning.Machine.{based}
+use Rattle.ygg_direct.specs.ygg_type_progress.Kinds.{may_call, source_keeps}
+use Rattle.ygg_eval_block.specs.ygg_eval_expr.Known.{CanEvaluate}
+use Rattle.ygg_eval_block.specs.ygg_eval_expr.Writing.{CanWrite}
+use Rattle.ygg_eval_block.specs.ygg_eval_lower.Lower.{Standing, Meaning, Behavior}
 use Rattle.ygg_eval_block.specs.Ready as block
 use Rattle.ygg_eval_block.specs.Ready.{known_in, IsGiven}
 use Rattle.ygg_eval_block.proofs.Fitting.{ask_evaluates, call_evaluates}

@@ -8,25 +8,25 @@ use Rattle.ygg_syntax.specs.declared.tree.Declared.{Declared}
 use Rattle.ygg_syntax.specs.declared.tree.Expr.{Expr}
 use Rattle.ygg_syntax.specs.declared.tree.File.{File}
 use Rattle.ygg_syntax.specs.declared.tree.Layer.{Layer}
-use Rattle.ygg_type_rules.specs.Files.{IsTyped}
-use Rattle.ygg_type_rules.specs.TypeErrors.{none}
-use Rattle.ygg_type_rules.specs.Scopes.{Scope}
-use Rattle.ygg_type_rules.specs.Expressions.{typing}
-use Rattle.ygg_type_rules.specs.Statements.{in_order, return_errors, walked}
-use Rattle.ygg_meaning.specs.Environments.{Env, bind}
-use Rattle.ygg_meaning.specs.Meaning.{functions_of}
-use Rattle.ygg_meaning.specs.Progress.{Answer, answer_of}
-use Rattle.ygg_meaning.specs.Shapes.{values_fit}
-use Rattle.ygg_type_sound.specs.Agrees.{Agrees}
-use Rattle.ygg_type_sound.proofs.Tests.{left as first_of, right as second_of}
-use Rattle.ygg_type_progress.specs.Kinds.{keeps}
-use Rattle.ygg_type_progress.specs.Questions.{plain, Follows}
-use Rattle.ygg_type_progress.proofs.Derived.{derivable_derived}
+use Rattle.ygg_direct.specs.ygg_type_rules.Files.{IsTyped}
+use Rattle.ygg_direct.specs.ygg_type_rules.TypeErrors.{none}
+use Rattle.ygg_direct.specs.ygg_type_rules.Scopes.{Scope}
+use Rattle.ygg_direct.specs.ygg_type_rules.Expressions.{typing}
+use Rattle.ygg_direct.specs.ygg_type_rules.Statements.{in_order, return_errors, walked}
+use Rattle.ygg_direct.specs.ygg_meaning.Environments.{Env, bind}
+use Rattle.ygg_direct.specs.ygg_meaning.Meaning.{functions_of}
+use Rattle.ygg_direct.specs.ygg_meaning.Progress.{Answer, answer_of}
+use Rattle.ygg_direct.specs.ygg_meaning.Shapes.{values_fit}
+use Rattle.ygg_direct.specs.ygg_type_sound.Agrees.{Agrees}
+use Rattle.ygg_direct.specs.ygg_type_sound_proofs_Tests.{left as first_of, right as second_of}
+use Rattle.ygg_direct.specs.ygg_type_progress.Kinds.{keeps}
+use Rattle.ygg_direct.specs.ygg_type_progress.Questions.{plain, Follows}
+use Rattle.ygg_direct.proofs.of_ygg_type_progress.Derived.{derivable_derived}
 use Rattle.ygg_direct.specs.Direct.{Reached, direct_run}
-use Rattle.ygg_eval_expr.specs.Known.{CanEvaluate}
-use Rattle.ygg_eval_lower.specs.Bodies.{IsBlock, IsRunnable, arguments_in, block_in, variables_in}
-use Rattle.ygg_eval_lower.specs.declared.body.Body.{Body}
-use Rattle.ygg_eval_lower.proofs.Blocks.{block_typing, blocks_kept}
+use Rattle.ygg_eval_block.specs.ygg_eval_expr.Known.{CanEvaluate}
+use Rattle.ygg_eval_block.specs.ygg_eval_lower.Bodies.{IsBlock, IsRunnable, arguments_in, block_in, variables_in}
+use Rattle.ygg_eval_block.specs.ygg_eval_lower.declared.body.Body.{Body}
+use Rattle.ygg_eval_block.specs.ygg_eval_lower_proofs_Blocks.{block_typing, blocks_kept}
 use Rattle.ygg_eval_block.specs.Ending.{values_in}
 use Rattle.ygg_eval_block.specs.Ready.{eval_in, known_in}
 use Rattle.ygg_eval_block.proofs.Public.{bound, bind_counted}

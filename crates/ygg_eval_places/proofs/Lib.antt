@@ -1,7 +1,7 @@
 pub mod Rooms
 pub mod Opened
 pub mod Below
-pub mod Typed
+pub mod Fitting
 pub mod Parts
 pub mod Going
 pub mod Sides

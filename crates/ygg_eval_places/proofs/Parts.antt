@@ -46,30 +46,31 @@ use Rattle.ygg_syntax.specs.declared.tree.Source.TheVariants as source
 use Rattle.ygg_syntax.specs.declared.tree.Stmt.{Stmt}
 use Rattle.ygg_syntax.specs.declared.tree.Stmt.TheOpen.{Stmt-F}
 use Rattle.ygg_syntax.specs.declared.tree.Stmt.TheVariants as tree
-use Rattle.ygg_symbols.specs.Names.{Named}
-use Rattle.ygg_type_rules.specs.declared.scope.Signature.{Signature}
-use Rattle.ygg_type_rules.specs.TypeErrors.{none}
-use Rattle.ygg_type_rules.specs.Scopes.{Scope, is_taken}
-use Rattle.ygg_type_rules.specs.Shapes.{word_shape}
-use Rattle.ygg_type_rules.specs.Expressions.{typing, expected_errors, with_number, number_errors, wanted}
-use Rattle.ygg_type_rules.specs.Statements.{Walked, source_typing, call_typing, place_rule, in_order, return_errors, node_walked, walked, block_errors}
-use Rattle.ygg_meaning.specs.Environments.{Env}
-use Rattle.ygg_meaning.specs.Meaning.{Functions, functions_of}
-use Rattle.ygg_meaning.specs.Progress.{Answer, Point, Waits, Goes, Question, Choice, Call, in_turn, run_of, values_of, value_in}
-use Rattle.ygg_type_sound.specs.Agrees.{Agrees}
-use Rattle.ygg_type_sound.proofs.Tests.{left as first_of, right as second_of}
-use Rattle.ygg_type_sound.proofs.Rules.{NumberParts, number_parts}
-use Rattle.ygg_type_sound.proofs.Steps.{agrees_with_number}
-use Rattle.ygg_eval_expr.specs.Known.{CanEvaluate}
-use Rattle.ygg_type_progress.specs.Kinds.{all_keep, node_keeps, stmt_keeps, keeps}
-use Rattle.ygg_type_progress.specs.Questions.{plain, answer_fits, question_fits, Follows}
-use Rattle.ygg_type_progress.proofs.Asking.{all_known}
-use Rattle.ygg_type_progress.proofs.Files.{have}
-use Rattle.ygg_type_progress.proofs.Following.{follows_cut, follows_front, agrees_after}
-use Rattle.ygg_type_progress.proofs.Sounds.{Told, Fine, all_sound, statements_sound, call_fits}
+use Rattle.ygg_direct.specs.ygg_symbols.Names.{Named}
+use Rattle.ygg_direct.specs.ygg_type_rules.declared.scope.Signature.{Signature}
+use Rattle.ygg_direct.specs.ygg_type_rules.TypeErrors.{none}
+use Rattle.ygg_direct.specs.ygg_type_rules.Scopes.{Scope, is_taken}
+use Rattle.ygg_direct.specs.ygg_type_rules.Shapes.{word_shape}
+use Rattle.ygg_direct.specs.ygg_type_rules.Expressions.{typing, expected_errors, with_number, number_errors, wanted}
+use Rattle.ygg_direct.specs.ygg_type_rules.Statements.{Walked, source_typing, call_typing, place_rule, in_order, return_errors}
+use Rattle.ygg_direct.specs.ygg_type_rules.Statements.{node_walked, walked, block_errors}
+use Rattle.ygg_direct.specs.ygg_meaning.Environments.{Env}
+use Rattle.ygg_direct.specs.ygg_meaning.Meaning.{Functions, functions_of}
+use Rattle.ygg_direct.specs.ygg_meaning.Progress.{Answer, Point, Waits, Goes, Question, Choice, Call, in_turn, run_of, values_of, value_in}
+use Rattle.ygg_direct.specs.ygg_type_sound.Agrees.{Agrees}
+use Rattle.ygg_direct.specs.ygg_type_sound_proofs_Tests.{left as first_of, right as second_of}
+use Rattle.ygg_direct.specs.ygg_type_sound_proofs_Rules.{NumberParts, number_parts}
+use Rattle.ygg_direct.specs.ygg_type_sound_proofs_Steps.{agrees_with_number}
+use Rattle.ygg_eval_block.specs.ygg_eval_expr.Known.{CanEvaluate}
+use Rattle.ygg_direct.specs.ygg_type_progress.Kinds.{all_keep, node_keeps, stmt_keeps, keeps}
+use Rattle.ygg_direct.specs.ygg_type_progress.Questions.{plain, answer_fits, question_fits, Follows}
+use Rattle.ygg_direct.specs.ygg_type_progress_proofs_Asking.{all_known}
+use Rattle.ygg_direct.specs.ygg_type_progress_proofs_Files.{have}
+use Rattle.ygg_direct.specs.ygg_type_progress_proofs_Following.{follows_cut, follows_front, agrees_after}
+use Rattle.ygg_direct.specs.ygg_type_progress_proofs_Sounds.{Told, Fine, all_sound, statements_sound, call_fits}
 use Rattle.ygg_direct.specs.Direct.{told_by, in_order as run_in_order}
 use Rattle.ygg_direct.proofs.Order.{all_follow, block_follows}
-use Rattle.ygg_eval_lower.specs.Layers.{signatures_at}
+use Rattle.ygg_eval_block.specs.ygg_eval_lower.Layers.{signatures_at}
 use Rattle.ygg_eval_block.specs.Ready.{eval_in, known_in, numbered, IsGiven}
 use Rattle.ygg_eval_block.proofs.Fitting.{local_defs, local_lower, walked_defs, given_value, given_choice, given_call}
 use Rattle.ygg_eval_block.proofs.Opened.{
@@ -87,7 +88,7 @@ use Rattle.ygg_eval_block.proofs.Opened.{
 use Rattle.ygg_eval_places.specs.Machines.{PlaceMeaning, IsPlaces, CanAnswer}
 use Rattle.ygg_eval_places.specs.Ready.{Fits, CanDo, CanAsk, CanAssign, CanCall, CanStep, CanRun, CanEnter, CanRepeat}
 use Rattle.ygg_eval_places.specs.Walks.{stmt_part, order_part, inside_part}
-use Rattle.ygg_eval_places.proofs.Typed.{told_none, all_kept}
+use Rattle.ygg_eval_places.proofs.Fitting.{told_none, all_kept}
 
 module _ {S : Type 0} (M : PlaceMeaning S) (law : IsPlaces M) (file : File) (number : ℕ) where
   abbrev functions : Functions

@@ -5,17 +5,17 @@ use Rattle.ygg_value.specs.declared.shape.Shape.{Shape}
 use Rattle.ygg_syntax.specs.declared.tree.Block.{Block}
 use Rattle.ygg_syntax.specs.declared.tree.File.{File}
 use Rattle.ygg_syntax.specs.declared.tree.Layer.{Layer}
-use Rattle.ygg_type_rules.specs.TypeErrors.{none}
-use Rattle.ygg_type_rules.specs.Scopes.{Scope}
-use Rattle.ygg_type_rules.specs.Statements.{block_errors}
-use Rattle.ygg_meaning.specs.Environments.{Env, bind}
-use Rattle.ygg_meaning.specs.Progress.{Answer, answer_of}
-use Rattle.ygg_meaning.specs.Shapes.{values_fit}
-use Rattle.ygg_type_progress.specs.Kinds.{keeps}
+use Rattle.ygg_direct.specs.ygg_type_rules.TypeErrors.{none}
+use Rattle.ygg_direct.specs.ygg_type_rules.Scopes.{Scope}
+use Rattle.ygg_direct.specs.ygg_type_rules.Statements.{block_errors}
+use Rattle.ygg_direct.specs.ygg_meaning.Environments.{Env, bind}
+use Rattle.ygg_direct.specs.ygg_meaning.Progress.{Answer, answer_of}
+use Rattle.ygg_direct.specs.ygg_meaning.Shapes.{values_fit}
+use Rattle.ygg_direct.specs.ygg_type_progress.Kinds.{keeps}
 use Rattle.ygg_direct.specs.Direct.{Reached, direct_run}
-use Rattle.ygg_eval_lower.specs.Bodies.{IsBlock, arguments_in, kind_of, variables_in}
-use Rattle.ygg_eval_lower.specs.Layers.{signatures_at}
-use Rattle.ygg_eval_lower.specs.declared.body.Body.{Body}
+use Rattle.ygg_eval_block.specs.ygg_eval_lower.Bodies.{IsBlock, arguments_in, kind_of, variables_in}
+use Rattle.ygg_eval_block.specs.ygg_eval_lower.Layers.{signatures_at}
+use Rattle.ygg_eval_block.specs.ygg_eval_lower.declared.body.Body.{Body}
 use Rattle.ygg_eval_block.specs.Ready.{eval_in}
 use Rattle.ygg_eval_places.specs.Machines.{PlaceMeaning}
 use Rattle.ygg_eval_places.specs.Ready.{Fits}

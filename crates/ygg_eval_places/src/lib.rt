@@ -11,3 +11,4 @@ pub use places::{Places, Question};
 pub use unrolled::{add, room};
 pub use walker::Walker;
 pub use whole::run_places;
+pub use ygg_eval_block::{Body, Typed, block_of, digit};

@@ -4,20 +4,17 @@ ghost use Rattle.std.specs.Prelude.{◌≡◌, IfOk, OnOk, take};
 ghost use Rattle.ygg_direct.specs.Direct.{direct_run};
 ghost use Rattle.ygg_eval_block.specs.Ending.{values_in};
 ghost use Rattle.ygg_eval_block.specs.Ready.{eval_in};
-ghost use Rattle.ygg_eval_expr.specs.Held.{env_of};
-ghost use Rattle.ygg_eval_lower.specs.Bodies.{IsRunnable};
+ghost use Rattle.ygg_eval_block.specs.ygg_eval_expr.Held.{env_of};
+ghost use Rattle.ygg_eval_block.specs.ygg_eval_lower.Bodies.{IsRunnable};
 ghost use Rattle.ygg_eval_places.specs.Wholes.{IsReady, BodyWalked, CanServe};
-ghost use Rattle.ygg_meaning.specs.Progress.{answer_of};
+ghost use Rattle.ygg_direct.specs.ygg_meaning.Progress.{answer_of};
 
 use crate::places::Places;
 use crate::walker::Walker;
 use std::alloc::Global;
-use ygg_eval_block::{Runner, give_back, names_of};
-use ygg_eval_expr::Binding;
-use ygg_eval_lower::{Body, block_of};
+use ygg_eval_block::{Binding, Body, Runner, Typed, block_of, give_back, names_of};
 use ygg_list::NoMemory;
 use ygg_syntax::tree::Block;
-use ygg_type::Typed;
 use ygg_value::{Value, Values};
 
 /// Runs a block of a file to its end on a machine that answers by place, and gives its answer. The values are those of the layer's state

@@ -37,39 +37,39 @@ use Rattle.ygg_syntax.specs.declared.tree.Block.{Block}
 use Rattle.ygg_syntax.specs.declared.tree.Operation.{Operation}
 use Rattle.ygg_syntax.specs.declared.tree.Layer.{Layer}
 use Rattle.ygg_syntax.specs.declared.tree.File.{File}
-use Rattle.ygg_symbols.specs.Names.{Named}
-use Rattle.ygg_type_rules.specs.declared.scope.Signature.{Signature}
-use Rattle.ygg_type_rules.specs.TypeErrors.{none}
-use Rattle.ygg_type_rules.specs.Layers.{operation_signature}
-use Rattle.ygg_type_rules.specs.Files.{type_errors_of}
+use Rattle.ygg_eval_block.specs.ygg_symbols.Names.{Named}
+use Rattle.ygg_eval_block.specs.ygg_type_rules.declared.scope.Signature.{Signature}
+use Rattle.ygg_eval_block.specs.ygg_type_rules.TypeErrors.{none}
+use Rattle.ygg_eval_block.specs.ygg_type_rules.Layers.{operation_signature}
+use Rattle.ygg_eval_block.specs.ygg_type_rules.Files.{type_errors_of}
 use Rattle.ygg_syntax.specs.Files.{IsDerivable}
-use Rattle.ygg_type.proofs.Least.{is_empty}
-use Rattle.ygg_disk.specs.declared.power.Power.{Power}
-use Rattle.ygg_meaning.specs.Environments.{Name, Env, bind}
-use Rattle.ygg_meaning.specs.Meaning.{functions_of}
-use Rattle.ygg_meaning.specs.Shapes.{values_fit}
-use Rattle.ygg_meaning.specs.Progress.{Answer}
-use Rattle.ygg_meaning.specs.Machine.{Picks, State, based}
-use Rattle.ygg_meaning.specs.Layer.{ClosedLayer, operation_in}
-use Rattle.ygg_meaning.specs.Spec.{chosen, block_outcome, then_block, crash_outcome, fall_with, SpecCalls, SpecFalls, SpecLoses}
-use Rattle.ygg_meaning.specs.Refines.{Below, OnDisk, OnSpec, machine_below}
-use Rattle.ygg_meaning.proofs.Exact.{block_exact}
-use Rattle.ygg_histories.specs.Stack.{tables_of}
-use Rattle.ygg_type_sound.specs.Fitting.{all_fit}
-use Rattle.ygg_type_sound.proofs.Parameters.{same_fit}
-use Rattle.ygg_type_progress.specs.Questions.{gives}
-use Rattle.ygg_type_progress.specs.Machines.{SpecAnswers}
-use Rattle.ygg_type_progress.proofs.Grammar.{file_kept}
-use Rattle.ygg_type_progress.proofs.Files.{file_known}
-use Rattle.ygg_eval_lower.specs.declared.body.Part.TheVariants as part
-use Rattle.ygg_eval_lower.specs.Layers.{variables_from, variables_at, closed_at, below_at, signatures_of, signatures_at}
-use Rattle.ygg_eval_lower.specs.Bodies.{IsBlock, IsRunnable, arguments_at}
-use Rattle.ygg_eval_lower.specs.Lower.{IsCallable, Called, Fell, Whole, Happened}
+use Rattle.ygg_eval_block.specs.ygg_type_proofs_Least.{is_empty}
+use Rattle.ygg_eval_block.specs.ygg_disk.declared.power.Power.{Power}
+use Rattle.ygg_eval_block.specs.ygg_meaning.Environments.{Name, Env, bind}
+use Rattle.ygg_eval_block.specs.ygg_meaning.Meaning.{functions_of}
+use Rattle.ygg_eval_block.specs.ygg_meaning.Shapes.{values_fit}
+use Rattle.ygg_eval_block.specs.ygg_meaning.Progress.{Answer}
+use Rattle.ygg_eval_block.specs.ygg_meaning.Machine.{Picks, State, based}
+use Rattle.ygg_eval_block.specs.ygg_meaning.Layer.{ClosedLayer, operation_in}
+use Rattle.ygg_eval_block.specs.ygg_meaning.Spec.{chosen, block_outcome, then_block, crash_outcome, fall_with, SpecCalls, SpecFalls, SpecLoses}
+use Rattle.ygg_eval_block.specs.ygg_meaning.Refines.{Below, OnDisk, OnSpec, machine_below}
+use Rattle.ygg_eval_block.specs.ygg_meaning_proofs_Exact.{block_exact}
+use Rattle.ygg_eval_block.specs.ygg_histories.Stack.{tables_of}
+use Rattle.ygg_eval_block.specs.ygg_type_sound.Fitting.{all_fit}
+use Rattle.ygg_eval_block.specs.ygg_type_sound_proofs_Parameters.{same_fit}
+use Rattle.ygg_eval_block.specs.ygg_type_progress.Questions.{gives}
+use Rattle.ygg_eval_block.specs.ygg_type_progress.Machines.{SpecAnswers}
+use Rattle.ygg_eval_block.specs.ygg_type_progress_proofs_Grammar.{file_kept}
+use Rattle.ygg_eval_block.specs.ygg_type_progress_proofs_Files.{file_known}
+use Rattle.ygg_eval_block.specs.ygg_eval_lower.declared.body.Part.TheVariants as part
+use Rattle.ygg_eval_block.specs.ygg_eval_lower.Layers.{variables_from, variables_at, closed_at, below_at, signatures_of, signatures_at}
+use Rattle.ygg_eval_block.specs.ygg_eval_lower.Bodies.{IsBlock, IsRunnable, arguments_at}
+use Rattle.ygg_eval_block.specs.ygg_eval_lower.Lower.{IsCallable, Called, Fell, Whole, Happened}
 use Rattle.ygg_eval_spec.specs.Taken.{TakesOnly}
 use Rattle.ygg_eval_spec.specs.Kept.{standing, spec_meaning, Loses}
 use Rattle.ygg_eval_spec.specs.Ran.{Ran, Broken, OperationBroken, CrashRan}
 use Rattle.ygg_eval_spec.specs.Keeping.{takes_both}
-use Rattle.ygg_eval_lower.proofs.Blocks.{bind_fits}
+use Rattle.ygg_eval_block.specs.ygg_eval_lower_proofs_Blocks.{bind_fits}
 use Rattle.ygg_eval_spec.proofs.OnDisk.{variables_zero}
 use Rattle.ygg_eval_spec.proofs.Named.{find_first, typed_operations, all_of}
 

@@ -6,10 +6,10 @@ use Rattle.ygg_syntax.specs.declared.grammar.BlockKind.TheVariants as kind
 use Rattle.ygg_syntax.specs.declared.tree.Block.{Block}
 use Rattle.ygg_syntax.specs.declared.tree.Layer.{Layer}
 use Rattle.ygg_syntax.specs.declared.tree.File.{File}
-use Rattle.ygg_disk.specs.Power.{pick_of}
-use Rattle.ygg_meaning.specs.Environments.{Env, bind}
-use Rattle.ygg_meaning.specs.Shapes.{values_fit}
-use Rattle.ygg_meaning.specs.Progress.{
+use Rattle.ygg_eval_block.specs.ygg_disk.Power.{pick_of}
+use Rattle.ygg_eval_block.specs.ygg_meaning.Environments.{Env, bind}
+use Rattle.ygg_eval_block.specs.ygg_meaning.Shapes.{values_fit}
+use Rattle.ygg_eval_block.specs.ygg_meaning.Progress.{
   Question,
   Choice,
   Call,
@@ -27,16 +27,16 @@ use Rattle.ygg_meaning.specs.Progress.{
   ended,
   after,
 }
-use Rattle.ygg_meaning.specs.Machine.{Picks}
-use Rattle.ygg_meaning.specs.Layer.{ClosedLayer, eval_of}
-use Rattle.ygg_meaning.specs.Spec.{chosen, outcome_at, block_outcome}
-use Rattle.ygg_eval_lower.specs.declared.body.Body.{Body}
-use Rattle.ygg_eval_lower.specs.declared.body.Part.{Part}
-use Rattle.ygg_eval_lower.specs.declared.body.Part.TheVariants as part
-use Rattle.ygg_eval_lower.specs.Layers.{closed_at}
-use Rattle.ygg_eval_lower.specs.Bodies.{IsBlock, IsRunnable, arguments_in, variables_in, kind_of, dialogue_in}
-use Rattle.ygg_eval_lower.specs.Lower.{Standing, Meaning}
-use Rattle.ygg_eval_lower.specs.Conversations.{Asking, Exchange, Exchanged, Talks, asked, answers_of}
+use Rattle.ygg_eval_block.specs.ygg_meaning.Machine.{Picks}
+use Rattle.ygg_eval_block.specs.ygg_meaning.Layer.{ClosedLayer, eval_of}
+use Rattle.ygg_eval_block.specs.ygg_meaning.Spec.{chosen, outcome_at, block_outcome}
+use Rattle.ygg_eval_block.specs.ygg_eval_lower.declared.body.Body.{Body}
+use Rattle.ygg_eval_block.specs.ygg_eval_lower.declared.body.Part.{Part}
+use Rattle.ygg_eval_block.specs.ygg_eval_lower.declared.body.Part.TheVariants as part
+use Rattle.ygg_eval_block.specs.ygg_eval_lower.Layers.{closed_at}
+use Rattle.ygg_eval_block.specs.ygg_eval_lower.Bodies.{IsBlock, IsRunnable, arguments_in, variables_in, kind_of, dialogue_in}
+use Rattle.ygg_eval_block.specs.ygg_eval_lower.Lower.{Standing, Meaning}
+use Rattle.ygg_eval_block.specs.ygg_eval_lower.Conversations.{Asking, Exchange, Exchanged, Talks, asked, answers_of}
 use Rattle.ygg_eval_block.specs.Runs.{Finished}
 use Rattle.ygg_eval_spec.specs.Taken.{TakesOnly}
 use Rattle.ygg_eval_spec.specs.Ran.{Ran}

@@ -5,14 +5,14 @@ use Rattle.std.proofs.Common.{refl, sym, ap, ◌∙◌, subst}
 use Rattle.std.proofs.Math.Nat.{le_refl}
 use Rattle.ygg_value.specs.declared.row.Value.{Value}
 use Rattle.ygg_syntax.specs.declared.tree.File.{File}
-use Rattle.ygg_disk.specs.Power.{Takes, after_pick}
-use Rattle.ygg_disk.specs.declared.power.Fuse.{Fuse}
-use Rattle.ygg_disk.specs.declared.power.Picks.{Picks as Source}
-use Rattle.ygg_disk.specs.declared.power.Power.{Power}
-use Rattle.ygg_meaning.specs.Environments.{Name}
-use Rattle.ygg_meaning.specs.Progress.{Answer}
-use Rattle.ygg_meaning.specs.Machine.{Picks, based}
-use Rattle.ygg_eval_lower.specs.Lower.{
+use Rattle.ygg_eval_block.specs.ygg_disk.Power.{Takes, after_pick}
+use Rattle.ygg_eval_block.specs.ygg_disk.declared.power.Fuse.{Fuse}
+use Rattle.ygg_eval_block.specs.ygg_disk.declared.power.Picks.{Picks as Source}
+use Rattle.ygg_eval_block.specs.ygg_disk.declared.power.Power.{Power}
+use Rattle.ygg_eval_block.specs.ygg_meaning.Environments.{Name}
+use Rattle.ygg_eval_block.specs.ygg_meaning.Progress.{Answer}
+use Rattle.ygg_eval_block.specs.ygg_meaning.Machine.{Picks, based}
+use Rattle.ygg_eval_block.specs.ygg_eval_lower.Lower.{
   Standing,
   Meaning,
   Ending,
@@ -32,7 +32,7 @@ use Rattle.ygg_eval_lower.specs.Lower.{
   KeepsInLoss,
   IsLower,
 }
-use Rattle.ygg_eval_lower.specs.Layers.{machine_at}
+use Rattle.ygg_eval_block.specs.ygg_eval_lower.Layers.{machine_at}
 use Rattle.ygg_eval_spec.specs.Taken.{TakesOnly}
 use Rattle.ygg_eval_spec.specs.Kept.{Kept, Stepped, Calls, Falls, Loses, TakesBy, named_in, machine_by, spec_meaning, silent_meaning}
 

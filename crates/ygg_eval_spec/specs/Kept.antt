@@ -2,12 +2,12 @@
 use Rattle.std.specs.Prelude.{◌≡◌, ℕ, ◌≤◌, Bool, true, IsTrue, List, length, Option, Some, None}
 use Rattle.ygg_value.specs.declared.row.Value.{Value}
 use Rattle.ygg_syntax.specs.declared.tree.File.{File}
-use Rattle.ygg_disk.specs.declared.power.Power.{Power}
-use Rattle.ygg_meaning.specs.Environments.{Name, Env, bind}
-use Rattle.ygg_meaning.specs.Shapes.{values_fit}
-use Rattle.ygg_meaning.specs.Machine.{Picks, Machine, based}
-use Rattle.ygg_eval_lower.specs.Layers.{variables_at, machine_at}
-use Rattle.ygg_eval_lower.specs.Lower.{
+use Rattle.ygg_eval_block.specs.ygg_disk.declared.power.Power.{Power}
+use Rattle.ygg_eval_block.specs.ygg_meaning.Environments.{Name, Env, bind}
+use Rattle.ygg_eval_block.specs.ygg_meaning.Shapes.{values_fit}
+use Rattle.ygg_eval_block.specs.ygg_meaning.Machine.{Picks, Machine, based}
+use Rattle.ygg_eval_block.specs.ygg_eval_lower.Layers.{variables_at, machine_at}
+use Rattle.ygg_eval_block.specs.ygg_eval_lower.Lower.{
   Standing,
   Behavior,
   Meaning,

@@ -5,16 +5,16 @@ use Rattle.ygg_syntax.specs.declared.tree.Block.{Block}
 use Rattle.ygg_syntax.specs.declared.tree.Operation.{Operation}
 use Rattle.ygg_syntax.specs.declared.tree.Layer.{Layer}
 use Rattle.ygg_syntax.specs.declared.tree.File.{File}
-use Rattle.ygg_disk.specs.declared.power.Power.{Power}
-use Rattle.ygg_meaning.specs.Environments.{bind}
-use Rattle.ygg_meaning.specs.Shapes.{values_fit}
-use Rattle.ygg_meaning.specs.Progress.{Answer}
-use Rattle.ygg_meaning.specs.Machine.{Picks}
-use Rattle.ygg_meaning.specs.Spec.{chosen, block_outcome, crash_outcome, fall_outcome}
-use Rattle.ygg_eval_lower.specs.declared.body.Body.{Body}
-use Rattle.ygg_eval_lower.specs.declared.body.Part.TheVariants.{Crash}
-use Rattle.ygg_eval_lower.specs.Layers.{closed_at}
-use Rattle.ygg_eval_lower.specs.Bodies.{IsBlock, arguments_in}
+use Rattle.ygg_eval_block.specs.ygg_disk.declared.power.Power.{Power}
+use Rattle.ygg_eval_block.specs.ygg_meaning.Environments.{bind}
+use Rattle.ygg_eval_block.specs.ygg_meaning.Shapes.{values_fit}
+use Rattle.ygg_eval_block.specs.ygg_meaning.Progress.{Answer}
+use Rattle.ygg_eval_block.specs.ygg_meaning.Machine.{Picks}
+use Rattle.ygg_eval_block.specs.ygg_meaning.Spec.{chosen, block_outcome, crash_outcome, fall_outcome}
+use Rattle.ygg_eval_block.specs.ygg_eval_lower.declared.body.Body.{Body}
+use Rattle.ygg_eval_block.specs.ygg_eval_lower.declared.body.Part.TheVariants.{Crash}
+use Rattle.ygg_eval_block.specs.ygg_eval_lower.Layers.{closed_at}
+use Rattle.ygg_eval_block.specs.ygg_eval_lower.Bodies.{IsBlock, arguments_in}
 use Rattle.ygg_eval_spec.specs.Taken.{TakesOnly}
 
 -- a block ran wholly with the next picks, and gave this answer

@@ -8,3 +8,4 @@ mod silent;
 mod spec;
 
 pub use machine::{SpecLower, spec_lower};
+pub use ygg_eval_block::{Ended, place_of, run_body};

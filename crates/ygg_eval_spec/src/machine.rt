@@ -1,16 +1,14 @@
 //! The machine itself.
 
 ghost use Rattle.std.specs.Prelude.{◌≡◌, ◌≤◌, IfOk, IsTrue, length};
-ghost use Rattle.ygg_meaning.specs.Shapes.{values_fit};
-ghost use Rattle.ygg_eval_lower.specs.Layers.{variables_at};
+ghost use Rattle.ygg_eval_block.specs.ygg_meaning.Shapes.{values_fit};
+ghost use Rattle.ygg_eval_block.specs.ygg_eval_lower.Layers.{variables_at};
 
 use crate::{disk, spec};
 use std::alloc::Global;
 use std::marker::Model;
-use ygg_disk::{Power, Turn};
-use ygg_eval_lower::Lower;
+use ygg_eval_block::{Lower, Power, Turn, Typed};
 use ygg_list::NoMemory;
-use ygg_type::Typed;
 use ygg_value::Values;
 
 /// The specification of a layer, or the disk, which contracts see as its number in the file and the values of its variables or tables.

@@ -1,9 +1,7 @@
 //! The machine below a block that calls none.
 
-use ygg_disk::{Power, Turn};
-use ygg_eval_lower::Lower;
+use ygg_eval_block::{Lower, Power, Turn, Typed};
 use ygg_list::NoMemory;
-use ygg_type::Typed;
 use ygg_value::Values;
 
 /// A machine that has no memory for whatever it is asked.

@@ -4,20 +4,17 @@ ghost use Rattle.std.specs.Prelude.{◌≡◌, ◌<◌, suc, IfOk, OnOk, IsTrue,
 ghost use Rattle.ygg_syntax.specs.declared.tree.Layer.{Layer};
 ghost use Rattle.ygg_syntax.specs.declared.tree.Operation.{Operation};
 ghost use Rattle.ygg_syntax.specs.declared.grammar.BlockKind.TheVariants as kind;
-ghost use Rattle.ygg_meaning.specs.Shapes.{values_fit};
-ghost use Rattle.ygg_eval_lower.specs.Layers.{variables_at, signatures_at};
-ghost use Rattle.ygg_eval_lower.specs.Bodies.{IsRunnable, kind_of};
-ghost use Rattle.ygg_eval_lower.specs.Lower.{IsCallable, Called, Fell, AfterWhole, ending_of, outage_of};
+ghost use Rattle.ygg_eval_block.specs.ygg_meaning.Shapes.{values_fit};
+ghost use Rattle.ygg_eval_block.specs.ygg_eval_lower.Layers.{variables_at, signatures_at};
+ghost use Rattle.ygg_eval_block.specs.ygg_eval_lower.Bodies.{IsRunnable, kind_of};
+ghost use Rattle.ygg_eval_block.specs.ygg_eval_lower.Lower.{IsCallable, Called, Fell, AfterWhole, ending_of, outage_of};
 ghost use Rattle.ygg_eval_spec.specs.Kept.{spec_meaning, standing, Loses};
 ghost use Rattle.ygg_eval_spec.specs.Ran.{BodyRan, OperationBroken, CrashRan};
 
 use crate::silent::Silent;
 use std::alloc::Global;
-use ygg_disk::{Power, Turn};
-use ygg_eval_block::{Ended, run_body};
-use ygg_eval_lower::{Body, Part};
+use ygg_eval_block::{Body, Ended, Part, Power, Turn, Typed, run_body};
 use ygg_list::{NoMemory, Sequence};
-use ygg_type::Typed;
 use ygg_value::{Value, Values};
 
 /// Runs a block of a specification wholly, and gives its answer. Its only error is out of memory.

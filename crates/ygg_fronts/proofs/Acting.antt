@@ -3,15 +3,15 @@ use Rattle.std.proofs.Common.{◌≡◌, ℕ, zero, suc, Bool, true, false, List
 use Rattle.std.proofs.lemmas.List.{append-nil, length-append}
 use Rattle.ygg_value.specs.declared.row.Value.{Value}
 use Rattle.ygg_syntax.specs.declared.tree.Block.{Block}
-use Rattle.ygg_meaning.specs.Environments.{Name, Env}
-use Rattle.ygg_meaning.specs.Layer.{ClosedLayer, eval_of}
-use Rattle.ygg_meaning.specs.Machine.{Picks, State, on}
-use Rattle.ygg_meaning.specs.Obligations.{Halt}
-use Rattle.ygg_meaning.specs.Progress.{Question, Choice, Call, answer_of}
-use Rattle.ygg_direct.specs.Acts.{Acts, Did, Fell, Standing, serve, after_did, lost_at, cut_at, stopped_in, runs, falls_in}
-use Rattle.ygg_direct.specs.Direct.{Handled, Event, Reached, direct_run}
-use Rattle.ygg_direct.specs.RunPlaces.{base_at, asked_in}
-use Rattle.ygg_sym_below.proofs.Whole.{take_less}
+use Rattle.ygg_sym_laws.specs.ygg_meaning.Environments.{Name, Env}
+use Rattle.ygg_sym_laws.specs.ygg_meaning.Layer.{ClosedLayer, eval_of}
+use Rattle.ygg_sym_laws.specs.ygg_meaning.Machine.{Picks, State, on}
+use Rattle.ygg_sym_laws.specs.ygg_meaning.Obligations.{Halt}
+use Rattle.ygg_sym_laws.specs.ygg_meaning.Progress.{Question, Choice, Call, answer_of}
+use Rattle.ygg_sym_laws.specs.ygg_direct.Acts.{Acts, Did, Fell, Standing, serve, after_did, lost_at, cut_at, stopped_in, runs, falls_in}
+use Rattle.ygg_sym_laws.specs.ygg_direct.Direct.{Handled, Event, Reached, direct_run}
+use Rattle.ygg_sym_laws.specs.ygg_direct.RunPlaces.{base_at, asked_in}
+use Rattle.ygg_sym_laws.specs.ygg_sym_below_proofs_Whole.{take_less}
 use Rattle.ygg_fronts.specs.Taking.{Takes, picks_of}
 use Rattle.ygg_fronts.specs.Fronts.{stopped_picks}
 use Rattle.ygg_fronts.proofs.Fronting.{fronted, stopped}

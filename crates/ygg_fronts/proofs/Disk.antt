@@ -3,15 +3,15 @@ use Rattle.std.proofs.Common.{◌≡◌, ℕ, Bool, false, [], ◌∷◌, ◌++�
 use Rattle.ygg_base.specs.declared.geometry.DiskKind.{DiskKind}
 use Rattle.ygg_base.specs.declared.geometry.DiskKind.TheVariants.{Sync, Async}
 use Rattle.ygg_syntax.specs.declared.tree.DiskText.{DiskText}
-use Rattle.ygg_disk.specs.Disk as disk
-use Rattle.ygg_disk.specs.Kinds.{model_of}
-use Rattle.ygg_meaning.specs.DiskMachine.{disk_call, answer_to, tables_in}
-use Rattle.ygg_meaning.specs.Environments.{Env}
-use Rattle.ygg_meaning.specs.Machine.{Picks, State, based}
-use Rattle.ygg_meaning.specs.Progress.{Question, Choice, Call}
-use Rattle.ygg_meaning.specs.Refines.{OnDisk}
-use Rattle.ygg_direct.specs.Acts.{Did, Fell}
-use Rattle.ygg_direct.specs.DiskActs.{Replied, Dropped, kind_calls, kind_falls, state_in, disk_does, disk_drops, disk_acts}
+use Rattle.ygg_sym_laws.specs.ygg_disk.Disk as disk
+use Rattle.ygg_sym_laws.specs.ygg_disk.Kinds.{model_of}
+use Rattle.ygg_sym_laws.specs.ygg_meaning.DiskMachine.{disk_call, answer_to, tables_in}
+use Rattle.ygg_sym_laws.specs.ygg_meaning.Environments.{Env}
+use Rattle.ygg_sym_laws.specs.ygg_meaning.Machine.{Picks, State, based}
+use Rattle.ygg_sym_laws.specs.ygg_meaning.Progress.{Question, Choice, Call}
+use Rattle.ygg_sym_laws.specs.ygg_meaning.Refines.{OnDisk}
+use Rattle.ygg_sym_laws.specs.ygg_direct.Acts.{Did, Fell}
+use Rattle.ygg_sym_laws.specs.ygg_direct.DiskActs.{Replied, Dropped, kind_calls, kind_falls, state_in, disk_does, disk_drops, disk_acts}
 use Rattle.ygg_fronts.specs.Fronts.{handle_on, takes_on, cut_on, lose_on, cut_takes_on, lose_takes_on}
 use Rattle.ygg_fronts.specs.Taking.{whole_picks, cut_picks}
 use Rattle.ygg_fronts.proofs.Acting.{falls_at, Named, NamedFalls}

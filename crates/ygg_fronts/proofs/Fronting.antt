@@ -2,13 +2,13 @@
 use Rattle.std.proofs.Common.{◌≡◌, ℕ, zero, suc, Bool, true, false, List, [], ◌∷◌, ◌++◌, map, Option, Some, option_map, refl, sym, ap, ◌∙◌, subst, append_assoc}
 use Rattle.std.proofs.lemmas.List.{append-nil}
 use Rattle.ygg_syntax.specs.declared.tree.Block.{Block}
-use Rattle.ygg_meaning.specs.Environments.{Name, Env}
-use Rattle.ygg_meaning.specs.Machine.{Picks}
-use Rattle.ygg_meaning.specs.Progress.{Eval, Question, Answer, Point, Goes, in_turn, run_of}
-use Rattle.ygg_direct.specs.Direct.{Handled, Event, Reached, told_by, AsksAll, Chained, direct_run}
-use Rattle.ygg_direct.specs.RunPlaces.{base_at, asked_in}
-use Rattle.ygg_direct.proofs.Order.{block_follows}
-use Rattle.ygg_direct.proofs.RunPlacing.{goes_is, never_goes, waits_is}
+use Rattle.ygg_sym_laws.specs.ygg_meaning.Environments.{Name, Env}
+use Rattle.ygg_sym_laws.specs.ygg_meaning.Machine.{Picks}
+use Rattle.ygg_sym_laws.specs.ygg_meaning.Progress.{Eval, Question, Answer, Point, Goes, in_turn, run_of}
+use Rattle.ygg_sym_laws.specs.ygg_direct.Direct.{Handled, Event, Reached, told_by, AsksAll, Chained, direct_run}
+use Rattle.ygg_sym_laws.specs.ygg_direct.RunPlaces.{base_at, asked_in}
+use Rattle.ygg_sym_laws.specs.ygg_direct_proofs_Order.{block_follows}
+use Rattle.ygg_sym_laws.specs.ygg_direct_proofs_RunPlacing.{goes_is, never_goes, waits_is}
 use Rattle.ygg_fronts.specs.Taking.{Takes, picks_of}
 use Rattle.ygg_fronts.specs.Fronts.{stopped_picks}
 

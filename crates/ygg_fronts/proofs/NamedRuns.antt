@@ -1,17 +1,17 @@
 -- Runs with picks by place are runs that take these picks from the front, on a disk and on a specification.
 use Rattle.std.proofs.Common.{◌≡◌, Bool, false, [], refl, ap, subst}
-use Rattle.ygg_meaning.specs.Environments.{Env}
-use Rattle.ygg_meaning.specs.Machine.{based}
-use Rattle.ygg_meaning.specs.Refines.{OnDisk, OnSpec, machine_below}
-use Rattle.ygg_meaning.specs.Spec.{start_outcome}
-use Rattle.ygg_type_progress.specs.Machines.{IsSized, IsStateOf}
-use Rattle.ygg_direct.specs.Acts.{Fell}
-use Rattle.ygg_direct.specs.DiskActs.{disk_acts}
-use Rattle.ygg_direct.specs.RunPlaces.{disk_space, spec_space}
-use Rattle.ygg_direct.specs.SpecActs.{spec_acts}
-use Rattle.ygg_direct.proofs.DiskServes.{disk_serves}
-use Rattle.ygg_direct.proofs.SpecServes.{spec_serves}
-use Rattle.ygg_direct.proofs.Typed.{direct_on_disk, direct_on_spec}
+use Rattle.ygg_sym_laws.specs.ygg_meaning.Environments.{Env}
+use Rattle.ygg_sym_laws.specs.ygg_meaning.Machine.{based}
+use Rattle.ygg_sym_laws.specs.ygg_meaning.Refines.{OnDisk, OnSpec, machine_below}
+use Rattle.ygg_sym_laws.specs.ygg_meaning.Spec.{start_outcome}
+use Rattle.ygg_sym_laws.specs.ygg_type_progress.Machines.{IsSized, IsStateOf}
+use Rattle.ygg_sym_laws.specs.ygg_direct.Acts.{Fell}
+use Rattle.ygg_sym_laws.specs.ygg_direct.DiskActs.{disk_acts}
+use Rattle.ygg_sym_laws.specs.ygg_direct.RunPlaces.{disk_space, spec_space}
+use Rattle.ygg_sym_laws.specs.ygg_direct.SpecActs.{spec_acts}
+use Rattle.ygg_sym_laws.specs.ygg_direct_proofs_DiskServes.{disk_serves}
+use Rattle.ygg_sym_laws.specs.ygg_direct_proofs_SpecServes.{spec_serves}
+use Rattle.ygg_sym_laws.proofs.of_ygg_direct.Typed.{direct_on_disk, direct_on_spec}
 use Rattle.ygg_sym_laws.specs.Typed.{SpecTyped}
 use Rattle.ygg_fronts.specs.Fronts.{
   handle_on,

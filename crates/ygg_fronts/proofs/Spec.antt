@@ -4,21 +4,21 @@ use Rattle.std.proofs.lemmas.List.{append-nil}
 use Rattle.ygg_value.specs.declared.row.Value.{Value}
 use Rattle.ygg_syntax.specs.declared.tree.Block.{Block}
 use Rattle.ygg_syntax.specs.declared.tree.Operation.{Operation}
-use Rattle.ygg_meaning.specs.Environments.{Env, bind}
-use Rattle.ygg_meaning.specs.Layer.{ClosedLayer, eval_of, operation_of}
-use Rattle.ygg_meaning.specs.Machine.{Picks, State}
-use Rattle.ygg_meaning.specs.Progress.{Question, Choice, Call, answer_of}
-use Rattle.ygg_meaning.specs.Refines.{OnSpec}
-use Rattle.ygg_direct.specs.Acts.{Fell}
-use Rattle.ygg_direct.specs.Direct.{direct_run}
-use Rattle.ygg_direct.specs.Places.{Held, Result, from_front, choosing}
-use Rattle.ygg_direct.specs.SpecActs.{Ran, block_ran, then_crash, fall_ran, did_so, fell_so, spec_does, spec_drops, spec_acts}
-use Rattle.ygg_direct.proofs.Choosing.{one}
-use Rattle.ygg_sym_below.specs.Specs.{Nothing}
-use Rattle.ygg_sym_below.proofs.Chosen.{room, block_end}
-use Rattle.ygg_sym_below.proofs.SpecFalls.{bits_after, crash_end, then_end, fall_end, drop_end}
-use Rattle.ygg_sym_below.proofs.SpecMeans.{spec_ended}
-use Rattle.ygg_sym_below.proofs.Specs.{choose_at}
+use Rattle.ygg_sym_laws.specs.ygg_meaning.Environments.{Env, bind}
+use Rattle.ygg_sym_laws.specs.ygg_meaning.Layer.{ClosedLayer, eval_of, operation_of}
+use Rattle.ygg_sym_laws.specs.ygg_meaning.Machine.{Picks, State}
+use Rattle.ygg_sym_laws.specs.ygg_meaning.Progress.{Question, Choice, Call, answer_of}
+use Rattle.ygg_sym_laws.specs.ygg_meaning.Refines.{OnSpec}
+use Rattle.ygg_sym_laws.specs.ygg_direct.Acts.{Fell}
+use Rattle.ygg_sym_laws.specs.ygg_direct.Direct.{direct_run}
+use Rattle.ygg_sym_laws.specs.ygg_direct.Places.{Held, Result, from_front, choosing}
+use Rattle.ygg_sym_laws.specs.ygg_direct.SpecActs.{Ran, block_ran, then_crash, fall_ran, did_so, fell_so, spec_does, spec_drops, spec_acts}
+use Rattle.ygg_sym_laws.specs.ygg_direct_proofs_Choosing.{one}
+use Rattle.ygg_sym_laws.specs.ygg_sym_below.Specs.{Nothing}
+use Rattle.ygg_sym_laws.specs.ygg_sym_below_proofs_Chosen.{room, block_end}
+use Rattle.ygg_sym_laws.specs.ygg_sym_below_proofs_SpecFalls.{bits_after, crash_end, then_end, fall_end, drop_end}
+use Rattle.ygg_sym_laws.specs.ygg_sym_below_proofs_SpecMeans.{spec_ended}
+use Rattle.ygg_sym_laws.specs.ygg_sym_below_proofs_Specs.{choose_at}
 use Rattle.ygg_fronts.specs.Fronts.{handle_on, takes_on, cut_on, lose_on, cut_takes_on, lose_takes_on}
 use Rattle.ygg_fronts.specs.Taking.{one_each, block_takes, operation_takes, crash_takes, then_takes, fall_takes, drop_takes}
 use Rattle.ygg_fronts.proofs.Acting.{falls_at, Named, NamedFalls}

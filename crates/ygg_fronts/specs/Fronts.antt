@@ -1,22 +1,22 @@
 -- Runs of a layer's blocks with picks by place, and the picks that they take, from the front.
 use Rattle.std.specs.Prelude.{ℕ, zero, suc, Bool, false, if◌then◌else◌, List, [], ◌∷◌, ◌++◌, length, take, Option, Some, None}
 use Rattle.ygg_syntax.specs.declared.tree.Block.{Block}
-use Rattle.ygg_disk.specs.Kinds.{model_of}
-use Rattle.ygg_meaning.specs.DiskMachine.{tables_in, zeros_on}
-use Rattle.ygg_meaning.specs.Environments.{Env}
-use Rattle.ygg_meaning.specs.Layer.{ClosedLayer, eval_of}
-use Rattle.ygg_meaning.specs.Machine.{Picks, State, on, based}
-use Rattle.ygg_meaning.specs.Obligations.{Halt}
-use Rattle.ygg_meaning.specs.Progress.{Question, Answer, answer_of}
-use Rattle.ygg_meaning.specs.Refines.{Below, OnDisk, OnSpec}
-use Rattle.ygg_meaning.specs.Spec.{Outcome, start_outcome}
-use Rattle.ygg_direct.specs.Direct.{Handled, Event, Reached, direct_run}
-use Rattle.ygg_direct.specs.DiskActs.{disk_acts}
-use Rattle.ygg_direct.specs.RunPlaces.{base_at, asked_in, cut_by}
-use Rattle.ygg_sym_below.specs.Stops.{first_stop}
-use Rattle.ygg_sym_below.proofs.Disks.{disk_at}
-use Rattle.ygg_sym_below.proofs.SpecFalls.{cut_end, lose_end}
-use Rattle.ygg_sym_below.proofs.SpecMeans.{spec_at}
+use Rattle.ygg_sym_laws.specs.ygg_disk.Kinds.{model_of}
+use Rattle.ygg_sym_laws.specs.ygg_meaning.DiskMachine.{tables_in, zeros_on}
+use Rattle.ygg_sym_laws.specs.ygg_meaning.Environments.{Env}
+use Rattle.ygg_sym_laws.specs.ygg_meaning.Layer.{ClosedLayer, eval_of}
+use Rattle.ygg_sym_laws.specs.ygg_meaning.Machine.{Picks, State, on, based}
+use Rattle.ygg_sym_laws.specs.ygg_meaning.Obligations.{Halt}
+use Rattle.ygg_sym_laws.specs.ygg_meaning.Progress.{Question, Answer, answer_of}
+use Rattle.ygg_sym_laws.specs.ygg_meaning.Refines.{Below, OnDisk, OnSpec}
+use Rattle.ygg_sym_laws.specs.ygg_meaning.Spec.{Outcome, start_outcome}
+use Rattle.ygg_sym_laws.specs.ygg_direct.Direct.{Handled, Event, Reached, direct_run}
+use Rattle.ygg_sym_laws.specs.ygg_direct.DiskActs.{disk_acts}
+use Rattle.ygg_sym_laws.specs.ygg_direct.RunPlaces.{base_at, asked_in, cut_by}
+use Rattle.ygg_sym_laws.specs.ygg_sym_below.Stops.{first_stop}
+use Rattle.ygg_sym_laws.specs.ygg_sym_below_proofs_Disks.{disk_at}
+use Rattle.ygg_sym_laws.specs.ygg_sym_below_proofs_SpecFalls.{cut_end, lose_end}
+use Rattle.ygg_sym_laws.specs.ygg_sym_below_proofs_SpecMeans.{spec_at}
 use Rattle.ygg_sym_laws.specs.Below.{space_on, places_on}
 use Rattle.ygg_fronts.specs.Taking.{Takes, picks_of, disk_takes, disk_cut_takes, spec_takes, crash_takes, spec_cut_takes}
 

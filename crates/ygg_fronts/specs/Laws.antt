@@ -2,13 +2,13 @@
 use Rattle.std.specs.Prelude.{◌≡◌, ℕ, Bool, IsTrue, List, [], ◌++◌, length, Some}
 use Rattle.ygg_syntax.specs.declared.tree.Block.{Block}
 use Rattle.ygg_syntax.specs.declared.tree.Def.{Def}
-use Rattle.ygg_meaning.specs.Environments.{Env}
-use Rattle.ygg_meaning.specs.Layer.{ClosedLayer, BlockRuns, BlockFalls}
-use Rattle.ygg_meaning.specs.Machine.{Picks, on, based}
-use Rattle.ygg_meaning.specs.Obligations.{Halt, StopsAt}
-use Rattle.ygg_meaning.specs.Refines.{Below, machine_below}
-use Rattle.ygg_meaning.specs.Shapes.{env_fits}
-use Rattle.ygg_direct.specs.Laws.{IsTypedBlock}
+use Rattle.ygg_sym_laws.specs.ygg_meaning.Environments.{Env}
+use Rattle.ygg_sym_laws.specs.ygg_meaning.Layer.{ClosedLayer, BlockRuns, BlockFalls}
+use Rattle.ygg_sym_laws.specs.ygg_meaning.Machine.{Picks, on, based}
+use Rattle.ygg_sym_laws.specs.ygg_meaning.Obligations.{Halt, StopsAt}
+use Rattle.ygg_sym_laws.specs.ygg_meaning.Refines.{Below, machine_below}
+use Rattle.ygg_sym_laws.specs.ygg_meaning.Shapes.{env_fits}
+use Rattle.ygg_sym_laws.specs.ygg_direct.Laws.{IsTypedBlock}
 use Rattle.ygg_sym_laws.specs.Below.{lows_on, signatures_on}
 use Rattle.ygg_sym_laws.specs.Typed.{BelowTyped}
 use Rattle.ygg_fronts.specs.Fronts.{lose_on, loss_picks, low_at_start, answer_by_place, state_by_place, run_picks, left_at, fall_picks}

@@ -6,16 +6,16 @@ use Rattle.ygg_base.specs.declared.geometry.DiskKind.TheVariants.{Sync, Async}
 use Rattle.ygg_syntax.specs.declared.tree.Block.{Block}
 use Rattle.ygg_syntax.specs.declared.tree.DiskText.{DiskText}
 use Rattle.ygg_syntax.specs.declared.tree.Operation.{Operation}
-use Rattle.ygg_disk.specs.Disk as disk
-use Rattle.ygg_meaning.specs.DiskMachine.{disk_call}
-use Rattle.ygg_meaning.specs.Environments.{Env, bind}
-use Rattle.ygg_meaning.specs.Layer.{ClosedLayer, operation_of}
-use Rattle.ygg_meaning.specs.Machine.{Picks, State}
-use Rattle.ygg_meaning.specs.Progress.{Question, Choice, Call}
-use Rattle.ygg_direct.specs.Direct.{Event}
-use Rattle.ygg_sym_below.specs.Specs.{Nothing}
-use Rattle.ygg_sym_below.proofs.Chosen.{room, block_end, block_run_at}
-use Rattle.ygg_sym_below.proofs.SpecFalls.{bits_after}
+use Rattle.ygg_sym_laws.specs.ygg_disk.Disk as disk
+use Rattle.ygg_sym_laws.specs.ygg_meaning.DiskMachine.{disk_call}
+use Rattle.ygg_sym_laws.specs.ygg_meaning.Environments.{Env, bind}
+use Rattle.ygg_sym_laws.specs.ygg_meaning.Layer.{ClosedLayer, operation_of}
+use Rattle.ygg_sym_laws.specs.ygg_meaning.Machine.{Picks, State}
+use Rattle.ygg_sym_laws.specs.ygg_meaning.Progress.{Question, Choice, Call}
+use Rattle.ygg_sym_laws.specs.ygg_direct.Direct.{Event}
+use Rattle.ygg_sym_laws.specs.ygg_sym_below.Specs.{Nothing}
+use Rattle.ygg_sym_laws.specs.ygg_sym_below_proofs_Chosen.{room, block_end, block_run_at}
+use Rattle.ygg_sym_laws.specs.ygg_sym_below_proofs_SpecFalls.{bits_after}
 
 -- the picks that a question at a place takes in a state
 abbrev pub Takes : Type 0 → Type 0

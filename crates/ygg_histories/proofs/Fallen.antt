@@ -6,12 +6,12 @@ use Rattle.ygg_syntax.specs.declared.tree.DiskText.{DiskText}
 use Rattle.ygg_base.specs.declared.geometry.DiskKind.{DiskKind}
 use Rattle.ygg_base.specs.declared.geometry.DiskKind.TheVariants.{Sync, Async}
 use Rattle.ygg_syntax.specs.declared.tree.File.{File}
-use Rattle.ygg_disk.specs.Disk as disk
+use Rattle.ygg_meaning.specs.ygg_disk.Disk as disk
 use Rattle.ygg_meaning.specs.Environments.{Env, look_up}
 use Rattle.ygg_meaning.specs.Machine.{Picks, State, Machine}
 use Rattle.ygg_meaning.specs.Runs.{Dialogue, FallsAt, FallenRun, answers_of}
 use Rattle.ygg_meaning.specs.Layer.{ClosedLayer, Layered}
-use Rattle.ygg_disk.specs.Kinds.{model_of}
+use Rattle.ygg_meaning.specs.ygg_disk.Kinds.{model_of}
 use Rattle.ygg_meaning.specs.DiskMachine.{tables_in, DiskMachine}
 use Rattle.ygg_histories.specs.Stack.{Layers, Stacked, BottomOf, layers_of}
 use Rattle.ygg_histories.specs.Under.{Failure, InCall, InTick, Between, FailsBy, AfterWakeFalls}

@@ -4,9 +4,9 @@ use Rattle.std.specs.Option.{option_map}
 use Rattle.ygg_syntax.specs.declared.tree.File.{File}
 use Rattle.ygg_base.specs.declared.geometry.DiskKind.{DiskKind}
 use Rattle.ygg_base.specs.declared.geometry.DiskKind.TheVariants as kind
-use Rattle.ygg_disk.specs.Disk as disk
-use Rattle.ygg_disk.specs.Ground.{Meaning, disk_lost, TellsCall, TellsFall}
-use Rattle.ygg_disk.specs.Kinds.{Disk, model_of}
+use Rattle.ygg_meaning.specs.ygg_disk.Disk as disk
+use Rattle.ygg_meaning.specs.ygg_disk.Ground.{Meaning, disk_lost, TellsCall, TellsFall}
+use Rattle.ygg_meaning.specs.ygg_disk.Kinds.{Disk, model_of}
 use Rattle.ygg_meaning.specs.Environments.{Env}
 use Rattle.ygg_meaning.specs.Machine.{State, based}
 use Rattle.ygg_meaning.specs.DiskMachine.{Store, machine_on, disk_store, tables_in, zeros_on, DiskMachine}

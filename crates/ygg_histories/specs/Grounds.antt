@@ -1,8 +1,8 @@
 -- Layers on a ground: the calls that they make there, and where a state is told, the steps of the layers on the stated disk.
 use Rattle.std.specs.Prelude.{◌≡◌, Bool, true, false, List, [], ◌∷◌, Some}
 use Rattle.ygg_syntax.specs.declared.tree.File.{File}
-use Rattle.ygg_disk.specs.Ground.{Meaning, Lost, TellsCall, TellsFall}
-use Rattle.ygg_disk.specs.Kinds.{model_of}
+use Rattle.ygg_meaning.specs.ygg_disk.Ground.{Meaning, Lost, TellsCall, TellsFall}
+use Rattle.ygg_meaning.specs.ygg_disk.Kinds.{model_of}
 use Rattle.ygg_meaning.specs.Environments.{Env}
 use Rattle.ygg_meaning.specs.Machine.{Picks, State, Machine}
 use Rattle.ygg_meaning.specs.DiskMachine.{Store, machine_on, tables_in, zeros_on}

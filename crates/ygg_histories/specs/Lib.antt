@@ -1,3 +1,7 @@
+pub use Rattle.ygg_meaning.specs.ygg_disk
+pub use Rattle.ygg_meaning.proofs.Exact as ygg_meaning_proofs_Exact
+pub use Rattle.ygg_meaning.proofs.Uses as ygg_meaning_proofs_Uses
+pub use Rattle.ygg_meaning.specs as ygg_meaning
 pub mod Stack
 pub mod Claims
 pub mod Under

@@ -3,8 +3,8 @@ use Rattle.std.specs.Prelude.{◌≡◌, Bool, true, false, List, [], ◌∷◌}
 use Rattle.std.specs.List.{flat_map}
 use Rattle.ygg_syntax.specs.declared.tree.DiskText.{DiskText}
 use Rattle.ygg_base.specs.declared.geometry.DiskKind.{DiskKind}
-use Rattle.ygg_disk.specs.Disk as disk
-use Rattle.ygg_disk.specs.Kinds.{Disk, model_of}
+use Rattle.ygg_meaning.specs.ygg_disk.Disk as disk
+use Rattle.ygg_meaning.specs.ygg_disk.Kinds.{Disk, model_of}
 use Rattle.ygg_meaning.specs.Environments.{Env}
 use Rattle.ygg_meaning.specs.Machine.{Machine}
 use Rattle.ygg_meaning.specs.DiskMachine.{Store, machine_on, disk_store}

@@ -3,8 +3,8 @@ use Rattle.std.specs.Prelude.{◌≡◌, Bool, List, ◌++◌}
 use Rattle.ygg_value.specs.Number.{Grid}
 use Rattle.ygg_syntax.specs.declared.tree.DiskText.{DiskText}
 use Rattle.ygg_syntax.specs.declared.tree.File.{File}
-use Rattle.ygg_disk.specs.Ground.{Meaning}
-use Rattle.ygg_disk.specs.Kinds.{model_of}
+use Rattle.ygg_meaning.specs.ygg_disk.Ground.{Meaning}
+use Rattle.ygg_meaning.specs.ygg_disk.Kinds.{model_of}
 use Rattle.ygg_meaning.specs.Environments.{Env}
 use Rattle.ygg_meaning.specs.Machine.{Picks, State, Machine}
 use Rattle.ygg_meaning.specs.DiskMachine.{DiskMachine, tables_in}

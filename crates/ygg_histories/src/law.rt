@@ -3,7 +3,7 @@
 ghost use Rattle.ygg_histories.specs.Laws.{Monotone, Compose, Histories, RefinesByList};
 ghost use Rattle.ygg_histories.specs.StepLaws.{AllMomentsAreSteps, LeftIsRows, LeftGoesOn, NotesAreForgotten, NotesAreFound, TellsSteps};
 
-use ygg_disk::Ground;
+use ygg_meaning::Ground;
 
 /// A better machine below gives a better layer.
 pub fn monotone()

@@ -2,3 +2,5 @@
 #![tactic(auto)]
 
 pub mod law;
+
+pub use ygg_meaning::{Did, Event, Events, Fuse, Picks, Power, Turn};

@@ -4,14 +4,14 @@ use Rattle.ygg_value.specs.declared.row.Value.{Value}
 use Rattle.ygg_syntax.specs.declared.tree.Layer.{Layer}
 use Rattle.ygg_syntax.specs.declared.tree.Operation.{Operation}
 use Rattle.ygg_syntax.specs.declared.tree.File.{File}
-use Rattle.ygg_type_rules.specs.declared.scope.Signature.{Signature}
-use Rattle.ygg_meaning.specs.Environments.{Name, bind}
-use Rattle.ygg_meaning.specs.Progress.{Answer}
-use Rattle.ygg_meaning.specs.Machine.{Machine}
-use Rattle.ygg_meaning.specs.Layer.{ClosedLayer, Layered, operation_of}
-use Rattle.ygg_meaning.specs.Shapes.{values_fit}
-use Rattle.ygg_eval_lower.specs.Layers.{closed_at, signatures_at}
-use Rattle.ygg_eval_lower.specs.Lower.{Standing, Meaning, Ending, Whole, Down, Failed, Starved, Cause, PowerLoss, GivenUp, Called, IsLower}
+use Rattle.ygg_eval.specs.ygg_type_rules.declared.scope.Signature.{Signature}
+use Rattle.ygg_eval.specs.ygg_meaning.Environments.{Name, bind}
+use Rattle.ygg_eval.specs.ygg_meaning.Progress.{Answer}
+use Rattle.ygg_eval.specs.ygg_meaning.Machine.{Machine}
+use Rattle.ygg_eval.specs.ygg_meaning.Layer.{ClosedLayer, Layered, operation_of}
+use Rattle.ygg_eval.specs.ygg_meaning.Shapes.{values_fit}
+use Rattle.ygg_eval.specs.ygg_eval_lower.Layers.{closed_at, signatures_at}
+use Rattle.ygg_eval.specs.ygg_eval_lower.Lower.{Standing, Meaning, Ending, Whole, Down, Failed, Starved, Cause, PowerLoss, GivenUp, Called, IsLower}
 use Rattle.ygg_machine.specs.Floors.{Raised, lower_of, place_of, floor_meaning}
 use Rattle.ygg_machine.specs.FloorKeeps.{state_on, BlockKept, block_kept, at_place}
 use Rattle.ygg_machine.specs.FloorStacks.{run_lasts}

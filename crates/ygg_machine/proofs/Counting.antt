@@ -1,10 +1,10 @@
 -- Whole disk calls are counted.
 use Rattle.std.proofs.Common.{◌≡◌, ◌≢◌, ℕ, suc, ◌≤◌, ◌<◌, ◌+◌, ◌-◌, ◌^◌, [], ◌∷◌, length, Option, Some, IsSomeAnd, sym, ap, ◌∙◌, subst, arith}
 use Rattle.std.proofs.Math.Nat.{le-min, min-le_left}
-use Rattle.ygg_disk.specs.Ground.{Meaning}
-use Rattle.ygg_disk.specs.Power.{IsNamed, counted}
-use Rattle.ygg_disk.specs.declared.power.Fuse.{Fuse}
-use Rattle.ygg_disk.specs.declared.power.Power.{Power}
+use Rattle.ygg_eval.specs.ygg_disk.Ground.{Meaning}
+use Rattle.ygg_eval.specs.ygg_disk.Power.{IsNamed, counted}
+use Rattle.ygg_eval.specs.ygg_disk.declared.power.Fuse.{Fuse}
+use Rattle.ygg_eval.specs.ygg_disk.declared.power.Power.{Power}
 use Rattle.ygg_machine.specs.Leaves.{WholeAreCounted}
 
 -- a fuse that isn't named names another call

@@ -10,22 +10,22 @@ use Rattle.ygg_value.specs.declared.shape.Shape.{Shape}
 use Rattle.ygg_value.specs.declared.shape.Shape.TheVariants as shape
 use Rattle.ygg_syntax.specs.declared.tree.DiskText.{DiskText}
 use Rattle.ygg_syntax.specs.declared.tree.File.{File}
-use Rattle.ygg_type_rules.specs.declared.scope.Signature.{Signature}
-use Rattle.ygg_type_rules.specs.TypeErrors.{none}
-use Rattle.ygg_type_rules.specs.Files.{disk_errors, type_errors_of, address, disk_row, disk_operations}
-use Rattle.ygg_disk.specs.Disk as disk
-use Rattle.ygg_disk.specs.Ground as ground
-use Rattle.ygg_disk.specs.declared.power.Power.{Power}
-use Rattle.ygg_disk.specs.declared.turn.Turn.{Turn}
-use Rattle.ygg_disk.specs.declared.turn.Turn.TheVariants as turn
-use Rattle.ygg_meaning.specs.Environments.{Name}
-use Rattle.ygg_meaning.specs.DiskMachine.{disk_call}
-use Rattle.ygg_meaning.specs.Shapes.{fits}
-use Rattle.ygg_type_sound.specs.Fitting.{fits_wanted, all_fit}
-use Rattle.ygg_type_sound.proofs.Fits.{value_fits}
-use Rattle.ygg_type_sound.proofs.Tests.{left, right}
-use Rattle.ygg_type_progress.proofs.Disks.{disk_row_is}
-use Rattle.ygg_eval_lower.specs.Lower.{Standing, IsCallable, Called, GivesWhole, ending_of}
+use Rattle.ygg_eval.specs.ygg_type_rules.declared.scope.Signature.{Signature}
+use Rattle.ygg_eval.specs.ygg_type_rules.TypeErrors.{none}
+use Rattle.ygg_eval.specs.ygg_type_rules.Files.{disk_errors, type_errors_of, address, disk_row, disk_operations}
+use Rattle.ygg_eval.specs.ygg_disk.Disk as disk
+use Rattle.ygg_eval.specs.ygg_disk.Ground as ground
+use Rattle.ygg_eval.specs.ygg_disk.declared.power.Power.{Power}
+use Rattle.ygg_eval.specs.ygg_disk.declared.turn.Turn.{Turn}
+use Rattle.ygg_eval.specs.ygg_disk.declared.turn.Turn.TheVariants as turn
+use Rattle.ygg_eval.specs.ygg_meaning.Environments.{Name}
+use Rattle.ygg_eval.specs.ygg_meaning.DiskMachine.{disk_call}
+use Rattle.ygg_eval.specs.ygg_meaning.Shapes.{fits}
+use Rattle.ygg_eval.specs.ygg_type_sound.Fitting.{fits_wanted, all_fit}
+use Rattle.ygg_eval.specs.ygg_type_sound_proofs_Fits.{value_fits}
+use Rattle.ygg_eval.specs.ygg_type_sound_proofs_Tests.{left, right}
+use Rattle.ygg_eval.specs.ygg_type_progress_proofs_Disks.{disk_row_is}
+use Rattle.ygg_eval.specs.ygg_eval_lower.Lower.{Standing, IsCallable, Called, GivesWhole, ending_of}
 use Rattle.ygg_machine.specs.Grounded.{row_of, HasRows, ground_meaning}
 use Rattle.ygg_machine.specs.Answered.{AnswersValue}
 

@@ -1,3 +1,4 @@
+pub use Rattle.ygg_eval.proofs.of_ygg_type
 pub mod Typing
 pub mod Running
 pub mod Grounding

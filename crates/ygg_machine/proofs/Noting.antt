@@ -3,20 +3,20 @@ use Rattle.std.proofs.Common.{◌≡◌, List, ◌++◌, Bool, Option, Some, len
 use Rattle.ygg_base.specs.declared.geometry.DiskKind.{DiskKind}
 use Rattle.ygg_base.specs.declared.geometry.DiskKind.TheVariants as kind
 use Rattle.ygg_syntax.specs.declared.tree.File.{File}
-use Rattle.ygg_disk.specs.Disk as disk
-use Rattle.ygg_disk.specs.Kinds.{Disk, model_of}
-use Rattle.ygg_disk.specs.Ground.{Meaning, TellsCall, TellsFall, disk_lost}
-use Rattle.ygg_meaning.specs.Environments.{Env}
-use Rattle.ygg_meaning.specs.Machine.{State, Machine}
-use Rattle.ygg_meaning.specs.DiskMachine.{machine_on, disk_store, tables_in, zeros_on}
-use Rattle.ygg_histories.specs.Stack.{Stacked, BottomOf, layers_of}
-use Rattle.ygg_histories.specs.Mirror.{SameOn, IsJoined, FormattedIf, Mirrors}
-use Rattle.ygg_histories.specs.StepLaws.{Same}
-use Rattle.ygg_histories.specs.Noted.{Note, noting, disk_in, NotedDisk}
-use Rattle.ygg_histories.specs.Grounds.{ground_store, TellsBase, TellsZeros, ArePicks, OnGround}
-use Rattle.ygg_histories.proofs.Mirrored.{stacked_mirrors}
-use Rattle.ygg_histories.proofs.Stores.{StoreMirrors, machine_mirrors, told_steps}
-use Rattle.ygg_eval_lower.specs.Lower.{PowerLoss}
+use Rattle.ygg_eval.specs.ygg_disk.Disk as disk
+use Rattle.ygg_eval.specs.ygg_disk.Kinds.{Disk, model_of}
+use Rattle.ygg_eval.specs.ygg_disk.Ground.{Meaning, TellsCall, TellsFall, disk_lost}
+use Rattle.ygg_eval.specs.ygg_meaning.Environments.{Env}
+use Rattle.ygg_eval.specs.ygg_meaning.Machine.{State, Machine}
+use Rattle.ygg_eval.specs.ygg_meaning.DiskMachine.{machine_on, disk_store, tables_in, zeros_on}
+use Rattle.ygg_eval.specs.ygg_histories.Stack.{Stacked, BottomOf, layers_of}
+use Rattle.ygg_eval.specs.ygg_histories.Mirror.{SameOn, IsJoined, FormattedIf, Mirrors}
+use Rattle.ygg_eval.specs.ygg_histories.StepLaws.{Same}
+use Rattle.ygg_eval.specs.ygg_histories.Noted.{Note, noting, disk_in, NotedDisk}
+use Rattle.ygg_eval.specs.ygg_histories.Grounds.{ground_store, TellsBase, TellsZeros, ArePicks, OnGround}
+use Rattle.ygg_eval.specs.ygg_histories_proofs_Mirrored.{stacked_mirrors}
+use Rattle.ygg_eval.proofs.of_ygg_histories.Stores.{StoreMirrors, machine_mirrors, told_steps}
+use Rattle.ygg_eval.specs.ygg_eval_lower.Lower.{PowerLoss}
 use Rattle.ygg_machine.specs.Bottoms.{bottom_on}
 use Rattle.ygg_machine.specs.Told.{StacksAreListed, StacksTell, SameNotes, StacksNote}
 use Rattle.ygg_machine.proofs.Numbered.{bottom_is}

@@ -4,14 +4,14 @@ use Rattle.std.proofs.lemmas.List.{append-nil}
 use Rattle.ygg_syntax.specs.declared.tree.Declared.{Declared}
 use Rattle.ygg_syntax.specs.declared.tree.Layer.{Layer}
 use Rattle.ygg_syntax.specs.declared.tree.File.{File}
-use Rattle.ygg_meaning.specs.Meaning.{functions_of}
-use Rattle.ygg_meaning.specs.Machine.{Machine}
-use Rattle.ygg_meaning.specs.Layer.{ClosedLayer, Layered}
-use Rattle.ygg_disk.specs.Ground as ground
-use Rattle.ygg_histories.specs.Noted.{Note}
-use Rattle.ygg_histories.specs.Stack.{Layers, Stacked, layers_on, layers_of, tables_of}
-use Rattle.ygg_eval_lower.specs.Layers.{closed_at, variables_from, variables_at}
-use Rattle.ygg_eval_lower.specs.Lower.{Cause}
+use Rattle.ygg_eval.specs.ygg_meaning.Meaning.{functions_of}
+use Rattle.ygg_eval.specs.ygg_meaning.Machine.{Machine}
+use Rattle.ygg_eval.specs.ygg_meaning.Layer.{ClosedLayer, Layered}
+use Rattle.ygg_eval.specs.ygg_disk.Ground as ground
+use Rattle.ygg_eval.specs.ygg_histories.Noted.{Note}
+use Rattle.ygg_eval.specs.ygg_histories.Stack.{Layers, Stacked, layers_on, layers_of, tables_of}
+use Rattle.ygg_eval.specs.ygg_eval_lower.Layers.{closed_at, variables_from, variables_at}
+use Rattle.ygg_eval.specs.ygg_eval_lower.Lower.{Cause}
 use Rattle.ygg_eval.proofs.OnSpec.{layer_variables}
 use Rattle.ygg_machine.specs.GroundSteps.{ground_machine}
 use Rattle.ygg_machine.specs.Floors.{idle_on}

@@ -8,19 +8,19 @@ use Rattle.ygg_syntax.specs.declared.tree.Block.{Block}
 use Rattle.ygg_syntax.specs.declared.tree.Declared.{Declared}
 use Rattle.ygg_syntax.specs.declared.tree.Layer.{Layer}
 use Rattle.ygg_syntax.specs.declared.tree.File.{File}
-use Rattle.ygg_disk.specs.declared.power.Power.{Power}
-use Rattle.ygg_meaning.specs.Environments.{bind}
-use Rattle.ygg_meaning.specs.Shapes.{values_fit}
-use Rattle.ygg_meaning.specs.Layer.{dialogue_of}
-use Rattle.ygg_eval_lower.specs.declared.body.Part.{Part}
-use Rattle.ygg_eval_lower.specs.declared.body.Part.TheVariants as part
-use Rattle.ygg_eval_lower.specs.declared.body.Body.{Body}
-use Rattle.ygg_eval_lower.specs.Bodies.{kind_of, variables_in, arguments_in, IsBlock, IsRunnable}
-use Rattle.ygg_eval_lower.specs.Layers.{closed_at}
-use Rattle.ygg_eval_lower.specs.Lower.{Standing, Meaning, IsLower}
-use Rattle.ygg_eval_block.specs.Runs.{RunEnds, BodyEnds}
-use Rattle.ygg_eval_block.specs.declared.run.Ended.{Ended}
-use Rattle.ygg_eval_block.specs.declared.run.Ended.TheVariants as ended
+use Rattle.ygg_eval.specs.ygg_disk.declared.power.Power.{Power}
+use Rattle.ygg_eval.specs.ygg_meaning.Environments.{bind}
+use Rattle.ygg_eval.specs.ygg_meaning.Shapes.{values_fit}
+use Rattle.ygg_eval.specs.ygg_meaning.Layer.{dialogue_of}
+use Rattle.ygg_eval.specs.ygg_eval_lower.declared.body.Part.{Part}
+use Rattle.ygg_eval.specs.ygg_eval_lower.declared.body.Part.TheVariants as part
+use Rattle.ygg_eval.specs.ygg_eval_lower.declared.body.Body.{Body}
+use Rattle.ygg_eval.specs.ygg_eval_lower.Bodies.{kind_of, variables_in, arguments_in, IsBlock, IsRunnable}
+use Rattle.ygg_eval.specs.ygg_eval_lower.Layers.{closed_at}
+use Rattle.ygg_eval.specs.ygg_eval_lower.Lower.{Standing, Meaning, IsLower}
+use Rattle.ygg_eval.specs.ygg_eval_block.Runs.{RunEnds, BodyEnds}
+use Rattle.ygg_eval.specs.ygg_eval_block.declared.run.Ended.{Ended}
+use Rattle.ygg_eval.specs.ygg_eval_block.declared.run.Ended.TheVariants as ended
 use Rattle.ygg_eval.proofs.Steps.{runs_are_steps}
 use Rattle.ygg_machine.specs.Floors.{Raised, lower_of, place_of, EndsAs, run_ending, RunsOn}
 

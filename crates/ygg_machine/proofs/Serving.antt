@@ -9,20 +9,20 @@ use Rattle.ygg_syntax.specs.declared.tree.Layer.{Layer}
 use Rattle.ygg_syntax.specs.declared.tree.Operation.{Operation}
 use Rattle.ygg_syntax.specs.declared.tree.File.{File}
 use Rattle.ygg_syntax.specs.Files.{IsDerivable}
-use Rattle.ygg_type_rules.specs.TypeErrors.{none}
-use Rattle.ygg_type_rules.specs.Files.{type_errors_of}
-use Rattle.ygg_type_rules.specs.Layers.{operation_signature}
-use Rattle.ygg_disk.specs.declared.power.Power.{Power}
-use Rattle.ygg_meaning.specs.Environments.{Env, bind}
-use Rattle.ygg_meaning.specs.Progress.{Answer}
-use Rattle.ygg_meaning.specs.Layer.{dialogue_of}
-use Rattle.ygg_meaning.specs.Shapes.{values_fit}
-use Rattle.ygg_eval_lower.specs.declared.body.Part.TheVariants as part
-use Rattle.ygg_eval_lower.specs.Bodies.{IsBlock, IsRunnable, arguments_at, arguments_in}
-use Rattle.ygg_eval_lower.specs.Layers.{closed_at, signatures_at}
-use Rattle.ygg_eval_lower.specs.Lower.{Standing, Meaning, Ending, Whole, Down, Failed, Starved, AfterWhole, GivesWhole, Serves, Called, IsCallable}
-use Rattle.ygg_eval_block.specs.Runs.{RunEnds, Finished}
-use Rattle.ygg_eval_block.specs.declared.run.Ended.{Ended}
+use Rattle.ygg_eval.specs.ygg_type_rules.TypeErrors.{none}
+use Rattle.ygg_eval.specs.ygg_type_rules.Files.{type_errors_of}
+use Rattle.ygg_eval.specs.ygg_type_rules.Layers.{operation_signature}
+use Rattle.ygg_eval.specs.ygg_disk.declared.power.Power.{Power}
+use Rattle.ygg_eval.specs.ygg_meaning.Environments.{Env, bind}
+use Rattle.ygg_eval.specs.ygg_meaning.Progress.{Answer}
+use Rattle.ygg_eval.specs.ygg_meaning.Layer.{dialogue_of}
+use Rattle.ygg_eval.specs.ygg_meaning.Shapes.{values_fit}
+use Rattle.ygg_eval.specs.ygg_eval_lower.declared.body.Part.TheVariants as part
+use Rattle.ygg_eval.specs.ygg_eval_lower.Bodies.{IsBlock, IsRunnable, arguments_at, arguments_in}
+use Rattle.ygg_eval.specs.ygg_eval_lower.Layers.{closed_at, signatures_at}
+use Rattle.ygg_eval.specs.ygg_eval_lower.Lower.{Standing, Meaning, Ending, Whole, Down, Failed, Starved, AfterWhole, GivesWhole, Serves, Called, IsCallable}
+use Rattle.ygg_eval.specs.ygg_eval_block.Runs.{RunEnds, Finished}
+use Rattle.ygg_eval.specs.ygg_eval_block.declared.run.Ended.{Ended}
 use Rattle.ygg_eval.proofs.OnSpec.{AsksSpec, asks_spec}
 use Rattle.ygg_machine.specs.Floors.{Raised, lower_of, place_of, RunsOn, FitsFloor, floor_meaning}
 use Rattle.ygg_machine.proofs.Typing.{implementation_gives}

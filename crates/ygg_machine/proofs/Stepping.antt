@@ -31,17 +31,17 @@ use Rattle.ygg_syntax.specs.declared.tree.Layer.{Layer}
 use Rattle.ygg_syntax.specs.declared.tree.Tick.{Tick}
 use Rattle.ygg_syntax.specs.declared.tree.File.{File}
 use Rattle.ygg_syntax.specs.Files.{IsDerivable}
-use Rattle.ygg_type_rules.specs.TypeErrors.{none}
-use Rattle.ygg_type_rules.specs.Files.{type_errors_of}
-use Rattle.ygg_disk.specs.declared.power.Power.{Power}
-use Rattle.ygg_meaning.specs.Environments.{Env, bind}
-use Rattle.ygg_meaning.specs.Progress.{Answer}
-use Rattle.ygg_meaning.specs.Shapes.{values_fit}
-use Rattle.ygg_eval_lower.specs.declared.body.Part.{Part}
-use Rattle.ygg_eval_lower.specs.declared.body.Part.TheVariants as part
-use Rattle.ygg_eval_lower.specs.Bodies.{arguments_in, IsBlock, IsRunnable}
-use Rattle.ygg_eval_lower.specs.Lower.{Standing, Meaning, Ending, Whole, Down, Failed, Starved, AfterWhole, Serves}
-use Rattle.ygg_eval_block.specs.declared.run.Ended.{Ended}
+use Rattle.ygg_eval.specs.ygg_type_rules.TypeErrors.{none}
+use Rattle.ygg_eval.specs.ygg_type_rules.Files.{type_errors_of}
+use Rattle.ygg_eval.specs.ygg_disk.declared.power.Power.{Power}
+use Rattle.ygg_eval.specs.ygg_meaning.Environments.{Env, bind}
+use Rattle.ygg_eval.specs.ygg_meaning.Progress.{Answer}
+use Rattle.ygg_eval.specs.ygg_meaning.Shapes.{values_fit}
+use Rattle.ygg_eval.specs.ygg_eval_lower.declared.body.Part.{Part}
+use Rattle.ygg_eval.specs.ygg_eval_lower.declared.body.Part.TheVariants as part
+use Rattle.ygg_eval.specs.ygg_eval_lower.Bodies.{arguments_in, IsBlock, IsRunnable}
+use Rattle.ygg_eval.specs.ygg_eval_lower.Lower.{Standing, Meaning, Ending, Whole, Down, Failed, Starved, AfterWhole, Serves}
+use Rattle.ygg_eval.specs.ygg_eval_block.declared.run.Ended.{Ended}
 use Rattle.ygg_eval.proofs.OnSpec.{there}
 use Rattle.ygg_machine.specs.Commands.{HasTick}
 use Rattle.ygg_machine.specs.Floors.{

@@ -4,11 +4,11 @@ use Rattle.ygg_value.specs.declared.row.Value.{Value}
 use Rattle.ygg_syntax.specs.declared.tree.Layer.{Layer}
 use Rattle.ygg_syntax.specs.declared.tree.Tick.{Tick}
 use Rattle.ygg_syntax.specs.declared.tree.File.{File}
-use Rattle.ygg_meaning.specs.Environments.{bind}
-use Rattle.ygg_meaning.specs.Machine.{on, TickName, Machine}
-use Rattle.ygg_meaning.specs.Layer.{ClosedLayer, Layered, tick_in}
-use Rattle.ygg_eval_lower.specs.Layers.{closed_at}
-use Rattle.ygg_eval_lower.specs.Lower.{Standing, Meaning, Ending, Whole, Down, Failed, Starved, Cause, PowerLoss, GivenUp}
+use Rattle.ygg_eval.specs.ygg_meaning.Environments.{bind}
+use Rattle.ygg_eval.specs.ygg_meaning.Machine.{on, TickName, Machine}
+use Rattle.ygg_eval.specs.ygg_meaning.Layer.{ClosedLayer, Layered, tick_in}
+use Rattle.ygg_eval.specs.ygg_eval_lower.Layers.{closed_at}
+use Rattle.ygg_eval.specs.ygg_eval_lower.Lower.{Standing, Meaning, Ending, Whole, Down, Failed, Starved, Cause, PowerLoss, GivenUp}
 use Rattle.ygg_machine.specs.Floors.{Raised, lower_of, place_of, silent, floor_meaning}
 use Rattle.ygg_machine.specs.FloorKeeps.{state_on, BlockKept, at_place}
 use Rattle.ygg_machine.specs.Commands.{ticking}

@@ -5,16 +5,16 @@ use Rattle.ygg_syntax.specs.declared.tree.Layer.{Layer}
 use Rattle.ygg_syntax.specs.declared.tree.Tick.{Tick}
 use Rattle.ygg_syntax.specs.declared.tree.File.{File}
 use Rattle.ygg_syntax.specs.Files.{IsDerivable}
-use Rattle.ygg_type_rules.specs.TypeErrors.{none}
-use Rattle.ygg_type_rules.specs.Files.{type_errors_of}
-use Rattle.ygg_meaning.specs.Environments.{bind}
-use Rattle.ygg_meaning.specs.Progress.{Answer}
-use Rattle.ygg_meaning.specs.Machine.{TickName}
-use Rattle.ygg_meaning.specs.Layer.{tick_in}
-use Rattle.ygg_eval_lower.specs.declared.body.Part.TheVariants as part
-use Rattle.ygg_eval_lower.specs.Bodies.{IsBlock}
-use Rattle.ygg_eval_lower.specs.Layers.{closed_at}
-use Rattle.ygg_eval_lower.specs.Lower.{Standing, Meaning, Ending, Whole, Down, Failed, Starved, PowerLoss, IsLower}
+use Rattle.ygg_eval.specs.ygg_type_rules.TypeErrors.{none}
+use Rattle.ygg_eval.specs.ygg_type_rules.Files.{type_errors_of}
+use Rattle.ygg_eval.specs.ygg_meaning.Environments.{bind}
+use Rattle.ygg_eval.specs.ygg_meaning.Progress.{Answer}
+use Rattle.ygg_eval.specs.ygg_meaning.Machine.{TickName}
+use Rattle.ygg_eval.specs.ygg_meaning.Layer.{tick_in}
+use Rattle.ygg_eval.specs.ygg_eval_lower.declared.body.Part.TheVariants as part
+use Rattle.ygg_eval.specs.ygg_eval_lower.Bodies.{IsBlock}
+use Rattle.ygg_eval.specs.ygg_eval_lower.Layers.{closed_at}
+use Rattle.ygg_eval.specs.ygg_eval_lower.Lower.{Standing, Meaning, Ending, Whole, Down, Failed, Starved, PowerLoss, IsLower}
 use Rattle.ygg_machine.specs.Floors.{Raised, lower_of, place_of, silent, zeroed, Begins, RunsOn, RunsSilently, IsCut, floor_meaning}
 use Rattle.ygg_machine.specs.FloorKeeps.{block_kept, at_place}
 use Rattle.ygg_machine.specs.FloorStacks.{run_lasts, layer_there}

@@ -45,16 +45,16 @@ use Rattle.ygg_syntax.specs.declared.tree.Tick.{Tick}
 use Rattle.ygg_syntax.specs.declared.tree.TypeText.{TypeText}
 use Rattle.ygg_syntax.specs.declared.tree.File.{File}
 use Rattle.ygg_syntax.specs.Files.{IsDerivable}
-use Rattle.ygg_syntax_count.specs.Weights.{Weights, weights_of}
-use Rattle.ygg_symbols.specs.Names.{Named, look_up, has, added}
-use Rattle.ygg_type_rules.specs.declared.scope.Visibility.TheVariants.{Implementation}
-use Rattle.ygg_type_rules.specs.declared.scope.Signature.{Signature}
-use Rattle.ygg_type_rules.specs.TypeErrors.{none, unless}
-use Rattle.ygg_type_rules.specs.Shapes.{shape_of, answer_shape}
-use Rattle.ygg_type_rules.specs.Scopes.{Scope, seen_as}
-use Rattle.ygg_type_rules.specs.Statements.{block_errors}
-use Rattle.ygg_type_rules.specs.Definitions.{with_definitions, with_parameter, with_parameters, parameters_errors, answer_type_errors}
-use Rattle.ygg_type_rules.specs.Layers.{
+use Rattle.ygg_eval.specs.ygg_syntax_count.Weights.{Weights, weights_of}
+use Rattle.ygg_eval.specs.ygg_symbols.Names.{Named, look_up, has, added}
+use Rattle.ygg_eval.specs.ygg_type_rules.declared.scope.Visibility.TheVariants.{Implementation}
+use Rattle.ygg_eval.specs.ygg_type_rules.declared.scope.Signature.{Signature}
+use Rattle.ygg_eval.specs.ygg_type_rules.TypeErrors.{none, unless}
+use Rattle.ygg_eval.specs.ygg_type_rules.Shapes.{shape_of, answer_shape}
+use Rattle.ygg_eval.specs.ygg_type_rules.Scopes.{Scope, seen_as}
+use Rattle.ygg_eval.specs.ygg_type_rules.Statements.{block_errors}
+use Rattle.ygg_eval.specs.ygg_type_rules.Definitions.{with_definitions, with_parameter, with_parameters, parameters_errors, answer_type_errors}
+use Rattle.ygg_eval.specs.ygg_type_rules.Layers.{
   layer_scope,
   blocks_errors,
   declared_errors,
@@ -70,31 +70,31 @@ use Rattle.ygg_type_rules.specs.Layers.{
   picks_errors,
   view_errors,
 }
-use Rattle.ygg_type_rules.specs.declared.scope.Visibility.TheVariants as view
-use Rattle.ygg_type_rules.specs.Files.{type_errors_of}
-use Rattle.ygg_type.proofs.Least.{is_empty}
-use Rattle.ygg_meaning.specs.Environments.{Name, bind}
-use Rattle.ygg_meaning.specs.Meaning.{functions_of}
-use Rattle.ygg_meaning.specs.Progress.{Question, Answer, Asks}
-use Rattle.ygg_meaning.specs.Runs.{Dialogue}
-use Rattle.ygg_meaning.specs.Layer.{dialogue_of, tick_in}
-use Rattle.ygg_meaning.specs.Shapes.{env_fits, shape_in, values_fit, zeros_of}
-use Rattle.ygg_type_sound.proofs.Names.{or_else, look_up_append}
-use Rattle.ygg_type_sound.proofs.Parameters.{type_is}
-use Rattle.ygg_type_sound.proofs.Tests.{left, right, passed, turned, bytes_equal}
-use Rattle.ygg_type_progress.specs.Blocks.{is_returned}
-use Rattle.ygg_type_progress.specs.Kinds.{keeps, layer_keeps, operation_keeps, on_crash_keeps, returns_declared}
-use Rattle.ygg_type_progress.specs.Questions.{gives, answer_has, answer_fits, AnswersFit}
-use Rattle.ygg_type_progress.proofs.Derived.{derivable_derived}
-use Rattle.ygg_type_progress.proofs.Files.{have}
-use Rattle.ygg_type_progress.proofs.Sounds.{block_sound}
-use Rattle.ygg_type_progress.proofs.Typed.{Parts, parts}
-use Rattle.ygg_type_progress.proofs.Views.{AllTyped, zeros_fit, memory_agrees, agrees_with_arguments}
-use Rattle.ygg_eval_lower.specs.Conversations.{Exchange, Exchanged, Talks, asked, answers_of}
-use Rattle.ygg_eval_lower.specs.Layers.{closed_at, signatures_at}
-use Rattle.ygg_eval_lower.specs.Lower.{Standing, Meaning}
-use Rattle.ygg_eval_lower.proofs.Blocks.{LayerAt, bind_fits, blocks_kept, layer_typing}
-use Rattle.ygg_eval_block.specs.Runs.{Finished}
+use Rattle.ygg_eval.specs.ygg_type_rules.declared.scope.Visibility.TheVariants as view
+use Rattle.ygg_eval.specs.ygg_type_rules.Files.{type_errors_of}
+use Rattle.ygg_eval.specs.ygg_type_proofs_Least.{is_empty}
+use Rattle.ygg_eval.specs.ygg_meaning.Environments.{Name, bind}
+use Rattle.ygg_eval.specs.ygg_meaning.Meaning.{functions_of}
+use Rattle.ygg_eval.specs.ygg_meaning.Progress.{Question, Answer, Asks}
+use Rattle.ygg_eval.specs.ygg_meaning.Runs.{Dialogue}
+use Rattle.ygg_eval.specs.ygg_meaning.Layer.{dialogue_of, tick_in}
+use Rattle.ygg_eval.specs.ygg_meaning.Shapes.{env_fits, shape_in, values_fit, zeros_of}
+use Rattle.ygg_eval.specs.ygg_type_sound_proofs_Names.{or_else, look_up_append}
+use Rattle.ygg_eval.specs.ygg_type_sound_proofs_Parameters.{type_is}
+use Rattle.ygg_eval.specs.ygg_type_sound_proofs_Tests.{left, right, passed, turned, bytes_equal}
+use Rattle.ygg_eval.specs.ygg_type_progress.Blocks.{is_returned}
+use Rattle.ygg_eval.specs.ygg_type_progress.Kinds.{keeps, layer_keeps, operation_keeps, on_crash_keeps, returns_declared}
+use Rattle.ygg_eval.specs.ygg_type_progress.Questions.{gives, answer_has, answer_fits, AnswersFit}
+use Rattle.ygg_eval.proofs.of_ygg_type_progress.Derived.{derivable_derived}
+use Rattle.ygg_eval.specs.ygg_type_progress_proofs_Files.{have}
+use Rattle.ygg_eval.specs.ygg_type_progress_proofs_Sounds.{block_sound}
+use Rattle.ygg_eval.specs.ygg_type_progress_proofs_Typed.{Parts, parts}
+use Rattle.ygg_eval.proofs.of_ygg_type_progress.Views.{AllTyped, zeros_fit, memory_agrees, agrees_with_arguments}
+use Rattle.ygg_eval.specs.ygg_eval_lower.Conversations.{Exchange, Exchanged, Talks, asked, answers_of}
+use Rattle.ygg_eval.specs.ygg_eval_lower.Layers.{closed_at, signatures_at}
+use Rattle.ygg_eval.specs.ygg_eval_lower.Lower.{Standing, Meaning}
+use Rattle.ygg_eval.specs.ygg_eval_lower_proofs_Blocks.{LayerAt, bind_fits, blocks_kept, layer_typing}
+use Rattle.ygg_eval.specs.ygg_eval_block.Runs.{Finished}
 use Rattle.ygg_eval.proofs.Values.{bound_fits}
 use Rattle.ygg_machine.specs.Floors.{memory_at}
 use Rattle.ygg_machine.specs.Zeros.{AreShapes, zero_values}

@@ -6,13 +6,13 @@ use Rattle.ygg_syntax.specs.declared.tree.Block.{Block}
 use Rattle.ygg_syntax.specs.declared.tree.Declared.{Declared}
 use Rattle.ygg_syntax.specs.declared.tree.Layer.{Layer}
 use Rattle.ygg_syntax.specs.declared.tree.Operation.{Operation}
-use Rattle.ygg_meaning.specs.Environments.{bind}
-use Rattle.ygg_meaning.specs.Shapes.{values_fit}
-use Rattle.ygg_meaning.specs.Progress.{Answer}
-use Rattle.ygg_meaning.specs.Machine.{State, Machine}
-use Rattle.ygg_meaning.specs.Layer.{ClosedLayer, Layered, BlockRuns, BlockFalls}
-use Rattle.ygg_histories.specs.Mirror.{IsJoined, FormattedIf, Mirrors}
-use Rattle.ygg_histories.proofs.Mirrored.{layered_mirrors, formatted_mirrors}
+use Rattle.ygg_eval.specs.ygg_meaning.Environments.{bind}
+use Rattle.ygg_eval.specs.ygg_meaning.Shapes.{values_fit}
+use Rattle.ygg_eval.specs.ygg_meaning.Progress.{Answer}
+use Rattle.ygg_eval.specs.ygg_meaning.Machine.{State, Machine}
+use Rattle.ygg_eval.specs.ygg_meaning.Layer.{ClosedLayer, Layered, BlockRuns, BlockFalls}
+use Rattle.ygg_eval.specs.ygg_histories.Mirror.{IsJoined, FormattedIf, Mirrors}
+use Rattle.ygg_eval.specs.ygg_histories_proofs_Mirrored.{layered_mirrors, formatted_mirrors}
 use Rattle.ygg_machine.specs.FloorStacks.{Told, Retold, is_told}
 
 -- where a machine mirrors another, it does so wherever it may be formatted

@@ -5,12 +5,12 @@ use Rattle.ygg_value.specs.declared.row.Value.{Value}
 use Rattle.ygg_syntax.specs.declared.tree.Layer.{Layer}
 use Rattle.ygg_syntax.specs.declared.tree.Tick.{Tick}
 use Rattle.ygg_syntax.specs.declared.tree.File.{File}
-use Rattle.ygg_disk.specs.Power.{IsNamed}
-use Rattle.ygg_disk.specs.declared.power.Power.{Power}
-use Rattle.ygg_meaning.specs.Environments.{Name}
-use Rattle.ygg_meaning.specs.Progress.{Answer}
-use Rattle.ygg_meaning.specs.Machine.{State, TickName, Machine}
-use Rattle.ygg_eval_lower.specs.Lower.{Cause, PowerLoss, GivenUp, Passes, Ending, Whole, Down, Failed, Starved}
+use Rattle.ygg_eval.specs.ygg_disk.Power.{IsNamed}
+use Rattle.ygg_eval.specs.ygg_disk.declared.power.Power.{Power}
+use Rattle.ygg_eval.specs.ygg_meaning.Environments.{Name}
+use Rattle.ygg_eval.specs.ygg_meaning.Progress.{Answer}
+use Rattle.ygg_eval.specs.ygg_meaning.Machine.{State, TickName, Machine}
+use Rattle.ygg_eval.specs.ygg_eval_lower.Lower.{Cause, PowerLoss, GivenUp, Passes, Ending, Whole, Down, Failed, Starved}
 
 -- A command, as what it does to a machine where it is whole, and what it leaves where it is cut, by power or for being given up.
 pub record Command (B X : Type 0) : Type 1 where

@@ -9,15 +9,15 @@ use Rattle.ygg_syntax.specs.declared.tree.Block.{Block}
 use Rattle.ygg_syntax.specs.declared.tree.Layer.{Layer}
 use Rattle.ygg_syntax.specs.declared.tree.Operation.{Operation}
 use Rattle.ygg_syntax.specs.declared.tree.File.{File}
-use Rattle.ygg_disk.specs.Power.{IsNamed}
-use Rattle.ygg_meaning.specs.Environments.{Name, Env, bind}
-use Rattle.ygg_meaning.specs.Shapes.{values_fit}
-use Rattle.ygg_meaning.specs.Progress.{Answer}
-use Rattle.ygg_meaning.specs.Machine.{State, on, Machine}
-use Rattle.ygg_meaning.specs.Runs.{Dialogue, FallenRun}
-use Rattle.ygg_meaning.specs.Layer.{ClosedLayer, Layered, OfOperation, BlockRuns, BlockFalls, dialogue_of}
-use Rattle.ygg_eval_lower.specs.Layers.{closed_at}
-use Rattle.ygg_eval_lower.specs.Lower.{
+use Rattle.ygg_eval.specs.ygg_disk.Power.{IsNamed}
+use Rattle.ygg_eval.specs.ygg_meaning.Environments.{Name, Env, bind}
+use Rattle.ygg_eval.specs.ygg_meaning.Shapes.{values_fit}
+use Rattle.ygg_eval.specs.ygg_meaning.Progress.{Answer}
+use Rattle.ygg_eval.specs.ygg_meaning.Machine.{State, on, Machine}
+use Rattle.ygg_eval.specs.ygg_meaning.Runs.{Dialogue, FallenRun}
+use Rattle.ygg_eval.specs.ygg_meaning.Layer.{ClosedLayer, Layered, OfOperation, BlockRuns, BlockFalls, dialogue_of}
+use Rattle.ygg_eval.specs.ygg_eval_lower.Layers.{closed_at}
+use Rattle.ygg_eval.specs.ygg_eval_lower.Lower.{
   Standing,
   Meaning,
   Ending,
@@ -33,8 +33,8 @@ use Rattle.ygg_eval_lower.specs.Lower.{
   KeepsInCall,
   IsLower,
 }
-use Rattle.ygg_eval_block.specs.declared.run.Ended.{Ended}
-use Rattle.ygg_eval_block.proofs.Public.{bind_counted}
+use Rattle.ygg_eval.specs.ygg_eval_block.declared.run.Ended.{Ended}
+use Rattle.ygg_eval.specs.ygg_eval_block_proofs_Public.{bind_counted}
 use Rattle.ygg_eval.specs.Steps.{RunsWhole, RunsInPart, RunSteps}
 use Rattle.ygg_eval.proofs.Steps.{runs_are_steps}
 use Rattle.ygg_machine.specs.Floors.{Raised, lower_of, place_of, idle_on, layer_over, EndsAs, RunsOn, CallsFloor, floor_meaning}

@@ -10,24 +10,24 @@ use Rattle.ygg_syntax.specs.declared.grammar.BlockKind.{BlockKind}
 use Rattle.ygg_syntax.specs.declared.tree.Declared.{Declared}
 use Rattle.ygg_syntax.specs.declared.tree.Layer.{Layer}
 use Rattle.ygg_syntax.specs.declared.tree.File.{File}
-use Rattle.ygg_disk.specs.Ground as ground
-use Rattle.ygg_meaning.specs.Environments.{Name, Env, bind}
-use Rattle.ygg_meaning.specs.Progress.{Question, Choice, Call, Answer}
-use Rattle.ygg_meaning.specs.Runs.{Dialogue}
-use Rattle.ygg_meaning.specs.Machine.{State, on, Machine}
-use Rattle.ygg_meaning.specs.Layer.{Layered}
-use Rattle.ygg_disk.specs.Disk as disk
-use Rattle.ygg_histories.specs.Noted.{Note}
-use Rattle.ygg_histories.specs.Mirror.{SameOn, IsJoined, Mirrors}
-use Rattle.ygg_histories.proofs.Mirrored.{layered_mirrors, formatted_mirrors}
-use Rattle.ygg_eval_lower.specs.Layers.{closed_at}
-use Rattle.ygg_eval_lower.specs.Lower.{Standing, Meaning, Cause, PowerLoss, GivenUp, Ending, IsLower}
-use Rattle.ygg_eval_lower.specs.Lower as ending
-use Rattle.ygg_eval_lower.specs.Conversations.{Asking, Exchange, Exchanged, Answers, Talks}
-use Rattle.ygg_eval_block.specs.Runs.{Came, EndedIn, RunEnds}
-use Rattle.ygg_eval_block.specs.declared.run.Ended.{Ended}
-use Rattle.ygg_eval_block.specs.declared.run.Ended.TheVariants as ended
-use Rattle.ygg_meaning.specs.DiskMachine.{machine_on}
+use Rattle.ygg_eval.specs.ygg_disk.Ground as ground
+use Rattle.ygg_eval.specs.ygg_meaning.Environments.{Name, Env, bind}
+use Rattle.ygg_eval.specs.ygg_meaning.Progress.{Question, Choice, Call, Answer}
+use Rattle.ygg_eval.specs.ygg_meaning.Runs.{Dialogue}
+use Rattle.ygg_eval.specs.ygg_meaning.Machine.{State, on, Machine}
+use Rattle.ygg_eval.specs.ygg_meaning.Layer.{Layered}
+use Rattle.ygg_eval.specs.ygg_disk.Disk as disk
+use Rattle.ygg_eval.specs.ygg_histories.Noted.{Note}
+use Rattle.ygg_eval.specs.ygg_histories.Mirror.{SameOn, IsJoined, Mirrors}
+use Rattle.ygg_eval.specs.ygg_histories_proofs_Mirrored.{layered_mirrors, formatted_mirrors}
+use Rattle.ygg_eval.specs.ygg_eval_lower.Layers.{closed_at}
+use Rattle.ygg_eval.specs.ygg_eval_lower.Lower.{Standing, Meaning, Cause, PowerLoss, GivenUp, Ending, IsLower}
+use Rattle.ygg_eval.specs.ygg_eval_lower.Lower as ending
+use Rattle.ygg_eval.specs.ygg_eval_lower.Conversations.{Asking, Exchange, Exchanged, Answers, Talks}
+use Rattle.ygg_eval.specs.ygg_eval_block.Runs.{Came, EndedIn, RunEnds}
+use Rattle.ygg_eval.specs.ygg_eval_block.declared.run.Ended.{Ended}
+use Rattle.ygg_eval.specs.ygg_eval_block.declared.run.Ended.TheVariants as ended
+use Rattle.ygg_eval.specs.ygg_meaning.DiskMachine.{machine_on}
 use Rattle.ygg_machine.specs.GroundSteps.{ground_steps, ground_machine, ground_calls}
 use Rattle.ygg_machine.specs.Leaves.{LeaveBy}
 use Rattle.ygg_machine.specs.Grounded.{HasRows, ground_meaning, ground_from}

@@ -31,21 +31,21 @@ use Rattle.ygg_list.specs.declared.memory.NoMemory.{NoMemory}
 use Rattle.ygg_value.specs.declared.row.Value.{Value}
 use Rattle.ygg_value.specs.declared.row.Value.TheVariants as value
 use Rattle.ygg_syntax.specs.declared.tree.File.{File}
-use Rattle.ygg_disk.specs.Disk as disk
-use Rattle.ygg_disk.specs.Ground as ground
-use Rattle.ygg_disk.specs.Fate.{IsFate}
-use Rattle.ygg_disk.specs.Power.{IsNamed, Begun, BegunInVain, counted}
-use Rattle.ygg_disk.specs.declared.fate.Fate.TheVariants as fate
-use Rattle.ygg_disk.specs.declared.power.Fuse.{Fuse}
-use Rattle.ygg_disk.specs.declared.power.Picks.{Picks}
-use Rattle.ygg_disk.specs.declared.power.Power.{Power}
-use Rattle.ygg_disk.specs.declared.turn.Event.{Event}
-use Rattle.ygg_disk.specs.declared.turn.Turn.{Turn}
-use Rattle.ygg_disk.specs.declared.turn.Turn.TheVariants as turn
-use Rattle.ygg_meaning.specs.Environments.{Name}
-use Rattle.ygg_meaning.specs.DiskMachine.{disk_call, answer_to}
-use Rattle.ygg_histories.specs.Noted.{Note}
-use Rattle.ygg_eval_lower.specs.Lower.{
+use Rattle.ygg_eval.specs.ygg_disk.Disk as disk
+use Rattle.ygg_eval.specs.ygg_disk.Ground as ground
+use Rattle.ygg_eval.specs.ygg_disk.Fate.{IsFate}
+use Rattle.ygg_eval.specs.ygg_disk.Power.{IsNamed, Begun, BegunInVain, counted}
+use Rattle.ygg_eval.specs.ygg_disk.declared.fate.Fate.TheVariants as fate
+use Rattle.ygg_eval.specs.ygg_disk.declared.power.Fuse.{Fuse}
+use Rattle.ygg_eval.specs.ygg_disk.declared.power.Picks.{Picks}
+use Rattle.ygg_eval.specs.ygg_disk.declared.power.Power.{Power}
+use Rattle.ygg_eval.specs.ygg_disk.declared.turn.Event.{Event}
+use Rattle.ygg_eval.specs.ygg_disk.declared.turn.Turn.{Turn}
+use Rattle.ygg_eval.specs.ygg_disk.declared.turn.Turn.TheVariants as turn
+use Rattle.ygg_eval.specs.ygg_meaning.Environments.{Name}
+use Rattle.ygg_eval.specs.ygg_meaning.DiskMachine.{disk_call, answer_to}
+use Rattle.ygg_eval.specs.ygg_histories.Noted.{Note}
+use Rattle.ygg_eval.specs.ygg_eval_lower.Lower.{
   Standing,
   Ending,
   Whole,

@@ -1,12 +1,12 @@
 -- Disk calls on a ground, whole, cut by power, or given up.
 use Rattle.std.specs.Prelude.{◌≡◌, true, List, [], ◌∷◌, ◌⊎◌}
-use Rattle.ygg_disk.specs.Disk.{Call}
-use Rattle.ygg_disk.specs.Ground.{Meaning}
-use Rattle.ygg_meaning.specs.Machine.{Machine}
-use Rattle.ygg_meaning.specs.DiskMachine.{Store, machine_on}
-use Rattle.ygg_histories.specs.Noted.{Note}
-use Rattle.ygg_histories.specs.Grounds.{ground_store}
-use Rattle.ygg_eval_lower.specs.Lower.{Cause, PowerLoss, GivenUp}
+use Rattle.ygg_eval.specs.ygg_disk.Disk.{Call}
+use Rattle.ygg_eval.specs.ygg_disk.Ground.{Meaning}
+use Rattle.ygg_eval.specs.ygg_meaning.Machine.{Machine}
+use Rattle.ygg_eval.specs.ygg_meaning.DiskMachine.{Store, machine_on}
+use Rattle.ygg_eval.specs.ygg_histories.Noted.{Note}
+use Rattle.ygg_eval.specs.ygg_histories.Grounds.{ground_store}
+use Rattle.ygg_eval.specs.ygg_eval_lower.Lower.{Cause, PowerLoss, GivenUp}
 
 -- a call that failed or found no memory: it is noted as cut short, or wasn't begun
 abbrev pub IsBroken : Call → List Note → Type 0

@@ -6,14 +6,14 @@ use Rattle.ygg_value.specs.declared.shape.Shape.{Shape}
 use Rattle.ygg_value.specs.declared.shape.Shape.TheVariants.{Row}
 use Rattle.ygg_syntax.specs.declared.tree.DiskText.{DiskText}
 use Rattle.ygg_syntax.specs.declared.tree.File.{File}
-use Rattle.ygg_disk.specs.Disk as disk
-use Rattle.ygg_disk.specs.Ground as ground
-use Rattle.ygg_disk.specs.declared.turn.Turn.{Turn}
-use Rattle.ygg_meaning.specs.Environments.{Name}
-use Rattle.ygg_meaning.specs.Machine.{based}
-use Rattle.ygg_meaning.specs.DiskMachine.{disk_call, machine_on}
-use Rattle.ygg_histories.specs.Noted.{Note}
-use Rattle.ygg_eval_lower.specs.Lower.{Standing, Behavior, Meaning, Ending, ending_of}
+use Rattle.ygg_eval.specs.ygg_disk.Disk as disk
+use Rattle.ygg_eval.specs.ygg_disk.Ground as ground
+use Rattle.ygg_eval.specs.ygg_disk.declared.turn.Turn.{Turn}
+use Rattle.ygg_eval.specs.ygg_meaning.Environments.{Name}
+use Rattle.ygg_eval.specs.ygg_meaning.Machine.{based}
+use Rattle.ygg_eval.specs.ygg_meaning.DiskMachine.{disk_call, machine_on}
+use Rattle.ygg_eval.specs.ygg_histories.Noted.{Note}
+use Rattle.ygg_eval.specs.ygg_eval_lower.Lower.{Standing, Behavior, Meaning, Ending, ending_of}
 use Rattle.ygg_machine.specs.GroundSteps.{ground_machine, ground_calls}
 use Rattle.ygg_machine.specs.Leaves.{LeaveBy}
 

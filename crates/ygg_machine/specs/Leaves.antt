@@ -1,12 +1,12 @@
 -- What the disk calls of a command leave of power: all of them are whole, or power fails where the fuse says, or the command is given up.
 use Rattle.std.specs.Prelude.{◌≡◌, ◌≤◌, ◌<◌, ◌+◌, ◌^◌, true, false, MatchBool, List, [], ◌∷◌, ◌++◌, ◌⊎◌, length, Option, Some, None}
-use Rattle.ygg_disk.specs.Disk.{Call}
-use Rattle.ygg_disk.specs.Ground.{Meaning}
-use Rattle.ygg_disk.specs.Power.{IsNamed, Begun, BegunInVain}
-use Rattle.ygg_disk.specs.declared.power.Fuse.{Fuse}
-use Rattle.ygg_disk.specs.declared.power.Power.{Power}
-use Rattle.ygg_histories.specs.Noted.{Note}
-use Rattle.ygg_eval_lower.specs.Lower.{Cause, PowerLoss, GivenUp}
+use Rattle.ygg_eval.specs.ygg_disk.Disk.{Call}
+use Rattle.ygg_eval.specs.ygg_disk.Ground.{Meaning}
+use Rattle.ygg_eval.specs.ygg_disk.Power.{IsNamed, Begun, BegunInVain}
+use Rattle.ygg_eval.specs.ygg_disk.declared.power.Fuse.{Fuse}
+use Rattle.ygg_eval.specs.ygg_disk.declared.power.Power.{Power}
+use Rattle.ygg_eval.specs.ygg_histories.Noted.{Note}
+use Rattle.ygg_eval.specs.ygg_eval_lower.Lower.{Cause, PowerLoss, GivenUp}
 
 -- the calls are whole, one after another, and the fuse names none of them
 abbrev pub LeaveWhole : {S : Type 0} → Meaning S → List Note → Power → Power → Type 0

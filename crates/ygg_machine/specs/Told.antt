@@ -2,13 +2,13 @@
 -- on that disk.
 use Rattle.std.specs.Prelude.{◌≡◌, List, length}
 use Rattle.ygg_syntax.specs.declared.tree.File.{File}
-use Rattle.ygg_disk.specs.Ground.{Meaning}
-use Rattle.ygg_histories.specs.Stack.{Stacked, BottomOf, layers_of}
-use Rattle.ygg_histories.specs.Mirror.{FormattedIf, Mirrors}
-use Rattle.ygg_histories.specs.Noted.{Note, NotedDisk}
-use Rattle.ygg_histories.specs.StepLaws.{Same}
-use Rattle.ygg_histories.specs.Grounds.{TellsBase, TellsZeros, ArePicks}
-use Rattle.ygg_eval_lower.specs.Lower.{Cause, PowerLoss}
+use Rattle.ygg_eval.specs.ygg_disk.Ground.{Meaning}
+use Rattle.ygg_eval.specs.ygg_histories.Stack.{Stacked, BottomOf, layers_of}
+use Rattle.ygg_eval.specs.ygg_histories.Mirror.{FormattedIf, Mirrors}
+use Rattle.ygg_eval.specs.ygg_histories.Noted.{Note, NotedDisk}
+use Rattle.ygg_eval.specs.ygg_histories.StepLaws.{Same}
+use Rattle.ygg_eval.specs.ygg_histories.Grounds.{TellsBase, TellsZeros, ArePicks}
+use Rattle.ygg_eval.specs.ygg_eval_lower.Lower.{Cause, PowerLoss}
 use Rattle.ygg_machine.specs.GroundSteps.{ground_machine}
 use Rattle.ygg_machine.specs.Bottoms.{bottom_on}
 

@@ -3,14 +3,14 @@ use Rattle.std.specs.Prelude.{◌≡◌, ℕ, ◌≤◌, ◌<◌, List, [], ◌+
 use Rattle.ygg_value.specs.declared.row.Value.{Value}
 use Rattle.ygg_syntax.specs.declared.tree.Layer.{Layer}
 use Rattle.ygg_syntax.specs.declared.tree.File.{File}
-use Rattle.ygg_disk.specs.Ground as ground
-use Rattle.ygg_meaning.specs.Environments.{Name}
-use Rattle.ygg_meaning.specs.Machine.{State, on, Machine}
-use Rattle.ygg_meaning.specs.Layer.{BlockFalls}
-use Rattle.ygg_meaning.specs.Shapes.{zeros_of}
-use Rattle.ygg_histories.specs.Mirror.{Mirrors}
-use Rattle.ygg_eval_lower.specs.Layers.{closed_at}
-use Rattle.ygg_eval_lower.specs.Lower.{Standing, Meaning, Cause, PowerLoss, Ending}
+use Rattle.ygg_eval.specs.ygg_disk.Ground as ground
+use Rattle.ygg_eval.specs.ygg_meaning.Environments.{Name}
+use Rattle.ygg_eval.specs.ygg_meaning.Machine.{State, on, Machine}
+use Rattle.ygg_eval.specs.ygg_meaning.Layer.{BlockFalls}
+use Rattle.ygg_eval.specs.ygg_meaning.Shapes.{zeros_of}
+use Rattle.ygg_eval.specs.ygg_histories.Mirror.{Mirrors}
+use Rattle.ygg_eval.specs.ygg_eval_lower.Layers.{closed_at}
+use Rattle.ygg_eval.specs.ygg_eval_lower.Lower.{Standing, Meaning, Cause, PowerLoss, Ending}
 use Rattle.ygg_machine.specs.Grounded.{ground_from}
 use Rattle.ygg_machine.specs.Floors.{Raised, floor_meaning}
 use Rattle.ygg_machine.specs.Commands.{Stage, Command, formatting, Ended}

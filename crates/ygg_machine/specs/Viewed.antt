@@ -6,16 +6,16 @@ use Rattle.std.proofs.Common.{inl, inr, refl, sym, ap, ◌∙◌, subst, arith}
 use Rattle.ygg_value.specs.declared.row.Value.{Value}
 use Rattle.ygg_syntax.specs.declared.tree.Layer.{Layer}
 use Rattle.ygg_syntax.specs.declared.tree.File.{File}
-use Rattle.ygg_disk.specs.Ground as disk
-use Rattle.ygg_meaning.specs.Environments.{Env, bind}
-use Rattle.ygg_meaning.specs.Machine.{State, based, on, Machine}
-use Rattle.ygg_meaning.specs.Layer.{Layered}
-use Rattle.ygg_meaning.specs.Shapes.{values_fit, zeros_of}
-use Rattle.ygg_histories.specs.Noted.{Note}
-use Rattle.ygg_histories.specs.Mirror.{SameOn, Mirrors}
-use Rattle.ygg_histories.proofs.Mirrored.{layered_mirrors, formatted_mirrors}
-use Rattle.ygg_eval_lower.specs.Layers.{closed_at}
-use Rattle.ygg_eval_lower.specs.Lower.{Standing, Meaning, Cause}
+use Rattle.ygg_eval.specs.ygg_disk.Ground as disk
+use Rattle.ygg_eval.specs.ygg_meaning.Environments.{Env, bind}
+use Rattle.ygg_eval.specs.ygg_meaning.Machine.{State, based, on, Machine}
+use Rattle.ygg_eval.specs.ygg_meaning.Layer.{Layered}
+use Rattle.ygg_eval.specs.ygg_meaning.Shapes.{values_fit, zeros_of}
+use Rattle.ygg_eval.specs.ygg_histories.Noted.{Note}
+use Rattle.ygg_eval.specs.ygg_histories.Mirror.{SameOn, Mirrors}
+use Rattle.ygg_eval.specs.ygg_histories_proofs_Mirrored.{layered_mirrors, formatted_mirrors}
+use Rattle.ygg_eval.specs.ygg_eval_lower.Layers.{closed_at}
+use Rattle.ygg_eval.specs.ygg_eval_lower.Lower.{Standing, Meaning, Cause}
 use Rattle.ygg_machine.specs.GroundSteps.{ground_machine}
 use Rattle.ygg_machine.specs.Leaves.{LeaveBy}
 use Rattle.ygg_machine.specs.Grounded.{HasRows, ground_meaning}

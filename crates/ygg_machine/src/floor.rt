@@ -2,7 +2,7 @@
 
 ghost use Rattle.std.specs.Prelude.{◌≡◌};
 ghost use Rattle.std.specs.Prelude.{Ok, IsTrue, IsFalse};
-ghost use Rattle.ygg_eval_lower.specs.Lower.{ending_of};
+ghost use Rattle.ygg_eval.specs.ygg_eval_lower.Lower.{ending_of};
 ghost use Rattle.ygg_machine.specs.Floors.{memory_at, EndsAs, run_ending, silent, IsCut, IsWhole};
 
 use crate::tower::Tower;
@@ -10,12 +10,9 @@ use crate::viewed::Viewed;
 use crate::zeroing::zeros;
 use std::alloc::Global;
 use std::marker::Model;
-use ygg_disk::{Power, Turn};
-use ygg_eval::{Body, Ended, Part, run_body};
-use ygg_eval_lower::Lower;
+use ygg_eval::{Body, Ended, Lower, Part, Power, Turn, Typed, run_body};
 use ygg_list::{NoMemory, Sequence};
 use ygg_syntax::tree::Declared;
-use ygg_type::Typed;
 use ygg_value::Values;
 
 /// A layer of a file on a machine below, which contracts see as the values of its memory and the machine below; its place in the file, from the
@@ -114,9 +111,9 @@ impl<W: Lower + Drop> Floor<W> {
     ghost use Rattle.ygg_syntax.specs.declared.grammar.BlockKind.TheVariants as kind;
     ghost use Rattle.ygg_syntax.specs.declared.tree.Layer.{Layer};
     ghost use Rattle.ygg_syntax.specs.declared.tree.Block.{Block};
-    ghost use Rattle.ygg_meaning.specs.Environments.{bind};
-    ghost use Rattle.ygg_eval_lower.specs.Bodies.{IsBlock, IsRunnable, kind_of, arguments_in};
-    ghost use Rattle.ygg_eval_lower.specs.Lower.{Serves, AfterWhole};
+    ghost use Rattle.ygg_eval.specs.ygg_meaning.Environments.{bind};
+    ghost use Rattle.ygg_eval.specs.ygg_eval_lower.Bodies.{IsBlock, IsRunnable, kind_of, arguments_in};
+    ghost use Rattle.ygg_eval.specs.ygg_eval_lower.Lower.{Serves, AfterWhole};
     ghost use Rattle.ygg_machine.specs.Floors.{RunsOn};
     ghost use Rattle.ygg_machine.specs.Zeros.{zero_values};
 
@@ -232,11 +229,11 @@ impl<W: Tower + Drop> Floor<W> {
     ghost use Rattle.ygg_syntax.specs.declared.grammar.BlockKind.TheVariants as kind;
     ghost use Rattle.ygg_syntax.specs.declared.tree.Layer.{Layer};
     ghost use Rattle.ygg_syntax.specs.declared.tree.Block.{Block};
-    ghost use Rattle.ygg_type_rules.specs.declared.scope.Signature.{Signature};
-    ghost use Rattle.ygg_meaning.specs.Environments.{Name};
-    ghost use Rattle.ygg_eval_lower.specs.Bodies.{IsBlock, IsRunnable, kind_of};
-    ghost use Rattle.ygg_eval_lower.specs.Layers.{signatures_at};
-    ghost use Rattle.ygg_eval_lower.specs.Lower.{Standing, Serves, AfterWhole, IsCallable, ending_of};
+    ghost use Rattle.ygg_eval.specs.ygg_type_rules.declared.scope.Signature.{Signature};
+    ghost use Rattle.ygg_eval.specs.ygg_meaning.Environments.{Name};
+    ghost use Rattle.ygg_eval.specs.ygg_eval_lower.Bodies.{IsBlock, IsRunnable, kind_of};
+    ghost use Rattle.ygg_eval.specs.ygg_eval_lower.Layers.{signatures_at};
+    ghost use Rattle.ygg_eval.specs.ygg_eval_lower.Lower.{Standing, Serves, AfterWhole, IsCallable, ending_of};
     ghost use Rattle.ygg_machine.specs.Commands.{calling};
     ghost use Rattle.ygg_machine.specs.Floors.{floor_meaning, RunsSilently, Begins, IsFirst};
     ghost use Rattle.ygg_machine.specs.Towers.{StandsOn, StillStands, CommandEnds, floor_rooted};

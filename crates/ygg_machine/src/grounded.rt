@@ -6,10 +6,8 @@ ghost use Rattle.ygg_machine.specs.Answered.{AnswersValue};
 use crate::tower::Tower;
 use crate::viewed::Viewed;
 use std::marker::Model;
-use ygg_disk::{Ground, Power, Turn};
-use ygg_eval_lower::Lower;
+use ygg_eval::{Ground, Lower, Power, Turn, Typed};
 use ygg_list::NoMemory;
-use ygg_type::Typed;
 use ygg_value::{Value, Values, shape_of};
 
 /// A ground on which the lowest layer of a file runs, which contracts see as the ground alone.

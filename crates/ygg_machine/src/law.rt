@@ -3,7 +3,7 @@
 ghost use Rattle.ygg_machine.specs.Told.{StacksAreListed, StacksTell, StacksNote};
 ghost use Rattle.ygg_machine.specs.Leaves.{WholeAreCounted};
 
-use ygg_disk::Ground;
+use ygg_eval::Ground;
 
 /// Each step of a stack's layers on its ground, of which its commands are, is one of the layers of the file's list. Where the ground tells the state of
 /// the file's disk, it is one of the bottom implementation, with the picks of its notes, and one of the layers on that disk whose calls are noted, with

@@ -13,3 +13,6 @@ pub use grounded::Grounded;
 pub use law::{stacks_tell, whole_calls_are_counted};
 pub use tower::Tower;
 pub use viewed::Viewed;
+pub use ygg_eval::{
+    AsyncDisk, Ground, Picks, Power, SyncDisk, Turn, Typed, fresh_async, fresh_sync,
+};

@@ -1,16 +1,14 @@
 //! What layers on one another can do beside being a machine below a layer.
 
-use ygg_disk::{Power, Turn};
-use ygg_eval_lower::Lower;
+use ygg_eval::{Lower, Power, Turn, Typed};
 use ygg_list::NoMemory;
-use ygg_type::Typed;
 
 /// A ground, or layers on one: it can be formatted and woken, makes background steps and loses power. Disk calls of one command are counted by the
 /// `passed` of its `power`. After `Down` the state is a fallen one, which may be woken; after `Failed` or out of memory the tower is given up.
 pub trait Tower: Lower {
     ghost use Rattle.std.specs.Prelude.{◌≡◌, ◌<◌, IsTrue, IsSome, None};
-    ghost use Rattle.ygg_meaning.specs.Machine.{TickName};
-    ghost use Rattle.ygg_eval_lower.specs.Lower.{Standing, Serves, AfterWhole, ending_of};
+    ghost use Rattle.ygg_eval.specs.ygg_meaning.Machine.{TickName};
+    ghost use Rattle.ygg_eval.specs.ygg_eval_lower.Lower.{Standing, Serves, AfterWhole, ending_of};
     ghost use Rattle.ygg_syntax.specs.declared.tree.File.{File};
     ghost use Rattle.ygg_machine.specs.Commands.{ticking, waking, IsTickAt, HasTick};
     ghost use Rattle.ygg_machine.specs.Towers.{Rooted, IsTower, FormatEnds, CommandEnds, StillStands, LosesPower};

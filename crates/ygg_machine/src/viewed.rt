@@ -2,9 +2,8 @@
 
 use crate::floor::Floor;
 use crate::tower::Tower;
-use ygg_disk::{Power, Turn};
+use ygg_eval::{Power, Turn, Typed};
 use ygg_list::NoMemory;
-use ygg_type::Typed;
 use ygg_value::Values;
 
 /// A tower that is seen as layers on a ground.
@@ -19,11 +18,11 @@ pub trait Viewed: Tower {
 }
 
 ghost use Rattle.std.specs.Prelude.{◌≡◌, ◌<◌, IsTrue, IsSome, Some, None, slice_get};
-ghost use Rattle.ygg_type_rules.specs.declared.scope.Signature.{Signature};
-ghost use Rattle.ygg_meaning.specs.Environments.{Name};
-ghost use Rattle.ygg_meaning.specs.Machine.{TickName};
-ghost use Rattle.ygg_eval_lower.specs.Layers.{signatures_at};
-ghost use Rattle.ygg_eval_lower.specs.Lower.{AfterWhole, IsCallable, ending_of};
+ghost use Rattle.ygg_eval.specs.ygg_type_rules.declared.scope.Signature.{Signature};
+ghost use Rattle.ygg_eval.specs.ygg_meaning.Environments.{Name};
+ghost use Rattle.ygg_eval.specs.ygg_meaning.Machine.{TickName};
+ghost use Rattle.ygg_eval.specs.ygg_eval_lower.Layers.{signatures_at};
+ghost use Rattle.ygg_eval.specs.ygg_eval_lower.Lower.{AfterWhole, IsCallable, ending_of};
 ghost use Rattle.ygg_machine.specs.Commands.{calling, ticking, waking, IsTickAt, HasTick};
 ghost use Rattle.ygg_machine.specs.Bottoms.{ViewStands, ViewRuns, ViewEnds, StillLooks, LosesAll, formats};
 ghost use Rattle.ygg_machine.specs.Viewed.{floor_seen};

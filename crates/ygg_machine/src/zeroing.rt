@@ -2,7 +2,7 @@
 
 ghost use Rattle.std.specs.Prelude.{◌≡◌, IfOk};
 ghost use Rattle.ygg_value.specs.Shapes.{IsShape};
-ghost use Rattle.ygg_meaning.specs.Shapes.{shape_in};
+ghost use Rattle.ygg_eval.specs.ygg_meaning.Shapes.{shape_in};
 ghost use Rattle.ygg_machine.specs.Zeros.{AreShapes, zero_values};
 
 use std::alloc::Global;

@@ -1,3 +1,4 @@
+pub use Rattle.ygg_disk.specs as ygg_disk
 pub use Rattle.ygg_disk.specs.Kinds
 pub use Rattle.ygg_disk.specs.Disk
 pub use Rattle.ygg_syntax.specs.declared.tree.TypeText

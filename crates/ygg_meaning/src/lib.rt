@@ -2,3 +2,9 @@
 #![tactic(auto)]
 
 pub mod law;
+
+pub use ygg_disk::rows::read_row;
+pub use ygg_disk::{
+    AsyncDisk, Did, Event, Events, Fuse, Ground, Picks, Power, SyncDisk, Turn, fresh_async,
+    fresh_sync,
+};

@@ -1,16 +1,16 @@
 -- The obligations of a layer, made from the states that they begin with.
 use Rattle.std.proofs.Common.{◌≡◌, ℕ, ◌+◌, List, sym, ap, ◌∙◌, subst}
 use Rattle.std.specs.Prelude.{All}
-use Rattle.ygg_rules.specs.declared.rule.RuleKind.{RuleKind}
-use Rattle.ygg_bank.specs.Makes.{Out}
-use Rattle.ygg_bank.specs.declared.node.Node.{Node}
-use Rattle.ygg_meaning.specs.Obligations.{Obligation, obligations_of}
-use Rattle.ygg_sym_spec.specs.Layers.{closed, terms_in}
-use Rattle.ygg_sym_spec.specs.declared.layer.SymLayer.{SymLayer}
+use Rattle.ygg_oblige_laws.specs.ygg_rules.declared.rule.RuleKind.{RuleKind}
+use Rattle.ygg_oblige_laws.specs.ygg_bank.Makes.{Out}
+use Rattle.ygg_oblige_laws.specs.ygg_bank.declared.node.Node.{Node}
+use Rattle.ygg_oblige_laws.specs.ygg_meaning.Obligations.{Obligation, obligations_of}
+use Rattle.ygg_oblige_list.specs.ygg_sym_spec.Layers.{closed, terms_in}
+use Rattle.ygg_oblige_list.specs.ygg_sym_spec.declared.layer.SymLayer.{SymLayer}
 use Rattle.ygg_oblige_kinds.specs.Sites.{below_in}
 use Rattle.ygg_oblige_kinds.specs.SymBelow.{SymBelow}
-use Rattle.ygg_oblige_terms.specs.Layers.{LayerTyped}
-use Rattle.ygg_oblige_terms.specs.States.{Starting, starting, state_words}
+use Rattle.ygg_oblige_laws.specs.ygg_oblige_terms.Layers.{LayerTyped}
+use Rattle.ygg_oblige_laws.specs.ygg_oblige_terms.States.{Starting, starting, state_words}
 use Rattle.ygg_oblige_laws.proofs.EachKind.{all_known}
 use Rattle.ygg_oblige_laws.proofs.Whole.{means_typed}
 use Rattle.ygg_oblige.proofs.Ticks.{all_fit}

@@ -4,27 +4,27 @@ use Rattle.std.specs.Prelude.{All}
 use Rattle.std.proofs.lemmas.Bool.{cases_lt}
 use Rattle.std.proofs.lemmas.List.{append-nil, map-append}
 use Rattle.std.proofs.lemmas.List.Elements.{All-head, All-tail}
-use Rattle.ygg_rules.specs.declared.rule.RuleKind.{RuleKind}
-use Rattle.ygg_bank.proofs.Places.{here_or_last, last_is}
-use Rattle.ygg_bank.proofs.Widths.{wider}
-use Rattle.ygg_bank.specs.Inputs.{InputsBelow}
-use Rattle.ygg_bank.specs.Makes.{Out}
-use Rattle.ygg_bank.specs.Nodes.{Extends, IsBank}
-use Rattle.ygg_bank.specs.declared.node.Id.{Id}
-use Rattle.ygg_bank.specs.declared.node.Node.{Node}
-use Rattle.ygg_meaning.specs.Layer.{ClosedLayer}
-use Rattle.ygg_meaning.specs.Obligations.{Obligation, name_of}
-use Rattle.ygg_meaning.specs.Refines.{Below}
+use Rattle.ygg_oblige_laws.specs.ygg_rules.declared.rule.RuleKind.{RuleKind}
+use Rattle.ygg_oblige_laws.proofs.of_ygg_bank.Places.{here_or_last, last_is}
+use Rattle.ygg_oblige_laws.specs.ygg_bank_proofs_Widths.{wider}
+use Rattle.ygg_oblige_laws.specs.ygg_bank.Inputs.{InputsBelow}
+use Rattle.ygg_oblige_laws.specs.ygg_bank.Makes.{Out}
+use Rattle.ygg_oblige_laws.specs.ygg_bank.Nodes.{Extends, IsBank}
+use Rattle.ygg_oblige_laws.specs.ygg_bank.declared.node.Id.{Id}
+use Rattle.ygg_oblige_laws.specs.ygg_bank.declared.node.Node.{Node}
+use Rattle.ygg_oblige_laws.specs.ygg_meaning.Layer.{ClosedLayer}
+use Rattle.ygg_oblige_laws.specs.ygg_meaning.Obligations.{Obligation, name_of}
+use Rattle.ygg_oblige_laws.specs.ygg_meaning.Refines.{Below}
 use Rattle.ygg_syntax.specs.declared.tree.Def.{Def}
-use Rattle.ygg_sym_below.proofs.Lows.{low_wider}
-use Rattle.ygg_sym_spec.specs.Layers.{closed, terms_in}
-use Rattle.ygg_sym_spec.specs.declared.layer.SymLayer.{SymLayer}
+use Rattle.ygg_oblige_laws.specs.ygg_sym_below_proofs_Lows.{low_wider}
+use Rattle.ygg_oblige_list.specs.ygg_sym_spec.Layers.{closed, terms_in}
+use Rattle.ygg_oblige_list.specs.ygg_sym_spec.declared.layer.SymLayer.{SymLayer}
 use Rattle.ygg_oblige_kinds.specs.Sites.{below_in}
 use Rattle.ygg_oblige_kinds.specs.SymBelow.{SymBelow}
-use Rattle.ygg_oblige_terms.specs.Layers.{LayerTyped}
-use Rattle.ygg_oblige_terms.specs.Numbers.{Numbers, numbers_of}
-use Rattle.ygg_oblige_terms.specs.States.{Starting}
-use Rattle.ygg_oblige_terms.specs.Terms.{term_made}
+use Rattle.ygg_oblige_laws.specs.ygg_oblige_terms.Layers.{LayerTyped}
+use Rattle.ygg_oblige_laws.specs.ygg_oblige_terms.Numbers.{Numbers, numbers_of}
+use Rattle.ygg_oblige_laws.specs.ygg_oblige_terms.States.{Starting}
+use Rattle.ygg_oblige_laws.specs.ygg_oblige_terms.Terms.{term_made}
 use Rattle.ygg_oblige_laws.proofs.Compares.{comparing_means}
 use Rattle.ygg_oblige_laws.proofs.Fresh.{fresh_means}
 use Rattle.ygg_oblige_laws.proofs.Glued.{glued_means}

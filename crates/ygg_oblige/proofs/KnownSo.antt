@@ -1,17 +1,17 @@
 -- What typing says of the operation that an obligation of a layer speaks of.
 use Rattle.std.proofs.lemmas.List.Elements.{All-nil}
 use Rattle.std.specs.Prelude.{List, []}
-use Rattle.ygg_rules.specs.declared.rule.RuleKind.{RuleKind}
+use Rattle.ygg_oblige_laws.specs.ygg_rules.declared.rule.RuleKind.{RuleKind}
 use Rattle.ygg_syntax.specs.declared.tree.Declared.{Declared}
 use Rattle.ygg_value.specs.Shapes.{IsShape}
-use Rattle.ygg_meaning.specs.Shapes.{shape_in}
-use Rattle.ygg_meaning.specs.Obligations.{Obligation, Init, CallOf, CutOf, TickOf, CutTickOf, Idle, Again}
-use Rattle.ygg_sym_spec.specs.Layers.{closed}
-use Rattle.ygg_sym_spec.specs.declared.layer.SymLayer.{SymLayer}
+use Rattle.ygg_oblige_laws.specs.ygg_meaning.Shapes.{shape_in}
+use Rattle.ygg_oblige_laws.specs.ygg_meaning.Obligations.{Obligation, Init, CallOf, CutOf, TickOf, CutTickOf, Idle, Again}
+use Rattle.ygg_oblige_list.specs.ygg_sym_spec.Layers.{closed}
+use Rattle.ygg_oblige_list.specs.ygg_sym_spec.declared.layer.SymLayer.{SymLayer}
 use Rattle.ygg_oblige_kinds.specs.Sites.{below_in}
 use Rattle.ygg_oblige_kinds.specs.SymBelow.{SymBelow}
-use Rattle.ygg_oblige_terms.specs.Layers.{ShapesKept}
-use Rattle.ygg_oblige_terms.specs.Numbers.{arguments_of}
+use Rattle.ygg_oblige_laws.specs.ygg_oblige_terms.Layers.{ShapesKept}
+use Rattle.ygg_oblige_laws.specs.ygg_oblige_terms.Numbers.{arguments_of}
 use Rattle.ygg_oblige_laws.specs.Steps.{ObligationTyped}
 use Rattle.ygg_oblige.specs.Adding.{KnownAt}
 

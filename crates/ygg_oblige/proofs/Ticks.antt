@@ -6,14 +6,14 @@ use Rattle.std.proofs.lemmas.List.Elements.{All-append, All-cons, All-head, All-
 use Rattle.ygg_syntax.specs.declared.grammar.BlockKind.TheVariants.{Impl}
 use Rattle.ygg_syntax.specs.declared.tree.Operation.{Operation}
 use Rattle.ygg_syntax.specs.declared.tree.Tick.{Tick}
-use Rattle.ygg_meaning.specs.Obligations.{Obligation, Init, CallOf, CutOf, TickOf, CutTickOf, Idle, Again, obligations_of}
-use Rattle.ygg_sym_laws.specs.Below.{signatures_on}
-use Rattle.ygg_sym_laws.specs.Typed.{BlockTyped}
-use Rattle.ygg_sym_spec.specs.Layers.{closed}
-use Rattle.ygg_sym_spec.specs.declared.layer.SymLayer.{SymLayer}
+use Rattle.ygg_oblige_laws.specs.ygg_meaning.Obligations.{Obligation, Init, CallOf, CutOf, TickOf, CutTickOf, Idle, Again, obligations_of}
+use Rattle.ygg_oblige_laws.specs.ygg_sym_laws.Below.{signatures_on}
+use Rattle.ygg_oblige_laws.specs.ygg_sym_laws.Typed.{BlockTyped}
+use Rattle.ygg_oblige_list.specs.ygg_sym_spec.Layers.{closed}
+use Rattle.ygg_oblige_list.specs.ygg_sym_spec.declared.layer.SymLayer.{SymLayer}
 use Rattle.ygg_oblige_kinds.specs.Sites.{below_in}
 use Rattle.ygg_oblige_kinds.specs.SymBelow.{SymBelow}
-use Rattle.ygg_oblige_terms.specs.Layers.{LayerTyped}
+use Rattle.ygg_oblige_laws.specs.ygg_oblige_terms.Layers.{LayerTyped}
 use Rattle.ygg_oblige_kinds.specs.Making.{TickFits}
 
 module _ (l : SymLayer) (g : SymBelow) where

@@ -1,34 +1,34 @@
 -- The layers of a file from the lowest up: those so far, and those that are left.
 use Rattle.std.proofs.Common.{◌≡◌, ◌<◌, ℕ, ◌+◌, List, [], ◌∷◌, ◌++◌, length, drop, get_or, map, slice_get, Some, refl, sym, ap, ◌∙◌, subst}
 use Rattle.std.proofs.lemmas.List.{map-append}
-use Rattle.ygg_rules.specs.declared.rule.RuleKind.{RuleKind}
-use Rattle.ygg_bank.specs.Inputs.{InputsBelow}
-use Rattle.ygg_bank.specs.Makes.{Out}
-use Rattle.ygg_bank.specs.Nodes.{IsBank}
-use Rattle.ygg_bank.specs.declared.node.Id.{Id}
-use Rattle.ygg_bank.specs.declared.node.Node.{Node}
+use Rattle.ygg_oblige_laws.specs.ygg_rules.declared.rule.RuleKind.{RuleKind}
+use Rattle.ygg_oblige_laws.specs.ygg_bank.Inputs.{InputsBelow}
+use Rattle.ygg_oblige_laws.specs.ygg_bank.Makes.{Out}
+use Rattle.ygg_oblige_laws.specs.ygg_bank.Nodes.{IsBank}
+use Rattle.ygg_oblige_laws.specs.ygg_bank.declared.node.Id.{Id}
+use Rattle.ygg_oblige_laws.specs.ygg_bank.declared.node.Node.{Node}
 use Rattle.ygg_syntax.specs.declared.tree.Declared.{Declared}
 use Rattle.ygg_syntax.specs.declared.tree.Def.{Def}
 use Rattle.ygg_syntax.specs.declared.tree.DiskText.{DiskText}
 use Rattle.ygg_syntax.specs.declared.tree.File.{File}
 use Rattle.ygg_syntax.specs.declared.tree.Layer.{Layer}
-use Rattle.ygg_meaning.specs.Layer.{ClosedLayer}
-use Rattle.ygg_meaning.specs.Meaning.{Functions, functions_of}
-use Rattle.ygg_meaning.specs.Obligations.{Obligation, name_of, obligations_of}
-use Rattle.ygg_meaning.specs.Refines.{Below, OnSpec}
-use Rattle.ygg_histories.specs.Claims.{claims_at, claims_of, claims_on}
-use Rattle.ygg_histories.specs.Stack.{Layers, below_of, layers_on, layers_of, tables_of}
-use Rattle.ygg_sym_laws.specs.Means.{terms_of}
-use Rattle.ygg_sym_spec.specs.Layers.{closed}
-use Rattle.ygg_sym_spec.specs.declared.layer.SymLayer.{SymLayer}
+use Rattle.ygg_oblige_laws.specs.ygg_meaning.Layer.{ClosedLayer}
+use Rattle.ygg_oblige_laws.specs.ygg_meaning.Meaning.{Functions, functions_of}
+use Rattle.ygg_oblige_laws.specs.ygg_meaning.Obligations.{Obligation, name_of, obligations_of}
+use Rattle.ygg_oblige_laws.specs.ygg_meaning.Refines.{Below, OnSpec}
+use Rattle.ygg_oblige_laws.specs.ygg_histories.Claims.{claims_at, claims_of, claims_on}
+use Rattle.ygg_oblige_laws.specs.ygg_histories.Stack.{Layers, below_of, layers_on, layers_of, tables_of}
+use Rattle.ygg_oblige_laws.specs.ygg_sym_laws.Means.{terms_of}
+use Rattle.ygg_oblige_list.specs.ygg_sym_spec.Layers.{closed}
+use Rattle.ygg_oblige_list.specs.ygg_sym_spec.declared.layer.SymLayer.{SymLayer}
 use Rattle.ygg_oblige_kinds.specs.Sites.{SameDefs, below_in}
 use Rattle.ygg_oblige_kinds.specs.SymBelow.{SymBelow}
 use Rattle.ygg_oblige_kinds.specs.SymBelow.TheVariants as on
 use Rattle.ygg_oblige_kinds.proofs.Left.{rest_is}
-use Rattle.ygg_oblige_terms.specs.Layers.{LayerTyped}
-use Rattle.ygg_oblige_terms.specs.Meaning.{claim_name}
-use Rattle.ygg_oblige_terms.specs.Terms.{after_layer, after_layers, file_made, layer_made, layers_made}
-use Rattle.ygg_oblige_typed.specs.Layers.{LayersTyped}
+use Rattle.ygg_oblige_laws.specs.ygg_oblige_terms.Layers.{LayerTyped}
+use Rattle.ygg_oblige_laws.specs.ygg_oblige_terms.Meaning.{claim_name}
+use Rattle.ygg_oblige_laws.specs.ygg_oblige_terms.Terms.{after_layer, after_layers, file_made, layer_made, layers_made}
+use Rattle.ygg_oblige_laws.specs.ygg_oblige_typed.Layers.{LayersTyped}
 use Rattle.ygg_oblige_laws.proofs.Whole.{layer_inputs}
 use Rattle.ygg_oblige.specs.Adding.{AddsAsked, after_layer_at, layer_at, names_of}
 use Rattle.ygg_oblige_kinds.specs.Making.{SiteFits}

@@ -1,19 +1,19 @@
 -- Obligations of a layer added in order, in code.
 use Rattle.std.specs.Prelude.{◌≡◌, ℕ, List, [], ◌∷◌, ◌++◌, map}
 use Rattle.ygg_syntax.specs.declared.tree.Layer.{Layer}
-use Rattle.ygg_meaning.specs.Obligations.{Obligation, name_of}
-use Rattle.ygg_rules.specs.declared.rule.RuleKind.{RuleKind}
-use Rattle.ygg_bank.specs.Makes.{Make}
-use Rattle.ygg_bank.specs.declared.node.Id.{Id}
-use Rattle.ygg_sym_spec.specs.Layers.{closed, terms_in}
-use Rattle.ygg_sym_spec.specs.declared.layer.SymLayer.{SymLayer}
+use Rattle.ygg_oblige_laws.specs.ygg_meaning.Obligations.{Obligation, name_of}
+use Rattle.ygg_oblige_laws.specs.ygg_rules.declared.rule.RuleKind.{RuleKind}
+use Rattle.ygg_oblige_laws.specs.ygg_bank.Makes.{Make}
+use Rattle.ygg_oblige_laws.specs.ygg_bank.declared.node.Id.{Id}
+use Rattle.ygg_oblige_list.specs.ygg_sym_spec.Layers.{closed, terms_in}
+use Rattle.ygg_oblige_list.specs.ygg_sym_spec.declared.layer.SymLayer.{SymLayer}
 use Rattle.ygg_oblige_kinds.specs.Sites.{below_in}
 use Rattle.ygg_oblige_kinds.specs.SymBelow.{SymBelow}
 use Rattle.ygg_oblige_kinds.specs.Making.{TickFits}
 use Rattle.ygg_oblige_laws.specs.ObligationMeans.{ObligationKnown}
-use Rattle.ygg_oblige_terms.specs.Numbers.{numbers_of}
-use Rattle.ygg_oblige_terms.specs.States.{Starting}
-use Rattle.ygg_oblige_terms.specs.Terms.{after_all, after_layer, layer_made, term_made, terms_made}
+use Rattle.ygg_oblige_laws.specs.ygg_oblige_terms.Numbers.{numbers_of}
+use Rattle.ygg_oblige_laws.specs.ygg_oblige_terms.States.{Starting}
+use Rattle.ygg_oblige_laws.specs.ygg_oblige_terms.Terms.{after_all, after_layer, layer_made, term_made, terms_made}
 use Rattle.ygg_oblige_list.specs.Listing.{IsNumberIn}
 use Rattle.ygg_oblige.specs.Kinds.{kind_in}
 use Rattle.ygg_oblige.specs.declared.obligation.Obligation as code

@@ -1,5 +1,5 @@
 -- What an obligation asks.
-use Rattle.ygg_meaning.specs.Obligations.{Obligation, Init, CallOf, CutOf, TickOf, CutTickOf, Idle, Again}
+use Rattle.ygg_oblige_laws.specs.ygg_meaning.Obligations.{Obligation, Init, CallOf, CutOf, TickOf, CutTickOf, Idle, Again}
 use Rattle.ygg_oblige.specs.declared.obligation.Kind.{Kind}
 use Rattle.ygg_oblige.specs.declared.obligation.Kind.TheVariants as kind
 

@@ -1,23 +1,21 @@
 //! The obligations of a file, with their terms.
 
 ghost use Rattle.std.specs.Prelude.{◌≡◌, codes, [], map, IfOk, OnOk};
-ghost use Rattle.ygg_bank.specs.Nodes.{IsBank};
-ghost use Rattle.ygg_histories.specs.Claims.{claims_of};
-ghost use Rattle.ygg_histories.specs.Stack.{layers_of, table_named, tables_of};
-ghost use Rattle.ygg_oblige_terms.specs.Meaning.{claim_name};
-ghost use Rattle.ygg_oblige_terms.specs.Terms.{file_made};
-ghost use Rattle.ygg_oblige_typed.specs.Layers.{LayersTyped};
+ghost use Rattle.ygg_oblige_laws.specs.ygg_bank.Nodes.{IsBank};
+ghost use Rattle.ygg_oblige_laws.specs.ygg_histories.Claims.{claims_of};
+ghost use Rattle.ygg_oblige_laws.specs.ygg_histories.Stack.{layers_of, table_named, tables_of};
+ghost use Rattle.ygg_oblige_laws.specs.ygg_oblige_terms.Meaning.{claim_name};
+ghost use Rattle.ygg_oblige_laws.specs.ygg_oblige_terms.Terms.{file_made};
+ghost use Rattle.ygg_oblige_laws.specs.ygg_oblige_typed.Layers.{LayersTyped};
 ghost use Rattle.ygg_oblige.specs.Obligations.{AreClaims, ArePlaced, names_in, terms_in};
 
 use crate::layers::add_layer;
 use crate::obligation::Obligations;
 use std::alloc::Global;
-use ygg_bank::{Bank, NoMemory};
 use ygg_base::{DiskKind, Text};
 use ygg_oblige_kinds::{Maker, SymBelow};
-use ygg_oblige_list::place_of;
-use ygg_rules::Book;
-use ygg_sym_spec::SymLayer;
+use ygg_oblige_laws::{Bank, Book, NoMemory};
+use ygg_oblige_list::{SymLayer, place_of};
 use ygg_syntax::tree::{Declared, DiskText, File, Name, Place, TypeText};
 
 /// A table of the disk's size, as if it were declared. Its only error is out of memory.

@@ -1,11 +1,11 @@
 //! The obligations of a layer, with their terms.
 
 ghost use Rattle.std.specs.Prelude.{◌≡◌, ◌+◌, ◌∷◌, ◌++◌, [], All, IfOk, OnOk};
-ghost use Rattle.ygg_bank.specs.Inputs.{InputsBelow};
-ghost use Rattle.ygg_bank.specs.Nodes.{Extends, IsBank};
-ghost use Rattle.ygg_meaning.specs.Obligations.{name_of, obligations_of};
-ghost use Rattle.ygg_sym_spec.specs.Layers.{closed};
-ghost use Rattle.ygg_oblige_terms.specs.States.{state_words};
+ghost use Rattle.ygg_oblige_laws.specs.ygg_bank.Inputs.{InputsBelow};
+ghost use Rattle.ygg_oblige_laws.specs.ygg_bank.Nodes.{Extends, IsBank};
+ghost use Rattle.ygg_oblige_laws.specs.ygg_meaning.Obligations.{name_of, obligations_of};
+ghost use Rattle.ygg_oblige_list.specs.ygg_sym_spec.Layers.{closed};
+ghost use Rattle.ygg_oblige_laws.specs.ygg_oblige_terms.States.{state_words};
 ghost use Rattle.ygg_oblige_kinds.specs.Makers.{StartingShaped, starting_of};
 ghost use Rattle.ygg_oblige_kinds.specs.Steps.{obligation_of};
 ghost use Rattle.ygg_oblige.specs.Adding.{
@@ -26,10 +26,9 @@ ghost use Rattle.ygg_oblige.specs.Obligations.{ArePlaced, names_in, terms_in};
 
 use crate::names::name_of;
 use crate::obligation::{Kind, Obligation, Obligations};
-use ygg_bank::{Bank, NoMemory};
 use ygg_oblige_kinds::{Maker, SymObligation, SymStarting, numbers_of, term, words_in};
+use ygg_oblige_laws::{Bank, Book, NoMemory};
 use ygg_oblige_list::{Asked, asked_of};
-use ygg_rules::Book;
 
 /// What an obligation asks.
 fn kind_of(obligation: SymObligation<'_>) -> Kind

@@ -2,10 +2,10 @@
 #![tactic(auto)]
 
 ghost use Rattle.std.specs.Prelude.{◌≡◌, [], map, IfOk, OnOk};
-ghost use Rattle.ygg_bank.specs.Nodes.{IsBank};
-ghost use Rattle.ygg_histories.specs.Claims.{claims_of};
-ghost use Rattle.ygg_oblige_terms.specs.Terms.{file_made};
-ghost use Rattle.ygg_oblige_terms.specs.Meaning.{AreTermsIn, claim_name};
+ghost use Rattle.ygg_oblige_laws.specs.ygg_bank.Nodes.{IsBank};
+ghost use Rattle.ygg_oblige_laws.specs.ygg_histories.Claims.{claims_of};
+ghost use Rattle.ygg_oblige_laws.specs.ygg_oblige_terms.Terms.{file_made};
+ghost use Rattle.ygg_oblige_laws.specs.ygg_oblige_terms.Meaning.{AreTermsIn, claim_name};
 ghost use Rattle.ygg_oblige.specs.Obligations.{AreClaims, ArePlaced, names_in, terms_in};
 
 mod file;
@@ -18,9 +18,11 @@ pub use layers::after_states;
 pub use names::name_of;
 pub use obligation::{Kind, Obligation, Obligations};
 use std::alloc::Global;
-use ygg_bank::{Bank, NoMemory};
 pub use ygg_oblige_kinds::{Maker, SymBelow, SymNumbers, SymObligation, numbers_of, words_in};
-use ygg_rules::Book;
+use ygg_oblige_laws::{Bank, Book, NoMemory};
+pub use ygg_oblige_list::{
+    SymBlock, SymLayer, SymPicks, block, cut, failure_room, lost, places, run, zeros,
+};
 use ygg_type::Typed;
 
 /// The obligations of a file in order, and their terms, made in a bank without nodes. Its only error is out of memory, after which the bank may

@@ -1,6 +1,6 @@
-use ygg_bank::Id;
 use ygg_base::Text;
 use ygg_list::Sequence;
+use ygg_oblige_laws::Id;
 
 /// What an obligation asks of a layer.
 #[derive(Clone, Copy, PartialEq, Eq, Drop)]

@@ -31,8 +31,8 @@ use Rattle.std.proofs.Common.{
 use Rattle.std.specs.Prelude.{Any, length, unwrap_or}
 use Rattle.std.proofs.lemmas.Bool.Decides.{nat_tests}
 use Rattle.std.proofs.lemmas.List.Elements.{All-nil, All-cons, All-head, All-tail}
-use Rattle.ygg_cnf.specs.declared.lit.Lit.{Lit}
-use Rattle.ygg_cnf.specs.Literals.{Satisfies, SatisfiesClause, SatisfiesAll}
+use Rattle.ygg_decide.specs.ygg_cnf.declared.lit.Lit.{Lit}
+use Rattle.ygg_decide.specs.ygg_cnf.Literals.{Satisfies, SatisfiesClause, SatisfiesAll}
 
 any_here : (P : Lit → Type 0) (x : Lit) (xs : List Lit) → P x → Any P (x ∷ xs)
 any_here P x xs p = (zero, x, omega arith, refl, p)

@@ -5,15 +5,15 @@ use Rattle.std.specs.Prelude.{slice_get, length}
 use Rattle.std.proofs.lemmas.Bool.Decides.{nat_tests}
 use Rattle.ygg_value.specs.Number.{Number}
 use Rattle.ygg_value.specs.Words.{word}
-use Rattle.ygg_bank.specs.Nodes.{InOrder}
-use Rattle.ygg_bank.specs.Values.{Inputs, InputsFit, EnvFits, value_of, values_after, reading, node_value, given_for, bits_or_zero, inputs_of}
-use Rattle.ygg_bank.specs.declared.env.Given.{Given}
-use Rattle.ygg_bank.specs.declared.env.Given.TheVariants as given
-use Rattle.ygg_bank.specs.declared.node.Id.{Id}
-use Rattle.ygg_bank.specs.declared.node.Node.{Node}
-use Rattle.ygg_bank.specs.declared.node.Node.TheVariants.{Input, Const, Bin, Not, Resize, Pick}
-use Rattle.ygg_gates_meaning.specs.Laws.{IsZeroIn}
-use Rattle.ygg_oblige_terms.specs.Meaning.{Refuting}
+use Rattle.ygg_decide.specs.ygg_bank.Nodes.{InOrder}
+use Rattle.ygg_decide.specs.ygg_bank.Values.{Inputs, InputsFit, EnvFits, value_of, values_after, reading, node_value, given_for, bits_or_zero, inputs_of}
+use Rattle.ygg_decide.specs.ygg_bank.declared.env.Given.{Given}
+use Rattle.ygg_decide.specs.ygg_bank.declared.env.Given.TheVariants as given
+use Rattle.ygg_decide.specs.ygg_bank.declared.node.Id.{Id}
+use Rattle.ygg_decide.specs.ygg_bank.declared.node.Node.{Node}
+use Rattle.ygg_decide.specs.ygg_bank.declared.node.Node.TheVariants.{Input, Const, Bin, Not, Resize, Pick}
+use Rattle.ygg_decide.specs.ygg_gates_meaning.Laws.{IsZeroIn}
+use Rattle.ygg_oblige_pieces.specs.ygg_oblige_terms.Meaning.{Refuting}
 use Rattle.ygg_oblige_pieces.proofs.Glued.{one_width}
 
 -- the words of the inputs among nodes, in order

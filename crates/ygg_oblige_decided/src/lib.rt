@@ -2,3 +2,6 @@
 #![tactic(auto)]
 
 pub mod law;
+
+pub use ygg_decide::{Bank, Book, Decided, Env, Id, clauses_mean_terms, clauses_of, decide};
+pub use ygg_oblige_pieces::{refines_by_list, typed_histories};

@@ -1,15 +1,15 @@
 -- Ends of runs, compared.
 use Rattle.std.proofs.Common.{◌≡◌, List, [], Option, Some, None, sym, subst}
 use Rattle.ygg_syntax.specs.declared.tree.Declared.{Declared}
-use Rattle.ygg_bank.specs.Nodes.{Extends}
-use Rattle.ygg_bank.specs.declared.node.Node.{Node}
-use Rattle.ygg_shape.specs.Wholes.{AllAlike}
-use Rattle.ygg_shape_cells.specs.declared.terms.SymValue.{SymValue}
-use Rattle.ygg_sym_below.proofs.Lows.{low_wider}
-use Rattle.ygg_sym_below.specs.Lows.{LowShaped}
-use Rattle.ygg_sym_disk.proofs.Asked.{lows_alike}
-use Rattle.ygg_sym_expr.proofs.Shaped.{some_wider}
-use Rattle.ygg_sym_runs.specs.Meaning.{AnswerShaped}
+use Rattle.ygg_oblige_parts.specs.ygg_bank.Nodes.{Extends}
+use Rattle.ygg_oblige_parts.specs.ygg_bank.declared.node.Node.{Node}
+use Rattle.ygg_oblige_parts.specs.ygg_shape.Wholes.{AllAlike}
+use Rattle.ygg_oblige_parts.specs.ygg_shape_cells.declared.terms.SymValue.{SymValue}
+use Rattle.ygg_oblige_parts.specs.ygg_sym_below_proofs_Lows.{low_wider}
+use Rattle.ygg_oblige_parts.specs.ygg_sym_below.Lows.{LowShaped}
+use Rattle.ygg_oblige_parts.proofs.of_ygg_sym_disk.Asked.{lows_alike}
+use Rattle.ygg_oblige_parts.specs.ygg_sym_expr_proofs_Shaped.{some_wider}
+use Rattle.ygg_oblige_parts.specs.ygg_sym_runs.Meaning.{AnswerShaped}
 use Rattle.ygg_oblige_parts.specs.SymLayer.{SymLayer}
 use Rattle.ygg_oblige_parts.specs.SymEnd.{SymEnd}
 use Rattle.ygg_oblige_kinds.specs.Making.{EndShaped}

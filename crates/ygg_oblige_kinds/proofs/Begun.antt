@@ -1,25 +1,25 @@
 -- What an obligation's term begins with.
 use Rattle.std.proofs.Common.{◌≡◌, ◌+◌, ◌<◌, ◌≤◌, ◌^◌, ℕ, List, sym, ap, ◌∙◌, subst}
 use Rattle.ygg_syntax.specs.declared.tree.Declared.{Declared}
-use Rattle.ygg_meaning.specs.Layer.{ClosedLayer}
-use Rattle.ygg_meaning.specs.Obligations.{Obligation}
-use Rattle.ygg_meaning.specs.Refines.{Below}
-use Rattle.ygg_bank.proofs.Widths.{wider}
-use Rattle.ygg_bank.specs.Inputs.{InputsBelow}
-use Rattle.ygg_bank.specs.Nodes.{Extends}
-use Rattle.ygg_bank.specs.declared.node.Node.{Node}
-use Rattle.ygg_shape_cells.specs.declared.terms.SymValue.{SymValue}
-use Rattle.ygg_sym_below.proofs.Lows.{low_wider}
-use Rattle.ygg_sym_below.specs.Lows.{LowShaped}
-use Rattle.ygg_sym_runs.proofs.Singles.{below_single, single_less}
-use Rattle.ygg_sym_runs.specs.Lower.{SingleFrom}
+use Rattle.ygg_oblige_parts.specs.ygg_meaning.Layer.{ClosedLayer}
+use Rattle.ygg_oblige_parts.specs.ygg_meaning.Obligations.{Obligation}
+use Rattle.ygg_oblige_parts.specs.ygg_meaning.Refines.{Below}
+use Rattle.ygg_oblige_parts.specs.ygg_bank_proofs_Widths.{wider}
+use Rattle.ygg_oblige_parts.specs.ygg_bank.Inputs.{InputsBelow}
+use Rattle.ygg_oblige_parts.specs.ygg_bank.Nodes.{Extends}
+use Rattle.ygg_oblige_parts.specs.ygg_bank.declared.node.Node.{Node}
+use Rattle.ygg_oblige_parts.specs.ygg_shape_cells.declared.terms.SymValue.{SymValue}
+use Rattle.ygg_oblige_parts.specs.ygg_sym_below_proofs_Lows.{low_wider}
+use Rattle.ygg_oblige_parts.specs.ygg_sym_below.Lows.{LowShaped}
+use Rattle.ygg_oblige_parts.proofs.of_ygg_sym_runs.Singles.{below_single, single_less}
+use Rattle.ygg_oblige_parts.specs.ygg_sym_runs.Lower.{SingleFrom}
 use Rattle.ygg_oblige_parts.specs.Layers.{closed}
 use Rattle.ygg_oblige_parts.specs.SymLayer.{SymLayer}
 use Rattle.ygg_oblige_parts.specs.Sites.{below_in}
 use Rattle.ygg_oblige_parts.specs.SymBelow.{SymBelow}
-use Rattle.ygg_oblige_terms.specs.Numbers.{Numbers, arguments_of, numbers_of}
-use Rattle.ygg_oblige_terms.specs.Layers.{ShapesKept}
-use Rattle.ygg_oblige_terms.specs.States.{Starting, words_in}
+use Rattle.ygg_oblige_parts.specs.ygg_oblige_terms.Numbers.{Numbers, arguments_of, numbers_of}
+use Rattle.ygg_oblige_parts.specs.ygg_oblige_terms.Layers.{ShapesKept}
+use Rattle.ygg_oblige_parts.specs.ygg_oblige_terms.States.{Starting, words_in}
 use Rattle.ygg_oblige_parts.specs.ObligePiecesSteps.{HasStep, ObligationTyped, variables_of}
 use Rattle.ygg_oblige_parts.specs.Makers.{StartingShaped}
 use Rattle.ygg_oblige_kinds.specs.Making.{CanBegin, CanOblige, SiteFits, TickFits}

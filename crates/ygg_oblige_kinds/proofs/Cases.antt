@@ -4,24 +4,24 @@ use Rattle.std.proofs.lemmas.List.Elements.{All-nil}
 use Rattle.ygg_value.specs.Shapes.{IsShape}
 use Rattle.ygg_syntax.specs.declared.tree.Declared.{Declared}
 use Rattle.ygg_syntax.specs.declared.tree.Def.{Def}
-use Rattle.ygg_meaning.specs.Shapes.{shape_in}
-use Rattle.ygg_meaning.specs.Layer.{ClosedLayer}
-use Rattle.ygg_meaning.specs.Obligations.{Obligation, Init, CallOf, CutOf, TickOf, CutTickOf, Idle, Again}
-use Rattle.ygg_meaning.specs.Refines.{Below}
-use Rattle.ygg_rules.specs.declared.rule.RuleKind.{RuleKind}
-use Rattle.ygg_bank.specs.Inputs.{InputsBelow}
-use Rattle.ygg_bank.specs.Makes.{Make}
-use Rattle.ygg_bank.specs.declared.node.Id.{Id}
-use Rattle.ygg_bank.specs.declared.node.Node.{Node}
-use Rattle.ygg_sym_runs.specs.Lower.{SingleFrom}
+use Rattle.ygg_oblige_parts.specs.ygg_meaning.Shapes.{shape_in}
+use Rattle.ygg_oblige_parts.specs.ygg_meaning.Layer.{ClosedLayer}
+use Rattle.ygg_oblige_parts.specs.ygg_meaning.Obligations.{Obligation, Init, CallOf, CutOf, TickOf, CutTickOf, Idle, Again}
+use Rattle.ygg_oblige_parts.specs.ygg_meaning.Refines.{Below}
+use Rattle.ygg_oblige_parts.specs.ygg_rules.declared.rule.RuleKind.{RuleKind}
+use Rattle.ygg_oblige_parts.specs.ygg_bank.Inputs.{InputsBelow}
+use Rattle.ygg_oblige_parts.specs.ygg_bank.Makes.{Make}
+use Rattle.ygg_oblige_parts.specs.ygg_bank.declared.node.Id.{Id}
+use Rattle.ygg_oblige_parts.specs.ygg_bank.declared.node.Node.{Node}
+use Rattle.ygg_oblige_parts.specs.ygg_sym_runs.Lower.{SingleFrom}
 use Rattle.ygg_oblige_parts.specs.Layers.{closed, terms_in}
 use Rattle.ygg_oblige_parts.specs.SymLayer.{SymLayer}
 use Rattle.ygg_oblige_parts.specs.Sites.{below_in}
 use Rattle.ygg_oblige_parts.specs.SymBelow.{SymBelow}
-use Rattle.ygg_oblige_terms.specs.Numbers.{Numbers, arguments_of, numbers_of}
-use Rattle.ygg_oblige_terms.specs.Layers.{ShapesKept}
-use Rattle.ygg_oblige_terms.specs.States.{Starting}
-use Rattle.ygg_oblige_terms.specs.Terms.{term_made}
+use Rattle.ygg_oblige_parts.specs.ygg_oblige_terms.Numbers.{Numbers, arguments_of, numbers_of}
+use Rattle.ygg_oblige_parts.specs.ygg_oblige_terms.Layers.{ShapesKept}
+use Rattle.ygg_oblige_parts.specs.ygg_oblige_terms.States.{Starting}
+use Rattle.ygg_oblige_parts.specs.ygg_oblige_terms.Terms.{term_made}
 use Rattle.ygg_oblige_parts.specs.ObligePiecesSteps.{HasStep, ObligationTyped, variables_of}
 use Rattle.ygg_oblige_parts.specs.Makers.{StartingShaped}
 use Rattle.ygg_oblige_parts.specs.Steps.{obligation_of}

@@ -2,12 +2,12 @@
 use Rattle.std.proofs.Common.{◌≡◌, ℕ, List, sym, subst, arith}
 use Rattle.ygg_syntax.specs.declared.tree.Block.{Block}
 use Rattle.ygg_syntax.specs.declared.tree.Declared.{Declared}
-use Rattle.ygg_meaning.specs.Obligations.{Obligation, Init, CallOf, CutOf, TickOf, CutTickOf, Idle, Again}
-use Rattle.ygg_meaning.specs.Layer.{ClosedLayer}
-use Rattle.ygg_meaning.specs.Refines.{Below}
-use Rattle.ygg_bank.specs.Values.{Inputs, Values, Fits}
-use Rattle.ygg_bank.specs.declared.node.Node.{Node}
-use Rattle.ygg_sym_runs.specs.Meaning.{answer_worth}
+use Rattle.ygg_oblige_parts.specs.ygg_meaning.Obligations.{Obligation, Init, CallOf, CutOf, TickOf, CutTickOf, Idle, Again}
+use Rattle.ygg_oblige_parts.specs.ygg_meaning.Layer.{ClosedLayer}
+use Rattle.ygg_oblige_parts.specs.ygg_meaning.Refines.{Below}
+use Rattle.ygg_oblige_parts.specs.ygg_bank.Values.{Inputs, Values, Fits}
+use Rattle.ygg_oblige_parts.specs.ygg_bank.declared.node.Node.{Node}
+use Rattle.ygg_oblige_parts.specs.ygg_sym_runs.Meaning.{answer_worth}
 use Rattle.ygg_oblige_parts.specs.Layers.{closed}
 use Rattle.ygg_oblige_parts.specs.SymLayer.{SymLayer}
 use Rattle.ygg_oblige_parts.specs.Running.{EndStands}
@@ -15,7 +15,7 @@ use Rattle.ygg_oblige_parts.specs.Sites.{BelowFits, below_in}
 use Rattle.ygg_oblige_parts.specs.SymBelow.{SymBelow}
 use Rattle.ygg_oblige_parts.specs.SymBlock.{SymBlock}
 use Rattle.ygg_oblige_parts.specs.SymEnd.{SymEnd}
-use Rattle.ygg_oblige_terms.specs.Numbers.{Numbers, arguments_of, block_of, numbers_of}
+use Rattle.ygg_oblige_parts.specs.ygg_oblige_terms.Numbers.{Numbers, arguments_of, block_of, numbers_of}
 use Rattle.ygg_oblige_parts.specs.ObligePiecesSteps.{AnswerKept, ObligationTyped}
 use Rattle.ygg_oblige_parts.specs.Passing.{answered}
 use Rattle.ygg_oblige_kinds.specs.Making.{AfterRun, BlockFits, SiteFits, TickFits}

@@ -3,27 +3,27 @@ use Rattle.std.specs.Prelude.{◌≡◌, ◌≤◌, ◌+◌, ℕ, IsTrue, List, 
 use Rattle.ygg_syntax.specs.declared.grammar.BlockKind.TheVariants.{Impl}
 use Rattle.ygg_syntax.specs.declared.tree.Block.{Block}
 use Rattle.ygg_syntax.specs.declared.tree.Declared.{Declared}
-use Rattle.ygg_meaning.specs.Obligations.{Obligation, Init, CallOf, CutOf, TickOf, CutTickOf, Idle, Again}
-use Rattle.ygg_type_progress.specs.Blocks.{is_returned}
-use Rattle.ygg_bank.specs.Inputs.{InputsBelow}
-use Rattle.ygg_bank.specs.Nodes.{HasWidth}
-use Rattle.ygg_bank.specs.Values.{Values}
-use Rattle.ygg_bank.specs.declared.node.Id.{Id}
-use Rattle.ygg_bank.specs.declared.node.Node.{Node}
-use Rattle.ygg_shape_cells.specs.declared.terms.SymValue.{SymValue}
-use Rattle.ygg_sym_runs.specs.Lower.{SingleFrom}
-use Rattle.ygg_sym_runs.specs.Meaning.{AnswerShaped, answer_worth}
-use Rattle.ygg_sym_below.specs.Lows.{LowShaped}
-use Rattle.ygg_sym_laws.specs.Below.{signatures_on}
-use Rattle.ygg_sym_laws.specs.Typed.{BlockTyped}
+use Rattle.ygg_oblige_parts.specs.ygg_meaning.Obligations.{Obligation, Init, CallOf, CutOf, TickOf, CutTickOf, Idle, Again}
+use Rattle.ygg_oblige_parts.specs.ygg_type_progress.Blocks.{is_returned}
+use Rattle.ygg_oblige_parts.specs.ygg_bank.Inputs.{InputsBelow}
+use Rattle.ygg_oblige_parts.specs.ygg_bank.Nodes.{HasWidth}
+use Rattle.ygg_oblige_parts.specs.ygg_bank.Values.{Values}
+use Rattle.ygg_oblige_parts.specs.ygg_bank.declared.node.Id.{Id}
+use Rattle.ygg_oblige_parts.specs.ygg_bank.declared.node.Node.{Node}
+use Rattle.ygg_oblige_parts.specs.ygg_shape_cells.declared.terms.SymValue.{SymValue}
+use Rattle.ygg_oblige_parts.specs.ygg_sym_runs.Lower.{SingleFrom}
+use Rattle.ygg_oblige_parts.specs.ygg_sym_runs.Meaning.{AnswerShaped, answer_worth}
+use Rattle.ygg_oblige_parts.specs.ygg_sym_below.Lows.{LowShaped}
+use Rattle.ygg_oblige_parts.specs.ygg_sym_laws.Below.{signatures_on}
+use Rattle.ygg_oblige_parts.specs.ygg_sym_laws.Typed.{BlockTyped}
 use Rattle.ygg_oblige_parts.specs.Layers.{closed}
 use Rattle.ygg_oblige_parts.specs.SymLayer.{SymLayer}
 use Rattle.ygg_oblige_parts.specs.Sites.{SameDefs, below_in}
 use Rattle.ygg_oblige_parts.specs.SymBelow.{SymBelow}
 use Rattle.ygg_oblige_parts.specs.SymEnd.{SymEnd}
-use Rattle.ygg_oblige_terms.specs.Layers.{ShapesKept}
-use Rattle.ygg_oblige_terms.specs.Numbers.{Numbers, arguments_of, block_of}
-use Rattle.ygg_oblige_terms.specs.States.{Starting, words_in}
+use Rattle.ygg_oblige_parts.specs.ygg_oblige_terms.Layers.{ShapesKept}
+use Rattle.ygg_oblige_parts.specs.ygg_oblige_terms.Numbers.{Numbers, arguments_of, block_of}
+use Rattle.ygg_oblige_parts.specs.ygg_oblige_terms.States.{Starting, words_in}
 use Rattle.ygg_oblige_parts.specs.ObligePiecesSteps.{AnswerKept, HasStep, ObligationTyped, variables_of}
 use Rattle.ygg_oblige_parts.specs.Makers.{LayerFits, StartingShaped}
 use Rattle.ygg_oblige_parts.specs.Passing.{answered}

@@ -1,24 +1,24 @@
 -- Parts of obligations' terms, as code makes them.
 use Rattle.std.specs.Prelude.{List, []}
 use Rattle.ygg_value.specs.declared.operation.Op.TheVariants.{And}
-use Rattle.ygg_meaning.specs.Obligations.{Obligation, Idle}
-use Rattle.ygg_rules.specs.declared.rule.RuleKind.{RuleKind}
-use Rattle.ygg_bank.specs.Makes.{Make, and_make}
-use Rattle.ygg_bank.specs.Making.{made}
-use Rattle.ygg_bank.specs.declared.node.Id.{Id}
-use Rattle.ygg_bank.specs.declared.node.Node.TheVariants.{Bin}
-use Rattle.ygg_shape_cells.specs.declared.terms.SymValue.{SymValue}
-use Rattle.ygg_sym_below.specs.StopTerms.{SymFallen}
-use Rattle.ygg_sym_laws.specs.Below.{zeros_made, lost_made}
-use Rattle.ygg_sym_laws.specs.Means.{values_in}
+use Rattle.ygg_oblige_parts.specs.ygg_meaning.Obligations.{Obligation, Idle}
+use Rattle.ygg_oblige_parts.specs.ygg_rules.declared.rule.RuleKind.{RuleKind}
+use Rattle.ygg_oblige_parts.specs.ygg_bank.Makes.{Make, and_make}
+use Rattle.ygg_oblige_parts.specs.ygg_bank.Making.{made}
+use Rattle.ygg_oblige_parts.specs.ygg_bank.declared.node.Id.{Id}
+use Rattle.ygg_oblige_parts.specs.ygg_bank.declared.node.Node.TheVariants.{Bin}
+use Rattle.ygg_oblige_parts.specs.ygg_shape_cells.declared.terms.SymValue.{SymValue}
+use Rattle.ygg_oblige_parts.specs.ygg_sym_below.StopTerms.{SymFallen}
+use Rattle.ygg_oblige_parts.specs.ygg_sym_laws.Below.{zeros_made, lost_made}
+use Rattle.ygg_oblige_parts.specs.ygg_sym_laws.Means.{values_in}
 use Rattle.ygg_oblige_parts.specs.Layers.{closed, terms_in}
 use Rattle.ygg_oblige_parts.specs.SymLayer.{SymLayer}
 use Rattle.ygg_oblige_parts.specs.Sites.{below_in}
 use Rattle.ygg_oblige_parts.specs.SymBelow.{SymBelow}
 use Rattle.ygg_oblige_parts.specs.SymEnd.{SymEnd}
-use Rattle.ygg_oblige_terms.specs.Numbers.{Numbers, arguments_of, block_of}
-use Rattle.ygg_oblige_terms.specs.States.{Starting, fresh_all, all_compared, settled_made}
-use Rattle.ygg_oblige_terms.specs.Terms.{cut_short, falls_through, recovered, recovers, runs_through}
+use Rattle.ygg_oblige_parts.specs.ygg_oblige_terms.Numbers.{Numbers, arguments_of, block_of}
+use Rattle.ygg_oblige_parts.specs.ygg_oblige_terms.States.{Starting, fresh_all, all_compared, settled_made}
+use Rattle.ygg_oblige_parts.specs.ygg_oblige_terms.Terms.{cut_short, falls_through, recovered, recovers, runs_through}
 
 module _ (kinds : List RuleKind) where
   -- whether two runs leave the same memory and the same state below

@@ -1,16 +1,15 @@
 //! Which inputs an obligation has.
 
 ghost use Rattle.std.specs.Prelude.{◌≡◌, ◌+◌, IfOk};
-ghost use Rattle.ygg_oblige_terms.specs.Numbers.{arguments_of, block_of, numbers_from, numbers_of};
-ghost use Rattle.ygg_meaning.specs.Layer.{ClosedLayer};
+ghost use Rattle.ygg_oblige_parts.specs.ygg_oblige_terms.Numbers.{arguments_of, block_of, numbers_from, numbers_of};
+ghost use Rattle.ygg_oblige_parts.specs.ygg_meaning.Layer.{ClosedLayer};
 ghost use Rattle.ygg_oblige_parts.specs.Sites.{below_in};
 ghost use Rattle.ygg_oblige_parts.specs.Layers.{closed};
-ghost use Rattle.ygg_oblige_terms.specs.Layers.{ShapesKept};
+ghost use Rattle.ygg_oblige_parts.specs.ygg_oblige_terms.Layers.{ShapesKept};
 ghost use Rattle.ygg_oblige_parts.specs.Steps.{obligation_of};
 ghost use Rattle.ygg_oblige_kinds.specs.Numbering.{numbers_in};
 
-use ygg_bank::NoMemory;
-use ygg_oblige_parts::{Maker, SymObligation, failure_room, places, words_in};
+use ygg_oblige_parts::{Maker, NoMemory, SymObligation, failure_room, places, words_in};
 use ygg_syntax::tree::{Block, Declared, Layer};
 
 /// Where the inputs of an obligation begin: those of its arguments, of the run's picks, of its stops, of the failure's picks, of the recovery's

@@ -1,15 +1,15 @@
 //! The terms of obligations.
 
 ghost use Rattle.std.specs.Prelude.{◌≡◌, ◌≤◌, [], IfOk, OnOk};
-ghost use Rattle.ygg_bank.specs.Inputs.{InputsBelow};
-ghost use Rattle.ygg_bank.specs.Nodes.{Extends, HasWidth, IsBank};
-ghost use Rattle.ygg_sym_below.specs.Lows.{LowShaped};
-ghost use Rattle.ygg_sym_runs.specs.Lower.{KeepsSingle, SingleFrom};
+ghost use Rattle.ygg_oblige_parts.specs.ygg_bank.Inputs.{InputsBelow};
+ghost use Rattle.ygg_oblige_parts.specs.ygg_bank.Nodes.{Extends, HasWidth, IsBank};
+ghost use Rattle.ygg_oblige_parts.specs.ygg_sym_below.Lows.{LowShaped};
+ghost use Rattle.ygg_oblige_parts.specs.ygg_sym_runs.Lower.{KeepsSingle, SingleFrom};
 ghost use Rattle.ygg_oblige_parts.specs.Layers.{closed, terms_in};
 ghost use Rattle.ygg_oblige_parts.specs.Running.{CutIs, EndIs};
 ghost use Rattle.ygg_oblige_parts.specs.Sites.{below_in};
-ghost use Rattle.ygg_oblige_terms.specs.Numbers.{numbers_of};
-ghost use Rattle.ygg_oblige_terms.specs.Terms.{formats, recovered, recovers, recovers_again, term_made};
+ghost use Rattle.ygg_oblige_parts.specs.ygg_oblige_terms.Numbers.{numbers_of};
+ghost use Rattle.ygg_oblige_parts.specs.ygg_oblige_terms.Terms.{formats, recovered, recovers, recovers_again, term_made};
 ghost use Rattle.ygg_oblige_parts.specs.ObligePiecesSteps.{ObligationTyped};
 ghost use Rattle.ygg_oblige_parts.specs.Makers.{StartingShaped, starting_of};
 ghost use Rattle.ygg_oblige_parts.specs.Passing.{StepFits, some_in};
@@ -19,13 +19,10 @@ ghost use Rattle.ygg_oblige_kinds.specs.Numbering.{numbers_in};
 ghost use Rattle.ygg_oblige_kinds.specs.Parts.{cut_term, idles, recovers_alike, recovery_cut, runs_through_in, falls_through_in, same_ends, whole_term};
 
 use crate::numbers::{SymNumbers, arguments_of, block_of};
-use ygg_bank::{Bank, Id, NoMemory};
 use ygg_oblige_parts::{
-    Maker, SymBlock, SymCut, SymEnd, SymObligation, SymStarting, SymStep, all_equal, cut, fresh,
-    join, lost, low_at_start, run, zeros,
+    Bank, Book, Id, Maker, NoMemory, SymBlock, SymCut, SymEnd, SymObligation, SymStarting, SymStep,
+    SymValues, all_equal, cut, fresh, join, lost, low_at_start, run, zeros,
 };
-use ygg_rules::Book;
-use ygg_shape_cells::SymValues;
 use ygg_value::Op;
 
 /// Whether the specification's step passes after a run that has ended so. Inputs of the bank from the given number on are single digits.

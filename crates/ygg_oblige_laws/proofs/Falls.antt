@@ -6,28 +6,28 @@ use Rattle.ygg_value.specs.declared.shape.Shape.{Shape}
 use Rattle.ygg_syntax.specs.declared.tree.Block.{Block}
 use Rattle.ygg_syntax.specs.declared.tree.Declared.{Declared}
 use Rattle.ygg_syntax.specs.declared.tree.Def.{Def}
-use Rattle.ygg_meaning.specs.Layer.{ClosedLayer}
-use Rattle.ygg_meaning.specs.Related.{settled}
-use Rattle.ygg_meaning.specs.Obligations.{Schedule, Obligation}
-use Rattle.ygg_meaning.specs.Refines.{Below}
-use Rattle.ygg_rules.specs.declared.rule.RuleKind.{RuleKind}
-use Rattle.ygg_bank.proofs.Made.{made_grows}
-use Rattle.ygg_bank.proofs.Meaning.{fits_fewer}
-use Rattle.ygg_bank.proofs.Widths.{wider, extends_both}
-use Rattle.ygg_bank.specs.Makes.{Make}
-use Rattle.ygg_bank.specs.Making.{made}
-use Rattle.ygg_bank.specs.Nodes.{HasWidth}
-use Rattle.ygg_bank.specs.Values.{Inputs, Values, Fits}
-use Rattle.ygg_bank.specs.declared.node.Id.{Id}
-use Rattle.ygg_bank.specs.declared.node.Node.{Node}
-use Rattle.ygg_bank.specs.declared.node.Node.TheVariants.{Bin}
-use Rattle.ygg_shape_cells.specs.declared.terms.SymValue.{SymValue}
-use Rattle.ygg_sym_expr.specs.Meaning.{Grows, Gives}
-use Rattle.ygg_sym_runs.specs.Meaning.{is_set}
-use Rattle.ygg_sym_below.specs.Lows.{LowShaped, low_worth}
-use Rattle.ygg_sym_below.specs.StopTerms.{SymFallen}
-use Rattle.ygg_sym_below.proofs.Lows.{low_wider}
-use Rattle.ygg_sym_laws.specs.Means.{terms_of, values_in, Begins, WorthFall, WholeMeans, FallMeans}
+use Rattle.ygg_sym_laws_disk.specs.ygg_meaning.Layer.{ClosedLayer}
+use Rattle.ygg_sym_laws_disk.specs.ygg_meaning.Related.{settled}
+use Rattle.ygg_sym_laws_disk.specs.ygg_meaning.Obligations.{Schedule, Obligation}
+use Rattle.ygg_sym_laws_disk.specs.ygg_meaning.Refines.{Below}
+use Rattle.ygg_sym_laws_disk.specs.ygg_rules.declared.rule.RuleKind.{RuleKind}
+use Rattle.ygg_sym_laws_disk.specs.ygg_bank_proofs_Made.{made_grows}
+use Rattle.ygg_sym_laws_disk.specs.ygg_bank_proofs_Meaning.{fits_fewer}
+use Rattle.ygg_sym_laws_disk.specs.ygg_bank_proofs_Widths.{wider, extends_both}
+use Rattle.ygg_sym_laws_disk.specs.ygg_bank.Makes.{Make}
+use Rattle.ygg_sym_laws_disk.specs.ygg_bank.Making.{made}
+use Rattle.ygg_sym_laws_disk.specs.ygg_bank.Nodes.{HasWidth}
+use Rattle.ygg_sym_laws_disk.specs.ygg_bank.Values.{Inputs, Values, Fits}
+use Rattle.ygg_sym_laws_disk.specs.ygg_bank.declared.node.Id.{Id}
+use Rattle.ygg_sym_laws_disk.specs.ygg_bank.declared.node.Node.{Node}
+use Rattle.ygg_sym_laws_disk.specs.ygg_bank.declared.node.Node.TheVariants.{Bin}
+use Rattle.ygg_sym_laws_disk.specs.ygg_shape_cells.declared.terms.SymValue.{SymValue}
+use Rattle.ygg_sym_laws_disk.specs.ygg_sym_expr.Meaning.{Grows, Gives}
+use Rattle.ygg_sym_laws_disk.specs.ygg_sym_runs.Meaning.{is_set}
+use Rattle.ygg_sym_laws_disk.specs.ygg_sym_below.Lows.{LowShaped, low_worth}
+use Rattle.ygg_sym_laws_disk.specs.ygg_sym_below.StopTerms.{SymFallen}
+use Rattle.ygg_sym_laws_disk.specs.ygg_sym_below_proofs_Lows.{low_wider}
+use Rattle.ygg_sym_laws_disk.specs.ygg_sym_laws.Means.{terms_of, values_in, Begins, WorthFall, WholeMeans, FallMeans}
 use Rattle.ygg_oblige_typed.specs.ObligeTermsLayers.{ShapesKept}
 use Rattle.ygg_oblige_typed.specs.Numbers.{Numbers, arguments_of}
 use Rattle.ygg_oblige_typed.specs.States.{Starting, settled_made}

@@ -4,28 +4,28 @@ use Rattle.std.proofs.lemmas.List.Elements.{All-cons, All-head, All-tail}
 use Rattle.std.specs.Prelude.{IsTrue, Option}
 use Rattle.ygg_value.specs.declared.shape.Shape.{Shape}
 use Rattle.ygg_syntax.specs.declared.tree.Def.{Def}
-use Rattle.ygg_meaning.specs.Environments.{Env}
-use Rattle.ygg_meaning.specs.Layer.{ClosedLayer, BlockRuns}
-use Rattle.ygg_meaning.specs.Machine.{Picks, on, based}
-use Rattle.ygg_meaning.specs.Obligations.{Schedule, Obligation}
-use Rattle.ygg_meaning.specs.Refines.{Below, machine_below}
-use Rattle.ygg_meaning.specs.Related.{shaped, all_true, relates}
-use Rattle.ygg_meaning.specs.Shapes.{env_fits}
-use Rattle.ygg_meaning.specs.Violates.{End, Violates}
-use Rattle.ygg_type_progress.specs.Blocks.{is_returned}
-use Rattle.ygg_rules.specs.declared.rule.RuleKind.{RuleKind}
-use Rattle.ygg_bank.proofs.Meaning.{fits_fewer}
-use Rattle.ygg_bank.proofs.Widths.{extends_both}
-use Rattle.ygg_bank.specs.Makes.{Make, and_make}
-use Rattle.ygg_bank.specs.Nodes.{Extends}
-use Rattle.ygg_bank.specs.Values.{Inputs, Values, Fits, value_of}
-use Rattle.ygg_bank.specs.declared.node.Id.{Id}
-use Rattle.ygg_bank.specs.declared.node.Node.{Node}
-use Rattle.ygg_shape_cells.specs.declared.terms.SymValue.{SymValue}
-use Rattle.ygg_sym_expr.specs.Meaning.{Grows}
-use Rattle.ygg_sym_runs.specs.Meaning.{answer_worth, is_set}
-use Rattle.ygg_sym_below.specs.Lows.{LowShaped, low_worth}
-use Rattle.ygg_sym_laws.specs.Means.{terms_of, WholeMeans}
+use Rattle.ygg_sym_laws_disk.specs.ygg_meaning.Environments.{Env}
+use Rattle.ygg_sym_laws_disk.specs.ygg_meaning.Layer.{ClosedLayer, BlockRuns}
+use Rattle.ygg_sym_laws_disk.specs.ygg_meaning.Machine.{Picks, on, based}
+use Rattle.ygg_sym_laws_disk.specs.ygg_meaning.Obligations.{Schedule, Obligation}
+use Rattle.ygg_sym_laws_disk.specs.ygg_meaning.Refines.{Below, machine_below}
+use Rattle.ygg_sym_laws_disk.specs.ygg_meaning.Related.{shaped, all_true, relates}
+use Rattle.ygg_sym_laws_disk.specs.ygg_meaning.Shapes.{env_fits}
+use Rattle.ygg_sym_laws_disk.specs.ygg_meaning.Violates.{End, Violates}
+use Rattle.ygg_sym_laws_disk.specs.ygg_type_progress.Blocks.{is_returned}
+use Rattle.ygg_sym_laws_disk.specs.ygg_rules.declared.rule.RuleKind.{RuleKind}
+use Rattle.ygg_sym_laws_disk.specs.ygg_bank_proofs_Meaning.{fits_fewer}
+use Rattle.ygg_sym_laws_disk.specs.ygg_bank_proofs_Widths.{extends_both}
+use Rattle.ygg_sym_laws_disk.specs.ygg_bank.Makes.{Make, and_make}
+use Rattle.ygg_sym_laws_disk.specs.ygg_bank.Nodes.{Extends}
+use Rattle.ygg_sym_laws_disk.specs.ygg_bank.Values.{Inputs, Values, Fits, value_of}
+use Rattle.ygg_sym_laws_disk.specs.ygg_bank.declared.node.Id.{Id}
+use Rattle.ygg_sym_laws_disk.specs.ygg_bank.declared.node.Node.{Node}
+use Rattle.ygg_sym_laws_disk.specs.ygg_shape_cells.declared.terms.SymValue.{SymValue}
+use Rattle.ygg_sym_laws_disk.specs.ygg_sym_expr.Meaning.{Grows}
+use Rattle.ygg_sym_laws_disk.specs.ygg_sym_runs.Meaning.{answer_worth, is_set}
+use Rattle.ygg_sym_laws_disk.specs.ygg_sym_below.Lows.{LowShaped, low_worth}
+use Rattle.ygg_sym_laws_disk.specs.ygg_sym_laws.Means.{terms_of, WholeMeans}
 use Rattle.ygg_oblige_typed.specs.ObligeTermsLayers.{ShapesKept, LayerTyped}
 use Rattle.ygg_oblige_typed.specs.Meaning.{IsTermOf}
 use Rattle.ygg_oblige_typed.specs.Numbers.{Numbers, numbers_of, arguments_of, block_of}

@@ -6,24 +6,24 @@ use Rattle.ygg_value.specs.declared.shape.Shape.{Shape}
 use Rattle.ygg_syntax.specs.declared.tree.Def.{Def}
 use Rattle.ygg_syntax.specs.declared.tree.Operation.{Operation}
 use Rattle.ygg_syntax.specs.declared.tree.Tick.{Tick}
-use Rattle.ygg_type_sound.proofs.Tests.{right}
-use Rattle.ygg_meaning.specs.Layer.{ClosedLayer, BlockFalls, Layered}
-use Rattle.ygg_meaning.specs.Machine.{Picks, on, based}
-use Rattle.ygg_meaning.specs.Obligations.{Schedule, Halt, IsRead, Init, CallOf, CutOf, TickOf, CutTickOf, Idle, Again}
-use Rattle.ygg_meaning.specs.Refines.{Below, machine_below}
-use Rattle.ygg_meaning.specs.Related.{shaped, all_true, relates, settles, settled}
-use Rattle.ygg_meaning.specs.Shapes.{values_fit, env_fits}
-use Rattle.ygg_meaning.specs.Violates.{Recovers, Violates}
-use Rattle.ygg_rules.specs.declared.rule.RuleKind.{RuleKind}
-use Rattle.ygg_bank.specs.Values.{Inputs, Values, Fits}
-use Rattle.ygg_bank.specs.declared.node.Id.{Id}
-use Rattle.ygg_bank.specs.declared.node.Node.{Node}
-use Rattle.ygg_shape_cells.specs.Terms.{worth}
-use Rattle.ygg_shape_cells.specs.declared.terms.SymValue.{SymValue}
-use Rattle.ygg_sym_runs.specs.Meaning.{answer_worth, is_set}
-use Rattle.ygg_sym_below.specs.Lows.{LowShaped, low_worth}
-use Rattle.ygg_sym_below.proofs.Blocks.{values_worth}
-use Rattle.ygg_sym_laws.specs.Means.{terms_of, WholeMeans, StartMeans}
+use Rattle.ygg_sym_laws_disk.specs.ygg_type_sound_proofs_Tests.{right}
+use Rattle.ygg_sym_laws_disk.specs.ygg_meaning.Layer.{ClosedLayer, BlockFalls, Layered}
+use Rattle.ygg_sym_laws_disk.specs.ygg_meaning.Machine.{Picks, on, based}
+use Rattle.ygg_sym_laws_disk.specs.ygg_meaning.Obligations.{Schedule, Halt, IsRead, Init, CallOf, CutOf, TickOf, CutTickOf, Idle, Again}
+use Rattle.ygg_sym_laws_disk.specs.ygg_meaning.Refines.{Below, machine_below}
+use Rattle.ygg_sym_laws_disk.specs.ygg_meaning.Related.{shaped, all_true, relates, settles, settled}
+use Rattle.ygg_sym_laws_disk.specs.ygg_meaning.Shapes.{values_fit, env_fits}
+use Rattle.ygg_sym_laws_disk.specs.ygg_meaning.Violates.{Recovers, Violates}
+use Rattle.ygg_sym_laws_disk.specs.ygg_rules.declared.rule.RuleKind.{RuleKind}
+use Rattle.ygg_sym_laws_disk.specs.ygg_bank.Values.{Inputs, Values, Fits}
+use Rattle.ygg_sym_laws_disk.specs.ygg_bank.declared.node.Id.{Id}
+use Rattle.ygg_sym_laws_disk.specs.ygg_bank.declared.node.Node.{Node}
+use Rattle.ygg_sym_laws_disk.specs.ygg_shape_cells.Terms.{worth}
+use Rattle.ygg_sym_laws_disk.specs.ygg_shape_cells.declared.terms.SymValue.{SymValue}
+use Rattle.ygg_sym_laws_disk.specs.ygg_sym_runs.Meaning.{answer_worth, is_set}
+use Rattle.ygg_sym_laws_disk.specs.ygg_sym_below.Lows.{LowShaped, low_worth}
+use Rattle.ygg_sym_laws_disk.proofs.of_ygg_sym_below.Blocks.{values_worth}
+use Rattle.ygg_sym_laws_disk.specs.ygg_sym_laws.Means.{terms_of, WholeMeans, StartMeans}
 use Rattle.ygg_oblige_typed.specs.ObligeTermsLayers.{ShapesKept}
 use Rattle.ygg_oblige_typed.specs.Numbers.{Numbers}
 use Rattle.ygg_oblige_typed.specs.States.{Starting}

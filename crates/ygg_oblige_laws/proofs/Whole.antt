@@ -7,13 +7,13 @@ use Rattle.ygg_syntax.specs.declared.tree.Declared.{Declared}
 use Rattle.ygg_syntax.specs.declared.tree.Def.{Def}
 use Rattle.ygg_syntax.specs.declared.tree.DiskText.{DiskText}
 use Rattle.ygg_syntax.specs.declared.tree.Tick.{Tick}
-use Rattle.ygg_meaning.specs.Layer.{ClosedLayer}
-use Rattle.ygg_meaning.specs.Refines.{Below, OnDisk, OnSpec}
-use Rattle.ygg_histories.specs.Stack.{Layers, below_of, layers_of}
-use Rattle.ygg_rules.specs.declared.rule.RuleKind.{RuleKind}
-use Rattle.ygg_sym_laws.specs.Below.{signatures_on}
-use Rattle.ygg_sym_laws.specs.Means.{LossMeans, StartMeans, WholeMeans, FallMeans}
-use Rattle.ygg_sym_laws.specs.Typed.{BlockTyped}
+use Rattle.ygg_sym_laws_disk.specs.ygg_meaning.Layer.{ClosedLayer}
+use Rattle.ygg_sym_laws_disk.specs.ygg_meaning.Refines.{Below, OnDisk, OnSpec}
+use Rattle.ygg_sym_laws_disk.specs.ygg_histories.Stack.{Layers, below_of, layers_of}
+use Rattle.ygg_sym_laws_disk.specs.ygg_rules.declared.rule.RuleKind.{RuleKind}
+use Rattle.ygg_sym_laws_disk.specs.ygg_sym_laws.Below.{signatures_on}
+use Rattle.ygg_sym_laws_disk.specs.ygg_sym_laws.Means.{LossMeans, StartMeans, WholeMeans, FallMeans}
+use Rattle.ygg_sym_laws_disk.specs.ygg_sym_laws.Typed.{BlockTyped}
 use Rattle.ygg_sym_laws_disk.proofs.Falls.{disk_falls}
 use Rattle.ygg_sym_laws_disk.proofs.Loss.{disk_loss}
 use Rattle.ygg_sym_laws_disk.proofs.Start.{disk_start}

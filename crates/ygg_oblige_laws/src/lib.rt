@@ -2,3 +2,5 @@
 #![tactic(auto)]
 
 pub mod law;
+
+pub use ygg_sym_laws_disk::{Bank, Book, Id, NoMemory};

@@ -4,7 +4,7 @@ use Rattle.std.specs.Prelude.{slice_get}
 use Rattle.std.proofs.lemmas.List.Elements.{All-push}
 use Rattle.std.proofs.lemmas.Option.{slice_get_read}
 use Rattle.ygg_syntax.specs.declared.tree.Layer.{Layer}
-use Rattle.ygg_meaning.specs.Obligations.{Obligation}
+use Rattle.ygg_oblige_parts.specs.ygg_meaning.Obligations.{Obligation}
 use Rattle.ygg_oblige_parts.specs.Steps.{obligation_of}
 use Rattle.ygg_oblige_parts.proofs.Left.{rest_is}
 use Rattle.ygg_oblige_list.specs.Listing.{AreNumbered, IsNumberIn}

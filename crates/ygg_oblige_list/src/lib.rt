@@ -4,3 +4,6 @@
 mod listing;
 
 pub use listing::{Asked, asked_of, place_of};
+pub use ygg_oblige_parts::{
+    SymBlock, SymLayer, SymPicks, block, cut, failure_room, lost, places, run, zeros,
+};

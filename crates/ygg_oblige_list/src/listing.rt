@@ -1,7 +1,7 @@
 //! The obligations of a layer, in order.
 
 ghost use Rattle.std.specs.Prelude.{◌≡◌, ◌∷◌, ◌++◌, [], IfOk, OnOk};
-ghost use Rattle.ygg_meaning.specs.Obligations.{obligations_of};
+ghost use Rattle.ygg_oblige_parts.specs.ygg_meaning.Obligations.{obligations_of};
 ghost use Rattle.ygg_oblige_parts.specs.Steps.{obligation_of};
 ghost use Rattle.ygg_oblige_list.specs.Listing.{AreNumbered, asked_in, calls_of, ticks_of};
 

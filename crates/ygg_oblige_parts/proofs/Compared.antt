@@ -1,15 +1,15 @@
 -- Comparing lists of values.
 use Rattle.std.proofs.Common.{◌≡◌, List, [], ◌∷◌, refl, ap}
 use Rattle.ygg_value.specs.declared.operation.Op.TheVariants.{And}
-use Rattle.ygg_rules.specs.declared.rule.RuleKind.{RuleKind}
-use Rattle.ygg_bank.specs.Makes.{Out, goes_on}
-use Rattle.ygg_bank.specs.Making.{made}
-use Rattle.ygg_bank.specs.declared.node.Id.{Id}
-use Rattle.ygg_bank.specs.declared.node.Node.{Node}
-use Rattle.ygg_bank.specs.declared.node.Node.TheVariants.{Bin}
-use Rattle.ygg_shape_cells.specs.Making.{compared}
-use Rattle.ygg_shape_cells.specs.declared.terms.SymValue.{SymValue}
-use Rattle.ygg_shape.specs.Wholes as wholes
+use Rattle.ygg_sym.specs.ygg_rules.declared.rule.RuleKind.{RuleKind}
+use Rattle.ygg_sym.specs.ygg_bank.Makes.{Out, goes_on}
+use Rattle.ygg_sym.specs.ygg_bank.Making.{made}
+use Rattle.ygg_sym.specs.ygg_bank.declared.node.Id.{Id}
+use Rattle.ygg_sym.specs.ygg_bank.declared.node.Node.{Node}
+use Rattle.ygg_sym.specs.ygg_bank.declared.node.Node.TheVariants.{Bin}
+use Rattle.ygg_sym.specs.ygg_shape_cells.Making.{compared}
+use Rattle.ygg_sym.specs.ygg_shape_cells.declared.terms.SymValue.{SymValue}
+use Rattle.ygg_sym.specs.ygg_shape.Wholes as wholes
 use Rattle.ygg_oblige_pieces.specs.ObligeTermsStates.{all_compared}
 
 -- the comparison of lists is what obligations' terms are defined by

@@ -4,14 +4,14 @@ use Rattle.std.proofs.lemmas.List.{take_all}
 use Rattle.ygg_syntax.specs.declared.tree.Block.{Block}
 use Rattle.ygg_syntax.specs.declared.tree.Declared.{Declared}
 use Rattle.ygg_syntax.specs.declared.tree.Operation.{Operation}
-use Rattle.ygg_meaning.specs.Layer.{ClosedLayer}
-use Rattle.ygg_meaning.specs.Machine.{Picks}
-use Rattle.ygg_rules.specs.declared.rule.RuleKind.{RuleKind}
-use Rattle.ygg_shape_cells.specs.declared.terms.SymValue.{SymValue}
-use Rattle.ygg_sym_expr.specs.Exprs.{SymFunctions}
-use Rattle.ygg_sym_expr.specs.Names.{sym_bind}
-use Rattle.ygg_sym_below.specs.Specs.{given_pick}
-use Rattle.ygg_sym_below.specs.SpecCuts.{crash_made, then_crash_made}
+use Rattle.ygg_sym.specs.ygg_meaning.Layer.{ClosedLayer}
+use Rattle.ygg_sym.specs.ygg_meaning.Machine.{Picks}
+use Rattle.ygg_sym.specs.ygg_rules.declared.rule.RuleKind.{RuleKind}
+use Rattle.ygg_sym.specs.ygg_shape_cells.declared.terms.SymValue.{SymValue}
+use Rattle.ygg_sym.specs.ygg_sym_expr.Exprs.{SymFunctions}
+use Rattle.ygg_sym.specs.ygg_sym_expr.Names.{sym_bind}
+use Rattle.ygg_sym.specs.ygg_sym_below.Specs.{given_pick}
+use Rattle.ygg_sym.specs.ygg_sym_below.SpecCuts.{crash_made, then_crash_made}
 use Rattle.ygg_oblige_pieces.specs.Outcomes.{fall_with_picks}
 
 module _ (kinds : List RuleKind) (terms : SymFunctions) (L : ClosedLayer) (o : Operation) (vars args : List SymValue) where

@@ -1,3 +1,5 @@
+pub use Rattle.ygg_sym.proofs.of_ygg_sym_disk
+pub use Rattle.ygg_sym.proofs.of_ygg_sym_runs
 pub use Rattle.ygg_sym.proofs.Left
 pub use Rattle.ygg_sym.proofs.Carried
 pub mod Compared

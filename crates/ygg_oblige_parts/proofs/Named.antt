@@ -1,16 +1,16 @@
 -- Inputs for declared names, name by name.
 use Rattle.std.proofs.Common.{◌≡◌, ◌<◌, ℕ, ◌+◌, List, ◌∷◌, [], ◌++◌, length, drop, get_or, sym, ap, ◌∙◌}
 use Rattle.ygg_syntax.specs.declared.tree.Declared.{Declared}
-use Rattle.ygg_rules.specs.declared.rule.RuleKind.{RuleKind}
-use Rattle.ygg_meaning.specs.Shapes.{shape_in}
-use Rattle.ygg_bank.specs.Inputs.{InputsBelow}
-use Rattle.ygg_bank.specs.Nodes.{IsBank}
-use Rattle.ygg_bank.specs.Values.{value_of}
-use Rattle.ygg_bank.specs.declared.node.Node.{Node}
-use Rattle.ygg_shape.specs.Fresh.{fresh_made, words_of}
-use Rattle.ygg_shape.proofs.Answered.{no_inputs, some_fit}
-use Rattle.ygg_shape_cells.specs.declared.terms.SymValue.{SymValue}
-use Rattle.ygg_sym_below.specs.Lows.{LowShaped}
+use Rattle.ygg_sym.specs.ygg_rules.declared.rule.RuleKind.{RuleKind}
+use Rattle.ygg_sym.specs.ygg_meaning.Shapes.{shape_in}
+use Rattle.ygg_sym.specs.ygg_bank.Inputs.{InputsBelow}
+use Rattle.ygg_sym.specs.ygg_bank.Nodes.{IsBank}
+use Rattle.ygg_sym.specs.ygg_bank.Values.{value_of}
+use Rattle.ygg_sym.specs.ygg_bank.declared.node.Node.{Node}
+use Rattle.ygg_sym.specs.ygg_shape.Fresh.{fresh_made, words_of}
+use Rattle.ygg_sym.proofs.of_ygg_shape.Answered.{no_inputs, some_fit}
+use Rattle.ygg_sym.specs.ygg_shape_cells.declared.terms.SymValue.{SymValue}
+use Rattle.ygg_sym.specs.ygg_sym_below.Lows.{LowShaped}
 use Rattle.ygg_sym.proofs.Left.{Left, left_goes, rest_is}
 use Rattle.ygg_oblige_pieces.specs.Layers.{ShapesKept}
 use Rattle.ygg_oblige_pieces.specs.ObligeTermsStates.{fresh_all, words_in}

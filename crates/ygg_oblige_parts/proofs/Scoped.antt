@@ -6,28 +6,28 @@ use Rattle.std.proofs.lemmas.List.Elements.{All-append, All-nil, All-weaker}
 use Rattle.ygg_syntax.specs.declared.tree.Declared.{Declared}
 use Rattle.ygg_syntax.specs.declared.tree.Def.{Def}
 use Rattle.ygg_syntax.specs.declared.tree.Expr.{Expr}
-use Rattle.ygg_type_rules.specs.TypeErrors.{none}
-use Rattle.ygg_type_rules.specs.Definitions.{definitions_errors}
-use Rattle.ygg_meaning.specs.Environments.{Name}
-use Rattle.ygg_meaning.specs.Layer.{ClosedLayer}
-use Rattle.ygg_meaning.specs.Meaning.{functions_of}
-use Rattle.ygg_meaning.specs.Refines.{Below}
-use Rattle.ygg_meaning.specs.Related.{relations}
-use Rattle.ygg_meaning.specs.Shapes.{env_fits}
-use Rattle.ygg_type_sound.specs.Agrees.{Agrees}
-use Rattle.ygg_rules.specs.declared.rule.RuleKind.{RuleKind}
-use Rattle.ygg_bank.specs.Values.{Inputs, Values, Fits}
-use Rattle.ygg_bank.specs.declared.node.Node.{Node}
-use Rattle.ygg_shape_cells.specs.Terms.{worth}
-use Rattle.ygg_shape_cells.specs.declared.terms.SymValue.{SymValue}
-use Rattle.ygg_sym_expr.specs.Meaning.{ScopeShaped, worths, scope_worth}
-use Rattle.ygg_sym_expr.specs.Names.{SymScope, SymEnv, sym_bind}
-use Rattle.ygg_sym_runs.proofs.Worths.{NameShaped}
-use Rattle.ygg_shape.proofs.Answered.{no_inputs}
-use Rattle.ygg_bank.specs.Values.{value_of}
-use Rattle.ygg_sym_below.proofs.Lows.{low_fits}
-use Rattle.ygg_sym_below.proofs.Specs.{bound_worth, low_shaped}
-use Rattle.ygg_sym_below.specs.Lows.{LowShaped, low_worth}
+use Rattle.ygg_sym.specs.ygg_type_rules.TypeErrors.{none}
+use Rattle.ygg_sym.specs.ygg_type_rules.Definitions.{definitions_errors}
+use Rattle.ygg_sym.specs.ygg_meaning.Environments.{Name}
+use Rattle.ygg_sym.specs.ygg_meaning.Layer.{ClosedLayer}
+use Rattle.ygg_sym.specs.ygg_meaning.Meaning.{functions_of}
+use Rattle.ygg_sym.specs.ygg_meaning.Refines.{Below}
+use Rattle.ygg_sym.specs.ygg_meaning.Related.{relations}
+use Rattle.ygg_sym.specs.ygg_meaning.Shapes.{env_fits}
+use Rattle.ygg_sym.specs.ygg_type_sound.Agrees.{Agrees}
+use Rattle.ygg_sym.specs.ygg_rules.declared.rule.RuleKind.{RuleKind}
+use Rattle.ygg_sym.specs.ygg_bank.Values.{Inputs, Values, Fits}
+use Rattle.ygg_sym.specs.ygg_bank.declared.node.Node.{Node}
+use Rattle.ygg_sym.specs.ygg_shape_cells.Terms.{worth}
+use Rattle.ygg_sym.specs.ygg_shape_cells.declared.terms.SymValue.{SymValue}
+use Rattle.ygg_sym.specs.ygg_sym_expr.Meaning.{ScopeShaped, worths, scope_worth}
+use Rattle.ygg_sym.specs.ygg_sym_expr.Names.{SymScope, SymEnv, sym_bind}
+use Rattle.ygg_sym.proofs.of_ygg_sym_runs.Worths.{NameShaped}
+use Rattle.ygg_sym.proofs.of_ygg_shape.Answered.{no_inputs}
+use Rattle.ygg_sym.specs.ygg_bank.Values.{value_of}
+use Rattle.ygg_sym.specs.ygg_sym_below_proofs_Lows.{low_fits}
+use Rattle.ygg_sym.specs.ygg_sym_below_proofs_Specs.{bound_worth, low_shaped}
+use Rattle.ygg_sym.specs.ygg_sym_below.Lows.{LowShaped, low_worth}
 use Rattle.ygg_oblige_pieces.specs.Layers.{FormulaTyped, LayerTyped}
 use Rattle.ygg_oblige_pieces.specs.ObligeTermsStates.{Trio}
 use Rattle.ygg_oblige_pieces.proofs.Truths.{both_fit}

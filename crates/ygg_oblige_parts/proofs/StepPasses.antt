@@ -5,42 +5,42 @@ use Rattle.ygg_value.specs.declared.operation.Op.TheVariants.{And, Or}
 use Rattle.ygg_syntax.specs.declared.tree.Def.{Def}
 use Rattle.ygg_syntax.specs.declared.tree.Operation.{Operation}
 use Rattle.ygg_syntax.specs.declared.tree.TypeText.{TypeText}
-use Rattle.ygg_type_rules.specs.Definitions.{with_definitions}
-use Rattle.ygg_type_rules.specs.Layers.{operation_signature}
-use Rattle.ygg_type_rules.specs.Shapes.{answer_shape}
-use Rattle.ygg_meaning.specs.Layer.{ClosedLayer}
-use Rattle.ygg_meaning.specs.Machine.{Picks}
-use Rattle.ygg_meaning.specs.Obligations.{Obligation, Init, CallOf, CutOf, TickOf, CutTickOf, Idle, Again}
-use Rattle.ygg_meaning.specs.Refines.{Below}
-use Rattle.ygg_meaning.specs.Shapes.{shape_in}
-use Rattle.ygg_type_progress.proofs.Fits.{one_shape}
-use Rattle.ygg_type_progress.specs.Questions.{answer_has, gives}
-use Rattle.ygg_rules.specs.declared.rule.RuleKind.{RuleKind}
-use Rattle.ygg_bank.proofs.Meaning.{fits_fewer}
-use Rattle.ygg_bank.specs.Makes.{Make, Out, and_make, goes_on}
-use Rattle.ygg_bank.specs.Making.{made}
-use Rattle.ygg_bank.specs.Nodes.{Extends, IsBank}
-use Rattle.ygg_bank.specs.Values.{Inputs, Values, Fits, value_of}
-use Rattle.ygg_bank.specs.declared.node.Id.{Id}
-use Rattle.ygg_bank.specs.declared.node.Node.{Node}
-use Rattle.ygg_bank.specs.declared.node.Node.TheVariants.{Bin}
-use Rattle.ygg_shape.proofs.Answered.{no_inputs, some_fit}
-use Rattle.ygg_shape_cells.specs.Terms.{HasShape, worth}
-use Rattle.ygg_shape_cells.specs.declared.terms.SymValue.{SymValue}
-use Rattle.ygg_sym_expr.proofs.Grows.{functions_grow}
-use Rattle.ygg_sym_expr.proofs.Shaped.{some_wider}
-use Rattle.ygg_sym_expr.specs.Names.{sym_bind}
-use Rattle.ygg_sym_runs.proofs.Worths.{shape_fits}
-use Rattle.ygg_sym_runs.specs.Lower.{KeepsSingle}
-use Rattle.ygg_sym_runs.specs.Meaning.{AnswerShaped, answer_worth}
-use Rattle.ygg_sym_below.proofs.Blocks.{BlockOfSpec, values_worth, low_stands, block_made_grows, block_made_gives}
-use Rattle.ygg_sym_below.proofs.Chosen.{block_end, nth}
-use Rattle.ygg_sym_below.proofs.Lows.{low_wider}
-use Rattle.ygg_sym_below.proofs.Specs.{given_pick_means}
-use Rattle.ygg_sym_below.specs.Disks.{Done}
-use Rattle.ygg_sym_below.specs.Lows.{LowShaped, low_worth}
-use Rattle.ygg_sym_below.specs.SpecCuts.{block_made}
-use Rattle.ygg_sym_below.specs.Specs.{given_pick}
+use Rattle.ygg_sym.specs.ygg_type_rules.Definitions.{with_definitions}
+use Rattle.ygg_sym.specs.ygg_type_rules.Layers.{operation_signature}
+use Rattle.ygg_sym.specs.ygg_type_rules.Shapes.{answer_shape}
+use Rattle.ygg_sym.specs.ygg_meaning.Layer.{ClosedLayer}
+use Rattle.ygg_sym.specs.ygg_meaning.Machine.{Picks}
+use Rattle.ygg_sym.specs.ygg_meaning.Obligations.{Obligation, Init, CallOf, CutOf, TickOf, CutTickOf, Idle, Again}
+use Rattle.ygg_sym.specs.ygg_meaning.Refines.{Below}
+use Rattle.ygg_sym.specs.ygg_meaning.Shapes.{shape_in}
+use Rattle.ygg_sym.specs.ygg_type_progress_proofs_Fits.{one_shape}
+use Rattle.ygg_sym.specs.ygg_type_progress.Questions.{answer_has, gives}
+use Rattle.ygg_sym.specs.ygg_rules.declared.rule.RuleKind.{RuleKind}
+use Rattle.ygg_sym.specs.ygg_bank_proofs_Meaning.{fits_fewer}
+use Rattle.ygg_sym.specs.ygg_bank.Makes.{Make, Out, and_make, goes_on}
+use Rattle.ygg_sym.specs.ygg_bank.Making.{made}
+use Rattle.ygg_sym.specs.ygg_bank.Nodes.{Extends, IsBank}
+use Rattle.ygg_sym.specs.ygg_bank.Values.{Inputs, Values, Fits, value_of}
+use Rattle.ygg_sym.specs.ygg_bank.declared.node.Id.{Id}
+use Rattle.ygg_sym.specs.ygg_bank.declared.node.Node.{Node}
+use Rattle.ygg_sym.specs.ygg_bank.declared.node.Node.TheVariants.{Bin}
+use Rattle.ygg_sym.proofs.of_ygg_shape.Answered.{no_inputs, some_fit}
+use Rattle.ygg_sym.specs.ygg_shape_cells.Terms.{HasShape, worth}
+use Rattle.ygg_sym.specs.ygg_shape_cells.declared.terms.SymValue.{SymValue}
+use Rattle.ygg_sym.specs.ygg_sym_expr_proofs_Grows.{functions_grow}
+use Rattle.ygg_sym.specs.ygg_sym_expr_proofs_Shaped.{some_wider}
+use Rattle.ygg_sym.specs.ygg_sym_expr.Names.{sym_bind}
+use Rattle.ygg_sym.proofs.of_ygg_sym_runs.Worths.{shape_fits}
+use Rattle.ygg_sym.specs.ygg_sym_runs.Lower.{KeepsSingle}
+use Rattle.ygg_sym.specs.ygg_sym_runs.Meaning.{AnswerShaped, answer_worth}
+use Rattle.ygg_sym.proofs.of_ygg_sym_below.Blocks.{BlockOfSpec, values_worth, low_stands, block_made_grows, block_made_gives}
+use Rattle.ygg_sym.specs.ygg_sym_below_proofs_Chosen.{block_end, nth}
+use Rattle.ygg_sym.specs.ygg_sym_below_proofs_Lows.{low_wider}
+use Rattle.ygg_sym.specs.ygg_sym_below_proofs_Specs.{given_pick_means}
+use Rattle.ygg_sym.specs.ygg_sym_below.Disks.{Done}
+use Rattle.ygg_sym.specs.ygg_sym_below.Lows.{LowShaped, low_worth}
+use Rattle.ygg_sym.specs.ygg_sym_below.SpecCuts.{block_made}
+use Rattle.ygg_sym.specs.ygg_sym_below.Specs.{given_pick}
 use Rattle.ygg_oblige_pieces.specs.Means.{terms_of}
 use Rattle.ygg_sym.specs.Layers.{closed}
 use Rattle.ygg_sym.specs.SymLayer.{SymLayer}

@@ -1,13 +1,13 @@
 -- A layer whose obligations' terms are made, and the states that they begin with.
 use Rattle.std.specs.Prelude.{List}
-use Rattle.ygg_meaning.specs.Layer.{ClosedLayer}
-use Rattle.ygg_rules.specs.declared.rule.RuleKind.{RuleKind}
-use Rattle.ygg_bank.specs.Makes.{Make, pure, and_make}
-use Rattle.ygg_bank.specs.Nodes.{HasWidth}
-use Rattle.ygg_bank.specs.declared.node.Node.{Node}
-use Rattle.ygg_shape_hypothesis.specs.Finding.{facts_in}
-use Rattle.ygg_sym_expr.specs.Exprs.{SymFunctions}
-use Rattle.ygg_sym_below.specs.Lows.{LowShaped}
+use Rattle.ygg_sym.specs.ygg_meaning.Layer.{ClosedLayer}
+use Rattle.ygg_sym.specs.ygg_rules.declared.rule.RuleKind.{RuleKind}
+use Rattle.ygg_sym.specs.ygg_bank.Makes.{Make, pure, and_make}
+use Rattle.ygg_sym.specs.ygg_bank.Nodes.{HasWidth}
+use Rattle.ygg_sym.specs.ygg_bank.declared.node.Node.{Node}
+use Rattle.ygg_oblige_pieces.specs.ygg_shape_hypothesis.Finding.{facts_in}
+use Rattle.ygg_sym.specs.ygg_sym_expr.Exprs.{SymFunctions}
+use Rattle.ygg_sym.specs.ygg_sym_below.Lows.{LowShaped}
 use Rattle.ygg_sym.specs.Layers.{closed}
 use Rattle.ygg_sym.specs.SymLayer.{SymLayer}
 use Rattle.ygg_sym.specs.Sites.{below_in}

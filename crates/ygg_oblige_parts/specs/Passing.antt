@@ -1,22 +1,22 @@
 -- Whether the specification's step passes after a run, in code.
 use Rattle.std.specs.Prelude.{ℕ, List, [], Option}
-use Rattle.ygg_meaning.specs.Layer.{ClosedLayer}
-use Rattle.ygg_meaning.specs.Machine.{Picks}
-use Rattle.ygg_meaning.specs.Obligations.{Obligation, Init, CallOf, CutOf, TickOf, CutTickOf, Idle, Again}
-use Rattle.ygg_meaning.specs.Violates.{most}
-use Rattle.ygg_rules.specs.declared.rule.RuleKind.{RuleKind}
+use Rattle.ygg_sym.specs.ygg_meaning.Layer.{ClosedLayer}
+use Rattle.ygg_sym.specs.ygg_meaning.Machine.{Picks}
+use Rattle.ygg_sym.specs.ygg_meaning.Obligations.{Obligation, Init, CallOf, CutOf, TickOf, CutTickOf, Idle, Again}
+use Rattle.ygg_sym.specs.ygg_meaning.Violates.{most}
+use Rattle.ygg_sym.specs.ygg_rules.declared.rule.RuleKind.{RuleKind}
 use Rattle.ygg_value.specs.declared.operation.Op.TheVariants.{And}
-use Rattle.ygg_bank.specs.Makes.{Make, and_make}
-use Rattle.ygg_bank.specs.Making.{made}
-use Rattle.ygg_bank.specs.Values.{Inputs, Values, Fits}
-use Rattle.ygg_bank.specs.declared.node.Id.{Id}
-use Rattle.ygg_bank.specs.declared.node.Node.{Node}
-use Rattle.ygg_bank.specs.declared.node.Node.TheVariants.{Bin}
-use Rattle.ygg_shape_cells.specs.declared.terms.SymValue.{SymValue}
-use Rattle.ygg_sym_expr.specs.Exprs.{SymFunctions}
-use Rattle.ygg_sym_runs.specs.Meaning.{AnswerShaped}
-use Rattle.ygg_sym_runs.specs.Lower.{SingleFrom}
-use Rattle.ygg_sym_below.specs.Lows.{LowShaped}
+use Rattle.ygg_sym.specs.ygg_bank.Makes.{Make, and_make}
+use Rattle.ygg_sym.specs.ygg_bank.Making.{made}
+use Rattle.ygg_sym.specs.ygg_bank.Values.{Inputs, Values, Fits}
+use Rattle.ygg_sym.specs.ygg_bank.declared.node.Id.{Id}
+use Rattle.ygg_sym.specs.ygg_bank.declared.node.Node.{Node}
+use Rattle.ygg_sym.specs.ygg_bank.declared.node.Node.TheVariants.{Bin}
+use Rattle.ygg_sym.specs.ygg_shape_cells.declared.terms.SymValue.{SymValue}
+use Rattle.ygg_sym.specs.ygg_sym_expr.Exprs.{SymFunctions}
+use Rattle.ygg_sym.specs.ygg_sym_runs.Meaning.{AnswerShaped}
+use Rattle.ygg_sym.specs.ygg_sym_runs.Lower.{SingleFrom}
+use Rattle.ygg_sym.specs.ygg_sym_below.Lows.{LowShaped}
 use Rattle.ygg_sym.specs.Layers.{closed, terms_in}
 use Rattle.ygg_sym.specs.SymLayer.{SymLayer}
 use Rattle.ygg_sym.specs.Sites.{below_in}

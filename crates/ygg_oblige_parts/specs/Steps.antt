@@ -1,5 +1,5 @@
 -- The obligations of a layer in code.
-use Rattle.ygg_meaning.specs.Obligations.{Obligation, Init, CallOf, CutOf, TickOf, CutTickOf, Idle, Again}
+use Rattle.ygg_sym.specs.ygg_meaning.Obligations.{Obligation, Init, CallOf, CutOf, TickOf, CutTickOf, Idle, Again}
 use Rattle.ygg_oblige_parts.specs.declared.outcome.SymObligation as code
 use Rattle.ygg_oblige_parts.specs.declared.outcome.SymObligation.TheVariants as asked
 

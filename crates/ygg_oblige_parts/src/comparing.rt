@@ -1,19 +1,16 @@
 //! Comparing states, and comparing answers.
 
 ghost use Rattle.std.specs.Prelude.{◌≡◌, IfOk, OnOk};
-ghost use Rattle.ygg_bank.specs.Nodes.{Extends, HasWidth, IsBank};
-ghost use Rattle.ygg_shape.specs.Wholes.{AllAlike};
-ghost use Rattle.ygg_sym_runs.specs.Lower.{KeepsSingle};
+ghost use Rattle.ygg_sym.specs.ygg_bank.Nodes.{Extends, HasWidth, IsBank};
+ghost use Rattle.ygg_sym.specs.ygg_shape.Wholes.{AllAlike};
+ghost use Rattle.ygg_sym.specs.ygg_sym_runs.Lower.{KeepsSingle};
 ghost use Rattle.ygg_oblige_pieces.specs.Outcomes.{answers_compared};
 ghost use Rattle.ygg_oblige_pieces.specs.ObligeTermsStates.{all_compared};
 ghost use Rattle.ygg_oblige_parts.specs.Digits.{AnswersAlike};
 
 use crate::digits::constant;
 use std::alloc::Global;
-use ygg_bank::{Bank, Id, NoMemory};
-use ygg_rules::Book;
-use ygg_shape::{equal, equal_all};
-use ygg_shape_cells::SymValue;
+use ygg_sym::{Bank, Book, Id, NoMemory, SymValue, equal, equal_all};
 
 /// Whether two lists of values are equal, value by value. Its only error is out of memory, after which the bank may have more nodes.
 pub fn all_equal<B: Book>(

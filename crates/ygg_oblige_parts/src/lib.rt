@@ -16,5 +16,6 @@ pub use outcome::SymObligation;
 pub use passing::SymStep;
 pub use states::{Maker, SymStarting, SymTrio};
 pub use ygg_sym::{
-    SymBelow, SymBlock, SymCut, SymEnd, cut, failure_room, lost, low_at_start, places, run, zeros,
+    Bank, Book, Id, NoMemory, SymBelow, SymBlock, SymCut, SymEnd, SymLayer, SymPicks, SymValues,
+    block, cut, failure_room, lost, low_at_start, places, run, zeros,
 };

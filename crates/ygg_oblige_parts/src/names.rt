@@ -1,25 +1,20 @@
 //! Names with values of terms, and how many words they have.
 
 ghost use Rattle.std.specs.Prelude.{◌≡◌, ◌++◌, ◌+◌, ◌<◌, ◌^◌, IfOk, OnOk};
-ghost use Rattle.ygg_bank.specs.Inputs.{InputsBelow};
-ghost use Rattle.ygg_bank.specs.Nodes.{Extends, IsBank};
-ghost use Rattle.ygg_shape.specs.Fresh.{words_of};
+ghost use Rattle.ygg_sym.specs.ygg_bank.Inputs.{InputsBelow};
+ghost use Rattle.ygg_sym.specs.ygg_bank.Nodes.{Extends, IsBank};
+ghost use Rattle.ygg_sym.specs.ygg_shape.Fresh.{words_of};
 ghost use Rattle.ygg_value.specs.Shapes.{IsShape};
-ghost use Rattle.ygg_meaning.specs.Shapes.{shape_in};
-ghost use Rattle.ygg_sym_below.specs.Lows.{LowShaped};
-ghost use Rattle.ygg_sym_expr.specs.Names.{sym_bind};
-ghost use Rattle.ygg_sym_expr.specs.Seen.{env_of};
+ghost use Rattle.ygg_sym.specs.ygg_meaning.Shapes.{shape_in};
+ghost use Rattle.ygg_sym.specs.ygg_sym_below.Lows.{LowShaped};
+ghost use Rattle.ygg_sym.specs.ygg_sym_expr.Names.{sym_bind};
+ghost use Rattle.ygg_sym.specs.ygg_sym_expr.Seen.{env_of};
 ghost use Rattle.ygg_oblige_pieces.specs.Layers.{ShapesKept};
 ghost use Rattle.ygg_oblige_pieces.specs.ObligeTermsStates.{fresh_all, words_in};
 
 use std::alloc::Global;
-use ygg_bank::{Bank, NoMemory};
 use ygg_list::Duplicate;
-use ygg_rules::Book;
-use ygg_shape::inputs_of;
-use ygg_shape_cells::{SymValue, SymValues};
-use ygg_sym::shape_of;
-use ygg_sym_expr::SymBinding;
+use ygg_sym::{Bank, Book, NoMemory, SymBinding, SymValue, SymValues, inputs_of, shape_of};
 use ygg_syntax::tree::{Declared, TypeText};
 
 /// Adds the declared names with these values, in order. Its only error is out of memory.

@@ -1,10 +1,10 @@
 //! What a layer's own specification may do, over terms.
 
 ghost use Rattle.std.specs.Prelude.{◌≡◌, IfOk, OnOk};
-ghost use Rattle.ygg_bank.specs.Nodes.{Extends, IsBank};
-ghost use Rattle.ygg_sym_below.specs.Disks.{done};
-ghost use Rattle.ygg_sym_below.specs.Lows.{LowShaped};
-ghost use Rattle.ygg_sym_runs.specs.Lower.{KeepsSingle, SingleFrom};
+ghost use Rattle.ygg_sym.specs.ygg_bank.Nodes.{Extends, IsBank};
+ghost use Rattle.ygg_sym.specs.ygg_sym_below.Disks.{done};
+ghost use Rattle.ygg_sym.specs.ygg_sym_below.Lows.{LowShaped};
+ghost use Rattle.ygg_sym.specs.ygg_sym_runs.Lower.{KeepsSingle, SingleFrom};
 ghost use Rattle.ygg_sym.specs.Layers.{closed, terms_in};
 ghost use Rattle.ygg_sym.specs.Sites.{below_in};
 ghost use Rattle.ygg_oblige_pieces.specs.Layers.{OperationFits};
@@ -15,10 +15,9 @@ ghost use Rattle.ygg_oblige_parts.specs.Makers.{LayerFits};
 ghost use Rattle.ygg_oblige_parts.specs.Steps.{obligation_of};
 
 use crate::states::Maker;
-use ygg_bank::{Bank, NoMemory};
-use ygg_rules::Book;
-use ygg_shape_cells::SymValues;
-use ygg_sym::{SpecDone, SymPicks, block, crash, start, then_crash};
+use ygg_sym::{
+    Bank, Book, NoMemory, SpecDone, SymPicks, SymValues, block, crash, start, then_crash,
+};
 use ygg_syntax::tree::{Operation, Tick};
 
 /// An obligation of a layer, with its operation or background step.

@@ -1,14 +1,14 @@
 //! Whether some step of a layer's own specification passes, over terms.
 
 ghost use Rattle.std.specs.Prelude.{◌≡◌, ◌<◌, ◌++◌, ◌∷◌, [], IfOk, OnOk};
-ghost use Rattle.ygg_bank.specs.Nodes.{Extends, HasWidth, IsBank};
-ghost use Rattle.ygg_meaning.specs.Violates.{most};
-ghost use Rattle.ygg_sym_runs.specs.Lower.{KeepsSingle};
+ghost use Rattle.ygg_sym.specs.ygg_bank.Nodes.{Extends, HasWidth, IsBank};
+ghost use Rattle.ygg_sym.specs.ygg_meaning.Violates.{most};
+ghost use Rattle.ygg_sym.specs.ygg_sym_runs.Lower.{KeepsSingle};
 ghost use Rattle.ygg_sym.specs.Layers.{closed};
 ghost use Rattle.ygg_oblige_pieces.specs.Outcomes.{any_picks};
 ghost use Rattle.ygg_oblige_pieces.specs.Terms.{same_answers_made};
 ghost use Rattle.ygg_syntax.specs.Choices.{choices_of};
-ghost use Rattle.ygg_syntax_count.specs.Budget.{limit};
+ghost use Rattle.ygg_sym.specs.ygg_syntax_count.Budget.{limit};
 ghost use Rattle.ygg_oblige_parts.specs.Passing.{AskedAlike, StepCan, passes_of, some_of};
 ghost use Rattle.ygg_oblige_parts.specs.Steps.{obligation_of};
 
@@ -17,11 +17,8 @@ use crate::digits::{constant, join};
 use crate::outcome::SymObligation;
 use crate::states::Maker;
 use std::alloc::Global;
-use ygg_bank::{Bank, Id, NoMemory};
-use ygg_rules::Book;
-use ygg_shape_cells::{SymValue, SymValues};
+use ygg_sym::{Bank, Book, Id, NoMemory, SymValue, SymValues, choices};
 use ygg_syntax::tree::Block;
-use ygg_syntax_count::choices;
 use ygg_value::Op;
 
 /// From how many choices on a block has more than the count tells.

@@ -1,12 +1,12 @@
 //! The states that a layer's obligations speak of, over terms.
 
 ghost use Rattle.std.specs.Prelude.{◌≡◌, ◌+◌, ◌<◌, ◌^◌, IfOk, OnOk, All};
-ghost use Rattle.ygg_bank.specs.Inputs.{InputsBelow};
-ghost use Rattle.ygg_bank.specs.Nodes.{Extends, HasWidth, IsBank};
-ghost use Rattle.ygg_meaning.specs.Related.{relations};
-ghost use Rattle.ygg_sym_below.specs.Lows.{LowShaped};
-ghost use Rattle.ygg_sym_expr.specs.Seen.{env_of};
-ghost use Rattle.ygg_sym_runs.specs.Lower.{KeepsSingle};
+ghost use Rattle.ygg_sym.specs.ygg_bank.Inputs.{InputsBelow};
+ghost use Rattle.ygg_sym.specs.ygg_bank.Nodes.{Extends, HasWidth, IsBank};
+ghost use Rattle.ygg_sym.specs.ygg_meaning.Related.{relations};
+ghost use Rattle.ygg_sym.specs.ygg_sym_below.Lows.{LowShaped};
+ghost use Rattle.ygg_sym.specs.ygg_sym_expr.Seen.{env_of};
+ghost use Rattle.ygg_sym.specs.ygg_sym_runs.Lower.{KeepsSingle};
 ghost use Rattle.ygg_sym.specs.Layers.{closed, terms_in};
 ghost use Rattle.ygg_oblige_pieces.specs.ObligeTermsStates.{
   fresh_trio,
@@ -25,12 +25,8 @@ use crate::digits::join;
 use crate::formulas::{digit, truths};
 use crate::names::{add_names, fresh, words_in};
 use std::alloc::Global;
-use ygg_bank::{Bank, Id, NoMemory};
-use ygg_rules::Book;
-use ygg_shape_cells::SymValues;
-use ygg_shape_hypothesis::{Replacements, facts, replace};
-use ygg_sym::{SymBelow, SymLayer};
-use ygg_sym_expr::{SymBinding, SymEvaluator};
+use ygg_oblige_pieces::{Replacements, facts, replace};
+use ygg_sym::{Bank, Book, Id, NoMemory, SymBelow, SymBinding, SymEvaluator, SymLayer, SymValues};
 use ygg_value::Op;
 
 /// Variables of a specification, a memory, and a state below.

@@ -2,24 +2,24 @@
 use Rattle.std.proofs.Common.{◌≡◌, ◌+◌, ◌||◌, ℕ, zero, suc, Bool, true, false, List, [], ◌∷◌, ◌++◌, length, refl, sym, ap, ◌∙◌, arith, append_assoc}
 use Rattle.std.proofs.lemmas.List.{append-nil}
 use Rattle.ygg_value.specs.declared.operation.Op.TheVariants.{Or}
-use Rattle.ygg_meaning.specs.Machine.{Picks}
-use Rattle.ygg_meaning.specs.Obligations.{NoPicksPass}
-use Rattle.ygg_histories.proofs.Search.{Passes}
-use Rattle.ygg_rules.specs.declared.rule.RuleKind.{RuleKind}
-use Rattle.ygg_bank.proofs.Made.{made_grows}
-use Rattle.ygg_bank.proofs.Meaning.{fits_fewer}
-use Rattle.ygg_bank.proofs.Widths.{wider, extends_both}
-use Rattle.ygg_bank.specs.Makes.{Make}
-use Rattle.ygg_bank.specs.Making.{made}
-use Rattle.ygg_bank.specs.Nodes.{HasWidth, Extends}
-use Rattle.ygg_bank.specs.Values.{Inputs, Values}
-use Rattle.ygg_bank.specs.declared.node.Id.{Id}
-use Rattle.ygg_bank.specs.declared.node.Node.{Node}
-use Rattle.ygg_bank.specs.declared.node.Node.TheVariants.{Bin}
-use Rattle.ygg_shape_words.proofs.Keeps.{Stays}
-use Rattle.ygg_direct.proofs.Placing.{long_append}
-use Rattle.ygg_sym_expr.specs.Meaning.{Grows, Gives}
-use Rattle.ygg_sym_expr.proofs.Keeps.{Keeps}
+use Rattle.ygg_sym_laws_spec.specs.ygg_meaning.Machine.{Picks}
+use Rattle.ygg_sym_laws_spec.specs.ygg_meaning.Obligations.{NoPicksPass}
+use Rattle.ygg_sym_laws_spec.proofs.of_ygg_histories.Search.{Passes}
+use Rattle.ygg_sym_laws_spec.specs.ygg_rules.declared.rule.RuleKind.{RuleKind}
+use Rattle.ygg_sym_laws_spec.specs.ygg_bank_proofs_Made.{made_grows}
+use Rattle.ygg_sym_laws_spec.specs.ygg_bank_proofs_Meaning.{fits_fewer}
+use Rattle.ygg_sym_laws_spec.specs.ygg_bank_proofs_Widths.{wider, extends_both}
+use Rattle.ygg_sym_laws_spec.specs.ygg_bank.Makes.{Make}
+use Rattle.ygg_sym_laws_spec.specs.ygg_bank.Making.{made}
+use Rattle.ygg_sym_laws_spec.specs.ygg_bank.Nodes.{HasWidth, Extends}
+use Rattle.ygg_sym_laws_spec.specs.ygg_bank.Values.{Inputs, Values}
+use Rattle.ygg_sym_laws_spec.specs.ygg_bank.declared.node.Id.{Id}
+use Rattle.ygg_sym_laws_spec.specs.ygg_bank.declared.node.Node.{Node}
+use Rattle.ygg_sym_laws_spec.specs.ygg_bank.declared.node.Node.TheVariants.{Bin}
+use Rattle.ygg_sym_laws_spec.specs.ygg_shape_words_proofs_Keeps.{Stays}
+use Rattle.ygg_sym_laws_spec.specs.ygg_direct_proofs_Placing.{long_append}
+use Rattle.ygg_sym_laws_spec.specs.ygg_sym_expr.Meaning.{Grows, Gives}
+use Rattle.ygg_sym_laws_spec.specs.ygg_sym_expr_proofs_Keeps.{Keeps}
 use Rattle.ygg_sym_laws_spec.specs.Meaning.{is_set}
 use Rattle.ygg_oblige_terms.specs.Outcomes.{any_picks}
 use Rattle.ygg_oblige_pieces.proofs.Truth.{or_gives}

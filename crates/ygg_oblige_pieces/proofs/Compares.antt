@@ -10,30 +10,30 @@ use Rattle.ygg_value.specs.declared.operation.Op.TheVariants.{And}
 use Rattle.ygg_syntax.specs.declared.tree.Declared.{Declared}
 use Rattle.ygg_syntax.specs.declared.tree.Operation.{Operation}
 use Rattle.ygg_syntax.specs.declared.tree.TypeText.{TypeText}
-use Rattle.ygg_type_rules.specs.Layers.{operation_signature}
-use Rattle.ygg_type_rules.specs.Shapes.{answer_shape}
-use Rattle.ygg_type_sound.proofs.Tests.{bytes_equal}
-use Rattle.ygg_meaning.specs.Environments.{same_env}
-use Rattle.ygg_meaning.specs.Shapes.{shape_in, zeros_of}
-use Rattle.ygg_meaning.specs.Violates.{same_answer}
-use Rattle.ygg_type_progress.specs.Questions.{answer_has, gives}
-use Rattle.ygg_type_progress.proofs.Fits.{one_shape}
-use Rattle.ygg_rules.specs.declared.rule.RuleKind.{RuleKind}
-use Rattle.ygg_bank.proofs.Made.{made_grows}
-use Rattle.ygg_bank.proofs.Meaning.{fits_fewer}
-use Rattle.ygg_bank.specs.Making.{made}
-use Rattle.ygg_bank.specs.Values.{Inputs, Values}
-use Rattle.ygg_bank.specs.declared.node.Node.{Node}
-use Rattle.ygg_bank.specs.declared.node.Node.TheVariants.{Const, Bin}
-use Rattle.ygg_shape_words.proofs.Keeps.{Stays}
-use Rattle.ygg_shape_cells.specs.Making.{compared}
-use Rattle.ygg_shape_cells.specs.Terms.{IsShaped, worth}
-use Rattle.ygg_shape_cells.specs.declared.terms.SymValue.{SymValue}
-use Rattle.ygg_shape.proofs.Grows.{compared_grows}
-use Rattle.ygg_shape.proofs.Keeps.{compared_keeps}
-use Rattle.ygg_shape.proofs.Makers.{compared_gives}
-use Rattle.ygg_sym_expr.specs.Meaning.{SomeShape, Grows, Gives}
-use Rattle.ygg_sym_expr.proofs.Keeps.{Keeps}
+use Rattle.ygg_sym_laws_spec.specs.ygg_type_rules.Layers.{operation_signature}
+use Rattle.ygg_sym_laws_spec.specs.ygg_type_rules.Shapes.{answer_shape}
+use Rattle.ygg_sym_laws_spec.specs.ygg_type_sound_proofs_Tests.{bytes_equal}
+use Rattle.ygg_sym_laws_spec.specs.ygg_meaning.Environments.{same_env}
+use Rattle.ygg_sym_laws_spec.specs.ygg_meaning.Shapes.{shape_in, zeros_of}
+use Rattle.ygg_sym_laws_spec.specs.ygg_meaning.Violates.{same_answer}
+use Rattle.ygg_sym_laws_spec.specs.ygg_type_progress.Questions.{answer_has, gives}
+use Rattle.ygg_sym_laws_spec.specs.ygg_type_progress_proofs_Fits.{one_shape}
+use Rattle.ygg_sym_laws_spec.specs.ygg_rules.declared.rule.RuleKind.{RuleKind}
+use Rattle.ygg_sym_laws_spec.specs.ygg_bank_proofs_Made.{made_grows}
+use Rattle.ygg_sym_laws_spec.specs.ygg_bank_proofs_Meaning.{fits_fewer}
+use Rattle.ygg_sym_laws_spec.specs.ygg_bank.Making.{made}
+use Rattle.ygg_sym_laws_spec.specs.ygg_bank.Values.{Inputs, Values}
+use Rattle.ygg_sym_laws_spec.specs.ygg_bank.declared.node.Node.{Node}
+use Rattle.ygg_sym_laws_spec.specs.ygg_bank.declared.node.Node.TheVariants.{Const, Bin}
+use Rattle.ygg_sym_laws_spec.specs.ygg_shape_words_proofs_Keeps.{Stays}
+use Rattle.ygg_sym_laws_spec.specs.ygg_shape_cells.Making.{compared}
+use Rattle.ygg_sym_laws_spec.specs.ygg_shape_cells.Terms.{IsShaped, worth}
+use Rattle.ygg_sym_laws_spec.specs.ygg_shape_cells.declared.terms.SymValue.{SymValue}
+use Rattle.ygg_sym_laws_spec.specs.ygg_shape_proofs_Grows.{compared_grows}
+use Rattle.ygg_sym_laws_spec.specs.ygg_shape_proofs_Keeps.{compared_keeps}
+use Rattle.ygg_sym_laws_spec.specs.ygg_shape_proofs_Makers.{compared_gives}
+use Rattle.ygg_sym_laws_spec.specs.ygg_sym_expr.Meaning.{SomeShape, Grows, Gives}
+use Rattle.ygg_sym_laws_spec.specs.ygg_sym_expr_proofs_Keeps.{Keeps}
 use Rattle.ygg_sym_laws_spec.proofs.Worths.{shape_fits}
 use Rattle.ygg_sym_laws_spec.specs.Meaning.{AnswerShaped, answer_worth}
 use Rattle.ygg_sym_laws_spec.proofs.Lows.{low_wider}

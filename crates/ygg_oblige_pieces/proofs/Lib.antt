@@ -1,3 +1,4 @@
+pub use Rattle.ygg_sym_laws_spec.proofs.of_ygg_type_progress
 pub use Rattle.ygg_sym_laws_spec.proofs.AnyLayer
 pub mod Glued
 pub mod Digits

@@ -9,42 +9,42 @@ use Rattle.ygg_syntax.specs.declared.tree.Block.{Block}
 use Rattle.ygg_syntax.specs.declared.tree.Declared.{Declared}
 use Rattle.ygg_syntax.specs.declared.tree.Def.{Def}
 use Rattle.ygg_syntax.specs.declared.tree.Operation.{Operation}
-use Rattle.ygg_symbols.specs.Names.{Named}
-use Rattle.ygg_type_rules.specs.Definitions.{with_definitions}
-use Rattle.ygg_type_rules.specs.Layers.{operation_signature}
-use Rattle.ygg_type_rules.specs.declared.scope.Signature.{Signature}
-use Rattle.ygg_meaning.specs.Environments.{Env, bind}
-use Rattle.ygg_meaning.specs.Layer.{ClosedLayer}
-use Rattle.ygg_meaning.specs.Machine.{Picks, State, based}
-use Rattle.ygg_meaning.specs.Obligations.{Obligation, Init, CallOf, CutOf, TickOf, CutTickOf, Idle, Again, crash_picks}
-use Rattle.ygg_meaning.specs.Refines.{Below}
-use Rattle.ygg_meaning.specs.Related.{related}
-use Rattle.ygg_meaning.specs.Spec.{SpecStarts}
-use Rattle.ygg_meaning.specs.Violates.{same_answer}
-use Rattle.ygg_type_progress.specs.Kinds.{keeps, on_crash_keeps}
-use Rattle.ygg_type_progress.specs.Questions.{gives}
-use Rattle.ygg_rules.specs.declared.rule.RuleKind.{RuleKind}
-use Rattle.ygg_bank.proofs.Made.{made_grows}
-use Rattle.ygg_bank.proofs.Meaning.{fits_fewer}
-use Rattle.ygg_bank.proofs.Widths.{extends_both}
-use Rattle.ygg_bank.specs.Makes.{Make}
-use Rattle.ygg_bank.specs.Making.{made}
-use Rattle.ygg_bank.specs.Nodes.{Extends}
-use Rattle.ygg_bank.specs.Values.{Inputs, Values}
-use Rattle.ygg_bank.specs.declared.node.Node.{Node}
-use Rattle.ygg_bank.specs.declared.node.Node.TheVariants.{Const, Bin}
-use Rattle.ygg_shape_words.proofs.Keeps.{Stays}
-use Rattle.ygg_shape_cells.specs.declared.terms.SymValue.{SymValue}
-use Rattle.ygg_direct.specs.Acts.{next_of}
-use Rattle.ygg_direct.specs.Places.{left_after, Result, outcome_by_place}
-use Rattle.ygg_direct.specs.SpecPlaces.{crash_by_place, then_by_place}
-use Rattle.ygg_sym_expr.specs.Exprs.{SymFunctions}
-use Rattle.ygg_sym_expr.specs.Meaning.{Grows, Gives}
-use Rattle.ygg_sym_expr.specs.Names.{sym_bind}
-use Rattle.ygg_sym_expr.proofs.Grows.{FunctionsGrow, functions_grow}
-use Rattle.ygg_sym_expr.proofs.Keeps.{Keeps, FunctionsKeep}
-use Rattle.ygg_sym_expr.proofs.Shaped.{some_wider}
-use Rattle.ygg_sym_expr.proofs.Values.{FunctionsMean}
+use Rattle.ygg_sym_laws_spec.specs.ygg_symbols.Names.{Named}
+use Rattle.ygg_sym_laws_spec.specs.ygg_type_rules.Definitions.{with_definitions}
+use Rattle.ygg_sym_laws_spec.specs.ygg_type_rules.Layers.{operation_signature}
+use Rattle.ygg_sym_laws_spec.specs.ygg_type_rules.declared.scope.Signature.{Signature}
+use Rattle.ygg_sym_laws_spec.specs.ygg_meaning.Environments.{Env, bind}
+use Rattle.ygg_sym_laws_spec.specs.ygg_meaning.Layer.{ClosedLayer}
+use Rattle.ygg_sym_laws_spec.specs.ygg_meaning.Machine.{Picks, State, based}
+use Rattle.ygg_sym_laws_spec.specs.ygg_meaning.Obligations.{Obligation, Init, CallOf, CutOf, TickOf, CutTickOf, Idle, Again, crash_picks}
+use Rattle.ygg_sym_laws_spec.specs.ygg_meaning.Refines.{Below}
+use Rattle.ygg_sym_laws_spec.specs.ygg_meaning.Related.{related}
+use Rattle.ygg_sym_laws_spec.specs.ygg_meaning.Spec.{SpecStarts}
+use Rattle.ygg_sym_laws_spec.specs.ygg_meaning.Violates.{same_answer}
+use Rattle.ygg_sym_laws_spec.specs.ygg_type_progress.Kinds.{keeps, on_crash_keeps}
+use Rattle.ygg_sym_laws_spec.specs.ygg_type_progress.Questions.{gives}
+use Rattle.ygg_sym_laws_spec.specs.ygg_rules.declared.rule.RuleKind.{RuleKind}
+use Rattle.ygg_sym_laws_spec.specs.ygg_bank_proofs_Made.{made_grows}
+use Rattle.ygg_sym_laws_spec.specs.ygg_bank_proofs_Meaning.{fits_fewer}
+use Rattle.ygg_sym_laws_spec.specs.ygg_bank_proofs_Widths.{extends_both}
+use Rattle.ygg_sym_laws_spec.specs.ygg_bank.Makes.{Make}
+use Rattle.ygg_sym_laws_spec.specs.ygg_bank.Making.{made}
+use Rattle.ygg_sym_laws_spec.specs.ygg_bank.Nodes.{Extends}
+use Rattle.ygg_sym_laws_spec.specs.ygg_bank.Values.{Inputs, Values}
+use Rattle.ygg_sym_laws_spec.specs.ygg_bank.declared.node.Node.{Node}
+use Rattle.ygg_sym_laws_spec.specs.ygg_bank.declared.node.Node.TheVariants.{Const, Bin}
+use Rattle.ygg_sym_laws_spec.specs.ygg_shape_words_proofs_Keeps.{Stays}
+use Rattle.ygg_sym_laws_spec.specs.ygg_shape_cells.declared.terms.SymValue.{SymValue}
+use Rattle.ygg_sym_laws_spec.specs.ygg_direct.Acts.{next_of}
+use Rattle.ygg_sym_laws_spec.specs.ygg_direct.Places.{left_after, Result, outcome_by_place}
+use Rattle.ygg_sym_laws_spec.specs.ygg_direct.SpecPlaces.{crash_by_place, then_by_place}
+use Rattle.ygg_sym_laws_spec.specs.ygg_sym_expr.Exprs.{SymFunctions}
+use Rattle.ygg_sym_laws_spec.specs.ygg_sym_expr.Meaning.{Grows, Gives}
+use Rattle.ygg_sym_laws_spec.specs.ygg_sym_expr.Names.{sym_bind}
+use Rattle.ygg_sym_laws_spec.specs.ygg_sym_expr_proofs_Grows.{FunctionsGrow, functions_grow}
+use Rattle.ygg_sym_laws_spec.specs.ygg_sym_expr_proofs_Keeps.{Keeps, FunctionsKeep}
+use Rattle.ygg_sym_laws_spec.specs.ygg_sym_expr_proofs_Shaped.{some_wider}
+use Rattle.ygg_sym_laws_spec.specs.ygg_sym_expr_proofs_Values.{FunctionsMean}
 use Rattle.ygg_sym_laws_spec.specs.Meaning.{AnswerShaped, answer_worth}
 use Rattle.ygg_sym_laws_spec.proofs.Blocks.{BlockOfSpec, values_worth, low_stands, block_made_gives}
 use Rattle.ygg_sym_laws_spec.proofs.Chosen.{block_end, nth, placed_end}

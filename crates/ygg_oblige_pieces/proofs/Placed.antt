@@ -30,20 +30,20 @@ use Rattle.ygg_syntax.specs.declared.grammar.BlockKind.TheVariants.{Spec}
 use Rattle.ygg_syntax.specs.declared.tree.Block.{Block}
 use Rattle.ygg_syntax.specs.declared.tree.Operation.{Operation}
 use Rattle.ygg_value.specs.declared.row.Value.{Value}
-use Rattle.ygg_meaning.specs.Environments.{Env, bind}
-use Rattle.ygg_meaning.specs.Layer.{ClosedLayer}
-use Rattle.ygg_meaning.specs.Machine.{Picks}
-use Rattle.ygg_meaning.specs.Obligations.{Schedule, Obligation, Init, CallOf, CutOf, TickOf, CutTickOf, Idle, Again, NoPicksPass, crash_picks}
-use Rattle.ygg_meaning.specs.Spec.{Outcome, chosen, then_block, call_outcome, crash_outcome, fall_with, start_outcome}
-use Rattle.ygg_meaning.specs.Violates.{End, most, passes, spec_after}
-use Rattle.ygg_type_progress.specs.Kinds.{keeps, on_crash_keeps}
-use Rattle.ygg_direct.specs.Acts.{next_of, later}
-use Rattle.ygg_direct.specs.Places.{left_after, Result, outcome_by_place}
-use Rattle.ygg_direct.specs.SpecPlaces.{crash_by_place, then_by_place, as_outcome, ChoosesAlone}
-use Rattle.ygg_direct.proofs.Choosing.{choices_room}
-use Rattle.ygg_direct.proofs.Failing.{fails_by_place}
-use Rattle.ygg_direct.proofs.Matching.{Fronts, Puts, Matches, block_matches, then_matches, fall_on_crash, fails_alike}
-use Rattle.ygg_direct.proofs.Placing.{after_more, zeros_long, long_append}
+use Rattle.ygg_sym_laws_spec.specs.ygg_meaning.Environments.{Env, bind}
+use Rattle.ygg_sym_laws_spec.specs.ygg_meaning.Layer.{ClosedLayer}
+use Rattle.ygg_sym_laws_spec.specs.ygg_meaning.Machine.{Picks}
+use Rattle.ygg_sym_laws_spec.specs.ygg_meaning.Obligations.{Schedule, Obligation, Init, CallOf, CutOf, TickOf, CutTickOf, Idle, Again, NoPicksPass, crash_picks}
+use Rattle.ygg_sym_laws_spec.specs.ygg_meaning.Spec.{Outcome, chosen, then_block, call_outcome, crash_outcome, fall_with, start_outcome}
+use Rattle.ygg_sym_laws_spec.specs.ygg_meaning.Violates.{End, most, passes, spec_after}
+use Rattle.ygg_sym_laws_spec.specs.ygg_type_progress.Kinds.{keeps, on_crash_keeps}
+use Rattle.ygg_sym_laws_spec.specs.ygg_direct.Acts.{next_of, later}
+use Rattle.ygg_sym_laws_spec.specs.ygg_direct.Places.{left_after, Result, outcome_by_place}
+use Rattle.ygg_sym_laws_spec.specs.ygg_direct.SpecPlaces.{crash_by_place, then_by_place, as_outcome, ChoosesAlone}
+use Rattle.ygg_sym_laws_spec.specs.ygg_direct_proofs_Choosing.{choices_room}
+use Rattle.ygg_sym_laws_spec.proofs.of_ygg_direct.Failing.{fails_by_place}
+use Rattle.ygg_sym_laws_spec.proofs.of_ygg_direct.Matching.{Fronts, Puts, Matches, block_matches, then_matches, fall_on_crash, fails_alike}
+use Rattle.ygg_sym_laws_spec.specs.ygg_direct_proofs_Placing.{after_more, zeros_long, long_append}
 use Rattle.ygg_sym_laws_spec.proofs.Chosen.{room, same_below, nth, placed_end}
 use Rattle.ygg_sym_laws_spec.proofs.SpecFalls.{bits_after, crash_end, then_end}
 

@@ -2,22 +2,22 @@
 use Rattle.std.proofs.Common.{◌≡◌, ◌⊎◌, inl, inr, Bool, true, false, List, [], length, refl, sym, ap, subst, arith}
 use Rattle.ygg_syntax.specs.declared.grammar.BlockKind.TheVariants.{Spec}
 use Rattle.ygg_syntax.specs.declared.tree.Def.{Def}
-use Rattle.ygg_meaning.specs.Environments.{bind}
-use Rattle.ygg_meaning.specs.Layer.{ClosedLayer}
-use Rattle.ygg_meaning.specs.Machine.{Picks}
-use Rattle.ygg_meaning.specs.Obligations.{Schedule, Obligation, Init, CallOf, CutOf, TickOf, CutTickOf, Idle, Again, NoPicksPass}
-use Rattle.ygg_meaning.specs.Refines.{Below}
-use Rattle.ygg_meaning.specs.Violates.{End, related_after, same_answer, most, spec_after, passes}
-use Rattle.ygg_histories.proofs.Search.{Passes, find_picks}
-use Rattle.ygg_type_progress.specs.Kinds.{keeps}
-use Rattle.ygg_rules.specs.declared.rule.RuleKind.{RuleKind}
-use Rattle.ygg_bank.specs.Nodes.{Extends}
-use Rattle.ygg_bank.specs.Values.{Inputs, Values}
-use Rattle.ygg_bank.specs.declared.node.Node.{Node}
-use Rattle.ygg_shape_cells.specs.declared.terms.SymValue.{SymValue}
-use Rattle.ygg_direct.specs.Places.{outcome_by_place}
-use Rattle.ygg_direct.specs.SpecPlaces.{crash_by_place, ChoosesAlone}
-use Rattle.ygg_sym_expr.specs.Meaning.{Grows, Gives}
+use Rattle.ygg_sym_laws_spec.specs.ygg_meaning.Environments.{bind}
+use Rattle.ygg_sym_laws_spec.specs.ygg_meaning.Layer.{ClosedLayer}
+use Rattle.ygg_sym_laws_spec.specs.ygg_meaning.Machine.{Picks}
+use Rattle.ygg_sym_laws_spec.specs.ygg_meaning.Obligations.{Schedule, Obligation, Init, CallOf, CutOf, TickOf, CutTickOf, Idle, Again, NoPicksPass}
+use Rattle.ygg_sym_laws_spec.specs.ygg_meaning.Refines.{Below}
+use Rattle.ygg_sym_laws_spec.specs.ygg_meaning.Violates.{End, related_after, same_answer, most, spec_after, passes}
+use Rattle.ygg_sym_laws_spec.proofs.of_ygg_histories.Search.{Passes, find_picks}
+use Rattle.ygg_sym_laws_spec.specs.ygg_type_progress.Kinds.{keeps}
+use Rattle.ygg_sym_laws_spec.specs.ygg_rules.declared.rule.RuleKind.{RuleKind}
+use Rattle.ygg_sym_laws_spec.specs.ygg_bank.Nodes.{Extends}
+use Rattle.ygg_sym_laws_spec.specs.ygg_bank.Values.{Inputs, Values}
+use Rattle.ygg_sym_laws_spec.specs.ygg_bank.declared.node.Node.{Node}
+use Rattle.ygg_sym_laws_spec.specs.ygg_shape_cells.declared.terms.SymValue.{SymValue}
+use Rattle.ygg_sym_laws_spec.specs.ygg_direct.Places.{outcome_by_place}
+use Rattle.ygg_sym_laws_spec.specs.ygg_direct.SpecPlaces.{crash_by_place, ChoosesAlone}
+use Rattle.ygg_sym_laws_spec.specs.ygg_sym_expr.Meaning.{Grows, Gives}
 use Rattle.ygg_sym_laws_spec.specs.Meaning.{answer_worth}
 use Rattle.ygg_sym_laws_spec.proofs.Lows.{low_wider}
 use Rattle.ygg_sym_laws_spec.specs.Specs.{given_pick}

@@ -4,26 +4,26 @@ use Rattle.ygg_syntax.specs.declared.tree.Declared.{Declared}
 use Rattle.ygg_syntax.specs.declared.tree.Def.{Def}
 use Rattle.ygg_syntax.specs.declared.tree.Expr.{Expr}
 use Rattle.ygg_syntax.specs.declared.tree.Operation.{Operation}
-use Rattle.ygg_type_rules.specs.Layers.{operation_signature}
-use Rattle.ygg_type_rules.specs.Shapes.{answer_shape}
-use Rattle.ygg_meaning.specs.Environments.{Env, same_env}
-use Rattle.ygg_meaning.specs.Meaning.{value_with, is_one}
-use Rattle.ygg_meaning.specs.Layer.{ClosedLayer}
-use Rattle.ygg_meaning.specs.Refines.{Below}
-use Rattle.ygg_meaning.specs.Related.{shaped, all_true, relates, settles, related, settled}
-use Rattle.ygg_meaning.specs.Shapes.{shape_in, env_fits, zeros_of}
-use Rattle.ygg_meaning.specs.Violates.{same_answer}
-use Rattle.ygg_type_progress.specs.Questions.{gives}
-use Rattle.ygg_rules.specs.declared.rule.RuleKind.{RuleKind}
-use Rattle.ygg_bank.specs.Inputs.{InputsBelow, KeepsInputs}
-use Rattle.ygg_bank.specs.Makes.{Make}
-use Rattle.ygg_bank.specs.Nodes.{HasWidth}
-use Rattle.ygg_bank.specs.Values.{Inputs, Values}
-use Rattle.ygg_bank.specs.declared.node.Id.{Id}
-use Rattle.ygg_bank.specs.declared.node.Node.{Node}
-use Rattle.ygg_shape_cells.specs.declared.terms.SymValue.{SymValue}
-use Rattle.ygg_sym_expr.specs.Names.{SymScope}
-use Rattle.ygg_sym_expr.specs.Meaning.{ScopeShaped, Grows, Gives, worths, scope_worth}
+use Rattle.ygg_sym_laws_spec.specs.ygg_type_rules.Layers.{operation_signature}
+use Rattle.ygg_sym_laws_spec.specs.ygg_type_rules.Shapes.{answer_shape}
+use Rattle.ygg_sym_laws_spec.specs.ygg_meaning.Environments.{Env, same_env}
+use Rattle.ygg_sym_laws_spec.specs.ygg_meaning.Meaning.{value_with, is_one}
+use Rattle.ygg_sym_laws_spec.specs.ygg_meaning.Layer.{ClosedLayer}
+use Rattle.ygg_sym_laws_spec.specs.ygg_meaning.Refines.{Below}
+use Rattle.ygg_sym_laws_spec.specs.ygg_meaning.Related.{shaped, all_true, relates, settles, related, settled}
+use Rattle.ygg_sym_laws_spec.specs.ygg_meaning.Shapes.{shape_in, env_fits, zeros_of}
+use Rattle.ygg_sym_laws_spec.specs.ygg_meaning.Violates.{same_answer}
+use Rattle.ygg_sym_laws_spec.specs.ygg_type_progress.Questions.{gives}
+use Rattle.ygg_sym_laws_spec.specs.ygg_rules.declared.rule.RuleKind.{RuleKind}
+use Rattle.ygg_sym_laws_spec.specs.ygg_bank.Inputs.{InputsBelow, KeepsInputs}
+use Rattle.ygg_sym_laws_spec.specs.ygg_bank.Makes.{Make}
+use Rattle.ygg_sym_laws_spec.specs.ygg_bank.Nodes.{HasWidth}
+use Rattle.ygg_sym_laws_spec.specs.ygg_bank.Values.{Inputs, Values}
+use Rattle.ygg_sym_laws_spec.specs.ygg_bank.declared.node.Id.{Id}
+use Rattle.ygg_sym_laws_spec.specs.ygg_bank.declared.node.Node.{Node}
+use Rattle.ygg_sym_laws_spec.specs.ygg_shape_cells.declared.terms.SymValue.{SymValue}
+use Rattle.ygg_sym_laws_spec.specs.ygg_sym_expr.Names.{SymScope}
+use Rattle.ygg_sym_laws_spec.specs.ygg_sym_expr.Meaning.{ScopeShaped, Grows, Gives, worths, scope_worth}
 use Rattle.ygg_sym_laws_spec.specs.Meaning.{AnswerShaped, answer_worth, is_set}
 use Rattle.ygg_sym_laws_spec.specs.Lows.{LowShaped, low_worth}
 use Rattle.ygg_sym_laws_spec.specs.Below.{zeros_made}

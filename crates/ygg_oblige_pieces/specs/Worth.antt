@@ -1,13 +1,13 @@
 -- What parts of obligations' terms are worth.
 use Rattle.std.specs.Prelude.{◌≡◌, Bool, List}
 use Rattle.ygg_syntax.specs.declared.tree.Declared.{Declared}
-use Rattle.ygg_meaning.specs.Environments.{Env}
-use Rattle.ygg_meaning.specs.Layer.{ClosedLayer}
-use Rattle.ygg_bank.specs.Nodes.{HasWidth}
-use Rattle.ygg_bank.specs.Values.{Values}
-use Rattle.ygg_bank.specs.declared.node.Id.{Id}
-use Rattle.ygg_bank.specs.declared.node.Node.{Node}
-use Rattle.ygg_shape_cells.specs.declared.terms.SymValue.{SymValue}
+use Rattle.ygg_sym_laws_spec.specs.ygg_meaning.Environments.{Env}
+use Rattle.ygg_sym_laws_spec.specs.ygg_meaning.Layer.{ClosedLayer}
+use Rattle.ygg_sym_laws_spec.specs.ygg_bank.Nodes.{HasWidth}
+use Rattle.ygg_sym_laws_spec.specs.ygg_bank.Values.{Values}
+use Rattle.ygg_sym_laws_spec.specs.ygg_bank.declared.node.Id.{Id}
+use Rattle.ygg_sym_laws_spec.specs.ygg_bank.declared.node.Node.{Node}
+use Rattle.ygg_sym_laws_spec.specs.ygg_shape_cells.declared.terms.SymValue.{SymValue}
 use Rattle.ygg_sym_laws_spec.specs.Meaning.{is_set}
 use Rattle.ygg_sym_laws_spec.specs.Lows.{LowShaped, low_worth}
 use Rattle.ygg_oblige_terms.specs.States.{Trio}

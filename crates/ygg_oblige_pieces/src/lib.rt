@@ -2,3 +2,6 @@
 #![tactic(auto)]
 
 pub mod law;
+
+pub use ygg_oblige_terms::{Replacements, facts, replace};
+pub use ygg_sym_laws_spec::{refines_by_list, typed_histories};

@@ -9,22 +9,22 @@ use Rattle.ygg_syntax.specs.declared.tree.Declared.{Declared}
 use Rattle.ygg_syntax.specs.declared.tree.DiskText.{DiskText}
 use Rattle.ygg_syntax.specs.declared.tree.File.{File}
 use Rattle.ygg_syntax.specs.declared.tree.Layer.{Layer}
-use Rattle.ygg_meaning.specs.Layer.{ClosedLayer}
-use Rattle.ygg_meaning.specs.Meaning.{functions_of}
-use Rattle.ygg_meaning.specs.Obligations.{Obligation, obligations_of}
-use Rattle.ygg_meaning.specs.Refines.{Below}
-use Rattle.ygg_histories.specs.Claims.{Claim, claims_at, claims_of, claims_on}
-use Rattle.ygg_histories.specs.Stack.{Layers, below_of, layers_of}
-use Rattle.ygg_bank.specs.Values.{Inputs}
-use Rattle.ygg_sym_expr.specs.Exprs.{SymFunctions}
-use Rattle.ygg_sym_laws.specs.Means.{terms_of}
+use Rattle.ygg_eval_lower.specs.ygg_meaning.Layer.{ClosedLayer}
+use Rattle.ygg_eval_lower.specs.ygg_meaning.Meaning.{functions_of}
+use Rattle.ygg_eval_lower.specs.ygg_meaning.Obligations.{Obligation, obligations_of}
+use Rattle.ygg_eval_lower.specs.ygg_meaning.Refines.{Below}
+use Rattle.ygg_eval_lower.specs.ygg_histories.Claims.{Claim, claims_at, claims_of, claims_on}
+use Rattle.ygg_eval_lower.specs.ygg_histories.Stack.{Layers, below_of, layers_of}
+use Rattle.ygg_oblige.specs.ygg_bank.Values.{Inputs}
+use Rattle.ygg_oblige.specs.ygg_sym_expr.Exprs.{SymFunctions}
+use Rattle.ygg_oblige.specs.ygg_sym_laws.Means.{terms_of}
 use Rattle.ygg_eval_lower.specs.Layers.{below_at, closed_at, variables_at}
 use Rattle.ygg_eval_lower.specs.Numbers.{IsAt}
 use Rattle.ygg_eval_lower.proofs.Numbers.{below_is_numbered, listed_is_numbered}
-use Rattle.ygg_oblige_terms.specs.Layers.{LayerTyped}
-use Rattle.ygg_oblige_terms.specs.Numbers.{Numbers, numbers_of}
-use Rattle.ygg_oblige_terms.specs.States.{state_words}
-use Rattle.ygg_oblige_terms.specs.Terms.{after_all, after_layers}
+use Rattle.ygg_oblige.specs.ygg_oblige_terms.Layers.{LayerTyped}
+use Rattle.ygg_oblige.specs.ygg_oblige_terms.Numbers.{Numbers, numbers_of}
+use Rattle.ygg_oblige.specs.ygg_oblige_terms.States.{state_words}
+use Rattle.ygg_oblige.specs.ygg_oblige_terms.Terms.{after_all, after_layers}
 use Rattle.ygg_oblige_schedules.specs.Schedules.{all_schedules, layer_schedules, schedule_of, schedules_of}
 use Rattle.ygg_oblige_places.proofs.Lists.{get_left, get_right}
 use Rattle.ygg_oblige_places.specs.Sites.{IsPlaced, IsSite, layer_here, obligation_here}

@@ -7,23 +7,23 @@ use Rattle.ygg_syntax.specs.declared.tree.Declared.{Declared}
 use Rattle.ygg_syntax.specs.declared.tree.Def.{Def}
 use Rattle.ygg_syntax.specs.declared.tree.File.{File}
 use Rattle.ygg_syntax.specs.declared.tree.Layer.{Layer}
-use Rattle.ygg_meaning.specs.Layer.{ClosedLayer}
-use Rattle.ygg_meaning.specs.Meaning.{Functions, functions_of}
-use Rattle.ygg_meaning.specs.Obligations.{Obligation, obligations_of}
-use Rattle.ygg_meaning.specs.Refines.{Below, OnSpec}
-use Rattle.ygg_histories.specs.Claims.{claims_at, claims_of, claims_on}
-use Rattle.ygg_histories.specs.Stack.{Layers, below_of, layers_on, layers_of, tables_of}
-use Rattle.ygg_sym_laws.specs.Means.{terms_of}
-use Rattle.ygg_sym_spec.specs.Layers.{closed}
-use Rattle.ygg_sym_spec.specs.declared.layer.SymLayer.{SymLayer}
+use Rattle.ygg_eval_lower.specs.ygg_meaning.Layer.{ClosedLayer}
+use Rattle.ygg_eval_lower.specs.ygg_meaning.Meaning.{Functions, functions_of}
+use Rattle.ygg_eval_lower.specs.ygg_meaning.Obligations.{Obligation, obligations_of}
+use Rattle.ygg_eval_lower.specs.ygg_meaning.Refines.{Below, OnSpec}
+use Rattle.ygg_eval_lower.specs.ygg_histories.Claims.{claims_at, claims_of, claims_on}
+use Rattle.ygg_eval_lower.specs.ygg_histories.Stack.{Layers, below_of, layers_on, layers_of, tables_of}
+use Rattle.ygg_oblige.specs.ygg_sym_laws.Means.{terms_of}
+use Rattle.ygg_oblige.specs.ygg_sym_spec.Layers.{closed}
+use Rattle.ygg_oblige.specs.ygg_sym_spec.declared.layer.SymLayer.{SymLayer}
 use Rattle.ygg_oblige.specs.Sites.{below_in}
 use Rattle.ygg_oblige.specs.SymBelow.{SymBelow}
 use Rattle.ygg_oblige.specs.SymBelow.TheVariants as on
-use Rattle.ygg_oblige_terms.specs.Layers.{LayerTyped}
-use Rattle.ygg_oblige_terms.specs.Numbers.{Numbers, numbers_of}
-use Rattle.ygg_oblige_terms.specs.States.{state_words}
-use Rattle.ygg_oblige_terms.specs.Terms.{after_all, after_layer, after_layers}
-use Rattle.ygg_oblige_typed.specs.Layers.{LayersTyped}
+use Rattle.ygg_oblige.specs.ygg_oblige_terms.Layers.{LayerTyped}
+use Rattle.ygg_oblige.specs.ygg_oblige_terms.Numbers.{Numbers, numbers_of}
+use Rattle.ygg_oblige.specs.ygg_oblige_terms.States.{state_words}
+use Rattle.ygg_oblige.specs.ygg_oblige_terms.Terms.{after_all, after_layer, after_layers}
+use Rattle.ygg_oblige.specs.ygg_oblige_typed.Layers.{LayersTyped}
 use Rattle.ygg_oblige.specs.Making.{SiteFits}
 use Rattle.ygg_oblige.specs.Adding.{after_layer_at}
 use Rattle.ygg_oblige.proofs.Walking.{HasDefs, lower_typed, same_defs}

@@ -1,3 +1,10 @@
+pub use Rattle.ygg_eval_lower.proofs.Blocks as ygg_eval_lower_proofs_Blocks
+pub use Rattle.ygg_eval_lower.specs as ygg_eval_lower
+pub use Rattle.ygg_oblige.specs.ygg_oblige_typed
+pub use Rattle.ygg_rules.specs as ygg_rules
+pub use Rattle.ygg_eval_lower.specs.ygg_type_progress_proofs_Fits
+pub use Rattle.ygg_eval_lower.specs.ygg_type_rules
+pub use Rattle.ygg_eval_lower.specs.ygg_type_sound_proofs_Fits
 pub use Rattle.ygg_oblige_schedules.specs.Laws
 pub use Rattle.ygg_oblige_schedules.specs.Schedules
 pub use Rattle.ygg_oblige.specs.Obligations

@@ -7,4 +7,6 @@ mod starts;
 
 pub use listed::{Listed, obligation_at};
 pub use site::{Site, site_at};
+pub use ygg_eval_lower::{Body, Part, Typed};
 pub use ygg_oblige::{Obligation, SymObligation, name_of, obligations, tables, words_in};
+pub use ygg_rules::Book;

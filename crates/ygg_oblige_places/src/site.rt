@@ -1,17 +1,17 @@
 //! An obligation of a file with the inputs that it has.
 
 ghost use Rattle.std.specs.Prelude.{◌≡◌, ◌<◌, ◌+◌, length, take, slice_get, Some, IfOk};
-ghost use Rattle.ygg_histories.specs.Claims.{claims_of};
-ghost use Rattle.ygg_histories.specs.Stack.{layers_of, tables_of};
-ghost use Rattle.ygg_meaning.specs.Obligations.{obligations_of};
+ghost use Rattle.ygg_eval_lower.specs.ygg_histories.Claims.{claims_of};
+ghost use Rattle.ygg_eval_lower.specs.ygg_histories.Stack.{layers_of, tables_of};
+ghost use Rattle.ygg_eval_lower.specs.ygg_meaning.Obligations.{obligations_of};
 ghost use Rattle.ygg_oblige.specs.Sites.{below_in};
-ghost use Rattle.ygg_sym_spec.specs.Layers.{closed};
+ghost use Rattle.ygg_oblige.specs.ygg_sym_spec.Layers.{closed};
 ghost use Rattle.ygg_oblige.specs.Adding.{after_at, after_layer_at};
 ghost use Rattle.ygg_oblige.specs.Making.{SiteFits};
 ghost use Rattle.ygg_oblige.specs.Numbering.{numbers_in};
-ghost use Rattle.ygg_oblige_terms.specs.Numbers.{numbers_of};
-ghost use Rattle.ygg_oblige_terms.specs.States.{state_words};
-ghost use Rattle.ygg_oblige_typed.specs.Layers.{LayersTyped};
+ghost use Rattle.ygg_oblige.specs.ygg_oblige_terms.Numbers.{numbers_of};
+ghost use Rattle.ygg_oblige.specs.ygg_oblige_terms.States.{state_words};
+ghost use Rattle.ygg_oblige.specs.ygg_oblige_typed.Layers.{LayersTyped};
 ghost use Rattle.ygg_oblige_places.specs.Listing.{StandsIn};
 ghost use Rattle.ygg_oblige_places.specs.Sites.{IsInLayer, IsPlaced};
 
@@ -19,9 +19,8 @@ use crate::listed::{number_of, obligation_at};
 use crate::starts::{count_of, start_of};
 use std::alloc::Global;
 use ygg_list::NoMemory;
-use ygg_oblige::{Maker, SymBelow, SymNumbers, SymObligation, after_states, numbers_of};
+use ygg_oblige::{Maker, SymBelow, SymLayer, SymNumbers, SymObligation, after_states, numbers_of};
 use ygg_rules::Book;
-use ygg_sym_spec::SymLayer;
 use ygg_syntax::tree::{Declared, File, Layer};
 
 /// An obligation of a file, its layer, and which inputs it has.

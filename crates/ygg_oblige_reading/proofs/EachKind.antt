@@ -9,19 +9,19 @@ use Rattle.ygg_syntax.specs.declared.tree.Declared.{Declared}
 use Rattle.ygg_syntax.specs.declared.tree.Layer.{Layer}
 use Rattle.ygg_syntax.specs.declared.tree.Operation.{Operation}
 use Rattle.ygg_syntax.specs.declared.tree.Tick.{Tick}
-use Rattle.ygg_meaning.specs.Environments.{bind}
-use Rattle.ygg_meaning.specs.Obligations.{Obligation, CallOf, CutOf, TickOf, CutTickOf}
-use Rattle.ygg_meaning.specs.Obligations as meaning
-use Rattle.ygg_meaning.specs.Shapes.{values_fit}
-use Rattle.ygg_meaning.specs.Violates.{shapes_fit}
-use Rattle.ygg_eval_lower.specs.Bodies.{IsBlock, arguments_at, arguments_in}
-use Rattle.ygg_eval_lower.specs.declared.body.Part.TheVariants as part
-use Rattle.ygg_oblige_terms.specs.Layers.{ShapesKept}
-use Rattle.ygg_oblige_terms.specs.Numbers.{Numbers, arguments_of}
+use Rattle.ygg_replay.specs.ygg_meaning.Environments.{bind}
+use Rattle.ygg_replay.specs.ygg_meaning.Obligations.{Obligation, CallOf, CutOf, TickOf, CutTickOf}
+use Rattle.ygg_replay.specs.ygg_meaning.Obligations as meaning
+use Rattle.ygg_replay.specs.ygg_meaning.Shapes.{values_fit}
+use Rattle.ygg_replay.specs.ygg_meaning.Violates.{shapes_fit}
+use Rattle.ygg_oblige_places.specs.ygg_eval_lower.Bodies.{IsBlock, arguments_at, arguments_in}
+use Rattle.ygg_oblige_places.specs.ygg_eval_lower.declared.body.Part.TheVariants as part
+use Rattle.ygg_oblige_given.specs.ygg_oblige_terms.Layers.{ShapesKept}
+use Rattle.ygg_oblige_given.specs.ygg_oblige_terms.Numbers.{Numbers, arguments_of}
 use Rattle.ygg_oblige_given.specs.Tables.{given_values}
 use Rattle.ygg_oblige_places.specs.Listing.{StandsIn}
 use Rattle.ygg_oblige_places.specs.Schedules.{cut_from, schedule_from, stop_of, whole_from}
-use Rattle.ygg_sched.specs.declared.schedule.Schedule.{Schedule}
+use Rattle.ygg_replay.specs.ygg_sched.declared.schedule.Schedule.{Schedule}
 use Rattle.ygg_oblige_reading.specs.Here.{below_of, body_of, file_of, inputs_of, layer_of, numbers_of, obligation_of, IsHere}
 use Rattle.ygg_oblige_reading.specs.Runs.{stand_fits}
 use Rattle.ygg_oblige_reading.specs.Schedules.{given_here, named_here, HasBlock, IsRead, NamedShaped, OfBlock, StandsHere}

@@ -3,23 +3,23 @@ use Rattle.std.proofs.Common.{◌≡◌, ◌∙◌, ℕ, true, List, [], length,
 use Rattle.std.specs.Option.{option_map}
 use Rattle.std.proofs.lemmas.Bool.{and_parts}
 use Rattle.ygg_value.specs.declared.row.Value.{Value}
-use Rattle.ygg_meaning.specs.Layer.{ClosedLayer}
-use Rattle.ygg_meaning.specs.Obligations.{Obligation, Init, CallOf, CutOf, TickOf, CutTickOf, Idle, Again}
-use Rattle.ygg_meaning.specs.Obligations as meaning
-use Rattle.ygg_meaning.specs.Refines.{Below}
-use Rattle.ygg_meaning.specs.Related.{shaped}
-use Rattle.ygg_meaning.specs.Shapes.{values_fit}
-use Rattle.ygg_meaning.specs.Violates.{shapes_fit}
-use Rattle.ygg_histories.specs.Claims.{Claim}
-use Rattle.ygg_bank.specs.Values.{Inputs}
-use Rattle.ygg_oblige_terms.specs.Layers.{ShapesKept}
-use Rattle.ygg_oblige_terms.specs.Numbers.{Numbers, arguments_of}
-use Rattle.ygg_oblige_pieces.specs.Worth.{Stand}
+use Rattle.ygg_replay.specs.ygg_meaning.Layer.{ClosedLayer}
+use Rattle.ygg_replay.specs.ygg_meaning.Obligations.{Obligation, Init, CallOf, CutOf, TickOf, CutTickOf, Idle, Again}
+use Rattle.ygg_replay.specs.ygg_meaning.Obligations as meaning
+use Rattle.ygg_replay.specs.ygg_meaning.Refines.{Below}
+use Rattle.ygg_replay.specs.ygg_meaning.Related.{shaped}
+use Rattle.ygg_replay.specs.ygg_meaning.Shapes.{values_fit}
+use Rattle.ygg_replay.specs.ygg_meaning.Violates.{shapes_fit}
+use Rattle.ygg_replay.specs.ygg_histories.Claims.{Claim}
+use Rattle.ygg_eval_fronts.specs.ygg_bank.Values.{Inputs}
+use Rattle.ygg_oblige_given.specs.ygg_oblige_terms.Layers.{ShapesKept}
+use Rattle.ygg_oblige_given.specs.ygg_oblige_terms.Numbers.{Numbers, arguments_of}
+use Rattle.ygg_oblige_given.specs.ygg_oblige_pieces.Worth.{Stand}
 use Rattle.ygg_oblige_places.specs.Schedules.{schedule_from}
-use Rattle.ygg_sched.specs.Fitting.{AreOfTypes, halt_meant}
-use Rattle.ygg_sched.specs.Sites.{Site}
-use Rattle.ygg_sched.specs.declared.schedule.Halt.{Halt}
-use Rattle.ygg_sched.specs.declared.schedule.Schedule.{Schedule}
+use Rattle.ygg_replay.specs.ygg_sched.Fitting.{AreOfTypes, halt_meant}
+use Rattle.ygg_replay.specs.ygg_sched.Sites.{Site}
+use Rattle.ygg_replay.specs.ygg_sched.declared.schedule.Halt.{Halt}
+use Rattle.ygg_replay.specs.ygg_sched.declared.schedule.Schedule.{Schedule}
 use Rattle.ygg_oblige_reading.specs.Fitted.{FitsAt}
 use Rattle.ygg_oblige_reading.specs.Meant.{meant}
 use Rattle.ygg_oblige_reading.specs.Schedules.{AsMany}

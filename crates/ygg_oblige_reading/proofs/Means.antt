@@ -6,18 +6,18 @@ use Rattle.ygg_syntax.specs.declared.grammar.BlockKind.TheVariants as kind
 use Rattle.ygg_syntax.specs.declared.tree.Block as tree
 use Rattle.ygg_syntax.specs.declared.tree.Declared.{Declared}
 use Rattle.ygg_syntax.specs.declared.tree.Layer.{Layer}
-use Rattle.ygg_meaning.specs.Environments.{Env, bind}
-use Rattle.ygg_meaning.specs.Machine.{Picks, based}
-use Rattle.ygg_meaning.specs.Obligations.{name_of}
-use Rattle.ygg_meaning.specs.Obligations as meaning
-use Rattle.ygg_sym_below.specs.Laws.{picked_by}
-use Rattle.ygg_fronts.specs.Fronts.{lose_on, run_picks}
-use Rattle.ygg_eval_lower.specs.Bodies.{IsBlock, kind_of}
-use Rattle.ygg_eval_lower.specs.Layers.{variables_at}
+use Rattle.ygg_replay.specs.ygg_meaning.Environments.{Env, bind}
+use Rattle.ygg_replay.specs.ygg_meaning.Machine.{Picks, based}
+use Rattle.ygg_replay.specs.ygg_meaning.Obligations.{name_of}
+use Rattle.ygg_replay.specs.ygg_meaning.Obligations as meaning
+use Rattle.ygg_eval_fronts.specs.ygg_sym_below.Laws.{picked_by}
+use Rattle.ygg_eval_fronts.specs.ygg_fronts.Fronts.{lose_on, run_picks}
+use Rattle.ygg_oblige_places.specs.ygg_eval_lower.Bodies.{IsBlock, kind_of}
+use Rattle.ygg_oblige_places.specs.ygg_eval_lower.Layers.{variables_at}
 use Rattle.ygg_eval_fronts.specs.Steps.{FellBetween}
 use Rattle.ygg_oblige_places.specs.Schedules.{woken_picks}
-use Rattle.ygg_sched.specs.Fitting.{halt_meant}
-use Rattle.ygg_sched.specs.declared.schedule.Schedule.{Schedule}
+use Rattle.ygg_replay.specs.ygg_sched.Fitting.{halt_meant}
+use Rattle.ygg_replay.specs.ygg_sched.declared.schedule.Schedule.{Schedule}
 use Rattle.ygg_oblige_reading.specs.Here.{below_of, body_of, file_of, inputs_of, layer_of, low_env, numbers_of, obligation_of}
 use Rattle.ygg_oblige_reading.specs.Runs.{PicksAre, StandIs, args_env, memory_env}
 use Rattle.ygg_oblige_reading.specs.Schedules.{IsBounded, IsRead, PartsAre, given_here, meant_here}

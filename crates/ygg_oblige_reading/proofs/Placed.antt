@@ -5,24 +5,24 @@ use Rattle.std.specs.Prelude.{IsTrue, slice_get}
 use Rattle.std.proofs.lemmas.Option.{slice_get-map}
 use Rattle.ygg_syntax.specs.declared.tree.Declared.{Declared}
 use Rattle.ygg_syntax.specs.declared.tree.Layer.{Layer}
-use Rattle.ygg_meaning.specs.Obligations.{Obligation, Init, CallOf, CutOf, TickOf, CutTickOf, Idle, Again, name_of}
-use Rattle.ygg_meaning.specs.Obligations as meaning
-use Rattle.ygg_meaning.specs.Violates.{shapes_fit}
-use Rattle.ygg_histories.specs.Claims.{Claim, claims_of}
-use Rattle.ygg_rules.specs.declared.rule.RuleKind.{RuleKind}
-use Rattle.ygg_bank.specs.Values.{Inputs}
-use Rattle.ygg_oblige_terms.specs.Layers.{OperationFits, ShapesKept}
-use Rattle.ygg_oblige_terms.specs.Numbers.{arguments_of}
-use Rattle.ygg_oblige_terms.specs.Numbers as terms
+use Rattle.ygg_replay.specs.ygg_meaning.Obligations.{Obligation, Init, CallOf, CutOf, TickOf, CutTickOf, Idle, Again, name_of}
+use Rattle.ygg_replay.specs.ygg_meaning.Obligations as meaning
+use Rattle.ygg_replay.specs.ygg_meaning.Violates.{shapes_fit}
+use Rattle.ygg_replay.specs.ygg_histories.Claims.{Claim, claims_of}
+use Rattle.ygg_oblige_places.specs.ygg_rules.declared.rule.RuleKind.{RuleKind}
+use Rattle.ygg_eval_fronts.specs.ygg_bank.Values.{Inputs}
+use Rattle.ygg_oblige_given.specs.ygg_oblige_terms.Layers.{OperationFits, ShapesKept}
+use Rattle.ygg_oblige_given.specs.ygg_oblige_terms.Numbers.{arguments_of}
+use Rattle.ygg_oblige_given.specs.ygg_oblige_terms.Numbers as terms
 use Rattle.ygg_oblige_given.specs.Tables.{given_values}
 use Rattle.ygg_oblige_places.specs.Listing.{StandsIn}
 use Rattle.ygg_oblige_places.specs.Sites.{IsPlaced}
 use Rattle.ygg_oblige_places.proofs.Starting.{item_of}
 use Rattle.ygg_oblige_places.proofs.Given.{no_shapes}
-use Rattle.ygg_sched.specs.Laws.{asked_at, asked_of}
-use Rattle.ygg_sched.specs.Sites.{sites_of}
-use Rattle.ygg_sched.specs.declared.schedule.Schedule.{Schedule}
-use Rattle.ygg_sched.proofs.Standing.{sites_are_claims}
+use Rattle.ygg_replay.specs.ygg_sched.Laws.{asked_at, asked_of}
+use Rattle.ygg_replay.specs.ygg_sched.Sites.{sites_of}
+use Rattle.ygg_replay.specs.ygg_sched.declared.schedule.Schedule.{Schedule}
+use Rattle.ygg_replay.proofs.of_ygg_sched.Standing.{sites_are_claims}
 use Rattle.ygg_oblige_reading.specs.Fitted.{FitsAt, IsFitted}
 use Rattle.ygg_oblige_reading.specs.Here.{below_of, file_of, inputs_of, layer_of, numbers_of, obligation_of, IsHere}
 use Rattle.ygg_oblige_reading.specs.Meant.{IsNamed, Names, NamesShaped}

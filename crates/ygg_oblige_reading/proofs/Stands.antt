@@ -3,12 +3,12 @@ use Rattle.std.proofs.Common.{◌≡◌, ℕ, true, List, ◌∙◌, ap}
 use Rattle.std.specs.Prelude.{◌&&◌}
 use Rattle.std.proofs.lemmas.Bool.{and_parts}
 use Rattle.ygg_syntax.specs.declared.tree.Declared.{Declared}
-use Rattle.ygg_meaning.specs.Layer.{ClosedLayer}
-use Rattle.ygg_meaning.specs.Related.{shaped}
-use Rattle.ygg_meaning.specs.Shapes.{env_fits}
-use Rattle.ygg_bank.specs.Values.{Inputs}
-use Rattle.ygg_oblige_pieces.specs.Inputs.{given_env}
-use Rattle.ygg_oblige_pieces.specs.Worth as worth
+use Rattle.ygg_replay.specs.ygg_meaning.Layer.{ClosedLayer}
+use Rattle.ygg_replay.specs.ygg_meaning.Related.{shaped}
+use Rattle.ygg_replay.specs.ygg_meaning.Shapes.{env_fits}
+use Rattle.ygg_eval_fronts.specs.ygg_bank.Values.{Inputs}
+use Rattle.ygg_oblige_given.specs.ygg_oblige_pieces.Inputs.{given_env}
+use Rattle.ygg_oblige_given.specs.ygg_oblige_pieces.Worth as worth
 
 -- each of states that have the declared shapes has them
 pub record StandParts (L : ClosedLayer) (s : worth.Stand) : Type 0 where

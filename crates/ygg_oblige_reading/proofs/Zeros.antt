@@ -9,10 +9,10 @@ use Rattle.ygg_value.specs.Shapes.{zero_of}
 use Rattle.ygg_value.specs.declared.shape.Shape.{Shape}
 use Rattle.ygg_value.specs.declared.shape.Shape.TheVariants as shape
 use Rattle.ygg_syntax.specs.declared.tree.Declared.{Declared}
-use Rattle.ygg_type_progress.proofs.Fits.{table_whole}
-use Rattle.ygg_type_progress.proofs.Fits as fitting
-use Rattle.ygg_meaning.specs.Environments.{bind}
-use Rattle.ygg_meaning.specs.Shapes.{fits, shape_in, values_fit, words_fit, zeros_of}
+use Rattle.ygg_oblige_places.specs.ygg_type_progress_proofs_Fits.{table_whole}
+use Rattle.ygg_oblige_places.specs.ygg_type_progress_proofs_Fits as fitting
+use Rattle.ygg_replay.specs.ygg_meaning.Environments.{bind}
+use Rattle.ygg_replay.specs.ygg_meaning.Shapes.{fits, shape_in, values_fit, words_fit, zeros_of}
 use Rattle.ygg_replay.specs.Zeros.{zero_values}
 
 all_same : {X : Type 0} (test : X → Bool) (n : ℕ) (x : X) → test x ≡ true → list_all test (replicate n x) ≡ true

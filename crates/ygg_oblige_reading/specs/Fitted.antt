@@ -1,11 +1,11 @@
 -- What the schedule that an environment names has for its obligation: what can be printed and read again.
 use Rattle.std.specs.Prelude.{◌≡◌, ℕ, false, slice_get, Some, None}
 use Rattle.ygg_syntax.specs.declared.tree.File.{File}
-use Rattle.ygg_meaning.specs.Obligations.{name_of}
-use Rattle.ygg_histories.specs.Claims.{Claim, claims_of}
-use Rattle.ygg_sched.specs.Fitting.{AreOfTypes, OnlyIf}
-use Rattle.ygg_sched.specs.Laws.{asked_at, asked_of}
-use Rattle.ygg_sched.specs.Sites.{
+use Rattle.ygg_replay.specs.ygg_meaning.Obligations.{name_of}
+use Rattle.ygg_replay.specs.ygg_histories.Claims.{Claim, claims_of}
+use Rattle.ygg_replay.specs.ygg_sched.Fitting.{AreOfTypes, OnlyIf}
+use Rattle.ygg_replay.specs.ygg_sched.Laws.{asked_at, asked_of}
+use Rattle.ygg_replay.specs.ygg_sched.Sites.{
   Site,
   argument_lines,
   has_other,
@@ -16,7 +16,7 @@ use Rattle.ygg_sched.specs.Sites.{
   sites_of,
   state_lines,
 }
-use Rattle.ygg_sched.specs.declared.schedule.Schedule.{Schedule}
+use Rattle.ygg_replay.specs.ygg_sched.declared.schedule.Schedule.{Schedule}
 
 -- The schedule has a value of its type for each variable that has a line, and nothing for which there is no line. A stop may be missing where there is to
 -- be a line of it: where the run comes to none that the environment sets.

@@ -3,17 +3,17 @@ use Rattle.std.specs.Prelude.{◌≡◌, IsTrue, List, slice_get, Some}
 use Rattle.ygg_value.specs.declared.row.Value.{Value}
 use Rattle.ygg_syntax.specs.declared.grammar.BlockKind.TheVariants as kind
 use Rattle.ygg_syntax.specs.declared.tree.File.{File}
-use Rattle.ygg_meaning.specs.Environments.{Env, bind}
-use Rattle.ygg_meaning.specs.Layer.{ClosedLayer}
-use Rattle.ygg_meaning.specs.Obligations.{Obligation}
-use Rattle.ygg_meaning.specs.Refines.{Below}
-use Rattle.ygg_meaning.specs.Shapes.{values_fit}
-use Rattle.ygg_bank.specs.Values.{Inputs}
-use Rattle.ygg_eval_lower.specs.Bodies.{IsRunnable, kind_of}
-use Rattle.ygg_eval_lower.specs.Layers.{below_at, closed_at, variables_at}
-use Rattle.ygg_eval_lower.specs.declared.body.Body.{Body}
-use Rattle.ygg_oblige_terms.specs.Layers.{ShapesKept}
-use Rattle.ygg_oblige_terms.specs.Numbers.{Numbers}
+use Rattle.ygg_replay.specs.ygg_meaning.Environments.{Env, bind}
+use Rattle.ygg_replay.specs.ygg_meaning.Layer.{ClosedLayer}
+use Rattle.ygg_replay.specs.ygg_meaning.Obligations.{Obligation}
+use Rattle.ygg_replay.specs.ygg_meaning.Refines.{Below}
+use Rattle.ygg_replay.specs.ygg_meaning.Shapes.{values_fit}
+use Rattle.ygg_eval_fronts.specs.ygg_bank.Values.{Inputs}
+use Rattle.ygg_oblige_places.specs.ygg_eval_lower.Bodies.{IsRunnable, kind_of}
+use Rattle.ygg_oblige_places.specs.ygg_eval_lower.Layers.{below_at, closed_at, variables_at}
+use Rattle.ygg_oblige_places.specs.ygg_eval_lower.declared.body.Body.{Body}
+use Rattle.ygg_oblige_given.specs.ygg_oblige_terms.Layers.{ShapesKept}
+use Rattle.ygg_oblige_given.specs.ygg_oblige_terms.Numbers.{Numbers}
 use Rattle.ygg_oblige_given.specs.Tables.{inputs_in}
 use Rattle.ygg_oblige_places.specs.Sites.{numbers_in, obligation_here}
 use Rattle.ygg_oblige_reading.specs.declared.reader.FirstBlock.{FirstBlock}

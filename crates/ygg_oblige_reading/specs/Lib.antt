@@ -1,3 +1,5 @@
+pub use Rattle.ygg_oblige_places.specs.ygg_rules
+pub use Rattle.ygg_replay.specs.ygg_sched
 pub use Rattle.ygg_oblige_places.specs.Obligation
 pub use Rattle.ygg_oblige_places.specs.Obligations
 pub mod Meant

@@ -3,23 +3,23 @@ use Rattle.std.specs.Prelude.{◌≡◌, ◌<◌, ◌^◌, IsTrue, List, length,
 use Rattle.std.specs.Option.{option_map}
 use Rattle.ygg_value.specs.declared.row.Value.{Value}
 use Rattle.ygg_syntax.specs.declared.tree.Block as tree
-use Rattle.ygg_meaning.specs.Environments.{Env}
-use Rattle.ygg_meaning.specs.Obligations.{Obligation, name_of}
-use Rattle.ygg_meaning.specs.Obligations as meaning
-use Rattle.ygg_meaning.specs.Violates.{shapes_fit}
+use Rattle.ygg_replay.specs.ygg_meaning.Environments.{Env}
+use Rattle.ygg_replay.specs.ygg_meaning.Obligations.{Obligation, name_of}
+use Rattle.ygg_replay.specs.ygg_meaning.Obligations as meaning
+use Rattle.ygg_replay.specs.ygg_meaning.Violates.{shapes_fit}
 use Rattle.ygg_syntax.specs.declared.grammar.BlockKind.TheVariants as kind
-use Rattle.ygg_meaning.specs.Shapes.{values_fit}
-use Rattle.ygg_eval_lower.specs.Bodies.{IsBlock, arguments_in, block_in, kind_of}
-use Rattle.ygg_oblige_terms.specs.Layers.{ShapesKept}
-use Rattle.ygg_oblige_terms.specs.Numbers.{arguments_of}
-use Rattle.ygg_oblige_terms.specs.Numbers as terms
+use Rattle.ygg_replay.specs.ygg_meaning.Shapes.{values_fit}
+use Rattle.ygg_oblige_places.specs.ygg_eval_lower.Bodies.{IsBlock, arguments_in, block_in, kind_of}
+use Rattle.ygg_oblige_given.specs.ygg_oblige_terms.Layers.{ShapesKept}
+use Rattle.ygg_oblige_given.specs.ygg_oblige_terms.Numbers.{arguments_of}
+use Rattle.ygg_oblige_given.specs.ygg_oblige_terms.Numbers as terms
 use Rattle.ygg_oblige_places.specs.Listing.{StandsIn}
-use Rattle.ygg_oblige_pieces.specs.States.{given_stand}
-use Rattle.ygg_oblige_pieces.specs.Worth as worth
+use Rattle.ygg_oblige_given.specs.ygg_oblige_pieces.States.{given_stand}
+use Rattle.ygg_oblige_given.specs.ygg_oblige_pieces.Worth as worth
 use Rattle.ygg_oblige_places.specs.Schedules.{left_of, picks_of, schedule_of, stop_of, wake_picks}
-use Rattle.ygg_sched.specs.Fitting.{halt_meant}
-use Rattle.ygg_sched.specs.declared.schedule.Halt.{Halt}
-use Rattle.ygg_sched.specs.declared.schedule.Schedule.{Schedule}
+use Rattle.ygg_replay.specs.ygg_sched.Fitting.{halt_meant}
+use Rattle.ygg_replay.specs.ygg_sched.declared.schedule.Halt.{Halt}
+use Rattle.ygg_replay.specs.ygg_sched.declared.schedule.Schedule.{Schedule}
 use Rattle.ygg_oblige_reading.specs.Here.{below_of, body_of, file_of, inputs_of, layer_of, numbers_of, obligation_of}
 use Rattle.ygg_oblige_reading.specs.Meant.{meant}
 use Rattle.ygg_oblige_reading.specs.declared.reader.FirstBlock.{FirstBlock}

@@ -8,4 +8,4 @@ mod reading;
 mod starting;
 
 pub use reading::{schedule, schedule_at};
-pub use ygg_oblige_places::{Obligation, obligations};
+pub use ygg_oblige_places::{Book, Obligation, obligations};

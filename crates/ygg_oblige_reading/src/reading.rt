@@ -1,20 +1,18 @@
 //! The schedule that an environment names for an obligation of a file.
 
 ghost use Rattle.std.specs.Prelude.{◌<◌, ◌^◌, IfOk, IfSome, length};
-ghost use Rattle.ygg_bank.specs.Values.{InputsFit, inputs_of};
-ghost use Rattle.ygg_histories.specs.Claims.{claims_of};
+ghost use Rattle.ygg_eval_fronts.specs.ygg_bank.Values.{InputsFit, inputs_of};
+ghost use Rattle.ygg_replay.specs.ygg_histories.Claims.{claims_of};
 ghost use Rattle.ygg_oblige_reading.specs.Fitted.{IsFitted};
 ghost use Rattle.ygg_oblige_reading.specs.Meant.{FitsTerms, IsExactly, IsMadeIn, IsNamed, ViolatesAtZero};
 
 use crate::reader::EnvironmentReader;
 use std::alloc::Global;
-use ygg_bank::{Bank, Env};
+use ygg_eval_fronts::{Bank, Env};
 use ygg_list::NoMemory;
 use ygg_oblige_given::InputTable;
-use ygg_oblige_places::{Obligation, site_at, tables};
-use ygg_rules::Book;
-use ygg_sched::Schedule;
-use ygg_type::Typed;
+use ygg_oblige_places::{Book, Obligation, Typed, site_at, tables};
+use ygg_replay::Schedule;
 
 /// The schedule that an environment names for the obligation at a place in the file's list: the values of its inputs, and the picks, as many as the runs
 /// take and in the order in which they take them. Its only error is out of memory.

@@ -1,22 +1,22 @@
 -- Each obligation's term is 0 exactly where the schedule that the environment names violates it.
 use Rattle.std.proofs.Common.{ℕ, List, []}
 use Rattle.ygg_syntax.specs.declared.tree.Def.{Def}
-use Rattle.ygg_meaning.specs.Layer.{ClosedLayer}
-use Rattle.ygg_meaning.specs.Obligations.{Obligation, Init, CallOf, CutOf, TickOf, CutTickOf, Idle, Again}
-use Rattle.ygg_meaning.specs.Refines.{Below}
-use Rattle.ygg_rules.specs.declared.rule.RuleKind.{RuleKind}
-use Rattle.ygg_bank.specs.Nodes.{Extends}
-use Rattle.ygg_bank.specs.Values.{Inputs, Values, Fits}
-use Rattle.ygg_bank.specs.declared.node.Node.{Node}
-use Rattle.ygg_sym_runs.specs.Meaning.{is_set}
+use Rattle.ygg_oblige_laws.specs.ygg_meaning.Layer.{ClosedLayer}
+use Rattle.ygg_oblige_laws.specs.ygg_meaning.Obligations.{Obligation, Init, CallOf, CutOf, TickOf, CutTickOf, Idle, Again}
+use Rattle.ygg_oblige_laws.specs.ygg_meaning.Refines.{Below}
+use Rattle.ygg_oblige_laws.specs.ygg_rules.declared.rule.RuleKind.{RuleKind}
+use Rattle.ygg_oblige_laws.specs.ygg_bank.Nodes.{Extends}
+use Rattle.ygg_oblige_laws.specs.ygg_bank.Values.{Inputs, Values, Fits}
+use Rattle.ygg_oblige_laws.specs.ygg_bank.declared.node.Node.{Node}
+use Rattle.ygg_oblige_laws.specs.ygg_sym_runs.Meaning.{is_set}
 use Rattle.ygg_sym_fronts.proofs.AnyLayer.{runs_are_named, loss_is_named}
 use Rattle.ygg_sym_fronts.proofs.Others.{start_named}
 use Rattle.ygg_sym_fronts.specs.Laws.{OverTyped}
-use Rattle.ygg_sym_laws.specs.Means.{terms_of}
-use Rattle.ygg_oblige_terms.specs.Layers.{LayerTyped}
-use Rattle.ygg_oblige_terms.specs.Numbers.{numbers_of}
-use Rattle.ygg_oblige_terms.specs.States.{starting}
-use Rattle.ygg_oblige_terms.specs.Terms.{term_made}
+use Rattle.ygg_oblige_laws.specs.ygg_sym_laws.Means.{terms_of}
+use Rattle.ygg_oblige_laws.specs.ygg_oblige_terms.Layers.{LayerTyped}
+use Rattle.ygg_oblige_laws.specs.ygg_oblige_terms.Numbers.{numbers_of}
+use Rattle.ygg_oblige_laws.specs.ygg_oblige_terms.States.{starting}
+use Rattle.ygg_oblige_laws.specs.ygg_oblige_terms.Terms.{term_made}
 use Rattle.ygg_oblige_laws.proofs.Frame.{Frame}
 use Rattle.ygg_oblige_laws.specs.LayerMeans.{LayerMeans}
 use Rattle.ygg_oblige_laws.specs.Parts.{PartsMean}

@@ -4,35 +4,35 @@ use Rattle.std.specs.Prelude.{is_some}
 use Rattle.ygg_syntax.specs.declared.tree.Def.{Def}
 use Rattle.ygg_syntax.specs.declared.tree.Operation.{Operation}
 use Rattle.ygg_syntax.specs.declared.tree.Tick.{Tick}
-use Rattle.ygg_meaning.specs.Environments.{Env, bind}
-use Rattle.ygg_meaning.specs.Layer.{ClosedLayer}
-use Rattle.ygg_meaning.specs.Obligations.{Halt, Schedule, Obligation, CutOf, CutTickOf}
-use Rattle.ygg_meaning.specs.Refines.{Below, machine_below}
-use Rattle.ygg_meaning.specs.Related.{shaped, settled}
-use Rattle.ygg_meaning.specs.Shapes.{values_fit}
-use Rattle.ygg_meaning.specs.Violates.{End, Meets, Recovers}
-use Rattle.ygg_rules.specs.declared.rule.RuleKind.{RuleKind}
-use Rattle.ygg_bank.proofs.Meaning.{fits_fewer}
-use Rattle.ygg_bank.proofs.Widths.{extends_both}
-use Rattle.ygg_bank.specs.Makes.{Out}
-use Rattle.ygg_bank.specs.Nodes.{Extends}
-use Rattle.ygg_bank.specs.Values.{Inputs, Values, Fits}
-use Rattle.ygg_bank.specs.declared.node.Id.{Id}
-use Rattle.ygg_bank.specs.declared.node.Node.{Node}
-use Rattle.ygg_shape_cells.specs.Terms.{worth}
-use Rattle.ygg_shape_cells.specs.declared.terms.SymValue.{SymValue}
-use Rattle.ygg_sym_runs.specs.Meaning.{is_set}
-use Rattle.ygg_sym_below.proofs.Blocks.{values_worth}
-use Rattle.ygg_sym_below.specs.Laws.{picked_by}
-use Rattle.ygg_sym_below.specs.Lows.{low_worth}
-use Rattle.ygg_sym_below.specs.StopTerms.{SymFallen}
-use Rattle.ygg_sym_laws.specs.Means.{terms_of, Begins, FallMeans}
-use Rattle.ygg_fronts.specs.Fronts.{run_stop}
+use Rattle.ygg_oblige_laws.specs.ygg_meaning.Environments.{Env, bind}
+use Rattle.ygg_oblige_laws.specs.ygg_meaning.Layer.{ClosedLayer}
+use Rattle.ygg_oblige_laws.specs.ygg_meaning.Obligations.{Halt, Schedule, Obligation, CutOf, CutTickOf}
+use Rattle.ygg_oblige_laws.specs.ygg_meaning.Refines.{Below, machine_below}
+use Rattle.ygg_oblige_laws.specs.ygg_meaning.Related.{shaped, settled}
+use Rattle.ygg_oblige_laws.specs.ygg_meaning.Shapes.{values_fit}
+use Rattle.ygg_oblige_laws.specs.ygg_meaning.Violates.{End, Meets, Recovers}
+use Rattle.ygg_oblige_laws.specs.ygg_rules.declared.rule.RuleKind.{RuleKind}
+use Rattle.ygg_oblige_laws.specs.ygg_bank_proofs_Meaning.{fits_fewer}
+use Rattle.ygg_oblige_laws.specs.ygg_bank_proofs_Widths.{extends_both}
+use Rattle.ygg_oblige_laws.specs.ygg_bank.Makes.{Out}
+use Rattle.ygg_oblige_laws.specs.ygg_bank.Nodes.{Extends}
+use Rattle.ygg_oblige_laws.specs.ygg_bank.Values.{Inputs, Values, Fits}
+use Rattle.ygg_oblige_laws.specs.ygg_bank.declared.node.Id.{Id}
+use Rattle.ygg_oblige_laws.specs.ygg_bank.declared.node.Node.{Node}
+use Rattle.ygg_oblige_laws.specs.ygg_shape_cells.Terms.{worth}
+use Rattle.ygg_oblige_laws.specs.ygg_shape_cells.declared.terms.SymValue.{SymValue}
+use Rattle.ygg_oblige_laws.specs.ygg_sym_runs.Meaning.{is_set}
+use Rattle.ygg_oblige_laws.proofs.of_ygg_sym_below.Blocks.{values_worth}
+use Rattle.ygg_oblige_laws.specs.ygg_sym_below.Laws.{picked_by}
+use Rattle.ygg_oblige_laws.specs.ygg_sym_below.Lows.{low_worth}
+use Rattle.ygg_oblige_laws.specs.ygg_sym_below.StopTerms.{SymFallen}
+use Rattle.ygg_oblige_laws.specs.ygg_sym_laws.Means.{terms_of, Begins, FallMeans}
+use Rattle.ygg_sym_fronts.specs.ygg_fronts.Fronts.{run_stop}
 use Rattle.ygg_sym_fronts.specs.Named.{RunNamed, FallSo, FallNamed}
-use Rattle.ygg_oblige_terms.specs.Layers.{ShapesKept, LayerTyped}
-use Rattle.ygg_oblige_terms.specs.Numbers.{Numbers, numbers_of, arguments_of, block_of}
-use Rattle.ygg_oblige_terms.specs.States.{Starting, fresh_all}
-use Rattle.ygg_oblige_terms.specs.Terms.{Finish, recovered}
+use Rattle.ygg_oblige_laws.specs.ygg_oblige_terms.Layers.{ShapesKept, LayerTyped}
+use Rattle.ygg_oblige_laws.specs.ygg_oblige_terms.Numbers.{Numbers, numbers_of, arguments_of, block_of}
+use Rattle.ygg_oblige_laws.specs.ygg_oblige_terms.States.{Starting, fresh_all}
+use Rattle.ygg_oblige_laws.specs.ygg_oblige_terms.Terms.{Finish, recovered}
 use Rattle.ygg_oblige_laws.specs.Inputs.{given_env}
 use Rattle.ygg_oblige_laws.specs.States.{given_stand, StartsSo}
 use Rattle.ygg_oblige_laws.specs.Steps.{HasStep, variables_of, ObligationTyped, AnswerKept, StepIs, PassesSo, end_worth}

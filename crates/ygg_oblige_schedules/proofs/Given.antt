@@ -5,20 +5,20 @@ use Rattle.std.specs.Prelude.{is_some}
 use Rattle.ygg_value.specs.Shapes.{IsShape}
 use Rattle.ygg_value.specs.declared.row.Value.{Value}
 use Rattle.ygg_syntax.specs.declared.tree.Declared.{Declared}
-use Rattle.ygg_type_sound.proofs.Tests.{right}
-use Rattle.ygg_meaning.specs.Environments.{Env, bind}
-use Rattle.ygg_meaning.specs.Layer.{ClosedLayer}
-use Rattle.ygg_meaning.specs.Obligations.{Halt, Schedule, Obligation}
-use Rattle.ygg_meaning.specs.Refines.{Below}
-use Rattle.ygg_meaning.specs.Shapes.{shape_in, fits, values_fit}
-use Rattle.ygg_bank.specs.Values.{Inputs, Values, Fits}
-use Rattle.ygg_bank.specs.declared.node.Node.{Node}
-use Rattle.ygg_shape_cells.specs.Terms.{worth}
-use Rattle.ygg_shape_cells.specs.declared.terms.SymValue.{SymValue}
-use Rattle.ygg_sym_below.proofs.Blocks.{values_worth}
-use Rattle.ygg_oblige_terms.specs.Layers.{ShapesKept}
-use Rattle.ygg_oblige_terms.specs.Numbers.{numbers_of, arguments_of}
-use Rattle.ygg_oblige_terms.specs.States.{Starting}
+use Rattle.ygg_oblige_laws.specs.ygg_type_sound_proofs_Tests.{right}
+use Rattle.ygg_oblige_laws.specs.ygg_meaning.Environments.{Env, bind}
+use Rattle.ygg_oblige_laws.specs.ygg_meaning.Layer.{ClosedLayer}
+use Rattle.ygg_oblige_laws.specs.ygg_meaning.Obligations.{Halt, Schedule, Obligation}
+use Rattle.ygg_oblige_laws.specs.ygg_meaning.Refines.{Below}
+use Rattle.ygg_oblige_laws.specs.ygg_meaning.Shapes.{shape_in, fits, values_fit}
+use Rattle.ygg_oblige_laws.specs.ygg_bank.Values.{Inputs, Values, Fits}
+use Rattle.ygg_oblige_laws.specs.ygg_bank.declared.node.Node.{Node}
+use Rattle.ygg_oblige_laws.specs.ygg_shape_cells.Terms.{worth}
+use Rattle.ygg_oblige_laws.specs.ygg_shape_cells.declared.terms.SymValue.{SymValue}
+use Rattle.ygg_oblige_laws.proofs.of_ygg_sym_below.Blocks.{values_worth}
+use Rattle.ygg_oblige_laws.specs.ygg_oblige_terms.Layers.{ShapesKept}
+use Rattle.ygg_oblige_laws.specs.ygg_oblige_terms.Numbers.{numbers_of, arguments_of}
+use Rattle.ygg_oblige_laws.specs.ygg_oblige_terms.States.{Starting}
 use Rattle.ygg_oblige_laws.specs.Inputs.{given_env}
 use Rattle.ygg_oblige_laws.specs.States.{given_stand}
 use Rattle.ygg_oblige_laws.specs.Worth.{LowIs, trio_worth}

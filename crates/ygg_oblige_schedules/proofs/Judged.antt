@@ -1,15 +1,15 @@
 -- What a digit says of a schedule: it is 0 exactly where the schedule violates the obligation.
 use Rattle.std.proofs.Common.{◌≡◌, ◌⊎◌, ◌↔◌, ◌&&◌, ◌||◌, not, ℕ, Bool, true, false, List, [], length, inl, inr, refl, sym, ap, ◌∙◌}
 use Rattle.std.specs.Prelude.{Option, Some, None, is_some}
-use Rattle.ygg_meaning.specs.Layer.{ClosedLayer}
-use Rattle.ygg_meaning.specs.Obligations.{Halt, Schedule, Obligation, Again, StopsAt}
-use Rattle.ygg_meaning.specs.Refines.{Below, machine_below}
-use Rattle.ygg_meaning.specs.Violates.{End, Meets, Violates, shapes_fit, spec_after}
-use Rattle.ygg_direct.proofs.OneEnd.{one_conclusion}
-use Rattle.ygg_bank.specs.Values.{Values}
-use Rattle.ygg_bank.specs.declared.node.Id.{Id}
-use Rattle.ygg_bank.specs.declared.node.Node.{Node}
-use Rattle.ygg_sym_runs.specs.Meaning.{is_set}
+use Rattle.ygg_oblige_laws.specs.ygg_meaning.Layer.{ClosedLayer}
+use Rattle.ygg_oblige_laws.specs.ygg_meaning.Obligations.{Halt, Schedule, Obligation, Again, StopsAt}
+use Rattle.ygg_oblige_laws.specs.ygg_meaning.Refines.{Below, machine_below}
+use Rattle.ygg_oblige_laws.specs.ygg_meaning.Violates.{End, Meets, Violates, shapes_fit, spec_after}
+use Rattle.ygg_oblige_laws.proofs.of_ygg_direct.OneEnd.{one_conclusion}
+use Rattle.ygg_oblige_laws.specs.ygg_bank.Values.{Values}
+use Rattle.ygg_oblige_laws.specs.ygg_bank.declared.node.Id.{Id}
+use Rattle.ygg_oblige_laws.specs.ygg_bank.declared.node.Node.{Node}
+use Rattle.ygg_oblige_laws.specs.ygg_sym_runs.Meaning.{is_set}
 use Rattle.ygg_oblige_laws.specs.Steps.{PassesSo}
 use Rattle.ygg_oblige_laws.proofs.Digits.{refuted, refutes}
 use Rattle.ygg_oblige_laws.proofs.Schedules.{Fails, Sided, with_side, fails_unset, sided_fails, sided_unset}

@@ -7,17 +7,17 @@ use Rattle.ygg_syntax.specs.declared.grammar.BlockKind.TheVariants.{Impl}
 use Rattle.ygg_syntax.specs.declared.tree.Def.{Def}
 use Rattle.ygg_syntax.specs.declared.tree.Operation.{Operation}
 use Rattle.ygg_syntax.specs.declared.tree.Tick.{Tick}
-use Rattle.ygg_meaning.specs.Layer.{ClosedLayer}
-use Rattle.ygg_meaning.specs.Obligations.{Obligation, Init, CallOf, CutOf, TickOf, CutTickOf, Idle, Again, obligations_of}
-use Rattle.ygg_meaning.specs.Refines.{Below}
-use Rattle.ygg_rules.specs.declared.rule.RuleKind.{RuleKind}
-use Rattle.ygg_sym_laws.specs.Below.{signatures_on}
-use Rattle.ygg_sym_laws.specs.Typed.{BlockTyped}
+use Rattle.ygg_oblige_laws.specs.ygg_meaning.Layer.{ClosedLayer}
+use Rattle.ygg_oblige_laws.specs.ygg_meaning.Obligations.{Obligation, Init, CallOf, CutOf, TickOf, CutTickOf, Idle, Again, obligations_of}
+use Rattle.ygg_oblige_laws.specs.ygg_meaning.Refines.{Below}
+use Rattle.ygg_oblige_laws.specs.ygg_rules.declared.rule.RuleKind.{RuleKind}
+use Rattle.ygg_oblige_laws.specs.ygg_sym_laws.Below.{signatures_on}
+use Rattle.ygg_oblige_laws.specs.ygg_sym_laws.Typed.{BlockTyped}
 use Rattle.ygg_sym_fronts.proofs.AnyLayer.{runs_are_named, falls_are_named}
 use Rattle.ygg_sym_fronts.specs.Laws.{OverTyped}
 use Rattle.ygg_sym_fronts.specs.Named.{RunNamed, FallNamed}
-use Rattle.ygg_oblige_terms.specs.Layers.{OperationFits, LayerTyped}
-use Rattle.ygg_oblige_terms.specs.Numbers.{arguments_of, block_of}
+use Rattle.ygg_oblige_laws.specs.ygg_oblige_terms.Layers.{OperationFits, LayerTyped}
+use Rattle.ygg_oblige_laws.specs.ygg_oblige_terms.Numbers.{arguments_of, block_of}
 use Rattle.ygg_oblige_laws.specs.LayerMeans.{OperationMeans, TickMeans, LayerMeans}
 use Rattle.ygg_oblige_laws.specs.ObligationMeans.{OperationKnown, ObligationKnown}
 

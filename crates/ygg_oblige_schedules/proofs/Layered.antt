@@ -4,32 +4,32 @@ use Rattle.std.proofs.lemmas.List.Elements.{All-head, All-tail}
 use Rattle.std.specs.Prelude.{All}
 use Rattle.ygg_syntax.specs.declared.tree.Def.{Def}
 use Rattle.ygg_syntax.specs.declared.tree.DiskText.{DiskText}
-use Rattle.ygg_meaning.specs.Layer.{ClosedLayer}
-use Rattle.ygg_meaning.specs.Obligations.{Schedule, Obligation, obligations_of}
-use Rattle.ygg_meaning.specs.Refines.{Below}
-use Rattle.ygg_histories.specs.Claims.{Claim, claims_at, claims_on}
-use Rattle.ygg_histories.specs.Stack.{Layers, below_of, layers_of}
-use Rattle.ygg_rules.specs.declared.rule.RuleKind.{RuleKind}
-use Rattle.ygg_bank.proofs.Widths.{extends_self, extends_both}
-use Rattle.ygg_bank.specs.Inputs.{InputsBelow}
-use Rattle.ygg_bank.specs.Makes.{Make}
-use Rattle.ygg_bank.specs.Nodes.{IsBank, Extends}
-use Rattle.ygg_bank.specs.Values.{Inputs, InputsFit, value_of}
-use Rattle.ygg_bank.specs.declared.node.Id.{Id}
-use Rattle.ygg_bank.specs.declared.node.Node.{Node}
-use Rattle.ygg_sym_runs.specs.Meaning.{is_set}
-use Rattle.ygg_sym_laws.specs.Means.{terms_of}
-use Rattle.ygg_oblige_terms.specs.Layers.{LayerTyped}
-use Rattle.ygg_oblige_terms.specs.Numbers.{numbers_of}
-use Rattle.ygg_oblige_terms.specs.States.{Starting, state_words, starting}
-use Rattle.ygg_oblige_terms.specs.Terms.{term_made, terms_made, layer_made, layers_made, after_layers}
+use Rattle.ygg_oblige_laws.specs.ygg_meaning.Layer.{ClosedLayer}
+use Rattle.ygg_oblige_laws.specs.ygg_meaning.Obligations.{Schedule, Obligation, obligations_of}
+use Rattle.ygg_oblige_laws.specs.ygg_meaning.Refines.{Below}
+use Rattle.ygg_oblige_laws.specs.ygg_histories.Claims.{Claim, claims_at, claims_on}
+use Rattle.ygg_oblige_laws.specs.ygg_histories.Stack.{Layers, below_of, layers_of}
+use Rattle.ygg_oblige_laws.specs.ygg_rules.declared.rule.RuleKind.{RuleKind}
+use Rattle.ygg_oblige_laws.specs.ygg_bank_proofs_Widths.{extends_self, extends_both}
+use Rattle.ygg_oblige_laws.specs.ygg_bank.Inputs.{InputsBelow}
+use Rattle.ygg_oblige_laws.specs.ygg_bank.Makes.{Make}
+use Rattle.ygg_oblige_laws.specs.ygg_bank.Nodes.{IsBank, Extends}
+use Rattle.ygg_oblige_laws.specs.ygg_bank.Values.{Inputs, InputsFit, value_of}
+use Rattle.ygg_oblige_laws.specs.ygg_bank.declared.node.Id.{Id}
+use Rattle.ygg_oblige_laws.specs.ygg_bank.declared.node.Node.{Node}
+use Rattle.ygg_oblige_laws.specs.ygg_sym_runs.Meaning.{is_set}
+use Rattle.ygg_oblige_laws.specs.ygg_sym_laws.Means.{terms_of}
+use Rattle.ygg_oblige_laws.specs.ygg_oblige_terms.Layers.{LayerTyped}
+use Rattle.ygg_oblige_laws.specs.ygg_oblige_terms.Numbers.{numbers_of}
+use Rattle.ygg_oblige_laws.specs.ygg_oblige_terms.States.{Starting, state_words, starting}
+use Rattle.ygg_oblige_laws.specs.ygg_oblige_terms.Terms.{term_made, terms_made, layer_made, layers_made, after_layers}
 use Rattle.ygg_oblige_laws.proofs.Compares.{comparing_means}
 use Rattle.ygg_oblige_laws.proofs.Fresh.{fresh_means}
 use Rattle.ygg_oblige_laws.proofs.Glued.{glued_means}
 use Rattle.ygg_oblige_laws.proofs.Starting.{states_mean}
 use Rattle.ygg_oblige_laws.proofs.Steps.{steps_mean}
-use Rattle.ygg_oblige_typed.proofs.Files.{typed_layers}
-use Rattle.ygg_oblige_typed.specs.Layers.{LayersTyped}
+use Rattle.ygg_oblige_laws.proofs.of_ygg_oblige_typed.Files.{typed_layers}
+use Rattle.ygg_oblige_laws.specs.ygg_oblige_typed.Layers.{LayersTyped}
 use Rattle.ygg_oblige_laws.proofs.Digits.{unset_zero, zero_unset}
 use Rattle.ygg_oblige_laws.proofs.EachKind.{term_grows, term_means}
 use Rattle.ygg_oblige_laws.proofs.Frame.{Frame, fits_bank}

@@ -1,3 +1,4 @@
+pub use Rattle.ygg_oblige_laws.proofs.of_ygg_oblige_typed
 pub mod Given
 pub mod Judged
 pub mod Recovering

@@ -3,37 +3,37 @@
 use Rattle.std.proofs.Common.{◌≡◌, ◌&&◌, ℕ, true, List, [], length, Some, refl, sym, ap, ◌∙◌, subst}
 use Rattle.std.specs.Prelude.{is_some}
 use Rattle.ygg_syntax.specs.declared.tree.Def.{Def}
-use Rattle.ygg_type_sound.proofs.Tests.{right}
-use Rattle.ygg_meaning.specs.Environments.{Env}
-use Rattle.ygg_meaning.specs.Layer.{ClosedLayer, BlockRuns}
-use Rattle.ygg_meaning.specs.Machine.{on, based}
-use Rattle.ygg_meaning.specs.Obligations.{Halt, Schedule, Init, Idle, Again}
-use Rattle.ygg_meaning.specs.Refines.{Below, machine_below}
-use Rattle.ygg_meaning.specs.Related.{settled}
-use Rattle.ygg_meaning.specs.Shapes.{env_fits, zeros_of}
-use Rattle.ygg_rules.specs.declared.rule.RuleKind.{RuleKind}
-use Rattle.ygg_bank.proofs.Meaning.{fits_fewer}
-use Rattle.ygg_bank.proofs.Widths.{extends_both}
-use Rattle.ygg_bank.specs.Makes.{Out}
-use Rattle.ygg_bank.specs.Nodes.{Extends}
-use Rattle.ygg_bank.specs.Values.{Inputs, Values, Fits}
-use Rattle.ygg_bank.specs.declared.node.Id.{Id}
-use Rattle.ygg_bank.specs.declared.node.Node.{Node}
-use Rattle.ygg_shape_cells.specs.declared.terms.SymValue.{SymValue}
-use Rattle.ygg_sym_runs.specs.Meaning.{answer_worth, is_set}
-use Rattle.ygg_sym_below.specs.Laws.{picked_by}
-use Rattle.ygg_sym_below.specs.Lows.{low_worth}
-use Rattle.ygg_sym_below.proofs.Lows.{low_wider}
-use Rattle.ygg_sym_laws.specs.Below.{zeros_made, lows_at_start, lost_made}
-use Rattle.ygg_sym_laws.specs.Means.{terms_of, Begins}
-use Rattle.ygg_fronts.specs.Fronts.{low_at_start, run_picks, run_stop, left_at, fall_picks}
-use Rattle.ygg_fronts.specs.Laws.{FallsThere}
-use Rattle.ygg_fronts.proofs.NamedRuns.{starts}
+use Rattle.ygg_oblige_laws.specs.ygg_type_sound_proofs_Tests.{right}
+use Rattle.ygg_oblige_laws.specs.ygg_meaning.Environments.{Env}
+use Rattle.ygg_oblige_laws.specs.ygg_meaning.Layer.{ClosedLayer, BlockRuns}
+use Rattle.ygg_oblige_laws.specs.ygg_meaning.Machine.{on, based}
+use Rattle.ygg_oblige_laws.specs.ygg_meaning.Obligations.{Halt, Schedule, Init, Idle, Again}
+use Rattle.ygg_oblige_laws.specs.ygg_meaning.Refines.{Below, machine_below}
+use Rattle.ygg_oblige_laws.specs.ygg_meaning.Related.{settled}
+use Rattle.ygg_oblige_laws.specs.ygg_meaning.Shapes.{env_fits, zeros_of}
+use Rattle.ygg_oblige_laws.specs.ygg_rules.declared.rule.RuleKind.{RuleKind}
+use Rattle.ygg_oblige_laws.specs.ygg_bank_proofs_Meaning.{fits_fewer}
+use Rattle.ygg_oblige_laws.specs.ygg_bank_proofs_Widths.{extends_both}
+use Rattle.ygg_oblige_laws.specs.ygg_bank.Makes.{Out}
+use Rattle.ygg_oblige_laws.specs.ygg_bank.Nodes.{Extends}
+use Rattle.ygg_oblige_laws.specs.ygg_bank.Values.{Inputs, Values, Fits}
+use Rattle.ygg_oblige_laws.specs.ygg_bank.declared.node.Id.{Id}
+use Rattle.ygg_oblige_laws.specs.ygg_bank.declared.node.Node.{Node}
+use Rattle.ygg_oblige_laws.specs.ygg_shape_cells.declared.terms.SymValue.{SymValue}
+use Rattle.ygg_oblige_laws.specs.ygg_sym_runs.Meaning.{answer_worth, is_set}
+use Rattle.ygg_oblige_laws.specs.ygg_sym_below.Laws.{picked_by}
+use Rattle.ygg_oblige_laws.specs.ygg_sym_below.Lows.{low_worth}
+use Rattle.ygg_oblige_laws.specs.ygg_sym_below_proofs_Lows.{low_wider}
+use Rattle.ygg_oblige_laws.specs.ygg_sym_laws.Below.{zeros_made, lows_at_start, lost_made}
+use Rattle.ygg_oblige_laws.specs.ygg_sym_laws.Means.{terms_of, Begins}
+use Rattle.ygg_sym_fronts.specs.ygg_fronts.Fronts.{low_at_start, run_picks, run_stop, left_at, fall_picks}
+use Rattle.ygg_sym_fronts.specs.ygg_fronts.Laws.{FallsThere}
+use Rattle.ygg_sym_fronts.proofs.of_ygg_fronts.NamedRuns.{starts}
 use Rattle.ygg_sym_fronts.specs.Named.{LossNamed, StartNamed, RunNamed, FallNamed}
-use Rattle.ygg_oblige_terms.specs.Layers.{LayerTyped}
-use Rattle.ygg_oblige_terms.specs.Numbers.{numbers_of}
-use Rattle.ygg_oblige_terms.specs.States.{Starting}
-use Rattle.ygg_oblige_terms.specs.Terms.{ran, some_passes, recovered, recovers, recovers_again, formats}
+use Rattle.ygg_oblige_laws.specs.ygg_oblige_terms.Layers.{LayerTyped}
+use Rattle.ygg_oblige_laws.specs.ygg_oblige_terms.Numbers.{numbers_of}
+use Rattle.ygg_oblige_laws.specs.ygg_oblige_terms.States.{Starting}
+use Rattle.ygg_oblige_laws.specs.ygg_oblige_terms.Terms.{ran, some_passes, recovered, recovers, recovers_again, formats}
 use Rattle.ygg_oblige_laws.specs.States.{given_stand}
 use Rattle.ygg_oblige_laws.specs.Steps.{end_worth}
 use Rattle.ygg_oblige_laws.specs.Worth.{Stand, trio_worth}

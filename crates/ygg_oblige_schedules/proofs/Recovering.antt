@@ -3,26 +3,26 @@ use Rattle.std.proofs.Common.{◌≡◌, ℕ, true, List, [], refl, sym, subst}
 use Rattle.std.specs.Prelude.{Option}
 use Rattle.ygg_value.specs.declared.shape.Shape.{Shape}
 use Rattle.ygg_syntax.specs.declared.tree.Def.{Def}
-use Rattle.ygg_meaning.specs.Layer.{ClosedLayer, BlockRuns}
-use Rattle.ygg_meaning.specs.Machine.{on, based}
-use Rattle.ygg_meaning.specs.Obligations.{Schedule, IsRead}
-use Rattle.ygg_meaning.specs.Refines.{Below, machine_below}
-use Rattle.ygg_meaning.specs.Shapes.{zeros_of}
-use Rattle.ygg_meaning.specs.Violates.{Recovers}
-use Rattle.ygg_rules.specs.declared.rule.RuleKind.{RuleKind}
-use Rattle.ygg_bank.proofs.Meaning.{fits_fewer}
-use Rattle.ygg_bank.specs.Values.{Inputs, Values, Fits}
-use Rattle.ygg_bank.specs.declared.node.Node.{Node}
-use Rattle.ygg_shape_cells.specs.declared.terms.SymValue.{SymValue}
-use Rattle.ygg_sym_runs.specs.Meaning.{answer_worth}
-use Rattle.ygg_sym_below.specs.Laws.{picked_by}
-use Rattle.ygg_sym_below.specs.Lows.{LowShaped, low_worth}
-use Rattle.ygg_sym_laws.specs.Below.{zeros_made}
-use Rattle.ygg_sym_laws.specs.Means.{terms_of, WholeMeans}
-use Rattle.ygg_fronts.specs.Fronts.{run_picks}
+use Rattle.ygg_oblige_laws.specs.ygg_meaning.Layer.{ClosedLayer, BlockRuns}
+use Rattle.ygg_oblige_laws.specs.ygg_meaning.Machine.{on, based}
+use Rattle.ygg_oblige_laws.specs.ygg_meaning.Obligations.{Schedule, IsRead}
+use Rattle.ygg_oblige_laws.specs.ygg_meaning.Refines.{Below, machine_below}
+use Rattle.ygg_oblige_laws.specs.ygg_meaning.Shapes.{zeros_of}
+use Rattle.ygg_oblige_laws.specs.ygg_meaning.Violates.{Recovers}
+use Rattle.ygg_oblige_laws.specs.ygg_rules.declared.rule.RuleKind.{RuleKind}
+use Rattle.ygg_oblige_laws.specs.ygg_bank_proofs_Meaning.{fits_fewer}
+use Rattle.ygg_oblige_laws.specs.ygg_bank.Values.{Inputs, Values, Fits}
+use Rattle.ygg_oblige_laws.specs.ygg_bank.declared.node.Node.{Node}
+use Rattle.ygg_oblige_laws.specs.ygg_shape_cells.declared.terms.SymValue.{SymValue}
+use Rattle.ygg_oblige_laws.specs.ygg_sym_runs.Meaning.{answer_worth}
+use Rattle.ygg_oblige_laws.specs.ygg_sym_below.Laws.{picked_by}
+use Rattle.ygg_oblige_laws.specs.ygg_sym_below.Lows.{LowShaped, low_worth}
+use Rattle.ygg_oblige_laws.specs.ygg_sym_laws.Below.{zeros_made}
+use Rattle.ygg_oblige_laws.specs.ygg_sym_laws.Means.{terms_of, WholeMeans}
+use Rattle.ygg_sym_fronts.specs.ygg_fronts.Fronts.{run_picks}
 use Rattle.ygg_sym_fronts.specs.Named.{RunNamed}
-use Rattle.ygg_oblige_terms.specs.Layers.{ShapesKept}
-use Rattle.ygg_oblige_terms.specs.Terms.{ran, recovered}
+use Rattle.ygg_oblige_laws.specs.ygg_oblige_terms.Layers.{ShapesKept}
+use Rattle.ygg_oblige_laws.specs.ygg_oblige_terms.Terms.{ran, recovered}
 use Rattle.ygg_oblige_laws.specs.Steps.{end_worth}
 use Rattle.ygg_oblige_laws.proofs.Schedules.{reads, wakes_below}
 use Rattle.ygg_oblige_laws.proofs.Wholes.{woken, woken_gives}

@@ -5,33 +5,33 @@ use Rattle.ygg_value.specs.declared.shape.Shape.{Shape}
 use Rattle.ygg_syntax.specs.declared.tree.Def.{Def}
 use Rattle.ygg_syntax.specs.declared.tree.Operation.{Operation}
 use Rattle.ygg_syntax.specs.declared.tree.Tick.{Tick}
-use Rattle.ygg_meaning.specs.Layer.{ClosedLayer}
-use Rattle.ygg_meaning.specs.Obligations.{Schedule, Obligation, CallOf, TickOf}
-use Rattle.ygg_meaning.specs.Refines.{Below, machine_below}
-use Rattle.ygg_meaning.specs.Related.{shaped}
-use Rattle.ygg_meaning.specs.Shapes.{values_fit}
-use Rattle.ygg_meaning.specs.Violates.{End, Meets}
-use Rattle.ygg_type_progress.specs.Blocks.{is_returned}
-use Rattle.ygg_rules.specs.declared.rule.RuleKind.{RuleKind}
-use Rattle.ygg_bank.proofs.Meaning.{fits_fewer}
-use Rattle.ygg_bank.proofs.Widths.{extends_both}
-use Rattle.ygg_bank.specs.Makes.{Out}
-use Rattle.ygg_bank.specs.Nodes.{Extends}
-use Rattle.ygg_bank.specs.Values.{Inputs, Values, Fits}
-use Rattle.ygg_bank.specs.declared.node.Id.{Id}
-use Rattle.ygg_bank.specs.declared.node.Node.{Node}
-use Rattle.ygg_shape_cells.specs.Terms.{worth}
-use Rattle.ygg_shape_cells.specs.declared.terms.SymValue.{SymValue}
-use Rattle.ygg_sym_runs.specs.Meaning.{answer_worth, is_set}
-use Rattle.ygg_sym_below.proofs.Blocks.{values_worth}
-use Rattle.ygg_sym_below.specs.Laws.{picked_by}
-use Rattle.ygg_sym_below.specs.Lows.{low_worth}
-use Rattle.ygg_sym_laws.specs.Means.{terms_of, Begins, WholeMeans}
+use Rattle.ygg_oblige_laws.specs.ygg_meaning.Layer.{ClosedLayer}
+use Rattle.ygg_oblige_laws.specs.ygg_meaning.Obligations.{Schedule, Obligation, CallOf, TickOf}
+use Rattle.ygg_oblige_laws.specs.ygg_meaning.Refines.{Below, machine_below}
+use Rattle.ygg_oblige_laws.specs.ygg_meaning.Related.{shaped}
+use Rattle.ygg_oblige_laws.specs.ygg_meaning.Shapes.{values_fit}
+use Rattle.ygg_oblige_laws.specs.ygg_meaning.Violates.{End, Meets}
+use Rattle.ygg_oblige_laws.specs.ygg_type_progress.Blocks.{is_returned}
+use Rattle.ygg_oblige_laws.specs.ygg_rules.declared.rule.RuleKind.{RuleKind}
+use Rattle.ygg_oblige_laws.specs.ygg_bank_proofs_Meaning.{fits_fewer}
+use Rattle.ygg_oblige_laws.specs.ygg_bank_proofs_Widths.{extends_both}
+use Rattle.ygg_oblige_laws.specs.ygg_bank.Makes.{Out}
+use Rattle.ygg_oblige_laws.specs.ygg_bank.Nodes.{Extends}
+use Rattle.ygg_oblige_laws.specs.ygg_bank.Values.{Inputs, Values, Fits}
+use Rattle.ygg_oblige_laws.specs.ygg_bank.declared.node.Id.{Id}
+use Rattle.ygg_oblige_laws.specs.ygg_bank.declared.node.Node.{Node}
+use Rattle.ygg_oblige_laws.specs.ygg_shape_cells.Terms.{worth}
+use Rattle.ygg_oblige_laws.specs.ygg_shape_cells.declared.terms.SymValue.{SymValue}
+use Rattle.ygg_oblige_laws.specs.ygg_sym_runs.Meaning.{answer_worth, is_set}
+use Rattle.ygg_oblige_laws.proofs.of_ygg_sym_below.Blocks.{values_worth}
+use Rattle.ygg_oblige_laws.specs.ygg_sym_below.Laws.{picked_by}
+use Rattle.ygg_oblige_laws.specs.ygg_sym_below.Lows.{low_worth}
+use Rattle.ygg_oblige_laws.specs.ygg_sym_laws.Means.{terms_of, Begins, WholeMeans}
 use Rattle.ygg_sym_fronts.specs.Named.{RunSo, RunNamed}
-use Rattle.ygg_oblige_terms.specs.Layers.{ShapesKept}
-use Rattle.ygg_oblige_terms.specs.Numbers.{Numbers, numbers_of, arguments_of, block_of}
-use Rattle.ygg_oblige_terms.specs.States.{Starting, fresh_all}
-use Rattle.ygg_oblige_terms.specs.Terms.{Finish, ran}
+use Rattle.ygg_oblige_laws.specs.ygg_oblige_terms.Layers.{ShapesKept}
+use Rattle.ygg_oblige_laws.specs.ygg_oblige_terms.Numbers.{Numbers, numbers_of, arguments_of, block_of}
+use Rattle.ygg_oblige_laws.specs.ygg_oblige_terms.States.{Starting, fresh_all}
+use Rattle.ygg_oblige_laws.specs.ygg_oblige_terms.Terms.{Finish, ran}
 use Rattle.ygg_oblige_laws.specs.Inputs.{given_env}
 use Rattle.ygg_oblige_laws.specs.States.{given_stand, StartsSo}
 use Rattle.ygg_oblige_laws.specs.Steps.{HasStep, variables_of, ObligationTyped, AnswerKept, StepIs, PassesSo, end_worth}

@@ -3,22 +3,22 @@ use Rattle.std.specs.Prelude.{◌≡◌, ◌↔◌, ℕ, IsTrue, List, [], ◌�
 use Rattle.ygg_syntax.specs.Files.{IsDerived}
 use Rattle.ygg_syntax.specs.declared.tree.Def.{Def}
 use Rattle.ygg_syntax.specs.declared.tree.File.{File}
-use Rattle.ygg_type_rules.specs.Files.{IsTyped}
-use Rattle.ygg_meaning.specs.Layer.{ClosedLayer}
-use Rattle.ygg_meaning.specs.Obligations.{Schedule}
-use Rattle.ygg_meaning.specs.Refines.{Below}
-use Rattle.ygg_meaning.specs.Violates.{shapes_fit}
-use Rattle.ygg_histories.specs.Claims.{Claim, ClaimViolated, claims_at, claims_of}
-use Rattle.ygg_histories.specs.Stack.{layers_of}
-use Rattle.ygg_rules.specs.declared.rule.RuleKind.{RuleKind}
-use Rattle.ygg_bank.specs.Inputs.{InputsBelow}
-use Rattle.ygg_bank.specs.Nodes.{IsBank, Extends}
-use Rattle.ygg_bank.specs.Values.{Inputs, InputsFit, value_of}
-use Rattle.ygg_bank.specs.declared.node.Id.{Id}
-use Rattle.ygg_bank.specs.declared.node.Node.{Node}
-use Rattle.ygg_sym_laws.specs.Means.{terms_of}
-use Rattle.ygg_oblige_terms.specs.Layers.{LayerTyped}
-use Rattle.ygg_oblige_terms.specs.Terms.{layer_made, file_made}
+use Rattle.ygg_oblige_laws.specs.ygg_type_rules.Files.{IsTyped}
+use Rattle.ygg_oblige_laws.specs.ygg_meaning.Layer.{ClosedLayer}
+use Rattle.ygg_oblige_laws.specs.ygg_meaning.Obligations.{Schedule}
+use Rattle.ygg_oblige_laws.specs.ygg_meaning.Refines.{Below}
+use Rattle.ygg_oblige_laws.specs.ygg_meaning.Violates.{shapes_fit}
+use Rattle.ygg_oblige_laws.specs.ygg_histories.Claims.{Claim, ClaimViolated, claims_at, claims_of}
+use Rattle.ygg_oblige_laws.specs.ygg_histories.Stack.{layers_of}
+use Rattle.ygg_oblige_laws.specs.ygg_rules.declared.rule.RuleKind.{RuleKind}
+use Rattle.ygg_oblige_laws.specs.ygg_bank.Inputs.{InputsBelow}
+use Rattle.ygg_oblige_laws.specs.ygg_bank.Nodes.{IsBank, Extends}
+use Rattle.ygg_oblige_laws.specs.ygg_bank.Values.{Inputs, InputsFit, value_of}
+use Rattle.ygg_oblige_laws.specs.ygg_bank.declared.node.Id.{Id}
+use Rattle.ygg_oblige_laws.specs.ygg_bank.declared.node.Node.{Node}
+use Rattle.ygg_oblige_laws.specs.ygg_sym_laws.Means.{terms_of}
+use Rattle.ygg_oblige_laws.specs.ygg_oblige_terms.Layers.{LayerTyped}
+use Rattle.ygg_oblige_laws.specs.ygg_oblige_terms.Terms.{layer_made, file_made}
 use Rattle.ygg_oblige_schedules.specs.Schedules.{layer_schedules, all_schedules}
 
 -- the schedule violates the obligation exactly where its term is 0 in the environment; its values have the declared shapes in either case

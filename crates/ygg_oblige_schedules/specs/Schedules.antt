@@ -3,10 +3,10 @@ use Rattle.std.specs.Prelude.{ℕ, ◌+◌, List, [], ◌∷◌, ◌++◌, map, 
 use Rattle.ygg_value.specs.declared.row.Value.{Value}
 use Rattle.ygg_syntax.specs.declared.tree.Block.{Block}
 use Rattle.ygg_syntax.specs.declared.tree.DiskText.{DiskText}
-use Rattle.ygg_meaning.specs.Environments.{Name, Env, bind}
-use Rattle.ygg_meaning.specs.Layer.{ClosedLayer}
-use Rattle.ygg_meaning.specs.Machine.{Picks, based}
-use Rattle.ygg_meaning.specs.Obligations.{
+use Rattle.ygg_oblige_laws.specs.ygg_meaning.Environments.{Name, Env, bind}
+use Rattle.ygg_oblige_laws.specs.ygg_meaning.Layer.{ClosedLayer}
+use Rattle.ygg_oblige_laws.specs.ygg_meaning.Machine.{Picks, based}
+use Rattle.ygg_oblige_laws.specs.ygg_meaning.Obligations.{
   Halt,
   Schedule,
   Obligation,
@@ -19,20 +19,20 @@ use Rattle.ygg_meaning.specs.Obligations.{
   Again,
   obligations_of,
 }
-use Rattle.ygg_meaning.specs.Refines.{Below}
-use Rattle.ygg_meaning.specs.Shapes.{zeros_of}
-use Rattle.ygg_histories.specs.Stack.{Layers, below_of}
-use Rattle.ygg_rules.specs.declared.rule.RuleKind.{RuleKind}
-use Rattle.ygg_bank.specs.Values.{Inputs}
-use Rattle.ygg_sym_below.specs.Laws.{picked_by}
-use Rattle.ygg_sym_expr.specs.Exprs.{SymFunctions}
-use Rattle.ygg_oblige_terms.specs.Numbers.{Numbers, numbers_of, arguments_of}
-use Rattle.ygg_oblige_terms.specs.States.{state_words}
-use Rattle.ygg_oblige_terms.specs.Terms.{after_layers}
+use Rattle.ygg_oblige_laws.specs.ygg_meaning.Refines.{Below}
+use Rattle.ygg_oblige_laws.specs.ygg_meaning.Shapes.{zeros_of}
+use Rattle.ygg_oblige_laws.specs.ygg_histories.Stack.{Layers, below_of}
+use Rattle.ygg_oblige_laws.specs.ygg_rules.declared.rule.RuleKind.{RuleKind}
+use Rattle.ygg_oblige_laws.specs.ygg_bank.Values.{Inputs}
+use Rattle.ygg_oblige_laws.specs.ygg_sym_below.Laws.{picked_by}
+use Rattle.ygg_oblige_laws.specs.ygg_sym_expr.Exprs.{SymFunctions}
+use Rattle.ygg_oblige_laws.specs.ygg_oblige_terms.Numbers.{Numbers, numbers_of, arguments_of}
+use Rattle.ygg_oblige_laws.specs.ygg_oblige_terms.States.{state_words}
+use Rattle.ygg_oblige_laws.specs.ygg_oblige_terms.Terms.{after_layers}
 use Rattle.ygg_oblige_laws.specs.Inputs.{given_env}
 use Rattle.ygg_oblige_laws.specs.States.{given_stand}
 use Rattle.ygg_oblige_laws.specs.Worth.{Stand}
-use Rattle.ygg_fronts.specs.Fronts.{lose_on, loss_picks, low_at_start, run_picks, run_stop, left_at, fall_picks}
+use Rattle.ygg_sym_fronts.specs.ygg_fronts.Fronts.{lose_on, loss_picks, low_at_start, run_picks, run_stop, left_at, fall_picks}
 
 -- the values of names, in order
 abbrev pub values_of : Env → List Value

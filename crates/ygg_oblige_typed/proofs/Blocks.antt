@@ -40,16 +40,16 @@ use Rattle.ygg_syntax.specs.declared.tree.Block.{Block}
 use Rattle.ygg_syntax.specs.declared.tree.Operation.{Operation}
 use Rattle.ygg_syntax.specs.declared.tree.Tick.{Tick}
 use Rattle.ygg_syntax.specs.declared.tree.Layer.{Layer}
-use Rattle.ygg_syntax_count.specs.Weights.{Weights}
-use Rattle.ygg_symbols.specs.Names.{Named, look_up, has, added}
-use Rattle.ygg_type_rules.specs.declared.scope.Visibility.{Visibility}
-use Rattle.ygg_type_rules.specs.declared.scope.Visibility.TheVariants.{Specification, Implementation}
-use Rattle.ygg_type_rules.specs.declared.scope.Signature.{Signature}
-use Rattle.ygg_type_rules.specs.TypeErrors.{none, unless}
-use Rattle.ygg_type_rules.specs.Shapes.{shape_of, answer_shape}
-use Rattle.ygg_type_rules.specs.Scopes.{Scope, is_taken, seen_as}
-use Rattle.ygg_type_rules.specs.Statements.{block_errors}
-use Rattle.ygg_type_rules.specs.Definitions.{
+use Rattle.ygg_oblige_terms.specs.ygg_syntax_count.Weights.{Weights}
+use Rattle.ygg_oblige_terms.specs.ygg_symbols.Names.{Named, look_up, has, added}
+use Rattle.ygg_oblige_terms.specs.ygg_type_rules.declared.scope.Visibility.{Visibility}
+use Rattle.ygg_oblige_terms.specs.ygg_type_rules.declared.scope.Visibility.TheVariants.{Specification, Implementation}
+use Rattle.ygg_oblige_terms.specs.ygg_type_rules.declared.scope.Signature.{Signature}
+use Rattle.ygg_oblige_terms.specs.ygg_type_rules.TypeErrors.{none, unless}
+use Rattle.ygg_oblige_terms.specs.ygg_type_rules.Shapes.{shape_of, answer_shape}
+use Rattle.ygg_oblige_terms.specs.ygg_type_rules.Scopes.{Scope, is_taken, seen_as}
+use Rattle.ygg_oblige_terms.specs.ygg_type_rules.Statements.{block_errors}
+use Rattle.ygg_oblige_terms.specs.ygg_type_rules.Definitions.{
   type_text_errors,
   answer_type_errors,
   definitions_errors,
@@ -58,7 +58,7 @@ use Rattle.ygg_type_rules.specs.Definitions.{
   with_parameters,
   parameters_errors,
 }
-use Rattle.ygg_type_rules.specs.Layers.{
+use Rattle.ygg_oblige_terms.specs.ygg_type_rules.Layers.{
   Known,
   Below,
   layer_scope,
@@ -75,24 +75,24 @@ use Rattle.ygg_type_rules.specs.Layers.{
   ticks_errors,
   relations_errors,
 }
-use Rattle.ygg_meaning.specs.Environments.{Name, bind}
-use Rattle.ygg_meaning.specs.Meaning.{Functions, functions_of}
-use Rattle.ygg_meaning.specs.Shapes.{shape_in, fits, values_fit, env_fits}
-use Rattle.ygg_meaning.specs.Progress.{Answer}
-use Rattle.ygg_meaning.specs.Layer.{ClosedLayer, operation_of}
-use Rattle.ygg_meaning.specs.Refines as stands
-use Rattle.ygg_type_sound.specs.Agrees.{Agrees}
-use Rattle.ygg_type_sound.proofs.Parameters.{type_is, same_fit}
-use Rattle.ygg_type_sound.proofs.Tests.{left as first_of, right as second_of, bytes_equal}
-use Rattle.ygg_type_progress.specs.Blocks.{is_returned}
-use Rattle.ygg_type_progress.specs.Kinds.{keeps, on_crash_keeps, returns_declared, operation_keeps, tick_keeps}
-use Rattle.ygg_type_progress.specs.Questions.{plain, answer_has}
-use Rattle.ygg_type_progress.proofs.Views.{AllTyped, state_agrees, memory_agrees, agrees_with_arguments}
-use Rattle.ygg_type_progress.proofs.Operations.{OnCrashTyped, IsOperation, find_operation, added_all, seen_operations}
-use Rattle.ygg_type_progress.proofs.Typed.{IsTypedLayer, Parts, parts}
-use Rattle.ygg_type_progress.proofs.Specs.{spec_answers}
-use Rattle.ygg_type_progress.proofs.Files.{have}
-use Rattle.ygg_direct.specs.Laws.{Sees}
+use Rattle.ygg_oblige_terms.specs.ygg_meaning.Environments.{Name, bind}
+use Rattle.ygg_oblige_terms.specs.ygg_meaning.Meaning.{Functions, functions_of}
+use Rattle.ygg_oblige_terms.specs.ygg_meaning.Shapes.{shape_in, fits, values_fit, env_fits}
+use Rattle.ygg_oblige_terms.specs.ygg_meaning.Progress.{Answer}
+use Rattle.ygg_oblige_terms.specs.ygg_meaning.Layer.{ClosedLayer, operation_of}
+use Rattle.ygg_oblige_terms.specs.ygg_meaning.Refines as stands
+use Rattle.ygg_oblige_terms.specs.ygg_type_sound.Agrees.{Agrees}
+use Rattle.ygg_oblige_terms.specs.ygg_type_sound_proofs_Parameters.{type_is, same_fit}
+use Rattle.ygg_oblige_terms.specs.ygg_type_sound_proofs_Tests.{left as first_of, right as second_of, bytes_equal}
+use Rattle.ygg_oblige_terms.specs.ygg_type_progress.Blocks.{is_returned}
+use Rattle.ygg_oblige_terms.specs.ygg_type_progress.Kinds.{keeps, on_crash_keeps, returns_declared, operation_keeps, tick_keeps}
+use Rattle.ygg_oblige_terms.specs.ygg_type_progress.Questions.{plain, answer_has}
+use Rattle.ygg_oblige_terms.proofs.of_ygg_type_progress.Views.{AllTyped, state_agrees, memory_agrees, agrees_with_arguments}
+use Rattle.ygg_oblige_terms.specs.ygg_type_progress_proofs_Operations.{OnCrashTyped, IsOperation, find_operation, added_all, seen_operations}
+use Rattle.ygg_oblige_terms.specs.ygg_type_progress_proofs_Typed.{IsTypedLayer, Parts, parts}
+use Rattle.ygg_oblige_terms.specs.ygg_type_progress_proofs_Specs.{spec_answers}
+use Rattle.ygg_oblige_terms.specs.ygg_type_progress_proofs_Files.{have}
+use Rattle.ygg_oblige_terms.specs.ygg_direct.Laws.{Sees}
 use Rattle.ygg_oblige_terms.specs.Specs.{SpecBlock}
 use Rattle.ygg_oblige_terms.specs.Below.{lows_on, signatures_of, signatures_on}
 use Rattle.ygg_oblige_terms.specs.Typed.{BlockTyped, SpecBlockTyped, OperationTyped, SpecTyped, BelowTyped}

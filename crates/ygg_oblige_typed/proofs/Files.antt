@@ -8,24 +8,24 @@ use Rattle.ygg_syntax.specs.declared.tree.DiskText.{DiskText}
 use Rattle.ygg_syntax.specs.declared.tree.Layer.{Layer}
 use Rattle.ygg_syntax.specs.declared.tree.File.{File}
 use Rattle.ygg_syntax.specs.Files.{IsDerived}
-use Rattle.ygg_syntax_count.specs.Weights.{Weights, weights_of}
-use Rattle.ygg_symbols.specs.Names.{has, added}
-use Rattle.ygg_type_rules.specs.TypeErrors.{none, unless}
-use Rattle.ygg_type_rules.specs.Definitions.{definitions_errors, with_definitions}
-use Rattle.ygg_type_rules.specs.Layers as typing
-use Rattle.ygg_type_rules.specs.Layers.{Known, Below, layer_scope, parts_errors}
-use Rattle.ygg_type_rules.specs.Files.{IsTyped, type_errors_of, disk_errors, disk_below, count_error, layer_errors, layers_errors}
-use Rattle.ygg_meaning.specs.Meaning.{functions_of}
-use Rattle.ygg_meaning.specs.Layer.{ClosedLayer}
-use Rattle.ygg_histories.specs.Stack.{Layers, below_of, tables_of, layers_on, layers_of}
-use Rattle.ygg_type_sound.proofs.Definitions.{MeetsAll, definitions_meet}
-use Rattle.ygg_type_sound.proofs.Tests.{left as first_of, right as second_of}
-use Rattle.ygg_type_progress.specs.Kinds.{layer_keeps}
-use Rattle.ygg_type_progress.proofs.TypeErrors.{none_listed}
-use Rattle.ygg_type_progress.proofs.Operations.{added_all, operations_shaped}
-use Rattle.ygg_type_progress.proofs.Typed.{IsTypedLayer, parts}
-use Rattle.ygg_type_progress.proofs.Files.{on_disk}
-use Rattle.ygg_type_progress.proofs.Derived.{derived_kept}
+use Rattle.ygg_oblige_terms.specs.ygg_syntax_count.Weights.{Weights, weights_of}
+use Rattle.ygg_oblige_terms.specs.ygg_symbols.Names.{has, added}
+use Rattle.ygg_oblige_terms.specs.ygg_type_rules.TypeErrors.{none, unless}
+use Rattle.ygg_oblige_terms.specs.ygg_type_rules.Definitions.{definitions_errors, with_definitions}
+use Rattle.ygg_oblige_terms.specs.ygg_type_rules.Layers as typing
+use Rattle.ygg_oblige_terms.specs.ygg_type_rules.Layers.{Known, Below, layer_scope, parts_errors}
+use Rattle.ygg_oblige_terms.specs.ygg_type_rules.Files.{IsTyped, type_errors_of, disk_errors, disk_below, count_error, layer_errors, layers_errors}
+use Rattle.ygg_oblige_terms.specs.ygg_meaning.Meaning.{functions_of}
+use Rattle.ygg_oblige_terms.specs.ygg_meaning.Layer.{ClosedLayer}
+use Rattle.ygg_oblige_terms.specs.ygg_histories.Stack.{Layers, below_of, tables_of, layers_on, layers_of}
+use Rattle.ygg_oblige_terms.specs.ygg_type_sound_proofs_Definitions.{MeetsAll, definitions_meet}
+use Rattle.ygg_oblige_terms.specs.ygg_type_sound_proofs_Tests.{left as first_of, right as second_of}
+use Rattle.ygg_oblige_terms.specs.ygg_type_progress.Kinds.{layer_keeps}
+use Rattle.ygg_oblige_terms.specs.ygg_type_progress_proofs_TypeErrors.{none_listed}
+use Rattle.ygg_oblige_terms.specs.ygg_type_progress_proofs_Operations.{added_all, operations_shaped}
+use Rattle.ygg_oblige_terms.specs.ygg_type_progress_proofs_Typed.{IsTypedLayer, parts}
+use Rattle.ygg_oblige_terms.specs.ygg_type_progress_proofs_Files.{on_disk}
+use Rattle.ygg_oblige_terms.proofs.of_ygg_type_progress.Derived.{derived_kept}
 use Rattle.ygg_oblige_terms.specs.Below.{lows_on, signatures_on}
 use Rattle.ygg_oblige_terms.specs.Typed.{BelowTyped}
 use Rattle.ygg_oblige_typed.specs.Layers.{LayersTyped}

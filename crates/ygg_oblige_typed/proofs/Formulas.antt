@@ -37,36 +37,36 @@ use Rattle.ygg_syntax.specs.declared.tree.Def.{Def}
 use Rattle.ygg_syntax.specs.declared.tree.DiskText.{DiskText}
 use Rattle.ygg_syntax.specs.declared.tree.Expr.{Expr}
 use Rattle.ygg_syntax.specs.declared.tree.Layer.{Layer}
-use Rattle.ygg_syntax_count.specs.Weights.{Weights, expr_weight}
-use Rattle.ygg_symbols.specs.Names.{look_up, has}
-use Rattle.ygg_type_rules.specs.declared.scope.Owner.{Owner}
-use Rattle.ygg_type_rules.specs.declared.scope.Owner.TheVariants.{State, Memory}
-use Rattle.ygg_type_rules.specs.declared.scope.Variable.{Variable}
-use Rattle.ygg_type_rules.specs.declared.scope.Local.{Local}
-use Rattle.ygg_type_rules.specs.declared.scope.Visibility.{Visibility}
-use Rattle.ygg_type_rules.specs.declared.scope.Visibility.TheVariants.{Relation, Settled}
-use Rattle.ygg_type_rules.specs.TypeErrors.{none, unless}
-use Rattle.ygg_type_rules.specs.Limits.{weight_fits}
-use Rattle.ygg_type_rules.specs.Shapes.{shape_of}
-use Rattle.ygg_type_rules.specs.Scopes.{Scope, seen_variable, state_shape, seen_as}
-use Rattle.ygg_type_rules.specs.Expressions.{typing, wanted, expected_errors}
-use Rattle.ygg_type_rules.specs.Definitions.{with_definitions}
-use Rattle.ygg_type_rules.specs.Layers.{Below, below_of, variables_of, layer_scope, formula_errors, formulas_errors, relations_errors}
-use Rattle.ygg_type_rules.specs.Files.{disk_errors, disk_table, disk_below}
-use Rattle.ygg_meaning.specs.Environments.{Env}
-use Rattle.ygg_meaning.specs.Meaning.{Functions, functions_of, value_with}
-use Rattle.ygg_meaning.specs.Meaning as meaning
-use Rattle.ygg_meaning.specs.Shapes.{env_fits, zeros_of}
-use Rattle.ygg_meaning.specs.Layer.{ClosedLayer}
-use Rattle.ygg_meaning.specs.Related.{relations}
-use Rattle.ygg_histories.specs.Stack.{tables_of_kind, tables_of}
-use Rattle.ygg_type_sound.specs.Fitting.{IsHeld}
-use Rattle.ygg_type_sound.specs.Agrees.{Agrees}
-use Rattle.ygg_type_sound.proofs.Tests.{left as first_of, right as second_of}
-use Rattle.ygg_type_sound.proofs.Rules.{wanted_has}
-use Rattle.ygg_type_sound.proofs.Sounds.{sound}
-use Rattle.ygg_type_sound.proofs.Definitions.{MeetsAll}
-use Rattle.ygg_type_progress.proofs.Views.{entries, AllTyped, held_in, has_in, zeros_fit, LayerVariables, LowerShaped}
+use Rattle.ygg_oblige_terms.specs.ygg_syntax_count.Weights.{Weights, expr_weight}
+use Rattle.ygg_oblige_terms.specs.ygg_symbols.Names.{look_up, has}
+use Rattle.ygg_oblige_terms.specs.ygg_type_rules.declared.scope.Owner.{Owner}
+use Rattle.ygg_oblige_terms.specs.ygg_type_rules.declared.scope.Owner.TheVariants.{State, Memory}
+use Rattle.ygg_oblige_terms.specs.ygg_type_rules.declared.scope.Variable.{Variable}
+use Rattle.ygg_oblige_terms.specs.ygg_type_rules.declared.scope.Local.{Local}
+use Rattle.ygg_oblige_terms.specs.ygg_type_rules.declared.scope.Visibility.{Visibility}
+use Rattle.ygg_oblige_terms.specs.ygg_type_rules.declared.scope.Visibility.TheVariants.{Relation, Settled}
+use Rattle.ygg_oblige_terms.specs.ygg_type_rules.TypeErrors.{none, unless}
+use Rattle.ygg_oblige_terms.specs.ygg_type_rules.Limits.{weight_fits}
+use Rattle.ygg_oblige_terms.specs.ygg_type_rules.Shapes.{shape_of}
+use Rattle.ygg_oblige_terms.specs.ygg_type_rules.Scopes.{Scope, seen_variable, state_shape, seen_as}
+use Rattle.ygg_oblige_terms.specs.ygg_type_rules.Expressions.{typing, wanted, expected_errors}
+use Rattle.ygg_oblige_terms.specs.ygg_type_rules.Definitions.{with_definitions}
+use Rattle.ygg_oblige_terms.specs.ygg_type_rules.Layers.{Below, below_of, variables_of, layer_scope, formula_errors, formulas_errors, relations_errors}
+use Rattle.ygg_oblige_terms.specs.ygg_type_rules.Files.{disk_errors, disk_table, disk_below}
+use Rattle.ygg_oblige_terms.specs.ygg_meaning.Environments.{Env}
+use Rattle.ygg_oblige_terms.specs.ygg_meaning.Meaning.{Functions, functions_of, value_with}
+use Rattle.ygg_oblige_terms.specs.ygg_meaning.Meaning as meaning
+use Rattle.ygg_oblige_terms.specs.ygg_meaning.Shapes.{env_fits, zeros_of}
+use Rattle.ygg_oblige_terms.specs.ygg_meaning.Layer.{ClosedLayer}
+use Rattle.ygg_oblige_terms.specs.ygg_meaning.Related.{relations}
+use Rattle.ygg_oblige_terms.specs.ygg_histories.Stack.{tables_of_kind, tables_of}
+use Rattle.ygg_oblige_terms.specs.ygg_type_sound.Fitting.{IsHeld}
+use Rattle.ygg_oblige_terms.specs.ygg_type_sound.Agrees.{Agrees}
+use Rattle.ygg_oblige_terms.specs.ygg_type_sound_proofs_Tests.{left as first_of, right as second_of}
+use Rattle.ygg_oblige_terms.specs.ygg_type_sound_proofs_Rules.{wanted_has}
+use Rattle.ygg_oblige_terms.specs.ygg_type_sound_proofs_Sounds.{sound}
+use Rattle.ygg_oblige_terms.specs.ygg_type_sound_proofs_Definitions.{MeetsAll}
+use Rattle.ygg_oblige_terms.proofs.of_ygg_type_progress.Views.{entries, AllTyped, held_in, has_in, zeros_fit, LayerVariables, LowerShaped}
 use Rattle.ygg_oblige_terms.specs.Layers.{FormulaTyped}
 
 pub all_typed : (ds es : List Declared) → AllTyped ds → AllTyped es → AllTyped (ds ++ es)

@@ -4,8 +4,8 @@ use Rattle.ygg_syntax.specs.declared.tree.Def.{Def}
 use Rattle.ygg_syntax.specs.declared.tree.DiskText.{DiskText}
 use Rattle.ygg_syntax.specs.declared.tree.File.{File}
 use Rattle.ygg_syntax.specs.Files.{IsDerived}
-use Rattle.ygg_type_rules.specs.Files.{IsTyped}
-use Rattle.ygg_histories.specs.Stack.{Layers, below_of, layers_of}
+use Rattle.ygg_oblige_terms.specs.ygg_type_rules.Files.{IsTyped}
+use Rattle.ygg_oblige_terms.specs.ygg_histories.Stack.{Layers, below_of, layers_of}
 use Rattle.ygg_oblige_terms.specs.Layers.{LayerTyped}
 
 -- each of some layers has no type error on what it is specified over

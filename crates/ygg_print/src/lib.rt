@@ -6,3 +6,4 @@ mod law;
 
 pub use canonical::print;
 pub use law::canonical_is_read;
+pub use ygg_print_layout::tokens_are_marks;

@@ -2,14 +2,14 @@
 use Rattle.std.proofs.Common.{◌≡◌, ℕ, Bool, true, ◌&&◌, List, slice_get, Option, Some, None, option_map, refl, sym, ap, ◌∙◌, subst, ◌⊎◌, inl, inr}
 use Rattle.ygg_value.specs.declared.row.Value.{Value}
 use Rattle.ygg_syntax.specs.declared.tree.Layer.{Layer}
-use Rattle.ygg_meaning.specs.Progress.{Answer}
-use Rattle.ygg_meaning.specs.Machine.{Picks}
-use Rattle.ygg_meaning.specs.Spec.{Outcome}
-use Rattle.ygg_meaning.specs.Obligations.{Obligation, Init, CallOf, CutOf, TickOf, CutTickOf, Idle, Again}
-use Rattle.ygg_meaning.specs.Shapes.{values_fit}
-use Rattle.ygg_meaning.specs.Related.{related}
-use Rattle.ygg_eval_lower.specs.Layers.{variables_at}
-use Rattle.ygg_meaning.specs.Violates.{answers_alike, related_after, spec_after}
+use Rattle.ygg_sched.specs.ygg_meaning.Progress.{Answer}
+use Rattle.ygg_sched.specs.ygg_meaning.Machine.{Picks}
+use Rattle.ygg_sched.specs.ygg_meaning.Spec.{Outcome}
+use Rattle.ygg_sched.specs.ygg_meaning.Obligations.{Obligation, Init, CallOf, CutOf, TickOf, CutTickOf, Idle, Again}
+use Rattle.ygg_sched.specs.ygg_meaning.Shapes.{values_fit}
+use Rattle.ygg_sched.specs.ygg_meaning.Related.{related}
+use Rattle.ygg_direct_files.specs.ygg_eval_lower.Layers.{variables_at}
+use Rattle.ygg_sched.specs.ygg_meaning.Violates.{answers_alike, related_after, spec_after}
 use Rattle.ygg_replay.specs.declared.site.ReplaySite.{ReplaySite}
 use Rattle.ygg_replay.specs.declared.conclusion.Trial.{Trial}
 use Rattle.ygg_sched.specs.declared.case.Kind.{Kind}

@@ -3,10 +3,10 @@ use Rattle.std.proofs.Common.{◌≡◌, ℕ, Bool, List, [], slice_get, map, So
 use Rattle.std.proofs.lemmas.Option.{slice_get-map}
 use Rattle.ygg_value.specs.declared.row.Value.{Value}
 use Rattle.ygg_syntax.specs.declared.tree.Expr.{Expr}
-use Rattle.ygg_meaning.specs.Related.{holds}
-use Rattle.ygg_eval_holds.specs.declared.formula.Formula.{Formula}
-use Rattle.ygg_eval_holds.specs.declared.formula.Which.TheVariants.{Relate, Always, Settled}
-use Rattle.ygg_eval_holds.specs.Formulas.{IsAsked, Answers}
+use Rattle.ygg_sched.specs.ygg_meaning.Related.{holds}
+use Rattle.ygg_eval.specs.ygg_eval_holds.declared.formula.Formula.{Formula}
+use Rattle.ygg_eval.specs.ygg_eval_holds.declared.formula.Which.TheVariants.{Relate, Always, Settled}
+use Rattle.ygg_eval.specs.ygg_eval_holds.Formulas.{IsAsked, Answers}
 use Rattle.ygg_replay.specs.declared.site.ReplaySite.{ReplaySite}
 use Rattle.ygg_replay.specs.Sites.{IsHere, LowFits, StatesFit, closed_in, vars_at, memory_at, low_at}
 

@@ -30,25 +30,25 @@ use Rattle.ygg_syntax.specs.declared.tree.Declared.{Declared}
 use Rattle.ygg_syntax.specs.declared.tree.DiskText.{DiskText}
 use Rattle.ygg_syntax.specs.declared.tree.Layer.{Layer}
 use Rattle.ygg_syntax.specs.declared.tree.File.{File}
-use Rattle.ygg_syntax_count.specs.Weights.{weights_of}
-use Rattle.ygg_type_rules.specs.TypeErrors.{none}
-use Rattle.ygg_type_rules.specs.Definitions.{definitions_errors, with_definitions}
-use Rattle.ygg_type_rules.specs.Files.{disk_below, disk_errors, layers_errors, type_errors_of}
-use Rattle.ygg_type_sound.proofs.Tests.{left}
-use Rattle.ygg_type_progress.proofs.Views.{AllTyped}
-use Rattle.ygg_disk.specs.Kinds.{model_of}
-use Rattle.ygg_meaning.specs.Environments.{bind}
-use Rattle.ygg_meaning.specs.Shapes.{values_fit}
-use Rattle.ygg_meaning.specs.Progress.{Answer}
-use Rattle.ygg_meaning.specs.Machine.{based}
-use Rattle.ygg_meaning.specs.DiskMachine.{tables_in, zeros_on}
-use Rattle.ygg_meaning.specs.Spec.{start_outcome}
-use Rattle.ygg_meaning.specs.Refines.{Below, OnDisk, OnSpec, machine_below}
-use Rattle.ygg_meaning.proofs.Exact.{start_exact}
-use Rattle.ygg_histories.specs.Stack.{tables_of, tables_of_kind}
-use Rattle.ygg_eval_lower.specs.Layers.{below_at, closed_at, machine_at, variables_at}
-use Rattle.ygg_eval_spec.proofs.OnDisk.{variables_zero}
-use Rattle.ygg_eval_spec.proofs.OnSpec.{layer_variables}
+use Rattle.ygg_sched.specs.ygg_syntax_count.Weights.{weights_of}
+use Rattle.ygg_sched.specs.ygg_type_rules.TypeErrors.{none}
+use Rattle.ygg_sched.specs.ygg_type_rules.Definitions.{definitions_errors, with_definitions}
+use Rattle.ygg_sched.specs.ygg_type_rules.Files.{disk_below, disk_errors, layers_errors, type_errors_of}
+use Rattle.ygg_eval.specs.ygg_type_sound_proofs_Tests.{left}
+use Rattle.ygg_direct_files.proofs.of_ygg_type_progress.Views.{AllTyped}
+use Rattle.ygg_sched.specs.ygg_disk.Kinds.{model_of}
+use Rattle.ygg_sched.specs.ygg_meaning.Environments.{bind}
+use Rattle.ygg_sched.specs.ygg_meaning.Shapes.{values_fit}
+use Rattle.ygg_sched.specs.ygg_meaning.Progress.{Answer}
+use Rattle.ygg_sched.specs.ygg_meaning.Machine.{based}
+use Rattle.ygg_sched.specs.ygg_meaning.DiskMachine.{tables_in, zeros_on}
+use Rattle.ygg_sched.specs.ygg_meaning.Spec.{start_outcome}
+use Rattle.ygg_sched.specs.ygg_meaning.Refines.{Below, OnDisk, OnSpec, machine_below}
+use Rattle.ygg_sched.specs.ygg_meaning_proofs_Exact.{start_exact}
+use Rattle.ygg_sched.specs.ygg_histories.Stack.{tables_of, tables_of_kind}
+use Rattle.ygg_direct_files.specs.ygg_eval_lower.Layers.{below_at, closed_at, machine_at, variables_at}
+use Rattle.ygg_eval.proofs.of_ygg_eval_spec.OnDisk.{variables_zero}
+use Rattle.ygg_eval.proofs.of_ygg_eval_spec.OnSpec.{layer_variables}
 use Rattle.ygg_replay.specs.Zeros.{zero_values}
 use Rattle.ygg_replay.proofs.Typing.{zeros_shaped}
 

@@ -7,31 +7,31 @@ use Rattle.ygg_syntax.specs.declared.tree.Block.{Block}
 use Rattle.ygg_syntax.specs.declared.tree.Declared.{Declared}
 use Rattle.ygg_syntax.specs.declared.tree.Layer.{Layer}
 use Rattle.ygg_syntax.specs.declared.tree.File.{File}
-use Rattle.ygg_disk.specs.declared.power.Power.{Power}
-use Rattle.ygg_meaning.specs.Environments.{Env, bind}
-use Rattle.ygg_meaning.specs.Shapes.{values_fit}
-use Rattle.ygg_meaning.specs.Progress.{Answer}
-use Rattle.ygg_meaning.specs.Machine.{Picks, based, on}
-use Rattle.ygg_meaning.specs.Layer.{dialogue_of}
-use Rattle.ygg_meaning.specs.Obligations.{IsRead}
-use Rattle.ygg_meaning.specs.Refines.{Below, OnDisk, OnSpec, machine_below}
-use Rattle.ygg_meaning.specs.Runs.{Dialogue, Reaches, WholeRun, FallenRun, notes_of}
-use Rattle.ygg_direct.specs.Acts.{noted_picks, IsActed}
-use Rattle.ygg_direct.proofs.OneEnd.{disk_one, spec_one}
+use Rattle.ygg_sched.specs.ygg_disk.declared.power.Power.{Power}
+use Rattle.ygg_sched.specs.ygg_meaning.Environments.{Env, bind}
+use Rattle.ygg_sched.specs.ygg_meaning.Shapes.{values_fit}
+use Rattle.ygg_sched.specs.ygg_meaning.Progress.{Answer}
+use Rattle.ygg_sched.specs.ygg_meaning.Machine.{Picks, based, on}
+use Rattle.ygg_sched.specs.ygg_meaning.Layer.{dialogue_of}
+use Rattle.ygg_sched.specs.ygg_meaning.Obligations.{IsRead}
+use Rattle.ygg_sched.specs.ygg_meaning.Refines.{Below, OnDisk, OnSpec, machine_below}
+use Rattle.ygg_sched.specs.ygg_meaning.Runs.{Dialogue, Reaches, WholeRun, FallenRun, notes_of}
+use Rattle.ygg_direct_files.specs.ygg_direct.Acts.{noted_picks, IsActed}
+use Rattle.ygg_direct_files.proofs.of_ygg_direct.OneEnd.{disk_one, spec_one}
 use Rattle.ygg_direct_files.specs.Files.{below_acts}
-use Rattle.ygg_eval_lower.specs.declared.body.Body.{Body}
-use Rattle.ygg_eval_lower.specs.declared.body.Part.{Part}
-use Rattle.ygg_eval_lower.specs.declared.body.Part.TheVariants as part
-use Rattle.ygg_eval_lower.specs.declared.body.Stop.{Stop}
-use Rattle.ygg_eval_lower.specs.Bodies.{kind_of, variables_in, arguments_in, dialogue_in}
-use Rattle.ygg_eval_lower.specs.Layers.{variables_at, below_at}
-use Rattle.ygg_eval_lower.specs.Lower.{Standing}
-use Rattle.ygg_eval_lower.specs.Conversations.{calls_in}
-use Rattle.ygg_eval_block.specs.Runs.{Finished, FinishedEarly, StoppedAt, RunEnds}
-use Rattle.ygg_eval_block.specs.declared.run.Ended.{Ended}
-use Rattle.ygg_eval_block.specs.declared.run.Ended.TheVariants as ended
-use Rattle.ygg_eval_spec.specs.Kept.{Kept, spec_meaning}
-use Rattle.ygg_eval_spec.proofs.Values.{bind_count}
+use Rattle.ygg_direct_files.specs.ygg_eval_lower.declared.body.Body.{Body}
+use Rattle.ygg_direct_files.specs.ygg_eval_lower.declared.body.Part.{Part}
+use Rattle.ygg_direct_files.specs.ygg_eval_lower.declared.body.Part.TheVariants as part
+use Rattle.ygg_direct_files.specs.ygg_eval_lower.declared.body.Stop.{Stop}
+use Rattle.ygg_direct_files.specs.ygg_eval_lower.Bodies.{kind_of, variables_in, arguments_in, dialogue_in}
+use Rattle.ygg_direct_files.specs.ygg_eval_lower.Layers.{variables_at, below_at}
+use Rattle.ygg_direct_files.specs.ygg_eval_lower.Lower.{Standing}
+use Rattle.ygg_direct_files.specs.ygg_eval_lower.Conversations.{calls_in}
+use Rattle.ygg_eval.specs.ygg_eval_block.Runs.{Finished, FinishedEarly, StoppedAt, RunEnds}
+use Rattle.ygg_eval.specs.ygg_eval_block.declared.run.Ended.{Ended}
+use Rattle.ygg_eval.specs.ygg_eval_block.declared.run.Ended.TheVariants as ended
+use Rattle.ygg_eval.specs.ygg_eval_spec.Kept.{Kept, spec_meaning}
+use Rattle.ygg_eval.proofs.of_ygg_eval_spec.Values.{bind_count}
 use Rattle.ygg_replay.specs.declared.site.ReplaySite.{ReplaySite}
 use Rattle.ygg_replay.specs.Sites.{closed_in, machine_in, low_at, state_at}
 use Rattle.ygg_replay.specs.Runs.{fresh, RanBy, CutBy}

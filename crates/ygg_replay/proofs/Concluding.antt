@@ -2,18 +2,18 @@
 use Rattle.std.proofs.Common.{◌≡◌, ℕ, Bool, true, false, ◌&&◌, length, Some, inl, inr, refl}
 use Rattle.ygg_syntax.specs.declared.tree.Layer.{Layer}
 use Rattle.ygg_syntax.specs.declared.tree.File.{File}
-use Rattle.ygg_meaning.specs.Environments.{Env}
-use Rattle.ygg_meaning.specs.Shapes.{values_fit, env_fits}
-use Rattle.ygg_meaning.specs.Machine.{Picks, Machine}
-use Rattle.ygg_meaning.specs.Layer.{ClosedLayer}
-use Rattle.ygg_meaning.specs.Obligations.{Obligation, Init, CallOf, CutOf, TickOf, CutTickOf, Idle, Again, NoPicksPass}
-use Rattle.ygg_meaning.specs.Obligations as obligations
-use Rattle.ygg_meaning.specs.Related.{all_true, shaped}
-use Rattle.ygg_meaning.specs.Replayed.{Shows, Hypothesis, Passes, Replays, IsFirstPassing, has_stop}
-use Rattle.ygg_meaning.specs.Violates.{End, Meets, Reached, FallsSo, hypotheses, most, passes, shapes_fit, spec_after}
-use Rattle.ygg_type_sound.proofs.Tests.{left, right}
-use Rattle.ygg_eval_lower.specs.Layers.{variables_at, closed_at}
-use Rattle.ygg_eval_lower.proofs.Blocks.{bind_fits}
+use Rattle.ygg_sched.specs.ygg_meaning.Environments.{Env}
+use Rattle.ygg_sched.specs.ygg_meaning.Shapes.{values_fit, env_fits}
+use Rattle.ygg_sched.specs.ygg_meaning.Machine.{Picks, Machine}
+use Rattle.ygg_sched.specs.ygg_meaning.Layer.{ClosedLayer}
+use Rattle.ygg_sched.specs.ygg_meaning.Obligations.{Obligation, Init, CallOf, CutOf, TickOf, CutTickOf, Idle, Again, NoPicksPass}
+use Rattle.ygg_sched.specs.ygg_meaning.Obligations as obligations
+use Rattle.ygg_sched.specs.ygg_meaning.Related.{all_true, shaped}
+use Rattle.ygg_sched.specs.ygg_meaning.Replayed.{Shows, Hypothesis, Passes, Replays, IsFirstPassing, has_stop}
+use Rattle.ygg_sched.specs.ygg_meaning.Violates.{End, Meets, Reached, FallsSo, hypotheses, most, passes, shapes_fit, spec_after}
+use Rattle.ygg_eval.specs.ygg_type_sound_proofs_Tests.{left, right}
+use Rattle.ygg_direct_files.specs.ygg_eval_lower.Layers.{variables_at, closed_at}
+use Rattle.ygg_direct_files.specs.ygg_eval_lower_proofs_Blocks.{bind_fits}
 use Rattle.ygg_sched.specs.declared.schedule.Schedule.{Schedule}
 use Rattle.ygg_replay.specs.Schedules.{meant, schedule_fits, states_fit}
 use Rattle.ygg_replay.specs.Sites.{first_false}

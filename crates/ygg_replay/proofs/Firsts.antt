@@ -27,7 +27,7 @@ use Rattle.std.proofs.Common.{
   ◌∙◌,
   arith,
 }
-use Rattle.ygg_meaning.specs.Related.{all_true}
+use Rattle.ygg_sched.specs.ygg_meaning.Related.{all_true}
 use Rattle.ygg_replay.specs.Sites.{first_false}
 
 none_of : (r : Option ℕ) → option_map suc r ≡ None → r ≡ None

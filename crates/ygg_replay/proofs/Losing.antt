@@ -2,12 +2,12 @@
 use Rattle.std.proofs.Common.{◌≡◌, ℕ, Result, Ok, Err, OnOk, ◌∙◌, subst}
 use Rattle.ygg_list.specs.declared.memory.NoMemory.{NoMemory}
 use Rattle.ygg_syntax.specs.declared.tree.File.{File}
-use Rattle.ygg_disk.specs.declared.power.Power.{Power}
-use Rattle.ygg_meaning.specs.Environments.{bind}
-use Rattle.ygg_meaning.specs.Machine.{Picks, based}
-use Rattle.ygg_eval_lower.specs.Layers.{variables_at, machine_at}
-use Rattle.ygg_eval_lower.specs.Lower.{Standing, Happened, outage_of}
-use Rattle.ygg_eval_spec.specs.Kept.{Kept, Loses}
+use Rattle.ygg_sched.specs.ygg_disk.declared.power.Power.{Power}
+use Rattle.ygg_sched.specs.ygg_meaning.Environments.{bind}
+use Rattle.ygg_sched.specs.ygg_meaning.Machine.{Picks, based}
+use Rattle.ygg_direct_files.specs.ygg_eval_lower.Layers.{variables_at, machine_at}
+use Rattle.ygg_direct_files.specs.ygg_eval_lower.Lower.{Standing, Happened, outage_of}
+use Rattle.ygg_eval.specs.ygg_eval_spec.Kept.{Kept, Loses}
 use Rattle.ygg_replay.specs.declared.site.ReplaySite.{ReplaySite}
 use Rattle.ygg_replay.specs.Sites.{IsBelow, low_at}
 use Rattle.ygg_replay.specs.Runs.{fresh, LostBy}

@@ -4,17 +4,17 @@ use Rattle.std.proofs.lemmas.Option.{slice_get_within}
 use Rattle.ygg_value.specs.declared.row.Value.{Value}
 use Rattle.ygg_syntax.specs.declared.tree.Operation.{Operation}
 use Rattle.ygg_syntax.specs.Files.{IsDerivable}
-use Rattle.ygg_type_rules.specs.TypeErrors.{none}
-use Rattle.ygg_type_rules.specs.Files.{type_errors_of}
-use Rattle.ygg_disk.specs.declared.power.Power.{Power}
-use Rattle.ygg_meaning.specs.Machine.{Picks}
-use Rattle.ygg_meaning.specs.Progress.{Answer}
-use Rattle.ygg_meaning.specs.Obligations.{call_picks, crash_picks, fall_picks}
-use Rattle.ygg_meaning.specs.Spec.{call_outcome, chosen, crash_outcome, fall_outcome}
-use Rattle.ygg_eval_lower.specs.Layers.{signatures_at}
-use Rattle.ygg_eval_lower.specs.Lower.{Serves, IsCallable, Called, Fell, Happened, Whole}
-use Rattle.ygg_eval_spec.specs.Kept.{Kept, spec_meaning, Loses}
-use Rattle.ygg_eval_spec.proofs.OnSpec.{fits_at}
+use Rattle.ygg_sched.specs.ygg_type_rules.TypeErrors.{none}
+use Rattle.ygg_sched.specs.ygg_type_rules.Files.{type_errors_of}
+use Rattle.ygg_sched.specs.ygg_disk.declared.power.Power.{Power}
+use Rattle.ygg_sched.specs.ygg_meaning.Machine.{Picks}
+use Rattle.ygg_sched.specs.ygg_meaning.Progress.{Answer}
+use Rattle.ygg_sched.specs.ygg_meaning.Obligations.{call_picks, crash_picks, fall_picks}
+use Rattle.ygg_sched.specs.ygg_meaning.Spec.{call_outcome, chosen, crash_outcome, fall_outcome}
+use Rattle.ygg_direct_files.specs.ygg_eval_lower.Layers.{signatures_at}
+use Rattle.ygg_direct_files.specs.ygg_eval_lower.Lower.{Serves, IsCallable, Called, Fell, Happened, Whole}
+use Rattle.ygg_eval.specs.ygg_eval_spec.Kept.{Kept, spec_meaning, Loses}
+use Rattle.ygg_eval.proofs.of_ygg_eval_spec.OnSpec.{fits_at}
 use Rattle.ygg_replay.specs.declared.site.ReplaySite.{ReplaySite}
 use Rattle.ygg_replay.specs.Runs.{fresh}
 use Rattle.ygg_replay.specs.Sites.{IsHere, closed_in, vars_at, VarsFit}

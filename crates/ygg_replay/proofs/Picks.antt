@@ -1,14 +1,14 @@
 -- Picks that a run takes from the front of a list.
 use Rattle.std.proofs.Common.{◌≡◌, ℕ, zero, suc, ◌+◌, Bool, true, false, if◌then◌else◌, [], ◌∷◌, length, drop, nat_lt, ◌≤◌, refl, ap, ◌∙◌, subst, arith}
 use Rattle.std.proofs.lemmas.Bool.{ltb-false}
-use Rattle.ygg_disk.specs.Power.{pick_of, after_pick, Takes}
-use Rattle.ygg_disk.specs.declared.power.Picks.{Picks as Source}
-use Rattle.ygg_disk.specs.declared.power.Power.{Power}
-use Rattle.ygg_meaning.specs.Machine.{Picks}
-use Rattle.ygg_meaning.specs.Obligations.{IsRead}
-use Rattle.ygg_direct.specs.Acts.{next_of, later, Taken}
-use Rattle.ygg_direct.proofs.Taking.{left_after, taken_read}
-use Rattle.ygg_eval_spec.specs.Taken.{TakesOnly}
+use Rattle.ygg_sched.specs.ygg_disk.Power.{pick_of, after_pick, Takes}
+use Rattle.ygg_sched.specs.ygg_disk.declared.power.Picks.{Picks as Source}
+use Rattle.ygg_sched.specs.ygg_disk.declared.power.Power.{Power}
+use Rattle.ygg_sched.specs.ygg_meaning.Machine.{Picks}
+use Rattle.ygg_sched.specs.ygg_meaning.Obligations.{IsRead}
+use Rattle.ygg_direct_files.specs.ygg_direct.Acts.{next_of, later, Taken}
+use Rattle.ygg_direct_files.proofs.of_ygg_direct.Taking.{left_after, taken_read}
+use Rattle.ygg_eval.specs.ygg_eval_spec.Taken.{TakesOnly}
 use Rattle.ygg_replay.specs.Runs.{fresh}
 
 -- the picks from one on that have not been taken

@@ -5,15 +5,15 @@ use Rattle.ygg_syntax.specs.declared.tree.Block.{Block}
 use Rattle.ygg_syntax.specs.declared.tree.Declared.{Declared}
 use Rattle.ygg_syntax.specs.declared.tree.Operation.{Operation}
 use Rattle.ygg_syntax.specs.declared.tree.Tick.{Tick}
-use Rattle.ygg_meaning.specs.Environments.{Env, bind}
-use Rattle.ygg_meaning.specs.Shapes.{values_fit}
-use Rattle.ygg_meaning.specs.Obligations.{Obligation, CallOf, CutOf, CutTickOf}
-use Rattle.ygg_meaning.specs.Violates.{FallsSo, RanWhole, Reached}
-use Rattle.ygg_meaning.specs.Violates as violates
-use Rattle.ygg_eval_lower.specs.declared.body.Part.TheVariants as part
-use Rattle.ygg_eval_lower.specs.Bodies.{IsRunnable, block_in}
-use Rattle.ygg_eval_lower.specs.Layers.{variables_at}
-use Rattle.ygg_type_sound.proofs.Tests.{left, right}
+use Rattle.ygg_sched.specs.ygg_meaning.Environments.{Env, bind}
+use Rattle.ygg_sched.specs.ygg_meaning.Shapes.{values_fit}
+use Rattle.ygg_sched.specs.ygg_meaning.Obligations.{Obligation, CallOf, CutOf, CutTickOf}
+use Rattle.ygg_sched.specs.ygg_meaning.Violates.{FallsSo, RanWhole, Reached}
+use Rattle.ygg_sched.specs.ygg_meaning.Violates as violates
+use Rattle.ygg_direct_files.specs.ygg_eval_lower.declared.body.Part.TheVariants as part
+use Rattle.ygg_direct_files.specs.ygg_eval_lower.Bodies.{IsRunnable, block_in}
+use Rattle.ygg_direct_files.specs.ygg_eval_lower.Layers.{variables_at}
+use Rattle.ygg_eval.specs.ygg_type_sound_proofs_Tests.{left, right}
 use Rattle.ygg_replay.specs.declared.site.ReplaySite.{ReplaySite}
 use Rattle.ygg_sched.specs.declared.schedule.Schedule.{Schedule}
 use Rattle.ygg_replay.specs.declared.ends.End.{End}

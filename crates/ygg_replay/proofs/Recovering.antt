@@ -4,18 +4,18 @@ use Rattle.ygg_value.specs.Values.{same_value}
 use Rattle.ygg_value.specs.declared.row.Value.{Value}
 use Rattle.ygg_syntax.specs.declared.tree.Block.{Block}
 use Rattle.ygg_syntax.specs.declared.tree.Declared.{Declared}
-use Rattle.ygg_meaning.specs.Environments.{Env, bind, same_env}
-use Rattle.ygg_meaning.specs.Shapes.{shape_in, fits, values_fit, zeros_of}
-use Rattle.ygg_meaning.specs.Progress.{Answer}
-use Rattle.ygg_meaning.specs.Machine.{State, based, on}
-use Rattle.ygg_meaning.specs.Layer.{BlockRuns}
-use Rattle.ygg_meaning.specs.Obligations.{StopsAt}
-use Rattle.ygg_meaning.specs.Obligations as obligations
-use Rattle.ygg_meaning.specs.Refines.{Below, OnDisk, OnSpec, machine_below}
-use Rattle.ygg_meaning.specs.Violates.{Formatted, LostBetween, RanWhole, Recovers}
-use Rattle.ygg_eval_lower.specs.Layers.{below_at}
-use Rattle.ygg_type_sound.proofs.Tests.{bytes_equal, right}
-use Rattle.ygg_eval_spec.specs.Kept.{Kept}
+use Rattle.ygg_sched.specs.ygg_meaning.Environments.{Env, bind, same_env}
+use Rattle.ygg_sched.specs.ygg_meaning.Shapes.{shape_in, fits, values_fit, zeros_of}
+use Rattle.ygg_sched.specs.ygg_meaning.Progress.{Answer}
+use Rattle.ygg_sched.specs.ygg_meaning.Machine.{State, based, on}
+use Rattle.ygg_sched.specs.ygg_meaning.Layer.{BlockRuns}
+use Rattle.ygg_sched.specs.ygg_meaning.Obligations.{StopsAt}
+use Rattle.ygg_sched.specs.ygg_meaning.Obligations as obligations
+use Rattle.ygg_sched.specs.ygg_meaning.Refines.{Below, OnDisk, OnSpec, machine_below}
+use Rattle.ygg_sched.specs.ygg_meaning.Violates.{Formatted, LostBetween, RanWhole, Recovers}
+use Rattle.ygg_direct_files.specs.ygg_eval_lower.Layers.{below_at}
+use Rattle.ygg_eval.specs.ygg_type_sound_proofs_Tests.{bytes_equal, right}
+use Rattle.ygg_eval.specs.ygg_eval_spec.Kept.{Kept}
 use Rattle.ygg_replay.specs.declared.site.ReplaySite.{ReplaySite}
 use Rattle.ygg_sched.specs.declared.schedule.Halt.{Halt}
 use Rattle.ygg_sched.specs.declared.schedule.Schedule.{Schedule}

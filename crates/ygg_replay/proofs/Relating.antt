@@ -1,10 +1,10 @@
 -- Whether a layer's relation holds, by the first of its expressions that does not.
 use Rattle.std.proofs.Common.{◌≡◌, ℕ, Bool, true, ◌&&◌, List, false, not, Option, Some, None, is_none, is_some, refl, sym, ap, ◌∙◌}
 use Rattle.ygg_value.specs.declared.row.Value.{Value}
-use Rattle.ygg_meaning.specs.Shapes.{env_fits}
-use Rattle.ygg_meaning.specs.Related.{all_true, related, relates, settled, settles, shaped}
-use Rattle.ygg_eval_lower.specs.Layers.{variables_at}
-use Rattle.ygg_eval_lower.proofs.Blocks.{bind_fits}
+use Rattle.ygg_sched.specs.ygg_meaning.Shapes.{env_fits}
+use Rattle.ygg_sched.specs.ygg_meaning.Related.{all_true, related, relates, settled, settles, shaped}
+use Rattle.ygg_direct_files.specs.ygg_eval_lower.Layers.{variables_at}
+use Rattle.ygg_direct_files.specs.ygg_eval_lower_proofs_Blocks.{bind_fits}
 use Rattle.ygg_replay.specs.declared.site.ReplaySite.{ReplaySite}
 use Rattle.ygg_replay.specs.Sites.{LowFits, StatesFit, closed_in, first_false, low_at, memory_at, vars_at}
 use Rattle.ygg_replay.proofs.Concluding.{both_true}

@@ -3,15 +3,15 @@ use Rattle.std.proofs.Common.{◌≡◌, ℕ, ◌≤◌, arith, length, List, Op
 use Rattle.std.proofs.lemmas.Option.{slice_get_within}
 use Rattle.ygg_value.specs.declared.row.Value.{Value}
 use Rattle.ygg_syntax.specs.declared.tree.Block.{Block}
-use Rattle.ygg_disk.specs.declared.power.Power.{Power}
-use Rattle.ygg_meaning.specs.Shapes.{values_fit}
-use Rattle.ygg_eval_lower.specs.declared.body.Part.{Part}
-use Rattle.ygg_eval_lower.specs.declared.body.Stop.{Stop}
-use Rattle.ygg_eval_lower.specs.Bodies.{IsBlock, block_in}
-use Rattle.ygg_eval_lower.specs.Layers.{variables_at}
-use Rattle.ygg_eval_lower.specs.Lower.{Serves}
-use Rattle.ygg_eval_block.specs.Runs.{CanServe}
-use Rattle.ygg_eval_spec.specs.Kept.{Kept, spec_meaning}
+use Rattle.ygg_sched.specs.ygg_disk.declared.power.Power.{Power}
+use Rattle.ygg_sched.specs.ygg_meaning.Shapes.{values_fit}
+use Rattle.ygg_direct_files.specs.ygg_eval_lower.declared.body.Part.{Part}
+use Rattle.ygg_direct_files.specs.ygg_eval_lower.declared.body.Stop.{Stop}
+use Rattle.ygg_direct_files.specs.ygg_eval_lower.Bodies.{IsBlock, block_in}
+use Rattle.ygg_direct_files.specs.ygg_eval_lower.Layers.{variables_at}
+use Rattle.ygg_direct_files.specs.ygg_eval_lower.Lower.{Serves}
+use Rattle.ygg_eval.specs.ygg_eval_block.Runs.{CanServe}
+use Rattle.ygg_eval.specs.ygg_eval_spec.Kept.{Kept, spec_meaning}
 use Rattle.ygg_replay.specs.declared.site.ReplaySite.{ReplaySite}
 use Rattle.ygg_replay.specs.Sites.{IsHere, IsBelow, LowFits}
 

@@ -1,10 +1,10 @@
 -- What a schedule of an obligation shows, where its runs have ended.
 use Rattle.std.proofs.Common.{◌≡◌, true, [], Some, None, sym, ◌∙◌, subst}
-use Rattle.ygg_meaning.specs.Machine.{Picks}
-use Rattle.ygg_meaning.specs.Obligations.{Obligation}
-use Rattle.ygg_meaning.specs.Related.{all_true}
-use Rattle.ygg_meaning.specs.Replayed.{Shows, Passes, Replays, IsFirstPassing}
-use Rattle.ygg_meaning.specs.Violates.{Reached, hypotheses, most, passes, spec_after}
+use Rattle.ygg_sched.specs.ygg_meaning.Machine.{Picks}
+use Rattle.ygg_sched.specs.ygg_meaning.Obligations.{Obligation}
+use Rattle.ygg_sched.specs.ygg_meaning.Related.{all_true}
+use Rattle.ygg_sched.specs.ygg_meaning.Replayed.{Shows, Passes, Replays, IsFirstPassing}
+use Rattle.ygg_sched.specs.ygg_meaning.Violates.{Reached, hypotheses, most, passes, spec_after}
 use Rattle.ygg_replay.specs.declared.site.ReplaySite.{ReplaySite}
 use Rattle.ygg_sched.specs.declared.case.Case.{Case}
 use Rattle.ygg_sched.specs.declared.schedule.Schedule.{Schedule}

@@ -5,15 +5,15 @@ use Rattle.ygg_value.specs.Values.{digit}
 use Rattle.ygg_value.specs.declared.row.Value.{Value}
 use Rattle.ygg_syntax.specs.declared.tree.Block.{Block}
 use Rattle.ygg_syntax.specs.declared.tree.Operation.{Operation}
-use Rattle.ygg_meaning.specs.Environments.{Env, bind}
-use Rattle.ygg_meaning.specs.Progress.{Answer}
-use Rattle.ygg_meaning.specs.Machine.{Picks}
-use Rattle.ygg_meaning.specs.Layer.{ClosedLayer}
-use Rattle.ygg_meaning.specs.Obligations.{IsRead}
-use Rattle.ygg_meaning.specs.Spec.{Outcome, chosen, block_outcome, then_block, call_outcome, crash_outcome, fall_with}
-use Rattle.ygg_meaning.proofs.Exact.{Exact, block_exact, then_exact}
-use Rattle.ygg_direct.specs.Acts.{Taken}
-use Rattle.ygg_direct.proofs.Taking.{left_after, read_taken}
+use Rattle.ygg_sched.specs.ygg_meaning.Environments.{Env, bind}
+use Rattle.ygg_sched.specs.ygg_meaning.Progress.{Answer}
+use Rattle.ygg_sched.specs.ygg_meaning.Machine.{Picks}
+use Rattle.ygg_sched.specs.ygg_meaning.Layer.{ClosedLayer}
+use Rattle.ygg_sched.specs.ygg_meaning.Obligations.{IsRead}
+use Rattle.ygg_sched.specs.ygg_meaning.Spec.{Outcome, chosen, block_outcome, then_block, call_outcome, crash_outcome, fall_with}
+use Rattle.ygg_sched.specs.ygg_meaning_proofs_Exact.{Exact, block_exact, then_exact}
+use Rattle.ygg_direct_files.specs.ygg_direct.Acts.{Taken}
+use Rattle.ygg_direct_files.proofs.of_ygg_direct.Taking.{left_after, read_taken}
 
 chosen_more : (p q : Picks) → chosen (p ++ q) ≡ chosen p ++ chosen q
 chosen_more p q = map-append (λ (pick : Bool). Some (digit pick)) p q

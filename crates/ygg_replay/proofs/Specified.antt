@@ -6,28 +6,28 @@ use Rattle.ygg_syntax.specs.declared.tree.Declared.{Declared}
 use Rattle.ygg_syntax.specs.declared.tree.Operation.{Operation}
 use Rattle.ygg_syntax.specs.declared.tree.Layer.{Layer}
 use Rattle.ygg_syntax.specs.declared.tree.File.{File}
-use Rattle.ygg_symbols.specs.Names.{Named}
-use Rattle.ygg_type_rules.specs.declared.scope.Signature.{Signature}
-use Rattle.ygg_type_rules.specs.TypeErrors.{none}
-use Rattle.ygg_type_rules.specs.Layers.{operation_signature}
-use Rattle.ygg_type_rules.specs.Files.{type_errors_of}
-use Rattle.ygg_disk.specs.declared.power.Power.{Power}
-use Rattle.ygg_meaning.specs.Environments.{Name, Env, bind}
-use Rattle.ygg_meaning.specs.Shapes.{values_fit}
-use Rattle.ygg_meaning.specs.Progress.{Answer}
-use Rattle.ygg_meaning.specs.Machine.{Picks, State, based}
-use Rattle.ygg_meaning.specs.Refines.{Below, OnDisk, OnSpec, machine_below}
-use Rattle.ygg_meaning.specs.Spec.{Outcome, chosen, call_outcome, crash_outcome, fall_outcome, SpecCalls, SpecFalls, SpecLoses}
-use Rattle.ygg_histories.specs.Stack.{tables_of}
-use Rattle.ygg_type_sound.proofs.Parameters.{same_fit}
-use Rattle.ygg_direct.proofs.Matching.{Matches}
-use Rattle.ygg_direct.specs.Places.{Result}
-use Rattle.ygg_eval_lower.specs.Layers.{variables_at, closed_at, below_at, machine_at, signatures_of, signatures_at}
-use Rattle.ygg_eval_lower.specs.Lower.{IsCallable, Called, Fell, Whole, Happened}
-use Rattle.ygg_eval_spec.specs.Kept.{Kept, spec_meaning, Loses}
-use Rattle.ygg_eval_spec.specs.Taken.{TakesOnly}
-use Rattle.ygg_eval_spec.proofs.Named.{find_first, typed_operations}
-use Rattle.ygg_eval_spec.proofs.OnSpec.{AsksSpec, asks_spec, at_operation, layer_variables}
+use Rattle.ygg_sched.specs.ygg_symbols.Names.{Named}
+use Rattle.ygg_sched.specs.ygg_type_rules.declared.scope.Signature.{Signature}
+use Rattle.ygg_sched.specs.ygg_type_rules.TypeErrors.{none}
+use Rattle.ygg_sched.specs.ygg_type_rules.Layers.{operation_signature}
+use Rattle.ygg_sched.specs.ygg_type_rules.Files.{type_errors_of}
+use Rattle.ygg_sched.specs.ygg_disk.declared.power.Power.{Power}
+use Rattle.ygg_sched.specs.ygg_meaning.Environments.{Name, Env, bind}
+use Rattle.ygg_sched.specs.ygg_meaning.Shapes.{values_fit}
+use Rattle.ygg_sched.specs.ygg_meaning.Progress.{Answer}
+use Rattle.ygg_sched.specs.ygg_meaning.Machine.{Picks, State, based}
+use Rattle.ygg_sched.specs.ygg_meaning.Refines.{Below, OnDisk, OnSpec, machine_below}
+use Rattle.ygg_sched.specs.ygg_meaning.Spec.{Outcome, chosen, call_outcome, crash_outcome, fall_outcome, SpecCalls, SpecFalls, SpecLoses}
+use Rattle.ygg_sched.specs.ygg_histories.Stack.{tables_of}
+use Rattle.ygg_eval.specs.ygg_type_sound_proofs_Parameters.{same_fit}
+use Rattle.ygg_direct_files.proofs.of_ygg_direct.Matching.{Matches}
+use Rattle.ygg_direct_files.specs.ygg_direct.Places.{Result}
+use Rattle.ygg_direct_files.specs.ygg_eval_lower.Layers.{variables_at, closed_at, below_at, machine_at, signatures_of, signatures_at}
+use Rattle.ygg_direct_files.specs.ygg_eval_lower.Lower.{IsCallable, Called, Fell, Whole, Happened}
+use Rattle.ygg_eval.specs.ygg_eval_spec.Kept.{Kept, spec_meaning, Loses}
+use Rattle.ygg_eval.specs.ygg_eval_spec.Taken.{TakesOnly}
+use Rattle.ygg_eval.proofs.of_ygg_eval_spec.Named.{find_first, typed_operations}
+use Rattle.ygg_eval.proofs.of_ygg_eval_spec.OnSpec.{AsksSpec, asks_spec, at_operation, layer_variables}
 
 -- what a step gives with as many picks as it takes at most
 pub exists : (n : ℕ) (O : Picks → Option Outcome) (P : Picks → Result) → Matches n O P → (picks : Picks) → length picks ≡ n →

@@ -5,30 +5,30 @@ use Rattle.ygg_syntax.specs.declared.grammar.BlockKind.{BlockKind}
 use Rattle.ygg_syntax.specs.declared.grammar.BlockKind.TheVariants as kind
 use Rattle.ygg_syntax.specs.declared.tree.Block.{Block}
 use Rattle.ygg_syntax.specs.declared.tree.Declared.{Declared}
-use Rattle.ygg_meaning.specs.Environments.{Env, bind}
-use Rattle.ygg_meaning.specs.Shapes.{values_fit}
-use Rattle.ygg_meaning.specs.Progress.{Answer, Question, Choice, Call, Ends}
-use Rattle.ygg_meaning.specs.Runs.{Dialogue}
-use Rattle.ygg_meaning.specs.Spec.{block_outcome}
-use Rattle.ygg_eval_lower.specs.declared.body.Part.TheVariants as part
-use Rattle.ygg_eval_lower.specs.declared.body.Part.{Part}
-use Rattle.ygg_eval_lower.specs.Bodies.{arguments_in, block_in, dialogue_in, variables_in, IsRunnable}
-use Rattle.ygg_eval_lower.specs.Conversations.{Exchange, Exchanged, Talks, asked, answers_of}
-use Rattle.ygg_eval_lower.specs.Lower.{Standing}
-use Rattle.ygg_eval_block.specs.declared.run.Ended.{Ended}
-use Rattle.ygg_eval_block.specs.declared.run.Ended.TheVariants as ended
-use Rattle.ygg_eval_block.specs.Runs.{Finished, RunEnds}
-use Rattle.ygg_eval_spec.specs.Kept.{Kept, spec_meaning}
-use Rattle.ygg_eval_spec.proofs.Runs.{ended_outcome}
-use Rattle.ygg_eval_spec.proofs.Values.{bind_count}
+use Rattle.ygg_sched.specs.ygg_meaning.Environments.{Env, bind}
+use Rattle.ygg_sched.specs.ygg_meaning.Shapes.{values_fit}
+use Rattle.ygg_sched.specs.ygg_meaning.Progress.{Answer, Question, Choice, Call, Ends}
+use Rattle.ygg_sched.specs.ygg_meaning.Runs.{Dialogue}
+use Rattle.ygg_sched.specs.ygg_meaning.Spec.{block_outcome}
+use Rattle.ygg_direct_files.specs.ygg_eval_lower.declared.body.Part.TheVariants as part
+use Rattle.ygg_direct_files.specs.ygg_eval_lower.declared.body.Part.{Part}
+use Rattle.ygg_direct_files.specs.ygg_eval_lower.Bodies.{arguments_in, block_in, dialogue_in, variables_in, IsRunnable}
+use Rattle.ygg_direct_files.specs.ygg_eval_lower.Conversations.{Exchange, Exchanged, Talks, asked, answers_of}
+use Rattle.ygg_direct_files.specs.ygg_eval_lower.Lower.{Standing}
+use Rattle.ygg_eval.specs.ygg_eval_block.declared.run.Ended.{Ended}
+use Rattle.ygg_eval.specs.ygg_eval_block.declared.run.Ended.TheVariants as ended
+use Rattle.ygg_eval.specs.ygg_eval_block.Runs.{Finished, RunEnds}
+use Rattle.ygg_eval.specs.ygg_eval_spec.Kept.{Kept, spec_meaning}
+use Rattle.ygg_eval.proofs.of_ygg_eval_spec.Runs.{ended_outcome}
+use Rattle.ygg_eval.proofs.of_ygg_eval_spec.Values.{bind_count}
 use Rattle.ygg_replay.specs.declared.site.ReplaySite.{ReplaySite}
 use Rattle.ygg_replay.specs.Sites.{IsHere, closed_in}
 use Rattle.ygg_replay.specs.Steps.{IsStart}
 use Rattle.ygg_replay.specs.Zeros.{zero_values}
 use Rattle.ygg_replay.proofs.Typing.{bind_zeros, memory_zeros}
 use Rattle.ygg_syntax.specs.declared.tree.File.{File}
-use Rattle.ygg_type_progress.specs.Questions.{question_fits}
-use Rattle.ygg_eval_lower.specs.Layers.{signatures_at}
+use Rattle.ygg_direct_files.specs.ygg_type_progress.Questions.{question_fits}
+use Rattle.ygg_direct_files.specs.ygg_eval_lower.Layers.{signatures_at}
 
 -- a plain block asks for nothing
 silent : (file : File) (number : ℕ) (block : Dialogue) (from to : Standing Kept) (xs : List (Exchange Kept)) (env : Env) (answer : Answer) →

@@ -9,22 +9,22 @@ use Rattle.ygg_syntax.specs.declared.tree.Layer.{Layer}
 use Rattle.ygg_syntax.specs.declared.tree.File.{File}
 use Rattle.ygg_syntax.specs.Choices.{choices_of}
 use Rattle.ygg_syntax.specs.Files.{IsDerivable}
-use Rattle.ygg_type_rules.specs.TypeErrors.{none}
-use Rattle.ygg_type_rules.specs.Files.{type_errors_of}
-use Rattle.ygg_disk.specs.declared.power.Power.{Power}
-use Rattle.ygg_meaning.specs.Environments.{Env, bind}
-use Rattle.ygg_meaning.specs.Shapes.{values_fit}
-use Rattle.ygg_meaning.specs.Progress.{Answer}
-use Rattle.ygg_meaning.specs.Machine.{Picks}
-use Rattle.ygg_meaning.specs.Layer.{ClosedLayer}
-use Rattle.ygg_meaning.specs.Obligations.{call_picks, crash_picks, fall_picks}
-use Rattle.ygg_meaning.specs.Spec.{Outcome, chosen, call_outcome, crash_outcome, fall_with, fall_outcome}
-use Rattle.ygg_type_progress.specs.Kinds.{keeps}
-use Rattle.ygg_direct.proofs.Matching.{block_matches, fall_on_crash, fall_maybe}
-use Rattle.ygg_eval_lower.specs.declared.body.Part.TheVariants as part
-use Rattle.ygg_eval_spec.specs.Kept.{Kept, IsKept}
-use Rattle.ygg_eval_spec.proofs.OnSpec.{layer_fits}
-use Rattle.ygg_eval_lower.specs.Layers.{variables_at}
+use Rattle.ygg_sched.specs.ygg_type_rules.TypeErrors.{none}
+use Rattle.ygg_sched.specs.ygg_type_rules.Files.{type_errors_of}
+use Rattle.ygg_sched.specs.ygg_disk.declared.power.Power.{Power}
+use Rattle.ygg_sched.specs.ygg_meaning.Environments.{Env, bind}
+use Rattle.ygg_sched.specs.ygg_meaning.Shapes.{values_fit}
+use Rattle.ygg_sched.specs.ygg_meaning.Progress.{Answer}
+use Rattle.ygg_sched.specs.ygg_meaning.Machine.{Picks}
+use Rattle.ygg_sched.specs.ygg_meaning.Layer.{ClosedLayer}
+use Rattle.ygg_sched.specs.ygg_meaning.Obligations.{call_picks, crash_picks, fall_picks}
+use Rattle.ygg_sched.specs.ygg_meaning.Spec.{Outcome, chosen, call_outcome, crash_outcome, fall_with, fall_outcome}
+use Rattle.ygg_direct_files.specs.ygg_type_progress.Kinds.{keeps}
+use Rattle.ygg_direct_files.proofs.of_ygg_direct.Matching.{block_matches, fall_on_crash, fall_maybe}
+use Rattle.ygg_direct_files.specs.ygg_eval_lower.declared.body.Part.TheVariants as part
+use Rattle.ygg_eval.specs.ygg_eval_spec.Kept.{Kept, IsKept}
+use Rattle.ygg_eval.proofs.of_ygg_eval_spec.OnSpec.{layer_fits}
+use Rattle.ygg_direct_files.specs.ygg_eval_lower.Layers.{variables_at}
 use Rattle.ygg_replay.specs.declared.site.ReplaySite.{ReplaySite}
 use Rattle.ygg_replay.specs.Runs.{fresh}
 use Rattle.ygg_replay.specs.Sites.{IsHere, closed_in, vars_at, VarsFit}

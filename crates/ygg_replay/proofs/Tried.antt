@@ -1,9 +1,9 @@
 -- What is said of the obligation that is asked, of each that it may be.
 use Rattle.std.proofs.Common.{◌≡◌, ℕ, false, [], Option, unwrap_or, ap, subst}
 use Rattle.std.specs.Option.{option_map}
-use Rattle.ygg_meaning.specs.Machine.{Picks}
-use Rattle.ygg_meaning.specs.Obligations.{Obligation}
-use Rattle.ygg_meaning.specs.Violates.{most}
+use Rattle.ygg_sched.specs.ygg_meaning.Machine.{Picks}
+use Rattle.ygg_sched.specs.ygg_meaning.Obligations.{Obligation}
+use Rattle.ygg_sched.specs.ygg_meaning.Violates.{most}
 use Rattle.ygg_replay_search.specs.Searching.{IsFirstAfter}
 use Rattle.ygg_replay.specs.declared.site.ReplaySite.{ReplaySite}
 use Rattle.ygg_replay.specs.declared.conclusion.Trial.{Trial}

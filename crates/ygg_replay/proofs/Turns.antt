@@ -3,23 +3,23 @@ use Rattle.std.proofs.Common.{◌≡◌, ℕ, suc, ◌+◌, Bool, true, false, I
 use Rattle.ygg_value.specs.declared.row.Value.{Value}
 use Rattle.ygg_syntax.specs.declared.grammar.BlockKind.TheVariants as kind
 use Rattle.ygg_syntax.specs.declared.tree.File.{File}
-use Rattle.ygg_meaning.specs.Environments.{Name, Env}
-use Rattle.ygg_meaning.specs.Progress.{Question, Choice, Call, Answer, Progress, Asks, Ends, Stray}
-use Rattle.ygg_meaning.specs.Machine.{Picks, State, based}
-use Rattle.ygg_meaning.specs.Runs.{Dialogue, WholeCall, Reaches, FallenRun, notes_of}
-use Rattle.ygg_meaning.specs.Runs as runs
-use Rattle.ygg_eval_lower.specs.declared.body.Stop.{Stop}
-use Rattle.ygg_eval_lower.specs.Lower.{Standing, Happened}
-use Rattle.ygg_eval_lower.specs.Lower as ending
-use Rattle.ygg_eval_lower.specs.Layers.{signatures_at, machine_at}
-use Rattle.ygg_eval_lower.specs.Conversations.{Exchange, Exchanged, Answered, Talks, asked, answers_of, one_call, calls_in}
-use Rattle.ygg_eval_block.specs.Runs.{Came, StoppedAt}
-use Rattle.ygg_eval_block.specs.Runs as block_runs
-use Rattle.ygg_eval_spec.specs.Taken.{TakesOnly}
-use Rattle.ygg_eval_spec.specs.Kept.{Kept, spec_meaning, named_in}
-use Rattle.ygg_eval_spec.specs.Keeping.{takes_both}
-use Rattle.ygg_eval_spec.proofs.Stepping.{no_pick}
-use Rattle.ygg_type_progress.specs.Questions.{question_fits}
+use Rattle.ygg_sched.specs.ygg_meaning.Environments.{Name, Env}
+use Rattle.ygg_sched.specs.ygg_meaning.Progress.{Question, Choice, Call, Answer, Progress, Asks, Ends, Stray}
+use Rattle.ygg_sched.specs.ygg_meaning.Machine.{Picks, State, based}
+use Rattle.ygg_sched.specs.ygg_meaning.Runs.{Dialogue, WholeCall, Reaches, FallenRun, notes_of}
+use Rattle.ygg_sched.specs.ygg_meaning.Runs as runs
+use Rattle.ygg_direct_files.specs.ygg_eval_lower.declared.body.Stop.{Stop}
+use Rattle.ygg_direct_files.specs.ygg_eval_lower.Lower.{Standing, Happened}
+use Rattle.ygg_direct_files.specs.ygg_eval_lower.Lower as ending
+use Rattle.ygg_direct_files.specs.ygg_eval_lower.Layers.{signatures_at, machine_at}
+use Rattle.ygg_direct_files.specs.ygg_eval_lower.Conversations.{Exchange, Exchanged, Answered, Talks, asked, answers_of, one_call, calls_in}
+use Rattle.ygg_eval.specs.ygg_eval_block.Runs.{Came, StoppedAt}
+use Rattle.ygg_eval.specs.ygg_eval_block.Runs as block_runs
+use Rattle.ygg_eval.specs.ygg_eval_spec.Taken.{TakesOnly}
+use Rattle.ygg_eval.specs.ygg_eval_spec.Kept.{Kept, spec_meaning, named_in}
+use Rattle.ygg_eval.specs.ygg_eval_spec.Keeping.{takes_both}
+use Rattle.ygg_eval.proofs.of_ygg_eval_spec.Stepping.{no_pick}
+use Rattle.ygg_direct_files.specs.ygg_type_progress.Questions.{question_fits}
 
 asks_of : (p : Progress) (q : Question) → asked p ≡ Some q → p ≡ Asks q
 asks_of (Asks r) q h = let same : r ≡ q = cc in ap (λ x. Asks x) same

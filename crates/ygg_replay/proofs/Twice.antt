@@ -1,13 +1,13 @@
 -- Two recoveries, the first of which power cuts.
 use Rattle.std.proofs.Common.{◌≡◌, Bool, ◌&&◌, List, [], refl, sym, ap, ◌∙◌, subst}
 use Rattle.ygg_value.specs.declared.row.Value.{Value}
-use Rattle.ygg_meaning.specs.Environments.{Env, same_env}
-use Rattle.ygg_meaning.specs.Shapes.{zeros_of}
-use Rattle.ygg_meaning.specs.Machine.{State, based, on}
-use Rattle.ygg_meaning.specs.Layer.{BlockRuns}
-use Rattle.ygg_meaning.specs.Obligations.{Again}
-use Rattle.ygg_meaning.specs.Violates.{CutShort, FallsSo, RecoveredTwice, same_state}
-use Rattle.ygg_eval_lower.specs.Layers.{variables_at}
+use Rattle.ygg_sched.specs.ygg_meaning.Environments.{Env, same_env}
+use Rattle.ygg_sched.specs.ygg_meaning.Shapes.{zeros_of}
+use Rattle.ygg_sched.specs.ygg_meaning.Machine.{State, based, on}
+use Rattle.ygg_sched.specs.ygg_meaning.Layer.{BlockRuns}
+use Rattle.ygg_sched.specs.ygg_meaning.Obligations.{Again}
+use Rattle.ygg_sched.specs.ygg_meaning.Violates.{CutShort, FallsSo, RecoveredTwice, same_state}
+use Rattle.ygg_direct_files.specs.ygg_eval_lower.Layers.{variables_at}
 use Rattle.ygg_replay.specs.declared.site.ReplaySite.{ReplaySite}
 use Rattle.ygg_sched.specs.declared.schedule.Schedule.{Schedule}
 use Rattle.ygg_replay.specs.declared.ends.End.{End}

@@ -8,23 +8,23 @@ use Rattle.ygg_syntax.specs.declared.tree.Declared.{Declared}
 use Rattle.ygg_syntax.specs.declared.tree.Layer.{Layer}
 use Rattle.ygg_syntax.specs.declared.tree.File.{File}
 use Rattle.ygg_syntax.specs.Files.{IsDerivable}
-use Rattle.ygg_syntax_count.specs.Weights.{weights_of}
-use Rattle.ygg_type_rules.specs.TypeErrors.{none}
-use Rattle.ygg_type_rules.specs.Definitions.{with_definitions}
-use Rattle.ygg_type_rules.specs.Files.{type_errors_of}
-use Rattle.ygg_type.proofs.Least.{is_empty}
-use Rattle.ygg_meaning.specs.Environments.{bind}
-use Rattle.ygg_meaning.specs.Meaning.{functions_of}
-use Rattle.ygg_meaning.specs.Shapes.{env_fits, shape_in, values_fit, zeros_of}
-use Rattle.ygg_type_sound.proofs.Parameters.{type_is}
-use Rattle.ygg_type_progress.specs.Kinds.{keeps, layer_keeps}
-use Rattle.ygg_type_progress.proofs.Derived.{derivable_derived}
-use Rattle.ygg_type_progress.proofs.Typed.{parts}
-use Rattle.ygg_type_progress.proofs.Views.{AllTyped, LayerVariables, zeros_fit}
-use Rattle.ygg_eval_lower.specs.declared.body.Body.{Body}
-use Rattle.ygg_eval_lower.specs.Bodies.{kind_of, IsBlock}
-use Rattle.ygg_eval_lower.proofs.Blocks.{blocks_kept, block_typing, layer_typing}
-use Rattle.ygg_eval_spec.proofs.Values.{bound_fits}
+use Rattle.ygg_sched.specs.ygg_syntax_count.Weights.{weights_of}
+use Rattle.ygg_sched.specs.ygg_type_rules.TypeErrors.{none}
+use Rattle.ygg_sched.specs.ygg_type_rules.Definitions.{with_definitions}
+use Rattle.ygg_sched.specs.ygg_type_rules.Files.{type_errors_of}
+use Rattle.ygg_sched.specs.ygg_type_proofs_Least.{is_empty}
+use Rattle.ygg_sched.specs.ygg_meaning.Environments.{bind}
+use Rattle.ygg_sched.specs.ygg_meaning.Meaning.{functions_of}
+use Rattle.ygg_sched.specs.ygg_meaning.Shapes.{env_fits, shape_in, values_fit, zeros_of}
+use Rattle.ygg_eval.specs.ygg_type_sound_proofs_Parameters.{type_is}
+use Rattle.ygg_direct_files.specs.ygg_type_progress.Kinds.{keeps, layer_keeps}
+use Rattle.ygg_direct_files.proofs.of_ygg_type_progress.Derived.{derivable_derived}
+use Rattle.ygg_direct_files.specs.ygg_type_progress_proofs_Typed.{parts}
+use Rattle.ygg_direct_files.proofs.of_ygg_type_progress.Views.{AllTyped, LayerVariables, zeros_fit}
+use Rattle.ygg_direct_files.specs.ygg_eval_lower.declared.body.Body.{Body}
+use Rattle.ygg_direct_files.specs.ygg_eval_lower.Bodies.{kind_of, IsBlock}
+use Rattle.ygg_direct_files.specs.ygg_eval_lower_proofs_Blocks.{blocks_kept, block_typing, layer_typing}
+use Rattle.ygg_eval.proofs.of_ygg_eval_spec.Values.{bound_fits}
 use Rattle.ygg_replay.specs.Zeros.{AreShapes, zero_values}
 
 shapes_kept : (ds : List Declared) → AllTyped ds → AreShapes ds

@@ -3,15 +3,15 @@ use Rattle.std.specs.Prelude.{◌≡◌, ℕ, Bool, true, false, ◌&&◌, IsTru
 use Rattle.ygg_value.specs.Values.{same_value}
 use Rattle.ygg_value.specs.declared.row.Value.{Value}
 use Rattle.ygg_syntax.specs.declared.tree.Block.{Block}
-use Rattle.ygg_meaning.specs.Environments.{Env, bind}
-use Rattle.ygg_meaning.specs.Related.{settled}
-use Rattle.ygg_meaning.specs.Obligations.{Obligation}
-use Rattle.ygg_meaning.specs.Violates.{Reached, FallsSo, Recovers, CutShort}
-use Rattle.ygg_meaning.specs.Violates as violates
-use Rattle.ygg_meaning.specs.Replayed.{has_stop}
-use Rattle.ygg_eval_lower.specs.declared.body.Part.{Part}
-use Rattle.ygg_eval_lower.specs.Bodies.{arguments_in}
-use Rattle.ygg_eval_spec.specs.Kept.{Kept}
+use Rattle.ygg_sched.specs.ygg_meaning.Environments.{Env, bind}
+use Rattle.ygg_sched.specs.ygg_meaning.Related.{settled}
+use Rattle.ygg_sched.specs.ygg_meaning.Obligations.{Obligation}
+use Rattle.ygg_sched.specs.ygg_meaning.Violates.{Reached, FallsSo, Recovers, CutShort}
+use Rattle.ygg_sched.specs.ygg_meaning.Violates as violates
+use Rattle.ygg_sched.specs.ygg_meaning.Replayed.{has_stop}
+use Rattle.ygg_direct_files.specs.ygg_eval_lower.declared.body.Part.{Part}
+use Rattle.ygg_direct_files.specs.ygg_eval_lower.Bodies.{arguments_in}
+use Rattle.ygg_eval.specs.ygg_eval_spec.Kept.{Kept}
 use Rattle.ygg_replay.specs.declared.site.ReplaySite.{ReplaySite}
 use Rattle.ygg_sched.specs.declared.schedule.Schedule.{Schedule}
 use Rattle.ygg_replay.specs.declared.ends.End.{End}

@@ -2,14 +2,14 @@
 use Rattle.std.specs.Prelude.{◌≡◌, ℕ, Bool, true, false, List, length, Some, None}
 use Rattle.ygg_value.specs.declared.row.Value.{Value}
 use Rattle.ygg_syntax.specs.declared.tree.Block.{Block}
-use Rattle.ygg_disk.specs.declared.power.Power.{Power}
-use Rattle.ygg_meaning.specs.Environments.{Env, bind}
-use Rattle.ygg_meaning.specs.Progress.{Answer}
-use Rattle.ygg_meaning.specs.Machine.{Picks, State, based}
-use Rattle.ygg_meaning.specs.Layer.{BlockRuns, BlockFalls}
-use Rattle.ygg_meaning.specs.Obligations.{Halt, IsRead}
-use Rattle.ygg_eval_lower.specs.declared.body.Part.{Part}
-use Rattle.ygg_eval_lower.specs.Bodies.{block_in, arguments_in}
+use Rattle.ygg_sched.specs.ygg_disk.declared.power.Power.{Power}
+use Rattle.ygg_sched.specs.ygg_meaning.Environments.{Env, bind}
+use Rattle.ygg_sched.specs.ygg_meaning.Progress.{Answer}
+use Rattle.ygg_sched.specs.ygg_meaning.Machine.{Picks, State, based}
+use Rattle.ygg_sched.specs.ygg_meaning.Layer.{BlockRuns, BlockFalls}
+use Rattle.ygg_sched.specs.ygg_meaning.Obligations.{Halt, IsRead}
+use Rattle.ygg_direct_files.specs.ygg_eval_lower.declared.body.Part.{Part}
+use Rattle.ygg_direct_files.specs.ygg_eval_lower.Bodies.{block_in, arguments_in}
 use Rattle.ygg_replay.specs.declared.site.ReplaySite.{ReplaySite}
 use Rattle.ygg_replay.specs.Sites.{closed_in, machine_in, state_at}
 

@@ -4,13 +4,13 @@ use Rattle.std.specs.Option.{option_map}
 use Rattle.ygg_value.specs.declared.row.Value.{Value}
 use Rattle.ygg_syntax.specs.declared.tree.Layer.{Layer}
 use Rattle.ygg_syntax.specs.declared.tree.File.{File}
-use Rattle.ygg_meaning.specs.Environments.{Env, bind}
-use Rattle.ygg_meaning.specs.Shapes.{values_fit}
-use Rattle.ygg_meaning.specs.Obligations.{Obligation, Init, CallOf, CutOf, TickOf, CutTickOf, Idle, Again}
-use Rattle.ygg_meaning.specs.Obligations as obligations
-use Rattle.ygg_meaning.specs.Replayed.{Shows, Hypothesis, Passes, Replays}
-use Rattle.ygg_meaning.specs.Replayed as replayed
-use Rattle.ygg_eval_lower.specs.Layers.{variables_at, closed_at, machine_at}
+use Rattle.ygg_sched.specs.ygg_meaning.Environments.{Env, bind}
+use Rattle.ygg_sched.specs.ygg_meaning.Shapes.{values_fit}
+use Rattle.ygg_sched.specs.ygg_meaning.Obligations.{Obligation, Init, CallOf, CutOf, TickOf, CutTickOf, Idle, Again}
+use Rattle.ygg_sched.specs.ygg_meaning.Obligations as obligations
+use Rattle.ygg_sched.specs.ygg_meaning.Replayed.{Shows, Hypothesis, Passes, Replays}
+use Rattle.ygg_sched.specs.ygg_meaning.Replayed as replayed
+use Rattle.ygg_direct_files.specs.ygg_eval_lower.Layers.{variables_at, closed_at, machine_at}
 use Rattle.ygg_sched.specs.declared.case.Case.{Case}
 use Rattle.ygg_sched.specs.declared.schedule.Halt.{Halt}
 use Rattle.ygg_sched.specs.declared.schedule.Schedule.{Schedule}

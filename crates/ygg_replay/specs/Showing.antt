@@ -1,7 +1,7 @@
 -- What a schedule shows, at a layer of a file.
 use Rattle.std.specs.Prelude.{◌≡◌, IsTrue, Some}
-use Rattle.ygg_meaning.specs.Obligations.{Obligation}
-use Rattle.ygg_meaning.specs.Replayed.{Replays}
+use Rattle.ygg_sched.specs.ygg_meaning.Obligations.{Obligation}
+use Rattle.ygg_sched.specs.ygg_meaning.Replayed.{Replays}
 use Rattle.ygg_replay.specs.declared.site.ReplaySite.{ReplaySite}
 use Rattle.ygg_sched.specs.declared.case.Case.{Case}
 use Rattle.ygg_sched.specs.declared.schedule.Schedule.{Schedule}

@@ -3,12 +3,12 @@ use Rattle.std.specs.Prelude.{◌≡◌, ℕ, suc, Bool, IsTrue, if◌then◌els
 use Rattle.std.specs.Option.{option_map}
 use Rattle.ygg_value.specs.declared.row.Value.{Value}
 use Rattle.ygg_syntax.specs.declared.tree.File.{File}
-use Rattle.ygg_meaning.specs.Environments.{Env, bind}
-use Rattle.ygg_meaning.specs.Shapes.{values_fit}
-use Rattle.ygg_meaning.specs.Machine.{State, based, on, Machine}
-use Rattle.ygg_meaning.specs.Layer.{ClosedLayer}
-use Rattle.ygg_eval_lower.specs.Layers.{variables_at, closed_at, machine_at}
-use Rattle.ygg_eval_spec.specs.Kept.{Kept, IsKept}
+use Rattle.ygg_sched.specs.ygg_meaning.Environments.{Env, bind}
+use Rattle.ygg_sched.specs.ygg_meaning.Shapes.{values_fit}
+use Rattle.ygg_sched.specs.ygg_meaning.Machine.{State, based, on, Machine}
+use Rattle.ygg_sched.specs.ygg_meaning.Layer.{ClosedLayer}
+use Rattle.ygg_direct_files.specs.ygg_eval_lower.Layers.{variables_at, closed_at, machine_at}
+use Rattle.ygg_eval.specs.ygg_eval_spec.Kept.{Kept, IsKept}
 use Rattle.ygg_replay.specs.declared.site.ReplaySite.{ReplaySite}
 
 -- the layer stands at its place in the file

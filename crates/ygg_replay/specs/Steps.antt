@@ -3,20 +3,20 @@ use Rattle.std.specs.Prelude.{◌≡◌, ℕ, suc, List, length, slice_get, Opti
 use Rattle.ygg_value.specs.declared.row.Value.{Value}
 use Rattle.ygg_syntax.specs.declared.tree.Operation.{Operation}
 use Rattle.std.specs.Prelude.{IsTrue}
-use Rattle.ygg_meaning.specs.Shapes.{values_fit}
-use Rattle.ygg_meaning.specs.Progress.{Answer}
-use Rattle.ygg_meaning.specs.Spec.{Outcome, start_outcome}
-use Rattle.ygg_eval_spec.specs.Kept.{Kept}
+use Rattle.ygg_sched.specs.ygg_meaning.Shapes.{values_fit}
+use Rattle.ygg_sched.specs.ygg_meaning.Progress.{Answer}
+use Rattle.ygg_sched.specs.ygg_meaning.Spec.{Outcome, start_outcome}
+use Rattle.ygg_eval.specs.ygg_eval_spec.Kept.{Kept}
 use Rattle.ygg_replay.specs.declared.site.ReplaySite.{ReplaySite}
 use Rattle.ygg_sched.specs.declared.case.Kind.{Kind}
 use Rattle.ygg_sched.specs.declared.case.Kind.TheVariants as kind
 use Rattle.ygg_sched.specs.declared.schedule.Schedule.{Schedule}
 use Rattle.ygg_sched.specs.Cases.{obligation_at}
 use Rattle.ygg_replay.specs.Schedules.{meant, schedule_fits}
-use Rattle.ygg_meaning.specs.Machine.{Picks}
-use Rattle.ygg_meaning.specs.Obligations.{Obligation, Init, CallOf, CutOf, TickOf, CutTickOf, Idle, Again}
-use Rattle.ygg_meaning.specs.Obligations as obligations
-use Rattle.ygg_meaning.specs.Violates.{most, spec_after}
+use Rattle.ygg_sched.specs.ygg_meaning.Machine.{Picks}
+use Rattle.ygg_sched.specs.ygg_meaning.Obligations.{Obligation, Init, CallOf, CutOf, TickOf, CutTickOf, Idle, Again}
+use Rattle.ygg_sched.specs.ygg_meaning.Obligations as obligations
+use Rattle.ygg_sched.specs.ygg_meaning.Violates.{most, spec_after}
 use Rattle.ygg_replay.specs.Sites.{closed_in, vars_at, VarsFit}
 
 -- the layer's specification with these values of its variables

@@ -3,7 +3,7 @@ use Rattle.std.specs.Prelude.{All, List, map}
 use Rattle.ygg_value.specs.Shapes.{IsShape, zero_of}
 use Rattle.ygg_value.specs.declared.row.Value.{Value}
 use Rattle.ygg_syntax.specs.declared.tree.Declared.{Declared}
-use Rattle.ygg_meaning.specs.Shapes.{shape_in}
+use Rattle.ygg_sched.specs.ygg_meaning.Shapes.{shape_in}
 
 -- the types keep the limits of shapes
 abbrev pub AreShapes : List Declared → Type 0

@@ -1,8 +1,8 @@
 //! Whether the conclusion of an obligation holds.
 
 ghost use Rattle.std.specs.Prelude.{◌≡◌, IfOk};
-ghost use Rattle.ygg_meaning.specs.Obligations.{Obligation};
-ghost use Rattle.ygg_meaning.specs.Violates.{same_answer};
+ghost use Rattle.ygg_sched.specs.ygg_meaning.Obligations.{Obligation};
+ghost use Rattle.ygg_sched.specs.ygg_meaning.Violates.{same_answer};
 ghost use Rattle.ygg_replay.specs.Passing.{AreAll, CanConclude, IsOf, agreeing, answers_for, passing};
 ghost use Rattle.ygg_replay.specs.Sites.{IsHere};
 ghost use Rattle.ygg_sched.specs.declared.case.Kind.TheVariants as kind;

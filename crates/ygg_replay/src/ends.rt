@@ -3,11 +3,11 @@
 ghost use Rattle.std.specs.Prelude.{◌≡◌, ◌&&◌, [], IfOk, IfSome, IsTrue, Some};
 ghost use Rattle.ygg_syntax.specs.declared.grammar.BlockKind.TheVariants as kind;
 ghost use Rattle.ygg_syntax.specs.declared.tree.Block.{Block};
-ghost use Rattle.ygg_meaning.specs.Machine.{based};
-ghost use Rattle.ygg_meaning.specs.Obligations.{Again, Idle, Obligation};
-ghost use Rattle.ygg_meaning.specs.Violates.{FallsSo, Formatted, RanWhole};
-ghost use Rattle.ygg_histories.specs.Stack.{tables_of};
-ghost use Rattle.ygg_eval_lower.specs.Bodies.{IsRunnable, block_in, kind_of};
+ghost use Rattle.ygg_sched.specs.ygg_meaning.Machine.{based};
+ghost use Rattle.ygg_sched.specs.ygg_meaning.Obligations.{Again, Idle, Obligation};
+ghost use Rattle.ygg_sched.specs.ygg_meaning.Violates.{FallsSo, Formatted, RanWhole};
+ghost use Rattle.ygg_sched.specs.ygg_histories.Stack.{tables_of};
+ghost use Rattle.ygg_direct_files.specs.ygg_eval_lower.Bodies.{IsRunnable, block_in, kind_of};
 ghost use Rattle.ygg_replay.specs.Ends.{
   EndFits,
   FellAndRecovered,

@@ -2,7 +2,7 @@
 
 ghost use Rattle.std.specs.Prelude.{◌≡◌, IfOk, map, suc};
 ghost use Rattle.std.specs.Option.{option_map};
-ghost use Rattle.ygg_meaning.specs.Related.{holds, related, relates, settled, settles};
+ghost use Rattle.ygg_sched.specs.ygg_meaning.Related.{holds, related, relates, settled, settles};
 ghost use Rattle.ygg_replay.specs.Sites.{IsHere, LowFits, StatesFit, closed_in, first_false, low_at, memory_at, vars_at};
 
 use crate::site::ReplaySite;

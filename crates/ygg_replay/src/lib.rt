@@ -15,4 +15,8 @@ mod zeroing;
 pub use schedule::Replayed;
 pub use showing::replay;
 pub use site::ReplaySite;
+pub use ygg_sched::{
+    Halt, Schedule, Typed, case_named, holds_with, hypothesis, print_schedule, read_schedule,
+    refused, shows,
+};
 pub use zeroing::zeros;

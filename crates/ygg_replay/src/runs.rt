@@ -2,7 +2,7 @@
 
 ghost use Rattle.std.specs.Prelude.{◌≡◌, IfOk, IsTrue, OnOk};
 ghost use Rattle.ygg_syntax.specs.declared.grammar.BlockKind.TheVariants as kind;
-ghost use Rattle.ygg_eval_lower.specs.Bodies.{IsRunnable, kind_of};
+ghost use Rattle.ygg_direct_files.specs.ygg_eval_lower.Bodies.{IsRunnable, kind_of};
 ghost use Rattle.ygg_replay.specs.Runs.{LostBy, PartCut, PartRan, fresh};
 ghost use Rattle.ygg_sched.specs.Fitting.{halt_meant};
 ghost use Rattle.ygg_replay.specs.Sites.{IsBelow, IsHere, MemoryFits, low_at};
@@ -10,10 +10,9 @@ ghost use Rattle.ygg_replay.specs.Sites.{IsBelow, IsHere, MemoryFits, low_at};
 use crate::site::ReplaySite;
 use std::alloc::Global;
 use ygg_base::Bits;
-use ygg_disk::{Picks, Power};
 use ygg_eval::{Body, Ended, Lower, Part, SpecLower, Stop, run_body};
 use ygg_list::NoMemory;
-use ygg_sched::Halt;
+use ygg_sched::{Halt, Picks, Power};
 use ygg_value::{Value, Values};
 
 /// Power that does not fail, with these picks, and 0 past their end. Its only error is out of memory.

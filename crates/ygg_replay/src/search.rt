@@ -2,9 +2,9 @@
 
 ghost use Rattle.std.specs.Prelude.{◌≡◌, ◌<◌, [], IfOk};
 ghost use Rattle.ygg_syntax.specs.Choices.{choices_of};
-ghost use Rattle.ygg_syntax_count.specs.Budget.{limit};
-ghost use Rattle.ygg_meaning.specs.Obligations.{Obligation, fall_picks};
-ghost use Rattle.ygg_meaning.specs.Violates.{most};
+ghost use Rattle.ygg_sched.specs.ygg_syntax_count.Budget.{limit};
+ghost use Rattle.ygg_sched.specs.ygg_meaning.Obligations.{Obligation, fall_picks};
+ghost use Rattle.ygg_sched.specs.ygg_meaning.Violates.{most};
 ghost use Rattle.ygg_replay.specs.Passing.{CanConclude, IsOf, passing};
 ghost use Rattle.ygg_replay.specs.Sites.{IsHere, closed_in};
 ghost use Rattle.ygg_replay_search.specs.Searching.{IsFirstAfter};
@@ -14,9 +14,8 @@ use crate::site::ReplaySite;
 use ygg_base::Bits;
 use ygg_list::NoMemory;
 use ygg_replay_search::{Test, first_passing};
-use ygg_sched::{Case, Kind};
+use ygg_sched::{Case, Kind, choices};
 use ygg_syntax::tree::{Block, Operation};
-use ygg_syntax_count::choices;
 
 /// From how many choices on a block has more than the count tells.
 const LIMIT: u64 = 1_000_000;

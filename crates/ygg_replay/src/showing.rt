@@ -1,10 +1,10 @@
 //! What replaying a schedule shows.
 
 ghost use Rattle.std.specs.Prelude.{◌≡◌, IfOk, IsTrue, Some, length};
-ghost use Rattle.ygg_meaning.specs.Obligations.{Obligation};
-ghost use Rattle.ygg_meaning.specs.Obligations as obligations;
-ghost use Rattle.ygg_meaning.specs.Related.{all_true};
-ghost use Rattle.ygg_meaning.specs.Violates.{hypotheses};
+ghost use Rattle.ygg_sched.specs.ygg_meaning.Obligations.{Obligation};
+ghost use Rattle.ygg_sched.specs.ygg_meaning.Obligations as obligations;
+ghost use Rattle.ygg_sched.specs.ygg_meaning.Related.{all_true};
+ghost use Rattle.ygg_sched.specs.ygg_meaning.Violates.{hypotheses};
 ghost use Rattle.ygg_sched.specs.Cases.{obligation_at};
 ghost use Rattle.ygg_replay.specs.Schedules.{IsAsked, IsShown};
 ghost use Rattle.ygg_replay.specs.Showing.{CanShow, ShowsHere};
@@ -17,8 +17,7 @@ use crate::schedule::Replayed;
 use crate::site::ReplaySite;
 use std::alloc::Global;
 use ygg_list::NoMemory;
-use ygg_sched::{Case, Kind, Schedule};
-use ygg_type::Typed;
+use ygg_sched::{Case, Kind, Schedule, Typed};
 
 impl<'a> ReplaySite<'a> {
     /// The first hypothesis on the first states that is false, counted from 0.

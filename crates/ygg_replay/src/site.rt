@@ -1,8 +1,8 @@
 //! A layer of a file.
 
 use std::alloc::Global;
+use ygg_sched::Typed;
 use ygg_syntax::tree::Layer;
-use ygg_type::Typed;
 
 /// A layer of a file with its place from the bottom one on, and where memory comes from.
 #[derive(Clone, Copy)]

@@ -2,8 +2,8 @@
 
 ghost use Rattle.std.specs.Prelude.{◌≡◌, IfOk, length, slice_get, Some};
 ghost use Rattle.ygg_syntax.specs.declared.tree.Operation.{Operation};
-ghost use Rattle.ygg_meaning.specs.Obligations.{Obligation, call_picks, crash_picks, fall_picks};
-ghost use Rattle.ygg_meaning.specs.Spec.{call_outcome, chosen, crash_outcome, fall_outcome};
+ghost use Rattle.ygg_sched.specs.ygg_meaning.Obligations.{Obligation, call_picks, crash_picks, fall_picks};
+ghost use Rattle.ygg_sched.specs.ygg_meaning.Spec.{call_outcome, chosen, crash_outcome, fall_outcome};
 ghost use Rattle.ygg_sched.specs.Cases.{obligation_at};
 ghost use Rattle.ygg_replay.specs.Sites.{IsHere, VarsFit, closed_in, vars_at};
 ghost use Rattle.ygg_replay.specs.Steps.{CanStep, EndsIn, EndsSomehow, HasOperation, IsStart, StepEnds, own_machine};
@@ -11,10 +11,9 @@ ghost use Rattle.ygg_replay.specs.Steps.{CanStep, EndsIn, EndsSomehow, HasOperat
 use crate::runs::power_with;
 use crate::site::ReplaySite;
 use crate::zeroing::zeros;
-use ygg_disk::Turn;
 use ygg_eval::{Body, Ended, Lower, Part, SpecLower, run_body, spec_lower};
 use ygg_list::{NoMemory, Sequence};
-use ygg_sched::{Kind, Schedule};
+use ygg_sched::{Kind, Schedule, Turn};
 use ygg_value::{Value, Values};
 
 /// How a step of a specification has ended: its answer, if it gives one, and the specification after it.

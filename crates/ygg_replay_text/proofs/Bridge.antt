@@ -1,13 +1,13 @@
 -- A schedule of a file is one that may be replayed, and what its replay shows is said of the obligation that it names.
 use Rattle.std.proofs.Common.{◌≡◌, ℕ, true, List, slice_get, Option, Some, Result, Ok, Err, IfOk, sym, ap, subst, ◌∙◌}
 use Rattle.ygg_syntax.specs.declared.tree.File.{File}
-use Rattle.ygg_meaning.specs.Replayed.{Replays}
-use Rattle.ygg_eval_lower.specs.Layers.{closed_at, machine_at}
-use Rattle.ygg_sched.specs.declared.case.Case.{Case}
-use Rattle.ygg_sched.specs.declared.schedule.Schedule.{Schedule}
-use Rattle.ygg_sched.specs.Cases.{IsFirstNamed, IsCaseNamed}
-use Rattle.ygg_sched.specs.Sites.{Site}
-use Rattle.ygg_sched.specs.Fitting.{IsAt, IsScheduleOf}
+use Rattle.ygg_replay.specs.ygg_meaning.Replayed.{Replays}
+use Rattle.ygg_replay.specs.ygg_eval_lower.Layers.{closed_at, machine_at}
+use Rattle.ygg_replay.specs.ygg_sched.declared.case.Case.{Case}
+use Rattle.ygg_replay.specs.ygg_sched.declared.schedule.Schedule.{Schedule}
+use Rattle.ygg_replay.specs.ygg_sched.Cases.{IsFirstNamed, IsCaseNamed}
+use Rattle.ygg_replay.specs.ygg_sched.Sites.{Site}
+use Rattle.ygg_replay.specs.ygg_sched.Fitting.{IsAt, IsScheduleOf}
 use Rattle.ygg_replay.specs.declared.schedule.Replayed.{Replayed}
 use Rattle.ygg_replay.specs.Schedules.{IsAsked, IsShown, meant, schedule_fits, shown_by}
 use Rattle.ygg_replay_text.specs.Shown.{ShowsOf}

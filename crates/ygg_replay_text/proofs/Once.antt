@@ -4,14 +4,14 @@ use Rattle.ygg_base.specs.declared.failure.Refusal.{Refusal}
 use Rattle.ygg_base.specs.declared.status.Status.{Status}
 use Rattle.ygg_base.specs.declared.status.Status.TheVariants.{Refuted, Refused}
 use Rattle.ygg_syntax.specs.declared.tree.File.{File}
-use Rattle.ygg_meaning.specs.Replayed.{Replayed, Replays, Shows, Hypothesis, Passes}
-use Rattle.ygg_meaning.specs.Refines.{machine_below}
-use Rattle.ygg_histories.specs.Claims.{Claim}
-use Rattle.ygg_direct.proofs.OneReplay.{one_replay}
-use Rattle.ygg_report.specs.Lines.{refused_line}
-use Rattle.ygg_sched.specs.declared.schedule.Schedule.{Schedule}
-use Rattle.ygg_sched.specs.Lines.{Read}
-use Rattle.ygg_sched.specs.Reading.{schedule_of}
+use Rattle.ygg_replay.specs.ygg_meaning.Replayed.{Replayed, Replays, Shows, Hypothesis, Passes}
+use Rattle.ygg_replay.specs.ygg_meaning.Refines.{machine_below}
+use Rattle.ygg_replay.specs.ygg_histories.Claims.{Claim}
+use Rattle.ygg_replay.proofs.of_ygg_direct.OneReplay.{one_replay}
+use Rattle.ygg_replay.specs.ygg_report.Lines.{refused_line}
+use Rattle.ygg_replay.specs.ygg_sched.declared.schedule.Schedule.{Schedule}
+use Rattle.ygg_replay.specs.ygg_sched.Lines.{Read}
+use Rattle.ygg_replay.specs.ygg_sched.Reading.{schedule_of}
 use Rattle.ygg_replay_text.specs.Shown.{ShowsOf, meant}
 use Rattle.ygg_replay_text.specs.Ending.{Replaying, status_of, line_of}
 use Rattle.ygg_replay_text.specs.Laws.{OneEnding, Violated, RefutedExactly}

@@ -32,15 +32,15 @@ use Rattle.std.proofs.lemmas.List.{append-nil, map-append}
 use Rattle.ygg_syntax.specs.declared.tree.Declared.{Declared}
 use Rattle.ygg_syntax.specs.declared.tree.Layer.{Layer}
 use Rattle.ygg_syntax.specs.declared.tree.File.{File}
-use Rattle.ygg_meaning.specs.Meaning.{functions_of}
-use Rattle.ygg_meaning.specs.Layer.{ClosedLayer}
-use Rattle.ygg_meaning.specs.Obligations.{Obligation, obligations_of}
-use Rattle.ygg_meaning.specs.Refines.{Below, OnDisk, OnSpec}
-use Rattle.ygg_histories.specs.Stack.{Layers, below_of, layers_on, tables_of}
-use Rattle.ygg_histories.specs.Claims.{Claim, claims_on, claims_of}
-use Rattle.ygg_eval_lower.specs.Layers.{variables_from, variables_at, closed_at, below_at}
-use Rattle.ygg_sched.specs.Sites.{Site, sites_at, sites_on, sites_of, is_named, site_named}
-use Rattle.ygg_sched.proofs.Finding.{find-map}
+use Rattle.ygg_replay.specs.ygg_meaning.Meaning.{functions_of}
+use Rattle.ygg_replay.specs.ygg_meaning.Layer.{ClosedLayer}
+use Rattle.ygg_replay.specs.ygg_meaning.Obligations.{Obligation, obligations_of}
+use Rattle.ygg_replay.specs.ygg_meaning.Refines.{Below, OnDisk, OnSpec}
+use Rattle.ygg_replay.specs.ygg_histories.Stack.{Layers, below_of, layers_on, tables_of}
+use Rattle.ygg_replay.specs.ygg_histories.Claims.{Claim, claims_on, claims_of}
+use Rattle.ygg_replay.specs.ygg_eval_lower.Layers.{variables_from, variables_at, closed_at, below_at}
+use Rattle.ygg_replay.specs.ygg_sched.Sites.{Site, sites_at, sites_on, sites_of, is_named, site_named}
+use Rattle.ygg_replay.proofs.of_ygg_sched.Finding.{find-map}
 use Rattle.ygg_replay_text.specs.Shown.{claim_named, is_name}
 
 -- the variables over a layer are its own

@@ -11,15 +11,15 @@ use Rattle.ygg_syntax.specs.declared.tree.TypeText.{TypeText}
 use Rattle.ygg_syntax.specs.declared.tree.TypeText.TheVariants as text
 use Rattle.ygg_syntax.specs.declared.tree.Layer.{Layer}
 use Rattle.ygg_syntax.specs.declared.tree.File.{File}
-use Rattle.ygg_type_rules.specs.Limits.{width_fits, words_fit, rows_fit, words_fit_in}
-use Rattle.ygg_type_rules.specs.Shapes.{shape_of}
-use Rattle.ygg_meaning.specs.Obligations.{Obligation, Init, CallOf, CutOf, TickOf, CutTickOf, Idle, Again}
-use Rattle.ygg_meaning.specs.Shapes.{fits, shape_in, values_fit}
-use Rattle.ygg_type_sound.proofs.Fits.{value_fits}
-use Rattle.ygg_eval_lower.specs.Layers.{variables_at}
-use Rattle.ygg_sched.specs.declared.schedule.Schedule.{Schedule}
-use Rattle.ygg_sched.specs.Fitting.{IsOfType, AreOfTypes, IsAt}
-use Rattle.ygg_sched.proofs.Shaped.{chosen}
+use Rattle.ygg_replay.specs.ygg_type_rules.Limits.{width_fits, words_fit, rows_fit, words_fit_in}
+use Rattle.ygg_replay.specs.ygg_type_rules.Shapes.{shape_of}
+use Rattle.ygg_replay.specs.ygg_meaning.Obligations.{Obligation, Init, CallOf, CutOf, TickOf, CutTickOf, Idle, Again}
+use Rattle.ygg_replay.specs.ygg_meaning.Shapes.{fits, shape_in, values_fit}
+use Rattle.ygg_replay.specs.ygg_type_sound_proofs_Fits.{value_fits}
+use Rattle.ygg_replay.specs.ygg_eval_lower.Layers.{variables_at}
+use Rattle.ygg_replay.specs.ygg_sched.declared.schedule.Schedule.{Schedule}
+use Rattle.ygg_replay.specs.ygg_sched.Fitting.{IsOfType, AreOfTypes, IsAt}
+use Rattle.ygg_replay.proofs.of_ygg_sched.Shaped.{chosen}
 use Rattle.ygg_replay.specs.Schedules.{schedule_fits, states_fit}
 
 -- the shape that a type names is the one that it stands for

@@ -4,10 +4,10 @@ use Rattle.ygg_base.specs.declared.failure.Refusal.{Refusal}
 use Rattle.ygg_base.specs.declared.status.Status.{Status}
 use Rattle.ygg_base.specs.declared.status.Status.TheVariants.{Refuted, Refused}
 use Rattle.ygg_syntax.specs.declared.tree.File.{File}
-use Rattle.ygg_meaning.specs.Replayed.{Replayed, Shows, Hypothesis, Passes}
-use Rattle.ygg_report.specs.Lines.{shows_line, hypothesis_line, holds_with_line, refused_line}
-use Rattle.ygg_sched.specs.declared.schedule.Schedule.{Schedule}
-use Rattle.ygg_sched.specs.Reading.{schedule_of}
+use Rattle.ygg_replay.specs.ygg_meaning.Replayed.{Replayed, Shows, Hypothesis, Passes}
+use Rattle.ygg_replay.specs.ygg_report.Lines.{shows_line, hypothesis_line, holds_with_line, refused_line}
+use Rattle.ygg_replay.specs.ygg_sched.declared.schedule.Schedule.{Schedule}
+use Rattle.ygg_replay.specs.ygg_sched.Reading.{schedule_of}
 use Rattle.ygg_replay_text.specs.Shown.{ShowsOf}
 
 -- the status of what is shown: refuted where the schedule violates its obligation

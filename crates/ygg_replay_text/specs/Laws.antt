@@ -3,9 +3,9 @@ use Rattle.std.specs.Prelude.{◌≡◌, ◌↔◌, ℕ, List, Some, Ok}
 use Rattle.ygg_base.specs.declared.status.Status.{Status}
 use Rattle.ygg_base.specs.declared.status.Status.TheVariants.{Refuted}
 use Rattle.ygg_syntax.specs.declared.tree.File.{File}
-use Rattle.ygg_histories.specs.Claims.{Claim, ClaimViolated}
-use Rattle.ygg_sched.specs.declared.schedule.Schedule.{Schedule}
-use Rattle.ygg_sched.specs.Reading.{schedule_of}
+use Rattle.ygg_replay.specs.ygg_histories.Claims.{Claim, ClaimViolated}
+use Rattle.ygg_replay.specs.ygg_sched.declared.schedule.Schedule.{Schedule}
+use Rattle.ygg_replay.specs.ygg_sched.Reading.{schedule_of}
 use Rattle.ygg_replay_text.specs.Shown.{claim_named, meant}
 use Rattle.ygg_replay_text.specs.Ending.{Replaying}
 

@@ -1,3 +1,11 @@
+pub use Rattle.ygg_replay.specs.ygg_histories
+pub use Rattle.ygg_replay.specs.ygg_meaning
+pub use Rattle.ygg_replay.specs.ygg_report
+pub use Rattle.ygg_replay.specs.ygg_sched
+pub use Rattle.ygg_replay.specs.ygg_type_progress_proofs_TypeErrors
+pub use Rattle.ygg_replay.specs.ygg_type_sound_proofs_Fits
+pub use Rattle.ygg_replay.specs.ygg_type_sound_proofs_Names
+pub use Rattle.ygg_replay.specs.ygg_type_sound_proofs_Tests
 pub mod Shown
 pub mod Ending
 pub mod Laws

@@ -4,14 +4,14 @@ use Rattle.std.specs.List.{find}
 use Rattle.std.specs.Option.{option_map}
 use Rattle.std.specs.Str.{bytes_eq}
 use Rattle.ygg_syntax.specs.declared.tree.File.{File}
-use Rattle.ygg_meaning.specs.Environments.{bind}
-use Rattle.ygg_meaning.specs.Obligations.{name_of}
-use Rattle.ygg_meaning.specs.Obligations as meaning
-use Rattle.ygg_meaning.specs.Refines.{machine_below}
-use Rattle.ygg_meaning.specs.Replayed.{Replayed, Replays}
-use Rattle.ygg_histories.specs.Claims.{Claim, claims_of}
-use Rattle.ygg_sched.specs.declared.schedule.Schedule.{Schedule}
-use Rattle.ygg_sched.specs.Fitting.{halt_meant}
+use Rattle.ygg_replay.specs.ygg_meaning.Environments.{bind}
+use Rattle.ygg_replay.specs.ygg_meaning.Obligations.{name_of}
+use Rattle.ygg_replay.specs.ygg_meaning.Obligations as meaning
+use Rattle.ygg_replay.specs.ygg_meaning.Refines.{machine_below}
+use Rattle.ygg_replay.specs.ygg_meaning.Replayed.{Replayed, Replays}
+use Rattle.ygg_replay.specs.ygg_histories.Claims.{Claim, claims_of}
+use Rattle.ygg_replay.specs.ygg_sched.declared.schedule.Schedule.{Schedule}
+use Rattle.ygg_replay.specs.ygg_sched.Fitting.{halt_meant}
 
 -- whether it is the name of the obligation
 abbrev pub is_name : List ℕ → Claim → Bool

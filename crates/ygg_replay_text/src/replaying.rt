@@ -1,17 +1,17 @@
 //! From the text of a schedule to how its replay ends.
 
 ghost use Rattle.std.specs.Prelude.{◌≡◌, ◌≤◌, length, IfOk};
-ghost use Rattle.ygg_sched.specs.Fitting.{IsScheduleOf};
+ghost use Rattle.ygg_replay.specs.ygg_sched.Fitting.{IsScheduleOf};
 ghost use Rattle.ygg_replay.specs.Schedules.{shown_by};
 ghost use Rattle.ygg_replay_text.specs.Shown.{ShowsOf};
 ghost use Rattle.ygg_replay_text.specs.Ending.{Replaying, line_of, status_of};
 
 use std::alloc::Global;
 use ygg_base::{NoMemory, Refuse, Status, Text};
-use ygg_replay::{Replayed, replay};
-use ygg_report::{holds_with, hypothesis, refused, shows};
-use ygg_sched::{Schedule, case_named, read_schedule};
-use ygg_type::Typed;
+use ygg_replay::{
+    Replayed, Schedule, Typed, case_named, holds_with, hypothesis, read_schedule, refused, replay,
+    shows,
+};
 
 /// What a schedule of a file shows of the obligation that it names. Its only error is out of memory.
 fn shown(alloc: Global, typed: &Typed, schedule: &Schedule) -> Result<Replayed, NoMemory>

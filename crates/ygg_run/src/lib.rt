@@ -6,3 +6,4 @@ mod playing;
 mod stacking;
 
 pub use playing::{play, put_play};
+pub use ygg_run_tower::{Script, read_script};

@@ -2,24 +2,23 @@
 
 ghost use Rattle.std.specs.Prelude.{◌≤◌, length};
 ghost use Rattle.ygg_base.specs.Outside.{Rose};
-ghost use Rattle.ygg_script.specs.Fitting.{IsScriptOf};
-ghost use Rattle.ygg_run_text.specs.Played.{Noted};
-ghost use Rattle.ygg_run_play.specs.Playing.{IsPlayed};
+ghost use Rattle.ygg_run_tower.specs.ygg_script.Fitting.{IsScriptOf};
+ghost use Rattle.ygg_run_tower.specs.ygg_run_text.Played.{Noted};
+ghost use Rattle.ygg_run_tower.specs.ygg_run_play.Playing.{IsPlayed};
 
 use std::alloc::Global;
 use ygg_base::{DiskKind, Sink};
-use ygg_run_play::{PlayHalted, play_on};
-use ygg_run_tower::{Playable, Staged, async_ground, raised, sync_ground};
-use ygg_script::Script;
-use ygg_type::Typed;
+use ygg_run_tower::{
+    PlayHalted, Playable, Script, Staged, Typed, async_ground, play_on, raised, sync_ground,
+};
 
 /// How many layers there is room for.
 trait Room {
     ghost use Rattle.std.specs.Prelude.{ℕ, ◌+◌, ◌<◌, ◌≤◌, length};
     ghost use Rattle.ygg_base.specs.Outside.{Rose};
-    ghost use Rattle.ygg_script.specs.Fitting.{IsScriptOf};
-    ghost use Rattle.ygg_run_text.specs.Played.{Noted};
-    ghost use Rattle.ygg_run_play.specs.Playing.{IsPlayed};
+    ghost use Rattle.ygg_run_tower.specs.ygg_script.Fitting.{IsScriptOf};
+    ghost use Rattle.ygg_run_tower.specs.ygg_run_text.Played.{Noted};
+    ghost use Rattle.ygg_run_tower.specs.ygg_run_play.Playing.{IsPlayed};
     ghost use Rattle.ygg_run_tower.specs.Playing.{IsUnwritten};
 
     /// So many.

@@ -1,3 +1,14 @@
+pub use Rattle.ygg_run_tower.specs.ygg_disk
+pub use Rattle.ygg_run_tower.specs.ygg_eval_lower
+pub use Rattle.ygg_run_tower.specs.ygg_histories_proofs_Mirrored
+pub use Rattle.ygg_run_tower.specs.ygg_histories
+pub use Rattle.ygg_run_tower.specs.ygg_machine
+pub use Rattle.ygg_run_tower.specs.ygg_meaning
+pub use Rattle.ygg_run_tower.specs.ygg_report
+pub use Rattle.ygg_run_tower.specs.ygg_run_text
+pub use Rattle.ygg_run_tower.specs.ygg_script
+pub use Rattle.ygg_run_tower.specs.ygg_type
+pub use Rattle.ygg_run_tower.specs.ygg_type_rules
 pub mod Ran
 pub mod OnGround
 pub mod Running

@@ -9,20 +9,20 @@ use Rattle.ygg_value.specs.declared.row.Value.TheVariants.{Table}
 use Rattle.ygg_syntax.specs.declared.tree.Block.{Block}
 use Rattle.ygg_syntax.specs.declared.tree.DiskText.{DiskText}
 use Rattle.ygg_syntax.specs.declared.tree.File.{File}
-use Rattle.ygg_disk.specs.Disk as disk
-use Rattle.ygg_disk.specs.Kinds.{model_of}
-use Rattle.ygg_meaning.specs.Environments.{Name, Env, bind, look_up}
-use Rattle.ygg_meaning.specs.Progress.{Answer}
-use Rattle.ygg_meaning.specs.Machine.{Picks, State, based, on, Machine}
-use Rattle.ygg_meaning.specs.DiskMachine.{tables_in, zeros_on, DiskMachine}
-use Rattle.ygg_meaning.specs.Runs.{Dialogue, WholeCall, answers_of, notes_of, Reaches}
-use Rattle.ygg_meaning.specs.Layer.{ClosedLayer, dialogue_of, BlockRuns, Layered}
-use Rattle.ygg_meaning.specs.Shapes.{zeros_of}
-use Rattle.ygg_histories.specs.Stack.{Layers, Stacked, Bottom, BottomOf, layers_of}
-use Rattle.ygg_histories.specs.Under.{Between}
-use Rattle.ygg_histories.specs.History.{Lost}
-use Rattle.ygg_histories.specs.Left.{Left}
-use Rattle.ygg_histories.specs.Mirror.{SameOn}
+use Rattle.ygg_run_held.specs.ygg_disk.Disk as disk
+use Rattle.ygg_run_held.specs.ygg_disk.Kinds.{model_of}
+use Rattle.ygg_run_held.specs.ygg_meaning.Environments.{Name, Env, bind, look_up}
+use Rattle.ygg_run_held.specs.ygg_meaning.Progress.{Answer}
+use Rattle.ygg_run_held.specs.ygg_meaning.Machine.{Picks, State, based, on, Machine}
+use Rattle.ygg_run_held.specs.ygg_meaning.DiskMachine.{tables_in, zeros_on, DiskMachine}
+use Rattle.ygg_run_held.specs.ygg_meaning.Runs.{Dialogue, WholeCall, answers_of, notes_of, Reaches}
+use Rattle.ygg_run_held.specs.ygg_meaning.Layer.{ClosedLayer, dialogue_of, BlockRuns, Layered}
+use Rattle.ygg_run_held.specs.ygg_meaning.Shapes.{zeros_of}
+use Rattle.ygg_run_held.specs.ygg_histories.Stack.{Layers, Stacked, Bottom, BottomOf, layers_of}
+use Rattle.ygg_run_held.specs.ygg_histories.Under.{Between}
+use Rattle.ygg_run_held.specs.ygg_histories.History.{Lost}
+use Rattle.ygg_run_held.specs.ygg_histories.Left.{Left}
+use Rattle.ygg_run_held.specs.ygg_histories.Mirror.{SameOn}
 use Rattle.ygg_run_format.specs.Formatted.{Views, AreFormatted}
 
 -- all writes are kept

@@ -4,28 +4,28 @@ use Rattle.std.specs.Option.{option_map}
 use Rattle.ygg_base.specs.declared.geometry.DiskKind.{DiskKind}
 use Rattle.ygg_base.specs.declared.geometry.DiskKind.TheVariants as kind
 use Rattle.ygg_base.specs.declared.geometry.Geometry.{Geometry}
-use Rattle.ygg_base_device.specs.Devices.{AttachedTurns, Attachment, Image, Tells}
+use Rattle.ygg_run_held.specs.ygg_base_device.Devices.{AttachedTurns, Attachment, Image, Tells}
 use Rattle.ygg_value.specs.Number.{Grid}
 use Rattle.ygg_value.specs.Shapes.{IsShape}
 use Rattle.ygg_value.specs.declared.row.Value.TheVariants.{Table}
 use Rattle.ygg_syntax.specs.declared.tree.File.{File}
-use Rattle.ygg_type.specs.Typed.{geometry_of}
-use Rattle.ygg_disk.specs.Ground.{Meaning}
-use Rattle.ygg_disk.specs.Kinds.{Disk, model_of}
-use Rattle.ygg_disk.specs.Size.{table_shape, zeros_of}
+use Rattle.ygg_run_held.specs.ygg_type.Typed.{geometry_of}
+use Rattle.ygg_run_held.specs.ygg_disk.Ground.{Meaning}
+use Rattle.ygg_run_held.specs.ygg_disk.Kinds.{Disk, model_of}
+use Rattle.ygg_run_held.specs.ygg_disk.Size.{table_shape, zeros_of}
 use Rattle.std.specs.Prelude.{codes}
-use Rattle.ygg_meaning.specs.Environments.{look_up}
-use Rattle.ygg_histories.specs.Noted.{disk_in}
-use Rattle.ygg_histories.specs.Grounds.{TellsZeros}
-use Rattle.ygg_eval_lower.specs.Lower.{Cause, PowerLoss, GivenUp}
-use Rattle.ygg_machine.specs.GroundSteps.{ground_machine}
-use Rattle.ygg_machine.proofs.Noting.{stacks_tell}
-use Rattle.ygg_run_image.specs.Image.{rows_in}
-use Rattle.ygg_run_image.proofs.Images.{zeros-held}
-use Rattle.ygg_run_stack.proofs.Keeping.{Keeps}
-use Rattle.ygg_run_ground.specs.Sight.{Sight, held, state_of, told_disk}
-use Rattle.ygg_run_ground.specs.DeviceMeaning.{device_meaning}
-use Rattle.ygg_run_ground.specs.Standing.{KeepsHeader, StaysOn}
+use Rattle.ygg_run_held.specs.ygg_meaning.Environments.{look_up}
+use Rattle.ygg_run_held.specs.ygg_histories.Noted.{disk_in}
+use Rattle.ygg_run_held.specs.ygg_histories.Grounds.{TellsZeros}
+use Rattle.ygg_run_held.specs.ygg_eval_lower.Lower.{Cause, PowerLoss, GivenUp}
+use Rattle.ygg_run_held.specs.ygg_machine.GroundSteps.{ground_machine}
+use Rattle.ygg_run_held.proofs.of_ygg_machine.Noting.{stacks_tell}
+use Rattle.ygg_run_held.specs.ygg_run_image.Image.{rows_in}
+use Rattle.ygg_run_held.proofs.of_ygg_run_image.Images.{zeros-held}
+use Rattle.ygg_run_held.proofs.of_ygg_run_stack.Keeping.{Keeps}
+use Rattle.ygg_run_held.specs.ygg_run_ground.Sight.{Sight, held, state_of, told_disk}
+use Rattle.ygg_run_held.specs.ygg_run_ground.DeviceMeaning.{device_meaning}
+use Rattle.ygg_run_held.specs.ygg_run_ground.Standing.{KeepsHeader, StaysOn}
 use Rattle.ygg_run_format.specs.declared.end.FormatEnd.{FormatEnd}
 use Rattle.ygg_run_format.specs.declared.end.FormatEnd.TheVariants as end
 use Rattle.ygg_run_format.specs.Formatted.{AreFormatted}

@@ -2,11 +2,11 @@
 use Rattle.std.specs.Prelude.{◌≡◌, ◌≤◌, List, length}
 use Rattle.ygg_base.specs.Outside.{Rose}
 use Rattle.ygg_syntax.specs.declared.tree.File.{File}
-use Rattle.ygg_disk.specs.Ground.{Meaning}
-use Rattle.ygg_meaning.specs.Machine.{State}
-use Rattle.ygg_histories.specs.Noted.{Note}
-use Rattle.ygg_eval_lower.specs.Lower.{PowerLoss, GivenUp, Ending, Whole, Down, Failed, Starved}
-use Rattle.ygg_machine.specs.Bottoms.{bottom_on, FormatFalls}
+use Rattle.ygg_run_held.specs.ygg_disk.Ground.{Meaning}
+use Rattle.ygg_run_held.specs.ygg_meaning.Machine.{State}
+use Rattle.ygg_run_held.specs.ygg_histories.Noted.{Note}
+use Rattle.ygg_run_held.specs.ygg_eval_lower.Lower.{PowerLoss, GivenUp, Ending, Whole, Down, Failed, Starved}
+use Rattle.ygg_run_held.specs.ygg_machine.Bottoms.{bottom_on, FormatFalls}
 use Rattle.ygg_run_format.specs.declared.end.FormatEnd.{FormatEnd}
 use Rattle.ygg_run_format.specs.declared.end.FormatEnd.TheVariants as end
 

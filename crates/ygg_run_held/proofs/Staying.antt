@@ -5,11 +5,11 @@ use Rattle.ygg_base.specs.declared.geometry.Geometry.{Geometry}
 use Rattle.ygg_base.specs.declared.outside.Moved.{Moved}
 use Rattle.ygg_base.specs.declared.outside.Moved.TheVariants.{Done, Failed}
 use Rattle.ygg_base_device.specs.Devices.{Image, Attachment, Tells, AttachedTurns, ImageTurns}
-use Rattle.ygg_disk.specs.Disk.{Call}
-use Rattle.ygg_meaning.specs.Machine.{State, based}
-use Rattle.ygg_histories.specs.Stack.{Layers, Stacked}
-use Rattle.ygg_eval_lower.specs.Lower.{Cause, PowerLoss, GivenUp}
-use Rattle.ygg_machine.specs.GroundSteps.{ground_machine}
+use Rattle.ygg_run_stack.specs.ygg_disk.Disk.{Call}
+use Rattle.ygg_run_stack.specs.ygg_meaning.Machine.{State, based}
+use Rattle.ygg_run_stack.specs.ygg_histories.Stack.{Layers, Stacked}
+use Rattle.ygg_run_stack.specs.ygg_eval_lower.Lower.{Cause, PowerLoss, GivenUp}
+use Rattle.ygg_run_stack.specs.ygg_machine.GroundSteps.{ground_machine}
 use Rattle.ygg_run_image.specs.Image.{block_bytes}
 use Rattle.ygg_run_image.specs.Laws.{AreBlocks}
 use Rattle.ygg_run_ground.specs.DeviceMeaning.{device_meaning}

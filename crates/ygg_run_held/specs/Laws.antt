@@ -1,7 +1,7 @@
 -- What layers on a disk that a device holds keep of the device.
-use Rattle.ygg_histories.specs.Stack.{Layers, Stacked}
-use Rattle.ygg_eval_lower.specs.Lower.{Cause}
-use Rattle.ygg_machine.specs.GroundSteps.{ground_machine}
+use Rattle.ygg_run_stack.specs.ygg_histories.Stack.{Layers, Stacked}
+use Rattle.ygg_run_stack.specs.ygg_eval_lower.Lower.{Cause}
+use Rattle.ygg_run_stack.specs.ygg_machine.GroundSteps.{ground_machine}
 use Rattle.ygg_run_stack.proofs.Keeping.{Keeps}
 use Rattle.ygg_run_ground.specs.DeviceMeaning.{device_meaning}
 use Rattle.ygg_run_ground.specs.Sight.{Sight, Holds}

@@ -3,17 +3,17 @@ use Rattle.std.proofs.Common.{◌≡◌, ℕ, List, [], ◌∷◌, Option, Resul
 use Rattle.std.specs.Prelude.{◌⊎◌}
 use Rattle.ygg_value.specs.declared.row.Value.{Value}
 use Rattle.ygg_syntax.specs.declared.tree.File.{File}
-use Rattle.ygg_meaning.specs.Environments.{Name, Env}
-use Rattle.ygg_meaning.specs.Progress.{Answer}
-use Rattle.ygg_meaning.specs.Machine.{State, TickName, Machine}
-use Rattle.ygg_histories.specs.Mirror.{SameOn, FormattedIf, Mirrors}
-use Rattle.ygg_histories.specs.History.{Entry, Step, Steps}
-use Rattle.ygg_histories.specs.Noted.{Note}
-use Rattle.ygg_eval_lower.specs.Lower.{Cause, GivenUp}
-use Rattle.ygg_machine.specs.Told.{SameNotes}
-use Rattle.ygg_script.specs.declared.command.Command.{Command}
-use Rattle.ygg_script.specs.declared.command.Command.TheVariants.{Call, Tick, Lost, Fail, Keep}
-use Rattle.ygg_run_text.specs.Named.{operation_name, tick_name}
+use Rattle.ygg_run_commands.specs.ygg_meaning.Environments.{Name, Env}
+use Rattle.ygg_run_commands.specs.ygg_meaning.Progress.{Answer}
+use Rattle.ygg_run_commands.specs.ygg_meaning.Machine.{State, TickName, Machine}
+use Rattle.ygg_run_commands.specs.ygg_histories.Mirror.{SameOn, FormattedIf, Mirrors}
+use Rattle.ygg_run_commands.specs.ygg_histories.History.{Entry, Step, Steps}
+use Rattle.ygg_run_commands.specs.ygg_histories.Noted.{Note}
+use Rattle.ygg_run_commands.specs.ygg_eval_lower.Lower.{Cause, GivenUp}
+use Rattle.ygg_run_commands.specs.ygg_machine.Told.{SameNotes}
+use Rattle.ygg_run_commands.specs.ygg_script.declared.command.Command.{Command}
+use Rattle.ygg_run_commands.specs.ygg_script.declared.command.Command.TheVariants.{Call, Tick, Lost, Fail, Keep}
+use Rattle.ygg_run_commands.specs.ygg_run_text.Named.{operation_name, tick_name}
 use Rattle.ygg_run_commands.specs.Ran.{AllRan}
 use Rattle.ygg_run_commands.specs.Running.{Runs, LeftOf, StopsWaking, StopsBefore, IsRun}
 use Rattle.ygg_run_commands.specs.declared.halting.RunHalted.{RunHalted}

@@ -2,17 +2,17 @@
 use Rattle.std.proofs.Common.{◌≡◌, ℕ, List, [], ◌∷◌, Option, Result, Ok, Err, inl, inr, subst, sym}
 use Rattle.std.specs.Prelude.{◌⊎◌}
 use Rattle.ygg_syntax.specs.declared.tree.File.{File}
-use Rattle.ygg_disk.specs.Ground.{Meaning}
-use Rattle.ygg_meaning.specs.Machine.{State}
-use Rattle.ygg_meaning.specs.DiskMachine.{machine_on}
-use Rattle.ygg_histories.specs.Stack.{layers_of}
-use Rattle.ygg_histories.specs.History.{Entry, Step, Steps}
-use Rattle.ygg_eval_lower.specs.Lower.{Cause, PowerLoss, GivenUp}
-use Rattle.ygg_machine.specs.GroundSteps.{ground_machine, ground_calls}
-use Rattle.ygg_run_stack.proofs.Keeping.{Keeps, stacked_keeps}
-use Rattle.ygg_script.specs.declared.command.Command.{Command}
-use Rattle.ygg_script.specs.declared.command.Command.TheVariants.{Call, Tick, Lost, Fail, Keep}
-use Rattle.ygg_run_text.specs.Named.{operation_name, tick_name}
+use Rattle.ygg_run_commands.specs.ygg_disk.Ground.{Meaning}
+use Rattle.ygg_run_commands.specs.ygg_meaning.Machine.{State}
+use Rattle.ygg_run_commands.specs.ygg_meaning.DiskMachine.{machine_on}
+use Rattle.ygg_run_commands.specs.ygg_histories.Stack.{layers_of}
+use Rattle.ygg_run_commands.specs.ygg_histories.History.{Entry, Step, Steps}
+use Rattle.ygg_run_commands.specs.ygg_eval_lower.Lower.{Cause, PowerLoss, GivenUp}
+use Rattle.ygg_run_commands.specs.ygg_machine.GroundSteps.{ground_machine, ground_calls}
+use Rattle.ygg_run_held.proofs.of_ygg_run_stack.Keeping.{Keeps, stacked_keeps}
+use Rattle.ygg_run_commands.specs.ygg_script.declared.command.Command.{Command}
+use Rattle.ygg_run_commands.specs.ygg_script.declared.command.Command.TheVariants.{Call, Tick, Lost, Fail, Keep}
+use Rattle.ygg_run_commands.specs.ygg_run_text.Named.{operation_name, tick_name}
 use Rattle.ygg_run_commands.specs.Ran.{AllRan}
 use Rattle.ygg_run_commands.specs.OnGround.{layers_on}
 use Rattle.ygg_run_commands.specs.Running.{Runs, LeftOf, StopsWaking, StopsBefore, IsRun}

@@ -1,24 +1,24 @@
 -- What is done on a ground over a device is done on what is seen of the device.
 use Rattle.std.proofs.Common.{ℕ, List, ◌++◌, Option, Result, refl, sym, ap, ◌∙◌, subst}
-use Rattle.ygg_base_device.specs.Devices.{Attachment, Image}
+use Rattle.ygg_run_held.specs.ygg_base_device.Devices.{Attachment, Image}
 use Rattle.ygg_syntax.specs.declared.tree.File.{File}
-use Rattle.ygg_disk.specs.Disk as disk
-use Rattle.ygg_meaning.specs.DiskMachine.{machine_on}
-use Rattle.ygg_histories.specs.Stack.{layers_of}
-use Rattle.ygg_histories.specs.Mirror.{IsJoined, FormattedIf, Mirrors}
-use Rattle.ygg_histories.specs.Noted.{Note}
-use Rattle.ygg_histories.proofs.Mirrored.{stacked_mirrors}
-use Rattle.ygg_histories.proofs.Stores.{StoreMirrors, machine_mirrors}
-use Rattle.ygg_eval_lower.specs.Lower.{Cause, PowerLoss, GivenUp}
-use Rattle.ygg_machine.specs.GroundSteps.{ground_calls}
-use Rattle.ygg_machine.specs.Told.{SameNotes}
-use Rattle.ygg_script.specs.declared.command.Command.{Command}
+use Rattle.ygg_run_commands.specs.ygg_disk.Disk as disk
+use Rattle.ygg_run_commands.specs.ygg_meaning.DiskMachine.{machine_on}
+use Rattle.ygg_run_commands.specs.ygg_histories.Stack.{layers_of}
+use Rattle.ygg_run_commands.specs.ygg_histories.Mirror.{IsJoined, FormattedIf, Mirrors}
+use Rattle.ygg_run_commands.specs.ygg_histories.Noted.{Note}
+use Rattle.ygg_run_commands.specs.ygg_histories_proofs_Mirrored.{stacked_mirrors}
+use Rattle.ygg_run_commands.proofs.of_ygg_histories.Stores.{StoreMirrors, machine_mirrors}
+use Rattle.ygg_run_commands.specs.ygg_eval_lower.Lower.{Cause, PowerLoss, GivenUp}
+use Rattle.ygg_run_commands.specs.ygg_machine.GroundSteps.{ground_calls}
+use Rattle.ygg_run_commands.specs.ygg_machine.Told.{SameNotes}
+use Rattle.ygg_run_commands.specs.ygg_script.declared.command.Command.{Command}
 use Rattle.ygg_run_commands.specs.OnGround.{layers_on}
 use Rattle.ygg_run_commands.specs.Running.{IsRun}
 use Rattle.ygg_run_commands.specs.declared.halting.RunHalted.{RunHalted}
-use Rattle.ygg_run_ground.specs.DeviceMeaning.{device_meaning}
-use Rattle.ygg_run_ground.specs.Sight.{Sight}
-use Rattle.ygg_run_ground.specs.Turning.{Moves}
+use Rattle.ygg_run_held.specs.ygg_run_ground.DeviceMeaning.{device_meaning}
+use Rattle.ygg_run_held.specs.ygg_run_ground.Sight.{Sight}
+use Rattle.ygg_run_held.specs.ygg_run_ground.Turning.{Moves}
 use Rattle.ygg_run_mounted.specs.OnDevice.{on_device, seen}
 use Rattle.ygg_run_mounted.proofs.Carried.{Along, carried}
 

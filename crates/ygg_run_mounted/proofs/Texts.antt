@@ -1,10 +1,10 @@
 -- What a run that was given up has put is a text of its own.
 use Rattle.std.proofs.Common.{◌≡◌, ℕ, List, [], Option, Some, None, Err, inl, inr, refl, sym, ap, ◌∙◌, append-nil}
 use Rattle.ygg_syntax.specs.declared.tree.File.{File}
-use Rattle.ygg_meaning.specs.Machine.{Machine}
-use Rattle.ygg_eval_lower.specs.Lower.{Cause}
-use Rattle.ygg_report.specs.Putting.{Adds}
-use Rattle.ygg_script.specs.declared.command.Command.{Command}
+use Rattle.ygg_run_commands.specs.ygg_meaning.Machine.{Machine}
+use Rattle.ygg_run_commands.specs.ygg_eval_lower.Lower.{Cause}
+use Rattle.ygg_run_commands.specs.ygg_report.Putting.{Adds}
+use Rattle.ygg_run_commands.specs.ygg_script.declared.command.Command.{Command}
 use Rattle.ygg_run_commands.specs.Ran.{run_lines}
 use Rattle.ygg_run_commands.specs.Running.{IsRun}
 use Rattle.ygg_run_commands.specs.declared.halting.RunHalted.{RunHalted}

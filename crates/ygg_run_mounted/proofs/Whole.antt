@@ -8,32 +8,32 @@ use Rattle.ygg_base.specs.declared.geometry.Geometry.{Geometry}
 use Rattle.ygg_base.specs.declared.geometry.DiskKind.{DiskKind}
 use Rattle.ygg_base.specs.declared.geometry.DiskKind.TheVariants.{Sync, Async}
 use Rattle.ygg_base.specs.declared.outside.Moved.TheVariants.{Done}
-use Rattle.ygg_base_device.specs.Devices.{Image, Attachment, ImageTurns, Tells, Flushes, image_of}
+use Rattle.ygg_run_held.specs.ygg_base_device.Devices.{Image, Attachment, ImageTurns, Tells, Flushes, image_of}
 use Rattle.ygg_value.specs.Number.{Grid}
 use Rattle.ygg_value.specs.Shapes.{IsShape}
 use Rattle.ygg_value.specs.declared.row.Value.TheVariants.{Table}
 use Rattle.ygg_syntax.specs.declared.tree.File.{File}
 use Rattle.ygg_syntax.specs.Files.{IsDerived}
-use Rattle.ygg_type_rules.specs.Files.{IsTyped}
-use Rattle.ygg_type.specs.Typed.{geometry_of}
-use Rattle.ygg_disk.specs.Kinds.{Disk, model_of}
-use Rattle.ygg_disk.specs.Size.{table_shape}
-use Rattle.ygg_meaning.specs.Environments.{look_up}
-use Rattle.ygg_meaning.specs.Machine.{State}
-use Rattle.ygg_meaning.specs.DiskMachine.{tables_in}
-use Rattle.ygg_histories.specs.History.{Entry}
-use Rattle.ygg_histories.specs.Left.{Left}
-use Rattle.ygg_histories.specs.Noted.{disk_in}
-use Rattle.ygg_script.specs.declared.command.Command.{Command}
-use Rattle.ygg_run_image.specs.Image.{block_bytes, header, image, rows_in, row_block}
-use Rattle.ygg_run_image.specs.Laws.{AreRows, BlocksAreImages, ImagesHoldTheirRows}
-use Rattle.ygg_run_image.proofs.Images.{length-header}
+use Rattle.ygg_run_commands.specs.ygg_type_rules.Files.{IsTyped}
+use Rattle.ygg_run_commands.specs.ygg_type.Typed.{geometry_of}
+use Rattle.ygg_run_commands.specs.ygg_disk.Kinds.{Disk, model_of}
+use Rattle.ygg_run_commands.specs.ygg_disk.Size.{table_shape}
+use Rattle.ygg_run_commands.specs.ygg_meaning.Environments.{look_up}
+use Rattle.ygg_run_commands.specs.ygg_meaning.Machine.{State}
+use Rattle.ygg_run_commands.specs.ygg_meaning.DiskMachine.{tables_in}
+use Rattle.ygg_run_commands.specs.ygg_histories.History.{Entry}
+use Rattle.ygg_run_commands.specs.ygg_histories.Left.{Left}
+use Rattle.ygg_run_commands.specs.ygg_histories.Noted.{disk_in}
+use Rattle.ygg_run_commands.specs.ygg_script.declared.command.Command.{Command}
+use Rattle.ygg_run_held.specs.ygg_run_image.Image.{block_bytes, header, image, rows_in, row_block}
+use Rattle.ygg_run_held.specs.ygg_run_image.Laws.{AreRows, BlocksAreImages, ImagesHoldTheirRows}
+use Rattle.ygg_run_held.proofs.of_ygg_run_image.Images.{length-header}
 use Rattle.ygg_run_commands.specs.OnGround.{layers_on}
 use Rattle.ygg_run_commands.specs.Running.{Runs}
 use Rattle.ygg_run_commands.specs.Extending.{RunsExtend, TellsFlushed}
-use Rattle.ygg_run_ground.specs.DeviceMeaning.{device_meaning}
-use Rattle.ygg_run_ground.specs.Sight.{Sight, state_of, told_disk}
-use Rattle.ygg_run_ground.specs.Standing.{KeepsHeader}
+use Rattle.ygg_run_held.specs.ygg_run_ground.DeviceMeaning.{device_meaning}
+use Rattle.ygg_run_held.specs.ygg_run_ground.Sight.{Sight, state_of, told_disk}
+use Rattle.ygg_run_held.specs.ygg_run_ground.Standing.{KeepsHeader}
 use Rattle.ygg_run_mount.specs.Mounting.{Mounts, whole_image}
 use Rattle.ygg_run_mounted.specs.OnDevice.{seen}
 use Rattle.ygg_run_mounted.specs.Extending.{KeepsImage, LeadsTo, HasRun}

@@ -2,10 +2,10 @@
 use Rattle.std.specs.Prelude.{◌≡◌, ℕ, ◌≤◌, List, Option, None, Result}
 use Rattle.ygg_base.specs.Outside.{Rose}
 use Rattle.ygg_syntax.specs.declared.tree.File.{File}
-use Rattle.ygg_disk.specs.Ground.{Meaning}
-use Rattle.ygg_script.specs.declared.command.Command.{Command}
-use Rattle.ygg_script.specs.Fitting.{IsScriptOf}
-use Rattle.ygg_script.specs.Plain.{plain_of}
+use Rattle.ygg_run_commands.specs.ygg_disk.Ground.{Meaning}
+use Rattle.ygg_run_commands.specs.ygg_script.declared.command.Command.{Command}
+use Rattle.ygg_run_commands.specs.ygg_script.Fitting.{IsScriptOf}
+use Rattle.ygg_run_commands.specs.ygg_script.Plain.{plain_of}
 use Rattle.ygg_run_commands.specs.OnGround.{layers_on}
 use Rattle.ygg_run_commands.specs.Running.{IsRun}
 use Rattle.ygg_run_commands.specs.declared.halting.RunHalted.{RunHalted}

@@ -6,11 +6,8 @@ ghost use Rattle.ygg_run_mounted.specs.Errand.{SuitsFile, RunsCommands};
 
 use std::alloc::Global;
 use ygg_base::Sink;
-use ygg_machine::{Floor, Viewed};
-use ygg_run_commands::{RunHalted, run_on};
-use ygg_run_stack::Errand;
-use ygg_script::Command;
-use ygg_type::Typed;
+use ygg_run_commands::{Command, Floor, RunHalted, Typed, Viewed, run_on};
+use ygg_run_held::Errand;
 
 /// The commands of a script, what takes their lines, and how they ended.
 #[derive(Drop)]

@@ -2,30 +2,24 @@
 
 ghost use Rattle.std.specs.Prelude.{◌≡◌, ◌≤◌, None};
 ghost use Rattle.ygg_base.specs.Outside.{Rose};
-ghost use Rattle.ygg_machine.specs.Grounded.{HasRows};
+ghost use Rattle.ygg_run_commands.specs.ygg_machine.Grounded.{HasRows};
 ghost use Rattle.ygg_run_commands.specs.Extending.{RunsExtend};
 ghost use Rattle.ygg_run_mounted.specs.Errand.{RunsCommands, SuitsFile};
-ghost use Rattle.ygg_run_ground.specs.Sight.{Holds};
-ghost use Rattle.ygg_type.specs.Typed.{geometry_of};
+ghost use Rattle.ygg_run_held.specs.ygg_run_ground.Sight.{Holds};
+ghost use Rattle.ygg_run_commands.specs.ygg_type.Typed.{geometry_of};
 ghost use Rattle.ygg_run_mounted.specs.Ran.{RanSo};
-ghost use Rattle.ygg_script.specs.Fitting.{IsScriptOf};
-ghost use Rattle.ygg_script.specs.Plain.{plain_of};
+ghost use Rattle.ygg_run_commands.specs.ygg_script.Fitting.{IsScriptOf};
+ghost use Rattle.ygg_run_commands.specs.ygg_script.Plain.{plain_of};
 ghost use Rattle.ygg_run_mounted.specs.Ending.{RunsTo, end_of, end_unmounted};
 
 use crate::commands::Commands;
 use crate::run_end::RunEnd;
 use std::alloc::Global;
 use ygg_base::{Sink, Text};
-use ygg_base_device::Device;
-use ygg_disk::Ground;
-use ygg_run_commands::RunHalted;
 use ygg_run_commands::law::runs_extend;
-use ygg_run_ground::DeviceGround;
-use ygg_run_image::law::images_are_of_rows;
+use ygg_run_commands::{Command, Ground, RunHalted, Script, Typed};
+use ygg_run_held::{Device, DeviceGround, images_are_of_rows, on_stack};
 use ygg_run_mount::{Unmounted, mount};
-use ygg_run_stack::on_stack;
-use ygg_script::{Command, Script};
-use ygg_type::Typed;
 
 /// Runs the commands of a script on the layers of a file over a ground, and gives the ground back.
 fn run_over<G: Ground + Drop, K: Sink>(

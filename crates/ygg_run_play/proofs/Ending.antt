@@ -3,15 +3,15 @@ use Rattle.std.proofs.Common.{◌≡◌, true, ℕ, All, List, [], ◌∷◌, �
 use Rattle.std.proofs.lemmas.List.Elements.{All-nil, All-cons}
 use Rattle.std.specs.List.{count_by}
 use Rattle.ygg_syntax.specs.declared.tree.File.{File}
-use Rattle.ygg_disk.specs.declared.power.Power.{Power}
-use Rattle.ygg_meaning.specs.Environments.{Env}
-use Rattle.ygg_meaning.specs.Machine.{Picks, State, Machine}
-use Rattle.ygg_histories.specs.Noted.{Note, picks_in}
-use Rattle.ygg_histories.specs.Trace.{Up, Moment}
-use Rattle.ygg_direct.specs.Acts.{Taken}
-use Rattle.ygg_report.specs.Putting.{Adds, IsFront}
-use Rattle.ygg_report.proofs.Fronts.{adds_more, adds_none, front_after, front_first, front_longer}
-use Rattle.ygg_script.specs.declared.command.Command.{Command}
+use Rattle.ygg_run_text.specs.ygg_disk.declared.power.Power.{Power}
+use Rattle.ygg_run_text.specs.ygg_meaning.Environments.{Env}
+use Rattle.ygg_run_text.specs.ygg_meaning.Machine.{Picks, State, Machine}
+use Rattle.ygg_run_text.specs.ygg_histories.Noted.{Note, picks_in}
+use Rattle.ygg_run_text.specs.ygg_histories.Trace.{Up, Moment}
+use Rattle.ygg_run_text.specs.ygg_direct.Acts.{Taken}
+use Rattle.ygg_run_text.specs.ygg_report.Putting.{Adds, IsFront}
+use Rattle.ygg_run_text.proofs.of_ygg_report.Fronts.{adds_more, adds_none, front_after, front_first, front_longer}
+use Rattle.ygg_run_text.specs.ygg_script.declared.command.Command.{Command}
 use Rattle.ygg_run_text.specs.Named.{Names}
 use Rattle.ygg_run_text.specs.Lines.{moments_lines, is_played, played_line, text_of}
 use Rattle.ygg_run_text.specs.Played.{IsFresh, Plays}

@@ -3,14 +3,14 @@ use Rattle.std.proofs.Common.{false, List, [], ◌∷◌, inl, inr, sym, ◌∙�
 use Rattle.std.proofs.lemmas.List.{append-nil}
 use Rattle.ygg_syntax.specs.declared.tree.Block.{Block}
 use Rattle.ygg_syntax.specs.declared.tree.DiskText.{DiskText}
-use Rattle.ygg_meaning.specs.Environments.{Env}
-use Rattle.ygg_meaning.specs.Progress.{Answer}
-use Rattle.ygg_meaning.specs.Machine.{State, TickName, Machine}
-use Rattle.ygg_meaning.specs.Layer.{ClosedLayer, Layered, BlockRuns, BlockFalls}
-use Rattle.ygg_meaning.specs.Runs.{notes_of}
-use Rattle.ygg_histories.specs.Noted.{Note, NotedDisk}
-use Rattle.ygg_histories.specs.Stack.{Layers, Stacked}
-use Rattle.ygg_histories.proofs.Monotone.{same_lower}
+use Rattle.ygg_run_text.specs.ygg_meaning.Environments.{Env}
+use Rattle.ygg_run_text.specs.ygg_meaning.Progress.{Answer}
+use Rattle.ygg_run_text.specs.ygg_meaning.Machine.{State, TickName, Machine}
+use Rattle.ygg_run_text.specs.ygg_meaning.Layer.{ClosedLayer, Layered, BlockRuns, BlockFalls}
+use Rattle.ygg_run_text.specs.ygg_meaning.Runs.{notes_of}
+use Rattle.ygg_run_text.specs.ygg_histories.Noted.{Note, NotedDisk}
+use Rattle.ygg_run_text.specs.ygg_histories.Stack.{Layers, Stacked}
+use Rattle.ygg_run_text.specs.ygg_histories_proofs_Monotone.{same_lower}
 use Rattle.ygg_run_play.specs.Scene.{FallsAfterAll}
 
 module _ (L : ClosedLayer) (M : Machine Env Note) where

@@ -6,18 +6,18 @@ use Rattle.std.proofs.lemmas.List.{append-nil}
 use Rattle.std.proofs.lemmas.List.Elements.{All-head, All-tail}
 use Rattle.ygg_base.specs.Outside.{Rose}
 use Rattle.ygg_syntax.specs.declared.tree.File.{File}
-use Rattle.ygg_disk.specs.declared.power.Fuse.{Fuse}
-use Rattle.ygg_disk.specs.declared.power.Picks as disk
-use Rattle.ygg_meaning.specs.Environments.{Env}
-use Rattle.ygg_meaning.specs.Machine.{Picks, State, Machine}
-use Rattle.ygg_histories.specs.Noted.{Note}
-use Rattle.ygg_histories.specs.Trace.{Standing, Up, Moment}
-use Rattle.ygg_report.specs.Putting.{Adds, IsFront}
-use Rattle.ygg_report.proofs.Fronts.{adds_more, adds_none, front_after, front_longer}
-use Rattle.ygg_script.specs.declared.command.Command.{Command}
-use Rattle.ygg_script.specs.declared.command.Command.TheVariants.{Call, Tick, Lost, Fail, Keep}
-use Rattle.ygg_script.specs.Fitting.{IsCommandOf, IsScriptOf, may_stand, are_placed}
-use Rattle.ygg_script.specs.Reading.{is_stoppable}
+use Rattle.ygg_run_text.specs.ygg_disk.declared.power.Fuse.{Fuse}
+use Rattle.ygg_run_text.specs.ygg_disk.declared.power.Picks as disk
+use Rattle.ygg_run_text.specs.ygg_meaning.Environments.{Env}
+use Rattle.ygg_run_text.specs.ygg_meaning.Machine.{Picks, State, Machine}
+use Rattle.ygg_run_text.specs.ygg_histories.Noted.{Note}
+use Rattle.ygg_run_text.specs.ygg_histories.Trace.{Standing, Up, Moment}
+use Rattle.ygg_run_text.specs.ygg_report.Putting.{Adds, IsFront}
+use Rattle.ygg_run_text.proofs.of_ygg_report.Fronts.{adds_more, adds_none, front_after, front_longer}
+use Rattle.ygg_run_text.specs.ygg_script.declared.command.Command.{Command}
+use Rattle.ygg_run_text.specs.ygg_script.declared.command.Command.TheVariants.{Call, Tick, Lost, Fail, Keep}
+use Rattle.ygg_run_text.specs.ygg_script.Fitting.{IsCommandOf, IsScriptOf, may_stand, are_placed}
+use Rattle.ygg_run_text.specs.ygg_script.Reading.{is_stoppable}
 use Rattle.ygg_run_text.specs.Named.{Happens, Leading, Names, stop_after}
 use Rattle.ygg_run_text.specs.Lines.{moment_lines, moments_lines}
 use Rattle.ygg_run_play.specs.Doing.{left_of, Holds, StepEnds, standing, is_fail}

@@ -1,12 +1,12 @@
 -- How the play of a script ends.
 use Rattle.std.specs.Prelude.{◌≡◌, ℕ, List, [], ◌++◌, Option, Result, Ok, Err}
 use Rattle.ygg_syntax.specs.declared.tree.File.{File}
-use Rattle.ygg_meaning.specs.Environments.{Env}
-use Rattle.ygg_meaning.specs.Machine.{Picks, State, Machine}
-use Rattle.ygg_histories.specs.Noted.{Note}
-use Rattle.ygg_histories.specs.Trace.{Standing, Up, Moment}
-use Rattle.ygg_report.specs.Putting.{Adds, IsFront}
-use Rattle.ygg_script.specs.declared.command.Command.{Command}
+use Rattle.ygg_run_text.specs.ygg_meaning.Environments.{Env}
+use Rattle.ygg_run_text.specs.ygg_meaning.Machine.{Picks, State, Machine}
+use Rattle.ygg_run_text.specs.ygg_histories.Noted.{Note}
+use Rattle.ygg_run_text.specs.ygg_histories.Trace.{Standing, Up, Moment}
+use Rattle.ygg_run_text.specs.ygg_report.Putting.{Adds, IsFront}
+use Rattle.ygg_run_text.specs.ygg_script.declared.command.Command.{Command}
 use Rattle.ygg_run_text.specs.Named.{Names, Unreached}
 use Rattle.ygg_run_text.specs.Lines.{moments_lines}
 use Rattle.ygg_run_text.specs.Played.{Plays, MissesAt, unreached_at}

@@ -2,10 +2,10 @@
 
 ghost use Rattle.std.specs.Prelude.{◌≡◌, ◌<◌, ◌^◌, ◌++◌, [], Some, IfOk, IfErr, OnOk, MatchOption};
 ghost use Rattle.ygg_syntax.specs.declared.tree.File.{File};
-ghost use Rattle.ygg_disk.specs.declared.power.Power as ghost_power;
-ghost use Rattle.ygg_meaning.specs.Environments.{Env};
-ghost use Rattle.ygg_meaning.specs.Machine.{State};
-ghost use Rattle.ygg_report.specs.Lines.{ended};
+ghost use Rattle.ygg_run_text.specs.ygg_disk.declared.power.Power as ghost_power;
+ghost use Rattle.ygg_run_text.specs.ygg_meaning.Environments.{Env};
+ghost use Rattle.ygg_run_text.specs.ygg_meaning.Machine.{State};
+ghost use Rattle.ygg_run_text.specs.ygg_report.Lines.{ended};
 ghost use Rattle.ygg_run_play.specs.Scene.{Deed, Ends, After};
 ghost use Rattle.ygg_run_play.specs.Doing.{left_of, IsReady, CutsAfterAll, Counted, Missed, IsHalted, IsStopped, command_end, waking_end};
 
@@ -13,9 +13,10 @@ use crate::halting::PlayHalted;
 use crate::scene::{CommandOutcome, Scene};
 use std::alloc::Global;
 use ygg_base::Text;
-use ygg_disk::{Event, Events, Fuse, Power};
 use ygg_list::NoMemory;
-use ygg_run_text::{put_answer, put_down, put_events, put_up, unreached};
+use ygg_run_text::{
+    Event, Events, Fuse, Power, put_answer, put_down, put_events, put_up, unreached,
+};
 
 /// Makes power ready for what a line does: it fails where the stop says that follows the line, if one does, and disk calls are counted and shown anew.
 pub fn make_ready(alloc: Global, power: &mut Power, stop: Option<Fuse>)

@@ -10,3 +10,6 @@ mod scene;
 pub use halting::PlayHalted;
 pub use playing::play_on;
 pub use scene::{CommandOutcome, Scene};
+pub use ygg_run_text::{
+    Command, Script, left_goes_on, plain_script, put, put_answer, read_script, typed_histories,
+};

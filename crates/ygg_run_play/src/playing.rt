@@ -2,8 +2,8 @@
 
 ghost use Rattle.std.specs.Prelude.{◌≡◌, ◌≤◌, [], length, false, true, None, IfOk, is_some};
 ghost use Rattle.ygg_base.specs.Outside.{Rose};
-ghost use Rattle.ygg_script.specs.Fitting.{IsCommandOf, IsScriptOf};
-ghost use Rattle.ygg_script.specs.Reading.{is_stoppable};
+ghost use Rattle.ygg_run_text.specs.ygg_script.Fitting.{IsCommandOf, IsScriptOf};
+ghost use Rattle.ygg_run_text.specs.ygg_script.Reading.{is_stoppable};
 ghost use Rattle.std.specs.List.{count_by};
 ghost use Rattle.ygg_run_text.specs.Named.{stop_after};
 ghost use Rattle.ygg_run_text.specs.Lines.{is_played, played_line};
@@ -16,11 +16,7 @@ use crate::line::do_line;
 use crate::scene::Scene;
 use std::alloc::Global;
 use ygg_base::{Bits, Sink, Text};
-use ygg_disk::{Fuse, Picks, Power};
-use ygg_report::put;
-use ygg_run_text::{played, put_played};
-use ygg_script::{Command, Script};
-use ygg_type::Typed;
+use ygg_run_text::{Command, Fuse, Picks, Power, Script, Typed, played, put, put_played};
 
 /// The stop that the next of these lines sets for the one before it, if that is a line `fail`.
 fn stop_in(rest: &[Command]) -> Option<Fuse>

@@ -4,12 +4,12 @@ use Rattle.ygg_value.specs.declared.row.Value.{Value}
 use Rattle.ygg_syntax.specs.declared.tree.Block.{Block}
 use Rattle.ygg_syntax.specs.declared.tree.Layer.{Layer}
 use Rattle.ygg_syntax.specs.declared.tree.File.{File}
-use Rattle.ygg_meaning.specs.Environments.{Name, Env}
-use Rattle.ygg_meaning.specs.Progress.{Answer}
-use Rattle.ygg_meaning.specs.Machine.{State, TickName, Machine}
-use Rattle.ygg_meaning.specs.Runs.{Dialogue, WholeCall, Reaches, FallsAt, FallenRun, answers_of}
-use Rattle.ygg_meaning.specs.Layer.{ClosedLayer, dialogue_of, BlockRuns, BlockFalls, Layered}
-use Rattle.ygg_histories.specs.Stack.{Layers, Stacked}
+use Rattle.ygg_machine.specs.ygg_meaning.Environments.{Name, Env}
+use Rattle.ygg_machine.specs.ygg_meaning.Progress.{Answer}
+use Rattle.ygg_machine.specs.ygg_meaning.Machine.{State, TickName, Machine}
+use Rattle.ygg_machine.specs.ygg_meaning.Runs.{Dialogue, WholeCall, Reaches, FallsAt, FallenRun, answers_of}
+use Rattle.ygg_machine.specs.ygg_meaning.Layer.{ClosedLayer, dialogue_of, BlockRuns, BlockFalls, Layered}
+use Rattle.ygg_machine.specs.ygg_histories.Stack.{Layers, Stacked}
 
 module _ {B X : Type 0} (I : B → Type 0) where
   -- the machine starts so, and each of its steps keeps it, whole or cut

@@ -8,7 +8,7 @@ use Rattle.ygg_base.specs.declared.token.Token.{Token}
 use Rattle.ygg_syntax.specs.declared.tree.Layer.{Layer}
 use Rattle.ygg_syntax.specs.declared.tree.File.{File}
 use Rattle.ygg_syntax.specs.Files.{IsDerivable, layers}
-use Rattle.ygg_type.proofs.Shorter.{split}
+use Rattle.ygg_machine.proofs.of_ygg_type.Shorter.{split}
 
 some_layer : (ls : List Layer) (from rest : List Token) → layers ls from ≡ Some rest → nat_lt 0 (length ls) ≡ true
 some_layer [] from rest h = absurd (cc)

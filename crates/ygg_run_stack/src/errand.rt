@@ -5,12 +5,11 @@ ghost use Rattle.ygg_machine.specs.Bottoms.{ViewStands};
 ghost use Rattle.ygg_machine.specs.Viewed.{floor_seen};
 
 use std::alloc::Global;
-use ygg_machine::{Floor, Viewed};
-use ygg_type::Typed;
+use ygg_machine::{Floor, Typed, Viewed};
 
 /// Something that is done with all layers of a file, whatever ground they stand on and however many there are.
 pub trait Errand {
-    ghost use Rattle.ygg_disk.specs.Ground.{Meaning};
+    ghost use Rattle.ygg_machine.specs.ygg_disk.Ground.{Meaning};
     ghost use Rattle.ygg_syntax.specs.declared.tree.File.{File};
 
     /// Whether it is one for this file.

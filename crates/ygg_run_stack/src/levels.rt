@@ -7,9 +7,7 @@ ghost use Rattle.ygg_machine.specs.Viewed.{floor_seen};
 
 use crate::errand::Errand;
 use std::alloc::Global;
-use ygg_disk::Ground;
-use ygg_machine::{Floor, Grounded, Viewed};
-use ygg_type::Typed;
+use ygg_machine::{Floor, Ground, Grounded, Typed, Viewed};
 
 /// The next layer on those below, which are so many.
 fn raised<W: Viewed + Drop>(alloc: Global, place: u32, below: W) -> Floor<W>

@@ -6,3 +6,4 @@ mod levels;
 
 pub use errand::Errand;
 pub use levels::on_stack;
+pub use ygg_machine::{Floor, Picks, Power, Turn, Typed, Viewed, viewed};

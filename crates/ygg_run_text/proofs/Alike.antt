@@ -1,11 +1,11 @@
 -- Two runs of one thing from one state with the same picks: where both are whole they are one; where power cut both at one point too; and where it cut
 -- one of them, that has got no further than the other.
 use Rattle.std.proofs.Common.{◌≡◌, ◌⊎◌, if◌then◌else◌, true, List, [], ◌∷◌, ◌++◌, None, inl, inr, refl, sym, ap, ◌∙◌, subst}
-use Rattle.ygg_meaning.specs.Environments.{Env}
-use Rattle.ygg_meaning.specs.Progress.{Answer}
-use Rattle.ygg_meaning.specs.Machine.{Picks, State}
-use Rattle.ygg_histories.specs.Noted.{Note, picks_in}
-use Rattle.ygg_histories.proofs.Stores.{picks_joined}
+use Rattle.ygg_script.specs.ygg_meaning.Environments.{Env}
+use Rattle.ygg_script.specs.ygg_meaning.Progress.{Answer}
+use Rattle.ygg_script.specs.ygg_meaning.Machine.{Picks, State}
+use Rattle.ygg_script.specs.ygg_histories.Noted.{Note, picks_in}
+use Rattle.ygg_script.proofs.of_ygg_histories.Stores.{picks_joined}
 use Rattle.ygg_direct.specs.Acts.{Taken, later}
 use Rattle.ygg_direct.proofs.Taking.{taken_split}
 use Rattle.ygg_run_text.proofs.Endings.{AllWhole, Before, OneEnd, one_end, before_more, before_after, end_after, whole_append}

@@ -3,13 +3,13 @@ use Rattle.std.proofs.Common.{◌≡◌, true, List, [], ◌∷◌, Some, inl, r
 use Rattle.std.proofs.lemmas.List.{append-nil}
 use Rattle.ygg_value.specs.declared.row.Value.{Value}
 use Rattle.ygg_syntax.specs.declared.tree.DiskText.{DiskText}
-use Rattle.ygg_disk.specs.Disk as disk
-use Rattle.ygg_disk.specs.Kinds.{model_of}
-use Rattle.ygg_meaning.specs.Environments.{Name, Env}
-use Rattle.ygg_meaning.specs.Progress.{Answer}
-use Rattle.ygg_meaning.specs.Machine.{Picks, State, TickName}
-use Rattle.ygg_meaning.specs.DiskMachine.{tables_in, disk_call}
-use Rattle.ygg_histories.specs.Noted.{Note, picks_in, NotedDisk}
+use Rattle.ygg_script.specs.ygg_disk.Disk as disk
+use Rattle.ygg_script.specs.ygg_disk.Kinds.{model_of}
+use Rattle.ygg_script.specs.ygg_meaning.Environments.{Name, Env}
+use Rattle.ygg_script.specs.ygg_meaning.Progress.{Answer}
+use Rattle.ygg_script.specs.ygg_meaning.Machine.{Picks, State, TickName}
+use Rattle.ygg_script.specs.ygg_meaning.DiskMachine.{tables_in, disk_call}
+use Rattle.ygg_script.specs.ygg_histories.Noted.{Note, picks_in, NotedDisk}
 use Rattle.ygg_direct.specs.Acts.{Taken, Did}
 use Rattle.ygg_direct.specs.DiskActs.{Replied, Dropped, kind_calls, kind_falls, state_in}
 use Rattle.ygg_direct.proofs.DiskActed.{state_is, call_replies, fall_drops}

@@ -3,8 +3,8 @@ use Rattle.std.proofs.Common.{◌≡◌, ◌⊎◌, ◌≤◌, ◌<◌, ℕ, suc
 use Rattle.std.specs.Prelude.{MatchBool, All}
 use Rattle.std.proofs.lemmas.List.{append-nil}
 use Rattle.std.proofs.lemmas.List.Elements.{All-head, All-tail}
-use Rattle.ygg_disk.specs.declared.power.Fuse.{Fuse}
-use Rattle.ygg_histories.specs.Noted.{Note}
+use Rattle.ygg_script.specs.ygg_disk.declared.power.Fuse.{Fuse}
+use Rattle.ygg_script.specs.ygg_histories.Noted.{Note}
 use Rattle.ygg_run_text.specs.Named.{EndsAt}
 
 -- all are whole

@@ -1,20 +1,20 @@
 -- What a script names is a history of the file's layers.
 use Rattle.std.proofs.Common.{◌≡◌, List, [], ◌∷◌, ◌++◌, Option, Some, None, refl, sym, ap, ◌∙◌, subst}
 use Rattle.ygg_syntax.specs.declared.tree.File.{File}
-use Rattle.ygg_disk.specs.declared.power.Fuse.{Fuse}
-use Rattle.ygg_meaning.specs.Environments.{Env}
-use Rattle.ygg_meaning.specs.Machine.{Picks, State, Machine}
-use Rattle.ygg_meaning.specs.DiskMachine.{disk_store}
-use Rattle.ygg_histories.specs.Stack.{BottomOf, layers_of}
-use Rattle.ygg_histories.specs.Under.{Failure, InCall, InTick, Between, FailsBy, WakesAfter, Survives}
-use Rattle.ygg_histories.specs.Mirror.{SameOn, Mirrors}
-use Rattle.ygg_histories.specs.History.{Entry, Called, Cut, Ticked, CutTick, Lost, Step, Steps}
-use Rattle.ygg_histories.specs.Trace.{Standing, Up, Down, Moment, Traces, entries_of}
-use Rattle.ygg_histories.specs.Noted.{Note}
-use Rattle.ygg_histories.specs.Grounds.{ArePicks}
-use Rattle.ygg_histories.specs.StepLaws.{Same}
-use Rattle.ygg_histories.proofs.Stores.{forget}
-use Rattle.ygg_histories.proofs.Traced.{steps_of}
+use Rattle.ygg_script.specs.ygg_disk.declared.power.Fuse.{Fuse}
+use Rattle.ygg_script.specs.ygg_meaning.Environments.{Env}
+use Rattle.ygg_script.specs.ygg_meaning.Machine.{Picks, State, Machine}
+use Rattle.ygg_script.specs.ygg_meaning.DiskMachine.{disk_store}
+use Rattle.ygg_script.specs.ygg_histories.Stack.{BottomOf, layers_of}
+use Rattle.ygg_script.specs.ygg_histories.Under.{Failure, InCall, InTick, Between, FailsBy, WakesAfter, Survives}
+use Rattle.ygg_script.specs.ygg_histories.Mirror.{SameOn, Mirrors}
+use Rattle.ygg_script.specs.ygg_histories.History.{Entry, Called, Cut, Ticked, CutTick, Lost, Step, Steps}
+use Rattle.ygg_script.specs.ygg_histories.Trace.{Standing, Up, Down, Moment, Traces, entries_of}
+use Rattle.ygg_script.specs.ygg_histories.Noted.{Note}
+use Rattle.ygg_script.specs.ygg_histories.Grounds.{ArePicks}
+use Rattle.ygg_script.specs.ygg_histories.StepLaws.{Same}
+use Rattle.ygg_script.proofs.of_ygg_histories.Stores.{forget}
+use Rattle.ygg_script.proofs.of_ygg_histories.Traced.{steps_of}
 use Rattle.ygg_script.specs.declared.command.Command.{Command}
 use Rattle.ygg_script.specs.declared.command.Command.TheVariants as line
 use Rattle.ygg_run_text.specs.Named.{stop_after, Happens, Names}

@@ -4,12 +4,12 @@ use Rattle.ygg_value.specs.declared.row.Value.{Value}
 use Rattle.ygg_syntax.specs.declared.tree.Block.{Block}
 use Rattle.ygg_syntax.specs.declared.tree.Operation.{Operation}
 use Rattle.ygg_syntax.specs.declared.tree.Tick.{Tick}
-use Rattle.ygg_meaning.specs.Environments.{Name, Env, bind}
-use Rattle.ygg_meaning.specs.Machine.{Picks, State, on, memory_in, TickName, Machine}
-use Rattle.ygg_meaning.specs.Shapes.{zeros_of}
-use Rattle.ygg_meaning.specs.Layer.{ClosedLayer, Layered, BlockRuns, operation_of, tick_of}
-use Rattle.ygg_histories.specs.Noted.{Note}
-use Rattle.ygg_histories.specs.Stack.{Layers, Stacked}
+use Rattle.ygg_script.specs.ygg_meaning.Environments.{Name, Env, bind}
+use Rattle.ygg_script.specs.ygg_meaning.Machine.{Picks, State, on, memory_in, TickName, Machine}
+use Rattle.ygg_script.specs.ygg_meaning.Shapes.{zeros_of}
+use Rattle.ygg_script.specs.ygg_meaning.Layer.{ClosedLayer, Layered, BlockRuns, operation_of, tick_of}
+use Rattle.ygg_script.specs.ygg_histories.Noted.{Note}
+use Rattle.ygg_script.specs.ygg_histories.Stack.{Layers, Stacked}
 use Rattle.ygg_direct.specs.Acts.{under}
 use Rattle.ygg_run_text.proofs.Alike.{End, Whole, Cut, Process, Alike, Takes, split, one_left, Follows, Steady, mute, mute_steady, sequel, sequel_steady}
 use Rattle.ygg_run_text.proofs.Blocks.{calling, ticking, waking, blocking, Tidy, block_steady}

@@ -1,3 +1,7 @@
+pub use Rattle.ygg_direct.proofs as of_ygg_direct
+pub use Rattle.ygg_script.proofs.of_ygg_histories
+pub use Rattle.ygg_script.proofs.of_ygg_report
+pub use Rattle.ygg_direct.proofs.of_ygg_type_progress
 pub mod Endings
 pub mod Alike
 pub mod Blocks

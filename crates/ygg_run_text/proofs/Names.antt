@@ -5,20 +5,20 @@ use Rattle.ygg_base.specs.declared.reason.Reason.TheVariants as reason
 use Rattle.ygg_syntax.specs.declared.tree.Declared.{Declared}
 use Rattle.ygg_syntax.specs.declared.tree.Layer.{Layer}
 use Rattle.ygg_syntax.specs.declared.tree.File.{File}
-use Rattle.ygg_syntax_count.specs.Weights.{Weights, weights_of}
-use Rattle.ygg_symbols.specs.Names.{Named, look_up, has, added}
-use Rattle.ygg_type_rules.specs.declared.scope.Signature.{Signature}
-use Rattle.ygg_type_rules.specs.TypeErrors.{none, unless}
-use Rattle.ygg_type_rules.specs.Definitions.{definitions_errors, with_definitions}
-use Rattle.ygg_type_rules.specs.Layers.{Known, Below, below_of, layer_scope, parts_errors}
-use Rattle.ygg_type_rules.specs.Files.{IsTyped, type_errors_of, disk_errors, disk_below, count_error, layer_errors, layers_errors}
-use Rattle.ygg_meaning.specs.Environments.{Name}
-use Rattle.ygg_meaning.specs.Meaning.{Functions, functions_of}
-use Rattle.ygg_meaning.specs.Layer.{ClosedLayer}
-use Rattle.ygg_histories.specs.Stack.{Layers, tables_of, layers_on, layers_of}
-use Rattle.ygg_type_sound.proofs.Names.{or_else, look_up_append}
-use Rattle.ygg_type_sound.proofs.Tests.{left, right, passed, turned, bytes_equal}
-use Rattle.ygg_type_progress.proofs.TypeErrors.{none_listed}
+use Rattle.ygg_direct.specs.ygg_syntax_count.Weights.{Weights, weights_of}
+use Rattle.ygg_direct.specs.ygg_symbols.Names.{Named, look_up, has, added}
+use Rattle.ygg_direct.specs.ygg_type_rules.declared.scope.Signature.{Signature}
+use Rattle.ygg_direct.specs.ygg_type_rules.TypeErrors.{none, unless}
+use Rattle.ygg_direct.specs.ygg_type_rules.Definitions.{definitions_errors, with_definitions}
+use Rattle.ygg_direct.specs.ygg_type_rules.Layers.{Known, Below, below_of, layer_scope, parts_errors}
+use Rattle.ygg_direct.specs.ygg_type_rules.Files.{IsTyped, type_errors_of, disk_errors, disk_below, count_error, layer_errors, layers_errors}
+use Rattle.ygg_script.specs.ygg_meaning.Environments.{Name}
+use Rattle.ygg_script.specs.ygg_meaning.Meaning.{Functions, functions_of}
+use Rattle.ygg_script.specs.ygg_meaning.Layer.{ClosedLayer}
+use Rattle.ygg_script.specs.ygg_histories.Stack.{Layers, tables_of, layers_on, layers_of}
+use Rattle.ygg_direct.specs.ygg_type_sound_proofs_Names.{or_else, look_up_append}
+use Rattle.ygg_direct.specs.ygg_type_sound_proofs_Tests.{left, right, passed, turned, bytes_equal}
+use Rattle.ygg_direct.specs.ygg_type_progress_proofs_TypeErrors.{none_listed}
 use Rattle.ygg_run_text.proofs.Layered.{Absent, Distinct}
 
 -- all of their names are known

@@ -3,13 +3,13 @@ use Rattle.std.proofs.Common.{◌≡◌, ℕ, Bool, true, List, [], ◌∷◌, O
 use Rattle.std.proofs.lemmas.List.{append-nil}
 use Rattle.ygg_value.specs.declared.row.Value.{Value}
 use Rattle.ygg_syntax.specs.declared.tree.File.{File}
-use Rattle.ygg_disk.specs.declared.power.Fuse.{Fuse}
-use Rattle.ygg_meaning.specs.Environments.{Env}
-use Rattle.ygg_meaning.specs.Progress.{Answer}
-use Rattle.ygg_meaning.specs.Machine.{Picks, State, Machine}
-use Rattle.ygg_histories.specs.Under.{InCall, InTick, Between}
-use Rattle.ygg_histories.specs.Trace.{Standing, Up, Down, Moment, Calls, Ticks, Fails, WakeFails, Wakes, Leads, Traces}
-use Rattle.ygg_histories.specs.Noted.{Note, picks_in}
+use Rattle.ygg_script.specs.ygg_disk.declared.power.Fuse.{Fuse}
+use Rattle.ygg_script.specs.ygg_meaning.Environments.{Env}
+use Rattle.ygg_script.specs.ygg_meaning.Progress.{Answer}
+use Rattle.ygg_script.specs.ygg_meaning.Machine.{Picks, State, Machine}
+use Rattle.ygg_script.specs.ygg_histories.Under.{InCall, InTick, Between}
+use Rattle.ygg_script.specs.ygg_histories.Trace.{Standing, Up, Down, Moment, Calls, Ticks, Fails, WakeFails, Wakes, Leads, Traces}
+use Rattle.ygg_script.specs.ygg_histories.Noted.{Note, picks_in}
 use Rattle.ygg_direct.specs.Acts.{Taken}
 use Rattle.ygg_script.specs.declared.command.Command.{Command}
 use Rattle.ygg_script.specs.declared.command.Command.TheVariants.{Call, Tick, Lost, Fail, Keep}

@@ -1,11 +1,11 @@
 -- The lines of disk calls by the events that show them.
 use Rattle.std.proofs.Common.{◌≡◌, ℕ, Bool, true, false, List, [], ◌∷◌, ◌++◌, refl, ap, ◌∙◌}
 use Rattle.std.specs.List.{flat_map}
-use Rattle.ygg_disk.specs.Disk.{Call, Read, Write, Flush}
-use Rattle.ygg_disk.specs.Power.{event_of, shown}
-use Rattle.ygg_disk.specs.declared.turn.Event.{Event}
-use Rattle.ygg_histories.specs.Noted.{Note}
-use Rattle.ygg_report.specs.Lines.{ended}
+use Rattle.ygg_script.specs.ygg_disk.Disk.{Call, Read, Write, Flush}
+use Rattle.ygg_script.specs.ygg_disk.Power.{event_of, shown}
+use Rattle.ygg_script.specs.ygg_disk.declared.turn.Event.{Event}
+use Rattle.ygg_script.specs.ygg_histories.Noted.{Note}
+use Rattle.ygg_script.specs.ygg_report.Lines.{ended}
 use Rattle.ygg_run_text.specs.Lines.{call_text, calls_lines, events_of, note_in}
 
 -- the lines of the disk calls that events show

@@ -1,14 +1,14 @@
 -- A script has one text, or is refused at one line; and what it names is a history.
 use Rattle.std.specs.Prelude.{◌≡◌, ℕ, List, Option}
 use Rattle.ygg_syntax.specs.declared.tree.File.{File}
-use Rattle.ygg_type_rules.specs.Files.{IsTyped}
-use Rattle.ygg_disk.specs.declared.power.Fuse.{Fuse}
-use Rattle.ygg_meaning.specs.Environments.{Env}
-use Rattle.ygg_meaning.specs.Machine.{Picks, State, Machine}
-use Rattle.ygg_histories.specs.Stack.{BottomOf}
-use Rattle.ygg_histories.specs.History.{History}
-use Rattle.ygg_histories.specs.Trace.{Standing, Moment, entries_of}
-use Rattle.ygg_histories.specs.Noted.{Note}
+use Rattle.ygg_direct.specs.ygg_type_rules.Files.{IsTyped}
+use Rattle.ygg_script.specs.ygg_disk.declared.power.Fuse.{Fuse}
+use Rattle.ygg_script.specs.ygg_meaning.Environments.{Env}
+use Rattle.ygg_script.specs.ygg_meaning.Machine.{Picks, State, Machine}
+use Rattle.ygg_script.specs.ygg_histories.Stack.{BottomOf}
+use Rattle.ygg_script.specs.ygg_histories.History.{History}
+use Rattle.ygg_script.specs.ygg_histories.Trace.{Standing, Moment, entries_of}
+use Rattle.ygg_script.specs.ygg_histories.Noted.{Note}
 use Rattle.ygg_script.specs.declared.command.Command.{Command}
 use Rattle.ygg_run_text.specs.Named.{Happens, Leading, IsMissed}
 use Rattle.ygg_run_text.specs.Played.{IsFresh, Plays, MissesAt, Noted, IsPlay}

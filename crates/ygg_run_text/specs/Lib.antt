@@ -1,3 +1,14 @@
+pub use Rattle.ygg_direct.specs as ygg_direct
+pub use Rattle.ygg_script.specs.ygg_disk
+pub use Rattle.ygg_script.specs.ygg_histories_proofs_Mirrored
+pub use Rattle.ygg_script.specs.ygg_histories_proofs_Monotone
+pub use Rattle.ygg_script.specs.ygg_histories
+pub use Rattle.ygg_script.specs.ygg_meaning
+pub use Rattle.ygg_script.specs.ygg_report
+pub use Rattle.ygg_script.specs.ygg_sched
+pub use Rattle.ygg_script.specs as ygg_script
+pub use Rattle.ygg_direct.specs.ygg_type_progress_proofs_Grammar
+pub use Rattle.ygg_direct.specs.ygg_type_progress
 pub mod Named
 pub mod Lines
 pub mod Played

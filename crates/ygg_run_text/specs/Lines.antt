@@ -4,15 +4,15 @@ use Rattle.std.specs.Fmt.{decimal}
 use Rattle.std.specs.List.{flat_map, count_by}
 use Rattle.ygg_value.specs.Number.{Number}
 use Rattle.ygg_value.specs.declared.row.Value.TheVariants.{Row}
-use Rattle.ygg_disk.specs.Disk.{Read, Write, Flush}
-use Rattle.ygg_disk.specs.Power.{event_of, shown}
-use Rattle.ygg_disk.specs.declared.turn.Did.TheVariants as did
-use Rattle.ygg_disk.specs.declared.turn.Event.{Event}
-use Rattle.ygg_meaning.specs.Progress.{Answer}
-use Rattle.ygg_histories.specs.Trace.{Moment, Calls, Ticks, Fails, WakeFails, Wakes}
-use Rattle.ygg_histories.specs.Noted.{Note}
-use Rattle.ygg_report.specs.Lines.{ended}
-use Rattle.ygg_sched.specs.Values.{value_text}
+use Rattle.ygg_script.specs.ygg_disk.Disk.{Read, Write, Flush}
+use Rattle.ygg_script.specs.ygg_disk.Power.{event_of, shown}
+use Rattle.ygg_script.specs.ygg_disk.declared.turn.Did.TheVariants as did
+use Rattle.ygg_script.specs.ygg_disk.declared.turn.Event.{Event}
+use Rattle.ygg_script.specs.ygg_meaning.Progress.{Answer}
+use Rattle.ygg_script.specs.ygg_histories.Trace.{Moment, Calls, Ticks, Fails, WakeFails, Wakes}
+use Rattle.ygg_script.specs.ygg_histories.Noted.{Note}
+use Rattle.ygg_script.specs.ygg_report.Lines.{ended}
+use Rattle.ygg_script.specs.ygg_sched.Values.{value_text}
 use Rattle.ygg_script.specs.declared.command.Command.{Command}
 use Rattle.ygg_script.specs.declared.command.Command.TheVariants.{Call, Tick, Lost, Fail, Keep}
 use Rattle.ygg_run_text.specs.Named.{notes_in}

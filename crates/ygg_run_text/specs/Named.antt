@@ -22,14 +22,14 @@ use Rattle.std.specs.Prelude.{
 }
 use Rattle.std.specs.List.{flat_map}
 use Rattle.ygg_syntax.specs.declared.tree.File.{File}
-use Rattle.ygg_type.specs.Typed.{ticks_at}
-use Rattle.ygg_disk.specs.declared.power.Fuse.{Fuse}
-use Rattle.ygg_meaning.specs.Environments.{Name, Env}
-use Rattle.ygg_meaning.specs.Progress.{Answer}
-use Rattle.ygg_meaning.specs.Machine.{Picks, TickName, Machine}
-use Rattle.ygg_histories.specs.Under.{InCall, InTick, Between}
-use Rattle.ygg_histories.specs.Trace.{Standing, Moment, Calls, Ticks, Fails, WakeFails, Wakes, Traces}
-use Rattle.ygg_histories.specs.Noted.{Note, picks_in}
+use Rattle.ygg_script.specs.ygg_type.Typed.{ticks_at}
+use Rattle.ygg_script.specs.ygg_disk.declared.power.Fuse.{Fuse}
+use Rattle.ygg_script.specs.ygg_meaning.Environments.{Name, Env}
+use Rattle.ygg_script.specs.ygg_meaning.Progress.{Answer}
+use Rattle.ygg_script.specs.ygg_meaning.Machine.{Picks, TickName, Machine}
+use Rattle.ygg_script.specs.ygg_histories.Under.{InCall, InTick, Between}
+use Rattle.ygg_script.specs.ygg_histories.Trace.{Standing, Moment, Calls, Ticks, Fails, WakeFails, Wakes, Traces}
+use Rattle.ygg_script.specs.ygg_histories.Noted.{Note, picks_in}
 use Rattle.ygg_direct.specs.Acts.{Taken}
 use Rattle.ygg_script.specs.declared.command.Command.{Command}
 use Rattle.ygg_script.specs.declared.command.Command.TheVariants.{Call, Tick, Lost, Fail, Keep}

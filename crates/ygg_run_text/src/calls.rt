@@ -2,15 +2,14 @@
 
 ghost use Rattle.std.specs.Prelude.{◌≡◌, ◌++◌, List, codes, OnOk};
 ghost use Rattle.std.specs.Fmt.{decimal};
-ghost use Rattle.ygg_histories.specs.Noted.{Note};
-ghost use Rattle.ygg_report.specs.Lines.{ended};
-ghost use Rattle.ygg_sched.specs.Values.{value_text};
+ghost use Rattle.ygg_script.specs.ygg_histories.Noted.{Note};
+ghost use Rattle.ygg_script.specs.ygg_report.Lines.{ended};
+ghost use Rattle.ygg_script.specs.ygg_sched.Values.{value_text};
 ghost use Rattle.ygg_run_text.specs.Lines.{cut_text, kept_text, call_text, calls_lines, events_of, note_in};
 
 use std::alloc::Global;
 use ygg_base::{Duplicate, NoMemory, Text};
-use ygg_disk::{Did, Event};
-use ygg_sched::put_value;
+use ygg_script::{Did, Event, put_value};
 use ygg_value::{Row, Value};
 
 /// Adds a number in decimal after some words. Its only error is out of memory.

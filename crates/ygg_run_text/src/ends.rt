@@ -3,14 +3,13 @@
 ghost use Rattle.std.specs.Prelude.{◌≡◌, ◌++◌, codes, OnOk};
 ghost use Rattle.std.specs.List.{count_by};
 ghost use Rattle.std.specs.Option.{option_copied};
-ghost use Rattle.ygg_report.specs.Lines.{ended};
+ghost use Rattle.ygg_script.specs.ygg_report.Lines.{ended};
 ghost use Rattle.ygg_run_text.specs.Lines.{answer_text, is_played, played_line};
 ghost use Rattle.ygg_run_text.specs.Played.{unreached_at};
 
 use std::alloc::Global;
 use ygg_base::{NoMemory, Refusal, Text};
-use ygg_sched::put_value;
-use ygg_script::Command;
+use ygg_script::{Command, put_value};
 use ygg_value::Value;
 
 /// Adds the line of a whole operation or background step: `answer VALUE`, or `done` where there is no answer. Its only error is out of memory.

@@ -18,3 +18,8 @@ mod law;
 pub use calls::put_events;
 pub use ends::{played, put_answer, put_down, put_played, put_up, unreached};
 pub use law::{files_have_one_way, plays_are_histories, scripts_have_one_text};
+pub use ygg_direct::typed_histories;
+pub use ygg_script::{
+    Command, Event, Events, Fuse, Picks, Power, Script, Typed, left_goes_on, plain_script, put,
+    read_script,
+};

@@ -9,22 +9,22 @@ use Rattle.ygg_syntax.specs.declared.tree.Layer.{Layer}
 use Rattle.ygg_syntax.specs.declared.tree.Operation.{Operation}
 use Rattle.ygg_syntax.specs.declared.tree.Tick.{Tick}
 use Rattle.ygg_syntax.specs.declared.tree.File.{File}
-use Rattle.ygg_symbols.specs.Names.{Named}
-use Rattle.ygg_type_rules.specs.declared.scope.Signature.{Signature}
-use Rattle.ygg_type_rules.specs.Shapes.{shape_of}
-use Rattle.ygg_type_rules.specs.Definitions.{parameter_shapes}
-use Rattle.ygg_type_rules.specs.Layers.{operation_signature}
-use Rattle.ygg_type.specs.Typed.{operations_at}
-use Rattle.ygg_meaning.specs.Environments.{Name}
-use Rattle.ygg_type_sound.specs.Fitting.{fits_wanted, all_fit}
-use Rattle.ygg_type_sound.proofs.Fits.{value_fits}
-use Rattle.ygg_eval_lower.specs.Layers.{signatures_at, signatures_of}
-use Rattle.ygg_eval_lower.specs.Lower.{IsCallable}
-use Rattle.ygg_sched.specs.Fitting.{AreOfTypes}
-use Rattle.ygg_script.specs.Places.{top_operations}
-use Rattle.ygg_script.specs.Fitting.{IsCallOf, IsTickOf}
+use Rattle.ygg_machine.specs.ygg_symbols.Names.{Named}
+use Rattle.ygg_machine.specs.ygg_type_rules.declared.scope.Signature.{Signature}
+use Rattle.ygg_machine.specs.ygg_type_rules.Shapes.{shape_of}
+use Rattle.ygg_machine.specs.ygg_type_rules.Definitions.{parameter_shapes}
+use Rattle.ygg_machine.specs.ygg_type_rules.Layers.{operation_signature}
+use Rattle.ygg_machine.specs.ygg_type.Typed.{operations_at}
+use Rattle.ygg_machine.specs.ygg_meaning.Environments.{Name}
+use Rattle.ygg_machine.specs.ygg_type_sound.Fitting.{fits_wanted, all_fit}
+use Rattle.ygg_machine.specs.ygg_type_sound_proofs_Fits.{value_fits}
+use Rattle.ygg_machine.specs.ygg_eval_lower.Layers.{signatures_at, signatures_of}
+use Rattle.ygg_machine.specs.ygg_eval_lower.Lower.{IsCallable}
+use Rattle.ygg_run_play.specs.ygg_sched.Fitting.{AreOfTypes}
+use Rattle.ygg_run_play.specs.ygg_script.Places.{top_operations}
+use Rattle.ygg_run_play.specs.ygg_script.Fitting.{IsCallOf, IsTickOf}
 use Rattle.ygg_machine.specs.Commands.{IsTickAt, HasTick}
-use Rattle.ygg_run_text.specs.Named.{operation_name, tick_name}
+use Rattle.ygg_run_play.specs.ygg_run_text.Named.{operation_name, tick_name}
 
 -- values of their types fit where these are wanted
 types_fit : (ds : List Declared) (vs : List Value) → AreOfTypes ds vs → all_fit (parameter_shapes ds) vs ≡ true

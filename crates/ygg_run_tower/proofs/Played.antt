@@ -5,27 +5,27 @@ use Rattle.std.proofs.lemmas.List.Elements.{All-nil, All-cons}
 use Rattle.ygg_base.specs.Outside.{Rose}
 use Rattle.ygg_value.specs.declared.row.Value.{Value}
 use Rattle.ygg_syntax.specs.declared.tree.File.{File}
-use Rattle.ygg_disk.specs.Ground.{Meaning}
-use Rattle.ygg_disk.specs.Kinds.{Disk}
-use Rattle.ygg_disk.specs.Power.{Begun}
-use Rattle.ygg_disk.specs.declared.power.Fuse.{Fuse}
-use Rattle.ygg_disk.specs.declared.power.Power.{Power}
-use Rattle.ygg_meaning.specs.Environments.{Name, Env}
-use Rattle.ygg_meaning.specs.Progress.{Answer}
-use Rattle.ygg_meaning.specs.Machine.{State, TickName, Machine}
-use Rattle.ygg_histories.specs.Mirror.{SameOn, FormattedIf, Mirrors}
-use Rattle.ygg_histories.specs.Noted.{Note}
-use Rattle.ygg_histories.specs.Grounds.{TellsBase, TellsZeros}
-use Rattle.ygg_histories.specs.Trace.{Up, Down, Leads}
-use Rattle.ygg_eval_lower.specs.Lower.{PowerLoss, Ending, Whole, Failed}
-use Rattle.ygg_eval_lower.specs.Lower as ending
+use Rattle.ygg_machine.specs.ygg_disk.Ground.{Meaning}
+use Rattle.ygg_machine.specs.ygg_disk.Kinds.{Disk}
+use Rattle.ygg_machine.specs.ygg_disk.Power.{Begun}
+use Rattle.ygg_machine.specs.ygg_disk.declared.power.Fuse.{Fuse}
+use Rattle.ygg_machine.specs.ygg_disk.declared.power.Power.{Power}
+use Rattle.ygg_machine.specs.ygg_meaning.Environments.{Name, Env}
+use Rattle.ygg_machine.specs.ygg_meaning.Progress.{Answer}
+use Rattle.ygg_machine.specs.ygg_meaning.Machine.{State, TickName, Machine}
+use Rattle.ygg_run_play.specs.ygg_histories.Mirror.{SameOn, FormattedIf, Mirrors}
+use Rattle.ygg_run_play.specs.ygg_histories.Noted.{Note}
+use Rattle.ygg_run_play.specs.ygg_histories.Grounds.{TellsBase, TellsZeros}
+use Rattle.ygg_run_play.specs.ygg_histories.Trace.{Up, Down, Leads}
+use Rattle.ygg_machine.specs.ygg_eval_lower.Lower.{PowerLoss, Ending, Whole, Failed}
+use Rattle.ygg_machine.specs.ygg_eval_lower.Lower as ending
 use Rattle.ygg_machine.specs.Bottoms.{bottom_on, View, ViewStands, ViewRuns, ViewEnds, ViewLoses, StillLooks, state_seen, formats}
 use Rattle.ygg_machine.specs.Commands.{Command}
 use Rattle.ygg_machine.specs.Commands as command
 use Rattle.ygg_machine.specs.Leaves.{LeaveWhole, LeaveCut}
 use Rattle.ygg_machine.specs.Told.{SameNotes}
 use Rattle.ygg_machine.proofs.Noting.{stacks_note}
-use Rattle.ygg_run_text.specs.Played.{Noted}
+use Rattle.ygg_run_play.specs.ygg_run_text.Played.{Noted}
 use Rattle.ygg_run_play.specs.Scene.{Deed, Gives, calling, ticking, waking, Leave, AreWhole, AreCut, Ends, After}
 use Rattle.ygg_run_play.specs.declared.scene.CommandOutcome.{CommandOutcome}
 use Rattle.ygg_run_play.specs.declared.scene.CommandOutcome.TheVariants as outcome

@@ -5,13 +5,13 @@ use Rattle.std.proofs.Common.{refl, sym, subst, arith}
 use Rattle.ygg_syntax.specs.declared.tree.Declared.{Declared}
 use Rattle.ygg_syntax.specs.declared.tree.Layer.{Layer}
 use Rattle.ygg_syntax.specs.declared.tree.File.{File}
-use Rattle.ygg_meaning.specs.Meaning.{Functions, functions_of}
-use Rattle.ygg_meaning.specs.Layer.{ClosedLayer}
-use Rattle.ygg_histories.specs.Noted.{NotedDisk}
-use Rattle.ygg_histories.specs.Stack.{Layers, Stacked, layers_on, tables_of}
+use Rattle.ygg_machine.specs.ygg_meaning.Meaning.{Functions, functions_of}
+use Rattle.ygg_machine.specs.ygg_meaning.Layer.{ClosedLayer}
+use Rattle.ygg_run_play.specs.ygg_histories.Noted.{NotedDisk}
+use Rattle.ygg_run_play.specs.ygg_histories.Stack.{Layers, Stacked, layers_on, tables_of}
 use Rattle.ygg_run_play.specs.Scene.{FallsAfterAll}
 use Rattle.ygg_run_play.proofs.Falling.{noted_falls_after_all}
-use Rattle.ygg_run_text.specs.Played.{Noted}
+use Rattle.ygg_run_play.specs.ygg_run_text.Played.{Noted}
 
 -- a topmost layer, and those below it
 abbrev HasTop : Layers → Type 0

@@ -3,15 +3,15 @@ use Rattle.std.specs.Prelude.{◌≡◌, ℕ, true, [], length, Option, Some, No
 use Rattle.std.proofs.Common.{refl}
 use Rattle.ygg_base.specs.declared.geometry.DiskKind.{DiskKind}
 use Rattle.ygg_syntax.specs.declared.tree.File.{File}
-use Rattle.ygg_disk.specs.Ground.{Meaning}
-use Rattle.ygg_disk.specs.Kinds.{Disk, model_of}
-use Rattle.ygg_disk.specs.Meanings.{disk_meaning}
-use Rattle.ygg_meaning.specs.Environments.{Env}
-use Rattle.ygg_meaning.specs.Machine.{State}
-use Rattle.ygg_meaning.specs.DiskMachine.{tables_in}
-use Rattle.ygg_histories.specs.Noted.{disk_in}
-use Rattle.ygg_histories.specs.Grounds.{TellsZeros}
-use Rattle.ygg_eval_lower.specs.Lower.{Ending, Whole, Down}
+use Rattle.ygg_machine.specs.ygg_disk.Ground.{Meaning}
+use Rattle.ygg_machine.specs.ygg_disk.Kinds.{Disk, model_of}
+use Rattle.ygg_machine.specs.ygg_disk.Meanings.{disk_meaning}
+use Rattle.ygg_machine.specs.ygg_meaning.Environments.{Env}
+use Rattle.ygg_machine.specs.ygg_meaning.Machine.{State}
+use Rattle.ygg_machine.specs.ygg_meaning.DiskMachine.{tables_in}
+use Rattle.ygg_run_play.specs.ygg_histories.Noted.{disk_in}
+use Rattle.ygg_run_play.specs.ygg_histories.Grounds.{TellsZeros}
+use Rattle.ygg_machine.specs.ygg_eval_lower.Lower.{Ending, Whole, Down}
 use Rattle.ygg_machine.specs.Grounded.{HasRows}
 use Rattle.ygg_machine.specs.Bottoms.{View, ViewStands, ViewRuns, memories_of}
 use Rattle.ygg_run_play.specs.declared.scene.CommandOutcome.{CommandOutcome}

@@ -3,16 +3,14 @@
 ghost use Rattle.std.specs.Prelude.{◌≡◌, suc, IfOk, []};
 ghost use Rattle.ygg_base.specs.declared.geometry.DiskKind.TheVariants.{Async, Sync};
 ghost use Rattle.ygg_syntax.specs.declared.tree.File.{File};
-ghost use Rattle.ygg_disk.specs.Meanings.{disk_meaning};
+ghost use Rattle.ygg_machine.specs.ygg_disk.Meanings.{disk_meaning};
 ghost use Rattle.ygg_machine.specs.Viewed.{floor_seen};
 ghost use Rattle.ygg_run_tower.specs.Playing.{IsUnwritten, bare};
 
 use crate::playable::Playable;
 use std::alloc::Global;
-use ygg_disk::{AsyncDisk, SyncDisk, fresh_async, fresh_sync};
 use ygg_list::NoMemory;
-use ygg_machine::{Floor, Grounded};
-use ygg_type::Typed;
+use ygg_machine::{AsyncDisk, Floor, Grounded, SyncDisk, Typed, fresh_async, fresh_sync};
 
 /// The synchronous disk of a file, of zeros, as a ground. Its only error is out of memory.
 pub fn sync_ground(alloc: Global, typed: &Typed) -> Result<Grounded<SyncDisk>, NoMemory>

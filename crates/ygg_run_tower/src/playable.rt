@@ -1,7 +1,6 @@
 //! Layers on a disk in memory.
 
-use ygg_disk::{AsyncDisk, Ground, SyncDisk};
-use ygg_machine::{Floor, Grounded, Viewed};
+use ygg_machine::{AsyncDisk, Floor, Ground, Grounded, SyncDisk, Viewed};
 
 /// A disk in memory as a ground.
 pub trait InMemory: Ground {

@@ -1,16 +1,14 @@
 //! Layers as a scene.
 
 ghost use Rattle.std.specs.Prelude.{◌≡◌, ◌≢◌, Ok};
-ghost use Rattle.ygg_eval_lower.specs.Lower.{Failed, ending_of};
+ghost use Rattle.ygg_machine.specs.ygg_eval_lower.Lower.{Failed, ending_of};
 ghost use Rattle.ygg_run_tower.specs.Playing.{ending_in};
 
 use crate::playable::Playable;
 use std::marker::Model;
-use ygg_disk::{Power, Turn};
 use ygg_list::NoMemory;
-use ygg_machine::{Floor, viewed};
+use ygg_machine::{Floor, Power, Turn, Typed, viewed};
 use ygg_run_play::{CommandOutcome, Scene};
-use ygg_type::Typed;
 use ygg_value::Values;
 
 /// The layers of a file on its disk in memory, which contracts see as the layers alone.
@@ -43,7 +41,7 @@ fn outcome_of(turn: Turn) -> CommandOutcome
 impl<W: Playable + Drop> Scene for Staged<W> {
     ghost use Rattle.std.specs.Prelude.{length};
     ghost use Rattle.ygg_machine.specs.Viewed.{floor_seen};
-    ghost use Rattle.ygg_run_text.specs.Played.{Noted};
+    ghost use Rattle.ygg_run_play.specs.ygg_run_text.Played.{Noted};
     ghost use Rattle.ygg_run_tower.specs.Playing.{state_played, IsUnwritten, Plays, MayWake};
     ghost use Rattle.ygg_run_tower.specs.Falling.{falls_in_layers};
 

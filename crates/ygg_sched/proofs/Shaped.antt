@@ -41,8 +41,8 @@ use Rattle.ygg_value.specs.declared.shape.Shape.{Shape}
 use Rattle.ygg_value.specs.declared.shape.Shape.TheVariants as shape
 use Rattle.ygg_syntax.specs.declared.tree.TypeText.{TypeText}
 use Rattle.ygg_syntax.specs.declared.tree.TypeText.TheVariants as text
-use Rattle.ygg_type_rules.specs.Limits.{width_fits, words_fit, rows_fit, words_fit_in}
-use Rattle.ygg_type_rules.specs.Shapes.{shape_of}
+use Rattle.ygg_type.specs.ygg_type_rules.Limits.{width_fits, words_fit, rows_fit, words_fit_in}
+use Rattle.ygg_type.specs.ygg_type_rules.Shapes.{shape_of}
 use Rattle.ygg_sched.specs.Numbers.{is_short, within, hex_after, number_in}
 use Rattle.ygg_sched.specs.Values.{exactly, row_in, rows_in, shaped_in, value_in}
 use Rattle.ygg_sched.specs.Words.{parts}

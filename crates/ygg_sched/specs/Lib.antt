@@ -1,3 +1,15 @@
+pub use Rattle.ygg_histories.specs.ygg_disk
+pub use Rattle.ygg_histories.proofs.Mirrored as ygg_histories_proofs_Mirrored
+pub use Rattle.ygg_histories.proofs.Monotone as ygg_histories_proofs_Monotone
+pub use Rattle.ygg_histories.specs as ygg_histories
+pub use Rattle.ygg_histories.specs.ygg_meaning_proofs_Exact
+pub use Rattle.ygg_histories.specs.ygg_meaning
+pub use Rattle.ygg_report.specs as ygg_report
+pub use Rattle.ygg_type.specs.ygg_symbols
+pub use Rattle.ygg_type.specs.ygg_syntax_count
+pub use Rattle.ygg_type.proofs.Least as ygg_type_proofs_Least
+pub use Rattle.ygg_type.specs as ygg_type
+pub use Rattle.ygg_type.specs.ygg_type_rules
 pub mod Flaws
 pub mod Picks
 pub mod Sites

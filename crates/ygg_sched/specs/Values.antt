@@ -8,7 +8,7 @@ use Rattle.ygg_value.specs.declared.row.Value.TheVariants.{Word, Row, Table}
 use Rattle.ygg_value.specs.declared.shape.Shape.{Shape}
 use Rattle.ygg_value.specs.declared.shape.Shape.TheVariants as shape
 use Rattle.ygg_syntax.specs.declared.tree.TypeText.{TypeText}
-use Rattle.ygg_type_rules.specs.Shapes.{shape_of}
+use Rattle.ygg_type.specs.ygg_type_rules.Shapes.{shape_of}
 use Rattle.ygg_sched.specs.Words.{parts}
 use Rattle.ygg_sched.specs.Numbers.{number_in, number_text}
 

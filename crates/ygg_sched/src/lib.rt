@@ -47,3 +47,7 @@ pub use schedule::{Halt, Run, Schedule};
 pub use value_reading::value_in;
 pub use value_writing::put_value;
 pub use words::{after_front, cut};
+pub use ygg_histories::law::left_goes_on;
+pub use ygg_histories::{Did, Event, Events, Fuse, Picks, Power, Turn};
+pub use ygg_report::{holds_with, hypothesis, put, refused, shows};
+pub use ygg_type::{Typed, choices};

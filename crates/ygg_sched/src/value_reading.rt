@@ -11,7 +11,7 @@ use crate::words::cut;
 use std::alloc::Global;
 use ygg_base::NoMemory;
 use ygg_syntax::tree::TypeText;
-use ygg_type_scope::shapes::named;
+use ygg_type::named;
 use ygg_value::{Row, Shape, Table, Value, Word, row_write, table_write, zero};
 
 /// A place, as a word.

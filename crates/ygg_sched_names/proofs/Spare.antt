@@ -2,20 +2,20 @@
 use Rattle.std.proofs.Common.{◌≡◌, ℕ, ◌+◌, List, [], ◌∷◌, map, None, refl}
 use Rattle.ygg_value.specs.declared.row.Value.{Value}
 use Rattle.ygg_syntax.specs.declared.tree.DiskText.{DiskText}
-use Rattle.ygg_meaning.specs.Layer.{ClosedLayer}
-use Rattle.ygg_meaning.specs.Obligations.{Obligation, Init, CallOf, CutOf, TickOf, CutTickOf, Idle, Again, Schedule, obligations_of}
-use Rattle.ygg_meaning.specs.Refines.{Below}
-use Rattle.ygg_histories.specs.Claims.{Claim, claims_at, claims_on}
-use Rattle.ygg_histories.specs.Stack.{Layers, below_of}
-use Rattle.ygg_rules.specs.declared.rule.RuleKind.{RuleKind}
-use Rattle.ygg_bank.specs.Values.{Inputs}
-use Rattle.ygg_sym_expr.specs.Exprs.{SymFunctions}
-use Rattle.ygg_oblige_terms.specs.Numbers.{Numbers, numbers_of, arguments_of}
-use Rattle.ygg_oblige_terms.specs.States.{state_words}
-use Rattle.ygg_oblige_terms.specs.Terms.{after_layers}
-use Rattle.ygg_oblige_pieces.specs.Inputs.{given_env}
-use Rattle.ygg_oblige_pieces.specs.States.{given_stand}
-use Rattle.ygg_oblige_pieces.specs.Worth.{Stand}
+use Rattle.ygg_replay_text.specs.ygg_meaning.Layer.{ClosedLayer}
+use Rattle.ygg_replay_text.specs.ygg_meaning.Obligations.{Obligation, Init, CallOf, CutOf, TickOf, CutTickOf, Idle, Again, Schedule, obligations_of}
+use Rattle.ygg_replay_text.specs.ygg_meaning.Refines.{Below}
+use Rattle.ygg_replay_text.specs.ygg_histories.Claims.{Claim, claims_at, claims_on}
+use Rattle.ygg_replay_text.specs.ygg_histories.Stack.{Layers, below_of}
+use Rattle.ygg_oblige_schedules.specs.ygg_rules.declared.rule.RuleKind.{RuleKind}
+use Rattle.ygg_oblige_schedules.specs.ygg_bank.Values.{Inputs}
+use Rattle.ygg_oblige_schedules.specs.ygg_sym_expr.Exprs.{SymFunctions}
+use Rattle.ygg_oblige_schedules.specs.ygg_oblige_terms.Numbers.{Numbers, numbers_of, arguments_of}
+use Rattle.ygg_oblige_schedules.specs.ygg_oblige_terms.States.{state_words}
+use Rattle.ygg_oblige_schedules.specs.ygg_oblige_terms.Terms.{after_layers}
+use Rattle.ygg_oblige_schedules.specs.ygg_oblige_pieces.Inputs.{given_env}
+use Rattle.ygg_oblige_schedules.specs.ygg_oblige_pieces.States.{given_stand}
+use Rattle.ygg_oblige_schedules.specs.ygg_oblige_pieces.Worth.{Stand}
 use Rattle.ygg_oblige_schedules.specs.Schedules.{values_of, schedule_from, schedules_of, layer_schedules, all_schedules}
 use Rattle.ygg_sched_names.proofs.Lists.{Zipped, zipped_append}
 

@@ -8,13 +8,13 @@ use Rattle.ygg_syntax.specs.declared.tree.Operation.{Operation}
 use Rattle.ygg_syntax.specs.declared.tree.Tick.{Tick}
 use Rattle.ygg_syntax.specs.declared.tree.Layer.{Layer}
 use Rattle.ygg_syntax.specs.declared.tree.File.{File}
-use Rattle.ygg_syntax_count.specs.Weights.{Weights, weights_of}
-use Rattle.ygg_symbols.specs.Names.{Named, look_up, has, added}
-use Rattle.ygg_type_rules.specs.declared.scope.Signature.{Signature}
-use Rattle.ygg_type_rules.specs.TypeErrors.{none, unless}
-use Rattle.ygg_type_rules.specs.Scopes.{Scope}
-use Rattle.ygg_type_rules.specs.Definitions.{definitions_errors, with_definitions}
-use Rattle.ygg_type_rules.specs.Layers.{
+use Rattle.ygg_accept.specs.ygg_syntax_count.Weights.{Weights, weights_of}
+use Rattle.ygg_accept.specs.ygg_symbols.Names.{Named, look_up, has, added}
+use Rattle.ygg_accept.specs.ygg_type_rules.declared.scope.Signature.{Signature}
+use Rattle.ygg_accept.specs.ygg_type_rules.TypeErrors.{none, unless}
+use Rattle.ygg_accept.specs.ygg_type_rules.Scopes.{Scope}
+use Rattle.ygg_accept.specs.ygg_type_rules.Definitions.{definitions_errors, with_definitions}
+use Rattle.ygg_accept.specs.ygg_type_rules.Layers.{
   Known,
   Below,
   below_of,
@@ -29,10 +29,10 @@ use Rattle.ygg_type_rules.specs.Layers.{
   ticks_errors,
   parts_errors,
 }
-use Rattle.ygg_type_rules.specs.Files.{IsTyped, type_errors_of, disk_errors, disk_below, count_error, layer_errors, layers_errors}
-use Rattle.ygg_type_sound.proofs.Names.{or_else, look_up_append}
-use Rattle.ygg_type_sound.proofs.Tests.{left, right, passed, turned, bytes_equal}
-use Rattle.ygg_type_progress.proofs.TypeErrors.{none_listed}
+use Rattle.ygg_accept.specs.ygg_type_rules.Files.{IsTyped, type_errors_of, disk_errors, disk_below, count_error, layer_errors, layers_errors}
+use Rattle.ygg_replay_text.specs.ygg_type_sound_proofs_Names.{or_else, look_up_append}
+use Rattle.ygg_replay_text.specs.ygg_type_sound_proofs_Tests.{left, right, passed, turned, bytes_equal}
+use Rattle.ygg_replay_text.specs.ygg_type_progress_proofs_TypeErrors.{none_listed}
 use Rattle.ygg_sched_names.proofs.Apart.{Differs, Apart}
 use Rattle.ygg_sched_names.proofs.Keys.{OwnNames, operation_name, tick_name, layer_name}
 

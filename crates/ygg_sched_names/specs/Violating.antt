@@ -1,14 +1,14 @@
 -- The schedules that an environment names, in code, which violate their obligations.
 use Rattle.std.specs.Prelude.{◌≡◌, ℕ, ◌<◌, ◌^◌, List, slice_get, Some, IfSome}
 use Rattle.ygg_syntax.specs.declared.tree.File.{File}
-use Rattle.ygg_histories.specs.Claims.{Claim, ClaimViolated, claims_of}
-use Rattle.ygg_histories.specs.Stack.{layers_of}
-use Rattle.ygg_rules.specs.declared.rule.RuleKind.{RuleKind}
-use Rattle.ygg_bank.specs.Values.{Inputs}
-use Rattle.ygg_sym_expr.specs.Exprs.{SymFunctions}
-use Rattle.ygg_oblige_terms.specs.Meaning.{claim_name}
+use Rattle.ygg_replay_text.specs.ygg_histories.Claims.{Claim, ClaimViolated, claims_of}
+use Rattle.ygg_replay_text.specs.ygg_histories.Stack.{layers_of}
+use Rattle.ygg_oblige_schedules.specs.ygg_rules.declared.rule.RuleKind.{RuleKind}
+use Rattle.ygg_oblige_schedules.specs.ygg_bank.Values.{Inputs}
+use Rattle.ygg_oblige_schedules.specs.ygg_sym_expr.Exprs.{SymFunctions}
+use Rattle.ygg_oblige_schedules.specs.ygg_oblige_terms.Meaning.{claim_name}
 use Rattle.ygg_oblige_schedules.specs.Schedules.{all_schedules}
-use Rattle.ygg_sched.specs.declared.schedule.Schedule.{Schedule}
+use Rattle.ygg_replay_text.specs.ygg_sched.declared.schedule.Schedule.{Schedule}
 use Rattle.ygg_replay_text.specs.Shown.{meant}
 
 module _ (kinds : List RuleKind) (terms : SymFunctions) (f : File) (inputs : Inputs) (place : ℕ) where

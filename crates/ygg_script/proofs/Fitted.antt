@@ -41,7 +41,7 @@ use Rattle.ygg_syntax.specs.declared.tree.Operation.{Operation}
 use Rattle.ygg_syntax.specs.declared.tree.Tick as tree
 use Rattle.ygg_syntax.specs.declared.tree.Layer.{Layer}
 use Rattle.ygg_syntax.specs.declared.tree.File.{File}
-use Rattle.ygg_type.specs.Typed.{ticks_at, operation_place, tick_place}
+use Rattle.ygg_sched.specs.ygg_type.Typed.{ticks_at, operation_place, tick_place}
 use Rattle.ygg_sched.specs.Words.{after_front}
 use Rattle.ygg_sched.specs.Numbers.{decimal_in, bits_in}
 use Rattle.ygg_sched.specs.Values.{value_in}

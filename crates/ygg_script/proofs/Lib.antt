@@ -1,3 +1,5 @@
+pub use Rattle.ygg_sched.proofs.of_ygg_histories
+pub use Rattle.ygg_sched.proofs.of_ygg_report
 pub mod Pieces
 pub mod Arguments
 pub mod Onward

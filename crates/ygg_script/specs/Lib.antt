@@ -1,3 +1,11 @@
+pub use Rattle.ygg_sched.specs.ygg_disk
+pub use Rattle.ygg_sched.specs.ygg_histories_proofs_Mirrored
+pub use Rattle.ygg_sched.specs.ygg_histories_proofs_Monotone
+pub use Rattle.ygg_sched.specs.ygg_histories
+pub use Rattle.ygg_sched.specs.ygg_meaning
+pub use Rattle.ygg_sched.specs.ygg_report
+pub use Rattle.ygg_sched.specs as ygg_sched
+pub use Rattle.ygg_sched.specs.ygg_type
 pub mod Flaws
 pub mod Names
 pub mod Places

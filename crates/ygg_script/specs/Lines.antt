@@ -4,7 +4,7 @@ use Rattle.std.specs.Prelude.{ℕ, Bool, true, false, if◌then◌else◌, List,
 use Rattle.std.specs.Option.{option_map}
 use Rattle.std.specs.Str.{bytes_eq}
 use Rattle.ygg_syntax.specs.declared.tree.File.{File}
-use Rattle.ygg_type.specs.Typed.{ticks_at, operation_place, tick_place}
+use Rattle.ygg_sched.specs.ygg_type.Typed.{ticks_at, operation_place, tick_place}
 use Rattle.ygg_sched.specs.Words.{after_front}
 use Rattle.ygg_sched.specs.Numbers.{decimal_in, bits_in}
 use Rattle.ygg_sched.specs.Lines.{Read, ◌>>=◌}

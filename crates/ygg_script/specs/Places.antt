@@ -6,7 +6,7 @@ use Rattle.ygg_syntax.specs.declared.tree.Declared.{Declared}
 use Rattle.ygg_syntax.specs.declared.tree.Operation.{Operation}
 use Rattle.ygg_syntax.specs.declared.tree.Layer.{Layer}
 use Rattle.ygg_syntax.specs.declared.tree.File.{File}
-use Rattle.ygg_type.specs.Typed.{operations_at}
+use Rattle.ygg_sched.specs.ygg_type.Typed.{operations_at}
 use Rattle.ygg_value.specs.declared.row.Value.{Value}
 use Rattle.ygg_sched.specs.Values.{value_in}
 

@@ -24,3 +24,4 @@ pub use command::{Command, Script};
 pub use flaw::ScriptFlaw;
 pub use plain::plain_script;
 pub use reading::read_script;
+pub use ygg_sched::{Did, Event, Events, Fuse, Picks, Power, Typed, left_goes_on, put, put_value};

@@ -11,8 +11,7 @@ use crate::names::{call_in, tick_in};
 use crate::places::{arguments_at, layer_named, operation_named, tick_named, values_in};
 use std::alloc::Global;
 use ygg_base::Refuse;
-use ygg_sched::{after_front, bits_in, decimal_in};
-use ygg_type::Typed;
+use ygg_sched::{Typed, after_front, bits_in, decimal_in};
 
 /// The refusal of the line of this number, for a flaw.
 pub fn refused(line: u32, flaw: ScriptFlaw) -> Refuse

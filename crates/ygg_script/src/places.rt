@@ -2,15 +2,14 @@
 
 ghost use Rattle.std.specs.Prelude.{◌≡◌, ◌<◌, ◌≤◌, ◌-◌, length, IfOk, IfSome};
 ghost use Rattle.std.specs.Option.{option_copied};
-ghost use Rattle.ygg_type.specs.Typed.{operations_at, ticks_at, operation_place, tick_place};
+ghost use Rattle.ygg_sched.specs.ygg_type.Typed.{operations_at, ticks_at, operation_place, tick_place};
 ghost use Rattle.ygg_script.specs.Left.{pieces_left};
 ghost use Rattle.ygg_script.specs.Places.{top_operations, arguments_at, layer_place, values_in};
 
 use std::alloc::Global;
 use ygg_base::{NoMemory, Text};
-use ygg_sched::{cut, value_in};
+use ygg_sched::{Typed, cut, value_in};
 use ygg_syntax::tree::{Declared, Layer};
-use ygg_type::Typed;
 use ygg_value::Values;
 
 /// The place, from 0, of the topmost layer's operation of a name. Its only error is out of memory.

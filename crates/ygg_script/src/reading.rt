@@ -13,8 +13,7 @@ use crate::flaw::ScriptFlaw;
 use crate::lines::{command_line, refused};
 use std::alloc::Global;
 use ygg_base::Refuse;
-use ygg_sched::{Rest, cut};
-use ygg_type::Typed;
+use ygg_sched::{Rest, Typed, cut};
 
 /// The next line and what is left after it, or the refusal of one that is missing or has no line feed.
 fn next_line(at: Rest<'_>) -> Result<(&[u8], Rest<'_>), Refuse>

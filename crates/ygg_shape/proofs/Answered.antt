@@ -41,16 +41,16 @@ use Rattle.ygg_value.specs.Number.{Number, Grid}
 use Rattle.ygg_value.specs.Values.{table_read, table_write}
 use Rattle.ygg_value.specs.Words.{word}
 use Rattle.ygg_value.specs.declared.shape.Shape.{Shape}
-use Rattle.ygg_rules.specs.Views.{IsWidth}
-use Rattle.ygg_rules.specs.declared.rule.RuleKind.{RuleKind}
-use Rattle.ygg_bank.proofs.Exist.{values_fit}
-use Rattle.ygg_bank.proofs.Widths.{has_width, width_fits}
-use Rattle.ygg_bank.specs.Making.{known_in, same}
-use Rattle.ygg_bank.specs.Nodes.{width_at, widths_of, HasWidth, Stands, InOrder, IsBank, Extends}
-use Rattle.ygg_bank.specs.Values.{Inputs, Values, Fits, value_of}
-use Rattle.ygg_bank.specs.declared.node.Id.{Id}
-use Rattle.ygg_bank.specs.declared.node.Node.{Node}
-use Rattle.ygg_bank.specs.declared.node.Node.TheVariants.{Const}
+use Rattle.ygg_shape_cells.specs.ygg_rules.Views.{IsWidth}
+use Rattle.ygg_shape_cells.specs.ygg_rules.declared.rule.RuleKind.{RuleKind}
+use Rattle.ygg_shape_cells.specs.ygg_bank_proofs_Exist.{values_fit}
+use Rattle.ygg_shape_cells.specs.ygg_bank_proofs_Widths.{has_width, width_fits}
+use Rattle.ygg_shape_cells.specs.ygg_bank.Making.{known_in, same}
+use Rattle.ygg_shape_cells.specs.ygg_bank.Nodes.{width_at, widths_of, HasWidth, Stands, InOrder, IsBank, Extends}
+use Rattle.ygg_shape_cells.specs.ygg_bank.Values.{Inputs, Values, Fits, value_of}
+use Rattle.ygg_shape_cells.specs.ygg_bank.declared.node.Id.{Id}
+use Rattle.ygg_shape_cells.specs.ygg_bank.declared.node.Node.{Node}
+use Rattle.ygg_shape_cells.specs.ygg_bank.declared.node.Node.TheVariants.{Const}
 use Rattle.ygg_shape.proofs.Rows.{RowIs, split_at_is}
 use Rattle.ygg_shape.proofs.Tables.{RowsAre, selected_is, stored_is, stored_length}
 use Rattle.ygg_shape_cells.proofs.Wider.{rows_wider, words_in_table, width_in_table}

@@ -34,22 +34,22 @@ use Rattle.ygg_value.specs.Words.{word}
 use Rattle.ygg_value.specs.declared.row.Value.TheVariants as value
 use Rattle.ygg_value.specs.declared.shape.Shape.{Shape}
 use Rattle.ygg_value.specs.declared.shape.Shape.TheVariants as shape
-use Rattle.ygg_rules.specs.Views.{IsWidth}
-use Rattle.ygg_rules.specs.declared.rule.RuleKind.{RuleKind}
-use Rattle.ygg_bank.proofs.Exist.{values_fit}
-use Rattle.ygg_bank.proofs.Inputs.{made_inputs, fresh_width}
-use Rattle.ygg_bank.proofs.Made.{made_grows}
-use Rattle.ygg_bank.proofs.Meaning.{fits_fewer}
-use Rattle.ygg_bank.proofs.Widths.{wider, extends_self, extends_both}
-use Rattle.ygg_bank.specs.Inputs.{InputsBelow, next_after}
-use Rattle.ygg_bank.specs.Makes.{Make}
-use Rattle.ygg_bank.specs.Making.{made}
-use Rattle.ygg_bank.specs.Nodes.{HasWidth, CanMake, IsBank, Extends}
-use Rattle.ygg_bank.specs.Values.{Inputs, Values, Fits, value_of}
-use Rattle.ygg_bank.specs.declared.node.Id.{Id}
-use Rattle.ygg_bank.specs.declared.node.Node.{Node}
-use Rattle.ygg_bank.specs.declared.node.Node.TheVariants.{Input}
-use Rattle.ygg_shape_words.proofs.Terms.{made_is}
+use Rattle.ygg_shape_cells.specs.ygg_rules.Views.{IsWidth}
+use Rattle.ygg_shape_cells.specs.ygg_rules.declared.rule.RuleKind.{RuleKind}
+use Rattle.ygg_shape_cells.specs.ygg_bank_proofs_Exist.{values_fit}
+use Rattle.ygg_shape_cells.specs.ygg_bank_proofs_Inputs.{made_inputs, fresh_width}
+use Rattle.ygg_shape_cells.specs.ygg_bank_proofs_Made.{made_grows}
+use Rattle.ygg_shape_cells.specs.ygg_bank_proofs_Meaning.{fits_fewer}
+use Rattle.ygg_shape_cells.specs.ygg_bank_proofs_Widths.{wider, extends_self, extends_both}
+use Rattle.ygg_shape_cells.specs.ygg_bank.Inputs.{InputsBelow, next_after}
+use Rattle.ygg_shape_cells.specs.ygg_bank.Makes.{Make}
+use Rattle.ygg_shape_cells.specs.ygg_bank.Making.{made}
+use Rattle.ygg_shape_cells.specs.ygg_bank.Nodes.{HasWidth, CanMake, IsBank, Extends}
+use Rattle.ygg_shape_cells.specs.ygg_bank.Values.{Inputs, Values, Fits, value_of}
+use Rattle.ygg_shape_cells.specs.ygg_bank.declared.node.Id.{Id}
+use Rattle.ygg_shape_cells.specs.ygg_bank.declared.node.Node.{Node}
+use Rattle.ygg_shape_cells.specs.ygg_bank.declared.node.Node.TheVariants.{Input}
+use Rattle.ygg_shape_cells.specs.ygg_shape_words_proofs_Terms.{made_is}
 use Rattle.ygg_shape_cells.proofs.Wider.{row_wider}
 use Rattle.ygg_shape_cells.specs.Lists.{each_from}
 use Rattle.ygg_shape_cells.specs.Terms.{IsRow, IsTable, IsShaped, numbers_of, worth}

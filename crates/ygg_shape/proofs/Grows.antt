@@ -1,11 +1,11 @@
 -- Steps only add nodes after those that are there.
 use Rattle.std.proofs.Common.{ℕ, List}
-use Rattle.ygg_rules.specs.declared.rule.RuleKind.{RuleKind}
-use Rattle.ygg_bank.proofs.Widths.{extends_self}
-use Rattle.ygg_bank.specs.Nodes.{Extends}
-use Rattle.ygg_bank.specs.declared.node.Id.{Id}
-use Rattle.ygg_bank.specs.declared.node.Node.{Node}
-use Rattle.ygg_shape_words.proofs.Keeps.{grows_stays}
+use Rattle.ygg_shape_cells.specs.ygg_rules.declared.rule.RuleKind.{RuleKind}
+use Rattle.ygg_shape_cells.specs.ygg_bank_proofs_Widths.{extends_self}
+use Rattle.ygg_shape_cells.specs.ygg_bank.Nodes.{Extends}
+use Rattle.ygg_shape_cells.specs.ygg_bank.declared.node.Id.{Id}
+use Rattle.ygg_shape_cells.specs.ygg_bank.declared.node.Node.{Node}
+use Rattle.ygg_shape_cells.specs.ygg_shape_words_proofs_Keeps.{grows_stays}
 use Rattle.ygg_shape_cells.specs.Making.{
   merged_row,
   merged_rows,

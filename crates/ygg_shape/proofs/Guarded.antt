@@ -2,15 +2,15 @@
 use Rattle.std.proofs.Common.{◌≡◌, ℕ, if◌then◌else◌, [], Result, Ok, Err, OnOk, IfOk, List, length, map, slice_get, slice_set, refl, sym, ap, ◌∙◌, subst}
 use Rattle.ygg_value.specs.Number.{Grid}
 use Rattle.ygg_value.specs.Values.{table_write}
-use Rattle.ygg_rules.specs.declared.rule.RuleKind.{RuleKind}
-use Rattle.ygg_bank.proofs.Exist.{values_fit}
-use Rattle.ygg_bank.proofs.Widths.{wider, has_width, width_fits}
-use Rattle.ygg_bank.specs.Making.{known_in}
-use Rattle.ygg_bank.specs.Nodes.{width_at, widths_of, HasWidth, Stands, InOrder, IsBank, Extends}
-use Rattle.ygg_bank.specs.Values.{Inputs, Values, Fits, value_of}
-use Rattle.ygg_bank.specs.declared.node.Id.{Id}
-use Rattle.ygg_bank.specs.declared.node.Node.{Node}
-use Rattle.ygg_shape_words.proofs.Terms.{holds, term_digit}
+use Rattle.ygg_shape_cells.specs.ygg_rules.declared.rule.RuleKind.{RuleKind}
+use Rattle.ygg_shape_cells.specs.ygg_bank_proofs_Exist.{values_fit}
+use Rattle.ygg_shape_cells.specs.ygg_bank_proofs_Widths.{wider, has_width, width_fits}
+use Rattle.ygg_shape_cells.specs.ygg_bank.Making.{known_in}
+use Rattle.ygg_shape_cells.specs.ygg_bank.Nodes.{width_at, widths_of, HasWidth, Stands, InOrder, IsBank, Extends}
+use Rattle.ygg_shape_cells.specs.ygg_bank.Values.{Inputs, Values, Fits, value_of}
+use Rattle.ygg_shape_cells.specs.ygg_bank.declared.node.Id.{Id}
+use Rattle.ygg_shape_cells.specs.ygg_bank.declared.node.Node.{Node}
+use Rattle.ygg_shape_cells.specs.ygg_shape_words_proofs_Terms.{holds, term_digit}
 use Rattle.ygg_shape_cells.proofs.Wider.{rows_wider}
 use Rattle.ygg_shape_cells.specs.Terms.{IsRow, IsTable, CanStore, numbers_of, row_of, table_of}
 use Rattle.ygg_shape.proofs.Answered.{no_inputs, some_fit}

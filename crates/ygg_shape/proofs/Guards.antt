@@ -38,29 +38,29 @@ use Rattle.std.proofs.Math.ListN.{length-set}
 use Rattle.ygg_value.specs.Number.{Number}
 use Rattle.ygg_value.specs.Words.{word, apply_to, bit_of}
 use Rattle.ygg_value.specs.declared.operation.Op.TheVariants.{And}
-use Rattle.ygg_rules.specs.Views.{IsWidth}
-use Rattle.ygg_rules.specs.declared.rule.RuleKind.{RuleKind}
-use Rattle.ygg_bank.proofs.Fitting.{constant_there}
-use Rattle.ygg_bank.proofs.Made.{made_grows}
-use Rattle.ygg_bank.proofs.Meaning.{fits_fewer}
-use Rattle.ygg_bank.proofs.Widths.{wider, width_is, extends_both}
-use Rattle.ygg_bank.specs.Makes.{Make, pure}
-use Rattle.ygg_bank.specs.Making.{known_in, made}
-use Rattle.ygg_bank.specs.Nodes.{HasWidth, Extends}
-use Rattle.ygg_bank.specs.Values.{Inputs, Values, Fits}
-use Rattle.ygg_bank.specs.declared.node.Id.{Id}
-use Rattle.ygg_bank.specs.declared.node.Node.{Node}
-use Rattle.ygg_bank.specs.declared.node.Node.TheVariants.{Const, Bin}
+use Rattle.ygg_shape_cells.specs.ygg_rules.Views.{IsWidth}
+use Rattle.ygg_shape_cells.specs.ygg_rules.declared.rule.RuleKind.{RuleKind}
+use Rattle.ygg_shape_cells.specs.ygg_bank_proofs_Fitting.{constant_there}
+use Rattle.ygg_shape_cells.specs.ygg_bank_proofs_Made.{made_grows}
+use Rattle.ygg_shape_cells.specs.ygg_bank_proofs_Meaning.{fits_fewer}
+use Rattle.ygg_shape_cells.specs.ygg_bank_proofs_Widths.{wider, width_is, extends_both}
+use Rattle.ygg_shape_cells.specs.ygg_bank.Makes.{Make, pure}
+use Rattle.ygg_shape_cells.specs.ygg_bank.Making.{known_in, made}
+use Rattle.ygg_shape_cells.specs.ygg_bank.Nodes.{HasWidth, Extends}
+use Rattle.ygg_shape_cells.specs.ygg_bank.Values.{Inputs, Values, Fits}
+use Rattle.ygg_shape_cells.specs.ygg_bank.declared.node.Id.{Id}
+use Rattle.ygg_shape_cells.specs.ygg_bank.declared.node.Node.{Node}
+use Rattle.ygg_shape_cells.specs.ygg_bank.declared.node.Node.TheVariants.{Const, Bin}
 use Rattle.ygg_shape_cells.proofs.Wider.{row_wider, rows_wider}
 use Rattle.ygg_shape_cells.specs.Making.{merged_row}
 use Rattle.ygg_shape_cells.specs.Terms.{IsRow, numbers_of}
 use Rattle.ygg_shape.proofs.Grows.{merged_row_grows, guarded_at_grows, guarded_from_grows}
 use Rattle.ygg_shape.proofs.Rows.{RowIs, merged_row_is}
-use Rattle.ygg_shape_words.proofs.Compares.{same_words_is}
-use Rattle.ygg_shape_words.proofs.Fit.{alike, can_and}
-use Rattle.ygg_shape_words.proofs.Grows.{same_words_grows}
-use Rattle.ygg_shape_words.proofs.Terms.{holds, made_is, bit_is, and_digits}
-use Rattle.ygg_shape_words.specs.Same.{same_words}
+use Rattle.ygg_shape_cells.specs.ygg_shape_words_proofs_Compares.{same_words_is}
+use Rattle.ygg_shape_cells.specs.ygg_shape_words_proofs_Fit.{alike, can_and}
+use Rattle.ygg_shape_cells.specs.ygg_shape_words_proofs_Grows.{same_words_grows}
+use Rattle.ygg_shape_cells.specs.ygg_shape_words_proofs_Terms.{holds, made_is, bit_is, and_digits}
+use Rattle.ygg_shape_cells.specs.ygg_shape_words.Same.{same_words}
 use Rattle.ygg_shape.proofs.Tables.{RowsAre, number}
 use Rattle.ygg_shape.proofs.Words.{replaced, replaced_is}
 use Rattle.ygg_shape.specs.Guarding.{guarded_split, guarded_at, guarded_from, guarded_known, stored_where_at}

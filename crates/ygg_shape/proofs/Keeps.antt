@@ -4,18 +4,18 @@ use Rattle.std.specs.Prelude.{nat_lt}
 use Rattle.ygg_value.specs.Number.{Number}
 use Rattle.ygg_value.specs.Words.{word}
 use Rattle.ygg_value.specs.declared.operation.Op.TheVariants.{And}
-use Rattle.ygg_rules.specs.declared.rule.RuleKind.{RuleKind}
-use Rattle.ygg_bank.specs.Makes.{Make, pure}
-use Rattle.ygg_bank.specs.Making.{known_in, made}
-use Rattle.ygg_bank.specs.Nodes.{width_at, widths_of}
-use Rattle.ygg_bank.specs.declared.node.Id.{Id}
-use Rattle.ygg_bank.specs.declared.node.Node.{Node}
-use Rattle.ygg_bank.specs.declared.node.Node.TheVariants.{Const, Bin}
-use Rattle.ygg_shape_words.proofs.Keeps.{Stays, picked_keeps, same_words_keeps}
-use Rattle.ygg_shape_words.specs.Same.{same_words}
-use Rattle.ygg_shape_sums.proofs.Keeps.{equated_words_keeps}
-use Rattle.ygg_shape_sums.specs.Equates.{equated_words}
-use Rattle.ygg_shape_words.specs.Picking.{picked}
+use Rattle.ygg_shape_cells.specs.ygg_rules.declared.rule.RuleKind.{RuleKind}
+use Rattle.ygg_shape_cells.specs.ygg_bank.Makes.{Make, pure}
+use Rattle.ygg_shape_cells.specs.ygg_bank.Making.{known_in, made}
+use Rattle.ygg_shape_cells.specs.ygg_bank.Nodes.{width_at, widths_of}
+use Rattle.ygg_shape_cells.specs.ygg_bank.declared.node.Id.{Id}
+use Rattle.ygg_shape_cells.specs.ygg_bank.declared.node.Node.{Node}
+use Rattle.ygg_shape_cells.specs.ygg_bank.declared.node.Node.TheVariants.{Const, Bin}
+use Rattle.ygg_shape_cells.specs.ygg_shape_words_proofs_Keeps.{Stays, picked_keeps, same_words_keeps}
+use Rattle.ygg_shape_cells.specs.ygg_shape_words.Same.{same_words}
+use Rattle.ygg_shape_cells.specs.ygg_shape_sums_proofs_Keeps.{equated_words_keeps}
+use Rattle.ygg_shape_cells.specs.ygg_shape_sums.Equates.{equated_words}
+use Rattle.ygg_shape_cells.specs.ygg_shape_words.Picking.{picked}
 use Rattle.ygg_shape_cells.specs.Lists.{each_two, each_from, fold_two, fold_from}
 use Rattle.ygg_shape_cells.specs.Making.{
   merged_row,

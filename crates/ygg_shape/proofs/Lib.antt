@@ -1,3 +1,4 @@
+pub use Rattle.ygg_shape_cells.proofs.of_ygg_bank
 pub mod Keeps
 pub mod Grows
 pub mod Steps

@@ -32,21 +32,21 @@ use Rattle.ygg_value.specs.Values.{same_value}
 use Rattle.ygg_value.specs.Words.{word, bit_of, apply_to}
 use Rattle.ygg_value.specs.declared.operation.Op.TheVariants.{And}
 use Rattle.ygg_value.specs.declared.shape.Shape.{Shape}
-use Rattle.ygg_rules.specs.declared.rule.RuleKind.{RuleKind}
-use Rattle.ygg_bank.proofs.Exist.{values_fit}
-use Rattle.ygg_bank.proofs.Made.{made_grows}
-use Rattle.ygg_bank.proofs.Meaning.{fits_fewer}
-use Rattle.ygg_bank.proofs.Widths.{wider, width_is, extends_self}
-use Rattle.ygg_bank.specs.Makes.{Out, goes_on}
-use Rattle.ygg_bank.specs.Making.{made}
-use Rattle.ygg_bank.specs.Nodes.{HasWidth, IsBank, Extends}
-use Rattle.ygg_bank.specs.Values.{Inputs, Values, Fits, value_of}
-use Rattle.ygg_bank.specs.declared.node.Id.{Id}
-use Rattle.ygg_bank.specs.declared.node.Node.{Node}
-use Rattle.ygg_bank.specs.declared.node.Node.TheVariants.{Const, Bin}
-use Rattle.ygg_shape_words.proofs.Fit.{can_and}
-use Rattle.ygg_shape_words.proofs.Keeps.{Stays, grows_stays}
-use Rattle.ygg_shape_words.proofs.Terms.{TermIs, made_is, and_digits}
+use Rattle.ygg_shape_cells.specs.ygg_rules.declared.rule.RuleKind.{RuleKind}
+use Rattle.ygg_shape_cells.specs.ygg_bank_proofs_Exist.{values_fit}
+use Rattle.ygg_shape_cells.specs.ygg_bank_proofs_Made.{made_grows}
+use Rattle.ygg_shape_cells.specs.ygg_bank_proofs_Meaning.{fits_fewer}
+use Rattle.ygg_shape_cells.specs.ygg_bank_proofs_Widths.{wider, width_is, extends_self}
+use Rattle.ygg_shape_cells.specs.ygg_bank.Makes.{Out, goes_on}
+use Rattle.ygg_shape_cells.specs.ygg_bank.Making.{made}
+use Rattle.ygg_shape_cells.specs.ygg_bank.Nodes.{HasWidth, IsBank, Extends}
+use Rattle.ygg_shape_cells.specs.ygg_bank.Values.{Inputs, Values, Fits, value_of}
+use Rattle.ygg_shape_cells.specs.ygg_bank.declared.node.Id.{Id}
+use Rattle.ygg_shape_cells.specs.ygg_bank.declared.node.Node.{Node}
+use Rattle.ygg_shape_cells.specs.ygg_bank.declared.node.Node.TheVariants.{Const, Bin}
+use Rattle.ygg_shape_cells.specs.ygg_shape_words_proofs_Fit.{can_and}
+use Rattle.ygg_shape_cells.specs.ygg_shape_words_proofs_Keeps.{Stays, grows_stays}
+use Rattle.ygg_shape_cells.specs.ygg_shape_words_proofs_Terms.{TermIs, made_is, and_digits}
 use Rattle.ygg_shape_cells.proofs.Wider.{all_shaped_wider}
 use Rattle.ygg_shape_cells.specs.Lists.{each_two}
 use Rattle.ygg_shape_cells.specs.Making.{compared}

@@ -41,14 +41,14 @@ use Rattle.ygg_value.specs.declared.row.Value.{Value}
 use Rattle.ygg_value.specs.declared.row.Value.TheVariants as value
 use Rattle.ygg_value.specs.declared.shape.Shape.{Shape}
 use Rattle.ygg_value.specs.declared.shape.Shape.TheVariants as shape
-use Rattle.ygg_rules.specs.declared.rule.RuleKind.{RuleKind}
-use Rattle.ygg_bank.proofs.Meaning.{fits_fewer}
-use Rattle.ygg_bank.proofs.Widths.{wider}
-use Rattle.ygg_bank.specs.Nodes.{HasWidth, Stands, Extends}
-use Rattle.ygg_bank.specs.Values.{Inputs, Values, Fits}
-use Rattle.ygg_bank.specs.declared.node.Id.{Id}
-use Rattle.ygg_bank.specs.declared.node.Node.{Node}
-use Rattle.ygg_shape_words.proofs.Terms.{TermIs, holds}
+use Rattle.ygg_shape_cells.specs.ygg_rules.declared.rule.RuleKind.{RuleKind}
+use Rattle.ygg_shape_cells.specs.ygg_bank_proofs_Meaning.{fits_fewer}
+use Rattle.ygg_shape_cells.specs.ygg_bank_proofs_Widths.{wider}
+use Rattle.ygg_shape_cells.specs.ygg_bank.Nodes.{HasWidth, Stands, Extends}
+use Rattle.ygg_shape_cells.specs.ygg_bank.Values.{Inputs, Values, Fits}
+use Rattle.ygg_shape_cells.specs.ygg_bank.declared.node.Id.{Id}
+use Rattle.ygg_shape_cells.specs.ygg_bank.declared.node.Node.{Node}
+use Rattle.ygg_shape_cells.specs.ygg_shape_words_proofs_Terms.{TermIs, holds}
 use Rattle.ygg_shape_cells.proofs.Wider.{rows_wider, table_wider}
 use Rattle.ygg_shape_cells.specs.Making.{merged, compared, selected, stored}
 use Rattle.ygg_shape_cells.specs.Terms.{IsRow, IsTable, IsShaped, numbers_of, row_of, table_of, worth}

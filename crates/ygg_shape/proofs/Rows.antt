@@ -34,29 +34,29 @@ use Rattle.std.proofs.lemmas.List.Elements.{All-head, All-tail, All-cons, All-re
 use Rattle.ygg_value.specs.Number.{Number, IsWord}
 use Rattle.ygg_value.specs.Words.{word, apply_to, bit_of}
 use Rattle.ygg_value.specs.declared.operation.Op.TheVariants.{And}
-use Rattle.ygg_rules.specs.Views.{IsWidth}
-use Rattle.ygg_rules.specs.declared.rule.RuleKind.{RuleKind}
-use Rattle.ygg_bank.proofs.Made.{made_grows, made_width}
-use Rattle.ygg_bank.proofs.Meaning.{fits_fewer, made_gives}
-use Rattle.ygg_bank.proofs.Widths.{wider, width_is}
-use Rattle.ygg_bank.specs.Makes.{pure}
-use Rattle.ygg_bank.specs.Making.{made}
-use Rattle.ygg_bank.specs.Nodes.{widths_of, node_width, HasWidth, CanMake, Extends}
-use Rattle.ygg_bank.specs.Values.{Inputs, Values, Fits, node_value}
-use Rattle.ygg_bank.specs.declared.node.Id.{Id}
-use Rattle.ygg_bank.specs.declared.node.Node.{Node}
-use Rattle.ygg_bank.specs.declared.node.Node.TheVariants.{Const, Bin}
-use Rattle.ygg_shape_words.proofs.Compares.{same_words_is}
-use Rattle.ygg_shape_words.proofs.Fit.{alike, can_and}
-use Rattle.ygg_shape_words.proofs.Grows.{picked_grows, same_words_grows}
-use Rattle.ygg_shape_words.proofs.Picks.{picked_is}
-use Rattle.ygg_shape_words.proofs.Terms.{TermIs, holds, made_is, either, number_if, bit_is, and_digits}
-use Rattle.ygg_shape_words.specs.Picking.{picked}
-use Rattle.ygg_shape_words.specs.Same.{same_words}
-use Rattle.ygg_shape_sums.proofs.Equates.{equated_words_is}
-use Rattle.ygg_shape_sums.proofs.Keeps.{equated_words_grows}
-use Rattle.ygg_shape_sums.specs.Equates.{equated_words}
-use Rattle.ygg_shape_words.specs.Forms.{WordsAlike}
+use Rattle.ygg_shape_cells.specs.ygg_rules.Views.{IsWidth}
+use Rattle.ygg_shape_cells.specs.ygg_rules.declared.rule.RuleKind.{RuleKind}
+use Rattle.ygg_shape_cells.specs.ygg_bank_proofs_Made.{made_grows, made_width}
+use Rattle.ygg_shape_cells.specs.ygg_bank_proofs_Meaning.{fits_fewer, made_gives}
+use Rattle.ygg_shape_cells.specs.ygg_bank_proofs_Widths.{wider, width_is}
+use Rattle.ygg_shape_cells.specs.ygg_bank.Makes.{pure}
+use Rattle.ygg_shape_cells.specs.ygg_bank.Making.{made}
+use Rattle.ygg_shape_cells.specs.ygg_bank.Nodes.{widths_of, node_width, HasWidth, CanMake, Extends}
+use Rattle.ygg_shape_cells.specs.ygg_bank.Values.{Inputs, Values, Fits, node_value}
+use Rattle.ygg_shape_cells.specs.ygg_bank.declared.node.Id.{Id}
+use Rattle.ygg_shape_cells.specs.ygg_bank.declared.node.Node.{Node}
+use Rattle.ygg_shape_cells.specs.ygg_bank.declared.node.Node.TheVariants.{Const, Bin}
+use Rattle.ygg_shape_cells.specs.ygg_shape_words_proofs_Compares.{same_words_is}
+use Rattle.ygg_shape_cells.specs.ygg_shape_words_proofs_Fit.{alike, can_and}
+use Rattle.ygg_shape_cells.specs.ygg_shape_words_proofs_Grows.{picked_grows, same_words_grows}
+use Rattle.ygg_shape_cells.specs.ygg_shape_words_proofs_Picks.{picked_is}
+use Rattle.ygg_shape_cells.specs.ygg_shape_words_proofs_Terms.{TermIs, holds, made_is, either, number_if, bit_is, and_digits}
+use Rattle.ygg_shape_cells.specs.ygg_shape_words.Picking.{picked}
+use Rattle.ygg_shape_cells.specs.ygg_shape_words.Same.{same_words}
+use Rattle.ygg_shape_cells.specs.ygg_shape_sums_proofs_Equates.{equated_words_is}
+use Rattle.ygg_shape_cells.specs.ygg_shape_sums_proofs_Keeps.{equated_words_grows}
+use Rattle.ygg_shape_cells.specs.ygg_shape_sums.Equates.{equated_words}
+use Rattle.ygg_shape_cells.specs.ygg_shape_words.Forms.{WordsAlike}
 use Rattle.ygg_shape.proofs.Grows.{merged_row_grows, compared_word_grows, compared_row_grows}
 use Rattle.ygg_shape_cells.proofs.Wider.{IsWide, all_wider, row_wider}
 use Rattle.ygg_shape.proofs.Words.{row_if, and_assoc}

@@ -35,10 +35,10 @@ use Rattle.ygg_value.specs.Shapes.{IsShape}
 use Rattle.ygg_value.specs.Values.{row_read, row_write, table_read, table_write}
 use Rattle.ygg_value.specs.Words.{word}
 use Rattle.ygg_value.specs.declared.shape.Shape.TheVariants as shape
-use Rattle.ygg_bank.specs.Nodes.{HasWidth}
-use Rattle.ygg_bank.specs.Values.{Values, value_of}
-use Rattle.ygg_bank.specs.declared.node.Id.{Id}
-use Rattle.ygg_bank.specs.declared.node.Node.{Node}
+use Rattle.ygg_shape_cells.specs.ygg_bank.Nodes.{HasWidth}
+use Rattle.ygg_shape_cells.specs.ygg_bank.Values.{Values, value_of}
+use Rattle.ygg_shape_cells.specs.ygg_bank.declared.node.Id.{Id}
+use Rattle.ygg_shape_cells.specs.ygg_bank.declared.node.Node.{Node}
 use Rattle.ygg_shape_cells.specs.Terms.{IsRow, IsTable, TableStands, CanStore, numbers_of, row_width, row_of, table_width, words_in, table_of}
 use Rattle.ygg_shape.specs.Meaning.{IsRead, IsWritten}
 use Rattle.ygg_shape.specs.RowPlaces.{single, singles, first, RowStands, CanWrite, IsWordRead, IsWordWritten}

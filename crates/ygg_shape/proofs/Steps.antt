@@ -1,8 +1,8 @@
 -- Loops over lists make what the steps for all items make.
 use Rattle.std.proofs.Common.{◌≡◌, ◌<◌, ◌≤◌, ℕ, ◌+◌, List, [], ◌∷◌, ◌++◌, length, drop, get_or, refl, sym, ap, ◌∙◌, append_assoc}
 use Rattle.std.proofs.lemmas.List.{drop_more, drop_all, append-nil}
-use Rattle.ygg_bank.specs.Makes.{Make, Out}
-use Rattle.ygg_bank.specs.declared.node.Node.{Node}
+use Rattle.ygg_shape_cells.specs.ygg_bank.Makes.{Make, Out}
+use Rattle.ygg_shape_cells.specs.ygg_bank.declared.node.Node.{Node}
 use Rattle.ygg_shape_cells.specs.Lists.{each_two, each_from, fold_two, fold_from}
 
 -- the item at a place, and those after it

@@ -39,17 +39,17 @@ use Rattle.std.proofs.lemmas.Option.{slice_get-map}
 use Rattle.ygg_value.specs.Number.{Number}
 use Rattle.ygg_value.specs.Values.{rows_eq}
 use Rattle.ygg_value.specs.Words.{word, bit_of}
-use Rattle.ygg_rules.specs.Views.{IsWidth}
-use Rattle.ygg_rules.specs.declared.rule.RuleKind.{RuleKind}
-use Rattle.ygg_bank.proofs.Meaning.{fits_fewer}
-use Rattle.ygg_bank.proofs.Widths.{wider}
-use Rattle.ygg_bank.specs.Making.{known_in}
-use Rattle.ygg_bank.specs.Nodes.{HasWidth, Extends}
-use Rattle.ygg_bank.specs.Values.{Inputs, Values, Fits}
-use Rattle.ygg_bank.specs.declared.node.Id.{Id}
-use Rattle.ygg_bank.specs.declared.node.Node.{Node}
-use Rattle.ygg_bank.specs.declared.node.Node.TheVariants.{Input, Const, Bin, Not, Resize, Pick}
-use Rattle.ygg_shape_words.proofs.Terms.{TermIs, holds, either}
+use Rattle.ygg_shape_cells.specs.ygg_rules.Views.{IsWidth}
+use Rattle.ygg_shape_cells.specs.ygg_rules.declared.rule.RuleKind.{RuleKind}
+use Rattle.ygg_shape_cells.specs.ygg_bank_proofs_Meaning.{fits_fewer}
+use Rattle.ygg_shape_cells.specs.ygg_bank_proofs_Widths.{wider}
+use Rattle.ygg_shape_cells.specs.ygg_bank.Making.{known_in}
+use Rattle.ygg_shape_cells.specs.ygg_bank.Nodes.{HasWidth, Extends}
+use Rattle.ygg_shape_cells.specs.ygg_bank.Values.{Inputs, Values, Fits}
+use Rattle.ygg_shape_cells.specs.ygg_bank.declared.node.Id.{Id}
+use Rattle.ygg_shape_cells.specs.ygg_bank.declared.node.Node.{Node}
+use Rattle.ygg_shape_cells.specs.ygg_bank.declared.node.Node.TheVariants.{Input, Const, Bin, Not, Resize, Pick}
+use Rattle.ygg_shape_cells.specs.ygg_shape_words_proofs_Terms.{TermIs, holds, either}
 use Rattle.ygg_shape.proofs.Grows.{
   merged_row_grows,
   merged_rows_grows,

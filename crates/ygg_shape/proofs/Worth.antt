@@ -11,20 +11,20 @@ use Rattle.ygg_value.specs.declared.operation.Op.TheVariants.{Eq}
 use Rattle.ygg_value.specs.declared.row.Value.TheVariants as value
 use Rattle.ygg_value.specs.declared.shape.Shape.{Shape}
 use Rattle.ygg_value.specs.declared.shape.Shape.TheVariants as shape
-use Rattle.ygg_rules.specs.declared.rule.RuleKind.{RuleKind}
-use Rattle.ygg_bank.proofs.Made.{made_grows}
-use Rattle.ygg_bank.proofs.Meaning.{fits_fewer}
-use Rattle.ygg_bank.specs.Making.{made}
-use Rattle.ygg_bank.specs.Nodes.{HasWidth, Extends}
-use Rattle.ygg_bank.specs.Values.{Inputs, Values, Fits}
-use Rattle.ygg_bank.specs.declared.node.Id.{Id}
-use Rattle.ygg_bank.specs.declared.node.Node.{Node}
-use Rattle.ygg_bank.specs.declared.node.Node.TheVariants.{Const, Bin}
-use Rattle.ygg_shape_sums.proofs.Equates.{equated_words_is}
-use Rattle.ygg_shape_words.proofs.Fit.{alike}
-use Rattle.ygg_shape_words.proofs.Picks.{picked_is}
-use Rattle.ygg_shape_words.proofs.Terms.{TermIs, holds, made_is}
-use Rattle.ygg_shape_sums.specs.Equates.{equated_words}
+use Rattle.ygg_shape_cells.specs.ygg_rules.declared.rule.RuleKind.{RuleKind}
+use Rattle.ygg_shape_cells.specs.ygg_bank_proofs_Made.{made_grows}
+use Rattle.ygg_shape_cells.specs.ygg_bank_proofs_Meaning.{fits_fewer}
+use Rattle.ygg_shape_cells.specs.ygg_bank.Making.{made}
+use Rattle.ygg_shape_cells.specs.ygg_bank.Nodes.{HasWidth, Extends}
+use Rattle.ygg_shape_cells.specs.ygg_bank.Values.{Inputs, Values, Fits}
+use Rattle.ygg_shape_cells.specs.ygg_bank.declared.node.Id.{Id}
+use Rattle.ygg_shape_cells.specs.ygg_bank.declared.node.Node.{Node}
+use Rattle.ygg_shape_cells.specs.ygg_bank.declared.node.Node.TheVariants.{Const, Bin}
+use Rattle.ygg_shape_cells.specs.ygg_shape_sums_proofs_Equates.{equated_words_is}
+use Rattle.ygg_shape_cells.specs.ygg_shape_words_proofs_Fit.{alike}
+use Rattle.ygg_shape_cells.specs.ygg_shape_words_proofs_Picks.{picked_is}
+use Rattle.ygg_shape_cells.specs.ygg_shape_words_proofs_Terms.{TermIs, holds, made_is}
+use Rattle.ygg_shape_cells.specs.ygg_shape_sums.Equates.{equated_words}
 use Rattle.ygg_shape.proofs.Grows.{compared_row_grows, compared_rows_grows}
 use Rattle.ygg_shape.proofs.Rows.{merged_row_is, compared_row_is}
 use Rattle.ygg_shape.proofs.Tables.{merged_rows_is, merged_rows_length, compared_rows_is}

@@ -5,13 +5,13 @@ use Rattle.ygg_value.specs.declared.row.Value.{Value}
 use Rattle.ygg_value.specs.declared.row.Value.TheVariants as value
 use Rattle.ygg_value.specs.declared.shape.Shape.{Shape}
 use Rattle.ygg_value.specs.declared.shape.Shape.TheVariants as shape
-use Rattle.ygg_rules.specs.declared.rule.RuleKind.{RuleKind}
-use Rattle.ygg_bank.specs.Makes.{Make, pure, and_make}
-use Rattle.ygg_bank.specs.Making.{made}
-use Rattle.ygg_bank.specs.Values.{Inputs, InputsFit, value_of}
-use Rattle.ygg_bank.specs.declared.node.Id.{Id}
-use Rattle.ygg_bank.specs.declared.node.Node.{Node}
-use Rattle.ygg_bank.specs.declared.node.Node.TheVariants.{Input}
+use Rattle.ygg_shape_cells.specs.ygg_rules.declared.rule.RuleKind.{RuleKind}
+use Rattle.ygg_shape_cells.specs.ygg_bank.Makes.{Make, pure, and_make}
+use Rattle.ygg_shape_cells.specs.ygg_bank.Making.{made}
+use Rattle.ygg_shape_cells.specs.ygg_bank.Values.{Inputs, InputsFit, value_of}
+use Rattle.ygg_shape_cells.specs.ygg_bank.declared.node.Id.{Id}
+use Rattle.ygg_shape_cells.specs.ygg_bank.declared.node.Node.{Node}
+use Rattle.ygg_shape_cells.specs.ygg_bank.declared.node.Node.TheVariants.{Input}
 use Rattle.ygg_shape_cells.specs.Lists.{each_from}
 use Rattle.ygg_shape_cells.specs.Terms.{worth}
 use Rattle.ygg_shape_cells.specs.declared.terms.SymValue.{SymValue}

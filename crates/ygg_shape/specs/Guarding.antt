@@ -4,15 +4,15 @@ use Rattle.ygg_value.specs.Number.{Number}
 use Rattle.ygg_value.specs.Values.{table_write}
 use Rattle.ygg_value.specs.Words.{word}
 use Rattle.ygg_value.specs.declared.operation.Op.TheVariants.{And}
-use Rattle.ygg_rules.specs.declared.rule.RuleKind.{RuleKind}
-use Rattle.ygg_bank.specs.Makes.{Make, pure, and_make}
-use Rattle.ygg_bank.specs.Making.{known_in, made}
-use Rattle.ygg_bank.specs.Nodes.{width_at, widths_of}
-use Rattle.ygg_bank.specs.Values.{Inputs, InputsFit, value_of}
-use Rattle.ygg_bank.specs.declared.node.Id.{Id}
-use Rattle.ygg_bank.specs.declared.node.Node.{Node}
-use Rattle.ygg_bank.specs.declared.node.Node.TheVariants.{Const, Bin}
-use Rattle.ygg_shape_words.specs.Same.{same_words}
+use Rattle.ygg_shape_cells.specs.ygg_rules.declared.rule.RuleKind.{RuleKind}
+use Rattle.ygg_shape_cells.specs.ygg_bank.Makes.{Make, pure, and_make}
+use Rattle.ygg_shape_cells.specs.ygg_bank.Making.{known_in, made}
+use Rattle.ygg_shape_cells.specs.ygg_bank.Nodes.{width_at, widths_of}
+use Rattle.ygg_shape_cells.specs.ygg_bank.Values.{Inputs, InputsFit, value_of}
+use Rattle.ygg_shape_cells.specs.ygg_bank.declared.node.Id.{Id}
+use Rattle.ygg_shape_cells.specs.ygg_bank.declared.node.Node.{Node}
+use Rattle.ygg_shape_cells.specs.ygg_bank.declared.node.Node.TheVariants.{Const, Bin}
+use Rattle.ygg_shape_cells.specs.ygg_shape_words.Same.{same_words}
 use Rattle.ygg_shape_cells.specs.Lists.{each_from}
 use Rattle.ygg_shape_cells.specs.Making.{merged_row}
 use Rattle.ygg_shape_cells.specs.Terms.{row_of, table_of}

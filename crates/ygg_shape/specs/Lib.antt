@@ -1,3 +1,18 @@
+pub use Rattle.ygg_shape_cells.specs.ygg_bank_proofs_Exist
+pub use Rattle.ygg_shape_cells.specs.ygg_bank_proofs_Inputs
+pub use Rattle.ygg_shape_cells.specs.ygg_bank_proofs_Made
+pub use Rattle.ygg_shape_cells.specs.ygg_bank_proofs_Meaning
+pub use Rattle.ygg_shape_cells.specs.ygg_bank_proofs_Widths
+pub use Rattle.ygg_shape_cells.specs.ygg_bank
+pub use Rattle.ygg_shape_cells.specs.ygg_rules
+pub use Rattle.ygg_shape_cells.proofs.Wider as ygg_shape_cells_proofs_Wider
+pub use Rattle.ygg_shape_cells.specs as ygg_shape_cells
+pub use Rattle.ygg_shape_cells.specs.ygg_shape_words_proofs_Fit
+pub use Rattle.ygg_shape_cells.specs.ygg_shape_words_proofs_Grows
+pub use Rattle.ygg_shape_cells.specs.ygg_shape_words_proofs_Keeps
+pub use Rattle.ygg_shape_cells.specs.ygg_shape_words_proofs_Picks
+pub use Rattle.ygg_shape_cells.specs.ygg_shape_words_proofs_Terms
+pub use Rattle.ygg_shape_cells.specs.ygg_shape_words
 pub mod Meaning
 pub mod Guarding
 pub mod RowPlaces

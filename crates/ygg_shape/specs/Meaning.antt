@@ -3,10 +3,10 @@ use Rattle.std.specs.Prelude.{ℕ, ◌≡◌, ◌==◌, if◌then◌else◌, ◌
 use Rattle.ygg_value.specs.Number.{Number}
 use Rattle.ygg_value.specs.Words.{word, bit_of}
 use Rattle.ygg_value.specs.Values.{same_value, table_read, table_write}
-use Rattle.ygg_bank.specs.Values.{Inputs, InputsFit, value_of}
-use Rattle.ygg_bank.specs.declared.node.Id.{Id}
-use Rattle.ygg_bank.specs.declared.node.Node.{Node}
-use Rattle.ygg_bank.specs.declared.node.Node.TheVariants.{Const}
+use Rattle.ygg_shape_cells.specs.ygg_bank.Values.{Inputs, InputsFit, value_of}
+use Rattle.ygg_shape_cells.specs.ygg_bank.declared.node.Id.{Id}
+use Rattle.ygg_shape_cells.specs.ygg_bank.declared.node.Node.{Node}
+use Rattle.ygg_shape_cells.specs.ygg_bank.declared.node.Node.TheVariants.{Const}
 use Rattle.ygg_shape_cells.specs.Terms.{row_of, table_of, worth}
 use Rattle.ygg_shape_cells.specs.declared.terms.SymValue.{SymValue}
 

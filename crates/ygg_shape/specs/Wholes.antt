@@ -7,14 +7,14 @@ use Rattle.ygg_value.specs.declared.operation.Op.TheVariants.{And}
 use Rattle.ygg_value.specs.declared.row.Value.{Value}
 use Rattle.ygg_value.specs.declared.shape.Shape.{Shape}
 use Rattle.ygg_value.specs.declared.shape.Shape.TheVariants as shape
-use Rattle.ygg_rules.specs.declared.rule.RuleKind.{RuleKind}
-use Rattle.ygg_bank.specs.Makes.{Make, pure, and_make}
-use Rattle.ygg_bank.specs.Making.{made}
-use Rattle.ygg_bank.specs.Nodes.{HasWidth}
-use Rattle.ygg_bank.specs.Values.{Inputs, InputsFit, value_of}
-use Rattle.ygg_bank.specs.declared.node.Id.{Id}
-use Rattle.ygg_bank.specs.declared.node.Node.{Node}
-use Rattle.ygg_bank.specs.declared.node.Node.TheVariants.{Const, Bin}
+use Rattle.ygg_shape_cells.specs.ygg_rules.declared.rule.RuleKind.{RuleKind}
+use Rattle.ygg_shape_cells.specs.ygg_bank.Makes.{Make, pure, and_make}
+use Rattle.ygg_shape_cells.specs.ygg_bank.Making.{made}
+use Rattle.ygg_shape_cells.specs.ygg_bank.Nodes.{HasWidth}
+use Rattle.ygg_shape_cells.specs.ygg_bank.Values.{Inputs, InputsFit, value_of}
+use Rattle.ygg_shape_cells.specs.ygg_bank.declared.node.Id.{Id}
+use Rattle.ygg_shape_cells.specs.ygg_bank.declared.node.Node.{Node}
+use Rattle.ygg_shape_cells.specs.ygg_bank.declared.node.Node.TheVariants.{Const, Bin}
 use Rattle.ygg_shape_cells.specs.Lists.{each_two}
 use Rattle.ygg_shape_cells.specs.Making.{compared, merged, zeros}
 use Rattle.ygg_shape_cells.specs.Terms.{AreShaped, worth}

@@ -1,18 +1,15 @@
 //! Comparing: the term that says whether two values are equal.
 
 ghost use Rattle.std.specs.Prelude.{◌≡◌, IfOk, OnOk};
-ghost use Rattle.ygg_bank.specs.Inputs.{KeepsInputs};
-ghost use Rattle.ygg_bank.specs.Nodes.{Extends, HasWidth, IsBank};
-ghost use Rattle.ygg_bank.specs.Values.{KeepsValues};
+ghost use Rattle.ygg_shape_cells.specs.ygg_bank.Inputs.{KeepsInputs};
+ghost use Rattle.ygg_shape_cells.specs.ygg_bank.Nodes.{Extends, HasWidth, IsBank};
+ghost use Rattle.ygg_shape_cells.specs.ygg_bank.Values.{KeepsValues};
 ghost use Rattle.ygg_shape_cells.specs.Making.{compared, compared_row, compared_rows, compared_word};
 ghost use Rattle.ygg_shape.specs.Meaning.{IsCompared};
-ghost use Rattle.ygg_shape_words.specs.Forms.{WordsAlike};
+ghost use Rattle.ygg_shape_cells.specs.ygg_shape_words.Forms.{WordsAlike};
 ghost use Rattle.ygg_shape_cells.specs.Terms.{AreAlike, RowsAlike, TablesAlike};
 
-use ygg_bank::{Bank, Id, NoMemory, Node};
-use ygg_rules::Book;
-use ygg_shape_cells::{SymRow, SymValue};
-use ygg_shape_sums::equate;
+use ygg_shape_cells::{Bank, Book, Id, NoMemory, Node, SymRow, SymValue, equate};
 use ygg_value::{Op, Word};
 
 /// The term that is 1 where the two values are equal, and 0 where they aren't, in every environment. Its only error is out of memory,

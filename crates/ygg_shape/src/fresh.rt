@@ -2,17 +2,15 @@
 
 ghost use Rattle.std.specs.Prelude.{◌≡◌, ◌+◌, ◌*◌, ◌<◌, ◌^◌, IfOk, OnOk};
 ghost use Rattle.ygg_value.specs.Shapes.{IsShape};
-ghost use Rattle.ygg_rules.specs.Views.{IsWidth};
-ghost use Rattle.ygg_bank.specs.Inputs.{InputsBelow};
-ghost use Rattle.ygg_bank.specs.Nodes.{Extends, IsBank};
-ghost use Rattle.ygg_bank.specs.Values.{KeepsValues};
+ghost use Rattle.ygg_shape_cells.specs.ygg_rules.Views.{IsWidth};
+ghost use Rattle.ygg_shape_cells.specs.ygg_bank.Inputs.{InputsBelow};
+ghost use Rattle.ygg_shape_cells.specs.ygg_bank.Nodes.{Extends, IsBank};
+ghost use Rattle.ygg_shape_cells.specs.ygg_bank.Values.{KeepsValues};
 ghost use Rattle.ygg_shape_cells.specs.Terms.{IsShaped};
 ghost use Rattle.ygg_shape.specs.Fresh.{IsGiven, fresh_made, fresh_row, fresh_rows, words_of};
 
 use std::alloc::Global;
-use ygg_bank::{Bank, NoMemory, Node};
-use ygg_rules::Book;
-use ygg_shape_cells::{SymRow, SymTable, SymValue};
+use ygg_shape_cells::{Bank, Book, NoMemory, Node, SymRow, SymTable, SymValue};
 use ygg_value::Shape;
 
 /// A value of a shape whose words are inputs of the bank, numbered on from a number that is above those of all its inputs, row by row. Its

@@ -1,20 +1,17 @@
 //! Writing a table at a place that is a term, where a test is 1.
 
 ghost use Rattle.std.specs.Prelude.{◌≡◌, ◌<◌, ◌^◌, ℕ, length, slice_get, IfOk, OnOk};
-ghost use Rattle.ygg_rules.specs.Views.{IsWidth};
-ghost use Rattle.ygg_bank.specs.Inputs.{KeepsInputs};
-ghost use Rattle.ygg_bank.specs.Nodes.{Extends, HasWidth, IsBank, Stands};
-ghost use Rattle.ygg_bank.specs.Values.{KeepsValues};
+ghost use Rattle.ygg_shape_cells.specs.ygg_rules.Views.{IsWidth};
+ghost use Rattle.ygg_shape_cells.specs.ygg_bank.Inputs.{KeepsInputs};
+ghost use Rattle.ygg_shape_cells.specs.ygg_bank.Nodes.{Extends, HasWidth, IsBank, Stands};
+ghost use Rattle.ygg_shape_cells.specs.ygg_bank.Values.{KeepsValues};
 ghost use Rattle.ygg_shape_cells.specs.Terms.{AreRows, CanStore, IsRow, IsTable, RowsAlike};
 ghost use Rattle.ygg_shape.specs.Guarding.{IsWrittenWhere, guarded_at, guarded_from, guarded_known, guarded_split, stored_where};
 
 use crate::merging::merge_row;
 use std::alloc::Global;
-use ygg_bank::{Bank, Id, NoMemory, Node};
-use ygg_rules::Book;
 use ygg_shape_cells::cells::put_row;
-use ygg_shape_cells::{SymRow, SymTable};
-use ygg_shape_sums::{fits, known, same};
+use ygg_shape_cells::{Bank, Book, Id, NoMemory, Node, SymRow, SymTable, fits, known, same};
 use ygg_value::{Op, Word};
 
 /// A test of width 1, a place, and how many binary digits the place has.

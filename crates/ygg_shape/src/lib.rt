@@ -21,4 +21,6 @@ pub use selecting::select;
 pub use storing::store;
 pub use whole_comparing::equal_all;
 pub use wholes::{merge_all, zero};
-pub use ygg_shape_cells::{SymRow, SymTable, SymValue, SymValues};
+pub use ygg_shape_cells::{
+    Bank, Book, Env, Given, Id, NoMemory, Node, SymRow, SymTable, SymValue, SymValues, pick,
+};

@@ -1,20 +1,17 @@
 //! Merging: one value where a test is 1, and else another.
 
 ghost use Rattle.std.specs.Prelude.{◌≡◌, IfOk, OnOk};
-ghost use Rattle.ygg_bank.specs.Inputs.{KeepsInputs};
-ghost use Rattle.ygg_bank.specs.Nodes.{Extends, HasWidth, IsBank};
-ghost use Rattle.ygg_bank.specs.Values.{KeepsValues};
+ghost use Rattle.ygg_shape_cells.specs.ygg_bank.Inputs.{KeepsInputs};
+ghost use Rattle.ygg_shape_cells.specs.ygg_bank.Nodes.{Extends, HasWidth, IsBank};
+ghost use Rattle.ygg_shape_cells.specs.ygg_bank.Values.{KeepsValues};
 ghost use Rattle.ygg_value.specs.declared.shape.Shape.{Shape};
 ghost use Rattle.ygg_shape_cells.specs.Making.{merged, merged_row, merged_rows};
 ghost use Rattle.ygg_shape.specs.Meaning.{IsMerged};
 ghost use Rattle.ygg_shape_cells.specs.Terms.{AreAlike, HasShape, RowsAlike, TablesAlike};
 
 use std::alloc::Global;
-use ygg_bank::{Bank, Id, NoMemory};
 use ygg_list::Duplicate;
-use ygg_rules::Book;
-use ygg_shape_cells::{SymRow, SymTable, SymValue};
-use ygg_shape_sums::pick;
+use ygg_shape_cells::{Bank, Book, Id, NoMemory, SymRow, SymTable, SymValue, pick};
 
 /// The value that is `yes` where the test is 1, and `no` where it is 0, in every environment. It picks word by word, and asks nothing
 /// of words that are one term. Its only error is out of memory, after which the bank may have more nodes.

@@ -1,17 +1,14 @@
 //! Places in a table that are terms.
 
 ghost use Rattle.std.specs.Prelude.{◌≡◌, ◌<◌, ◌^◌, ℕ, IfOk, OnOk};
-ghost use Rattle.ygg_rules.specs.Views.{IsWidth};
-ghost use Rattle.ygg_bank.specs.Nodes.{Extends, HasWidth, IsBank};
+ghost use Rattle.ygg_shape_cells.specs.ygg_rules.Views.{IsWidth};
+ghost use Rattle.ygg_shape_cells.specs.ygg_bank.Nodes.{Extends, HasWidth, IsBank};
 ghost use Rattle.ygg_shape_cells.specs.Making.{split_at, where_at};
 ghost use Rattle.ygg_shape_cells.specs.Terms.{IsRow, RowsAlike};
 
 use crate::merging::merge_row;
 use std::alloc::Global;
-use ygg_bank::{Bank, Id, NoMemory, Node};
-use ygg_rules::Book;
-use ygg_shape_cells::SymRow;
-use ygg_shape_sums::{fits, same};
+use ygg_shape_cells::{Bank, Book, Id, NoMemory, Node, SymRow, fits, same};
 use ygg_value::Word;
 
 /// A place that is a term, and how many binary digits it has.

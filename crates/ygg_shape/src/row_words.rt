@@ -1,18 +1,16 @@
 //! Reading and writing a row at a place that is a term: as a table of one word a row.
 
 ghost use Rattle.std.specs.Prelude.{ℕ, ◌≡◌, ◌≤◌, length, All, map, IfOk, OnOk};
-ghost use Rattle.ygg_bank.specs.Inputs.{KeepsInputs};
-ghost use Rattle.ygg_bank.specs.Nodes.{Extends, HasWidth, IsBank, Stands};
-ghost use Rattle.ygg_bank.specs.Values.{KeepsValues};
+ghost use Rattle.ygg_shape_cells.specs.ygg_bank.Inputs.{KeepsInputs};
+ghost use Rattle.ygg_shape_cells.specs.ygg_bank.Nodes.{Extends, HasWidth, IsBank, Stands};
+ghost use Rattle.ygg_shape_cells.specs.ygg_bank.Values.{KeepsValues};
 ghost use Rattle.ygg_shape_cells.specs.Terms.{IsRow};
 ghost use Rattle.ygg_shape.specs.RowPlaces.{CanWrite, IsWordRead, IsWordWritten, RowStands, first, singles, word_selected, word_stored};
 
 use crate::selecting::select;
 use crate::storing::store;
 use std::alloc::Global;
-use ygg_bank::{Bank, Id, NoMemory};
-use ygg_rules::Book;
-use ygg_shape_cells::{SymRow, SymTable};
+use ygg_shape_cells::{Bank, Book, Id, NoMemory, SymRow, SymTable};
 
 /// The table with one word of the row in each of its rows.
 fn singles(alloc: Global, row: &[Id]) -> Result<SymTable, NoMemory>

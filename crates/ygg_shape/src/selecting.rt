@@ -1,21 +1,18 @@
 //! Reading a table at a place that is a term.
 
 ghost use Rattle.std.specs.Prelude.{◌≡◌, ℕ, IfOk, OnOk};
-ghost use Rattle.ygg_rules.specs.Views.{IsWidth};
-ghost use Rattle.ygg_bank.specs.Inputs.{KeepsInputs};
-ghost use Rattle.ygg_bank.specs.Nodes.{Extends, HasWidth, IsBank, Stands};
-ghost use Rattle.ygg_bank.specs.Values.{KeepsValues};
+ghost use Rattle.ygg_shape_cells.specs.ygg_rules.Views.{IsWidth};
+ghost use Rattle.ygg_shape_cells.specs.ygg_bank.Inputs.{KeepsInputs};
+ghost use Rattle.ygg_shape_cells.specs.ygg_bank.Nodes.{Extends, HasWidth, IsBank, Stands};
+ghost use Rattle.ygg_shape_cells.specs.ygg_bank.Values.{KeepsValues};
 ghost use Rattle.ygg_shape_cells.specs.Making.{chosen, selected};
 ghost use Rattle.ygg_shape.specs.Meaning.{AddsAtMostZero, IsConstant, IsRead};
 ghost use Rattle.ygg_shape_cells.specs.Terms.{AreRows, IsRow, IsTable, TableStands};
 
 use crate::places::{TermPlace, where_at};
 use std::alloc::Global;
-use ygg_bank::{Bank, Id, NoMemory};
-use ygg_rules::Book;
 use ygg_shape_cells::cells::{row_or_zeros, zeros};
-use ygg_shape_cells::{SymRow, SymTable};
-use ygg_shape_sums::known;
+use ygg_shape_cells::{Bank, Book, Id, NoMemory, SymRow, SymTable, known};
 
 /// The row at a place of a table, counted from 0, and zeros past the end, in every environment. Where the place is a constant no pick is
 /// made; else a chain of picks over all rows. Its only error is out of memory, after which the bank may have more nodes.

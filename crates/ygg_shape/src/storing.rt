@@ -1,21 +1,18 @@
 //! Writing a table at a place that is a term.
 
 ghost use Rattle.std.specs.Prelude.{◌≡◌, ℕ, length, IfOk, OnOk};
-ghost use Rattle.ygg_rules.specs.Views.{IsWidth};
-ghost use Rattle.ygg_bank.specs.Inputs.{KeepsInputs};
-ghost use Rattle.ygg_bank.specs.Nodes.{Extends, HasWidth, IsBank, Stands};
-ghost use Rattle.ygg_bank.specs.Values.{KeepsValues};
+ghost use Rattle.ygg_shape_cells.specs.ygg_rules.Views.{IsWidth};
+ghost use Rattle.ygg_shape_cells.specs.ygg_bank.Inputs.{KeepsInputs};
+ghost use Rattle.ygg_shape_cells.specs.ygg_bank.Nodes.{Extends, HasWidth, IsBank, Stands};
+ghost use Rattle.ygg_shape_cells.specs.ygg_bank.Values.{KeepsValues};
 ghost use Rattle.ygg_shape_cells.specs.Making.{stored, stored_from};
 ghost use Rattle.ygg_shape.specs.Meaning.{IsConstant, IsWritten};
 ghost use Rattle.ygg_shape_cells.specs.Terms.{AreRows, CanStore, IsRow, IsTable};
 
 use crate::places::{TermPlace, where_at};
 use std::alloc::Global;
-use ygg_bank::{Bank, Id, NoMemory};
-use ygg_rules::Book;
 use ygg_shape_cells::cells::put_row;
-use ygg_shape_cells::{SymRow, SymTable};
-use ygg_shape_sums::known;
+use ygg_shape_cells::{Bank, Book, Id, NoMemory, SymRow, SymTable, known};
 
 /// The table with a row at a place, counted from 0, and the same table past the end, in every environment. Where the place is a constant no
 /// node is made; else a pick for each word. Its only error is out of memory, after which the bank may have more nodes.

@@ -1,11 +1,11 @@
 //! Comparing lists of values: the term that says whether they are equal one by one.
 
 ghost use Rattle.std.specs.Prelude.{◌≡◌, IfOk, OnOk, All};
-ghost use Rattle.ygg_bank.specs.Inputs.{KeepsInputs};
-ghost use Rattle.ygg_bank.specs.Making.{made};
-ghost use Rattle.ygg_bank.specs.Nodes.{Extends, HasWidth, IsBank};
-ghost use Rattle.ygg_bank.specs.Values.{KeepsValues};
-ghost use Rattle.ygg_bank.specs.declared.node.Node.TheVariants.{Bin};
+ghost use Rattle.ygg_shape_cells.specs.ygg_bank.Inputs.{KeepsInputs};
+ghost use Rattle.ygg_shape_cells.specs.ygg_bank.Making.{made};
+ghost use Rattle.ygg_shape_cells.specs.ygg_bank.Nodes.{Extends, HasWidth, IsBank};
+ghost use Rattle.ygg_shape_cells.specs.ygg_bank.Values.{KeepsValues};
+ghost use Rattle.ygg_shape_cells.specs.ygg_bank.declared.node.Node.TheVariants.{Bin};
 ghost use Rattle.ygg_value.specs.declared.operation.Op.TheVariants.{And};
 ghost use Rattle.ygg_shape_cells.specs.Lists.{each_two};
 ghost use Rattle.ygg_shape_cells.specs.Making.{compared};
@@ -13,9 +13,7 @@ ghost use Rattle.ygg_shape.specs.Wholes.{AllAlike, AreCompared, IsDigit, all_com
 
 use crate::comparing::equal;
 use std::alloc::Global;
-use ygg_bank::{Bank, Id, NoMemory, Node};
-use ygg_rules::Book;
-use ygg_shape_cells::SymValue;
+use ygg_shape_cells::{Bank, Book, Id, NoMemory, Node, SymValue};
 use ygg_value::{Op, Word};
 
 /// The term that is 1 where all values are equal, one by one, and 0 where some aren't, in every environment. Its only error is out of

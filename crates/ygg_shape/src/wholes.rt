@@ -2,10 +2,10 @@
 
 ghost use Rattle.std.specs.Prelude.{◌≡◌, List, replicate, IfOk, OnOk};
 ghost use Rattle.ygg_value.specs.Shapes.{IsShape};
-ghost use Rattle.ygg_rules.specs.Views.{IsWidth};
-ghost use Rattle.ygg_bank.specs.Inputs.{KeepsInputs};
-ghost use Rattle.ygg_bank.specs.Nodes.{Extends, HasWidth, IsBank};
-ghost use Rattle.ygg_bank.specs.Values.{KeepsValues};
+ghost use Rattle.ygg_shape_cells.specs.ygg_rules.Views.{IsWidth};
+ghost use Rattle.ygg_shape_cells.specs.ygg_bank.Inputs.{KeepsInputs};
+ghost use Rattle.ygg_shape_cells.specs.ygg_bank.Nodes.{Extends, HasWidth, IsBank};
+ghost use Rattle.ygg_shape_cells.specs.ygg_bank.Values.{KeepsValues};
 ghost use Rattle.ygg_shape_cells.specs.Making.{zeros};
 ghost use Rattle.ygg_value.specs.declared.shape.Shape.{Shape};
 ghost use Rattle.ygg_shape_cells.specs.Terms.{AreShaped, IsShaped};
@@ -13,9 +13,7 @@ ghost use Rattle.ygg_shape.specs.Wholes.{AllAlike, AreMerged, IsZero, merged_all
 
 use crate::merging::merge;
 use std::alloc::Global;
-use ygg_bank::{Bank, Id, NoMemory, Node};
-use ygg_rules::Book;
-use ygg_shape_cells::{SymRow, SymTable, SymValue, SymValues};
+use ygg_shape_cells::{Bank, Book, Id, NoMemory, Node, SymRow, SymTable, SymValue, SymValues};
 use ygg_value::{Shape, Word};
 
 /// The values that are those of `yes` where the test is 1, and those of `no` where it is 0, in every environment. Values that are one term

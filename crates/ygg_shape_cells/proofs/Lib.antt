@@ -1,1 +1,2 @@
+pub use Rattle.ygg_shape_sums.proofs.of_ygg_bank
 pub mod Wider

@@ -6,3 +6,6 @@ pub mod cells;
 pub mod terms;
 
 pub use terms::{SymRow, SymTable, SymValue, SymValues};
+pub use ygg_shape_sums::{
+    Bank, Book, Env, Given, Id, NoMemory, Node, equate, fits, known, pick, same,
+};

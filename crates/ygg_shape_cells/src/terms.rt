@@ -1,8 +1,8 @@
 //! Rows, tables and values whose words are terms of a bank.
 
 use std::alloc::Global;
-use ygg_bank::{Id, NoMemory};
 use ygg_list::{Duplicate, Sequence};
+use ygg_shape_sums::{Id, NoMemory};
 
 /// The terms of a row's words, in order.
 pub type SymRow = Sequence<Id>;

@@ -5,16 +5,16 @@ use Rattle.std.proofs.Math.Nat.{mod-eq_of_lt}
 use Rattle.std.proofs.lemmas.List.Elements.{All-push, All-nil}
 use Rattle.ygg_value.specs.Number.{Number}
 use Rattle.ygg_value.specs.Words.{word, bit_of}
-use Rattle.ygg_rules.specs.Views.{IsWidth}
-use Rattle.ygg_rules.specs.declared.rule.RuleKind.{RuleKind}
-use Rattle.ygg_bank.proofs.Exist.{values_fit}
-use Rattle.ygg_bank.proofs.Meaning.{fits_fewer}
-use Rattle.ygg_bank.proofs.Widths.{wider, width_is, width_fits}
-use Rattle.ygg_bank.specs.Makes.{Out, pure, and_make}
-use Rattle.ygg_bank.specs.Nodes.{width_at, widths_of, HasWidth, Extends, InOrder, IsBank}
-use Rattle.ygg_bank.specs.Values.{Inputs, Values, Fits, value_of}
-use Rattle.ygg_bank.specs.declared.node.Id.{Id}
-use Rattle.ygg_bank.specs.declared.node.Node.{Node}
+use Rattle.ygg_shape_words.specs.ygg_rules.Views.{IsWidth}
+use Rattle.ygg_shape_words.specs.ygg_rules.declared.rule.RuleKind.{RuleKind}
+use Rattle.ygg_shape_words.specs.ygg_bank_proofs_Exist.{values_fit}
+use Rattle.ygg_shape_words.specs.ygg_bank_proofs_Meaning.{fits_fewer}
+use Rattle.ygg_shape_words.specs.ygg_bank_proofs_Widths.{wider, width_is, width_fits}
+use Rattle.ygg_shape_words.specs.ygg_bank.Makes.{Out, pure, and_make}
+use Rattle.ygg_shape_words.specs.ygg_bank.Nodes.{width_at, widths_of, HasWidth, Extends, InOrder, IsBank}
+use Rattle.ygg_shape_words.specs.ygg_bank.Values.{Inputs, Values, Fits, value_of}
+use Rattle.ygg_shape_words.specs.ygg_bank.declared.node.Id.{Id}
+use Rattle.ygg_shape_words.specs.ygg_bank.declared.node.Node.{Node}
 use Rattle.ygg_shape_words.proofs.Compares.{same_words_is}
 use Rattle.ygg_shape_words.proofs.Grows.{picked_grows}
 use Rattle.ygg_shape_words.proofs.Picks.{picked_is}

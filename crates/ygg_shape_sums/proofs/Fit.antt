@@ -7,12 +7,12 @@ use Rattle.ygg_value.specs.Number.{Number}
 use Rattle.ygg_value.specs.Words.{CanApply, result_width}
 use Rattle.ygg_value.specs.declared.operation.Op.{Op}
 use Rattle.ygg_value.specs.declared.operation.Op.TheVariants.{Add, Sub, Mul}
-use Rattle.ygg_bank.proofs.Widths.{wider, stands, has_width, width_is, own_width}
-use Rattle.ygg_bank.specs.Making.{known_in}
-use Rattle.ygg_bank.specs.Nodes.{width_at, widths_of, HasWidth, Stands, InOrder, Extends}
-use Rattle.ygg_bank.specs.declared.node.Id.{Id}
-use Rattle.ygg_bank.specs.declared.node.Node.{Node}
-use Rattle.ygg_bank.specs.declared.node.Node.TheVariants.{Const, Bin, Not, Pick}
+use Rattle.ygg_shape_words.specs.ygg_bank_proofs_Widths.{wider, stands, has_width, width_is, own_width}
+use Rattle.ygg_shape_words.specs.ygg_bank.Making.{known_in}
+use Rattle.ygg_shape_words.specs.ygg_bank.Nodes.{width_at, widths_of, HasWidth, Stands, InOrder, Extends}
+use Rattle.ygg_shape_words.specs.ygg_bank.declared.node.Id.{Id}
+use Rattle.ygg_shape_words.specs.ygg_bank.declared.node.Node.{Node}
+use Rattle.ygg_shape_words.specs.ygg_bank.declared.node.Node.TheVariants.{Const, Bin, Not, Pick}
 use Rattle.ygg_shape_words.proofs.Children.{bin_alike, not_wide, pick_children}
 use Rattle.ygg_shape_sums.specs.Parts.{Sum, PartsFit, PartsAlike, part, merged, with_part}
 use Rattle.ygg_shape_sums.specs.Readings.{ReadingFits, FactsFit, read, read_bin, read_pick, decided, fact}

@@ -2,14 +2,14 @@
 use Rattle.std.proofs.Common.{ℕ, zero, suc, Bool, true, false, ◌==◌, ◌-◌, ◌++◌, ◌∷◌, if◌then◌else◌, Option, Some, None, List, []}
 use Rattle.ygg_value.specs.Words.{word}
 use Rattle.ygg_value.specs.declared.operation.Op.TheVariants.{Add, Mul}
-use Rattle.ygg_rules.specs.declared.rule.RuleKind.{RuleKind}
-use Rattle.ygg_bank.proofs.Widths.{extends_self}
-use Rattle.ygg_bank.specs.Makes.{Make, Out, pure, and_make}
-use Rattle.ygg_bank.specs.Making.{made}
-use Rattle.ygg_bank.specs.Nodes.{width_at, widths_of, Extends}
-use Rattle.ygg_bank.specs.declared.node.Id.{Id}
-use Rattle.ygg_bank.specs.declared.node.Node.{Node}
-use Rattle.ygg_bank.specs.declared.node.Node.TheVariants.{Const, Bin}
+use Rattle.ygg_shape_words.specs.ygg_rules.declared.rule.RuleKind.{RuleKind}
+use Rattle.ygg_shape_words.specs.ygg_bank_proofs_Widths.{extends_self}
+use Rattle.ygg_shape_words.specs.ygg_bank.Makes.{Make, Out, pure, and_make}
+use Rattle.ygg_shape_words.specs.ygg_bank.Making.{made}
+use Rattle.ygg_shape_words.specs.ygg_bank.Nodes.{width_at, widths_of, Extends}
+use Rattle.ygg_shape_words.specs.ygg_bank.declared.node.Id.{Id}
+use Rattle.ygg_shape_words.specs.ygg_bank.declared.node.Node.{Node}
+use Rattle.ygg_shape_words.specs.ygg_bank.declared.node.Node.TheVariants.{Const, Bin}
 use Rattle.ygg_shape_words.proofs.Keeps.{Stays, grows_stays, picked_keeps, same_words_keeps}
 use Rattle.ygg_shape_words.specs.Same.{same_words}
 use Rattle.ygg_shape_sums.specs.Parts.{Sum}

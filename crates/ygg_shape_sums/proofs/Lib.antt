@@ -1,3 +1,4 @@
+pub use Rattle.ygg_shape_words.proofs.of_ygg_bank
 pub mod Modulo
 pub mod Fit
 pub mod Worth

@@ -9,18 +9,18 @@ use Rattle.std.proofs.lemmas.List.Elements.{All-head, All-tail}
 use Rattle.ygg_value.specs.Number.{Number}
 use Rattle.ygg_value.specs.Words.{word, bit_of}
 use Rattle.ygg_value.specs.declared.operation.Op.TheVariants.{Add, Mul}
-use Rattle.ygg_rules.specs.Views.{IsWidth}
-use Rattle.ygg_rules.specs.declared.rule.RuleKind.{RuleKind}
-use Rattle.ygg_bank.proofs.Made.{made_grows}
-use Rattle.ygg_bank.proofs.Meaning.{fits_fewer}
-use Rattle.ygg_bank.proofs.Widths.{wider, stands, width_is, extends_both}
-use Rattle.ygg_bank.specs.Makes.{Make, pure, and_make}
-use Rattle.ygg_bank.specs.Making.{made}
-use Rattle.ygg_bank.specs.Nodes.{HasWidth, CanBin}
-use Rattle.ygg_bank.specs.Values.{Inputs, Values, Fits}
-use Rattle.ygg_bank.specs.declared.node.Id.{Id}
-use Rattle.ygg_bank.specs.declared.node.Node.{Node}
-use Rattle.ygg_bank.specs.declared.node.Node.TheVariants.{Const, Bin}
+use Rattle.ygg_shape_words.specs.ygg_rules.Views.{IsWidth}
+use Rattle.ygg_shape_words.specs.ygg_rules.declared.rule.RuleKind.{RuleKind}
+use Rattle.ygg_shape_words.specs.ygg_bank_proofs_Made.{made_grows}
+use Rattle.ygg_shape_words.specs.ygg_bank_proofs_Meaning.{fits_fewer}
+use Rattle.ygg_shape_words.specs.ygg_bank_proofs_Widths.{wider, stands, width_is, extends_both}
+use Rattle.ygg_shape_words.specs.ygg_bank.Makes.{Make, pure, and_make}
+use Rattle.ygg_shape_words.specs.ygg_bank.Making.{made}
+use Rattle.ygg_shape_words.specs.ygg_bank.Nodes.{HasWidth, CanBin}
+use Rattle.ygg_shape_words.specs.ygg_bank.Values.{Inputs, Values, Fits}
+use Rattle.ygg_shape_words.specs.ygg_bank.declared.node.Id.{Id}
+use Rattle.ygg_shape_words.specs.ygg_bank.declared.node.Node.{Node}
+use Rattle.ygg_shape_words.specs.ygg_bank.declared.node.Node.TheVariants.{Const, Bin}
 use Rattle.ygg_shape_words.proofs.Compares.{same_words_is}
 use Rattle.ygg_shape_words.proofs.Fit.{alike}
 use Rattle.ygg_shape_words.proofs.Grows.{same_words_grows}

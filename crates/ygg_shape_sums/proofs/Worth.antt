@@ -9,13 +9,13 @@ use Rattle.ygg_value.specs.Number.{Number}
 use Rattle.ygg_value.specs.Words.{apply_bits}
 use Rattle.ygg_value.specs.declared.operation.Op.{Op}
 use Rattle.ygg_value.specs.declared.operation.Op.TheVariants.{Add, Sub, Mul, Eq}
-use Rattle.ygg_bank.proofs.Fitting.{constant_there}
-use Rattle.ygg_bank.specs.Making.{known_in}
-use Rattle.ygg_bank.specs.Nodes.{HasWidth}
-use Rattle.ygg_bank.specs.Values.{Inputs, Values, Fits}
-use Rattle.ygg_bank.specs.declared.node.Id.{Id}
-use Rattle.ygg_bank.specs.declared.node.Node.{Node}
-use Rattle.ygg_bank.specs.declared.node.Node.TheVariants.{Const, Bin, Not, Pick}
+use Rattle.ygg_shape_words.specs.ygg_bank_proofs_Fitting.{constant_there}
+use Rattle.ygg_shape_words.specs.ygg_bank.Making.{known_in}
+use Rattle.ygg_shape_words.specs.ygg_bank.Nodes.{HasWidth}
+use Rattle.ygg_shape_words.specs.ygg_bank.Values.{Inputs, Values, Fits}
+use Rattle.ygg_shape_words.specs.ygg_bank.declared.node.Id.{Id}
+use Rattle.ygg_shape_words.specs.ygg_bank.declared.node.Node.{Node}
+use Rattle.ygg_shape_words.specs.ygg_bank.declared.node.Node.TheVariants.{Const, Bin, Not, Pick}
 use Rattle.ygg_shape_words.proofs.Children.{not_wide}
 use Rattle.ygg_shape_words.proofs.Terms.{holds, number_if, bit_is}
 use Rattle.ygg_shape_sums.proofs.Fit.{operands, listed_fit}

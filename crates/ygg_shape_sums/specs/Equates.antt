@@ -1,10 +1,10 @@
 -- What the equality of two words makes in a bank, under a book of these kinds.
 use Rattle.std.specs.Prelude.{ℕ, zero, suc, Bool, true, false, ◌-◌, ◌≡◌, ◌==◌, if◌then◌else◌, Option, Some, None, List, [], ◌∷◌, ◌++◌}
-use Rattle.ygg_rules.specs.declared.rule.RuleKind.{RuleKind}
-use Rattle.ygg_bank.specs.Makes.{Make, pure, and_make}
-use Rattle.ygg_bank.specs.Nodes.{width_at, widths_of}
-use Rattle.ygg_bank.specs.declared.node.Id.{Id}
-use Rattle.ygg_bank.specs.declared.node.Node.{Node}
+use Rattle.ygg_shape_words.specs.ygg_rules.declared.rule.RuleKind.{RuleKind}
+use Rattle.ygg_shape_words.specs.ygg_bank.Makes.{Make, pure, and_make}
+use Rattle.ygg_shape_words.specs.ygg_bank.Nodes.{width_at, widths_of}
+use Rattle.ygg_shape_words.specs.ygg_bank.declared.node.Id.{Id}
+use Rattle.ygg_shape_words.specs.ygg_bank.declared.node.Node.{Node}
 use Rattle.ygg_shape_words.specs.Picking.{picked}
 use Rattle.ygg_shape_words.specs.Same.{same_words}
 use Rattle.ygg_shape_sums.specs.Parts.{Sum, part}

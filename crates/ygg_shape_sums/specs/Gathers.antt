@@ -1,9 +1,9 @@
 -- A sum of terms that are no sums.
 use Rattle.std.specs.Prelude.{ℕ, zero, suc, Bool, true, false, ◌*◌, ◌%◌, ◌^◌, ◌==◌, ◌||◌}
 use Rattle.std.specs.Prelude.{nat_lt, not, if◌then◌else◌, Option, Some, None, List, [], ◌∷◌, ◌++◌, count_by, slice_get}
-use Rattle.ygg_bank.specs.declared.node.Id.{Id}
-use Rattle.ygg_bank.specs.declared.node.Node.{Node}
-use Rattle.ygg_bank.specs.declared.node.Node.TheVariants.{Pick}
+use Rattle.ygg_shape_words.specs.ygg_bank.declared.node.Id.{Id}
+use Rattle.ygg_shape_words.specs.ygg_bank.declared.node.Node.{Node}
+use Rattle.ygg_shape_words.specs.ygg_bank.declared.node.Node.TheVariants.{Pick}
 use Rattle.ygg_shape_sums.specs.Parts.{Sum, part, empty, with_part, with_number}
 use Rattle.ygg_shape_sums.specs.Readings.{read}
 use Rattle.ygg_shape_sums.specs.declared.parts.Part.{Part}

@@ -1,8 +1,8 @@
 -- Sums of terms, each so many times, modulo 2 ^ 64.
 use Rattle.std.specs.Prelude.{ℕ, ◌+◌, ◌%◌, ◌^◌, ◌==◌, nat_lt, if◌then◌else◌, List, [], ◌∷◌, All}
-use Rattle.ygg_bank.specs.Nodes.{HasWidth}
-use Rattle.ygg_bank.specs.declared.node.Id.{Id}
-use Rattle.ygg_bank.specs.declared.node.Node.{Node}
+use Rattle.ygg_shape_words.specs.ygg_bank.Nodes.{HasWidth}
+use Rattle.ygg_shape_words.specs.ygg_bank.declared.node.Id.{Id}
+use Rattle.ygg_shape_words.specs.ygg_bank.declared.node.Node.{Node}
 use Rattle.ygg_shape_sums.specs.declared.parts.Part.{Part}
 
 -- a number, and terms, each so many times

@@ -3,11 +3,11 @@ use Rattle.std.specs.Prelude.{ℕ, Bool, false, ◌==◌, if◌then◌else◌, O
 use Rattle.ygg_value.specs.Number.{Number}
 use Rattle.ygg_value.specs.declared.operation.Op.{Op}
 use Rattle.ygg_value.specs.declared.operation.Op.TheVariants.{Add, Sub, Mul, Eq}
-use Rattle.ygg_bank.specs.Making.{known_in}
-use Rattle.ygg_bank.specs.Nodes.{HasWidth}
-use Rattle.ygg_bank.specs.declared.node.Id.{Id}
-use Rattle.ygg_bank.specs.declared.node.Node.{Node}
-use Rattle.ygg_bank.specs.declared.node.Node.TheVariants.{Const, Bin, Not, Pick}
+use Rattle.ygg_shape_words.specs.ygg_bank.Making.{known_in}
+use Rattle.ygg_shape_words.specs.ygg_bank.Nodes.{HasWidth}
+use Rattle.ygg_shape_words.specs.ygg_bank.declared.node.Id.{Id}
+use Rattle.ygg_shape_words.specs.ygg_bank.declared.node.Node.{Node}
+use Rattle.ygg_shape_words.specs.ygg_bank.declared.node.Node.TheVariants.{Const, Bin, Not, Pick}
 use Rattle.ygg_shape_sums.specs.declared.reading.Fact.{Fact}
 use Rattle.ygg_shape_sums.specs.declared.reading.Reading.{Reading}
 use Rattle.ygg_shape_sums.specs.declared.reading.Reading.TheVariants as reading

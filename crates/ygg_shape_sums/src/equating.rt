@@ -1,10 +1,10 @@
 //! The equality of two words that may be sums.
 
 ghost use Rattle.std.specs.Prelude.{◌≡◌, ◌++◌, ◌∷◌, [], IfOk, OnOk};
-ghost use Rattle.ygg_rules.specs.Views.{IsWidth};
-ghost use Rattle.ygg_bank.specs.Inputs.{KeepsInputs};
-ghost use Rattle.ygg_bank.specs.Nodes.{Extends, HasWidth, IsBank};
-ghost use Rattle.ygg_bank.specs.Values.{KeepsValues};
+ghost use Rattle.ygg_shape_words.specs.ygg_rules.Views.{IsWidth};
+ghost use Rattle.ygg_shape_words.specs.ygg_bank.Inputs.{KeepsInputs};
+ghost use Rattle.ygg_shape_words.specs.ygg_bank.Nodes.{Extends, HasWidth, IsBank};
+ghost use Rattle.ygg_shape_words.specs.ygg_bank.Values.{KeepsValues};
 ghost use Rattle.ygg_shape_words.specs.Forms.{WordsAlike};
 ghost use Rattle.ygg_shape_words.specs.Same.{IsSame};
 ghost use Rattle.ygg_shape_sums.specs.Equates.{IsFound, are_sums, difference, equated_words, subtracted, vanishes_within};
@@ -15,9 +15,7 @@ use crate::gathering::{gather, has_sum, split_of};
 use crate::parts::{Part, Total, copied};
 use crate::reading::{Fact, LESS_ONE};
 use crate::siding::vanishes;
-use ygg_bank::{Bank, Id, NoMemory};
-use ygg_rules::Book;
-use ygg_shape_words::{pick, same};
+use ygg_shape_words::{Bank, Book, Id, NoMemory, pick, same};
 
 /// How often a comparison of sums may be split.
 pub const EQUATE_LIMIT: u32 = 40;

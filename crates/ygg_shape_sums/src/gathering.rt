@@ -1,14 +1,14 @@
 //! A sum of terms that are no sums.
 
 ghost use Rattle.std.specs.Prelude.{◌≡◌, ◌++◌, IfOk, OnOk, Some, slice_get};
-ghost use Rattle.ygg_bank.specs.Nodes.{IsBank, Stands};
+ghost use Rattle.ygg_shape_words.specs.ygg_bank.Nodes.{IsBank, Stands};
 ghost use Rattle.ygg_shape_sums.specs.Gathers.{below, counted, first_test, gathered_sum, has_sum, is_rich, is_sum, parts_of, split_of, test_at, with_all};
 ghost use Rattle.ygg_shape_sums.specs.Parts.{PartsAlike, Sum};
 ghost use Rattle.ygg_shape_sums.specs.Readings.{FactsFit};
 
 use crate::parts::{Part, Total, copied, put};
 use crate::reading::{Fact, Reading, read};
-use ygg_bank::{Bank, Id, NoMemory, Node};
+use ygg_shape_words::{Bank, Id, NoMemory, Node};
 
 /// How many terms of a sum are read.
 pub const READ_LIMIT: usize = 200;

@@ -8,4 +8,6 @@ pub mod reading;
 pub mod siding;
 
 pub use equating::{EQUATE_LIMIT, equate};
-pub use ygg_shape_words::{fits, known, pick, resize, same};
+pub use ygg_shape_words::{
+    Bank, Book, Env, Given, Id, NoMemory, Node, fits, known, pick, resize, same,
+};

@@ -6,7 +6,7 @@ ghost use Rattle.ygg_shape_sums.specs.Parts.{Sum, empty, with_number, with_part}
 
 use std::alloc::Global;
 use std::marker::Model;
-use ygg_bank::{Id, NoMemory};
+use ygg_shape_words::{Id, NoMemory};
 
 /// A term so many times.
 #[derive(Clone, Copy, PartialEq, Eq, Drop)]

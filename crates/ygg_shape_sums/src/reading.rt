@@ -1,11 +1,10 @@
 //! What a term is, as a sum of terms.
 
 ghost use Rattle.std.specs.Prelude.{◌≡◌, slice_get};
-ghost use Rattle.ygg_bank.specs.Nodes.{IsBank, Stands};
+ghost use Rattle.ygg_shape_words.specs.ygg_bank.Nodes.{IsBank, Stands};
 ghost use Rattle.ygg_shape_sums.specs.Readings.{FactsFit, decided, differ, excluded, read, read_bin, said};
 
-use ygg_bank::{Bank, Id, Node};
-use ygg_shape_words::known;
+use ygg_shape_words::{Bank, Id, Node, known};
 use ygg_value::{Op, Word};
 
 /// What added to 1 gives 0.

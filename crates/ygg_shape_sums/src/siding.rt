@@ -2,18 +2,16 @@
 
 ghost use Rattle.std.specs.Prelude.{◌≡◌, ◌<◌, ◌^◌, IfOk, OnOk};
 ghost use Rattle.ygg_value.specs.Words.{word};
-ghost use Rattle.ygg_bank.specs.Making.{made};
-ghost use Rattle.ygg_bank.specs.declared.node.Node.TheVariants as node;
+ghost use Rattle.ygg_shape_words.specs.ygg_bank.Making.{made};
+ghost use Rattle.ygg_shape_words.specs.ygg_bank.declared.node.Node.TheVariants as node;
 ghost use Rattle.ygg_value.specs.declared.operation.Op.TheVariants as op;
-ghost use Rattle.ygg_rules.specs.Views.{IsWidth};
-ghost use Rattle.ygg_bank.specs.Nodes.{Extends, HasWidth, IsBank};
+ghost use Rattle.ygg_shape_words.specs.ygg_rules.Views.{IsWidth};
+ghost use Rattle.ygg_shape_words.specs.ygg_bank.Nodes.{Extends, HasWidth, IsBank};
 ghost use Rattle.ygg_shape_sums.specs.Parts.{PartsFit, Sum};
 ghost use Rattle.ygg_shape_sums.specs.Sides.{all_more, more, share, side, vanishes};
 
 use crate::parts::{Part, Total};
-use ygg_bank::{Bank, Id, NoMemory, Node};
-use ygg_rules::Book;
-use ygg_shape_words::same;
+use ygg_shape_words::{Bank, Book, Id, NoMemory, Node, same};
 use ygg_value::{Op, Word, apply, resize};
 
 /// How often what is there so many times stands on a side: on the first, or its opposite on the second, whichever is less.

@@ -1,3 +1,4 @@
+pub use Rattle.ygg_bank.proofs as of_ygg_bank
 pub mod Terms
 pub mod Children
 pub mod Tests

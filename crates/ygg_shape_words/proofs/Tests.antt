@@ -1,7 +1,8 @@
 -- Equalities of numbers under a modulus, undone.
 use Rattle.std.specs.Prelude.{nat_lt}
-use Rattle.std.proofs.Common.{◌≡◌, ◌<◌, ◌≤◌, ◌==◌, ◌+◌, ◌-◌, ◌%◌, ◌^◌, ◌⊎◌, inl, inr, ℕ, Bool, true, false, refl, sym, ap, ◌∙◌, arith}
-use Rattle.std.proofs.Math.Nat.{mod-eq_of_lt, mod-eq-sub-mod}
+use Rattle.std.proofs.Common.{◌≡◌, ◌<◌, ◌≤◌, ◌==◌, ◌+◌, ◌-◌, ◌*◌, ◌%◌, ◌^◌, ◌⊎◌, inl, inr, ℕ, Bool, true, false, refl, sym, ap, ◌∙◌, arith}
+use Rattle.std.proofs.Math.Nat.{mod-eq_of_lt, mod-eq-sub-mod, mul_assoc, mul_comm, mul-one}
+use Rattle.std.proofs.lemmas.Nat.{mul-mod_first, mul-mod_second}
 use Rattle.std.proofs.lemmas.Bool.{cases_lt}
 use Rattle.std.proofs.lemmas.Bool.Decides.{nat_tests, Decides-eqb}
 
@@ -60,6 +61,20 @@ sub_turned m x c k p q r = same_test ((c + m - x) % m) k x ((c + m - k) % m) (λ
     there_case : (c + m - x ≡ (c + m - x) % m) ⊎ (c + m - x ≡ (c + m - x) % m + m) → x ≡ (c + m - k) % m
     there_case (inl h) = sym (mod_is (c + m - k) m x p (inl (omega arith)))
     there_case (inr h) = sym (mod_is (c + m - k) m x p (inr (omega arith)))
+
+-- what is multiplied and then multiplied by the inverse is what it was
+times_back : (m a c i : ℕ) → a < m → (c * i) % m ≡ 1 → ((a * c) % m * i) % m ≡ a
+times_back m a c i l e =
+    mul-mod_first (a * c) i m ∙ ap (λ z. z % m) (mul_assoc a c i) ∙ sym (mul-mod_second a (c * i) m) ∙ ap (λ z. (a * z) % m) e
+    ∙ ap (λ z. z % m) (mul-one a) ∙ mod-eq_of_lt l
+
+pub mul_undone : (m x c i k : ℕ) → x < m → k < m → (c * i) % m ≡ 1 → ((x * c) % m == k) ≡ (x == (k * i) % m)
+mul_undone m x c i k p q e = same_test ((x * c) % m) k x ((k * i) % m) forth back where
+  forth : (x * c) % m ≡ k → x ≡ (k * i) % m
+  forth h = sym (times_back m x c i p e) ∙ ap (λ z. (z * i) % m) h
+
+  back : x ≡ (k * i) % m → (x * c) % m ≡ k
+  back h = ap (λ z. (z * c) % m) h ∙ times_back m k i c q (ap (λ z. z % m) (mul_comm i c) ∙ e)
 
 pub not_undone : (m x k : ℕ) → x < m → k < m → (m - 1 - x == k) ≡ (x == m - 1 - k)
 not_undone m x k p q = same_test (m - 1 - x) k x (m - 1 - k) (λ e. omega arith) (λ e. omega arith)

@@ -8,6 +8,7 @@ use Rattle.std.proofs.Common.{
   ◌%◌,
   ◌+◌,
   ◌-◌,
+  ◌*◌,
   ℕ,
   Bool,
   true,
@@ -27,15 +28,15 @@ use Rattle.std.proofs.Common.{
   arith,
 }
 use Rattle.std.specs.Prelude.{nat_lt}
-use Rattle.std.proofs.Math.Nat.{add_comm, mod-eq_of_lt, pow-le-pow_right, lt_of_lt_of_le}
+use Rattle.std.proofs.Math.Nat.{add_comm, mul_comm, mod-eq_of_lt, pow-le-pow_right, lt_of_lt_of_le}
 use Rattle.std.proofs.lemmas.Nat.{xor_comm}
 use Rattle.std.specs.Int.Bits.{bit_xor, xor_assoc, xor_self, xor_zero_r}
-use Rattle.std.proofs.lemmas.Bool.Decides.{nat_tests}
+use Rattle.std.proofs.lemmas.Bool.Decides.{nat_tests, Decides-eqb}
 use Rattle.ygg_value.proofs.Results.{apply_to-IsWord, not_of-IsWord}
 use Rattle.ygg_value.specs.Number.{Number, IsWord}
 use Rattle.ygg_value.specs.Words.{word, apply_to, not_of, resized, result_width, CanApply}
 use Rattle.ygg_value.specs.declared.operation.Op.{Op}
-use Rattle.ygg_value.specs.declared.operation.Op.TheVariants.{Add, Sub, Xor}
+use Rattle.ygg_value.specs.declared.operation.Op.TheVariants.{Add, Sub, Mul, Xor}
 use Rattle.ygg_bank.proofs.Fitting.{constant_there}
 use Rattle.ygg_bank.proofs.Widths.{width_is, own_width, has_width, width_fits, constant_word}
 use Rattle.ygg_bank.specs.Making.{known_in}
@@ -45,8 +46,8 @@ use Rattle.ygg_bank.specs.declared.node.Id.{Id}
 use Rattle.ygg_bank.specs.declared.node.Node.{Node}
 use Rattle.ygg_bank.specs.declared.node.Node.TheVariants.{Const, Bin, Not, Resize}
 use Rattle.ygg_shape_words.proofs.Children.{bin_alike, not_wide, resize_stands}
-use Rattle.ygg_shape_words.proofs.Tests.{same_test, add_undone, sub_undone, sub_turned, not_undone}
-use Rattle.ygg_shape_words.specs.Forms.{ConstantFits, against, undo_bin, undo_first, undo_second, undo_resize}
+use Rattle.ygg_shape_words.proofs.Tests.{same_test, add_undone, sub_undone, sub_turned, mul_undone, not_undone}
+use Rattle.ygg_shape_words.specs.Forms.{ConstantFits, against, undo_bin, undo_first, undo_second, undo_product, undo_resize, inverse_of, nearer}
 use Rattle.ygg_shape_words.specs.declared.forms.Form.{Form}
 use Rattle.ygg_shape_words.specs.declared.forms.Form.TheVariants as form
 
@@ -109,6 +110,43 @@ module _ (c k : Number) (q : IsWord c) (r : IsWord k) (e : c.width ≡ k.width) 
     words = λ x p d. ap (λ z. z == k.bits) (xor_comm c.bits x.bits) ∙ xor_undone x.bits c.bits k.bits;
   }
 
+  module _ (i : Number) (j : IsWord i) (d : i.width ≡ c.width) (h : ((apply_to Mul c i).bits == 1) ≡ true) where
+    inverts : (c.bits * i.bits) % 2 ^ k.width ≡ 1
+    inverts = ap (λ w. (c.bits * i.bits) % 2 ^ w) (sym e) ∙ (Decides-eqb (apply_to Mul c i).bits 1).0 h
+
+    mul_first : Undoes (λ x. apply_to Mul x c) (λ k. apply_to Mul k i) k
+    mul_first = record {
+      is_word = apply_to-IsWord Mul k i r j (sym (d ∙ e));
+      wide = refl;
+      words = λ x p f. ap (λ w. (x.bits * c.bits) % 2 ^ w == k.bits) f ∙ mul_undone (2 ^ k.width) x.bits c.bits i.bits k.bits (below x k p f) r.fits inverts;
+    }
+
+    mul_second : Undoes (λ x. apply_to Mul c x) (λ k. apply_to Mul k i) k
+    mul_second = record {
+      is_word = apply_to-IsWord Mul k i r j (sym (d ∙ e));
+      wide = refl;
+      words = λ x p f. ap (λ w. (c.bits * x.bits) % 2 ^ w == k.bits) e ∙ ap (λ z. z % 2 ^ k.width == k.bits) (mul_comm c.bits x.bits)
+          ∙ mul_undone (2 ^ k.width) x.bits c.bits i.bits k.bits (below x k p f) r.fits inverts;
+    }
+
+-- a step of the iteration gives a word of the width
+nearer_word : (c i : Number) → IsWord c → IsWord i → c.width ≡ i.width → IsWord (nearer c i)
+nearer_word c i q j e =
+    let s : Number = apply_to Mul i i in
+    apply_to-IsWord Sub (apply_to Add i i) (apply_to Mul c s) (apply_to-IsWord Add i i j j refl)
+    (apply_to-IsWord Mul c s q (apply_to-IsWord Mul i i j j refl) e) (sym e)
+
+inverse_word : (c : Number) → IsWord c → IsWord (inverse_of c) × ((inverse_of c).width ≡ c.width)
+unfolding inverse_of
+inverse_word c q =
+    let six = nearer c c in
+    let twelve = nearer c six in
+    let more = nearer c twelve in
+    let most = nearer c more in (
+      nearer_word c most q (nearer_word c more q (nearer_word c twelve q (nearer_word c six q (nearer_word c c q q refl) refl) refl) refl) refl,
+      refl,
+    )
+
 not_words : (k : Number) → IsWord k → Undoes not_of not_of k
 not_words k q = record {
   is_word = not_of-IsWord k q;
@@ -142,6 +180,8 @@ constant_fits nodes a x y z Add k (Some c) i e h f g =
     known_wide nodes k.width z c i (g k.width (own_operands nodes a x y Add k.width i e h (λ x y d. d) (λ w. refl))) f
 constant_fits nodes a x y z Sub k (Some c) i e h f g =
     known_wide nodes k.width z c i (g k.width (own_operands nodes a x y Sub k.width i e h (λ x y d. d) (λ w. refl))) f
+constant_fits nodes a x y z Mul k (Some c) i e h f g =
+    known_wide nodes k.width z c i (g k.width (own_operands nodes a x y Mul k.width i e h (λ x y d. d) (λ w. refl))) f
 constant_fits nodes a x y z Xor k (Some c) i e h f g =
     known_wide nodes k.width z c i (g k.width (own_operands nodes a x y Xor k.width i e h (λ x y d. d) (λ w. refl))) f
 constant_fits nodes a x y z op k o i e h f g = tt
@@ -181,6 +221,13 @@ module _ (inputs : Inputs) (v : Values) (nodes : List Node) (f : Fits inputs v n
   known_word : (y : Id) (c : Number) → known_in (slice_get nodes y.0) ≡ Some c → IsWord c
   known_word y c e = constant_word nodes y.0 c f.ordered (constant_there nodes y c e)
 
+  -- a product that is undone where the constant has this inverse
+  product_is : (a x : Id) (k c i : Number) (b : Bool) → ((apply_to Mul c i).bits == 1) ≡ b → (g : Number → Number) → v a.0 ≡ g (v x.0) →
+      HasWidth nodes x k.width → (((apply_to Mul c i).bits == 1) ≡ true → Undoes g (λ k. apply_to Mul k i) k) →
+      IsAgainst a k (if b then form.Against x (apply_to Mul k i) else form.Plain)
+  product_is a x k c i true d g e h u = undone a x k g (λ z. apply_to Mul z i) (u d) e h
+  product_is a x k c i false d g e h u = tt
+
   first_is : (op : Op) (a x y : Id) (k c : Number) → slice_get nodes a.0 ≡ Some (Bin op x y) → HasWidth nodes a k.width → IsWord k →
       known_in (slice_get nodes y.0) ≡ Some c → IsAgainst a k (undo_first op x k c)
   first_is Add a x y k c e h r g =
@@ -191,6 +238,13 @@ module _ (inputs : Inputs) (v : Values) (nodes : List Node) (f : Fits inputs v n
       let p = own_operands nodes a x y Sub k.width f.ordered e h (λ x y d. d) (λ w. refl) in
       undone a x k (λ z. apply_to Sub z c) (λ z. apply_to Add z c) (sub_first c k (known_word y c g) r (known_wide nodes k.width y c f.ordered p.1 g))
       (f.values a.0 (Bin Sub x y) e ∙ ap (apply_to Sub (v x.0)) (known_value y c g)) p.0
+  first_is Mul a x y k c e h r g =
+      let p = own_operands nodes a x y Mul k.width f.ordered e h (λ x y d. d) (λ w. refl) in
+      let q = known_word y c g in
+      let i = inverse_word c q in
+      product_is a x k c (inverse_of c) ((apply_to Mul c (inverse_of c)).bits == 1) refl (λ z. apply_to Mul z c)
+      (f.values a.0 (Bin Mul x y) e ∙ ap (apply_to Mul (v x.0)) (known_value y c g)) p.0
+      (mul_first c k q r (known_wide nodes k.width y c f.ordered p.1 g) (inverse_of c) i.0 i.1)
   first_is Xor a x y k c e h r g =
       let p = own_operands nodes a x y Xor k.width f.ordered e h (λ x y d. d) (λ w. refl) in
       undone a x k (λ z. apply_to Xor z c) (λ z. apply_to Xor z c) (xor_first c k (known_word y c g) r (known_wide nodes k.width y c f.ordered p.1 g))
@@ -207,6 +261,13 @@ module _ (inputs : Inputs) (v : Values) (nodes : List Node) (f : Fits inputs v n
       let p = own_operands nodes a x y Sub k.width f.ordered e h (λ x y d. d) (λ w. refl) in
       undone a y k (λ z. apply_to Sub c z) (λ z. apply_to Sub c z) (sub_second c k (known_word x c g) r (known_wide nodes k.width x c f.ordered p.0 g))
       (f.values a.0 (Bin Sub x y) e ∙ ap (λ z. apply_to Sub z (v y.0)) (known_value x c g)) p.1
+  second_is Mul a x y k c e h r g =
+      let p = own_operands nodes a x y Mul k.width f.ordered e h (λ x y d. d) (λ w. refl) in
+      let q = known_word x c g in
+      let i = inverse_word c q in
+      product_is a y k c (inverse_of c) ((apply_to Mul c (inverse_of c)).bits == 1) refl (λ z. apply_to Mul c z)
+      (f.values a.0 (Bin Mul x y) e ∙ ap (λ z. apply_to Mul z (v y.0)) (known_value x c g)) p.1
+      (mul_second c k q r (known_wide nodes k.width x c f.ordered p.0 g) (inverse_of c) i.0 i.1)
   second_is Xor a x y k c e h r g =
       let p = own_operands nodes a x y Xor k.width f.ordered e h (λ x y d. d) (λ w. refl) in
       undone a y k (λ z. apply_to Xor c z) (λ z. apply_to Xor z c) (xor_second c k (known_word x c g) r (known_wide nodes k.width x c f.ordered p.0 g))

@@ -3,7 +3,7 @@ use Rattle.std.specs.Prelude.{ℕ, ◌≡◌, ◌==◌, ◌&&◌, ◌^◌, nat_l
 use Rattle.ygg_value.specs.Number.{Number, IsWord}
 use Rattle.ygg_value.specs.Words.{word, apply_to, not_of}
 use Rattle.ygg_value.specs.declared.operation.Op.{Op}
-use Rattle.ygg_value.specs.declared.operation.Op.TheVariants.{Add, Sub, Xor}
+use Rattle.ygg_value.specs.declared.operation.Op.TheVariants.{Add, Sub, Mul, Xor}
 use Rattle.ygg_bank.specs.Making.{known_in}
 use Rattle.ygg_bank.specs.Nodes.{width_at, widths_of, HasWidth}
 use Rattle.ygg_bank.specs.declared.node.Id.{Id}
@@ -19,10 +19,23 @@ form_of_picks a b t x y u p q =
     else if x.0 == p.0 && y.0 == q.0 then form.Either t u x y
     else if nat_lt t.0 u.0 then form.Split u a p a q else form.Split t x b y b
 
+-- what of the inverse of a number, modulo 2 to its width, is right in so many lowest digits becomes right in twice as many
+abbrev pub nearer : Number → Number → Number
+nearer c i = apply_to Sub (apply_to Add i i) (apply_to Mul c (apply_to Mul i i))
+
+-- the inverse of an odd number modulo 2 to its width: in the three lowest digits it is the number itself
+unfoldable pub inverse_of : Number → Number
+inverse_of c = nearer c (nearer c (nearer c (nearer c (nearer c c))))
+
+-- how the equality of the product of x and the constant c, which may have the inverse i, with the constant k goes on
+abbrev pub undo_product : Id → Number → Number → Number → Form
+undo_product x k c i = if (apply_to Mul c i).bits == 1 then form.Against x (apply_to Mul k i) else form.Plain
+
 -- how the equality of an operation on x and the constant c with the constant k goes on
 abbrev pub undo_first : Op → Id → Number → Number → Form
 undo_first Add x k c = form.Against x (apply_to Sub k c)
 undo_first Sub x k c = form.Against x (apply_to Add k c)
+undo_first Mul x k c = undo_product x k c (inverse_of c)
 undo_first Xor x k c = form.Against x (apply_to Xor k c)
 undo_first op x k c = form.Plain
 
@@ -30,6 +43,7 @@ undo_first op x k c = form.Plain
 abbrev pub undo_second : Op → Id → Number → Number → Form
 undo_second Add y k c = form.Against y (apply_to Sub k c)
 undo_second Sub y k c = form.Against y (apply_to Sub c k)
+undo_second Mul y k c = undo_product y k c (inverse_of c)
 undo_second Xor y k c = form.Against y (apply_to Xor k c)
 undo_second op y k c = form.Plain
 
@@ -84,5 +98,6 @@ FormFits nodes (form.Against x k) = HasWidth nodes x k.width × IsWord k
 abbrev pub ConstantFits : Op → Number → Option Number → Type 0
 ConstantFits Add k (Some c) = c.width ≡ k.width
 ConstantFits Sub k (Some c) = c.width ≡ k.width
+ConstantFits Mul k (Some c) = c.width ≡ k.width
 ConstantFits Xor k (Some c) = c.width ≡ k.width
 ConstantFits op k c = Unit {0}

@@ -228,8 +228,8 @@ fn either<B: Book>(bank: &mut Bank, book: &B, one: Id, two: Id) -> Result<Id, No
 }
 
 /// The term that is 1 where two words of one width are equal, and 0 where they aren't, in every environment. Picks on either side are moved
-/// out, and sums, differences, complements and added digits undone where the other side is a constant, up to `SPLIT_LIMIT` in all. Its only error is
-/// out of memory, after which the bank may have more nodes.
+/// out, and sums, differences, products by an odd constant, complements and added digits undone where the other side is a constant, up to `SPLIT_LIMIT`
+/// in all. Its only error is out of memory, after which the bank may have more nodes.
 pub fn same<B: Book>(bank: &mut Bank, book: &B, one: Id, two: Id) -> Result<Id, NoMemory>
     requires words { WordsAlike bank.old one two }
     ensures nodes { OnOk result (bank.new ≡ (same_words (B.kinds book.now) one two bank.old).nodes) }

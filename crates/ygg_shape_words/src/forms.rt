@@ -4,7 +4,8 @@ ghost use Rattle.std.specs.Prelude.{◌≡◌, ◌^◌, nat_lt, Some, slice_get}
 ghost use Rattle.ygg_rules.specs.Views.{IsWidth};
 ghost use Rattle.ygg_bank.specs.Making.{known_in};
 ghost use Rattle.ygg_bank.specs.Nodes.{HasWidth, IsBank};
-ghost use Rattle.ygg_shape_words.specs.Forms.{ConstantFits, WordsAlike, against, against_known, form_of, undo_bin, undo_first, undo_resize, undo_second};
+ghost use Rattle.ygg_shape_words.specs.Forms.{ConstantFits, WordsAlike, against, against_known, form_of, inverse_of, nearer};
+ghost use Rattle.ygg_shape_words.specs.Forms.{undo_bin, undo_first, undo_product, undo_resize, undo_second};
 
 use crate::picking::known;
 use ygg_bank::{Bank, Id, Node};
@@ -181,6 +182,7 @@ fn undo_first(op: Op, term: Id, word: Word, constant: Word) -> Form
             term,
             word: apply(Op::Add, word, constant),
         },
+        Op::Mul => undo_product(term, word, constant),
         Op::Xor => Form::Against {
             term,
             word: apply(Op::Xor, word, constant),
@@ -203,12 +205,52 @@ fn undo_second(op: Op, term: Id, word: Word, constant: Word) -> Form
             term,
             word: apply(Op::Sub, constant, word),
         },
+        Op::Mul => undo_product(term, word, constant),
         Op::Xor => Form::Against {
             term,
             word: apply(Op::Xor, word, constant),
         },
         _ => Form::Plain,
     }
+}
+
+/// How the equality of the product of a term and a constant with a word goes on: an odd constant has an inverse modulo 2 to its width.
+fn undo_product(term: Id, word: Word, constant: Word) -> Form
+    requires { constant.width ≡ word.width }
+    ensures { result ≡ undo_product term word constant (inverse_of constant) }
+{
+    let inverse = inverse_of(constant);
+    if apply(Op::Mul, constant, inverse).bits == 1 {
+        Form::Against {
+            term,
+            word: apply(Op::Mul, word, inverse),
+        }
+    } else {
+        Form::Plain
+    }
+}
+
+/// The inverse of an odd word modulo 2 to its width, by Newton's iteration. Any odd word is its own inverse in the three lowest digits.
+fn inverse_of(word: Word) -> Word
+    ensures value { result ≡ inverse_of word }
+    ensures width { result.width ≡ word.width }
+{
+    let six = nearer(word, word);
+    let twelve = nearer(word, six);
+    let twenty_four = nearer(word, twelve);
+    let forty_eight = nearer(word, twenty_four);
+    nearer(word, forty_eight)
+}
+
+/// A step of this iteration, which doubles how many lowest digits are right.
+fn nearer(word: Word, inverse: Word) -> Word
+    requires { word.width ≡ inverse.width }
+    ensures value { result ≡ nearer word inverse }
+    ensures width { result.width ≡ inverse.width }
+{
+    let twice = apply(Op::Add, inverse, inverse);
+    let square = apply(Op::Mul, inverse, inverse);
+    apply(Op::Sub, twice, apply(Op::Mul, word, square))
 }
 
 /// How the equality of a term, which has `digits` digits, at a width with a word goes on.

@@ -10,3 +10,5 @@ pub use comparing::{SPLIT_LIMIT, same};
 pub use forms::fits;
 pub use picking::{known, pick};
 pub use resizing::resize;
+pub use ygg_bank::{Bank, Env, Given, Id, NoMemory, Node};
+pub use ygg_rules::Book;

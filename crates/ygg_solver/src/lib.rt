@@ -22,4 +22,4 @@ mod solving;
 
 pub use answer::Answer;
 pub use solving::{solve, solve_and_count, solve_owned};
-pub use ygg_watch_order::Work;
+pub use ygg_solver_search::{Assignment, Lit, Step, Work, truth};

@@ -6,12 +6,11 @@ use crate::answer::Answer;
 use crate::names::{assignment_of, name_log, number_all};
 use std::alloc::Global;
 use ygg_chain::Variables;
-use ygg_cnf::{Clauses, Log};
 use ygg_list::NoMemory;
-use ygg_solver_search::{SearchEnd, order_for, search_clauses};
+use ygg_solver_search::{
+    Clauses, Log, Order, SearchEnd, Trail, Work, load, order_for, search_clauses,
+};
 use ygg_watch::Watch;
-use ygg_watch_order::{Order, Work};
-use ygg_watch_plain::{Trail, load};
 
 /// Whether a clause is empty.
 fn has_empty(clauses: &Clauses) -> bool

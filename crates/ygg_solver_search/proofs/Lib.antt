@@ -1,3 +1,4 @@
+pub use Rattle.ygg_cnf.proofs as of_ygg_cnf
 pub mod LeftLemmas
 pub mod LogLemmas
 pub mod ModelLemmas

@@ -8,3 +8,7 @@ mod searching;
 
 pub use advice::order_for;
 pub use searching::{SearchEnd, search_clauses};
+pub use ygg_cnf::{Assignment, Clause, Clauses, Lit, Log, Step, truth};
+pub use ygg_watch_order::{Order, Work};
+pub use ygg_watch_plain::{Trail, load};
+pub use ygg_watch_trail::Entry;

@@ -1,3 +1,8 @@
+pub use Rattle.ygg_sym_laws_disk.proofs.of_ygg_shape
+pub use Rattle.ygg_sym_laws_disk.proofs.of_ygg_sym_below
+pub use Rattle.ygg_sym_disk_stops.proofs.of_ygg_sym_disk
+pub use Rattle.ygg_sym_laws_disk.proofs.of_ygg_sym_expr
+pub use Rattle.ygg_sym_laws_disk.proofs.of_ygg_sym_runs
 pub mod Carried
 pub mod Left
 pub mod Losing

@@ -2,16 +2,16 @@
 use Rattle.std.proofs.Common.{◌≡◌, ℕ, List, [], IsTrue, sym, ap, ◌∙◌, subst}
 use Rattle.ygg_syntax.specs.declared.tree.Def.{Def}
 use Rattle.ygg_syntax.specs.declared.tree.DiskText.{DiskText}
-use Rattle.ygg_type_rules.specs.TypeErrors.{none}
-use Rattle.ygg_type_rules.specs.Definitions.{definitions_errors}
-use Rattle.ygg_rules.specs.declared.rule.RuleKind.{RuleKind}
-use Rattle.ygg_bank.specs.declared.node.Node.{Node}
-use Rattle.ygg_shape_cells.specs.declared.terms.SymValue.{SymValue}
-use Rattle.ygg_sym_runs.specs.Lower.{SingleFrom, Stands}
-use Rattle.ygg_sym_disk.specs.SymBelowLows.{LowShaped}
-use Rattle.ygg_sym_disk.specs.SpecCuts.{spec_stops}
-use Rattle.ygg_sym_disk.specs.Specs.{input_pick, sym_spec}
-use Rattle.ygg_sym_disk.specs.Means.{disk_meaning}
+use Rattle.ygg_sym_laws_disk.specs.ygg_type_rules.TypeErrors.{none}
+use Rattle.ygg_sym_laws_disk.specs.ygg_type_rules.Definitions.{definitions_errors}
+use Rattle.ygg_sym_laws_disk.specs.ygg_rules.declared.rule.RuleKind.{RuleKind}
+use Rattle.ygg_sym_laws_disk.specs.ygg_bank.declared.node.Node.{Node}
+use Rattle.ygg_sym_laws_disk.specs.ygg_shape_cells.declared.terms.SymValue.{SymValue}
+use Rattle.ygg_sym_laws_disk.specs.ygg_sym_runs.Lower.{SingleFrom, Stands}
+use Rattle.ygg_sym_disk_stops.specs.ygg_sym_disk.SymBelowLows.{LowShaped}
+use Rattle.ygg_sym_disk_stops.specs.ygg_sym_disk.SpecCuts.{spec_stops}
+use Rattle.ygg_sym_disk_stops.specs.ygg_sym_disk.Specs.{input_pick, sym_spec}
+use Rattle.ygg_sym_disk_stops.specs.ygg_sym_disk.Means.{disk_meaning}
 use Rattle.ygg_sym_laws_disk.specs.Below.{lows_on, machine_on, signatures_on, space_on, stops_on}
 use Rattle.ygg_sym_laws_disk.specs.Means.{terms_of}
 use Rattle.ygg_sym_laws_disk.specs.Typed.{BelowTyped, SpecTyped}

@@ -6,33 +6,33 @@ use Rattle.std.proofs.lemmas.List.Elements.{All-append}
 use Rattle.ygg_syntax.specs.declared.grammar.BlockKind.TheVariants.{Impl}
 use Rattle.ygg_syntax.specs.declared.tree.Block.{Block}
 use Rattle.ygg_syntax.specs.declared.tree.Declared.{Declared}
-use Rattle.ygg_meaning.specs.Environments.{Name, bind}
-use Rattle.ygg_meaning.specs.Meaning.{functions_of}
-use Rattle.ygg_type_sound.specs.Agrees.{Agrees}
-use Rattle.ygg_type_progress.specs.Blocks.{is_returned}
-use Rattle.ygg_type_progress.specs.Kinds.{keeps}
-use Rattle.ygg_type_progress.specs.Questions.{plain}
-use Rattle.ygg_rules.specs.declared.rule.RuleKind.{RuleKind}
-use Rattle.ygg_bank.specs.Makes.{Make}
-use Rattle.ygg_bank.specs.Nodes.{HasWidth, IsBank}
-use Rattle.ygg_bank.specs.Values.{Fits, value_of}
-use Rattle.ygg_bank.specs.declared.node.Id.{Id}
-use Rattle.ygg_bank.specs.declared.node.Node.{Node}
-use Rattle.ygg_shape.proofs.Answered.{no_inputs, some_fit}
-use Rattle.ygg_shape_cells.specs.Terms.{worth}
-use Rattle.ygg_shape_cells.specs.declared.terms.SymValue.{SymValue}
-use Rattle.ygg_direct.specs.Direct.{room_of}
-use Rattle.ygg_sym_expr.specs.Names.{SymEnv, sym_bind}
-use Rattle.ygg_sym_expr.specs.Meaning.{worths}
-use Rattle.ygg_sym_runs.specs.Lower.{SymMeaning, Stands}
-use Rattle.ygg_sym_runs.specs.Meaning.{AnswerShaped, answer_worth}
-use Rattle.ygg_sym_runs.specs.Runs.{SymMachine}
-use Rattle.ygg_sym_runs.proofs.Worths.{NameShaped}
-use Rattle.ygg_sym_disk.specs.SymBelowLows.{LowShaped}
-use Rattle.ygg_sym_disk.specs.StopTerms.{Stops, SymFallen, stop_whole}
-use Rattle.ygg_sym_disk.specs.Wholes.{sym_whole}
-use Rattle.ygg_sym_disk.proofs.Blocks.{values_worth}
-use Rattle.ygg_sym_disk.proofs.Specs.{bound_worth, low_shaped}
+use Rattle.ygg_sym_laws_disk.specs.ygg_meaning.Environments.{Name, bind}
+use Rattle.ygg_sym_laws_disk.specs.ygg_meaning.Meaning.{functions_of}
+use Rattle.ygg_sym_laws_disk.specs.ygg_type_sound.Agrees.{Agrees}
+use Rattle.ygg_sym_laws_disk.specs.ygg_type_progress.Blocks.{is_returned}
+use Rattle.ygg_sym_laws_disk.specs.ygg_type_progress.Kinds.{keeps}
+use Rattle.ygg_sym_laws_disk.specs.ygg_type_progress.Questions.{plain}
+use Rattle.ygg_sym_laws_disk.specs.ygg_rules.declared.rule.RuleKind.{RuleKind}
+use Rattle.ygg_sym_laws_disk.specs.ygg_bank.Makes.{Make}
+use Rattle.ygg_sym_laws_disk.specs.ygg_bank.Nodes.{HasWidth, IsBank}
+use Rattle.ygg_sym_laws_disk.specs.ygg_bank.Values.{Fits, value_of}
+use Rattle.ygg_sym_laws_disk.specs.ygg_bank.declared.node.Id.{Id}
+use Rattle.ygg_sym_laws_disk.specs.ygg_bank.declared.node.Node.{Node}
+use Rattle.ygg_sym_laws_disk.proofs.of_ygg_shape.Answered.{no_inputs, some_fit}
+use Rattle.ygg_sym_laws_disk.specs.ygg_shape_cells.Terms.{worth}
+use Rattle.ygg_sym_laws_disk.specs.ygg_shape_cells.declared.terms.SymValue.{SymValue}
+use Rattle.ygg_sym_laws_disk.specs.ygg_direct.Direct.{room_of}
+use Rattle.ygg_sym_laws_disk.specs.ygg_sym_expr.Names.{SymEnv, sym_bind}
+use Rattle.ygg_sym_laws_disk.specs.ygg_sym_expr.Meaning.{worths}
+use Rattle.ygg_sym_laws_disk.specs.ygg_sym_runs.Lower.{SymMeaning, Stands}
+use Rattle.ygg_sym_laws_disk.specs.ygg_sym_runs.Meaning.{AnswerShaped, answer_worth}
+use Rattle.ygg_sym_laws_disk.specs.ygg_sym_runs.Runs.{SymMachine}
+use Rattle.ygg_sym_laws_disk.proofs.of_ygg_sym_runs.Worths.{NameShaped}
+use Rattle.ygg_sym_disk_stops.specs.ygg_sym_disk.SymBelowLows.{LowShaped}
+use Rattle.ygg_sym_disk_stops.specs.ygg_sym_disk.StopTerms.{Stops, SymFallen, stop_whole}
+use Rattle.ygg_sym_disk_stops.specs.ygg_sym_disk.Wholes.{sym_whole}
+use Rattle.ygg_sym_disk_stops.proofs.of_ygg_sym_disk.Blocks.{values_worth}
+use Rattle.ygg_sym_disk_stops.proofs.of_ygg_sym_disk.Specs.{bound_worth, low_shaped}
 use Rattle.ygg_sym_laws_disk.specs.Below.{machine_on, signatures_on, space_on, stops_on}
 use Rattle.ygg_sym_laws_disk.specs.Means.{Begins, FallMeans, Values3, WholeMeans}
 use Rattle.ygg_sym_laws_disk.specs.Typed.{BlockTyped}

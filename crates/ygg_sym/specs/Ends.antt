@@ -2,12 +2,12 @@
 use Rattle.std.specs.Prelude.{◌≡◌, List}
 use Rattle.ygg_syntax.specs.declared.tree.Block.{Block}
 use Rattle.ygg_syntax.specs.declared.tree.Def.{Def}
-use Rattle.ygg_rules.specs.declared.rule.RuleKind.{RuleKind}
-use Rattle.ygg_bank.specs.declared.node.Node.{Node}
-use Rattle.ygg_sym_expr.specs.Names.{SymEnv}
-use Rattle.ygg_sym_runs.specs.Lower.{SymMeaning, KeepsSingle}
-use Rattle.ygg_sym_runs.specs.Ready.{terms_of}
-use Rattle.ygg_sym_disk.specs.Wholes.{sym_whole}
+use Rattle.ygg_sym_laws_disk.specs.ygg_rules.declared.rule.RuleKind.{RuleKind}
+use Rattle.ygg_sym_laws_disk.specs.ygg_bank.declared.node.Node.{Node}
+use Rattle.ygg_sym_laws_disk.specs.ygg_sym_expr.Names.{SymEnv}
+use Rattle.ygg_sym_laws_disk.specs.ygg_sym_runs.Lower.{SymMeaning, KeepsSingle}
+use Rattle.ygg_sym_laws_disk.specs.ygg_sym_runs.Ready.{terms_of}
+use Rattle.ygg_sym_disk_stops.specs.ygg_sym_disk.Wholes.{sym_whole}
 use Rattle.ygg_sym_laws_disk.specs.Means.{values_in}
 use Rattle.ygg_sym.specs.declared.running.Ran.{Ran}
 

@@ -1,17 +1,17 @@
 -- Runs of a layer's blocks on what the layer is specified over, in code.
 use Rattle.std.specs.Prelude.{◌≡◌, ℕ, IsTrue, List}
 use Rattle.ygg_syntax.specs.declared.grammar.BlockKind.TheVariants.{Impl}
-use Rattle.ygg_type_progress.specs.Blocks.{is_returned}
-use Rattle.ygg_rules.specs.declared.rule.RuleKind.{RuleKind}
-use Rattle.ygg_bank.specs.Makes.{Make}
-use Rattle.ygg_bank.specs.Values.{Inputs, Values, Fits}
-use Rattle.ygg_bank.specs.declared.node.Node.{Node}
-use Rattle.ygg_shape_cells.specs.declared.terms.SymValue.{SymValue}
-use Rattle.ygg_sym_expr.specs.Names.{sym_bind}
-use Rattle.ygg_sym_runs.specs.Meaning.{AnswerShaped, answer_worth}
-use Rattle.ygg_sym_disk.specs.SymBelowLows.{LowShaped}
-use Rattle.ygg_sym_disk.specs.StopTerms.{SymFallen}
-use Rattle.ygg_sym_disk.specs.Wholes.{SymFinish}
+use Rattle.ygg_sym_laws_disk.specs.ygg_type_progress.Blocks.{is_returned}
+use Rattle.ygg_sym_laws_disk.specs.ygg_rules.declared.rule.RuleKind.{RuleKind}
+use Rattle.ygg_sym_laws_disk.specs.ygg_bank.Makes.{Make}
+use Rattle.ygg_sym_laws_disk.specs.ygg_bank.Values.{Inputs, Values, Fits}
+use Rattle.ygg_sym_laws_disk.specs.ygg_bank.declared.node.Node.{Node}
+use Rattle.ygg_sym_laws_disk.specs.ygg_shape_cells.declared.terms.SymValue.{SymValue}
+use Rattle.ygg_sym_laws_disk.specs.ygg_sym_expr.Names.{sym_bind}
+use Rattle.ygg_sym_laws_disk.specs.ygg_sym_runs.Meaning.{AnswerShaped, answer_worth}
+use Rattle.ygg_sym_disk_stops.specs.ygg_sym_disk.SymBelowLows.{LowShaped}
+use Rattle.ygg_sym_disk_stops.specs.ygg_sym_disk.StopTerms.{SymFallen}
+use Rattle.ygg_sym_disk_stops.specs.ygg_sym_disk.Wholes.{SymFinish}
 use Rattle.ygg_sym_laws_disk.specs.Below.{cut_made, run_made, signatures_on}
 use Rattle.ygg_sym_laws_disk.specs.Means.{values_in}
 use Rattle.ygg_sym_laws_disk.specs.Typed.{BlockTyped}

@@ -1,8 +1,8 @@
 -- A layer of a file in code, and what it is specified over.
 use Rattle.std.specs.Prelude.{◌≡◌, IsTrue, []}
-use Rattle.ygg_type_rules.specs.TypeErrors.{none}
-use Rattle.ygg_type_rules.specs.Definitions.{definitions_errors}
-use Rattle.ygg_meaning.specs.Refines.{Below, OnDisk, OnSpec}
+use Rattle.ygg_sym_laws_disk.specs.ygg_type_rules.TypeErrors.{none}
+use Rattle.ygg_sym_laws_disk.specs.ygg_type_rules.Definitions.{definitions_errors}
+use Rattle.ygg_sym_laws_disk.specs.ygg_meaning.Refines.{Below, OnDisk, OnSpec}
 use Rattle.ygg_sym_laws_disk.specs.Below.{lows_on}
 use Rattle.ygg_sym_laws_disk.specs.Typed.{BelowTyped}
 use Rattle.ygg_sym_spec_stops.specs.Layers.{closed}

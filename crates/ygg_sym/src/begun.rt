@@ -1,17 +1,15 @@
 //! A specification's variables at its start.
 
 ghost use Rattle.std.specs.Prelude.{◌≡◌, IfOk, OnOk};
-ghost use Rattle.ygg_bank.specs.Nodes.{Extends, IsBank};
-ghost use Rattle.ygg_sym_disk.specs.SymBelowLows.{LowShaped};
-ghost use Rattle.ygg_sym_runs.specs.Lower.{KeepsSingle, SingleFrom};
+ghost use Rattle.ygg_sym_laws_disk.specs.ygg_bank.Nodes.{Extends, IsBank};
+ghost use Rattle.ygg_sym_disk_stops.specs.ygg_sym_disk.SymBelowLows.{LowShaped};
+ghost use Rattle.ygg_sym_laws_disk.specs.ygg_sym_runs.Lower.{KeepsSingle, SingleFrom};
 ghost use Rattle.ygg_sym_laws_disk.specs.Below.{start_made};
 ghost use Rattle.ygg_sym_spec_stops.specs.Layers.{SpecServes, closed, terms_in};
 
 use crate::declared::zeros;
 use std::alloc::Global;
-use ygg_bank::{Bank, NoMemory};
-use ygg_rules::Book;
-use ygg_shape_cells::SymValues;
+use ygg_sym_laws_disk::{Bank, Book, NoMemory, SymValues};
 use ygg_sym_spec_stops::{SymLayer, SymPicks, block};
 
 /// The variables of a specification at its start. Inputs of the bank from the given number on are single digits. Its only error is out of memory,

@@ -1,16 +1,15 @@
 //! How many inputs runs have.
 
 ghost use Rattle.std.specs.Prelude.{◌≡◌, ◌+◌, IfOk};
-ghost use Rattle.ygg_meaning.specs.Refines.{OnDisk, OnSpec};
-ghost use Rattle.ygg_sym_disk.specs.SpecCuts.{choice_room, fall_places, fall_room};
+ghost use Rattle.ygg_sym_laws_disk.specs.ygg_meaning.Refines.{OnDisk, OnSpec};
+ghost use Rattle.ygg_sym_disk_stops.specs.ygg_sym_disk.SpecCuts.{choice_room, fall_places, fall_room};
 ghost use Rattle.ygg_sym_laws_disk.specs.Below.{failure_room, places_on};
 ghost use Rattle.ygg_sym_spec_stops.specs.Layers.{closed};
 ghost use Rattle.ygg_sym.specs.Sites.{below_in};
 
 use crate::below::SymBelow;
-use ygg_bank::NoMemory;
-use ygg_sym_disk::SymDisk;
-use ygg_sym_runs::room;
+use ygg_sym_disk_stops::SymDisk;
+use ygg_sym_laws_disk::{NoMemory, room};
 use ygg_sym_spec_stops::{SymLayer, SymSpec, choices};
 use ygg_syntax::tree::{Block, DiskText, Operation};
 

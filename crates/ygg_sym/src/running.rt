@@ -1,10 +1,10 @@
 //! Runs of a layer's blocks on the disk, and on the specification of the layer below.
 
 ghost use Rattle.std.specs.Prelude.{◌≡◌, ◌≤◌, ◌++◌, length, IfOk, OnOk};
-ghost use Rattle.ygg_bank.specs.Nodes.{Extends, IsBank};
-ghost use Rattle.ygg_sym_expr.specs.Names.{sym_bind};
-ghost use Rattle.ygg_sym_expr.specs.Seen.{env_of};
-ghost use Rattle.ygg_sym_runs.specs.Lower.{KeepsSingle, SingleFrom};
+ghost use Rattle.ygg_sym_laws_disk.specs.ygg_bank.Nodes.{Extends, IsBank};
+ghost use Rattle.ygg_sym_laws_disk.specs.ygg_sym_expr.Names.{sym_bind};
+ghost use Rattle.ygg_sym_laws_disk.specs.ygg_sym_expr.Seen.{env_of};
+ghost use Rattle.ygg_sym_laws_disk.specs.ygg_sym_runs.Lower.{KeepsSingle, SingleFrom};
 ghost use Rattle.ygg_sym_cut.specs.Ready.{CanWhole};
 ghost use Rattle.ygg_sym_cut.specs.Falls.{IsFall};
 ghost use Rattle.ygg_sym.specs.Ends.{IsRun};
@@ -13,14 +13,11 @@ ghost use Rattle.ygg_sym.specs.declared.below.SymBelow.TheVariants.{Disk, Layer}
 
 use crate::runs::{SymBlock, SymCut, SymEnd};
 use std::alloc::Global;
-use ygg_bank::{Bank, NoMemory};
-use ygg_rules::Book;
-use ygg_shape_cells::{SymValue, SymValues};
 use ygg_sym_cut::{StopEnd, SymStops, cut_short, whole};
-use ygg_sym_disk::{Lows, SymDisk};
-use ygg_sym_disk_stops::DiskStops;
-use ygg_sym_expr::SymBinding;
-use ygg_sym_runs::{SymLower, SymRunner};
+use ygg_sym_disk_stops::{DiskStops, Lows, SymDisk};
+use ygg_sym_laws_disk::{
+    Bank, Book, NoMemory, SymBinding, SymLower, SymRunner, SymValue, SymValues,
+};
 use ygg_sym_spec_stops::{SpecStops, SymLayer, SymSpec, bind, values_of};
 use ygg_syntax::tree::{Block, Declared, DiskText};
 

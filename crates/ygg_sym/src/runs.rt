@@ -1,9 +1,9 @@
 //! Runs of a layer's blocks on what the layer is specified over.
 
 ghost use Rattle.std.specs.Prelude.{◌≡◌, ◌≤◌, IfOk, OnOk};
-ghost use Rattle.ygg_bank.specs.Nodes.{Extends, HasWidth, IsBank};
-ghost use Rattle.ygg_sym_disk.specs.SymBelowLows.{LowShaped};
-ghost use Rattle.ygg_sym_runs.specs.Lower.{KeepsSingle, SingleFrom};
+ghost use Rattle.ygg_sym_laws_disk.specs.ygg_bank.Nodes.{Extends, HasWidth, IsBank};
+ghost use Rattle.ygg_sym_disk_stops.specs.ygg_sym_disk.SymBelowLows.{LowShaped};
+ghost use Rattle.ygg_sym_laws_disk.specs.ygg_sym_runs.Lower.{KeepsSingle, SingleFrom};
 ghost use Rattle.ygg_sym_laws_disk.specs.Below.{lost_made, lows_at_start};
 ghost use Rattle.ygg_sym_spec_stops.specs.Layers.{terms_in};
 ghost use Rattle.ygg_sym.specs.Sites.{below_in, BelowFits};
@@ -14,10 +14,8 @@ use crate::below::SymBelow;
 use crate::declared::zeros;
 use crate::running::{cut_on_disk, cut_on_spec, run_on_disk, run_on_spec};
 use std::alloc::Global;
-use ygg_bank::{Bank, Id, NoMemory};
-use ygg_rules::Book;
-use ygg_shape_cells::{SymValue, SymValues};
-use ygg_sym_disk::lose;
+use ygg_sym_disk_stops::lose;
+use ygg_sym_laws_disk::{Bank, Book, Id, NoMemory, SymValue, SymValues};
 use ygg_sym_spec_stops::{SymLayer, SymPicks, crash};
 use ygg_syntax::tree::{Block, Declared};
 

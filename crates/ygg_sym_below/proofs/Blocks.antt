@@ -9,35 +9,35 @@ use Rattle.std.specs.Prelude.{Option}
 use Rattle.ygg_syntax.specs.declared.grammar.BlockKind.TheVariants.{Spec}
 use Rattle.ygg_syntax.specs.declared.tree.Declared.{Declared}
 use Rattle.ygg_syntax.specs.declared.tree.Block.{Block}
-use Rattle.ygg_symbols.specs.Names.{Named}
-use Rattle.ygg_type_rules.specs.declared.scope.Signature.{Signature}
-use Rattle.ygg_type_rules.specs.TypeErrors.{none}
-use Rattle.ygg_type_rules.specs.Scopes.{Scope}
-use Rattle.ygg_type_rules.specs.Statements.{block_errors}
-use Rattle.ygg_meaning.specs.Environments.{Name, bind}
-use Rattle.ygg_meaning.specs.Shapes.{shape_in, fits, values_fit, env_fits}
-use Rattle.ygg_meaning.specs.Progress.{answer_of}
-use Rattle.ygg_meaning.specs.Layer.{ClosedLayer}
-use Rattle.ygg_type_sound.specs.Agrees.{Agrees}
-use Rattle.ygg_type_progress.specs.Kinds.{keeps}
-use Rattle.ygg_type_progress.specs.Questions.{plain, Follows}
-use Rattle.ygg_type_progress.specs.Blocks.{eval_with, is_returned}
-use Rattle.ygg_type_progress.proofs.Following.{follows_front, fits_after}
-use Rattle.ygg_rules.specs.declared.rule.RuleKind.{RuleKind}
-use Rattle.ygg_bank.proofs.Meaning.{fits_fewer}
-use Rattle.ygg_bank.specs.Makes.{Make}
-use Rattle.ygg_bank.specs.Values.{Inputs, Values, Fits}
-use Rattle.ygg_bank.specs.declared.node.Id.{Id}
-use Rattle.ygg_bank.specs.declared.node.Node.{Node}
-use Rattle.ygg_shape_cells.specs.Terms.{worth}
-use Rattle.ygg_shape_cells.specs.declared.terms.SymValue.{SymValue}
-use Rattle.ygg_direct.specs.Direct.{Reached, direct_run}
-use Rattle.ygg_direct.specs.Places.{Result}
-use Rattle.ygg_sym_expr.specs.Names.{SymEnv, sym_bind}
-use Rattle.ygg_sym_expr.specs.Exprs.{SymFunctions}
-use Rattle.ygg_sym_expr.specs.Meaning.{SomeShape, Grows, Gives, worths}
-use Rattle.ygg_sym_expr.proofs.Grows.{FunctionsGrow}
-use Rattle.ygg_sym_expr.proofs.Values.{FunctionsMean}
+use Rattle.ygg_sym_runs.specs.ygg_symbols.Names.{Named}
+use Rattle.ygg_sym_runs.specs.ygg_type_rules.declared.scope.Signature.{Signature}
+use Rattle.ygg_sym_runs.specs.ygg_type_rules.TypeErrors.{none}
+use Rattle.ygg_sym_runs.specs.ygg_type_rules.Scopes.{Scope}
+use Rattle.ygg_sym_runs.specs.ygg_type_rules.Statements.{block_errors}
+use Rattle.ygg_sym_runs.specs.ygg_meaning.Environments.{Name, bind}
+use Rattle.ygg_sym_runs.specs.ygg_meaning.Shapes.{shape_in, fits, values_fit, env_fits}
+use Rattle.ygg_sym_runs.specs.ygg_meaning.Progress.{answer_of}
+use Rattle.ygg_sym_runs.specs.ygg_meaning.Layer.{ClosedLayer}
+use Rattle.ygg_sym_runs.specs.ygg_type_sound.Agrees.{Agrees}
+use Rattle.ygg_sym_runs.specs.ygg_type_progress.Kinds.{keeps}
+use Rattle.ygg_sym_runs.specs.ygg_type_progress.Questions.{plain, Follows}
+use Rattle.ygg_sym_runs.specs.ygg_type_progress.Blocks.{eval_with, is_returned}
+use Rattle.ygg_sym_runs.specs.ygg_type_progress_proofs_Following.{follows_front, fits_after}
+use Rattle.ygg_sym_runs.specs.ygg_rules.declared.rule.RuleKind.{RuleKind}
+use Rattle.ygg_sym_runs.specs.ygg_bank_proofs_Meaning.{fits_fewer}
+use Rattle.ygg_sym_runs.specs.ygg_bank.Makes.{Make}
+use Rattle.ygg_sym_runs.specs.ygg_bank.Values.{Inputs, Values, Fits}
+use Rattle.ygg_sym_runs.specs.ygg_bank.declared.node.Id.{Id}
+use Rattle.ygg_sym_runs.specs.ygg_bank.declared.node.Node.{Node}
+use Rattle.ygg_sym_runs.specs.ygg_shape_cells.Terms.{worth}
+use Rattle.ygg_sym_runs.specs.ygg_shape_cells.declared.terms.SymValue.{SymValue}
+use Rattle.ygg_sym_runs.specs.ygg_direct.Direct.{Reached, direct_run}
+use Rattle.ygg_sym_runs.specs.ygg_direct.Places.{Result}
+use Rattle.ygg_sym_runs.specs.ygg_sym_expr.Names.{SymEnv, sym_bind}
+use Rattle.ygg_sym_runs.specs.ygg_sym_expr.Exprs.{SymFunctions}
+use Rattle.ygg_sym_runs.specs.ygg_sym_expr.Meaning.{SomeShape, Grows, Gives, worths}
+use Rattle.ygg_sym_runs.specs.ygg_sym_expr_proofs_Grows.{FunctionsGrow}
+use Rattle.ygg_sym_runs.specs.ygg_sym_expr_proofs_Values.{FunctionsMean}
 use Rattle.ygg_sym_runs.specs.Meaning.{AnswerShaped, answer_worth}
 use Rattle.ygg_sym_runs.proofs.Worths.{NameShaped, shape_fits}
 use Rattle.ygg_sym_runs.proofs.Parts.{InScope}

@@ -2,19 +2,19 @@
 use Rattle.std.proofs.Common.{◌≡◌, ◌<◌, ◌≤◌, ◌+◌, ℕ, zero, suc, Bool, List, [], ◌∷◌, ◌++◌, take, length, Some, refl, sym, ap, ◌∙◌, subst, arith}
 use Rattle.ygg_value.specs.Values.{digit}
 use Rattle.ygg_syntax.specs.declared.tree.Block.{Block}
-use Rattle.ygg_meaning.specs.Environments.{Env}
-use Rattle.ygg_meaning.specs.Progress.{Question, Choice, Call, Answer, answer_of}
-use Rattle.ygg_meaning.specs.Machine.{Picks}
-use Rattle.ygg_meaning.specs.Layer.{ClosedLayer, eval_of}
-use Rattle.ygg_direct.specs.Direct.{Handled, Event, Reached, Chained, Within, Alike, question_space, room_of, direct_run}
-use Rattle.ygg_direct.specs.Acts.{next_of}
-use Rattle.ygg_direct.specs.Places.{Held, left_after, by_place, from_front, choosing, Result, outcome_by_place}
-use Rattle.ygg_direct.specs.SpecActs.{Ran, block_ran}
-use Rattle.ygg_direct.proofs.Order.{block_follows}
-use Rattle.ygg_direct.proofs.Mirror.{block_mirrors}
-use Rattle.ygg_direct.proofs.Rooms.{room_is}
-use Rattle.ygg_direct.proofs.Placing.{fronted, all_placed}
-use Rattle.ygg_direct.proofs.Choosing.{one, choosing_draws}
+use Rattle.ygg_sym_runs.specs.ygg_meaning.Environments.{Env}
+use Rattle.ygg_sym_runs.specs.ygg_meaning.Progress.{Question, Choice, Call, Answer, answer_of}
+use Rattle.ygg_sym_runs.specs.ygg_meaning.Machine.{Picks}
+use Rattle.ygg_sym_runs.specs.ygg_meaning.Layer.{ClosedLayer, eval_of}
+use Rattle.ygg_sym_runs.specs.ygg_direct.Direct.{Handled, Event, Reached, Chained, Within, Alike, question_space, room_of, direct_run}
+use Rattle.ygg_sym_runs.specs.ygg_direct.Acts.{next_of}
+use Rattle.ygg_sym_runs.specs.ygg_direct.Places.{Held, left_after, by_place, from_front, choosing, Result, outcome_by_place}
+use Rattle.ygg_sym_runs.specs.ygg_direct.SpecActs.{Ran, block_ran}
+use Rattle.ygg_sym_runs.specs.ygg_direct_proofs_Order.{block_follows}
+use Rattle.ygg_sym_runs.specs.ygg_direct_proofs_Mirror.{block_mirrors}
+use Rattle.ygg_sym_runs.specs.ygg_direct_proofs_Rooms.{room_is}
+use Rattle.ygg_sym_runs.specs.ygg_direct_proofs_Placing.{fronted, all_placed}
+use Rattle.ygg_sym_runs.specs.ygg_direct_proofs_Choosing.{one, choosing_draws}
 use Rattle.ygg_sym_below.specs.Specs.{Nothing}
 use Rattle.ygg_sym_below.specs.Wholes.{picks_from}
 use Rattle.ygg_sym_below.proofs.Specs.{choose_at}

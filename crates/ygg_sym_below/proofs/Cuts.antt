@@ -8,33 +8,33 @@ use Rattle.ygg_value.specs.declared.operation.Op.TheVariants.{Or}
 use Rattle.ygg_value.specs.declared.row.Value.TheVariants as value
 use Rattle.ygg_syntax.specs.declared.grammar.BlockKind.TheVariants.{Impl}
 use Rattle.ygg_syntax.specs.declared.tree.DiskText.{DiskText}
-use Rattle.ygg_type_rules.specs.TypeErrors.{none}
-use Rattle.ygg_type_rules.specs.Files.{disk_errors, disk_operations}
-use Rattle.ygg_disk.specs.Kinds.{model_of}
-use Rattle.ygg_meaning.specs.Environments.{Name, Env}
-use Rattle.ygg_meaning.specs.Progress.{Question}
-use Rattle.ygg_meaning.specs.Progress as progress
-use Rattle.ygg_meaning.specs.Machine.{State, based}
-use Rattle.ygg_meaning.specs.DiskMachine.{tables_in}
-use Rattle.ygg_histories.specs.Stack.{tables_of_kind, tables_of}
-use Rattle.ygg_type_progress.specs.Questions.{question_fits}
-use Rattle.ygg_rules.specs.declared.rule.RuleKind.{RuleKind}
-use Rattle.ygg_bank.proofs.Made.{made_grows}
-use Rattle.ygg_bank.proofs.Meaning.{fits_fewer}
-use Rattle.ygg_bank.proofs.Widths.{wider, extends_self}
-use Rattle.ygg_bank.specs.Making.{made}
-use Rattle.ygg_bank.specs.Values.{Inputs, Values}
-use Rattle.ygg_bank.specs.declared.node.Node.{Node}
-use Rattle.ygg_bank.specs.declared.node.Node.TheVariants.{Input, Bin}
-use Rattle.ygg_shape_words.proofs.Grows.{picked_grows}
-use Rattle.ygg_shape_cells.proofs.Wider.{row_wider}
-use Rattle.ygg_shape_cells.specs.Terms.{worth, row_of}
-use Rattle.ygg_shape_cells.specs.declared.terms.SymValue.{SymValue}
-use Rattle.ygg_direct.specs.DiskActs.{kind_falls, state_in, table_in, disk_drops, disk_acts}
-use Rattle.ygg_direct.specs.RunPlaces.{cut_by}
-use Rattle.ygg_direct.proofs.DiskServes.{fitting_call}
-use Rattle.ygg_sym_expr.specs.Meaning.{Gives}
-use Rattle.ygg_shape_cells.proofs.Wider.{shaped_wider}
+use Rattle.ygg_sym_runs.specs.ygg_type_rules.TypeErrors.{none}
+use Rattle.ygg_sym_runs.specs.ygg_type_rules.Files.{disk_errors, disk_operations}
+use Rattle.ygg_sym_runs.specs.ygg_disk.Kinds.{model_of}
+use Rattle.ygg_sym_runs.specs.ygg_meaning.Environments.{Name, Env}
+use Rattle.ygg_sym_runs.specs.ygg_meaning.Progress.{Question}
+use Rattle.ygg_sym_runs.specs.ygg_meaning.Progress as progress
+use Rattle.ygg_sym_runs.specs.ygg_meaning.Machine.{State, based}
+use Rattle.ygg_sym_runs.specs.ygg_meaning.DiskMachine.{tables_in}
+use Rattle.ygg_sym_runs.specs.ygg_histories.Stack.{tables_of_kind, tables_of}
+use Rattle.ygg_sym_runs.specs.ygg_type_progress.Questions.{question_fits}
+use Rattle.ygg_sym_runs.specs.ygg_rules.declared.rule.RuleKind.{RuleKind}
+use Rattle.ygg_sym_runs.specs.ygg_bank_proofs_Made.{made_grows}
+use Rattle.ygg_sym_runs.specs.ygg_bank_proofs_Meaning.{fits_fewer}
+use Rattle.ygg_sym_runs.specs.ygg_bank_proofs_Widths.{wider, extends_self}
+use Rattle.ygg_sym_runs.specs.ygg_bank.Making.{made}
+use Rattle.ygg_sym_runs.specs.ygg_bank.Values.{Inputs, Values}
+use Rattle.ygg_sym_runs.specs.ygg_bank.declared.node.Node.{Node}
+use Rattle.ygg_sym_runs.specs.ygg_bank.declared.node.Node.TheVariants.{Input, Bin}
+use Rattle.ygg_sym_runs.specs.ygg_shape_words_proofs_Grows.{picked_grows}
+use Rattle.ygg_sym_runs.specs.ygg_shape_cells_proofs_Wider.{row_wider}
+use Rattle.ygg_sym_runs.specs.ygg_shape_cells.Terms.{worth, row_of}
+use Rattle.ygg_sym_runs.specs.ygg_shape_cells.declared.terms.SymValue.{SymValue}
+use Rattle.ygg_sym_runs.specs.ygg_direct.DiskActs.{kind_falls, state_in, table_in, disk_drops, disk_acts}
+use Rattle.ygg_sym_runs.specs.ygg_direct.RunPlaces.{cut_by}
+use Rattle.ygg_sym_runs.specs.ygg_direct_proofs_DiskServes.{fitting_call}
+use Rattle.ygg_sym_runs.specs.ygg_sym_expr.Meaning.{Gives}
+use Rattle.ygg_sym_runs.specs.ygg_shape_cells_proofs_Wider.{shaped_wider}
 use Rattle.ygg_sym_runs.specs.Runs.{SymQuestion, Choice, Call}
 use Rattle.ygg_sym_runs.specs.Meaning.{Low, question_worth, QuestionShaped, IsLow}
 use Rattle.ygg_sym_below.specs.Lows.{LowShaped, low_worth}

@@ -2,20 +2,20 @@
 use Rattle.std.proofs.Common.{ℕ, List, [], ◌∷◌, Option, Some, None}
 use Rattle.ygg_base.specs.declared.geometry.DiskKind.{DiskKind}
 use Rattle.ygg_base.specs.declared.geometry.DiskKind.TheVariants.{Sync, Async}
-use Rattle.ygg_rules.specs.declared.rule.RuleKind.{RuleKind}
-use Rattle.ygg_bank.proofs.Made.{made_grows}
-use Rattle.ygg_bank.proofs.Widths.{extends_self, extends_both}
-use Rattle.ygg_bank.specs.Making.{made}
-use Rattle.ygg_bank.specs.Nodes.{Extends}
-use Rattle.ygg_bank.specs.declared.node.Id.{Id}
-use Rattle.ygg_bank.specs.declared.node.Node.{Node}
-use Rattle.ygg_bank.specs.declared.node.Node.TheVariants.{Input}
-use Rattle.ygg_shape_words.proofs.Keeps.{Stays, grows_stays}
-use Rattle.ygg_shape_cells.specs.declared.terms.SymValue.{SymValue}
-use Rattle.ygg_shape_cells.specs.declared.terms.SymValue.TheVariants.{Word, Row, Table}
-use Rattle.ygg_shape.proofs.Keeps.{selected_keeps, stored_keeps, stored_where_keeps}
-use Rattle.ygg_sym_expr.specs.Meaning.{Grows}
-use Rattle.ygg_sym_expr.proofs.Keeps.{Keeps}
+use Rattle.ygg_sym_runs.specs.ygg_rules.declared.rule.RuleKind.{RuleKind}
+use Rattle.ygg_sym_runs.specs.ygg_bank_proofs_Made.{made_grows}
+use Rattle.ygg_sym_runs.specs.ygg_bank_proofs_Widths.{extends_self, extends_both}
+use Rattle.ygg_sym_runs.specs.ygg_bank.Making.{made}
+use Rattle.ygg_sym_runs.specs.ygg_bank.Nodes.{Extends}
+use Rattle.ygg_sym_runs.specs.ygg_bank.declared.node.Id.{Id}
+use Rattle.ygg_sym_runs.specs.ygg_bank.declared.node.Node.{Node}
+use Rattle.ygg_sym_runs.specs.ygg_bank.declared.node.Node.TheVariants.{Input}
+use Rattle.ygg_sym_runs.specs.ygg_shape_words_proofs_Keeps.{Stays, grows_stays}
+use Rattle.ygg_sym_runs.specs.ygg_shape_cells.declared.terms.SymValue.{SymValue}
+use Rattle.ygg_sym_runs.specs.ygg_shape_cells.declared.terms.SymValue.TheVariants.{Word, Row, Table}
+use Rattle.ygg_sym_runs.specs.ygg_shape_proofs_Keeps.{selected_keeps, stored_keeps, stored_where_keeps}
+use Rattle.ygg_sym_runs.specs.ygg_sym_expr.Meaning.{Grows}
+use Rattle.ygg_sym_runs.specs.ygg_sym_expr_proofs_Keeps.{Keeps}
 use Rattle.ygg_sym_runs.specs.Runs.{SymQuestion, Choice, Call}
 use Rattle.ygg_sym_below.specs.Disks.{
   SymCall,

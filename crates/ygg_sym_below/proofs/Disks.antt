@@ -15,51 +15,51 @@ use Rattle.ygg_value.specs.declared.shape.Shape.{Shape}
 use Rattle.ygg_value.specs.declared.shape.Shape.TheVariants as shape
 use Rattle.ygg_syntax.specs.declared.grammar.BlockKind.TheVariants.{Impl}
 use Rattle.ygg_syntax.specs.declared.tree.DiskText.{DiskText}
-use Rattle.ygg_symbols.specs.Names.{Named, look_up}
-use Rattle.ygg_type_rules.specs.declared.scope.Signature.{Signature}
-use Rattle.ygg_type_rules.specs.TypeErrors.{none}
-use Rattle.ygg_type_rules.specs.Shapes.{is_word}
-use Rattle.ygg_type_rules.specs.Files.{address, disk_row, disk_errors, disk_operations}
-use Rattle.ygg_disk.specs.Disk as disk
-use Rattle.ygg_disk.specs.Kinds.{model_of}
-use Rattle.ygg_meaning.specs.Environments.{Name, Env}
-use Rattle.ygg_meaning.specs.Shapes.{fits}
-use Rattle.ygg_meaning.specs.Progress.{Question}
-use Rattle.ygg_meaning.specs.Progress as progress
-use Rattle.ygg_meaning.specs.Machine.{State, based}
-use Rattle.ygg_meaning.specs.DiskMachine.{disk_call, answer_to, tables_in}
-use Rattle.ygg_histories.specs.Stack.{tables_of_kind, tables_of}
-use Rattle.ygg_type_sound.specs.Fitting.{fits_wanted, all_fit}
-use Rattle.ygg_type_sound.proofs.Tests.{left as first_of, right as second_of, bytes_same, bytes_equal}
-use Rattle.ygg_type_sound.proofs.Fits.{fits_has}
-use Rattle.ygg_type_progress.specs.Questions.{answer_fits, question_fits}
-use Rattle.ygg_type_progress.specs.Machines.{IsSized}
-use Rattle.ygg_type_progress.proofs.Disks.{disk_row_is}
-use Rattle.ygg_rules.specs.declared.rule.RuleKind.{RuleKind}
-use Rattle.ygg_bank.proofs.Made.{made_grows, added_there}
-use Rattle.ygg_bank.proofs.Meaning.{fits_fewer}
-use Rattle.ygg_bank.proofs.Widths.{wider, own_width, stands, extends_both}
-use Rattle.ygg_bank.specs.Making.{made, added}
-use Rattle.ygg_bank.specs.Nodes.{HasWidth}
-use Rattle.ygg_bank.specs.Values.{Inputs, Values, Fits}
-use Rattle.ygg_bank.specs.declared.node.Id.{Id}
-use Rattle.ygg_bank.specs.declared.node.Node.{Node}
-use Rattle.ygg_bank.specs.declared.node.Node.TheVariants.{Input}
-use Rattle.ygg_shape_cells.proofs.Wider.{row_wider}
-use Rattle.ygg_shape_cells.specs.Terms.{IsRow, worth, row_of}
-use Rattle.ygg_shape_cells.specs.declared.terms.SymValue.{SymValue}
-use Rattle.ygg_shape_cells.specs.declared.terms.SymValue.TheVariants.{Word, Row, Table}
-use Rattle.ygg_shape.proofs.Makers.{selected_gives, stored_gives, stored_where_gives}
-use Rattle.ygg_direct.specs.Direct.{Handled, question_space}
-use Rattle.ygg_direct.specs.RunPlaces.{disk_space}
-use Rattle.ygg_direct.specs.Places.{calling}
-use Rattle.ygg_direct.specs.DiskActs.{Replied, kind_calls, state_in, table_in, disk_does, disk_acts}
-use Rattle.ygg_direct.proofs.DiskServes.{fitting_call, disk_serves}
-use Rattle.ygg_sym_expr.specs.Exprs.{id_in}
-use Rattle.ygg_shape_cells.specs.Terms.{IsShaped}
-use Rattle.ygg_sym_expr.specs.Meaning.{SomeShape, Gives}
-use Rattle.ygg_shape_cells.proofs.Wider.{shaped_wider}
-use Rattle.ygg_sym_expr.proofs.Shaped.{worth_shape, is_term}
+use Rattle.ygg_sym_runs.specs.ygg_symbols.Names.{Named, look_up}
+use Rattle.ygg_sym_runs.specs.ygg_type_rules.declared.scope.Signature.{Signature}
+use Rattle.ygg_sym_runs.specs.ygg_type_rules.TypeErrors.{none}
+use Rattle.ygg_sym_runs.specs.ygg_type_rules.Shapes.{is_word}
+use Rattle.ygg_sym_runs.specs.ygg_type_rules.Files.{address, disk_row, disk_errors, disk_operations}
+use Rattle.ygg_sym_runs.specs.ygg_disk.Disk as disk
+use Rattle.ygg_sym_runs.specs.ygg_disk.Kinds.{model_of}
+use Rattle.ygg_sym_runs.specs.ygg_meaning.Environments.{Name, Env}
+use Rattle.ygg_sym_runs.specs.ygg_meaning.Shapes.{fits}
+use Rattle.ygg_sym_runs.specs.ygg_meaning.Progress.{Question}
+use Rattle.ygg_sym_runs.specs.ygg_meaning.Progress as progress
+use Rattle.ygg_sym_runs.specs.ygg_meaning.Machine.{State, based}
+use Rattle.ygg_sym_runs.specs.ygg_meaning.DiskMachine.{disk_call, answer_to, tables_in}
+use Rattle.ygg_sym_runs.specs.ygg_histories.Stack.{tables_of_kind, tables_of}
+use Rattle.ygg_sym_runs.specs.ygg_type_sound.Fitting.{fits_wanted, all_fit}
+use Rattle.ygg_sym_runs.specs.ygg_type_sound_proofs_Tests.{left as first_of, right as second_of, bytes_same, bytes_equal}
+use Rattle.ygg_sym_runs.specs.ygg_type_sound_proofs_Fits.{fits_has}
+use Rattle.ygg_sym_runs.specs.ygg_type_progress.Questions.{answer_fits, question_fits}
+use Rattle.ygg_sym_runs.specs.ygg_type_progress.Machines.{IsSized}
+use Rattle.ygg_sym_runs.specs.ygg_type_progress_proofs_Disks.{disk_row_is}
+use Rattle.ygg_sym_runs.specs.ygg_rules.declared.rule.RuleKind.{RuleKind}
+use Rattle.ygg_sym_runs.specs.ygg_bank_proofs_Made.{made_grows, added_there}
+use Rattle.ygg_sym_runs.specs.ygg_bank_proofs_Meaning.{fits_fewer}
+use Rattle.ygg_sym_runs.specs.ygg_bank_proofs_Widths.{wider, own_width, stands, extends_both}
+use Rattle.ygg_sym_runs.specs.ygg_bank.Making.{made, added}
+use Rattle.ygg_sym_runs.specs.ygg_bank.Nodes.{HasWidth}
+use Rattle.ygg_sym_runs.specs.ygg_bank.Values.{Inputs, Values, Fits}
+use Rattle.ygg_sym_runs.specs.ygg_bank.declared.node.Id.{Id}
+use Rattle.ygg_sym_runs.specs.ygg_bank.declared.node.Node.{Node}
+use Rattle.ygg_sym_runs.specs.ygg_bank.declared.node.Node.TheVariants.{Input}
+use Rattle.ygg_sym_runs.specs.ygg_shape_cells_proofs_Wider.{row_wider}
+use Rattle.ygg_sym_runs.specs.ygg_shape_cells.Terms.{IsRow, worth, row_of}
+use Rattle.ygg_sym_runs.specs.ygg_shape_cells.declared.terms.SymValue.{SymValue}
+use Rattle.ygg_sym_runs.specs.ygg_shape_cells.declared.terms.SymValue.TheVariants.{Word, Row, Table}
+use Rattle.ygg_sym_runs.specs.ygg_shape_proofs_Makers.{selected_gives, stored_gives, stored_where_gives}
+use Rattle.ygg_sym_runs.specs.ygg_direct.Direct.{Handled, question_space}
+use Rattle.ygg_sym_runs.specs.ygg_direct.RunPlaces.{disk_space}
+use Rattle.ygg_sym_runs.specs.ygg_direct.Places.{calling}
+use Rattle.ygg_sym_runs.specs.ygg_direct.DiskActs.{Replied, kind_calls, state_in, table_in, disk_does, disk_acts}
+use Rattle.ygg_sym_runs.specs.ygg_direct_proofs_DiskServes.{fitting_call, disk_serves}
+use Rattle.ygg_sym_runs.specs.ygg_sym_expr.Exprs.{id_in}
+use Rattle.ygg_sym_runs.specs.ygg_shape_cells.Terms.{IsShaped}
+use Rattle.ygg_sym_runs.specs.ygg_sym_expr.Meaning.{SomeShape, Gives}
+use Rattle.ygg_sym_runs.specs.ygg_shape_cells_proofs_Wider.{shaped_wider}
+use Rattle.ygg_sym_runs.specs.ygg_sym_expr_proofs_Shaped.{worth_shape, is_term}
 use Rattle.ygg_sym_runs.specs.Putting.{row_in}
 use Rattle.ygg_sym_runs.specs.Runs.{SymQuestion, Choice, Call, SymHandled}
 use Rattle.ygg_sym_runs.specs.Meaning.{answer_worth, question_worth, is_set, AnswerShaped, QuestionShaped, IsHandled, MachineMeans}

@@ -5,39 +5,39 @@ use Rattle.ygg_value.specs.Number.{Number, IsWord}
 use Rattle.ygg_value.specs.Words.{word}
 use Rattle.ygg_syntax.specs.declared.grammar.BlockKind.{BlockKind}
 use Rattle.ygg_syntax.specs.declared.tree.Block.{Block}
-use Rattle.ygg_symbols.specs.Names.{Named}
-use Rattle.ygg_type_rules.specs.declared.scope.Signature.{Signature}
-use Rattle.ygg_type_rules.specs.TypeErrors.{none}
-use Rattle.ygg_type_rules.specs.Scopes.{Scope}
-use Rattle.ygg_type_rules.specs.Statements.{walked}
-use Rattle.ygg_type_rules.specs.Statements as rules
-use Rattle.ygg_meaning.specs.Environments.{Name, Env}
-use Rattle.ygg_meaning.specs.Meaning.{Functions}
-use Rattle.ygg_meaning.specs.Progress.{Eval, Question}
-use Rattle.ygg_meaning.specs.Obligations.{Halt}
-use Rattle.ygg_type_progress.specs.Blocks.{eval_with}
-use Rattle.ygg_type_progress.specs.Kinds.{keeps}
-use Rattle.ygg_rules.specs.declared.rule.RuleKind.{RuleKind}
-use Rattle.ygg_bank.proofs.Made.{made_grows}
-use Rattle.ygg_bank.proofs.Meaning.{fits_fewer}
-use Rattle.ygg_bank.proofs.Widths.{wider, extends_both}
-use Rattle.ygg_bank.specs.Making.{made}
-use Rattle.ygg_bank.specs.Nodes.{HasWidth}
-use Rattle.ygg_bank.specs.Values.{Inputs, Values}
-use Rattle.ygg_bank.specs.declared.node.Id.{Id}
-use Rattle.ygg_bank.specs.declared.node.Node.{Node}
-use Rattle.ygg_bank.specs.declared.node.Node.TheVariants.{Const}
-use Rattle.ygg_shape_words.proofs.Terms.{made_is}
-use Rattle.ygg_direct.specs.Direct.{Handled, Event, Reached, Chained, seen, direct_run}
-use Rattle.ygg_direct.specs.RunPlaces.{base_at, asked_in}
-use Rattle.ygg_direct.proofs.Order.{block_follows}
-use Rattle.ygg_direct.proofs.Mirror.{block_mirrors}
-use Rattle.ygg_sym_expr.specs.Names.{SymEnv}
-use Rattle.ygg_sym_expr.specs.Exprs.{SymFunctions}
-use Rattle.ygg_sym_expr.specs.Meaning.{EnvShaped, Grows, Gives, worths}
-use Rattle.ygg_sym_expr.proofs.Shaped.{env_wider}
-use Rattle.ygg_sym_expr.proofs.Grows.{FunctionsGrow}
-use Rattle.ygg_sym_expr.proofs.Values.{FunctionsMean}
+use Rattle.ygg_sym_runs.specs.ygg_symbols.Names.{Named}
+use Rattle.ygg_sym_runs.specs.ygg_type_rules.declared.scope.Signature.{Signature}
+use Rattle.ygg_sym_runs.specs.ygg_type_rules.TypeErrors.{none}
+use Rattle.ygg_sym_runs.specs.ygg_type_rules.Scopes.{Scope}
+use Rattle.ygg_sym_runs.specs.ygg_type_rules.Statements.{walked}
+use Rattle.ygg_sym_runs.specs.ygg_type_rules.Statements as rules
+use Rattle.ygg_sym_runs.specs.ygg_meaning.Environments.{Name, Env}
+use Rattle.ygg_sym_runs.specs.ygg_meaning.Meaning.{Functions}
+use Rattle.ygg_sym_runs.specs.ygg_meaning.Progress.{Eval, Question}
+use Rattle.ygg_sym_runs.specs.ygg_meaning.Obligations.{Halt}
+use Rattle.ygg_sym_runs.specs.ygg_type_progress.Blocks.{eval_with}
+use Rattle.ygg_sym_runs.specs.ygg_type_progress.Kinds.{keeps}
+use Rattle.ygg_sym_runs.specs.ygg_rules.declared.rule.RuleKind.{RuleKind}
+use Rattle.ygg_sym_runs.specs.ygg_bank_proofs_Made.{made_grows}
+use Rattle.ygg_sym_runs.specs.ygg_bank_proofs_Meaning.{fits_fewer}
+use Rattle.ygg_sym_runs.specs.ygg_bank_proofs_Widths.{wider, extends_both}
+use Rattle.ygg_sym_runs.specs.ygg_bank.Making.{made}
+use Rattle.ygg_sym_runs.specs.ygg_bank.Nodes.{HasWidth}
+use Rattle.ygg_sym_runs.specs.ygg_bank.Values.{Inputs, Values}
+use Rattle.ygg_sym_runs.specs.ygg_bank.declared.node.Id.{Id}
+use Rattle.ygg_sym_runs.specs.ygg_bank.declared.node.Node.{Node}
+use Rattle.ygg_sym_runs.specs.ygg_bank.declared.node.Node.TheVariants.{Const}
+use Rattle.ygg_sym_runs.specs.ygg_shape_words_proofs_Terms.{made_is}
+use Rattle.ygg_sym_runs.specs.ygg_direct.Direct.{Handled, Event, Reached, Chained, seen, direct_run}
+use Rattle.ygg_sym_runs.specs.ygg_direct.RunPlaces.{base_at, asked_in}
+use Rattle.ygg_sym_runs.specs.ygg_direct_proofs_Order.{block_follows}
+use Rattle.ygg_sym_runs.specs.ygg_direct_proofs_Mirror.{block_mirrors}
+use Rattle.ygg_sym_runs.specs.ygg_sym_expr.Names.{SymEnv}
+use Rattle.ygg_sym_runs.specs.ygg_sym_expr.Exprs.{SymFunctions}
+use Rattle.ygg_sym_runs.specs.ygg_sym_expr.Meaning.{EnvShaped, Grows, Gives, worths}
+use Rattle.ygg_sym_runs.specs.ygg_sym_expr_proofs_Shaped.{env_wider}
+use Rattle.ygg_sym_runs.specs.ygg_sym_expr_proofs_Grows.{FunctionsGrow}
+use Rattle.ygg_sym_runs.specs.ygg_sym_expr_proofs_Values.{FunctionsMean}
 use Rattle.ygg_sym_runs.specs.Runs.{SymMachine, sym_run}
 use Rattle.ygg_sym_runs.specs.Meaning.{Low, is_set, MachineMeans}
 use Rattle.ygg_sym_runs.proofs.Parts.{InScope}

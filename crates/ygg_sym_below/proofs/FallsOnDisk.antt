@@ -7,46 +7,46 @@ use Rattle.ygg_syntax.specs.declared.grammar.BlockKind.TheVariants.{Impl}
 use Rattle.ygg_syntax.specs.declared.tree.Def.{Def}
 use Rattle.ygg_syntax.specs.declared.tree.Block.{Block}
 use Rattle.ygg_syntax.specs.declared.tree.DiskText.{DiskText}
-use Rattle.ygg_type_rules.specs.TypeErrors.{none}
-use Rattle.ygg_type_rules.specs.Statements.{walked, return_errors}
-use Rattle.ygg_type_rules.specs.Statements as rules
-use Rattle.ygg_type_rules.specs.Definitions.{definitions_errors, with_definitions}
-use Rattle.ygg_type_sound.proofs.Tests.{left as first_of}
-use Rattle.ygg_type_rules.specs.Files.{disk_errors, disk_operations}
-use Rattle.ygg_meaning.specs.Environments.{Name, Env}
-use Rattle.ygg_meaning.specs.Meaning.{functions_of}
-use Rattle.ygg_meaning.specs.Layer.{ClosedLayer}
-use Rattle.ygg_meaning.specs.Machine.{State, on, based}
-use Rattle.ygg_meaning.specs.Obligations.{Halt}
-use Rattle.ygg_meaning.specs.DiskMachine.{DiskMachine}
-use Rattle.ygg_histories.specs.Stack.{tables_of}
-use Rattle.ygg_type_sound.specs.Agrees.{Agrees}
-use Rattle.ygg_type_progress.specs.Questions.{plain}
-use Rattle.ygg_type_progress.specs.Blocks.{eval_with}
-use Rattle.ygg_type_progress.specs.Machines.{IsSized}
-use Rattle.ygg_rules.specs.declared.rule.RuleKind.{RuleKind}
-use Rattle.ygg_bank.proofs.Exist.{values_fit}
-use Rattle.ygg_bank.proofs.Meaning.{fits_fewer}
-use Rattle.ygg_bank.specs.Nodes.{HasWidth}
-use Rattle.ygg_bank.specs.Values.{Inputs, Values, Fits, value_of}
-use Rattle.ygg_bank.specs.declared.node.Node.{Node}
-use Rattle.ygg_shape_cells.specs.Terms.{worth}
-use Rattle.ygg_shape_cells.specs.declared.terms.SymValue.{SymValue}
-use Rattle.ygg_direct.specs.Direct.{Reached, direct_run, room_of}
-use Rattle.ygg_direct.specs.Acts.{Fell, noted_picks, falls_in}
-use Rattle.ygg_direct.specs.Places.{by_place, calling}
-use Rattle.ygg_direct.specs.DiskActs.{disk_acts}
-use Rattle.ygg_direct.specs.Laws.{FallsOn, IsTypedBlock}
-use Rattle.ygg_direct.specs.RunPlaces.{disk_space, falls_by_place, base_at, asked_in, base_of}
-use Rattle.ygg_direct.proofs.FallPlacing.{falls_by_place_on_disk}
-use Rattle.ygg_direct.proofs.RunPlacing.{calling_draws, disk_tidy}
-use Rattle.ygg_direct.proofs.Typed.{direct_on_disk}
-use Rattle.ygg_sym_expr.specs.Exprs.{sym_functions}
-use Rattle.ygg_sym_expr.specs.Meaning.{EnvShaped, worths}
-use Rattle.ygg_sym_expr.specs.Names.{SymEnv}
-use Rattle.ygg_sym_expr.proofs.Grows.{functions_grow}
-use Rattle.ygg_sym_expr.proofs.Values.{FunctionsMean}
-use Rattle.ygg_sym_expr.proofs.Definitions.{functions_mean}
+use Rattle.ygg_sym_runs.specs.ygg_type_rules.TypeErrors.{none}
+use Rattle.ygg_sym_runs.specs.ygg_type_rules.Statements.{walked, return_errors}
+use Rattle.ygg_sym_runs.specs.ygg_type_rules.Statements as rules
+use Rattle.ygg_sym_runs.specs.ygg_type_rules.Definitions.{definitions_errors, with_definitions}
+use Rattle.ygg_sym_runs.specs.ygg_type_sound_proofs_Tests.{left as first_of}
+use Rattle.ygg_sym_runs.specs.ygg_type_rules.Files.{disk_errors, disk_operations}
+use Rattle.ygg_sym_runs.specs.ygg_meaning.Environments.{Name, Env}
+use Rattle.ygg_sym_runs.specs.ygg_meaning.Meaning.{functions_of}
+use Rattle.ygg_sym_runs.specs.ygg_meaning.Layer.{ClosedLayer}
+use Rattle.ygg_sym_runs.specs.ygg_meaning.Machine.{State, on, based}
+use Rattle.ygg_sym_runs.specs.ygg_meaning.Obligations.{Halt}
+use Rattle.ygg_sym_runs.specs.ygg_meaning.DiskMachine.{DiskMachine}
+use Rattle.ygg_sym_runs.specs.ygg_histories.Stack.{tables_of}
+use Rattle.ygg_sym_runs.specs.ygg_type_sound.Agrees.{Agrees}
+use Rattle.ygg_sym_runs.specs.ygg_type_progress.Questions.{plain}
+use Rattle.ygg_sym_runs.specs.ygg_type_progress.Blocks.{eval_with}
+use Rattle.ygg_sym_runs.specs.ygg_type_progress.Machines.{IsSized}
+use Rattle.ygg_sym_runs.specs.ygg_rules.declared.rule.RuleKind.{RuleKind}
+use Rattle.ygg_sym_runs.specs.ygg_bank_proofs_Exist.{values_fit}
+use Rattle.ygg_sym_runs.specs.ygg_bank_proofs_Meaning.{fits_fewer}
+use Rattle.ygg_sym_runs.specs.ygg_bank.Nodes.{HasWidth}
+use Rattle.ygg_sym_runs.specs.ygg_bank.Values.{Inputs, Values, Fits, value_of}
+use Rattle.ygg_sym_runs.specs.ygg_bank.declared.node.Node.{Node}
+use Rattle.ygg_sym_runs.specs.ygg_shape_cells.Terms.{worth}
+use Rattle.ygg_sym_runs.specs.ygg_shape_cells.declared.terms.SymValue.{SymValue}
+use Rattle.ygg_sym_runs.specs.ygg_direct.Direct.{Reached, direct_run, room_of}
+use Rattle.ygg_sym_runs.specs.ygg_direct.Acts.{Fell, noted_picks, falls_in}
+use Rattle.ygg_sym_runs.specs.ygg_direct.Places.{by_place, calling}
+use Rattle.ygg_sym_runs.specs.ygg_direct.DiskActs.{disk_acts}
+use Rattle.ygg_sym_runs.specs.ygg_direct.Laws.{FallsOn, IsTypedBlock}
+use Rattle.ygg_sym_runs.specs.ygg_direct.RunPlaces.{disk_space, falls_by_place, base_at, asked_in, base_of}
+use Rattle.ygg_sym_runs.proofs.of_ygg_direct.FallPlacing.{falls_by_place_on_disk}
+use Rattle.ygg_sym_runs.specs.ygg_direct_proofs_RunPlacing.{calling_draws, disk_tidy}
+use Rattle.ygg_sym_runs.proofs.of_ygg_direct.Typed.{direct_on_disk}
+use Rattle.ygg_sym_runs.specs.ygg_sym_expr.Exprs.{sym_functions}
+use Rattle.ygg_sym_runs.specs.ygg_sym_expr.Meaning.{EnvShaped, worths}
+use Rattle.ygg_sym_runs.specs.ygg_sym_expr.Names.{SymEnv}
+use Rattle.ygg_sym_runs.specs.ygg_sym_expr_proofs_Grows.{functions_grow}
+use Rattle.ygg_sym_runs.specs.ygg_sym_expr_proofs_Values.{FunctionsMean}
+use Rattle.ygg_sym_runs.specs.ygg_sym_expr_proofs_Definitions.{functions_mean}
 use Rattle.ygg_sym_runs.proofs.Worths.{NameShaped}
 use Rattle.ygg_sym_runs.proofs.Parts.{InScope}
 use Rattle.ygg_sym_below.specs.Lows.{LowShaped, low_worth}

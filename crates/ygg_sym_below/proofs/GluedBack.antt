@@ -3,17 +3,17 @@ use Rattle.std.proofs.Common.{◌≡◌, ◌+◌, ◌≤◌, ◌<◌, ℕ, suc, 
 use Rattle.ygg_value.specs.declared.row.Value.{Value}
 use Rattle.ygg_syntax.specs.declared.tree.Operation.{Operation}
 use Rattle.ygg_syntax.specs.declared.tree.Block.{Block}
-use Rattle.ygg_meaning.specs.Environments.{Name, Env, bind}
-use Rattle.ygg_meaning.specs.Progress.{Eval, Question, Choice, Call, Answer}
-use Rattle.ygg_meaning.specs.Machine.{Picks, State, based}
-use Rattle.ygg_meaning.specs.Layer.{ClosedLayer, operation_of}
-use Rattle.ygg_direct.specs.Direct.{Handled, Event, direct_run, room_of, question_space, Chained, Within, Alike}
-use Rattle.ygg_direct.specs.Places.{Draw, left_after, by_place, calling}
-use Rattle.ygg_direct.specs.SpecActs.{spec_does, spec_acts}
-use Rattle.ygg_direct.specs.RunPlaces.{spec_space}
-use Rattle.ygg_direct.proofs.Order.{block_follows}
-use Rattle.ygg_direct.proofs.Mirror.{block_mirrors}
-use Rattle.ygg_direct.proofs.Rooms.{room_is}
+use Rattle.ygg_sym_runs.specs.ygg_meaning.Environments.{Name, Env, bind}
+use Rattle.ygg_sym_runs.specs.ygg_meaning.Progress.{Eval, Question, Choice, Call, Answer}
+use Rattle.ygg_sym_runs.specs.ygg_meaning.Machine.{Picks, State, based}
+use Rattle.ygg_sym_runs.specs.ygg_meaning.Layer.{ClosedLayer, operation_of}
+use Rattle.ygg_sym_runs.specs.ygg_direct.Direct.{Handled, Event, direct_run, room_of, question_space, Chained, Within, Alike}
+use Rattle.ygg_sym_runs.specs.ygg_direct.Places.{Draw, left_after, by_place, calling}
+use Rattle.ygg_sym_runs.specs.ygg_direct.SpecActs.{spec_does, spec_acts}
+use Rattle.ygg_sym_runs.specs.ygg_direct.RunPlaces.{spec_space}
+use Rattle.ygg_sym_runs.specs.ygg_direct_proofs_Order.{block_follows}
+use Rattle.ygg_sym_runs.specs.ygg_direct_proofs_Mirror.{block_mirrors}
+use Rattle.ygg_sym_runs.specs.ygg_direct_proofs_Rooms.{room_is}
 use Rattle.ygg_sym_below.proofs.SpecMeans.{spec_ended, spec_at}
 use Rattle.ygg_sym_below.proofs.Gluing.{Slot, glue, glue_here, glue_later, reached, same_events}
 use Rattle.ygg_sym_below.proofs.Chosen.{Decided, room, backs}

@@ -32,19 +32,19 @@ use Rattle.std.proofs.lemmas.Bool.Decides.{nat_tests}
 use Rattle.ygg_value.specs.declared.row.Value.{Value}
 use Rattle.ygg_syntax.specs.declared.tree.Operation.{Operation}
 use Rattle.ygg_syntax.specs.declared.tree.Block.{Block}
-use Rattle.ygg_meaning.specs.Environments.{Name, Env, bind}
-use Rattle.ygg_meaning.specs.Progress.{Eval, Question, Choice, Call, Answer}
-use Rattle.ygg_meaning.specs.Machine.{Picks, State, based}
-use Rattle.ygg_meaning.specs.Layer.{ClosedLayer, operation_of}
-use Rattle.ygg_direct.specs.Direct.{Handled, Event, Reached, direct_run, direct_of, room_of, question_space, total, Chained, Within, Alike, seen}
-use Rattle.ygg_direct.specs.Acts.{next_of}
-use Rattle.ygg_direct.specs.Places.{Draw, left_after, calling, IsDraw}
-use Rattle.ygg_direct.specs.SpecActs.{Ran, spec_does, spec_acts}
-use Rattle.ygg_direct.specs.RunPlaces.{spec_space}
-use Rattle.ygg_direct.proofs.Order.{block_follows}
-use Rattle.ygg_direct.proofs.Mirror.{block_mirrors}
-use Rattle.ygg_direct.proofs.Choosing.{one}
-use Rattle.ygg_direct.proofs.RunPlacing.{calling_draws, spec_tidy}
+use Rattle.ygg_sym_runs.specs.ygg_meaning.Environments.{Name, Env, bind}
+use Rattle.ygg_sym_runs.specs.ygg_meaning.Progress.{Eval, Question, Choice, Call, Answer}
+use Rattle.ygg_sym_runs.specs.ygg_meaning.Machine.{Picks, State, based}
+use Rattle.ygg_sym_runs.specs.ygg_meaning.Layer.{ClosedLayer, operation_of}
+use Rattle.ygg_sym_runs.specs.ygg_direct.Direct.{Handled, Event, Reached, direct_run, direct_of, room_of, question_space, total, Chained, Within, Alike, seen}
+use Rattle.ygg_sym_runs.specs.ygg_direct.Acts.{next_of}
+use Rattle.ygg_sym_runs.specs.ygg_direct.Places.{Draw, left_after, calling, IsDraw}
+use Rattle.ygg_sym_runs.specs.ygg_direct.SpecActs.{Ran, spec_does, spec_acts}
+use Rattle.ygg_sym_runs.specs.ygg_direct.RunPlaces.{spec_space}
+use Rattle.ygg_sym_runs.specs.ygg_direct_proofs_Order.{block_follows}
+use Rattle.ygg_sym_runs.specs.ygg_direct_proofs_Mirror.{block_mirrors}
+use Rattle.ygg_sym_runs.specs.ygg_direct_proofs_Choosing.{one}
+use Rattle.ygg_sym_runs.specs.ygg_direct_proofs_RunPlacing.{calling_draws, spec_tidy}
 use Rattle.ygg_sym_below.specs.Wholes.{picks_from}
 use Rattle.ygg_sym_below.proofs.Placed.{by_bits}
 use Rattle.ygg_sym_below.proofs.SpecMeans.{spec_ended, spec_at}

@@ -7,43 +7,43 @@ use Rattle.ygg_syntax.specs.declared.tree.Declared.{Declared}
 use Rattle.ygg_syntax.specs.declared.tree.Def.{Def}
 use Rattle.ygg_syntax.specs.declared.tree.Block.{Block}
 use Rattle.ygg_syntax.specs.declared.tree.DiskText.{DiskText}
-use Rattle.ygg_type_rules.specs.TypeErrors.{none}
-use Rattle.ygg_type_rules.specs.Definitions.{definitions_errors, with_definitions}
-use Rattle.ygg_type_rules.specs.Files.{disk_errors, disk_operations}
-use Rattle.ygg_meaning.specs.Environments.{Name, Env}
-use Rattle.ygg_meaning.specs.Meaning.{functions_of}
-use Rattle.ygg_meaning.specs.Shapes.{env_fits}
-use Rattle.ygg_meaning.specs.Layer.{ClosedLayer}
-use Rattle.ygg_meaning.specs.Progress.{Answer, answer_of}
-use Rattle.ygg_meaning.specs.Machine.{State, on, based}
-use Rattle.ygg_meaning.specs.DiskMachine.{DiskMachine}
-use Rattle.ygg_histories.specs.Stack.{tables_of}
-use Rattle.ygg_type_sound.specs.Agrees.{Agrees}
-use Rattle.ygg_type_progress.specs.Questions.{plain, Follows}
-use Rattle.ygg_type_progress.specs.Blocks.{eval_with, is_returned}
-use Rattle.ygg_type_progress.specs.Machines.{IsSized}
-use Rattle.ygg_type_progress.proofs.Following.{follows_front, fits_after}
-use Rattle.ygg_rules.specs.declared.rule.RuleKind.{RuleKind}
-use Rattle.ygg_bank.proofs.Exist.{values_fit}
-use Rattle.ygg_bank.proofs.Meaning.{fits_fewer}
-use Rattle.ygg_bank.specs.Values.{Inputs, Values, Fits, value_of}
-use Rattle.ygg_bank.specs.declared.node.Node.{Node}
-use Rattle.ygg_shape_cells.specs.Terms.{worth}
-use Rattle.ygg_shape_cells.specs.declared.terms.SymValue.{SymValue}
-use Rattle.ygg_direct.specs.Direct.{direct_run, room_of}
-use Rattle.ygg_direct.specs.Acts.{noted_picks, runs}
-use Rattle.ygg_direct.specs.Places.{by_place, calling}
-use Rattle.ygg_direct.specs.DiskActs.{disk_acts}
-use Rattle.ygg_direct.specs.Laws.{RunsOn, IsTypedBlock}
-use Rattle.ygg_direct.specs.RunPlaces.{Finish, finish_of, disk_space, runs_by_place}
-use Rattle.ygg_direct.proofs.RunPlacing.{calling_draws, disk_tidy, runs_by_place_on_disk}
-use Rattle.ygg_direct.proofs.Typed.{direct_on_disk}
-use Rattle.ygg_sym_expr.specs.Exprs.{sym_functions}
-use Rattle.ygg_sym_expr.specs.Meaning.{EnvShaped, worths}
-use Rattle.ygg_sym_expr.specs.Names.{SymEnv}
-use Rattle.ygg_sym_expr.proofs.Grows.{functions_grow}
-use Rattle.ygg_sym_expr.proofs.Values.{FunctionsMean}
-use Rattle.ygg_sym_expr.proofs.Definitions.{functions_mean}
+use Rattle.ygg_sym_runs.specs.ygg_type_rules.TypeErrors.{none}
+use Rattle.ygg_sym_runs.specs.ygg_type_rules.Definitions.{definitions_errors, with_definitions}
+use Rattle.ygg_sym_runs.specs.ygg_type_rules.Files.{disk_errors, disk_operations}
+use Rattle.ygg_sym_runs.specs.ygg_meaning.Environments.{Name, Env}
+use Rattle.ygg_sym_runs.specs.ygg_meaning.Meaning.{functions_of}
+use Rattle.ygg_sym_runs.specs.ygg_meaning.Shapes.{env_fits}
+use Rattle.ygg_sym_runs.specs.ygg_meaning.Layer.{ClosedLayer}
+use Rattle.ygg_sym_runs.specs.ygg_meaning.Progress.{Answer, answer_of}
+use Rattle.ygg_sym_runs.specs.ygg_meaning.Machine.{State, on, based}
+use Rattle.ygg_sym_runs.specs.ygg_meaning.DiskMachine.{DiskMachine}
+use Rattle.ygg_sym_runs.specs.ygg_histories.Stack.{tables_of}
+use Rattle.ygg_sym_runs.specs.ygg_type_sound.Agrees.{Agrees}
+use Rattle.ygg_sym_runs.specs.ygg_type_progress.Questions.{plain, Follows}
+use Rattle.ygg_sym_runs.specs.ygg_type_progress.Blocks.{eval_with, is_returned}
+use Rattle.ygg_sym_runs.specs.ygg_type_progress.Machines.{IsSized}
+use Rattle.ygg_sym_runs.specs.ygg_type_progress_proofs_Following.{follows_front, fits_after}
+use Rattle.ygg_sym_runs.specs.ygg_rules.declared.rule.RuleKind.{RuleKind}
+use Rattle.ygg_sym_runs.specs.ygg_bank_proofs_Exist.{values_fit}
+use Rattle.ygg_sym_runs.specs.ygg_bank_proofs_Meaning.{fits_fewer}
+use Rattle.ygg_sym_runs.specs.ygg_bank.Values.{Inputs, Values, Fits, value_of}
+use Rattle.ygg_sym_runs.specs.ygg_bank.declared.node.Node.{Node}
+use Rattle.ygg_sym_runs.specs.ygg_shape_cells.Terms.{worth}
+use Rattle.ygg_sym_runs.specs.ygg_shape_cells.declared.terms.SymValue.{SymValue}
+use Rattle.ygg_sym_runs.specs.ygg_direct.Direct.{direct_run, room_of}
+use Rattle.ygg_sym_runs.specs.ygg_direct.Acts.{noted_picks, runs}
+use Rattle.ygg_sym_runs.specs.ygg_direct.Places.{by_place, calling}
+use Rattle.ygg_sym_runs.specs.ygg_direct.DiskActs.{disk_acts}
+use Rattle.ygg_sym_runs.specs.ygg_direct.Laws.{RunsOn, IsTypedBlock}
+use Rattle.ygg_sym_runs.specs.ygg_direct.RunPlaces.{Finish, finish_of, disk_space, runs_by_place}
+use Rattle.ygg_sym_runs.specs.ygg_direct_proofs_RunPlacing.{calling_draws, disk_tidy, runs_by_place_on_disk}
+use Rattle.ygg_sym_runs.proofs.of_ygg_direct.Typed.{direct_on_disk}
+use Rattle.ygg_sym_runs.specs.ygg_sym_expr.Exprs.{sym_functions}
+use Rattle.ygg_sym_runs.specs.ygg_sym_expr.Meaning.{EnvShaped, worths}
+use Rattle.ygg_sym_runs.specs.ygg_sym_expr.Names.{SymEnv}
+use Rattle.ygg_sym_runs.specs.ygg_sym_expr_proofs_Grows.{functions_grow}
+use Rattle.ygg_sym_runs.specs.ygg_sym_expr_proofs_Values.{FunctionsMean}
+use Rattle.ygg_sym_runs.specs.ygg_sym_expr_proofs_Definitions.{functions_mean}
 use Rattle.ygg_sym_runs.specs.Meaning.{AnswerShaped, answer_worth}
 use Rattle.ygg_sym_runs.proofs.Worths.{NameShaped}
 use Rattle.ygg_sym_runs.proofs.Parts.{InScope}

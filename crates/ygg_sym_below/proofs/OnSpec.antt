@@ -3,33 +3,33 @@ use Rattle.std.proofs.Common.{◌≡◌, ◌≤◌, [], ◌++◌, take, length, 
 use Rattle.std.proofs.lemmas.List.{map-append, length-map, length-append}
 use Rattle.std.proofs.lemmas.List.Elements.{All-append}
 use Rattle.ygg_syntax.specs.declared.grammar.BlockKind.TheVariants.{Impl}
-use Rattle.ygg_type_rules.specs.Definitions.{with_definitions}
-use Rattle.ygg_meaning.specs.Environments.{Name, Env}
-use Rattle.ygg_meaning.specs.Progress.{Answer, answer_of}
-use Rattle.ygg_meaning.specs.Machine.{State, on, based}
-use Rattle.ygg_meaning.specs.Spec.{Spec}
-use Rattle.ygg_type_sound.specs.Agrees.{Agrees}
-use Rattle.ygg_type_progress.specs.Questions.{plain}
-use Rattle.ygg_type_progress.specs.Blocks.{eval_with}
-use Rattle.ygg_type_progress.specs.Machines.{IsStateOf}
-use Rattle.ygg_bank.proofs.Exist.{values_fit}
-use Rattle.ygg_bank.proofs.Meaning.{fits_fewer}
-use Rattle.ygg_bank.specs.Values.{value_of}
-use Rattle.ygg_shape_cells.specs.Terms.{worth}
-use Rattle.ygg_shape_cells.specs.declared.terms.SymValue.{SymValue}
-use Rattle.ygg_direct.specs.Direct.{direct_run, room_of}
-use Rattle.ygg_direct.specs.Acts.{noted_picks, runs}
-use Rattle.ygg_direct.specs.Places.{by_place, calling}
-use Rattle.ygg_direct.specs.SpecActs.{spec_acts}
-use Rattle.ygg_direct.specs.Laws.{RunsOn, IsTypedBlock}
-use Rattle.ygg_direct.specs.RunPlaces.{Finish, finish_of, spec_space, runs_by_place}
-use Rattle.ygg_direct.proofs.RunPlacing.{runs_by_place_on_spec}
-use Rattle.ygg_direct.proofs.Typed.{direct_on_spec}
-use Rattle.ygg_sym_expr.specs.Exprs.{sym_functions}
-use Rattle.ygg_sym_expr.specs.Meaning.{worths}
-use Rattle.ygg_sym_expr.proofs.Grows.{functions_grow}
-use Rattle.ygg_sym_expr.proofs.Values.{FunctionsMean}
-use Rattle.ygg_sym_expr.proofs.Definitions.{functions_mean}
+use Rattle.ygg_sym_runs.specs.ygg_type_rules.Definitions.{with_definitions}
+use Rattle.ygg_sym_runs.specs.ygg_meaning.Environments.{Name, Env}
+use Rattle.ygg_sym_runs.specs.ygg_meaning.Progress.{Answer, answer_of}
+use Rattle.ygg_sym_runs.specs.ygg_meaning.Machine.{State, on, based}
+use Rattle.ygg_sym_runs.specs.ygg_meaning.Spec.{Spec}
+use Rattle.ygg_sym_runs.specs.ygg_type_sound.Agrees.{Agrees}
+use Rattle.ygg_sym_runs.specs.ygg_type_progress.Questions.{plain}
+use Rattle.ygg_sym_runs.specs.ygg_type_progress.Blocks.{eval_with}
+use Rattle.ygg_sym_runs.specs.ygg_type_progress.Machines.{IsStateOf}
+use Rattle.ygg_sym_runs.specs.ygg_bank_proofs_Exist.{values_fit}
+use Rattle.ygg_sym_runs.specs.ygg_bank_proofs_Meaning.{fits_fewer}
+use Rattle.ygg_sym_runs.specs.ygg_bank.Values.{value_of}
+use Rattle.ygg_sym_runs.specs.ygg_shape_cells.Terms.{worth}
+use Rattle.ygg_sym_runs.specs.ygg_shape_cells.declared.terms.SymValue.{SymValue}
+use Rattle.ygg_sym_runs.specs.ygg_direct.Direct.{direct_run, room_of}
+use Rattle.ygg_sym_runs.specs.ygg_direct.Acts.{noted_picks, runs}
+use Rattle.ygg_sym_runs.specs.ygg_direct.Places.{by_place, calling}
+use Rattle.ygg_sym_runs.specs.ygg_direct.SpecActs.{spec_acts}
+use Rattle.ygg_sym_runs.specs.ygg_direct.Laws.{RunsOn, IsTypedBlock}
+use Rattle.ygg_sym_runs.specs.ygg_direct.RunPlaces.{Finish, finish_of, spec_space, runs_by_place}
+use Rattle.ygg_sym_runs.specs.ygg_direct_proofs_RunPlacing.{runs_by_place_on_spec}
+use Rattle.ygg_sym_runs.proofs.of_ygg_direct.Typed.{direct_on_spec}
+use Rattle.ygg_sym_runs.specs.ygg_sym_expr.Exprs.{sym_functions}
+use Rattle.ygg_sym_runs.specs.ygg_sym_expr.Meaning.{worths}
+use Rattle.ygg_sym_runs.specs.ygg_sym_expr_proofs_Grows.{functions_grow}
+use Rattle.ygg_sym_runs.specs.ygg_sym_expr_proofs_Values.{FunctionsMean}
+use Rattle.ygg_sym_runs.specs.ygg_sym_expr_proofs_Definitions.{functions_mean}
 use Rattle.ygg_sym_runs.specs.Meaning.{answer_worth}
 use Rattle.ygg_sym_runs.proofs.Worths.{NameShaped}
 use Rattle.ygg_sym_runs.proofs.Parts.{InScope}

@@ -1,19 +1,19 @@
 -- A machine that takes the picks of each question's place, and one that takes them from a list.
 use Rattle.std.proofs.Common.{◌≡◌, ◌+◌, ◌-◌, ◌≤◌, ◌<◌, ℕ, zero, suc, Bool, List, [], ◌∷◌, ◌++◌, map, length, take, refl, sym, ap, ◌∙◌, subst, arith}
 use Rattle.ygg_syntax.specs.declared.tree.Block.{Block}
-use Rattle.ygg_meaning.specs.Environments.{Name, Env}
-use Rattle.ygg_meaning.specs.Progress.{Eval, Question, answer_of}
-use Rattle.ygg_meaning.specs.Machine.{Picks, State, on, memory_in}
-use Rattle.ygg_meaning.specs.Layer.{ClosedLayer, eval_of}
-use Rattle.ygg_direct.specs.Direct.{Handled, Event, Reached, direct_run, direct_of, room_of, question_space, total, Chained, Within, Alike, seen}
-use Rattle.ygg_direct.specs.Acts.{Taken, Acts, next_of, under}
-use Rattle.ygg_direct.specs.Places.{Drawn, Draw, left_after, by_place, calling, IsDraw}
-use Rattle.ygg_direct.specs.RunPlaces.{IsTidy, placed_run, runs_by_place}
-use Rattle.ygg_direct.proofs.Order.{block_follows}
-use Rattle.ygg_direct.proofs.Mirror.{block_mirrors}
-use Rattle.ygg_direct.proofs.Rooms.{room_is}
-use Rattle.ygg_direct.proofs.Placing.{after_more}
-use Rattle.ygg_direct.proofs.RunPlacing.{calling_draws}
+use Rattle.ygg_sym_runs.specs.ygg_meaning.Environments.{Name, Env}
+use Rattle.ygg_sym_runs.specs.ygg_meaning.Progress.{Eval, Question, answer_of}
+use Rattle.ygg_sym_runs.specs.ygg_meaning.Machine.{Picks, State, on, memory_in}
+use Rattle.ygg_sym_runs.specs.ygg_meaning.Layer.{ClosedLayer, eval_of}
+use Rattle.ygg_sym_runs.specs.ygg_direct.Direct.{Handled, Event, Reached, direct_run, direct_of, room_of, question_space, total, Chained, Within, Alike, seen}
+use Rattle.ygg_sym_runs.specs.ygg_direct.Acts.{Taken, Acts, next_of, under}
+use Rattle.ygg_sym_runs.specs.ygg_direct.Places.{Drawn, Draw, left_after, by_place, calling, IsDraw}
+use Rattle.ygg_sym_runs.specs.ygg_direct.RunPlaces.{IsTidy, placed_run, runs_by_place}
+use Rattle.ygg_sym_runs.specs.ygg_direct_proofs_Order.{block_follows}
+use Rattle.ygg_sym_runs.specs.ygg_direct_proofs_Mirror.{block_mirrors}
+use Rattle.ygg_sym_runs.specs.ygg_direct_proofs_Rooms.{room_is}
+use Rattle.ygg_sym_runs.specs.ygg_direct_proofs_Placing.{after_more}
+use Rattle.ygg_sym_runs.specs.ygg_direct_proofs_RunPlacing.{calling_draws}
 use Rattle.ygg_sym_below.specs.Wholes.{picks_from}
 
 left_from : (bits : ℕ → Bool) (i n k : ℕ) → left_after k (picks_from bits i (k + n)) ≡ picks_from bits (i + k) n

@@ -1,8 +1,8 @@
 -- The first stop of a run that is set depends on the stops of the run's places alone.
 use Rattle.std.proofs.Common.{◌≡◌, ◌<◌, ◌≤◌, ◌+◌, ◌*◌, ℕ, Bool, true, false, if◌then◌else◌, List, [], ◌∷◌, Option, Some, None, ap, ◌∙◌, arith}
-use Rattle.ygg_meaning.specs.Progress.{Question}
-use Rattle.ygg_meaning.specs.Obligations.{Halt}
-use Rattle.ygg_direct.specs.Direct.{Event, Within}
+use Rattle.ygg_sym_runs.specs.ygg_meaning.Progress.{Question}
+use Rattle.ygg_sym_runs.specs.ygg_meaning.Obligations.{Halt}
+use Rattle.ygg_sym_runs.specs.ygg_direct.Direct.{Event, Within}
 use Rattle.ygg_sym_below.specs.Stops.{before_at, within_at, halt, further, first_stop}
 
 module _ {S : Type 0} (size : Question → ℕ) (one : (q : Question) → 1 ≤ size q) where

@@ -2,30 +2,31 @@
 use Rattle.std.proofs.Common.{◌≡◌, ◌≤◌, ◌+◌, ◌*◌, ℕ, Bool, true, false, [], ◌++◌, take, length, Some, refl, sym, ap, ◌∙◌, subst, arith}
 use Rattle.std.proofs.lemmas.List.{append-nil, length-append}
 use Rattle.ygg_syntax.specs.declared.tree.Block.{Block}
-use Rattle.ygg_symbols.specs.Names.{Named}
-use Rattle.ygg_type_rules.specs.declared.scope.Signature.{Signature}
-use Rattle.ygg_meaning.specs.Environments.{Env}
-use Rattle.ygg_meaning.specs.Shapes.{env_fits}
-use Rattle.ygg_meaning.specs.Progress.{Question, Choice, Call, Answer, answer_of}
-use Rattle.ygg_meaning.specs.Machine.{Picks, State, on, based}
-use Rattle.ygg_meaning.specs.Layer.{ClosedLayer, eval_of, BlockRuns, BlockFalls}
-use Rattle.ygg_meaning.specs.Obligations.{Halt}
-use Rattle.ygg_meaning.specs.Spec.{Spec}
-use Rattle.ygg_type_progress.specs.Machines.{IsStateOf, SpecAnswers}
-use Rattle.ygg_direct.specs.Direct.{Reached, Within, direct_run, question_space, room_of}
-use Rattle.ygg_direct.specs.Acts.{Taken, Did, Acts, noted_picks, runs, falls_in}
-use Rattle.ygg_direct.specs.Places.{by_place, calling}
-use Rattle.ygg_direct.specs.SpecActs.{spec_acts}
-use Rattle.ygg_direct.specs.Laws.{IsTypedBlock, Sees}
-use Rattle.ygg_direct.specs.RunPlaces.{Finish, finish_of, spec_space, placed_run, runs_by_place, falls_by_place, base_at, asked_in, base_of, cut_by}
-use Rattle.ygg_direct.proofs.Agreed.{runs_unique, falls_unique}
-use Rattle.ygg_direct.proofs.FallPlacing.{falls_by_place_on_spec}
-use Rattle.ygg_direct.proofs.Order.{block_follows}
-use Rattle.ygg_direct.proofs.Placing.{taken_self}
-use Rattle.ygg_direct.proofs.Rooms.{room_is}
-use Rattle.ygg_direct.proofs.RunPlacing.{runs_by_place_on_spec}
-use Rattle.ygg_direct.proofs.SpecActed.{spec_acted}
-use Rattle.ygg_direct.proofs.Typed.{direct_on_spec}
+use Rattle.ygg_sym_runs.specs.ygg_symbols.Names.{Named}
+use Rattle.ygg_sym_runs.specs.ygg_type_rules.declared.scope.Signature.{Signature}
+use Rattle.ygg_sym_runs.specs.ygg_meaning.Environments.{Env}
+use Rattle.ygg_sym_runs.specs.ygg_meaning.Shapes.{env_fits}
+use Rattle.ygg_sym_runs.specs.ygg_meaning.Progress.{Question, Choice, Call, Answer, answer_of}
+use Rattle.ygg_sym_runs.specs.ygg_meaning.Machine.{Picks, State, on, based}
+use Rattle.ygg_sym_runs.specs.ygg_meaning.Layer.{ClosedLayer, eval_of, BlockRuns, BlockFalls}
+use Rattle.ygg_sym_runs.specs.ygg_meaning.Obligations.{Halt}
+use Rattle.ygg_sym_runs.specs.ygg_meaning.Spec.{Spec}
+use Rattle.ygg_sym_runs.specs.ygg_type_progress.Machines.{IsStateOf, SpecAnswers}
+use Rattle.ygg_sym_runs.specs.ygg_direct.Direct.{Reached, Within, direct_run, question_space, room_of}
+use Rattle.ygg_sym_runs.specs.ygg_direct.Acts.{Taken, Did, Acts, noted_picks, runs, falls_in}
+use Rattle.ygg_sym_runs.specs.ygg_direct.Places.{by_place, calling}
+use Rattle.ygg_sym_runs.specs.ygg_direct.SpecActs.{spec_acts}
+use Rattle.ygg_sym_runs.specs.ygg_direct.Laws.{IsTypedBlock, Sees}
+use Rattle.ygg_sym_runs.specs.ygg_direct.RunPlaces.{Finish, finish_of, spec_space, placed_run, runs_by_place}
+use Rattle.ygg_sym_runs.specs.ygg_direct.RunPlaces.{falls_by_place, base_at, asked_in, base_of, cut_by}
+use Rattle.ygg_sym_runs.proofs.of_ygg_direct.Agreed.{runs_unique, falls_unique}
+use Rattle.ygg_sym_runs.proofs.of_ygg_direct.FallPlacing.{falls_by_place_on_spec}
+use Rattle.ygg_sym_runs.specs.ygg_direct_proofs_Order.{block_follows}
+use Rattle.ygg_sym_runs.specs.ygg_direct_proofs_Placing.{taken_self}
+use Rattle.ygg_sym_runs.specs.ygg_direct_proofs_Rooms.{room_is}
+use Rattle.ygg_sym_runs.specs.ygg_direct_proofs_RunPlacing.{runs_by_place_on_spec}
+use Rattle.ygg_sym_runs.proofs.of_ygg_direct.SpecActed.{spec_acted}
+use Rattle.ygg_sym_runs.proofs.of_ygg_direct.Typed.{direct_on_spec}
 use Rattle.ygg_sym_below.specs.SpecCuts.{fall_room}
 use Rattle.ygg_sym_below.specs.Stops.{halt, first_stop}
 use Rattle.ygg_sym_below.specs.Wholes.{picks_from}

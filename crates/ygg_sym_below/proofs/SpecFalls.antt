@@ -31,14 +31,14 @@ use Rattle.std.proofs.lemmas.Bool.Decides.{nat_tests}
 use Rattle.ygg_value.specs.declared.row.Value.{Value}
 use Rattle.ygg_syntax.specs.declared.tree.Block.{Block}
 use Rattle.ygg_syntax.specs.declared.tree.Operation.{Operation}
-use Rattle.ygg_meaning.specs.Environments.{Name, Env, bind}
-use Rattle.ygg_meaning.specs.Progress.{Question, Choice, Call}
-use Rattle.ygg_meaning.specs.Machine.{Picks, State}
-use Rattle.ygg_meaning.specs.Layer.{ClosedLayer, operation_in, operation_of}
-use Rattle.ygg_direct.specs.Direct.{total}
-use Rattle.ygg_direct.specs.Acts.{next_of, later}
-use Rattle.ygg_direct.specs.SpecActs.{Ran, block_ran, then_crash, fall_ran, spec_drops, spec_acts}
-use Rattle.ygg_direct.specs.RunPlaces.{base_at, cut_by}
+use Rattle.ygg_sym_runs.specs.ygg_meaning.Environments.{Name, Env, bind}
+use Rattle.ygg_sym_runs.specs.ygg_meaning.Progress.{Question, Choice, Call}
+use Rattle.ygg_sym_runs.specs.ygg_meaning.Machine.{Picks, State}
+use Rattle.ygg_sym_runs.specs.ygg_meaning.Layer.{ClosedLayer, operation_in, operation_of}
+use Rattle.ygg_sym_runs.specs.ygg_direct.Direct.{total}
+use Rattle.ygg_sym_runs.specs.ygg_direct.Acts.{next_of, later}
+use Rattle.ygg_sym_runs.specs.ygg_direct.SpecActs.{Ran, block_ran, then_crash, fall_ran, spec_drops, spec_acts}
+use Rattle.ygg_sym_runs.specs.ygg_direct.RunPlaces.{base_at, cut_by}
 use Rattle.ygg_sym_below.specs.SpecCuts.{fall_places, fall_room}
 use Rattle.ygg_sym_below.proofs.Chosen.{Decided, room, block_end, fronts, backs}
 

@@ -8,36 +8,36 @@ use Rattle.ygg_syntax.specs.declared.grammar.BlockKind.TheVariants.{Impl}
 use Rattle.ygg_syntax.specs.declared.tree.Declared.{Declared}
 use Rattle.ygg_syntax.specs.declared.tree.Block.{Block}
 use Rattle.ygg_syntax.specs.declared.tree.Operation.{Operation}
-use Rattle.ygg_symbols.specs.Names.{Named, look_up}
-use Rattle.ygg_type_rules.specs.declared.scope.Signature.{Signature}
-use Rattle.ygg_type_rules.specs.Layers.{operation_signature}
-use Rattle.ygg_meaning.specs.Environments.{Name, Env, bind}
-use Rattle.ygg_meaning.specs.Shapes.{values_fit}
-use Rattle.ygg_meaning.specs.Machine.{based}
-use Rattle.ygg_meaning.specs.Layer.{ClosedLayer, operation_of}
-use Rattle.ygg_type_sound.specs.Fitting.{all_fit}
-use Rattle.ygg_type_progress.specs.Questions.{question_fits}
-use Rattle.ygg_rules.specs.declared.rule.RuleKind.{RuleKind}
-use Rattle.ygg_bank.proofs.Made.{made_grows}
-use Rattle.ygg_bank.proofs.Meaning.{fits_fewer}
-use Rattle.ygg_bank.proofs.Widths.{wider, extends_self, extends_both}
-use Rattle.ygg_bank.specs.Makes.{Make}
-use Rattle.ygg_bank.specs.Nodes.{Extends}
-use Rattle.ygg_bank.specs.Values.{Inputs, Values}
-use Rattle.ygg_bank.specs.declared.node.Id.{Id}
-use Rattle.ygg_bank.specs.declared.node.Node.{Node}
-use Rattle.ygg_bank.specs.declared.node.Node.TheVariants.{Bin}
-use Rattle.ygg_shape_words.proofs.Grows.{picked_grows}
-use Rattle.ygg_shape_cells.specs.Terms.{worth}
-use Rattle.ygg_shape_cells.specs.declared.terms.SymValue.{SymValue}
-use Rattle.ygg_direct.specs.Laws.{Sees}
-use Rattle.ygg_direct.proofs.DiskServes.{fitting_call}
-use Rattle.ygg_sym_expr.specs.Names.{SymEnv, sym_bind}
-use Rattle.ygg_sym_expr.specs.Exprs.{SymFunctions}
-use Rattle.ygg_sym_expr.specs.Meaning.{SomeShape, Grows, Gives}
-use Rattle.ygg_sym_expr.proofs.Shaped.{some_wider}
-use Rattle.ygg_sym_expr.proofs.Grows.{FunctionsGrow}
-use Rattle.ygg_sym_expr.proofs.Values.{FunctionsMean}
+use Rattle.ygg_sym_runs.specs.ygg_symbols.Names.{Named, look_up}
+use Rattle.ygg_sym_runs.specs.ygg_type_rules.declared.scope.Signature.{Signature}
+use Rattle.ygg_sym_runs.specs.ygg_type_rules.Layers.{operation_signature}
+use Rattle.ygg_sym_runs.specs.ygg_meaning.Environments.{Name, Env, bind}
+use Rattle.ygg_sym_runs.specs.ygg_meaning.Shapes.{values_fit}
+use Rattle.ygg_sym_runs.specs.ygg_meaning.Machine.{based}
+use Rattle.ygg_sym_runs.specs.ygg_meaning.Layer.{ClosedLayer, operation_of}
+use Rattle.ygg_sym_runs.specs.ygg_type_sound.Fitting.{all_fit}
+use Rattle.ygg_sym_runs.specs.ygg_type_progress.Questions.{question_fits}
+use Rattle.ygg_sym_runs.specs.ygg_rules.declared.rule.RuleKind.{RuleKind}
+use Rattle.ygg_sym_runs.specs.ygg_bank_proofs_Made.{made_grows}
+use Rattle.ygg_sym_runs.specs.ygg_bank_proofs_Meaning.{fits_fewer}
+use Rattle.ygg_sym_runs.specs.ygg_bank_proofs_Widths.{wider, extends_self, extends_both}
+use Rattle.ygg_sym_runs.specs.ygg_bank.Makes.{Make}
+use Rattle.ygg_sym_runs.specs.ygg_bank.Nodes.{Extends}
+use Rattle.ygg_sym_runs.specs.ygg_bank.Values.{Inputs, Values}
+use Rattle.ygg_sym_runs.specs.ygg_bank.declared.node.Id.{Id}
+use Rattle.ygg_sym_runs.specs.ygg_bank.declared.node.Node.{Node}
+use Rattle.ygg_sym_runs.specs.ygg_bank.declared.node.Node.TheVariants.{Bin}
+use Rattle.ygg_sym_runs.specs.ygg_shape_words_proofs_Grows.{picked_grows}
+use Rattle.ygg_sym_runs.specs.ygg_shape_cells.Terms.{worth}
+use Rattle.ygg_sym_runs.specs.ygg_shape_cells.declared.terms.SymValue.{SymValue}
+use Rattle.ygg_sym_runs.specs.ygg_direct.Laws.{Sees}
+use Rattle.ygg_sym_runs.specs.ygg_direct_proofs_DiskServes.{fitting_call}
+use Rattle.ygg_sym_runs.specs.ygg_sym_expr.Names.{SymEnv, sym_bind}
+use Rattle.ygg_sym_runs.specs.ygg_sym_expr.Exprs.{SymFunctions}
+use Rattle.ygg_sym_runs.specs.ygg_sym_expr.Meaning.{SomeShape, Grows, Gives}
+use Rattle.ygg_sym_runs.specs.ygg_sym_expr_proofs_Shaped.{some_wider}
+use Rattle.ygg_sym_runs.specs.ygg_sym_expr_proofs_Grows.{FunctionsGrow}
+use Rattle.ygg_sym_runs.specs.ygg_sym_expr_proofs_Values.{FunctionsMean}
 use Rattle.ygg_sym_runs.specs.Runs.{SymQuestion, Choice, Call}
 use Rattle.ygg_sym_runs.specs.Meaning.{Low, question_worth, is_set, QuestionShaped, IsLow}
 use Rattle.ygg_sym_below.specs.Lows.{LowShaped, low_worth, merge_lows}

@@ -8,43 +8,43 @@ use Rattle.ygg_value.specs.declared.row.Value.TheVariants as value
 use Rattle.ygg_value.specs.declared.shape.Shape.TheVariants as shape
 use Rattle.ygg_syntax.specs.declared.grammar.BlockKind.TheVariants.{Spec}
 use Rattle.ygg_syntax.specs.declared.tree.Declared.{Declared}
-use Rattle.ygg_symbols.specs.Names.{Named}
-use Rattle.ygg_type_rules.specs.declared.scope.Signature.{Signature}
-use Rattle.ygg_meaning.specs.Environments.{Name, bind}
-use Rattle.ygg_meaning.specs.Shapes.{shape_in, fits, env_fits}
-use Rattle.ygg_meaning.specs.Progress.{Question}
-use Rattle.ygg_type_sound.proofs.Tests.{left as first_of, right as second_of, bytes_same}
-use Rattle.ygg_type_sound.proofs.Fits.{has_fits, digit_has}
-use Rattle.ygg_type_progress.specs.Questions.{question_fits}
-use Rattle.ygg_type_progress.proofs.Fits.{one_shape}
-use Rattle.ygg_rules.specs.declared.rule.RuleKind.{RuleKind}
-use Rattle.ygg_bank.proofs.Widths.{extends_self}
-use Rattle.ygg_bank.specs.Makes.{Make}
-use Rattle.ygg_bank.specs.Nodes.{HasWidth}
-use Rattle.ygg_bank.specs.Values.{Inputs, Values, Fits}
-use Rattle.ygg_bank.specs.declared.node.Id.{Id}
-use Rattle.ygg_bank.specs.declared.node.Node.{Node}
-use Rattle.ygg_shape_cells.specs.Terms.{worth}
-use Rattle.ygg_shape_cells.specs.declared.terms.SymValue.{SymValue}
-use Rattle.ygg_direct.specs.Direct.{Handled}
-use Rattle.ygg_sym_expr.specs.Names.{SymEnv}
-use Rattle.ygg_shape_cells.specs.Terms.{IsShaped}
-use Rattle.ygg_sym_expr.specs.Meaning.{SomeShape, EnvShaped, Grows, Gives, worths}
+use Rattle.ygg_sym_runs.specs.ygg_symbols.Names.{Named}
+use Rattle.ygg_sym_runs.specs.ygg_type_rules.declared.scope.Signature.{Signature}
+use Rattle.ygg_sym_runs.specs.ygg_meaning.Environments.{Name, bind}
+use Rattle.ygg_sym_runs.specs.ygg_meaning.Shapes.{shape_in, fits, env_fits}
+use Rattle.ygg_sym_runs.specs.ygg_meaning.Progress.{Question}
+use Rattle.ygg_sym_runs.specs.ygg_type_sound_proofs_Tests.{left as first_of, right as second_of, bytes_same}
+use Rattle.ygg_sym_runs.specs.ygg_type_sound_proofs_Fits.{has_fits, digit_has}
+use Rattle.ygg_sym_runs.specs.ygg_type_progress.Questions.{question_fits}
+use Rattle.ygg_sym_runs.specs.ygg_type_progress_proofs_Fits.{one_shape}
+use Rattle.ygg_sym_runs.specs.ygg_rules.declared.rule.RuleKind.{RuleKind}
+use Rattle.ygg_sym_runs.specs.ygg_bank_proofs_Widths.{extends_self}
+use Rattle.ygg_sym_runs.specs.ygg_bank.Makes.{Make}
+use Rattle.ygg_sym_runs.specs.ygg_bank.Nodes.{HasWidth}
+use Rattle.ygg_sym_runs.specs.ygg_bank.Values.{Inputs, Values, Fits}
+use Rattle.ygg_sym_runs.specs.ygg_bank.declared.node.Id.{Id}
+use Rattle.ygg_sym_runs.specs.ygg_bank.declared.node.Node.{Node}
+use Rattle.ygg_sym_runs.specs.ygg_shape_cells.Terms.{worth}
+use Rattle.ygg_sym_runs.specs.ygg_shape_cells.declared.terms.SymValue.{SymValue}
+use Rattle.ygg_sym_runs.specs.ygg_direct.Direct.{Handled}
+use Rattle.ygg_sym_runs.specs.ygg_sym_expr.Names.{SymEnv}
+use Rattle.ygg_sym_runs.specs.ygg_shape_cells.Terms.{IsShaped}
+use Rattle.ygg_sym_runs.specs.ygg_sym_expr.Meaning.{SomeShape, EnvShaped, Grows, Gives, worths}
 use Rattle.ygg_sym_runs.specs.Runs.{SymQuestion, Choice, Call}
 use Rattle.ygg_sym_runs.specs.Meaning.{Low, question_worth, is_set, IsHandled, MachineMeans}
 use Rattle.ygg_sym_runs.proofs.Worths.{NameShaped, shape_fits}
 use Rattle.ygg_sym_below.specs.Lows.{LowShaped, low_worth}
-use Rattle.ygg_sym_expr.specs.Names.{sym_bind}
+use Rattle.ygg_sym_runs.specs.ygg_sym_expr.Names.{sym_bind}
 use Rattle.ygg_sym_below.specs.Specs.{Nothing, chooses, sym_chooser, input_pick, given_pick}
-use Rattle.ygg_direct.specs.Acts.{next_of}
-use Rattle.ygg_direct.specs.Places.{left_after}
-use Rattle.ygg_meaning.specs.Machine.{Picks}
+use Rattle.ygg_sym_runs.specs.ygg_direct.Acts.{next_of}
+use Rattle.ygg_sym_runs.specs.ygg_direct.Places.{left_after}
+use Rattle.ygg_sym_runs.specs.ygg_meaning.Machine.{Picks}
 use Rattle.ygg_value.specs.Number.{IsWord}
-use Rattle.ygg_bank.proofs.Made.{made_grows, added_there}
-use Rattle.ygg_bank.proofs.Widths.{own_width}
-use Rattle.ygg_bank.specs.Making.{added}
-use Rattle.ygg_bank.specs.declared.node.Node.TheVariants.{Input, Const}
-use Rattle.ygg_shape_words.proofs.Terms.{made_is, digit_is}
+use Rattle.ygg_sym_runs.specs.ygg_bank_proofs_Made.{made_grows, added_there}
+use Rattle.ygg_sym_runs.specs.ygg_bank_proofs_Widths.{own_width}
+use Rattle.ygg_sym_runs.specs.ygg_bank.Making.{added}
+use Rattle.ygg_sym_runs.specs.ygg_bank.declared.node.Node.TheVariants.{Input, Const}
+use Rattle.ygg_sym_runs.specs.ygg_shape_words_proofs_Terms.{made_is, digit_is}
 use Rattle.std.specs.Str.{bytes_eq}
 use Rattle.std.proofs.lemmas.List.Elements.{All-cons, All-nil}
 

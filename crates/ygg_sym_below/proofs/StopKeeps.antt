@@ -4,18 +4,18 @@ use Rattle.ygg_value.specs.Words.{word}
 use Rattle.ygg_value.specs.declared.operation.Op.TheVariants.{Or}
 use Rattle.ygg_base.specs.declared.geometry.DiskKind.{DiskKind}
 use Rattle.ygg_syntax.specs.declared.tree.Block.{Block}
-use Rattle.ygg_rules.specs.declared.rule.RuleKind.{RuleKind}
-use Rattle.ygg_bank.specs.Inputs.{InputsBelow}
-use Rattle.ygg_bank.specs.Making.{made}
-use Rattle.ygg_bank.specs.declared.node.Id.{Id}
-use Rattle.ygg_bank.specs.declared.node.Node.{Node}
-use Rattle.ygg_bank.specs.declared.node.Node.TheVariants.{Const, Input, Bin}
-use Rattle.ygg_shape_words.proofs.Keeps.{Stays, inputs_stay, picked_keeps}
-use Rattle.ygg_direct.specs.Direct.{room_of}
-use Rattle.ygg_direct.specs.RunPlaces.{disk_space}
-use Rattle.ygg_sym_expr.specs.Names.{SymEnv}
-use Rattle.ygg_sym_expr.specs.Exprs.{SymFunctions}
-use Rattle.ygg_sym_expr.proofs.Keeps.{Keeps, FunctionsKeep}
+use Rattle.ygg_sym_runs.specs.ygg_rules.declared.rule.RuleKind.{RuleKind}
+use Rattle.ygg_sym_runs.specs.ygg_bank.Inputs.{InputsBelow}
+use Rattle.ygg_sym_runs.specs.ygg_bank.Making.{made}
+use Rattle.ygg_sym_runs.specs.ygg_bank.declared.node.Id.{Id}
+use Rattle.ygg_sym_runs.specs.ygg_bank.declared.node.Node.{Node}
+use Rattle.ygg_sym_runs.specs.ygg_bank.declared.node.Node.TheVariants.{Const, Input, Bin}
+use Rattle.ygg_sym_runs.specs.ygg_shape_words_proofs_Keeps.{Stays, inputs_stay, picked_keeps}
+use Rattle.ygg_sym_runs.specs.ygg_direct.Direct.{room_of}
+use Rattle.ygg_sym_runs.specs.ygg_direct.RunPlaces.{disk_space}
+use Rattle.ygg_sym_runs.specs.ygg_sym_expr.Names.{SymEnv}
+use Rattle.ygg_sym_runs.specs.ygg_sym_expr.Exprs.{SymFunctions}
+use Rattle.ygg_sym_runs.specs.ygg_sym_expr_proofs_Keeps.{Keeps, FunctionsKeep}
 use Rattle.ygg_sym_runs.specs.Runs.{SymQuestion, Choice, Call, SymMachine, sym_run}
 use Rattle.ygg_sym_runs.proofs.Below.{asked_space, MachineKeeps, run_keeps}
 use Rattle.ygg_sym_below.specs.Stops.{before_at, within_at}

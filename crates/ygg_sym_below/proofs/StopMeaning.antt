@@ -1,16 +1,16 @@
 -- What is asked of the parts of stops.
 use Rattle.std.proofs.Common.{◌≡◌, ℕ, ◌||◌, Bool, true, if◌then◌else◌, List}
 use Rattle.ygg_syntax.specs.declared.grammar.BlockKind.{BlockKind}
-use Rattle.ygg_symbols.specs.Names.{Named}
-use Rattle.ygg_type_rules.specs.declared.scope.Signature.{Signature}
-use Rattle.ygg_meaning.specs.Progress.{Question}
-use Rattle.ygg_type_progress.specs.Questions.{question_fits}
-use Rattle.ygg_bank.proofs.Widths.{wider}
-use Rattle.ygg_bank.specs.Nodes.{HasWidth}
-use Rattle.ygg_bank.specs.Values.{Inputs, Values}
-use Rattle.ygg_bank.specs.declared.node.Id.{Id}
-use Rattle.ygg_bank.specs.declared.node.Node.{Node}
-use Rattle.ygg_sym_expr.specs.Meaning.{Grows, Gives}
+use Rattle.ygg_sym_runs.specs.ygg_symbols.Names.{Named}
+use Rattle.ygg_sym_runs.specs.ygg_type_rules.declared.scope.Signature.{Signature}
+use Rattle.ygg_sym_runs.specs.ygg_meaning.Progress.{Question}
+use Rattle.ygg_sym_runs.specs.ygg_type_progress.Questions.{question_fits}
+use Rattle.ygg_sym_runs.specs.ygg_bank_proofs_Widths.{wider}
+use Rattle.ygg_sym_runs.specs.ygg_bank.Nodes.{HasWidth}
+use Rattle.ygg_sym_runs.specs.ygg_bank.Values.{Inputs, Values}
+use Rattle.ygg_sym_runs.specs.ygg_bank.declared.node.Id.{Id}
+use Rattle.ygg_sym_runs.specs.ygg_bank.declared.node.Node.{Node}
+use Rattle.ygg_sym_runs.specs.ygg_sym_expr.Meaning.{Grows, Gives}
 use Rattle.ygg_sym_runs.specs.Runs.{SymQuestion}
 use Rattle.ygg_sym_runs.specs.Meaning.{Low, question_worth, is_set, QuestionShaped, IsLow}
 use Rattle.ygg_sym_below.specs.Stops.{Halted}

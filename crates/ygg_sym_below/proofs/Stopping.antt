@@ -28,10 +28,10 @@ use Rattle.std.proofs.Common.{
   arith,
 }
 use Rattle.std.proofs.lemmas.Bool.Decides.{Decides-eqb}
-use Rattle.ygg_meaning.specs.Progress.{Question}
-use Rattle.ygg_meaning.specs.Obligations.{Halt}
-use Rattle.ygg_direct.specs.Direct.{Handled, Event, Chained, Within}
-use Rattle.ygg_direct.specs.RunPlaces.{base_at, asked_in}
+use Rattle.ygg_sym_runs.specs.ygg_meaning.Progress.{Question}
+use Rattle.ygg_sym_runs.specs.ygg_meaning.Obligations.{Halt}
+use Rattle.ygg_sym_runs.specs.ygg_direct.Direct.{Handled, Event, Chained, Within}
+use Rattle.ygg_sym_runs.specs.ygg_direct.RunPlaces.{base_at, asked_in}
 use Rattle.ygg_sym_below.specs.Stops.{
   before_at,
   within_at,

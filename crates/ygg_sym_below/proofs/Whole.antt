@@ -6,38 +6,38 @@ use Rattle.ygg_syntax.specs.declared.grammar.BlockKind.{BlockKind}
 use Rattle.ygg_syntax.specs.declared.tree.Expr.{Expr}
 use Rattle.ygg_syntax.specs.declared.tree.Stmt.{Stmt}
 use Rattle.ygg_syntax.specs.declared.tree.Block.{Block}
-use Rattle.ygg_symbols.specs.Names.{Named}
-use Rattle.ygg_type_rules.specs.declared.scope.Signature.{Signature}
-use Rattle.ygg_type_rules.specs.TypeErrors.{none}
-use Rattle.ygg_type_rules.specs.Scopes.{Scope}
-use Rattle.ygg_type_rules.specs.Expressions.{typing, wanted}
-use Rattle.ygg_type_rules.specs.Statements.{walked, return_errors, block_errors}
-use Rattle.ygg_type_rules.specs.Statements as rules
-use Rattle.ygg_meaning.specs.Environments.{Name, Env}
-use Rattle.ygg_meaning.specs.Meaning.{Functions}
-use Rattle.ygg_meaning.specs.Progress.{Question, Answer, answer_of}
-use Rattle.ygg_type_sound.proofs.Tests.{left as first_of, right as second_of}
-use Rattle.ygg_type_sound.specs.Agrees.{Agrees}
-use Rattle.ygg_type_progress.specs.Questions.{plain, Follows}
-use Rattle.ygg_type_progress.specs.Blocks.{eval_with, is_returned}
-use Rattle.ygg_type_progress.proofs.Sounds.{returns_fit}
-use Rattle.ygg_type_sound.proofs.Sounds.{sound}
+use Rattle.ygg_sym_runs.specs.ygg_symbols.Names.{Named}
+use Rattle.ygg_sym_runs.specs.ygg_type_rules.declared.scope.Signature.{Signature}
+use Rattle.ygg_sym_runs.specs.ygg_type_rules.TypeErrors.{none}
+use Rattle.ygg_sym_runs.specs.ygg_type_rules.Scopes.{Scope}
+use Rattle.ygg_sym_runs.specs.ygg_type_rules.Expressions.{typing, wanted}
+use Rattle.ygg_sym_runs.specs.ygg_type_rules.Statements.{walked, return_errors, block_errors}
+use Rattle.ygg_sym_runs.specs.ygg_type_rules.Statements as rules
+use Rattle.ygg_sym_runs.specs.ygg_meaning.Environments.{Name, Env}
+use Rattle.ygg_sym_runs.specs.ygg_meaning.Meaning.{Functions}
+use Rattle.ygg_sym_runs.specs.ygg_meaning.Progress.{Question, Answer, answer_of}
+use Rattle.ygg_sym_runs.specs.ygg_type_sound_proofs_Tests.{left as first_of, right as second_of}
+use Rattle.ygg_sym_runs.specs.ygg_type_sound.Agrees.{Agrees}
+use Rattle.ygg_sym_runs.specs.ygg_type_progress.Questions.{plain, Follows}
+use Rattle.ygg_sym_runs.specs.ygg_type_progress.Blocks.{eval_with, is_returned}
+use Rattle.ygg_sym_runs.specs.ygg_type_progress_proofs_Sounds.{returns_fit}
+use Rattle.ygg_sym_runs.specs.ygg_type_sound_proofs_Sounds.{sound}
 use Rattle.ygg_sym_runs.proofs.Ends.{env_take}
-use Rattle.ygg_type_progress.specs.Kinds.{keeps}
-use Rattle.ygg_rules.specs.declared.rule.RuleKind.{RuleKind}
-use Rattle.ygg_bank.proofs.Meaning.{fits_fewer}
-use Rattle.ygg_bank.proofs.Widths.{extends_self, extends_both}
-use Rattle.ygg_bank.specs.Values.{Inputs, Values}
-use Rattle.ygg_bank.specs.declared.node.Node.{Node}
-use Rattle.ygg_shape_cells.specs.Terms.{worth}
-use Rattle.ygg_shape_cells.specs.declared.terms.SymValue.{SymValue}
-use Rattle.ygg_direct.specs.Direct.{Handled, Reached, direct_run}
-use Rattle.ygg_sym_expr.specs.Names.{SymEnv}
-use Rattle.ygg_sym_expr.specs.Exprs.{SymFunctions}
-use Rattle.ygg_sym_expr.specs.Meaning.{EnvShaped, Grows, Gives, worths}
-use Rattle.ygg_sym_expr.proofs.Shaped.{env_wider}
-use Rattle.ygg_sym_expr.proofs.Grows.{FunctionsGrow, value_grows}
-use Rattle.ygg_sym_expr.proofs.Values.{FunctionsMean}
+use Rattle.ygg_sym_runs.specs.ygg_type_progress.Kinds.{keeps}
+use Rattle.ygg_sym_runs.specs.ygg_rules.declared.rule.RuleKind.{RuleKind}
+use Rattle.ygg_sym_runs.specs.ygg_bank_proofs_Meaning.{fits_fewer}
+use Rattle.ygg_sym_runs.specs.ygg_bank_proofs_Widths.{extends_self, extends_both}
+use Rattle.ygg_sym_runs.specs.ygg_bank.Values.{Inputs, Values}
+use Rattle.ygg_sym_runs.specs.ygg_bank.declared.node.Node.{Node}
+use Rattle.ygg_sym_runs.specs.ygg_shape_cells.Terms.{worth}
+use Rattle.ygg_sym_runs.specs.ygg_shape_cells.declared.terms.SymValue.{SymValue}
+use Rattle.ygg_sym_runs.specs.ygg_direct.Direct.{Handled, Reached, direct_run}
+use Rattle.ygg_sym_runs.specs.ygg_sym_expr.Names.{SymEnv}
+use Rattle.ygg_sym_runs.specs.ygg_sym_expr.Exprs.{SymFunctions}
+use Rattle.ygg_sym_runs.specs.ygg_sym_expr.Meaning.{EnvShaped, Grows, Gives, worths}
+use Rattle.ygg_sym_runs.specs.ygg_sym_expr_proofs_Shaped.{env_wider}
+use Rattle.ygg_sym_runs.specs.ygg_sym_expr_proofs_Grows.{FunctionsGrow, value_grows}
+use Rattle.ygg_sym_runs.specs.ygg_sym_expr_proofs_Values.{FunctionsMean}
 use Rattle.ygg_sym_runs.specs.Runs.{SymMachine, plain_scope, sym_run}
 use Rattle.ygg_sym_runs.specs.Meaning.{Low, answer_worth, AnswerShaped, MachineMeans}
 use Rattle.ygg_sym_runs.proofs.Parts.{InScope, eval_gives}

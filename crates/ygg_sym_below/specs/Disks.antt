@@ -4,18 +4,18 @@ use Rattle.std.specs.Str.{bytes_eq}
 use Rattle.std.specs.Prelude.{codes}
 use Rattle.ygg_base.specs.declared.geometry.DiskKind.{DiskKind}
 use Rattle.ygg_base.specs.declared.geometry.DiskKind.TheVariants.{Sync, Async}
-use Rattle.ygg_meaning.specs.Environments.{Name}
-use Rattle.ygg_rules.specs.declared.rule.RuleKind.{RuleKind}
-use Rattle.ygg_bank.specs.Makes.{Make, pure, and_make}
-use Rattle.ygg_bank.specs.Making.{made}
-use Rattle.ygg_bank.specs.declared.node.Id.{Id}
-use Rattle.ygg_bank.specs.declared.node.Node.TheVariants.{Input}
-use Rattle.ygg_shape_cells.specs.Making.{selected, stored}
-use Rattle.ygg_shape_cells.specs.declared.terms.SymValue.{SymValue}
-use Rattle.ygg_shape_cells.specs.declared.terms.SymValue.TheVariants.{Word, Row, Table}
-use Rattle.ygg_shape.specs.Guarding.{stored_where}
-use Rattle.ygg_direct.specs.RunPlaces.{disk_space}
-use Rattle.ygg_sym_expr.specs.Exprs.{id_in}
+use Rattle.ygg_sym_runs.specs.ygg_meaning.Environments.{Name}
+use Rattle.ygg_sym_runs.specs.ygg_rules.declared.rule.RuleKind.{RuleKind}
+use Rattle.ygg_sym_runs.specs.ygg_bank.Makes.{Make, pure, and_make}
+use Rattle.ygg_sym_runs.specs.ygg_bank.Making.{made}
+use Rattle.ygg_sym_runs.specs.ygg_bank.declared.node.Id.{Id}
+use Rattle.ygg_sym_runs.specs.ygg_bank.declared.node.Node.TheVariants.{Input}
+use Rattle.ygg_sym_runs.specs.ygg_shape_cells.Making.{selected, stored}
+use Rattle.ygg_sym_runs.specs.ygg_shape_cells.declared.terms.SymValue.{SymValue}
+use Rattle.ygg_sym_runs.specs.ygg_shape_cells.declared.terms.SymValue.TheVariants.{Word, Row, Table}
+use Rattle.ygg_sym_runs.specs.ygg_shape.Guarding.{stored_where}
+use Rattle.ygg_sym_runs.specs.ygg_direct.RunPlaces.{disk_space}
+use Rattle.ygg_sym_runs.specs.ygg_sym_expr.Exprs.{id_in}
 use Rattle.ygg_sym_runs.specs.Putting.{row_in}
 use Rattle.ygg_sym_runs.specs.Runs.{SymQuestion, Choice, Call, SymHandled, SymMachine}
 use Rattle.ygg_sym_below.specs.Lows.{merge_lows}

@@ -6,42 +6,42 @@ use Rattle.ygg_syntax.specs.declared.tree.Def.{Def}
 use Rattle.ygg_base.specs.declared.geometry.DiskKind.{DiskKind}
 use Rattle.ygg_syntax.specs.declared.tree.Block.{Block}
 use Rattle.ygg_syntax.specs.declared.tree.DiskText.{DiskText}
-use Rattle.ygg_symbols.specs.Names.{Named}
-use Rattle.ygg_type_rules.specs.declared.scope.Signature.{Signature}
-use Rattle.ygg_type_rules.specs.TypeErrors.{none}
-use Rattle.ygg_type_rules.specs.Scopes.{Scope}
-use Rattle.ygg_type_rules.specs.Statements.{block_errors}
-use Rattle.ygg_type_rules.specs.Definitions.{definitions_errors, with_definitions}
-use Rattle.ygg_type_rules.specs.Files.{disk_errors, disk_operations}
-use Rattle.ygg_meaning.specs.Environments.{Name, Env}
-use Rattle.ygg_meaning.specs.Meaning.{functions_of}
-use Rattle.ygg_meaning.specs.Machine.{Picks, State, on, based}
-use Rattle.ygg_meaning.specs.Layer.{ClosedLayer, operation_of}
-use Rattle.ygg_meaning.specs.Obligations.{Halt}
-use Rattle.ygg_meaning.specs.DiskMachine.{DiskMachine}
-use Rattle.ygg_histories.specs.Stack.{tables_of}
-use Rattle.ygg_type_sound.specs.Agrees.{Agrees}
-use Rattle.ygg_type_progress.specs.Kinds.{keeps}
-use Rattle.ygg_type_progress.specs.Questions.{plain}
-use Rattle.ygg_rules.specs.declared.rule.RuleKind.{RuleKind}
-use Rattle.ygg_bank.specs.Inputs.{InputsBelow}
-use Rattle.ygg_bank.specs.Nodes.{IsBank}
-use Rattle.ygg_bank.specs.Values.{Inputs, Values, InputsFit, value_of}
-use Rattle.ygg_bank.specs.declared.node.Node.{Node}
-use Rattle.ygg_shape_cells.specs.declared.terms.SymValue.{SymValue}
-use Rattle.ygg_direct.specs.Direct.{room_of}
-use Rattle.ygg_direct.specs.Acts.{noted_picks}
-use Rattle.ygg_direct.specs.DiskActs.{disk_acts}
-use Rattle.ygg_direct.specs.Laws.{RunsOn, FallsOn, Sees}
-use Rattle.ygg_direct.specs.SpecActs.{spec_acts}
-use Rattle.ygg_type_progress.specs.Machines.{SpecAnswers}
+use Rattle.ygg_sym_runs.specs.ygg_symbols.Names.{Named}
+use Rattle.ygg_sym_runs.specs.ygg_type_rules.declared.scope.Signature.{Signature}
+use Rattle.ygg_sym_runs.specs.ygg_type_rules.TypeErrors.{none}
+use Rattle.ygg_sym_runs.specs.ygg_type_rules.Scopes.{Scope}
+use Rattle.ygg_sym_runs.specs.ygg_type_rules.Statements.{block_errors}
+use Rattle.ygg_sym_runs.specs.ygg_type_rules.Definitions.{definitions_errors, with_definitions}
+use Rattle.ygg_sym_runs.specs.ygg_type_rules.Files.{disk_errors, disk_operations}
+use Rattle.ygg_sym_runs.specs.ygg_meaning.Environments.{Name, Env}
+use Rattle.ygg_sym_runs.specs.ygg_meaning.Meaning.{functions_of}
+use Rattle.ygg_sym_runs.specs.ygg_meaning.Machine.{Picks, State, on, based}
+use Rattle.ygg_sym_runs.specs.ygg_meaning.Layer.{ClosedLayer, operation_of}
+use Rattle.ygg_sym_runs.specs.ygg_meaning.Obligations.{Halt}
+use Rattle.ygg_sym_runs.specs.ygg_meaning.DiskMachine.{DiskMachine}
+use Rattle.ygg_sym_runs.specs.ygg_histories.Stack.{tables_of}
+use Rattle.ygg_sym_runs.specs.ygg_type_sound.Agrees.{Agrees}
+use Rattle.ygg_sym_runs.specs.ygg_type_progress.Kinds.{keeps}
+use Rattle.ygg_sym_runs.specs.ygg_type_progress.Questions.{plain}
+use Rattle.ygg_sym_runs.specs.ygg_rules.declared.rule.RuleKind.{RuleKind}
+use Rattle.ygg_sym_runs.specs.ygg_bank.Inputs.{InputsBelow}
+use Rattle.ygg_sym_runs.specs.ygg_bank.Nodes.{IsBank}
+use Rattle.ygg_sym_runs.specs.ygg_bank.Values.{Inputs, Values, InputsFit, value_of}
+use Rattle.ygg_sym_runs.specs.ygg_bank.declared.node.Node.{Node}
+use Rattle.ygg_sym_runs.specs.ygg_shape_cells.declared.terms.SymValue.{SymValue}
+use Rattle.ygg_sym_runs.specs.ygg_direct.Direct.{room_of}
+use Rattle.ygg_sym_runs.specs.ygg_direct.Acts.{noted_picks}
+use Rattle.ygg_sym_runs.specs.ygg_direct.DiskActs.{disk_acts}
+use Rattle.ygg_sym_runs.specs.ygg_direct.Laws.{RunsOn, FallsOn, Sees}
+use Rattle.ygg_sym_runs.specs.ygg_direct.SpecActs.{spec_acts}
+use Rattle.ygg_sym_runs.specs.ygg_type_progress.Machines.{SpecAnswers}
 use Rattle.ygg_syntax.specs.declared.tree.Operation.{Operation}
-use Rattle.ygg_meaning.specs.Spec.{Spec}
+use Rattle.ygg_sym_runs.specs.ygg_meaning.Spec.{Spec}
 use Rattle.ygg_sym_below.specs.Specs.{SpecBlock, input_pick, sym_spec}
-use Rattle.ygg_direct.specs.RunPlaces.{disk_space, spec_space, placed_run, runs_by_place, falls_by_place}
-use Rattle.ygg_sym_expr.specs.Names.{SymEnv}
-use Rattle.ygg_sym_expr.specs.Exprs.{sym_functions}
-use Rattle.ygg_sym_expr.specs.Meaning.{EnvShaped, worths}
+use Rattle.ygg_sym_runs.specs.ygg_direct.RunPlaces.{disk_space, spec_space, placed_run, runs_by_place, falls_by_place}
+use Rattle.ygg_sym_runs.specs.ygg_sym_expr.Names.{SymEnv}
+use Rattle.ygg_sym_runs.specs.ygg_sym_expr.Exprs.{sym_functions}
+use Rattle.ygg_sym_runs.specs.ygg_sym_expr.Meaning.{EnvShaped, worths}
 use Rattle.ygg_sym_runs.specs.Meaning.{answer_worth, is_set}
 use Rattle.ygg_sym_below.specs.Lows.{LowShaped, low_worth}
 use Rattle.ygg_sym_below.specs.Disks.{sym_disk}

@@ -1,18 +1,18 @@
 -- Values of terms for declared names: the state of a machine below.
 use Rattle.std.specs.Prelude.{List, [], ◌∷◌, map}
 use Rattle.ygg_syntax.specs.declared.tree.Declared.{Declared}
-use Rattle.ygg_meaning.specs.Environments.{Env, bind}
-use Rattle.ygg_meaning.specs.Shapes.{shape_in}
-use Rattle.ygg_rules.specs.declared.rule.RuleKind.{RuleKind}
-use Rattle.ygg_bank.specs.Makes.{Make}
-use Rattle.ygg_bank.specs.Values.{Values}
-use Rattle.ygg_bank.specs.declared.node.Id.{Id}
-use Rattle.ygg_bank.specs.declared.node.Node.{Node}
-use Rattle.ygg_shape_cells.specs.Lists.{each_two}
-use Rattle.ygg_shape_cells.specs.Making.{merged}
-use Rattle.ygg_shape_cells.specs.Terms.{worth}
-use Rattle.ygg_shape_cells.specs.declared.terms.SymValue.{SymValue}
-use Rattle.ygg_shape_cells.specs.Terms.{IsShaped}
+use Rattle.ygg_sym_runs.specs.ygg_meaning.Environments.{Env, bind}
+use Rattle.ygg_sym_runs.specs.ygg_meaning.Shapes.{shape_in}
+use Rattle.ygg_sym_runs.specs.ygg_rules.declared.rule.RuleKind.{RuleKind}
+use Rattle.ygg_sym_runs.specs.ygg_bank.Makes.{Make}
+use Rattle.ygg_sym_runs.specs.ygg_bank.Values.{Values}
+use Rattle.ygg_sym_runs.specs.ygg_bank.declared.node.Id.{Id}
+use Rattle.ygg_sym_runs.specs.ygg_bank.declared.node.Node.{Node}
+use Rattle.ygg_sym_runs.specs.ygg_shape_cells.Lists.{each_two}
+use Rattle.ygg_sym_runs.specs.ygg_shape_cells.Making.{merged}
+use Rattle.ygg_sym_runs.specs.ygg_shape_cells.Terms.{worth}
+use Rattle.ygg_sym_runs.specs.ygg_shape_cells.declared.terms.SymValue.{SymValue}
+use Rattle.ygg_sym_runs.specs.ygg_shape_cells.Terms.{IsShaped}
 
 -- there is a value for each declared name, of its shape, whose terms stand among the nodes
 abbrev pub LowShaped : List Node → List Declared → List SymValue → Type 0

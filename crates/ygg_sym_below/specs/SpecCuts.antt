@@ -3,17 +3,17 @@ use Rattle.std.specs.Prelude.{ℕ, suc, ◌+◌, List, [], map, Option, Some, No
 use Rattle.ygg_value.specs.declared.operation.Op.TheVariants.{Or}
 use Rattle.ygg_syntax.specs.declared.tree.Block.{Block}
 use Rattle.ygg_syntax.specs.declared.tree.Operation.{Operation}
-use Rattle.ygg_meaning.specs.Layer.{ClosedLayer, operation_of}
-use Rattle.ygg_rules.specs.declared.rule.RuleKind.{RuleKind}
-use Rattle.ygg_bank.specs.Makes.{Make, pure, and_make}
-use Rattle.ygg_bank.specs.Making.{made}
-use Rattle.ygg_bank.specs.declared.node.Id.{Id}
-use Rattle.ygg_bank.specs.declared.node.Node.TheVariants.{Input, Bin}
-use Rattle.ygg_shape_words.specs.Picking.{picked}
-use Rattle.ygg_shape_cells.specs.declared.terms.SymValue.{SymValue}
-use Rattle.ygg_direct.specs.Direct.{room_of, total}
-use Rattle.ygg_sym_expr.specs.Names.{SymEnv, sym_bind}
-use Rattle.ygg_sym_expr.specs.Exprs.{SymFunctions}
+use Rattle.ygg_sym_runs.specs.ygg_meaning.Layer.{ClosedLayer, operation_of}
+use Rattle.ygg_sym_runs.specs.ygg_rules.declared.rule.RuleKind.{RuleKind}
+use Rattle.ygg_sym_runs.specs.ygg_bank.Makes.{Make, pure, and_make}
+use Rattle.ygg_sym_runs.specs.ygg_bank.Making.{made}
+use Rattle.ygg_sym_runs.specs.ygg_bank.declared.node.Id.{Id}
+use Rattle.ygg_sym_runs.specs.ygg_bank.declared.node.Node.TheVariants.{Input, Bin}
+use Rattle.ygg_sym_runs.specs.ygg_shape_words.Picking.{picked}
+use Rattle.ygg_sym_runs.specs.ygg_shape_cells.declared.terms.SymValue.{SymValue}
+use Rattle.ygg_sym_runs.specs.ygg_direct.Direct.{room_of, total}
+use Rattle.ygg_sym_runs.specs.ygg_sym_expr.Names.{SymEnv, sym_bind}
+use Rattle.ygg_sym_runs.specs.ygg_sym_expr.Exprs.{SymFunctions}
 use Rattle.ygg_sym_runs.specs.Runs.{SymQuestion, Choice, Call}
 use Rattle.ygg_sym_below.specs.Lows.{merge_lows}
 use Rattle.ygg_sym_below.specs.Disks.{Done, done}

@@ -1,9 +1,9 @@
 -- Where power fails in a direct run: one bit for each stop in the unrolled text, of which the first that is set counts.
 use Rattle.std.specs.Prelude.{◌≡◌, ◌≤◌, ℕ, zero, suc, ◌+◌, ◌*◌, Bool, true, false, ◌||◌, if◌then◌else◌, List, [], ◌∷◌, Option, Some, None}
-use Rattle.ygg_meaning.specs.Progress.{Question}
-use Rattle.ygg_meaning.specs.Obligations.{Halt}
-use Rattle.ygg_direct.specs.Direct.{Handled, Event, Chained, Within}
-use Rattle.ygg_direct.specs.RunPlaces.{base_at, asked_in}
+use Rattle.ygg_sym_runs.specs.ygg_meaning.Progress.{Question}
+use Rattle.ygg_sym_runs.specs.ygg_meaning.Obligations.{Halt}
+use Rattle.ygg_sym_runs.specs.ygg_direct.Direct.{Handled, Event, Chained, Within}
+use Rattle.ygg_sym_runs.specs.ygg_direct.RunPlaces.{base_at, asked_in}
 
 -- the stop before the question at a place
 abbrev pub before_at : ℕ → ℕ

@@ -5,25 +5,25 @@ use Rattle.ygg_value.specs.Words.{word}
 use Rattle.ygg_syntax.specs.declared.tree.Block.{Block}
 use Rattle.ygg_syntax.specs.declared.tree.Def.{Def}
 use Rattle.ygg_syntax.specs.declared.tree.Stmt.{Stmt}
-use Rattle.ygg_type_rules.specs.TypeErrors.{none}
-use Rattle.ygg_type_rules.specs.Statements.{walked, return_errors}
-use Rattle.ygg_type_rules.specs.Statements as rules
-use Rattle.ygg_type_sound.proofs.Tests.{left as first_of}
-use Rattle.ygg_rules.specs.declared.rule.RuleKind.{RuleKind}
-use Rattle.ygg_bank.proofs.Meaning.{fits_fewer}
-use Rattle.ygg_bank.specs.Makes.{Out}
-use Rattle.ygg_bank.specs.Making.{made}
-use Rattle.ygg_bank.specs.Nodes.{Extends, HasWidth, IsBank}
-use Rattle.ygg_bank.specs.declared.node.Id.{Id}
-use Rattle.ygg_bank.specs.declared.node.Node.{Node}
-use Rattle.ygg_bank.specs.declared.node.Node.TheVariants.{Const}
-use Rattle.ygg_direct.specs.Direct.{room_of}
-use Rattle.ygg_sym_expr.specs.Names.{SymEnv}
-use Rattle.ygg_sym_expr.proofs.Shaped.{env_wider}
-use Rattle.ygg_sym_runs.specs.Lower.{SymMeaning, IsLower, KeepsSingle, SingleFrom, Stands}
-use Rattle.ygg_sym_runs.specs.Ready.{CanRun, Ended, order_run, terms_of}
-use Rattle.ygg_sym_runs.proofs.Singles.{single_stays}
-use Rattle.ygg_sym_runs.proofs.Walking.{run_left}
+use Rattle.ygg_sym_stops.specs.ygg_type_rules.TypeErrors.{none}
+use Rattle.ygg_sym_stops.specs.ygg_type_rules.Statements.{walked, return_errors}
+use Rattle.ygg_sym_stops.specs.ygg_type_rules.Statements as rules
+use Rattle.ygg_sym_stops.specs.ygg_type_sound_proofs_Tests.{left as first_of}
+use Rattle.ygg_sym_stops.specs.ygg_rules.declared.rule.RuleKind.{RuleKind}
+use Rattle.ygg_sym_stops.specs.ygg_bank_proofs_Meaning.{fits_fewer}
+use Rattle.ygg_sym_stops.specs.ygg_bank.Makes.{Out}
+use Rattle.ygg_sym_stops.specs.ygg_bank.Making.{made}
+use Rattle.ygg_sym_stops.specs.ygg_bank.Nodes.{Extends, HasWidth, IsBank}
+use Rattle.ygg_sym_stops.specs.ygg_bank.declared.node.Id.{Id}
+use Rattle.ygg_sym_stops.specs.ygg_bank.declared.node.Node.{Node}
+use Rattle.ygg_sym_stops.specs.ygg_bank.declared.node.Node.TheVariants.{Const}
+use Rattle.ygg_sym_stops.specs.ygg_direct.Direct.{room_of}
+use Rattle.ygg_sym_stops.specs.ygg_sym_expr.Names.{SymEnv}
+use Rattle.ygg_sym_stops.specs.ygg_sym_expr_proofs_Shaped.{env_wider}
+use Rattle.ygg_sym_stops.specs.ygg_sym_runs.Lower.{SymMeaning, IsLower, KeepsSingle, SingleFrom, Stands}
+use Rattle.ygg_sym_stops.specs.ygg_sym_runs.Ready.{CanRun, Ended, order_run, terms_of}
+use Rattle.ygg_sym_stops.proofs.of_ygg_sym_runs.Singles.{single_stays}
+use Rattle.ygg_sym_stops.proofs.of_ygg_sym_runs.Walking.{run_left}
 use Rattle.ygg_sym_stops.specs.StopTerms.{SymFallen, SymHalted}
 use Rattle.ygg_sym_whole.specs.Ready.{CanWhole}
 use Rattle.ygg_sym_stops.specs.Halting.{halted_of, halting_meaning, sym_fall}

@@ -2,15 +2,15 @@
 use Rattle.std.specs.Prelude.{◌≡◌, List}
 use Rattle.ygg_syntax.specs.declared.tree.Block.{Block}
 use Rattle.ygg_syntax.specs.declared.tree.Def.{Def}
-use Rattle.ygg_rules.specs.declared.rule.RuleKind.{RuleKind}
-use Rattle.ygg_bank.specs.Makes.{Make}
-use Rattle.ygg_bank.specs.Nodes.{HasWidth}
-use Rattle.ygg_bank.specs.declared.node.Id.{Id}
-use Rattle.ygg_bank.specs.declared.node.Node.{Node}
-use Rattle.ygg_direct.specs.Direct.{room_of}
-use Rattle.ygg_sym_expr.specs.Names.{SymEnv}
-use Rattle.ygg_sym_runs.specs.Lower.{SymMeaning, KeepsSingle}
-use Rattle.ygg_sym_runs.specs.Ready.{terms_of}
+use Rattle.ygg_sym_stops.specs.ygg_rules.declared.rule.RuleKind.{RuleKind}
+use Rattle.ygg_sym_stops.specs.ygg_bank.Makes.{Make}
+use Rattle.ygg_sym_stops.specs.ygg_bank.Nodes.{HasWidth}
+use Rattle.ygg_sym_stops.specs.ygg_bank.declared.node.Id.{Id}
+use Rattle.ygg_sym_stops.specs.ygg_bank.declared.node.Node.{Node}
+use Rattle.ygg_sym_stops.specs.ygg_direct.Direct.{room_of}
+use Rattle.ygg_sym_stops.specs.ygg_sym_expr.Names.{SymEnv}
+use Rattle.ygg_sym_stops.specs.ygg_sym_runs.Lower.{SymMeaning, KeepsSingle}
+use Rattle.ygg_sym_stops.specs.ygg_sym_runs.Ready.{terms_of}
 use Rattle.ygg_sym_stops.specs.StopTerms.{SymFallen, stop_whole}
 use Rattle.ygg_sym_stops.specs.Stopping.{Power, stops_on}
 

@@ -1,20 +1,19 @@
 //! Runs that power cuts.
 
 ghost use Rattle.std.specs.Prelude.{◌≡◌, ◌++◌, IfOk};
-ghost use Rattle.ygg_bank.specs.Nodes.{Extends, IsBank};
-ghost use Rattle.ygg_sym_expr.specs.Names.{SymEnv};
-ghost use Rattle.ygg_sym_expr.specs.Seen.{env_of};
-ghost use Rattle.ygg_sym_runs.specs.Lower.{SingleFrom};
-ghost use Rattle.ygg_sym_runs.specs.Ready.{CanRun, Ended, order_run};
+ghost use Rattle.ygg_sym_stops.specs.ygg_bank.Nodes.{Extends, IsBank};
+ghost use Rattle.ygg_sym_stops.specs.ygg_sym_expr.Names.{SymEnv};
+ghost use Rattle.ygg_sym_stops.specs.ygg_sym_expr.Seen.{env_of};
+ghost use Rattle.ygg_sym_stops.specs.ygg_sym_runs.Lower.{SingleFrom};
+ghost use Rattle.ygg_sym_stops.specs.ygg_sym_runs.Ready.{CanRun, Ended, order_run};
 ghost use Rattle.ygg_sym_whole.specs.Ready.{CanWhole};
 ghost use Rattle.ygg_sym_cut.specs.Falls.{IsFall};
 
-use ygg_bank::{Bank, NoMemory, Node};
 use ygg_list::Duplicate;
-use ygg_rules::Book;
-use ygg_sym_expr::SymBinding;
-use ygg_sym_runs::{SymFrame, SymLower, SymRunner};
-use ygg_sym_stops::{Halting, StopEnd, StopState, SymStops, end_halting};
+use ygg_sym_stops::{
+    Bank, Book, Halting, NoMemory, Node, StopEnd, StopState, SymBinding, SymFrame, SymLower,
+    SymRunner, SymStops, end_halting,
+};
 use ygg_syntax::tree::Block;
 use ygg_value::Word;
 

@@ -1,3 +1,11 @@
+pub use Rattle.ygg_sym_below.specs.ygg_bank_proofs_Widths
+pub use Rattle.ygg_sym_below.specs.ygg_bank
+pub use Rattle.ygg_sym_below.specs.ygg_rules
+pub use Rattle.ygg_sym_below.specs.ygg_shape_cells
+pub use Rattle.ygg_sym_below.proofs.Cuts as ygg_sym_below_proofs_Cuts
+pub use Rattle.ygg_sym_below.proofs.DiskKeeps as ygg_sym_below_proofs_DiskKeeps
+pub use Rattle.ygg_sym_below.specs as ygg_sym_below
+pub use Rattle.ygg_sym_below.specs.ygg_sym_runs
 pub use Rattle.ygg_sym_below.specs.Cuts
 pub use Rattle.ygg_sym_below.specs.Specs
 pub use Rattle.ygg_sym_below.specs.Wholes

@@ -1,14 +1,14 @@
 -- What a disk over terms is as the machine on which a block runs.
 use Rattle.std.specs.Prelude.{false, IsTrue, List}
 use Rattle.ygg_syntax.specs.declared.grammar.BlockKind.TheVariants.{Impl}
-use Rattle.ygg_type_rules.specs.TypeErrors.{none}
-use Rattle.ygg_type_rules.specs.Files.{disk_errors, disk_operations}
-use Rattle.ygg_meaning.specs.Environments.{Env}
-use Rattle.ygg_meaning.specs.Machine.{State}
-use Rattle.ygg_histories.specs.Stack.{tables_of}
-use Rattle.ygg_direct.specs.RunPlaces.{disk_space}
-use Rattle.ygg_shape_cells.specs.declared.terms.SymValue.{SymValue}
-use Rattle.ygg_sym_runs.specs.Lower.{SymMeaning}
+use Rattle.ygg_sym_below.specs.ygg_type_rules.TypeErrors.{none}
+use Rattle.ygg_sym_below.specs.ygg_type_rules.Files.{disk_errors, disk_operations}
+use Rattle.ygg_sym_below.specs.ygg_meaning.Environments.{Env}
+use Rattle.ygg_sym_below.specs.ygg_meaning.Machine.{State}
+use Rattle.ygg_sym_below.specs.ygg_histories.Stack.{tables_of}
+use Rattle.ygg_sym_below.specs.ygg_direct.RunPlaces.{disk_space}
+use Rattle.ygg_sym_below.specs.ygg_shape_cells.declared.terms.SymValue.{SymValue}
+use Rattle.ygg_sym_below.specs.ygg_sym_runs.Lower.{SymMeaning}
 use Rattle.ygg_sym_below.specs.Disks.{sym_disk}
 use Rattle.ygg_sym_below.specs.Laws.{picked_by}
 use Rattle.ygg_sym_below.proofs.Disks.{disk_at}

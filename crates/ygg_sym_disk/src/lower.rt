@@ -3,10 +3,7 @@
 use crate::lows::{Lows, merge_lows};
 use crate::machine::handle;
 use std::alloc::Global;
-use ygg_bank::{Bank, Id, NoMemory};
-use ygg_rules::Book;
-use ygg_shape_cells::SymValue;
-use ygg_sym_runs::{Question, SymLower};
+use ygg_sym_below::{Bank, Book, Id, NoMemory, Question, SymLower, SymValue};
 use ygg_syntax::tree::DiskText;
 
 /// A disk over terms, whose picks are inputs of the bank: of each place the one whose number is so much above the first.

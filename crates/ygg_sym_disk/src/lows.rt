@@ -2,18 +2,15 @@
 
 ghost use Rattle.std.specs.Prelude.{◌≡◌, IfOk, List, OnOk};
 ghost use Rattle.ygg_syntax.specs.declared.tree.Declared.{Declared};
-ghost use Rattle.ygg_bank.specs.Inputs.{KeepsInputs};
-ghost use Rattle.ygg_bank.specs.Nodes.{Extends, HasWidth, IsBank};
-ghost use Rattle.ygg_shape.specs.Wholes.{AllAlike};
+ghost use Rattle.ygg_sym_below.specs.ygg_bank.Inputs.{KeepsInputs};
+ghost use Rattle.ygg_sym_below.specs.ygg_bank.Nodes.{Extends, HasWidth, IsBank};
+ghost use Rattle.ygg_sym_below.specs.ygg_shape.Wholes.{AllAlike};
 ghost use Rattle.ygg_sym_below.specs.Lows.{LowShaped, merge_lows};
 
 use std::alloc::Global;
 use std::marker::Model;
-use ygg_bank::{Bank, Id, NoMemory};
 use ygg_list::Duplicate;
-use ygg_rules::Book;
-use ygg_shape::merge_all;
-use ygg_shape_cells::SymValues;
+use ygg_sym_below::{Bank, Book, Id, NoMemory, SymValues, merge_all};
 
 /// A state of a machine below, which contracts see as its values.
 #[derive(Drop)]
@@ -24,7 +21,7 @@ pub struct Lows {
 
 impl Model for Lows {
     ghost use Rattle.std.specs.Prelude.{List};
-    ghost use Rattle.ygg_shape_cells.specs.declared.terms.SymValue.{SymValue};
+    ghost use Rattle.ygg_sym_below.specs.ygg_shape_cells.declared.terms.SymValue.{SymValue};
 
     ghost Value = { List SymValue };
 

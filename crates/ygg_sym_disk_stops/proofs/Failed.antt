@@ -1,18 +1,18 @@
 -- What power that fails on a disk wants follows from what may be asked, and what it keeps.
 use Rattle.std.proofs.Common.{◌≡◌, ◌≤◌, ℕ, List, Bor, subst, sym, arith}
 use Rattle.std.specs.Prelude.{min}
-use Rattle.ygg_rules.specs.declared.rule.RuleKind.{RuleKind}
-use Rattle.ygg_bank.specs.Nodes.{IsBank, OneWidth}
-use Rattle.ygg_bank.specs.declared.node.Node.{Node}
-use Rattle.ygg_shape_cells.specs.declared.terms.SymValue.{SymValue}
-use Rattle.ygg_sym_runs.proofs.Singles.{input_single, single_stays}
-use Rattle.ygg_sym_runs.specs.Lower.{KeepsSingle, SingleFrom, question_of}
-use Rattle.ygg_sym_runs.specs.Runs.{SymQuestion}
-use Rattle.ygg_sym_runs.specs.declared.question.Question as asked
-use Rattle.ygg_sym_runs.specs.declared.question.Question.TheVariants as question
-use Rattle.ygg_sym_below.specs.Cuts.{disk_cuts}
-use Rattle.ygg_sym_below.specs.Disks.{sym_call}
-use Rattle.ygg_sym_below.proofs.DiskKeeps.{cuts_keep}
+use Rattle.ygg_sym_disk.specs.ygg_rules.declared.rule.RuleKind.{RuleKind}
+use Rattle.ygg_sym_disk.specs.ygg_bank.Nodes.{IsBank, OneWidth}
+use Rattle.ygg_sym_disk.specs.ygg_bank.declared.node.Node.{Node}
+use Rattle.ygg_sym_disk.specs.ygg_shape_cells.declared.terms.SymValue.{SymValue}
+use Rattle.ygg_sym_disk.proofs.of_ygg_sym_runs.Singles.{input_single, single_stays}
+use Rattle.ygg_sym_disk.specs.ygg_sym_runs.Lower.{KeepsSingle, SingleFrom, question_of}
+use Rattle.ygg_sym_disk.specs.ygg_sym_runs.Runs.{SymQuestion}
+use Rattle.ygg_sym_disk.specs.ygg_sym_runs.declared.question.Question as asked
+use Rattle.ygg_sym_disk.specs.ygg_sym_runs.declared.question.Question.TheVariants as question
+use Rattle.ygg_sym_disk.specs.ygg_sym_below.Cuts.{disk_cuts}
+use Rattle.ygg_sym_disk.specs.ygg_sym_below.Disks.{sym_call}
+use Rattle.ygg_sym_disk.specs.ygg_sym_below_proofs_DiskKeeps.{cuts_keep}
 use Rattle.ygg_sym_disk.proofs.Asked.{can_call}
 use Rattle.ygg_sym_disk.specs.Asking.{CallStands}
 use Rattle.ygg_sym_disk.specs.Means.{disk_meaning}

@@ -1,8 +1,8 @@
 -- Power that fails on a disk over terms.
 use Rattle.std.specs.Prelude.{min, List}
-use Rattle.ygg_bank.specs.Makes.{pure}
-use Rattle.ygg_shape_cells.specs.declared.terms.SymValue.{SymValue}
-use Rattle.ygg_sym_below.specs.Cuts.{disk_cuts, disk_loses}
+use Rattle.ygg_sym_disk.specs.ygg_bank.Makes.{pure}
+use Rattle.ygg_sym_disk.specs.ygg_shape_cells.declared.terms.SymValue.{SymValue}
+use Rattle.ygg_sym_disk.specs.ygg_sym_below.Cuts.{disk_cuts, disk_loses}
 use Rattle.ygg_sym_stops.specs.Stopping.{Power}
 use Rattle.ygg_sym_disk_stops.specs.declared.stops.DiskStops.{DiskStops}
 

@@ -1,9 +1,9 @@
 -- What power leaves of a disk over terms stands among the nodes.
 use Rattle.std.proofs.Common.{false, arith}
-use Rattle.ygg_bank.proofs.Widths.{extends_self}
+use Rattle.ygg_sym_disk.specs.ygg_bank_proofs_Widths.{extends_self}
 use Rattle.ygg_sym_disk.specs.Means.{disk_meaning}
-use Rattle.ygg_sym_below.proofs.Cuts.{disk_stops_mean}
-use Rattle.ygg_sym_below.proofs.DiskKeeps.{cuts_grow}
+use Rattle.ygg_sym_disk.specs.ygg_sym_below_proofs_Cuts.{disk_stops_mean}
+use Rattle.ygg_sym_disk.specs.ygg_sym_below_proofs_DiskKeeps.{cuts_grow}
 use Rattle.ygg_sym_stops.specs.Stopping.{IsPower}
 use Rattle.ygg_sym_disk_stops.specs.Failing.{disk_power}
 use Rattle.ygg_sym_disk_stops.specs.declared.stops.DiskStops.{DiskStops}

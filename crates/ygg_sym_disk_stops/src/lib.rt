@@ -4,3 +4,4 @@
 mod stops;
 
 pub use stops::DiskStops;
+pub use ygg_sym_disk::{Lows, SymDisk, lose};

@@ -1,11 +1,9 @@
 //! A disk whose power fails, as the machine on which a block runs.
 
 use std::alloc::Global;
-use ygg_bank::{Bank, Id, NoMemory};
-use ygg_rules::Book;
-use ygg_shape_cells::SymValue;
-use ygg_sym_disk::{Lows, SymDisk, cut, lose};
-use ygg_sym_runs::{Question, SymLower};
+use ygg_sym_disk::{
+    Bank, Book, Id, Lows, NoMemory, Question, SymDisk, SymLower, SymValue, cut, lose,
+};
 use ygg_sym_stops::SymStops;
 
 /// A disk over terms whose power fails at stops.

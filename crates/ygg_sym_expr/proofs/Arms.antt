@@ -2,7 +2,7 @@
 use Rattle.std.proofs.Common.{◌≡◌, ℕ, ◌<◌, ◌≤◌, List, map, replicate, length, get_or, All, refl, sym, ap, ◌∙◌, subst}
 use Rattle.ygg_value.specs.Shapes.{Within}
 use Rattle.ygg_value.specs.declared.operation.Op.{Op}
-use Rattle.ygg_type_sound.proofs.Rules.{ConstantParts}
+use Rattle.ygg_eval_expr.specs.ygg_type_sound_proofs_Rules.{ConstantParts}
 use Rattle.ygg_syntax.specs.declared.tree.Def.{Def}
 use Rattle.ygg_syntax.specs.declared.tree.Place.{Place}
 use Rattle.ygg_syntax.specs.declared.tree.Name.{Name}
@@ -10,16 +10,16 @@ use Rattle.ygg_syntax.specs.declared.tree.Numeral.{Numeral}
 use Rattle.ygg_syntax.specs.declared.tree.Quantifier.{Quantifier}
 use Rattle.ygg_syntax.specs.declared.tree.Expr.{Expr}
 use Rattle.ygg_syntax.specs.declared.tree.Expr.TheVariants as tree
-use Rattle.ygg_rules.specs.declared.rule.RuleKind.{RuleKind}
-use Rattle.ygg_bank.specs.Makes.{Make, pure, and_make}
-use Rattle.ygg_bank.specs.Nodes.{Stands, HasWidth, IsBank, Extends}
-use Rattle.ygg_bank.specs.declared.node.Id.{Id}
-use Rattle.ygg_bank.specs.declared.node.Node.{Node}
-use Rattle.ygg_bank.specs.declared.node.Node.TheVariants as node
-use Rattle.ygg_shape_cells.specs.Making.{merged}
-use Rattle.ygg_shape_cells.specs.Terms.{AreAlike}
-use Rattle.ygg_shape_cells.specs.declared.terms.SymValue.{SymValue}
-use Rattle.ygg_shape_cells.specs.declared.terms.SymValue.TheVariants.{Word, Row}
+use Rattle.ygg_shape.specs.ygg_rules.declared.rule.RuleKind.{RuleKind}
+use Rattle.ygg_shape.specs.ygg_bank.Makes.{Make, pure, and_make}
+use Rattle.ygg_shape.specs.ygg_bank.Nodes.{Stands, HasWidth, IsBank, Extends}
+use Rattle.ygg_shape.specs.ygg_bank.declared.node.Id.{Id}
+use Rattle.ygg_shape.specs.ygg_bank.declared.node.Node.{Node}
+use Rattle.ygg_shape.specs.ygg_bank.declared.node.Node.TheVariants as node
+use Rattle.ygg_shape.specs.ygg_shape_cells.Making.{merged}
+use Rattle.ygg_shape.specs.ygg_shape_cells.Terms.{AreAlike}
+use Rattle.ygg_shape.specs.ygg_shape_cells.declared.terms.SymValue.{SymValue}
+use Rattle.ygg_shape.specs.ygg_shape_cells.declared.terms.SymValue.TheVariants.{Word, Row}
 use Rattle.ygg_sym_expr.specs.Names.{SymEnv}
 use Rattle.ygg_sym_expr.specs.Exprs.{id_in, all_made, word_made, applied, part_made, joined}
 use Rattle.ygg_sym_expr.specs.Meaning.{SomeShape}

@@ -11,14 +11,14 @@ use Rattle.ygg_syntax.specs.declared.tree.Expr.TheOpen.{Expr-F}
 use Rattle.ygg_syntax.specs.declared.tree.Expr.TheFolds.{fold-roll-Expr}
 use Rattle.ygg_value.specs.Words.{word}
 use Rattle.ygg_value.specs.declared.operation.Op.{Op}
-use Rattle.ygg_rules.specs.declared.rule.RuleKind.{RuleKind}
-use Rattle.ygg_bank.specs.Makes.{Make, Out, pure, and_make, goes_on}
-use Rattle.ygg_bank.specs.declared.node.Node.{Node}
-use Rattle.ygg_bank.specs.declared.node.Node.TheVariants as node
-use Rattle.ygg_shape_cells.specs.Lists.{each_from}
-use Rattle.ygg_shape_cells.specs.Making.{merged}
-use Rattle.ygg_shape_cells.specs.declared.terms.SymValue.{SymValue}
-use Rattle.ygg_shape_cells.specs.declared.terms.SymValue.TheVariants.{Word, Row}
+use Rattle.ygg_shape.specs.ygg_rules.declared.rule.RuleKind.{RuleKind}
+use Rattle.ygg_shape.specs.ygg_bank.Makes.{Make, Out, pure, and_make, goes_on}
+use Rattle.ygg_shape.specs.ygg_bank.declared.node.Node.{Node}
+use Rattle.ygg_shape.specs.ygg_bank.declared.node.Node.TheVariants as node
+use Rattle.ygg_shape.specs.ygg_shape_cells.Lists.{each_from}
+use Rattle.ygg_shape.specs.ygg_shape_cells.Making.{merged}
+use Rattle.ygg_shape.specs.ygg_shape_cells.declared.terms.SymValue.{SymValue}
+use Rattle.ygg_shape.specs.ygg_shape_cells.declared.terms.SymValue.TheVariants.{Word, Row}
 use Rattle.ygg_sym_expr.specs.Names.{SymScope, sym_look_up}
 use Rattle.ygg_sym_expr.specs.Exprs.{Making, id_in, all_made, word_made, applied, part_made, joined, quantified_made, node_made, sym_value}
 use Rattle.ygg_sym_expr.specs.Seen.{SymKnown, terms_called, terms_in, joining, start_of, test_at}

@@ -3,16 +3,16 @@ use Rattle.std.proofs.Common.{ℕ, List, map}
 use Rattle.ygg_value.specs.declared.operation.Op.{Op}
 use Rattle.ygg_syntax.specs.declared.tree.Def.{Def}
 use Rattle.ygg_syntax.specs.declared.tree.Expr.{Expr}
-use Rattle.ygg_type_sound.specs.Environments.{Name}
-use Rattle.ygg_rules.specs.declared.rule.RuleKind.{RuleKind}
-use Rattle.ygg_bank.proofs.Made.{made_grows}
-use Rattle.ygg_bank.proofs.Widths.{extends_self, extends_both}
-use Rattle.ygg_bank.specs.Makes.{Make}
-use Rattle.ygg_bank.specs.Nodes.{Extends}
-use Rattle.ygg_bank.specs.declared.node.Id.{Id}
-use Rattle.ygg_bank.specs.declared.node.Node.{Node}
-use Rattle.ygg_shape_words.proofs.Keeps.{grows_stays}
-use Rattle.ygg_shape_cells.specs.declared.terms.SymValue.{SymValue}
+use Rattle.ygg_eval_expr.specs.ygg_type_sound.Environments.{Name}
+use Rattle.ygg_shape.specs.ygg_rules.declared.rule.RuleKind.{RuleKind}
+use Rattle.ygg_shape.specs.ygg_bank_proofs_Made.{made_grows}
+use Rattle.ygg_shape.specs.ygg_bank_proofs_Widths.{extends_self, extends_both}
+use Rattle.ygg_shape.specs.ygg_bank.Makes.{Make}
+use Rattle.ygg_shape.specs.ygg_bank.Nodes.{Extends}
+use Rattle.ygg_shape.specs.ygg_bank.declared.node.Id.{Id}
+use Rattle.ygg_shape.specs.ygg_bank.declared.node.Node.{Node}
+use Rattle.ygg_shape.specs.ygg_shape_words_proofs_Keeps.{grows_stays}
+use Rattle.ygg_shape.specs.ygg_shape_cells.declared.terms.SymValue.{SymValue}
 use Rattle.ygg_sym_expr.specs.Names.{SymScope}
 use Rattle.ygg_sym_expr.specs.Exprs.{SymFunctions, Making, all_made, word_made, applied, part_made, joined, at_number, sym_value, sym_functions}
 use Rattle.ygg_sym_expr.specs.Meaning.{Grows}

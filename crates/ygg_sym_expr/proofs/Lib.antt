@@ -1,3 +1,5 @@
+pub use Rattle.ygg_shape.proofs.of_ygg_bank
+pub use Rattle.ygg_shape.proofs as of_ygg_shape
 pub mod Shaped
 pub mod Keeps
 pub mod Grows

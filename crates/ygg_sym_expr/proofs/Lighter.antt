@@ -10,7 +10,7 @@ use Rattle.ygg_syntax.specs.declared.tree.Expr.TheVariants as tree
 use Rattle.ygg_syntax.specs.declared.tree.Expr.TheOpen.{Expr-F}
 use Rattle.ygg_syntax.specs.declared.tree.Expr.TheFolds.{fold-roll-Expr}
 use Rattle.ygg_value.specs.declared.operation.Op.{Op}
-use Rattle.ygg_syntax_count.specs.Weights.{Weights, node_weight, expr_weight, exprs_weight}
+use Rattle.ygg_eval_expr.specs.ygg_syntax_count.Weights.{Weights, node_weight, expr_weight, exprs_weight}
 
 sum_cons : (n : ℕ) (ns : List ℕ) → sum (n ∷ ns) ≡ n + sum ns
 sum_cons n ns = grind (arith, common_steps)

@@ -38,30 +38,30 @@ use Rattle.ygg_value.specs.declared.row.Value.{Value}
 use Rattle.ygg_value.specs.declared.row.Value.TheVariants as value
 use Rattle.ygg_value.specs.declared.shape.Shape.{Shape}
 use Rattle.ygg_value.specs.declared.shape.Shape.TheVariants as shape
-use Rattle.ygg_type_sound.specs.Shapes.{is_word, width_of}
-use Rattle.ygg_type_sound.specs.Comparisons.{operator_error}
-use Rattle.ygg_type_sound.proofs.Tests.{wanted_is}
-use Rattle.ygg_type_sound.proofs.Fits.{word_wide}
-use Rattle.ygg_type_sound.proofs.Rules.{Operands, operands, PickParts}
-use Rattle.ygg_type_sound.proofs.Lists.{IsWordOf, RowParts}
-use Rattle.ygg_type_sound.specs.Meaning.{is_one, row_of, filled}
-use Rattle.ygg_rules.specs.declared.rule.RuleKind.{RuleKind}
-use Rattle.ygg_bank.proofs.Made.{made_grows}
-use Rattle.ygg_bank.proofs.Meaning.{fits_fewer}
-use Rattle.ygg_bank.proofs.Widths.{wider, width_is, stands, width_fits}
-use Rattle.ygg_bank.specs.Makes.{Make}
-use Rattle.ygg_bank.specs.Making.{made}
-use Rattle.ygg_bank.specs.Nodes.{Stands, widths_of, node_width, HasWidth, CanMake, CanBin}
-use Rattle.ygg_bank.specs.Values.{Inputs, Values, Fits, node_value}
-use Rattle.ygg_bank.specs.declared.node.Id.{Id}
-use Rattle.ygg_bank.specs.declared.node.Node.{Node}
-use Rattle.ygg_bank.specs.declared.node.Node.TheVariants as node
-use Rattle.ygg_shape_words.proofs.Terms.{TermIs, made_is, digit_is, not_digit}
+use Rattle.ygg_eval_expr.specs.ygg_type_sound.Shapes.{is_word, width_of}
+use Rattle.ygg_eval_expr.specs.ygg_type_sound.Comparisons.{operator_error}
+use Rattle.ygg_eval_expr.specs.ygg_type_sound_proofs_Tests.{wanted_is}
+use Rattle.ygg_eval_expr.specs.ygg_type_sound_proofs_Fits.{word_wide}
+use Rattle.ygg_eval_expr.specs.ygg_type_sound_proofs_Rules.{Operands, operands, PickParts}
+use Rattle.ygg_eval_expr.specs.ygg_type_sound_proofs_Lists.{IsWordOf, RowParts}
+use Rattle.ygg_eval_expr.specs.ygg_type_sound.Meaning.{is_one, row_of, filled}
+use Rattle.ygg_shape.specs.ygg_rules.declared.rule.RuleKind.{RuleKind}
+use Rattle.ygg_shape.specs.ygg_bank_proofs_Made.{made_grows}
+use Rattle.ygg_shape.specs.ygg_bank_proofs_Meaning.{fits_fewer}
+use Rattle.ygg_shape.specs.ygg_bank_proofs_Widths.{wider, width_is, stands, width_fits}
+use Rattle.ygg_shape.specs.ygg_bank.Makes.{Make}
+use Rattle.ygg_shape.specs.ygg_bank.Making.{made}
+use Rattle.ygg_shape.specs.ygg_bank.Nodes.{Stands, widths_of, node_width, HasWidth, CanMake, CanBin}
+use Rattle.ygg_shape.specs.ygg_bank.Values.{Inputs, Values, Fits, node_value}
+use Rattle.ygg_shape.specs.ygg_bank.declared.node.Id.{Id}
+use Rattle.ygg_shape.specs.ygg_bank.declared.node.Node.{Node}
+use Rattle.ygg_shape.specs.ygg_bank.declared.node.Node.TheVariants as node
+use Rattle.ygg_shape.specs.ygg_shape_words_proofs_Terms.{TermIs, made_is, digit_is, not_digit}
 use Rattle.ygg_shape.proofs.Makers.{merged_gives, compared_gives, selected_gives, word_selected_gives}
-use Rattle.ygg_shape_cells.specs.Making.{merged, compared}
-use Rattle.ygg_shape_cells.specs.Terms.{IsShaped, AreAlike, worth, numbers_of, row_width}
-use Rattle.ygg_shape_cells.specs.declared.terms.SymValue.{SymValue}
-use Rattle.ygg_shape_cells.specs.declared.terms.SymValue.TheVariants.{Word, Row, Table}
+use Rattle.ygg_shape.specs.ygg_shape_cells.Making.{merged, compared}
+use Rattle.ygg_shape.specs.ygg_shape_cells.Terms.{IsShaped, AreAlike, worth, numbers_of, row_width}
+use Rattle.ygg_shape.specs.ygg_shape_cells.declared.terms.SymValue.{SymValue}
+use Rattle.ygg_shape.specs.ygg_shape_cells.declared.terms.SymValue.TheVariants.{Word, Row, Table}
 use Rattle.ygg_sym_expr.specs.Exprs.{id_in, word_made, number_made, applied, part_made, joined}
 use Rattle.ygg_sym_expr.specs.Names.{SymScope}
 use Rattle.ygg_sym_expr.specs.Meaning.{SomeShape, ScopeShaped, Grows, Gives, IsWorth}

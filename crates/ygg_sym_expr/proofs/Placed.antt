@@ -38,13 +38,13 @@ use Rattle.std.proofs.lemmas.List.{append-nil, reverse-append}
 use Rattle.std.proofs.lemmas.List.Elements.{All-nil}
 use Rattle.std.proofs.lemmas.Option.{slice_get-get_or}
 use Rattle.ygg_syntax.specs.declared.tree.Def.{Def}
-use Rattle.ygg_syntax_count.specs.Weights.{weights_of, expr_weight}
-use Rattle.ygg_symbols.specs.Names.{Named, look_up, has}
-use Rattle.ygg_type_sound.specs.Signature.{Signature}
-use Rattle.ygg_type_sound.specs.TypeErrors.{none}
-use Rattle.ygg_type_sound.specs.Shapes.{shape_of}
-use Rattle.ygg_type_sound.specs.Expressions.{typing, wanted}
-use Rattle.ygg_type_sound.specs.Definitions.{
+use Rattle.ygg_eval_expr.specs.ygg_syntax_count.Weights.{weights_of, expr_weight}
+use Rattle.ygg_eval_expr.specs.ygg_symbols.Names.{Named, look_up, has}
+use Rattle.ygg_eval_expr.specs.ygg_type_sound.Signature.{Signature}
+use Rattle.ygg_eval_expr.specs.ygg_type_sound.TypeErrors.{none}
+use Rattle.ygg_eval_expr.specs.ygg_type_sound.Shapes.{shape_of}
+use Rattle.ygg_eval_expr.specs.ygg_type_sound.Expressions.{typing, wanted}
+use Rattle.ygg_eval_expr.specs.ygg_type_sound.Definitions.{
   with_parameters,
   definition_signature,
   definition_scope,
@@ -53,19 +53,19 @@ use Rattle.ygg_type_sound.specs.Definitions.{
   with_definitions,
   definitions_errors,
 }
-use Rattle.ygg_type_sound.specs.Environments.{Name}
-use Rattle.ygg_type_sound.specs.Meaning.{functions_of}
-use Rattle.ygg_type_sound.specs.Agrees.{Agrees}
-use Rattle.ygg_type_sound.proofs.Tests.{left, right, bytes_same, bytes_equal}
-use Rattle.ygg_type_sound.proofs.Names.{still_found, look_up_append, added_new, or_else, absent}
-use Rattle.ygg_type_sound.proofs.Definitions.{DefinitionParts, definition_parts, called, body_agrees, definitions_meet}
+use Rattle.ygg_eval_expr.specs.ygg_type_sound.Environments.{Name}
+use Rattle.ygg_eval_expr.specs.ygg_type_sound.Meaning.{functions_of}
+use Rattle.ygg_eval_expr.specs.ygg_type_sound.Agrees.{Agrees}
+use Rattle.ygg_eval_expr.specs.ygg_type_sound_proofs_Tests.{left, right, bytes_same, bytes_equal}
+use Rattle.ygg_eval_expr.specs.ygg_type_sound_proofs_Names.{still_found, look_up_append, added_new, or_else, absent}
+use Rattle.ygg_eval_expr.specs.ygg_type_sound_proofs_Definitions.{DefinitionParts, definition_parts, called, body_agrees, definitions_meet}
 use Rattle.ygg_eval_expr.specs.Known.{IsDefinition}
 use Rattle.ygg_eval_expr.proofs.Called.{Missing, missing_begun, missing_more}
-use Rattle.ygg_rules.specs.declared.rule.RuleKind.{RuleKind}
-use Rattle.ygg_bank.specs.Makes.{pure}
-use Rattle.ygg_bank.specs.declared.node.Node.{Node}
-use Rattle.ygg_shape_cells.specs.Terms.{worth}
-use Rattle.ygg_shape_cells.specs.declared.terms.SymValue.{SymValue}
+use Rattle.ygg_shape.specs.ygg_rules.declared.rule.RuleKind.{RuleKind}
+use Rattle.ygg_shape.specs.ygg_bank.Makes.{pure}
+use Rattle.ygg_shape.specs.ygg_bank.declared.node.Node.{Node}
+use Rattle.ygg_shape.specs.ygg_shape_cells.Terms.{worth}
+use Rattle.ygg_shape.specs.ygg_shape_cells.declared.terms.SymValue.{SymValue}
 use Rattle.ygg_sym_expr.specs.Names.{SymScope, no_term, sym_bind}
 use Rattle.ygg_sym_expr.specs.Exprs.{sym_value, sym_functions}
 use Rattle.ygg_sym_expr.specs.Meaning.{SomeShape, ScopeShaped, scope_worth}

@@ -39,23 +39,23 @@ use Rattle.ygg_syntax.specs.declared.tree.Quantifier.{Quantifier}
 use Rattle.ygg_syntax.specs.declared.tree.Quantifier.TheVariants as quantifier
 use Rattle.ygg_syntax.specs.declared.tree.Expr.{Expr}
 use Rattle.ygg_syntax.specs.declared.tree.Expr.TheVariants as tree
-use Rattle.ygg_symbols.specs.Names.{look_up}
-use Rattle.ygg_type_sound.specs.Signature.{Signature}
-use Rattle.ygg_type_sound.specs.TypeErrors.{none}
-use Rattle.ygg_type_sound.specs.Scopes.{Scope, is_taken}
-use Rattle.ygg_type_sound.specs.Shapes.{is_word, width_of, word_shape}
-use Rattle.ygg_type_sound.specs.Comparisons.{operator_error}
-use Rattle.ygg_type_sound.specs.Expressions.{typing, with_number, operator_rule}
-use Rattle.ygg_type_sound.specs.Environments.{Name}
-use Rattle.ygg_type_sound.specs.Meaning.{Functions, functions_of, value_with}
-use Rattle.ygg_type_sound.specs.Meaning as meaning
-use Rattle.ygg_type_sound.specs.Agrees.{Agrees}
-use Rattle.ygg_type_sound.specs.Fitting.{all_fit}
-use Rattle.ygg_type_sound.proofs.Tests.{wanted_is}
-use Rattle.ygg_type_sound.proofs.Fits.{word_wide}
-use Rattle.ygg_type_sound.proofs.Rules.{ConstantParts, NumberParts, operands, operator_without_errors}
-use Rattle.ygg_type_sound.proofs.Sounds.{two_none}
-use Rattle.ygg_type_sound.proofs.Parts.{
+use Rattle.ygg_eval_expr.specs.ygg_symbols.Names.{look_up}
+use Rattle.ygg_eval_expr.specs.ygg_type_sound.Signature.{Signature}
+use Rattle.ygg_eval_expr.specs.ygg_type_sound.TypeErrors.{none}
+use Rattle.ygg_eval_expr.specs.ygg_type_sound.Scopes.{Scope, is_taken}
+use Rattle.ygg_eval_expr.specs.ygg_type_sound.Shapes.{is_word, width_of, word_shape}
+use Rattle.ygg_eval_expr.specs.ygg_type_sound.Comparisons.{operator_error}
+use Rattle.ygg_eval_expr.specs.ygg_type_sound.Expressions.{typing, with_number, operator_rule}
+use Rattle.ygg_eval_expr.specs.ygg_type_sound.Environments.{Name}
+use Rattle.ygg_eval_expr.specs.ygg_type_sound.Meaning.{Functions, functions_of, value_with}
+use Rattle.ygg_eval_expr.specs.ygg_type_sound.Meaning as meaning
+use Rattle.ygg_eval_expr.specs.ygg_type_sound.Agrees.{Agrees}
+use Rattle.ygg_eval_expr.specs.ygg_type_sound.Fitting.{all_fit}
+use Rattle.ygg_eval_expr.specs.ygg_type_sound_proofs_Tests.{wanted_is}
+use Rattle.ygg_eval_expr.specs.ygg_type_sound_proofs_Fits.{word_wide}
+use Rattle.ygg_eval_expr.specs.ygg_type_sound_proofs_Rules.{ConstantParts, NumberParts, operands, operator_without_errors}
+use Rattle.ygg_eval_expr.specs.ygg_type_sound_proofs_Sounds.{two_none}
+use Rattle.ygg_eval_expr.specs.ygg_type_sound_proofs_Parts.{
   QuantifiedTyped,
   values_in,
   typed_binary,
@@ -70,19 +70,19 @@ use Rattle.ygg_type_sound.proofs.Parts.{
   row_typed,
   quantified_typed,
 }
-use Rattle.ygg_rules.specs.declared.rule.RuleKind.{RuleKind}
-use Rattle.ygg_bank.proofs.Makes.{made_bank}
-use Rattle.ygg_bank.proofs.Meaning.{fits_fewer}
-use Rattle.ygg_bank.proofs.Widths.{stands}
-use Rattle.ygg_bank.specs.Makes.{Make}
-use Rattle.ygg_bank.specs.Nodes.{Stands, HasWidth, CanBin, IsBank}
-use Rattle.ygg_bank.specs.Values.{Inputs, Values, Fits, value_of}
-use Rattle.ygg_bank.specs.declared.node.Id.{Id}
-use Rattle.ygg_bank.specs.declared.node.Node.{Node}
-use Rattle.ygg_bank.specs.declared.node.Node.TheVariants as node
-use Rattle.ygg_shape_words.proofs.Fit.{can_and}
-use Rattle.ygg_shape_cells.specs.Terms.{AreAlike, worth}
-use Rattle.ygg_shape_cells.specs.declared.terms.SymValue.{SymValue}
+use Rattle.ygg_shape.specs.ygg_rules.declared.rule.RuleKind.{RuleKind}
+use Rattle.ygg_shape.proofs.of_ygg_bank.Makes.{made_bank}
+use Rattle.ygg_shape.specs.ygg_bank_proofs_Meaning.{fits_fewer}
+use Rattle.ygg_shape.specs.ygg_bank_proofs_Widths.{stands}
+use Rattle.ygg_shape.specs.ygg_bank.Makes.{Make}
+use Rattle.ygg_shape.specs.ygg_bank.Nodes.{Stands, HasWidth, CanBin, IsBank}
+use Rattle.ygg_shape.specs.ygg_bank.Values.{Inputs, Values, Fits, value_of}
+use Rattle.ygg_shape.specs.ygg_bank.declared.node.Id.{Id}
+use Rattle.ygg_shape.specs.ygg_bank.declared.node.Node.{Node}
+use Rattle.ygg_shape.specs.ygg_bank.declared.node.Node.TheVariants as node
+use Rattle.ygg_shape.specs.ygg_shape_words_proofs_Fit.{can_and}
+use Rattle.ygg_shape.specs.ygg_shape_cells.Terms.{AreAlike, worth}
+use Rattle.ygg_shape.specs.ygg_shape_cells.declared.terms.SymValue.{SymValue}
 use Rattle.ygg_shape.proofs.Answered.{no_inputs, some_fit}
 use Rattle.ygg_sym_expr.specs.Exprs.{id_in, all_made, number_made, with_name}
 use Rattle.ygg_sym_expr.specs.Meaning.{SomeShape, worths, scope_worth, IsWorth}

@@ -3,20 +3,20 @@ use Rattle.std.proofs.Common.{◌≡◌, true, List, [], reverse, Ok, Err, Resul
 use Rattle.ygg_value.specs.Shapes.{shape_of}
 use Rattle.ygg_value.specs.declared.shape.Shape.{Shape}
 use Rattle.ygg_syntax.specs.declared.tree.Expr.{Expr}
-use Rattle.ygg_type_sound.specs.TypeErrors.{none}
-use Rattle.ygg_type_sound.specs.Expressions.{typing}
-use Rattle.ygg_type_sound.specs.Definitions.{with_definitions}
-use Rattle.ygg_type_sound.specs.Meaning.{functions_of, value_with}
-use Rattle.ygg_type_sound.proofs.Sounds.{sound}
-use Rattle.ygg_rules.specs.declared.rule.RuleKind.{RuleKind}
-use Rattle.ygg_bank.proofs.Meaning.{fits_fewer}
-use Rattle.ygg_bank.specs.Inputs.{InputsBelow, KeepsInputs}
-use Rattle.ygg_bank.specs.Nodes.{IsBank, Extends}
-use Rattle.ygg_bank.specs.Values.{Inputs, Values, Fits, value_of}
-use Rattle.ygg_bank.specs.declared.node.Node.{Node}
-use Rattle.ygg_shape_cells.specs.Terms.{IsShaped}
-use Rattle.ygg_shape_cells.specs.declared.terms.SymValue.{SymValue}
-use Rattle.ygg_shape_words.proofs.Keeps.{inputs_stay}
+use Rattle.ygg_eval_expr.specs.ygg_type_sound.TypeErrors.{none}
+use Rattle.ygg_eval_expr.specs.ygg_type_sound.Expressions.{typing}
+use Rattle.ygg_eval_expr.specs.ygg_type_sound.Definitions.{with_definitions}
+use Rattle.ygg_eval_expr.specs.ygg_type_sound.Meaning.{functions_of, value_with}
+use Rattle.ygg_eval_expr.specs.ygg_type_sound_proofs_Sounds.{sound}
+use Rattle.ygg_shape.specs.ygg_rules.declared.rule.RuleKind.{RuleKind}
+use Rattle.ygg_shape.specs.ygg_bank_proofs_Meaning.{fits_fewer}
+use Rattle.ygg_shape.specs.ygg_bank.Inputs.{InputsBelow, KeepsInputs}
+use Rattle.ygg_shape.specs.ygg_bank.Nodes.{IsBank, Extends}
+use Rattle.ygg_shape.specs.ygg_bank.Values.{Inputs, Values, Fits, value_of}
+use Rattle.ygg_shape.specs.ygg_bank.declared.node.Node.{Node}
+use Rattle.ygg_shape.specs.ygg_shape_cells.Terms.{IsShaped}
+use Rattle.ygg_shape.specs.ygg_shape_cells.declared.terms.SymValue.{SymValue}
+use Rattle.ygg_shape.specs.ygg_shape_words_proofs_Keeps.{inputs_stay}
 use Rattle.ygg_shape.proofs.Answered.{no_inputs, some_fit}
 use Rattle.ygg_sym_expr.specs.Meaning.{Grows, SomeShape, scope_worth, IsWorth}
 use Rattle.ygg_sym_expr.specs.Seen.{SymKnown, CanTerm, terms_called, terms_in}

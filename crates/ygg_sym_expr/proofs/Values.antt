@@ -48,22 +48,22 @@ use Rattle.ygg_syntax.specs.declared.tree.Expr.{Expr, roll-Expr, map-Expr}
 use Rattle.ygg_syntax.specs.declared.tree.Expr.TheVariants as tree
 use Rattle.ygg_syntax.specs.declared.tree.Expr.TheOpen.{Expr-F}
 use Rattle.ygg_syntax.specs.declared.tree.Expr.TheFolds.{ind-Expr, fold-roll-Expr}
-use Rattle.ygg_symbols.specs.Names.{Named, look_up, has, added}
-use Rattle.ygg_type_sound.specs.Signature.{Signature}
-use Rattle.ygg_type_sound.specs.TypeErrors.{none}
-use Rattle.ygg_type_sound.specs.Scopes.{Scope, name_in, low_in, with_local}
-use Rattle.ygg_type_sound.specs.Shapes.{word_shape}
-use Rattle.ygg_type_sound.specs.Expressions.{Typing, node_typing, typing, with_number, name_rule, low_rule, operator_rule}
-use Rattle.ygg_type_sound.specs.Environments.{Name, Env}
-use Rattle.ygg_type_sound.specs.Environments as names
-use Rattle.ygg_type_sound.specs.Meaning.{Functions, is_one, all_below, any_below, quantified, row_of, value_with}
-use Rattle.ygg_type_sound.specs.Meaning as meaning
-use Rattle.ygg_type_sound.specs.Fitting.{IsHeld, all_fit}
-use Rattle.ygg_type_sound.specs.Agrees.{Agrees}
-use Rattle.ygg_type_sound.proofs.Names.{value_found}
-use Rattle.ygg_type_sound.proofs.Rules.{NumberParts, operator_without_errors}
-use Rattle.ygg_type_sound.proofs.Sounds.{two_none}
-use Rattle.ygg_type_sound.proofs.Parts.{
+use Rattle.ygg_eval_expr.specs.ygg_symbols.Names.{Named, look_up, has, added}
+use Rattle.ygg_eval_expr.specs.ygg_type_sound.Signature.{Signature}
+use Rattle.ygg_eval_expr.specs.ygg_type_sound.TypeErrors.{none}
+use Rattle.ygg_eval_expr.specs.ygg_type_sound.Scopes.{Scope, name_in, low_in, with_local}
+use Rattle.ygg_eval_expr.specs.ygg_type_sound.Shapes.{word_shape}
+use Rattle.ygg_eval_expr.specs.ygg_type_sound.Expressions.{Typing, node_typing, typing, with_number, name_rule, low_rule, operator_rule}
+use Rattle.ygg_eval_expr.specs.ygg_type_sound.Environments.{Name, Env}
+use Rattle.ygg_eval_expr.specs.ygg_type_sound.Environments as names
+use Rattle.ygg_eval_expr.specs.ygg_type_sound.Meaning.{Functions, is_one, all_below, any_below, quantified, row_of, value_with}
+use Rattle.ygg_eval_expr.specs.ygg_type_sound.Meaning as meaning
+use Rattle.ygg_eval_expr.specs.ygg_type_sound.Fitting.{IsHeld, all_fit}
+use Rattle.ygg_eval_expr.specs.ygg_type_sound.Agrees.{Agrees}
+use Rattle.ygg_eval_expr.specs.ygg_type_sound_proofs_Names.{value_found}
+use Rattle.ygg_eval_expr.specs.ygg_type_sound_proofs_Rules.{NumberParts, operator_without_errors}
+use Rattle.ygg_eval_expr.specs.ygg_type_sound_proofs_Sounds.{two_none}
+use Rattle.ygg_eval_expr.specs.ygg_type_sound_proofs_Parts.{
   WithoutErrors,
   HasValue,
   values_in,
@@ -92,20 +92,20 @@ use Rattle.ygg_type_sound.proofs.Parts.{
   row_typed,
   quantified_typed,
 }
-use Rattle.ygg_rules.specs.declared.rule.RuleKind.{RuleKind}
-use Rattle.ygg_bank.proofs.Meaning.{fits_fewer}
-use Rattle.ygg_bank.proofs.Widths.{width_is, stands}
-use Rattle.ygg_bank.specs.Nodes.{HasWidth, CanBin, Extends}
-use Rattle.ygg_bank.specs.Values.{Inputs, Values}
-use Rattle.ygg_bank.specs.declared.node.Id.{Id}
-use Rattle.ygg_bank.specs.declared.node.Node.{Node}
-use Rattle.ygg_bank.specs.declared.node.Node.TheVariants as node
-use Rattle.ygg_shape_words.proofs.Terms.{and_digits, or_digits}
-use Rattle.ygg_shape_words.proofs.Fit.{can_and}
-use Rattle.ygg_shape_cells.specs.Making.{merged}
-use Rattle.ygg_shape_cells.specs.Terms.{worth}
-use Rattle.ygg_shape_cells.specs.declared.terms.SymValue.{SymValue}
-use Rattle.ygg_shape_cells.specs.declared.terms.SymValue.TheVariants.{Row}
+use Rattle.ygg_shape.specs.ygg_rules.declared.rule.RuleKind.{RuleKind}
+use Rattle.ygg_shape.specs.ygg_bank_proofs_Meaning.{fits_fewer}
+use Rattle.ygg_shape.specs.ygg_bank_proofs_Widths.{width_is, stands}
+use Rattle.ygg_shape.specs.ygg_bank.Nodes.{HasWidth, CanBin, Extends}
+use Rattle.ygg_shape.specs.ygg_bank.Values.{Inputs, Values}
+use Rattle.ygg_shape.specs.ygg_bank.declared.node.Id.{Id}
+use Rattle.ygg_shape.specs.ygg_bank.declared.node.Node.{Node}
+use Rattle.ygg_shape.specs.ygg_bank.declared.node.Node.TheVariants as node
+use Rattle.ygg_shape.specs.ygg_shape_words_proofs_Terms.{and_digits, or_digits}
+use Rattle.ygg_shape.specs.ygg_shape_words_proofs_Fit.{can_and}
+use Rattle.ygg_shape.specs.ygg_shape_cells.Making.{merged}
+use Rattle.ygg_shape.specs.ygg_shape_cells.Terms.{worth}
+use Rattle.ygg_shape.specs.ygg_shape_cells.declared.terms.SymValue.{SymValue}
+use Rattle.ygg_shape.specs.ygg_shape_cells.declared.terms.SymValue.TheVariants.{Row}
 use Rattle.ygg_sym_expr.specs.Names.{SymEnv, SymScope, sym_look_up}
 use Rattle.ygg_sym_expr.specs.Exprs.{
   SymFunctions,

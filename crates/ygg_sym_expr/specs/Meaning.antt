@@ -4,21 +4,21 @@ use Rattle.ygg_value.specs.declared.row.Value.{Value}
 use Rattle.ygg_value.specs.declared.shape.Shape.{Shape}
 use Rattle.ygg_syntax.specs.declared.tree.Def.{Def}
 use Rattle.ygg_syntax.specs.declared.tree.Expr.{Expr}
-use Rattle.ygg_type_sound.specs.TypeErrors.{none}
-use Rattle.ygg_type_sound.specs.Scopes.{Scope}
-use Rattle.ygg_type_sound.specs.Expressions.{typing}
-use Rattle.ygg_type_sound.specs.Definitions.{definitions_errors, with_definitions}
-use Rattle.ygg_type_sound.specs.Environments.{Name, Env}
-use Rattle.ygg_type_sound.specs.Meaning.{value_with, functions_of}
-use Rattle.ygg_type_sound.specs.Meaning as meaning
-use Rattle.ygg_type_sound.specs.Agrees.{Agrees}
-use Rattle.ygg_rules.specs.declared.rule.RuleKind.{RuleKind}
-use Rattle.ygg_bank.specs.Makes.{Make}
-use Rattle.ygg_bank.specs.Nodes.{IsBank, Extends}
-use Rattle.ygg_bank.specs.Values.{Inputs, Values, InputsFit, Fits, value_of}
-use Rattle.ygg_bank.specs.declared.node.Node.{Node}
-use Rattle.ygg_shape_cells.specs.Terms.{IsShaped, worth}
-use Rattle.ygg_shape_cells.specs.declared.terms.SymValue.{SymValue}
+use Rattle.ygg_eval_expr.specs.ygg_type_sound.TypeErrors.{none}
+use Rattle.ygg_eval_expr.specs.ygg_type_sound.Scopes.{Scope}
+use Rattle.ygg_eval_expr.specs.ygg_type_sound.Expressions.{typing}
+use Rattle.ygg_eval_expr.specs.ygg_type_sound.Definitions.{definitions_errors, with_definitions}
+use Rattle.ygg_eval_expr.specs.ygg_type_sound.Environments.{Name, Env}
+use Rattle.ygg_eval_expr.specs.ygg_type_sound.Meaning.{value_with, functions_of}
+use Rattle.ygg_eval_expr.specs.ygg_type_sound.Meaning as meaning
+use Rattle.ygg_eval_expr.specs.ygg_type_sound.Agrees.{Agrees}
+use Rattle.ygg_shape.specs.ygg_rules.declared.rule.RuleKind.{RuleKind}
+use Rattle.ygg_shape.specs.ygg_bank.Makes.{Make}
+use Rattle.ygg_shape.specs.ygg_bank.Nodes.{IsBank, Extends}
+use Rattle.ygg_shape.specs.ygg_bank.Values.{Inputs, Values, InputsFit, Fits, value_of}
+use Rattle.ygg_shape.specs.ygg_bank.declared.node.Node.{Node}
+use Rattle.ygg_shape.specs.ygg_shape_cells.Terms.{IsShaped, worth}
+use Rattle.ygg_shape.specs.ygg_shape_cells.declared.terms.SymValue.{SymValue}
 use Rattle.ygg_sym_expr.specs.Names.{SymEnv, SymScope}
 use Rattle.ygg_sym_expr.specs.Exprs.{sym_value, sym_functions}
 

@@ -2,10 +2,10 @@
 use Rattle.std.specs.Prelude.{if◌then◌else◌, List, [], ◌∷◌}
 use Rattle.std.specs.Str.{bytes_eq}
 use Rattle.ygg_syntax.specs.declared.tree.Declared.{Declared}
-use Rattle.ygg_type_sound.specs.Environments.{Name}
-use Rattle.ygg_bank.specs.Making.{id}
-use Rattle.ygg_shape_cells.specs.declared.terms.SymValue.{SymValue}
-use Rattle.ygg_shape_cells.specs.declared.terms.SymValue.TheVariants.{Word}
+use Rattle.ygg_eval_expr.specs.ygg_type_sound.Environments.{Name}
+use Rattle.ygg_shape.specs.ygg_bank.Making.{id}
+use Rattle.ygg_shape.specs.ygg_shape_cells.declared.terms.SymValue.{SymValue}
+use Rattle.ygg_shape.specs.ygg_shape_cells.declared.terms.SymValue.TheVariants.{Word}
 
 -- values of names; the first of a name counts, and new names are put at the end
 abbrev pub SymEnv : Type 0

@@ -10,22 +10,22 @@ use Rattle.ygg_syntax.specs.declared.tree.Quantifier.TheVariants as quantifier
 use Rattle.ygg_syntax.specs.declared.tree.Def.{Def}
 use Rattle.ygg_syntax.specs.declared.tree.Expr.{Expr}
 use Rattle.ygg_syntax.specs.declared.tree.Expr.TheVariants as tree
-use Rattle.ygg_symbols.specs.Names.{look_up}
-use Rattle.ygg_type_sound.specs.Signature.{Signature}
-use Rattle.ygg_type_sound.specs.TypeErrors.{none}
-use Rattle.ygg_type_sound.specs.Scopes.{Scope}
-use Rattle.ygg_type_sound.specs.Expressions.{typing}
-use Rattle.ygg_type_sound.specs.Definitions.{definitions_errors, with_definitions}
-use Rattle.ygg_type_sound.specs.Meaning.{functions_of}
-use Rattle.ygg_type_sound.specs.Agrees.{Agrees}
-use Rattle.ygg_type_sound.specs.Fitting.{all_fit}
-use Rattle.ygg_rules.specs.declared.rule.RuleKind.{RuleKind}
-use Rattle.ygg_bank.specs.Makes.{Make}
-use Rattle.ygg_bank.specs.Nodes.{CanBin}
-use Rattle.ygg_bank.specs.Values.{Inputs, Values, Fits}
-use Rattle.ygg_bank.specs.declared.node.Node.{Node}
-use Rattle.ygg_shape_cells.specs.Terms.{AreAlike, worth}
-use Rattle.ygg_shape_cells.specs.declared.terms.SymValue.{SymValue}
+use Rattle.ygg_eval_expr.specs.ygg_symbols.Names.{look_up}
+use Rattle.ygg_eval_expr.specs.ygg_type_sound.Signature.{Signature}
+use Rattle.ygg_eval_expr.specs.ygg_type_sound.TypeErrors.{none}
+use Rattle.ygg_eval_expr.specs.ygg_type_sound.Scopes.{Scope}
+use Rattle.ygg_eval_expr.specs.ygg_type_sound.Expressions.{typing}
+use Rattle.ygg_eval_expr.specs.ygg_type_sound.Definitions.{definitions_errors, with_definitions}
+use Rattle.ygg_eval_expr.specs.ygg_type_sound.Meaning.{functions_of}
+use Rattle.ygg_eval_expr.specs.ygg_type_sound.Agrees.{Agrees}
+use Rattle.ygg_eval_expr.specs.ygg_type_sound.Fitting.{all_fit}
+use Rattle.ygg_shape.specs.ygg_rules.declared.rule.RuleKind.{RuleKind}
+use Rattle.ygg_shape.specs.ygg_bank.Makes.{Make}
+use Rattle.ygg_shape.specs.ygg_bank.Nodes.{CanBin}
+use Rattle.ygg_shape.specs.ygg_bank.Values.{Inputs, Values, Fits}
+use Rattle.ygg_shape.specs.ygg_bank.declared.node.Node.{Node}
+use Rattle.ygg_shape.specs.ygg_shape_cells.Terms.{AreAlike, worth}
+use Rattle.ygg_shape.specs.ygg_shape_cells.declared.terms.SymValue.{SymValue}
 use Rattle.ygg_sym_expr.specs.Names.{SymEnv, SymScope}
 use Rattle.ygg_sym_expr.specs.Exprs.{id_in, sym_value, sym_functions, SymFunctions, at_number}
 use Rattle.ygg_sym_expr.specs.Meaning.{SomeShape, ScopeShaped, scope_worth}

@@ -1,12 +1,12 @@
 //! The evaluator of expressions over terms.
 
 ghost use Rattle.std.specs.Prelude.{◌≡◌, ◌<◌, ℕ, IfOk, OnOk, IfSome, IfNone, All, List, map};
-ghost use Rattle.ygg_bank.specs.Inputs.{KeepsInputs};
-ghost use Rattle.ygg_bank.specs.Makes.{pure};
-ghost use Rattle.ygg_bank.specs.Nodes.{Extends, IsBank};
-ghost use Rattle.ygg_bank.specs.declared.node.Node.{Node as AnyNode};
-ghost use Rattle.ygg_rules.specs.declared.rule.RuleKind.{RuleKind};
-ghost use Rattle.ygg_shape_cells.specs.declared.terms.SymValue.{SymValue as AnyValue};
+ghost use Rattle.ygg_shape.specs.ygg_bank.Inputs.{KeepsInputs};
+ghost use Rattle.ygg_shape.specs.ygg_bank.Makes.{pure};
+ghost use Rattle.ygg_shape.specs.ygg_bank.Nodes.{Extends, IsBank};
+ghost use Rattle.ygg_shape.specs.ygg_bank.declared.node.Node.{Node as AnyNode};
+ghost use Rattle.ygg_shape.specs.ygg_rules.declared.rule.RuleKind.{RuleKind};
+ghost use Rattle.ygg_shape.specs.ygg_shape_cells.declared.terms.SymValue.{SymValue as AnyValue};
 ghost use Rattle.ygg_eval_expr.specs.Known.{IsDefinition};
 ghost use Rattle.ygg_sym_expr.specs.Names.{no_term};
 ghost use Rattle.ygg_sym_expr.specs.Exprs.{all_made, joined, sym_value};
@@ -27,9 +27,7 @@ ghost use Rattle.ygg_sym_expr.specs.Seen.{
 use crate::held::{SymBinding, bound, copied, value_of};
 use crate::made::{filled, id_in, operated, part, row, word};
 use std::alloc::Global;
-use ygg_bank::{Bank, Id, NoMemory, Node};
-use ygg_rules::Book;
-use ygg_shape::{SymValue, merge};
+use ygg_shape::{Bank, Book, Id, NoMemory, Node, SymValue, merge};
 use ygg_syntax::tree::{Def, Expr, Name, Numeral, Quantifier};
 use ygg_value::{Op, Word};
 

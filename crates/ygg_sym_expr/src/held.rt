@@ -2,14 +2,13 @@
 
 ghost use Rattle.std.specs.Prelude.{◌≡◌, ◌++◌, IfOk, List};
 ghost use Rattle.std.specs.Option.{option_copied};
-ghost use Rattle.ygg_symbols.specs.Names.{look_up as found};
+ghost use Rattle.ygg_eval_expr.specs.ygg_symbols.Names.{look_up as found};
 ghost use Rattle.ygg_sym_expr.specs.Names.{sym_bind, sym_look_up};
 ghost use Rattle.ygg_sym_expr.specs.Seen.{env_of};
 
 use std::alloc::Global;
-use ygg_bank::{Id, NoMemory};
 use ygg_list::Duplicate;
-use ygg_shape::SymValue;
+use ygg_shape::{Id, NoMemory, SymValue};
 use ygg_syntax::tree::Declared;
 
 /// A name and the value of terms that it stands for.

@@ -1,17 +1,15 @@
 //! Terms that are made of values of terms.
 
 ghost use Rattle.std.specs.Prelude.{◌≡◌, IfOk, OnOk, map, replicate};
-ghost use Rattle.ygg_bank.specs.Nodes.{CanMake, Extends, IsBank, Stands};
-ghost use Rattle.ygg_shape_cells.specs.declared.terms.SymValue.TheVariants.{Row as AsRow};
+ghost use Rattle.ygg_shape.specs.ygg_bank.Nodes.{CanMake, Extends, IsBank, Stands};
+ghost use Rattle.ygg_shape.specs.ygg_shape_cells.declared.terms.SymValue.TheVariants.{Row as AsRow};
 ghost use Rattle.ygg_sym_expr.specs.Exprs.{applied, equal_made, id_in, part_made, unequal_made, word_made};
 ghost use Rattle.ygg_sym_expr.specs.Meaning.{SomeShape};
 ghost use Rattle.ygg_sym_expr.specs.Seen.{CanOperate};
-ghost use Rattle.ygg_shape_cells.specs.Terms.{AreAlike};
+ghost use Rattle.ygg_shape.specs.ygg_shape_cells.Terms.{AreAlike};
 
 use std::alloc::Global;
-use ygg_bank::{Bank, Id, NoMemory, Node};
-use ygg_rules::Book;
-use ygg_shape::{SymRow, SymValue, equal, select, select_word};
+use ygg_shape::{Bank, Book, Id, NoMemory, Node, SymRow, SymValue, equal, select, select_word};
 use ygg_value::Op;
 
 /// The term that a value is; the first term for a row or a table.

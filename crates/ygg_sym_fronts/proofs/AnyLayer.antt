@@ -2,9 +2,9 @@
 use Rattle.std.proofs.Common.{List, sym, subst}
 use Rattle.ygg_syntax.specs.declared.grammar.BlockKind.TheVariants.{Impl}
 use Rattle.ygg_syntax.specs.declared.tree.Declared.{Declared}
-use Rattle.ygg_meaning.specs.Layer.{ClosedLayer}
-use Rattle.ygg_sym_laws.specs.Below.{signatures_on}
-use Rattle.ygg_sym_laws.specs.Typed.{BlockTyped}
+use Rattle.ygg_sym_laws_disk.specs.ygg_meaning.Layer.{ClosedLayer}
+use Rattle.ygg_sym_laws_disk.specs.ygg_sym_laws.Below.{signatures_on}
+use Rattle.ygg_sym_laws_disk.specs.ygg_sym_laws.Typed.{BlockTyped}
 use Rattle.ygg_sym_fronts.proofs.Falls.{fall_named}
 use Rattle.ygg_sym_fronts.proofs.Others.{loss_named}
 use Rattle.ygg_sym_fronts.proofs.Wholes.{whole_named}

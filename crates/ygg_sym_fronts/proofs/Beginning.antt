@@ -7,30 +7,30 @@ use Rattle.ygg_syntax.specs.declared.tree.Block.{Block}
 use Rattle.ygg_syntax.specs.declared.tree.Declared.{Declared}
 use Rattle.ygg_syntax.specs.declared.tree.Def.{Def}
 use Rattle.ygg_syntax.specs.declared.tree.Layer.{Layer}
-use Rattle.ygg_type_rules.specs.TypeErrors.{none}
-use Rattle.ygg_type_rules.specs.Definitions.{definitions_errors}
-use Rattle.ygg_meaning.specs.Environments.{Name}
-use Rattle.ygg_meaning.specs.Layer.{ClosedLayer}
-use Rattle.ygg_meaning.specs.Meaning.{Functions, functions_of}
-use Rattle.ygg_meaning.specs.Refines.{Below}
-use Rattle.ygg_meaning.specs.Shapes.{env_fits}
-use Rattle.ygg_type_progress.specs.Questions.{plain}
-use Rattle.ygg_type_sound.specs.Agrees.{Agrees}
-use Rattle.ygg_rules.specs.declared.rule.RuleKind.{RuleKind}
-use Rattle.ygg_bank.specs.Values.{Inputs, Values, Fits}
-use Rattle.ygg_bank.specs.declared.node.Node.{Node}
-use Rattle.ygg_shape_cells.specs.Terms.{worth}
-use Rattle.ygg_shape_cells.specs.declared.terms.SymValue.{SymValue}
-use Rattle.ygg_sym_expr.specs.Meaning.{EnvShaped, worths}
-use Rattle.ygg_sym_expr.specs.Names.{sym_bind}
-use Rattle.ygg_sym_runs.proofs.Parts.{InScope}
-use Rattle.ygg_sym_runs.proofs.Worths.{NameShaped}
-use Rattle.ygg_sym_below.proofs.Blocks.{values_worth}
-use Rattle.ygg_sym_below.proofs.Lows.{low_fits}
-use Rattle.ygg_sym_below.proofs.Specs.{bound_worth, low_shaped}
-use Rattle.ygg_sym_laws.specs.Below.{lows_on, signatures_on}
-use Rattle.ygg_sym_laws.specs.Means.{Values3, Begins}
-use Rattle.ygg_sym_laws.specs.Typed.{BlockTyped, BelowTyped}
+use Rattle.ygg_sym_laws_disk.specs.ygg_type_rules.TypeErrors.{none}
+use Rattle.ygg_sym_laws_disk.specs.ygg_type_rules.Definitions.{definitions_errors}
+use Rattle.ygg_sym_laws_disk.specs.ygg_meaning.Environments.{Name}
+use Rattle.ygg_sym_laws_disk.specs.ygg_meaning.Layer.{ClosedLayer}
+use Rattle.ygg_sym_laws_disk.specs.ygg_meaning.Meaning.{Functions, functions_of}
+use Rattle.ygg_sym_laws_disk.specs.ygg_meaning.Refines.{Below}
+use Rattle.ygg_sym_laws_disk.specs.ygg_meaning.Shapes.{env_fits}
+use Rattle.ygg_sym_laws_disk.specs.ygg_type_progress.Questions.{plain}
+use Rattle.ygg_sym_laws_disk.specs.ygg_type_sound.Agrees.{Agrees}
+use Rattle.ygg_sym_laws_disk.specs.ygg_rules.declared.rule.RuleKind.{RuleKind}
+use Rattle.ygg_sym_laws_disk.specs.ygg_bank.Values.{Inputs, Values, Fits}
+use Rattle.ygg_sym_laws_disk.specs.ygg_bank.declared.node.Node.{Node}
+use Rattle.ygg_sym_laws_disk.specs.ygg_shape_cells.Terms.{worth}
+use Rattle.ygg_sym_laws_disk.specs.ygg_shape_cells.declared.terms.SymValue.{SymValue}
+use Rattle.ygg_sym_laws_disk.specs.ygg_sym_expr.Meaning.{EnvShaped, worths}
+use Rattle.ygg_sym_laws_disk.specs.ygg_sym_expr.Names.{sym_bind}
+use Rattle.ygg_sym_laws_disk.proofs.of_ygg_sym_runs.Parts.{InScope}
+use Rattle.ygg_sym_laws_disk.proofs.of_ygg_sym_runs.Worths.{NameShaped}
+use Rattle.ygg_sym_laws_disk.proofs.of_ygg_sym_below.Blocks.{values_worth}
+use Rattle.ygg_sym_laws_disk.specs.ygg_sym_below_proofs_Lows.{low_fits}
+use Rattle.ygg_sym_laws_disk.specs.ygg_sym_below_proofs_Specs.{bound_worth, low_shaped}
+use Rattle.ygg_sym_laws_disk.specs.ygg_sym_laws.Below.{lows_on, signatures_on}
+use Rattle.ygg_sym_laws_disk.specs.ygg_sym_laws.Means.{Values3, Begins}
+use Rattle.ygg_sym_laws_disk.specs.ygg_sym_laws.Typed.{BlockTyped, BelowTyped}
 use Rattle.ygg_fronts.specs.Laws.{Stands}
 use Rattle.ygg_sym_fronts.proofs.Machines.{terms, names, growing, meant}
 use Rattle.ygg_sym_fronts.specs.Named.{memory_worth, given_worth, below_worth}

@@ -5,28 +5,28 @@ use Rattle.ygg_syntax.specs.declared.tree.Block.{Block}
 use Rattle.ygg_syntax.specs.declared.tree.Declared.{Declared}
 use Rattle.ygg_syntax.specs.declared.tree.Def.{Def}
 use Rattle.ygg_syntax.specs.declared.tree.Layer.{Layer}
-use Rattle.ygg_type_rules.specs.TypeErrors.{none}
-use Rattle.ygg_type_rules.specs.Statements.{walked, return_errors}
-use Rattle.ygg_type_rules.specs.Statements as rules
-use Rattle.ygg_type_rules.specs.Definitions.{definitions_errors}
-use Rattle.ygg_type_sound.proofs.Tests.{left as first_of}
-use Rattle.ygg_meaning.specs.Environments.{Name, Env}
-use Rattle.ygg_meaning.specs.Layer.{ClosedLayer}
-use Rattle.ygg_meaning.specs.Machine.{State, based}
-use Rattle.ygg_meaning.specs.Meaning.{Functions, functions_of}
-use Rattle.ygg_meaning.specs.Refines.{Below}
-use Rattle.ygg_type_progress.specs.Blocks.{eval_with}
-use Rattle.ygg_rules.specs.declared.rule.RuleKind.{RuleKind}
-use Rattle.ygg_bank.proofs.Meaning.{fits_fewer}
-use Rattle.ygg_direct.specs.Direct.{Reached, direct_run}
-use Rattle.ygg_sym_expr.specs.Meaning.{worths}
-use Rattle.ygg_sym_expr.specs.Names.{sym_bind}
-use Rattle.ygg_sym_below.specs.Laws.{picked_by}
-use Rattle.ygg_sym_below.specs.Lows.{low_worth}
-use Rattle.ygg_sym_below.proofs.Fallen.{FallenIs, fallen_grows, fallen_gives}
-use Rattle.ygg_sym_laws.specs.Below.{lows_on, signatures_on, places_on, machine_on, stops_on}
-use Rattle.ygg_sym_laws.specs.Means.{cut_run}
-use Rattle.ygg_sym_laws.specs.Typed.{BlockTyped, BelowTyped}
+use Rattle.ygg_sym_laws_disk.specs.ygg_type_rules.TypeErrors.{none}
+use Rattle.ygg_sym_laws_disk.specs.ygg_type_rules.Statements.{walked, return_errors}
+use Rattle.ygg_sym_laws_disk.specs.ygg_type_rules.Statements as rules
+use Rattle.ygg_sym_laws_disk.specs.ygg_type_rules.Definitions.{definitions_errors}
+use Rattle.ygg_sym_laws_disk.specs.ygg_type_sound_proofs_Tests.{left as first_of}
+use Rattle.ygg_sym_laws_disk.specs.ygg_meaning.Environments.{Name, Env}
+use Rattle.ygg_sym_laws_disk.specs.ygg_meaning.Layer.{ClosedLayer}
+use Rattle.ygg_sym_laws_disk.specs.ygg_meaning.Machine.{State, based}
+use Rattle.ygg_sym_laws_disk.specs.ygg_meaning.Meaning.{Functions, functions_of}
+use Rattle.ygg_sym_laws_disk.specs.ygg_meaning.Refines.{Below}
+use Rattle.ygg_sym_laws_disk.specs.ygg_type_progress.Blocks.{eval_with}
+use Rattle.ygg_sym_laws_disk.specs.ygg_rules.declared.rule.RuleKind.{RuleKind}
+use Rattle.ygg_sym_laws_disk.specs.ygg_bank_proofs_Meaning.{fits_fewer}
+use Rattle.ygg_sym_laws_disk.specs.ygg_direct.Direct.{Reached, direct_run}
+use Rattle.ygg_sym_laws_disk.specs.ygg_sym_expr.Meaning.{worths}
+use Rattle.ygg_sym_laws_disk.specs.ygg_sym_expr.Names.{sym_bind}
+use Rattle.ygg_sym_laws_disk.specs.ygg_sym_below.Laws.{picked_by}
+use Rattle.ygg_sym_laws_disk.specs.ygg_sym_below.Lows.{low_worth}
+use Rattle.ygg_sym_laws_disk.proofs.of_ygg_sym_below.Fallen.{FallenIs, fallen_grows, fallen_gives}
+use Rattle.ygg_sym_laws_disk.specs.ygg_sym_laws.Below.{lows_on, signatures_on, places_on, machine_on, stops_on}
+use Rattle.ygg_sym_laws_disk.specs.ygg_sym_laws.Means.{cut_run}
+use Rattle.ygg_sym_laws_disk.specs.ygg_sym_laws.Typed.{BlockTyped, BelowTyped}
 use Rattle.ygg_fronts.specs.Fronts.{handle_on, cut_on, lose_on, run_by_place}
 use Rattle.ygg_fronts.proofs.NamedRuns.{cut_runs}
 use Rattle.ygg_sym_fronts.proofs.Beginning.{layer_on, begun}

@@ -2,33 +2,33 @@
 use Rattle.std.proofs.Common.{◌≡◌, ◌==◌, ◌+◌, ℕ, true, false, List, [], ◌∷◌, reverse, refl, sym, subst, arith}
 use Rattle.ygg_syntax.specs.declared.grammar.BlockKind.TheVariants.{Impl}
 use Rattle.ygg_syntax.specs.declared.tree.Def.{Def}
-use Rattle.ygg_symbols.specs.Names.{Named}
-use Rattle.ygg_type_rules.specs.declared.scope.Signature.{Signature}
-use Rattle.ygg_type_rules.specs.TypeErrors.{none}
-use Rattle.ygg_type_rules.specs.Definitions.{definitions_errors, with_definitions}
-use Rattle.ygg_meaning.specs.Environments.{Env}
-use Rattle.ygg_meaning.specs.Machine.{State}
-use Rattle.ygg_meaning.specs.Meaning.{Functions, functions_of}
-use Rattle.ygg_meaning.specs.Refines.{Below, OnDisk, OnSpec}
-use Rattle.ygg_direct.specs.DiskActs.{disk_acts}
-use Rattle.ygg_direct.specs.RunPlaces.{cut_by}
-use Rattle.ygg_rules.specs.declared.rule.RuleKind.{RuleKind}
-use Rattle.ygg_bank.specs.Values.{Inputs, Values}
-use Rattle.ygg_shape_cells.specs.declared.terms.SymValue.{SymValue}
-use Rattle.ygg_sym_expr.proofs.Definitions.{functions_mean}
-use Rattle.ygg_sym_expr.proofs.Grows.{FunctionsGrow, functions_grow}
-use Rattle.ygg_sym_expr.proofs.Values.{FunctionsMean}
-use Rattle.ygg_sym_expr.specs.Exprs.{SymFunctions}
-use Rattle.ygg_sym_runs.specs.Meaning.{Low, MachineMeans}
-use Rattle.ygg_sym_below.specs.Laws.{picked_by}
-use Rattle.ygg_sym_below.proofs.Cuts.{disk_stops_mean}
-use Rattle.ygg_sym_below.proofs.Disks.{disk_means}
-use Rattle.ygg_sym_below.proofs.Lows.{low_of}
-use Rattle.ygg_sym_below.proofs.SpecStops.{vars_of, spec_stops_mean}
-use Rattle.ygg_sym_below.proofs.StopMeaning.{StopsMean}
-use Rattle.ygg_sym_laws.specs.Below.{lows_on, signatures_on, space_on, machine_on, stops_on}
-use Rattle.ygg_sym_laws.specs.Means.{terms_of}
-use Rattle.ygg_sym_laws.specs.Typed.{SpecTyped, BelowTyped}
+use Rattle.ygg_sym_laws_disk.specs.ygg_symbols.Names.{Named}
+use Rattle.ygg_sym_laws_disk.specs.ygg_type_rules.declared.scope.Signature.{Signature}
+use Rattle.ygg_sym_laws_disk.specs.ygg_type_rules.TypeErrors.{none}
+use Rattle.ygg_sym_laws_disk.specs.ygg_type_rules.Definitions.{definitions_errors, with_definitions}
+use Rattle.ygg_sym_laws_disk.specs.ygg_meaning.Environments.{Env}
+use Rattle.ygg_sym_laws_disk.specs.ygg_meaning.Machine.{State}
+use Rattle.ygg_sym_laws_disk.specs.ygg_meaning.Meaning.{Functions, functions_of}
+use Rattle.ygg_sym_laws_disk.specs.ygg_meaning.Refines.{Below, OnDisk, OnSpec}
+use Rattle.ygg_sym_laws_disk.specs.ygg_direct.DiskActs.{disk_acts}
+use Rattle.ygg_sym_laws_disk.specs.ygg_direct.RunPlaces.{cut_by}
+use Rattle.ygg_sym_laws_disk.specs.ygg_rules.declared.rule.RuleKind.{RuleKind}
+use Rattle.ygg_sym_laws_disk.specs.ygg_bank.Values.{Inputs, Values}
+use Rattle.ygg_sym_laws_disk.specs.ygg_shape_cells.declared.terms.SymValue.{SymValue}
+use Rattle.ygg_sym_laws_disk.specs.ygg_sym_expr_proofs_Definitions.{functions_mean}
+use Rattle.ygg_sym_laws_disk.specs.ygg_sym_expr_proofs_Grows.{FunctionsGrow, functions_grow}
+use Rattle.ygg_sym_laws_disk.specs.ygg_sym_expr_proofs_Values.{FunctionsMean}
+use Rattle.ygg_sym_laws_disk.specs.ygg_sym_expr.Exprs.{SymFunctions}
+use Rattle.ygg_sym_laws_disk.specs.ygg_sym_runs.Meaning.{Low, MachineMeans}
+use Rattle.ygg_sym_laws_disk.specs.ygg_sym_below.Laws.{picked_by}
+use Rattle.ygg_sym_laws_disk.specs.ygg_sym_below_proofs_Cuts.{disk_stops_mean}
+use Rattle.ygg_sym_laws_disk.specs.ygg_sym_below_proofs_Disks.{disk_means}
+use Rattle.ygg_sym_laws_disk.specs.ygg_sym_below_proofs_Lows.{low_of}
+use Rattle.ygg_sym_laws_disk.specs.ygg_sym_below_proofs_SpecStops.{vars_of, spec_stops_mean}
+use Rattle.ygg_sym_laws_disk.proofs.of_ygg_sym_below.StopMeaning.{StopsMean}
+use Rattle.ygg_sym_laws_disk.specs.ygg_sym_laws.Below.{lows_on, signatures_on, space_on, machine_on, stops_on}
+use Rattle.ygg_sym_laws_disk.specs.ygg_sym_laws.Means.{terms_of}
+use Rattle.ygg_sym_laws_disk.specs.ygg_sym_laws.Typed.{SpecTyped, BelowTyped}
 use Rattle.ygg_sym_laws_spec.proofs.Begun.{falls_typed, laws}
 use Rattle.ygg_fronts.specs.Fronts.{handle_on, cut_on, lose_on}
 

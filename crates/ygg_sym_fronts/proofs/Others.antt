@@ -2,24 +2,24 @@
 use Rattle.std.proofs.Common.{◌≡◌, ℕ, true, List, [], sym, ap, subst}
 use Rattle.ygg_syntax.specs.declared.tree.Def.{Def}
 use Rattle.ygg_syntax.specs.declared.tree.Layer.{Layer}
-use Rattle.ygg_type_rules.specs.TypeErrors.{none}
-use Rattle.ygg_type_rules.specs.Definitions.{definitions_errors}
-use Rattle.ygg_meaning.specs.Environments.{Env}
-use Rattle.ygg_meaning.specs.Layer.{ClosedLayer}
-use Rattle.ygg_meaning.specs.Machine.{State, based}
-use Rattle.ygg_meaning.specs.Meaning.{Functions}
-use Rattle.ygg_meaning.specs.Refines.{Below, OnDisk, OnSpec, machine_below}
-use Rattle.ygg_rules.specs.declared.rule.RuleKind.{RuleKind}
-use Rattle.ygg_bank.proofs.Meaning.{fits_fewer}
-use Rattle.ygg_bank.specs.Values.{Inputs, Values, Fits}
-use Rattle.ygg_bank.specs.declared.node.Node.{Node}
-use Rattle.ygg_shape_cells.specs.declared.terms.SymValue.{SymValue}
-use Rattle.ygg_sym_below.specs.Laws.{picked_by}
-use Rattle.ygg_sym_below.specs.Lows.{LowShaped, low_worth}
-use Rattle.ygg_sym_below.proofs.Lows.{low_fits}
-use Rattle.ygg_sym_laws.specs.Below.{lows_on, lost_made}
-use Rattle.ygg_sym_laws.specs.Means.{terms_of, StartMeans}
-use Rattle.ygg_sym_laws.specs.Typed.{BelowTyped}
+use Rattle.ygg_sym_laws_disk.specs.ygg_type_rules.TypeErrors.{none}
+use Rattle.ygg_sym_laws_disk.specs.ygg_type_rules.Definitions.{definitions_errors}
+use Rattle.ygg_sym_laws_disk.specs.ygg_meaning.Environments.{Env}
+use Rattle.ygg_sym_laws_disk.specs.ygg_meaning.Layer.{ClosedLayer}
+use Rattle.ygg_sym_laws_disk.specs.ygg_meaning.Machine.{State, based}
+use Rattle.ygg_sym_laws_disk.specs.ygg_meaning.Meaning.{Functions}
+use Rattle.ygg_sym_laws_disk.specs.ygg_meaning.Refines.{Below, OnDisk, OnSpec, machine_below}
+use Rattle.ygg_sym_laws_disk.specs.ygg_rules.declared.rule.RuleKind.{RuleKind}
+use Rattle.ygg_sym_laws_disk.specs.ygg_bank_proofs_Meaning.{fits_fewer}
+use Rattle.ygg_sym_laws_disk.specs.ygg_bank.Values.{Inputs, Values, Fits}
+use Rattle.ygg_sym_laws_disk.specs.ygg_bank.declared.node.Node.{Node}
+use Rattle.ygg_sym_laws_disk.specs.ygg_shape_cells.declared.terms.SymValue.{SymValue}
+use Rattle.ygg_sym_laws_disk.specs.ygg_sym_below.Laws.{picked_by}
+use Rattle.ygg_sym_laws_disk.specs.ygg_sym_below.Lows.{LowShaped, low_worth}
+use Rattle.ygg_sym_laws_disk.specs.ygg_sym_below_proofs_Lows.{low_fits}
+use Rattle.ygg_sym_laws_disk.specs.ygg_sym_laws.Below.{lows_on, lost_made}
+use Rattle.ygg_sym_laws_disk.specs.ygg_sym_laws.Means.{terms_of, StartMeans}
+use Rattle.ygg_sym_laws_disk.specs.ygg_sym_laws.Typed.{BelowTyped}
 use Rattle.ygg_sym_laws_disk.proofs.Start.{disk_start}
 use Rattle.ygg_sym_laws_spec.proofs.AnyLayer.{spec_start}
 use Rattle.ygg_fronts.specs.Fronts.{lose_on, loss_picks, low_at_start}

@@ -6,34 +6,34 @@ use Rattle.ygg_syntax.specs.declared.tree.Block.{Block}
 use Rattle.ygg_syntax.specs.declared.tree.Declared.{Declared}
 use Rattle.ygg_syntax.specs.declared.tree.Def.{Def}
 use Rattle.ygg_syntax.specs.declared.tree.Layer.{Layer}
-use Rattle.ygg_type_rules.specs.TypeErrors.{none}
-use Rattle.ygg_type_rules.specs.Definitions.{definitions_errors}
-use Rattle.ygg_meaning.specs.Environments.{Name, Env}
-use Rattle.ygg_meaning.specs.Layer.{ClosedLayer, BlockRuns}
-use Rattle.ygg_meaning.specs.Machine.{State, on, based}
-use Rattle.ygg_meaning.specs.Meaning.{Functions, functions_of}
-use Rattle.ygg_meaning.specs.Progress.{Answer, answer_of}
-use Rattle.ygg_meaning.specs.Refines.{Below, machine_below}
-use Rattle.ygg_meaning.specs.Shapes.{env_fits}
-use Rattle.ygg_type_progress.specs.Blocks.{eval_with}
-use Rattle.ygg_type_progress.specs.Questions.{Follows}
-use Rattle.ygg_type_progress.proofs.Following.{follows_front, fits_after}
-use Rattle.ygg_rules.specs.declared.rule.RuleKind.{RuleKind}
-use Rattle.ygg_bank.proofs.Meaning.{fits_fewer}
-use Rattle.ygg_shape_cells.specs.Terms.{worth}
-use Rattle.ygg_shape_cells.specs.declared.terms.SymValue.{SymValue}
-use Rattle.ygg_direct.specs.Direct.{Reached, direct_run}
-use Rattle.ygg_sym_expr.specs.Meaning.{worths}
-use Rattle.ygg_sym_expr.specs.Names.{sym_bind}
-use Rattle.ygg_sym_runs.specs.Meaning.{answer_worth}
-use Rattle.ygg_sym_below.specs.Laws.{picked_by}
-use Rattle.ygg_sym_below.specs.Lows.{low_worth}
-use Rattle.ygg_sym_below.proofs.Specs.{bound_worth}
-use Rattle.ygg_sym_below.proofs.Whole.{whole_grows, whole_gives}
-use Rattle.ygg_sym_laws.specs.Below.{lows_on, signatures_on, machine_on}
-use Rattle.ygg_sym_laws.specs.Means.{values_in, whole_run}
-use Rattle.ygg_sym_laws.specs.Typed.{BlockTyped, BelowTyped}
-use Rattle.ygg_sym_laws.proofs.Begun.{named_again}
+use Rattle.ygg_sym_laws_disk.specs.ygg_type_rules.TypeErrors.{none}
+use Rattle.ygg_sym_laws_disk.specs.ygg_type_rules.Definitions.{definitions_errors}
+use Rattle.ygg_sym_laws_disk.specs.ygg_meaning.Environments.{Name, Env}
+use Rattle.ygg_sym_laws_disk.specs.ygg_meaning.Layer.{ClosedLayer, BlockRuns}
+use Rattle.ygg_sym_laws_disk.specs.ygg_meaning.Machine.{State, on, based}
+use Rattle.ygg_sym_laws_disk.specs.ygg_meaning.Meaning.{Functions, functions_of}
+use Rattle.ygg_sym_laws_disk.specs.ygg_meaning.Progress.{Answer, answer_of}
+use Rattle.ygg_sym_laws_disk.specs.ygg_meaning.Refines.{Below, machine_below}
+use Rattle.ygg_sym_laws_disk.specs.ygg_meaning.Shapes.{env_fits}
+use Rattle.ygg_sym_laws_disk.specs.ygg_type_progress.Blocks.{eval_with}
+use Rattle.ygg_sym_laws_disk.specs.ygg_type_progress.Questions.{Follows}
+use Rattle.ygg_sym_laws_disk.specs.ygg_type_progress_proofs_Following.{follows_front, fits_after}
+use Rattle.ygg_sym_laws_disk.specs.ygg_rules.declared.rule.RuleKind.{RuleKind}
+use Rattle.ygg_sym_laws_disk.specs.ygg_bank_proofs_Meaning.{fits_fewer}
+use Rattle.ygg_sym_laws_disk.specs.ygg_shape_cells.Terms.{worth}
+use Rattle.ygg_sym_laws_disk.specs.ygg_shape_cells.declared.terms.SymValue.{SymValue}
+use Rattle.ygg_sym_laws_disk.specs.ygg_direct.Direct.{Reached, direct_run}
+use Rattle.ygg_sym_laws_disk.specs.ygg_sym_expr.Meaning.{worths}
+use Rattle.ygg_sym_laws_disk.specs.ygg_sym_expr.Names.{sym_bind}
+use Rattle.ygg_sym_laws_disk.specs.ygg_sym_runs.Meaning.{answer_worth}
+use Rattle.ygg_sym_laws_disk.specs.ygg_sym_below.Laws.{picked_by}
+use Rattle.ygg_sym_laws_disk.specs.ygg_sym_below.Lows.{low_worth}
+use Rattle.ygg_sym_laws_disk.specs.ygg_sym_below_proofs_Specs.{bound_worth}
+use Rattle.ygg_sym_laws_disk.specs.ygg_sym_below_proofs_Whole.{whole_grows, whole_gives}
+use Rattle.ygg_sym_laws_disk.specs.ygg_sym_laws.Below.{lows_on, signatures_on, machine_on}
+use Rattle.ygg_sym_laws_disk.specs.ygg_sym_laws.Means.{values_in, whole_run}
+use Rattle.ygg_sym_laws_disk.specs.ygg_sym_laws.Typed.{BlockTyped, BelowTyped}
+use Rattle.ygg_sym_laws_disk.proofs.of_ygg_sym_laws.Begun.{named_again}
 use Rattle.ygg_fronts.specs.Fronts.{handle_on, run_by_place, run_picks, answer_by_place, state_by_place}
 use Rattle.ygg_fronts.proofs.NamedRuns.{whole_runs}
 use Rattle.ygg_sym_fronts.proofs.Beginning.{layer_on, begun}

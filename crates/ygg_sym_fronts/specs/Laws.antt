@@ -4,14 +4,14 @@ use Rattle.ygg_syntax.specs.declared.grammar.BlockKind.TheVariants.{Impl}
 use Rattle.ygg_syntax.specs.declared.tree.Block.{Block}
 use Rattle.ygg_syntax.specs.declared.tree.Declared.{Declared}
 use Rattle.ygg_syntax.specs.declared.tree.Def.{Def}
-use Rattle.ygg_type_rules.specs.Definitions.{definitions_errors}
-use Rattle.ygg_type_rules.specs.TypeErrors.{none}
-use Rattle.ygg_meaning.specs.Layer.{ClosedLayer}
-use Rattle.ygg_meaning.specs.Meaning.{functions_of}
-use Rattle.ygg_meaning.specs.Refines.{Below}
-use Rattle.ygg_rules.specs.declared.rule.RuleKind.{RuleKind}
-use Rattle.ygg_sym_laws.specs.Below.{lows_on, signatures_on}
-use Rattle.ygg_sym_laws.specs.Typed.{BlockTyped, BelowTyped}
+use Rattle.ygg_sym_laws_disk.specs.ygg_type_rules.Definitions.{definitions_errors}
+use Rattle.ygg_sym_laws_disk.specs.ygg_type_rules.TypeErrors.{none}
+use Rattle.ygg_sym_laws_disk.specs.ygg_meaning.Layer.{ClosedLayer}
+use Rattle.ygg_sym_laws_disk.specs.ygg_meaning.Meaning.{functions_of}
+use Rattle.ygg_sym_laws_disk.specs.ygg_meaning.Refines.{Below}
+use Rattle.ygg_sym_laws_disk.specs.ygg_rules.declared.rule.RuleKind.{RuleKind}
+use Rattle.ygg_sym_laws_disk.specs.ygg_sym_laws.Below.{lows_on, signatures_on}
+use Rattle.ygg_sym_laws_disk.specs.ygg_sym_laws.Typed.{BlockTyped, BelowTyped}
 use Rattle.ygg_sym_fronts.specs.Named.{LossNamed, StartNamed, RunNamed, FallNamed}
 
 -- what a layer is specified over, and the file's definitions, without a type error

@@ -3,22 +3,22 @@ use Rattle.std.specs.Prelude.{◌≡◌, ℕ, Bool, List, is_some, Some}
 use Rattle.ygg_syntax.specs.declared.tree.Block.{Block}
 use Rattle.ygg_syntax.specs.declared.tree.Declared.{Declared}
 use Rattle.ygg_syntax.specs.declared.tree.Def.{Def}
-use Rattle.ygg_meaning.specs.Environments.{Env}
-use Rattle.ygg_meaning.specs.Layer.{ClosedLayer, BlockRuns}
-use Rattle.ygg_meaning.specs.Machine.{State, on, based}
-use Rattle.ygg_meaning.specs.Obligations.{Halt}
-use Rattle.ygg_meaning.specs.Refines.{Below, machine_below}
-use Rattle.ygg_rules.specs.declared.rule.RuleKind.{RuleKind}
-use Rattle.ygg_bank.specs.Values.{Inputs, Values, Fits}
-use Rattle.ygg_bank.specs.declared.node.Node.{Node}
-use Rattle.ygg_shape_cells.specs.declared.terms.SymValue.{SymValue}
-use Rattle.ygg_sym_runs.specs.Meaning.{answer_worth, is_set}
-use Rattle.ygg_sym_below.specs.Laws.{picked_by}
-use Rattle.ygg_sym_below.specs.Lows.{LowShaped, low_worth}
-use Rattle.ygg_sym_below.specs.StopTerms.{SymFallen}
-use Rattle.ygg_sym_below.specs.Wholes.{SymFinish}
-use Rattle.ygg_sym_laws.specs.Below.{lost_made, lows_at_start}
-use Rattle.ygg_sym_laws.specs.Means.{values_in, terms_of, Values3, Begins, whole_run, cut_run}
+use Rattle.ygg_sym_laws_disk.specs.ygg_meaning.Environments.{Env}
+use Rattle.ygg_sym_laws_disk.specs.ygg_meaning.Layer.{ClosedLayer, BlockRuns}
+use Rattle.ygg_sym_laws_disk.specs.ygg_meaning.Machine.{State, on, based}
+use Rattle.ygg_sym_laws_disk.specs.ygg_meaning.Obligations.{Halt}
+use Rattle.ygg_sym_laws_disk.specs.ygg_meaning.Refines.{Below, machine_below}
+use Rattle.ygg_sym_laws_disk.specs.ygg_rules.declared.rule.RuleKind.{RuleKind}
+use Rattle.ygg_sym_laws_disk.specs.ygg_bank.Values.{Inputs, Values, Fits}
+use Rattle.ygg_sym_laws_disk.specs.ygg_bank.declared.node.Node.{Node}
+use Rattle.ygg_sym_laws_disk.specs.ygg_shape_cells.declared.terms.SymValue.{SymValue}
+use Rattle.ygg_sym_laws_disk.specs.ygg_sym_runs.Meaning.{answer_worth, is_set}
+use Rattle.ygg_sym_laws_disk.specs.ygg_sym_below.Laws.{picked_by}
+use Rattle.ygg_sym_laws_disk.specs.ygg_sym_below.Lows.{LowShaped, low_worth}
+use Rattle.ygg_sym_laws_disk.specs.ygg_sym_below.StopTerms.{SymFallen}
+use Rattle.ygg_sym_laws_disk.specs.ygg_sym_below.Wholes.{SymFinish}
+use Rattle.ygg_sym_laws_disk.specs.ygg_sym_laws.Below.{lost_made, lows_at_start}
+use Rattle.ygg_sym_laws_disk.specs.ygg_sym_laws.Means.{values_in, terms_of, Values3, Begins, whole_run, cut_run}
 use Rattle.ygg_fronts.specs.Fronts.{
   lose_on,
   loss_picks,

@@ -1,3 +1,11 @@
+pub use Rattle.ygg_sym_below.proofs.of_ygg_bank
+pub use Rattle.ygg_sym_below.proofs.of_ygg_direct
+pub use Rattle.ygg_sym_below.proofs.of_ygg_histories
+pub use Rattle.ygg_sym_below.proofs.of_ygg_shape
+pub use Rattle.ygg_sym_below.proofs as of_ygg_sym_below
+pub use Rattle.ygg_sym_below.proofs.of_ygg_sym_expr
+pub use Rattle.ygg_sym_below.proofs.of_ygg_sym_runs
+pub use Rattle.ygg_sym_below.proofs.of_ygg_type_progress
 pub use Rattle.ygg_sym_below.proofs.DiskKeeps
 pub use Rattle.ygg_sym_below.proofs.Stopping
 pub use Rattle.ygg_sym_below.proofs.SameStops

@@ -2,20 +2,20 @@
 use Rattle.std.specs.Prelude.{ℕ, List, [], ◌∷◌, map}
 use Rattle.ygg_syntax.specs.declared.tree.Declared.{Declared}
 use Rattle.ygg_syntax.specs.declared.tree.Block.{Block}
-use Rattle.ygg_symbols.specs.Names.{Named}
-use Rattle.ygg_type_rules.specs.declared.scope.Signature.{Signature}
-use Rattle.ygg_type_rules.specs.Files.{disk_operations}
-use Rattle.ygg_meaning.specs.Environments.{Name}
-use Rattle.ygg_meaning.specs.Shapes.{shape_in}
-use Rattle.ygg_meaning.specs.Refines.{Below, OnDisk, OnSpec}
-use Rattle.ygg_histories.specs.Stack.{tables_of}
-use Rattle.ygg_type_rules.specs.Layers.{operation_signature}
+use Rattle.ygg_sym_below.specs.ygg_symbols.Names.{Named}
+use Rattle.ygg_sym_below.specs.ygg_type_rules.declared.scope.Signature.{Signature}
+use Rattle.ygg_sym_below.specs.ygg_type_rules.Files.{disk_operations}
+use Rattle.ygg_sym_below.specs.ygg_meaning.Environments.{Name}
+use Rattle.ygg_sym_below.specs.ygg_meaning.Shapes.{shape_in}
+use Rattle.ygg_sym_below.specs.ygg_meaning.Refines.{Below, OnDisk, OnSpec}
+use Rattle.ygg_sym_below.specs.ygg_histories.Stack.{tables_of}
+use Rattle.ygg_sym_below.specs.ygg_type_rules.Layers.{operation_signature}
 use Rattle.ygg_syntax.specs.declared.tree.Operation.{Operation}
-use Rattle.ygg_meaning.specs.Layer.{ClosedLayer}
-use Rattle.ygg_rules.specs.declared.rule.RuleKind.{RuleKind}
-use Rattle.ygg_bank.specs.Makes.{Make, pure, and_make}
-use Rattle.ygg_shape_cells.specs.declared.terms.SymValue.{SymValue}
-use Rattle.ygg_shape.specs.Wholes.{zero_made}
+use Rattle.ygg_sym_below.specs.ygg_meaning.Layer.{ClosedLayer}
+use Rattle.ygg_sym_below.specs.ygg_rules.declared.rule.RuleKind.{RuleKind}
+use Rattle.ygg_sym_below.specs.ygg_bank.Makes.{Make, pure, and_make}
+use Rattle.ygg_sym_below.specs.ygg_shape_cells.declared.terms.SymValue.{SymValue}
+use Rattle.ygg_sym_below.specs.ygg_shape.Wholes.{zero_made}
 use Rattle.ygg_sym_below.specs.Direct.{room_of}
 use Rattle.ygg_sym_below.specs.RunPlaces.{disk_space, spec_space}
 use Rattle.ygg_sym_below.specs.Names.{SymEnv}

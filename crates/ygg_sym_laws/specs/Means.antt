@@ -4,21 +4,21 @@ use Rattle.ygg_value.specs.declared.shape.Shape.{Shape}
 use Rattle.ygg_syntax.specs.declared.tree.Declared.{Declared}
 use Rattle.ygg_syntax.specs.declared.tree.Def.{Def}
 use Rattle.ygg_syntax.specs.declared.tree.Block.{Block}
-use Rattle.ygg_meaning.specs.Environments.{Env}
-use Rattle.ygg_meaning.specs.Shapes.{env_fits}
-use Rattle.ygg_meaning.specs.Progress.{Answer}
-use Rattle.ygg_meaning.specs.Machine.{Picks, State, based, on, Machine}
-use Rattle.ygg_meaning.specs.Layer.{ClosedLayer, BlockRuns, BlockFalls}
-use Rattle.ygg_meaning.specs.Obligations.{Halt, StopsAt}
-use Rattle.ygg_meaning.specs.Refines.{Below, machine_below}
+use Rattle.ygg_sym_below.specs.ygg_meaning.Environments.{Env}
+use Rattle.ygg_sym_below.specs.ygg_meaning.Shapes.{env_fits}
+use Rattle.ygg_sym_below.specs.ygg_meaning.Progress.{Answer}
+use Rattle.ygg_sym_below.specs.ygg_meaning.Machine.{Picks, State, based, on, Machine}
+use Rattle.ygg_sym_below.specs.ygg_meaning.Layer.{ClosedLayer, BlockRuns, BlockFalls}
+use Rattle.ygg_sym_below.specs.ygg_meaning.Obligations.{Halt, StopsAt}
+use Rattle.ygg_sym_below.specs.ygg_meaning.Refines.{Below, machine_below}
 use Rattle.ygg_sym_below.specs.Blocks.{is_returned}
-use Rattle.ygg_rules.specs.declared.rule.RuleKind.{RuleKind}
-use Rattle.ygg_bank.specs.Inputs.{InputsBelow}
-use Rattle.ygg_bank.specs.Makes.{Make}
-use Rattle.ygg_bank.specs.Nodes.{HasWidth}
-use Rattle.ygg_bank.specs.Values.{Inputs, Values, Fits}
-use Rattle.ygg_bank.specs.declared.node.Node.{Node}
-use Rattle.ygg_shape_cells.specs.declared.terms.SymValue.{SymValue}
+use Rattle.ygg_sym_below.specs.ygg_rules.declared.rule.RuleKind.{RuleKind}
+use Rattle.ygg_sym_below.specs.ygg_bank.Inputs.{InputsBelow}
+use Rattle.ygg_sym_below.specs.ygg_bank.Makes.{Make}
+use Rattle.ygg_sym_below.specs.ygg_bank.Nodes.{HasWidth}
+use Rattle.ygg_sym_below.specs.ygg_bank.Values.{Inputs, Values, Fits}
+use Rattle.ygg_sym_below.specs.ygg_bank.declared.node.Node.{Node}
+use Rattle.ygg_sym_below.specs.ygg_shape_cells.declared.terms.SymValue.{SymValue}
 use Rattle.ygg_sym_below.specs.Names.{SymEnv, sym_bind}
 use Rattle.ygg_sym_below.specs.Exprs.{SymFunctions, sym_functions}
 use Rattle.ygg_sym_below.specs.SymExprMeaning.{Grows, worths}

@@ -9,21 +9,21 @@ use Rattle.ygg_syntax.specs.declared.tree.Declared.{Declared}
 use Rattle.ygg_syntax.specs.declared.tree.Def.{Def}
 use Rattle.ygg_syntax.specs.declared.tree.Block.{Block}
 use Rattle.ygg_syntax.specs.declared.tree.Operation.{Operation}
-use Rattle.ygg_symbols.specs.Names.{Named}
-use Rattle.ygg_type_rules.specs.declared.scope.Signature.{Signature}
-use Rattle.ygg_type_rules.specs.TypeErrors.{none}
-use Rattle.ygg_type_rules.specs.Scopes.{Scope}
-use Rattle.ygg_type_rules.specs.Statements.{block_errors}
-use Rattle.ygg_type_rules.specs.Definitions.{with_definitions}
-use Rattle.ygg_type_rules.specs.Layers.{operation_signature}
-use Rattle.ygg_type_rules.specs.Files.{disk_errors}
-use Rattle.ygg_meaning.specs.Environments.{Name, bind}
-use Rattle.ygg_meaning.specs.Meaning.{functions_of}
-use Rattle.ygg_meaning.specs.Shapes.{shape_in, values_fit}
-use Rattle.ygg_meaning.specs.Progress.{Answer}
-use Rattle.ygg_meaning.specs.Layer.{ClosedLayer, operation_of}
-use Rattle.ygg_meaning.specs.Refines.{Below, OnDisk, OnSpec}
-use Rattle.ygg_type_sound.specs.Agrees.{Agrees}
+use Rattle.ygg_sym_below.specs.ygg_symbols.Names.{Named}
+use Rattle.ygg_sym_below.specs.ygg_type_rules.declared.scope.Signature.{Signature}
+use Rattle.ygg_sym_below.specs.ygg_type_rules.TypeErrors.{none}
+use Rattle.ygg_sym_below.specs.ygg_type_rules.Scopes.{Scope}
+use Rattle.ygg_sym_below.specs.ygg_type_rules.Statements.{block_errors}
+use Rattle.ygg_sym_below.specs.ygg_type_rules.Definitions.{with_definitions}
+use Rattle.ygg_sym_below.specs.ygg_type_rules.Layers.{operation_signature}
+use Rattle.ygg_sym_below.specs.ygg_type_rules.Files.{disk_errors}
+use Rattle.ygg_sym_below.specs.ygg_meaning.Environments.{Name, bind}
+use Rattle.ygg_sym_below.specs.ygg_meaning.Meaning.{functions_of}
+use Rattle.ygg_sym_below.specs.ygg_meaning.Shapes.{shape_in, values_fit}
+use Rattle.ygg_sym_below.specs.ygg_meaning.Progress.{Answer}
+use Rattle.ygg_sym_below.specs.ygg_meaning.Layer.{ClosedLayer, operation_of}
+use Rattle.ygg_sym_below.specs.ygg_meaning.Refines.{Below, OnDisk, OnSpec}
+use Rattle.ygg_sym_below.specs.ygg_type_sound.Agrees.{Agrees}
 use Rattle.ygg_sym_below.specs.Kinds.{keeps}
 use Rattle.ygg_sym_below.specs.Questions.{plain, gives}
 use Rattle.ygg_sym_below.specs.Blocks.{is_returned}

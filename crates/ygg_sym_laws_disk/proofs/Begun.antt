@@ -6,26 +6,26 @@ use Rattle.ygg_syntax.specs.declared.tree.Def.{Def}
 use Rattle.ygg_syntax.specs.declared.tree.Layer.{Layer}
 use Rattle.ygg_syntax.specs.declared.tree.Block.{Block}
 use Rattle.ygg_syntax.specs.declared.tree.DiskText.{DiskText}
-use Rattle.ygg_type_rules.specs.TypeErrors.{none}
-use Rattle.ygg_type_rules.specs.Definitions.{definitions_errors}
-use Rattle.ygg_type_rules.specs.Files.{disk_errors, disk_operations}
-use Rattle.ygg_meaning.specs.Environments.{Env}
-use Rattle.ygg_meaning.specs.Meaning.{Functions, functions_of}
-use Rattle.ygg_meaning.specs.Shapes.{env_fits}
-use Rattle.ygg_meaning.specs.Layer.{ClosedLayer}
-use Rattle.ygg_meaning.specs.Refines.{OnDisk}
-use Rattle.ygg_histories.specs.Stack.{tables_of}
-use Rattle.ygg_type_sound.specs.Agrees.{Agrees}
-use Rattle.ygg_type_progress.specs.Questions.{plain}
-use Rattle.ygg_rules.specs.declared.rule.RuleKind.{RuleKind}
-use Rattle.ygg_bank.specs.Values.{Inputs, Values, Fits}
-use Rattle.ygg_bank.specs.declared.node.Node.{Node}
-use Rattle.ygg_shape_cells.specs.Terms.{worth}
-use Rattle.ygg_direct.specs.Direct.{room_of}
-use Rattle.ygg_direct.specs.Laws.{IsTypedBlock}
-use Rattle.ygg_direct.specs.RunPlaces.{disk_space}
-use Rattle.ygg_sym_expr.specs.Names.{sym_bind}
-use Rattle.ygg_sym_expr.specs.Meaning.{worths}
+use Rattle.ygg_sym_laws.specs.ygg_type_rules.TypeErrors.{none}
+use Rattle.ygg_sym_laws.specs.ygg_type_rules.Definitions.{definitions_errors}
+use Rattle.ygg_sym_laws.specs.ygg_type_rules.Files.{disk_errors, disk_operations}
+use Rattle.ygg_sym_laws.specs.ygg_meaning.Environments.{Env}
+use Rattle.ygg_sym_laws.specs.ygg_meaning.Meaning.{Functions, functions_of}
+use Rattle.ygg_sym_laws.specs.ygg_meaning.Shapes.{env_fits}
+use Rattle.ygg_sym_laws.specs.ygg_meaning.Layer.{ClosedLayer}
+use Rattle.ygg_sym_laws.specs.ygg_meaning.Refines.{OnDisk}
+use Rattle.ygg_sym_laws.specs.ygg_histories.Stack.{tables_of}
+use Rattle.ygg_sym_laws.specs.ygg_type_sound.Agrees.{Agrees}
+use Rattle.ygg_sym_laws.specs.ygg_type_progress.Questions.{plain}
+use Rattle.ygg_sym_laws.specs.ygg_rules.declared.rule.RuleKind.{RuleKind}
+use Rattle.ygg_sym_laws.specs.ygg_bank.Values.{Inputs, Values, Fits}
+use Rattle.ygg_sym_laws.specs.ygg_bank.declared.node.Node.{Node}
+use Rattle.ygg_sym_laws.specs.ygg_shape_cells.Terms.{worth}
+use Rattle.ygg_sym_laws.specs.ygg_direct.Direct.{room_of}
+use Rattle.ygg_sym_laws.specs.ygg_direct.Laws.{IsTypedBlock}
+use Rattle.ygg_sym_laws.specs.ygg_direct.RunPlaces.{disk_space}
+use Rattle.ygg_sym_laws.specs.ygg_sym_expr.Names.{sym_bind}
+use Rattle.ygg_sym_laws.specs.ygg_sym_expr.Meaning.{worths}
 use Rattle.ygg_sym_laws.specs.Lows.{low_worth}
 use Rattle.ygg_sym_laws.specs.Laws.{IsTypedOver}
 use Rattle.ygg_sym_laws.proofs.Blocks.{values_worth}

@@ -10,46 +10,46 @@ use Rattle.ygg_syntax.specs.declared.tree.Def.{Def}
 use Rattle.ygg_syntax.specs.declared.tree.Layer.{Layer}
 use Rattle.ygg_syntax.specs.declared.tree.Block.{Block}
 use Rattle.ygg_syntax.specs.declared.tree.DiskText.{DiskText}
-use Rattle.ygg_type_rules.specs.TypeErrors.{none}
-use Rattle.ygg_type_rules.specs.Definitions.{definitions_errors}
-use Rattle.ygg_type_rules.specs.Files.{disk_errors, disk_operations}
-use Rattle.ygg_disk.specs.Disk as disk
-use Rattle.ygg_disk.specs.Kinds.{model_of}
-use Rattle.ygg_meaning.specs.Environments.{Env}
-use Rattle.ygg_meaning.specs.Meaning.{Functions, functions_of}
-use Rattle.ygg_meaning.specs.Progress.{Question, Choice, Call}
-use Rattle.ygg_meaning.specs.Machine.{Picks, State, on, based}
-use Rattle.ygg_meaning.specs.Layer.{ClosedLayer, BlockFalls, eval_of}
-use Rattle.ygg_meaning.specs.Obligations.{Halt}
-use Rattle.ygg_meaning.specs.DiskMachine.{DiskMachine, disk_call, tables_in}
-use Rattle.ygg_meaning.specs.Refines.{OnDisk}
-use Rattle.ygg_histories.specs.Stack.{tables_of}
-use Rattle.ygg_type_progress.specs.Machines.{IsSized}
-use Rattle.ygg_rules.specs.declared.rule.RuleKind.{RuleKind}
-use Rattle.ygg_bank.proofs.Meaning.{fits_fewer}
-use Rattle.ygg_bank.proofs.Widths.{extends_self}
-use Rattle.ygg_bank.specs.Inputs.{InputsBelow}
-use Rattle.ygg_bank.specs.Makes.{Out}
-use Rattle.ygg_bank.specs.Nodes.{Extends}
-use Rattle.ygg_bank.specs.Values.{Inputs, Values, Fits}
-use Rattle.ygg_bank.specs.declared.node.Node.{Node}
-use Rattle.ygg_shape_words.proofs.Keeps.{grows_stays, inputs_stay}
-use Rattle.ygg_shape_cells.specs.declared.terms.SymValue.{SymValue}
-use Rattle.ygg_direct.specs.Direct.{Reached, Within, question_space}
-use Rattle.ygg_direct.specs.Acts.{Fell, next_of, falls_in}
-use Rattle.ygg_direct.specs.Places.{by_place, calling}
-use Rattle.ygg_direct.specs.DiskActs.{kind_falls, state_in, disk_drops, disk_acts}
-use Rattle.ygg_direct.specs.RunPlaces.{disk_space, placed_run, base_at, asked_in, base_of, cut_by, falls_by_place}
-use Rattle.ygg_direct.proofs.FallPlacing.{falls_by_place_on_disk}
-use Rattle.ygg_direct.proofs.Order.{within_later, block_follows}
-use Rattle.ygg_direct.proofs.Placing.{taken_self}
-use Rattle.ygg_direct.proofs.Rooms.{room_is}
-use Rattle.ygg_direct.proofs.RunPlacing.{disk_tidy}
-use Rattle.ygg_direct.proofs.Typed.{direct_on_disk}
-use Rattle.ygg_sym_expr.specs.Names.{sym_bind}
-use Rattle.ygg_sym_expr.specs.Exprs.{sym_functions}
-use Rattle.ygg_sym_expr.specs.Meaning.{Grows, worths}
-use Rattle.ygg_sym_expr.proofs.Keeps.{functions_keep}
+use Rattle.ygg_sym_laws.specs.ygg_type_rules.TypeErrors.{none}
+use Rattle.ygg_sym_laws.specs.ygg_type_rules.Definitions.{definitions_errors}
+use Rattle.ygg_sym_laws.specs.ygg_type_rules.Files.{disk_errors, disk_operations}
+use Rattle.ygg_sym_laws.specs.ygg_disk.Disk as disk
+use Rattle.ygg_sym_laws.specs.ygg_disk.Kinds.{model_of}
+use Rattle.ygg_sym_laws.specs.ygg_meaning.Environments.{Env}
+use Rattle.ygg_sym_laws.specs.ygg_meaning.Meaning.{Functions, functions_of}
+use Rattle.ygg_sym_laws.specs.ygg_meaning.Progress.{Question, Choice, Call}
+use Rattle.ygg_sym_laws.specs.ygg_meaning.Machine.{Picks, State, on, based}
+use Rattle.ygg_sym_laws.specs.ygg_meaning.Layer.{ClosedLayer, BlockFalls, eval_of}
+use Rattle.ygg_sym_laws.specs.ygg_meaning.Obligations.{Halt}
+use Rattle.ygg_sym_laws.specs.ygg_meaning.DiskMachine.{DiskMachine, disk_call, tables_in}
+use Rattle.ygg_sym_laws.specs.ygg_meaning.Refines.{OnDisk}
+use Rattle.ygg_sym_laws.specs.ygg_histories.Stack.{tables_of}
+use Rattle.ygg_sym_laws.specs.ygg_type_progress.Machines.{IsSized}
+use Rattle.ygg_sym_laws.specs.ygg_rules.declared.rule.RuleKind.{RuleKind}
+use Rattle.ygg_sym_laws.specs.ygg_bank_proofs_Meaning.{fits_fewer}
+use Rattle.ygg_sym_laws.specs.ygg_bank_proofs_Widths.{extends_self}
+use Rattle.ygg_sym_laws.specs.ygg_bank.Inputs.{InputsBelow}
+use Rattle.ygg_sym_laws.specs.ygg_bank.Makes.{Out}
+use Rattle.ygg_sym_laws.specs.ygg_bank.Nodes.{Extends}
+use Rattle.ygg_sym_laws.specs.ygg_bank.Values.{Inputs, Values, Fits}
+use Rattle.ygg_sym_laws.specs.ygg_bank.declared.node.Node.{Node}
+use Rattle.ygg_sym_laws.specs.ygg_shape_words_proofs_Keeps.{grows_stays, inputs_stay}
+use Rattle.ygg_sym_laws.specs.ygg_shape_cells.declared.terms.SymValue.{SymValue}
+use Rattle.ygg_sym_laws.specs.ygg_direct.Direct.{Reached, Within, question_space}
+use Rattle.ygg_sym_laws.specs.ygg_direct.Acts.{Fell, next_of, falls_in}
+use Rattle.ygg_sym_laws.specs.ygg_direct.Places.{by_place, calling}
+use Rattle.ygg_sym_laws.specs.ygg_direct.DiskActs.{kind_falls, state_in, disk_drops, disk_acts}
+use Rattle.ygg_sym_laws.specs.ygg_direct.RunPlaces.{disk_space, placed_run, base_at, asked_in, base_of, cut_by, falls_by_place}
+use Rattle.ygg_sym_laws.proofs.of_ygg_direct.FallPlacing.{falls_by_place_on_disk}
+use Rattle.ygg_sym_laws.specs.ygg_direct_proofs_Order.{within_later, block_follows}
+use Rattle.ygg_sym_laws.specs.ygg_direct_proofs_Placing.{taken_self}
+use Rattle.ygg_sym_laws.specs.ygg_direct_proofs_Rooms.{room_is}
+use Rattle.ygg_sym_laws.specs.ygg_direct_proofs_RunPlacing.{disk_tidy}
+use Rattle.ygg_sym_laws.proofs.of_ygg_direct.Typed.{direct_on_disk}
+use Rattle.ygg_sym_laws.specs.ygg_sym_expr.Names.{sym_bind}
+use Rattle.ygg_sym_laws.specs.ygg_sym_expr.Exprs.{sym_functions}
+use Rattle.ygg_sym_laws.specs.ygg_sym_expr.Meaning.{Grows, worths}
+use Rattle.ygg_sym_laws.specs.ygg_sym_expr_proofs_Keeps.{functions_keep}
 use Rattle.ygg_sym_laws.specs.Meaning.{is_set}
 use Rattle.ygg_sym_laws.specs.Lows.{low_worth}
 use Rattle.ygg_sym_laws.specs.Disks.{sym_disk}

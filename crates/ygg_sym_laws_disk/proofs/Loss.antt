@@ -3,25 +3,25 @@ use Rattle.std.proofs.Common.{◌≡◌, true, false, Bool, List, [], ◌++◌, 
 use Rattle.ygg_syntax.specs.declared.tree.Def.{Def}
 use Rattle.ygg_syntax.specs.declared.tree.DiskText.{DiskText}
 use Rattle.ygg_syntax.specs.declared.tree.Layer.{Layer}
-use Rattle.ygg_type_rules.specs.TypeErrors.{none}
-use Rattle.ygg_type_rules.specs.Files.{disk_errors}
-use Rattle.ygg_meaning.specs.Environments.{Env}
-use Rattle.ygg_meaning.specs.Meaning.{Functions}
-use Rattle.ygg_meaning.specs.Machine.{Picks, based}
-use Rattle.ygg_meaning.specs.DiskMachine.{DiskMachine}
-use Rattle.ygg_meaning.specs.Refines.{OnDisk}
-use Rattle.ygg_histories.specs.Stack.{tables_of}
-use Rattle.ygg_type_progress.specs.Machines.{IsSized}
-use Rattle.ygg_type_progress.proofs.Sizes.{disk_answers_all}
-use Rattle.ygg_rules.specs.declared.rule.RuleKind.{RuleKind}
-use Rattle.ygg_bank.proofs.Widths.{extends_self}
-use Rattle.ygg_bank.specs.Values.{Inputs, Values, Fits}
-use Rattle.ygg_bank.specs.declared.node.Node.{Node}
-use Rattle.ygg_shape_cells.specs.declared.terms.SymValue.{SymValue}
-use Rattle.ygg_direct.specs.Acts.{Fell}
-use Rattle.ygg_direct.specs.DiskActs.{disk_acts}
-use Rattle.ygg_direct.proofs.DiskActed.{disk_acted}
-use Rattle.ygg_direct.proofs.Placing.{taken_self}
+use Rattle.ygg_sym_laws.specs.ygg_type_rules.TypeErrors.{none}
+use Rattle.ygg_sym_laws.specs.ygg_type_rules.Files.{disk_errors}
+use Rattle.ygg_sym_laws.specs.ygg_meaning.Environments.{Env}
+use Rattle.ygg_sym_laws.specs.ygg_meaning.Meaning.{Functions}
+use Rattle.ygg_sym_laws.specs.ygg_meaning.Machine.{Picks, based}
+use Rattle.ygg_sym_laws.specs.ygg_meaning.DiskMachine.{DiskMachine}
+use Rattle.ygg_sym_laws.specs.ygg_meaning.Refines.{OnDisk}
+use Rattle.ygg_sym_laws.specs.ygg_histories.Stack.{tables_of}
+use Rattle.ygg_sym_laws.specs.ygg_type_progress.Machines.{IsSized}
+use Rattle.ygg_sym_laws.specs.ygg_type_progress_proofs_Sizes.{disk_answers_all}
+use Rattle.ygg_sym_laws.specs.ygg_rules.declared.rule.RuleKind.{RuleKind}
+use Rattle.ygg_sym_laws.specs.ygg_bank_proofs_Widths.{extends_self}
+use Rattle.ygg_sym_laws.specs.ygg_bank.Values.{Inputs, Values, Fits}
+use Rattle.ygg_sym_laws.specs.ygg_bank.declared.node.Node.{Node}
+use Rattle.ygg_sym_laws.specs.ygg_shape_cells.declared.terms.SymValue.{SymValue}
+use Rattle.ygg_sym_laws.specs.ygg_direct.Acts.{Fell}
+use Rattle.ygg_sym_laws.specs.ygg_direct.DiskActs.{disk_acts}
+use Rattle.ygg_sym_laws.proofs.of_ygg_direct.DiskActed.{disk_acted}
+use Rattle.ygg_sym_laws.specs.ygg_direct_proofs_Placing.{taken_self}
 use Rattle.ygg_sym_laws.specs.Meaning.{IsLow}
 use Rattle.ygg_sym_laws.specs.Lows.{LowShaped, low_worth}
 use Rattle.ygg_sym_laws.specs.Cuts.{disk_loses}

@@ -6,22 +6,22 @@ use Rattle.ygg_syntax.specs.declared.tree.Def.{Def}
 use Rattle.ygg_syntax.specs.declared.tree.DiskText.{DiskText}
 use Rattle.ygg_syntax.specs.declared.tree.Layer.{Layer}
 use Rattle.ygg_syntax.specs.declared.tree.TypeText.TheVariants as text
-use Rattle.ygg_type_rules.specs.TypeErrors.{none}
-use Rattle.ygg_type_rules.specs.Files.{disk_errors}
-use Rattle.ygg_disk.specs.Kinds.{model_of}
-use Rattle.ygg_meaning.specs.Environments.{Env}
-use Rattle.ygg_meaning.specs.Meaning.{Functions}
-use Rattle.ygg_meaning.specs.Machine.{Picks, State, based}
-use Rattle.ygg_meaning.specs.DiskMachine.{DiskMachine, tables_in, zeros_on}
-use Rattle.ygg_meaning.specs.Refines.{OnDisk}
-use Rattle.ygg_meaning.specs.Shapes.{zeros_of}
-use Rattle.ygg_histories.specs.Stack.{tables_of_kind, tables_of}
-use Rattle.ygg_type_sound.proofs.Parameters.{type_is}
-use Rattle.ygg_rules.specs.declared.rule.RuleKind.{RuleKind}
-use Rattle.ygg_bank.specs.Inputs.{InputsBelow}
-use Rattle.ygg_bank.specs.Values.{Inputs, Values, Fits}
-use Rattle.ygg_bank.specs.declared.node.Node.{Node}
-use Rattle.ygg_shape_words.proofs.Keeps.{inputs_stay}
+use Rattle.ygg_sym_laws.specs.ygg_type_rules.TypeErrors.{none}
+use Rattle.ygg_sym_laws.specs.ygg_type_rules.Files.{disk_errors}
+use Rattle.ygg_sym_laws.specs.ygg_disk.Kinds.{model_of}
+use Rattle.ygg_sym_laws.specs.ygg_meaning.Environments.{Env}
+use Rattle.ygg_sym_laws.specs.ygg_meaning.Meaning.{Functions}
+use Rattle.ygg_sym_laws.specs.ygg_meaning.Machine.{Picks, State, based}
+use Rattle.ygg_sym_laws.specs.ygg_meaning.DiskMachine.{DiskMachine, tables_in, zeros_on}
+use Rattle.ygg_sym_laws.specs.ygg_meaning.Refines.{OnDisk}
+use Rattle.ygg_sym_laws.specs.ygg_meaning.Shapes.{zeros_of}
+use Rattle.ygg_sym_laws.specs.ygg_histories.Stack.{tables_of_kind, tables_of}
+use Rattle.ygg_sym_laws.specs.ygg_type_sound_proofs_Parameters.{type_is}
+use Rattle.ygg_sym_laws.specs.ygg_rules.declared.rule.RuleKind.{RuleKind}
+use Rattle.ygg_sym_laws.specs.ygg_bank.Inputs.{InputsBelow}
+use Rattle.ygg_sym_laws.specs.ygg_bank.Values.{Inputs, Values, Fits}
+use Rattle.ygg_sym_laws.specs.ygg_bank.declared.node.Node.{Node}
+use Rattle.ygg_sym_laws.specs.ygg_shape_words_proofs_Keeps.{inputs_stay}
 use Rattle.ygg_sym_laws.specs.Lows.{low_worth}
 use Rattle.ygg_sym_laws.specs.Below.{zeros_made}
 use Rattle.ygg_sym_laws.specs.Means.{StartMeans}

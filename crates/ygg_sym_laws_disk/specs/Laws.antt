@@ -5,14 +5,14 @@ use Rattle.ygg_syntax.specs.declared.tree.Declared.{Declared}
 use Rattle.ygg_syntax.specs.declared.tree.Def.{Def}
 use Rattle.ygg_syntax.specs.declared.tree.Block.{Block}
 use Rattle.ygg_syntax.specs.declared.tree.DiskText.{DiskText}
-use Rattle.ygg_type_rules.specs.TypeErrors.{none}
-use Rattle.ygg_type_rules.specs.Definitions.{definitions_errors}
-use Rattle.ygg_type_rules.specs.Files.{disk_operations}
-use Rattle.ygg_meaning.specs.Meaning.{functions_of}
-use Rattle.ygg_meaning.specs.Layer.{ClosedLayer}
-use Rattle.ygg_meaning.specs.Refines.{OnDisk}
-use Rattle.ygg_histories.specs.Stack.{tables_of}
-use Rattle.ygg_rules.specs.declared.rule.RuleKind.{RuleKind}
+use Rattle.ygg_sym_laws.specs.ygg_type_rules.TypeErrors.{none}
+use Rattle.ygg_sym_laws.specs.ygg_type_rules.Definitions.{definitions_errors}
+use Rattle.ygg_sym_laws.specs.ygg_type_rules.Files.{disk_operations}
+use Rattle.ygg_sym_laws.specs.ygg_meaning.Meaning.{functions_of}
+use Rattle.ygg_sym_laws.specs.ygg_meaning.Layer.{ClosedLayer}
+use Rattle.ygg_sym_laws.specs.ygg_meaning.Refines.{OnDisk}
+use Rattle.ygg_sym_laws.specs.ygg_histories.Stack.{tables_of}
+use Rattle.ygg_sym_laws.specs.ygg_rules.declared.rule.RuleKind.{RuleKind}
 use Rattle.ygg_sym_laws.specs.Typed.{BlockTyped, BelowTyped}
 use Rattle.ygg_sym_laws.specs.Means.{LossMeans, StartMeans, WholeMeans, FallMeans}
 

@@ -2,8 +2,8 @@
 use Rattle.std.proofs.Common.{List, sym, subst}
 use Rattle.ygg_syntax.specs.declared.grammar.BlockKind.TheVariants.{Impl}
 use Rattle.ygg_syntax.specs.declared.tree.Declared.{Declared}
-use Rattle.ygg_meaning.specs.Layer.{ClosedLayer}
-use Rattle.ygg_meaning.specs.Refines.{OnSpec}
+use Rattle.ygg_sym_laws.specs.ygg_meaning.Layer.{ClosedLayer}
+use Rattle.ygg_sym_laws.specs.ygg_meaning.Refines.{OnSpec}
 use Rattle.ygg_sym_laws.specs.Below.{signatures_of}
 use Rattle.ygg_sym_laws.specs.Typed.{BlockTyped}
 use Rattle.ygg_sym_laws.specs.Means.{LossMeans, StartMeans, WholeMeans, FallMeans}

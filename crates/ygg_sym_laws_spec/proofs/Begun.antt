@@ -7,30 +7,30 @@ use Rattle.ygg_syntax.specs.declared.tree.Declared.{Declared}
 use Rattle.ygg_syntax.specs.declared.tree.Def.{Def}
 use Rattle.ygg_syntax.specs.declared.tree.Layer.{Layer}
 use Rattle.ygg_syntax.specs.declared.tree.Block.{Block}
-use Rattle.ygg_symbols.specs.Names.{Named}
-use Rattle.ygg_type_rules.specs.declared.scope.Signature.{Signature}
-use Rattle.ygg_type_rules.specs.TypeErrors.{none}
-use Rattle.ygg_type_rules.specs.Definitions.{definitions_errors, with_definitions}
-use Rattle.ygg_meaning.specs.Environments.{Name, Env}
-use Rattle.ygg_meaning.specs.Meaning.{Functions, functions_of}
-use Rattle.ygg_meaning.specs.Shapes.{env_fits}
-use Rattle.ygg_meaning.specs.Layer.{ClosedLayer}
-use Rattle.ygg_meaning.specs.Machine.{State}
-use Rattle.ygg_meaning.specs.Refines.{OnSpec}
-use Rattle.ygg_type_sound.specs.Agrees.{Agrees}
-use Rattle.ygg_type_progress.specs.Questions.{plain}
-use Rattle.ygg_rules.specs.declared.rule.RuleKind.{RuleKind}
-use Rattle.ygg_bank.specs.Values.{Inputs, Values, Fits}
-use Rattle.ygg_bank.specs.declared.node.Node.{Node}
-use Rattle.ygg_shape_cells.specs.Terms.{worth}
-use Rattle.ygg_shape_cells.specs.declared.terms.SymValue.{SymValue}
-use Rattle.ygg_direct.specs.Laws.{IsTypedBlock}
-use Rattle.ygg_sym_expr.specs.Names.{sym_bind}
-use Rattle.ygg_sym_expr.specs.Exprs.{SymFunctions, sym_functions}
-use Rattle.ygg_sym_expr.specs.Meaning.{EnvShaped, worths}
-use Rattle.ygg_sym_expr.proofs.Grows.{FunctionsGrow, functions_grow}
-use Rattle.ygg_sym_expr.proofs.Values.{FunctionsMean}
-use Rattle.ygg_sym_expr.proofs.Definitions.{functions_mean}
+use Rattle.ygg_sym_laws.specs.ygg_symbols.Names.{Named}
+use Rattle.ygg_sym_laws.specs.ygg_type_rules.declared.scope.Signature.{Signature}
+use Rattle.ygg_sym_laws.specs.ygg_type_rules.TypeErrors.{none}
+use Rattle.ygg_sym_laws.specs.ygg_type_rules.Definitions.{definitions_errors, with_definitions}
+use Rattle.ygg_sym_laws.specs.ygg_meaning.Environments.{Name, Env}
+use Rattle.ygg_sym_laws.specs.ygg_meaning.Meaning.{Functions, functions_of}
+use Rattle.ygg_sym_laws.specs.ygg_meaning.Shapes.{env_fits}
+use Rattle.ygg_sym_laws.specs.ygg_meaning.Layer.{ClosedLayer}
+use Rattle.ygg_sym_laws.specs.ygg_meaning.Machine.{State}
+use Rattle.ygg_sym_laws.specs.ygg_meaning.Refines.{OnSpec}
+use Rattle.ygg_sym_laws.specs.ygg_type_sound.Agrees.{Agrees}
+use Rattle.ygg_sym_laws.specs.ygg_type_progress.Questions.{plain}
+use Rattle.ygg_sym_laws.specs.ygg_rules.declared.rule.RuleKind.{RuleKind}
+use Rattle.ygg_sym_laws.specs.ygg_bank.Values.{Inputs, Values, Fits}
+use Rattle.ygg_sym_laws.specs.ygg_bank.declared.node.Node.{Node}
+use Rattle.ygg_sym_laws.specs.ygg_shape_cells.Terms.{worth}
+use Rattle.ygg_sym_laws.specs.ygg_shape_cells.declared.terms.SymValue.{SymValue}
+use Rattle.ygg_sym_laws.specs.ygg_direct.Laws.{IsTypedBlock}
+use Rattle.ygg_sym_laws.specs.ygg_sym_expr.Names.{sym_bind}
+use Rattle.ygg_sym_laws.specs.ygg_sym_expr.Exprs.{SymFunctions, sym_functions}
+use Rattle.ygg_sym_laws.specs.ygg_sym_expr.Meaning.{EnvShaped, worths}
+use Rattle.ygg_sym_laws.specs.ygg_sym_expr_proofs_Grows.{FunctionsGrow, functions_grow}
+use Rattle.ygg_sym_laws.specs.ygg_sym_expr_proofs_Values.{FunctionsMean}
+use Rattle.ygg_sym_laws.specs.ygg_sym_expr_proofs_Definitions.{functions_mean}
 use Rattle.ygg_sym_laws.specs.Runs.{SymMachine}
 use Rattle.ygg_sym_laws.specs.Meaning.{Low, MachineMeans}
 use Rattle.ygg_sym_laws.proofs.Worths.{NameShaped}

@@ -1,3 +1,8 @@
+pub use Rattle.ygg_sym_laws.proofs.of_ygg_bank
+pub use Rattle.ygg_sym_laws.proofs.of_ygg_direct
+pub use Rattle.ygg_sym_laws.proofs.of_ygg_histories
+pub use Rattle.ygg_sym_laws.proofs.of_ygg_shape
+pub use Rattle.ygg_sym_laws.proofs.of_ygg_type_progress
 pub use Rattle.ygg_sym_laws.proofs.Worths
 pub use Rattle.ygg_sym_laws.proofs.Specs
 pub use Rattle.ygg_sym_laws.proofs.SpecStops

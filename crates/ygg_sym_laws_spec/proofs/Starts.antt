@@ -7,32 +7,32 @@ use Rattle.ygg_value.specs.Words.{word, bit_of}
 use Rattle.ygg_syntax.specs.declared.tree.Declared.{Declared}
 use Rattle.ygg_syntax.specs.declared.tree.Def.{Def}
 use Rattle.ygg_syntax.specs.declared.tree.Layer.{Layer}
-use Rattle.ygg_type_rules.specs.TypeErrors.{none}
-use Rattle.ygg_type_rules.specs.Definitions.{definitions_errors}
-use Rattle.ygg_meaning.specs.Environments.{Env}
-use Rattle.ygg_meaning.specs.Meaning.{Functions}
-use Rattle.ygg_meaning.specs.Shapes.{shape_in, env_fits, zeros_of}
-use Rattle.ygg_meaning.specs.Machine.{Picks, State, based}
-use Rattle.ygg_meaning.specs.Layer.{ClosedLayer}
-use Rattle.ygg_meaning.specs.Refines.{OnSpec}
-use Rattle.ygg_meaning.specs.Spec.{Outcome, SpecLoses, SpecStarts, Spec}
-use Rattle.ygg_rules.specs.declared.rule.RuleKind.{RuleKind}
-use Rattle.ygg_bank.proofs.Meaning.{fits_fewer}
-use Rattle.ygg_bank.proofs.Widths.{extends_both}
-use Rattle.ygg_bank.specs.Inputs.{InputsBelow}
-use Rattle.ygg_bank.specs.Makes.{Out}
-use Rattle.ygg_bank.specs.Values.{Inputs, Values, Fits}
-use Rattle.ygg_bank.specs.declared.node.Node.{Node}
-use Rattle.ygg_bank.specs.declared.node.Node.TheVariants.{Const}
-use Rattle.ygg_shape_words.proofs.Keeps.{inputs_stay}
-use Rattle.ygg_shape_cells.specs.declared.terms.SymValue.{SymValue}
-use Rattle.ygg_direct.specs.Acts.{next_of, Taken}
-use Rattle.ygg_direct.specs.Places.{left_after}
-use Rattle.ygg_direct.specs.SpecActs.{Ran, block_ran}
-use Rattle.ygg_direct.proofs.Placing.{taken_self}
-use Rattle.ygg_direct.proofs.SpecActed.{block_whole}
-use Rattle.ygg_direct.proofs.SpecServes.{ran_alone}
-use Rattle.ygg_sym_expr.specs.Meaning.{SomeShape, Grows}
+use Rattle.ygg_sym_laws.specs.ygg_type_rules.TypeErrors.{none}
+use Rattle.ygg_sym_laws.specs.ygg_type_rules.Definitions.{definitions_errors}
+use Rattle.ygg_sym_laws.specs.ygg_meaning.Environments.{Env}
+use Rattle.ygg_sym_laws.specs.ygg_meaning.Meaning.{Functions}
+use Rattle.ygg_sym_laws.specs.ygg_meaning.Shapes.{shape_in, env_fits, zeros_of}
+use Rattle.ygg_sym_laws.specs.ygg_meaning.Machine.{Picks, State, based}
+use Rattle.ygg_sym_laws.specs.ygg_meaning.Layer.{ClosedLayer}
+use Rattle.ygg_sym_laws.specs.ygg_meaning.Refines.{OnSpec}
+use Rattle.ygg_sym_laws.specs.ygg_meaning.Spec.{Outcome, SpecLoses, SpecStarts, Spec}
+use Rattle.ygg_sym_laws.specs.ygg_rules.declared.rule.RuleKind.{RuleKind}
+use Rattle.ygg_sym_laws.specs.ygg_bank_proofs_Meaning.{fits_fewer}
+use Rattle.ygg_sym_laws.specs.ygg_bank_proofs_Widths.{extends_both}
+use Rattle.ygg_sym_laws.specs.ygg_bank.Inputs.{InputsBelow}
+use Rattle.ygg_sym_laws.specs.ygg_bank.Makes.{Out}
+use Rattle.ygg_sym_laws.specs.ygg_bank.Values.{Inputs, Values, Fits}
+use Rattle.ygg_sym_laws.specs.ygg_bank.declared.node.Node.{Node}
+use Rattle.ygg_sym_laws.specs.ygg_bank.declared.node.Node.TheVariants.{Const}
+use Rattle.ygg_sym_laws.specs.ygg_shape_words_proofs_Keeps.{inputs_stay}
+use Rattle.ygg_sym_laws.specs.ygg_shape_cells.declared.terms.SymValue.{SymValue}
+use Rattle.ygg_sym_laws.specs.ygg_direct.Acts.{next_of, Taken}
+use Rattle.ygg_sym_laws.specs.ygg_direct.Places.{left_after}
+use Rattle.ygg_sym_laws.specs.ygg_direct.SpecActs.{Ran, block_ran}
+use Rattle.ygg_sym_laws.specs.ygg_direct_proofs_Placing.{taken_self}
+use Rattle.ygg_sym_laws.proofs.of_ygg_direct.SpecActed.{block_whole}
+use Rattle.ygg_sym_laws.specs.ygg_direct_proofs_SpecServes.{ran_alone}
+use Rattle.ygg_sym_laws.specs.ygg_sym_expr.Meaning.{SomeShape, Grows}
 use Rattle.ygg_sym_laws.specs.Laws.{picked_by}
 use Rattle.ygg_sym_laws.specs.Lows.{LowShaped, low_worth}
 use Rattle.ygg_sym_laws.specs.SpecCuts.{fall_room}

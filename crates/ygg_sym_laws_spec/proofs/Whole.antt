@@ -7,32 +7,32 @@ use Rattle.ygg_syntax.specs.declared.tree.Declared.{Declared}
 use Rattle.ygg_syntax.specs.declared.tree.Def.{Def}
 use Rattle.ygg_syntax.specs.declared.tree.Layer.{Layer}
 use Rattle.ygg_syntax.specs.declared.tree.Block.{Block}
-use Rattle.ygg_type_rules.specs.TypeErrors.{none}
-use Rattle.ygg_type_rules.specs.Definitions.{definitions_errors}
-use Rattle.ygg_meaning.specs.Environments.{Name, Env}
-use Rattle.ygg_meaning.specs.Meaning.{Functions, functions_of}
-use Rattle.ygg_meaning.specs.Shapes.{env_fits}
-use Rattle.ygg_meaning.specs.Progress.{Answer, answer_of}
-use Rattle.ygg_meaning.specs.Machine.{State, on, based}
-use Rattle.ygg_meaning.specs.Layer.{ClosedLayer, BlockRuns}
-use Rattle.ygg_meaning.specs.Refines.{OnSpec}
-use Rattle.ygg_meaning.specs.Spec.{Spec}
-use Rattle.ygg_type_progress.specs.Blocks.{eval_with, is_returned}
-use Rattle.ygg_type_progress.specs.Questions.{Follows}
-use Rattle.ygg_type_progress.proofs.Following.{follows_front, fits_after}
-use Rattle.ygg_rules.specs.declared.rule.RuleKind.{RuleKind}
-use Rattle.ygg_bank.proofs.Meaning.{fits_fewer}
-use Rattle.ygg_bank.specs.Inputs.{InputsBelow}
-use Rattle.ygg_bank.specs.Makes.{Out}
-use Rattle.ygg_bank.specs.Values.{Inputs, Values, Fits}
-use Rattle.ygg_bank.specs.declared.node.Node.{Node}
-use Rattle.ygg_shape_words.proofs.Keeps.{inputs_stay}
-use Rattle.ygg_shape_cells.specs.Terms.{worth}
-use Rattle.ygg_shape_cells.specs.declared.terms.SymValue.{SymValue}
-use Rattle.ygg_direct.specs.Direct.{Reached, direct_run, room_of}
-use Rattle.ygg_direct.specs.RunPlaces.{Finish, spec_space}
-use Rattle.ygg_sym_expr.specs.Names.{sym_bind}
-use Rattle.ygg_sym_expr.specs.Meaning.{Grows, worths}
+use Rattle.ygg_sym_laws.specs.ygg_type_rules.TypeErrors.{none}
+use Rattle.ygg_sym_laws.specs.ygg_type_rules.Definitions.{definitions_errors}
+use Rattle.ygg_sym_laws.specs.ygg_meaning.Environments.{Name, Env}
+use Rattle.ygg_sym_laws.specs.ygg_meaning.Meaning.{Functions, functions_of}
+use Rattle.ygg_sym_laws.specs.ygg_meaning.Shapes.{env_fits}
+use Rattle.ygg_sym_laws.specs.ygg_meaning.Progress.{Answer, answer_of}
+use Rattle.ygg_sym_laws.specs.ygg_meaning.Machine.{State, on, based}
+use Rattle.ygg_sym_laws.specs.ygg_meaning.Layer.{ClosedLayer, BlockRuns}
+use Rattle.ygg_sym_laws.specs.ygg_meaning.Refines.{OnSpec}
+use Rattle.ygg_sym_laws.specs.ygg_meaning.Spec.{Spec}
+use Rattle.ygg_sym_laws.specs.ygg_type_progress.Blocks.{eval_with, is_returned}
+use Rattle.ygg_sym_laws.specs.ygg_type_progress.Questions.{Follows}
+use Rattle.ygg_sym_laws.specs.ygg_type_progress_proofs_Following.{follows_front, fits_after}
+use Rattle.ygg_sym_laws.specs.ygg_rules.declared.rule.RuleKind.{RuleKind}
+use Rattle.ygg_sym_laws.specs.ygg_bank_proofs_Meaning.{fits_fewer}
+use Rattle.ygg_sym_laws.specs.ygg_bank.Inputs.{InputsBelow}
+use Rattle.ygg_sym_laws.specs.ygg_bank.Makes.{Out}
+use Rattle.ygg_sym_laws.specs.ygg_bank.Values.{Inputs, Values, Fits}
+use Rattle.ygg_sym_laws.specs.ygg_bank.declared.node.Node.{Node}
+use Rattle.ygg_sym_laws.specs.ygg_shape_words_proofs_Keeps.{inputs_stay}
+use Rattle.ygg_sym_laws.specs.ygg_shape_cells.Terms.{worth}
+use Rattle.ygg_sym_laws.specs.ygg_shape_cells.declared.terms.SymValue.{SymValue}
+use Rattle.ygg_sym_laws.specs.ygg_direct.Direct.{Reached, direct_run, room_of}
+use Rattle.ygg_sym_laws.specs.ygg_direct.RunPlaces.{Finish, spec_space}
+use Rattle.ygg_sym_laws.specs.ygg_sym_expr.Names.{sym_bind}
+use Rattle.ygg_sym_laws.specs.ygg_sym_expr.Meaning.{Grows, worths}
 use Rattle.ygg_sym_laws.specs.Meaning.{answer_worth}
 use Rattle.ygg_sym_laws.specs.Laws.{picked_by}
 use Rattle.ygg_sym_laws.specs.Lows.{low_worth}

@@ -34,11 +34,11 @@ use Rattle.std.specs.Str.{bytes_eq}
 use Rattle.std.proofs.lemmas.Option.{slice_get_read, slice_get-map}
 use Rattle.std.proofs.lemmas.List.{map-set}
 use Rattle.std.proofs.Math.Seq.{take-append_seam}
-use Rattle.ygg_meaning.specs.Environments.{Name}
-use Rattle.ygg_type_sound.proofs.Tests.{bytes_same}
-use Rattle.ygg_bank.specs.Makes.{Make, Out, pure, and_make}
-use Rattle.ygg_bank.specs.declared.node.Node.{Node}
-use Rattle.ygg_shape_cells.specs.declared.terms.SymValue.{SymValue}
+use Rattle.ygg_direct.specs.ygg_meaning.Environments.{Name}
+use Rattle.ygg_direct.specs.ygg_type_sound_proofs_Tests.{bytes_same}
+use Rattle.ygg_sym_expr.specs.ygg_bank.Makes.{Make, Out, pure, and_make}
+use Rattle.ygg_sym_expr.specs.ygg_bank.declared.node.Node.{Node}
+use Rattle.ygg_sym_expr.specs.ygg_shape_cells.declared.terms.SymValue.{SymValue}
 use Rattle.ygg_sym_expr.specs.Names.{SymEnv, sym_look_up}
 use Rattle.ygg_sym_expr.specs.Seen.{env_of}
 use Rattle.ygg_sym_expr.specs.declared.held.SymBinding.{SymBinding}

@@ -1,16 +1,16 @@
 -- Names of two lists that go together are merged one by one.
 use Rattle.std.proofs.Common.{◌≡◌, ◌<◌, ℕ, zero, suc, List, [], ◌∷◌, length, get_or, refl, sym, ap, ◌∙◌, subst, arith}
-use Rattle.ygg_rules.specs.declared.rule.RuleKind.{RuleKind}
-use Rattle.ygg_bank.specs.Makes.{Out}
-use Rattle.ygg_bank.proofs.Widths.{wider}
-use Rattle.ygg_bank.specs.Nodes.{Extends}
-use Rattle.ygg_bank.specs.declared.node.Id.{Id}
-use Rattle.ygg_bank.specs.declared.node.Node.{Node}
-use Rattle.ygg_shape.proofs.Keeps.{merged_keeps}
-use Rattle.ygg_shape_cells.proofs.Wider.{has_wider}
-use Rattle.ygg_shape_cells.specs.Making.{merged}
-use Rattle.ygg_shape_cells.specs.Terms.{AreAlike}
-use Rattle.ygg_shape_cells.specs.declared.terms.SymValue.{SymValue}
+use Rattle.ygg_sym_expr.specs.ygg_rules.declared.rule.RuleKind.{RuleKind}
+use Rattle.ygg_sym_expr.specs.ygg_bank.Makes.{Out}
+use Rattle.ygg_sym_expr.specs.ygg_bank_proofs_Widths.{wider}
+use Rattle.ygg_sym_expr.specs.ygg_bank.Nodes.{Extends}
+use Rattle.ygg_sym_expr.specs.ygg_bank.declared.node.Id.{Id}
+use Rattle.ygg_sym_expr.specs.ygg_bank.declared.node.Node.{Node}
+use Rattle.ygg_sym_expr.specs.ygg_shape_proofs_Keeps.{merged_keeps}
+use Rattle.ygg_sym_expr.specs.ygg_shape_cells_proofs_Wider.{has_wider}
+use Rattle.ygg_sym_expr.specs.ygg_shape_cells.Making.{merged}
+use Rattle.ygg_sym_expr.specs.ygg_shape_cells.Terms.{AreAlike}
+use Rattle.ygg_sym_expr.specs.ygg_shape_cells.declared.terms.SymValue.{SymValue}
 use Rattle.ygg_sym_expr.specs.Names.{SymEnv}
 use Rattle.ygg_sym_expr.specs.Exprs.{SymFunctions}
 use Rattle.ygg_sym_expr.specs.Seen.{env_of}

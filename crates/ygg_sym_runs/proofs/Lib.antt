@@ -1,3 +1,9 @@
+pub use Rattle.ygg_sym_expr.proofs.of_ygg_bank
+pub use Rattle.ygg_direct.proofs as of_ygg_direct
+pub use Rattle.ygg_direct.proofs.of_ygg_histories
+pub use Rattle.ygg_sym_expr.proofs.of_ygg_shape
+pub use Rattle.ygg_sym_expr.proofs as of_ygg_sym_expr
+pub use Rattle.ygg_direct.proofs.of_ygg_type_progress
 pub mod Worths
 pub mod Below
 pub mod Putting

@@ -5,11 +5,11 @@ use Rattle.ygg_syntax.specs.declared.tree.Def.{Def}
 use Rattle.ygg_syntax.specs.declared.tree.Expr.{Expr}
 use Rattle.ygg_syntax.specs.declared.tree.Stmt.{Stmt}
 use Rattle.ygg_syntax.specs.declared.tree.Stmt.TheVariants as tree
-use Rattle.ygg_type_rules.specs.Statements.{block_errors}
-use Rattle.ygg_type_progress.specs.Kinds.{keeps}
-use Rattle.ygg_bank.proofs.Widths.{extends_both}
-use Rattle.ygg_bank.specs.Nodes.{Extends}
-use Rattle.ygg_bank.specs.declared.node.Node.{Node}
+use Rattle.ygg_direct.specs.ygg_type_rules.Statements.{block_errors}
+use Rattle.ygg_direct.specs.ygg_type_progress.Kinds.{keeps}
+use Rattle.ygg_sym_expr.specs.ygg_bank_proofs_Widths.{extends_both}
+use Rattle.ygg_sym_expr.specs.ygg_bank.Nodes.{Extends}
+use Rattle.ygg_sym_expr.specs.ygg_bank.declared.node.Node.{Node}
 use Rattle.ygg_sym_expr.specs.Names.{SymEnv}
 use Rattle.ygg_sym_runs.specs.Lower.{SymMeaning, IsLower, KeepsSingle}
 use Rattle.ygg_sym_runs.specs.Ready.{CanStep, CanRun, CanEnter, Ended}

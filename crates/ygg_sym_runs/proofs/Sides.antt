@@ -13,28 +13,28 @@ use Rattle.ygg_syntax.specs.declared.tree.Numeral.{Numeral}
 use Rattle.ygg_syntax.specs.declared.tree.Stmt.{Stmt}
 use Rattle.ygg_syntax.specs.declared.tree.Stmt.TheOpen.{Stmt-F}
 use Rattle.ygg_syntax.specs.declared.tree.Stmt.TheVariants as tree
-use Rattle.ygg_type_rules.specs.Shapes.{is_word, width_of}
-use Rattle.ygg_type_rules.specs.TypeErrors.{none}
-use Rattle.ygg_type_rules.specs.Scopes.{Scope}
-use Rattle.ygg_type_rules.specs.Expressions.{typing, wanted, expected_errors}
-use Rattle.ygg_type_rules.specs.Statements.{node_walked, walked, block_errors}
-use Rattle.ygg_type_sound.proofs.Tests.{left as first_of, right as second_of}
-use Rattle.ygg_type_sound.proofs.Fits.{word_wide}
-use Rattle.ygg_type_sound.proofs.Rules.{wanted_has}
-use Rattle.ygg_type_progress.specs.Blocks.{eval_with}
-use Rattle.ygg_type_progress.specs.Kinds.{keeps, node_keeps, stmt_keeps}
-use Rattle.ygg_type_progress.specs.Questions.{plain, Follows}
-use Rattle.ygg_type_progress.proofs.Fits.{one_shape}
-use Rattle.ygg_meaning.specs.Environments.{Name, Env}
-use Rattle.ygg_rules.specs.declared.rule.RuleKind.{RuleKind}
-use Rattle.ygg_bank.proofs.Meaning.{fits_fewer}
-use Rattle.ygg_bank.proofs.Widths.{wider}
-use Rattle.ygg_bank.specs.Nodes.{HasWidth, IsBank, Extends}
-use Rattle.ygg_bank.specs.Values.{Inputs, Values, Fits}
-use Rattle.ygg_bank.specs.declared.node.Id.{Id}
-use Rattle.ygg_bank.specs.declared.node.Node.{Node}
-use Rattle.ygg_shape_cells.specs.Terms.{IsShaped, worth}
-use Rattle.ygg_shape_cells.specs.declared.terms.SymValue.{SymValue}
+use Rattle.ygg_direct.specs.ygg_type_rules.Shapes.{is_word, width_of}
+use Rattle.ygg_direct.specs.ygg_type_rules.TypeErrors.{none}
+use Rattle.ygg_direct.specs.ygg_type_rules.Scopes.{Scope}
+use Rattle.ygg_direct.specs.ygg_type_rules.Expressions.{typing, wanted, expected_errors}
+use Rattle.ygg_direct.specs.ygg_type_rules.Statements.{node_walked, walked, block_errors}
+use Rattle.ygg_direct.specs.ygg_type_sound_proofs_Tests.{left as first_of, right as second_of}
+use Rattle.ygg_direct.specs.ygg_type_sound_proofs_Fits.{word_wide}
+use Rattle.ygg_direct.specs.ygg_type_sound_proofs_Rules.{wanted_has}
+use Rattle.ygg_direct.specs.ygg_type_progress.Blocks.{eval_with}
+use Rattle.ygg_direct.specs.ygg_type_progress.Kinds.{keeps, node_keeps, stmt_keeps}
+use Rattle.ygg_direct.specs.ygg_type_progress.Questions.{plain, Follows}
+use Rattle.ygg_direct.specs.ygg_type_progress_proofs_Fits.{one_shape}
+use Rattle.ygg_direct.specs.ygg_meaning.Environments.{Name, Env}
+use Rattle.ygg_sym_expr.specs.ygg_rules.declared.rule.RuleKind.{RuleKind}
+use Rattle.ygg_sym_expr.specs.ygg_bank_proofs_Meaning.{fits_fewer}
+use Rattle.ygg_sym_expr.specs.ygg_bank_proofs_Widths.{wider}
+use Rattle.ygg_sym_expr.specs.ygg_bank.Nodes.{HasWidth, IsBank, Extends}
+use Rattle.ygg_sym_expr.specs.ygg_bank.Values.{Inputs, Values, Fits}
+use Rattle.ygg_sym_expr.specs.ygg_bank.declared.node.Id.{Id}
+use Rattle.ygg_sym_expr.specs.ygg_bank.declared.node.Node.{Node}
+use Rattle.ygg_sym_expr.specs.ygg_shape_cells.Terms.{IsShaped, worth}
+use Rattle.ygg_sym_expr.specs.ygg_shape_cells.declared.terms.SymValue.{SymValue}
 use Rattle.ygg_sym_expr.specs.Names.{SymEnv}
 use Rattle.ygg_sym_expr.specs.Exprs.{id_in, sym_value}
 use Rattle.ygg_sym_expr.specs.Meaning.{EnvShaped, worths}

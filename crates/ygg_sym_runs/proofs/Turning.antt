@@ -9,27 +9,27 @@ use Rattle.ygg_syntax.specs.declared.tree.Block.{Block}
 use Rattle.ygg_syntax.specs.declared.tree.Def.{Def}
 use Rattle.ygg_syntax.specs.declared.tree.Name as tree_name
 use Rattle.ygg_syntax.specs.declared.tree.Numeral.{Numeral}
-use Rattle.ygg_type_rules.specs.Shapes.{word_shape}
-use Rattle.ygg_type_rules.specs.TypeErrors.{none}
-use Rattle.ygg_type_rules.specs.Scopes.{is_taken}
-use Rattle.ygg_type_rules.specs.Expressions.{with_number, number_errors}
-use Rattle.ygg_type_rules.specs.Statements.{block_errors}
-use Rattle.ygg_type_sound.specs.Agrees.{Agrees}
-use Rattle.ygg_type_sound.proofs.Tests.{left as first_of, right as second_of}
-use Rattle.ygg_type_sound.proofs.Rules.{NumberParts, number_parts}
-use Rattle.ygg_type_sound.proofs.Steps.{agrees_with_number}
-use Rattle.ygg_type_progress.specs.Questions.{plain, Follows}
-use Rattle.ygg_type_progress.proofs.Asking.{local_lower}
-use Rattle.ygg_type_progress.proofs.Following.{follows_front, agrees_after}
-use Rattle.ygg_meaning.specs.Environments.{Name, Env}
-use Rattle.ygg_meaning.specs.Meaning.{functions_of}
-use Rattle.ygg_rules.specs.declared.rule.RuleKind.{RuleKind}
-use Rattle.ygg_bank.proofs.Meaning.{fits_fewer}
-use Rattle.ygg_bank.specs.Nodes.{IsBank, Extends}
-use Rattle.ygg_bank.specs.declared.node.Node.{Node}
-use Rattle.ygg_bank.specs.declared.node.Node.TheVariants as node
-use Rattle.ygg_shape_cells.specs.Terms.{worth}
-use Rattle.ygg_shape_cells.specs.declared.terms.SymValue.{SymValue}
+use Rattle.ygg_direct.specs.ygg_type_rules.Shapes.{word_shape}
+use Rattle.ygg_direct.specs.ygg_type_rules.TypeErrors.{none}
+use Rattle.ygg_direct.specs.ygg_type_rules.Scopes.{is_taken}
+use Rattle.ygg_direct.specs.ygg_type_rules.Expressions.{with_number, number_errors}
+use Rattle.ygg_direct.specs.ygg_type_rules.Statements.{block_errors}
+use Rattle.ygg_direct.specs.ygg_type_sound.Agrees.{Agrees}
+use Rattle.ygg_direct.specs.ygg_type_sound_proofs_Tests.{left as first_of, right as second_of}
+use Rattle.ygg_direct.specs.ygg_type_sound_proofs_Rules.{NumberParts, number_parts}
+use Rattle.ygg_direct.specs.ygg_type_sound_proofs_Steps.{agrees_with_number}
+use Rattle.ygg_direct.specs.ygg_type_progress.Questions.{plain, Follows}
+use Rattle.ygg_direct.specs.ygg_type_progress_proofs_Asking.{local_lower}
+use Rattle.ygg_direct.specs.ygg_type_progress_proofs_Following.{follows_front, agrees_after}
+use Rattle.ygg_direct.specs.ygg_meaning.Environments.{Name, Env}
+use Rattle.ygg_direct.specs.ygg_meaning.Meaning.{functions_of}
+use Rattle.ygg_sym_expr.specs.ygg_rules.declared.rule.RuleKind.{RuleKind}
+use Rattle.ygg_sym_expr.specs.ygg_bank_proofs_Meaning.{fits_fewer}
+use Rattle.ygg_sym_expr.specs.ygg_bank.Nodes.{IsBank, Extends}
+use Rattle.ygg_sym_expr.specs.ygg_bank.declared.node.Node.{Node}
+use Rattle.ygg_sym_expr.specs.ygg_bank.declared.node.Node.TheVariants as node
+use Rattle.ygg_sym_expr.specs.ygg_shape_cells.Terms.{worth}
+use Rattle.ygg_sym_expr.specs.ygg_shape_cells.declared.terms.SymValue.{SymValue}
 use Rattle.ygg_sym_expr.specs.Names.{SymEnv}
 use Rattle.ygg_sym_expr.specs.Exprs.{number_made}
 use Rattle.ygg_sym_expr.specs.Meaning.{EnvShaped, worths}

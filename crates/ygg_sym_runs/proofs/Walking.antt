@@ -10,32 +10,32 @@ use Rattle.ygg_syntax.specs.declared.tree.Name as tree_name
 use Rattle.ygg_syntax.specs.declared.tree.Place.{Place}
 use Rattle.ygg_syntax.specs.declared.tree.Source.TheVariants as source
 use Rattle.ygg_syntax.specs.declared.tree.Stmt.{Stmt}
-use Rattle.ygg_symbols.specs.Names.{Named}
-use Rattle.ygg_type_rules.specs.declared.scope.Signature.{Signature}
-use Rattle.ygg_type_rules.specs.TypeErrors.{TypeErrors, none}
-use Rattle.ygg_type_rules.specs.Scopes.{Scope}
-use Rattle.ygg_type_rules.specs.Expressions.{typing, typings, type_errors_in}
-use Rattle.ygg_type_rules.specs.Statements.{source_typing, call_typing, place_rule, return_errors, walked, block_errors}
-use Rattle.ygg_type_rules.specs.Statements as rules
-use Rattle.ygg_type_rules.specs.Definitions.{definitions_errors, with_definitions}
-use Rattle.ygg_meaning.specs.Environments.{Name}
-use Rattle.ygg_meaning.specs.Meaning.{Functions, functions_of}
-use Rattle.ygg_meaning.specs.Progress.{values_of}
-use Rattle.ygg_meaning.specs.Progress as progress
-use Rattle.ygg_type_sound.specs.Agrees.{Agrees}
-use Rattle.ygg_type_sound.proofs.Tests.{left as first_of, right as second_of}
-use Rattle.ygg_type_progress.specs.Blocks.{eval_with}
-use Rattle.ygg_type_progress.specs.Kinds.{all_keep, stmt_keeps}
-use Rattle.ygg_type_progress.specs.Questions.{plain, question_fits, Follows}
+use Rattle.ygg_direct.specs.ygg_symbols.Names.{Named}
+use Rattle.ygg_direct.specs.ygg_type_rules.declared.scope.Signature.{Signature}
+use Rattle.ygg_direct.specs.ygg_type_rules.TypeErrors.{TypeErrors, none}
+use Rattle.ygg_direct.specs.ygg_type_rules.Scopes.{Scope}
+use Rattle.ygg_direct.specs.ygg_type_rules.Expressions.{typing, typings, type_errors_in}
+use Rattle.ygg_direct.specs.ygg_type_rules.Statements.{source_typing, call_typing, place_rule, return_errors, walked, block_errors}
+use Rattle.ygg_direct.specs.ygg_type_rules.Statements as rules
+use Rattle.ygg_direct.specs.ygg_type_rules.Definitions.{definitions_errors, with_definitions}
+use Rattle.ygg_direct.specs.ygg_meaning.Environments.{Name}
+use Rattle.ygg_direct.specs.ygg_meaning.Meaning.{Functions, functions_of}
+use Rattle.ygg_direct.specs.ygg_meaning.Progress.{values_of}
+use Rattle.ygg_direct.specs.ygg_meaning.Progress as progress
+use Rattle.ygg_direct.specs.ygg_type_sound.Agrees.{Agrees}
+use Rattle.ygg_direct.specs.ygg_type_sound_proofs_Tests.{left as first_of, right as second_of}
+use Rattle.ygg_direct.specs.ygg_type_progress.Blocks.{eval_with}
+use Rattle.ygg_direct.specs.ygg_type_progress.Kinds.{all_keep, stmt_keeps}
+use Rattle.ygg_direct.specs.ygg_type_progress.Questions.{plain, question_fits, Follows}
 use Rattle.ygg_direct.specs.Direct.{forgets, in_order, direct_of}
-use Rattle.ygg_type_progress.proofs.Sounds.{call_fits}
-use Rattle.ygg_type_progress.proofs.TypeErrors.{called}
-use Rattle.ygg_rules.specs.declared.rule.RuleKind.{RuleKind}
-use Rattle.ygg_bank.proofs.Meaning.{fits_fewer}
-use Rattle.ygg_bank.specs.Nodes.{IsBank, Extends}
-use Rattle.ygg_bank.specs.Values.{Inputs, Values, Fits}
-use Rattle.ygg_bank.specs.declared.node.Node.{Node}
-use Rattle.ygg_shape_cells.specs.declared.terms.SymValue.{SymValue}
+use Rattle.ygg_direct.specs.ygg_type_progress_proofs_Sounds.{call_fits}
+use Rattle.ygg_direct.specs.ygg_type_progress_proofs_TypeErrors.{called}
+use Rattle.ygg_sym_expr.specs.ygg_rules.declared.rule.RuleKind.{RuleKind}
+use Rattle.ygg_sym_expr.specs.ygg_bank_proofs_Meaning.{fits_fewer}
+use Rattle.ygg_sym_expr.specs.ygg_bank.Nodes.{IsBank, Extends}
+use Rattle.ygg_sym_expr.specs.ygg_bank.Values.{Inputs, Values, Fits}
+use Rattle.ygg_sym_expr.specs.ygg_bank.declared.node.Node.{Node}
+use Rattle.ygg_sym_expr.specs.ygg_shape_cells.declared.terms.SymValue.{SymValue}
 use Rattle.ygg_sym_expr.specs.Names.{SymEnv}
 use Rattle.ygg_sym_expr.specs.Exprs.{SymFunctions}
 use Rattle.ygg_sym_expr.specs.Meaning.{worths}

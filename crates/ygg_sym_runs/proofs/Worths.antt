@@ -7,31 +7,31 @@ use Rattle.ygg_value.specs.Shapes.{IsValue}
 use Rattle.ygg_value.specs.declared.row.Value.{Value}
 use Rattle.ygg_value.specs.declared.shape.Shape.{Shape}
 use Rattle.ygg_value.specs.declared.shape.Shape.TheVariants as shape
-use Rattle.ygg_meaning.specs.Environments.{Name, Env}
-use Rattle.ygg_meaning.specs.Shapes.{fits}
-use Rattle.ygg_type_sound.proofs.Fits.{value_fits}
-use Rattle.ygg_type_progress.specs.Questions.{Follows}
-use Rattle.ygg_type_progress.proofs.Fits.{one_shape}
-use Rattle.ygg_rules.specs.declared.rule.RuleKind.{RuleKind}
-use Rattle.ygg_bank.proofs.Meaning.{fits_fewer}
-use Rattle.ygg_bank.proofs.Widths.{wider, extends_self, extends_both}
-use Rattle.ygg_bank.specs.Nodes.{HasWidth}
-use Rattle.ygg_bank.specs.Values.{Inputs, Values, Fits}
-use Rattle.ygg_bank.specs.declared.node.Id.{Id}
-use Rattle.ygg_bank.specs.declared.node.Node.{Node}
-use Rattle.ygg_shape.proofs.Makers.{merged_gives}
-use Rattle.ygg_shape.proofs.Worth.{digits, grid, row_worth, table_worth}
-use Rattle.ygg_shape_cells.specs.Making.{merged}
-use Rattle.ygg_shape_cells.specs.Terms.{worth, numbers_of}
-use Rattle.ygg_shape_cells.specs.Terms as cells
-use Rattle.ygg_shape_cells.specs.declared.terms.SymValue.{SymValue}
-use Rattle.ygg_shape_cells.specs.declared.terms.SymValue.TheVariants.{Word, Row, Table}
+use Rattle.ygg_direct.specs.ygg_meaning.Environments.{Name, Env}
+use Rattle.ygg_direct.specs.ygg_meaning.Shapes.{fits}
+use Rattle.ygg_direct.specs.ygg_type_sound_proofs_Fits.{value_fits}
+use Rattle.ygg_direct.specs.ygg_type_progress.Questions.{Follows}
+use Rattle.ygg_direct.specs.ygg_type_progress_proofs_Fits.{one_shape}
+use Rattle.ygg_sym_expr.specs.ygg_rules.declared.rule.RuleKind.{RuleKind}
+use Rattle.ygg_sym_expr.specs.ygg_bank_proofs_Meaning.{fits_fewer}
+use Rattle.ygg_sym_expr.specs.ygg_bank_proofs_Widths.{wider, extends_self, extends_both}
+use Rattle.ygg_sym_expr.specs.ygg_bank.Nodes.{HasWidth}
+use Rattle.ygg_sym_expr.specs.ygg_bank.Values.{Inputs, Values, Fits}
+use Rattle.ygg_sym_expr.specs.ygg_bank.declared.node.Id.{Id}
+use Rattle.ygg_sym_expr.specs.ygg_bank.declared.node.Node.{Node}
+use Rattle.ygg_sym_expr.specs.ygg_shape_proofs_Makers.{merged_gives}
+use Rattle.ygg_sym_expr.specs.ygg_shape_proofs_Worth.{digits, grid, row_worth, table_worth}
+use Rattle.ygg_sym_expr.specs.ygg_shape_cells.Making.{merged}
+use Rattle.ygg_sym_expr.specs.ygg_shape_cells.Terms.{worth, numbers_of}
+use Rattle.ygg_sym_expr.specs.ygg_shape_cells.Terms as cells
+use Rattle.ygg_sym_expr.specs.ygg_shape_cells.declared.terms.SymValue.{SymValue}
+use Rattle.ygg_sym_expr.specs.ygg_shape_cells.declared.terms.SymValue.TheVariants.{Word, Row, Table}
 use Rattle.ygg_sym_expr.specs.Names.{SymEnv}
 use Rattle.ygg_sym_expr.specs.Exprs.{SymFunctions}
-use Rattle.ygg_shape_cells.specs.Terms.{IsShaped}
+use Rattle.ygg_sym_expr.specs.ygg_shape_cells.Terms.{IsShaped}
 use Rattle.ygg_sym_expr.specs.Meaning.{SomeShape, EnvShaped, Grows, Gives, worths}
 use Rattle.ygg_sym_expr.proofs.Shaped.{worth_shape, some_wider, env_wider}
-use Rattle.ygg_shape.proofs.Grows.{merged_grows}
+use Rattle.ygg_sym_expr.specs.ygg_shape_proofs_Grows.{merged_grows}
 use Rattle.ygg_sym_runs.specs.Runs.{SymMachine, merge_env}
 use Rattle.ygg_sym_runs.specs.Meaning.{is_set}
 

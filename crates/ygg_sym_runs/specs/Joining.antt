@@ -1,7 +1,7 @@
 -- What lets the ends of two sides be merged.
 use Rattle.std.specs.Prelude.{List}
-use Rattle.ygg_bank.specs.declared.node.Id.{Id}
-use Rattle.ygg_bank.specs.declared.node.Node.{Node}
+use Rattle.ygg_sym_expr.specs.ygg_bank.declared.node.Id.{Id}
+use Rattle.ygg_sym_expr.specs.ygg_bank.declared.node.Node.{Node}
 use Rattle.ygg_sym_expr.specs.Names.{SymEnv}
 use Rattle.ygg_sym_runs.specs.Lower.{SymMeaning, CanMerge}
 use Rattle.ygg_sym_runs.specs.Ready.{CanJoin}

@@ -1,3 +1,61 @@
+pub use Rattle.ygg_sym_expr.specs.ygg_bank_proofs_Exist
+pub use Rattle.ygg_sym_expr.specs.ygg_bank_proofs_Inputs
+pub use Rattle.ygg_sym_expr.specs.ygg_bank_proofs_Made
+pub use Rattle.ygg_sym_expr.specs.ygg_bank_proofs_Meaning
+pub use Rattle.ygg_sym_expr.specs.ygg_bank_proofs_Widths
+pub use Rattle.ygg_sym_expr.specs.ygg_bank
+pub use Rattle.ygg_direct.proofs.Choosing as ygg_direct_proofs_Choosing
+pub use Rattle.ygg_direct.proofs.DiskServes as ygg_direct_proofs_DiskServes
+pub use Rattle.ygg_direct.proofs.Mirror as ygg_direct_proofs_Mirror
+pub use Rattle.ygg_direct.proofs.Order as ygg_direct_proofs_Order
+pub use Rattle.ygg_direct.proofs.Placing as ygg_direct_proofs_Placing
+pub use Rattle.ygg_direct.proofs.Rooms as ygg_direct_proofs_Rooms
+pub use Rattle.ygg_direct.proofs.RunPlacing as ygg_direct_proofs_RunPlacing
+pub use Rattle.ygg_direct.proofs.SpecServes as ygg_direct_proofs_SpecServes
+pub use Rattle.ygg_direct.specs as ygg_direct
+pub use Rattle.ygg_direct.specs.ygg_disk
+pub use Rattle.ygg_direct.specs.ygg_histories
+pub use Rattle.ygg_direct.specs.ygg_meaning
+pub use Rattle.ygg_sym_expr.specs.ygg_rules
+pub use Rattle.ygg_sym_expr.specs.ygg_shape_proofs_Grows
+pub use Rattle.ygg_sym_expr.specs.ygg_shape_proofs_Keeps
+pub use Rattle.ygg_sym_expr.specs.ygg_shape_proofs_Makers
+pub use Rattle.ygg_sym_expr.specs.ygg_shape
+pub use Rattle.ygg_sym_expr.specs.ygg_shape_cells_proofs_Wider
+pub use Rattle.ygg_sym_expr.specs.ygg_shape_cells
+pub use Rattle.ygg_sym_expr.specs.ygg_shape_words_proofs_Fit
+pub use Rattle.ygg_sym_expr.specs.ygg_shape_words_proofs_Grows
+pub use Rattle.ygg_sym_expr.specs.ygg_shape_words_proofs_Keeps
+pub use Rattle.ygg_sym_expr.specs.ygg_shape_words_proofs_Picks
+pub use Rattle.ygg_sym_expr.specs.ygg_shape_words_proofs_Terms
+pub use Rattle.ygg_sym_expr.specs.ygg_shape_words
+pub use Rattle.ygg_sym_expr.proofs.Definitions as ygg_sym_expr_proofs_Definitions
+pub use Rattle.ygg_sym_expr.proofs.Grows as ygg_sym_expr_proofs_Grows
+pub use Rattle.ygg_sym_expr.proofs.Keeps as ygg_sym_expr_proofs_Keeps
+pub use Rattle.ygg_sym_expr.proofs.Shaped as ygg_sym_expr_proofs_Shaped
+pub use Rattle.ygg_sym_expr.proofs.Values as ygg_sym_expr_proofs_Values
+pub use Rattle.ygg_sym_expr.specs as ygg_sym_expr
+pub use Rattle.ygg_direct.specs.ygg_symbols
+pub use Rattle.ygg_direct.specs.ygg_syntax_count
+pub use Rattle.ygg_direct.specs.ygg_type_progress_proofs_Disks
+pub use Rattle.ygg_direct.specs.ygg_type_progress_proofs_Files
+pub use Rattle.ygg_direct.specs.ygg_type_progress_proofs_Fits
+pub use Rattle.ygg_direct.specs.ygg_type_progress_proofs_Following
+pub use Rattle.ygg_direct.specs.ygg_type_progress_proofs_Operations
+pub use Rattle.ygg_direct.specs.ygg_type_progress_proofs_Sizes
+pub use Rattle.ygg_direct.specs.ygg_type_progress_proofs_Sounds
+pub use Rattle.ygg_direct.specs.ygg_type_progress_proofs_Specs
+pub use Rattle.ygg_direct.specs.ygg_type_progress_proofs_TypeErrors
+pub use Rattle.ygg_direct.specs.ygg_type_progress_proofs_Typed
+pub use Rattle.ygg_direct.specs.ygg_type_progress
+pub use Rattle.ygg_direct.specs.ygg_type_rules
+pub use Rattle.ygg_direct.specs.ygg_type_sound_proofs_Definitions
+pub use Rattle.ygg_direct.specs.ygg_type_sound_proofs_Fits
+pub use Rattle.ygg_direct.specs.ygg_type_sound_proofs_Parameters
+pub use Rattle.ygg_direct.specs.ygg_type_sound_proofs_Rules
+pub use Rattle.ygg_direct.specs.ygg_type_sound_proofs_Sounds
+pub use Rattle.ygg_direct.specs.ygg_type_sound_proofs_Tests
+pub use Rattle.ygg_direct.specs.ygg_type_sound
 pub use Rattle.ygg_sym_expr.specs.Exprs
 pub mod Putting
 pub mod Runs

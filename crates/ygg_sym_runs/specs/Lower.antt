@@ -1,17 +1,17 @@
 -- The machine that a run over terms stands on, and what its steps ask.
 use Rattle.std.specs.Prelude.{◌≡◌, ◌≤◌, ◌^◌, ℕ, IsTrue, List, Option, Some, None, slice_get}
 use Rattle.ygg_syntax.specs.declared.grammar.BlockKind.{BlockKind}
-use Rattle.ygg_symbols.specs.Names.{Named}
-use Rattle.ygg_type_rules.specs.declared.scope.Signature.{Signature}
-use Rattle.ygg_meaning.specs.Environments.{Name}
-use Rattle.ygg_meaning.specs.Progress.{Question}
-use Rattle.ygg_type_progress.specs.Questions.{question_fits}
-use Rattle.ygg_rules.specs.declared.rule.RuleKind.{RuleKind}
-use Rattle.ygg_bank.specs.Nodes.{HasWidth}
-use Rattle.ygg_bank.specs.Values.{Inputs, Values, Fits}
-use Rattle.ygg_bank.specs.declared.node.Id.{Id}
-use Rattle.ygg_bank.specs.declared.node.Node.{Node}
-use Rattle.ygg_bank.specs.declared.node.Node.TheVariants.{Input}
+use Rattle.ygg_direct.specs.ygg_symbols.Names.{Named}
+use Rattle.ygg_direct.specs.ygg_type_rules.declared.scope.Signature.{Signature}
+use Rattle.ygg_direct.specs.ygg_meaning.Environments.{Name}
+use Rattle.ygg_direct.specs.ygg_meaning.Progress.{Question}
+use Rattle.ygg_direct.specs.ygg_type_progress.Questions.{question_fits}
+use Rattle.ygg_sym_expr.specs.ygg_rules.declared.rule.RuleKind.{RuleKind}
+use Rattle.ygg_sym_expr.specs.ygg_bank.Nodes.{HasWidth}
+use Rattle.ygg_sym_expr.specs.ygg_bank.Values.{Inputs, Values, Fits}
+use Rattle.ygg_sym_expr.specs.ygg_bank.declared.node.Id.{Id}
+use Rattle.ygg_sym_expr.specs.ygg_bank.declared.node.Node.{Node}
+use Rattle.ygg_sym_expr.specs.ygg_bank.declared.node.Node.TheVariants.{Input}
 use Rattle.ygg_direct.specs.Direct.{Handled}
 use Rattle.ygg_sym_runs.specs.Runs.{SymQuestion, SymMachine}
 use Rattle.ygg_sym_runs.specs.Runs as runs

@@ -13,27 +13,27 @@ use Rattle.ygg_syntax.specs.declared.tree.Place.{Place}
 use Rattle.ygg_syntax.specs.declared.tree.Source.{Source}
 use Rattle.ygg_syntax.specs.declared.tree.Stmt.{Stmt}
 use Rattle.ygg_syntax.specs.declared.tree.Stmt.TheOpen.{Stmt-F}
-use Rattle.ygg_type_rules.specs.TypeErrors.{TypeErrors, none, both}
-use Rattle.ygg_type_rules.specs.Scopes.{Scope, is_taken}
-use Rattle.ygg_type_rules.specs.Expressions.{with_number, number_errors}
-use Rattle.ygg_type_rules.specs.Statements.{source_typing, call_typing, place_rule, assignment_errors, in_order, node_walked, walked, block_errors}
-use Rattle.ygg_type_rules.specs.Definitions.{definitions_errors, with_definitions}
-use Rattle.ygg_meaning.specs.Environments.{Name}
-use Rattle.ygg_meaning.specs.Meaning.{functions_of}
-use Rattle.ygg_type_sound.specs.Agrees.{Agrees}
-use Rattle.ygg_type_progress.specs.Kinds.{may_call, source_keeps, all_keep, node_keeps, stmt_keeps, keeps}
-use Rattle.ygg_type_progress.specs.Questions.{plain}
-use Rattle.ygg_rules.specs.declared.rule.RuleKind.{RuleKind}
-use Rattle.ygg_bank.specs.Makes.{Make, pure, and_make}
-use Rattle.ygg_bank.specs.Nodes as bank
-use Rattle.ygg_bank.specs.Nodes.{HasWidth}
-use Rattle.ygg_bank.specs.Values.{Inputs, Values, Fits}
-use Rattle.ygg_bank.specs.declared.node.Id.{Id}
-use Rattle.ygg_bank.specs.declared.node.Node.{Node}
-use Rattle.ygg_shape_cells.specs.Lists.{each_two}
-use Rattle.ygg_shape_cells.specs.Making.{merged}
-use Rattle.ygg_shape_cells.specs.Terms.{AreAlike, IsShaped}
-use Rattle.ygg_shape_cells.specs.declared.terms.SymValue.{SymValue}
+use Rattle.ygg_direct.specs.ygg_type_rules.TypeErrors.{TypeErrors, none, both}
+use Rattle.ygg_direct.specs.ygg_type_rules.Scopes.{Scope, is_taken}
+use Rattle.ygg_direct.specs.ygg_type_rules.Expressions.{with_number, number_errors}
+use Rattle.ygg_direct.specs.ygg_type_rules.Statements.{source_typing, call_typing, place_rule, assignment_errors, in_order, node_walked, walked, block_errors}
+use Rattle.ygg_direct.specs.ygg_type_rules.Definitions.{definitions_errors, with_definitions}
+use Rattle.ygg_direct.specs.ygg_meaning.Environments.{Name}
+use Rattle.ygg_direct.specs.ygg_meaning.Meaning.{functions_of}
+use Rattle.ygg_direct.specs.ygg_type_sound.Agrees.{Agrees}
+use Rattle.ygg_direct.specs.ygg_type_progress.Kinds.{may_call, source_keeps, all_keep, node_keeps, stmt_keeps, keeps}
+use Rattle.ygg_direct.specs.ygg_type_progress.Questions.{plain}
+use Rattle.ygg_sym_expr.specs.ygg_rules.declared.rule.RuleKind.{RuleKind}
+use Rattle.ygg_sym_expr.specs.ygg_bank.Makes.{Make, pure, and_make}
+use Rattle.ygg_sym_expr.specs.ygg_bank.Nodes as bank
+use Rattle.ygg_sym_expr.specs.ygg_bank.Nodes.{HasWidth}
+use Rattle.ygg_sym_expr.specs.ygg_bank.Values.{Inputs, Values, Fits}
+use Rattle.ygg_sym_expr.specs.ygg_bank.declared.node.Id.{Id}
+use Rattle.ygg_sym_expr.specs.ygg_bank.declared.node.Node.{Node}
+use Rattle.ygg_sym_expr.specs.ygg_shape_cells.Lists.{each_two}
+use Rattle.ygg_sym_expr.specs.ygg_shape_cells.Making.{merged}
+use Rattle.ygg_sym_expr.specs.ygg_shape_cells.Terms.{AreAlike, IsShaped}
+use Rattle.ygg_sym_expr.specs.ygg_shape_cells.declared.terms.SymValue.{SymValue}
 use Rattle.ygg_direct.specs.Direct.{total}
 use Rattle.ygg_sym_expr.specs.Names.{SymEnv}
 use Rattle.ygg_sym_expr.specs.Exprs.{SymFunctions, sym_functions}

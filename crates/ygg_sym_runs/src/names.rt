@@ -1,7 +1,7 @@
 //! The names that a block sees, with their values of terms.
 
 ghost use Rattle.std.specs.Prelude.{◌≡◌, ◌<◌, ◌++◌, ◌∷◌, [], length, IfOk, IfSome, OnOk};
-ghost use Rattle.ygg_bank.specs.Nodes.{Extends, IsBank};
+ghost use Rattle.ygg_sym_expr.specs.ygg_bank.Nodes.{Extends, IsBank};
 ghost use Rattle.ygg_sym_expr.specs.Names.{sym_look_up};
 ghost use Rattle.ygg_sym_expr.specs.Seen.{env_of};
 ghost use Rattle.ygg_sym_runs.specs.Lower.{KeepsSingle};
@@ -11,12 +11,8 @@ ghost use Rattle.ygg_sym_runs.specs.Runs.{sym_change};
 
 use crate::written::put;
 use std::alloc::Global;
-use ygg_bank::{Bank, Id, NoMemory};
 use ygg_list::Duplicate;
-use ygg_rules::Book;
-use ygg_shape::merge;
-use ygg_shape_cells::SymValue;
-use ygg_sym_expr::SymBinding;
+use ygg_sym_expr::{Bank, Book, Id, NoMemory, SymBinding, SymValue, merge};
 use ygg_syntax::tree::Name;
 
 /// The same names with the same values. Its only error is out of memory.

@@ -1,7 +1,7 @@
 //! The expressions, calls and right sides of a block, over terms.
 
 ghost use Rattle.std.specs.Prelude.{◌≡◌, ◌+◌, IfOk, OnOk, All, map};
-ghost use Rattle.ygg_bank.specs.Nodes.{Extends, IsBank};
+ghost use Rattle.ygg_sym_expr.specs.ygg_bank.Nodes.{Extends, IsBank};
 ghost use Rattle.ygg_direct.specs.Direct.{source_space};
 ghost use Rattle.ygg_sym_expr.specs.Exprs.{id_in, sym_value};
 ghost use Rattle.ygg_sym_expr.specs.Seen.{CanTerm, env_of};
@@ -12,10 +12,9 @@ ghost use Rattle.ygg_sym_runs.specs.Runs.{places_of, plain_scope, sym_asks, sym_
 use crate::lower::SymLower;
 use crate::question::Question;
 use std::alloc::Global;
-use ygg_bank::{Bank, Id, NoMemory};
-use ygg_rules::Book;
-use ygg_shape_cells::{SymValue, SymValues};
-use ygg_sym_expr::{SymBinding, SymEvaluator, id_in};
+use ygg_sym_expr::{
+    Bank, Book, Id, NoMemory, SymBinding, SymEvaluator, SymValue, SymValues, id_in,
+};
 use ygg_syntax::tree::{Def, Expr, Index, Name, Source};
 
 /// What stays the same while a block is run over terms: the definitions of its file, the machine below it, and the rules of terms.

@@ -3,15 +3,15 @@ use Rattle.std.proofs.Common.{◌≡◌, ◌≤◌, List, [], Some, sym, subst}
 use Rattle.ygg_syntax.specs.declared.tree.Block.{Block}
 use Rattle.ygg_syntax.specs.declared.tree.Declared.{Declared}
 use Rattle.ygg_syntax.specs.declared.tree.Operation.{Operation}
-use Rattle.ygg_meaning.specs.Environments.{Name}
-use Rattle.ygg_meaning.specs.Layer.{operation_of}
-use Rattle.ygg_bank.specs.Nodes.{Extends}
-use Rattle.ygg_bank.specs.declared.node.Node.{Node}
-use Rattle.ygg_shape_cells.specs.declared.terms.SymValue.{SymValue}
-use Rattle.ygg_sym_runs.specs.Lower.{KeepsSingle}
-use Rattle.ygg_sym_runs.proofs.Singles.{single_less}
-use Rattle.ygg_sym_below.specs.Lows.{LowShaped}
-use Rattle.ygg_sym_below.proofs.Lows.{low_wider}
+use Rattle.ygg_sym_laws.specs.ygg_meaning.Environments.{Name}
+use Rattle.ygg_sym_laws.specs.ygg_meaning.Layer.{operation_of}
+use Rattle.ygg_sym_laws.specs.ygg_bank.Nodes.{Extends}
+use Rattle.ygg_sym_laws.specs.ygg_bank.declared.node.Node.{Node}
+use Rattle.ygg_sym_laws.specs.ygg_shape_cells.declared.terms.SymValue.{SymValue}
+use Rattle.ygg_sym_laws.specs.ygg_sym_runs.Lower.{KeepsSingle}
+use Rattle.ygg_sym_laws.proofs.of_ygg_sym_runs.Singles.{single_less}
+use Rattle.ygg_sym_laws.specs.ygg_sym_below.Lows.{LowShaped}
+use Rattle.ygg_sym_laws.specs.ygg_sym_below_proofs_Lows.{low_wider}
 use Rattle.ygg_sym_laws.specs.Typed.{SpecBlockTyped}
 use Rattle.ygg_sym_spec.specs.Layers.{CanBlock, CanCut, CanFall, closed}
 use Rattle.ygg_sym_spec.specs.Picking.{first_number}

@@ -3,21 +3,21 @@ use Rattle.std.specs.Prelude.{◌≡◌, IsTrue, List, [], Some}
 use Rattle.ygg_syntax.specs.declared.tree.Block.{Block}
 use Rattle.ygg_syntax.specs.declared.tree.Declared.{Declared}
 use Rattle.ygg_syntax.specs.declared.tree.Operation.{Operation}
-use Rattle.ygg_type_rules.specs.TypeErrors.{none}
-use Rattle.ygg_type_rules.specs.Definitions.{definitions_errors}
-use Rattle.ygg_meaning.specs.Environments.{Name}
-use Rattle.ygg_meaning.specs.Layer.{ClosedLayer, operation_of}
-use Rattle.ygg_meaning.specs.Meaning.{functions_of}
-use Rattle.ygg_rules.specs.declared.rule.RuleKind.{RuleKind}
-use Rattle.ygg_bank.specs.Makes.{Make}
-use Rattle.ygg_bank.specs.declared.node.Node.{Node}
-use Rattle.ygg_shape_cells.specs.declared.terms.SymValue.{SymValue}
-use Rattle.ygg_sym_expr.specs.Names.{sym_bind}
-use Rattle.ygg_sym_expr.specs.Exprs.{SymFunctions}
-use Rattle.ygg_sym_runs.specs.Lower.{SingleFrom}
-use Rattle.ygg_sym_below.specs.Disks.{Done}
-use Rattle.ygg_sym_below.specs.Lows.{LowShaped}
-use Rattle.ygg_sym_below.specs.SpecCuts.{block_made, crash_made, then_crash_made, fall_made, fall_asked}
+use Rattle.ygg_sym_laws.specs.ygg_type_rules.TypeErrors.{none}
+use Rattle.ygg_sym_laws.specs.ygg_type_rules.Definitions.{definitions_errors}
+use Rattle.ygg_sym_laws.specs.ygg_meaning.Environments.{Name}
+use Rattle.ygg_sym_laws.specs.ygg_meaning.Layer.{ClosedLayer, operation_of}
+use Rattle.ygg_sym_laws.specs.ygg_meaning.Meaning.{functions_of}
+use Rattle.ygg_sym_laws.specs.ygg_rules.declared.rule.RuleKind.{RuleKind}
+use Rattle.ygg_sym_laws.specs.ygg_bank.Makes.{Make}
+use Rattle.ygg_sym_laws.specs.ygg_bank.declared.node.Node.{Node}
+use Rattle.ygg_sym_laws.specs.ygg_shape_cells.declared.terms.SymValue.{SymValue}
+use Rattle.ygg_sym_laws.specs.ygg_sym_expr.Names.{sym_bind}
+use Rattle.ygg_sym_laws.specs.ygg_sym_expr.Exprs.{SymFunctions}
+use Rattle.ygg_sym_laws.specs.ygg_sym_runs.Lower.{SingleFrom}
+use Rattle.ygg_sym_laws.specs.ygg_sym_below.Disks.{Done}
+use Rattle.ygg_sym_laws.specs.ygg_sym_below.Lows.{LowShaped}
+use Rattle.ygg_sym_laws.specs.ygg_sym_below.SpecCuts.{block_made, crash_made, then_crash_made, fall_made, fall_asked}
 use Rattle.ygg_sym_laws.specs.Means.{terms_of}
 use Rattle.ygg_sym_laws.specs.Typed.{OperationTyped, SpecBlockTyped, SpecTyped}
 use Rattle.ygg_sym_spec.specs.Picking.{first_number, picking}

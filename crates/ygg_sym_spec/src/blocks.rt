@@ -1,13 +1,13 @@
 //! Blocks of a specification over terms.
 
 ghost use Rattle.std.specs.Prelude.{◌≡◌, ◌++◌, [], IfOk, OnOk, length};
-ghost use Rattle.ygg_bank.specs.Nodes.{Extends, IsBank};
-ghost use Rattle.ygg_sym_expr.specs.Names.{sym_bind};
-ghost use Rattle.ygg_sym_expr.specs.Seen.{env_of};
-ghost use Rattle.ygg_sym_runs.specs.Lower.{Counts, KeepsSingle};
-ghost use Rattle.ygg_sym_below.specs.Disks.{done};
-ghost use Rattle.ygg_sym_below.specs.Lows.{LowShaped};
-ghost use Rattle.ygg_sym_below.specs.SpecCuts.{choice_room};
+ghost use Rattle.ygg_sym_laws.specs.ygg_bank.Nodes.{Extends, IsBank};
+ghost use Rattle.ygg_sym_laws.specs.ygg_sym_expr.Names.{sym_bind};
+ghost use Rattle.ygg_sym_laws.specs.ygg_sym_expr.Seen.{env_of};
+ghost use Rattle.ygg_sym_laws.specs.ygg_sym_runs.Lower.{Counts, KeepsSingle};
+ghost use Rattle.ygg_sym_laws.specs.ygg_sym_below.Disks.{done};
+ghost use Rattle.ygg_sym_laws.specs.ygg_sym_below.Lows.{LowShaped};
+ghost use Rattle.ygg_sym_laws.specs.ygg_sym_below.SpecCuts.{choice_room};
 ghost use Rattle.ygg_sym_laws.specs.Means.{values_in};
 ghost use Rattle.ygg_sym_laws.specs.Typed.{SpecBlockTyped};
 ghost use Rattle.ygg_sym_spec.specs.Layers.{CanBlock, block_of, closed, crash_of, then_crash_of};
@@ -16,12 +16,8 @@ use crate::chooser::{Nothing, SymChooser};
 use crate::layer::SymLayer;
 use crate::picks::SymPicks;
 use std::alloc::Global;
-use ygg_bank::{Bank, NoMemory};
 use ygg_list::Duplicate;
-use ygg_rules::Book;
-use ygg_shape_cells::{SymValue, SymValues};
-use ygg_sym_expr::SymBinding;
-use ygg_sym_runs::{SymRunner, room};
+use ygg_sym_laws::{Bank, Book, NoMemory, SymBinding, SymRunner, SymValue, SymValues, room};
 use ygg_sym_whole::whole;
 use ygg_syntax::tree::{Block, Declared};
 

@@ -3,18 +3,15 @@
 use crate::picks::SymPicks;
 use std::alloc::Global;
 use std::marker::Model;
-use ygg_bank::{Bank, Id, NoMemory};
 use ygg_list::Duplicate;
-use ygg_rules::Book;
-use ygg_shape_cells::SymValue;
-use ygg_sym_runs::{Question, SymLower};
+use ygg_sym_laws::{Bank, Book, Id, NoMemory, Question, SymLower, SymValue};
 
 /// The state of a machine that has none.
 #[derive(Drop)]
 pub struct Nothing;
 
 impl Model for Nothing {
-    ghost use Rattle.ygg_sym_below.specs.Specs.{Nothing};
+    ghost use Rattle.ygg_sym_laws.specs.ygg_sym_below.Specs.{Nothing};
 
     ghost Value = { Nothing };
 

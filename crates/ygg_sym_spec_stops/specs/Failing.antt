@@ -1,8 +1,8 @@
 -- Power that fails on a specification over terms.
 use Rattle.std.specs.Prelude.{min, List}
-use Rattle.ygg_shape_cells.specs.declared.terms.SymValue.{SymValue}
-use Rattle.ygg_sym_below.specs.SpecCuts.{crash_made, spec_cuts}
-use Rattle.ygg_sym_below.specs.Specs.{input_pick}
+use Rattle.ygg_sym_stops.specs.ygg_shape_cells.declared.terms.SymValue.{SymValue}
+use Rattle.ygg_sym_stops.specs.ygg_sym_below.SpecCuts.{crash_made, spec_cuts}
+use Rattle.ygg_sym_stops.specs.ygg_sym_below.Specs.{input_pick}
 use Rattle.ygg_sym_spec.specs.Layers.{closed, terms_in}
 use Rattle.ygg_sym_stops.specs.Stopping.{Power}
 use Rattle.ygg_sym_spec_stops.specs.declared.stops.SpecStops.{SpecStops}

@@ -3,11 +3,11 @@ use Rattle.std.proofs.Common.{List, [], reverse, arith}
 use Rattle.ygg_syntax.specs.declared.tree.Block.{Block}
 use Rattle.ygg_syntax.specs.declared.tree.Declared.{Declared}
 use Rattle.ygg_syntax.specs.declared.tree.Def.{Def}
-use Rattle.ygg_type_rules.specs.Definitions.{with_definitions}
-use Rattle.ygg_meaning.specs.Layer.{ClosedLayer}
-use Rattle.ygg_sym_expr.proofs.Definitions.{functions_mean}
-use Rattle.ygg_sym_expr.proofs.Grows.{functions_grow}
-use Rattle.ygg_sym_below.proofs.SpecStops.{FallsTyped, SomeBlock, spec_stops_mean}
+use Rattle.ygg_sym_stops.specs.ygg_type_rules.Definitions.{with_definitions}
+use Rattle.ygg_sym_stops.specs.ygg_meaning.Layer.{ClosedLayer}
+use Rattle.ygg_sym_stops.specs.ygg_sym_expr_proofs_Definitions.{functions_mean}
+use Rattle.ygg_sym_stops.specs.ygg_sym_expr_proofs_Grows.{functions_grow}
+use Rattle.ygg_sym_stops.specs.ygg_sym_below_proofs_SpecStops.{FallsTyped, SomeBlock, spec_stops_mean}
 use Rattle.ygg_sym_spec.specs.Below.{signatures_of}
 use Rattle.ygg_sym_spec.specs.Typed.{SpecBlockTyped, SpecTyped}
 use Rattle.ygg_sym_spec.specs.Layers.{closed, terms_in}

@@ -1,12 +1,8 @@
 //! A specification whose power fails, as the machine on which a block runs.
 
 use std::alloc::Global;
-use ygg_bank::{Bank, Id, NoMemory};
-use ygg_rules::Book;
-use ygg_shape_cells::SymValue;
-use ygg_sym_runs::{Question, SymLower};
 use ygg_sym_spec::{Lows, SymPicks, SymSpec, crash, fall};
-use ygg_sym_stops::SymStops;
+use ygg_sym_stops::{Bank, Book, Id, NoMemory, Question, SymLower, SymStops, SymValue};
 
 /// The specification of a layer over terms whose power fails at stops.
 #[derive(Clone, Copy)]

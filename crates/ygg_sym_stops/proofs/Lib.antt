@@ -1,3 +1,6 @@
+pub use Rattle.ygg_sym_below.proofs.of_ygg_direct
+pub use Rattle.ygg_sym_below.proofs as of_ygg_sym_below
+pub use Rattle.ygg_sym_below.proofs.of_ygg_sym_runs
 pub mod Chains
 pub mod Standing
 pub mod Leaving

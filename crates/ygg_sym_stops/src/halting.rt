@@ -4,12 +4,8 @@ use crate::stopping::ask_halting;
 use crate::stops::SymStops;
 use std::alloc::Global;
 use std::marker::Model;
-use ygg_bank::{Bank, Id, NoMemory};
 use ygg_list::Duplicate;
-use ygg_rules::Book;
-use ygg_shape_cells::SymValue;
-use ygg_shape_words::pick;
-use ygg_sym_runs::{Question, SymLower};
+use ygg_sym_below::{Bank, Book, Id, NoMemory, Question, SymLower, SymValue, pick};
 
 /// A state of a machine with stops.
 #[derive(Drop)]

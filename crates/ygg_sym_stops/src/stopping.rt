@@ -2,10 +2,10 @@
 
 ghost use Rattle.std.specs.Prelude.{◌≡◌, ◌+◌, IfOk, OnOk};
 ghost use Rattle.ygg_value.specs.declared.operation.Op.TheVariants.{Or};
-ghost use Rattle.ygg_bank.specs.Making.{made};
-ghost use Rattle.ygg_bank.specs.Nodes.{Extends, HasWidth, IsBank};
-ghost use Rattle.ygg_bank.specs.declared.node.Node.TheVariants.{Bin, Input};
-ghost use Rattle.ygg_sym_runs.specs.Lower.{CanAsk, KeepsSingle, SingleFrom, question_of};
+ghost use Rattle.ygg_sym_below.specs.ygg_bank.Making.{made};
+ghost use Rattle.ygg_sym_below.specs.ygg_bank.Nodes.{Extends, HasWidth, IsBank};
+ghost use Rattle.ygg_sym_below.specs.ygg_bank.declared.node.Node.TheVariants.{Bin, Input};
+ghost use Rattle.ygg_sym_below.specs.ygg_sym_runs.Lower.{CanAsk, KeepsSingle, SingleFrom, question_of};
 ghost use Rattle.ygg_sym_below.specs.Stops.{before_at, within_at};
 ghost use Rattle.ygg_sym_below.specs.StopTerms.{sym_halted, sym_left};
 ghost use Rattle.ygg_sym_stops.specs.Halting.{halted_of, halting_meaning, no_functions};
@@ -13,10 +13,7 @@ ghost use Rattle.ygg_sym_stops.specs.Stopping.{stops_on};
 
 use crate::stops::SymStops;
 use std::alloc::Global;
-use ygg_bank::{Bank, Id, NoMemory, Node};
-use ygg_rules::Book;
-use ygg_shape_cells::SymValue;
-use ygg_sym_runs::Question;
+use ygg_sym_below::{Bank, Book, Id, NoMemory, Node, Question, SymValue};
 use ygg_value::Op;
 
 /// The number of the stop before the question at a place. Its only error is out of memory: the number doesn't fit.

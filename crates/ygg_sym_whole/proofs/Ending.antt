@@ -6,24 +6,24 @@ use Rattle.ygg_syntax.specs.declared.tree.Block.{Block}
 use Rattle.ygg_syntax.specs.declared.tree.Def.{Def}
 use Rattle.ygg_syntax.specs.declared.tree.Expr.{Expr}
 use Rattle.ygg_syntax.specs.declared.tree.Stmt.{Stmt}
-use Rattle.ygg_type_rules.specs.TypeErrors.{none}
-use Rattle.ygg_type_rules.specs.Scopes.{Scope}
-use Rattle.ygg_type_rules.specs.Expressions.{typing, wanted}
-use Rattle.ygg_type_rules.specs.Statements.{walked, return_errors}
-use Rattle.ygg_type_rules.specs.Statements as rules
-use Rattle.ygg_type_sound.proofs.Tests.{left as first_of, right as second_of}
-use Rattle.ygg_rules.specs.declared.rule.RuleKind.{RuleKind}
-use Rattle.ygg_bank.specs.Makes.{Out}
-use Rattle.ygg_bank.specs.Nodes.{IsBank}
-use Rattle.ygg_bank.specs.declared.node.Node.{Node}
-use Rattle.ygg_meaning.specs.Environments.{Name}
-use Rattle.ygg_shape_cells.specs.declared.terms.SymValue.{SymValue}
-use Rattle.ygg_sym_expr.specs.Names.{SymEnv}
-use Rattle.ygg_sym_expr.specs.Seen.{CanTerm, env_of}
-use Rattle.ygg_sym_expr.specs.declared.held.SymBinding.{SymBinding}
-use Rattle.ygg_sym_runs.specs.Lower.{SymMeaning, IsLower, KeepsSingle}
-use Rattle.ygg_sym_runs.specs.Ready.{InNames, CanRun, Ended, order_run, known_with, terms_of}
-use Rattle.ygg_sym_runs.proofs.Walking.{can_term, run_left}
+use Rattle.ygg_sym_below.specs.ygg_type_rules.TypeErrors.{none}
+use Rattle.ygg_sym_below.specs.ygg_type_rules.Scopes.{Scope}
+use Rattle.ygg_sym_below.specs.ygg_type_rules.Expressions.{typing, wanted}
+use Rattle.ygg_sym_below.specs.ygg_type_rules.Statements.{walked, return_errors}
+use Rattle.ygg_sym_below.specs.ygg_type_rules.Statements as rules
+use Rattle.ygg_sym_below.specs.ygg_type_sound_proofs_Tests.{left as first_of, right as second_of}
+use Rattle.ygg_sym_below.specs.ygg_rules.declared.rule.RuleKind.{RuleKind}
+use Rattle.ygg_sym_below.specs.ygg_bank.Makes.{Out}
+use Rattle.ygg_sym_below.specs.ygg_bank.Nodes.{IsBank}
+use Rattle.ygg_sym_below.specs.ygg_bank.declared.node.Node.{Node}
+use Rattle.ygg_sym_below.specs.ygg_meaning.Environments.{Name}
+use Rattle.ygg_sym_below.specs.ygg_shape_cells.declared.terms.SymValue.{SymValue}
+use Rattle.ygg_sym_below.specs.ygg_sym_expr.Names.{SymEnv}
+use Rattle.ygg_sym_below.specs.ygg_sym_expr.Seen.{CanTerm, env_of}
+use Rattle.ygg_sym_below.specs.ygg_sym_expr.declared.held.SymBinding.{SymBinding}
+use Rattle.ygg_sym_below.specs.ygg_sym_runs.Lower.{SymMeaning, IsLower, KeepsSingle}
+use Rattle.ygg_sym_below.specs.ygg_sym_runs.Ready.{InNames, CanRun, Ended, order_run, known_with, terms_of}
+use Rattle.ygg_sym_below.proofs.of_ygg_sym_runs.Walking.{can_term, run_left}
 use Rattle.ygg_sym_below.specs.Wholes.{sym_returned}
 use Rattle.ygg_sym_whole.specs.Ready.{CanWhole, IsWhole}
 

@@ -3,16 +3,16 @@ use Rattle.std.specs.Prelude.{◌≡◌, IsTrue, List, Option}
 use Rattle.ygg_value.specs.declared.shape.Shape.{Shape}
 use Rattle.ygg_syntax.specs.declared.tree.Block.{Block}
 use Rattle.ygg_syntax.specs.declared.tree.Def.{Def}
-use Rattle.ygg_type_rules.specs.TypeErrors.{none}
-use Rattle.ygg_type_rules.specs.Scopes.{Scope}
-use Rattle.ygg_type_rules.specs.Statements.{block_errors}
-use Rattle.ygg_type_progress.specs.Kinds.{keeps}
-use Rattle.ygg_rules.specs.declared.rule.RuleKind.{RuleKind}
-use Rattle.ygg_bank.specs.declared.node.Node.{Node}
-use Rattle.ygg_shape_cells.specs.declared.terms.SymValue.{SymValue}
-use Rattle.ygg_sym_expr.specs.Names.{SymEnv}
-use Rattle.ygg_sym_runs.specs.Lower.{SymMeaning, KeepsSingle, Stands}
-use Rattle.ygg_sym_runs.specs.Ready.{InNames, terms_of}
+use Rattle.ygg_sym_below.specs.ygg_type_rules.TypeErrors.{none}
+use Rattle.ygg_sym_below.specs.ygg_type_rules.Scopes.{Scope}
+use Rattle.ygg_sym_below.specs.ygg_type_rules.Statements.{block_errors}
+use Rattle.ygg_sym_below.specs.ygg_type_progress.Kinds.{keeps}
+use Rattle.ygg_sym_below.specs.ygg_rules.declared.rule.RuleKind.{RuleKind}
+use Rattle.ygg_sym_below.specs.ygg_bank.declared.node.Node.{Node}
+use Rattle.ygg_sym_below.specs.ygg_shape_cells.declared.terms.SymValue.{SymValue}
+use Rattle.ygg_sym_below.specs.ygg_sym_expr.Names.{SymEnv}
+use Rattle.ygg_sym_below.specs.ygg_sym_runs.Lower.{SymMeaning, KeepsSingle, Stands}
+use Rattle.ygg_sym_below.specs.ygg_sym_runs.Ready.{InNames, terms_of}
 use Rattle.ygg_sym_below.specs.Wholes.{sym_whole}
 
 module _ {S : Type 0} (M : SymMeaning S) (defs : List Def) where

@@ -2,20 +2,16 @@
 
 ghost use Rattle.std.specs.Prelude.{◌≡◌, ◌++◌, length, IfOk};
 ghost use Rattle.std.specs.Option.{ForSome};
-ghost use Rattle.ygg_bank.specs.Nodes.{Extends, IsBank};
+ghost use Rattle.ygg_sym_below.specs.ygg_bank.Nodes.{Extends, IsBank};
 ghost use Rattle.ygg_sym_below.specs.Wholes.{sym_returned};
-ghost use Rattle.ygg_sym_expr.specs.Names.{SymEnv};
-ghost use Rattle.ygg_sym_expr.specs.Seen.{CanTerm, env_of};
-ghost use Rattle.ygg_sym_runs.specs.Lower.{KeepsSingle};
-ghost use Rattle.ygg_sym_runs.specs.Ready.{known_with, terms_of};
+ghost use Rattle.ygg_sym_below.specs.ygg_sym_expr.Names.{SymEnv};
+ghost use Rattle.ygg_sym_below.specs.ygg_sym_expr.Seen.{CanTerm, env_of};
+ghost use Rattle.ygg_sym_below.specs.ygg_sym_runs.Lower.{KeepsSingle};
+ghost use Rattle.ygg_sym_below.specs.ygg_sym_runs.Ready.{known_with, terms_of};
 ghost use Rattle.ygg_sym_whole.specs.Ready.{CanWhole, IsWhole};
 ghost use Rattle.std.specs.Prelude.{OnOk};
 
-use ygg_bank::{Bank, NoMemory};
-use ygg_rules::Book;
-use ygg_shape_cells::SymValue;
-use ygg_sym_expr::SymBinding;
-use ygg_sym_runs::{SymFrame, SymLower, SymRunner};
+use ygg_sym_below::{Bank, Book, NoMemory, SymBinding, SymFrame, SymLower, SymRunner, SymValue};
 use ygg_syntax::tree::{Block, Expr};
 
 /// How a whole run ended.

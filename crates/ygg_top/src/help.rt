@@ -37,7 +37,8 @@ check prints one line:
   bad NAME ID    of NAME, the clause ID of CERT isn't derived as it says; or,
                  where ID is 0, its clauses end and none of them is empty
 
-demo prints one line at the end, and ends as verify does:
+demo prints one line, at the end. All obligations hold, so it ends with 0, or with
+3 where a budget was spent on one:
 
   demo N obligations K holds H fails F spent S
 

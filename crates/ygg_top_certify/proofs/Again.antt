@@ -3,15 +3,15 @@ use Rattle.std.proofs.Common.{◌≡◌, ℕ, List, Option, Some, length, inl, i
 use Rattle.ygg_base.specs.declared.status.Status.{Status}
 use Rattle.ygg_base.specs.declared.status.Status.TheVariants.{Done, Refuted, Refused, Undecided, Fault, NoMemory}
 use Rattle.ygg_syntax.specs.declared.tree.File.{File}
-use Rattle.ygg_rules.specs.declared.rule.RuleKind.{RuleKind}
-use Rattle.ygg_histories.specs.Claims.{claims_of}
-use Rattle.ygg_cert.specs.declared.verdict.CertEnd.{CertEnd}
-use Rattle.ygg_cert.specs.declared.verdict.CertEnd.TheVariants as cert
-use Rattle.ygg_cert.specs.Judging.{IsWhole, Judges}
-use Rattle.ygg_cert.specs.Laws.{JudgedOnce}
+use Rattle.ygg_top_verify.specs.ygg_rules.declared.rule.RuleKind.{RuleKind}
+use Rattle.ygg_top_verify.specs.ygg_histories.Claims.{claims_of}
+use Rattle.ygg_certify.specs.ygg_cert.declared.verdict.CertEnd.{CertEnd}
+use Rattle.ygg_certify.specs.ygg_cert.declared.verdict.CertEnd.TheVariants as cert
+use Rattle.ygg_certify.specs.ygg_cert.Judging.{IsWhole, Judges}
+use Rattle.ygg_certify.specs.ygg_cert.Laws.{JudgedOnce}
 use Rattle.ygg_certify.specs.FileGoals.{goals_of}
 use Rattle.ygg_certify.specs.Checking.{Checks, checked_line}
-use Rattle.ygg_top_command.specs.Refusing.{IsLayerFile}
+use Rattle.ygg_top_verify.specs.ygg_top_command.Refusing.{IsLayerFile}
 use Rattle.ygg_top_verify.proofs.Shown.{file_stands, one_file, same_bytes}
 use Rattle.ygg_top_certify.specs.Checking.{ChecksStored, ChecksFor}
 use Rattle.ygg_top_certify.specs.Again.{IsCheckedAgain}

@@ -5,15 +5,15 @@ use Rattle.ygg_base.specs.declared.status.Status.{Status}
 use Rattle.ygg_base.specs.declared.status.Status.TheVariants.{Done, Refuted, Refused, Undecided, Fault, NoMemory}
 use Rattle.ygg_base.specs.Outside.{Rose}
 use Rattle.ygg_syntax.specs.declared.tree.File.{File}
-use Rattle.ygg_rules.specs.declared.rule.RuleKind.{RuleKind}
-use Rattle.ygg_report.specs.Putting.{Adds, IsCutOf, IsPutSo, Puts}
-use Rattle.ygg_cert.specs.Laws.{JudgedOnce}
+use Rattle.ygg_top_verify.specs.ygg_rules.declared.rule.RuleKind.{RuleKind}
+use Rattle.ygg_certify.specs.ygg_report.Putting.{Adds, IsCutOf, IsPutSo, Puts}
+use Rattle.ygg_certify.specs.ygg_cert.Laws.{JudgedOnce}
 use Rattle.ygg_certify.specs.Certifying.{Certifies}
-use Rattle.ygg_top_command.specs.Fetched.{StandsFile}
-use Rattle.ygg_top_command.specs.Reports.{Told}
-use Rattle.ygg_top_command.specs.Standing.{DoesWith, DoesWithin}
-use Rattle.ygg_top_command.specs.Words.{IsBudget}
-use Rattle.ygg_top_command.proofs.Telling.{puts_told, told_to}
+use Rattle.ygg_top_verify.specs.ygg_top_command.Fetched.{StandsFile}
+use Rattle.ygg_top_verify.specs.ygg_top_command.Reports.{Told}
+use Rattle.ygg_top_verify.specs.ygg_top_command.Standing.{DoesWith, DoesWithin}
+use Rattle.ygg_top_verify.specs.ygg_top_command.Words.{IsBudget}
+use Rattle.ygg_top_verify.proofs.of_ygg_top_command.Telling.{puts_told, told_to}
 use Rattle.ygg_top_certify.specs.Certifying.{CertifiesFile, Certified, IsCutCertificate, IsCutCertifying, PutsOnce}
 use Rattle.ygg_top_certify.proofs.Again.{checked_again}
 

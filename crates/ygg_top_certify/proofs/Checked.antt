@@ -10,14 +10,14 @@ use Rattle.ygg_base.specs.declared.status.Status.TheVariants.{Done, Refuted, Ref
 use Rattle.ygg_base.specs.Outside.{Reading, IsOpen, FitsOpened, Opens, Rose, bytes_of}
 use Rattle.ygg_base.specs.Reason.{refusal_at}
 use Rattle.ygg_syntax.specs.declared.tree.File.{File}
-use Rattle.ygg_rules.specs.declared.rule.RuleKind.{RuleKind}
-use Rattle.ygg_report.specs.Lines.{refused_line}
+use Rattle.ygg_top_verify.specs.ygg_rules.declared.rule.RuleKind.{RuleKind}
+use Rattle.ygg_certify.specs.ygg_report.Lines.{refused_line}
 use Rattle.ygg_certify.specs.Checking.{Checks, ChecksOpen}
-use Rattle.ygg_top_command.specs.declared.stopping.CommandStop.{CommandStop}
-use Rattle.ygg_top_command.specs.declared.stopping.CommandStop.TheVariants as stop
-use Rattle.ygg_top_command.specs.Fetched.{IsUnread, StandsFile}
-use Rattle.ygg_top_command.specs.Reports.{IsDoneWith, MayStop}
-use Rattle.ygg_top_command.specs.Standing.{DoesWith}
+use Rattle.ygg_top_verify.specs.ygg_top_command.declared.stopping.CommandStop.{CommandStop}
+use Rattle.ygg_top_verify.specs.ygg_top_command.declared.stopping.CommandStop.TheVariants as stop
+use Rattle.ygg_top_verify.specs.ygg_top_command.Fetched.{IsUnread, StandsFile}
+use Rattle.ygg_top_verify.specs.ygg_top_command.Reports.{IsDoneWith, MayStop}
+use Rattle.ygg_top_verify.specs.ygg_top_command.Standing.{DoesWith}
 use Rattle.ygg_top_certify.specs.Checking.{ChecksStored, ChecksNamed, OpensNamed, most_certificate_bytes}
 
 -- a file that was opened under a name

@@ -3,14 +3,14 @@ use Rattle.std.proofs.Common.{◌≡◌, ◌<◌, ◌≤◌, ◌+◌, ℕ, List,
 use Rattle.std.specs.Prelude.{All, IfSome, IfOk}
 use Rattle.std.proofs.lemmas.List.{append-nil, drop_all, get_or-map}
 use Rattle.ygg_base.specs.declared.status.Status.{Status}
-use Rattle.ygg_bank.specs.declared.env.Given.{Given}
-use Rattle.ygg_bank.specs.Values.{inputs_of}
+use Rattle.ygg_certify.specs.ygg_bank.declared.env.Given.{Given}
+use Rattle.ygg_certify.specs.ygg_bank.Values.{inputs_of}
 use Rattle.ygg_syntax.specs.declared.tree.File.{File}
-use Rattle.ygg_rules.specs.declared.rule.RuleKind.{RuleKind}
-use Rattle.ygg_certify_put.specs.declared.finding.Finding.{Finding}
+use Rattle.ygg_top_verify.specs.ygg_rules.declared.rule.RuleKind.{RuleKind}
+use Rattle.ygg_certify.specs.ygg_certify_put.declared.finding.Finding.{Finding}
 use Rattle.ygg_top_verify.specs.declared.verdict.Refutation.{Refutation}
 use Rattle.ygg_top_verify.specs.Findings.{FitsTerms, IsEnd, IsFitting, IsRefuting, IsRefutingBy}
-use Rattle.ygg_certify_put.specs.Findings.{IsHeld}
+use Rattle.ygg_certify.specs.ygg_certify_put.Findings.{IsHeld}
 use Rattle.ygg_top_certify.specs.Certifying.{CertifiesFile}
 use Rattle.ygg_top_certify.specs.Findings.{
   EndsOf,

@@ -5,10 +5,10 @@ use Rattle.ygg_base.specs.declared.status.Status.{Status}
 use Rattle.ygg_base.specs.declared.status.Status.TheVariants.{Done}
 use Rattle.ygg_base.specs.Outside.{bytes_of}
 use Rattle.ygg_syntax.specs.declared.tree.File.{File}
-use Rattle.ygg_rules.specs.declared.rule.RuleKind.{RuleKind}
-use Rattle.ygg_histories.specs.Claims.{claims_of}
+use Rattle.ygg_top_verify.specs.ygg_rules.declared.rule.RuleKind.{RuleKind}
+use Rattle.ygg_top_verify.specs.ygg_histories.Claims.{claims_of}
 use Rattle.ygg_certify.specs.Checking.{checked_line}
-use Rattle.ygg_top_command.specs.Refusing.{IsLayerFile}
+use Rattle.ygg_top_verify.specs.ygg_top_command.Refusing.{IsLayerFile}
 use Rattle.ygg_top_certify.specs.Checking.{ChecksNamed, most_certificate_bytes}
 
 -- `check` of a file's name and a certificate's name in this library, under a book of these kinds, ends with all done, and says that so many obligations are

@@ -4,11 +4,11 @@ use Rattle.ygg_base.specs.declared.failure.Refusal.{Refusal}
 use Rattle.ygg_base.specs.declared.status.Status.{Status}
 use Rattle.ygg_base.specs.declared.status.Status.TheVariants.{Done, Refused, Fault, NoMemory}
 use Rattle.ygg_syntax.specs.declared.tree.File.{File}
-use Rattle.ygg_rules.specs.declared.rule.RuleKind.{RuleKind}
-use Rattle.ygg_report.specs.Putting.{IsCutOf, IsPutSo}
+use Rattle.ygg_top_verify.specs.ygg_rules.declared.rule.RuleKind.{RuleKind}
+use Rattle.ygg_certify.specs.ygg_report.Putting.{IsCutOf, IsPutSo}
 use Rattle.ygg_certify.specs.Certifying.{IsCertificate}
-use Rattle.ygg_top_command.specs.Refusing.{IsLayerFile, RefusesFile}
-use Rattle.ygg_top_command.specs.Standing.{IsRefused}
+use Rattle.ygg_top_verify.specs.ygg_top_command.Refusing.{IsLayerFile, RefusesFile}
+use Rattle.ygg_top_verify.specs.ygg_top_command.Standing.{IsRefused}
 use Rattle.ygg_top_verify.specs.Verdict.{Verified}
 use Rattle.ygg_top_certify.specs.Again.{IsCheckedAgain}
 

@@ -5,10 +5,10 @@ use Rattle.ygg_base.specs.declared.lists.Held.{Held}
 use Rattle.ygg_base.specs.declared.status.Status.{Status}
 use Rattle.ygg_base.specs.Outside.{Reading, bytes_of}
 use Rattle.ygg_syntax.specs.declared.tree.File.{File}
-use Rattle.ygg_rules.specs.declared.rule.RuleKind.{RuleKind}
+use Rattle.ygg_top_verify.specs.ygg_rules.declared.rule.RuleKind.{RuleKind}
 use Rattle.ygg_certify.specs.Checking.{Checks}
-use Rattle.ygg_top_command.specs.Refusing.{IsLayerFile, RefusesFile, RefusesUnread}
-use Rattle.ygg_top_command.specs.Standing.{DoesWith, IsRefused}
+use Rattle.ygg_top_verify.specs.ygg_top_command.Refusing.{IsLayerFile, RefusesFile, RefusesUnread}
+use Rattle.ygg_top_verify.specs.ygg_top_command.Standing.{DoesWith, IsRefused}
 
 -- the most bytes of a certificate
 abbrev pub most_certificate_bytes : ℕ

@@ -4,14 +4,14 @@ use Rattle.std.specs.List.{flat_map}
 use Rattle.ygg_base.specs.declared.status.Status.{Status}
 use Rattle.ygg_base.specs.declared.status.Status.TheVariants.{Refuted, Undecided}
 use Rattle.ygg_syntax.specs.declared.tree.File.{File}
-use Rattle.ygg_rules.specs.declared.rule.RuleKind.{RuleKind}
-use Rattle.ygg_bank.specs.declared.env.Given.{Given}
-use Rattle.ygg_report.specs.Lines.{undecided_line, verdict_line}
-use Rattle.ygg_report.specs.declared.verdict.Verdict.{Verdict}
-use Rattle.ygg_report.specs.declared.verdict.Verdict.TheVariants as reports
-use Rattle.ygg_certify_put.specs.declared.finding.Outcome.{Outcome}
-use Rattle.ygg_certify_put.specs.declared.finding.Outcome.TheVariants.{Holds, Fails, Spent}
-use Rattle.ygg_certify_put.specs.declared.finding.Finding.{Finding}
+use Rattle.ygg_top_verify.specs.ygg_rules.declared.rule.RuleKind.{RuleKind}
+use Rattle.ygg_certify.specs.ygg_bank.declared.env.Given.{Given}
+use Rattle.ygg_certify.specs.ygg_report.Lines.{undecided_line, verdict_line}
+use Rattle.ygg_certify.specs.ygg_report.declared.verdict.Verdict.{Verdict}
+use Rattle.ygg_certify.specs.ygg_report.declared.verdict.Verdict.TheVariants as reports
+use Rattle.ygg_certify.specs.ygg_certify_put.declared.finding.Outcome.{Outcome}
+use Rattle.ygg_certify.specs.ygg_certify_put.declared.finding.Outcome.TheVariants.{Holds, Fails, Spent}
+use Rattle.ygg_certify.specs.ygg_certify_put.declared.finding.Finding.{Finding}
 use Rattle.ygg_top_verify.specs.declared.verdict.Refutation.{Refutation}
 use Rattle.ygg_top_verify.specs.declared.verdict.Summary.{Summary}
 use Rattle.ygg_top_verify.specs.Findings.{IsEnd, IsRefuting}

@@ -2,21 +2,17 @@
 
 ghost use Rattle.std.specs.Prelude.{◌≡◌, ◌<◌, ◌≤◌};
 ghost use Rattle.ygg_base.specs.Outside.{Rose};
-ghost use Rattle.ygg_report.specs.Putting.{Puts};
+ghost use Rattle.ygg_certify.specs.ygg_report.Putting.{Puts};
 ghost use Rattle.ygg_certify.specs.Certifying.{IsOpen};
-ghost use Rattle.ygg_top_command.specs.Reports.{Told};
-ghost use Rattle.ygg_top_command.specs.Standing.{DoesWith, DoesWithin};
+ghost use Rattle.ygg_top_verify.specs.ygg_top_command.Reports.{Told};
+ghost use Rattle.ygg_top_verify.specs.ygg_top_command.Standing.{DoesWith, DoesWithin};
 ghost use Rattle.ygg_top_certify.specs.Certifying.{Certified, CertifiesFile, IsCutCertificate, IsCutCertifying, PutsOnce};
 
 use crate::finding::opened;
 use std::alloc::Global;
 use ygg_base::{Library, Sink, Status, Text};
-use ygg_cert::judged_once;
-use ygg_certify::Certifying;
-use ygg_certify_put::Finding;
-use ygg_report::put_all;
-use ygg_rules::Book;
-use ygg_top_command::{budget, close, end, layer_file};
+use ygg_certify::{Certifying, Finding, judged_once, put_all};
+use ygg_top_verify::{Book, budget, close, end, layer_file};
 use ygg_type::Typed;
 
 /// Puts what is printed where not all obligations were found to hold.

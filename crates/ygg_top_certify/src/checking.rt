@@ -2,18 +2,16 @@
 
 ghost use Rattle.std.specs.Prelude.{◌≡◌, ◌≤◌, IfOk, IfErr, OnOk};
 ghost use Rattle.ygg_base.specs.Outside.{Rose};
-ghost use Rattle.ygg_report.specs.Putting.{NoFront};
-ghost use Rattle.ygg_top_command.specs.Fetched.{IsUnread};
-ghost use Rattle.ygg_top_command.specs.Reports.{MayStop, Told};
-ghost use Rattle.ygg_top_command.specs.Standing.{DoesWith};
+ghost use Rattle.ygg_certify.specs.ygg_report.Putting.{NoFront};
+ghost use Rattle.ygg_top_verify.specs.ygg_top_command.Fetched.{IsUnread};
+ghost use Rattle.ygg_top_verify.specs.ygg_top_command.Reports.{MayStop, Told};
+ghost use Rattle.ygg_top_verify.specs.ygg_top_command.Standing.{DoesWith};
 ghost use Rattle.ygg_top_certify.specs.Checking.{ChecksNamed, ChecksStored, OpensNamed, most_certificate_bytes};
 
 use std::alloc::Global;
 use ygg_base::{Library, Opened, Reason, Sink, Status, Text};
-use ygg_certify::Unchecked;
-use ygg_report::put_all;
-use ygg_rules::Book;
-use ygg_top_command::{CommandStop, close, end, layer_file};
+use ygg_certify::{Unchecked, put_all};
+use ygg_top_verify::{Book, CommandStop, close, end, layer_file};
 use ygg_type::Typed;
 
 /// The most bytes of a certificate.

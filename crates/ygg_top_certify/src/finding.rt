@@ -2,9 +2,9 @@
 
 ghost use Rattle.std.specs.Prelude.{◌≡◌, ◌<◌, length, All, None, Some, IfOk, IfSome, MatchOption};
 ghost use Rattle.std.specs.Option.{option_copied};
-ghost use Rattle.ygg_bank.specs.Values.{inputs_of};
-ghost use Rattle.ygg_histories.specs.Claims.{claims_of};
-ghost use Rattle.ygg_certify_put.specs.Findings.{IsHeld};
+ghost use Rattle.ygg_certify.specs.ygg_bank.Values.{inputs_of};
+ghost use Rattle.ygg_top_verify.specs.ygg_histories.Claims.{claims_of};
+ghost use Rattle.ygg_certify.specs.ygg_certify_put.Findings.{IsHeld};
 ghost use Rattle.ygg_certify.specs.Certifying.{IsOpen};
 ghost use Rattle.ygg_top_verify.specs.Findings.{FitsTerms, IsFitting};
 ghost use Rattle.ygg_top_certify.specs.Certifying.{CertifiesFile};
@@ -21,17 +21,14 @@ ghost use Rattle.ygg_top_certify.specs.Findings.{
 };
 
 use std::alloc::Global;
-use ygg_bank::Env;
 use ygg_base::{NoMemory, Status, Text};
-use ygg_certify_put::{Finding, Outcome};
-use ygg_cnf::derivations_are_sound;
-use ygg_gates_meaning::clauses_mean_terms;
-use ygg_histories::law::refines_by_list;
-use ygg_report::{Verdict, line, undecided};
-use ygg_rules::Book;
-use ygg_top_verify::{file_schedules, one_ending, printed_shows, refuted_by};
+use ygg_certify::{
+    Env, Finding, Outcome, Verdict, clauses_mean_terms, derivations_are_sound, line, undecided,
+};
+use ygg_top_verify::{
+    Book, file_schedules, one_ending, printed_shows, refines_by_list, refuted_by, typed_histories,
+};
 use ygg_type::Typed;
-use ygg_type_progress::law::typed_histories;
 
 /// What is reported of what was found within a budget.
 fn reported(outcome: &Outcome, budget: u32) -> Verdict

@@ -7,4 +7,4 @@ mod finding;
 
 pub use certifying::{certify, certify_within};
 pub use checking::{check, checked_stored};
-pub use ygg_top_verify::{demo, verify, verify_within};
+pub use ygg_top_verify::{Book, demo, replay, verify, verify_within};

@@ -8,9 +8,9 @@ use Rattle.ygg_base.specs.declared.status.Status.{Status}
 use Rattle.ygg_base.specs.declared.status.Status.TheVariants.{Refused}
 use Rattle.ygg_base.specs.Reason.{refusal_at}
 use Rattle.ygg_syntax.specs.declared.tree.File.{File}
-use Rattle.ygg_report.specs.Lines.{refused_line}
-use Rattle.ygg_report.specs.Putting.{IsCutOf}
-use Rattle.ygg_rules.specs.declared.rule.RuleKind.{RuleKind}
+use Rattle.ygg_top_command.specs.ygg_report.Lines.{refused_line}
+use Rattle.ygg_top_command.specs.ygg_report.Putting.{IsCutOf}
+use Rattle.ygg_dimacs_oblige.specs.ygg_rules.declared.rule.RuleKind.{RuleKind}
 use Rattle.ygg_dimacs_oblige.specs.Printed.{IsNamed, Printed}
 use Rattle.ygg_top_command.specs.Fetched.{StandsFile}
 use Rattle.ygg_top_command.specs.Refusing.{RefusesFile}

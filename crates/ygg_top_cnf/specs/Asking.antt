@@ -6,8 +6,8 @@ use Rattle.ygg_base.specs.declared.status.Status.{Status}
 use Rattle.ygg_base.specs.declared.reason.Reason.TheVariants as reason
 use Rattle.ygg_base.specs.Reason.{refusal_at}
 use Rattle.ygg_syntax.specs.declared.tree.File.{File}
-use Rattle.ygg_report.specs.Putting.{IsCutOf}
-use Rattle.ygg_rules.specs.declared.rule.RuleKind.{RuleKind}
+use Rattle.ygg_top_command.specs.ygg_report.Putting.{IsCutOf}
+use Rattle.ygg_dimacs_oblige.specs.ygg_rules.declared.rule.RuleKind.{RuleKind}
 use Rattle.ygg_dimacs_oblige.specs.Printed.{IsNamed, Printed}
 use Rattle.ygg_top_command.specs.Refusing.{IsLayerFile, RefusesFile}
 use Rattle.ygg_top_command.specs.Standing.{DoesWith, IsRefused}

@@ -7,10 +7,8 @@ ghost use Rattle.ygg_top_cnf.specs.Asking.{Asks, AsksNamed, IsCutAsking};
 
 use std::alloc::Global;
 use ygg_base::{Library, Reason, Sink, Status, Text};
-use ygg_dimacs_oblige::{is_obligation, put_obligation};
-use ygg_rules::Book;
-use ygg_top_command::{CommandStop, close, end, layer_file};
-use ygg_type::Typed;
+use ygg_dimacs_oblige::{Book, is_obligation, put_obligation};
+use ygg_top_command::{CommandStop, Typed, close, end, layer_file};
 
 /// Puts the text of the clauses of the obligation of this name of a layer file. A name that no obligation of it has is refused 74 at `0:2`.
 fn cnf_of<B: Book, K: Sink>(

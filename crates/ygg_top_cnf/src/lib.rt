@@ -4,3 +4,4 @@
 mod asking;
 
 pub use asking::cnf;
+pub use ygg_dimacs_oblige::{Book, RuleBook};

@@ -1,3 +1,4 @@
+pub use Rattle.ygg_report.specs as ygg_report
 pub mod Words
 pub mod Refusing
 pub mod Standing

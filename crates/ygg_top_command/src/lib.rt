@@ -10,3 +10,5 @@ pub use fetching::{MOST_BYTES, fetched};
 pub use file::{close, file_of, layer_file};
 pub use stopping::{CommandStop, end};
 pub use words::{USUAL_BUDGET, budget, number_up_to};
+pub use ygg_report::{Tally, Verdict, demo, line, put, put_all, refuted, undecided, verified};
+pub use ygg_type::Typed;

@@ -2,8 +2,8 @@
 use Rattle.std.specs.Prelude.{◌≡◌, ◌⊎◌, ℕ, List, ◌++◌, codes, Option}
 use Rattle.ygg_base.specs.declared.status.Status.{Status}
 use Rattle.ygg_base.specs.declared.status.Status.TheVariants.{Fault}
-use Rattle.ygg_report.specs.Lines.{ended}
-use Rattle.ygg_report.specs.Putting.{IsPutSo}
+use Rattle.ygg_top_command.specs.ygg_report.Lines.{ended}
+use Rattle.ygg_top_command.specs.ygg_report.Putting.{IsPutSo}
 use Rattle.ygg_top_command.specs.Reports.{Told}
 
 -- the line of a device that failed

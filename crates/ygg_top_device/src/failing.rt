@@ -3,11 +3,11 @@
 ghost use Rattle.std.specs.Prelude.{◌≤◌};
 ghost use Rattle.ygg_base.specs.declared.status.Status.TheVariants.{Fault};
 ghost use Rattle.ygg_base.specs.Outside.{Rose};
-ghost use Rattle.ygg_report.specs.Putting.{IsPutSo};
+ghost use Rattle.ygg_top_command.specs.ygg_report.Putting.{IsPutSo};
 ghost use Rattle.ygg_top_device.specs.Breaking.{device_fault};
 
 use ygg_base::{Sink, Status};
-use ygg_report::put_all;
+use ygg_top_command::put_all;
 
 /// Ends a command whose device failed: puts the line `fault device`.
 pub fn end_broken<K: Sink>(sink: &mut K) -> Status

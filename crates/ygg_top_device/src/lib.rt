@@ -4,3 +4,4 @@
 mod failing;
 
 pub use failing::end_broken;
+pub use ygg_top_command::{CommandStop, MOST_BYTES, close, end, fetched, layer_file, put_all};

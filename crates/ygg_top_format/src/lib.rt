@@ -4,3 +4,4 @@
 mod formatting;
 
 pub use formatting::format;
+pub use ygg_run_format::Device;

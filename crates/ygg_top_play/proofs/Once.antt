@@ -3,14 +3,14 @@ use Rattle.std.proofs.Common.{◌≡◌, ℕ, ◌≤◌, ◌<◌, List, length, 
 use Rattle.ygg_base.specs.declared.failure.Refusal.{Refusal}
 use Rattle.ygg_base.specs.declared.status.Status.{Status}
 use Rattle.ygg_syntax.specs.declared.tree.File.{File}
-use Rattle.ygg_type_rules.specs.Files.{IsTyped}
-use Rattle.ygg_report.specs.Lines.{refused_line}
-use Rattle.ygg_sched.specs.Lines.{Read}
-use Rattle.ygg_script.specs.declared.command.Command.{Command}
-use Rattle.ygg_script.specs.Reading.{script_of}
-use Rattle.ygg_run_text.specs.Played.{Noted, unreached_at}
-use Rattle.ygg_run_text.specs.Laws.{HasOneText}
-use Rattle.ygg_run_text.proofs.OneText.{scripts_have_one_text}
+use Rattle.ygg_type.specs.ygg_type_rules.Files.{IsTyped}
+use Rattle.ygg_top_command.specs.ygg_report.Lines.{refused_line}
+use Rattle.ygg_run.specs.ygg_sched.Lines.{Read}
+use Rattle.ygg_run.specs.ygg_script.declared.command.Command.{Command}
+use Rattle.ygg_run.specs.ygg_script.Reading.{script_of}
+use Rattle.ygg_run.specs.ygg_run_text.Played.{Noted, unreached_at}
+use Rattle.ygg_run.specs.ygg_run_text.Laws.{HasOneText}
+use Rattle.ygg_run.proofs.of_ygg_run_text.OneText.{scripts_have_one_text}
 use Rattle.ygg_top_command.specs.Refusing.{RefusesUnread, most_bytes}
 use Rattle.ygg_top_command.specs.Standing.{IsRefused}
 use Rattle.ygg_top_play.specs.Laws.{PlayEndsOneWay}

@@ -8,10 +8,10 @@ use Rattle.ygg_base.specs.Outside.{Rose}
 use Rattle.ygg_base.specs.declared.status.Status.{Status}
 use Rattle.ygg_base.specs.declared.status.Status.TheVariants as status
 use Rattle.ygg_syntax.specs.declared.tree.File.{File}
-use Rattle.ygg_report.specs.Lines.{refused_line}
-use Rattle.ygg_sched.specs.Lines.{Gives}
-use Rattle.ygg_script.specs.declared.command.Command.{Command}
-use Rattle.ygg_script.specs.Reading.{script_of}
+use Rattle.ygg_top_command.specs.ygg_report.Lines.{refused_line}
+use Rattle.ygg_run.specs.ygg_sched.Lines.{Gives}
+use Rattle.ygg_run.specs.ygg_script.declared.command.Command.{Command}
+use Rattle.ygg_run.specs.ygg_script.Reading.{script_of}
 use Rattle.ygg_run.specs.Playing.{RefusesPlay, PlaysTo, IsFrontOfPlay}
 use Rattle.ygg_top_command.specs.declared.stopping.CommandStop.{CommandStop}
 use Rattle.ygg_top_command.specs.declared.stopping.CommandStop.TheVariants.{Refused, LibraryFailed, NoMemory}

@@ -2,7 +2,7 @@
 use Rattle.std.specs.Prelude.{◌≡◌, ℕ, List, Option}
 use Rattle.ygg_base.specs.declared.status.Status.{Status}
 use Rattle.ygg_syntax.specs.declared.tree.File.{File}
-use Rattle.ygg_type_rules.specs.Files.{IsTyped}
+use Rattle.ygg_type.specs.ygg_type_rules.Files.{IsTyped}
 use Rattle.ygg_top_play.specs.Playing.{PlaysStored}
 
 -- for a file without a type error, and what stands under the script's name, `play` ends with one status and prints one text

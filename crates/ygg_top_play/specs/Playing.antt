@@ -5,9 +5,9 @@ use Rattle.ygg_base.specs.declared.lists.Held.{Held}
 use Rattle.ygg_base.specs.declared.status.Status.{Status}
 use Rattle.ygg_base.specs.declared.status.Status.TheVariants.{Done}
 use Rattle.ygg_syntax.specs.declared.tree.File.{File}
-use Rattle.ygg_report.specs.Putting.{IsFront}
-use Rattle.ygg_script.specs.declared.command.Command.{Command}
-use Rattle.ygg_script.specs.Reading.{script_of}
+use Rattle.ygg_top_command.specs.ygg_report.Putting.{IsFront}
+use Rattle.ygg_run.specs.ygg_script.declared.command.Command.{Command}
+use Rattle.ygg_run.specs.ygg_script.Reading.{script_of}
 use Rattle.ygg_run.specs.Playing.{RefusesPlay, PlaysTo}
 use Rattle.ygg_top_command.specs.declared.stopping.CommandStop.{CommandStop}
 use Rattle.ygg_top_command.specs.declared.stopping.CommandStop.TheVariants.{Refused, LibraryFailed, NoMemory}

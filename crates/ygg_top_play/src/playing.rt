@@ -2,7 +2,7 @@
 
 ghost use Rattle.std.specs.Prelude.{◌≡◌, ◌≤◌, length, IfOk, IfErr};
 ghost use Rattle.ygg_base.specs.Outside.{Rose};
-ghost use Rattle.ygg_script.specs.Fitting.{IsScriptOf};
+ghost use Rattle.ygg_run.specs.ygg_script.Fitting.{IsScriptOf};
 ghost use Rattle.ygg_top_command.specs.Refusing.{most_bytes};
 ghost use Rattle.ygg_top_command.specs.Reports.{Told};
 ghost use Rattle.ygg_top_command.specs.Standing.{DoesWith};
@@ -10,8 +10,7 @@ ghost use Rattle.ygg_top_play.specs.Playing.{StandsScript, IsNoScript, PlaysScri
 
 use std::alloc::Global;
 use ygg_base::{Library, Sink, Status, Text};
-use ygg_run::put_play;
-use ygg_script::{Script, read_script};
+use ygg_run::{Script, put_play, read_script};
 use ygg_top_command::{CommandStop, MOST_BYTES, close, end, fetched, layer_file};
 use ygg_type::Typed;
 

@@ -6,7 +6,7 @@ use Rattle.ygg_base.specs.declared.status.Status.TheVariants.{Done, Refused}
 use Rattle.ygg_base.specs.Lexing.{tokens_of}
 use Rattle.ygg_syntax.specs.declared.tree.File.{File}
 use Rattle.ygg_print.specs.Canonical.{canonical, GivesAgain}
-use Rattle.ygg_report.specs.Lines.{refused_line}
+use Rattle.ygg_top_command.specs.ygg_report.Lines.{refused_line}
 use Rattle.ygg_top_command.specs.Refusing.{IsLayerFile, RefusesFile}
 
 -- the bytes are a layer file without a fault, and this is its canonical text: from its tokens derives that file but for places, and no other

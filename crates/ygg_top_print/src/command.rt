@@ -2,7 +2,7 @@
 
 ghost use Rattle.std.specs.Prelude.{List, ℕ, ◌≡◌, ◌≤◌, IfOk};
 ghost use Rattle.ygg_base.specs.Outside.{Rose};
-ghost use Rattle.ygg_report.specs.Putting.{NoFront};
+ghost use Rattle.ygg_top_command.specs.ygg_report.Putting.{NoFront};
 ghost use Rattle.ygg_top_command.specs.Refusing.{IsLayerFile};
 ghost use Rattle.ygg_top_command.specs.Reports.{Told};
 ghost use Rattle.ygg_top_command.specs.Standing.{DoesWith};
@@ -10,9 +10,8 @@ ghost use Rattle.ygg_top_print.specs.Printing.{IsPrinted, Prints};
 
 use std::alloc::Global;
 use ygg_base::{Library, NoMemory, Sink, Status, Text};
-use ygg_print_layout::tokens_are_marks;
-use ygg_report::put_all;
-use ygg_top_command::{close, end, layer_file};
+use ygg_print::tokens_are_marks;
+use ygg_top_command::{close, end, layer_file, put_all};
 use ygg_type::Typed;
 
 /// The canonical text of a layer file. Its only error is out of memory.

@@ -4,3 +4,7 @@
 mod replaying;
 
 pub use replaying::replay;
+pub use ygg_top_command::{
+    CommandStop, Tally, USUAL_BUDGET, Verdict, budget, close, demo, end, file_of, layer_file, line,
+    number_up_to, put, put_all, refuted, undecided, verified,
+};

@@ -2,7 +2,7 @@
 
 ghost use Rattle.std.specs.Prelude.{◌≡◌, ◌≤◌, IfOk, IfErr};
 ghost use Rattle.ygg_base.specs.Outside.{Rose};
-ghost use Rattle.ygg_report.specs.Putting.{NoFront};
+ghost use Rattle.ygg_top_command.specs.ygg_report.Putting.{NoFront};
 ghost use Rattle.ygg_top_command.specs.Fetched.{IsUnread};
 ghost use Rattle.ygg_top_command.specs.Refusing.{most_bytes};
 ghost use Rattle.ygg_top_command.specs.Reports.{Told, IsDoneWith};
@@ -12,8 +12,7 @@ ghost use Rattle.ygg_top_replay.specs.Replaying.{ReplaysNamed, ReplaysStored};
 use std::alloc::Global;
 use ygg_base::{Library, Sink, Status, Text};
 use ygg_replay_text::replay_text;
-use ygg_report::put_all;
-use ygg_top_command::{CommandStop, MOST_BYTES, close, end, fetched, layer_file};
+use ygg_top_command::{CommandStop, MOST_BYTES, close, end, fetched, layer_file, put_all};
 use ygg_type::Typed;
 
 /// The end of replaying the schedule that stands under the name, the second word after the command's, for a layer file; or why there is none.

@@ -10,11 +10,9 @@ ghost use Rattle.ygg_top_run.specs.Running.{CertifiedBroken, CertifiedLeft, RunL
 use crate::script::run_script;
 use std::alloc::Global;
 use ygg_base::{Library, Sink, Status, Text};
-use ygg_base_device::Device;
-use ygg_report::put_all;
-use ygg_rules::Book;
-use ygg_top_certify::checked_stored;
-use ygg_top_command::{close, end, layer_file};
+use ygg_run_mounted::Device;
+use ygg_top_certify::{Book, checked_stored};
+use ygg_top_device::{close, end, layer_file, put_all};
 use ygg_type::Typed;
 
 /// Runs the script that stands under the name, the fourth word after the command's, on the image of that name, once the text under the second name is a

@@ -3,8 +3,8 @@
 ghost use Rattle.std.specs.Prelude.{◌≡◌, ◌≤◌, None, IfOk, IfErr};
 ghost use Rattle.ygg_base.specs.Outside.{Rose};
 ghost use Rattle.ygg_base.specs.declared.status.Status.TheVariants.{Refused};
-ghost use Rattle.ygg_script.specs.Fitting.{IsScriptOf};
-ghost use Rattle.ygg_script.specs.Plain.{plain_of};
+ghost use Rattle.ygg_run_mounted.specs.ygg_script.Fitting.{IsScriptOf};
+ghost use Rattle.ygg_run_mounted.specs.ygg_script.Plain.{plain_of};
 ghost use Rattle.ygg_run_mounted.specs.Extending.{HasRun};
 ghost use Rattle.ygg_top_device.specs.Breaking.{ToldOn};
 ghost use Rattle.ygg_top_run.specs.Images.{LeavesImage};
@@ -13,9 +13,8 @@ ghost use Rattle.ygg_top_run.specs.Scripts.{IsNoScript, RunsScript, ScriptBroken
 use crate::image::run_image;
 use std::alloc::Global;
 use ygg_base::{Library, Sink, Status, Text};
-use ygg_base_device::Device;
-use ygg_script::{Script, plain_script, read_script};
-use ygg_top_command::{CommandStop, MOST_BYTES, end, fetched};
+use ygg_run_mounted::{Device, Script, plain_script, read_script};
+use ygg_top_device::{CommandStop, MOST_BYTES, end, fetched};
 use ygg_type::Typed;
 
 /// The script for a layer file that stands under the name, the fourth word after the command's; or why there is none: what stands there is refused 73 or 11 at

@@ -6,16 +6,16 @@ use Rattle.ygg_base.specs.declared.tokens.Tokens.{Tokens}
 use Rattle.ygg_base.specs.Lexing.{tokens_of}
 use Rattle.ygg_syntax.specs.Files.{Derives}
 use Rattle.ygg_syntax.specs.declared.tree.File.{File}
-use Rattle.ygg_type_rules.specs.Files.{IsTyped, type_errors_of}
-use Rattle.ygg_type_rules.specs.TypeErrors.{listed}
-use Rattle.ygg_type_rules.specs.declared.type_error.TypeError.{TypeError}
+use Rattle.ygg_yard_made.specs.ygg_type_rules.Files.{IsTyped, type_errors_of}
+use Rattle.ygg_yard_made.specs.ygg_type_rules.TypeErrors.{listed}
+use Rattle.ygg_yard_made.specs.ygg_type_rules.declared.type_error.TypeError.{TypeError}
 use Rattle.ygg_type.specs.Typed.{IsFirstTypeError}
-use Rattle.ygg_accept.specs.Accepting.{IsAccepted, RefusesLayers, RefusesTokens}
-use Rattle.ygg_report.specs.Lines.{shows_line}
-use Rattle.ygg_replay_text.specs.Ending.{Replaying}
-use Rattle.ygg_replay_text.specs.Laws.{OneEnding}
+use Rattle.ygg_yard_made.specs.ygg_accept.Accepting.{IsAccepted, RefusesLayers, RefusesTokens}
+use Rattle.ygg_top_replay.specs.ygg_report.Lines.{shows_line}
+use Rattle.ygg_sched_names.specs.ygg_replay_text.Ending.{Replaying}
+use Rattle.ygg_sched_names.specs.ygg_replay_text.Laws.{OneEnding}
 use Rattle.ygg_sched_names.specs.Laws.{PrintedShows}
-use Rattle.ygg_top_command.specs.Refusing.{IsLayerFile, RefusesFile}
+use Rattle.ygg_top_replay.specs.ygg_top_command.Refusing.{IsLayerFile, RefusesFile}
 use Rattle.ygg_top_replay.specs.Replaying.{ReplaysStored, Replays}
 use Rattle.ygg_top_verify.specs.Showing.{IsShownAgain}
 

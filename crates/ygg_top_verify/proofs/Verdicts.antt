@@ -5,15 +5,15 @@ use Rattle.ygg_base.specs.declared.status.Status.{Status}
 use Rattle.ygg_base.specs.declared.status.Status.TheVariants.{Done, Refuted, Undecided}
 use Rattle.ygg_syntax.specs.declared.tree.File.{File}
 use Rattle.ygg_syntax.specs.Files.{IsDerived}
-use Rattle.ygg_type_rules.specs.Files.{IsTyped}
-use Rattle.ygg_rules.specs.declared.rule.RuleKind.{RuleKind}
-use Rattle.ygg_histories.specs.Stack.{FileRefines}
-use Rattle.ygg_histories.specs.Claims.{Claim, ClaimHolds, claims_of}
-use Rattle.ygg_histories.specs.Laws.{RefinesByList}
-use Rattle.ygg_type_progress.specs.Laws.{TypedHistories}
-use Rattle.ygg_bank.specs.declared.node.Id.{Id}
-use Rattle.ygg_bank.specs.declared.node.Node.{Node}
-use Rattle.ygg_oblige_terms.specs.Terms.{file_made}
+use Rattle.ygg_yard_made.specs.ygg_type_rules.Files.{IsTyped}
+use Rattle.ygg_oblige_reading.specs.ygg_rules.declared.rule.RuleKind.{RuleKind}
+use Rattle.ygg_yard_made.specs.ygg_histories.Stack.{FileRefines}
+use Rattle.ygg_yard_made.specs.ygg_histories.Claims.{Claim, ClaimHolds, claims_of}
+use Rattle.ygg_yard_made.specs.ygg_histories.Laws.{RefinesByList}
+use Rattle.ygg_yard_made.specs.ygg_type_progress.Laws.{TypedHistories}
+use Rattle.ygg_oblige_decided.specs.ygg_bank.declared.node.Id.{Id}
+use Rattle.ygg_oblige_decided.specs.ygg_bank.declared.node.Node.{Node}
+use Rattle.ygg_oblige_decided.specs.ygg_oblige_terms.Terms.{file_made}
 use Rattle.ygg_sched_names.specs.ObligeSchedulesLaws.{FileSchedules}
 use Rattle.ygg_top_verify.specs.Verdict.{
   Verdict,

@@ -7,34 +7,34 @@ use Rattle.ygg_syntax.specs.Files.{IsDerived}
 use Rattle.ygg_syntax.specs.declared.tree.Declared.{Declared}
 use Rattle.ygg_syntax.specs.declared.tree.DiskText.{DiskText}
 use Rattle.ygg_syntax.specs.declared.tree.File.{File}
-use Rattle.ygg_type_rules.specs.Files.{IsTyped}
-use Rattle.ygg_meaning.specs.Environments.{Env, bind}
-use Rattle.ygg_meaning.specs.Layer.{ClosedLayer}
-use Rattle.ygg_meaning.specs.Obligations.{Obligation, Init, CallOf, CutOf, TickOf, CutTickOf, Idle, Again, obligations_of}
-use Rattle.ygg_meaning.specs.Obligations as meaning
-use Rattle.ygg_meaning.specs.Refines.{Below}
-use Rattle.ygg_meaning.specs.Related.{shaped}
-use Rattle.ygg_meaning.specs.Shapes.{env_fits}
-use Rattle.ygg_meaning.specs.Violates.{shapes_fit}
-use Rattle.ygg_histories.specs.Claims.{Claim, ClaimViolated, claims_at, claims_on, claims_of}
-use Rattle.ygg_histories.specs.Stack.{Layers, below_of, layers_of}
-use Rattle.ygg_rules.specs.declared.rule.RuleKind.{RuleKind}
-use Rattle.ygg_bank.specs.Nodes.{IsBank}
-use Rattle.ygg_bank.specs.Values.{Inputs, InputsFit, value_of}
-use Rattle.ygg_bank.specs.declared.node.Id.{Id}
-use Rattle.ygg_bank.specs.declared.node.Node.{Node}
-use Rattle.ygg_sym_expr.specs.Exprs.{SymFunctions}
-use Rattle.ygg_sym_laws.specs.Means.{terms_of}
-use Rattle.ygg_oblige_terms.specs.Meaning.{Refuting, AreTermsOf, claim_name}
-use Rattle.ygg_oblige_terms.specs.Numbers.{numbers_of}
-use Rattle.ygg_oblige_terms.specs.States.{state_words}
-use Rattle.ygg_oblige_terms.specs.Terms.{after_layers, file_made}
+use Rattle.ygg_yard_made.specs.ygg_type_rules.Files.{IsTyped}
+use Rattle.ygg_yard_made.specs.ygg_meaning.Environments.{Env, bind}
+use Rattle.ygg_yard_made.specs.ygg_meaning.Layer.{ClosedLayer}
+use Rattle.ygg_yard_made.specs.ygg_meaning.Obligations.{Obligation, Init, CallOf, CutOf, TickOf, CutTickOf, Idle, Again, obligations_of}
+use Rattle.ygg_yard_made.specs.ygg_meaning.Obligations as meaning
+use Rattle.ygg_yard_made.specs.ygg_meaning.Refines.{Below}
+use Rattle.ygg_yard_made.specs.ygg_meaning.Related.{shaped}
+use Rattle.ygg_yard_made.specs.ygg_meaning.Shapes.{env_fits}
+use Rattle.ygg_yard_made.specs.ygg_meaning.Violates.{shapes_fit}
+use Rattle.ygg_yard_made.specs.ygg_histories.Claims.{Claim, ClaimViolated, claims_at, claims_on, claims_of}
+use Rattle.ygg_yard_made.specs.ygg_histories.Stack.{Layers, below_of, layers_of}
+use Rattle.ygg_oblige_reading.specs.ygg_rules.declared.rule.RuleKind.{RuleKind}
+use Rattle.ygg_oblige_decided.specs.ygg_bank.Nodes.{IsBank}
+use Rattle.ygg_oblige_decided.specs.ygg_bank.Values.{Inputs, InputsFit, value_of}
+use Rattle.ygg_oblige_decided.specs.ygg_bank.declared.node.Id.{Id}
+use Rattle.ygg_oblige_decided.specs.ygg_bank.declared.node.Node.{Node}
+use Rattle.ygg_oblige_decided.specs.ygg_sym_expr.Exprs.{SymFunctions}
+use Rattle.ygg_oblige_decided.specs.ygg_sym_laws.Means.{terms_of}
+use Rattle.ygg_oblige_decided.specs.ygg_oblige_terms.Meaning.{Refuting, AreTermsOf, claim_name}
+use Rattle.ygg_oblige_decided.specs.ygg_oblige_terms.Numbers.{numbers_of}
+use Rattle.ygg_oblige_decided.specs.ygg_oblige_terms.States.{state_words}
+use Rattle.ygg_oblige_decided.specs.ygg_oblige_terms.Terms.{after_layers, file_made}
 use Rattle.ygg_sched_names.specs.ObligeSchedulesLaws.{AllExact, FileSchedules}
 use Rattle.ygg_sched_names.specs.Schedules.{values_of, schedule_of, schedules_of, layer_schedules, all_schedules}
-use Rattle.ygg_sched.specs.Fitting.{halt_meant}
-use Rattle.ygg_sched.specs.declared.schedule.Halt.{Halt}
-use Rattle.ygg_sched.specs.declared.schedule.Schedule.{Schedule}
-use Rattle.ygg_replay_text.specs.Shown.{meant}
+use Rattle.ygg_oblige_reading.specs.ygg_sched.Fitting.{halt_meant}
+use Rattle.ygg_oblige_reading.specs.ygg_sched.declared.schedule.Halt.{Halt}
+use Rattle.ygg_oblige_reading.specs.ygg_sched.declared.schedule.Schedule.{Schedule}
+use Rattle.ygg_sched_names.specs.ygg_replay_text.Shown.{meant}
 use Rattle.ygg_top_verify.specs.Verdict.{IsViolation}
 
 both : (a b : Bool) → (a && b) ≡ true → (a ≡ true) × (b ≡ true)

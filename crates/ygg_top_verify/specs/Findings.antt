@@ -30,30 +30,30 @@ use Rattle.std.specs.Prelude.{
 use Rattle.ygg_base.specs.declared.status.Status.{Status}
 use Rattle.ygg_base.specs.declared.status.Status.TheVariants as status
 use Rattle.ygg_syntax.specs.declared.tree.File.{File}
-use Rattle.ygg_rules.specs.declared.rule.RuleKind.{RuleKind}
-use Rattle.ygg_bank.specs.declared.env.Given.{Given}
-use Rattle.ygg_bank.specs.Values.{inputs_of}
-use Rattle.ygg_bank.specs.declared.node.Id.{Id}
-use Rattle.ygg_bank.specs.declared.node.Node.{Node}
-use Rattle.ygg_gates_meaning.specs.Laws.{IsZeroIn}
-use Rattle.ygg_decide.specs.Deciding.{IsNeverZero}
-use Rattle.ygg_report.specs.Lines.{verdict_line, undecided_line, verified_line}
-use Rattle.ygg_report.specs.Tallies.{finds_spent}
-use Rattle.ygg_report.specs.declared.verdict.Tally as counts
-use Rattle.ygg_report.specs.declared.verdict.Verdict.{Verdict}
-use Rattle.ygg_report.specs.declared.verdict.Verdict.TheVariants.{Holds, Fails, Spent}
-use Rattle.ygg_bank.specs.Nodes.{HasWidth, IsBank}
-use Rattle.ygg_sched.specs.declared.schedule.Schedule.{Schedule}
+use Rattle.ygg_oblige_reading.specs.ygg_rules.declared.rule.RuleKind.{RuleKind}
+use Rattle.ygg_oblige_decided.specs.ygg_bank.declared.env.Given.{Given}
+use Rattle.ygg_oblige_decided.specs.ygg_bank.Values.{inputs_of}
+use Rattle.ygg_oblige_decided.specs.ygg_bank.declared.node.Id.{Id}
+use Rattle.ygg_oblige_decided.specs.ygg_bank.declared.node.Node.{Node}
+use Rattle.ygg_oblige_decided.specs.ygg_gates_meaning.Laws.{IsZeroIn}
+use Rattle.ygg_oblige_decided.specs.ygg_decide.Deciding.{IsNeverZero}
+use Rattle.ygg_top_replay.specs.ygg_report.Lines.{verdict_line, undecided_line, verified_line}
+use Rattle.ygg_top_replay.specs.ygg_report.Tallies.{finds_spent}
+use Rattle.ygg_top_replay.specs.ygg_report.declared.verdict.Tally as counts
+use Rattle.ygg_top_replay.specs.ygg_report.declared.verdict.Verdict.{Verdict}
+use Rattle.ygg_top_replay.specs.ygg_report.declared.verdict.Verdict.TheVariants.{Holds, Fails, Spent}
+use Rattle.ygg_oblige_decided.specs.ygg_bank.Nodes.{HasWidth, IsBank}
+use Rattle.ygg_oblige_reading.specs.ygg_sched.declared.schedule.Schedule.{Schedule}
 use Rattle.ygg_oblige_reading.specs.Obligations.{ArePlaced}
 pub use Rattle.ygg_oblige_reading.specs.Obligations.{terms_in, names_in}
-use Rattle.ygg_oblige_terms.specs.Terms.{file_made}
+use Rattle.ygg_oblige_decided.specs.ygg_oblige_terms.Terms.{file_made}
 pub use Rattle.ygg_oblige_reading.specs.Meant.{FitsTerms, Init}
 use Rattle.ygg_oblige_reading.specs.Meant.{IsNamed}
 pub use Rattle.ygg_oblige_reading.specs.Obligation.{Obligation}
 use Rattle.ygg_top_verify.specs.declared.verdict.Refutation.{Refutation}
 use Rattle.ygg_top_verify.specs.declared.verdict.Summary.{Summary}
 use Rattle.ygg_top_verify.specs.Verdict.{SpendsOn, refutation}
-use Rattle.ygg_report.specs.Putting.{Adds, IsFront, IsPutSo}
+use Rattle.ygg_top_replay.specs.ygg_report.Putting.{Adds, IsFront, IsPutSo}
 
 -- what is found of a term within a budget is true
 abbrev pub IsFound : List Node → Id → ℕ → Verdict → Type 0

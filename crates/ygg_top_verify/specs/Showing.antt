@@ -5,8 +5,8 @@ use Rattle.ygg_base.specs.declared.status.Status.{Status}
 use Rattle.ygg_base.specs.declared.status.Status.TheVariants.{Refuted}
 use Rattle.ygg_base.specs.Outside.{bytes_of}
 use Rattle.ygg_syntax.specs.declared.tree.File.{File}
-use Rattle.ygg_report.specs.Lines.{shows_line}
-use Rattle.ygg_top_command.specs.Refusing.{IsLayerFile, most_bytes}
+use Rattle.ygg_top_replay.specs.ygg_report.Lines.{shows_line}
+use Rattle.ygg_top_replay.specs.ygg_top_command.Refusing.{IsLayerFile, most_bytes}
 use Rattle.ygg_top_replay.specs.Replaying.{ReplaysNamed}
 
 -- `replay` of a file's name and a schedule's name in this library ends as refuted, and shows the obligation of this name

@@ -1,21 +1,18 @@
 //! What declarations have in common.
 
 ghost use Rattle.std.specs.Prelude.{◌≡◌, OnOk};
-ghost use Rattle.ygg_syntax_count.specs.Weights.{weights_of, expr_weight, block_weight};
-ghost use Rattle.ygg_type_rules.specs.TypeErrors.{first_after};
-ghost use Rattle.ygg_type_rules.specs.Scopes.{seen_as};
-ghost use Rattle.ygg_type_rules.specs.Definitions.{parameters_errors, with_parameters, claim_errors};
-ghost use Rattle.ygg_type_rules.specs.Layers.{view_errors, formula_errors};
-ghost use Rattle.ygg_type_scope.specs.Checking.{scope_of};
+ghost use Rattle.ygg_type_body.specs.ygg_syntax_count.Weights.{weights_of, expr_weight, block_weight};
+ghost use Rattle.ygg_type_body.specs.ygg_type_rules.TypeErrors.{first_after};
+ghost use Rattle.ygg_type_body.specs.ygg_type_rules.Scopes.{seen_as};
+ghost use Rattle.ygg_type_body.specs.ygg_type_rules.Definitions.{parameters_errors, with_parameters, claim_errors};
+ghost use Rattle.ygg_type_body.specs.ygg_type_rules.Layers.{view_errors, formula_errors};
+ghost use Rattle.ygg_type_body.specs.ygg_type_scope.Checking.{scope_of};
 
 use ygg_base::Reason;
 use ygg_list::NoMemory;
 use ygg_syntax::tree::{Block, Declared, Expr};
 use ygg_syntax_weigh::Weights;
-use ygg_type_body::body;
-use ygg_type_rules::Visibility;
-use ygg_type_scope::checker::Typer;
-use ygg_type_scope::shapes;
+use ygg_type_body::{Typer, Visibility, body, shapes};
 use ygg_value::Shape;
 
 /// Parameters or arguments, whose names stay in scope.

@@ -1,12 +1,12 @@
 //! Typing of files.
 
 ghost use Rattle.std.specs.Prelude.{◌≡◌, [], OnOk, IfOk, None};
-ghost use Rattle.ygg_syntax_count.specs.Weights.{weights_of};
-ghost use Rattle.ygg_symbols.specs.Names.{added};
-ghost use Rattle.ygg_type_rules.specs.TypeErrors.{first_after, both};
-ghost use Rattle.ygg_type_rules.specs.Definitions.{with_definitions, definitions_errors, definition_scope};
-ghost use Rattle.ygg_type_rules.specs.Layers.{below_of};
-ghost use Rattle.ygg_type_rules.specs.Files.{
+ghost use Rattle.ygg_type_body.specs.ygg_syntax_count.Weights.{weights_of};
+ghost use Rattle.ygg_type_body.specs.ygg_symbols.Names.{added};
+ghost use Rattle.ygg_type_body.specs.ygg_type_rules.TypeErrors.{first_after, both};
+ghost use Rattle.ygg_type_body.specs.ygg_type_rules.Definitions.{with_definitions, definitions_errors, definition_scope};
+ghost use Rattle.ygg_type_body.specs.ygg_type_rules.Layers.{below_of};
+ghost use Rattle.ygg_type_body.specs.ygg_type_rules.Files.{
   disk_errors,
   disk_operations as operations_of_disk,
   disk_variables as variables_of_disk,
@@ -16,7 +16,7 @@ ghost use Rattle.ygg_type_rules.specs.Files.{
   disk_below,
   type_errors_of,
 };
-ghost use Rattle.ygg_type_scope.specs.Checking.{scope_of};
+ghost use Rattle.ygg_type_body.specs.ygg_type_scope.Checking.{scope_of};
 ghost use Rattle.ygg_type.specs.Ready.{IsReady, below_in};
 
 use crate::definitions::definitions;
@@ -25,13 +25,11 @@ use std::alloc::Global;
 use std::mem;
 use ygg_base::{DiskKind, Reason};
 use ygg_list::{NoMemory, Sequence};
-use ygg_symbols::Names;
 use ygg_syntax::tree::{DiskText, File, Layer, TypeText};
 use ygg_syntax_weigh::Weights;
-use ygg_type_rules::{Owner, Signature, TypeError, Variable, Visibility};
-use ygg_type_scope::checker::Typer;
-use ygg_type_scope::first::First;
-use ygg_type_scope::shapes;
+use ygg_type_body::{
+    First, Names, Owner, Signature, TypeError, Typer, Variable, Visibility, shapes,
+};
 use ygg_value::Shape;
 
 /// Adds an operation of a disk.

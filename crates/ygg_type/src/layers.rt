@@ -1,11 +1,11 @@
 //! Typing of layers.
 
 ghost use Rattle.std.specs.Prelude.{◌≡◌, [], OnOk, IfOk, None};
-ghost use Rattle.ygg_syntax_count.specs.Weights.{weights_of};
-ghost use Rattle.ygg_symbols.specs.Names.{added};
-ghost use Rattle.ygg_type_rules.specs.TypeErrors.{first_after};
-ghost use Rattle.ygg_type_rules.specs.Definitions.{with_parameters};
-ghost use Rattle.ygg_type_rules.specs.Layers.{
+ghost use Rattle.ygg_type_body.specs.ygg_syntax_count.Weights.{weights_of};
+ghost use Rattle.ygg_type_body.specs.ygg_symbols.Names.{added};
+ghost use Rattle.ygg_type_body.specs.ygg_type_rules.TypeErrors.{first_after};
+ghost use Rattle.ygg_type_body.specs.ygg_type_rules.Definitions.{with_parameters};
+ghost use Rattle.ygg_type_body.specs.ygg_type_rules.Layers.{
   variables_errors,
   with_variables,
   variables_of,
@@ -23,21 +23,17 @@ ghost use Rattle.ygg_type_rules.specs.Layers.{
   relations_errors,
   parts_errors,
 };
-ghost use Rattle.ygg_type_scope.specs.Checking.{scope_of};
+ghost use Rattle.ygg_type_body.specs.ygg_type_scope.Checking.{scope_of};
 
 use crate::declarations::{formula, parameters, viewed};
 use std::alloc::Global;
 use ygg_base::Reason;
 use ygg_list::NoMemory;
-use ygg_symbols::Names;
 use ygg_syntax::tree::{Block, Declared, Expr, Layer, Operation, Tick};
-use ygg_syntax_count::choices;
 use ygg_syntax_weigh::Weights;
-use ygg_type_body::picks;
-use ygg_type_rules::{Owner, Signature, Variable, Visibility};
-use ygg_type_scope::checker::Typer;
-use ygg_type_scope::limits::are_picks;
-use ygg_type_scope::shapes;
+use ygg_type_body::{
+    Names, Owner, Signature, Typer, Variable, Visibility, are_picks, choices, picks, shapes,
+};
 
 /// Variables of a kind, after those that are there.
 fn variables<'a>(checker: &mut Typer<'a>, kind: Owner, all: &'a [Declared]) -> Result<(), NoMemory>

@@ -8,3 +8,4 @@ mod layers;
 mod typed;
 
 pub use typed::{Typed, check};
+pub use ygg_type_body::{choices, named};

@@ -1,13 +1,13 @@
 //! How many picks the specification of an operation takes.
 
 ghost use Rattle.std.specs.Prelude.{◌≡◌, None};
-ghost use Rattle.ygg_type_rules.specs.TypeErrors.{first_after};
-ghost use Rattle.ygg_type_rules.specs.Limits.{picks_fit};
-ghost use Rattle.ygg_type_rules.specs.Layers.{fall_picks, picks_errors};
+ghost use Rattle.ygg_type_scope.specs.ygg_type_rules.TypeErrors.{first_after};
+ghost use Rattle.ygg_type_scope.specs.ygg_type_rules.Limits.{picks_fit};
+ghost use Rattle.ygg_type_scope.specs.ygg_type_rules.Layers.{fall_picks, picks_errors};
 
 use ygg_base::Reason;
 use ygg_syntax::tree::{Block, Operation};
-use ygg_syntax_count::choices;
+use ygg_type_scope::choices;
 use ygg_type_scope::first::First;
 use ygg_type_scope::limits::are_picks;
 

@@ -1,8 +1,8 @@
 ghost use Rattle.std.specs.Prelude.{◌≡◌, IfOk, OnOk, map, None};
 ghost use Rattle.std.specs.Option.{option_copied};
-ghost use Rattle.ygg_type_rules.specs.TypeErrors.{first_after};
-ghost use Rattle.ygg_type_rules.specs.Expressions.{with_number};
-ghost use Rattle.ygg_type_rules.specs.Statements.{
+ghost use Rattle.ygg_type_scope.specs.ygg_type_rules.TypeErrors.{first_after};
+ghost use Rattle.ygg_type_scope.specs.ygg_type_rules.Expressions.{with_number};
+ghost use Rattle.ygg_type_scope.specs.ygg_type_rules.Statements.{
   call_rule,
   call_typing,
   source_typing,
@@ -22,12 +22,11 @@ ghost use Rattle.ygg_type_scope.specs.Checking.{scope_of, Grows};
 use ygg_base::Reason;
 use ygg_list::NoMemory;
 use ygg_syntax::tree::{Block, Expr, Index, Name, Numeral, Place, Source, Stmt};
-use ygg_type_rules::{Local, Signature, TypedExpr};
 use ygg_type_scope::checker::Typer;
 use ygg_type_scope::first::First;
 use ygg_type_scope::limits::is_weight;
 use ygg_type_scope::rules::all_shaped;
-use ygg_type_scope::shapes;
+use ygg_type_scope::{Local, Signature, TypedExpr, shapes};
 use ygg_value::Shape;
 
 /// The rule of a call of an operation, or of no operation, whose answer is used or dropped.

@@ -32,7 +32,7 @@ use Rattle.ygg_syntax.specs.declared.tree.Declared.{Declared}
 use Rattle.ygg_syntax.specs.declared.tree.Operation.{Operation}
 use Rattle.ygg_syntax.specs.declared.tree.Layer.{Layer}
 use Rattle.ygg_type_sound.specs.Weights.{Weights}
-use Rattle.ygg_symbols.specs.Names.{Named, look_up}
+use Rattle.ygg_type_sound.specs.ygg_symbols.Names.{Named, look_up}
 use Rattle.ygg_type_sound.specs.Visibility.TheVariants.{Implementation}
 use Rattle.ygg_type_sound.specs.Signature.{Signature}
 use Rattle.ygg_type_sound.specs.TypeErrors.{none}
@@ -41,15 +41,15 @@ use Rattle.ygg_type_sound.specs.Statements.{in_order, walked}
 use Rattle.ygg_type_sound.specs.Definitions.{parameter_shapes}
 use Rattle.ygg_type_sound.specs.Layers.{Below, layer_scope, operation_signature}
 use Rattle.ygg_type_sound.specs.Files.{disk_operations}
-use Rattle.ygg_meaning.specs.Environments.{Name, Env}
-use Rattle.ygg_meaning.specs.Meaning.{Functions}
-use Rattle.ygg_meaning.specs.Shapes.{values_fit, zeros_of}
-use Rattle.ygg_meaning.specs.Progress.{Eval, Answer, Point, Waits, Goes, Question, Choice, Call, Progress, Asks, ended}
-use Rattle.ygg_meaning.specs.Machine.{Picks, State, based}
-use Rattle.ygg_meaning.specs.Runs.{Dialogue, WholeCall, Reaches, answers_of}
-use Rattle.ygg_meaning.specs.Layer.{ClosedLayer, operation_of, dialogue_of, eval_of}
-use Rattle.ygg_meaning.specs.Spec.{Spec}
-use Rattle.ygg_meaning.specs.DiskMachine.{DiskMachine}
+use Rattle.ygg_histories.specs.ygg_meaning.Environments.{Name, Env}
+use Rattle.ygg_histories.specs.ygg_meaning.Meaning.{Functions}
+use Rattle.ygg_histories.specs.ygg_meaning.Shapes.{values_fit, zeros_of}
+use Rattle.ygg_histories.specs.ygg_meaning.Progress.{Eval, Answer, Point, Waits, Goes, Question, Choice, Call, Progress, Asks, ended}
+use Rattle.ygg_histories.specs.ygg_meaning.Machine.{Picks, State, based}
+use Rattle.ygg_histories.specs.ygg_meaning.Runs.{Dialogue, WholeCall, Reaches, answers_of}
+use Rattle.ygg_histories.specs.ygg_meaning.Layer.{ClosedLayer, operation_of, dialogue_of, eval_of}
+use Rattle.ygg_histories.specs.ygg_meaning.Spec.{Spec}
+use Rattle.ygg_histories.specs.ygg_meaning.DiskMachine.{DiskMachine}
 use Rattle.ygg_histories.specs.Under.{Failure, FailsBy}
 use Rattle.ygg_histories.specs.Laws.{IsAnswered, Answered}
 use Rattle.ygg_type_sound.specs.Fitting.{all_fit}

@@ -43,16 +43,16 @@ use Rattle.ygg_syntax.specs.declared.tree.Stmt.{Stmt, roll-Stmt, map-Stmt}
 use Rattle.ygg_syntax.specs.declared.tree.Block.{Block, roll-Block, map-Block, fold-Block}
 use Rattle.ygg_syntax.specs.declared.tree.Stmt.TheOpen.{Stmt-F, Block-F}
 use Rattle.ygg_syntax.specs.declared.tree.Stmt.TheFolds.{ind-Stmt, fold-roll-Stmt, fold-roll-Block}
-use Rattle.ygg_symbols.specs.Names.{Named, look_up, has, added}
+use Rattle.ygg_type_sound.specs.ygg_symbols.Names.{Named, look_up, has, added}
 use Rattle.ygg_type_sound.specs.Signature.{Signature}
 use Rattle.ygg_type_sound.specs.TypeErrors.{TypeErrors, none}
 use Rattle.ygg_type_sound.specs.Shapes.{word_shape}
 use Rattle.ygg_type_sound.specs.Scopes.{Scope, is_taken, with_local}
 use Rattle.ygg_type_sound.specs.Expressions.{wanted, typings, parts_of, expected_errors, with_number, number_errors}
 use Rattle.ygg_type_sound.specs.Statements.{Walked, source_typing, call_typing, place_rule, in_order, node_walked, node_inside, walked}
-use Rattle.ygg_meaning.specs.Environments.{Env}
-use Rattle.ygg_meaning.specs.Meaning.{is_one}
-use Rattle.ygg_meaning.specs.Progress.{
+use Rattle.ygg_histories.specs.ygg_meaning.Environments.{Env}
+use Rattle.ygg_histories.specs.ygg_meaning.Meaning.{is_one}
+use Rattle.ygg_histories.specs.ygg_meaning.Progress.{
   Eval,
   Run,
   Answer,

@@ -5,9 +5,9 @@ use Rattle.std.proofs.Math.Logic.{∥∥₁_elim, ∥∥₁_map}
 use Rattle.ygg_syntax.specs.declared.tree.File.{File}
 use Rattle.ygg_syntax.specs.Files.{IsDerived, IsDerivable}
 use Rattle.ygg_type_sound.specs.Files.{IsTyped}
-use Rattle.ygg_meaning.specs.Environments.{Env}
-use Rattle.ygg_meaning.specs.Machine.{Machine}
-use Rattle.ygg_meaning.specs.DiskMachine.{DiskMachine, disk_store}
+use Rattle.ygg_histories.specs.ygg_meaning.Environments.{Env}
+use Rattle.ygg_histories.specs.ygg_meaning.Machine.{Machine}
+use Rattle.ygg_histories.specs.ygg_meaning.DiskMachine.{DiskMachine, disk_store}
 use Rattle.ygg_histories.specs.Stack.{Layers, Bottom, Top, AllRefine, layers_of}
 use Rattle.ygg_histories.specs.Under.{Under}
 use Rattle.ygg_histories.specs.Laws.{ByLinks, AllAnswered}

@@ -34,16 +34,16 @@ use Rattle.ygg_syntax.specs.declared.tree.Declared.{Declared}
 use Rattle.ygg_syntax.specs.declared.tree.Layer.{Layer}
 use Rattle.ygg_syntax.specs.declared.tree.File.{File}
 use Rattle.ygg_type_sound.specs.Weights.{Weights, weights_of}
-use Rattle.ygg_symbols.specs.Names.{Named, has, added}
+use Rattle.ygg_type_sound.specs.ygg_symbols.Names.{Named, has, added}
 use Rattle.ygg_type_sound.specs.Signature.{Signature}
 use Rattle.ygg_type_sound.specs.TypeErrors.{none, unless}
 use Rattle.ygg_type_sound.specs.Definitions.{definitions_errors, with_definitions}
 use Rattle.ygg_type_sound.specs.Layers.{Below, layer_scope, parts_errors, operation_signature, with_operations}
 use Rattle.ygg_type_sound.specs.Layers as typing
 use Rattle.ygg_type_sound.specs.Files.{IsTyped, type_errors_of, disk_errors, disk_row, disk_operations, disk_below, count_error, layer_errors, layers_errors}
-use Rattle.ygg_meaning.specs.Meaning.{Functions, functions_of}
-use Rattle.ygg_meaning.specs.Layer.{ClosedLayer}
-use Rattle.ygg_meaning.specs.DiskMachine.{DiskMachine}
+use Rattle.ygg_histories.specs.ygg_meaning.Meaning.{Functions, functions_of}
+use Rattle.ygg_histories.specs.ygg_meaning.Layer.{ClosedLayer}
+use Rattle.ygg_histories.specs.ygg_meaning.DiskMachine.{DiskMachine}
 use Rattle.ygg_histories.specs.Stack.{Layers, Over, tables_of, layers_on, layers_of}
 use Rattle.ygg_histories.specs.Laws.{Answered, AllAnswered}
 use Rattle.ygg_type_sound.specs.Fitting.{IsShaped}

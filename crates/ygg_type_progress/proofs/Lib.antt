@@ -1,3 +1,4 @@
+pub use Rattle.ygg_histories.proofs as of_ygg_histories
 pub mod Enough
 pub mod TypeErrors
 pub mod Asking

@@ -54,7 +54,7 @@ use Rattle.ygg_syntax.specs.declared.tree.Stmt.{Stmt, roll-Stmt, map-Stmt}
 use Rattle.ygg_syntax.specs.declared.tree.Block.{Block, roll-Block, map-Block, fold-Block}
 use Rattle.ygg_syntax.specs.declared.tree.Stmt.TheOpen.{Stmt-F, Block-F}
 use Rattle.ygg_syntax.specs.declared.tree.Stmt.TheFolds.{ind-Stmt, fold-roll-Stmt, fold-roll-Block}
-use Rattle.ygg_symbols.specs.Names.{Named, look_up}
+use Rattle.ygg_type_sound.specs.ygg_symbols.Names.{Named, look_up}
 use Rattle.ygg_type_sound.specs.TypedExpr.{TypedExpr}
 use Rattle.ygg_type_sound.specs.Local.{Local}
 use Rattle.ygg_type_sound.specs.Signature.{Signature}
@@ -90,11 +90,11 @@ use Rattle.ygg_type_sound.specs.Statements.{
   walked,
   block_errors,
 }
-use Rattle.ygg_meaning.specs.Environments.{Env, assign}
-use Rattle.ygg_meaning.specs.Meaning.{Functions, is_one, value_with}
-use Rattle.ygg_meaning.specs.Meaning as meaning
-use Rattle.ygg_meaning.specs.Shapes.{fits}
-use Rattle.ygg_meaning.specs.Progress.{
+use Rattle.ygg_histories.specs.ygg_meaning.Environments.{Env, assign}
+use Rattle.ygg_histories.specs.ygg_meaning.Meaning.{Functions, is_one, value_with}
+use Rattle.ygg_histories.specs.ygg_meaning.Meaning as meaning
+use Rattle.ygg_histories.specs.ygg_meaning.Shapes.{fits}
+use Rattle.ygg_histories.specs.ygg_meaning.Progress.{
   Eval,
   Run,
   Answer,
@@ -125,7 +125,7 @@ use Rattle.ygg_meaning.specs.Progress.{
   ended,
   after,
 }
-use Rattle.ygg_meaning.proofs.Uses.{Good, all_good, statements_good}
+use Rattle.ygg_histories.specs.ygg_meaning_proofs_Uses.{Good, all_good, statements_good}
 use Rattle.ygg_type_sound.specs.Fitting.{HasShape, fits_wanted, all_fit}
 use Rattle.ygg_type_sound.specs.Agrees.{Agrees}
 use Rattle.ygg_type_sound.proofs.Tests.{left as first_of, right as second_of, passed, turned}

@@ -6,7 +6,7 @@ use Rattle.ygg_value.specs.declared.shape.Shape.{Shape}
 use Rattle.ygg_syntax.specs.declared.tree.Place.{Place}
 use Rattle.ygg_syntax.specs.declared.tree.Name.{Name}
 use Rattle.ygg_syntax.specs.declared.tree.Expr.{Expr}
-use Rattle.ygg_symbols.specs.Names.{look_up}
+use Rattle.ygg_type_sound.specs.ygg_symbols.Names.{look_up}
 use Rattle.ygg_type_sound.specs.Signature.{Signature}
 use Rattle.ygg_type_sound.specs.TypeErrors.{TypeErrors, nothing, one, both, none, type_error, unless, listed}
 use Rattle.ygg_type_sound.specs.Scopes.{Scope}

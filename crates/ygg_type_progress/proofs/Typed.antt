@@ -5,7 +5,7 @@ use Rattle.ygg_base.specs.declared.reason.Reason.TheVariants as reason
 use Rattle.ygg_syntax.specs.declared.grammar.BlockKind.TheVariants.{Plain, Spec, Impl}
 use Rattle.ygg_syntax.specs.declared.tree.Layer.{Layer}
 use Rattle.ygg_type_sound.specs.Weights.{Weights}
-use Rattle.ygg_symbols.specs.Names.{Named}
+use Rattle.ygg_type_sound.specs.ygg_symbols.Names.{Named}
 use Rattle.ygg_type_sound.specs.Visibility.TheVariants.{Specification, Implementation}
 use Rattle.ygg_type_sound.specs.Signature.{Signature}
 use Rattle.ygg_type_sound.specs.TypeErrors.{none, unless}
@@ -24,7 +24,7 @@ use Rattle.ygg_type_sound.specs.Layers.{
   relations_errors,
   parts_errors,
 }
-use Rattle.ygg_meaning.specs.Meaning.{Functions}
+use Rattle.ygg_histories.specs.ygg_meaning.Meaning.{Functions}
 use Rattle.ygg_type_sound.proofs.Definitions.{MeetsAll}
 use Rattle.ygg_type_sound.proofs.Tests.{left as first_of, right as second_of}
 use Rattle.ygg_type_progress.specs.Kinds.{keeps, operation_keeps, tick_keeps, layer_keeps}

@@ -33,7 +33,7 @@ use Rattle.ygg_value.proofs.Limits.{shape_of-zero_of, zero_of-IsValue}
 use Rattle.ygg_value.specs.declared.row.Value.{Value}
 use Rattle.ygg_syntax.specs.declared.tree.Declared.{Declared}
 use Rattle.ygg_syntax.specs.declared.tree.Layer.{Layer}
-use Rattle.ygg_symbols.specs.Names.{Named, look_up, has, added}
+use Rattle.ygg_type_sound.specs.ygg_symbols.Names.{Named, look_up, has, added}
 use Rattle.ygg_type_sound.specs.Owner.{Owner}
 use Rattle.ygg_type_sound.specs.Owner.TheVariants.{State, Memory}
 use Rattle.ygg_type_sound.specs.Visibility.{Visibility}
@@ -46,9 +46,9 @@ use Rattle.ygg_type_sound.specs.Shapes.{shape_of}
 use Rattle.ygg_type_sound.specs.Scopes.{Scope, sees, seen_variable, is_taken, seen_as}
 use Rattle.ygg_type_sound.specs.Definitions.{type_text_errors, with_parameter, with_parameters, parameters_errors}
 use Rattle.ygg_type_sound.specs.Layers.{Below, with_variable, with_variables, variables_errors, variables_of, layer_scope, declared_errors}
-use Rattle.ygg_meaning.specs.Environments.{Name, Env, bind}
-use Rattle.ygg_meaning.specs.Meaning.{Functions}
-use Rattle.ygg_meaning.specs.Shapes.{shape_in, fits, values_fit, env_fits, zeros_of}
+use Rattle.ygg_histories.specs.ygg_meaning.Environments.{Name, Env, bind}
+use Rattle.ygg_histories.specs.ygg_meaning.Meaning.{Functions}
+use Rattle.ygg_histories.specs.ygg_meaning.Shapes.{shape_in, fits, values_fit, env_fits, zeros_of}
 use Rattle.ygg_type_sound.specs.Fitting.{IsShaped, HasShape, IsHeld}
 use Rattle.ygg_type_sound.specs.Agrees.{Agrees}
 use Rattle.ygg_type_sound.proofs.Tests.{left as first_of, right as second_of, passed, turned, bytes_same, bytes_equal}

@@ -2,3 +2,7 @@
 #![tactic(auto)]
 
 pub mod law;
+
+pub use ygg_histories::law::refines_by_list;
+pub use ygg_histories::{Picks, Power, Turn};
+pub use ygg_type_sound::choices;

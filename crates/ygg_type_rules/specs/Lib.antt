@@ -1,3 +1,5 @@
+pub use Rattle.ygg_symbols.specs as ygg_symbols
+pub use Rattle.ygg_syntax_count.specs as ygg_syntax_count
 pub use Rattle.ygg_syntax_count.specs.Weights
 pub mod TypeErrors
 pub mod Limits

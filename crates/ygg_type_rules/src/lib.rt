@@ -6,3 +6,5 @@ mod type_error;
 
 pub use scope::{Local, Owner, Signature, TypedExpr, Variable, Visibility};
 pub use type_error::TypeError;
+pub use ygg_symbols::Names;
+pub use ygg_syntax_count::choices;

@@ -7,8 +7,7 @@ ghost use Rattle.ygg_type_scope.specs.Checking.{scope_of, with_locals};
 use crate::first::First;
 use std::alloc::Global;
 use ygg_list::NoMemory;
-use ygg_symbols::Names;
-use ygg_type_rules::{Local, Owner, Signature, Variable, Visibility};
+use ygg_type_rules::{Local, Names, Owner, Signature, Variable, Visibility};
 use ygg_value::Shape;
 
 /// What is in scope at a place of a file, and the first of the type errors before it. After running out of memory it is given up: what a call

@@ -8,3 +8,7 @@ pub mod first;
 pub mod limits;
 pub mod rules;
 pub mod shapes;
+
+pub use ygg_type_rules::{
+    Local, Names, Owner, Signature, TypeError, TypedExpr, Variable, Visibility, choices,
+};

@@ -1,3 +1,4 @@
+pub use Rattle.ygg_type_rules.proofs.of_ygg_syntax_count
 pub mod Tests
 pub mod Fits
 pub mod Rules

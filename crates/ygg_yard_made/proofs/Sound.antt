@@ -7,13 +7,13 @@ use Rattle.ygg_base.specs.declared.tokens.Tokens.{Tokens}
 use Rattle.ygg_base.specs.Lexing.{Lexed, tokens_of}
 use Rattle.ygg_syntax.specs.declared.tree.File.{File}
 use Rattle.ygg_syntax.specs.Files.{Derives}
-use Rattle.ygg_type_rules.specs.TypeErrors.{listed}
-use Rattle.ygg_type_rules.specs.declared.type_error.TypeError.{TypeError}
-use Rattle.ygg_type_rules.specs.Files.{IsTyped, type_errors_of}
+use Rattle.ygg_yard_typed.specs.ygg_type_rules.TypeErrors.{listed}
+use Rattle.ygg_yard_typed.specs.ygg_type_rules.declared.type_error.TypeError.{TypeError}
+use Rattle.ygg_yard_typed.specs.ygg_type_rules.Files.{IsTyped, type_errors_of}
 use Rattle.ygg_accept.specs.Accepting.{RefusesTokens, RefusesLayers}
-use Rattle.ygg_yard.specs.Texts.{made}
-use Rattle.ygg_print_layout.proofs.Relexed.{relexed}
-use Rattle.ygg_yard_file.specs.Trees.{file_made}
+use Rattle.ygg_yard_read.specs.ygg_yard.Texts.{made}
+use Rattle.ygg_yard_read.proofs.of_ygg_print_layout.Relexed.{relexed}
+use Rattle.ygg_yard_read.specs.ygg_yard_file.Trees.{file_made}
 use Rattle.ygg_yard_read.specs.Laws.{IsReadAt}
 use Rattle.ygg_yard_read.proofs.Read.{is_read}
 use Rattle.ygg_yard_typed.proofs.Typed.{is_typed}

@@ -3,7 +3,7 @@ use Rattle.std.specs.Prelude.{ℕ, ◌≤◌}
 use Rattle.ygg_base.specs.declared.failure.Refusal.{Refusal}
 use Rattle.ygg_base.specs.declared.tokens.Tokens.{Tokens}
 use Rattle.ygg_syntax.specs.declared.tree.File.{File}
-use Rattle.ygg_yard.specs.Texts.{made}
+use Rattle.ygg_yard_read.specs.ygg_yard.Texts.{made}
 use Rattle.ygg_accept.specs.Accepting.{IsAccepted, RefusesLayers}
 pub use Rattle.ygg_yard_refines.specs.Laws.{HoldsAll}
 

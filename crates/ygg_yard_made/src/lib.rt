@@ -3,4 +3,5 @@
 
 pub mod law;
 
-pub use ygg_yard::make;
+pub use ygg_yard_read::make;
+pub use ygg_yard_refines::{refines_by_list, typed_histories};

@@ -14,13 +14,13 @@ use Rattle.ygg_value.proofs.Equality.{same_value-iff}
 use Rattle.ygg_syntax.specs.declared.tree.Declared.{Declared}
 use Rattle.ygg_syntax.specs.declared.tree.Expr.TheVariants as expr
 use Rattle.ygg_syntax.specs.declared.tree.Layer.{Layer}
-use Rattle.ygg_meaning.specs.Environments.{Env, look_up}
-use Rattle.ygg_meaning.specs.Meaning.{Scope, functions_of, value_with, is_one}
-use Rattle.ygg_meaning.specs.Shapes.{shape_in, words_fit, fits, env_fits}
-use Rattle.ygg_meaning.specs.Layer.{ClosedLayer}
-use Rattle.ygg_meaning.specs.Related.{holds, shaped, all_true, relates, related, settled}
-use Rattle.ygg_histories.specs.Stack.{table_named, tables_of}
-use Rattle.ygg_type_sound.proofs.Tests.{left, right, bytes_same, bytes_equal}
+use Rattle.ygg_type_progress.specs.ygg_meaning.Environments.{Env, look_up}
+use Rattle.ygg_type_progress.specs.ygg_meaning.Meaning.{Scope, functions_of, value_with, is_one}
+use Rattle.ygg_type_progress.specs.ygg_meaning.Shapes.{shape_in, words_fit, fits, env_fits}
+use Rattle.ygg_type_progress.specs.ygg_meaning.Layer.{ClosedLayer}
+use Rattle.ygg_type_progress.specs.ygg_meaning.Related.{holds, shaped, all_true, relates, related, settled}
+use Rattle.ygg_type_progress.specs.ygg_histories.Stack.{table_named, tables_of}
+use Rattle.ygg_type_progress.specs.ygg_type_sound_proofs_Tests.{left, right, bytes_same, bytes_equal}
 use Rattle.ygg_type_progress.proofs.Fits.{zeros_fit, table_parts, table_whole, row_written}
 use Rattle.ygg_yard_file.specs.Trees.{Places, name_at, disk_made, table_made, relation_made, layer_made}
 use Rattle.ygg_yard_refines.proofs.Disk.{view_of}

@@ -6,14 +6,14 @@ use Rattle.ygg_base.specs.declared.reason.Reason.TheVariants as reason
 use Rattle.ygg_value.specs.declared.operation.Op.TheVariants as op
 use Rattle.ygg_value.specs.declared.shape.Shape.{Shape}
 use Rattle.ygg_value.specs.declared.shape.Shape.TheVariants.{Word, Table}
-use Rattle.ygg_symbols.specs.Names.{Named, look_up, has}
+use Rattle.ygg_type_rules.specs.ygg_symbols.Names.{Named, look_up, has}
 use Rattle.ygg_syntax.specs.declared.tree.Place.{Place}
 use Rattle.ygg_syntax.specs.declared.tree.Expr.TheVariants as expr
 use Rattle.ygg_syntax.specs.declared.tree.Source.TheVariants as source
 use Rattle.ygg_syntax.specs.declared.tree.Stmt.{Stmt}
 use Rattle.ygg_syntax.specs.declared.tree.Operation.{Operation}
 use Rattle.ygg_syntax.specs.Choices.{choices_of}
-use Rattle.ygg_syntax_count.specs.Weights.{Weights, expr_weight, block_weight}
+use Rattle.ygg_type_rules.specs.ygg_syntax_count.Weights.{Weights, expr_weight, block_weight}
 use Rattle.ygg_type_rules.specs.declared.scope.Local.{Local}
 use Rattle.ygg_type_rules.specs.declared.scope.Owner.TheVariants.{State}
 use Rattle.ygg_type_rules.specs.declared.scope.Signature.{Signature}

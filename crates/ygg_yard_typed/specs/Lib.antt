@@ -1,1 +1,2 @@
+pub use Rattle.ygg_type_rules.specs as ygg_type_rules
 pub mod Laws

@@ -1,7 +1,7 @@
 use Rattle.std.proofs.Common.{sym, subst}
 use Rattle.ygg_syntax.specs.declared.tree.File.{File}
 use Rattle.ygg_syntax.specs.Files.{Derives}
-use Rattle.ygg_type_rules.specs.Files.{IsTyped}
+use Rattle.ygg_type.specs.ygg_type_rules.Files.{IsTyped}
 use Rattle.ygg_accept.proofs.Counted.{few_tokens}
 use Rattle.ygg_accept.proofs.Only.{no_other, mistyped_on}
 use Rattle.ygg_accept.proofs.accept.Goals as goal

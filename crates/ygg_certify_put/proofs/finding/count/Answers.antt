@@ -1,8 +1,8 @@
 use Rattle.std.proofs.Common.{List, ap, subst, ◌∙◌}
 use Rattle.std.specs.Prelude.{All}
-use Rattle.ygg_cnf.specs.declared.lit.Lit.{Lit}
-use Rattle.ygg_gates.specs.Groups.{Translated}
-use Rattle.ygg_log_read.specs.Steps.{IsLiteral}
+use Rattle.ygg_cert.specs.ygg_cnf.declared.lit.Lit.{Lit}
+use Rattle.ygg_decide.specs.ygg_gates.Groups.{Translated}
+use Rattle.ygg_cert.specs.ygg_log_read.Steps.{IsLiteral}
 use Rattle.ygg_certify_put.proofs.finding.count.Goals as goal
 
 pub returns-clause-may : goal.returns-clause-may

@@ -1,4 +1,4 @@
-use Rattle.ygg_bank.proofs.Widths.{stands}
+use Rattle.ygg_decide.specs.ygg_bank_proofs_Widths.{stands}
 use Rattle.ygg_certify_put.proofs.finding.find.Goals as goal
 
 pub count-requires : goal.count-requires

@@ -1,4 +1,4 @@
-use Rattle.ygg_log_read.specs.Steps.{IsLiteral}
+use Rattle.ygg_cert.specs.ygg_log_read.Steps.{IsLiteral}
 use Rattle.ygg_certify_put.proofs.Firsts.{all_more, all_whole}
 use Rattle.ygg_certify_put.proofs.literals.clause_may.Goals as goal
 

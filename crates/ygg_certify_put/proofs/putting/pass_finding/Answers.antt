@@ -1,7 +1,7 @@
 use Rattle.std.proofs.Common.{List, ℕ, ◌++◌, Err, ap, subst, ◌∙◌}
 use Rattle.ygg_base.specs.Outside.{Rose}
 use Rattle.ygg_base.specs.declared.status.Status.TheVariants.{NoMemory}
-use Rattle.ygg_cnf.specs.declared.log.Step.{Step}
+use Rattle.ygg_cert.specs.ygg_cnf.declared.log.Step.{Step}
 use Rattle.ygg_cert.specs.Texts.{opening_line, closing_line}
 use Rattle.ygg_pieces.specs.Pieces.{Passes, Flows, log_lines}
 use Rattle.ygg_pieces.proofs.Flowing.{cut_here, rose_since}

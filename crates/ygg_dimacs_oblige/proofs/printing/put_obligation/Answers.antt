@@ -1,10 +1,10 @@
 use Rattle.std.proofs.Common.{refl}
-use Rattle.ygg_histories.specs.Claims.{claims_of}
-use Rattle.ygg_oblige_terms.specs.Meaning.{claim_name}
+use Rattle.ygg_sched.specs.ygg_histories.Claims.{claims_of}
+use Rattle.ygg_oblige_decided.specs.ygg_oblige_terms.Meaning.{claim_name}
 use Rattle.std.specs.Prelude.{map}
 use Rattle.ygg_dimacs_oblige.specs.Printed.{Printed}
 use Rattle.ygg_dimacs_oblige.proofs.Placed.{is_at, is_clauses_of, placed_name, some_named}
-use Rattle.ygg_pieces.proofs.Flowing.{puts_done}
+use Rattle.ygg_dimacs_term.proofs.of_ygg_pieces.Flowing.{puts_done}
 use Rattle.ygg_dimacs_oblige.proofs.printing.put_obligation.Goals as goal
 
 pub put_term-requires : goal.put_term-requires

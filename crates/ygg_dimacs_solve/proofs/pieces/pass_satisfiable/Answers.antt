@@ -1,6 +1,6 @@
 use Rattle.std.specs.Prelude.{codes}
 use Rattle.ygg_base.specs.Outside.{Rose}
-use Rattle.ygg_cnf.specs.Literals.{truth_of}
+use Rattle.ygg_solver.specs.ygg_cnf.Literals.{truth_of}
 use Rattle.ygg_log_text.specs.Lines.{literal_words}
 use Rattle.ygg_dimacs_solve.specs.Solved.{true_literals}
 use Rattle.ygg_pieces.proofs.Flowing.{text_done, text_short, rose_since}

@@ -1,6 +1,6 @@
 use Rattle.std.proofs.Common.{arith}
 use Rattle.ygg_base.specs.Outside.{Rose}
-use Rattle.ygg_cnf.specs.Literals.{truth_of}
+use Rattle.ygg_solver.specs.ygg_cnf.Literals.{truth_of}
 use Rattle.ygg_pieces.proofs.Flowing.{rose_since}
 use Rattle.ygg_dimacs_solve.proofs.Values.{value_short, value_on}
 use Rattle.ygg_dimacs_solve.proofs.pieces.pass_values.Goals as goal

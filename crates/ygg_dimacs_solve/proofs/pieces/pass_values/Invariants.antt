@@ -1,5 +1,5 @@
 use Rattle.std.proofs.Common.{◌≤◌}
-use Rattle.ygg_cnf.specs.Literals.{truth_of}
+use Rattle.ygg_solver.specs.ygg_cnf.Literals.{truth_of}
 use Rattle.ygg_log_text.specs.Lines.{literal_words}
 use Rattle.ygg_pieces.specs.Pieces.{Flows}
 use Rattle.ygg_dimacs_solve.specs.Solved.{true_literals}

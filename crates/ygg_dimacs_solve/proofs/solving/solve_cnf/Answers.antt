@@ -1,5 +1,5 @@
 use Rattle.std.proofs.Common.{inl, inr, refl, ap}
-use Rattle.ygg_cnf.specs.Literals.{truth_of}
+use Rattle.ygg_solver.specs.ygg_cnf.Literals.{truth_of}
 use Rattle.ygg_dimacs_solve.specs.Solved.{Solved, unsatisfiable_text}
 use Rattle.ygg_pieces.proofs.Flowing.{puts_done, puts_undecided}
 use Rattle.ygg_dimacs_solve.proofs.solving.solve_cnf.Goals as goal

@@ -1,6 +1,6 @@
 use Rattle.std.proofs.Common.{arith, refl}
 use Rattle.ygg_base.specs.Outside.{Rose}
-use Rattle.ygg_gates.specs.Clauses.{clauses_from}
+use Rattle.ygg_blast.specs.ygg_gates.Clauses.{clauses_from}
 use Rattle.ygg_dimacs.specs.Printing.{clause_lines}
 use Rattle.ygg_pieces.proofs.Flowing.{rose_since}
 use Rattle.ygg_dimacs_term.proofs.Texts.{gate_on, gate_short}

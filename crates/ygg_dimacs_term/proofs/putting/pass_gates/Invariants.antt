@@ -1,7 +1,7 @@
 use Rattle.std.proofs.Common.{◌++◌, ◌+◌, ◌≤◌, drop}
 use Rattle.ygg_pieces.specs.Pieces.{Flows}
 use Rattle.ygg_dimacs.specs.Printing.{clause_lines}
-use Rattle.ygg_gates.specs.Clauses.{clauses_from}
+use Rattle.ygg_blast.specs.ygg_gates.Clauses.{clauses_from}
 use Rattle.ygg_dimacs_term.proofs.putting.pass_gates.Given as goal
 
 -- what is put and kept, and the lines that are still to come

@@ -1,6 +1,6 @@
 use Rattle.std.proofs.Common.{inr, refl, []}
-use Rattle.ygg_bank.proofs.Widths.{stands}
-use Rattle.ygg_gates.specs.Groups.{translated}
+use Rattle.ygg_blast.specs.ygg_bank_proofs_Widths.{stands}
+use Rattle.ygg_blast.specs.ygg_gates.Groups.{translated}
 use Rattle.ygg_dimacs_term.specs.Counted.{clauses_text}
 use Rattle.ygg_pieces.proofs.Flowing.{cut_here}
 use Rattle.ygg_dimacs_term.proofs.putting.put_term.Goals as goal

@@ -1,5 +1,5 @@
 use Rattle.std.proofs.Common.{◌≡◌, ◌++◌, drop}
-use Rattle.ygg_meaning.specs.Environments.{bind}
+use Rattle.ygg_eval_expr.specs.ygg_meaning.Environments.{bind}
 use Rattle.ygg_eval_expr.specs.Held.{env_of}
 use Rattle.ygg_eval_block.proofs.names.name_values.Given as goal
 

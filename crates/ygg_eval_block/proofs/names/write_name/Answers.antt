@@ -2,7 +2,7 @@ use Rattle.std.proofs.Common.{Some, None, get_or, ap, sym, ◌∙◌, subst, map
 use Rattle.ygg_value.specs.declared.row.Value.{Value}
 use Rattle.ygg_value.specs.Number.{Number}
 use Rattle.ygg_value.specs.Values.{with_part}
-use Rattle.ygg_meaning.specs.Environments.{look_up}
+use Rattle.ygg_eval_expr.specs.ygg_meaning.Environments.{look_up}
 use Rattle.ygg_eval_expr.specs.Held.{env_of}
 use Rattle.ygg_eval_expr.specs.Writing.{CanWrite}
 use Rattle.ygg_eval_block.proofs.Firsts.{place_found, held_first, written, on_ok}

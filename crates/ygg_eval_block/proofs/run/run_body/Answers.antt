@@ -1,6 +1,6 @@
 use Rattle.std.proofs.Common.{slice_get, sym, ap, ◌∙◌}
 use Rattle.ygg_syntax.specs.declared.tree.File.{File}
-use Rattle.ygg_meaning.specs.Environments.{bind}
+use Rattle.ygg_eval_expr.specs.ygg_meaning.Environments.{bind}
 use Rattle.ygg_eval_expr.specs.Held.{env_of}
 use Rattle.ygg_eval_lower.specs.Bodies.{kind_of, variables_in, arguments_in}
 use Rattle.ygg_eval_block.specs.Steps.{stands}

@@ -1,5 +1,5 @@
 use Rattle.std.proofs.Common.{◌≡◌, drop}
-use Rattle.ygg_meaning.specs.Shapes.{values_fit}
+use Rattle.ygg_eval_lower.specs.ygg_meaning.Shapes.{values_fit}
 use Rattle.ygg_eval_fits.proofs.shapes.values_fit.Given as goal
 
 -- what is left decides

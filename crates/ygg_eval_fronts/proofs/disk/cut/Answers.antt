@@ -1,5 +1,5 @@
 use Rattle.std.proofs.Common.{◌++◌, Bool, refl, ap, ◌∙◌}
-use Rattle.ygg_eval_lower.specs.Layers.{signatures_at}
+use Rattle.ygg_direct_files.specs.ygg_eval_lower.Layers.{signatures_at}
 use Rattle.ygg_eval_choices.specs.Bits.{bits_in}
 use Rattle.ygg_eval_choices.proofs.Noting.{if_ok}
 use Rattle.ygg_eval_fronts.specs.Steps.{one_pick}

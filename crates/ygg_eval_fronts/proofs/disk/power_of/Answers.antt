@@ -1,5 +1,5 @@
 use Rattle.std.proofs.Common.{◌∙◌, ◌++◌, Bool, false, List, [], ◌∷◌, None, ap}
-use Rattle.ygg_disk.specs.declared.power.Power.{Power}
+use Rattle.ygg_direct_files.specs.ygg_disk.declared.power.Power.{Power}
 use Rattle.ygg_eval_fronts.proofs.disk.power_of.Goals as goal
 
 pub returns : goal.returns

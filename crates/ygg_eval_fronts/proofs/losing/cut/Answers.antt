@@ -1,5 +1,5 @@
 use Rattle.std.proofs.Common.{sym, subst}
-use Rattle.ygg_meaning.specs.Progress.{Call}
+use Rattle.ygg_direct_files.specs.ygg_meaning.Progress.{Call}
 use Rattle.ygg_eval_choices.specs.Bits.{bits_in}
 use Rattle.ygg_eval_choices.proofs.Noting.{if_ok}
 use Rattle.ygg_eval_fronts.specs.Steps.{FellWithin}

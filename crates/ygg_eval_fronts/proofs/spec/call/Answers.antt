@@ -1,7 +1,7 @@
 use Rattle.std.proofs.Common.{◌-◌, subst}
-use Rattle.ygg_meaning.specs.Progress.{Call}
-use Rattle.ygg_eval_lower.specs.Layers.{closed_at, signatures_at}
-use Rattle.ygg_eval_lower.specs.declared.body.Part.TheVariants as part
+use Rattle.ygg_direct_files.specs.ygg_meaning.Progress.{Call}
+use Rattle.ygg_direct_files.specs.ygg_eval_lower.Layers.{closed_at, signatures_at}
+use Rattle.ygg_direct_files.specs.ygg_eval_lower.declared.body.Part.TheVariants as part
 use Rattle.ygg_eval_spec.proofs.OnSpec.{is_spec, runs_spec}
 use Rattle.ygg_eval_choices.specs.Bits.{bits_in}
 use Rattle.ygg_eval_choices.specs.Chosen.{Chose}

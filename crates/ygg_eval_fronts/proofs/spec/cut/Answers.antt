@@ -2,11 +2,11 @@ use Rattle.std.proofs.Common.{◌-◌, ◌++◌, ◌∷◌, [], Bool, sym, ap, �
 use Rattle.std.proofs.lemmas.Result.{on_ok_weaker}
 use Rattle.ygg_syntax.specs.declared.tree.Block.{Block}
 use Rattle.ygg_syntax.specs.declared.tree.Layer.{Layer}
-use Rattle.ygg_meaning.specs.Progress.{Call}
-use Rattle.ygg_eval_lower.specs.Bodies.{IsBlock}
-use Rattle.ygg_eval_lower.specs.Layers.{signatures_at}
-use Rattle.ygg_eval_lower.specs.declared.body.Body.{Body}
-use Rattle.ygg_eval_lower.specs.declared.body.Part.TheVariants as part
+use Rattle.ygg_direct_files.specs.ygg_meaning.Progress.{Call}
+use Rattle.ygg_direct_files.specs.ygg_eval_lower.Bodies.{IsBlock}
+use Rattle.ygg_direct_files.specs.ygg_eval_lower.Layers.{signatures_at}
+use Rattle.ygg_direct_files.specs.ygg_eval_lower.declared.body.Body.{Body}
+use Rattle.ygg_direct_files.specs.ygg_eval_lower.declared.body.Part.TheVariants as part
 use Rattle.ygg_eval_spec.proofs.OnSpec.{is_spec, is_on_crash, runs_spec, runs_on_crash}
 use Rattle.ygg_eval_choices.specs.Bits.{bits_in}
 use Rattle.ygg_eval_fronts.specs.Steps.{Crashed, FellWithin, ThenCrashed}

@@ -2,9 +2,9 @@ use Rattle.std.proofs.Common.{◌≡◌, ◌<◌, ◌++◌, length, slice_get, S
 use Rattle.std.specs.Option.{option_copied}
 use Rattle.std.proofs.lemmas.Option.{slice_get-get_or, slice_get_within}
 use Rattle.ygg_syntax.specs.declared.tree.File.{File}
-use Rattle.ygg_meaning.specs.Environments.{bind}
-use Rattle.ygg_meaning.specs.Meaning.{is_one}
-use Rattle.ygg_histories.specs.Stack.{tables_of}
+use Rattle.ygg_eval_expr.specs.ygg_meaning.Environments.{bind}
+use Rattle.ygg_eval_expr.specs.ygg_meaning.Meaning.{is_one}
+use Rattle.ygg_eval_lower.specs.ygg_histories.Stack.{tables_of}
 use Rattle.ygg_eval_expr.specs.Held.{env_of}
 use Rattle.ygg_eval_lower.specs.Layers.{variables_from}
 use Rattle.ygg_eval_holds.specs.Formulas.{formula_in}

@@ -1,7 +1,7 @@
 use Rattle.std.proofs.Common.{◌≡◌, arith, rules, subst, sym}
 use Rattle.std.proofs.lemmas.Grind.{common_steps}
-use Rattle.ygg_disk.specs.declared.power.Power.{Power}
-use Rattle.ygg_eval_lower.specs.Lower.{outage_of}
+use Rattle.ygg_eval_block.specs.ygg_disk.declared.power.Power.{Power}
+use Rattle.ygg_eval_block.specs.ygg_eval_lower.Lower.{outage_of}
 use Rattle.ygg_eval_spec.specs.Kept.{standing, Loses}
 use Rattle.ygg_eval_spec.proofs.disk.lose.Goals as goal
 

@@ -2,7 +2,7 @@ use Rattle.std.proofs.Common.{◌+◌, List, drop, ap, subst, sym, arith, rules}
 use Rattle.std.specs.Prelude.{All}
 use Rattle.std.proofs.Math.ListN.{drop_of_length-le}
 use Rattle.std.proofs.lemmas.List.Elements.{All-head}
-use Rattle.ygg_meaning.specs.Obligations.{Obligation}
+use Rattle.ygg_oblige_laws.specs.ygg_meaning.Obligations.{Obligation}
 use Rattle.ygg_oblige_kinds.proofs.Left.{rest_is}
 use Rattle.ygg_oblige_kinds.specs.Makers.{starting_of}
 use Rattle.ygg_oblige_kinds.specs.Steps.{obligation_of}

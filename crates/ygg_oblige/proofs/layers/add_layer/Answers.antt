@@ -1,8 +1,8 @@
 use Rattle.std.proofs.Common.{◌≡◌, ℕ, ◌++◌, List, OnOk, IfOk, sym, ap, ◌∙◌, subst, arith}
-use Rattle.ygg_bank.specs.Inputs.{InputsBelow}
-use Rattle.ygg_bank.specs.Makes.{Out}
-use Rattle.ygg_bank.specs.declared.node.Id.{Id}
-use Rattle.ygg_meaning.specs.Obligations.{Obligation}
+use Rattle.ygg_oblige_laws.specs.ygg_bank.Inputs.{InputsBelow}
+use Rattle.ygg_oblige_laws.specs.ygg_bank.Makes.{Out}
+use Rattle.ygg_oblige_laws.specs.ygg_bank.declared.node.Id.{Id}
+use Rattle.ygg_oblige_laws.specs.ygg_meaning.Obligations.{Obligation}
 use Rattle.ygg_oblige_kinds.specs.Makers.{starting_of}
 use Rattle.ygg_oblige.specs.Adding.{AddsAsked, names_of}
 use Rattle.ygg_oblige_list.specs.Listing.{AreNumbered, asked_in}

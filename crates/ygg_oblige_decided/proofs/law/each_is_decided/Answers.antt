@@ -1,4 +1,4 @@
-use Rattle.ygg_oblige_decided.proofs.Decided.{each_is_decided}
+use Rattle.ygg_oblige_decided.proofs.Deciding.{each_is_decided}
 use Rattle.ygg_oblige_decided.proofs.law.each_is_decided.Goals as goal
 
 pub returns : goal.returns

@@ -1,4 +1,4 @@
-use Rattle.ygg_oblige_decided.proofs.Decided.{never_zero_holds}
+use Rattle.ygg_oblige_decided.proofs.Deciding.{never_zero_holds}
 use Rattle.ygg_oblige_decided.proofs.law.never_zero_holds.Goals as goal
 
 pub returns : goal.returns

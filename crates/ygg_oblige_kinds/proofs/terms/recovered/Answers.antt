@@ -1,20 +1,20 @@
 use Rattle.std.proofs.Common.{◌≡◌, List, [], OnOk, IfOk, sym, subst}
-use Rattle.ygg_bank.specs.Makes.{Out}
+use Rattle.ygg_oblige_parts.specs.ygg_bank.Makes.{Out}
 use Rattle.ygg_syntax.specs.declared.tree.Declared.{Declared}
 use Rattle.ygg_oblige_parts.specs.Kept.{AreKept}
-use Rattle.ygg_sym_below.specs.Lows.{LowShaped}
-use Rattle.ygg_sym_below.proofs.Lows.{low_wider}
-use Rattle.ygg_sym_runs.proofs.Zeros.{single_then}
+use Rattle.ygg_oblige_parts.specs.ygg_sym_below.Lows.{LowShaped}
+use Rattle.ygg_oblige_parts.specs.ygg_sym_below_proofs_Lows.{low_wider}
+use Rattle.ygg_oblige_parts.proofs.of_ygg_sym_runs.Zeros.{single_then}
 use Rattle.ygg_oblige_parts.specs.Layers.{closed, terms_in}
 use Rattle.ygg_oblige_parts.specs.Sites.{below_in}
 use Rattle.ygg_oblige_kinds.proofs.Sites.{below_fits}
-use Rattle.ygg_sym_expr.specs.Names.{sym_bind}
-use Rattle.ygg_sym_laws.specs.Below.{run_made, zeros_made}
+use Rattle.ygg_oblige_parts.specs.ygg_sym_expr.Names.{sym_bind}
+use Rattle.ygg_oblige_parts.specs.ygg_sym_laws.Below.{run_made, zeros_made}
 use Rattle.ygg_oblige_parts.specs.Running.{EndIs}
-use Rattle.ygg_oblige_terms.specs.Terms.{Finish}
+use Rattle.ygg_oblige_parts.specs.ygg_oblige_terms.Terms.{Finish}
 use Rattle.ygg_oblige_kinds.proofs.Alike.{no_values}
 use Rattle.ygg_oblige_kinds.proofs.Chains.{zeros_from}
-use Rattle.ygg_bank.proofs.Widths.{extends_both}
+use Rattle.ygg_oblige_parts.specs.ygg_bank_proofs_Widths.{extends_both}
 use Rattle.ygg_oblige_kinds.proofs.terms.recovered.Goals as goal
 
 pub zeros-requires : goal.zeros-requires

@@ -1,13 +1,13 @@
 use Rattle.std.proofs.Common.{◌≡◌, OnOk, IfOk, subst}
-use Rattle.ygg_bank.proofs.Widths.{extends_both, wider}
-use Rattle.ygg_bank.specs.Makes.{Out}
-use Rattle.ygg_bank.specs.declared.node.Id.{Id}
-use Rattle.ygg_sym_below.proofs.Lows.{low_wider}
+use Rattle.ygg_oblige_parts.specs.ygg_bank_proofs_Widths.{extends_both, wider}
+use Rattle.ygg_oblige_parts.specs.ygg_bank.Makes.{Out}
+use Rattle.ygg_oblige_parts.specs.ygg_bank.declared.node.Id.{Id}
+use Rattle.ygg_oblige_parts.specs.ygg_sym_below_proofs_Lows.{low_wider}
 use Rattle.ygg_oblige_parts.specs.Layers.{closed, terms_in}
 use Rattle.ygg_oblige_parts.specs.Sites.{below_in}
-use Rattle.ygg_oblige_terms.specs.Numbers.{arguments_of}
-use Rattle.ygg_oblige_terms.specs.States.{settled_made}
-use Rattle.ygg_oblige_terms.specs.Terms.{recovered}
+use Rattle.ygg_oblige_parts.specs.ygg_oblige_terms.Numbers.{arguments_of}
+use Rattle.ygg_oblige_parts.specs.ygg_oblige_terms.States.{settled_made}
+use Rattle.ygg_oblige_parts.specs.ygg_oblige_terms.Terms.{recovered}
 use Rattle.ygg_oblige_parts.specs.ObligePiecesSteps.{variables_of}
 use Rattle.ygg_oblige_parts.specs.Passing.{some_in}
 use Rattle.ygg_oblige_parts.specs.Steps.{obligation_of}

@@ -1,21 +1,21 @@
 use Rattle.std.proofs.Common.{◌≡◌, List, [], OnOk, IfOk, sym, subst}
-use Rattle.ygg_bank.specs.Makes.{Out}
+use Rattle.ygg_oblige_parts.specs.ygg_bank.Makes.{Out}
 use Rattle.ygg_syntax.specs.declared.tree.Declared.{Declared}
 use Rattle.ygg_oblige_parts.specs.Kept.{AreKept}
-use Rattle.ygg_shape_cells.specs.declared.terms.SymValue.{SymValue}
-use Rattle.ygg_sym_below.specs.Lows.{LowShaped}
-use Rattle.ygg_sym_below.proofs.Lows.{low_wider}
-use Rattle.ygg_sym_runs.proofs.Zeros.{single_then}
+use Rattle.ygg_oblige_parts.specs.ygg_shape_cells.declared.terms.SymValue.{SymValue}
+use Rattle.ygg_oblige_parts.specs.ygg_sym_below.Lows.{LowShaped}
+use Rattle.ygg_oblige_parts.specs.ygg_sym_below_proofs_Lows.{low_wider}
+use Rattle.ygg_oblige_parts.proofs.of_ygg_sym_runs.Zeros.{single_then}
 use Rattle.ygg_oblige_parts.specs.Layers.{closed, terms_in}
 use Rattle.ygg_oblige_parts.specs.Sites.{below_in}
 use Rattle.ygg_oblige_kinds.proofs.Sites.{below_fits}
-use Rattle.ygg_sym_below.specs.StopTerms.{SymFallen}
-use Rattle.ygg_sym_expr.specs.Names.{sym_bind}
-use Rattle.ygg_sym_laws.specs.Below.{cut_made, zeros_made}
+use Rattle.ygg_oblige_parts.specs.ygg_sym_below.StopTerms.{SymFallen}
+use Rattle.ygg_oblige_parts.specs.ygg_sym_expr.Names.{sym_bind}
+use Rattle.ygg_oblige_parts.specs.ygg_sym_laws.Below.{cut_made, zeros_made}
 use Rattle.ygg_oblige_parts.specs.Running.{CutIs}
 use Rattle.ygg_oblige_kinds.proofs.Alike.{no_values}
 use Rattle.ygg_oblige_kinds.proofs.Chains.{zeros_from}
-use Rattle.ygg_bank.proofs.Widths.{extends_both}
+use Rattle.ygg_oblige_parts.specs.ygg_bank_proofs_Widths.{extends_both}
 use Rattle.ygg_oblige_kinds.proofs.terms.recovery_cut.Goals as goal
 
 pub zeros-requires : goal.zeros-requires

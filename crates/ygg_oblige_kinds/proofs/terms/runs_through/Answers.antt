@@ -1,16 +1,16 @@
 use Rattle.std.proofs.Common.{◌≡◌, List, OnOk, IfOk, refl, sym, subst}
-use Rattle.ygg_bank.proofs.Widths.{extends_both, wider}
-use Rattle.ygg_bank.specs.Makes.{Out}
-use Rattle.ygg_bank.specs.declared.node.Id.{Id}
+use Rattle.ygg_oblige_parts.specs.ygg_bank_proofs_Widths.{extends_both, wider}
+use Rattle.ygg_oblige_parts.specs.ygg_bank.Makes.{Out}
+use Rattle.ygg_oblige_parts.specs.ygg_bank.declared.node.Id.{Id}
 use Rattle.ygg_syntax.specs.declared.tree.Declared.{Declared}
-use Rattle.ygg_sym_below.specs.Lows.{LowShaped}
-use Rattle.ygg_sym_below.proofs.Lows.{low_wider}
-use Rattle.ygg_sym_expr.specs.Names.{sym_bind}
-use Rattle.ygg_sym_laws.specs.Below.{run_made}
+use Rattle.ygg_oblige_parts.specs.ygg_sym_below.Lows.{LowShaped}
+use Rattle.ygg_oblige_parts.specs.ygg_sym_below_proofs_Lows.{low_wider}
+use Rattle.ygg_oblige_parts.specs.ygg_sym_expr.Names.{sym_bind}
+use Rattle.ygg_oblige_parts.specs.ygg_sym_laws.Below.{run_made}
 use Rattle.ygg_oblige_parts.specs.Layers.{closed, terms_in}
 use Rattle.ygg_oblige_parts.specs.Sites.{below_in}
 use Rattle.ygg_oblige_parts.specs.SymBlock.{SymBlock}
-use Rattle.ygg_oblige_terms.specs.Numbers.{arguments_of, block_of}
+use Rattle.ygg_oblige_parts.specs.ygg_oblige_terms.Numbers.{arguments_of, block_of}
 use Rattle.ygg_oblige_parts.specs.ObligePiecesSteps.{variables_of}
 use Rattle.ygg_oblige_parts.specs.Passing.{some_in}
 use Rattle.ygg_oblige_parts.specs.Steps.{obligation_of}

@@ -1,6 +1,6 @@
 use Rattle.std.proofs.Common.{◌≡◌, OnOk, IfOk, refl, subst}
-use Rattle.ygg_bank.specs.Makes.{Make}
-use Rattle.ygg_bank.specs.declared.node.Id.{Id}
+use Rattle.ygg_oblige_parts.specs.ygg_bank.Makes.{Make}
+use Rattle.ygg_oblige_parts.specs.ygg_bank.declared.node.Id.{Id}
 use Rattle.ygg_oblige_parts.specs.Layers.{closed}
 use Rattle.ygg_oblige_parts.specs.Sites.{below_in}
 use Rattle.ygg_oblige_parts.specs.Makers.{starting_of}

@@ -1,18 +1,18 @@
 use Rattle.std.proofs.Common.{◌≡◌, List, OnOk, IfOk, sym, subst, arith}
-use Rattle.ygg_bank.specs.Makes.{Out}
-use Rattle.ygg_bank.specs.declared.node.Id.{Id}
+use Rattle.ygg_oblige_parts.specs.ygg_bank.Makes.{Out}
+use Rattle.ygg_oblige_parts.specs.ygg_bank.declared.node.Id.{Id}
 use Rattle.ygg_oblige_parts.specs.Layers.{closed}
 use Rattle.ygg_syntax.specs.declared.tree.Declared.{Declared}
-use Rattle.ygg_oblige_terms.specs.Layers.{ShapesKept}
-use Rattle.ygg_oblige_terms.specs.Numbers.{arguments_of}
-use Rattle.ygg_oblige_terms.specs.States.{fresh_all}
+use Rattle.ygg_oblige_parts.specs.ygg_oblige_terms.Layers.{ShapesKept}
+use Rattle.ygg_oblige_parts.specs.ygg_oblige_terms.Numbers.{arguments_of}
+use Rattle.ygg_oblige_parts.specs.ygg_oblige_terms.States.{fresh_all}
 use Rattle.ygg_oblige_parts.specs.Makers.{starting_of}
 use Rattle.ygg_oblige_parts.specs.Steps.{obligation_of}
 use Rattle.ygg_oblige_kinds.specs.Numbering.{numbers_in}
 use Rattle.ygg_oblige_kinds.specs.Parts.{runs_through_in}
 use Rattle.ygg_oblige_kinds.proofs.Begun.{can_oblige, room}
 use Rattle.ygg_oblige_kinds.proofs.Chains.{args_from}
-use Rattle.ygg_bank.proofs.Widths.{extends_both}
+use Rattle.ygg_oblige_parts.specs.ygg_bank_proofs_Widths.{extends_both}
 use Rattle.ygg_oblige_kinds.proofs.terms.whole_term.Goals as goal
 
 pub fresh-requires-clause-kept : goal.fresh-requires-clause-kept

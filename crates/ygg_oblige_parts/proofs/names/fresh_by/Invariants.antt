@@ -1,6 +1,6 @@
 use Rattle.std.proofs.Common.{◌≡◌, ◌+◌, drop}
-use Rattle.ygg_bank.specs.Inputs.{InputsBelow}
-use Rattle.ygg_bank.specs.Nodes.{Extends, IsBank}
+use Rattle.ygg_sym.specs.ygg_bank.Inputs.{InputsBelow}
+use Rattle.ygg_sym.specs.ygg_bank.Nodes.{Extends, IsBank}
 use Rattle.ygg_oblige_pieces.specs.Layers.{ShapesKept}
 use Rattle.ygg_oblige_pieces.specs.ObligeTermsStates.{fresh_all, words_in}
 use Rattle.ygg_sym.proofs.Left.{Left}

@@ -1,11 +1,11 @@
 use Rattle.std.proofs.Common.{take, refl, sym, ap, ◌∙◌, subst}
 use Rattle.std.specs.Prelude.{IfSome, Option}
 use Rattle.std.specs.Option.{option_map}
-use Rattle.ygg_meaning.specs.Obligations.{obligations_of}
+use Rattle.ygg_eval_lower.specs.ygg_meaning.Obligations.{obligations_of}
 use Rattle.ygg_oblige_places.specs.declared.listed.Listed.{Listed}
 use Rattle.ygg_oblige.specs.Sites.{below_in}
-use Rattle.ygg_sym_spec.specs.Layers.{closed}
-use Rattle.ygg_oblige_terms.specs.Numbers.{numbers_of}
+use Rattle.ygg_oblige.specs.ygg_sym_spec.Layers.{closed}
+use Rattle.ygg_oblige.specs.ygg_oblige_terms.Numbers.{numbers_of}
 use Rattle.ygg_oblige.specs.Adding.{after_at}
 use Rattle.ygg_oblige_places.specs.Listing.{ArgumentsKept, ListedStands, listed_in}
 use Rattle.ygg_oblige_places.proofs.Starting.{arguments_kept, item_of}

@@ -1,11 +1,11 @@
 use Rattle.std.proofs.Common.{◌≡◌, ◌+◌, suc, take, ap, ◌∙◌, sym, arith}
 use Rattle.std.specs.Prelude.{slice_get, Some}
 use Rattle.std.specs.Option.{option_map}
-use Rattle.ygg_meaning.specs.Obligations.{obligations_of}
+use Rattle.ygg_eval_lower.specs.ygg_meaning.Obligations.{obligations_of}
 use Rattle.ygg_oblige_places.specs.declared.listed.Listed.{Listed}
 use Rattle.ygg_oblige.specs.Sites.{below_in}
-use Rattle.ygg_sym_spec.specs.Layers.{closed, terms_in}
-use Rattle.ygg_oblige_terms.specs.Numbers.{Numbers, numbers_of}
+use Rattle.ygg_oblige.specs.ygg_sym_spec.Layers.{closed, terms_in}
+use Rattle.ygg_oblige.specs.ygg_oblige_terms.Numbers.{Numbers, numbers_of}
 use Rattle.ygg_oblige.specs.Adding.{after_at}
 use Rattle.ygg_oblige_places.specs.Listing.{ArgumentsKept, listed_in}
 use Rattle.ygg_oblige_places.proofs.Starting.{after_next, item_of}

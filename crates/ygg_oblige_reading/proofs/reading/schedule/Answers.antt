@@ -1,8 +1,8 @@
 use Rattle.std.proofs.Common.{List, sym, subst}
-use Rattle.ygg_bank.specs.Nodes.{IsBank}
-use Rattle.ygg_bank.specs.Values.{InputsFit, inputs_of}
-use Rattle.ygg_bank.specs.declared.node.Node.{Node}
-use Rattle.ygg_eval_choices.proofs.Noting.{if_ok}
+use Rattle.ygg_eval_fronts.specs.ygg_bank.Nodes.{IsBank}
+use Rattle.ygg_eval_fronts.specs.ygg_bank.Values.{InputsFit, inputs_of}
+use Rattle.ygg_eval_fronts.specs.ygg_bank.declared.node.Node.{Node}
+use Rattle.ygg_eval_fronts.proofs.of_ygg_eval_choices.Noting.{if_ok}
 use Rattle.ygg_oblige_reading.proofs.Exactly.{at_zero}
 use Rattle.ygg_oblige_reading.proofs.reading.schedule.Goals as goal
 

@@ -1,4 +1,4 @@
-use Rattle.ygg_script.specs.declared.command.Command.TheVariants.{Tick}
+use Rattle.ygg_run_text.specs.ygg_script.declared.command.Command.TheVariants.{Tick}
 use Rattle.ygg_run_text.specs.Named.{tick_name}
 use Rattle.ygg_run_play.specs.Scene.{ticking}
 use Rattle.ygg_run_play.specs.Doing.{command_end}

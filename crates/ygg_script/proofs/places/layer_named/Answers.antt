@@ -2,7 +2,7 @@ use Rattle.std.proofs.Common.{◌≡◌, ◌∙◌, ◌≤◌, ◌<◌, sym, ap,
 use Rattle.std.specs.Prelude.{IfSome}
 use Rattle.ygg_syntax.specs.declared.tree.Layer.{Layer}
 use Rattle.ygg_syntax.specs.declared.tree.File.{File}
-use Rattle.ygg_type.proofs.Sizes.{few_layers}
+use Rattle.ygg_sched.proofs.of_ygg_type.Sizes.{few_layers}
 use Rattle.ygg_script.specs.Places.{layer_place}
 use Rattle.ygg_script.proofs.places.layer_named.Goals as goal
 

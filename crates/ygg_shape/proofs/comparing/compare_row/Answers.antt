@@ -1,4 +1,4 @@
-use Rattle.ygg_bank.proofs.Widths.{extends_both}
+use Rattle.ygg_shape_cells.specs.ygg_bank_proofs_Widths.{extends_both}
 use Rattle.ygg_shape_cells.proofs.Wider.{words_at}
 use Rattle.ygg_shape.proofs.comparing.compare_row.Goals as goal
 

@@ -1,4 +1,4 @@
-use Rattle.ygg_bank.specs.Nodes.{Extends, HasWidth, IsBank}
+use Rattle.ygg_shape_cells.specs.ygg_bank.Nodes.{Extends, HasWidth, IsBank}
 use Rattle.ygg_shape_cells.specs.Making.{compared_row}
 use Rattle.ygg_shape.proofs.Steps.{FoldTwo}
 use Rattle.ygg_shape.proofs.comparing.compare_rows.Given as goal

@@ -1,7 +1,7 @@
-use Rattle.ygg_bank.proofs.Exist.{keeps_values}
+use Rattle.ygg_shape_cells.specs.ygg_bank_proofs_Exist.{keeps_values}
 use Rattle.ygg_shape.proofs.Answered.{compared_width, compared_value}
-use Rattle.ygg_shape_words.proofs.Keeps.{inputs_stay, kept}
-use Rattle.ygg_bank.specs.Inputs.{InputsBelow}
+use Rattle.ygg_shape_cells.specs.ygg_shape_words_proofs_Keeps.{inputs_stay, kept}
+use Rattle.ygg_shape_cells.specs.ygg_bank.Inputs.{InputsBelow}
 use Rattle.ygg_shape_cells.specs.Making.{compared}
 use Rattle.ygg_shape.proofs.Keeps.{compared_keeps}
 use Rattle.ygg_shape.proofs.comparing.equal.Goals as goal

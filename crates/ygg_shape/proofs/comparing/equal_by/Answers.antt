@@ -1,4 +1,4 @@
-use Rattle.ygg_bank.proofs.Widths.{extends_both}
+use Rattle.ygg_shape_cells.specs.ygg_bank_proofs_Widths.{extends_both}
 use Rattle.ygg_shape_cells.proofs.Wider.{alike_words, alike_rows, alike_tables, rows_alike_wider, tables_alike_wider}
 use Rattle.ygg_shape.proofs.comparing.equal_by.Goals as goal
 

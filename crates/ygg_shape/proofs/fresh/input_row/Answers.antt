@@ -1,9 +1,9 @@
 use Rattle.std.proofs.Common.{ℕ, ◌+◌, ◌<◌, length, get_or, replicate, refl, sym, subst, arith}
 use Rattle.std.proofs.lemmas.List.{length-replicate}
-use Rattle.ygg_bank.proofs.Widths.{extends_both}
-use Rattle.ygg_bank.specs.Inputs.{next_after}
-use Rattle.ygg_bank.specs.Making.{made}
-use Rattle.ygg_bank.specs.declared.node.Node.TheVariants.{Input}
+use Rattle.ygg_shape_cells.specs.ygg_bank_proofs_Widths.{extends_both}
+use Rattle.ygg_shape_cells.specs.ygg_bank.Inputs.{next_after}
+use Rattle.ygg_shape_cells.specs.ygg_bank.Making.{made}
+use Rattle.ygg_shape_cells.specs.ygg_bank.declared.node.Node.TheVariants.{Input}
 use Rattle.ygg_shape.proofs.Freshness.{below_as}
 use Rattle.ygg_shape.proofs.Steps.{EachFrom, each_from_goes}
 use Rattle.ygg_shape.proofs.fresh.input_row.Goals as goal

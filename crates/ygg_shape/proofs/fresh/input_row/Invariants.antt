@@ -1,8 +1,8 @@
 use Rattle.std.proofs.Common.{ℕ, ◌+◌, replicate}
-use Rattle.ygg_bank.specs.Inputs.{InputsBelow}
-use Rattle.ygg_bank.specs.Making.{made}
-use Rattle.ygg_bank.specs.Nodes.{Extends, IsBank}
-use Rattle.ygg_bank.specs.declared.node.Node.TheVariants.{Input}
+use Rattle.ygg_shape_cells.specs.ygg_bank.Inputs.{InputsBelow}
+use Rattle.ygg_shape_cells.specs.ygg_bank.Making.{made}
+use Rattle.ygg_shape_cells.specs.ygg_bank.Nodes.{Extends, IsBank}
+use Rattle.ygg_shape_cells.specs.ygg_bank.declared.node.Node.TheVariants.{Input}
 use Rattle.ygg_shape.proofs.Steps.{EachFrom}
 use Rattle.ygg_shape.proofs.fresh.input_row.Given as goal
 

@@ -1,6 +1,6 @@
 use Rattle.std.proofs.Common.{ℕ, ◌+◌, ◌*◌, ◌<◌, length, get_or, replicate, refl, sym, subst, arith}
 use Rattle.std.proofs.lemmas.List.{length-replicate}
-use Rattle.ygg_bank.proofs.Widths.{extends_both}
+use Rattle.ygg_shape_cells.specs.ygg_bank_proofs_Widths.{extends_both}
 use Rattle.ygg_shape.specs.Fresh.{fresh_row}
 use Rattle.ygg_shape.proofs.Freshness.{below_as}
 use Rattle.ygg_shape.proofs.Steps.{EachFrom, each_from_goes}

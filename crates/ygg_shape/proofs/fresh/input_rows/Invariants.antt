@@ -1,6 +1,6 @@
 use Rattle.std.proofs.Common.{ℕ, ◌+◌, ◌*◌, replicate}
-use Rattle.ygg_bank.specs.Inputs.{InputsBelow}
-use Rattle.ygg_bank.specs.Nodes.{Extends, IsBank}
+use Rattle.ygg_shape_cells.specs.ygg_bank.Inputs.{InputsBelow}
+use Rattle.ygg_shape_cells.specs.ygg_bank.Nodes.{Extends, IsBank}
 use Rattle.ygg_shape.proofs.Steps.{EachFrom}
 use Rattle.ygg_shape.specs.Fresh.{fresh_row}
 use Rattle.ygg_shape.proofs.fresh.input_rows.Given as goal

@@ -1,4 +1,4 @@
-use Rattle.ygg_bank.proofs.Exist.{keeps_values}
+use Rattle.ygg_shape_cells.specs.ygg_bank_proofs_Exist.{keeps_values}
 use Rattle.ygg_shape.proofs.Freshness.{fresh_value, fresh_shaped, fresh_inputs}
 use Rattle.ygg_shape.proofs.fresh.inputs_of.Goals as goal
 

@@ -1,4 +1,4 @@
-use Rattle.ygg_bank.specs.Nodes.{Extends, IsBank}
+use Rattle.ygg_shape_cells.specs.ygg_bank.Nodes.{Extends, IsBank}
 use Rattle.ygg_shape.specs.Guarding.{guarded_at}
 use Rattle.ygg_shape.proofs.Steps.{EachFrom}
 use Rattle.ygg_shape.proofs.guarding.guard_all.Given as goal

@@ -1,6 +1,6 @@
 use Rattle.std.proofs.Common.{Some, refl, ap, ◌∙◌}
-use Rattle.ygg_bank.proofs.Widths.{wider, width_is, extends_both}
-use Rattle.ygg_shape_words.proofs.Fit.{alike, can_and}
+use Rattle.ygg_shape_cells.specs.ygg_bank_proofs_Widths.{wider, width_is, extends_both}
+use Rattle.ygg_shape_cells.specs.ygg_shape_words_proofs_Fit.{alike, can_and}
 use Rattle.ygg_shape_cells.proofs.Wider.{rows_alike_wider}
 use Rattle.ygg_shape.proofs.guarding.guarded_split.Goals as goal
 

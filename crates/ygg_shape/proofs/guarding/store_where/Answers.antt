@@ -1,7 +1,7 @@
-use Rattle.ygg_bank.proofs.Exist.{keeps_values}
+use Rattle.ygg_shape_cells.specs.ygg_bank_proofs_Exist.{keeps_values}
 use Rattle.ygg_shape.proofs.Guarded.{where_shape, where_value}
-use Rattle.ygg_shape_words.proofs.Keeps.{inputs_stay, kept}
-use Rattle.ygg_bank.specs.Inputs.{InputsBelow}
+use Rattle.ygg_shape_cells.specs.ygg_shape_words_proofs_Keeps.{inputs_stay, kept}
+use Rattle.ygg_shape_cells.specs.ygg_bank.Inputs.{InputsBelow}
 use Rattle.ygg_shape.specs.Guarding.{stored_where}
 use Rattle.ygg_shape.proofs.Keeps.{stored_where_keeps}
 use Rattle.ygg_shape.proofs.guarding.store_where.Goals as goal

@@ -1,7 +1,7 @@
-use Rattle.ygg_bank.proofs.Exist.{keeps_values}
+use Rattle.ygg_shape_cells.specs.ygg_bank_proofs_Exist.{keeps_values}
 use Rattle.ygg_shape.proofs.Answered.{merged_shape, merged_value}
-use Rattle.ygg_shape_words.proofs.Keeps.{inputs_stay, kept}
-use Rattle.ygg_bank.specs.Inputs.{InputsBelow}
+use Rattle.ygg_shape_cells.specs.ygg_shape_words_proofs_Keeps.{inputs_stay, kept}
+use Rattle.ygg_shape_cells.specs.ygg_bank.Inputs.{InputsBelow}
 use Rattle.ygg_shape_cells.specs.Making.{merged}
 use Rattle.ygg_shape.proofs.Keeps.{merged_keeps}
 use Rattle.ygg_shape.proofs.merging.merge.Goals as goal

@@ -1,5 +1,5 @@
-use Rattle.ygg_bank.proofs.Widths.{extends_self}
-use Rattle.ygg_shape_words.proofs.Fit.{can_pick}
+use Rattle.ygg_shape_cells.specs.ygg_bank_proofs_Widths.{extends_self}
+use Rattle.ygg_shape_cells.specs.ygg_shape_words_proofs_Fit.{can_pick}
 use Rattle.ygg_shape_cells.proofs.Wider.{alike_words, alike_tables, tables_alike_wider}
 use Rattle.ygg_shape.proofs.merging.merge_by.Goals as goal
 

@@ -1,4 +1,4 @@
-use Rattle.ygg_bank.proofs.Widths.{extends_both}
+use Rattle.ygg_shape_cells.specs.ygg_bank_proofs_Widths.{extends_both}
 use Rattle.ygg_shape_cells.proofs.Wider.{pick_at}
 use Rattle.ygg_shape.proofs.merging.merge_row.Goals as goal
 

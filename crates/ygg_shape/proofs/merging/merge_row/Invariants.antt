@@ -1,5 +1,5 @@
-use Rattle.ygg_bank.specs.Nodes.{Extends, IsBank}
-use Rattle.ygg_shape_words.specs.Picking.{picked}
+use Rattle.ygg_shape_cells.specs.ygg_bank.Nodes.{Extends, IsBank}
+use Rattle.ygg_shape_cells.specs.ygg_shape_words.Picking.{picked}
 use Rattle.ygg_shape.proofs.Steps.{EachTwo}
 use Rattle.ygg_shape.proofs.merging.merge_row.Given as goal
 

@@ -1,5 +1,5 @@
 use Rattle.std.proofs.Common.{◌∙◌}
-use Rattle.ygg_bank.proofs.Widths.{wider, extends_both}
+use Rattle.ygg_shape_cells.specs.ygg_bank_proofs_Widths.{wider, extends_both}
 use Rattle.ygg_shape_cells.proofs.Wider.{rows_at}
 use Rattle.ygg_shape.proofs.merging.merge_rows.Goals as goal
 

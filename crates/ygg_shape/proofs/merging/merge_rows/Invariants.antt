@@ -1,4 +1,4 @@
-use Rattle.ygg_bank.specs.Nodes.{Extends, IsBank}
+use Rattle.ygg_shape_cells.specs.ygg_bank.Nodes.{Extends, IsBank}
 use Rattle.ygg_shape_cells.specs.Making.{merged_row}
 use Rattle.ygg_shape.proofs.Steps.{EachTwo}
 use Rattle.ygg_shape.proofs.merging.merge_rows.Given as goal

@@ -1,6 +1,6 @@
 use Rattle.std.proofs.Common.{refl}
-use Rattle.ygg_bank.proofs.Widths.{wider, extends_both}
-use Rattle.ygg_shape_words.proofs.Fit.{alike}
+use Rattle.ygg_shape_cells.specs.ygg_bank_proofs_Widths.{wider, extends_both}
+use Rattle.ygg_shape_cells.specs.ygg_shape_words_proofs_Fit.{alike}
 use Rattle.ygg_shape_cells.proofs.Wider.{rows_alike_wider}
 use Rattle.ygg_shape.proofs.places.split_at.Goals as goal
 

@@ -1,5 +1,5 @@
 use Rattle.std.proofs.Common.{◌≡◌, ◌∙◌, sym, subst}
-use Rattle.ygg_bank.proofs.Widths.{wider, extends_both}
+use Rattle.ygg_shape_cells.specs.ygg_bank_proofs_Widths.{wider, extends_both}
 use Rattle.ygg_shape_cells.specs.Making.{where_at}
 use Rattle.ygg_shape_cells.specs.Terms.{IsRow}
 use Rattle.ygg_shape.proofs.Steps.{fold_from_goes}

@@ -1,5 +1,5 @@
 use Rattle.std.proofs.Common.{ℕ, All}
-use Rattle.ygg_bank.specs.Nodes.{Extends, IsBank}
+use Rattle.ygg_shape_cells.specs.ygg_bank.Nodes.{Extends, IsBank}
 use Rattle.ygg_shape_cells.specs.Making.{where_at}
 use Rattle.ygg_shape_cells.specs.Terms.{IsRow}
 use Rattle.ygg_shape.proofs.Steps.{FoldFrom}

@@ -1,10 +1,10 @@
 use Rattle.std.proofs.Common.{◌≡◌, OnOk, IfOk, List, subst}
-use Rattle.ygg_bank.proofs.Exist.{keeps_values}
-use Rattle.ygg_bank.specs.declared.node.Id.{Id}
+use Rattle.ygg_shape_cells.specs.ygg_bank_proofs_Exist.{keeps_values}
+use Rattle.ygg_shape_cells.specs.ygg_bank.declared.node.Id.{Id}
 use Rattle.ygg_shape_cells.specs.Making.{selected}
 use Rattle.ygg_shape.proofs.Answered.{selected_shape, selected_value, selected_constant}
-use Rattle.ygg_shape_words.proofs.Keeps.{inputs_stay, kept}
-use Rattle.ygg_bank.specs.Inputs.{InputsBelow}
+use Rattle.ygg_shape_cells.specs.ygg_shape_words_proofs_Keeps.{inputs_stay, kept}
+use Rattle.ygg_shape_cells.specs.ygg_bank.Inputs.{InputsBelow}
 use Rattle.ygg_shape_cells.specs.Making.{selected}
 use Rattle.ygg_shape.proofs.Keeps.{selected_keeps}
 use Rattle.ygg_shape.proofs.selecting.select.Goals as goal

@@ -1,4 +1,4 @@
-use Rattle.ygg_bank.proofs.Widths.{wider, extends_both}
+use Rattle.ygg_shape_cells.specs.ygg_bank_proofs_Widths.{wider, extends_both}
 use Rattle.ygg_shape_cells.proofs.Wider.{rows_wider}
 use Rattle.ygg_shape.proofs.selecting.select_by.Goals as goal
 

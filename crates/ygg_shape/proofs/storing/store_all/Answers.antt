@@ -1,7 +1,7 @@
 use Rattle.std.proofs.Common.{◌∙◌, ◌+◌, ℕ, List, sym, subst}
-use Rattle.ygg_bank.proofs.Widths.{wider, extends_both}
+use Rattle.ygg_shape_cells.specs.ygg_bank_proofs_Widths.{wider, extends_both}
 use Rattle.ygg_shape_cells.proofs.Wider.{row_at, row_wider}
-use Rattle.ygg_bank.specs.declared.node.Id.{Id}
+use Rattle.ygg_shape_cells.specs.ygg_bank.declared.node.Id.{Id}
 use Rattle.ygg_shape_cells.specs.Making.{where_at}
 use Rattle.ygg_shape.proofs.Steps.{EachFrom, each_from_goes}
 use Rattle.ygg_shape.proofs.storing.store_all.Goals as goal

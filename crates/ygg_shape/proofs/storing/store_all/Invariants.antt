@@ -1,4 +1,4 @@
-use Rattle.ygg_bank.specs.Nodes.{Extends, IsBank}
+use Rattle.ygg_shape_cells.specs.ygg_bank.Nodes.{Extends, IsBank}
 use Rattle.ygg_shape_cells.specs.Making.{where_at}
 use Rattle.ygg_shape.proofs.Steps.{EachFrom}
 use Rattle.ygg_shape.proofs.storing.store_all.Given as goal

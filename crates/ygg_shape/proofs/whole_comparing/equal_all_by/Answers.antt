@@ -1,7 +1,7 @@
 use Rattle.std.proofs.Common.{◌≡◌, ◌∙◌, OnOk, IfOk, subst}
-use Rattle.ygg_bank.proofs.Widths.{extends_both}
-use Rattle.ygg_bank.specs.Makes.{Out}
-use Rattle.ygg_bank.specs.declared.node.Id.{Id}
+use Rattle.ygg_shape_cells.specs.ygg_bank_proofs_Widths.{extends_both}
+use Rattle.ygg_shape_cells.specs.ygg_bank.Makes.{Out}
+use Rattle.ygg_shape_cells.specs.ygg_bank.declared.node.Id.{Id}
 use Rattle.ygg_shape.proofs.Listed.{compared_from}
 use Rattle.ygg_shape.proofs.whole_comparing.equal_all_by.Goals as goal
 

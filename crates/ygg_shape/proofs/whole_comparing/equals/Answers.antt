@@ -1,6 +1,6 @@
 use Rattle.std.proofs.Common.{◌+◌, ◌<◌, List, All, length, sym, subst, arith}
-use Rattle.ygg_bank.proofs.Widths.{extends_both}
-use Rattle.ygg_bank.specs.declared.node.Id.{Id}
+use Rattle.ygg_shape_cells.specs.ygg_bank_proofs_Widths.{extends_both}
+use Rattle.ygg_shape_cells.specs.ygg_bank.declared.node.Id.{Id}
 use Rattle.ygg_shape_cells.specs.Making.{compared}
 use Rattle.ygg_shape.proofs.Steps.{EachTwo, each_two_goes}
 use Rattle.ygg_shape.proofs.Whole.{alike_at, same_count}

@@ -1,5 +1,5 @@
 use Rattle.std.proofs.Common.{All}
-use Rattle.ygg_bank.specs.Nodes.{Extends, IsBank}
+use Rattle.ygg_shape_cells.specs.ygg_bank.Nodes.{Extends, IsBank}
 use Rattle.ygg_shape_cells.specs.Making.{compared}
 use Rattle.ygg_shape.proofs.Steps.{EachTwo}
 use Rattle.ygg_shape.specs.Wholes.{IsDigit}

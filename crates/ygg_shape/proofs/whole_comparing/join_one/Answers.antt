@@ -1,8 +1,8 @@
 use Rattle.std.proofs.Common.{IfOk, subst}
-use Rattle.ygg_bank.proofs.Widths.{width_is}
-use Rattle.ygg_bank.specs.Nodes.{HasWidth}
-use Rattle.ygg_bank.specs.declared.node.Id.{Id}
-use Rattle.ygg_shape_words.proofs.Fit.{can_and}
+use Rattle.ygg_shape_cells.specs.ygg_bank_proofs_Widths.{width_is}
+use Rattle.ygg_shape_cells.specs.ygg_bank.Nodes.{HasWidth}
+use Rattle.ygg_shape_cells.specs.ygg_bank.declared.node.Id.{Id}
+use Rattle.ygg_shape_cells.specs.ygg_shape_words_proofs_Fit.{can_and}
 use Rattle.ygg_shape.proofs.whole_comparing.join_one.Goals as goal
 
 pub make-requires : goal.make-requires

@@ -1,7 +1,7 @@
 use Rattle.std.proofs.Common.{◌≡◌, OnOk, IfOk, subst}
-use Rattle.ygg_bank.proofs.Exist.{keeps_values}
-use Rattle.ygg_bank.specs.Inputs.{InputsBelow}
-use Rattle.ygg_shape_words.proofs.Keeps.{inputs_stay, kept}
+use Rattle.ygg_shape_cells.specs.ygg_bank_proofs_Exist.{keeps_values}
+use Rattle.ygg_shape_cells.specs.ygg_bank.Inputs.{InputsBelow}
+use Rattle.ygg_shape_cells.specs.ygg_shape_words_proofs_Keeps.{inputs_stay, kept}
 use Rattle.ygg_shape.proofs.Listed.{merged_all_shaped}
 use Rattle.ygg_shape.proofs.Whole.{merged_all_keeps, merged_all_value}
 use Rattle.ygg_shape.specs.Wholes.{AreMerged, merged_all}

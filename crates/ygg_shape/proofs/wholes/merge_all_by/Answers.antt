@@ -1,5 +1,5 @@
 use Rattle.std.proofs.Common.{[], ◌∷◌, ◌++◌, ◌+◌, ◌<◌, length, sym, subst, arith}
-use Rattle.ygg_bank.proofs.Widths.{wider, extends_both}
+use Rattle.ygg_shape_cells.specs.ygg_bank_proofs_Widths.{wider, extends_both}
 use Rattle.ygg_shape_cells.specs.Making.{merged}
 use Rattle.ygg_shape.proofs.Steps.{EachTwo, each_two_goes}
 use Rattle.ygg_shape.proofs.Whole.{alike_at, same_count}

@@ -1,4 +1,4 @@
-use Rattle.ygg_bank.specs.Nodes.{Extends, IsBank}
+use Rattle.ygg_shape_cells.specs.ygg_bank.Nodes.{Extends, IsBank}
 use Rattle.ygg_shape_cells.specs.Making.{merged}
 use Rattle.ygg_shape.proofs.Steps.{EachTwo}
 use Rattle.ygg_shape.proofs.wholes.merge_all_by.Given as goal

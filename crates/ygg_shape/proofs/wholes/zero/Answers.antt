@@ -1,6 +1,6 @@
-use Rattle.ygg_bank.proofs.Exist.{keeps_values}
-use Rattle.ygg_bank.specs.Inputs.{InputsBelow}
-use Rattle.ygg_shape_words.proofs.Keeps.{inputs_stay, kept}
+use Rattle.ygg_shape_cells.specs.ygg_bank_proofs_Exist.{keeps_values}
+use Rattle.ygg_shape_cells.specs.ygg_bank.Inputs.{InputsBelow}
+use Rattle.ygg_shape_cells.specs.ygg_shape_words_proofs_Keeps.{inputs_stay, kept}
 use Rattle.ygg_shape.proofs.Whole.{zero_made_keeps, zero_shaped, zero_value}
 use Rattle.ygg_shape.specs.Wholes.{zero_made}
 use Rattle.ygg_shape.proofs.wholes.zero.Goals as goal

@@ -1,5 +1,5 @@
 use Rattle.std.proofs.Common.{rules, ◌<◌, Some, List, true, false, sym, ap, ◌∙◌, subst, arith}
-use Rattle.ygg_bank.proofs.Widths.{wider, width_is, extends_both}
+use Rattle.ygg_shape_words.specs.ygg_bank_proofs_Widths.{wider, width_is, extends_both}
 use Rattle.ygg_shape_words.proofs.Fit.{can_pick}
 use Rattle.ygg_shape_sums.proofs.Equates.{sum_fits}
 use Rattle.ygg_shape_sums.proofs.Fit.{parts_wider, facts_wider, facts_more, split_digit}

@@ -1,5 +1,5 @@
-use Rattle.ygg_bank.proofs.Exist.{keeps_values}
-use Rattle.ygg_bank.specs.Inputs.{InputsBelow}
+use Rattle.ygg_shape_words.specs.ygg_bank_proofs_Exist.{keeps_values}
+use Rattle.ygg_shape_words.specs.ygg_bank.Inputs.{InputsBelow}
 use Rattle.ygg_shape_words.proofs.Keeps.{inputs_stay, kept}
 use Rattle.ygg_shape_sums.proofs.Equates.{equated_value}
 use Rattle.ygg_shape_sums.proofs.Keeps.{equated_words_keeps}

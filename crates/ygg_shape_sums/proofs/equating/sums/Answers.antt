@@ -1,6 +1,6 @@
 use Rattle.std.proofs.Common.{◌≡◌, [], sym, ap, ◌∙◌, subst}
-use Rattle.ygg_bank.proofs.Widths.{stands, width_is}
-use Rattle.ygg_bank.specs.Nodes.{width_at, widths_of, HasWidth}
+use Rattle.ygg_shape_words.specs.ygg_bank_proofs_Widths.{stands, width_is}
+use Rattle.ygg_shape_words.specs.ygg_bank.Nodes.{width_at, widths_of, HasWidth}
 use Rattle.ygg_shape_sums.proofs.Equates.{difference_fits}
 use Rattle.ygg_shape_sums.specs.Equates.{Found, vanishes_within}
 use Rattle.ygg_shape_sums.specs.Parts.{PartsFit, Sum}

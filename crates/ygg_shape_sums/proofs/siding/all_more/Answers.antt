@@ -1,4 +1,4 @@
-use Rattle.ygg_bank.proofs.Widths.{wider}
+use Rattle.ygg_shape_words.specs.ygg_bank_proofs_Widths.{wider}
 use Rattle.ygg_shape_sums.proofs.siding.all_more.Goals as goal
 
 pub more-requires-clause-term : goal.more-requires-clause-term

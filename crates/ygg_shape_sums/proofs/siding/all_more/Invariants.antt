@@ -1,4 +1,4 @@
-use Rattle.ygg_bank.specs.Nodes.{Extends, HasWidth, IsBank}
+use Rattle.ygg_shape_words.specs.ygg_bank.Nodes.{Extends, HasWidth, IsBank}
 use Rattle.ygg_shape_sums.proofs.Steps.{AllMore}
 use Rattle.ygg_shape_sums.proofs.siding.all_more.Given as goal
 

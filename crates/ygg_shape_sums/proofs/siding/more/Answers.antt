@@ -1,4 +1,4 @@
-use Rattle.ygg_bank.proofs.Widths.{wider, extends_both}
+use Rattle.ygg_shape_words.specs.ygg_bank_proofs_Widths.{wider, extends_both}
 use Rattle.ygg_shape_sums.proofs.siding.more.Goals as goal
 
 pub product-requires-clause-one : goal.product-requires-clause-one

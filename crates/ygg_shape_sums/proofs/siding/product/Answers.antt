@@ -1,7 +1,7 @@
 use Rattle.std.proofs.Common.{IfOk, subst}
-use Rattle.ygg_bank.proofs.Widths.{width_is}
-use Rattle.ygg_bank.specs.Nodes.{HasWidth}
-use Rattle.ygg_bank.specs.declared.node.Id.{Id}
+use Rattle.ygg_shape_words.specs.ygg_bank_proofs_Widths.{width_is}
+use Rattle.ygg_shape_words.specs.ygg_bank.Nodes.{HasWidth}
+use Rattle.ygg_shape_words.specs.ygg_bank.declared.node.Id.{Id}
 use Rattle.ygg_shape_sums.proofs.Sides.{can_mul}
 use Rattle.ygg_shape_sums.proofs.siding.product.Goals as goal
 

@@ -1,5 +1,5 @@
 use Rattle.std.proofs.Common.{sym, subst}
-use Rattle.ygg_bank.proofs.Widths.{wider}
+use Rattle.ygg_shape_words.specs.ygg_bank_proofs_Widths.{wider}
 use Rattle.ygg_shape_sums.proofs.Fit.{parts_wider}
 use Rattle.ygg_shape_sums.specs.Parts.{PartsFit}
 use Rattle.ygg_shape_sums.proofs.siding.side.Goals as goal

@@ -1,4 +1,4 @@
-use Rattle.ygg_bank.proofs.Widths.{wider}
+use Rattle.ygg_shape_words.specs.ygg_bank_proofs_Widths.{wider}
 use Rattle.ygg_shape_words.proofs.Fit.{alike}
 use Rattle.ygg_shape_sums.proofs.Fit.{parts_wider}
 use Rattle.ygg_shape_sums.proofs.siding.vanishes.Goals as goal

@@ -1,5 +1,5 @@
 use Rattle.std.proofs.Common.{drop}
-use Rattle.ygg_bank.specs.Nodes.{Extends, IsBank}
+use Rattle.ygg_sym_laws_disk.specs.ygg_bank.Nodes.{Extends, IsBank}
 use Rattle.ygg_sym_laws_disk.specs.Below.{zeros_made}
 use Rattle.ygg_sym.specs.Kept.{AreKept}
 use Rattle.ygg_sym.proofs.Left.{Left}

@@ -1,6 +1,6 @@
 use Rattle.std.proofs.Common.{◌≡◌, ◌+◌, drop, map}
-use Rattle.ygg_direct.specs.Direct.{total}
-use Rattle.ygg_sym_disk.specs.SpecCuts.{fall_places, fall_room}
+use Rattle.ygg_sym_laws_disk.specs.ygg_direct.Direct.{total}
+use Rattle.ygg_sym_disk_stops.specs.ygg_sym_disk.SpecCuts.{fall_places, fall_room}
 use Rattle.ygg_sym_spec_stops.specs.Layers.{closed}
 use Rattle.ygg_sym.proofs.rooms.failures.Given as goal
 

@@ -1,6 +1,6 @@
 use Rattle.std.proofs.Common.{◌++◌, length, sym, ap, ◌∙◌}
-use Rattle.ygg_sym_expr.specs.Names.{sym_bind}
-use Rattle.ygg_sym_expr.specs.Seen.{env_of}
+use Rattle.ygg_sym_laws_disk.specs.ygg_sym_expr.Names.{sym_bind}
+use Rattle.ygg_sym_laws_disk.specs.ygg_sym_expr.Seen.{env_of}
 use Rattle.ygg_sym_spec_stops.proofs.Whole.{all_names}
 use Rattle.ygg_sym.proofs.running.bound.Goals as goal
 

@@ -1,7 +1,7 @@
 use Rattle.std.proofs.Common.{◌++◌, length, refl, sym, ap, subst, ◌∙◌}
 use Rattle.std.specs.Prelude.{min}
-use Rattle.ygg_sym_expr.specs.Names.{sym_bind}
-use Rattle.ygg_sym_runs.proofs.Singles.{single_less}
+use Rattle.ygg_sym_laws_disk.specs.ygg_sym_expr.Names.{sym_bind}
+use Rattle.ygg_sym_laws_disk.proofs.of_ygg_sym_runs.Singles.{single_less}
 use Rattle.ygg_sym_spec_stops.proofs.Whole.{lows_count}
 use Rattle.ygg_sym_spec_stops.specs.Machine.{spec_meaning}
 use Rattle.ygg_sym_spec_stops.specs.Failing.{spec_power}

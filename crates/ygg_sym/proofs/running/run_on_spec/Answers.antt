@@ -1,5 +1,5 @@
 use Rattle.std.proofs.Common.{◌++◌, length, refl, sym, ap, subst, ◌∙◌}
-use Rattle.ygg_sym_expr.specs.Names.{sym_bind}
+use Rattle.ygg_sym_laws_disk.specs.ygg_sym_expr.Names.{sym_bind}
 use Rattle.ygg_sym_spec_stops.proofs.Whole.{lows_count}
 use Rattle.ygg_sym_spec_stops.specs.Machine.{spec_meaning}
 use Rattle.ygg_sym.proofs.Placed.{spec_lower, spec_same, spec_stands}

@@ -1,6 +1,6 @@
 use Rattle.std.proofs.Common.{sym, ap, subst, ◌∙◌}
-use Rattle.ygg_sym_expr.specs.Names.{sym_bind}
-use Rattle.ygg_sym_expr.specs.Seen.{env_of}
+use Rattle.ygg_sym_laws_disk.specs.ygg_sym_expr.Names.{sym_bind}
+use Rattle.ygg_sym_laws_disk.specs.ygg_sym_expr.Seen.{env_of}
 use Rattle.ygg_sym_laws_disk.specs.Means.{values_in}
 use Rattle.ygg_sym_cut.specs.Ready.{CanWhole}
 use Rattle.ygg_sym.proofs.Ran.{bound_many}

@@ -1,7 +1,7 @@
 use Rattle.std.proofs.Common.{refl, subst, sym}
-use Rattle.ygg_sym_expr.specs.Seen.{env_of}
-use Rattle.ygg_sym_runs.specs.Lower.{Stands}
-use Rattle.ygg_sym_runs.specs.Ready.{CanRun, Ended, order_run}
+use Rattle.ygg_sym_stops.specs.ygg_sym_expr.Seen.{env_of}
+use Rattle.ygg_sym_stops.specs.ygg_sym_runs.Lower.{Stands}
+use Rattle.ygg_sym_stops.specs.ygg_sym_runs.Ready.{CanRun, Ended, order_run}
 use Rattle.ygg_sym_stops.specs.Halting.{halted_of, halting_meaning}
 use Rattle.ygg_sym_stops.specs.HaltingKeeps.{halting_keeps}
 use Rattle.ygg_sym_cut.proofs.Cutting.{cut_if, cut_runs, cut_stands, never_single}

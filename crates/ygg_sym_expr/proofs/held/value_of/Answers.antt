@@ -1,6 +1,6 @@
 use Rattle.std.proofs.Common.{◌≡◌, IfOk, sym, ap, ◌∙◌, subst}
 use Rattle.std.specs.Option.{option_copied}
-use Rattle.ygg_shape_cells.specs.declared.terms.SymValue.{SymValue}
+use Rattle.ygg_shape.specs.ygg_shape_cells.declared.terms.SymValue.{SymValue}
 use Rattle.ygg_sym_expr.specs.Seen.{env_of}
 use Rattle.ygg_sym_expr.proofs.Naming.{first_found, then_found, not_found}
 use Rattle.ygg_sym_expr.proofs.held.value_of.Goals as goal

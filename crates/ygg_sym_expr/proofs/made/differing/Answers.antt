@@ -1,4 +1,4 @@
-use Rattle.ygg_bank.proofs.Widths.{stands}
+use Rattle.ygg_shape.specs.ygg_bank_proofs_Widths.{stands}
 use Rattle.ygg_sym_expr.proofs.made.differing.Goals as goal
 
 pub word-requires : goal.word-requires

@@ -1,7 +1,7 @@
 use Rattle.std.proofs.Common.{Some, None, get_or, ap, sym, refl, ◌∙◌, subst}
 use Rattle.std.specs.Prelude.{slice_set}
-use Rattle.ygg_bank.specs.Makes.{Out}
-use Rattle.ygg_shape_cells.specs.declared.terms.SymValue.{SymValue}
+use Rattle.ygg_sym_expr.specs.ygg_bank.Makes.{Out}
+use Rattle.ygg_sym_expr.specs.ygg_shape_cells.declared.terms.SymValue.{SymValue}
 use Rattle.ygg_sym_expr.specs.Names.{SymEnv}
 use Rattle.ygg_sym_expr.specs.Seen.{env_of}
 use Rattle.ygg_sym_runs.specs.Putting.{put_made}

@@ -1,5 +1,5 @@
-use Rattle.ygg_bank.specs.Nodes.{Extends, IsBank}
-use Rattle.ygg_shape.proofs.Steps.{EachTwo}
+use Rattle.ygg_sym_expr.specs.ygg_bank.Nodes.{Extends, IsBank}
+use Rattle.ygg_sym_expr.proofs.of_ygg_shape.Steps.{EachTwo}
 use Rattle.ygg_sym_expr.specs.Seen.{env_of}
 use Rattle.ygg_sym_runs.specs.Ready.{joined_name}
 use Rattle.ygg_sym_runs.proofs.names.join_names.Given as goal

@@ -1,6 +1,6 @@
 use Rattle.std.proofs.Common.{inl, refl}
-use Rattle.ygg_top_command.proofs.Stops.{file_stop}
-use Rattle.ygg_top_command.proofs.Telling.{stop_told}
+use Rattle.ygg_top_verify.proofs.of_ygg_top_command.Stops.{file_stop}
+use Rattle.ygg_top_verify.proofs.of_ygg_top_command.Telling.{stop_told}
 use Rattle.ygg_top_certify.specs.Certifying.{Certified}
 use Rattle.ygg_top_certify.proofs.Certifies.{file_told}
 use Rattle.ygg_top_certify.proofs.certifying.certify.Goals as goal

@@ -1,8 +1,8 @@
 use Rattle.std.proofs.Common.{List, ℕ, subst}
-use Rattle.ygg_top_command.proofs.Stops.{budget_stop}
-use Rattle.ygg_top_command.proofs.Telling.{stop_told}
-use Rattle.ygg_top_command.specs.Fetched.{IsBudgetless}
-use Rattle.ygg_top_command.specs.Words.{IsBudget}
+use Rattle.ygg_top_verify.proofs.of_ygg_top_command.Stops.{budget_stop}
+use Rattle.ygg_top_verify.proofs.of_ygg_top_command.Telling.{stop_told}
+use Rattle.ygg_top_verify.specs.ygg_top_command.Fetched.{IsBudgetless}
+use Rattle.ygg_top_verify.specs.ygg_top_command.Words.{IsBudget}
 use Rattle.ygg_top_certify.specs.Certifying.{Certified}
 use Rattle.ygg_top_certify.proofs.Certifies.{within_told}
 use Rattle.ygg_top_certify.proofs.certifying.certify_within.Goals as goal

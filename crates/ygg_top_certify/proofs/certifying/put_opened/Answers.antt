@@ -1,6 +1,6 @@
 use Rattle.std.proofs.Common.{List, ℕ, inl, inr, refl, subst}
 use Rattle.ygg_base.specs.Outside.{Rose}
-use Rattle.ygg_report.specs.Putting.{IsPutSo}
+use Rattle.ygg_certify.specs.ygg_report.Putting.{IsPutSo}
 use Rattle.ygg_top_certify.proofs.certifying.put_opened.Goals as goal
 
 pub returns-in-Ok-clause-told : goal.returns-in-Ok-clause-told

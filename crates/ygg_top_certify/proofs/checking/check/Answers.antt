@@ -1,7 +1,7 @@
 use Rattle.std.proofs.Common.{List, ℕ, subst}
 use Rattle.ygg_base.specs.Outside.{Rose}
-use Rattle.ygg_report.specs.Putting.{IsPutSo, NoFront}
-use Rattle.ygg_top_command.proofs.Telling.{put_told, stop_told}
+use Rattle.ygg_certify.specs.ygg_report.Putting.{IsPutSo, NoFront}
+use Rattle.ygg_top_verify.proofs.of_ygg_top_command.Telling.{put_told, stop_told}
 use Rattle.ygg_top_certify.specs.Checking.{ChecksNamed}
 use Rattle.ygg_top_certify.proofs.Checked.{proper}
 use Rattle.ygg_top_certify.proofs.checking.check.Goals as goal

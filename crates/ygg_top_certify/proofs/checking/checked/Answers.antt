@@ -1,6 +1,6 @@
 use Rattle.std.proofs.Common.{inl, refl}
 use Rattle.ygg_base.specs.Outside.{Rose}
-use Rattle.ygg_top_command.proofs.Stops.{file_stop}
+use Rattle.ygg_top_verify.proofs.of_ygg_top_command.Stops.{file_stop}
 use Rattle.ygg_top_certify.specs.Checking.{ChecksFor}
 use Rattle.ygg_top_certify.proofs.Checked.{does_named, stops_named}
 use Rattle.ygg_top_certify.proofs.checking.checked.Goals as goal

@@ -1,6 +1,6 @@
 use Rattle.std.proofs.Common.{inl, refl}
 use Rattle.ygg_base.specs.Outside.{Rose}
-use Rattle.ygg_top_command.proofs.Stops.{unread_stop}
+use Rattle.ygg_top_verify.proofs.of_ygg_top_command.Stops.{unread_stop}
 use Rattle.ygg_top_certify.specs.Checking.{ChecksStored, most_certificate_bytes}
 use Rattle.ygg_top_certify.proofs.Checked.{named_open, opened_certificate}
 use Rattle.ygg_top_certify.proofs.checking.checked_stored.Goals as goal

@@ -1,5 +1,5 @@
 use Rattle.ygg_base.specs.Outside.{Rose}
-use Rattle.ygg_top_command.proofs.Stops.{too_large}
+use Rattle.ygg_top_verify.proofs.of_ygg_top_command.Stops.{too_large}
 use Rattle.ygg_top_certify.specs.Checking.{most_certificate_bytes}
 use Rattle.ygg_top_certify.proofs.Checked.{opens_named, absent_unread}
 use Rattle.ygg_top_certify.proofs.checking.opened.Goals as goal

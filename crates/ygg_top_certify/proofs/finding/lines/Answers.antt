@@ -1,6 +1,6 @@
 use Rattle.std.proofs.Common.{List, ℕ, ◌++◌, ap, ◌∙◌}
-use Rattle.ygg_report.specs.Lines.{verdict_line}
-use Rattle.ygg_report.specs.declared.verdict.Verdict.{Verdict}
+use Rattle.ygg_certify.specs.ygg_report.Lines.{verdict_line}
+use Rattle.ygg_certify.specs.ygg_report.declared.verdict.Verdict.{Verdict}
 use Rattle.ygg_top_certify.proofs.Failing.{lines_all}
 use Rattle.ygg_top_certify.proofs.Opened.{lines_from}
 use Rattle.ygg_top_certify.proofs.finding.lines.Goals as goal

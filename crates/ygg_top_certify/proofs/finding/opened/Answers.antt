@@ -1,4 +1,4 @@
-use Rattle.ygg_type_progress.proofs.Derived.{derivable_derived}
+use Rattle.ygg_top_verify.proofs.of_ygg_type_progress.Derived.{derivable_derived}
 use Rattle.ygg_top_certify.proofs.Failing.{with_lines}
 use Rattle.ygg_top_certify.proofs.Opened.{OnLogs, as_many_found, found_fits, opened_so}
 use Rattle.ygg_top_verify.proofs.Shown.{OnReplays}

@@ -1,5 +1,5 @@
 use Rattle.ygg_base.specs.Outside.{Rose}
-use Rattle.ygg_report.specs.Putting.{IsCutOf}
+use Rattle.ygg_top_command.specs.ygg_report.Putting.{IsCutOf}
 use Rattle.ygg_dimacs_oblige.specs.Printed.{Printed}
 use Rattle.ygg_top_command.specs.declared.stopping.CommandStop.TheVariants.{Refused}
 use Rattle.ygg_top_command.proofs.Telling.{puts_told, stop_told}

@@ -1,7 +1,7 @@
 use Rattle.std.proofs.Common.{List, ℕ, subst}
 use Rattle.ygg_base.specs.declared.status.Status.TheVariants.{Done}
 use Rattle.ygg_base.specs.Outside.{Rose}
-use Rattle.ygg_report.specs.Putting.{IsPutSo, NoFront}
+use Rattle.ygg_top_command.specs.ygg_report.Putting.{IsPutSo, NoFront}
 use Rattle.ygg_top_command.proofs.Telling.{put_told, stop_told}
 use Rattle.ygg_top_command.specs.Standing.{DoesWith}
 use Rattle.ygg_top_print.proofs.Printed.{prints, print_stop}

@@ -1,7 +1,7 @@
 use Rattle.std.proofs.Common.{List, Option, subst}
 use Rattle.ygg_base.specs.declared.lists.Held.{Held}
 use Rattle.ygg_base.specs.Outside.{Rose}
-use Rattle.ygg_report.specs.Putting.{NoFront}
+use Rattle.ygg_top_command.specs.ygg_report.Putting.{NoFront}
 use Rattle.ygg_top_command.specs.Standing.{DoesWith}
 use Rattle.ygg_top_command.proofs.Stops.{file_stop}
 use Rattle.ygg_top_command.proofs.Telling.{stop_told, told_to}

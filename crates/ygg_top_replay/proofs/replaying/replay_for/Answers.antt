@@ -1,6 +1,6 @@
 use Rattle.std.proofs.Common.{List, ℕ, subst}
 use Rattle.ygg_base.specs.Outside.{Rose}
-use Rattle.ygg_report.specs.Putting.{NoFront, IsPutSo}
+use Rattle.ygg_top_command.specs.ygg_report.Putting.{NoFront, IsPutSo}
 use Rattle.ygg_top_command.specs.Refusing.{most_bytes}
 use Rattle.ygg_top_command.specs.Standing.{DoesWith}
 use Rattle.ygg_top_command.proofs.Stops.{unread_stop}

@@ -1,5 +1,5 @@
 use Rattle.std.proofs.Common.{◌≡◌, true, rules}
-use Rattle.ygg_type_rules.specs.Scopes.{with_local}
+use Rattle.ygg_type_scope.specs.ygg_type_rules.Scopes.{with_local}
 use Rattle.ygg_type_scope.specs.Checking.{scope_of}
 use Rattle.ygg_type_scope.proofs.Restored.{grows_local}
 use Rattle.ygg_type_body.proofs.statements.binding.Goals as goal

@@ -1,8 +1,8 @@
 use Rattle.std.proofs.Common.{rules, ◌-◌, ◌+◌, List, Ok, Err, drop, map, take, length, sym, ap, ◌∙◌, subst, arith}
 use Rattle.ygg_syntax.specs.declared.tree.Expr.{Expr}
-use Rattle.ygg_meaning.specs.Environments.{Env}
-use Rattle.ygg_meaning.specs.Progress.{for_each, in_turn, run_of}
-use Rattle.ygg_meaning.specs.Meaning.{is_one}
+use Rattle.ygg_eval_expr.specs.ygg_meaning.Environments.{Env}
+use Rattle.ygg_eval_expr.specs.ygg_meaning.Progress.{for_each, in_turn, run_of}
+use Rattle.ygg_eval_expr.specs.ygg_meaning.Meaning.{is_one}
 use Rattle.ygg_eval_expr.specs.declared.held.Binding.{Binding}
 use Rattle.ygg_eval_expr.specs.Held.{env_of}
 use Rattle.ygg_eval_block.specs.declared.flow.Flow.{Flow}

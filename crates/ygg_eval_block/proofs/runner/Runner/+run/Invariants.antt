@@ -1,5 +1,5 @@
 use Rattle.std.proofs.Common.{drop, map, ◌-◌}
-use Rattle.ygg_meaning.specs.Progress.{for_each, in_turn, run_of}
+use Rattle.ygg_eval_expr.specs.ygg_meaning.Progress.{for_each, in_turn, run_of}
 use Rattle.ygg_eval_expr.specs.Held.{env_of}
 use Rattle.ygg_eval_block.specs.Steps.{stands, Becomes}
 use Rattle.ygg_eval_block.specs.Ready.{eval_in, turn_run, CanRun, CanRepeat}

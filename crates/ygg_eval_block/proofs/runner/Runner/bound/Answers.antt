@@ -1,7 +1,7 @@
 use Rattle.std.proofs.Common.{[], ◌∷◌, ◌++◌, List, Ok, Err, sym, subst}
 use Rattle.ygg_value.specs.declared.row.Value.{Value}
-use Rattle.ygg_meaning.specs.Environments.{Env}
-use Rattle.ygg_meaning.specs.Progress.{from_source}
+use Rattle.ygg_eval_expr.specs.ygg_meaning.Environments.{Env}
+use Rattle.ygg_eval_expr.specs.ygg_meaning.Progress.{from_source}
 use Rattle.ygg_eval_expr.specs.declared.held.Binding.{Binding}
 use Rattle.ygg_eval_expr.specs.Held.{env_of}
 use Rattle.ygg_eval_block.specs.declared.flow.Flow.{Flow}

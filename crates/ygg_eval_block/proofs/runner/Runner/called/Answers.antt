@@ -1,6 +1,6 @@
 use Rattle.std.proofs.Common.{List, Result, sym, subst}
 use Rattle.ygg_list.specs.declared.memory.NoMemory.{NoMemory}
-use Rattle.ygg_meaning.specs.Progress.{Call, ask, values_of}
+use Rattle.ygg_eval_expr.specs.ygg_meaning.Progress.{Call, ask, values_of}
 use Rattle.ygg_eval_expr.specs.declared.held.Binding.{Binding}
 use Rattle.ygg_eval_expr.specs.Held.{env_of}
 use Rattle.ygg_eval_block.specs.declared.flow.Flow.{Flow}

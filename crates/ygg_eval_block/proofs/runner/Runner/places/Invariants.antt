@@ -1,6 +1,6 @@
 use Rattle.std.proofs.Common.{◌≡◌, ◌++◌, drop, map}
 use Rattle.ygg_value.specs.Number.{Number}
-use Rattle.ygg_meaning.specs.Progress.{indices_of}
+use Rattle.ygg_eval_expr.specs.ygg_meaning.Progress.{indices_of}
 use Rattle.ygg_eval_expr.specs.Held.{env_of}
 use Rattle.ygg_eval_block.specs.Ready.{eval_in}
 use Rattle.ygg_eval_block.proofs.runner.Runner.places.Given as goal

@@ -2,9 +2,9 @@ use Rattle.std.proofs.Common.{Result, ap, sym, ◌∙◌, subst}
 use Rattle.ygg_list.specs.declared.memory.NoMemory.{NoMemory}
 use Rattle.ygg_value.specs.declared.row.Value.{Value}
 use Rattle.ygg_value.specs.Values.{digit}
-use Rattle.ygg_disk.specs.declared.power.Power.{Power}
-use Rattle.ygg_disk.specs.declared.power.Picks.{Picks}
-use Rattle.ygg_meaning.specs.Progress.{from_source}
+use Rattle.ygg_eval_expr.specs.ygg_disk.declared.power.Power.{Power}
+use Rattle.ygg_eval_expr.specs.ygg_disk.declared.power.Picks.{Picks}
+use Rattle.ygg_eval_expr.specs.ygg_meaning.Progress.{from_source}
 use Rattle.ygg_eval_expr.specs.Held.{env_of}
 use Rattle.ygg_eval_block.specs.declared.flow.Flow.{Flow}
 use Rattle.ygg_eval_block.specs.Steps.{stands, Front, Ran}

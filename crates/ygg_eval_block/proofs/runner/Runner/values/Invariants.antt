@@ -1,5 +1,5 @@
 use Rattle.std.proofs.Common.{◌≡◌, ◌++◌, drop}
-use Rattle.ygg_meaning.specs.Progress.{values_of}
+use Rattle.ygg_eval_expr.specs.ygg_meaning.Progress.{values_of}
 use Rattle.ygg_eval_expr.specs.Held.{env_of}
 use Rattle.ygg_eval_block.specs.Ready.{eval_in}
 use Rattle.ygg_eval_block.proofs.runner.Runner.values.Given as goal

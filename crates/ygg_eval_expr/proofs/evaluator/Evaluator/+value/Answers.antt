@@ -4,7 +4,7 @@ use Rattle.std.proofs.lemmas.List.{map-append}
 use Rattle.ygg_syntax.specs.declared.tree.Expr.{Expr}
 use Rattle.ygg_value.specs.Number.{Number}
 use Rattle.ygg_value.specs.Values.{word_in}
-use Rattle.ygg_syntax_count.specs.Weights.{weights_of, expr_weight}
+use Rattle.ygg_type_sound.specs.ygg_syntax_count.Weights.{weights_of, expr_weight}
 use Rattle.ygg_type_sound.specs.Environments.{bind}
 use Rattle.ygg_type_sound.specs.Meaning.{is_one}
 use Rattle.ygg_eval_expr.specs.Held.{env_of, held_value, held_values}

@@ -1,13 +1,13 @@
 use Rattle.std.proofs.Common.{◌≡◌, List, Option, OnOk, IfOk, sym, ap, subst}
-use Rattle.ygg_bank.proofs.Widths.{extends_both, wider}
-use Rattle.ygg_bank.specs.Makes.{Out}
-use Rattle.ygg_bank.specs.Nodes.{IsBank}
-use Rattle.ygg_bank.specs.declared.node.Id.{Id}
-use Rattle.ygg_bank.specs.declared.node.Node.{Node}
-use Rattle.ygg_shape_cells.specs.declared.terms.SymValue.{SymValue}
-use Rattle.ygg_sym_below.proofs.Lows.{low_wider}
-use Rattle.ygg_sym_below.specs.Disks.{Done, done}
-use Rattle.ygg_sym_runs.proofs.Zeros.{single_both, single_then}
+use Rattle.ygg_sym.specs.ygg_bank_proofs_Widths.{extends_both, wider}
+use Rattle.ygg_sym.specs.ygg_bank.Makes.{Out}
+use Rattle.ygg_sym.specs.ygg_bank.Nodes.{IsBank}
+use Rattle.ygg_sym.specs.ygg_bank.declared.node.Id.{Id}
+use Rattle.ygg_sym.specs.ygg_bank.declared.node.Node.{Node}
+use Rattle.ygg_sym.specs.ygg_shape_cells.declared.terms.SymValue.{SymValue}
+use Rattle.ygg_sym.specs.ygg_sym_below_proofs_Lows.{low_wider}
+use Rattle.ygg_sym.specs.ygg_sym_below.Disks.{Done, done}
+use Rattle.ygg_sym.proofs.of_ygg_sym_runs.Zeros.{single_both, single_then}
 use Rattle.ygg_sym.specs.Layers.{closed, terms_in}
 use Rattle.ygg_sym.specs.Sites.{below_in}
 use Rattle.ygg_oblige_pieces.specs.Outcomes.{outcome_made}

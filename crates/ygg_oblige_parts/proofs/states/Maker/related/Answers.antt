@@ -1,11 +1,11 @@
 use Rattle.std.proofs.Common.{◌≡◌, All, OnOk, IfOk, refl, sym, ap, ◌∙◌, subst}
-use Rattle.ygg_meaning.specs.Related.{relations}
-use Rattle.ygg_bank.specs.declared.node.Id.{Id}
-use Rattle.ygg_sym_expr.specs.Names.{SymEnv}
-use Rattle.ygg_sym_expr.specs.Seen.{SymKnown, env_of}
-use Rattle.ygg_sym_runs.specs.Lower.{SingleFrom}
-use Rattle.ygg_sym_runs.proofs.Singles.{single_stays}
-use Rattle.ygg_sym_runs.proofs.Zeros.{single_kept}
+use Rattle.ygg_sym.specs.ygg_meaning.Related.{relations}
+use Rattle.ygg_sym.specs.ygg_bank.declared.node.Id.{Id}
+use Rattle.ygg_sym.specs.ygg_sym_expr.Names.{SymEnv}
+use Rattle.ygg_sym.specs.ygg_sym_expr.Seen.{SymKnown, env_of}
+use Rattle.ygg_sym.specs.ygg_sym_runs.Lower.{SingleFrom}
+use Rattle.ygg_sym.proofs.of_ygg_sym_runs.Singles.{single_stays}
+use Rattle.ygg_sym.proofs.of_ygg_sym_runs.Zeros.{single_kept}
 use Rattle.ygg_sym.specs.Layers.{closed, terms_in}
 use Rattle.ygg_sym.specs.Sites.{below_in}
 use Rattle.ygg_oblige_pieces.specs.ObligeTermsStates.{Trio, related_made}

@@ -1,7 +1,7 @@
 use Rattle.std.proofs.Common.{[], refl, ap}
-use Rattle.ygg_meaning.specs.Obligations.{Init}
-use Rattle.ygg_meaning.specs.Shapes.{values_fit, zeros_of}
-use Rattle.ygg_fronts.specs.Fronts.{low_at_start}
+use Rattle.ygg_replay.specs.ygg_meaning.Obligations.{Init}
+use Rattle.ygg_replay.specs.ygg_meaning.Shapes.{values_fit, zeros_of}
+use Rattle.ygg_eval_fronts.specs.ygg_fronts.Fronts.{low_at_start}
 use Rattle.ygg_oblige_places.specs.Schedules.{schedule_from}
 use Rattle.ygg_oblige_reading.specs.Here.{below_of, inputs_of, layer_of, numbers_of}
 use Rattle.ygg_oblige_reading.specs.Schedules.{given_here}

@@ -1,6 +1,6 @@
 use Rattle.std.proofs.Common.{◌∙◌, ap}
-use Rattle.ygg_meaning.specs.Environments.{bind}
-use Rattle.ygg_meaning.specs.Shapes.{values_fit}
+use Rattle.ygg_replay.specs.ygg_meaning.Environments.{bind}
+use Rattle.ygg_replay.specs.ygg_meaning.Shapes.{values_fit}
 use Rattle.ygg_replay.specs.Zeros.{zero_values}
 use Rattle.ygg_oblige_reading.proofs.Zeros.{bind_zeros, zeros_fit}
 use Rattle.ygg_oblige_reading.proofs.reader.EnvironmentReader.zero_memory.Goals as goal

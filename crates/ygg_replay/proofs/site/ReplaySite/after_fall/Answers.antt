@@ -1,6 +1,6 @@
 use Rattle.std.proofs.Common.{List, Result, Ok, Err, IfOk, ap, ◌∙◌}
 use Rattle.ygg_value.specs.declared.row.Value.{Value}
-use Rattle.ygg_meaning.specs.Related.{settled}
+use Rattle.ygg_sched.specs.ygg_meaning.Related.{settled}
 use Rattle.ygg_replay.specs.Ends.{end_at}
 use Rattle.ygg_replay.specs.Sites.{closed_in, low_at}
 use Rattle.ygg_replay.proofs.Recovering.{recovers}

@@ -1,6 +1,6 @@
 use Rattle.std.proofs.Common.{◌≡◌, true, false, ◌&&◌, List, sym, ap, ◌∙◌, subst}
 use Rattle.ygg_value.specs.declared.row.Value.{Value}
-use Rattle.ygg_meaning.specs.Related.{related}
+use Rattle.ygg_sched.specs.ygg_meaning.Related.{related}
 use Rattle.ygg_replay.specs.Passing.{answers_for}
 use Rattle.ygg_replay.specs.Sites.{StatesFit, closed_in, low_at, memory_at, vars_at}
 use Rattle.ygg_replay.proofs.Agreeing.{agreeing_is, step_fits, ends_fit, relates_to}

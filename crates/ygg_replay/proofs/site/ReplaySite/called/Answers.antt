@@ -1,6 +1,6 @@
 use Rattle.std.proofs.Common.{None, Some, sym, ap, ◌∙◌, subst}
-use Rattle.ygg_meaning.specs.Progress.{Answer}
-use Rattle.ygg_meaning.specs.Spec.{call_outcome, chosen}
+use Rattle.ygg_sched.specs.ygg_meaning.Progress.{Answer}
+use Rattle.ygg_sched.specs.ygg_meaning.Spec.{call_outcome, chosen}
 use Rattle.ygg_replay.specs.Sites.{closed_in, vars_at}
 use Rattle.ygg_replay.specs.Steps.{EndsIn, own_machine}
 use Rattle.ygg_replay.proofs.Own.{own_serves, own_callable, own_called}

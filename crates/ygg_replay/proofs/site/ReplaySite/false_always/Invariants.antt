@@ -1,5 +1,5 @@
 use Rattle.std.proofs.Common.{map}
-use Rattle.ygg_meaning.specs.Related.{holds}
+use Rattle.ygg_sched.specs.ygg_meaning.Related.{holds}
 use Rattle.ygg_replay.specs.Sites.{closed_in, low_at, memory_at, vars_at}
 use Rattle.ygg_replay.proofs.Firsts.{Passed}
 use Rattle.ygg_replay.proofs.site.ReplaySite.false_always.Given as goal

@@ -1,5 +1,5 @@
 use Rattle.std.proofs.Common.{◌≡◌, Some, refl, subst}
-use Rattle.ygg_meaning.specs.Obligations.{CallOf, CutOf, TickOf, CutTickOf}
+use Rattle.ygg_sched.specs.ygg_meaning.Obligations.{CallOf, CutOf, TickOf, CutTickOf}
 use Rattle.ygg_sched.specs.declared.case.Kind.{Kind}
 use Rattle.ygg_sched.specs.Cases.{obligation_at}
 use Rattle.ygg_replay.proofs.Asked.{if_ok}

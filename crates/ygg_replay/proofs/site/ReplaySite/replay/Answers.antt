@@ -1,5 +1,5 @@
 use Rattle.std.proofs.Common.{Some, is_none, sym, ap, ◌∙◌}
-use Rattle.ygg_meaning.specs.Violates.{hypotheses}
+use Rattle.ygg_sched.specs.ygg_meaning.Violates.{hypotheses}
 use Rattle.ygg_replay.specs.Sites.{closed_in, machine_in}
 use Rattle.ygg_replay.specs.Steps.{meant_at}
 use Rattle.ygg_replay.proofs.Concluding.{is_false}

@@ -1,5 +1,5 @@
 use Rattle.std.proofs.Common.{subst, sym}
-use Rattle.ygg_histories.specs.Stack.{tables_of}
+use Rattle.ygg_sym_below.specs.ygg_histories.Stack.{tables_of}
 use Rattle.ygg_sym_below.specs.Lows.{LowShaped}
 use Rattle.ygg_sym_disk.proofs.Asked.{lows_alike, merged_single}
 use Rattle.ygg_sym_disk.proofs.lower.SymDiskSymLower.merge.Goals as goal

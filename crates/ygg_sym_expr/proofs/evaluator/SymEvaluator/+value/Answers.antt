@@ -3,16 +3,16 @@ use Rattle.std.proofs.lemmas.List.{append-nil}
 use Rattle.ygg_value.specs.Number.{IsWord}
 use Rattle.ygg_value.specs.Words.{word}
 use Rattle.ygg_syntax.specs.declared.tree.Expr.{Expr}
-use Rattle.ygg_syntax_count.specs.Weights.{weights_of, expr_weight}
-use Rattle.ygg_bank.proofs.Widths.{extends_self, extends_both, wider}
-use Rattle.ygg_bank.specs.Makes.{Make, Out, pure}
-use Rattle.ygg_bank.specs.Making.{made}
-use Rattle.ygg_bank.specs.Nodes.{HasWidth, Stands, CanBin}
-use Rattle.ygg_bank.specs.declared.node.Id.{Id}
-use Rattle.ygg_bank.specs.declared.node.Node.TheVariants as node
-use Rattle.ygg_shape_cells.specs.Making.{merged}
-use Rattle.ygg_shape_cells.specs.declared.terms.SymValue.{SymValue}
-use Rattle.ygg_shape_cells.specs.declared.terms.SymValue.TheVariants.{Row}
+use Rattle.ygg_eval_expr.specs.ygg_syntax_count.Weights.{weights_of, expr_weight}
+use Rattle.ygg_shape.specs.ygg_bank_proofs_Widths.{extends_self, extends_both, wider}
+use Rattle.ygg_shape.specs.ygg_bank.Makes.{Make, Out, pure}
+use Rattle.ygg_shape.specs.ygg_bank.Making.{made}
+use Rattle.ygg_shape.specs.ygg_bank.Nodes.{HasWidth, Stands, CanBin}
+use Rattle.ygg_shape.specs.ygg_bank.declared.node.Id.{Id}
+use Rattle.ygg_shape.specs.ygg_bank.declared.node.Node.TheVariants as node
+use Rattle.ygg_shape.specs.ygg_shape_cells.Making.{merged}
+use Rattle.ygg_shape.specs.ygg_shape_cells.declared.terms.SymValue.{SymValue}
+use Rattle.ygg_shape.specs.ygg_shape_cells.declared.terms.SymValue.TheVariants.{Row}
 use Rattle.ygg_shape.proofs.Steps.{EachFrom, each_from_goes, each_from_value, each_from_nodes, each_from_begins}
 use Rattle.ygg_eval_expr.proofs.Called.{definition_weighs}
 use Rattle.ygg_eval_expr.proofs.Weighed.{

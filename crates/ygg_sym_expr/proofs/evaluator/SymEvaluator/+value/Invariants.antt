@@ -1,6 +1,6 @@
 use Rattle.std.proofs.Common.{◌≡◌, ◌≤◌, ◌+◌, ◌*◌, drop}
-use Rattle.ygg_syntax_count.specs.Weights.{weights_of, weight_at, expr_weight, exprs_weight}
-use Rattle.ygg_bank.specs.Nodes.{Extends, HasWidth, IsBank}
+use Rattle.ygg_eval_expr.specs.ygg_syntax_count.Weights.{weights_of, weight_at, expr_weight, exprs_weight}
+use Rattle.ygg_shape.specs.ygg_bank.Nodes.{Extends, HasWidth, IsBank}
 use Rattle.ygg_sym_expr.specs.Exprs.{joined, sym_value}
 use Rattle.ygg_sym_expr.specs.Seen.{known_of, joining, start_of, terms_called, test_at}
 use Rattle.ygg_shape.proofs.Steps.{EachFrom}

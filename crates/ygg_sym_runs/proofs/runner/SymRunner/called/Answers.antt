@@ -1,5 +1,5 @@
 use Rattle.std.proofs.Common.{List, All, ap, sym, subst, ◌∙◌}
-use Rattle.ygg_bank.proofs.Widths.{extends_both}
+use Rattle.ygg_sym_expr.specs.ygg_bank_proofs_Widths.{extends_both}
 use Rattle.ygg_sym_expr.specs.Seen.{CanTerm, env_of}
 use Rattle.ygg_sym_expr.specs.declared.held.SymBinding.{SymBinding}
 use Rattle.ygg_sym_runs.specs.Ready.{known_with, terms_of}

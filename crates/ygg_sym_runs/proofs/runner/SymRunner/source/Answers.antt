@@ -1,5 +1,5 @@
 use Rattle.std.proofs.Common.{List, sym, subst, ◌∙◌}
-use Rattle.ygg_bank.proofs.Widths.{extends_both}
+use Rattle.ygg_sym_expr.specs.ygg_bank_proofs_Widths.{extends_both}
 use Rattle.ygg_syntax.specs.declared.tree.Expr.{Expr}
 use Rattle.ygg_syntax.specs.declared.tree.Source.{Source}
 use Rattle.ygg_sym_expr.specs.Seen.{env_of}

@@ -1,4 +1,4 @@
-use Rattle.ygg_bank.specs.Nodes.{Extends, IsBank}
+use Rattle.ygg_sym_expr.specs.ygg_bank.Nodes.{Extends, IsBank}
 use Rattle.ygg_sym_expr.specs.Seen.{env_of}
 use Rattle.ygg_sym_runs.specs.Lower.{KeepsSingle}
 use Rattle.ygg_sym_runs.specs.Ready.{terms_of}

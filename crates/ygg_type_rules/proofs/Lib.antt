@@ -1,0 +1,1 @@
+pub use Rattle.ygg_syntax_count.proofs as of_ygg_syntax_count
