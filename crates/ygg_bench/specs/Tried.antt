@@ -10,7 +10,7 @@ use Rattle.ygg_bank.specs.declared.node.Id.{Id}
 use Rattle.ygg_bank.specs.declared.node.Node.{Node}
 use Rattle.ygg_bank.specs.declared.node.Node.TheVariants.{Input}
 use Rattle.ygg_shape_cells.specs.Terms.{IsShaped}
-use Rattle.ygg_bench.specs.declared.terms.Inputs.{Inputs}
+use Rattle.ygg_bench.specs.declared.terms.TermOperands.{TermOperands}
 
 -- the second shape is that of a table's row, or of a row's word
 abbrev pub IsPart : Shape → Shape → Type 0
@@ -23,7 +23,7 @@ abbrev pub HasSome : List Node → Id → Type 0
 HasSome nodes id = (w : ℕ) × HasWidth nodes id w
 
 -- a test of one digit, a place, and two values of these shapes
-pub record AreInputs (nodes : List Node) (first second : Shape) (x : Inputs) : Type 0 where
+pub record AreInputs (nodes : List Node) (first second : Shape) (x : TermOperands) : Type 0 where
   pub test : HasWidth nodes x.test 1
   pub at : HasSome nodes x.at
   pub one : IsShaped nodes first x.one

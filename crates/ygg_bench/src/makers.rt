@@ -7,7 +7,7 @@ ghost use Rattle.ygg_bench.specs.Tried.{AreInputs};
 use crate::environments::{Comparisons, compare_all};
 use crate::shapes::{Pair, is_shape, other_of};
 use crate::terms::{
-    Inputs, Known, Setting, TriedMaker, TriedPlace, WordMaker, inputs_in, terms_of,
+    Known, Setting, TermOperands, TriedMaker, TriedPlace, WordMaker, inputs_in, terms_of,
 };
 use std::alloc::Global;
 use ygg_bank::{Bank, NoMemory};
@@ -340,7 +340,7 @@ fn try_inputs(
     book: &RuleBook,
     maker: TriedMaker,
     setting: Setting,
-    inputs: &Inputs,
+    inputs: &TermOperands,
     tally: &mut Comparisons,
 ) -> Result<(), NoMemory>
     requires one { IsShape setting.one }

@@ -149,7 +149,7 @@ pub struct Setting {
 
 /// A test, a place and two values.
 #[derive(Drop)]
-pub struct Inputs {
+pub struct TermOperands {
     pub test: Id,
     pub at: Id,
     pub one: SymValue,
@@ -183,7 +183,7 @@ pub fn inputs_in<B: Book>(
     bank: &mut Bank,
     book: &B,
     setting: Setting,
-) -> Result<Inputs, NoMemory>
+) -> Result<TermOperands, NoMemory>
     requires empty { bank.old ≡ [] }
     requires one { IsShape setting.one }
     requires two { IsShape setting.two }
@@ -206,7 +206,7 @@ pub fn inputs_in<B: Book>(
         setting.two,
         setting.known.second(),
     )?;
-    Ok(Inputs { test, at, one, two })
+    Ok(TermOperands { test, at, one, two })
 }
 
 /// A value whose words are inputs, numbered on from a number, or a word that is a constant.
@@ -261,7 +261,7 @@ pub fn terms_of<B: Book>(
     book: &B,
     maker: TriedMaker,
     setting: Setting,
-    inputs: &Inputs,
+    inputs: &TermOperands,
 ) -> Result<SymRow, NoMemory>
     requires { AreInputs bank.old setting.one setting.two inputs.now }
 {
@@ -291,7 +291,7 @@ fn made_of<B: Book>(
     book: &B,
     maker: TriedMaker,
     setting: Setting,
-    inputs: &Inputs,
+    inputs: &TermOperands,
 ) -> Result<SymValue, NoMemory>
     requires { AreInputs bank.old setting.one setting.two inputs.now }
 {
@@ -321,7 +321,7 @@ fn of_alike<B: Book>(
     book: &B,
     maker: TriedMaker,
     setting: Setting,
-    inputs: &Inputs,
+    inputs: &TermOperands,
 ) -> Result<SymValue, NoMemory>
     requires bank { IsBank bank.old }
     requires inputs { AreInputs bank.old setting.one setting.two inputs.now }
@@ -345,7 +345,7 @@ fn of_parts<B: Book>(
     book: &B,
     maker: TriedMaker,
     setting: Setting,
-    inputs: &Inputs,
+    inputs: &TermOperands,
 ) -> Result<SymValue, NoMemory>
     requires { AreInputs bank.old setting.one setting.two inputs.now }
 {

@@ -5,7 +5,7 @@ use Rattle.ygg_blast.specs.ygg_cnf.declared.lit.Lit.{Lit}
 use Rattle.ygg_blast.specs.ygg_gates.Circuits.{literal}
 use Rattle.ygg_blast.specs.ygg_gates.Clauses.{clauses_from, gate_clauses}
 use Rattle.ygg_blast.specs.ygg_gates.declared.gate.Gate.{Gate}
-use Rattle.ygg_dimacs_term.specs.declared.counting.Total.{Total}
+use Rattle.ygg_dimacs_term.specs.declared.counting.ClauseCount.{ClauseCount}
 use Rattle.ygg_dimacs_term.specs.Counted.{greatest_in, greatest_of, between, Counts, IsCountOf}
 
 -- the clauses from a gate on are its own, and those of the gates after it
@@ -26,14 +26,14 @@ greatest_append most [] ys = refl
 greatest_append most (x ∷ xs) ys = greatest_append (greatest_in most x) xs ys
 
 -- the count so far, with what is left, is the whole
-pub record Counting (gates : List Gate) (start : Total) (i : ℕ) (now : Total) : Type 0 where
+pub record Counting (gates : List Gate) (start : ClauseCount) (i : ℕ) (now : ClauseCount) : Type 0 where
   pub clauses : now.clauses + length (clauses_from (i + 2) (drop i gates)) ≡ start.clauses + length (clauses_from 2 gates)
   pub variables : greatest_of now.variables (clauses_from (i + 2) (drop i gates)) ≡ greatest_of start.variables (clauses_from 2 gates)
 
-pub counts_begin : (gates : List Gate) (start : Total) → Counting gates start 0 start
+pub counts_begin : (gates : List Gate) (start : ClauseCount) → Counting gates start 0 start
 counts_begin gates start = record { clauses = refl; variables = refl }
 
-pub counts_go : (gates : List Gate) (start : Total) (i : ℕ) (now : Total) (g d : Gate) (cs : List (List Lit)) (next : Total) → i < length gates →
+pub counts_go : (gates : List Gate) (start : ClauseCount) (i : ℕ) (now : ClauseCount) (g d : Gate) (cs : List (List Lit)) (next : ClauseCount) → i < length gates →
     g ≡ get_or gates i d → cs ≡ gate_clauses (literal (i + 2)) g → Counts now next cs → Counting gates start i now → Counting gates start (i + 1) next
 counts_go gates start i now g d cs next l e own c s =
     let rest = clauses_from (i + 1 + 2) (drop (i + 1) gates) in
@@ -45,7 +45,7 @@ counts_go gates start i now g d cs next l e own c s =
           ∙ s.variables;
     }
 
-pub counts_are : (gates : List Gate) (start : Total) (i : ℕ) (now : Total) → length gates ≤ i → Counting gates start i now →
+pub counts_are : (gates : List Gate) (start : ClauseCount) (i : ℕ) (now : ClauseCount) → length gates ≤ i → Counting gates start i now →
     Counts start now (clauses_from 2 gates)
 counts_are gates start i now l s =
     let none = gates_end gates i l in
@@ -56,7 +56,7 @@ counts_are gates start i now l s =
     }
 
 -- with the two unit clauses
-pub all_counted : (gates : List Gate) (goal : Lit) (start all whole : Total) → start.clauses ≡ 2 → start.variables ≡ 1 →
+pub all_counted : (gates : List Gate) (goal : Lit) (start all whole : ClauseCount) → start.clauses ≡ 2 → start.variables ≡ 1 →
     Counts start all (clauses_from 2 gates) → whole.clauses ≡ all.clauses → whole.variables ≡ max all.variables goal.var →
     IsCountOf whole (between gates goal)
 all_counted gates goal start all whole two first c same most =

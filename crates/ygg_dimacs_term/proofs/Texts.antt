@@ -14,7 +14,7 @@ use Rattle.ygg_log_text.specs.Lines.{clause_line}
 use Rattle.ygg_dimacs.specs.Printing.{header_line, clause_lines}
 use Rattle.ygg_pieces.specs.Pieces.{Flows, Cuts, Passes, Finishes}
 use Rattle.ygg_pieces.proofs.Flowing.{text_done, text_short}
-use Rattle.ygg_dimacs_term.specs.declared.counting.Total.{Total}
+use Rattle.ygg_dimacs_term.specs.declared.counting.ClauseCount.{ClauseCount}
 use Rattle.ygg_dimacs_term.specs.Counted.{between, clauses_text, IsCountOf, greatest_of}
 use Rattle.ygg_dimacs_term.proofs.Gatewise.{gates_more}
 
@@ -85,7 +85,7 @@ gate_short before middle now kept mid left other whole Later Since gates i g d s
     by_status Undecided h = absurd h
 
 -- the text in its three parts
-pub text_parts : (gates : List Gate) (goal : Lit) (total : Total) → IsCountOf total (between gates goal) →
+pub text_parts : (gates : List Gate) (goal : Lit) (total : ClauseCount) → IsCountOf total (between gates goal) →
     (header_line total.variables total.clauses ++ clause_line (true_literal ∷ [])) ++ (clause_lines (clauses_from 2 gates) ++ clause_line (goal ∷ []))
     ≡ clauses_text (between gates goal)
 text_parts gates goal total is =
@@ -105,11 +105,11 @@ text_parts gates goal total is =
     ∙ ap (λ (k : ℕ). header_line (greatest_of 0 all) k ++ clause_lines all) is.clauses
 
 -- the header of clauses that are so many, and the line of the first of them
-abbrev pub front : Total → List ℕ
+abbrev pub front : ClauseCount → List ℕ
 front total = header_line total.variables total.clauses ++ clause_line (true_literal ∷ [])
 
 -- the text put whole
-pub text_ends : (before middle now : Option (List ℕ)) (kept mid slice last : List ℕ) (gates : List Gate) (goal : Lit) (total : Total) (Later Since : Type 0)
+pub text_ends : (before middle now : Option (List ℕ)) (kept mid slice last : List ℕ) (gates : List Gate) (goal : Lit) (total : ClauseCount) (Later Since : Type 0)
     (r : Result (Unit {0}) Status) → IsCountOf total (between gates goal) → kept ≡ front total → slice ≡ last → last ≡ clause_line (goal ∷ []) →
     Flows before kept middle mid (clause_lines (clauses_from 2 gates)) → Finishes middle mid now slice Later r → (Later → Since) →
     Finishes before [] now (clauses_text (between gates goal)) Since r
@@ -119,7 +119,7 @@ text_ends before middle now kept mid slice last gates goal total Later Since r i
     (subst (λ (x : List ℕ). Finishes middle mid now x Later r) (same ∙ ends) p) since)
 
 -- the text cut short
-pub text_cut : (before now : Option (List ℕ)) (kept left : List ℕ) (gates : List Gate) (goal : Lit) (total : Total) (SinkRose : Type 0) (s : Status) →
+pub text_cut : (before now : Option (List ℕ)) (kept left : List ℕ) (gates : List Gate) (goal : Lit) (total : ClauseCount) (SinkRose : Type 0) (s : Status) →
     IsCountOf total (between gates goal) → kept ≡ front total → Passes before kept now left (clause_lines (clauses_from 2 gates)) SinkRose (Err s) →
     Finishes before [] now (clauses_text (between gates goal)) SinkRose (Err s)
 text_cut before now kept left gates goal total SinkRose s is begins p =

@@ -6,7 +6,7 @@ use Rattle.ygg_blast.specs.ygg_gates.Clauses.{clauses_from}
 use Rattle.ygg_blast.specs.ygg_gates.declared.gate.Gate.{Gate}
 use Rattle.ygg_dimacs.specs.Reading.{cnf}
 use Rattle.ygg_dimacs.specs.Printing.{cnf_text}
-use Rattle.ygg_dimacs_term.specs.declared.counting.Total.{Total}
+use Rattle.ygg_dimacs_term.specs.declared.counting.ClauseCount.{ClauseCount}
 
 -- the greatest variable of a clause, or this one
 abbrev pub greatest_in : ℕ → List Lit → ℕ
@@ -27,11 +27,11 @@ abbrev pub between : List Gate → Lit → List (List Lit)
 between gates goal = ((true_literal ∷ []) ∷ []) ++ clauses_from 2 gates ++ ((goal ∷ []) ∷ [])
 
 -- a count is another one with these clauses more
-pub record Counts (before after : Total) (all : List (List Lit)) : Type 0 where
+pub record Counts (before after : ClauseCount) (all : List (List Lit)) : Type 0 where
   pub clauses : after.clauses ≡ before.clauses + length all
   pub variables : after.variables ≡ greatest_of before.variables all
 
 -- the count of clauses
-pub record IsCountOf (total : Total) (all : List (List Lit)) : Type 0 where
+pub record IsCountOf (total : ClauseCount) (all : List (List Lit)) : Type 0 where
   pub clauses : total.clauses ≡ length all
   pub variables : total.variables ≡ greatest_of 0 all

@@ -10,7 +10,7 @@ use ygg_list::NoMemory;
 
 /// How many clauses there are, and the greatest variable of their literals.
 #[derive(Clone, Copy)]
-pub struct Total {
+pub struct ClauseCount {
     /// The number of clauses.
     pub clauses: u64,
     /// The greatest variable.
@@ -40,11 +40,11 @@ fn greatest_of(most: u64, clauses: &[Clause]) -> u64
 }
 
 /// The count with clauses more. Its only error is out of memory, which stands for a number that is too large to be counted.
-fn counted(total: Total, clauses: &[Clause]) -> Result<Total, NoMemory>
+fn counted(total: ClauseCount, clauses: &[Clause]) -> Result<ClauseCount, NoMemory>
     ensures { IfOk result (λ c. Counts total c clauses.now) }
 {
     match total.clauses.checked_add(clauses.len() as u64) {
-        Some(sum) => Ok(Total {
+        Some(sum) => Ok(ClauseCount {
             clauses: sum,
             variables: greatest_of(total.variables, clauses),
         }),
@@ -54,7 +54,7 @@ fn counted(total: Total, clauses: &[Clause]) -> Result<Total, NoMemory>
 
 /// The count with the clauses of gates more, the first of which has the variable 2. Its only error is out of memory.
 #[tactic(auto, using(crate::proofs::Gatewise::counts_begin, crate::proofs::Gatewise::counts_are))]
-fn count_gates(alloc: Global, total: Total, gates: &[Gate]) -> Result<Total, NoMemory>
+fn count_gates(alloc: Global, total: ClauseCount, gates: &[Gate]) -> Result<ClauseCount, NoMemory>
     requires { length gates.now < 2 ^ 63 }
     ensures { IfOk result (λ c. Counts total c (clauses_from 2 gates.now)) }
 {
@@ -67,16 +67,16 @@ fn count_gates(alloc: Global, total: Total, gates: &[Gate]) -> Result<Total, NoM
 }
 
 /// The count of the clauses of gates, between the unit clause of variable 1 and that of a goal. Its only error is out of memory.
-pub fn count(alloc: Global, gates: &[Gate], goal: Lit) -> Result<Total, NoMemory>
+pub fn count(alloc: Global, gates: &[Gate], goal: Lit) -> Result<ClauseCount, NoMemory>
     requires { length gates.now < 2 ^ 63 }
     ensures { IfOk result (λ c. IsCountOf c (between gates.now goal)) }
 {
-    let units = Total {
+    let units = ClauseCount {
         clauses: 2,
         variables: 1,
     };
     let all = count_gates(alloc, units, gates)?;
-    Ok(Total {
+    Ok(ClauseCount {
         clauses: all.clauses,
         variables: all.variables.max(goal.var),
     })

@@ -11,7 +11,7 @@ ghost use Rattle.ygg_dimacs.specs.Printing.{header_line, clause_lines};
 ghost use Rattle.ygg_pieces.specs.Pieces.{Passes, Finishes, FinishesWith};
 ghost use Rattle.ygg_dimacs_term.specs.Counted.{between, clauses_text, IsCountOf};
 
-use crate::counting::{Total, count};
+use crate::counting::{ClauseCount, count};
 use std::alloc::Global;
 use ygg_base::{NoMemory, Sink, Status, Text};
 use ygg_blast::{Bank, Clause, Gate, Id, Lit, circuit_of, clauses_of_gate, true_literal};
@@ -96,7 +96,7 @@ fn pass_gates<K: Sink>(
 }
 
 /// The header of so many clauses, and the first clause, the unit clause of variable 1. Its only error is out of memory.
-fn first_lines(alloc: Global, total: Total) -> Result<Text, NoMemory>
+fn first_lines(alloc: Global, total: ClauseCount) -> Result<Text, NoMemory>
     ensures { IfOk result (λ text. text ≡ header_line total.variables total.clauses ++ clause_line (one ∷ [])) }
 {
     let first = Clause::from_slice(alloc, &[true_literal()])?;
@@ -122,7 +122,7 @@ fn pass_text<K: Sink>(
     sink: &mut K,
     gates: &[Gate],
     goal: Lit,
-    total: Total,
+    total: ClauseCount,
 ) -> Result<(), Status>
     requires few { length gates.now < 2 ^ 63 }
     requires counted { IsCountOf total (between gates.now goal) }

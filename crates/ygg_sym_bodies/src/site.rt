@@ -19,7 +19,7 @@ use ygg_type::Typed;
 
 /// A layer of a file, and what it is specified over.
 #[derive(Clone, Copy)]
-pub struct Place<'a> {
+pub struct Level<'a> {
     /// The layer.
     pub layer: SymLayer<'a>,
     /// What it is specified over.
@@ -56,7 +56,7 @@ fn below<'a>(file: &'a File, tables: &'a [Declared], number: u32) -> SymBelow<'a
 }
 
 /// The layer with a number, and what it is specified over, where the file's disk shows these tables.
-pub fn place_of<'a>(file: &'a File, tables: &'a [Declared], number: u32) -> Place<'a>
+pub fn level_of<'a>(file: &'a File, tables: &'a [Declared], number: u32) -> Level<'a>
     requires tables { tables.now ≡ tables_of file.now.disk }
     requires there { number < length file.now.layers }
     ensures defs { result.layer.defs.now ≡ file.now.defs }
@@ -68,7 +68,7 @@ pub fn place_of<'a>(file: &'a File, tables: &'a [Declared], number: u32) -> Plac
     let defs = file.defs.as_slice();
     let layer = &file.layers.as_slice()[number as usize];
     let low = variables(file, tables, number);
-    Place {
+    Level {
         layer: SymLayer { defs, layer, low },
         below: below(file, tables, number),
     }
@@ -91,14 +91,14 @@ pub fn block_at<'a>(typed: &'a Typed, tables: &'a [Declared], body: Body) -> Sym
     ensures fits { SiteFits result body.part }
     ensures same { AtBlock typed.now.file body (λ s. site_in result body.part ≡ s) }
 {
-    let place = place_of(typed.file(), tables, body.layer);
-    let layer = place.layer.layer;
+    let level = level_of(typed.file(), tables, body.layer);
+    let layer = level.layer.layer;
     let Some(block) = block_of(layer, body.part, body.number) else {
         unreachable!();
     };
     SymBlock {
-        layer: place.layer,
-        below: place.below,
+        layer: level.layer,
+        below: level.below,
         block,
         names: arguments_of(layer, body.part, body.number),
     }

@@ -4,4 +4,3 @@
 mod asking;
 
 pub use asking::cnf;
-pub use ygg_dimacs_oblige::{Book, RuleBook};

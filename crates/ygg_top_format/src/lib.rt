@@ -4,4 +4,3 @@
 mod formatting;
 
 pub use formatting::format;
-pub use ygg_run_format::Device;

@@ -1,5 +1,3 @@
-pub use Rattle.ygg_top_play.specs as ygg_top_play
-pub use Rattle.ygg_top_certify.specs.ygg_top_replay
 pub use Rattle.ygg_top_certify.specs.Certifying
 pub use Rattle.ygg_top_certify.specs.Checking
 pub use Rattle.ygg_top_certify.specs.Verifying

@@ -6,5 +6,4 @@ mod running;
 mod script;
 
 pub use running::run;
-pub use ygg_top_certify::{certify, certify_within, check, demo, replay, verify, verify_within};
-pub use ygg_top_play::play;
+pub use ygg_top_certify::{certify, certify_within, check, demo, verify, verify_within};

@@ -1,4 +1,2 @@
-pub use Rattle.ygg_dimacs_solve.specs.ygg_report
-pub use Rattle.ygg_top_command.specs as ygg_top_command
 pub mod Solving
 pub mod Fetched

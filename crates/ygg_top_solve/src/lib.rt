@@ -4,5 +4,3 @@
 mod solving;
 
 pub use solving::{solve, solve_within};
-pub use ygg_dimacs_solve::put_all;
-pub use ygg_top_command::{CommandStop, USUAL_BUDGET, end};

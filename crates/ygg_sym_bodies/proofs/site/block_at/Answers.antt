@@ -12,9 +12,9 @@ returns-clause-fits c =
     let f = c.args.typed.now.file in
     let all = subst (λ (z : File). LayersTyped z.defs z.disk (layers_of z)) (sym c.file.ensures.same)
     (typed_layers f (derivable_derived f c.file.ensures.derivable) c.file.ensures.typed) in
-    let place = c.place_of-place.result in
-    let said = c.place_of-place.ensures in
+    let level = c.level_of-level.result in
+    let said = c.level_of-level.ensures in
     site_fits c.file.result.now c.args.body
-    (record { layer = place.layer; below = place.below; block = c.in-Some.block; names = c.arguments_of.result }) (place.layer).layer.now
+    (record { layer = level.layer; below = level.below; block = c.in-Some.block; names = c.arguments_of.result }) (level.layer).layer.now
     c.in-Some.block.now (record { defs = said.defs; layer = refl; low = said.low; below = said.below; block = refl; names = c.arguments_of.ensures }) all
     (record { layer = said.layer; block = sym c.in-Some.ensures }) said.same
