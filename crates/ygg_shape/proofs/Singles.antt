@@ -241,8 +241,8 @@ own_row nodes row one a h n w p e =
     subst (IsRow nodes 1 w) (sym e) (single_row nodes w a (subst (λ z. HasWidth nodes a z) (sym s.1) h.word_has))
 
 -- the shapes of what the calls answer
-pub first_has : (nodes : List Node) (w : ℕ) (answer row : List Id) (a : Id) → row ≡ answer → IsRow nodes 1 w answer → HasWidth nodes (get_or row 0 a) w
-first_has nodes w answer row a e r = subst (λ z. HasWidth nodes (get_or z 0 a) w) (sym e) (r.wide 0 a (omega (arith, r.count)))
+pub first_has : (nodes : List Node) (w : ℕ) (answer words : List Id) (a : Id) → words ≡ answer → IsRow nodes 1 w answer → HasWidth nodes (get_or words 0 a) w
+first_has nodes w answer words a e r = subst (λ z. HasWidth nodes (get_or z 0 a) w) (sym e) (r.wide 0 a (omega (arith, r.count)))
 
 pub firsts_shaped : {E : Type 0} (nodes : List Node) (n w : ℕ) (answer rows : List (List Id)) (r : Result (List Id) E) →
     IfOk r (λ x. x ≡ map first rows) → rows ≡ answer → length answer ≡ n → All (IsRow nodes 1 w) answer → IfOk r (IsRow nodes n w)
