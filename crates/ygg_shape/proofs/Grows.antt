@@ -10,7 +10,6 @@ use Rattle.ygg_shape_cells.specs.Making.{
   merged_row,
   merged_rows,
   merged,
-  compared_word,
   compared_row,
   compared_rows,
   compared,
@@ -28,7 +27,6 @@ use Rattle.ygg_shape.proofs.Keeps.{
   merged_row_keeps,
   merged_rows_keeps,
   merged_keeps,
-  compared_word_keeps,
   compared_row_keeps,
   compared_rows_keeps,
   compared_keeps,
@@ -54,9 +52,6 @@ module _ (kinds : List RuleKind) where
 
   pub merged_grows : (t : Id) (one two : SymValue) (nodes : List Node) → Extends nodes (merged kinds t one two nodes).nodes
   merged_grows t one two nodes = merged_keeps kinds (Extends nodes) (grows_stays kinds nodes) t one two nodes (extends_self nodes)
-
-  pub compared_word_grows : (s a b : Id) (nodes : List Node) → Extends nodes (compared_word kinds s a b nodes).nodes
-  compared_word_grows s a b nodes = compared_word_keeps kinds (Extends nodes) (grows_stays kinds nodes) s a b nodes (extends_self nodes)
 
   pub compared_row_grows : (s : Id) (xs ys : List Id) (nodes : List Node) → Extends nodes (compared_row kinds s xs ys nodes).nodes
   compared_row_grows s xs ys nodes = compared_row_keeps kinds (Extends nodes) (grows_stays kinds nodes) s xs ys nodes (extends_self nodes)

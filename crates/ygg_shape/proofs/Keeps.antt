@@ -1,5 +1,5 @@
 -- What holds of nodes, and stays as nodes other than inputs are made, holds after merging, comparing, selecting and storing.
-use Rattle.std.proofs.Common.{◌==◌, ◌+◌, ◌^◌, ℕ, Bool, true, false, if◌then◌else◌, Option, Some, None, List, [], ◌∷◌, slice_get}
+use Rattle.std.proofs.Common.{◌+◌, ◌^◌, ℕ, Bool, true, false, if◌then◌else◌, Option, Some, None, List, [], ◌∷◌, slice_get}
 use Rattle.std.specs.Prelude.{nat_lt}
 use Rattle.ygg_value.specs.Number.{Number}
 use Rattle.ygg_value.specs.Words.{word}
@@ -14,14 +14,14 @@ use Rattle.ygg_shape_cells.specs.ygg_bank.declared.node.Node.TheVariants.{Const,
 use Rattle.ygg_shape_cells.specs.ygg_shape_words_proofs_Keeps.{Stays, picked_keeps, same_words_keeps}
 use Rattle.ygg_shape_cells.specs.ygg_shape_words.Same.{same_words}
 use Rattle.ygg_shape_cells.specs.ygg_shape_sums_proofs_Keeps.{equated_words_keeps}
-use Rattle.ygg_shape_cells.specs.ygg_shape_sums.Equates.{equated_words}
+use Rattle.ygg_shape_cells.specs.ygg_shape_rows_proofs_Keeps.{equated_rows_keeps}
+use Rattle.ygg_shape_cells.specs.ygg_shape_rows.Equates.{equated_rows}
 use Rattle.ygg_shape_cells.specs.ygg_shape_words.Picking.{picked}
 use Rattle.ygg_shape_cells.specs.Lists.{each_two, each_from, fold_two, fold_from}
 use Rattle.ygg_shape_cells.specs.Making.{
   merged_row,
   merged_rows,
   merged,
-  compared_word,
   compared_row,
   compared_rows,
   compared,
@@ -88,12 +88,9 @@ module _ (kinds : List RuleKind) (P : List Node → Type 0) (stays : Stays kinds
   merged_keeps t (value.Table x) (value.Table y) nodes p = merged_rows_keeps t x y nodes p
   merged_keeps t one two nodes p = p
 
-  pub compared_word_keeps : (s a b : Id) (nodes : List Node) → P nodes → P (compared_word kinds s a b nodes).nodes
-  compared_word_keeps s a b nodes p =
-      let o = equated_words kinds a b nodes in stays (Bin And s o.value) o.nodes tt (equated_words_keeps kinds P stays a b nodes p)
-
   pub compared_row_keeps : (s : Id) (xs ys : List Id) (nodes : List Node) → P nodes → P (compared_row kinds s xs ys nodes).nodes
-  compared_row_keeps s xs ys nodes p = fold_two_keeps P (compared_word kinds) compared_word_keeps s xs ys nodes p
+  compared_row_keeps s xs ys nodes p =
+      let o = equated_rows kinds xs ys nodes in stays (Bin And s o.value) o.nodes tt (equated_rows_keeps kinds P stays xs ys nodes p)
 
   pub compared_rows_keeps : (s : Id) (xs ys : List (List Id)) (nodes : List Node) → P nodes → P (compared_rows kinds s xs ys nodes).nodes
   compared_rows_keeps s xs ys nodes p = fold_two_keeps P (compared_row kinds) compared_row_keeps s xs ys nodes p

@@ -27,7 +27,7 @@ use Rattle.std.proofs.Common.{
 }
 use Rattle.std.specs.Prelude.{nat_lt}
 use Rattle.std.specs.Str.{bytes_eq}
-use Rattle.std.proofs.lemmas.Bool.Decides.{nat_tests, Decides-eqb}
+use Rattle.std.proofs.lemmas.Bool.Decides.{nat_tests}
 use Rattle.std.proofs.lemmas.List.{length-replicate}
 use Rattle.std.proofs.lemmas.Nat.{pow_pos}
 use Rattle.std.proofs.lemmas.List.Elements.{All-head, All-tail, All-cons, All-replicate}
@@ -36,13 +36,13 @@ use Rattle.ygg_value.specs.Words.{word, apply_to, bit_of}
 use Rattle.ygg_value.specs.declared.operation.Op.TheVariants.{And}
 use Rattle.ygg_shape_cells.specs.ygg_rules.Views.{IsWidth}
 use Rattle.ygg_shape_cells.specs.ygg_rules.declared.rule.RuleKind.{RuleKind}
-use Rattle.ygg_shape_cells.specs.ygg_bank_proofs_Made.{made_grows, made_width}
-use Rattle.ygg_shape_cells.specs.ygg_bank_proofs_Meaning.{fits_fewer, made_gives}
+use Rattle.ygg_shape_cells.specs.ygg_bank_proofs_Made.{made_grows}
+use Rattle.ygg_shape_cells.specs.ygg_bank_proofs_Meaning.{fits_fewer}
 use Rattle.ygg_shape_cells.specs.ygg_bank_proofs_Widths.{wider, width_is}
 use Rattle.ygg_shape_cells.specs.ygg_bank.Makes.{pure}
 use Rattle.ygg_shape_cells.specs.ygg_bank.Making.{made}
-use Rattle.ygg_shape_cells.specs.ygg_bank.Nodes.{widths_of, node_width, HasWidth, CanMake, Extends}
-use Rattle.ygg_shape_cells.specs.ygg_bank.Values.{Inputs, Values, Fits, node_value}
+use Rattle.ygg_shape_cells.specs.ygg_bank.Nodes.{HasWidth, Extends}
+use Rattle.ygg_shape_cells.specs.ygg_bank.Values.{Inputs, Values, Fits}
 use Rattle.ygg_shape_cells.specs.ygg_bank.declared.node.Id.{Id}
 use Rattle.ygg_shape_cells.specs.ygg_bank.declared.node.Node.{Node}
 use Rattle.ygg_shape_cells.specs.ygg_bank.declared.node.Node.TheVariants.{Const, Bin}
@@ -53,14 +53,13 @@ use Rattle.ygg_shape_cells.specs.ygg_shape_words_proofs_Picks.{picked_is}
 use Rattle.ygg_shape_cells.specs.ygg_shape_words_proofs_Terms.{TermIs, holds, made_is, either, number_if, bit_is, and_digits}
 use Rattle.ygg_shape_cells.specs.ygg_shape_words.Picking.{picked}
 use Rattle.ygg_shape_cells.specs.ygg_shape_words.Same.{same_words}
-use Rattle.ygg_shape_cells.specs.ygg_shape_sums_proofs_Equates.{equated_words_is}
-use Rattle.ygg_shape_cells.specs.ygg_shape_sums_proofs_Keeps.{equated_words_grows}
-use Rattle.ygg_shape_cells.specs.ygg_shape_sums.Equates.{equated_words}
-use Rattle.ygg_shape_cells.specs.ygg_shape_words.Forms.{WordsAlike}
-use Rattle.ygg_shape.proofs.Grows.{merged_row_grows, compared_word_grows, compared_row_grows}
+use Rattle.ygg_shape_cells.specs.ygg_shape_rows_proofs_Equates.{equated_rows_is}
+use Rattle.ygg_shape_cells.specs.ygg_shape_rows_proofs_Keeps.{equated_rows_grows}
+use Rattle.ygg_shape_cells.specs.ygg_shape_rows.Equates.{equated_rows}
+use Rattle.ygg_shape.proofs.Grows.{merged_row_grows}
 use Rattle.ygg_shape_cells.proofs.Wider.{IsWide, all_wider, row_wider}
-use Rattle.ygg_shape.proofs.Words.{row_if, and_assoc}
-use Rattle.ygg_shape_cells.specs.Making.{merged_row, compared_word, compared_row, split_at, where_at, zeros}
+use Rattle.ygg_shape.proofs.Words.{row_if}
+use Rattle.ygg_shape_cells.specs.Making.{merged_row, compared_row, split_at, where_at, zeros}
 use Rattle.ygg_shape_cells.specs.Terms.{IsRow, numbers_of}
 
 module _ (inputs : Inputs) (v : Values) where
@@ -103,43 +102,26 @@ module _ (inputs : Inputs) (v : Values) (kinds : List RuleKind) where
             ∙ row_if (holds inputs v t) (v x.0).bits (v y.0).bits (numbers_of v xs) (numbers_of v ys);
       }
 
-  -- whether two words are equal, joined to what is known so far
-  pub compared_word_is : (s : Bool) (so_far a b : Id) (nodes : List Node) → HasWidth nodes so_far 1 → WordsAlike nodes a b → v so_far.0 ≡ word 1 (bit_of s) →
-      Fits inputs v (compared_word kinds so_far a b nodes).nodes →
-      TermIs inputs v (compared_word kinds so_far a b nodes).nodes 1 (word 1 (bit_of (s && ((v a.0).bits == (v b.0).bits))))
-      (compared_word kinds so_far a b nodes).value
-  compared_word_is s so_far a b nodes d p e h =
-      let o = equated_words kinds a b nodes in
-      let g = equated_words_grows kinds a b nodes in
-      let q = made kinds (Bin And so_far o.value) o.nodes in
-      let x = equated_words_is inputs v kinds a b nodes p (fits_fewer inputs v o.nodes q.nodes (made_grows kinds (Bin And so_far o.value) o.nodes) h) in
-      let c = wider nodes o.nodes so_far 1 g d in
-      let y = made_is inputs v kinds (Bin And so_far o.value) o.nodes (can_and o.nodes so_far o.value 1 c x.wide) h in
-      record {
-        wide = y.wide ∙ ap (λ z. Some z) (width_is o.nodes so_far 1 c);
-        is = y.is ∙ ap (λ z. apply_to And z (v o.value.0)) e ∙ ap (apply_to And (word 1 (bit_of s))) x.is ∙ and_digits s ((v a.0).bits == (v b.0).bits);
-      }
-
+  -- whether two rows are equal, joined to what is known so far
   pub compared_row_is : (n w : ℕ) (s : Bool) (so_far : Id) (xs ys : List Id) (nodes : List Node) → HasWidth nodes so_far 1 → IsRow nodes n w xs →
       IsRow nodes n w ys →
       v so_far.0 ≡ word 1 (bit_of s) → Fits inputs v (compared_row kinds so_far xs ys nodes).nodes →
       TermIs inputs v (compared_row kinds so_far xs ys nodes).nodes 1 (word 1 (bit_of (s && bytes_eq (numbers_of v xs) (numbers_of v ys))))
       (compared_row kinds so_far xs ys nodes).value
-  compared_row_is n w s so_far [] [] nodes d p q e h = record { wide = d; is = e ∙ ap (λ z. word 1 (bit_of z)) (and_true s) } where
-    and_true : (s : Bool) → s ≡ (s && true)
-    and_true true = refl
-    and_true false = refl
-  compared_row_is n w s so_far [] (y ∷ ys) nodes d p q e h = absurd (omega (arith, p.count, q.count))
-  compared_row_is n w s so_far (x ∷ xs) [] nodes d p q e h = absurd (omega (arith, p.count, q.count))
-  compared_row_is n w s so_far (x ∷ xs) (y ∷ ys) nodes d p q e h =
-      let o = compared_word kinds so_far x y nodes in
-      let g = compared_word_grows kinds so_far x y nodes in
-      let here = (v x.0).bits == (v y.0).bits in
-      let a = compared_word_is s so_far x y nodes d (record { width = w; one_has = row_head nodes n w x xs p; two_has = row_head nodes n w y ys q }) e
-      (fits_fewer inputs v o.nodes (compared_row kinds o.value xs ys o.nodes).nodes (compared_row_grows kinds o.value xs ys o.nodes) h) in
-      let r = compared_row_is (length xs) w (s && here) o.value xs ys o.nodes a.wide (row_tail nodes o.nodes n (length xs) w x xs g p refl)
-      (row_tail nodes o.nodes n (length xs) w y ys g q (omega (arith, p.count, q.count))) a.is h in
-      record { wide = r.wide; is = r.is ∙ ap (λ z. word 1 (bit_of z)) (and_assoc s here (bytes_eq (numbers_of v xs) (numbers_of v ys))) }
+  compared_row_is n w s so_far xs ys nodes d p q e h =
+      let o = equated_rows kinds xs ys nodes in
+      let g = equated_rows_grows kinds xs ys nodes in
+      let r = made kinds (Bin And so_far o.value) o.nodes in
+      let x = equated_rows_is inputs v kinds xs ys nodes
+      (record { width = w; count = p.count ∙ sym q.count; one_has = p.wide; two_has = q.wide })
+      (fits_fewer inputs v o.nodes r.nodes (made_grows kinds (Bin And so_far o.value) o.nodes) h) in
+      let c = wider nodes o.nodes so_far 1 g d in
+      let y = made_is inputs v kinds (Bin And so_far o.value) o.nodes (can_and o.nodes so_far o.value 1 c x.wide) h in
+      record {
+        wide = y.wide ∙ ap (λ z. Some z) (width_is o.nodes so_far 1 c);
+        is = y.is ∙ ap (λ z. apply_to And z (v o.value.0)) e ∙ ap (apply_to And (word 1 (bit_of s))) x.is
+            ∙ and_digits s (bytes_eq (numbers_of v xs) (numbers_of v ys));
+      }
 
   -- zeros
   numbers_replicate : (n : ℕ) (a : Id) → (v a.0).bits ≡ 0 → numbers_of v (replicate n a) ≡ replicate n 0

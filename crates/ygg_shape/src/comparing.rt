@@ -4,12 +4,11 @@ ghost use Rattle.std.specs.Prelude.{◌≡◌, IfOk, OnOk};
 ghost use Rattle.ygg_shape_cells.specs.ygg_bank.Inputs.{KeepsInputs};
 ghost use Rattle.ygg_shape_cells.specs.ygg_bank.Nodes.{Extends, HasWidth, IsBank};
 ghost use Rattle.ygg_shape_cells.specs.ygg_bank.Values.{KeepsValues};
-ghost use Rattle.ygg_shape_cells.specs.Making.{compared, compared_row, compared_rows, compared_word};
+ghost use Rattle.ygg_shape_cells.specs.Making.{compared, compared_row, compared_rows};
 ghost use Rattle.ygg_shape.specs.Meaning.{IsCompared};
-ghost use Rattle.ygg_shape_cells.specs.ygg_shape_words.Forms.{WordsAlike};
 ghost use Rattle.ygg_shape_cells.specs.Terms.{AreAlike, RowsAlike, TablesAlike};
 
-use ygg_shape_cells::{Bank, Book, Id, NoMemory, Node, SymRow, SymValue, equate};
+use ygg_shape_cells::{Bank, Book, Id, NoMemory, Node, SymRow, SymValue, equate, equate_rows};
 use ygg_value::{Op, Word};
 
 /// The term that is 1 where the two values are equal, and 0 where they aren't, in every environment. Its only error is out of memory,
@@ -106,30 +105,7 @@ fn compare_row<B: Book>(
     ensures grows { Extends bank.old bank.new }
     ensures bank { IsBank bank.new }
 {
-    let mut all = so_far;
-    for place in 0..one.len() {
-        all = compare_word(bank, book, all, one[place], two[place])?;
-    }
-    Ok(all)
-}
-
-/// Whether two words are equal, joined to what is known so far.
-fn compare_word<B: Book>(
-    bank: &mut Bank,
-    book: &B,
-    so_far: Id,
-    one: Id,
-    two: Id,
-) -> Result<Id, NoMemory>
-    requires so_far { HasWidth bank.old so_far 1 }
-    requires words { WordsAlike bank.old one two }
-    ensures nodes { OnOk result (bank.new ≡ (compared_word (B.kinds book.now) so_far one two bank.old).nodes) }
-    ensures form { IfOk result (λ id. id ≡ (compared_word (B.kinds book.now) so_far one two bank.old).value) }
-    ensures width { IfOk result (λ id. HasWidth bank.new id 1) }
-    ensures grows { Extends bank.old bank.new }
-    ensures bank { IsBank bank.new }
-{
-    let b = equate(bank, book, one, two)?;
+    let b = equate_rows(bank, book, one, two)?;
     let op = Op::And;
     bank.make(Node::Bin { op, a: so_far, b }, book)
 }

@@ -1,2 +1,2 @@
-pub use Rattle.ygg_shape_sums.proofs.of_ygg_bank
+pub use Rattle.ygg_shape_rows.proofs.of_ygg_bank
 pub mod Wider

@@ -1,18 +1,19 @@
 -- What merging, comparing, selecting and storing make in a bank, under a book of these kinds.
-use Rattle.std.specs.Prelude.{ℕ, ◌==◌, ◌^◌, nat_lt, if◌then◌else◌, Option, Some, None, List, ◌∷◌, replicate, slice_get, slice_set}
+use Rattle.std.specs.Prelude.{ℕ, ◌^◌, nat_lt, if◌then◌else◌, Option, Some, None, List, ◌∷◌, replicate, slice_get, slice_set}
 use Rattle.ygg_value.specs.Number.{Number}
 use Rattle.ygg_value.specs.Words.{word}
 use Rattle.ygg_value.specs.declared.operation.Op.TheVariants.{And}
-use Rattle.ygg_shape_sums.specs.ygg_rules.declared.rule.RuleKind.{RuleKind}
-use Rattle.ygg_shape_sums.specs.ygg_bank.Makes.{Make, pure, and_make}
-use Rattle.ygg_shape_sums.specs.ygg_bank.Making.{known_in, made}
-use Rattle.ygg_shape_sums.specs.ygg_bank.Nodes.{width_at, widths_of}
-use Rattle.ygg_shape_sums.specs.ygg_bank.declared.node.Id.{Id}
-use Rattle.ygg_shape_sums.specs.ygg_bank.declared.node.Node.{Node}
-use Rattle.ygg_shape_sums.specs.ygg_bank.declared.node.Node.TheVariants.{Const, Bin}
-use Rattle.ygg_shape_sums.specs.ygg_shape_words.Picking.{picked}
-use Rattle.ygg_shape_sums.specs.ygg_shape_words.Same.{same_words}
-use Rattle.ygg_shape_sums.specs.Equates.{equated_words}
+use Rattle.ygg_shape_rows.specs.ygg_rules.declared.rule.RuleKind.{RuleKind}
+use Rattle.ygg_shape_rows.specs.ygg_bank.Makes.{Make, pure, and_make}
+use Rattle.ygg_shape_rows.specs.ygg_bank.Making.{known_in, made}
+use Rattle.ygg_shape_rows.specs.ygg_bank.Nodes.{width_at, widths_of}
+use Rattle.ygg_shape_rows.specs.ygg_bank.declared.node.Id.{Id}
+use Rattle.ygg_shape_rows.specs.ygg_bank.declared.node.Node.{Node}
+use Rattle.ygg_shape_rows.specs.ygg_bank.declared.node.Node.TheVariants.{Const, Bin}
+use Rattle.ygg_shape_rows.specs.ygg_shape_words.Picking.{picked}
+use Rattle.ygg_shape_rows.specs.ygg_shape_words.Same.{same_words}
+use Rattle.ygg_shape_rows.specs.ygg_shape_sums.Equates.{equated_words}
+use Rattle.ygg_shape_rows.specs.Equates.{equated_rows}
 use Rattle.ygg_shape_cells.specs.Lists.{each_two, each_from, fold_two, fold_from}
 use Rattle.ygg_shape_cells.specs.Terms.{words_in}
 use Rattle.ygg_shape_cells.specs.declared.terms.SymValue.{SymValue}
@@ -33,13 +34,9 @@ merged kinds test (Row one) (Row two) = and_make (merged_row kinds test one two)
 merged kinds test (Table one) (Table two) = and_make (merged_rows kinds test one two) (λ table. pure (Table table))
 merged kinds test one two = pure one
 
--- whether two words are equal, joined to what is known so far
-abbrev pub compared_word : List RuleKind → Id → Id → Id → Make Id
-compared_word kinds so_far one two = and_make (equated_words kinds one two) (λ same. made kinds (Bin And so_far same))
-
--- whether two rows are equal, joined to what is known so far, word by word
+-- whether two rows are equal, joined to what is known so far
 abbrev pub compared_row : List RuleKind → Id → List Id → List Id → Make Id
-compared_row kinds = fold_two (compared_word kinds)
+compared_row kinds so_far one two = and_make (equated_rows kinds one two) (λ same. made kinds (Bin And so_far same))
 
 -- whether two tables are equal, joined to what is known so far, row by row
 abbrev pub compared_rows : List RuleKind → Id → List (List Id) → List (List Id) → Make Id

@@ -6,6 +6,6 @@ pub mod cells;
 pub mod terms;
 
 pub use terms::{SymRow, SymTable, SymValue, SymValues};
-pub use ygg_shape_sums::{
-    Bank, Book, Env, Given, Id, NoMemory, Node, equate, fits, known, pick, same,
+pub use ygg_shape_rows::{
+    Bank, Book, Env, Given, Id, NoMemory, Node, equate, equate_rows, fits, known, pick, same,
 };

@@ -33,7 +33,7 @@ use Rattle.ygg_shape_sums.specs.Gathers.{gathered_sum, split_of}
 use Rattle.ygg_shape_sums.specs.Equates.{Found, Step, split_as, vanishes_within, difference, are_sums, equated_words}
 use Rattle.ygg_shape_sums.specs.declared.equating.TheConstants.{EQUATE_LIMIT}
 use Rattle.ygg_shape_sums.specs.declared.gathering.TheConstants.{READ_LIMIT}
-use Rattle.ygg_shape_sums.specs.declared.parts.Part.{Part}
+use Rattle.ygg_shape_sums.specs.declared.parts.Summand.{Summand}
 use Rattle.ygg_shape_sums.specs.declared.reading.Fact.{Fact}
 use Rattle.ygg_shape_sums.specs.declared.reading.TheConstants.{LESS_ONE}
 
@@ -41,7 +41,7 @@ use Rattle.ygg_shape_sums.specs.declared.reading.TheConstants.{LESS_ONE}
 pub sum_fits : (nodes : List Node) (w : ℕ) (facts : List Fact) (s : Sum) → InOrder [] nodes → PartsFit nodes w s.parts →
     PartsFit nodes w (gathered_sum nodes facts s).parts
 sum_fits nodes w facts s o h =
-    gathered_fit nodes w READ_LIMIT facts s.parts (empty s.number) o h (All-nil (λ (p : Part). HasWidth nodes p.term w))
+    gathered_fit nodes w READ_LIMIT facts s.parts (empty s.number) o h (All-nil (λ (p : Summand). HasWidth nodes p.term w))
 
 pub difference_fits : (nodes : List Node) (w : ℕ) (a b : Id) → HasWidth nodes a w → HasWidth nodes b w → PartsFit nodes w (difference a b).parts
 difference_fits nodes w a b p q = two_fit nodes w (part 1 a) (part LESS_ONE b) p q

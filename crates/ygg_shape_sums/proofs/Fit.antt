@@ -17,10 +17,10 @@ use Rattle.ygg_shape_words.proofs.Children.{bin_alike, not_wide, pick_children}
 use Rattle.ygg_shape_sums.specs.Parts.{Sum, PartsFit, PartsAlike, part, merged, with_part}
 use Rattle.ygg_shape_sums.specs.Readings.{ReadingFits, FactsFit, read, read_bin, read_pick, decided, fact}
 use Rattle.ygg_shape_sums.specs.Gathers.{parts_of, counted, with_all, gathered, below, test_in, first_id, first_test, is_rich, split_of}
-use Rattle.ygg_shape_sums.specs.declared.parts.Part.{Part}
+use Rattle.ygg_shape_sums.specs.declared.parts.Summand.{Summand}
 use Rattle.ygg_shape_sums.specs.declared.reading.Fact.{Fact}
-use Rattle.ygg_shape_sums.specs.declared.reading.Reading.{Reading}
-use Rattle.ygg_shape_sums.specs.declared.reading.Reading.TheVariants as reading
+use Rattle.ygg_shape_sums.specs.declared.reading.Decomposition.{Decomposition}
+use Rattle.ygg_shape_sums.specs.declared.reading.Decomposition.TheVariants as reading
 
 -- the operands of an operation whose result is as wide
 pub operands : (nodes : List Node) (a x y : Id) (op : Op) (w : ℕ) → InOrder [] nodes → slice_get nodes a.0 ≡ Some (Bin op x y) → HasWidth nodes a w →
@@ -57,68 +57,69 @@ reading_fits nodes facts a w (Some (Pick t x y)) o e h =
 reading_fits nodes facts a w n o e h = tt
 
 module _ (nodes : List Node) (w : ℕ) where
-  abbrev Fit : Part → Type 0
+  abbrev Fit : Summand → Type 0
   Fit p = HasWidth nodes p.term w
 
-  pub one_fits : (p : Part) → HasWidth nodes p.term w → PartsFit nodes w (p ∷ [])
+  pub one_fits : (p : Summand) → HasWidth nodes p.term w → PartsFit nodes w (p ∷ [])
   one_fits p h = All-push Fit [] p (All-nil Fit) h
 
-  pub two_fit : (p q : Part) → HasWidth nodes p.term w → HasWidth nodes q.term w → PartsFit nodes w (p ∷ q ∷ [])
+  pub two_fit : (p q : Summand) → HasWidth nodes p.term w → HasWidth nodes q.term w → PartsFit nodes w (p ∷ q ∷ [])
   two_fit p q h i = All-push Fit (p ∷ []) q (one_fits p h) i
 
-  front : (p : Part) (ps : List Part) → HasWidth nodes p.term w → PartsFit nodes w ps → PartsFit nodes w (p ∷ ps)
+  front : (p : Summand) (ps : List Summand) → HasWidth nodes p.term w → PartsFit nodes w ps → PartsFit nodes w (p ∷ ps)
   front p ps h i = All-append Fit (p ∷ []) ps (one_fits p h) i
 
-  pub parts_of_fit : (p : Part) (r : Reading) → ReadingFits nodes w r → PartsFit nodes w (parts_of p r)
+  pub parts_of_fit : (p : Summand) (r : Decomposition) → ReadingFits nodes w r → PartsFit nodes w (parts_of p r)
   parts_of_fit p (reading.Times m x n) h = one_fits (part ((p.times * m) % 2 ^ 64) x) h
   parts_of_fit p (reading.Both x m y) h = two_fit (part p.times x) (part ((p.times * m) % 2 ^ 64) y) h.0 h.1
   parts_of_fit p r h = All-nil Fit
 
-  pub listed_fit : (facts : List Fact) (p : Part) (ps : List Part) → InOrder [] nodes → PartsFit nodes w (p ∷ ps) →
+  pub listed_fit : (facts : List Fact) (p : Summand) (ps : List Summand) → InOrder [] nodes → PartsFit nodes w (p ∷ ps) →
       PartsFit nodes w (ps ++ parts_of p (read nodes facts (slice_get nodes p.term.0)))
   listed_fit facts p ps o h =
       let r = read nodes facts (slice_get nodes p.term.0) in
       All-append Fit ps (parts_of p r) (All-tail Fit p ps h)
       (parts_of_fit p r (reading_fits nodes facts p.term w (slice_get nodes p.term.0) o refl (All-head Fit p ps h)))
 
-  below_case : (p : Part) (x y : Id) (c : Bool) → HasWidth nodes x w → HasWidth nodes y w →
+  below_case : (p : Summand) (x y : Id) (c : Bool) → HasWidth nodes x w → HasWidth nodes y w →
       PartsFit nodes w (if c then [] else part p.times x ∷ part p.times y ∷ [])
   below_case p x y true h i = All-nil Fit
   below_case p x y false h i = two_fit (part p.times x) (part p.times y) h i
 
-  below_fit : (p : Part) (n : Option Node) → InOrder [] nodes → slice_get nodes p.term.0 ≡ n → HasWidth nodes p.term w → PartsFit nodes w (below p n)
+  below_fit : (p : Summand) (n : Option Node) → InOrder [] nodes → slice_get nodes p.term.0 ≡ n → HasWidth nodes p.term w → PartsFit nodes w (below p n)
   below_fit p (Some (Pick t x y)) o e h = let c = pick_children nodes p.term t x y w o e h in below_case p x y (p.times == 0) c.first c.second
   below_fit p n o e h = All-nil Fit
 
-  pub looked_fit : (p : Part) (ps : List Part) → InOrder [] nodes → PartsFit nodes w (p ∷ ps) → PartsFit nodes w (ps ++ below p (slice_get nodes p.term.0))
+  pub looked_fit : (p : Summand) (ps : List Summand) → InOrder [] nodes → PartsFit nodes w (p ∷ ps) →
+      PartsFit nodes w (ps ++ below p (slice_get nodes p.term.0))
   looked_fit p ps o h =
       let b = below p (slice_get nodes p.term.0) in
       All-append Fit ps b (All-tail Fit p ps h) (below_fit p (slice_get nodes p.term.0) o refl (All-head Fit p ps h))
 
-  merged_case : (p q : Part) (qs rest : List Part) (c d : Bool) → HasWidth nodes p.term w → HasWidth nodes q.term w → PartsFit nodes w qs →
+  merged_case : (p q : Summand) (qs rest : List Summand) (c d : Bool) → HasWidth nodes p.term w → HasWidth nodes q.term w → PartsFit nodes w qs →
       PartsFit nodes w rest →
       PartsFit nodes w (if c then part ((q.times + p.times) % 2 ^ 64) q.term ∷ qs else if d then p ∷ q ∷ qs else q ∷ rest)
   merged_case p q qs rest true d k h i j = front (part ((q.times + p.times) % 2 ^ 64) q.term) qs h i
   merged_case p q qs rest false true k h i j = front p (q ∷ qs) k (front q qs h i)
   merged_case p q qs rest false false k h i j = front q rest h j
 
-  pub merged_fit : (p : Part) (ps : List Part) → HasWidth nodes p.term w → PartsFit nodes w ps → PartsFit nodes w (merged p ps)
+  pub merged_fit : (p : Summand) (ps : List Summand) → HasWidth nodes p.term w → PartsFit nodes w ps → PartsFit nodes w (merged p ps)
   merged_fit p [] h i = one_fits p h
   merged_fit p (q ∷ qs) h i =
       let t = All-tail Fit q qs i in merged_case p q qs (merged p qs) (q.term.0 == p.term.0) (nat_lt p.term.0 q.term.0) h
       (All-head Fit q qs i) t (merged_fit p qs h t)
 
-  counted_fit : (p : Part) (r : Reading) (s : Sum) → HasWidth nodes p.term w → PartsFit nodes w s.parts → PartsFit nodes w (counted p r s).parts
+  counted_fit : (p : Summand) (r : Decomposition) (s : Sum) → HasWidth nodes p.term w → PartsFit nodes w s.parts → PartsFit nodes w (counted p r s).parts
   counted_fit p reading.Whole s h i = merged_fit p s.parts h i
   counted_fit p (reading.Number n) s h i = i
   counted_fit p (reading.Times m x n) s h i = i
   counted_fit p (reading.Both x m y) s h i = i
 
-  with_all_fit : (ps : List Part) (s : Sum) → PartsFit nodes w ps → PartsFit nodes w s.parts → PartsFit nodes w (with_all ps s).parts
+  with_all_fit : (ps : List Summand) (s : Sum) → PartsFit nodes w ps → PartsFit nodes w s.parts → PartsFit nodes w (with_all ps s).parts
   with_all_fit [] s h i = i
   with_all_fit (p ∷ ps) s h i = with_all_fit ps (with_part p s) (All-tail Fit p ps h) (merged_fit p s.parts (All-head Fit p ps h) i)
 
-  pub gathered_fit : (fuel : ℕ) (facts : List Fact) (ps : List Part) (s : Sum) → InOrder [] nodes → PartsFit nodes w ps → PartsFit nodes w s.parts →
+  pub gathered_fit : (fuel : ℕ) (facts : List Fact) (ps : List Summand) (s : Sum) → InOrder [] nodes → PartsFit nodes w ps → PartsFit nodes w s.parts →
       PartsFit nodes w (gathered fuel nodes facts ps s).parts
   unfolding gathered
   gathered_fit zero facts ps s o h i = with_all_fit ps s h i
@@ -132,7 +133,7 @@ module _ (nodes : List Node) (w : ℕ) where
   DigitIn None = Unit {0}
   DigitIn (Some t) = HasWidth nodes t 1
 
-  test_digit : (p : Part) (n : Option Node) → InOrder [] nodes → slice_get nodes p.term.0 ≡ n → HasWidth nodes p.term w → DigitIn (test_in n)
+  test_digit : (p : Summand) (n : Option Node) → InOrder [] nodes → slice_get nodes p.term.0 ≡ n → HasWidth nodes p.term w → DigitIn (test_in n)
   test_digit p (Some (Pick t x y)) o e h = let c = pick_children nodes p.term t x y w o e h in c.test
   test_digit p n o e h = tt
 
@@ -141,7 +142,7 @@ module _ (nodes : List Node) (w : ℕ) where
   either_digit (Some t) n false h i = h
   either_digit None n false h i = i
 
-  first_digit : (ps : List Part) → InOrder [] nodes → PartsFit nodes w ps → DigitIn (first_test nodes ps)
+  first_digit : (ps : List Summand) → InOrder [] nodes → PartsFit nodes w ps → DigitIn (first_test nodes ps)
   first_digit [] o h = tt
   first_digit (p ∷ ps) o h =
       either_digit (test_in (slice_get nodes p.term.0)) (first_test nodes ps) (p.times == 0)
@@ -152,17 +153,17 @@ module _ (nodes : List Node) (w : ℕ) where
   split_case n false true h = h
   split_case n false false h = tt
 
-  pub split_digit : (left : ℕ) (ps : List Part) (t : Id) → InOrder [] nodes → PartsFit nodes w ps → split_of nodes left ps ≡ Some t → HasWidth nodes t 1
+  pub split_digit : (left : ℕ) (ps : List Summand) (t : Id) → InOrder [] nodes → PartsFit nodes w ps → split_of nodes left ps ≡ Some t → HasWidth nodes t 1
   split_digit left ps t o h e = digit_at (split_of nodes left ps) e (split_case (first_test nodes ps) (left == 0) (is_rich nodes ps) (first_digit ps o h)) where
     digit_at : (n : Option Id) → n ≡ Some t → DigitIn n → HasWidth nodes t 1
     digit_at (Some u) e d = let f : u ≡ t = cc in ap (λ (z : Id). slice_get (widths_of nodes) z.0) (sym f) ∙ d
     digit_at None e d = absurd (cc)
 
-pub part_stands : (nodes : List Node) (ps : List Part) (i : ℕ) (d : Part) → PartsAlike nodes ps → i < length ps → Stands nodes (get_or ps i d).term
-part_stands nodes ps i d h l = stands nodes (get_or ps i d).term h.width (All-get_or (λ (p : Part). HasWidth nodes p.term h.width) ps i d l h.fit)
+pub part_stands : (nodes : List Node) (ps : List Summand) (i : ℕ) (d : Summand) → PartsAlike nodes ps → i < length ps → Stands nodes (get_or ps i d).term
+part_stands nodes ps i d h l = stands nodes (get_or ps i d).term h.width (All-get_or (λ (p : Summand). HasWidth nodes p.term h.width) ps i d l h.fit)
 
-pub part_at : (nodes : List Node) (ps : List Part) (i : ℕ) (p : Part) → p ≡ get_or ps i p → PartsAlike nodes ps → i < length ps → Stands nodes p.term
-part_at nodes ps i p e h l = subst (λ (q : Part). Stands nodes q.term) (sym e) (part_stands nodes ps i p h l)
+pub part_at : (nodes : List Node) (ps : List Summand) (i : ℕ) (p : Summand) → p ≡ get_or ps i p → PartsAlike nodes ps → i < length ps → Stands nodes p.term
+part_at nodes ps i p e h l = subst (λ (q : Summand). Stands nodes q.term) (sym e) (part_stands nodes ps i p h l)
 
 pub fact_stands : (nodes : List Node) (fs : List Fact) (i : ℕ) (d : Fact) → FactsFit nodes fs → i < length fs → Stands nodes (get_or fs i d).test
 fact_stands nodes fs i d h l = stands nodes (get_or fs i d).test 1 (All-get_or (λ (f : Fact). HasWidth nodes f.test 1) fs i d l h)
@@ -172,11 +173,11 @@ test_stands nodes a t x y o h e =
     let c = pick_children nodes a t x y (width_at (widths_of nodes) a) o e (has_width nodes a h) in stands nodes t 1 c.test
 
 -- the list that is read on
-pub listed_alike : (nodes : List Node) (facts : List Fact) (ps longer : List Part) (i : ℕ) (p : Part) → InOrder [] nodes → PartsAlike nodes ps → i < length ps →
-    p ≡ get_or ps i p → longer ≡ ps ++ parts_of p (read nodes facts (slice_get nodes p.term.0)) → PartsAlike nodes longer
+pub listed_alike : (nodes : List Node) (facts : List Fact) (ps longer : List Summand) (i : ℕ) (p : Summand) → InOrder [] nodes → PartsAlike nodes ps →
+    i < length ps → p ≡ get_or ps i p → longer ≡ ps ++ parts_of p (read nodes facts (slice_get nodes p.term.0)) → PartsAlike nodes longer
 listed_alike nodes facts ps longer i p o h l e g =
     let w = h.width in
-    let P = λ (p : Part). HasWidth nodes p.term w in
+    let P = λ (p : Summand). HasWidth nodes p.term w in
     let own : HasWidth nodes p.term w = subst P (sym e) (All-get_or P ps i p l h.fit) in
     let r = read nodes facts (slice_get nodes p.term.0) in
     record {
@@ -185,11 +186,11 @@ listed_alike nodes facts ps longer i p o h l e g =
           (parts_of_fit nodes w p r (reading_fits nodes facts p.term w (slice_get nodes p.term.0) o refl own)));
     }
 
-pub looked_alike : (nodes : List Node) (ps longer : List Part) (i : ℕ) (p : Part) → InOrder [] nodes → PartsAlike nodes ps → i < length ps →
-    p ≡ get_or ps i p → longer ≡ ps ++ below p (slice_get nodes p.term.0) → PartsAlike nodes longer
+pub looked_alike : (nodes : List Node) (ps longer : List Summand) (i : ℕ) (p : Summand) → InOrder [] nodes → PartsAlike nodes ps →
+    i < length ps → p ≡ get_or ps i p → longer ≡ ps ++ below p (slice_get nodes p.term.0) → PartsAlike nodes longer
 looked_alike nodes ps longer i p o h l e g =
     let w = h.width in
-    let P = λ (p : Part). HasWidth nodes p.term w in
+    let P = λ (p : Summand). HasWidth nodes p.term w in
     let own : HasWidth nodes p.term w = subst P (sym e) (All-get_or P ps i p l h.fit) in
     record {
       width = w;
@@ -197,11 +198,11 @@ looked_alike nodes ps longer i p o h l e g =
           (below_fit nodes w p (slice_get nodes p.term.0) o refl own));
     }
 
-pub longer_by : (ps qs longer : List Part) (i : ℕ) → i < length ps → longer ≡ ps ++ qs → i + 1 ≤ length longer
+pub longer_by : (ps qs longer : List Summand) (i : ℕ) → i < length ps → longer ≡ ps ++ qs → i + 1 ≤ length longer
 longer_by ps qs longer i l e = let f : length longer ≡ length ps + length qs = ap (λ z. length z) e ∙ length-append ps qs in omega arith
 
-pub parts_wider : (old new : List Node) (w : ℕ) (ps : List Part) → Extends old new → PartsFit old w ps → PartsFit new w ps
-parts_wider old new w ps g h = All-weaker (λ (p : Part). HasWidth old p.term w) (λ (p : Part). HasWidth new p.term w) (λ p. wider old new p.term w g) ps h
+pub parts_wider : (old new : List Node) (w : ℕ) (ps : List Summand) → Extends old new → PartsFit old w ps → PartsFit new w ps
+parts_wider old new w ps g h = All-weaker (λ (p : Summand). HasWidth old p.term w) (λ (p : Summand). HasWidth new p.term w) (λ p. wider old new p.term w g) ps h
 
 pub facts_wider : (old new : List Node) (fs : List Fact) → Extends old new → FactsFit old fs → FactsFit new fs
 facts_wider old new fs g h = All-weaker (λ (f : Fact). HasWidth old f.test 1) (λ (f : Fact). HasWidth new f.test 1) (λ f. wider old new f.test 1 g) fs h

@@ -18,7 +18,7 @@ use Rattle.ygg_shape_sums.specs.Gathers.{gathered_sum, split_of}
 use Rattle.ygg_shape_sums.specs.Sides.{share, more, all_more, side, vanishes}
 use Rattle.ygg_shape_sums.specs.Equates.{Step, split_as, vanishes_within, difference, are_sums, equated_words}
 use Rattle.ygg_shape_sums.specs.declared.equating.TheConstants.{EQUATE_LIMIT}
-use Rattle.ygg_shape_sums.specs.declared.parts.Part.{Part}
+use Rattle.ygg_shape_sums.specs.declared.parts.Summand.{Summand}
 use Rattle.ygg_shape_sums.specs.declared.reading.Fact.{Fact}
 
 -- a step after which what held still holds
@@ -40,7 +40,7 @@ module _ (kinds : List RuleKind) (P : List Node → Type 0) (stays : Stays kinds
       let m = made kinds (Bin Mul x k.value) k.nodes in
       stays (Bin Add a m.value) m.nodes tt (stays (Bin Mul x k.value) k.nodes tt (stays (Const (word w n)) nodes tt p)))) nodes p
 
-  all_more_keeps : (w : ℕ) (second : Bool) (ps : List Part) (a : Id) (nodes : List Node) → P nodes → P (all_more kinds w second ps a nodes).nodes
+  all_more_keeps : (w : ℕ) (second : Bool) (ps : List Summand) (a : Id) (nodes : List Node) → P nodes → P (all_more kinds w second ps a nodes).nodes
   all_more_keeps w second [] a nodes p = p
   all_more_keeps w second (q ∷ ps) a nodes p =
       let o = more kinds w (share w second q.times) q.term a nodes in
@@ -98,7 +98,7 @@ module _ (kinds : List RuleKind) where
   pub more_grows : (w n : ℕ) (x a : Id) (nodes : List Node) → Extends nodes (more kinds w n x a nodes).nodes
   more_grows w n x a nodes = more_keeps kinds (Extends nodes) (only nodes) w n x a nodes (extends_self nodes)
 
-  pub all_more_grows : (w : ℕ) (second : Bool) (ps : List Part) (a : Id) (nodes : List Node) → Extends nodes (all_more kinds w second ps a nodes).nodes
+  pub all_more_grows : (w : ℕ) (second : Bool) (ps : List Summand) (a : Id) (nodes : List Node) → Extends nodes (all_more kinds w second ps a nodes).nodes
   all_more_grows w second ps a nodes = all_more_keeps kinds (Extends nodes) (only nodes) w second ps a nodes (extends_self nodes)
 
   pub side_grows : (w : ℕ) (second : Bool) (s : Sum) (nodes : List Node) → Extends nodes (side kinds w second s nodes).nodes

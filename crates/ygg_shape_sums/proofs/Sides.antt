@@ -32,7 +32,7 @@ use Rattle.ygg_shape_sums.proofs.Modulo.{Like, like, like_back, like_both, like_
 use Rattle.ygg_shape_sums.proofs.Worth.{bits, amount, worth}
 use Rattle.ygg_shape_sums.specs.Parts.{Sum, PartsFit}
 use Rattle.ygg_shape_sums.specs.Sides.{opposite, share, more, all_more, side, vanishes}
-use Rattle.ygg_shape_sums.specs.declared.parts.Part.{Part}
+use Rattle.ygg_shape_sums.specs.declared.parts.Summand.{Summand}
 use Rattle.ygg_shape_sums.specs.declared.reading.TheConstants.{LESS_ONE}
 
 -- a share has the width's digits
@@ -172,11 +172,11 @@ module _ (inputs : Inputs) (v : Values) (w : ℕ) (wide : IsWidth w) (kinds : Li
   more_case n x a nodes false false e g l p q h = many_is n x a nodes l p q h
 
   -- what stands on a side
-  abbrev on_side : Bool → List Part → ℕ
+  abbrev on_side : Bool → List Summand → ℕ
   on_side second [] = 0
   on_side second (p ∷ ps) = share w second p.times * bits inputs v p.term + on_side second ps
 
-  all_more_is : (second : Bool) (ps : List Part) (a : Id) (nodes : List Node) → PartsFit nodes w ps → HasWidth nodes a w →
+  all_more_is : (second : Bool) (ps : List Summand) (a : Id) (nodes : List Node) → PartsFit nodes w ps → HasWidth nodes a w →
       Fits inputs v (all_more kinds w second ps a nodes).nodes →
       Gives (all_more kinds w second ps a nodes).nodes (bits inputs v a + on_side second ps) (all_more kinds w second ps a nodes).value
   all_more_is second [] a nodes f q h =
@@ -184,7 +184,7 @@ module _ (inputs : Inputs) (v : Values) (w : ℕ) (wide : IsWidth w) (kinds : Li
         right : (a : ℕ) → a ≡ a + 0
         right a = omega arith
   all_more_is second (p ∷ ps) a nodes f q h =
-      let P = λ (p : Part). HasWidth nodes p.term w in
+      let P = λ (p : Summand). HasWidth nodes p.term w in
       let n = share w second p.times in
       let o = more kinds w n p.term a nodes in
       let g = more_grows kinds w n p.term a nodes in
@@ -234,7 +234,7 @@ module _ (inputs : Inputs) (v : Values) (w : ℕ) (wide : IsWidth w) (kinds : Li
         left a = omega arith
 
   -- a sum and its second side make its first side
-  parts_balance : (ps : List Part) → Like (2 ^ w) (amount inputs v ps + on_side true ps) (on_side false ps)
+  parts_balance : (ps : List Summand) → Like (2 ^ w) (amount inputs v ps + on_side true ps) (on_side false ps)
   parts_balance [] = like (2 ^ w) (0 + 0) 0 refl
   parts_balance (p ∷ ps) =
       let m = 2 ^ w in

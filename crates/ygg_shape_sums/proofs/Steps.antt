@@ -14,7 +14,7 @@ use Rattle.ygg_shape_sums.specs.Readings.{read, fact}
 use Rattle.ygg_shape_sums.specs.Gathers.{parts_of, counted, with_all, gathered, gathered_sum, below, is_sum, has_sum, split_of}
 use Rattle.ygg_shape_sums.specs.Sides.{share, more, all_more, vanishes}
 use Rattle.ygg_shape_sums.specs.Equates.{Found, IsFound, found, split_as, vanishes_within}
-use Rattle.ygg_shape_sums.specs.declared.parts.Part.{Part}
+use Rattle.ygg_shape_sums.specs.declared.parts.Summand.{Summand}
 use Rattle.ygg_shape_sums.specs.declared.reading.Fact.{Fact}
 
 -- the item at a place, and those after it
@@ -22,7 +22,7 @@ pub rest_is : {X : Type 0} (xs : List X) (i : ℕ) (x d : X) → i < length xs �
 rest_is xs i x d l e = drop_more xs i d l ∙ ap (λ z. z ∷ drop (i + 1) xs) (sym e)
 
 -- what is left to be read, and what it makes
-pub gathered_goes : (fuel left : ℕ) (nodes : List Node) (facts : List Fact) (todo longer : List Part) (i : ℕ) (p d : Part) (s t : Sum) → 0 < fuel →
+pub gathered_goes : (fuel left : ℕ) (nodes : List Node) (facts : List Fact) (todo longer : List Summand) (i : ℕ) (p d : Summand) (s t : Sum) → 0 < fuel →
     left ≡ fuel - 1 → i < length todo → p ≡ get_or todo i d → longer ≡ todo ++ parts_of p (read nodes facts (slice_get nodes p.term.0)) →
     t ≡ counted p (read nodes facts (slice_get nodes p.term.0)) s →
     gathered left nodes facts (drop (i + 1) longer) t ≡ gathered fuel nodes facts (drop i todo) s
@@ -37,19 +37,19 @@ gathered_goes (suc fuel) left nodes facts todo longer i p d s t k e l g h j =
     ∙ ap (λ z. gathered fuel nodes facts z (counted p r s)) (drop-append-le (i + 1) todo (parts_of p r) (omega arith))
     ∙ ap (λ z. gathered (suc fuel) nodes facts z s) (sym (rest_is todo i p d l g))
 
-pub gathered_done : (fuel : ℕ) (nodes : List Node) (facts : List Fact) (todo : List Part) (i : ℕ) (s : Sum) → 0 < fuel → length todo ≤ i →
+pub gathered_done : (fuel : ℕ) (nodes : List Node) (facts : List Fact) (todo : List Summand) (i : ℕ) (s : Sum) → 0 < fuel → length todo ≤ i →
     gathered fuel nodes facts (drop i todo) s ≡ s
 unfolding gathered
 gathered_done zero nodes facts todo i s k l = absurd (omega arith)
 gathered_done (suc fuel) nodes facts todo i s k l = ap (λ z. gathered (suc fuel) nodes facts z s) (drop_all i todo l)
 
-pub gathered_spent : (fuel : ℕ) (nodes : List Node) (facts : List Fact) (ps : List Part) (s : Sum) → fuel ≡ 0 →
+pub gathered_spent : (fuel : ℕ) (nodes : List Node) (facts : List Fact) (ps : List Summand) (s : Sum) → fuel ≡ 0 →
     gathered fuel nodes facts ps s ≡ with_all ps s
 unfolding gathered
 gathered_spent zero nodes facts ps s e = refl
 gathered_spent (suc fuel) nodes facts ps s e = absurd (omega arith)
 
-pub looked_goes : (fuel left : ℕ) (nodes : List Node) (todo longer : List Part) (i : ℕ) (p d : Part) → 0 < fuel → left ≡ fuel - 1 → i < length todo →
+pub looked_goes : (fuel left : ℕ) (nodes : List Node) (todo longer : List Summand) (i : ℕ) (p d : Summand) → 0 < fuel → left ≡ fuel - 1 → i < length todo →
     p ≡ get_or todo i d → is_sum (read nodes [] (slice_get nodes p.term.0)) ≡ false → longer ≡ todo ++ below p (slice_get nodes p.term.0) →
     has_sum left nodes (drop (i + 1) longer) ≡ has_sum fuel nodes (drop i todo)
 unfolding has_sum
@@ -63,7 +63,7 @@ looked_goes (suc fuel) left nodes todo longer i p d k e l g n h =
     ∙ ap (λ c. if c then true else has_sum fuel nodes (drop (i + 1) todo ++ b)) (sym n)
     ∙ ap (λ z. has_sum (suc fuel) nodes z) (sym (rest_is todo i p d l g))
 
-pub looked_there : (fuel : ℕ) (nodes : List Node) (todo : List Part) (i : ℕ) (p d : Part) → 0 < fuel → i < length todo → p ≡ get_or todo i d →
+pub looked_there : (fuel : ℕ) (nodes : List Node) (todo : List Summand) (i : ℕ) (p d : Summand) → 0 < fuel → i < length todo → p ≡ get_or todo i d →
     is_sum (read nodes [] (slice_get nodes p.term.0)) ≡ true → true ≡ has_sum fuel nodes (drop i todo)
 unfolding has_sum
 looked_there zero nodes todo i p d k l g n = absurd (omega arith)
@@ -71,12 +71,12 @@ looked_there (suc fuel) nodes todo i p d k l g n =
     ap (λ c. if c then true else has_sum fuel nodes (drop (i + 1) todo ++ below p (slice_get nodes p.term.0))) (sym n)
     ∙ ap (λ z. has_sum (suc fuel) nodes z) (sym (rest_is todo i p d l g))
 
-pub looked_done : (fuel : ℕ) (nodes : List Node) (todo : List Part) (i : ℕ) → length todo ≤ i → false ≡ has_sum fuel nodes (drop i todo)
+pub looked_done : (fuel : ℕ) (nodes : List Node) (todo : List Summand) (i : ℕ) → length todo ≤ i → false ≡ has_sum fuel nodes (drop i todo)
 unfolding has_sum
 looked_done zero nodes todo i l = refl
 looked_done (suc fuel) nodes todo i l = ap (λ z. has_sum (suc fuel) nodes z) (sym (drop_all i todo l))
 
-pub looked_spent : (fuel : ℕ) (nodes : List Node) (ps : List Part) → fuel ≡ 0 → false ≡ has_sum fuel nodes ps
+pub looked_spent : (fuel : ℕ) (nodes : List Node) (ps : List Summand) → fuel ≡ 0 → false ≡ has_sum fuel nodes ps
 unfolding has_sum
 looked_spent zero nodes ps e = refl
 looked_spent (suc fuel) nodes ps e = absurd (omega arith)
@@ -143,13 +143,13 @@ module _ (kinds : List RuleKind) where
       record { nodes = ap (λ (o : Out Found). o.nodes) whole; value = ap (λ (o : Out Found). o.value) whole }
 
 -- what the terms of a side have made so far, and what the rest will make
-pub record AllMore (kinds : List RuleKind) (w : ℕ) (second : Bool) (ps : List Part) (first : Id) (old : List Node) (i : ℕ) (so_far : Id) (now : List Node) :
+pub record AllMore (kinds : List RuleKind) (w : ℕ) (second : Bool) (ps : List Summand) (first : Id) (old : List Node) (i : ℕ) (so_far : Id) (now : List Node) :
     Type 0 where
   pub value : (all_more kinds w second (drop i ps) so_far now).value ≡ (all_more kinds w second ps first old).value
   pub nodes : (all_more kinds w second (drop i ps) so_far now).nodes ≡ (all_more kinds w second ps first old).nodes
 
-pub all_more_goes : (kinds : List RuleKind) (w : ℕ) (second : Bool) (ps : List Part) (first : Id) (old : List Node) (i : ℕ) (so_far : Id) (now : List Node)
-    (p d : Part) (n : ℕ) (a : Id) (next : List Node) → i < length ps → p ≡ get_or ps i d → n ≡ share w second p.times →
+pub all_more_goes : (kinds : List RuleKind) (w : ℕ) (second : Bool) (ps : List Summand) (first : Id) (old : List Node) (i : ℕ) (so_far : Id) (now : List Node)
+    (p d : Summand) (n : ℕ) (a : Id) (next : List Node) → i < length ps → p ≡ get_or ps i d → n ≡ share w second p.times →
     next ≡ (more kinds w n p.term so_far now).nodes → a ≡ (more kinds w n p.term so_far now).value →
     AllMore kinds w second ps first old i so_far now → AllMore kinds w second ps first old (i + 1) a next
 all_more_goes kinds w second ps first old i so_far now p d n a next l e s g h r =
@@ -160,7 +160,7 @@ all_more_goes kinds w second ps first old i so_far now p d n a next l e s g h r 
     ∙ ap (λ z. all_more kinds w second z so_far now) (sym (rest_is ps i p d l e)) in
     record { value = ap (λ (o : Out Id). o.value) whole ∙ r.value; nodes = ap (λ (o : Out Id). o.nodes) whole ∙ r.nodes }
 
-pub all_more_done : (kinds : List RuleKind) (w : ℕ) (second : Bool) (ps : List Part) (first : Id) (old : List Node) (i : ℕ) (so_far : Id) (now : List Node) →
+pub all_more_done : (kinds : List RuleKind) (w : ℕ) (second : Bool) (ps : List Summand) (first : Id) (old : List Node) (i : ℕ) (so_far : Id) (now : List Node) →
     length ps ≤ i → AllMore kinds w second ps first old i so_far now → AllMore kinds w second ps first old (length ps) so_far now
 all_more_done kinds w second ps first old i so_far now l r =
     let d : drop (length ps) ps ≡ drop i ps = drop_all (length ps) ps (omega arith) ∙ sym (drop_all i ps l) in
@@ -179,7 +179,7 @@ taken : {X : Type 0} (xs : List X) (i : ℕ) (x d : X) → i < length xs → x �
 taken xs i x d l e = take_more xs i d l ∙ ap (λ z. take i xs ++ z ∷ []) (sym e)
 
 -- what is merged at a place, where the parts before it are other terms of lower places
-module _ (p q d : Part) (ps : List Part) (i : ℕ) (l : i < length ps) (e : q ≡ get_or ps i d) (h : merged p ps ≡ take i ps ++ merged p (drop i ps)) where
+module _ (p q d : Summand) (ps : List Summand) (i : ℕ) (l : i < length ps) (e : q ≡ get_or ps i d) (h : merged p ps ≡ take i ps ++ merged p (drop i ps)) where
   merged_here : merged p ps ≡ take i ps ++ (if q.term.0 == p.term.0 then part ((q.times + p.times) % 2 ^ 64) q.term ∷ drop (i + 1) ps
       else if nat_lt p.term.0 q.term.0 then p ∷ q ∷ drop (i + 1) ps else q ∷ merged p (drop (i + 1) ps))
   merged_here = h ∙ ap (λ z. take i ps ++ merged p z) (rest_is ps i q d l e)
@@ -205,7 +205,7 @@ module _ (p q d : Part) (ps : List Part) (i : ℕ) (l : i < length ps) (e : q �
       by_tests false false f g ∙ sym (append_assoc (take i ps) (q ∷ []) (merged p (drop (i + 1) ps)))
       ∙ ap (λ z. z ++ merged p (drop (i + 1) ps)) (sym (taken ps i q d l e))
 
-pub merged_end : (p : Part) (ps : List Part) (i : ℕ) → length ps ≤ i → merged p ps ≡ take i ps ++ merged p (drop i ps) → merged p ps ≡ ps ++ p ∷ []
+pub merged_end : (p : Summand) (ps : List Summand) (i : ℕ) → length ps ≤ i → merged p ps ≡ take i ps ++ merged p (drop i ps) → merged p ps ≡ ps ++ p ∷ []
 merged_end p ps i l h = h ∙ ap (λ z. take i ps ++ merged p z) (drop_all i ps l) ∙ ap (λ z. z ++ p ∷ []) (take_all i ps l)
 
 -- all items from a place on

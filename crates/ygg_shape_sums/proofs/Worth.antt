@@ -24,10 +24,10 @@ use Rattle.ygg_shape_sums.specs.Parts.{Sum, PartsFit, part, empty, merged, with_
 use Rattle.ygg_shape_sums.specs.Readings.{read, read_bin, read_pick, decided, said, first_of, excluded, differ}
 use Rattle.ygg_shape_sums.specs.Gathers.{parts_of, counted, with_all, gathered, gathered_sum}
 use Rattle.ygg_shape_sums.specs.declared.gathering.TheConstants.{READ_LIMIT}
-use Rattle.ygg_shape_sums.specs.declared.parts.Part.{Part}
+use Rattle.ygg_shape_sums.specs.declared.parts.Summand.{Summand}
 use Rattle.ygg_shape_sums.specs.declared.reading.Fact.{Fact}
-use Rattle.ygg_shape_sums.specs.declared.reading.Reading.{Reading}
-use Rattle.ygg_shape_sums.specs.declared.reading.Reading.TheVariants as reading
+use Rattle.ygg_shape_sums.specs.declared.reading.Decomposition.{Decomposition}
+use Rattle.ygg_shape_sums.specs.declared.reading.Decomposition.TheVariants as reading
 use Rattle.ygg_shape_sums.specs.declared.reading.TheConstants.{LESS_ONE}
 
 swapped : (a b c : ℕ) → a + (b + c) ≡ b + (a + c)
@@ -56,7 +56,7 @@ module _ (inputs : Inputs) (v : Values) where
   bits a = (v a.0).bits
 
   -- what parts are worth, and sums
-  abbrev pub amount : List Part → ℕ
+  abbrev pub amount : List Summand → ℕ
   amount [] = 0
   amount (p ∷ ps) = p.times * bits p.term + amount ps
 
@@ -67,7 +67,7 @@ module _ (inputs : Inputs) (v : Values) where
   abbrev pub FactsHold : List Fact → Type 0
   FactsHold = All (λ (f : Fact). holds inputs v f.test ≡ f.yes)
 
-  pub amount-append : (ps qs : List Part) → amount (ps ++ qs) ≡ amount ps + amount qs
+  pub amount-append : (ps qs : List Summand) → amount (ps ++ qs) ≡ amount ps + amount qs
   amount-append [] qs = none_before (amount qs) where
     none_before : (x : ℕ) → x ≡ 0 + x
     none_before x = omega arith
@@ -128,14 +128,14 @@ module _ (inputs : Inputs) (v : Values) where
         (decided_is fs q b (All-tail P g fs h)) d
 
   -- what a term is read as, where it is worth x as it is
-  abbrev pub reading_worth : Reading → ℕ → ℕ
+  abbrev pub reading_worth : Decomposition → ℕ → ℕ
   reading_worth reading.Whole x = x
   reading_worth (reading.Number n) x = n
   reading_worth (reading.Times m y n) x = m * bits y + n
   reading_worth (reading.Both y m z) x = bits y + m * bits z
 
   module _ (w : ℕ) (most : w ≤ 64) where
-    merged_case : (p q : Part) (qs rest : List Part) (c d : Bool) → (q.term.0 == p.term.0) ≡ c →
+    merged_case : (p q : Summand) (qs rest : List Summand) (c d : Bool) → (q.term.0 == p.term.0) ≡ c →
         Like (2 ^ w) (amount rest) (p.times * bits p.term + amount qs) →
         Like (2 ^ w) (amount (if c then part ((q.times + p.times) % 2 ^ 64) q.term ∷ qs else if d then p ∷ q ∷ qs else q ∷ rest))
         (p.times * bits p.term + amount (q ∷ qs))
@@ -157,11 +157,11 @@ module _ (inputs : Inputs) (v : Values) where
         like_both m (x + amount rest) (x + (y + amount qs)) (y + (x + amount qs)) (like_add m x x (amount rest) (y + amount qs) (like m x x refl) h)
         (like m (x + (y + amount qs)) (y + (x + amount qs)) (swapped x y (amount qs)))
 
-    merged_is : (p : Part) (ps : List Part) → Like (2 ^ w) (amount (merged p ps)) (p.times * bits p.term + amount ps)
+    merged_is : (p : Summand) (ps : List Summand) → Like (2 ^ w) (amount (merged p ps)) (p.times * bits p.term + amount ps)
     merged_is p [] = like (2 ^ w) (p.times * bits p.term + 0) (p.times * bits p.term + 0) refl
     merged_is p (q ∷ qs) = merged_case p q qs (merged p qs) (q.term.0 == p.term.0) (nat_lt p.term.0 q.term.0) refl (merged_is p qs)
 
-    with_part_is : (p : Part) (s : Sum) → Like (2 ^ w) (worth (with_part p s)) (p.times * bits p.term + worth s)
+    with_part_is : (p : Summand) (s : Sum) → Like (2 ^ w) (worth (with_part p s)) (p.times * bits p.term + worth s)
     with_part_is p s =
         let m = 2 ^ w in
         let y = p.times * bits p.term in
@@ -179,7 +179,7 @@ module _ (inputs : Inputs) (v : Values) where
         (like_add m s.number s.number (k * n % 2 ^ 64) (k * n) (like m s.number s.number refl) (like_cut w (k * n) most))) (like m a a refl))
         (like m (s.number + k * n + a) (k * n + (s.number + a)) (sym (turned (k * n) s.number a)))
 
-    with_all_is : (ps : List Part) (s : Sum) → Like (2 ^ w) (worth (with_all ps s)) (amount ps + worth s)
+    with_all_is : (ps : List Summand) (s : Sum) → Like (2 ^ w) (worth (with_all ps s)) (amount ps + worth s)
     with_all_is [] s = like (2 ^ w) (worth s) (0 + worth s) (sym (ap (λ z. z) (front_zero (worth s)))) where
       front_zero : (x : ℕ) → 0 + x ≡ x
       front_zero x = omega arith
@@ -260,7 +260,7 @@ module _ (inputs : Inputs) (v : Values) where
       reading_is facts a n c e h = like (2 ^ w) (bits a) (bits a) refl
 
       -- what a part is made of is worth as much
-      spread : (p : Part) (r : Reading) (s : Sum) → Like (2 ^ w) (bits p.term) (reading_worth r (bits p.term)) →
+      spread : (p : Summand) (r : Decomposition) (s : Sum) → Like (2 ^ w) (bits p.term) (reading_worth r (bits p.term)) →
           Like (2 ^ w) (amount (parts_of p r) + worth (counted p r s)) (p.times * bits p.term + worth s)
       spread p reading.Whole s h =
           let m = 2 ^ w in
@@ -310,7 +310,7 @@ module _ (inputs : Inputs) (v : Values) where
           (like_back m (p.times * bits p.term) (p.times * (bits x + k * bits y)) (like_times m p.times (bits p.term) (bits x + k * bits y) h))
           (like m (worth s) (worth s) refl))
 
-      gathered_is : (fuel : ℕ) (facts : List Fact) (ps : List Part) (s : Sum) → FactsHold facts → PartsFit nodes w ps →
+      gathered_is : (fuel : ℕ) (facts : List Fact) (ps : List Summand) (s : Sum) → FactsHold facts → PartsFit nodes w ps →
           Like (2 ^ w) (worth (gathered fuel nodes facts ps s)) (amount ps + worth s)
       unfolding gathered
       gathered_is zero facts ps s c h = with_all_is ps s
@@ -328,7 +328,7 @@ module _ (inputs : Inputs) (v : Values) where
           (ap (λ z. z + worth t) (amount-append ps qs) ∙ sym (joined (amount ps) (amount qs) (worth t))))
           (like_both m (amount ps + (amount qs + worth t)) (amount ps + (y + worth s)) (y + amount ps + worth s)
           (like_add m (amount ps) (amount ps) (amount qs + worth t) (y + worth s) (like m (amount ps) (amount ps) refl)
-          (spread p r s (reading_is facts p.term (slice_get nodes p.term.0) c refl (All-head (λ (p : Part). HasWidth nodes p.term w) p ps h))))
+          (spread p r s (reading_is facts p.term (slice_get nodes p.term.0) c refl (All-head (λ (p : Summand). HasWidth nodes p.term w) p ps h))))
           (like m (amount ps + (y + worth s)) (y + amount ps + worth s) (turned (amount ps) y (worth s)))))
 
       -- a sum that was read is worth what it was

@@ -6,6 +6,7 @@ pub use Rattle.ygg_shape_words.specs.ygg_bank_proofs_Meaning
 pub use Rattle.ygg_shape_words.specs.ygg_bank_proofs_Widths
 pub use Rattle.ygg_shape_words.specs.ygg_bank
 pub use Rattle.ygg_shape_words.specs.ygg_rules
+pub use Rattle.ygg_shape_words.proofs.Children as ygg_shape_words_proofs_Children
 pub use Rattle.ygg_shape_words.proofs.Compares as ygg_shape_words_proofs_Compares
 pub use Rattle.ygg_shape_words.proofs.Fit as ygg_shape_words_proofs_Fit
 pub use Rattle.ygg_shape_words.proofs.Grows as ygg_shape_words_proofs_Grows

@@ -9,8 +9,8 @@ use Rattle.ygg_shape_words.specs.ygg_bank.declared.node.Id.{Id}
 use Rattle.ygg_shape_words.specs.ygg_bank.declared.node.Node.{Node}
 use Rattle.ygg_shape_words.specs.ygg_bank.declared.node.Node.TheVariants.{Const, Bin, Not, Pick}
 use Rattle.ygg_shape_sums.specs.declared.reading.Fact.{Fact}
-use Rattle.ygg_shape_sums.specs.declared.reading.Reading.{Reading}
-use Rattle.ygg_shape_sums.specs.declared.reading.Reading.TheVariants as reading
+use Rattle.ygg_shape_sums.specs.declared.reading.Decomposition.{Decomposition}
+use Rattle.ygg_shape_sums.specs.declared.reading.Decomposition.TheVariants as reading
 use Rattle.ygg_shape_sums.specs.declared.reading.TheConstants.{LESS_ONE}
 
 -- a test and its digit
@@ -41,7 +41,7 @@ decided nodes [] t = None
 decided nodes (f ∷ fs) t = first_of (said nodes f t) (decided nodes fs t)
 
 -- a sum, a difference, and a product by a constant
-abbrev pub read_bin : Op → Id → Id → Option Number → Option Number → Reading
+abbrev pub read_bin : Op → Id → Id → Option Number → Option Number → Decomposition
 read_bin Add x y k m = reading.Both x 1 y
 read_bin Sub x y k m = reading.Both x LESS_ONE y
 read_bin Mul x y k (Some m) = reading.Times m.bits x 0
@@ -49,11 +49,11 @@ read_bin Mul x y (Some k) None = reading.Times k.bits y 0
 read_bin op x y k m = reading.Whole
 
 -- a pick whose test is decided is one of its words
-abbrev pub read_pick : Id → Id → Option Bool → Reading
+abbrev pub read_pick : Id → Id → Option Bool → Decomposition
 read_pick x y (Some b) = reading.Times 1 (if b then x else y) 0
 read_pick x y None = reading.Whole
 
-abbrev pub read : List Node → List Fact → Option Node → Reading
+abbrev pub read : List Node → List Fact → Option Node → Decomposition
 read nodes facts (Some (Const k)) = reading.Number k.bits
 read nodes facts (Some (Bin op x y)) = read_bin op x y (known_in (slice_get nodes x.0)) (known_in (slice_get nodes y.0))
 read nodes facts (Some (Not x)) = reading.Times LESS_ONE x LESS_ONE
@@ -61,7 +61,7 @@ read nodes facts (Some (Pick t x y)) = read_pick x y (decided nodes facts t)
 read nodes facts n = reading.Whole
 
 -- the terms that are named are words of this width
-abbrev pub ReadingFits : List Node → ℕ → Reading → Type 0
+abbrev pub ReadingFits : List Node → ℕ → Decomposition → Type 0
 ReadingFits nodes w (reading.Times m x n) = HasWidth nodes x w
 ReadingFits nodes w (reading.Both x m y) = HasWidth nodes x w × HasWidth nodes y w
 ReadingFits nodes w r = Unit {0}

@@ -9,7 +9,7 @@ use Rattle.ygg_shape_words.specs.ygg_bank.declared.node.Id.{Id}
 use Rattle.ygg_shape_words.specs.ygg_bank.declared.node.Node.TheVariants.{Const, Bin}
 use Rattle.ygg_shape_words.specs.Same.{same_words}
 use Rattle.ygg_shape_sums.specs.Parts.{Sum}
-use Rattle.ygg_shape_sums.specs.declared.parts.Part.{Part}
+use Rattle.ygg_shape_sums.specs.declared.parts.Summand.{Summand}
 
 -- the number that with this one makes 0, at a width
 abbrev pub opposite : ℕ → ℕ → ℕ
@@ -30,7 +30,7 @@ more kinds w n x a =
     else and_make (made kinds (Const (word w n))) (λ k. and_make (made kinds (Bin Mul x k)) (λ m. made kinds (Bin Add a m)))
 
 -- the terms of a side, added to a word
-abbrev pub all_more : List RuleKind → ℕ → Bool → List Part → Id → Make Id
+abbrev pub all_more : List RuleKind → ℕ → Bool → List Summand → Id → Make Id
 all_more kinds w second [] a = pure a
 all_more kinds w second (p ∷ ps) a = and_make (more kinds w (share w second p.times) p.term a) (all_more kinds w second ps)
 

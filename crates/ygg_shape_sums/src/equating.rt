@@ -12,7 +12,7 @@ ghost use Rattle.ygg_shape_sums.specs.Parts.{PartsFit, Sum};
 ghost use Rattle.ygg_shape_sums.specs.Readings.{FactsFit, fact};
 
 use crate::gathering::{gather, has_sum, split_of};
-use crate::parts::{Part, Total, copied};
+use crate::parts::{Summand, Total, copied};
 use crate::reading::{Fact, LESS_ONE};
 use crate::siding::vanishes;
 use ygg_shape_words::{Bank, Book, Id, NoMemory, pick, same};
@@ -92,11 +92,11 @@ fn with(bank: &Bank, facts: &[Fact], test: Id, yes: bool) -> Result<Vec<Fact>, N
 fn difference(bank: &Bank, one: Id, two: Id) -> Result<Total, NoMemory>
     ensures { IfOk result (λ (sum : Sum). sum ≡ difference one two) }
 {
-    let first = Part {
+    let first = Summand {
         times: 1,
         term: one,
     };
-    let second = Part {
+    let second = Summand {
         times: LESS_ONE,
         term: two,
     };

@@ -6,8 +6,8 @@ ghost use Rattle.ygg_shape_sums.specs.Gathers.{below, counted, first_test, gathe
 ghost use Rattle.ygg_shape_sums.specs.Parts.{PartsAlike, Sum};
 ghost use Rattle.ygg_shape_sums.specs.Readings.{FactsFit};
 
-use crate::parts::{Part, Total, copied, put};
-use crate::reading::{Fact, Reading, read};
+use crate::parts::{Summand, Total, copied, put};
+use crate::reading::{Decomposition, Fact, read};
 use ygg_shape_words::{Bank, Id, NoMemory, Node};
 
 /// How many terms of a sum are read.
@@ -36,7 +36,7 @@ pub fn gather(bank: &Bank, facts: &[Fact], total: &Total) -> Result<Total, NoMem
 }
 
 /// The parts as they are, added to a sum.
-fn add_all(sum: &mut Total, parts: &[Part]) -> Result<(), NoMemory>
+fn add_all(sum: &mut Total, parts: &[Summand]) -> Result<(), NoMemory>
     ensures { OnOk result (sum.new ≡ with_all parts.now sum.old) }
 {
     for part in parts {
@@ -46,50 +46,50 @@ fn add_all(sum: &mut Total, parts: &[Part]) -> Result<(), NoMemory>
 }
 
 /// What a part is made of beside terms, added to a sum.
-fn count(sum: &mut Total, part: Part, reading: Reading) -> Result<(), NoMemory>
+fn count(sum: &mut Total, part: Summand, reading: Decomposition) -> Result<(), NoMemory>
     ensures { OnOk result (sum.new ≡ counted part reading sum.old) }
 {
     match reading {
-        Reading::Whole => sum.add(part)?,
-        Reading::Number(number) | Reading::Times { number, .. } => {
+        Decomposition::Whole => sum.add(part)?,
+        Decomposition::Number(number) | Decomposition::Times { number, .. } => {
             sum.count(part.times.wrapping_mul(number));
         }
-        Reading::Both { .. } => {}
+        Decomposition::Both { .. } => {}
     }
     Ok(())
 }
 
 /// The terms that a part is made of, put after those that are still to be read.
-fn list(todo: &mut Vec<Part>, part: Part, reading: Reading) -> Result<(), NoMemory>
+fn list(todo: &mut Vec<Summand>, part: Summand, reading: Decomposition) -> Result<(), NoMemory>
     ensures { OnOk result (todo.new.items ≡ todo.old.items ++ parts_of part reading) }
 {
     match reading {
-        Reading::Times { times, term, .. } => put(
+        Decomposition::Times { times, term, .. } => put(
             todo,
-            Part {
+            Summand {
                 times: part.times.wrapping_mul(times),
                 term,
             },
         )?,
-        Reading::Both { one, times, two } => {
-            let first = Part {
+        Decomposition::Both { one, times, two } => {
+            let first = Summand {
                 times: part.times,
                 term: one,
             };
-            let second = Part {
+            let second = Summand {
                 times: part.times.wrapping_mul(times),
                 term: two,
             };
             put(todo, first)?;
             put(todo, second)?;
         }
-        Reading::Whole | Reading::Number(_) => {}
+        Decomposition::Whole | Decomposition::Number(_) => {}
     }
     Ok(())
 }
 
 /// Whether a sum or a difference is among the parts or below picks. Its only error is out of memory.
-pub fn has_sum(bank: &Bank, parts: &[Part]) -> Result<bool, NoMemory>
+pub fn has_sum(bank: &Bank, parts: &[Summand]) -> Result<bool, NoMemory>
     requires bank { IsBank bank.now }
     requires parts { PartsAlike bank.now parts.now }
     ensures { IfOk result (λ found. found ≡ has_sum READ_LIMIT bank.now parts.now) }
@@ -109,25 +109,25 @@ pub fn has_sum(bank: &Bank, parts: &[Part]) -> Result<bool, NoMemory>
 }
 
 /// Whether a term is a sum or a difference.
-fn is_sum(reading: Reading) -> bool
+fn is_sum(reading: Decomposition) -> bool
     ensures { result ≡ is_sum reading }
 {
-    matches!(reading, Reading::Both { .. })
+    matches!(reading, Decomposition::Both { .. })
 }
 
 /// The words of a pick, put after the terms that are still to be looked at.
-fn look(todo: &mut Vec<Part>, part: Part, node: Node) -> Result<(), NoMemory>
+fn look(todo: &mut Vec<Summand>, part: Summand, node: Node) -> Result<(), NoMemory>
     ensures { OnOk result (todo.new.items ≡ todo.old.items ++ below part (Some node)) }
 {
     if part.times == 0 {
         return Ok(());
     }
     if let Node::Pick { yes, no, .. } = node {
-        let first = Part {
+        let first = Summand {
             times: part.times,
             term: yes,
         };
-        let second = Part {
+        let second = Summand {
             times: part.times,
             term: no,
         };
@@ -138,7 +138,7 @@ fn look(todo: &mut Vec<Part>, part: Part, node: Node) -> Result<(), NoMemory>
 }
 
 /// The test that the equality of a sum with 0 is split on, where it is. Its only error is out of memory.
-pub fn split_of(bank: &Bank, left: u32, parts: &[Part]) -> Result<Option<Id>, NoMemory>
+pub fn split_of(bank: &Bank, left: u32, parts: &[Summand]) -> Result<Option<Id>, NoMemory>
     requires bank { IsBank bank.now }
     requires parts { PartsAlike bank.now parts.now }
     ensures { IfOk result (λ test. test ≡ split_of bank.now left parts.now) }
@@ -151,7 +151,7 @@ pub fn split_of(bank: &Bank, left: u32, parts: &[Part]) -> Result<Option<Id>, No
 }
 
 /// Whether a sum has three terms or more, or sums below picks.
-fn is_rich(bank: &Bank, parts: &[Part]) -> Result<bool, NoMemory>
+fn is_rich(bank: &Bank, parts: &[Summand]) -> Result<bool, NoMemory>
     requires bank { IsBank bank.now }
     requires parts { PartsAlike bank.now parts.now }
     ensures { IfOk result (λ rich. rich ≡ is_rich bank.now parts.now) }
@@ -164,7 +164,7 @@ fn is_rich(bank: &Bank, parts: &[Part]) -> Result<bool, NoMemory>
 }
 
 /// The test of the first pick among the parts that are there at all.
-fn first_test(bank: &Bank, parts: &[Part]) -> Option<Id>
+fn first_test(bank: &Bank, parts: &[Summand]) -> Option<Id>
     requires bank { IsBank bank.now }
     requires parts { PartsAlike bank.now parts.now }
     ensures { result ≡ first_test bank.now parts.now }
@@ -178,7 +178,7 @@ fn first_test(bank: &Bank, parts: &[Part]) -> Option<Id>
 }
 
 /// The test of a part that is a pick, where it is there at all.
-fn test_at(bank: &Bank, part: Part) -> Option<Id>
+fn test_at(bank: &Bank, part: Summand) -> Option<Id>
     requires { Stands bank.now part.term }
     ensures { result ≡ test_at bank.now part }
 {

@@ -10,7 +10,7 @@ use ygg_shape_words::{Id, NoMemory};
 
 /// A term so many times.
 #[derive(Clone, Copy, PartialEq, Eq, Drop)]
-pub struct Part {
+pub struct Summand {
     /// How many times, modulo 2 ^ 64.
     pub times: u64,
     /// The term.
@@ -23,7 +23,7 @@ pub struct Total {
     // the number
     number: u64,
     // the terms
-    parts: Vec<Part>,
+    parts: Vec<Summand>,
 }
 
 impl Model for Total {
@@ -46,7 +46,7 @@ impl Total {
     }
 
     /// No number, and these terms. Its only error is out of memory.
-    pub fn of(alloc: Global, parts: &[Part]) -> Result<Total, NoMemory>
+    pub fn of(alloc: Global, parts: &[Summand]) -> Result<Total, NoMemory>
         ensures { IfOk result (λ (sum : Sum). sum ≡ record { number = 0; parts = parts.now }) }
     {
         let parts = copied(alloc, parts)?;
@@ -61,7 +61,7 @@ impl Total {
     }
 
     /// The terms, each so many times.
-    pub fn parts(&self) -> &[Part]
+    pub fn parts(&self) -> &[Summand]
         ensures { result.now ≡ self.now.parts }
     {
         self.parts.as_slice()
@@ -75,13 +75,13 @@ impl Total {
     }
 
     /// A term is there so many times more, before those of later places. Its only error is out of memory.
-    pub fn add(&mut self, part: Part) -> Result<(), NoMemory>
+    pub fn add(&mut self, part: Summand) -> Result<(), NoMemory>
         ensures { OnOk result (self.new ≡ with_part part self.old) }
     {
         for place in 0..self.parts.len() {
             let known = self.parts[place];
             if known.term.0 == part.term.0 {
-                self.parts[place] = Part {
+                self.parts[place] = Summand {
                     times: known.times.wrapping_add(part.times),
                     term: known.term,
                 };
@@ -98,7 +98,7 @@ impl Total {
 }
 
 /// A part, put after others. Its only error is out of memory.
-pub fn put(parts: &mut Vec<Part>, part: Part) -> Result<(), NoMemory>
+pub fn put(parts: &mut Vec<Summand>, part: Summand) -> Result<(), NoMemory>
     ensures { OnOk result (parts.new.items ≡ parts.old.items ++ part ∷ []) }
 {
     if parts.push(part).is_err() {
@@ -108,7 +108,7 @@ pub fn put(parts: &mut Vec<Part>, part: Part) -> Result<(), NoMemory>
 }
 
 /// A part, put before the one at a place. Its only error is out of memory.
-fn insert(parts: &mut Vec<Part>, place: usize, part: Part) -> Result<(), NoMemory>
+fn insert(parts: &mut Vec<Summand>, place: usize, part: Summand) -> Result<(), NoMemory>
     requires { place ≤ vec_len parts.old }
     ensures { OnOk result (parts.new.items ≡ insert parts.old.items place part) }
 {

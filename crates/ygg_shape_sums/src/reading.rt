@@ -21,7 +21,7 @@ pub struct Fact {
 
 /// What a term is.
 #[derive(Clone, Copy, PartialEq, Eq, Drop)]
-pub enum Reading {
+pub enum Decomposition {
     /// No sum.
     Whole,
     /// This number.
@@ -33,54 +33,54 @@ pub enum Reading {
 }
 
 /// What a term is, as a sum of terms, where the facts hold.
-pub fn read(bank: &Bank, facts: &[Fact], term: Id) -> Reading
+pub fn read(bank: &Bank, facts: &[Fact], term: Id) -> Decomposition
     requires bank { IsBank bank.now }
     requires facts { FactsFit bank.now facts.now }
     requires term { Stands bank.now term }
     ensures { result ≡ read bank.now facts.now (slice_get bank.now term.0) }
 {
     match bank.node(term) {
-        Node::Const(word) => Reading::Number(word.bits),
+        Node::Const(word) => Decomposition::Number(word.bits),
         Node::Bin { op, a, b } => read_bin(op, a, b, known(bank, a), known(bank, b)),
-        Node::Not { a } => Reading::Times {
+        Node::Not { a } => Decomposition::Times {
             times: LESS_ONE,
             term: a,
             number: LESS_ONE,
         },
         Node::Pick { test, yes, no } => match decided(bank, facts, test) {
-            Some(digit) => Reading::Times {
+            Some(digit) => Decomposition::Times {
                 times: 1,
                 term: if digit { yes } else { no },
                 number: 0,
             },
-            None => Reading::Whole,
+            None => Decomposition::Whole,
         },
-        Node::Input { .. } | Node::Resize { .. } => Reading::Whole,
+        Node::Input { .. } | Node::Resize { .. } => Decomposition::Whole,
     }
 }
 
 /// What an operation is, where these constants are known of its operands.
-fn read_bin(op: Op, one: Id, two: Id, first: Option<Word>, second: Option<Word>) -> Reading
+fn read_bin(op: Op, one: Id, two: Id, first: Option<Word>, second: Option<Word>) -> Decomposition
     ensures { result ≡ read_bin op one two first second }
 {
     match (op, first, second) {
-        (Op::Add, _, _) => Reading::Both { one, times: 1, two },
-        (Op::Sub, _, _) => Reading::Both {
+        (Op::Add, _, _) => Decomposition::Both { one, times: 1, two },
+        (Op::Sub, _, _) => Decomposition::Both {
             one,
             times: LESS_ONE,
             two,
         },
-        (Op::Mul, _, Some(word)) => Reading::Times {
+        (Op::Mul, _, Some(word)) => Decomposition::Times {
             times: word.bits,
             term: one,
             number: 0,
         },
-        (Op::Mul, Some(word), None) => Reading::Times {
+        (Op::Mul, Some(word), None) => Decomposition::Times {
             times: word.bits,
             term: two,
             number: 0,
         },
-        _ => Reading::Whole,
+        _ => Decomposition::Whole,
     }
 }
 

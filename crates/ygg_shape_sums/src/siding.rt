@@ -10,7 +10,7 @@ ghost use Rattle.ygg_shape_words.specs.ygg_bank.Nodes.{Extends, HasWidth, IsBank
 ghost use Rattle.ygg_shape_sums.specs.Parts.{PartsFit, Sum};
 ghost use Rattle.ygg_shape_sums.specs.Sides.{all_more, more, share, side, vanishes};
 
-use crate::parts::{Part, Total};
+use crate::parts::{Summand, Total};
 use ygg_shape_words::{Bank, Book, Id, NoMemory, Node, same};
 use ygg_value::{Op, Word, apply, resize};
 
@@ -115,7 +115,7 @@ fn all_more<B: Book>(
     book: &B,
     width: u8,
     second: bool,
-    parts: &[Part],
+    parts: &[Summand],
     so_far: Id,
 ) -> Result<Id, NoMemory>
     requires bank { IsBank bank.old }

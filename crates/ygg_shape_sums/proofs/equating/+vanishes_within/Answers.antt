@@ -7,7 +7,7 @@ use Rattle.ygg_shape_sums.proofs.Steps.{within_zero, within_whole, within_split}
 use Rattle.ygg_shape_sums.specs.Gathers.{split_of}
 use Rattle.ygg_shape_sums.specs.Parts.{PartsFit, Sum}
 use Rattle.ygg_shape_sums.specs.Readings.{FactsFit}
-use Rattle.ygg_shape_sums.specs.declared.parts.Part.{Part}
+use Rattle.ygg_shape_sums.specs.declared.parts.Summand.{Summand}
 use Rattle.ygg_shape_sums.proofs.equating.+vanishes_within.Goals as goal
 
 pub returns-then-depth-eq0-clause-made : goal.returns-then-depth-eq0-clause-made
@@ -29,7 +29,7 @@ vanishes-requires-in-None-clause-parts g t c =
 pub returns-in-None-clause-made : goal.returns-in-None-clause-made
 returns-in-None-clause-made g t c =
     let d : 0 < c.args.depth = omega (arith, c.if-depth-eq0.false) in
-    let n = sym c.in-None.is ∙ c.in_ok-split_of.ensures ∙ ap (λ (ps : List Part). split_of c.args.bank.now c.args.left.now ps) c.parts.ensures in
+    let n = sym c.in-None.is ∙ c.in_ok-split_of.ensures ∙ ap (λ (ps : List Summand). split_of c.args.bank.now c.args.left.now ps) c.parts.ensures in
     within_whole (g.B.Book.kinds c.args.book.now) c.args.width c.args.depth c.args.left.now c.args.facts.now c.args.total.now c.in_ok-sum.sum
     c.args.bank.now c.vanishes-in-None.new.bank c.in_ok-answer-in-None.answer d c.in_ok-sum.ensures n c.in_ok-answer-in-None.ensures.nodes
     c.in_ok-answer-in-None.ensures.form
@@ -39,7 +39,7 @@ vanishes_within-requires g t c κs within =
     let bank = c.args.bank.now in
     let q = subst (λ (s : Sum). PartsFit c.args.bank.now c.args.width s.parts) (sym c.in_ok-sum.ensures)
     (sum_fits c.args.bank.now c.args.width c.args.facts.now c.args.total.now c.requires.bank.ordered c.requires.parts) in
-    let n = sym c.in-Some.is ∙ c.in_ok-split_of.ensures ∙ ap (λ (ps : List Part). split_of c.args.bank.now c.args.left.now ps) c.parts.ensures in
+    let n = sym c.in-Some.is ∙ c.in_ok-split_of.ensures ∙ ap (λ (ps : List Summand). split_of c.args.bank.now c.args.left.now ps) c.parts.ensures in
     let digit = split_digit bank c.args.width c.args.left.now c.in_ok-sum.sum.parts c.in-Some.test c.requires.bank.ordered q (sym n) in (
       omega arith,
       (
@@ -64,7 +64,7 @@ vanishes_within-requires-in-Some g t c κs within =
     let next = c.vanishes_within.new.bank in
     let q = subst (λ (s : Sum). PartsFit c.args.bank.now c.args.width s.parts) (sym c.in_ok-sum.ensures)
     (sum_fits c.args.bank.now c.args.width c.args.facts.now c.args.total.now c.requires.bank.ordered c.requires.parts) in
-    let n = sym c.in-Some.is ∙ c.in_ok-split_of.ensures ∙ ap (λ (ps : List Part). split_of c.args.bank.now c.args.left.now ps) c.parts.ensures in
+    let n = sym c.in-Some.is ∙ c.in_ok-split_of.ensures ∙ ap (λ (ps : List Summand). split_of c.args.bank.now c.args.left.now ps) c.parts.ensures in
     let digit = split_digit bank c.args.width c.args.left.now c.in_ok-sum.sum.parts c.in-Some.test c.requires.bank.ordered q (sym n) in
     let grows = c.vanishes_within.ensures.grows in (
       omega arith,
@@ -90,7 +90,7 @@ pick-requires-clause-pick g t c =
     let a = c.args.bank.now in let b = c.vanishes_within.new.bank in let m = c.vanishes_within-in-Some.new.bank in
     let q = subst (λ (s : Sum). PartsFit c.args.bank.now c.args.width s.parts) (sym c.in_ok-sum.ensures)
     (sum_fits c.args.bank.now c.args.width c.args.facts.now c.args.total.now c.requires.bank.ordered c.requires.parts) in
-    let n = sym c.in-Some.is ∙ c.in_ok-split_of.ensures ∙ ap (λ (ps : List Part). split_of c.args.bank.now c.args.left.now ps) c.parts.ensures in
+    let n = sym c.in-Some.is ∙ c.in_ok-split_of.ensures ∙ ap (λ (ps : List Summand). split_of c.args.bank.now c.args.left.now ps) c.parts.ensures in
     let digit = split_digit a c.args.width c.args.left.now c.in_ok-sum.sum.parts c.in-Some.test c.requires.bank.ordered q (sym n) in
     can_pick m c.in-Some.test c.in_ok-yes-in-Some.yes c.in_ok-no-in-Some.no 1
     (wider a m c.in-Some.test 1 (extends_both a b m c.vanishes_within.ensures.grows c.vanishes_within-in-Some.ensures.grows) digit)
@@ -99,7 +99,7 @@ pick-requires-clause-pick g t c =
 pub returns-clause-made : goal.returns-clause-made
 returns-clause-made g t c =
     let d : 0 < c.args.depth = omega (arith, c.if-depth-eq0.false) in
-    let n = sym c.in-Some.is ∙ c.in_ok-split_of.ensures ∙ ap (λ (ps : List Part). split_of c.args.bank.now c.args.left.now ps) c.parts.ensures in
+    let n = sym c.in-Some.is ∙ c.in_ok-split_of.ensures ∙ ap (λ (ps : List Summand). split_of c.args.bank.now c.args.left.now ps) c.parts.ensures in
     within_split (g.B.Book.kinds c.args.book.now) c.args.width c.args.depth c.args.left.now c.saturating_sub.result c.vanishes_within.new.left
     c.vanishes_within-in-Some.new.left c.args.facts.now c.as_slice.result.now c.as_slice-in-Some.result.now c.args.total.now c.in_ok-sum.sum
     c.in-Some.test c.in_ok-yes-in-Some.yes c.in_ok-no-in-Some.no c.in_ok-answer-in-Some.answer c.args.bank.now c.vanishes_within.new.bank

@@ -3,7 +3,7 @@ use Rattle.ygg_shape_sums.proofs.Fit.{part_at, listed_alike, longer_by}
 use Rattle.ygg_shape_sums.proofs.Steps.{gathered_goes, gathered_done, gathered_spent, rest_all}
 use Rattle.ygg_shape_sums.specs.Gathers.{with_all, counted, parts_of}
 use Rattle.ygg_shape_sums.specs.declared.gathering.TheConstants.{READ_LIMIT}
-use Rattle.ygg_shape_sums.specs.declared.reading.Reading.{Reading}
+use Rattle.ygg_shape_sums.specs.declared.reading.Decomposition.{Decomposition}
 use Rattle.ygg_shape_sums.proofs.gathering.gather.Goals as goal
 
 pub returns-then-place-len : goal.returns-then-place-len
@@ -26,8 +26,8 @@ loop-place-preserved c =
     let l : c.loop-place.place < length c.loop-place.todo.items = search rules in
     let k : 0 < READ_LIMIT - i = omega (arith, c.loop-place-test.true) in
     let e : READ_LIMIT - (i + 1) ≡ READ_LIMIT - i - 1 = omega arith in
-    let h = c.in_ok-list.ensures ∙ ap (λ (r : Reading). old ++ parts_of p r) c.read-reading.ensures in
-    let j = c.in_ok-count.ensures ∙ ap (λ (r : Reading). counted p r c.loop-place.sum) c.read-reading.ensures in
+    let h = c.in_ok-list.ensures ∙ ap (λ (r : Decomposition). old ++ parts_of p r) c.read-reading.ensures in
+    let j = c.in_ok-count.ensures ∙ ap (λ (r : Decomposition). counted p r c.loop-place.sum) c.read-reading.ensures in
     record {
       went = gathered_goes (READ_LIMIT - i) (READ_LIMIT - (i + 1)) c.args.bank.now c.args.facts.now old c.list.new.todo.items i p p c.loop-place.sum
           c.count.new.sum k e l c.index-part.ensures h j ∙ c.loop-place.invariant.went;

@@ -4,10 +4,10 @@ use Rattle.std.proofs.lemmas.Bool.Decides.{nat_tests}
 use Rattle.ygg_shape_sums.proofs.Steps.{merged_there, merged_before, merged_end}
 use Rattle.ygg_shape_sums.specs.Parts.{Sum, with_part}
 use Rattle.ygg_shape_sums.specs.contracts.parts.Total.{the_view}
-use Rattle.ygg_shape_sums.specs.declared.parts.Part.{Part}
+use Rattle.ygg_shape_sums.specs.declared.parts.Summand.{Summand}
 use Rattle.ygg_shape_sums.proofs.parts.Total.add.Goals as goal
 
-abbrev with_parts : ℕ → List Part → Sum
+abbrev with_parts : ℕ → List Summand → Sum
 with_parts n ps = record { number = n; parts = ps }
 
 pub returns-then-known-part : goal.returns-then-known-part
