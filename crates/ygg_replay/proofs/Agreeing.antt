@@ -12,8 +12,8 @@ use Rattle.ygg_direct_files.specs.ygg_eval_lower.Layers.{variables_at}
 use Rattle.ygg_sched.specs.ygg_meaning.Violates.{answers_alike, related_after, spec_after}
 use Rattle.ygg_replay.specs.declared.site.ReplaySite.{ReplaySite}
 use Rattle.ygg_replay.specs.declared.conclusion.Trial.{Trial}
-use Rattle.ygg_sched.specs.declared.case.Kind.{Kind}
-use Rattle.ygg_sched.specs.declared.case.Kind.TheVariants as kind
+use Rattle.ygg_sched.specs.declared.case.CaseKind.{CaseKind}
+use Rattle.ygg_sched.specs.declared.case.CaseKind.TheVariants as kind
 use Rattle.ygg_replay.specs.declared.ends.End.{End}
 use Rattle.ygg_replay.specs.Ends.{EndFits, end_at}
 use Rattle.ygg_replay.specs.Passing.{IsOf, passing, agreeing, answers_for}
@@ -22,7 +22,7 @@ use Rattle.ygg_replay.specs.Sites.{StatesFit, VarsFit, closed_in, vars_at, memor
 use Rattle.ygg_replay.specs.Steps.{EndsSomehow, StepEnds, meant_at}
 
 -- what an obligation asks
-abbrev pub kind_in : Obligation → Kind
+abbrev pub kind_in : Obligation → CaseKind
 kind_in Init = kind.Init
 kind_in (CallOf o) = kind.Call
 kind_in (CutOf o) = kind.Cut
@@ -31,12 +31,12 @@ kind_in (CutTickOf t) = kind.CutTick
 kind_in Idle = kind.Idle
 kind_in Again = kind.Again
 
-module _ {X : Type 0} (f : X → Obligation) (k : Kind) (same : (x : X) → k ≡ kind_in (f x)) where
+module _ {X : Type 0} (f : X → Obligation) (k : CaseKind) (same : (x : X) → k ≡ kind_in (f x)) where
   mapped : (x : Option X) (o : Obligation) → option_map f x ≡ Some o → k ≡ kind_in o
   mapped None o h = absurd (cc)
   mapped (Some x) o h = let e : f x ≡ o = cc in same x ∙ ap kind_in e
 
-pub kind_is : (l : Layer) (k : Kind) (number : ℕ) (o : Obligation) → obligation_at l k number ≡ Some o → k ≡ kind_in o
+pub kind_is : (l : Layer) (k : CaseKind) (number : ℕ) (o : Obligation) → obligation_at l k number ≡ Some o → k ≡ kind_in o
 kind_is l kind.Init number o h = let e : Init ≡ o = cc in ap kind_in e
 kind_is l kind.Call number o h = mapped CallOf kind.Call (λ x. refl) (slice_get l.operations number) o h
 kind_is l kind.Cut number o h = mapped CutOf kind.Cut (λ x. refl) (slice_get l.operations number) o h
@@ -46,7 +46,7 @@ kind_is l kind.Idle number o h = let e : Idle ≡ o = cc in ap kind_in e
 kind_is l kind.Again number o h = let e : Again ≡ o = cc in ap kind_in e
 
 -- the conclusion, by what the specification's step has to do with the end of the runs and by the side
-abbrev pub by_kind : Kind → Bool → Bool → Bool
+abbrev pub by_kind : CaseKind → Bool → Bool → Bool
 by_kind kind.Init agrees side = agrees
 by_kind kind.Call agrees side = agrees
 by_kind kind.Cut agrees side = side && agrees
@@ -119,13 +119,13 @@ ends_fit s e state h f = record {
 }
 
 -- obligations that have no side
-pub plain_kind : (k : Kind) (a side : Bool) → (k ≡ kind.Init) ⊎ ((k ≡ kind.Call) ⊎ (k ≡ kind.Tick)) → by_kind k a side ≡ a
+pub plain_kind : (k : CaseKind) (a side : Bool) → (k ≡ kind.Init) ⊎ ((k ≡ kind.Call) ⊎ (k ≡ kind.Tick)) → by_kind k a side ≡ a
 plain_kind k a side (inl is) = ap (λ k. by_kind k a side) is
 plain_kind k a side (inr (inl is)) = ap (λ k. by_kind k a side) is
 plain_kind k a side (inr (inr is)) = ap (λ k. by_kind k a side) is
 
 -- and those of which one side is true
-pub sided_kind : (k : Kind) (a side : Bool) → (k ≡ kind.Cut) ⊎ ((k ≡ kind.CutTick) ⊎ (k ≡ kind.Idle)) → side ≡ true → by_kind k a side ≡ a
+pub sided_kind : (k : CaseKind) (a side : Bool) → (k ≡ kind.Cut) ⊎ ((k ≡ kind.CutTick) ⊎ (k ≡ kind.Idle)) → side ≡ true → by_kind k a side ≡ a
 sided_kind k a side (inl is) h = ap (λ k. by_kind k a side) is ∙ ap (λ b. b && a) h
 sided_kind k a side (inr (inl is)) h = ap (λ k. by_kind k a side) is ∙ ap (λ b. b && a) h
 sided_kind k a side (inr (inr is)) h = ap (λ k. by_kind k a side) is ∙ ap (λ b. b && a) h

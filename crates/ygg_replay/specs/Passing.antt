@@ -7,8 +7,8 @@ use Rattle.ygg_sched.specs.ygg_meaning.Obligations.{Obligation, Init, CallOf, Cu
 use Rattle.ygg_sched.specs.ygg_meaning.Violates.{most, passes, related_after, same_answer, spec_after}
 use Rattle.ygg_replay.specs.declared.site.ReplaySite.{ReplaySite}
 use Rattle.ygg_sched.specs.declared.case.Case.{Case}
-use Rattle.ygg_sched.specs.declared.case.Kind.{Kind}
-use Rattle.ygg_sched.specs.declared.case.Kind.TheVariants as kind
+use Rattle.ygg_sched.specs.declared.case.CaseKind.{CaseKind}
+use Rattle.ygg_sched.specs.declared.case.CaseKind.TheVariants as kind
 use Rattle.ygg_replay.specs.declared.conclusion.Trial.{Trial}
 use Rattle.ygg_replay.specs.Steps.{meant_at}
 use Rattle.ygg_replay.specs.Ends.{end_at, EndFits}
@@ -36,7 +36,7 @@ agreeing s t Idle picks = related_after (closed_in s) (end_at s t.end.now).to (s
 agreeing s t Again picks = related_after (closed_in s) (end_at s t.end.now).to (spec_after (closed_in s) Again (meant_at s t.schedule.now) picks)
 
 -- whether two answers are the same, where the obligation speaks of an answer
-abbrev pub answers_for : Kind → Answer → Answer → Bool
+abbrev pub answers_for : CaseKind → Answer → Answer → Bool
 answers_for kind.Init y z = true
 answers_for kind.Call y z = same_answer y z
 answers_for kind.Cut y z = true

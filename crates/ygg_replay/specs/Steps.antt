@@ -8,8 +8,8 @@ use Rattle.ygg_sched.specs.ygg_meaning.Progress.{Answer}
 use Rattle.ygg_sched.specs.ygg_meaning.Spec.{Outcome, start_outcome}
 use Rattle.ygg_eval.specs.ygg_eval_spec.Kept.{Kept}
 use Rattle.ygg_replay.specs.declared.site.ReplaySite.{ReplaySite}
-use Rattle.ygg_sched.specs.declared.case.Kind.{Kind}
-use Rattle.ygg_sched.specs.declared.case.Kind.TheVariants as kind
+use Rattle.ygg_sched.specs.declared.case.CaseKind.{CaseKind}
+use Rattle.ygg_sched.specs.declared.case.CaseKind.TheVariants as kind
 use Rattle.ygg_sched.specs.declared.schedule.Schedule.{Schedule}
 use Rattle.ygg_sched.specs.Cases.{obligation_at}
 use Rattle.ygg_replay.specs.Schedules.{meant, schedule_fits}
@@ -48,7 +48,7 @@ abbrev pub meant_at : ReplaySite → Schedule → obligations.Schedule
 meant_at s x = meant s.typed.now.file s.place s.layer.now x
 
 -- a step of the specification is asked for, with as many picks as it takes at most
-pub record CanStep (s : ReplaySite) (asked : Kind) (number : ℕ) (x : Schedule) (picks : Picks) : Type 0 where
+pub record CanStep (s : ReplaySite) (asked : CaseKind) (number : ℕ) (x : Schedule) (picks : Picks) : Type 0 where
   pub obligation : Obligation
   pub is : obligation_at s.layer.now asked number ≡ Some obligation
   pub fit : IsTrue (schedule_fits s.typed.now.file s.place s.layer.now x obligation)

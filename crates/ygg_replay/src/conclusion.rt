@@ -5,12 +5,12 @@ ghost use Rattle.ygg_sched.specs.ygg_meaning.Obligations.{Obligation};
 ghost use Rattle.ygg_sched.specs.ygg_meaning.Violates.{same_answer};
 ghost use Rattle.ygg_replay.specs.Passing.{AreAll, CanConclude, IsOf, agreeing, answers_for, passing};
 ghost use Rattle.ygg_replay.specs.Sites.{IsHere};
-ghost use Rattle.ygg_sched.specs.declared.case.Kind.TheVariants as kind;
+ghost use Rattle.ygg_sched.specs.declared.case.CaseKind.TheVariants as kind;
 
 use crate::ends::End;
 use crate::site::ReplaySite;
 use ygg_list::NoMemory;
-use ygg_sched::{Case, Kind, Schedule};
+use ygg_sched::{Case, CaseKind, Schedule};
 use ygg_value::{Value, same};
 
 /// What the conclusion of an obligation is asked of: the obligation, its schedule, and how the runs have ended that it speaks of.
@@ -33,12 +33,17 @@ fn same_answer(a: &Option<Value>, b: &Option<Value>) -> bool
 }
 
 /// Whether two answers are the same, where the obligation speaks of an answer.
-fn answers_for(kind: Kind, given: &Option<Value>, wanted: &Option<Value>) -> bool
+fn answers_for(kind: CaseKind, given: &Option<Value>, wanted: &Option<Value>) -> bool
     ensures { result ≡ answers_for kind given.now wanted.now }
 {
     match kind {
-        Kind::Call => same_answer(given, wanted),
-        Kind::Init | Kind::Cut | Kind::Tick | Kind::CutTick | Kind::Idle | Kind::Again => true,
+        CaseKind::Call => same_answer(given, wanted),
+        CaseKind::Init
+        | CaseKind::Cut
+        | CaseKind::Tick
+        | CaseKind::CutTick
+        | CaseKind::Idle
+        | CaseKind::Again => true,
     }
 }
 
@@ -73,15 +78,15 @@ impl<'a> ReplaySite<'a> {
         ensures { IfOk result (λ answer. (o : Obligation) → IsOf self.now trial.entry.case o → answer ≡ passing self.now trial.entry o picks.now) }
     {
         match trial.case.kind {
-            Kind::Init | Kind::Call | Kind::Tick => self.agrees(trial, picks),
-            Kind::Cut | Kind::CutTick | Kind::Idle => {
+            CaseKind::Init | CaseKind::Call | CaseKind::Tick => self.agrees(trial, picks),
+            CaseKind::Cut | CaseKind::CutTick | CaseKind::Idle => {
                 if trial.end.side {
                     self.agrees(trial, picks)
                 } else {
                     Ok(false)
                 }
             }
-            Kind::Again => Ok(trial.end.side),
+            CaseKind::Again => Ok(trial.end.side),
         }
     }
 }

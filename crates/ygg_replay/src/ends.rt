@@ -32,7 +32,7 @@ use crate::zeroing::zeros;
 use ygg_base::{Bits, DiskKind};
 use ygg_eval::{Part, SpecLower, spec_lower};
 use ygg_list::{NoMemory, Sequence};
-use ygg_sched::{Kind, Schedule};
+use ygg_sched::{CaseKind, Schedule};
 use ygg_value::{Shape, Value, Values, same, zero};
 
 /// How the runs of an obligation have ended: with an answer, if they give one, in a memory over a machine below, and on the side the test in
@@ -294,7 +294,7 @@ impl<'a> ReplaySite<'a> {
     /// memory.
     pub fn reached(
         &self,
-        kind: Kind,
+        kind: CaseKind,
         number: u32,
         schedule: &Schedule,
     ) -> Result<Option<End>, NoMemory>
@@ -306,16 +306,16 @@ impl<'a> ReplaySite<'a> {
     {
         let none = Sequence::new(self.alloc);
         match kind {
-            Kind::Init => Ok(Some(self.formatted(schedule)?)),
-            Kind::Call => {
+            CaseKind::Init => Ok(Some(self.formatted(schedule)?)),
+            CaseKind::Call => {
                 let end = self.whole(Part::Impl, number, &schedule.args, schedule)?;
                 Ok(Some(end))
             }
-            Kind::Cut => self.cut_and_recovered(Part::Impl, number, &schedule.args, schedule),
-            Kind::Tick => Ok(Some(self.whole(Part::Tick, number, &none, schedule)?)),
-            Kind::CutTick => self.cut_and_recovered(Part::Tick, number, &none, schedule),
-            Kind::Idle => Ok(Some(self.lost_and_recovered(schedule)?)),
-            Kind::Again => self.recovered_twice(schedule),
+            CaseKind::Cut => self.cut_and_recovered(Part::Impl, number, &schedule.args, schedule),
+            CaseKind::Tick => Ok(Some(self.whole(Part::Tick, number, &none, schedule)?)),
+            CaseKind::CutTick => self.cut_and_recovered(Part::Tick, number, &none, schedule),
+            CaseKind::Idle => Ok(Some(self.lost_and_recovered(schedule)?)),
+            CaseKind::Again => self.recovered_twice(schedule),
         }
     }
 }

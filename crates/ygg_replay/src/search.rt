@@ -14,7 +14,7 @@ use crate::site::ReplaySite;
 use ygg_base::Bits;
 use ygg_list::NoMemory;
 use ygg_replay_search::{Test, first_passing};
-use ygg_sched::{Case, Kind, choices};
+use ygg_sched::{Case, CaseKind, choices};
 use ygg_syntax::tree::{Block, Operation};
 
 /// From how many choices on a block has more than the count tells.
@@ -71,12 +71,12 @@ impl<'a> ReplaySite<'a> {
         ensures { IfOk result (λ n. (o : Obligation) → IsOf self.now case o → n ≡ most (closed_in self.now) o) }
     {
         match case.kind {
-            Kind::Init | Kind::Tick | Kind::Again => Ok(0),
-            Kind::Call => count(&self.layer.operations.as_slice()[case.number as usize].spec),
-            Kind::Cut => {
+            CaseKind::Init | CaseKind::Tick | CaseKind::Again => Ok(0),
+            CaseKind::Call => count(&self.layer.operations.as_slice()[case.number as usize].spec),
+            CaseKind::Cut => {
                 self.most_in_fall(&self.layer.operations.as_slice()[case.number as usize])
             }
-            Kind::CutTick | Kind::Idle => count(&self.layer.crash),
+            CaseKind::CutTick | CaseKind::Idle => count(&self.layer.crash),
         }
     }
 

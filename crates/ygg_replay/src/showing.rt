@@ -17,7 +17,7 @@ use crate::schedule::Replayed;
 use crate::site::ReplaySite;
 use std::alloc::Global;
 use ygg_list::NoMemory;
-use ygg_sched::{Case, Kind, Schedule, Typed};
+use ygg_sched::{Case, CaseKind, Schedule, Typed};
 
 impl<'a> ReplaySite<'a> {
     /// The first hypothesis on the first states that is false, counted from 0.
@@ -28,11 +28,10 @@ impl<'a> ReplaySite<'a> {
             place ≡ first_false (hypotheses (closed_in self.now) o (meant_at self.now schedule.now))) }
     {
         match case.kind {
-            Kind::Init => Ok(None),
-            Kind::Call | Kind::Cut | Kind::Tick | Kind::CutTick | Kind::Idle => {
-                self.false_relation(&schedule.state, &schedule.memory, &schedule.low)
-            }
-            Kind::Again => self.false_settled(&schedule.low),
+            CaseKind::Init => Ok(None),
+            CaseKind::Call | CaseKind::Cut | CaseKind::Tick | CaseKind::CutTick | CaseKind::Idle =>
+                { self.false_relation(&schedule.state, &schedule.memory, &schedule.low) }
+            CaseKind::Again => self.false_settled(&schedule.low),
         }
     }
 
@@ -42,11 +41,10 @@ impl<'a> ReplaySite<'a> {
             result ≡ length (hypotheses (closed_in self.now) o x) }
     {
         match case.kind {
-            Kind::Init => 0,
-            Kind::Call | Kind::Cut | Kind::Tick | Kind::CutTick | Kind::Idle => {
-                1 + self.layer.always.as_slice().len()
-            }
-            Kind::Again => self.layer.settled.len(),
+            CaseKind::Init => 0,
+            CaseKind::Call | CaseKind::Cut | CaseKind::Tick | CaseKind::CutTick | CaseKind::Idle =>
+                { 1 + self.layer.always.as_slice().len() }
+            CaseKind::Again => self.layer.settled.len(),
         }
     }
 

@@ -13,7 +13,7 @@ use crate::site::ReplaySite;
 use crate::zeroing::zeros;
 use ygg_eval::{Body, Ended, Lower, Part, SpecLower, run_body, spec_lower};
 use ygg_list::{NoMemory, Sequence};
-use ygg_sched::{Kind, Schedule, Turn};
+use ygg_sched::{CaseKind, Schedule, Turn};
 use ygg_value::{Value, Values};
 
 /// How a step of a specification has ended: its answer, if it gives one, and the specification after it.
@@ -135,7 +135,7 @@ impl<'a> ReplaySite<'a> {
     /// in it, nothing, or power loss; only two recoveries ask for none. Its only error is out of memory.
     pub fn outcome(
         &self,
-        kind: Kind,
+        kind: CaseKind,
         number: u32,
         schedule: &Schedule,
         picks: &[bool],
@@ -146,18 +146,18 @@ impl<'a> ReplaySite<'a> {
             StepEnds self.now o schedule.now picks.now r.answer r.after.values) }
     {
         match kind {
-            Kind::Init => Ok(StepOutcome {
+            CaseKind::Init => Ok(StepOutcome {
                 answer: None,
                 after: self.specification(self.start()?)?,
             }),
-            Kind::Call => self.called(number, schedule, picks),
-            Kind::Cut => self.fallen(number, schedule, picks),
-            Kind::Tick => Ok(StepOutcome {
+            CaseKind::Call => self.called(number, schedule, picks),
+            CaseKind::Cut => self.fallen(number, schedule, picks),
+            CaseKind::Tick => Ok(StepOutcome {
                 answer: None,
                 after: self.specification(schedule.state.copy(self.alloc)?)?,
             }),
-            Kind::CutTick | Kind::Idle => self.lost(schedule, picks),
-            Kind::Again => unreachable!(),
+            CaseKind::CutTick | CaseKind::Idle => self.lost(schedule, picks),
+            CaseKind::Again => unreachable!(),
         }
     }
 }

@@ -6,14 +6,14 @@ use Rattle.ygg_syntax.specs.declared.tree.Tick.{Tick}
 use Rattle.ygg_syntax.specs.declared.tree.Layer.{Layer}
 use Rattle.ygg_syntax.specs.declared.tree.File.{File}
 use Rattle.ygg_histories.specs.ygg_meaning.Obligations.{Obligation, Init, CallOf, CutOf, TickOf, CutTickOf, Idle, Again}
-use Rattle.ygg_sched.specs.declared.case.Kind.{Kind}
-use Rattle.ygg_sched.specs.declared.case.Kind.TheVariants as kind
+use Rattle.ygg_sched.specs.declared.case.CaseKind.{CaseKind}
+use Rattle.ygg_sched.specs.declared.case.CaseKind.TheVariants as kind
 use Rattle.ygg_sched.specs.declared.case.Case.{Case}
 use Rattle.ygg_sched.specs.declared.naming.Numbered.{Numbered}
 use Rattle.ygg_sched.specs.Sites.{Site, obligation_in, site_named}
 
 -- what an obligation asks
-abbrev pub kind_of : Obligation → Kind
+abbrev pub kind_of : Obligation → CaseKind
 kind_of Init = kind.Init
 kind_of (CallOf o) = kind.Call
 kind_of (CutOf o) = kind.Cut
@@ -23,7 +23,7 @@ kind_of Idle = kind.Idle
 kind_of Again = kind.Again
 
 -- the obligation of a layer that is meant, if there is one
-abbrev pub obligation_at : Layer → Kind → ℕ → Option Obligation
+abbrev pub obligation_at : Layer → CaseKind → ℕ → Option Obligation
 obligation_at l kind.Init number = Some Init
 obligation_at l kind.Call number = option_map CallOf (slice_get l.operations number)
 obligation_at l kind.Cut number = option_map CutOf (slice_get l.operations number)

@@ -7,8 +7,8 @@ use Rattle.ygg_syntax.specs.declared.tree.Layer.{Layer}
 use Rattle.ygg_syntax.specs.declared.tree.File.{File}
 use Rattle.ygg_histories.specs.ygg_meaning.Obligations.{Obligation, Init, CallOf, CutOf, TickOf, CutTickOf, Idle, Again, obligations_of, name_of}
 use Rattle.ygg_histories.specs.Stack.{tables_of}
-use Rattle.ygg_sched.specs.declared.claim.Obligation as code
-use Rattle.ygg_sched.specs.declared.claim.Obligation.TheVariants as asked
+use Rattle.ygg_sched.specs.declared.claim.LayerClaim as code
+use Rattle.ygg_sched.specs.declared.claim.LayerClaim.TheVariants as asked
 use Rattle.ygg_sched.specs.declared.claim.Low.{Low}
 use Rattle.ygg_sched.specs.declared.claim.Low.TheVariants as low
 use Rattle.ygg_sched.specs.declared.claim.Claim.{Claim}
@@ -123,7 +123,7 @@ low_in (low.Disk d) = tables_of d
 low_in (low.Variables ds) = ds.now
 
 -- the obligation that this is in code
-abbrev pub obligation_in : code.Obligation → Obligation
+abbrev pub obligation_in : code.LayerClaim → Obligation
 obligation_in asked.Init = Init
 obligation_in (asked.Call o) = CallOf o.now
 obligation_in (asked.Cut o) = CutOf o.now

@@ -2,7 +2,7 @@
 
 /// What an obligation asks of a layer.
 #[derive(Clone, Copy, PartialEq, Eq, Drop)]
-pub enum Kind {
+pub enum CaseKind {
     /// Formatting gives a state that is related to the specification's start.
     Init,
     /// A whole operation does what its specification does.
@@ -26,7 +26,7 @@ pub struct Case {
     /// The layer's place.
     pub layer: u32,
     /// What is asked.
-    pub kind: Kind,
+    pub kind: CaseKind,
     /// The place of the operation or background step.
     pub number: u32,
 }

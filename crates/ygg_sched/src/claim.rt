@@ -1,12 +1,12 @@
 ghost use Rattle.std.specs.Prelude.{◌≡◌, IfOk};
 
-use crate::case::{Case, Kind};
+use crate::case::{Case, CaseKind};
 use ygg_base::NoMemory;
 use ygg_syntax::tree::{Declared, DiskText, Layer, Operation, Tick};
 
 /// An obligation of a layer, with its operation or background step.
 #[derive(Clone, Copy)]
-pub enum Obligation<'a> {
+pub enum LayerClaim<'a> {
     /// Formatting gives a state that is related to the specification's start.
     Init,
     /// A whole operation does what its specification does.
@@ -42,7 +42,7 @@ pub struct Claim<'a> {
     /// The variables that `low` names there.
     pub low: Low<'a>,
     /// The obligation.
-    pub obligation: Obligation<'a>,
+    pub obligation: LayerClaim<'a>,
     /// The place of its operation or background step in the layer's list, from 0, else 0.
     pub number: usize,
 }
@@ -57,23 +57,23 @@ fn place_of(place: usize) -> Result<u32, NoMemory>
     }
 }
 
-impl<'a> Obligation<'a> {
+impl<'a> LayerClaim<'a> {
     ghost use Rattle.std.specs.Prelude.{◌≡◌};
     ghost use Rattle.ygg_sched.specs.Cases.{kind_of};
     ghost use Rattle.ygg_sched.specs.Sites.{obligation_in, has_state, has_low, arguments_of, has_stop, has_wake, has_other};
 
     /// What it asks.
-    pub fn kind(self) -> Kind
+    pub fn kind(self) -> CaseKind
         ensures { result ≡ kind_of (obligation_in self.entry) }
     {
         match self {
-            Obligation::Init => Kind::Init,
-            Obligation::Call(_) => Kind::Call,
-            Obligation::Cut(_) => Kind::Cut,
-            Obligation::Tick(_) => Kind::Tick,
-            Obligation::CutTick(_) => Kind::CutTick,
-            Obligation::Idle => Kind::Idle,
-            Obligation::Again => Kind::Again,
+            LayerClaim::Init => CaseKind::Init,
+            LayerClaim::Call(_) => CaseKind::Call,
+            LayerClaim::Cut(_) => CaseKind::Cut,
+            LayerClaim::Tick(_) => CaseKind::Tick,
+            LayerClaim::CutTick(_) => CaseKind::CutTick,
+            LayerClaim::Idle => CaseKind::Idle,
+            LayerClaim::Again => CaseKind::Again,
         }
     }
 
@@ -82,12 +82,12 @@ impl<'a> Obligation<'a> {
         ensures { result ≡ has_state (obligation_in self.entry) }
     {
         match self {
-            Obligation::Init | Obligation::Again => false,
-            Obligation::Call(_)
-            | Obligation::Cut(_)
-            | Obligation::Tick(_)
-            | Obligation::CutTick(_)
-            | Obligation::Idle => true,
+            LayerClaim::Init | LayerClaim::Again => false,
+            LayerClaim::Call(_)
+            | LayerClaim::Cut(_)
+            | LayerClaim::Tick(_)
+            | LayerClaim::CutTick(_)
+            | LayerClaim::Idle => true,
         }
     }
 
@@ -96,13 +96,13 @@ impl<'a> Obligation<'a> {
         ensures { result ≡ has_low (obligation_in self.entry) }
     {
         match self {
-            Obligation::Init => false,
-            Obligation::Call(_)
-            | Obligation::Cut(_)
-            | Obligation::Tick(_)
-            | Obligation::CutTick(_)
-            | Obligation::Idle
-            | Obligation::Again => true,
+            LayerClaim::Init => false,
+            LayerClaim::Call(_)
+            | LayerClaim::Cut(_)
+            | LayerClaim::Tick(_)
+            | LayerClaim::CutTick(_)
+            | LayerClaim::Idle
+            | LayerClaim::Again => true,
         }
     }
 
@@ -111,14 +111,14 @@ impl<'a> Obligation<'a> {
         ensures { result.now ≡ arguments_of (obligation_in self.entry) }
     {
         match self {
-            Obligation::Call(operation) | Obligation::Cut(operation) => {
+            LayerClaim::Call(operation) | LayerClaim::Cut(operation) => {
                 operation.arguments.as_slice()
             }
-            Obligation::Init
-            | Obligation::Tick(_)
-            | Obligation::CutTick(_)
-            | Obligation::Idle
-            | Obligation::Again => &[],
+            LayerClaim::Init
+            | LayerClaim::Tick(_)
+            | LayerClaim::CutTick(_)
+            | LayerClaim::Idle
+            | LayerClaim::Again => &[],
         }
     }
 
@@ -127,8 +127,8 @@ impl<'a> Obligation<'a> {
         ensures { result ≡ has_stop (obligation_in self.entry) }
     {
         match self {
-            Obligation::Cut(_) | Obligation::CutTick(_) | Obligation::Again => true,
-            Obligation::Init | Obligation::Call(_) | Obligation::Tick(_) | Obligation::Idle => {
+            LayerClaim::Cut(_) | LayerClaim::CutTick(_) | LayerClaim::Again => true,
+            LayerClaim::Init | LayerClaim::Call(_) | LayerClaim::Tick(_) | LayerClaim::Idle => {
                 false
             }
         }
@@ -139,9 +139,9 @@ impl<'a> Obligation<'a> {
         ensures { result ≡ has_wake (obligation_in self.entry) }
     {
         match self {
-            Obligation::Cut(_) | Obligation::CutTick(_) | Obligation::Idle | Obligation::Again =>
+            LayerClaim::Cut(_) | LayerClaim::CutTick(_) | LayerClaim::Idle | LayerClaim::Again =>
                 true,
-            Obligation::Init | Obligation::Call(_) | Obligation::Tick(_) => false,
+            LayerClaim::Init | LayerClaim::Call(_) | LayerClaim::Tick(_) => false,
         }
     }
 
@@ -150,13 +150,13 @@ impl<'a> Obligation<'a> {
         ensures { result ≡ has_other (obligation_in self.entry) }
     {
         match self {
-            Obligation::Again => true,
-            Obligation::Init
-            | Obligation::Call(_)
-            | Obligation::Cut(_)
-            | Obligation::Tick(_)
-            | Obligation::CutTick(_)
-            | Obligation::Idle => false,
+            LayerClaim::Again => true,
+            LayerClaim::Init
+            | LayerClaim::Call(_)
+            | LayerClaim::Cut(_)
+            | LayerClaim::Tick(_)
+            | LayerClaim::CutTick(_)
+            | LayerClaim::Idle => false,
         }
     }
 }

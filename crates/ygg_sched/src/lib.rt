@@ -34,8 +34,8 @@ mod value_writing;
 mod words;
 
 pub use bits::bits_in;
-pub use case::{Case, Kind};
-pub use claim::{Claim, Low, Obligation};
+pub use case::{Case, CaseKind};
+pub use claim::{Claim, LayerClaim, Low};
 pub use decimal::decimal_in;
 pub use flaw::ScheduleFlaw;
 pub use law::{printed_is_read, read_fits, sites_are_claims};

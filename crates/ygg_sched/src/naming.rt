@@ -12,7 +12,7 @@ ghost use Rattle.ygg_sched.specs.Sites.{obligation_in, site_in, low_in, sites_on
 ghost use Rattle.ygg_sched.specs.Naming.{calls_of, ticks_of, all_of, is_suffix};
 
 use crate::case::Case;
-use crate::claim::{Claim, Low, Obligation};
+use crate::claim::{Claim, LayerClaim, Low};
 use crate::words::after_front;
 use ygg_base::NoMemory;
 use ygg_syntax::tree::{File, Layer, Name, Operation, Tick};
@@ -21,7 +21,7 @@ use ygg_syntax::tree::{File, Layer, Name, Operation, Tick};
 #[derive(Clone, Copy)]
 pub struct Numbered<'a> {
     /// The obligation.
-    pub obligation: Obligation<'a>,
+    pub obligation: LayerClaim<'a>,
     /// The place.
     pub number: usize,
 }
@@ -43,11 +43,11 @@ fn call_named<'a>(operations: &'a [Operation], name: &[u8]) -> Option<Numbered<'
 {
     for (number, operation) in operations.iter().enumerate() {
         if is_marked(name, b".call.", &operation.name) {
-            let obligation = Obligation::Call(operation);
+            let obligation = LayerClaim::Call(operation);
             return Some(Numbered { obligation, number });
         }
         if is_marked(name, b".cut.", &operation.name) {
-            let obligation = Obligation::Cut(operation);
+            let obligation = LayerClaim::Cut(operation);
             return Some(Numbered { obligation, number });
         }
     }
@@ -61,11 +61,11 @@ fn tick_named<'a>(ticks: &'a [Tick], name: &[u8]) -> Option<Numbered<'a>>
 {
     for (number, tick) in ticks.iter().enumerate() {
         if is_marked(name, b".tick.", &tick.name) {
-            let obligation = Obligation::Tick(tick);
+            let obligation = LayerClaim::Tick(tick);
             return Some(Numbered { obligation, number });
         }
         if is_marked(name, b".cuttick.", &tick.name) {
-            let obligation = Obligation::CutTick(tick);
+            let obligation = LayerClaim::CutTick(tick);
             return Some(Numbered { obligation, number });
         }
     }
@@ -86,13 +86,13 @@ fn last_named<'a>(name: &[u8]) -> Option<Numbered<'a>>
 {
     if is_mark(name, b".idle") {
         return Some(Numbered {
-            obligation: Obligation::Idle,
+            obligation: LayerClaim::Idle,
             number: 0,
         });
     }
     if is_mark(name, b".again") {
         return Some(Numbered {
-            obligation: Obligation::Again,
+            obligation: LayerClaim::Again,
             number: 0,
         });
     }
@@ -110,7 +110,7 @@ fn own_named<'a>(
 {
     if is_mark(name, b".init") {
         return Some(Numbered {
-            obligation: Obligation::Init,
+            obligation: LayerClaim::Init,
             number: 0,
         });
     }

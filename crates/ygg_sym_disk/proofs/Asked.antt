@@ -16,8 +16,8 @@ use Rattle.ygg_sym_below.specs.ygg_shape_cells.declared.terms.SymValue.{SymValue
 use Rattle.ygg_syntax.specs.declared.tree.Declared.{Declared}
 use Rattle.ygg_sym_below.specs.ygg_meaning.Shapes.{shape_in}
 use Rattle.ygg_sym_below.specs.ygg_sym_runs.Lower.{CanAsk, KeepsSingle, SingleFrom, question_of}
-use Rattle.ygg_sym_below.specs.ygg_sym_runs.declared.question.Question as asked
-use Rattle.ygg_sym_below.specs.ygg_sym_runs.declared.question.Question.TheVariants as question
+use Rattle.ygg_sym_below.specs.ygg_sym_runs.declared.question.Awaited as asked
+use Rattle.ygg_sym_below.specs.ygg_sym_runs.declared.question.Awaited.TheVariants as question
 use Rattle.ygg_sym_below.specs.ygg_sym_runs.Runs.{SymQuestion}
 use Rattle.ygg_sym_below.proofs.of_ygg_sym_runs.Singles.{single_stays, input_single}
 use Rattle.ygg_sym_below.specs.Disks.{SymCall, Read, Write, Flush, sym_call, disk_handles}
@@ -36,7 +36,7 @@ shaped_stands inputs v kinds d nodes (Write at row) c = (stands nodes at c.0 c.1
 shaped_stands inputs v kinds d nodes Flush c = tt
 
 -- the call of a question that may be asked
-pub can_call : (m : SymDisk) (q : asked.Question) (name : Bor (List ℕ)) (xs : Bor (List SymValue)) (tables : List SymValue) (nodes : List Node) →
+pub can_call : (m : SymDisk) (q : asked.Awaited) (name : Bor (List ℕ)) (xs : Bor (List SymValue)) (tables : List SymValue) (nodes : List Node) →
     IsBank nodes → q ≡ question.Call name xs → CanAsk (disk_meaning m) nodes (question_of q) tables → CallStands m.disk nodes (sym_call name.now xs.now)
 can_call m q name xs tables nodes b e may =
     let can = subst (λ z. CanAsk (disk_meaning m) nodes (question_of z) tables) e may in

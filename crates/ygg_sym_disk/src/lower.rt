@@ -3,7 +3,7 @@
 use crate::lows::{Lows, merge_lows};
 use crate::machine::handle;
 use std::alloc::Global;
-use ygg_sym_below::{Bank, Book, Id, NoMemory, Question, SymLower, SymValue};
+use ygg_sym_below::{Awaited, Bank, Book, Id, NoMemory, SymLower, SymValue};
 use ygg_syntax::tree::DiskText;
 
 /// A disk over terms, whose picks are inputs of the bank: of each place the one whose number is so much above the first.
@@ -33,14 +33,14 @@ impl SymLower for SymDisk {
         bank: &mut Bank,
         book: &B,
         place: u64,
-        question: Question<'_>,
+        question: Awaited<'_>,
         state: &mut Lows,
     ) -> Result<Option<SymValue>, NoMemory> {
         // the bank's nodes stand in order
         let _ = bank.len();
         match question {
-            Question::Choice => Ok(None),
-            Question::Call(name, args) => match self.first.checked_add(place) {
+            Awaited::Choice => Ok(None),
+            Awaited::Call(name, args) => match self.first.checked_add(place) {
                 Some(number) => handle(
                     alloc,
                     bank,

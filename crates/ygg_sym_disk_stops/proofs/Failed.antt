@@ -8,8 +8,8 @@ use Rattle.ygg_sym_disk.specs.ygg_shape_cells.declared.terms.SymValue.{SymValue}
 use Rattle.ygg_sym_disk.proofs.of_ygg_sym_runs.Singles.{input_single, single_stays}
 use Rattle.ygg_sym_disk.specs.ygg_sym_runs.Lower.{KeepsSingle, SingleFrom, question_of}
 use Rattle.ygg_sym_disk.specs.ygg_sym_runs.Runs.{SymQuestion}
-use Rattle.ygg_sym_disk.specs.ygg_sym_runs.declared.question.Question as asked
-use Rattle.ygg_sym_disk.specs.ygg_sym_runs.declared.question.Question.TheVariants as question
+use Rattle.ygg_sym_disk.specs.ygg_sym_runs.declared.question.Awaited as asked
+use Rattle.ygg_sym_disk.specs.ygg_sym_runs.declared.question.Awaited.TheVariants as question
 use Rattle.ygg_sym_disk.specs.ygg_sym_below.Cuts.{disk_cuts}
 use Rattle.ygg_sym_disk.specs.ygg_sym_below.Disks.{sym_call}
 use Rattle.ygg_sym_disk.specs.ygg_sym_below_proofs_DiskKeeps.{cuts_keep}
@@ -22,7 +22,7 @@ use Rattle.ygg_sym_disk_stops.specs.Failing.{disk_power}
 use Rattle.ygg_sym_disk_stops.specs.declared.stops.DiskStops.{DiskStops}
 
 -- the call of a question within which power may fail
-pub can_call_cut : (m : DiskStops) (q : asked.Question) (name : Bor (List ℕ)) (xs : Bor (List SymValue)) (tables : List SymValue) (nodes : List Node) →
+pub can_call_cut : (m : DiskStops) (q : asked.Awaited) (name : Bor (List ℕ)) (xs : Bor (List SymValue)) (tables : List SymValue) (nodes : List Node) →
     IsBank nodes → q ≡ question.Call name xs → CanCut (disk_meaning m.machine) (disk_power m) nodes (question_of q) tables →
     CallStands m.machine.disk nodes (sym_call name.now xs.now)
 can_call_cut m q name xs tables nodes b e may =

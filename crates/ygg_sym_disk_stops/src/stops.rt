@@ -2,7 +2,7 @@
 
 use std::alloc::Global;
 use ygg_sym_disk::{
-    Bank, Book, Id, Lows, NoMemory, Question, SymDisk, SymLower, SymValue, cut, lose,
+    Awaited, Bank, Book, Id, Lows, NoMemory, SymDisk, SymLower, SymValue, cut, lose,
 };
 use ygg_sym_stops::SymStops;
 
@@ -35,7 +35,7 @@ impl SymLower for DiskStops {
         bank: &mut Bank,
         book: &B,
         place: u64,
-        question: Question<'_>,
+        question: Awaited<'_>,
         state: &mut Lows,
     ) -> Result<Option<SymValue>, NoMemory> {
         self.machine
@@ -72,16 +72,16 @@ impl SymStops for DiskStops {
         alloc: Global,
         bank: &mut Bank,
         book: &B,
-        question: Question<'_>,
+        question: Awaited<'_>,
         state: &Lows,
     ) -> Result<Lows, NoMemory> {
         // the bank's nodes stand in order
         let _ = bank.len();
         match question {
-            Question::Choice => Ok(Lows {
+            Awaited::Choice => Ok(Lows {
                 values: lose(alloc, self.machine.disk, &state.values)?,
             }),
-            Question::Call(name, args) => {
+            Awaited::Call(name, args) => {
                 let values = cut(
                     alloc,
                     bank,

@@ -2,7 +2,7 @@
 #![tactic(auto)]
 
 pub use ygg_sym_below::{
-    Bank, Book, Env, Given, Id, NoMemory, Node, Question, SymBinding, SymEvaluator, SymLower,
+    Awaited, Bank, Book, Env, Given, Id, NoMemory, Node, SymBinding, SymEvaluator, SymLower,
     SymRunner, SymValue, SymValues, choices, equal, equal_all, id_in, inputs_of, refines_by_list,
     room, typed_histories, zero,
 };

@@ -16,8 +16,8 @@ use Rattle.ygg_direct.specs.Direct.{Handled}
 use Rattle.ygg_sym_runs.specs.Runs.{SymQuestion, SymMachine}
 use Rattle.ygg_sym_runs.specs.Runs as runs
 use Rattle.ygg_sym_runs.specs.Meaning.{Low, MachineMeans, QuestionShaped, question_worth}
-use Rattle.ygg_sym_runs.specs.declared.question.Question as asked
-use Rattle.ygg_sym_runs.specs.declared.question.Question.TheVariants.{Choice, Call}
+use Rattle.ygg_sym_runs.specs.declared.question.Awaited as asked
+use Rattle.ygg_sym_runs.specs.declared.question.Awaited.TheVariants.{Choice, Call}
 
 -- each input among the nodes that has this number or a greater one is a single digit
 abbrev pub SingleFrom : ℕ → List Node → Type 0
@@ -28,7 +28,7 @@ abbrev pub KeepsSingle : List Node → List Node → Type 0
 KeepsSingle old new = (first : ℕ) → SingleFrom first old → SingleFrom first new
 
 -- what a block waits for
-abbrev pub question_of : asked.Question → SymQuestion
+abbrev pub question_of : asked.Awaited → SymQuestion
 question_of Choice = runs.Choice
 question_of (Call name args) = runs.Call name.now args.now
 

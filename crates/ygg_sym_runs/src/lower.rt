@@ -1,4 +1,4 @@
-use crate::question::Question;
+use crate::question::Awaited;
 use std::alloc::Global;
 use ygg_list::Duplicate;
 use ygg_sym_expr::{Bank, Book, Id, NoMemory, SymValue};
@@ -37,7 +37,7 @@ pub trait SymLower {
         bank: &mut Bank,
         book: &B,
         place: u64,
-        question: Question<'_>,
+        question: Awaited<'_>,
         state: &mut Self::State,
     ) -> Result<Option<SymValue>, NoMemory>
         requires asks { CanAsk (means self.now) bank.old (question_of question) state.old }

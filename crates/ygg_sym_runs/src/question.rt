@@ -4,7 +4,7 @@ use ygg_sym_expr::SymValue;
 
 /// What a block waits for: a choice, or the answer of an operation that it calls by name, with arguments.
 #[derive(Clone, Copy)]
-pub enum Question<'a> {
+pub enum Awaited<'a> {
     /// A choice.
     Choice,
     /// The answer of an operation of this name, called with these arguments.

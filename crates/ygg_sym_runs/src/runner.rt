@@ -10,7 +10,7 @@ ghost use Rattle.ygg_sym_runs.specs.Ready.{CanGet, known_with, terms_of};
 ghost use Rattle.ygg_sym_runs.specs.Runs.{places_of, plain_scope, sym_asks, sym_source, sym_values};
 
 use crate::lower::SymLower;
-use crate::question::Question;
+use crate::question::Awaited;
 use std::alloc::Global;
 use ygg_sym_expr::{
     Bank, Book, Id, NoMemory, SymBinding, SymEvaluator, SymValue, SymValues, id_in,
@@ -106,7 +106,7 @@ impl<'a, W: SymLower, B: Book> SymRunner<'a, W, B> {
     fn ask(
         &self,
         place: u64,
-        question: Question<'_>,
+        question: Awaited<'_>,
         bank: &mut Bank,
         state: &mut W::State,
     ) -> Result<SymValue, NoMemory>
@@ -153,10 +153,10 @@ impl<'a, W: SymLower, B: Book> SymRunner<'a, W, B> {
     {
         match from {
             Source::Value(e) => self.value(e, bank, names),
-            Source::Choose(_) => self.ask(place, Question::Choice, bank, state),
+            Source::Choose(_) => self.ask(place, Awaited::Choice, bank, state),
             Source::Call(_, f, es) => {
                 let args = self.values(es.as_slice(), bank, names)?;
-                let question = Question::Call(f.text.as_slice(), args.as_slice());
+                let question = Awaited::Call(f.text.as_slice(), args.as_slice());
                 self.ask(place, question, bank, state)
             }
         }

@@ -26,7 +26,7 @@ ghost use Rattle.ygg_sym_runs.specs.Runs.{merge_state, state, sym_stmt};
 
 use crate::lower::SymLower;
 use crate::names::{change, copy_names, join_names, name_value};
-use crate::question::Question;
+use crate::question::Awaited;
 use crate::runner::SymRunner;
 use ygg_list::Duplicate;
 use ygg_sym_expr::{Bank, Book, Id, NoMemory, Node, SymBinding, SymValue, id_in};
@@ -117,7 +117,7 @@ impl<'a, W: SymLower, B: Book> SymRunner<'a, W, B> {
     {
         let end = self.after_call(f, place)?;
         let args = self.values(es, bank, frame.names.as_slice())?;
-        let question = Question::Call(f.text.as_slice(), args.as_slice());
+        let question = Awaited::Call(f.text.as_slice(), args.as_slice());
         self.machine.handle(
             self.alloc,
             bank,

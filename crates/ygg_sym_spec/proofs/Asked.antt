@@ -21,8 +21,8 @@ use Rattle.ygg_sym_laws.specs.ygg_sym_expr.Meaning.{SomeShape}
 use Rattle.ygg_sym_laws.proofs.of_ygg_sym_runs.Singles.{single_less}
 use Rattle.ygg_sym_laws.proofs.of_ygg_sym_runs.Worths.{shape_fits}
 use Rattle.ygg_sym_laws.specs.ygg_sym_runs.Lower.{CanAsk, question_of}
-use Rattle.ygg_sym_laws.specs.ygg_sym_runs.declared.question.Question as asked
-use Rattle.ygg_sym_laws.specs.ygg_sym_runs.declared.question.Question.TheVariants as question
+use Rattle.ygg_sym_laws.specs.ygg_sym_runs.declared.question.Awaited as asked
+use Rattle.ygg_sym_laws.specs.ygg_sym_runs.declared.question.Awaited.TheVariants as question
 use Rattle.ygg_sym_laws.specs.ygg_sym_runs.Runs.{Call}
 use Rattle.ygg_sym_laws.specs.ygg_sym_below.Disks.{Done, done}
 use Rattle.ygg_sym_laws.specs.ygg_sym_below.Lows.{LowShaped}
@@ -51,7 +51,7 @@ signature_is : (a b : Signature) → Some a ≡ Some b → a ≡ b
 signature_is a b e = cc
 
 -- the call of a question that may be asked
-pub can_cut : (m : SymSpec) (q : asked.Question) (name : Bor (List ℕ)) (xs : Bor (List SymValue)) (vars : List SymValue) (nodes : List Node) (number : ℕ) →
+pub can_cut : (m : SymSpec) (q : asked.Awaited) (name : Bor (List ℕ)) (xs : Bor (List SymValue)) (vars : List SymValue) (nodes : List Node) (number : ℕ) →
     IsBank nodes → q ≡ question.Call name xs → m.first ≤ number → CanAsk (spec_meaning m) nodes (question_of q) vars →
     CanCut m.layer (picks.Inputs number) nodes name.now vars xs.now
 can_cut m q name xs vars nodes number b e less may =
@@ -75,7 +75,7 @@ can_cut m q name xs vars nodes number b e less may =
     }
 
 -- a call at a place
-pub call_goes : (kinds : List RuleKind) (m : SymSpec) (place number : ℕ) (q : asked.Question) (name : Bor (List ℕ)) (xs : Bor (List SymValue))
+pub call_goes : (kinds : List RuleKind) (m : SymSpec) (place number : ℕ) (q : asked.Awaited) (name : Bor (List ℕ)) (xs : Bor (List SymValue))
     (vars : List SymValue) (old : List Node) → number ≡ m.first + place → q ≡ question.Call name xs →
     call_of kinds m.layer number name.now xs.now vars old
     ≡ spec_handles kinds (terms_in kinds m.layer) (closed m.layer) (λ k. input_pick kinds m.first (place + k)) (question_of q) vars old

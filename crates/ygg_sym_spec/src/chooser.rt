@@ -4,7 +4,7 @@ use crate::picks::SymPicks;
 use std::alloc::Global;
 use std::marker::Model;
 use ygg_list::Duplicate;
-use ygg_sym_laws::{Bank, Book, Id, NoMemory, Question, SymLower, SymValue};
+use ygg_sym_laws::{Awaited, Bank, Book, Id, NoMemory, SymLower, SymValue};
 
 /// The state of a machine that has none.
 #[derive(Drop)]
@@ -49,17 +49,17 @@ impl<'a> SymLower for SymChooser<'a> {
         bank: &mut Bank,
         book: &B,
         place: u64,
-        question: Question<'_>,
+        question: Awaited<'_>,
         _state: &mut Nothing,
     ) -> Result<Option<SymValue>, NoMemory> {
         // the bank's nodes stand in order
         let _ = bank.len();
         match question {
-            Question::Choice => {
+            Awaited::Choice => {
                 let pick = self.picks.make(bank, book, place)?;
                 Ok(Some(SymValue::Word(pick)))
             }
-            Question::Call(_, _) => Ok(None),
+            Awaited::Call(_, _) => Ok(None),
         }
     }
 

@@ -13,7 +13,7 @@ use crate::layer::{SymLayer, operation_of};
 use crate::picks::SymPicks;
 use std::alloc::Global;
 use ygg_sym_disk::{Lows, merge_lows};
-use ygg_sym_laws::{Bank, Book, Id, NoMemory, Question, SymLower, SymValue};
+use ygg_sym_laws::{Awaited, Bank, Book, Id, NoMemory, SymLower, SymValue};
 
 /// The specification of a layer over terms, whose picks are inputs of the bank: of each place the one whose number is so much above the first.
 #[derive(Clone, Copy)]
@@ -48,14 +48,14 @@ impl<'a> SymLower for SymSpec<'a> {
         bank: &mut Bank,
         book: &B,
         place: u64,
-        question: Question<'_>,
+        question: Awaited<'_>,
         state: &mut Lows,
     ) -> Result<Option<SymValue>, NoMemory> {
         // the bank's nodes stand in order
         let _ = bank.len();
         match question {
-            Question::Choice => Ok(None),
-            Question::Call(name, args) => match self.first.checked_add(place) {
+            Awaited::Choice => Ok(None),
+            Awaited::Call(name, args) => match self.first.checked_add(place) {
                 Some(first) => call(alloc, bank, book, self.layer, first, name, args, state),
                 None => Err(NoMemory),
             },

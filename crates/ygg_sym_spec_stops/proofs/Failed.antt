@@ -8,8 +8,8 @@ use Rattle.ygg_sym_stops.specs.ygg_bank.declared.node.Node.{Node}
 use Rattle.ygg_sym_stops.specs.ygg_shape_cells.declared.terms.SymValue.{SymValue}
 use Rattle.ygg_sym_stops.proofs.of_ygg_sym_runs.Singles.{single_less}
 use Rattle.ygg_sym_stops.specs.ygg_sym_runs.Lower.{question_of}
-use Rattle.ygg_sym_stops.specs.ygg_sym_runs.declared.question.Question as asked
-use Rattle.ygg_sym_stops.specs.ygg_sym_runs.declared.question.Question.TheVariants as question
+use Rattle.ygg_sym_stops.specs.ygg_sym_runs.declared.question.Awaited as asked
+use Rattle.ygg_sym_stops.specs.ygg_sym_runs.declared.question.Awaited.TheVariants as question
 use Rattle.ygg_sym_spec.proofs.Asked.{can_cut}
 use Rattle.ygg_sym_spec.specs.Layers as layers
 use Rattle.ygg_sym_spec.specs.Machine.{spec_meaning}
@@ -31,7 +31,7 @@ can_crash m vars nodes can = record {
 }
 
 -- the call of a question within which power may fail
-pub can_fall : (m : SpecStops) (q : asked.Question) (name : Bor (List ℕ)) (xs : Bor (List SymValue)) (vars : List SymValue) (nodes : List Node) →
+pub can_fall : (m : SpecStops) (q : asked.Awaited) (name : Bor (List ℕ)) (xs : Bor (List SymValue)) (vars : List SymValue) (nodes : List Node) →
     IsBank nodes → q ≡ question.Call name xs → CanCut (spec_meaning m.machine) (spec_power m) nodes (question_of q) vars →
     layers.CanCut (m.machine).layer (picks.Inputs m.last) nodes name.now vars xs.now
 can_fall m q name xs vars nodes b e may =
@@ -44,36 +44,36 @@ can_fall m q name xs vars nodes b e may =
     })
 
 -- what power leaves of a choice, which no block of an implementation asks: what it leaves between questions
-choice_so : (kinds : List RuleKind) (m : SpecStops) (q : asked.Question) (vars these : List SymValue) (old : List Node) → q ≡ question.Choice → these ≡ vars →
+choice_so : (kinds : List RuleKind) (m : SpecStops) (q : asked.Awaited) (vars these : List SymValue) (old : List Node) → q ≡ question.Choice → these ≡ vars →
     layers.crash_of kinds (m.machine).layer (picks.Inputs m.last) these old ≡ (spec_power m).cut kinds (question_of q) vars old
 choice_so kinds m q vars these old e f =
     ap (λ z. layers.crash_of kinds (m.machine).layer (picks.Inputs m.last) z old) f ∙ ap (λ z. (spec_power m).cut kinds (question_of z) vars old) (sym e)
 
-pub choice_nodes : (kinds : List RuleKind) (m : SpecStops) (q : asked.Question) (vars these : List SymValue) (old new : List Node) → q ≡ question.Choice →
+pub choice_nodes : (kinds : List RuleKind) (m : SpecStops) (q : asked.Awaited) (vars these : List SymValue) (old new : List Node) → q ≡ question.Choice →
     these ≡ vars → new ≡ (layers.crash_of kinds (m.machine).layer (picks.Inputs m.last) these old).nodes →
     new ≡ ((spec_power m).cut kinds (question_of q) vars old).nodes
 choice_nodes kinds m q vars these old new e f g = g ∙ ap (λ (o : Out (List SymValue)). o.nodes) (choice_so kinds m q vars these old e f)
 
-pub choice_form : (kinds : List RuleKind) (m : SpecStops) (q : asked.Question) (vars these : List SymValue) (old : List Node) (left : List SymValue) →
+pub choice_form : (kinds : List RuleKind) (m : SpecStops) (q : asked.Awaited) (vars these : List SymValue) (old : List Node) (left : List SymValue) →
     q ≡ question.Choice → these ≡ vars → left ≡ (layers.crash_of kinds (m.machine).layer (picks.Inputs m.last) these old).value →
     left ≡ ((spec_power m).cut kinds (question_of q) vars old).value
 choice_form kinds m q vars these old left e f g = g ∙ ap (λ (o : Out (List SymValue)). o.value) (choice_so kinds m q vars these old e f)
 
 -- what power leaves of a call
-call_so : (kinds : List RuleKind) (m : SpecStops) (q : asked.Question) (name : Bor (List ℕ)) (xs : Bor (List SymValue)) (vars these : List SymValue)
+call_so : (kinds : List RuleKind) (m : SpecStops) (q : asked.Awaited) (name : Bor (List ℕ)) (xs : Bor (List SymValue)) (vars these : List SymValue)
     (old : List Node) → q ≡ question.Call name xs → these ≡ vars →
     layers.fall_of kinds (m.machine).layer (picks.Inputs m.last) name.now xs.now these old ≡ (spec_power m).cut kinds (question_of q) vars old
 call_so kinds m q name xs vars these old e f =
     ap (λ z. layers.fall_of kinds (m.machine).layer (picks.Inputs m.last) name.now xs.now z old) f
     ∙ ap (λ z. (spec_power m).cut kinds (question_of z) vars old) (sym e)
 
-pub call_nodes : (kinds : List RuleKind) (m : SpecStops) (q : asked.Question) (name : Bor (List ℕ)) (xs : Bor (List SymValue)) (vars these : List SymValue)
+pub call_nodes : (kinds : List RuleKind) (m : SpecStops) (q : asked.Awaited) (name : Bor (List ℕ)) (xs : Bor (List SymValue)) (vars these : List SymValue)
     (old new : List Node) → q ≡ question.Call name xs → these ≡ vars →
     new ≡ (layers.fall_of kinds (m.machine).layer (picks.Inputs m.last) name.now xs.now these old).nodes →
     new ≡ ((spec_power m).cut kinds (question_of q) vars old).nodes
 call_nodes kinds m q name xs vars these old new e f g = g ∙ ap (λ (o : Out (List SymValue)). o.nodes) (call_so kinds m q name xs vars these old e f)
 
-pub call_form : (kinds : List RuleKind) (m : SpecStops) (q : asked.Question) (name : Bor (List ℕ)) (xs : Bor (List SymValue)) (vars these : List SymValue)
+pub call_form : (kinds : List RuleKind) (m : SpecStops) (q : asked.Awaited) (name : Bor (List ℕ)) (xs : Bor (List SymValue)) (vars these : List SymValue)
     (old : List Node) (left : List SymValue) → q ≡ question.Call name xs → these ≡ vars →
     left ≡ (layers.fall_of kinds (m.machine).layer (picks.Inputs m.last) name.now xs.now these old).value →
     left ≡ ((spec_power m).cut kinds (question_of q) vars old).value

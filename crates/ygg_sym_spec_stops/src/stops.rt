@@ -2,7 +2,7 @@
 
 use std::alloc::Global;
 use ygg_sym_spec::{Lows, SymPicks, SymSpec, crash, fall};
-use ygg_sym_stops::{Bank, Book, Id, NoMemory, Question, SymLower, SymStops, SymValue};
+use ygg_sym_stops::{Awaited, Bank, Book, Id, NoMemory, SymLower, SymStops, SymValue};
 
 /// The specification of a layer over terms whose power fails at stops.
 #[derive(Clone, Copy)]
@@ -33,7 +33,7 @@ impl<'a> SymLower for SpecStops<'a> {
         bank: &mut Bank,
         book: &B,
         place: u64,
-        question: Question<'_>,
+        question: Awaited<'_>,
         state: &mut Lows,
     ) -> Result<Option<SymValue>, NoMemory> {
         self.machine
@@ -70,7 +70,7 @@ impl<'a> SymStops for SpecStops<'a> {
         alloc: Global,
         bank: &mut Bank,
         book: &B,
-        question: Question<'_>,
+        question: Awaited<'_>,
         state: &Lows,
     ) -> Result<Lows, NoMemory> {
         // the bank's nodes stand in order
@@ -78,11 +78,11 @@ impl<'a> SymStops for SpecStops<'a> {
         let layer = self.machine.layer;
         let picks = SymPicks::Inputs(self.last);
         match question {
-            Question::Choice => {
+            Awaited::Choice => {
                 let values = crash(alloc, bank, book, layer, picks, &state.values)?;
                 Ok(Lows { values })
             }
-            Question::Call(name, args) => {
+            Awaited::Call(name, args) => {
                 let values = fall(alloc, bank, book, layer, picks, name, args, &state.values)?;
                 Ok(Lows { values })
             }

@@ -5,7 +5,7 @@ use crate::stops::SymStops;
 use std::alloc::Global;
 use std::marker::Model;
 use ygg_list::Duplicate;
-use ygg_sym_below::{Bank, Book, Id, NoMemory, Question, SymLower, SymValue, pick};
+use ygg_sym_below::{Awaited, Bank, Book, Id, NoMemory, SymLower, SymValue, pick};
 
 /// A state of a machine with stops.
 #[derive(Drop)]
@@ -61,7 +61,7 @@ impl<'a, W: SymStops> SymLower for Halting<'a, W> {
         bank: &mut Bank,
         book: &B,
         place: u64,
-        question: Question<'_>,
+        question: Awaited<'_>,
         state: &mut StopState<W::State>,
     ) -> Result<Option<SymValue>, NoMemory> {
         let done = ask_halting(

@@ -10,6 +10,6 @@ pub use ending::{StopEnd, end_halting};
 pub use halting::{Halting, StopState};
 pub use stops::SymStops;
 pub use ygg_sym_below::{
-    Bank, Book, Id, NoMemory, Node, Question, SymBinding, SymFrame, SymLower, SymRunner, SymValue,
+    Awaited, Bank, Book, Id, NoMemory, Node, SymBinding, SymFrame, SymLower, SymRunner, SymValue,
     SymValues,
 };

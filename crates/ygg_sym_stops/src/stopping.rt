@@ -13,7 +13,7 @@ ghost use Rattle.ygg_sym_stops.specs.Stopping.{stops_on};
 
 use crate::stops::SymStops;
 use std::alloc::Global;
-use ygg_sym_below::{Bank, Book, Id, NoMemory, Node, Question, SymValue};
+use ygg_sym_below::{Awaited, Bank, Book, Id, NoMemory, Node, SymValue};
 use ygg_value::Op;
 
 /// The number of the stop before the question at a place. Its only error is out of memory: the number doesn't fit.
@@ -87,7 +87,7 @@ pub fn left<W: SymStops, B: Book>(
     book: &B,
     here: Id,
     within: Id,
-    question: Question<'_>,
+    question: Awaited<'_>,
     to: &W::State,
     fallen: &W::State,
     stopped: Id,
@@ -134,7 +134,7 @@ pub fn ask_halting<W: SymStops, B: Book>(
     bank: &mut Bank,
     book: &B,
     place: u64,
-    question: Question<'_>,
+    question: Awaited<'_>,
     to: &mut W::State,
     fallen: &W::State,
     stopped: Id,

@@ -1,5 +1,5 @@
 use std::alloc::Global;
-use ygg_sym_below::{Bank, Book, NoMemory, Question, SymLower};
+use ygg_sym_below::{Awaited, Bank, Book, NoMemory, SymLower};
 
 /// A machine over terms whose power fails: at each stop of a run that is set, there being one before and one within each question and one after
 /// all of them. Each stop has an input of the bank, from a number on, and what power leaves has inputs of its own.
@@ -22,7 +22,7 @@ pub trait SymStops: SymLower {
         alloc: Global,
         bank: &mut Bank,
         book: &B,
-        question: Question<'_>,
+        question: Awaited<'_>,
         state: &Self::State,
     ) -> Result<Self::State, NoMemory>
         requires cuts { CanCut (Self.means self.now) (power self.now) bank.old (question_of question) state.now }

@@ -28,11 +28,11 @@ use Rattle.ygg_cnf_set.specs.LiteralSet.{code_of}
 use Rattle.ygg_cnf.proofs.Lits.{same_lit}
 use Rattle.ygg_cnf.specs.declared.lit.Lit.{Lit}
 use Rattle.ygg_watch_visit.specs.Links.{Linked, lit_at}
-use Rattle.ygg_watch_visit.specs.declared.links.Node.{Node}
+use Rattle.ygg_watch_visit.specs.declared.links.WatchNode.{WatchNode}
 
 -- what a changed node keeps
-pub kept_at : {X : Type 0} (f : Node → X) (nodes : List Node) (i : ℕ) (old new : Node) → i < length nodes → old ≡ get_or nodes i old → f new ≡ f old →
-    map f (set nodes i new) ≡ map f nodes
+pub kept_at : {X : Type 0} (f : WatchNode → X) (nodes : List WatchNode) (i : ℕ) (old new : WatchNode) → i < length nodes → old ≡ get_or nodes i old →
+    f new ≡ f old → map f (set nodes i new) ≡ map f nodes
 kept_at f nodes i old new l is same =
     map-set f nodes i new
     ∙ (ap (set (map f nodes) i) (same ∙ (ap f is ∙ sym (get_or-map f nodes i old (f old) l)))

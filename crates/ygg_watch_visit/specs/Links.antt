@@ -1,7 +1,7 @@
 -- Watches as lists.
 use Rattle.std.specs.Prelude.{ℕ, ◌/◌, ◌%◌, eqb, List, map}
 use Rattle.ygg_cnf.specs.declared.lit.Lit.{Lit}
-use Rattle.ygg_watch_visit.specs.declared.links.Node.{Node}
+use Rattle.ygg_watch_visit.specs.declared.links.WatchNode.{WatchNode}
 
 -- the literal of each watch, the next one of each, and the first one by literal
 pub record Linked : Type 0 where
@@ -14,5 +14,5 @@ abbrev pub lit_at : ℕ → Lit
 lit_at c = record { var = c / 2; negated = eqb (c % 2) 1 }
 
 -- the lists that the nodes hold
-abbrev pub linked : List Node → List ℕ → Linked
-linked nodes firsts = record { watched = map (λ (n : Node). lit_at n.code) nodes; next = map (λ (n : Node). n.next) nodes; firsts = firsts }
+abbrev pub linked : List WatchNode → List ℕ → Linked
+linked nodes firsts = record { watched = map (λ (n : WatchNode). lit_at n.code) nodes; next = map (λ (n : WatchNode). n.next) nodes; firsts = firsts }

@@ -49,7 +49,7 @@ pub fn lits_of(clauses: &[Clause], at: usize) -> &[Lit]
 
 /// A watch: the code of its literal, and the next watch of that literal's list, plus 1, or 0 at its end.
 #[derive(Clone, Copy)]
-pub struct Node {
+pub struct WatchNode {
     code: u32,
     next: u32,
 }
@@ -59,7 +59,7 @@ pub struct Node {
 /// found, which is advice.
 #[derive(Drop)]
 pub struct Links {
-    nodes: Vec<Node>,
+    nodes: Vec<WatchNode>,
     firsts: Vec<u32>,
     starts: Vec<u32>,
 }
@@ -105,7 +105,7 @@ impl Links {
         }
         self.nodes.reserve(2)?;
         self.starts.push(0)?;
-        let none = Node { code: 0, next: 0 };
+        let none = WatchNode { code: 0, next: 0 };
         self.nodes.push_reserved(none);
         self.nodes.push_reserved(none);
         Ok(())
@@ -120,7 +120,7 @@ impl Links {
         ensures firsts { self.new.firsts ≡ set self.old.firsts code (node + 1) }
     {
         let now = self.nodes[node];
-        self.nodes[node] = Node {
+        self.nodes[node] = WatchNode {
             code: now.code,
             next: self.firsts[code],
         };
@@ -162,7 +162,7 @@ impl Links {
         ensures firsts { self.new.firsts ≡ self.old.firsts }
     {
         let now = self.nodes[node];
-        self.nodes[node] = Node {
+        self.nodes[node] = WatchNode {
             code: code(lit) as u32,
             next: now.next,
         };
