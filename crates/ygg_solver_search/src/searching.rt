@@ -6,7 +6,7 @@ ghost use Rattle.ygg_solver_search.specs.Ends.{IsEnd};
 
 use crate::run::to_conflict;
 use std::alloc::Global;
-use ygg_cnf::{Clause, Clauses, Log, Step};
+use ygg_cnf::{Clause, Clauses, Lit, Log, Step};
 use ygg_list::{NoMemory, Sequence};
 use ygg_solver_learn::{Learned, Removal, analyze, last_decision, refute};
 use ygg_watch_order::{Order, Restarts};
@@ -40,7 +40,44 @@ fn raise(order: &mut Order, clauses: &[Clause], chain: &[u64]) {
             }
         }
     }
-    order.decay();
+}
+
+/// The reason of a variable that is assigned, where there is one.
+fn reason_of<'a>(
+    clauses: &'a [Clause],
+    trail: &[Entry],
+    places: &[usize],
+    var: u64,
+) -> Option<&'a Clause> {
+    let place = places.get(var as usize)?;
+    let id = trail.get(*place)?.reason?;
+    clauses.get((id as usize).wrapping_sub(1))
+}
+
+/// The most literals of a learned clause whose reasons make variables more active.
+const REASON_SIDE: usize = 10;
+
+/// Makes the other variables in the reasons of a short learned clause's literals more active: they are what the clause rests on beyond the clauses that
+/// were resolved. (In clauses of any length it makes single searches many times longer.)
+fn raise_reasons(
+    order: &mut Order,
+    clauses: &[Clause],
+    trail: &[Entry],
+    places: &[usize],
+    learned: &[Lit],
+) {
+    if learned.len() > REASON_SIDE {
+        return;
+    }
+    for known in learned {
+        if let Some(reason) = reason_of(clauses, trail, places, known.var) {
+            for lit in reason.as_slice() {
+                if lit.var != known.var {
+                    order.bump(lit.var as usize);
+                }
+            }
+        }
+    }
 }
 
 /// Keeps the values above the level, and puts their variables back into the order.
@@ -111,6 +148,8 @@ pub fn search<P: Trail>(
         )?;
         let level = level_after(&mut restarts, level);
         raise(order, held, chain.as_slice());
+        raise_reasons(order, held, trail, propagation.places(), clause.as_slice());
+        order.decay();
         release(order, trail, level)?;
         let kept = clause.copy(alloc)?;
         propagation.back(level);
