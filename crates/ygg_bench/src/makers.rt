@@ -100,13 +100,14 @@ const OF_WORDS: [(&str, TriedMaker); 28] = [
     ("same_same", TriedMaker::SameOf(WordMaker::Same)),
 ];
 
-const OF_VALUES: [(&str, TriedMaker); 6] = [
+const OF_VALUES: [(&str, TriedMaker); 7] = [
     ("inputs_of", TriedMaker::Inputs),
     ("zero", TriedMaker::Zero),
     ("merge", TriedMaker::Merge),
     ("merge_all", TriedMaker::MergeAll),
     ("equal", TriedMaker::Equal),
     ("equal_all", TriedMaker::EqualAll),
+    ("equal_merged", TriedMaker::EqualMerged),
 ];
 
 const IN_ROWS: [(&str, TriedMaker); 2] = [

@@ -61,6 +61,8 @@ pub enum TriedMaker {
     Equal,
     /// Whether two values and the same in turn are equal, one by one.
     EqualAll,
+    /// Whether the first value where the test is 1, and else the second, is equal to the second.
+    EqualMerged,
     /// The word of a row at the place.
     SelectWord,
     /// The row with a word at the place.
@@ -304,6 +306,7 @@ fn made_of<B: Book>(
         | TriedMaker::MergeAll
         | TriedMaker::Equal
         | TriedMaker::EqualAll
+        | TriedMaker::EqualMerged
         | TriedMaker::Word(_)
         | TriedMaker::SameOf(_) => { of_alike(alloc, bank, book, maker, setting, inputs) }
         TriedMaker::SelectWord
@@ -382,8 +385,25 @@ fn of_values<B: Book>(
         TriedMaker::Merge => merge(alloc, bank, book, test, one, two),
         TriedMaker::MergeAll => merged_second(alloc, bank, book, test, one, two),
         TriedMaker::EqualAll => in_turn(alloc, bank, book, one, two),
+        TriedMaker::EqualMerged => merged_compared(alloc, bank, book, test, one, two),
         _ => Ok(SymValue::Word(equal(bank, book, one, two)?)),
     }
+}
+
+/// Whether two values that are merged by the test are equal to the second: where these are rows, all words that differ share the test.
+fn merged_compared<B: Book>(
+    alloc: Global,
+    bank: &mut Bank,
+    book: &B,
+    test: Id,
+    one: &SymValue,
+    two: &SymValue,
+) -> Result<SymValue, NoMemory>
+    requires test { HasWidth bank.old test 1 }
+    requires values { AreAlike bank.old one.now two.now }
+{
+    let merged = merge(alloc, bank, book, test, one, two)?;
+    Ok(SymValue::Word(equal(bank, book, &merged, two)?))
 }
 
 /// The second of two values that are merged with the same in turn.

@@ -32,6 +32,7 @@ pub fn meant(alloc: Global, maker: TriedMaker, operands: &Operands) -> Result<Va
         TriedMaker::Merge => copy_value(alloc, if is_one { one } else { two }),
         TriedMaker::MergeAll => copy_value(alloc, if is_one { two } else { one }),
         TriedMaker::Equal | TriedMaker::EqualAll => Ok(digit(same(one, two))),
+        TriedMaker::EqualMerged => Ok(digit(!is_one || same(one, two))),
         TriedMaker::SelectWord | TriedMaker::Select => read(alloc, one, operands.at, two),
         TriedMaker::StoreWord | TriedMaker::Store => written(alloc, true, one, operands.at, two),
         TriedMaker::StoreWhere => written(alloc, is_one, one, operands.at, two),
