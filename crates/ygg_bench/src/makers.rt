@@ -5,7 +5,7 @@ ghost use Rattle.ygg_value.specs.Shapes.{IsShape};
 ghost use Rattle.ygg_bench.specs.Tried.{AreInputs};
 
 use crate::environments::{Comparisons, compare_all};
-use crate::shapes::{Pair, is_shape, other_of};
+use crate::shapes::{Partner, is_shape, other_of};
 use crate::terms::{
     Known, Setting, TermOperands, TriedMaker, TriedPlace, WordMaker, inputs_in, terms_of,
 };
@@ -20,7 +20,7 @@ use ygg_value::{Op, Shape};
 struct Group {
     makers: &'static [(&'static str, TriedMaker)],
     sizes: &'static [Size],
-    pair: Pair,
+    partner: Partner,
     places: &'static [TriedPlace],
     known: &'static [Known],
 }
@@ -30,35 +30,35 @@ const GROUPS: [Group; 5] = [
     Group {
         makers: &OF_DIGITS,
         sizes: &DIGITS,
-        pair: Pair::Alike,
+        partner: Partner::Alike,
         places: &NO_PLACES,
         known: &KNOWN,
     },
     Group {
         makers: &OF_WORDS,
         sizes: &WORDS,
-        pair: Pair::Alike,
+        partner: Partner::Alike,
         places: &NO_PLACES,
         known: &KNOWN,
     },
     Group {
         makers: &OF_VALUES,
         sizes: &VALUES,
-        pair: Pair::Alike,
+        partner: Partner::Alike,
         places: &NO_PLACES,
         known: &UNKNOWN,
     },
     Group {
         makers: &IN_ROWS,
         sizes: &ROWS,
-        pair: Pair::Part,
+        partner: Partner::Part,
         places: &PLACES,
         known: &UNKNOWN,
     },
     Group {
         makers: &IN_TABLES,
         sizes: &TABLES,
-        pair: Pair::Part,
+        partner: Partner::Part,
         places: &PLACES,
         known: &UNKNOWN,
     },
@@ -284,7 +284,7 @@ fn try_maker(
 ) -> Result<(), NoMemory> {
     for size in group.sizes {
         let one = shape_of(*size);
-        let two = other_of(group.pair, one);
+        let two = other_of(group.partner, one);
         for place in group.places {
             for known in group.known {
                 let setting = Setting {

@@ -6,20 +6,20 @@ ghost use Rattle.ygg_bench.specs.Tried.{IsPart};
 
 use ygg_value::Shape;
 
-/// What a maker's two values are.
+/// What a maker's second value is, beside the first.
 #[derive(Clone, Copy)]
-pub enum Pair {
-    /// Values of one shape.
+pub enum Partner {
+    /// A value of the same shape.
     Alike,
-    /// A table and a row of it, or a row and a word of it.
+    /// A row of the table, or a word of the row.
     Part,
 }
 
 /// The shape of the second value, where the first has this shape.
-pub fn other_of(pair: Pair, shape: Shape) -> Shape {
-    match (pair, shape) {
-        (Pair::Part, Shape::Row { width, .. }) => Shape::Word { width },
-        (Pair::Part, Shape::Table { words, width, .. }) => Shape::Row { words, width },
+pub fn other_of(partner: Partner, shape: Shape) -> Shape {
+    match (partner, shape) {
+        (Partner::Part, Shape::Row { width, .. }) => Shape::Word { width },
+        (Partner::Part, Shape::Table { words, width, .. }) => Shape::Row { words, width },
         _ => shape,
     }
 }
