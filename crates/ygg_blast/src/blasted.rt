@@ -7,6 +7,7 @@ ghost use Rattle.ygg_bank.specs.Nodes.{HasWidth, IsBank, Stands};
 ghost use Rattle.ygg_bank.specs.declared.node.Id.{Id};
 ghost use Rattle.ygg_bank.specs.declared.node.Node.{Node};
 ghost use Rattle.ygg_cnf.specs.Literals.{SatisfiesAll, truth_of};
+ghost use Rattle.ygg_cnf.specs.declared.lit.Lit.{Lit};
 ghost use Rattle.ygg_gates.specs.Groups.{circuit_clauses, circuit_of, translated};
 ghost use Rattle.ygg_gates.specs.Sources.{environment_by, number_from};
 
@@ -43,6 +44,15 @@ impl Blasted {
         ensures { result.now ≡ self.now.clauses }
     {
         &self.clauses
+    }
+
+    /// The clauses, handed over, and the variables of the inputs that the term reaches. It takes no memory.
+    pub fn into_parts(self) -> (Clauses, Sequence<InputVariables>)
+        ensures clauses { result.0 ≡ self.clauses }
+        ensures sources { result.1 ≡ self.sources }
+    {
+        let Blasted { clauses, sources } = self;
+        (clauses, sources)
     }
 }
 
@@ -131,19 +141,33 @@ pub fn environment(
     ensures zero { (nodes : List Node) (term : Id) → IsBank nodes → HasWidth nodes term 1 → blasted.now ≡ translated nodes term →
         SatisfiesAll (truth_of assignment.now) blasted.now.clauses → IfOk result (IsZeroIn nodes term) }
 {
-    environment_of(alloc, blasted, assignment)
+    environment_of(alloc, &blasted.sources, assignment)
+}
+
+/// The same for who has handed the clauses over: by the variables of the inputs.
+pub fn environment_of(
+    alloc: Global,
+    sources: &Sequence<InputVariables>,
+    assignment: &Assignment,
+) -> Result<Env, NoMemory>
+    ensures form { IfOk result (λ env. env ≡ environment_by (truth_of assignment.now) sources.now) }
+    ensures zero { (nodes : List Node) (term : Id) (clauses : List (List Lit)) → IsBank nodes → HasWidth nodes term 1 →
+        record { clauses = clauses; sources = sources.now } ≡ translated nodes term →
+        SatisfiesAll (truth_of assignment.now) clauses → IfOk result (IsZeroIn nodes term) }
+{
+    words_of(alloc, sources, assignment)
 }
 
 /// The words that truth values give inputs.
-fn environment_of(
+fn words_of(
     alloc: Global,
-    blasted: &Blasted,
+    sources: &Sequence<InputVariables>,
     assignment: &Assignment,
 ) -> Result<Env, NoMemory>
-    ensures { IfOk result (λ env. env ≡ environment_by (truth_of assignment.now) blasted.now.sources) }
+    ensures { IfOk result (λ env. env ≡ environment_by (truth_of assignment.now) sources.now) }
 {
     let mut env = Env::new(alloc);
-    for source in blasted.sources.as_slice() {
+    for source in sources.as_slice() {
         env.push(Given::Word {
             number: source.number,
             word: word_of(assignment, source),

@@ -7,9 +7,9 @@ ghost use Rattle.ygg_decide.specs.Deciding.{IsDecided, IsSound};
 
 use std::alloc::Global;
 use ygg_blast::{
-    Bank, Blasted, Book, Env, Id, Log, NoMemory, clauses_of, derivations_are_sound, environment,
+    Bank, Blasted, Book, Env, Id, Log, NoMemory, clauses_of, derivations_are_sound, environment_of,
 };
-use ygg_solver::{Answer, solve};
+use ygg_solver::{Answer, solve_owned};
 
 /// What deciding a term within a budget of learned clauses comes to.
 #[derive(Drop)]
@@ -48,30 +48,35 @@ fn decide_in(alloc: Global, bank: &Bank, term: Id, budget: u32) -> Result<Decide
     ensures sound { IfOk result (IsSound bank.now term) }
 {
     let blasted = clauses_of(alloc, bank, term)?;
-    decide_blasted(alloc, bank, &blasted, term, budget)
+    decide_blasted(alloc, bank, blasted, term, budget)
 }
 
-/// The same by the term's clauses.
+/// The same by the term's clauses, whose memory is given back before the search begins.
 fn decide_blasted(
     alloc: Global,
     bank: &Bank,
-    blasted: &Blasted,
+    blasted: Blasted,
     term: Id,
     budget: u32,
 ) -> Result<Decided, NoMemory>
     requires width { HasWidth bank.now term 1 }
     requires budget { 0 < budget }
-    requires form { blasted.now ≡ translated bank.now term }
-    requires exactly { AreExact bank.now term blasted.now.clauses }
-    requires numbered { IsNumbered blasted.now.clauses }
+    requires form { blasted ≡ translated bank.now term }
+    requires exactly { AreExact bank.now term blasted.clauses }
+    requires numbered { IsNumbered blasted.clauses }
     ensures decided { IfOk result (IsDecided bank.now term budget) }
     ensures sound { IfOk result (IsSound bank.now term) }
 {
     // the bank's nodes stand in order, and a refutation is sound
     let _ = bank.len();
     derivations_are_sound();
-    match solve(alloc, blasted.clauses(), budget)? {
-        Answer::Sat(assignment) => Ok(Decided::Fails(environment(alloc, blasted, &assignment)?)),
+    let (clauses, sources) = blasted.into_parts();
+    match solve_owned(alloc, clauses, budget)? {
+        Answer::Sat(assignment) => Ok(Decided::Fails(environment_of(
+            alloc,
+            &sources,
+            &assignment,
+        )?)),
         Answer::Unsat(log) => Ok(Decided::Valid(log)),
         Answer::Spent(log) => Ok(Decided::Spent(log)),
     }

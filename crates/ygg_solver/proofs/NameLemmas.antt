@@ -32,7 +32,7 @@ use Rattle.std.proofs.Common.{
   All,
   refl,
 }
-use Rattle.std.proofs.lemmas.Bool.{cases_lt, cases_Bool, leb-true}
+use Rattle.std.proofs.lemmas.Bool.{cases_lt, cases_Bool, leb-true, false≢true}
 use Rattle.std.proofs.lemmas.List.Elements.{All-push, All-get_or, All-head, All-tail, All-cons, All-contains}
 use Rattle.std.proofs.lemmas.List.{map-append, take_more, length-map, get_or-map}
 use Rattle.ygg_solver_search.specs.ygg_cnf.declared.lit.Lit.{Lit}
@@ -209,3 +209,11 @@ module _ (variables : List ℕ) (distinct : IsDistinct variables) (trail : List 
       ∙ (was place l positive ∙ sym a.1))
       (λ b. ap (truth_of after) (ap (λ v. get_or variables v 0) (sym b.0) ∙ sym name) ∙ (here ∙ (ap not (sym n) ∙ sym b.1.0)))
       (value_more trail i e at is.distinct place)
+
+pub not_true : (b : Bool) → not b ≡ true → b ≡ false
+not_true true e = absurd (false≢true e)
+not_true false e = refl
+
+pub not_false : (b : Bool) → not b ≡ false → b ≡ true
+not_false true e = refl
+not_false false e = absurd (false≢true (sym e))

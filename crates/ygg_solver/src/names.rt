@@ -10,7 +10,7 @@ ghost use Rattle.ygg_solver.specs.Names.{step_at, log_at, GivesValues};
 use std::alloc::Global;
 use ygg_chain::Variables;
 use ygg_list::NoMemory;
-use ygg_solver_search::{Assignment, Clause, Clauses, Entry, Lit, Log, Step};
+use ygg_solver_search::{Assignment, Clause, Clauses, Lit, Log, PackedClause, PackedEntry, Step};
 
 /// The clause with the places of its variables, after those that had none have been given one. After running out of memory some of
 /// them may have been given one.
@@ -30,18 +30,30 @@ fn number_clause(
     Ok(kept)
 }
 
+/// The clause of places in literals of 4 bytes. Its only error is out of memory, which more than 2,147,483,648 variables come to.
+fn pack(alloc: Global, variables: &Variables, clause: &[Lit]) -> Result<PackedClause, NoMemory>
+    requires { All (IsPlaced variables.now) clause.now }
+    ensures { IfOk result (λ packed. packed ≡ clause.now) }
+{
+    if variables.len() > 1 << 31 {
+        return Err(NoMemory);
+    }
+    PackedClause::of(alloc, clause)
+}
+
 /// The clauses with the places of their variables, after those that had none have been given one.
 pub fn number_all(
     alloc: Global,
     variables: &mut Variables,
     clauses: &Clauses,
-) -> Result<Clauses, NoMemory>
-    ensures placed { IfOk result (λ kept. All (All (IsPlaced variables.new)) kept) }
-    ensures same { IfOk result (λ kept. clauses_at variables.new kept ≡ clauses.now) }
+) -> Result<Vec<PackedClause>, NoMemory>
+    ensures placed { IfOk result (λ kept. All (All (IsPlaced variables.new)) kept.items) }
+    ensures same { IfOk result (λ kept. clauses_at variables.new kept.items ≡ clauses.now) }
 {
-    let mut kept = Clauses::new(alloc);
+    let mut kept = Vec::with_capacity(alloc, clauses.len())?;
     for clause in clauses.as_slice() {
-        kept.push(number_clause(alloc, variables, clause.as_slice())?)?;
+        let numbered = number_clause(alloc, variables, clause.as_slice())?;
+        kept.push(pack(alloc, variables, numbered.as_slice())?)?;
     }
     Ok(kept)
 }
@@ -120,7 +132,7 @@ fn set_true(values: &mut Vec<bool>, variable: u64) -> Result<(), NoMemory>
 pub fn assignment_of(
     alloc: Global,
     variables: &Variables,
-    trail: &[Entry],
+    trail: &[PackedEntry],
 ) -> Result<Assignment, NoMemory>
     requires distinct { IsDistinct variables.now }
     requires trail { IsTrail trail.now (length variables.now) }
@@ -128,6 +140,7 @@ pub fn assignment_of(
 {
     let mut values = Vec::new(alloc);
     for entry in trail {
+        let entry = entry.entry();
         let variable = variables.variable(entry.lit.var as usize);
         if variable > 0 && !entry.lit.negated {
             set_true(&mut values, variable)?;

@@ -8,7 +8,7 @@ use std::alloc::Global;
 use ygg_chain::Variables;
 use ygg_list::NoMemory;
 use ygg_solver_search::{
-    Clauses, Log, Order, SearchEnd, Trail, Work, load, order_for, search_clauses,
+    Clauses, Log, Order, PackedClause, SearchEnd, Trail, Work, order_for, search_clauses,
 };
 use ygg_watch::Watch;
 
@@ -76,13 +76,13 @@ pub fn solve_owned(alloc: Global, clauses: Clauses, budget: u32) -> Result<Answe
 fn solve_kept(
     alloc: Global,
     variables: &Variables,
-    clauses: Clauses,
+    clauses: Vec<PackedClause>,
     budget: u32,
 ) -> Result<(Answer, Work), NoMemory>
     requires budget { 0 < budget }
-    requires placed { All (All (IsPlaced variables.now)) clauses }
-    requires numbered { IsNumbered (clauses_at variables.now clauses) }
-    ensures { IfOk result (λ end. IsAnswer (clauses_at variables.now clauses) budget end.0) }
+    requires placed { All (All (IsPlaced variables.now)) clauses.items }
+    requires numbered { IsNumbered (clauses_at variables.now clauses.items) }
+    ensures { IfOk result (λ end. IsAnswer (clauses_at variables.now clauses.items) budget end.0) }
 {
     let mut order = order_for(alloc, clauses.as_slice(), variables.len())?;
     let answer = solve_numbered(alloc, variables, clauses, &mut order, budget)?;
@@ -93,26 +93,18 @@ fn solve_kept(
 fn solve_numbered(
     alloc: Global,
     variables: &Variables,
-    clauses: Clauses,
+    clauses: Vec<PackedClause>,
     order: &mut Order,
     budget: u32,
 ) -> Result<Answer, NoMemory>
     requires budget { 0 < budget }
-    requires placed { All (All (IsPlaced variables.now)) clauses }
-    requires numbered { IsNumbered (clauses_at variables.now clauses) }
-    ensures { IfOk result (IsAnswer (clauses_at variables.now clauses) budget) }
+    requires placed { All (All (IsPlaced variables.now)) clauses.items }
+    requires numbered { IsNumbered (clauses_at variables.now clauses.items) }
+    ensures { IfOk result (IsAnswer (clauses_at variables.now clauses.items) budget) }
 {
     let variable_count = variables.len() as u64;
-    let mut propagation = Watch::new(alloc, variable_count)?;
-    load(&mut propagation, &clauses)?;
-    match search_clauses(
-        alloc,
-        &mut propagation,
-        order,
-        clauses,
-        variable_count,
-        budget,
-    )? {
+    let mut propagation = Watch::over(alloc, variable_count, clauses)?;
+    match search_clauses(alloc, &mut propagation, order, variable_count, budget)? {
         SearchEnd::Model => Ok(Answer::Sat(assignment_of(alloc, variables, propagation.trail())?)),
         SearchEnd::Refuted(log) => Ok(Answer::Unsat(name_log(alloc, variables, log)?)),
         SearchEnd::Spent(log) => Ok(Answer::Spent(name_log(alloc, variables, log)?)),

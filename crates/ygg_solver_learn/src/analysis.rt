@@ -9,13 +9,14 @@ ghost use Rattle.ygg_solver_learn.specs.Learning.{IsSound, IsSeenAt, ChainReache
 use crate::removal::{Removal, find};
 use crate::seen_places::{entry_at, has_seen, is_seen_at, seen_below, seen_from};
 use std::alloc::Global;
-use ygg_cnf::{Clause, Lit};
-use ygg_cnf_set::{insert_all, remove_all, resolve};
+use ygg_cnf::Clause;
+use ygg_cnf_set::remove_all;
 use ygg_list::NoMemory;
-use ygg_watch_trail::Entry;
+use ygg_watch_packed::{PackedClause, insert_all, resolve};
+use ygg_watch_trail::PackedEntry;
 
 /// The clause of a number, where clauses are numbered from 1.
-fn clause_at(clauses: &[Clause], id: u64) -> &Clause
+fn clause_at(clauses: &[PackedClause], id: u64) -> &PackedClause
     requires first { 0 < id }
     requires last { id ≤ length clauses.now }
     ensures { HasClause clauses.now id result.now }
@@ -24,7 +25,13 @@ fn clause_at(clauses: &[Clause], id: u64) -> &Clause
 }
 
 /// Resolves the seen set with the reason of a seen place.
-fn resolve_at(seen: &mut [bool], clauses: &[Clause], trail: &[Entry], at: usize, id: u64)
+fn resolve_at(
+    seen: &mut [bool],
+    clauses: &[PackedClause],
+    trail: &[PackedEntry],
+    at: usize,
+    id: u64,
+)
     requires sound { IsSound clauses.now trail.now }
     requires fits { All (All (Fits (length seen.old))) clauses.now }
     requires is_seen { IsSeenAt seen.old trail.now at }
@@ -44,8 +51,8 @@ fn resolve_at(seen: &mut [bool], clauses: &[Clause], trail: &[Entry], at: usize,
 /// Resolves the seen set with reasons, from the end of the trail on, until just one place from `start` on is seen.
 fn resolve_to_one(
     seen: &mut [bool],
-    clauses: &[Clause],
-    trail: &[Entry],
+    clauses: &[PackedClause],
+    trail: &[PackedEntry],
     start: usize,
     chain: &mut Vec<u64>,
 ) -> Result<usize, NoMemory>
@@ -76,7 +83,7 @@ fn resolve_to_one(
 }
 
 /// The clause of the seen literals, whose complements are all on the trail.
-fn collect(alloc: Global, seen: &[bool], trail: &[Entry]) -> Result<Clause, NoMemory>
+fn collect(alloc: Global, seen: &[bool], trail: &[PackedEntry]) -> Result<Clause, NoMemory>
     requires falses { (y : _) → InSet seen.now y → IsFalseBefore trail.now (length trail.now) y }
     ensures { IfOk result (λ clause. IsSetOf seen.now (Contains clause)) }
 {
@@ -87,7 +94,8 @@ fn collect(alloc: Global, seen: &[bool], trail: &[Entry]) -> Result<Clause, NoMe
             clause.push(lit)?;
         }
     }
-    Ok(clause)
+    // It is kept for long, so the room that it grew into is let go.
+    Clause::from_slice(alloc, clause.as_slice())
 }
 
 /// What a conflict teaches: a clause, the chain of clause numbers that derives it, and the level at which the clause leaves
@@ -103,7 +111,7 @@ pub struct Learned {
 fn begin(
     alloc: Global,
     seen: &mut [bool],
-    clauses: &[Clause],
+    clauses: &[PackedClause],
     conflict: u64,
 ) -> Result<Vec<u64>, NoMemory>
     requires fits { All (All (Fits (length seen.old))) clauses.now }
@@ -123,11 +131,11 @@ fn begin(
 pub fn analyze(
     alloc: Global,
     seen: &mut [bool],
-    clauses: &[Clause],
-    trail: &[Entry],
+    clauses: &[PackedClause],
+    trail: &[PackedEntry],
     start: usize,
     conflict: u64,
-    places: &[usize],
+    places: &[u32],
     removal: &mut Removal,
 ) -> Result<Learned, NoMemory>
     requires sound { IsSound clauses.now trail.now }
@@ -162,6 +170,7 @@ pub fn analyze(
         None => 0,
     };
     remove_all(seen, clause.as_slice());
+    chain.shrink_to_fit();
     Ok(Learned {
         clause,
         chain,
@@ -172,8 +181,8 @@ pub fn analyze(
 /// Resolves the seen set with reasons until nothing is seen.
 fn resolve_rest(
     seen: &mut [bool],
-    clauses: &[Clause],
-    trail: &[Entry],
+    clauses: &[PackedClause],
+    trail: &[PackedEntry],
     chain: &mut Vec<u64>,
 ) -> Result<(), NoMemory>
     requires sound { IsSound clauses.now trail.now }
@@ -200,8 +209,8 @@ fn resolve_rest(
 pub fn refute(
     alloc: Global,
     seen: &mut [bool],
-    clauses: &[Clause],
-    trail: &[Entry],
+    clauses: &[PackedClause],
+    trail: &[PackedEntry],
     conflict: u64,
 ) -> Result<Vec<u64>, NoMemory>
     requires sound { IsSound clauses.now trail.now }
@@ -213,14 +222,15 @@ pub fn refute(
 {
     let mut chain = begin(alloc, seen, clauses, conflict)?;
     resolve_rest(seen, clauses, trail, &mut chain)?;
+    chain.shrink_to_fit();
     Ok(chain)
 }
 
 /// Resolves the seen set with the reason of a seen place below `start`.
 fn remove_at(
     seen: &mut [bool],
-    clauses: &[Clause],
-    trail: &[Entry],
+    clauses: &[PackedClause],
+    trail: &[PackedEntry],
     start: usize,
     at: usize,
     place: usize,
@@ -243,8 +253,8 @@ fn remove_at(
 /// Takes the literals of places below `end` that have reasons out of the seen set, the last one first.
 fn remove_below(
     seen: &mut [bool],
-    clauses: &[Clause],
-    trail: &[Entry],
+    clauses: &[PackedClause],
+    trail: &[PackedEntry],
     start: usize,
     at: usize,
     end: usize,
@@ -272,8 +282,8 @@ fn remove_below(
 /// Takes removable literals out of the seen set, whatever places are said to be removable.
 fn minimize(
     seen: &mut [bool],
-    clauses: &[Clause],
-    trail: &[Entry],
+    clauses: &[PackedClause],
+    trail: &[PackedEntry],
     start: usize,
     at: usize,
     removal: &Removal,
@@ -287,9 +297,10 @@ fn minimize(
 {
     // Each comes before those that it hangs on, which its reason puts in.
     for place in removal.implied().iter().rev() {
-        if *place < start && is_seen_at(seen, trail, *place) {
-            if let Some(id) = entry_at(trail, *place).reason {
-                remove_at(seen, clauses, trail, start, at, *place, id, chain)?;
+        let place = *place as usize;
+        if place < start && is_seen_at(seen, trail, place) {
+            if let Some(id) = entry_at(trail, place).reason {
+                remove_at(seen, clauses, trail, start, at, place, id, chain)?;
             }
         }
     }

@@ -2,9 +2,10 @@
 
 use crate::seen_places::has_seen;
 use std::alloc::Global;
-use ygg_cnf::{Clause, Lit};
+use ygg_cnf::Lit;
 use ygg_list::NoMemory;
-use ygg_watch_trail::Entry;
+use ygg_watch_packed::PackedClause;
+use ygg_watch_trail::PackedEntry;
 
 /// What is known of a place: nothing, that seen literals imply its literal, or that it was not found so.
 #[derive(Clone, Copy, PartialEq, Eq)]
@@ -21,11 +22,11 @@ pub struct Removal {
     /// By place.
     known: Vec<Known>,
     /// The places of which something is known, to forget them again.
-    touched: Vec<usize>,
+    touched: Vec<u32>,
     /// The implied places. One that another hangs on stands before it.
-    implied: Vec<usize>,
+    implied: Vec<u32>,
     /// The seen places that are asked for, some of them more than once.
-    is_seen: Vec<usize>,
+    is_seen: Vec<u32>,
     /// The places that are being asked for, each because of the one below it.
     stack: Vec<Asked>,
     /// By level, whether a seen literal is of it. A literal of another level is not implied.
@@ -49,7 +50,7 @@ impl Removal {
     }
 
     /// The places whose literals were found to be implied. One that another hangs on stands before it.
-    pub fn implied(&self) -> &[usize] {
+    pub fn implied(&self) -> &[u32] {
         self.implied.as_slice()
     }
 
@@ -78,38 +79,38 @@ impl Removal {
     }
 
     /// Says whether the level of a place has a seen literal.
-    fn note(&mut self, trail: &[Entry], place: usize, has: bool) {
-        if let Some(entry) = trail.get(place) {
-            if let Some(slot) = self.levels.get_mut(entry.level as usize) {
+    fn note(&mut self, trail: &[PackedEntry], place: u32, has: bool) {
+        if let Some(entry) = trail.get(place as usize) {
+            if let Some(slot) = self.levels.get_mut(entry.entry().level as usize) {
                 *slot = has;
             }
         }
     }
 
     /// Whether the place is of a level that has a seen literal.
-    fn is_near(&self, trail: &[Entry], place: usize) -> bool {
-        match trail.get(place) {
-            Some(entry) => self.levels.get(entry.level as usize) == Some(&true),
+    fn is_near(&self, trail: &[PackedEntry], place: u32) -> bool {
+        match trail.get(place as usize) {
+            Some(entry) => self.levels.get(entry.entry().level as usize) == Some(&true),
             None => false,
         }
     }
 
     /// Whether the place is of level 0. Such a place is kept in mind.
-    fn is_lowest(&mut self, trail: &[Entry], place: usize) -> bool {
-        let Some(entry) = trail.get(place) else {
+    fn is_lowest(&mut self, trail: &[PackedEntry], place: u32) -> bool {
+        let Some(entry) = trail.get(place as usize) else {
             return false;
         };
-        if entry.level > 0 {
+        if entry.entry().level > 0 {
             return false;
         }
-        if place >= self.lowest_end {
-            self.lowest_end = place.saturating_add(1);
+        if place as usize >= self.lowest_end {
+            self.lowest_end = place as usize + 1;
         }
         true
     }
 
     /// Keeps what is known of a place.
-    fn settle(&mut self, place: usize, known: Known) -> Result<(), NoMemory> {
+    fn settle(&mut self, place: u32, known: Known) -> Result<(), NoMemory> {
         write_known(self.known.as_mut_slice(), place, known);
         self.touched.push(place)?;
         Ok(())
@@ -120,17 +121,21 @@ impl Removal {
     fn gather(
         &mut self,
         seen: &[bool],
-        clauses: &[Clause],
-        trail: &[Entry],
-        places: &[usize],
+        clauses: &[PackedClause],
+        trail: &[PackedEntry],
+        places: &[u32],
         start: usize,
         chain: &[u64],
     ) -> Result<(), NoMemory> {
         for id in chain {
             if let Some(clause) = clauses.get((*id as usize).wrapping_sub(1)) {
                 for lit in clause.as_slice() {
-                    let place = place_of(places, *lit);
-                    if place < start && has_seen(seen, *lit) && !self.is_lowest(trail, place) {
+                    let lit = lit.lit();
+                    let place = place_of(places, lit);
+                    if (place as usize) < start
+                        && has_seen(seen, lit)
+                        && !self.is_lowest(trail, place)
+                    {
                         self.note(trail, place, true);
                         self.is_seen.push(place)?;
                     }
@@ -144,9 +149,9 @@ impl Removal {
     fn ask_all(
         &mut self,
         seen: &[bool],
-        clauses: &[Clause],
-        trail: &[Entry],
-        places: &[usize],
+        clauses: &[PackedClause],
+        trail: &[PackedEntry],
+        places: &[u32],
     ) -> Result<(), NoMemory> {
         let steps = trail.len().saturating_add(trail.len());
         for at in 0..self.is_seen.len() {
@@ -159,7 +164,7 @@ impl Removal {
     }
 
     /// Forgets which levels have a seen literal.
-    fn forget_levels(&mut self, trail: &[Entry]) {
+    fn forget_levels(&mut self, trail: &[PackedEntry]) {
         for at in 0..self.is_seen.len() {
             let place = read_place(self.is_seen.as_slice(), at);
             self.note(trail, place, false);
@@ -170,17 +175,17 @@ impl Removal {
     fn ask(
         &mut self,
         seen: &[bool],
-        clauses: &[Clause],
-        trail: &[Entry],
-        places: &[usize],
-        place: usize,
+        clauses: &[PackedClause],
+        trail: &[PackedEntry],
+        places: &[u32],
+        place: u32,
         steps: usize,
     ) -> Result<(), NoMemory> {
         self.stack.clear();
         self.stack.push(Asked {
             place,
-            looked: 0,
             is_seen: true,
+            looked: 0,
         })?;
         for _ in 0..steps {
             let Some(top) = self.stack.pop() else {
@@ -224,14 +229,15 @@ impl Removal {
     fn step(
         &mut self,
         seen: &[bool],
-        clauses: &[Clause],
-        trail: &[Entry],
-        places: &[usize],
+        clauses: &[PackedClause],
+        trail: &[PackedEntry],
+        places: &[u32],
         asked: Asked,
     ) -> Next {
-        let Some(entry) = trail.get(asked.place) else {
+        let Some(entry) = trail.get(asked.place as usize) else {
             return Next::Other;
         };
+        let entry = entry.entry();
         let Some(id) = entry.reason else {
             return Next::Other;
         };
@@ -240,7 +246,7 @@ impl Removal {
         };
         let lits = clause.as_slice();
         for at in asked.looked..lits.len() {
-            let lit = lits[at];
+            let lit = lits[at].lit();
             if lit.var != entry.lit.var {
                 let place = place_of(places, lit);
                 if place >= asked.place {
@@ -262,8 +268,8 @@ impl Removal {
                             return Next::Ask {
                                 other: Asked {
                                     place,
-                                    looked: 0,
                                     is_seen,
+                                    looked: 0,
                                 },
                                 looked: at + 1,
                             };
@@ -276,12 +282,12 @@ impl Removal {
     }
 }
 
-/// A place that is being asked for, how many literals of its reason need no further look, and whether its own literal is seen.
+/// A place that is being asked for, whether its own literal is seen, and how many literals of its reason need no further look.
 #[derive(Clone, Copy)]
 struct Asked {
-    place: usize,
-    looked: usize,
+    place: u32,
     is_seen: bool,
+    looked: usize,
 }
 
 /// What the look at a place's reason came to: its literal is implied, is not found to be, or another place is asked for first.
@@ -293,30 +299,30 @@ enum Next {
 }
 
 /// What is known of a place.
-fn known_at(known: &[Known], place: usize) -> Known {
-    match known.get(place) {
+fn known_at(known: &[Known], place: u32) -> Known {
+    match known.get(place as usize) {
         Some(is) => *is,
         None => Known::Nothing,
     }
 }
 
 /// Keeps what is known of a place that has room.
-fn write_known(known: &mut [Known], place: usize, now: Known) {
-    if let Some(slot) = known.get_mut(place) {
+fn write_known(known: &mut [Known], place: u32, now: Known) {
+    if let Some(slot) = known.get_mut(place as usize) {
         *slot = now;
     }
 }
 
-/// A place of a list, or `usize::MAX` past its end.
-fn read_place(places: &[usize], at: usize) -> usize {
+/// A place of a list, or `u32::MAX` past its end.
+fn read_place(places: &[u32], at: usize) -> u32 {
     match places.get(at) {
         Some(place) => *place,
-        None => usize::MAX,
+        None => u32::MAX,
     }
 }
 
 /// The place of a literal's variable in the trail, where it is assigned.
-fn place_of(places: &[usize], lit: Lit) -> usize {
+fn place_of(places: &[u32], lit: Lit) -> u32 {
     read_place(places, lit.var as usize)
 }
 
@@ -325,9 +331,9 @@ fn place_of(places: &[usize], lit: Lit) -> usize {
 pub fn find(
     removal: &mut Removal,
     seen: &[bool],
-    clauses: &[Clause],
-    trail: &[Entry],
-    places: &[usize],
+    clauses: &[PackedClause],
+    trail: &[PackedEntry],
+    places: &[u32],
     start: usize,
     chain: &[u64],
 ) -> Result<(), NoMemory> {

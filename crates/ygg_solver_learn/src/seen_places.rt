@@ -6,7 +6,7 @@ ghost use Rattle.ygg_watch_trail.specs.Trail.{IsAt};
 ghost use Rattle.ygg_solver_learn.specs.Learning.{IsSeenAt, IsLastSeen, IsLastDecision};
 
 use ygg_cnf::Lit;
-use ygg_watch_trail::Entry;
+use ygg_watch_trail::{Entry, PackedEntry};
 
 /// Whether the literal is seen. One that has no place in the set is not.
 pub fn has_seen(seen: &[bool], lit: Lit) -> bool
@@ -22,15 +22,15 @@ pub fn has_seen(seen: &[bool], lit: Lit) -> bool
 }
 
 /// The entry of a place of the trail.
-pub fn entry_at(trail: &[Entry], at: usize) -> Entry
+pub fn entry_at(trail: &[PackedEntry], at: usize) -> Entry
     requires { at < length trail.now }
     ensures { IsAt trail.now at result }
 {
-    trail[at]
+    trail[at].entry()
 }
 
 /// Whether the complement of the literal of a place is seen.
-pub fn is_seen_at(seen: &[bool], trail: &[Entry], at: usize) -> bool
+pub fn is_seen_at(seen: &[bool], trail: &[PackedEntry], at: usize) -> bool
     requires { at < length trail.now }
     ensures { IsTrue result ↔ IsSeenAt seen.now trail.now at }
 {
@@ -39,7 +39,7 @@ pub fn is_seen_at(seen: &[bool], trail: &[Entry], at: usize) -> bool
 }
 
 /// The last place below `end` that is seen, where the place `low` is.
-pub fn seen_from(seen: &[bool], trail: &[Entry], low: usize, end: usize) -> usize
+pub fn seen_from(seen: &[bool], trail: &[PackedEntry], low: usize, end: usize) -> usize
     requires is_seen { IsSeenAt seen.now trail.now low }
     requires order { low < end }
     requires within { end ≤ length trail.now }
@@ -59,7 +59,7 @@ pub fn seen_from(seen: &[bool], trail: &[Entry], low: usize, end: usize) -> usiz
 }
 
 /// The last place from `start` on and below `end` that is seen.
-pub fn seen_below(seen: &[bool], trail: &[Entry], start: usize, end: usize) -> Option<usize>
+pub fn seen_below(seen: &[bool], trail: &[PackedEntry], start: usize, end: usize) -> Option<usize>
     requires within { end ≤ length trail.now }
     ensures { MatchOption result ((q : ℕ) → start ≤ q → q < end → IsSeenAt seen.now trail.now q → ⊥) (λ at. IsLastSeen seen.now trail.now start end at) }
 {
@@ -74,7 +74,7 @@ pub fn seen_below(seen: &[bool], trail: &[Entry], start: usize, end: usize) -> O
 }
 
 /// The place of the last decision, if there is one.
-pub fn last_decision(trail: &[Entry]) -> Option<usize>
+pub fn last_decision(trail: &[PackedEntry]) -> Option<usize>
     ensures { MatchOption result ((q : ℕ) (e : _) → IsAt trail.now q e → IsSome e.reason) (IsLastDecision trail.now) }
 {
     let mut at = trail.len();

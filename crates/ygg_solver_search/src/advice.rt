@@ -1,13 +1,15 @@
 use std::alloc::Global;
-use ygg_cnf::Clause;
 use ygg_list::NoMemory;
 use ygg_watch_order::{InitialPolarity, Order};
+use ygg_watch_packed::PackedClause;
 
 /// Lets each clause vote for the values of its variables.
-fn vote(polarity: &mut InitialPolarity, clauses: &[Clause]) {
+fn vote(polarity: &mut InitialPolarity, clauses: &[PackedClause]) {
     for clause in clauses {
-        for lit in clause.as_slice() {
-            polarity.vote(lit.var as usize, !lit.negated, clause.len());
+        let lits = clause.as_slice();
+        for lit in lits {
+            let lit = lit.lit();
+            polarity.vote(lit.var as usize, !lit.negated, lits.len());
         }
     }
 }
@@ -21,7 +23,7 @@ fn set_polarity(order: &mut Order, polarity: &InitialPolarity, size: usize) {
 
 /// The order of variables below `size` before the first conflict: none is active, and each has the initial polarity that the clauses speak for. Its
 /// only error is out of memory.
-pub fn order_for(alloc: Global, clauses: &[Clause], size: usize) -> Result<Order, NoMemory> {
+pub fn order_for(alloc: Global, clauses: &[PackedClause], size: usize) -> Result<Order, NoMemory> {
     let mut polarity = InitialPolarity::new(alloc, size)?;
     vote(&mut polarity, clauses);
     let mut order = Order::new(alloc, size)?;

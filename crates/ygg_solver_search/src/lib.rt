@@ -10,5 +10,6 @@ pub use advice::order_for;
 pub use searching::{SearchEnd, search_clauses};
 pub use ygg_cnf::{Assignment, Clause, Clauses, Lit, Log, Step, truth};
 pub use ygg_watch_order::{Order, Work};
-pub use ygg_watch_plain::{Trail, load};
-pub use ygg_watch_trail::Entry;
+pub use ygg_watch_packed::PackedClause;
+pub use ygg_watch_plain::Trail;
+pub use ygg_watch_trail::{Entry, PackedEntry};

@@ -6,12 +6,13 @@ ghost use Rattle.ygg_solver_search.specs.Ends.{IsEnd};
 
 use crate::run::to_conflict;
 use std::alloc::Global;
-use ygg_cnf::{Clause, Clauses, Lit, Log, Step};
+use ygg_cnf::{Clause, Lit, Log, Step};
 use ygg_list::{NoMemory, Sequence};
 use ygg_solver_learn::{Learned, Removal, analyze, last_decision, refute};
 use ygg_watch_order::{Order, Restarts};
+use ygg_watch_packed::PackedClause;
 use ygg_watch_plain::Trail;
-use ygg_watch_trail::Entry;
+use ygg_watch_trail::PackedEntry;
 
 /// How a search ended.
 #[derive(Drop)]
@@ -32,11 +33,11 @@ fn level_after(restarts: &mut Restarts, level: u64) -> u64
 }
 
 /// Makes the variables of the clauses that were resolved more active.
-fn raise(order: &mut Order, clauses: &[Clause], chain: &[u64]) {
+fn raise(order: &mut Order, clauses: &[PackedClause], chain: &[u64]) {
     for id in chain {
         if let Some(clause) = clauses.get((*id as usize).wrapping_sub(1)) {
             for lit in clause.as_slice() {
-                order.bump(lit.var as usize);
+                order.bump(lit.lit().var as usize);
             }
         }
     }
@@ -44,26 +45,26 @@ fn raise(order: &mut Order, clauses: &[Clause], chain: &[u64]) {
 
 /// The reason of a variable that is assigned, where there is one.
 fn reason_of<'a>(
-    clauses: &'a [Clause],
-    trail: &[Entry],
-    places: &[usize],
+    clauses: &'a [PackedClause],
+    trail: &[PackedEntry],
+    places: &[u32],
     var: u64,
-) -> Option<&'a Clause> {
+) -> Option<&'a PackedClause> {
     let place = places.get(var as usize)?;
-    let id = trail.get(*place)?.reason?;
+    let id = trail.get(*place as usize)?.entry().reason?;
     clauses.get((id as usize).wrapping_sub(1))
 }
 
 /// The most literals of a learned clause whose reasons make variables more active.
 const REASON_SIDE: usize = 10;
 
-/// Makes the other variables in the reasons of a short learned clause's literals more active: they are what the clause rests on beyond the clauses that
-/// were resolved. (In clauses of any length it makes single searches many times longer.)
+/// Makes the other variables in the reasons of a short learned clause's literals more active: the values of its own literals rest on them. (In clauses of
+/// any length it makes single searches many times longer.)
 fn raise_reasons(
     order: &mut Order,
-    clauses: &[Clause],
-    trail: &[Entry],
-    places: &[usize],
+    clauses: &[PackedClause],
+    trail: &[PackedEntry],
+    places: &[u32],
     learned: &[Lit],
 ) {
     if learned.len() > REASON_SIDE {
@@ -72,6 +73,7 @@ fn raise_reasons(
     for known in learned {
         if let Some(reason) = reason_of(clauses, trail, places, known.var) {
             for lit in reason.as_slice() {
+                let lit = lit.lit();
                 if lit.var != known.var {
                     order.bump(lit.var as usize);
                 }
@@ -81,8 +83,9 @@ fn raise_reasons(
 }
 
 /// Keeps the values above the level, and puts their variables back into the order.
-fn release(order: &mut Order, trail: &[Entry], level: u64) -> Result<(), NoMemory> {
-    for entry in trail.iter().rev() {
+fn release(order: &mut Order, trail: &[PackedEntry], level: u64) -> Result<(), NoMemory> {
+    for packed in trail.iter().rev() {
+        let entry = packed.entry();
         if entry.level <= level {
             return Ok(());
         }
@@ -92,14 +95,12 @@ fn release(order: &mut Order, trail: &[Entry], level: u64) -> Result<(), NoMemor
     Ok(())
 }
 
-/// Learns clauses until each variable is assigned, the empty clause is learned, or the budget is spent. `clauses` are those
-/// that the propagation holds, and the learned ones are added to both. The search ends since each turn of its loop adds a
-/// clause to the log, and each turn within one assigns a variable.
+/// Learns clauses until each variable is assigned, the empty clause is learned, or the budget is spent. Each learned clause is added to those that the
+/// propagation holds. The search ends since each turn of its loop adds a clause to the log, and each turn within one assigns a variable.
 pub fn search<P: Trail>(
     alloc: Global,
     propagation: &mut P,
     order: &mut Order,
-    clauses: &mut Vec<Clause>,
     seen: &mut [bool],
     variable_count: u64,
     budget: u32,
@@ -108,11 +109,10 @@ pub fn search<P: Trail>(
     requires seen { 2 * variable_count ≤ length seen.old }
     requires budget { 0 < budget }
     requires ready { IsReady (P.state propagation.old) }
-    requires held { (P.state propagation.old).clauses ≡ clauses.old.items }
-    requires fits { All (All (Fits (length seen.old))) clauses.old.items }
-    requires variables { All (IsWithin variable_count) clauses.old.items }
+    requires fits { All (All (Fits (length seen.old))) (P.state propagation.old).clauses }
+    requires variables { All (IsWithin variable_count) (P.state propagation.old).clauses }
     requires clear { IsSetOf seen.old (λ _. ⊥) }
-    ensures { IfOk result (IsEnd clauses.old.items (P.state propagation.new).trail variable_count budget) }
+    ensures { IfOk result (IsEnd (P.state propagation.old).clauses (P.state propagation.new).trail variable_count budget) }
 {
     let mut log = Log::new(alloc);
     let mut removal = Removal::new(alloc);
@@ -122,7 +122,7 @@ pub fn search<P: Trail>(
             return Ok(SearchEnd::Model);
         };
         let trail = propagation.trail();
-        let held = clauses.as_slice();
+        let held = propagation.clauses();
         let Some(start) = last_decision(trail) else {
             let chain = refute(alloc, seen, held, trail, conflict)?;
             log.push(Step::Added {
@@ -151,10 +151,8 @@ pub fn search<P: Trail>(
         raise_reasons(order, held, trail, propagation.places(), clause.as_slice());
         order.decay();
         release(order, trail, level)?;
-        let kept = clause.copy(alloc)?;
         propagation.back(level);
-        propagation.add(&kept)?;
-        clauses.push(kept)?;
+        propagation.add(&clause)?;
         log.push(Step::Added {
             clause,
             chain: Sequence::from_vec(chain),
@@ -165,28 +163,25 @@ pub fn search<P: Trail>(
     }
 }
 
-/// Searches over a propagation that holds these clauses, and has assigned nothing. Its only error is out of memory.
+/// Searches over a propagation that has assigned nothing. Its only error is out of memory.
 pub fn search_clauses<P: Trail>(
     alloc: Global,
     propagation: &mut P,
     order: &mut Order,
-    clauses: Clauses,
     variable_count: u64,
     budget: u32,
 ) -> Result<SearchEnd, NoMemory>
     requires variable_count { variable_count ≡ (P.state propagation.old).variable_count }
     requires small { variable_count < 2 ^ 63 }
     requires budget { 0 < budget }
-    requires fresh { IsFresh clauses (P.state propagation.old) }
-    ensures { IfOk result (IsEnd clauses (P.state propagation.new).trail variable_count budget) }
+    requires fresh { IsFresh (P.state propagation.old).clauses (P.state propagation.old) }
+    ensures { IfOk result (IsEnd (P.state propagation.old).clauses (P.state propagation.new).trail variable_count budget) }
 {
     let mut seen = Vec::from_elem(alloc, false, 2 * variable_count as usize)?;
-    let mut held = clauses.into_vec();
     search(
         alloc,
         propagation,
         order,
-        &mut held,
         seen.as_mut_slice(),
         variable_count,
         budget,

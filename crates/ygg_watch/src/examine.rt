@@ -5,27 +5,29 @@ ghost use Rattle.ygg_watch_visit.specs.Lists.{IsMember, lit_of};
 ghost use Rattle.ygg_watch_visit.specs.State.{IsLive};
 ghost use Rattle.ygg_watch_visit.specs.Watching.{IsStanding, IsWatchedAt};
 
-use ygg_cnf::{Clause, Lit};
+use ygg_cnf::Lit;
+use ygg_watch_packed::{PackedClause, PackedLit};
 use ygg_watch_plain::{ClauseStatus, status_of};
 use ygg_watch_trail::Assignments;
 use ygg_watch_visit::{Checkpoint, Links, lits_of};
 
 /// A literal of the clause other than the given one: one that is not false, or else the one that became so last, which
 /// going back makes free first.
-fn second(clause: &[Lit], first: Lit, trail: &Assignments) -> Option<Lit>
+fn second(clause: &[PackedLit], first: Lit, trail: &Assignments) -> Option<Lit>
     requires { IsWithin trail.now.variable_count clause.now }
     ensures { IfSome result (λ y. Contains clause.now y × (y ≢ first)) }
 {
     let mut best = None;
     let mut level = 0;
     for lit in clause {
-        if *lit != first {
+        let lit = lit.lit();
+        if lit != first {
             let now = match trail.entry_of(lit.var) {
                 None => u64::MAX,
                 Some(entry) => entry.level,
             };
             if best.is_none() || now > level {
-                best = Some(*lit);
+                best = Some(lit);
                 level = now;
             }
         }
@@ -46,7 +48,7 @@ pub enum Examined {
 }
 
 /// Whether a clause's watches need no look: neither is false, or one is true.
-fn stands(clauses: &[Clause], links: &Links, trail: &Assignments, at: usize) -> bool
+fn stands(clauses: &[PackedClause], links: &Links, trail: &Assignments, at: usize) -> bool
     requires member { IsMember clauses.now links.now.watched }
     requires size { length links.now.watched ≡ 2 * length clauses.now }
     requires at { at < length clauses.now }
@@ -66,7 +68,7 @@ fn stands(clauses: &[Clause], links: &Links, trail: &Assignments, at: usize) -> 
 
 /// Begins to watch two literals of a clause that is not watched.
 fn attach(
-    clauses: &[Clause],
+    clauses: &[PackedClause],
     links: &mut Links,
     trail: &Assignments,
     frames: &[Checkpoint],
@@ -93,7 +95,7 @@ fn attach(
 
 /// Begins to watch a literal and another one of its clause, where it has one and is not watched.
 fn settle(
-    clauses: &[Clause],
+    clauses: &[PackedClause],
     links: &mut Links,
     trail: &Assignments,
     frames: &[Checkpoint],
@@ -117,7 +119,7 @@ fn settle(
 
 /// Looks at a clause that was not looked at since a level below was gone back to.
 fn examine(
-    clauses: &[Clause],
+    clauses: &[PackedClause],
     links: &mut Links,
     trail: &mut Assignments,
     frames: &[Checkpoint],
@@ -136,6 +138,8 @@ fn examine(
     ensures starts { trail.new.starts.items ≡ trail.old.starts.items }
     ensures variable_count { trail.new.variable_count ≡ trail.old.variable_count }
 {
+    // there are fewer clauses than 4 bytes number
+    let _ = links.len();
     if stands(clauses, links, trail, seen) {
         return Examined::Fine;
     }
@@ -162,7 +166,7 @@ fn examine(
 
 /// Looks at each clause that was not looked at.
 pub fn examine_all(
-    clauses: &[Clause],
+    clauses: &[PackedClause],
     links: &mut Links,
     trail: &mut Assignments,
     frames: &[Checkpoint],

@@ -5,14 +5,16 @@ use crate::watching::Watch;
 use std::alloc::Global;
 use ygg_cnf::Clauses;
 use ygg_list::NoMemory;
-use ygg_watch_plain::{load, variable_count_for};
+use ygg_watch_packed::pack_all;
+use ygg_watch_plain::variable_count_for;
 
 /// Watched propagation that holds the clauses. Its only error is out of memory; tables are as long as the greatest variable.
 pub fn watch(alloc: Global, clauses: &Clauses) -> Result<Watch, NoMemory>
     ensures { IfOk result (λ p. IsFresh clauses.now p) }
 {
     let variable_count = variable_count_for(clauses)?;
-    let mut propagation = Watch::new(alloc, variable_count)?;
-    load(&mut propagation, clauses)?;
-    Ok(propagation)
+    if variable_count > 1 << 31 {
+        return Err(NoMemory);
+    }
+    Watch::over(alloc, variable_count, pack_all(alloc, clauses)?)
 }

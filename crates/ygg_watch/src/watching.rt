@@ -1,12 +1,15 @@
-ghost use Rattle.std.specs.Prelude.{◌≡◌, [], IfOk};
+ghost use Rattle.std.specs.Prelude.{◌≡◌, ◌≤◌, ◌^◌, [], All, IfOk};
+ghost use Rattle.ygg_watch_plain.specs.Propagation.{IsFresh, IsWithin};
+ghost use Rattle.ygg_watch_visit.specs.State.{IsLive};
 
 use crate::examine::{Examined, examine_all};
 use std::alloc::Global;
 use std::marker::Model;
 use ygg_cnf::{Clause, Lit};
 use ygg_list::NoMemory;
+use ygg_watch_packed::PackedClause;
 use ygg_watch_plain::{Assigned, Found, Propagate, Trail, spread};
-use ygg_watch_trail::{Assignments, Entry};
+use ygg_watch_trail::{Assignments, PackedEntry};
 use ygg_watch_visit::{Checkpoint, Links, visit_all};
 
 /// Propagation that watches two literals of each clause, and reads a clause only where a watched one becomes false.
@@ -18,7 +21,7 @@ use ygg_watch_visit::{Checkpoint, Links, visit_all};
 /// was opened, so that calls may come in any order.
 #[derive(Drop)]
 pub struct Watch {
-    clauses: Vec<Clause>,
+    clauses: Vec<PackedClause>,
     links: Links,
     trail: Assignments,
     frames: Vec<Checkpoint>,
@@ -40,15 +43,39 @@ impl Model for Watch {
         s.trail.variable_count s.frames.items (vec_capacity s.frames) s.head s.seen };
 }
 
+/// Watches of so many clauses, which are in no list. Its only error is out of memory.
+fn links_for(
+    alloc: Global,
+    variable_count: u64,
+    clauses: &[PackedClause],
+) -> Result<Links, NoMemory>
+    requires small { variable_count ≤ 2 ^ 31 }
+    requires within { All (IsWithin variable_count) clauses.now }
+    ensures { IfOk result (λ links. IsLive clauses.now links.watched links.next links.firsts [] [] variable_count [] 0 0) }
+{
+    let mut links = Links::new(alloc, 2 * variable_count as usize)?;
+    for at in 0..clauses.len() {
+        links.add()?;
+    }
+    Ok(links)
+}
+
 impl Watch {
-    /// No clause is held, and variables are those below `variable_count`. Its only error is out of memory, which more than 2,147,483,648 variables come to.
-    pub fn new(alloc: Global, variable_count: u64) -> Result<Watch, NoMemory>
-        ensures { IfOk result (λ p. p ≡ record { clauses = []; trail = []; level = 0; variable_count = variable_count }) }
+    /// The clauses are held, and nothing is assigned. Its only error is out of memory, which more than 2,147,483,648 variables come to.
+    pub fn over(
+        alloc: Global,
+        variable_count: u64,
+        clauses: Vec<PackedClause>,
+    ) -> Result<Watch, NoMemory>
+        requires { All (IsWithin variable_count) clauses.items }
+        ensures fresh { IfOk result (IsFresh clauses.items) }
+        ensures variable_count { IfOk result (λ p. p.variable_count ≡ variable_count) }
     {
         let trail = Assignments::new(alloc, variable_count)?;
+        let links = links_for(alloc, trail.variable_count, clauses.as_slice())?;
         Ok(Watch {
-            clauses: Vec::new(alloc),
-            links: Links::new(alloc, 2 * variable_count as usize)?,
+            clauses,
+            links,
             trail,
             frames: Vec::with_capacity(alloc, variable_count as usize)?,
             head: 0,
@@ -61,7 +88,7 @@ impl Propagate for Watch {
     ghost state = { λ s. s };
 
     fn add(&mut self, clause: &Clause) -> Result<(), NoMemory> {
-        let kept = clause.copy(*self.clauses.allocator())?;
+        let kept = PackedClause::of(*self.clauses.allocator(), clause.as_slice())?;
         self.clauses.reserve(1)?;
         self.links.add()?;
         self.clauses.push_reserved(kept);
@@ -90,6 +117,8 @@ impl Propagate for Watch {
                 return Found::False(self.seen as u64 + 1);
             }
             Examined::Stuck => {
+                // there are fewer clauses than 4 bytes number
+                let _ = self.links.len();
                 return spread(self.clauses.as_slice(), &mut self.trail);
             }
         }
@@ -128,11 +157,15 @@ impl Propagate for Watch {
 }
 
 impl Trail for Watch {
-    fn trail(&self) -> &[Entry] {
+    fn clauses(&self) -> &[PackedClause] {
+        self.clauses.as_slice()
+    }
+
+    fn trail(&self) -> &[PackedEntry] {
         self.trail.entries()
     }
 
-    fn places(&self) -> &[usize] {
+    fn places(&self) -> &[u32] {
         self.trail.places()
     }
 }

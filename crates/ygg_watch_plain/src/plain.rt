@@ -1,4 +1,4 @@
-ghost use Rattle.std.specs.Prelude.{◌≡◌, [], All, IfOk};
+ghost use Rattle.std.specs.Prelude.{◌≡◌, ◌≤◌, ◌^◌, [], All, IfOk, length};
 ghost use Rattle.ygg_watch_plain.specs.Propagation.{IsWithin, IsFresh};
 ghost use Rattle.ygg_watch_plain.specs.Status.{state_of};
 
@@ -9,14 +9,16 @@ use crate::spreading::spread;
 use std::alloc::Global;
 use ygg_cnf::{Clause, Clauses, Lit};
 use ygg_list::NoMemory;
-use ygg_watch_trail::{Assignments, Entry};
+use ygg_watch_packed::PackedClause;
+use ygg_watch_trail::{Assignments, PackedEntry};
 
 /// Propagation that looks at every clause for each literal that it finds.
 #[derive(Drop)]
 pub struct PlainSpread {
-    clauses: Vec<Clause>,
+    clauses: Vec<PackedClause>,
     trail: Assignments,
     ghost within: { All (IsWithin trail.variable_count) clauses.items },
+    ghost few: { length clauses.items ≤ 2 ^ 31 },
 }
 
 impl PlainSpread {
@@ -46,7 +48,10 @@ impl Propagate for PlainSpread {
     ghost state = { λ s. state_of s.clauses.items s.trail };
 
     fn add(&mut self, clause: &Clause) -> Result<(), NoMemory> {
-        let kept = clause.copy(*self.clauses.allocator())?;
+        if self.clauses.len() == 1 << 31 {
+            return Err(NoMemory);
+        }
+        let kept = PackedClause::of(*self.clauses.allocator(), clause.as_slice())?;
         self.clauses.push(kept)?;
         Ok(())
     }
@@ -74,11 +79,15 @@ impl Propagate for PlainSpread {
 }
 
 impl Trail for PlainSpread {
-    fn trail(&self) -> &[Entry] {
+    fn clauses(&self) -> &[PackedClause] {
+        self.clauses.as_slice()
+    }
+
+    fn trail(&self) -> &[PackedEntry] {
         self.trail.entries()
     }
 
-    fn places(&self) -> &[usize] {
+    fn places(&self) -> &[u32] {
         self.trail.places()
     }
 }

@@ -5,7 +5,8 @@ ghost use Rattle.ygg_watch_plain.specs.Propagation.{Propagation, IsWithin, with_
 use crate::found::{Assigned, Found};
 use ygg_cnf::{Clause, Lit};
 use ygg_list::NoMemory;
-use ygg_watch_trail::Entry;
+use ygg_watch_packed::PackedClause;
+use ygg_watch_trail::PackedEntry;
 
 /// Holds clauses and assigned literals, and finds what they imply. Its calls may come in any order that their conditions
 /// allow. All but `add` take no memory.
@@ -43,12 +44,16 @@ pub trait Propagate {
         ensures some { IfSome result (HasValue (state self.now).trail var) };
 }
 
-/// A propagation that lends its trail.
+/// A propagation that lends its clauses and its trail.
 pub trait Trail: Propagate {
+    /// The held clauses. The first has the number 1.
+    fn clauses(&self) -> &[PackedClause]
+        ensures { result.now ≡ (Self.state self.now).clauses };
+
     /// The assigned literals in order.
-    fn trail(&self) -> &[Entry]
+    fn trail(&self) -> &[PackedEntry]
         ensures { result.now ≡ (Self.state self.now).trail };
 
     /// By variable, the place of its entry in the trail. It is advice, and nothing is said of it.
-    fn places(&self) -> &[usize];
+    fn places(&self) -> &[u32];
 }

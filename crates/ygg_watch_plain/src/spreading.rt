@@ -1,11 +1,12 @@
-ghost use Rattle.std.specs.Prelude.{◌≡◌, ℕ, All, length};
+ghost use Rattle.std.specs.Prelude.{◌≡◌, ◌<◌, ◌^◌, ℕ, All, length};
 ghost use Rattle.ygg_watch_trail.specs.Trail.{IsQuietBefore};
 ghost use Rattle.ygg_watch_plain.specs.Propagation.{IsWithin, Spreads, IsConflict};
 ghost use Rattle.ygg_watch_plain.specs.Status.{IsScanned, state_of};
 
 use crate::found::Found;
 use crate::status::{ClauseStatus, status_of};
-use ygg_cnf::{Clause, Lit};
+use ygg_cnf::Lit;
+use ygg_watch_packed::PackedClause;
 use ygg_watch_trail::Assignments;
 
 /// The first clause that is false or has a single literal left, with its number.
@@ -17,7 +18,7 @@ enum Scanned {
 }
 
 /// Looks at each clause until one is false or has a single literal left.
-fn scan(clauses: &[Clause], trail: &Assignments) -> Scanned
+fn scan(clauses: &[PackedClause], trail: &Assignments) -> Scanned
     requires { All (IsWithin trail.now.variable_count) clauses.now }
     ensures { IsScanned clauses.now trail.now.entries.items result }
 {
@@ -37,8 +38,9 @@ fn scan(clauses: &[Clause], trail: &Assignments) -> Scanned
 }
 
 /// Assigns implied literals, until nothing more is implied or a clause is false. It looks at every clause for each literal.
-pub fn spread(clauses: &[Clause], trail: &mut Assignments) -> Found
-    requires { All (IsWithin trail.old.variable_count) clauses.now }
+pub fn spread(clauses: &[PackedClause], trail: &mut Assignments) -> Found
+    requires within { All (IsWithin trail.old.variable_count) clauses.now }
+    requires few { length clauses.now < 2 ^ 32 }
     ensures spreads { Spreads (state_of clauses.now trail.old) (state_of clauses.now trail.new) }
     ensures starts { trail.new.starts.items ≡ trail.old.starts.items }
     ensures quiet { result ≡ Found.Quiet → IsQuietBefore clauses.now trail.new.entries.items (length trail.new.entries.items) }

@@ -2,6 +2,7 @@ ghost use Rattle.ygg_watch_plain.specs.Propagation.{IsWithin};
 ghost use Rattle.ygg_watch_plain.specs.Status.{IsStatus};
 
 use ygg_cnf::Lit;
+use ygg_watch_packed::PackedLit;
 use ygg_watch_trail::Assignments;
 
 /// What is left of a clause: a true literal, two that are not assigned, one, or none.
@@ -14,23 +15,24 @@ pub enum ClauseStatus {
 }
 
 /// The status of a clause.
-pub fn status_of(clause: &[Lit], trail: &Assignments) -> ClauseStatus
+pub fn status_of(clause: &[PackedLit], trail: &Assignments) -> ClauseStatus
     requires { IsWithin trail.now.variable_count clause.now }
     ensures { IsStatus clause.now trail.now.entries.items result }
 {
     let mut free = None;
     for lit in clause {
-        if trail.is_true(*lit) {
-            return ClauseStatus::True(*lit);
+        let lit = lit.lit();
+        if trail.is_true(lit) {
+            return ClauseStatus::True(lit);
         }
-        if !trail.is_false(*lit) {
+        if !trail.is_false(lit) {
             match free {
                 None => {
-                    free = Some(*lit);
+                    free = Some(lit);
                 }
                 Some(first) => {
-                    if *lit != first {
-                        return ClauseStatus::Open(first, *lit);
+                    if lit != first {
+                        return ClauseStatus::Open(first, lit);
                     }
                 }
             }

@@ -27,6 +27,7 @@ ghost use Rattle.ygg_watch_trail.specs.Assignments.{IsTrail, IsLevelled, IsKept}
 ghost use Rattle.ygg_watch_trail.specs.Trail.{IsAt, IsFalseBefore, IsAssigned, keep_level, IsOnTrail};
 
 use crate::entry::Entry;
+use crate::packed_entry::PackedEntry;
 use std::alloc::Global;
 use ygg_cnf::Lit;
 use ygg_cnf_set::{code, insert, remove};
@@ -36,11 +37,12 @@ use ygg_list::NoMemory;
 /// begins. All tables are made for the variables below `variable_count`, so that no call but `new` takes memory.
 #[derive(Drop)]
 pub struct Assignments {
-    pub entries: Vec<Entry>,
+    pub entries: Vec<PackedEntry>,
     pub truth: Vec<bool>,
-    pub places: Vec<usize>,
+    pub places: Vec<u32>,
     pub starts: Vec<usize>,
     pub variable_count: u64,
+    ghost small: { variable_count ≤ 2 ^ 31 },
     ghost trail: { IsTrail entries.items variable_count },
     ghost levelled: { IsLevelled entries.items starts.items },
     ghost kept: { IsKept entries.items truth.items places.items variable_count },
@@ -49,13 +51,14 @@ pub struct Assignments {
 }
 
 impl Assignments {
-    /// No literal is assigned, and variables are those below `variable_count`. Its only error is out of memory.
+    /// No literal is assigned, and variables are those below `variable_count`. Its only error is out of memory, which more than 2,147,483,648
+    /// variables come to.
     pub fn new(alloc: Global, variable_count: u64) -> Result<Assignments, NoMemory>
         ensures entries { IfOk result (λ a. a.entries.items ≡ []) }
         ensures starts { IfOk result (λ a. a.starts.items ≡ []) }
         ensures variable_count { IfOk result (λ a. a.variable_count ≡ variable_count) }
     {
-        if variable_count >= 1 << 62 {
+        if variable_count > 1 << 31 {
             return Err(NoMemory);
         }
         let size = variable_count as usize;
@@ -73,7 +76,7 @@ impl Assignments {
     }
 
     /// The assigned literals in order.
-    pub fn entries(&self) -> &[Entry]
+    pub fn entries(&self) -> &[PackedEntry]
         ensures { result.now ≡ self.now.entries.items }
     {
         self.entries.as_slice()
@@ -91,11 +94,11 @@ impl Assignments {
         requires { place < length self.now.entries.items }
         ensures { IsAt self.now.entries.items place result }
     {
-        self.entries[place]
+        self.entries[place].entry()
     }
 
     /// By variable, the place of its entry, where it is assigned.
-    pub fn places(&self) -> &[usize]
+    pub fn places(&self) -> &[u32]
         ensures { result.now ≡ self.now.places.items }
     {
         self.places.as_slice()
@@ -150,22 +153,24 @@ impl Assignments {
         if !positive && !negative {
             return None;
         }
-        Some(self.entries[self.places[var as usize]])
+        Some(self.at(self.places[var as usize] as usize))
     }
 
     /// Assigns the literal at the greatest open level, for that reason.
     pub fn push(&mut self, lit: Lit, reason: Option<u64>)
         requires within { lit.var < self.old.variable_count }
         requires fresh { IsAssigned self.old.entries.items lit.var → ⊥ }
+        requires reason { IfSome reason (λ id. (0 < id) × (id < 2 ^ 32)) }
         ensures entries { self.new.entries.items ≡ self.old.entries.items ++ record { lit = lit; level = length self.old.starts.items; reason = reason } ∷ [] }
         ensures starts { self.new.starts.items ≡ self.old.starts.items }
         ensures variable_count { self.new.variable_count ≡ self.old.variable_count }
     {
         let place = self.entries.len();
         let level = self.starts.len() as u64;
-        self.entries.push_reserved(Entry { lit, level, reason });
+        self.entries
+            .push_reserved(PackedEntry::of(Entry { lit, level, reason }));
         insert(self.truth.as_mut_slice(), lit);
-        self.places[lit.var as usize] = place;
+        self.places[lit.var as usize] = place as u32;
     }
 
     /// Opens the next level, and assigns the literal there.
@@ -180,13 +185,13 @@ impl Assignments {
         let place = self.entries.len();
         let level = self.starts.len() as u64 + 1;
         self.starts.push_reserved(place);
-        self.entries.push_reserved(Entry {
+        self.entries.push_reserved(PackedEntry::of(Entry {
             lit,
             level,
             reason: None,
-        });
+        }));
         insert(self.truth.as_mut_slice(), lit);
-        self.places[lit.var as usize] = place;
+        self.places[lit.var as usize] = place as u32;
     }
 
     /// Takes the literals above the level away, and closes the levels above it.
@@ -206,7 +211,7 @@ impl Assignments {
 }
 
 /// Takes the entries from a place on away.
-fn cut(entries: &mut Vec<Entry>, truth: &mut [bool], place: usize)
+fn cut(entries: &mut Vec<PackedEntry>, truth: &mut [bool], place: usize)
     requires place { place ≤ length entries.old.items }
     requires distinct { (p q : ℕ) (d e : _) → IsAt entries.old.items p d → IsAt entries.old.items q e → d.lit.var ≡ e.lit.var → p ≡ q }
     requires fits { (q : ℕ) (e : _) → IsAt entries.old.items q e → Fits (length truth.old) e.lit }
@@ -217,6 +222,6 @@ fn cut(entries: &mut Vec<Entry>, truth: &mut [bool], place: usize)
 {
     while entries.len() > place {
         let entry = entries.take_last();
-        remove(truth, entry.lit);
+        remove(truth, entry.entry().lit);
     }
 }

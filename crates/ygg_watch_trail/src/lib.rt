@@ -3,6 +3,8 @@
 
 mod assignments;
 mod entry;
+mod packed_entry;
 
 pub use assignments::Assignments;
 pub use entry::Entry;
+pub use packed_entry::PackedEntry;

@@ -1,6 +1,7 @@
 -- Watches as lists.
-use Rattle.std.specs.Prelude.{ℕ, ◌/◌, ◌%◌, eqb, List, map}
+use Rattle.std.specs.Prelude.{ℕ, List, map}
 use Rattle.ygg_cnf.specs.declared.lit.Lit.{Lit}
+use Rattle.ygg_watch_packed.specs.Codes.{lit_at}
 use Rattle.ygg_watch_visit.specs.declared.links.WatchNode.{WatchNode}
 
 -- the literal of each watch, the next one of each, and the first one by literal
@@ -8,10 +9,6 @@ pub record Linked : Type 0 where
   pub watched : List Lit
   pub next : List ℕ
   pub firsts : List ℕ
-
--- the literal of a code
-abbrev pub lit_at : ℕ → Lit
-lit_at c = record { var = c / 2; negated = eqb (c % 2) 1 }
 
 -- the lists that the nodes hold
 abbrev pub linked : List WatchNode → List ℕ → Linked

@@ -23,13 +23,14 @@ ghost use Rattle.std.specs.Prelude.{
 };
 ghost use Rattle.ygg_cnf_set.specs.LiteralSet.{code_of};
 ghost use Rattle.ygg_watch_visit.specs.Lists.{sibling, lit_of, no_lit};
-ghost use Rattle.ygg_watch_visit.specs.Links.{lit_at};
+ghost use Rattle.ygg_watch_packed.specs.Codes.{lit_at};
 
 use std::alloc::Global;
 use std::marker::Model;
-use ygg_cnf::{Clause, Lit};
+use ygg_cnf::Lit;
 use ygg_cnf_set::code;
 use ygg_list::NoMemory;
+use ygg_watch_packed::{PackedClause, PackedLit};
 
 /// The node of the other watch of the same clause.
 pub fn sibling_of(node: usize) -> usize
@@ -39,8 +40,16 @@ pub fn sibling_of(node: usize) -> usize
     if node % 2 == 0 { node + 1 } else { node - 1 }
 }
 
+/// A clause. It is not read.
+pub fn clause_of(clauses: &[PackedClause], at: usize) -> &PackedClause
+    requires { at < length clauses.now }
+    ensures { slice_get clauses.now at ≡ Some result.now }
+{
+    &clauses[at]
+}
+
 /// The literals of a clause.
-pub fn lits_of(clauses: &[Clause], at: usize) -> &[Lit]
+pub fn lits_of(clauses: &[PackedClause], at: usize) -> &[PackedLit]
     requires { at < length clauses.now }
     ensures { slice_get clauses.now at ≡ Some result.now }
 {
@@ -111,6 +120,14 @@ impl Links {
         Ok(())
     }
 
+    /// The number of watches, which are two for each clause.
+    pub fn len(&self) -> usize
+        ensures len { result ≡ length self.now.watched }
+        ensures few { result < 2 ^ 32 }
+    {
+        self.nodes.len()
+    }
+
     /// Puts the node first in the watch list of the literal that has this code.
     pub fn link(&mut self, node: usize, code: usize)
         requires node { node < length self.old.next }
@@ -130,7 +147,8 @@ impl Links {
     /// The next node of the watch list, plus 1, or 0 at its end.
     pub fn next(&self, node: usize) -> usize
         requires { node < length self.now.next }
-        ensures { result ≡ get_or self.now.next node 0 }
+        ensures next { result ≡ get_or self.now.next node 0 }
+        ensures within { node < 2 ^ 32 }
     {
         self.nodes[node].next as usize
     }

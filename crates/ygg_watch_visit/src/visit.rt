@@ -3,25 +3,32 @@ ghost use Rattle.ygg_cnf_set.specs.LiteralSet.{code_of};
 ghost use Rattle.ygg_cnf.specs.Literals.{complement};
 ghost use Rattle.ygg_watch_plain.specs.Propagation.{IsWithin, IsFalse, Spreads, IsConflict};
 ghost use Rattle.ygg_watch_plain.specs.Status.{state_of};
-ghost use Rattle.ygg_watch_trail.specs.Trail.{IsAt};
+ghost use Rattle.ygg_watch_trail.specs.Trail.{IsAt, IsOnTrail};
 ghost use Rattle.ygg_watch_visit.specs.Lists.{IsLists, IsPending};
 ghost use Rattle.ygg_watch_visit.specs.State.{IsLive};
 ghost use Rattle.ygg_watch_visit.specs.Watching.{IsDone, IsJudged};
 
 use crate::frame::Checkpoint;
-use crate::links::{Links, lits_of, sibling_of};
-use ygg_cnf::{Clause, Lit};
+use crate::links::{Links, clause_of, sibling_of};
+use ygg_cnf::Lit;
+use ygg_watch_packed::{PackedClause, PackedLit};
 use ygg_watch_trail::Assignments;
 
 /// The first literal that is not false, other than the given one. Each one before it is counted.
-fn replacement(clause: &[Lit], other: Lit, trail: &Assignments, count: &mut usize) -> Option<Lit>
+fn replacement(
+    clause: &[PackedLit],
+    other: Lit,
+    trail: &Assignments,
+    count: &mut usize,
+) -> Option<Lit>
     requires { IsWithin trail.now.variable_count clause.now }
     ensures some { IfSome result (λ y. Contains clause.now y × ((y ≢ other) × (IsFalse trail.now.entries.items y → ⊥))) }
     ensures none { IfNone result ((y : _) → Contains clause.now y → y ≢ other → IsFalse trail.now.entries.items y) }
 {
     for lit in clause {
-        if !trail.is_false(*lit) && *lit != other {
-            return Some(*lit);
+        let lit = lit.lit();
+        if !trail.is_false(lit) && lit != other {
+            return Some(lit);
         }
         *count = count.wrapping_add(1);
     }
@@ -31,7 +38,7 @@ fn replacement(clause: &[Lit], other: Lit, trail: &Assignments, count: &mut usiz
 /// A literal of the clause that is not false, other than the given one: the first one from a place on, or else the first one before it. The place becomes
 /// its own.
 fn replacement_from(
-    clause: &[Lit],
+    clause: &[PackedLit],
     other: Lit,
     trail: &Assignments,
     place: &mut usize,
@@ -64,9 +71,10 @@ pub enum Judged {
     False,
 }
 
-/// Looks at the clause of a number with a false watch. Where another literal is to be watched, `place` becomes its place.
+/// Looks at the clause of a number with a false watch. It is read where its other watch isn't true. Where another literal is to be watched, `place` becomes
+/// its place.
 fn judge(
-    clause: &[Lit],
+    clause: &PackedClause,
     other: Lit,
     trail: &Assignments,
     links: &Links,
@@ -81,6 +89,16 @@ fn judge(
         return Judged::Keep;
     }
     *place = links.start(at);
+    judge_read(clause.as_slice(), other, trail, place)
+}
+
+/// Looks at the literals of a clause with a false watch, from a place on.
+fn judge_read(clause: &[PackedLit], other: Lit, trail: &Assignments, place: &mut usize) -> Judged
+    requires within { IsWithin trail.now.variable_count clause.now }
+    requires here { Contains clause.now other }
+    requires unsettled { IsOnTrail trail.now.entries.items other → ⊥ }
+    ensures { IsJudged clause.now other trail.now.entries.items result }
+{
     match replacement_from(clause, other, trail, place) {
         Some(lit) => Judged::Move(lit),
         None => {
@@ -114,7 +132,7 @@ fn put_back(links: &mut Links, from: usize, code: usize)
 
 /// Looks at each watch of a literal that is false. Gives the number of a clause that is false, if it finds one.
 fn visit(
-    clauses: &[Clause],
+    clauses: &[PackedClause],
     links: &mut Links,
     trail: &mut Assignments,
     frames: &[Checkpoint],
@@ -142,7 +160,7 @@ fn visit(
         let mut to = code_now;
         let mut place = 0;
         match judge(
-            lits_of(clauses, node / 2),
+            clause_of(clauses, node / 2),
             other,
             trail,
             links,
@@ -171,7 +189,7 @@ fn visit(
 
 /// Looks at each entry that was not looked at. Gives the number of a clause that is false, if it finds one.
 pub fn visit_all(
-    clauses: &[Clause],
+    clauses: &[PackedClause],
     links: &mut Links,
     trail: &mut Assignments,
     frames: &[Checkpoint],

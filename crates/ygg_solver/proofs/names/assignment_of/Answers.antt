@@ -1,8 +1,8 @@
-use Rattle.std.proofs.Common.{◌≡◌, sym, inl, inr, arith, get_or, false, None}
+use Rattle.std.proofs.Common.{◌≡◌, ◌∙◌, sym, inl, inr, arith, get_or}
 use Rattle.std.proofs.lemmas.Option.{get_or_from_slice_get, slice_get-get_or}
 use Rattle.ygg_solver_search.specs.ygg_watch_trail.declared.entry.Entry.{Entry}
 use Rattle.ygg_solver_search.specs.ygg_watch_trail.Trail.{IsAt}
-use Rattle.ygg_solver.proofs.NameLemmas.{values_kept, values_set}
+use Rattle.ygg_solver.proofs.NameLemmas.{not_false, not_true, values_kept, values_set}
 use Rattle.ygg_solver.proofs.names.assignment_of.Goals as goal
 use Rattle.ygg_solver.proofs.names.assignment_of.Goals.{
   then-variable-gt0+then-not-entry+in_ok-set_true,
@@ -16,19 +16,18 @@ loop-entry-preserved c =
     let variables = c.args.variables.now in
     let trail = c.args.trail.now in
     let i = c.loop-entry.entry-index in
-    let e : Entry = get_or trail i (record { lit = record { var = 0; negated = false }; level = 0; reason = None }) in
-    let at : IsAt trail i e = slice_get-get_or trail i
-    (record { lit = record { var = 0; negated = false }; level = 0; reason = None }) c.loop-entry-test.true in
+    let e : Entry = c.entry-entry.result in
+    let at : IsAt trail i e = rw (c.entry-entry.ensures ∙ c.entry-item.is) (slice_get-get_or trail i c.entry-item.result c.loop-entry-test.true) in
     let name : get_or variables e.lit.var 0 ≡ c.variable-variable.result =
     get_or_from_slice_get variables e.lit.var c.variable-variable.result 0 c.variable-variable.ensures in
     elim c.if-variable-gt0.branch [
       | then-variable-gt0+then-not-entry+in_ok-set_true w ↦ rw w.values-is
           (values_set variables c.requires.distinct trail c.requires.trail i e c.loop-entry.values.items w.set_true.new.values.items
           c.variable-variable.result at c.loop-entry.invariant
-          w.if-not-entry.true (sym name) w.in_ok-set_true.ensures.here w.in_ok-set_true.ensures.others)
+          (not_true _ w.if-not-entry.true) (sym name) w.in_ok-set_true.ensures.here w.in_ok-set_true.ensures.others)
       | else-variable-gt0 w ↦ rw w.values-is (elim w.else-variable-gt0.branch [
         | else-variable-gt0-via-then-variable-gt0+else-not-entry v ↦
-            values_kept variables c.requires.distinct trail c.requires.trail i e c.loop-entry.values.items at c.loop-entry.invariant (inl v.if-not-entry.false)
+            values_kept variables c.requires.distinct trail c.requires.trail i e c.loop-entry.values.items at c.loop-entry.invariant (inl (not_false _ v.if-not-entry.false))
         | else-variable-gt0-via-else-variable-gt0 v ↦
             values_kept variables c.requires.distinct trail c.requires.trail i e c.loop-entry.values.items at c.loop-entry.invariant
             (inr (let none = v.if-variable-gt0.false in omega (arith, name, none)))

@@ -1,8 +1,8 @@
-use Rattle.std.proofs.Common.{sym, subst, ◌∙◌, ⊎_elim, Contains, ◌++◌, ◌∷◌, [], length}
+use Rattle.std.proofs.Common.{sym, subst, ◌∙◌, ⊎_elim, Contains, ◌++◌, ◌∷◌, []}
 use Rattle.std.proofs.lemmas.Bool.{false≢true}
 use Rattle.std.proofs.lemmas.List.Elements.{Contains-push, Contains-push_cases, Contains-append_left}
 use Rattle.ygg_cnf_set.specs.LiteralSet.{InSet}
-use Rattle.ygg_solver_learn.proofs.LearnLemmas.{here_or_before, later}
+use Rattle.ygg_solver_learn.proofs.LearnLemmas.{here_or_before}
 use Rattle.ygg_solver_learn.proofs.analysis.collect.Goals.{then-has_seen+in_ok-push, else-has_seen}
 use Rattle.ygg_solver_learn.proofs.analysis.collect.Goals as goal
 
@@ -25,9 +25,3 @@ loop-at-preserved c = elim c.if-has_seen.branch [
         (here_or_before c.args.trail.now c.loop-at.at c.entry_at.result y c.entry_at.ensures f);
   })
 ]
-
-pub returns : goal.returns
-returns c y = (
-  (λ m. c.loop-at.invariant.all y m (later c.args.trail.now (length c.args.trail.now) c.loop-at.at y c.loop-at-test.false (c.requires.falses y m))),
-  c.loop-at.invariant.is_seen y,
-)

@@ -1,4 +1,4 @@
-use Rattle.std.proofs.Common.{subst, ℕ, List, []}
+use Rattle.std.proofs.Common.{sym, subst, ℕ, List, [], ◌∙◌}
 use Rattle.ygg_cnf.specs.Derivations.{HasClause, DerivesClause}
 use Rattle.ygg_solver_learn.proofs.TeachLemmas.{append-nil}
 use Rattle.ygg_watch_trail.proofs.TrailLemmas.{contains_none}
@@ -14,5 +14,5 @@ resolve_rest-requires-clause-falses c y m =
 
 pub returns : goal.returns
 returns c =
-    subst (λ (l : List ℕ). DerivesClause (HasClause c.args.clauses.now) l []) (append-nil c.resolve_rest.new.chain.items)
+    subst (λ (l : List ℕ). DerivesClause (HasClause c.args.clauses.now) l []) (append-nil c.resolve_rest.new.chain.items ∙ sym c.shrink_to_fit.ensures.items)
     (c.in_ok-resolve_rest.ensures.reached [] [] (λ y. ((λ m. absurd (c.in_ok-resolve_rest.ensures.none y m)), (λ d. absurd (contains_none y d)))))

@@ -8,16 +8,16 @@ use Rattle.ygg_solver_search.proofs.searching.search.Given as goal
 abbrev pub invariant-loop-conflict : goal.invariant-loop-conflict
 invariant-loop-conflict g l =
     let state = g.P.Propagate.state l.propagation in
+    let given = (g.P.Propagate.state l.initial.propagation).clauses in
     record {
       variable_count : l.variable_count ≡ state.variable_count;
       ready : IsReady state;
-      held : state.clauses ≡ l.clauses.items;
-      learned : l.clauses.items ≡ l.initial.clauses.items ++ map clause_of l.log;
-      fits : All (λ clause. All (Fits (length l.seen)) clause) l.clauses.items;
-      variables : All (λ clause. All (λ (x : Lit). x.var < l.variable_count) clause) l.clauses.items;
+      learned : state.clauses ≡ given ++ map clause_of l.log;
+      fits : All (λ clause. All (Fits (length l.seen)) clause) state.clauses;
+      variables : All (λ clause. All (λ (x : Lit). x.var < l.variable_count) clause) state.clauses;
       clear : IsSetOf l.seen (λ _. ⊥);
-      derives : Derives l.initial.clauses.items l.log;
-      teach : EachTeaches l.initial.clauses.items l.log;
+      derives : Derives given l.log;
+      teach : EachTeaches given l.log;
       left : length l.log < l.budget;
     }
 

@@ -73,3 +73,8 @@ returns-else-not-is_unwatched-clause-fine c _ clause is =
     (watched_loose _ trail c.args.frames.now c.args.head c.args.seen clause (attached_linked w c.args.seen c.in-Open.lit c.in-Open.other l o.1.1.0)
     (λ f. not_false trail c.in-Open.lit o.1.1.1.0 (subst (IsFalse trail) (first_lit w c.args.seen c.in-Open.lit c.in-Open.other l) f))
     (λ f. not_false trail c.in-Open.other o.1.1.1.1 (subst (IsFalse trail) (second_lit w c.args.seen c.in-Open.lit c.in-Open.other l) f)))
+
+pub push-requires-clause-reason : goal.push-requires-clause-reason
+push-requires-clause-reason c =
+    let few = c.len.ensures.few in let is = c.len.ensures.len in let size = c.requires.live.watched_size in let at = c.requires.at in
+    (omega arith, omega (arith, few, is, size, at))

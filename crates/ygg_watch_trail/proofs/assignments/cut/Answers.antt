@@ -7,11 +7,11 @@ use Rattle.ygg_watch_trail.proofs.assignments.cut.Goals as goal
 
 pub remove-requires : goal.remove-requires
 remove-requires c =
-    let now : List Entry = c.loop-entries.entries.items in
+    rw c.entry.ensures (let now : List Entry = c.loop-entries.entries.items in
     let next : List Entry = c.take_last-entry.new.self.items in
     fits_front now c.args.entries.now.items (length c.loop-entries.truth) c.loop-entries.invariant.items
     (λ q e h. let f = c.requires.fits q e h in let s = c.loop-entries.invariant.size in omega (arith, f, s)) (length next) c.take_last-entry.result
-    (subst (λ (t : List Entry). IsAt t (length next) c.take_last-entry.result) (sym c.take_last-entry.ensures.items) (at_last next c.take_last-entry.result))
+    (subst (λ (t : List Entry). IsAt t (length next) c.take_last-entry.result) (sym c.take_last-entry.ensures.items) (at_last next c.take_last-entry.result)))
 
 pub loop-entries-preserved : goal.loop-entries-preserved
 loop-entries-preserved c =
@@ -29,7 +29,7 @@ loop-entries-preserved c =
           (subst (λ (t : List Entry). (rest : List Entry) × (t ++ rest ≡ c.args.entries.now.items)) c.take_last-entry.ensures.items
           c.loop-entries.invariant.items) c.requires.distinct)
           (subst (λ (t : List Entry). IsSetOf c.loop-entries.truth (IsOnTrail t)) c.take_last-entry.ensures.items c.loop-entries.invariant.seen)
-          c.remove.ensures;
+          (rw c.entry.ensures at c.remove.ensures);
     }
 
 pub returns-clause-entries : goal.returns-clause-entries

@@ -26,7 +26,7 @@ loop-at-preserved c =
       pending = (
         s.0,
         (
-          rw (c.next-at.ensures, c.link.ensures.next, c.link.ensures.watched) s.1.1.0,
+          rw (c.next-at.ensures.next, c.link.ensures.next, c.link.ensures.watched) s.1.1.0,
           rw (c.link.ensures.next, c.link.ensures.watched, c.link.ensures.firsts) s.1.1.1,
         ),
       );
@@ -49,7 +49,7 @@ loop-at-smaller c =
     c.loop-at.links.next _ _)))
     (subst (λ (n : List ℕ). IsPending n c.loop-at.links.watched (get_or c.loop-at.links.next (c.loop-at.at - 1) 0) c.args.code s.0) (sym
     c.link.ensures.next) s.1.1.0) in
-    let less = s.1.0 in rw c.next-at.ensures (omega (arith, before, after, less))
+    let less = s.1.0 in rw c.next-at.ensures.next (omega (arith, before, after, less))
 
 pub returns-clause-lists : goal.returns-clause-lists
 returns-clause-lists c = put_end c.loop-at.links.next c.loop-at.links.watched c.loop-at.links.firsts c.loop-at.at c.args.code

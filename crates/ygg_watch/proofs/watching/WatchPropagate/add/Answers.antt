@@ -10,7 +10,7 @@ invariant_of-self-2 c =
     = c.push_reserved.ensures.items ∙ ap (λ (l : List (List Lit)). l ++ c.in_ok-kept.kept ∷ []) c.reserve.ensures.items in
     let r = rw (← c.self.view_is) at c.requires in
     let fits : All (λ (x : Lit). x.var < i.trail.variable_count) c.in_ok-kept.kept =
-    subst (λ (w : List Lit). All (λ (x : Lit). x.var < i.trail.variable_count) w) (sym c.in_ok-kept.ensures) r in
+    subst (λ (w : List Lit). All (λ (x : Lit). x.var < i.trail.variable_count) w) (sym (c.in_ok-kept.ensures ∙ c.as_slice.ensures)) r in
     record {
       live = rw (clauses, c.in_ok-add.ensures.watched, c.in_ok-add.ensures.next, c.in_ok-add.ensures.firsts)
           (live_added i.clauses.items i.links.watched i.links.next i.links.firsts i.trail.entries.items i.trail.variable_count

@@ -118,3 +118,9 @@ returns-clause-quiet c =
           (returns-clause-open c)
           (λ id e. absurd (let both = sym w.result-is ∙ e in cc))
     ]
+
+pub spread-requires-clause-few : goal.spread-requires-clause-few
+spread-requires-clause-few c =
+    let few = c.len.ensures.few in let is = c.len.ensures.len in let size = c.examine_all.ensures.live.watched_size in
+    let same = ap (λ (l : List (List Lit)). length l) (c.as_slice-in-Stuck.ensures.value ∙ sym c.as_slice.ensures.value) in
+    omega (arith, few, is, size, same)

@@ -1,0 +1,16 @@
+use Rattle.std.proofs.Common.{All, ◌<◌, length, subst, sym, arith, List, [], ◌∷◌, ◌++◌, ◌≡◌, take, get_or}
+use Rattle.std.proofs.lemmas.List.{take_more}
+use Rattle.std.proofs.lemmas.List.Elements.{All-get_or}
+use Rattle.ygg_cnf.specs.declared.lit.Lit.{Lit}
+use Rattle.ygg_watch_visit.proofs.StepLemmas.{live_added}
+use Rattle.ygg_watch_visit.specs.State.{IsLive}
+use Rattle.ygg_watch.proofs.watching.links_for.Goals as goal
+
+pub loop-at-preserved : goal.loop-at-preserved
+loop-at-preserved c =
+    let clauses : List (List Lit) = c.args.clauses.now in
+    let clause : List Lit = get_or clauses c.loop-at.at [] in
+    rw (take_more clauses c.loop-at.at [] c.loop-at-test.true, c.in_ok-add.ensures.watched, c.in_ok-add.ensures.next, c.in_ok-add.ensures.firsts)
+    (live_added (take c.loop-at.at clauses) c.loop-at.links.watched c.loop-at.links.next c.loop-at.links.firsts [] c.args.variable_count [] 0 0 clause
+    c.loop-at.invariant (omega arith)
+    (All-get_or (All (λ (x : Lit). x.var < c.args.variable_count)) clauses c.loop-at.at [] c.loop-at-test.true c.requires.within))

@@ -1,0 +1,46 @@
+ghost use Rattle.std.specs.Prelude.{◌≡◌, ◌<◌, ◌^◌};
+ghost use Rattle.ygg_cnf_set.specs.LiteralSet.{code_of};
+
+use std::marker::Model;
+use ygg_cnf::Lit;
+use ygg_cnf_set::code;
+
+/// A literal in 4 bytes: twice its variable, and 1 more where it is negated.
+#[derive(Clone, Copy, Default, PartialEq, Eq)]
+pub struct PackedLit {
+    code: u32,
+}
+
+impl Model for PackedLit {
+    ghost use Rattle.ygg_cnf.specs.declared.lit.Lit.{Lit};
+    ghost use Rattle.ygg_cnf_set.specs.LiteralSet.{code_of};
+    ghost use Rattle.ygg_watch_packed.specs.Codes.{lit_at};
+
+    ghost Value = { Lit };
+
+    ghost view = { λ p. lit_at p.code };
+
+    ghost inverse = { λ x. record { code = code_of x } };
+}
+
+impl PackedLit {
+    /// The literal, in 4 bytes.
+    pub fn of(lit: Lit) -> PackedLit
+        requires { lit.var < 2 ^ 31 }
+        ensures { result ≡ lit }
+    {
+        PackedLit {
+            code: code(lit) as u32,
+        }
+    }
+
+    /// The literal itself.
+    pub fn lit(self) -> Lit
+        ensures { result ≡ self }
+    {
+        Lit {
+            var: (self.code / 2) as u64,
+            negated: self.code % 2 == 1,
+        }
+    }
+}
