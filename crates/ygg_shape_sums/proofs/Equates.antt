@@ -1,7 +1,7 @@
 -- What an equality of sums is worth.
 use Rattle.std.proofs.Common.{◌≡◌, ◌<◌, ◌==◌, ◌+◌, ◌-◌, ◌*◌, ◌%◌, ◌^◌, ℕ, zero, suc, Bool, true, false, if◌then◌else◌, Option}
 use Rattle.std.proofs.Common.{Some, None, Result, Ok, Err, OnOk, IfOk, List, [], ◌∷◌, ◌++◌, refl, sym, ap, ◌∙◌, subst, arith}
-use Rattle.std.proofs.Math.Nat.{mod-eq_of_lt}
+use Rattle.std.proofs.Math.Nat.{mod-eq_of_lt, zero-mod}
 use Rattle.std.proofs.lemmas.List.Elements.{All-push, All-nil}
 use Rattle.ygg_value.specs.Number.{Number}
 use Rattle.ygg_value.specs.Words.{word, bit_of}
@@ -11,37 +11,37 @@ use Rattle.ygg_shape_words.specs.ygg_bank_proofs_Exist.{values_fit}
 use Rattle.ygg_shape_words.specs.ygg_bank_proofs_Meaning.{fits_fewer}
 use Rattle.ygg_shape_words.specs.ygg_bank_proofs_Widths.{wider, width_is, width_fits}
 use Rattle.ygg_shape_words.specs.ygg_bank.Makes.{Out, pure, and_make}
-use Rattle.ygg_shape_words.specs.ygg_bank.Nodes.{width_at, widths_of, HasWidth, Extends, InOrder, IsBank}
+use Rattle.ygg_shape_words.specs.ygg_bank.Making.{made}
+use Rattle.ygg_shape_words.specs.ygg_bank.Nodes.{width_at, widths_of, HasWidth, Extends, IsBank}
 use Rattle.ygg_shape_words.specs.ygg_bank.Values.{Inputs, Values, Fits, value_of}
 use Rattle.ygg_shape_words.specs.ygg_bank.declared.node.Id.{Id}
 use Rattle.ygg_shape_words.specs.ygg_bank.declared.node.Node.{Node}
+use Rattle.ygg_shape_words.specs.ygg_bank.declared.node.Node.TheVariants.{Const}
 use Rattle.ygg_shape_words.proofs.Compares.{same_words_is}
 use Rattle.ygg_shape_words.proofs.Grows.{picked_grows}
 use Rattle.ygg_shape_words.proofs.Picks.{picked_is}
-use Rattle.ygg_shape_words.proofs.Terms.{TermIs, holds, equal}
+use Rattle.ygg_shape_words.proofs.Terms.{TermIs, holds, equal, made_is}
 use Rattle.ygg_shape_words.specs.Forms.{WordsAlike}
 use Rattle.ygg_shape_words.specs.Picking.{picked}
 use Rattle.ygg_shape_words.specs.Same.{same_words, IsSame}
-use Rattle.ygg_shape_sums.proofs.Fit.{two_fit, gathered_fit, split_digit, parts_wider, facts_wider, facts_more}
-use Rattle.ygg_shape_sums.proofs.Keeps.{vanishes_within_grows, equated_words_grows}
+use Rattle.ygg_shape_sums.proofs.Cancels.{cancels_within_is}
+use Rattle.ygg_shape_sums.proofs.Fit.{two_fit, split_digit, parts_wider, facts_wider, facts_more}
+use Rattle.ygg_shape_sums.proofs.Keeps.{vanishes_within_grows, compared_words_grows, equated_words_grows}
 use Rattle.ygg_shape_sums.proofs.Modulo.{Like, like, like_both, like_add, less_and, sides_equal}
 use Rattle.ygg_shape_sums.proofs.Sides.{vanishes_is}
-use Rattle.ygg_shape_sums.proofs.Worth.{bits, worth, FactsHold, gathered_sum_is}
-use Rattle.ygg_shape_sums.specs.Parts.{Sum, PartsFit, part, empty}
+use Rattle.ygg_shape_sums.proofs.Reduces.{sum_fits, reduced_sum_is}
+use Rattle.ygg_shape_sums.proofs.Worth.{bits, worth, FactsHold}
+use Rattle.ygg_shape_sums.specs.Cancels.{has_product, cancels_within, cancels}
+use Rattle.ygg_shape_sums.specs.Parts.{Sum, PartsFit, part}
 use Rattle.ygg_shape_sums.specs.Readings.{FactsFit, fact}
-use Rattle.ygg_shape_sums.specs.Gathers.{gathered_sum, split_of}
-use Rattle.ygg_shape_sums.specs.Equates.{Found, Step, split_as, vanishes_within, difference, are_sums, equated_words}
+use Rattle.ygg_shape_sums.specs.Gathers.{split_of}
+use Rattle.ygg_shape_sums.specs.Reduces.{reduced_sum}
+use Rattle.ygg_shape_sums.specs.Equates.{Found, Step, split_as, vanishes_within, difference, are_sums, compared_words, equated_words}
+use Rattle.ygg_shape_sums.specs.declared.cancelling.TheConstants.{CANCEL_LIMIT}
 use Rattle.ygg_shape_sums.specs.declared.equating.TheConstants.{EQUATE_LIMIT}
 use Rattle.ygg_shape_sums.specs.declared.gathering.TheConstants.{READ_LIMIT}
-use Rattle.ygg_shape_sums.specs.declared.parts.Summand.{Summand}
 use Rattle.ygg_shape_sums.specs.declared.reading.Fact.{Fact}
 use Rattle.ygg_shape_sums.specs.declared.reading.TheConstants.{LESS_ONE}
-
--- a sum that was read has words of the width
-pub sum_fits : (nodes : List Node) (w : ℕ) (facts : List Fact) (s : Sum) → InOrder [] nodes → PartsFit nodes w s.parts →
-    PartsFit nodes w (gathered_sum nodes facts s).parts
-sum_fits nodes w facts s o h =
-    gathered_fit nodes w READ_LIMIT facts s.parts (empty s.number) o h (All-nil (λ (p : Summand). HasWidth nodes p.term w))
 
 pub difference_fits : (nodes : List Node) (w : ℕ) (a b : Id) → HasWidth nodes a w → HasWidth nodes b w → PartsFit nodes w (difference a b).parts
 difference_fits nodes w a b p q = two_fit nodes w (part 1 a) (part LESS_ONE b) p q
@@ -100,10 +100,10 @@ module _ (inputs : Inputs) (v : Values) (w : ℕ) (wide : IsWidth w) (kinds : Li
       }
 
   read_is : (nodes : List Node) (facts : List Fact) (s : Sum) (o : Out Found) → Fits inputs v nodes → PartsFit nodes w s.parts →
-      FoundIs facts (gathered_sum nodes facts s) o → FoundIs facts s o
+      FoundIs facts (reduced_sum nodes w facts s) o → FoundIs facts s o
   read_is nodes facts s o f p g = record {
     has = g.has;
-    is = λ k. let l = gathered_sum_is inputs v w wide.most nodes f facts s k p in g.is k ∙ ap (λ z. word 1 (bit_of (z == 0))) l.is;
+    is = λ k. let l = reduced_sum_is inputs v w wide.most nodes f facts s k p in g.is k ∙ ap (λ z. word 1 (bit_of (z == 0))) l.is;
   }
 
   vanishes_within_is : (depth : ℕ) → IsGood (vanishes_within kinds w depth)
@@ -111,7 +111,7 @@ module _ (inputs : Inputs) (v : Values) (w : ℕ) (wide : IsWidth w) (kinds : Li
   vanishes_within_is zero left facts s nodes f p h =
       let m = vanishes_is inputs v w wide kinds s nodes p h in record { has = m.wide; is = λ k. m.is }
   vanishes_within_is (suc depth) left facts s nodes f p h =
-      let g = gathered_sum nodes facts s in
+      let g = reduced_sum nodes w facts s in
       let n = split_of nodes left g.parts in
       let step = vanishes_within kinds w depth in
       let own = fits_fewer inputs v nodes (split_as kinds w step left facts g n nodes).nodes (vanishes_within_grows kinds w (suc depth) left facts s nodes) h in
@@ -165,12 +165,12 @@ either_is : (inputs : Inputs) (v : Values) (want : Number) (c : Bool) (one two :
 either_is inputs v want true one two h i f = h f
 either_is inputs v want false one two h i f = i f
 
--- the equality of two words is what it says
-pub equated_words_is : (inputs : Inputs) (v : Values) (kinds : List RuleKind) (a b : Id) (nodes : List Node) → WordsAlike nodes a b →
-    Fits inputs v (equated_words kinds a b nodes).nodes →
-    TermIs inputs v (equated_words kinds a b nodes).nodes 1 (word 1 (bit_of (equal inputs v a b))) (equated_words kinds a b nodes).value
-equated_words_is inputs v kinds a b nodes w h =
-    let f = fits_fewer inputs v nodes (equated_words kinds a b nodes).nodes (equated_words_grows kinds a b nodes) h in
+-- the equality of two words is what it says, where nothing more is known of them
+compared_words_is : (inputs : Inputs) (v : Values) (kinds : List RuleKind) (a b : Id) (nodes : List Node) → WordsAlike nodes a b →
+    Fits inputs v (compared_words kinds a b nodes).nodes →
+    TermIs inputs v (compared_words kinds a b nodes).nodes 1 (word 1 (bit_of (equal inputs v a b))) (compared_words kinds a b nodes).value
+compared_words_is inputs v kinds a b nodes w h =
+    let f = fits_fewer inputs v nodes (compared_words kinds a b nodes).nodes (compared_words_grows kinds a b nodes) h in
     let u = width_at (widths_of nodes) a in
     let e : w.width ≡ u = sym (width_is nodes a w.width w.one_has) in
     let p : HasWidth nodes a u = subst (HasWidth nodes a) e w.one_has in
@@ -178,6 +178,45 @@ equated_words_is inputs v kinds a b nodes w h =
     (and_make (vanishes_within kinds u EQUATE_LIMIT EQUATE_LIMIT [] (difference a b)) (λ r. pure r.term) nodes) (same_words kinds a b nodes)
     (sums_is inputs v u (width_fits nodes a u f.ordered p) kinds a b nodes p (subst (HasWidth nodes b) e w.two_has))
     (same_words_is inputs v kinds a b nodes w) h
+
+-- two words are equal where nothing is left of the one less the other
+module _ (inputs : Inputs) (v : Values) (kinds : List RuleKind) (a b : Id) (nodes : List Node) (f : Fits inputs v nodes) (w : WordsAlike nodes a b) where
+  within_is : (c : Bool) → (if c then cancels_within CANCEL_LIMIT nodes (width_at (widths_of nodes) a) a b [] else false) ≡ true → equal inputs v a b ≡ true
+  within_is true e =
+      let u = width_at (widths_of nodes) a in
+      let g : w.width ≡ u = sym (width_is nodes a w.width w.one_has) in
+      let p : HasWidth nodes a u = subst (HasWidth nodes a) g w.one_has in
+      let q : HasWidth nodes b u = subst (HasWidth nodes b) g w.two_has in
+      let wide = width_fits nodes a u f.ordered p in
+      let z = cancels_within_is inputs v u wide.most nodes f a b p q CANCEL_LIMIT [] (All-nil (λ (f : Fact). holds inputs v f.test ≡ f.yes)) e in
+      sym (difference_is inputs v u wide kinds nodes a b f p q) ∙ ap (λ n. n == 0) (z.is ∙ zero-mod (2 ^ u))
+  within_is false e = absurd (cc)
+
+  cancels_is : (c : Bool) →
+      (if c then false else if has_product READ_LIMIT nodes (part 1 a ∷ part LESS_ONE b ∷ [])
+      then cancels_within CANCEL_LIMIT nodes (width_at (widths_of nodes) a) a b [] else false) ≡ true →
+      equal inputs v a b ≡ true
+  cancels_is true e = absurd (cc)
+  cancels_is false e = within_is (has_product READ_LIMIT nodes (part 1 a ∷ part LESS_ONE b ∷ [])) e
+
+  known_is : (c : Bool) (o : Out Id) → (c ≡ true → equal inputs v a b ≡ true) →
+      (Fits inputs v o.nodes → TermIs inputs v o.nodes 1 (word 1 (bit_of (equal inputs v a b))) o.value) →
+      Fits inputs v (if c then made kinds (Const (word 1 1)) nodes else o).nodes →
+      (let r : Out Id = if c then made kinds (Const (word 1 1)) nodes else o in
+      TermIs inputs v r.nodes 1 (word 1 (bit_of (equal inputs v a b))) r.value)
+  known_is true o e i h =
+      let m = made_is inputs v kinds (Const (word 1 1)) nodes (record { least = omega arith; most = omega arith; fits = omega arith }) h in
+      record { wide = m.wide; is = m.is ∙ ap (λ z. word 1 (bit_of z)) (sym (e refl)) }
+  known_is false o e i h = i h
+
+-- the equality of two words is what it says
+pub equated_words_is : (inputs : Inputs) (v : Values) (kinds : List RuleKind) (a b : Id) (nodes : List Node) → WordsAlike nodes a b →
+    Fits inputs v (equated_words kinds a b nodes).nodes →
+    TermIs inputs v (equated_words kinds a b nodes).nodes 1 (word 1 (bit_of (equal inputs v a b))) (equated_words kinds a b nodes).value
+equated_words_is inputs v kinds a b nodes w h =
+    let f = fits_fewer inputs v nodes (equated_words kinds a b nodes).nodes (equated_words_grows kinds a b nodes) h in
+    known_is inputs v kinds a b nodes f w (cancels nodes a b) (compared_words kinds a b nodes) (cancels_is inputs v kinds a b nodes f w (a.0 == b.0))
+    (compared_words_is inputs v kinds a b nodes w) h
 
 -- what the call says of its answer
 pub equated_value : {E : Type 0} (kinds : List RuleKind) (a b : Id) (old new : List Node) (r : Result Id E) → IsBank new →

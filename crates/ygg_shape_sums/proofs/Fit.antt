@@ -86,7 +86,7 @@ module _ (nodes : List Node) (w : ℕ) where
   below_case p x y true h i = All-nil Fit
   below_case p x y false h i = two_fit (part p.times x) (part p.times y) h i
 
-  below_fit : (p : Summand) (n : Option Node) → InOrder [] nodes → slice_get nodes p.term.0 ≡ n → HasWidth nodes p.term w → PartsFit nodes w (below p n)
+  pub below_fit : (p : Summand) (n : Option Node) → InOrder [] nodes → slice_get nodes p.term.0 ≡ n → HasWidth nodes p.term w → PartsFit nodes w (below p n)
   below_fit p (Some (Pick t x y)) o e h = let c = pick_children nodes p.term t x y w o e h in below_case p x y (p.times == 0) c.first c.second
   below_fit p n o e h = All-nil Fit
 
@@ -129,7 +129,7 @@ module _ (nodes : List Node) (w : ℕ) where
       gathered_fit fuel facts (ps ++ parts_of p r) (counted p r s) o (listed_fit facts p ps o h) (counted_fit p r s (All-head Fit p ps h) i)
 
   -- what is said of a test that is found: it is a single digit
-  abbrev DigitIn : Option Id → Type 0
+  abbrev pub DigitIn : Option Id → Type 0
   DigitIn None = Unit {0}
   DigitIn (Some t) = HasWidth nodes t 1
 

@@ -14,9 +14,11 @@ use Rattle.ygg_shape_words.proofs.Keeps.{Stays, grows_stays, picked_keeps, same_
 use Rattle.ygg_shape_words.specs.Same.{same_words}
 use Rattle.ygg_shape_sums.specs.Parts.{Sum}
 use Rattle.ygg_shape_sums.specs.Readings.{fact}
-use Rattle.ygg_shape_sums.specs.Gathers.{gathered_sum, split_of}
+use Rattle.ygg_shape_sums.specs.Gathers.{split_of}
+use Rattle.ygg_shape_sums.specs.Reduces.{reduced_sum}
 use Rattle.ygg_shape_sums.specs.Sides.{share, more, all_more, side, vanishes}
-use Rattle.ygg_shape_sums.specs.Equates.{Step, split_as, vanishes_within, difference, are_sums, equated_words}
+use Rattle.ygg_shape_sums.specs.Cancels.{cancels}
+use Rattle.ygg_shape_sums.specs.Equates.{Step, split_as, vanishes_within, difference, are_sums, compared_words, equated_words}
 use Rattle.ygg_shape_sums.specs.declared.equating.TheConstants.{EQUATE_LIMIT}
 use Rattle.ygg_shape_sums.specs.declared.parts.Summand.{Summand}
 use Rattle.ygg_shape_sums.specs.declared.reading.Fact.{Fact}
@@ -78,18 +80,24 @@ module _ (kinds : List RuleKind) (P : List Node → Type 0) (stays : Stays kinds
   unfolding vanishes_within
   vanishes_within_keeps w zero left facts s nodes p = vanishes_keeps w s nodes p
   vanishes_within_keeps w (suc depth) left facts s nodes p =
-      let g = gathered_sum nodes facts s in
+      let g = reduced_sum nodes w facts s in
       split_as_keeps w (vanishes_within kinds w depth) left facts g (split_of nodes left g.parts) nodes (vanishes_within_keeps w depth) p
 
-  pub equated_words_keeps : (a b : Id) (nodes : List Node) → P nodes → P (equated_words kinds a b nodes).nodes
-  equated_words_keeps a b nodes p =
+  kept_if : (c : Bool) (one two : Out Id) → P one.nodes → P two.nodes → P (if c then one else two).nodes
+  kept_if true one two h i = h
+  kept_if false one two h i = i
+
+  compared_words_keeps : (a b : Id) (nodes : List Node) → P nodes → P (compared_words kinds a b nodes).nodes
+  compared_words_keeps a b nodes p =
       kept_if (are_sums nodes a b)
       (and_make (vanishes_within kinds (width_at (widths_of nodes) a) EQUATE_LIMIT EQUATE_LIMIT [] (difference a b)) (λ r. pure r.term) nodes)
       (same_words kinds a b nodes) (vanishes_within_keeps (width_at (widths_of nodes) a) EQUATE_LIMIT EQUATE_LIMIT [] (difference a b) nodes p)
-      (same_words_keeps kinds P stays a b nodes p) where
-        kept_if : (c : Bool) (one two : Out Id) → P one.nodes → P two.nodes → P (if c then one else two).nodes
-        kept_if true one two h i = h
-        kept_if false one two h i = i
+      (same_words_keeps kinds P stays a b nodes p)
+
+  pub equated_words_keeps : (a b : Id) (nodes : List Node) → P nodes → P (equated_words kinds a b nodes).nodes
+  equated_words_keeps a b nodes p =
+      kept_if (cancels nodes a b) (made kinds (Const (word 1 1)) nodes) (compared_words kinds a b nodes) (stays (Const (word 1 1)) nodes tt p)
+      (compared_words_keeps a b nodes p)
 
 module _ (kinds : List RuleKind) where
   abbrev only : (first : List Node) → Stays kinds (Extends first)
@@ -108,6 +116,9 @@ module _ (kinds : List RuleKind) where
       Extends nodes (vanishes_within kinds w depth left facts s nodes).nodes
   vanishes_within_grows w depth left facts s nodes =
       vanishes_within_keeps kinds (Extends nodes) (only nodes) w depth left facts s nodes (extends_self nodes)
+
+  pub compared_words_grows : (a b : Id) (nodes : List Node) → Extends nodes (compared_words kinds a b nodes).nodes
+  compared_words_grows a b nodes = compared_words_keeps kinds (Extends nodes) (only nodes) a b nodes (extends_self nodes)
 
   pub equated_words_grows : (a b : Id) (nodes : List Node) → Extends nodes (equated_words kinds a b nodes).nodes
   equated_words_grows a b nodes = equated_words_keeps kinds (Extends nodes) (only nodes) a b nodes (extends_self nodes)

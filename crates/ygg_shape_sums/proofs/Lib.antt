@@ -2,7 +2,12 @@ pub use Rattle.ygg_shape_words.proofs.of_ygg_bank
 pub mod Modulo
 pub mod Fit
 pub mod Worth
+pub mod Factors
+pub mod Polynomials
+pub mod Reduces
 pub mod Keeps
 pub mod Sides
+pub mod Cancels
 pub mod Equates
 pub mod Steps
+pub mod Walks

@@ -11,7 +11,8 @@ use Rattle.ygg_shape_words.specs.ygg_bank.declared.node.Node.{Node}
 use Rattle.ygg_shape_words.specs.Picking.{picked}
 use Rattle.ygg_shape_sums.specs.Parts.{Sum, part, merged}
 use Rattle.ygg_shape_sums.specs.Readings.{read, fact}
-use Rattle.ygg_shape_sums.specs.Gathers.{parts_of, counted, with_all, gathered, gathered_sum, below, is_sum, has_sum, split_of}
+use Rattle.ygg_shape_sums.specs.Gathers.{parts_of, counted, with_all, gathered, found_within, split_of}
+use Rattle.ygg_shape_sums.specs.Reduces.{reduced_sum}
 use Rattle.ygg_shape_sums.specs.Sides.{share, more, all_more, vanishes}
 use Rattle.ygg_shape_sums.specs.Equates.{Found, IsFound, found, split_as, vanishes_within}
 use Rattle.ygg_shape_sums.specs.declared.parts.Summand.{Summand}
@@ -49,37 +50,37 @@ unfolding gathered
 gathered_spent zero nodes facts ps s e = refl
 gathered_spent (suc fuel) nodes facts ps s e = absurd (omega arith)
 
-pub looked_goes : (fuel left : ℕ) (nodes : List Node) (todo longer : List Summand) (i : ℕ) (p d : Summand) → 0 < fuel → left ≡ fuel - 1 → i < length todo →
-    p ≡ get_or todo i d → is_sum (read nodes [] (slice_get nodes p.term.0)) ≡ false → longer ≡ todo ++ below p (slice_get nodes p.term.0) →
-    has_sum left nodes (drop (i + 1) longer) ≡ has_sum fuel nodes (drop i todo)
-unfolding has_sum
-looked_goes zero left nodes todo longer i p d k e l g n h = absurd (omega arith)
-looked_goes (suc fuel) left nodes todo longer i p d k e l g n h =
-    let b = below p (slice_get nodes p.term.0) in
-    let f : left ≡ fuel = omega arith in
-    ap (λ z. has_sum z nodes (drop (i + 1) longer)) f
-    ∙ ap (λ z. has_sum fuel nodes (drop (i + 1) z)) h
-    ∙ ap (λ z. has_sum fuel nodes z) (drop-append-le (i + 1) todo b (omega arith))
-    ∙ ap (λ c. if c then true else has_sum fuel nodes (drop (i + 1) todo ++ b)) (sym n)
-    ∙ ap (λ z. has_sum (suc fuel) nodes z) (sym (rest_is todo i p d l g))
+module _ (is : Summand → Bool) (next : Summand → List Summand) where
+  pub looked_goes : (fuel left : ℕ) (todo longer : List Summand) (i : ℕ) (p d : Summand) → 0 < fuel → left ≡ fuel - 1 → i < length todo →
+      p ≡ get_or todo i d → is p ≡ false → longer ≡ todo ++ next p →
+      found_within is next left (drop (i + 1) longer) ≡ found_within is next fuel (drop i todo)
+  unfolding found_within
+  looked_goes zero left todo longer i p d k e l g n h = absurd (omega arith)
+  looked_goes (suc fuel) left todo longer i p d k e l g n h =
+      let f : left ≡ fuel = omega arith in
+      ap (λ z. found_within is next z (drop (i + 1) longer)) f
+      ∙ ap (λ z. found_within is next fuel (drop (i + 1) z)) h
+      ∙ ap (λ z. found_within is next fuel z) (drop-append-le (i + 1) todo (next p) (omega arith))
+      ∙ ap (λ c. if c then true else found_within is next fuel (drop (i + 1) todo ++ next p)) (sym n)
+      ∙ ap (λ z. found_within is next (suc fuel) z) (sym (rest_is todo i p d l g))
 
-pub looked_there : (fuel : ℕ) (nodes : List Node) (todo : List Summand) (i : ℕ) (p d : Summand) → 0 < fuel → i < length todo → p ≡ get_or todo i d →
-    is_sum (read nodes [] (slice_get nodes p.term.0)) ≡ true → true ≡ has_sum fuel nodes (drop i todo)
-unfolding has_sum
-looked_there zero nodes todo i p d k l g n = absurd (omega arith)
-looked_there (suc fuel) nodes todo i p d k l g n =
-    ap (λ c. if c then true else has_sum fuel nodes (drop (i + 1) todo ++ below p (slice_get nodes p.term.0))) (sym n)
-    ∙ ap (λ z. has_sum (suc fuel) nodes z) (sym (rest_is todo i p d l g))
+  pub looked_there : (fuel : ℕ) (todo : List Summand) (i : ℕ) (p d : Summand) → 0 < fuel → i < length todo → p ≡ get_or todo i d → is p ≡ true →
+      true ≡ found_within is next fuel (drop i todo)
+  unfolding found_within
+  looked_there zero todo i p d k l g n = absurd (omega arith)
+  looked_there (suc fuel) todo i p d k l g n =
+      ap (λ c. if c then true else found_within is next fuel (drop (i + 1) todo ++ next p)) (sym n)
+      ∙ ap (λ z. found_within is next (suc fuel) z) (sym (rest_is todo i p d l g))
 
-pub looked_done : (fuel : ℕ) (nodes : List Node) (todo : List Summand) (i : ℕ) → length todo ≤ i → false ≡ has_sum fuel nodes (drop i todo)
-unfolding has_sum
-looked_done zero nodes todo i l = refl
-looked_done (suc fuel) nodes todo i l = ap (λ z. has_sum (suc fuel) nodes z) (sym (drop_all i todo l))
+  pub looked_done : (fuel : ℕ) (todo : List Summand) (i : ℕ) → length todo ≤ i → false ≡ found_within is next fuel (drop i todo)
+  unfolding found_within
+  looked_done zero todo i l = refl
+  looked_done (suc fuel) todo i l = ap (λ z. found_within is next (suc fuel) z) (sym (drop_all i todo l))
 
-pub looked_spent : (fuel : ℕ) (nodes : List Node) (ps : List Summand) → fuel ≡ 0 → false ≡ has_sum fuel nodes ps
-unfolding has_sum
-looked_spent zero nodes ps e = refl
-looked_spent (suc fuel) nodes ps e = absurd (omega arith)
+  pub looked_spent : (fuel : ℕ) (ps : List Summand) → fuel ≡ 0 → false ≡ found_within is next fuel ps
+  unfolding found_within
+  looked_spent zero ps e = refl
+  looked_spent (suc fuel) ps e = absurd (omega arith)
 
 -- a step was made, and goes on
 pub goes : {A B : Type 0} (m : Make A) (f : A → Make B) (nodes new : List Node) (a : A) → new ≡ (m nodes).nodes → a ≡ (m nodes).value →
@@ -96,7 +97,7 @@ module _ (kinds : List RuleKind) where
   within_zero w zero left facts s old new r d e g = record { nodes = e; value = ap (found left) g }
   within_zero w (suc depth) left facts s old new r d e g = absurd (omega arith)
 
-  pub within_whole : (w depth left : ℕ) (facts : List Fact) (s g : Sum) (old new : List Node) (r : Id) → 0 < depth → g ≡ gathered_sum old facts s →
+  pub within_whole : (w depth left : ℕ) (facts : List Fact) (s g : Sum) (old new : List Node) (r : Id) → 0 < depth → g ≡ reduced_sum old w facts s →
       None ≡ split_of old left g.parts → new ≡ (vanishes kinds w g old).nodes → r ≡ (vanishes kinds w g old).value →
       IsFound (vanishes_within kinds w depth left facts s) old new r left
   unfolding vanishes_within
@@ -110,7 +111,7 @@ module _ (kinds : List RuleKind) where
       record { nodes = ap (λ (o : Out Found). o.nodes) whole; value = ap (λ (o : Out Found). o.value) whole }
 
   pub within_split : (w depth left l0 l1 l2 : ℕ) (facts yes_facts no_facts : List Fact) (s g : Sum) (t r1 r2 r : Id) (old n1 n2 new : List Node) → 0 < depth →
-      g ≡ gathered_sum old facts s → Some t ≡ split_of old left g.parts → l0 ≡ left - 1 → yes_facts ≡ facts ++ fact t true ∷ [] →
+      g ≡ reduced_sum old w facts s → Some t ≡ split_of old left g.parts → l0 ≡ left - 1 → yes_facts ≡ facts ++ fact t true ∷ [] →
       no_facts ≡ facts ++ fact t false ∷ [] → IsFound (vanishes_within kinds w (depth - 1) l0 yes_facts g) old n1 r1 l1 →
       IsFound (vanishes_within kinds w (depth - 1) l1 no_facts g) n1 n2 r2 l2 → new ≡ (picked kinds t r1 r2 n2).nodes → r ≡ (picked kinds t r1 r2 n2).value →
       IsFound (vanishes_within kinds w depth left facts s) old new r l2
@@ -169,13 +170,13 @@ all_more_done kinds w second ps first old i so_far now l r =
       nodes = ap (λ z. (all_more kinds w second z so_far now).nodes) d ∙ r.nodes;
     }
 
-set_is : {X : Type 0} (xs : List X) (i : ℕ) (y : X) → i < length xs → slice_set xs i y ≡ take i xs ++ y ∷ drop (i + 1) xs
+pub set_is : {X : Type 0} (xs : List X) (i : ℕ) (y : X) → i < length xs → slice_set xs i y ≡ take i xs ++ y ∷ drop (i + 1) xs
 set_is xs i y l =
     sym (take-append-drop (i + 1) (slice_set xs i y)) ∙ ap (λ z. z ++ drop (i + 1) (slice_set xs i y)) (take_more_set xs i y l)
     ∙ ap (λ z. (take i xs ++ y ∷ []) ++ z) (drop-set-lt (i + 1) xs i y (omega arith)) ∙ append_assoc (take i xs) (y ∷ []) (drop (i + 1) xs)
 
 -- the items before a place, and the one there
-taken : {X : Type 0} (xs : List X) (i : ℕ) (x d : X) → i < length xs → x ≡ get_or xs i d → take (i + 1) xs ≡ take i xs ++ x ∷ []
+pub taken : {X : Type 0} (xs : List X) (i : ℕ) (x d : X) → i < length xs → x ≡ get_or xs i d → take (i + 1) xs ≡ take i xs ++ x ∷ []
 taken xs i x d l e = take_more xs i d l ∙ ap (λ z. take i xs ++ z ∷ []) (sym e)
 
 -- what is merged at a place, where the parts before it are other terms of lower places

@@ -161,7 +161,7 @@ module _ (inputs : Inputs) (v : Values) where
     merged_is p [] = like (2 ^ w) (p.times * bits p.term + 0) (p.times * bits p.term + 0) refl
     merged_is p (q ∷ qs) = merged_case p q qs (merged p qs) (q.term.0 == p.term.0) (nat_lt p.term.0 q.term.0) refl (merged_is p qs)
 
-    with_part_is : (p : Summand) (s : Sum) → Like (2 ^ w) (worth (with_part p s)) (p.times * bits p.term + worth s)
+    pub with_part_is : (p : Summand) (s : Sum) → Like (2 ^ w) (worth (with_part p s)) (p.times * bits p.term + worth s)
     with_part_is p s =
         let m = 2 ^ w in
         let y = p.times * bits p.term in
@@ -196,7 +196,7 @@ module _ (inputs : Inputs) (v : Values) where
       small a h = let p = f.words a.0 in subst (λ u. bits a < 2 ^ u) (f.widths a.0 w h) p.fits
 
       -- what an operation is worth
-      bin_bits : (a x y : Id) (op : Op) → slice_get nodes a.0 ≡ Some (Bin op x y) → HasWidth nodes x w → bits a ≡ apply_bits op w (bits x) (bits y)
+      pub bin_bits : (a x y : Id) (op : Op) → slice_get nodes a.0 ≡ Some (Bin op x y) → HasWidth nodes x w → bits a ≡ apply_bits op w (bits x) (bits y)
       bin_bits a x y op e h =
           ap (λ (z : Number). z.bits) (f.values a.0 (Bin op x y) e) ∙ ap (λ u. apply_bits op u (bits x) (bits y)) (f.widths x.0 w h)
 
@@ -242,7 +242,7 @@ module _ (inputs : Inputs) (v : Values) where
           (e ∙ ap (λ c. if c then bits x else bits y) (h false refl) ∙ sym (one_time (bits y)) ∙ sym (nothing_more (1 * bits y)))
       pick_is a x y t None e h = like (2 ^ w) (bits a) (bits a) refl
 
-      reading_is : (facts : List Fact) (a : Id) (n : Option Node) → FactsHold facts → slice_get nodes a.0 ≡ n → HasWidth nodes a w →
+      pub reading_is : (facts : List Fact) (a : Id) (n : Option Node) → FactsHold facts → slice_get nodes a.0 ≡ n → HasWidth nodes a w →
           Like (2 ^ w) (bits a) (reading_worth (read nodes facts n) (bits a))
       reading_is facts a (Some (Const k)) c e h = like (2 ^ w) (bits a) k.bits (ap (λ (z : Number). z.bits) (f.values a.0 (Const k) e))
       reading_is facts a (Some (Bin op x y)) c e h =

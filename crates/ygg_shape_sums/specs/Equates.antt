@@ -1,16 +1,21 @@
 -- What the equality of two words makes in a bank, under a book of these kinds.
 use Rattle.std.specs.Prelude.{ℕ, zero, suc, Bool, true, false, ◌-◌, ◌≡◌, ◌==◌, if◌then◌else◌, Option, Some, None, List, [], ◌∷◌, ◌++◌}
+use Rattle.ygg_value.specs.Words.{word}
 use Rattle.ygg_shape_words.specs.ygg_rules.declared.rule.RuleKind.{RuleKind}
 use Rattle.ygg_shape_words.specs.ygg_bank.Makes.{Make, pure, and_make}
+use Rattle.ygg_shape_words.specs.ygg_bank.Making.{made}
 use Rattle.ygg_shape_words.specs.ygg_bank.Nodes.{width_at, widths_of}
 use Rattle.ygg_shape_words.specs.ygg_bank.declared.node.Id.{Id}
 use Rattle.ygg_shape_words.specs.ygg_bank.declared.node.Node.{Node}
+use Rattle.ygg_shape_words.specs.ygg_bank.declared.node.Node.TheVariants.{Const}
 use Rattle.ygg_shape_words.specs.Picking.{picked}
 use Rattle.ygg_shape_words.specs.Same.{same_words}
 use Rattle.ygg_shape_sums.specs.Parts.{Sum, part}
 use Rattle.ygg_shape_sums.specs.Readings.{fact}
 use Rattle.ygg_shape_sums.specs.Gathers.{gathered_sum, has_sum, split_of}
 use Rattle.ygg_shape_sums.specs.Sides.{vanishes}
+use Rattle.ygg_shape_sums.specs.Cancels.{cancels}
+use Rattle.ygg_shape_sums.specs.Reduces.{reduced_sum, loses_products}
 use Rattle.ygg_shape_sums.specs.declared.equating.TheConstants.{EQUATE_LIMIT}
 use Rattle.ygg_shape_sums.specs.declared.gathering.TheConstants.{READ_LIMIT}
 use Rattle.ygg_shape_sums.specs.declared.reading.Fact.{Fact}
@@ -39,24 +44,31 @@ split_as kinds w next left facts s (Some t) =
 unfoldable pub vanishes_within : List RuleKind → ℕ → ℕ → Step
 vanishes_within kinds w zero left facts s = split_as kinds w (λ left facts s. pure (found left (record { 0 = 0 }))) left facts s None
 vanishes_within kinds w (suc depth) left facts s = λ nodes.
-    let g = gathered_sum nodes facts s in split_as kinds w (vanishes_within kinds w depth) left facts g (split_of nodes left g.parts) nodes
+    let g = reduced_sum nodes w facts s in split_as kinds w (vanishes_within kinds w depth) left facts g (split_of nodes left g.parts) nodes
 
 -- one word less another
 abbrev pub difference : Id → Id → Sum
 difference a b = record { number = 0; parts = part 1 a ∷ part LESS_ONE b ∷ [] }
 
--- whether two words are to be compared as sums
+-- whether two words are to be compared as sums: where there are any, and where products go when they are multiplied out
 abbrev pub are_sums : List Node → Id → Id → Bool
-are_sums nodes a b = if a.0 == b.0 then false else has_sum READ_LIMIT nodes (part 1 a ∷ part LESS_ONE b ∷ [])
+are_sums nodes a b =
+    if a.0 == b.0 then false
+    else if has_sum READ_LIMIT nodes (difference a b).parts then true
+    else loses_products nodes (width_at (widths_of nodes) a) (gathered_sum nodes [] (difference a b))
 
 -- whether the difference of two words is 0
 abbrev pub subtracted : List RuleKind → Id → Id → Make Id
 subtracted kinds a b nodes =
     and_make (vanishes_within kinds (width_at (widths_of nodes) a) EQUATE_LIMIT EQUATE_LIMIT [] (difference a b)) (λ r. pure r.term) nodes
 
--- whether two words are equal: whether their difference is 0, where there are sums, and else as `same` says
+-- whether two words are equal, where nothing more is known of them: whether their difference is 0, where there are sums, and else as `same` says
+abbrev pub compared_words : List RuleKind → Id → Id → Make Id
+compared_words kinds a b nodes = if are_sums nodes a b then subtracted kinds a b nodes else same_words kinds a b nodes
+
+-- whether two words are equal: 1, where products are multiplied out and nothing is left of one word less the other, and else as they compare
 abbrev pub equated_words : List RuleKind → Id → Id → Make Id
-equated_words kinds a b nodes = if are_sums nodes a b then subtracted kinds a b nodes else same_words kinds a b nodes
+equated_words kinds a b nodes = if cancels nodes a b then made kinds (Const (word 1 1)) nodes else compared_words kinds a b nodes
 
 -- the step answers this, and leaves so many splits
 pub record IsFound (step : Make Found) (old new : List Node) (term : Id) (left : ℕ) : Type 0 where

@@ -51,12 +51,23 @@ abbrev pub below : Summand → Option Node → List Summand
 below p (Some (Pick t x y)) = if p.times == 0 then [] else part p.times x ∷ part p.times y ∷ []
 below p n = []
 
+-- whether a part is found, among these or what is below them; as many are looked at as the number says
+unfoldable pub found_within : (Summand → Bool) → (Summand → List Summand) → ℕ → List Summand → Bool
+found_within is next zero ps = false
+found_within is next (suc fuel) [] = false
+found_within is next (suc fuel) (p ∷ ps) = if is p then true else found_within is next fuel (ps ++ next p)
+
+-- whether a part is a sum or a difference
+abbrev pub is_sum_at : List Node → Summand → Bool
+is_sum_at nodes p = is_sum (read nodes [] (slice_get nodes p.term.0))
+
+-- the words of a part that is a pick and there at all
+abbrev pub below_at : List Node → Summand → List Summand
+below_at nodes p = below p (slice_get nodes p.term.0)
+
 -- whether a sum or a difference is among the parts or below picks; as many are looked at as the first number says
-unfoldable pub has_sum : ℕ → List Node → List Summand → Bool
-has_sum zero nodes ps = false
-has_sum (suc fuel) nodes [] = false
-has_sum (suc fuel) nodes (p ∷ ps) =
-    if is_sum (read nodes [] (slice_get nodes p.term.0)) then true else has_sum fuel nodes (ps ++ below p (slice_get nodes p.term.0))
+abbrev pub has_sum : ℕ → List Node → List Summand → Bool
+has_sum fuel nodes = found_within (is_sum_at nodes) (below_at nodes) fuel
 
 -- the test of a pick
 abbrev pub test_in : Option Node → Option Id

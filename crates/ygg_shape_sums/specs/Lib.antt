@@ -18,4 +18,8 @@ pub mod Parts
 pub mod Readings
 pub mod Gathers
 pub mod Sides
+pub mod Products
+pub mod Multiplies
+pub mod Cancels
+pub mod Reduces
 pub mod Equates

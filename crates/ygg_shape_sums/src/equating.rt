@@ -1,21 +1,24 @@
 //! The equality of two words that may be sums.
 
-ghost use Rattle.std.specs.Prelude.{◌≡◌, ◌++◌, ◌∷◌, [], IfOk, OnOk};
+ghost use Rattle.std.specs.Prelude.{◌≡◌, [], IfOk, OnOk};
 ghost use Rattle.ygg_shape_words.specs.ygg_rules.Views.{IsWidth};
 ghost use Rattle.ygg_shape_words.specs.ygg_bank.Inputs.{KeepsInputs};
 ghost use Rattle.ygg_shape_words.specs.ygg_bank.Nodes.{Extends, HasWidth, IsBank};
 ghost use Rattle.ygg_shape_words.specs.ygg_bank.Values.{KeepsValues};
 ghost use Rattle.ygg_shape_words.specs.Forms.{WordsAlike};
 ghost use Rattle.ygg_shape_words.specs.Same.{IsSame};
-ghost use Rattle.ygg_shape_sums.specs.Equates.{IsFound, are_sums, difference, equated_words, subtracted, vanishes_within};
+ghost use Rattle.ygg_shape_sums.specs.Equates.{IsFound, are_sums, compared_words, difference, equated_words, subtracted, vanishes_within};
 ghost use Rattle.ygg_shape_sums.specs.Parts.{PartsFit, Sum};
-ghost use Rattle.ygg_shape_sums.specs.Readings.{FactsFit, fact};
+ghost use Rattle.ygg_shape_sums.specs.Readings.{FactsFit};
 
-use crate::gathering::{gather, has_sum, split_of};
-use crate::parts::{Summand, Total, copied};
-use crate::reading::{Fact, LESS_ONE};
+use crate::cancelling::cancels;
+use crate::gathering::{has_sum, split_of};
+use crate::parts::{Summand, Total};
+use crate::reading::{Fact, LESS_ONE, with};
+use crate::reducing::{loses_products, reduce};
 use crate::siding::vanishes;
-use ygg_shape_words::{Bank, Book, Id, NoMemory, pick, same};
+use ygg_shape_words::{Bank, Book, Id, NoMemory, Node, pick, same};
+use ygg_value::Word;
 
 /// How often a comparison of sums may be split.
 pub const EQUATE_LIMIT: u32 = 40;
@@ -43,7 +46,7 @@ fn vanishes_within<B: Book>(
         let answer = vanishes(bank, book, width, total)?;
         return Ok(answer);
     }
-    let sum = gather(bank, facts, total)?;
+    let sum = reduce(bank, width, facts, total)?;
     match split_of(bank, *left, sum.parts())? {
         None => {
             let answer = vanishes(bank, book, width, &sum)?;
@@ -77,17 +80,6 @@ fn vanishes_within<B: Book>(
     }
 }
 
-/// One fact more.
-fn with(bank: &Bank, facts: &[Fact], test: Id, yes: bool) -> Result<Vec<Fact>, NoMemory>
-    ensures { IfOk result (λ more. more.items ≡ facts.now ++ fact test yes ∷ []) }
-{
-    let mut more = copied(bank.allocator(), facts)?;
-    if more.push(Fact { test, yes }).is_err() {
-        return Err(NoMemory);
-    }
-    Ok(more)
-}
-
 /// One word less another. Its only error is out of memory.
 fn difference(bank: &Bank, one: Id, two: Id) -> Result<Total, NoMemory>
     ensures { IfOk result (λ (sum : Sum). sum ≡ difference one two) }
@@ -105,7 +97,8 @@ fn difference(bank: &Bank, one: Id, two: Id) -> Result<Total, NoMemory>
 
 /// The term that is 1 where two words of one width are equal, and 0 where they aren't, in every environment. Where there are sums or
 /// differences, also below picks, one word is subtracted from the other: what stands on both sides goes, and picks are moved out, up to
-/// `EQUATE_LIMIT`. All else is as `same` has it. Its only error is out of memory, after which the bank may have more nodes.
+/// `EQUATE_LIMIT`. All else is as `same` has it. Where there are products of two terms, and all goes when they are multiplied out, on both
+/// sides of each test among their factors, the answer is the constant 1. Its only error is out of memory, after which the bank may have more nodes.
 pub fn equate<B: Book>(bank: &mut Bank, book: &B, one: Id, two: Id) -> Result<Id, NoMemory>
     requires words { WordsAlike bank.old one two }
     ensures nodes { OnOk result (bank.new ≡ (equated_words (B.kinds book.now) one two bank.old).nodes) }
@@ -132,6 +125,25 @@ fn equate_by<B: Book>(bank: &mut Bank, book: &B, one: Id, two: Id) -> Result<Id,
     ensures grows { Extends bank.old bank.new }
     ensures bank { IsBank bank.new }
 {
+    if cancels(bank, one, two)? {
+        let answer = bank.make(Node::Const(Word { width: 1, bits: 1 }), book)?;
+        Ok(answer)
+    } else {
+        let answer = compared(bank, book, one, two)?;
+        Ok(answer)
+    }
+}
+
+/// Whether two words are equal, where nothing more is known of them.
+fn compared<B: Book>(bank: &mut Bank, book: &B, one: Id, two: Id) -> Result<Id, NoMemory>
+    requires bank { IsBank bank.old }
+    requires words { WordsAlike bank.old one two }
+    ensures nodes { OnOk result (bank.new ≡ (compared_words (B.kinds book.now) one two bank.old).nodes) }
+    ensures form { IfOk result (λ id. id ≡ (compared_words (B.kinds book.now) one two bank.old).value) }
+    ensures width { IfOk result (λ id. HasWidth bank.new id 1) }
+    ensures grows { Extends bank.old bank.new }
+    ensures bank { IsBank bank.new }
+{
     if are_sums(bank, one, two)? {
         let answer = sums(bank, book, one, two)?;
         Ok(answer)
@@ -151,7 +163,11 @@ fn are_sums(bank: &Bank, one: Id, two: Id) -> Result<bool, NoMemory>
         return Ok(false);
     }
     let total = difference(bank, one, two)?;
-    let found = has_sum(bank, total.parts())?;
+    if has_sum(bank, total.parts())? {
+        return Ok(true);
+    }
+    let width = bank.width(one);
+    let found = loses_products(bank, width, &total)?;
     Ok(found)
 }
 

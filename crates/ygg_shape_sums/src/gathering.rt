@@ -60,7 +60,7 @@ fn count(sum: &mut Total, part: Summand, reading: Decomposition) -> Result<(), N
 }
 
 /// The terms that a part is made of, put after those that are still to be read.
-fn list(todo: &mut Vec<Summand>, part: Summand, reading: Decomposition) -> Result<(), NoMemory>
+pub fn list(todo: &mut Vec<Summand>, part: Summand, reading: Decomposition) -> Result<(), NoMemory>
     ensures { OnOk result (todo.new.items ≡ todo.old.items ++ parts_of part reading) }
 {
     match reading {
@@ -116,7 +116,7 @@ fn is_sum(reading: Decomposition) -> bool
 }
 
 /// The words of a pick, put after the terms that are still to be looked at.
-fn look(todo: &mut Vec<Summand>, part: Summand, node: Node) -> Result<(), NoMemory>
+pub fn look(todo: &mut Vec<Summand>, part: Summand, node: Node) -> Result<(), NoMemory>
     ensures { OnOk result (todo.new.items ≡ todo.old.items ++ below part (Some node)) }
 {
     if part.times == 0 {

@@ -1,10 +1,15 @@
-//! Equalities of words that are sums: what stands on both sides goes, and picks under sums are moved out.
+//! Equalities of words that are sums, and of products that are multiplied out: what stands on both sides goes, and picks under sums are
+//! moved out.
 #![tactic(auto)]
 
+pub mod cancelling;
 pub mod equating;
 pub mod gathering;
+pub mod multiplying;
 pub mod parts;
+pub mod products;
 pub mod reading;
+pub mod reducing;
 pub mod siding;
 
 pub use equating::{EQUATE_LIMIT, equate};

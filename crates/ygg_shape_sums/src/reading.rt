@@ -1,10 +1,11 @@
 //! What a term is, as a sum of terms.
 
-ghost use Rattle.std.specs.Prelude.{◌≡◌, slice_get};
+ghost use Rattle.std.specs.Prelude.{◌≡◌, ◌++◌, ◌∷◌, [], IfOk, slice_get};
 ghost use Rattle.ygg_shape_words.specs.ygg_bank.Nodes.{IsBank, Stands};
-ghost use Rattle.ygg_shape_sums.specs.Readings.{FactsFit, decided, differ, excluded, read, read_bin, said};
+ghost use Rattle.ygg_shape_sums.specs.Readings.{FactsFit, decided, differ, excluded, fact, read, read_bin, said};
 
-use ygg_shape_words::{Bank, Id, Node, known};
+use crate::parts::copied;
+use ygg_shape_words::{Bank, Id, NoMemory, Node, known};
 use ygg_value::{Op, Word};
 
 /// What added to 1 gives 0.
@@ -30,6 +31,17 @@ pub enum Decomposition {
     Times { times: u64, term: Id, number: u64 },
     /// A term, and another so many times.
     Both { one: Id, times: u64, two: Id },
+}
+
+/// One fact more. Its only error is out of memory.
+pub fn with(bank: &Bank, facts: &[Fact], test: Id, yes: bool) -> Result<Vec<Fact>, NoMemory>
+    ensures { IfOk result (λ more. more.items ≡ facts.now ++ fact test yes ∷ []) }
+{
+    let mut more = copied(bank.allocator(), facts)?;
+    if more.push(Fact { test, yes }).is_err() {
+        return Err(NoMemory);
+    }
+    Ok(more)
 }
 
 /// What a term is, as a sum of terms, where the facts hold.

@@ -1,7 +1,7 @@
 use Rattle.std.proofs.Common.{rules, ◌<◌, Some, List, true, false, sym, ap, ◌∙◌, subst, arith}
 use Rattle.ygg_shape_words.specs.ygg_bank_proofs_Widths.{wider, width_is, extends_both}
 use Rattle.ygg_shape_words.proofs.Fit.{can_pick}
-use Rattle.ygg_shape_sums.proofs.Equates.{sum_fits}
+use Rattle.ygg_shape_sums.proofs.Reduces.{sum_fits}
 use Rattle.ygg_shape_sums.proofs.Fit.{parts_wider, facts_wider, facts_more, split_digit}
 use Rattle.ygg_shape_sums.proofs.Steps.{within_zero, within_whole, within_split}
 use Rattle.ygg_shape_sums.specs.Gathers.{split_of}
