@@ -1,3 +1,2 @@
-pub use Rattle.ygg_oblige_parts.specs.ygg_sym
 pub use Rattle.ygg_oblige_parts.specs.ygg_sym_spec
 pub mod Listing

@@ -5,7 +5,6 @@ pub use Rattle.ygg_oblige_pieces.specs.ygg_oblige_terms
 pub use Rattle.ygg_sym.specs.ygg_rules
 pub use Rattle.ygg_sym.specs.ygg_shape
 pub use Rattle.ygg_sym.specs.ygg_shape_cells
-pub use Rattle.ygg_sym.specs as ygg_sym
 pub use Rattle.ygg_sym.specs.ygg_sym_below_proofs_Lows
 pub use Rattle.ygg_sym.specs.ygg_sym_below
 pub use Rattle.ygg_sym.specs.ygg_sym_expr_proofs_Shaped

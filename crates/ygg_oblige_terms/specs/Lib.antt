@@ -17,7 +17,6 @@ pub use Rattle.ygg_sym_laws.specs.ygg_type_sound_proofs_Rules
 pub use Rattle.ygg_sym_laws.specs.ygg_type_sound_proofs_Sounds
 pub use Rattle.ygg_sym_laws.specs.ygg_type_sound_proofs_Tests
 pub use Rattle.ygg_sym_laws.specs.ygg_type_sound
-pub use Rattle.ygg_sym_laws.specs.Means
 pub use Rattle.ygg_sym_laws.specs.Typed
 pub use Rattle.ygg_sym_laws.specs.Below
 pub use Rattle.ygg_sym_laws.specs.Specs

@@ -8,7 +8,7 @@ ghost use Rattle.ygg_shape_rows.specs.Pairs.{PairsFit, differing, has_test, is_p
 use ygg_shape_sums::{Bank, Id, NoMemory, Node};
 
 /// Two words, one of each of two rows.
-#[derive(Clone, Copy, PartialEq, Eq, Drop)]
+#[derive(Clone, Copy, Drop)]
 pub struct Pair {
     /// The word of the one row.
     pub one: Id,

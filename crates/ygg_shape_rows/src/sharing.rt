@@ -10,7 +10,7 @@ use crate::pairs::{Pair, has_test};
 use ygg_shape_sums::{Bank, Id, Node};
 
 /// A test that pairs may be split on.
-#[derive(Clone, Copy, PartialEq, Eq, Drop)]
+#[derive(Clone, Copy, Drop)]
 pub struct Candidate {
     /// The test.
     pub test: Id,

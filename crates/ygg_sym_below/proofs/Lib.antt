@@ -7,7 +7,6 @@ pub use Rattle.ygg_sym_runs.proofs as of_ygg_sym_runs
 pub use Rattle.ygg_sym_runs.proofs.of_ygg_type_progress
 pub use Rattle.ygg_sym_runs.proofs.Parts
 pub use Rattle.ygg_sym_runs.proofs.Worths
-pub use Rattle.ygg_sym_runs.specs.ygg_sym_expr_proofs_Keeps
 pub mod Lows
 pub mod DiskKeeps
 pub mod Disks

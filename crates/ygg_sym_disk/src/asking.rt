@@ -1,7 +1,7 @@
 //! Which call is asked of a disk.
 
 ghost use Rattle.std.specs.Prelude.{◌≡◌, ◌<◌, length};
-ghost use Rattle.ygg_sym_below.specs.ygg_sym_runs.Exprs.{id_in};
+ghost use Rattle.ygg_sym_below.specs.Exprs.{id_in};
 ghost use Rattle.ygg_sym_below.specs.ygg_sym_runs.Putting.{row_in};
 ghost use Rattle.ygg_sym_below.specs.Disks.{sym_call};
 ghost use Rattle.ygg_sym_disk.specs.Asking.{HasRow, asked_call};

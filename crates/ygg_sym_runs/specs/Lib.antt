@@ -56,7 +56,6 @@ pub use Rattle.ygg_direct.specs.ygg_type_sound_proofs_Rules
 pub use Rattle.ygg_direct.specs.ygg_type_sound_proofs_Sounds
 pub use Rattle.ygg_direct.specs.ygg_type_sound_proofs_Tests
 pub use Rattle.ygg_direct.specs.ygg_type_sound
-pub use Rattle.ygg_sym_expr.specs.Exprs
 pub mod Putting
 pub mod Runs
 pub mod Meaning

@@ -1,4 +1,3 @@
-pub use Rattle.ygg_sym_laws.specs as ygg_sym_laws
 pub use Rattle.ygg_sym_laws.specs.Typed
 pub use Rattle.ygg_sym_laws.specs.Below
 pub mod Bare

@@ -1,25 +1,3 @@
-pub use Rattle.ygg_sym_stops.specs.ygg_bank_proofs_Made
-pub use Rattle.ygg_sym_stops.specs.ygg_bank_proofs_Meaning
-pub use Rattle.ygg_sym_stops.specs.ygg_bank_proofs_Widths
-pub use Rattle.ygg_sym_stops.specs.ygg_bank
-pub use Rattle.ygg_sym_stops.specs.ygg_direct_proofs_Placing
-pub use Rattle.ygg_sym_stops.specs.ygg_direct_proofs_SpecServes
-pub use Rattle.ygg_sym_stops.specs.ygg_direct
-pub use Rattle.ygg_sym_stops.specs.ygg_rules
-pub use Rattle.ygg_sym_stops.specs.ygg_shape_cells
-pub use Rattle.ygg_sym_stops.specs.ygg_shape_words_proofs_Keeps
-pub use Rattle.ygg_sym_stops.specs.ygg_sym_below_proofs_Chosen
-pub use Rattle.ygg_sym_stops.specs.ygg_sym_below_proofs_Lows
-pub use Rattle.ygg_sym_stops.specs.ygg_sym_below_proofs_MadeInputs
-pub use Rattle.ygg_sym_stops.specs.ygg_sym_below_proofs_SpecKeeps
-pub use Rattle.ygg_sym_stops.specs.ygg_sym_below_proofs_Specs
-pub use Rattle.ygg_sym_stops.specs.ygg_sym_below
-pub use Rattle.ygg_sym_stops.specs.ygg_sym_expr_proofs_Definitions
-pub use Rattle.ygg_sym_stops.specs.ygg_sym_expr_proofs_Grows
-pub use Rattle.ygg_sym_stops.specs.ygg_sym_expr_proofs_Values
-pub use Rattle.ygg_sym_stops.specs.ygg_sym_expr
-pub use Rattle.ygg_sym_spec.specs.ygg_sym_laws
-pub use Rattle.ygg_sym_stops.specs.ygg_sym_runs
 pub use Rattle.ygg_sym_spec.specs as ygg_sym_spec
 pub use Rattle.ygg_sym_spec.specs.Machine
 pub use Rattle.ygg_sym_spec.specs.declared.picks.SymPicks

@@ -1,5 +1,3 @@
-pub use Rattle.ygg_sym_below.proofs.of_ygg_direct
-pub use Rattle.ygg_sym_below.proofs as of_ygg_sym_below
 pub use Rattle.ygg_sym_below.proofs.of_ygg_sym_runs
 pub mod Chains
 pub mod Standing

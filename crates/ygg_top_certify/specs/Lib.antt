@@ -1,7 +1,6 @@
 pub use Rattle.ygg_top_verify.specs.ygg_histories
 pub use Rattle.ygg_top_verify.specs.ygg_meaning
 pub use Rattle.ygg_top_verify.specs.ygg_rules
-pub use Rattle.ygg_top_verify.specs.ygg_top_replay
 pub use Rattle.ygg_top_verify.specs.Verifying
 pub mod Checking
 pub mod Again

@@ -2,7 +2,6 @@ pub use Rattle.ygg_yard_made.specs.ygg_histories
 pub use Rattle.ygg_yard_made.specs.ygg_meaning
 pub use Rattle.ygg_oblige_reading.specs.ygg_rules
 pub use Rattle.ygg_top_replay.specs.ygg_top_command
-pub use Rattle.ygg_top_replay.specs as ygg_top_replay
 pub mod Showing
 pub mod Verdict
 pub mod Verifying
