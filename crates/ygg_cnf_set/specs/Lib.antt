@@ -1,1 +1,2 @@
 pub mod LiteralSet
+pub mod Codes

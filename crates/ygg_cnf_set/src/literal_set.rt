@@ -1,5 +1,5 @@
 ghost use Rattle.std.specs.Prelude.{◌≡◌, ◌≢◌, ◌<◌, ◌≤◌, ◌^◌, length, All, Any, IsTrue, ◌↔◌, OnOk, MatchOption, Contains, ◌⊎◌};
-ghost use Rattle.ygg_cnf.specs.Derivations.{IsPivot, Resolvent};
+ghost use Rattle.ygg_cnf.specs.Derivations.{IsPivot};
 ghost use Rattle.ygg_cnf_set.specs.LiteralSet.{code_of, Fits, InSet, IsSetOf};
 
 use ygg_cnf::Lit;
@@ -49,16 +49,6 @@ pub fn remove(seen: &mut [bool], lit: Lit)
     seen[code(lit)] = false;
 }
 
-/// Puts each literal of the clause in.
-pub fn insert_all(seen: &mut [bool], clause: &[Lit])
-    requires { All (Fits (length seen.old)) clause.now }
-    ensures { IsSetOf seen.new (λ y. InSet seen.old y ⊎ Contains clause.now y) }
-{
-    for lit in clause {
-        insert(seen, *lit);
-    }
-}
-
 /// Takes the clause's literals out.
 pub fn remove_all(seen: &mut [bool], clause: &[Lit])
     requires { All (Fits (length seen.old)) clause.now }
@@ -99,19 +89,4 @@ pub fn pivot(seen: &[bool], clause: &[Lit]) -> Option<Lit>
         }
     }
     found
-}
-
-/// Resolves the set with the clause on the pivot.
-pub fn resolve(seen: &mut [bool], clause: &[Lit], pivot: Lit)
-    requires fits { All (Fits (length seen.old)) clause.now }
-    requires pivot { Fits (length seen.old) pivot }
-    ensures { IsSetOf seen.new (Resolvent (InSet seen.old) clause.now pivot) }
-{
-    remove(seen, pivot);
-    let left_out = pivot.complement();
-    for lit in clause {
-        if *lit != left_out {
-            insert(seen, *lit);
-        }
-    }
 }

@@ -1,5 +1,5 @@
 ghost use Rattle.std.specs.Prelude.{◌≡◌, ◌<◌, ◌↔◌, [], All, Contains, IfOk, IsTrue};
-ghost use Rattle.ygg_chain.specs.Places.{IsDistinct, IsPlaced, clauses_at};
+ghost use Rattle.ygg_chain.specs.Places.{IsPlaced, clauses_at};
 ghost use Rattle.ygg_solver.specs.Answers.{IsNumbered, IsAnswer};
 
 use crate::answer::Answer;

@@ -10,9 +10,8 @@ use crate::removal::{Removal, find};
 use crate::seen_places::{entry_at, has_seen, is_seen_at, seen_below, seen_from};
 use std::alloc::Global;
 use ygg_cnf::Clause;
-use ygg_cnf_set::remove_all;
+use ygg_cnf_set::{PackedClause, insert_all, remove_all, resolve};
 use ygg_list::NoMemory;
-use ygg_watch_packed::{PackedClause, insert_all, resolve};
 use ygg_watch_trail::PackedEntry;
 
 /// The clause of a number, where clauses are numbered from 1.

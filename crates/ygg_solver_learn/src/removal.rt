@@ -3,8 +3,8 @@
 use crate::seen_places::has_seen;
 use std::alloc::Global;
 use ygg_cnf::Lit;
+use ygg_cnf_set::PackedClause;
 use ygg_list::NoMemory;
-use ygg_watch_packed::PackedClause;
 use ygg_watch_trail::PackedEntry;
 
 /// What is known of a place: nothing, that seen literals imply its literal, or that it was not found so.

@@ -7,10 +7,10 @@ ghost use Rattle.ygg_solver_search.specs.Ends.{IsEnd};
 use crate::run::to_conflict;
 use std::alloc::Global;
 use ygg_cnf::{Clause, Lit, Log, Step};
+use ygg_cnf_set::PackedClause;
 use ygg_list::{NoMemory, Sequence};
 use ygg_solver_learn::{Learned, Removal, analyze, last_decision, refute};
 use ygg_watch_order::{Order, Restarts};
-use ygg_watch_packed::PackedClause;
 use ygg_watch_plain::Trail;
 use ygg_watch_trail::PackedEntry;
 

@@ -6,7 +6,7 @@ ghost use Rattle.ygg_watch_visit.specs.State.{IsLive};
 ghost use Rattle.ygg_watch_visit.specs.Watching.{IsStanding, IsWatchedAt};
 
 use ygg_cnf::Lit;
-use ygg_watch_packed::{PackedClause, PackedLit};
+use ygg_cnf_set::{PackedClause, PackedLit};
 use ygg_watch_plain::{ClauseStatus, status_of};
 use ygg_watch_trail::Assignments;
 use ygg_watch_visit::{Checkpoint, Links, lits_of};

@@ -4,8 +4,8 @@ ghost use Rattle.ygg_watch_plain.specs.Propagation.{IsFresh};
 use crate::watching::Watch;
 use std::alloc::Global;
 use ygg_cnf::Clauses;
+use ygg_cnf_set::pack_all;
 use ygg_list::NoMemory;
-use ygg_watch_packed::pack_all;
 use ygg_watch_plain::variable_count_for;
 
 /// Watched propagation that holds the clauses. Its only error is out of memory; tables are as long as the greatest variable.

@@ -6,8 +6,8 @@ use crate::examine::{Examined, examine_all};
 use std::alloc::Global;
 use std::marker::Model;
 use ygg_cnf::{Clause, Lit};
+use ygg_cnf_set::PackedClause;
 use ygg_list::NoMemory;
-use ygg_watch_packed::PackedClause;
 use ygg_watch_plain::{Assigned, Found, Propagate, Trail, spread};
 use ygg_watch_trail::{Assignments, PackedEntry};
 use ygg_watch_visit::{Checkpoint, Links, visit_all};
@@ -54,7 +54,7 @@ fn links_for(
     ensures { IfOk result (λ links. IsLive clauses.now links.watched links.next links.firsts [] [] variable_count [] 0 0) }
 {
     let mut links = Links::new(alloc, 2 * variable_count as usize)?;
-    for at in 0..clauses.len() {
+    for _ in 0..clauses.len() {
         links.add()?;
     }
     Ok(links)

@@ -8,8 +8,8 @@ use crate::propagate::{Propagate, Trail};
 use crate::spreading::spread;
 use std::alloc::Global;
 use ygg_cnf::{Clause, Clauses, Lit};
+use ygg_cnf_set::PackedClause;
 use ygg_list::NoMemory;
-use ygg_watch_packed::PackedClause;
 use ygg_watch_trail::{Assignments, PackedEntry};
 
 /// Propagation that looks at every clause for each literal that it finds.

@@ -4,8 +4,8 @@ ghost use Rattle.ygg_watch_plain.specs.Propagation.{Propagation, IsWithin, with_
 
 use crate::found::{Assigned, Found};
 use ygg_cnf::{Clause, Lit};
+use ygg_cnf_set::PackedClause;
 use ygg_list::NoMemory;
-use ygg_watch_packed::PackedClause;
 use ygg_watch_trail::PackedEntry;
 
 /// Holds clauses and assigned literals, and finds what they imply. Its calls may come in any order that their conditions

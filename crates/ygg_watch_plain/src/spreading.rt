@@ -6,7 +6,7 @@ ghost use Rattle.ygg_watch_plain.specs.Status.{IsScanned, state_of};
 use crate::found::Found;
 use crate::status::{ClauseStatus, status_of};
 use ygg_cnf::Lit;
-use ygg_watch_packed::PackedClause;
+use ygg_cnf_set::PackedClause;
 use ygg_watch_trail::Assignments;
 
 /// The first clause that is false or has a single literal left, with its number.

@@ -18,7 +18,7 @@ pub struct PackedEntry {
 impl Model for PackedEntry {
     ghost use Rattle.ygg_watch_trail.specs.declared.entry.Entry.{Entry};
     ghost use Rattle.ygg_cnf_set.specs.LiteralSet.{code_of};
-    ghost use Rattle.ygg_watch_packed.specs.Codes.{lit_at};
+    ghost use Rattle.ygg_cnf_set.specs.Codes.{lit_at};
     ghost use Rattle.ygg_watch_trail.specs.Reasons.{reason_at, number_of};
 
     ghost Value = { Entry };

@@ -27,7 +27,7 @@ use Rattle.std.proofs.lemmas.List.{set-get_or, map-set, get_or-map}
 use Rattle.ygg_cnf_set.specs.LiteralSet.{code_of}
 use Rattle.ygg_cnf.proofs.Lits.{same_lit}
 use Rattle.ygg_cnf.specs.declared.lit.Lit.{Lit}
-use Rattle.ygg_watch_packed.specs.Codes.{lit_at}
+use Rattle.ygg_cnf_set.specs.Codes.{lit_at}
 use Rattle.ygg_watch_visit.specs.Links.{Linked}
 use Rattle.ygg_watch_visit.specs.declared.links.WatchNode.{WatchNode}
 

@@ -1,7 +1,7 @@
 -- Watches as lists.
 use Rattle.std.specs.Prelude.{ℕ, List, map}
 use Rattle.ygg_cnf.specs.declared.lit.Lit.{Lit}
-use Rattle.ygg_watch_packed.specs.Codes.{lit_at}
+use Rattle.ygg_cnf_set.specs.Codes.{lit_at}
 use Rattle.ygg_watch_visit.specs.declared.links.WatchNode.{WatchNode}
 
 -- the literal of each watch, the next one of each, and the first one by literal

@@ -22,15 +22,14 @@ ghost use Rattle.std.specs.Prelude.{
   OnErr,
 };
 ghost use Rattle.ygg_cnf_set.specs.LiteralSet.{code_of};
+ghost use Rattle.ygg_cnf_set.specs.Codes.{lit_at};
 ghost use Rattle.ygg_watch_visit.specs.Lists.{sibling, lit_of, no_lit};
-ghost use Rattle.ygg_watch_packed.specs.Codes.{lit_at};
 
 use std::alloc::Global;
 use std::marker::Model;
 use ygg_cnf::Lit;
-use ygg_cnf_set::code;
+use ygg_cnf_set::{PackedClause, PackedLit, code};
 use ygg_list::NoMemory;
-use ygg_watch_packed::{PackedClause, PackedLit};
 
 /// The node of the other watch of the same clause.
 pub fn sibling_of(node: usize) -> usize
@@ -41,7 +40,7 @@ pub fn sibling_of(node: usize) -> usize
 }
 
 /// A clause. It is not read.
-pub fn clause_of(clauses: &[PackedClause], at: usize) -> &PackedClause
+pub fn held_clause(clauses: &[PackedClause], at: usize) -> &PackedClause
     requires { at < length clauses.now }
     ensures { slice_get clauses.now at ≡ Some result.now }
 {

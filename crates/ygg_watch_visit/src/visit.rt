@@ -9,9 +9,9 @@ ghost use Rattle.ygg_watch_visit.specs.State.{IsLive};
 ghost use Rattle.ygg_watch_visit.specs.Watching.{IsDone, IsJudged};
 
 use crate::frame::Checkpoint;
-use crate::links::{Links, clause_of, sibling_of};
+use crate::links::{Links, held_clause, sibling_of};
 use ygg_cnf::Lit;
-use ygg_watch_packed::{PackedClause, PackedLit};
+use ygg_cnf_set::{PackedClause, PackedLit};
 use ygg_watch_trail::Assignments;
 
 /// The first literal that is not false, other than the given one. Each one before it is counted.
@@ -160,7 +160,7 @@ fn visit(
         let mut to = code_now;
         let mut place = 0;
         match judge(
-            clause_of(clauses, node / 2),
+            held_clause(clauses, node / 2),
             other,
             trail,
             links,

@@ -6,11 +6,11 @@ use Rattle.ygg_watch_visit.proofs.StepLemmas.{live_added}
 use Rattle.ygg_watch_visit.specs.State.{IsLive}
 use Rattle.ygg_watch.proofs.watching.links_for.Goals as goal
 
-pub loop-at-preserved : goal.loop-at-preserved
-loop-at-preserved c =
+pub loop-preserved : goal.loop-preserved
+loop-preserved c =
     let clauses : List (List Lit) = c.args.clauses.now in
-    let clause : List Lit = get_or clauses c.loop-at.at [] in
-    rw (take_more clauses c.loop-at.at [] c.loop-at-test.true, c.in_ok-add.ensures.watched, c.in_ok-add.ensures.next, c.in_ok-add.ensures.firsts)
-    (live_added (take c.loop-at.at clauses) c.loop-at.links.watched c.loop-at.links.next c.loop-at.links.firsts [] c.args.variable_count [] 0 0 clause
-    c.loop-at.invariant (omega arith)
-    (All-get_or (All (λ (x : Lit). x.var < c.args.variable_count)) clauses c.loop-at.at [] c.loop-at-test.true c.requires.within))
+    let clause : List Lit = get_or clauses c.loop.counter [] in
+    rw (take_more clauses c.loop.counter [] c.loop-test.true, c.in_ok-add.ensures.watched, c.in_ok-add.ensures.next, c.in_ok-add.ensures.firsts)
+    (live_added (take c.loop.counter clauses) c.loop.links.watched c.loop.links.next c.loop.links.firsts [] c.args.variable_count [] 0 0 clause
+    c.loop.invariant (omega arith)
+    (All-get_or (All (λ (x : Lit). x.var < c.args.variable_count)) clauses c.loop.counter [] c.loop-test.true c.requires.within))

@@ -2,5 +2,5 @@ use Rattle.std.proofs.Common.{take, []}
 use Rattle.ygg_watch_visit.specs.State.{IsLive}
 use Rattle.ygg_watch.proofs.watching.links_for.Given as goal
 
-abbrev pub invariant-loop-at : goal.invariant-loop-at
-invariant-loop-at l = IsLive (take l.at l.clauses) l.links.watched l.links.next l.links.firsts [] [] l.variable_count [] 0 0
+abbrev pub invariant-loop : goal.invariant-loop
+invariant-loop l = IsLive (take l.counter l.clauses) l.links.watched l.links.next l.links.firsts [] [] l.variable_count [] 0 0

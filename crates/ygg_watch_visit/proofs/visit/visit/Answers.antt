@@ -89,8 +89,8 @@ watch-other-requires c =
       size,
     )
 
-pub clause_of-requires : goal.clause_of-requires
-clause_of-requires c =
+pub held_clause-requires : goal.held_clause-requires
+held_clause-requires c =
     let n : IsNode c.args.clauses.now c.loop-at.links.watched c.loop-at.links.next c.loop-at.links.firsts c.loop-at.trail.entries.items
     c.loop-at.trail.variable_count
     c.args.frames.now c.args.head c.args.seen c.code-code_now.result c.loop-at.at (length c.loop-at.invariant.pending.0)
@@ -113,7 +113,7 @@ judge-requires-clause-within c =
     c.loop-at.invariant.pending.0 c.loop-at.invariant.pending.1.0 c.loop-at.invariant.pending.1.1.0 c.loop-at.invariant.pending.1.1.1
     c.loop-at-test.true in
     let o = n.own.0 in let size = n.live.watched_size in let next_size = n.live.next_size in
-    clause_within c.args.clauses.now c.loop-at.trail.variable_count _ c.clause_of.result.now n.live.variables c.clause_of.ensures
+    clause_within c.args.clauses.now c.loop-at.trail.variable_count _ c.held_clause.result.now n.live.variables c.held_clause.ensures
 
 pub judge-requires-clause-here : goal.judge-requires-clause-here
 judge-requires-clause-here c =
@@ -128,10 +128,10 @@ judge-requires-clause-here c =
     let o = n.own.0 in let size = n.live.watched_size in let next_size = n.live.next_size in
     let other : c.watch-other.result ≡ lit_of c.loop-at.links.watched (sibling (c.loop-at.at - 1)) = c.watch-other.ensures
     ∙ ap (lit_of c.loop-at.links.watched) c.sibling_of.ensures in
-    let here : Contains c.clause_of.result.now (lit_of c.loop-at.links.watched (sibling (c.loop-at.at - 1)))
-    = other_here c.args.clauses.now c.loop-at.links.watched (c.loop-at.at - 1) c.code-code_now.result c.clause_of.result.now size n.live.member n.own
-    c.clause_of.ensures in
-    subst (λ (z : Lit). Contains c.clause_of.result.now z) (sym other) here
+    let here : Contains c.held_clause.result.now (lit_of c.loop-at.links.watched (sibling (c.loop-at.at - 1)))
+    = other_here c.args.clauses.now c.loop-at.links.watched (c.loop-at.at - 1) c.code-code_now.result c.held_clause.result.now size n.live.member n.own
+    c.held_clause.ensures in
+    subst (λ (z : Lit). Contains c.held_clause.result.now z) (sym other) here
 
 pub set_watch-requires : goal.set_watch-requires
 set_watch-requires c =
@@ -147,7 +147,7 @@ set_watch-requires c =
     record {
       node = o;
       fits = fits_below c.in-Move.lit c.loop-at.trail.variable_count (length c.loop-at.links.firsts)
-          (lit_within c.args.clauses.now c.loop-at.trail.variable_count _ c.clause_of.result.now c.in-Move.lit n.live.variables c.clause_of.ensures
+          (lit_within c.args.clauses.now c.loop-at.trail.variable_count _ c.held_clause.result.now c.in-Move.lit n.live.variables c.held_clause.ensures
           c.in-Move.ensures.0) n.live.firsts_size;
     }
 
@@ -162,7 +162,7 @@ code-to-requires c =
     c.loop-at.invariant.pending.0 c.loop-at.invariant.pending.1.0 c.loop-at.invariant.pending.1.1.0 c.loop-at.invariant.pending.1.1.1
     c.loop-at-test.true in
     let o = n.own.0 in let size = n.live.watched_size in let next_size = n.live.next_size in
-    lit_within c.args.clauses.now c.loop-at.trail.variable_count _ c.clause_of.result.now c.in-Move.lit n.live.variables c.clause_of.ensures
+    lit_within c.args.clauses.now c.loop-at.trail.variable_count _ c.held_clause.result.now c.in-Move.lit n.live.variables c.held_clause.ensures
     c.in-Move.ensures.0
 
 pub push-requires-clause-within : goal.push-requires-clause-within
@@ -178,11 +178,11 @@ push-requires-clause-within c =
     let o = n.own.0 in let size = n.live.watched_size in let next_size = n.live.next_size in
     let other : c.watch-other.result ≡ lit_of c.loop-at.links.watched (sibling (c.loop-at.at - 1)) = c.watch-other.ensures
     ∙ ap (lit_of c.loop-at.links.watched) c.sibling_of.ensures in
-    let here : Contains c.clause_of.result.now (lit_of c.loop-at.links.watched (sibling (c.loop-at.at - 1)))
-    = other_here c.args.clauses.now c.loop-at.links.watched (c.loop-at.at - 1) c.code-code_now.result c.clause_of.result.now size n.live.member n.own
-    c.clause_of.ensures in
+    let here : Contains c.held_clause.result.now (lit_of c.loop-at.links.watched (sibling (c.loop-at.at - 1)))
+    = other_here c.args.clauses.now c.loop-at.links.watched (c.loop-at.at - 1) c.code-code_now.result c.held_clause.result.now size n.live.member n.own
+    c.held_clause.ensures in
     subst (λ (z : Lit). z.var < c.loop-at.trail.variable_count) (sym other)
-    (lit_within c.args.clauses.now c.loop-at.trail.variable_count _ c.clause_of.result.now _ n.live.variables c.clause_of.ensures here)
+    (lit_within c.args.clauses.now c.loop-at.trail.variable_count _ c.held_clause.result.now _ n.live.variables c.held_clause.ensures here)
 
 pub push-requires-clause-reason : goal.push-requires-clause-reason
 push-requires-clause-reason c = let w = c.next-at.ensures.within in (omega (arith, w), omega (arith, w))
@@ -290,7 +290,7 @@ returns-clause-done c =
 
 pub returns-in-False-clause-found : goal.returns-in-False-clause-found
 returns-in-False-clause-found c =
-    (c.clause_of.result.now, (has_clause c.args.clauses.now _ c.clause_of.result.now c.clause_of.ensures, c.in-False.ensures))
+    (c.held_clause.result.now, (has_clause c.args.clauses.now _ c.held_clause.result.now c.held_clause.ensures, c.in-False.ensures))
 
 pub loop-at-preserved : goal.loop-at-preserved
 loop-at-preserved c =
@@ -305,9 +305,9 @@ loop-at-preserved c =
     let o = n.own.0 in let size = n.live.watched_size in let next_size = n.live.next_size in
     let other : c.watch-other.result ≡ lit_of c.loop-at.links.watched (sibling (c.loop-at.at - 1)) = c.watch-other.ensures
     ∙ ap (lit_of c.loop-at.links.watched) c.sibling_of.ensures in
-    let here : Contains c.clause_of.result.now (lit_of c.loop-at.links.watched (sibling (c.loop-at.at - 1)))
-    = other_here c.args.clauses.now c.loop-at.links.watched (c.loop-at.at - 1) c.code-code_now.result c.clause_of.result.now size n.live.member n.own
-    c.clause_of.ensures in
+    let here : Contains c.held_clause.result.now (lit_of c.loop-at.links.watched (sibling (c.loop-at.at - 1)))
+    = other_here c.args.clauses.now c.loop-at.links.watched (c.loop-at.at - 1) c.code-code_now.result c.held_clause.result.now size n.live.member n.own
+    c.held_clause.ensures in
     let after : IsAfter c.args.clauses.now c.link-in-loop-at.new.self.watched c.link-in-loop-at.new.self.next c.link-in-loop-at.new.self.firsts
     c.match-judge.trail.entries.items c.match-judge.trail.variable_count c.args.frames.now c.args.head c.args.seen c.code-code_now.result
     c.next-at.result (length c.loop-at.invariant.pending.0)
@@ -327,7 +327,7 @@ loop-at-preserved c =
           (subst (IsOnTrail c.loop-at.trail.entries.items) other (rw w.in-Keep.is at c.judge.ensures)))
       | in-Move w ↦ (let judged = rw w.in-Move.is at c.judge.ensures in
           let v : w.in-Move.lit.var < c.loop-at.trail.variable_count =
-          lit_within c.args.clauses.now c.loop-at.trail.variable_count _ c.clause_of.result.now w.in-Move.lit n.live.variables c.clause_of.ensures judged.0 in
+          lit_within c.args.clauses.now c.loop-at.trail.variable_count _ c.held_clause.result.now w.in-Move.lit n.live.variables c.held_clause.ensures judged.0 in
           after_same c.args.clauses.now _ c.link-in-loop-at.new.self.watched _ c.link-in-loop-at.new.self.next _ c.link-in-loop-at.new.self.firsts _
           c.match-judge.trail.entries.items _ c.match-judge.trail.variable_count c.args.frames.now c.args.head c.args.seen c.code-code_now.result _
           c.next-at.result (length c.loop-at.invariant.pending.0) (c.link-in-loop-at.ensures.watched ∙ (ap (λ (l : Linked). l.watched) (w.links-is ∙
@@ -342,11 +342,11 @@ loop-at-preserved c =
           (after_move c.args.clauses.now c.loop-at.links.watched c.loop-at.links.next c.loop-at.links.firsts c.loop-at.trail.entries.items
           c.loop-at.trail.variable_count
           c.args.frames.now c.args.head c.args.seen c.code-code_now.result c.loop-at.at
-          (length c.loop-at.invariant.pending.0) w.in-Move.lit c.clause_of.result.now n c.loop-at.trail.trail
+          (length c.loop-at.invariant.pending.0) w.in-Move.lit c.held_clause.result.now n c.loop-at.trail.trail
           (fits_below w.in-Move.lit c.loop-at.trail.variable_count (length c.loop-at.links.firsts) v n.live.firsts_size)
           (false_at c.loop-at.links.watched c.loop-at.trail.entries.items c.code-code_now.result
           (c.loop-at.at - 1) c.args.lit c.args.head c.loop-at.invariant.code n.own c.loop-at.invariant.entry)
-          judged.1.1 (λ e. judged.1.0 (e ∙ sym other)) c.clause_of.ensures judged.0))
+          judged.1.1 (λ e. judged.1.0 (e ∙ sym other)) c.held_clause.ensures judged.0))
       | in-Imply w ↦ after_same c.args.clauses.now _ c.link-in-loop-at.new.self.watched _ c.link-in-loop-at.new.self.next _
           c.link-in-loop-at.new.self.firsts _
           c.match-judge.trail.entries.items _ c.match-judge.trail.variable_count c.args.frames.now c.args.head c.args.seen c.code-code_now.result _
@@ -383,11 +383,11 @@ loop-at-preserved c =
       | in-Move w ↦ subst (λ (t : Assignments). Spreads (state_of c.args.clauses.now c.args.trail.now) (state_of c.args.clauses.now t))
           (sym w.trail-is) c.loop-at.invariant.spreads
       | in-Imply w ↦ (let judged = rw w.in-Imply.is at c.judge.ensures in
-          let have : Contains c.clause_of.result.now c.watch-other.result = subst (λ (z : Lit). Contains c.clause_of.result.now z) (sym other) here in
+          let have : Contains c.held_clause.result.now c.watch-other.result = subst (λ (z : Lit). Contains c.held_clause.result.now z) (sym other) here in
           step_spreads (state_of c.args.clauses.now c.args.trail.now)
-          (state_of c.args.clauses.now c.loop-at.trail) _ c.watch-other.result c.clause_of.result.now c.loop-at.invariant.spreads
-          (has_clause c.args.clauses.now _ c.clause_of.result.now c.clause_of.ensures) (have, (judged.0, judged.1))
-          (lit_within c.args.clauses.now c.loop-at.trail.variable_count _ c.clause_of.result.now _ n.live.variables c.clause_of.ensures have)
+          (state_of c.args.clauses.now c.loop-at.trail) _ c.watch-other.result c.held_clause.result.now c.loop-at.invariant.spreads
+          (has_clause c.args.clauses.now _ c.held_clause.result.now c.held_clause.ensures) (have, (judged.0, judged.1))
+          (lit_within c.args.clauses.now c.loop-at.trail.variable_count _ c.held_clause.result.now _ n.live.variables c.held_clause.ensures have)
           (state_of c.args.clauses.now c.match-judge.trail)
           (ap (λ (t : Assignments). state_of c.args.clauses.now t) w.trail-is
           ∙ state_same c.args.clauses.now _ _ _ _ _ _ _ w.push.ensures.entries w.push.ensures.starts w.push.ensures.variable_count))
@@ -424,9 +424,9 @@ loop-at-smaller c =
     let o = n.own.0 in let size = n.live.watched_size in let next_size = n.live.next_size in
     let other : c.watch-other.result ≡ lit_of c.loop-at.links.watched (sibling (c.loop-at.at - 1)) = c.watch-other.ensures
     ∙ ap (lit_of c.loop-at.links.watched) c.sibling_of.ensures in
-    let here : Contains c.clause_of.result.now (lit_of c.loop-at.links.watched (sibling (c.loop-at.at - 1)))
-    = other_here c.args.clauses.now c.loop-at.links.watched (c.loop-at.at - 1) c.code-code_now.result c.clause_of.result.now size n.live.member n.own
-    c.clause_of.ensures in
+    let here : Contains c.held_clause.result.now (lit_of c.loop-at.links.watched (sibling (c.loop-at.at - 1)))
+    = other_here c.args.clauses.now c.loop-at.links.watched (c.loop-at.at - 1) c.code-code_now.result c.held_clause.result.now size n.live.member n.own
+    c.held_clause.ensures in
     let after : IsAfter c.args.clauses.now c.link-in-loop-at.new.self.watched c.link-in-loop-at.new.self.next c.link-in-loop-at.new.self.firsts
     c.match-judge.trail.entries.items c.match-judge.trail.variable_count c.args.frames.now c.args.head c.args.seen c.code-code_now.result
     c.next-at.result (length c.loop-at.invariant.pending.0)
@@ -446,7 +446,7 @@ loop-at-smaller c =
           (subst (IsOnTrail c.loop-at.trail.entries.items) other (rw w.in-Keep.is at c.judge.ensures)))
       | in-Move w ↦ (let judged = rw w.in-Move.is at c.judge.ensures in
           let v : w.in-Move.lit.var < c.loop-at.trail.variable_count =
-          lit_within c.args.clauses.now c.loop-at.trail.variable_count _ c.clause_of.result.now w.in-Move.lit n.live.variables c.clause_of.ensures judged.0 in
+          lit_within c.args.clauses.now c.loop-at.trail.variable_count _ c.held_clause.result.now w.in-Move.lit n.live.variables c.held_clause.ensures judged.0 in
           after_same c.args.clauses.now _ c.link-in-loop-at.new.self.watched _ c.link-in-loop-at.new.self.next _ c.link-in-loop-at.new.self.firsts _
           c.match-judge.trail.entries.items _ c.match-judge.trail.variable_count c.args.frames.now c.args.head c.args.seen c.code-code_now.result _
           c.next-at.result (length c.loop-at.invariant.pending.0) (c.link-in-loop-at.ensures.watched ∙ (ap (λ (l : Linked). l.watched) (w.links-is ∙
@@ -461,11 +461,11 @@ loop-at-smaller c =
           (after_move c.args.clauses.now c.loop-at.links.watched c.loop-at.links.next c.loop-at.links.firsts c.loop-at.trail.entries.items
           c.loop-at.trail.variable_count
           c.args.frames.now c.args.head c.args.seen c.code-code_now.result c.loop-at.at
-          (length c.loop-at.invariant.pending.0) w.in-Move.lit c.clause_of.result.now n c.loop-at.trail.trail
+          (length c.loop-at.invariant.pending.0) w.in-Move.lit c.held_clause.result.now n c.loop-at.trail.trail
           (fits_below w.in-Move.lit c.loop-at.trail.variable_count (length c.loop-at.links.firsts) v n.live.firsts_size)
           (false_at c.loop-at.links.watched c.loop-at.trail.entries.items c.code-code_now.result
           (c.loop-at.at - 1) c.args.lit c.args.head c.loop-at.invariant.code n.own c.loop-at.invariant.entry)
-          judged.1.1 (λ e. judged.1.0 (e ∙ sym other)) c.clause_of.ensures judged.0))
+          judged.1.1 (λ e. judged.1.0 (e ∙ sym other)) c.held_clause.ensures judged.0))
       | in-Imply w ↦ after_same c.args.clauses.now _ c.link-in-loop-at.new.self.watched _ c.link-in-loop-at.new.self.next _
           c.link-in-loop-at.new.self.firsts _
           c.match-judge.trail.entries.items _ c.match-judge.trail.variable_count c.args.frames.now c.args.head c.args.seen c.code-code_now.result _

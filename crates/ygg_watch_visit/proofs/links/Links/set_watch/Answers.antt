@@ -1,7 +1,7 @@
 use Rattle.std.proofs.Common.{◌<◌, length, map, set, ap, ◌∙◌, refl}
 use Rattle.std.proofs.lemmas.List.{length-map, map-set}
 use Rattle.ygg_watch_visit.proofs.LinkLemmas.{kept_at, literal_back}
-use Rattle.ygg_watch_packed.specs.Codes.{lit_at}
+use Rattle.ygg_cnf_set.specs.Codes.{lit_at}
 use Rattle.ygg_watch_visit.specs.Links.{Linked}
 use Rattle.ygg_watch_visit.specs.declared.links.WatchNode.{WatchNode}
 use Rattle.ygg_watch_visit.proofs.links.Links.set_watch.Goals as goal

@@ -4,9 +4,9 @@ ghost use Rattle.std.specs.Prelude.{◌≡◌, length, All, Contains, ◌⊎◌}
 ghost use Rattle.ygg_cnf.specs.Derivations.{Resolvent};
 ghost use Rattle.ygg_cnf_set.specs.LiteralSet.{Fits, InSet, IsSetOf};
 
+use crate::literal_set::{insert, remove};
 use crate::packed_lit::PackedLit;
 use ygg_cnf::Lit;
-use ygg_cnf_set::{insert, remove};
 
 /// Puts each literal of the clause in.
 pub fn insert_all(seen: &mut [bool], clause: &[PackedLit])

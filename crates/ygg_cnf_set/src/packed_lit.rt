@@ -1,9 +1,9 @@
 ghost use Rattle.std.specs.Prelude.{◌≡◌, ◌<◌, ◌^◌};
 ghost use Rattle.ygg_cnf_set.specs.LiteralSet.{code_of};
 
+use crate::literal_set::code;
 use std::marker::Model;
 use ygg_cnf::Lit;
-use ygg_cnf_set::code;
 
 /// A literal in 4 bytes: twice its variable, and 1 more where it is negated.
 #[derive(Clone, Copy, Default, PartialEq, Eq)]
@@ -14,7 +14,7 @@ pub struct PackedLit {
 impl Model for PackedLit {
     ghost use Rattle.ygg_cnf.specs.declared.lit.Lit.{Lit};
     ghost use Rattle.ygg_cnf_set.specs.LiteralSet.{code_of};
-    ghost use Rattle.ygg_watch_packed.specs.Codes.{lit_at};
+    ghost use Rattle.ygg_cnf_set.specs.Codes.{lit_at};
 
     ghost Value = { Lit };
 

@@ -2,8 +2,8 @@ use Rattle.std.proofs.Common.{⊎_elim, inl, inr, sym, ◌∙◌}
 use Rattle.ygg_cnf.proofs.Lits.{same_from_ne, differ_from_ne}
 use Rattle.ygg_cnf_set.proofs.LiteralSetLemmas.{insert_more_but, keep_more_but}
 use Rattle.ygg_cnf_set.proofs.ListLemmas.{contains_all}
-use Rattle.ygg_watch_packed.proofs.packed_set.resolve.Goals as goal
-use Rattle.ygg_watch_packed.proofs.packed_set.resolve.Goals.{then-ne, else-ne}
+use Rattle.ygg_cnf_set.proofs.packed_set.resolve.Goals as goal
+use Rattle.ygg_cnf_set.proofs.packed_set.resolve.Goals.{then-ne, else-ne}
 
 pub loop-lit-preserved : goal.loop-lit-preserved
 loop-lit-preserved c =
