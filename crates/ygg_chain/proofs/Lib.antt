@@ -1,3 +1,4 @@
 pub mod PlaceLemmas
+pub mod TableLemmas
 pub mod HeldLemmas
 pub mod CountLemmas

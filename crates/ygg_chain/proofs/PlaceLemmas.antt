@@ -1,13 +1,10 @@
 -- Places of variables, and what stands for a literal.
-use Rattle.std.proofs.Common.{◌≡◌, ℕ, ◌<◌, ◌+◌, true, List, [], ◌∷◌, ◌++◌, length, map, get_or, take, ◌↔◌, position, Contains}
-use Rattle.std.proofs.Common.{All, Some, ⊎_elim, refl, sym, ap, subst, ◌∙◌, arith, nat_eq, slice_get, length-append, Result, Ok, Err, OnOk, OnErr}
-use Rattle.std.specs.List.{IsDistinct as IsDistinctBy}
-use Rattle.std.proofs.lemmas.Bool.{eqb-false, eqb-true, cases_lt}
-use Rattle.std.proofs.lemmas.List.Quantifiers.{position-Some}
-use Rattle.std.proofs.lemmas.Map.Keys.{apart_from_distinct}
+use Rattle.std.proofs.Common.{◌≡◌, ℕ, ◌<◌, ◌+◌, List, [], ◌∷◌, ◌++◌, length, map, get_or, take, ◌↔◌, Contains}
+use Rattle.std.proofs.Common.{All, Some, ⊎_elim, refl, sym, ap, subst, ◌∙◌, arith, length-append, Result, Ok, Err, OnOk, OnErr}
+use Rattle.std.proofs.lemmas.Bool.{cases_lt}
 use Rattle.std.proofs.lemmas.List.{get_or-map, take_more, length-map, get_or_append_left, map-append}
 use Rattle.std.proofs.lemmas.List.Elements.{Contains-get_or, All-head, All-tail, All-weaker, All-push}
-use Rattle.std.proofs.lemmas.Option.{slice_get_within, get_or_from_slice_get, same_Some}
+use Rattle.std.proofs.lemmas.Option.{same_Some}
 use Rattle.ygg_cnf.specs.declared.lit.Lit.{Lit}
 use Rattle.ygg_cnf.proofs.Lits.{same_lit}
 use Rattle.ygg_chain.specs.Places.{IsDistinct, IsPlaced, literal_at, StandsFor, clause_at, clauses_at}
@@ -22,10 +19,6 @@ contains_of_map f (x ∷ xs) y (k, within, is) =
     let inside : k < length (x ∷ xs) = omega (arith, within, length-map (x ∷ xs) f) in
     (get_or (x ∷ xs) k x, (Contains-get_or (x ∷ xs) k x inside, sym (get_or-map f (x ∷ xs) k x y inside) ∙ is))
 
-pub distinct_keys : (keys : List ℕ) → IsDistinctBy nat_eq keys → IsDistinct keys
-distinct_keys keys u i j d below within same =
-    eqb-false (get_or keys i d) (get_or keys j d) (apart_from_distinct nat_eq keys i j d u below within) same
-
 -- places of the same variable are the same
 place_of_same : (variables : List ℕ) → IsDistinct variables → (i j : ℕ) → i < length variables → j < length variables
     → get_or variables i 0 ≡ get_or variables j 0 → i ≡ j
@@ -39,22 +32,6 @@ pub stands_once : (variables : List ℕ) → IsDistinct variables → (x z y : L
 stands_once variables distinct x z y (inside, is) (within, other) =
     let same : literal_at variables x ≡ literal_at variables z = is ∙ sym other in
     same_lit x z (place_of_same variables distinct x.var z.var inside within (ap (λ l. l.var) same)) (ap (λ l. l.negated) same)
-
--- the place at which a look-up found the variable
-pub found_place : (variables : List ℕ) (lit : Lit) (place : ℕ) → position (nat_eq lit.var) variables ≡ Some place
-    → StandsFor variables (record { var = place; negated = lit.negated }) lit
-found_place variables lit place found =
-    let at = position-Some (nat_eq lit.var) variables place 0 found in
-    (at.0, same_lit (record { var = get_or variables place 0; negated = lit.negated }) lit (sym (eqb-true lit.var (get_or variables place 0) at.1)) refl)
-
--- the place that an equal key has
-pub stored_place : (variables : List ℕ) (lit : Lit) (place key : ℕ) → slice_get variables place ≡ Some key → nat_eq lit.var key ≡ true
-    → StandsFor variables (record { var = place; negated = lit.negated }) lit
-stored_place variables lit place key at same = (
-  slice_get_within variables place key at,
-  same_lit (record { var = get_or variables place 0; negated = lit.negated }) lit
-      (get_or_from_slice_get variables place key 0 at ∙ sym (eqb-true lit.var key same)) refl,
-)
 
 -- the one place that stands for a literal
 pub exact_place : (variables : List ℕ) → IsDistinct variables → (lit x : Lit) → StandsFor variables x lit

@@ -1,3 +1,4 @@
 pub mod Places
+pub mod PlaceTable
 pub mod Held
 pub mod Counts

@@ -3,6 +3,7 @@
 
 mod checker;
 mod counting;
+mod place_table;
 mod places;
 mod store;
 

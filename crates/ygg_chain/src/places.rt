@@ -1,30 +1,30 @@
-ghost use Rattle.std.specs.Prelude.{◌≡◌, ◌<◌, ◌≤◌, ◌+◌, ◌^◌, [], ◌++◌, length, slice_get, List, ℕ, ◌↔◌, IfOk, OnErr};
+ghost use Rattle.std.specs.Prelude.{◌≡◌, ◌<◌, ◌≤◌, ◌+◌, ◌^◌, [], ◌∷◌, ◌++◌, length, slice_get, List, ℕ, ◌↔◌, Contains, IfOk, OnOk, OnErr};
 ghost use Rattle.ygg_cnf.specs.declared.lit.Lit.{Lit};
 ghost use Rattle.ygg_chain.specs.Places.{IsDistinct, StandsFor};
 
-use indexmap::IndexSet;
+use crate::place_table::PlaceTable;
 use std::alloc::Global;
 use std::marker::Model;
 use ygg_cnf::Lit;
 use ygg_list::NoMemory;
 
 /// Variables in the order in which they came, each once. The place of a variable counts from 0, so tables by place take
-/// memory for the variables that occur and not for the numbers between them.
+/// memory for the variables that occur and not for the numbers between them. There are at most 2,147,483,648.
 #[derive(Drop)]
 pub struct Variables {
-    places: IndexSet<u64>,
+    order: Vec<u64>,
+    places: PlaceTable,
 }
 
 impl Model for Variables {
-    ghost use Rattle.std.specs.Prelude.{List, ℕ};
+    ghost use Rattle.std.specs.Prelude.{List, ℕ, length, ◌≤◌, ◌^◌};
+    ghost use Rattle.ygg_chain.specs.PlaceTable.{IsIndexOf};
 
     ghost Value = { List ℕ };
 
-    ghost use Rattle.ygg_chain.specs.Places.{IsDistinct};
+    ghost view = { λ v. v.order.items };
 
-    ghost view = { λ v. v.places.keys };
-
-    ghost invariant = { λ v. IsDistinct v.places.keys };
+    ghost invariant = { λ v. IsIndexOf v.places v.order.items × (length v.order.items ≤ 2 ^ 31) };
 }
 
 impl Variables {
@@ -33,17 +33,18 @@ impl Variables {
         ensures { result ≡ [] }
     {
         Variables {
-            places: IndexSet::new(alloc),
+            order: Vec::new(alloc),
+            places: PlaceTable::new(alloc),
         }
     }
 
     /// How many variables there are.
     pub fn len(&self) -> usize
         ensures len { result ≡ length self.now }
-        ensures small { result < 2 ^ 63 }
+        ensures small { result ≤ 2 ^ 31 }
         ensures distinct { IsDistinct self.now }
     {
-        self.places.len()
+        self.order.len()
     }
 
     /// The variable that has the place.
@@ -51,25 +52,22 @@ impl Variables {
         requires { place < length self.now }
         ensures { slice_get self.now place ≡ Some result }
     {
-        match self.places.get_index(place) {
-            Some(variable) => *variable,
-            None => unreachable!(),
-        }
+        self.order[place]
     }
 
     /// The literal with its variable's place in place of the variable, where the variable has one.
     pub fn place(&self, lit: Lit) -> Option<Lit>
         ensures { (placed : Lit) → (result ≡ Some placed) ↔ StandsFor self.now placed lit }
     {
-        let place = self.places.get_index_of(&lit.var)?;
+        let place = self.places.get(lit.var)?;
         Some(Lit {
             var: place as u64,
             negated: lit.negated,
         })
     }
 
-    /// The literal with its variable's place, after the variable has been given one where it had none. After running out of memory
-    /// the variables are as before.
+    /// The literal with its variable's place, after the variable has been given one where it had none. After running out of memory,
+    /// which one variable more than 2,147,483,648 comes to, the variables are as before.
     pub fn enter(&mut self, lit: Lit) -> Result<Lit, NoMemory>
         ensures ok { IfOk result (λ placed. StandsFor self.new placed lit) }
         ensures grows { (more : List ℕ) × (self.new ≡ self.old ++ more) }
@@ -77,10 +75,31 @@ impl Variables {
         ensures err { OnErr result (self.new ≡ self.old) }
         ensures distinct { IsDistinct self.new }
     {
-        let (place, _) = self.places.insert_full(lit.var)?;
+        let place = match self.places.get(lit.var) {
+            Some(place) => place,
+            None => self.add(lit.var)?,
+        };
         Ok(Lit {
             var: place as u64,
             negated: lit.negated,
         })
+    }
+
+    /// Gives a variable that has no place the next one. After running out of memory the variables are as before.
+    fn add(&mut self, variable: u64) -> Result<u32, NoMemory>
+        requires { Contains self.old variable → ⊥ }
+        ensures place { IfOk result (λ place. place ≡ length self.old) }
+        ensures ok { OnOk result (self.new ≡ self.old ++ variable ∷ []) }
+        ensures distinct { OnOk result (IsDistinct self.new) }
+        ensures err { OnErr result (self.new ≡ self.old) }
+    {
+        let place = self.order.len();
+        if place >= 1 << 31 {
+            return Err(NoMemory);
+        }
+        self.order.reserve(1)?;
+        self.places.insert(variable, place as u32)?;
+        self.order.push_reserved(variable);
+        Ok(place as u32)
     }
 }

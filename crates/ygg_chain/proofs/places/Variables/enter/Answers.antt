@@ -1,13 +1,23 @@
-use Rattle.ygg_chain.proofs.PlaceLemmas.{distinct_keys, stored_place}
+use Rattle.std.proofs.Common.{sym}
+use Rattle.ygg_chain.proofs.TableLemmas.{distinct_indexed, place_stands, last_stands}
 use Rattle.ygg_chain.proofs.places.Variables.enter.Goals as goal
+use Rattle.ygg_chain.proofs.places.Variables.enter.Goals.{in-Some, in-None+in_ok-place-in-None}
 
-pub invariant_of-self-2 : goal.invariant_of-self-2
-invariant_of-self-2 c = distinct_keys c.insert_full.new.self.keys c.insert_full.ensures.unique
+pub returns-in_err-place-in-None-clause-distinct : goal.returns-in_err-place-in-None-clause-distinct
+returns-in_err-place-in-None-clause-distinct c =
+    rw (c.in_err-place-in-None.ensures.err, sym c.self.view_is)
+    (distinct_indexed c.self.inside.places c.self.inside.order.items c.self.invariant.0)
 
 pub returns-clause-ok : goal.returns-clause-ok
-returns-clause-ok c =
-    let (key, at, same) = c.in_ok-place.ensures.stored in
-    stored_place c.insert_full.new.self.keys c.args.lit c.in_ok-place.place key at same
+returns-clause-ok c = elim c.match-get.branch [
+  | in-Some w ↦ rw (w.self-is, w.place-is, sym c.self.view_is)
+      (place_stands c.self.inside.places c.self.inside.order.items c.self.invariant.0 c.args.lit w.in-Some.place (sym w.in-Some.ensures))
+  | in-None+in_ok-place-in-None w ↦
+      rw (w.self-is, w.place-is, w.in_ok-place-in-None.ensures.place, w.in_ok-place-in-None.ensures.ok) (last_stands c.args.self.now c.args.lit)
+]
 
 pub returns-clause-distinct : goal.returns-clause-distinct
-returns-clause-distinct c = distinct_keys c.insert_full.new.self.keys c.insert_full.ensures.unique
+returns-clause-distinct c = elim c.match-get.branch [
+  | in-Some w ↦ rw (w.self-is, sym c.self.view_is) (distinct_indexed c.self.inside.places c.self.inside.order.items c.self.invariant.0)
+  | in-None+in_ok-place-in-None w ↦ rw w.self-is w.in_ok-place-in-None.ensures.distinct
+]
