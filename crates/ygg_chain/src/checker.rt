@@ -12,11 +12,11 @@ use crate::store::{Store, enter_all};
 use std::alloc::Global;
 use std::marker::Model;
 use ygg_cnf::{Clause, Clauses, Lit};
-use ygg_cnf_set::{contains, contains_any, pivot, remove_all};
+use ygg_cnf_set::{contains, pivot, take_all};
 use ygg_list::NoMemory;
 
 /// Holds clauses, numbered from 1, and judges chains over them. Its memory is for the clauses and for the variables that
-/// occur in them, whatever their numbers are.
+/// occur in them, whatever their numbers are. More than 2,147,483,648 variables come to out of memory.
 #[derive(Drop)]
 pub struct Checker {
     store: Store,
@@ -265,7 +265,5 @@ fn take_numbered(seen: &mut [bool], store: &Store, id: u64) -> bool
     let Some(clause) = store.numbered(id) else {
         return true;
     };
-    let any = contains_any(seen, clause);
-    remove_all(seen, clause);
-    !any
+    take_all(seen, clause)
 }

@@ -6,7 +6,7 @@ ghost use Rattle.ygg_cnf_set.specs.LiteralSet.{Fits, InSet, IsSetOf};
 ghost use Rattle.ygg_chain.specs.Counts.{trues};
 
 use ygg_cnf::Lit;
-use ygg_cnf_set::code;
+use ygg_cnf_set::{PackedLit, code};
 
 /// Puts the literal in.
 fn insert(seen: &mut [bool], count: &mut usize, lit: Lit)
@@ -37,19 +37,19 @@ pub fn remove(seen: &mut [bool], count: &mut usize, lit: Lit)
 }
 
 /// Puts each literal of the clause in.
-pub fn insert_all(seen: &mut [bool], count: &mut usize, clause: &[Lit])
+pub fn insert_all(seen: &mut [bool], count: &mut usize, clause: &[PackedLit])
     requires fits { All (Fits (length seen.old)) clause.now }
     requires counted { count.old ≡ trues seen.old }
     ensures set { IsSetOf seen.new (λ y. InSet seen.old y ⊎ Contains clause.now y) }
     ensures counted { count.new ≡ trues seen.new }
 {
     for lit in clause {
-        insert(seen, count, *lit);
+        insert(seen, count, lit.lit());
     }
 }
 
 /// Resolves the set with the clause on the pivot.
-pub fn resolve(seen: &mut [bool], count: &mut usize, clause: &[Lit], pivot: Lit)
+pub fn resolve(seen: &mut [bool], count: &mut usize, clause: &[PackedLit], pivot: Lit)
     requires fits { All (Fits (length seen.old)) clause.now }
     requires pivot { Fits (length seen.old) pivot }
     requires counted { count.old ≡ trues seen.old }
@@ -59,8 +59,9 @@ pub fn resolve(seen: &mut [bool], count: &mut usize, clause: &[Lit], pivot: Lit)
     remove(seen, count, pivot);
     let left_out = pivot.complement();
     for lit in clause {
-        if *lit != left_out {
-            insert(seen, count, *lit);
+        let lit = lit.lit();
+        if lit != left_out {
+            insert(seen, count, lit);
         }
     }
 }

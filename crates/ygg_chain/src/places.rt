@@ -70,6 +70,7 @@ impl Variables {
     /// which one variable more than 2,147,483,648 comes to, the variables are as before.
     pub fn enter(&mut self, lit: Lit) -> Result<Lit, NoMemory>
         ensures ok { IfOk result (λ placed. StandsFor self.new placed lit) }
+        ensures small { IfOk result (λ placed. placed.var < 2 ^ 31) }
         ensures grows { (more : List ℕ) × (self.new ≡ self.old ++ more) }
         ensures one { length self.new ≤ length self.old + 1 }
         ensures err { OnErr result (self.new ≡ self.old) }
@@ -89,6 +90,7 @@ impl Variables {
     fn add(&mut self, variable: u64) -> Result<u32, NoMemory>
         requires { Contains self.old variable → ⊥ }
         ensures place { IfOk result (λ place. place ≡ length self.old) }
+        ensures small { IfOk result (λ place. place < 2 ^ 31) }
         ensures ok { OnOk result (self.new ≡ self.old ++ variable ∷ []) }
         ensures distinct { OnOk result (IsDistinct self.new) }
         ensures err { OnErr result (self.new ≡ self.old) }

@@ -1,6 +1,6 @@
-//! Clauses kept with the places of their variables.
+//! Clauses kept with the places of their variables, in literals of 4 bytes.
 
-ghost use Rattle.std.specs.Prelude.{◌≡◌, ℕ, ◌≤◌, ◌*◌, List, [], ◌++◌, length, All, Contains, IsTrue, ◌↔◌, MatchOption, IfOk};
+ghost use Rattle.std.specs.Prelude.{◌≡◌, ℕ, ◌≤◌, ◌<◌, ◌*◌, ◌^◌, List, [], ◌++◌, length, All, Contains, IsTrue, ◌↔◌, MatchOption, IfOk};
 ghost use Rattle.ygg_cnf.specs.declared.lit.Lit.{Lit};
 ghost use Rattle.ygg_cnf.specs.Derivations.{HasClause};
 ghost use Rattle.ygg_chain.specs.Places.{IsDistinct, IsPlaced, StandsFor, clause_at};
@@ -8,16 +8,16 @@ ghost use Rattle.ygg_cnf_set.specs.LiteralSet.{InSet, IsSetOf};
 
 use crate::places::Variables;
 use std::alloc::Global;
-use ygg_cnf::{Clause, Clauses, Lit};
-use ygg_cnf_set::make_room;
-use ygg_list::NoMemory;
+use ygg_cnf::Lit;
+use ygg_cnf_set::{PackedClause, PackedLit, make_room};
+use ygg_list::{NoMemory, Sequence};
 
 /// Clauses in which each variable is replaced by its place among the variables, so that a set of literals is a table by place and no
 /// look-up is made while chains are followed.
 #[derive(Drop)]
 pub struct Store {
     pub variables: Variables,
-    pub clauses: Clauses,
+    pub clauses: Sequence<PackedClause>,
 }
 
 impl Store {
@@ -28,12 +28,12 @@ impl Store {
     {
         Store {
             variables: Variables::new(alloc),
-            clauses: Clauses::new(alloc),
+            clauses: Sequence::new(alloc),
         }
     }
 
     /// The kept clause of a number, where clauses are numbered from 1.
-    pub fn numbered(&self, id: u64) -> Option<&[Lit]>
+    pub fn numbered(&self, id: u64) -> Option<&[PackedLit]>
         ensures { MatchOption result ((kept : List Lit) → HasClause self.now.clauses id kept → ⊥) (λ kept. HasClause self.now.clauses id kept.now) }
     {
         if id == 0 {
@@ -50,18 +50,18 @@ impl Store {
         self.clauses
             .as_slice()
             .iter()
-            .any(|clause| clause.is_empty())
+            .any(|clause| clause.as_slice().is_empty())
     }
 }
 
 /// The clause with the places of its variables, after those that had none have been given one, and the set its two truth values. After want
-/// of memory some of them may have been given one.
+/// of memory, which more than 2,147,483,648 variables come to, some of them may have been given one.
 pub fn enter_all(
     alloc: Global,
     seen: &mut Vec<bool>,
     variables: &mut Variables,
     clause: &[Lit],
-) -> Result<Clause, NoMemory>
+) -> Result<PackedClause, NoMemory>
     requires distinct { IsDistinct variables.old }
     requires room { 2 * length variables.old ≤ length seen.old.items }
     ensures placed { IfOk result (λ kept. All (IsPlaced variables.new) kept) }
@@ -71,7 +71,7 @@ pub fn enter_all(
     ensures room { 2 * length variables.new ≤ length seen.new.items }
     ensures seen { IsSetOf seen.new.items (InSet seen.old.items) }
 {
-    let mut kept = Clause::new(alloc);
+    let mut kept = PackedClause::with_capacity(alloc, clause.len())?;
     for lit in clause {
         kept.push(enter(seen, variables, *lit)?)?;
     }
@@ -83,6 +83,7 @@ fn enter(seen: &mut Vec<bool>, variables: &mut Variables, lit: Lit) -> Result<Li
     requires distinct { IsDistinct variables.old }
     requires room { 2 * length variables.old ≤ length seen.old.items }
     ensures ok { IfOk result (λ placed. StandsFor variables.new placed lit) }
+    ensures small { IfOk result (λ placed. placed.var < 2 ^ 31) }
     ensures grows { (more : List ℕ) × (variables.new ≡ variables.old ++ more) }
     ensures distinct { IsDistinct variables.new }
     ensures room { 2 * length variables.new ≤ length seen.new.items }

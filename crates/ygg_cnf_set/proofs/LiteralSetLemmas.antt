@@ -180,6 +180,23 @@ remove_more before now xs i d after l was new y =
       (λ p. (new y).1 ((was y).1 (p.0, λ c. p.1 (more.1 (inl c))), λ e. p.1 (more.1 (inr e)))),
     )
 
+-- whether none of the literals was in the set, with one more of them
+pub none_more : (before now : List Bool) (xs : List Lit) (i : ℕ) (d : Lit) → i < length xs
+    → IsSetOf now (λ y. InSet before y × (Contains (take i xs) y → ⊥)) → (InSet now (get_or xs i d) → ⊥)
+    → ((y : Lit) → InSet before y → Contains (take i xs) y → ⊥) → (y : Lit) → InSet before y → Contains (take (i + 1) xs) y → ⊥
+none_more before now xs i d l was absent none y b c =
+    ⊎_elim (none y b) (λ e. absent (subst (InSet now) e ((was y).1 (b, none y b)))) ((contains_more xs i d l y).0 c)
+
+pub none_less : (before : List Bool) (xs : List Lit) (i : ℕ) (d : Lit) → i < length xs
+    → ((y : Lit) → InSet before y → Contains (take (i + 1) xs) y → ⊥) → (y : Lit) → InSet before y → Contains (take i xs) y → ⊥
+none_less before xs i d l none y b c = none y b ((contains_more xs i d l y).1 (inl c))
+
+pub none_last : (before now : List Bool) (xs : List Lit) (i : ℕ) (d : Lit) → i < length xs
+    → IsSetOf now (λ y. InSet before y × (Contains (take i xs) y → ⊥)) → InSet now (get_or xs i d)
+    → ((y : Lit) → InSet before y → Contains (take (i + 1) xs) y → ⊥) → ⊥
+none_last before now xs i d l was here none =
+    none (get_or xs i d) ((was (get_or xs i d)).0 here).0 ((contains_more xs i d l (get_or xs i d)).1 (inr refl))
+
 -- a list has a literal, or has it not
 pub contains_cases : (xs : List Lit) (y : Lit) → Contains xs y ⊎ (Contains xs y → ⊥)
 contains_cases [] y = inr (λ (k, l, e). absurd (omega (arith, l)))

@@ -7,7 +7,7 @@ mod packed_clause;
 mod packed_lit;
 mod packed_set;
 
-pub use literal_set::{code, contains, contains_any, insert, make_room, pivot, remove, remove_all};
+pub use literal_set::{code, contains, insert, make_room, remove, remove_all};
 pub use packed_clause::{PackedClause, pack_all};
 pub use packed_lit::PackedLit;
-pub use packed_set::{insert_all, resolve};
+pub use packed_set::{insert_all, pivot, resolve, take_all};

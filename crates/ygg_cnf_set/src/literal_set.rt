@@ -1,5 +1,4 @@
-ghost use Rattle.std.specs.Prelude.{◌≡◌, ◌≢◌, ◌<◌, ◌≤◌, ◌^◌, length, All, Any, IsTrue, ◌↔◌, OnOk, MatchOption, Contains, ◌⊎◌};
-ghost use Rattle.ygg_cnf.specs.Derivations.{IsPivot};
+ghost use Rattle.std.specs.Prelude.{◌≡◌, ◌≢◌, ◌<◌, ◌≤◌, ◌^◌, length, All, IsTrue, ◌↔◌, OnOk, Contains, ◌⊎◌};
 ghost use Rattle.ygg_cnf_set.specs.LiteralSet.{code_of, Fits, InSet, IsSetOf};
 
 use ygg_cnf::Lit;
@@ -57,36 +56,4 @@ pub fn remove_all(seen: &mut [bool], clause: &[Lit])
     for lit in clause {
         remove(seen, *lit);
     }
-}
-
-/// Whether a literal of the clause is in the set.
-pub fn contains_any(seen: &[bool], clause: &[Lit]) -> bool
-    requires { All (Fits (length seen.now)) clause.now }
-    ensures { IsTrue result ↔ Any (InSet seen.now) clause.now }
-{
-    clause.iter().any(|lit| contains(seen, *lit))
-}
-
-/// The literal of the set whose complement is in the clause, if there is exactly one.
-pub fn pivot(seen: &[bool], clause: &[Lit]) -> Option<Lit>
-    requires { All (Fits (length seen.now)) clause.now }
-    ensures { MatchOption result ((x : _) → IsPivot (InSet seen.now) clause.now x → ⊥) (IsPivot (InSet seen.now) clause.now) }
-{
-    let mut found = None;
-    for lit in clause {
-        let other = lit.complement();
-        if contains(seen, other) {
-            match found {
-                None => {
-                    found = Some(other);
-                }
-                Some(first) => {
-                    if other != first {
-                        return None;
-                    }
-                }
-            }
-        }
-    }
-    found
 }

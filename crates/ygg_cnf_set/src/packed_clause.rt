@@ -1,4 +1,4 @@
-ghost use Rattle.std.specs.Prelude.{◌≡◌, ◌<◌, ◌^◌, ◌++◌, ◌∷◌, [], All, IfOk};
+ghost use Rattle.std.specs.Prelude.{◌≡◌, ◌<◌, ◌^◌, ◌++◌, ◌∷◌, [], All, IfOk, OnOk, OnErr};
 
 use crate::packed_lit::PackedLit;
 use smallvec::SmallVec;
@@ -28,11 +28,30 @@ impl PackedClause {
         requires { All (λ x. x.var < 2 ^ 31) lits.now }
         ensures { IfOk result (λ clause. clause ≡ lits.now) }
     {
-        let mut kept = SmallVec::with_capacity(alloc, lits.len())?;
+        let mut clause = PackedClause::with_capacity(alloc, lits.len())?;
         for lit in lits {
-            kept.push(PackedLit::of(*lit))?;
+            clause.push(*lit)?;
         }
-        Ok(PackedClause { lits: kept })
+        Ok(clause)
+    }
+
+    /// The empty clause, with room for so many literals. Its only error is out of memory.
+    pub fn with_capacity(alloc: Global, room: usize) -> Result<PackedClause, NoMemory>
+        ensures { IfOk result (λ clause. clause ≡ []) }
+    {
+        Ok(PackedClause {
+            lits: SmallVec::with_capacity(alloc, room)?,
+        })
+    }
+
+    /// Adds a literal at the end. After running out of memory the clause is as before.
+    pub fn push(&mut self, lit: Lit) -> Result<(), NoMemory>
+        requires { lit.var < 2 ^ 31 }
+        ensures ok { OnOk result (self.new ≡ self.old ++ lit ∷ []) }
+        ensures err { OnErr result (self.new ≡ self.old) }
+    {
+        self.lits.push(PackedLit::of(lit))?;
+        Ok(())
     }
 
     /// All literals in order.

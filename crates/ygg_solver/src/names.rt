@@ -12,36 +12,26 @@ use ygg_chain::Variables;
 use ygg_list::NoMemory;
 use ygg_solver_search::{Assignment, Clause, Clauses, Lit, Log, PackedClause, PackedEntry, Step};
 
-/// The clause with the places of its variables, after those that had none have been given one. After running out of memory some of
-/// them may have been given one.
+/// The clause with the places of its variables, after those that had none have been given one. After running out of memory, which more
+/// than 2,147,483,648 variables come to, some of them may have been given one.
 fn number_clause(
     alloc: Global,
     variables: &mut Variables,
     clause: &[Lit],
-) -> Result<Clause, NoMemory>
+) -> Result<PackedClause, NoMemory>
     ensures placed { IfOk result (λ kept. All (IsPlaced variables.new) kept) }
     ensures same { IfOk result (λ kept. clause_at variables.new kept ≡ clause.now) }
     ensures grows { (more : List ℕ) × (variables.new ≡ variables.old ++ more) }
 {
-    let mut kept = Clause::new(alloc);
+    let mut kept = PackedClause::with_capacity(alloc, clause.len())?;
     for lit in clause {
         kept.push(variables.enter(*lit)?)?;
     }
     Ok(kept)
 }
 
-/// The clause of places in literals of 4 bytes. Its only error is out of memory, which more than 2,147,483,648 variables come to.
-fn pack(alloc: Global, variables: &Variables, clause: &[Lit]) -> Result<PackedClause, NoMemory>
-    requires { All (IsPlaced variables.now) clause.now }
-    ensures { IfOk result (λ packed. packed ≡ clause.now) }
-{
-    if variables.len() > 1 << 31 {
-        return Err(NoMemory);
-    }
-    PackedClause::of(alloc, clause)
-}
-
-/// The clauses with the places of their variables, after those that had none have been given one.
+/// The clauses with the places of their variables, after those that had none have been given one. Its only error is out of memory, which
+/// more than 2,147,483,648 variables come to.
 pub fn number_all(
     alloc: Global,
     variables: &mut Variables,
@@ -52,8 +42,7 @@ pub fn number_all(
 {
     let mut kept = Vec::with_capacity(alloc, clauses.len())?;
     for clause in clauses.as_slice() {
-        let numbered = number_clause(alloc, variables, clause.as_slice())?;
-        kept.push(pack(alloc, variables, numbered.as_slice())?)?;
+        kept.push(number_clause(alloc, variables, clause.as_slice())?)?;
     }
     Ok(kept)
 }

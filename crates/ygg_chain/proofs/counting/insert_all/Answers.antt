@@ -1,11 +1,12 @@
-use Rattle.std.proofs.Common.{⊎_elim, inl, inr}
+use Rattle.std.proofs.Common.{⊎_elim, inl, inr, ◌∙◌}
 use Rattle.ygg_cnf_set.proofs.LiteralSetLemmas.{insert_more}
 use Rattle.ygg_cnf_set.proofs.ListLemmas.{contains_all}
 use Rattle.ygg_chain.proofs.counting.insert_all.Goals as goal
 
 pub loop-lit-preserved : goal.loop-lit-preserved
 loop-lit-preserved c = record {
-  set = insert_more _ _ c.args.clause.now c.loop-lit.lit-index _ _ c.loop-lit-test.true c.loop-lit.invariant.set c.insert.ensures.set;
+  set = insert_more _ _ c.args.clause.now c.loop-lit.lit-index c.lit-item.result _ c.loop-lit-test.true c.loop-lit.invariant.set
+      (rw (c.lit.ensures ∙ c.lit-item.is) at c.insert.ensures.set);
   counted = c.insert.ensures.counted;
 }
 

@@ -6,20 +6,22 @@ use Rattle.ygg_chain.proofs.counting.resolve.Goals as goal
 use Rattle.ygg_chain.proofs.counting.resolve.Goals.{then-ne, else-ne}
 
 pub loop-lit-preserved : goal.loop-lit-preserved
-loop-lit-preserved c = elim c.if-ne.branch [
-  | then-ne w ↦
-      rw (w.seen-is, w.count-is) (record {
-        set = insert_more_but _ _ c.args.clause.now c.loop-lit.lit-index _ _ _ c.loop-lit-test.true c.loop-lit.invariant.set
-            (λ e. differ_from_ne _ c.complement-left_out.result c.ne.result c.ne.ensures w.if-ne.true e) w.insert.ensures.set;
-        counted = w.insert.ensures.counted;
-      })
-  | else-ne w ↦
-      rw (w.seen-is, w.count-is) (record {
-        set = keep_more_but _ _ c.args.clause.now c.loop-lit.lit-index _ _ c.loop-lit-test.true c.loop-lit.invariant.set
-            (same_from_ne _ c.complement-left_out.result c.ne.result c.ne.ensures w.if-ne.false);
-        counted = c.loop-lit.invariant.counted;
-      })
-]
+loop-lit-preserved c =
+    let here = c.lit-lit.ensures ∙ c.lit-item.is in
+    elim c.if-ne.branch [
+      | then-ne w ↦
+          rw (w.seen-is, w.count-is) (record {
+            set = insert_more_but _ _ c.args.clause.now c.loop-lit.lit-index c.lit-item.result _ _ c.loop-lit-test.true c.loop-lit.invariant.set
+                (λ e. differ_from_ne _ c.complement-left_out.result c.ne.result c.ne.ensures w.if-ne.true (here ∙ e)) (rw here at w.insert.ensures.set);
+            counted = w.insert.ensures.counted;
+          })
+      | else-ne w ↦
+          rw (w.seen-is, w.count-is) (record {
+            set = keep_more_but _ _ c.args.clause.now c.loop-lit.lit-index c.lit-item.result _ c.loop-lit-test.true c.loop-lit.invariant.set
+                (sym here ∙ same_from_ne _ c.complement-left_out.result c.ne.result c.ne.ensures w.if-ne.false);
+            counted = c.loop-lit.invariant.counted;
+          })
+    ]
 
 pub returns-clause-set : goal.returns-clause-set
 returns-clause-set c y =

@@ -1,4 +1,4 @@
-use Rattle.std.proofs.Common.{sym}
+use Rattle.std.proofs.Common.{sym, arith}
 use Rattle.ygg_chain.proofs.TableLemmas.{distinct_indexed, place_stands, last_stands}
 use Rattle.ygg_chain.proofs.places.Variables.enter.Goals as goal
 use Rattle.ygg_chain.proofs.places.Variables.enter.Goals.{in-Some, in-None+in_ok-place-in-None}
@@ -20,4 +20,14 @@ pub returns-clause-distinct : goal.returns-clause-distinct
 returns-clause-distinct c = elim c.match-get.branch [
   | in-Some w ↦ rw (w.self-is, sym c.self.view_is) (distinct_indexed c.self.inside.places c.self.inside.order.items c.self.invariant.0)
   | in-None+in_ok-place-in-None w ↦ rw w.self-is w.in_ok-place-in-None.ensures.distinct
+]
+
+pub returns-clause-small : goal.returns-clause-small
+returns-clause-small c = elim c.match-get.branch [
+  | in-Some w ↦ rw w.place-is (
+      let (inside, at) = (c.self.invariant.0 c.args.lit.var w.in-Some.place).0 (sym w.in-Some.ensures) in
+      let few = c.self.invariant.1 in
+      omega (arith, inside, few)
+      )
+  | in-None+in_ok-place-in-None w ↦ rw w.place-is w.in_ok-place-in-None.ensures.small
 ]
