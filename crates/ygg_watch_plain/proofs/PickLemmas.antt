@@ -1,5 +1,5 @@
 -- A variable with a value is assigned.
-use Rattle.std.proofs.Common.{◌≡◌, ℕ, List, ap}
+use Rattle.std.proofs.Common.{ℕ, List, ap}
 use Rattle.ygg_cnf.specs.declared.lit.Lit.{Lit}
 use Rattle.ygg_watch_plain.specs.declared.found.Assigned.{Assigned}
 use Rattle.ygg_watch_plain.specs.Propagation.{HasValue}

@@ -1,6 +1,5 @@
 use Rattle.std.proofs.Common.{◌≡◌, List, All, length, map, sym, subst, ap, arith}
 use Rattle.std.proofs.lemmas.List.{length-map}
-use Rattle.ygg_solver_search.specs.ygg_cnf.declared.lit.Lit.{Lit}
 use Rattle.ygg_solver_search.specs.ygg_cnf.declared.log.Step.{Step}
 use Rattle.ygg_solver_search.specs.ygg_cnf.Literals.{SatisfiesAll, truth_of}
 use Rattle.ygg_solver_search.specs.ygg_cnf.Logs.{clause_of, Refutes, SpentLog}

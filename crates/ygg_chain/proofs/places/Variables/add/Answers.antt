@@ -1,5 +1,4 @@
-use Rattle.std.proofs.Common.{◌≡◌, List, ℕ, Some, Contains, length, ◌∷◌, [], subst, sym, ap, ◌∙◌, arith, length-append}
-use Rattle.ygg_chain.specs.Places.{IsDistinct}
+use Rattle.std.proofs.Common.{◌≡◌, List, ℕ, Some, Contains, length, ◌∷◌, [], subst, ap, ◌∙◌, arith, length-append}
 use Rattle.ygg_chain.specs.PlaceTable.{place_of, IsIndexOf}
 use Rattle.ygg_chain.proofs.TableLemmas.{distinct_indexed, no_place, index_same, index_more}
 use Rattle.ygg_chain.proofs.places.Variables.add.Goals as goal
