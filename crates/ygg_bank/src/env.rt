@@ -10,7 +10,7 @@ use ygg_list::{Duplicate, NoMemory, Sequence};
 use ygg_value::Word;
 
 /// What an environment gives for a number.
-#[derive(Clone, Copy, PartialEq, Eq, Drop)]
+#[derive(Clone, Copy, Drop)]
 pub enum Given {
     /// The word of the input with this number.
     Word { number: u64, word: Word },

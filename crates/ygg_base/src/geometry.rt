@@ -1,5 +1,5 @@
 /// What a disk keeps when power fails.
-#[derive(Clone, Copy, PartialEq, Eq)]
+#[derive(Clone, Copy)]
 pub enum DiskKind {
     /// Each whole write.
     Sync,
@@ -8,7 +8,7 @@ pub enum DiskKind {
 }
 
 /// The kind of a disk and its size.
-#[derive(Clone, Copy, PartialEq, Eq)]
+#[derive(Clone, Copy)]
 pub struct Geometry {
     pub kind: DiskKind,
     /// How many rows it has, 1 to 256.

@@ -16,7 +16,7 @@ pub enum Fetch {
 }
 
 /// What a library answers for a name whose file is to be read piece by piece.
-#[derive(Clone, Copy, PartialEq, Eq, Drop)]
+#[derive(Clone, Copy, Drop)]
 pub enum Opened {
     /// The file is open, at its beginning.
     Open,
@@ -42,7 +42,7 @@ pub enum Piece {
 }
 
 /// Whether bytes were moved.
-#[derive(Clone, Copy, PartialEq, Eq, Drop)]
+#[derive(Clone, Copy, Drop)]
 pub enum Moved {
     Done,
     Failed,

@@ -4,7 +4,7 @@ ghost use Rattle.ygg_base.specs.Reason.{number_of, refusal_at};
 use crate::failure::Refusal;
 
 /// Why a text or the words of a command are refused. The definitions of the language say of each rule which of these breaks it.
-#[derive(Clone, Copy, PartialEq, Eq, Drop)]
+#[derive(Clone, Copy, Drop)]
 pub enum Reason {
     /// A byte of 128 or more.
     NotAscii,

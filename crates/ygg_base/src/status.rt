@@ -2,7 +2,7 @@ ghost use Rattle.std.specs.Prelude.{◌≡◌};
 ghost use Rattle.ygg_base.specs.Status.{number_of};
 
 /// How a command ends.
-#[derive(Clone, Copy, PartialEq, Eq, Drop)]
+#[derive(Clone, Copy, Drop)]
 pub enum Status {
     /// The command did all that it was asked for.
     Done,

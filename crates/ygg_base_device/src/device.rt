@@ -19,7 +19,7 @@ pub enum Attach {
 }
 
 /// Whether an image was made.
-#[derive(Clone, Copy, PartialEq, Eq, Drop)]
+#[derive(Clone, Copy, Drop)]
 pub enum Made {
     /// It was.
     Done,

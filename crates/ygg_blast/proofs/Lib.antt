@@ -1,4 +1,4 @@
-pub use Rattle.ygg_gates_meaning.proofs as of_ygg_gates_meaning
+pub use Rattle.ygg_gates.proofs as of_ygg_gates
 pub mod Steps
 pub mod Reading
 pub mod Zero

@@ -3,7 +3,7 @@ use Rattle.std.proofs.Common.{◌≡◌, ◌<◌, ◌≤◌, ◌^◌, ℕ, suc, 
 use Rattle.std.proofs.Math.Nat.{pow-le-pow_right}
 use Rattle.ygg_value.specs.Words.{bit_of}
 use Rattle.ygg_gates.specs.Sources.{number_from}
-use Rattle.ygg_gates_meaning.proofs.Whole.{number_from_below}
+use Rattle.ygg_gates.proofs.Whole.{number_from_below}
 
 -- the bits from a place on are read
 pub record Reading (value : ℕ → Bool) (first width place bits : ℕ) : Type 0 where

@@ -5,7 +5,7 @@ use Rattle.ygg_bank.specs.Reaching.{has_place, Reaches}
 use Rattle.ygg_bank.specs.declared.node.Id.{Id}
 use Rattle.ygg_bank.specs.declared.node.Node.{Node}
 use Rattle.ygg_gates.specs.Groups.{reaches}
-use Rattle.ygg_gates_meaning.specs.Reaching.{TestsReaching}
+use Rattle.ygg_gates.specs.Reaching.{TestsReaching}
 
 both_ways : (a b : Bool) → (a ≡ true → b ≡ true) → (b ≡ true → a ≡ true) → a ≡ b
 both_ways true true f g = refl

@@ -7,8 +7,8 @@ use Rattle.ygg_bank.specs.declared.node.Id.{Id}
 use Rattle.ygg_bank.specs.declared.node.Node.{Node}
 use Rattle.ygg_gates.specs.Groups.{Translated, translated}
 use Rattle.ygg_gates.specs.Sources.{environment_by}
-use Rattle.ygg_gates_meaning.proofs.Whole.{satisfiable_exactly, satisfying_is_zero}
-use Rattle.ygg_gates_meaning.specs.Laws.{AreExact, IsZeroIn}
+use Rattle.ygg_gates.proofs.Whole.{satisfiable_exactly, satisfying_is_zero}
+use Rattle.ygg_gates.specs.Laws.{AreExact, IsZeroIn}
 
 pub zero_in : {E : Type 0} (v : ℕ → Bool) (b : Translated) (result : Result (List Given) E) → IfOk result (λ env. env ≡ environment_by v b.sources) →
     (nodes : List Node) (term : Id) → IsBank nodes → HasWidth nodes term 1 → b ≡ translated nodes term → SatisfiesAll v b.clauses →

@@ -1,7 +1,7 @@
 //! The clauses of a term, and the way back.
 
 ghost use Rattle.std.specs.Prelude.{◌≡◌, ◌<◌, ◌+◌, ◌*◌, ◌^◌, List, All, IfOk};
-ghost use Rattle.ygg_gates_meaning.specs.Laws.{AreExact, IsZeroIn};
+ghost use Rattle.ygg_gates.specs.Laws.{AreExact, IsZeroIn};
 ghost use Rattle.ygg_value.specs.Words.{bit_of, word};
 ghost use Rattle.ygg_bank.specs.Nodes.{HasWidth, IsBank, Stands};
 ghost use Rattle.ygg_bank.specs.declared.node.Id.{Id};
@@ -17,9 +17,8 @@ use std::alloc::Global;
 use std::marker::Model;
 use ygg_bank::{Bank, Env, Given, Id, reached};
 use ygg_cnf::{Assignment, Clauses, Lit, truth};
-use ygg_gates::InputVariables;
+use ygg_gates::{InputVariables, groups_are_of_reached_nodes};
 use ygg_gates_circuit::true_literal;
-use ygg_gates_meaning::groups_are_of_reached_nodes;
 use ygg_list::{NoMemory, Sequence};
 use ygg_value::Word;
 

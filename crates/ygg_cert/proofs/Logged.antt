@@ -6,10 +6,10 @@ use Rattle.ygg_cnf.specs.declared.lit.Lit.{Lit}
 use Rattle.ygg_cnf.specs.declared.log.Step.{Step}
 use Rattle.ygg_cnf.specs.declared.log.Step.TheVariants.{Added}
 use Rattle.ygg_log_text.specs.Lines.{step_line}
-use Rattle.ygg_log_read.specs.Steps.{IsStep, BeginsStep}
-use Rattle.ygg_log_read.specs.Numbers.{IsRun}
-use Rattle.ygg_log_read.specs.Reading.{IsReading}
-use Rattle.ygg_log_read.specs.declared.reader.StepReader.{StepReader}
+use Rattle.ygg_log_text.specs.Steps.{IsStep, BeginsStep}
+use Rattle.ygg_log_text.specs.Numbers.{IsRun}
+use Rattle.ygg_log_text.specs.Reading.{IsReading}
+use Rattle.ygg_log_text.specs.declared.reader.StepReader.{StepReader}
 use Rattle.ygg_cert.specs.declared.item.Goal.{Goal}
 use Rattle.ygg_cert.specs.declared.verdict.Heard.{Heard}
 use Rattle.ygg_cert.specs.declared.verdict.Heard.TheVariants as heard

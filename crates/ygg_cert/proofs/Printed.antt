@@ -9,7 +9,7 @@ use Rattle.ygg_cnf.specs.declared.lit.Lit.{Lit}
 use Rattle.ygg_cnf.specs.declared.log.Step.{Step}
 use Rattle.ygg_cnf.specs.Logs.{clause_of, Derives, EndsEmpty}
 use Rattle.ygg_log_text.specs.Lines.{step_line}
-use Rattle.ygg_log_read.specs.Steps.{IsStep}
+use Rattle.ygg_log_text.specs.Steps.{IsStep}
 use Rattle.ygg_cert.specs.declared.item.Goal.{Goal}
 use Rattle.ygg_cert.specs.declared.item.Item.{Item}
 use Rattle.ygg_cert.specs.Texts.{first_line, opening_line, closing_line, last_line, item_text, certificate_of}

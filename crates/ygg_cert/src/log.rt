@@ -10,7 +10,7 @@ use std::alloc::Global;
 use ygg_base::Text;
 use ygg_chain::Checker;
 use ygg_list::NoMemory;
-use ygg_log_read::{StepHeard, StepReader};
+use ygg_log_text::{StepHeard, StepReader};
 
 /// Which line of a log is being read.
 #[derive(Clone, Copy)]

@@ -17,7 +17,7 @@ pub enum CertEnd {
 }
 
 /// What is said of the bytes of a text so far.
-#[derive(Clone, Copy, PartialEq, Eq, Drop)]
+#[derive(Clone, Copy, Drop)]
 pub enum Fed {
     /// They hold no line at fault.
     More,

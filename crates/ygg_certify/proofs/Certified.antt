@@ -7,24 +7,24 @@ use Rattle.ygg_syntax.specs.declared.tree.File.{File}
 use Rattle.ygg_syntax.specs.Files.{IsDerived}
 use Rattle.ygg_type.specs.ygg_type_rules.Files.{IsTyped}
 use Rattle.ygg_oblige_decided.specs.ygg_rules.declared.rule.RuleKind.{RuleKind}
-use Rattle.ygg_oblige_decided.specs.ygg_histories.Claims.{Claim, claims_of}
+use Rattle.ygg_oblige_decided.specs.ygg_meaning.Claims.{Claim, claims_of}
 use Rattle.ygg_oblige_decided.specs.ygg_bank.Nodes.{HasWidth, IsBank}
 use Rattle.ygg_oblige_decided.specs.ygg_bank.declared.node.Id.{Id}
 use Rattle.ygg_oblige_decided.specs.ygg_bank.declared.node.Node.{Node}
 use Rattle.ygg_cert_open.specs.ygg_cnf.Logs.{Refutes}
 use Rattle.ygg_oblige_decided.specs.ygg_gates.Groups.{translated}
-use Rattle.ygg_oblige_decided.specs.ygg_oblige_terms.Terms.{file_made}
-use Rattle.ygg_oblige_decided.specs.ygg_oblige_terms.Meaning.{AreTermsOf, claim_name}
+use Rattle.ygg_oblige_decided.specs.ygg_oblige_pieces.Terms.{file_made}
+use Rattle.ygg_oblige_decided.specs.ygg_oblige_pieces.Meaning.{AreTermsOf, claim_name}
 use Rattle.ygg_oblige.specs.declared.obligation.Obligation.{Obligation}
 use Rattle.ygg_oblige.specs.Obligations.{names_in, terms_in}
-use Rattle.ygg_cert_open.specs.ygg_log_read.Steps.{IsStep}
-use Rattle.ygg_certify_put.proofs.of_ygg_pieces.Flowing.{puts_done}
+use Rattle.ygg_cert_open.specs.ygg_log_text.Steps.{IsStep}
+use Rattle.ygg_certify.proofs.of_ygg_pieces.Flowing.{puts_done}
 use Rattle.ygg_cert_open.specs.ygg_cert.Laws.{IsItemOf, AreItemsOf, PrintedIsChecked}
 use Rattle.ygg_cert_open.specs.ygg_cert.Judging.{IsWhole}
-use Rattle.ygg_certify_put.specs.declared.finding.Outcome.{Outcome}
-use Rattle.ygg_certify_put.specs.declared.finding.Outcome.TheVariants as outcome
-use Rattle.ygg_certify_put.specs.declared.finding.Finding.{Finding}
-use Rattle.ygg_certify_put.specs.Findings.{IsOutcome, IsFinding, HasLog, IsHeld, log_of, item_of, text_of}
+use Rattle.ygg_certify.specs.declared.finding.Outcome.{Outcome}
+use Rattle.ygg_certify.specs.declared.finding.Outcome.TheVariants as outcome
+use Rattle.ygg_certify.specs.declared.finding.Finding.{Finding}
+use Rattle.ygg_certify.specs.Findings.{IsOutcome, IsFinding, HasLog, IsHeld, log_of, item_of, text_of}
 use Rattle.ygg_certify.specs.declared.certifying.Certifying.{Certifying}
 use Rattle.ygg_certify.specs.declared.certifying.Certifying.TheVariants.{Ends, Open}
 use Rattle.ygg_certify.specs.FileGoals.{goal_by, goals_by, goals_of}

@@ -8,9 +8,9 @@ use Rattle.ygg_syntax.specs.declared.tree.File.{File}
 use Rattle.ygg_syntax.specs.Files.{IsDerived}
 use Rattle.ygg_type.specs.ygg_type_rules.Files.{IsTyped}
 use Rattle.ygg_oblige_decided.specs.ygg_rules.declared.rule.RuleKind.{RuleKind}
-use Rattle.ygg_oblige_decided.specs.ygg_histories.Stack.{FileRefines}
-use Rattle.ygg_oblige_decided.specs.ygg_histories.Claims.{Claim, ClaimHolds, claims_of}
-use Rattle.ygg_oblige_decided.specs.ygg_histories.Laws.{RefinesByList}
+use Rattle.ygg_oblige_decided.specs.ygg_meaning.Stack.{FileRefines}
+use Rattle.ygg_oblige_decided.specs.ygg_meaning.Claims.{Claim, ClaimHolds, claims_of}
+use Rattle.ygg_oblige_decided.specs.ygg_meaning.HistoryLaws.{RefinesByList}
 use Rattle.ygg_oblige_decided.specs.ygg_type_progress.Laws.{TypedHistories}
 use Rattle.ygg_oblige_decided.specs.ygg_bank.Nodes.{IsBank}
 use Rattle.ygg_oblige_decided.specs.ygg_bank.declared.node.Id.{Id}
@@ -20,10 +20,10 @@ use Rattle.ygg_cert_open.specs.ygg_cnf.declared.log.Step.{Step}
 use Rattle.ygg_cert_open.specs.ygg_cnf.Literals.{SatisfiesAll}
 use Rattle.ygg_cert_open.specs.ygg_cnf.Logs.{Refutes}
 use Rattle.ygg_oblige_decided.specs.ygg_gates.Groups.{translated}
-use Rattle.ygg_oblige_decided.specs.ygg_gates_meaning.Laws.{SatisfiableExactly}
+use Rattle.ygg_oblige_decided.specs.ygg_gates.Laws.{SatisfiableExactly}
 use Rattle.ygg_oblige_decided.specs.ygg_decide.Deciding.{IsNeverZero}
-use Rattle.ygg_oblige_decided.specs.ygg_oblige_terms.Terms.{file_made}
-use Rattle.ygg_oblige_decided.specs.ygg_oblige_terms.Meaning.{IsTermOf, AreTermsOf, claim_name}
+use Rattle.ygg_oblige_decided.specs.ygg_oblige_pieces.Terms.{file_made}
+use Rattle.ygg_oblige_decided.specs.ygg_oblige_pieces.Meaning.{IsTermOf, AreTermsOf, claim_name}
 use Rattle.ygg_oblige_decided.specs.Laws.{NeverZeroHolds}
 use Rattle.ygg_oblige.specs.declared.obligation.Obligation.{Obligation}
 use Rattle.ygg_oblige.specs.Obligations.{names_in, terms_in}

@@ -4,20 +4,20 @@ use Rattle.ygg_base.specs.declared.status.Status.{Status}
 use Rattle.ygg_base.specs.declared.status.Status.TheVariants.{Done}
 use Rattle.ygg_syntax.specs.declared.tree.File.{File}
 use Rattle.ygg_oblige_decided.specs.ygg_rules.declared.rule.RuleKind.{RuleKind}
-use Rattle.ygg_oblige_decided.specs.ygg_histories.Claims.{claims_of}
+use Rattle.ygg_oblige_decided.specs.ygg_meaning.Claims.{claims_of}
 use Rattle.ygg_oblige_decided.specs.ygg_bank.Nodes.{IsBank}
 use Rattle.ygg_oblige_decided.specs.ygg_bank.declared.node.Id.{Id}
 use Rattle.ygg_oblige_decided.specs.ygg_bank.declared.node.Node.{Node}
 use Rattle.ygg_report.specs.Putting.{IsCutOf, Puts}
-use Rattle.ygg_certify_put.specs.ygg_pieces.Pieces.{FinishesWith}
-use Rattle.ygg_oblige_decided.specs.ygg_oblige_terms.Terms.{file_made}
-use Rattle.ygg_oblige_decided.specs.ygg_oblige_terms.Meaning.{AreTermsOf, claim_name}
+use Rattle.ygg_certify.specs.ygg_pieces.Pieces.{FinishesWith}
+use Rattle.ygg_oblige_decided.specs.ygg_oblige_pieces.Terms.{file_made}
+use Rattle.ygg_oblige_decided.specs.ygg_oblige_pieces.Meaning.{AreTermsOf, claim_name}
 use Rattle.ygg_cert_open.specs.ygg_cert.declared.item.Item.{Item}
 use Rattle.ygg_cert_open.specs.ygg_cert.Texts.{certificate_of}
 use Rattle.ygg_cert_open.specs.ygg_cert.Judging.{IsWhole}
 use Rattle.ygg_cert_open.specs.ygg_cert.Laws.{AreItemsOf}
-use Rattle.ygg_certify_put.specs.declared.finding.Finding.{Finding}
-use Rattle.ygg_certify_put.specs.Findings.{IsFinding, IsHeld, text_of}
+use Rattle.ygg_certify.specs.declared.finding.Finding.{Finding}
+use Rattle.ygg_certify.specs.Findings.{IsFinding, IsHeld, text_of}
 use Rattle.ygg_certify.specs.declared.certifying.Certifying.{Certifying}
 use Rattle.ygg_certify.specs.declared.certifying.Certifying.TheVariants.{Ends, Open}
 use Rattle.ygg_certify.specs.FileGoals.{goals_of, IsRight}

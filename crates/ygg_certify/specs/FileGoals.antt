@@ -4,14 +4,14 @@ use Rattle.ygg_syntax.specs.declared.tree.File.{File}
 use Rattle.ygg_oblige_decided.specs.ygg_rules.declared.rule.RuleKind.{RuleKind}
 use Rattle.ygg_oblige_decided.specs.ygg_meaning.Environments.{Env}
 use Rattle.ygg_oblige_decided.specs.ygg_meaning.Machine.{State}
-use Rattle.ygg_oblige_decided.specs.ygg_histories.Stack.{BottomOf, FileRefines}
-use Rattle.ygg_oblige_decided.specs.ygg_histories.History.{Entry, History, Allows}
-use Rattle.ygg_oblige_decided.specs.ygg_histories.Claims.{claims_of}
+use Rattle.ygg_oblige_decided.specs.ygg_meaning.Stack.{BottomOf, FileRefines}
+use Rattle.ygg_oblige_decided.specs.ygg_meaning.History.{Entry, History, Allows}
+use Rattle.ygg_oblige_decided.specs.ygg_meaning.Claims.{claims_of}
 use Rattle.ygg_oblige_decided.specs.ygg_bank.declared.node.Id.{Id}
 use Rattle.ygg_oblige_decided.specs.ygg_bank.declared.node.Node.{Node}
 use Rattle.ygg_oblige_decided.specs.ygg_gates.Groups.{translated}
-use Rattle.ygg_oblige_decided.specs.ygg_oblige_terms.Terms.{file_made}
-use Rattle.ygg_oblige_decided.specs.ygg_oblige_terms.Meaning.{claim_name}
+use Rattle.ygg_oblige_decided.specs.ygg_oblige_pieces.Terms.{file_made}
+use Rattle.ygg_oblige_decided.specs.ygg_oblige_pieces.Meaning.{claim_name}
 use Rattle.ygg_oblige.specs.declared.obligation.Obligation.{Obligation}
 use Rattle.ygg_cert_open.specs.ygg_cert.declared.item.Goal.{Goal}
 use Rattle.ygg_cert_open.specs.ygg_cert.declared.verdict.CertEnd.{CertEnd}

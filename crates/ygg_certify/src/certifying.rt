@@ -6,10 +6,11 @@ ghost use Rattle.ygg_oblige_decided.specs.ygg_bank.Nodes.{HasWidth};
 ghost use Rattle.ygg_oblige.specs.Obligations.{names_in, terms_in};
 ghost use Rattle.ygg_certify.specs.Certifying.{AreFound, Concludes, IsCertifying};
 
+use crate::finding::{Findings, all_hold, find};
+use crate::putting::put_findings;
 use std::alloc::Global;
 use ygg_base::{Sink, Status};
 use ygg_cert_open::{checked_is_refuted, derivations_are_sound, printed_is_checked};
-use ygg_certify_put::{Findings, all_hold, find, put_findings};
 use ygg_list::NoMemory;
 use ygg_oblige::{Obligation, obligations};
 use ygg_oblige_decided::law::never_zero_holds;

@@ -2,7 +2,7 @@
 
 ghost use Rattle.std.specs.Prelude.{◌≡◌, ◌≤◌, length, IfOk, IsErr};
 ghost use Rattle.ygg_base.specs.Outside.{IsOpen, Rose};
-ghost use Rattle.ygg_oblige_decided.specs.ygg_histories.Claims.{claims_of};
+ghost use Rattle.ygg_oblige_decided.specs.ygg_meaning.Claims.{claims_of};
 ghost use Rattle.ygg_cert_open.specs.Opened.{JudgesOpen};
 ghost use Rattle.ygg_certify.specs.FileGoals.{ChecksAll, IfChecked, IsRight, goals_of};
 

@@ -4,7 +4,7 @@ ghost use Rattle.std.specs.Prelude.{◌≡◌, ◌≤◌, ℕ, List, length, IfO
 ghost use Rattle.ygg_base.specs.Outside.{IsOpen, Rose};
 ghost use Rattle.ygg_syntax.specs.declared.tree.File.{File};
 ghost use Rattle.ygg_oblige_decided.specs.ygg_rules.declared.rule.RuleKind.{RuleKind};
-ghost use Rattle.ygg_oblige_decided.specs.ygg_histories.Claims.{claims_of};
+ghost use Rattle.ygg_oblige_decided.specs.ygg_meaning.Claims.{claims_of};
 ghost use Rattle.ygg_cert_open.specs.ygg_cert.Judging.{Judges};
 ghost use Rattle.ygg_certify.specs.Checking.{Checks, ChecksOpen, bad_line, checked_line};
 ghost use Rattle.ygg_certify.specs.FileGoals.{ChecksAll, IfChecked, IsRight, goals_of};
@@ -67,7 +67,7 @@ fn said(alloc: Global, end: CertEnd) -> Result<(Status, Text), NoMemory>
 }
 
 /// Why a certificate isn't checked.
-#[derive(Clone, Copy, PartialEq, Eq, Drop)]
+#[derive(Clone, Copy, Drop)]
 pub enum Unchecked {
     /// The library failed.
     LibraryFailed,

@@ -6,7 +6,7 @@ use std::marker::Model;
 use ygg_cnf::Lit;
 
 /// A literal in 4 bytes: twice its variable, and 1 more where it is negated.
-#[derive(Clone, Copy, Default, PartialEq, Eq)]
+#[derive(Clone, Copy, Default)]
 pub struct PackedLit {
     code: u32,
 }

@@ -1,2 +1,2 @@
-pub use Rattle.ygg_blast.proofs.of_ygg_gates_meaning
+pub use Rattle.ygg_blast.proofs.of_ygg_gates
 mod Sound

@@ -9,7 +9,7 @@ use Rattle.ygg_blast.specs.ygg_bank.declared.node.Node.{Node}
 use Rattle.ygg_solver.specs.Answers.{IsAnswer}
 use Rattle.ygg_solver.specs.declared.answer.Answer.{Answer}
 use Rattle.ygg_solver.specs.declared.answer.Answer.TheVariants.{Sat, Unsat}
-use Rattle.ygg_blast.specs.ygg_gates_meaning.Laws.{AreExact}
+use Rattle.ygg_blast.specs.ygg_gates.Laws.{AreExact}
 use Rattle.ygg_decide.specs.Deciding.{IsNeverZero}
 
 -- a term whose clauses are refuted is 0 in no environment

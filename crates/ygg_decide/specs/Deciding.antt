@@ -5,7 +5,7 @@ use Rattle.ygg_blast.specs.ygg_bank.declared.env.Given.{Given}
 use Rattle.ygg_blast.specs.ygg_bank.declared.node.Id.{Id}
 use Rattle.ygg_blast.specs.ygg_bank.declared.node.Node.{Node}
 use Rattle.ygg_blast.specs.ygg_gates.Groups.{translated}
-use Rattle.ygg_blast.specs.ygg_gates_meaning.Laws.{IsZeroIn}
+use Rattle.ygg_blast.specs.ygg_gates.Laws.{IsZeroIn}
 use Rattle.ygg_decide.specs.declared.deciding.Decided.{Decided}
 use Rattle.ygg_decide.specs.declared.deciding.Decided.TheVariants.{Valid, Fails, Spent}
 

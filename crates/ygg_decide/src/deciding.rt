@@ -1,7 +1,7 @@
 ghost use Rattle.std.specs.Prelude.{◌≡◌, ◌<◌, IfOk};
 ghost use Rattle.ygg_blast.specs.ygg_bank.Nodes.{HasWidth};
 ghost use Rattle.ygg_blast.specs.ygg_gates.Groups.{translated};
-ghost use Rattle.ygg_blast.specs.ygg_gates_meaning.Laws.{AreExact};
+ghost use Rattle.ygg_blast.specs.ygg_gates.Laws.{AreExact};
 ghost use Rattle.ygg_solver.specs.Answers.{IsNumbered};
 ghost use Rattle.ygg_decide.specs.Deciding.{IsDecided, IsSound};
 

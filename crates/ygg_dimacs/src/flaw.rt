@@ -4,7 +4,7 @@ ghost use Rattle.ygg_dimacs.specs.Flaws.{number_of, refusal_at};
 use ygg_base::Refusal;
 
 /// Why a text of clauses is refused.
-#[derive(Clone, Copy, PartialEq, Eq, Drop)]
+#[derive(Clone, Copy, Drop)]
 pub enum ClausesFlaw {
     /// The first line that counts isn't the header, or there is none.
     Header,

@@ -1,5 +1,4 @@
 pub use Rattle.ygg_type_progress.specs.ygg_disk
-pub use Rattle.ygg_type_progress.specs.ygg_histories
 pub use Rattle.ygg_type_progress.specs.ygg_meaning
 pub use Rattle.ygg_type_progress.specs.ygg_symbols
 pub use Rattle.ygg_type_progress.specs.ygg_syntax_count

@@ -7,7 +7,6 @@ pub use Rattle.ygg_direct.specs as ygg_direct
 pub use Rattle.ygg_direct.specs.ygg_disk
 pub use Rattle.ygg_eval_lower.proofs.Blocks as ygg_eval_lower_proofs_Blocks
 pub use Rattle.ygg_eval_lower.specs as ygg_eval_lower
-pub use Rattle.ygg_direct.specs.ygg_histories
 pub use Rattle.ygg_direct.specs.ygg_meaning
 pub use Rattle.ygg_direct.specs.ygg_symbols
 pub use Rattle.ygg_eval_lower.specs.ygg_type_proofs_Least

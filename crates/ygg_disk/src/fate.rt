@@ -12,7 +12,7 @@ use ygg_list::{Duplicate, NoMemory};
 use ygg_value::{Row, Word};
 
 /// What becomes of a call on a disk in memory.
-#[derive(Clone, Copy, PartialEq, Eq, Drop)]
+#[derive(Clone, Copy, Drop)]
 pub enum Fate {
     /// It is whole.
     Whole,

@@ -5,7 +5,7 @@ use crate::turn::Events;
 use ygg_base::Bits;
 
 /// Where power fails: at the disk call with so many whole calls before it, before that call or within it.
-#[derive(Clone, Copy, PartialEq, Eq, Drop)]
+#[derive(Clone, Copy, Drop)]
 pub struct Fuse {
     pub within: bool,
     pub call: u64,

@@ -32,14 +32,14 @@ use Rattle.ygg_value.specs.declared.row.Value.{Value}
 use Rattle.ygg_syntax.specs.declared.grammar.BlockKind.TheVariants as kind
 use Rattle.ygg_syntax.specs.declared.tree.Declared.{Declared}
 use Rattle.ygg_syntax.specs.declared.tree.File.{File}
-use Rattle.ygg_eval_holds.specs.ygg_disk.declared.power.Power.{Power}
-use Rattle.ygg_eval_holds.specs.ygg_meaning.Environments.{Name}
-use Rattle.ygg_eval_holds.specs.ygg_meaning.Progress.{Question, Choice, Call, Answer, Progress, Asks, Ends, Stray}
-use Rattle.ygg_eval_holds.specs.ygg_meaning.Machine.{State}
-use Rattle.ygg_eval_holds.specs.ygg_meaning.Runs.{Dialogue, WholeCall, Reaches, FallsAt, notes_of}
-use Rattle.ygg_eval_holds.specs.ygg_meaning.Runs as runs
-use Rattle.ygg_eval_holds.specs.ygg_eval_lower.declared.body.Stop.{Stop}
-use Rattle.ygg_eval_holds.specs.ygg_eval_lower.Lower.{
+use Rattle.ygg_eval.specs.ygg_disk.declared.power.Power.{Power}
+use Rattle.ygg_eval.specs.ygg_meaning.Environments.{Name}
+use Rattle.ygg_eval.specs.ygg_meaning.Progress.{Question, Choice, Call, Answer, Progress, Asks, Ends, Stray}
+use Rattle.ygg_eval.specs.ygg_meaning.Machine.{State}
+use Rattle.ygg_eval.specs.ygg_meaning.Runs.{Dialogue, WholeCall, Reaches, FallsAt, notes_of}
+use Rattle.ygg_eval.specs.ygg_meaning.Runs as runs
+use Rattle.ygg_eval.specs.ygg_eval_lower.declared.body.Stop.{Stop}
+use Rattle.ygg_eval.specs.ygg_eval_lower.Lower.{
   Standing,
   Meaning,
   Ending,
@@ -59,14 +59,14 @@ use Rattle.ygg_eval_holds.specs.ygg_eval_lower.Lower.{
   GoesOn,
   IsLower,
 }
-use Rattle.ygg_eval_holds.specs.ygg_eval_lower.Lower as ending
-use Rattle.ygg_eval_holds.specs.ygg_eval_lower.Layers.{signatures_at}
-use Rattle.ygg_eval_holds.specs.ygg_type_progress.Questions.{question_fits}
-use Rattle.ygg_eval_holds.specs.ygg_eval_lower.Conversations.{Exchange, Exchanged, Answered, Talks, asked, answers_of}
-use Rattle.ygg_eval_spec.specs.ygg_eval_block.Runs.{Came, Finished, EndedIn, StoppedAt, StarvedAt, FinishedEarly, RunEnds}
-use Rattle.ygg_eval_spec.specs.ygg_eval_block.Runs as block_runs
-use Rattle.ygg_eval_spec.specs.ygg_eval_block.declared.run.Ended.{Ended}
-use Rattle.ygg_eval_spec.specs.ygg_eval_block.declared.run.Ended.TheVariants.{Whole, Stopped, Short, Down, Failed}
+use Rattle.ygg_eval.specs.ygg_eval_lower.Lower as ending
+use Rattle.ygg_eval.specs.ygg_eval_lower.Layers.{signatures_at}
+use Rattle.ygg_eval.specs.ygg_type_progress.Questions.{question_fits}
+use Rattle.ygg_eval.specs.ygg_eval_lower.Conversations.{Exchange, Exchanged, Answered, Talks, asked, answers_of}
+use Rattle.ygg_eval.specs.ygg_eval_block.Runs.{Came, Finished, EndedIn, StoppedAt, StarvedAt, FinishedEarly, RunEnds}
+use Rattle.ygg_eval.specs.ygg_eval_block.Runs as block_runs
+use Rattle.ygg_eval.specs.ygg_eval_block.declared.run.Ended.{Ended}
+use Rattle.ygg_eval.specs.ygg_eval_block.declared.run.Ended.TheVariants.{Whole, Stopped, Short, Down, Failed}
 use Rattle.ygg_eval.specs.Steps.{RunsWhole, RunsDown, RunsInPart, RunSteps, RunsAreSteps}
 
 asks_of : (p : Progress) (q : Question) → asked p ≡ Some q → p ≡ Asks q

@@ -6,16 +6,16 @@ use Rattle.ygg_value.specs.declared.row.Value.{Value}
 use Rattle.ygg_syntax.specs.declared.grammar.BlockKind.TheVariants as kind
 use Rattle.ygg_syntax.specs.declared.tree.Declared.{Declared}
 use Rattle.ygg_syntax.specs.declared.tree.File.{File}
-use Rattle.ygg_eval_holds.specs.ygg_disk.Power.{IsNamed}
-use Rattle.ygg_eval_holds.specs.ygg_meaning.Environments.{Env, bind}
-use Rattle.ygg_eval_holds.specs.ygg_meaning.Shapes.{values_fit}
-use Rattle.ygg_eval_holds.specs.ygg_meaning.Progress.{Answer}
-use Rattle.ygg_eval_holds.specs.ygg_meaning.Runs.{Dialogue, WholeRun, FallenRun}
-use Rattle.ygg_eval_holds.specs.ygg_eval_lower.declared.body.Stop.{Stop}
-use Rattle.ygg_eval_holds.specs.ygg_eval_lower.Lower.{Standing, Meaning, Cause, PowerLoss, GivenUp, Passes, GoesOn}
-use Rattle.ygg_eval_spec.specs.ygg_eval_block.Runs.{RunEnds}
-use Rattle.ygg_eval_spec.specs.ygg_eval_block.declared.run.Ended.{Ended}
-use Rattle.ygg_eval_spec.specs.ygg_eval_block.declared.run.Ended.TheVariants.{Whole, Stopped, Short, Down, Failed}
+use Rattle.ygg_eval.specs.ygg_disk.Power.{IsNamed}
+use Rattle.ygg_eval.specs.ygg_meaning.Environments.{Env, bind}
+use Rattle.ygg_eval.specs.ygg_meaning.Shapes.{values_fit}
+use Rattle.ygg_eval.specs.ygg_meaning.Progress.{Answer}
+use Rattle.ygg_eval.specs.ygg_meaning.Runs.{Dialogue, WholeRun, FallenRun}
+use Rattle.ygg_eval.specs.ygg_eval_lower.declared.body.Stop.{Stop}
+use Rattle.ygg_eval.specs.ygg_eval_lower.Lower.{Standing, Meaning, Cause, PowerLoss, GivenUp, Passes, GoesOn}
+use Rattle.ygg_eval.specs.ygg_eval_block.Runs.{RunEnds}
+use Rattle.ygg_eval.specs.ygg_eval_block.declared.run.Ended.{Ended}
+use Rattle.ygg_eval.specs.ygg_eval_block.declared.run.Ended.TheVariants.{Whole, Stopped, Short, Down, Failed}
 
 module _ {S : Type 0} (M : Meaning S) (file : File) (number : ℕ) (block : Dialogue) (variables : List Declared) (values values' : List Value)
     (from to : Standing S) where

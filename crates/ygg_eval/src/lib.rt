@@ -15,11 +15,25 @@
 //! ```
 #![tactic(auto)]
 
+mod disk;
+mod formula;
 mod law;
+mod machine;
+mod related;
+mod rows;
+mod runnable;
+mod shapes;
+mod silent;
+mod spec;
+mod state;
 
+pub use formula::{Formula, Which};
 pub use law::runs_are_steps;
-pub use ygg_eval_holds::{
-    AsyncDisk, Body, Formula, Ground, Lower, Part, Picks, Power, Stop, SyncDisk, Turn, Typed,
-    Which, fresh_async, fresh_sync, holds,
-};
-pub use ygg_eval_spec::{Ended, SpecLower, run_body, spec_lower};
+pub use machine::{SpecLower, spec_lower};
+pub use related::holds;
+pub use runnable::is_runnable;
+pub use shapes::{fits, values_fit};
+pub use state::are_values_of;
+pub use ygg_eval_block::{Ended, place_of, run_body};
+pub use ygg_eval_expr::{AsyncDisk, Ground, Picks, Power, SyncDisk, Turn, fresh_async, fresh_sync};
+pub use ygg_eval_lower::{Body, Lower, Part, Stop, Typed};

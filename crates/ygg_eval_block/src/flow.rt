@@ -1,7 +1,7 @@
 //! How a part of a block ends.
 
 /// Why a run ends before its block does.
-#[derive(Clone, Copy, PartialEq, Eq)]
+#[derive(Clone, Copy)]
 pub enum Break {
     /// The stop was reached, and power failed there.
     Stopped,

@@ -13,13 +13,13 @@ use Rattle.ygg_direct_files.specs.ygg_meaning.Shapes.{values_fit}
 use Rattle.ygg_direct_files.specs.ygg_type_sound.Fitting.{all_fit}
 use Rattle.ygg_direct_files.specs.ygg_type_progress.Questions.{question_fits}
 use Rattle.ygg_direct_files.specs.ygg_direct_proofs_DiskServes.{fitting_call}
-use Rattle.ygg_eval_choices.specs.ygg_sym_below_proofs_Chosen.{room}
-use Rattle.ygg_eval_choices.specs.ygg_sym_below_proofs_SpecFalls.{bits_after}
+use Rattle.ygg_eval_fronts.specs.ygg_sym_runs_proofs_Chosen.{room}
+use Rattle.ygg_eval_fronts.specs.ygg_sym_runs_proofs_SpecFalls.{bits_after}
 use Rattle.ygg_direct_files.specs.ygg_eval_lower.Layers.{signatures_at, variables_at}
 use Rattle.ygg_direct_files.specs.ygg_eval_lower.Lower.{IsCallable}
-use Rattle.ygg_eval_spec.specs.ygg_eval_block.Ready.{IsPlace}
-use Rattle.ygg_eval_choices.specs.Bits.{bit_at, bits_in}
-use Rattle.ygg_eval_choices.specs.declared.bits.Choices.{Choices}
+use Rattle.ygg_eval.specs.ygg_eval_block.Ready.{IsPlace}
+use Rattle.ygg_eval_fronts.specs.Bits.{bit_at, bits_in}
+use Rattle.ygg_eval_fronts.specs.declared.bits.Choices.{Choices}
 
 signature_is : (a b : Signature) → Some a ≡ Some b → a ≡ b
 signature_is a b h = cc

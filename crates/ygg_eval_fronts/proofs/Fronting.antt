@@ -11,15 +11,15 @@ use Rattle.ygg_direct_files.specs.ygg_meaning.Progress.{Answer, answer_of}
 use Rattle.ygg_direct_files.specs.ygg_meaning.Refines.{Below}
 use Rattle.ygg_direct_files.specs.ygg_meaning.Shapes.{values_fit}
 use Rattle.ygg_direct_files.specs.ygg_direct.Direct.{Reached, direct_run}
-use Rattle.ygg_eval_choices.specs.ygg_sym_below.Stops.{halt, first_stop}
-use Rattle.ygg_eval_choices.specs.ygg_sym_laws.Below.{places_on, space_on}
-use Rattle.ygg_eval_choices.specs.ygg_fronts.Fronts.{takes_on, cut_takes_on, lose_takes_on, run_by_place, run_stop, stopped_picks}
-use Rattle.ygg_eval_choices.specs.ygg_fronts.Taking.{picks_of}
-use Rattle.ygg_eval_spec.specs.ygg_eval_block.Ready.{eval_in}
+use Rattle.ygg_eval_fronts.specs.ygg_sym_runs.Stops.{halt, first_stop}
+use Rattle.ygg_eval_fronts.specs.ygg_sym_laws.Below.{places_on, space_on}
+use Rattle.ygg_eval_fronts.specs.ygg_fronts.Fronts.{takes_on, cut_takes_on, lose_takes_on, run_by_place, run_stop, stopped_picks}
+use Rattle.ygg_eval_fronts.specs.ygg_fronts.Taking.{picks_of}
+use Rattle.ygg_eval.specs.ygg_eval_block.Ready.{eval_in}
 use Rattle.ygg_direct_files.specs.ygg_eval_lower.Bodies.{arguments_in, variables_in}
 use Rattle.ygg_direct_files.specs.ygg_eval_lower.Layers.{below_at, closed_at, variables_at}
 use Rattle.ygg_direct_files.specs.ygg_eval_lower.declared.body.Body.{Body}
-use Rattle.ygg_eval_choices.specs.Bits.{bits_in}
+use Rattle.ygg_eval_fronts.specs.Bits.{bits_in}
 use Rattle.ygg_eval_fronts.specs.Belows.{Noted, cut_of, failing, fallen_at_end, noted_of, notes_below}
 use Rattle.ygg_eval_fronts.specs.Fronts.{Falls, Fronted}
 use Rattle.ygg_eval_fronts.specs.declared.below.BelowState.{BelowState}

@@ -35,9 +35,9 @@ use Rattle.ygg_direct_files.specs.ygg_direct.Direct.{Handled, Event, Reached, Ch
 use Rattle.ygg_direct_files.specs.ygg_direct.RunPlaces.{base_at, asked_in}
 use Rattle.ygg_direct_files.specs.ygg_direct_proofs_Mirror.{block_mirrors}
 use Rattle.ygg_direct_files.specs.ygg_direct_proofs_Order.{block_follows}
-use Rattle.ygg_eval_choices.specs.ygg_sym_below.Stops.{before_at, within_at, halt, further, first_stop}
-use Rattle.ygg_eval_choices.specs.ygg_fronts.Fronts.{handle_on, takes_on, cut_on, cut_takes_on, lose_on, lose_takes_on, stopped_picks}
-use Rattle.ygg_eval_choices.specs.ygg_fronts.Taking.{picks_of}
+use Rattle.ygg_eval_fronts.specs.ygg_sym_runs.Stops.{before_at, within_at, halt, further, first_stop}
+use Rattle.ygg_eval_fronts.specs.ygg_fronts.Fronts.{handle_on, takes_on, cut_on, cut_takes_on, lose_on, lose_takes_on, stopped_picks}
+use Rattle.ygg_eval_fronts.specs.ygg_fronts.Taking.{picks_of}
 use Rattle.ygg_eval_fronts.specs.Belows.{Cut, Noted, falls_there, falls_before, falls_by, first_of, notes_below, fallen_at_end}
 
 module _ (G : Below) (bits stops last : ℕ → Bool) where

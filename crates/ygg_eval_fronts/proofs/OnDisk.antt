@@ -51,11 +51,11 @@ use Rattle.ygg_direct_files.specs.ygg_type_progress.Questions.{question_fits}
 use Rattle.ygg_direct_files.specs.ygg_direct.Acts.{Taken, Did, Fell as Left}
 use Rattle.ygg_direct_files.specs.ygg_direct.DiskActs.{kind_calls, kind_falls, state_in, disk_does, disk_drops}
 use Rattle.ygg_direct_files.proofs.of_ygg_direct.DiskActed.{disk_acted}
-use Rattle.ygg_eval_choices.specs.ygg_fronts.Taking.{whole_picks, cut_picks}
+use Rattle.ygg_eval_fronts.specs.ygg_fronts.Taking.{whole_picks, cut_picks}
 use Rattle.ygg_direct_files.specs.ygg_eval_lower.Layers.{machine_at, signatures_at, variables_at}
 use Rattle.ygg_direct_files.specs.ygg_eval_lower.Lower.{Standing, Whole, Happened, Called, Fell, AfterWhole, IsCallable, Serves, ending_of}
-use Rattle.ygg_eval_spec.specs.ygg_eval_block.Ready.{IsPlace}
-use Rattle.ygg_eval_spec.specs.Kept.{Kept, Loses, named_in, spec_meaning, standing}
+use Rattle.ygg_eval.specs.ygg_eval_block.Ready.{IsPlace}
+use Rattle.ygg_eval.specs.Kept.{Kept, Loses, named_in, spec_meaning, standing}
 use Rattle.ygg_eval_fronts.specs.Steps.{Answered, FellWithin, FellBetween, one_pick, whole_answer}
 use Rattle.ygg_eval_fronts.proofs.Calls.{callable}
 

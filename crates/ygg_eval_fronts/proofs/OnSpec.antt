@@ -45,22 +45,22 @@ use Rattle.ygg_direct_files.specs.ygg_meaning.Machine.{Picks, based}
 use Rattle.ygg_direct_files.specs.ygg_meaning.Progress.{Answer, Call}
 use Rattle.ygg_direct_files.specs.ygg_meaning.Refines.{Below, OnDisk, OnSpec}
 use Rattle.ygg_direct_files.specs.ygg_meaning.Shapes.{values_fit}
-use Rattle.ygg_direct_files.specs.ygg_histories.Stack.{tables_of}
+use Rattle.ygg_direct_files.specs.ygg_meaning.Stack.{tables_of}
 use Rattle.ygg_direct_files.specs.ygg_type_progress.Questions.{question_fits}
 use Rattle.ygg_direct_files.specs.ygg_direct.Places.{Result}
-use Rattle.ygg_eval_choices.specs.ygg_sym_below_proofs_Chosen.{room, block_end}
-use Rattle.ygg_eval_choices.specs.ygg_sym_below_proofs_SpecFalls.{bits_after, crash_end, then_end, fall_end, drop_end}
-use Rattle.ygg_eval_choices.specs.ygg_sym_below_proofs_SpecMeans.{spec_ended}
-use Rattle.ygg_eval_choices.specs.ygg_fronts.Fronts.{handle_on, takes_on, cut_on, cut_takes_on, lose_on, lose_takes_on}
-use Rattle.ygg_eval_choices.specs.ygg_fronts.Taking.{block_takes, operation_takes, crash_takes, then_takes, fall_takes, drop_takes}
+use Rattle.ygg_eval_fronts.specs.ygg_sym_runs_proofs_Chosen.{room, block_end}
+use Rattle.ygg_eval_fronts.specs.ygg_sym_runs_proofs_SpecFalls.{bits_after, crash_end, then_end, fall_end, drop_end}
+use Rattle.ygg_eval_fronts.specs.ygg_sym_runs_proofs_SpecMeans.{spec_ended}
+use Rattle.ygg_eval_fronts.specs.ygg_fronts.Fronts.{handle_on, takes_on, cut_on, cut_takes_on, lose_on, lose_takes_on}
+use Rattle.ygg_eval_fronts.specs.ygg_fronts.Taking.{block_takes, operation_takes, crash_takes, then_takes, fall_takes, drop_takes}
 use Rattle.ygg_direct_files.specs.ygg_eval_lower.Bodies.{IsBlock, IsRunnable, arguments_at, arguments_in, block_in, kind_of, variables_in}
 use Rattle.ygg_direct_files.specs.ygg_eval_lower.Layers.{below_at, closed_at, signatures_at, variables_at}
 use Rattle.ygg_direct_files.specs.ygg_eval_lower.declared.body.Body.{Body}
 use Rattle.ygg_direct_files.specs.ygg_eval_lower.declared.body.Part.{Part}
 use Rattle.ygg_direct_files.specs.ygg_eval_lower.declared.body.Part.TheVariants as part
-use Rattle.ygg_eval_spec.specs.ygg_eval_block.Ready.{IsPlace}
-use Rattle.ygg_eval_spec.proofs.OnSpec.{AsksSpec, asks_spec, fits_at, layer_variables}
-use Rattle.ygg_eval_choices.specs.Chosen.{Chose}
+use Rattle.ygg_eval.specs.ygg_eval_block.Ready.{IsPlace}
+use Rattle.ygg_eval.proofs.OnSpec.{AsksSpec, asks_spec, fits_at, layer_variables}
+use Rattle.ygg_eval_fronts.specs.Chosen.{Chose}
 use Rattle.ygg_eval_fronts.specs.Steps.{Answered, CrashedOf, FellBetween, FellWithin, ThenCrashed}
 use Rattle.ygg_eval_fronts.proofs.Calls.{callable, number_is}
 

@@ -36,11 +36,11 @@ use Rattle.ygg_direct_files.specs.ygg_type.Typed.{operations_at, operation_place
 use Rattle.ygg_direct_files.specs.ygg_meaning.Environments.{Name}
 use Rattle.ygg_direct_files.specs.ygg_meaning.Layer.{operation_in}
 use Rattle.ygg_direct_files.specs.ygg_direct.Direct.{room_of}
-use Rattle.ygg_eval_choices.specs.ygg_sym_laws.Below.{space_on}
+use Rattle.ygg_eval_fronts.specs.ygg_sym_laws.Below.{space_on}
 use Rattle.ygg_direct_files.specs.ygg_eval_lower.Bodies.{IsBlock}
 use Rattle.ygg_direct_files.specs.ygg_eval_lower.Layers.{below_at}
 use Rattle.ygg_direct_files.specs.ygg_eval_lower.declared.body.Part.TheVariants as part
-use Rattle.ygg_eval_spec.proofs.OnSpec.{there}
+use Rattle.ygg_eval.proofs.OnSpec.{there}
 use Rattle.ygg_eval_fronts.proofs.Calls.{number_is}
 use Rattle.ygg_eval_fronts.proofs.OnSpec.{at_spec}
 

@@ -37,15 +37,15 @@ use Rattle.ygg_direct_files.specs.ygg_meaning.Obligations.{Halt}
 use Rattle.ygg_direct_files.specs.ygg_meaning.Progress.{Answer, Question}
 use Rattle.ygg_direct_files.specs.ygg_meaning.Refines.{Below}
 use Rattle.ygg_direct_files.specs.ygg_meaning.Shapes.{env_fits, values_fit}
-use Rattle.ygg_direct_files.specs.ygg_histories.Stack.{tables_of}
+use Rattle.ygg_direct_files.specs.ygg_meaning.Stack.{tables_of}
 use Rattle.ygg_direct_files.proofs.of_ygg_type_progress.Derived.{derivable_derived}
 use Rattle.ygg_direct_files.specs.Files.{IsStateBelow}
-use Rattle.ygg_eval_choices.specs.ygg_sym_below.Stops.{before_at, within_at, halt}
-use Rattle.ygg_eval_choices.specs.ygg_fronts.Fronts.{handle_on, takes_on, cut_on, cut_takes_on, lose_on, lose_takes_on}
+use Rattle.ygg_eval_fronts.specs.ygg_sym_runs.Stops.{before_at, within_at, halt}
+use Rattle.ygg_eval_fronts.specs.ygg_fronts.Fronts.{handle_on, takes_on, cut_on, cut_takes_on, lose_on, lose_takes_on}
 use Rattle.ygg_direct_files.specs.ygg_eval_lower.Layers.{below_at, variables_at}
 use Rattle.ygg_direct_files.specs.ygg_eval_lower_proofs_Blocks.{bind_fits, blocks_kept}
-use Rattle.ygg_eval_spec.proofs.OnDisk.{variables_zero}
-use Rattle.ygg_eval_spec.proofs.OnSpec.{layer_fits, there}
+use Rattle.ygg_eval.proofs.OnDisk.{variables_zero}
+use Rattle.ygg_eval.proofs.OnSpec.{layer_fits, there}
 use Rattle.ygg_eval_fronts.specs.Belows.{
   Cut,
   Noted,

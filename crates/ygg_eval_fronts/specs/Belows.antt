@@ -14,13 +14,13 @@ use Rattle.ygg_direct_files.specs.ygg_meaning.Shapes.{values_fit}
 use Rattle.ygg_direct_files.specs.ygg_type_progress.Kinds.{layer_keeps}
 use Rattle.ygg_direct_files.specs.ygg_direct.Direct.{Handled}
 use Rattle.ygg_direct_files.specs.Files.{IsStateBelow}
-use Rattle.ygg_eval_choices.specs.ygg_sym_below.Stops.{before_at, within_at, halt}
-use Rattle.ygg_eval_choices.specs.ygg_sym_laws.Below.{space_on}
-use Rattle.ygg_eval_choices.specs.ygg_fronts.Fronts.{handle_on, takes_on, cut_on, cut_takes_on, lose_on, lose_takes_on}
+use Rattle.ygg_eval_fronts.specs.ygg_sym_runs.Stops.{before_at, within_at, halt}
+use Rattle.ygg_eval_fronts.specs.ygg_sym_laws.Below.{space_on}
+use Rattle.ygg_eval_fronts.specs.ygg_fronts.Fronts.{handle_on, takes_on, cut_on, cut_takes_on, lose_on, lose_takes_on}
 use Rattle.ygg_direct_files.specs.ygg_eval_lower.Layers.{below_at, signatures_at, variables_at}
 use Rattle.ygg_direct_files.specs.ygg_eval_lower.declared.body.Stop.{Stop}
-use Rattle.ygg_eval_choices.specs.ygg_eval_places.Machines.{PlaceMeaning}
-use Rattle.ygg_eval_choices.specs.Bits.{bits_in}
+use Rattle.ygg_eval_fronts.specs.ygg_eval_places.Machines.{PlaceMeaning}
+use Rattle.ygg_eval_fronts.specs.Bits.{bits_in}
 use Rattle.ygg_eval_fronts.specs.declared.below.BelowPlaces.{BelowPlaces}
 use Rattle.ygg_eval_fronts.specs.declared.below.BelowState.{BelowState}
 use Rattle.ygg_eval_fronts.specs.declared.below.Fallen.{Fallen}

@@ -10,11 +10,11 @@ use Rattle.ygg_direct_files.specs.ygg_meaning.Machine.{on, based}
 use Rattle.ygg_direct_files.specs.ygg_meaning.Obligations.{Halt}
 use Rattle.ygg_direct_files.specs.ygg_meaning.Refines.{Below}
 use Rattle.ygg_direct_files.specs.ygg_meaning.Shapes.{values_fit}
-use Rattle.ygg_eval_choices.specs.ygg_fronts.Fronts.{answer_by_place, state_by_place, run_picks, run_stop, left_at, fall_picks}
+use Rattle.ygg_eval_fronts.specs.ygg_fronts.Fronts.{answer_by_place, state_by_place, run_picks, run_stop, left_at, fall_picks}
 use Rattle.ygg_direct_files.specs.ygg_eval_lower.Bodies.{IsBlock, arguments_in, variables_in}
 use Rattle.ygg_direct_files.specs.ygg_eval_lower.Layers.{below_at, closed_at, variables_at}
 use Rattle.ygg_direct_files.specs.ygg_eval_lower.declared.body.Body.{Body}
-use Rattle.ygg_eval_choices.specs.Bits.{bits_in}
+use Rattle.ygg_eval_fronts.specs.Bits.{bits_in}
 use Rattle.ygg_eval_fronts.specs.Belows.{halt_of}
 use Rattle.ygg_eval_fronts.specs.declared.below.Fallen.{Fallen}
 use Rattle.ygg_eval_fronts.specs.declared.below.PlacedBits.{PlacedBits}

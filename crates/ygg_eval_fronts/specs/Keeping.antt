@@ -22,15 +22,15 @@ use Rattle.ygg_direct_files.specs.ygg_direct_proofs_SpecServes.{spec_serves}
 use Rattle.ygg_direct_files.specs.ygg_direct_proofs_Made.{Serves}
 use Rattle.ygg_direct_files.specs.Files.{IsStateBelow}
 use Rattle.ygg_direct_files.proofs.InFile.{disk_fine, layer_sees, layer_answers}
-use Rattle.ygg_eval_choices.specs.ygg_fronts.Fronts.{handle_on, takes_on}
-use Rattle.ygg_eval_choices.specs.ygg_fronts.Taking.{Takes}
-use Rattle.ygg_eval_choices.specs.ygg_fronts_proofs_Acting.{Named}
-use Rattle.ygg_eval_choices.specs.ygg_fronts_proofs_Disk.{disk_named}
-use Rattle.ygg_eval_choices.specs.ygg_fronts_proofs_Spec.{spec_named}
+use Rattle.ygg_eval_fronts.specs.ygg_fronts.Fronts.{handle_on, takes_on}
+use Rattle.ygg_eval_fronts.specs.ygg_fronts.Taking.{Takes}
+use Rattle.ygg_eval_fronts.specs.ygg_fronts_proofs_Acting.{Named}
+use Rattle.ygg_eval_fronts.specs.ygg_fronts_proofs_Disk.{disk_named}
+use Rattle.ygg_eval_fronts.specs.ygg_fronts_proofs_Spec.{spec_named}
 use Rattle.ygg_direct_files.specs.ygg_eval_lower.Layers.{below_at, closed_at, signatures_at, signatures_of}
-use Rattle.ygg_eval_choices.specs.ygg_eval_places.Machines.{IsPlaces}
-use Rattle.ygg_eval_choices.specs.Bits.{bits_in}
-use Rattle.ygg_eval_spec.proofs.OnSpec.{there}
+use Rattle.ygg_eval_fronts.specs.ygg_eval_places.Machines.{IsPlaces}
+use Rattle.ygg_eval_fronts.specs.Bits.{bits_in}
+use Rattle.ygg_eval.proofs.OnSpec.{there}
 use Rattle.ygg_eval_fronts.specs.Belows.{Stands, below_meaning}
 use Rattle.ygg_eval_fronts.specs.declared.below.BelowPlaces.{BelowPlaces}
 

@@ -12,9 +12,9 @@ use Rattle.ygg_direct_files.specs.ygg_meaning.Layer.{ClosedLayer}
 use Rattle.ygg_direct_files.specs.ygg_meaning.Machine.{Picks, State, based}
 use Rattle.ygg_direct_files.specs.ygg_meaning.Progress.{Answer, Question}
 use Rattle.ygg_direct_files.specs.ygg_meaning.Shapes.{values_fit}
-use Rattle.ygg_eval_choices.specs.ygg_fronts.Fronts.{handle_on, takes_on, cut_on, cut_takes_on, lose_on, lose_takes_on}
-use Rattle.ygg_eval_choices.specs.ygg_fronts.Taking.{crash_takes, then_takes}
-use Rattle.ygg_eval_choices.specs.ygg_sym_below_proofs_SpecFalls.{crash_end, then_end}
+use Rattle.ygg_eval_fronts.specs.ygg_fronts.Fronts.{handle_on, takes_on, cut_on, cut_takes_on, lose_on, lose_takes_on}
+use Rattle.ygg_eval_fronts.specs.ygg_fronts.Taking.{crash_takes, then_takes}
+use Rattle.ygg_eval_fronts.specs.ygg_sym_runs_proofs_SpecFalls.{crash_end, then_end}
 use Rattle.ygg_direct_files.specs.ygg_eval_lower.Bodies.{arguments_in}
 use Rattle.ygg_direct_files.specs.ygg_eval_lower.Layers.{below_at, closed_at, variables_at}
 use Rattle.ygg_direct_files.specs.ygg_eval_lower.declared.body.Body.{Body}

@@ -1,7 +1,7 @@
 //! What a layer is specified over, as a machine that answers by place and notes what it takes.
 
 ghost use Rattle.std.specs.Prelude.{◌≡◌, true, false, IfOk, OnOk, Some};
-ghost use Rattle.ygg_eval_choices.specs.Bits.{bits_in};
+ghost use Rattle.ygg_eval_fronts.specs.Bits.{bits_in};
 ghost use Rattle.ygg_eval_fronts.specs.Belows.{
   below_meaning,
   failing,
@@ -15,16 +15,18 @@ ghost use Rattle.ygg_eval_fronts.specs.Belows.{
 };
 ghost use Rattle.ygg_eval_fronts.specs.Steps.{Answered};
 ghost use Rattle.ygg_direct_files.specs.ygg_eval_lower.Layers.{below_at};
-ghost use Rattle.ygg_eval_choices.specs.ygg_eval_places.Machines.{CanAnswer};
-ghost use Rattle.ygg_eval_choices.specs.ygg_fronts.Fronts.{cut_on, cut_takes_on, lose_on, lose_takes_on};
+ghost use Rattle.ygg_eval_fronts.specs.ygg_eval_places.Machines.{CanAnswer};
+ghost use Rattle.ygg_eval_fronts.specs.ygg_fronts.Fronts.{cut_on, cut_takes_on, lose_on, lose_takes_on};
 ghost use Rattle.ygg_direct_files.specs.ygg_meaning.Progress.{Call};
 
+use crate::bits::Choices;
+use crate::run::choices_room;
 use crate::stops::{stops_before, stops_within};
 use crate::{disk, losing, spec};
 use std::alloc::Global;
 use ygg_base::{Bits, Text};
 use ygg_direct_files::{Body, Part, Stop, Typed};
-use ygg_eval_choices::{Choices, Places, Question, add, choices_room};
+use ygg_eval_places::{Places, Question, add};
 use ygg_list::NoMemory;
 use ygg_value::{Value, Values};
 

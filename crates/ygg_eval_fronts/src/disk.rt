@@ -1,7 +1,7 @@
 //! The disk, whose calls take the bits of their places.
 
 ghost use Rattle.std.specs.Prelude.{◌≡◌, ℕ, ◌++◌, Bool, List, [], ◌∷◌, nat_lt, if◌then◌else◌, IfOk, OnOk, IsTrue};
-ghost use Rattle.ygg_eval_choices.specs.Bits.{bits_in};
+ghost use Rattle.ygg_eval_fronts.specs.Bits.{bits_in};
 ghost use Rattle.ygg_eval_fronts.specs.Steps.{Answered, FellBetween, FellWithin, one_pick, whole_answer};
 ghost use Rattle.ygg_direct_files.specs.ygg_eval_lower.Layers.{signatures_at, variables_at};
 ghost use Rattle.ygg_direct_files.specs.ygg_meaning.Progress.{Call};
@@ -9,12 +9,12 @@ ghost use Rattle.ygg_direct_files.specs.ygg_meaning.Shapes.{values_fit};
 ghost use Rattle.ygg_syntax.specs.declared.grammar.BlockKind.TheVariants.{Impl};
 ghost use Rattle.ygg_direct_files.specs.ygg_type_progress.Questions.{question_fits};
 
+use crate::bits::Choices;
 use std::alloc::Global;
 use std::mem;
 use ygg_base::{Bits, Text};
 use ygg_direct_files::{Lower, Picks, Power, Turn, Typed};
-use ygg_eval_choices::Choices;
-use ygg_eval_spec::{place_of, spec_lower};
+use ygg_eval::{place_of, spec_lower};
 use ygg_list::NoMemory;
 use ygg_value::{Value, Values};
 

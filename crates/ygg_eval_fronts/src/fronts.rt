@@ -6,7 +6,7 @@ ghost use Rattle.ygg_eval_fronts.specs.Fronts.{BodyFronted};
 ghost use Rattle.ygg_direct_files.specs.ygg_eval_lower.Bodies.{IsBlock, IsRunnable, kind_of};
 ghost use Rattle.ygg_direct_files.specs.ygg_eval_lower.Layers.{below_at, variables_at};
 ghost use Rattle.ygg_direct_files.specs.ygg_meaning.Shapes.{values_fit};
-ghost use Rattle.ygg_eval_choices.specs.ygg_sym_laws.Below.{places_on};
+ghost use Rattle.ygg_eval_fronts.specs.ygg_sym_laws.Below.{places_on};
 ghost use Rattle.ygg_syntax.specs.declared.grammar.BlockKind.TheVariants as kind;
 ghost use Rattle.ygg_syntax.specs.declared.tree.Block.{Block};
 ghost use Rattle.ygg_syntax.specs.declared.tree.Layer.{Layer};
@@ -15,7 +15,7 @@ use crate::below::{BelowPlaces, BelowState, Fallen, PlacedBits};
 use std::alloc::Global;
 use ygg_base::Bits;
 use ygg_direct_files::{Body, Typed, block_of};
-use ygg_eval_choices::{room, run_places};
+use ygg_eval_places::{room, run_places};
 use ygg_list::NoMemory;
 use ygg_value::{Value, Values};
 

@@ -2,13 +2,18 @@
 #![tactic(auto)]
 
 mod below;
+mod bits;
+mod choices;
 mod disk;
 mod fronts;
 mod losing;
+mod run;
 mod spec;
 mod stops;
 
 pub use below::{BelowState, Fallen, PlacedBits};
+pub use bits::{Choices, bit_at};
 pub use fronts::{Front, run_fronts};
 pub use losing::{Lost, lose_fronts};
-pub use ygg_eval_choices::{Bank, Choices, Env};
+pub use run::{choices_room, run_choices};
+pub use ygg_fronts::{Bank, Env};

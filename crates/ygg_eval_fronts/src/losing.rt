@@ -1,7 +1,7 @@
 //! Power failure on the machine below, with a bit for each place.
 
 ghost use Rattle.std.specs.Prelude.{◌≡◌, ◌≤◌, [], IfOk, IsTrue, length};
-ghost use Rattle.ygg_eval_choices.specs.Bits.{bits_in};
+ghost use Rattle.ygg_eval_fronts.specs.Bits.{bits_in};
 ghost use Rattle.ygg_eval_fronts.specs.Steps.{FellBetween, FellWithin};
 ghost use Rattle.ygg_direct_files.specs.ygg_eval_lower.Layers.{signatures_at, variables_at};
 ghost use Rattle.ygg_direct_files.specs.ygg_meaning.Progress.{Call};
@@ -9,11 +9,11 @@ ghost use Rattle.ygg_direct_files.specs.ygg_meaning.Shapes.{values_fit};
 ghost use Rattle.ygg_syntax.specs.declared.grammar.BlockKind.TheVariants.{Impl};
 ghost use Rattle.ygg_direct_files.specs.ygg_type_progress.Questions.{question_fits};
 
+use crate::bits::Choices;
 use crate::{disk, spec};
 use std::alloc::Global;
 use ygg_base::{Bits, Text};
 use ygg_direct_files::Typed;
-use ygg_eval_choices::Choices;
 use ygg_list::NoMemory;
 use ygg_value::Values;
 

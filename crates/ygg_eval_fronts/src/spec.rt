@@ -1,7 +1,7 @@
 //! The specification of a layer, whose blocks take the bits of their places.
 
 ghost use Rattle.std.specs.Prelude.{◌≡◌, ◌<◌, ◌≤◌, suc, is_some, slice_get, IfOk, OnOk, IsTrue, Some, length};
-ghost use Rattle.ygg_eval_choices.specs.Bits.{bits_in};
+ghost use Rattle.ygg_eval_fronts.specs.Bits.{bits_in};
 ghost use Rattle.ygg_eval_fronts.specs.Steps.{Answered, Crashed, FellBetween, FellWithin, ThenCrashed};
 ghost use Rattle.ygg_direct_files.specs.ygg_eval_lower.Bodies.{IsBlock, IsRunnable, block_in, kind_of};
 ghost use Rattle.ygg_direct_files.specs.ygg_eval_lower.Layers.{signatures_at, variables_at};
@@ -13,11 +13,12 @@ ghost use Rattle.ygg_syntax.specs.declared.tree.Block.{Block};
 ghost use Rattle.ygg_syntax.specs.declared.tree.Layer.{Layer};
 ghost use Rattle.ygg_direct_files.specs.ygg_type_progress.Questions.{question_fits};
 
+use crate::bits::Choices;
+use crate::run::{choices_room, run_choices};
 use std::alloc::Global;
 use ygg_base::{Bits, Text};
 use ygg_direct_files::{Body, Part, Typed, block_of};
-use ygg_eval_choices::{Choices, choices_room, run_choices};
-use ygg_eval_spec::place_of;
+use ygg_eval::place_of;
 use ygg_list::NoMemory;
 use ygg_value::{Value, Values};
 

@@ -1,10 +1,11 @@
 //! Stops by place.
 
 ghost use Rattle.std.specs.Prelude.{◌≡◌, IfOk};
-ghost use Rattle.ygg_eval_choices.specs.Bits.{bits_in};
-ghost use Rattle.ygg_eval_choices.specs.ygg_sym_below.Stops.{before_at, within_at};
+ghost use Rattle.ygg_eval_fronts.specs.Bits.{bits_in};
+ghost use Rattle.ygg_eval_fronts.specs.ygg_sym_runs.Stops.{before_at, within_at};
 
-use ygg_eval_choices::{Choices, add};
+use crate::bits::Choices;
+use ygg_eval_places::add;
 use ygg_list::NoMemory;
 
 /// Whether the stop before the question at a place is set. Its only error is out of memory, where the places are too many.

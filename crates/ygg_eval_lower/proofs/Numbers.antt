@@ -29,7 +29,7 @@ use Rattle.ygg_syntax.specs.declared.tree.Layer.{Layer}
 use Rattle.ygg_type_progress.specs.ygg_meaning.Meaning.{Functions, functions_of}
 use Rattle.ygg_type_progress.specs.ygg_meaning.Layer.{ClosedLayer}
 use Rattle.ygg_type_progress.specs.ygg_meaning.Refines.{OnDisk, OnSpec}
-use Rattle.ygg_type_progress.specs.ygg_histories.Stack.{Layers, layers_on, tables_of}
+use Rattle.ygg_type_progress.specs.ygg_meaning.Stack.{Layers, layers_on, tables_of}
 use Rattle.ygg_eval_lower.specs.Layers.{variables_from, closed_at}
 use Rattle.ygg_eval_lower.specs.Numbers.{IsAt, ListedIsNumbered, NumberedIsListed, BelowIsNumbered}
 

@@ -14,7 +14,7 @@ use Rattle.ygg_type_progress.specs.ygg_meaning.Meaning.{functions_of}
 use Rattle.ygg_type_progress.specs.ygg_meaning.Machine.{Machine}
 use Rattle.ygg_type_progress.specs.ygg_meaning.Layer.{ClosedLayer}
 use Rattle.ygg_type_progress.specs.ygg_meaning.Refines.{Below, OnDisk, OnSpec, machine_below}
-use Rattle.ygg_type_progress.specs.ygg_histories.Stack.{tables_of}
+use Rattle.ygg_type_progress.specs.ygg_meaning.Stack.{tables_of}
 
 -- the variables of the machine with this number, where those of the first are these: the state variables of the layer
 abbrev pub variables_from : List Declared → List Layer → ℕ → List Declared

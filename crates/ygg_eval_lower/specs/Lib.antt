@@ -1,7 +1,5 @@
-pub use Rattle.ygg_type_progress.specs.ygg_histories_proofs_Mirrored
-pub use Rattle.ygg_type_progress.specs.ygg_histories
+pub use Rattle.ygg_type_progress.specs.ygg_meaning_proofs_Mirrored
 pub use Rattle.ygg_type_progress.specs.ygg_meaning
-pub use Rattle.ygg_type_progress.specs.ygg_symbols
 pub use Rattle.ygg_type.proofs.Least as ygg_type_proofs_Least
 pub use Rattle.ygg_type.specs as ygg_type
 pub use Rattle.ygg_type_progress.proofs.Asking as ygg_type_progress_proofs_Asking

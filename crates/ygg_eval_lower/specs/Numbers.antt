@@ -3,7 +3,7 @@ use Rattle.std.specs.Prelude.{◌≡◌, ℕ, length, ◌∷◌, ◌++◌, slice
 use Rattle.ygg_syntax.specs.declared.tree.Layer.{Layer}
 use Rattle.ygg_syntax.specs.declared.tree.File.{File}
 use Rattle.ygg_type_progress.specs.ygg_meaning.Layer.{ClosedLayer}
-use Rattle.ygg_type_progress.specs.ygg_histories.Stack.{Layers, layers_of, below_of}
+use Rattle.ygg_type_progress.specs.ygg_meaning.Stack.{Layers, layers_of, below_of}
 use Rattle.ygg_eval_lower.specs.Layers.{closed_at, below_at}
 
 -- it is the layer of the file with so many layers below it

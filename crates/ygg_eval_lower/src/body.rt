@@ -1,7 +1,7 @@
 //! The blocks of a layer file, and where a run of one stops.
 
 /// Which block of a layer.
-#[derive(Clone, Copy, PartialEq, Eq)]
+#[derive(Clone, Copy)]
 pub enum Part {
     /// The block that begins the specification's state.
     Start,
@@ -23,7 +23,7 @@ pub enum Part {
 
 /// A block of a file: the layer's place from the bottom one on, and the place of the operation or background step in the
 /// layer's list, both from 0. Where the part is the only one of its layer the number counts for nothing.
-#[derive(Clone, Copy, PartialEq, Eq)]
+#[derive(Clone, Copy)]
 pub struct Body {
     pub layer: u32,
     pub part: Part,
@@ -32,7 +32,7 @@ pub struct Body {
 
 /// Where a run stops: within the call with so many whole calls before it, or when so many calls are whole and no further one
 /// has begun.
-#[derive(Clone, Copy, PartialEq, Eq)]
+#[derive(Clone, Copy)]
 pub struct Stop {
     pub within: bool,
     pub event: u64,

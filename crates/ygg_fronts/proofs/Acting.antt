@@ -11,7 +11,7 @@ use Rattle.ygg_sym_laws.specs.ygg_meaning.Progress.{Question, Choice, Call, answ
 use Rattle.ygg_sym_laws.specs.ygg_direct.Acts.{Acts, Did, Fell, Standing, serve, after_did, lost_at, cut_at, stopped_in, runs, falls_in}
 use Rattle.ygg_sym_laws.specs.ygg_direct.Direct.{Handled, Event, Reached, direct_run}
 use Rattle.ygg_sym_laws.specs.ygg_direct.RunPlaces.{base_at, asked_in}
-use Rattle.ygg_sym_laws.specs.ygg_sym_below_proofs_Whole.{take_less}
+use Rattle.ygg_sym_laws.specs.ygg_sym_runs_proofs_WholeRuns.{take_less}
 use Rattle.ygg_fronts.specs.Taking.{Takes, picks_of}
 use Rattle.ygg_fronts.specs.Fronts.{stopped_picks}
 use Rattle.ygg_fronts.proofs.Fronting.{fronted, stopped}

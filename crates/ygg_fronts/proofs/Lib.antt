@@ -3,3 +3,9 @@ pub mod Acting
 pub mod Disk
 pub mod Spec
 pub mod NamedRuns
+pub mod Machines
+pub mod Beginning
+pub mod Wholes
+pub mod Falls
+pub mod Others
+pub mod AnyLayer

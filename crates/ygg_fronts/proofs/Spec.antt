@@ -14,11 +14,11 @@ use Rattle.ygg_sym_laws.specs.ygg_direct.Direct.{direct_run}
 use Rattle.ygg_sym_laws.specs.ygg_direct.Places.{Held, Result, from_front, choosing}
 use Rattle.ygg_sym_laws.specs.ygg_direct.SpecActs.{Ran, block_ran, then_crash, fall_ran, did_so, fell_so, spec_does, spec_drops, spec_acts}
 use Rattle.ygg_sym_laws.specs.ygg_direct_proofs_Choosing.{one}
-use Rattle.ygg_sym_laws.specs.ygg_sym_below.Specs.{Nothing}
-use Rattle.ygg_sym_laws.specs.ygg_sym_below_proofs_Chosen.{room, block_end}
-use Rattle.ygg_sym_laws.specs.ygg_sym_below_proofs_SpecFalls.{bits_after, crash_end, then_end, fall_end, drop_end}
-use Rattle.ygg_sym_laws.specs.ygg_sym_below_proofs_SpecMeans.{spec_ended}
-use Rattle.ygg_sym_laws.specs.ygg_sym_below_proofs_Specs.{choose_at}
+use Rattle.ygg_sym_laws.specs.ygg_sym_runs.Specs.{Nothing}
+use Rattle.ygg_sym_laws.specs.ygg_sym_runs_proofs_Chosen.{room, block_end}
+use Rattle.ygg_sym_laws.specs.ygg_sym_runs_proofs_SpecFalls.{bits_after, crash_end, then_end, fall_end, drop_end}
+use Rattle.ygg_sym_laws.specs.ygg_sym_runs_proofs_SpecMeans.{spec_ended}
+use Rattle.ygg_sym_laws.specs.ygg_sym_runs_proofs_Specs.{choose_at}
 use Rattle.ygg_fronts.specs.Fronts.{handle_on, takes_on, cut_on, lose_on, cut_takes_on, lose_takes_on}
 use Rattle.ygg_fronts.specs.Taking.{one_each, block_takes, operation_takes, crash_takes, then_takes, fall_takes, drop_takes}
 use Rattle.ygg_fronts.proofs.Acting.{falls_at, Named, NamedFalls}

@@ -13,10 +13,10 @@ use Rattle.ygg_sym_laws.specs.ygg_meaning.Spec.{Outcome, start_outcome}
 use Rattle.ygg_sym_laws.specs.ygg_direct.Direct.{Handled, Event, Reached, direct_run}
 use Rattle.ygg_sym_laws.specs.ygg_direct.DiskActs.{disk_acts}
 use Rattle.ygg_sym_laws.specs.ygg_direct.RunPlaces.{base_at, asked_in, cut_by}
-use Rattle.ygg_sym_laws.specs.ygg_sym_below.Stops.{first_stop}
-use Rattle.ygg_sym_laws.specs.ygg_sym_below_proofs_Disks.{disk_at}
-use Rattle.ygg_sym_laws.specs.ygg_sym_below_proofs_SpecFalls.{cut_end, lose_end}
-use Rattle.ygg_sym_laws.specs.ygg_sym_below_proofs_SpecMeans.{spec_at}
+use Rattle.ygg_sym_laws.specs.ygg_sym_runs.Stops.{first_stop}
+use Rattle.ygg_sym_laws.specs.ygg_sym_runs_proofs_Disks.{disk_at}
+use Rattle.ygg_sym_laws.specs.ygg_sym_runs_proofs_SpecFalls.{cut_end, lose_end}
+use Rattle.ygg_sym_laws.specs.ygg_sym_runs_proofs_SpecMeans.{spec_at}
 use Rattle.ygg_sym_laws.specs.Below.{space_on, places_on}
 use Rattle.ygg_fronts.specs.Taking.{Takes, picks_of, disk_takes, disk_cut_takes, spec_takes, crash_takes, spec_cut_takes}
 

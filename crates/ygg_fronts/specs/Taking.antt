@@ -13,9 +13,9 @@ use Rattle.ygg_sym_laws.specs.ygg_meaning.Layer.{ClosedLayer, operation_of}
 use Rattle.ygg_sym_laws.specs.ygg_meaning.Machine.{Picks, State}
 use Rattle.ygg_sym_laws.specs.ygg_meaning.Progress.{Question, Choice, Call}
 use Rattle.ygg_sym_laws.specs.ygg_direct.Direct.{Event}
-use Rattle.ygg_sym_laws.specs.ygg_sym_below.Specs.{Nothing}
-use Rattle.ygg_sym_laws.specs.ygg_sym_below_proofs_Chosen.{room, block_end, block_run_at}
-use Rattle.ygg_sym_laws.specs.ygg_sym_below_proofs_SpecFalls.{bits_after}
+use Rattle.ygg_sym_laws.specs.ygg_sym_runs.Specs.{Nothing}
+use Rattle.ygg_sym_laws.specs.ygg_sym_runs_proofs_Chosen.{room, block_end, block_run_at}
+use Rattle.ygg_sym_laws.specs.ygg_sym_runs_proofs_SpecFalls.{bits_after}
 
 -- the picks that a question at a place takes in a state
 abbrev pub Takes : Type 0 → Type 0

@@ -2,5 +2,6 @@
 #![tactic(auto)]
 
 pub mod law;
+pub mod sym_law;
 
 pub use ygg_sym_laws::{Bank, Env};

@@ -1,0 +1,17 @@
+pub mod Lists
+pub mod Truths
+pub mod Following
+pub mod Steps
+pub mod Numbers
+pub mod Joints
+pub mod Sums
+pub mod Compares
+pub mod Products
+pub mod Shifts
+pub mod Operations
+pub mod Reached
+pub mod NodeGates
+pub mod Shapes
+pub mod Meant
+pub mod Given
+pub mod Whole

@@ -3,3 +3,5 @@ pub mod Clauses
 pub mod Rows
 pub mod Sources
 pub mod Groups
+pub mod Laws
+pub mod Reaching

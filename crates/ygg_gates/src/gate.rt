@@ -6,7 +6,7 @@ use ygg_cnf::Lit;
 use ygg_list::{Duplicate, NoMemory};
 
 /// What gives a variable its value. The k-th gate of a list, counted from 0, is that of the variable k + 2.
-#[derive(Clone, Copy, PartialEq, Eq)]
+#[derive(Clone, Copy)]
 pub enum Gate {
     /// Nothing: either value will do.
     Free,
@@ -19,7 +19,7 @@ pub enum Gate {
 }
 
 /// What joins two bits to one.
-#[derive(Clone, Copy, PartialEq, Eq)]
+#[derive(Clone, Copy)]
 pub enum Joint {
     /// True where both are.
     And,
@@ -32,7 +32,7 @@ pub enum Joint {
 }
 
 /// Where bits are moved.
-#[derive(Clone, Copy, PartialEq, Eq)]
+#[derive(Clone, Copy)]
 pub enum Way {
     /// Towards the high bits.
     Up,
@@ -41,7 +41,7 @@ pub enum Way {
 }
 
 /// A bit of a sum, and the carry to the next bit.
-#[derive(Clone, Copy, PartialEq, Eq)]
+#[derive(Clone, Copy)]
 pub struct Carried {
     pub bit: Lit,
     pub carry: Lit,

@@ -2,5 +2,7 @@
 #![tactic(auto)]
 
 mod gate;
+mod law;
 
 pub use gate::{Carried, Gate, InputVariables, Joint, Way};
+pub use law::{clauses_mean_terms, groups_are_of_reached_nodes};

@@ -1,1 +1,5 @@
 pub mod Lines
+pub mod Steps
+pub mod Spots
+pub mod Reading
+pub mod Numbers

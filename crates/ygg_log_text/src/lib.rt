@@ -1,4 +1,5 @@
-//! How literals, clauses and steps of logs are written. Each call adds to the end of a text, so that a long log need not stand in one text.
+//! How literals, clauses and steps of logs are written and read. Each call that writes adds to the end of a text, so that a long log need not stand in
+//! one text; a step is read byte by byte, and the numbers of its chain in one loop.
 //!
 //! ```text
 //! c 1 -2 0 3 4 0
@@ -8,5 +9,9 @@
 #![tactic(auto)]
 
 mod lines;
+mod numbers;
+mod reader;
+mod spot;
 
 pub use lines::{put_clause, put_literals, put_number, put_step};
+pub use reader::{StepHeard, StepReader};

@@ -9,13 +9,13 @@ use Rattle.ygg_eval.specs.ygg_disk.Ground.{Meaning, TellsCall, TellsFall, disk_l
 use Rattle.ygg_eval.specs.ygg_meaning.Environments.{Env}
 use Rattle.ygg_eval.specs.ygg_meaning.Machine.{State, Machine}
 use Rattle.ygg_eval.specs.ygg_meaning.DiskMachine.{machine_on, disk_store, tables_in, zeros_on}
-use Rattle.ygg_eval.specs.ygg_histories.Stack.{Stacked, BottomOf, layers_of}
-use Rattle.ygg_eval.specs.ygg_histories.Mirror.{SameOn, IsJoined, FormattedIf, Mirrors}
-use Rattle.ygg_eval.specs.ygg_histories.StepLaws.{Same}
-use Rattle.ygg_eval.specs.ygg_histories.Noted.{Note, noting, disk_in, NotedDisk}
-use Rattle.ygg_eval.specs.ygg_histories.Grounds.{ground_store, TellsBase, TellsZeros, ArePicks, OnGround}
-use Rattle.ygg_eval.specs.ygg_histories_proofs_Mirrored.{stacked_mirrors}
-use Rattle.ygg_eval.proofs.of_ygg_histories.Stores.{StoreMirrors, machine_mirrors, told_steps}
+use Rattle.ygg_eval.specs.ygg_meaning.Stack.{Stacked, BottomOf, layers_of}
+use Rattle.ygg_eval.specs.ygg_meaning.Mirror.{SameOn, IsJoined, FormattedIf, Mirrors}
+use Rattle.ygg_eval.specs.ygg_meaning.StepLaws.{Same}
+use Rattle.ygg_eval.specs.ygg_meaning.Noted.{Note, noting, disk_in, NotedDisk}
+use Rattle.ygg_eval.specs.ygg_meaning.Grounds.{ground_store, TellsBase, TellsZeros, ArePicks, OnGround}
+use Rattle.ygg_eval.specs.ygg_meaning_proofs_Mirrored.{stacked_mirrors}
+use Rattle.ygg_eval.proofs.of_ygg_meaning.Stores.{StoreMirrors, machine_mirrors, told_steps}
 use Rattle.ygg_eval.specs.ygg_eval_lower.Lower.{PowerLoss}
 use Rattle.ygg_machine.specs.Bottoms.{bottom_on}
 use Rattle.ygg_machine.specs.Told.{StacksAreListed, StacksTell, SameNotes, StacksNote}

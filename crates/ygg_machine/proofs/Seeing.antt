@@ -8,8 +8,8 @@ use Rattle.ygg_eval.specs.ygg_disk.declared.power.Power.{Power}
 use Rattle.ygg_eval.specs.ygg_meaning.Environments.{Name}
 use Rattle.ygg_eval.specs.ygg_meaning.Progress.{Answer}
 use Rattle.ygg_eval.specs.ygg_meaning.Machine.{State, TickName, Machine}
-use Rattle.ygg_eval.specs.ygg_histories.Noted.{Note}
-use Rattle.ygg_eval.specs.ygg_histories.Mirror.{SameOn, Mirrors}
+use Rattle.ygg_eval.specs.ygg_meaning.Noted.{Note}
+use Rattle.ygg_eval.specs.ygg_meaning.Mirror.{SameOn, Mirrors}
 use Rattle.ygg_eval.specs.ygg_eval_lower.Layers.{signatures_at}
 use Rattle.ygg_eval.specs.ygg_eval_lower.Lower.{Standing, Meaning, Ending, Whole, Down, Failed, Starved, Cause, PowerLoss, GivenUp, AfterWhole, Serves}
 use Rattle.ygg_machine.specs.Leaves.{LeaveBy}

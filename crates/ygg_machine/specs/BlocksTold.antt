@@ -11,8 +11,8 @@ use Rattle.ygg_eval.specs.ygg_meaning.Shapes.{values_fit}
 use Rattle.ygg_eval.specs.ygg_meaning.Progress.{Answer}
 use Rattle.ygg_eval.specs.ygg_meaning.Machine.{State, Machine}
 use Rattle.ygg_eval.specs.ygg_meaning.Layer.{ClosedLayer, Layered, BlockRuns, BlockFalls}
-use Rattle.ygg_eval.specs.ygg_histories.Mirror.{IsJoined, FormattedIf, Mirrors}
-use Rattle.ygg_eval.specs.ygg_histories_proofs_Mirrored.{layered_mirrors, formatted_mirrors}
+use Rattle.ygg_eval.specs.ygg_meaning.Mirror.{IsJoined, FormattedIf, Mirrors}
+use Rattle.ygg_eval.specs.ygg_meaning_proofs_Mirrored.{layered_mirrors, formatted_mirrors}
 use Rattle.ygg_machine.specs.FloorStacks.{Told, Retold, is_told}
 
 -- where a machine mirrors another, it does so wherever it may be formatted

@@ -17,9 +17,9 @@ use Rattle.ygg_eval.specs.ygg_meaning.Runs.{Dialogue}
 use Rattle.ygg_eval.specs.ygg_meaning.Machine.{State, on, Machine}
 use Rattle.ygg_eval.specs.ygg_meaning.Layer.{Layered}
 use Rattle.ygg_eval.specs.ygg_disk.Disk as disk
-use Rattle.ygg_eval.specs.ygg_histories.Noted.{Note}
-use Rattle.ygg_eval.specs.ygg_histories.Mirror.{SameOn, IsJoined, Mirrors}
-use Rattle.ygg_eval.specs.ygg_histories_proofs_Mirrored.{layered_mirrors, formatted_mirrors}
+use Rattle.ygg_eval.specs.ygg_meaning.Noted.{Note}
+use Rattle.ygg_eval.specs.ygg_meaning.Mirror.{SameOn, IsJoined, Mirrors}
+use Rattle.ygg_eval.specs.ygg_meaning_proofs_Mirrored.{layered_mirrors, formatted_mirrors}
 use Rattle.ygg_eval.specs.ygg_eval_lower.Layers.{closed_at}
 use Rattle.ygg_eval.specs.ygg_eval_lower.Lower.{Standing, Meaning, Cause, PowerLoss, GivenUp, Ending, IsLower}
 use Rattle.ygg_eval.specs.ygg_eval_lower.Lower as ending

@@ -4,8 +4,8 @@ use Rattle.ygg_eval.specs.ygg_disk.Disk.{Call}
 use Rattle.ygg_eval.specs.ygg_disk.Ground.{Meaning}
 use Rattle.ygg_eval.specs.ygg_meaning.Machine.{Machine}
 use Rattle.ygg_eval.specs.ygg_meaning.DiskMachine.{Store, machine_on}
-use Rattle.ygg_eval.specs.ygg_histories.Noted.{Note}
-use Rattle.ygg_eval.specs.ygg_histories.Grounds.{ground_store}
+use Rattle.ygg_eval.specs.ygg_meaning.Noted.{Note}
+use Rattle.ygg_eval.specs.ygg_meaning.Grounds.{ground_store}
 use Rattle.ygg_eval.specs.ygg_eval_lower.Lower.{Cause, PowerLoss, GivenUp}
 
 -- a call that failed or found no memory: it is noted as cut short, or wasn't begun

@@ -5,7 +5,7 @@ use Rattle.ygg_eval.specs.ygg_disk.Ground.{Meaning}
 use Rattle.ygg_eval.specs.ygg_disk.Power.{IsNamed, Begun, BegunInVain}
 use Rattle.ygg_eval.specs.ygg_disk.declared.power.Fuse.{Fuse}
 use Rattle.ygg_eval.specs.ygg_disk.declared.power.Power.{Power}
-use Rattle.ygg_eval.specs.ygg_histories.Noted.{Note}
+use Rattle.ygg_eval.specs.ygg_meaning.Noted.{Note}
 use Rattle.ygg_eval.specs.ygg_eval_lower.Lower.{Cause, PowerLoss, GivenUp}
 
 -- the calls are whole, one after another, and the fuse names none of them

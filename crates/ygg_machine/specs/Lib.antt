@@ -1,6 +1,5 @@
 pub use Rattle.ygg_eval.specs.ygg_disk
 pub use Rattle.ygg_eval.specs.ygg_eval_lower
-pub use Rattle.ygg_eval.specs.ygg_histories
 pub use Rattle.ygg_eval.specs.ygg_meaning
 pub use Rattle.ygg_eval.specs.ygg_symbols
 pub use Rattle.ygg_eval.specs.ygg_type_proofs_Least

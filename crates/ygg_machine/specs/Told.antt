@@ -3,11 +3,11 @@
 use Rattle.std.specs.Prelude.{◌≡◌, List, length}
 use Rattle.ygg_syntax.specs.declared.tree.File.{File}
 use Rattle.ygg_eval.specs.ygg_disk.Ground.{Meaning}
-use Rattle.ygg_eval.specs.ygg_histories.Stack.{Stacked, BottomOf, layers_of}
-use Rattle.ygg_eval.specs.ygg_histories.Mirror.{FormattedIf, Mirrors}
-use Rattle.ygg_eval.specs.ygg_histories.Noted.{Note, NotedDisk}
-use Rattle.ygg_eval.specs.ygg_histories.StepLaws.{Same}
-use Rattle.ygg_eval.specs.ygg_histories.Grounds.{TellsBase, TellsZeros, ArePicks}
+use Rattle.ygg_eval.specs.ygg_meaning.Stack.{Stacked, BottomOf, layers_of}
+use Rattle.ygg_eval.specs.ygg_meaning.Mirror.{FormattedIf, Mirrors}
+use Rattle.ygg_eval.specs.ygg_meaning.Noted.{Note, NotedDisk}
+use Rattle.ygg_eval.specs.ygg_meaning.StepLaws.{Same}
+use Rattle.ygg_eval.specs.ygg_meaning.Grounds.{TellsBase, TellsZeros, ArePicks}
 use Rattle.ygg_eval.specs.ygg_eval_lower.Lower.{Cause, PowerLoss}
 use Rattle.ygg_machine.specs.GroundSteps.{ground_machine}
 use Rattle.ygg_machine.specs.Bottoms.{bottom_on}

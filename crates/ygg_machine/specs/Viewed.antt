@@ -11,9 +11,9 @@ use Rattle.ygg_eval.specs.ygg_meaning.Environments.{Env, bind}
 use Rattle.ygg_eval.specs.ygg_meaning.Machine.{State, based, on, Machine}
 use Rattle.ygg_eval.specs.ygg_meaning.Layer.{Layered}
 use Rattle.ygg_eval.specs.ygg_meaning.Shapes.{values_fit, zeros_of}
-use Rattle.ygg_eval.specs.ygg_histories.Noted.{Note}
-use Rattle.ygg_eval.specs.ygg_histories.Mirror.{SameOn, Mirrors}
-use Rattle.ygg_eval.specs.ygg_histories_proofs_Mirrored.{layered_mirrors, formatted_mirrors}
+use Rattle.ygg_eval.specs.ygg_meaning.Noted.{Note}
+use Rattle.ygg_eval.specs.ygg_meaning.Mirror.{SameOn, Mirrors}
+use Rattle.ygg_eval.specs.ygg_meaning_proofs_Mirrored.{layered_mirrors, formatted_mirrors}
 use Rattle.ygg_eval.specs.ygg_eval_lower.Layers.{closed_at}
 use Rattle.ygg_eval.specs.ygg_eval_lower.Lower.{Standing, Meaning, Cause}
 use Rattle.ygg_machine.specs.GroundSteps.{ground_machine}

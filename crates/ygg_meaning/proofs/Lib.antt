@@ -4,3 +4,16 @@ pub mod Exact
 pub mod Finishing
 pub mod Listed
 pub mod Replaying
+pub mod Chains
+pub mod Monotone
+pub mod Traced
+pub mod Resumed
+pub mod Fallen
+pub mod Mirrored
+pub mod Plain
+pub mod Search
+pub mod Totals
+pub mod Refined
+pub mod Composed
+pub mod ListedHistories
+pub mod Stores

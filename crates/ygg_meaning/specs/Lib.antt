@@ -24,3 +24,14 @@ pub mod Violates
 pub mod Replayed
 pub mod Refines
 pub mod Laws
+pub mod Stack
+pub mod Claims
+pub mod Under
+pub mod Mirror
+pub mod History
+pub mod Left
+pub mod Trace
+pub mod Noted
+pub mod Grounds
+pub mod StepLaws
+pub mod HistoryLaws

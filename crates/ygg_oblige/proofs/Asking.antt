@@ -6,7 +6,7 @@ use Rattle.ygg_syntax.specs.declared.tree.Layer.{Layer}
 use Rattle.ygg_oblige_laws.specs.ygg_meaning.Layer.{ClosedLayer}
 use Rattle.ygg_oblige_laws.specs.ygg_meaning.Obligations.{Obligation, obligations_of}
 use Rattle.ygg_oblige_laws.specs.ygg_meaning.Refines.{Below}
-use Rattle.ygg_oblige_laws.specs.ygg_histories.Claims.{Claim, claims_at}
+use Rattle.ygg_oblige_laws.specs.ygg_meaning.Claims.{Claim, claims_at}
 use Rattle.ygg_oblige_list.specs.Listing.{IsNumberIn}
 use Rattle.ygg_oblige.specs.Adding.{AddsAsked, AreAsked}
 use Rattle.ygg_oblige.specs.Kinds.{kind_in}

@@ -16,15 +16,15 @@ use Rattle.ygg_oblige_laws.specs.ygg_meaning.Layer.{ClosedLayer}
 use Rattle.ygg_oblige_laws.specs.ygg_meaning.Obligations.{Obligation, name_of}
 use Rattle.ygg_oblige_laws.specs.ygg_meaning.Refines.{Below}
 use Rattle.ygg_syntax.specs.declared.tree.Def.{Def}
-use Rattle.ygg_oblige_laws.specs.ygg_sym_below_proofs_Lows.{low_wider}
+use Rattle.ygg_oblige_laws.specs.ygg_sym_runs_proofs_Lows.{low_wider}
 use Rattle.ygg_oblige_list.specs.ygg_sym_spec.Layers.{closed, terms_in}
 use Rattle.ygg_oblige_list.specs.ygg_sym_spec.declared.layer.SymLayer.{SymLayer}
 use Rattle.ygg_oblige_kinds.specs.Sites.{below_in}
 use Rattle.ygg_oblige_kinds.specs.SymBelow.{SymBelow}
-use Rattle.ygg_oblige_laws.specs.ygg_oblige_terms.Layers.{LayerTyped}
-use Rattle.ygg_oblige_laws.specs.ygg_oblige_terms.Numbers.{Numbers, numbers_of}
-use Rattle.ygg_oblige_laws.specs.ygg_oblige_terms.States.{Starting}
-use Rattle.ygg_oblige_laws.specs.ygg_oblige_terms.Terms.{term_made}
+use Rattle.ygg_oblige_laws.specs.ygg_oblige_pieces.Layers.{LayerTyped}
+use Rattle.ygg_oblige_laws.specs.ygg_oblige_pieces.Numbers.{Numbers, numbers_of}
+use Rattle.ygg_oblige_laws.specs.ygg_oblige_pieces.TermStates.{Starting}
+use Rattle.ygg_oblige_laws.specs.ygg_oblige_pieces.Terms.{term_made}
 use Rattle.ygg_oblige_laws.proofs.Compares.{comparing_means}
 use Rattle.ygg_oblige_laws.proofs.Fresh.{fresh_means}
 use Rattle.ygg_oblige_laws.proofs.Glued.{glued_means}

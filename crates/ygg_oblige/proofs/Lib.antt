@@ -1,4 +1,4 @@
-pub use Rattle.ygg_oblige_laws.proofs.of_ygg_oblige_typed
+pub use Rattle.ygg_oblige_laws.proofs as of_ygg_oblige_laws
 pub mod KnownSo
 pub mod Going
 pub mod Asking

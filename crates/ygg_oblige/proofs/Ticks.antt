@@ -13,7 +13,7 @@ use Rattle.ygg_oblige_list.specs.ygg_sym_spec.Layers.{closed}
 use Rattle.ygg_oblige_list.specs.ygg_sym_spec.declared.layer.SymLayer.{SymLayer}
 use Rattle.ygg_oblige_kinds.specs.Sites.{below_in}
 use Rattle.ygg_oblige_kinds.specs.SymBelow.{SymBelow}
-use Rattle.ygg_oblige_laws.specs.ygg_oblige_terms.Layers.{LayerTyped}
+use Rattle.ygg_oblige_laws.specs.ygg_oblige_pieces.Layers.{LayerTyped}
 use Rattle.ygg_oblige_kinds.specs.Making.{TickFits}
 
 module _ (l : SymLayer) (g : SymBelow) where

@@ -16,8 +16,8 @@ use Rattle.ygg_oblige_laws.specs.ygg_meaning.Layer.{ClosedLayer}
 use Rattle.ygg_oblige_laws.specs.ygg_meaning.Meaning.{Functions, functions_of}
 use Rattle.ygg_oblige_laws.specs.ygg_meaning.Obligations.{Obligation, name_of, obligations_of}
 use Rattle.ygg_oblige_laws.specs.ygg_meaning.Refines.{Below, OnSpec}
-use Rattle.ygg_oblige_laws.specs.ygg_histories.Claims.{claims_at, claims_of, claims_on}
-use Rattle.ygg_oblige_laws.specs.ygg_histories.Stack.{Layers, below_of, layers_on, layers_of, tables_of}
+use Rattle.ygg_oblige_laws.specs.ygg_meaning.Claims.{claims_at, claims_of, claims_on}
+use Rattle.ygg_oblige_laws.specs.ygg_meaning.Stack.{Layers, below_of, layers_on, layers_of, tables_of}
 use Rattle.ygg_oblige_laws.specs.ygg_sym_laws.Means.{terms_of}
 use Rattle.ygg_oblige_list.specs.ygg_sym_spec.Layers.{closed}
 use Rattle.ygg_oblige_list.specs.ygg_sym_spec.declared.layer.SymLayer.{SymLayer}
@@ -25,10 +25,10 @@ use Rattle.ygg_oblige_kinds.specs.Sites.{SameDefs, below_in}
 use Rattle.ygg_oblige_kinds.specs.SymBelow.{SymBelow}
 use Rattle.ygg_oblige_kinds.specs.SymBelow.TheVariants as on
 use Rattle.ygg_oblige_kinds.proofs.Left.{rest_is}
-use Rattle.ygg_oblige_laws.specs.ygg_oblige_terms.Layers.{LayerTyped}
-use Rattle.ygg_oblige_laws.specs.ygg_oblige_terms.Meaning.{claim_name}
-use Rattle.ygg_oblige_laws.specs.ygg_oblige_terms.Terms.{after_layer, after_layers, file_made, layer_made, layers_made}
-use Rattle.ygg_oblige_laws.specs.ygg_oblige_typed.Layers.{LayersTyped}
+use Rattle.ygg_oblige_laws.specs.ygg_oblige_pieces.Layers.{LayerTyped}
+use Rattle.ygg_oblige_laws.specs.ygg_oblige_pieces.Meaning.{claim_name}
+use Rattle.ygg_oblige_laws.specs.ygg_oblige_pieces.Terms.{after_layer, after_layers, file_made, layer_made, layers_made}
+use Rattle.ygg_oblige_laws.specs.TypedLayers.{LayersTyped}
 use Rattle.ygg_oblige_laws.proofs.Whole.{layer_inputs}
 use Rattle.ygg_oblige.specs.Adding.{AddsAsked, after_layer_at, layer_at, names_of}
 use Rattle.ygg_oblige_kinds.specs.Making.{SiteFits}

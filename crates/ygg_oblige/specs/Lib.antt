@@ -1,6 +1,6 @@
 pub use Rattle.ygg_oblige_laws.specs.ygg_bank
-pub use Rattle.ygg_oblige_laws.specs.ygg_oblige_terms
-pub use Rattle.ygg_oblige_laws.specs.ygg_oblige_typed
+pub use Rattle.ygg_oblige_laws.specs.ygg_oblige_pieces
+pub use Rattle.ygg_oblige_laws.specs as ygg_oblige_laws
 pub use Rattle.ygg_oblige_laws.specs.ygg_sym_expr
 pub use Rattle.ygg_oblige_laws.specs.ygg_sym_laws
 pub use Rattle.ygg_oblige_list.specs.ygg_sym_spec

@@ -1,7 +1,7 @@
 -- Lists of obligations.
 use Rattle.std.specs.Prelude.{◌≡◌, ℕ, List, [], ◌∷◌, map, slice_get, Some}
 use Rattle.ygg_syntax.specs.declared.tree.File.{File}
-use Rattle.ygg_oblige_laws.specs.ygg_histories.Claims.{Claim}
+use Rattle.ygg_oblige_laws.specs.ygg_meaning.Claims.{Claim}
 use Rattle.ygg_oblige_laws.specs.ygg_bank.declared.node.Id.{Id}
 use Rattle.ygg_oblige_list.specs.Listing.{IsNumberIn}
 use Rattle.ygg_oblige.specs.Kinds.{kind_in}

@@ -2,11 +2,11 @@
 
 ghost use Rattle.std.specs.Prelude.{◌≡◌, codes, [], map, IfOk, OnOk};
 ghost use Rattle.ygg_oblige_laws.specs.ygg_bank.Nodes.{IsBank};
-ghost use Rattle.ygg_oblige_laws.specs.ygg_histories.Claims.{claims_of};
-ghost use Rattle.ygg_oblige_laws.specs.ygg_histories.Stack.{layers_of, table_named, tables_of};
-ghost use Rattle.ygg_oblige_laws.specs.ygg_oblige_terms.Meaning.{claim_name};
-ghost use Rattle.ygg_oblige_laws.specs.ygg_oblige_terms.Terms.{file_made};
-ghost use Rattle.ygg_oblige_laws.specs.ygg_oblige_typed.Layers.{LayersTyped};
+ghost use Rattle.ygg_oblige_laws.specs.ygg_meaning.Claims.{claims_of};
+ghost use Rattle.ygg_oblige_laws.specs.ygg_meaning.Stack.{layers_of, table_named, tables_of};
+ghost use Rattle.ygg_oblige_laws.specs.ygg_oblige_pieces.Meaning.{claim_name};
+ghost use Rattle.ygg_oblige_laws.specs.ygg_oblige_pieces.Terms.{file_made};
+ghost use Rattle.ygg_oblige_laws.specs.TypedLayers.{LayersTyped};
 ghost use Rattle.ygg_oblige.specs.Obligations.{AreClaims, ArePlaced, names_in, terms_in};
 
 use crate::layers::add_layer;

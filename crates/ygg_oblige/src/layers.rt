@@ -5,7 +5,7 @@ ghost use Rattle.ygg_oblige_laws.specs.ygg_bank.Inputs.{InputsBelow};
 ghost use Rattle.ygg_oblige_laws.specs.ygg_bank.Nodes.{Extends, IsBank};
 ghost use Rattle.ygg_oblige_laws.specs.ygg_meaning.Obligations.{name_of, obligations_of};
 ghost use Rattle.ygg_oblige_list.specs.ygg_sym_spec.Layers.{closed};
-ghost use Rattle.ygg_oblige_laws.specs.ygg_oblige_terms.States.{state_words};
+ghost use Rattle.ygg_oblige_laws.specs.ygg_oblige_pieces.TermStates.{state_words};
 ghost use Rattle.ygg_oblige_kinds.specs.Makers.{StartingShaped, starting_of};
 ghost use Rattle.ygg_oblige_kinds.specs.Steps.{obligation_of};
 ghost use Rattle.ygg_oblige.specs.Adding.{

@@ -3,9 +3,9 @@
 
 ghost use Rattle.std.specs.Prelude.{◌≡◌, [], map, IfOk, OnOk};
 ghost use Rattle.ygg_oblige_laws.specs.ygg_bank.Nodes.{IsBank};
-ghost use Rattle.ygg_oblige_laws.specs.ygg_histories.Claims.{claims_of};
-ghost use Rattle.ygg_oblige_laws.specs.ygg_oblige_terms.Terms.{file_made};
-ghost use Rattle.ygg_oblige_laws.specs.ygg_oblige_terms.Meaning.{AreTermsIn, claim_name};
+ghost use Rattle.ygg_oblige_laws.specs.ygg_meaning.Claims.{claims_of};
+ghost use Rattle.ygg_oblige_laws.specs.ygg_oblige_pieces.Terms.{file_made};
+ghost use Rattle.ygg_oblige_laws.specs.ygg_oblige_pieces.Meaning.{AreTermsIn, claim_name};
 ghost use Rattle.ygg_oblige.specs.Obligations.{AreClaims, ArePlaced, names_in, terms_in};
 
 mod file;

@@ -3,7 +3,7 @@ use ygg_list::Sequence;
 use ygg_oblige_laws::Id;
 
 /// What an obligation asks of a layer.
-#[derive(Clone, Copy, PartialEq, Eq, Drop)]
+#[derive(Clone, Copy, Drop)]
 pub enum Kind {
     /// Formatting gives a state that is related to the specification's start.
     Init,

@@ -12,8 +12,8 @@ use Rattle.ygg_decide.specs.ygg_bank.declared.env.Given.TheVariants as given
 use Rattle.ygg_decide.specs.ygg_bank.declared.node.Id.{Id}
 use Rattle.ygg_decide.specs.ygg_bank.declared.node.Node.{Node}
 use Rattle.ygg_decide.specs.ygg_bank.declared.node.Node.TheVariants.{Input, Const, Bin, Not, Resize, Pick}
-use Rattle.ygg_decide.specs.ygg_gates_meaning.Laws.{IsZeroIn}
-use Rattle.ygg_oblige_pieces.specs.ygg_oblige_terms.Meaning.{Refuting}
+use Rattle.ygg_decide.specs.ygg_gates.Laws.{IsZeroIn}
+use Rattle.ygg_oblige_pieces.specs.Meaning.{Refuting}
 use Rattle.ygg_oblige_pieces.proofs.Glued.{one_width}
 
 -- the words of the inputs among nodes, in order

@@ -5,8 +5,8 @@ use Rattle.ygg_oblige_parts.specs.ygg_bank.Nodes.{Extends}
 use Rattle.ygg_oblige_parts.specs.ygg_bank.declared.node.Node.{Node}
 use Rattle.ygg_oblige_parts.specs.ygg_shape.Wholes.{AllAlike}
 use Rattle.ygg_oblige_parts.specs.ygg_shape_cells.declared.terms.SymValue.{SymValue}
-use Rattle.ygg_oblige_parts.specs.ygg_sym_below_proofs_Lows.{low_wider}
-use Rattle.ygg_oblige_parts.specs.ygg_sym_below.Lows.{LowShaped}
+use Rattle.ygg_oblige_parts.specs.ygg_sym_runs_proofs_Lows.{low_wider}
+use Rattle.ygg_oblige_parts.specs.ygg_sym_runs.Lows.{LowShaped}
 use Rattle.ygg_oblige_parts.proofs.of_ygg_sym_disk.Asked.{lows_alike}
 use Rattle.ygg_oblige_parts.specs.ygg_sym_expr_proofs_Shaped.{some_wider}
 use Rattle.ygg_oblige_parts.specs.ygg_sym_runs.Meaning.{AnswerShaped}

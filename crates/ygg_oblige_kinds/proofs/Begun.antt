@@ -9,17 +9,17 @@ use Rattle.ygg_oblige_parts.specs.ygg_bank.Inputs.{InputsBelow}
 use Rattle.ygg_oblige_parts.specs.ygg_bank.Nodes.{Extends}
 use Rattle.ygg_oblige_parts.specs.ygg_bank.declared.node.Node.{Node}
 use Rattle.ygg_oblige_parts.specs.ygg_shape_cells.declared.terms.SymValue.{SymValue}
-use Rattle.ygg_oblige_parts.specs.ygg_sym_below_proofs_Lows.{low_wider}
-use Rattle.ygg_oblige_parts.specs.ygg_sym_below.Lows.{LowShaped}
+use Rattle.ygg_oblige_parts.specs.ygg_sym_runs_proofs_Lows.{low_wider}
+use Rattle.ygg_oblige_parts.specs.ygg_sym_runs.Lows.{LowShaped}
 use Rattle.ygg_oblige_parts.proofs.of_ygg_sym_runs.Singles.{below_single, single_less}
 use Rattle.ygg_oblige_parts.specs.ygg_sym_runs.Lower.{SingleFrom}
 use Rattle.ygg_oblige_parts.specs.Layers.{closed}
 use Rattle.ygg_oblige_parts.specs.SymLayer.{SymLayer}
 use Rattle.ygg_oblige_parts.specs.Sites.{below_in}
 use Rattle.ygg_oblige_parts.specs.SymBelow.{SymBelow}
-use Rattle.ygg_oblige_parts.specs.ygg_oblige_terms.Numbers.{Numbers, arguments_of, numbers_of}
-use Rattle.ygg_oblige_parts.specs.ygg_oblige_terms.Layers.{ShapesKept}
-use Rattle.ygg_oblige_parts.specs.ygg_oblige_terms.States.{Starting, words_in}
+use Rattle.ygg_oblige_parts.specs.ygg_oblige_pieces.Numbers.{Numbers, arguments_of, numbers_of}
+use Rattle.ygg_oblige_parts.specs.ygg_oblige_pieces.Layers.{ShapesKept}
+use Rattle.ygg_oblige_parts.specs.ygg_oblige_pieces.TermStates.{Starting, words_in}
 use Rattle.ygg_oblige_parts.specs.ObligePiecesSteps.{HasStep, ObligationTyped, variables_of}
 use Rattle.ygg_oblige_parts.specs.Makers.{StartingShaped}
 use Rattle.ygg_oblige_kinds.specs.Making.{CanBegin, CanOblige, SiteFits, TickFits}

@@ -18,10 +18,10 @@ use Rattle.ygg_oblige_parts.specs.Layers.{closed, terms_in}
 use Rattle.ygg_oblige_parts.specs.SymLayer.{SymLayer}
 use Rattle.ygg_oblige_parts.specs.Sites.{below_in}
 use Rattle.ygg_oblige_parts.specs.SymBelow.{SymBelow}
-use Rattle.ygg_oblige_parts.specs.ygg_oblige_terms.Numbers.{Numbers, arguments_of, numbers_of}
-use Rattle.ygg_oblige_parts.specs.ygg_oblige_terms.Layers.{ShapesKept}
-use Rattle.ygg_oblige_parts.specs.ygg_oblige_terms.States.{Starting}
-use Rattle.ygg_oblige_parts.specs.ygg_oblige_terms.Terms.{term_made}
+use Rattle.ygg_oblige_parts.specs.ygg_oblige_pieces.Numbers.{Numbers, arguments_of, numbers_of}
+use Rattle.ygg_oblige_parts.specs.ygg_oblige_pieces.Layers.{ShapesKept}
+use Rattle.ygg_oblige_parts.specs.ygg_oblige_pieces.TermStates.{Starting}
+use Rattle.ygg_oblige_parts.specs.ygg_oblige_pieces.Terms.{term_made}
 use Rattle.ygg_oblige_parts.specs.ObligePiecesSteps.{HasStep, ObligationTyped, variables_of}
 use Rattle.ygg_oblige_parts.specs.Makers.{StartingShaped}
 use Rattle.ygg_oblige_parts.specs.Steps.{obligation_of}

@@ -10,9 +10,9 @@ use Rattle.ygg_oblige_parts.specs.ygg_bank.declared.node.Id.{Id}
 use Rattle.ygg_oblige_parts.specs.ygg_bank.declared.node.Node.{Node}
 use Rattle.ygg_oblige_parts.specs.ygg_bank.declared.node.Node.TheVariants.{Bin}
 use Rattle.ygg_oblige_parts.specs.ygg_shape_cells.declared.terms.SymValue.{SymValue}
-use Rattle.ygg_oblige_parts.specs.ygg_sym_below.StopTerms.{SymFallen}
+use Rattle.ygg_oblige_parts.specs.ygg_sym_runs.StopTerms.{SymFallen}
 use Rattle.ygg_oblige_parts.specs.ygg_sym_laws.Means.{values_in}
-use Rattle.ygg_oblige_parts.specs.ygg_oblige_terms.Terms.{Finish}
+use Rattle.ygg_oblige_parts.specs.ygg_oblige_pieces.Terms.{Finish}
 
 -- a run over values that another step made, without arguments
 pub without_from : {A B : Type 0} (Z : Out A) (R : A → List SymValue → Make B) (z : A) (none : List SymValue) (one : List Node) → z ≡ Z.value →

@@ -6,8 +6,8 @@ use Rattle.ygg_oblige_parts.specs.ygg_meaning.Layer.{ClosedLayer}
 use Rattle.ygg_oblige_parts.specs.ygg_meaning.Obligations.{Obligation}
 use Rattle.ygg_oblige_parts.specs.ygg_meaning.Refines.{Below}
 use Rattle.ygg_oblige_parts.specs.ygg_sym_laws.Below.{places_on, failure_room}
-use Rattle.ygg_oblige_parts.specs.ygg_oblige_terms.Numbers.{arguments_of, block_of, numbers_from, numbers_of}
-use Rattle.ygg_oblige_parts.specs.ygg_oblige_terms.States.{words_in}
+use Rattle.ygg_oblige_parts.specs.ygg_oblige_pieces.Numbers.{arguments_of, block_of, numbers_from, numbers_of}
+use Rattle.ygg_oblige_parts.specs.ygg_oblige_pieces.TermStates.{words_in}
 
 -- the counts are those of the obligation
 pub counted : (G : Below) (L : ClosedLayer) (o : Obligation) (start : ℕ) (ds : List Declared) (b : Block) (words places failure waking : ℕ) →

@@ -15,7 +15,7 @@ use Rattle.ygg_oblige_parts.specs.Sites.{BelowFits, below_in}
 use Rattle.ygg_oblige_parts.specs.SymBelow.{SymBelow}
 use Rattle.ygg_oblige_parts.specs.SymBlock.{SymBlock}
 use Rattle.ygg_oblige_parts.specs.SymEnd.{SymEnd}
-use Rattle.ygg_oblige_parts.specs.ygg_oblige_terms.Numbers.{Numbers, arguments_of, block_of, numbers_of}
+use Rattle.ygg_oblige_parts.specs.ygg_oblige_pieces.Numbers.{Numbers, arguments_of, block_of, numbers_of}
 use Rattle.ygg_oblige_parts.specs.ObligePiecesSteps.{AnswerKept, ObligationTyped}
 use Rattle.ygg_oblige_parts.specs.Passing.{answered}
 use Rattle.ygg_oblige_kinds.specs.Making.{AfterRun, BlockFits, SiteFits, TickFits}

@@ -13,7 +13,7 @@ use Rattle.ygg_oblige_parts.specs.ygg_bank.declared.node.Node.{Node}
 use Rattle.ygg_oblige_parts.specs.ygg_shape_cells.declared.terms.SymValue.{SymValue}
 use Rattle.ygg_oblige_parts.specs.ygg_sym_runs.Lower.{SingleFrom}
 use Rattle.ygg_oblige_parts.specs.ygg_sym_runs.Meaning.{AnswerShaped, answer_worth}
-use Rattle.ygg_oblige_parts.specs.ygg_sym_below.Lows.{LowShaped}
+use Rattle.ygg_oblige_parts.specs.ygg_sym_runs.Lows.{LowShaped}
 use Rattle.ygg_oblige_parts.specs.ygg_sym_laws.Below.{signatures_on}
 use Rattle.ygg_oblige_parts.specs.ygg_sym_laws.Typed.{BlockTyped}
 use Rattle.ygg_oblige_parts.specs.Layers.{closed}
@@ -21,9 +21,9 @@ use Rattle.ygg_oblige_parts.specs.SymLayer.{SymLayer}
 use Rattle.ygg_oblige_parts.specs.Sites.{SameDefs, below_in}
 use Rattle.ygg_oblige_parts.specs.SymBelow.{SymBelow}
 use Rattle.ygg_oblige_parts.specs.SymEnd.{SymEnd}
-use Rattle.ygg_oblige_parts.specs.ygg_oblige_terms.Layers.{ShapesKept}
-use Rattle.ygg_oblige_parts.specs.ygg_oblige_terms.Numbers.{Numbers, arguments_of, block_of}
-use Rattle.ygg_oblige_parts.specs.ygg_oblige_terms.States.{Starting, words_in}
+use Rattle.ygg_oblige_parts.specs.ygg_oblige_pieces.Layers.{ShapesKept}
+use Rattle.ygg_oblige_parts.specs.ygg_oblige_pieces.Numbers.{Numbers, arguments_of, block_of}
+use Rattle.ygg_oblige_parts.specs.ygg_oblige_pieces.TermStates.{Starting, words_in}
 use Rattle.ygg_oblige_parts.specs.ObligePiecesSteps.{AnswerKept, HasStep, ObligationTyped, variables_of}
 use Rattle.ygg_oblige_parts.specs.Makers.{LayerFits, StartingShaped}
 use Rattle.ygg_oblige_parts.specs.Passing.{answered}

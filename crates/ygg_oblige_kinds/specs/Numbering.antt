@@ -1,5 +1,5 @@
 -- Which inputs an obligation has, in code.
-use Rattle.ygg_oblige_parts.specs.ygg_oblige_terms.Numbers.{Numbers}
+use Rattle.ygg_oblige_parts.specs.ygg_oblige_pieces.Numbers.{Numbers}
 use Rattle.ygg_oblige_kinds.specs.declared.numbers.SymNumbers.{SymNumbers}
 
 -- the numbers that these are

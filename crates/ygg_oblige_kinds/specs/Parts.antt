@@ -8,7 +8,7 @@ use Rattle.ygg_oblige_parts.specs.ygg_bank.Making.{made}
 use Rattle.ygg_oblige_parts.specs.ygg_bank.declared.node.Id.{Id}
 use Rattle.ygg_oblige_parts.specs.ygg_bank.declared.node.Node.TheVariants.{Bin}
 use Rattle.ygg_oblige_parts.specs.ygg_shape_cells.declared.terms.SymValue.{SymValue}
-use Rattle.ygg_oblige_parts.specs.ygg_sym_below.StopTerms.{SymFallen}
+use Rattle.ygg_oblige_parts.specs.ygg_sym_runs.StopTerms.{SymFallen}
 use Rattle.ygg_oblige_parts.specs.ygg_sym_laws.Below.{zeros_made, lost_made}
 use Rattle.ygg_oblige_parts.specs.ygg_sym_laws.Means.{values_in}
 use Rattle.ygg_oblige_parts.specs.Layers.{closed, terms_in}
@@ -16,9 +16,9 @@ use Rattle.ygg_oblige_parts.specs.SymLayer.{SymLayer}
 use Rattle.ygg_oblige_parts.specs.Sites.{below_in}
 use Rattle.ygg_oblige_parts.specs.SymBelow.{SymBelow}
 use Rattle.ygg_oblige_parts.specs.SymEnd.{SymEnd}
-use Rattle.ygg_oblige_parts.specs.ygg_oblige_terms.Numbers.{Numbers, arguments_of, block_of}
-use Rattle.ygg_oblige_parts.specs.ygg_oblige_terms.States.{Starting, fresh_all, all_compared, settled_made}
-use Rattle.ygg_oblige_parts.specs.ygg_oblige_terms.Terms.{cut_short, falls_through, recovered, recovers, runs_through}
+use Rattle.ygg_oblige_parts.specs.ygg_oblige_pieces.Numbers.{Numbers, arguments_of, block_of}
+use Rattle.ygg_oblige_parts.specs.ygg_oblige_pieces.TermStates.{Starting, fresh_all, all_compared, settled_made}
+use Rattle.ygg_oblige_parts.specs.ygg_oblige_pieces.Terms.{cut_short, falls_through, recovered, recovers, runs_through}
 
 module _ (kinds : List RuleKind) where
   -- whether two runs leave the same memory and the same state below

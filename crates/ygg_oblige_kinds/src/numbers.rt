@@ -1,11 +1,11 @@
 //! Which inputs an obligation has.
 
 ghost use Rattle.std.specs.Prelude.{◌≡◌, ◌+◌, IfOk};
-ghost use Rattle.ygg_oblige_parts.specs.ygg_oblige_terms.Numbers.{arguments_of, block_of, numbers_from, numbers_of};
+ghost use Rattle.ygg_oblige_parts.specs.ygg_oblige_pieces.Numbers.{arguments_of, block_of, numbers_from, numbers_of};
 ghost use Rattle.ygg_oblige_parts.specs.ygg_meaning.Layer.{ClosedLayer};
 ghost use Rattle.ygg_oblige_parts.specs.Sites.{below_in};
 ghost use Rattle.ygg_oblige_parts.specs.Layers.{closed};
-ghost use Rattle.ygg_oblige_parts.specs.ygg_oblige_terms.Layers.{ShapesKept};
+ghost use Rattle.ygg_oblige_parts.specs.ygg_oblige_pieces.Layers.{ShapesKept};
 ghost use Rattle.ygg_oblige_parts.specs.Steps.{obligation_of};
 ghost use Rattle.ygg_oblige_kinds.specs.Numbering.{numbers_in};
 
@@ -14,7 +14,7 @@ use ygg_syntax::tree::{Block, Declared, Layer};
 
 /// Where the inputs of an obligation begin: those of its arguments, of the run's picks, of its stops, of the failure's picks, of the recovery's
 /// picks and of the other recovery's; and the number after all of them.
-#[derive(Clone, Copy, PartialEq, Eq)]
+#[derive(Clone, Copy)]
 pub struct SymNumbers {
     /// The first input of its arguments.
     pub args: u64,

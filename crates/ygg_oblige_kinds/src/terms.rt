@@ -3,13 +3,13 @@
 ghost use Rattle.std.specs.Prelude.{◌≡◌, ◌≤◌, [], IfOk, OnOk};
 ghost use Rattle.ygg_oblige_parts.specs.ygg_bank.Inputs.{InputsBelow};
 ghost use Rattle.ygg_oblige_parts.specs.ygg_bank.Nodes.{Extends, HasWidth, IsBank};
-ghost use Rattle.ygg_oblige_parts.specs.ygg_sym_below.Lows.{LowShaped};
+ghost use Rattle.ygg_oblige_parts.specs.ygg_sym_runs.Lows.{LowShaped};
 ghost use Rattle.ygg_oblige_parts.specs.ygg_sym_runs.Lower.{KeepsSingle, SingleFrom};
 ghost use Rattle.ygg_oblige_parts.specs.Layers.{closed, terms_in};
 ghost use Rattle.ygg_oblige_parts.specs.Running.{CutIs, EndIs};
 ghost use Rattle.ygg_oblige_parts.specs.Sites.{below_in};
-ghost use Rattle.ygg_oblige_parts.specs.ygg_oblige_terms.Numbers.{numbers_of};
-ghost use Rattle.ygg_oblige_parts.specs.ygg_oblige_terms.Terms.{formats, recovered, recovers, recovers_again, term_made};
+ghost use Rattle.ygg_oblige_parts.specs.ygg_oblige_pieces.Numbers.{numbers_of};
+ghost use Rattle.ygg_oblige_parts.specs.ygg_oblige_pieces.Terms.{formats, recovered, recovers, recovers_again, term_made};
 ghost use Rattle.ygg_oblige_parts.specs.ObligePiecesSteps.{ObligationTyped};
 ghost use Rattle.ygg_oblige_parts.specs.Makers.{StartingShaped, starting_of};
 ghost use Rattle.ygg_oblige_parts.specs.Passing.{StepFits, some_in};

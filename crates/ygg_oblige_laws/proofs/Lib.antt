@@ -1,8 +1,7 @@
-pub use Rattle.ygg_sym_laws_disk.proofs.of_ygg_bank
-pub use Rattle.ygg_sym_laws_disk.proofs.of_ygg_direct
-pub use Rattle.ygg_oblige_typed.proofs as of_ygg_oblige_typed
-pub use Rattle.ygg_sym_laws_disk.proofs.of_ygg_sym_below
-pub use Rattle.ygg_sym_laws_disk.proofs.of_ygg_type_progress
+pub use Rattle.ygg_sym_laws.proofs.of_ygg_bank
+pub use Rattle.ygg_sym_laws.proofs.of_ygg_direct
+pub use Rattle.ygg_sym_laws.proofs.of_ygg_sym_runs
+pub use Rattle.ygg_sym_laws.proofs.of_ygg_type_progress
 pub use Rattle.ygg_oblige_pieces.proofs.Steps
 pub use Rattle.ygg_oblige_pieces.proofs.Starting
 pub use Rattle.ygg_oblige_pieces.proofs.Glued
@@ -26,3 +25,7 @@ pub mod EachKind
 pub mod Free
 pub mod Layered
 pub mod Whole
+pub mod Widening
+pub mod Formulas
+pub mod Blocks
+pub mod Files

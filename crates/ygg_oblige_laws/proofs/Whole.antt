@@ -7,26 +7,26 @@ use Rattle.ygg_syntax.specs.declared.tree.Declared.{Declared}
 use Rattle.ygg_syntax.specs.declared.tree.Def.{Def}
 use Rattle.ygg_syntax.specs.declared.tree.DiskText.{DiskText}
 use Rattle.ygg_syntax.specs.declared.tree.Tick.{Tick}
-use Rattle.ygg_sym_laws_disk.specs.ygg_meaning.Layer.{ClosedLayer}
-use Rattle.ygg_sym_laws_disk.specs.ygg_meaning.Refines.{Below, OnDisk, OnSpec}
-use Rattle.ygg_sym_laws_disk.specs.ygg_histories.Stack.{Layers, below_of, layers_of}
-use Rattle.ygg_sym_laws_disk.specs.ygg_rules.declared.rule.RuleKind.{RuleKind}
-use Rattle.ygg_sym_laws_disk.specs.ygg_sym_laws.Below.{signatures_on}
-use Rattle.ygg_sym_laws_disk.specs.ygg_sym_laws.Means.{LossMeans, StartMeans, WholeMeans, FallMeans}
-use Rattle.ygg_sym_laws_disk.specs.ygg_sym_laws.Typed.{BlockTyped}
-use Rattle.ygg_sym_laws_disk.proofs.Falls.{disk_falls}
-use Rattle.ygg_sym_laws_disk.proofs.Loss.{disk_loss}
-use Rattle.ygg_sym_laws_disk.proofs.Start.{disk_start}
-use Rattle.ygg_sym_laws_disk.proofs.Whole.{disk_whole}
+use Rattle.ygg_sym_laws.specs.ygg_meaning.Layer.{ClosedLayer}
+use Rattle.ygg_sym_laws.specs.ygg_meaning.Refines.{Below, OnDisk, OnSpec}
+use Rattle.ygg_sym_laws.specs.ygg_meaning.Stack.{Layers, below_of, layers_of}
+use Rattle.ygg_sym_laws.specs.ygg_rules.declared.rule.RuleKind.{RuleKind}
+use Rattle.ygg_sym_laws.specs.Below.{signatures_on}
+use Rattle.ygg_sym_laws.specs.Means.{LossMeans, StartMeans, WholeMeans, FallMeans}
+use Rattle.ygg_sym_laws.specs.Typed.{BlockTyped}
+use Rattle.ygg_sym_laws.proofs.DiskFalls.{disk_falls}
+use Rattle.ygg_sym_laws.proofs.Loss.{disk_loss}
+use Rattle.ygg_sym_laws.proofs.Start.{disk_start}
+use Rattle.ygg_sym_laws.proofs.DiskWhole.{disk_whole}
 use Rattle.ygg_oblige_pieces.proofs.AnyLayer.{spec_falls, spec_loss, spec_start, spec_whole}
-use Rattle.ygg_oblige_typed.specs.ObligeTermsLayers.{OperationFits, LayerTyped}
+use Rattle.ygg_oblige_laws.specs.ObligeTermsLayers.{OperationFits, LayerTyped}
 use Rattle.ygg_oblige_pieces.proofs.Compares.{comparing_means}
 use Rattle.ygg_oblige_pieces.proofs.Fresh.{fresh_means}
 use Rattle.ygg_oblige_pieces.proofs.Glued.{glued_means}
 use Rattle.ygg_oblige_pieces.proofs.Starting.{states_mean}
 use Rattle.ygg_oblige_pieces.proofs.Steps.{steps_mean}
-use Rattle.ygg_oblige_typed.proofs.Files.{typed_layers}
-use Rattle.ygg_oblige_typed.specs.Layers.{LayersTyped}
+use Rattle.ygg_oblige_laws.proofs.Files.{typed_layers}
+use Rattle.ygg_oblige_laws.specs.TypedLayers.{LayersTyped}
 use Rattle.ygg_oblige_laws.proofs.Layered.{PartsMeanSo, layer_means, layer_below}
 use Rattle.ygg_oblige_laws.proofs.Layered as layered
 use Rattle.ygg_oblige_laws.specs.LayerMeans.{OperationMeans, TickMeans, LayerMeans}

@@ -2,5 +2,6 @@
 #![tactic(auto)]
 
 pub mod law;
+pub mod typed_law;
 
-pub use ygg_sym_laws_disk::{Bank, Book, Id, NoMemory};
+pub use ygg_sym_laws::{Bank, Book, Id, NoMemory};

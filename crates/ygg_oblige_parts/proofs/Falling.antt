@@ -10,8 +10,8 @@ use Rattle.ygg_sym.specs.ygg_rules.declared.rule.RuleKind.{RuleKind}
 use Rattle.ygg_sym.specs.ygg_shape_cells.declared.terms.SymValue.{SymValue}
 use Rattle.ygg_sym.specs.ygg_sym_expr.Exprs.{SymFunctions}
 use Rattle.ygg_sym.specs.ygg_sym_expr.Names.{sym_bind}
-use Rattle.ygg_sym.specs.ygg_sym_below.Specs.{given_pick}
-use Rattle.ygg_sym.specs.ygg_sym_below.SpecCuts.{crash_made, then_crash_made}
+use Rattle.ygg_sym.specs.ygg_sym_runs.Specs.{given_pick}
+use Rattle.ygg_sym.specs.ygg_sym_runs.SpecCuts.{crash_made, then_crash_made}
 use Rattle.ygg_oblige_pieces.specs.Outcomes.{fall_with_picks}
 
 module _ (kinds : List RuleKind) (terms : SymFunctions) (L : ClosedLayer) (o : Operation) (vars args : List SymValue) where

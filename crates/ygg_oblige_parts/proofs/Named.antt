@@ -10,10 +10,10 @@ use Rattle.ygg_sym.specs.ygg_bank.declared.node.Node.{Node}
 use Rattle.ygg_sym.specs.ygg_shape.Fresh.{fresh_made, words_of}
 use Rattle.ygg_sym.proofs.of_ygg_shape.Answered.{no_inputs, some_fit}
 use Rattle.ygg_sym.specs.ygg_shape_cells.declared.terms.SymValue.{SymValue}
-use Rattle.ygg_sym.specs.ygg_sym_below.Lows.{LowShaped}
+use Rattle.ygg_sym.specs.ygg_sym_runs.Lows.{LowShaped}
 use Rattle.ygg_sym.proofs.Left.{Left, left_goes, rest_is}
 use Rattle.ygg_oblige_pieces.specs.Layers.{ShapesKept}
-use Rattle.ygg_oblige_pieces.specs.ObligeTermsStates.{fresh_all, words_in}
+use Rattle.ygg_oblige_pieces.specs.TermStates.{fresh_all, words_in}
 use Rattle.ygg_oblige_pieces.proofs.Fresh.{all_gives}
 
 module _ (kinds : List RuleKind) where

@@ -25,11 +25,11 @@ use Rattle.ygg_sym.specs.ygg_sym_expr.Names.{SymScope, SymEnv, sym_bind}
 use Rattle.ygg_sym.proofs.of_ygg_sym_runs.Worths.{NameShaped}
 use Rattle.ygg_sym.proofs.of_ygg_shape.Answered.{no_inputs}
 use Rattle.ygg_sym.specs.ygg_bank.Values.{value_of}
-use Rattle.ygg_sym.specs.ygg_sym_below_proofs_Lows.{low_fits}
-use Rattle.ygg_sym.specs.ygg_sym_below_proofs_Specs.{bound_worth, low_shaped}
-use Rattle.ygg_sym.specs.ygg_sym_below.Lows.{LowShaped, low_worth}
+use Rattle.ygg_sym.specs.ygg_sym_runs_proofs_Lows.{low_fits}
+use Rattle.ygg_sym.specs.ygg_sym_runs_proofs_Specs.{bound_worth, low_shaped}
+use Rattle.ygg_sym.specs.ygg_sym_runs.Lows.{LowShaped, low_worth}
 use Rattle.ygg_oblige_pieces.specs.Layers.{FormulaTyped, LayerTyped}
-use Rattle.ygg_oblige_pieces.specs.ObligeTermsStates.{Trio}
+use Rattle.ygg_oblige_pieces.specs.TermStates.{Trio}
 use Rattle.ygg_oblige_pieces.proofs.Truths.{both_fit}
 use Rattle.ygg_oblige_pieces.specs.Worth.{TrioShaped}
 use Rattle.ygg_oblige_parts.specs.Formulas.{CanTest, seen}

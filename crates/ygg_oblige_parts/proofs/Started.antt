@@ -16,7 +16,7 @@ use Rattle.ygg_oblige_pieces.specs.ygg_shape_hypothesis.declared.replacing.Repla
 use Rattle.ygg_sym.specs.ygg_sym_expr.Exprs.{SymFunctions}
 use Rattle.ygg_oblige_pieces.specs.Means.{terms_of}
 use Rattle.ygg_oblige_pieces.specs.Layers.{LayerTyped}
-use Rattle.ygg_oblige_pieces.specs.ObligeTermsStates.{Trio, Starting, fresh_trio, replaced_all, replaced_trio, starting}
+use Rattle.ygg_oblige_pieces.specs.TermStates.{Trio, Starting, fresh_trio, replaced_all, replaced_trio, starting}
 use Rattle.ygg_oblige_pieces.proofs.Starting.{states_mean}
 use Rattle.ygg_oblige_parts.specs.Makers.{StartingShaped, started_made}
 

@@ -33,14 +33,14 @@ use Rattle.ygg_sym.specs.ygg_sym_expr.Names.{sym_bind}
 use Rattle.ygg_sym.proofs.of_ygg_sym_runs.Worths.{shape_fits}
 use Rattle.ygg_sym.specs.ygg_sym_runs.Lower.{KeepsSingle}
 use Rattle.ygg_sym.specs.ygg_sym_runs.Meaning.{AnswerShaped, answer_worth}
-use Rattle.ygg_sym.proofs.of_ygg_sym_below.Blocks.{BlockOfSpec, values_worth, low_stands, block_made_grows, block_made_gives}
-use Rattle.ygg_sym.specs.ygg_sym_below_proofs_Chosen.{block_end, nth}
-use Rattle.ygg_sym.specs.ygg_sym_below_proofs_Lows.{low_wider}
-use Rattle.ygg_sym.specs.ygg_sym_below_proofs_Specs.{given_pick_means}
-use Rattle.ygg_sym.specs.ygg_sym_below.Disks.{Done}
-use Rattle.ygg_sym.specs.ygg_sym_below.Lows.{LowShaped, low_worth}
-use Rattle.ygg_sym.specs.ygg_sym_below.SpecCuts.{block_made}
-use Rattle.ygg_sym.specs.ygg_sym_below.Specs.{given_pick}
+use Rattle.ygg_sym.proofs.of_ygg_sym_runs.Blocks.{BlockOfSpec, values_worth, low_stands, block_made_grows, block_made_gives}
+use Rattle.ygg_sym.specs.ygg_sym_runs_proofs_Chosen.{block_end, nth}
+use Rattle.ygg_sym.specs.ygg_sym_runs_proofs_Lows.{low_wider}
+use Rattle.ygg_sym.specs.ygg_sym_runs_proofs_Specs.{given_pick_means}
+use Rattle.ygg_sym.specs.ygg_sym_runs.Disks.{Done}
+use Rattle.ygg_sym.specs.ygg_sym_runs.Lows.{LowShaped, low_worth}
+use Rattle.ygg_sym.specs.ygg_sym_runs.SpecCuts.{block_made}
+use Rattle.ygg_sym.specs.ygg_sym_runs.Specs.{given_pick}
 use Rattle.ygg_oblige_pieces.specs.Means.{terms_of}
 use Rattle.ygg_sym.specs.Layers.{closed}
 use Rattle.ygg_sym.specs.SymLayer.{SymLayer}

@@ -1,16 +1,15 @@
 pub use Rattle.ygg_sym.specs.ygg_bank_proofs_Widths
 pub use Rattle.ygg_sym.specs.ygg_bank
 pub use Rattle.ygg_sym.specs.ygg_meaning
-pub use Rattle.ygg_oblige_pieces.specs.ygg_oblige_terms
+pub use Rattle.ygg_oblige_pieces.specs as ygg_oblige_pieces
 pub use Rattle.ygg_sym.specs.ygg_rules
 pub use Rattle.ygg_sym.specs.ygg_shape
 pub use Rattle.ygg_sym.specs.ygg_shape_cells
-pub use Rattle.ygg_sym.specs.ygg_sym_below_proofs_Lows
-pub use Rattle.ygg_sym.specs.ygg_sym_below
+pub use Rattle.ygg_sym.specs.ygg_sym_runs_proofs_Lows
+pub use Rattle.ygg_sym.specs.ygg_sym_runs
 pub use Rattle.ygg_sym.specs.ygg_sym_expr_proofs_Shaped
 pub use Rattle.ygg_sym.specs.ygg_sym_expr
 pub use Rattle.ygg_sym.specs.ygg_sym_laws
-pub use Rattle.ygg_sym.specs.ygg_sym_runs
 pub use Rattle.ygg_sym.specs.ygg_sym_spec
 pub use Rattle.ygg_sym.specs.ygg_type_progress
 pub use Rattle.ygg_sym.specs.SymLayer

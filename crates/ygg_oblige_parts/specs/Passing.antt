@@ -16,14 +16,14 @@ use Rattle.ygg_sym.specs.ygg_shape_cells.declared.terms.SymValue.{SymValue}
 use Rattle.ygg_sym.specs.ygg_sym_expr.Exprs.{SymFunctions}
 use Rattle.ygg_sym.specs.ygg_sym_runs.Meaning.{AnswerShaped}
 use Rattle.ygg_sym.specs.ygg_sym_runs.Lower.{SingleFrom}
-use Rattle.ygg_sym.specs.ygg_sym_below.Lows.{LowShaped}
+use Rattle.ygg_sym.specs.ygg_sym_runs.Lows.{LowShaped}
 use Rattle.ygg_sym.specs.Layers.{closed, terms_in}
 use Rattle.ygg_sym.specs.SymLayer.{SymLayer}
 use Rattle.ygg_sym.specs.Sites.{below_in}
 use Rattle.ygg_sym.specs.declared.below.SymBelow.{SymBelow}
 use Rattle.ygg_oblige_pieces.specs.Numbers.{arguments_of}
 use Rattle.ygg_oblige_pieces.specs.Outcomes.{any_picks, outcome_made}
-use Rattle.ygg_oblige_pieces.specs.ObligeTermsStates.{related_made}
+use Rattle.ygg_oblige_pieces.specs.TermStates.{related_made}
 use Rattle.ygg_oblige_pieces.specs.Terms.{Finish, same_answers_made}
 use Rattle.ygg_oblige_pieces.specs.Steps.{AnswerKept, HasStep, ObligationTyped, variables_of}
 use Rattle.ygg_oblige_parts.specs.Digits.{AnswersAlike}

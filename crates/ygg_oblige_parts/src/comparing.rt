@@ -5,7 +5,7 @@ ghost use Rattle.ygg_sym.specs.ygg_bank.Nodes.{Extends, HasWidth, IsBank};
 ghost use Rattle.ygg_sym.specs.ygg_shape.Wholes.{AllAlike};
 ghost use Rattle.ygg_sym.specs.ygg_sym_runs.Lower.{KeepsSingle};
 ghost use Rattle.ygg_oblige_pieces.specs.Outcomes.{answers_compared};
-ghost use Rattle.ygg_oblige_pieces.specs.ObligeTermsStates.{all_compared};
+ghost use Rattle.ygg_oblige_pieces.specs.TermStates.{all_compared};
 ghost use Rattle.ygg_oblige_parts.specs.Digits.{AnswersAlike};
 
 use crate::digits::constant;

@@ -2,8 +2,8 @@
 
 ghost use Rattle.std.specs.Prelude.{◌≡◌, IfOk, OnOk};
 ghost use Rattle.ygg_sym.specs.ygg_bank.Nodes.{Extends, IsBank};
-ghost use Rattle.ygg_sym.specs.ygg_sym_below.Disks.{done};
-ghost use Rattle.ygg_sym.specs.ygg_sym_below.Lows.{LowShaped};
+ghost use Rattle.ygg_sym.specs.ygg_sym_runs.Disks.{done};
+ghost use Rattle.ygg_sym.specs.ygg_sym_runs.Lows.{LowShaped};
 ghost use Rattle.ygg_sym.specs.ygg_sym_runs.Lower.{KeepsSingle, SingleFrom};
 ghost use Rattle.ygg_sym.specs.Layers.{closed, terms_in};
 ghost use Rattle.ygg_sym.specs.Sites.{below_in};

@@ -4,11 +4,11 @@ ghost use Rattle.std.specs.Prelude.{◌≡◌, ◌+◌, ◌<◌, ◌^◌, IfOk, 
 ghost use Rattle.ygg_sym.specs.ygg_bank.Inputs.{InputsBelow};
 ghost use Rattle.ygg_sym.specs.ygg_bank.Nodes.{Extends, HasWidth, IsBank};
 ghost use Rattle.ygg_sym.specs.ygg_meaning.Related.{relations};
-ghost use Rattle.ygg_sym.specs.ygg_sym_below.Lows.{LowShaped};
+ghost use Rattle.ygg_sym.specs.ygg_sym_runs.Lows.{LowShaped};
 ghost use Rattle.ygg_sym.specs.ygg_sym_expr.Seen.{env_of};
 ghost use Rattle.ygg_sym.specs.ygg_sym_runs.Lower.{KeepsSingle};
 ghost use Rattle.ygg_sym.specs.Layers.{closed, terms_in};
-ghost use Rattle.ygg_oblige_pieces.specs.ObligeTermsStates.{
+ghost use Rattle.ygg_oblige_pieces.specs.TermStates.{
   fresh_trio,
   related_made,
   replaced_all,

@@ -2,26 +2,26 @@
 use Rattle.std.proofs.Common.{◌≡◌, ◌+◌, ◌||◌, ℕ, zero, suc, Bool, true, false, List, [], ◌∷◌, ◌++◌, length, refl, sym, ap, ◌∙◌, arith, append_assoc}
 use Rattle.std.proofs.lemmas.List.{append-nil}
 use Rattle.ygg_value.specs.declared.operation.Op.TheVariants.{Or}
-use Rattle.ygg_sym_laws_spec.specs.ygg_meaning.Machine.{Picks}
-use Rattle.ygg_sym_laws_spec.specs.ygg_meaning.Obligations.{NoPicksPass}
-use Rattle.ygg_sym_laws_spec.proofs.of_ygg_histories.Search.{Passes}
-use Rattle.ygg_sym_laws_spec.specs.ygg_rules.declared.rule.RuleKind.{RuleKind}
-use Rattle.ygg_sym_laws_spec.specs.ygg_bank_proofs_Made.{made_grows}
-use Rattle.ygg_sym_laws_spec.specs.ygg_bank_proofs_Meaning.{fits_fewer}
-use Rattle.ygg_sym_laws_spec.specs.ygg_bank_proofs_Widths.{wider, extends_both}
-use Rattle.ygg_sym_laws_spec.specs.ygg_bank.Makes.{Make}
-use Rattle.ygg_sym_laws_spec.specs.ygg_bank.Making.{made}
-use Rattle.ygg_sym_laws_spec.specs.ygg_bank.Nodes.{HasWidth, Extends}
-use Rattle.ygg_sym_laws_spec.specs.ygg_bank.Values.{Inputs, Values}
-use Rattle.ygg_sym_laws_spec.specs.ygg_bank.declared.node.Id.{Id}
-use Rattle.ygg_sym_laws_spec.specs.ygg_bank.declared.node.Node.{Node}
-use Rattle.ygg_sym_laws_spec.specs.ygg_bank.declared.node.Node.TheVariants.{Bin}
-use Rattle.ygg_sym_laws_spec.specs.ygg_shape_words_proofs_Keeps.{Stays}
-use Rattle.ygg_sym_laws_spec.specs.ygg_direct_proofs_Placing.{long_append}
-use Rattle.ygg_sym_laws_spec.specs.ygg_sym_expr.Meaning.{Grows, Gives}
-use Rattle.ygg_sym_laws_spec.specs.ygg_sym_expr_proofs_Keeps.{Keeps}
-use Rattle.ygg_sym_laws_spec.specs.Meaning.{is_set}
-use Rattle.ygg_oblige_terms.specs.Outcomes.{any_picks}
+use Rattle.ygg_sym_laws.specs.ygg_meaning.Machine.{Picks}
+use Rattle.ygg_sym_laws.specs.ygg_meaning.Obligations.{NoPicksPass}
+use Rattle.ygg_sym_laws.proofs.of_ygg_meaning.Search.{Passes}
+use Rattle.ygg_sym_laws.specs.ygg_rules.declared.rule.RuleKind.{RuleKind}
+use Rattle.ygg_sym_laws.specs.ygg_bank_proofs_Made.{made_grows}
+use Rattle.ygg_sym_laws.specs.ygg_bank_proofs_Meaning.{fits_fewer}
+use Rattle.ygg_sym_laws.specs.ygg_bank_proofs_Widths.{wider, extends_both}
+use Rattle.ygg_sym_laws.specs.ygg_bank.Makes.{Make}
+use Rattle.ygg_sym_laws.specs.ygg_bank.Making.{made}
+use Rattle.ygg_sym_laws.specs.ygg_bank.Nodes.{HasWidth, Extends}
+use Rattle.ygg_sym_laws.specs.ygg_bank.Values.{Inputs, Values}
+use Rattle.ygg_sym_laws.specs.ygg_bank.declared.node.Id.{Id}
+use Rattle.ygg_sym_laws.specs.ygg_bank.declared.node.Node.{Node}
+use Rattle.ygg_sym_laws.specs.ygg_bank.declared.node.Node.TheVariants.{Bin}
+use Rattle.ygg_sym_laws.specs.ygg_shape_words_proofs_Keeps.{Stays}
+use Rattle.ygg_sym_laws.specs.ygg_direct_proofs_Placing.{long_append}
+use Rattle.ygg_sym_laws.specs.ygg_sym_expr.Meaning.{Grows, Gives}
+use Rattle.ygg_sym_laws.specs.ygg_sym_expr_proofs_Keeps.{Keeps}
+use Rattle.ygg_sym_laws.specs.Meaning.{is_set}
+use Rattle.ygg_oblige_pieces.specs.Outcomes.{any_picks}
 use Rattle.ygg_oblige_pieces.proofs.Truth.{or_gives}
 use Rattle.ygg_oblige_pieces.specs.Worth.{IsTruth}
 

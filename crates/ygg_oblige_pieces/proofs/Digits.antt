@@ -38,14 +38,14 @@ use Rattle.ygg_value.specs.declared.row.Value.{Value}
 use Rattle.ygg_value.specs.declared.row.Value.TheVariants as value
 use Rattle.ygg_value.specs.declared.shape.Shape.{Shape}
 use Rattle.ygg_syntax.specs.declared.tree.Declared.{Declared}
-use Rattle.ygg_sym_laws_spec.specs.ygg_meaning.Environments.{Env}
-use Rattle.ygg_sym_laws_spec.specs.ygg_meaning.Shapes.{shape_in, fits, env_fits}
-use Rattle.ygg_sym_laws_spec.specs.ygg_type_sound_proofs_Tests.{left as first_of, right as second_of, bytes_same}
-use Rattle.ygg_sym_laws_spec.specs.ygg_type_sound_proofs_Fits.{fits_has}
-use Rattle.ygg_sym_laws_spec.specs.ygg_bank.Values.{Inputs}
-use Rattle.ygg_sym_laws_spec.specs.ygg_shape.Fresh.{words_of, numbers_from, rows_from, given_value}
-use Rattle.ygg_oblige_terms.specs.Layers.{ShapesKept}
-use Rattle.ygg_oblige_terms.specs.States.{words_in}
+use Rattle.ygg_sym_laws.specs.ygg_meaning.Environments.{Env}
+use Rattle.ygg_sym_laws.specs.ygg_meaning.Shapes.{shape_in, fits, env_fits}
+use Rattle.ygg_sym_laws.specs.ygg_type_sound_proofs_Tests.{left as first_of, right as second_of, bytes_same}
+use Rattle.ygg_sym_laws.specs.ygg_type_sound_proofs_Fits.{fits_has}
+use Rattle.ygg_sym_laws.specs.ygg_bank.Values.{Inputs}
+use Rattle.ygg_sym_laws.specs.ygg_shape.Fresh.{words_of, numbers_from, rows_from, given_value}
+use Rattle.ygg_oblige_pieces.specs.Layers.{ShapesKept}
+use Rattle.ygg_oblige_pieces.specs.TermStates.{words_in}
 use Rattle.ygg_oblige_pieces.specs.Inputs.{given_env, width_of, word_width, AreDigits, EnvDigits}
 
 -- numbers, and others after the first so many of them

@@ -1,5 +1,5 @@
-pub use Rattle.ygg_sym_laws_spec.proofs.of_ygg_type_progress
-pub use Rattle.ygg_sym_laws_spec.proofs.AnyLayer
+pub use Rattle.ygg_sym_laws.proofs.of_ygg_type_progress
+pub use Rattle.ygg_sym_laws.proofs.AnyLayer
 pub mod Glued
 pub mod Digits
 pub mod Fresh
@@ -11,3 +11,4 @@ pub mod Placed
 pub mod AnyPicks
 pub mod Outcomes
 pub mod Steps
+pub use Rattle.ygg_shape_hypothesis.proofs as of_ygg_shape_hypothesis

@@ -9,63 +9,63 @@ use Rattle.ygg_syntax.specs.declared.tree.Block.{Block}
 use Rattle.ygg_syntax.specs.declared.tree.Declared.{Declared}
 use Rattle.ygg_syntax.specs.declared.tree.Def.{Def}
 use Rattle.ygg_syntax.specs.declared.tree.Operation.{Operation}
-use Rattle.ygg_sym_laws_spec.specs.ygg_symbols.Names.{Named}
-use Rattle.ygg_sym_laws_spec.specs.ygg_type_rules.Definitions.{with_definitions}
-use Rattle.ygg_sym_laws_spec.specs.ygg_type_rules.Layers.{operation_signature}
-use Rattle.ygg_sym_laws_spec.specs.ygg_type_rules.declared.scope.Signature.{Signature}
-use Rattle.ygg_sym_laws_spec.specs.ygg_meaning.Environments.{Env, bind}
-use Rattle.ygg_sym_laws_spec.specs.ygg_meaning.Layer.{ClosedLayer}
-use Rattle.ygg_sym_laws_spec.specs.ygg_meaning.Machine.{Picks, State, based}
-use Rattle.ygg_sym_laws_spec.specs.ygg_meaning.Obligations.{Obligation, Init, CallOf, CutOf, TickOf, CutTickOf, Idle, Again, crash_picks}
-use Rattle.ygg_sym_laws_spec.specs.ygg_meaning.Refines.{Below}
-use Rattle.ygg_sym_laws_spec.specs.ygg_meaning.Related.{related}
-use Rattle.ygg_sym_laws_spec.specs.ygg_meaning.Spec.{SpecStarts}
-use Rattle.ygg_sym_laws_spec.specs.ygg_meaning.Violates.{same_answer}
-use Rattle.ygg_sym_laws_spec.specs.ygg_type_progress.Kinds.{keeps, on_crash_keeps}
-use Rattle.ygg_sym_laws_spec.specs.ygg_type_progress.Questions.{gives}
-use Rattle.ygg_sym_laws_spec.specs.ygg_rules.declared.rule.RuleKind.{RuleKind}
-use Rattle.ygg_sym_laws_spec.specs.ygg_bank_proofs_Made.{made_grows}
-use Rattle.ygg_sym_laws_spec.specs.ygg_bank_proofs_Meaning.{fits_fewer}
-use Rattle.ygg_sym_laws_spec.specs.ygg_bank_proofs_Widths.{extends_both}
-use Rattle.ygg_sym_laws_spec.specs.ygg_bank.Makes.{Make}
-use Rattle.ygg_sym_laws_spec.specs.ygg_bank.Making.{made}
-use Rattle.ygg_sym_laws_spec.specs.ygg_bank.Nodes.{Extends}
-use Rattle.ygg_sym_laws_spec.specs.ygg_bank.Values.{Inputs, Values}
-use Rattle.ygg_sym_laws_spec.specs.ygg_bank.declared.node.Node.{Node}
-use Rattle.ygg_sym_laws_spec.specs.ygg_bank.declared.node.Node.TheVariants.{Const, Bin}
-use Rattle.ygg_sym_laws_spec.specs.ygg_shape_words_proofs_Keeps.{Stays}
-use Rattle.ygg_sym_laws_spec.specs.ygg_shape_cells.declared.terms.SymValue.{SymValue}
-use Rattle.ygg_sym_laws_spec.specs.ygg_direct.Acts.{next_of}
-use Rattle.ygg_sym_laws_spec.specs.ygg_direct.Places.{left_after, Result, outcome_by_place}
-use Rattle.ygg_sym_laws_spec.specs.ygg_direct.SpecPlaces.{crash_by_place, then_by_place}
-use Rattle.ygg_sym_laws_spec.specs.ygg_sym_expr.Exprs.{SymFunctions}
-use Rattle.ygg_sym_laws_spec.specs.ygg_sym_expr.Meaning.{Grows, Gives}
-use Rattle.ygg_sym_laws_spec.specs.ygg_sym_expr.Names.{sym_bind}
-use Rattle.ygg_sym_laws_spec.specs.ygg_sym_expr_proofs_Grows.{FunctionsGrow, functions_grow}
-use Rattle.ygg_sym_laws_spec.specs.ygg_sym_expr_proofs_Keeps.{Keeps, FunctionsKeep}
-use Rattle.ygg_sym_laws_spec.specs.ygg_sym_expr_proofs_Shaped.{some_wider}
-use Rattle.ygg_sym_laws_spec.specs.ygg_sym_expr_proofs_Values.{FunctionsMean}
-use Rattle.ygg_sym_laws_spec.specs.Meaning.{AnswerShaped, answer_worth}
-use Rattle.ygg_sym_laws_spec.proofs.Blocks.{BlockOfSpec, values_worth, low_stands, block_made_gives}
-use Rattle.ygg_sym_laws_spec.proofs.Chosen.{block_end, nth, placed_end}
-use Rattle.ygg_sym_laws_spec.proofs.Lows.{low_wider}
-use Rattle.ygg_sym_laws_spec.proofs.SpecKeeps.{block_keeps, crash_keeps, then_keeps}
-use Rattle.ygg_sym_laws_spec.proofs.SpecStops.{SomeBlock, FallsTyped, crash_gives, then_grows, then_gives}
-use Rattle.ygg_sym_laws_spec.proofs.Specs.{given_pick_means}
-use Rattle.ygg_sym_laws_spec.specs.Disks.{Done, done}
-use Rattle.ygg_sym_laws_spec.specs.Lows.{LowShaped, low_worth}
-use Rattle.ygg_sym_laws_spec.specs.SpecCuts.{block_made, crash_made, then_crash_made}
-use Rattle.ygg_sym_laws_spec.specs.Specs.{given_pick}
-use Rattle.ygg_sym_laws_spec.proofs.Zeros.{zeros_made_keep}
-use Rattle.ygg_sym_laws_spec.specs.Below.{zeros_made, start_made}
-use Rattle.ygg_sym_laws_spec.specs.Means.{terms_of, values_in}
-use Rattle.ygg_sym_laws_spec.specs.Typed.{SpecBlockTyped}
-use Rattle.ygg_sym_laws_spec.proofs.AnyLayer.{spec_start}
-use Rattle.ygg_sym_laws_spec.proofs.Begun.{falls_typed}
-use Rattle.ygg_oblige_terms.specs.Layers.{OperationFits, LayerTyped}
-use Rattle.ygg_oblige_terms.specs.Outcomes.{fall_with_picks, leaving, outcome_made}
-use Rattle.ygg_oblige_terms.specs.States.{Trio, related_made}
-use Rattle.ygg_oblige_terms.specs.Terms.{Finish, same_answers_made, passes_made}
+use Rattle.ygg_sym_laws.specs.ygg_symbols.Names.{Named}
+use Rattle.ygg_sym_laws.specs.ygg_type_rules.Definitions.{with_definitions}
+use Rattle.ygg_sym_laws.specs.ygg_type_rules.Layers.{operation_signature}
+use Rattle.ygg_sym_laws.specs.ygg_type_rules.declared.scope.Signature.{Signature}
+use Rattle.ygg_sym_laws.specs.ygg_meaning.Environments.{Env, bind}
+use Rattle.ygg_sym_laws.specs.ygg_meaning.Layer.{ClosedLayer}
+use Rattle.ygg_sym_laws.specs.ygg_meaning.Machine.{Picks, State, based}
+use Rattle.ygg_sym_laws.specs.ygg_meaning.Obligations.{Obligation, Init, CallOf, CutOf, TickOf, CutTickOf, Idle, Again, crash_picks}
+use Rattle.ygg_sym_laws.specs.ygg_meaning.Refines.{Below}
+use Rattle.ygg_sym_laws.specs.ygg_meaning.Related.{related}
+use Rattle.ygg_sym_laws.specs.ygg_meaning.Spec.{SpecStarts}
+use Rattle.ygg_sym_laws.specs.ygg_meaning.Violates.{same_answer}
+use Rattle.ygg_sym_laws.specs.ygg_type_progress.Kinds.{keeps, on_crash_keeps}
+use Rattle.ygg_sym_laws.specs.ygg_type_progress.Questions.{gives}
+use Rattle.ygg_sym_laws.specs.ygg_rules.declared.rule.RuleKind.{RuleKind}
+use Rattle.ygg_sym_laws.specs.ygg_bank_proofs_Made.{made_grows}
+use Rattle.ygg_sym_laws.specs.ygg_bank_proofs_Meaning.{fits_fewer}
+use Rattle.ygg_sym_laws.specs.ygg_bank_proofs_Widths.{extends_both}
+use Rattle.ygg_sym_laws.specs.ygg_bank.Makes.{Make}
+use Rattle.ygg_sym_laws.specs.ygg_bank.Making.{made}
+use Rattle.ygg_sym_laws.specs.ygg_bank.Nodes.{Extends}
+use Rattle.ygg_sym_laws.specs.ygg_bank.Values.{Inputs, Values}
+use Rattle.ygg_sym_laws.specs.ygg_bank.declared.node.Node.{Node}
+use Rattle.ygg_sym_laws.specs.ygg_bank.declared.node.Node.TheVariants.{Const, Bin}
+use Rattle.ygg_sym_laws.specs.ygg_shape_words_proofs_Keeps.{Stays}
+use Rattle.ygg_sym_laws.specs.ygg_shape_cells.declared.terms.SymValue.{SymValue}
+use Rattle.ygg_sym_laws.specs.ygg_direct.Acts.{next_of}
+use Rattle.ygg_sym_laws.specs.ygg_direct.Places.{left_after, Result, outcome_by_place}
+use Rattle.ygg_sym_laws.specs.ygg_direct.SpecPlaces.{crash_by_place, then_by_place}
+use Rattle.ygg_sym_laws.specs.ygg_sym_expr.Exprs.{SymFunctions}
+use Rattle.ygg_sym_laws.specs.ygg_sym_expr.Meaning.{Grows, Gives}
+use Rattle.ygg_sym_laws.specs.ygg_sym_expr.Names.{sym_bind}
+use Rattle.ygg_sym_laws.specs.ygg_sym_expr_proofs_Grows.{FunctionsGrow, functions_grow}
+use Rattle.ygg_sym_laws.specs.ygg_sym_expr_proofs_Keeps.{Keeps, FunctionsKeep}
+use Rattle.ygg_sym_laws.specs.ygg_sym_expr_proofs_Shaped.{some_wider}
+use Rattle.ygg_sym_laws.specs.ygg_sym_expr_proofs_Values.{FunctionsMean}
+use Rattle.ygg_sym_laws.specs.Meaning.{AnswerShaped, answer_worth}
+use Rattle.ygg_sym_laws.proofs.Blocks.{BlockOfSpec, values_worth, low_stands, block_made_gives}
+use Rattle.ygg_sym_laws.proofs.Chosen.{block_end, nth, placed_end}
+use Rattle.ygg_sym_laws.proofs.Lows.{low_wider}
+use Rattle.ygg_sym_laws.proofs.SpecKeeps.{block_keeps, crash_keeps, then_keeps}
+use Rattle.ygg_sym_laws.proofs.SpecStops.{SomeBlock, FallsTyped, crash_gives, then_grows, then_gives}
+use Rattle.ygg_sym_laws.proofs.Specs.{given_pick_means}
+use Rattle.ygg_sym_laws.specs.Disks.{Done, done}
+use Rattle.ygg_sym_laws.specs.Lows.{LowShaped, low_worth}
+use Rattle.ygg_sym_laws.specs.SpecCuts.{block_made, crash_made, then_crash_made}
+use Rattle.ygg_sym_laws.specs.Specs.{given_pick}
+use Rattle.ygg_sym_laws.proofs.Zeros.{zeros_made_keep}
+use Rattle.ygg_sym_laws.specs.Below.{zeros_made, start_made}
+use Rattle.ygg_sym_laws.specs.Means.{terms_of, values_in}
+use Rattle.ygg_sym_laws.specs.Typed.{SpecBlockTyped}
+use Rattle.ygg_sym_laws.proofs.AnyLayer.{spec_start}
+use Rattle.ygg_sym_laws.proofs.SpecBegun.{falls_typed}
+use Rattle.ygg_oblige_pieces.specs.Layers.{OperationFits, LayerTyped}
+use Rattle.ygg_oblige_pieces.specs.Outcomes.{fall_with_picks, leaving, outcome_made}
+use Rattle.ygg_oblige_pieces.specs.TermStates.{Trio, related_made}
+use Rattle.ygg_oblige_pieces.specs.Terms.{Finish, same_answers_made, passes_made}
 use Rattle.ygg_oblige_pieces.proofs.Compares.{answers_keep, answers_give}
 use Rattle.ygg_oblige_pieces.proofs.Placed.{fall_placed, crash_placed, then_placed}
 use Rattle.ygg_oblige_pieces.proofs.Starting.{related_keeps}

@@ -2,32 +2,32 @@
 use Rattle.std.proofs.Common.{◌≡◌, ◌⊎◌, inl, inr, Bool, true, false, List, [], length, refl, sym, ap, subst, arith}
 use Rattle.ygg_syntax.specs.declared.grammar.BlockKind.TheVariants.{Spec}
 use Rattle.ygg_syntax.specs.declared.tree.Def.{Def}
-use Rattle.ygg_sym_laws_spec.specs.ygg_meaning.Environments.{bind}
-use Rattle.ygg_sym_laws_spec.specs.ygg_meaning.Layer.{ClosedLayer}
-use Rattle.ygg_sym_laws_spec.specs.ygg_meaning.Machine.{Picks}
-use Rattle.ygg_sym_laws_spec.specs.ygg_meaning.Obligations.{Schedule, Obligation, Init, CallOf, CutOf, TickOf, CutTickOf, Idle, Again, NoPicksPass}
-use Rattle.ygg_sym_laws_spec.specs.ygg_meaning.Refines.{Below}
-use Rattle.ygg_sym_laws_spec.specs.ygg_meaning.Violates.{End, related_after, same_answer, most, spec_after, passes}
-use Rattle.ygg_sym_laws_spec.proofs.of_ygg_histories.Search.{Passes, find_picks}
-use Rattle.ygg_sym_laws_spec.specs.ygg_type_progress.Kinds.{keeps}
-use Rattle.ygg_sym_laws_spec.specs.ygg_rules.declared.rule.RuleKind.{RuleKind}
-use Rattle.ygg_sym_laws_spec.specs.ygg_bank.Nodes.{Extends}
-use Rattle.ygg_sym_laws_spec.specs.ygg_bank.Values.{Inputs, Values}
-use Rattle.ygg_sym_laws_spec.specs.ygg_bank.declared.node.Node.{Node}
-use Rattle.ygg_sym_laws_spec.specs.ygg_shape_cells.declared.terms.SymValue.{SymValue}
-use Rattle.ygg_sym_laws_spec.specs.ygg_direct.Places.{outcome_by_place}
-use Rattle.ygg_sym_laws_spec.specs.ygg_direct.SpecPlaces.{crash_by_place, ChoosesAlone}
-use Rattle.ygg_sym_laws_spec.specs.ygg_sym_expr.Meaning.{Grows, Gives}
-use Rattle.ygg_sym_laws_spec.specs.Meaning.{answer_worth}
-use Rattle.ygg_sym_laws_spec.proofs.Lows.{low_wider}
-use Rattle.ygg_sym_laws_spec.specs.Specs.{given_pick}
-use Rattle.ygg_sym_laws_spec.specs.SpecCuts.{crash_made}
-use Rattle.ygg_sym_laws_spec.specs.Below.{start_made}
-use Rattle.ygg_sym_laws_spec.specs.Means.{terms_of, values_in}
-use Rattle.ygg_oblige_terms.specs.Layers.{LayerTyped}
-use Rattle.ygg_oblige_terms.specs.Numbers.{arguments_of}
-use Rattle.ygg_oblige_terms.specs.Outcomes.{fall_with_picks}
-use Rattle.ygg_oblige_terms.specs.Terms.{Finish, passes_made, some_passes}
+use Rattle.ygg_sym_laws.specs.ygg_meaning.Environments.{bind}
+use Rattle.ygg_sym_laws.specs.ygg_meaning.Layer.{ClosedLayer}
+use Rattle.ygg_sym_laws.specs.ygg_meaning.Machine.{Picks}
+use Rattle.ygg_sym_laws.specs.ygg_meaning.Obligations.{Schedule, Obligation, Init, CallOf, CutOf, TickOf, CutTickOf, Idle, Again, NoPicksPass}
+use Rattle.ygg_sym_laws.specs.ygg_meaning.Refines.{Below}
+use Rattle.ygg_sym_laws.specs.ygg_meaning.Violates.{End, related_after, same_answer, most, spec_after, passes}
+use Rattle.ygg_sym_laws.proofs.of_ygg_meaning.Search.{Passes, find_picks}
+use Rattle.ygg_sym_laws.specs.ygg_type_progress.Kinds.{keeps}
+use Rattle.ygg_sym_laws.specs.ygg_rules.declared.rule.RuleKind.{RuleKind}
+use Rattle.ygg_sym_laws.specs.ygg_bank.Nodes.{Extends}
+use Rattle.ygg_sym_laws.specs.ygg_bank.Values.{Inputs, Values}
+use Rattle.ygg_sym_laws.specs.ygg_bank.declared.node.Node.{Node}
+use Rattle.ygg_sym_laws.specs.ygg_shape_cells.declared.terms.SymValue.{SymValue}
+use Rattle.ygg_sym_laws.specs.ygg_direct.Places.{outcome_by_place}
+use Rattle.ygg_sym_laws.specs.ygg_direct.SpecPlaces.{crash_by_place, ChoosesAlone}
+use Rattle.ygg_sym_laws.specs.ygg_sym_expr.Meaning.{Grows, Gives}
+use Rattle.ygg_sym_laws.specs.Meaning.{answer_worth}
+use Rattle.ygg_sym_laws.proofs.Lows.{low_wider}
+use Rattle.ygg_sym_laws.specs.Specs.{given_pick}
+use Rattle.ygg_sym_laws.specs.SpecCuts.{crash_made}
+use Rattle.ygg_sym_laws.specs.Below.{start_made}
+use Rattle.ygg_sym_laws.specs.Means.{terms_of, values_in}
+use Rattle.ygg_oblige_pieces.specs.Layers.{LayerTyped}
+use Rattle.ygg_oblige_pieces.specs.Numbers.{arguments_of}
+use Rattle.ygg_oblige_pieces.specs.Outcomes.{fall_with_picks}
+use Rattle.ygg_oblige_pieces.specs.Terms.{Finish, passes_made, some_passes}
 use Rattle.ygg_oblige_pieces.proofs.AnyPicks.{any_keeps, any_gives}
 use Rattle.ygg_oblige_pieces.proofs.Outcomes.{passes_keep, answer_wider, crash_kept, passes_from, left_out, same_out, crash_out, fall_out, call_out, start_out}
 use Rattle.ygg_oblige_pieces.proofs.Placed.{fall_placed, spec_placed, placed_fails}

@@ -25,19 +25,19 @@ use Rattle.ygg_value.specs.Words.{bit_of}
 use Rattle.ygg_value.specs.declared.shape.Shape.{Shape}
 use Rattle.ygg_value.specs.declared.shape.Shape.TheVariants.{Word, Row, Table}
 use Rattle.ygg_syntax.specs.declared.tree.Declared.{Declared}
-use Rattle.ygg_sym_laws_spec.specs.ygg_meaning.Environments.{Env}
-use Rattle.ygg_sym_laws_spec.specs.ygg_meaning.Shapes.{shape_in, env_fits}
-use Rattle.ygg_sym_laws_spec.specs.ygg_rules.declared.rule.RuleKind.{RuleKind}
-use Rattle.ygg_sym_laws_spec.specs.ygg_bank.Inputs.{InputsBelow}
-use Rattle.ygg_sym_laws_spec.specs.ygg_bank.Nodes.{Extends, InOrder}
-use Rattle.ygg_sym_laws_spec.specs.ygg_bank.Values.{Inputs, InputsFit, Values}
-use Rattle.ygg_sym_laws_spec.specs.ygg_bank.declared.node.Node.{Node}
-use Rattle.ygg_sym_laws_spec.specs.ygg_bank.declared.node.Node.TheVariants.{Input}
-use Rattle.ygg_sym_laws_spec.specs.ygg_shape.Fresh.{words_of, given_value}
-use Rattle.ygg_sym_laws_spec.specs.ygg_sym_expr.Meaning.{Grows, Gives}
-use Rattle.ygg_sym_laws_spec.specs.Means.{AreBits}
-use Rattle.ygg_oblige_terms.specs.Layers.{ShapesKept}
-use Rattle.ygg_oblige_terms.specs.States.{words_in, fresh_all}
+use Rattle.ygg_sym_laws.specs.ygg_meaning.Environments.{Env}
+use Rattle.ygg_sym_laws.specs.ygg_meaning.Shapes.{shape_in, env_fits}
+use Rattle.ygg_sym_laws.specs.ygg_rules.declared.rule.RuleKind.{RuleKind}
+use Rattle.ygg_sym_laws.specs.ygg_bank.Inputs.{InputsBelow}
+use Rattle.ygg_sym_laws.specs.ygg_bank.Nodes.{Extends, InOrder}
+use Rattle.ygg_sym_laws.specs.ygg_bank.Values.{Inputs, InputsFit, Values}
+use Rattle.ygg_sym_laws.specs.ygg_bank.declared.node.Node.{Node}
+use Rattle.ygg_sym_laws.specs.ygg_bank.declared.node.Node.TheVariants.{Input}
+use Rattle.ygg_sym_laws.specs.ygg_shape.Fresh.{words_of, given_value}
+use Rattle.ygg_sym_laws.specs.ygg_sym_expr.Meaning.{Grows, Gives}
+use Rattle.ygg_sym_laws.specs.Means.{AreBits}
+use Rattle.ygg_oblige_pieces.specs.Layers.{ShapesKept}
+use Rattle.ygg_oblige_pieces.specs.TermStates.{words_in, fresh_all}
 use Rattle.ygg_oblige_pieces.specs.Worth.{LowIs}
 
 -- the declared names with the values that the inputs give, numbered on from a number

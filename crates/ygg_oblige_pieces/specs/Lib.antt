@@ -1,17 +1,34 @@
-pub use Rattle.ygg_sym_laws_spec.specs.ygg_histories
-pub use Rattle.ygg_sym_laws_spec.specs.ygg_meaning
-pub use Rattle.ygg_oblige_terms.specs as ygg_oblige_terms
-pub use Rattle.ygg_oblige_terms.specs.ygg_shape_hypothesis
-pub use Rattle.ygg_sym_laws_spec.specs.ygg_sym_expr
-pub use Rattle.ygg_sym_laws_spec.specs.ygg_sym_laws
-pub use Rattle.ygg_sym_laws_spec.specs.ygg_type_progress
-pub use Rattle.ygg_sym_laws_spec.specs.Means
-pub use Rattle.ygg_oblige_terms.specs.Numbers
-pub use Rattle.ygg_oblige_terms.specs.Layers
-pub use Rattle.ygg_oblige_terms.specs.Terms
-pub use Rattle.ygg_oblige_terms.specs.States as ObligeTermsStates
-pub use Rattle.ygg_oblige_terms.specs.Outcomes
+pub use Rattle.ygg_sym_laws.specs.ygg_meaning
+pub use Rattle.ygg_sym_laws.specs.ygg_sym_expr
+pub use Rattle.ygg_sym_laws.specs as ygg_sym_laws
+pub use Rattle.ygg_sym_laws.specs.ygg_type_progress
+pub use Rattle.ygg_sym_laws.specs.Means
 pub mod Inputs
 pub mod Worth
 pub mod States
 pub mod Steps
+pub use Rattle.ygg_sym_laws.specs.ygg_direct
+pub use Rattle.ygg_shape_hypothesis.specs as ygg_shape_hypothesis
+pub use Rattle.ygg_sym_laws.specs.ygg_symbols
+pub use Rattle.ygg_sym_laws.specs.ygg_syntax_count
+pub use Rattle.ygg_sym_laws.specs.ygg_type_progress_proofs_Files
+pub use Rattle.ygg_sym_laws.specs.ygg_type_progress_proofs_Operations
+pub use Rattle.ygg_sym_laws.specs.ygg_type_progress_proofs_Specs
+pub use Rattle.ygg_sym_laws.specs.ygg_type_progress_proofs_TypeErrors
+pub use Rattle.ygg_sym_laws.specs.ygg_type_progress_proofs_Typed
+pub use Rattle.ygg_sym_laws.specs.ygg_type_rules
+pub use Rattle.ygg_sym_laws.specs.ygg_type_sound_proofs_Definitions
+pub use Rattle.ygg_sym_laws.specs.ygg_type_sound_proofs_Parameters
+pub use Rattle.ygg_sym_laws.specs.ygg_type_sound_proofs_Rules
+pub use Rattle.ygg_sym_laws.specs.ygg_type_sound_proofs_Sounds
+pub use Rattle.ygg_sym_laws.specs.ygg_type_sound_proofs_Tests
+pub use Rattle.ygg_sym_laws.specs.ygg_type_sound
+pub use Rattle.ygg_sym_laws.specs.Typed
+pub use Rattle.ygg_sym_laws.specs.Below
+pub use Rattle.ygg_sym_laws.specs.Specs
+pub mod TermStates
+pub mod Outcomes
+pub mod Numbers
+pub mod Terms
+pub mod Layers
+pub mod Meaning

@@ -3,20 +3,20 @@ use Rattle.std.proofs.Common.{◌≡◌, ◌↔◌, ℕ, zero, suc, List, [], �
 use Rattle.std.specs.Prelude.{slice_get}
 use Rattle.ygg_syntax.specs.Files.{IsDerived}
 use Rattle.ygg_syntax.specs.declared.tree.File.{File}
-use Rattle.ygg_oblige_places.specs.ygg_type_rules.Files.{IsTyped}
+use Rattle.ygg_oblige_reading.specs.ygg_type_rules.Files.{IsTyped}
 use Rattle.ygg_replay.specs.ygg_meaning.Obligations as meaning
-use Rattle.ygg_replay.specs.ygg_histories.Claims.{Claim, ClaimViolated, claims_of}
-use Rattle.ygg_replay.specs.ygg_histories.Stack.{layers_of}
-use Rattle.ygg_oblige_places.specs.ygg_rules.declared.rule.RuleKind.{RuleKind}
+use Rattle.ygg_replay.specs.ygg_meaning.Claims.{Claim, ClaimViolated, claims_of}
+use Rattle.ygg_replay.specs.ygg_meaning.Stack.{layers_of}
+use Rattle.ygg_oblige_reading.specs.ygg_rules.declared.rule.RuleKind.{RuleKind}
 use Rattle.ygg_eval_fronts.specs.ygg_bank.Values.{Inputs, value_of}
 use Rattle.ygg_eval_fronts.specs.ygg_bank.declared.node.Id.{Id}
 use Rattle.ygg_eval_fronts.specs.ygg_bank.declared.node.Node.{Node}
 use Rattle.ygg_eval_fronts.specs.ygg_sym_laws.Means.{terms_of}
-use Rattle.ygg_oblige_given.specs.ygg_oblige_terms.Terms.{file_made}
-use Rattle.ygg_oblige_places.specs.Obligation.{Obligation}
-use Rattle.ygg_oblige_places.specs.Laws.{AllExact, IsExact}
-use Rattle.ygg_oblige_places.specs.Schedules.{all_schedules}
-use Rattle.ygg_oblige_places.proofs.Layered.{file_named}
+use Rattle.ygg_oblige_given.specs.ygg_oblige_pieces.Terms.{file_made}
+use Rattle.ygg_oblige_reading.specs.Obligation.{Obligation}
+use Rattle.ygg_oblige_reading.specs.Laws.{AllExact, IsExact}
+use Rattle.ygg_oblige_schedules.specs.Schedules.{all_schedules}
+use Rattle.ygg_oblige_reading.proofs.Layered.{file_named}
 use Rattle.ygg_replay.specs.ygg_sched.declared.schedule.Schedule.{Schedule}
 use Rattle.ygg_oblige_reading.specs.Meant.{FitsTerms, IsExactly, IsMadeIn, IsNamed, Names, NamesShaped, ViolatesAtZero, meant}
 

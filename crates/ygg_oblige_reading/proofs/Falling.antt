@@ -5,12 +5,12 @@ use Rattle.ygg_syntax.specs.declared.grammar.BlockKind.TheVariants as kind
 use Rattle.ygg_syntax.specs.declared.tree.Block as tree
 use Rattle.ygg_syntax.specs.declared.tree.Layer.{Layer}
 use Rattle.ygg_replay.specs.ygg_meaning.Obligations.{Halt}
-use Rattle.ygg_eval_fronts.specs.ygg_sym_below.Laws.{picked_by}
+use Rattle.ygg_eval_fronts.specs.ygg_sym_runs.Laws.{picked_by}
 use Rattle.ygg_eval_fronts.specs.ygg_fronts.Fronts.{fall_picks, left_at, run_stop}
-use Rattle.ygg_oblige_places.specs.ygg_eval_lower.Bodies.{kind_of, variables_in}
-use Rattle.ygg_oblige_places.specs.ygg_eval_lower.declared.body.Part.{Part}
-use Rattle.ygg_oblige_places.specs.ygg_eval_lower.declared.body.Part.TheVariants as part
-use Rattle.ygg_eval_fronts.specs.ygg_eval_choices.Bits.{bits_in}
+use Rattle.ygg_oblige_reading.specs.ygg_eval_lower.Bodies.{kind_of, variables_in}
+use Rattle.ygg_oblige_reading.specs.ygg_eval_lower.declared.body.Part.{Part}
+use Rattle.ygg_oblige_reading.specs.ygg_eval_lower.declared.body.Part.TheVariants as part
+use Rattle.ygg_eval_fronts.specs.Bits.{bits_in}
 use Rattle.ygg_eval_fronts.specs.Fronts.{Falls}
 use Rattle.ygg_eval_fronts.specs.declared.below.Fallen.{Fallen}
 use Rattle.ygg_eval_fronts.specs.declared.below.PlacedBits.{PlacedBits}

@@ -1,5 +1,5 @@
 pub mod Zeros
-pub mod Starts
+pub mod StartsOnce
 pub mod Stands
 pub mod Parts
 pub mod Means
@@ -9,3 +9,12 @@ pub mod Fitted
 pub mod EachKind
 pub mod Placed
 pub mod Exactly
+pub use Rattle.ygg_oblige.proofs.of_ygg_oblige_laws
+pub use Rattle.ygg_eval_lower.proofs.of_ygg_type_progress
+pub use Rattle.ygg_oblige_schedules.proofs.Given
+pub use Rattle.ygg_oblige_schedules.proofs.Layered
+pub mod Lists
+pub mod Counting
+pub mod NumbersAfter
+pub mod Walking
+pub mod Placing

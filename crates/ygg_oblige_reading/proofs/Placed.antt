@@ -8,17 +8,17 @@ use Rattle.ygg_syntax.specs.declared.tree.Layer.{Layer}
 use Rattle.ygg_replay.specs.ygg_meaning.Obligations.{Obligation, Init, CallOf, CutOf, TickOf, CutTickOf, Idle, Again, name_of}
 use Rattle.ygg_replay.specs.ygg_meaning.Obligations as meaning
 use Rattle.ygg_replay.specs.ygg_meaning.Violates.{shapes_fit}
-use Rattle.ygg_replay.specs.ygg_histories.Claims.{Claim, claims_of}
-use Rattle.ygg_oblige_places.specs.ygg_rules.declared.rule.RuleKind.{RuleKind}
+use Rattle.ygg_replay.specs.ygg_meaning.Claims.{Claim, claims_of}
+use Rattle.ygg_oblige_reading.specs.ygg_rules.declared.rule.RuleKind.{RuleKind}
 use Rattle.ygg_eval_fronts.specs.ygg_bank.Values.{Inputs}
-use Rattle.ygg_oblige_given.specs.ygg_oblige_terms.Layers.{OperationFits, ShapesKept}
-use Rattle.ygg_oblige_given.specs.ygg_oblige_terms.Numbers.{arguments_of}
-use Rattle.ygg_oblige_given.specs.ygg_oblige_terms.Numbers as terms
+use Rattle.ygg_oblige_given.specs.ygg_oblige_pieces.Layers.{OperationFits, ShapesKept}
+use Rattle.ygg_oblige_given.specs.ygg_oblige_pieces.Numbers.{arguments_of}
+use Rattle.ygg_oblige_given.specs.ygg_oblige_pieces.Numbers as terms
 use Rattle.ygg_oblige_given.specs.Tables.{given_values}
-use Rattle.ygg_oblige_places.specs.Listing.{StandsIn}
-use Rattle.ygg_oblige_places.specs.Sites.{IsPlaced}
-use Rattle.ygg_oblige_places.proofs.Starting.{item_of}
-use Rattle.ygg_oblige_places.proofs.Given.{no_shapes}
+use Rattle.ygg_oblige_reading.specs.Listing.{StandsIn}
+use Rattle.ygg_oblige_reading.specs.Sites.{IsPlaced}
+use Rattle.ygg_oblige_reading.proofs.NumbersAfter.{item_of}
+use Rattle.ygg_oblige_reading.proofs.Given.{no_shapes}
 use Rattle.ygg_replay.specs.ygg_sched.Laws.{asked_at, asked_of}
 use Rattle.ygg_replay.specs.ygg_sched.Sites.{sites_of}
 use Rattle.ygg_replay.specs.ygg_sched.declared.schedule.Schedule.{Schedule}

@@ -10,12 +10,12 @@ use Rattle.ygg_value.specs.declared.shape.Shape.TheVariants as shape
 use Rattle.ygg_syntax.specs.declared.tree.Declared.{Declared}
 use Rattle.ygg_syntax.specs.declared.tree.TypeText.{TypeText}
 use Rattle.ygg_syntax.specs.declared.tree.TypeText.TheVariants as text
-use Rattle.ygg_oblige_places.specs.ygg_type_rules.Limits.{rows_fit, width_fits, words_fit, words_fit_in}
-use Rattle.ygg_oblige_places.specs.ygg_type_rules.Shapes.{shape_of}
+use Rattle.ygg_oblige_reading.specs.ygg_type_rules.Limits.{rows_fit, width_fits, words_fit, words_fit_in}
+use Rattle.ygg_oblige_reading.specs.ygg_type_rules.Shapes.{shape_of}
 use Rattle.ygg_replay.specs.ygg_meaning.Environments.{Env, bind}
 use Rattle.ygg_replay.specs.ygg_meaning.Shapes.{env_fits, fits, shape_in, values_fit}
-use Rattle.ygg_oblige_places.specs.ygg_type_sound_proofs_Fits.{fits_has}
-use Rattle.ygg_oblige_given.specs.ygg_oblige_terms.Layers.{ShapesKept}
+use Rattle.ygg_oblige_reading.specs.ygg_type_sound_proofs_Fits.{fits_has}
+use Rattle.ygg_oblige_given.specs.ygg_oblige_pieces.Layers.{ShapesKept}
 use Rattle.ygg_replay.specs.ygg_sched.Fitting.{AreOfTypes, IsOfType}
 
 -- names with values that fit them are as many as the values

@@ -2,7 +2,7 @@
 use Rattle.std.specs.Prelude.{◌≡◌, ℕ, false, slice_get, Some, None}
 use Rattle.ygg_syntax.specs.declared.tree.File.{File}
 use Rattle.ygg_replay.specs.ygg_meaning.Obligations.{name_of}
-use Rattle.ygg_replay.specs.ygg_histories.Claims.{Claim, claims_of}
+use Rattle.ygg_replay.specs.ygg_meaning.Claims.{Claim, claims_of}
 use Rattle.ygg_replay.specs.ygg_sched.Fitting.{AreOfTypes, OnlyIf}
 use Rattle.ygg_replay.specs.ygg_sched.Laws.{asked_at, asked_of}
 use Rattle.ygg_replay.specs.ygg_sched.Sites.{

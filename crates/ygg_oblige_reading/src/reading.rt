@@ -2,17 +2,20 @@
 
 ghost use Rattle.std.specs.Prelude.{◌<◌, ◌^◌, IfOk, IfSome, length};
 ghost use Rattle.ygg_eval_fronts.specs.ygg_bank.Values.{InputsFit, inputs_of};
-ghost use Rattle.ygg_replay.specs.ygg_histories.Claims.{claims_of};
+ghost use Rattle.ygg_replay.specs.ygg_meaning.Claims.{claims_of};
 ghost use Rattle.ygg_oblige_reading.specs.Fitted.{IsFitted};
 ghost use Rattle.ygg_oblige_reading.specs.Meant.{FitsTerms, IsExactly, IsMadeIn, IsNamed, ViolatesAtZero};
 
 use crate::reader::EnvironmentReader;
+use crate::site::site_at;
 use std::alloc::Global;
 use ygg_eval_fronts::{Bank, Env};
+use ygg_eval_lower::Typed;
 use ygg_list::NoMemory;
+use ygg_oblige::{Obligation, tables};
 use ygg_oblige_given::InputTable;
-use ygg_oblige_places::{Book, Obligation, Typed, site_at, tables};
 use ygg_replay::Schedule;
+use ygg_rules::Book;
 
 /// The schedule that an environment names for the obligation at a place in the file's list: the values of its inputs, and the picks, as many as the runs
 /// take and in the order in which they take them. Its only error is out of memory.

@@ -9,14 +9,14 @@ use Rattle.ygg_oblige_laws.specs.ygg_bank.Nodes.{Extends}
 use Rattle.ygg_oblige_laws.specs.ygg_bank.Values.{Inputs, Values, Fits}
 use Rattle.ygg_oblige_laws.specs.ygg_bank.declared.node.Node.{Node}
 use Rattle.ygg_oblige_laws.specs.ygg_sym_runs.Meaning.{is_set}
-use Rattle.ygg_sym_fronts.proofs.AnyLayer.{runs_are_named, loss_is_named}
-use Rattle.ygg_sym_fronts.proofs.Others.{start_named}
-use Rattle.ygg_sym_fronts.specs.Laws.{OverTyped}
+use Rattle.ygg_fronts.proofs.AnyLayer.{runs_are_named, loss_is_named}
+use Rattle.ygg_fronts.proofs.Others.{start_named}
+use Rattle.ygg_fronts.specs.SymLaws.{OverTyped}
 use Rattle.ygg_oblige_laws.specs.ygg_sym_laws.Means.{terms_of}
-use Rattle.ygg_oblige_laws.specs.ygg_oblige_terms.Layers.{LayerTyped}
-use Rattle.ygg_oblige_laws.specs.ygg_oblige_terms.Numbers.{numbers_of}
-use Rattle.ygg_oblige_laws.specs.ygg_oblige_terms.States.{starting}
-use Rattle.ygg_oblige_laws.specs.ygg_oblige_terms.Terms.{term_made}
+use Rattle.ygg_oblige_laws.specs.ygg_oblige_pieces.Layers.{LayerTyped}
+use Rattle.ygg_oblige_laws.specs.ygg_oblige_pieces.Numbers.{numbers_of}
+use Rattle.ygg_oblige_laws.specs.ygg_oblige_pieces.TermStates.{starting}
+use Rattle.ygg_oblige_laws.specs.ygg_oblige_pieces.Terms.{term_made}
 use Rattle.ygg_oblige_laws.proofs.Frame.{Frame}
 use Rattle.ygg_oblige_laws.specs.LayerMeans.{LayerMeans}
 use Rattle.ygg_oblige_laws.specs.Parts.{PartsMean}

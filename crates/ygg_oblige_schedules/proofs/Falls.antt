@@ -22,17 +22,17 @@ use Rattle.ygg_oblige_laws.specs.ygg_bank.declared.node.Node.{Node}
 use Rattle.ygg_oblige_laws.specs.ygg_shape_cells.Terms.{worth}
 use Rattle.ygg_oblige_laws.specs.ygg_shape_cells.declared.terms.SymValue.{SymValue}
 use Rattle.ygg_oblige_laws.specs.ygg_sym_runs.Meaning.{is_set}
-use Rattle.ygg_oblige_laws.proofs.of_ygg_sym_below.Blocks.{values_worth}
-use Rattle.ygg_oblige_laws.specs.ygg_sym_below.Laws.{picked_by}
-use Rattle.ygg_oblige_laws.specs.ygg_sym_below.Lows.{low_worth}
-use Rattle.ygg_oblige_laws.specs.ygg_sym_below.StopTerms.{SymFallen}
+use Rattle.ygg_oblige_laws.proofs.of_ygg_sym_runs.Blocks.{values_worth}
+use Rattle.ygg_oblige_laws.specs.ygg_sym_runs.Laws.{picked_by}
+use Rattle.ygg_oblige_laws.specs.ygg_sym_runs.Lows.{low_worth}
+use Rattle.ygg_oblige_laws.specs.ygg_sym_runs.StopTerms.{SymFallen}
 use Rattle.ygg_oblige_laws.specs.ygg_sym_laws.Means.{terms_of, Begins, FallMeans}
-use Rattle.ygg_sym_fronts.specs.ygg_fronts.Fronts.{run_stop}
-use Rattle.ygg_sym_fronts.specs.Named.{RunNamed, FallSo, FallNamed}
-use Rattle.ygg_oblige_laws.specs.ygg_oblige_terms.Layers.{ShapesKept, LayerTyped}
-use Rattle.ygg_oblige_laws.specs.ygg_oblige_terms.Numbers.{Numbers, numbers_of, arguments_of, block_of}
-use Rattle.ygg_oblige_laws.specs.ygg_oblige_terms.States.{Starting, fresh_all}
-use Rattle.ygg_oblige_laws.specs.ygg_oblige_terms.Terms.{Finish, recovered}
+use Rattle.ygg_fronts.specs.Fronts.{run_stop}
+use Rattle.ygg_fronts.specs.Named.{RunNamed, FallSo, FallNamed}
+use Rattle.ygg_oblige_laws.specs.ygg_oblige_pieces.Layers.{ShapesKept, LayerTyped}
+use Rattle.ygg_oblige_laws.specs.ygg_oblige_pieces.Numbers.{Numbers, numbers_of, arguments_of, block_of}
+use Rattle.ygg_oblige_laws.specs.ygg_oblige_pieces.TermStates.{Starting, fresh_all}
+use Rattle.ygg_oblige_laws.specs.ygg_oblige_pieces.Terms.{Finish, recovered}
 use Rattle.ygg_oblige_laws.specs.Inputs.{given_env}
 use Rattle.ygg_oblige_laws.specs.States.{given_stand, StartsSo}
 use Rattle.ygg_oblige_laws.specs.Steps.{HasStep, variables_of, ObligationTyped, AnswerKept, StepIs, PassesSo, end_worth}

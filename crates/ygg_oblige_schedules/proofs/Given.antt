@@ -15,10 +15,10 @@ use Rattle.ygg_oblige_laws.specs.ygg_bank.Values.{Inputs, Values, Fits}
 use Rattle.ygg_oblige_laws.specs.ygg_bank.declared.node.Node.{Node}
 use Rattle.ygg_oblige_laws.specs.ygg_shape_cells.Terms.{worth}
 use Rattle.ygg_oblige_laws.specs.ygg_shape_cells.declared.terms.SymValue.{SymValue}
-use Rattle.ygg_oblige_laws.proofs.of_ygg_sym_below.Blocks.{values_worth}
-use Rattle.ygg_oblige_laws.specs.ygg_oblige_terms.Layers.{ShapesKept}
-use Rattle.ygg_oblige_laws.specs.ygg_oblige_terms.Numbers.{numbers_of, arguments_of}
-use Rattle.ygg_oblige_laws.specs.ygg_oblige_terms.States.{Starting}
+use Rattle.ygg_oblige_laws.proofs.of_ygg_sym_runs.Blocks.{values_worth}
+use Rattle.ygg_oblige_laws.specs.ygg_oblige_pieces.Layers.{ShapesKept}
+use Rattle.ygg_oblige_laws.specs.ygg_oblige_pieces.Numbers.{numbers_of, arguments_of}
+use Rattle.ygg_oblige_laws.specs.ygg_oblige_pieces.TermStates.{Starting}
 use Rattle.ygg_oblige_laws.specs.Inputs.{given_env}
 use Rattle.ygg_oblige_laws.specs.States.{given_stand}
 use Rattle.ygg_oblige_laws.specs.Worth.{LowIs, trio_worth}

@@ -7,8 +7,8 @@ use Rattle.ygg_syntax.specs.declared.tree.DiskText.{DiskText}
 use Rattle.ygg_oblige_laws.specs.ygg_meaning.Layer.{ClosedLayer}
 use Rattle.ygg_oblige_laws.specs.ygg_meaning.Obligations.{Schedule, Obligation, obligations_of}
 use Rattle.ygg_oblige_laws.specs.ygg_meaning.Refines.{Below}
-use Rattle.ygg_oblige_laws.specs.ygg_histories.Claims.{Claim, claims_at, claims_on}
-use Rattle.ygg_oblige_laws.specs.ygg_histories.Stack.{Layers, below_of, layers_of}
+use Rattle.ygg_oblige_laws.specs.ygg_meaning.Claims.{Claim, claims_at, claims_on}
+use Rattle.ygg_oblige_laws.specs.ygg_meaning.Stack.{Layers, below_of, layers_of}
 use Rattle.ygg_oblige_laws.specs.ygg_rules.declared.rule.RuleKind.{RuleKind}
 use Rattle.ygg_oblige_laws.specs.ygg_bank_proofs_Widths.{extends_self, extends_both}
 use Rattle.ygg_oblige_laws.specs.ygg_bank.Inputs.{InputsBelow}
@@ -19,17 +19,17 @@ use Rattle.ygg_oblige_laws.specs.ygg_bank.declared.node.Id.{Id}
 use Rattle.ygg_oblige_laws.specs.ygg_bank.declared.node.Node.{Node}
 use Rattle.ygg_oblige_laws.specs.ygg_sym_runs.Meaning.{is_set}
 use Rattle.ygg_oblige_laws.specs.ygg_sym_laws.Means.{terms_of}
-use Rattle.ygg_oblige_laws.specs.ygg_oblige_terms.Layers.{LayerTyped}
-use Rattle.ygg_oblige_laws.specs.ygg_oblige_terms.Numbers.{numbers_of}
-use Rattle.ygg_oblige_laws.specs.ygg_oblige_terms.States.{Starting, state_words, starting}
-use Rattle.ygg_oblige_laws.specs.ygg_oblige_terms.Terms.{term_made, terms_made, layer_made, layers_made, after_layers}
+use Rattle.ygg_oblige_laws.specs.ygg_oblige_pieces.Layers.{LayerTyped}
+use Rattle.ygg_oblige_laws.specs.ygg_oblige_pieces.Numbers.{numbers_of}
+use Rattle.ygg_oblige_laws.specs.ygg_oblige_pieces.TermStates.{Starting, state_words, starting}
+use Rattle.ygg_oblige_laws.specs.ygg_oblige_pieces.Terms.{term_made, terms_made, layer_made, layers_made, after_layers}
 use Rattle.ygg_oblige_laws.proofs.Compares.{comparing_means}
 use Rattle.ygg_oblige_laws.proofs.Fresh.{fresh_means}
 use Rattle.ygg_oblige_laws.proofs.Glued.{glued_means}
 use Rattle.ygg_oblige_laws.proofs.Starting.{states_mean}
 use Rattle.ygg_oblige_laws.proofs.Steps.{steps_mean}
-use Rattle.ygg_oblige_laws.proofs.of_ygg_oblige_typed.Files.{typed_layers}
-use Rattle.ygg_oblige_laws.specs.ygg_oblige_typed.Layers.{LayersTyped}
+use Rattle.ygg_oblige_laws.proofs.Files.{typed_layers}
+use Rattle.ygg_oblige_laws.specs.TypedLayers.{LayersTyped}
 use Rattle.ygg_oblige_laws.proofs.Digits.{unset_zero, zero_unset}
 use Rattle.ygg_oblige_laws.proofs.EachKind.{term_grows, term_means}
 use Rattle.ygg_oblige_laws.proofs.Frame.{Frame, fits_bank}

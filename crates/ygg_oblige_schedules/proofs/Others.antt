@@ -21,19 +21,19 @@ use Rattle.ygg_oblige_laws.specs.ygg_bank.declared.node.Id.{Id}
 use Rattle.ygg_oblige_laws.specs.ygg_bank.declared.node.Node.{Node}
 use Rattle.ygg_oblige_laws.specs.ygg_shape_cells.declared.terms.SymValue.{SymValue}
 use Rattle.ygg_oblige_laws.specs.ygg_sym_runs.Meaning.{answer_worth, is_set}
-use Rattle.ygg_oblige_laws.specs.ygg_sym_below.Laws.{picked_by}
-use Rattle.ygg_oblige_laws.specs.ygg_sym_below.Lows.{low_worth}
-use Rattle.ygg_oblige_laws.specs.ygg_sym_below_proofs_Lows.{low_wider}
+use Rattle.ygg_oblige_laws.specs.ygg_sym_runs.Laws.{picked_by}
+use Rattle.ygg_oblige_laws.specs.ygg_sym_runs.Lows.{low_worth}
+use Rattle.ygg_oblige_laws.specs.ygg_sym_runs_proofs_Lows.{low_wider}
 use Rattle.ygg_oblige_laws.specs.ygg_sym_laws.Below.{zeros_made, lows_at_start, lost_made}
 use Rattle.ygg_oblige_laws.specs.ygg_sym_laws.Means.{terms_of, Begins}
-use Rattle.ygg_sym_fronts.specs.ygg_fronts.Fronts.{low_at_start, run_picks, run_stop, left_at, fall_picks}
-use Rattle.ygg_sym_fronts.specs.ygg_fronts.Laws.{FallsThere}
-use Rattle.ygg_sym_fronts.proofs.of_ygg_fronts.NamedRuns.{starts}
-use Rattle.ygg_sym_fronts.specs.Named.{LossNamed, StartNamed, RunNamed, FallNamed}
-use Rattle.ygg_oblige_laws.specs.ygg_oblige_terms.Layers.{LayerTyped}
-use Rattle.ygg_oblige_laws.specs.ygg_oblige_terms.Numbers.{numbers_of}
-use Rattle.ygg_oblige_laws.specs.ygg_oblige_terms.States.{Starting}
-use Rattle.ygg_oblige_laws.specs.ygg_oblige_terms.Terms.{ran, some_passes, recovered, recovers, recovers_again, formats}
+use Rattle.ygg_fronts.specs.Fronts.{low_at_start, run_picks, run_stop, left_at, fall_picks}
+use Rattle.ygg_fronts.specs.Laws.{FallsThere}
+use Rattle.ygg_fronts.proofs.NamedRuns.{starts}
+use Rattle.ygg_fronts.specs.Named.{LossNamed, StartNamed, RunNamed, FallNamed}
+use Rattle.ygg_oblige_laws.specs.ygg_oblige_pieces.Layers.{LayerTyped}
+use Rattle.ygg_oblige_laws.specs.ygg_oblige_pieces.Numbers.{numbers_of}
+use Rattle.ygg_oblige_laws.specs.ygg_oblige_pieces.TermStates.{Starting}
+use Rattle.ygg_oblige_laws.specs.ygg_oblige_pieces.Terms.{ran, some_passes, recovered, recovers, recovers_again, formats}
 use Rattle.ygg_oblige_laws.specs.States.{given_stand}
 use Rattle.ygg_oblige_laws.specs.Steps.{end_worth}
 use Rattle.ygg_oblige_laws.specs.Worth.{Stand, trio_worth}

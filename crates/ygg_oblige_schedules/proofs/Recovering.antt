@@ -15,14 +15,14 @@ use Rattle.ygg_oblige_laws.specs.ygg_bank.Values.{Inputs, Values, Fits}
 use Rattle.ygg_oblige_laws.specs.ygg_bank.declared.node.Node.{Node}
 use Rattle.ygg_oblige_laws.specs.ygg_shape_cells.declared.terms.SymValue.{SymValue}
 use Rattle.ygg_oblige_laws.specs.ygg_sym_runs.Meaning.{answer_worth}
-use Rattle.ygg_oblige_laws.specs.ygg_sym_below.Laws.{picked_by}
-use Rattle.ygg_oblige_laws.specs.ygg_sym_below.Lows.{LowShaped, low_worth}
+use Rattle.ygg_oblige_laws.specs.ygg_sym_runs.Laws.{picked_by}
+use Rattle.ygg_oblige_laws.specs.ygg_sym_runs.Lows.{LowShaped, low_worth}
 use Rattle.ygg_oblige_laws.specs.ygg_sym_laws.Below.{zeros_made}
 use Rattle.ygg_oblige_laws.specs.ygg_sym_laws.Means.{terms_of, WholeMeans}
-use Rattle.ygg_sym_fronts.specs.ygg_fronts.Fronts.{run_picks}
-use Rattle.ygg_sym_fronts.specs.Named.{RunNamed}
-use Rattle.ygg_oblige_laws.specs.ygg_oblige_terms.Layers.{ShapesKept}
-use Rattle.ygg_oblige_laws.specs.ygg_oblige_terms.Terms.{ran, recovered}
+use Rattle.ygg_fronts.specs.Fronts.{run_picks}
+use Rattle.ygg_fronts.specs.Named.{RunNamed}
+use Rattle.ygg_oblige_laws.specs.ygg_oblige_pieces.Layers.{ShapesKept}
+use Rattle.ygg_oblige_laws.specs.ygg_oblige_pieces.Terms.{ran, recovered}
 use Rattle.ygg_oblige_laws.specs.Steps.{end_worth}
 use Rattle.ygg_oblige_laws.proofs.Schedules.{reads, wakes_below}
 use Rattle.ygg_oblige_laws.proofs.Wholes.{woken, woken_gives}

@@ -8,8 +8,8 @@ use Rattle.ygg_oblige_laws.specs.ygg_meaning.Layer.{ClosedLayer}
 use Rattle.ygg_oblige_laws.specs.ygg_meaning.Obligations.{Schedule}
 use Rattle.ygg_oblige_laws.specs.ygg_meaning.Refines.{Below}
 use Rattle.ygg_oblige_laws.specs.ygg_meaning.Violates.{shapes_fit}
-use Rattle.ygg_oblige_laws.specs.ygg_histories.Claims.{Claim, ClaimViolated, claims_at, claims_of}
-use Rattle.ygg_oblige_laws.specs.ygg_histories.Stack.{layers_of}
+use Rattle.ygg_oblige_laws.specs.ygg_meaning.Claims.{Claim, ClaimViolated, claims_at, claims_of}
+use Rattle.ygg_oblige_laws.specs.ygg_meaning.Stack.{layers_of}
 use Rattle.ygg_oblige_laws.specs.ygg_rules.declared.rule.RuleKind.{RuleKind}
 use Rattle.ygg_oblige_laws.specs.ygg_bank.Inputs.{InputsBelow}
 use Rattle.ygg_oblige_laws.specs.ygg_bank.Nodes.{IsBank, Extends}
@@ -17,8 +17,8 @@ use Rattle.ygg_oblige_laws.specs.ygg_bank.Values.{Inputs, InputsFit, value_of}
 use Rattle.ygg_oblige_laws.specs.ygg_bank.declared.node.Id.{Id}
 use Rattle.ygg_oblige_laws.specs.ygg_bank.declared.node.Node.{Node}
 use Rattle.ygg_oblige_laws.specs.ygg_sym_laws.Means.{terms_of}
-use Rattle.ygg_oblige_laws.specs.ygg_oblige_terms.Layers.{LayerTyped}
-use Rattle.ygg_oblige_laws.specs.ygg_oblige_terms.Terms.{layer_made, file_made}
+use Rattle.ygg_oblige_laws.specs.ygg_oblige_pieces.Layers.{LayerTyped}
+use Rattle.ygg_oblige_laws.specs.ygg_oblige_pieces.Terms.{layer_made, file_made}
 use Rattle.ygg_oblige_schedules.specs.Schedules.{layer_schedules, all_schedules}
 
 -- the schedule violates the obligation exactly where its term is 0 in the environment; its values have the declared shapes in either case

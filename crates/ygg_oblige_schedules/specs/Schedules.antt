@@ -21,18 +21,18 @@ use Rattle.ygg_oblige_laws.specs.ygg_meaning.Obligations.{
 }
 use Rattle.ygg_oblige_laws.specs.ygg_meaning.Refines.{Below}
 use Rattle.ygg_oblige_laws.specs.ygg_meaning.Shapes.{zeros_of}
-use Rattle.ygg_oblige_laws.specs.ygg_histories.Stack.{Layers, below_of}
+use Rattle.ygg_oblige_laws.specs.ygg_meaning.Stack.{Layers, below_of}
 use Rattle.ygg_oblige_laws.specs.ygg_rules.declared.rule.RuleKind.{RuleKind}
 use Rattle.ygg_oblige_laws.specs.ygg_bank.Values.{Inputs}
-use Rattle.ygg_oblige_laws.specs.ygg_sym_below.Laws.{picked_by}
+use Rattle.ygg_oblige_laws.specs.ygg_sym_runs.Laws.{picked_by}
 use Rattle.ygg_oblige_laws.specs.ygg_sym_expr.Exprs.{SymFunctions}
-use Rattle.ygg_oblige_laws.specs.ygg_oblige_terms.Numbers.{Numbers, numbers_of, arguments_of}
-use Rattle.ygg_oblige_laws.specs.ygg_oblige_terms.States.{state_words}
-use Rattle.ygg_oblige_laws.specs.ygg_oblige_terms.Terms.{after_layers}
+use Rattle.ygg_oblige_laws.specs.ygg_oblige_pieces.Numbers.{Numbers, numbers_of, arguments_of}
+use Rattle.ygg_oblige_laws.specs.ygg_oblige_pieces.TermStates.{state_words}
+use Rattle.ygg_oblige_laws.specs.ygg_oblige_pieces.Terms.{after_layers}
 use Rattle.ygg_oblige_laws.specs.Inputs.{given_env}
 use Rattle.ygg_oblige_laws.specs.States.{given_stand}
 use Rattle.ygg_oblige_laws.specs.Worth.{Stand}
-use Rattle.ygg_sym_fronts.specs.ygg_fronts.Fronts.{lose_on, loss_picks, low_at_start, run_picks, run_stop, left_at, fall_picks}
+use Rattle.ygg_fronts.specs.Fronts.{lose_on, loss_picks, low_at_start, run_picks, run_stop, left_at, fall_picks}
 
 -- the values of names, in order
 abbrev pub values_of : Env → List Value

@@ -1,2 +1,2 @@
-pub use Rattle.ygg_print_layout.proofs as of_ygg_print_layout
+pub use Rattle.ygg_print_tree.proofs as of_ygg_print_tree
 pub mod Reread

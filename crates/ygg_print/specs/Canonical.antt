@@ -6,8 +6,8 @@ use Rattle.ygg_base.specs.Lexing.{Lexed, tokens_of}
 use Rattle.ygg_syntax.specs.declared.tree.File.{File}
 use Rattle.ygg_syntax.specs.Files.{Derives}
 use Rattle.ygg_print_tree.specs.PrintedFiles.{file_printed}
-use Rattle.ygg_print_layout.specs.Layout.{layout}
-use Rattle.ygg_print_layout.specs.Laws.{IsMark}
+use Rattle.ygg_print_tree.specs.Layout.{layout}
+use Rattle.ygg_print_tree.specs.Laws.{IsMark}
 use Rattle.ygg_read_unique.specs.Laws.{DerivesAs}
 
 -- the marks of the file in order, as they are laid out

@@ -1,4 +1,3 @@
-pub use Rattle.ygg_print_layout.specs as ygg_print_layout
 pub use Rattle.ygg_print_tree.specs as ygg_print_tree
 pub mod Canonical
 pub mod Laws

@@ -1,11 +1,11 @@
 ghost use Rattle.std.specs.Prelude.{◌≡◌, IfOk};
 ghost use Rattle.ygg_print.specs.Canonical.{IsReadAgain, canonical};
 
+use crate::layers::marks_of;
 use std::alloc::Global;
 use ygg_base::Text;
 use ygg_list::NoMemory;
-use ygg_print_layout::lay_out;
-use ygg_print_marks::marks_of;
+use ygg_print_tree::lay_out;
 use ygg_syntax::tree::File;
 
 /// The canonical text of a layer file. Where some tokens of the language derive the file, the tokens of the text derive it

@@ -3,7 +3,10 @@
 
 mod canonical;
 mod law;
+mod layers;
+mod operations;
 
 pub use canonical::print;
 pub use law::canonical_is_read;
-pub use ygg_print_layout::tokens_are_marks;
+pub use layers::marks_of;
+pub use ygg_print_tree::tokens_are_marks;

@@ -1,0 +1,5 @@
+pub mod Indentation
+pub mod Joined
+pub mod Marks
+pub mod Readable
+pub mod Relexed

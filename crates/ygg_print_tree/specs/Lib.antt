@@ -2,3 +2,5 @@ pub mod Plain
 pub mod Printed
 pub mod PrintedBlocks
 pub mod PrintedFiles
+pub mod Laws
+pub mod Layout

@@ -5,8 +5,13 @@
 mod blocks;
 mod expressions;
 mod files;
+mod law;
+mod layout;
 mod printer;
+mod rules;
 
 pub use blocks::block;
 pub use files::{claims, definitions, disk, optional, shape, ticks, titled_list, variables};
+pub use law::{laid_out, tokens_are_marks};
+pub use layout::lay_out;
 pub use printer::{Plain, Printer};

@@ -11,12 +11,13 @@ ghost use Rattle.ygg_syntax.specs.Pending as pending;
 ghost use Rattle.ygg_read_expr.specs.Steps.{Reads, Goes, Stops, IfRead, OnRead, IfRefused};
 ghost use Rattle.ygg_read.specs.Refused.{IsRefusal, place_with};
 
+use crate::disk::disk;
+use crate::layer::layers;
+use crate::variables::definitions;
 use std::alloc::Global;
 use ygg_base::{Keyword, Mark, Reason, Refuse, Symbol, Token, Tokens};
 use ygg_list::NoMemory;
 use ygg_read_expr::Reader;
-use ygg_read_layer::disk::disk;
-use ygg_read_layer::{definitions, layers};
 use ygg_syntax::tree::{File, Numeral, Place};
 
 /// The file that derives from the tokens. Where none does they are refused 3 at the first token that can't come, or at the

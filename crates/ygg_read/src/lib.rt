@@ -6,6 +6,13 @@
 //! the place of the refusal is that of the first token which the pending symbols can't take, or the end of the text.
 #![tactic(auto)]
 
+pub mod disk;
 mod file;
+mod layer;
+mod operations;
+mod types;
+mod variables;
 
 pub use file::read;
+pub use layer::layers;
+pub use variables::definitions;

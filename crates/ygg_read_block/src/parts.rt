@@ -29,7 +29,7 @@ pub fn begins(reader: &Reader<'_>, kind: BlockKind) -> bool
     match &first.mark {
         Mark::Name(_) => true,
         Mark::Keyword(Keyword::Let | Keyword::If | Keyword::For) => true,
-        Mark::Keyword(Keyword::Call) => kind == BlockKind::Impl,
+        Mark::Keyword(Keyword::Call) => matches!(kind, BlockKind::Impl),
         _ => false,
     }
 }

@@ -62,7 +62,7 @@ use Rattle.ygg_read_expr.proofs.Phrases.{joined, reads_mark, reads_token}
 use Rattle.ygg_read_expr.proofs.Marks.{same_is}
 use Rattle.ygg_read_expr.proofs.Stopped.{next}
 use Rattle.ygg_read_expr.proofs.Claims.{split, empty}
-use Rattle.ygg_read_complete.proofs.Layers.{begins_kind}
+use Rattle.ygg_read_claims.proofs.Layers.{begins_kind}
 
 -- a rule after its first token
 pub opened : (m : Mark) (rs : List Reading) (at : Place) (rest : List Token) (qs : List Reading) →

@@ -31,7 +31,7 @@ use Rattle.ygg_syntax.specs.Pending.{
 use Rattle.ygg_read_expr.specs.Steps.{Reads, Goes, Stops}
 use Rattle.ygg_read_expr.proofs.Phrases.{joined}
 use Rattle.ygg_read_expr.proofs.Stopped.{goes_token, ended}
-use Rattle.ygg_read_complete.proofs.Parts.{begins_repeated}
+use Rattle.ygg_read_claims.proofs.Parts.{begins_repeated}
 
 -- the parts so far, each of which begins with this keyword and goes on with these symbols
 pub record ListRead {A : Type 0} (r : A → Reading) (k : Keyword) (others : List Pending) (from : List Token) (es : List A) (now : List Token) : Type 0 where

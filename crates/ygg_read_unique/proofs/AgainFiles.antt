@@ -88,7 +88,7 @@ use Rattle.ygg_print_tree.specs.PrintedFiles.{
   layer_printed,
   file_printed,
 }
-use Rattle.ygg_syntax_alike.specs.Bare.{
+use Rattle.ygg_syntax_same.specs.Bare.{
   nowhere,
   bare,
   bare_type,

@@ -68,7 +68,7 @@ use Rattle.ygg_print_tree.specs.PrintedBlocks.{
   stmt_printed,
   block_printed,
 }
-use Rattle.ygg_syntax_alike.specs.Bare.{nowhere, bare, bare_source, bare_index, node_bare_statement, node_bare_block, bare_statement, bare_block}
+use Rattle.ygg_syntax_same.specs.Bare.{nowhere, bare, bare_source, bare_index, node_bare_statement, node_bare_block, bare_statement, bare_block}
 use Rattle.ygg_read_expr.proofs.Phrases as phrases
 use Rattle.ygg_read_expr.proofs.Marks.{passed, took}
 use Rattle.ygg_read_expr.proofs.Claims.{split, empty}

@@ -52,7 +52,7 @@ use Rattle.ygg_print_tree.specs.PrintedFiles.{
   file_printed,
   head_printed,
 }
-use Rattle.ygg_syntax_alike.specs.Bare.{
+use Rattle.ygg_syntax_same.specs.Bare.{
   nowhere,
   bare,
   node_bare,

@@ -4,9 +4,9 @@ use Rattle.std.proofs.lemmas.Option.{slice_get-map}
 use Rattle.ygg_value.specs.declared.row.Value.{Value}
 use Rattle.ygg_syntax.specs.declared.tree.Expr.{Expr}
 use Rattle.ygg_sched.specs.ygg_meaning.Related.{holds}
-use Rattle.ygg_eval.specs.ygg_eval_holds.declared.formula.Formula.{Formula}
-use Rattle.ygg_eval.specs.ygg_eval_holds.declared.formula.Which.TheVariants.{Relate, Always, Settled}
-use Rattle.ygg_eval.specs.ygg_eval_holds.Formulas.{IsAsked, Answers}
+use Rattle.ygg_eval.specs.declared.formula.Formula.{Formula}
+use Rattle.ygg_eval.specs.declared.formula.Which.TheVariants.{Relate, Always, Settled}
+use Rattle.ygg_eval.specs.Formulas.{IsAsked, Answers}
 use Rattle.ygg_replay.specs.declared.site.ReplaySite.{ReplaySite}
 use Rattle.ygg_replay.specs.Sites.{IsHere, LowFits, StatesFit, closed_in, vars_at, memory_at, low_at}
 

@@ -45,10 +45,10 @@ use Rattle.ygg_sched.specs.ygg_meaning.DiskMachine.{tables_in, zeros_on}
 use Rattle.ygg_sched.specs.ygg_meaning.Spec.{start_outcome}
 use Rattle.ygg_sched.specs.ygg_meaning.Refines.{Below, OnDisk, OnSpec, machine_below}
 use Rattle.ygg_sched.specs.ygg_meaning_proofs_Exact.{start_exact}
-use Rattle.ygg_sched.specs.ygg_histories.Stack.{tables_of, tables_of_kind}
+use Rattle.ygg_sched.specs.ygg_meaning.Stack.{tables_of, tables_of_kind}
 use Rattle.ygg_direct_files.specs.ygg_eval_lower.Layers.{below_at, closed_at, machine_at, variables_at}
-use Rattle.ygg_eval.proofs.of_ygg_eval_spec.OnDisk.{variables_zero}
-use Rattle.ygg_eval.proofs.of_ygg_eval_spec.OnSpec.{layer_variables}
+use Rattle.ygg_eval.proofs.OnDisk.{variables_zero}
+use Rattle.ygg_eval.proofs.OnSpec.{layer_variables}
 use Rattle.ygg_replay.specs.Zeros.{zero_values}
 use Rattle.ygg_replay.proofs.Typing.{zeros_shaped}
 

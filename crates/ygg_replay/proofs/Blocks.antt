@@ -30,8 +30,8 @@ use Rattle.ygg_direct_files.specs.ygg_eval_lower.Conversations.{calls_in}
 use Rattle.ygg_eval.specs.ygg_eval_block.Runs.{Finished, FinishedEarly, StoppedAt, RunEnds}
 use Rattle.ygg_eval.specs.ygg_eval_block.declared.run.Ended.{Ended}
 use Rattle.ygg_eval.specs.ygg_eval_block.declared.run.Ended.TheVariants as ended
-use Rattle.ygg_eval.specs.ygg_eval_spec.Kept.{Kept, spec_meaning}
-use Rattle.ygg_eval.proofs.of_ygg_eval_spec.Values.{bind_count}
+use Rattle.ygg_eval.specs.Kept.{Kept, spec_meaning}
+use Rattle.ygg_eval.proofs.Values.{bind_count}
 use Rattle.ygg_replay.specs.declared.site.ReplaySite.{ReplaySite}
 use Rattle.ygg_replay.specs.Sites.{closed_in, machine_in, low_at, state_at}
 use Rattle.ygg_replay.specs.Runs.{fresh, RanBy, CutBy}

@@ -23,3 +23,7 @@ mod Asked
 mod Losing
 mod Own
 mod Relating
+pub mod Places
+pub mod Values
+pub mod Bridge
+pub mod Once

@@ -11,7 +11,7 @@ use Rattle.ygg_direct_files.specs.ygg_eval_lower.Bodies.{IsBlock, block_in}
 use Rattle.ygg_direct_files.specs.ygg_eval_lower.Layers.{variables_at}
 use Rattle.ygg_direct_files.specs.ygg_eval_lower.Lower.{Serves}
 use Rattle.ygg_eval.specs.ygg_eval_block.Runs.{CanServe}
-use Rattle.ygg_eval.specs.ygg_eval_spec.Kept.{Kept, spec_meaning}
+use Rattle.ygg_eval.specs.Kept.{Kept, spec_meaning}
 use Rattle.ygg_replay.specs.declared.site.ReplaySite.{ReplaySite}
 use Rattle.ygg_replay.specs.Sites.{IsHere, IsBelow, LowFits}
 

@@ -18,16 +18,16 @@ use Rattle.ygg_sched.specs.ygg_meaning.Progress.{Answer}
 use Rattle.ygg_sched.specs.ygg_meaning.Machine.{Picks, State, based}
 use Rattle.ygg_sched.specs.ygg_meaning.Refines.{Below, OnDisk, OnSpec, machine_below}
 use Rattle.ygg_sched.specs.ygg_meaning.Spec.{Outcome, chosen, call_outcome, crash_outcome, fall_outcome, SpecCalls, SpecFalls, SpecLoses}
-use Rattle.ygg_sched.specs.ygg_histories.Stack.{tables_of}
+use Rattle.ygg_sched.specs.ygg_meaning.Stack.{tables_of}
 use Rattle.ygg_eval.specs.ygg_type_sound_proofs_Parameters.{same_fit}
 use Rattle.ygg_direct_files.proofs.of_ygg_direct.Matching.{Matches}
 use Rattle.ygg_direct_files.specs.ygg_direct.Places.{Result}
 use Rattle.ygg_direct_files.specs.ygg_eval_lower.Layers.{variables_at, closed_at, below_at, machine_at, signatures_of, signatures_at}
 use Rattle.ygg_direct_files.specs.ygg_eval_lower.Lower.{IsCallable, Called, Fell, Whole, Happened}
-use Rattle.ygg_eval.specs.ygg_eval_spec.Kept.{Kept, spec_meaning, Loses}
-use Rattle.ygg_eval.specs.ygg_eval_spec.Taken.{TakesOnly}
-use Rattle.ygg_eval.proofs.of_ygg_eval_spec.Named.{find_first, typed_operations}
-use Rattle.ygg_eval.proofs.of_ygg_eval_spec.OnSpec.{AsksSpec, asks_spec, at_operation, layer_variables}
+use Rattle.ygg_eval.specs.Kept.{Kept, spec_meaning, Loses}
+use Rattle.ygg_eval.specs.Taken.{TakesOnly}
+use Rattle.ygg_eval.proofs.Named.{find_first, typed_operations}
+use Rattle.ygg_eval.proofs.OnSpec.{AsksSpec, asks_spec, at_operation, layer_variables}
 
 -- what a step gives with as many picks as it takes at most
 pub exists : (n : ℕ) (O : Picks → Option Outcome) (P : Picks → Result) → Matches n O P → (picks : Picks) → length picks ≡ n →

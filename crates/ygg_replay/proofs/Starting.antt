@@ -18,9 +18,9 @@ use Rattle.ygg_direct_files.specs.ygg_eval_lower.Lower.{Standing}
 use Rattle.ygg_eval.specs.ygg_eval_block.declared.run.Ended.{Ended}
 use Rattle.ygg_eval.specs.ygg_eval_block.declared.run.Ended.TheVariants as ended
 use Rattle.ygg_eval.specs.ygg_eval_block.Runs.{Finished, RunEnds}
-use Rattle.ygg_eval.specs.ygg_eval_spec.Kept.{Kept, spec_meaning}
-use Rattle.ygg_eval.proofs.of_ygg_eval_spec.Runs.{ended_outcome}
-use Rattle.ygg_eval.proofs.of_ygg_eval_spec.Values.{bind_count}
+use Rattle.ygg_eval.specs.Kept.{Kept, spec_meaning}
+use Rattle.ygg_eval.proofs.Runs.{ended_outcome}
+use Rattle.ygg_eval.proofs.Values.{bind_count}
 use Rattle.ygg_replay.specs.declared.site.ReplaySite.{ReplaySite}
 use Rattle.ygg_replay.specs.Sites.{IsHere, closed_in}
 use Rattle.ygg_replay.specs.Steps.{IsStart}

@@ -15,10 +15,10 @@ use Rattle.ygg_direct_files.specs.ygg_eval_lower.Layers.{signatures_at, machine_
 use Rattle.ygg_direct_files.specs.ygg_eval_lower.Conversations.{Exchange, Exchanged, Answered, Talks, asked, answers_of, one_call, calls_in}
 use Rattle.ygg_eval.specs.ygg_eval_block.Runs.{Came, StoppedAt}
 use Rattle.ygg_eval.specs.ygg_eval_block.Runs as block_runs
-use Rattle.ygg_eval.specs.ygg_eval_spec.Taken.{TakesOnly}
-use Rattle.ygg_eval.specs.ygg_eval_spec.Kept.{Kept, spec_meaning, named_in}
-use Rattle.ygg_eval.specs.ygg_eval_spec.Keeping.{takes_both}
-use Rattle.ygg_eval.proofs.of_ygg_eval_spec.Stepping.{no_pick}
+use Rattle.ygg_eval.specs.Taken.{TakesOnly}
+use Rattle.ygg_eval.specs.Kept.{Kept, spec_meaning, named_in}
+use Rattle.ygg_eval.specs.Keeping.{takes_both}
+use Rattle.ygg_eval.proofs.Stepping.{no_pick}
 use Rattle.ygg_direct_files.specs.ygg_type_progress.Questions.{question_fits}
 
 asks_of : (p : Progress) (q : Question) → asked p ≡ Some q → p ≡ Asks q

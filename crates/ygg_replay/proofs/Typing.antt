@@ -24,7 +24,7 @@ use Rattle.ygg_direct_files.proofs.of_ygg_type_progress.Views.{AllTyped, LayerVa
 use Rattle.ygg_direct_files.specs.ygg_eval_lower.declared.body.Body.{Body}
 use Rattle.ygg_direct_files.specs.ygg_eval_lower.Bodies.{kind_of, IsBlock}
 use Rattle.ygg_direct_files.specs.ygg_eval_lower_proofs_Blocks.{blocks_kept, block_typing, layer_typing}
-use Rattle.ygg_eval.proofs.of_ygg_eval_spec.Values.{bound_fits}
+use Rattle.ygg_eval.proofs.Values.{bound_fits}
 use Rattle.ygg_replay.specs.Zeros.{AreShapes, zero_values}
 
 shapes_kept : (ds : List Declared) → AllTyped ds → AreShapes ds

@@ -11,7 +11,7 @@ use Rattle.ygg_sched.specs.ygg_meaning.Violates as violates
 use Rattle.ygg_sched.specs.ygg_meaning.Replayed.{has_stop}
 use Rattle.ygg_direct_files.specs.ygg_eval_lower.declared.body.Part.{Part}
 use Rattle.ygg_direct_files.specs.ygg_eval_lower.Bodies.{arguments_in}
-use Rattle.ygg_eval.specs.ygg_eval_spec.Kept.{Kept}
+use Rattle.ygg_eval.specs.Kept.{Kept}
 use Rattle.ygg_replay.specs.declared.site.ReplaySite.{ReplaySite}
 use Rattle.ygg_sched.specs.declared.schedule.Schedule.{Schedule}
 use Rattle.ygg_replay.specs.declared.ends.End.{End}

@@ -1,5 +1,4 @@
 pub use Rattle.ygg_direct_files.specs.ygg_eval_lower
-pub use Rattle.ygg_sched.specs.ygg_histories
 pub use Rattle.ygg_sched.specs.ygg_meaning
 pub use Rattle.ygg_sched.specs.ygg_report
 pub use Rattle.ygg_sched.specs as ygg_sched
@@ -16,3 +15,6 @@ pub mod Steps
 pub mod Ends
 pub mod Passing
 pub mod Showing
+pub mod Shown
+pub mod Ending
+pub mod Laws

@@ -8,7 +8,7 @@ use Rattle.ygg_sched.specs.ygg_meaning.Shapes.{values_fit}
 use Rattle.ygg_sched.specs.ygg_meaning.Machine.{State, based, on, Machine}
 use Rattle.ygg_sched.specs.ygg_meaning.Layer.{ClosedLayer}
 use Rattle.ygg_direct_files.specs.ygg_eval_lower.Layers.{variables_at, closed_at, machine_at}
-use Rattle.ygg_eval.specs.ygg_eval_spec.Kept.{Kept, IsKept}
+use Rattle.ygg_eval.specs.Kept.{Kept, IsKept}
 use Rattle.ygg_replay.specs.declared.site.ReplaySite.{ReplaySite}
 
 -- the layer stands at its place in the file

@@ -6,7 +6,7 @@ use Rattle.std.specs.Prelude.{IsTrue}
 use Rattle.ygg_sched.specs.ygg_meaning.Shapes.{values_fit}
 use Rattle.ygg_sched.specs.ygg_meaning.Progress.{Answer}
 use Rattle.ygg_sched.specs.ygg_meaning.Spec.{Outcome, start_outcome}
-use Rattle.ygg_eval.specs.ygg_eval_spec.Kept.{Kept}
+use Rattle.ygg_eval.specs.Kept.{Kept}
 use Rattle.ygg_replay.specs.declared.site.ReplaySite.{ReplaySite}
 use Rattle.ygg_sched.specs.declared.case.CaseKind.{CaseKind}
 use Rattle.ygg_sched.specs.declared.case.CaseKind.TheVariants as kind

@@ -1,9 +1,12 @@
-//! Replays of schedules: what an obligation asks of a schedule is run on values, on the layer's blocks and on what the layer is specified over.
+//! Replays of schedules: what an obligation asks of a schedule is run on values, on the layer's blocks and on what the layer is specified over;
+//! and the text of a schedule, which is refused or replayed so.
 #![tactic(auto)]
 
 mod conclusion;
 mod ends;
 mod formulas;
+mod law;
+mod replaying;
 mod runs;
 mod schedule;
 mod search;
@@ -12,6 +15,8 @@ mod site;
 mod spec;
 mod zeroing;
 
+pub use law::{one_ending, refuted_exactly};
+pub use replaying::replay_text;
 pub use schedule::Replayed;
 pub use showing::replay;
 pub use site::ReplaySite;

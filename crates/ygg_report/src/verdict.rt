@@ -2,7 +2,7 @@ ghost use Rattle.std.specs.Prelude.{◌≡◌};
 ghost use Rattle.ygg_report.specs.Tallies.{tally_of};
 
 /// A verdict on an obligation.
-#[derive(Clone, Copy, PartialEq, Eq)]
+#[derive(Clone, Copy)]
 pub enum Verdict {
     /// No schedule violates it.
     Holds,
@@ -13,7 +13,7 @@ pub enum Verdict {
 }
 
 /// How many obligations a file has, and of how many of them each verdict was found.
-#[derive(Clone, Copy, PartialEq, Eq)]
+#[derive(Clone, Copy)]
 pub struct Tally {
     /// The obligations of the file.
     pub obligations: usize,

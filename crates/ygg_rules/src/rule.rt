@@ -6,7 +6,7 @@ ghost use Rattle.ygg_rules.specs.Rows.{row};
 use crate::view::{Rewrite, View};
 
 /// The rows of the table of rules.
-#[derive(Clone, Copy, PartialEq, Eq, Drop)]
+#[derive(Clone, Copy, Drop)]
 pub enum RuleKind {
     /// A term of known operands is a constant, and a pick on a known test one of its operands.
     Fold,

@@ -8,7 +8,7 @@ use std::marker::Model;
 use ygg_value::{Op, Word};
 
 /// What is known of an operand of a term.
-#[derive(Clone, Copy, PartialEq, Eq, Drop)]
+#[derive(Clone, Copy, Drop)]
 pub struct Operand {
     /// The number of the operand's term.
     pub id: usize,
@@ -46,7 +46,7 @@ impl Operand {
 }
 
 /// What a term does with its operands.
-#[derive(Clone, Copy, PartialEq, Eq, Drop)]
+#[derive(Clone, Copy, Drop)]
 pub enum Act {
     /// A binary operation on two operands.
     Bin(Op),

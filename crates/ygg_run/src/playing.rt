@@ -3,16 +3,17 @@
 ghost use Rattle.std.specs.Prelude.{◌≡◌, ◌≤◌, ℕ, List, length, IfOk, IfErr};
 ghost use Rattle.ygg_base.specs.Failure.{IfRefused};
 ghost use Rattle.ygg_base.specs.Outside.{Rose};
-ghost use Rattle.ygg_run_tower.specs.ygg_report.Putting.{Puts};
-ghost use Rattle.ygg_run_tower.specs.ygg_script.Fitting.{IsScriptOf};
-ghost use Rattle.ygg_run_tower.specs.ygg_run_text.Played.{IsPlay};
+ghost use Rattle.ygg_run.specs.ygg_report.Putting.{Puts};
+ghost use Rattle.ygg_run.specs.ygg_script.Fitting.{IsScriptOf};
+ghost use Rattle.ygg_run.specs.ygg_run_text.Played.{IsPlay};
 ghost use Rattle.ygg_run.specs.Playing.{RefusesPlay, PlaysTo, IsFrontOfPlay};
 
 use crate::gathering::{Gathered, Unheard};
 use crate::stacking::play_in_memory;
 use std::alloc::Global;
 use ygg_base::{Refusal, Refuse, Sink, Status, Text};
-use ygg_run_tower::{PlayHalted, Script, Typed};
+use ygg_machine::Typed;
+use ygg_run_play::{PlayHalted, Script};
 
 /// The text of the one history that a script of a file names, from a format with which all writes are kept. A script whose stops aren't all reached is refused
 /// 44 at the first line `fail` whose stop isn't, column 1; the other error is out of memory.

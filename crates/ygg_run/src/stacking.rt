@@ -2,24 +2,26 @@
 
 ghost use Rattle.std.specs.Prelude.{◌≤◌, length};
 ghost use Rattle.ygg_base.specs.Outside.{Rose};
-ghost use Rattle.ygg_run_tower.specs.ygg_script.Fitting.{IsScriptOf};
-ghost use Rattle.ygg_run_tower.specs.ygg_run_text.Played.{Noted};
-ghost use Rattle.ygg_run_tower.specs.ygg_run_play.Playing.{IsPlayed};
+ghost use Rattle.ygg_run.specs.ygg_script.Fitting.{IsScriptOf};
+ghost use Rattle.ygg_run.specs.ygg_run_text.Played.{Noted};
+ghost use Rattle.ygg_run.specs.ygg_run_play.Playing.{IsPlayed};
 
+use crate::building::{async_ground, raised, sync_ground};
+use crate::playable::Playable;
+use crate::staged::Staged;
 use std::alloc::Global;
 use ygg_base::{DiskKind, Sink};
-use ygg_run_tower::{
-    PlayHalted, Playable, Script, Staged, Typed, async_ground, play_on, raised, sync_ground,
-};
+use ygg_machine::Typed;
+use ygg_run_play::{PlayHalted, Script, play_on};
 
 /// How many layers there is room for.
 trait Room {
     ghost use Rattle.std.specs.Prelude.{ℕ, ◌+◌, ◌<◌, ◌≤◌, length};
     ghost use Rattle.ygg_base.specs.Outside.{Rose};
-    ghost use Rattle.ygg_run_tower.specs.ygg_script.Fitting.{IsScriptOf};
-    ghost use Rattle.ygg_run_tower.specs.ygg_run_text.Played.{Noted};
-    ghost use Rattle.ygg_run_tower.specs.ygg_run_play.Playing.{IsPlayed};
-    ghost use Rattle.ygg_run_tower.specs.Playing.{IsUnwritten};
+    ghost use Rattle.ygg_run.specs.ygg_script.Fitting.{IsScriptOf};
+    ghost use Rattle.ygg_run.specs.ygg_run_text.Played.{Noted};
+    ghost use Rattle.ygg_run.specs.ygg_run_play.Playing.{IsPlayed};
+    ghost use Rattle.ygg_run.specs.TowerPlaying.{IsUnwritten};
 
     /// So many.
     ghost most: { ℕ };

@@ -1,12 +1,12 @@
 -- A command that was done, and its line that was put or wasn't.
 use Rattle.std.proofs.Common.{◌≡◌, ℕ, List, Option, Result, Ok, Err, IsErrAnd, inl, inr, refl, sym, ap, subst}
 use Rattle.ygg_syntax.specs.declared.tree.File.{File}
-use Rattle.ygg_run_tower.specs.ygg_disk.Ground.{Meaning}
-use Rattle.ygg_run_tower.specs.ygg_meaning.Progress.{Answer}
-use Rattle.ygg_run_tower.specs.ygg_machine.Bottoms.{View}
-use Rattle.ygg_run_tower.specs.ygg_report.Lines.{ended}
-use Rattle.ygg_run_tower.specs.ygg_script.declared.command.Command.{Command}
-use Rattle.ygg_run_tower.specs.ygg_run_text.Lines.{answer_text}
+use Rattle.ygg_run.specs.ygg_disk.Ground.{Meaning}
+use Rattle.ygg_run.specs.ygg_meaning.Progress.{Answer}
+use Rattle.ygg_run.specs.ygg_machine.Bottoms.{View}
+use Rattle.ygg_run.specs.ygg_report.Lines.{ended}
+use Rattle.ygg_run.specs.ygg_script.declared.command.Command.{Command}
+use Rattle.ygg_run.specs.ygg_run_text.Lines.{answer_text}
 use Rattle.ygg_run_commands.specs.Doing.{IsPut, entry_line, Did, Answered}
 use Rattle.ygg_run_commands.specs.declared.halting.RunHalted.{RunHalted}
 use Rattle.ygg_run_commands.specs.declared.halting.RunHalted.TheVariants.{DeviceFailed, SinkFailed, Memory}

@@ -2,23 +2,23 @@
 use Rattle.std.proofs.Common.{◌≡◌, ◌≢◌, ℕ, List, length, Option, None, Result, Ok, Err, IsErrAnd, IsSomeAnd, refl, sym, ◌∙◌, subst}
 use Rattle.ygg_value.specs.declared.row.Value.{Value}
 use Rattle.ygg_syntax.specs.declared.tree.File.{File}
-use Rattle.ygg_run_tower.specs.ygg_disk.Ground.{Meaning}
-use Rattle.ygg_run_tower.specs.ygg_disk.declared.power.Fuse.{Fuse}
-use Rattle.ygg_run_tower.specs.ygg_disk.declared.power.Power.{Power}
-use Rattle.ygg_run_tower.specs.ygg_meaning.Environments.{Name}
-use Rattle.ygg_run_tower.specs.ygg_meaning.Progress.{Answer}
-use Rattle.ygg_run_tower.specs.ygg_meaning.Machine.{State, TickName}
-use Rattle.ygg_run_tower.specs.ygg_histories.Mirror.{SameOn, FormattedIf, Mirrors}
-use Rattle.ygg_run_tower.specs.ygg_histories.Noted.{Note}
-use Rattle.ygg_run_tower.specs.ygg_histories.StepLaws.{Same}
-use Rattle.ygg_run_tower.specs.ygg_histories.History.{Called, Ticked, Step}
-use Rattle.ygg_run_tower.specs.ygg_eval_lower.Lower.{Cause, GivenUp, Ending, Whole, Down, Failed, Starved, AfterWhole}
-use Rattle.ygg_run_tower.specs.ygg_machine.Bottoms.{bottom_on, View, ViewRuns, ViewEnds, StillLooks, state_seen}
-use Rattle.ygg_run_tower.specs.ygg_machine.Commands.{Stopped}
-use Rattle.ygg_run_tower.specs.ygg_machine.Commands as command
-use Rattle.ygg_run_tower.specs.ygg_machine.Told.{SameNotes}
-use Rattle.ygg_run_tower.specs.ygg_script.declared.command.Command.TheVariants.{Call, Tick}
-use Rattle.ygg_run_tower.specs.ygg_run_text.Named.{operation_name, tick_name}
+use Rattle.ygg_run.specs.ygg_disk.Ground.{Meaning}
+use Rattle.ygg_run.specs.ygg_disk.declared.power.Fuse.{Fuse}
+use Rattle.ygg_run.specs.ygg_disk.declared.power.Power.{Power}
+use Rattle.ygg_run.specs.ygg_meaning.Environments.{Name}
+use Rattle.ygg_run.specs.ygg_meaning.Progress.{Answer}
+use Rattle.ygg_run.specs.ygg_meaning.Machine.{State, TickName}
+use Rattle.ygg_run.specs.ygg_meaning.Mirror.{SameOn, FormattedIf, Mirrors}
+use Rattle.ygg_run.specs.ygg_meaning.Noted.{Note}
+use Rattle.ygg_run.specs.ygg_meaning.StepLaws.{Same}
+use Rattle.ygg_run.specs.ygg_meaning.History.{Called, Ticked, Step}
+use Rattle.ygg_run.specs.ygg_eval_lower.Lower.{Cause, GivenUp, Ending, Whole, Down, Failed, Starved, AfterWhole}
+use Rattle.ygg_run.specs.ygg_machine.Bottoms.{bottom_on, View, ViewRuns, ViewEnds, StillLooks, state_seen}
+use Rattle.ygg_run.specs.ygg_machine.Commands.{Stopped}
+use Rattle.ygg_run.specs.ygg_machine.Commands as command
+use Rattle.ygg_run.specs.ygg_machine.Told.{SameNotes}
+use Rattle.ygg_run.specs.ygg_script.declared.command.Command.TheVariants.{Call, Tick}
+use Rattle.ygg_run.specs.ygg_run_text.Named.{operation_name, tick_name}
 use Rattle.ygg_run_commands.specs.OnGround.{layers_on}
 use Rattle.ygg_run_commands.specs.Running.{StopsWaking}
 use Rattle.ygg_run_commands.specs.Doing.{given_of, AllRun, Woke, DidPart, DidSo, Did}

@@ -1,22 +1,22 @@
 -- A run extends whatever could have left the rows that it found.
 use Rattle.std.proofs.Common.{List, [], ◌∷◌, ◌++◌, refl, sym, subst}
 use Rattle.ygg_syntax.specs.declared.tree.File.{File}
-use Rattle.ygg_run_tower.specs.ygg_disk.Ground.{Meaning}
-use Rattle.ygg_run_tower.specs.ygg_disk.Kinds.{model_of}
-use Rattle.ygg_run_tower.specs.ygg_meaning.Machine.{State, Machine}
-use Rattle.ygg_run_tower.specs.ygg_meaning.DiskMachine.{tables_in}
-use Rattle.ygg_run_tower.specs.ygg_histories.Stack.{BottomOf, layers_of}
-use Rattle.ygg_run_tower.specs.ygg_histories.Mirror.{SameOn, FormattedIf, Mirrors}
-use Rattle.ygg_run_tower.specs.ygg_histories.History.{Entry, Step, Steps}
-use Rattle.ygg_run_tower.specs.ygg_histories.StepLaws.{Same, LeftGoesOn}
-use Rattle.ygg_run_tower.specs.ygg_histories.Grounds.{OnGround, TellsBase, TellsZeros, Tells, ArePicks}
-use Rattle.ygg_run_tower.proofs.of_ygg_histories.Stores.{told_steps}
-use Rattle.ygg_run_tower.specs.ygg_eval_lower.Lower.{PowerLoss}
-use Rattle.ygg_run_tower.specs.ygg_machine.Told.{SameNotes}
-use Rattle.ygg_run_tower.specs.ygg_script.declared.command.Command.{Command}
-use Rattle.ygg_run_tower.specs.ygg_script.declared.command.Command.TheVariants.{Call, Tick, Lost, Fail, Keep}
-use Rattle.ygg_run_tower.specs.ygg_run_text.Named.{operation_name, tick_name}
-use Rattle.ygg_run_tower.specs.ygg_type_progress.Laws.{TypedHistories}
+use Rattle.ygg_run.specs.ygg_disk.Ground.{Meaning}
+use Rattle.ygg_run.specs.ygg_disk.Kinds.{model_of}
+use Rattle.ygg_run.specs.ygg_meaning.Machine.{State, Machine}
+use Rattle.ygg_run.specs.ygg_meaning.DiskMachine.{tables_in}
+use Rattle.ygg_run.specs.ygg_meaning.Stack.{BottomOf, layers_of}
+use Rattle.ygg_run.specs.ygg_meaning.Mirror.{SameOn, FormattedIf, Mirrors}
+use Rattle.ygg_run.specs.ygg_meaning.History.{Entry, Step, Steps}
+use Rattle.ygg_run.specs.ygg_meaning.StepLaws.{Same, LeftGoesOn}
+use Rattle.ygg_run.specs.ygg_meaning.Grounds.{OnGround, TellsBase, TellsZeros, Tells, ArePicks}
+use Rattle.ygg_run.proofs.of_ygg_meaning.Stores.{told_steps}
+use Rattle.ygg_run.specs.ygg_eval_lower.Lower.{PowerLoss}
+use Rattle.ygg_run.specs.ygg_machine.Told.{SameNotes}
+use Rattle.ygg_run.specs.ygg_script.declared.command.Command.{Command}
+use Rattle.ygg_run.specs.ygg_script.declared.command.Command.TheVariants.{Call, Tick, Lost, Fail, Keep}
+use Rattle.ygg_run.specs.ygg_run_text.Named.{operation_name, tick_name}
+use Rattle.ygg_run.specs.ygg_type_progress.Laws.{TypedHistories}
 use Rattle.ygg_run_commands.specs.Ran.{AllRan}
 use Rattle.ygg_run_commands.specs.OnGround.{layers_on}
 use Rattle.ygg_run_commands.specs.Extending.{RunsExtend}

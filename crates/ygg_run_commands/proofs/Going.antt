@@ -7,20 +7,20 @@ use Rattle.std.proofs.lemmas.List.Elements.{All-head, All-tail}
 use Rattle.std.specs.List.{flat_map}
 use Rattle.ygg_base.specs.Outside.{Rose}
 use Rattle.ygg_syntax.specs.declared.tree.File.{File}
-use Rattle.ygg_run_tower.specs.ygg_disk.Ground.{Meaning}
-use Rattle.ygg_run_tower.specs.ygg_meaning.Machine.{Machine}
-use Rattle.ygg_run_tower.specs.ygg_histories.History.{Entry}
-use Rattle.ygg_run_tower.specs.ygg_histories.Noted.{Note}
-use Rattle.ygg_run_tower.proofs.of_ygg_histories.Resumed.{steps_append}
-use Rattle.ygg_run_tower.specs.ygg_eval_lower.Lower.{Cause}
-use Rattle.ygg_run_tower.specs.ygg_machine.Bottoms.{View, state_seen}
-use Rattle.ygg_run_tower.specs.ygg_report.Lines.{ended}
-use Rattle.ygg_run_tower.specs.ygg_report.Putting.{Adds, IsFront}
-use Rattle.ygg_run_tower.proofs.of_ygg_report.Fronts.{adds_more, adds_none, front_after, front_first, front_longer}
-use Rattle.ygg_run_tower.specs.ygg_script.declared.command.Command.{Command}
-use Rattle.ygg_run_tower.specs.ygg_script.declared.command.Command.TheVariants.{Call, Tick, Lost, Fail, Keep}
-use Rattle.ygg_run_tower.specs.ygg_script.Fitting.{IsCommandOf}
-use Rattle.ygg_run_tower.specs.ygg_script.Plain.{is_plain, first_not_plain, plain_of}
+use Rattle.ygg_run.specs.ygg_disk.Ground.{Meaning}
+use Rattle.ygg_run.specs.ygg_meaning.Machine.{Machine}
+use Rattle.ygg_run.specs.ygg_meaning.History.{Entry}
+use Rattle.ygg_run.specs.ygg_meaning.Noted.{Note}
+use Rattle.ygg_run.proofs.of_ygg_meaning.Resumed.{steps_append}
+use Rattle.ygg_run.specs.ygg_eval_lower.Lower.{Cause}
+use Rattle.ygg_run.specs.ygg_machine.Bottoms.{View, state_seen}
+use Rattle.ygg_run.specs.ygg_report.Lines.{ended}
+use Rattle.ygg_run.specs.ygg_report.Putting.{Adds, IsFront}
+use Rattle.ygg_run.proofs.of_ygg_report.Fronts.{adds_more, adds_none, front_after, front_first, front_longer}
+use Rattle.ygg_run.specs.ygg_script.declared.command.Command.{Command}
+use Rattle.ygg_run.specs.ygg_script.declared.command.Command.TheVariants.{Call, Tick, Lost, Fail, Keep}
+use Rattle.ygg_run.specs.ygg_script.Fitting.{IsCommandOf}
+use Rattle.ygg_run.specs.ygg_script.Plain.{is_plain, first_not_plain, plain_of}
 use Rattle.ygg_run_commands.specs.Ran.{Ran, AllRan, run_lines, ran_line}
 use Rattle.ygg_run_commands.specs.OnGround.{layers_on}
 use Rattle.ygg_run_commands.specs.Running.{Runs, StopsBefore, IsRun, text_before}

@@ -1,23 +1,23 @@
 -- What layers do on the calls that are made on a ground is the same wherever they began.
 use Rattle.std.proofs.Common.{◌≡◌, List, ◌++◌, length, refl, sym, ap, ◌∙◌, subst}
 use Rattle.ygg_syntax.specs.declared.tree.File.{File}
-use Rattle.ygg_run_tower.specs.ygg_disk.Disk as disk
-use Rattle.ygg_run_tower.specs.ygg_disk.Ground.{Meaning}
-use Rattle.ygg_run_tower.specs.ygg_meaning.Environments.{Env}
-use Rattle.ygg_run_tower.specs.ygg_meaning.Machine.{State, Machine}
-use Rattle.ygg_run_tower.specs.ygg_meaning.DiskMachine.{machine_on}
-use Rattle.ygg_run_tower.specs.ygg_histories.Stack.{layers_of}
-use Rattle.ygg_run_tower.specs.ygg_histories.Mirror.{SameOn, IsJoined, FormattedIf, Mirrors}
-use Rattle.ygg_run_tower.specs.ygg_histories.Noted.{Note}
-use Rattle.ygg_run_tower.specs.ygg_histories.StepLaws.{Same}
-use Rattle.ygg_run_tower.specs.ygg_histories.Grounds.{ground_store, OnGround}
-use Rattle.ygg_run_tower.specs.ygg_histories_proofs_Mirrored.{stacked_mirrors}
-use Rattle.ygg_run_tower.proofs.of_ygg_histories.Stores.{StoreMirrors, machine_mirrors}
-use Rattle.ygg_run_tower.specs.ygg_eval_lower.Lower.{Cause, PowerLoss, GivenUp}
-use Rattle.ygg_run_tower.specs.ygg_machine.GroundSteps.{ground_steps, ground_machine, ground_calls}
-use Rattle.ygg_run_tower.specs.ygg_machine.Bottoms.{bottom_on}
-use Rattle.ygg_run_tower.specs.ygg_machine.Told.{SameNotes}
-use Rattle.ygg_run_tower.proofs.of_ygg_machine.Numbered.{bottom_is}
+use Rattle.ygg_run.specs.ygg_disk.Disk as disk
+use Rattle.ygg_run.specs.ygg_disk.Ground.{Meaning}
+use Rattle.ygg_run.specs.ygg_meaning.Environments.{Env}
+use Rattle.ygg_run.specs.ygg_meaning.Machine.{State, Machine}
+use Rattle.ygg_run.specs.ygg_meaning.DiskMachine.{machine_on}
+use Rattle.ygg_run.specs.ygg_meaning.Stack.{layers_of}
+use Rattle.ygg_run.specs.ygg_meaning.Mirror.{SameOn, IsJoined, FormattedIf, Mirrors}
+use Rattle.ygg_run.specs.ygg_meaning.Noted.{Note}
+use Rattle.ygg_run.specs.ygg_meaning.StepLaws.{Same}
+use Rattle.ygg_run.specs.ygg_meaning.Grounds.{ground_store, OnGround}
+use Rattle.ygg_run.specs.ygg_meaning_proofs_Mirrored.{stacked_mirrors}
+use Rattle.ygg_run.proofs.of_ygg_meaning.Stores.{StoreMirrors, machine_mirrors}
+use Rattle.ygg_run.specs.ygg_eval_lower.Lower.{Cause, PowerLoss, GivenUp}
+use Rattle.ygg_run.specs.ygg_machine.GroundSteps.{ground_steps, ground_machine, ground_calls}
+use Rattle.ygg_run.specs.ygg_machine.Bottoms.{bottom_on}
+use Rattle.ygg_run.specs.ygg_machine.Told.{SameNotes}
+use Rattle.ygg_run.proofs.of_ygg_machine.Numbered.{bottom_is}
 use Rattle.ygg_run_commands.specs.OnGround.{layers_on}
 
 same_joined : IsJoined SameNotes

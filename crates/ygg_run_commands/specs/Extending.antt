@@ -3,17 +3,17 @@ use Rattle.std.specs.Prelude.{◌≡◌, List, ◌++◌, Some}
 use Rattle.ygg_value.specs.Number.{Grid}
 use Rattle.ygg_syntax.specs.declared.tree.File.{File}
 use Rattle.ygg_syntax.specs.Files.{IsDerived}
-use Rattle.ygg_run_tower.specs.ygg_type_rules.Files.{IsTyped}
-use Rattle.ygg_run_tower.specs.ygg_disk.Ground.{Meaning}
-use Rattle.ygg_run_tower.specs.ygg_disk.Kinds.{model_of}
-use Rattle.ygg_run_tower.specs.ygg_meaning.Environments.{Env}
-use Rattle.ygg_run_tower.specs.ygg_meaning.Machine.{State}
-use Rattle.ygg_run_tower.specs.ygg_histories.Stack.{BottomOf, FileRefines}
-use Rattle.ygg_run_tower.specs.ygg_histories.History.{Entry, History, Allows}
-use Rattle.ygg_run_tower.specs.ygg_histories.Left.{Left}
-use Rattle.ygg_run_tower.specs.ygg_histories.Noted.{disk_in}
-use Rattle.ygg_run_tower.specs.ygg_histories.Grounds.{Tells}
-use Rattle.ygg_run_tower.specs.ygg_script.declared.command.Command.{Command}
+use Rattle.ygg_run.specs.ygg_type_rules.Files.{IsTyped}
+use Rattle.ygg_run.specs.ygg_disk.Ground.{Meaning}
+use Rattle.ygg_run.specs.ygg_disk.Kinds.{model_of}
+use Rattle.ygg_run.specs.ygg_meaning.Environments.{Env}
+use Rattle.ygg_run.specs.ygg_meaning.Machine.{State}
+use Rattle.ygg_run.specs.ygg_meaning.Stack.{BottomOf, FileRefines}
+use Rattle.ygg_run.specs.ygg_meaning.History.{Entry, History, Allows}
+use Rattle.ygg_run.specs.ygg_meaning.Left.{Left}
+use Rattle.ygg_run.specs.ygg_meaning.Noted.{disk_in}
+use Rattle.ygg_run.specs.ygg_meaning.Grounds.{Tells}
+use Rattle.ygg_run.specs.ygg_script.declared.command.Command.{Command}
 use Rattle.ygg_run_commands.specs.OnGround.{layers_on}
 use Rattle.ygg_run_commands.specs.Running.{Runs}
 

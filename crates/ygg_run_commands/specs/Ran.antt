@@ -3,14 +3,14 @@ use Rattle.std.specs.Prelude.{◌≡◌, ℕ, List, [], ◌∷◌, ◌++◌, len
 use Rattle.std.specs.Fmt.{decimal}
 use Rattle.std.specs.List.{flat_map}
 use Rattle.ygg_syntax.specs.declared.tree.File.{File}
-use Rattle.ygg_run_tower.specs.ygg_meaning.Progress.{Answer}
-use Rattle.ygg_run_tower.specs.ygg_histories.History.{Entry, Called, Cut, Ticked, CutTick}
-use Rattle.ygg_run_tower.specs.ygg_histories.History as history
-use Rattle.ygg_run_tower.specs.ygg_report.Lines.{ended}
-use Rattle.ygg_run_tower.specs.ygg_script.declared.command.Command.{Command}
-use Rattle.ygg_run_tower.specs.ygg_script.declared.command.Command.TheVariants.{Call, Tick, Lost, Fail, Keep}
-use Rattle.ygg_run_tower.specs.ygg_run_text.Named.{operation_name, tick_name}
-use Rattle.ygg_run_tower.specs.ygg_run_text.Lines.{answer_text}
+use Rattle.ygg_run.specs.ygg_meaning.Progress.{Answer}
+use Rattle.ygg_run.specs.ygg_meaning.History.{Entry, Called, Cut, Ticked, CutTick}
+use Rattle.ygg_run.specs.ygg_meaning.History as history
+use Rattle.ygg_run.specs.ygg_report.Lines.{ended}
+use Rattle.ygg_run.specs.ygg_script.declared.command.Command.{Command}
+use Rattle.ygg_run.specs.ygg_script.declared.command.Command.TheVariants.{Call, Tick, Lost, Fail, Keep}
+use Rattle.ygg_run.specs.ygg_run_text.Named.{operation_name, tick_name}
+use Rattle.ygg_run.specs.ygg_run_text.Lines.{answer_text}
 
 -- the entry of a command, whatever it answers; only operations and background steps are run
 abbrev pub Ran : File → Command → Entry → Type 0

@@ -1,18 +1,18 @@
 //! The layers are woken, and do what one command says.
 
 ghost use Rattle.std.specs.Prelude.{◌≡◌, ◌≢◌, true, None};
-ghost use Rattle.ygg_run_tower.specs.ygg_eval_lower.Lower.{Down, ending_of};
-ghost use Rattle.ygg_run_tower.specs.ygg_machine.Viewed.{floor_seen};
-ghost use Rattle.ygg_run_tower.specs.ygg_script.Fitting.{IsCallOf, IsTickOf, IsCommandOf};
-ghost use Rattle.ygg_run_tower.specs.ygg_script.Plain.{is_plain};
-ghost use Rattle.ygg_run_tower.specs.ygg_script.declared.command.Command.TheVariants as command;
+ghost use Rattle.ygg_run.specs.ygg_eval_lower.Lower.{Down, ending_of};
+ghost use Rattle.ygg_run.specs.ygg_machine.Viewed.{floor_seen};
+ghost use Rattle.ygg_run.specs.ygg_script.Fitting.{IsCallOf, IsTickOf, IsCommandOf};
+ghost use Rattle.ygg_run.specs.ygg_script.Plain.{is_plain};
+ghost use Rattle.ygg_run.specs.ygg_script.declared.command.Command.TheVariants as command;
 ghost use Rattle.ygg_run_commands.specs.Doing.{given_of, AllStand, AllRun, Woke, Did};
 
 use crate::halting::RunHalted;
 use std::alloc::Global;
 use ygg_base::Bits;
 use ygg_list::NoMemory;
-use ygg_run_tower::{Command, Floor, Picks, Power, Turn, Typed, Viewed, viewed};
+use ygg_run::{Command, Floor, Picks, Power, Turn, Typed, Viewed, viewed};
 use ygg_value::{Value, Values};
 
 /// Power that doesn't fail, of which nothing is noted.

@@ -8,4 +8,4 @@ mod running;
 
 pub use halting::RunHalted;
 pub use running::run_on;
-pub use ygg_run_tower::{Command, Floor, Ground, Script, Typed, Viewed, plain_script, read_script};
+pub use ygg_run::{Command, Floor, Ground, Script, Typed, Viewed, plain_script, read_script};

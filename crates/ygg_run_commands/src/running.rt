@@ -2,11 +2,11 @@
 
 ghost use Rattle.std.specs.Prelude.{◌≡◌, ◌≤◌, true, None, IfOk};
 ghost use Rattle.ygg_base.specs.Outside.{Rose};
-ghost use Rattle.ygg_run_tower.specs.ygg_machine.Viewed.{floor_seen};
-ghost use Rattle.ygg_run_tower.specs.ygg_report.Lines.{ended};
-ghost use Rattle.ygg_run_tower.specs.ygg_script.Fitting.{IsCommandOf, IsScriptOf};
-ghost use Rattle.ygg_run_tower.specs.ygg_script.Plain.{is_plain, plain_of};
-ghost use Rattle.ygg_run_tower.specs.ygg_run_text.Lines.{answer_text};
+ghost use Rattle.ygg_run.specs.ygg_machine.Viewed.{floor_seen};
+ghost use Rattle.ygg_run.specs.ygg_report.Lines.{ended};
+ghost use Rattle.ygg_run.specs.ygg_script.Fitting.{IsCommandOf, IsScriptOf};
+ghost use Rattle.ygg_run.specs.ygg_script.Plain.{is_plain, plain_of};
+ghost use Rattle.ygg_run.specs.ygg_run_text.Lines.{answer_text};
 ghost use Rattle.ygg_run_commands.specs.Ran.{ran_line};
 ghost use Rattle.ygg_run_commands.specs.OnGround.{layers_on};
 ghost use Rattle.ygg_run_commands.specs.Running.{IsRun};
@@ -17,7 +17,7 @@ use crate::halting::RunHalted;
 use std::alloc::Global;
 use ygg_base::{Sink, Text};
 use ygg_list::NoMemory;
-use ygg_run_tower::{Command, Floor, Typed, Viewed, put, put_answer};
+use ygg_run::{Command, Floor, Typed, Viewed, put, put_answer};
 use ygg_value::Value;
 
 /// Puts a text. Its only error is that the sink failed.

@@ -18,11 +18,11 @@ use Rattle.ygg_run_held.specs.ygg_meaning.DiskMachine.{tables_in, zeros_on, Disk
 use Rattle.ygg_run_held.specs.ygg_meaning.Runs.{Dialogue, WholeCall, answers_of, notes_of, Reaches}
 use Rattle.ygg_run_held.specs.ygg_meaning.Layer.{ClosedLayer, dialogue_of, BlockRuns, Layered}
 use Rattle.ygg_run_held.specs.ygg_meaning.Shapes.{zeros_of}
-use Rattle.ygg_run_held.specs.ygg_histories.Stack.{Layers, Stacked, Bottom, BottomOf, layers_of}
-use Rattle.ygg_run_held.specs.ygg_histories.Under.{Between}
-use Rattle.ygg_run_held.specs.ygg_histories.History.{Lost}
-use Rattle.ygg_run_held.specs.ygg_histories.Left.{Left}
-use Rattle.ygg_run_held.specs.ygg_histories.Mirror.{SameOn}
+use Rattle.ygg_run_held.specs.ygg_meaning.Stack.{Layers, Stacked, Bottom, BottomOf, layers_of}
+use Rattle.ygg_run_held.specs.ygg_meaning.Under.{Between}
+use Rattle.ygg_run_held.specs.ygg_meaning.History.{Lost}
+use Rattle.ygg_run_held.specs.ygg_meaning.Left.{Left}
+use Rattle.ygg_run_held.specs.ygg_meaning.Mirror.{SameOn}
 use Rattle.ygg_run_format.specs.Formatted.{Views, AreFormatted}
 
 -- all writes are kept

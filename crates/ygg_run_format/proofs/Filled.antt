@@ -12,8 +12,8 @@ use Rattle.ygg_run_held.specs.ygg_type.Typed.{geometry_of}
 use Rattle.ygg_run_held.specs.ygg_run_image.Image.{block_bytes, image_bytes, rows_in}
 use Rattle.ygg_run_held.specs.ygg_run_image.Laws.{AreBlocks}
 use Rattle.ygg_run_held.proofs.of_ygg_run_image.Images.{zeros-held}
-use Rattle.ygg_run_held.specs.ygg_run_ground.Sight.{held}
-use Rattle.ygg_run_held.specs.ygg_run_ground.Standing.{KeepsHeader}
+use Rattle.ygg_run_held.specs.Sight.{held}
+use Rattle.ygg_run_held.specs.Standing.{KeepsHeader}
 use Rattle.ygg_run_format.specs.declared.end.FormatEnd.{FormatEnd}
 use Rattle.ygg_run_format.specs.declared.end.FormatEnd.TheVariants as end
 use Rattle.ygg_run_format.specs.Formatted.{AreFormatted}

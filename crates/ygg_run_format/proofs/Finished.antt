@@ -5,7 +5,7 @@ use Rattle.ygg_run_held.specs.ygg_base_device.Devices.{AttachedTurns, Attachment
 use Rattle.ygg_syntax.specs.declared.tree.File.{File}
 use Rattle.ygg_run_held.specs.ygg_type.Typed.{geometry_of}
 use Rattle.ygg_run_held.specs.ygg_run_image.Image.{rows_in}
-use Rattle.ygg_run_held.specs.ygg_run_ground.Sight.{Holds, held}
+use Rattle.ygg_run_held.specs.Sight.{Holds, held}
 use Rattle.ygg_run_format.specs.declared.end.FormatEnd.{FormatEnd}
 use Rattle.ygg_run_format.specs.declared.end.FormatEnd.TheVariants as end
 use Rattle.ygg_run_format.specs.Leaving.{

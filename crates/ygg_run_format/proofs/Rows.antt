@@ -15,17 +15,17 @@ use Rattle.ygg_run_held.specs.ygg_disk.Kinds.{Disk, model_of}
 use Rattle.ygg_run_held.specs.ygg_disk.Size.{table_shape, zeros_of}
 use Rattle.std.specs.Prelude.{codes}
 use Rattle.ygg_run_held.specs.ygg_meaning.Environments.{look_up}
-use Rattle.ygg_run_held.specs.ygg_histories.Noted.{disk_in}
-use Rattle.ygg_run_held.specs.ygg_histories.Grounds.{TellsZeros}
+use Rattle.ygg_run_held.specs.ygg_meaning.Noted.{disk_in}
+use Rattle.ygg_run_held.specs.ygg_meaning.Grounds.{TellsZeros}
 use Rattle.ygg_run_held.specs.ygg_eval_lower.Lower.{Cause, PowerLoss, GivenUp}
 use Rattle.ygg_run_held.specs.ygg_machine.GroundSteps.{ground_machine}
 use Rattle.ygg_run_held.proofs.of_ygg_machine.Noting.{stacks_tell}
 use Rattle.ygg_run_held.specs.ygg_run_image.Image.{rows_in}
 use Rattle.ygg_run_held.proofs.of_ygg_run_image.Images.{zeros-held}
-use Rattle.ygg_run_held.proofs.of_ygg_run_stack.Keeping.{Keeps}
-use Rattle.ygg_run_held.specs.ygg_run_ground.Sight.{Sight, held, state_of, told_disk}
-use Rattle.ygg_run_held.specs.ygg_run_ground.DeviceMeaning.{device_meaning}
-use Rattle.ygg_run_held.specs.ygg_run_ground.Standing.{KeepsHeader, StaysOn}
+use Rattle.ygg_run_held.specs.Kept.{Keeps}
+use Rattle.ygg_run_held.specs.Sight.{Sight, held, state_of, told_disk}
+use Rattle.ygg_run_held.specs.DeviceMeaning.{device_meaning}
+use Rattle.ygg_run_held.specs.Standing.{KeepsHeader, StaysOn}
 use Rattle.ygg_run_format.specs.declared.end.FormatEnd.{FormatEnd}
 use Rattle.ygg_run_format.specs.declared.end.FormatEnd.TheVariants as end
 use Rattle.ygg_run_format.specs.Formatted.{AreFormatted}

@@ -5,7 +5,7 @@ use Rattle.ygg_value.specs.declared.row.Value.TheVariants.{Table}
 use Rattle.ygg_syntax.specs.declared.tree.File.{File}
 use Rattle.ygg_run_held.specs.ygg_meaning.Environments.{Env, look_up}
 use Rattle.ygg_run_held.specs.ygg_meaning.Machine.{Picks, State}
-use Rattle.ygg_run_held.specs.ygg_histories.Stack.{BottomOf}
+use Rattle.ygg_run_held.specs.ygg_meaning.Stack.{BottomOf}
 
 -- the disk of the bottom implementation shows these rows
 abbrev pub Views : State Env → Grid → Type 0

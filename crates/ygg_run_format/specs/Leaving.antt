@@ -5,11 +5,11 @@ use Rattle.ygg_run_held.specs.ygg_base_device.Devices.{Image, Attachment, Others
 use Rattle.ygg_value.specs.Number.{Grid}
 use Rattle.ygg_syntax.specs.declared.tree.File.{File}
 use Rattle.ygg_run_held.specs.ygg_type.Typed.{geometry_of}
-use Rattle.ygg_run_held.specs.ygg_histories.History.{Lost}
-use Rattle.ygg_run_held.specs.ygg_histories.Left.{Left}
+use Rattle.ygg_run_held.specs.ygg_meaning.History.{Lost}
+use Rattle.ygg_run_held.specs.ygg_meaning.Left.{Left}
 use Rattle.ygg_run_held.specs.ygg_run_image.Image.{block_bytes, image, image_bytes, rows_in}
 use Rattle.ygg_run_held.specs.ygg_run_image.Judged.{IsSealed}
-use Rattle.ygg_run_held.specs.ygg_run_ground.Sight.{Holds, held}
+use Rattle.ygg_run_held.specs.Sight.{Holds, held}
 use Rattle.ygg_run_format.specs.Formatted.{AreFormatted}
 use Rattle.ygg_run_format.specs.Sealing.{HasBytes, IsFresh}
 use Rattle.ygg_run_format.specs.declared.end.FormatEnd.{FormatEnd}

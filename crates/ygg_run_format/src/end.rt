@@ -1,5 +1,5 @@
 /// How formatting ended.
-#[derive(Clone, Copy, PartialEq, Eq, Drop)]
+#[derive(Clone, Copy, Drop)]
 pub enum FormatEnd {
     /// The layers are formatted.
     Done,

@@ -4,7 +4,7 @@ ghost use Rattle.std.specs.Prelude.{◌≡◌, ◌≤◌, IfSome};
 ghost use Rattle.ygg_base.specs.Outside.{Rose};
 ghost use Rattle.ygg_run_held.specs.ygg_base_device.Devices.{AttachedTurns, Tells};
 ghost use Rattle.ygg_run_held.specs.ygg_type.Typed.{geometry_of};
-ghost use Rattle.ygg_run_held.specs.ygg_run_ground.Sight.{Holds, held};
+ghost use Rattle.ygg_run_held.specs.Sight.{Holds, held};
 ghost use Rattle.ygg_run_format.specs.Leaving.{FinishTurns, IsFilled, FormatsImage};
 ghost use Rattle.ygg_run_format.specs.declared.end.FormatEnd.TheVariants.{Failed};
 

@@ -5,7 +5,7 @@ ghost use Rattle.ygg_base.specs.Outside.{Rose};
 ghost use Rattle.ygg_base.specs.declared.outside.Moved.TheVariants.{Failed};
 ghost use Rattle.ygg_run_held.specs.ygg_base_device.Devices.{AttachedTurns, Image, Tells};
 ghost use Rattle.ygg_run_held.specs.ygg_run_image.Image.{block_bytes};
-ghost use Rattle.ygg_run_held.specs.ygg_run_ground.Sight.{Holds, held};
+ghost use Rattle.ygg_run_held.specs.Sight.{Holds, held};
 ghost use Rattle.ygg_run_format.specs.Sealing.{HeaderTurns, IsFresh, SealTurns};
 
 use ygg_base::{Geometry, Moved};

@@ -1,5 +1,12 @@
-pub use Rattle.ygg_run_stack.proofs.of_ygg_machine
-pub use Rattle.ygg_run_ground.proofs as of_ygg_run_ground
 pub use Rattle.ygg_run_image.proofs as of_ygg_run_image
-pub use Rattle.ygg_run_stack.proofs as of_ygg_run_stack
 pub mod Staying
+pub mod Held
+pub mod Keeping
+pub mod Telling
+mod Leaving
+pub mod Whole
+pub mod JudgedBlocks
+pub mod Attached
+pub use Rattle.ygg_machine.proofs as of_ygg_machine
+pub mod Some
+pub mod StackKeeping

@@ -5,19 +5,20 @@ use Rattle.ygg_base.specs.declared.geometry.Geometry.{Geometry}
 use Rattle.ygg_base.specs.declared.outside.Moved.{Moved}
 use Rattle.ygg_base.specs.declared.outside.Moved.TheVariants.{Done, Failed}
 use Rattle.ygg_base_device.specs.Devices.{Image, Attachment, Tells, AttachedTurns, ImageTurns}
-use Rattle.ygg_run_stack.specs.ygg_disk.Disk.{Call}
-use Rattle.ygg_run_stack.specs.ygg_meaning.Machine.{State, based}
-use Rattle.ygg_run_stack.specs.ygg_histories.Stack.{Layers, Stacked}
-use Rattle.ygg_run_stack.specs.ygg_eval_lower.Lower.{Cause, PowerLoss, GivenUp}
-use Rattle.ygg_run_stack.specs.ygg_machine.GroundSteps.{ground_machine}
+use Rattle.ygg_run_held.specs.ygg_disk.Disk.{Call}
+use Rattle.ygg_run_held.specs.ygg_meaning.Machine.{State, based}
+use Rattle.ygg_run_held.specs.ygg_meaning.Stack.{Layers, Stacked}
+use Rattle.ygg_run_held.specs.ygg_eval_lower.Lower.{Cause, PowerLoss, GivenUp}
+use Rattle.ygg_run_held.specs.ygg_machine.GroundSteps.{ground_machine}
 use Rattle.ygg_run_image.specs.Image.{block_bytes}
 use Rattle.ygg_run_image.specs.Laws.{AreBlocks}
-use Rattle.ygg_run_ground.specs.DeviceMeaning.{device_meaning}
-use Rattle.ygg_run_ground.specs.Sight.{Sight, HoldsImage, Holds}
-use Rattle.ygg_run_ground.specs.Standing.{KeepsHeader, StaysOn}
-use Rattle.ygg_run_ground.specs.Turning.{Moves, Turned}
-use Rattle.ygg_run_ground.proofs.Keeping.{image_same, keeps_both, keeps_same, keeps_turned}
-use Rattle.ygg_run_stack.proofs.Keeping.{Keeps, stacked_keeps}
+use Rattle.ygg_run_held.specs.DeviceMeaning.{device_meaning}
+use Rattle.ygg_run_held.specs.Sight.{Sight, HoldsImage, Holds}
+use Rattle.ygg_run_held.specs.Standing.{KeepsHeader, StaysOn}
+use Rattle.ygg_run_held.specs.Turning.{Moves, Turned}
+use Rattle.ygg_run_held.proofs.Keeping.{image_same, keeps_both, keeps_same, keeps_turned}
+use Rattle.ygg_run_held.specs.Kept.{Keeps}
+use Rattle.ygg_run_held.proofs.StackKeeping.{stacked_keeps}
 
 module _ (g : Geometry) (Turns : Attachment → (before now : Image) → Type 0)
     (keep : (a : Attachment) → a.size ≡ block_bytes g → (before now : Image) → AreBlocks g before.view → AreBlocks g before.stable → Turns a before now →

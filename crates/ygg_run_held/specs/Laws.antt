@@ -1,11 +1,11 @@
 -- What layers on a disk that a device holds keep of the device.
-use Rattle.ygg_run_stack.specs.ygg_histories.Stack.{Layers, Stacked}
-use Rattle.ygg_run_stack.specs.ygg_eval_lower.Lower.{Cause}
-use Rattle.ygg_run_stack.specs.ygg_machine.GroundSteps.{ground_machine}
-use Rattle.ygg_run_stack.proofs.Keeping.{Keeps}
-use Rattle.ygg_run_ground.specs.DeviceMeaning.{device_meaning}
-use Rattle.ygg_run_ground.specs.Sight.{Sight, Holds}
-use Rattle.ygg_run_ground.specs.Standing.{StaysOn}
+use Rattle.ygg_run_held.specs.ygg_meaning.Stack.{Layers, Stacked}
+use Rattle.ygg_run_held.specs.ygg_eval_lower.Lower.{Cause}
+use Rattle.ygg_run_held.specs.ygg_machine.GroundSteps.{ground_machine}
+use Rattle.ygg_run_held.specs.Kept.{Keeps}
+use Rattle.ygg_run_held.specs.DeviceMeaning.{device_meaning}
+use Rattle.ygg_run_held.specs.Sight.{Sight, Holds}
+use Rattle.ygg_run_held.specs.Standing.{StaysOn}
 
 -- the ground as it is seen
 abbrev pub as_seen : Sight → Sight

@@ -2,7 +2,7 @@ ghost use Rattle.std.specs.Prelude.{◌≡◌};
 ghost use Rattle.ygg_run_image.specs.Judged.{number_of};
 
 /// Why an image is refused.
-#[derive(Clone, Copy, PartialEq, Eq, Drop)]
+#[derive(Clone, Copy, Drop)]
 pub enum ImageReason {
     /// It is shorter than a block, doesn't begin as an image does, or its seal isn't 1.
     Unsealed,

@@ -6,9 +6,9 @@ use Rattle.ygg_syntax.specs.declared.tree.File.{File}
 use Rattle.ygg_run_commands.specs.ygg_meaning.Environments.{Name, Env}
 use Rattle.ygg_run_commands.specs.ygg_meaning.Progress.{Answer}
 use Rattle.ygg_run_commands.specs.ygg_meaning.Machine.{State, TickName, Machine}
-use Rattle.ygg_run_commands.specs.ygg_histories.Mirror.{SameOn, FormattedIf, Mirrors}
-use Rattle.ygg_run_commands.specs.ygg_histories.History.{Entry, Step, Steps}
-use Rattle.ygg_run_commands.specs.ygg_histories.Noted.{Note}
+use Rattle.ygg_run_commands.specs.ygg_meaning.Mirror.{SameOn, FormattedIf, Mirrors}
+use Rattle.ygg_run_commands.specs.ygg_meaning.History.{Entry, Step, Steps}
+use Rattle.ygg_run_commands.specs.ygg_meaning.Noted.{Note}
 use Rattle.ygg_run_commands.specs.ygg_eval_lower.Lower.{Cause, GivenUp}
 use Rattle.ygg_run_commands.specs.ygg_machine.Told.{SameNotes}
 use Rattle.ygg_run_commands.specs.ygg_script.declared.command.Command.{Command}

@@ -9,7 +9,7 @@ use Rattle.ygg_run_commands.specs.ygg_script.declared.command.Command.{Command}
 use Rattle.ygg_run_commands.specs.Running.{IsRun}
 use Rattle.ygg_run_commands.specs.declared.halting.RunHalted.{RunHalted}
 use Rattle.ygg_run_commands.specs.declared.halting.RunHalted.TheVariants.{DeviceFailed, SinkFailed, Memory}
-use Rattle.ygg_run_mount.specs.Mounting.{Mounts, whole_image}
+use Rattle.ygg_run_held.specs.Mounting.{Mounts, whole_image}
 use Rattle.ygg_run_mounted.specs.Ran.{RanPart, RanSo}
 use Rattle.ygg_run_mounted.specs.Ending.{HaltsBy, RunsTo, end_of}
 use Rattle.ygg_run_mounted.proofs.Whole.{mounted_stays}

@@ -5,11 +5,12 @@ use Rattle.ygg_syntax.specs.declared.tree.File.{File}
 use Rattle.ygg_run_commands.specs.ygg_disk.Ground.{Meaning}
 use Rattle.ygg_run_commands.specs.ygg_meaning.Machine.{State}
 use Rattle.ygg_run_commands.specs.ygg_meaning.DiskMachine.{machine_on}
-use Rattle.ygg_run_commands.specs.ygg_histories.Stack.{layers_of}
-use Rattle.ygg_run_commands.specs.ygg_histories.History.{Entry, Step, Steps}
+use Rattle.ygg_run_commands.specs.ygg_meaning.Stack.{layers_of}
+use Rattle.ygg_run_commands.specs.ygg_meaning.History.{Entry, Step, Steps}
 use Rattle.ygg_run_commands.specs.ygg_eval_lower.Lower.{Cause, PowerLoss, GivenUp}
 use Rattle.ygg_run_commands.specs.ygg_machine.GroundSteps.{ground_machine, ground_calls}
-use Rattle.ygg_run_held.proofs.of_ygg_run_stack.Keeping.{Keeps, stacked_keeps}
+use Rattle.ygg_run_held.specs.Kept.{Keeps}
+use Rattle.ygg_run_held.proofs.StackKeeping.{stacked_keeps}
 use Rattle.ygg_run_commands.specs.ygg_script.declared.command.Command.{Command}
 use Rattle.ygg_run_commands.specs.ygg_script.declared.command.Command.TheVariants.{Call, Tick, Lost, Fail, Keep}
 use Rattle.ygg_run_commands.specs.ygg_run_text.Named.{operation_name, tick_name}

@@ -14,9 +14,9 @@ use Rattle.ygg_run_commands.specs.OnGround.{layers_on}
 use Rattle.ygg_run_commands.specs.Running.{IsRun}
 use Rattle.ygg_run_commands.specs.Extending.{RunsExtend}
 use Rattle.ygg_run_commands.specs.declared.halting.RunHalted.{RunHalted}
-use Rattle.ygg_run_held.specs.ygg_run_ground.DeviceMeaning.{device_meaning}
-use Rattle.ygg_run_held.specs.ygg_run_ground.Sight.{Sight, Holds}
-use Rattle.ygg_run_held.specs.ygg_run_ground.Standing.{KeepsHeader, StaysOn}
+use Rattle.ygg_run_held.specs.DeviceMeaning.{device_meaning}
+use Rattle.ygg_run_held.specs.Sight.{Sight, Holds}
+use Rattle.ygg_run_held.specs.Standing.{KeepsHeader, StaysOn}
 use Rattle.ygg_run_held.proofs.Staying.{stays_there, stays_keeps}
 use Rattle.ygg_run_mounted.specs.OnDevice.{on_device, seen}
 use Rattle.ygg_run_mounted.specs.Ran.{RanSo, RanPart}

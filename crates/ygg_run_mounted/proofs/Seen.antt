@@ -4,11 +4,11 @@ use Rattle.ygg_run_held.specs.ygg_base_device.Devices.{Attachment, Image}
 use Rattle.ygg_syntax.specs.declared.tree.File.{File}
 use Rattle.ygg_run_commands.specs.ygg_disk.Disk as disk
 use Rattle.ygg_run_commands.specs.ygg_meaning.DiskMachine.{machine_on}
-use Rattle.ygg_run_commands.specs.ygg_histories.Stack.{layers_of}
-use Rattle.ygg_run_commands.specs.ygg_histories.Mirror.{IsJoined, FormattedIf, Mirrors}
-use Rattle.ygg_run_commands.specs.ygg_histories.Noted.{Note}
-use Rattle.ygg_run_commands.specs.ygg_histories_proofs_Mirrored.{stacked_mirrors}
-use Rattle.ygg_run_commands.proofs.of_ygg_histories.Stores.{StoreMirrors, machine_mirrors}
+use Rattle.ygg_run_commands.specs.ygg_meaning.Stack.{layers_of}
+use Rattle.ygg_run_commands.specs.ygg_meaning.Mirror.{IsJoined, FormattedIf, Mirrors}
+use Rattle.ygg_run_commands.specs.ygg_meaning.Noted.{Note}
+use Rattle.ygg_run_commands.specs.ygg_meaning_proofs_Mirrored.{stacked_mirrors}
+use Rattle.ygg_run_commands.proofs.of_ygg_meaning.Stores.{StoreMirrors, machine_mirrors}
 use Rattle.ygg_run_commands.specs.ygg_eval_lower.Lower.{Cause, PowerLoss, GivenUp}
 use Rattle.ygg_run_commands.specs.ygg_machine.GroundSteps.{ground_calls}
 use Rattle.ygg_run_commands.specs.ygg_machine.Told.{SameNotes}
@@ -16,9 +16,9 @@ use Rattle.ygg_run_commands.specs.ygg_script.declared.command.Command.{Command}
 use Rattle.ygg_run_commands.specs.OnGround.{layers_on}
 use Rattle.ygg_run_commands.specs.Running.{IsRun}
 use Rattle.ygg_run_commands.specs.declared.halting.RunHalted.{RunHalted}
-use Rattle.ygg_run_held.specs.ygg_run_ground.DeviceMeaning.{device_meaning}
-use Rattle.ygg_run_held.specs.ygg_run_ground.Sight.{Sight}
-use Rattle.ygg_run_held.specs.ygg_run_ground.Turning.{Moves}
+use Rattle.ygg_run_held.specs.DeviceMeaning.{device_meaning}
+use Rattle.ygg_run_held.specs.Sight.{Sight}
+use Rattle.ygg_run_held.specs.Turning.{Moves}
 use Rattle.ygg_run_mounted.specs.OnDevice.{on_device, seen}
 use Rattle.ygg_run_mounted.proofs.Carried.{Along, carried}
 

@@ -21,9 +21,9 @@ use Rattle.ygg_run_commands.specs.ygg_disk.Size.{table_shape}
 use Rattle.ygg_run_commands.specs.ygg_meaning.Environments.{look_up}
 use Rattle.ygg_run_commands.specs.ygg_meaning.Machine.{State}
 use Rattle.ygg_run_commands.specs.ygg_meaning.DiskMachine.{tables_in}
-use Rattle.ygg_run_commands.specs.ygg_histories.History.{Entry}
-use Rattle.ygg_run_commands.specs.ygg_histories.Left.{Left}
-use Rattle.ygg_run_commands.specs.ygg_histories.Noted.{disk_in}
+use Rattle.ygg_run_commands.specs.ygg_meaning.History.{Entry}
+use Rattle.ygg_run_commands.specs.ygg_meaning.Left.{Left}
+use Rattle.ygg_run_commands.specs.ygg_meaning.Noted.{disk_in}
 use Rattle.ygg_run_commands.specs.ygg_script.declared.command.Command.{Command}
 use Rattle.ygg_run_held.specs.ygg_run_image.Image.{block_bytes, header, image, rows_in, row_block}
 use Rattle.ygg_run_held.specs.ygg_run_image.Laws.{AreRows, BlocksAreImages, ImagesHoldTheirRows}
@@ -31,10 +31,10 @@ use Rattle.ygg_run_held.proofs.of_ygg_run_image.Images.{length-header}
 use Rattle.ygg_run_commands.specs.OnGround.{layers_on}
 use Rattle.ygg_run_commands.specs.Running.{Runs}
 use Rattle.ygg_run_commands.specs.Extending.{RunsExtend, TellsFlushed}
-use Rattle.ygg_run_held.specs.ygg_run_ground.DeviceMeaning.{device_meaning}
-use Rattle.ygg_run_held.specs.ygg_run_ground.Sight.{Sight, state_of, told_disk}
-use Rattle.ygg_run_held.specs.ygg_run_ground.Standing.{KeepsHeader}
-use Rattle.ygg_run_mount.specs.Mounting.{Mounts, whole_image}
+use Rattle.ygg_run_held.specs.DeviceMeaning.{device_meaning}
+use Rattle.ygg_run_held.specs.Sight.{Sight, state_of, told_disk}
+use Rattle.ygg_run_held.specs.Standing.{KeepsHeader}
+use Rattle.ygg_run_held.specs.Mounting.{Mounts, whole_image}
 use Rattle.ygg_run_mounted.specs.OnDevice.{seen}
 use Rattle.ygg_run_mounted.specs.Extending.{KeepsImage, LeadsTo, HasRun}
 use Rattle.ygg_run_mounted.proofs.Seen.{bare}

@@ -8,9 +8,9 @@ use Rattle.ygg_syntax.specs.declared.tree.File.{File}
 use Rattle.ygg_run_commands.specs.ygg_type.Typed.{geometry_of}
 use Rattle.ygg_run_commands.specs.ygg_meaning.Environments.{Env, look_up}
 use Rattle.ygg_run_commands.specs.ygg_meaning.Machine.{State}
-use Rattle.ygg_run_commands.specs.ygg_histories.Stack.{BottomOf, FileRefines}
-use Rattle.ygg_run_commands.specs.ygg_histories.History.{Entry, History, Allows}
-use Rattle.ygg_run_commands.specs.ygg_histories.Left.{Left}
+use Rattle.ygg_run_commands.specs.ygg_meaning.Stack.{BottomOf, FileRefines}
+use Rattle.ygg_run_commands.specs.ygg_meaning.History.{Entry, History, Allows}
+use Rattle.ygg_run_commands.specs.ygg_meaning.Left.{Left}
 use Rattle.ygg_run_held.specs.ygg_run_image.Image.{block_bytes, image, rows_in}
 use Rattle.ygg_run_held.specs.ygg_run_image.Laws.{AreBlocks, AreRows}
 

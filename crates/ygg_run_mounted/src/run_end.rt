@@ -1,5 +1,5 @@
 /// How a run ends.
-#[derive(Clone, Copy, PartialEq, Eq, Drop)]
+#[derive(Clone, Copy, Drop)]
 pub enum RunEnd {
     /// All was run.
     Done,

@@ -6,8 +6,8 @@ use Rattle.ygg_syntax.specs.declared.tree.File.{File}
 use Rattle.ygg_run_text.specs.ygg_disk.declared.power.Power.{Power}
 use Rattle.ygg_run_text.specs.ygg_meaning.Environments.{Env}
 use Rattle.ygg_run_text.specs.ygg_meaning.Machine.{Picks, State, Machine}
-use Rattle.ygg_run_text.specs.ygg_histories.Noted.{Note, picks_in}
-use Rattle.ygg_run_text.specs.ygg_histories.Trace.{Up, Moment}
+use Rattle.ygg_run_text.specs.ygg_meaning.Noted.{Note, picks_in}
+use Rattle.ygg_run_text.specs.ygg_meaning.Trace.{Up, Moment}
 use Rattle.ygg_run_text.specs.ygg_direct.Acts.{Taken}
 use Rattle.ygg_run_text.specs.ygg_report.Putting.{Adds, IsFront}
 use Rattle.ygg_run_text.proofs.of_ygg_report.Fronts.{adds_more, adds_none, front_after, front_first, front_longer}

@@ -8,8 +8,8 @@ use Rattle.ygg_run_text.specs.ygg_disk.declared.turn.Event.{Event}
 use Rattle.ygg_run_text.specs.ygg_meaning.Environments.{Env}
 use Rattle.ygg_run_text.specs.ygg_meaning.Progress.{Answer}
 use Rattle.ygg_run_text.specs.ygg_meaning.Machine.{State, Machine}
-use Rattle.ygg_run_text.specs.ygg_histories.Noted.{Note}
-use Rattle.ygg_run_text.specs.ygg_histories.Trace.{Leads, Up, Down}
+use Rattle.ygg_run_text.specs.ygg_meaning.Noted.{Note}
+use Rattle.ygg_run_text.specs.ygg_meaning.Trace.{Leads, Up, Down}
 use Rattle.ygg_run_text.specs.Named.{EndsAt, Misses}
 use Rattle.ygg_run_text.specs.Lines.{events_of, calls_lines}
 use Rattle.ygg_run_play.specs.Scene.{Deed, Leave, AreWhole, AreCut, Whole, Cut, Ends, After, FallsAfterAll}

@@ -10,8 +10,8 @@ use Rattle.ygg_run_text.specs.ygg_disk.declared.power.Fuse.{Fuse}
 use Rattle.ygg_run_text.specs.ygg_disk.declared.power.Picks as disk
 use Rattle.ygg_run_text.specs.ygg_meaning.Environments.{Env}
 use Rattle.ygg_run_text.specs.ygg_meaning.Machine.{Picks, State, Machine}
-use Rattle.ygg_run_text.specs.ygg_histories.Noted.{Note}
-use Rattle.ygg_run_text.specs.ygg_histories.Trace.{Standing, Up, Moment}
+use Rattle.ygg_run_text.specs.ygg_meaning.Noted.{Note}
+use Rattle.ygg_run_text.specs.ygg_meaning.Trace.{Standing, Up, Moment}
 use Rattle.ygg_run_text.specs.ygg_report.Putting.{Adds, IsFront}
 use Rattle.ygg_run_text.proofs.of_ygg_report.Fronts.{adds_more, adds_none, front_after, front_longer}
 use Rattle.ygg_run_text.specs.ygg_script.declared.command.Command.{Command}

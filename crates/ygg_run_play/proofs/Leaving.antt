@@ -9,7 +9,7 @@ use Rattle.ygg_run_text.specs.ygg_disk.declared.power.Picks.{Picks as Source}
 use Rattle.ygg_run_text.specs.ygg_disk.declared.power.Power.{Power}
 use Rattle.ygg_run_text.specs.ygg_disk.declared.turn.Event.{Event}
 use Rattle.ygg_run_text.specs.ygg_meaning.Machine.{Picks}
-use Rattle.ygg_run_text.specs.ygg_histories.Noted.{Note, picks_in}
+use Rattle.ygg_run_text.specs.ygg_meaning.Noted.{Note, picks_in}
 use Rattle.ygg_run_text.specs.ygg_direct.Acts.{next_of, later, Taken}
 use Rattle.ygg_run_text.proofs.of_ygg_direct.Taking.{taken_append}
 use Rattle.ygg_run_text.specs.Lines.{events_of}

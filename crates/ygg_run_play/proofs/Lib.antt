@@ -1,4 +1,4 @@
-pub use Rattle.ygg_run_text.proofs.of_ygg_histories
+pub use Rattle.ygg_run_text.proofs.of_ygg_meaning
 pub use Rattle.ygg_run_text.proofs.of_ygg_report
 pub use Rattle.ygg_run_text.proofs as of_ygg_run_text
 pub use Rattle.ygg_run_text.proofs.of_ygg_type_progress

@@ -9,9 +9,9 @@ use Rattle.ygg_run_text.specs.ygg_disk.declared.power.Power.{Power}
 use Rattle.ygg_run_text.specs.ygg_meaning.Environments.{Env}
 use Rattle.ygg_run_text.specs.ygg_meaning.Progress.{Answer}
 use Rattle.ygg_run_text.specs.ygg_meaning.Machine.{Picks, State, Machine}
-use Rattle.ygg_run_text.specs.ygg_histories.Noted.{Note, picks_in}
-use Rattle.ygg_run_text.specs.ygg_histories.Trace.{Standing, Up, Down, Moment, Fails, Traces}
-use Rattle.ygg_run_text.specs.ygg_histories.Under.{Between}
+use Rattle.ygg_run_text.specs.ygg_meaning.Noted.{Note, picks_in}
+use Rattle.ygg_run_text.specs.ygg_meaning.Trace.{Standing, Up, Down, Moment, Fails, Traces}
+use Rattle.ygg_run_text.specs.ygg_meaning.Under.{Between}
 use Rattle.ygg_run_text.specs.ygg_direct.Acts.{Taken}
 use Rattle.ygg_run_text.specs.ygg_report.Lines.{ended}
 use Rattle.ygg_run_text.specs.ygg_script.declared.command.Command.{Command}

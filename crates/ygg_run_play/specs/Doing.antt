@@ -7,8 +7,8 @@ use Rattle.ygg_run_text.specs.ygg_disk.declared.power.Power.{Power}
 use Rattle.ygg_run_text.specs.ygg_meaning.Environments.{Env}
 use Rattle.ygg_run_text.specs.ygg_meaning.Progress.{Answer}
 use Rattle.ygg_run_text.specs.ygg_meaning.Machine.{Picks, State, Machine}
-use Rattle.ygg_run_text.specs.ygg_histories.Noted.{Note, picks_in}
-use Rattle.ygg_run_text.specs.ygg_histories.Trace.{Standing, Up, Down, Moment, Leads}
+use Rattle.ygg_run_text.specs.ygg_meaning.Noted.{Note, picks_in}
+use Rattle.ygg_run_text.specs.ygg_meaning.Trace.{Standing, Up, Down, Moment, Leads}
 use Rattle.ygg_run_text.specs.ygg_direct.Acts.{Taken}
 use Rattle.ygg_run_text.specs.ygg_report.Putting.{Adds, IsFront}
 use Rattle.ygg_run_text.specs.ygg_script.declared.command.Command.{Command}

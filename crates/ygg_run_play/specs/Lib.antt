@@ -1,5 +1,5 @@
-pub use Rattle.ygg_run_text.specs.ygg_histories_proofs_Mirrored
-pub use Rattle.ygg_run_text.specs.ygg_histories
+pub use Rattle.ygg_run_text.specs.ygg_meaning_proofs_Mirrored
+pub use Rattle.ygg_run_text.specs.ygg_meaning
 pub use Rattle.ygg_run_text.specs.ygg_report
 pub use Rattle.ygg_run_text.specs as ygg_run_text
 pub use Rattle.ygg_run_text.specs.ygg_sched

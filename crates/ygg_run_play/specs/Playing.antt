@@ -3,8 +3,8 @@ use Rattle.std.specs.Prelude.{◌≡◌, ℕ, List, [], ◌++◌, Option, Result
 use Rattle.ygg_syntax.specs.declared.tree.File.{File}
 use Rattle.ygg_run_text.specs.ygg_meaning.Environments.{Env}
 use Rattle.ygg_run_text.specs.ygg_meaning.Machine.{Picks, State, Machine}
-use Rattle.ygg_run_text.specs.ygg_histories.Noted.{Note}
-use Rattle.ygg_run_text.specs.ygg_histories.Trace.{Standing, Up, Moment}
+use Rattle.ygg_run_text.specs.ygg_meaning.Noted.{Note}
+use Rattle.ygg_run_text.specs.ygg_meaning.Trace.{Standing, Up, Moment}
 use Rattle.ygg_run_text.specs.ygg_report.Putting.{Adds, IsFront}
 use Rattle.ygg_run_text.specs.ygg_script.declared.command.Command.{Command}
 use Rattle.ygg_run_text.specs.Named.{Names, Unreached}

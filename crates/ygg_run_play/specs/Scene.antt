@@ -7,9 +7,9 @@ use Rattle.ygg_run_text.specs.ygg_disk.declared.power.Power.{Power}
 use Rattle.ygg_run_text.specs.ygg_meaning.Environments.{Name, Env}
 use Rattle.ygg_run_text.specs.ygg_meaning.Progress.{Answer}
 use Rattle.ygg_run_text.specs.ygg_meaning.Machine.{State, TickName, Machine}
-use Rattle.ygg_run_text.specs.ygg_histories.Noted.{Note}
-use Rattle.ygg_run_text.specs.ygg_histories.Trace.{Standing, Up, Down, Moment, Calls, Ticks, Fails, WakeFails, Wakes, Leads}
-use Rattle.ygg_run_text.specs.ygg_histories.Under.{InCall, InTick}
+use Rattle.ygg_run_text.specs.ygg_meaning.Noted.{Note}
+use Rattle.ygg_run_text.specs.ygg_meaning.Trace.{Standing, Up, Down, Moment, Calls, Ticks, Fails, WakeFails, Wakes, Leads}
+use Rattle.ygg_run_text.specs.ygg_meaning.Under.{InCall, InTick}
 use Rattle.ygg_run_play.specs.declared.scene.CommandOutcome.{CommandOutcome}
 use Rattle.ygg_run_play.specs.declared.scene.CommandOutcome.TheVariants as outcome
 

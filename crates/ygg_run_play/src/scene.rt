@@ -20,7 +20,7 @@ pub trait Scene {
     ghost use Rattle.ygg_syntax.specs.declared.tree.File.{File};
     ghost use Rattle.ygg_run_text.specs.ygg_meaning.Environments.{Env};
     ghost use Rattle.ygg_run_text.specs.ygg_meaning.Machine.{State, Machine};
-    ghost use Rattle.ygg_run_text.specs.ygg_histories.Noted.{Note};
+    ghost use Rattle.ygg_run_text.specs.ygg_meaning.Noted.{Note};
     ghost use Rattle.ygg_run_text.specs.ygg_script.Fitting.{IsCallOf, IsTickOf};
     ghost use Rattle.ygg_run_text.specs.Named.{operation_name, tick_name};
     ghost use Rattle.ygg_run_play.specs.Scene.{calling, ticking, waking, Leave, Ends, After, FallsAfterAll};

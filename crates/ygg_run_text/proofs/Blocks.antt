@@ -8,7 +8,7 @@ use Rattle.ygg_script.specs.ygg_meaning.Progress.{Call, Answer, Asks, Ends}
 use Rattle.ygg_script.specs.ygg_meaning.Machine.{Picks, State, on, memory_in, TickName, Machine}
 use Rattle.ygg_script.specs.ygg_meaning.Runs.{Dialogue, WholeCall, Reaches, FallsAt, answers_of, notes_of}
 use Rattle.ygg_script.specs.ygg_meaning.Layer.{ClosedLayer, BlockRuns, BlockFalls, dialogue_of}
-use Rattle.ygg_script.specs.ygg_histories.Noted.{Note}
+use Rattle.ygg_script.specs.ygg_meaning.Noted.{Note}
 use Rattle.ygg_direct.specs.Acts.{under}
 use Rattle.ygg_run_text.proofs.Endings.{AllWhole, Before, like_none}
 use Rattle.ygg_run_text.proofs.Alike.{End, Whole, Cut, Process, Alike, flipped, alike_after, alike_cut, Takes, split, one_left, Follows, Steady, follows_after}

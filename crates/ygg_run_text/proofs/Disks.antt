@@ -9,7 +9,7 @@ use Rattle.ygg_script.specs.ygg_meaning.Environments.{Name, Env}
 use Rattle.ygg_script.specs.ygg_meaning.Progress.{Answer}
 use Rattle.ygg_script.specs.ygg_meaning.Machine.{Picks, State, TickName}
 use Rattle.ygg_script.specs.ygg_meaning.DiskMachine.{tables_in, disk_call}
-use Rattle.ygg_script.specs.ygg_histories.Noted.{Note, picks_in, NotedDisk}
+use Rattle.ygg_script.specs.ygg_meaning.Noted.{Note, picks_in, NotedDisk}
 use Rattle.ygg_direct.specs.Acts.{Taken, Did}
 use Rattle.ygg_direct.specs.DiskActs.{Replied, Dropped, kind_calls, kind_falls, state_in}
 use Rattle.ygg_direct.proofs.DiskActed.{state_is, call_replies, fall_drops}

@@ -4,7 +4,7 @@ use Rattle.std.specs.Prelude.{MatchBool, All}
 use Rattle.std.proofs.lemmas.List.{append-nil}
 use Rattle.std.proofs.lemmas.List.Elements.{All-head, All-tail}
 use Rattle.ygg_script.specs.ygg_disk.declared.power.Fuse.{Fuse}
-use Rattle.ygg_script.specs.ygg_histories.Noted.{Note}
+use Rattle.ygg_script.specs.ygg_meaning.Noted.{Note}
 use Rattle.ygg_run_text.specs.Named.{EndsAt}
 
 -- all are whole

@@ -5,16 +5,16 @@ use Rattle.ygg_script.specs.ygg_disk.declared.power.Fuse.{Fuse}
 use Rattle.ygg_script.specs.ygg_meaning.Environments.{Env}
 use Rattle.ygg_script.specs.ygg_meaning.Machine.{Picks, State, Machine}
 use Rattle.ygg_script.specs.ygg_meaning.DiskMachine.{disk_store}
-use Rattle.ygg_script.specs.ygg_histories.Stack.{BottomOf, layers_of}
-use Rattle.ygg_script.specs.ygg_histories.Under.{Failure, InCall, InTick, Between, FailsBy, WakesAfter, Survives}
-use Rattle.ygg_script.specs.ygg_histories.Mirror.{SameOn, Mirrors}
-use Rattle.ygg_script.specs.ygg_histories.History.{Entry, Called, Cut, Ticked, CutTick, Lost, Step, Steps}
-use Rattle.ygg_script.specs.ygg_histories.Trace.{Standing, Up, Down, Moment, Traces, entries_of}
-use Rattle.ygg_script.specs.ygg_histories.Noted.{Note}
-use Rattle.ygg_script.specs.ygg_histories.Grounds.{ArePicks}
-use Rattle.ygg_script.specs.ygg_histories.StepLaws.{Same}
-use Rattle.ygg_script.proofs.of_ygg_histories.Stores.{forget}
-use Rattle.ygg_script.proofs.of_ygg_histories.Traced.{steps_of}
+use Rattle.ygg_script.specs.ygg_meaning.Stack.{BottomOf, layers_of}
+use Rattle.ygg_script.specs.ygg_meaning.Under.{Failure, InCall, InTick, Between, FailsBy, WakesAfter, Survives}
+use Rattle.ygg_script.specs.ygg_meaning.Mirror.{SameOn, Mirrors}
+use Rattle.ygg_script.specs.ygg_meaning.History.{Entry, Called, Cut, Ticked, CutTick, Lost, Step, Steps}
+use Rattle.ygg_script.specs.ygg_meaning.Trace.{Standing, Up, Down, Moment, Traces, entries_of}
+use Rattle.ygg_script.specs.ygg_meaning.Noted.{Note}
+use Rattle.ygg_script.specs.ygg_meaning.Grounds.{ArePicks}
+use Rattle.ygg_script.specs.ygg_meaning.StepLaws.{Same}
+use Rattle.ygg_script.proofs.of_ygg_meaning.Stores.{forget}
+use Rattle.ygg_script.proofs.of_ygg_meaning.Traced.{steps_of}
 use Rattle.ygg_script.specs.declared.command.Command.{Command}
 use Rattle.ygg_script.specs.declared.command.Command.TheVariants as line
 use Rattle.ygg_run_text.specs.Named.{stop_after, Happens, Names}

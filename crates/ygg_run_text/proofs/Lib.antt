@@ -1,5 +1,5 @@
 pub use Rattle.ygg_direct.proofs as of_ygg_direct
-pub use Rattle.ygg_script.proofs.of_ygg_histories
+pub use Rattle.ygg_script.proofs.of_ygg_meaning
 pub use Rattle.ygg_script.proofs.of_ygg_report
 pub use Rattle.ygg_direct.proofs.of_ygg_type_progress
 pub mod Endings

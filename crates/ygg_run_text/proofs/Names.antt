@@ -15,7 +15,7 @@ use Rattle.ygg_direct.specs.ygg_type_rules.Files.{IsTyped, type_errors_of, disk_
 use Rattle.ygg_script.specs.ygg_meaning.Environments.{Name}
 use Rattle.ygg_script.specs.ygg_meaning.Meaning.{Functions, functions_of}
 use Rattle.ygg_script.specs.ygg_meaning.Layer.{ClosedLayer}
-use Rattle.ygg_script.specs.ygg_histories.Stack.{Layers, tables_of, layers_on, layers_of}
+use Rattle.ygg_script.specs.ygg_meaning.Stack.{Layers, tables_of, layers_on, layers_of}
 use Rattle.ygg_direct.specs.ygg_type_sound_proofs_Names.{or_else, look_up_append}
 use Rattle.ygg_direct.specs.ygg_type_sound_proofs_Tests.{left, right, passed, turned, bytes_equal}
 use Rattle.ygg_direct.specs.ygg_type_progress_proofs_TypeErrors.{none_listed}

@@ -4,7 +4,7 @@ use Rattle.std.specs.List.{flat_map}
 use Rattle.ygg_script.specs.ygg_disk.Disk.{Call, Read, Write, Flush}
 use Rattle.ygg_script.specs.ygg_disk.Power.{event_of, shown}
 use Rattle.ygg_script.specs.ygg_disk.declared.turn.Event.{Event}
-use Rattle.ygg_script.specs.ygg_histories.Noted.{Note}
+use Rattle.ygg_script.specs.ygg_meaning.Noted.{Note}
 use Rattle.ygg_script.specs.ygg_report.Lines.{ended}
 use Rattle.ygg_run_text.specs.Lines.{call_text, calls_lines, events_of, note_in}
 

@@ -5,10 +5,10 @@ use Rattle.ygg_direct.specs.ygg_type_rules.Files.{IsTyped}
 use Rattle.ygg_script.specs.ygg_disk.declared.power.Fuse.{Fuse}
 use Rattle.ygg_script.specs.ygg_meaning.Environments.{Env}
 use Rattle.ygg_script.specs.ygg_meaning.Machine.{Picks, State, Machine}
-use Rattle.ygg_script.specs.ygg_histories.Stack.{BottomOf}
-use Rattle.ygg_script.specs.ygg_histories.History.{History}
-use Rattle.ygg_script.specs.ygg_histories.Trace.{Standing, Moment, entries_of}
-use Rattle.ygg_script.specs.ygg_histories.Noted.{Note}
+use Rattle.ygg_script.specs.ygg_meaning.Stack.{BottomOf}
+use Rattle.ygg_script.specs.ygg_meaning.History.{History}
+use Rattle.ygg_script.specs.ygg_meaning.Trace.{Standing, Moment, entries_of}
+use Rattle.ygg_script.specs.ygg_meaning.Noted.{Note}
 use Rattle.ygg_script.specs.declared.command.Command.{Command}
 use Rattle.ygg_run_text.specs.Named.{Happens, Leading, IsMissed}
 use Rattle.ygg_run_text.specs.Played.{IsFresh, Plays, MissesAt, Noted, IsPlay}

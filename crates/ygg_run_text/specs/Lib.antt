@@ -1,8 +1,7 @@
 pub use Rattle.ygg_direct.specs as ygg_direct
 pub use Rattle.ygg_script.specs.ygg_disk
-pub use Rattle.ygg_script.specs.ygg_histories_proofs_Mirrored
-pub use Rattle.ygg_script.specs.ygg_histories_proofs_Monotone
-pub use Rattle.ygg_script.specs.ygg_histories
+pub use Rattle.ygg_script.specs.ygg_meaning_proofs_Mirrored
+pub use Rattle.ygg_script.specs.ygg_meaning_proofs_Monotone
 pub use Rattle.ygg_script.specs.ygg_meaning
 pub use Rattle.ygg_script.specs.ygg_report
 pub use Rattle.ygg_script.specs.ygg_sched

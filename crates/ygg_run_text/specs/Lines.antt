@@ -9,8 +9,8 @@ use Rattle.ygg_script.specs.ygg_disk.Power.{event_of, shown}
 use Rattle.ygg_script.specs.ygg_disk.declared.turn.Did.TheVariants as did
 use Rattle.ygg_script.specs.ygg_disk.declared.turn.Event.{Event}
 use Rattle.ygg_script.specs.ygg_meaning.Progress.{Answer}
-use Rattle.ygg_script.specs.ygg_histories.Trace.{Moment, Calls, Ticks, Fails, WakeFails, Wakes}
-use Rattle.ygg_script.specs.ygg_histories.Noted.{Note}
+use Rattle.ygg_script.specs.ygg_meaning.Trace.{Moment, Calls, Ticks, Fails, WakeFails, Wakes}
+use Rattle.ygg_script.specs.ygg_meaning.Noted.{Note}
 use Rattle.ygg_script.specs.ygg_report.Lines.{ended}
 use Rattle.ygg_script.specs.ygg_sched.Values.{value_text}
 use Rattle.ygg_script.specs.declared.command.Command.{Command}

@@ -27,9 +27,9 @@ use Rattle.ygg_script.specs.ygg_disk.declared.power.Fuse.{Fuse}
 use Rattle.ygg_script.specs.ygg_meaning.Environments.{Name, Env}
 use Rattle.ygg_script.specs.ygg_meaning.Progress.{Answer}
 use Rattle.ygg_script.specs.ygg_meaning.Machine.{Picks, TickName, Machine}
-use Rattle.ygg_script.specs.ygg_histories.Under.{InCall, InTick, Between}
-use Rattle.ygg_script.specs.ygg_histories.Trace.{Standing, Moment, Calls, Ticks, Fails, WakeFails, Wakes, Traces}
-use Rattle.ygg_script.specs.ygg_histories.Noted.{Note, picks_in}
+use Rattle.ygg_script.specs.ygg_meaning.Under.{InCall, InTick, Between}
+use Rattle.ygg_script.specs.ygg_meaning.Trace.{Standing, Moment, Calls, Ticks, Fails, WakeFails, Wakes, Traces}
+use Rattle.ygg_script.specs.ygg_meaning.Noted.{Note, picks_in}
 use Rattle.ygg_direct.specs.Acts.{Taken}
 use Rattle.ygg_script.specs.declared.command.Command.{Command}
 use Rattle.ygg_script.specs.declared.command.Command.TheVariants.{Call, Tick, Lost, Fail, Keep}

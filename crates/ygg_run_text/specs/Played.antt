@@ -4,9 +4,9 @@ use Rattle.ygg_base.specs.declared.failure.Refusal.{Refusal}
 use Rattle.ygg_syntax.specs.declared.tree.File.{File}
 use Rattle.ygg_script.specs.ygg_meaning.Environments.{Env}
 use Rattle.ygg_script.specs.ygg_meaning.Machine.{State, Machine}
-use Rattle.ygg_script.specs.ygg_histories.Stack.{Stacked, layers_of}
-use Rattle.ygg_script.specs.ygg_histories.Trace.{Up, Moment}
-use Rattle.ygg_script.specs.ygg_histories.Noted.{Note, picks_in, NotedDisk}
+use Rattle.ygg_script.specs.ygg_meaning.Stack.{Stacked, layers_of}
+use Rattle.ygg_script.specs.ygg_meaning.Trace.{Up, Moment}
+use Rattle.ygg_script.specs.ygg_meaning.Noted.{Note, picks_in, NotedDisk}
 use Rattle.ygg_script.specs.declared.command.Command.{Command}
 use Rattle.ygg_run_text.specs.Named.{Names, Unreached}
 use Rattle.ygg_run_text.specs.Lines.{text_of}

@@ -2,7 +2,7 @@
 
 ghost use Rattle.std.specs.Prelude.{◌≡◌, ◌++◌, List, codes, OnOk};
 ghost use Rattle.std.specs.Fmt.{decimal};
-ghost use Rattle.ygg_script.specs.ygg_histories.Noted.{Note};
+ghost use Rattle.ygg_script.specs.ygg_meaning.Noted.{Note};
 ghost use Rattle.ygg_script.specs.ygg_report.Lines.{ended};
 ghost use Rattle.ygg_script.specs.ygg_sched.Values.{value_text};
 ghost use Rattle.ygg_run_text.specs.Lines.{cut_text, kept_text, call_text, calls_lines, events_of, note_in};

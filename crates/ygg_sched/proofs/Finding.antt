@@ -38,7 +38,7 @@ use Rattle.ygg_syntax.specs.declared.tree.Declared.{Declared}
 use Rattle.ygg_syntax.specs.declared.tree.Operation.{Operation}
 use Rattle.ygg_syntax.specs.declared.tree.Tick.{Tick}
 use Rattle.ygg_syntax.specs.declared.tree.Layer.{Layer}
-use Rattle.ygg_histories.specs.ygg_meaning.Obligations.{Obligation, Init, CallOf, CutOf, TickOf, CutTickOf, Idle, Again, obligations_of, name_of}
+use Rattle.ygg_meaning.specs.Obligations.{Obligation, Init, CallOf, CutOf, TickOf, CutTickOf, Idle, Again, obligations_of, name_of}
 use Rattle.ygg_sched.specs.Words.{after_front}
 use Rattle.ygg_sched.specs.Naming.{suffix_of, is_suffix, calls_of, ticks_of, all_of}
 use Rattle.ygg_sched.specs.Sites.{Site, sites_at, sites_on, is_named}

@@ -1,4 +1,4 @@
-pub use Rattle.ygg_histories.proofs as of_ygg_histories
+pub use Rattle.ygg_meaning.proofs as of_ygg_meaning
 pub use Rattle.ygg_report.proofs as of_ygg_report
 pub use Rattle.ygg_type.proofs as of_ygg_type
 pub mod Cutting

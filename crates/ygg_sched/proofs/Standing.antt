@@ -4,12 +4,12 @@ use Rattle.std.proofs.lemmas.List.{append-nil, map-append}
 use Rattle.ygg_syntax.specs.declared.tree.Declared.{Declared}
 use Rattle.ygg_syntax.specs.declared.tree.DiskText.{DiskText}
 use Rattle.ygg_syntax.specs.declared.tree.Layer.{Layer}
-use Rattle.ygg_histories.specs.ygg_meaning.Meaning.{Functions, functions_of}
-use Rattle.ygg_histories.specs.ygg_meaning.Obligations.{Obligation, obligations_of}
-use Rattle.ygg_histories.specs.ygg_meaning.Layer.{ClosedLayer}
-use Rattle.ygg_histories.specs.ygg_meaning.Refines.{Below}
-use Rattle.ygg_histories.specs.Stack.{Layers, below_of, layers_on, tables_of}
-use Rattle.ygg_histories.specs.Claims.{Claim, claims_at, claims_on}
+use Rattle.ygg_meaning.specs.Meaning.{Functions, functions_of}
+use Rattle.ygg_meaning.specs.Obligations.{Obligation, obligations_of}
+use Rattle.ygg_meaning.specs.Layer.{ClosedLayer}
+use Rattle.ygg_meaning.specs.Refines.{Below}
+use Rattle.ygg_meaning.specs.Stack.{Layers, below_of, layers_on, tables_of}
+use Rattle.ygg_meaning.specs.Claims.{Claim, claims_at, claims_on}
 use Rattle.ygg_sched.specs.Sites.{sites_at, sites_on}
 use Rattle.ygg_sched.specs.Laws.{asked_at, asked_of, SitesAreClaims}
 

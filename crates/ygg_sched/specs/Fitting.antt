@@ -7,7 +7,7 @@ use Rattle.ygg_syntax.specs.declared.tree.TypeText.{TypeText}
 use Rattle.ygg_syntax.specs.declared.tree.Declared.{Declared}
 use Rattle.ygg_syntax.specs.declared.tree.File.{File}
 use Rattle.ygg_type.specs.ygg_type_rules.Shapes.{shape_of}
-use Rattle.ygg_histories.specs.ygg_meaning.Obligations as meaning
+use Rattle.ygg_meaning.specs.Obligations as meaning
 use Rattle.ygg_sched.specs.declared.schedule.Halt.{Halt}
 use Rattle.ygg_sched.specs.declared.schedule.Schedule.{Schedule}
 use Rattle.ygg_sched.specs.Sites.{Site, site_named, state_lines, memory_lines, low_lines, argument_lines, has_stop, has_wake, has_other}

@@ -3,8 +3,8 @@ use Rattle.std.specs.Prelude.{◌≡◌, ℕ, List, map, Ok}
 use Rattle.ygg_syntax.specs.declared.tree.Declared.{Declared}
 use Rattle.ygg_syntax.specs.declared.tree.Layer.{Layer}
 use Rattle.ygg_syntax.specs.declared.tree.File.{File}
-use Rattle.ygg_histories.specs.ygg_meaning.Obligations.{Obligation}
-use Rattle.ygg_histories.specs.Claims.{Claim, claims_of}
+use Rattle.ygg_meaning.specs.Obligations.{Obligation}
+use Rattle.ygg_meaning.specs.Claims.{Claim, claims_of}
 use Rattle.ygg_sched.specs.declared.schedule.Schedule.{Schedule}
 use Rattle.ygg_sched.specs.Sites.{Site, sites_of}
 use Rattle.ygg_sched.specs.Fitting.{IsScheduleOf, IsPlain}

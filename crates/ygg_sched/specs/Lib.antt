@@ -1,9 +1,8 @@
-pub use Rattle.ygg_histories.specs.ygg_disk
-pub use Rattle.ygg_histories.proofs.Mirrored as ygg_histories_proofs_Mirrored
-pub use Rattle.ygg_histories.proofs.Monotone as ygg_histories_proofs_Monotone
-pub use Rattle.ygg_histories.specs as ygg_histories
-pub use Rattle.ygg_histories.specs.ygg_meaning_proofs_Exact
-pub use Rattle.ygg_histories.specs.ygg_meaning
+pub use Rattle.ygg_meaning.specs.ygg_disk
+pub use Rattle.ygg_meaning.proofs.Mirrored as ygg_meaning_proofs_Mirrored
+pub use Rattle.ygg_meaning.proofs.Monotone as ygg_meaning_proofs_Monotone
+pub use Rattle.ygg_meaning.specs as ygg_meaning
+pub use Rattle.ygg_meaning.proofs.Exact as ygg_meaning_proofs_Exact
 pub use Rattle.ygg_report.specs as ygg_report
 pub use Rattle.ygg_type.specs.ygg_symbols
 pub use Rattle.ygg_type.specs.ygg_syntax_count

@@ -5,8 +5,8 @@ use Rattle.std.specs.Str.{bytes_eq}
 use Rattle.ygg_syntax.specs.declared.tree.Declared.{Declared}
 use Rattle.ygg_syntax.specs.declared.tree.Layer.{Layer}
 use Rattle.ygg_syntax.specs.declared.tree.File.{File}
-use Rattle.ygg_histories.specs.ygg_meaning.Obligations.{Obligation, Init, CallOf, CutOf, TickOf, CutTickOf, Idle, Again, obligations_of, name_of}
-use Rattle.ygg_histories.specs.Stack.{tables_of}
+use Rattle.ygg_meaning.specs.Obligations.{Obligation, Init, CallOf, CutOf, TickOf, CutTickOf, Idle, Again, obligations_of, name_of}
+use Rattle.ygg_meaning.specs.Stack.{tables_of}
 use Rattle.ygg_sched.specs.declared.claim.LayerClaim as code
 use Rattle.ygg_sched.specs.declared.claim.LayerClaim.TheVariants as asked
 use Rattle.ygg_sched.specs.declared.claim.Low.{Low}

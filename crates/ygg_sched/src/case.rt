@@ -1,7 +1,7 @@
 //! Obligations of a file by their places.
 
 /// What an obligation asks of a layer.
-#[derive(Clone, Copy, PartialEq, Eq, Drop)]
+#[derive(Clone, Copy, Drop)]
 pub enum CaseKind {
     /// Formatting gives a state that is related to the specification's start.
     Init,
@@ -21,7 +21,7 @@ pub enum CaseKind {
 
 /// An obligation of a file: the layer's place from the bottom one on, what is asked, and the place of the operation or background step in the
 /// layer's list, both places from 0. Where the kind has neither the number counts for nothing.
-#[derive(Clone, Copy, PartialEq, Eq, Drop)]
+#[derive(Clone, Copy, Drop)]
 pub struct Case {
     /// The layer's place.
     pub layer: u32,

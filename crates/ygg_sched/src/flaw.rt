@@ -4,7 +4,7 @@ ghost use Rattle.ygg_sched.specs.Flaws.{number_of, refusal_at};
 use ygg_base::Refusal;
 
 /// Why a line of a schedule is refused.
-#[derive(Clone, Copy, PartialEq, Eq, Drop)]
+#[derive(Clone, Copy, Drop)]
 pub enum ScheduleFlaw {
     /// It isn't of the form that stands there, or it follows `end`.
     Line,

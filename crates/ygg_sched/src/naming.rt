@@ -4,7 +4,7 @@ ghost use Rattle.std.specs.Prelude.{List, ◌≡◌, ◌∷◌, ◌++◌, [], If
 ghost use Rattle.std.specs.List.{find};
 ghost use Rattle.std.specs.Option.{option_map};
 ghost use Rattle.std.specs.Str.{bytes_eq};
-ghost use Rattle.ygg_histories.specs.ygg_meaning.Obligations.{Idle, Again, obligations_of, name_of};
+ghost use Rattle.ygg_meaning.specs.Obligations.{Idle, Again, obligations_of, name_of};
 ghost use Rattle.ygg_syntax.specs.declared.tree.Operation as operation;
 ghost use Rattle.ygg_syntax.specs.declared.tree.Tick as tick;
 ghost use Rattle.ygg_sched.specs.Cases.{IsCaseNamed, IsNumbered, StandsAt, numbered_in};

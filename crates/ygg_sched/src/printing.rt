@@ -1,7 +1,7 @@
 //! From a schedule to its text.
 
 ghost use Rattle.std.specs.Prelude.{◌≡◌, ◌++◌, IfOk, OnOk};
-ghost use Rattle.ygg_histories.specs.Stack.{tables_of};
+ghost use Rattle.ygg_meaning.specs.Stack.{tables_of};
 ghost use Rattle.ygg_sched.specs.Sites.{site_in, low_in};
 ghost use Rattle.ygg_sched.specs.Printing.{
   variable_line,

@@ -1,7 +1,7 @@
 //! From a text to the schedule that it is for a file.
 
 ghost use Rattle.std.specs.Prelude.{◌≡◌, ◌≤◌, ◌∷◌, ◌++◌, [], length, IfOk, IfErr, OnOk};
-ghost use Rattle.ygg_histories.specs.Stack.{tables_of};
+ghost use Rattle.ygg_meaning.specs.Stack.{tables_of};
 ghost use Rattle.ygg_sched.specs.Lines.{left_of, Gives};
 ghost use Rattle.ygg_sched.specs.Sites.{site_in, low_in};
 ghost use Rattle.ygg_sched.specs.Fitting.{IsScheduleOf};

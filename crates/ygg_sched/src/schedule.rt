@@ -2,7 +2,7 @@ use ygg_base::{Bits, Text};
 use ygg_value::Values;
 
 /// Where power fails: within the call of this number on the machine below, or when so many calls are whole and no further one has begun.
-#[derive(Clone, Copy, PartialEq, Eq, Drop)]
+#[derive(Clone, Copy, Drop)]
 pub struct Halt {
     /// Whether it fails within a call.
     pub within: bool,
@@ -34,7 +34,7 @@ pub struct Schedule {
 }
 
 /// A run whose picks a schedule has.
-#[derive(Clone, Copy, PartialEq, Eq, Drop)]
+#[derive(Clone, Copy, Drop)]
 pub enum Run {
     /// The first run.
     Picks,

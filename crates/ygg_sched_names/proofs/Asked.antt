@@ -8,15 +8,15 @@ use Rattle.ygg_syntax.specs.declared.tree.Declared.{Declared}
 use Rattle.ygg_syntax.specs.declared.tree.Layer.{Layer}
 use Rattle.ygg_syntax.specs.declared.tree.File.{File}
 use Rattle.ygg_accept.specs.ygg_type_rules.Files.{IsTyped}
-use Rattle.ygg_replay_text.specs.ygg_meaning.Obligations.{Obligation, obligations_of, name_of}
-use Rattle.ygg_replay_text.specs.ygg_histories.Claims.{Claim, claims_of}
-use Rattle.ygg_replay_text.specs.ygg_histories.Stack.{tables_of}
-use Rattle.ygg_print.specs.ygg_print_layout.Laws.{IsName}
-use Rattle.ygg_oblige_schedules.specs.ygg_oblige_terms.Meaning.{claim_name}
-use Rattle.ygg_replay_text.specs.ygg_sched.Laws.{asked_at, asked_of}
-use Rattle.ygg_replay_text.specs.ygg_sched.Sites.{Site, sites_at, sites_on, sites_of, site_named}
-use Rattle.ygg_replay_text.proofs.of_ygg_sched.Standing.{sites_are_claims}
-use Rattle.ygg_replay_text.specs.Shown.{claim_named}
+use Rattle.ygg_replay.specs.ygg_meaning.Obligations.{Obligation, obligations_of, name_of}
+use Rattle.ygg_replay.specs.ygg_meaning.Claims.{Claim, claims_of}
+use Rattle.ygg_replay.specs.ygg_meaning.Stack.{tables_of}
+use Rattle.ygg_print.specs.ygg_print_tree.Laws.{IsName}
+use Rattle.ygg_oblige_schedules.specs.ygg_oblige_pieces.Meaning.{claim_name}
+use Rattle.ygg_replay.specs.ygg_sched.Laws.{asked_at, asked_of}
+use Rattle.ygg_replay.specs.ygg_sched.Sites.{Site, sites_at, sites_on, sites_of, site_named}
+use Rattle.ygg_replay.proofs.of_ygg_sched.Standing.{sites_are_claims}
+use Rattle.ygg_replay.specs.Shown.{claim_named}
 use Rattle.ygg_sched_names.specs.Names.{LayerNamed, HasNames}
 use Rattle.ygg_sched_names.proofs.Apart.{Apart, one_place, first_named}
 use Rattle.ygg_sched_names.proofs.Keys.{names_on, names_apart}

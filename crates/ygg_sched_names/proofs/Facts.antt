@@ -2,19 +2,19 @@
 use Rattle.std.proofs.Common.{◌≡◌, ℕ, Bool, true, false, ◌&&◌, List, [], Option, Some, None, is_some, refl, ap}
 use Rattle.std.specs.Option.{option_map}
 use Rattle.ygg_value.specs.declared.row.Value.{Value}
-use Rattle.ygg_replay_text.specs.ygg_meaning.Environments.{Env, bind}
-use Rattle.ygg_replay_text.specs.ygg_meaning.Layer.{ClosedLayer}
-use Rattle.ygg_replay_text.specs.ygg_meaning.Machine.{Machine}
-use Rattle.ygg_replay_text.specs.ygg_meaning.Obligations.{Obligation, Init, CallOf, CutOf, TickOf, CutTickOf, Idle, Again, StopsAt}
-use Rattle.ygg_replay_text.specs.ygg_meaning.Obligations as meaning
-use Rattle.ygg_replay_text.specs.ygg_meaning.Related.{shaped}
-use Rattle.ygg_replay_text.specs.ygg_meaning.Shapes.{env_fits, values_fit}
-use Rattle.ygg_replay_text.specs.ygg_meaning.Violates.{End, Reached, shapes_fit}
-use Rattle.ygg_replay_text.specs.ygg_sched.Fitting.{OnlyIf, halt_meant}
-use Rattle.ygg_replay_text.specs.ygg_sched.Sites.{has_state, has_low, has_stop, has_wake, has_other, arguments_of}
-use Rattle.ygg_replay_text.specs.ygg_sched.declared.schedule.Halt.{Halt}
-use Rattle.ygg_replay_text.specs.ygg_sched.declared.schedule.Schedule.{Schedule}
-use Rattle.ygg_replay_text.specs.ygg_type_sound_proofs_Tests.{left, right}
+use Rattle.ygg_replay.specs.ygg_meaning.Environments.{Env, bind}
+use Rattle.ygg_replay.specs.ygg_meaning.Layer.{ClosedLayer}
+use Rattle.ygg_replay.specs.ygg_meaning.Machine.{Machine}
+use Rattle.ygg_replay.specs.ygg_meaning.Obligations.{Obligation, Init, CallOf, CutOf, TickOf, CutTickOf, Idle, Again, StopsAt}
+use Rattle.ygg_replay.specs.ygg_meaning.Obligations as meaning
+use Rattle.ygg_replay.specs.ygg_meaning.Related.{shaped}
+use Rattle.ygg_replay.specs.ygg_meaning.Shapes.{env_fits, values_fit}
+use Rattle.ygg_replay.specs.ygg_meaning.Violates.{End, Reached, shapes_fit}
+use Rattle.ygg_replay.specs.ygg_sched.Fitting.{OnlyIf, halt_meant}
+use Rattle.ygg_replay.specs.ygg_sched.Sites.{has_state, has_low, has_stop, has_wake, has_other, arguments_of}
+use Rattle.ygg_replay.specs.ygg_sched.declared.schedule.Halt.{Halt}
+use Rattle.ygg_replay.specs.ygg_sched.declared.schedule.Schedule.{Schedule}
+use Rattle.ygg_replay.specs.ygg_type_sound_proofs_Tests.{left, right}
 use Rattle.ygg_sched_names.proofs.Kept.{Spoken}
 use Rattle.ygg_sched_names.proofs.Spare.{IsSpare}
 

@@ -16,21 +16,21 @@ use Rattle.ygg_syntax.specs.declared.tree.Tick.{Tick}
 use Rattle.ygg_syntax.specs.declared.tree.Layer.{Layer}
 use Rattle.ygg_syntax.specs.declared.tree.File.{File}
 use Rattle.ygg_accept.specs.ygg_type_rules.Files.{IsTyped}
-use Rattle.ygg_replay_text.specs.ygg_meaning.Layer.{ClosedLayer}
-use Rattle.ygg_replay_text.specs.ygg_meaning.Meaning.{Functions, functions_of}
-use Rattle.ygg_replay_text.specs.ygg_meaning.Obligations.{Obligation, Init, CallOf, CutOf, TickOf, CutTickOf, Idle, Again, obligations_of}
-use Rattle.ygg_replay_text.specs.ygg_meaning.Refines.{Below}
-use Rattle.ygg_replay_text.specs.ygg_meaning.Shapes.{shape_in}
-use Rattle.ygg_replay_text.specs.ygg_histories.Claims.{Claim, claims_at, claims_on, claims_of}
-use Rattle.ygg_replay_text.specs.ygg_histories.Stack.{Layers, below_of, layers_on, layers_of, tables_of, tables_of_kind}
-use Rattle.ygg_oblige_schedules.specs.ygg_oblige_terms.Layers.{OperationFits}
-use Rattle.ygg_oblige_schedules.specs.ygg_oblige_terms.Meaning.{claim_name}
-use Rattle.ygg_oblige_schedules.specs.ygg_oblige_typed.Layers.{LayersTyped}
-use Rattle.ygg_oblige_schedules.proofs.of_ygg_oblige_typed.Files.{typed_layers}
-use Rattle.ygg_replay_text.specs.ygg_sched.Fitting.{IsPlain, is_plain, all_plain}
-use Rattle.ygg_replay_text.specs.ygg_sched.Laws.{asked_at, asked_of}
-use Rattle.ygg_replay_text.specs.ygg_sched.Sites.{Site, arguments_of, has_state, has_low, sites_of}
-use Rattle.ygg_replay_text.proofs.of_ygg_sched.Standing.{sites_are_claims}
+use Rattle.ygg_replay.specs.ygg_meaning.Layer.{ClosedLayer}
+use Rattle.ygg_replay.specs.ygg_meaning.Meaning.{Functions, functions_of}
+use Rattle.ygg_replay.specs.ygg_meaning.Obligations.{Obligation, Init, CallOf, CutOf, TickOf, CutTickOf, Idle, Again, obligations_of}
+use Rattle.ygg_replay.specs.ygg_meaning.Refines.{Below}
+use Rattle.ygg_replay.specs.ygg_meaning.Shapes.{shape_in}
+use Rattle.ygg_replay.specs.ygg_meaning.Claims.{Claim, claims_at, claims_on, claims_of}
+use Rattle.ygg_replay.specs.ygg_meaning.Stack.{Layers, below_of, layers_on, layers_of, tables_of, tables_of_kind}
+use Rattle.ygg_oblige_schedules.specs.ygg_oblige_pieces.Layers.{OperationFits}
+use Rattle.ygg_oblige_schedules.specs.ygg_oblige_pieces.Meaning.{claim_name}
+use Rattle.ygg_oblige_schedules.specs.ygg_oblige_laws.TypedLayers.{LayersTyped}
+use Rattle.ygg_oblige_schedules.proofs.of_ygg_oblige_laws.Files.{typed_layers}
+use Rattle.ygg_replay.specs.ygg_sched.Fitting.{IsPlain, is_plain, all_plain}
+use Rattle.ygg_replay.specs.ygg_sched.Laws.{asked_at, asked_of}
+use Rattle.ygg_replay.specs.ygg_sched.Sites.{Site, arguments_of, has_state, has_low, sites_of}
+use Rattle.ygg_replay.proofs.of_ygg_sched.Standing.{sites_are_claims}
 use Rattle.ygg_sched_names.specs.Names.{OperationNamed, LayerNamed, HasNames}
 use Rattle.ygg_sched_names.proofs.Asked.{Asked, asked_name, site_for}
 use Rattle.ygg_sched_names.proofs.Kept.{Shaped, lines_if}

@@ -11,9 +11,9 @@ use Rattle.ygg_base.specs.Lexing.{is_lower, is_name_byte}
 use Rattle.ygg_syntax.specs.declared.tree.Operation.{Operation}
 use Rattle.ygg_syntax.specs.declared.tree.Tick.{Tick}
 use Rattle.ygg_syntax.specs.declared.tree.Layer.{Layer}
-use Rattle.ygg_replay_text.specs.ygg_meaning.Obligations.{Obligation, Init, CallOf, CutOf, TickOf, CutTickOf, Idle, Again, obligations_of, name_of}
-use Rattle.ygg_print.specs.ygg_print_layout.Laws.{IsName}
-use Rattle.ygg_replay_text.specs.ygg_sched.Words.{cut_at}
+use Rattle.ygg_replay.specs.ygg_meaning.Obligations.{Obligation, Init, CallOf, CutOf, TickOf, CutTickOf, Idle, Again, obligations_of, name_of}
+use Rattle.ygg_print.specs.ygg_print_tree.Laws.{IsName}
+use Rattle.ygg_replay.specs.ygg_sched.Words.{cut_at}
 use Rattle.ygg_sched_names.proofs.Apart.{Differs, Apart, differs_append, apart_append, apart_seen}
 
 -- the word of the kind, and the name of the operation or background step, where there is one

@@ -7,22 +7,22 @@ use Rattle.ygg_value.specs.declared.row.Value.{Value}
 use Rattle.ygg_syntax.specs.Files.{IsDerived}
 use Rattle.ygg_syntax.specs.declared.tree.File.{File}
 use Rattle.ygg_accept.specs.ygg_type_rules.Files.{IsTyped}
-use Rattle.ygg_replay_text.specs.ygg_meaning.Environments.{Env, bind}
-use Rattle.ygg_replay_text.specs.ygg_meaning.Obligations as meaning
-use Rattle.ygg_replay_text.specs.ygg_meaning.Refines.{machine_below}
-use Rattle.ygg_replay_text.specs.ygg_meaning.Replayed.{Shows}
-use Rattle.ygg_replay_text.specs.ygg_histories.Claims.{Claim, ClaimViolated, claims_of}
-use Rattle.ygg_replay_text.specs.ygg_histories.Stack.{layers_of}
+use Rattle.ygg_replay.specs.ygg_meaning.Environments.{Env, bind}
+use Rattle.ygg_replay.specs.ygg_meaning.Obligations as meaning
+use Rattle.ygg_replay.specs.ygg_meaning.Refines.{machine_below}
+use Rattle.ygg_replay.specs.ygg_meaning.Replayed.{Shows}
+use Rattle.ygg_replay.specs.ygg_meaning.Claims.{Claim, ClaimViolated, claims_of}
+use Rattle.ygg_replay.specs.ygg_meaning.Stack.{layers_of}
 use Rattle.ygg_oblige_schedules.specs.ygg_rules.declared.rule.RuleKind.{RuleKind}
 use Rattle.ygg_oblige_schedules.specs.ygg_bank.Values.{Inputs}
 use Rattle.ygg_oblige_schedules.specs.ygg_sym_expr.Exprs.{SymFunctions}
-use Rattle.ygg_oblige_schedules.specs.ygg_oblige_terms.Meaning.{claim_name}
+use Rattle.ygg_oblige_schedules.specs.ygg_oblige_pieces.Meaning.{claim_name}
 use Rattle.ygg_oblige_schedules.specs.Schedules.{all_schedules}
-use Rattle.ygg_replay_text.specs.ygg_report.Lines.{shows_line}
-use Rattle.ygg_replay_text.specs.ygg_sched.Fitting.{IsAt, IsScheduleOf, IsPlain, halt_meant}
-use Rattle.ygg_replay_text.specs.ygg_sched.Printing.{line_of, variable_lines, value_lines, run_lines, lines_of, text_of}
-use Rattle.ygg_replay_text.specs.ygg_sched.Reading.{schedule_of}
-use Rattle.ygg_replay_text.specs.ygg_sched.Sites.{
+use Rattle.ygg_replay.specs.ygg_report.Lines.{shows_line}
+use Rattle.ygg_replay.specs.ygg_sched.Fitting.{IsAt, IsScheduleOf, IsPlain, halt_meant}
+use Rattle.ygg_replay.specs.ygg_sched.Printing.{line_of, variable_lines, value_lines, run_lines, lines_of, text_of}
+use Rattle.ygg_replay.specs.ygg_sched.Reading.{schedule_of}
+use Rattle.ygg_replay.specs.ygg_sched.Sites.{
   Site,
   site_named,
   state_lines,
@@ -34,10 +34,10 @@ use Rattle.ygg_replay_text.specs.ygg_sched.Sites.{
   has_low,
   has_stop,
 }
-use Rattle.ygg_replay_text.specs.ygg_sched.declared.schedule.Schedule.{Schedule}
-use Rattle.ygg_replay_text.proofs.of_ygg_sched.TextsAgain.{printed_is_read}
-use Rattle.ygg_replay_text.specs.Ending.{Replaying}
-use Rattle.ygg_replay_text.specs.Shown.{claim_named, meant}
+use Rattle.ygg_replay.specs.ygg_sched.declared.schedule.Schedule.{Schedule}
+use Rattle.ygg_replay.proofs.of_ygg_sched.TextsAgain.{printed_is_read}
+use Rattle.ygg_replay.specs.Ending.{Replaying}
+use Rattle.ygg_replay.specs.Shown.{claim_named, meant}
 use Rattle.ygg_sched_names.specs.Names.{HasNames}
 use Rattle.ygg_sched_names.specs.Violating.{IsViolating}
 use Rattle.ygg_sched_names.proofs.Asked.{SiteOf, site_for, site_of, named_is}

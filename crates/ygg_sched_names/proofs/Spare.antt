@@ -2,17 +2,17 @@
 use Rattle.std.proofs.Common.{◌≡◌, ℕ, ◌+◌, List, [], ◌∷◌, map, None, refl}
 use Rattle.ygg_value.specs.declared.row.Value.{Value}
 use Rattle.ygg_syntax.specs.declared.tree.DiskText.{DiskText}
-use Rattle.ygg_replay_text.specs.ygg_meaning.Layer.{ClosedLayer}
-use Rattle.ygg_replay_text.specs.ygg_meaning.Obligations.{Obligation, Init, CallOf, CutOf, TickOf, CutTickOf, Idle, Again, Schedule, obligations_of}
-use Rattle.ygg_replay_text.specs.ygg_meaning.Refines.{Below}
-use Rattle.ygg_replay_text.specs.ygg_histories.Claims.{Claim, claims_at, claims_on}
-use Rattle.ygg_replay_text.specs.ygg_histories.Stack.{Layers, below_of}
+use Rattle.ygg_replay.specs.ygg_meaning.Layer.{ClosedLayer}
+use Rattle.ygg_replay.specs.ygg_meaning.Obligations.{Obligation, Init, CallOf, CutOf, TickOf, CutTickOf, Idle, Again, Schedule, obligations_of}
+use Rattle.ygg_replay.specs.ygg_meaning.Refines.{Below}
+use Rattle.ygg_replay.specs.ygg_meaning.Claims.{Claim, claims_at, claims_on}
+use Rattle.ygg_replay.specs.ygg_meaning.Stack.{Layers, below_of}
 use Rattle.ygg_oblige_schedules.specs.ygg_rules.declared.rule.RuleKind.{RuleKind}
 use Rattle.ygg_oblige_schedules.specs.ygg_bank.Values.{Inputs}
 use Rattle.ygg_oblige_schedules.specs.ygg_sym_expr.Exprs.{SymFunctions}
-use Rattle.ygg_oblige_schedules.specs.ygg_oblige_terms.Numbers.{Numbers, numbers_of, arguments_of}
-use Rattle.ygg_oblige_schedules.specs.ygg_oblige_terms.States.{state_words}
-use Rattle.ygg_oblige_schedules.specs.ygg_oblige_terms.Terms.{after_layers}
+use Rattle.ygg_oblige_schedules.specs.ygg_oblige_pieces.Numbers.{Numbers, numbers_of, arguments_of}
+use Rattle.ygg_oblige_schedules.specs.ygg_oblige_pieces.TermStates.{state_words}
+use Rattle.ygg_oblige_schedules.specs.ygg_oblige_pieces.Terms.{after_layers}
 use Rattle.ygg_oblige_schedules.specs.ygg_oblige_pieces.Inputs.{given_env}
 use Rattle.ygg_oblige_schedules.specs.ygg_oblige_pieces.States.{given_stand}
 use Rattle.ygg_oblige_schedules.specs.ygg_oblige_pieces.Worth.{Stand}

@@ -5,19 +5,19 @@ use Rattle.ygg_base.specs.declared.tokens.Tokens.{Tokens}
 use Rattle.ygg_syntax.specs.declared.tree.File.{File}
 use Rattle.ygg_accept.specs.Accepting.{IsAccepted}
 use Rattle.ygg_accept.specs.ygg_type_rules.Files.{IsTyped}
-use Rattle.ygg_replay_text.specs.ygg_meaning.Obligations.{name_of}
-use Rattle.ygg_replay_text.specs.ygg_histories.Claims.{Claim, claims_of}
+use Rattle.ygg_replay.specs.ygg_meaning.Obligations.{name_of}
+use Rattle.ygg_replay.specs.ygg_meaning.Claims.{Claim, claims_of}
 use Rattle.ygg_oblige_schedules.specs.ygg_rules.declared.rule.RuleKind.{RuleKind}
 use Rattle.ygg_oblige_schedules.specs.ygg_bank.Values.{Inputs}
 use Rattle.ygg_oblige_schedules.specs.ygg_sym_expr.Exprs.{SymFunctions}
-use Rattle.ygg_oblige_schedules.specs.ygg_oblige_terms.Meaning.{claim_name}
-use Rattle.ygg_replay_text.specs.ygg_report.Lines.{shows_line}
-use Rattle.ygg_replay_text.specs.ygg_sched.declared.schedule.Schedule.{Schedule}
-use Rattle.ygg_replay_text.specs.ygg_sched.Fitting.{IsPlain}
-use Rattle.ygg_replay_text.specs.ygg_sched.Printing.{text_of}
-use Rattle.ygg_replay_text.specs.ygg_sched.Sites.{Site, sites_of, site_named}
-use Rattle.ygg_replay_text.specs.Ending.{Replaying}
-use Rattle.ygg_replay_text.specs.Shown.{claim_named}
+use Rattle.ygg_oblige_schedules.specs.ygg_oblige_pieces.Meaning.{claim_name}
+use Rattle.ygg_replay.specs.ygg_report.Lines.{shows_line}
+use Rattle.ygg_replay.specs.ygg_sched.declared.schedule.Schedule.{Schedule}
+use Rattle.ygg_replay.specs.ygg_sched.Fitting.{IsPlain}
+use Rattle.ygg_replay.specs.ygg_sched.Printing.{text_of}
+use Rattle.ygg_replay.specs.ygg_sched.Sites.{Site, sites_of, site_named}
+use Rattle.ygg_replay.specs.Ending.{Replaying}
+use Rattle.ygg_replay.specs.Shown.{claim_named}
 use Rattle.ygg_sched_names.specs.Names.{HasNames}
 use Rattle.ygg_sched_names.specs.Violating.{IsViolating}
 

@@ -1,15 +1,15 @@
 -- The schedules that an environment names, in code, which violate their obligations.
 use Rattle.std.specs.Prelude.{◌≡◌, ℕ, ◌<◌, ◌^◌, List, slice_get, Some, IfSome}
 use Rattle.ygg_syntax.specs.declared.tree.File.{File}
-use Rattle.ygg_replay_text.specs.ygg_histories.Claims.{Claim, ClaimViolated, claims_of}
-use Rattle.ygg_replay_text.specs.ygg_histories.Stack.{layers_of}
+use Rattle.ygg_replay.specs.ygg_meaning.Claims.{Claim, ClaimViolated, claims_of}
+use Rattle.ygg_replay.specs.ygg_meaning.Stack.{layers_of}
 use Rattle.ygg_oblige_schedules.specs.ygg_rules.declared.rule.RuleKind.{RuleKind}
 use Rattle.ygg_oblige_schedules.specs.ygg_bank.Values.{Inputs}
 use Rattle.ygg_oblige_schedules.specs.ygg_sym_expr.Exprs.{SymFunctions}
-use Rattle.ygg_oblige_schedules.specs.ygg_oblige_terms.Meaning.{claim_name}
+use Rattle.ygg_oblige_schedules.specs.ygg_oblige_pieces.Meaning.{claim_name}
 use Rattle.ygg_oblige_schedules.specs.Schedules.{all_schedules}
-use Rattle.ygg_replay_text.specs.ygg_sched.declared.schedule.Schedule.{Schedule}
-use Rattle.ygg_replay_text.specs.Shown.{meant}
+use Rattle.ygg_replay.specs.ygg_sched.declared.schedule.Schedule.{Schedule}
+use Rattle.ygg_replay.specs.Shown.{meant}
 
 module _ (kinds : List RuleKind) (terms : SymFunctions) (f : File) (inputs : Inputs) (place : ℕ) where
   -- the schedule has the name of the obligation at the place, means the one that the environment names for it, and violates it

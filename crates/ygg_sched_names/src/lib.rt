@@ -7,4 +7,4 @@ pub use law::{
     accepted_has_names, named_is, names_are_plain, names_differ, printed_shows, site_named_is,
 };
 pub use ygg_oblige_schedules::law::file_schedules;
-pub use ygg_replay_text::one_ending;
+pub use ygg_replay::one_ending;

@@ -1,4 +1,4 @@
-pub use Rattle.ygg_sched.proofs.of_ygg_histories
+pub use Rattle.ygg_sched.proofs.of_ygg_meaning
 pub use Rattle.ygg_sched.proofs.of_ygg_report
 pub mod Pieces
 pub mod Arguments

@@ -1,7 +1,6 @@
 pub use Rattle.ygg_sched.specs.ygg_disk
-pub use Rattle.ygg_sched.specs.ygg_histories_proofs_Mirrored
-pub use Rattle.ygg_sched.specs.ygg_histories_proofs_Monotone
-pub use Rattle.ygg_sched.specs.ygg_histories
+pub use Rattle.ygg_sched.specs.ygg_meaning_proofs_Mirrored
+pub use Rattle.ygg_sched.specs.ygg_meaning_proofs_Monotone
 pub use Rattle.ygg_sched.specs.ygg_meaning
 pub use Rattle.ygg_sched.specs.ygg_report
 pub use Rattle.ygg_sched.specs as ygg_sched

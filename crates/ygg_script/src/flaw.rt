@@ -4,7 +4,7 @@ ghost use Rattle.ygg_script.specs.Flaws.{number_of, refusal_at};
 use ygg_base::Refusal;
 
 /// Why a line of a script is refused.
-#[derive(Clone, Copy, PartialEq, Eq, Drop)]
+#[derive(Clone, Copy, Drop)]
 pub enum ScriptFlaw {
     /// It isn't of a form that may stand there, it is missing, it has no line feed, or it follows `end`.
     Line,

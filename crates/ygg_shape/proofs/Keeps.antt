@@ -14,8 +14,8 @@ use Rattle.ygg_shape_cells.specs.ygg_bank.declared.node.Node.TheVariants.{Const,
 use Rattle.ygg_shape_cells.specs.ygg_shape_words_proofs_Keeps.{Stays, picked_keeps, same_words_keeps}
 use Rattle.ygg_shape_cells.specs.ygg_shape_words.Same.{same_words}
 use Rattle.ygg_shape_cells.specs.ygg_shape_sums_proofs_Keeps.{equated_words_keeps}
-use Rattle.ygg_shape_cells.specs.ygg_shape_rows_proofs_Keeps.{equated_rows_keeps}
-use Rattle.ygg_shape_cells.specs.ygg_shape_rows.Equates.{equated_rows}
+use Rattle.ygg_shape_cells.proofs.Keeps.{equated_rows_keeps}
+use Rattle.ygg_shape_cells.specs.Equates.{equated_rows}
 use Rattle.ygg_shape_cells.specs.ygg_shape_words.Picking.{picked}
 use Rattle.ygg_shape_cells.specs.Lists.{each_two, each_from, fold_two, fold_from}
 use Rattle.ygg_shape_cells.specs.Making.{

@@ -53,9 +53,9 @@ use Rattle.ygg_shape_cells.specs.ygg_shape_words_proofs_Picks.{picked_is}
 use Rattle.ygg_shape_cells.specs.ygg_shape_words_proofs_Terms.{TermIs, holds, made_is, either, number_if, bit_is, and_digits}
 use Rattle.ygg_shape_cells.specs.ygg_shape_words.Picking.{picked}
 use Rattle.ygg_shape_cells.specs.ygg_shape_words.Same.{same_words}
-use Rattle.ygg_shape_cells.specs.ygg_shape_rows_proofs_Equates.{equated_rows_is}
-use Rattle.ygg_shape_cells.specs.ygg_shape_rows_proofs_Keeps.{equated_rows_grows}
-use Rattle.ygg_shape_cells.specs.ygg_shape_rows.Equates.{equated_rows}
+use Rattle.ygg_shape_cells.proofs.Equates.{equated_rows_is}
+use Rattle.ygg_shape_cells.proofs.Keeps.{equated_rows_grows}
+use Rattle.ygg_shape_cells.specs.Equates.{equated_rows}
 use Rattle.ygg_shape.proofs.Grows.{merged_row_grows}
 use Rattle.ygg_shape_cells.proofs.Wider.{IsWide, all_wider, row_wider}
 use Rattle.ygg_shape.proofs.Words.{row_if}

@@ -3,17 +3,17 @@ use Rattle.std.specs.Prelude.{ℕ, ◌^◌, nat_lt, if◌then◌else◌, Option,
 use Rattle.ygg_value.specs.Number.{Number}
 use Rattle.ygg_value.specs.Words.{word}
 use Rattle.ygg_value.specs.declared.operation.Op.TheVariants.{And}
-use Rattle.ygg_shape_rows.specs.ygg_rules.declared.rule.RuleKind.{RuleKind}
-use Rattle.ygg_shape_rows.specs.ygg_bank.Makes.{Make, pure, and_make}
-use Rattle.ygg_shape_rows.specs.ygg_bank.Making.{known_in, made}
-use Rattle.ygg_shape_rows.specs.ygg_bank.Nodes.{width_at, widths_of}
-use Rattle.ygg_shape_rows.specs.ygg_bank.declared.node.Id.{Id}
-use Rattle.ygg_shape_rows.specs.ygg_bank.declared.node.Node.{Node}
-use Rattle.ygg_shape_rows.specs.ygg_bank.declared.node.Node.TheVariants.{Const, Bin}
-use Rattle.ygg_shape_rows.specs.ygg_shape_words.Picking.{picked}
-use Rattle.ygg_shape_rows.specs.ygg_shape_words.Same.{same_words}
-use Rattle.ygg_shape_rows.specs.ygg_shape_sums.Equates.{equated_words}
-use Rattle.ygg_shape_rows.specs.Equates.{equated_rows}
+use Rattle.ygg_shape_cells.specs.ygg_rules.declared.rule.RuleKind.{RuleKind}
+use Rattle.ygg_shape_cells.specs.ygg_bank.Makes.{Make, pure, and_make}
+use Rattle.ygg_shape_cells.specs.ygg_bank.Making.{known_in, made}
+use Rattle.ygg_shape_cells.specs.ygg_bank.Nodes.{width_at, widths_of}
+use Rattle.ygg_shape_cells.specs.ygg_bank.declared.node.Id.{Id}
+use Rattle.ygg_shape_cells.specs.ygg_bank.declared.node.Node.{Node}
+use Rattle.ygg_shape_cells.specs.ygg_bank.declared.node.Node.TheVariants.{Const, Bin}
+use Rattle.ygg_shape_cells.specs.ygg_shape_words.Picking.{picked}
+use Rattle.ygg_shape_cells.specs.ygg_shape_words.Same.{same_words}
+use Rattle.ygg_shape_cells.specs.ygg_shape_sums.Equates.{equated_words}
+use Rattle.ygg_shape_cells.specs.Equates.{equated_rows}
 use Rattle.ygg_shape_cells.specs.Lists.{each_two, each_from, fold_two, fold_from}
 use Rattle.ygg_shape_cells.specs.Terms.{words_in}
 use Rattle.ygg_shape_cells.specs.declared.terms.SymValue.{SymValue}

@@ -3,9 +3,13 @@
 #![tactic(auto)]
 
 pub mod cells;
+pub mod equating;
+pub mod pairs;
+pub mod sharing;
 pub mod terms;
 
+pub use equating::{ROW_DEPTH, equate_rows};
 pub use terms::{SymRow, SymTable, SymValue, SymValues};
-pub use ygg_shape_rows::{
-    Bank, Book, Env, Given, Id, NoMemory, Node, equate, equate_rows, fits, known, pick, same,
+pub use ygg_shape_sums::{
+    Bank, Book, Env, Given, Id, NoMemory, Node, equate, fits, known, pick, same,
 };

@@ -86,7 +86,7 @@ fn fact_of(bank: &Bank, one: Id, zero: Id, conjunct: Id) -> Option<Replacement>
 }
 
 /// Two terms.
-#[derive(Clone, Copy, PartialEq, Eq, Drop)]
+#[derive(Clone, Copy, Drop)]
 pub struct Both {
     /// One term.
     pub one: Id,

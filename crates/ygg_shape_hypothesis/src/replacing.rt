@@ -13,7 +13,7 @@ use ygg_list::Sequence;
 use ygg_shape_cells::{SymRow, SymTable, SymValue};
 
 /// A term that stands for an input.
-#[derive(Clone, Copy, PartialEq, Eq, Drop)]
+#[derive(Clone, Copy, Drop)]
 pub struct Replacement {
     /// The input.
     pub input: Id,

@@ -21,7 +21,7 @@ use ygg_value::Op;
 pub const CANCEL_LIMIT: u32 = 7;
 
 /// What is known of a sum that was multiplied out.
-#[derive(Clone, Copy, PartialEq, Eq, Drop)]
+#[derive(Clone, Copy, Drop)]
 pub enum Outcome {
     /// It is 0.
     Nothing,

@@ -9,7 +9,7 @@ use std::marker::Model;
 use ygg_shape_words::{Id, NoMemory};
 
 /// A term so many times.
-#[derive(Clone, Copy, PartialEq, Eq, Drop)]
+#[derive(Clone, Copy, Drop)]
 pub struct Summand {
     /// How many times, modulo 2 ^ 64.
     pub times: u64,

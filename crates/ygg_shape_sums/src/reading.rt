@@ -12,7 +12,7 @@ use ygg_value::{Op, Word};
 pub const LESS_ONE: u64 = 0xffff_ffff_ffff_ffff;
 
 /// A test, and the digit that it is taken to be.
-#[derive(Clone, Copy, PartialEq, Eq, Drop)]
+#[derive(Clone, Copy, Drop)]
 pub struct Fact {
     /// The test.
     pub test: Id,
@@ -21,7 +21,7 @@ pub struct Fact {
 }
 
 /// What a term is.
-#[derive(Clone, Copy, PartialEq, Eq, Drop)]
+#[derive(Clone, Copy, Drop)]
 pub enum Decomposition {
     /// No sum.
     Whole,

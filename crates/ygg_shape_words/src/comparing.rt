@@ -21,7 +21,7 @@ use ygg_value::{Op, Word};
 pub const SPLIT_LIMIT: u32 = 600;
 
 /// Two words, and the term that says whether they are equal.
-#[derive(Clone, Copy, PartialEq, Eq, Drop)]
+#[derive(Clone, Copy, Drop)]
 pub struct Compared {
     /// One word.
     pub one: Id,

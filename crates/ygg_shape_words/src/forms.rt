@@ -12,7 +12,7 @@ use ygg_bank::{Bank, Id, Node};
 use ygg_value::{Op, Word, apply, not, resize};
 
 /// How the equality of two words goes on.
-#[derive(Clone, Copy, PartialEq, Eq, Drop)]
+#[derive(Clone, Copy, Drop)]
 pub enum Form {
     /// The words are equal.
     One,

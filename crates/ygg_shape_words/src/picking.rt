@@ -12,7 +12,7 @@ use ygg_rules::Book;
 use ygg_value::{Op, Word};
 
 /// How a pick between two words is made.
-#[derive(Clone, Copy, PartialEq, Eq, Drop)]
+#[derive(Clone, Copy, Drop)]
 pub enum Choice {
     /// Both words are one term.
     One,

@@ -11,7 +11,7 @@ use ygg_bank::{Bank, Id, NoMemory, Node};
 use ygg_rules::Book;
 
 /// How a term at a width is made.
-#[derive(Clone, Copy, PartialEq, Eq, Drop)]
+#[derive(Clone, Copy, Drop)]
 pub enum Sizing {
     /// The term has this width.
     Itself,

@@ -35,19 +35,19 @@ use Rattle.std.proofs.Common.{
 use Rattle.std.proofs.lemmas.Bool.{cases_lt, cases_Bool, leb-true, false≢true}
 use Rattle.std.proofs.lemmas.List.Elements.{All-push, All-get_or, All-head, All-tail, All-cons, All-contains}
 use Rattle.std.proofs.lemmas.List.{map-append, take_more, length-map, get_or-map}
-use Rattle.ygg_solver_search.specs.ygg_cnf.declared.lit.Lit.{Lit}
-use Rattle.ygg_solver_search.specs.ygg_cnf.declared.log.Step.{Step}
-use Rattle.ygg_solver_search.specs.ygg_cnf.declared.log.Step.TheVariants.{Added}
-use Rattle.ygg_solver_search.proofs.of_ygg_cnf.Lits.{same_lit}
-use Rattle.ygg_solver_search.specs.ygg_cnf.Literals.{truth_of, SatisfiesClause, SatisfiesAll}
-use Rattle.ygg_solver_search.specs.ygg_cnf.Logs.{clause_of, Refutes, SpentLog}
+use Rattle.ygg_cnf.specs.declared.lit.Lit.{Lit}
+use Rattle.ygg_cnf.specs.declared.log.Step.{Step}
+use Rattle.ygg_cnf.specs.declared.log.Step.TheVariants.{Added}
+use Rattle.ygg_solver.proofs.of_ygg_cnf.Lits.{same_lit}
+use Rattle.ygg_cnf.specs.Literals.{truth_of, SatisfiesClause, SatisfiesAll}
+use Rattle.ygg_cnf.specs.Logs.{clause_of, Refutes, SpentLog}
 use Rattle.ygg_chain.specs.Places.{IsDistinct, IsPlaced, literal_at, clause_at, clauses_at}
 use Rattle.ygg_chain.proofs.PlaceLemmas.{kept_more, stands_once, contains_map}
 use Rattle.ygg_solver.specs.Names.{log_at, GivesValues}
-use Rattle.ygg_solver_search.specs.ygg_watch_trail.declared.entry.Entry.{Entry}
-use Rattle.ygg_solver_search.specs.ygg_watch_trail.Trail.{IsAt}
-use Rattle.ygg_solver_search.specs.ygg_watch_trail.Assignments.{IsTrail}
-use Rattle.ygg_solver_search.proofs.ModelLemmas.{value_more}
+use Rattle.ygg_watch_trail.specs.declared.entry.Entry.{Entry}
+use Rattle.ygg_watch_trail.specs.Trail.{IsAt}
+use Rattle.ygg_watch_trail.specs.Assignments.{IsTrail}
+use Rattle.ygg_solver.proofs.ModelLemmas.{value_more}
 use Rattle.ygg_solver.proofs.RenameLemmas.{IsRenaming, renamed_step, refutes_renamed, spent_renamed}
 
 -- the sum of the variables, which none of them is above

@@ -4,12 +4,12 @@ use Rattle.std.specs.Prelude.{option_map}
 use Rattle.std.proofs.lemmas.Option.{slice_get-map}
 use Rattle.std.proofs.lemmas.List.{map-append, length-map}
 use Rattle.std.proofs.lemmas.List.Elements.{All-head, All-tail, All-cons}
-use Rattle.ygg_solver_search.specs.ygg_cnf.declared.lit.Lit.{Lit}
-use Rattle.ygg_solver_search.specs.ygg_cnf.declared.log.Step.{Step}
-use Rattle.ygg_solver_search.specs.ygg_cnf.declared.log.Step.TheVariants.{Added}
-use Rattle.ygg_solver_search.specs.ygg_cnf.Literals.{complement}
-use Rattle.ygg_solver_search.specs.ygg_cnf.Derivations.{IsPivot, Resolvent, Resolves, DerivesClause, HasClause}
-use Rattle.ygg_solver_search.specs.ygg_cnf.Logs.{clause_of, Derives, Refutes, IsOpen, Teaches, EachTeaches, SpentLog}
+use Rattle.ygg_cnf.specs.declared.lit.Lit.{Lit}
+use Rattle.ygg_cnf.specs.declared.log.Step.{Step}
+use Rattle.ygg_cnf.specs.declared.log.Step.TheVariants.{Added}
+use Rattle.ygg_cnf.specs.Literals.{complement}
+use Rattle.ygg_cnf.specs.Derivations.{IsPivot, Resolvent, Resolves, DerivesClause, HasClause}
+use Rattle.ygg_cnf.specs.Logs.{clause_of, Derives, Refutes, IsOpen, Teaches, EachTeaches, SpentLog}
 use Rattle.ygg_chain.proofs.PlaceLemmas.{contains_map, contains_of_map}
 
 -- no two literals get one name, and complements get complements

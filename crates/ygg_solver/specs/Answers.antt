@@ -1,8 +1,8 @@
 -- What an answer says of the clauses.
 use Rattle.std.specs.Prelude.{ℕ, ◌<◌, ◌≤◌, List, length, All}
-use Rattle.ygg_solver_search.specs.ygg_cnf.Literals.{SatisfiesAll, truth_of}
-use Rattle.ygg_solver_search.specs.ygg_cnf.Logs.{Refutes, SpentLog}
-use Rattle.ygg_solver_search.specs.ygg_cnf.declared.lit.Lit.{Lit}
+use Rattle.ygg_cnf.specs.Literals.{SatisfiesAll, truth_of}
+use Rattle.ygg_cnf.specs.Logs.{Refutes, SpentLog}
+use Rattle.ygg_cnf.specs.declared.lit.Lit.{Lit}
 use Rattle.ygg_solver.specs.declared.answer.Answer.{Answer}
 use Rattle.ygg_solver.specs.declared.answer.Answer.TheVariants.{Sat, Unsat, Spent}
 

@@ -1,3 +1,5 @@
-pub use Rattle.ygg_solver_search.specs.ygg_cnf
 pub mod Answers
 pub mod Names
+pub use Rattle.ygg_cnf.specs as ygg_cnf
+pub mod Kept
+pub mod Ends

@@ -1,11 +1,11 @@
 -- Variables numbered by their places, and what was found for the places read for the variables.
 use Rattle.std.specs.Prelude.{◌≡◌, ◌<◌, ℕ, Bool, List, length, map, get_or}
-use Rattle.ygg_solver_search.specs.ygg_cnf.declared.log.Step.{Step}
-use Rattle.ygg_solver_search.specs.ygg_cnf.declared.log.Step.TheVariants.{Added}
-use Rattle.ygg_solver_search.specs.ygg_cnf.Literals.{truth_of}
+use Rattle.ygg_cnf.specs.declared.log.Step.{Step}
+use Rattle.ygg_cnf.specs.declared.log.Step.TheVariants.{Added}
+use Rattle.ygg_cnf.specs.Literals.{truth_of}
 use Rattle.ygg_chain.specs.Places.{clause_at}
-use Rattle.ygg_solver_search.specs.ygg_watch_trail.declared.entry.Entry.{Entry}
-use Rattle.ygg_solver_search.specs.Kept.{trail_value}
+use Rattle.ygg_watch_trail.specs.declared.entry.Entry.{Entry}
+use Rattle.ygg_solver.specs.Kept.{trail_value}
 
 -- the entry of the variables that have its places
 abbrev pub step_at : List ℕ → Step → Step

@@ -1,4 +1,4 @@
-use ygg_solver_search::{Assignment, Log};
+use ygg_cnf::{Assignment, Log};
 
 /// What solving clauses within a budget of learned clauses came to.
 #[derive(Drop)]

@@ -16,10 +16,16 @@
 //! ```
 #![tactic(auto)]
 
+mod advice;
 mod answer;
 mod names;
+mod run;
+mod searching;
 mod solving;
 
+pub use advice::order_for;
 pub use answer::Answer;
+pub use searching::{SearchEnd, search_clauses};
 pub use solving::{solve, solve_and_count, solve_owned};
-pub use ygg_solver_search::{Assignment, Lit, Step, Work, truth};
+pub use ygg_cnf::{Assignment, Clause, Clauses, Lit, Step, truth};
+pub use ygg_watch_order::Work;

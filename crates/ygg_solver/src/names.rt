@@ -1,16 +1,18 @@
 //! Numbering the variables that occur by their places, from 0 on, and the way back.
 
 ghost use Rattle.std.specs.Prelude.{◌≡◌, ◌≢◌, ◌<◌, ◌≤◌, ℕ, List, ◌++◌, All, map, length, get_or, true, false, IfOk, OnOk};
-ghost use Rattle.ygg_solver_search.specs.ygg_cnf.Literals.{truth_of};
-ghost use Rattle.ygg_solver_search.specs.ygg_cnf.Logs.{clause_of};
+ghost use Rattle.ygg_cnf.specs.Literals.{truth_of};
+ghost use Rattle.ygg_cnf.specs.Logs.{clause_of};
 ghost use Rattle.ygg_chain.specs.Places.{IsDistinct, IsPlaced, literal_at, clause_at, clauses_at};
-ghost use Rattle.ygg_solver_search.specs.ygg_watch_trail.Assignments.{IsTrail};
+ghost use Rattle.ygg_watch_trail.specs.Assignments.{IsTrail};
 ghost use Rattle.ygg_solver.specs.Names.{step_at, log_at, GivesValues};
 
 use std::alloc::Global;
 use ygg_chain::Variables;
+use ygg_cnf::{Assignment, Clause, Clauses, Lit, Log, Step};
+use ygg_cnf_set::PackedClause;
 use ygg_list::NoMemory;
-use ygg_solver_search::{Assignment, Clause, Clauses, Lit, Log, PackedClause, PackedEntry, Step};
+use ygg_watch_trail::PackedEntry;
 
 /// The clause with the places of its variables, after those that had none have been given one. After running out of memory, which more
 /// than 2,147,483,648 variables come to, some of them may have been given one.

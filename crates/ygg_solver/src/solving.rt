@@ -2,15 +2,18 @@ ghost use Rattle.std.specs.Prelude.{◌≡◌, ◌<◌, ◌↔◌, [], All, Cont
 ghost use Rattle.ygg_chain.specs.Places.{IsPlaced, clauses_at};
 ghost use Rattle.ygg_solver.specs.Answers.{IsNumbered, IsAnswer};
 
+use crate::advice::order_for;
 use crate::answer::Answer;
 use crate::names::{assignment_of, name_log, number_all};
+use crate::searching::{SearchEnd, search_clauses};
 use std::alloc::Global;
 use ygg_chain::Variables;
+use ygg_cnf::{Clauses, Log};
+use ygg_cnf_set::PackedClause;
 use ygg_list::NoMemory;
-use ygg_solver_search::{
-    Clauses, Log, Order, PackedClause, SearchEnd, Trail, Work, order_for, search_clauses,
-};
 use ygg_watch::Watch;
+use ygg_watch_order::{Order, Work};
+use ygg_watch_plain::Trail;
 
 /// Whether a clause is empty.
 fn has_empty(clauses: &Clauses) -> bool

@@ -1,12 +1,12 @@
 -- A layer of a file in code, and what it is specified over.
 use Rattle.std.specs.Prelude.{◌≡◌, IsTrue, []}
-use Rattle.ygg_sym_laws_disk.specs.ygg_type_rules.TypeErrors.{none}
-use Rattle.ygg_sym_laws_disk.specs.ygg_type_rules.Definitions.{definitions_errors}
-use Rattle.ygg_sym_laws_disk.specs.ygg_meaning.Refines.{Below, OnDisk, OnSpec}
-use Rattle.ygg_sym_laws_disk.specs.Below.{lows_on}
-use Rattle.ygg_sym_laws_disk.specs.Typed.{BelowTyped}
-use Rattle.ygg_sym_spec_stops.specs.Layers.{closed}
-use Rattle.ygg_sym_spec_stops.specs.SymLayer.{SymLayer}
+use Rattle.ygg_sym_laws.specs.ygg_type_rules.TypeErrors.{none}
+use Rattle.ygg_sym_laws.specs.ygg_type_rules.Definitions.{definitions_errors}
+use Rattle.ygg_sym_laws.specs.ygg_meaning.Refines.{Below, OnDisk, OnSpec}
+use Rattle.ygg_sym_laws.specs.Below.{lows_on}
+use Rattle.ygg_sym_laws.specs.Typed.{BelowTyped}
+use Rattle.ygg_sym.specs.Layers.{closed}
+use Rattle.ygg_sym.specs.SymLayer.{SymLayer}
 use Rattle.ygg_sym.specs.declared.below.SymBelow.{SymBelow}
 use Rattle.ygg_sym.specs.declared.below.SymBelow.TheVariants.{Disk, Layer}
 use Rattle.ygg_sym.specs.Kept.{AreKept}

@@ -1,6 +1,6 @@
 //! What a layer is specified over.
 
-use ygg_sym_spec_stops::SymLayer;
+use ygg_sym_spec::SymLayer;
 use ygg_syntax::tree::DiskText;
 
 /// What a layer is specified over: the disk, or the specification of the layer below.

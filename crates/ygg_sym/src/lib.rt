@@ -4,17 +4,23 @@
 mod begun;
 mod below;
 mod declared;
+mod disk_stops;
 mod rooms;
 mod running;
 mod runs;
+mod spec_stops;
+mod stopping;
 
 pub use begun::start;
 pub use below::SymBelow;
 pub use declared::{shape_of, zeros};
+pub use disk_stops::DiskStops;
 pub use rooms::{failure_room, places};
 pub use runs::{SymBlock, SymCut, SymEnd, cut, lost, low_at_start, run};
-pub use ygg_sym_laws_disk::{
+pub use spec_stops::SpecStops;
+pub use stopping::cut_short;
+pub use ygg_sym_laws::{
     Bank, Book, Env, Given, Id, NoMemory, Node, SymBinding, SymEvaluator, SymValue, SymValues,
     choices, equal, equal_all, id_in, inputs_of,
 };
-pub use ygg_sym_spec_stops::{SpecDone, SymLayer, SymPicks, block, crash, then_crash};
+pub use ygg_sym_spec::{SpecDone, SymLayer, SymPicks, block, crash, then_crash};

@@ -15,16 +15,16 @@ use Rattle.ygg_bank.specs.declared.node.Node.{Node}
 use Rattle.ygg_bank.specs.declared.node.Node.TheVariants.{Const}
 use Rattle.ygg_shape_words.proofs.Keeps.{inputs_stay}
 use Rattle.ygg_sym_expr.specs.Names.{sym_bind}
-use Rattle.ygg_sym_below.specs.SpecCuts.{choice_room}
-use Rattle.ygg_sym_below.specs.Specs.{given_pick, input_pick}
-use Rattle.ygg_sym_below.proofs.MadeInputs.{fresh_below, terms_below}
-use Rattle.ygg_sym_below.proofs.SpecKeeps.{block_keeps}
+use Rattle.ygg_sym_runs.specs.SpecCuts.{choice_room}
+use Rattle.ygg_sym_runs.specs.Specs.{given_pick, input_pick}
+use Rattle.ygg_sym_runs.proofs.MadeInputs.{fresh_below, terms_below}
+use Rattle.ygg_sym_runs.proofs.SpecKeeps.{block_keeps}
 use Rattle.ygg_sym_laws.specs.Below.{failure_room, places_on, signatures_on, zeros_made}
 use Rattle.ygg_sym_laws.specs.Means.{Values3, terms_of}
 use Rattle.ygg_sym_laws.specs.Typed.{BlockTyped, SpecBlockTyped}
 use Rattle.ygg_sym_laws.proofs.Zeros.{zeros_made_keep}
 use Rattle.ygg_sym_spec.specs.Picking.{bit_in}
-use Rattle.ygg_sym_fronts.specs.Laws.{OverTyped}
+use Rattle.ygg_fronts.specs.SymLaws.{OverTyped}
 use Rattle.ygg_sym_bodies.specs.Runs.{cut_body, cut_inputs, whole_body, whole_inputs}
 use Rattle.ygg_sym_bodies.specs.declared.state.SymState.{SymState}
 use Rattle.ygg_sym_bodies.proofs.Laws.{fall_means, loss_means, whole_means}

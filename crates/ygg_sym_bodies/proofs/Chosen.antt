@@ -29,11 +29,11 @@ use Rattle.ygg_direct.proofs.SpecServes.{ran_alone}
 use Rattle.ygg_sym_expr.specs.Meaning.{Grows}
 use Rattle.ygg_sym_expr.specs.Names.{sym_bind}
 use Rattle.ygg_sym_runs.specs.Meaning.{AnswerShaped, answer_worth}
-use Rattle.ygg_sym_below.specs.Lows.{low_worth}
-use Rattle.ygg_sym_below.specs.SpecCuts.{choice_room}
-use Rattle.ygg_sym_below.proofs.Blocks.{BlockOfSpec, block_made_gives, block_made_grows, low_stands, values_worth}
-use Rattle.ygg_sym_below.proofs.Chosen.{backs, block_end}
-use Rattle.ygg_sym_below.proofs.Specs.{PickMeans}
+use Rattle.ygg_sym_runs.specs.Lows.{low_worth}
+use Rattle.ygg_sym_runs.specs.SpecCuts.{choice_room}
+use Rattle.ygg_sym_runs.proofs.Blocks.{BlockOfSpec, block_made_gives, block_made_grows, low_stands, values_worth}
+use Rattle.ygg_sym_runs.proofs.Chosen.{backs, block_end}
+use Rattle.ygg_sym_runs.proofs.Specs.{PickMeans}
 use Rattle.ygg_sym_expr.proofs.Definitions.{functions_mean}
 use Rattle.ygg_sym_expr.proofs.Grows.{FunctionsGrow, functions_grow}
 use Rattle.ygg_sym_expr.proofs.Values.{FunctionsMean}

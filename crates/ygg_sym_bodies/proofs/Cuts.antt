@@ -23,20 +23,20 @@ use Rattle.ygg_bank.specs.declared.node.Id.{Id}
 use Rattle.ygg_bank.specs.declared.node.Node.{Node}
 use Rattle.ygg_shape_cells.specs.declared.terms.SymValue.{SymValue}
 use Rattle.ygg_sym_runs.specs.Meaning.{is_set}
-use Rattle.ygg_sym_below.specs.Laws.{picked_by}
-use Rattle.ygg_sym_below.specs.Lows.{LowShaped, low_worth}
-use Rattle.ygg_sym_below.specs.Specs.{input_pick}
-use Rattle.ygg_sym_below.specs.Stops.{halt}
-use Rattle.ygg_sym_below.proofs.Lows.{low_wider}
-use Rattle.ygg_sym_below.proofs.Specs.{input_pick_means}
+use Rattle.ygg_sym_runs.specs.Laws.{picked_by}
+use Rattle.ygg_sym_runs.specs.Lows.{LowShaped, low_worth}
+use Rattle.ygg_sym_runs.specs.Specs.{input_pick}
+use Rattle.ygg_sym_runs.specs.Stops.{halt}
+use Rattle.ygg_sym_runs.proofs.Lows.{low_wider}
+use Rattle.ygg_sym_runs.proofs.Specs.{input_pick_means}
 use Rattle.ygg_sym_laws.specs.Below.{failure_room, lost_made, signatures_on, zeros_made}
 use Rattle.ygg_sym_laws.specs.Means.{Begins, Values3, terms_of}
 use Rattle.ygg_sym_laws.specs.Typed.{BlockTyped, SpecBlockTyped}
 use Rattle.ygg_sym_laws.proofs.Zeros.{zeros_made_grow}
 use Rattle.ygg_fronts.specs.Fronts.{loss_picks}
 use Rattle.ygg_fronts.specs.Laws.{FallsThere}
-use Rattle.ygg_sym_fronts.specs.Laws.{OverTyped}
-use Rattle.ygg_sym_fronts.proofs.AnyLayer.{falls_are_named, loss_is_named}
+use Rattle.ygg_fronts.specs.SymLaws.{OverTyped}
+use Rattle.ygg_fronts.proofs.AnyLayer.{falls_are_named, loss_is_named}
 use Rattle.ygg_sym_bodies.specs.Runs.{Ending, IsMade, calls_of, cut_body}
 use Rattle.ygg_sym_bodies.specs.Sites.{IsShaped, Site}
 use Rattle.ygg_sym_bodies.specs.Worths.{AreWorth, CutBits, CutsAsAny, CutsAsNamed, SameBits, args_worth, below_worth, fall_takes, stop_at, vars_worth}

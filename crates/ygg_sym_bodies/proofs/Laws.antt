@@ -15,15 +15,15 @@ use Rattle.ygg_bank.specs.Values.{Inputs, Values, Fits}
 use Rattle.ygg_bank.specs.declared.node.Node.{Node}
 use Rattle.ygg_bank.specs.declared.node.Node.TheVariants.{Const}
 use Rattle.ygg_sym_runs.specs.Meaning.{is_set}
-use Rattle.ygg_sym_below.proofs.Specs.{PickMeans, given_pick_means, input_pick_means}
+use Rattle.ygg_sym_runs.proofs.Specs.{PickMeans, given_pick_means, input_pick_means}
 use Rattle.ygg_sym_laws.specs.Below.{signatures_on}
 use Rattle.ygg_sym_laws.specs.Means.{LossMeans, WholeMeans, FallMeans}
 use Rattle.ygg_sym_laws.specs.Typed.{BlockTyped}
-use Rattle.ygg_sym_laws_disk.proofs.Falls.{disk_falls}
-use Rattle.ygg_sym_laws_disk.proofs.Loss.{disk_loss}
-use Rattle.ygg_sym_laws_disk.proofs.Whole.{disk_whole}
-use Rattle.ygg_sym_laws_spec.proofs.AnyLayer.{spec_falls, spec_loss, spec_whole}
-use Rattle.ygg_sym_fronts.specs.Laws.{OverTyped}
+use Rattle.ygg_sym_laws.proofs.DiskFalls.{disk_falls}
+use Rattle.ygg_sym_laws.proofs.Loss.{disk_loss}
+use Rattle.ygg_sym_laws.proofs.DiskWhole.{disk_whole}
+use Rattle.ygg_sym_laws.proofs.AnyLayer.{spec_falls, spec_loss, spec_whole}
+use Rattle.ygg_fronts.specs.SymLaws.{OverTyped}
 use Rattle.ygg_sym_bodies.specs.Runs.{pick_made}
 use Rattle.ygg_sym_bodies.specs.Worths.{bits_named}
 

@@ -18,7 +18,7 @@ use Rattle.ygg_eval_lower.specs.declared.body.Body.{Body}
 use Rattle.ygg_eval_lower.specs.declared.body.Part.{Part}
 use Rattle.ygg_eval_lower.specs.declared.body.Part.TheVariants.{Start, Spec, OnCrash, Crash, Format, Impl, Tick, Recover}
 use Rattle.ygg_sym_laws.specs.Below.{zeros_made}
-use Rattle.ygg_sym_fronts.specs.Laws.{OverTyped}
+use Rattle.ygg_fronts.specs.SymLaws.{OverTyped}
 use Rattle.ygg_sym_spec.specs.Layers.{closed}
 use Rattle.ygg_sym.specs.Running.{CanRunBlock}
 use Rattle.ygg_sym.specs.Sites.{below_in}

@@ -12,10 +12,10 @@ use Rattle.ygg_shape_cells.specs.declared.terms.SymValue.{SymValue}
 use Rattle.ygg_sym_expr.specs.Names.{sym_bind}
 use Rattle.ygg_sym_runs.specs.Meaning.{AnswerShaped}
 use Rattle.ygg_sym_runs.proofs.Zeros.{zero_values, zeros, zeros_fit}
-use Rattle.ygg_sym_below.specs.Disks.{Done, done}
-use Rattle.ygg_sym_below.specs.Lows.{LowShaped}
-use Rattle.ygg_sym_below.proofs.Lows.{low_wider}
-use Rattle.ygg_sym_below.specs.SpecCuts.{block_made}
+use Rattle.ygg_sym_runs.specs.Disks.{Done, done}
+use Rattle.ygg_sym_runs.specs.Lows.{LowShaped}
+use Rattle.ygg_sym_runs.proofs.Lows.{low_wider}
+use Rattle.ygg_sym_runs.specs.SpecCuts.{block_made}
 use Rattle.ygg_sym_spec.specs.Layers.{block_of, closed, terms_in}
 use Rattle.ygg_sym_spec.specs.Picking.{picking}
 use Rattle.ygg_sym_spec.specs.declared.picks.SymPicks.{SymPicks}

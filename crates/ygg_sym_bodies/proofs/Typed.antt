@@ -15,7 +15,7 @@ use Rattle.ygg_syntax.specs.declared.tree.Tick as tick
 use Rattle.ygg_meaning.specs.Layer.{ClosedLayer}
 use Rattle.ygg_meaning.specs.Meaning.{functions_of}
 use Rattle.ygg_meaning.specs.Refines.{Below}
-use Rattle.ygg_histories.specs.Stack.{Layers, below_of, layers_of}
+use Rattle.ygg_meaning.specs.Stack.{Layers, below_of, layers_of}
 use Rattle.ygg_type_progress.specs.Kinds.{may_call}
 use Rattle.ygg_eval_lower.specs.Bodies.{IsBlock, arguments_in, block_in, kind_of, variables_in}
 use Rattle.ygg_eval_lower.specs.Layers.{below_at, closed_at, variables_at}
@@ -25,8 +25,8 @@ use Rattle.ygg_eval_lower.specs.declared.body.Part.TheVariants.{Start, Spec, OnC
 use Rattle.ygg_eval_lower.proofs.Numbers.{below_is_numbered, numbered_is_listed}
 use Rattle.ygg_sym_laws.specs.Below.{signatures_on}
 use Rattle.ygg_sym_laws.specs.Typed.{BlockTyped, SpecBlockTyped}
-use Rattle.ygg_oblige_terms.specs.Layers.{LayerTyped, OperationFits}
-use Rattle.ygg_oblige_typed.specs.Layers.{LayersTyped}
+use Rattle.ygg_oblige_pieces.specs.Layers.{LayerTyped, OperationFits}
+use Rattle.ygg_oblige_laws.specs.TypedLayers.{LayersTyped}
 use Rattle.ygg_sym_spec.specs.Layers.{closed}
 use Rattle.ygg_sym.specs.Kept.{AreKept}
 use Rattle.ygg_sym.specs.Sites.{SameDefs, below_in}

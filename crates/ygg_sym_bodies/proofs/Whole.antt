@@ -22,14 +22,14 @@ use Rattle.ygg_bank.specs.declared.node.Node.{Node}
 use Rattle.ygg_bank.specs.declared.node.Node.TheVariants.{Const}
 use Rattle.ygg_shape_cells.specs.declared.terms.SymValue.{SymValue}
 use Rattle.ygg_sym_runs.specs.Meaning.{answer_worth, is_set}
-use Rattle.ygg_sym_below.specs.Lows.{low_worth}
-use Rattle.ygg_sym_below.proofs.Chosen.{block_end}
-use Rattle.ygg_sym_below.proofs.Lows.{low_wider}
+use Rattle.ygg_sym_runs.specs.Lows.{low_worth}
+use Rattle.ygg_sym_runs.proofs.Chosen.{block_end}
+use Rattle.ygg_sym_runs.proofs.Lows.{low_wider}
 use Rattle.ygg_sym_laws.specs.Below.{signatures_on}
 use Rattle.ygg_sym_laws.specs.Means.{Begins, Values3}
 use Rattle.ygg_sym_laws.specs.Typed.{BlockTyped, SpecBlockTyped}
-use Rattle.ygg_sym_fronts.specs.Laws.{OverTyped}
-use Rattle.ygg_sym_fronts.proofs.AnyLayer.{runs_are_named}
+use Rattle.ygg_fronts.specs.SymLaws.{OverTyped}
+use Rattle.ygg_fronts.proofs.AnyLayer.{runs_are_named}
 use Rattle.ygg_sym_bodies.specs.Runs.{Ending, IsMade, pick_made, places_of, whole_body}
 use Rattle.ygg_sym_bodies.specs.Sites.{IsShaped, Site}
 use Rattle.ygg_sym_bodies.specs.Worths.{

@@ -12,8 +12,8 @@ use Rattle.ygg_bank.specs.declared.node.Node.TheVariants.{Const}
 use Rattle.ygg_shape_cells.specs.declared.terms.SymValue.{SymValue}
 use Rattle.ygg_sym_expr.specs.Names.{sym_bind}
 use Rattle.ygg_sym_runs.specs.Meaning.{AnswerShaped}
-use Rattle.ygg_sym_below.specs.SpecCuts.{block_made, choice_room}
-use Rattle.ygg_sym_below.specs.Specs.{given_pick, input_pick}
+use Rattle.ygg_sym_runs.specs.SpecCuts.{block_made, choice_room}
+use Rattle.ygg_sym_runs.specs.Specs.{given_pick, input_pick}
 use Rattle.ygg_sym_laws.specs.Below.{cut_made, failure_room, lost_made, places_on, run_made, zeros_made}
 use Rattle.ygg_sym_laws.specs.Means.{terms_of, values_in}
 use Rattle.ygg_sym_bodies.specs.Sites.{IsShaped, Site}

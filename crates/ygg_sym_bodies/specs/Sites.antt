@@ -10,7 +10,7 @@ use Rattle.ygg_meaning.specs.Machine.{Picks}
 use Rattle.ygg_meaning.specs.Refines.{Below}
 use Rattle.ygg_type_progress.specs.Kinds.{may_call, may_choose}
 use Rattle.ygg_bank.specs.declared.node.Node.{Node}
-use Rattle.ygg_sym_below.specs.Lows.{LowShaped}
+use Rattle.ygg_sym_runs.specs.Lows.{LowShaped}
 use Rattle.ygg_eval_lower.specs.Bodies.{IsBlock, arguments_in, kind_of, variables_in}
 use Rattle.ygg_eval_lower.specs.Layers.{below_at, closed_at}
 use Rattle.ygg_eval_lower.specs.declared.body.Body.{Body}

@@ -11,9 +11,9 @@ use Rattle.ygg_meaning.specs.Spec.{block_outcome, chosen}
 use Rattle.ygg_bank.specs.Values.{Inputs, Values, Fits}
 use Rattle.ygg_bank.specs.declared.node.Node.{Node}
 use Rattle.ygg_sym_runs.specs.Meaning.{answer_worth, is_set}
-use Rattle.ygg_sym_below.specs.Laws.{picked_by}
-use Rattle.ygg_sym_below.specs.Lows.{low_worth}
-use Rattle.ygg_sym_below.specs.Stops.{halt}
+use Rattle.ygg_sym_runs.specs.Laws.{picked_by}
+use Rattle.ygg_sym_runs.specs.Lows.{low_worth}
+use Rattle.ygg_sym_runs.specs.Stops.{halt}
 use Rattle.ygg_sym_laws.specs.Below.{failure_room}
 use Rattle.ygg_sym_spec.specs.Picking.{bit_in}
 use Rattle.ygg_fronts.specs.Fronts.{fall_picks, loss_picks, run_picks, run_stop}

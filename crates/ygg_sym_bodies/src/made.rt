@@ -4,8 +4,8 @@ ghost use Rattle.std.specs.Prelude.{◌≡◌, ◌+◌, List, IfOk, None};
 ghost use Rattle.std.specs.Option.{option_copied};
 ghost use Rattle.ygg_rules.specs.declared.rule.RuleKind.{RuleKind};
 ghost use Rattle.ygg_bank.specs.Nodes.{Extends, HasWidth, IsBank};
-ghost use Rattle.ygg_sym_below.specs.Lows.{LowShaped};
-ghost use Rattle.ygg_sym_below.specs.SpecCuts.{choice_room};
+ghost use Rattle.ygg_sym_runs.specs.Lows.{LowShaped};
+ghost use Rattle.ygg_sym_runs.specs.SpecCuts.{choice_room};
 ghost use Rattle.ygg_sym_runs.specs.Lower.{SingleFrom};
 ghost use Rattle.ygg_sym_spec.specs.Picking.{first_number, picking};
 ghost use Rattle.ygg_sym.specs.Running.{CanRunBlock};
@@ -34,7 +34,7 @@ use ygg_base::Bits;
 use ygg_rules::Book;
 use ygg_shape_cells::SymValues;
 use ygg_sym::{SymBlock, SymPicks, block, cut, failure_room, lost, places, run};
-use ygg_sym_spec_stops::choices;
+use ygg_sym_spec::choices;
 use ygg_syntax::tree::Block;
 
 /// The picks of a block that runs on no machine: those that are given, or inputs from a number on.

@@ -3,7 +3,7 @@
 ghost use Rattle.std.specs.Prelude.{◌≡◌, ◌<◌, ◌≤◌, length, slice_get, Some};
 ghost use Rattle.ygg_syntax.specs.declared.tree.Block as block;
 ghost use Rattle.ygg_syntax.specs.declared.tree.Layer as layer;
-ghost use Rattle.ygg_histories.specs.Stack.{tables_of};
+ghost use Rattle.ygg_meaning.specs.Stack.{tables_of};
 ghost use Rattle.ygg_type_progress.specs.Kinds.{may_call};
 ghost use Rattle.ygg_eval_lower.specs.Bodies.{IsBlock, kind_of};
 ghost use Rattle.ygg_eval_lower.specs.Layers.{below_at, variables_at};

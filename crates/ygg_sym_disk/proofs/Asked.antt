@@ -1,30 +1,30 @@
 -- What a call on a disk wants follows from what a typed block may ask; and what calls keep.
 use Rattle.std.proofs.Common.{◌≡◌, ℕ, Some, List, [], ◌∷◌, map, sym, subst, Result, Ok, Err, OnOk, Bor}
 use Rattle.ygg_syntax.specs.declared.tree.DiskText.{DiskText}
-use Rattle.ygg_sym_below.specs.ygg_type_rules.Files.{disk_operations}
-use Rattle.ygg_sym_below.specs.ygg_direct_proofs_DiskServes.{fitting_call}
-use Rattle.ygg_sym_below.specs.ygg_rules.declared.rule.RuleKind.{RuleKind}
-use Rattle.ygg_sym_below.specs.ygg_bank_proofs_Widths.{stands}
-use Rattle.ygg_sym_below.specs.ygg_bank.Nodes.{IsBank}
-use Rattle.ygg_sym_below.specs.ygg_bank.Values.{Inputs, Values, value_of}
-use Rattle.ygg_sym_below.specs.ygg_bank.declared.node.Id.{Id}
-use Rattle.ygg_sym_below.specs.ygg_bank.declared.node.Node.{Node}
-use Rattle.ygg_sym_below.proofs.of_ygg_shape.Answered.{no_inputs, some_fit}
-use Rattle.ygg_sym_below.specs.ygg_shape.Wholes.{AllAlike}
-use Rattle.ygg_sym_below.specs.ygg_shape_cells.Terms.{AreShaped, worth}
-use Rattle.ygg_sym_below.specs.ygg_shape_cells.declared.terms.SymValue.{SymValue}
+use Rattle.ygg_sym_runs.specs.ygg_type_rules.Files.{disk_operations}
+use Rattle.ygg_sym_runs.specs.ygg_direct_proofs_DiskServes.{fitting_call}
+use Rattle.ygg_sym_runs.specs.ygg_rules.declared.rule.RuleKind.{RuleKind}
+use Rattle.ygg_sym_runs.specs.ygg_bank_proofs_Widths.{stands}
+use Rattle.ygg_sym_runs.specs.ygg_bank.Nodes.{IsBank}
+use Rattle.ygg_sym_runs.specs.ygg_bank.Values.{Inputs, Values, value_of}
+use Rattle.ygg_sym_runs.specs.ygg_bank.declared.node.Id.{Id}
+use Rattle.ygg_sym_runs.specs.ygg_bank.declared.node.Node.{Node}
+use Rattle.ygg_sym_runs.proofs.of_ygg_shape.Answered.{no_inputs, some_fit}
+use Rattle.ygg_sym_runs.specs.ygg_shape.Wholes.{AllAlike}
+use Rattle.ygg_sym_runs.specs.ygg_shape_cells.Terms.{AreShaped, worth}
+use Rattle.ygg_sym_runs.specs.ygg_shape_cells.declared.terms.SymValue.{SymValue}
 use Rattle.ygg_syntax.specs.declared.tree.Declared.{Declared}
-use Rattle.ygg_sym_below.specs.ygg_meaning.Shapes.{shape_in}
-use Rattle.ygg_sym_below.specs.ygg_sym_runs.Lower.{CanAsk, KeepsSingle, SingleFrom, question_of}
-use Rattle.ygg_sym_below.specs.ygg_sym_runs.declared.question.Awaited as asked
-use Rattle.ygg_sym_below.specs.ygg_sym_runs.declared.question.Awaited.TheVariants as question
-use Rattle.ygg_sym_below.specs.ygg_sym_runs.Runs.{SymQuestion}
-use Rattle.ygg_sym_below.proofs.of_ygg_sym_runs.Singles.{single_stays, input_single}
-use Rattle.ygg_sym_below.specs.Disks.{SymCall, Read, Write, Flush, sym_call, disk_handles}
-use Rattle.ygg_sym_below.specs.Lows.{LowShaped, merge_lows}
-use Rattle.ygg_sym_below.proofs.Disks.{CallShaped, ask_is}
-use Rattle.ygg_sym_below.proofs.DiskKeeps.{disk_keeps}
-use Rattle.ygg_sym_below.proofs.of_ygg_shape.Whole.{merged_all_keeps}
+use Rattle.ygg_sym_runs.specs.ygg_meaning.Shapes.{shape_in}
+use Rattle.ygg_sym_runs.specs.Lower.{CanAsk, KeepsSingle, SingleFrom, question_of}
+use Rattle.ygg_sym_runs.specs.declared.question.Awaited as asked
+use Rattle.ygg_sym_runs.specs.declared.question.Awaited.TheVariants as question
+use Rattle.ygg_sym_runs.specs.Runs.{SymQuestion}
+use Rattle.ygg_sym_runs.proofs.Singles.{single_stays, input_single}
+use Rattle.ygg_sym_runs.specs.Disks.{SymCall, Read, Write, Flush, sym_call, disk_handles}
+use Rattle.ygg_sym_runs.specs.Lows.{LowShaped, merge_lows}
+use Rattle.ygg_sym_runs.proofs.Disks.{CallShaped, ask_is}
+use Rattle.ygg_sym_runs.proofs.DiskKeeps.{disk_keeps}
+use Rattle.ygg_sym_runs.proofs.of_ygg_shape.Whole.{merged_all_keeps}
 use Rattle.ygg_sym_disk.specs.Asking.{CallStands}
 use Rattle.ygg_sym_disk.specs.Means.{disk_meaning}
 use Rattle.ygg_sym_disk.specs.declared.lower.SymDisk.{SymDisk}

@@ -1,5 +1,5 @@
-pub use Rattle.ygg_sym_below.proofs.of_ygg_sym_runs
-pub use Rattle.ygg_sym_below.proofs.Specs
-pub use Rattle.ygg_sym_below.proofs.Blocks
+pub use Rattle.ygg_sym_runs.proofs as of_ygg_sym_runs
+pub use Rattle.ygg_sym_runs.proofs.Specs
+pub use Rattle.ygg_sym_runs.proofs.Blocks
 pub mod Stands
 pub mod Asked

@@ -4,17 +4,17 @@ use Rattle.ygg_base.specs.declared.geometry.DiskKind.{DiskKind}
 use Rattle.ygg_base.specs.declared.geometry.DiskKind.TheVariants.{Sync, Async}
 use Rattle.ygg_syntax.specs.declared.tree.Declared.{Declared}
 use Rattle.ygg_syntax.specs.declared.tree.DiskText.{DiskText}
-use Rattle.ygg_sym_below.specs.ygg_histories.Stack.{tables_of_kind}
-use Rattle.ygg_sym_below.specs.ygg_rules.declared.rule.RuleKind.{RuleKind}
-use Rattle.ygg_sym_below.specs.ygg_bank.Nodes.{Extends, HasWidth, IsBank}
-use Rattle.ygg_sym_below.specs.ygg_bank.declared.node.Id.{Id}
-use Rattle.ygg_sym_below.specs.ygg_bank.declared.node.Node.{Node}
-use Rattle.ygg_sym_below.specs.ygg_shape_cells_proofs_Wider.{row_wider, shaped_wider}
-use Rattle.ygg_sym_below.specs.ygg_shape_cells.declared.terms.SymValue.{SymValue}
-use Rattle.ygg_sym_below.specs.ygg_bank.Values.{value_of}
-use Rattle.ygg_sym_below.proofs.of_ygg_shape.Answered.{no_inputs, some_fit}
-use Rattle.ygg_sym_below.specs.Lows.{LowShaped, merge_lows}
-use Rattle.ygg_sym_below.proofs.Lows.{merge_worth}
+use Rattle.ygg_sym_runs.specs.ygg_meaning.Stack.{tables_of_kind}
+use Rattle.ygg_sym_runs.specs.ygg_rules.declared.rule.RuleKind.{RuleKind}
+use Rattle.ygg_sym_runs.specs.ygg_bank.Nodes.{Extends, HasWidth, IsBank}
+use Rattle.ygg_sym_runs.specs.ygg_bank.declared.node.Id.{Id}
+use Rattle.ygg_sym_runs.specs.ygg_bank.declared.node.Node.{Node}
+use Rattle.ygg_sym_runs.specs.ygg_shape_cells_proofs_Wider.{row_wider, shaped_wider}
+use Rattle.ygg_sym_runs.specs.ygg_shape_cells.declared.terms.SymValue.{SymValue}
+use Rattle.ygg_sym_runs.specs.ygg_bank.Values.{value_of}
+use Rattle.ygg_sym_runs.proofs.of_ygg_shape.Answered.{no_inputs, some_fit}
+use Rattle.ygg_sym_runs.specs.Lows.{LowShaped, merge_lows}
+use Rattle.ygg_sym_runs.proofs.Lows.{merge_worth}
 use Rattle.ygg_sym_disk.specs.Asking.{IsDiskRow, IsDiskTable}
 
 -- the first table, among more nodes

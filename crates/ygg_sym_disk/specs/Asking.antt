@@ -2,13 +2,13 @@
 use Rattle.std.specs.Prelude.{◌≤◌, List, [], ◌∷◌, length, Option, Some, None}
 use Rattle.ygg_value.specs.declared.shape.Shape.TheVariants as shape
 use Rattle.ygg_syntax.specs.declared.tree.DiskText.{DiskText}
-use Rattle.ygg_sym_below.specs.ygg_bank.Nodes.{Stands}
-use Rattle.ygg_sym_below.specs.ygg_bank.declared.node.Id.{Id}
-use Rattle.ygg_sym_below.specs.ygg_bank.declared.node.Node.{Node}
-use Rattle.ygg_sym_below.specs.ygg_shape_cells.Terms.{IsRow, IsShaped}
-use Rattle.ygg_sym_below.specs.ygg_shape_cells.declared.terms.SymValue.{SymValue}
-use Rattle.ygg_sym_below.specs.ygg_sym_runs.Putting.{row_in}
-use Rattle.ygg_sym_below.specs.Disks.{SymCall, Read, Write, Flush}
+use Rattle.ygg_sym_runs.specs.ygg_bank.Nodes.{Stands}
+use Rattle.ygg_sym_runs.specs.ygg_bank.declared.node.Id.{Id}
+use Rattle.ygg_sym_runs.specs.ygg_bank.declared.node.Node.{Node}
+use Rattle.ygg_sym_runs.specs.ygg_shape_cells.Terms.{IsRow, IsShaped}
+use Rattle.ygg_sym_runs.specs.ygg_shape_cells.declared.terms.SymValue.{SymValue}
+use Rattle.ygg_sym_runs.specs.Putting.{row_in}
+use Rattle.ygg_sym_runs.specs.Disks.{SymCall, Read, Write, Flush}
 use Rattle.ygg_sym_disk.specs.declared.asking.Ask.{Ask}
 use Rattle.ygg_sym_disk.specs.declared.asking.Ask.TheVariants as ask
 

@@ -1,7 +1,7 @@
 -- A disk over terms does what it means.
 use Rattle.std.proofs.Common.{false, refl}
-use Rattle.ygg_sym_below.specs.ygg_sym_runs.Lower.{IsLower}
-use Rattle.ygg_sym_below.proofs.Disks.{disk_means}
+use Rattle.ygg_sym_runs.specs.Lower.{IsLower}
+use Rattle.ygg_sym_runs.proofs.Disks.{disk_means}
 use Rattle.ygg_sym_disk.specs.Means.{disk_meaning}
 use Rattle.ygg_sym_disk.specs.declared.lower.SymDisk.{SymDisk}
 

@@ -1,18 +1,18 @@
 -- What a disk over terms is as the machine on which a block runs.
 use Rattle.std.specs.Prelude.{false, IsTrue, List}
 use Rattle.ygg_syntax.specs.declared.grammar.BlockKind.TheVariants.{Impl}
-use Rattle.ygg_sym_below.specs.ygg_type_rules.TypeErrors.{none}
-use Rattle.ygg_sym_below.specs.ygg_type_rules.Files.{disk_errors, disk_operations}
-use Rattle.ygg_sym_below.specs.ygg_meaning.Environments.{Env}
-use Rattle.ygg_sym_below.specs.ygg_meaning.Machine.{State}
-use Rattle.ygg_sym_below.specs.ygg_histories.Stack.{tables_of}
-use Rattle.ygg_sym_below.specs.ygg_direct.RunPlaces.{disk_space}
-use Rattle.ygg_sym_below.specs.ygg_shape_cells.declared.terms.SymValue.{SymValue}
-use Rattle.ygg_sym_below.specs.ygg_sym_runs.Lower.{SymMeaning}
-use Rattle.ygg_sym_below.specs.Disks.{sym_disk}
-use Rattle.ygg_sym_below.specs.Laws.{picked_by}
-use Rattle.ygg_sym_below.proofs.Disks.{disk_at}
-use Rattle.ygg_sym_below.proofs.Lows.{low_of}
+use Rattle.ygg_sym_runs.specs.ygg_type_rules.TypeErrors.{none}
+use Rattle.ygg_sym_runs.specs.ygg_type_rules.Files.{disk_errors, disk_operations}
+use Rattle.ygg_sym_runs.specs.ygg_meaning.Environments.{Env}
+use Rattle.ygg_sym_runs.specs.ygg_meaning.Machine.{State}
+use Rattle.ygg_sym_runs.specs.ygg_meaning.Stack.{tables_of}
+use Rattle.ygg_sym_runs.specs.ygg_direct.RunPlaces.{disk_space}
+use Rattle.ygg_sym_runs.specs.ygg_shape_cells.declared.terms.SymValue.{SymValue}
+use Rattle.ygg_sym_runs.specs.Lower.{SymMeaning}
+use Rattle.ygg_sym_runs.specs.Disks.{sym_disk}
+use Rattle.ygg_sym_runs.specs.Laws.{picked_by}
+use Rattle.ygg_sym_runs.proofs.Disks.{disk_at}
+use Rattle.ygg_sym_runs.proofs.Lows.{low_of}
 use Rattle.ygg_sym_disk.specs.declared.lower.SymDisk.{SymDisk}
 
 -- a disk without type errors in the file's text, with inputs as picks from a number on, by place

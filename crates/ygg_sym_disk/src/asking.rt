@@ -1,15 +1,15 @@
 //! Which call is asked of a disk.
 
 ghost use Rattle.std.specs.Prelude.{◌≡◌, ◌<◌, length};
-ghost use Rattle.ygg_sym_below.specs.Exprs.{id_in};
-ghost use Rattle.ygg_sym_below.specs.ygg_sym_runs.Putting.{row_in};
-ghost use Rattle.ygg_sym_below.specs.Disks.{sym_call};
+ghost use Rattle.ygg_sym_runs.specs.Exprs.{id_in};
+ghost use Rattle.ygg_sym_runs.specs.Putting.{row_in};
+ghost use Rattle.ygg_sym_runs.specs.Disks.{sym_call};
 ghost use Rattle.ygg_sym_disk.specs.Asking.{HasRow, asked_call};
 
-use ygg_sym_below::{Id, SymRow, SymValue};
+use ygg_sym_runs::{Id, SymRow, SymValue};
 
 /// What is asked of a disk, with the place.
-#[derive(Clone, Copy, PartialEq, Eq, Drop)]
+#[derive(Clone, Copy, Drop)]
 pub enum Ask {
     /// No call of a disk.
     Nothing,

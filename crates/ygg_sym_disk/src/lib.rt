@@ -12,4 +12,4 @@ pub use lower::SymDisk;
 pub use lows::{Lows, merge_lows};
 pub use machine::handle;
 pub use power::{cut, lose};
-pub use ygg_sym_below::{Awaited, Bank, Book, Id, NoMemory, SymLower, SymValue};
+pub use ygg_sym_runs::{Awaited, Bank, Book, Id, NoMemory, SymLower, SymValue};

@@ -3,11 +3,11 @@
 use crate::lows::{Lows, merge_lows};
 use crate::machine::handle;
 use std::alloc::Global;
-use ygg_sym_below::{Awaited, Bank, Book, Id, NoMemory, SymLower, SymValue};
+use ygg_sym_runs::{Awaited, Bank, Book, Id, NoMemory, SymLower, SymValue};
 use ygg_syntax::tree::DiskText;
 
 /// A disk over terms, whose picks are inputs of the bank: of each place the one whose number is so much above the first.
-#[derive(Clone, Copy, PartialEq, Eq)]
+#[derive(Clone, Copy)]
 pub struct SymDisk {
     /// Its kind and size.
     pub disk: DiskText,

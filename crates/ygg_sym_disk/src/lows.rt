@@ -2,15 +2,15 @@
 
 ghost use Rattle.std.specs.Prelude.{◌≡◌, IfOk, List, OnOk};
 ghost use Rattle.ygg_syntax.specs.declared.tree.Declared.{Declared};
-ghost use Rattle.ygg_sym_below.specs.ygg_bank.Inputs.{KeepsInputs};
-ghost use Rattle.ygg_sym_below.specs.ygg_bank.Nodes.{Extends, HasWidth, IsBank};
-ghost use Rattle.ygg_sym_below.specs.ygg_shape.Wholes.{AllAlike};
-ghost use Rattle.ygg_sym_below.specs.Lows.{LowShaped, merge_lows};
+ghost use Rattle.ygg_sym_runs.specs.ygg_bank.Inputs.{KeepsInputs};
+ghost use Rattle.ygg_sym_runs.specs.ygg_bank.Nodes.{Extends, HasWidth, IsBank};
+ghost use Rattle.ygg_sym_runs.specs.ygg_shape.Wholes.{AllAlike};
+ghost use Rattle.ygg_sym_runs.specs.Lows.{LowShaped, merge_lows};
 
 use std::alloc::Global;
 use std::marker::Model;
 use ygg_list::Duplicate;
-use ygg_sym_below::{Bank, Book, Id, NoMemory, SymValues, merge_all};
+use ygg_sym_runs::{Bank, Book, Id, NoMemory, SymValues, merge_all};
 
 /// A state of a machine below, which contracts see as its values.
 #[derive(Drop)]
@@ -21,7 +21,7 @@ pub struct Lows {
 
 impl Model for Lows {
     ghost use Rattle.std.specs.Prelude.{List};
-    ghost use Rattle.ygg_sym_below.specs.ygg_shape_cells.declared.terms.SymValue.{SymValue};
+    ghost use Rattle.ygg_sym_runs.specs.ygg_shape_cells.declared.terms.SymValue.{SymValue};
 
     ghost Value = { List SymValue };
 

@@ -2,10 +2,10 @@
 
 ghost use Rattle.std.specs.Prelude.{◌≡◌, ℕ, IfOk, OnOk, [], ◌∷◌};
 ghost use Rattle.ygg_base.specs.declared.geometry.DiskKind.TheVariants.{Sync, Async};
-ghost use Rattle.ygg_sym_below.specs.ygg_bank.Nodes.{Extends, IsBank, OneWidth};
-ghost use Rattle.ygg_sym_below.specs.ygg_histories.Stack.{tables_of, tables_of_kind};
-ghost use Rattle.ygg_sym_below.specs.Disks.{Write, async_does, disk_asked, done, sym_call};
-ghost use Rattle.ygg_sym_below.specs.Lows.{LowShaped};
+ghost use Rattle.ygg_sym_runs.specs.ygg_bank.Nodes.{Extends, IsBank, OneWidth};
+ghost use Rattle.ygg_sym_runs.specs.ygg_meaning.Stack.{tables_of, tables_of_kind};
+ghost use Rattle.ygg_sym_runs.specs.Disks.{Write, async_does, disk_asked, done, sym_call};
+ghost use Rattle.ygg_sym_runs.specs.Lows.{LowShaped};
 ghost use Rattle.ygg_sym_disk.specs.Asking.{CallStands, HasRow, asked_call};
 
 use crate::asking::{Ask, ask_of, row_in};
@@ -13,7 +13,7 @@ use crate::tables::{read, write, write_where};
 use std::alloc::Global;
 use ygg_base::DiskKind;
 use ygg_list::Duplicate;
-use ygg_sym_below::{Bank, Book, Id, NoMemory, Node, SymRow, SymValue, SymValues};
+use ygg_sym_runs::{Bank, Book, Id, NoMemory, Node, SymRow, SymValue, SymValues};
 use ygg_syntax::tree::DiskText;
 
 /// What a disk does with a call, whose pick is the input of this number: the answer. Its only error is out of memory, after which the bank may have

@@ -2,11 +2,11 @@
 
 ghost use Rattle.std.specs.Prelude.{◌≡◌, IfOk, OnOk, Some};
 ghost use Rattle.ygg_base.specs.declared.geometry.DiskKind.TheVariants.{Sync, Async};
-ghost use Rattle.ygg_sym_below.specs.ygg_bank.Nodes.{Extends, IsBank, OneWidth};
-ghost use Rattle.ygg_sym_below.specs.ygg_histories.Stack.{tables_of, tables_of_kind};
-ghost use Rattle.ygg_sym_below.specs.Cuts.{async_cuts, call_cuts, disk_loses, sync_cuts};
-ghost use Rattle.ygg_sym_below.specs.Disks.{Write, sym_call};
-ghost use Rattle.ygg_sym_below.specs.Lows.{LowShaped};
+ghost use Rattle.ygg_sym_runs.specs.ygg_bank.Nodes.{Extends, IsBank, OneWidth};
+ghost use Rattle.ygg_sym_runs.specs.ygg_meaning.Stack.{tables_of, tables_of_kind};
+ghost use Rattle.ygg_sym_runs.specs.Cuts.{async_cuts, call_cuts, disk_loses, sync_cuts};
+ghost use Rattle.ygg_sym_runs.specs.Disks.{Write, sym_call};
+ghost use Rattle.ygg_sym_runs.specs.Lows.{LowShaped};
 ghost use Rattle.ygg_sym_disk.specs.Asking.{CallStands, HasRow, asked_call};
 
 use crate::asking::{Ask, ask_of, row_in};
@@ -14,7 +14,7 @@ use crate::machine::{one_table, twice};
 use crate::tables::write_where;
 use std::alloc::Global;
 use ygg_base::DiskKind;
-use ygg_sym_below::{Bank, Book, Id, NoMemory, Node, SymRow, SymValue, SymValues};
+use ygg_sym_runs::{Bank, Book, Id, NoMemory, Node, SymRow, SymValue, SymValues};
 use ygg_syntax::tree::DiskText;
 
 /// What power loss leaves: of an asynchronous disk, what was stable. Its only error is out of memory.

@@ -1,13 +1,13 @@
 //! One table of a disk over terms.
 
 ghost use Rattle.std.specs.Prelude.{◌≡◌, IfOk, List, OnOk, Some};
-ghost use Rattle.ygg_sym_below.specs.ygg_bank.Nodes.{Extends, HasWidth, IsBank, Stands};
-ghost use Rattle.ygg_sym_below.specs.ygg_shape_cells.declared.terms.SymValue.{SymValue as ValueIs};
-ghost use Rattle.ygg_sym_below.specs.Disks.{done, reads, writes, writes_where};
+ghost use Rattle.ygg_sym_runs.specs.ygg_bank.Nodes.{Extends, HasWidth, IsBank, Stands};
+ghost use Rattle.ygg_sym_runs.specs.ygg_shape_cells.declared.terms.SymValue.{SymValue as ValueIs};
+ghost use Rattle.ygg_sym_runs.specs.Disks.{done, reads, writes, writes_where};
 ghost use Rattle.ygg_sym_disk.specs.Asking.{IsDiskRow, IsDiskTable};
 
 use std::alloc::Global;
-use ygg_sym_below::{Bank, Book, Id, NoMemory, SymRow, SymValue, select, store, store_where};
+use ygg_sym_runs::{Bank, Book, Id, NoMemory, SymRow, SymValue, select, store, store_where};
 use ygg_syntax::tree::DiskText;
 
 /// The row that a table has at a place. Its only error is out of memory, after which the bank may have more nodes.

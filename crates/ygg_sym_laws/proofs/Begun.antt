@@ -2,17 +2,17 @@
 use Rattle.std.proofs.Common.{◌≡◌, true, ◌&&◌, List, [], ◌∷◌, refl, sym, ap, ◌∙◌}
 use Rattle.std.specs.Str.{bytes_eq}
 use Rattle.ygg_syntax.specs.declared.tree.Declared.{Declared}
-use Rattle.ygg_sym_below.specs.ygg_meaning.Environments.{Name}
-use Rattle.ygg_sym_below.specs.ygg_meaning.Shapes.{shape_in, fits, env_fits}
-use Rattle.ygg_sym_below.specs.ygg_type_sound_proofs_Tests.{left as first_of, right as second_of, bytes_same}
-use Rattle.ygg_sym_below.specs.ygg_bank.Values.{Inputs, Values, Fits}
-use Rattle.ygg_sym_below.specs.ygg_bank.declared.node.Node.{Node}
-use Rattle.ygg_sym_below.specs.ygg_rules.declared.rule.RuleKind.{RuleKind}
-use Rattle.ygg_sym_below.specs.ygg_shape_cells.Terms.{worth}
-use Rattle.ygg_sym_below.specs.Names.{SymEnv, sym_bind}
-use Rattle.ygg_sym_below.specs.SymExprMeaning.{EnvShaped, worths}
-use Rattle.ygg_sym_below.specs.Lows.{LowShaped, low_worth}
-use Rattle.ygg_sym_below.proofs.Specs.{lows_back}
+use Rattle.ygg_sym_runs.specs.ygg_meaning.Environments.{Name}
+use Rattle.ygg_sym_runs.specs.ygg_meaning.Shapes.{shape_in, fits, env_fits}
+use Rattle.ygg_sym_runs.specs.ygg_type_sound_proofs_Tests.{left as first_of, right as second_of, bytes_same}
+use Rattle.ygg_sym_runs.specs.ygg_bank.Values.{Inputs, Values, Fits}
+use Rattle.ygg_sym_runs.specs.ygg_bank.declared.node.Node.{Node}
+use Rattle.ygg_sym_runs.specs.ygg_rules.declared.rule.RuleKind.{RuleKind}
+use Rattle.ygg_sym_runs.specs.ygg_shape_cells.Terms.{worth}
+use Rattle.ygg_sym_runs.specs.Names.{SymEnv, sym_bind}
+use Rattle.ygg_sym_runs.specs.SymExprMeaning.{EnvShaped, worths}
+use Rattle.ygg_sym_runs.specs.Lows.{LowShaped, low_worth}
+use Rattle.ygg_sym_runs.proofs.Specs.{lows_back}
 use Rattle.ygg_sym_laws.specs.Means.{values_in}
 
 module _ (inputs : Inputs) (v : Values) where

@@ -2,21 +2,21 @@
 use Rattle.std.proofs.Common.{◌≡◌, List, [], ◌∷◌, refl, ap, ◌∙◌}
 use Rattle.ygg_value.specs.Shapes.{IsShape, zero_of}
 use Rattle.ygg_syntax.specs.declared.tree.Declared.{Declared}
-use Rattle.ygg_sym_below.specs.ygg_meaning.Shapes.{shape_in, zeros_of}
-use Rattle.ygg_sym_below.specs.ygg_rules.declared.rule.RuleKind.{RuleKind}
-use Rattle.ygg_sym_below.specs.ygg_bank_proofs_Meaning.{fits_fewer}
-use Rattle.ygg_sym_below.specs.ygg_bank_proofs_Widths.{extends_self}
-use Rattle.ygg_sym_below.specs.ygg_bank.Nodes.{Extends}
-use Rattle.ygg_sym_below.specs.ygg_bank.Values.{Inputs, Values, Fits}
-use Rattle.ygg_sym_below.specs.ygg_bank.declared.node.Node.{Node}
-use Rattle.ygg_sym_below.specs.ygg_shape_words_proofs_Keeps.{Stays, grows_stays}
-use Rattle.ygg_sym_below.specs.ygg_shape_cells_proofs_Wider.{shaped_wider}
-use Rattle.ygg_sym_below.proofs.of_ygg_shape.Whole.{zero_made_keeps, zero_gives}
-use Rattle.ygg_sym_below.specs.ygg_shape.Wholes.{zero_made}
-use Rattle.ygg_sym_below.specs.SymExprMeaning.{Grows}
-use Rattle.ygg_sym_below.specs.ygg_sym_expr_proofs_Keeps.{Keeps}
-use Rattle.ygg_sym_below.specs.Lows.{LowShaped, low_worth}
-use Rattle.ygg_sym_below.specs.ygg_shape_cells.declared.terms.SymValue.{SymValue}
+use Rattle.ygg_sym_runs.specs.ygg_meaning.Shapes.{shape_in, zeros_of}
+use Rattle.ygg_sym_runs.specs.ygg_rules.declared.rule.RuleKind.{RuleKind}
+use Rattle.ygg_sym_runs.specs.ygg_bank_proofs_Meaning.{fits_fewer}
+use Rattle.ygg_sym_runs.specs.ygg_bank_proofs_Widths.{extends_self}
+use Rattle.ygg_sym_runs.specs.ygg_bank.Nodes.{Extends}
+use Rattle.ygg_sym_runs.specs.ygg_bank.Values.{Inputs, Values, Fits}
+use Rattle.ygg_sym_runs.specs.ygg_bank.declared.node.Node.{Node}
+use Rattle.ygg_sym_runs.specs.ygg_shape_words_proofs_Keeps.{Stays, grows_stays}
+use Rattle.ygg_sym_runs.specs.ygg_shape_cells_proofs_Wider.{shaped_wider}
+use Rattle.ygg_sym_runs.proofs.of_ygg_shape.Whole.{zero_made_keeps, zero_gives}
+use Rattle.ygg_sym_runs.specs.ygg_shape.Wholes.{zero_made}
+use Rattle.ygg_sym_runs.specs.SymExprMeaning.{Grows}
+use Rattle.ygg_sym_runs.specs.ygg_sym_expr_proofs_Keeps.{Keeps}
+use Rattle.ygg_sym_runs.specs.Lows.{LowShaped, low_worth}
+use Rattle.ygg_sym_runs.specs.ygg_shape_cells.declared.terms.SymValue.{SymValue}
 use Rattle.ygg_sym_laws.specs.Below.{zeros_made}
 
 -- the declared shapes keep the limits

@@ -2,31 +2,31 @@
 use Rattle.std.specs.Prelude.{ℕ, List, [], ◌∷◌, map}
 use Rattle.ygg_syntax.specs.declared.tree.Declared.{Declared}
 use Rattle.ygg_syntax.specs.declared.tree.Block.{Block}
-use Rattle.ygg_sym_below.specs.ygg_symbols.Names.{Named}
-use Rattle.ygg_sym_below.specs.ygg_type_rules.declared.scope.Signature.{Signature}
-use Rattle.ygg_sym_below.specs.ygg_type_rules.Files.{disk_operations}
-use Rattle.ygg_sym_below.specs.ygg_meaning.Environments.{Name}
-use Rattle.ygg_sym_below.specs.ygg_meaning.Shapes.{shape_in}
-use Rattle.ygg_sym_below.specs.ygg_meaning.Refines.{Below, OnDisk, OnSpec}
-use Rattle.ygg_sym_below.specs.ygg_histories.Stack.{tables_of}
-use Rattle.ygg_sym_below.specs.ygg_type_rules.Layers.{operation_signature}
+use Rattle.ygg_sym_runs.specs.ygg_symbols.Names.{Named}
+use Rattle.ygg_sym_runs.specs.ygg_type_rules.declared.scope.Signature.{Signature}
+use Rattle.ygg_sym_runs.specs.ygg_type_rules.Files.{disk_operations}
+use Rattle.ygg_sym_runs.specs.ygg_meaning.Environments.{Name}
+use Rattle.ygg_sym_runs.specs.ygg_meaning.Shapes.{shape_in}
+use Rattle.ygg_sym_runs.specs.ygg_meaning.Refines.{Below, OnDisk, OnSpec}
+use Rattle.ygg_sym_runs.specs.ygg_meaning.Stack.{tables_of}
+use Rattle.ygg_sym_runs.specs.ygg_type_rules.Layers.{operation_signature}
 use Rattle.ygg_syntax.specs.declared.tree.Operation.{Operation}
-use Rattle.ygg_sym_below.specs.ygg_meaning.Layer.{ClosedLayer}
-use Rattle.ygg_sym_below.specs.ygg_rules.declared.rule.RuleKind.{RuleKind}
-use Rattle.ygg_sym_below.specs.ygg_bank.Makes.{Make, pure, and_make}
-use Rattle.ygg_sym_below.specs.ygg_shape_cells.declared.terms.SymValue.{SymValue}
-use Rattle.ygg_sym_below.specs.ygg_shape.Wholes.{zero_made}
-use Rattle.ygg_sym_below.specs.Direct.{room_of}
-use Rattle.ygg_sym_below.specs.RunPlaces.{disk_space, spec_space}
-use Rattle.ygg_sym_below.specs.Names.{SymEnv}
-use Rattle.ygg_sym_below.specs.Exprs.{SymFunctions}
-use Rattle.ygg_sym_below.specs.Runs.{SymMachine}
-use Rattle.ygg_sym_below.specs.Disks.{sym_disk}
-use Rattle.ygg_sym_below.specs.Cuts.{disk_loses, disk_stops}
-use Rattle.ygg_sym_below.specs.Specs.{input_pick, given_pick, sym_spec}
-use Rattle.ygg_sym_below.specs.SpecCuts.{block_made, crash_made, spec_stops, fall_room}
-use Rattle.ygg_sym_below.specs.StopTerms.{Stops, SymFallen, stop_whole}
-use Rattle.ygg_sym_below.specs.Wholes.{SymFinish, sym_whole}
+use Rattle.ygg_sym_runs.specs.ygg_meaning.Layer.{ClosedLayer}
+use Rattle.ygg_sym_runs.specs.ygg_rules.declared.rule.RuleKind.{RuleKind}
+use Rattle.ygg_sym_runs.specs.ygg_bank.Makes.{Make, pure, and_make}
+use Rattle.ygg_sym_runs.specs.ygg_shape_cells.declared.terms.SymValue.{SymValue}
+use Rattle.ygg_sym_runs.specs.ygg_shape.Wholes.{zero_made}
+use Rattle.ygg_sym_runs.specs.Direct.{room_of}
+use Rattle.ygg_sym_runs.specs.RunPlaces.{disk_space, spec_space}
+use Rattle.ygg_sym_runs.specs.Names.{SymEnv}
+use Rattle.ygg_sym_runs.specs.Exprs.{SymFunctions}
+use Rattle.ygg_sym_runs.specs.Runs.{SymMachine}
+use Rattle.ygg_sym_runs.specs.Disks.{sym_disk}
+use Rattle.ygg_sym_runs.specs.Cuts.{disk_loses, disk_stops}
+use Rattle.ygg_sym_runs.specs.Specs.{input_pick, given_pick, sym_spec}
+use Rattle.ygg_sym_runs.specs.SpecCuts.{block_made, crash_made, spec_stops, fall_room}
+use Rattle.ygg_sym_runs.specs.StopTerms.{Stops, SymFallen, stop_whole}
+use Rattle.ygg_sym_runs.specs.Wholes.{SymFinish, sym_whole}
 
 -- the variables of its state: the disk's tables, or the specification's variables
 abbrev pub lows_on : Below → List Declared

@@ -1,80 +1,80 @@
-pub use Rattle.ygg_sym_below.specs.ygg_bank_proofs_Exist
-pub use Rattle.ygg_sym_below.specs.ygg_bank_proofs_Inputs
-pub use Rattle.ygg_sym_below.specs.ygg_bank_proofs_Made
-pub use Rattle.ygg_sym_below.specs.ygg_bank_proofs_Meaning
-pub use Rattle.ygg_sym_below.specs.ygg_bank_proofs_Widths
-pub use Rattle.ygg_sym_below.specs.ygg_bank
-pub use Rattle.ygg_sym_below.specs.ygg_direct_proofs_Choosing
-pub use Rattle.ygg_sym_below.specs.ygg_direct_proofs_DiskServes
-pub use Rattle.ygg_sym_below.specs.ygg_direct_proofs_Order
-pub use Rattle.ygg_sym_below.specs.ygg_direct_proofs_Placing
-pub use Rattle.ygg_sym_below.specs.ygg_direct_proofs_Rooms
-pub use Rattle.ygg_sym_below.specs.ygg_direct_proofs_RunPlacing
-pub use Rattle.ygg_sym_below.specs.ygg_direct_proofs_SpecServes
-pub use Rattle.ygg_sym_below.specs.ygg_direct
-pub use Rattle.ygg_sym_below.specs.ygg_disk
-pub use Rattle.ygg_sym_below.specs.ygg_histories
-pub use Rattle.ygg_sym_below.specs.ygg_meaning
-pub use Rattle.ygg_sym_below.specs.ygg_rules
-pub use Rattle.ygg_sym_below.specs.ygg_shape_proofs_Grows
-pub use Rattle.ygg_sym_below.specs.ygg_shape_proofs_Keeps
-pub use Rattle.ygg_sym_below.specs.ygg_shape_proofs_Makers
-pub use Rattle.ygg_sym_below.specs.ygg_shape
-pub use Rattle.ygg_sym_below.specs.ygg_shape_cells_proofs_Wider
-pub use Rattle.ygg_sym_below.specs.ygg_shape_cells
-pub use Rattle.ygg_sym_below.specs.ygg_shape_words_proofs_Fit
-pub use Rattle.ygg_sym_below.specs.ygg_shape_words_proofs_Keeps
-pub use Rattle.ygg_sym_below.specs.ygg_shape_words_proofs_Terms
-pub use Rattle.ygg_sym_below.specs.ygg_shape_words
-pub use Rattle.ygg_sym_below.proofs.Chosen as ygg_sym_below_proofs_Chosen
-pub use Rattle.ygg_sym_below.proofs.Cuts as ygg_sym_below_proofs_Cuts
-pub use Rattle.ygg_sym_below.proofs.Disks as ygg_sym_below_proofs_Disks
-pub use Rattle.ygg_sym_below.proofs.Lows as ygg_sym_below_proofs_Lows
-pub use Rattle.ygg_sym_below.proofs.SpecFalls as ygg_sym_below_proofs_SpecFalls
-pub use Rattle.ygg_sym_below.proofs.SpecMeans as ygg_sym_below_proofs_SpecMeans
-pub use Rattle.ygg_sym_below.proofs.SpecStops as ygg_sym_below_proofs_SpecStops
-pub use Rattle.ygg_sym_below.proofs.Specs as ygg_sym_below_proofs_Specs
-pub use Rattle.ygg_sym_below.proofs.Whole as ygg_sym_below_proofs_Whole
-pub use Rattle.ygg_sym_below.specs as ygg_sym_below
-pub use Rattle.ygg_sym_below.specs.ygg_sym_expr_proofs_Definitions
-pub use Rattle.ygg_sym_below.specs.ygg_sym_expr_proofs_Grows
-pub use Rattle.ygg_sym_below.specs.ygg_sym_expr_proofs_Keeps
-pub use Rattle.ygg_sym_below.specs.ygg_sym_expr_proofs_Shaped
-pub use Rattle.ygg_sym_below.specs.ygg_sym_expr_proofs_Values
-pub use Rattle.ygg_sym_below.specs.ygg_sym_expr
-pub use Rattle.ygg_sym_below.specs.ygg_sym_runs
-pub use Rattle.ygg_sym_below.specs.ygg_symbols
-pub use Rattle.ygg_sym_below.specs.ygg_syntax_count
-pub use Rattle.ygg_sym_below.specs.ygg_type_progress_proofs_Files
-pub use Rattle.ygg_sym_below.specs.ygg_type_progress_proofs_Fits
-pub use Rattle.ygg_sym_below.specs.ygg_type_progress_proofs_Following
-pub use Rattle.ygg_sym_below.specs.ygg_type_progress_proofs_Operations
-pub use Rattle.ygg_sym_below.specs.ygg_type_progress_proofs_Sizes
-pub use Rattle.ygg_sym_below.specs.ygg_type_progress_proofs_Specs
-pub use Rattle.ygg_sym_below.specs.ygg_type_progress_proofs_TypeErrors
-pub use Rattle.ygg_sym_below.specs.ygg_type_progress_proofs_Typed
-pub use Rattle.ygg_sym_below.specs.ygg_type_progress
-pub use Rattle.ygg_sym_below.specs.ygg_type_rules
-pub use Rattle.ygg_sym_below.specs.ygg_type_sound_proofs_Definitions
-pub use Rattle.ygg_sym_below.specs.ygg_type_sound_proofs_Fits
-pub use Rattle.ygg_sym_below.specs.ygg_type_sound_proofs_Parameters
-pub use Rattle.ygg_sym_below.specs.ygg_type_sound_proofs_Rules
-pub use Rattle.ygg_sym_below.specs.ygg_type_sound_proofs_Sounds
-pub use Rattle.ygg_sym_below.specs.ygg_type_sound_proofs_Tests
-pub use Rattle.ygg_sym_below.specs.ygg_type_sound
-pub use Rattle.ygg_sym_below.specs.Exprs
-pub use Rattle.ygg_sym_below.specs.Names
-pub use Rattle.ygg_sym_below.specs.Stops
-pub use Rattle.ygg_sym_below.specs.Cuts
-pub use Rattle.ygg_sym_below.specs.Runs
-pub use Rattle.ygg_sym_below.specs.Lows
-pub use Rattle.ygg_sym_below.specs.Laws
-pub use Rattle.ygg_sym_below.specs.Meaning
-pub use Rattle.ygg_sym_below.specs.Wholes
-pub use Rattle.ygg_sym_below.specs.StopTerms
-pub use Rattle.ygg_sym_below.specs.SpecCuts
-pub use Rattle.ygg_sym_below.specs.Specs
-pub use Rattle.ygg_sym_below.specs.Disks
+pub use Rattle.ygg_sym_runs.specs.ygg_bank_proofs_Exist
+pub use Rattle.ygg_sym_runs.specs.ygg_bank_proofs_Inputs
+pub use Rattle.ygg_sym_runs.specs.ygg_bank_proofs_Made
+pub use Rattle.ygg_sym_runs.specs.ygg_bank_proofs_Meaning
+pub use Rattle.ygg_sym_runs.specs.ygg_bank_proofs_Widths
+pub use Rattle.ygg_sym_runs.specs.ygg_bank
+pub use Rattle.ygg_sym_runs.specs.ygg_direct_proofs_Choosing
+pub use Rattle.ygg_sym_runs.specs.ygg_direct_proofs_DiskServes
+pub use Rattle.ygg_sym_runs.specs.ygg_direct_proofs_Order
+pub use Rattle.ygg_sym_runs.specs.ygg_direct_proofs_Placing
+pub use Rattle.ygg_sym_runs.specs.ygg_direct_proofs_Rooms
+pub use Rattle.ygg_sym_runs.specs.ygg_direct_proofs_RunPlacing
+pub use Rattle.ygg_sym_runs.specs.ygg_direct_proofs_SpecServes
+pub use Rattle.ygg_sym_runs.specs.ygg_direct
+pub use Rattle.ygg_sym_runs.specs.ygg_disk
+pub use Rattle.ygg_sym_runs.specs.ygg_meaning
+pub use Rattle.ygg_sym_runs.specs.ygg_rules
+pub use Rattle.ygg_sym_runs.specs.ygg_shape_proofs_Grows
+pub use Rattle.ygg_sym_runs.specs.ygg_shape_proofs_Keeps
+pub use Rattle.ygg_sym_runs.specs.ygg_shape_proofs_Makers
+pub use Rattle.ygg_sym_runs.specs.ygg_shape
+pub use Rattle.ygg_sym_runs.specs.ygg_shape_cells_proofs_Wider
+pub use Rattle.ygg_sym_runs.specs.ygg_shape_cells
+pub use Rattle.ygg_sym_runs.specs.ygg_shape_words_proofs_Fit
+pub use Rattle.ygg_sym_runs.specs.ygg_shape_words_proofs_Keeps
+pub use Rattle.ygg_sym_runs.specs.ygg_shape_words_proofs_Terms
+pub use Rattle.ygg_sym_runs.specs.ygg_shape_words
+pub use Rattle.ygg_sym_runs.proofs.Chosen as ygg_sym_runs_proofs_Chosen
+pub use Rattle.ygg_sym_runs.proofs.Cuts as ygg_sym_runs_proofs_Cuts
+pub use Rattle.ygg_sym_runs.proofs.Disks as ygg_sym_runs_proofs_Disks
+pub use Rattle.ygg_sym_runs.proofs.Lows as ygg_sym_runs_proofs_Lows
+pub use Rattle.ygg_sym_runs.proofs.SpecFalls as ygg_sym_runs_proofs_SpecFalls
+pub use Rattle.ygg_sym_runs.proofs.SpecMeans as ygg_sym_runs_proofs_SpecMeans
+pub use Rattle.ygg_sym_runs.proofs.SpecStops as ygg_sym_runs_proofs_SpecStops
+pub use Rattle.ygg_sym_runs.proofs.Specs as ygg_sym_runs_proofs_Specs
+pub use Rattle.ygg_sym_runs.proofs.WholeRuns as ygg_sym_runs_proofs_WholeRuns
+pub use Rattle.ygg_sym_runs.specs as ygg_sym_runs
+pub use Rattle.ygg_sym_runs.specs.ygg_sym_expr_proofs_Definitions
+pub use Rattle.ygg_sym_runs.specs.ygg_sym_expr_proofs_Grows
+pub use Rattle.ygg_sym_runs.specs.ygg_sym_expr_proofs_Keeps
+pub use Rattle.ygg_sym_runs.specs.ygg_sym_expr_proofs_Shaped
+pub use Rattle.ygg_sym_runs.specs.ygg_sym_expr_proofs_Values
+pub use Rattle.ygg_sym_runs.specs.ygg_sym_expr
+pub use Rattle.ygg_sym_runs.specs.ygg_symbols
+pub use Rattle.ygg_sym_runs.specs.ygg_syntax_count
+pub use Rattle.ygg_sym_runs.specs.ygg_type_progress_proofs_Files
+pub use Rattle.ygg_sym_runs.specs.ygg_type_progress_proofs_Fits
+pub use Rattle.ygg_sym_runs.specs.ygg_type_progress_proofs_Following
+pub use Rattle.ygg_sym_runs.specs.ygg_type_progress_proofs_Operations
+pub use Rattle.ygg_sym_runs.specs.ygg_type_progress_proofs_Sizes
+pub use Rattle.ygg_sym_runs.specs.ygg_type_progress_proofs_Specs
+pub use Rattle.ygg_sym_runs.specs.ygg_type_progress_proofs_TypeErrors
+pub use Rattle.ygg_sym_runs.specs.ygg_type_progress_proofs_Typed
+pub use Rattle.ygg_sym_runs.specs.ygg_type_progress
+pub use Rattle.ygg_sym_runs.specs.ygg_type_rules
+pub use Rattle.ygg_sym_runs.specs.ygg_type_sound_proofs_Definitions
+pub use Rattle.ygg_sym_runs.specs.ygg_type_sound_proofs_Fits
+pub use Rattle.ygg_sym_runs.specs.ygg_type_sound_proofs_Parameters
+pub use Rattle.ygg_sym_runs.specs.ygg_type_sound_proofs_Rules
+pub use Rattle.ygg_sym_runs.specs.ygg_type_sound_proofs_Sounds
+pub use Rattle.ygg_sym_runs.specs.ygg_type_sound_proofs_Tests
+pub use Rattle.ygg_sym_runs.specs.ygg_type_sound
+pub use Rattle.ygg_sym_runs.specs.Exprs
+pub use Rattle.ygg_sym_runs.specs.Names
+pub use Rattle.ygg_sym_runs.specs.Stops
+pub use Rattle.ygg_sym_runs.specs.Cuts
+pub use Rattle.ygg_sym_runs.specs.Runs
+pub use Rattle.ygg_sym_runs.specs.Lows
+pub use Rattle.ygg_sym_runs.specs.Laws
+pub use Rattle.ygg_sym_runs.specs.Meaning
+pub use Rattle.ygg_sym_runs.specs.Wholes
+pub use Rattle.ygg_sym_runs.specs.StopTerms
+pub use Rattle.ygg_sym_runs.specs.SpecCuts
+pub use Rattle.ygg_sym_runs.specs.Specs
+pub use Rattle.ygg_sym_runs.specs.Disks
 pub mod Below
 pub mod Typed
 pub mod Means
+pub mod DiskLaws
+pub mod SpecLaws

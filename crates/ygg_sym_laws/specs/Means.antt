@@ -4,29 +4,29 @@ use Rattle.ygg_value.specs.declared.shape.Shape.{Shape}
 use Rattle.ygg_syntax.specs.declared.tree.Declared.{Declared}
 use Rattle.ygg_syntax.specs.declared.tree.Def.{Def}
 use Rattle.ygg_syntax.specs.declared.tree.Block.{Block}
-use Rattle.ygg_sym_below.specs.ygg_meaning.Environments.{Env}
-use Rattle.ygg_sym_below.specs.ygg_meaning.Shapes.{env_fits}
-use Rattle.ygg_sym_below.specs.ygg_meaning.Progress.{Answer}
-use Rattle.ygg_sym_below.specs.ygg_meaning.Machine.{Picks, State, based, on, Machine}
-use Rattle.ygg_sym_below.specs.ygg_meaning.Layer.{ClosedLayer, BlockRuns, BlockFalls}
-use Rattle.ygg_sym_below.specs.ygg_meaning.Obligations.{Halt, StopsAt}
-use Rattle.ygg_sym_below.specs.ygg_meaning.Refines.{Below, machine_below}
-use Rattle.ygg_sym_below.specs.Blocks.{is_returned}
-use Rattle.ygg_sym_below.specs.ygg_rules.declared.rule.RuleKind.{RuleKind}
-use Rattle.ygg_sym_below.specs.ygg_bank.Inputs.{InputsBelow}
-use Rattle.ygg_sym_below.specs.ygg_bank.Makes.{Make}
-use Rattle.ygg_sym_below.specs.ygg_bank.Nodes.{HasWidth}
-use Rattle.ygg_sym_below.specs.ygg_bank.Values.{Inputs, Values, Fits}
-use Rattle.ygg_sym_below.specs.ygg_bank.declared.node.Node.{Node}
-use Rattle.ygg_sym_below.specs.ygg_shape_cells.declared.terms.SymValue.{SymValue}
-use Rattle.ygg_sym_below.specs.Names.{SymEnv, sym_bind}
-use Rattle.ygg_sym_below.specs.Exprs.{SymFunctions, sym_functions}
-use Rattle.ygg_sym_below.specs.SymExprMeaning.{Grows, worths}
-use Rattle.ygg_sym_below.specs.Meaning.{AnswerShaped, answer_worth, is_set}
-use Rattle.ygg_sym_below.specs.Lows.{LowShaped, low_worth}
-use Rattle.ygg_sym_below.specs.StopTerms.{SymFallen}
-use Rattle.ygg_sym_below.specs.Wholes.{SymFinish}
-use Rattle.ygg_sym_below.specs.Laws.{picked_by, state_worth}
+use Rattle.ygg_sym_runs.specs.ygg_meaning.Environments.{Env}
+use Rattle.ygg_sym_runs.specs.ygg_meaning.Shapes.{env_fits}
+use Rattle.ygg_sym_runs.specs.ygg_meaning.Progress.{Answer}
+use Rattle.ygg_sym_runs.specs.ygg_meaning.Machine.{Picks, State, based, on, Machine}
+use Rattle.ygg_sym_runs.specs.ygg_meaning.Layer.{ClosedLayer, BlockRuns, BlockFalls}
+use Rattle.ygg_sym_runs.specs.ygg_meaning.Obligations.{Halt, StopsAt}
+use Rattle.ygg_sym_runs.specs.ygg_meaning.Refines.{Below, machine_below}
+use Rattle.ygg_sym_runs.specs.Blocks.{is_returned}
+use Rattle.ygg_sym_runs.specs.ygg_rules.declared.rule.RuleKind.{RuleKind}
+use Rattle.ygg_sym_runs.specs.ygg_bank.Inputs.{InputsBelow}
+use Rattle.ygg_sym_runs.specs.ygg_bank.Makes.{Make}
+use Rattle.ygg_sym_runs.specs.ygg_bank.Nodes.{HasWidth}
+use Rattle.ygg_sym_runs.specs.ygg_bank.Values.{Inputs, Values, Fits}
+use Rattle.ygg_sym_runs.specs.ygg_bank.declared.node.Node.{Node}
+use Rattle.ygg_sym_runs.specs.ygg_shape_cells.declared.terms.SymValue.{SymValue}
+use Rattle.ygg_sym_runs.specs.Names.{SymEnv, sym_bind}
+use Rattle.ygg_sym_runs.specs.Exprs.{SymFunctions, sym_functions}
+use Rattle.ygg_sym_runs.specs.SymExprMeaning.{Grows, worths}
+use Rattle.ygg_sym_runs.specs.Meaning.{AnswerShaped, answer_worth, is_set}
+use Rattle.ygg_sym_runs.specs.Lows.{LowShaped, low_worth}
+use Rattle.ygg_sym_runs.specs.StopTerms.{SymFallen}
+use Rattle.ygg_sym_runs.specs.Wholes.{SymFinish}
+use Rattle.ygg_sym_runs.specs.Laws.{picked_by, state_worth}
 use Rattle.ygg_sym_laws.specs.Below.{places_on, failure_room, run_made, cut_made, lost_made, lows_at_start}
 
 -- so many inputs, from a number on, are these bits

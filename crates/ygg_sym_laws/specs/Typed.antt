@@ -9,27 +9,27 @@ use Rattle.ygg_syntax.specs.declared.tree.Declared.{Declared}
 use Rattle.ygg_syntax.specs.declared.tree.Def.{Def}
 use Rattle.ygg_syntax.specs.declared.tree.Block.{Block}
 use Rattle.ygg_syntax.specs.declared.tree.Operation.{Operation}
-use Rattle.ygg_sym_below.specs.ygg_symbols.Names.{Named}
-use Rattle.ygg_sym_below.specs.ygg_type_rules.declared.scope.Signature.{Signature}
-use Rattle.ygg_sym_below.specs.ygg_type_rules.TypeErrors.{none}
-use Rattle.ygg_sym_below.specs.ygg_type_rules.Scopes.{Scope}
-use Rattle.ygg_sym_below.specs.ygg_type_rules.Statements.{block_errors}
-use Rattle.ygg_sym_below.specs.ygg_type_rules.Definitions.{with_definitions}
-use Rattle.ygg_sym_below.specs.ygg_type_rules.Layers.{operation_signature}
-use Rattle.ygg_sym_below.specs.ygg_type_rules.Files.{disk_errors}
-use Rattle.ygg_sym_below.specs.ygg_meaning.Environments.{Name, bind}
-use Rattle.ygg_sym_below.specs.ygg_meaning.Meaning.{functions_of}
-use Rattle.ygg_sym_below.specs.ygg_meaning.Shapes.{shape_in, values_fit}
-use Rattle.ygg_sym_below.specs.ygg_meaning.Progress.{Answer}
-use Rattle.ygg_sym_below.specs.ygg_meaning.Layer.{ClosedLayer, operation_of}
-use Rattle.ygg_sym_below.specs.ygg_meaning.Refines.{Below, OnDisk, OnSpec}
-use Rattle.ygg_sym_below.specs.ygg_type_sound.Agrees.{Agrees}
-use Rattle.ygg_sym_below.specs.Kinds.{keeps}
-use Rattle.ygg_sym_below.specs.Questions.{plain, gives}
-use Rattle.ygg_sym_below.specs.Blocks.{is_returned}
-use Rattle.ygg_sym_below.specs.Machines.{SpecAnswers}
-use Rattle.ygg_sym_below.specs.DirectLaws.{Sees}
-use Rattle.ygg_sym_below.specs.Specs.{SpecBlock}
+use Rattle.ygg_sym_runs.specs.ygg_symbols.Names.{Named}
+use Rattle.ygg_sym_runs.specs.ygg_type_rules.declared.scope.Signature.{Signature}
+use Rattle.ygg_sym_runs.specs.ygg_type_rules.TypeErrors.{none}
+use Rattle.ygg_sym_runs.specs.ygg_type_rules.Scopes.{Scope}
+use Rattle.ygg_sym_runs.specs.ygg_type_rules.Statements.{block_errors}
+use Rattle.ygg_sym_runs.specs.ygg_type_rules.Definitions.{with_definitions}
+use Rattle.ygg_sym_runs.specs.ygg_type_rules.Layers.{operation_signature}
+use Rattle.ygg_sym_runs.specs.ygg_type_rules.Files.{disk_errors}
+use Rattle.ygg_sym_runs.specs.ygg_meaning.Environments.{Name, bind}
+use Rattle.ygg_sym_runs.specs.ygg_meaning.Meaning.{functions_of}
+use Rattle.ygg_sym_runs.specs.ygg_meaning.Shapes.{shape_in, values_fit}
+use Rattle.ygg_sym_runs.specs.ygg_meaning.Progress.{Answer}
+use Rattle.ygg_sym_runs.specs.ygg_meaning.Layer.{ClosedLayer, operation_of}
+use Rattle.ygg_sym_runs.specs.ygg_meaning.Refines.{Below, OnDisk, OnSpec}
+use Rattle.ygg_sym_runs.specs.ygg_type_sound.Agrees.{Agrees}
+use Rattle.ygg_sym_runs.specs.Kinds.{keeps}
+use Rattle.ygg_sym_runs.specs.Questions.{plain, gives}
+use Rattle.ygg_sym_runs.specs.Blocks.{is_returned}
+use Rattle.ygg_sym_runs.specs.Machines.{SpecAnswers}
+use Rattle.ygg_sym_runs.specs.DirectLaws.{Sees}
+use Rattle.ygg_sym_runs.specs.Specs.{SpecBlock}
 use Rattle.ygg_sym_laws.specs.Below.{signatures_of}
 
 -- A block of a kind over operations below, in a scope of the file's definitions in which it has no type error and with which all values of the

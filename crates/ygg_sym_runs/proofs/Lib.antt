@@ -1,6 +1,6 @@
 pub use Rattle.ygg_sym_expr.proofs.of_ygg_bank
 pub use Rattle.ygg_direct.proofs as of_ygg_direct
-pub use Rattle.ygg_direct.proofs.of_ygg_histories
+pub use Rattle.ygg_direct.proofs.of_ygg_meaning
 pub use Rattle.ygg_sym_expr.proofs.of_ygg_shape
 pub use Rattle.ygg_sym_expr.proofs as of_ygg_sym_expr
 pub use Rattle.ygg_direct.proofs.of_ygg_type_progress
@@ -27,3 +27,32 @@ pub mod Parting
 pub mod Nexts
 pub mod Sizes
 pub mod Rooms
+pub mod Lows
+pub mod DiskKeeps
+pub mod Disks
+pub mod Placed
+pub mod WholeRuns
+pub mod OnDisk
+pub mod StopMeaning
+pub mod StopParts
+pub mod Stopping
+pub mod Halted
+pub mod Stopped
+pub mod Cuts
+pub mod Fallen
+pub mod FallsOnDisk
+pub mod Specs
+pub mod Gluing
+pub mod OnSpec
+pub mod MadeInputs
+pub mod Chosen
+pub mod Blocks
+pub mod StopKeeps
+pub mod GluedBack
+pub mod SpecFalls
+pub mod SameStops
+pub mod SpecBits
+pub mod SpecStops
+pub mod SpecKeeps
+pub mod SpecMeans
+mod Ending

@@ -14,7 +14,6 @@ pub use Rattle.ygg_direct.proofs.RunPlacing as ygg_direct_proofs_RunPlacing
 pub use Rattle.ygg_direct.proofs.SpecServes as ygg_direct_proofs_SpecServes
 pub use Rattle.ygg_direct.specs as ygg_direct
 pub use Rattle.ygg_direct.specs.ygg_disk
-pub use Rattle.ygg_direct.specs.ygg_histories
 pub use Rattle.ygg_direct.specs.ygg_meaning
 pub use Rattle.ygg_sym_expr.specs.ygg_rules
 pub use Rattle.ygg_sym_expr.specs.ygg_shape_proofs_Grows
@@ -62,3 +61,23 @@ pub mod Meaning
 pub mod Lower
 pub mod Ready
 pub mod Joining
+pub use Rattle.ygg_direct.specs.ygg_type_progress.Machines
+pub use Rattle.ygg_direct.specs.ygg_type_progress.Questions
+pub use Rattle.ygg_direct.specs.ygg_type_progress.Kinds
+pub use Rattle.ygg_direct.specs.ygg_type_progress.Blocks
+pub use Rattle.ygg_sym_expr.specs.Exprs
+pub use Rattle.ygg_sym_expr.specs.Meaning as SymExprMeaning
+pub use Rattle.ygg_sym_expr.specs.Names
+pub use Rattle.ygg_direct.specs.Laws as DirectLaws
+pub use Rattle.ygg_direct.specs.RunPlaces
+pub use Rattle.ygg_direct.specs.Direct
+pub mod Lows
+pub mod Disks
+pub mod Wholes
+pub mod Laws
+pub mod Stops
+pub mod StopTerms
+pub mod Cuts
+pub mod Specs
+pub mod SpecCuts
+pub mod WholeReady

@@ -24,9 +24,9 @@ use Rattle.ygg_sym_laws.specs.ygg_sym_runs.Lower.{CanAsk, question_of}
 use Rattle.ygg_sym_laws.specs.ygg_sym_runs.declared.question.Awaited as asked
 use Rattle.ygg_sym_laws.specs.ygg_sym_runs.declared.question.Awaited.TheVariants as question
 use Rattle.ygg_sym_laws.specs.ygg_sym_runs.Runs.{Call}
-use Rattle.ygg_sym_laws.specs.ygg_sym_below.Disks.{Done, done}
-use Rattle.ygg_sym_laws.specs.ygg_sym_below.Lows.{LowShaped}
-use Rattle.ygg_sym_laws.specs.ygg_sym_below.Specs.{input_pick, spec_handles}
+use Rattle.ygg_sym_laws.specs.ygg_sym_runs.Disks.{Done, done}
+use Rattle.ygg_sym_laws.specs.ygg_sym_runs.Lows.{LowShaped}
+use Rattle.ygg_sym_laws.specs.ygg_sym_runs.Specs.{input_pick, spec_handles}
 use Rattle.ygg_sym_laws.specs.Below.{signatures_of}
 use Rattle.ygg_sym_spec.proofs.Bits.{inputs_later}
 use Rattle.ygg_sym_spec.specs.Layers.{CanCut, closed, terms_in}

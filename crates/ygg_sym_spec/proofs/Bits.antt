@@ -6,7 +6,7 @@ use Rattle.ygg_sym_laws.specs.ygg_direct.Places.{left_after}
 use Rattle.ygg_sym_laws.specs.ygg_rules.declared.rule.RuleKind.{RuleKind}
 use Rattle.ygg_sym_laws.specs.ygg_bank.Making.{made}
 use Rattle.ygg_sym_laws.specs.ygg_bank.declared.node.Node.TheVariants.{Const, Input}
-use Rattle.ygg_sym_laws.specs.ygg_sym_below.Specs.{given_pick, input_pick}
+use Rattle.ygg_sym_laws.specs.ygg_sym_runs.Specs.{given_pick, input_pick}
 use Rattle.ygg_sym_spec.specs.Picking.{bit_in}
 use mathlib.Core.Path.{fun_ext}
 

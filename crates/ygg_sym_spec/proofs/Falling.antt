@@ -10,8 +10,8 @@ use Rattle.ygg_sym_laws.specs.ygg_bank.declared.node.Node.{Node}
 use Rattle.ygg_sym_laws.specs.ygg_shape_cells.declared.terms.SymValue.{SymValue}
 use Rattle.ygg_sym_laws.specs.ygg_sym_runs.Lower.{KeepsSingle}
 use Rattle.ygg_sym_laws.proofs.of_ygg_sym_runs.Singles.{single_less}
-use Rattle.ygg_sym_laws.specs.ygg_sym_below.Lows.{LowShaped}
-use Rattle.ygg_sym_laws.specs.ygg_sym_below_proofs_Lows.{low_wider}
+use Rattle.ygg_sym_laws.specs.ygg_sym_runs.Lows.{LowShaped}
+use Rattle.ygg_sym_laws.specs.ygg_sym_runs_proofs_Lows.{low_wider}
 use Rattle.ygg_sym_laws.specs.Typed.{SpecBlockTyped}
 use Rattle.ygg_sym_spec.specs.Layers.{CanBlock, CanCut, CanFall, closed}
 use Rattle.ygg_sym_spec.specs.Picking.{first_number}

@@ -12,9 +12,9 @@ use Rattle.ygg_sym_laws.specs.ygg_bank.declared.node.Node.{Node}
 use Rattle.ygg_sym_laws.specs.ygg_shape_cells.declared.terms.SymValue.{SymValue}
 use Rattle.ygg_sym_laws.specs.ygg_sym_expr.Names.{sym_bind}
 use Rattle.ygg_sym_laws.specs.ygg_sym_runs.Lower.{KeepsSingle}
-use Rattle.ygg_sym_laws.specs.ygg_sym_below.Disks.{Done, done}
-use Rattle.ygg_sym_laws.specs.ygg_sym_below.Lows.{merge_lows}
-use Rattle.ygg_sym_laws.specs.ygg_sym_below.SpecCuts.{picks_after, choice_room, crash_made, then_crash_made, fall_made, fall_asked}
+use Rattle.ygg_sym_laws.specs.ygg_sym_runs.Disks.{Done, done}
+use Rattle.ygg_sym_laws.specs.ygg_sym_runs.Lows.{merge_lows}
+use Rattle.ygg_sym_laws.specs.ygg_sym_runs.SpecCuts.{picks_after, choice_room, crash_made, then_crash_made, fall_made, fall_asked}
 use Rattle.ygg_sym_disk.proofs.Asked.{merged_single}
 use Rattle.ygg_sym_spec.specs.Layers.{closed, terms_in, block_of, crash_of, then_crash_of, fall_of, cut_of}
 use Rattle.ygg_sym_spec.specs.Picking.{picking}

@@ -27,13 +27,13 @@ use Rattle.ygg_sym_laws.specs.ygg_sym_expr.declared.held.SymBinding.{SymBinding}
 use Rattle.ygg_sym_laws.specs.ygg_sym_expr_proofs_Definitions.{functions_mean}
 use Rattle.ygg_sym_laws.specs.ygg_sym_expr_proofs_Grows.{functions_grow}
 use Rattle.ygg_sym_laws.proofs.of_ygg_sym_runs.Worths.{NameShaped}
-use Rattle.ygg_sym_laws.specs.ygg_sym_below.Disks.{done}
-use Rattle.ygg_sym_laws.specs.ygg_sym_below.Lows.{LowShaped}
-use Rattle.ygg_sym_laws.proofs.of_ygg_sym_below.Blocks.{BlockOfSpec, block_made_gives, block_made_grows, low_stands, values_worth}
-use Rattle.ygg_sym_laws.specs.ygg_sym_below_proofs_Specs.{bound_worth, low_shaped}
+use Rattle.ygg_sym_laws.specs.ygg_sym_runs.Disks.{done}
+use Rattle.ygg_sym_laws.specs.ygg_sym_runs.Lows.{LowShaped}
+use Rattle.ygg_sym_laws.proofs.of_ygg_sym_runs.Blocks.{BlockOfSpec, block_made_gives, block_made_grows, low_stands, values_worth}
+use Rattle.ygg_sym_laws.specs.ygg_sym_runs_proofs_Specs.{bound_worth, low_shaped}
 use Rattle.ygg_sym_laws.specs.Means.{values_in}
-use Rattle.ygg_sym_whole.specs.Ready.{CanWhole, IsWhole}
-use Rattle.ygg_sym_laws.specs.ygg_sym_below.Specs.{Nothing}
+use Rattle.ygg_sym_runs.specs.WholeReady.{CanWhole, IsWhole}
+use Rattle.ygg_sym_laws.specs.ygg_sym_runs.Specs.{Nothing}
 use Rattle.ygg_sym_spec.proofs.Bare.{block_alike}
 use Rattle.ygg_sym_spec.specs.Bare.{bare}
 use Rattle.ygg_sym_spec.specs.Choosing.{pick_means}

@@ -15,9 +15,9 @@ use Rattle.ygg_sym_laws.specs.ygg_shape_cells.declared.terms.SymValue.{SymValue}
 use Rattle.ygg_sym_laws.specs.ygg_sym_expr.Names.{sym_bind}
 use Rattle.ygg_sym_laws.specs.ygg_sym_expr.Exprs.{SymFunctions}
 use Rattle.ygg_sym_laws.specs.ygg_sym_runs.Lower.{SingleFrom}
-use Rattle.ygg_sym_laws.specs.ygg_sym_below.Disks.{Done}
-use Rattle.ygg_sym_laws.specs.ygg_sym_below.Lows.{LowShaped}
-use Rattle.ygg_sym_laws.specs.ygg_sym_below.SpecCuts.{block_made, crash_made, then_crash_made, fall_made, fall_asked}
+use Rattle.ygg_sym_laws.specs.ygg_sym_runs.Disks.{Done}
+use Rattle.ygg_sym_laws.specs.ygg_sym_runs.Lows.{LowShaped}
+use Rattle.ygg_sym_laws.specs.ygg_sym_runs.SpecCuts.{block_made, crash_made, then_crash_made, fall_made, fall_asked}
 use Rattle.ygg_sym_laws.specs.Means.{terms_of}
 use Rattle.ygg_sym_laws.specs.Typed.{OperationTyped, SpecBlockTyped, SpecTyped}
 use Rattle.ygg_sym_spec.specs.Picking.{first_number, picking}

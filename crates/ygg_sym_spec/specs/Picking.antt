@@ -6,7 +6,7 @@ use Rattle.ygg_sym_laws.specs.ygg_rules.declared.rule.RuleKind.{RuleKind}
 use Rattle.ygg_sym_laws.specs.ygg_bank.Makes.{Make}
 use Rattle.ygg_sym_laws.specs.ygg_bank.Values.{Inputs}
 use Rattle.ygg_sym_laws.specs.ygg_bank.declared.node.Id.{Id}
-use Rattle.ygg_sym_laws.specs.ygg_sym_below.Specs.{input_pick, given_pick}
+use Rattle.ygg_sym_laws.specs.ygg_sym_runs.Specs.{input_pick, given_pick}
 use Rattle.ygg_sym_spec.specs.declared.picks.SymPicks.{SymPicks}
 use Rattle.ygg_sym_spec.specs.declared.picks.SymPicks.TheVariants as picks
 

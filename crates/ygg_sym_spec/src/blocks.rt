@@ -5,9 +5,9 @@ ghost use Rattle.ygg_sym_laws.specs.ygg_bank.Nodes.{Extends, IsBank};
 ghost use Rattle.ygg_sym_laws.specs.ygg_sym_expr.Names.{sym_bind};
 ghost use Rattle.ygg_sym_laws.specs.ygg_sym_expr.Seen.{env_of};
 ghost use Rattle.ygg_sym_laws.specs.ygg_sym_runs.Lower.{Counts, KeepsSingle};
-ghost use Rattle.ygg_sym_laws.specs.ygg_sym_below.Disks.{done};
-ghost use Rattle.ygg_sym_laws.specs.ygg_sym_below.Lows.{LowShaped};
-ghost use Rattle.ygg_sym_laws.specs.ygg_sym_below.SpecCuts.{choice_room};
+ghost use Rattle.ygg_sym_laws.specs.ygg_sym_runs.Disks.{done};
+ghost use Rattle.ygg_sym_laws.specs.ygg_sym_runs.Lows.{LowShaped};
+ghost use Rattle.ygg_sym_laws.specs.ygg_sym_runs.SpecCuts.{choice_room};
 ghost use Rattle.ygg_sym_laws.specs.Means.{values_in};
 ghost use Rattle.ygg_sym_laws.specs.Typed.{SpecBlockTyped};
 ghost use Rattle.ygg_sym_spec.specs.Layers.{CanBlock, block_of, closed, crash_of, then_crash_of};
@@ -18,7 +18,7 @@ use crate::picks::SymPicks;
 use std::alloc::Global;
 use ygg_list::Duplicate;
 use ygg_sym_laws::{Bank, Book, NoMemory, SymBinding, SymRunner, SymValue, SymValues, room};
-use ygg_sym_whole::whole;
+use ygg_sym_runs::whole;
 use ygg_syntax::tree::{Block, Declared};
 
 /// What a block of a specification leaves.

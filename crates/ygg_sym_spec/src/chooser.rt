@@ -11,7 +11,7 @@ use ygg_sym_laws::{Awaited, Bank, Book, Id, NoMemory, SymLower, SymValue};
 pub struct Nothing;
 
 impl Model for Nothing {
-    ghost use Rattle.ygg_sym_laws.specs.ygg_sym_below.Specs.{Nothing};
+    ghost use Rattle.ygg_sym_laws.specs.ygg_sym_runs.Specs.{Nothing};
 
     ghost Value = { Nothing };
 

@@ -3,8 +3,8 @@
 ghost use Rattle.std.specs.Prelude.{◌≡◌, IfOk, None, OnOk};
 ghost use Rattle.ygg_sym_laws.specs.ygg_bank.Nodes.{Extends, IsBank};
 ghost use Rattle.ygg_sym_laws.specs.ygg_sym_runs.Lower.{KeepsSingle};
-ghost use Rattle.ygg_sym_laws.specs.ygg_sym_below.Lows.{LowShaped};
-ghost use Rattle.ygg_sym_laws.specs.ygg_sym_below.SpecCuts.{fall_made};
+ghost use Rattle.ygg_sym_laws.specs.ygg_sym_runs.Lows.{LowShaped};
+ghost use Rattle.ygg_sym_laws.specs.ygg_sym_runs.SpecCuts.{fall_made};
 ghost use Rattle.ygg_sym_spec.specs.Layers.{CanCut, CanFall, closed, cut_of, fall_of, terms_in};
 ghost use Rattle.ygg_sym_spec.specs.Picking.{picking};
 

@@ -4,7 +4,7 @@ ghost use Rattle.std.specs.Prelude.{◌≡◌, IfOk, OnOk};
 ghost use Rattle.ygg_sym_laws.specs.ygg_bank.Nodes.{Extends, IsBank};
 ghost use Rattle.ygg_sym_laws.specs.ygg_sym_runs.Lower.{KeepsSingle};
 ghost use Rattle.ygg_sym_laws.specs.ygg_sym_runs.Runs.{Call};
-ghost use Rattle.ygg_sym_laws.specs.ygg_sym_below.Disks.{done};
+ghost use Rattle.ygg_sym_laws.specs.ygg_sym_runs.Disks.{done};
 ghost use Rattle.ygg_sym_spec.specs.Layers.{CanCut};
 ghost use Rattle.ygg_sym_spec.specs.Machine.{call_of};
 

@@ -1,11 +1,11 @@
 -- What the steps of a stop make, one after another.
 use Rattle.std.proofs.Common.{◌≡◌, List, Option, Result, OnOk, IfOk, subst}
-use Rattle.ygg_sym_below.specs.ygg_bank.Makes.{Make, Out, pure, and_make}
-use Rattle.ygg_sym_below.specs.ygg_bank.declared.node.Id.{Id}
-use Rattle.ygg_sym_below.specs.ygg_bank.declared.node.Node.{Node}
-use Rattle.ygg_sym_below.specs.ygg_shape_cells.declared.terms.SymValue.{SymValue}
-use Rattle.ygg_sym_below.specs.ygg_sym_runs.Runs.{SymHandled}
-use Rattle.ygg_sym_below.specs.StopTerms.{SymFallen, SymHalted}
+use Rattle.ygg_sym_runs.specs.ygg_bank.Makes.{Make, Out, pure, and_make}
+use Rattle.ygg_sym_runs.specs.ygg_bank.declared.node.Id.{Id}
+use Rattle.ygg_sym_runs.specs.ygg_bank.declared.node.Node.{Node}
+use Rattle.ygg_sym_runs.specs.ygg_shape_cells.declared.terms.SymValue.{SymValue}
+use Rattle.ygg_sym_runs.specs.Runs.{SymHandled}
+use Rattle.ygg_sym_runs.specs.StopTerms.{SymFallen, SymHalted}
 
 -- what is the same as the step that was made
 pub nodes_as : {E A B : Type 0} (o more : Out B) (new : List Node) (r : Result A E) → o ≡ more → OnOk r (new ≡ o.nodes) → OnOk r (new ≡ more.nodes)

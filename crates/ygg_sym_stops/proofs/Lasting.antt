@@ -1,12 +1,12 @@
 -- The steps by which it is made what power leaves after the last question.
 use Rattle.std.proofs.Common.{◌≡◌, List}
-use Rattle.ygg_sym_below.specs.ygg_rules.declared.rule.RuleKind.{RuleKind}
-use Rattle.ygg_sym_below.specs.ygg_bank_proofs_Widths.{wider}
-use Rattle.ygg_sym_below.specs.ygg_bank.Nodes.{Extends, HasWidth, IsBank}
-use Rattle.ygg_sym_below.specs.ygg_bank.declared.node.Id.{Id}
-use Rattle.ygg_sym_below.specs.ygg_bank.declared.node.Node.{Node}
-use Rattle.ygg_sym_below.specs.ygg_sym_runs.Lower.{SymMeaning, IsLower, CanMerge, KeepsSingle, Stands}
-use Rattle.ygg_sym_below.specs.StopTerms.{SymHalted}
+use Rattle.ygg_sym_runs.specs.ygg_rules.declared.rule.RuleKind.{RuleKind}
+use Rattle.ygg_sym_runs.specs.ygg_bank_proofs_Widths.{wider}
+use Rattle.ygg_sym_runs.specs.ygg_bank.Nodes.{Extends, HasWidth, IsBank}
+use Rattle.ygg_sym_runs.specs.ygg_bank.declared.node.Id.{Id}
+use Rattle.ygg_sym_runs.specs.ygg_bank.declared.node.Node.{Node}
+use Rattle.ygg_sym_runs.specs.Lower.{SymMeaning, IsLower, CanMerge, KeepsSingle, Stands}
+use Rattle.ygg_sym_runs.specs.StopTerms.{SymHalted}
 use Rattle.ygg_sym_stops.specs.Halting.{halting_meaning}
 use Rattle.ygg_sym_stops.specs.Stopping.{Power, IsPower}
 use Rattle.ygg_sym_stops.proofs.Standing.{lose_there, stands_later}

@@ -1,16 +1,16 @@
 -- The steps by which it is made what power leaves.
 use Rattle.std.proofs.Common.{◌≡◌, List, Result, Ok, Err, OnOk, IfOk, sym, subst}
-use Rattle.ygg_sym_below.specs.ygg_rules.declared.rule.RuleKind.{RuleKind}
-use Rattle.ygg_sym_below.specs.ygg_bank_proofs_Meaning.{fits_fewer}
-use Rattle.ygg_sym_below.specs.ygg_bank_proofs_Widths.{wider}
-use Rattle.ygg_sym_below.specs.ygg_bank.Nodes.{Extends, HasWidth, IsBank}
-use Rattle.ygg_sym_below.specs.ygg_bank.Values.{value_of}
-use Rattle.ygg_sym_below.specs.ygg_bank.declared.node.Id.{Id}
-use Rattle.ygg_sym_below.specs.ygg_bank.declared.node.Node.{Node}
-use Rattle.ygg_sym_below.proofs.of_ygg_shape.Answered.{no_inputs, some_fit}
-use Rattle.ygg_sym_below.specs.ygg_sym_runs.Lower.{SymMeaning, IsLower, CanAsk, CanMerge, KeepsSingle}
-use Rattle.ygg_sym_below.specs.ygg_sym_runs.Runs.{SymQuestion}
-use Rattle.ygg_sym_below.specs.StopTerms.{SymHalted}
+use Rattle.ygg_sym_runs.specs.ygg_rules.declared.rule.RuleKind.{RuleKind}
+use Rattle.ygg_sym_runs.specs.ygg_bank_proofs_Meaning.{fits_fewer}
+use Rattle.ygg_sym_runs.specs.ygg_bank_proofs_Widths.{wider}
+use Rattle.ygg_sym_runs.specs.ygg_bank.Nodes.{Extends, HasWidth, IsBank}
+use Rattle.ygg_sym_runs.specs.ygg_bank.Values.{value_of}
+use Rattle.ygg_sym_runs.specs.ygg_bank.declared.node.Id.{Id}
+use Rattle.ygg_sym_runs.specs.ygg_bank.declared.node.Node.{Node}
+use Rattle.ygg_sym_runs.proofs.of_ygg_shape.Answered.{no_inputs, some_fit}
+use Rattle.ygg_sym_runs.specs.Lower.{SymMeaning, IsLower, CanAsk, CanMerge, KeepsSingle}
+use Rattle.ygg_sym_runs.specs.Runs.{SymQuestion}
+use Rattle.ygg_sym_runs.specs.StopTerms.{SymHalted}
 use Rattle.ygg_sym_stops.specs.Halting.{halting_meaning}
 use Rattle.ygg_sym_stops.specs.Stopping.{Power, IsPower, CanCut, CanLose}
 use Rattle.ygg_sym_stops.proofs.Standing.{ask_later, can_cut, can_lose, fallen_has, stopped_wide}

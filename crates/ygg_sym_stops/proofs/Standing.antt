@@ -2,21 +2,21 @@
 use Rattle.std.proofs.Common.{◌≡◌, ◌≤◌, List, Some, Result, Ok, Err, OnOk, IfOk, sym, ap, ◌∙◌, subst, arith}
 use Rattle.std.specs.Prelude.{min}
 use Rattle.ygg_value.specs.declared.operation.Op.TheVariants.{Or}
-use Rattle.ygg_sym_below.specs.ygg_rules.declared.rule.RuleKind.{RuleKind}
-use Rattle.ygg_sym_below.specs.ygg_bank_proofs_Meaning.{fits_fewer}
-use Rattle.ygg_sym_below.specs.ygg_bank_proofs_Widths.{stands, width_is}
-use Rattle.ygg_sym_below.specs.ygg_bank.Making.{made}
-use Rattle.ygg_sym_below.specs.ygg_bank.Nodes.{CanBin, CanPick, Extends, HasWidth, node_width, widths_of}
-use Rattle.ygg_sym_below.specs.ygg_bank.declared.node.Id.{Id}
-use Rattle.ygg_sym_below.specs.ygg_bank.declared.node.Node.{Node}
-use Rattle.ygg_sym_below.specs.ygg_bank.declared.node.Node.TheVariants.{Bin}
-use Rattle.ygg_sym_below.specs.ygg_shape_words_proofs_Keeps.{picked_keeps}
-use Rattle.ygg_sym_below.specs.ygg_shape_words.Picking.{picked}
-use Rattle.ygg_sym_below.proofs.of_ygg_sym_runs.Singles.{single_less, single_stays}
-use Rattle.ygg_sym_below.specs.ygg_sym_runs.Lower as lower
-use Rattle.ygg_sym_below.specs.ygg_sym_runs.Lower.{SymMeaning, CanAsk, KeepsSingle, SingleFrom}
-use Rattle.ygg_sym_below.specs.ygg_sym_runs.Runs.{SymQuestion}
-use Rattle.ygg_sym_below.specs.StopTerms.{SymHalted}
+use Rattle.ygg_sym_runs.specs.ygg_rules.declared.rule.RuleKind.{RuleKind}
+use Rattle.ygg_sym_runs.specs.ygg_bank_proofs_Meaning.{fits_fewer}
+use Rattle.ygg_sym_runs.specs.ygg_bank_proofs_Widths.{stands, width_is}
+use Rattle.ygg_sym_runs.specs.ygg_bank.Making.{made}
+use Rattle.ygg_sym_runs.specs.ygg_bank.Nodes.{CanBin, CanPick, Extends, HasWidth, node_width, widths_of}
+use Rattle.ygg_sym_runs.specs.ygg_bank.declared.node.Id.{Id}
+use Rattle.ygg_sym_runs.specs.ygg_bank.declared.node.Node.{Node}
+use Rattle.ygg_sym_runs.specs.ygg_bank.declared.node.Node.TheVariants.{Bin}
+use Rattle.ygg_sym_runs.specs.ygg_shape_words_proofs_Keeps.{picked_keeps}
+use Rattle.ygg_sym_runs.specs.ygg_shape_words.Picking.{picked}
+use Rattle.ygg_sym_runs.proofs.Singles.{single_less, single_stays}
+use Rattle.ygg_sym_runs.specs.Lower as lower
+use Rattle.ygg_sym_runs.specs.Lower.{SymMeaning, CanAsk, KeepsSingle, SingleFrom}
+use Rattle.ygg_sym_runs.specs.Runs.{SymQuestion}
+use Rattle.ygg_sym_runs.specs.StopTerms.{SymHalted}
 use Rattle.ygg_sym_stops.specs.Halting.{halting_meaning}
 use Rattle.ygg_sym_stops.specs.HaltingKeeps.{question_wider}
 use Rattle.ygg_sym_stops.specs.Stopping.{Power, CanCut, CanLose}

@@ -1,16 +1,16 @@
 -- A machine over terms with stops, as the machine on which a block runs.
 use Rattle.std.specs.Prelude.{min, ℕ, List}
-use Rattle.ygg_sym_below.specs.ygg_rules.declared.rule.RuleKind.{RuleKind}
-use Rattle.ygg_sym_below.specs.ygg_bank_proofs_Widths.{wider}
-use Rattle.ygg_sym_below.specs.ygg_bank.Makes.{Make, and_make, pure}
-use Rattle.ygg_sym_below.specs.ygg_bank.Nodes.{HasWidth}
-use Rattle.ygg_sym_below.specs.ygg_bank.declared.node.Id.{Id}
-use Rattle.ygg_sym_below.specs.ygg_sym_expr.Exprs.{SymFunctions}
-use Rattle.ygg_sym_below.specs.ygg_sym_expr.Names.{no_term}
-use Rattle.ygg_sym_below.specs.ygg_sym_runs.Meaning.{Low}
-use Rattle.ygg_sym_below.specs.ygg_sym_runs.Lower.{SymMeaning}
-use Rattle.ygg_sym_below.specs.Stops.{before_at}
-use Rattle.ygg_sym_below.specs.StopTerms.{SymFallen, SymHalted, halting_machine, sym_end}
+use Rattle.ygg_sym_runs.specs.ygg_rules.declared.rule.RuleKind.{RuleKind}
+use Rattle.ygg_sym_runs.specs.ygg_bank_proofs_Widths.{wider}
+use Rattle.ygg_sym_runs.specs.ygg_bank.Makes.{Make, and_make, pure}
+use Rattle.ygg_sym_runs.specs.ygg_bank.Nodes.{HasWidth}
+use Rattle.ygg_sym_runs.specs.ygg_bank.declared.node.Id.{Id}
+use Rattle.ygg_sym_runs.specs.ygg_sym_expr.Exprs.{SymFunctions}
+use Rattle.ygg_sym_runs.specs.ygg_sym_expr.Names.{no_term}
+use Rattle.ygg_sym_runs.specs.Meaning.{Low}
+use Rattle.ygg_sym_runs.specs.Lower.{SymMeaning}
+use Rattle.ygg_sym_runs.specs.Stops.{before_at}
+use Rattle.ygg_sym_runs.specs.StopTerms.{SymFallen, SymHalted, halting_machine, sym_end}
 use Rattle.ygg_sym_stops.specs.Stopping.{Power, stops_on}
 
 -- functions that make no term: steps of machines ask none

@@ -1,28 +1,28 @@
 -- A machine with stops does what the machine itself means.
 use Rattle.std.proofs.Common.{◌≡◌, ◌+◌, ℕ, true, List, if◌then◌else◌}
 use Rattle.ygg_value.specs.declared.operation.Op.TheVariants.{Or}
-use Rattle.ygg_sym_below.specs.ygg_rules.declared.rule.RuleKind.{RuleKind}
-use Rattle.ygg_sym_below.specs.ygg_bank_proofs_Made.{made_grows, added_there}
-use Rattle.ygg_sym_below.specs.ygg_bank_proofs_Meaning.{fits_fewer}
-use Rattle.ygg_sym_below.specs.ygg_bank_proofs_Widths.{wider, own_width, extends_both}
-use Rattle.ygg_sym_below.specs.ygg_bank.Making.{made, added}
-use Rattle.ygg_sym_below.specs.ygg_bank.Nodes.{HasWidth, Extends}
-use Rattle.ygg_sym_below.specs.ygg_bank.Values.{Inputs, Values}
-use Rattle.ygg_sym_below.specs.ygg_bank.declared.node.Id.{Id}
-use Rattle.ygg_sym_below.specs.ygg_bank.declared.node.Node.{Node}
-use Rattle.ygg_sym_below.specs.ygg_bank.declared.node.Node.TheVariants.{Input, Bin}
-use Rattle.ygg_sym_below.specs.ygg_shape_words_proofs_Grows.{picked_grows}
-use Rattle.ygg_sym_below.specs.ygg_shape_words.Picking.{picked}
-use Rattle.ygg_sym_below.specs.ygg_type_progress.Questions.{question_fits}
-use Rattle.ygg_sym_below.specs.ygg_sym_expr.Meaning.{Grows, Gives}
-use Rattle.ygg_sym_below.specs.ygg_sym_expr_proofs_Shaped.{some_wider}
-use Rattle.ygg_sym_below.specs.ygg_sym_runs.Runs as runs
-use Rattle.ygg_sym_below.specs.ygg_sym_runs.Runs.{SymQuestion}
-use Rattle.ygg_sym_below.specs.ygg_sym_runs.Meaning.{question_worth, is_set, QuestionShaped, IsHandled, IsLow, MachineMeans}
-use Rattle.ygg_sym_below.specs.ygg_sym_runs.Lower.{SymMeaning, IsLower}
-use Rattle.ygg_sym_below.specs.Stops.{before_at, within_at}
-use Rattle.ygg_sym_below.specs.StopTerms.{SymHalted, Stops, sym_left, sym_halted, merge_halted}
-use Rattle.ygg_sym_below.proofs.StopParts.{either_is, one_is}
+use Rattle.ygg_sym_runs.specs.ygg_rules.declared.rule.RuleKind.{RuleKind}
+use Rattle.ygg_sym_runs.specs.ygg_bank_proofs_Made.{made_grows, added_there}
+use Rattle.ygg_sym_runs.specs.ygg_bank_proofs_Meaning.{fits_fewer}
+use Rattle.ygg_sym_runs.specs.ygg_bank_proofs_Widths.{wider, own_width, extends_both}
+use Rattle.ygg_sym_runs.specs.ygg_bank.Making.{made, added}
+use Rattle.ygg_sym_runs.specs.ygg_bank.Nodes.{HasWidth, Extends}
+use Rattle.ygg_sym_runs.specs.ygg_bank.Values.{Inputs, Values}
+use Rattle.ygg_sym_runs.specs.ygg_bank.declared.node.Id.{Id}
+use Rattle.ygg_sym_runs.specs.ygg_bank.declared.node.Node.{Node}
+use Rattle.ygg_sym_runs.specs.ygg_bank.declared.node.Node.TheVariants.{Input, Bin}
+use Rattle.ygg_sym_runs.specs.ygg_shape_words_proofs_Grows.{picked_grows}
+use Rattle.ygg_sym_runs.specs.ygg_shape_words.Picking.{picked}
+use Rattle.ygg_sym_runs.specs.ygg_type_progress.Questions.{question_fits}
+use Rattle.ygg_sym_runs.specs.ygg_sym_expr.Meaning.{Grows, Gives}
+use Rattle.ygg_sym_runs.specs.ygg_sym_expr_proofs_Shaped.{some_wider}
+use Rattle.ygg_sym_runs.specs.Runs as runs
+use Rattle.ygg_sym_runs.specs.Runs.{SymQuestion}
+use Rattle.ygg_sym_runs.specs.Meaning.{question_worth, is_set, QuestionShaped, IsHandled, IsLow, MachineMeans}
+use Rattle.ygg_sym_runs.specs.Lower.{SymMeaning, IsLower}
+use Rattle.ygg_sym_runs.specs.Stops.{before_at, within_at}
+use Rattle.ygg_sym_runs.specs.StopTerms.{SymHalted, Stops, sym_left, sym_halted, merge_halted}
+use Rattle.ygg_sym_runs.proofs.StopParts.{either_is, one_is}
 use Rattle.ygg_sym_stops.specs.Stopping.{Power, IsPower, stops_on}
 use Rattle.ygg_sym_stops.specs.Halting.{no_functions, halted_low, halting_meaning}
 

@@ -1,19 +1,19 @@
 -- Power that fails on a machine over terms: what its stops are made of, and what is asked of them.
 use Rattle.std.specs.Prelude.{◌≤◌, ◌+◌, ℕ, IsTrue, List}
 use Rattle.ygg_value.specs.declared.operation.Op.TheVariants.{Or}
-use Rattle.ygg_sym_below.specs.ygg_type_progress.Questions.{question_fits}
-use Rattle.ygg_sym_below.specs.ygg_rules.declared.rule.RuleKind.{RuleKind}
-use Rattle.ygg_sym_below.specs.ygg_bank.Makes.{Make}
-use Rattle.ygg_sym_below.specs.ygg_bank.Making.{made}
-use Rattle.ygg_sym_below.specs.ygg_bank.Values.{Inputs, Values, Fits}
-use Rattle.ygg_sym_below.specs.ygg_bank.declared.node.Node.{Node}
-use Rattle.ygg_sym_below.specs.ygg_bank.declared.node.Node.TheVariants.{Input, Bin}
-use Rattle.ygg_sym_below.specs.ygg_shape_words.Picking.{picked}
-use Rattle.ygg_sym_below.specs.ygg_sym_expr.Meaning.{Grows, Gives}
-use Rattle.ygg_sym_below.specs.ygg_sym_runs.Runs.{SymQuestion}
-use Rattle.ygg_sym_below.specs.ygg_sym_runs.Meaning.{QuestionShaped, question_worth}
-use Rattle.ygg_sym_below.specs.ygg_sym_runs.Lower.{SymMeaning, SingleFrom}
-use Rattle.ygg_sym_below.specs.StopTerms.{Stops}
+use Rattle.ygg_sym_runs.specs.ygg_type_progress.Questions.{question_fits}
+use Rattle.ygg_sym_runs.specs.ygg_rules.declared.rule.RuleKind.{RuleKind}
+use Rattle.ygg_sym_runs.specs.ygg_bank.Makes.{Make}
+use Rattle.ygg_sym_runs.specs.ygg_bank.Making.{made}
+use Rattle.ygg_sym_runs.specs.ygg_bank.Values.{Inputs, Values, Fits}
+use Rattle.ygg_sym_runs.specs.ygg_bank.declared.node.Node.{Node}
+use Rattle.ygg_sym_runs.specs.ygg_bank.declared.node.Node.TheVariants.{Input, Bin}
+use Rattle.ygg_sym_runs.specs.ygg_shape_words.Picking.{picked}
+use Rattle.ygg_sym_runs.specs.ygg_sym_expr.Meaning.{Grows, Gives}
+use Rattle.ygg_sym_runs.specs.Runs.{SymQuestion}
+use Rattle.ygg_sym_runs.specs.Meaning.{QuestionShaped, question_worth}
+use Rattle.ygg_sym_runs.specs.Lower.{SymMeaning, SingleFrom}
+use Rattle.ygg_sym_runs.specs.StopTerms.{Stops}
 
 -- what power leaves of a machine over terms with states of S
 pub record Power (S : Type 0) : Type 0 where

@@ -1,14 +1,14 @@
 //! What power leaves at the stop after the last question of a run.
 
 ghost use Rattle.std.specs.Prelude.{◌≡◌, IfOk, OnOk};
-ghost use Rattle.ygg_sym_below.specs.ygg_bank.Nodes.{Extends, HasWidth, IsBank};
-ghost use Rattle.ygg_sym_below.specs.ygg_sym_runs.Lower.{KeepsSingle, Stands};
+ghost use Rattle.ygg_sym_runs.specs.ygg_bank.Nodes.{Extends, HasWidth, IsBank};
+ghost use Rattle.ygg_sym_runs.specs.Lower.{KeepsSingle, Stands};
 ghost use Rattle.ygg_sym_stops.specs.Halting.{halted_of, halting_meaning, last_left_made, sym_fall};
 
 use crate::stopping::{before, bit, either};
 use crate::stops::SymStops;
 use std::alloc::Global;
-use ygg_sym_below::{Bank, Book, Id, NoMemory};
+use ygg_sym_runs::{Bank, Book, Id, NoMemory};
 
 /// What power leaves of a run.
 #[derive(Drop)]

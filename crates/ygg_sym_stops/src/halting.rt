@@ -5,7 +5,7 @@ use crate::stops::SymStops;
 use std::alloc::Global;
 use std::marker::Model;
 use ygg_list::Duplicate;
-use ygg_sym_below::{Awaited, Bank, Book, Id, NoMemory, SymLower, SymValue, pick};
+use ygg_sym_runs::{Awaited, Bank, Book, Id, NoMemory, SymLower, SymValue, pick};
 
 /// A state of a machine with stops.
 #[derive(Drop)]
@@ -19,7 +19,7 @@ pub struct StopState<S: Drop> {
 }
 
 impl<S: Drop> Model for StopState<S> {
-    ghost use Rattle.ygg_sym_below.specs.StopTerms.{SymHalted};
+    ghost use Rattle.ygg_sym_runs.specs.StopTerms.{SymHalted};
 
     ghost Value = { SymHalted S S };
 

@@ -2,18 +2,18 @@
 
 ghost use Rattle.std.specs.Prelude.{◌≡◌, ◌+◌, IfOk, OnOk};
 ghost use Rattle.ygg_value.specs.declared.operation.Op.TheVariants.{Or};
-ghost use Rattle.ygg_sym_below.specs.ygg_bank.Making.{made};
-ghost use Rattle.ygg_sym_below.specs.ygg_bank.Nodes.{Extends, HasWidth, IsBank};
-ghost use Rattle.ygg_sym_below.specs.ygg_bank.declared.node.Node.TheVariants.{Bin, Input};
-ghost use Rattle.ygg_sym_below.specs.ygg_sym_runs.Lower.{CanAsk, KeepsSingle, SingleFrom, question_of};
-ghost use Rattle.ygg_sym_below.specs.Stops.{before_at, within_at};
-ghost use Rattle.ygg_sym_below.specs.StopTerms.{sym_halted, sym_left};
+ghost use Rattle.ygg_sym_runs.specs.ygg_bank.Making.{made};
+ghost use Rattle.ygg_sym_runs.specs.ygg_bank.Nodes.{Extends, HasWidth, IsBank};
+ghost use Rattle.ygg_sym_runs.specs.ygg_bank.declared.node.Node.TheVariants.{Bin, Input};
+ghost use Rattle.ygg_sym_runs.specs.Lower.{CanAsk, KeepsSingle, SingleFrom, question_of};
+ghost use Rattle.ygg_sym_runs.specs.Stops.{before_at, within_at};
+ghost use Rattle.ygg_sym_runs.specs.StopTerms.{sym_halted, sym_left};
 ghost use Rattle.ygg_sym_stops.specs.Halting.{halted_of, halting_meaning, no_functions};
 ghost use Rattle.ygg_sym_stops.specs.Stopping.{stops_on};
 
 use crate::stops::SymStops;
 use std::alloc::Global;
-use ygg_sym_below::{Awaited, Bank, Book, Id, NoMemory, Node, SymValue};
+use ygg_sym_runs::{Awaited, Bank, Book, Id, NoMemory, Node, SymValue};
 use ygg_value::Op;
 
 /// The number of the stop before the question at a place. Its only error is out of memory: the number doesn't fit.

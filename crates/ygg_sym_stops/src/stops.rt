@@ -1,12 +1,12 @@
 use std::alloc::Global;
-use ygg_sym_below::{Awaited, Bank, Book, NoMemory, SymLower};
+use ygg_sym_runs::{Awaited, Bank, Book, NoMemory, SymLower};
 
 /// A machine over terms whose power fails: at each stop of a run that is set, there being one before and one within each question and one after
 /// all of them. Each stop has an input of the bank, from a number on, and what power leaves has inputs of its own.
 pub trait SymStops: SymLower {
     ghost use Rattle.std.specs.Prelude.{◌≡◌, IfOk, OnOk};
-    ghost use Rattle.ygg_sym_below.specs.ygg_bank.Nodes.{Extends, IsBank};
-    ghost use Rattle.ygg_sym_below.specs.ygg_sym_runs.Lower.{KeepsSingle, question_of};
+    ghost use Rattle.ygg_sym_runs.specs.ygg_bank.Nodes.{Extends, IsBank};
+    ghost use Rattle.ygg_sym_runs.specs.Lower.{KeepsSingle, question_of};
     ghost use Rattle.ygg_sym_stops.specs.Stopping.{CanCut, CanLose, IsPower, Power};
 
     /// What power leaves, and which inputs say where it fails.

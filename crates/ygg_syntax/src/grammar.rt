@@ -1,7 +1,7 @@
 //! What the rules of the grammar are told apart by.
 
 /// What a block is for.
-#[derive(Clone, Copy, PartialEq, Eq)]
+#[derive(Clone, Copy)]
 pub enum BlockKind {
     /// `start`: neither choices nor calls.
     Plain,
@@ -12,7 +12,7 @@ pub enum BlockKind {
 }
 
 /// Which types may stand in a place.
-#[derive(Clone, Copy, PartialEq, Eq)]
+#[derive(Clone, Copy)]
 pub enum Sort {
     /// Words, rows and tables.
     All,

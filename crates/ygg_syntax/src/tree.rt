@@ -8,7 +8,7 @@ use ygg_base::{DiskKind, Text};
 use ygg_value::Op;
 
 /// Where a token begins. Lines and columns are counted from 1, columns in bytes.
-#[derive(Clone, Copy, PartialEq, Eq)]
+#[derive(Clone, Copy)]
 pub struct Place {
     pub line: u32,
     pub column: u32,
@@ -22,14 +22,14 @@ pub struct Name {
 }
 
 /// A number as it is written.
-#[derive(Clone, Copy, PartialEq, Eq)]
+#[derive(Clone, Copy)]
 pub struct Numeral {
     pub value: u64,
     pub place: Place,
 }
 
 /// The type of a value, with its numbers as they are written, in range or not.
-#[derive(Clone, Copy, PartialEq, Eq)]
+#[derive(Clone, Copy)]
 pub enum TypeText {
     /// A word of this width in bits.
     Word(Numeral),
@@ -47,7 +47,7 @@ pub struct Declared {
 }
 
 /// Whether a test is to pass at every number or at one.
-#[derive(Clone, Copy, PartialEq, Eq)]
+#[derive(Clone, Copy)]
 pub enum Quantifier {
     All,
     Any,
@@ -123,7 +123,7 @@ pub struct Block {
 }
 
 /// The disk of a file: its rows, the words of a row, and their width in bits.
-#[derive(Clone, Copy, PartialEq, Eq)]
+#[derive(Clone, Copy)]
 pub struct DiskText {
     pub kind: DiskKind,
     pub rows: Numeral,

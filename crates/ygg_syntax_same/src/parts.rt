@@ -1,10 +1,10 @@
 //! Parts of trees that stand in lists, or that may be left out.
 
 ghost use Rattle.std.specs.Prelude.{◌≡◌, IsTrue, ◌↔◌, map, option_map};
-ghost use Rattle.ygg_syntax_alike.specs.Bare.{bare, bare_type, bare_declared};
+ghost use Rattle.ygg_syntax_same.specs.Bare.{bare, bare_type, bare_declared};
 
+use crate::expressions::{expression, name, shape};
 use ygg_syntax::tree::{Declared, Expr, TypeText};
-use ygg_syntax_alike::expressions::{expression, name, shape};
 
 /// A part of a tree.
 pub trait Alike {

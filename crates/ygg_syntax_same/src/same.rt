@@ -1,12 +1,12 @@
 //! Whether layer files are the same but for places.
 
 ghost use Rattle.std.specs.Prelude.{◌≡◌, IsTrue, ◌↔◌};
-ghost use Rattle.ygg_syntax_alike.specs.Bare.{bare_disk, bare_def, bare_operation, bare_tick, bare_layer, bare_file};
+ghost use Rattle.ygg_syntax_same.specs.Bare.{bare_disk, bare_def, bare_operation, bare_tick, bare_layer, bare_file};
 
+use crate::expressions::{expression, expressions, name, number, shape};
 use crate::parts::{Alike, items, optional};
 use crate::statements::block;
 use ygg_syntax::tree::{Def, DiskText, File, Layer, Operation, Tick};
-use ygg_syntax_alike::expressions::{expression, expressions, name, number, shape};
 
 /// Whether the files are the same but for places.
 pub fn same_tree(a: &File, b: &File) -> bool

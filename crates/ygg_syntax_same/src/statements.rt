@@ -1,11 +1,11 @@
 //! Whether statements and blocks are the same but for places.
 
 ghost use Rattle.std.specs.Prelude.{◌≡◌, IsTrue, ◌↔◌, map};
-ghost use Rattle.ygg_syntax_alike.specs.Bare.{bare_source, bare_index, bare_statement, bare_block};
+ghost use Rattle.ygg_syntax_same.specs.Bare.{bare_source, bare_index, bare_statement, bare_block};
 
+use crate::expressions::{expression, expressions, name, range};
 use crate::parts::{Alike, items, optional};
 use ygg_syntax::tree::{Block, Index, Source, Stmt};
-use ygg_syntax_alike::expressions::{expression, expressions, name, range};
 
 impl Alike for Index {
     ghost without_places = { bare_index };

@@ -5,15 +5,15 @@ use Rattle.ygg_base.specs.declared.status.Status.{Status}
 use Rattle.ygg_base_device.specs.Devices.{Image, Attachment}
 use Rattle.ygg_rules.specs.declared.rule.RuleKind.{RuleKind}
 use Rattle.ygg_top_command.specs.Reports.{Told}
-use Rattle.ygg_top_device.specs.Breaking.{ToldOn}
-use Rattle.ygg_top_device.proofs.Breaks.{told_on}
+use Rattle.ygg_top_command.specs.Breaking.{ToldOn}
+use Rattle.ygg_top_command.proofs.Breaks.{told_on}
 use Rattle.ygg_top.specs.declared.words.OnImage.{OnImage}
 use Rattle.ygg_top.specs.declared.words.OnImage.TheVariants.{Format, Run, Other}
 use Rattle.ygg_top.specs.Ending.{Ends, IsLeft}
 use Rattle.ygg_top.specs.Imaging.{UsesImage, EndsTwoOn, EndsFourOn, EndsOn, LeavesTwoOn, LeavesFourOn, IsLeftOn, BreaksTwoOn, BreaksFourOn, IsBrokenOn}
 use Rattle.ygg_top.specs.Imaging.{KeepsTwoOn, KeepsFourOn, KeepsOn}
 use Rattle.ygg_top.specs.Words.{on_image}
-use Rattle.ygg_top.proofs.Naming.{three_words}
+use Rattle.ygg_top.proofs.ByWords.{three_words}
 
 pub five_words : (words : List (List ℕ)) (a b c d e : List ℕ) → 5 ≤ length words → length words < 6 → a ≡ slice_index_or words 0 a →
     b ≡ slice_index_or words 1 b → c ≡ slice_index_or words 2 c → d ≡ slice_index_or words 3 d → e ≡ slice_index_or words 4 e →

@@ -1,2 +1,7 @@
 pub mod Imaged
-mod Naming
+mod ByWords
+mod Placed
+mod Sites
+mod Asked
+mod Printed
+mod Solves

@@ -11,11 +11,11 @@ use Rattle.ygg_top_command.specs.Standing.{DoesWith, DoesWithin, IsRefused}
 use Rattle.ygg_top_command.specs.Words.{usual_budget}
 use Rattle.ygg_top_run.specs.Certifying.{Certified, IsCutCertifying}
 use Rattle.ygg_top_run.specs.Checking.{ChecksNamed}
-use Rattle.ygg_top_cnf.specs.Asking.{AsksNamed, IsCutAsking}
-use Rattle.ygg_top_play.specs.Playing.{PlaysNamed, IsCutPlaying}
-use Rattle.ygg_top_print.specs.Printing.{Prints}
+use Rattle.ygg_top.specs.Asking.{AsksNamed, IsCutAsking}
+use Rattle.ygg_top_run.specs.Playing.{PlaysNamed, IsCutPlaying}
+use Rattle.ygg_top.specs.Printing.{Prints}
 use Rattle.ygg_top_replay.specs.Replaying.{ReplaysNamed}
-use Rattle.ygg_top_solve.specs.Solving.{Solves, IsCutSolving}
+use Rattle.ygg_top.specs.Solving.{Solves, IsCutSolving}
 use Rattle.ygg_top_run.specs.Verifying.{Demos, Verifies, IsCutRun}
 use Rattle.ygg_top.specs.declared.help.TheConstants.{HELP, VERSION}
 use Rattle.ygg_top.specs.declared.words.Alone.{Alone}

@@ -1,3 +1,9 @@
 pub mod Words
 pub mod Ending
 pub mod Imaging
+pub use Rattle.ygg_dimacs_term.specs.ygg_rules
+pub mod Printed
+pub mod Asking
+pub mod Printing
+pub mod Solving
+pub mod Fetched

@@ -5,25 +5,24 @@ ghost use Rattle.ygg_base.specs.declared.status.Status.TheVariants.{Refused};
 ghost use Rattle.ygg_base.specs.Outside.{Rose};
 ghost use Rattle.ygg_report.specs.Putting.{NoFront};
 ghost use Rattle.ygg_top_command.specs.Reports.{Told};
-ghost use Rattle.ygg_top_device.specs.Breaking.{ToldOn};
+ghost use Rattle.ygg_top_command.specs.Breaking.{ToldOn};
 ghost use Rattle.ygg_top.specs.Ending.{EndsAlone, EndsOne, EndsTwo, LeavesOne, LeavesTwo, NamesNone};
 ghost use Rattle.ygg_top.specs.Imaging.{EndsOn, IsLeftOn, IsBrokenOn, KeepsOn, UsesImage};
 
+use crate::asking::cnf;
 use crate::help::{HELP, VERSION};
+use crate::print_command::print;
+use crate::solving::{solve, solve_within};
 use crate::words::{Alone, OnImage, One, Two};
 use std::alloc::Global;
 use ygg_base::{Library, Reason, Sink, Status, Text};
 use ygg_base_device::Device;
 use ygg_report::put_all;
 use ygg_rules::{Book, RuleBook};
-use ygg_top_cnf::cnf;
 use ygg_top_command::{CommandStop, USUAL_BUDGET, end};
 use ygg_top_format::format;
-use ygg_top_play::play;
-use ygg_top_print::print;
 use ygg_top_replay::replay;
-use ygg_top_run::{certify, certify_within, check, demo, run, verify, verify_within};
-use ygg_top_solve::{solve, solve_within};
+use ygg_top_run::{certify, certify_within, check, demo, play, run, verify, verify_within};
 
 /// Runs the command that the words name, and ends with its status: `verify FILE`, `verify FILE BUDGET`, `print FILE`, `demo N`, `replay FILE SCHEDULE`,
 /// `play FILE SCRIPT`, `solve CNF`, `solve CNF BUDGET`, `cnf FILE OBLIGATION`, `certify FILE`, `certify FILE BUDGET`, `check FILE CERTIFICATE`,

@@ -4,7 +4,7 @@ use Rattle.ygg_base.specs.declared.status.Status.{Status}
 use Rattle.ygg_base.specs.declared.status.Status.TheVariants.{Done, Refuted, Refused, Undecided, Fault, NoMemory}
 use Rattle.ygg_syntax.specs.declared.tree.File.{File}
 use Rattle.ygg_top_verify.specs.ygg_rules.declared.rule.RuleKind.{RuleKind}
-use Rattle.ygg_top_verify.specs.ygg_histories.Claims.{claims_of}
+use Rattle.ygg_top_verify.specs.ygg_meaning.Claims.{claims_of}
 use Rattle.ygg_certify.specs.ygg_cert.declared.verdict.CertEnd.{CertEnd}
 use Rattle.ygg_certify.specs.ygg_cert.declared.verdict.CertEnd.TheVariants as cert
 use Rattle.ygg_certify.specs.ygg_cert.Judging.{IsWhole, Judges}

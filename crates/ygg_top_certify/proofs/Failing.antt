@@ -7,10 +7,10 @@ use Rattle.ygg_certify.specs.ygg_bank.declared.env.Given.{Given}
 use Rattle.ygg_certify.specs.ygg_bank.Values.{inputs_of}
 use Rattle.ygg_syntax.specs.declared.tree.File.{File}
 use Rattle.ygg_top_verify.specs.ygg_rules.declared.rule.RuleKind.{RuleKind}
-use Rattle.ygg_certify.specs.ygg_certify_put.declared.finding.Finding.{Finding}
+use Rattle.ygg_certify.specs.declared.finding.Finding.{Finding}
 use Rattle.ygg_top_verify.specs.declared.verdict.Refutation.{Refutation}
 use Rattle.ygg_top_verify.specs.Findings.{FitsTerms, IsEnd, IsFitting, IsRefuting, IsRefutingBy}
-use Rattle.ygg_certify.specs.ygg_certify_put.Findings.{IsHeld}
+use Rattle.ygg_certify.specs.Findings.{IsHeld}
 use Rattle.ygg_top_certify.specs.Certifying.{CertifiesFile}
 use Rattle.ygg_top_certify.specs.Findings.{
   EndsOf,

@@ -9,7 +9,7 @@ use Rattle.ygg_base.specs.declared.status.Status.{Status}
 use Rattle.ygg_base.specs.declared.status.Status.TheVariants.{Done, Refuted, Undecided}
 use Rattle.ygg_syntax.specs.declared.tree.File.{File}
 use Rattle.ygg_top_verify.specs.ygg_rules.declared.rule.RuleKind.{RuleKind}
-use Rattle.ygg_top_verify.specs.ygg_histories.Claims.{Claim, claims_of}
+use Rattle.ygg_top_verify.specs.ygg_meaning.Claims.{Claim, claims_of}
 use Rattle.ygg_certify.specs.ygg_bank.Nodes.{IsBank}
 use Rattle.ygg_certify.specs.ygg_bank.declared.node.Id.{Id}
 use Rattle.ygg_certify.specs.ygg_bank.declared.node.Node.{Node}
@@ -18,17 +18,17 @@ use Rattle.ygg_certify.specs.ygg_cnf.declared.log.Step.{Step}
 use Rattle.ygg_certify.specs.ygg_cnf.Literals.{SatisfiesAll}
 use Rattle.ygg_certify.specs.ygg_cnf.Logs.{Refutes}
 use Rattle.ygg_certify.specs.ygg_gates.Groups.{translated}
-use Rattle.ygg_certify.specs.ygg_gates_meaning.Laws.{SatisfiableExactly}
+use Rattle.ygg_certify.specs.ygg_gates.Laws.{SatisfiableExactly}
 use Rattle.ygg_certify.specs.ygg_decide.Deciding.{IsNeverZero}
-use Rattle.ygg_certify.specs.ygg_oblige_terms.Terms.{file_made}
-use Rattle.ygg_certify.specs.ygg_oblige_terms.Meaning.{IsTermOf, AreTermsOf, claim_name}
+use Rattle.ygg_certify.specs.ygg_oblige_pieces.Terms.{file_made}
+use Rattle.ygg_certify.specs.ygg_oblige_pieces.Meaning.{IsTermOf, AreTermsOf, claim_name}
 use Rattle.ygg_certify.specs.ygg_report.Lines.{undecided_line, verified_line}
 use Rattle.ygg_certify.specs.ygg_report.Tallies.{finds_spent}
 use Rattle.ygg_certify.specs.ygg_report.declared.verdict.Verdict as report
-use Rattle.ygg_certify.specs.ygg_certify_put.declared.finding.Outcome.{Outcome}
-use Rattle.ygg_certify.specs.ygg_certify_put.declared.finding.Outcome.TheVariants.{Holds, Fails, Spent}
-use Rattle.ygg_certify.specs.ygg_certify_put.declared.finding.Finding.{Finding}
-use Rattle.ygg_certify.specs.ygg_certify_put.Findings.{IsOutcome, HasLog, IsHeld}
+use Rattle.ygg_certify.specs.declared.finding.Outcome.{Outcome}
+use Rattle.ygg_certify.specs.declared.finding.Outcome.TheVariants.{Holds, Fails, Spent}
+use Rattle.ygg_certify.specs.declared.finding.Finding.{Finding}
+use Rattle.ygg_certify.specs.Findings.{IsOutcome, HasLog, IsHeld}
 use Rattle.ygg_certify.specs.Certifying.{AreFound, IsOpen}
 use Rattle.ygg_top_verify.specs.declared.verdict.Refutation.{Refutation}
 use Rattle.ygg_top_verify.specs.Verdict.{Verified}

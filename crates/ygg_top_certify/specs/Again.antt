@@ -6,7 +6,7 @@ use Rattle.ygg_base.specs.declared.status.Status.TheVariants.{Done}
 use Rattle.ygg_base.specs.Outside.{bytes_of}
 use Rattle.ygg_syntax.specs.declared.tree.File.{File}
 use Rattle.ygg_top_verify.specs.ygg_rules.declared.rule.RuleKind.{RuleKind}
-use Rattle.ygg_top_verify.specs.ygg_histories.Claims.{claims_of}
+use Rattle.ygg_top_verify.specs.ygg_meaning.Claims.{claims_of}
 use Rattle.ygg_certify.specs.Checking.{checked_line}
 use Rattle.ygg_top_verify.specs.ygg_top_command.Refusing.{IsLayerFile}
 use Rattle.ygg_top_certify.specs.Checking.{ChecksNamed, most_certificate_bytes}

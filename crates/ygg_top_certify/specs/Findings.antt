@@ -9,9 +9,9 @@ use Rattle.ygg_certify.specs.ygg_bank.declared.env.Given.{Given}
 use Rattle.ygg_certify.specs.ygg_report.Lines.{undecided_line, verdict_line}
 use Rattle.ygg_certify.specs.ygg_report.declared.verdict.Verdict.{Verdict}
 use Rattle.ygg_certify.specs.ygg_report.declared.verdict.Verdict.TheVariants as reports
-use Rattle.ygg_certify.specs.ygg_certify_put.declared.finding.Outcome.{Outcome}
-use Rattle.ygg_certify.specs.ygg_certify_put.declared.finding.Outcome.TheVariants.{Holds, Fails, Spent}
-use Rattle.ygg_certify.specs.ygg_certify_put.declared.finding.Finding.{Finding}
+use Rattle.ygg_certify.specs.declared.finding.Outcome.{Outcome}
+use Rattle.ygg_certify.specs.declared.finding.Outcome.TheVariants.{Holds, Fails, Spent}
+use Rattle.ygg_certify.specs.declared.finding.Finding.{Finding}
 use Rattle.ygg_top_verify.specs.declared.verdict.Refutation.{Refutation}
 use Rattle.ygg_top_verify.specs.declared.verdict.Summary.{Summary}
 use Rattle.ygg_top_verify.specs.Findings.{IsEnd, IsRefuting}

@@ -1,4 +1,3 @@
-pub use Rattle.ygg_top_verify.specs.ygg_histories
 pub use Rattle.ygg_top_verify.specs.ygg_meaning
 pub use Rattle.ygg_top_verify.specs.ygg_rules
 pub use Rattle.ygg_top_verify.specs.Verifying

@@ -3,8 +3,8 @@
 ghost use Rattle.std.specs.Prelude.{◌≡◌, ◌<◌, length, All, None, Some, IfOk, IfSome, MatchOption};
 ghost use Rattle.std.specs.Option.{option_copied};
 ghost use Rattle.ygg_certify.specs.ygg_bank.Values.{inputs_of};
-ghost use Rattle.ygg_top_verify.specs.ygg_histories.Claims.{claims_of};
-ghost use Rattle.ygg_certify.specs.ygg_certify_put.Findings.{IsHeld};
+ghost use Rattle.ygg_top_verify.specs.ygg_meaning.Claims.{claims_of};
+ghost use Rattle.ygg_certify.specs.Findings.{IsHeld};
 ghost use Rattle.ygg_certify.specs.Certifying.{IsOpen};
 ghost use Rattle.ygg_top_verify.specs.Findings.{FitsTerms, IsFitting};
 ghost use Rattle.ygg_top_certify.specs.Certifying.{CertifiesFile};

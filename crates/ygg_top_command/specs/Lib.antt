@@ -4,3 +4,4 @@ pub mod Refusing
 pub mod Standing
 pub mod Fetched
 pub mod Reports
+pub mod Breaking

@@ -10,7 +10,7 @@ use ygg_base::{Refusal, Refuse, Sink, Status};
 use ygg_report::{put_all, refused};
 
 /// Why a command stops before it does anything.
-#[derive(Clone, Copy, PartialEq, Eq, Drop)]
+#[derive(Clone, Copy, Drop)]
 pub enum CommandStop {
     /// The words, or what stands under a name, are refused.
     Refused(Refusal),

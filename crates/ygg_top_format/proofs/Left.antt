@@ -5,15 +5,15 @@ use Rattle.ygg_base.specs.declared.status.Status.{Status}
 use Rattle.ygg_base.specs.declared.status.Status.TheVariants as status
 use Rattle.ygg_run_format.specs.ygg_base_device.Devices.{Image, Tells}
 use Rattle.ygg_syntax.specs.declared.tree.File.{File}
-use Rattle.ygg_top_device.specs.ygg_report.Putting.{IsPutSo, NoFront}
+use Rattle.ygg_top_command.specs.ygg_report.Putting.{IsPutSo, NoFront}
 use Rattle.ygg_run_format.specs.Leaving.{IsFormattedOn}
-use Rattle.ygg_top_device.specs.ygg_top_command.declared.stopping.CommandStop.{CommandStop}
-use Rattle.ygg_top_device.specs.ygg_top_command.Fetched.{IsNoFile, StandsFile}
-use Rattle.ygg_top_device.specs.ygg_top_command.Reports.{EndsBy, Told}
-use Rattle.ygg_top_device.proofs.of_ygg_top_command.Stops.{file_stop}
-use Rattle.ygg_top_device.proofs.of_ygg_top_command.Telling.{lost_told, put_told, stop_told, told_to}
-use Rattle.ygg_top_device.specs.Breaking.{IsBroken, ToldOn, device_fault}
-use Rattle.ygg_top_device.proofs.Breaks.{told_on}
+use Rattle.ygg_top_command.specs.declared.stopping.CommandStop.{CommandStop}
+use Rattle.ygg_top_command.specs.Fetched.{IsNoFile, StandsFile}
+use Rattle.ygg_top_command.specs.Reports.{EndsBy, Told}
+use Rattle.ygg_top_command.proofs.Stops.{file_stop}
+use Rattle.ygg_top_command.proofs.Telling.{lost_told, put_told, stop_told, told_to}
+use Rattle.ygg_top_command.specs.Breaking.{IsBroken, ToldOn, device_fault}
+use Rattle.ygg_top_command.proofs.Breaks.{told_on}
 use Rattle.ygg_top_format.specs.Formatting.{FormatsBroken, FormatsFile, FormatsNamed, FormatsStored, IsNothing, formatted_line}
 
 module _ (before now : Option (List ℕ)) (old new : Option (List Image)) (image : List ℕ) (DeviceRose SinkRose : Type 0) (result : Status) where

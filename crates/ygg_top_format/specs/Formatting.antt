@@ -6,11 +6,11 @@ use Rattle.ygg_base.specs.declared.status.Status.{Status}
 use Rattle.ygg_base.specs.declared.status.Status.TheVariants.{Done}
 use Rattle.ygg_run_format.specs.ygg_base_device.Devices.{Attachment, Image, Tells}
 use Rattle.ygg_syntax.specs.declared.tree.File.{File}
-use Rattle.ygg_top_device.specs.ygg_report.Lines.{ended}
+use Rattle.ygg_top_command.specs.ygg_report.Lines.{ended}
 use Rattle.ygg_run_format.specs.Leaving.{IsFormattedOn, IsLeft}
-use Rattle.ygg_top_device.specs.ygg_top_command.Fetched.{StandsFile}
-use Rattle.ygg_top_device.specs.ygg_top_command.Refusing.{IsLayerFile, RefusesFile}
-use Rattle.ygg_top_device.specs.ygg_top_command.Standing.{DoesWith, IsRefused}
+use Rattle.ygg_top_command.specs.Fetched.{StandsFile}
+use Rattle.ygg_top_command.specs.Refusing.{IsLayerFile, RefusesFile}
+use Rattle.ygg_top_command.specs.Standing.{DoesWith, IsRefused}
 
 -- the line of an image that is formatted
 abbrev pub formatted_line : List ℕ

@@ -4,15 +4,15 @@ ghost use Rattle.std.specs.Prelude.{◌≡◌, ◌≢◌, ◌≤◌};
 ghost use Rattle.ygg_base.specs.Outside.{Rose};
 ghost use Rattle.ygg_base.specs.declared.status.Status.TheVariants.{Refused};
 ghost use Rattle.ygg_run_format.specs.ygg_base_device.Devices.{Tells};
-ghost use Rattle.ygg_top_device.specs.ygg_report.Putting.{NoFront};
+ghost use Rattle.ygg_top_command.specs.ygg_report.Putting.{NoFront};
 ghost use Rattle.ygg_run_format.specs.Leaving.{IsLeft};
-ghost use Rattle.ygg_top_device.specs.Breaking.{ToldOn};
+ghost use Rattle.ygg_top_command.specs.Breaking.{ToldOn};
 ghost use Rattle.ygg_top_format.specs.Formatting.{FormatsFile, FormatsNamed, FormatsBroken, FormatsLeave, IsNothing};
 
 use std::alloc::Global;
 use ygg_base::{Library, Sink, Status, Text};
 use ygg_run_format::{Device, FormatEnd};
-use ygg_top_device::{close, end, end_broken, layer_file, put_all};
+use ygg_top_command::{close, end, end_broken, layer_file, put_all};
 use ygg_type::Typed;
 
 /// Formats the stack of a layer file on the image of that name, and puts the line `formatted`.

@@ -6,8 +6,8 @@ use Rattle.ygg_base.specs.Outside.{Rose}
 use Rattle.ygg_base.specs.declared.status.Status.{Status}
 use Rattle.ygg_base.specs.declared.status.Status.TheVariants.{Refused}
 use Rattle.ygg_syntax.specs.declared.tree.File.{File}
-use Rattle.ygg_replay_text.specs.ygg_meaning.Replayed.{Replayed, Shows, Hypothesis, Passes}
-use Rattle.ygg_replay_text.specs.Ending.{Replaying, status_of}
+use Rattle.ygg_replay.specs.ygg_meaning.Replayed.{Replayed, Shows, Hypothesis, Passes}
+use Rattle.ygg_replay.specs.Ending.{Replaying, status_of}
 use Rattle.ygg_top_command.specs.ygg_report.Lines.{refused_line}
 use Rattle.ygg_top_command.specs.Fetched.{StandsFile}
 use Rattle.ygg_top_command.specs.Refusing.{RefusesFile, RefusesUnread, most_bytes}

@@ -4,7 +4,7 @@ use Rattle.ygg_base.specs.declared.failure.Refusal.{Refusal}
 use Rattle.ygg_base.specs.declared.lists.Held.{Held}
 use Rattle.ygg_base.specs.declared.status.Status.{Status}
 use Rattle.ygg_syntax.specs.declared.tree.File.{File}
-use Rattle.ygg_replay_text.specs.Ending.{Replaying}
+use Rattle.ygg_replay.specs.Ending.{Replaying}
 use Rattle.ygg_top_command.specs.Refusing.{IsLayerFile, RefusesFile, RefusesUnread, most_bytes}
 use Rattle.ygg_top_command.specs.Standing.{DoesWith, IsRefused}
 

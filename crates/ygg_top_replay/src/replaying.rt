@@ -11,7 +11,7 @@ ghost use Rattle.ygg_top_replay.specs.Replaying.{ReplaysNamed, ReplaysStored};
 
 use std::alloc::Global;
 use ygg_base::{Library, Sink, Status, Text};
-use ygg_replay_text::replay_text;
+use ygg_replay::replay_text;
 use ygg_top_command::{CommandStop, MOST_BYTES, close, end, fetched, layer_file, put_all};
 use ygg_type::Typed;
 

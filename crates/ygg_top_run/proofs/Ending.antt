@@ -2,12 +2,12 @@
 use Rattle.std.proofs.Common.{◌≡◌, ◌⊎◌, ℕ, List, ◌++◌, Option, Some, None, inl, inr, refl, sym, ap, ◌∙◌, subst, append_assoc}
 use Rattle.ygg_base.specs.declared.status.Status.{Status}
 use Rattle.ygg_base.specs.declared.status.Status.TheVariants.{Fault}
-use Rattle.ygg_top_device.specs.ygg_report.Putting.{Adds, IsFront, IsPutSo}
-use Rattle.ygg_top_device.specs.ygg_top_command.declared.stopping.CommandStop.{CommandStop}
-use Rattle.ygg_top_device.specs.ygg_top_command.declared.stopping.CommandStop.TheVariants.{Refused, LibraryFailed, NoMemory}
-use Rattle.ygg_top_device.specs.ygg_top_command.Reports.{EndsBy, Told}
-use Rattle.ygg_top_device.proofs.of_ygg_top_command.Telling.{more_told}
-use Rattle.ygg_top_device.specs.Breaking.{IsBroken, ToldOn}
+use Rattle.ygg_top_command.specs.ygg_report.Putting.{Adds, IsFront, IsPutSo}
+use Rattle.ygg_top_command.specs.declared.stopping.CommandStop.{CommandStop}
+use Rattle.ygg_top_command.specs.declared.stopping.CommandStop.TheVariants.{Refused, LibraryFailed, NoMemory}
+use Rattle.ygg_top_command.specs.Reports.{EndsBy, Told}
+use Rattle.ygg_top_command.proofs.Telling.{more_told}
+use Rattle.ygg_top_command.specs.Breaking.{IsBroken, ToldOn}
 
 -- one text and then another
 adds_both : (before middle now : Option (List ℕ)) (a b : List ℕ) → Adds before a middle → Adds middle b now → Adds before (a ++ b) now

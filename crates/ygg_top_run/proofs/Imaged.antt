@@ -7,20 +7,20 @@ use Rattle.ygg_base.specs.declared.status.Status.{Status}
 use Rattle.ygg_base.specs.declared.status.Status.TheVariants.{Fault, NoMemory}
 use Rattle.ygg_run_mounted.specs.ygg_base_device.Devices.{Image}
 use Rattle.ygg_syntax.specs.declared.tree.File.{File}
-use Rattle.ygg_top_device.specs.ygg_report.Putting.{Adds, IsPutSo}
+use Rattle.ygg_top_command.specs.ygg_report.Putting.{Adds, IsPutSo}
 use Rattle.ygg_run_mounted.specs.ygg_script.declared.command.Command.{Command}
 use Rattle.ygg_run_mounted.specs.ygg_run_commands.declared.halting.RunHalted.{RunHalted}
 use Rattle.ygg_run_mounted.specs.ygg_run_commands.declared.halting.RunHalted.TheVariants as halted
-use Rattle.ygg_run_mounted.specs.ygg_run_mount.declared.unmounted.Unmounted.TheVariants as unmounted
+use Rattle.ygg_run_mounted.specs.ygg_run_held.declared.unmounted.Unmounted.TheVariants as unmounted
 use Rattle.ygg_run_mounted.specs.Ending.{HaltsBy, IsGivenUp, IsNotMounted, RunsTo}
 use Rattle.ygg_run_mounted.specs.declared.run_end.RunEnd.TheVariants as run_end
 use Rattle.ygg_run_mounted.specs.Extending.{HasRun}
 use Rattle.ygg_run_mounted.proofs.Ends.{risen}
 use Rattle.ygg_run_mounted.proofs.Texts.{adds_none}
-use Rattle.ygg_top_device.specs.ygg_top_command.declared.stopping.CommandStop.TheVariants.{Refused}
-use Rattle.ygg_top_device.specs.ygg_top_command.Reports.{EndsBy}
-use Rattle.ygg_top_device.proofs.of_ygg_top_command.Telling.{stop_told}
-use Rattle.ygg_top_device.specs.Breaking.{ToldOn, device_fault}
+use Rattle.ygg_top_command.specs.declared.stopping.CommandStop.TheVariants.{Refused}
+use Rattle.ygg_top_command.specs.Reports.{EndsBy}
+use Rattle.ygg_top_command.proofs.Telling.{stop_told}
+use Rattle.ygg_top_command.specs.Breaking.{ToldOn, device_fault}
 use Rattle.ygg_top_run.specs.Images.{BrokenBy, LeftBy, RefusesImage, RunsImage}
 use Rattle.ygg_top_run.proofs.Ending.{ends_since, put_behind}
 

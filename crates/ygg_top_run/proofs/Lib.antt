@@ -3,3 +3,5 @@ pub mod Imaged
 pub mod Scripted
 pub mod Certified
 pub mod Named
+mod Once
+mod Plays

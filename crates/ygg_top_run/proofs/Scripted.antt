@@ -4,13 +4,13 @@ use Rattle.ygg_base.specs.declared.lists.Held.{Held}
 use Rattle.ygg_base.specs.declared.status.Status.{Status}
 use Rattle.ygg_run_mounted.specs.ygg_base_device.Devices.{Image}
 use Rattle.ygg_syntax.specs.declared.tree.File.{File}
-use Rattle.ygg_top_certify.specs.ygg_histories.History.{Entry}
+use Rattle.ygg_top_certify.specs.ygg_meaning.History.{Entry}
 use Rattle.ygg_run_mounted.specs.ygg_script.declared.command.Command.{Command}
-use Rattle.ygg_top_device.specs.ygg_top_command.declared.stopping.CommandStop.{CommandStop}
-use Rattle.ygg_top_device.specs.ygg_top_command.declared.stopping.CommandStop.TheVariants.{Refused, LibraryFailed, NoMemory}
-use Rattle.ygg_top_device.specs.ygg_top_command.Reports.{MayStop}
-use Rattle.ygg_top_device.specs.Breaking.{ToldOn}
-use Rattle.ygg_top_device.proofs.Breaks.{told_on_to}
+use Rattle.ygg_top_command.specs.declared.stopping.CommandStop.{CommandStop}
+use Rattle.ygg_top_command.specs.declared.stopping.CommandStop.TheVariants.{Refused, LibraryFailed, NoMemory}
+use Rattle.ygg_top_command.specs.Reports.{MayStop}
+use Rattle.ygg_top_command.specs.Breaking.{ToldOn}
+use Rattle.ygg_top_command.proofs.Breaks.{told_on_to}
 use Rattle.ygg_top_run.specs.Images.{BrokenBy, LeftBy, RunsImage}
 use Rattle.ygg_top_run.specs.Scripts.{IsNoScript, RunsScript, ScriptBroken, ScriptLeft, StandsPlain}
 use Rattle.ygg_top_run.proofs.Ending.{more_on}

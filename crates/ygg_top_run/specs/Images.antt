@@ -9,17 +9,17 @@ use Rattle.ygg_base.specs.Reason.{refusal_at}
 use Rattle.ygg_run_mounted.specs.ygg_base_device.Devices.{Image, ImageTurns, Tells}
 use Rattle.ygg_syntax.specs.declared.tree.File.{File}
 use Rattle.ygg_type.specs.Typed.{geometry_of}
-use Rattle.ygg_top_certify.specs.ygg_histories.History.{Entry}
+use Rattle.ygg_top_certify.specs.ygg_meaning.History.{Entry}
 use Rattle.ygg_run_mounted.specs.ygg_script.declared.command.Command.{Command}
 use Rattle.ygg_run_mounted.specs.ygg_run_image.Judged.{number_of}
 use Rattle.ygg_run_mounted.specs.ygg_run_image.declared.reason.ImageReason.{ImageReason}
-use Rattle.ygg_run_mounted.specs.ygg_run_mount.Mounting.{IsFlushed, Mounts}
-use Rattle.ygg_run_mounted.specs.ygg_run_mount.declared.unmounted.Unmounted.TheVariants as unmounted
+use Rattle.ygg_run_mounted.specs.ygg_run_held.Mounting.{IsFlushed, Mounts}
+use Rattle.ygg_run_mounted.specs.ygg_run_held.declared.unmounted.Unmounted.TheVariants as unmounted
 use Rattle.ygg_run_mounted.specs.ygg_run_commands.Ran.{AllRan, run_text}
 use Rattle.ygg_run_mounted.specs.ygg_run_commands.declared.halting.RunHalted.TheVariants.{DeviceFailed, SinkFailed, Memory}
 use Rattle.ygg_run_mounted.specs.Ending.{IsGivenUp}
 use Rattle.ygg_run_mounted.specs.Extending.{KeepsImage}
-use Rattle.ygg_top_device.specs.ygg_top_command.Standing.{IsRefused}
+use Rattle.ygg_top_command.specs.Standing.{IsRefused}
 
 -- the refusal of an image, the third word after the command's, for a reason
 abbrev pub image_refusal : ImageReason → Refusal

@@ -5,14 +5,14 @@ use Rattle.ygg_base.specs.declared.lists.Held.{Held}
 use Rattle.ygg_base.specs.declared.status.Status.{Status}
 use Rattle.ygg_run_mounted.specs.ygg_base_device.Devices.{Image}
 use Rattle.ygg_syntax.specs.declared.tree.File.{File}
-use Rattle.ygg_top_certify.specs.ygg_histories.History.{Entry}
+use Rattle.ygg_top_certify.specs.ygg_meaning.History.{Entry}
 use Rattle.ygg_run_mounted.specs.ygg_script.declared.command.Command.{Command}
 use Rattle.ygg_run_mounted.specs.ygg_script.Plain.{plain_of}
-use Rattle.ygg_top_device.specs.ygg_top_command.declared.stopping.CommandStop.{CommandStop}
-use Rattle.ygg_top_device.specs.ygg_top_command.declared.stopping.CommandStop.TheVariants.{Refused, LibraryFailed, NoMemory}
-use Rattle.ygg_top_device.specs.ygg_top_command.Refusing.{RefusesUnread, most_bytes}
-use Rattle.ygg_top_device.specs.ygg_top_command.Standing.{Stands, IsRefused}
-use Rattle.ygg_top_play.specs.Playing.{IsScriptText, RefusesLines, StandsScript}
+use Rattle.ygg_top_command.specs.declared.stopping.CommandStop.{CommandStop}
+use Rattle.ygg_top_command.specs.declared.stopping.CommandStop.TheVariants.{Refused, LibraryFailed, NoMemory}
+use Rattle.ygg_top_command.specs.Refusing.{RefusesUnread, most_bytes}
+use Rattle.ygg_top_command.specs.Standing.{Stands, IsRefused}
+use Rattle.ygg_top_run.specs.Playing.{IsScriptText, RefusesLines, StandsScript}
 use Rattle.ygg_top_run.specs.Images.{BrokenBy, LeftBy, RunsImage}
 
 -- a refusal of the first line of a script that a run on a device doesn't take

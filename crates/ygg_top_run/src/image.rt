@@ -6,13 +6,13 @@ ghost use Rattle.ygg_base.specs.declared.status.Status.TheVariants.{Refused};
 ghost use Rattle.ygg_run_mounted.specs.ygg_script.Fitting.{IsScriptOf};
 ghost use Rattle.ygg_run_mounted.specs.ygg_script.Plain.{plain_of};
 ghost use Rattle.ygg_run_mounted.specs.Extending.{HasRun};
-ghost use Rattle.ygg_top_device.specs.Breaking.{ToldOn};
+ghost use Rattle.ygg_top_command.specs.Breaking.{ToldOn};
 ghost use Rattle.ygg_top_run.specs.Images.{BrokenBy, LeavesImage, LeftBy, RunsImage};
 
 use std::alloc::Global;
 use ygg_base::{Reason, Refusal, Sink, Status, Text};
 use ygg_run_mounted::{Device, RunEnd, Script};
-use ygg_top_device::{CommandStop, end, end_broken};
+use ygg_top_command::{CommandStop, end, end_broken};
 use ygg_type::Typed;
 
 /// The refusal of an image by this number.

@@ -3,7 +3,7 @@
 ghost use Rattle.std.specs.Prelude.{◌≡◌, ◌≤◌};
 ghost use Rattle.ygg_base.specs.Outside.{Rose};
 ghost use Rattle.ygg_base.specs.declared.status.Status.TheVariants.{Refused};
-ghost use Rattle.ygg_top_device.specs.Breaking.{ToldOn};
+ghost use Rattle.ygg_top_command.specs.Breaking.{ToldOn};
 ghost use Rattle.ygg_top_run.specs.Images.{LeavesImage};
 ghost use Rattle.ygg_top_run.specs.Running.{CertifiedBroken, CertifiedLeft, RunLeaves, RunsBroken, RunsCertified, RunsLeft, RunsNamed};
 
@@ -12,7 +12,7 @@ use std::alloc::Global;
 use ygg_base::{Library, Sink, Status, Text};
 use ygg_run_mounted::Device;
 use ygg_top_certify::{Book, checked_stored};
-use ygg_top_device::{close, end, layer_file, put_all};
+use ygg_top_command::{close, end, layer_file, put_all};
 use ygg_type::Typed;
 
 /// Runs the script that stands under the name, the fourth word after the command's, on the image of that name, once the text under the second name is a

@@ -6,7 +6,7 @@ ghost use Rattle.ygg_base.specs.declared.status.Status.TheVariants.{Refused};
 ghost use Rattle.ygg_run_mounted.specs.ygg_script.Fitting.{IsScriptOf};
 ghost use Rattle.ygg_run_mounted.specs.ygg_script.Plain.{plain_of};
 ghost use Rattle.ygg_run_mounted.specs.Extending.{HasRun};
-ghost use Rattle.ygg_top_device.specs.Breaking.{ToldOn};
+ghost use Rattle.ygg_top_command.specs.Breaking.{ToldOn};
 ghost use Rattle.ygg_top_run.specs.Images.{LeavesImage};
 ghost use Rattle.ygg_top_run.specs.Scripts.{IsNoScript, RunsScript, ScriptBroken, ScriptLeft, StandsPlain};
 
@@ -14,7 +14,7 @@ use crate::image::run_image;
 use std::alloc::Global;
 use ygg_base::{Library, Sink, Status, Text};
 use ygg_run_mounted::{Device, Script, plain_script, read_script};
-use ygg_top_device::{CommandStop, MOST_BYTES, end, fetched};
+use ygg_top_command::{CommandStop, MOST_BYTES, end, fetched};
 use ygg_type::Typed;
 
 /// The script for a layer file that stands under the name, the fourth word after the command's; or why there is none: what stands there is refused 73 or 11 at

@@ -43,15 +43,15 @@ use Rattle.ygg_base.specs.declared.status.Status.TheVariants.{Done, Refuted, Ref
 use Rattle.ygg_base.specs.Outside.{Rose}
 use Rattle.ygg_syntax.specs.declared.tree.File.{File}
 use Rattle.ygg_oblige_reading.specs.ygg_rules.declared.rule.RuleKind.{RuleKind}
-use Rattle.ygg_yard_made.specs.ygg_histories.Claims.{Claim, ClaimViolated, claims_of}
+use Rattle.ygg_yard_made.specs.ygg_meaning.Claims.{Claim, ClaimViolated, claims_of}
 use Rattle.std.proofs.lemmas.List.Elements.{All-nil, All-cons}
 use Rattle.ygg_oblige_decided.specs.ygg_bank.Nodes.{IsBank, HasWidth}
 use Rattle.ygg_oblige_decided.specs.ygg_bank.Values.{InputsFit, inputs_of}
 use Rattle.ygg_oblige_decided.specs.ygg_bank.declared.env.Given.{Given}
 use Rattle.ygg_oblige_decided.specs.ygg_bank.declared.node.Id.{Id}
 use Rattle.ygg_oblige_decided.specs.ygg_bank.declared.node.Node.{Node}
-use Rattle.ygg_oblige_decided.specs.ygg_oblige_terms.Terms.{file_made}
-use Rattle.ygg_oblige_decided.specs.ygg_oblige_terms.Meaning.{AreTermsOf, claim_name}
+use Rattle.ygg_oblige_decided.specs.ygg_oblige_pieces.Terms.{file_made}
+use Rattle.ygg_oblige_decided.specs.ygg_oblige_pieces.Meaning.{AreTermsOf, claim_name}
 use Rattle.ygg_oblige_reading.specs.Obligations.{ArePlaced, terms_in, names_in}
 use Rattle.ygg_oblige_reading.specs.Obligation.{Obligation}
 use Rattle.ygg_top_replay.specs.ygg_report.Lines.{verdict_line, verified_line, undecided_line, shows_line}
@@ -59,14 +59,14 @@ use Rattle.ygg_top_replay.specs.ygg_report.Tallies.{finds_failed, finds_spent}
 use Rattle.ygg_top_replay.specs.ygg_report.declared.verdict.Verdict as report
 use Rattle.ygg_top_replay.specs.ygg_report.declared.verdict.Verdict.TheVariants as reports
 use Rattle.ygg_oblige_reading.specs.ygg_sched.Printing.{text_of}
-use Rattle.ygg_yard_made.specs.ygg_histories.Stack.{layers_of}
+use Rattle.ygg_yard_made.specs.ygg_meaning.Stack.{layers_of}
 use Rattle.ygg_yard_made.specs.ygg_meaning.Obligations as meaning
 use Rattle.ygg_oblige_decided.specs.ygg_sym_laws.Means.{terms_of}
 use Rattle.ygg_oblige_reading.specs.Meant.{IsMadeIn}
 use Rattle.ygg_sched_names.specs.ObligeSchedulesLaws.{AllExact}
 use Rattle.ygg_sched_names.specs.Schedules.{all_schedules}
-use Rattle.ygg_sched_names.specs.ygg_replay_text.Shown.{meant}
-use Rattle.ygg_sched_names.specs.ygg_replay_text.Ending.{Replaying}
+use Rattle.ygg_sched_names.specs.ygg_replay.Shown.{meant}
+use Rattle.ygg_sched_names.specs.ygg_replay.Ending.{Replaying}
 use Rattle.ygg_top_verify.specs.declared.verdict.Refutation.{Refutation}
 use Rattle.ygg_top_verify.specs.declared.verdict.Summary.{Summary}
 use Rattle.ygg_top_verify.specs.Verdict.{

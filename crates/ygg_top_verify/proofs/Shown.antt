@@ -12,8 +12,8 @@ use Rattle.ygg_yard_made.specs.ygg_type_rules.declared.type_error.TypeError.{Typ
 use Rattle.ygg_type.specs.Typed.{IsFirstTypeError}
 use Rattle.ygg_yard_made.specs.ygg_accept.Accepting.{IsAccepted, RefusesLayers, RefusesTokens}
 use Rattle.ygg_top_replay.specs.ygg_report.Lines.{shows_line}
-use Rattle.ygg_sched_names.specs.ygg_replay_text.Ending.{Replaying}
-use Rattle.ygg_sched_names.specs.ygg_replay_text.Laws.{OneEnding}
+use Rattle.ygg_sched_names.specs.ygg_replay.Ending.{Replaying}
+use Rattle.ygg_sched_names.specs.ygg_replay.Laws.{OneEnding}
 use Rattle.ygg_sched_names.specs.Laws.{PrintedShows}
 use Rattle.ygg_top_replay.specs.ygg_top_command.Refusing.{IsLayerFile, RefusesFile}
 use Rattle.ygg_top_replay.specs.Replaying.{ReplaysStored, Replays}

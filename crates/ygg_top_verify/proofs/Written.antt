@@ -16,8 +16,8 @@ use Rattle.ygg_yard_made.specs.ygg_meaning.Refines.{Below}
 use Rattle.ygg_yard_made.specs.ygg_meaning.Related.{shaped}
 use Rattle.ygg_yard_made.specs.ygg_meaning.Shapes.{env_fits}
 use Rattle.ygg_yard_made.specs.ygg_meaning.Violates.{shapes_fit}
-use Rattle.ygg_yard_made.specs.ygg_histories.Claims.{Claim, ClaimViolated, claims_at, claims_on, claims_of}
-use Rattle.ygg_yard_made.specs.ygg_histories.Stack.{Layers, below_of, layers_of}
+use Rattle.ygg_yard_made.specs.ygg_meaning.Claims.{Claim, ClaimViolated, claims_at, claims_on, claims_of}
+use Rattle.ygg_yard_made.specs.ygg_meaning.Stack.{Layers, below_of, layers_of}
 use Rattle.ygg_oblige_reading.specs.ygg_rules.declared.rule.RuleKind.{RuleKind}
 use Rattle.ygg_oblige_decided.specs.ygg_bank.Nodes.{IsBank}
 use Rattle.ygg_oblige_decided.specs.ygg_bank.Values.{Inputs, InputsFit, value_of}
@@ -25,16 +25,16 @@ use Rattle.ygg_oblige_decided.specs.ygg_bank.declared.node.Id.{Id}
 use Rattle.ygg_oblige_decided.specs.ygg_bank.declared.node.Node.{Node}
 use Rattle.ygg_oblige_decided.specs.ygg_sym_expr.Exprs.{SymFunctions}
 use Rattle.ygg_oblige_decided.specs.ygg_sym_laws.Means.{terms_of}
-use Rattle.ygg_oblige_decided.specs.ygg_oblige_terms.Meaning.{Refuting, AreTermsOf, claim_name}
-use Rattle.ygg_oblige_decided.specs.ygg_oblige_terms.Numbers.{numbers_of}
-use Rattle.ygg_oblige_decided.specs.ygg_oblige_terms.States.{state_words}
-use Rattle.ygg_oblige_decided.specs.ygg_oblige_terms.Terms.{after_layers, file_made}
+use Rattle.ygg_oblige_decided.specs.ygg_oblige_pieces.Meaning.{Refuting, AreTermsOf, claim_name}
+use Rattle.ygg_oblige_decided.specs.ygg_oblige_pieces.Numbers.{numbers_of}
+use Rattle.ygg_oblige_decided.specs.ygg_oblige_pieces.TermStates.{state_words}
+use Rattle.ygg_oblige_decided.specs.ygg_oblige_pieces.Terms.{after_layers, file_made}
 use Rattle.ygg_sched_names.specs.ObligeSchedulesLaws.{AllExact, FileSchedules}
 use Rattle.ygg_sched_names.specs.Schedules.{values_of, schedule_of, schedules_of, layer_schedules, all_schedules}
 use Rattle.ygg_oblige_reading.specs.ygg_sched.Fitting.{halt_meant}
 use Rattle.ygg_oblige_reading.specs.ygg_sched.declared.schedule.Halt.{Halt}
 use Rattle.ygg_oblige_reading.specs.ygg_sched.declared.schedule.Schedule.{Schedule}
-use Rattle.ygg_sched_names.specs.ygg_replay_text.Shown.{meant}
+use Rattle.ygg_sched_names.specs.ygg_replay.Shown.{meant}
 use Rattle.ygg_top_verify.specs.Verdict.{IsViolation}
 
 both : (a b : Bool) → (a && b) ≡ true → (a ≡ true) × (b ≡ true)

@@ -35,7 +35,7 @@ use Rattle.ygg_oblige_decided.specs.ygg_bank.declared.env.Given.{Given}
 use Rattle.ygg_oblige_decided.specs.ygg_bank.Values.{inputs_of}
 use Rattle.ygg_oblige_decided.specs.ygg_bank.declared.node.Id.{Id}
 use Rattle.ygg_oblige_decided.specs.ygg_bank.declared.node.Node.{Node}
-use Rattle.ygg_oblige_decided.specs.ygg_gates_meaning.Laws.{IsZeroIn}
+use Rattle.ygg_oblige_decided.specs.ygg_gates.Laws.{IsZeroIn}
 use Rattle.ygg_oblige_decided.specs.ygg_decide.Deciding.{IsNeverZero}
 use Rattle.ygg_top_replay.specs.ygg_report.Lines.{verdict_line, undecided_line, verified_line}
 use Rattle.ygg_top_replay.specs.ygg_report.Tallies.{finds_spent}
@@ -46,7 +46,7 @@ use Rattle.ygg_oblige_decided.specs.ygg_bank.Nodes.{HasWidth, IsBank}
 use Rattle.ygg_oblige_reading.specs.ygg_sched.declared.schedule.Schedule.{Schedule}
 use Rattle.ygg_oblige_reading.specs.Obligations.{ArePlaced}
 pub use Rattle.ygg_oblige_reading.specs.Obligations.{terms_in, names_in}
-use Rattle.ygg_oblige_decided.specs.ygg_oblige_terms.Terms.{file_made}
+use Rattle.ygg_oblige_decided.specs.ygg_oblige_pieces.Terms.{file_made}
 pub use Rattle.ygg_oblige_reading.specs.Meant.{FitsTerms, Init}
 use Rattle.ygg_oblige_reading.specs.Meant.{IsNamed}
 pub use Rattle.ygg_oblige_reading.specs.Obligation.{Obligation}

@@ -1,4 +1,3 @@
-pub use Rattle.ygg_yard_made.specs.ygg_histories
 pub use Rattle.ygg_yard_made.specs.ygg_meaning
 pub use Rattle.ygg_oblige_reading.specs.ygg_rules
 pub use Rattle.ygg_top_replay.specs.ygg_top_command

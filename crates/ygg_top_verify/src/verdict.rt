@@ -3,7 +3,7 @@
 ghost use Rattle.std.specs.Prelude.{◌≡◌, ◌<◌, ◌≤◌, ◌||◌, length, IfOk, IfErr, IfSome};
 ghost use Rattle.ygg_base.specs.Outside.{Rose};
 ghost use Rattle.ygg_oblige_decided.specs.ygg_bank.Values.{inputs_of};
-ghost use Rattle.ygg_yard_made.specs.ygg_histories.Claims.{claims_of};
+ghost use Rattle.ygg_yard_made.specs.ygg_meaning.Claims.{claims_of};
 ghost use Rattle.ygg_oblige_reading.specs.Obligations.{names_in};
 ghost use Rattle.ygg_oblige_reading.specs.Meant.{FitsTerms};
 ghost use Rattle.ygg_top_replay.specs.ygg_report.Tallies.{finds_spent};

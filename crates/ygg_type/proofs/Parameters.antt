@@ -6,8 +6,8 @@ use Rattle.ygg_type_body.specs.ygg_symbols.Names.{Named}
 use Rattle.ygg_type_body.specs.ygg_type_rules.declared.scope.Signature.{Signature}
 use Rattle.ygg_type_body.specs.ygg_type_rules.Scopes.{Scope}
 use Rattle.ygg_type_body.specs.ygg_type_rules.Definitions.{with_parameter, with_parameters, definition_scope, with_definition}
-use Rattle.ygg_type_body.specs.ygg_type_scope.Checking.{Grows}
-use Rattle.ygg_type_body.proofs.of_ygg_type_scope.Restored.{grows_same, grows_on, grows_local}
+use Rattle.ygg_type_body.specs.Checking.{Grows}
+use Rattle.ygg_type_body.proofs.Restored.{grows_same, grows_on, grows_local}
 
 -- parameters are names at the end
 pub grows_parameters : (ps : List Declared) (scope : Scope) → Grows scope (with_parameters ps scope)

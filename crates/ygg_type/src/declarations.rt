@@ -6,7 +6,7 @@ ghost use Rattle.ygg_type_body.specs.ygg_type_rules.TypeErrors.{first_after};
 ghost use Rattle.ygg_type_body.specs.ygg_type_rules.Scopes.{seen_as};
 ghost use Rattle.ygg_type_body.specs.ygg_type_rules.Definitions.{parameters_errors, with_parameters, claim_errors};
 ghost use Rattle.ygg_type_body.specs.ygg_type_rules.Layers.{view_errors, formula_errors};
-ghost use Rattle.ygg_type_body.specs.ygg_type_scope.Checking.{scope_of};
+ghost use Rattle.ygg_type_body.specs.Checking.{scope_of};
 
 use ygg_base::Reason;
 use ygg_list::NoMemory;

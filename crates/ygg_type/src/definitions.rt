@@ -5,7 +5,7 @@ ghost use Rattle.ygg_type_body.specs.ygg_syntax_count.Weights.{weights_of, expr_
 ghost use Rattle.ygg_type_body.specs.ygg_type_rules.TypeErrors.{first_after};
 ghost use Rattle.ygg_type_body.specs.ygg_type_rules.Definitions.{definition_errors, definitions_errors, definition_scope};
 ghost use Rattle.ygg_type_body.specs.ygg_type_rules.Definitions.{with_definition, with_definitions, with_parameters};
-ghost use Rattle.ygg_type_body.specs.ygg_type_scope.Checking.{scope_of};
+ghost use Rattle.ygg_type_body.specs.Checking.{scope_of};
 
 use crate::declarations::parameters;
 use ygg_base::Reason;

@@ -16,7 +16,7 @@ ghost use Rattle.ygg_type_body.specs.ygg_type_rules.Files.{
   disk_below,
   type_errors_of,
 };
-ghost use Rattle.ygg_type_body.specs.ygg_type_scope.Checking.{scope_of};
+ghost use Rattle.ygg_type_body.specs.Checking.{scope_of};
 ghost use Rattle.ygg_type.specs.Ready.{IsReady, below_in};
 
 use crate::definitions::definitions;

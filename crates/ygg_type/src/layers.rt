@@ -23,7 +23,7 @@ ghost use Rattle.ygg_type_body.specs.ygg_type_rules.Layers.{
   relations_errors,
   parts_errors,
 };
-ghost use Rattle.ygg_type_body.specs.ygg_type_scope.Checking.{scope_of};
+ghost use Rattle.ygg_type_body.specs.Checking.{scope_of};
 
 use crate::declarations::{formula, parameters, viewed};
 use std::alloc::Global;

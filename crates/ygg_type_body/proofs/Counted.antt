@@ -1,8 +1,8 @@
 -- Picks that are counted as 1,000,000 where they are more.
 use Rattle.std.proofs.Common.{◌≡◌, ℕ, ◌+◌, min, arith}
 use Rattle.std.proofs.lemmas.Bool.Decides.{nat_tests}
-use Rattle.ygg_type_scope.specs.ygg_syntax_count.Budget.{limit}
-use Rattle.ygg_type_scope.specs.ygg_type_rules.Limits.{picks_fit}
+use Rattle.ygg_type_body.specs.ygg_syntax_count.Budget.{limit}
+use Rattle.ygg_type_body.specs.ygg_type_rules.Limits.{picks_fit}
 
 pub picks_stay : (n : ℕ) → picks_fit (min limit n) ≡ picks_fit n
 picks_stay n = grind (arith, nat_tests)

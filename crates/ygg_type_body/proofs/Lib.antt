@@ -1,2 +1,4 @@
-pub use Rattle.ygg_type_scope.proofs as of_ygg_type_scope
 pub mod Counted
+pub mod Arguments
+pub mod Powers
+pub mod Restored

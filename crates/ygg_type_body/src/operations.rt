@@ -1,15 +1,15 @@
 //! How many picks the specification of an operation takes.
 
 ghost use Rattle.std.specs.Prelude.{◌≡◌, None};
-ghost use Rattle.ygg_type_scope.specs.ygg_type_rules.TypeErrors.{first_after};
-ghost use Rattle.ygg_type_scope.specs.ygg_type_rules.Limits.{picks_fit};
-ghost use Rattle.ygg_type_scope.specs.ygg_type_rules.Layers.{fall_picks, picks_errors};
+ghost use Rattle.ygg_type_body.specs.ygg_type_rules.TypeErrors.{first_after};
+ghost use Rattle.ygg_type_body.specs.ygg_type_rules.Limits.{picks_fit};
+ghost use Rattle.ygg_type_body.specs.ygg_type_rules.Layers.{fall_picks, picks_errors};
 
+use crate::first::First;
+use crate::limits::are_picks;
 use ygg_base::Reason;
 use ygg_syntax::tree::{Block, Operation};
-use ygg_type_scope::choices;
-use ygg_type_scope::first::First;
-use ygg_type_scope::limits::are_picks;
+use ygg_type_rules::choices;
 
 /// Whether the specification may take as many picks as it does where power fails within an operation of a layer with this
 /// `crash` block.

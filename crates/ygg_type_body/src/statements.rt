@@ -1,8 +1,8 @@
 ghost use Rattle.std.specs.Prelude.{◌≡◌, IfOk, OnOk, map, None};
 ghost use Rattle.std.specs.Option.{option_copied};
-ghost use Rattle.ygg_type_scope.specs.ygg_type_rules.TypeErrors.{first_after};
-ghost use Rattle.ygg_type_scope.specs.ygg_type_rules.Expressions.{with_number};
-ghost use Rattle.ygg_type_scope.specs.ygg_type_rules.Statements.{
+ghost use Rattle.ygg_type_body.specs.ygg_type_rules.TypeErrors.{first_after};
+ghost use Rattle.ygg_type_body.specs.ygg_type_rules.Expressions.{with_number};
+ghost use Rattle.ygg_type_body.specs.ygg_type_rules.Statements.{
   call_rule,
   call_typing,
   source_typing,
@@ -17,16 +17,17 @@ ghost use Rattle.ygg_type_scope.specs.ygg_type_rules.Statements.{
   block_errors,
   body_errors,
 };
-ghost use Rattle.ygg_type_scope.specs.Checking.{scope_of, Grows};
+ghost use Rattle.ygg_type_body.specs.Checking.{scope_of, Grows};
 
+use crate::checker::Typer;
+use crate::first::First;
+use crate::limits::is_weight;
+use crate::rules::all_shaped;
+use crate::shapes;
 use ygg_base::Reason;
 use ygg_list::NoMemory;
 use ygg_syntax::tree::{Block, Expr, Index, Name, Numeral, Place, Source, Stmt};
-use ygg_type_scope::checker::Typer;
-use ygg_type_scope::first::First;
-use ygg_type_scope::limits::is_weight;
-use ygg_type_scope::rules::all_shaped;
-use ygg_type_scope::{Local, Signature, TypedExpr, shapes};
+use ygg_type_rules::{Local, Signature, TypedExpr};
 use ygg_value::Shape;
 
 /// The rule of a call of an operation, or of no operation, whose answer is used or dropped.
@@ -194,7 +195,7 @@ fn answer<'a>(
 
 /// A statement. Its only error is out of memory.
 #[cycle(walk)]
-#[tactic(auto, using(ygg_type_scope::proofs::Restored::grows_same, ygg_type_scope::proofs::Restored::grows_local))]
+#[tactic(auto, using(crate::proofs::Restored::grows_same, crate::proofs::Restored::grows_local))]
 fn statement<'a>(checker: &mut Typer<'a>, one: &'a Stmt) -> Result<(), NoMemory>
     ensures first { OnOk result (checker.new.first.type_error ≡ first_after checker.old.first.type_error (walked one.now (scope_of checker.old)).type_errors) }
     ensures scope { OnOk result (scope_of checker.new ≡ (walked one.now (scope_of checker.old)).scope) }
@@ -230,7 +231,7 @@ fn statement<'a>(checker: &mut Typer<'a>, one: &'a Stmt) -> Result<(), NoMemory>
 
 /// Statements one after another.
 #[cycle(walk)]
-#[tactic(auto, using(ygg_type_scope::proofs::Restored::grows_same, ygg_type_scope::proofs::Restored::grows_on))]
+#[tactic(auto, using(crate::proofs::Restored::grows_same, crate::proofs::Restored::grows_on))]
 fn statements<'a>(checker: &mut Typer<'a>, all: &'a [Stmt]) -> Result<(), NoMemory>
     ensures first { OnOk result (checker.new.first.type_error ≡ first_after checker.old.first.type_error
         (in_order (map walked all.now) (scope_of checker.old)).type_errors) }
@@ -245,7 +246,7 @@ fn statements<'a>(checker: &mut Typer<'a>, all: &'a [Stmt]) -> Result<(), NoMemo
 
 /// A block, whose names stay in scope.
 #[cycle(walk)]
-#[tactic(auto, using(ygg_type_scope::proofs::Restored::grows_same, ygg_type_scope::proofs::Restored::grows_on))]
+#[tactic(auto, using(crate::proofs::Restored::grows_same, crate::proofs::Restored::grows_on))]
 fn inside<'a>(checker: &mut Typer<'a>, b: &'a Block, shape: Option<Shape>) -> Result<(), NoMemory>
     ensures first { OnOk result (checker.new.first.type_error ≡ first_after checker.old.first.type_error (block_errors b.now shape (scope_of checker.old))) }
     ensures grows { OnOk result (Grows (scope_of checker.old) (scope_of checker.new)) }
@@ -257,7 +258,7 @@ fn inside<'a>(checker: &mut Typer<'a>, b: &'a Block, shape: Option<Shape>) -> Re
 
 /// A block, with an answer of this shape where one is wanted. Its only error is out of memory.
 #[cycle(walk)]
-#[tactic(auto, using(ygg_type_scope::proofs::Restored::cut_to))]
+#[tactic(auto, using(crate::proofs::Restored::cut_to))]
 pub fn block<'a>(
     checker: &mut Typer<'a>,
     b: &'a Block,
@@ -274,7 +275,7 @@ pub fn block<'a>(
 
 /// The block of a loop, with its number.
 #[cycle(walk)]
-#[tactic(auto, using(ygg_type_scope::proofs::Restored::cut_to, ygg_type_scope::proofs::Restored::grows_local))]
+#[tactic(auto, using(crate::proofs::Restored::cut_to, crate::proofs::Restored::grows_local))]
 fn repeated<'a>(
     checker: &mut Typer<'a>,
     x: &'a Name,

@@ -41,17 +41,17 @@ use Rattle.ygg_type_sound.specs.Statements.{in_order, walked}
 use Rattle.ygg_type_sound.specs.Definitions.{parameter_shapes}
 use Rattle.ygg_type_sound.specs.Layers.{Below, layer_scope, operation_signature}
 use Rattle.ygg_type_sound.specs.Files.{disk_operations}
-use Rattle.ygg_histories.specs.ygg_meaning.Environments.{Name, Env}
-use Rattle.ygg_histories.specs.ygg_meaning.Meaning.{Functions}
-use Rattle.ygg_histories.specs.ygg_meaning.Shapes.{values_fit, zeros_of}
-use Rattle.ygg_histories.specs.ygg_meaning.Progress.{Eval, Answer, Point, Waits, Goes, Question, Choice, Call, Progress, Asks, ended}
-use Rattle.ygg_histories.specs.ygg_meaning.Machine.{Picks, State, based}
-use Rattle.ygg_histories.specs.ygg_meaning.Runs.{Dialogue, WholeCall, Reaches, answers_of}
-use Rattle.ygg_histories.specs.ygg_meaning.Layer.{ClosedLayer, operation_of, dialogue_of, eval_of}
-use Rattle.ygg_histories.specs.ygg_meaning.Spec.{Spec}
-use Rattle.ygg_histories.specs.ygg_meaning.DiskMachine.{DiskMachine}
-use Rattle.ygg_histories.specs.Under.{Failure, FailsBy}
-use Rattle.ygg_histories.specs.Laws.{IsAnswered, Answered}
+use Rattle.ygg_meaning.specs.Environments.{Name, Env}
+use Rattle.ygg_meaning.specs.Meaning.{Functions}
+use Rattle.ygg_meaning.specs.Shapes.{values_fit, zeros_of}
+use Rattle.ygg_meaning.specs.Progress.{Eval, Answer, Point, Waits, Goes, Question, Choice, Call, Progress, Asks, ended}
+use Rattle.ygg_meaning.specs.Machine.{Picks, State, based}
+use Rattle.ygg_meaning.specs.Runs.{Dialogue, WholeCall, Reaches, answers_of}
+use Rattle.ygg_meaning.specs.Layer.{ClosedLayer, operation_of, dialogue_of, eval_of}
+use Rattle.ygg_meaning.specs.Spec.{Spec}
+use Rattle.ygg_meaning.specs.DiskMachine.{DiskMachine}
+use Rattle.ygg_meaning.specs.Under.{Failure, FailsBy}
+use Rattle.ygg_meaning.specs.HistoryLaws.{IsAnswered, Answered}
 use Rattle.ygg_type_sound.specs.Fitting.{all_fit}
 use Rattle.ygg_type_sound.specs.Agrees.{Agrees}
 use Rattle.ygg_type_sound.proofs.Tests.{left as first_of}

@@ -50,9 +50,9 @@ use Rattle.ygg_type_sound.specs.Shapes.{word_shape}
 use Rattle.ygg_type_sound.specs.Scopes.{Scope, is_taken, with_local}
 use Rattle.ygg_type_sound.specs.Expressions.{wanted, typings, parts_of, expected_errors, with_number, number_errors}
 use Rattle.ygg_type_sound.specs.Statements.{Walked, source_typing, call_typing, place_rule, in_order, node_walked, node_inside, walked}
-use Rattle.ygg_histories.specs.ygg_meaning.Environments.{Env}
-use Rattle.ygg_histories.specs.ygg_meaning.Meaning.{is_one}
-use Rattle.ygg_histories.specs.ygg_meaning.Progress.{
+use Rattle.ygg_meaning.specs.Environments.{Env}
+use Rattle.ygg_meaning.specs.Meaning.{is_one}
+use Rattle.ygg_meaning.specs.Progress.{
   Eval,
   Run,
   Answer,

@@ -5,14 +5,14 @@ use Rattle.std.proofs.Math.Logic.{∥∥₁_elim, ∥∥₁_map}
 use Rattle.ygg_syntax.specs.declared.tree.File.{File}
 use Rattle.ygg_syntax.specs.Files.{IsDerived, IsDerivable}
 use Rattle.ygg_type_sound.specs.Files.{IsTyped}
-use Rattle.ygg_histories.specs.ygg_meaning.Environments.{Env}
-use Rattle.ygg_histories.specs.ygg_meaning.Machine.{Machine}
-use Rattle.ygg_histories.specs.ygg_meaning.DiskMachine.{DiskMachine, disk_store}
-use Rattle.ygg_histories.specs.Stack.{Layers, Bottom, Top, AllRefine, layers_of}
-use Rattle.ygg_histories.specs.Under.{Under}
-use Rattle.ygg_histories.specs.Laws.{ByLinks, AllAnswered}
-use Rattle.ygg_histories.proofs.Plain.{store_plain}
-use Rattle.ygg_histories.proofs.Composed.{compose}
+use Rattle.ygg_meaning.specs.Environments.{Env}
+use Rattle.ygg_meaning.specs.Machine.{Machine}
+use Rattle.ygg_meaning.specs.DiskMachine.{DiskMachine, disk_store}
+use Rattle.ygg_meaning.specs.Stack.{Layers, Bottom, Top, AllRefine, layers_of}
+use Rattle.ygg_meaning.specs.Under.{Under}
+use Rattle.ygg_meaning.specs.HistoryLaws.{ByLinks, AllAnswered}
+use Rattle.ygg_meaning.proofs.Plain.{store_plain}
+use Rattle.ygg_meaning.proofs.Composed.{compose}
 use Rattle.ygg_type_progress.specs.Kinds.{file_keeps}
 use Rattle.ygg_type_progress.proofs.Grammar.{file_kept}
 use Rattle.ygg_type_progress.proofs.Files.{Known, file_known}

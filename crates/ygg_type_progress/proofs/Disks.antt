@@ -15,14 +15,14 @@ use Rattle.ygg_type_sound.specs.Signature.{Signature}
 use Rattle.ygg_type_sound.specs.TypeErrors.{none, unless}
 use Rattle.ygg_type_sound.specs.Limits.{width_fits, words_fit, rows_fit, words_fit_in}
 use Rattle.ygg_type_sound.specs.Files.{disk_errors, address, disk_row, disk_operations}
-use Rattle.ygg_histories.specs.ygg_meaning.Disk as disk
-use Rattle.ygg_histories.specs.ygg_meaning.Kinds.{Model, model_of}
-use Rattle.ygg_histories.specs.ygg_meaning.Environments.{Name, Env}
-use Rattle.ygg_histories.specs.ygg_meaning.Progress.{Answer}
-use Rattle.ygg_histories.specs.ygg_meaning.Machine.{Picks, State, based}
-use Rattle.ygg_histories.specs.ygg_meaning.Runs.{Dialogue, WholeCall, Reaches}
-use Rattle.ygg_histories.specs.ygg_meaning.DiskMachine.{disk_call, answer_to, tables_in, DiskMachine}
-use Rattle.ygg_histories.specs.Under.{Failure, InCall, InTick, Between, FailsBy}
+use Rattle.ygg_meaning.specs.Disk as disk
+use Rattle.ygg_meaning.specs.Kinds.{Model, model_of}
+use Rattle.ygg_meaning.specs.Environments.{Name, Env}
+use Rattle.ygg_meaning.specs.Progress.{Answer}
+use Rattle.ygg_meaning.specs.Machine.{Picks, State, based}
+use Rattle.ygg_meaning.specs.Runs.{Dialogue, WholeCall, Reaches}
+use Rattle.ygg_meaning.specs.DiskMachine.{disk_call, answer_to, tables_in, DiskMachine}
+use Rattle.ygg_meaning.specs.Under.{Failure, InCall, InTick, Between, FailsBy}
 use Rattle.ygg_type_sound.proofs.Tests.{left as first_of, right as second_of, passed, width_within, words_within, bytes_same, bytes_equal}
 use Rattle.ygg_type_progress.specs.Machines.{CanCall, CanFall, CanLose}
 

@@ -8,9 +8,9 @@ use Rattle.ygg_syntax.specs.declared.tree.Block.{Block, roll-Block, map-Block, f
 use Rattle.ygg_syntax.specs.declared.tree.Stmt.TheOpen.{Stmt-F, Block-F}
 use Rattle.ygg_syntax.specs.declared.tree.Stmt.TheFolds.{ind-Stmt, fold-roll-Stmt, fold-roll-Block}
 use Rattle.ygg_value.specs.declared.row.Value.{Value}
-use Rattle.ygg_histories.specs.ygg_meaning.Environments.{Env}
-use Rattle.ygg_histories.specs.ygg_meaning.Meaning.{is_one}
-use Rattle.ygg_histories.specs.ygg_meaning.Progress.{
+use Rattle.ygg_meaning.specs.Environments.{Env}
+use Rattle.ygg_meaning.specs.Meaning.{is_one}
+use Rattle.ygg_meaning.specs.Progress.{
   Eval,
   Run,
   Answer,

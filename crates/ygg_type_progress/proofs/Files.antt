@@ -41,11 +41,11 @@ use Rattle.ygg_type_sound.specs.Definitions.{definitions_errors, with_definition
 use Rattle.ygg_type_sound.specs.Layers.{Below, layer_scope, parts_errors, operation_signature, with_operations}
 use Rattle.ygg_type_sound.specs.Layers as typing
 use Rattle.ygg_type_sound.specs.Files.{IsTyped, type_errors_of, disk_errors, disk_row, disk_operations, disk_below, count_error, layer_errors, layers_errors}
-use Rattle.ygg_histories.specs.ygg_meaning.Meaning.{Functions, functions_of}
-use Rattle.ygg_histories.specs.ygg_meaning.Layer.{ClosedLayer}
-use Rattle.ygg_histories.specs.ygg_meaning.DiskMachine.{DiskMachine}
-use Rattle.ygg_histories.specs.Stack.{Layers, Over, tables_of, layers_on, layers_of}
-use Rattle.ygg_histories.specs.Laws.{Answered, AllAnswered}
+use Rattle.ygg_meaning.specs.Meaning.{Functions, functions_of}
+use Rattle.ygg_meaning.specs.Layer.{ClosedLayer}
+use Rattle.ygg_meaning.specs.DiskMachine.{DiskMachine}
+use Rattle.ygg_meaning.specs.Stack.{Layers, Over, tables_of, layers_on, layers_of}
+use Rattle.ygg_meaning.specs.HistoryLaws.{Answered, AllAnswered}
 use Rattle.ygg_type_sound.specs.Fitting.{IsShaped}
 use Rattle.ygg_type_sound.proofs.Parameters.{same_fit}
 use Rattle.ygg_type_sound.proofs.Definitions.{MeetsAll, definitions_meet}

@@ -47,9 +47,9 @@ use Rattle.ygg_type_sound.specs.Shapes.{is_word, part_shape}
 use Rattle.ygg_type_sound.specs.Scopes.{Scope}
 use Rattle.ygg_type_sound.specs.Expressions.{Own, index_rule, wanted_word, typing}
 use Rattle.ygg_type_sound.specs.Statements.{indexed}
-use Rattle.ygg_histories.specs.ygg_meaning.Environments.{Env}
-use Rattle.ygg_histories.specs.ygg_meaning.Progress.{Eval, indices_of}
-use Rattle.ygg_histories.specs.ygg_meaning.Shapes.{fits, words_fit}
+use Rattle.ygg_meaning.specs.Environments.{Env}
+use Rattle.ygg_meaning.specs.Progress.{Eval, indices_of}
+use Rattle.ygg_meaning.specs.Shapes.{fits, words_fit}
 use Rattle.ygg_type_sound.proofs.Tests.{left as first_of, right as second_of, passed, turned}
 
 -- a value has one shape alone

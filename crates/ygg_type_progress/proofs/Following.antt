@@ -31,9 +31,9 @@ use Rattle.ygg_value.specs.declared.row.Value.{Value}
 use Rattle.ygg_syntax.specs.declared.tree.Declared.{Declared}
 use Rattle.ygg_type_sound.specs.ygg_symbols.Names.{look_up, has}
 use Rattle.ygg_type_sound.specs.Scopes.{Scope}
-use Rattle.ygg_histories.specs.ygg_meaning.Environments.{Name, Env, assign}
-use Rattle.ygg_histories.specs.ygg_meaning.Meaning.{Functions}
-use Rattle.ygg_histories.specs.ygg_meaning.Shapes.{shape_in, fits, env_fits}
+use Rattle.ygg_meaning.specs.Environments.{Name, Env, assign}
+use Rattle.ygg_meaning.specs.Meaning.{Functions}
+use Rattle.ygg_meaning.specs.Shapes.{shape_in, fits, env_fits}
 use Rattle.ygg_type_sound.specs.Fitting.{HasShape}
 use Rattle.ygg_type_sound.specs.Agrees.{Agrees}
 use Rattle.ygg_type_sound.proofs.Fits.{fits_has, value_fits}

@@ -1,4 +1,4 @@
-pub use Rattle.ygg_histories.proofs as of_ygg_histories
+pub use Rattle.ygg_meaning.proofs as of_ygg_meaning
 pub mod Enough
 pub mod TypeErrors
 pub mod Asking

@@ -51,8 +51,8 @@ use Rattle.ygg_type_sound.specs.Layers.{
   view_errors,
   operation_blocks_errors,
 }
-use Rattle.ygg_histories.specs.ygg_meaning.Environments.{Name}
-use Rattle.ygg_histories.specs.ygg_meaning.Layer.{operation_in}
+use Rattle.ygg_meaning.specs.Environments.{Name}
+use Rattle.ygg_meaning.specs.Layer.{operation_in}
 use Rattle.ygg_type_sound.specs.Fitting.{IsShaped}
 use Rattle.ygg_type_sound.proofs.Tests.{left as first_of, right as second_of, passed, turned}
 use Rattle.ygg_type_sound.proofs.Names.{added_new}

@@ -38,14 +38,14 @@ use Rattle.ygg_type_sound.specs.ygg_symbols.Names.{look_up}
 use Rattle.ygg_type_sound.specs.Signature.{Signature}
 use Rattle.ygg_type_sound.specs.TypeErrors.{none}
 use Rattle.ygg_type_sound.specs.Files.{address, disk_row, disk_errors, disk_operations}
-use Rattle.ygg_histories.specs.ygg_meaning.Disk as disk
-use Rattle.ygg_histories.specs.ygg_meaning.Environments.{Name, Env}
-use Rattle.ygg_histories.specs.ygg_meaning.Shapes.{fits, words_fit, env_fits}
-use Rattle.ygg_histories.specs.ygg_meaning.Progress.{Answer}
-use Rattle.ygg_histories.specs.ygg_meaning.Machine.{Picks, State, based}
-use Rattle.ygg_histories.specs.ygg_meaning.Kinds.{model_of}
-use Rattle.ygg_histories.specs.ygg_meaning.DiskMachine.{disk_call, answer_to, tables_in, DiskMachine}
-use Rattle.ygg_histories.specs.Stack.{tables_of_kind, tables_of}
+use Rattle.ygg_meaning.specs.Disk as disk
+use Rattle.ygg_meaning.specs.Environments.{Name, Env}
+use Rattle.ygg_meaning.specs.Shapes.{fits, words_fit, env_fits}
+use Rattle.ygg_meaning.specs.Progress.{Answer}
+use Rattle.ygg_meaning.specs.Machine.{Picks, State, based}
+use Rattle.ygg_meaning.specs.Kinds.{model_of}
+use Rattle.ygg_meaning.specs.DiskMachine.{disk_call, answer_to, tables_in, DiskMachine}
+use Rattle.ygg_meaning.specs.Stack.{tables_of_kind, tables_of}
 use Rattle.ygg_type_sound.specs.Fitting.{fits_wanted, all_fit}
 use Rattle.ygg_type_sound.proofs.Tests.{left as first_of, right as second_of, bytes_same, bytes_equal}
 use Rattle.ygg_type_progress.specs.Questions.{gives}

@@ -90,11 +90,11 @@ use Rattle.ygg_type_sound.specs.Statements.{
   walked,
   block_errors,
 }
-use Rattle.ygg_histories.specs.ygg_meaning.Environments.{Env, assign}
-use Rattle.ygg_histories.specs.ygg_meaning.Meaning.{Functions, is_one, value_with}
-use Rattle.ygg_histories.specs.ygg_meaning.Meaning as meaning
-use Rattle.ygg_histories.specs.ygg_meaning.Shapes.{fits}
-use Rattle.ygg_histories.specs.ygg_meaning.Progress.{
+use Rattle.ygg_meaning.specs.Environments.{Env, assign}
+use Rattle.ygg_meaning.specs.Meaning.{Functions, is_one, value_with}
+use Rattle.ygg_meaning.specs.Meaning as meaning
+use Rattle.ygg_meaning.specs.Shapes.{fits}
+use Rattle.ygg_meaning.specs.Progress.{
   Eval,
   Run,
   Answer,
@@ -125,7 +125,7 @@ use Rattle.ygg_histories.specs.ygg_meaning.Progress.{
   ended,
   after,
 }
-use Rattle.ygg_histories.specs.ygg_meaning_proofs_Uses.{Good, all_good, statements_good}
+use Rattle.ygg_meaning.proofs.Uses.{Good, all_good, statements_good}
 use Rattle.ygg_type_sound.specs.Fitting.{HasShape, fits_wanted, all_fit}
 use Rattle.ygg_type_sound.specs.Agrees.{Agrees}
 use Rattle.ygg_type_sound.proofs.Tests.{left as first_of, right as second_of, passed, turned}

@@ -52,13 +52,13 @@ use Rattle.ygg_type_sound.specs.Scopes.{Scope, seen_as}
 use Rattle.ygg_type_sound.specs.Statements.{block_errors, in_order, return_errors, walked}
 use Rattle.ygg_type_sound.specs.Definitions.{with_parameters}
 use Rattle.ygg_type_sound.specs.Layers.{Below, layer_scope, operation_signature}
-use Rattle.ygg_histories.specs.ygg_meaning.Environments.{Name, Env, bind}
-use Rattle.ygg_histories.specs.ygg_meaning.Meaning.{Functions}
-use Rattle.ygg_histories.specs.ygg_meaning.Shapes.{values_fit, env_fits, zeros_of}
-use Rattle.ygg_histories.specs.ygg_meaning.Progress.{Answer, Point, Waits, Goes, Question, Choice, Call, in_turn, run_of, answer_of}
-use Rattle.ygg_histories.specs.ygg_meaning.Machine.{Picks, State, based}
-use Rattle.ygg_histories.specs.ygg_meaning.Layer.{ClosedLayer, eval_of, operation_of}
-use Rattle.ygg_histories.specs.ygg_meaning.Spec.{
+use Rattle.ygg_meaning.specs.Environments.{Name, Env, bind}
+use Rattle.ygg_meaning.specs.Meaning.{Functions}
+use Rattle.ygg_meaning.specs.Shapes.{values_fit, env_fits, zeros_of}
+use Rattle.ygg_meaning.specs.Progress.{Answer, Point, Waits, Goes, Question, Choice, Call, in_turn, run_of, answer_of}
+use Rattle.ygg_meaning.specs.Machine.{Picks, State, based}
+use Rattle.ygg_meaning.specs.Layer.{ClosedLayer, eval_of, operation_of}
+use Rattle.ygg_meaning.specs.Spec.{
   start_outcome,
   Outcome,
   chosen,
@@ -74,10 +74,10 @@ use Rattle.ygg_histories.specs.ygg_meaning.Spec.{
   SpecFalls,
   SpecLoses,
 }
-use Rattle.ygg_histories.specs.ygg_meaning.Spec as machine
-use Rattle.ygg_histories.specs.ygg_meaning_proofs_Uses.{statements_good}
-use Rattle.ygg_histories.specs.ygg_meaning_proofs_Exact.{block_exact, exact_picks, call_picks_exact, crash_picks_exact, start_exact}
-use Rattle.ygg_histories.specs.Under.{Failure, InCall, InTick, Between, FailsBy}
+use Rattle.ygg_meaning.specs.Spec as machine
+use Rattle.ygg_meaning.proofs.Uses.{statements_good}
+use Rattle.ygg_meaning.proofs.Exact.{block_exact, exact_picks, call_picks_exact, crash_picks_exact, start_exact}
+use Rattle.ygg_meaning.specs.Under.{Failure, InCall, InTick, Between, FailsBy}
 use Rattle.ygg_type_sound.specs.Agrees.{Agrees}
 use Rattle.ygg_type_sound.proofs.Tests.{left as first_of, right as second_of}
 use Rattle.ygg_type_progress.specs.Kinds.{may_call, keeps, returns_declared, on_crash_keeps, operation_keeps}

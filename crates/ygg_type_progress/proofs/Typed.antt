@@ -24,7 +24,7 @@ use Rattle.ygg_type_sound.specs.Layers.{
   relations_errors,
   parts_errors,
 }
-use Rattle.ygg_histories.specs.ygg_meaning.Meaning.{Functions}
+use Rattle.ygg_meaning.specs.Meaning.{Functions}
 use Rattle.ygg_type_sound.proofs.Definitions.{MeetsAll}
 use Rattle.ygg_type_sound.proofs.Tests.{left as first_of, right as second_of}
 use Rattle.ygg_type_progress.specs.Kinds.{keeps, operation_keeps, tick_keeps, layer_keeps}

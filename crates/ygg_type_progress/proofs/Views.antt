@@ -46,9 +46,9 @@ use Rattle.ygg_type_sound.specs.Shapes.{shape_of}
 use Rattle.ygg_type_sound.specs.Scopes.{Scope, sees, seen_variable, is_taken, seen_as}
 use Rattle.ygg_type_sound.specs.Definitions.{type_text_errors, with_parameter, with_parameters, parameters_errors}
 use Rattle.ygg_type_sound.specs.Layers.{Below, with_variable, with_variables, variables_errors, variables_of, layer_scope, declared_errors}
-use Rattle.ygg_histories.specs.ygg_meaning.Environments.{Name, Env, bind}
-use Rattle.ygg_histories.specs.ygg_meaning.Meaning.{Functions}
-use Rattle.ygg_histories.specs.ygg_meaning.Shapes.{shape_in, fits, values_fit, env_fits, zeros_of}
+use Rattle.ygg_meaning.specs.Environments.{Name, Env, bind}
+use Rattle.ygg_meaning.specs.Meaning.{Functions}
+use Rattle.ygg_meaning.specs.Shapes.{shape_in, fits, values_fit, env_fits, zeros_of}
 use Rattle.ygg_type_sound.specs.Fitting.{IsShaped, HasShape, IsHeld}
 use Rattle.ygg_type_sound.specs.Agrees.{Agrees}
 use Rattle.ygg_type_sound.proofs.Tests.{left as first_of, right as second_of, passed, turned, bytes_same, bytes_equal}

@@ -7,9 +7,9 @@ use Rattle.ygg_syntax.specs.declared.tree.Block.{Block}
 use Rattle.ygg_type_sound.specs.TypeErrors.{none}
 use Rattle.ygg_type_sound.specs.Scopes.{Scope}
 use Rattle.ygg_type_sound.specs.Statements.{block_errors}
-use Rattle.ygg_histories.specs.ygg_meaning.Environments.{Env}
-use Rattle.ygg_histories.specs.ygg_meaning.Meaning.{Functions, value_with}
-use Rattle.ygg_histories.specs.ygg_meaning.Progress.{Eval, Question, Answer, Progress, Asks, Ends, after}
+use Rattle.ygg_meaning.specs.Environments.{Env}
+use Rattle.ygg_meaning.specs.Meaning.{Functions, value_with}
+use Rattle.ygg_meaning.specs.Progress.{Eval, Question, Answer, Progress, Asks, Ends, after}
 use Rattle.ygg_type_sound.specs.Agrees.{Agrees}
 use Rattle.ygg_type_progress.specs.Kinds.{keeps}
 use Rattle.ygg_type_progress.specs.Questions.{plain, answer_has, question_fits, AnswersFit, Follows}

@@ -5,13 +5,13 @@ use Rattle.ygg_syntax.specs.declared.tree.File.{File}
 use Rattle.ygg_syntax.specs.Files.{IsDerived}
 use Rattle.ygg_type_sound.specs.TypeErrors.{none}
 use Rattle.ygg_type_sound.specs.Files.{IsTyped, disk_errors}
-use Rattle.ygg_histories.specs.ygg_meaning.Environments.{Env}
-use Rattle.ygg_histories.specs.ygg_meaning.Machine.{State}
-use Rattle.ygg_histories.specs.ygg_meaning.DiskMachine.{DiskMachine}
-use Rattle.ygg_histories.specs.Stack.{Layers, Bottom, Top, BottomOf, AllRefine, FileRefines, layers_of}
-use Rattle.ygg_histories.specs.Under.{Under}
-use Rattle.ygg_histories.specs.History.{Entry, History, Allows}
-use Rattle.ygg_histories.specs.Laws.{ByLinks, FileAnswered}
+use Rattle.ygg_meaning.specs.Environments.{Env}
+use Rattle.ygg_meaning.specs.Machine.{State}
+use Rattle.ygg_meaning.specs.DiskMachine.{DiskMachine}
+use Rattle.ygg_meaning.specs.Stack.{Layers, Bottom, Top, BottomOf, AllRefine, FileRefines, layers_of}
+use Rattle.ygg_meaning.specs.Under.{Under}
+use Rattle.ygg_meaning.specs.History.{Entry, History, Allows}
+use Rattle.ygg_meaning.specs.HistoryLaws.{ByLinks, FileAnswered}
 use Rattle.ygg_type_progress.specs.Kinds.{file_keeps}
 use Rattle.ygg_type_progress.specs.Machines.{SpecAnswers, DiskAnswers}
 

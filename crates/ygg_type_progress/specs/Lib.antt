@@ -1,7 +1,6 @@
-pub use Rattle.ygg_histories.specs.ygg_disk
-pub use Rattle.ygg_histories.proofs.Mirrored as ygg_histories_proofs_Mirrored
-pub use Rattle.ygg_histories.specs as ygg_histories
-pub use Rattle.ygg_histories.specs.ygg_meaning
+pub use Rattle.ygg_meaning.specs.ygg_disk
+pub use Rattle.ygg_meaning.proofs.Mirrored as ygg_meaning_proofs_Mirrored
+pub use Rattle.ygg_meaning.specs as ygg_meaning
 pub use Rattle.ygg_type_sound.specs.ygg_symbols
 pub use Rattle.ygg_type_sound.specs.ygg_syntax_count
 pub use Rattle.ygg_type_sound.specs.ygg_type_rules
@@ -15,8 +14,8 @@ pub use Rattle.ygg_type_sound.proofs.Sounds as ygg_type_sound_proofs_Sounds
 pub use Rattle.ygg_type_sound.proofs.Steps as ygg_type_sound_proofs_Steps
 pub use Rattle.ygg_type_sound.proofs.Tests as ygg_type_sound_proofs_Tests
 pub use Rattle.ygg_type_sound.specs as ygg_type_sound
-pub use Rattle.ygg_histories.specs.Noted
-pub use Rattle.ygg_histories.specs.Stack
+pub use Rattle.ygg_meaning.specs.Noted
+pub use Rattle.ygg_meaning.specs.Stack
 pub mod Kinds
 pub mod Questions
 pub mod Blocks

@@ -7,15 +7,15 @@ use Rattle.ygg_type_sound.specs.ygg_symbols.Names.{look_up}
 use Rattle.ygg_type_sound.specs.Signature.{Signature}
 use Rattle.ygg_type_sound.specs.Layers.{operation_signature}
 use Rattle.ygg_type_sound.specs.Files.{disk_operations}
-use Rattle.ygg_histories.specs.ygg_meaning.Environments.{Name, Env}
-use Rattle.ygg_histories.specs.ygg_meaning.Shapes.{values_fit, env_fits}
-use Rattle.ygg_histories.specs.ygg_meaning.Progress.{Answer}
-use Rattle.ygg_histories.specs.ygg_meaning.Machine.{Picks, State, based, Machine}
-use Rattle.ygg_histories.specs.ygg_meaning.Layer.{ClosedLayer, operation_of}
-use Rattle.ygg_histories.specs.ygg_meaning.Spec.{Spec}
-use Rattle.ygg_histories.specs.ygg_meaning.DiskMachine.{DiskMachine}
-use Rattle.ygg_histories.specs.Stack.{tables_of}
-use Rattle.ygg_histories.specs.Under.{Failure, FailsBy}
+use Rattle.ygg_meaning.specs.Environments.{Name, Env}
+use Rattle.ygg_meaning.specs.Shapes.{values_fit, env_fits}
+use Rattle.ygg_meaning.specs.Progress.{Answer}
+use Rattle.ygg_meaning.specs.Machine.{Picks, State, based, Machine}
+use Rattle.ygg_meaning.specs.Layer.{ClosedLayer, operation_of}
+use Rattle.ygg_meaning.specs.Spec.{Spec}
+use Rattle.ygg_meaning.specs.DiskMachine.{DiskMachine}
+use Rattle.ygg_meaning.specs.Stack.{tables_of}
+use Rattle.ygg_meaning.specs.Under.{Failure, FailsBy}
 use Rattle.ygg_type_sound.specs.Fitting.{all_fit}
 use Rattle.ygg_type_progress.specs.Questions.{gives}
 

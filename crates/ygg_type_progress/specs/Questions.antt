@@ -5,11 +5,11 @@ use Rattle.ygg_value.specs.declared.shape.Shape.TheVariants.{Word}
 use Rattle.ygg_syntax.specs.declared.grammar.BlockKind.{BlockKind}
 use Rattle.ygg_type_sound.specs.ygg_symbols.Names.{Named, look_up}
 use Rattle.ygg_type_sound.specs.Signature.{Signature}
-use Rattle.ygg_histories.specs.ygg_meaning.Environments.{Env}
-use Rattle.ygg_histories.specs.ygg_meaning.Shapes.{fits}
-use Rattle.ygg_histories.specs.ygg_meaning.Meaning as meaning
-use Rattle.ygg_histories.specs.ygg_meaning.Progress.{Question, Choice, Call, Answer, Asks}
-use Rattle.ygg_histories.specs.ygg_meaning.Runs.{Dialogue}
+use Rattle.ygg_meaning.specs.Environments.{Env}
+use Rattle.ygg_meaning.specs.Shapes.{fits}
+use Rattle.ygg_meaning.specs.Meaning as meaning
+use Rattle.ygg_meaning.specs.Progress.{Question, Choice, Call, Answer, Asks}
+use Rattle.ygg_meaning.specs.Runs.{Dialogue}
 use Rattle.ygg_type_sound.specs.Fitting.{fits_wanted, all_fit}
 use Rattle.ygg_type_progress.specs.Kinds.{may_choose, may_call}
 

@@ -3,6 +3,6 @@
 
 pub mod law;
 
-pub use ygg_histories::law::refines_by_list;
-pub use ygg_histories::{Picks, Power, Turn};
+pub use ygg_meaning::history_law::refines_by_list;
+pub use ygg_meaning::{Picks, Power, Turn};
 pub use ygg_type_sound::choices;

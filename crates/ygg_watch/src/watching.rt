@@ -1,8 +1,11 @@
 ghost use Rattle.std.specs.Prelude.{◌≡◌, ◌≤◌, ◌^◌, [], All, IfOk};
 ghost use Rattle.ygg_watch_plain.specs.Propagation.{IsFresh, IsWithin};
-ghost use Rattle.ygg_watch_visit.specs.State.{IsLive};
+ghost use Rattle.ygg_watch.specs.State.{IsLive};
 
 use crate::examine::{Examined, examine_all};
+use crate::frame::Checkpoint;
+use crate::links::Links;
+use crate::visit::visit_all;
 use std::alloc::Global;
 use std::marker::Model;
 use ygg_cnf::{Clause, Lit};
@@ -10,7 +13,6 @@ use ygg_cnf_set::PackedClause;
 use ygg_list::NoMemory;
 use ygg_watch_plain::{Assigned, Found, Propagate, Trail, spread};
 use ygg_watch_trail::{Assignments, PackedEntry};
-use ygg_watch_visit::{Checkpoint, Links, visit_all};
 
 /// Propagation that watches two literals of each clause, and reads a clause only where a watched one becomes false.
 ///
@@ -33,7 +35,7 @@ impl Model for Watch {
     ghost use Rattle.std.specs.Prelude.{vec_capacity};
     ghost use Rattle.ygg_watch_plain.specs.Propagation.{Propagation};
     ghost use Rattle.ygg_watch_plain.specs.Status.{state_of};
-    ghost use Rattle.ygg_watch_visit.specs.State.{IsState};
+    ghost use Rattle.ygg_watch.specs.State.{IsState};
 
     ghost Value = { Propagation };
 

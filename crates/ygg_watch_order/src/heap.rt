@@ -2,7 +2,7 @@ use std::alloc::Global;
 use ygg_list::NoMemory;
 
 /// How much a search has done.
-#[derive(Clone, Copy, PartialEq, Eq)]
+#[derive(Clone, Copy)]
 pub struct Work {
     /// Clauses that were found false, and learned from.
     pub conflicts: u64,

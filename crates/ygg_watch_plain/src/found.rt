@@ -9,7 +9,7 @@ pub enum Found {
 
 /// The value of a variable, with the level at which it was assigned and the number of the clause that implied it. A decided
 /// variable has no reason.
-#[derive(Clone, Copy, PartialEq, Eq)]
+#[derive(Clone, Copy)]
 pub struct Assigned {
     pub value: bool,
     pub level: u64,

@@ -7,18 +7,18 @@ use Rattle.ygg_base.specs.declared.tokens.Tokens.{Tokens}
 use Rattle.ygg_base.specs.Lexing.{Lexed, tokens_of}
 use Rattle.ygg_syntax.specs.declared.tree.File.{File}
 use Rattle.ygg_syntax.specs.Files.{Derives}
-use Rattle.ygg_yard_typed.specs.ygg_type_rules.TypeErrors.{listed}
-use Rattle.ygg_yard_typed.specs.ygg_type_rules.declared.type_error.TypeError.{TypeError}
-use Rattle.ygg_yard_typed.specs.ygg_type_rules.Files.{IsTyped, type_errors_of}
+use Rattle.ygg_yard_made.specs.ygg_type_rules.TypeErrors.{listed}
+use Rattle.ygg_yard_made.specs.ygg_type_rules.declared.type_error.TypeError.{TypeError}
+use Rattle.ygg_yard_made.specs.ygg_type_rules.Files.{IsTyped, type_errors_of}
 use Rattle.ygg_accept.specs.Accepting.{RefusesTokens, RefusesLayers}
-use Rattle.ygg_yard_read.specs.ygg_yard.Texts.{made}
-use Rattle.ygg_yard_read.proofs.of_ygg_print_layout.Relexed.{relexed}
-use Rattle.ygg_yard_read.specs.ygg_yard_file.Trees.{file_made}
-use Rattle.ygg_yard_read.specs.Laws.{IsReadAt}
-use Rattle.ygg_yard_read.proofs.Read.{is_read}
-use Rattle.ygg_yard_typed.proofs.Typed.{is_typed}
-use Rattle.ygg_yard_refines.specs.Laws.{HoldsAll}
-use Rattle.ygg_yard_refines.proofs.Holding.{all_hold}
+use Rattle.ygg_yard_made.specs.ygg_yard.Texts.{made}
+use Rattle.ygg_yard_made.proofs.of_ygg_print_tree.Relexed.{relexed}
+use Rattle.ygg_yard_made.specs.Trees.{file_made}
+use Rattle.ygg_yard_made.specs.ReadLaws.{IsReadAt}
+use Rattle.ygg_yard_made.proofs.Read.{is_read}
+use Rattle.ygg_yard_made.proofs.Typed.{is_typed}
+use Rattle.ygg_yard_made.specs.RefinesLaws.{HoldsAll}
+use Rattle.ygg_yard_made.proofs.Holding.{all_hold}
 use Rattle.ygg_yard_made.specs.Laws.{IsSound}
 
 -- the tokens of a text are one list

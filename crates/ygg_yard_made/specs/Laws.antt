@@ -3,9 +3,9 @@ use Rattle.std.specs.Prelude.{ℕ, ◌≤◌}
 use Rattle.ygg_base.specs.declared.failure.Refusal.{Refusal}
 use Rattle.ygg_base.specs.declared.tokens.Tokens.{Tokens}
 use Rattle.ygg_syntax.specs.declared.tree.File.{File}
-use Rattle.ygg_yard_read.specs.ygg_yard.Texts.{made}
+use Rattle.ygg_yard_made.specs.ygg_yard.Texts.{made}
 use Rattle.ygg_accept.specs.Accepting.{IsAccepted, RefusesLayers}
-pub use Rattle.ygg_yard_refines.specs.Laws.{HoldsAll}
+pub use Rattle.ygg_yard_made.specs.RefinesLaws.{HoldsAll}
 
 -- the text for a number is accepted, is never refused, and each layer file that it is has two obligations for each operation and three more, which all hold
 pub record IsSound (count : ℕ) : Type 0 where

@@ -2,6 +2,10 @@
 #![tactic(auto)]
 
 pub mod law;
+pub mod read_law;
+pub mod refines_law;
+pub mod typed_law;
 
-pub use ygg_yard_read::make;
-pub use ygg_yard_refines::{refines_by_list, typed_histories};
+pub use ygg_type_progress::law::typed_histories;
+pub use ygg_type_progress::refines_by_list;
+pub use ygg_yard::make;

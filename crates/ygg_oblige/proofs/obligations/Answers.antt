@@ -3,13 +3,13 @@ use Rattle.ygg_syntax.specs.declared.tree.File.{File}
 use Rattle.ygg_oblige_laws.proofs.of_ygg_type_progress.Derived.{derivable_derived}
 use Rattle.ygg_oblige_laws.specs.ygg_bank.declared.node.Id.{Id}
 use Rattle.ygg_oblige_laws.specs.ygg_bank.declared.node.Node.{Node}
-use Rattle.ygg_oblige_laws.specs.ygg_histories.Claims.{claims_of}
-use Rattle.ygg_oblige_laws.specs.ygg_histories.Stack.{layers_of}
+use Rattle.ygg_oblige_laws.specs.ygg_meaning.Claims.{claims_of}
+use Rattle.ygg_oblige_laws.specs.ygg_meaning.Stack.{layers_of}
 use Rattle.ygg_oblige_kinds.proofs.Carried.{on_value_of}
-use Rattle.ygg_oblige_laws.specs.ygg_oblige_terms.Meaning.{AreTermsIn, claim_name}
-use Rattle.ygg_oblige_laws.specs.ygg_oblige_terms.Terms.{file_made}
-use Rattle.ygg_oblige_laws.proofs.of_ygg_oblige_typed.Files.{typed_layers}
-use Rattle.ygg_oblige_laws.specs.ygg_oblige_typed.Layers.{LayersTyped}
+use Rattle.ygg_oblige_laws.specs.ygg_oblige_pieces.Meaning.{AreTermsIn, claim_name}
+use Rattle.ygg_oblige_laws.specs.ygg_oblige_pieces.Terms.{file_made}
+use Rattle.ygg_oblige_laws.proofs.Files.{typed_layers}
+use Rattle.ygg_oblige_laws.specs.TypedLayers.{LayersTyped}
 use Rattle.ygg_oblige_laws.proofs.Whole.{file_terms_mean}
 use Rattle.ygg_oblige.specs.Obligations as listed
 use Rattle.ygg_oblige.specs.declared.obligation.Obligation as code

@@ -3,8 +3,8 @@ use Rattle.std.proofs.lemmas.List.{take_all}
 use Rattle.ygg_oblige_decided.specs.ygg_bank.declared.node.Node.{Node}
 use Rattle.ygg_oblige.specs.Obligations.{names_in, terms_in}
 use Rattle.ygg_oblige.specs.declared.obligation.Obligation.{Obligation}
-use Rattle.ygg_certify_put.specs.declared.finding.Finding.{Finding}
-use Rattle.ygg_certify_put.specs.Findings.{IsFinding}
+use Rattle.ygg_certify.specs.declared.finding.Finding.{Finding}
+use Rattle.ygg_certify.specs.Findings.{IsFinding}
 use Rattle.ygg_certify.specs.Certifying.{AreFound}
 use Rattle.ygg_certify.proofs.Certified.{found_more}
 use Rattle.ygg_certify.proofs.certifying.find_all.Goals as goal

@@ -4,7 +4,7 @@ use Rattle.ygg_oblige_decided.specs.ygg_bank.Nodes.{HasWidth}
 use Rattle.ygg_oblige_decided.proofs.of_ygg_type_progress.Derived.{derivable_derived}
 use Rattle.ygg_cert_open.specs.ygg_cert.declared.verdict.CertEnd.{CertEnd}
 use Rattle.ygg_cert_open.specs.Opened.{JudgesOpen}
-use Rattle.ygg_oblige_decided.specs.ygg_histories.Claims.{claims_of}
+use Rattle.ygg_oblige_decided.specs.ygg_meaning.Claims.{claims_of}
 use Rattle.ygg_oblige.specs.declared.obligation.Obligation.{Obligation}
 use Rattle.ygg_certify.specs.FileGoals.{ChecksAll, IfChecked, IsRight, goals_in, goals_of}
 use Rattle.ygg_certify.proofs.Refining.{Laws, bank_in, terms_of, goals_are, judged_open, open_right, open_all, if_ok}

@@ -1,6 +1,6 @@
 use Rattle.std.proofs.Common.{◌++◌, Bool, ap, ◌∙◌}
 use Rattle.ygg_direct_files.specs.ygg_eval_lower.Layers.{signatures_at}
-use Rattle.ygg_eval_choices.specs.Bits.{bits_in}
+use Rattle.ygg_eval_fronts.specs.Bits.{bits_in}
 use Rattle.ygg_eval_fronts.specs.Steps.{one_pick}
 use Rattle.ygg_eval_fronts.proofs.Calls.{has_it}
 use Rattle.ygg_eval_fronts.proofs.OnDisk.{disk_is, answered, called_by, ready, seen_pick}

@@ -1,7 +1,7 @@
 use Rattle.std.proofs.Common.{◌++◌, Bool, refl, ap, ◌∙◌}
 use Rattle.ygg_direct_files.specs.ygg_eval_lower.Layers.{signatures_at}
-use Rattle.ygg_eval_choices.specs.Bits.{bits_in}
-use Rattle.ygg_eval_choices.proofs.Noting.{if_ok}
+use Rattle.ygg_eval_fronts.specs.Bits.{bits_in}
+use Rattle.ygg_eval_fronts.proofs.ChoiceNoting.{if_ok}
 use Rattle.ygg_eval_fronts.specs.Steps.{one_pick}
 use Rattle.ygg_eval_fronts.proofs.Calls.{has_it}
 use Rattle.ygg_eval_fronts.proofs.OnDisk.{disk_is, called_by, fell, ready, seen_pick}

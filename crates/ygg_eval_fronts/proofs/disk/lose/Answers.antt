@@ -1,5 +1,5 @@
 use Rattle.std.proofs.Common.{refl, ◌∙◌}
-use Rattle.ygg_eval_choices.proofs.Noting.{if_ok}
+use Rattle.ygg_eval_fronts.proofs.ChoiceNoting.{if_ok}
 use Rattle.ygg_eval_fronts.proofs.OnDisk.{disk_is, lost, ready}
 use Rattle.ygg_eval_fronts.proofs.disk.lose.Goals as goal
 

@@ -1,6 +1,6 @@
 use Rattle.std.proofs.Common.{sym, subst}
-use Rattle.ygg_eval_choices.specs.Bits.{bits_in}
-use Rattle.ygg_eval_choices.proofs.Noting.{if_ok}
+use Rattle.ygg_eval_fronts.specs.Bits.{bits_in}
+use Rattle.ygg_eval_fronts.proofs.ChoiceNoting.{if_ok}
 use Rattle.ygg_eval_fronts.specs.Steps.{FellBetween}
 use Rattle.ygg_eval_fronts.proofs.Calls.{fits_as}
 use Rattle.ygg_eval_fronts.proofs.losing.lose.Goals as goal

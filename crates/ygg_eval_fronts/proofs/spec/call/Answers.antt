@@ -2,10 +2,10 @@ use Rattle.std.proofs.Common.{◌-◌, subst}
 use Rattle.ygg_direct_files.specs.ygg_meaning.Progress.{Call}
 use Rattle.ygg_direct_files.specs.ygg_eval_lower.Layers.{closed_at, signatures_at}
 use Rattle.ygg_direct_files.specs.ygg_eval_lower.declared.body.Part.TheVariants as part
-use Rattle.ygg_eval_spec.proofs.OnSpec.{is_spec, runs_spec}
-use Rattle.ygg_eval_choices.specs.Bits.{bits_in}
-use Rattle.ygg_eval_choices.specs.Chosen.{Chose}
-use Rattle.ygg_eval_choices.proofs.Noting.{if_ok}
+use Rattle.ygg_eval.proofs.OnSpec.{is_spec, runs_spec}
+use Rattle.ygg_eval_fronts.specs.Bits.{bits_in}
+use Rattle.ygg_eval_fronts.specs.Chosen.{Chose}
+use Rattle.ygg_eval_fronts.proofs.ChoiceNoting.{if_ok}
 use Rattle.ygg_eval_fronts.specs.Steps.{Answered}
 use Rattle.ygg_eval_fronts.proofs.Calls.{after_is, has_it}
 use Rattle.ygg_eval_fronts.proofs.OnSpec.{answered, called_at}

@@ -1,4 +1,4 @@
-use Rattle.ygg_eval_spec.proofs.OnSpec.{crash_runs}
+use Rattle.ygg_eval.proofs.OnSpec.{crash_runs}
 use Rattle.ygg_eval_fronts.proofs.OnSpec.{crashed, is_crash}
 use Rattle.ygg_eval_fronts.proofs.spec.crash.Goals as goal
 

@@ -7,8 +7,8 @@ use Rattle.ygg_direct_files.specs.ygg_eval_lower.Bodies.{IsBlock}
 use Rattle.ygg_direct_files.specs.ygg_eval_lower.Layers.{signatures_at}
 use Rattle.ygg_direct_files.specs.ygg_eval_lower.declared.body.Body.{Body}
 use Rattle.ygg_direct_files.specs.ygg_eval_lower.declared.body.Part.TheVariants as part
-use Rattle.ygg_eval_spec.proofs.OnSpec.{is_spec, is_on_crash, runs_spec, runs_on_crash}
-use Rattle.ygg_eval_choices.specs.Bits.{bits_in}
+use Rattle.ygg_eval.proofs.OnSpec.{is_spec, is_on_crash, runs_spec, runs_on_crash}
+use Rattle.ygg_eval_fronts.specs.Bits.{bits_in}
 use Rattle.ygg_eval_fronts.specs.Steps.{Crashed, FellWithin, ThenCrashed}
 use Rattle.ygg_eval_fronts.proofs.Calls.{after_is, has_it}
 use Rattle.ygg_eval_fronts.proofs.OnSpec.{called_at, fell_by_block, fell_whole, fell_none, own_block}

@@ -2,8 +2,8 @@ use Rattle.std.proofs.Common.{◌≡◌, ◌-◌, true, sym, subst, arith}
 use Rattle.std.proofs.lemmas.Result.{on_ok_weaker}
 use Rattle.ygg_direct_files.specs.ygg_meaning.Shapes.{values_fit}
 use Rattle.ygg_direct_files.specs.ygg_eval_lower.Layers.{variables_at}
-use Rattle.ygg_eval_choices.specs.Bits.{bits_in}
-use Rattle.ygg_eval_spec.proofs.OnSpec.{there}
+use Rattle.ygg_eval_fronts.specs.Bits.{bits_in}
+use Rattle.ygg_eval.proofs.OnSpec.{there}
 use Rattle.ygg_eval_fronts.specs.Steps.{Crashed, FellBetween}
 use Rattle.ygg_eval_fronts.proofs.Calls.{number_is}
 use Rattle.ygg_eval_fronts.proofs.OnSpec.{lost}

@@ -1,5 +1,5 @@
 use Rattle.std.proofs.lemmas.Result.{on_ok_weaker}
-use Rattle.ygg_eval_choices.specs.Bits.{bits_in}
+use Rattle.ygg_eval_fronts.specs.Bits.{bits_in}
 use Rattle.ygg_eval_fronts.specs.Steps.{Crashed}
 use Rattle.ygg_eval_fronts.proofs.Calls.{after_room}
 use Rattle.ygg_eval_fronts.proofs.OnSpec.{runnable_block, spec_left, layer_within, then_crashed}

@@ -2,8 +2,8 @@ use Rattle.std.proofs.Common.{◌≡◌, List, IfOk, refl, sym, subst}
 use Rattle.ygg_syntax.specs.declared.tree.Declared.{Declared}
 use Rattle.ygg_oblige_parts.specs.Layers.{closed}
 use Rattle.ygg_oblige_parts.specs.Sites.{below_in}
-use Rattle.ygg_oblige_parts.specs.ygg_oblige_terms.Layers.{ShapesKept}
-use Rattle.ygg_oblige_parts.specs.ygg_oblige_terms.Numbers.{Numbers}
+use Rattle.ygg_oblige_parts.specs.ygg_oblige_pieces.Layers.{ShapesKept}
+use Rattle.ygg_oblige_parts.specs.ygg_oblige_pieces.Numbers.{Numbers}
 use Rattle.ygg_oblige_parts.specs.Steps.{obligation_of}
 use Rattle.ygg_oblige_kinds.specs.Numbering.{numbers_in}
 use Rattle.ygg_oblige_kinds.specs.declared.numbers.SymNumbers.{SymNumbers}

@@ -3,8 +3,8 @@ use Rattle.ygg_oblige_parts.specs.ygg_bank.Makes.{Out}
 use Rattle.ygg_oblige_parts.specs.ygg_bank.declared.node.Id.{Id}
 use Rattle.ygg_syntax.specs.declared.tree.Declared.{Declared}
 use Rattle.ygg_oblige_parts.specs.Kept.{AreKept}
-use Rattle.ygg_oblige_parts.specs.ygg_sym_below.Lows.{LowShaped}
-use Rattle.ygg_oblige_parts.specs.ygg_sym_below_proofs_Lows.{low_wider}
+use Rattle.ygg_oblige_parts.specs.ygg_sym_runs.Lows.{LowShaped}
+use Rattle.ygg_oblige_parts.specs.ygg_sym_runs_proofs_Lows.{low_wider}
 use Rattle.ygg_oblige_parts.specs.Layers.{closed, terms_in}
 use Rattle.ygg_oblige_parts.specs.Sites.{below_in}
 use Rattle.ygg_oblige_kinds.proofs.Sites.{below_fits}

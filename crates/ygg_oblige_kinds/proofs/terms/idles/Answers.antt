@@ -2,14 +2,14 @@ use Rattle.std.proofs.Common.{◌≡◌, OnOk, IfOk, subst}
 use Rattle.ygg_oblige_parts.specs.ygg_bank_proofs_Widths.{extends_both, wider}
 use Rattle.ygg_oblige_parts.specs.ygg_bank.Makes.{Out}
 use Rattle.ygg_oblige_parts.specs.ygg_bank.declared.node.Id.{Id}
-use Rattle.ygg_oblige_parts.specs.ygg_sym_below_proofs_Lows.{low_wider}
+use Rattle.ygg_oblige_parts.specs.ygg_sym_runs_proofs_Lows.{low_wider}
 use Rattle.ygg_oblige_parts.proofs.of_ygg_sym_runs.Singles.{single_less}
 use Rattle.ygg_oblige_parts.specs.Layers.{closed, terms_in}
 use Rattle.ygg_oblige_parts.specs.Sites.{below_in}
 use Rattle.ygg_oblige_kinds.proofs.Sites.{below_fits}
 use Rattle.ygg_oblige_parts.specs.ygg_meaning.Obligations.{Idle}
 use Rattle.ygg_oblige_parts.specs.ygg_sym_laws.Below.{lost_made}
-use Rattle.ygg_oblige_parts.specs.ygg_oblige_terms.Terms.{recovers}
+use Rattle.ygg_oblige_parts.specs.ygg_oblige_pieces.Terms.{recovers}
 use Rattle.ygg_oblige_kinds.specs.Numbering.{numbers_in}
 use Rattle.ygg_oblige_kinds.proofs.Alike.{no_values}
 use Rattle.ygg_oblige_kinds.proofs.Chains.{without_from}

@@ -2,8 +2,8 @@ use Rattle.std.proofs.Common.{◌≡◌, List, [], OnOk, IfOk, sym, subst}
 use Rattle.ygg_oblige_parts.specs.ygg_bank.Makes.{Out}
 use Rattle.ygg_syntax.specs.declared.tree.Declared.{Declared}
 use Rattle.ygg_oblige_parts.specs.Kept.{AreKept}
-use Rattle.ygg_oblige_parts.specs.ygg_sym_below.Lows.{LowShaped}
-use Rattle.ygg_oblige_parts.specs.ygg_sym_below_proofs_Lows.{low_wider}
+use Rattle.ygg_oblige_parts.specs.ygg_sym_runs.Lows.{LowShaped}
+use Rattle.ygg_oblige_parts.specs.ygg_sym_runs_proofs_Lows.{low_wider}
 use Rattle.ygg_oblige_parts.proofs.of_ygg_sym_runs.Zeros.{single_then}
 use Rattle.ygg_oblige_parts.specs.Layers.{closed, terms_in}
 use Rattle.ygg_oblige_parts.specs.Sites.{below_in}
@@ -11,7 +11,7 @@ use Rattle.ygg_oblige_kinds.proofs.Sites.{below_fits}
 use Rattle.ygg_oblige_parts.specs.ygg_sym_expr.Names.{sym_bind}
 use Rattle.ygg_oblige_parts.specs.ygg_sym_laws.Below.{run_made, zeros_made}
 use Rattle.ygg_oblige_parts.specs.Running.{EndIs}
-use Rattle.ygg_oblige_parts.specs.ygg_oblige_terms.Terms.{Finish}
+use Rattle.ygg_oblige_parts.specs.ygg_oblige_pieces.Terms.{Finish}
 use Rattle.ygg_oblige_kinds.proofs.Alike.{no_values}
 use Rattle.ygg_oblige_kinds.proofs.Chains.{zeros_from}
 use Rattle.ygg_oblige_parts.specs.ygg_bank_proofs_Widths.{extends_both}

@@ -3,13 +3,13 @@ use Rattle.ygg_oblige_parts.specs.ygg_bank.Makes.{Out}
 use Rattle.ygg_syntax.specs.declared.tree.Declared.{Declared}
 use Rattle.ygg_oblige_parts.specs.Kept.{AreKept}
 use Rattle.ygg_oblige_parts.specs.ygg_shape_cells.declared.terms.SymValue.{SymValue}
-use Rattle.ygg_oblige_parts.specs.ygg_sym_below.Lows.{LowShaped}
-use Rattle.ygg_oblige_parts.specs.ygg_sym_below_proofs_Lows.{low_wider}
+use Rattle.ygg_oblige_parts.specs.ygg_sym_runs.Lows.{LowShaped}
+use Rattle.ygg_oblige_parts.specs.ygg_sym_runs_proofs_Lows.{low_wider}
 use Rattle.ygg_oblige_parts.proofs.of_ygg_sym_runs.Zeros.{single_then}
 use Rattle.ygg_oblige_parts.specs.Layers.{closed, terms_in}
 use Rattle.ygg_oblige_parts.specs.Sites.{below_in}
 use Rattle.ygg_oblige_kinds.proofs.Sites.{below_fits}
-use Rattle.ygg_oblige_parts.specs.ygg_sym_below.StopTerms.{SymFallen}
+use Rattle.ygg_oblige_parts.specs.ygg_sym_runs.StopTerms.{SymFallen}
 use Rattle.ygg_oblige_parts.specs.ygg_sym_expr.Names.{sym_bind}
 use Rattle.ygg_oblige_parts.specs.ygg_sym_laws.Below.{cut_made, zeros_made}
 use Rattle.ygg_oblige_parts.specs.Running.{CutIs}

@@ -3,14 +3,14 @@ use Rattle.ygg_oblige_parts.specs.ygg_bank_proofs_Widths.{extends_both, wider}
 use Rattle.ygg_oblige_parts.specs.ygg_bank.Makes.{Out}
 use Rattle.ygg_oblige_parts.specs.ygg_bank.declared.node.Id.{Id}
 use Rattle.ygg_syntax.specs.declared.tree.Declared.{Declared}
-use Rattle.ygg_oblige_parts.specs.ygg_sym_below.Lows.{LowShaped}
-use Rattle.ygg_oblige_parts.specs.ygg_sym_below_proofs_Lows.{low_wider}
+use Rattle.ygg_oblige_parts.specs.ygg_sym_runs.Lows.{LowShaped}
+use Rattle.ygg_oblige_parts.specs.ygg_sym_runs_proofs_Lows.{low_wider}
 use Rattle.ygg_oblige_parts.specs.ygg_sym_expr.Names.{sym_bind}
 use Rattle.ygg_oblige_parts.specs.ygg_sym_laws.Below.{run_made}
 use Rattle.ygg_oblige_parts.specs.Layers.{closed, terms_in}
 use Rattle.ygg_oblige_parts.specs.Sites.{below_in}
 use Rattle.ygg_oblige_parts.specs.SymBlock.{SymBlock}
-use Rattle.ygg_oblige_parts.specs.ygg_oblige_terms.Numbers.{arguments_of, block_of}
+use Rattle.ygg_oblige_parts.specs.ygg_oblige_pieces.Numbers.{arguments_of, block_of}
 use Rattle.ygg_oblige_parts.specs.ObligePiecesSteps.{variables_of}
 use Rattle.ygg_oblige_parts.specs.Passing.{some_in}
 use Rattle.ygg_oblige_parts.specs.Steps.{obligation_of}

@@ -3,9 +3,9 @@ use Rattle.ygg_oblige_parts.specs.ygg_bank.Makes.{Out}
 use Rattle.ygg_oblige_parts.specs.ygg_bank.declared.node.Id.{Id}
 use Rattle.ygg_oblige_parts.specs.Layers.{closed}
 use Rattle.ygg_syntax.specs.declared.tree.Declared.{Declared}
-use Rattle.ygg_oblige_parts.specs.ygg_oblige_terms.Layers.{ShapesKept}
-use Rattle.ygg_oblige_parts.specs.ygg_oblige_terms.Numbers.{arguments_of}
-use Rattle.ygg_oblige_parts.specs.ygg_oblige_terms.States.{fresh_all}
+use Rattle.ygg_oblige_parts.specs.ygg_oblige_pieces.Layers.{ShapesKept}
+use Rattle.ygg_oblige_parts.specs.ygg_oblige_pieces.Numbers.{arguments_of}
+use Rattle.ygg_oblige_parts.specs.ygg_oblige_pieces.TermStates.{fresh_all}
 use Rattle.ygg_oblige_parts.specs.Makers.{starting_of}
 use Rattle.ygg_oblige_parts.specs.Steps.{obligation_of}
 use Rattle.ygg_oblige_kinds.specs.Numbering.{numbers_in}

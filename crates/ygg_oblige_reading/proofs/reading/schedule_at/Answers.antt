@@ -1,12 +1,12 @@
 use Rattle.std.proofs.Common.{sym, subst}
 use Rattle.ygg_syntax.specs.declared.tree.File.{File}
-use Rattle.ygg_oblige_places.proofs.of_ygg_type_progress.Derived.{derivable_derived}
-use Rattle.ygg_replay.specs.ygg_histories.Stack.{layers_of}
+use Rattle.ygg_oblige_reading.proofs.of_ygg_type_progress.Derived.{derivable_derived}
+use Rattle.ygg_replay.specs.ygg_meaning.Stack.{layers_of}
 use Rattle.ygg_eval_fronts.specs.ygg_bank.Values.{inputs_of}
-use Rattle.ygg_eval_fronts.proofs.of_ygg_eval_choices.Noting.{if_ok}
-use Rattle.ygg_oblige_places.proofs.of_ygg_oblige_typed.Files.{typed_layers}
-use Rattle.ygg_oblige_places.specs.ygg_oblige_typed.Layers.{LayersTyped}
-use Rattle.ygg_oblige_places.specs.Sites.{IsPlaced}
+use Rattle.ygg_eval_fronts.proofs.ChoiceNoting.{if_ok}
+use Rattle.ygg_oblige_reading.proofs.of_ygg_oblige_laws.Files.{typed_layers}
+use Rattle.ygg_oblige_reading.specs.ygg_oblige_laws.TypedLayers.{LayersTyped}
+use Rattle.ygg_oblige_reading.specs.Sites.{IsPlaced}
 use Rattle.ygg_oblige_reading.specs.declared.reader.EnvironmentReader.{EnvironmentReader}
 use Rattle.ygg_oblige_reading.proofs.Exactly.{exactly_so, shaped_so}
 use Rattle.ygg_oblige_reading.proofs.Placed.{fitted, here, named, named_shaped, stands}

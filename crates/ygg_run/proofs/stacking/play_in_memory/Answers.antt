@@ -1,4 +1,4 @@
-use Rattle.ygg_run_tower.proofs.of_ygg_type.Sizes.{few_layers}
+use Rattle.ygg_run.proofs.of_ygg_type.Sizes.{few_layers}
 use Rattle.ygg_run.proofs.Layers.{some_layers}
 use Rattle.ygg_run.proofs.stacking.play_in_memory.Goals as goal
 

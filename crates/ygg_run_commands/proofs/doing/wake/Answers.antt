@@ -1,6 +1,6 @@
-use Rattle.ygg_run_tower.specs.ygg_eval_lower.Lower.{ending_of}
-use Rattle.ygg_run_tower.specs.ygg_machine.Commands as command
-use Rattle.ygg_run_tower.specs.ygg_machine.Viewed.{floor_seen}
+use Rattle.ygg_run.specs.ygg_eval_lower.Lower.{ending_of}
+use Rattle.ygg_run.specs.ygg_machine.Commands as command
+use Rattle.ygg_run.specs.ygg_machine.Viewed.{floor_seen}
 use Rattle.ygg_run_commands.proofs.Done.{never_down, woke, unwoken}
 use Rattle.ygg_run_commands.proofs.doing.wake.Goals as goal
 

@@ -1,6 +1,6 @@
 use Rattle.std.proofs.Common.{ℕ, List, subst, ◌∙◌}
 use Rattle.ygg_base.specs.Outside.{Rose}
-use Rattle.ygg_run_tower.specs.ygg_machine.Viewed.{floor_seen}
+use Rattle.ygg_run.specs.ygg_machine.Viewed.{floor_seen}
 use Rattle.ygg_run_commands.specs.Doing.{IsPut}
 use Rattle.ygg_run_commands.proofs.Answering.{not_done, no_line, line_put}
 use Rattle.ygg_run_commands.proofs.running.answer.Goals as goal

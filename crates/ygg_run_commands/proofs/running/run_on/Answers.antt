@@ -1,7 +1,7 @@
 use Rattle.std.proofs.Common.{◌≤◌, List, arith, subst}
 use Rattle.ygg_base.specs.Outside.{Rose}
-use Rattle.ygg_run_tower.specs.ygg_machine.Viewed.{floor_seen}
-use Rattle.ygg_run_tower.specs.ygg_script.declared.command.Command.{Command}
+use Rattle.ygg_run.specs.ygg_machine.Viewed.{floor_seen}
+use Rattle.ygg_run.specs.ygg_script.declared.command.Command.{Command}
 use Rattle.ygg_run_commands.specs.Doing.{FaultsRose}
 use Rattle.ygg_run_commands.proofs.Going.{Going, going_first, going_more, next_fits, next_plain}
 use Rattle.ygg_run_commands.proofs.Going.{not_woken, not_up, not_answered, ran_all, no_commands, rose_since}

@@ -1,5 +1,5 @@
 use Rattle.std.proofs.Common.{◌≤◌, length}
-use Rattle.ygg_run_tower.specs.ygg_machine.Viewed.{floor_seen}
+use Rattle.ygg_run.specs.ygg_machine.Viewed.{floor_seen}
 use Rattle.ygg_run_commands.proofs.Going.{Going}
 use Rattle.ygg_run_commands.proofs.running.run_on.Given as goal
 

@@ -4,8 +4,8 @@ use Rattle.ygg_base.specs.declared.geometry.Geometry.{Geometry}
 use Rattle.ygg_run_held.specs.ygg_base_device.Devices.{Attachment, Tells}
 use Rattle.ygg_run_commands.specs.ygg_type.Typed.{geometry_of}
 use Rattle.ygg_run_commands.specs.ygg_script.declared.command.Command.{Command}
-use Rattle.ygg_run_held.specs.ygg_run_ground.Sight.{Holds}
-use Rattle.ygg_run_mount.specs.Mounting.{Mounts, whole_image}
+use Rattle.ygg_run_held.specs.Sight.{Holds}
+use Rattle.ygg_run_held.specs.Mounting.{Mounts, whole_image}
 use Rattle.ygg_run_mounted.specs.Ran.{RanSo}
 use Rattle.ygg_run_mounted.specs.Ending.{RunsTo}
 use Rattle.ygg_run_mounted.specs.declared.run_end.RunEnd.{RunEnd}

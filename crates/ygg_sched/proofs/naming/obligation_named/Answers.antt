@@ -2,7 +2,7 @@ use Rattle.std.proofs.Common.{◌≡◌, sym, ap, ◌∙◌, List, ℕ, Some}
 use Rattle.std.specs.List.{find}
 use Rattle.ygg_syntax.specs.declared.tree.Operation.{Operation}
 use Rattle.ygg_syntax.specs.declared.tree.Tick.{Tick}
-use Rattle.ygg_histories.specs.ygg_meaning.Obligations.{obligations_of}
+use Rattle.ygg_meaning.specs.Obligations.{obligations_of}
 use Rattle.ygg_sched.specs.Naming.{is_suffix, all_of}
 use Rattle.ygg_sched.specs.Words.{after_front}
 use Rattle.ygg_sched.proofs.Finding.{found_by_suffix, found_nowhere}

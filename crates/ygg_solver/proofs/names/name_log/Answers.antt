@@ -1,8 +1,8 @@
 use Rattle.std.proofs.Common.{◌∷◌, [], All, subst, sym, map, List}
 use Rattle.std.proofs.lemmas.List.{map-append}
 use Rattle.std.proofs.lemmas.List.Elements.{All-head, All-tail}
-use Rattle.ygg_solver_search.specs.ygg_cnf.declared.log.Step.{Step}
-use Rattle.ygg_solver_search.specs.ygg_cnf.Logs.{clause_of}
+use Rattle.ygg_cnf.specs.declared.log.Step.{Step}
+use Rattle.ygg_cnf.specs.Logs.{clause_of}
 use Rattle.ygg_chain.specs.Places.{IsPlaced}
 use Rattle.ygg_solver.specs.Names.{step_at}
 use Rattle.ygg_solver.proofs.names.name_log.Goals as goal

@@ -1,6 +1,6 @@
 use Rattle.std.proofs.Common.{◌≡◌, All, map}
 use Rattle.ygg_chain.specs.Places.{IsPlaced}
-use Rattle.ygg_solver_search.specs.ygg_cnf.Logs.{clause_of}
+use Rattle.ygg_cnf.specs.Logs.{clause_of}
 use Rattle.ygg_solver.specs.Names.{log_at}
 use Rattle.ygg_solver.proofs.names.name_log.Given as goal
 

@@ -1,5 +1,5 @@
 use Rattle.std.proofs.Common.{List, All, sym, subst, ◌∙◌, ap}
-use Rattle.ygg_solver_search.specs.ygg_cnf.declared.lit.Lit.{Lit}
+use Rattle.ygg_cnf.specs.declared.lit.Lit.{Lit}
 use Rattle.ygg_chain.specs.Places.{IsPlaced, clauses_at}
 use Rattle.ygg_solver.proofs.NameLemmas.{numbered_more}
 use Rattle.ygg_solver.proofs.names.number_all.Goals as goal

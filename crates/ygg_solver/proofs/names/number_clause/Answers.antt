@@ -1,5 +1,5 @@
 use Rattle.std.proofs.Common.{List, ◌++◌, All, sym, subst, ◌∙◌, ap, append_assoc}
-use Rattle.ygg_solver_search.specs.ygg_cnf.declared.lit.Lit.{Lit}
+use Rattle.ygg_cnf.specs.declared.lit.Lit.{Lit}
 use Rattle.ygg_chain.specs.Places.{IsPlaced, clause_at}
 use Rattle.ygg_chain.proofs.PlaceLemmas.{entered}
 use Rattle.ygg_solver.proofs.names.number_clause.Goals as goal

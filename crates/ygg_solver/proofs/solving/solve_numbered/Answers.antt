@@ -1,12 +1,12 @@
 use Rattle.std.proofs.Common.{◌≡◌, List, All, length, map, sym, subst, ap, arith}
 use Rattle.std.proofs.lemmas.List.{length-map}
-use Rattle.ygg_solver_search.specs.ygg_cnf.declared.log.Step.{Step}
-use Rattle.ygg_solver_search.specs.ygg_cnf.Literals.{SatisfiesAll, truth_of}
-use Rattle.ygg_solver_search.specs.ygg_cnf.Logs.{clause_of, Refutes, SpentLog}
+use Rattle.ygg_cnf.specs.declared.log.Step.{Step}
+use Rattle.ygg_cnf.specs.Literals.{SatisfiesAll, truth_of}
+use Rattle.ygg_cnf.specs.Logs.{clause_of, Refutes, SpentLog}
 use Rattle.ygg_chain.specs.Places.{clauses_at}
-use Rattle.ygg_solver_search.specs.ygg_watch_plain.Propagation.{IsWithin}
-use Rattle.ygg_solver_search.specs.ygg_watch_trail.declared.entry.Entry.{Entry}
-use Rattle.ygg_solver_search.specs.Kept.{trail_value}
+use Rattle.ygg_watch_plain.specs.Propagation.{IsWithin}
+use Rattle.ygg_watch_trail.specs.declared.entry.Entry.{Entry}
+use Rattle.ygg_solver.specs.Kept.{trail_value}
 use Rattle.ygg_solver.specs.Names.{step_at, log_at}
 use Rattle.ygg_solver.proofs.NameLemmas.{satisfied_named, refutes_named, spent_named}
 use Rattle.ygg_solver.proofs.solving.solve_numbered.Goals as goal

@@ -1,8 +1,8 @@
-use Rattle.ygg_sym_laws_disk.specs.Below.{zeros_made}
-use Rattle.ygg_sym_laws_disk.proofs.of_ygg_sym_runs.Zeros.{single_kept}
+use Rattle.ygg_sym_laws.specs.Below.{zeros_made}
+use Rattle.ygg_sym_laws.proofs.of_ygg_sym_runs.Zeros.{single_kept}
 use Rattle.ygg_sym.proofs.Carried.{on_value}
 use Rattle.ygg_sym.proofs.ZerosMade.{zeros_stand, zeros_single}
-use Rattle.ygg_sym_disk_stops.specs.ygg_sym_disk.SymBelowLows.{LowShaped}
+use Rattle.ygg_sym.specs.ygg_sym_disk.SymBelowLows.{LowShaped}
 use Rattle.ygg_sym.proofs.declared.zeros.Goals as goal
 
 pub returns-clause-shape : goal.returns-clause-shape

@@ -1,7 +1,7 @@
 use Rattle.std.proofs.Common.{◌≡◌, ◌+◌, drop, map}
-use Rattle.ygg_sym_laws_disk.specs.ygg_direct.Direct.{total}
-use Rattle.ygg_sym_disk_stops.specs.ygg_sym_disk.SpecCuts.{fall_places, fall_room}
-use Rattle.ygg_sym_spec_stops.specs.Layers.{closed}
+use Rattle.ygg_sym_laws.specs.ygg_direct.Direct.{total}
+use Rattle.ygg_sym.specs.ygg_sym_disk.SpecCuts.{fall_places, fall_room}
+use Rattle.ygg_sym.specs.Layers.{closed}
 use Rattle.ygg_sym.proofs.rooms.failures.Given as goal
 
 -- the picks so far, and those of the rest

@@ -1,10 +1,10 @@
 use Rattle.std.proofs.Common.{◌++◌, length, refl, sym, ap, subst, ◌∙◌}
 use Rattle.std.specs.Prelude.{min}
-use Rattle.ygg_sym_laws_disk.specs.ygg_sym_expr.Names.{sym_bind}
-use Rattle.ygg_sym_laws_disk.proofs.of_ygg_sym_runs.Singles.{single_less}
-use Rattle.ygg_sym_spec_stops.proofs.Whole.{lows_count}
-use Rattle.ygg_sym_spec_stops.specs.Machine.{spec_meaning}
-use Rattle.ygg_sym_spec_stops.specs.Failing.{spec_power}
+use Rattle.ygg_sym_laws.specs.ygg_sym_expr.Names.{sym_bind}
+use Rattle.ygg_sym_laws.proofs.of_ygg_sym_runs.Singles.{single_less}
+use Rattle.ygg_sym.proofs.Whole.{lows_count}
+use Rattle.ygg_sym.specs.Machine.{spec_meaning}
+use Rattle.ygg_sym.specs.SpecFailing.{spec_power}
 use Rattle.ygg_sym.proofs.Placed.{spec_lower, spec_same, spec_stands, spec_space, spec_stops_same}
 use Rattle.ygg_sym.proofs.Ran.{can_whole, cut_nodes, cut_end, least}
 use Rattle.ygg_sym.specs.Running.{CutIs, cut_of}

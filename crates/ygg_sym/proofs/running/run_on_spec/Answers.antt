@@ -1,7 +1,7 @@
 use Rattle.std.proofs.Common.{◌++◌, length, refl, sym, ap, subst, ◌∙◌}
-use Rattle.ygg_sym_laws_disk.specs.ygg_sym_expr.Names.{sym_bind}
-use Rattle.ygg_sym_spec_stops.proofs.Whole.{lows_count}
-use Rattle.ygg_sym_spec_stops.specs.Machine.{spec_meaning}
+use Rattle.ygg_sym_laws.specs.ygg_sym_expr.Names.{sym_bind}
+use Rattle.ygg_sym.proofs.Whole.{lows_count}
+use Rattle.ygg_sym.specs.Machine.{spec_meaning}
 use Rattle.ygg_sym.proofs.Placed.{spec_lower, spec_same, spec_stands}
 use Rattle.ygg_sym.proofs.Ran.{can_whole, run_nodes, run_end}
 use Rattle.ygg_sym.specs.Running.{EndIs, run_of}

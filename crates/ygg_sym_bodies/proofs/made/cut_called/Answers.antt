@@ -1,6 +1,6 @@
 use Rattle.std.proofs.Common.{sym, subst}
-use Rattle.ygg_sym_below.specs.Lows.{LowShaped}
-use Rattle.ygg_sym_below.proofs.Lows.{low_wider}
+use Rattle.ygg_sym_runs.specs.Lows.{LowShaped}
+use Rattle.ygg_sym_runs.proofs.Lows.{low_wider}
 use Rattle.ygg_sym_bodies.proofs.made.cut_called.Goals as goal
 
 pub returns-clause-stands : goal.returns-clause-stands

@@ -1,8 +1,8 @@
 use Rattle.std.proofs.Common.{◌≤◌, sym, ap, subst, arith}
 use Rattle.ygg_bank.proofs.Widths.{extends_both, wider}
 use Rattle.ygg_sym_runs.proofs.Singles.{single_less}
-use Rattle.ygg_sym_below.specs.Lows.{LowShaped}
-use Rattle.ygg_sym_below.proofs.Lows.{low_wider}
+use Rattle.ygg_sym_runs.specs.Lows.{LowShaped}
+use Rattle.ygg_sym_runs.proofs.Lows.{low_wider}
 use Rattle.ygg_sym_bodies.specs.declared.state.Inputs.{Inputs}
 use Rattle.ygg_sym_bodies.proofs.made.cut_chosen.Goals as goal
 

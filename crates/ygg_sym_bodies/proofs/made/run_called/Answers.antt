@@ -1,7 +1,7 @@
 use Rattle.std.proofs.Common.{sym, subst}
 use Rattle.ygg_bank.proofs.Widths.{wider}
-use Rattle.ygg_sym_below.specs.Lows.{LowShaped}
-use Rattle.ygg_sym_below.proofs.Lows.{low_wider}
+use Rattle.ygg_sym_runs.specs.Lows.{LowShaped}
+use Rattle.ygg_sym_runs.proofs.Lows.{low_wider}
 use Rattle.ygg_sym_bodies.proofs.made.run_called.Goals as goal
 
 pub returns-clause-stands : goal.returns-clause-stands

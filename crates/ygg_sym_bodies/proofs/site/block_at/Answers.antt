@@ -1,9 +1,9 @@
 use Rattle.std.proofs.Common.{refl, sym, subst}
 use Rattle.ygg_syntax.specs.declared.tree.File.{File}
 use Rattle.ygg_type_progress.proofs.Derived.{derivable_derived}
-use Rattle.ygg_histories.specs.Stack.{layers_of}
-use Rattle.ygg_oblige_typed.proofs.Files.{typed_layers}
-use Rattle.ygg_oblige_typed.specs.Layers.{LayersTyped}
+use Rattle.ygg_meaning.specs.Stack.{layers_of}
+use Rattle.ygg_oblige_laws.proofs.Files.{typed_layers}
+use Rattle.ygg_oblige_laws.specs.TypedLayers.{LayersTyped}
 use Rattle.ygg_sym_bodies.proofs.Typed.{site_fits}
 use Rattle.ygg_sym_bodies.proofs.site.block_at.Goals as goal
 

@@ -1,5 +1,5 @@
 use Rattle.ygg_base.specs.declared.geometry.DiskKind.TheVariants.{Async}
-use Rattle.ygg_sym_below.specs.ygg_bank_proofs_Widths.{extends_both, wider}
+use Rattle.ygg_sym_runs.specs.ygg_bank_proofs_Widths.{extends_both, wider}
 use Rattle.ygg_sym_disk.proofs.Stands.{row_stands, stable_stands, view_stands}
 use Rattle.ygg_sym_disk.proofs.machine.write_async.Goals as goal
 

@@ -1,7 +1,7 @@
 use Rattle.std.proofs.Common.{subst}
-use Rattle.ygg_sym_below.specs.ygg_bank_proofs_Widths.{extends_both}
-use Rattle.ygg_sym_below.specs.ygg_histories.Stack.{tables_of_kind}
-use Rattle.ygg_sym_below.specs.Lows.{LowShaped}
+use Rattle.ygg_sym_runs.specs.ygg_bank_proofs_Widths.{extends_both}
+use Rattle.ygg_sym_runs.specs.ygg_meaning.Stack.{tables_of_kind}
+use Rattle.ygg_sym_runs.specs.Lows.{LowShaped}
 use Rattle.ygg_sym_disk.proofs.Stands.{row_stands, stable_stands, view_stands}
 use Rattle.ygg_sym_disk.proofs.power.cut_write.Goals as goal
 

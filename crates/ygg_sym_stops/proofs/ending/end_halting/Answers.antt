@@ -1,10 +1,10 @@
-use Rattle.ygg_sym_below.specs.ygg_bank_proofs_Widths.{extends_both, wider}
+use Rattle.ygg_sym_runs.specs.ygg_bank_proofs_Widths.{extends_both, wider}
 use Rattle.ygg_sym_stops.specs.Halting.{halted_of, halting_meaning, last_left_made}
 use Rattle.ygg_sym_stops.proofs.Standing.{lose_there, single_both, stands_later}
 use Rattle.std.proofs.Common.{ap, ◌∙◌}
-use Rattle.ygg_sym_below.specs.ygg_bank.Makes.{Out}
-use Rattle.ygg_sym_below.specs.Stops.{before_at}
-use Rattle.ygg_sym_below.specs.StopTerms.{SymFallen}
+use Rattle.ygg_sym_runs.specs.ygg_bank.Makes.{Out}
+use Rattle.ygg_sym_runs.specs.Stops.{before_at}
+use Rattle.ygg_sym_runs.specs.StopTerms.{SymFallen}
 use Rattle.ygg_sym_stops.specs.Stopping.{stops_on}
 use Rattle.ygg_sym_stops.proofs.Chains.{fall_from}
 use Rattle.ygg_sym_stops.proofs.ending.end_halting.Goals as goal

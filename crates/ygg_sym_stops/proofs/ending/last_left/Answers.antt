@@ -2,7 +2,7 @@ use Rattle.ygg_sym_stops.specs.Halting.{halted_of, last_left_made}
 use Rattle.ygg_sym_stops.proofs.Lasting.{after_loss, can_first, can_second}
 use Rattle.ygg_sym_stops.proofs.Leaving.{merged_if}
 use Rattle.ygg_sym_stops.proofs.Standing.{lose_there, single_both, single_if}
-use Rattle.ygg_sym_below.specs.ygg_bank_proofs_Widths.{extends_both}
+use Rattle.ygg_sym_runs.specs.ygg_bank_proofs_Widths.{extends_both}
 use Rattle.ygg_sym_stops.proofs.Chains.{form_as, last_from, nodes_as}
 use Rattle.ygg_sym_stops.proofs.ending.last_left.Goals as goal
 

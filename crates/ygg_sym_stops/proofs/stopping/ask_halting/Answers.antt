@@ -1,12 +1,12 @@
-use Rattle.ygg_sym_below.specs.ygg_bank_proofs_Widths.{extends_both, wider}
-use Rattle.ygg_sym_below.specs.ygg_sym_runs.Lower.{question_of}
+use Rattle.ygg_sym_runs.specs.ygg_bank_proofs_Widths.{extends_both, wider}
+use Rattle.ygg_sym_runs.specs.Lower.{question_of}
 use Rattle.ygg_sym_stops.specs.Halting.{halted_of, halting_meaning, no_functions}
 use Rattle.ygg_sym_stops.proofs.Standing.{ask_inner, ask_later, single_both, stopped_wide}
 use Rattle.std.proofs.Common.{ap, ◌∙◌}
-use Rattle.ygg_sym_below.specs.ygg_bank.Makes.{Out}
-use Rattle.ygg_sym_below.specs.ygg_sym_runs.Runs.{SymHandled}
-use Rattle.ygg_sym_below.specs.Stops.{before_at, within_at}
-use Rattle.ygg_sym_below.specs.StopTerms.{SymHalted, sym_left}
+use Rattle.ygg_sym_runs.specs.ygg_bank.Makes.{Out}
+use Rattle.ygg_sym_runs.specs.Runs.{SymHandled}
+use Rattle.ygg_sym_runs.specs.Stops.{before_at, within_at}
+use Rattle.ygg_sym_runs.specs.StopTerms.{SymHalted, sym_left}
 use Rattle.ygg_sym_stops.specs.Stopping.{stops_on}
 use Rattle.ygg_sym_stops.proofs.Chains.{halted_from}
 use Rattle.ygg_sym_stops.proofs.stopping.ask_halting.Goals as goal

@@ -1,9 +1,9 @@
-use Rattle.ygg_sym_below.specs.ygg_sym_runs.Lower.{question_of}
+use Rattle.ygg_sym_runs.specs.Lower.{question_of}
 use Rattle.ygg_sym_stops.specs.Halting.{halted_of, no_functions}
 use Rattle.ygg_sym_stops.proofs.Leaving.{after_cut, after_inner, after_lost, can_inner, can_last, can_outer, merged_if}
 use Rattle.ygg_sym_stops.proofs.Standing.{can_lose, single_both, single_if}
-use Rattle.ygg_sym_below.specs.ygg_bank_proofs_Widths.{extends_both}
-use Rattle.ygg_sym_below.specs.StopTerms.{sym_left}
+use Rattle.ygg_sym_runs.specs.ygg_bank_proofs_Widths.{extends_both}
+use Rattle.ygg_sym_runs.specs.StopTerms.{sym_left}
 use Rattle.ygg_sym_stops.specs.Stopping.{stops_on}
 use Rattle.ygg_sym_stops.proofs.Chains.{form_as, left_from, nodes_as}
 use Rattle.ygg_sym_stops.proofs.stopping.left.Goals as goal

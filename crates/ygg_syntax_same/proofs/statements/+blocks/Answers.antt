@@ -1,6 +1,6 @@
 use Rattle.std.proofs.Common.{sym, ◌∙◌}
 use Rattle.std.proofs.lemmas.Bool.{false≢true}
-use Rattle.ygg_syntax_alike.proofs.Sames.{same_if, same_for}
+use Rattle.ygg_syntax_same.proofs.Sames.{same_if, same_for}
 use Rattle.ygg_syntax_same.proofs.statements.+blocks.Goals as goal
 use Rattle.ygg_syntax_same.proofs.statements.+blocks.Goals.{statement-then-expression, statement-else-expression}
 

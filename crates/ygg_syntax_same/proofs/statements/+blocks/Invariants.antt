@@ -1,5 +1,5 @@
 use Rattle.std.proofs.Common.{◌≡◌, ◌↔◌, map, drop}
-use Rattle.ygg_syntax_alike.specs.Bare.{bare_statement}
+use Rattle.ygg_syntax_same.specs.Bare.{bare_statement}
 use Rattle.ygg_syntax_same.proofs.statements.+blocks.Given as goal
 
 -- what is left decides

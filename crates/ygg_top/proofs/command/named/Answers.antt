@@ -3,7 +3,7 @@ use Rattle.ygg_base.specs.Outside.{Rose}
 use Rattle.ygg_top.specs.Imaging.{UsesImage}
 use Rattle.ygg_top.proofs.Imaged.{off_told, off_keeps, no_format, no_run, not_format, not_run, few_no_image, four_no_image, many_no_image, five_words}
 use Rattle.ygg_top.proofs.Imaged.{format_told, run_told, format_keeps, run_keeps, is_format, is_run}
-use Rattle.ygg_top.proofs.Naming.{alone_told, one_told, two_told, none_told, many_told, three_words}
+use Rattle.ygg_top.proofs.ByWords.{alone_told, one_told, two_told, none_told, many_told, three_words}
 use Rattle.ygg_top.proofs.command.named.Goals as goal
 
 pub returns-in-empty-clause-told : goal.returns-in-empty-clause-told

@@ -1,7 +1,7 @@
 use Rattle.ygg_base.specs.Outside.{Rose}
 use Rattle.ygg_report.specs.Putting.{NoFront}
 use Rattle.ygg_top_command.proofs.Telling.{more_told}
-use Rattle.ygg_top.proofs.Naming.{two_so}
+use Rattle.ygg_top.proofs.ByWords.{two_so}
 use Rattle.ygg_top.specs.declared.words.Two.TheVariants as command
 use Rattle.ygg_top.specs.Ending.{EndsTwo, LeavesTwo, NamesNone}
 use Rattle.ygg_top.proofs.command.with_two.Goals as goal

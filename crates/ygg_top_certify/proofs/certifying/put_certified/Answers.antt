@@ -1,6 +1,6 @@
 use Rattle.std.proofs.Common.{List, sym, subst}
 use Rattle.ygg_certify.specs.Certifying.{IsOpen}
-use Rattle.ygg_certify.specs.ygg_certify_put.declared.finding.Finding.{Finding}
+use Rattle.ygg_certify.specs.declared.finding.Finding.{Finding}
 use Rattle.ygg_top_certify.proofs.Certifies.{certificate_put, opened_put}
 use Rattle.ygg_top_certify.proofs.certifying.put_certified.Goals as goal
 

@@ -1,7 +1,7 @@
 use Rattle.std.proofs.Common.{◌≤◌, arith}
 use Rattle.ygg_base.specs.Outside.{Rose}
-use Rattle.ygg_top_device.proofs.of_ygg_top_command.Telling.{stop_told}
-use Rattle.ygg_top_device.proofs.Breaks.{told_on}
+use Rattle.ygg_top_command.proofs.Telling.{stop_told}
+use Rattle.ygg_top_command.proofs.Breaks.{told_on}
 use Rattle.ygg_top_run.specs.Running.{RunsBroken, RunsLeft, RunsNamed}
 use Rattle.ygg_top_run.proofs.Named.{file_leaves, file_runs, file_stops}
 use Rattle.ygg_top_run.proofs.running.run.Goals as goal

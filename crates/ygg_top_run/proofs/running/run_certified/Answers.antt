@@ -1,8 +1,8 @@
 use Rattle.std.proofs.Common.{◌≤◌, List, ℕ, arith, subst}
 use Rattle.ygg_base.specs.Outside.{Rose}
-use Rattle.ygg_top_device.specs.ygg_report.Putting.{IsPutSo}
-use Rattle.ygg_top_device.proofs.of_ygg_top_command.Telling.{put_told, stop_told}
-use Rattle.ygg_top_device.proofs.Breaks.{told_on}
+use Rattle.ygg_top_command.specs.ygg_report.Putting.{IsPutSo}
+use Rattle.ygg_top_command.proofs.Telling.{put_told, stop_told}
+use Rattle.ygg_top_command.proofs.Breaks.{told_on}
 use Rattle.ygg_top_run.specs.Running.{CertifiedBroken, CertifiedLeft, RunsCertified}
 use Rattle.ygg_top_run.proofs.Certified.{certificate_ends, certificate_proper, certificate_runs, certificate_stops}
 use Rattle.ygg_top_run.proofs.running.run_certified.Goals as goal

@@ -1,7 +1,7 @@
 use Rattle.ygg_base.specs.Outside.{Rose}
 use Rattle.ygg_run_mounted.specs.Extending.{HasRun}
-use Rattle.ygg_top_device.proofs.of_ygg_top_command.Telling.{stop_told}
-use Rattle.ygg_top_device.proofs.Breaks.{told_on}
+use Rattle.ygg_top_command.proofs.Telling.{stop_told}
+use Rattle.ygg_top_command.proofs.Breaks.{told_on}
 use Rattle.ygg_top_run.specs.Scripts.{RunsScript, ScriptBroken, ScriptLeft}
 use Rattle.ygg_top_run.proofs.Scripted.{script_stops, script_runs}
 use Rattle.ygg_top_run.proofs.script.run_script.Goals as goal

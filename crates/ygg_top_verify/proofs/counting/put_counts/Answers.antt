@@ -2,7 +2,7 @@ use Rattle.std.proofs.Common.{◌≡◌, List, ℕ, sym, subst, ap, ◌∙◌}
 use Rattle.std.specs.Prelude.{nat_lt, Err}
 use Rattle.ygg_base.specs.Outside.{Rose}
 use Rattle.ygg_base.specs.declared.status.Status.{Status}
-use Rattle.ygg_yard_made.specs.ygg_histories.Claims.{claims_of}
+use Rattle.ygg_yard_made.specs.ygg_meaning.Claims.{claims_of}
 use Rattle.ygg_yard_made.proofs.of_ygg_type_progress.Derived.{derivable_derived}
 use Rattle.ygg_oblige_reading.specs.Obligation.{Obligation}
 use Rattle.ygg_top_replay.specs.ygg_report.Lines.{demo_line}

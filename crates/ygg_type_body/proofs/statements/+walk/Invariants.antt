@@ -1,7 +1,7 @@
 use Rattle.std.proofs.Common.{◌≡◌, drop, map}
-use Rattle.ygg_type_scope.specs.ygg_type_rules.TypeErrors.{first_after}
-use Rattle.ygg_type_scope.specs.ygg_type_rules.Statements.{walked, in_order}
-use Rattle.ygg_type_scope.specs.Checking.{scope_of, Grows}
+use Rattle.ygg_type_body.specs.ygg_type_rules.TypeErrors.{first_after}
+use Rattle.ygg_type_body.specs.ygg_type_rules.Statements.{walked, in_order}
+use Rattle.ygg_type_body.specs.Checking.{scope_of, Grows}
 use Rattle.ygg_type_body.proofs.statements.+walk.Given as goal
 
 -- what is left decides

@@ -1,7 +1,7 @@
 use Rattle.std.proofs.Common.{◌≡◌, true, rules}
-use Rattle.ygg_type_scope.specs.ygg_type_rules.Scopes.{with_local}
-use Rattle.ygg_type_scope.specs.Checking.{scope_of}
-use Rattle.ygg_type_scope.proofs.Restored.{grows_local}
+use Rattle.ygg_type_body.specs.ygg_type_rules.Scopes.{with_local}
+use Rattle.ygg_type_body.specs.Checking.{scope_of}
+use Rattle.ygg_type_body.proofs.Restored.{grows_local}
 use Rattle.ygg_type_body.proofs.statements.binding.Goals as goal
 
 pub returns-clause-grows : goal.returns-clause-grows

@@ -1,7 +1,7 @@
 use Rattle.std.proofs.Common.{◌≡◌, drop}
-use Rattle.ygg_type_scope.specs.ygg_type_rules.TypeErrors.{first_after}
-use Rattle.ygg_type_scope.specs.ygg_type_rules.Statements.{indexed}
-use Rattle.ygg_type_scope.specs.Checking.{scope_of}
+use Rattle.ygg_type_body.specs.ygg_type_rules.TypeErrors.{first_after}
+use Rattle.ygg_type_body.specs.ygg_type_rules.Statements.{indexed}
+use Rattle.ygg_type_body.specs.Checking.{scope_of}
 use Rattle.ygg_type_body.proofs.statements.part_at.Given as goal
 
 -- what is left decides

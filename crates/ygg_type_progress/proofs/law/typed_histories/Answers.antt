@@ -1,8 +1,8 @@
 use Rattle.std.proofs.Common.{[], refl, subst}
-use Rattle.ygg_histories.specs.Stack.{BottomOf, TopOf, layers_of}
-use Rattle.ygg_histories.specs.History.{History}
-use Rattle.ygg_histories.specs.Laws.{ByLinks}
-use Rattle.ygg_histories.proofs.Chains.{history_under}
+use Rattle.ygg_meaning.specs.Stack.{BottomOf, TopOf, layers_of}
+use Rattle.ygg_meaning.specs.History.{History}
+use Rattle.ygg_meaning.specs.HistoryLaws.{ByLinks}
+use Rattle.ygg_meaning.proofs.Chains.{history_under}
 use Rattle.ygg_type_progress.proofs.Derived.{typed_compose}
 use Rattle.ygg_type_progress.proofs.law.typed_histories.Goals as goal
 

@@ -1,8 +1,8 @@
 use Rattle.std.proofs.Common.{◌≡◌, ◌<◌, ◌*◌, ◌+◌, List, [], length, get_or, set, sym, subst, ap, ◌∙◌, arith, refl}
 use Rattle.ygg_cnf_set.specs.LiteralSet.{code_of}
 use Rattle.ygg_cnf.specs.declared.lit.Lit.{Lit}
-use Rattle.ygg_watch_visit.proofs.StepLemmas.{live_attached}
-use Rattle.ygg_watch_visit.specs.State.{IsLive}
+use Rattle.ygg_watch.proofs.StepLemmas.{live_attached}
+use Rattle.ygg_watch.specs.State.{IsLive}
 use Rattle.ygg_watch.proofs.examine.attach.Goals as goal
 
 pub returns-clause-live : goal.returns-clause-live

@@ -6,10 +6,10 @@ use Rattle.ygg_watch_plain.specs.Status.{state_of}
 use Rattle.ygg_watch_plain.specs.Propagation.{IsFalse}
 use Rattle.ygg_watch_trail.proofs.AssignmentLemmas.{at_last}
 use Rattle.ygg_watch_trail.specs.declared.entry.Entry.{Entry}
-use Rattle.ygg_watch_visit.proofs.WatchLemmas.{clause_within, lit_within, has_clause, live_push, framed_push, watched_satisfied, watched_loose}
-use Rattle.ygg_watch_visit.proofs.StepLemmas.{watched_standing, attached_linked, first_lit, second_lit}
-use Rattle.ygg_watch_visit.specs.State.{IsLive}
-use Rattle.ygg_watch_visit.specs.Watching.{IsWatchedAt}
+use Rattle.ygg_watch.proofs.WatchLemmas.{clause_within, lit_within, has_clause, live_push, framed_push, watched_satisfied, watched_loose}
+use Rattle.ygg_watch.proofs.StepLemmas.{watched_standing, attached_linked, first_lit, second_lit}
+use Rattle.ygg_watch.specs.State.{IsLive}
+use Rattle.ygg_watch.specs.Watching.{IsWatchedAt}
 use Rattle.ygg_watch.proofs.examine.examine.Goals as goal
 
 pub returns-then-stands-clause-fine : goal.returns-then-stands-clause-fine

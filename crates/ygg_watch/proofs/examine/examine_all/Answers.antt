@@ -1,6 +1,6 @@
 use Rattle.std.proofs.Common.{◌∙◌, refl, arith}
 use Rattle.ygg_watch_plain.specs.Status.{state_of}
-use Rattle.ygg_watch_visit.proofs.StepLemmas.{live_seen, spreads_on}
+use Rattle.ygg_watch.proofs.StepLemmas.{live_seen, spreads_on}
 use Rattle.ygg_watch.proofs.examine.examine_all.Goals as goal
 
 pub loop-seen-preserved : goal.loop-seen-preserved

@@ -1,7 +1,7 @@
 use Rattle.std.proofs.Common.{◌≡◌, ◌≤◌, ◌-◌, length, []}
 use Rattle.ygg_watch_plain.specs.Status.{state_of}
 use Rattle.ygg_watch_plain.specs.Propagation.{Spreads}
-use Rattle.ygg_watch_visit.specs.State.{IsLive}
+use Rattle.ygg_watch.specs.State.{IsLive}
 use Rattle.ygg_watch.proofs.examine.examine_all.Given as goal
 
 abbrev pub invariant-loop-seen : goal.invariant-loop-seen

@@ -2,7 +2,7 @@ use Rattle.std.proofs.Common.{All, ◌<◌, arith, List, [], take, get_or}
 use Rattle.std.proofs.lemmas.List.{take_more}
 use Rattle.std.proofs.lemmas.List.Elements.{All-get_or}
 use Rattle.ygg_cnf.specs.declared.lit.Lit.{Lit}
-use Rattle.ygg_watch_visit.proofs.StepLemmas.{live_added}
+use Rattle.ygg_watch.proofs.StepLemmas.{live_added}
 use Rattle.ygg_watch.proofs.watching.links_for.Goals as goal
 
 pub loop-preserved : goal.loop-preserved

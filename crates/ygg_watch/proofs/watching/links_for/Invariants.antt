@@ -1,5 +1,5 @@
 use Rattle.std.proofs.Common.{take, []}
-use Rattle.ygg_watch_visit.specs.State.{IsLive}
+use Rattle.ygg_watch.specs.State.{IsLive}
 use Rattle.ygg_watch.proofs.watching.links_for.Given as goal
 
 abbrev pub invariant-loop : goal.invariant-loop

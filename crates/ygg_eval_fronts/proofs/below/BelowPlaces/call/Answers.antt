@@ -1,7 +1,7 @@
 use Rattle.std.proofs.Common.{sym, subst}
 use Rattle.ygg_direct_files.specs.ygg_meaning.Progress.{Call}
-use Rattle.ygg_eval_choices.specs.Bits.{bits_in}
-use Rattle.ygg_eval_choices.proofs.Noting.{if_ok}
+use Rattle.ygg_eval_fronts.specs.Bits.{bits_in}
+use Rattle.ygg_eval_fronts.proofs.ChoiceNoting.{if_ok}
 use Rattle.ygg_eval_fronts.specs.Steps.{Answered}
 use Rattle.ygg_eval_fronts.proofs.Calls.{asks_as, fits_as}
 use Rattle.ygg_eval_fronts.proofs.below.BelowPlaces.call.Goals as goal

@@ -1,8 +1,8 @@
 use Rattle.std.proofs.Common.{◌∙◌, ◌++◌, ap, false}
 use Rattle.ygg_direct_files.specs.ygg_meaning.Machine.{Picks}
-use Rattle.ygg_eval_choices.specs.ygg_fronts.Fronts.{lose_on, lose_takes_on}
+use Rattle.ygg_eval_fronts.specs.ygg_fronts.Fronts.{lose_on, lose_takes_on}
 use Rattle.ygg_direct_files.specs.ygg_eval_lower.Layers.{below_at}
-use Rattle.ygg_eval_choices.specs.Bits.{bits_in}
+use Rattle.ygg_eval_fronts.specs.Bits.{bits_in}
 use Rattle.ygg_eval_fronts.specs.Belows.{noted_of}
 use Rattle.ygg_eval_fronts.proofs.Watching.{fell_noted}
 use Rattle.ygg_eval_fronts.proofs.below.BelowPlaces.lose.Goals as goal

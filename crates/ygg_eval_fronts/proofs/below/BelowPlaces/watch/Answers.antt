@@ -2,7 +2,7 @@ use Rattle.std.proofs.Common.{sym, ◌∙◌, refl}
 use Rattle.std.proofs.lemmas.Result.{on_ok_weaker}
 use Rattle.ygg_direct_files.specs.ygg_meaning.Progress.{Call}
 use Rattle.ygg_direct_files.specs.ygg_eval_lower.Layers.{below_at}
-use Rattle.ygg_eval_choices.specs.Bits.{bits_in}
+use Rattle.ygg_eval_fronts.specs.Bits.{bits_in}
 use Rattle.ygg_eval_fronts.specs.Belows.{noted_of}
 use Rattle.ygg_eval_fronts.proofs.Watching.{fallen_stays, fails_before, fails_not, fails_within}
 use Rattle.ygg_eval_fronts.proofs.below.BelowPlaces.watch.Goals as goal

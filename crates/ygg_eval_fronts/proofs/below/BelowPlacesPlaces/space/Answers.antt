@@ -1,5 +1,5 @@
 use Rattle.std.proofs.Common.{sym, ◌∙◌, arith}
-use Rattle.ygg_eval_choices.proofs.Noting.{if_ok}
+use Rattle.ygg_eval_fronts.proofs.ChoiceNoting.{if_ok}
 use Rattle.ygg_eval_fronts.proofs.Spaces.{block_there, space_disk, space_none, space_there}
 use Rattle.ygg_eval_fronts.proofs.below.BelowPlacesPlaces.space.Goals as goal
 

@@ -5,13 +5,13 @@ use Rattle.ygg_sym.specs.ygg_bank.Nodes.{IsBank}
 use Rattle.ygg_sym.specs.ygg_bank.declared.node.Id.{Id}
 use Rattle.ygg_sym.specs.ygg_bank.declared.node.Node.{Node}
 use Rattle.ygg_sym.specs.ygg_shape_cells.declared.terms.SymValue.{SymValue}
-use Rattle.ygg_sym.specs.ygg_sym_below_proofs_Lows.{low_wider}
-use Rattle.ygg_sym.specs.ygg_sym_below.Disks.{Done, done}
+use Rattle.ygg_sym.specs.ygg_sym_runs_proofs_Lows.{low_wider}
+use Rattle.ygg_sym.specs.ygg_sym_runs.Disks.{Done, done}
 use Rattle.ygg_sym.proofs.of_ygg_sym_runs.Zeros.{single_both, single_then}
 use Rattle.ygg_sym.specs.Layers.{closed, terms_in}
 use Rattle.ygg_sym.specs.Sites.{below_in}
 use Rattle.ygg_oblige_pieces.specs.Outcomes.{outcome_made}
-use Rattle.ygg_oblige_pieces.specs.ObligeTermsStates.{related_made}
+use Rattle.ygg_oblige_pieces.specs.TermStates.{related_made}
 use Rattle.ygg_oblige_pieces.specs.Terms.{same_answers_made}
 use Rattle.ygg_oblige_parts.specs.Passing.{AskedAlike}
 use Rattle.ygg_oblige_parts.specs.Steps.{obligation_of}

@@ -1,5 +1,5 @@
 use Rattle.ygg_oblige_reading.specs.Here.{below_of, low_env}
-use Rattle.ygg_oblige_reading.proofs.Starts.{starts_are}
+use Rattle.ygg_oblige_reading.proofs.StartsOnce.{starts_are}
 use Rattle.ygg_oblige_reading.proofs.reader.EnvironmentReader.low_at_start.Goals as goal
 
 pub returns : goal.returns

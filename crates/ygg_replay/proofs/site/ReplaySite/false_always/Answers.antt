@@ -1,6 +1,6 @@
 use Rattle.std.proofs.Common.{◌≡◌, ℕ, ◌+◌, ◌<◌, true, false, length, Some, option_map, suc, sym, ap, ◌∙◌, subst, arith}
-use Rattle.ygg_eval.specs.ygg_eval_holds.Formulas.{IsAsked, Answers}
-use Rattle.ygg_eval.proofs.of_ygg_eval_spec.OnSpec.{there}
+use Rattle.ygg_eval.specs.Formulas.{IsAsked, Answers}
+use Rattle.ygg_eval.proofs.OnSpec.{there}
 use Rattle.ygg_replay.proofs.Asked.{always, always_asked, always_holds, all_always}
 use Rattle.ygg_replay.proofs.Firsts.{passed_one, passed_until}
 use Rattle.ygg_replay.proofs.site.ReplaySite.false_always.Goals as goal

@@ -1,8 +1,8 @@
 use Rattle.std.proofs.Common.{◌≡◌, ℕ, ◌<◌, true, false, length, [], Some, sym, ap, ◌∙◌, subst, arith}
 use Rattle.std.proofs.Common.{List}
 use Rattle.ygg_value.specs.declared.row.Value.{Value}
-use Rattle.ygg_eval.specs.ygg_eval_holds.Formulas.{IsAsked, Answers}
-use Rattle.ygg_eval.proofs.of_ygg_eval_spec.OnSpec.{there}
+use Rattle.ygg_eval.specs.Formulas.{IsAsked, Answers}
+use Rattle.ygg_eval.proofs.OnSpec.{there}
 use Rattle.ygg_replay.proofs.Asked.{settled, settled_asked, settled_holds, all_settled}
 use Rattle.ygg_replay.proofs.Firsts.{passed_one, passed_until}
 use Rattle.ygg_replay.proofs.site.ReplaySite.false_settled.Goals as goal

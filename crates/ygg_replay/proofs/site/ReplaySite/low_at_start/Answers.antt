@@ -3,7 +3,7 @@ use Rattle.std.proofs.lemmas.Option.{slice_get_within}
 use Rattle.ygg_syntax.specs.declared.tree.File.{File}
 use Rattle.ygg_sched.specs.ygg_meaning.Shapes.{values_fit}
 use Rattle.ygg_direct_files.specs.ygg_eval_lower.Layers.{variables_at}
-use Rattle.ygg_eval.proofs.of_ygg_eval_spec.OnSpec.{fits_at}
+use Rattle.ygg_eval.proofs.OnSpec.{fits_at}
 use Rattle.ygg_replay.proofs.Asked.{if_ok}
 use Rattle.ygg_replay.proofs.Bases.{disk_fits, disk_starts, read, spec_starts}
 use Rattle.ygg_replay.proofs.site.ReplaySite.low_at_start.Goals as goal

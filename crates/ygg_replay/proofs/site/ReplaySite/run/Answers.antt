@@ -1,5 +1,5 @@
 use Rattle.std.proofs.Common.{None, ap, ◌∙◌}
-use Rattle.ygg_eval.proofs.of_ygg_eval_spec.Runs.{runnable_fits}
+use Rattle.ygg_eval.proofs.Runs.{runnable_fits}
 use Rattle.ygg_replay.specs.Runs.{fresh}
 use Rattle.ygg_replay.proofs.Blocks.{ran}
 use Rattle.ygg_replay.proofs.Serving.{can_serve, is_below, block_is, serves}

@@ -1,7 +1,7 @@
 use Rattle.std.proofs.Common.{◌≡◌, ℕ, suc, ◌+◌, true, subst, arith}
 use Rattle.ygg_sched.specs.ygg_meaning.Shapes.{values_fit}
 use Rattle.ygg_direct_files.specs.ygg_eval_lower.Layers.{variables_at}
-use Rattle.ygg_eval.proofs.of_ygg_eval_spec.OnSpec.{fits_at}
+use Rattle.ygg_eval.proofs.OnSpec.{fits_at}
 use Rattle.ygg_replay.proofs.site.ReplaySite.specification.Goals as goal
 
 pub spec_lower-requires-clause-state : goal.spec_lower-requires-clause-state

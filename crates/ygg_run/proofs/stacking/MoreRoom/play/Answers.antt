@@ -1,5 +1,5 @@
 use Rattle.std.proofs.Common.{◌≤◌, ◌<◌, length, arith}
-use Rattle.ygg_run_tower.proofs.of_ygg_type.Sizes.{few_layers}
+use Rattle.ygg_run.proofs.of_ygg_type.Sizes.{few_layers}
 use Rattle.ygg_run.proofs.stacking.MoreRoom.play.Goals as goal
 
 pub overflow_add-place : goal.overflow_add-place

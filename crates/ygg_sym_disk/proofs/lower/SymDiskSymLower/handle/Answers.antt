@@ -1,4 +1,4 @@
-use Rattle.ygg_sym_below.specs.ygg_sym_runs.Runs.{Call}
+use Rattle.ygg_sym_runs.specs.Runs.{Call}
 use Rattle.ygg_sym_disk.proofs.Asked.{can_call, handled_single}
 use Rattle.ygg_sym_disk.proofs.lower.SymDiskSymLower.handle.Goals as goal
 

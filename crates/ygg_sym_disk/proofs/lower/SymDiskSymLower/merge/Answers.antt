@@ -1,6 +1,6 @@
 use Rattle.std.proofs.Common.{subst, sym}
-use Rattle.ygg_sym_below.specs.ygg_histories.Stack.{tables_of}
-use Rattle.ygg_sym_below.specs.Lows.{LowShaped}
+use Rattle.ygg_sym_runs.specs.ygg_meaning.Stack.{tables_of}
+use Rattle.ygg_sym_runs.specs.Lows.{LowShaped}
 use Rattle.ygg_sym_disk.proofs.Asked.{lows_alike, merged_single}
 use Rattle.ygg_sym_disk.proofs.lower.SymDiskSymLower.merge.Goals as goal
 

@@ -1,5 +1,5 @@
 use Rattle.std.proofs.Common.{subst, sym}
-use Rattle.ygg_sym_laws.specs.ygg_sym_below.Lows.{LowShaped}
+use Rattle.ygg_sym_laws.specs.ygg_sym_runs.Lows.{LowShaped}
 use Rattle.ygg_sym_disk.proofs.Asked.{lows_alike, merged_single}
 use Rattle.ygg_sym_spec.proofs.machine.SymSpecSymLower.merge.Goals as goal
 

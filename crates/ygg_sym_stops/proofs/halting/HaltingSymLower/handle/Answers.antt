@@ -1,6 +1,6 @@
 use Rattle.std.proofs.Common.{◌≡◌, sym, subst}
-use Rattle.ygg_sym_below.specs.ygg_sym_runs.Lower.{CanAsk, question_of}
-use Rattle.ygg_sym_below.specs.StopTerms.{sym_halted}
+use Rattle.ygg_sym_runs.specs.Lower.{CanAsk, question_of}
+use Rattle.ygg_sym_runs.specs.StopTerms.{sym_halted}
 use Rattle.ygg_sym_stops.specs.Halting.{halted_of, halting_meaning, no_functions}
 use Rattle.ygg_sym_stops.specs.Stopping.{stops_on}
 use Rattle.ygg_sym_stops.proofs.halting.HaltingSymLower.handle.Goals as goal

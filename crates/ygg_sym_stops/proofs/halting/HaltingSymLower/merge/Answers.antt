@@ -1,5 +1,5 @@
 use Rattle.std.proofs.Common.{subst, sym}
-use Rattle.ygg_sym_below.specs.ygg_bank_proofs_Widths.{extends_both, wider}
+use Rattle.ygg_sym_runs.specs.ygg_bank_proofs_Widths.{extends_both, wider}
 use Rattle.ygg_sym_stops.specs.Halting.{halted_low}
 use Rattle.ygg_sym_stops.proofs.Standing.{can_pick, pick_single, single_both}
 use Rattle.ygg_sym_stops.proofs.halting.HaltingSymLower.merge.Goals as goal

@@ -1,6 +1,6 @@
 use Rattle.std.proofs.Common.{◌≡◌, ◌<◌, ◌++◌, ◌∷◌, length, arith, sym, ap, subst, List, [], ◌∙◌, length-append, All}
 use Rattle.ygg_cnf.specs.declared.lit.Lit.{Lit}
-use Rattle.ygg_watch_visit.proofs.StepLemmas.{live_added}
+use Rattle.ygg_watch.proofs.StepLemmas.{live_added}
 use Rattle.ygg_watch.proofs.watching.WatchPropagate.add.Goals as goal
 
 pub invariant_of-self-2 : goal.invariant_of-self-2

@@ -1,8 +1,8 @@
 use Rattle.std.proofs.Common.{◌≡◌, ◌<◌, length, arith, sym, ap, subst, List, [], ◌∙◌, length-take}
-use Rattle.ygg_watch_visit.proofs.StepLemmas.{live_gone_back, frame_is, back_same}
-use Rattle.ygg_watch_visit.specs.State.{IsLive}
-use Rattle.ygg_watch_visit.specs.Watching.{frame_of}
-use Rattle.ygg_watch_visit.specs.declared.frame.Checkpoint.{Checkpoint}
+use Rattle.ygg_watch.proofs.StepLemmas.{live_gone_back, frame_is, back_same}
+use Rattle.ygg_watch.specs.State.{IsLive}
+use Rattle.ygg_watch.specs.Watching.{frame_of}
+use Rattle.ygg_watch.specs.declared.frame.Checkpoint.{Checkpoint}
 use Rattle.ygg_watch.proofs.watching.WatchPropagate.back.Goals as goal
 
 pub invariant_of-self : goal.invariant_of-self

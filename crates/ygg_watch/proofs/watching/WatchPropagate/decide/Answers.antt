@@ -1,8 +1,8 @@
 use Rattle.std.proofs.Common.{length, arith, sym, ap, subst, List, [], None, length-append}
 use Rattle.ygg_watch_trail.proofs.AssignmentLemmas.{has_place, levels_within}
-use Rattle.ygg_watch_visit.proofs.StepLemmas.{live_decided}
-use Rattle.ygg_watch_visit.specs.State.{IsLive}
-use Rattle.ygg_watch_visit.specs.declared.frame.Checkpoint.{Checkpoint}
+use Rattle.ygg_watch.proofs.StepLemmas.{live_decided}
+use Rattle.ygg_watch.specs.State.{IsLive}
+use Rattle.ygg_watch.specs.declared.frame.Checkpoint.{Checkpoint}
 use Rattle.ygg_watch.proofs.watching.WatchPropagate.decide.Goals as goal
 
 pub push_reserved-requires : goal.push_reserved-requires

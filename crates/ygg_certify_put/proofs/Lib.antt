@@ -1,4 +1,0 @@
-pub use Rattle.ygg_pieces.proofs as of_ygg_pieces
-mod Certificate
-mod Firsts
-mod Standing

@@ -1,2 +1,0 @@
-mod Fitted
-mod Existing

@@ -1,5 +1,0 @@
-use Rattle.ygg_gates_meaning.proofs.Whole.{satisfiable_exactly, satisfying_is_zero}
-use Rattle.ygg_gates_meaning.proofs.law.clauses_mean_terms.Goals as goal
-
-pub returns : goal.returns
-returns c = record { exactly = satisfiable_exactly; environment = satisfying_is_zero }

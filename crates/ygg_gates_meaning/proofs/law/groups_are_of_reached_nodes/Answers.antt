@@ -1,5 +1,0 @@
-use Rattle.ygg_gates_meaning.proofs.Reached.{tests_reaching}
-use Rattle.ygg_gates_meaning.proofs.law.groups_are_of_reached_nodes.Goals as goal
-
-pub returns : goal.returns
-returns c = tests_reaching

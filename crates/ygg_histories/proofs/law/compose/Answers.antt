@@ -1,7 +1,0 @@
-use Rattle.ygg_meaning.specs.DiskMachine.{DiskMachine, disk_store}
-use Rattle.ygg_histories.proofs.Plain.{store_plain}
-use Rattle.ygg_histories.proofs.Composed.{compose}
-use Rattle.ygg_histories.proofs.law.compose.Goals as goal
-
-pub returns : goal.returns
-returns c disk = compose (DiskMachine disk) (store_plain (disk_store disk))

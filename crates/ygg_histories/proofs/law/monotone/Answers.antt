@@ -1,5 +1,0 @@
-use Rattle.ygg_histories.proofs.Monotone.{layered_under}
-use Rattle.ygg_histories.proofs.law.monotone.Goals as goal
-
-pub returns : goal.returns
-returns c disk L lower U = layered_under _ _ _ U L

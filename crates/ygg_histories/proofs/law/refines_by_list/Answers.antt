@@ -1,6 +1,0 @@
-use Rattle.ygg_histories.specs.Stack.{layers_of}
-use Rattle.ygg_histories.proofs.Listed.{all_refine, all_hold}
-use Rattle.ygg_histories.proofs.law.refines_by_list.Goals as goal
-
-pub returns : goal.returns
-returns c f = (all_refine f.disk (layers_of f), all_hold f.disk (layers_of f))

@@ -1,4 +1,0 @@
-pub mod Steps
-pub mod Spots
-pub mod Reading
-pub mod Numbers

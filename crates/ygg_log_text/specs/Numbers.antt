@@ -1,0 +1,36 @@
+-- The numbers of clauses in a line, byte by byte.
+use Rattle.std.specs.Prelude.{ℕ, zero, suc, ◌≤◌, List, ◌++◌, length, take}
+use Rattle.ygg_cnf.specs.declared.lit.Lit.{Lit}
+use Rattle.ygg_log_text.specs.declared.numbers.Among.{Among}
+use Rattle.ygg_log_text.specs.declared.numbers.Among.TheVariants as among
+use Rattle.ygg_log_text.specs.declared.numbers.NumberRun.{NumberRun}
+use Rattle.ygg_log_text.specs.declared.reader.StepReader.{StepReader}
+use Rattle.ygg_log_text.specs.declared.spot.Spot.{Spot}
+use Rattle.ygg_log_text.specs.declared.spot.Spot.TheVariants as spot
+use Rattle.ygg_log_text.specs.declared.spot.SpotTurn.TheVariants as turn
+use Rattle.ygg_log_text.specs.Spots.{Turns}
+use Rattle.ygg_log_text.specs.Reading.{IsReading}
+
+-- the place in the digits of this number, or before the next number where it is 0
+abbrev pub spot_of : ℕ → Spot
+spot_of zero = spot.Number
+spot_of (suc n) = spot.Digits (suc n)
+
+-- what the byte does there
+abbrev pub IsAmong : ℕ → ℕ → Among → Type 0
+IsAmong number byte (among.Digits n) = Turns (spot_of number) byte (turn.To (spot_of n))
+IsAmong number byte (among.Number n) = Turns (spot_of number) byte (turn.Number n)
+IsAmong number byte among.Other = Unit {0}
+
+-- a reader at that place, after these literals and numbers
+abbrev pub reader_at : ℕ → List Lit → List ℕ → StepReader
+reader_at number clause chain = record { spot = spot_of number; clause = clause; chain = chain }
+
+-- so many bytes of the piece are read, and lead from the one reader to the other
+pub record IsRun (piece : List ℕ) (old new : StepReader) (count : ℕ) : Type 0 where
+  pub within : count ≤ length piece
+  pub reading : (before : List ℕ) → IsReading before old → IsReading (before ++ take count piece) new
+
+-- the bytes of a run lead from the digits of the one number, after these numbers, to those of the other
+abbrev pub Runs : List ℕ → ℕ → List ℕ → List ℕ → NumberRun → Type 0
+Runs piece number old new run = (clause : List Lit) → IsRun piece (reader_at number clause old) (reader_at run.number clause new) run.count

@@ -1,0 +1,82 @@
+//! The numbers of clauses in a line, which are most of its bytes: they are read in one loop.
+
+ghost use Rattle.std.specs.Prelude.{◌≡◌, IfOk};
+ghost use Rattle.ygg_log_text.specs.Numbers.{IsAmong, Runs, spot_of};
+
+use crate::spot::{Spot, longer};
+use ygg_list::{NoMemory, Sequence};
+
+/// What a byte does in the digits of a number, or before the next number where there are none.
+#[derive(Clone, Copy)]
+pub enum Among {
+    /// It is a digit, with which the digits have this value.
+    Digits(u64),
+    /// It ends this number.
+    Number(u64),
+    /// Something else.
+    Other,
+}
+
+/// How many bytes are read, and the number in whose digits the reading stands: 0 where it stands before the next number.
+#[derive(Clone, Copy)]
+pub struct NumberRun {
+    pub count: usize,
+    pub number: u64,
+}
+
+/// What a byte does in the digits of a number, or before the next number where it is 0.
+fn byte_among(number: u64, byte: u8) -> Among
+    ensures { IsAmong number byte result }
+{
+    if byte == b' ' {
+        if number == 0 {
+            return Among::Other;
+        }
+        return Among::Number(number);
+    }
+    match longer(number, byte) {
+        Some(more) => {
+            if more == 0 {
+                return Among::Other;
+            }
+            Among::Digits(more)
+        }
+        None => Among::Other,
+    }
+}
+
+/// The place in the digits of a number, or before the next number where it is 0.
+pub fn spot_of(number: u64) -> Spot
+    ensures { result ≡ spot_of number }
+{
+    if number == 0 {
+        Spot::Number
+    } else {
+        Spot::Digits { number }
+    }
+}
+
+/// Reads the first bytes of a piece, as far as they are digits and the spaces after numbers. The numbers that end come to the chain. Its only error is out of
+/// memory.
+pub fn read_numbers(
+    chain: &mut Sequence<u64>,
+    first: u64,
+    piece: &[u8],
+) -> Result<NumberRun, NoMemory>
+    ensures { IfOk result (Runs piece.now first chain.old chain.new) }
+{
+    let mut number = first;
+    let mut count = 0;
+    for byte in piece {
+        match byte_among(number, *byte) {
+            Among::Digits(longer) => number = longer,
+            Among::Number(whole) => {
+                chain.push(whole)?;
+                number = 0;
+            }
+            Among::Other => return Ok(NumberRun { count, number }),
+        }
+        count += 1;
+    }
+    Ok(NumberRun { count, number })
+}

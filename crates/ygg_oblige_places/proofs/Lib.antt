@@ -1,9 +1,0 @@
-pub use Rattle.ygg_oblige.proofs.of_ygg_oblige_typed
-pub use Rattle.ygg_eval_lower.proofs.of_ygg_type_progress
-pub use Rattle.ygg_oblige_schedules.proofs.Given
-pub use Rattle.ygg_oblige_schedules.proofs.Layered
-pub mod Lists
-pub mod Counting
-pub mod Starting
-pub mod Walking
-pub mod Placing

@@ -1,0 +1,129 @@
+//! An obligation of a file with the inputs that it has.
+
+ghost use Rattle.std.specs.Prelude.{◌≡◌, ◌<◌, ◌+◌, length, take, slice_get, Some, IfOk};
+ghost use Rattle.ygg_eval_lower.specs.ygg_meaning.Claims.{claims_of};
+ghost use Rattle.ygg_eval_lower.specs.ygg_meaning.Stack.{layers_of, tables_of};
+ghost use Rattle.ygg_eval_lower.specs.ygg_meaning.Obligations.{obligations_of};
+ghost use Rattle.ygg_oblige.specs.Sites.{below_in};
+ghost use Rattle.ygg_oblige.specs.ygg_sym_spec.Layers.{closed};
+ghost use Rattle.ygg_oblige.specs.Adding.{after_at, after_layer_at};
+ghost use Rattle.ygg_oblige.specs.Making.{SiteFits};
+ghost use Rattle.ygg_oblige.specs.Numbering.{numbers_in};
+ghost use Rattle.ygg_oblige.specs.ygg_oblige_pieces.Numbers.{numbers_of};
+ghost use Rattle.ygg_oblige.specs.ygg_oblige_pieces.TermStates.{state_words};
+ghost use Rattle.ygg_oblige.specs.ygg_oblige_laws.TypedLayers.{LayersTyped};
+ghost use Rattle.ygg_oblige_reading.specs.Listing.{StandsIn};
+ghost use Rattle.ygg_oblige_reading.specs.Sites.{IsInLayer, IsPlaced};
+
+use crate::listed::{number_of, obligation_at};
+use crate::starts::{count_of, start_of};
+use std::alloc::Global;
+use ygg_list::NoMemory;
+use ygg_oblige::{Maker, SymBelow, SymLayer, SymNumbers, SymObligation, after_states, numbers_of};
+use ygg_rules::Book;
+use ygg_syntax::tree::{Declared, File, Layer};
+
+/// An obligation of a file, its layer, and which inputs it has.
+#[derive(Clone, Copy)]
+pub struct Site<'a> {
+    /// The layer.
+    pub layer: &'a Layer,
+    /// The layer's place from the bottom one on.
+    pub place: u32,
+    /// The variables of what the layer is specified over.
+    pub low: &'a [Declared],
+    /// The obligation.
+    pub obligation: SymObligation<'a>,
+    /// The place of its operation or background step in the layer's list, else 0.
+    pub number: u32,
+    /// The first input of the layer's states.
+    pub states: u64,
+    /// The obligation's own inputs.
+    pub numbers: SymNumbers,
+}
+
+/// The obligation at a place in the list of a layer with a place, where the inputs of the layer's states are numbered on from a number. Its only error is
+/// out of memory.
+fn site_in<'a, B: Book>(
+    maker: &Maker<'a, B>,
+    layer: u32,
+    states: u64,
+    place: usize,
+) -> Result<Site<'a>, NoMemory>
+    requires site { SiteFits maker.now.layer maker.now.below }
+    requires there { place < length (obligations_of maker.now.layer.layer.now) }
+    ensures { IfOk result (IsInLayer (B.kinds maker.now.book.now) maker.now.layer maker.now.below layer states place) }
+{
+    let Some(listed) = obligation_at(maker.layer.layer, place)? else {
+        unreachable!();
+    };
+    let first = after_states(maker, states)?;
+    let start = start_of(maker, place, first)?;
+    let numbers = numbers_of(maker, listed.obligation, start)?;
+    Ok(Site {
+        layer: maker.layer.layer,
+        place: layer,
+        low: maker.layer.low,
+        obligation: listed.obligation,
+        number: listed.number,
+        states,
+        numbers,
+    })
+}
+
+/// The number after the inputs of a layer that are numbered on from a number. Its only error is out of memory.
+fn after_layer<'a, B: Book>(
+    maker: &Maker<'a, B>,
+    number: u64,
+    count: usize,
+) -> Result<u64, NoMemory>
+    requires site { SiteFits maker.now.layer maker.now.below }
+    requires count { count ≡ length (obligations_of maker.now.layer.layer.now) }
+    ensures { IfOk result (λ n. n ≡ after_layer_at (B.kinds maker.now.book.now) maker.now.layer maker.now.below number) }
+{
+    let first = after_states(maker, number)?;
+    start_of(maker, count, first)
+}
+
+/// The obligation at a place in a file's list, whose disk shows these tables. Its only error is out of memory.
+pub fn site_at<'a, B: Book>(
+    alloc: Global,
+    file: &'a File,
+    tables: &'a [Declared],
+    book: &'a B,
+    place: usize,
+) -> Result<Site<'a>, NoMemory>
+    requires tables { tables.now ≡ tables_of file.now.disk }
+    requires typed { LayersTyped file.now.defs file.now.disk (layers_of file.now) }
+    requires there { place < length (claims_of file.now) }
+    ensures { IfOk result (IsPlaced (B.kinds book.now) file.now place) }
+{
+    let mut low = tables;
+    let mut below = SymBelow::Disk(file.disk);
+    let mut number: u64 = 0;
+    let mut left = place;
+    for (i, layer) in file.layers.as_slice().iter().enumerate() {
+        let at = SymLayer {
+            defs: file.defs.as_slice(),
+            layer,
+            low,
+        };
+        let maker = Maker {
+            alloc,
+            book,
+            layer: at,
+            below,
+        };
+        let count = count_of(layer)?;
+        if left < count {
+            let layer_number = number_of(i)?;
+            let site = site_in(&maker, layer_number, number, left)?;
+            return Ok(site);
+        }
+        left -= count;
+        number = after_layer(&maker, number, count)?;
+        low = layer.state.as_slice();
+        below = SymBelow::Layer(at);
+    }
+    unreachable!()
+}

@@ -1,4 +1,0 @@
-pub mod Widening
-pub mod Formulas
-pub mod Blocks
-pub mod Files

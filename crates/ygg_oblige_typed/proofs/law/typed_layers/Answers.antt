@@ -1,6 +1,0 @@
--- It is the lemma.
-use Rattle.ygg_oblige_typed.proofs.Files.{typed_layers}
-use Rattle.ygg_oblige_typed.proofs.law.typed_layers.Goals as goal
-
-pub returns : goal.returns
-returns c = typed_layers

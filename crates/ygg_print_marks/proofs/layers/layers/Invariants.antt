@@ -1,8 +1,0 @@
-use Rattle.std.proofs.Common.{◌≡◌, ◌++◌, drop, map}
-use Rattle.ygg_print_tree.specs.PrintedBlocks.{all_printed}
-use Rattle.ygg_print_tree.specs.PrintedFiles.{layer_printed}
-use Rattle.ygg_print_marks.proofs.layers.layers.Given as goal
-
--- those so far and those of what is left
-abbrev pub invariant-loop-one : goal.invariant-loop-one
-invariant-loop-one l = l.printer ++ all_printed (map layer_printed (drop l.one-index l.all)) ≡ l.initial.printer ++ all_printed (map layer_printed l.all)

@@ -1,0 +1,26 @@
+use Rattle.std.proofs.Common.{◌∷◌, ◌∙◌, ap}
+use Rattle.ygg_syntax.specs.Reading.{in_turn}
+use Rattle.ygg_syntax.specs.Files.{crash_block}
+use Rattle.ygg_syntax.specs.Pending.{perhaps, outcome}
+use Rattle.ygg_syntax.specs.Pending as pending
+use Rattle.ygg_read_claims.proofs.Parts.{begins_perhaps}
+use Rattle.ygg_read_claims.proofs.Files.{reads_crash}
+use Rattle.ygg_read.proofs.layer.crash.Goals as goal
+
+pub returns-in_default-2-clause-refused : goal.returns-in_default-2-clause-refused
+returns-in_default-2-clause-refused c =
+    let stopped = rw c.in_default-2.is at c.in_ok-block.ensures.refused in
+    λ qs. ap (outcome (perhaps pending.crash_block ∷ qs)) c.in-Some.ensures.taken
+    ∙ begins_perhaps pending.crash_block c.in-Some.place c.keyword.new.self qs ∙ stopped qs
+
+pub returns-clause-reads : goal.returns-clause-reads
+returns-clause-reads c =
+    let read = rw c.in-Some-2.is at c.in_ok-block.ensures.reads in
+    λ qs. ap (in_turn (crash_block c.in-Some.place c.in-Some-2.block ∷ qs)) c.in-Some.ensures.taken
+    ∙ reads_crash c.in-Some.place c.in-Some-2.block c.keyword.new.self qs ∙ read qs
+
+pub returns-clause-goes : goal.returns-clause-goes
+returns-clause-goes c =
+    let gone = rw c.in-Some-2.is at c.in_ok-block.ensures.goes in
+    λ qs. ap (outcome (perhaps pending.crash_block ∷ qs)) c.in-Some.ensures.taken
+    ∙ begins_perhaps pending.crash_block c.in-Some.place c.keyword.new.self qs ∙ gone qs

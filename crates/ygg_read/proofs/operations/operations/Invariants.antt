@@ -1,0 +1,14 @@
+use Rattle.std.proofs.Common.{length}
+use Rattle.ygg_base.specs.declared.token.Keyword.TheVariants as word
+use Rattle.ygg_syntax.specs.Files.{operation}
+use Rattle.ygg_syntax.specs.Pending.{rest_of}
+use Rattle.ygg_syntax.specs.Pending as pending
+use Rattle.ygg_read_claims.proofs.Lists.{ListRead}
+use Rattle.ygg_read.proofs.operations.operations.Given as goal
+
+-- the operations so far
+abbrev pub invariant-loop-reader : goal.invariant-loop-reader
+invariant-loop-reader l = ListRead operation word.Op (rest_of pending.operation) l.fn.reader l.all l.reader
+
+abbrev pub decreases-loop-reader : goal.decreases-loop-reader
+decreases-loop-reader l = length l.reader

@@ -1,0 +1,15 @@
+use Rattle.std.proofs.Common.{[], ◌∷◌, ◌∙◌}
+use Rattle.ygg_base.specs.declared.token.Keyword.TheVariants as word
+use Rattle.ygg_base.specs.declared.token.Mark.TheVariants as mark
+use Rattle.ygg_syntax.specs.declared.grammar.BlockKind.TheVariants.{Impl}
+use Rattle.ygg_syntax.specs.Expressions.{named}
+use Rattle.ygg_syntax.specs.Blocks.{block}
+use Rattle.ygg_read_claims.proofs.Files.{opened}
+use Rattle.ygg_read.proofs.operations.rest_of_tick.Goals as goal
+
+pub returns-clause-reads : goal.returns-clause-reads
+returns-clause-reads c =
+    let name = rw c.in-Some.is at c.in_ok-name.ensures.reads in
+    let body = rw c.in-Some-2.is at c.in_ok-body.ensures.reads in
+    λ at qs. opened (mark.Keyword word.Tick) (named c.in-Some.name ∷ block Impl c.in-Some-2.body ∷ []) at c.args.reader.now qs
+    ∙ name (block Impl c.in-Some-2.body ∷ qs) ∙ body qs

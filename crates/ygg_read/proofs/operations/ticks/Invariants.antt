@@ -1,0 +1,14 @@
+use Rattle.std.proofs.Common.{length}
+use Rattle.ygg_base.specs.declared.token.Keyword.TheVariants as word
+use Rattle.ygg_syntax.specs.Files.{tick}
+use Rattle.ygg_syntax.specs.Pending.{rest_of}
+use Rattle.ygg_syntax.specs.Pending as pending
+use Rattle.ygg_read_claims.proofs.Lists.{ListRead}
+use Rattle.ygg_read.proofs.operations.ticks.Given as goal
+
+-- the background steps so far
+abbrev pub invariant-loop-reader : goal.invariant-loop-reader
+invariant-loop-reader l = ListRead tick word.Tick (rest_of pending.tick) l.fn.reader l.all l.reader
+
+abbrev pub decreases-loop-reader : goal.decreases-loop-reader
+decreases-loop-reader l = length l.reader

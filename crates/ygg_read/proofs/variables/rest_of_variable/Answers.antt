@@ -1,0 +1,14 @@
+use Rattle.std.proofs.Common.{[], ◌∷◌, ◌∙◌}
+use Rattle.ygg_base.specs.declared.token.Symbol.TheVariants as sign
+use Rattle.ygg_base.specs.declared.token.Mark.TheVariants as mark
+use Rattle.ygg_syntax.specs.declared.grammar.Sort.TheVariants as sorts
+use Rattle.ygg_syntax.specs.Expressions.{symbol}
+use Rattle.ygg_syntax.specs.Files.{declared}
+use Rattle.ygg_read_claims.proofs.Files.{opened}
+use Rattle.ygg_read.proofs.variables.rest_of_variable.Goals as goal
+
+pub returns-clause-reads : goal.returns-clause-reads
+returns-clause-reads c =
+    let read = rw c.in-Some.is at c.in_ok-read.ensures.reads in
+    λ k at qs. opened (mark.Keyword k) (declared sorts.All c.in-Some.read ∷ symbol sign.Semicolon ∷ []) at c.args.reader.now qs
+    ∙ read (symbol sign.Semicolon ∷ qs) ∙ c.in-Some-symbol.ensures.reads qs

@@ -1,0 +1,12 @@
+use Rattle.std.proofs.Common.{length}
+use Rattle.ygg_syntax.specs.Files.{variable}
+use Rattle.ygg_syntax.specs.Pending.{rest_of_variable}
+use Rattle.ygg_read_claims.proofs.Lists.{ListRead}
+use Rattle.ygg_read.proofs.variables.variables.Given as goal
+
+-- the variables so far
+abbrev pub invariant-loop-reader : goal.invariant-loop-reader
+invariant-loop-reader l = ListRead (variable l.keyword) l.keyword rest_of_variable l.fn.reader l.all l.reader
+
+abbrev pub decreases-loop-reader : goal.decreases-loop-reader
+decreases-loop-reader l = length l.reader

@@ -1,5 +1,0 @@
-use Rattle.ygg_replay_text.proofs.Once as once
-use Rattle.ygg_replay_text.proofs.law.one_ending.Goals as goal
-
-pub returns : goal.returns
-returns c = once.one_ending

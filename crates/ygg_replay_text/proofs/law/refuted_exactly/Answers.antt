@@ -1,5 +1,0 @@
-use Rattle.ygg_replay_text.proofs.Once as once
-use Rattle.ygg_replay_text.proofs.law.refuted_exactly.Goals as goal
-
-pub returns : goal.returns
-returns c = once.refuted_exactly

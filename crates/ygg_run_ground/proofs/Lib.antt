@@ -1,4 +1,0 @@
-pub mod Held
-pub mod Keeping
-pub mod Telling
-mod Leaving

@@ -1,5 +1,0 @@
-pub mod Sight
-pub mod Turning
-pub mod DeviceMeaning
-pub mod Standing
-pub mod Laws

@@ -1,5 +1,0 @@
-use Rattle.ygg_shape_rows.proofs.Steps.{DifferingSoFar}
-use Rattle.ygg_shape_rows.proofs.pairs.differing.Given as goal
-
-abbrev pub invariant-loop-place : goal.invariant-loop-place
-invariant-loop-place l = DifferingSoFar l.one l.two l.place l.pairs.items

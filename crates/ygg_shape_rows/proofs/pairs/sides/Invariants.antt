@@ -1,5 +1,0 @@
-use Rattle.ygg_shape_rows.proofs.Steps.{SidesSoFar}
-use Rattle.ygg_shape_rows.proofs.pairs.sides.Given as goal
-
-abbrev pub invariant-loop-pair : goal.invariant-loop-pair
-invariant-loop-pair l = SidesSoFar l.bank l.test l.value l.pairs l.pair-index l.found.items

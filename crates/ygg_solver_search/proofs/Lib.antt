@@ -1,5 +1,0 @@
-pub use Rattle.ygg_cnf.proofs as of_ygg_cnf
-pub mod LeftLemmas
-pub mod LogLemmas
-pub mod ModelLemmas
-pub mod ReadyLemmas

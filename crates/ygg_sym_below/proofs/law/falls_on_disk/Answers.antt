@@ -1,5 +1,0 @@
-use Rattle.ygg_sym_below.proofs.FallsOnDisk.{falls_on_disk}
-use Rattle.ygg_sym_below.proofs.law.falls_on_disk.Goals as goal
-
-pub returns : goal.returns
-returns c = falls_on_disk

@@ -1,5 +1,0 @@
-use Rattle.ygg_sym_below.proofs.MadeInputs.{inputs_on_spec}
-use Rattle.ygg_sym_below.proofs.law.inputs_on_spec.Goals as goal
-
-pub returns : goal.returns
-returns c = inputs_on_spec

@@ -1,5 +1,0 @@
-use Rattle.ygg_sym_below.proofs.OnDisk.{runs_on_disk}
-use Rattle.ygg_sym_below.proofs.law.runs_on_disk.Goals as goal
-
-pub returns : goal.returns
-returns c = runs_on_disk

@@ -1,5 +1,0 @@
-use Rattle.ygg_sym_below.proofs.OnSpec.{runs_on_spec}
-use Rattle.ygg_sym_below.proofs.law.runs_on_spec.Goals as goal
-
-pub returns : goal.returns
-returns c = runs_on_spec

@@ -1,3 +1,0 @@
-pub use Rattle.ygg_fronts.specs as ygg_fronts
-pub mod Named
-pub mod Laws

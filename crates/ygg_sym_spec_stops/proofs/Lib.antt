@@ -1,2 +1,0 @@
-pub use Rattle.ygg_sym_spec.proofs.Whole
-pub mod Failed

@@ -1,2 +1,0 @@
-pub use Rattle.ygg_top_command.proofs as of_ygg_top_command
-pub mod Breaks

@@ -1,2 +1,0 @@
-mod Once
-mod Plays

@@ -1,4 +1,0 @@
-pub mod ListLemmas
-pub mod WatchLemmas
-pub mod StepLemmas
-pub mod LinkLemmas

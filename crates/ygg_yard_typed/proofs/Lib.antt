@@ -1,4 +1,0 @@
-pub mod Folds
-pub mod Named
-pub mod Blocks
-pub mod Typed
