@@ -1,5 +1,5 @@
 /// What a disk keeps when power fails.
-#[derive(Clone, Copy)]
+#[derive(Clone, Copy, PartialEq, Eq)]
 pub enum DiskKind {
     /// Each whole write.
     Sync,

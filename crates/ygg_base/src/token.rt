@@ -3,7 +3,7 @@ use std::alloc::Global;
 use ygg_list::{Duplicate, NoMemory};
 
 /// A word of the language that is no name.
-#[derive(Clone, Copy, Drop)]
+#[derive(Clone, Copy, PartialEq, Eq, Drop)]
 pub enum Keyword {
     Yggdrasil,
     Disk,
@@ -47,7 +47,7 @@ pub enum Keyword {
 }
 
 /// A sign of the language. Where the sign has several meanings it has the name of its shape.
-#[derive(Clone, Copy, Drop)]
+#[derive(Clone, Copy, PartialEq, Eq, Drop)]
 pub enum Symbol {
     BraceOpen,
     BraceClose,

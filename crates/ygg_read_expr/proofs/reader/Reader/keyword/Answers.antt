@@ -4,8 +4,8 @@ use Rattle.ygg_read_expr.proofs.Stopped.{stopped, goes_token}
 use Rattle.ygg_read_expr.proofs.Phrases.{reads_mark}
 use Rattle.ygg_read_expr.proofs.reader.Reader.keyword.Goals as goal
 
-pub returns-else-found-keyword-clause-refused : goal.returns-else-found-keyword-clause-refused
-returns-else-found-keyword-clause-refused c = stopped (mark.Keyword c.args.keyword) c.args.self.now (search rules)
+pub returns-else-eq-clause-refused : goal.returns-else-eq-clause-refused
+returns-else-eq-clause-refused c = stopped (mark.Keyword c.args.keyword) c.args.self.now (search rules)
 
 pub returns-in_default-mark-clause-refused : goal.returns-in_default-mark-clause-refused
 returns-in_default-mark-clause-refused c = stopped (mark.Keyword c.args.keyword) c.args.self.now (search rules)
@@ -13,10 +13,10 @@ returns-in_default-mark-clause-refused c = stopped (mark.Keyword c.args.keyword)
 pub returns-in_default-clause-refused : goal.returns-in_default-clause-refused
 returns-in_default-clause-refused c = stopped (mark.Keyword c.args.keyword) c.args.self.now (search rules)
 
-pub returns-then-found-keyword-clause-goes : goal.returns-then-found-keyword-clause-goes
-returns-then-found-keyword-clause-goes c = goes_token (mark.Keyword c.args.keyword)
+pub returns-then-eq-clause-goes : goal.returns-then-eq-clause-goes
+returns-then-eq-clause-goes c = goes_token (mark.Keyword c.args.keyword)
     (record { line = c.in-Some.first.now.line; column = c.in-Some.first.now.column }) c.args.self.now c.in-Some.others.now (search rules)
 
-pub returns-then-found-keyword-clause-reads : goal.returns-then-found-keyword-clause-reads
-returns-then-found-keyword-clause-reads c = reads_mark (mark.Keyword c.args.keyword)
+pub returns-then-eq-clause-reads : goal.returns-then-eq-clause-reads
+returns-then-eq-clause-reads c = reads_mark (mark.Keyword c.args.keyword)
     (record { line = c.in-Some.first.now.line; column = c.in-Some.first.now.column }) c.args.self.now c.in-Some.others.now (search rules)

@@ -4,8 +4,8 @@ use Rattle.ygg_read_expr.proofs.Stopped.{stopped, goes_token}
 use Rattle.ygg_read_expr.proofs.Phrases.{reads_mark}
 use Rattle.ygg_read_expr.proofs.reader.Reader.symbol.Goals as goal
 
-pub returns-else-found-symbol-clause-refused : goal.returns-else-found-symbol-clause-refused
-returns-else-found-symbol-clause-refused c = stopped (mark.Symbol c.args.symbol) c.args.self.now (search rules)
+pub returns-else-eq-clause-refused : goal.returns-else-eq-clause-refused
+returns-else-eq-clause-refused c = stopped (mark.Symbol c.args.symbol) c.args.self.now (search rules)
 
 pub returns-in_default-mark-clause-refused : goal.returns-in_default-mark-clause-refused
 returns-in_default-mark-clause-refused c = stopped (mark.Symbol c.args.symbol) c.args.self.now (search rules)
@@ -13,10 +13,10 @@ returns-in_default-mark-clause-refused c = stopped (mark.Symbol c.args.symbol) c
 pub returns-in_default-clause-refused : goal.returns-in_default-clause-refused
 returns-in_default-clause-refused c = stopped (mark.Symbol c.args.symbol) c.args.self.now (search rules)
 
-pub returns-then-found-symbol-clause-goes : goal.returns-then-found-symbol-clause-goes
-returns-then-found-symbol-clause-goes c = goes_token (mark.Symbol c.args.symbol)
+pub returns-then-eq-clause-goes : goal.returns-then-eq-clause-goes
+returns-then-eq-clause-goes c = goes_token (mark.Symbol c.args.symbol)
     (record { line = c.in-Some.first.now.line; column = c.in-Some.first.now.column }) c.args.self.now c.in-Some.others.now (search rules)
 
-pub returns-then-found-symbol-clause-reads : goal.returns-then-found-symbol-clause-reads
-returns-then-found-symbol-clause-reads c = reads_mark (mark.Symbol c.args.symbol)
+pub returns-then-eq-clause-reads : goal.returns-then-eq-clause-reads
+returns-then-eq-clause-reads c = reads_mark (mark.Symbol c.args.symbol)
     (record { line = c.in-Some.first.now.line; column = c.in-Some.first.now.column }) c.args.self.now c.in-Some.others.now (search rules)
