@@ -1,5 +1,6 @@
 """Layer files on which ./ygg computes, with the verdicts that they must have: each operation on words at the edges of a width and on all words of
-few digits, tables at places that are terms, and the worked terms of two inputs. What an operation gives comes from Python's integers.
+few digits, what is made of words case by case, rows and tables word by word, tables at places that are terms, and the worked terms of two inputs. What an
+operation gives comes from Python's integers.
 
 tests/run takes `verified` and `replayed` from here, and runs them.
 """
@@ -119,6 +120,79 @@ def tables(rows, width):
     return f"{head}{text}  relate (low.view == t);\n}}\n", verdicts("places", names, failing)
 
 
+def by_cases(found, width, other=0):
+    """The word of a width that the first of these tests which holds names, of pairs of a test and a number; another one past them."""
+    text = f"{other}:{width}"
+    for test, number in reversed(found):
+        text = f"pick({test}, {number}:{width}, {text})"
+    return text
+
+
+def of_words(width):
+    """A file that makes one word of others in every way, whose values are said case by case, with wrong twins; and its verdicts."""
+    last = 2**width - 1
+    made = {"complement": ("~a", width, lambda a: a ^ last), "narrowed": ("resize(a, 2)", 2, lambda a: a % 4),
+            "widened": ("resize(a, 5)", 5, lambda a: a), "widened_and_narrowed": ("resize(resize(a, 5), 2)", 2, lambda a: a % 4)}
+    operations, failing = {}, set()
+    for name, (expression, to, value) in made.items():
+        cases = [(f"(a == {a}:{width})", value(a)) for a in range(last + 1)]
+        turned_cases = [*cases[:-1], (cases[-1][0], cases[-1][1] ^ 1)]
+        for kind, is_wrong, them in (("", False, cases), ("_wrong", True, turned_cases)):
+            said = f"({expression} == {by_cases(them, to)})"
+            compared_too = f"(({expression} == {5 % 2**to}:{to}) == {by_cases([(test, int(number == 5 % 2**to)) for test, number in them], 1)})"
+            operations[f"{name}{kind}"] = (f"a : word {width}", f"({said} & {compared_too})")
+            failing |= {f"makers.call.{name}{kind}"} if is_wrong else set()
+    for place, (op, _, to) in enumerate(results(width, 0, 0)):
+        cases = [(f"((a == {a}:{width}) & (b == {b}:{width}))", int(results(width, a, b)[place][1] == 5 % 2**to)) for a, b in ALL[width]]
+        operations[f"compared_{place}"] = (f"a : word {width}, b : word {width}", f"(((a {op} b) == {5 % 2**to}:{to}) == {by_cases(cases, 1)})")
+    picked_is = "((c & (pick(c, a, b) == a)) | (~c & (pick(c, a, b) == {})))"
+    for kind, other in (("", "b"), ("_wrong", "a")):
+        operations[f"picked{kind}"] = (f"c : word 1, a : word {width}, b : word {width}", picked_is.format(other))
+    failing.add("makers.call.picked_wrong")
+    text = "".join(answering(name, *operation) for name, operation in operations.items())
+    return f"yggdrasil 1;\ndisk sync 1 of 1 of 1;\nlayer makers {{\n{text}  relate 1:1;\n}}\n", verdicts("makers", operations, failing)
+
+
+def of_rows(words, width):
+    """A file that reads, writes, compares and merges rows and tables, as is said word by word, with wrong twins; and its verdicts."""
+    shape, each = f"row {words} of {width}", f"k:8 below {words}"
+    operations = {}
+
+    def computes(name, params, statements, said, wrong):
+        for kind, answer in (("", said), ("_wrong", wrong)):
+            body = f"  op {name}{kind}({params}) -> word 1 spec {{\n    return 1:1;\n  }} impl {{\n{statements}    return {answer};\n  }}\n"
+            operations[f"{name}{kind}"] = body
+
+    def read_at(last):
+        text = f"0:{width}"
+        for place in reversed(range(last)):
+            text = f"pick((i == {place}:3), r[{place}:8], {text})"
+        return text
+
+    computes("read", f"i : word 3, r : {shape}", "", f"(r[i] == {read_at(words)})", f"(r[i] == {read_at(words - 1)})")
+    computes("write", f"i : word 3, r : {shape}, v : word {width}", "    let q = r;\n    q[i] = v;\n",
+             f"all({each}, (q[k] == pick((resize(i, 8) == k), v, r[k])))", f"all({each}, (q[k] == pick((resize(i, 8) <= k), v, r[k])))")
+    for place in (0, 1, 5):
+        computes(f"write_at_{place}", f"r : {shape}, v : word {width}", f"    let q = r;\n    q[{place}:8] = v;\n",
+                 f"all({each}, (q[k] == pick((k == {place}:8), v, r[k])))", f"all({each}, ((q[k] == v) & (r[k] == v)))")
+    computes("equal", f"r : {shape}, q : {shape}", "", f"((r == q) == all({each}, (r[k] == q[k])))", f"((r == q) == any({each}, (r[k] == q[k])))")
+    computes("merged", f"c : word 1, r : {shape}, q : {shape}", "    let x = q;\n    let y = r;\n    if c {\n      x = r;\n      y = q;\n    }\n",
+             f"(all({each}, ((x[k] == pick(c, r[k], q[k])) & (y[k] == pick(c, q[k], r[k])))) & ((x == q) == (~c | (r == q))))",
+             f"all({each}, ((x[k] == pick(c, r[k], q[k])) & (y[k] == r[k])))")
+    computes("zeros", f"r : {shape}", "", f"((r == fill({words}, 0:{width})) == all({each}, (r[k] == 0:{width})))", f"(r == fill({words}, 0:{width}))")
+    rows = f"j:8 below 3, all({each}, "
+    computes("merged_tables", "c : word 1", "    let x = u;\n    if c {\n      x = t;\n    }\n",
+             f"(all({rows}(x[j][k] == pick(c, t[j][k], u[j][k])))) & ((x == u) == (~c | (t == u))))", f"all({rows}(x[j][k] == t[j][k])))")
+    computes("written_tables", f"c : word 1, i : word 3, r : {shape}", "    let x = t;\n    if c {\n      x[i] = r;\n    }\n",
+             f"all({rows}(x[j][k] == pick((c & (resize(i, 8) == j)), r[k], t[j][k]))))", f"all({rows}(x[j][k] == pick((resize(i, 8) == j), r[k], t[j][k]))))")
+    computes("read_tables", "i : word 3", "    let x = t[i];\n",
+             f"all({each}, (x[k] == pick((i == 0:3), t[0:8][k], pick((i == 1:3), t[1:8][k], pick((i == 2:3), t[2:8][k], 0:{width})))))",
+             f"all({each}, (x[k] == pick((i == 0:3), t[0:8][k], pick((i == 1:3), t[1:8][k], t[2:8][k]))))")
+    failing = {f"makers.call.{name}" for name in operations if name.endswith("_wrong")}
+    head = f"yggdrasil 1;\ndisk sync 1 of 1 of 1;\nlayer makers {{\n  memory t : table 3 of {words} of {width};\n  memory u : table 3 of {words} of {width};\n"
+    return f"{head}{''.join(operations.values())}  relate 1:1;\n}}\n", verdicts("makers", operations, failing)
+
+
 def terms():
     """The worked terms of two inputs, of which the third fails; and their verdicts."""
     worked = {
@@ -138,6 +212,11 @@ def verified():
     for rows in (2, 3, 4):
         for width in (1, 3):
             yield f"tables of {rows} rows of words of {width} digits", *tables(rows, width)
+    for width in ALL:
+        yield f"makers of words of {width} digits", *of_words(width)
+    for count in (2, 3, 4):
+        for width in (1, 3):
+            yield f"makers of rows of {count} words of {width} digits", *of_rows(count, width)
     yield "worked terms", *terms()
 
 
