@@ -6,13 +6,13 @@ use Rattle.ygg_decide.specs.ygg_bank.declared.node.Node.{Node}
 use Rattle.ygg_cert.specs.ygg_cnf.declared.lit.Lit.{Lit}
 use Rattle.ygg_cert.specs.ygg_cnf.declared.log.Step.{Step}
 use Rattle.ygg_cert.specs.ygg_cnf.Logs.{Refutes}
-use Rattle.ygg_decide.specs.ygg_gates.Groups.{translated}
-use Rattle.ygg_decide.specs.declared.deciding.Decided.{Decided}
-use Rattle.ygg_decide.specs.declared.deciding.Decided.TheVariants.{Valid}
-use Rattle.ygg_decide.specs.Deciding.{IsDecided}
+use Rattle.ygg_decide.specs.ygg_gates.Groups.{Translated, translated}
 use Rattle.ygg_cert.specs.ygg_log_text.Steps.{IsLiteral, IsStep}
 use Rattle.ygg_cert.specs.Laws.{StepsMay}
-use Rattle.ygg_certify.specs.declared.finding.Outcome.TheVariants.{Holds}
+use Rattle.ygg_decide.specs.declared.deciding.Decided.{Decided}
+use Rattle.ygg_decide.specs.declared.deciding.Decided.TheVariants as decided
+use Rattle.ygg_decide.specs.Deciding.{IsDecided}
+use Rattle.ygg_certify.specs.declared.finding.Outcome.TheVariants.{Holds, Spent}
 use Rattle.ygg_certify.specs.Findings.{IsOutcome}
 
 -- what holds of the items of a list holds of the one at a place
@@ -25,13 +25,15 @@ may_stand : StepsMay → (clauses : List (List Lit)) (log : List Step) (budget :
     → All IsStep log
 may_stand law clauses log budget may few small within refutes = law clauses log may (omega (arith, few, small, within)) refutes.derives
 
--- what is found of a term that is decided to be valid
-pub valid_found : StepsMay → (nodes : List Node) (term : Id) (budget : ℕ) (d : Decided) (log : List Step) →
-    All (All IsLiteral) (translated nodes term).clauses → length (translated nodes term).clauses < 2 ^ 63 → budget < 2 ^ 32 → d ≡ Valid log →
-    IsDecided nodes term budget d
+-- what is found of a term with a log that refutes these clauses, which are its own
+pub log_found : StepsMay → (nodes : List Node) (term : Id) (budget : ℕ) (t : Translated) (log : List Step) → t ≡ translated nodes term → All (All IsLiteral) t.clauses →
+    length t.clauses < 2 ^ 63 → budget < 2 ^ 32 → Refutes t.clauses log → length log ≤ budget
     → IsOutcome nodes term budget (Holds log)
-valid_found law nodes term budget d log may few small is decided =
-    (found.0, found.1, may_stand law (translated nodes term).clauses log budget may few small found.1 found.0)
-  where
-    found : IsDecided nodes term budget (Valid log)
-    found = subst (λ (x : Decided). IsDecided nodes term budget x) is decided
+log_found law nodes term budget t log is may few small refutes within =
+    subst (λ (u : Translated). Refutes u.clauses log × (length log ≤ budget) × All IsStep log) is
+    (refutes, within, may_stand law t.clauses log budget may few small within refutes)
+
+-- what is found of a term for which the whole budget was spent
+pub spent_found : (nodes : List Node) (term : Id) (budget : ℕ) (d : Decided) (log : List Step) → d ≡ decided.Spent log → IsDecided nodes term budget d
+    → IsOutcome nodes term budget Spent
+spent_found nodes term budget d log is found = (log, subst (λ (x : Decided). IsDecided nodes term budget x) is found)

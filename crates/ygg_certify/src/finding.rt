@@ -1,22 +1,23 @@
 //! What is found of terms by deciding them.
 
 ghost use Rattle.std.specs.Prelude.{◌≡◌, ◌<◌, ◌^◌, true, false, length, All, IfOk};
-ghost use Rattle.ygg_decide.specs.ygg_bank.Nodes.{HasWidth, Stands};
-ghost use Rattle.ygg_decide.specs.ygg_gates.Groups.{translated};
 ghost use Rattle.ygg_cert.specs.ygg_log_text.Steps.{IsLiteral};
-ghost use Rattle.ygg_certify.specs.Findings.{IsFinding, IsHeld, IsOutcome};
+ghost use Rattle.ygg_decide.specs.Deciding.{IsDecided};
+ghost use Rattle.ygg_decide.specs.ygg_bank.Nodes.{HasWidth, Stands};
+ghost use Rattle.ygg_certify.specs.Findings.{IsFinding, IsHeld};
 
 use crate::literals::literals_may;
 use std::alloc::Global;
 use ygg_base::Text;
-use ygg_cert::{Log, steps_may};
+use ygg_cert::{Clause, Log, steps_may};
+use ygg_certify_shorten::shorten;
 use ygg_decide::{Bank, Book, Decided, Env, Id, clauses_of, decide};
 use ygg_list::{NoMemory, Sequence};
 
 /// What is found of a term by deciding it within a budget of learned clauses.
 #[derive(Drop)]
 pub enum Outcome {
-    /// It is 1 in every environment: this log refutes its clauses.
+    /// It is 1 in every environment: this log refutes its clauses, by chains that were made shorter.
     Holds(Log),
     /// It is 0 in this environment.
     Fails(Env),
@@ -36,41 +37,44 @@ pub struct Finding {
 /// What is found of terms, in order.
 pub type Findings = Sequence<Finding>;
 
-/// How many clauses a term has, and that their literals may stand in a certificate. Its only error is out of memory.
-fn count(alloc: Global, bank: &Bank, term: Id) -> Result<u64, NoMemory>
-    requires { Stands bank.now term }
-    ensures count { IfOk result (λ count. count ≡ length (translated bank.now term).clauses) }
-    ensures few { IfOk result (λ count. count < 2 ^ 63) }
-    ensures may { IfOk result (λ count. All (All IsLiteral) (translated bank.now term).clauses) }
+/// How many clauses there are, all of whose literals may stand in a certificate.
+fn count(clauses: &[Clause]) -> u64
+    requires { All (All (λ x. 0 < x.var)) clauses.now }
+    ensures count { result ≡ length clauses.now }
+    ensures few { result < 2 ^ 63 }
+    ensures may { All (All IsLiteral) clauses.now }
 {
-    let blasted = clauses_of(alloc, bank, term)?;
-    let clauses = blasted.clauses().as_slice();
     literals_may(clauses);
-    Ok(clauses.len() as u64)
+    clauses.len() as u64
 }
 
-/// Decides a term within a budget. Its only error is out of memory.
-fn outcome_of<B: Book>(
+/// What is found of the term under a name by deciding it; the log that refutes its clauses gets shorter chains. Its only error is out of memory.
+fn found(
     alloc: Global,
-    bank: &mut Bank,
-    rules: &B,
+    bank: &Bank,
+    name: Text,
     term: Id,
+    decided: Decided,
     budget: u32,
-) -> Result<Outcome, NoMemory>
-    requires width { HasWidth bank.old term 1 }
-    requires budget { 0 < budget }
-    requires few { length (translated bank.old term).clauses < 2 ^ 63 }
-    requires may { All (All IsLiteral) (translated bank.old term).clauses }
-    ensures found { IfOk result (IsOutcome bank.old term budget) }
-    ensures same { bank.new ≡ bank.old }
+) -> Result<Finding, NoMemory>
+    requires stands { Stands bank.now term }
+    requires decided { IsDecided bank.now term budget decided }
+    ensures { IfOk result (IsFinding bank.now budget name term) }
 {
+    let blasted = clauses_of(alloc, bank, term)?;
+    let clauses = count(blasted.clauses().as_slice());
     // so the steps of a log over the clauses may stand in a certificate
     steps_may();
-    match decide(alloc, bank, rules, term, budget)? {
-        Decided::Valid(log) => Ok(Outcome::Holds(log)),
-        Decided::Fails(env) => Ok(Outcome::Fails(env)),
-        Decided::Spent(_log) => Ok(Outcome::Spent),
-    }
+    let outcome = match decided {
+        Decided::Valid(log) => Outcome::Holds(shorten(alloc, blasted.clauses(), log, budget)?),
+        Decided::Fails(env) => Outcome::Fails(env),
+        Decided::Spent(_log) => Outcome::Spent,
+    };
+    Ok(Finding {
+        name,
+        clauses,
+        outcome,
+    })
 }
 
 /// Decides the term under a name within a budget. Its only error is out of memory.
@@ -87,14 +91,9 @@ pub fn find<B: Book>(
     ensures found { IfOk result (IsFinding bank.old budget name.now term) }
     ensures same { bank.new ≡ bank.old }
 {
-    let clauses = count(alloc, bank, term)?;
+    let decided = decide(alloc, bank, rules, term, budget)?;
     let name = name.copy(alloc)?;
-    let outcome = outcome_of(alloc, bank, rules, term, budget)?;
-    Ok(Finding {
-        name,
-        clauses,
-        outcome,
-    })
+    found(alloc, bank, name, term, decided, budget)
 }
 
 /// Whether the term is 1 in every environment.

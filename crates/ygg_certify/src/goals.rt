@@ -23,11 +23,9 @@ fn goal_in(alloc: Global, bank: &Bank, o: &Obligation) -> Result<Goal, NoMemory>
     requires { HasWidth bank.now o.now.term 1 }
     ensures { IfOk result (λ goal. goal ≡ goal_in bank.now o.now) }
 {
-    let blasted = clauses_of(alloc, bank, o.term)?;
-    Ok(Goal {
-        name: o.name.copy(alloc)?,
-        clauses: blasted.clauses().copy(alloc)?,
-    })
+    let name = o.name.copy(alloc)?;
+    let (clauses, _) = clauses_of(alloc, bank, o.term)?.into_parts();
+    Ok(Goal { name, clauses })
 }
 
 impl Goals for FileGoals<'_> {

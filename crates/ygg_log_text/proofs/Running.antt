@@ -65,7 +65,7 @@ pub no_run : (piece : List ℕ) (r : StepReader) → IsRun piece r r 0
 no_run piece r = record { within = omega arith; reading = λ before was. subst (λ (x : List ℕ). IsReading x r) (sym (append-nil before)) was }
 
 -- a run of one more byte
-one_more : (piece : List ℕ) (i : ℕ) (old now new : StepReader) → i < length piece → IsRun piece old now i
+pub one_more : (piece : List ℕ) (i : ℕ) (old now new : StepReader) → i < length piece → IsRun piece old now i
     → ((bytes : List ℕ) → IsReading bytes now → IsReading (bytes ++ get_or piece i 0 ∷ []) new) → IsRun piece old new (i + 1)
 one_more piece i old now new within run on = record {
   within = omega (arith, within);

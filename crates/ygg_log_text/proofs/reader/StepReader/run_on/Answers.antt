@@ -1,8 +1,5 @@
-use Rattle.ygg_log_text.proofs.Running.{no_run, run_from}
+use Rattle.ygg_log_text.proofs.Running.{run_from}
 use Rattle.ygg_log_text.proofs.reader.StepReader.run_on.Goals as goal
-
-pub returns-in_default : goal.returns-in_default
-returns-in_default c = no_run c.args.piece.now c.args.self.now
 
 pub returns : goal.returns
 returns c =
