@@ -6,6 +6,7 @@ ghost use Rattle.ygg_cnf.specs.Logs.{Refutes, chain_of, clause_of};
 
 use crate::joining::join_pairs;
 use crate::rebuilding::rebuild;
+use crate::rebuilt::Rebuilt;
 use crate::refutation::Refutation;
 use crate::writing::write;
 use std::alloc::Global;
@@ -30,9 +31,14 @@ pub fn shorten(alloc: Global, clauses: &Clauses, log: Log, budget: u32) -> Resul
 
 /// A log that is to refute the same clauses. Nothing is promised of it: it is judged.
 fn shorter_of(alloc: Global, clauses: &Clauses, log: &Log) -> Result<Log, NoMemory> {
-    let old = Refutation::of(alloc, clauses, log)?;
-    let made = rebuild(alloc, &old)?;
+    let made = rebuilt_of(alloc, clauses, log)?;
     write(alloc, &join_pairs(alloc, made)?)
+}
+
+/// The steps of a log derived again. What was read of the log is let go then.
+fn rebuilt_of(alloc: Global, clauses: &Clauses, log: &Log) -> Result<Rebuilt, NoMemory> {
+    let old = Refutation::of(alloc, clauses, log)?;
+    rebuild(alloc, &old)
 }
 
 /// Whether the log refutes the clauses, its last clause being empty. Its only error is out of memory.
