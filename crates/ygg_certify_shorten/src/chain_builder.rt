@@ -138,7 +138,7 @@ impl ChainBuilder {
         Ok(())
     }
 
-    /// Derives the complements of literals that are false at the beginning, each by a step of its own. The clauses that crossed these literals out are left out.
+    /// Derives the complements of literals that are false at the beginning, each by a step of its own. The clauses that crossed these out are left out.
     pub fn find_units(&mut self, old: &Refutation, made: &mut Rebuilt) -> Result<(), NoMemory> {
         for place in (0..self.pivots.len()).rev() {
             let lit = number_at(self.pivots.as_slice(), short(place));
@@ -194,7 +194,7 @@ impl ChainBuilder {
         Ok(())
     }
 
-    /// Puts the clauses of a chain, which are at most so many, in order, from the one that it begins with: a clause comes when all that bring the literal that it crosses out have come,
+    /// Puts a chain's clauses, at most so many, in order, from its first one on: a clause comes when all that bring the literal that it crosses out have come,
     /// and of these clauses the one whose literal was brought last.
     pub fn order(
         &mut self,
@@ -230,7 +230,7 @@ impl ChainBuilder {
         Ok(())
     }
 
-    /// Notes that the clause at a place of the chain brings a literal, if it is crossed out. Where it is the last to do so, the literal's crossing out may come.
+    /// Notes that the clause at a place of the chain brings a literal, if that is crossed out. Where it is the last to do so, the crossing out may come.
     fn bring(&mut self, lit: u32, place: u32, made: &mut Rebuilt) -> Result<(), NoMemory> {
         let Some(literal) = self.literals.get_mut(lit as usize) else {
             return Ok(());

@@ -5,8 +5,8 @@ use crate::refutation::Refutation;
 use std::alloc::Global;
 use ygg_list::NoMemory;
 
-/// A refutation, and for each number of its chains the parent: the place in the chain of the one clause that brings the literal which the number's clause crosses
-/// out. It is past the chain's end where there is no such clause, or more than one.
+/// A refutation, and for each number of its chains the parent: the place in the chain of the one clause that brings the literal which the number's clause
+/// crosses out. It is past the chain's end where there is no such clause, or more than one.
 #[derive(Drop)]
 pub struct Rebuilt {
     pub refutation: Refutation,

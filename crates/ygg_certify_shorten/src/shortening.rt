@@ -14,7 +14,7 @@ use ygg_chain::Checker;
 use ygg_cnf::{Clauses, Log, Step};
 use ygg_list::NoMemory;
 
-/// A log that refutes the same clauses, of at most as many steps, by shorter chains in all; or the log itself, where none was found. Its only error is out of memory.
+/// A log by shorter chains that refutes the same clauses, with at most `budget` steps; else the log itself. Its only error is out of memory.
 pub fn shorten(alloc: Global, clauses: &Clauses, log: Log, budget: u32) -> Result<Log, NoMemory>
     requires refutes { Refutes clauses.now log }
     requires budget { length log ≤ budget }
