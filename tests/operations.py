@@ -144,7 +144,9 @@ def of_words(width):
             failing |= {f"makers.call.{name}{kind}"} if is_wrong else set()
     for place, (op, _, to) in enumerate(results(width, 0, 0)):
         cases = [(f"((a == {a}:{width}) & (b == {b}:{width}))", int(results(width, a, b)[place][1] == 5 % 2**to)) for a, b in ALL[width]]
-        operations[f"compared_{place}"] = (f"a : word {width}, b : word {width}", f"(((a {op} b) == {5 % 2**to}:{to}) == {by_cases(cases, 1)})")
+        for kind, them in (("", cases), ("_wrong", [*cases[:-1], (cases[-1][0], cases[-1][1] ^ 1)])):
+            operations[f"compared_{place}{kind}"] = (f"a : word {width}, b : word {width}", f"(((a {op} b) == {5 % 2**to}:{to}) == {by_cases(them, 1)})")
+        failing.add(f"makers.call.compared_{place}_wrong")
     picked_is = "((c & (pick(c, a, b) == a)) | (~c & (pick(c, a, b) == {})))"
     for kind, other in (("", "b"), ("_wrong", "a")):
         operations[f"picked{kind}"] = (f"c : word 1, a : word {width}, b : word {width}", picked_is.format(other))
