@@ -1,6 +1,6 @@
 //! The clauses of a term, and the way back.
 
-ghost use Rattle.std.specs.Prelude.{◌≡◌, ◌<◌, ◌+◌, ◌*◌, ◌^◌, List, All, IfOk};
+ghost use Rattle.std.specs.Prelude.{◌≡◌, ◌<◌, ◌+◌, ◌++◌, ◌*◌, ◌^◌, List, All, IfOk, OnOk};
 ghost use Rattle.ygg_gates.specs.Laws.{AreExact, IsZeroIn};
 ghost use Rattle.ygg_value.specs.Words.{bit_of, word};
 ghost use Rattle.ygg_bank.specs.Nodes.{HasWidth, IsBank, Stands};
@@ -11,12 +11,12 @@ ghost use Rattle.ygg_cnf.specs.declared.lit.Lit.{Lit};
 ghost use Rattle.ygg_gates.specs.Groups.{circuit_clauses, circuit_of, translated};
 ghost use Rattle.ygg_gates.specs.Sources.{environment_by, number_from};
 
-use crate::clauses::{push_clause, push_gates};
+use crate::clauses::put_gates;
 use crate::groups::{Groups, groups_of};
 use std::alloc::Global;
 use std::marker::Model;
 use ygg_bank::{Bank, Env, Given, Id, reached};
-use ygg_cnf::{Assignment, Clauses, Lit, truth};
+use ygg_cnf::{Assignment, ClauseSink, Clauses, Lit, truth};
 use ygg_gates::{InputVariables, groups_are_of_reached_nodes};
 use ygg_gates_circuit::true_literal;
 use ygg_list::{NoMemory, Sequence};
@@ -55,15 +55,18 @@ impl Blasted {
     }
 }
 
-/// The clauses of a circuit's gates, between the unit clause of variable 1 and that of the complement of the term's literal.
-fn clauses_of_groups(alloc: Global, groups: &Groups, term: Id) -> Result<Clauses, NoMemory>
-    ensures { IfOk result (λ clauses. clauses ≡ circuit_clauses groups.now term) }
+/// Puts the clauses of a circuit's gates, between the unit clause of variable 1 and that of the complement of the term's literal.
+fn put_circuit<S: ClauseSink>(
+    alloc: Global,
+    sink: &mut S,
+    groups: &Groups,
+    term: Id,
+) -> Result<(), NoMemory>
+    ensures { OnOk result (S.held sink.new ≡ S.held sink.old ++ circuit_clauses groups.now term) }
 {
-    let mut clauses = Clauses::new(alloc);
-    push_clause(alloc, &mut clauses, &[true_literal()])?;
-    push_gates(alloc, &mut clauses, groups.gates.as_slice())?;
-    push_clause(alloc, &mut clauses, &[groups.goal(term)])?;
-    Ok(clauses)
+    sink.take(alloc, &[true_literal()])?;
+    put_gates(alloc, sink, groups.gates.as_slice())?;
+    sink.take(alloc, &[groups.goal(term)])
 }
 
 /// The clauses of a term, and the variables of the inputs that it reaches. Those of a term of width 1 are satisfiable exactly where it
@@ -91,13 +94,28 @@ pub fn circuit_of(alloc: Global, bank: &Bank, term: Id) -> Result<Groups, NoMemo
     groups_of(alloc, bank, term, reached.as_slice())
 }
 
+/// Puts the clauses of a term into what takes clauses: those that `clauses_of` gives. Its only error is out of memory.
+pub fn put_clauses<S: ClauseSink>(
+    alloc: Global,
+    bank: &Bank,
+    term: Id,
+    sink: &mut S,
+) -> Result<(), NoMemory>
+    requires { Stands bank.now term }
+    ensures { OnOk result (S.held sink.new ≡ S.held sink.old ++ (translated bank.now term).clauses) }
+{
+    let groups = circuit_of(alloc, bank, term)?;
+    put_circuit(alloc, sink, &groups, term)
+}
+
 /// What `clauses_of` does.
 fn blasted_of(alloc: Global, bank: &Bank, term: Id) -> Result<Blasted, NoMemory>
     requires { Stands bank.now term }
     ensures { IfOk result (λ blasted. blasted ≡ translated bank.now term) }
 {
     let groups = circuit_of(alloc, bank, term)?;
-    let clauses = clauses_of_groups(alloc, &groups, term)?;
+    let mut clauses = Clauses::new(alloc);
+    put_circuit(alloc, &mut clauses, &groups, term)?;
     Ok(Blasted {
         clauses,
         sources: groups.sources,

@@ -1,72 +1,71 @@
-//! The clauses of gates.
+//! The clauses of gates, put into what takes clauses.
 
 ghost use Rattle.std.specs.Prelude.{◌≡◌, ◌<◌, ◌^◌, ◌++◌, ◌∷◌, [], length, IfOk, OnOk};
-ghost use Rattle.ygg_cnf.specs.Literals.{once};
 ghost use Rattle.ygg_gates.specs.Circuits.{literal};
 ghost use Rattle.ygg_gates.specs.Clauses.{clauses_from, gate_clauses};
 
 use std::alloc::Global;
-use ygg_cnf::{Clause, Clauses, Lit};
+use ygg_cnf::{ClauseSink, Clauses, Lit};
 use ygg_gates::Gate;
 use ygg_list::NoMemory;
 
-/// Adds a clause of these literals, each kept once.
-pub fn push_clause(alloc: Global, clauses: &mut Clauses, lits: &[Lit]) -> Result<(), NoMemory>
-    ensures { OnOk result (clauses.new ≡ clauses.old ++ once lits.now ∷ []) }
-{
-    let clause = Clause::once(alloc, lits)?;
-    clauses.push(clause)
-}
-
-/// Adds the clauses of AND.
-fn push_and(alloc: Global, clauses: &mut Clauses, o: Lit, a: Lit, b: Lit) -> Result<(), NoMemory>
-    ensures { OnOk result (clauses.new ≡ clauses.old ++ gate_clauses o (Gate.And a b)) }
-{
-    push_clause(alloc, clauses, &[o.complement(), a])?;
-    push_clause(alloc, clauses, &[o.complement(), b])?;
-    push_clause(alloc, clauses, &[o, a.complement(), b.complement()])
-}
-
-/// Adds the clauses of XOR.
-fn push_xor(alloc: Global, clauses: &mut Clauses, o: Lit, a: Lit, b: Lit) -> Result<(), NoMemory>
-    ensures { OnOk result (clauses.new ≡ clauses.old ++ gate_clauses o (Gate.Xor a b)) }
-{
-    push_clause(alloc, clauses, &[o.complement(), a, b])?;
-    push_clause(
-        alloc,
-        clauses,
-        &[o.complement(), a.complement(), b.complement()],
-    )?;
-    push_clause(alloc, clauses, &[o, a.complement(), b])?;
-    push_clause(alloc, clauses, &[o, a, b.complement()])
-}
-
-/// Adds the clauses of MUX.
-fn push_mux(
+/// Puts the clauses of AND.
+fn put_and<S: ClauseSink>(
     alloc: Global,
-    clauses: &mut Clauses,
+    sink: &mut S,
+    o: Lit,
+    a: Lit,
+    b: Lit,
+) -> Result<(), NoMemory>
+    ensures { OnOk result (S.held sink.new ≡ S.held sink.old ++ gate_clauses o (Gate.And a b)) }
+{
+    sink.take(alloc, &[o.complement(), a])?;
+    sink.take(alloc, &[o.complement(), b])?;
+    sink.take(alloc, &[o, a.complement(), b.complement()])
+}
+
+/// Puts the clauses of XOR.
+fn put_xor<S: ClauseSink>(
+    alloc: Global,
+    sink: &mut S,
+    o: Lit,
+    a: Lit,
+    b: Lit,
+) -> Result<(), NoMemory>
+    ensures { OnOk result (S.held sink.new ≡ S.held sink.old ++ gate_clauses o (Gate.Xor a b)) }
+{
+    sink.take(alloc, &[o.complement(), a, b])?;
+    sink.take(alloc, &[o.complement(), a.complement(), b.complement()])?;
+    sink.take(alloc, &[o, a.complement(), b])?;
+    sink.take(alloc, &[o, a, b.complement()])
+}
+
+/// Puts the clauses of MUX.
+fn put_mux<S: ClauseSink>(
+    alloc: Global,
+    sink: &mut S,
     o: Lit,
     c: Lit,
     a: Lit,
     b: Lit,
 ) -> Result<(), NoMemory>
-    ensures { OnOk result (clauses.new ≡ clauses.old ++ gate_clauses o (Gate.Mux c a b)) }
+    ensures { OnOk result (S.held sink.new ≡ S.held sink.old ++ gate_clauses o (Gate.Mux c a b)) }
 {
-    push_clause(alloc, clauses, &[o.complement(), c.complement(), a])?;
-    push_clause(alloc, clauses, &[o, c.complement(), a.complement()])?;
-    push_clause(alloc, clauses, &[o.complement(), c, b])?;
-    push_clause(alloc, clauses, &[o, c, b.complement()])
+    sink.take(alloc, &[o.complement(), c.complement(), a])?;
+    sink.take(alloc, &[o, c.complement(), a.complement()])?;
+    sink.take(alloc, &[o.complement(), c, b])?;
+    sink.take(alloc, &[o, c, b.complement()])
 }
 
-/// Adds the clauses of a gate whose variable has the literal o.
-fn push_gate(alloc: Global, clauses: &mut Clauses, o: Lit, gate: Gate) -> Result<(), NoMemory>
-    ensures { OnOk result (clauses.new ≡ clauses.old ++ gate_clauses o gate) }
+/// Puts the clauses of a gate whose variable has the literal o.
+fn put_gate<S: ClauseSink>(alloc: Global, sink: &mut S, o: Lit, gate: Gate) -> Result<(), NoMemory>
+    ensures { OnOk result (S.held sink.new ≡ S.held sink.old ++ gate_clauses o gate) }
 {
     match gate {
         Gate::Free => Ok(()),
-        Gate::And { a, b } => push_and(alloc, clauses, o, a, b),
-        Gate::Xor { a, b } => push_xor(alloc, clauses, o, a, b),
-        Gate::Mux { test, yes, no } => push_mux(alloc, clauses, o, test, yes, no),
+        Gate::And { a, b } => put_and(alloc, sink, o, a, b),
+        Gate::Xor { a, b } => put_xor(alloc, sink, o, a, b),
+        Gate::Mux { test, yes, no } => put_mux(alloc, sink, o, test, yes, no),
     }
 }
 
@@ -79,22 +78,22 @@ pub fn clauses_of_gate(alloc: Global, variable: u64, gate: Gate) -> Result<Claus
         var: variable,
         negated: false,
     };
-    push_gate(alloc, &mut clauses, output, gate)?;
+    put_gate(alloc, &mut clauses, output, gate)?;
     Ok(clauses)
 }
 
-/// Adds the clauses of gates in order, the first of which has the variable 2.
+/// Puts the clauses of gates in order, the first of which has the variable 2.
 #[tactic(auto, using(crate::proofs::Steps::clauses_begin, crate::proofs::Steps::clauses_go, crate::proofs::Steps::clauses_are))]
-pub fn push_gates(alloc: Global, clauses: &mut Clauses, gates: &[Gate]) -> Result<(), NoMemory>
+pub fn put_gates<S: ClauseSink>(alloc: Global, sink: &mut S, gates: &[Gate]) -> Result<(), NoMemory>
     requires { length gates.now < 2 ^ 63 }
-    ensures { OnOk result (clauses.new ≡ clauses.old ++ clauses_from 2 gates.now) }
+    ensures { OnOk result (S.held sink.new ≡ S.held sink.old ++ clauses_from 2 gates.now) }
 {
     for place in 0..gates.len() {
         let output = Lit {
             var: place as u64 + 2,
             negated: false,
         };
-        push_gate(alloc, clauses, output, gates[place])?;
+        put_gate(alloc, sink, output, gates[place])?;
     }
     Ok(())
 }

@@ -23,12 +23,13 @@ mod reading;
 mod source;
 mod verdict;
 
-pub use item::{CertItems, Goal, Item, Wanted};
+pub use item::{CertItems, Goal, HeldGoal, Item, Wanted};
 pub use law::{checked_is_refuted, judged_once, printed_is_checked, steps_may};
 pub use printing::{print_cert, put_closing, put_first, put_last, put_opening};
 pub use reader::{CertReader, check_cert, check_goals};
 pub use reading::Reading;
 pub use source::Goals;
 pub use verdict::{CertEnd, Fed};
+pub use ygg_chain::Checker;
 pub use ygg_cnf::{Clause, Lit, Log, Step, derivations_are_sound};
 pub use ygg_log_text::put_number;

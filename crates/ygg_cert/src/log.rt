@@ -4,7 +4,7 @@ ghost use Rattle.std.specs.Prelude.{◌≡◌, ◌≤◌, ◌+◌, ◌∷◌, �
 ghost use Rattle.ygg_cert.specs.Standing.{IsLogAt, IsStepAt, Turns, Closes, Adds};
 ghost use Rattle.ygg_cert.specs.declared.verdict.Heard.TheVariants.{More};
 
-use crate::item::Goal;
+use crate::item::HeldGoal;
 use crate::verdict::Heard;
 use std::alloc::Global;
 use ygg_base::Text;
@@ -34,21 +34,21 @@ pub struct LogReading {
 }
 
 impl LogReading {
-    /// The log of a goal, of which nothing is read. Its only error is out of memory.
-    pub fn new(alloc: Global, goal: Goal) -> Result<LogReading, NoMemory>
-        ensures name { IfOk result (λ log. log.name ≡ goal.name) }
-        ensures checker { IfOk result (λ log. log.checker ≡ goal.clauses) }
-        ensures at { IfOk result (IsLogAt []) }
+    /// The log of a goal, of which nothing is read. It takes no memory.
+    pub fn new(alloc: Global, goal: HeldGoal) -> LogReading
+        ensures name { result.name ≡ goal.name }
+        ensures checker { result.checker ≡ goal.clauses }
+        ensures at { IsLogAt [] result }
     {
-        let Goal { name, clauses } = goal;
-        let checker = Checker::new(alloc, &clauses)?;
-        Ok(LogReading {
+        let HeldGoal { name, checker } = goal;
+        let held = checker.len() as u64;
+        LogReading {
             name,
             checker,
-            held: clauses.len() as u64,
+            held,
             at: LogLine::Begin,
             step: StepReader::new(alloc),
-        })
+        }
     }
 
     /// The name of the goal.
@@ -85,13 +85,13 @@ impl LogReading {
             return Err(NoMemory);
         };
         let clause = self.step.clause();
-        if !self.checker.follows(self.step.chain(), clause.as_slice()) {
+        if !self.checker.follows(self.step.chain(), clause) {
             return Ok(Heard::Bad(number));
         }
-        self.checker.add(clause)?;
+        self.checker.hold(clause)?;
         self.held = number;
         self.at = LogLine::Begin;
-        self.step = StepReader::new(alloc);
+        self.step.restart(alloc);
         Ok(Heard::Added)
     }
 

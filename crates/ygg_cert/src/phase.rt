@@ -7,14 +7,13 @@ ghost use Rattle.ygg_cert.specs.Standing.{IsAt, IsDone, IsEnded, IsNext, Hears};
 ghost use Rattle.ygg_cert.specs.Texts.{first_line, opening_line};
 
 use crate::expected::Expected;
-use crate::item::Goal;
+use crate::item::HeldGoal;
 use crate::log::LogReading;
 use crate::printing::{put_first, put_last, put_opening};
 use crate::source::Goals;
 use crate::verdict::Heard;
 use std::alloc::Global;
 use ygg_base::Text;
-use ygg_cnf::Clauses;
 use ygg_list::NoMemory;
 
 /// Which line is read next.
@@ -51,11 +50,11 @@ pub struct Next {
 }
 
 /// The line before the log of a goal. Its only error is out of memory.
-fn opening(alloc: Global, goal: &Goal) -> Result<Text, NoMemory>
+fn opening(alloc: Global, goal: &HeldGoal) -> Result<Text, NoMemory>
     ensures { IfOk result (λ line. line ≡ opening_line goal.now.name (length goal.now.clauses)) }
 {
     let mut line = Text::new(alloc);
-    put_opening(&mut line, goal.name.as_slice(), goal.clauses.len() as u64)?;
+    put_opening(&mut line, goal.name.as_slice(), goal.checker.len() as u64)?;
     Ok(line)
 }
 
@@ -70,14 +69,11 @@ impl Next {
         let mut line = Text::new(alloc);
         put_first(&mut line)?;
         // no log is read before the first goal
-        let none = Goal {
-            name: Text::new(alloc),
-            clauses: Clauses::new(alloc),
-        };
+        let none = HeldGoal::none(alloc);
         Ok(Next {
             phase: Phase::First,
             line: Expected::new(line),
-            log: LogReading::new(alloc, none)?,
+            log: LogReading::new(alloc, none),
             passed: 0,
         })
     }
@@ -115,11 +111,11 @@ impl Next {
     }
 
     /// Goes on with the line before the log of a goal. Its only error is out of memory.
-    fn open(&mut self, alloc: Global, goal: Goal) -> Result<(), NoMemory>
+    fn open(&mut self, alloc: Global, goal: HeldGoal) -> Result<(), NoMemory>
         ensures { (goals : List Goal) → IsNext goals goal self.old.passed → OnOk result (IsAt goals (Between (drop self.old.passed goals)) [] self.new) }
     {
         self.line = Expected::new(opening(alloc, &goal)?);
-        self.log = LogReading::new(alloc, goal)?;
+        self.log = LogReading::new(alloc, goal);
         self.phase = Phase::Opening;
         Ok(())
     }

@@ -5,6 +5,6 @@ mod opened;
 
 pub use opened::{LibraryFailed, check_open};
 pub use ygg_cert::{
-    CertEnd, Goal, Goals, checked_is_refuted, derivations_are_sound, judged_once,
+    CertEnd, Checker, Goals, HeldGoal, checked_is_refuted, derivations_are_sound, judged_once,
     printed_is_checked, put_number,
 };

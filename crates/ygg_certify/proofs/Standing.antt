@@ -26,8 +26,8 @@ may_stand : StepsMay → (clauses : List (List Lit)) (log : List Step) (budget :
 may_stand law clauses log budget may few small within refutes = law clauses log may (omega (arith, few, small, within)) refutes.derives
 
 -- what is found of a term with a log that refutes these clauses, which are its own
-pub log_found : StepsMay → (nodes : List Node) (term : Id) (budget : ℕ) (t : Translated) (log : List Step) → t ≡ translated nodes term → All (All IsLiteral) t.clauses →
-    length t.clauses < 2 ^ 63 → budget < 2 ^ 32 → Refutes t.clauses log → length log ≤ budget
+pub log_found : StepsMay → (nodes : List Node) (term : Id) (budget : ℕ) (t : Translated) (log : List Step) → t ≡ translated nodes term →
+    All (All IsLiteral) t.clauses → length t.clauses < 2 ^ 63 → budget < 2 ^ 32 → Refutes t.clauses log → length log ≤ budget
     → IsOutcome nodes term budget (Holds log)
 log_found law nodes term budget t log is may few small refutes within =
     subst (λ (u : Translated). Refutes u.clauses log × (length log ≤ budget) × All IsStep log) is

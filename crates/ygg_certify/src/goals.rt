@@ -5,12 +5,13 @@ ghost use Rattle.ygg_oblige_decided.specs.ygg_bank.Nodes.{HasWidth};
 ghost use Rattle.ygg_certify.specs.FileGoals.{goal_in};
 
 use std::alloc::Global;
-use ygg_cert_open::{Goal, Goals};
+use ygg_cert_open::{Checker, Goals, HeldGoal};
 use ygg_list::NoMemory;
 use ygg_oblige::Obligation;
-use ygg_oblige_decided::{Bank, clauses_of};
+use ygg_oblige_decided::{Bank, put_clauses};
 
-/// Obligations with the bank of their terms. The clauses of a term are made when its goal is asked for, so that those of one obligation alone are in memory.
+/// Obligations with the bank of their terms. The clauses of a term are put into a checker when its goal is asked for, so that those of one obligation alone are
+/// in memory.
 #[derive(Drop)]
 pub(crate) struct FileGoals<'a> {
     pub bank: &'a Bank,
@@ -18,14 +19,15 @@ pub(crate) struct FileGoals<'a> {
     ghost digits: { All (λ o. HasWidth bank.now o.term 1) all.now },
 }
 
-/// The clauses of an obligation's term. Its only error is out of memory.
-fn goal_in(alloc: Global, bank: &Bank, o: &Obligation) -> Result<Goal, NoMemory>
+/// The clauses of an obligation's term, put into a checker. Its only error is out of memory.
+fn goal_in(alloc: Global, bank: &Bank, o: &Obligation) -> Result<HeldGoal, NoMemory>
     requires { HasWidth bank.now o.now.term 1 }
     ensures { IfOk result (λ goal. goal ≡ goal_in bank.now o.now) }
 {
     let name = o.name.copy(alloc)?;
-    let (clauses, _) = clauses_of(alloc, bank, o.term)?.into_parts();
-    Ok(Goal { name, clauses })
+    let mut checker = Checker::empty(alloc);
+    put_clauses(alloc, bank, o.term, &mut checker)?;
+    Ok(HeldGoal { name, checker })
 }
 
 impl Goals for FileGoals<'_> {
@@ -33,7 +35,7 @@ impl Goals for FileGoals<'_> {
 
     ghost wanted = { λ goals. goals_in goals.bank.now goals.all.now };
 
-    fn goal(&self, alloc: Global, place: usize) -> Result<Option<Goal>, NoMemory> {
+    fn goal(&self, alloc: Global, place: usize) -> Result<Option<HeldGoal>, NoMemory> {
         match self.all.get(place) {
             Some(o) => Ok(Some(goal_in(alloc, self.bank, o)?)),
             None => Ok(None),

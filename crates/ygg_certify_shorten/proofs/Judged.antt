@@ -1,11 +1,34 @@
 -- What holds of the first steps of a log, one after another, while a checker takes them.
-use Rattle.std.proofs.Common.{◌≡◌, ℕ, ◌+◌, ◌<◌, ◌≤◌, Bool, List, [], ◌∷◌, ◌++◌, length, map, take, get_or, sym, subst, refl, inr, IsTrue, false, true≢false, append-nil}
+use Rattle.std.proofs.Common.{
+  ◌≡◌,
+  ℕ,
+  ◌+◌,
+  ◌<◌,
+  ◌≤◌,
+  Bool,
+  List,
+  [],
+  ◌∷◌,
+  ◌++◌,
+  length,
+  map,
+  take,
+  get_or,
+  sym,
+  subst,
+  refl,
+  inr,
+  IsTrue,
+  false,
+  true≢false,
+  append-nil,
+}
 use Rattle.std.proofs.lemmas.List.{take_more, take_all}
 use Rattle.ygg_cnf.specs.Derivations.{DerivesClause, HasClause}
 use Rattle.ygg_cnf.specs.Logs.{Derives, EndsEmpty, Refutes, chain_of, clause_of}
 use Rattle.ygg_cnf.specs.declared.lit.Lit.{Lit}
 use Rattle.ygg_cnf.specs.declared.log.Step.{Step}
-use Rattle.ygg_solver.proofs.LogLemmas.{derives_push, learned_more}
+use Rattle.ygg_cnf.proofs.LogLemmas.{derives_push, learned_more}
 
 -- the checker holds the clauses and those of the steps, each of which is derived, and the last one is empty where that is said
 pub record AreTaken (clauses held : List (List Lit)) (steps : List Step) (is_empty : Bool) : Type 0 where

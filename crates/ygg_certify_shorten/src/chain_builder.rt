@@ -11,7 +11,7 @@ const MANY: u32 = NONE - 1;
 
 /// What is known of a literal. All but its unit is of the step that is derived.
 #[derive(Clone, Copy)]
-struct Literal {
+struct LiteralState {
     /// Whether it is in the clause so far.
     is_present: bool,
     /// The clause that crosses it out; `NONE` where none does.
@@ -24,10 +24,10 @@ struct Literal {
     unit: u32,
 }
 
-impl Literal {
+impl LiteralState {
     /// Nothing is known but its unit.
-    fn new(unit: u32) -> Literal {
-        Literal {
+    fn new(unit: u32) -> LiteralState {
+        LiteralState {
             is_present: false,
             crossed_by: NONE,
             uses: 0,
@@ -40,7 +40,7 @@ impl Literal {
 /// Builds a step's chain anew, one step after another.
 #[derive(Drop)]
 pub struct ChainBuilder {
-    literals: Vec<Literal>,
+    literals: Vec<LiteralState>,
     // by clause its new number
     numbers: Vec<u32>,
     // the literals that were present in the step
@@ -55,7 +55,7 @@ impl ChainBuilder {
     /// Nothing is known but the given clauses of one literal.
     pub fn new(alloc: Global, old: &Refutation) -> Result<ChainBuilder, NoMemory> {
         let mut builder = ChainBuilder {
-            literals: Vec::from_elem(alloc, Literal::new(NONE), old.literal_count())?,
+            literals: Vec::from_elem(alloc, LiteralState::new(NONE), old.literal_count())?,
             numbers: Vec::new(alloc),
             seen: Vec::new(alloc),
             pivots: Vec::new(alloc),
@@ -84,10 +84,10 @@ impl ChainBuilder {
     }
 
     /// What is known of a literal.
-    fn literal(&self, lit: u32) -> Literal {
+    fn literal(&self, lit: u32) -> LiteralState {
         match self.literals.get(lit as usize) {
             Some(literal) => *literal,
-            None => Literal::new(NONE),
+            None => LiteralState::new(NONE),
         }
     }
 
@@ -258,7 +258,7 @@ impl ChainBuilder {
     pub fn clear(&mut self) {
         for lit in self.seen.as_slice() {
             if let Some(literal) = self.literals.get_mut(*lit as usize) {
-                *literal = Literal::new(literal.unit);
+                *literal = LiteralState::new(literal.unit);
             }
         }
         self.seen.clear();

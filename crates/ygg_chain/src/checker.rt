@@ -11,7 +11,7 @@ use crate::places::Variables;
 use crate::store::{Store, enter_all};
 use std::alloc::Global;
 use std::marker::Model;
-use ygg_cnf::{Clause, Clauses, Lit};
+use ygg_cnf::{Clause, ClauseSink, Clauses, Lit, is_once};
 use ygg_cnf_set::{contains, pivot, take_all};
 use ygg_list::NoMemory;
 
@@ -48,8 +48,8 @@ impl Checker {
         Ok(checker)
     }
 
-    /// A checker that holds no clause.
-    fn empty(alloc: Global) -> Checker
+    /// A checker that holds no clause. It takes no memory.
+    pub fn empty(alloc: Global) -> Checker
         ensures { result ≡ [] }
     {
         Checker {
@@ -58,18 +58,28 @@ impl Checker {
         }
     }
 
+    /// How many clauses are held.
+    pub fn len(&self) -> usize
+        ensures { result ≡ length self.now }
+    {
+        self.store.clauses.len()
+    }
+
     /// Makes the clause the next one held. After running out of memory the checker holds what it held.
     pub fn add(&mut self, clause: &Clause) -> Result<(), NoMemory>
         ensures ok { OnOk result (self.new ≡ self.old ++ clause.now ∷ []) }
         ensures err { OnErr result (self.new ≡ self.old) }
     {
+        self.hold(clause.as_slice())
+    }
+
+    /// Makes the clause of these literals the next one held. After running out of memory the checker holds what it held.
+    pub fn hold(&mut self, clause: &[Lit]) -> Result<(), NoMemory>
+        ensures ok { OnOk result (self.new ≡ self.old ++ clause.now ∷ []) }
+        ensures err { OnErr result (self.new ≡ self.old) }
+    {
         let alloc = *self.seen.allocator();
-        let kept = enter_all(
-            alloc,
-            &mut self.seen,
-            &mut self.store.variables,
-            clause.as_slice(),
-        )?;
+        let kept = enter_all(alloc, &mut self.seen, &mut self.store.variables, clause)?;
         self.store.clauses.push(kept)
     }
 
@@ -87,6 +97,18 @@ impl Checker {
         ensures { IsTrue result ↔ Contains self.now [] }
     {
         self.store.has_empty()
+    }
+}
+
+impl ClauseSink for Checker {
+    ghost held = { λ checker. checker };
+
+    fn take(&mut self, alloc: Global, lits: &[Lit]) -> Result<(), NoMemory> {
+        if is_once(lits) {
+            return self.hold(lits);
+        }
+        let clause = Clause::once(alloc, lits)?;
+        self.add(&clause)
     }
 }
 

@@ -1,6 +1,7 @@
 //! Places by variable, in memory for as many variables as there are.
 
-ghost use Rattle.std.specs.Prelude.{◌≡◌, ◌≢◌, ℕ, ◌<◌, ◌+◌, ◌^◌, None, Some, get_or, length, OnOk, OnErr};
+ghost use Rattle.std.specs.Prelude.{◌≡◌, ◌≢◌, ℕ, ◌<◌, ◌+◌, ◌^◌, None, Some, get_or, length, nat_eq, OnOk, OnErr};
+ghost use Rattle.indexmap.specs.IndexMap.{get};
 ghost use Rattle.ygg_chain.specs.PlaceTable.{place_of};
 
 use indexmap::IndexMap;
@@ -28,13 +29,23 @@ impl PlaceTable {
     }
 
     /// The place of a variable, if it has one.
+    #[inline(always)]
     pub fn get(&self, variable: u64) -> Option<u32>
         ensures { result ≡ place_of self.now variable }
     {
         match self.near.get(variable as usize) {
-            None | Some(0) => self.far.get(&variable).copied(),
+            None | Some(0) => self.far_place(variable),
             Some(held) => Some(*held - 1),
         }
+    }
+
+    /// The far place of a variable, if it has one.
+    #[cold]
+    #[inline(never)]
+    fn far_place(&self, variable: u64) -> Option<u32>
+        ensures { result ≡ get nat_eq self.now.far variable }
+    {
+        self.far.get(&variable).copied()
     }
 
     /// Gives a variable that has no place the next one, which is how many have one. After running out of memory each variable has the

@@ -39,6 +39,7 @@ impl Variables {
     }
 
     /// How many variables there are.
+    #[inline]
     pub fn len(&self) -> usize
         ensures len { result ≡ length self.now }
         ensures small { result ≤ 2 ^ 31 }
@@ -56,6 +57,7 @@ impl Variables {
     }
 
     /// The literal with its variable's place in place of the variable, where the variable has one.
+    #[inline(always)]
     pub fn place(&self, lit: Lit) -> Option<Lit>
         ensures { (placed : Lit) → (result ≡ Some placed) ↔ StandsFor self.now placed lit }
     {
@@ -68,6 +70,7 @@ impl Variables {
 
     /// The literal with its variable's place, after the variable has been given one where it had none. After running out of memory,
     /// which one variable more than 2,147,483,648 comes to, the variables are as before.
+    #[inline(always)]
     pub fn enter(&mut self, lit: Lit) -> Result<Lit, NoMemory>
         ensures ok { IfOk result (λ placed. StandsFor self.new placed lit) }
         ensures small { IfOk result (λ placed. placed.var < 2 ^ 31) }
@@ -87,6 +90,8 @@ impl Variables {
     }
 
     /// Gives a variable that has no place the next one. After running out of memory the variables are as before.
+    #[cold]
+    #[inline(never)]
     fn add(&mut self, variable: u64) -> Result<u32, NoMemory>
         requires { Contains self.old variable → ⊥ }
         ensures place { IfOk result (λ place. place ≡ length self.old) }

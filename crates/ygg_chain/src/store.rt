@@ -33,6 +33,7 @@ impl Store {
     }
 
     /// The kept clause of a number, where clauses are numbered from 1.
+    #[inline]
     pub fn numbered(&self, id: u64) -> Option<&[PackedLit]>
         ensures { MatchOption result ((kept : List Lit) → HasClause self.now.clauses id kept → ⊥) (λ kept. HasClause self.now.clauses id kept.now) }
     {
@@ -56,6 +57,7 @@ impl Store {
 
 /// The clause with the places of its variables, after those that had none have been given one, and the set its two truth values. After want
 /// of memory, which more than 2,147,483,648 variables come to, some of them may have been given one.
+#[inline]
 pub fn enter_all(
     alloc: Global,
     seen: &mut Vec<bool>,
@@ -79,6 +81,7 @@ pub fn enter_all(
 }
 
 /// The literal with its variable's place, after the variable has been given one, and the set its two truth values, where it had none.
+#[inline(always)]
 fn enter(seen: &mut Vec<bool>, variables: &mut Variables, lit: Lit) -> Result<Lit, NoMemory>
     requires distinct { IsDistinct variables.old }
     requires room { 2 * length variables.old ≤ length seen.old.items }

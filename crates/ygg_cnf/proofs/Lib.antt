@@ -2,3 +2,4 @@ pub mod Lits
 pub mod Steps
 pub mod Soundness
 pub mod Once
+pub mod LogLemmas

@@ -3,6 +3,7 @@ use Rattle.std.proofs.Common.{
   ◌≡◌,
   ◌≢◌,
   ◌<◌,
+  ◌+◌,
   ℕ,
   zero,
   suc,
@@ -41,7 +42,7 @@ use Rattle.std.specs.List.{list_any}
 use Rattle.std.proofs.lemmas.Bool.{false≢true}
 use Rattle.std.proofs.Math.ListN.{get_or-append}
 use Rattle.std.proofs.Math.Seq.{get_or-append_seam}
-use Rattle.std.proofs.lemmas.List.{append-nil}
+use Rattle.std.proofs.lemmas.List.{append-nil, take_more}
 use Rattle.std.proofs.lemmas.List.Elements.{
   Contains-append_left,
   Contains-append_right,
@@ -145,3 +146,18 @@ kept_with_all (x ∷ xs) clause h =
 
 pub once_is_kept : (clause : List Lit) → IsOnce clause → once clause ≡ clause
 once_is_kept clause h = kept_with_all clause [] h
+
+with_one : (clause xs : List Lit) (x : Lit) → with_literals clause (xs ++ x ∷ []) ≡ with_literal (with_literals clause xs) x
+with_one clause [] x = refl
+with_one clause (y ∷ xs) x = with_one (with_literal clause y) xs x
+
+added : (clause : List Lit) (x : Lit) → list_any (is_same x) clause ≡ false → with_literal clause x ≡ clause ++ x ∷ []
+added clause x e = rw e refl
+
+-- with one more literal that isn't among those before it, each still stands once
+pub once_more : (lits : List Lit) (i : ℕ) (d : Lit) → i < length lits → once (take i lits) ≡ take i lits
+    → list_any (is_same (get_or lits i d)) (take i lits) ≡ false → once (take (i + 1) lits) ≡ take (i + 1) lits
+once_more lits i d l e f =
+    let x = get_or lits i d in
+    let more : take (i + 1) lits ≡ take i lits ++ x ∷ [] = take_more lits i d l in
+    ap once more ∙ with_one [] (take i lits) x ∙ ap (λ z. with_literal z x) e ∙ added (take i lits) x f ∙ sym more

@@ -1,4 +1,4 @@
-ghost use Rattle.std.specs.Prelude.{◌≡◌, ◌<◌, ◌↔◌, [], ◌∷◌, ◌++◌, length, slice_get, IsTrue, OnOk, OnErr, IfOk};
+ghost use Rattle.std.specs.Prelude.{◌≡◌, ◌<◌, ◌↔◌, [], ◌∷◌, ◌++◌, true, length, slice_get, IsTrue, OnOk, OnErr, IfOk};
 ghost use Rattle.std.specs.List.{list_any};
 ghost use Rattle.ygg_cnf.specs.Literals.{is_same, once, with_literal};
 
@@ -29,6 +29,7 @@ impl Model for Clause {
 
 impl Clause {
     /// The empty clause. It takes no memory.
+    #[inline]
     pub fn new(alloc: Global) -> Clause
         ensures { result ≡ [] }
     {
@@ -59,13 +60,15 @@ impl Clause {
     }
 
     /// Whether the literal is in the clause.
+    #[inline]
     pub fn contains(&self, lit: Lit) -> bool
         ensures { result ≡ list_any (is_same lit) self.now }
     {
-        self.as_slice().iter().any(|other| lit == *other)
+        is_among(self.as_slice(), lit)
     }
 
     /// Adds a literal at the end, where it isn't in the clause yet. After running out of memory the clause is as before.
+    #[inline]
     pub fn include(&mut self, lit: Lit) -> Result<(), NoMemory>
         ensures ok { OnOk result (self.new ≡ with_literal self.old lit) }
         ensures err { OnErr result (self.new ≡ self.old) }
@@ -77,6 +80,7 @@ impl Clause {
     }
 
     /// Adds a literal at the end. After running out of memory the clause is as before.
+    #[inline]
     pub fn push(&mut self, lit: Lit) -> Result<(), NoMemory>
         ensures ok { OnOk result (self.new ≡ self.old ++ lit ∷ []) }
         ensures err { OnErr result (self.new ≡ self.old) }
@@ -115,11 +119,34 @@ impl Clause {
     }
 
     /// All literals in order.
+    #[inline]
     pub fn as_slice(&self) -> &[Lit]
         ensures { result.now ≡ self.now }
     {
         self.lits.as_slice()
     }
+}
+
+/// Whether the literal is one of these.
+#[inline]
+fn is_among(lits: &[Lit], lit: Lit) -> bool
+    ensures { result ≡ list_any (is_same lit) lits.now }
+{
+    lits.iter().any(|other| lit == *other)
+}
+
+/// Whether no literal stands twice: the clause that keeps each of them once is then these. Its time grows with the square of their number.
+#[inline]
+#[tactic(auto, using(crate::proofs::Once::once_more))]
+pub fn is_once(lits: &[Lit]) -> bool
+    ensures { result ≡ true → once lits.now ≡ lits.now }
+{
+    for place in 0..lits.len() {
+        if is_among(&lits[..place], lits[place]) {
+            return false;
+        }
+    }
+    true
 }
 
 impl Duplicate for Clause {

@@ -3,12 +3,14 @@
 
 mod assignment;
 mod clause;
+mod clause_sink;
 mod law;
 mod lit;
 mod log;
 
 pub use assignment::{Assignment, truth};
-pub use clause::{Clause, Clauses};
+pub use clause::{Clause, Clauses, is_once};
+pub use clause_sink::ClauseSink;
 pub use law::{clauses_are_sets, derivations_are_sound};
 pub use lit::Lit;
 pub use log::{Log, Step};

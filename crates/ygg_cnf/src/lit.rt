@@ -11,6 +11,7 @@ pub struct Lit {
 
 impl Lit {
     /// The literal that is true exactly where this one is false.
+    #[inline]
     pub fn complement(self) -> Lit
         ensures { result ≡ complement self }
     {

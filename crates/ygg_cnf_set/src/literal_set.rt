@@ -5,6 +5,7 @@ use ygg_cnf::Lit;
 use ygg_list::NoMemory;
 
 /// The place of a literal in a set.
+#[inline(always)]
 pub fn code(lit: Lit) -> usize
     requires { code_of lit < 2 ^ 64 }
     ensures { result ≡ code_of lit }
@@ -13,18 +14,33 @@ pub fn code(lit: Lit) -> usize
 }
 
 /// Makes room for so many places. No literal comes in. Its only error is out of memory.
+#[inline(always)]
 pub fn make_room(seen: &mut Vec<bool>, room: usize) -> Result<(), NoMemory>
     ensures ok { OnOk result (room ≤ length seen.new.items) }
     ensures longer { length seen.old.items ≤ length seen.new.items }
     ensures same { IsSetOf seen.new.items (InSet seen.old.items) }
 {
     if seen.len() < room {
-        seen.resize(room, false)?;
+        lengthen(seen, room)?;
     }
     Ok(())
 }
 
+/// Adds places, so many that there are `room`. No literal comes in. Its only error is out of memory.
+#[cold]
+#[inline(never)]
+fn lengthen(seen: &mut Vec<bool>, room: usize) -> Result<(), NoMemory>
+    requires { length seen.old.items ≤ room }
+    ensures ok { OnOk result (room ≤ length seen.new.items) }
+    ensures longer { length seen.old.items ≤ length seen.new.items }
+    ensures same { IsSetOf seen.new.items (InSet seen.old.items) }
+{
+    seen.resize(room, false)?;
+    Ok(())
+}
+
 /// Whether the literal is in the set.
+#[inline(always)]
 pub fn contains(seen: &[bool], lit: Lit) -> bool
     requires { Fits (length seen.now) lit }
     ensures { IsTrue result ↔ InSet seen.now lit }
@@ -33,6 +49,7 @@ pub fn contains(seen: &[bool], lit: Lit) -> bool
 }
 
 /// Puts the literal in.
+#[inline(always)]
 pub fn insert(seen: &mut [bool], lit: Lit)
     requires { Fits (length seen.old) lit }
     ensures { IsSetOf seen.new (λ y. InSet seen.old y ⊎ (y ≡ lit)) }
@@ -41,6 +58,7 @@ pub fn insert(seen: &mut [bool], lit: Lit)
 }
 
 /// Takes the literal out.
+#[inline(always)]
 pub fn remove(seen: &mut [bool], lit: Lit)
     requires { Fits (length seen.old) lit }
     ensures { IsSetOf seen.new (λ y. InSet seen.old y × (y ≢ lit)) }

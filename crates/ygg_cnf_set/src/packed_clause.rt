@@ -36,6 +36,7 @@ impl PackedClause {
     }
 
     /// The empty clause, with room for so many literals. Its only error is out of memory.
+    #[inline(always)]
     pub fn with_capacity(alloc: Global, room: usize) -> Result<PackedClause, NoMemory>
         ensures { IfOk result (λ clause. clause ≡ []) }
     {
@@ -45,6 +46,7 @@ impl PackedClause {
     }
 
     /// Adds a literal at the end. After running out of memory the clause is as before.
+    #[inline(always)]
     pub fn push(&mut self, lit: Lit) -> Result<(), NoMemory>
         requires { lit.var < 2 ^ 31 }
         ensures ok { OnOk result (self.new ≡ self.old ++ lit ∷ []) }
@@ -55,6 +57,7 @@ impl PackedClause {
     }
 
     /// All literals in order.
+    #[inline(always)]
     pub fn as_slice(&self) -> &[PackedLit]
         ensures { result.now ≡ self.now }
     {

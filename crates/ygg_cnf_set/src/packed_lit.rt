@@ -25,6 +25,7 @@ impl Model for PackedLit {
 
 impl PackedLit {
     /// The literal, in 4 bytes.
+    #[inline(always)]
     pub fn of(lit: Lit) -> PackedLit
         requires { lit.var < 2 ^ 31 }
         ensures { result ≡ lit }
@@ -35,6 +36,7 @@ impl PackedLit {
     }
 
     /// The literal itself.
+    #[inline(always)]
     pub fn lit(self) -> Lit
         ensures { result ≡ self }
     {

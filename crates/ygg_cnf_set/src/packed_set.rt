@@ -10,6 +10,7 @@ use crate::packed_lit::PackedLit;
 use ygg_cnf::Lit;
 
 /// Puts each literal of the clause in.
+#[inline]
 pub fn insert_all(seen: &mut [bool], clause: &[PackedLit])
     requires { All (Fits (length seen.old)) clause.now }
     ensures { IsSetOf seen.new (λ y. InSet seen.old y ⊎ Contains clause.now y) }
@@ -37,6 +38,7 @@ pub fn take_all(seen: &mut [bool], clause: &[PackedLit]) -> bool
 }
 
 /// The literal of the set whose complement is in the clause, if there is exactly one.
+#[inline]
 pub fn pivot(seen: &[bool], clause: &[PackedLit]) -> Option<Lit>
     requires { All (Fits (length seen.now)) clause.now }
     ensures { MatchOption result ((x : _) → IsPivot (InSet seen.now) clause.now x → ⊥) (IsPivot (InSet seen.now) clause.now) }
@@ -62,6 +64,7 @@ pub fn pivot(seen: &[bool], clause: &[PackedLit]) -> Option<Lit>
 }
 
 /// Resolves the set with the clause on the pivot.
+#[inline]
 pub fn resolve(seen: &mut [bool], clause: &[PackedLit], pivot: Lit)
     requires fits { All (Fits (length seen.old)) clause.now }
     requires pivot { Fits (length seen.old) pivot }

@@ -21,5 +21,5 @@
 mod deciding;
 
 pub use deciding::{Decided, decide};
-pub use ygg_blast::{Bank, Book, Env, Id, clauses_mean_terms, clauses_of};
+pub use ygg_blast::{Bank, Book, Env, Id, clauses_mean_terms, clauses_of, put_clauses};
 pub use ygg_list::NoMemory;

@@ -31,11 +31,11 @@ use Rattle.ygg_log_text.specs.declared.spot.Spot.{Spot}
 use Rattle.ygg_log_text.specs.declared.spot.Spot.TheVariants as spot
 use Rattle.ygg_log_text.specs.declared.spot.SpotTurn.TheVariants as turn
 use Rattle.ygg_log_text.specs.declared.reader.StepReader.{StepReader}
-use Rattle.ygg_log_text.specs.Spots.{Turns}
+use Rattle.ygg_log_text.specs.Spots.{IsSpot, Turns}
 use Rattle.ygg_log_text.specs.Reading.{IsReading}
 use Rattle.ygg_log_text.specs.Numbers.{spot_of, reader_at, IsRun}
 use Rattle.ygg_log_text.proofs.Turning.{number_digit, digits_digit, digits_space}
-use Rattle.ygg_log_text.proofs.Ending.{reads_on, reads_number}
+use Rattle.ygg_log_text.proofs.Ending.{reads_on, reads_literal, reads_number}
 
 -- in the digits of a number
 pub some_spot : (n : ℕ) → 0 < n → spot_of n ≡ spot.Digits n
@@ -64,6 +64,10 @@ space_turns n b fits some is = rw (some_spot n some, is) (digits_space n (some, 
 pub no_run : (piece : List ℕ) (r : StepReader) → IsRun piece r r 0
 no_run piece r = record { within = omega arith; reading = λ before was. subst (λ (x : List ℕ). IsReading x r) (sym (append-nil before)) was }
 
+-- the bytes of a run are counted
+pub counted : (piece : List ℕ) (old new : StepReader) (count i : ℕ) → count ≡ i → IsRun piece old new i → IsRun piece old new count
+counted piece old new count i e run = subst (IsRun piece old new) (sym e) run
+
 -- a run of one more byte
 pub one_more : (piece : List ℕ) (i : ℕ) (old now new : StepReader) → i < length piece → IsRun piece old now i
     → ((bytes : List ℕ) → IsReading bytes now → IsReading (bytes ++ get_or piece i 0 ∷ []) new) → IsRun piece old new (i + 1)
@@ -89,13 +93,31 @@ run_number piece i old clause chain longer n m within run turns is =
     one_more piece i old (reader_at n clause chain) (reader_at 0 clause longer) within run
     (λ bytes was. reads_number bytes (get_or piece i 0) (spot_of n) clause chain m longer was (λ _. turns) is)
 
--- a run from the digits of a number
-pub run_from : (piece : List ℕ) (clause : List Lit) (old new : List ℕ) (n m count : ℕ) (from to : Spot) → from ≡ spot.Digits n → to ≡ spot_of m
+-- a run of one more byte that leads to another place, or ends a literal
+pub run_to : (piece : List ℕ) (i : ℕ) (old : StepReader) (clause : List Lit) (chain : List ℕ) (from to : Spot) → i < length piece →
+    IsRun piece old (record { spot = from; clause = clause; chain = chain }) i → (IsSpot from → Turns from (get_or piece i 0) (turn.To to))
+    → IsRun piece old (record { spot = to; clause = clause; chain = chain }) (i + 1)
+run_to piece i old clause chain from to within run turns =
+    one_more piece i old (record { spot = from; clause = clause; chain = chain }) (record { spot = to; clause = clause; chain = chain }) within run
+    (λ bytes was. reads_on bytes (get_or piece i 0) from to (λ c. c) (λ h. h) clause chain was (turns was.place) was.may)
+
+pub run_literal : (piece : List ℕ) (i : ℕ) (old : StepReader) (clause longer : List Lit) (chain : List ℕ) (from : Spot) (x : Lit) → i < length piece →
+    IsRun piece old (record { spot = from; clause = clause; chain = chain }) i → (IsSpot from → Turns from (get_or piece i 0) (turn.Literal x))
+    → longer ≡ clause ++ x ∷ [] → IsRun piece old (record { spot = spot.Literal; clause = longer; chain = chain }) (i + 1)
+run_literal piece i old clause longer chain from x within run turns is =
+    one_more piece i old (record { spot = from; clause = clause; chain = chain }) (record { spot = spot.Literal; clause = longer; chain = chain }) within run
+    (λ bytes was. reads_literal bytes (get_or piece i 0) from clause chain x longer was turns is)
+
+-- a run from the place of a number
+pub run_from : (piece : List ℕ) (clause : List Lit) (old new : List ℕ) (n m count : ℕ) (from to : Spot) → (IsSpot from → from ≡ spot_of n) → to ≡ spot_of m
     → IsRun piece (reader_at n clause old) (reader_at m clause new) count
     → IsRun piece (record { spot = from; clause = clause; chain = old }) (record { spot = to; clause = clause; chain = new }) count
-run_from piece clause old new n m count from to here there run = rw (here, there) (record {
+run_from piece clause old new n m count from to here there run = rw there (record {
   within = run.within;
   reading = λ before was.
-      let start = some_spot n was.place.0 in
-      run.reading before (subst (λ (s : Spot). IsReading before (record { spot = s; clause = clause; chain = old })) (sym start) was);
+      run.reading before (subst (λ (s : Spot). IsReading before (record { spot = s; clause = clause; chain = old })) (here was.place) was);
 })
+
+-- in the digits of a number
+pub digits_spot : (n : ℕ) (from : Spot) → from ≡ spot.Digits n → IsSpot from → from ≡ spot_of n
+digits_spot n from e is = let may : IsSpot (spot.Digits n) = subst IsSpot e is in e ∙ sym (some_spot n may.0)

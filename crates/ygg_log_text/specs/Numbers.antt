@@ -1,9 +1,10 @@
--- The numbers of clauses in a line, byte by byte.
+-- Runs of bytes in a line: its literals, and its numbers of clauses.
 use Rattle.std.specs.Prelude.{ℕ, zero, suc, ◌≤◌, List, ◌++◌, length, take}
 use Rattle.ygg_cnf.specs.declared.lit.Lit.{Lit}
 use Rattle.ygg_log_text.specs.declared.numbers.Among.{Among}
 use Rattle.ygg_log_text.specs.declared.numbers.Among.TheVariants as among
 use Rattle.ygg_log_text.specs.declared.numbers.NumberRun.{NumberRun}
+use Rattle.ygg_log_text.specs.declared.literals.LiteralRun.{LiteralRun}
 use Rattle.ygg_log_text.specs.declared.reader.StepReader.{StepReader}
 use Rattle.ygg_log_text.specs.declared.spot.Spot.{Spot}
 use Rattle.ygg_log_text.specs.declared.spot.Spot.TheVariants as spot
@@ -34,3 +35,8 @@ pub record IsRun (piece : List ℕ) (old new : StepReader) (count : ℕ) : Type 
 -- the bytes of a run lead from the digits of the one number, after these numbers, to those of the other
 abbrev pub Runs : List ℕ → ℕ → List ℕ → List ℕ → NumberRun → Type 0
 Runs piece number old new run = (clause : List Lit) → IsRun piece (reader_at number clause old) (reader_at run.number clause new) run.count
+
+-- the bytes of a run lead from the one place, after these literals, to the other
+abbrev pub RunsTo : List ℕ → Spot → List Lit → List Lit → LiteralRun → Type 0
+RunsTo piece from old new run = (chain : List ℕ) →
+    IsRun piece (record { spot = from; clause = old; chain = chain }) (record { spot = run.spot; clause = new; chain = chain }) run.count

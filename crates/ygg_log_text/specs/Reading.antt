@@ -21,9 +21,3 @@ abbrev pub Hears : List ℕ → StepReader → StepHeard → Type 0
 Hears bytes reader More = IsReading bytes reader
 Hears bytes reader Whole = IsStep (Added reader.clause reader.chain) × (bytes ≡ step_line (Added reader.clause reader.chain))
 Hears bytes reader Wrong = BeginsStep bytes → ⊥
-
--- the reader stays as it was where the bytes can't be continued
-abbrev pub Stays : StepHeard → StepReader → StepReader → Type 0
-Stays More old new = Unit {0}
-Stays Whole old new = new ≡ old
-Stays Wrong old new = new ≡ old

@@ -9,6 +9,7 @@
 #![tactic(auto)]
 
 mod lines;
+mod literals;
 mod numbers;
 mod reader;
 mod spot;

@@ -1,7 +1,8 @@
 //! The numbers of clauses in a line, which are most of its bytes: they are read in one loop.
 
-ghost use Rattle.std.specs.Prelude.{◌≡◌, IfOk};
+ghost use Rattle.std.specs.Prelude.{◌≡◌, IfOk, IfSome};
 ghost use Rattle.ygg_log_text.specs.Numbers.{IsAmong, Runs, spot_of};
+ghost use Rattle.ygg_log_text.specs.Spots.{IsSpot};
 
 use crate::spot::{Spot, longer};
 use ygg_list::{NoMemory, Sequence};
@@ -25,15 +26,10 @@ pub struct NumberRun {
 }
 
 /// What a byte does in the digits of a number, or before the next number where it is 0.
+#[inline(always)]
 fn byte_among(number: u64, byte: u8) -> Among
     ensures { IsAmong number byte result }
 {
-    if byte == b' ' {
-        if number == 0 {
-            return Among::Other;
-        }
-        return Among::Number(number);
-    }
     match longer(number, byte) {
         Some(more) => {
             if more == 0 {
@@ -41,11 +37,17 @@ fn byte_among(number: u64, byte: u8) -> Among
             }
             Among::Digits(more)
         }
-        None => Among::Other,
+        None => {
+            if byte == b' ' && number > 0 {
+                return Among::Number(number);
+            }
+            Among::Other
+        }
     }
 }
 
 /// The place in the digits of a number, or before the next number where it is 0.
+#[inline(always)]
 pub fn spot_of(number: u64) -> Spot
     ensures { result ≡ spot_of number }
 {
@@ -53,6 +55,17 @@ pub fn spot_of(number: u64) -> Spot
         Spot::Number
     } else {
         Spot::Digits { number }
+    }
+}
+
+/// The number in whose digits a place is, or 0 before the next number; none elsewhere.
+pub fn number_at(spot: Spot) -> Option<u64>
+    ensures { IfSome result (λ number. IsSpot spot → spot ≡ spot_of number) }
+{
+    match spot {
+        Spot::Number => Some(0),
+        Spot::Digits { number } => Some(number),
+        _ => None,
     }
 }
 

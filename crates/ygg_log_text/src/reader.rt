@@ -2,12 +2,14 @@
 
 ghost use Rattle.std.specs.Prelude.{◌≡◌, [], ◌∷◌, ◌++◌, List, ℕ, IfOk};
 ghost use Rattle.ygg_log_text.specs.Numbers.{IsRun};
-ghost use Rattle.ygg_log_text.specs.Reading.{IsReading, Hears, Stays};
+ghost use Rattle.ygg_log_text.specs.Reading.{IsReading, Hears};
 
-use crate::numbers::{read_numbers, spot_of};
+use crate::literals::read_literals;
+use crate::numbers::{number_at, read_numbers, spot_of};
 use crate::spot::{Spot, SpotTurn, turn_at};
 use std::alloc::Global;
-use ygg_cnf::{Clause, Lit};
+use std::mem;
+use ygg_cnf::Lit;
 use ygg_list::{NoMemory, Sequence};
 
 /// What the reader says of a byte.
@@ -25,8 +27,17 @@ pub enum StepHeard {
 #[derive(Drop)]
 pub struct StepReader {
     spot: Spot,
-    clause: Clause,
+    clause: Sequence<Lit>,
     chain: Sequence<u64>,
+}
+
+/// Takes all items out of a list, which keeps its memory.
+fn empty<T: Drop>(alloc: Global, list: &mut Sequence<T>)
+    ensures { list.new ≡ [] }
+{
+    let mut items = mem::replace(list, Sequence::new(alloc)).into_vec();
+    items.clear();
+    *list = Sequence::from_vec(items);
 }
 
 impl StepReader {
@@ -36,16 +47,25 @@ impl StepReader {
     {
         StepReader {
             spot: Spot::Begin,
-            clause: Clause::new(alloc),
+            clause: Sequence::new(alloc),
             chain: Sequence::new(alloc),
         }
     }
 
-    /// The clause of the line, once it is whole.
-    pub fn clause(&self) -> &Clause
+    /// Begins a line anew, in the memory that it has.
+    pub fn restart(&mut self, alloc: Global)
+        ensures { IsReading [] self.new }
+    {
+        self.spot = Spot::Begin;
+        empty(alloc, &mut self.clause);
+        empty(alloc, &mut self.chain);
+    }
+
+    /// The literals of the line's clause, once it is whole.
+    pub fn clause(&self) -> &[Lit]
         ensures { result.now ≡ self.now.clause }
     {
-        &self.clause
+        self.clause.as_slice()
     }
 
     /// The numbers of the clauses that it is derived from, once the line is whole.
@@ -55,47 +75,24 @@ impl StepReader {
         self.chain.as_slice()
     }
 
-    /// Reads the first bytes of a piece, as far as they go on with the line: in the digits of a clause's number as far as they are digits and the spaces after
-    /// numbers, and else up to such digits. Gives how many they are. Its only error is out of memory, after which the reader is of no use.
+    /// Reads the first bytes of a piece, as far as they go on with the line: among the numbers of clauses as far as they are digits and the spaces after numbers,
+    /// and else up to these numbers. Gives how many they are. Its only error is out of memory, after which the reader is of no use.
     pub fn run_on(&mut self, piece: &[u8]) -> Result<usize, NoMemory>
         ensures { IfOk result (IsRun piece.now self.old self.new) }
     {
-        let Spot::Digits { number } = self.spot else {
-            return self.run_to_numbers(piece);
+        let Some(number) = number_at(self.spot) else {
+            let run = read_literals(&mut self.clause, self.spot, piece)?;
+            self.spot = run.spot;
+            return Ok(run.count);
         };
         let run = read_numbers(&mut self.chain, number, piece)?;
         self.spot = spot_of(run.number);
         Ok(run.count)
     }
 
-    /// Reads the first bytes of a piece, as far as they go on with the line, up to the digits of a clause's number.
-    fn run_to_numbers(&mut self, piece: &[u8]) -> Result<usize, NoMemory>
-        ensures { IfOk result (IsRun piece.now self.old self.new) }
-    {
-        let mut count = 0;
-        for byte in piece {
-            if let Spot::Digits { .. } = self.spot {
-                return Ok(count);
-            }
-            match self.take(*byte)? {
-                StepHeard::More => count += 1,
-                StepHeard::Whole | StepHeard::Wrong => return Ok(count),
-            }
-        }
-        Ok(count)
-    }
-
     /// Reads a byte. Its only error is out of memory, after which the reader is of no use.
     pub fn read(&mut self, byte: u8) -> Result<StepHeard, NoMemory>
         ensures { (before : List ℕ) → IsReading before self.old → IfOk result (Hears (before ++ byte ∷ []) self.new) }
-    {
-        self.take(byte)
-    }
-
-    /// Reads a byte. Where the line doesn't go on with it, the reader stays as it was.
-    fn take(&mut self, byte: u8) -> Result<StepHeard, NoMemory>
-        ensures heard { (before : List ℕ) → IsReading before self.old → IfOk result (Hears (before ++ byte ∷ []) self.new) }
-        ensures stays { IfOk result (λ heard. Stays heard self.old self.new) }
     {
         match turn_at(self.spot, byte) {
             SpotTurn::To(spot) => {

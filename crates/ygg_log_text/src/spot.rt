@@ -44,17 +44,26 @@ pub enum SpotTurn {
 }
 
 /// The number with one more digit, unless the byte is no digit or the number 2 ^ 64 or more.
+#[inline(always)]
 pub fn longer(number: u64, byte: u8) -> Option<u64>
     ensures some { IfSome result (λ longer. (48 ≤ byte) × (byte < 58) × (longer ≡ 10 * number + (byte - 48)) × (longer < 2 ^ 64)) }
     ensures none { IsNone result → 48 ≤ byte → byte < 58 → 2 ^ 64 ≤ 10 * number + (byte - 48) }
 {
     match byte {
-        b'0'..=b'9' => number.checked_mul(10)?.checked_add(u64::from(byte - b'0')),
+        b'0'..=b'9' => {
+            let digit = u64::from(byte - b'0');
+            // most numbers are far below the limit
+            if number < 1 << 60 {
+                return Some(10 * number + digit);
+            }
+            number.checked_mul(10)?.checked_add(digit)
+        }
         _ => None,
     }
 }
 
 /// Where a byte leads in the digits of a literal's variable.
+#[inline(always)]
 fn in_variable(negated: bool, number: u64, byte: u8) -> SpotTurn
     ensures { 0 < number → Turns (Spot.Variable negated number) byte result }
 {
@@ -71,6 +80,7 @@ fn in_variable(negated: bool, number: u64, byte: u8) -> SpotTurn
 }
 
 /// Where a byte leads in the digits of the number of a clause.
+#[inline(always)]
 fn in_number(number: u64, byte: u8) -> SpotTurn
     ensures { 0 < number → Turns (Spot.Digits number) byte result }
 {
@@ -84,6 +94,7 @@ fn in_number(number: u64, byte: u8) -> SpotTurn
 }
 
 /// The value of a digit above 0.
+#[inline(always)]
 fn first_digit(byte: u8) -> Option<u64>
     ensures some { IfSome result (λ digit. (48 < byte) × (byte < 58) × (digit ≡ byte - 48)) }
     ensures none { IsNone result → 48 < byte → byte < 58 → ⊥ }
@@ -95,6 +106,7 @@ fn first_digit(byte: u8) -> Option<u64>
 }
 
 /// Where a byte leads before a literal.
+#[inline(always)]
 fn at_literal(byte: u8) -> SpotTurn
     ensures { Turns Spot.Literal byte result }
 {
@@ -114,6 +126,7 @@ fn at_literal(byte: u8) -> SpotTurn
 }
 
 /// Where a byte leads after the `-` of a literal.
+#[inline(always)]
 fn after_minus(byte: u8) -> SpotTurn
     ensures { Turns Spot.Minus byte result }
 {
@@ -127,6 +140,7 @@ fn after_minus(byte: u8) -> SpotTurn
 }
 
 /// Where a byte leads before the number of a clause.
+#[inline(always)]
 fn at_number(byte: u8) -> SpotTurn
     ensures { Turns Spot.Number byte result }
 {
@@ -140,6 +154,7 @@ fn at_number(byte: u8) -> SpotTurn
 }
 
 /// Where a byte leads that must be this one.
+#[inline(always)]
 fn only(byte: u8, wanted: u8, turn: SpotTurn) -> SpotTurn
     ensures same { byte ≡ wanted → result ≡ turn }
     ensures other { (byte ≡ wanted → ⊥) → result ≡ SpotTurn.Wrong }
@@ -152,6 +167,7 @@ fn only(byte: u8, wanted: u8, turn: SpotTurn) -> SpotTurn
 }
 
 /// Where a byte leads.
+#[inline(always)]
 pub fn turn_at(spot: Spot, byte: u8) -> SpotTurn
     ensures { IsSpot spot → Turns spot byte result }
 {

@@ -3,5 +3,5 @@
 
 pub mod law;
 
-pub use ygg_decide::{Bank, Book, Decided, Env, Id, clauses_mean_terms, clauses_of, decide};
+pub use ygg_decide::{Bank, Book, Decided, Env, Id, clauses_mean_terms, decide, put_clauses};
 pub use ygg_oblige_pieces::{refines_by_list, typed_histories};

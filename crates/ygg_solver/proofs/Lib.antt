@@ -2,6 +2,5 @@ mod RenameLemmas
 mod NameLemmas
 pub use Rattle.ygg_cnf.proofs as of_ygg_cnf
 pub mod LeftLemmas
-pub mod LogLemmas
 pub mod ModelLemmas
 pub mod ReadyLemmas

@@ -8,6 +8,7 @@ use Rattle.std.proofs.Common.{
   ◌<◌,
   ◌≤◌,
   ◌+◌,
+  ◌*◌,
   List,
   [],
   ◌∷◌,
@@ -42,6 +43,7 @@ use Rattle.ygg_cnf.specs.Derivations.{HasClause}
 use Rattle.ygg_cnf.specs.Literals.{complement}
 use Rattle.ygg_cnf.specs.Logs.{IsOpen}
 use Rattle.ygg_cnf.specs.declared.lit.Lit.{Lit}
+use Rattle.ygg_cnf_set.specs.LiteralSet.{Fits}
 use Rattle.ygg_solver_learn.proofs.LearnLemmas.{none_is_some}
 use Rattle.ygg_solver_learn.specs.Learning.{IsLastDecision, IsJump}
 use Rattle.ygg_watch_plain.specs.Propagation.{Propagation, decided, Implies, Spreads, with_clause, back_to}
@@ -296,6 +298,9 @@ jump_low p clause start level r j =
 
 pub decision_within : (trail : List Entry) (start : ℕ) → IsLastDecision trail start → start ≤ length trail
 decision_within trail start d = let w = entry_within trail start d.decision.0 d.decision.1.0 in omega (arith, w)
+
+pub fits_within : (n variable_count : ℕ) (y : Lit) → y.var < variable_count → 2 * variable_count ≤ n → Fits n y
+fits_within n variable_count y l le = omega (arith, l, le)
 
 pub jump_or : (trail : List Entry) (clause : List Lit) (start level other : ℕ) → (other ≡ 0) ⊎ (other ≡ level) → IsJump trail clause start level →
     IsJump trail clause start other

@@ -8,9 +8,9 @@ use Rattle.ygg_cnf.specs.declared.log.Step.{Step}
 use Rattle.ygg_cnf.specs.declared.log.Step.TheVariants.{Added}
 use Rattle.ygg_solver_learn.specs.Learning.{IsLastDecision, IsJump}
 use Rattle.ygg_watch_plain.specs.Propagation.{IsWithin, Propagation, with_clause, back_to}
-use Rattle.ygg_solver.proofs.LogLemmas.{map_push, all_back, derives_push, teaches_push, derives_as, ends_empty, learned_more, fits_variable_count}
+use Rattle.ygg_cnf.proofs.LogLemmas.{map_push, all_back, derives_push, teaches_push, derives_as, ends_empty, learned_more}
 use Rattle.ygg_solver.proofs.ModelLemmas.{satisfies_front, assigned_test}
-use Rattle.ygg_solver.proofs.ReadyLemmas.{conflict_in, quiet_at, false_within, ready_jump, jump_low, jump_or, decision_within}
+use Rattle.ygg_solver.proofs.ReadyLemmas.{conflict_in, quiet_at, false_within, fits_within, ready_jump, jump_low, jump_or, decision_within}
 use Rattle.ygg_solver.specs.Kept.{IsReady}
 use Rattle.ygg_watch_trail.specs.Trail.{IsAt}
 use Rattle.ygg_watch_trail.specs.declared.entry.Entry.{Entry}
@@ -129,7 +129,7 @@ loop-conflict-preserved g c =
           (All-push (λ w. All (Fits (length c.analyze.new.seen)) w) now.clauses clause
           (rw (c.to_conflict.ensures.same, c.analyze.auto.seen) c.loop-conflict.invariant.fits)
           (λ k d l. let m : length c.analyze.new.seen ≡ length c.args.seen.now = c.analyze.auto.seen ∙ c.loop-conflict.auto.seen in
-          fits_variable_count (length c.analyze.new.seen) now.variable_count (get_or clause k d) (within _ (Contains-get_or clause k d l))
+          fits_within (length c.analyze.new.seen) now.variable_count (get_or clause k d) (within _ (Contains-get_or clause k d l))
           (omega (arith, count, m, c.requires.seen))));
       variables = subst (λ (l : List (List Lit)). All (λ w. All (λ (x : Lit). x.var < c.args.variable_count) w) l)
           (sym (ap (λ (p : Propagation). p.clauses) after))

@@ -3,7 +3,7 @@ use Rattle.std.proofs.lemmas.List.{map-append}
 use Rattle.std.proofs.lemmas.Result.{on_ok_weaker, on_err_weaker}
 use Rattle.ygg_chain.specs.Places.{clause_at, clauses_at}
 use Rattle.ygg_chain.proofs.PlaceLemmas.{kept_more, pushed_placed, on_err_always}
-use Rattle.ygg_chain.proofs.checker.Checker.add.Goals as goal
+use Rattle.ygg_chain.proofs.checker.Checker.hold.Goals as goal
 
 pub returns-in_err-kept-clause-err : goal.returns-in_err-kept-clause-err
 returns-in_err-kept-clause-err c =
@@ -33,7 +33,7 @@ returns-clause-ok c =
     (λ e. ap (clauses_at c.enter_all.new.variables) e
     ∙ map-append (clause_at c.enter_all.new.variables) c.self.inside.store.clauses (c.in_ok-kept.kept ∷ [])
     ∙ ap (λ l. l ++ clause_at c.enter_all.new.variables c.in_ok-kept.kept ∷ []) (kept.1 ∙ c.self.view_is)
-    ∙ ap (λ x. c.args.self.now ++ x ∷ []) (c.in_ok-kept.ensures.same ∙ c.as_slice.ensures))
+    ∙ ap (λ x. c.args.self.now ++ x ∷ []) c.in_ok-kept.ensures.same)
     c.push.ensures.ok
 
 pub returns-clause-err : goal.returns-clause-err

@@ -1,16 +1,11 @@
 -- One more entry of a log.
 use Rattle.std.proofs.lemmas.List.Elements.{All-tail}
-use Rattle.std.proofs.Common.{All, ◌≡◌, ℕ, List, [], ◌∷◌, ◌++◌, map, sym, subst, ap, arith, refl, append_assoc, ◌<◌, ◌≤◌, ◌*◌}
-use Rattle.ygg_cnf_set.specs.LiteralSet.{Fits}
+use Rattle.std.proofs.Common.{All, ◌≡◌, ℕ, List, [], ◌∷◌, ◌++◌, map, sym, subst, ap, refl, append_assoc, append-nil}
 use Rattle.ygg_cnf.specs.Derivations.{HasClause, DerivesClause}
 use Rattle.ygg_cnf.specs.Logs.{Derives, EachTeaches, Teaches, clause_of, chain_of, EndsEmpty}
 use Rattle.ygg_cnf.specs.declared.lit.Lit.{Lit}
 use Rattle.ygg_cnf.specs.declared.log.Step.{Step}
 use Rattle.ygg_cnf.specs.declared.log.Step.TheVariants.{Added}
-
-append-nil : (xs : List (List Lit)) → xs ++ [] ≡ xs
-append-nil [] = refl
-append-nil (x ∷ xs) = ap (λ l. x ∷ l) (append-nil xs)
 
 pub derives_push : (clauses : List (List Lit)) (log : List Step) (step : Step) → Derives clauses log
     → DerivesClause (HasClause (clauses ++ map clause_of log)) (chain_of step) (clause_of step) → Derives clauses (log ++ step ∷ [])
@@ -48,9 +43,6 @@ pub learned_more : (given held after : List (List Lit)) (log longer : List Step)
     → after ≡ given ++ map clause_of longer
 learned_more given held after log longer step kept e f h k =
     rw (f, e, h, k, map_push log step) (append_assoc given (map clause_of log) (clause_of step ∷ []))
-
-pub fits_variable_count : (n variable_count : ℕ) (y : Lit) → y.var < variable_count → 2 * variable_count ≤ n → Fits n y
-fits_variable_count n variable_count y l le = omega (arith, l, le)
 
 pub all_back : {X : Type 0} (P : X → Type 0) (xs ys : List X) → All P (xs ++ ys) → All P ys
 all_back P [] ys a = a
