@@ -14,7 +14,7 @@ pub trait ClauseSink {
     /// The clauses held.
     ghost held: { Self → List (List Lit) };
 
-    /// Takes in a clause of these literals, each of them once. Its only error is out of memory.
+    /// Takes in a clause of these literals, each of them once. Its only error is out of memory, after which nothing is said of the clauses held.
     fn take(&mut self, alloc: Global, lits: &[Lit]) -> Result<(), NoMemory>
         ensures { OnOk result (held self.new ≡ held self.old ++ once lits.now ∷ []) };
 }
