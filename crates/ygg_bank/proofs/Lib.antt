@@ -6,6 +6,7 @@ pub mod Made
 pub mod Meaning
 pub mod Exist
 pub mod Inputs
+pub mod Kept
 pub mod Makes
 pub mod Stored
 pub mod Reading

@@ -1,7 +1,9 @@
 -- What a bank does to make a node.
-use Rattle.std.specs.Prelude.{ℕ, Bool, if◌then◌else◌, Option, Some, None, List, [], ◌∷◌, ◌++◌, slice_get}
+use Rattle.std.specs.Prelude.{ℕ, ◌==◌, Bool, true, false, not, ◌&&◌, ◌||◌, if◌then◌else◌, Option, Some, None, is_some, List, [], ◌∷◌, ◌++◌, slice_get}
 use Rattle.std.specs.List.{list_any, position_or_len}
 use Rattle.ygg_value.specs.Number.{Number}
+use Rattle.ygg_value.specs.declared.operation.Op.{Op}
+use Rattle.ygg_value.specs.declared.operation.Op.TheVariants.{And, Or, Add}
 use Rattle.ygg_rules.specs.Rows.{book_row}
 use Rattle.ygg_rules.specs.Views.{Seen, operand, bin_of, not_of, resize_of, pick_of}
 use Rattle.ygg_rules.specs.declared.rule.RuleKind.{RuleKind}
@@ -27,6 +29,26 @@ known_in _ = None
 -- what a rule sees of a node as an operand
 abbrev pub operand_of : List Node → Id → Operand
 operand_of nodes a = record { id = a.0; width = width_at (widths_of nodes) a; known = known_in (slice_get nodes a.0) }
+
+-- whether the node at a place is a constant
+abbrev pub is_known : List Node → Id → Bool
+is_known nodes a = is_some (known_in (slice_get nodes a.0))
+
+-- whether each rule keeps an operation on operands of which it is known whether they are constants
+abbrev pub is_kept_bin : Op → Bool → Bool → Bool
+is_kept_bin And a b = not a && not b
+is_kept_bin Or a b = not a && not b
+is_kept_bin Add a b = not a && not b
+is_kept_bin _ a b = not a || not b
+
+-- whether each rule keeps a node, as far as that is seen of which operands are constants, and which are one
+abbrev pub is_kept : List Node → Node → Bool
+is_kept nodes (Input n w) = true
+is_kept nodes (Const k) = true
+is_kept nodes (Bin op a b) = if a.0 == b.0 then false else is_kept_bin op (is_known nodes a) (is_known nodes b)
+is_kept nodes (Not a) = not (is_known nodes a)
+is_kept nodes (Resize a w) = not (is_known nodes a)
+is_kept nodes (Pick t a b) = if a.0 == b.0 then false else not (is_known nodes t)
 
 -- what the book is asked of a node that is to be made; of inputs and constants it is asked nothing
 abbrev pub view_of : List Node → Node → Option Seen

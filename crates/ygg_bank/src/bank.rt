@@ -4,7 +4,7 @@ ghost use Rattle.std.specs.Prelude.{ℕ, ◌≡◌, ◌<◌, ◌+◌, ◌↔◌,
 ghost use Rattle.indexmap.specs.IndexMap.{get};
 ghost use Rattle.ygg_rules.specs.Views.{IsOperand, IsWidth, operand};
 ghost use Rattle.ygg_bank.specs.Inputs.{InputsBelow, next_after};
-ghost use Rattle.ygg_bank.specs.Making.{made, added, operand_of, view_of, id_of};
+ghost use Rattle.ygg_bank.specs.Making.{made, added, operand_of, view_of, id_of, is_known, is_kept};
 ghost use Rattle.ygg_bank.specs.Nodes.{CanMake, Extends, HasWidth, InOrder, IsBank, Stands, node_width, width_at, widths_of};
 ghost use Rattle.ygg_bank.specs.Reaching.{has_place, AllBelow, Ascends, Reaches};
 ghost use Rattle.ygg_bank.specs.Values.{AnswersFor, EnvFits, GivenFit, KeepsValues, KnowsChildren, inputs_of, numbers_given, value_of};
@@ -17,7 +17,7 @@ use std::alloc::Global;
 use std::marker::Model;
 use ygg_list::NoMemory;
 use ygg_rules::{Book, Operand, Rewrite, View, width_of};
-use ygg_value::{Word, apply, not, resize};
+use ygg_value::{Op, Word, apply, not, resize};
 
 /// Terms, each once: a node's place is its number, and its children stand before it. Contracts see the list of nodes.
 #[derive(Drop)]
@@ -239,8 +239,8 @@ impl Bank {
     }
 
     /// The node of this value, in every environment: what the book names in its stead, or the node itself, where it stands or is added.
-    /// The book is asked once, and of inputs and constants it is asked nothing. After running out of memory, which is the only error, the
-    /// bank is as before.
+    /// The book is asked once, and nothing of inputs, constants and nodes of which it is seen that each rule keeps them. After running out of
+    /// memory, which is the only error, the bank is as before.
     pub fn make<B: Book>(&mut self, node: Node, book: &B) -> Result<Id, NoMemory>
         requires { CanMake self.old node }
         ensures nodes { OnOk result (self.new ≡ (made (B.kinds book.now) node self.old).nodes) }
@@ -256,6 +256,35 @@ impl Bank {
         self.make_by(node, book)
     }
 
+    /// Whether the node at a place is a constant.
+    #[inline(always)]
+    fn is_known(&self, id: Id) -> bool
+        ensures { result ≡ is_known self.now id }
+    {
+        matches!(self.nodes.get_index(id.0), Some(Node::Const(_)))
+    }
+
+    /// Whether each rule keeps the node, as far as that is seen without a view of it.
+    #[inline(always)]
+    fn is_kept(&self, node: &Node) -> bool
+        ensures { result ≡ is_kept self.now node.now }
+    {
+        match *node {
+            Node::Input { .. } | Node::Const(_) => true,
+            Node::Bin { op, a, b } => {
+                if a.0 == b.0 {
+                    return false;
+                }
+                match op {
+                    Op::And | Op::Or | Op::Add => !self.is_known(a) && !self.is_known(b),
+                    _ => !self.is_known(a) || !self.is_known(b),
+                }
+            }
+            Node::Not { a } | Node::Resize { a, .. } => !self.is_known(a),
+            Node::Pick { test, yes, no } => yes.0 != no.0 && !self.is_known(test),
+        }
+    }
+
     /// What `make` does.
     fn make_by<B: Book>(&mut self, node: Node, book: &B) -> Result<Id, NoMemory>
         requires { CanMake self.old node }
@@ -266,6 +295,9 @@ impl Bank {
     {
         // the bank's invariant says that what the book answers can be made
         let _ = &self.nodes;
+        if self.is_kept(&node) {
+            return self.add(node);
+        }
         let Some(view) = self.view(&node) else {
             return self.add(node);
         };
