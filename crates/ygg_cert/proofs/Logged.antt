@@ -7,7 +7,7 @@ use Rattle.ygg_cnf.specs.declared.log.Step.{Step}
 use Rattle.ygg_cnf.specs.declared.log.Step.TheVariants.{Added}
 use Rattle.ygg_log_text.specs.Lines.{step_line}
 use Rattle.ygg_log_text.specs.Steps.{IsStep, BeginsStep}
-use Rattle.ygg_log_text.specs.Numbers.{IsRun}
+use Rattle.ygg_log_text.specs.Runs.{IsRun}
 use Rattle.ygg_log_text.specs.Reading.{IsReading}
 use Rattle.ygg_log_text.specs.declared.reader.StepReader.{StepReader}
 use Rattle.ygg_cert.specs.declared.item.Goal.{Goal}

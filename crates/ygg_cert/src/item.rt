@@ -7,7 +7,7 @@ use std::marker::Model;
 use ygg_base::Text;
 use ygg_chain::Checker;
 use ygg_cnf::{Clauses, Log};
-use ygg_list::{Duplicate, NoMemory, Sequence};
+use ygg_list::{NoMemory, Sequence};
 
 /// Clauses that no assignment is to satisfy, under a name.
 #[derive(Drop)]
@@ -55,15 +55,6 @@ impl HeldGoal {
 
 /// The goals that a certificate is wanted for, in order.
 pub type Wanted = Sequence<Goal>;
-
-impl Duplicate for Goal {
-    fn duplicate(&self, alloc: Global) -> Result<Goal, NoMemory> {
-        Ok(Goal {
-            name: self.name.copy(alloc)?,
-            clauses: self.clauses.copy(alloc)?,
-        })
-    }
-}
 
 /// A log over the clauses of a goal, with the goal's name and the number of its clauses.
 #[derive(Drop)]

@@ -33,7 +33,7 @@ use Rattle.ygg_log_text.specs.declared.spot.SpotTurn.TheVariants as turn
 use Rattle.ygg_log_text.specs.declared.reader.StepReader.{StepReader}
 use Rattle.ygg_log_text.specs.Spots.{IsSpot, Turns}
 use Rattle.ygg_log_text.specs.Reading.{IsReading}
-use Rattle.ygg_log_text.specs.Numbers.{spot_of, reader_at, IsRun}
+use Rattle.ygg_log_text.specs.Runs.{spot_of, reader_at, IsRun}
 use Rattle.ygg_log_text.proofs.Turning.{number_digit, digits_digit, digits_space}
 use Rattle.ygg_log_text.proofs.Ending.{reads_on, reads_literal, reads_number}
 

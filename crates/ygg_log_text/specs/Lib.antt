@@ -2,4 +2,4 @@ pub mod Lines
 pub mod Steps
 pub mod Spots
 pub mod Reading
-pub mod Numbers
+pub mod Runs

@@ -1,7 +1,7 @@
 //! The literals of a line, and what stands before its numbers: read in one loop.
 
 ghost use Rattle.std.specs.Prelude.{◌≡◌, IfOk};
-ghost use Rattle.ygg_log_text.specs.Numbers.{RunsTo};
+ghost use Rattle.ygg_log_text.specs.Runs.{RunsTo};
 
 use crate::spot::{Spot, SpotTurn, turn_at};
 use ygg_cnf::Lit;

@@ -1,7 +1,7 @@
 //! The numbers of clauses in a line, which are most of its bytes: they are read in one loop.
 
 ghost use Rattle.std.specs.Prelude.{◌≡◌, IfOk, IfSome};
-ghost use Rattle.ygg_log_text.specs.Numbers.{IsAmong, Runs, spot_of};
+ghost use Rattle.ygg_log_text.specs.Runs.{IsAmong, Runs, spot_of};
 ghost use Rattle.ygg_log_text.specs.Spots.{IsSpot};
 
 use crate::spot::{Spot, longer};

@@ -1,7 +1,7 @@
 //! A line of a derived clause that is read byte by byte.
 
 ghost use Rattle.std.specs.Prelude.{◌≡◌, [], ◌∷◌, ◌++◌, List, ℕ, IfOk};
-ghost use Rattle.ygg_log_text.specs.Numbers.{IsRun};
+ghost use Rattle.ygg_log_text.specs.Runs.{IsRun};
 ghost use Rattle.ygg_log_text.specs.Reading.{IsReading, Hears};
 
 use crate::literals::read_literals;

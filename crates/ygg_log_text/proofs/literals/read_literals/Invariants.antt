@@ -1,5 +1,5 @@
 use Rattle.std.proofs.Common.{◌≡◌, ℕ, List}
-use Rattle.ygg_log_text.specs.Numbers.{IsRun}
+use Rattle.ygg_log_text.specs.Runs.{IsRun}
 use Rattle.ygg_log_text.proofs.literals.read_literals.Given as goal
 
 abbrev pub invariant-loop-byte : goal.invariant-loop-byte

@@ -1,5 +1,5 @@
 use Rattle.std.proofs.Common.{refl, ap, ◌+◌, ℕ, sym, subst}
-use Rattle.ygg_log_text.specs.Numbers.{IsRun, reader_at}
+use Rattle.ygg_log_text.specs.Runs.{IsRun, reader_at}
 use Rattle.ygg_log_text.proofs.Running.{no_run, run_digit, run_number}
 use Rattle.ygg_log_text.proofs.numbers.read_numbers.Goals as goal
 use Rattle.ygg_log_text.proofs.numbers.read_numbers.Goals.{in-Digits, in-Number+in_ok-push-in-Number}

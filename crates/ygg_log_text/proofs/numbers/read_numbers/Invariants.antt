@@ -1,6 +1,6 @@
 use Rattle.std.proofs.Common.{◌≡◌, List}
 use Rattle.ygg_cnf.specs.declared.lit.Lit.{Lit}
-use Rattle.ygg_log_text.specs.Numbers.{IsRun, reader_at}
+use Rattle.ygg_log_text.specs.Runs.{IsRun, reader_at}
 use Rattle.ygg_log_text.proofs.numbers.read_numbers.Given as goal
 
 abbrev pub invariant-loop-byte : goal.invariant-loop-byte
