@@ -6,3 +6,4 @@ pub mod Named
 pub mod Kept
 pub mod Tested
 pub mod Filling
+pub mod Rows

@@ -4,3 +4,4 @@ pub use Rattle.ygg_cnf.specs as ygg_cnf
 pub use Rattle.ygg_gates.specs as ygg_gates
 pub use Rattle.ygg_rules.specs as ygg_rules
 pub mod Table
+pub mod Rows

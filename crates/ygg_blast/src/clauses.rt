@@ -1,13 +1,112 @@
 //! The clauses of gates, put into what takes clauses.
 
 ghost use Rattle.std.specs.Prelude.{◌≡◌, ◌<◌, ◌^◌, ◌++◌, ◌∷◌, [], length, IfOk, OnOk};
+ghost use Rattle.ygg_blast.specs.Rows.{pair, triple, and_rows, xor_rows, mux_rows};
 ghost use Rattle.ygg_gates.specs.Circuits.{literal};
 ghost use Rattle.ygg_gates.specs.Clauses.{clauses_from, gate_clauses};
 
 use std::alloc::Global;
-use ygg_cnf::{ClauseSink, Clauses, Lit};
+use ygg_cnf::{ClauseSink, Clauses, Lit, Pattern, PatternLit, put_made};
 use ygg_gates::Gate;
 use ygg_list::NoMemory;
+
+/// A clause of two literals of a block.
+#[inline(always)]
+fn pair(one: PatternLit, two: PatternLit) -> Pattern
+    ensures { result ≡ pair one two }
+{
+    Pattern {
+        one,
+        two,
+        three: None,
+    }
+}
+
+/// A clause of three literals of a block.
+#[inline(always)]
+fn triple(one: PatternLit, two: PatternLit, three: PatternLit) -> Pattern
+    ensures { result ≡ triple one two three }
+{
+    Pattern {
+        one,
+        two,
+        three: Some(three),
+    }
+}
+
+/// The rows of AND over its output and its two inputs.
+#[inline(always)]
+fn and_rows() -> [Pattern; 3]
+    ensures { result ≡ and_rows }
+{
+    [
+        pair(PatternLit::flipped(0), PatternLit::plain(1)),
+        pair(PatternLit::flipped(0), PatternLit::plain(2)),
+        triple(
+            PatternLit::plain(0),
+            PatternLit::flipped(1),
+            PatternLit::flipped(2),
+        ),
+    ]
+}
+
+/// The rows of XOR over its output and its two inputs.
+#[inline(always)]
+fn xor_rows() -> [Pattern; 4]
+    ensures { result ≡ xor_rows }
+{
+    [
+        triple(
+            PatternLit::flipped(0),
+            PatternLit::plain(1),
+            PatternLit::plain(2),
+        ),
+        triple(
+            PatternLit::flipped(0),
+            PatternLit::flipped(1),
+            PatternLit::flipped(2),
+        ),
+        triple(
+            PatternLit::plain(0),
+            PatternLit::flipped(1),
+            PatternLit::plain(2),
+        ),
+        triple(
+            PatternLit::plain(0),
+            PatternLit::plain(1),
+            PatternLit::flipped(2),
+        ),
+    ]
+}
+
+/// The rows of MUX over its output, its test and its two inputs.
+#[inline(always)]
+fn mux_rows() -> [Pattern; 4]
+    ensures { result ≡ mux_rows }
+{
+    [
+        triple(
+            PatternLit::flipped(0),
+            PatternLit::flipped(1),
+            PatternLit::plain(2),
+        ),
+        triple(
+            PatternLit::plain(0),
+            PatternLit::flipped(1),
+            PatternLit::flipped(2),
+        ),
+        triple(
+            PatternLit::flipped(0),
+            PatternLit::plain(1),
+            PatternLit::plain(3),
+        ),
+        triple(
+            PatternLit::plain(0),
+            PatternLit::plain(1),
+            PatternLit::flipped(3),
+        ),
+    ]
+}
 
 /// Puts the clauses of AND.
 fn put_and<S: ClauseSink>(
@@ -19,9 +118,7 @@ fn put_and<S: ClauseSink>(
 ) -> Result<(), NoMemory>
     ensures { OnOk result (S.held sink.new ≡ S.held sink.old ++ gate_clauses o (Gate.And a b)) }
 {
-    sink.take(alloc, &[o.complement(), a])?;
-    sink.take(alloc, &[o.complement(), b])?;
-    sink.take(alloc, &[o, a.complement(), b.complement()])
+    put_made(alloc, sink, &[o, a, b], &and_rows())
 }
 
 /// Puts the clauses of XOR.
@@ -34,10 +131,7 @@ fn put_xor<S: ClauseSink>(
 ) -> Result<(), NoMemory>
     ensures { OnOk result (S.held sink.new ≡ S.held sink.old ++ gate_clauses o (Gate.Xor a b)) }
 {
-    sink.take(alloc, &[o.complement(), a, b])?;
-    sink.take(alloc, &[o.complement(), a.complement(), b.complement()])?;
-    sink.take(alloc, &[o, a.complement(), b])?;
-    sink.take(alloc, &[o, a, b.complement()])
+    put_made(alloc, sink, &[o, a, b], &xor_rows())
 }
 
 /// Puts the clauses of MUX.
@@ -51,10 +145,7 @@ fn put_mux<S: ClauseSink>(
 ) -> Result<(), NoMemory>
     ensures { OnOk result (S.held sink.new ≡ S.held sink.old ++ gate_clauses o (Gate.Mux c a b)) }
 {
-    sink.take(alloc, &[o.complement(), c.complement(), a])?;
-    sink.take(alloc, &[o, c.complement(), a.complement()])?;
-    sink.take(alloc, &[o.complement(), c, b])?;
-    sink.take(alloc, &[o, c, b.complement()])
+    put_made(alloc, sink, &[o, c, a, b], &mux_rows())
 }
 
 /// Puts the clauses of a gate whose variable has the literal o.

@@ -10,7 +10,7 @@ pub use blasted::{Blasted, circuit_of, clauses_of, environment, environment_of, 
 pub use clauses::clauses_of_gate;
 pub use groups::Groups;
 pub use ygg_bank::{Bank, Env, Id};
-pub use ygg_cnf::{Clause, ClauseSink, Lit, Log, derivations_are_sound};
+pub use ygg_cnf::{Clause, Lit, Log, derivations_are_sound};
 pub use ygg_gates::{Gate, InputVariables, clauses_mean_terms};
 pub use ygg_gates_circuit::true_literal;
 pub use ygg_list::NoMemory;

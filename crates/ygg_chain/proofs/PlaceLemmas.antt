@@ -49,7 +49,7 @@ literal_more variables more x inside =
 pub placed_more : (variables more : List ℕ) (x : Lit) → IsPlaced variables x → IsPlaced (variables ++ more) x
 placed_more variables more x inside = omega (arith, inside, length-append variables more)
 
-same_map : {X Y : Type 0} (f g : X → Y) (xs : List X) → All (λ x. f x ≡ g x) xs → map f xs ≡ map g xs
+pub same_map : {X Y : Type 0} (f g : X → Y) (xs : List X) → All (λ x. f x ≡ g x) xs → map f xs ≡ map g xs
 same_map f g [] all = refl
 same_map f g (x ∷ xs) all = rw (All-head (λ x. f x ≡ g x) x xs all, same_map f g xs (All-tail (λ x. f x ≡ g x) x xs all)) refl
 

@@ -1,6 +1,7 @@
-ghost use Rattle.std.specs.Prelude.{◌≡◌, ℕ, ◌≤◌, ◌⊎◌, ◌*◌, [], ◌∷◌, ◌++◌, length, List, All, Contains, IsTrue, ◌↔◌, OnOk, OnErr, IfOk};
+ghost use Rattle.std.specs.Prelude.{◌≡◌, ℕ, ◌≤◌, ◌⊎◌, ◌*◌, [], ◌∷◌, ◌++◌, length, map, List, All, Contains, IsTrue, ◌↔◌, OnOk, OnErr, IfOk};
 ghost use Rattle.ygg_cnf.specs.declared.lit.Lit.{Lit};
 ghost use Rattle.ygg_cnf.specs.Derivations.{HasClause, Resolves, DerivesClause};
+ghost use Rattle.ygg_cnf.specs.Patterns.{IsPattern, made};
 ghost use Rattle.ygg_chain.specs.Places.{StandsFor, clauses_at};
 ghost use Rattle.ygg_cnf_set.specs.LiteralSet.{InSet, IsSetOf};
 ghost use Rattle.ygg_chain.specs.Counts.{trues};
@@ -11,8 +12,8 @@ use crate::places::Variables;
 use crate::store::{Store, enter_all};
 use std::alloc::Global;
 use std::marker::Model;
-use ygg_cnf::{Clause, ClauseSink, Clauses, Lit, is_once};
-use ygg_cnf_set::{contains, pivot, take_all};
+use ygg_cnf::{Clause, ClauseSink, Clauses, Lit, Pattern, is_once};
+use ygg_cnf_set::{PackedLit, contains, pivot, take_all};
 use ygg_list::NoMemory;
 
 /// Holds clauses, numbered from 1, and judges chains over them. Its memory is for the clauses and for the variables that
@@ -21,6 +22,8 @@ use ygg_list::NoMemory;
 pub struct Checker {
     store: Store,
     seen: Vec<bool>,
+    // the literals of the clause that came last, before they were held
+    entered: Vec<PackedLit>,
 }
 
 impl Model for Checker {
@@ -55,6 +58,7 @@ impl Checker {
         Checker {
             store: Store::new(alloc),
             seen: Vec::new(alloc),
+            entered: Vec::new(alloc),
         }
     }
 
@@ -78,9 +82,29 @@ impl Checker {
         ensures ok { OnOk result (self.new ≡ self.old ++ clause.now ∷ []) }
         ensures err { OnErr result (self.new ≡ self.old) }
     {
-        let alloc = *self.seen.allocator();
-        let kept = enter_all(alloc, &mut self.seen, &mut self.store.variables, clause)?;
-        self.store.clauses.push(kept)
+        enter_all(
+            &mut self.seen,
+            &mut self.store.variables,
+            &mut self.entered,
+            clause,
+        )?;
+        self.store.clauses.push(self.entered.as_slice())
+    }
+
+    /// Makes the clauses that patterns make of a block of literals the next ones held. After running out of memory some of them are held.
+    pub fn hold_made(&mut self, block: &[Lit], patterns: &[Pattern]) -> Result<(), NoMemory>
+        requires { All (IsPattern (length block.now)) patterns.now }
+        ensures { OnOk result (self.new ≡ self.old ++ map (made block.now) patterns.now) }
+    {
+        enter_all(
+            &mut self.seen,
+            &mut self.store.variables,
+            &mut self.entered,
+            block,
+        )?;
+        self.store
+            .clauses
+            .push_made(self.entered.as_slice(), patterns)
     }
 
     /// Whether the chain derives the clause from the clauses held. It takes no memory, and its time is linear in the literals
@@ -109,6 +133,15 @@ impl ClauseSink for Checker {
         }
         let clause = Clause::once(alloc, lits)?;
         self.add(&clause)
+    }
+
+    fn take_made(
+        &mut self,
+        _alloc: Global,
+        block: &[Lit],
+        patterns: &[Pattern],
+    ) -> Result<(), NoMemory> {
+        self.hold_made(block, patterns)
     }
 }
 
@@ -142,7 +175,7 @@ fn resolve_chain(seen: &mut [bool], count: &mut usize, store: &Store, chain: &[u
     let Some(start) = store.numbered(*first) else {
         return false;
     };
-    insert_all(seen, count, start);
+    insert_all(seen, count, start.as_slice());
     resolve_rest(seen, count, store, rest)
 }
 
@@ -176,6 +209,7 @@ fn resolve_next(seen: &mut [bool], count: &mut usize, store: &Store, id: u64) ->
     let Some(next) = store.numbered(id) else {
         return false;
     };
+    let next = next.as_slice();
     let Some(x) = pivot(seen, next) else {
         return false;
     };
@@ -287,5 +321,5 @@ fn take_numbered(seen: &mut [bool], store: &Store, id: u64) -> bool
     let Some(clause) = store.numbered(id) else {
         return true;
     };
-    take_all(seen, clause)
+    take_all(seen, clause.as_slice())
 }

@@ -1,6 +1,7 @@
 //! The checker of derivations: it holds clauses and says whether a chain of resolution steps derives a clause from them.
 #![tactic(auto)]
 
+mod arena;
 mod checker;
 mod counting;
 mod place_table;

@@ -38,6 +38,10 @@ IsSameSet a b = (x : Lit) → Contains a x ↔ Contains b x
 abbrev pub IsOnce : List Lit → Type 0
 IsOnce clause = AllPairs (λ x y. x ≢ y) clause
 
+-- no two of the literals have one variable
+abbrev pub AreApart : List Lit → Type 0
+AreApart literals = AllPairs (λ x y. y.var ≢ x.var) literals
+
 -- whether the two literals are one
 abbrev pub is_same : Lit → Lit → Bool
 is_same x y = x.var == y.var && beq x.negated y.negated

@@ -135,7 +135,7 @@ fn is_among(lits: &[Lit], lit: Lit) -> bool
     lits.iter().any(|other| lit == *other)
 }
 
-/// Whether no literal stands twice: the clause that keeps each of them once is then these. Its time grows with the square of their number.
+/// Where it says yes, the clause that keeps each of these literals once is these. Its time grows with the square of their number.
 #[inline]
 #[tactic(auto, using(crate::proofs::Once::once_more))]
 pub fn is_once(lits: &[Lit]) -> bool

@@ -1,4 +1,5 @@
 ghost use Rattle.std.specs.Prelude.{◌≡◌, ◌<◌, ◌^◌};
+ghost use Rattle.ygg_cnf.specs.Literals.{complement};
 ghost use Rattle.ygg_cnf_set.specs.LiteralSet.{code_of};
 
 use crate::literal_set::code;
@@ -33,6 +34,19 @@ impl PackedLit {
         PackedLit {
             code: code(lit) as u32,
         }
+    }
+
+    /// The literal that is true exactly where this one is false.
+    #[inline(always)]
+    pub fn complement(self) -> PackedLit
+        ensures { result ≡ complement self }
+    {
+        let code = if self.code % 2 == 0 {
+            self.code + 1
+        } else {
+            self.code - 1
+        };
+        PackedLit { code }
     }
 
     /// The literal itself.

@@ -5,8 +5,8 @@ use Rattle.ygg_chain.proofs.store.enter_all.Given as goal
 
 abbrev pub invariant-loop-lit : goal.invariant-loop-lit
 invariant-loop-lit l = record {
-  placed : All (IsPlaced l.variables) l.kept;
-  same : clause_at l.variables l.kept ≡ take l.lit-index l.clause;
+  placed : All (IsPlaced l.variables) l.entered.items;
+  same : clause_at l.variables l.entered.items ≡ take l.lit-index l.clause;
   grows : (more : List ℕ) × (l.variables ≡ l.initial.variables ++ more);
   distinct : IsDistinct l.variables;
   room : 2 * length l.variables ≤ length l.seen.items;
