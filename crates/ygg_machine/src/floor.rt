@@ -184,7 +184,8 @@ impl<W: Lower + Drop> Floor<W> {
         }) }
         ensures kept { OnErr result (self.new ≡ self.old) }
     {
-        self.memory = zeros(self.alloc, memory_of(typed, self.place))?;
+        let cleared = zeros(self.alloc, memory_of(typed, self.place))?;
+        self.memory = cleared;
         Ok(())
     }
 }
