@@ -1,4 +1,4 @@
-ghost use Rattle.std.specs.Prelude.{◌≡◌, ℕ, ◌≤◌, ◌⊎◌, ◌*◌, [], ◌∷◌, ◌++◌, length, map, List, All, Contains, IsTrue, ◌↔◌, OnOk, OnErr, IfOk};
+ghost use Rattle.std.specs.Prelude.{◌≡◌, ℕ, ◌≤◌, ◌⊎◌, ◌*◌, [], ◌∷◌, ◌++◌, length, map, take, List, All, Contains, IsTrue, ◌↔◌, OnOk, OnErr, IfOk};
 ghost use Rattle.ygg_cnf.specs.declared.lit.Lit.{Lit};
 ghost use Rattle.ygg_cnf.specs.Derivations.{HasClause, Resolves, DerivesClause};
 ghost use Rattle.ygg_cnf.specs.Patterns.{IsPattern, made};
@@ -94,7 +94,8 @@ impl Checker {
     /// Makes the clauses that patterns make of a block of literals the next ones held. After running out of memory some of them are held.
     pub fn hold_made(&mut self, block: &[Lit], patterns: &[Pattern]) -> Result<(), NoMemory>
         requires { All (IsPattern (length block.now)) patterns.now }
-        ensures { OnOk result (self.new ≡ self.old ++ map (made block.now) patterns.now) }
+        ensures ok { OnOk result (self.new ≡ self.old ++ map (made block.now) patterns.now) }
+        ensures some { (count : ℕ) × (self.new ≡ self.old ++ map (made block.now) (take count patterns.now)) }
     {
         enter_all(
             &mut self.seen,

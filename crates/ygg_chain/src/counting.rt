@@ -9,7 +9,7 @@ use ygg_cnf::Lit;
 use ygg_cnf_set::{PackedLit, code};
 
 /// Puts the literal in.
-#[inline]
+#[inline(always)]
 fn insert(seen: &mut [bool], count: &mut usize, lit: Lit)
     requires fits { Fits (length seen.old) lit }
     requires counted { count.old ≡ trues seen.old }
@@ -24,7 +24,7 @@ fn insert(seen: &mut [bool], count: &mut usize, lit: Lit)
 }
 
 /// Takes the literal out.
-#[inline]
+#[inline(always)]
 pub fn remove(seen: &mut [bool], count: &mut usize, lit: Lit)
     requires fits { Fits (length seen.old) lit }
     requires counted { count.old ≡ trues seen.old }
@@ -39,7 +39,7 @@ pub fn remove(seen: &mut [bool], count: &mut usize, lit: Lit)
 }
 
 /// Puts each literal of the clause in.
-#[inline]
+#[inline(always)]
 pub fn insert_all(seen: &mut [bool], count: &mut usize, clause: &[PackedLit])
     requires fits { All (Fits (length seen.old)) clause.now }
     requires counted { count.old ≡ trues seen.old }
@@ -52,7 +52,7 @@ pub fn insert_all(seen: &mut [bool], count: &mut usize, clause: &[PackedLit])
 }
 
 /// Resolves the set with the clause on the pivot.
-#[inline]
+#[inline(always)]
 pub fn resolve(seen: &mut [bool], count: &mut usize, clause: &[PackedLit], pivot: Lit)
     requires fits { All (Fits (length seen.old)) clause.now }
     requires pivot { Fits (length seen.old) pivot }

@@ -35,7 +35,7 @@ impl Store {
     }
 
     /// The kept clause of a number, where clauses are numbered from 1.
-    #[inline]
+    #[inline(always)]
     pub fn numbered(&self, id: u64) -> Option<ArenaClause<'_>>
         ensures { MatchOption result ((kept : List Lit) → HasClause self.now.clauses id kept → ⊥) (λ kept. HasClause self.now.clauses id (lits_of kept)) }
     {

@@ -38,7 +38,7 @@ pub fn take_all(seen: &mut [bool], clause: &[PackedLit]) -> bool
 }
 
 /// The literal of the set whose complement is in the clause, if there is exactly one.
-#[inline]
+#[inline(always)]
 pub fn pivot(seen: &[bool], clause: &[PackedLit]) -> Option<Lit>
     requires { All (Fits (length seen.now)) clause.now }
     ensures { MatchOption result ((x : _) → IsPivot (InSet seen.now) clause.now x → ⊥) (IsPivot (InSet seen.now) clause.now) }

@@ -1,4 +1,4 @@
--- The numbers of clauses, byte by byte.
+-- Literals and the numbers of clauses, byte by byte.
 use Rattle.std.proofs.Common.{
   ◌≡◌,
   ℕ,
@@ -10,6 +10,9 @@ use Rattle.std.proofs.Common.{
   ◌^◌,
   ◌<◌,
   ◌≤◌,
+  Bool,
+  true,
+  false,
   List,
   [],
   ◌∷◌,
@@ -33,8 +36,9 @@ use Rattle.ygg_log_text.specs.declared.spot.SpotTurn.TheVariants as turn
 use Rattle.ygg_log_text.specs.declared.reader.StepReader.{StepReader}
 use Rattle.ygg_log_text.specs.Spots.{IsSpot, Turns}
 use Rattle.ygg_log_text.specs.Reading.{IsReading}
-use Rattle.ygg_log_text.specs.Runs.{spot_of, reader_at, IsRun}
+use Rattle.ygg_log_text.specs.Runs.{spot_of, part_spot, reader_at, IsRun}
 use Rattle.ygg_log_text.proofs.Turning.{number_digit, digits_digit, digits_space}
+use Rattle.ygg_log_text.proofs.Turning.{literal_digit, literal_minus, minus_digit, variable_digit, variable_space}
 use Rattle.ygg_log_text.proofs.Ending.{reads_on, reads_literal, reads_number}
 
 -- in the digits of a number
@@ -59,6 +63,28 @@ digit_turns n m b fits low high e some small = rw (some_spot m some) (digit_from
 
 pub space_turns : (n b : ℕ) → n < 2 ^ 64 → 0 < n → b ≡ 32 → Turns (spot_of n) b (turn.Number n)
 space_turns n b fits some is = rw (some_spot n some, is) (digits_space n (some, fits))
+
+-- in the digits of a literal's variable
+pub some_part : (n : ℕ) (negated : Bool) → 0 < n → part_spot n negated ≡ spot.Variable negated n
+some_part zero negated some = absurd (omega (arith, some))
+some_part (suc n) negated some = refl
+
+part_from : (n m b : ℕ) (negated : Bool) → n < 2 ^ 64 → 48 ≤ b → b < 58 → m ≡ 10 * n + (b - 48) → 0 < m → m < 2 ^ 64 →
+    Turns (part_spot n negated) b (turn.To (spot.Variable negated m))
+part_from zero m b false fits low high e some small = literal_digit b m (omega (arith, e, some)) high (omega (arith, e))
+part_from zero m b true fits low high e some small = minus_digit b m (omega (arith, e, some)) high (omega (arith, e))
+part_from (suc n) m b negated fits low high e some small = variable_digit negated (suc n) m b (omega arith, fits) low high e small
+
+pub part_turns : (n m b : ℕ) (negated : Bool) → n < 2 ^ 64 → 48 ≤ b → b < 58 → m ≡ 10 * n + (b - 48) → 0 < m → m < 2 ^ 64 →
+    Turns (part_spot n negated) b (turn.To (part_spot m negated))
+part_turns n m b negated fits low high e some small = rw (some_part m negated some) (part_from n m b negated fits low high e some small)
+
+pub part_ends : (n b : ℕ) (negated : Bool) → n < 2 ^ 64 → 0 < n → b ≡ 32 →
+    Turns (part_spot n negated) b (turn.Literal (record { var = n; negated = negated }))
+part_ends n b negated fits some is = rw (some_part n negated some, is) (variable_space negated n (some, fits))
+
+pub part_minus : (n b : ℕ) (negated : Bool) → n ≡ 0 → negated ≡ false → b ≡ 45 → Turns (part_spot n negated) b (turn.To (part_spot 0 true))
+part_minus n b negated none plain is = rw (none, plain, is) literal_minus
 
 -- a run of no bytes
 pub no_run : (piece : List ℕ) (r : StepReader) → IsRun piece r r 0
@@ -116,6 +142,16 @@ run_from piece clause old new n m count from to here there run = rw there (recor
   within = run.within;
   reading = λ before was.
       run.reading before (subst (λ (s : Spot). IsReading before (record { spot = s; clause = clause; chain = old })) (here was.place) was);
+})
+
+-- a run from the place in a literal
+pub run_within : (piece : List ℕ) (old new : List Lit) (chain : List ℕ) (count : ℕ) (from to here there : Spot) → (IsSpot from → from ≡ here) → to ≡ there →
+    IsRun piece (record { spot = here; clause = old; chain = chain }) (record { spot = there; clause = new; chain = chain }) count
+    → IsRun piece (record { spot = from; clause = old; chain = chain }) (record { spot = to; clause = new; chain = chain }) count
+run_within piece old new chain count from to here there is at run = rw at (record {
+  within = run.within;
+  reading = λ before was.
+      run.reading before (subst (λ (s : Spot). IsReading before (record { spot = s; clause = old; chain = chain })) (is was.place) was);
 })
 
 -- in the digits of a number

@@ -4,7 +4,7 @@ ghost use Rattle.std.specs.Prelude.{◌≡◌, [], ◌∷◌, ◌++◌, List, �
 ghost use Rattle.ygg_log_text.specs.Runs.{IsRun};
 ghost use Rattle.ygg_log_text.specs.Reading.{IsReading, Hears};
 
-use crate::literals::read_literals;
+use crate::literals::{part_at, read_literals, spot_in};
 use crate::numbers::{number_at, read_numbers, spot_of};
 use crate::spot::{Spot, SpotTurn, turn_at};
 use std::alloc::Global;
@@ -75,15 +75,18 @@ impl StepReader {
         self.chain.as_slice()
     }
 
-    /// Reads the first bytes of a piece, as far as they go on with the line: among the numbers of clauses as far as they are digits and the spaces after numbers,
-    /// and else up to these numbers. Gives how many they are. Its only error is out of memory, after which the reader is of no use.
+    /// Reads the first bytes of a piece, as far as they go on with the line's literals, where it reads these, or with the numbers of clauses. Gives how many they
+    /// are, which is none elsewhere in the line. Its only error is out of memory, after which the reader is of no use.
     pub fn run_on(&mut self, piece: &[u8]) -> Result<usize, NoMemory>
         ensures { IfOk result (IsRun piece.now self.old self.new) }
     {
-        let Some(number) = number_at(self.spot) else {
-            let run = read_literals(&mut self.clause, self.spot, piece)?;
-            self.spot = run.spot;
+        if let Some(part) = part_at(self.spot) {
+            let run = read_literals(&mut self.clause, part, piece)?;
+            self.spot = spot_in(run.part);
             return Ok(run.count);
+        }
+        let Some(number) = number_at(self.spot) else {
+            return Ok(0);
         };
         let run = read_numbers(&mut self.chain, number, piece)?;
         self.spot = spot_of(run.number);

@@ -11,3 +11,4 @@ pub mod Cancels
 pub mod Equates
 pub mod Steps
 pub mod Walks
+pub mod PlainWords

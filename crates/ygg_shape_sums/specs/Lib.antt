@@ -23,3 +23,4 @@ pub mod Multiplies
 pub mod Cancels
 pub mod Reduces
 pub mod Equates
+pub mod Plain

@@ -14,6 +14,7 @@ ghost use Rattle.ygg_shape_sums.specs.Readings.{FactsFit};
 use crate::cancelling::cancels;
 use crate::gathering::{has_sum, split_of};
 use crate::parts::{Summand, Total};
+use crate::plain::are_plain;
 use crate::reading::{Fact, LESS_ONE, with};
 use crate::reducing::{loses_products, reduce};
 use crate::siding::vanishes;
@@ -125,6 +126,10 @@ fn equate_by<B: Book>(bank: &mut Bank, book: &B, one: Id, two: Id) -> Result<Id,
     ensures grows { Extends bank.old bank.new }
     ensures bank { IsBank bank.new }
 {
+    if are_plain(bank, one, two)? {
+        let answer = same(bank, book, one, two)?;
+        return Ok(answer);
+    }
     if cancels(bank, one, two)? {
         let answer = bank.make(Node::Const(Word { width: 1, bits: 1 }), book)?;
         Ok(answer)

@@ -7,6 +7,7 @@ pub mod equating;
 pub mod gathering;
 pub mod multiplying;
 pub mod parts;
+mod plain;
 pub mod products;
 pub mod reading;
 pub mod reducing;
