@@ -8,7 +8,7 @@ use Rattle.ygg_cnf.specs.Literals.{once}
 use Rattle.ygg_cnf.specs.Patterns.{IsPattern, made}
 use Rattle.ygg_gates.specs.Clauses.{gate_clauses}
 use Rattle.ygg_gates.specs.declared.gate.Gate.TheVariants as gate
-use Rattle.ygg_blast.specs.Rows.{pair, triple, plain, flipped, and_rows, xor_rows, mux_rows}
+use Rattle.ygg_blast.specs.Rows.{pair, triple, plain, complemented, and_rows, xor_rows, mux_rows}
 
 pair_is : (count : ℕ) (a b : PatternLit) → a.place < count → b.place < count → b.place ≢ a.place → IsPattern count (pair a b)
 pair_is count a b l m n = record { one = l; two = m; apart = n; third = tt }
@@ -25,10 +25,10 @@ all_four P a b c d k l m n = All-cons P a (b ∷ c ∷ d ∷ []) k (all_three P 
 
 pub and_are : All (IsPattern 3) and_rows
 and_are =
-    all_three (IsPattern 3) (pair (flipped 0) (plain 1)) (pair (flipped 0) (plain 2)) (triple (plain 0) (flipped 1) (flipped 2))
-    (pair_is 3 (flipped 0) (plain 1) (omega arith) (omega arith) (omega arith))
-    (pair_is 3 (flipped 0) (plain 2) (omega arith) (omega arith) (omega arith))
-    (triple_is 3 (plain 0) (flipped 1) (flipped 2) (omega arith) (omega arith) (omega arith) (omega arith) (omega arith) (omega arith))
+    all_three (IsPattern 3) (pair (complemented 0) (plain 1)) (pair (complemented 0) (plain 2)) (triple (plain 0) (complemented 1) (complemented 2))
+    (pair_is 3 (complemented 0) (plain 1) (omega arith) (omega arith) (omega arith))
+    (pair_is 3 (complemented 0) (plain 2) (omega arith) (omega arith) (omega arith))
+    (triple_is 3 (plain 0) (complemented 1) (complemented 2) (omega arith) (omega arith) (omega arith) (omega arith) (omega arith) (omega arith))
 
 -- a row of the first three literals of a block
 first_three : (count : ℕ) → 2 < count → (a b c : PatternLit) → a.place ≡ 0 → b.place ≡ 1 → c.place ≡ 2 → IsPattern count (triple a b c)
@@ -43,21 +43,21 @@ first_and_last a b c e f g =
 
 pub xor_are : All (IsPattern 3) xor_rows
 xor_are =
-    all_four (IsPattern 3) (triple (flipped 0) (plain 1) (plain 2)) (triple (flipped 0) (flipped 1) (flipped 2))
-    (triple (plain 0) (flipped 1) (plain 2)) (triple (plain 0) (plain 1) (flipped 2))
-    (first_three 3 (omega arith) (flipped 0) (plain 1) (plain 2) refl refl refl)
-    (first_three 3 (omega arith) (flipped 0) (flipped 1) (flipped 2) refl refl refl)
-    (first_three 3 (omega arith) (plain 0) (flipped 1) (plain 2) refl refl refl)
-    (first_three 3 (omega arith) (plain 0) (plain 1) (flipped 2) refl refl refl)
+    all_four (IsPattern 3) (triple (complemented 0) (plain 1) (plain 2)) (triple (complemented 0) (complemented 1) (complemented 2))
+    (triple (plain 0) (complemented 1) (plain 2)) (triple (plain 0) (plain 1) (complemented 2))
+    (first_three 3 (omega arith) (complemented 0) (plain 1) (plain 2) refl refl refl)
+    (first_three 3 (omega arith) (complemented 0) (complemented 1) (complemented 2) refl refl refl)
+    (first_three 3 (omega arith) (plain 0) (complemented 1) (plain 2) refl refl refl)
+    (first_three 3 (omega arith) (plain 0) (plain 1) (complemented 2) refl refl refl)
 
 pub mux_are : All (IsPattern 4) mux_rows
 mux_are =
-    all_four (IsPattern 4) (triple (flipped 0) (flipped 1) (plain 2)) (triple (plain 0) (flipped 1) (flipped 2))
-    (triple (flipped 0) (plain 1) (plain 3)) (triple (plain 0) (plain 1) (flipped 3))
-    (first_three 4 (omega arith) (flipped 0) (flipped 1) (plain 2) refl refl refl)
-    (first_three 4 (omega arith) (plain 0) (flipped 1) (flipped 2) refl refl refl)
-    (first_and_last (flipped 0) (plain 1) (plain 3) refl refl refl)
-    (first_and_last (plain 0) (plain 1) (flipped 3) refl refl refl)
+    all_four (IsPattern 4) (triple (complemented 0) (complemented 1) (plain 2)) (triple (plain 0) (complemented 1) (complemented 2))
+    (triple (complemented 0) (plain 1) (plain 3)) (triple (plain 0) (plain 1) (complemented 3))
+    (first_three 4 (omega arith) (complemented 0) (complemented 1) (plain 2) refl refl refl)
+    (first_three 4 (omega arith) (plain 0) (complemented 1) (complemented 2) refl refl refl)
+    (first_and_last (complemented 0) (plain 1) (plain 3) refl refl refl)
+    (first_and_last (plain 0) (plain 1) (complemented 3) refl refl refl)
 
 pub and_make : (o a b : Lit) → map once (map (made (o ∷ a ∷ b ∷ [])) and_rows) ≡ gate_clauses o (gate.And a b)
 and_make o a b = refl

@@ -5,11 +5,11 @@ use Rattle.ygg_cnf.specs.declared.pattern.PatternLit.{PatternLit}
 
 -- the literal at a place
 abbrev pub plain : ℕ → PatternLit
-plain place = record { place = place; flipped = false }
+plain place = record { place = place; complemented = false }
 
 -- its complement
-abbrev pub flipped : ℕ → PatternLit
-flipped place = record { place = place; flipped = true }
+abbrev pub complemented : ℕ → PatternLit
+complemented place = record { place = place; complemented = true }
 
 abbrev pub pair : PatternLit → PatternLit → Pattern
 pair a b = record { one = a; two = b; three = None }
@@ -18,14 +18,14 @@ abbrev pub triple : PatternLit → PatternLit → PatternLit → Pattern
 triple a b c = record { one = a; two = b; three = Some c }
 
 abbrev pub and_rows : List Pattern
-and_rows = pair (flipped 0) (plain 1) ∷ pair (flipped 0) (plain 2) ∷ triple (plain 0) (flipped 1) (flipped 2) ∷ []
+and_rows = pair (complemented 0) (plain 1) ∷ pair (complemented 0) (plain 2) ∷ triple (plain 0) (complemented 1) (complemented 2) ∷ []
 
 abbrev pub xor_rows : List Pattern
 xor_rows =
-    triple (flipped 0) (plain 1) (plain 2) ∷ triple (flipped 0) (flipped 1) (flipped 2)
-    ∷ triple (plain 0) (flipped 1) (plain 2) ∷ triple (plain 0) (plain 1) (flipped 2) ∷ []
+    triple (complemented 0) (plain 1) (plain 2) ∷ triple (complemented 0) (complemented 1) (complemented 2)
+    ∷ triple (plain 0) (complemented 1) (plain 2) ∷ triple (plain 0) (plain 1) (complemented 2) ∷ []
 
 abbrev pub mux_rows : List Pattern
 mux_rows =
-    triple (flipped 0) (flipped 1) (plain 2) ∷ triple (plain 0) (flipped 1) (flipped 2)
-    ∷ triple (flipped 0) (plain 1) (plain 3) ∷ triple (plain 0) (plain 1) (flipped 3) ∷ []
+    triple (complemented 0) (complemented 1) (plain 2) ∷ triple (plain 0) (complemented 1) (complemented 2)
+    ∷ triple (complemented 0) (plain 1) (plain 3) ∷ triple (plain 0) (plain 1) (complemented 3) ∷ []

@@ -40,12 +40,12 @@ fn and_rows() -> [Pattern; 3]
     ensures { result ≡ and_rows }
 {
     [
-        pair(PatternLit::flipped(0), PatternLit::plain(1)),
-        pair(PatternLit::flipped(0), PatternLit::plain(2)),
+        pair(PatternLit::complemented(0), PatternLit::plain(1)),
+        pair(PatternLit::complemented(0), PatternLit::plain(2)),
         triple(
             PatternLit::plain(0),
-            PatternLit::flipped(1),
-            PatternLit::flipped(2),
+            PatternLit::complemented(1),
+            PatternLit::complemented(2),
         ),
     ]
 }
@@ -57,24 +57,24 @@ fn xor_rows() -> [Pattern; 4]
 {
     [
         triple(
-            PatternLit::flipped(0),
+            PatternLit::complemented(0),
             PatternLit::plain(1),
             PatternLit::plain(2),
         ),
         triple(
-            PatternLit::flipped(0),
-            PatternLit::flipped(1),
-            PatternLit::flipped(2),
+            PatternLit::complemented(0),
+            PatternLit::complemented(1),
+            PatternLit::complemented(2),
         ),
         triple(
             PatternLit::plain(0),
-            PatternLit::flipped(1),
+            PatternLit::complemented(1),
             PatternLit::plain(2),
         ),
         triple(
             PatternLit::plain(0),
             PatternLit::plain(1),
-            PatternLit::flipped(2),
+            PatternLit::complemented(2),
         ),
     ]
 }
@@ -86,24 +86,24 @@ fn mux_rows() -> [Pattern; 4]
 {
     [
         triple(
-            PatternLit::flipped(0),
-            PatternLit::flipped(1),
+            PatternLit::complemented(0),
+            PatternLit::complemented(1),
             PatternLit::plain(2),
         ),
         triple(
             PatternLit::plain(0),
-            PatternLit::flipped(1),
-            PatternLit::flipped(2),
+            PatternLit::complemented(1),
+            PatternLit::complemented(2),
         ),
         triple(
-            PatternLit::flipped(0),
+            PatternLit::complemented(0),
             PatternLit::plain(1),
             PatternLit::plain(3),
         ),
         triple(
             PatternLit::plain(0),
             PatternLit::plain(1),
-            PatternLit::flipped(3),
+            PatternLit::complemented(3),
         ),
     ]
 }

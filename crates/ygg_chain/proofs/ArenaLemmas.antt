@@ -6,7 +6,7 @@ use Rattle.std.proofs.Math.Seq.{drop-append_seam, take-length}
 use Rattle.ygg_cnf.specs.declared.lit.Lit.{Lit}
 use Rattle.ygg_cnf.specs.declared.pattern.Pattern.{Pattern}
 use Rattle.ygg_cnf.specs.declared.pattern.PatternLit.{PatternLit}
-use Rattle.ygg_cnf.specs.Patterns.{flipped_if, no_literal, picked, third, made, IsThird, IsPattern}
+use Rattle.ygg_cnf.specs.Patterns.{complemented_if, no_literal, picked, third, made, IsThird, IsPattern}
 use Rattle.ygg_chain.specs.declared.arena.Stored.{Stored}
 use Rattle.ygg_chain.specs.declared.arena.Stored.TheVariants.{Whole, Made}
 use Rattle.ygg_chain.specs.Arena.{IsStored, HasNone, HasEmpty, clause_of, clauses_of, made_at}
@@ -16,7 +16,7 @@ use Rattle.ygg_chain.proofs.PlaceLemmas.{same_map, contains_map, contains_of_map
 -- ---- patterns
 
 picked_more : (block more : List Lit) (q : PatternLit) → q.place < length block → picked (block ++ more) q ≡ picked block q
-picked_more block more q inside = ap (flipped_if q.flipped) (get_or_append_left block more no_literal q.place inside)
+picked_more block more q inside = ap (complemented_if q.complemented) (get_or_append_left block more no_literal q.place inside)
 
 -- more literals behind a block leave what a pattern makes of it
 made_more : (block more : List Lit) (p : Pattern) → IsPattern (length block) p → made (block ++ more) p ≡ made block p
@@ -154,14 +154,14 @@ empty_stored lits stored are = (
 
 -- ---- places
 
-placed_flipped : (variables : List ℕ) (b : Bool) (x : Lit) → IsPlaced variables x → IsPlaced variables (flipped_if b x)
-placed_flipped variables true x h = h
-placed_flipped variables false x h = h
+placed_complemented : (variables : List ℕ) (b : Bool) (x : Lit) → IsPlaced variables x → IsPlaced variables (complemented_if b x)
+placed_complemented variables true x h = h
+placed_complemented variables false x h = h
 
 picked_placed : (variables : List ℕ) (block : List Lit) (q : PatternLit) → All (IsPlaced variables) block → q.place < length block
     → IsPlaced variables (picked block q)
 picked_placed variables block q all inside =
-    placed_flipped variables q.flipped (get_or block q.place no_literal) (all q.place no_literal inside)
+    placed_complemented variables q.complemented (get_or block q.place no_literal) (all q.place no_literal inside)
 
 -- what a pattern makes of literals that have places
 made_placed : (variables : List ℕ) (block : List Lit) → All (IsPlaced variables) block → (p : Pattern) → IsPattern (length block) p
@@ -181,15 +181,15 @@ all_made_placed variables block all (p ∷ ps) are =
     (made_placed variables block all p (All-head (IsPattern (length block)) p ps are))
     (all_made_placed variables block all ps (All-tail (IsPattern (length block)) p ps are))
 
-literal_flipped : (variables : List ℕ) (b : Bool) (x : Lit) → literal_at variables (flipped_if b x) ≡ flipped_if b (literal_at variables x)
-literal_flipped variables true x = refl
-literal_flipped variables false x = refl
+literal_complemented : (variables : List ℕ) (b : Bool) (x : Lit) → literal_at variables (complemented_if b x) ≡ complemented_if b (literal_at variables x)
+literal_complemented variables true x = refl
+literal_complemented variables false x = refl
 
 picked_at : (variables : List ℕ) (block : List Lit) (q : PatternLit) → q.place < length block
     → literal_at variables (picked block q) ≡ picked (clause_at variables block) q
 picked_at variables block q inside =
-    literal_flipped variables q.flipped (get_or block q.place no_literal)
-    ∙ ap (flipped_if q.flipped) (sym (get_or-map (literal_at variables) block q.place no_literal no_literal inside))
+    literal_complemented variables q.complemented (get_or block q.place no_literal)
+    ∙ ap (complemented_if q.complemented) (sym (get_or-map (literal_at variables) block q.place no_literal no_literal inside))
 
 -- a pattern makes of the variables' literals what stands for what it makes of their places
 made_at_places : (variables : List ℕ) (block : List Lit) (p : Pattern) → IsPattern (length block) p

@@ -131,7 +131,7 @@ fn picked(block: &[PackedLit], lit: PatternLit) -> PackedLit
     ensures { result ≡ picked block.now lit }
 {
     let plain = block[lit.place as usize];
-    if lit.flipped {
+    if lit.complemented {
         plain.complement()
     } else {
         plain

@@ -10,7 +10,7 @@ use Rattle.ygg_cnf.specs.declared.lit.Lit.{Lit}
 use Rattle.ygg_cnf.specs.declared.pattern.Pattern.{Pattern}
 use Rattle.ygg_cnf.specs.declared.pattern.PatternLit.{PatternLit}
 use Rattle.ygg_cnf.specs.Literals.{is_same, once, AreApart}
-use Rattle.ygg_cnf.specs.Patterns.{flipped_if, no_literal, picked, third, made, IsThird, IsPattern}
+use Rattle.ygg_cnf.specs.Patterns.{complemented_if, no_literal, picked, third, made, IsThird, IsPattern}
 
 -- with one more literal, of a variable that none before it has
 pub apart_more : (lits : List Lit) (i : ℕ) (d : Lit) → i < length lits → AreApart (take i lits)
@@ -37,7 +37,7 @@ once_three : (x y z : Lit) → is_same y x ≡ false → is_same z x ≡ false �
 once_three x y z e f g = rw (e, f, g) refl
 
 -- a literal and its complement have one variable
-same_variable : (b : Bool) (x : Lit) → (flipped_if b x).var ≡ x.var
+same_variable : (b : Bool) (x : Lit) → (complemented_if b x).var ≡ x.var
 same_variable true x = refl
 same_variable false x = refl
 
@@ -45,7 +45,7 @@ module _ (block : List Lit) (apart : AreApart block) where
   places_apart : (p q : PatternLit) → p.place < length block → q.place < length block → q.place ≢ p.place → (picked block q).var ≢ (picked block p).var
   places_apart p q inside within n e =
       let same : (get_or block q.place no_literal).var ≡ (get_or block p.place no_literal).var =
-      sym (same_variable q.flipped (get_or block q.place no_literal)) ∙ e ∙ same_variable p.flipped (get_or block p.place no_literal) in
+      sym (same_variable q.complemented (get_or block q.place no_literal)) ∙ e ∙ same_variable p.complemented (get_or block p.place no_literal) in
       elim (cases_lt p.place q.place) as (λ c. ⊥) [
         | inl l ↦ apart p.place q.place no_literal l within same
         | inr g ↦ apart q.place p.place no_literal (omega (arith, g, n)) inside (sym same)

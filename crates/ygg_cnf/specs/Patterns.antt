@@ -6,9 +6,9 @@ use Rattle.ygg_cnf.specs.declared.pattern.Pattern.{Pattern}
 use Rattle.ygg_cnf.specs.declared.pattern.PatternLit.{PatternLit}
 
 -- the literal, or its complement
-abbrev pub flipped_if : Bool → Lit → Lit
-flipped_if true x = complement x
-flipped_if false x = x
+abbrev pub complemented_if : Bool → Lit → Lit
+complemented_if true x = complement x
+complemented_if false x = x
 
 -- what stands where a block has no literal
 abbrev pub no_literal : Lit
@@ -16,7 +16,7 @@ no_literal = record { var = 0; negated = false }
 
 -- the literal of a block that a pattern names
 abbrev pub picked : List Lit → PatternLit → Lit
-picked block p = flipped_if p.flipped (get_or block p.place no_literal)
+picked block p = complemented_if p.complemented (get_or block p.place no_literal)
 
 -- the third literal, where there is one
 abbrev pub third : List Lit → Option PatternLit → List Lit

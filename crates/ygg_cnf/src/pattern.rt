@@ -11,27 +11,27 @@ pub struct PatternLit {
     /// The place of the literal in the block, counted from 0.
     pub place: u8,
     /// Whether it is complemented.
-    pub flipped: bool,
+    pub complemented: bool,
 }
 
 impl PatternLit {
     /// The literal at this place of a block.
     pub fn plain(place: u8) -> PatternLit
-        ensures { result ≡ record { place = place; flipped = false } }
+        ensures { result ≡ record { place = place; complemented = false } }
     {
         PatternLit {
             place,
-            flipped: false,
+            complemented: false,
         }
     }
 
     /// The complement of the literal at this place of a block.
-    pub fn flipped(place: u8) -> PatternLit
-        ensures { result ≡ record { place = place; flipped = true } }
+    pub fn complemented(place: u8) -> PatternLit
+        ensures { result ≡ record { place = place; complemented = true } }
     {
         PatternLit {
             place,
-            flipped: true,
+            complemented: true,
         }
     }
 
@@ -42,14 +42,21 @@ impl PatternLit {
         ensures { result ≡ picked block.now self }
     {
         let lit = block[self.place as usize];
-        if self.flipped { lit.complement() } else { lit }
+        if self.complemented {
+            lit.complement()
+        } else {
+            lit
+        }
     }
 }
 
 /// How a clause of two or three literals is made of those of a block, which stand at different places.
 #[derive(Clone, Copy, Drop)]
 pub struct Pattern {
+    /// The first literal.
     pub one: PatternLit,
+    /// The second one.
     pub two: PatternLit,
+    /// The third one, of a clause of three.
     pub three: Option<PatternLit>,
 }
