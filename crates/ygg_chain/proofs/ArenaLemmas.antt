@@ -68,7 +68,8 @@ stored_stay lits more stored all =
     (stored_among_more (length lits) (length (lits ++ more)) (omega (arith, length-append lits more))) stored all
 
 -- the literals that came last are those of a clause
-last_clause : (lits clause : List Lit) (from end : ℕ) → from ≡ length lits → end ≡ length (lits ++ clause) → clause_of (lits ++ clause) (Whole from end) ≡ clause
+last_clause : (lits clause : List Lit) (from end : ℕ) → from ≡ length lits → end ≡ length (lits ++ clause) →
+    clause_of (lits ++ clause) (Whole from end) ≡ clause
 last_clause lits clause from end begins ends =
     ap (λ n. take (end - from) (drop n (lits ++ clause))) begins
     ∙ ap (take (end - from)) (drop-append_seam lits clause)
@@ -198,7 +199,8 @@ made_at_places variables block p is =
     ap (λ x. x ∷ literal_at variables (picked block p.two) ∷ clause_at variables (third block p.three)) (picked_at variables block p.one is.one)
     ∙ ap (λ x. picked (clause_at variables block) p.one ∷ x ∷ clause_at variables (third block p.three)) (picked_at variables block p.two is.two)
     ∙ ap (λ xs. picked (clause_at variables block) p.one ∷ picked (clause_at variables block) p.two ∷ xs) (go p.three is.third) where
-      go : (q : Option PatternLit) → IsThird (length block) p.one.place p.two.place q → clause_at variables (third block q) ≡ third (clause_at variables block) q
+      go : (q : Option PatternLit) → IsThird (length block) p.one.place p.two.place q →
+          clause_at variables (third block q) ≡ third (clause_at variables block) q
       go None h = refl
       go (Some q) h = ap (λ x. x ∷ []) (picked_at variables block q h.0)
 

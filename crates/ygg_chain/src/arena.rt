@@ -41,7 +41,8 @@ impl ArenaClause<'_> {
     }
 }
 
-/// Clauses whose literals, of 4 bytes each, stand behind one another in one list. Clauses that patterns make of a block share its literals. Contracts see the clauses.
+/// Clauses whose literals, of 4 bytes each, stand behind one another in one list. Clauses that patterns make of a block share its literals. Contracts see
+/// the clauses.
 #[derive(Drop)]
 pub struct ClauseArena {
     lits: Vec<PackedLit>,

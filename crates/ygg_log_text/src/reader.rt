@@ -75,8 +75,8 @@ impl StepReader {
         self.chain.as_slice()
     }
 
-    /// Reads the first bytes of a piece, as far as they go on with the line's literals, where it reads these, or with the numbers of clauses. Gives how many they
-    /// are, which is none elsewhere in the line. Its only error is out of memory, after which the reader is of no use.
+    /// Reads the first bytes of a piece, as far as they go on with the line's literals, where it reads these, or with the numbers of clauses. Gives how
+    /// many they are, which is none elsewhere in the line. Its only error is out of memory, after which the reader is of no use.
     pub fn run_on(&mut self, piece: &[u8]) -> Result<usize, NoMemory>
         ensures { IfOk result (IsRun piece.now self.old self.new) }
     {

@@ -32,8 +32,8 @@ pub fn are_plain(bank: &Bank, one: Id, two: Id) -> Result<bool, NoMemory>
     Ok(false)
 }
 
-/// Puts the words of a pick and the operand of a complement after the terms that are still to be looked at, and says whether the term itself is neither a sum nor
-/// a product. Its only error is out of memory.
+/// Puts the words of a pick and the operand of a complement after the terms that are still to be looked at, and says whether the term itself is
+/// neither a sum nor a product. Its only error is out of memory.
 fn enter(bank: &Bank, todo: &mut Vec<Id>, term: Id) -> Result<bool, NoMemory>
     requires bank { IsBank bank.now }
     requires term { Stands bank.now term }
