@@ -1,7 +1,6 @@
 -- Which terms stand among the nodes, and their widths.
-use Rattle.std.proofs.Common.{◌≡◌, ◌==◌, ◌<◌, ◌≤◌, ◌+◌, ◌*◌, ◌%◌, ◌^◌, ℕ, zero, suc, Bool, true, false, if◌then◌else◌, Option}
+use Rattle.std.proofs.Common.{◌≡◌, ◌==◌, ◌<◌, ◌≤◌, ◌+◌, ◌*◌, ◌%◌, ◌^◌, ℕ, Bool, true, false, if◌then◌else◌, Option}
 use Rattle.std.proofs.Common.{Some, None, List, [], ◌∷◌, ◌++◌, slice_get, get_or, length, length-append, refl, sym, ap, ◌∙◌, subst, arith}
-use Rattle.std.specs.Prelude.{nat_lt}
 use Rattle.std.proofs.lemmas.List.Elements.{All-head, All-tail, All-append, All-push, All-nil, All-weaker, All-get_or}
 use Rattle.ygg_value.specs.Number.{Number}
 use Rattle.ygg_value.specs.Words.{CanApply, result_width}
@@ -14,9 +13,10 @@ use Rattle.ygg_shape_words.specs.ygg_bank.declared.node.Id.{Id}
 use Rattle.ygg_shape_words.specs.ygg_bank.declared.node.Node.{Node}
 use Rattle.ygg_shape_words.specs.ygg_bank.declared.node.Node.TheVariants.{Const, Bin, Not, Pick}
 use Rattle.ygg_shape_words.proofs.Children.{bin_alike, not_wide, pick_children}
-use Rattle.ygg_shape_sums.specs.Parts.{Sum, PartsFit, PartsAlike, part, merged, with_part}
+use Rattle.ygg_shape_sums.proofs.Terms.{one, two, sides, merged_all, gathered_all}
+use Rattle.ygg_shape_sums.specs.Parts.{Sum, PartsFit, PartsAlike, part, merged}
 use Rattle.ygg_shape_sums.specs.Readings.{ReadingFits, FactsFit, read, read_bin, read_pick, decided, fact}
-use Rattle.ygg_shape_sums.specs.Gathers.{parts_of, counted, with_all, gathered, below, test_in, first_id, first_test, is_rich, split_of}
+use Rattle.ygg_shape_sums.specs.Gathers.{parts_of, gathered, below, test_in, first_id, first_test, is_rich, split_of}
 use Rattle.ygg_shape_sums.specs.declared.parts.Summand.{Summand}
 use Rattle.ygg_shape_sums.specs.declared.reading.Fact.{Fact}
 use Rattle.ygg_shape_sums.specs.declared.reading.Decomposition.{Decomposition}
@@ -60,14 +60,11 @@ module _ (nodes : List Node) (w : ℕ) where
   abbrev Fit : Summand → Type 0
   Fit p = HasWidth nodes p.term w
 
-  pub one_fits : (p : Summand) → HasWidth nodes p.term w → PartsFit nodes w (p ∷ [])
-  one_fits p h = All-push Fit [] p (All-nil Fit) h
+  one_fits : (p : Summand) → HasWidth nodes p.term w → PartsFit nodes w (p ∷ [])
+  one_fits = one (λ a. HasWidth nodes a w)
 
   pub two_fit : (p q : Summand) → HasWidth nodes p.term w → HasWidth nodes q.term w → PartsFit nodes w (p ∷ q ∷ [])
-  two_fit p q h i = All-push Fit (p ∷ []) q (one_fits p h) i
-
-  front : (p : Summand) (ps : List Summand) → HasWidth nodes p.term w → PartsFit nodes w ps → PartsFit nodes w (p ∷ ps)
-  front p ps h i = All-append Fit (p ∷ []) ps (one_fits p h) i
+  two_fit = two (λ a. HasWidth nodes a w)
 
   pub parts_of_fit : (p : Summand) (r : Decomposition) → ReadingFits nodes w r → PartsFit nodes w (parts_of p r)
   parts_of_fit p (reading.Times m x n) h = one_fits (part ((p.times * m) % 2 ^ 64) x) h
@@ -81,52 +78,18 @@ module _ (nodes : List Node) (w : ℕ) where
       All-append Fit ps (parts_of p r) (All-tail Fit p ps h)
       (parts_of_fit p r (reading_fits nodes facts p.term w (slice_get nodes p.term.0) o refl (All-head Fit p ps h)))
 
-  below_case : (p : Summand) (x y : Id) (c : Bool) → HasWidth nodes x w → HasWidth nodes y w →
-      PartsFit nodes w (if c then [] else part p.times x ∷ part p.times y ∷ [])
-  below_case p x y true h i = All-nil Fit
-  below_case p x y false h i = two_fit (part p.times x) (part p.times y) h i
-
   pub below_fit : (p : Summand) (n : Option Node) → InOrder [] nodes → slice_get nodes p.term.0 ≡ n → HasWidth nodes p.term w → PartsFit nodes w (below p n)
-  below_fit p (Some (Pick t x y)) o e h = let c = pick_children nodes p.term t x y w o e h in below_case p x y (p.times == 0) c.first c.second
+  below_fit p (Some (Pick t x y)) o e h = let c = pick_children nodes p.term t x y w o e h in sides (λ a. HasWidth nodes a w) p x y (p.times == 0) c.first c.second
   below_fit p n o e h = All-nil Fit
 
-  pub looked_fit : (p : Summand) (ps : List Summand) → InOrder [] nodes → PartsFit nodes w (p ∷ ps) →
-      PartsFit nodes w (ps ++ below p (slice_get nodes p.term.0))
-  looked_fit p ps o h =
-      let b = below p (slice_get nodes p.term.0) in
-      All-append Fit ps b (All-tail Fit p ps h) (below_fit p (slice_get nodes p.term.0) o refl (All-head Fit p ps h))
-
-  merged_case : (p q : Summand) (qs rest : List Summand) (c d : Bool) → HasWidth nodes p.term w → HasWidth nodes q.term w → PartsFit nodes w qs →
-      PartsFit nodes w rest →
-      PartsFit nodes w (if c then part ((q.times + p.times) % 2 ^ 64) q.term ∷ qs else if d then p ∷ q ∷ qs else q ∷ rest)
-  merged_case p q qs rest true d k h i j = front (part ((q.times + p.times) % 2 ^ 64) q.term) qs h i
-  merged_case p q qs rest false true k h i j = front p (q ∷ qs) k (front q qs h i)
-  merged_case p q qs rest false false k h i j = front q rest h j
-
   pub merged_fit : (p : Summand) (ps : List Summand) → HasWidth nodes p.term w → PartsFit nodes w ps → PartsFit nodes w (merged p ps)
-  merged_fit p [] h i = one_fits p h
-  merged_fit p (q ∷ qs) h i =
-      let t = All-tail Fit q qs i in merged_case p q qs (merged p qs) (q.term.0 == p.term.0) (nat_lt p.term.0 q.term.0) h
-      (All-head Fit q qs i) t (merged_fit p qs h t)
-
-  counted_fit : (p : Summand) (r : Decomposition) (s : Sum) → HasWidth nodes p.term w → PartsFit nodes w s.parts → PartsFit nodes w (counted p r s).parts
-  counted_fit p reading.Whole s h i = merged_fit p s.parts h i
-  counted_fit p (reading.Number n) s h i = i
-  counted_fit p (reading.Times m x n) s h i = i
-  counted_fit p (reading.Both x m y) s h i = i
-
-  with_all_fit : (ps : List Summand) (s : Sum) → PartsFit nodes w ps → PartsFit nodes w s.parts → PartsFit nodes w (with_all ps s).parts
-  with_all_fit [] s h i = i
-  with_all_fit (p ∷ ps) s h i = with_all_fit ps (with_part p s) (All-tail Fit p ps h) (merged_fit p s.parts (All-head Fit p ps h) i)
+  merged_fit = merged_all (λ a. HasWidth nodes a w)
 
   pub gathered_fit : (fuel : ℕ) (facts : List Fact) (ps : List Summand) (s : Sum) → InOrder [] nodes → PartsFit nodes w ps → PartsFit nodes w s.parts →
       PartsFit nodes w (gathered fuel nodes facts ps s).parts
-  unfolding gathered
-  gathered_fit zero facts ps s o h i = with_all_fit ps s h i
-  gathered_fit (suc fuel) facts [] s o h i = i
-  gathered_fit (suc fuel) facts (p ∷ ps) s o h i =
-      let r = read nodes facts (slice_get nodes p.term.0) in
-      gathered_fit fuel facts (ps ++ parts_of p r) (counted p r s) o (listed_fit facts p ps o h) (counted_fit p r s (All-head Fit p ps h) i)
+  gathered_fit fuel facts ps s o =
+      gathered_all (λ a. HasWidth nodes a w) nodes facts
+      (λ p h. let n = slice_get nodes p.term.0 in parts_of_fit p (read nodes facts n) (reading_fits nodes facts p.term w n o refl h)) fuel ps s
 
   -- what is said of a test that is found: it is a single digit
   abbrev pub DigitIn : Option Id → Type 0

@@ -1,5 +1,6 @@
 pub use Rattle.ygg_shape_words.proofs.of_ygg_bank
 pub mod Modulo
+pub mod Terms
 pub mod Fit
 pub mod Worth
 pub mod Factors

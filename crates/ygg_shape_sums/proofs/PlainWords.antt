@@ -1,8 +1,7 @@
 -- What holds of words in which there are neither sums nor products: they are compared by `same`.
-use Rattle.std.proofs.Common.{◌≡◌, ◌==◌, ◌+◌, ◌*◌, ◌%◌, ◌^◌, ℕ, zero, suc, Bool, true, false, if◌then◌else◌, Option, Some, None}
+use Rattle.std.proofs.Common.{◌≡◌, ◌==◌, ◌*◌, ◌%◌, ◌^◌, ℕ, zero, suc, Bool, true, false, if◌then◌else◌, Option, Some, None}
 use Rattle.std.proofs.Common.{List, [], ◌∷◌, ◌++◌, All, slice_get, refl, sym, ap, ◌∙◌, subst}
-use Rattle.std.specs.Prelude.{nat_lt}
-use Rattle.std.proofs.lemmas.List.Elements.{All-append, All-cons, All-head, All-nil, All-pop, All-push, All-tail}
+use Rattle.std.proofs.lemmas.List.Elements.{All-append, All-head, All-nil, All-pop, All-push, All-tail}
 use Rattle.ygg_value.specs.declared.operation.Op.{Op}
 use Rattle.ygg_value.specs.declared.operation.Op.TheVariants.{Add, Sub, Mul}
 use Rattle.ygg_shape_words.specs.ygg_rules.declared.rule.RuleKind.{RuleKind}
@@ -15,10 +14,11 @@ use Rattle.ygg_shape_words.specs.ygg_bank.declared.node.Node.TheVariants.{Input,
 use Rattle.ygg_shape_words.proofs.Children.{not_stands, pick_children}
 use Rattle.ygg_shape_words.specs.Same.{same_words}
 use Rattle.ygg_value.specs.Words.{word}
+use Rattle.ygg_shape_sums.proofs.Terms.{one, two, sides, gathered_all}
 use Rattle.ygg_shape_sums.specs.Cancels.{inside, is_product, is_product_at, has_product, cancels, cancels_within}
 use Rattle.ygg_shape_sums.specs.Equates.{difference, are_sums, subtracted, compared_words, equated_words}
-use Rattle.ygg_shape_sums.specs.Gathers.{parts_of, counted, with_all, gathered, gathered_sum, below, below_at, found_within, is_sum, is_sum_at, has_sum}
-use Rattle.ygg_shape_sums.specs.Parts.{Sum, part, merged, with_part, empty}
+use Rattle.ygg_shape_sums.specs.Gathers.{parts_of, gathered_sum, below, below_at, found_within, is_sum, is_sum_at, has_sum}
+use Rattle.ygg_shape_sums.specs.Parts.{part, empty}
 use Rattle.ygg_shape_sums.specs.Plain.{is_whole, is_whole_bin, IsPlain, ArePlain, Leads}
 use Rattle.ygg_shape_sums.specs.Plain.IsPlain.{whole, complement, either}
 use Rattle.ygg_shape_sums.specs.Readings.{read}
@@ -26,8 +26,6 @@ use Rattle.ygg_shape_sums.specs.Reduces.{any_product, loses_products, is_there, 
 use Rattle.ygg_shape_sums.specs.declared.cancelling.TheConstants.{CANCEL_LIMIT}
 use Rattle.ygg_shape_sums.specs.declared.gathering.TheConstants.{READ_LIMIT}
 use Rattle.ygg_shape_sums.specs.declared.parts.Summand.{Summand}
-use Rattle.ygg_shape_sums.specs.declared.reading.Decomposition.{Decomposition}
-use Rattle.ygg_shape_sums.specs.declared.reading.Decomposition.TheVariants as reading
 use Rattle.ygg_shape_sums.specs.declared.reading.TheConstants.{LESS_ONE}
 
 -- nothing is found among parts of which none is it, and below which there are only such
@@ -68,23 +66,13 @@ module _ (nodes : List Node) where
   whole_known p (Some (Pick t x y)) e = absurd (cc)
   whole_known p None e = absurd (cc)
 
-  one : (p : Summand) → Own p → All Own (p ∷ [])
-  one p h = All-cons Own p [] h (All-nil Own)
-
-  two : (p q : Summand) → Own p → Own q → All Own (p ∷ q ∷ [])
-  two p q h i = All-cons Own p (q ∷ []) h (one q i)
-
-  sides : (p : Summand) (x y : Id) (c : Bool) → IsPlain nodes x → IsPlain nodes y → All Own (if c then [] else part p.times x ∷ part p.times y ∷ [])
-  sides p x y true h i = All-nil Own
-  sides p x y false h i = two (part p.times x) (part p.times y) h i
-
   known_at : (p : Summand) (a : Id) → IsPlain nodes a → Known p (slice_get nodes a.0)
   known_at p a (whole b e) = whole_known p (slice_get nodes b.0) e
   known_at p a (complement b x e h) =
       subst (Known p) (sym e)
-      (record { no_sum = refl; no_product = refl; parts = one (part ((p.times * LESS_ONE) % 2 ^ 64) x) h; words = All-nil Own })
+      (record { no_sum = refl; no_product = refl; parts = one (IsPlain nodes) (part ((p.times * LESS_ONE) % 2 ^ 64) x) h; words = All-nil Own })
   known_at p a (either b t x y e h i) =
-      subst (Known p) (sym e) (record { no_sum = refl; no_product = refl; parts = All-nil Own; words = sides p x y (p.times == 0) h i })
+      subst (Known p) (sym e) (record { no_sum = refl; no_product = refl; parts = All-nil Own; words = sides (IsPlain nodes) p x y (p.times == 0) h i })
 
   known : (p : Summand) → Own p → Known p (slice_get nodes p.term.0)
   known p h = known_at p p.term h
@@ -99,38 +87,6 @@ module _ (nodes : List Node) where
       (λ p k. let n = known p k in All-append Own (parts_of p (read nodes [] (slice_get nodes p.term.0))) (below p (slice_get nodes p.term.0)) n.parts n.words)
       fuel ps h
 
-  merged_case : (p q : Summand) (qs rest : List Summand) (c d : Bool) → Own p → Own q → All Own qs → All Own rest →
-      All Own (if c then part ((q.times + p.times) % 2 ^ 64) q.term ∷ qs else if d then p ∷ q ∷ qs else q ∷ rest)
-  merged_case p q qs rest true d k h i j = All-cons Own (part ((q.times + p.times) % 2 ^ 64) q.term) qs h i
-  merged_case p q qs rest false true k h i j = All-cons Own p (q ∷ qs) k (All-cons Own q qs h i)
-  merged_case p q qs rest false false k h i j = All-cons Own q rest h j
-
-  merged_own : (p : Summand) (ps : List Summand) → Own p → All Own ps → All Own (merged p ps)
-  merged_own p [] h i = one p h
-  merged_own p (q ∷ qs) h i =
-      let t = All-tail Own q qs i in
-      merged_case p q qs (merged p qs) (q.term.0 == p.term.0) (nat_lt p.term.0 q.term.0) h (All-head Own q qs i) t (merged_own p qs h t)
-
-  counted_own : (p : Summand) (r : Decomposition) (s : Sum) → Own p → All Own s.parts → All Own (counted p r s).parts
-  counted_own p reading.Whole s h i = merged_own p s.parts h i
-  counted_own p (reading.Number n) s h i = i
-  counted_own p (reading.Times m x n) s h i = i
-  counted_own p (reading.Both x m y) s h i = i
-
-  with_all_own : (ps : List Summand) (s : Sum) → All Own ps → All Own s.parts → All Own (with_all ps s).parts
-  with_all_own [] s h i = i
-  with_all_own (p ∷ ps) s h i = with_all_own ps (with_part p s) (All-tail Own p ps h) (merged_own p s.parts (All-head Own p ps h) i)
-
-  gathered_own : (fuel : ℕ) (ps : List Summand) (s : Sum) → All Own ps → All Own s.parts → All Own (gathered fuel nodes [] ps s).parts
-  unfolding gathered
-  gathered_own zero ps s h i = with_all_own ps s h i
-  gathered_own (suc fuel) [] s h i = i
-  gathered_own (suc fuel) (p ∷ ps) s h i =
-      let r = read nodes [] (slice_get nodes p.term.0) in
-      let own = All-head Own p ps h in
-      let n = known p own in
-      gathered_own fuel (ps ++ parts_of p r) (counted p r s) (All-append Own ps (parts_of p r) (All-tail Own p ps h) n.parts) (counted_own p r s own i)
-
   none_a_product : (ps : List Summand) → All Own ps → any_product nodes ps ≡ false
   none_a_product [] h = refl
   none_a_product (p ∷ ps) h =
@@ -142,7 +98,7 @@ module _ (nodes : List Node) where
     both = part 1 a ∷ part LESS_ONE b ∷ []
 
     plain_parts : All Own both
-    plain_parts = two (part 1 a) (part LESS_ONE b) h.0 h.1
+    plain_parts = two (IsPlain nodes) (part 1 a) (part LESS_ONE b) h.0 h.1
 
     if_same : (c : Bool) (y : Bool) → y ≡ false → (if c then false else y) ≡ false
     if_same true y e = refl
@@ -160,7 +116,8 @@ module _ (nodes : List Node) where
         let g = gathered_sum nodes [] (difference a b) in
         let lost : loses_products nodes w g ≡ false =
         ap (λ c. if c then is_there (multiplied nodes w [] g) else false)
-        (none_a_product g.parts (gathered_own READ_LIMIT both (empty 0) plain_parts (All-nil Own))) in
+        (none_a_product g.parts
+        (gathered_all (IsPlain nodes) nodes [] (λ p k. let n = known p k in n.parts) READ_LIMIT both (empty 0) plain_parts (All-nil Own))) in
         if_same (a.0 == b.0) (if has_sum READ_LIMIT nodes both then true else loses_products nodes w g)
         (ap (λ c. if c then true else loses_products nodes w g) (no_sums READ_LIMIT both plain_parts) ∙ lost)
 
