@@ -107,7 +107,7 @@ impl LogReading {
         }
     }
 
-    /// Reads the first bytes of a piece, as far as they go on with the line of a step, and gives how many they are. Its only error is out of memory.
+    /// Reads the first bytes of a piece that go on with a step's literals or numbers, and gives how many they are. Its only error is out of memory.
     pub fn run_on(&mut self, piece: &[u8]) -> Result<usize, NoMemory>
         ensures within { IfOk result (λ count. count ≤ length piece.now) }
         ensures turns { (before : List ℕ) → IsLogAt before self.old →

@@ -98,7 +98,7 @@ impl Reading {
         }
     }
 
-    /// Reads the first bytes of a piece, as far as they go on with the line of a step, and gives how many they are. Its only error is out of memory.
+    /// Reads the first bytes of a piece that go on with a step's literals or numbers, and gives how many they are. Its only error is out of memory.
     fn run(&mut self, piece: &[u8]) -> Result<usize, NoMemory>
         ensures within { IfOk result (λ count. count ≤ length piece.now) }
         ensures fed { (goals : List Goal) (text : List ℕ) → IsFed goals text self.old →

@@ -1,5 +1,5 @@
 //! How literals, clauses and steps of logs are written and read. Each call that writes adds to the end of a text, so that a long log need not stand in
-//! one text; a step is read byte by byte, and the numbers of its chain in one loop.
+//! one text; a step is read byte by byte, its literals and the numbers of its chain in a loop each.
 //!
 //! ```text
 //! c 1 -2 0 3 4 0
