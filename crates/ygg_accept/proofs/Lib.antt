@@ -1,3 +1,3 @@
-pub use Rattle.ygg_read_unique.proofs as of_ygg_read_unique
+pub use Rattle.ygg_print.proofs as of_ygg_print
 mod Counted
 mod Only

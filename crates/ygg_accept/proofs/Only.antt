@@ -10,7 +10,7 @@ use Rattle.ygg_base.specs.Failure.{IfRefused}
 use Rattle.ygg_base.specs.Lexing.{tokens_of}
 use Rattle.ygg_syntax.specs.declared.tree.File.{File}
 use Rattle.ygg_syntax.specs.Files.{Derives}
-use Rattle.ygg_read_unique.specs.Laws.{OneFileDerives}
+use Rattle.ygg_print.specs.UniqueLaws.{OneFileDerives}
 use Rattle.ygg_type.specs.Typed.{IsFirstTypeError}
 use Rattle.ygg_accept.specs.Accepting.{IsMistyped, RefusesLayers}
 

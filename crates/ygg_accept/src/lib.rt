@@ -8,8 +8,8 @@ ghost use Rattle.ygg_accept.specs.Accepting.{IsAccepted, RefusesLayers};
 use std::alloc::Global;
 use ygg_base::{Refuse, Tokens};
 use ygg_lex::tokens;
+use ygg_print::one_file_derives;
 use ygg_read::read;
-use ygg_read_unique::one_file_derives;
 use ygg_type::{Typed, check};
 
 /// A layer file without a type error, and the tokens that it was read from.

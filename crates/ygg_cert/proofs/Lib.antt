@@ -8,3 +8,4 @@ pub mod Printed
 pub mod Once
 pub mod Told
 pub mod Stepped
+pub mod Giving

@@ -7,3 +7,4 @@ pub mod Matching
 pub mod Standing
 pub mod Laws
 pub mod Telling
+pub mod Opened

@@ -10,12 +10,15 @@
 //! ```
 //!
 //! is a certificate for one goal with four clauses. Clause 5 is derived from the clauses 1 and 2, and the empty clause from 5, 3 and 4.
+//!
+//! A certificate is read piece by piece, also from the file that a library has open, so that none need stand in memory.
 #![tactic(auto)]
 
 mod expected;
 mod item;
 mod law;
 mod log;
+mod opened;
 mod phase;
 mod printing;
 mod reader;
@@ -25,6 +28,7 @@ mod verdict;
 
 pub use item::{CertItems, Goal, HeldGoal, Item, Wanted};
 pub use law::{checked_is_refuted, judged_once, printed_is_checked, steps_may};
+pub use opened::{LibraryFailed, check_open};
 pub use printing::{print_cert, put_closing, put_first, put_last, put_opening};
 pub use reader::{CertReader, check_cert, check_goals};
 pub use reading::Reading;

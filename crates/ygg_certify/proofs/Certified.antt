@@ -11,16 +11,16 @@ use Rattle.ygg_oblige_decided.specs.ygg_meaning.Claims.{Claim, claims_of}
 use Rattle.ygg_oblige_decided.specs.ygg_bank.Nodes.{HasWidth, IsBank}
 use Rattle.ygg_oblige_decided.specs.ygg_bank.declared.node.Id.{Id}
 use Rattle.ygg_oblige_decided.specs.ygg_bank.declared.node.Node.{Node}
-use Rattle.ygg_cert_open.specs.ygg_cnf.Logs.{Refutes}
+use Rattle.ygg_cert.specs.ygg_cnf.Logs.{Refutes}
 use Rattle.ygg_oblige_decided.specs.ygg_gates.Groups.{translated}
-use Rattle.ygg_oblige_decided.specs.ygg_oblige_pieces.Terms.{file_made}
-use Rattle.ygg_oblige_decided.specs.ygg_oblige_pieces.Meaning.{AreTermsOf, claim_name}
+use Rattle.ygg_oblige_decided.specs.ygg_oblige_laws.Terms.{file_made}
+use Rattle.ygg_oblige_decided.specs.ygg_oblige_laws.Meaning.{AreTermsOf, claim_name}
 use Rattle.ygg_oblige.specs.declared.obligation.Obligation.{Obligation}
 use Rattle.ygg_oblige.specs.Obligations.{names_in, terms_in}
-use Rattle.ygg_cert_open.specs.ygg_log_text.Steps.{IsStep}
-use Rattle.ygg_certify.proofs.of_ygg_pieces.Flowing.{puts_done}
-use Rattle.ygg_cert_open.specs.ygg_cert.Laws.{IsItemOf, AreItemsOf, PrintedIsChecked}
-use Rattle.ygg_cert_open.specs.ygg_cert.Judging.{IsWhole}
+use Rattle.ygg_cert.specs.ygg_log_text.Steps.{IsStep}
+use Rattle.ygg_certify.proofs.of_ygg_log_text.Flowing.{puts_done}
+use Rattle.ygg_cert.specs.Laws.{IsItemOf, AreItemsOf, PrintedIsChecked}
+use Rattle.ygg_cert.specs.Judging.{IsWhole}
 use Rattle.ygg_certify.specs.declared.finding.Outcome.{Outcome}
 use Rattle.ygg_certify.specs.declared.finding.Outcome.TheVariants as outcome
 use Rattle.ygg_certify.specs.declared.finding.Finding.{Finding}

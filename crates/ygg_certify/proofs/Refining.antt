@@ -11,28 +11,28 @@ use Rattle.ygg_oblige_decided.specs.ygg_rules.declared.rule.RuleKind.{RuleKind}
 use Rattle.ygg_oblige_decided.specs.ygg_meaning.Stack.{FileRefines}
 use Rattle.ygg_oblige_decided.specs.ygg_meaning.Claims.{Claim, ClaimHolds, claims_of}
 use Rattle.ygg_oblige_decided.specs.ygg_meaning.HistoryLaws.{RefinesByList}
-use Rattle.ygg_oblige_decided.specs.ygg_type_progress.Laws.{TypedHistories}
+use Rattle.ygg_oblige_decided.specs.ygg_type_sound.ProgressLaws.{TypedHistories}
 use Rattle.ygg_oblige_decided.specs.ygg_bank.Nodes.{IsBank}
 use Rattle.ygg_oblige_decided.specs.ygg_bank.declared.node.Id.{Id}
 use Rattle.ygg_oblige_decided.specs.ygg_bank.declared.node.Node.{Node}
-use Rattle.ygg_cert_open.specs.ygg_cnf.declared.lit.Lit.{Lit}
-use Rattle.ygg_cert_open.specs.ygg_cnf.declared.log.Step.{Step}
-use Rattle.ygg_cert_open.specs.ygg_cnf.Literals.{SatisfiesAll}
-use Rattle.ygg_cert_open.specs.ygg_cnf.Logs.{Refutes}
+use Rattle.ygg_cert.specs.ygg_cnf.declared.lit.Lit.{Lit}
+use Rattle.ygg_cert.specs.ygg_cnf.declared.log.Step.{Step}
+use Rattle.ygg_cert.specs.ygg_cnf.Literals.{SatisfiesAll}
+use Rattle.ygg_cert.specs.ygg_cnf.Logs.{Refutes}
 use Rattle.ygg_oblige_decided.specs.ygg_gates.Groups.{translated}
 use Rattle.ygg_oblige_decided.specs.ygg_gates.Laws.{SatisfiableExactly}
 use Rattle.ygg_oblige_decided.specs.ygg_decide.Deciding.{IsNeverZero}
-use Rattle.ygg_oblige_decided.specs.ygg_oblige_pieces.Terms.{file_made}
-use Rattle.ygg_oblige_decided.specs.ygg_oblige_pieces.Meaning.{IsTermOf, AreTermsOf, claim_name}
+use Rattle.ygg_oblige_decided.specs.ygg_oblige_laws.Terms.{file_made}
+use Rattle.ygg_oblige_decided.specs.ygg_oblige_laws.Meaning.{IsTermOf, AreTermsOf, claim_name}
 use Rattle.ygg_oblige_decided.specs.Laws.{NeverZeroHolds}
 use Rattle.ygg_oblige.specs.declared.obligation.Obligation.{Obligation}
 use Rattle.ygg_oblige.specs.Obligations.{names_in, terms_in}
-use Rattle.ygg_cert_open.specs.ygg_cert.declared.item.Goal.{Goal}
-use Rattle.ygg_cert_open.specs.ygg_cert.declared.verdict.CertEnd.{CertEnd}
-use Rattle.ygg_cert_open.specs.ygg_cert.declared.verdict.CertEnd.TheVariants.{Checked, Bad, Refused, Memory}
-use Rattle.ygg_cert_open.specs.ygg_cert.Judging.{IsWhole, Judges}
-use Rattle.ygg_cert_open.specs.ygg_cert.Laws.{IsRefuted, CheckedIsRefuted}
-use Rattle.ygg_cert_open.specs.Opened.{JudgesOpen}
+use Rattle.ygg_cert.specs.declared.item.Goal.{Goal}
+use Rattle.ygg_cert.specs.declared.verdict.CertEnd.{CertEnd}
+use Rattle.ygg_cert.specs.declared.verdict.CertEnd.TheVariants.{Checked, Bad, Refused, Memory}
+use Rattle.ygg_cert.specs.Judging.{IsWhole, Judges}
+use Rattle.ygg_cert.specs.Laws.{IsRefuted, CheckedIsRefuted}
+use Rattle.ygg_cert.specs.Opened.{JudgesOpen}
 use Rattle.ygg_certify.specs.FileGoals.{goal_by, goals_by, goals_in, goals_of, IsRight, IfChecked, ChecksAll}
 use Rattle.ygg_certify.specs.Checking.{Checks, ChecksOpen}
 

@@ -9,13 +9,13 @@ use Rattle.ygg_oblige_decided.specs.ygg_bank.Nodes.{IsBank}
 use Rattle.ygg_oblige_decided.specs.ygg_bank.declared.node.Id.{Id}
 use Rattle.ygg_oblige_decided.specs.ygg_bank.declared.node.Node.{Node}
 use Rattle.ygg_report.specs.Putting.{IsCutOf, Puts}
-use Rattle.ygg_certify.specs.ygg_pieces.Pieces.{FinishesWith}
-use Rattle.ygg_oblige_decided.specs.ygg_oblige_pieces.Terms.{file_made}
-use Rattle.ygg_oblige_decided.specs.ygg_oblige_pieces.Meaning.{AreTermsOf, claim_name}
-use Rattle.ygg_cert_open.specs.ygg_cert.declared.item.Item.{Item}
-use Rattle.ygg_cert_open.specs.ygg_cert.Texts.{certificate_of}
-use Rattle.ygg_cert_open.specs.ygg_cert.Judging.{IsWhole}
-use Rattle.ygg_cert_open.specs.ygg_cert.Laws.{AreItemsOf}
+use Rattle.ygg_certify.specs.ygg_log_text.Pieces.{FinishesWith}
+use Rattle.ygg_oblige_decided.specs.ygg_oblige_laws.Terms.{file_made}
+use Rattle.ygg_oblige_decided.specs.ygg_oblige_laws.Meaning.{AreTermsOf, claim_name}
+use Rattle.ygg_cert.specs.declared.item.Item.{Item}
+use Rattle.ygg_cert.specs.Texts.{certificate_of}
+use Rattle.ygg_cert.specs.Judging.{IsWhole}
+use Rattle.ygg_cert.specs.Laws.{AreItemsOf}
 use Rattle.ygg_certify.specs.declared.finding.Finding.{Finding}
 use Rattle.ygg_certify.specs.Findings.{IsFinding, IsHeld, text_of}
 use Rattle.ygg_certify.specs.declared.certifying.Certifying.{Certifying}

@@ -9,7 +9,7 @@ use Rattle.ygg_syntax.specs.declared.tree.File.{File}
 use Rattle.ygg_oblige_decided.specs.ygg_rules.declared.rule.RuleKind.{RuleKind}
 use Rattle.ygg_oblige_decided.specs.ygg_meaning.Claims.{claims_of}
 use Rattle.ygg_report.specs.Lines.{ended, refused_line}
-use Rattle.ygg_cert_open.specs.ygg_cert.Judging.{IsWhole, IsBadAt, IsWrongAt, IsCutAt}
+use Rattle.ygg_cert.specs.Judging.{IsWhole, IsBadAt, IsWrongAt, IsCutAt}
 use Rattle.ygg_certify.specs.FileGoals.{goals_of, IsRight}
 
 -- the line of a certificate for so many obligations

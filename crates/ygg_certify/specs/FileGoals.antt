@@ -10,12 +10,12 @@ use Rattle.ygg_oblige_decided.specs.ygg_meaning.Claims.{claims_of}
 use Rattle.ygg_oblige_decided.specs.ygg_bank.declared.node.Id.{Id}
 use Rattle.ygg_oblige_decided.specs.ygg_bank.declared.node.Node.{Node}
 use Rattle.ygg_oblige_decided.specs.ygg_gates.Groups.{translated}
-use Rattle.ygg_oblige_decided.specs.ygg_oblige_pieces.Terms.{file_made}
-use Rattle.ygg_oblige_decided.specs.ygg_oblige_pieces.Meaning.{claim_name}
+use Rattle.ygg_oblige_decided.specs.ygg_oblige_laws.Terms.{file_made}
+use Rattle.ygg_oblige_decided.specs.ygg_oblige_laws.Meaning.{claim_name}
 use Rattle.ygg_oblige.specs.declared.obligation.Obligation.{Obligation}
-use Rattle.ygg_cert_open.specs.ygg_cert.declared.item.Goal.{Goal}
-use Rattle.ygg_cert_open.specs.ygg_cert.declared.verdict.CertEnd.{CertEnd}
-use Rattle.ygg_cert_open.specs.ygg_cert.declared.verdict.CertEnd.TheVariants.{Checked, Bad, Refused, Memory}
+use Rattle.ygg_cert.specs.declared.item.Goal.{Goal}
+use Rattle.ygg_cert.specs.declared.verdict.CertEnd.{CertEnd}
+use Rattle.ygg_cert.specs.declared.verdict.CertEnd.TheVariants.{Checked, Bad, Refused, Memory}
 
 -- the clauses of a term, under a name
 abbrev pub goal_by : List Node → List ℕ → Id → Goal

@@ -10,7 +10,7 @@ use crate::finding::{Findings, all_hold, find};
 use crate::putting::put_findings;
 use std::alloc::Global;
 use ygg_base::{Sink, Status};
-use ygg_cert_open::{checked_is_refuted, derivations_are_sound, printed_is_checked};
+use ygg_cert::{checked_is_refuted, derivations_are_sound, printed_is_checked};
 use ygg_list::NoMemory;
 use ygg_oblige::{Obligation, obligations};
 use ygg_oblige_decided::law::never_zero_holds;

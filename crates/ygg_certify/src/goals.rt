@@ -5,7 +5,7 @@ ghost use Rattle.ygg_oblige_decided.specs.ygg_bank.Nodes.{HasWidth};
 ghost use Rattle.ygg_certify.specs.FileGoals.{goal_in};
 
 use std::alloc::Global;
-use ygg_cert_open::{Checker, Goals, HeldGoal};
+use ygg_cert::{Checker, Goals, HeldGoal};
 use ygg_list::NoMemory;
 use ygg_oblige::Obligation;
 use ygg_oblige_decided::{Bank, put_clauses};

@@ -14,6 +14,6 @@ pub use checking::check_file;
 pub use finding::{Finding, Findings, Outcome, all_hold, find};
 pub use putting::put_findings;
 pub use saying::{Unchecked, check};
-pub use ygg_cert_open::{derivations_are_sound, judged_once};
+pub use ygg_cert::{derivations_are_sound, judged_once};
 pub use ygg_oblige_decided::{Env, clauses_mean_terms};
 pub use ygg_report::{Verdict, line, put_all, undecided};

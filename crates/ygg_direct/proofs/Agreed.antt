@@ -1,11 +1,11 @@
 -- A block runs and falls just so as the direct run does.
 use Rattle.std.proofs.Common.{◌≡◌, Bool, List, [], ◌∷◌, ◌++◌, take, length, Some, refl, sym, ap, ◌∙◌, subst}
 use Rattle.ygg_syntax.specs.declared.tree.Block.{Block}
-use Rattle.ygg_type_progress.specs.ygg_type_sound.Environments.{Env}
-use Rattle.ygg_type_progress.specs.ygg_type_sound.Progress.{Question, Answer}
-use Rattle.ygg_type_progress.specs.ygg_type_sound.Machine.{Picks, State, on, memory_in, Machine}
-use Rattle.ygg_type_progress.specs.ygg_type_sound.Layer.{ClosedLayer, dialogue_of, BlockFalls}
-use Rattle.ygg_type_progress.specs.ygg_type_sound.Obligations.{Halt}
+use Rattle.ygg_type_sound.specs.Environments.{Env}
+use Rattle.ygg_type_sound.specs.Progress.{Question, Answer}
+use Rattle.ygg_type_sound.specs.Machine.{Picks, State, on, memory_in, Machine}
+use Rattle.ygg_type_sound.specs.Layer.{ClosedLayer, dialogue_of, BlockFalls}
+use Rattle.ygg_type_sound.specs.Obligations.{Halt}
 use Rattle.ygg_direct.specs.Acts.{Notes, Took, Did, Fell, Acts, under, run_from, runs, falls_in, stopped_in, AreCalls, IsActed}
 use Rattle.ygg_direct.specs.Laws.{RunsOn, FallsOn, RunsDirectly, FallsDirectly}
 use Rattle.ygg_direct.proofs.Running.{run_asks, run_chains, run_ends, whole_unique, fall_unique}

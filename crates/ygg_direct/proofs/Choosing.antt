@@ -38,13 +38,13 @@ use Rattle.ygg_syntax.specs.declared.tree.Block.{Block, roll-Block, map-Block, f
 use Rattle.ygg_syntax.specs.declared.tree.Stmt.TheOpen.{Stmt-F, Block-F}
 use Rattle.ygg_syntax.specs.declared.tree.Stmt.TheFolds.{fold-Stmt, ind-Stmt, fold-roll-Stmt, fold-roll-Block}
 use Rattle.ygg_syntax.specs.Choices.{source_steps, node_steps, block_steps, stmt_steps, choices_of}
-use Rattle.ygg_type_progress.specs.ygg_type_sound.Environments.{Name, Env}
-use Rattle.ygg_type_progress.specs.ygg_type_sound.Progress.{Question, Choice, Call, in_turn, run_of, answer_of}
-use Rattle.ygg_type_progress.specs.ygg_type_sound.Machine.{Picks}
-use Rattle.ygg_type_progress.specs.ygg_type_sound.Layer.{ClosedLayer, eval_of}
-use Rattle.ygg_type_progress.specs.ygg_type_sound.Spec.{Outcome, chosen, outcome_at, block_outcome}
-use Rattle.ygg_type_progress.specs.ygg_type_sound_proofs_Tests.{left as first_of, right as second_of}
-use Rattle.ygg_type_progress.specs.Kinds.{may_call, source_keeps, all_keep, node_keeps, node_all_keep, stmt_keeps, keeps}
+use Rattle.ygg_type_sound.specs.Environments.{Name, Env}
+use Rattle.ygg_type_sound.specs.Progress.{Question, Choice, Call, in_turn, run_of, answer_of}
+use Rattle.ygg_type_sound.specs.Machine.{Picks}
+use Rattle.ygg_type_sound.specs.Layer.{ClosedLayer, eval_of}
+use Rattle.ygg_type_sound.specs.Spec.{Outcome, chosen, outcome_at, block_outcome}
+use Rattle.ygg_type_sound.proofs.Tests.{left as first_of, right as second_of}
+use Rattle.ygg_type_sound.specs.Kinds.{may_call, source_keeps, all_keep, node_keeps, node_all_keep, stmt_keeps, keeps}
 use Rattle.ygg_direct.specs.Direct.{
   Handled,
   Event,

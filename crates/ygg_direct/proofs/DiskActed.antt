@@ -3,12 +3,12 @@ use Rattle.std.proofs.Common.{◌≡◌, Bool, [], ◌∷◌, Some, refl, sym, a
 use Rattle.ygg_syntax.specs.declared.tree.DiskText.{DiskText}
 use Rattle.ygg_base.specs.declared.geometry.DiskKind.{DiskKind}
 use Rattle.ygg_base.specs.declared.geometry.DiskKind.TheVariants.{Sync, Async}
-use Rattle.ygg_type_progress.specs.ygg_disk.Disk as disk
-use Rattle.ygg_type_progress.specs.ygg_type_sound.Environments.{Env}
-use Rattle.ygg_type_progress.specs.ygg_type_sound.Progress.{Answer}
-use Rattle.ygg_type_progress.specs.ygg_type_sound.Machine.{Picks, State, based}
-use Rattle.ygg_type_progress.specs.ygg_disk.Kinds.{model_of}
-use Rattle.ygg_type_progress.specs.ygg_type_sound.DiskMachine.{answer_to, tables_in, DiskMachine}
+use Rattle.ygg_type_sound.specs.ygg_disk.Disk as disk
+use Rattle.ygg_type_sound.specs.Environments.{Env}
+use Rattle.ygg_type_sound.specs.Progress.{Answer}
+use Rattle.ygg_type_sound.specs.Machine.{Picks, State, based}
+use Rattle.ygg_type_sound.specs.ygg_disk.Kinds.{model_of}
+use Rattle.ygg_type_sound.specs.DiskMachine.{answer_to, tables_in, DiskMachine}
 use Rattle.ygg_direct.specs.Acts.{next_of, later, Taken, Did, Fell, noted_picks, IsActed}
 use Rattle.ygg_direct.specs.DiskActs.{Replied, Dropped, kind_calls, kind_falls, state_in, disk_does, disk_drops, disk_acts}
 

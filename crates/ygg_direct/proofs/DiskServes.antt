@@ -5,20 +5,20 @@ use Rattle.ygg_syntax.specs.declared.grammar.BlockKind.TheVariants.{Impl}
 use Rattle.ygg_syntax.specs.declared.tree.DiskText.{DiskText}
 use Rattle.ygg_base.specs.declared.geometry.DiskKind.{DiskKind}
 use Rattle.ygg_base.specs.declared.geometry.DiskKind.TheVariants.{Sync, Async}
-use Rattle.ygg_type_progress.specs.ygg_symbols.Names.{Named, look_up}
-use Rattle.ygg_type_progress.specs.ygg_type_sound.Signature.{Signature}
-use Rattle.ygg_type_progress.specs.ygg_type_sound.TypeErrors.{none}
-use Rattle.ygg_type_progress.specs.ygg_type_sound.Files.{disk_errors, disk_operations}
-use Rattle.ygg_type_progress.specs.ygg_disk.Disk as disk
-use Rattle.ygg_type_progress.specs.ygg_type_sound.Environments.{Name, Env}
-use Rattle.ygg_type_progress.specs.ygg_type_sound.Progress.{Question, Call, Answer}
-use Rattle.ygg_type_progress.specs.ygg_type_sound.Machine.{Picks, State, based}
-use Rattle.ygg_type_progress.specs.ygg_disk.Kinds.{model_of}
-use Rattle.ygg_type_progress.specs.ygg_type_sound.DiskMachine.{disk_call, tables_in, DiskMachine}
-use Rattle.ygg_type_progress.specs.ygg_type_sound.Fitting.{all_fit}
-use Rattle.ygg_type_progress.specs.Questions.{gives, answer_fits, question_fits}
-use Rattle.ygg_type_progress.specs.Machines.{IsSized, DiskAnswers}
-use Rattle.ygg_type_progress.proofs.Sizes.{disk_answers_all}
+use Rattle.ygg_type_sound.specs.ygg_type_rules.Names.{Named, look_up}
+use Rattle.ygg_type_sound.specs.Signature.{Signature}
+use Rattle.ygg_type_sound.specs.TypeErrors.{none}
+use Rattle.ygg_type_sound.specs.Files.{disk_errors, disk_operations}
+use Rattle.ygg_type_sound.specs.ygg_disk.Disk as disk
+use Rattle.ygg_type_sound.specs.Environments.{Name, Env}
+use Rattle.ygg_type_sound.specs.Progress.{Question, Call, Answer}
+use Rattle.ygg_type_sound.specs.Machine.{Picks, State, based}
+use Rattle.ygg_type_sound.specs.ygg_disk.Kinds.{model_of}
+use Rattle.ygg_type_sound.specs.DiskMachine.{disk_call, tables_in, DiskMachine}
+use Rattle.ygg_type_sound.specs.Fitting.{all_fit}
+use Rattle.ygg_type_sound.specs.Questions.{gives, answer_fits, question_fits}
+use Rattle.ygg_type_sound.specs.Machines.{IsSized, DiskAnswers}
+use Rattle.ygg_type_sound.proofs.Sizes.{disk_answers_all}
 use Rattle.ygg_direct.specs.Acts.{Taken, noted_picks, CallIs, FallIs, LossIs}
 use Rattle.ygg_direct.specs.DiskActs.{kind_calls, kind_falls, state_in, disk_does, disk_drops, disk_acts}
 use Rattle.ygg_direct.proofs.DiskActed.{state_is}

@@ -2,11 +2,11 @@
 use Rattle.std.proofs.Common.{◌≡◌, ◌↔◌, ◌+◌, true, [], Option, Some, None, refl, arith}
 use Rattle.ygg_syntax.specs.Choices.{choices_of}
 use Rattle.ygg_syntax.specs.declared.tree.Block.{Block}
-use Rattle.ygg_type_progress.specs.ygg_type_sound.Environments.{bind}
-use Rattle.ygg_type_progress.specs.ygg_type_sound.Spec.{fall_with}
-use Rattle.ygg_type_progress.specs.ygg_type_sound.Obligations.{Init, CallOf, CutOf, TickOf, CutTickOf, Idle, Again, NoPicksPass, crash_picks}
-use Rattle.ygg_type_progress.specs.ygg_type_sound.Violates.{passes}
-use Rattle.ygg_type_progress.specs.Kinds.{on_crash_keeps}
+use Rattle.ygg_type_sound.specs.Environments.{bind}
+use Rattle.ygg_type_sound.specs.Spec.{fall_with}
+use Rattle.ygg_type_sound.specs.Obligations.{Init, CallOf, CutOf, TickOf, CutTickOf, Idle, Again, NoPicksPass, crash_picks}
+use Rattle.ygg_type_sound.specs.Violates.{passes}
+use Rattle.ygg_type_sound.specs.Kinds.{on_crash_keeps}
 use Rattle.ygg_direct.specs.SpecPlaces.{as_outcome, fall_by_place, FailsByPlace}
 use Rattle.ygg_direct.proofs.Matching.{block_matches, fall_on_crash, fall_maybe, fails_alike}
 

@@ -26,11 +26,11 @@ use Rattle.std.proofs.Common.{
 }
 use Rattle.std.proofs.lemmas.List.{append-nil}
 use Rattle.ygg_syntax.specs.declared.tree.Block.{Block}
-use Rattle.ygg_type_progress.specs.ygg_type_sound.Environments.{Name, Env}
-use Rattle.ygg_type_progress.specs.ygg_type_sound.Progress.{Eval, Question, Choice, Call, Answer, Point, Goes, in_turn, run_of}
-use Rattle.ygg_type_progress.specs.ygg_type_sound.Machine.{Picks, State, memory_in}
-use Rattle.ygg_type_progress.specs.ygg_type_sound.Layer.{ClosedLayer, eval_of}
-use Rattle.ygg_type_progress.specs.ygg_type_sound.Obligations.{Halt}
+use Rattle.ygg_type_sound.specs.Environments.{Name, Env}
+use Rattle.ygg_type_sound.specs.Progress.{Eval, Question, Choice, Call, Answer, Point, Goes, in_turn, run_of}
+use Rattle.ygg_type_sound.specs.Machine.{Picks, State, memory_in}
+use Rattle.ygg_type_sound.specs.Layer.{ClosedLayer, eval_of}
+use Rattle.ygg_type_sound.specs.Obligations.{Halt}
 use Rattle.ygg_direct.specs.Direct.{Handled, Event, Reached, direct_run, room_of, question_space, told_by, AsksAll, Chained, seen}
 use Rattle.ygg_direct.specs.Acts.{Acts, Standing, serve, under, falls_in, stopped_in, cut_at}
 use Rattle.ygg_direct.specs.Places.{Drawn, Held, IsDraw, left_after, by_place, from_front, calling}

@@ -1,5 +1,5 @@
-pub use Rattle.ygg_type_progress.proofs.of_ygg_meaning
-pub use Rattle.ygg_type_progress.proofs as of_ygg_type_progress
+pub use Rattle.ygg_type_sound.proofs.of_ygg_meaning
+pub use Rattle.ygg_type_sound.proofs as of_ygg_type_sound
 pub mod Order
 pub mod Mirror
 pub mod Taking

@@ -2,10 +2,10 @@
 use Rattle.std.proofs.Common.{◌≡◌, ℕ, zero, suc, Bool, true, false, List, [], ◌∷◌, ◌++◌, length, Some, refl, sym, ap, ◌∙◌, subst, append_assoc}
 use Rattle.std.proofs.lemmas.List.{append-nil}
 use Rattle.ygg_value.specs.declared.row.Value.{Value}
-use Rattle.ygg_type_progress.specs.ygg_type_sound.Environments.{Name}
-use Rattle.ygg_type_progress.specs.ygg_type_sound.Progress.{Question, Choice, Call, Answer, Asks}
-use Rattle.ygg_type_progress.specs.ygg_type_sound.Machine.{Picks, State, Machine}
-use Rattle.ygg_type_progress.specs.ygg_type_sound.Runs.{Dialogue, WholeCall, Reaches, FallsAt, answers_of, notes_of}
+use Rattle.ygg_type_sound.specs.Environments.{Name}
+use Rattle.ygg_type_sound.specs.Progress.{Question, Choice, Call, Answer, Asks}
+use Rattle.ygg_type_sound.specs.Machine.{Picks, State, Machine}
+use Rattle.ygg_type_sound.specs.Runs.{Dialogue, WholeCall, Reaches, FallsAt, answers_of, notes_of}
 use Rattle.ygg_direct.specs.Direct.{Handled, Event, told_by, Chained}
 use Rattle.ygg_direct.specs.Acts.{Taken, Took, Notes, Fell, Acts, Standing, serve, stopped_in, lost_at, cut_at, CallIs, FallIs, LossIs}
 use Rattle.ygg_direct.proofs.Taking.{taken_append}

@@ -34,13 +34,13 @@ use Rattle.ygg_syntax.specs.declared.grammar.BlockKind.TheVariants.{Spec}
 use Rattle.ygg_syntax.specs.Choices.{choices_of}
 use Rattle.ygg_syntax.specs.declared.tree.Block.{Block}
 use Rattle.ygg_syntax.specs.declared.tree.Operation.{Operation}
-use Rattle.ygg_type_progress.specs.ygg_type_sound.Environments.{Env, bind}
-use Rattle.ygg_type_progress.specs.ygg_type_sound.Progress.{answer_of}
-use Rattle.ygg_type_progress.specs.ygg_type_sound.Machine.{Picks}
-use Rattle.ygg_type_progress.specs.ygg_type_sound.Layer.{ClosedLayer, eval_of}
-use Rattle.ygg_type_progress.specs.ygg_type_sound.Spec.{Outcome, chosen, block_outcome, then_block, crash_outcome, call_outcome, fall_with}
-use Rattle.ygg_type_progress.specs.ygg_type_sound.Obligations.{NoPicksPass}
-use Rattle.ygg_type_progress.specs.Kinds.{keeps}
+use Rattle.ygg_type_sound.specs.Environments.{Env, bind}
+use Rattle.ygg_type_sound.specs.Progress.{answer_of}
+use Rattle.ygg_type_sound.specs.Machine.{Picks}
+use Rattle.ygg_type_sound.specs.Layer.{ClosedLayer, eval_of}
+use Rattle.ygg_type_sound.specs.Spec.{Outcome, chosen, block_outcome, then_block, crash_outcome, call_outcome, fall_with}
+use Rattle.ygg_type_sound.specs.Obligations.{NoPicksPass}
+use Rattle.ygg_type_sound.specs.Kinds.{keeps}
 use Rattle.ygg_direct.specs.Direct.{Handled, Event, Reached, told_by, Chained, Within, question_space, room_of, direct_run}
 use Rattle.ygg_direct.specs.Acts.{next_of, later}
 use Rattle.ygg_direct.specs.Places.{Held, left_after, by_place, from_front, choosing, Result, outcome_by_place}

@@ -2,17 +2,17 @@
 use Rattle.std.proofs.Common.{◌≡◌, Bool, false, ◌&&◌, [], ◌++◌, length, Option, Some, None, sym, ap, ◌∙◌, subst}
 use Rattle.ygg_syntax.specs.declared.tree.Block.{Block}
 use Rattle.ygg_syntax.specs.declared.tree.DiskText.{DiskText}
-use Rattle.ygg_type_progress.specs.ygg_type_sound.Environments.{Env}
-use Rattle.ygg_type_progress.specs.ygg_type_sound.Progress.{Answer}
-use Rattle.ygg_type_progress.specs.ygg_type_sound.MeaningShapes.{zeros_of}
-use Rattle.ygg_type_progress.specs.ygg_type_sound.Machine.{Picks, State, on, based, Machine}
-use Rattle.ygg_type_progress.specs.ygg_type_sound.Layer.{ClosedLayer, BlockRuns}
-use Rattle.ygg_type_progress.specs.ygg_type_sound.Spec.{Outcome, Spec}
-use Rattle.ygg_type_progress.specs.ygg_type_sound.DiskMachine.{DiskMachine}
-use Rattle.ygg_type_progress.specs.ygg_type_sound.Related.{settled}
-use Rattle.ygg_type_progress.specs.ygg_type_sound.Obligations.{Obligation, Init, CallOf, CutOf, TickOf, CutTickOf, Idle, Again, Schedule, Halt, IsRead, StopsAt}
-use Rattle.ygg_type_progress.specs.ygg_type_sound.Refines.{OnDisk, OnSpec}
-use Rattle.ygg_type_progress.specs.ygg_type_sound.Violates.{
+use Rattle.ygg_type_sound.specs.Environments.{Env}
+use Rattle.ygg_type_sound.specs.Progress.{Answer}
+use Rattle.ygg_type_sound.specs.MeaningShapes.{zeros_of}
+use Rattle.ygg_type_sound.specs.Machine.{Picks, State, on, based, Machine}
+use Rattle.ygg_type_sound.specs.Layer.{ClosedLayer, BlockRuns}
+use Rattle.ygg_type_sound.specs.Spec.{Outcome, Spec}
+use Rattle.ygg_type_sound.specs.DiskMachine.{DiskMachine}
+use Rattle.ygg_type_sound.specs.Related.{settled}
+use Rattle.ygg_type_sound.specs.Obligations.{Obligation, Init, CallOf, CutOf, TickOf, CutTickOf, Idle, Again, Schedule, Halt, IsRead, StopsAt}
+use Rattle.ygg_type_sound.specs.Refines.{OnDisk, OnSpec}
+use Rattle.ygg_type_sound.specs.Violates.{
   End,
   same_state,
   related_after,

@@ -2,14 +2,14 @@
 use Rattle.std.proofs.Common.{◌≡◌, ℕ, zero, suc, Bool, true, false, List, [], ◌∷◌, ◌++◌, map, length, inl, inr, refl, sym, ap, ◌∙◌, subst}
 use Rattle.std.specs.List.{All}
 use Rattle.std.proofs.lemmas.List.Elements.{All-nil, All-cons, All-head, All-tail}
-use Rattle.ygg_type_progress.specs.ygg_type_sound.Environments.{Env}
-use Rattle.ygg_type_progress.specs.ygg_type_sound.Machine.{Picks, Machine}
-use Rattle.ygg_type_progress.specs.ygg_type_sound.Layer.{ClosedLayer}
-use Rattle.ygg_type_progress.specs.ygg_type_sound.Related.{all_true}
-use Rattle.ygg_type_progress.specs.ygg_type_sound.Obligations.{Obligation, Init, CallOf, CutOf, TickOf, CutTickOf, Idle, Again, Schedule}
-use Rattle.ygg_type_progress.specs.ygg_type_sound.Refines.{Below, machine_below}
-use Rattle.ygg_type_progress.specs.ygg_type_sound.Violates.{End, most, spec_after, passes, Reached, FallsSo, Meets, Violates}
-use Rattle.ygg_type_progress.specs.ygg_type_sound.Replayed.{Replayed, Shows, Hypothesis, Passes, Replays, pick_lists, IsFirstFalse, has_stop}
+use Rattle.ygg_type_sound.specs.Environments.{Env}
+use Rattle.ygg_type_sound.specs.Machine.{Picks, Machine}
+use Rattle.ygg_type_sound.specs.Layer.{ClosedLayer}
+use Rattle.ygg_type_sound.specs.Related.{all_true}
+use Rattle.ygg_type_sound.specs.Obligations.{Obligation, Init, CallOf, CutOf, TickOf, CutTickOf, Idle, Again, Schedule}
+use Rattle.ygg_type_sound.specs.Refines.{Below, machine_below}
+use Rattle.ygg_type_sound.specs.Violates.{End, most, spec_after, passes, Reached, FallsSo, Meets, Violates}
+use Rattle.ygg_type_sound.specs.Replayed.{Replayed, Shows, Hypothesis, Passes, Replays, pick_lists, IsFirstFalse, has_stop}
 use Rattle.ygg_direct.specs.Replaying.{OneReplay}
 use Rattle.ygg_direct.proofs.OneEnd.{one_conclusion}
 

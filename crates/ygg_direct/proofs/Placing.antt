@@ -26,9 +26,9 @@ use Rattle.std.proofs.Common.{
 }
 use Rattle.std.proofs.lemmas.List.{append-nil}
 use Rattle.ygg_syntax.specs.declared.tree.Block.{Block}
-use Rattle.ygg_type_progress.specs.ygg_type_sound.Environments.{Name, Env}
-use Rattle.ygg_type_progress.specs.ygg_type_sound.Progress.{Eval, Question, Answer, Point, Waits, Goes, in_turn, run_of}
-use Rattle.ygg_type_progress.specs.ygg_type_sound.Machine.{Picks}
+use Rattle.ygg_type_sound.specs.Environments.{Name, Env}
+use Rattle.ygg_type_sound.specs.Progress.{Eval, Question, Answer, Point, Waits, Goes, in_turn, run_of}
+use Rattle.ygg_type_sound.specs.Machine.{Picks}
 use Rattle.ygg_direct.specs.Direct.{Handled, Event, Reached, told_by, AsksAll, Chained, Within, Alike, seen_run, question_space, direct_run, room_of}
 use Rattle.ygg_direct.specs.Acts.{later, Taken}
 use Rattle.ygg_direct.specs.Places.{Drawn, Draw, Held, left_after, by_place, from_front, IsDraw, Ended, ends_by_place, SamePlaces}

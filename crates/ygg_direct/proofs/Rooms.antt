@@ -4,8 +4,8 @@ use Rattle.ygg_syntax.specs.declared.tree.Stmt.{Stmt, roll-Stmt, map-Stmt}
 use Rattle.ygg_syntax.specs.declared.tree.Block.{Block, roll-Block, map-Block, fold-Block}
 use Rattle.ygg_syntax.specs.declared.tree.Stmt.TheOpen.{Stmt-F, Block-F}
 use Rattle.ygg_syntax.specs.declared.tree.Stmt.TheFolds.{fold-Stmt, ind-Stmt, fold-roll-Stmt, fold-roll-Block}
-use Rattle.ygg_type_progress.specs.ygg_type_sound.Environments.{Name}
-use Rattle.ygg_type_progress.specs.ygg_type_sound.Progress.{Eval, Question}
+use Rattle.ygg_type_sound.specs.Environments.{Name}
+use Rattle.ygg_type_sound.specs.Progress.{Eval, Question}
 use Rattle.ygg_direct.specs.Direct.{Handled, Direct, total, stmt_room, block_room, room_of, stmt_direct, block_direct, direct_of}
 
 module _ (space : Name → ℕ) where

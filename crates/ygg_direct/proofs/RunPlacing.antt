@@ -31,13 +31,13 @@ use Rattle.ygg_syntax.specs.declared.tree.Operation.{Operation}
 use Rattle.ygg_syntax.specs.declared.tree.DiskText.{DiskText}
 use Rattle.ygg_base.specs.declared.geometry.DiskKind.{DiskKind}
 use Rattle.ygg_base.specs.declared.geometry.DiskKind.TheVariants.{Sync, Async}
-use Rattle.ygg_type_progress.specs.ygg_disk.Disk as disk
-use Rattle.ygg_type_progress.specs.ygg_type_sound.Environments.{Name, Env, bind}
-use Rattle.ygg_type_progress.specs.ygg_type_sound.Progress.{Question, Choice, Call, Answer, answer_of, Eval, Point, Waits, Goes, in_turn, run_of}
-use Rattle.ygg_type_progress.specs.ygg_type_sound.Machine.{Picks, State, on, memory_in, based}
-use Rattle.ygg_type_progress.specs.ygg_type_sound.Layer.{ClosedLayer, eval_of, operation_of}
-use Rattle.ygg_type_progress.specs.ygg_disk.Kinds.{model_of}
-use Rattle.ygg_type_progress.specs.ygg_type_sound.DiskMachine.{disk_call, answer_to, tables_in}
+use Rattle.ygg_type_sound.specs.ygg_disk.Disk as disk
+use Rattle.ygg_type_sound.specs.Environments.{Name, Env, bind}
+use Rattle.ygg_type_sound.specs.Progress.{Question, Choice, Call, Answer, answer_of, Eval, Point, Waits, Goes, in_turn, run_of}
+use Rattle.ygg_type_sound.specs.Machine.{Picks, State, on, memory_in, based}
+use Rattle.ygg_type_sound.specs.Layer.{ClosedLayer, eval_of, operation_of}
+use Rattle.ygg_type_sound.specs.ygg_disk.Kinds.{model_of}
+use Rattle.ygg_type_sound.specs.DiskMachine.{disk_call, answer_to, tables_in}
 use Rattle.ygg_direct.specs.Direct.{Handled, Event, Reached, direct_run, room_of, question_space, told_by, AsksAll, Chained, Within, Alike}
 use Rattle.ygg_direct.specs.Acts.{Taken, Did, Acts, Standing, serve, under, next_of, later}
 use Rattle.ygg_direct.specs.Places.{Drawn, Held, IsDraw, from_front, calling, choosing}

@@ -3,11 +3,11 @@ use Rattle.std.proofs.Common.{◌≡◌, Bool, true, false, List, [], ◌∷◌,
 use Rattle.std.proofs.lemmas.List.{append-nil}
 use Rattle.ygg_syntax.specs.declared.tree.Expr.{Expr}
 use Rattle.ygg_syntax.specs.declared.tree.Block.{Block}
-use Rattle.ygg_type_progress.specs.ygg_type_sound.Environments.{Env}
-use Rattle.ygg_type_progress.specs.ygg_type_sound.Progress.{Eval, Call, Answer, Point, Ends, in_turn, run_of, ended, answer_of}
-use Rattle.ygg_type_progress.specs.ygg_type_sound.Machine.{Picks, State, on, Machine}
-use Rattle.ygg_type_progress.specs.ygg_type_sound.Runs.{Dialogue, WholeRun, FallenRun, FallsAt, answers_of, notes_of}
-use Rattle.ygg_type_progress.specs.ygg_type_sound.Layer.{ClosedLayer, eval_of, dialogue_of}
+use Rattle.ygg_type_sound.specs.Environments.{Env}
+use Rattle.ygg_type_sound.specs.Progress.{Eval, Call, Answer, Point, Ends, in_turn, run_of, ended, answer_of}
+use Rattle.ygg_type_sound.specs.Machine.{Picks, State, on, Machine}
+use Rattle.ygg_type_sound.specs.Runs.{Dialogue, WholeRun, FallenRun, FallsAt, answers_of, notes_of}
+use Rattle.ygg_type_sound.specs.Layer.{ClosedLayer, eval_of, dialogue_of}
 use Rattle.ygg_direct.specs.Direct.{Event, Reached, told_by, Chained, AsksAll, direct_of, total}
 use Rattle.ygg_direct.specs.Acts.{Taken, Took, Notes, Did, Fell, Acts, Standing, serve, run_from, did_by, lost_at, cut_at, stopped_in, AreCalls, IsActed}
 use Rattle.ygg_direct.proofs.Taking.{taken_split}

@@ -27,11 +27,11 @@ use Rattle.ygg_value.specs.Values.{digit}
 use Rattle.ygg_value.specs.declared.row.Value.{Value}
 use Rattle.ygg_syntax.specs.declared.tree.Block.{Block}
 use Rattle.ygg_syntax.specs.declared.tree.Operation.{Operation}
-use Rattle.ygg_type_progress.specs.ygg_type_sound.Environments.{Env, bind}
-use Rattle.ygg_type_progress.specs.ygg_type_sound.Progress.{Question, Answer, Point, Waits, Goes, in_turn, run_of, answer_of}
-use Rattle.ygg_type_progress.specs.ygg_type_sound.Machine.{Picks, State}
-use Rattle.ygg_type_progress.specs.ygg_type_sound.Layer.{ClosedLayer, eval_of}
-use Rattle.ygg_type_progress.specs.ygg_type_sound.Spec.{Outcome, chosen, outcome_at, block_outcome, then_block, call_outcome, fall_with, Spec}
+use Rattle.ygg_type_sound.specs.Environments.{Env, bind}
+use Rattle.ygg_type_sound.specs.Progress.{Question, Answer, Point, Waits, Goes, in_turn, run_of, answer_of}
+use Rattle.ygg_type_sound.specs.Machine.{Picks, State}
+use Rattle.ygg_type_sound.specs.Layer.{ClosedLayer, eval_of}
+use Rattle.ygg_type_sound.specs.Spec.{Outcome, chosen, outcome_at, block_outcome, then_block, call_outcome, fall_with, Spec}
 use Rattle.ygg_direct.specs.Direct.{Handled, Event, told_by, AsksAll, Chained}
 use Rattle.ygg_direct.specs.Acts.{later, Taken, Did, noted_picks, IsActed}
 use Rattle.ygg_direct.specs.Places.{Held, from_front, choosing}

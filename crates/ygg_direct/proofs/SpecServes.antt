@@ -26,20 +26,20 @@ use Rattle.ygg_value.specs.declared.row.Value.{Value}
 use Rattle.ygg_syntax.specs.declared.grammar.BlockKind.TheVariants.{Impl}
 use Rattle.ygg_syntax.specs.declared.tree.Block.{Block}
 use Rattle.ygg_syntax.specs.declared.tree.Operation.{Operation}
-use Rattle.ygg_type_progress.specs.ygg_symbols.Names.{Named, look_up}
-use Rattle.ygg_type_progress.specs.ygg_type_sound.Signature.{Signature}
-use Rattle.ygg_type_progress.specs.ygg_type_sound.Definitions.{parameter_shapes}
-use Rattle.ygg_type_progress.specs.ygg_type_sound.Layers.{operation_signature}
-use Rattle.ygg_type_progress.specs.ygg_type_sound.Environments.{Name, Env, bind}
-use Rattle.ygg_type_progress.specs.ygg_type_sound.MeaningShapes.{values_fit}
-use Rattle.ygg_type_progress.specs.ygg_type_sound.Progress.{Question, Call, Answer}
-use Rattle.ygg_type_progress.specs.ygg_type_sound.Machine.{Picks, State, based}
-use Rattle.ygg_type_progress.specs.ygg_type_sound.Layer.{ClosedLayer, eval_of, operation_of}
-use Rattle.ygg_type_progress.specs.ygg_type_sound.Spec.{chosen, outcome_at, block_outcome, then_block, call_outcome, fall_with, Spec}
-use Rattle.ygg_type_progress.specs.ygg_type_sound.Fitting.{all_fit}
-use Rattle.ygg_type_progress.specs.Questions.{answer_fits, question_fits}
-use Rattle.ygg_type_progress.specs.Machines.{IsStateOf, SpecAnswers}
-use Rattle.ygg_type_progress.proofs.Operations.{seen_operation}
+use Rattle.ygg_type_sound.specs.ygg_type_rules.Names.{Named, look_up}
+use Rattle.ygg_type_sound.specs.Signature.{Signature}
+use Rattle.ygg_type_sound.specs.Definitions.{parameter_shapes}
+use Rattle.ygg_type_sound.specs.Layers.{operation_signature}
+use Rattle.ygg_type_sound.specs.Environments.{Name, Env, bind}
+use Rattle.ygg_type_sound.specs.MeaningShapes.{values_fit}
+use Rattle.ygg_type_sound.specs.Progress.{Question, Call, Answer}
+use Rattle.ygg_type_sound.specs.Machine.{Picks, State, based}
+use Rattle.ygg_type_sound.specs.Layer.{ClosedLayer, eval_of, operation_of}
+use Rattle.ygg_type_sound.specs.Spec.{chosen, outcome_at, block_outcome, then_block, call_outcome, fall_with, Spec}
+use Rattle.ygg_type_sound.specs.Fitting.{all_fit}
+use Rattle.ygg_type_sound.specs.Questions.{answer_fits, question_fits}
+use Rattle.ygg_type_sound.specs.Machines.{IsStateOf, SpecAnswers}
+use Rattle.ygg_type_sound.proofs.Operations.{seen_operation}
 use Rattle.ygg_direct.specs.Direct.{Handled, Event, told_by, Chained}
 use Rattle.ygg_direct.specs.Acts.{next_of, later, Taken, noted_picks, CallIs, FallIs, LossIs}
 use Rattle.ygg_direct.specs.Places.{Held, from_front, choosing}

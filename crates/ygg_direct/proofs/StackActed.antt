@@ -3,15 +3,15 @@ use Rattle.std.proofs.Common.{◌≡◌, Bool, false, List, [], ◌∷◌, ◌++
 use Rattle.std.proofs.lemmas.List.{append-nil}
 use Rattle.ygg_value.specs.declared.row.Value.{Value}
 use Rattle.ygg_syntax.specs.declared.tree.DiskText.{DiskText}
-use Rattle.ygg_type_progress.specs.ygg_disk.Disk as disk
-use Rattle.ygg_type_progress.specs.ygg_type_sound.Environments.{Name, Env, bind}
-use Rattle.ygg_type_progress.specs.ygg_type_sound.Progress.{Answer}
-use Rattle.ygg_type_progress.specs.ygg_type_sound.Machine.{Picks, State, based, Machine}
-use Rattle.ygg_type_progress.specs.ygg_type_sound.Layer.{ClosedLayer, Layered, operation_of}
-use Rattle.ygg_type_progress.specs.ygg_disk.Kinds.{model_of}
-use Rattle.ygg_type_progress.specs.ygg_type_sound.DiskMachine.{answer_to, tables_in}
-use Rattle.ygg_type_progress.specs.Stack.{Layers, Stacked}
-use Rattle.ygg_type_progress.specs.Noted.{Note, picks_in, NotedDisk}
+use Rattle.ygg_type_sound.specs.ygg_disk.Disk as disk
+use Rattle.ygg_type_sound.specs.Environments.{Name, Env, bind}
+use Rattle.ygg_type_sound.specs.Progress.{Answer}
+use Rattle.ygg_type_sound.specs.Machine.{Picks, State, based, Machine}
+use Rattle.ygg_type_sound.specs.Layer.{ClosedLayer, Layered, operation_of}
+use Rattle.ygg_type_sound.specs.ygg_disk.Kinds.{model_of}
+use Rattle.ygg_type_sound.specs.DiskMachine.{answer_to, tables_in}
+use Rattle.ygg_type_sound.specs.Stack.{Layers, Stacked}
+use Rattle.ygg_type_sound.specs.Noted.{Note, picks_in, NotedDisk}
 use Rattle.ygg_direct.specs.Acts.{Taken, Did, Acts, Notes, AreCalls}
 use Rattle.ygg_direct.specs.DiskActs.{Replied, kind_calls}
 use Rattle.ygg_direct.specs.StackActs.{noted_does, noted_acts, layer_does, stack_acts, StacksDirectly}

@@ -29,16 +29,16 @@ use Rattle.ygg_value.specs.declared.row.Value.{Value}
 use Rattle.ygg_syntax.specs.declared.tree.Block.{Block}
 use Rattle.ygg_syntax.specs.declared.tree.DiskText.{DiskText}
 use Rattle.ygg_syntax.specs.declared.tree.Operation.{Operation}
-use Rattle.ygg_type_progress.specs.ygg_disk.Disk as disk
-use Rattle.ygg_type_progress.specs.ygg_type_sound.Environments.{Name, Env, bind}
-use Rattle.ygg_type_progress.specs.ygg_type_sound.Progress.{Question, Choice, Call, Answer, Ends}
-use Rattle.ygg_type_progress.specs.ygg_type_sound.Machine.{Picks, State, based, on, memory_in, Machine}
-use Rattle.ygg_type_progress.specs.ygg_type_sound.Runs.{FallenRun, FallsAt, answers_of, notes_of}
-use Rattle.ygg_type_progress.specs.ygg_type_sound.Layer.{ClosedLayer, Layered, operation_of, dialogue_of, BlockFalls}
-use Rattle.ygg_type_progress.specs.ygg_disk.Kinds.{model_of}
-use Rattle.ygg_type_progress.specs.ygg_type_sound.DiskMachine.{disk_call, answer_to, tables_in}
-use Rattle.ygg_type_progress.specs.ygg_type_sound.Obligations.{Halt}
-use Rattle.ygg_type_progress.specs.Stack.{Layers, Stacked}
+use Rattle.ygg_type_sound.specs.ygg_disk.Disk as disk
+use Rattle.ygg_type_sound.specs.Environments.{Name, Env, bind}
+use Rattle.ygg_type_sound.specs.Progress.{Question, Choice, Call, Answer, Ends}
+use Rattle.ygg_type_sound.specs.Machine.{Picks, State, based, on, memory_in, Machine}
+use Rattle.ygg_type_sound.specs.Runs.{FallenRun, FallsAt, answers_of, notes_of}
+use Rattle.ygg_type_sound.specs.Layer.{ClosedLayer, Layered, operation_of, dialogue_of, BlockFalls}
+use Rattle.ygg_type_sound.specs.ygg_disk.Kinds.{model_of}
+use Rattle.ygg_type_sound.specs.DiskMachine.{disk_call, answer_to, tables_in}
+use Rattle.ygg_type_sound.specs.Obligations.{Halt}
+use Rattle.ygg_type_sound.specs.Stack.{Layers, Stacked}
 use Rattle.ygg_direct.specs.Direct.{Handled, Event, Reached, told_by, Chained}
 use Rattle.ygg_direct.specs.Acts.{Taken, Took, under, Did, Fell, Acts, Notes, AreCalls, Standing, serve, run_from, runs}
 use Rattle.ygg_direct.specs.Places.{left_after}

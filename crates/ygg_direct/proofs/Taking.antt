@@ -1,7 +1,7 @@
 -- Taking picks from a list.
 use Rattle.std.proofs.Common.{◌≡◌, ℕ, zero, suc, Bool, false, [], ◌∷◌, ◌++◌, length, take, replicate, refl, sym, ap, ◌∙◌, subst, ◌+◌, arith}
-use Rattle.ygg_type_progress.specs.ygg_type_sound.Machine.{Picks}
-use Rattle.ygg_type_progress.specs.ygg_type_sound.Obligations.{IsRead}
+use Rattle.ygg_type_sound.specs.Machine.{Picks}
+use Rattle.ygg_type_sound.specs.Obligations.{IsRead}
 use Rattle.ygg_direct.specs.Acts.{next_of, later, Taken}
 
 -- two lists are taken one after the other

@@ -2,17 +2,17 @@
 use Rattle.std.proofs.Common.{◌≡◌, Bool, true, false, ◌++◌, length, ap, subst}
 use Rattle.ygg_syntax.specs.declared.grammar.BlockKind.TheVariants.{Impl}
 use Rattle.ygg_syntax.specs.declared.tree.Block.{Block}
-use Rattle.ygg_type_progress.specs.ygg_symbols.Names.{Named}
-use Rattle.ygg_type_progress.specs.ygg_type_sound.Signature.{Signature}
-use Rattle.ygg_type_progress.specs.ygg_type_sound.Files.{disk_operations}
-use Rattle.ygg_type_progress.specs.ygg_type_sound.Environments.{Env}
-use Rattle.ygg_type_progress.specs.ygg_type_sound.Layer.{ClosedLayer, dialogue_of}
-use Rattle.ygg_type_progress.specs.ygg_type_sound.DiskMachine.{DiskMachine}
-use Rattle.ygg_type_progress.specs.ygg_type_sound.Spec.{Spec}
-use Rattle.ygg_type_progress.specs.Questions.{answer_fits, question_fits}
-use Rattle.ygg_type_progress.specs.Machines.{IsSized, IsStateOf}
-use Rattle.ygg_type_progress.proofs.Files.{have}
-use Rattle.ygg_type_progress.proofs.Sounds.{block_sound}
+use Rattle.ygg_type_sound.specs.ygg_type_rules.Names.{Named}
+use Rattle.ygg_type_sound.specs.Signature.{Signature}
+use Rattle.ygg_type_sound.specs.Files.{disk_operations}
+use Rattle.ygg_type_sound.specs.Environments.{Env}
+use Rattle.ygg_type_sound.specs.Layer.{ClosedLayer, dialogue_of}
+use Rattle.ygg_type_sound.specs.DiskMachine.{DiskMachine}
+use Rattle.ygg_type_sound.specs.Spec.{Spec}
+use Rattle.ygg_type_sound.specs.Questions.{answer_fits, question_fits}
+use Rattle.ygg_type_sound.specs.Machines.{IsSized, IsStateOf}
+use Rattle.ygg_type_sound.proofs.Files.{have}
+use Rattle.ygg_type_sound.proofs.ProgressSounds.{block_sound}
 use Rattle.ygg_direct.specs.Acts.{noted_picks, Did}
 use Rattle.ygg_direct.specs.DiskActs.{disk_acts}
 use Rattle.ygg_direct.specs.SpecActs.{spec_acts}

@@ -1,10 +1,10 @@
 -- Whatever run a machine makes of a block is the direct run on the picks that it took.
 use Rattle.std.proofs.Common.{◌≡◌, ℕ, Bool, List, [], ◌∷◌, ◌++◌, length, refl, sym, ap, ◌∙◌, subst, append_assoc}
 use Rattle.std.proofs.lemmas.List.{append-nil}
-use Rattle.ygg_type_progress.specs.ygg_type_sound.Environments.{Env}
-use Rattle.ygg_type_progress.specs.ygg_type_sound.Progress.{Question, Call, Answer, Progress, Asks, Ends}
-use Rattle.ygg_type_progress.specs.ygg_type_sound.Machine.{Picks, State, Machine}
-use Rattle.ygg_type_progress.specs.ygg_type_sound.Runs.{Dialogue, WholeCall, Reaches, answers_of, notes_of}
+use Rattle.ygg_type_sound.specs.Environments.{Env}
+use Rattle.ygg_type_sound.specs.Progress.{Question, Call, Answer, Progress, Asks, Ends}
+use Rattle.ygg_type_sound.specs.Machine.{Picks, State, Machine}
+use Rattle.ygg_type_sound.specs.Runs.{Dialogue, WholeCall, Reaches, answers_of, notes_of}
 use Rattle.ygg_direct.specs.Direct.{Handled, Event, told_by, Chained}
 use Rattle.ygg_direct.specs.Acts.{Taken, Took, Notes, Did, Acts, Standing, serve, stopped_in, AreCalls}
 use Rattle.ygg_direct.proofs.Taking.{taken_split}

@@ -2,11 +2,11 @@
 use Rattle.std.specs.Prelude.{◌≡◌, ℕ, zero, suc, Bool, if◌then◌else◌, List, [], ◌∷◌, ◌++◌, length, take, Option, Some, None, refl}
 use Rattle.ygg_value.specs.declared.row.Value.{Value}
 use Rattle.ygg_syntax.specs.declared.tree.Block.{Block}
-use Rattle.ygg_type_progress.specs.ygg_type_sound.Environments.{Name, Env}
-use Rattle.ygg_type_progress.specs.ygg_type_sound.Progress.{Question, Choice, Call, Answer, answer_of}
-use Rattle.ygg_type_progress.specs.ygg_type_sound.Machine.{Picks, State, on, memory_in, Machine}
-use Rattle.ygg_type_progress.specs.ygg_type_sound.Layer.{ClosedLayer, eval_of}
-use Rattle.ygg_type_progress.specs.ygg_type_sound.Obligations.{Halt}
+use Rattle.ygg_type_sound.specs.Environments.{Name, Env}
+use Rattle.ygg_type_sound.specs.Progress.{Question, Choice, Call, Answer, answer_of}
+use Rattle.ygg_type_sound.specs.Machine.{Picks, State, on, memory_in, Machine}
+use Rattle.ygg_type_sound.specs.Layer.{ClosedLayer, eval_of}
+use Rattle.ygg_type_sound.specs.Obligations.{Halt}
 use Rattle.ygg_direct.specs.Direct.{Handled, Event, Reached, direct_run}
 
 -- the next pick of a list that goes on with `past` after its end

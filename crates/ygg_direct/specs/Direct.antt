@@ -9,9 +9,9 @@ use Rattle.ygg_syntax.specs.declared.tree.Stmt.{Stmt}
 use Rattle.ygg_syntax.specs.declared.tree.Block.{Block}
 use Rattle.ygg_syntax.specs.declared.tree.Stmt.TheOpen.{Stmt-F, Block-F}
 use Rattle.ygg_syntax.specs.declared.tree.Stmt.TheFolds.{fold-Stmt}
-use Rattle.ygg_type_progress.specs.ygg_type_sound.Environments.{Name, Env}
-use Rattle.ygg_type_progress.specs.ygg_type_sound.Meaning.{is_one}
-use Rattle.ygg_type_progress.specs.ygg_type_sound.Progress.{Eval, Question, Choice, Call, Answer, Point, Waits, value_in, values_of, assigned}
+use Rattle.ygg_type_sound.specs.Environments.{Name, Env}
+use Rattle.ygg_type_sound.specs.Meaning.{is_one}
+use Rattle.ygg_type_sound.specs.Progress.{Eval, Question, Choice, Call, Answer, Point, Waits, value_in, values_of, assigned}
 
 -- what a machine answers, and its state after that
 pub record Handled (S : Type 0) : Type 0 where

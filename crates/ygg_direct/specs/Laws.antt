@@ -6,27 +6,27 @@ use Rattle.ygg_syntax.specs.declared.tree.Block.{Block}
 use Rattle.ygg_syntax.specs.declared.tree.DiskText.{DiskText}
 use Rattle.ygg_syntax.specs.declared.tree.Operation.{Operation}
 use Rattle.ygg_value.specs.declared.row.Value.{Value}
-use Rattle.ygg_type_progress.specs.ygg_symbols.Names.{Named, look_up}
-use Rattle.ygg_type_progress.specs.ygg_type_sound.Signature.{Signature}
-use Rattle.ygg_type_progress.specs.ygg_type_sound.TypeErrors.{none}
-use Rattle.ygg_type_progress.specs.ygg_type_sound.Scopes.{Scope}
-use Rattle.ygg_type_progress.specs.ygg_type_sound.Statements.{block_errors}
-use Rattle.ygg_type_progress.specs.ygg_type_sound.Files.{disk_errors, disk_operations}
-use Rattle.ygg_type_progress.specs.ygg_type_sound.Definitions.{parameter_shapes}
-use Rattle.ygg_type_progress.specs.ygg_type_sound.Layers.{operation_signature}
-use Rattle.ygg_type_progress.specs.ygg_type_sound.Environments.{Name, Env}
-use Rattle.ygg_type_progress.specs.ygg_type_sound.MeaningShapes.{values_fit}
-use Rattle.ygg_type_progress.specs.ygg_type_sound.Spec.{Spec}
-use Rattle.ygg_type_progress.specs.ygg_type_sound.Progress.{Answer}
-use Rattle.ygg_type_progress.specs.ygg_type_sound.Machine.{Picks, State, on, Machine}
-use Rattle.ygg_type_progress.specs.ygg_type_sound.Layer.{ClosedLayer, operation_of, BlockRuns, BlockFalls}
-use Rattle.ygg_type_progress.specs.ygg_type_sound.DiskMachine.{DiskMachine}
-use Rattle.ygg_type_progress.specs.ygg_type_sound.Obligations.{Halt, IsRead}
-use Rattle.ygg_type_progress.specs.ygg_type_sound.Agrees.{Agrees}
-use Rattle.ygg_type_progress.specs.ygg_type_sound.Fitting.{all_fit}
-use Rattle.ygg_type_progress.specs.Kinds.{keeps}
-use Rattle.ygg_type_progress.specs.Questions.{plain}
-use Rattle.ygg_type_progress.specs.Machines.{IsSized, IsStateOf, SpecAnswers}
+use Rattle.ygg_type_sound.specs.ygg_type_rules.Names.{Named, look_up}
+use Rattle.ygg_type_sound.specs.Signature.{Signature}
+use Rattle.ygg_type_sound.specs.TypeErrors.{none}
+use Rattle.ygg_type_sound.specs.Scopes.{Scope}
+use Rattle.ygg_type_sound.specs.Statements.{block_errors}
+use Rattle.ygg_type_sound.specs.Files.{disk_errors, disk_operations}
+use Rattle.ygg_type_sound.specs.Definitions.{parameter_shapes}
+use Rattle.ygg_type_sound.specs.Layers.{operation_signature}
+use Rattle.ygg_type_sound.specs.Environments.{Name, Env}
+use Rattle.ygg_type_sound.specs.MeaningShapes.{values_fit}
+use Rattle.ygg_type_sound.specs.Spec.{Spec}
+use Rattle.ygg_type_sound.specs.Progress.{Answer}
+use Rattle.ygg_type_sound.specs.Machine.{Picks, State, on, Machine}
+use Rattle.ygg_type_sound.specs.Layer.{ClosedLayer, operation_of, BlockRuns, BlockFalls}
+use Rattle.ygg_type_sound.specs.DiskMachine.{DiskMachine}
+use Rattle.ygg_type_sound.specs.Obligations.{Halt, IsRead}
+use Rattle.ygg_type_sound.specs.Agrees.{Agrees}
+use Rattle.ygg_type_sound.specs.Fitting.{all_fit}
+use Rattle.ygg_type_sound.specs.Kinds.{keeps}
+use Rattle.ygg_type_sound.specs.Questions.{plain}
+use Rattle.ygg_type_sound.specs.Machines.{IsSized, IsStateOf, SpecAnswers}
 use Rattle.ygg_direct.specs.Acts.{Acts, Notes, noted_picks, Took, runs, falls_in}
 use Rattle.ygg_direct.specs.DiskActs.{disk_acts}
 use Rattle.ygg_direct.specs.SpecActs.{spec_acts}

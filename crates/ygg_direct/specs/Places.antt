@@ -4,12 +4,12 @@ use Rattle.ygg_value.specs.Values.{digit}
 use Rattle.ygg_syntax.specs.declared.tree.Block.{Block}
 use Rattle.ygg_syntax.specs.declared.grammar.BlockKind.TheVariants.{Spec}
 use Rattle.ygg_syntax.specs.Choices.{choices_of}
-use Rattle.ygg_type_progress.specs.ygg_type_sound.Environments.{Name, Env}
-use Rattle.ygg_type_progress.specs.ygg_type_sound.Progress.{Eval, Question, Choice, Call, Answer, answer_of}
-use Rattle.ygg_type_progress.specs.ygg_type_sound.Machine.{Picks, State}
-use Rattle.ygg_type_progress.specs.ygg_type_sound.Layer.{ClosedLayer, eval_of}
-use Rattle.ygg_type_progress.specs.ygg_type_sound.Spec.{chosen, block_outcome}
-use Rattle.ygg_type_progress.specs.Kinds.{keeps}
+use Rattle.ygg_type_sound.specs.Environments.{Name, Env}
+use Rattle.ygg_type_sound.specs.Progress.{Eval, Question, Choice, Call, Answer, answer_of}
+use Rattle.ygg_type_sound.specs.Machine.{Picks, State}
+use Rattle.ygg_type_sound.specs.Layer.{ClosedLayer, eval_of}
+use Rattle.ygg_type_sound.specs.Spec.{chosen, block_outcome}
+use Rattle.ygg_type_sound.specs.Kinds.{keeps}
 use Rattle.ygg_direct.specs.Direct.{Handled, direct_run}
 use Rattle.ygg_direct.specs.Acts.{next_of, later, Taken, Acts}
 

@@ -1,11 +1,11 @@
 -- A schedule names one run.
 use Rattle.std.specs.Prelude.{◌≡◌, Option}
-use Rattle.ygg_type_progress.specs.ygg_type_sound.Layer.{ClosedLayer}
-use Rattle.ygg_type_progress.specs.ygg_type_sound.Spec.{Outcome}
-use Rattle.ygg_type_progress.specs.ygg_type_sound.Obligations.{Obligation, Schedule}
-use Rattle.ygg_type_progress.specs.ygg_type_sound.Refines.{Below, machine_below}
-use Rattle.ygg_type_progress.specs.ygg_type_sound.Violates.{End, Reached, passes}
-use Rattle.ygg_type_progress.specs.ygg_type_sound.Replayed.{Replayed, Replays}
+use Rattle.ygg_type_sound.specs.Layer.{ClosedLayer}
+use Rattle.ygg_type_sound.specs.Spec.{Outcome}
+use Rattle.ygg_type_sound.specs.Obligations.{Obligation, Schedule}
+use Rattle.ygg_type_sound.specs.Refines.{Below, machine_below}
+use Rattle.ygg_type_sound.specs.Violates.{End, Reached, passes}
+use Rattle.ygg_type_sound.specs.Replayed.{Replayed, Replays}
 
 -- whichever runs have the schedule's picks, the conclusion is the same
 abbrev pub OneConclusion : Type 0

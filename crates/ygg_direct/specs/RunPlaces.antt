@@ -3,11 +3,11 @@ use Rattle.std.specs.Prelude.{◌≡◌, ℕ, zero, suc, ◌≤◌, Bool, if◌t
 use Rattle.ygg_value.specs.declared.row.Value.{Value}
 use Rattle.ygg_syntax.specs.declared.tree.Block.{Block}
 use Rattle.ygg_syntax.specs.declared.tree.DiskText.{DiskText}
-use Rattle.ygg_type_progress.specs.ygg_type_sound.Environments.{Name, Env}
-use Rattle.ygg_type_progress.specs.ygg_type_sound.Progress.{Question, Choice, Call, Answer, answer_of}
-use Rattle.ygg_type_progress.specs.ygg_type_sound.Machine.{Picks, State, on, memory_in}
-use Rattle.ygg_type_progress.specs.ygg_type_sound.Layer.{ClosedLayer, eval_of, operation_of}
-use Rattle.ygg_type_progress.specs.ygg_type_sound.Obligations.{Halt}
+use Rattle.ygg_type_sound.specs.Environments.{Name, Env}
+use Rattle.ygg_type_sound.specs.Progress.{Question, Choice, Call, Answer, answer_of}
+use Rattle.ygg_type_sound.specs.Machine.{Picks, State, on, memory_in}
+use Rattle.ygg_type_sound.specs.Layer.{ClosedLayer, eval_of, operation_of}
+use Rattle.ygg_type_sound.specs.Obligations.{Halt}
 use Rattle.ygg_direct.specs.Direct.{Event, Reached, direct_run, room_of}
 use Rattle.ygg_direct.specs.Acts.{Taken, Did, Fell, Acts, under, runs, falls_in}
 use Rattle.ygg_direct.specs.Places.{by_place, calling}

@@ -3,10 +3,10 @@ use Rattle.std.specs.Prelude.{Bool, if◌then◌else◌, List, [], ◌∷◌, �
 use Rattle.ygg_value.specs.declared.row.Value.{Value}
 use Rattle.ygg_syntax.specs.declared.tree.Block.{Block}
 use Rattle.ygg_syntax.specs.declared.tree.Operation.{Operation}
-use Rattle.ygg_type_progress.specs.ygg_type_sound.Environments.{Env, bind}
-use Rattle.ygg_type_progress.specs.ygg_type_sound.Progress.{Answer, answer_of}
-use Rattle.ygg_type_progress.specs.ygg_type_sound.Machine.{Picks, State, based}
-use Rattle.ygg_type_progress.specs.ygg_type_sound.Layer.{ClosedLayer, eval_of, operation_of}
+use Rattle.ygg_type_sound.specs.Environments.{Env, bind}
+use Rattle.ygg_type_sound.specs.Progress.{Answer, answer_of}
+use Rattle.ygg_type_sound.specs.Machine.{Picks, State, based}
+use Rattle.ygg_type_sound.specs.Layer.{ClosedLayer, eval_of, operation_of}
 use Rattle.ygg_direct.specs.Direct.{Reached, direct_run}
 use Rattle.ygg_direct.specs.Acts.{next_of, later, Did, Fell, Acts}
 use Rattle.ygg_direct.specs.Places.{Held, from_front, choosing}

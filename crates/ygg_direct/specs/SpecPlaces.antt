@@ -5,13 +5,13 @@ use Rattle.ygg_syntax.specs.declared.grammar.BlockKind.TheVariants.{Spec}
 use Rattle.ygg_syntax.specs.Choices.{choices_of}
 use Rattle.ygg_syntax.specs.declared.tree.Block.{Block}
 use Rattle.ygg_syntax.specs.declared.tree.Operation.{Operation}
-use Rattle.ygg_type_progress.specs.ygg_type_sound.Environments.{Env, bind}
-use Rattle.ygg_type_progress.specs.ygg_type_sound.Machine.{Picks}
-use Rattle.ygg_type_progress.specs.ygg_type_sound.Layer.{ClosedLayer}
-use Rattle.ygg_type_progress.specs.ygg_type_sound.Spec.{Outcome, start_outcome}
-use Rattle.ygg_type_progress.specs.ygg_type_sound.Obligations.{Obligation, Init, CallOf, CutOf, TickOf, CutTickOf, Idle, Again, Schedule, NoPicksPass}
-use Rattle.ygg_type_progress.specs.ygg_type_sound.Violates.{End, most, passes, spec_after}
-use Rattle.ygg_type_progress.specs.Kinds.{keeps, on_crash_keeps}
+use Rattle.ygg_type_sound.specs.Environments.{Env, bind}
+use Rattle.ygg_type_sound.specs.Machine.{Picks}
+use Rattle.ygg_type_sound.specs.Layer.{ClosedLayer}
+use Rattle.ygg_type_sound.specs.Spec.{Outcome, start_outcome}
+use Rattle.ygg_type_sound.specs.Obligations.{Obligation, Init, CallOf, CutOf, TickOf, CutTickOf, Idle, Again, Schedule, NoPicksPass}
+use Rattle.ygg_type_sound.specs.Violates.{End, most, passes, spec_after}
+use Rattle.ygg_type_sound.specs.Kinds.{keeps, on_crash_keeps}
 use Rattle.ygg_direct.specs.Acts.{next_of, later}
 use Rattle.ygg_direct.specs.Places.{left_after, Result, outcome_by_place}
 

@@ -3,13 +3,13 @@ use Rattle.std.specs.Prelude.{◌≡◌, ℕ, zero, suc, Bool, true, false, if�
 use Rattle.std.specs.List.{flat_map}
 use Rattle.ygg_value.specs.declared.row.Value.{Value}
 use Rattle.ygg_syntax.specs.declared.tree.DiskText.{DiskText}
-use Rattle.ygg_type_progress.specs.ygg_disk.Disk as disk
-use Rattle.ygg_type_progress.specs.ygg_type_sound.Environments.{Name, Env}
-use Rattle.ygg_type_progress.specs.ygg_type_sound.Machine.{Picks, State, based, Machine}
-use Rattle.ygg_type_progress.specs.ygg_disk.Kinds.{model_of}
-use Rattle.ygg_type_progress.specs.ygg_type_sound.DiskMachine.{Store, machine_on, disk_store, disk_call, answer_to, tables_in}
-use Rattle.ygg_type_progress.specs.ygg_type_sound.Obligations.{Halt}
-use Rattle.ygg_type_progress.specs.Stack.{Layers, Stacked}
+use Rattle.ygg_type_sound.specs.ygg_disk.Disk as disk
+use Rattle.ygg_type_sound.specs.Environments.{Name, Env}
+use Rattle.ygg_type_sound.specs.Machine.{Picks, State, based, Machine}
+use Rattle.ygg_type_sound.specs.ygg_disk.Kinds.{model_of}
+use Rattle.ygg_type_sound.specs.DiskMachine.{Store, machine_on, disk_store, disk_call, answer_to, tables_in}
+use Rattle.ygg_type_sound.specs.Obligations.{Halt}
+use Rattle.ygg_type_sound.specs.Stack.{Layers, Stacked}
 use Rattle.ygg_direct.specs.Acts.{Taken, Did, Fell, Acts}
 use Rattle.ygg_direct.specs.Places.{left_after}
 use Rattle.ygg_direct.specs.DiskActs.{kind_calls, kind_falls, state_in}

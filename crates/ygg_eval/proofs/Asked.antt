@@ -40,7 +40,7 @@ use Rattle.ygg_syntax.specs.declared.tree.File.{File}
 use Rattle.ygg_value.specs.declared.row.Value.{Value}
 use Rattle.ygg_value.specs.declared.shape.Shape.TheVariants.{Word}
 use Rattle.ygg_eval_expr.specs.ygg_syntax_count.Weights.{Weights, weights_of, expr_weight}
-use Rattle.ygg_eval_expr.specs.ygg_symbols.Names.{Named, has, added}
+use Rattle.ygg_eval_expr.specs.ygg_type_rules.Names.{Named, has, added}
 use Rattle.ygg_eval_expr.specs.ygg_type_rules.declared.scope.Signature.{Signature}
 use Rattle.ygg_eval_expr.specs.ygg_type_rules.declared.scope.Visibility.{Visibility}
 use Rattle.ygg_eval_expr.specs.ygg_type_rules.declared.scope.Visibility.TheVariants as view
@@ -67,18 +67,18 @@ use Rattle.ygg_eval_expr.specs.ygg_type_rules.Files.{disk_errors, disk_below, la
 use Rattle.ygg_eval_expr.specs.ygg_meaning.Environments.{Env, bind}
 use Rattle.ygg_eval_expr.specs.ygg_meaning.Meaning.{functions_of, is_one}
 use Rattle.ygg_eval_expr.specs.ygg_meaning.Shapes.{values_fit}
-use Rattle.ygg_eval_lower.specs.ygg_meaning.Stack.{tables_of}
+use Rattle.ygg_eval_block.specs.ygg_meaning.Stack.{tables_of}
 use Rattle.ygg_eval_expr.specs.ygg_type_sound.Agrees.{Agrees}
 use Rattle.ygg_eval_expr.specs.ygg_type_sound_proofs_Tests.{left, right}
 use Rattle.ygg_eval_expr.specs.ygg_type_sound_proofs_Definitions.{MeetsAll, definitions_meet}
-use Rattle.ygg_eval_lower.specs.ygg_type_progress_proofs_TypeErrors.{none_listed}
-use Rattle.ygg_eval_lower.proofs.of_ygg_type_progress.Views.{LayerVariables, layer_variables}
+use Rattle.ygg_eval_block.specs.ygg_type_sound_proofs_TypeErrors.{none_listed}
+use Rattle.ygg_eval_block.proofs.of_ygg_type_sound.Views.{LayerVariables, layer_variables}
 use Rattle.ygg_eval_expr.specs.Known.{Known, value_in, CanEvaluate}
 use Rattle.ygg_eval.specs.declared.formula.Formula.{Formula}
 use Rattle.ygg_eval.specs.declared.formula.Which.{Which}
 use Rattle.ygg_eval.specs.declared.formula.Which.TheVariants.{Relate, Always, Settled, Maybe}
-use Rattle.ygg_eval_lower.specs.Layers.{variables_from, variables_at}
-use Rattle.ygg_eval_lower.proofs.Blocks.{bind_fits}
+use Rattle.ygg_eval_block.specs.Layers.{variables_from, variables_at}
+use Rattle.ygg_eval_block.proofs.Blocks.{bind_fits}
 use Rattle.ygg_eval.specs.Formulas.{chosen_in, formula_in, own_in, sees_all, IsAsked, Answers}
 use Rattle.ygg_eval.proofs.Below.{IsBelow, disk_is_below, layer_is_below, relation_agrees, settled_agrees}
 

@@ -36,7 +36,7 @@ use Rattle.ygg_syntax.specs.declared.tree.Operation.{Operation}
 use Rattle.ygg_syntax.specs.declared.tree.Layer.{Layer}
 use Rattle.ygg_value.specs.declared.shape.Shape.{Shape}
 use Rattle.ygg_eval_expr.specs.ygg_syntax_count.Weights.{Weights}
-use Rattle.ygg_eval_expr.specs.ygg_symbols.Names.{Named, look_up, has}
+use Rattle.ygg_eval_expr.specs.ygg_type_rules.Names.{Named, look_up, has}
 use Rattle.ygg_eval_expr.specs.ygg_type_rules.declared.scope.Owner.{Owner}
 use Rattle.ygg_eval_expr.specs.ygg_type_rules.declared.scope.Owner.TheVariants.{State, Memory}
 use Rattle.ygg_eval_expr.specs.ygg_type_rules.declared.scope.Visibility.TheVariants.{Relation, Settled}
@@ -64,16 +64,16 @@ use Rattle.ygg_eval_expr.specs.ygg_type_rules.Files.{disk_errors, disk_table, di
 use Rattle.ygg_eval_expr.specs.ygg_meaning.Environments.{Env}
 use Rattle.ygg_eval_expr.specs.ygg_meaning.Meaning.{Functions}
 use Rattle.ygg_eval_expr.specs.ygg_meaning.Shapes.{env_fits}
-use Rattle.ygg_eval_lower.specs.ygg_meaning.Stack.{tables_of_kind, tables_of}
+use Rattle.ygg_eval_block.specs.ygg_meaning.Stack.{tables_of_kind, tables_of}
 use Rattle.ygg_eval_expr.specs.ygg_type_sound.Fitting.{IsShaped, IsHeld}
 use Rattle.ygg_eval_expr.specs.ygg_type_sound.Agrees.{Agrees}
 use Rattle.ygg_eval_expr.specs.ygg_type_sound_proofs_Tests.{left, right}
 use Rattle.ygg_eval_expr.specs.ygg_type_sound_proofs_Names.{or_else, look_up_append, new_found, absent}
 use Rattle.ygg_eval_expr.specs.ygg_type_sound_proofs_Steps.{held_more}
 use Rattle.ygg_eval_expr.specs.ygg_type_sound_proofs_Definitions.{MeetsAll}
-use Rattle.ygg_eval_lower.proofs.of_ygg_type_progress.Views.{entries, AllTyped, held_in, has_in, LayerVariables, LowerShaped}
-use Rattle.ygg_eval_lower.specs.ygg_type_progress_proofs_Operations.{answer_shaped}
-use Rattle.ygg_eval_lower.specs.ygg_type_progress_proofs_Files.{on_disk}
+use Rattle.ygg_eval_block.proofs.of_ygg_type_sound.Views.{entries, AllTyped, held_in, has_in, LayerVariables, LowerShaped}
+use Rattle.ygg_eval_block.specs.ygg_type_sound_proofs_Operations.{answer_shaped}
+use Rattle.ygg_eval_block.specs.ygg_type_sound_proofs_Files.{on_disk}
 
 -- each operation of a layer that gives an answer gives one of some shape
 shaped_more : (o : Operation) (known : Named Signature) → LowerShaped known → none (answer_type_errors o.answer) ≡ true → LowerShaped (with_operation o known)

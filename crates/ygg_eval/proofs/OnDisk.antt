@@ -40,7 +40,7 @@ use Rattle.ygg_base.specs.declared.geometry.DiskKind.{DiskKind}
 use Rattle.ygg_base.specs.declared.geometry.DiskKind.TheVariants.{Sync, Async}
 use Rattle.ygg_syntax.specs.declared.tree.Layer.{Layer}
 use Rattle.ygg_syntax.specs.declared.tree.File.{File}
-use Rattle.ygg_eval_block.specs.ygg_symbols.Names.{look_up}
+use Rattle.ygg_eval_block.specs.ygg_type_rules.Names.{look_up}
 use Rattle.ygg_eval_block.specs.ygg_type_rules.declared.scope.Signature.{Signature}
 use Rattle.ygg_eval_block.specs.ygg_type_rules.TypeErrors.{none}
 use Rattle.ygg_eval_block.specs.ygg_type_rules.Files.{type_errors_of, disk_errors, address, disk_row, disk_operations}
@@ -57,16 +57,16 @@ use Rattle.ygg_eval_block.specs.ygg_meaning.DiskMachine.{disk_call, answer_to, t
 use Rattle.ygg_eval_block.specs.ygg_meaning.Stack.{tables_of_kind, tables_of}
 use Rattle.ygg_eval_block.specs.ygg_type_sound.Fitting.{fits_wanted, all_fit}
 use Rattle.ygg_eval_block.specs.ygg_type_sound_proofs_Tests.{left, right}
-use Rattle.ygg_eval_block.specs.ygg_type_progress.Machines.{IsSized, DiskAnswers}
-use Rattle.ygg_eval_block.specs.ygg_type_progress_proofs_Fits.{IsTableOf, table_parts}
-use Rattle.ygg_eval_block.specs.ygg_type_progress_proofs_Disks.{disk_row_is}
-use Rattle.ygg_eval_block.specs.ygg_type_progress_proofs_Sizes.{AllSized, disk_answers_all}
-use Rattle.ygg_eval_block.specs.ygg_eval_lower.Layers.{variables_from, variables_at, signatures_at}
-use Rattle.ygg_eval_block.specs.ygg_eval_lower.Lower.{IsCallable, Called, Fell, Whole, Happened}
+use Rattle.ygg_eval_block.specs.ygg_type_sound.Machines.{IsSized, DiskAnswers}
+use Rattle.ygg_eval_block.specs.ygg_type_sound_proofs_ProgressFits.{IsTableOf, table_parts}
+use Rattle.ygg_eval_block.specs.ygg_type_sound_proofs_Disks.{disk_row_is}
+use Rattle.ygg_eval_block.specs.ygg_type_sound_proofs_Sizes.{AllSized, disk_answers_all}
+use Rattle.ygg_eval_block.specs.Layers.{variables_from, variables_at, signatures_at}
+use Rattle.ygg_eval_block.specs.Lower.{IsCallable, Called, Fell, Whole, Happened}
 use Rattle.ygg_eval.specs.Kept.{standing, spec_meaning, Loses}
 use Rattle.ygg_eval.specs.Tables.{IsReadable, AreTables, AreWritable, IsRowOfAll, values_of, Made, Cut, Lost}
 use Rattle.ygg_eval.proofs.Stepping.{no_pick}
-use Rattle.ygg_eval_block.specs.ygg_eval_lower_proofs_Blocks.{bind_fits}
+use Rattle.ygg_eval_block.proofs.Blocks.{bind_fits}
 use Rattle.ygg_eval.proofs.Values.{bound_fits}
 
 -- values that are the tables of a disk of the size

@@ -37,7 +37,7 @@ use Rattle.ygg_syntax.specs.declared.tree.Block.{Block}
 use Rattle.ygg_syntax.specs.declared.tree.Operation.{Operation}
 use Rattle.ygg_syntax.specs.declared.tree.Layer.{Layer}
 use Rattle.ygg_syntax.specs.declared.tree.File.{File}
-use Rattle.ygg_eval_block.specs.ygg_symbols.Names.{Named}
+use Rattle.ygg_eval_block.specs.ygg_type_rules.Names.{Named}
 use Rattle.ygg_eval_block.specs.ygg_type_rules.declared.scope.Signature.{Signature}
 use Rattle.ygg_eval_block.specs.ygg_type_rules.TypeErrors.{none}
 use Rattle.ygg_eval_block.specs.ygg_type_rules.Layers.{operation_signature}
@@ -57,19 +57,19 @@ use Rattle.ygg_eval_block.specs.ygg_meaning_proofs_Exact.{block_exact}
 use Rattle.ygg_eval_block.specs.ygg_meaning.Stack.{tables_of}
 use Rattle.ygg_eval_block.specs.ygg_type_sound.Fitting.{all_fit}
 use Rattle.ygg_eval_block.specs.ygg_type_sound_proofs_Parameters.{same_fit}
-use Rattle.ygg_eval_block.specs.ygg_type_progress.Questions.{gives}
-use Rattle.ygg_eval_block.specs.ygg_type_progress.Machines.{SpecAnswers}
-use Rattle.ygg_eval_block.specs.ygg_type_progress_proofs_Grammar.{file_kept}
-use Rattle.ygg_eval_block.specs.ygg_type_progress_proofs_Files.{file_known}
-use Rattle.ygg_eval_block.specs.ygg_eval_lower.declared.body.Part.TheVariants as part
-use Rattle.ygg_eval_block.specs.ygg_eval_lower.Layers.{variables_from, variables_at, closed_at, below_at, signatures_of, signatures_at}
-use Rattle.ygg_eval_block.specs.ygg_eval_lower.Bodies.{IsBlock, IsRunnable, arguments_at}
-use Rattle.ygg_eval_block.specs.ygg_eval_lower.Lower.{IsCallable, Called, Fell, Whole, Happened}
+use Rattle.ygg_eval_block.specs.ygg_type_sound.Questions.{gives}
+use Rattle.ygg_eval_block.specs.ygg_type_sound.Machines.{SpecAnswers}
+use Rattle.ygg_eval_block.specs.ygg_type_sound_proofs_Grammar.{file_kept}
+use Rattle.ygg_eval_block.specs.ygg_type_sound_proofs_Files.{file_known}
+use Rattle.ygg_eval_block.specs.declared.body.Part.TheVariants as part
+use Rattle.ygg_eval_block.specs.Layers.{variables_from, variables_at, closed_at, below_at, signatures_of, signatures_at}
+use Rattle.ygg_eval_block.specs.Bodies.{IsBlock, IsRunnable, arguments_at}
+use Rattle.ygg_eval_block.specs.Lower.{IsCallable, Called, Fell, Whole, Happened}
 use Rattle.ygg_eval.specs.Taken.{TakesOnly}
 use Rattle.ygg_eval.specs.Kept.{standing, spec_meaning, Loses}
 use Rattle.ygg_eval.specs.Ran.{Ran, Broken, OperationBroken, CrashRan}
 use Rattle.ygg_eval.specs.Keeping.{takes_both}
-use Rattle.ygg_eval_block.specs.ygg_eval_lower_proofs_Blocks.{bind_fits}
+use Rattle.ygg_eval_block.proofs.Blocks.{bind_fits}
 use Rattle.ygg_eval.proofs.OnDisk.{variables_zero}
 use Rattle.ygg_eval.proofs.Named.{find_first, typed_operations, all_of}
 

@@ -30,13 +30,13 @@ use Rattle.ygg_eval_block.specs.ygg_meaning.Progress.{
 use Rattle.ygg_eval_block.specs.ygg_meaning.Machine.{Picks}
 use Rattle.ygg_eval_block.specs.ygg_meaning.Layer.{ClosedLayer, eval_of}
 use Rattle.ygg_eval_block.specs.ygg_meaning.Spec.{chosen, outcome_at, block_outcome}
-use Rattle.ygg_eval_block.specs.ygg_eval_lower.declared.body.Body.{Body}
-use Rattle.ygg_eval_block.specs.ygg_eval_lower.declared.body.Part.{Part}
-use Rattle.ygg_eval_block.specs.ygg_eval_lower.declared.body.Part.TheVariants as part
-use Rattle.ygg_eval_block.specs.ygg_eval_lower.Layers.{closed_at}
-use Rattle.ygg_eval_block.specs.ygg_eval_lower.Bodies.{IsBlock, IsRunnable, arguments_in, variables_in, kind_of, dialogue_in}
-use Rattle.ygg_eval_block.specs.ygg_eval_lower.Lower.{Standing, Meaning}
-use Rattle.ygg_eval_block.specs.ygg_eval_lower.Conversations.{Asking, Exchange, Exchanged, Talks, asked, answers_of}
+use Rattle.ygg_eval_block.specs.declared.body.Body.{Body}
+use Rattle.ygg_eval_block.specs.declared.body.Part.{Part}
+use Rattle.ygg_eval_block.specs.declared.body.Part.TheVariants as part
+use Rattle.ygg_eval_block.specs.Layers.{closed_at}
+use Rattle.ygg_eval_block.specs.Bodies.{IsBlock, IsRunnable, arguments_in, variables_in, kind_of, dialogue_in}
+use Rattle.ygg_eval_block.specs.Lower.{Standing, Meaning}
+use Rattle.ygg_eval_block.specs.Conversations.{Asking, Exchange, Exchanged, Talks, asked, answers_of}
 use Rattle.ygg_eval_block.specs.Runs.{Finished}
 use Rattle.ygg_eval.specs.Taken.{TakesOnly}
 use Rattle.ygg_eval.specs.Ran.{Ran}

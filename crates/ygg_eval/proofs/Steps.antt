@@ -38,8 +38,8 @@ use Rattle.ygg_eval.specs.ygg_meaning.Progress.{Question, Choice, Call, Answer, 
 use Rattle.ygg_eval.specs.ygg_meaning.Machine.{State}
 use Rattle.ygg_eval.specs.ygg_meaning.Runs.{Dialogue, WholeCall, Reaches, FallsAt, notes_of}
 use Rattle.ygg_eval.specs.ygg_meaning.Runs as runs
-use Rattle.ygg_eval.specs.ygg_eval_lower.declared.body.Stop.{Stop}
-use Rattle.ygg_eval.specs.ygg_eval_lower.Lower.{
+use Rattle.ygg_eval.specs.ygg_eval_block.declared.body.Stop.{Stop}
+use Rattle.ygg_eval.specs.ygg_eval_block.Lower.{
   Standing,
   Meaning,
   Ending,
@@ -59,10 +59,10 @@ use Rattle.ygg_eval.specs.ygg_eval_lower.Lower.{
   GoesOn,
   IsLower,
 }
-use Rattle.ygg_eval.specs.ygg_eval_lower.Lower as ending
-use Rattle.ygg_eval.specs.ygg_eval_lower.Layers.{signatures_at}
-use Rattle.ygg_eval.specs.ygg_type_progress.Questions.{question_fits}
-use Rattle.ygg_eval.specs.ygg_eval_lower.Conversations.{Exchange, Exchanged, Answered, Talks, asked, answers_of}
+use Rattle.ygg_eval.specs.ygg_eval_block.Lower as ending
+use Rattle.ygg_eval.specs.ygg_eval_block.Layers.{signatures_at}
+use Rattle.ygg_eval.specs.ygg_type_sound.Questions.{question_fits}
+use Rattle.ygg_eval.specs.ygg_eval_block.Conversations.{Exchange, Exchanged, Answered, Talks, asked, answers_of}
 use Rattle.ygg_eval.specs.ygg_eval_block.Runs.{Came, Finished, EndedIn, StoppedAt, StarvedAt, FinishedEarly, RunEnds}
 use Rattle.ygg_eval.specs.ygg_eval_block.Runs as block_runs
 use Rattle.ygg_eval.specs.ygg_eval_block.declared.run.Ended.{Ended}

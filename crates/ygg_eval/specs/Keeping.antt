@@ -12,7 +12,7 @@ use Rattle.ygg_eval_block.specs.ygg_disk.declared.power.Power.{Power}
 use Rattle.ygg_eval_block.specs.ygg_meaning.Environments.{Name}
 use Rattle.ygg_eval_block.specs.ygg_meaning.Progress.{Answer}
 use Rattle.ygg_eval_block.specs.ygg_meaning.Machine.{Picks, based}
-use Rattle.ygg_eval_block.specs.ygg_eval_lower.Lower.{
+use Rattle.ygg_eval_block.specs.Lower.{
   Standing,
   Meaning,
   Ending,
@@ -32,7 +32,7 @@ use Rattle.ygg_eval_block.specs.ygg_eval_lower.Lower.{
   KeepsInLoss,
   IsLower,
 }
-use Rattle.ygg_eval_block.specs.ygg_eval_lower.Layers.{machine_at}
+use Rattle.ygg_eval_block.specs.Layers.{machine_at}
 use Rattle.ygg_eval.specs.Taken.{TakesOnly}
 use Rattle.ygg_eval.specs.Kept.{Kept, Stepped, Calls, Falls, Loses, TakesBy, named_in, machine_by, spec_meaning, silent_meaning}
 

@@ -6,8 +6,8 @@ use Rattle.ygg_eval_block.specs.ygg_disk.declared.power.Power.{Power}
 use Rattle.ygg_eval_block.specs.ygg_meaning.Environments.{Name, Env, bind}
 use Rattle.ygg_eval_block.specs.ygg_meaning.Shapes.{values_fit}
 use Rattle.ygg_eval_block.specs.ygg_meaning.Machine.{Picks, Machine, based}
-use Rattle.ygg_eval_block.specs.ygg_eval_lower.Layers.{variables_at, machine_at}
-use Rattle.ygg_eval_block.specs.ygg_eval_lower.Lower.{
+use Rattle.ygg_eval_block.specs.Layers.{variables_at, machine_at}
+use Rattle.ygg_eval_block.specs.Lower.{
   Standing,
   Behavior,
   Meaning,

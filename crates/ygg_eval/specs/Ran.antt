@@ -11,10 +11,10 @@ use Rattle.ygg_eval_block.specs.ygg_meaning.Shapes.{values_fit}
 use Rattle.ygg_eval_block.specs.ygg_meaning.Progress.{Answer}
 use Rattle.ygg_eval_block.specs.ygg_meaning.Machine.{Picks}
 use Rattle.ygg_eval_block.specs.ygg_meaning.Spec.{chosen, block_outcome, crash_outcome, fall_outcome}
-use Rattle.ygg_eval_block.specs.ygg_eval_lower.declared.body.Body.{Body}
-use Rattle.ygg_eval_block.specs.ygg_eval_lower.declared.body.Part.TheVariants.{Crash}
-use Rattle.ygg_eval_block.specs.ygg_eval_lower.Layers.{closed_at}
-use Rattle.ygg_eval_block.specs.ygg_eval_lower.Bodies.{IsBlock, arguments_in}
+use Rattle.ygg_eval_block.specs.declared.body.Body.{Body}
+use Rattle.ygg_eval_block.specs.declared.body.Part.TheVariants.{Crash}
+use Rattle.ygg_eval_block.specs.Layers.{closed_at}
+use Rattle.ygg_eval_block.specs.Bodies.{IsBlock, arguments_in}
 use Rattle.ygg_eval.specs.Taken.{TakesOnly}
 
 -- a block ran wholly with the next picks, and gave this answer

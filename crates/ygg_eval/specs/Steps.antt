@@ -11,8 +11,8 @@ use Rattle.ygg_eval.specs.ygg_meaning.Environments.{Env, bind}
 use Rattle.ygg_eval.specs.ygg_meaning.Shapes.{values_fit}
 use Rattle.ygg_eval.specs.ygg_meaning.Progress.{Answer}
 use Rattle.ygg_eval.specs.ygg_meaning.Runs.{Dialogue, WholeRun, FallenRun}
-use Rattle.ygg_eval.specs.ygg_eval_lower.declared.body.Stop.{Stop}
-use Rattle.ygg_eval.specs.ygg_eval_lower.Lower.{Standing, Meaning, Cause, PowerLoss, GivenUp, Passes, GoesOn}
+use Rattle.ygg_eval.specs.ygg_eval_block.declared.body.Stop.{Stop}
+use Rattle.ygg_eval.specs.ygg_eval_block.Lower.{Standing, Meaning, Cause, PowerLoss, GivenUp, Passes, GoesOn}
 use Rattle.ygg_eval.specs.ygg_eval_block.Runs.{RunEnds}
 use Rattle.ygg_eval.specs.ygg_eval_block.declared.run.Ended.{Ended}
 use Rattle.ygg_eval.specs.ygg_eval_block.declared.run.Ended.TheVariants.{Whole, Stopped, Short, Down, Failed}

@@ -2,8 +2,8 @@
 
 ghost use Rattle.std.specs.Prelude.{IsTrue, OnOk};
 ghost use Rattle.ygg_eval_block.specs.ygg_meaning.Shapes.{values_fit};
-ghost use Rattle.ygg_eval_block.specs.ygg_eval_lower.Layers.{variables_at, signatures_at};
-ghost use Rattle.ygg_eval_block.specs.ygg_eval_lower.Lower.{IsCallable, Called, Fell, AfterWhole, ending_of, outage_of};
+ghost use Rattle.ygg_eval_block.specs.Layers.{variables_at, signatures_at};
+ghost use Rattle.ygg_eval_block.specs.Lower.{IsCallable, Called, Fell, AfterWhole, ending_of, outage_of};
 ghost use Rattle.ygg_eval.specs.Kept.{spec_meaning, standing, Loses};
 ghost use Rattle.ygg_eval_block.specs.ygg_disk.declared.power.Power.{Power as PowerIs};
 

@@ -2,7 +2,7 @@
 
 ghost use Rattle.std.specs.Prelude.{◌≡◌, ◌≤◌, IfOk, IsTrue, length};
 ghost use Rattle.ygg_eval_block.specs.ygg_meaning.Shapes.{values_fit};
-ghost use Rattle.ygg_eval_block.specs.ygg_eval_lower.Layers.{variables_at};
+ghost use Rattle.ygg_eval_block.specs.Layers.{variables_at};
 
 use crate::{disk, spec};
 use std::alloc::Global;

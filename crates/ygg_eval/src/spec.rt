@@ -5,9 +5,9 @@ ghost use Rattle.ygg_syntax.specs.declared.tree.Layer.{Layer};
 ghost use Rattle.ygg_syntax.specs.declared.tree.Operation.{Operation};
 ghost use Rattle.ygg_syntax.specs.declared.grammar.BlockKind.TheVariants as kind;
 ghost use Rattle.ygg_eval_block.specs.ygg_meaning.Shapes.{values_fit};
-ghost use Rattle.ygg_eval_block.specs.ygg_eval_lower.Layers.{variables_at, signatures_at};
-ghost use Rattle.ygg_eval_block.specs.ygg_eval_lower.Bodies.{IsRunnable, kind_of};
-ghost use Rattle.ygg_eval_block.specs.ygg_eval_lower.Lower.{IsCallable, Called, Fell, AfterWhole, ending_of, outage_of};
+ghost use Rattle.ygg_eval_block.specs.Layers.{variables_at, signatures_at};
+ghost use Rattle.ygg_eval_block.specs.Bodies.{IsRunnable, kind_of};
+ghost use Rattle.ygg_eval_block.specs.Lower.{IsCallable, Called, Fell, AfterWhole, ending_of, outage_of};
 ghost use Rattle.ygg_eval.specs.Kept.{spec_meaning, standing, Loses};
 ghost use Rattle.ygg_eval.specs.Ran.{BodyRan, OperationBroken, CrashRan};
 

@@ -41,7 +41,7 @@ use Rattle.ygg_syntax.specs.declared.tree.Name.{Name}
 use Rattle.ygg_syntax.specs.declared.tree.Index.{Index}
 use Rattle.ygg_syntax.specs.declared.tree.Source.{Source}
 use Rattle.ygg_syntax.specs.declared.tree.File.{File}
-use Rattle.ygg_eval_expr.specs.ygg_symbols.Names.{look_up}
+use Rattle.ygg_eval_expr.specs.ygg_type_rules.Names.{look_up}
 use Rattle.ygg_eval_expr.specs.ygg_type_rules.declared.scope.TypedExpr.{TypedExpr}
 use Rattle.ygg_eval_expr.specs.ygg_type_rules.declared.scope.Local.{Local}
 use Rattle.ygg_eval_expr.specs.ygg_type_rules.TypeErrors.{none, nothing, one, both, unless, type_error}
@@ -64,10 +64,10 @@ use Rattle.ygg_eval_expr.specs.declared.held.Binding.{Binding}
 use Rattle.ygg_eval_expr.specs.Held.{env_of}
 use Rattle.ygg_eval_expr.specs.Known.{CanEvaluate}
 use Rattle.ygg_eval_expr.specs.Writing.{shape_led_to, CanWrite}
-use Rattle.ygg_eval_lower.specs.ygg_type_progress.Questions.{plain}
-use Rattle.ygg_eval_lower.specs.ygg_type_progress_proofs_Files.{have}
-use Rattle.ygg_eval_lower.specs.declared.body.Stop.{Stop}
-use Rattle.ygg_eval_lower.specs.Lower.{Standing, Meaning}
+use Rattle.ygg_eval_block.specs.ygg_type_sound.Questions.{plain}
+use Rattle.ygg_eval_block.specs.ygg_type_sound_proofs_Files.{have}
+use Rattle.ygg_eval_block.specs.declared.body.Stop.{Stop}
+use Rattle.ygg_eval_block.specs.Lower.{Standing, Meaning}
 use Rattle.ygg_eval_block.specs.Ready.{eval_in, known_in, Fits, CanAsk, CanAssign, IsGiven}
 use Rattle.ygg_eval_block.proofs.Fitting.{evaluates}
 

@@ -44,7 +44,7 @@ use Rattle.ygg_syntax.specs.declared.tree.Stmt.{Stmt, map-Stmt, out-Stmt, fold_o
 use Rattle.ygg_syntax.specs.declared.tree.Stmt.TheVariants as tree
 use Rattle.ygg_syntax.specs.declared.tree.Stmt.TheOpen.{Stmt-F}
 use Rattle.ygg_syntax.specs.declared.tree.File.{File}
-use Rattle.ygg_eval_expr.specs.ygg_symbols.Names.{Named, look_up, has, added}
+use Rattle.ygg_eval_expr.specs.ygg_type_rules.Names.{Named, look_up, has, added}
 use Rattle.ygg_eval_expr.specs.ygg_type_rules.declared.scope.Signature.{Signature}
 use Rattle.ygg_eval_expr.specs.ygg_type_rules.TypeErrors.{none}
 use Rattle.ygg_eval_expr.specs.ygg_type_rules.Scopes.{Scope, with_local}
@@ -71,17 +71,17 @@ use Rattle.ygg_eval_expr.specs.ygg_type_sound_proofs_Tests.{left as first_of, ri
 use Rattle.ygg_eval_expr.specs.ygg_type_sound_proofs_Lists.{AllHave, have_shapes, arguments_fit}
 use Rattle.ygg_eval_expr.specs.ygg_type_sound_proofs_Fits.{fits_has, digit_has}
 use Rattle.ygg_eval_expr.specs.Known.{CanEvaluate}
-use Rattle.ygg_eval_lower.specs.ygg_type_progress.Kinds.{all_keep, node_keeps, stmt_keeps, keeps}
-use Rattle.ygg_eval_lower.specs.ygg_type_progress.Questions.{plain, answer_has, gives, answer_fits, Follows}
-use Rattle.ygg_eval_lower.specs.ygg_type_progress_proofs_TypeErrors.{Called, called}
-use Rattle.ygg_eval_lower.specs.ygg_type_progress_proofs_Following.{follows_cut, agrees_after}
-use Rattle.ygg_eval_lower.specs.ygg_type_progress_proofs_Asking.{all_known}
-use Rattle.ygg_eval_lower.specs.ygg_type_progress_proofs_Sounds.{Told, all_sound, statements_sound}
-use Rattle.ygg_eval_lower.specs.ygg_type_progress_proofs_Files.{have}
-use Rattle.ygg_eval_lower.specs.declared.body.Stop.{Stop}
-use Rattle.ygg_eval_lower.specs.Layers.{signatures_at}
-use Rattle.ygg_eval_lower.specs.Lower.{Standing, Meaning}
-use Rattle.ygg_eval_lower.specs.Conversations.{Exchange, answers_of}
+use Rattle.ygg_eval_block.specs.ygg_type_sound.Kinds.{all_keep, node_keeps, stmt_keeps, keeps}
+use Rattle.ygg_eval_block.specs.ygg_type_sound.Questions.{plain, answer_has, gives, answer_fits, Follows}
+use Rattle.ygg_eval_block.specs.ygg_type_sound_proofs_TypeErrors.{Called, called}
+use Rattle.ygg_eval_block.specs.ygg_type_sound_proofs_Following.{follows_cut, agrees_after}
+use Rattle.ygg_eval_block.specs.ygg_type_sound_proofs_Asking.{all_known}
+use Rattle.ygg_eval_block.specs.ygg_type_sound_proofs_ProgressSounds.{Told, all_sound, statements_sound}
+use Rattle.ygg_eval_block.specs.ygg_type_sound_proofs_Files.{have}
+use Rattle.ygg_eval_block.specs.declared.body.Stop.{Stop}
+use Rattle.ygg_eval_block.specs.Layers.{signatures_at}
+use Rattle.ygg_eval_block.specs.Lower.{Standing, Meaning}
+use Rattle.ygg_eval_block.specs.Conversations.{Exchange, answers_of}
 use Rattle.ygg_eval_block.specs.Steps.{Front, goes_on, Leads, Becomes}
 use Rattle.ygg_eval_block.specs.Ready.{
   eval_in,

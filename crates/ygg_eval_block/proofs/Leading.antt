@@ -3,10 +3,10 @@ use Rattle.std.proofs.Common.{◌≡◌, ℕ, ◌+◌, Bool, true, false, List, 
 use Rattle.ygg_list.specs.declared.memory.NoMemory.{NoMemory}
 use Rattle.ygg_syntax.specs.declared.tree.File.{File}
 use Rattle.ygg_eval_expr.specs.ygg_meaning.Progress.{Answer, Question, Point, Waits, ask}
-use Rattle.ygg_eval_lower.specs.declared.body.Stop.{Stop}
-use Rattle.ygg_eval_lower.specs.Lower.{Standing, Meaning, Ending, Outage, Happened, Lacking}
-use Rattle.ygg_eval_lower.specs.Lower as ending
-use Rattle.ygg_eval_lower.specs.Conversations.{Exchange, calls_in}
+use Rattle.ygg_eval_block.specs.declared.body.Stop.{Stop}
+use Rattle.ygg_eval_block.specs.Lower.{Standing, Meaning, Ending, Outage, Happened, Lacking}
+use Rattle.ygg_eval_block.specs.Lower as ending
+use Rattle.ygg_eval_block.specs.Conversations.{Exchange, calls_in}
 use Rattle.ygg_eval_block.specs.declared.flow.Break.{Break}
 use Rattle.ygg_eval_block.specs.declared.flow.Break.TheVariants.{Stopped, Down, Failed}
 use Rattle.ygg_eval_block.specs.declared.flow.Flow.{Flow}

@@ -1,3 +1,8 @@
+pub use Rattle.ygg_type_sound.proofs.of_ygg_meaning
+pub use Rattle.ygg_type.proofs as of_ygg_type
+pub use Rattle.ygg_type_sound.proofs as of_ygg_type_sound
+pub mod Blocks
+pub mod Numbers
 pub mod Firsts
 pub mod Places
 pub mod Opened

@@ -32,16 +32,16 @@ use Rattle.ygg_syntax.specs.declared.tree.DiskText.{DiskText}
 use Rattle.ygg_syntax.specs.declared.tree.Operation.{Operation}
 use Rattle.ygg_syntax.specs.declared.tree.Layer.{Layer}
 use Rattle.ygg_syntax.specs.declared.tree.File.{File}
-use Rattle.ygg_eval_expr.specs.ygg_symbols.Names.{Named, look_up, has}
+use Rattle.ygg_eval_expr.specs.ygg_type_rules.Names.{Named, look_up, has}
 use Rattle.ygg_eval_expr.specs.ygg_type_rules.declared.scope.Signature.{Signature}
 use Rattle.ygg_eval_expr.specs.ygg_type_rules.Layers.{operation_signature}
 use Rattle.ygg_eval_expr.specs.ygg_type_rules.Files.{address, disk_row, disk_operations}
-use Rattle.ygg_eval_lower.specs.ygg_type.Typed.{operations_at, operation_place}
+use Rattle.ygg_eval_block.specs.ygg_type.Typed.{operations_at, operation_place}
 use Rattle.ygg_eval_expr.specs.ygg_meaning.Environments.{Name}
 use Rattle.ygg_eval_expr.specs.ygg_type_sound.Fitting.{all_fit}
 use Rattle.ygg_eval_expr.specs.ygg_type_sound_proofs_Tests.{bytes_same}
-use Rattle.ygg_eval_lower.specs.Layers.{signatures_of, signatures_at}
-use Rattle.ygg_eval_lower.specs.Lower.{Standing, Meaning, Serves, IsCallable}
+use Rattle.ygg_eval_block.specs.Layers.{signatures_of, signatures_at}
+use Rattle.ygg_eval_block.specs.Lower.{Standing, Meaning, Serves, IsCallable}
 use Rattle.ygg_eval_block.specs.Ready.{IsPlace, place_on_disk}
 
 -- the operations of a disk

@@ -40,7 +40,7 @@ use Rattle.ygg_syntax.specs.declared.grammar.BlockKind.{BlockKind}
 use Rattle.ygg_syntax.specs.declared.tree.Block.{Block}
 use Rattle.ygg_syntax.specs.declared.tree.Declared.{Declared}
 use Rattle.ygg_syntax.specs.declared.tree.File.{File}
-use Rattle.ygg_eval_expr.specs.ygg_symbols.Names.{Named}
+use Rattle.ygg_eval_expr.specs.ygg_type_rules.Names.{Named}
 use Rattle.ygg_value.specs.declared.shape.Shape.{Shape}
 use Rattle.ygg_eval_expr.specs.ygg_type_rules.declared.scope.Signature.{Signature}
 use Rattle.ygg_eval_expr.specs.ygg_type_rules.Scopes.{Scope}
@@ -50,13 +50,13 @@ use Rattle.ygg_eval_expr.specs.ygg_type_sound_proofs_Tests.{left as first_of, ri
 use Rattle.ygg_eval_expr.specs.ygg_meaning.Meaning.{functions_of}
 use Rattle.ygg_eval_expr.specs.ygg_meaning.Progress.{Answer, Question, Point, Waits, Goes, Asks, Ends, in_turn, run_of, answer_of, ended, after}
 use Rattle.ygg_eval_expr.specs.ygg_meaning.Runs.{Dialogue}
-use Rattle.ygg_eval_lower.specs.ygg_type_progress.Questions.{answer_fits, question_fits, AnswersFit, Follows}
-use Rattle.ygg_eval_lower.specs.declared.body.Stop.{Stop}
-use Rattle.ygg_eval_lower.specs.Layers.{signatures_at}
-use Rattle.ygg_eval_lower.specs.ygg_type_progress.Blocks.{IsSound}
-use Rattle.ygg_eval_lower.specs.Lower.{Standing, Meaning, Ending, Outage, Happened, Lacking, Serves}
-use Rattle.ygg_eval_lower.specs.Lower as ending
-use Rattle.ygg_eval_lower.specs.Conversations.{Exchange, Exchanged, Talks, asked, answers_of, calls_in}
+use Rattle.ygg_eval_block.specs.ygg_type_sound.Questions.{answer_fits, question_fits, AnswersFit, Follows}
+use Rattle.ygg_eval_block.specs.declared.body.Stop.{Stop}
+use Rattle.ygg_eval_block.specs.Layers.{signatures_at}
+use Rattle.ygg_eval_block.specs.ygg_type_sound.Blocks.{IsSound}
+use Rattle.ygg_eval_block.specs.Lower.{Standing, Meaning, Ending, Outage, Happened, Lacking, Serves}
+use Rattle.ygg_eval_block.specs.Lower as ending
+use Rattle.ygg_eval_block.specs.Conversations.{Exchange, Exchanged, Talks, asked, answers_of, calls_in}
 use Rattle.ygg_eval_block.specs.Steps.{Front, Leads, Becomes, EndsIn, FallsWhere, Stops, StarvesThere, Starves, Reaches}
 use Rattle.ygg_eval_block.specs.Ready.{eval_in}
 use Rattle.ygg_eval_expr.specs.declared.held.Binding.{Binding}

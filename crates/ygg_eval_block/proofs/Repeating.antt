@@ -18,10 +18,10 @@ use Rattle.ygg_eval_expr.specs.ygg_meaning.Progress.{and_then, forget_since, for
 use Rattle.ygg_eval_expr.specs.ygg_type_sound_proofs_Tests.{left as first_of, right as second_of}
 use Rattle.ygg_eval_expr.specs.ygg_type_sound_proofs_Rules.{NumberParts, number_parts}
 use Rattle.ygg_eval_expr.specs.ygg_type_sound_proofs_Steps.{agrees_with_number}
-use Rattle.ygg_eval_lower.specs.ygg_type_progress.Questions.{plain}
-use Rattle.ygg_eval_lower.specs.ygg_type_progress_proofs_Following.{follows_front, agrees_after}
-use Rattle.ygg_eval_lower.specs.declared.body.Stop.{Stop}
-use Rattle.ygg_eval_lower.specs.Lower.{Standing, Meaning}
+use Rattle.ygg_eval_block.specs.ygg_type_sound.Questions.{plain}
+use Rattle.ygg_eval_block.specs.ygg_type_sound_proofs_Following.{follows_front, agrees_after}
+use Rattle.ygg_eval_block.specs.declared.body.Stop.{Stop}
+use Rattle.ygg_eval_block.specs.Lower.{Standing, Meaning}
 use Rattle.ygg_eval_block.specs.declared.flow.Flow.{Flow}
 use Rattle.ygg_eval_block.specs.Steps.{Front, goes_on, Becomes, Ran}
 use Rattle.ygg_eval_block.specs.Ready.{eval_in, numbered, inside_run, turn_run, CanEnter, CanRepeat}

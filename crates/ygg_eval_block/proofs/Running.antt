@@ -41,8 +41,8 @@ use Rattle.ygg_eval_expr.specs.ygg_meaning.Meaning.{is_one}
 use Rattle.ygg_eval_expr.specs.ygg_meaning.Progress.{Run, and_then, forget_since, in_turn, for_each, run_of, stmt_run}
 use Rattle.ygg_eval_expr.specs.declared.held.Binding.{Binding}
 use Rattle.ygg_eval_expr.specs.Held.{env_of, held_value}
-use Rattle.ygg_eval_lower.specs.declared.body.Stop.{Stop}
-use Rattle.ygg_eval_lower.specs.Lower.{Standing, Meaning}
+use Rattle.ygg_eval_block.specs.declared.body.Stop.{Stop}
+use Rattle.ygg_eval_block.specs.Lower.{Standing, Meaning}
 use Rattle.ygg_eval_block.specs.declared.flow.Flow.{Flow}
 use Rattle.ygg_eval_block.specs.Steps.{Front, goes_on, Becomes, Ran}
 use Rattle.ygg_eval_block.specs.Ready.{eval_in, inside_run, turn_run, CanStep, CanRun}

@@ -16,8 +16,8 @@ use Rattle.ygg_eval_expr.specs.ygg_meaning.Environments.{Env}
 use Rattle.ygg_eval_expr.specs.ygg_meaning.Progress.{Answer, Call, Choice, ask, from_source, value_in, values_of}
 use Rattle.ygg_eval_expr.specs.ygg_meaning.Shapes.{fits}
 use Rattle.ygg_eval_expr.specs.ygg_type_sound_proofs_Fits.{digit_has, value_fits}
-use Rattle.ygg_eval_lower.specs.declared.body.Stop.{Stop}
-use Rattle.ygg_eval_lower.specs.Lower.{Standing, Meaning, Serves}
+use Rattle.ygg_eval_block.specs.declared.body.Stop.{Stop}
+use Rattle.ygg_eval_block.specs.Lower.{Standing, Meaning, Serves}
 use Rattle.ygg_eval_block.specs.declared.flow.Flow.{Flow}
 use Rattle.ygg_eval_block.specs.declared.flow.Flow.TheVariants.{Goes as Going, Breaks as Breaking}
 use Rattle.ygg_eval_block.specs.Steps.{stands, goes_on, value_result, without_answer, Front, Becomes, Ran, CallRan}

@@ -45,21 +45,21 @@ use Rattle.ygg_eval_expr.specs.ygg_meaning.Progress.{Answer, Goes, in_turn, run_
 use Rattle.ygg_eval_expr.specs.Known.{CanEvaluate}
 use Rattle.ygg_eval_expr.specs.ygg_type_sound.Agrees.{Agrees}
 use Rattle.ygg_eval_expr.specs.ygg_type_sound_proofs_Tests.{left as first_of, right as second_of}
-use Rattle.ygg_eval_lower.specs.ygg_type_progress.Questions.{plain, AnswersFit}
-use Rattle.ygg_eval_lower.specs.ygg_type_progress.Blocks.{IsSound}
-use Rattle.ygg_eval_lower.specs.ygg_type_progress_proofs_Sounds.{Fine, Met, Left, block_sound, statements_sound}
-use Rattle.ygg_eval_lower.specs.ygg_type_progress_proofs_Files.{have}
-use Rattle.ygg_eval_lower.proofs.of_ygg_type_progress.Derived.{derivable_derived}
+use Rattle.ygg_eval_block.specs.ygg_type_sound.Questions.{plain, AnswersFit}
+use Rattle.ygg_eval_block.specs.ygg_type_sound.Blocks.{IsSound}
+use Rattle.ygg_eval_block.specs.ygg_type_sound_proofs_ProgressSounds.{Fine, Met, Left, block_sound, statements_sound}
+use Rattle.ygg_eval_block.specs.ygg_type_sound_proofs_Files.{have}
+use Rattle.ygg_eval_block.proofs.of_ygg_type_sound.Derived.{derivable_derived}
 use Rattle.ygg_eval_expr.specs.ygg_type_rules.Files.{IsTyped}
 use Rattle.ygg_syntax.specs.Files.{IsDerivable}
-use Rattle.ygg_eval_lower.specs.declared.body.Body.{Body}
-use Rattle.ygg_eval_lower.specs.declared.body.Stop.{Stop}
-use Rattle.ygg_eval_lower.specs.Bodies.{kind_of, block_in, variables_in, arguments_in, dialogue_in, IsRunnable}
-use Rattle.ygg_eval_lower.proofs.Blocks.{block_typing, blocks_kept}
-use Rattle.ygg_eval_lower.specs.Layers.{signatures_at}
-use Rattle.ygg_eval_lower.specs.Lower.{Standing, Meaning, Serves}
-use Rattle.ygg_eval_lower.specs.Lower as ending
-use Rattle.ygg_eval_lower.specs.Conversations.{answers_of}
+use Rattle.ygg_eval_block.specs.declared.body.Body.{Body}
+use Rattle.ygg_eval_block.specs.declared.body.Stop.{Stop}
+use Rattle.ygg_eval_block.specs.Bodies.{kind_of, block_in, variables_in, arguments_in, dialogue_in, IsRunnable}
+use Rattle.ygg_eval_block.proofs.Blocks.{block_typing, blocks_kept}
+use Rattle.ygg_eval_block.specs.Layers.{signatures_at}
+use Rattle.ygg_eval_block.specs.Lower.{Standing, Meaning, Serves}
+use Rattle.ygg_eval_block.specs.Lower as ending
+use Rattle.ygg_eval_block.specs.Conversations.{answers_of}
 use Rattle.ygg_eval_block.specs.Steps.{Front, Becomes, Last, Starves, Reaches, Ran}
 use Rattle.ygg_eval_block.specs.declared.flow.Break.{Break}
 use Rattle.ygg_eval_block.specs.declared.flow.Break.TheVariants as breaks

@@ -15,7 +15,7 @@ use Rattle.ygg_syntax.specs.declared.tree.Numeral.{Numeral}
 use Rattle.ygg_syntax.specs.declared.tree.Place.{Place}
 use Rattle.ygg_syntax.specs.declared.tree.Source.{Source}
 use Rattle.ygg_syntax.specs.declared.tree.Stmt.{Stmt}
-use Rattle.ygg_eval_expr.specs.ygg_symbols.Names.{Named, look_up}
+use Rattle.ygg_eval_expr.specs.ygg_type_rules.Names.{Named, look_up}
 use Rattle.ygg_eval_expr.specs.ygg_type_rules.declared.scope.Signature.{Signature}
 use Rattle.ygg_eval_expr.specs.ygg_type_rules.TypeErrors.{TypeErrors, none, both}
 use Rattle.ygg_eval_expr.specs.ygg_type_rules.Scopes.{Scope, is_taken}
@@ -28,12 +28,12 @@ use Rattle.ygg_eval_expr.specs.ygg_meaning.Progress.{Eval, Run, forget_since, in
 use Rattle.ygg_eval_expr.specs.ygg_type_sound.Agrees.{Agrees}
 use Rattle.ygg_eval_expr.specs.ygg_type_sound.Fitting.{HasShape, all_fit}
 use Rattle.ygg_eval_expr.specs.Known.{Known}
-use Rattle.ygg_eval_lower.specs.ygg_type_progress.Kinds.{may_call, source_keeps, all_keep, stmt_keeps, keeps}
-use Rattle.ygg_eval_lower.specs.ygg_type_progress.Questions.{plain}
-use Rattle.ygg_eval_lower.specs.ygg_type_progress.Blocks.{eval_with}
-use Rattle.ygg_eval_lower.specs.declared.body.Stop.{Stop}
-use Rattle.ygg_eval_lower.specs.Layers.{signatures_at}
-use Rattle.ygg_eval_lower.specs.Lower.{Standing, Meaning, Serves}
+use Rattle.ygg_eval_block.specs.ygg_type_sound.Kinds.{may_call, source_keeps, all_keep, stmt_keeps, keeps}
+use Rattle.ygg_eval_block.specs.ygg_type_sound.Questions.{plain}
+use Rattle.ygg_eval_block.specs.ygg_type_sound.Blocks.{eval_with}
+use Rattle.ygg_eval_block.specs.declared.body.Stop.{Stop}
+use Rattle.ygg_eval_block.specs.Layers.{signatures_at}
+use Rattle.ygg_eval_block.specs.Lower.{Standing, Meaning, Serves}
 use Rattle.ygg_eval_block.specs.declared.flow.Flow.{Flow}
 use Rattle.ygg_eval_block.specs.declared.flow.Flow.TheVariants.{Goes, Breaks}
 

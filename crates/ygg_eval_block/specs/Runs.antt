@@ -11,13 +11,13 @@ use Rattle.ygg_eval_expr.specs.ygg_meaning.Environments.{Name, Env, bind}
 use Rattle.ygg_eval_expr.specs.ygg_meaning.Shapes.{values_fit}
 use Rattle.ygg_eval_expr.specs.ygg_meaning.Progress.{Answer, Call, Asks, Ends}
 use Rattle.ygg_eval_expr.specs.ygg_meaning.Runs.{Dialogue}
-use Rattle.ygg_eval_lower.specs.ygg_type_progress.Kinds.{may_call}
-use Rattle.ygg_eval_lower.specs.declared.body.Body.{Body}
-use Rattle.ygg_eval_lower.specs.declared.body.Stop.{Stop}
-use Rattle.ygg_eval_lower.specs.Bodies.{IsBlock, dialogue_in, variables_in, kind_of}
-use Rattle.ygg_eval_lower.specs.Lower.{Standing, Meaning, Ending, Outage, Happened, Lacking, Serves}
-use Rattle.ygg_eval_lower.specs.Lower as ending
-use Rattle.ygg_eval_lower.specs.Conversations.{Conversation, Exchanged, asked, answers_of, calls_in}
+use Rattle.ygg_eval_block.specs.ygg_type_sound.Kinds.{may_call}
+use Rattle.ygg_eval_block.specs.declared.body.Body.{Body}
+use Rattle.ygg_eval_block.specs.declared.body.Stop.{Stop}
+use Rattle.ygg_eval_block.specs.Bodies.{IsBlock, dialogue_in, variables_in, kind_of}
+use Rattle.ygg_eval_block.specs.Lower.{Standing, Meaning, Ending, Outage, Happened, Lacking, Serves}
+use Rattle.ygg_eval_block.specs.Lower as ending
+use Rattle.ygg_eval_block.specs.Conversations.{Conversation, Exchanged, asked, answers_of, calls_in}
 use Rattle.ygg_eval_block.specs.declared.run.Ended.{Ended}
 use Rattle.ygg_eval_block.specs.declared.run.Ended.TheVariants.{Whole, Stopped, Short, Down, Failed}
 

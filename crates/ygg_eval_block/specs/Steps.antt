@@ -6,10 +6,10 @@ use Rattle.ygg_syntax.specs.declared.tree.File.{File}
 use Rattle.ygg_eval_expr.specs.ygg_disk.declared.power.Power.{Power}
 use Rattle.ygg_eval_expr.specs.ygg_meaning.Environments.{Name, Env}
 use Rattle.ygg_eval_expr.specs.ygg_meaning.Progress.{Answer, Question, Call, Point, Waits, Goes, value_in}
-use Rattle.ygg_eval_lower.specs.declared.body.Stop.{Stop}
-use Rattle.ygg_eval_lower.specs.Lower.{Standing, Meaning, Ending, Outage, Happened, Lacking, Serves}
-use Rattle.ygg_eval_lower.specs.Lower as ending
-use Rattle.ygg_eval_lower.specs.Conversations.{Exchange, Answered, one_call, calls_in}
+use Rattle.ygg_eval_block.specs.declared.body.Stop.{Stop}
+use Rattle.ygg_eval_block.specs.Lower.{Standing, Meaning, Ending, Outage, Happened, Lacking, Serves}
+use Rattle.ygg_eval_block.specs.Lower as ending
+use Rattle.ygg_eval_block.specs.Conversations.{Exchange, Answered, one_call, calls_in}
 use Rattle.ygg_eval_block.specs.declared.flow.Break.{Break}
 use Rattle.ygg_eval_block.specs.declared.flow.Break.TheVariants.{Stopped, Down, Failed}
 use Rattle.ygg_eval_block.specs.declared.flow.Flow.{Flow}

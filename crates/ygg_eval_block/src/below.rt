@@ -1,12 +1,12 @@
 //! Places of operations in the machine below.
 
 ghost use Rattle.std.specs.Prelude.{◌≡◌, IsTrue};
-ghost use Rattle.ygg_eval_expr.specs.ygg_symbols.Names.{has};
-ghost use Rattle.ygg_eval_lower.specs.Layers.{signatures_at};
+ghost use Rattle.ygg_eval_expr.specs.ygg_type_rules.Names.{has};
+ghost use Rattle.ygg_eval_block.specs.Layers.{signatures_at};
 ghost use Rattle.ygg_eval_block.specs.Ready.{IsPlace, place_on_disk};
 
 use ygg_base::Text;
-use ygg_eval_lower::Typed;
+use ygg_type::Typed;
 
 /// The place of an operation of the machine with this number, counted from 0.
 pub fn place_of(typed: &Typed, number: u32, name: &Text) -> u32

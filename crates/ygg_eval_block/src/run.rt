@@ -3,8 +3,8 @@
 ghost use Rattle.std.specs.Prelude.{◌≡◌, Some};
 ghost use Rattle.ygg_syntax.specs.declared.grammar.BlockKind.{BlockKind};
 ghost use Rattle.ygg_eval_expr.specs.Held.{env_of};
-ghost use Rattle.ygg_eval_lower.specs.Bodies.{IsRunnable};
-ghost use Rattle.ygg_eval_lower.specs.declared.body.Stop.{Stop};
+ghost use Rattle.ygg_eval_block.specs.Bodies.{IsRunnable};
+ghost use Rattle.ygg_eval_block.specs.declared.body.Stop.{Stop};
 ghost use Rattle.ygg_eval_block.specs.Steps.{stands};
 ghost use Rattle.ygg_eval_block.specs.Runs.{BodyEnds, CanServe, StillServes};
 ghost use Rattle.ygg_eval_block.specs.Ending.{IsReady, BlockEnds, ended_by};
@@ -13,11 +13,12 @@ use crate::ending::names_of;
 use crate::flow::{Break, Flow};
 use crate::runner::Runner;
 use crate::statements::Frame;
+use crate::{Body, Lower, Stop, block_of};
 use std::alloc::Global;
 use ygg_eval_expr::{Binding, Power};
-use ygg_eval_lower::{Body, Lower, Stop, Typed, block_of};
 use ygg_list::NoMemory;
 use ygg_syntax::tree::Block;
+use ygg_type::Typed;
 use ygg_value::{Value, Values};
 
 /// How a run of a block ended.

@@ -12,12 +12,13 @@ ghost use Rattle.ygg_eval_block.specs.Ready.{eval_in, known_in, CanCall, CanSend
 
 use crate::below::place_of;
 use crate::flow::{Break, Flow};
+use crate::{Lower, Stop};
 use std::alloc::Global;
 use ygg_base::Text;
 use ygg_eval_expr::{Binding, Evaluator, Power, Turn, digit, is_one, word_in};
-use ygg_eval_lower::{Lower, Stop, Typed};
 use ygg_list::NoMemory;
 use ygg_syntax::tree::{Expr, Index, Name, Source};
+use ygg_type::Typed;
 use ygg_value::{Value, Values, Word};
 
 /// What stays the same while a block is run: its file, the number of the machine below, and where the run stops.

@@ -24,11 +24,11 @@ ghost use Rattle.ygg_eval_block.specs.Ready.{
   CanRepeat,
 };
 
+use crate::Lower;
 use crate::flow::Flow;
 use crate::names::write_name;
 use crate::runner::Runner;
 use ygg_eval_expr::{Binding, CowValue, Power};
-use ygg_eval_lower::Lower;
 use ygg_list::NoMemory;
 use ygg_syntax::tree::{Block, Expr, Index, Name, Numeral, Source, Stmt};
 use ygg_value::{Value, Word};

@@ -41,7 +41,7 @@ use Rattle.ygg_value.specs.declared.row.Value.{Value}
 use Rattle.ygg_value.specs.declared.shape.Shape.{Shape}
 use Rattle.ygg_type_sound.specs.ygg_syntax_count.Weights.{weights_of, weight_at, expr_weight}
 use Rattle.ygg_type_sound.proofs.of_ygg_syntax_count.Searched.{Searched, begun, other as searched_other, found as searched_found}
-use Rattle.ygg_type_sound.specs.ygg_symbols.Names.{Named, look_up, has, added}
+use Rattle.ygg_type_sound.specs.ygg_type_rules.Names.{Named, look_up, has, added}
 use Rattle.ygg_type_sound.specs.Signature.{Signature}
 use Rattle.ygg_type_sound.specs.TypeErrors.{none}
 use Rattle.ygg_type_sound.specs.Shapes.{shape_of}

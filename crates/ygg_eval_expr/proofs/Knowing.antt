@@ -39,7 +39,7 @@ use Rattle.ygg_value.specs.Number.{Number}
 use Rattle.ygg_value.specs.Values.{word_in}
 use Rattle.ygg_value.specs.Shapes.{Within}
 use Rattle.ygg_value.specs.declared.row.Value.{Value}
-use Rattle.ygg_type_sound.specs.ygg_symbols.Names.{look_up}
+use Rattle.ygg_type_sound.specs.ygg_type_rules.Names.{look_up}
 use Rattle.ygg_type_sound.specs.Signature.{Signature}
 use Rattle.ygg_type_sound.specs.Shapes.{word_shape}
 use Rattle.ygg_type_sound.specs.Expressions.{with_number as typing_number}

@@ -9,7 +9,7 @@ use Rattle.ygg_syntax.specs.declared.tree.Numeral.{Numeral}
 use Rattle.ygg_syntax.specs.declared.tree.Quantifier.{Quantifier}
 use Rattle.ygg_syntax.specs.declared.tree.Quantifier.TheVariants.{All, Any}
 use Rattle.ygg_type_sound.specs.ygg_syntax_count.Definitions.{WeighsAsAt}
-use Rattle.ygg_type_sound.specs.ygg_symbols.Names.{look_up}
+use Rattle.ygg_type_sound.specs.ygg_type_rules.Names.{look_up}
 use Rattle.ygg_type_sound.specs.Signature.{Signature}
 use Rattle.ygg_type_sound.specs.TypeErrors.{none}
 use Rattle.ygg_type_sound.specs.Scopes.{Scope}

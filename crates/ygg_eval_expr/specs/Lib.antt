@@ -1,9 +1,8 @@
 pub use Rattle.ygg_type_sound.specs.ygg_disk
 pub use Rattle.ygg_type_sound.specs.ygg_meaning_proofs_Exact
 pub use Rattle.ygg_type_sound.specs.ygg_meaning
-pub use Rattle.ygg_type_sound.specs.ygg_symbols
-pub use Rattle.ygg_type_sound.specs.ygg_syntax_count
 pub use Rattle.ygg_type_sound.specs.ygg_type_rules
+pub use Rattle.ygg_type_sound.specs.ygg_syntax_count
 pub use Rattle.ygg_type_sound.proofs.Definitions as ygg_type_sound_proofs_Definitions
 pub use Rattle.ygg_type_sound.proofs.Fits as ygg_type_sound_proofs_Fits
 pub use Rattle.ygg_type_sound.proofs.Lists as ygg_type_sound_proofs_Lists

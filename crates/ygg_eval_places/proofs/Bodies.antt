@@ -19,14 +19,14 @@ use Rattle.ygg_direct.specs.ygg_meaning.Progress.{Answer, answer_of}
 use Rattle.ygg_direct.specs.ygg_meaning.Shapes.{values_fit}
 use Rattle.ygg_direct.specs.ygg_type_sound.Agrees.{Agrees}
 use Rattle.ygg_direct.specs.ygg_type_sound_proofs_Tests.{left as first_of, right as second_of}
-use Rattle.ygg_direct.specs.ygg_type_progress.Kinds.{keeps}
-use Rattle.ygg_direct.specs.ygg_type_progress.Questions.{plain, Follows}
-use Rattle.ygg_direct.proofs.of_ygg_type_progress.Derived.{derivable_derived}
+use Rattle.ygg_direct.specs.ygg_type_sound.Kinds.{keeps}
+use Rattle.ygg_direct.specs.ygg_type_sound.Questions.{plain, Follows}
+use Rattle.ygg_direct.proofs.of_ygg_type_sound.Derived.{derivable_derived}
 use Rattle.ygg_direct.specs.Direct.{Reached, direct_run}
 use Rattle.ygg_eval_block.specs.ygg_eval_expr.Known.{CanEvaluate}
-use Rattle.ygg_eval_block.specs.ygg_eval_lower.Bodies.{IsBlock, IsRunnable, arguments_in, block_in, variables_in}
-use Rattle.ygg_eval_block.specs.ygg_eval_lower.declared.body.Body.{Body}
-use Rattle.ygg_eval_block.specs.ygg_eval_lower_proofs_Blocks.{block_typing, blocks_kept}
+use Rattle.ygg_eval_block.specs.Bodies.{IsBlock, IsRunnable, arguments_in, block_in, variables_in}
+use Rattle.ygg_eval_block.specs.declared.body.Body.{Body}
+use Rattle.ygg_eval_block.proofs.Blocks.{block_typing, blocks_kept}
 use Rattle.ygg_eval_block.specs.Ending.{values_in}
 use Rattle.ygg_eval_block.specs.Ready.{eval_in, known_in}
 use Rattle.ygg_eval_block.proofs.Public.{bound, bind_counted}

@@ -1,8 +1,16 @@
 pub mod Rooms
 pub mod Opened
-pub mod Below
+pub mod PlacesBelow
 pub mod Fitting
 pub mod Parts
 pub mod Going
 pub mod Sides
 pub mod Bodies
+pub mod Noting
+pub mod Calls
+pub mod OnDisk
+pub mod OnSpec
+pub mod Watching
+pub mod Spaces
+pub mod Fronting
+pub mod ChoiceNoting

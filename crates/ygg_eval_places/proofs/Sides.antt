@@ -11,22 +11,22 @@ use Rattle.ygg_syntax.specs.declared.tree.Place.{Place}
 use Rattle.ygg_syntax.specs.declared.tree.Source.{Source}
 use Rattle.ygg_syntax.specs.declared.tree.Source.TheVariants as source
 use Rattle.ygg_syntax.specs.declared.tree.Stmt.TheOpen.{Stmt-F}
-use Rattle.ygg_direct.specs.ygg_symbols.Names.{Named}
+use Rattle.ygg_direct.specs.ygg_type_rules.Names.{Named}
 use Rattle.ygg_direct.specs.ygg_type_rules.declared.scope.Signature.{Signature}
 use Rattle.ygg_direct.specs.ygg_meaning.Environments.{Env, look_up}
 use Rattle.ygg_direct.specs.ygg_meaning.Progress.{Answer, Question, Choice, Call, values_of, value_in, assigned}
 use Rattle.ygg_direct.specs.ygg_type_sound_proofs_Fits.{fits_has}
 use Rattle.ygg_direct.specs.ygg_type_sound.Fitting.{HasShape}
-use Rattle.ygg_direct.specs.ygg_type_progress.Questions.{answer_fits, answer_has}
+use Rattle.ygg_direct.specs.ygg_type_sound.Questions.{answer_fits, answer_has}
 use Rattle.ygg_direct.specs.Direct.{Got, source_got, source_space, stmt_direct}
 use Rattle.ygg_eval_block.specs.ygg_eval_expr.Writing.{CanWrite}
-use Rattle.ygg_eval_block.specs.ygg_eval_lower.Layers.{signatures_at}
+use Rattle.ygg_eval_block.specs.Layers.{signatures_at}
 use Rattle.ygg_eval_block.specs.Ready.{eval_in, IsGiven}
 use Rattle.ygg_eval_block.proofs.Fitting.{given_value, given_call}
 use Rattle.ygg_eval_places.specs.Machines.{PlaceMeaning, IsPlaces}
 use Rattle.ygg_eval_places.specs.Ready.{CanAsk, CanAssign}
 use Rattle.ygg_eval_places.specs.Walks.{Ended}
-use Rattle.ygg_eval_places.proofs.Below.{value_writes}
+use Rattle.ygg_eval_places.proofs.PlacesBelow.{value_writes}
 use Rattle.ygg_eval_places.proofs.Parts.{assign_asks, ask_calls, choice_can, call_asks}
 
 -- what follows where there is a result

@@ -18,9 +18,9 @@ use Rattle.ygg_direct.specs.ygg_type_rules.Definitions.{definitions_errors, with
 use Rattle.ygg_direct.specs.ygg_meaning.Environments.{Env}
 use Rattle.ygg_direct.specs.ygg_meaning.Meaning.{functions_of}
 use Rattle.ygg_direct.specs.ygg_type_sound.Agrees.{Agrees}
-use Rattle.ygg_direct.specs.ygg_type_progress.Kinds.{may_call, source_keeps, all_keep, stmt_keeps, keeps}
-use Rattle.ygg_direct.specs.ygg_type_progress.Questions.{plain}
-use Rattle.ygg_eval_block.specs.ygg_eval_lower.Layers.{signatures_at}
+use Rattle.ygg_direct.specs.ygg_type_sound.Kinds.{may_call, source_keeps, all_keep, stmt_keeps, keeps}
+use Rattle.ygg_direct.specs.ygg_type_sound.Questions.{plain}
+use Rattle.ygg_eval_block.specs.Layers.{signatures_at}
 use Rattle.ygg_eval_places.specs.Machines.{PlaceMeaning}
 
 module _ {S : Type 0} (M : PlaceMeaning S) (file : File) (number : ℕ) where

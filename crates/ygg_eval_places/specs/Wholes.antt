@@ -11,11 +11,11 @@ use Rattle.ygg_direct.specs.ygg_type_rules.Statements.{block_errors}
 use Rattle.ygg_direct.specs.ygg_meaning.Environments.{Env, bind}
 use Rattle.ygg_direct.specs.ygg_meaning.Progress.{Answer, answer_of}
 use Rattle.ygg_direct.specs.ygg_meaning.Shapes.{values_fit}
-use Rattle.ygg_direct.specs.ygg_type_progress.Kinds.{keeps}
+use Rattle.ygg_direct.specs.ygg_type_sound.Kinds.{keeps}
 use Rattle.ygg_direct.specs.Direct.{Reached, direct_run}
-use Rattle.ygg_eval_block.specs.ygg_eval_lower.Bodies.{IsBlock, arguments_in, kind_of, variables_in}
-use Rattle.ygg_eval_block.specs.ygg_eval_lower.Layers.{signatures_at}
-use Rattle.ygg_eval_block.specs.ygg_eval_lower.declared.body.Body.{Body}
+use Rattle.ygg_eval_block.specs.Bodies.{IsBlock, arguments_in, kind_of, variables_in}
+use Rattle.ygg_eval_block.specs.Layers.{signatures_at}
+use Rattle.ygg_eval_block.specs.declared.body.Body.{Body}
 use Rattle.ygg_eval_block.specs.Ready.{eval_in}
 use Rattle.ygg_eval_places.specs.Machines.{PlaceMeaning}
 use Rattle.ygg_eval_places.specs.Ready.{Fits}

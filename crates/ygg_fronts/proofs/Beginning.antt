@@ -14,7 +14,7 @@ use Rattle.ygg_sym_laws.specs.ygg_meaning.Layer.{ClosedLayer}
 use Rattle.ygg_sym_laws.specs.ygg_meaning.Meaning.{Functions, functions_of}
 use Rattle.ygg_sym_laws.specs.ygg_meaning.Refines.{Below}
 use Rattle.ygg_sym_laws.specs.ygg_meaning.Shapes.{env_fits}
-use Rattle.ygg_sym_laws.specs.ygg_type_progress.Questions.{plain}
+use Rattle.ygg_sym_laws.specs.ygg_type_sound.Questions.{plain}
 use Rattle.ygg_sym_laws.specs.ygg_type_sound.Agrees.{Agrees}
 use Rattle.ygg_sym_laws.specs.ygg_rules.declared.rule.RuleKind.{RuleKind}
 use Rattle.ygg_sym_laws.specs.ygg_bank.Values.{Inputs, Values, Fits}

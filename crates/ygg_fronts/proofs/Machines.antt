@@ -2,7 +2,7 @@
 use Rattle.std.proofs.Common.{◌≡◌, ◌==◌, ◌+◌, ℕ, true, false, List, [], ◌∷◌, reverse, refl, sym, subst, arith}
 use Rattle.ygg_syntax.specs.declared.grammar.BlockKind.TheVariants.{Impl}
 use Rattle.ygg_syntax.specs.declared.tree.Def.{Def}
-use Rattle.ygg_sym_laws.specs.ygg_symbols.Names.{Named}
+use Rattle.ygg_sym_laws.specs.ygg_type_rules.Names.{Named}
 use Rattle.ygg_sym_laws.specs.ygg_type_rules.declared.scope.Signature.{Signature}
 use Rattle.ygg_sym_laws.specs.ygg_type_rules.TypeErrors.{none}
 use Rattle.ygg_sym_laws.specs.ygg_type_rules.Definitions.{definitions_errors, with_definitions}

@@ -4,7 +4,7 @@ use Rattle.ygg_sym_laws.specs.ygg_meaning.Environments.{Env}
 use Rattle.ygg_sym_laws.specs.ygg_meaning.Machine.{based}
 use Rattle.ygg_sym_laws.specs.ygg_meaning.Refines.{OnDisk, OnSpec, machine_below}
 use Rattle.ygg_sym_laws.specs.ygg_meaning.Spec.{start_outcome}
-use Rattle.ygg_sym_laws.specs.ygg_type_progress.Machines.{IsSized, IsStateOf}
+use Rattle.ygg_sym_laws.specs.ygg_type_sound.Machines.{IsSized, IsStateOf}
 use Rattle.ygg_sym_laws.specs.ygg_direct.Acts.{Fell}
 use Rattle.ygg_sym_laws.specs.ygg_direct.DiskActs.{disk_acts}
 use Rattle.ygg_sym_laws.specs.ygg_direct.RunPlaces.{disk_space, spec_space}

@@ -15,9 +15,9 @@ use Rattle.ygg_sym_laws.specs.ygg_meaning.Meaning.{Functions, functions_of}
 use Rattle.ygg_sym_laws.specs.ygg_meaning.Progress.{Answer, answer_of}
 use Rattle.ygg_sym_laws.specs.ygg_meaning.Refines.{Below, machine_below}
 use Rattle.ygg_sym_laws.specs.ygg_meaning.Shapes.{env_fits}
-use Rattle.ygg_sym_laws.specs.ygg_type_progress.Blocks.{eval_with}
-use Rattle.ygg_sym_laws.specs.ygg_type_progress.Questions.{Follows}
-use Rattle.ygg_sym_laws.specs.ygg_type_progress_proofs_Following.{follows_front, fits_after}
+use Rattle.ygg_sym_laws.specs.ygg_type_sound.Blocks.{eval_with}
+use Rattle.ygg_sym_laws.specs.ygg_type_sound.Questions.{Follows}
+use Rattle.ygg_sym_laws.specs.ygg_type_sound_proofs_Following.{follows_front, fits_after}
 use Rattle.ygg_sym_laws.specs.ygg_rules.declared.rule.RuleKind.{RuleKind}
 use Rattle.ygg_sym_laws.specs.ygg_bank_proofs_Meaning.{fits_fewer}
 use Rattle.ygg_sym_laws.specs.ygg_shape_cells.Terms.{worth}

@@ -4,4 +4,4 @@
 pub mod law;
 pub mod sym_law;
 
-pub use ygg_sym_laws::{Bank, Env};
+pub use ygg_sym_laws::{Bank, Book, Env, Id, NoMemory, refines_by_list, typed_histories};

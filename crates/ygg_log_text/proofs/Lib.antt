@@ -6,3 +6,4 @@ pub mod Leading
 pub mod Ending
 pub mod Decoding
 pub mod Running
+pub mod Flowing

@@ -3,3 +3,4 @@ pub mod Steps
 pub mod Spots
 pub mod Reading
 pub mod Runs
+pub mod Pieces

@@ -6,13 +6,17 @@
 //! ```
 //!
 //! is the step that derives the clause of 1 and -2 from the clauses 3 and 4.
+//!
+//! Long texts are put piece by piece, so that they need not stand in memory.
 #![tactic(auto)]
 
 mod lines;
 mod literals;
 mod numbers;
+mod pieces;
 mod reader;
 mod spot;
 
 pub use lines::{put_clause, put_literals, put_number, put_step};
+pub use pieces::{finish, pass, pass_log};
 pub use reader::{StepHeard, StepReader};

@@ -24,8 +24,8 @@ use Rattle.ygg_eval.specs.ygg_meaning.Shapes.{fits}
 use Rattle.ygg_eval.specs.ygg_type_sound.Fitting.{fits_wanted, all_fit}
 use Rattle.ygg_eval.specs.ygg_type_sound_proofs_Fits.{value_fits}
 use Rattle.ygg_eval.specs.ygg_type_sound_proofs_Tests.{left, right}
-use Rattle.ygg_eval.specs.ygg_type_progress_proofs_Disks.{disk_row_is}
-use Rattle.ygg_eval.specs.ygg_eval_lower.Lower.{Standing, IsCallable, Called, GivesWhole, ending_of}
+use Rattle.ygg_eval.specs.ygg_type_sound_proofs_Disks.{disk_row_is}
+use Rattle.ygg_eval.specs.ygg_eval_block.Lower.{Standing, IsCallable, Called, GivesWhole, ending_of}
 use Rattle.ygg_machine.specs.Grounded.{row_of, HasRows, ground_meaning}
 use Rattle.ygg_machine.specs.Answered.{AnswersValue}
 

@@ -12,12 +12,12 @@ use Rattle.ygg_eval.specs.ygg_disk.declared.power.Power.{Power}
 use Rattle.ygg_eval.specs.ygg_meaning.Environments.{bind}
 use Rattle.ygg_eval.specs.ygg_meaning.Shapes.{values_fit}
 use Rattle.ygg_eval.specs.ygg_meaning.Layer.{dialogue_of}
-use Rattle.ygg_eval.specs.ygg_eval_lower.declared.body.Part.{Part}
-use Rattle.ygg_eval.specs.ygg_eval_lower.declared.body.Part.TheVariants as part
-use Rattle.ygg_eval.specs.ygg_eval_lower.declared.body.Body.{Body}
-use Rattle.ygg_eval.specs.ygg_eval_lower.Bodies.{kind_of, variables_in, arguments_in, IsBlock, IsRunnable}
-use Rattle.ygg_eval.specs.ygg_eval_lower.Layers.{closed_at}
-use Rattle.ygg_eval.specs.ygg_eval_lower.Lower.{Standing, Meaning, IsLower}
+use Rattle.ygg_eval.specs.ygg_eval_block.declared.body.Part.{Part}
+use Rattle.ygg_eval.specs.ygg_eval_block.declared.body.Part.TheVariants as part
+use Rattle.ygg_eval.specs.ygg_eval_block.declared.body.Body.{Body}
+use Rattle.ygg_eval.specs.ygg_eval_block.Bodies.{kind_of, variables_in, arguments_in, IsBlock, IsRunnable}
+use Rattle.ygg_eval.specs.ygg_eval_block.Layers.{closed_at}
+use Rattle.ygg_eval.specs.ygg_eval_block.Lower.{Standing, Meaning, IsLower}
 use Rattle.ygg_eval.specs.ygg_eval_block.Runs.{RunEnds, BodyEnds}
 use Rattle.ygg_eval.specs.ygg_eval_block.declared.run.Ended.{Ended}
 use Rattle.ygg_eval.specs.ygg_eval_block.declared.run.Ended.TheVariants as ended

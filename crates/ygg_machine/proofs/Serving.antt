@@ -17,10 +17,10 @@ use Rattle.ygg_eval.specs.ygg_meaning.Environments.{Env, bind}
 use Rattle.ygg_eval.specs.ygg_meaning.Progress.{Answer}
 use Rattle.ygg_eval.specs.ygg_meaning.Layer.{dialogue_of}
 use Rattle.ygg_eval.specs.ygg_meaning.Shapes.{values_fit}
-use Rattle.ygg_eval.specs.ygg_eval_lower.declared.body.Part.TheVariants as part
-use Rattle.ygg_eval.specs.ygg_eval_lower.Bodies.{IsBlock, IsRunnable, arguments_at, arguments_in}
-use Rattle.ygg_eval.specs.ygg_eval_lower.Layers.{closed_at, signatures_at}
-use Rattle.ygg_eval.specs.ygg_eval_lower.Lower.{Standing, Meaning, Ending, Whole, Down, Failed, Starved, AfterWhole, GivesWhole, Serves, Called, IsCallable}
+use Rattle.ygg_eval.specs.ygg_eval_block.declared.body.Part.TheVariants as part
+use Rattle.ygg_eval.specs.ygg_eval_block.Bodies.{IsBlock, IsRunnable, arguments_at, arguments_in}
+use Rattle.ygg_eval.specs.ygg_eval_block.Layers.{closed_at, signatures_at}
+use Rattle.ygg_eval.specs.ygg_eval_block.Lower.{Standing, Meaning, Ending, Whole, Down, Failed, Starved, AfterWhole, GivesWhole, Serves, Called, IsCallable}
 use Rattle.ygg_eval.specs.ygg_eval_block.Runs.{RunEnds, Finished}
 use Rattle.ygg_eval.specs.ygg_eval_block.declared.run.Ended.{Ended}
 use Rattle.ygg_eval.proofs.OnSpec.{AsksSpec, asks_spec}

@@ -46,7 +46,7 @@ use Rattle.ygg_syntax.specs.declared.tree.TypeText.{TypeText}
 use Rattle.ygg_syntax.specs.declared.tree.File.{File}
 use Rattle.ygg_syntax.specs.Files.{IsDerivable}
 use Rattle.ygg_eval.specs.ygg_syntax_count.Weights.{Weights, weights_of}
-use Rattle.ygg_eval.specs.ygg_symbols.Names.{Named, look_up, has, added}
+use Rattle.ygg_eval.specs.ygg_type_rules.Names.{Named, look_up, has, added}
 use Rattle.ygg_eval.specs.ygg_type_rules.declared.scope.Visibility.TheVariants.{Implementation}
 use Rattle.ygg_eval.specs.ygg_type_rules.declared.scope.Signature.{Signature}
 use Rattle.ygg_eval.specs.ygg_type_rules.TypeErrors.{none, unless}
@@ -82,18 +82,18 @@ use Rattle.ygg_eval.specs.ygg_meaning.Shapes.{env_fits, shape_in, values_fit, ze
 use Rattle.ygg_eval.specs.ygg_type_sound_proofs_Names.{or_else, look_up_append}
 use Rattle.ygg_eval.specs.ygg_type_sound_proofs_Parameters.{type_is}
 use Rattle.ygg_eval.specs.ygg_type_sound_proofs_Tests.{left, right, passed, turned, bytes_equal}
-use Rattle.ygg_eval.specs.ygg_type_progress.Blocks.{is_returned}
-use Rattle.ygg_eval.specs.ygg_type_progress.Kinds.{keeps, layer_keeps, operation_keeps, on_crash_keeps, returns_declared}
-use Rattle.ygg_eval.specs.ygg_type_progress.Questions.{gives, answer_has, answer_fits, AnswersFit}
-use Rattle.ygg_eval.proofs.of_ygg_type_progress.Derived.{derivable_derived}
-use Rattle.ygg_eval.specs.ygg_type_progress_proofs_Files.{have}
-use Rattle.ygg_eval.specs.ygg_type_progress_proofs_Sounds.{block_sound}
-use Rattle.ygg_eval.specs.ygg_type_progress_proofs_Typed.{Parts, parts}
-use Rattle.ygg_eval.proofs.of_ygg_type_progress.Views.{AllTyped, zeros_fit, memory_agrees, agrees_with_arguments}
-use Rattle.ygg_eval.specs.ygg_eval_lower.Conversations.{Exchange, Exchanged, Talks, asked, answers_of}
-use Rattle.ygg_eval.specs.ygg_eval_lower.Layers.{closed_at, signatures_at}
-use Rattle.ygg_eval.specs.ygg_eval_lower.Lower.{Standing, Meaning}
-use Rattle.ygg_eval.specs.ygg_eval_lower_proofs_Blocks.{LayerAt, bind_fits, blocks_kept, layer_typing}
+use Rattle.ygg_eval.specs.ygg_type_sound.Blocks.{is_returned}
+use Rattle.ygg_eval.specs.ygg_type_sound.Kinds.{keeps, layer_keeps, operation_keeps, on_crash_keeps, returns_declared}
+use Rattle.ygg_eval.specs.ygg_type_sound.Questions.{gives, answer_has, answer_fits, AnswersFit}
+use Rattle.ygg_eval.proofs.of_ygg_type_sound.Derived.{derivable_derived}
+use Rattle.ygg_eval.specs.ygg_type_sound_proofs_Files.{have}
+use Rattle.ygg_eval.specs.ygg_type_sound_proofs_ProgressSounds.{block_sound}
+use Rattle.ygg_eval.specs.ygg_type_sound_proofs_Typed.{Parts, parts}
+use Rattle.ygg_eval.proofs.of_ygg_type_sound.Views.{AllTyped, zeros_fit, memory_agrees, agrees_with_arguments}
+use Rattle.ygg_eval.specs.ygg_eval_block.Conversations.{Exchange, Exchanged, Talks, asked, answers_of}
+use Rattle.ygg_eval.specs.ygg_eval_block.Layers.{closed_at, signatures_at}
+use Rattle.ygg_eval.specs.ygg_eval_block.Lower.{Standing, Meaning}
+use Rattle.ygg_eval.specs.ygg_eval_block_proofs_Blocks.{LayerAt, bind_fits, blocks_kept, layer_typing}
 use Rattle.ygg_eval.specs.ygg_eval_block.Runs.{Finished}
 use Rattle.ygg_eval.proofs.Values.{bound_fits}
 use Rattle.ygg_machine.specs.Floors.{memory_at}

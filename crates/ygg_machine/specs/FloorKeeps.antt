@@ -16,8 +16,8 @@ use Rattle.ygg_eval.specs.ygg_meaning.Progress.{Answer}
 use Rattle.ygg_eval.specs.ygg_meaning.Machine.{State, on, Machine}
 use Rattle.ygg_eval.specs.ygg_meaning.Runs.{Dialogue, FallenRun}
 use Rattle.ygg_eval.specs.ygg_meaning.Layer.{ClosedLayer, Layered, OfOperation, BlockRuns, BlockFalls, dialogue_of}
-use Rattle.ygg_eval.specs.ygg_eval_lower.Layers.{closed_at}
-use Rattle.ygg_eval.specs.ygg_eval_lower.Lower.{
+use Rattle.ygg_eval.specs.ygg_eval_block.Layers.{closed_at}
+use Rattle.ygg_eval.specs.ygg_eval_block.Lower.{
   Standing,
   Meaning,
   Ending,

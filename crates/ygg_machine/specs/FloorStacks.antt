@@ -20,10 +20,10 @@ use Rattle.ygg_eval.specs.ygg_disk.Disk as disk
 use Rattle.ygg_eval.specs.ygg_meaning.Noted.{Note}
 use Rattle.ygg_eval.specs.ygg_meaning.Mirror.{SameOn, IsJoined, Mirrors}
 use Rattle.ygg_eval.specs.ygg_meaning_proofs_Mirrored.{layered_mirrors, formatted_mirrors}
-use Rattle.ygg_eval.specs.ygg_eval_lower.Layers.{closed_at}
-use Rattle.ygg_eval.specs.ygg_eval_lower.Lower.{Standing, Meaning, Cause, PowerLoss, GivenUp, Ending, IsLower}
-use Rattle.ygg_eval.specs.ygg_eval_lower.Lower as ending
-use Rattle.ygg_eval.specs.ygg_eval_lower.Conversations.{Asking, Exchange, Exchanged, Answers, Talks}
+use Rattle.ygg_eval.specs.ygg_eval_block.Layers.{closed_at}
+use Rattle.ygg_eval.specs.ygg_eval_block.Lower.{Standing, Meaning, Cause, PowerLoss, GivenUp, Ending, IsLower}
+use Rattle.ygg_eval.specs.ygg_eval_block.Lower as ending
+use Rattle.ygg_eval.specs.ygg_eval_block.Conversations.{Asking, Exchange, Exchanged, Answers, Talks}
 use Rattle.ygg_eval.specs.ygg_eval_block.Runs.{Came, EndedIn, RunEnds}
 use Rattle.ygg_eval.specs.ygg_eval_block.declared.run.Ended.{Ended}
 use Rattle.ygg_eval.specs.ygg_eval_block.declared.run.Ended.TheVariants as ended

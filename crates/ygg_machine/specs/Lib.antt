@@ -1,10 +1,9 @@
 pub use Rattle.ygg_eval.specs.ygg_disk
-pub use Rattle.ygg_eval.specs.ygg_eval_lower
+pub use Rattle.ygg_eval.specs.ygg_eval_block
 pub use Rattle.ygg_eval.specs.ygg_meaning
-pub use Rattle.ygg_eval.specs.ygg_symbols
+pub use Rattle.ygg_eval.specs.ygg_type_rules
 pub use Rattle.ygg_eval.specs.ygg_type_proofs_Least
 pub use Rattle.ygg_eval.specs.ygg_type
-pub use Rattle.ygg_eval.specs.ygg_type_rules
 pub use Rattle.ygg_eval.specs.ygg_type_sound_proofs_Fits
 pub use Rattle.ygg_eval.specs.ygg_type_sound
 pub mod GroundSteps

@@ -7,10 +7,10 @@ use Rattle.ygg_oblige_laws.specs.ygg_bank.declared.node.Node.{Node}
 use Rattle.ygg_oblige_laws.specs.ygg_meaning.Obligations.{Obligation, obligations_of}
 use Rattle.ygg_oblige_list.specs.ygg_sym_spec.Layers.{closed, terms_in}
 use Rattle.ygg_oblige_list.specs.ygg_sym_spec.declared.layer.SymLayer.{SymLayer}
-use Rattle.ygg_oblige_kinds.specs.Sites.{below_in}
-use Rattle.ygg_oblige_kinds.specs.SymBelow.{SymBelow}
-use Rattle.ygg_oblige_laws.specs.ygg_oblige_pieces.Layers.{LayerTyped}
-use Rattle.ygg_oblige_laws.specs.ygg_oblige_pieces.TermStates.{Starting, starting, state_words}
+use Rattle.ygg_oblige.specs.Sites.{below_in}
+use Rattle.ygg_oblige.specs.SymBelow.{SymBelow}
+use Rattle.ygg_oblige_laws.specs.LayerTerms.{LayerTyped}
+use Rattle.ygg_oblige_laws.specs.TermStates.{Starting, starting, state_words}
 use Rattle.ygg_oblige_laws.proofs.EachKind.{all_known}
 use Rattle.ygg_oblige_laws.proofs.Whole.{means_typed}
 use Rattle.ygg_oblige.proofs.Ticks.{all_fit}

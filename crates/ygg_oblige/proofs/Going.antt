@@ -19,12 +19,12 @@ use Rattle.ygg_syntax.specs.declared.tree.Def.{Def}
 use Rattle.ygg_oblige_laws.specs.ygg_sym_runs_proofs_Lows.{low_wider}
 use Rattle.ygg_oblige_list.specs.ygg_sym_spec.Layers.{closed, terms_in}
 use Rattle.ygg_oblige_list.specs.ygg_sym_spec.declared.layer.SymLayer.{SymLayer}
-use Rattle.ygg_oblige_kinds.specs.Sites.{below_in}
-use Rattle.ygg_oblige_kinds.specs.SymBelow.{SymBelow}
-use Rattle.ygg_oblige_laws.specs.ygg_oblige_pieces.Layers.{LayerTyped}
-use Rattle.ygg_oblige_laws.specs.ygg_oblige_pieces.Numbers.{Numbers, numbers_of}
-use Rattle.ygg_oblige_laws.specs.ygg_oblige_pieces.TermStates.{Starting}
-use Rattle.ygg_oblige_laws.specs.ygg_oblige_pieces.Terms.{term_made}
+use Rattle.ygg_oblige.specs.Sites.{below_in}
+use Rattle.ygg_oblige.specs.SymBelow.{SymBelow}
+use Rattle.ygg_oblige_laws.specs.LayerTerms.{LayerTyped}
+use Rattle.ygg_oblige_laws.specs.Numbers.{Numbers, numbers_of}
+use Rattle.ygg_oblige_laws.specs.TermStates.{Starting}
+use Rattle.ygg_oblige_laws.specs.Terms.{term_made}
 use Rattle.ygg_oblige_laws.proofs.Compares.{comparing_means}
 use Rattle.ygg_oblige_laws.proofs.Fresh.{fresh_means}
 use Rattle.ygg_oblige_laws.proofs.Glued.{glued_means}
@@ -33,7 +33,7 @@ use Rattle.ygg_oblige_laws.proofs.Steps.{steps_mean}
 use Rattle.ygg_oblige_laws.proofs.Free.{term_below}
 use Rattle.ygg_oblige_laws.proofs.Whole.{means_typed}
 use Rattle.ygg_oblige_laws.specs.Parts.{PartsMean}
-use Rattle.ygg_oblige_kinds.specs.Makers.{StartingShaped}
+use Rattle.ygg_oblige.specs.Makers.{StartingShaped}
 use Rattle.ygg_oblige.specs.Adding.{KnownAt, after_at, names_of, next_at, term_at, terms_at}
 use Rattle.ygg_oblige.specs.Obligations as listed
 use Rattle.ygg_oblige.specs.declared.obligation.Obligation as code

@@ -1,3 +1,11 @@
+pub use Rattle.ygg_oblige_list.proofs.of_ygg_oblige_parts.Carried
+pub use Rattle.ygg_oblige_list.proofs.of_ygg_oblige_parts.Left
+pub mod Sites
+pub mod Chains
+pub mod Alike
+pub mod KindsBegun
+pub mod Cases
+pub mod Numbered
 pub use Rattle.ygg_oblige_laws.proofs as of_ygg_oblige_laws
 pub mod KnownSo
 pub mod Going

@@ -11,10 +11,10 @@ use Rattle.ygg_oblige_laws.specs.ygg_sym_laws.Below.{signatures_on}
 use Rattle.ygg_oblige_laws.specs.ygg_sym_laws.Typed.{BlockTyped}
 use Rattle.ygg_oblige_list.specs.ygg_sym_spec.Layers.{closed}
 use Rattle.ygg_oblige_list.specs.ygg_sym_spec.declared.layer.SymLayer.{SymLayer}
-use Rattle.ygg_oblige_kinds.specs.Sites.{below_in}
-use Rattle.ygg_oblige_kinds.specs.SymBelow.{SymBelow}
-use Rattle.ygg_oblige_laws.specs.ygg_oblige_pieces.Layers.{LayerTyped}
-use Rattle.ygg_oblige_kinds.specs.Making.{TickFits}
+use Rattle.ygg_oblige.specs.Sites.{below_in}
+use Rattle.ygg_oblige.specs.SymBelow.{SymBelow}
+use Rattle.ygg_oblige_laws.specs.LayerTerms.{LayerTyped}
+use Rattle.ygg_oblige.specs.Making.{TickFits}
 
 module _ (l : SymLayer) (g : SymBelow) where
   abbrev Fits : Obligation → Type 0

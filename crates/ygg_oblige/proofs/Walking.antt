@@ -21,17 +21,17 @@ use Rattle.ygg_oblige_laws.specs.ygg_meaning.Stack.{Layers, below_of, layers_on,
 use Rattle.ygg_oblige_laws.specs.ygg_sym_laws.Means.{terms_of}
 use Rattle.ygg_oblige_list.specs.ygg_sym_spec.Layers.{closed}
 use Rattle.ygg_oblige_list.specs.ygg_sym_spec.declared.layer.SymLayer.{SymLayer}
-use Rattle.ygg_oblige_kinds.specs.Sites.{SameDefs, below_in}
-use Rattle.ygg_oblige_kinds.specs.SymBelow.{SymBelow}
-use Rattle.ygg_oblige_kinds.specs.SymBelow.TheVariants as on
-use Rattle.ygg_oblige_kinds.proofs.Left.{rest_is}
-use Rattle.ygg_oblige_laws.specs.ygg_oblige_pieces.Layers.{LayerTyped}
-use Rattle.ygg_oblige_laws.specs.ygg_oblige_pieces.Meaning.{claim_name}
-use Rattle.ygg_oblige_laws.specs.ygg_oblige_pieces.Terms.{after_layer, after_layers, file_made, layer_made, layers_made}
+use Rattle.ygg_oblige.specs.Sites.{SameDefs, below_in}
+use Rattle.ygg_oblige.specs.SymBelow.{SymBelow}
+use Rattle.ygg_oblige.specs.SymBelow.TheVariants as on
+use Rattle.ygg_oblige.proofs.Left.{rest_is}
+use Rattle.ygg_oblige_laws.specs.LayerTerms.{LayerTyped}
+use Rattle.ygg_oblige_laws.specs.Meaning.{claim_name}
+use Rattle.ygg_oblige_laws.specs.Terms.{after_layer, after_layers, file_made, layer_made, layers_made}
 use Rattle.ygg_oblige_laws.specs.TypedLayers.{LayersTyped}
 use Rattle.ygg_oblige_laws.proofs.Whole.{layer_inputs}
 use Rattle.ygg_oblige.specs.Adding.{AddsAsked, after_layer_at, layer_at, names_of}
-use Rattle.ygg_oblige_kinds.specs.Making.{SiteFits}
+use Rattle.ygg_oblige.specs.Making.{SiteFits}
 use Rattle.ygg_oblige.proofs.Asking.{claims_on_more}
 use Rattle.ygg_oblige.specs.Obligations as listed
 use Rattle.ygg_oblige.specs.declared.obligation.Obligation as code

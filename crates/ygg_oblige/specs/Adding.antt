@@ -7,13 +7,13 @@ use Rattle.ygg_oblige_laws.specs.ygg_bank.Makes.{Make}
 use Rattle.ygg_oblige_laws.specs.ygg_bank.declared.node.Id.{Id}
 use Rattle.ygg_oblige_list.specs.ygg_sym_spec.Layers.{closed, terms_in}
 use Rattle.ygg_oblige_list.specs.ygg_sym_spec.declared.layer.SymLayer.{SymLayer}
-use Rattle.ygg_oblige_kinds.specs.Sites.{below_in}
-use Rattle.ygg_oblige_kinds.specs.SymBelow.{SymBelow}
-use Rattle.ygg_oblige_kinds.specs.Making.{TickFits}
+use Rattle.ygg_oblige.specs.Sites.{below_in}
+use Rattle.ygg_oblige.specs.SymBelow.{SymBelow}
+use Rattle.ygg_oblige.specs.Making.{TickFits}
 use Rattle.ygg_oblige_laws.specs.ObligationMeans.{ObligationKnown}
-use Rattle.ygg_oblige_laws.specs.ygg_oblige_pieces.Numbers.{numbers_of}
-use Rattle.ygg_oblige_laws.specs.ygg_oblige_pieces.TermStates.{Starting}
-use Rattle.ygg_oblige_laws.specs.ygg_oblige_pieces.Terms.{after_all, after_layer, layer_made, term_made, terms_made}
+use Rattle.ygg_oblige_laws.specs.Numbers.{numbers_of}
+use Rattle.ygg_oblige_laws.specs.TermStates.{Starting}
+use Rattle.ygg_oblige_laws.specs.Terms.{after_all, after_layer, layer_made, term_made, terms_made}
 use Rattle.ygg_oblige_list.specs.Listing.{IsNumberIn}
 use Rattle.ygg_oblige.specs.Kinds.{kind_in}
 use Rattle.ygg_oblige.specs.declared.obligation.Obligation as code

@@ -4,8 +4,8 @@ ghost use Rattle.std.specs.Prelude.{◌≡◌, codes, [], map, IfOk, OnOk};
 ghost use Rattle.ygg_oblige_laws.specs.ygg_bank.Nodes.{IsBank};
 ghost use Rattle.ygg_oblige_laws.specs.ygg_meaning.Claims.{claims_of};
 ghost use Rattle.ygg_oblige_laws.specs.ygg_meaning.Stack.{layers_of, table_named, tables_of};
-ghost use Rattle.ygg_oblige_laws.specs.ygg_oblige_pieces.Meaning.{claim_name};
-ghost use Rattle.ygg_oblige_laws.specs.ygg_oblige_pieces.Terms.{file_made};
+ghost use Rattle.ygg_oblige_laws.specs.Meaning.{claim_name};
+ghost use Rattle.ygg_oblige_laws.specs.Terms.{file_made};
 ghost use Rattle.ygg_oblige_laws.specs.TypedLayers.{LayersTyped};
 ghost use Rattle.ygg_oblige.specs.Obligations.{AreClaims, ArePlaced, names_in, terms_in};
 
@@ -13,9 +13,8 @@ use crate::layers::add_layer;
 use crate::obligation::Obligations;
 use std::alloc::Global;
 use ygg_base::{DiskKind, Text};
-use ygg_oblige_kinds::{Maker, SymBelow};
 use ygg_oblige_laws::{Bank, Book, NoMemory};
-use ygg_oblige_list::{SymLayer, place_of};
+use ygg_oblige_list::{Maker, SymBelow, SymLayer, place_of};
 use ygg_syntax::tree::{Declared, DiskText, File, Name, Place, TypeText};
 
 /// A table of the disk's size, as if it were declared. Its only error is out of memory.

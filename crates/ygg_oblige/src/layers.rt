@@ -5,9 +5,9 @@ ghost use Rattle.ygg_oblige_laws.specs.ygg_bank.Inputs.{InputsBelow};
 ghost use Rattle.ygg_oblige_laws.specs.ygg_bank.Nodes.{Extends, IsBank};
 ghost use Rattle.ygg_oblige_laws.specs.ygg_meaning.Obligations.{name_of, obligations_of};
 ghost use Rattle.ygg_oblige_list.specs.ygg_sym_spec.Layers.{closed};
-ghost use Rattle.ygg_oblige_laws.specs.ygg_oblige_pieces.TermStates.{state_words};
-ghost use Rattle.ygg_oblige_kinds.specs.Makers.{StartingShaped, starting_of};
-ghost use Rattle.ygg_oblige_kinds.specs.Steps.{obligation_of};
+ghost use Rattle.ygg_oblige_laws.specs.TermStates.{state_words};
+ghost use Rattle.ygg_oblige.specs.Makers.{StartingShaped, starting_of};
+ghost use Rattle.ygg_oblige.specs.Steps.{obligation_of};
 ghost use Rattle.ygg_oblige.specs.Adding.{
   AddsAsked,
   KnownAt,
@@ -21,14 +21,14 @@ ghost use Rattle.ygg_oblige.specs.Adding.{
 };
 ghost use Rattle.ygg_oblige.specs.Kinds.{kind_in};
 ghost use Rattle.ygg_oblige_list.specs.Listing.{AreNumbered, IsNumberIn, asked_in};
-ghost use Rattle.ygg_oblige_kinds.specs.Making.{SiteFits};
+ghost use Rattle.ygg_oblige.specs.Making.{SiteFits};
 ghost use Rattle.ygg_oblige.specs.Obligations.{ArePlaced, names_in, terms_in};
 
 use crate::names::name_of;
 use crate::obligation::{Kind, Obligation, Obligations};
-use ygg_oblige_kinds::{Maker, SymObligation, SymStarting, numbers_of, term, words_in};
+use crate::{numbers_of, term};
 use ygg_oblige_laws::{Bank, Book, NoMemory};
-use ygg_oblige_list::{Asked, asked_of};
+use ygg_oblige_list::{Asked, Maker, SymObligation, SymStarting, asked_of, words_in};
 
 /// What an obligation asks.
 fn kind_of(obligation: SymObligation<'_>) -> Kind

@@ -1,28 +1,29 @@
-//! The obligations of a layer file as terms.
+//! The obligations of a layer file as terms, by their kinds.
 #![tactic(auto)]
 
 ghost use Rattle.std.specs.Prelude.{◌≡◌, [], map, IfOk, OnOk};
 ghost use Rattle.ygg_oblige_laws.specs.ygg_bank.Nodes.{IsBank};
 ghost use Rattle.ygg_oblige_laws.specs.ygg_meaning.Claims.{claims_of};
-ghost use Rattle.ygg_oblige_laws.specs.ygg_oblige_pieces.Terms.{file_made};
-ghost use Rattle.ygg_oblige_laws.specs.ygg_oblige_pieces.Meaning.{AreTermsIn, claim_name};
+ghost use Rattle.ygg_oblige_laws.specs.Terms.{file_made};
+ghost use Rattle.ygg_oblige_laws.specs.Meaning.{AreTermsIn, claim_name};
 ghost use Rattle.ygg_oblige.specs.Obligations.{AreClaims, ArePlaced, names_in, terms_in};
 
 mod file;
 mod layers;
 mod names;
+mod numbers;
 mod obligation;
+mod terms;
 
 pub use file::tables;
 pub use layers::after_states;
 pub use names::name_of;
+pub use numbers::{SymNumbers, numbers_of};
 pub use obligation::{Kind, Obligation, Obligations};
 use std::alloc::Global;
-pub use ygg_oblige_kinds::{Maker, SymBelow, SymNumbers, SymObligation, numbers_of, words_in};
+pub use terms::term;
 use ygg_oblige_laws::{Bank, Book, NoMemory};
-pub use ygg_oblige_list::{
-    SymBlock, SymLayer, SymPicks, block, cut, failure_room, lost, places, run, zeros,
-};
+pub use ygg_oblige_list::{Maker, SymBelow, SymLayer, SymObligation, words_in};
 use ygg_type::Typed;
 
 /// The obligations of a file in order, and their terms, made in a bank without nodes. Its only error is out of memory, after which the bank may

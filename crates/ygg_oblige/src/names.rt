@@ -2,12 +2,12 @@
 
 ghost use Rattle.std.specs.Prelude.{◌≡◌, ◌++◌, IfOk};
 ghost use Rattle.ygg_oblige_laws.specs.ygg_meaning.Obligations.{name_of};
-ghost use Rattle.ygg_oblige_kinds.specs.Steps.{obligation_of};
+ghost use Rattle.ygg_oblige.specs.Steps.{obligation_of};
 
 use std::alloc::Global;
 use ygg_base::Text;
-use ygg_oblige_kinds::SymObligation;
 use ygg_oblige_laws::NoMemory;
+use ygg_oblige_list::SymObligation;
 use ygg_syntax::tree::{Layer, Name};
 
 /// A layer's name with a mark after it.

@@ -1,7 +1,7 @@
 -- What is decided of an obligation by its term.
 use Rattle.std.proofs.Common.{◌≡◌, ◌⊎◌, inl, inr, ℕ, Bool, List}
-use Rattle.ygg_oblige_pieces.specs.ygg_meaning.Obligations.{Schedule}
-use Rattle.ygg_oblige_pieces.specs.ygg_meaning.Claims.{Claim, ClaimHolds, ClaimViolated}
+use Rattle.ygg_oblige_laws.specs.ygg_meaning.Obligations.{Schedule}
+use Rattle.ygg_oblige_laws.specs.ygg_meaning.Claims.{Claim, ClaimHolds, ClaimViolated}
 use Rattle.ygg_decide.specs.ygg_cnf.Literals.{SatisfiesAll}
 use Rattle.ygg_decide.specs.ygg_bank.Nodes.{IsBank}
 use Rattle.ygg_decide.specs.ygg_bank.Values.{inputs_of}
@@ -11,7 +11,7 @@ use Rattle.ygg_decide.specs.ygg_bank.declared.node.Node.{Node}
 use Rattle.ygg_decide.specs.ygg_gates.Groups.{translated}
 use Rattle.ygg_decide.specs.ygg_gates.Laws.{IsZeroIn, AreExact}
 use Rattle.ygg_decide.proofs.of_ygg_gates.Whole.{satisfiable_exactly}
-use Rattle.ygg_oblige_pieces.specs.Meaning.{IsTermOf}
+use Rattle.ygg_oblige_laws.specs.Meaning.{IsTermOf}
 use Rattle.ygg_oblige_decided.specs.Laws.{NeverZeroHolds, ZeroIsViolated, EachIsDecided}
 use Rattle.ygg_oblige_decided.proofs.Listed.{listed_zero}
 use Rattle.ygg_oblige_decided.proofs.Choosing.{satisfiable}

@@ -1,4 +1,4 @@
-pub use Rattle.ygg_oblige_pieces.proofs.of_ygg_type_progress
+pub use Rattle.ygg_oblige_laws.proofs.of_ygg_type_sound
 pub mod Listed
 pub mod Choosing
 pub mod Deciding

@@ -13,8 +13,8 @@ use Rattle.ygg_decide.specs.ygg_bank.declared.node.Id.{Id}
 use Rattle.ygg_decide.specs.ygg_bank.declared.node.Node.{Node}
 use Rattle.ygg_decide.specs.ygg_bank.declared.node.Node.TheVariants.{Input, Const, Bin, Not, Resize, Pick}
 use Rattle.ygg_decide.specs.ygg_gates.Laws.{IsZeroIn}
-use Rattle.ygg_oblige_pieces.specs.Meaning.{Refuting}
-use Rattle.ygg_oblige_pieces.proofs.Glued.{one_width}
+use Rattle.ygg_oblige_laws.specs.Meaning.{Refuting}
+use Rattle.ygg_oblige_laws.proofs.Glued.{one_width}
 
 -- the words of the inputs among nodes, in order
 abbrev pub listed : Inputs → List Node → List Given

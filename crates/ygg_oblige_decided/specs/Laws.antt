@@ -1,14 +1,14 @@
 -- What is decided of an obligation by its term.
 use Rattle.std.specs.Prelude.{◌⊎◌, List}
-use Rattle.ygg_oblige_pieces.specs.ygg_meaning.Obligations.{Schedule}
-use Rattle.ygg_oblige_pieces.specs.ygg_meaning.Claims.{Claim, ClaimHolds, ClaimViolated}
+use Rattle.ygg_oblige_laws.specs.ygg_meaning.Obligations.{Schedule}
+use Rattle.ygg_oblige_laws.specs.ygg_meaning.Claims.{Claim, ClaimHolds, ClaimViolated}
 use Rattle.ygg_decide.specs.ygg_bank.Nodes.{IsBank}
 use Rattle.ygg_decide.specs.ygg_bank.declared.env.Given.{Given}
 use Rattle.ygg_decide.specs.ygg_bank.declared.node.Id.{Id}
 use Rattle.ygg_decide.specs.ygg_bank.declared.node.Node.{Node}
 use Rattle.ygg_decide.specs.ygg_gates.Laws.{IsZeroIn}
 use Rattle.ygg_decide.specs.Deciding.{IsNeverZero}
-use Rattle.ygg_oblige_pieces.specs.Meaning.{IsTermOf}
+use Rattle.ygg_oblige_laws.specs.Meaning.{IsTermOf}
 
 -- an obligation whose term is 0 in no environment holds
 abbrev pub NeverZeroHolds : Type 0

@@ -3,10 +3,10 @@ pub use Rattle.ygg_decide.specs.ygg_bank
 pub use Rattle.ygg_decide.specs.ygg_cnf
 pub use Rattle.ygg_decide.specs as ygg_decide
 pub use Rattle.ygg_decide.specs.ygg_gates
-pub use Rattle.ygg_oblige_pieces.specs.ygg_meaning
-pub use Rattle.ygg_oblige_pieces.specs as ygg_oblige_pieces
+pub use Rattle.ygg_oblige_laws.specs.ygg_meaning
+pub use Rattle.ygg_oblige_laws.specs as ygg_oblige_laws
 pub use Rattle.ygg_decide.specs.ygg_rules
-pub use Rattle.ygg_oblige_pieces.specs.ygg_sym_expr
-pub use Rattle.ygg_oblige_pieces.specs.ygg_sym_laws
-pub use Rattle.ygg_oblige_pieces.specs.ygg_type_progress
+pub use Rattle.ygg_oblige_laws.specs.ygg_sym_expr
+pub use Rattle.ygg_oblige_laws.specs.ygg_sym_laws
+pub use Rattle.ygg_oblige_laws.specs.ygg_type_sound
 pub mod Laws

@@ -9,7 +9,7 @@ use Rattle.ygg_sym.specs.ygg_meaning.Environments.{bind}
 use Rattle.ygg_sym.specs.ygg_meaning.Shapes.{env_fits, fits, shape_in, values_fit}
 use Rattle.ygg_sym.specs.ygg_bank.Values.{Inputs}
 use Rattle.ygg_sym.specs.ygg_shape.Fresh.{given_value, words_of}
-use Rattle.ygg_oblige_pieces.specs.Inputs.{given_env}
+use Rattle.ygg_oblige_laws.specs.Inputs.{given_env}
 use Rattle.ygg_oblige_given.specs.Tables.{given_values}
 
 module _ (inputs : Inputs) where

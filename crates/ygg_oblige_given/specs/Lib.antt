@@ -1,3 +1,3 @@
-pub use Rattle.ygg_oblige_pieces.specs as ygg_oblige_pieces
+pub use Rattle.ygg_oblige_laws.specs as ygg_oblige_laws
 pub mod Ones
 pub mod Tables

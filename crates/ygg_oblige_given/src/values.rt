@@ -2,8 +2,8 @@
 
 ghost use Rattle.std.specs.Prelude.{◌≡◌, ◌+◌, IfOk, IsTrue};
 ghost use Rattle.ygg_sym.specs.ygg_meaning.Shapes.{env_fits, fits, shape_in, values_fit, words_fit};
-ghost use Rattle.ygg_oblige_pieces.specs.Inputs.{given_env};
-ghost use Rattle.ygg_oblige_pieces.specs.Layers.{ShapesKept};
+ghost use Rattle.ygg_oblige_laws.specs.Inputs.{given_env};
+ghost use Rattle.ygg_oblige_laws.specs.LayerTerms.{ShapesKept};
 ghost use Rattle.ygg_sym.specs.ygg_meaning.Environments.{bind};
 ghost use Rattle.ygg_sym.specs.ygg_shape.Fresh.{given_value, numbers_from, rows_from, words_of};
 ghost use Rattle.std.specs.List.{list_all};

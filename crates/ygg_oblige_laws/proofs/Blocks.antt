@@ -40,16 +40,16 @@ use Rattle.ygg_syntax.specs.declared.tree.Block.{Block}
 use Rattle.ygg_syntax.specs.declared.tree.Operation.{Operation}
 use Rattle.ygg_syntax.specs.declared.tree.Tick.{Tick}
 use Rattle.ygg_syntax.specs.declared.tree.Layer.{Layer}
-use Rattle.ygg_oblige_pieces.specs.ygg_syntax_count.Weights.{Weights}
-use Rattle.ygg_oblige_pieces.specs.ygg_symbols.Names.{Named, look_up, has, added}
-use Rattle.ygg_oblige_pieces.specs.ygg_type_rules.declared.scope.Visibility.{Visibility}
-use Rattle.ygg_oblige_pieces.specs.ygg_type_rules.declared.scope.Visibility.TheVariants.{Specification, Implementation}
-use Rattle.ygg_oblige_pieces.specs.ygg_type_rules.declared.scope.Signature.{Signature}
-use Rattle.ygg_oblige_pieces.specs.ygg_type_rules.TypeErrors.{none, unless}
-use Rattle.ygg_oblige_pieces.specs.ygg_type_rules.Shapes.{shape_of, answer_shape}
-use Rattle.ygg_oblige_pieces.specs.ygg_type_rules.Scopes.{Scope, is_taken, seen_as}
-use Rattle.ygg_oblige_pieces.specs.ygg_type_rules.Statements.{block_errors}
-use Rattle.ygg_oblige_pieces.specs.ygg_type_rules.Definitions.{
+use Rattle.ygg_oblige_laws.specs.ygg_syntax_count.Weights.{Weights}
+use Rattle.ygg_oblige_laws.specs.ygg_type_rules.Names.{Named, look_up, has, added}
+use Rattle.ygg_oblige_laws.specs.ygg_type_rules.declared.scope.Visibility.{Visibility}
+use Rattle.ygg_oblige_laws.specs.ygg_type_rules.declared.scope.Visibility.TheVariants.{Specification, Implementation}
+use Rattle.ygg_oblige_laws.specs.ygg_type_rules.declared.scope.Signature.{Signature}
+use Rattle.ygg_oblige_laws.specs.ygg_type_rules.TypeErrors.{none, unless}
+use Rattle.ygg_oblige_laws.specs.ygg_type_rules.Shapes.{shape_of, answer_shape}
+use Rattle.ygg_oblige_laws.specs.ygg_type_rules.Scopes.{Scope, is_taken, seen_as}
+use Rattle.ygg_oblige_laws.specs.ygg_type_rules.Statements.{block_errors}
+use Rattle.ygg_oblige_laws.specs.ygg_type_rules.Definitions.{
   type_text_errors,
   answer_type_errors,
   definitions_errors,
@@ -58,7 +58,7 @@ use Rattle.ygg_oblige_pieces.specs.ygg_type_rules.Definitions.{
   with_parameters,
   parameters_errors,
 }
-use Rattle.ygg_oblige_pieces.specs.ygg_type_rules.Layers.{
+use Rattle.ygg_oblige_laws.specs.ygg_type_rules.Layers.{
   Known,
   Below,
   layer_scope,
@@ -75,28 +75,28 @@ use Rattle.ygg_oblige_pieces.specs.ygg_type_rules.Layers.{
   ticks_errors,
   relations_errors,
 }
-use Rattle.ygg_oblige_pieces.specs.ygg_meaning.Environments.{Name, bind}
-use Rattle.ygg_oblige_pieces.specs.ygg_meaning.Meaning.{Functions, functions_of}
-use Rattle.ygg_oblige_pieces.specs.ygg_meaning.Shapes.{shape_in, fits, values_fit, env_fits}
-use Rattle.ygg_oblige_pieces.specs.ygg_meaning.Progress.{Answer}
-use Rattle.ygg_oblige_pieces.specs.ygg_meaning.Layer.{ClosedLayer, operation_of}
-use Rattle.ygg_oblige_pieces.specs.ygg_meaning.Refines as stands
-use Rattle.ygg_oblige_pieces.specs.ygg_type_sound.Agrees.{Agrees}
-use Rattle.ygg_oblige_pieces.specs.ygg_type_sound_proofs_Parameters.{type_is, same_fit}
-use Rattle.ygg_oblige_pieces.specs.ygg_type_sound_proofs_Tests.{left as first_of, right as second_of, bytes_equal}
-use Rattle.ygg_oblige_pieces.specs.ygg_type_progress.Blocks.{is_returned}
-use Rattle.ygg_oblige_pieces.specs.ygg_type_progress.Kinds.{keeps, on_crash_keeps, returns_declared, operation_keeps, tick_keeps}
-use Rattle.ygg_oblige_pieces.specs.ygg_type_progress.Questions.{plain, answer_has}
-use Rattle.ygg_oblige_pieces.proofs.of_ygg_type_progress.Views.{AllTyped, state_agrees, memory_agrees, agrees_with_arguments}
-use Rattle.ygg_oblige_pieces.specs.ygg_type_progress_proofs_Operations.{OnCrashTyped, IsOperation, find_operation, added_all, seen_operations}
-use Rattle.ygg_oblige_pieces.specs.ygg_type_progress_proofs_Typed.{IsTypedLayer, Parts, parts}
-use Rattle.ygg_oblige_pieces.specs.ygg_type_progress_proofs_Specs.{spec_answers}
-use Rattle.ygg_oblige_pieces.specs.ygg_type_progress_proofs_Files.{have}
-use Rattle.ygg_oblige_pieces.specs.ygg_direct.Laws.{Sees}
-use Rattle.ygg_oblige_pieces.specs.Specs.{SpecBlock}
-use Rattle.ygg_oblige_pieces.specs.Below.{lows_on, signatures_of, signatures_on}
-use Rattle.ygg_oblige_pieces.specs.Typed.{BlockTyped, SpecBlockTyped, OperationTyped, SpecTyped, BelowTyped}
-use Rattle.ygg_oblige_pieces.specs.Layers.{OperationFits, LayerTyped}
+use Rattle.ygg_oblige_laws.specs.ygg_meaning.Environments.{Name, bind}
+use Rattle.ygg_oblige_laws.specs.ygg_meaning.Meaning.{Functions, functions_of}
+use Rattle.ygg_oblige_laws.specs.ygg_meaning.Shapes.{shape_in, fits, values_fit, env_fits}
+use Rattle.ygg_oblige_laws.specs.ygg_meaning.Progress.{Answer}
+use Rattle.ygg_oblige_laws.specs.ygg_meaning.Layer.{ClosedLayer, operation_of}
+use Rattle.ygg_oblige_laws.specs.ygg_meaning.Refines as stands
+use Rattle.ygg_oblige_laws.specs.ygg_type_sound.Agrees.{Agrees}
+use Rattle.ygg_oblige_laws.specs.ygg_type_sound_proofs_Parameters.{type_is, same_fit}
+use Rattle.ygg_oblige_laws.specs.ygg_type_sound_proofs_Tests.{left as first_of, right as second_of, bytes_equal}
+use Rattle.ygg_oblige_laws.specs.ygg_type_sound.Blocks.{is_returned}
+use Rattle.ygg_oblige_laws.specs.ygg_type_sound.Kinds.{keeps, on_crash_keeps, returns_declared, operation_keeps, tick_keeps}
+use Rattle.ygg_oblige_laws.specs.ygg_type_sound.Questions.{plain, answer_has}
+use Rattle.ygg_oblige_laws.proofs.of_ygg_type_sound.Views.{AllTyped, state_agrees, memory_agrees, agrees_with_arguments}
+use Rattle.ygg_oblige_laws.specs.ygg_type_sound_proofs_Operations.{OnCrashTyped, IsOperation, find_operation, added_all, seen_operations}
+use Rattle.ygg_oblige_laws.specs.ygg_type_sound_proofs_Typed.{IsTypedLayer, Parts, parts}
+use Rattle.ygg_oblige_laws.specs.ygg_type_sound_proofs_Specs.{spec_answers}
+use Rattle.ygg_oblige_laws.specs.ygg_type_sound_proofs_Files.{have}
+use Rattle.ygg_oblige_laws.specs.ygg_direct.Laws.{Sees}
+use Rattle.ygg_oblige_laws.specs.Specs.{SpecBlock}
+use Rattle.ygg_oblige_laws.specs.Below.{lows_on, signatures_of, signatures_on}
+use Rattle.ygg_oblige_laws.specs.Typed.{BlockTyped, SpecBlockTyped, OperationTyped, SpecTyped, BelowTyped}
+use Rattle.ygg_oblige_laws.specs.LayerTerms.{OperationFits, LayerTyped}
 use Rattle.ygg_oblige_laws.proofs.Widening.{plain_keeps}
 use Rattle.ygg_oblige_laws.proofs.Formulas.{IsBelow, layer_formulas}
 

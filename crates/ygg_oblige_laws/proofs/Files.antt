@@ -8,26 +8,26 @@ use Rattle.ygg_syntax.specs.declared.tree.DiskText.{DiskText}
 use Rattle.ygg_syntax.specs.declared.tree.Layer.{Layer}
 use Rattle.ygg_syntax.specs.declared.tree.File.{File}
 use Rattle.ygg_syntax.specs.Files.{IsDerived}
-use Rattle.ygg_oblige_pieces.specs.ygg_syntax_count.Weights.{Weights, weights_of}
-use Rattle.ygg_oblige_pieces.specs.ygg_symbols.Names.{has, added}
-use Rattle.ygg_oblige_pieces.specs.ygg_type_rules.TypeErrors.{none, unless}
-use Rattle.ygg_oblige_pieces.specs.ygg_type_rules.Definitions.{definitions_errors, with_definitions}
-use Rattle.ygg_oblige_pieces.specs.ygg_type_rules.Layers as typing
-use Rattle.ygg_oblige_pieces.specs.ygg_type_rules.Layers.{Known, Below, layer_scope, parts_errors}
-use Rattle.ygg_oblige_pieces.specs.ygg_type_rules.Files.{IsTyped, type_errors_of, disk_errors, disk_below, count_error, layer_errors, layers_errors}
-use Rattle.ygg_oblige_pieces.specs.ygg_meaning.Meaning.{functions_of}
-use Rattle.ygg_oblige_pieces.specs.ygg_meaning.Layer.{ClosedLayer}
-use Rattle.ygg_oblige_pieces.specs.ygg_meaning.Stack.{Layers, below_of, tables_of, layers_on, layers_of}
-use Rattle.ygg_oblige_pieces.specs.ygg_type_sound_proofs_Definitions.{MeetsAll, definitions_meet}
-use Rattle.ygg_oblige_pieces.specs.ygg_type_sound_proofs_Tests.{left as first_of, right as second_of}
-use Rattle.ygg_oblige_pieces.specs.ygg_type_progress.Kinds.{layer_keeps}
-use Rattle.ygg_oblige_pieces.specs.ygg_type_progress_proofs_TypeErrors.{none_listed}
-use Rattle.ygg_oblige_pieces.specs.ygg_type_progress_proofs_Operations.{added_all, operations_shaped}
-use Rattle.ygg_oblige_pieces.specs.ygg_type_progress_proofs_Typed.{IsTypedLayer, parts}
-use Rattle.ygg_oblige_pieces.specs.ygg_type_progress_proofs_Files.{on_disk}
-use Rattle.ygg_oblige_pieces.proofs.of_ygg_type_progress.Derived.{derived_kept}
-use Rattle.ygg_oblige_pieces.specs.Below.{lows_on, signatures_on}
-use Rattle.ygg_oblige_pieces.specs.Typed.{BelowTyped}
+use Rattle.ygg_oblige_laws.specs.ygg_syntax_count.Weights.{Weights, weights_of}
+use Rattle.ygg_oblige_laws.specs.ygg_type_rules.Names.{has, added}
+use Rattle.ygg_oblige_laws.specs.ygg_type_rules.TypeErrors.{none, unless}
+use Rattle.ygg_oblige_laws.specs.ygg_type_rules.Definitions.{definitions_errors, with_definitions}
+use Rattle.ygg_oblige_laws.specs.ygg_type_rules.Layers as typing
+use Rattle.ygg_oblige_laws.specs.ygg_type_rules.Layers.{Known, Below, layer_scope, parts_errors}
+use Rattle.ygg_oblige_laws.specs.ygg_type_rules.Files.{IsTyped, type_errors_of, disk_errors, disk_below, count_error, layer_errors, layers_errors}
+use Rattle.ygg_oblige_laws.specs.ygg_meaning.Meaning.{functions_of}
+use Rattle.ygg_oblige_laws.specs.ygg_meaning.Layer.{ClosedLayer}
+use Rattle.ygg_oblige_laws.specs.ygg_meaning.Stack.{Layers, below_of, tables_of, layers_on, layers_of}
+use Rattle.ygg_oblige_laws.specs.ygg_type_sound_proofs_Definitions.{MeetsAll, definitions_meet}
+use Rattle.ygg_oblige_laws.specs.ygg_type_sound_proofs_Tests.{left as first_of, right as second_of}
+use Rattle.ygg_oblige_laws.specs.ygg_type_sound.Kinds.{layer_keeps}
+use Rattle.ygg_oblige_laws.specs.ygg_type_sound_proofs_TypeErrors.{none_listed}
+use Rattle.ygg_oblige_laws.specs.ygg_type_sound_proofs_Operations.{added_all, operations_shaped}
+use Rattle.ygg_oblige_laws.specs.ygg_type_sound_proofs_Typed.{IsTypedLayer, parts}
+use Rattle.ygg_oblige_laws.specs.ygg_type_sound_proofs_Files.{on_disk}
+use Rattle.ygg_oblige_laws.proofs.of_ygg_type_sound.Derived.{derived_kept}
+use Rattle.ygg_oblige_laws.specs.Below.{lows_on, signatures_on}
+use Rattle.ygg_oblige_laws.specs.Typed.{BelowTyped}
 use Rattle.ygg_oblige_laws.specs.TypedLayers.{LayersTyped}
 use Rattle.ygg_oblige_laws.proofs.Formulas.{IsBelow, disk_is_below, layer_is_below}
 use Rattle.ygg_oblige_laws.proofs.Blocks.{own_typed, layer_typed}

@@ -37,37 +37,37 @@ use Rattle.ygg_syntax.specs.declared.tree.Def.{Def}
 use Rattle.ygg_syntax.specs.declared.tree.DiskText.{DiskText}
 use Rattle.ygg_syntax.specs.declared.tree.Expr.{Expr}
 use Rattle.ygg_syntax.specs.declared.tree.Layer.{Layer}
-use Rattle.ygg_oblige_pieces.specs.ygg_syntax_count.Weights.{Weights, expr_weight}
-use Rattle.ygg_oblige_pieces.specs.ygg_symbols.Names.{look_up, has}
-use Rattle.ygg_oblige_pieces.specs.ygg_type_rules.declared.scope.Owner.{Owner}
-use Rattle.ygg_oblige_pieces.specs.ygg_type_rules.declared.scope.Owner.TheVariants.{State, Memory}
-use Rattle.ygg_oblige_pieces.specs.ygg_type_rules.declared.scope.Variable.{Variable}
-use Rattle.ygg_oblige_pieces.specs.ygg_type_rules.declared.scope.Local.{Local}
-use Rattle.ygg_oblige_pieces.specs.ygg_type_rules.declared.scope.Visibility.{Visibility}
-use Rattle.ygg_oblige_pieces.specs.ygg_type_rules.declared.scope.Visibility.TheVariants.{Relation, Settled}
-use Rattle.ygg_oblige_pieces.specs.ygg_type_rules.TypeErrors.{none, unless}
-use Rattle.ygg_oblige_pieces.specs.ygg_type_rules.Limits.{weight_fits}
-use Rattle.ygg_oblige_pieces.specs.ygg_type_rules.Shapes.{shape_of}
-use Rattle.ygg_oblige_pieces.specs.ygg_type_rules.Scopes.{Scope, seen_variable, state_shape, seen_as}
-use Rattle.ygg_oblige_pieces.specs.ygg_type_rules.Expressions.{typing, wanted, expected_errors}
-use Rattle.ygg_oblige_pieces.specs.ygg_type_rules.Definitions.{with_definitions}
-use Rattle.ygg_oblige_pieces.specs.ygg_type_rules.Layers.{Below, below_of, variables_of, layer_scope, formula_errors, formulas_errors, relations_errors}
-use Rattle.ygg_oblige_pieces.specs.ygg_type_rules.Files.{disk_errors, disk_table, disk_below}
-use Rattle.ygg_oblige_pieces.specs.ygg_meaning.Environments.{Env}
-use Rattle.ygg_oblige_pieces.specs.ygg_meaning.Meaning.{Functions, functions_of, value_with}
-use Rattle.ygg_oblige_pieces.specs.ygg_meaning.Meaning as meaning
-use Rattle.ygg_oblige_pieces.specs.ygg_meaning.Shapes.{env_fits, zeros_of}
-use Rattle.ygg_oblige_pieces.specs.ygg_meaning.Layer.{ClosedLayer}
-use Rattle.ygg_oblige_pieces.specs.ygg_meaning.Related.{relations}
-use Rattle.ygg_oblige_pieces.specs.ygg_meaning.Stack.{tables_of_kind, tables_of}
-use Rattle.ygg_oblige_pieces.specs.ygg_type_sound.Fitting.{IsHeld}
-use Rattle.ygg_oblige_pieces.specs.ygg_type_sound.Agrees.{Agrees}
-use Rattle.ygg_oblige_pieces.specs.ygg_type_sound_proofs_Tests.{left as first_of, right as second_of}
-use Rattle.ygg_oblige_pieces.specs.ygg_type_sound_proofs_Rules.{wanted_has}
-use Rattle.ygg_oblige_pieces.specs.ygg_type_sound_proofs_Sounds.{sound}
-use Rattle.ygg_oblige_pieces.specs.ygg_type_sound_proofs_Definitions.{MeetsAll}
-use Rattle.ygg_oblige_pieces.proofs.of_ygg_type_progress.Views.{entries, AllTyped, held_in, has_in, zeros_fit, LayerVariables, LowerShaped}
-use Rattle.ygg_oblige_pieces.specs.Layers.{FormulaTyped}
+use Rattle.ygg_oblige_laws.specs.ygg_syntax_count.Weights.{Weights, expr_weight}
+use Rattle.ygg_oblige_laws.specs.ygg_type_rules.Names.{look_up, has}
+use Rattle.ygg_oblige_laws.specs.ygg_type_rules.declared.scope.Owner.{Owner}
+use Rattle.ygg_oblige_laws.specs.ygg_type_rules.declared.scope.Owner.TheVariants.{State, Memory}
+use Rattle.ygg_oblige_laws.specs.ygg_type_rules.declared.scope.Variable.{Variable}
+use Rattle.ygg_oblige_laws.specs.ygg_type_rules.declared.scope.Local.{Local}
+use Rattle.ygg_oblige_laws.specs.ygg_type_rules.declared.scope.Visibility.{Visibility}
+use Rattle.ygg_oblige_laws.specs.ygg_type_rules.declared.scope.Visibility.TheVariants.{Relation, Settled}
+use Rattle.ygg_oblige_laws.specs.ygg_type_rules.TypeErrors.{none, unless}
+use Rattle.ygg_oblige_laws.specs.ygg_type_rules.Limits.{weight_fits}
+use Rattle.ygg_oblige_laws.specs.ygg_type_rules.Shapes.{shape_of}
+use Rattle.ygg_oblige_laws.specs.ygg_type_rules.Scopes.{Scope, seen_variable, state_shape, seen_as}
+use Rattle.ygg_oblige_laws.specs.ygg_type_rules.Expressions.{typing, wanted, expected_errors}
+use Rattle.ygg_oblige_laws.specs.ygg_type_rules.Definitions.{with_definitions}
+use Rattle.ygg_oblige_laws.specs.ygg_type_rules.Layers.{Below, below_of, variables_of, layer_scope, formula_errors, formulas_errors, relations_errors}
+use Rattle.ygg_oblige_laws.specs.ygg_type_rules.Files.{disk_errors, disk_table, disk_below}
+use Rattle.ygg_oblige_laws.specs.ygg_meaning.Environments.{Env}
+use Rattle.ygg_oblige_laws.specs.ygg_meaning.Meaning.{Functions, functions_of, value_with}
+use Rattle.ygg_oblige_laws.specs.ygg_meaning.Meaning as meaning
+use Rattle.ygg_oblige_laws.specs.ygg_meaning.Shapes.{env_fits, zeros_of}
+use Rattle.ygg_oblige_laws.specs.ygg_meaning.Layer.{ClosedLayer}
+use Rattle.ygg_oblige_laws.specs.ygg_meaning.Related.{relations}
+use Rattle.ygg_oblige_laws.specs.ygg_meaning.Stack.{tables_of_kind, tables_of}
+use Rattle.ygg_oblige_laws.specs.ygg_type_sound.Fitting.{IsHeld}
+use Rattle.ygg_oblige_laws.specs.ygg_type_sound.Agrees.{Agrees}
+use Rattle.ygg_oblige_laws.specs.ygg_type_sound_proofs_Tests.{left as first_of, right as second_of}
+use Rattle.ygg_oblige_laws.specs.ygg_type_sound_proofs_Rules.{wanted_has}
+use Rattle.ygg_oblige_laws.specs.ygg_type_sound_proofs_Sounds.{sound}
+use Rattle.ygg_oblige_laws.specs.ygg_type_sound_proofs_Definitions.{MeetsAll}
+use Rattle.ygg_oblige_laws.proofs.of_ygg_type_sound.Views.{entries, AllTyped, held_in, has_in, zeros_fit, LayerVariables, LowerShaped}
+use Rattle.ygg_oblige_laws.specs.LayerTerms.{FormulaTyped}
 
 pub all_typed : (ds es : List Declared) → AllTyped ds → AllTyped es → AllTyped (ds ++ es)
 all_typed [] es t u = u

@@ -4,9 +4,9 @@ use Rattle.ygg_syntax.specs.declared.tree.Def.{Def}
 use Rattle.ygg_syntax.specs.declared.tree.DiskText.{DiskText}
 use Rattle.ygg_syntax.specs.declared.tree.File.{File}
 use Rattle.ygg_syntax.specs.Files.{IsDerived}
-use Rattle.ygg_oblige_pieces.specs.ygg_type_rules.Files.{IsTyped}
-use Rattle.ygg_oblige_pieces.specs.ygg_meaning.Stack.{Layers, below_of, layers_of}
-use Rattle.ygg_oblige_pieces.specs.Layers.{LayerTyped}
+use Rattle.ygg_oblige_laws.specs.ygg_type_rules.Files.{IsTyped}
+use Rattle.ygg_oblige_laws.specs.ygg_meaning.Stack.{Layers, below_of, layers_of}
+use Rattle.ygg_oblige_laws.specs.LayerTerms.{LayerTyped}
 
 -- each of some layers has no type error on what it is specified over
 abbrev pub LayersTyped : List Def → DiskText → Layers → Type 0

@@ -5,5 +5,7 @@ mod listing;
 
 pub use listing::{Asked, asked_of, place_of};
 pub use ygg_oblige_parts::{
-    SymBlock, SymLayer, SymPicks, block, cut, failure_room, lost, places, run, zeros,
+    Bank, Book, Id, Maker, NoMemory, SymBelow, SymBlock, SymCut, SymEnd, SymLayer, SymObligation,
+    SymPicks, SymStarting, SymStep, SymValues, all_equal, block, cut, failure_room, fresh, join,
+    lost, low_at_start, places, run, words_in, zeros,
 };

@@ -10,7 +10,7 @@ use Rattle.ygg_sym.specs.ygg_bank.declared.node.Node.TheVariants.{Bin}
 use Rattle.ygg_sym.specs.ygg_shape_cells.Making.{compared}
 use Rattle.ygg_sym.specs.ygg_shape_cells.declared.terms.SymValue.{SymValue}
 use Rattle.ygg_sym.specs.ygg_shape.Wholes as wholes
-use Rattle.ygg_oblige_pieces.specs.TermStates.{all_compared}
+use Rattle.ygg_oblige_laws.specs.TermStates.{all_compared}
 
 -- the comparison of lists is what obligations' terms are defined by
 pub compared_are : (kinds : List RuleKind) (xs ys : List SymValue) (nodes : List Node) →

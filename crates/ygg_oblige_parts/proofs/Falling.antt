@@ -12,7 +12,7 @@ use Rattle.ygg_sym.specs.ygg_sym_expr.Exprs.{SymFunctions}
 use Rattle.ygg_sym.specs.ygg_sym_expr.Names.{sym_bind}
 use Rattle.ygg_sym.specs.ygg_sym_runs.Specs.{given_pick}
 use Rattle.ygg_sym.specs.ygg_sym_runs.SpecCuts.{crash_made, then_crash_made}
-use Rattle.ygg_oblige_pieces.specs.Outcomes.{fall_with_picks}
+use Rattle.ygg_oblige_laws.specs.Outcomes.{fall_with_picks}
 
 module _ (kinds : List RuleKind) (terms : SymFunctions) (L : ClosedLayer) (o : Operation) (vars args : List SymValue) where
   pub fall_some : (q : Option Block) (b : Block) (ds : List Declared) (xs : List SymValue) (picks : Picks) → q ≡ Some b → ds ≡ o.arguments → xs ≡ args →

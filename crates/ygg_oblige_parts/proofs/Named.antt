@@ -12,9 +12,9 @@ use Rattle.ygg_sym.proofs.of_ygg_shape.Answered.{no_inputs, some_fit}
 use Rattle.ygg_sym.specs.ygg_shape_cells.declared.terms.SymValue.{SymValue}
 use Rattle.ygg_sym.specs.ygg_sym_runs.Lows.{LowShaped}
 use Rattle.ygg_sym.proofs.Left.{Left, left_goes, rest_is}
-use Rattle.ygg_oblige_pieces.specs.Layers.{ShapesKept}
-use Rattle.ygg_oblige_pieces.specs.TermStates.{fresh_all, words_in}
-use Rattle.ygg_oblige_pieces.proofs.Fresh.{all_gives}
+use Rattle.ygg_oblige_laws.specs.LayerTerms.{ShapesKept}
+use Rattle.ygg_oblige_laws.specs.TermStates.{fresh_all, words_in}
+use Rattle.ygg_oblige_laws.proofs.Fresh.{all_gives}
 
 module _ (kinds : List RuleKind) where
   pub fresh_go : (ds : List Declared) (number : ℕ) (old : List Node) (n : ℕ) (now : List Node) (i : ℕ) (so_far : List SymValue) (d e : Declared)

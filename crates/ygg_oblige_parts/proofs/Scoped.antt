@@ -28,10 +28,10 @@ use Rattle.ygg_sym.specs.ygg_bank.Values.{value_of}
 use Rattle.ygg_sym.specs.ygg_sym_runs_proofs_Lows.{low_fits}
 use Rattle.ygg_sym.specs.ygg_sym_runs_proofs_Specs.{bound_worth, low_shaped}
 use Rattle.ygg_sym.specs.ygg_sym_runs.Lows.{LowShaped, low_worth}
-use Rattle.ygg_oblige_pieces.specs.Layers.{FormulaTyped, LayerTyped}
-use Rattle.ygg_oblige_pieces.specs.TermStates.{Trio}
-use Rattle.ygg_oblige_pieces.proofs.Truths.{both_fit}
-use Rattle.ygg_oblige_pieces.specs.Worth.{TrioShaped}
+use Rattle.ygg_oblige_laws.specs.LayerTerms.{FormulaTyped, LayerTyped}
+use Rattle.ygg_oblige_laws.specs.TermStates.{Trio}
+use Rattle.ygg_oblige_laws.proofs.Truths.{both_fit}
+use Rattle.ygg_oblige_laws.specs.Worth.{TrioShaped}
 use Rattle.ygg_oblige_parts.specs.Formulas.{CanTest, seen}
 
 -- names of the declared shapes in each environment

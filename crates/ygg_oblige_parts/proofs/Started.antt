@@ -12,12 +12,12 @@ use Rattle.ygg_sym.specs.ygg_bank.declared.node.Id.{Id}
 use Rattle.ygg_sym.specs.ygg_bank.declared.node.Node.{Node}
 use Rattle.ygg_sym.proofs.of_ygg_shape.Answered.{no_inputs, some_fit}
 use Rattle.ygg_sym.specs.ygg_shape_cells.declared.terms.SymValue.{SymValue}
-use Rattle.ygg_oblige_pieces.specs.ygg_shape_hypothesis.declared.replacing.Replacement.{Replacement}
+use Rattle.ygg_oblige_laws.specs.ygg_shape_hypothesis.declared.replacing.Replacement.{Replacement}
 use Rattle.ygg_sym.specs.ygg_sym_expr.Exprs.{SymFunctions}
-use Rattle.ygg_oblige_pieces.specs.Means.{terms_of}
-use Rattle.ygg_oblige_pieces.specs.Layers.{LayerTyped}
-use Rattle.ygg_oblige_pieces.specs.TermStates.{Trio, Starting, fresh_trio, replaced_all, replaced_trio, starting}
-use Rattle.ygg_oblige_pieces.proofs.Starting.{states_mean}
+use Rattle.ygg_oblige_laws.specs.Means.{terms_of}
+use Rattle.ygg_oblige_laws.specs.LayerTerms.{LayerTyped}
+use Rattle.ygg_oblige_laws.specs.TermStates.{Trio, Starting, fresh_trio, replaced_all, replaced_trio, starting}
+use Rattle.ygg_oblige_laws.proofs.Starting.{states_mean}
 use Rattle.ygg_oblige_parts.specs.Makers.{StartingShaped, started_made}
 
 -- what is made of steps, where each went as it is defined to

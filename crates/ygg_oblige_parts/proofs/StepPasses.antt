@@ -13,8 +13,8 @@ use Rattle.ygg_sym.specs.ygg_meaning.Machine.{Picks}
 use Rattle.ygg_sym.specs.ygg_meaning.Obligations.{Obligation, Init, CallOf, CutOf, TickOf, CutTickOf, Idle, Again}
 use Rattle.ygg_sym.specs.ygg_meaning.Refines.{Below}
 use Rattle.ygg_sym.specs.ygg_meaning.Shapes.{shape_in}
-use Rattle.ygg_sym.specs.ygg_type_progress_proofs_Fits.{one_shape}
-use Rattle.ygg_sym.specs.ygg_type_progress.Questions.{answer_has, gives}
+use Rattle.ygg_sym.specs.ygg_type_sound_proofs_ProgressFits.{one_shape}
+use Rattle.ygg_sym.specs.ygg_type_sound.Questions.{answer_has, gives}
 use Rattle.ygg_sym.specs.ygg_rules.declared.rule.RuleKind.{RuleKind}
 use Rattle.ygg_sym.specs.ygg_bank_proofs_Meaning.{fits_fewer}
 use Rattle.ygg_sym.specs.ygg_bank.Makes.{Make, Out, and_make, goes_on}
@@ -41,15 +41,15 @@ use Rattle.ygg_sym.specs.ygg_sym_runs.Disks.{Done}
 use Rattle.ygg_sym.specs.ygg_sym_runs.Lows.{LowShaped, low_worth}
 use Rattle.ygg_sym.specs.ygg_sym_runs.SpecCuts.{block_made}
 use Rattle.ygg_sym.specs.ygg_sym_runs.Specs.{given_pick}
-use Rattle.ygg_oblige_pieces.specs.Means.{terms_of}
+use Rattle.ygg_oblige_laws.specs.Means.{terms_of}
 use Rattle.ygg_sym.specs.Layers.{closed}
 use Rattle.ygg_sym.specs.SymLayer.{SymLayer}
 use Rattle.ygg_sym.specs.declared.below.SymBelow.{SymBelow}
-use Rattle.ygg_oblige_pieces.specs.Layers.{OperationFits, LayerTyped}
-use Rattle.ygg_oblige_pieces.specs.Numbers.{arguments_of}
-use Rattle.ygg_oblige_pieces.specs.Outcomes.{any_picks, outcome_made}
-use Rattle.ygg_oblige_pieces.proofs.Truths.{layer_mean}
-use Rattle.ygg_oblige_pieces.specs.Steps.{ObligationTyped, AnswerKept, variables_of}
+use Rattle.ygg_oblige_laws.specs.LayerTerms.{OperationFits, LayerTyped}
+use Rattle.ygg_oblige_laws.specs.Numbers.{arguments_of}
+use Rattle.ygg_oblige_laws.specs.Outcomes.{any_picks, outcome_made}
+use Rattle.ygg_oblige_laws.proofs.Truths.{layer_mean}
+use Rattle.ygg_oblige_laws.specs.Steps.{ObligationTyped, AnswerKept, variables_of}
 use Rattle.ygg_oblige_parts.specs.Digits.{AnswersAlike}
 use Rattle.ygg_oblige_parts.specs.Passing.{AskedAlike, StepFits, answered}
 

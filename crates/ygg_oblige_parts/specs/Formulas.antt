@@ -11,7 +11,7 @@ use Rattle.ygg_sym.specs.ygg_bank.declared.node.Node.{Node}
 use Rattle.ygg_sym.specs.ygg_sym_expr.Exprs.{id_in}
 use Rattle.ygg_sym.specs.ygg_sym_expr.Names.{SymEnv}
 use Rattle.ygg_sym.specs.ygg_sym_expr.Seen.{SymKnown, CanTerm, terms_called, terms_in}
-use Rattle.ygg_oblige_pieces.specs.TermStates.{truths_made}
+use Rattle.ygg_oblige_laws.specs.TermStates.{truths_made}
 
 -- these definitions, and these names
 abbrev pub seen : List Def → SymEnv → SymEnv → SymKnown

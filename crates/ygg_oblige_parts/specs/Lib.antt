@@ -1,7 +1,7 @@
 pub use Rattle.ygg_sym.specs.ygg_bank_proofs_Widths
 pub use Rattle.ygg_sym.specs.ygg_bank
 pub use Rattle.ygg_sym.specs.ygg_meaning
-pub use Rattle.ygg_oblige_pieces.specs as ygg_oblige_pieces
+pub use Rattle.ygg_oblige_laws.specs as ygg_oblige_laws
 pub use Rattle.ygg_sym.specs.ygg_rules
 pub use Rattle.ygg_sym.specs.ygg_shape
 pub use Rattle.ygg_sym.specs.ygg_shape_cells
@@ -11,10 +11,10 @@ pub use Rattle.ygg_sym.specs.ygg_sym_expr_proofs_Shaped
 pub use Rattle.ygg_sym.specs.ygg_sym_expr
 pub use Rattle.ygg_sym.specs.ygg_sym_laws
 pub use Rattle.ygg_sym.specs.ygg_sym_spec
-pub use Rattle.ygg_sym.specs.ygg_type_progress
+pub use Rattle.ygg_sym.specs.ygg_type_sound
 pub use Rattle.ygg_sym.specs.SymLayer
 pub use Rattle.ygg_sym.specs.Layers
-pub use Rattle.ygg_oblige_pieces.specs.Steps as ObligePiecesSteps
+pub use Rattle.ygg_oblige_laws.specs.Steps as ObligePiecesSteps
 pub use Rattle.ygg_sym.specs.Kept
 pub use Rattle.ygg_sym.specs.declared.runs.SymBlock
 pub use Rattle.ygg_sym.specs.declared.below.SymBelow

@@ -21,11 +21,11 @@ use Rattle.ygg_sym.specs.Layers.{closed, terms_in}
 use Rattle.ygg_sym.specs.SymLayer.{SymLayer}
 use Rattle.ygg_sym.specs.Sites.{below_in}
 use Rattle.ygg_sym.specs.declared.below.SymBelow.{SymBelow}
-use Rattle.ygg_oblige_pieces.specs.Numbers.{arguments_of}
-use Rattle.ygg_oblige_pieces.specs.Outcomes.{any_picks, outcome_made}
-use Rattle.ygg_oblige_pieces.specs.TermStates.{related_made}
-use Rattle.ygg_oblige_pieces.specs.Terms.{Finish, same_answers_made}
-use Rattle.ygg_oblige_pieces.specs.Steps.{AnswerKept, HasStep, ObligationTyped, variables_of}
+use Rattle.ygg_oblige_laws.specs.Numbers.{arguments_of}
+use Rattle.ygg_oblige_laws.specs.Outcomes.{any_picks, outcome_made}
+use Rattle.ygg_oblige_laws.specs.TermStates.{related_made}
+use Rattle.ygg_oblige_laws.specs.Terms.{Finish, same_answers_made}
+use Rattle.ygg_oblige_laws.specs.Steps.{AnswerKept, HasStep, ObligationTyped, variables_of}
 use Rattle.ygg_oblige_parts.specs.Digits.{AnswersAlike}
 use Rattle.ygg_oblige_parts.specs.Makers.{LayerFits}
 use Rattle.ygg_oblige_parts.specs.Steps.{obligation_of}

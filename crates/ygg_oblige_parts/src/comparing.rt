@@ -4,8 +4,8 @@ ghost use Rattle.std.specs.Prelude.{◌≡◌, IfOk, OnOk};
 ghost use Rattle.ygg_sym.specs.ygg_bank.Nodes.{Extends, HasWidth, IsBank};
 ghost use Rattle.ygg_sym.specs.ygg_shape.Wholes.{AllAlike};
 ghost use Rattle.ygg_sym.specs.ygg_sym_runs.Lower.{KeepsSingle};
-ghost use Rattle.ygg_oblige_pieces.specs.Outcomes.{answers_compared};
-ghost use Rattle.ygg_oblige_pieces.specs.TermStates.{all_compared};
+ghost use Rattle.ygg_oblige_laws.specs.Outcomes.{answers_compared};
+ghost use Rattle.ygg_oblige_laws.specs.TermStates.{all_compared};
 ghost use Rattle.ygg_oblige_parts.specs.Digits.{AnswersAlike};
 
 use crate::digits::constant;

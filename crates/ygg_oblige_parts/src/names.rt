@@ -9,8 +9,8 @@ ghost use Rattle.ygg_sym.specs.ygg_meaning.Shapes.{shape_in};
 ghost use Rattle.ygg_sym.specs.ygg_sym_runs.Lows.{LowShaped};
 ghost use Rattle.ygg_sym.specs.ygg_sym_expr.Names.{sym_bind};
 ghost use Rattle.ygg_sym.specs.ygg_sym_expr.Seen.{env_of};
-ghost use Rattle.ygg_oblige_pieces.specs.Layers.{ShapesKept};
-ghost use Rattle.ygg_oblige_pieces.specs.TermStates.{fresh_all, words_in};
+ghost use Rattle.ygg_oblige_laws.specs.LayerTerms.{ShapesKept};
+ghost use Rattle.ygg_oblige_laws.specs.TermStates.{fresh_all, words_in};
 
 use std::alloc::Global;
 use ygg_list::Duplicate;

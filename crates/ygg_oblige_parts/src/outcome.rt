@@ -7,10 +7,10 @@ ghost use Rattle.ygg_sym.specs.ygg_sym_runs.Lows.{LowShaped};
 ghost use Rattle.ygg_sym.specs.ygg_sym_runs.Lower.{KeepsSingle, SingleFrom};
 ghost use Rattle.ygg_sym.specs.Layers.{closed, terms_in};
 ghost use Rattle.ygg_sym.specs.Sites.{below_in};
-ghost use Rattle.ygg_oblige_pieces.specs.Layers.{OperationFits};
-ghost use Rattle.ygg_oblige_pieces.specs.Numbers.{arguments_of};
-ghost use Rattle.ygg_oblige_pieces.specs.Outcomes.{fall_with_picks, outcome_made};
-ghost use Rattle.ygg_oblige_pieces.specs.Steps.{ObligationTyped, variables_of};
+ghost use Rattle.ygg_oblige_laws.specs.LayerTerms.{OperationFits};
+ghost use Rattle.ygg_oblige_laws.specs.Numbers.{arguments_of};
+ghost use Rattle.ygg_oblige_laws.specs.Outcomes.{fall_with_picks, outcome_made};
+ghost use Rattle.ygg_oblige_laws.specs.Steps.{ObligationTyped, variables_of};
 ghost use Rattle.ygg_oblige_parts.specs.Makers.{LayerFits};
 ghost use Rattle.ygg_oblige_parts.specs.Steps.{obligation_of};
 

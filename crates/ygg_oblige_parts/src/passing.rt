@@ -5,8 +5,8 @@ ghost use Rattle.ygg_sym.specs.ygg_bank.Nodes.{Extends, HasWidth, IsBank};
 ghost use Rattle.ygg_sym.specs.ygg_meaning.Violates.{most};
 ghost use Rattle.ygg_sym.specs.ygg_sym_runs.Lower.{KeepsSingle};
 ghost use Rattle.ygg_sym.specs.Layers.{closed};
-ghost use Rattle.ygg_oblige_pieces.specs.Outcomes.{any_picks};
-ghost use Rattle.ygg_oblige_pieces.specs.Terms.{same_answers_made};
+ghost use Rattle.ygg_oblige_laws.specs.Outcomes.{any_picks};
+ghost use Rattle.ygg_oblige_laws.specs.Terms.{same_answers_made};
 ghost use Rattle.ygg_syntax.specs.Choices.{choices_of};
 ghost use Rattle.ygg_sym.specs.ygg_syntax_count.Budget.{limit};
 ghost use Rattle.ygg_oblige_parts.specs.Passing.{AskedAlike, StepCan, passes_of, some_of};
@@ -17,8 +17,9 @@ use crate::digits::{constant, join};
 use crate::outcome::SymObligation;
 use crate::states::Maker;
 use std::alloc::Global;
-use ygg_sym::{Bank, Book, Id, NoMemory, SymValue, SymValues, choices};
+use ygg_sym::{Bank, Book, Id, NoMemory, SymValue, SymValues};
 use ygg_syntax::tree::Block;
+use ygg_syntax_count::choices;
 use ygg_value::Op;
 
 /// From how many choices on a block has more than the count tells.

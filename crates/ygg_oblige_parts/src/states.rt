@@ -8,7 +8,7 @@ ghost use Rattle.ygg_sym.specs.ygg_sym_runs.Lows.{LowShaped};
 ghost use Rattle.ygg_sym.specs.ygg_sym_expr.Seen.{env_of};
 ghost use Rattle.ygg_sym.specs.ygg_sym_runs.Lower.{KeepsSingle};
 ghost use Rattle.ygg_sym.specs.Layers.{closed, terms_in};
-ghost use Rattle.ygg_oblige_pieces.specs.TermStates.{
+ghost use Rattle.ygg_oblige_laws.specs.TermStates.{
   fresh_trio,
   related_made,
   replaced_all,
@@ -17,7 +17,7 @@ ghost use Rattle.ygg_oblige_pieces.specs.TermStates.{
   starting,
   state_words,
 };
-ghost use Rattle.ygg_oblige_pieces.specs.Worth.{TrioShaped};
+ghost use Rattle.ygg_oblige_laws.specs.Worth.{TrioShaped};
 ghost use Rattle.ygg_oblige_parts.specs.Formulas.{CanTest, seen, truths_in};
 ghost use Rattle.ygg_oblige_parts.specs.Makers.{LayerFits, StartingShaped, started_made, starting_of, trio_of};
 
@@ -25,7 +25,7 @@ use crate::digits::join;
 use crate::formulas::{digit, truths};
 use crate::names::{add_names, fresh, words_in};
 use std::alloc::Global;
-use ygg_oblige_pieces::{Replacements, facts, replace};
+use ygg_oblige_laws::{Replacements, facts, replace};
 use ygg_sym::{Bank, Book, Id, NoMemory, SymBelow, SymBinding, SymEvaluator, SymLayer, SymValues};
 use ygg_value::Op;
 

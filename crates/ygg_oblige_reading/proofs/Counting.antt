@@ -2,7 +2,7 @@
 use Rattle.std.proofs.Common.{◌≡◌, ◌+◌, ◌*◌, ℕ, suc, [], ◌∷◌, ◌++◌, length, arith}
 use Rattle.std.proofs.lemmas.List.{length-append}
 use Rattle.ygg_syntax.specs.declared.tree.Layer.{Layer}
-use Rattle.ygg_eval_lower.specs.ygg_meaning.Obligations.{CallOf, CutOf, TickOf, CutTickOf, Idle, Again, obligations_of}
+use Rattle.ygg_eval_block.specs.ygg_meaning.Obligations.{CallOf, CutOf, TickOf, CutTickOf, Idle, Again, obligations_of}
 use Rattle.ygg_oblige.specs.Listing.{calls_of, ticks_of}
 use Rattle.ygg_oblige_reading.proofs.Lists.{both_length}
 

@@ -14,13 +14,13 @@ use Rattle.ygg_replay.specs.ygg_meaning.Obligations.{Obligation, CallOf, CutOf, 
 use Rattle.ygg_replay.specs.ygg_meaning.Obligations as meaning
 use Rattle.ygg_replay.specs.ygg_meaning.Shapes.{values_fit}
 use Rattle.ygg_replay.specs.ygg_meaning.Violates.{shapes_fit}
-use Rattle.ygg_oblige_reading.specs.ygg_eval_lower.Bodies.{IsBlock, arguments_at, arguments_in}
-use Rattle.ygg_oblige_reading.specs.ygg_eval_lower.declared.body.Part.TheVariants as part
-use Rattle.ygg_oblige_given.specs.ygg_oblige_pieces.Layers.{ShapesKept}
-use Rattle.ygg_oblige_given.specs.ygg_oblige_pieces.Numbers.{Numbers, arguments_of}
+use Rattle.ygg_oblige_reading.specs.ygg_eval_block.Bodies.{IsBlock, arguments_at, arguments_in}
+use Rattle.ygg_oblige_reading.specs.ygg_eval_block.declared.body.Part.TheVariants as part
+use Rattle.ygg_oblige_given.specs.ygg_oblige_laws.LayerTerms.{ShapesKept}
+use Rattle.ygg_oblige_given.specs.ygg_oblige_laws.Numbers.{Numbers, arguments_of}
 use Rattle.ygg_oblige_given.specs.Tables.{given_values}
 use Rattle.ygg_oblige_reading.specs.Listing.{StandsIn}
-use Rattle.ygg_oblige_schedules.specs.Schedules.{stop_of, cut_from, schedule_from, whole_from}
+use Rattle.ygg_oblige_laws.specs.Schedules.{stop_of, cut_from, schedule_from, whole_from}
 use Rattle.ygg_replay.specs.ygg_sched.declared.schedule.Schedule.{Schedule}
 use Rattle.ygg_oblige_reading.specs.Here.{below_of, body_of, file_of, inputs_of, layer_of, numbers_of, obligation_of, IsHere}
 use Rattle.ygg_oblige_reading.specs.Runs.{stand_fits}

@@ -5,15 +5,15 @@ use Rattle.ygg_syntax.specs.declared.grammar.BlockKind.TheVariants as kind
 use Rattle.ygg_syntax.specs.declared.tree.Block as tree
 use Rattle.ygg_syntax.specs.declared.tree.Layer.{Layer}
 use Rattle.ygg_replay.specs.ygg_meaning.Obligations.{Halt}
-use Rattle.ygg_eval_fronts.specs.ygg_sym_runs.Laws.{picked_by}
-use Rattle.ygg_eval_fronts.specs.ygg_fronts.Fronts.{fall_picks, left_at, run_stop}
-use Rattle.ygg_oblige_reading.specs.ygg_eval_lower.Bodies.{kind_of, variables_in}
-use Rattle.ygg_oblige_reading.specs.ygg_eval_lower.declared.body.Part.{Part}
-use Rattle.ygg_oblige_reading.specs.ygg_eval_lower.declared.body.Part.TheVariants as part
-use Rattle.ygg_eval_fronts.specs.Bits.{bits_in}
-use Rattle.ygg_eval_fronts.specs.Fronts.{Falls}
-use Rattle.ygg_eval_fronts.specs.declared.below.Fallen.{Fallen}
-use Rattle.ygg_eval_fronts.specs.declared.below.PlacedBits.{PlacedBits}
+use Rattle.ygg_eval_places.specs.ygg_sym_runs.Laws.{picked_by}
+use Rattle.ygg_eval_places.specs.ygg_fronts.Fronts.{fall_picks, left_at, run_stop}
+use Rattle.ygg_oblige_reading.specs.ygg_eval_block.Bodies.{kind_of, variables_in}
+use Rattle.ygg_oblige_reading.specs.ygg_eval_block.declared.body.Part.{Part}
+use Rattle.ygg_oblige_reading.specs.ygg_eval_block.declared.body.Part.TheVariants as part
+use Rattle.ygg_eval_places.specs.Bits.{bits_in}
+use Rattle.ygg_eval_places.specs.Fronts.{Falls}
+use Rattle.ygg_eval_places.specs.declared.below.Fallen.{Fallen}
+use Rattle.ygg_eval_places.specs.declared.below.PlacedBits.{PlacedBits}
 use Rattle.ygg_oblige_reading.specs.Here.{below_of, body_of, file_of, inputs_of, low_env, numbers_of}
 use Rattle.ygg_oblige_reading.specs.Runs.{FellSo, args_env, layer_at, memory_env}
 use Rattle.ygg_oblige_reading.specs.declared.reader.FirstBlock.{FirstBlock}

@@ -11,11 +11,11 @@ use Rattle.ygg_replay.specs.ygg_meaning.Related.{shaped}
 use Rattle.ygg_replay.specs.ygg_meaning.Shapes.{values_fit}
 use Rattle.ygg_replay.specs.ygg_meaning.Violates.{shapes_fit}
 use Rattle.ygg_replay.specs.ygg_meaning.Claims.{Claim}
-use Rattle.ygg_eval_fronts.specs.ygg_bank.Values.{Inputs}
-use Rattle.ygg_oblige_given.specs.ygg_oblige_pieces.Layers.{ShapesKept}
-use Rattle.ygg_oblige_given.specs.ygg_oblige_pieces.Numbers.{Numbers, arguments_of}
-use Rattle.ygg_oblige_given.specs.ygg_oblige_pieces.Worth.{Stand}
-use Rattle.ygg_oblige_schedules.specs.Schedules.{schedule_from}
+use Rattle.ygg_eval_places.specs.ygg_bank.Values.{Inputs}
+use Rattle.ygg_oblige_given.specs.ygg_oblige_laws.LayerTerms.{ShapesKept}
+use Rattle.ygg_oblige_given.specs.ygg_oblige_laws.Numbers.{Numbers, arguments_of}
+use Rattle.ygg_oblige_given.specs.ygg_oblige_laws.Worth.{Stand}
+use Rattle.ygg_oblige_laws.specs.Schedules.{schedule_from}
 use Rattle.ygg_replay.specs.ygg_sched.Fitting.{AreOfTypes, halt_meant}
 use Rattle.ygg_replay.specs.ygg_sched.Sites.{Site}
 use Rattle.ygg_replay.specs.ygg_sched.declared.schedule.Halt.{Halt}

@@ -10,9 +10,9 @@ pub mod EachKind
 pub mod Placed
 pub mod Exactly
 pub use Rattle.ygg_oblige.proofs.of_ygg_oblige_laws
-pub use Rattle.ygg_eval_lower.proofs.of_ygg_type_progress
-pub use Rattle.ygg_oblige_schedules.proofs.Given
-pub use Rattle.ygg_oblige_schedules.proofs.Layered
+pub use Rattle.ygg_eval_block.proofs.of_ygg_type_sound
+pub use Rattle.ygg_oblige_laws.proofs.Given
+pub use Rattle.ygg_oblige_laws.proofs.ScheduleLayers
 pub mod Lists
 pub mod Counting
 pub mod NumbersAfter

@@ -10,12 +10,12 @@ use Rattle.ygg_replay.specs.ygg_meaning.Environments.{Env, bind}
 use Rattle.ygg_replay.specs.ygg_meaning.Machine.{Picks, based}
 use Rattle.ygg_replay.specs.ygg_meaning.Obligations.{name_of}
 use Rattle.ygg_replay.specs.ygg_meaning.Obligations as meaning
-use Rattle.ygg_eval_fronts.specs.ygg_sym_runs.Laws.{picked_by}
-use Rattle.ygg_eval_fronts.specs.ygg_fronts.Fronts.{lose_on, run_picks}
-use Rattle.ygg_oblige_reading.specs.ygg_eval_lower.Bodies.{IsBlock, kind_of}
-use Rattle.ygg_oblige_reading.specs.ygg_eval_lower.Layers.{variables_at}
-use Rattle.ygg_eval_fronts.specs.Steps.{FellBetween}
-use Rattle.ygg_oblige_schedules.specs.Schedules.{woken_picks}
+use Rattle.ygg_eval_places.specs.ygg_sym_runs.Laws.{picked_by}
+use Rattle.ygg_eval_places.specs.ygg_fronts.Fronts.{lose_on, run_picks}
+use Rattle.ygg_oblige_reading.specs.ygg_eval_block.Bodies.{IsBlock, kind_of}
+use Rattle.ygg_oblige_reading.specs.ygg_eval_block.Layers.{variables_at}
+use Rattle.ygg_eval_places.specs.Steps.{FellBetween}
+use Rattle.ygg_oblige_laws.specs.Schedules.{woken_picks}
 use Rattle.ygg_replay.specs.ygg_sched.Fitting.{halt_meant}
 use Rattle.ygg_replay.specs.ygg_sched.declared.schedule.Schedule.{Schedule}
 use Rattle.ygg_oblige_reading.specs.Here.{below_of, body_of, file_of, inputs_of, layer_of, low_env, numbers_of, obligation_of}

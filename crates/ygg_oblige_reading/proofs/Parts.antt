@@ -7,9 +7,9 @@ use Rattle.ygg_syntax.specs.declared.tree.Block as tree
 use Rattle.ygg_syntax.specs.declared.tree.Layer.{Layer}
 use Rattle.ygg_replay.specs.ygg_meaning.Environments.{Env}
 use Rattle.ygg_replay.specs.ygg_meaning.Obligations.{Halt}
-use Rattle.ygg_oblige_schedules.specs.Schedules.{left_of, picks_of, stop_of, wake_picks, woken_picks}
+use Rattle.ygg_oblige_laws.specs.Schedules.{left_of, picks_of, stop_of, wake_picks, woken_picks}
 use Rattle.ygg_replay.specs.ygg_sched.Fitting.{halt_meant}
-use Rattle.ygg_eval_fronts.specs.declared.below.Fallen.{Fallen}
+use Rattle.ygg_eval_places.specs.declared.below.Fallen.{Fallen}
 use Rattle.ygg_oblige_reading.specs.Here.{below_of, inputs_of, layer_of, low_env, numbers_of, LowFits}
 use Rattle.ygg_oblige_reading.specs.Runs.{FallsHere, FellSo, args_env, memory_env}
 use Rattle.ygg_oblige_reading.specs.Schedules.{IsBounded, OfBlock, PartsAre}

@@ -10,10 +10,10 @@ use Rattle.ygg_replay.specs.ygg_meaning.Obligations as meaning
 use Rattle.ygg_replay.specs.ygg_meaning.Violates.{shapes_fit}
 use Rattle.ygg_replay.specs.ygg_meaning.Claims.{Claim, claims_of}
 use Rattle.ygg_oblige_reading.specs.ygg_rules.declared.rule.RuleKind.{RuleKind}
-use Rattle.ygg_eval_fronts.specs.ygg_bank.Values.{Inputs}
-use Rattle.ygg_oblige_given.specs.ygg_oblige_pieces.Layers.{OperationFits, ShapesKept}
-use Rattle.ygg_oblige_given.specs.ygg_oblige_pieces.Numbers.{arguments_of}
-use Rattle.ygg_oblige_given.specs.ygg_oblige_pieces.Numbers as terms
+use Rattle.ygg_eval_places.specs.ygg_bank.Values.{Inputs}
+use Rattle.ygg_oblige_given.specs.ygg_oblige_laws.LayerTerms.{OperationFits, ShapesKept}
+use Rattle.ygg_oblige_given.specs.ygg_oblige_laws.Numbers.{arguments_of}
+use Rattle.ygg_oblige_given.specs.ygg_oblige_laws.Numbers as terms
 use Rattle.ygg_oblige_given.specs.Tables.{given_values}
 use Rattle.ygg_oblige_reading.specs.Listing.{StandsIn}
 use Rattle.ygg_oblige_reading.specs.Sites.{IsPlaced}

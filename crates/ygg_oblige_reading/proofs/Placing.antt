@@ -9,23 +9,23 @@ use Rattle.ygg_syntax.specs.declared.tree.Declared.{Declared}
 use Rattle.ygg_syntax.specs.declared.tree.DiskText.{DiskText}
 use Rattle.ygg_syntax.specs.declared.tree.File.{File}
 use Rattle.ygg_syntax.specs.declared.tree.Layer.{Layer}
-use Rattle.ygg_eval_lower.specs.ygg_meaning.Layer.{ClosedLayer}
-use Rattle.ygg_eval_lower.specs.ygg_meaning.Meaning.{functions_of}
-use Rattle.ygg_eval_lower.specs.ygg_meaning.Obligations.{Obligation, obligations_of}
-use Rattle.ygg_eval_lower.specs.ygg_meaning.Refines.{Below}
-use Rattle.ygg_eval_lower.specs.ygg_meaning.Claims.{Claim, claims_at, claims_of, claims_on}
-use Rattle.ygg_eval_lower.specs.ygg_meaning.Stack.{Layers, below_of, layers_of}
+use Rattle.ygg_eval_block.specs.ygg_meaning.Layer.{ClosedLayer}
+use Rattle.ygg_eval_block.specs.ygg_meaning.Meaning.{functions_of}
+use Rattle.ygg_eval_block.specs.ygg_meaning.Obligations.{Obligation, obligations_of}
+use Rattle.ygg_eval_block.specs.ygg_meaning.Refines.{Below}
+use Rattle.ygg_eval_block.specs.ygg_meaning.Claims.{Claim, claims_at, claims_of, claims_on}
+use Rattle.ygg_eval_block.specs.ygg_meaning.Stack.{Layers, below_of, layers_of}
 use Rattle.ygg_oblige.specs.ygg_bank.Values.{Inputs}
 use Rattle.ygg_oblige.specs.ygg_sym_expr.Exprs.{SymFunctions}
 use Rattle.ygg_oblige.specs.ygg_sym_laws.Means.{terms_of}
-use Rattle.ygg_eval_lower.specs.Layers.{below_at, closed_at, variables_at}
-use Rattle.ygg_eval_lower.specs.Numbers.{IsAt}
-use Rattle.ygg_eval_lower.proofs.Numbers.{below_is_numbered, listed_is_numbered}
-use Rattle.ygg_oblige.specs.ygg_oblige_pieces.Layers.{LayerTyped}
-use Rattle.ygg_oblige.specs.ygg_oblige_pieces.Numbers.{Numbers, numbers_of}
-use Rattle.ygg_oblige.specs.ygg_oblige_pieces.TermStates.{state_words}
-use Rattle.ygg_oblige.specs.ygg_oblige_pieces.Terms.{after_all, after_layers}
-use Rattle.ygg_oblige_schedules.specs.Schedules.{all_schedules, layer_schedules, schedule_of, schedules_of}
+use Rattle.ygg_eval_block.specs.Layers.{below_at, closed_at, variables_at}
+use Rattle.ygg_eval_block.specs.Numbers.{IsAt}
+use Rattle.ygg_eval_block.proofs.Numbers.{below_is_numbered, listed_is_numbered}
+use Rattle.ygg_oblige.specs.ygg_oblige_laws.LayerTerms.{LayerTyped}
+use Rattle.ygg_oblige.specs.ygg_oblige_laws.Numbers.{Numbers, numbers_of}
+use Rattle.ygg_oblige.specs.ygg_oblige_laws.TermStates.{state_words}
+use Rattle.ygg_oblige.specs.ygg_oblige_laws.Terms.{after_all, after_layers}
+use Rattle.ygg_oblige_laws.specs.Schedules.{all_schedules, layer_schedules, schedule_of, schedules_of}
 use Rattle.ygg_oblige_reading.proofs.Lists.{get_left, get_right}
 use Rattle.ygg_oblige_reading.specs.Sites.{IsPlaced, IsSite, layer_here, obligation_here}
 use Rattle.ygg_oblige_reading.specs.declared.site.Site.{Site}

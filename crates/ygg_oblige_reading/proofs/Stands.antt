@@ -6,9 +6,9 @@ use Rattle.ygg_syntax.specs.declared.tree.Declared.{Declared}
 use Rattle.ygg_replay.specs.ygg_meaning.Layer.{ClosedLayer}
 use Rattle.ygg_replay.specs.ygg_meaning.Related.{shaped}
 use Rattle.ygg_replay.specs.ygg_meaning.Shapes.{env_fits}
-use Rattle.ygg_eval_fronts.specs.ygg_bank.Values.{Inputs}
-use Rattle.ygg_oblige_given.specs.ygg_oblige_pieces.Inputs.{given_env}
-use Rattle.ygg_oblige_given.specs.ygg_oblige_pieces.Worth as worth
+use Rattle.ygg_eval_places.specs.ygg_bank.Values.{Inputs}
+use Rattle.ygg_oblige_given.specs.ygg_oblige_laws.Inputs.{given_env}
+use Rattle.ygg_oblige_given.specs.ygg_oblige_laws.Worth as worth
 
 -- each of states that have the declared shapes has them
 pub record StandParts (L : ClosedLayer) (s : worth.Stand) : Type 0 where

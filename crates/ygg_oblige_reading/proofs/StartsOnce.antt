@@ -3,7 +3,7 @@ use Rattle.std.proofs.Common.{◌≡◌, [], ◌∙◌, sym, ap}
 use Rattle.ygg_replay.specs.ygg_meaning.Environments.{Env}
 use Rattle.ygg_replay.specs.ygg_meaning.Machine.{State, based}
 use Rattle.ygg_replay.specs.ygg_meaning.Refines.{Below, OnDisk, OnSpec, machine_below}
-use Rattle.ygg_eval_fronts.specs.ygg_fronts.Fronts.{low_at_start, vars_in}
+use Rattle.ygg_eval_places.specs.ygg_fronts.Fronts.{low_at_start, vars_in}
 
 pub starts_are : (G : Below) (low : Env) → (machine_below G).Starts (based low) [] → low ≡ low_at_start G
 starts_are (OnDisk d) low (b, none, is, starts) = ap (λ (z : State Env). z.base) is ∙ starts

@@ -15,7 +15,7 @@ use Rattle.ygg_oblige_reading.specs.ygg_type_rules.Shapes.{shape_of}
 use Rattle.ygg_replay.specs.ygg_meaning.Environments.{Env, bind}
 use Rattle.ygg_replay.specs.ygg_meaning.Shapes.{env_fits, fits, shape_in, values_fit}
 use Rattle.ygg_oblige_reading.specs.ygg_type_sound_proofs_Fits.{fits_has}
-use Rattle.ygg_oblige_given.specs.ygg_oblige_pieces.Layers.{ShapesKept}
+use Rattle.ygg_oblige_given.specs.ygg_oblige_laws.LayerTerms.{ShapesKept}
 use Rattle.ygg_replay.specs.ygg_sched.Fitting.{AreOfTypes, IsOfType}
 
 -- names with values that fit them are as many as the values

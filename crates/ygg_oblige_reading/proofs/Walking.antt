@@ -7,22 +7,22 @@ use Rattle.ygg_syntax.specs.declared.tree.Declared.{Declared}
 use Rattle.ygg_syntax.specs.declared.tree.Def.{Def}
 use Rattle.ygg_syntax.specs.declared.tree.File.{File}
 use Rattle.ygg_syntax.specs.declared.tree.Layer.{Layer}
-use Rattle.ygg_eval_lower.specs.ygg_meaning.Layer.{ClosedLayer}
-use Rattle.ygg_eval_lower.specs.ygg_meaning.Meaning.{Functions, functions_of}
-use Rattle.ygg_eval_lower.specs.ygg_meaning.Obligations.{Obligation, obligations_of}
-use Rattle.ygg_eval_lower.specs.ygg_meaning.Refines.{Below, OnSpec}
-use Rattle.ygg_eval_lower.specs.ygg_meaning.Claims.{claims_at, claims_of, claims_on}
-use Rattle.ygg_eval_lower.specs.ygg_meaning.Stack.{Layers, below_of, layers_on, layers_of, tables_of}
+use Rattle.ygg_eval_block.specs.ygg_meaning.Layer.{ClosedLayer}
+use Rattle.ygg_eval_block.specs.ygg_meaning.Meaning.{Functions, functions_of}
+use Rattle.ygg_eval_block.specs.ygg_meaning.Obligations.{Obligation, obligations_of}
+use Rattle.ygg_eval_block.specs.ygg_meaning.Refines.{Below, OnSpec}
+use Rattle.ygg_eval_block.specs.ygg_meaning.Claims.{claims_at, claims_of, claims_on}
+use Rattle.ygg_eval_block.specs.ygg_meaning.Stack.{Layers, below_of, layers_on, layers_of, tables_of}
 use Rattle.ygg_oblige.specs.ygg_sym_laws.Means.{terms_of}
 use Rattle.ygg_oblige.specs.ygg_sym_spec.Layers.{closed}
 use Rattle.ygg_oblige.specs.ygg_sym_spec.declared.layer.SymLayer.{SymLayer}
 use Rattle.ygg_oblige.specs.Sites.{below_in}
 use Rattle.ygg_oblige.specs.SymBelow.{SymBelow}
 use Rattle.ygg_oblige.specs.SymBelow.TheVariants as on
-use Rattle.ygg_oblige.specs.ygg_oblige_pieces.Layers.{LayerTyped}
-use Rattle.ygg_oblige.specs.ygg_oblige_pieces.Numbers.{Numbers, numbers_of}
-use Rattle.ygg_oblige.specs.ygg_oblige_pieces.TermStates.{state_words}
-use Rattle.ygg_oblige.specs.ygg_oblige_pieces.Terms.{after_all, after_layer, after_layers}
+use Rattle.ygg_oblige.specs.ygg_oblige_laws.LayerTerms.{LayerTyped}
+use Rattle.ygg_oblige.specs.ygg_oblige_laws.Numbers.{Numbers, numbers_of}
+use Rattle.ygg_oblige.specs.ygg_oblige_laws.TermStates.{state_words}
+use Rattle.ygg_oblige.specs.ygg_oblige_laws.Terms.{after_all, after_layer, after_layers}
 use Rattle.ygg_oblige.specs.ygg_oblige_laws.TypedLayers.{LayersTyped}
 use Rattle.ygg_oblige.specs.Making.{SiteFits}
 use Rattle.ygg_oblige.specs.Adding.{after_layer_at}

@@ -9,8 +9,8 @@ use Rattle.ygg_value.specs.Shapes.{zero_of}
 use Rattle.ygg_value.specs.declared.shape.Shape.{Shape}
 use Rattle.ygg_value.specs.declared.shape.Shape.TheVariants as shape
 use Rattle.ygg_syntax.specs.declared.tree.Declared.{Declared}
-use Rattle.ygg_oblige_reading.specs.ygg_type_progress_proofs_Fits.{table_whole}
-use Rattle.ygg_oblige_reading.specs.ygg_type_progress_proofs_Fits as fitting
+use Rattle.ygg_oblige_reading.specs.ygg_type_sound_proofs_ProgressFits.{table_whole}
+use Rattle.ygg_oblige_reading.specs.ygg_type_sound_proofs_ProgressFits as fitting
 use Rattle.ygg_replay.specs.ygg_meaning.Environments.{bind}
 use Rattle.ygg_replay.specs.ygg_meaning.Shapes.{fits, shape_in, values_fit, words_fit, zeros_of}
 use Rattle.ygg_replay.specs.Zeros.{zero_values}

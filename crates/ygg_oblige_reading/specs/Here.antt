@@ -8,12 +8,12 @@ use Rattle.ygg_replay.specs.ygg_meaning.Layer.{ClosedLayer}
 use Rattle.ygg_replay.specs.ygg_meaning.Obligations.{Obligation}
 use Rattle.ygg_replay.specs.ygg_meaning.Refines.{Below}
 use Rattle.ygg_replay.specs.ygg_meaning.Shapes.{values_fit}
-use Rattle.ygg_eval_fronts.specs.ygg_bank.Values.{Inputs}
-use Rattle.ygg_oblige_reading.specs.ygg_eval_lower.Bodies.{IsRunnable, kind_of}
-use Rattle.ygg_oblige_reading.specs.ygg_eval_lower.Layers.{below_at, closed_at, variables_at}
-use Rattle.ygg_oblige_reading.specs.ygg_eval_lower.declared.body.Body.{Body}
-use Rattle.ygg_oblige_given.specs.ygg_oblige_pieces.Layers.{ShapesKept}
-use Rattle.ygg_oblige_given.specs.ygg_oblige_pieces.Numbers.{Numbers}
+use Rattle.ygg_eval_places.specs.ygg_bank.Values.{Inputs}
+use Rattle.ygg_oblige_reading.specs.ygg_eval_block.Bodies.{IsRunnable, kind_of}
+use Rattle.ygg_oblige_reading.specs.ygg_eval_block.Layers.{below_at, closed_at, variables_at}
+use Rattle.ygg_oblige_reading.specs.ygg_eval_block.declared.body.Body.{Body}
+use Rattle.ygg_oblige_given.specs.ygg_oblige_laws.LayerTerms.{ShapesKept}
+use Rattle.ygg_oblige_given.specs.ygg_oblige_laws.Numbers.{Numbers}
 use Rattle.ygg_oblige_given.specs.Tables.{inputs_in}
 use Rattle.ygg_oblige_reading.specs.Sites.{numbers_in, obligation_here}
 use Rattle.ygg_oblige_reading.specs.declared.reader.FirstBlock.{FirstBlock}

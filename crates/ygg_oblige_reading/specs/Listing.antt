@@ -2,9 +2,9 @@
 use Rattle.std.specs.Prelude.{◌≡◌, ℕ, List, [], ◌∷◌, ◌++◌, slice_get, Some}
 use Rattle.ygg_syntax.specs.declared.tree.Operation.{Operation}
 use Rattle.ygg_syntax.specs.declared.tree.Tick.{Tick}
-use Rattle.ygg_eval_lower.specs.ygg_meaning.Obligations.{Obligation, Init, CallOf, CutOf, TickOf, CutTickOf, Idle, Again}
-use Rattle.ygg_oblige.specs.ygg_oblige_pieces.Layers.{ShapesKept}
-use Rattle.ygg_oblige.specs.ygg_oblige_pieces.Numbers.{arguments_of}
+use Rattle.ygg_eval_block.specs.ygg_meaning.Obligations.{Obligation, Init, CallOf, CutOf, TickOf, CutTickOf, Idle, Again}
+use Rattle.ygg_oblige.specs.ygg_oblige_laws.LayerTerms.{ShapesKept}
+use Rattle.ygg_oblige.specs.ygg_oblige_laws.Numbers.{arguments_of}
 use Rattle.ygg_oblige.specs.Listing.{calls_of, ticks_of}
 use Rattle.ygg_oblige.specs.Steps.{obligation_of}
 use Rattle.ygg_oblige_reading.specs.declared.listed.Listed.{Listed}

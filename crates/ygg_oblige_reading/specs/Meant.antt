@@ -8,16 +8,16 @@ use Rattle.ygg_replay.specs.ygg_meaning.Violates.{shapes_fit}
 use Rattle.ygg_replay.specs.ygg_meaning.Claims.{Claim, ClaimViolated, claims_of}
 use Rattle.ygg_replay.specs.ygg_meaning.Stack.{layers_of}
 use Rattle.ygg_oblige_reading.specs.ygg_rules.declared.rule.RuleKind.{RuleKind}
-use Rattle.ygg_eval_fronts.specs.ygg_bank.Nodes.{IsBank}
-use Rattle.ygg_eval_fronts.specs.ygg_bank.Values.{Inputs, InputsFit, value_of}
-use Rattle.ygg_eval_fronts.specs.ygg_bank.declared.node.Id.{Id}
-use Rattle.ygg_eval_fronts.specs.ygg_bank.declared.node.Node.{Node}
-use Rattle.ygg_eval_fronts.specs.ygg_sym_laws.Means.{terms_of}
-use Rattle.ygg_oblige_given.specs.ygg_oblige_pieces.Meaning.{claim_name}
-use Rattle.ygg_oblige_given.specs.ygg_oblige_pieces.Terms.{file_made}
+use Rattle.ygg_eval_places.specs.ygg_bank.Nodes.{IsBank}
+use Rattle.ygg_eval_places.specs.ygg_bank.Values.{Inputs, InputsFit, value_of}
+use Rattle.ygg_eval_places.specs.ygg_bank.declared.node.Id.{Id}
+use Rattle.ygg_eval_places.specs.ygg_bank.declared.node.Node.{Node}
+use Rattle.ygg_eval_places.specs.ygg_sym_laws.Means.{terms_of}
+use Rattle.ygg_oblige_given.specs.ygg_oblige_laws.Meaning.{claim_name}
+use Rattle.ygg_oblige_given.specs.ygg_oblige_laws.Terms.{file_made}
 use Rattle.ygg_oblige_reading.specs.Obligation.{Obligation}
 pub use Rattle.ygg_oblige_reading.specs.Sites.{Init}
-use Rattle.ygg_oblige_schedules.specs.Schedules.{all_schedules}
+use Rattle.ygg_oblige_laws.specs.Schedules.{all_schedules}
 use Rattle.ygg_replay.specs.ygg_sched.Fitting.{halt_meant}
 use Rattle.ygg_replay.specs.ygg_sched.declared.schedule.Schedule.{Schedule}
 

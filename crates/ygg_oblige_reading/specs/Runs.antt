@@ -8,18 +8,18 @@ use Rattle.ygg_replay.specs.ygg_meaning.Layer.{ClosedLayer}
 use Rattle.ygg_replay.specs.ygg_meaning.Machine.{Picks}
 use Rattle.ygg_replay.specs.ygg_meaning.Obligations.{Halt}
 use Rattle.ygg_replay.specs.ygg_meaning.Shapes.{values_fit}
-use Rattle.ygg_eval_fronts.specs.ygg_sym_runs.Laws.{picked_by}
-use Rattle.ygg_eval_fronts.specs.ygg_fronts.Fronts.{run_picks, run_stop, left_at, fall_picks}
-use Rattle.ygg_oblige_reading.specs.ygg_eval_lower.Bodies.{IsBlock, arguments_in, variables_in}
-use Rattle.ygg_oblige_reading.specs.ygg_eval_lower.Layers.{closed_at}
-use Rattle.ygg_eval_fronts.specs.Belows.{halt_of}
-use Rattle.ygg_eval_fronts.specs.declared.below.Fallen.{Fallen}
+use Rattle.ygg_eval_places.specs.ygg_sym_runs.Laws.{picked_by}
+use Rattle.ygg_eval_places.specs.ygg_fronts.Fronts.{run_picks, run_stop, left_at, fall_picks}
+use Rattle.ygg_oblige_reading.specs.ygg_eval_block.Bodies.{IsBlock, arguments_in, variables_in}
+use Rattle.ygg_oblige_reading.specs.ygg_eval_block.Layers.{closed_at}
+use Rattle.ygg_eval_places.specs.Belows.{halt_of}
+use Rattle.ygg_eval_places.specs.declared.below.Fallen.{Fallen}
 use Rattle.ygg_oblige_reading.specs.Here.{below_of, body_of, file_of, inputs_of, layer_of, low_env, numbers_of, LowFits}
 use Rattle.ygg_oblige_reading.specs.declared.reader.FirstBlock.{FirstBlock}
 use Rattle.ygg_oblige_reading.specs.declared.reader.EnvironmentReader.{EnvironmentReader}
 use Rattle.ygg_oblige_reading.specs.declared.reader.Stand.{Stand}
-use Rattle.ygg_oblige_given.specs.ygg_oblige_pieces.Worth as worth
-use Rattle.ygg_oblige_given.specs.ygg_oblige_pieces.States.{given_stand}
+use Rattle.ygg_oblige_given.specs.ygg_oblige_laws.Worth as worth
+use Rattle.ygg_oblige_given.specs.ygg_oblige_laws.States.{given_stand}
 use Rattle.ygg_replay.specs.ygg_meaning.Related.{shaped}
 
 module _ (r : EnvironmentReader) (block : FirstBlock) (args memory low : List Value) where

@@ -9,14 +9,14 @@ use Rattle.ygg_replay.specs.ygg_meaning.Obligations as meaning
 use Rattle.ygg_replay.specs.ygg_meaning.Violates.{shapes_fit}
 use Rattle.ygg_syntax.specs.declared.grammar.BlockKind.TheVariants as kind
 use Rattle.ygg_replay.specs.ygg_meaning.Shapes.{values_fit}
-use Rattle.ygg_oblige_reading.specs.ygg_eval_lower.Bodies.{IsBlock, arguments_in, block_in, kind_of}
-use Rattle.ygg_oblige_given.specs.ygg_oblige_pieces.Layers.{ShapesKept}
-use Rattle.ygg_oblige_given.specs.ygg_oblige_pieces.Numbers.{arguments_of}
-use Rattle.ygg_oblige_given.specs.ygg_oblige_pieces.Numbers as terms
+use Rattle.ygg_oblige_reading.specs.ygg_eval_block.Bodies.{IsBlock, arguments_in, block_in, kind_of}
+use Rattle.ygg_oblige_given.specs.ygg_oblige_laws.LayerTerms.{ShapesKept}
+use Rattle.ygg_oblige_given.specs.ygg_oblige_laws.Numbers.{arguments_of}
+use Rattle.ygg_oblige_given.specs.ygg_oblige_laws.Numbers as terms
 use Rattle.ygg_oblige_reading.specs.Listing.{StandsIn}
-use Rattle.ygg_oblige_given.specs.ygg_oblige_pieces.States.{given_stand}
-use Rattle.ygg_oblige_given.specs.ygg_oblige_pieces.Worth as worth
-use Rattle.ygg_oblige_schedules.specs.Schedules.{left_of, picks_of, schedule_of, stop_of, wake_picks}
+use Rattle.ygg_oblige_given.specs.ygg_oblige_laws.States.{given_stand}
+use Rattle.ygg_oblige_given.specs.ygg_oblige_laws.Worth as worth
+use Rattle.ygg_oblige_laws.specs.Schedules.{left_of, picks_of, schedule_of, stop_of, wake_picks}
 use Rattle.ygg_replay.specs.ygg_sched.Fitting.{halt_meant}
 use Rattle.ygg_replay.specs.ygg_sched.declared.schedule.Halt.{Halt}
 use Rattle.ygg_replay.specs.ygg_sched.declared.schedule.Schedule.{Schedule}

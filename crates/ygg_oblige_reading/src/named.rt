@@ -3,13 +3,13 @@
 ghost use Rattle.std.specs.Prelude.{◌≡◌, ◌<◌, ◌^◌, [], IfOk, IfSome, IsTrue, Some, length};
 ghost use Rattle.std.specs.Option.{option_map};
 ghost use Rattle.ygg_replay.specs.ygg_sched.Fitting.{halt_meant};
-ghost use Rattle.ygg_oblige_reading.specs.ygg_eval_lower.Bodies.{arguments_in};
+ghost use Rattle.ygg_oblige_reading.specs.ygg_eval_block.Bodies.{arguments_in};
 ghost use Rattle.ygg_replay.specs.ygg_meaning.Environments.{bind};
 ghost use Rattle.ygg_replay.specs.ygg_meaning.Obligations.{Again, Idle, Init, name_of};
 ghost use Rattle.ygg_replay.specs.ygg_meaning.Shapes.{env_fits, values_fit};
 ghost use Rattle.ygg_oblige_given.specs.Tables.{given_values};
-ghost use Rattle.ygg_oblige_schedules.specs.Schedules.{stop_of, cut_from, schedule_from, whole_from, woken_picks};
-ghost use Rattle.ygg_oblige_given.specs.ygg_oblige_pieces.Layers.{ShapesKept};
+ghost use Rattle.ygg_oblige_laws.specs.Schedules.{stop_of, cut_from, schedule_from, whole_from, woken_picks};
+ghost use Rattle.ygg_oblige_given.specs.ygg_oblige_laws.LayerTerms.{ShapesKept};
 ghost use Rattle.ygg_oblige_reading.specs.Here.{
   below_of,
   inputs_of,
@@ -37,8 +37,8 @@ ghost use Rattle.ygg_oblige_reading.specs.Schedules.{
 use crate::reader::{EnvironmentReader, FirstBlock, Stand};
 use std::alloc::Global;
 use ygg_base::{Bits, Text};
-use ygg_eval_fronts::{Fallen, Lost};
-use ygg_eval_lower::Part;
+use ygg_eval_block::Part;
+use ygg_eval_places::{Fallen, Lost};
 use ygg_list::NoMemory;
 use ygg_oblige::{SymObligation, name_of};
 use ygg_replay::{Halt, Schedule};

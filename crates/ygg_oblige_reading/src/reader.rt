@@ -1,15 +1,15 @@
 //! The runs that an obligation speaks of, with the picks that an environment names by place.
 
 ghost use Rattle.std.specs.Prelude.{◌≡◌, [], IfOk, IsTrue};
-ghost use Rattle.ygg_eval_fronts.specs.Bits.{bits_in};
-ghost use Rattle.ygg_eval_fronts.specs.Steps.{FellBetween};
+ghost use Rattle.ygg_eval_places.specs.Bits.{bits_in};
+ghost use Rattle.ygg_eval_places.specs.Steps.{FellBetween};
 ghost use Rattle.ygg_replay.specs.ygg_meaning.Environments.{bind};
 ghost use Rattle.ygg_replay.specs.ygg_meaning.Shapes.{env_fits, values_fit};
-ghost use Rattle.ygg_oblige_given.specs.ygg_oblige_pieces.Inputs.{given_env};
-ghost use Rattle.ygg_oblige_given.specs.ygg_oblige_pieces.States.{given_stand};
-ghost use Rattle.ygg_oblige_given.specs.ygg_oblige_pieces.Layers.{ShapesKept};
-ghost use Rattle.ygg_oblige_schedules.specs.Schedules.{woken_picks};
-ghost use Rattle.ygg_eval_fronts.specs.ygg_sym_runs.Laws.{picked_by};
+ghost use Rattle.ygg_oblige_given.specs.ygg_oblige_laws.Inputs.{given_env};
+ghost use Rattle.ygg_oblige_given.specs.ygg_oblige_laws.States.{given_stand};
+ghost use Rattle.ygg_oblige_given.specs.ygg_oblige_laws.LayerTerms.{ShapesKept};
+ghost use Rattle.ygg_oblige_laws.specs.Schedules.{woken_picks};
+ghost use Rattle.ygg_eval_places.specs.ygg_sym_runs.Laws.{picked_by};
 ghost use Rattle.ygg_oblige_reading.specs.Here.{
   below_of,
   file_of,
@@ -26,8 +26,8 @@ ghost use Rattle.ygg_oblige_reading.specs.Runs.{FallsHere, PicksAre, StandIs, st
 use crate::site::Site;
 use std::alloc::Global;
 use ygg_base::Bits;
-use ygg_eval_fronts::{Choices, Fallen, Lost, PlacedBits, lose_fronts, run_fronts};
-use ygg_eval_lower::{Body, Part, Typed};
+use ygg_eval_block::{Body, Part, Typed};
+use ygg_eval_places::{Choices, Fallen, Lost, PlacedBits, lose_fronts, run_fronts};
 use ygg_list::NoMemory;
 use ygg_oblige::words_in;
 use ygg_oblige_given::{InputTable, further};

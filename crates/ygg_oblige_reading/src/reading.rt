@@ -1,7 +1,7 @@
 //! The schedule that an environment names for an obligation of a file.
 
 ghost use Rattle.std.specs.Prelude.{◌<◌, ◌^◌, IfOk, IfSome, length};
-ghost use Rattle.ygg_eval_fronts.specs.ygg_bank.Values.{InputsFit, inputs_of};
+ghost use Rattle.ygg_eval_places.specs.ygg_bank.Values.{InputsFit, inputs_of};
 ghost use Rattle.ygg_replay.specs.ygg_meaning.Claims.{claims_of};
 ghost use Rattle.ygg_oblige_reading.specs.Fitted.{IsFitted};
 ghost use Rattle.ygg_oblige_reading.specs.Meant.{FitsTerms, IsExactly, IsMadeIn, IsNamed, ViolatesAtZero};
@@ -9,8 +9,8 @@ ghost use Rattle.ygg_oblige_reading.specs.Meant.{FitsTerms, IsExactly, IsMadeIn,
 use crate::reader::EnvironmentReader;
 use crate::site::site_at;
 use std::alloc::Global;
-use ygg_eval_fronts::{Bank, Env};
-use ygg_eval_lower::Typed;
+use ygg_eval_block::Typed;
+use ygg_eval_places::{Bank, Env};
 use ygg_list::NoMemory;
 use ygg_oblige::{Obligation, tables};
 use ygg_oblige_given::InputTable;

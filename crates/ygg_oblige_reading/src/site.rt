@@ -1,16 +1,16 @@
 //! An obligation of a file with the inputs that it has.
 
 ghost use Rattle.std.specs.Prelude.{◌≡◌, ◌<◌, ◌+◌, length, take, slice_get, Some, IfOk};
-ghost use Rattle.ygg_eval_lower.specs.ygg_meaning.Claims.{claims_of};
-ghost use Rattle.ygg_eval_lower.specs.ygg_meaning.Stack.{layers_of, tables_of};
-ghost use Rattle.ygg_eval_lower.specs.ygg_meaning.Obligations.{obligations_of};
+ghost use Rattle.ygg_eval_block.specs.ygg_meaning.Claims.{claims_of};
+ghost use Rattle.ygg_eval_block.specs.ygg_meaning.Stack.{layers_of, tables_of};
+ghost use Rattle.ygg_eval_block.specs.ygg_meaning.Obligations.{obligations_of};
 ghost use Rattle.ygg_oblige.specs.Sites.{below_in};
 ghost use Rattle.ygg_oblige.specs.ygg_sym_spec.Layers.{closed};
 ghost use Rattle.ygg_oblige.specs.Adding.{after_at, after_layer_at};
 ghost use Rattle.ygg_oblige.specs.Making.{SiteFits};
 ghost use Rattle.ygg_oblige.specs.Numbering.{numbers_in};
-ghost use Rattle.ygg_oblige.specs.ygg_oblige_pieces.Numbers.{numbers_of};
-ghost use Rattle.ygg_oblige.specs.ygg_oblige_pieces.TermStates.{state_words};
+ghost use Rattle.ygg_oblige.specs.ygg_oblige_laws.Numbers.{numbers_of};
+ghost use Rattle.ygg_oblige.specs.ygg_oblige_laws.TermStates.{state_words};
 ghost use Rattle.ygg_oblige.specs.ygg_oblige_laws.TypedLayers.{LayersTyped};
 ghost use Rattle.ygg_oblige_reading.specs.Listing.{StandsIn};
 ghost use Rattle.ygg_oblige_reading.specs.Sites.{IsInLayer, IsPlaced};

@@ -1,7 +1,7 @@
 //! Zeros for declared names, and the state below at its start.
 
 ghost use Rattle.std.specs.Prelude.{◌≡◌, IfOk, IsTrue};
-ghost use Rattle.ygg_eval_fronts.specs.ygg_fronts.Fronts.{low_at_start};
+ghost use Rattle.ygg_eval_places.specs.ygg_fronts.Fronts.{low_at_start};
 ghost use Rattle.ygg_replay.specs.ygg_meaning.Environments.{bind};
 ghost use Rattle.ygg_replay.specs.ygg_meaning.Shapes.{values_fit, zeros_of};
 ghost use Rattle.ygg_oblige_reading.specs.Here.{below_of, low_env, IsHere, LowFits};

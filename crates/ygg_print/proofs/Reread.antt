@@ -14,11 +14,11 @@ use Rattle.ygg_print_tree.specs.PrintedFiles.{file_printed}
 use Rattle.ygg_print_tree.specs.Layout.{layout}
 use Rattle.ygg_print_tree.specs.Laws.{HasMarks, IsMark}
 use Rattle.ygg_print_tree.proofs.Relexed.{relexed}
-use Rattle.ygg_read_unique.specs.Laws.{LeftOut, nothing, keeps, leaves, DerivesAs}
-use Rattle.ygg_syntax_same.specs.Bare.{bare_file}
+use Rattle.ygg_print.specs.UniqueLaws.{LeftOut, nothing, keeps, leaves, DerivesAs}
+use Rattle.ygg_syntax_trees.specs.Bare.{bare_file}
 use Rattle.ygg_print.specs.Laws.{IsRead}
-use Rattle.ygg_read_unique.proofs.AgainFiles.{left_out, derives_as}
-use Rattle.ygg_read_unique.proofs.Printed.{same_printed}
+use Rattle.ygg_print.proofs.AgainFiles.{left_out, derives_as}
+use Rattle.ygg_print.proofs.Printed.{same_printed}
 use Rattle.ygg_print.specs.Canonical.{AreOfLanguage, GivesAgain, IsReadAgain, canonical}
 
 abbrev brace : Mark

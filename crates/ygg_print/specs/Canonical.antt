@@ -8,7 +8,7 @@ use Rattle.ygg_syntax.specs.Files.{Derives}
 use Rattle.ygg_print_tree.specs.PrintedFiles.{file_printed}
 use Rattle.ygg_print_tree.specs.Layout.{layout}
 use Rattle.ygg_print_tree.specs.Laws.{IsMark}
-use Rattle.ygg_read_unique.specs.Laws.{DerivesAs}
+use Rattle.ygg_print.specs.UniqueLaws.{DerivesAs}
 
 -- the marks of the file in order, as they are laid out
 abbrev pub canonical : File → List ℕ

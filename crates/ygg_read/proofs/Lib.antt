@@ -1,2 +1,2 @@
 pub mod Refusals
-pub use Rattle.ygg_read_claims.proofs as of_ygg_read_claims
+pub use Rattle.ygg_read_layer.proofs as of_ygg_read_layer

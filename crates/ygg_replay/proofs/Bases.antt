@@ -35,7 +35,7 @@ use Rattle.ygg_sched.specs.ygg_type_rules.TypeErrors.{none}
 use Rattle.ygg_sched.specs.ygg_type_rules.Definitions.{definitions_errors, with_definitions}
 use Rattle.ygg_sched.specs.ygg_type_rules.Files.{disk_below, disk_errors, layers_errors, type_errors_of}
 use Rattle.ygg_eval.specs.ygg_type_sound_proofs_Tests.{left}
-use Rattle.ygg_direct_files.proofs.of_ygg_type_progress.Views.{AllTyped}
+use Rattle.ygg_eval.proofs.of_ygg_type_sound.Views.{AllTyped}
 use Rattle.ygg_sched.specs.ygg_disk.Kinds.{model_of}
 use Rattle.ygg_sched.specs.ygg_meaning.Environments.{bind}
 use Rattle.ygg_sched.specs.ygg_meaning.Shapes.{values_fit}
@@ -46,7 +46,7 @@ use Rattle.ygg_sched.specs.ygg_meaning.Spec.{start_outcome}
 use Rattle.ygg_sched.specs.ygg_meaning.Refines.{Below, OnDisk, OnSpec, machine_below}
 use Rattle.ygg_sched.specs.ygg_meaning_proofs_Exact.{start_exact}
 use Rattle.ygg_sched.specs.ygg_meaning.Stack.{tables_of, tables_of_kind}
-use Rattle.ygg_direct_files.specs.ygg_eval_lower.Layers.{below_at, closed_at, machine_at, variables_at}
+use Rattle.ygg_eval.specs.ygg_eval_block.Layers.{below_at, closed_at, machine_at, variables_at}
 use Rattle.ygg_eval.proofs.OnDisk.{variables_zero}
 use Rattle.ygg_eval.proofs.OnSpec.{layer_variables}
 use Rattle.ygg_replay.specs.Zeros.{zero_values}

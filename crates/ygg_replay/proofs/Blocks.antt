@@ -16,17 +16,17 @@ use Rattle.ygg_sched.specs.ygg_meaning.Layer.{dialogue_of}
 use Rattle.ygg_sched.specs.ygg_meaning.Obligations.{IsRead}
 use Rattle.ygg_sched.specs.ygg_meaning.Refines.{Below, OnDisk, OnSpec, machine_below}
 use Rattle.ygg_sched.specs.ygg_meaning.Runs.{Dialogue, Reaches, WholeRun, FallenRun, notes_of}
-use Rattle.ygg_direct_files.specs.ygg_direct.Acts.{noted_picks, IsActed}
-use Rattle.ygg_direct_files.proofs.of_ygg_direct.OneEnd.{disk_one, spec_one}
-use Rattle.ygg_direct_files.specs.Files.{below_acts}
-use Rattle.ygg_direct_files.specs.ygg_eval_lower.declared.body.Body.{Body}
-use Rattle.ygg_direct_files.specs.ygg_eval_lower.declared.body.Part.{Part}
-use Rattle.ygg_direct_files.specs.ygg_eval_lower.declared.body.Part.TheVariants as part
-use Rattle.ygg_direct_files.specs.ygg_eval_lower.declared.body.Stop.{Stop}
-use Rattle.ygg_direct_files.specs.ygg_eval_lower.Bodies.{kind_of, variables_in, arguments_in, dialogue_in}
-use Rattle.ygg_direct_files.specs.ygg_eval_lower.Layers.{variables_at, below_at}
-use Rattle.ygg_direct_files.specs.ygg_eval_lower.Lower.{Standing}
-use Rattle.ygg_direct_files.specs.ygg_eval_lower.Conversations.{calls_in}
+use Rattle.ygg_eval.specs.ygg_direct.Acts.{noted_picks, IsActed}
+use Rattle.ygg_eval.proofs.of_ygg_direct.OneEnd.{disk_one, spec_one}
+use Rattle.ygg_eval.specs.Files.{below_acts}
+use Rattle.ygg_eval.specs.ygg_eval_block.declared.body.Body.{Body}
+use Rattle.ygg_eval.specs.ygg_eval_block.declared.body.Part.{Part}
+use Rattle.ygg_eval.specs.ygg_eval_block.declared.body.Part.TheVariants as part
+use Rattle.ygg_eval.specs.ygg_eval_block.declared.body.Stop.{Stop}
+use Rattle.ygg_eval.specs.ygg_eval_block.Bodies.{kind_of, variables_in, arguments_in, dialogue_in}
+use Rattle.ygg_eval.specs.ygg_eval_block.Layers.{variables_at, below_at}
+use Rattle.ygg_eval.specs.ygg_eval_block.Lower.{Standing}
+use Rattle.ygg_eval.specs.ygg_eval_block.Conversations.{calls_in}
 use Rattle.ygg_eval.specs.ygg_eval_block.Runs.{Finished, FinishedEarly, StoppedAt, RunEnds}
 use Rattle.ygg_eval.specs.ygg_eval_block.declared.run.Ended.{Ended}
 use Rattle.ygg_eval.specs.ygg_eval_block.declared.run.Ended.TheVariants as ended

@@ -6,7 +6,7 @@ use Rattle.ygg_syntax.specs.declared.tree.Declared.{Declared}
 use Rattle.ygg_syntax.specs.declared.tree.Operation.{Operation}
 use Rattle.ygg_syntax.specs.declared.tree.Layer.{Layer}
 use Rattle.ygg_syntax.specs.declared.tree.File.{File}
-use Rattle.ygg_sched.specs.ygg_symbols.Names.{Named}
+use Rattle.ygg_sched.specs.ygg_type_rules.Names.{Named}
 use Rattle.ygg_sched.specs.ygg_type_rules.declared.scope.Signature.{Signature}
 use Rattle.ygg_sched.specs.ygg_type_rules.TypeErrors.{none}
 use Rattle.ygg_sched.specs.ygg_type_rules.Layers.{operation_signature}
@@ -20,10 +20,10 @@ use Rattle.ygg_sched.specs.ygg_meaning.Refines.{Below, OnDisk, OnSpec, machine_b
 use Rattle.ygg_sched.specs.ygg_meaning.Spec.{Outcome, chosen, call_outcome, crash_outcome, fall_outcome, SpecCalls, SpecFalls, SpecLoses}
 use Rattle.ygg_sched.specs.ygg_meaning.Stack.{tables_of}
 use Rattle.ygg_eval.specs.ygg_type_sound_proofs_Parameters.{same_fit}
-use Rattle.ygg_direct_files.proofs.of_ygg_direct.Matching.{Matches}
-use Rattle.ygg_direct_files.specs.ygg_direct.Places.{Result}
-use Rattle.ygg_direct_files.specs.ygg_eval_lower.Layers.{variables_at, closed_at, below_at, machine_at, signatures_of, signatures_at}
-use Rattle.ygg_direct_files.specs.ygg_eval_lower.Lower.{IsCallable, Called, Fell, Whole, Happened}
+use Rattle.ygg_eval.proofs.of_ygg_direct.Matching.{Matches}
+use Rattle.ygg_eval.specs.ygg_direct.Places.{Result}
+use Rattle.ygg_eval.specs.ygg_eval_block.Layers.{variables_at, closed_at, below_at, machine_at, signatures_of, signatures_at}
+use Rattle.ygg_eval.specs.ygg_eval_block.Lower.{IsCallable, Called, Fell, Whole, Happened}
 use Rattle.ygg_eval.specs.Kept.{Kept, spec_meaning, Loses}
 use Rattle.ygg_eval.specs.Taken.{TakesOnly}
 use Rattle.ygg_eval.proofs.Named.{find_first, typed_operations}

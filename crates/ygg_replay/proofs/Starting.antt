@@ -10,11 +10,11 @@ use Rattle.ygg_sched.specs.ygg_meaning.Shapes.{values_fit}
 use Rattle.ygg_sched.specs.ygg_meaning.Progress.{Answer, Question, Choice, Call, Ends}
 use Rattle.ygg_sched.specs.ygg_meaning.Runs.{Dialogue}
 use Rattle.ygg_sched.specs.ygg_meaning.Spec.{block_outcome}
-use Rattle.ygg_direct_files.specs.ygg_eval_lower.declared.body.Part.TheVariants as part
-use Rattle.ygg_direct_files.specs.ygg_eval_lower.declared.body.Part.{Part}
-use Rattle.ygg_direct_files.specs.ygg_eval_lower.Bodies.{arguments_in, block_in, dialogue_in, variables_in, IsRunnable}
-use Rattle.ygg_direct_files.specs.ygg_eval_lower.Conversations.{Exchange, Exchanged, Talks, asked, answers_of}
-use Rattle.ygg_direct_files.specs.ygg_eval_lower.Lower.{Standing}
+use Rattle.ygg_eval.specs.ygg_eval_block.declared.body.Part.TheVariants as part
+use Rattle.ygg_eval.specs.ygg_eval_block.declared.body.Part.{Part}
+use Rattle.ygg_eval.specs.ygg_eval_block.Bodies.{arguments_in, block_in, dialogue_in, variables_in, IsRunnable}
+use Rattle.ygg_eval.specs.ygg_eval_block.Conversations.{Exchange, Exchanged, Talks, asked, answers_of}
+use Rattle.ygg_eval.specs.ygg_eval_block.Lower.{Standing}
 use Rattle.ygg_eval.specs.ygg_eval_block.declared.run.Ended.{Ended}
 use Rattle.ygg_eval.specs.ygg_eval_block.declared.run.Ended.TheVariants as ended
 use Rattle.ygg_eval.specs.ygg_eval_block.Runs.{Finished, RunEnds}
@@ -27,8 +27,8 @@ use Rattle.ygg_replay.specs.Steps.{IsStart}
 use Rattle.ygg_replay.specs.Zeros.{zero_values}
 use Rattle.ygg_replay.proofs.Typing.{bind_zeros, memory_zeros}
 use Rattle.ygg_syntax.specs.declared.tree.File.{File}
-use Rattle.ygg_direct_files.specs.ygg_type_progress.Questions.{question_fits}
-use Rattle.ygg_direct_files.specs.ygg_eval_lower.Layers.{signatures_at}
+use Rattle.ygg_eval.specs.ygg_type_sound.Questions.{question_fits}
+use Rattle.ygg_eval.specs.ygg_eval_block.Layers.{signatures_at}
 
 -- a plain block asks for nothing
 silent : (file : File) (number : ℕ) (block : Dialogue) (from to : Standing Kept) (xs : List (Exchange Kept)) (env : Env) (answer : Answer) →

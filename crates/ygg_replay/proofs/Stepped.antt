@@ -19,12 +19,12 @@ use Rattle.ygg_sched.specs.ygg_meaning.Machine.{Picks}
 use Rattle.ygg_sched.specs.ygg_meaning.Layer.{ClosedLayer}
 use Rattle.ygg_sched.specs.ygg_meaning.Obligations.{call_picks, crash_picks, fall_picks}
 use Rattle.ygg_sched.specs.ygg_meaning.Spec.{Outcome, chosen, call_outcome, crash_outcome, fall_with, fall_outcome}
-use Rattle.ygg_direct_files.specs.ygg_type_progress.Kinds.{keeps}
-use Rattle.ygg_direct_files.proofs.of_ygg_direct.Matching.{block_matches, fall_on_crash, fall_maybe}
-use Rattle.ygg_direct_files.specs.ygg_eval_lower.declared.body.Part.TheVariants as part
+use Rattle.ygg_eval.specs.ygg_type_sound.Kinds.{keeps}
+use Rattle.ygg_eval.proofs.of_ygg_direct.Matching.{block_matches, fall_on_crash, fall_maybe}
+use Rattle.ygg_eval.specs.ygg_eval_block.declared.body.Part.TheVariants as part
 use Rattle.ygg_eval.specs.Kept.{Kept, IsKept}
 use Rattle.ygg_eval.proofs.OnSpec.{layer_fits}
-use Rattle.ygg_direct_files.specs.ygg_eval_lower.Layers.{variables_at}
+use Rattle.ygg_eval.specs.ygg_eval_block.Layers.{variables_at}
 use Rattle.ygg_replay.specs.declared.site.ReplaySite.{ReplaySite}
 use Rattle.ygg_replay.specs.Runs.{fresh}
 use Rattle.ygg_replay.specs.Sites.{IsHere, closed_in, vars_at, VarsFit}

@@ -8,18 +8,18 @@ use Rattle.ygg_sched.specs.ygg_meaning.Progress.{Question, Choice, Call, Answer,
 use Rattle.ygg_sched.specs.ygg_meaning.Machine.{Picks, State, based}
 use Rattle.ygg_sched.specs.ygg_meaning.Runs.{Dialogue, WholeCall, Reaches, FallenRun, notes_of}
 use Rattle.ygg_sched.specs.ygg_meaning.Runs as runs
-use Rattle.ygg_direct_files.specs.ygg_eval_lower.declared.body.Stop.{Stop}
-use Rattle.ygg_direct_files.specs.ygg_eval_lower.Lower.{Standing, Happened}
-use Rattle.ygg_direct_files.specs.ygg_eval_lower.Lower as ending
-use Rattle.ygg_direct_files.specs.ygg_eval_lower.Layers.{signatures_at, machine_at}
-use Rattle.ygg_direct_files.specs.ygg_eval_lower.Conversations.{Exchange, Exchanged, Answered, Talks, asked, answers_of, one_call, calls_in}
+use Rattle.ygg_eval.specs.ygg_eval_block.declared.body.Stop.{Stop}
+use Rattle.ygg_eval.specs.ygg_eval_block.Lower.{Standing, Happened}
+use Rattle.ygg_eval.specs.ygg_eval_block.Lower as ending
+use Rattle.ygg_eval.specs.ygg_eval_block.Layers.{signatures_at, machine_at}
+use Rattle.ygg_eval.specs.ygg_eval_block.Conversations.{Exchange, Exchanged, Answered, Talks, asked, answers_of, one_call, calls_in}
 use Rattle.ygg_eval.specs.ygg_eval_block.Runs.{Came, StoppedAt}
 use Rattle.ygg_eval.specs.ygg_eval_block.Runs as block_runs
 use Rattle.ygg_eval.specs.Taken.{TakesOnly}
 use Rattle.ygg_eval.specs.Kept.{Kept, spec_meaning, named_in}
 use Rattle.ygg_eval.specs.Keeping.{takes_both}
 use Rattle.ygg_eval.proofs.Stepping.{no_pick}
-use Rattle.ygg_direct_files.specs.ygg_type_progress.Questions.{question_fits}
+use Rattle.ygg_eval.specs.ygg_type_sound.Questions.{question_fits}
 
 asks_of : (p : Progress) (q : Question) → asked p ≡ Some q → p ≡ Asks q
 asks_of (Asks r) q h = let same : r ≡ q = cc in ap (λ x. Asks x) same

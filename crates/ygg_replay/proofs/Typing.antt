@@ -17,13 +17,13 @@ use Rattle.ygg_sched.specs.ygg_meaning.Environments.{bind}
 use Rattle.ygg_sched.specs.ygg_meaning.Meaning.{functions_of}
 use Rattle.ygg_sched.specs.ygg_meaning.Shapes.{env_fits, shape_in, values_fit, zeros_of}
 use Rattle.ygg_eval.specs.ygg_type_sound_proofs_Parameters.{type_is}
-use Rattle.ygg_direct_files.specs.ygg_type_progress.Kinds.{keeps, layer_keeps}
-use Rattle.ygg_direct_files.proofs.of_ygg_type_progress.Derived.{derivable_derived}
-use Rattle.ygg_direct_files.specs.ygg_type_progress_proofs_Typed.{parts}
-use Rattle.ygg_direct_files.proofs.of_ygg_type_progress.Views.{AllTyped, LayerVariables, zeros_fit}
-use Rattle.ygg_direct_files.specs.ygg_eval_lower.declared.body.Body.{Body}
-use Rattle.ygg_direct_files.specs.ygg_eval_lower.Bodies.{kind_of, IsBlock}
-use Rattle.ygg_direct_files.specs.ygg_eval_lower_proofs_Blocks.{blocks_kept, block_typing, layer_typing}
+use Rattle.ygg_eval.specs.ygg_type_sound.Kinds.{keeps, layer_keeps}
+use Rattle.ygg_eval.proofs.of_ygg_type_sound.Derived.{derivable_derived}
+use Rattle.ygg_eval.specs.ygg_type_sound_proofs_Typed.{parts}
+use Rattle.ygg_eval.proofs.of_ygg_type_sound.Views.{AllTyped, LayerVariables, zeros_fit}
+use Rattle.ygg_eval.specs.ygg_eval_block.declared.body.Body.{Body}
+use Rattle.ygg_eval.specs.ygg_eval_block.Bodies.{kind_of, IsBlock}
+use Rattle.ygg_eval.specs.ygg_eval_block_proofs_Blocks.{blocks_kept, block_typing, layer_typing}
 use Rattle.ygg_eval.proofs.Values.{bound_fits}
 use Rattle.ygg_replay.specs.Zeros.{AreShapes, zero_values}
 

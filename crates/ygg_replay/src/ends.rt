@@ -7,7 +7,7 @@ ghost use Rattle.ygg_sched.specs.ygg_meaning.Machine.{based};
 ghost use Rattle.ygg_sched.specs.ygg_meaning.Obligations.{Again, Idle, Obligation};
 ghost use Rattle.ygg_sched.specs.ygg_meaning.Violates.{FallsSo, Formatted, RanWhole};
 ghost use Rattle.ygg_sched.specs.ygg_meaning.Stack.{tables_of};
-ghost use Rattle.ygg_direct_files.specs.ygg_eval_lower.Bodies.{IsRunnable, block_in, kind_of};
+ghost use Rattle.ygg_eval.specs.ygg_eval_block.Bodies.{IsRunnable, block_in, kind_of};
 ghost use Rattle.ygg_replay.specs.Ends.{
   EndFits,
   FellAndRecovered,

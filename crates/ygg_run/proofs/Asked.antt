@@ -9,7 +9,7 @@ use Rattle.ygg_syntax.specs.declared.tree.Layer.{Layer}
 use Rattle.ygg_syntax.specs.declared.tree.Operation.{Operation}
 use Rattle.ygg_syntax.specs.declared.tree.Tick.{Tick}
 use Rattle.ygg_syntax.specs.declared.tree.File.{File}
-use Rattle.ygg_machine.specs.ygg_symbols.Names.{Named}
+use Rattle.ygg_machine.specs.ygg_type_rules.Names.{Named}
 use Rattle.ygg_machine.specs.ygg_type_rules.declared.scope.Signature.{Signature}
 use Rattle.ygg_machine.specs.ygg_type_rules.Shapes.{shape_of}
 use Rattle.ygg_machine.specs.ygg_type_rules.Definitions.{parameter_shapes}
@@ -18,13 +18,13 @@ use Rattle.ygg_machine.specs.ygg_type.Typed.{operations_at}
 use Rattle.ygg_machine.specs.ygg_meaning.Environments.{Name}
 use Rattle.ygg_machine.specs.ygg_type_sound.Fitting.{fits_wanted, all_fit}
 use Rattle.ygg_machine.specs.ygg_type_sound_proofs_Fits.{value_fits}
-use Rattle.ygg_machine.specs.ygg_eval_lower.Layers.{signatures_at, signatures_of}
-use Rattle.ygg_machine.specs.ygg_eval_lower.Lower.{IsCallable}
+use Rattle.ygg_machine.specs.ygg_eval_block.Layers.{signatures_at, signatures_of}
+use Rattle.ygg_machine.specs.ygg_eval_block.Lower.{IsCallable}
 use Rattle.ygg_run_play.specs.ygg_sched.Fitting.{AreOfTypes}
 use Rattle.ygg_run_play.specs.ygg_script.Places.{top_operations}
 use Rattle.ygg_run_play.specs.ygg_script.Fitting.{IsCallOf, IsTickOf}
 use Rattle.ygg_machine.specs.Commands.{IsTickAt, HasTick}
-use Rattle.ygg_run_play.specs.ygg_run_text.Named.{operation_name, tick_name}
+use Rattle.ygg_run_play.specs.Named.{operation_name, tick_name}
 
 -- values of their types fit where these are wanted
 types_fit : (ds : List Declared) (vs : List Value) → AreOfTypes ds vs → all_fit (parameter_shapes ds) vs ≡ true

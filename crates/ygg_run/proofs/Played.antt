@@ -17,15 +17,15 @@ use Rattle.ygg_run_play.specs.ygg_meaning.Mirror.{SameOn, FormattedIf, Mirrors}
 use Rattle.ygg_run_play.specs.ygg_meaning.Noted.{Note}
 use Rattle.ygg_run_play.specs.ygg_meaning.Grounds.{TellsBase, TellsZeros}
 use Rattle.ygg_run_play.specs.ygg_meaning.Trace.{Up, Down, Leads}
-use Rattle.ygg_machine.specs.ygg_eval_lower.Lower.{PowerLoss, Ending, Whole, Failed}
-use Rattle.ygg_machine.specs.ygg_eval_lower.Lower as ending
+use Rattle.ygg_machine.specs.ygg_eval_block.Lower.{PowerLoss, Ending, Whole, Failed}
+use Rattle.ygg_machine.specs.ygg_eval_block.Lower as ending
 use Rattle.ygg_machine.specs.Bottoms.{bottom_on, View, ViewStands, ViewRuns, ViewEnds, ViewLoses, StillLooks, state_seen, formats}
 use Rattle.ygg_machine.specs.Commands.{Command}
 use Rattle.ygg_machine.specs.Commands as command
 use Rattle.ygg_machine.specs.Leaves.{LeaveWhole, LeaveCut}
 use Rattle.ygg_machine.specs.Told.{SameNotes}
 use Rattle.ygg_machine.proofs.Noting.{stacks_note}
-use Rattle.ygg_run_play.specs.ygg_run_text.Played.{Noted}
+use Rattle.ygg_run_play.specs.Played.{Noted}
 use Rattle.ygg_run_play.specs.Scene.{Deed, Gives, calling, ticking, waking, Leave, AreWhole, AreCut, Ends, After}
 use Rattle.ygg_run_play.specs.declared.scene.CommandOutcome.{CommandOutcome}
 use Rattle.ygg_run_play.specs.declared.scene.CommandOutcome.TheVariants as outcome

@@ -6,8 +6,8 @@ use Rattle.ygg_syntax.specs.declared.tree.File.{File}
 use Rattle.ygg_run.specs.ygg_type_rules.Files.{IsTyped}
 use Rattle.ygg_run.specs.ygg_report.Putting.{Puts}
 use Rattle.ygg_run.specs.ygg_script.declared.command.Command.{Command}
-use Rattle.ygg_run.specs.ygg_run_text.Played.{Noted, IsPlay}
-use Rattle.ygg_run.proofs.of_ygg_run_text.OneText.{files_have_one_way, one_text}
+use Rattle.ygg_run.specs.ygg_run_play.Played.{Noted, IsPlay}
+use Rattle.ygg_run.proofs.of_ygg_run_play.OneText.{files_have_one_way, one_text}
 use Rattle.ygg_run.specs.ygg_run_play.Playing.{IsPlayed}
 use Rattle.ygg_run.specs.ygg_run_play.declared.halting.PlayHalted.TheVariants as halted
 use Rattle.ygg_run.specs.Playing.{PlaysTo, IsFrontOfPlay}

@@ -5,12 +5,12 @@ use Rattle.ygg_machine.specs.ygg_disk.declared.power.Power.{Power}
 use Rattle.ygg_machine.specs.ygg_disk.declared.turn.Turn.{Turn}
 use Rattle.ygg_machine.specs.ygg_disk.declared.turn.Turn.TheVariants as turn
 use Rattle.ygg_run_play.specs.ygg_meaning.Noted.{Note}
-use Rattle.ygg_machine.specs.ygg_eval_lower.Lower.{Ending, Failed, AfterWhole, ending_of}
+use Rattle.ygg_machine.specs.ygg_eval_block.Lower.{Ending, Failed, AfterWhole, ending_of}
 use Rattle.ygg_machine.specs.Bottoms.{View, ViewStands, ViewRuns, ViewEnds, StillLooks, LosesAll, formats}
 use Rattle.ygg_machine.specs.Commands.{Command}
 use Rattle.ygg_machine.specs.Floors.{Raised}
 use Rattle.ygg_machine.specs.Viewed.{Seen, floor_seen}
-use Rattle.ygg_run_play.specs.ygg_run_text.Played.{Noted}
+use Rattle.ygg_run_play.specs.Played.{Noted}
 use Rattle.ygg_run_play.specs.Scene.{Deed, Leave, Ends, After}
 use Rattle.ygg_run_play.specs.declared.scene.CommandOutcome.{CommandOutcome}
 use Rattle.ygg_run.specs.TowerPlaying.{IsPlayable, state_played, IsOnDisk, IsUnwritten, Plays, MayWake, ending_in}

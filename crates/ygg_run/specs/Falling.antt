@@ -11,7 +11,7 @@ use Rattle.ygg_run_play.specs.ygg_meaning.Noted.{NotedDisk}
 use Rattle.ygg_run_play.specs.ygg_meaning.Stack.{Layers, Stacked, layers_on, tables_of}
 use Rattle.ygg_run_play.specs.Scene.{FallsAfterAll}
 use Rattle.ygg_run_play.proofs.Falling.{noted_falls_after_all}
-use Rattle.ygg_run_play.specs.ygg_run_text.Played.{Noted}
+use Rattle.ygg_run_play.specs.Played.{Noted}
 
 -- a topmost layer, and those below it
 abbrev HasTop : Layers → Type 0

@@ -6,7 +6,7 @@ use Rattle.ygg_base.specs.declared.status.Status.TheVariants.{Done}
 use Rattle.ygg_syntax.specs.declared.tree.File.{File}
 use Rattle.ygg_run.specs.ygg_report.Putting.{IsFront}
 use Rattle.ygg_run.specs.ygg_script.declared.command.Command.{Command}
-use Rattle.ygg_run.specs.ygg_run_text.Played.{IsPlay, IsUnreached, unreached_at}
+use Rattle.ygg_run.specs.ygg_run_play.Played.{IsPlay, IsUnreached, unreached_at}
 
 -- the refusal of the first stop that isn't reached
 abbrev pub RefusesPlay : File → List Command → Refusal → Type 0

@@ -5,7 +5,7 @@ ghost use Rattle.ygg_base.specs.Failure.{IfRefused};
 ghost use Rattle.ygg_base.specs.Outside.{Rose};
 ghost use Rattle.ygg_run.specs.ygg_report.Putting.{Puts};
 ghost use Rattle.ygg_run.specs.ygg_script.Fitting.{IsScriptOf};
-ghost use Rattle.ygg_run.specs.ygg_run_text.Played.{IsPlay};
+ghost use Rattle.ygg_run.specs.ygg_run_play.Played.{IsPlay};
 ghost use Rattle.ygg_run.specs.Playing.{RefusesPlay, PlaysTo, IsFrontOfPlay};
 
 use crate::gathering::{Gathered, Unheard};

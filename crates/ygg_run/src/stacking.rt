@@ -3,7 +3,7 @@
 ghost use Rattle.std.specs.Prelude.{◌≤◌, length};
 ghost use Rattle.ygg_base.specs.Outside.{Rose};
 ghost use Rattle.ygg_run.specs.ygg_script.Fitting.{IsScriptOf};
-ghost use Rattle.ygg_run.specs.ygg_run_text.Played.{Noted};
+ghost use Rattle.ygg_run.specs.ygg_run_play.Played.{Noted};
 ghost use Rattle.ygg_run.specs.ygg_run_play.Playing.{IsPlayed};
 
 use crate::building::{async_ground, raised, sync_ground};
@@ -19,7 +19,7 @@ trait Room {
     ghost use Rattle.std.specs.Prelude.{ℕ, ◌+◌, ◌<◌, ◌≤◌, length};
     ghost use Rattle.ygg_base.specs.Outside.{Rose};
     ghost use Rattle.ygg_run.specs.ygg_script.Fitting.{IsScriptOf};
-    ghost use Rattle.ygg_run.specs.ygg_run_text.Played.{Noted};
+    ghost use Rattle.ygg_run.specs.ygg_run_play.Played.{Noted};
     ghost use Rattle.ygg_run.specs.ygg_run_play.Playing.{IsPlayed};
     ghost use Rattle.ygg_run.specs.TowerPlaying.{IsUnwritten};
 

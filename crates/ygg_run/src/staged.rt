@@ -1,7 +1,7 @@
 //! Layers as a scene.
 
 ghost use Rattle.std.specs.Prelude.{◌≡◌, ◌≢◌, Ok};
-ghost use Rattle.ygg_machine.specs.ygg_eval_lower.Lower.{Failed, ending_of};
+ghost use Rattle.ygg_machine.specs.ygg_eval_block.Lower.{Failed, ending_of};
 ghost use Rattle.ygg_run.specs.TowerPlaying.{ending_in};
 
 use crate::playable::Playable;
@@ -41,7 +41,7 @@ fn outcome_of(turn: Turn) -> CommandOutcome
 impl<W: Playable + Drop> Scene for Staged<W> {
     ghost use Rattle.std.specs.Prelude.{length};
     ghost use Rattle.ygg_machine.specs.Viewed.{floor_seen};
-    ghost use Rattle.ygg_run_play.specs.ygg_run_text.Played.{Noted};
+    ghost use Rattle.ygg_run_play.specs.Played.{Noted};
     ghost use Rattle.ygg_run.specs.TowerPlaying.{state_played, IsUnwritten, Plays, MayWake};
     ghost use Rattle.ygg_run.specs.Falling.{falls_in_layers};
 

@@ -6,7 +6,7 @@ use Rattle.ygg_run.specs.ygg_meaning.Progress.{Answer}
 use Rattle.ygg_run.specs.ygg_machine.Bottoms.{View}
 use Rattle.ygg_run.specs.ygg_report.Lines.{ended}
 use Rattle.ygg_run.specs.ygg_script.declared.command.Command.{Command}
-use Rattle.ygg_run.specs.ygg_run_text.Lines.{answer_text}
+use Rattle.ygg_run.specs.ygg_run_play.Lines.{answer_text}
 use Rattle.ygg_run_commands.specs.Doing.{IsPut, entry_line, Did, Answered}
 use Rattle.ygg_run_commands.specs.declared.halting.RunHalted.{RunHalted}
 use Rattle.ygg_run_commands.specs.declared.halting.RunHalted.TheVariants.{DeviceFailed, SinkFailed, Memory}

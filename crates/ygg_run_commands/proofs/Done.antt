@@ -12,13 +12,13 @@ use Rattle.ygg_run.specs.ygg_meaning.Mirror.{SameOn, FormattedIf, Mirrors}
 use Rattle.ygg_run.specs.ygg_meaning.Noted.{Note}
 use Rattle.ygg_run.specs.ygg_meaning.StepLaws.{Same}
 use Rattle.ygg_run.specs.ygg_meaning.History.{Called, Ticked, Step}
-use Rattle.ygg_run.specs.ygg_eval_lower.Lower.{Cause, GivenUp, Ending, Whole, Down, Failed, Starved, AfterWhole}
+use Rattle.ygg_run.specs.ygg_eval_block.Lower.{Cause, GivenUp, Ending, Whole, Down, Failed, Starved, AfterWhole}
 use Rattle.ygg_run.specs.ygg_machine.Bottoms.{bottom_on, View, ViewRuns, ViewEnds, StillLooks, state_seen}
 use Rattle.ygg_run.specs.ygg_machine.Commands.{Stopped}
 use Rattle.ygg_run.specs.ygg_machine.Commands as command
 use Rattle.ygg_run.specs.ygg_machine.Told.{SameNotes}
 use Rattle.ygg_run.specs.ygg_script.declared.command.Command.TheVariants.{Call, Tick}
-use Rattle.ygg_run.specs.ygg_run_text.Named.{operation_name, tick_name}
+use Rattle.ygg_run.specs.ygg_run_play.Named.{operation_name, tick_name}
 use Rattle.ygg_run_commands.specs.OnGround.{layers_on}
 use Rattle.ygg_run_commands.specs.Running.{StopsWaking}
 use Rattle.ygg_run_commands.specs.Doing.{given_of, AllRun, Woke, DidPart, DidSo, Did}

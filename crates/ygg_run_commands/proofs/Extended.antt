@@ -11,12 +11,12 @@ use Rattle.ygg_run.specs.ygg_meaning.History.{Entry, Step, Steps}
 use Rattle.ygg_run.specs.ygg_meaning.StepLaws.{Same, LeftGoesOn}
 use Rattle.ygg_run.specs.ygg_meaning.Grounds.{OnGround, TellsBase, TellsZeros, Tells, ArePicks}
 use Rattle.ygg_run.proofs.of_ygg_meaning.Stores.{told_steps}
-use Rattle.ygg_run.specs.ygg_eval_lower.Lower.{PowerLoss}
+use Rattle.ygg_run.specs.ygg_eval_block.Lower.{PowerLoss}
 use Rattle.ygg_run.specs.ygg_machine.Told.{SameNotes}
 use Rattle.ygg_run.specs.ygg_script.declared.command.Command.{Command}
 use Rattle.ygg_run.specs.ygg_script.declared.command.Command.TheVariants.{Call, Tick, Lost, Fail, Keep}
-use Rattle.ygg_run.specs.ygg_run_text.Named.{operation_name, tick_name}
-use Rattle.ygg_run.specs.ygg_type_progress.Laws.{TypedHistories}
+use Rattle.ygg_run.specs.ygg_run_play.Named.{operation_name, tick_name}
+use Rattle.ygg_run.specs.ygg_type_sound.ProgressLaws.{TypedHistories}
 use Rattle.ygg_run_commands.specs.Ran.{AllRan}
 use Rattle.ygg_run_commands.specs.OnGround.{layers_on}
 use Rattle.ygg_run_commands.specs.Extending.{RunsExtend}

@@ -1,5 +1,5 @@
 pub use Rattle.ygg_run.proofs.of_ygg_meaning
-pub use Rattle.ygg_run.proofs.of_ygg_type_progress
+pub use Rattle.ygg_run.proofs.of_ygg_type_sound
 mod Mirroring
 mod Extended
 mod Done

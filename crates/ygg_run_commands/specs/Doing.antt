@@ -6,12 +6,12 @@ use Rattle.ygg_run.specs.ygg_disk.Ground.{Meaning}
 use Rattle.ygg_run.specs.ygg_meaning.Progress.{Answer}
 use Rattle.ygg_run.specs.ygg_meaning.History.{Entry, Step}
 use Rattle.ygg_run.specs.ygg_meaning.Noted.{Note}
-use Rattle.ygg_run.specs.ygg_eval_lower.Lower.{Cause, Ending, Whole, Down, Failed, Starved}
+use Rattle.ygg_run.specs.ygg_eval_block.Lower.{Cause, Ending, Whole, Down, Failed, Starved}
 use Rattle.ygg_run.specs.ygg_machine.Bottoms.{View, ViewStands, ViewRuns, state_seen}
 use Rattle.ygg_run.specs.ygg_report.Lines.{ended}
 use Rattle.ygg_run.specs.ygg_report.Putting.{Adds, IsFront}
 use Rattle.ygg_run.specs.ygg_script.declared.command.Command.{Command}
-use Rattle.ygg_run.specs.ygg_run_text.Lines.{answer_text}
+use Rattle.ygg_run.specs.ygg_run_play.Lines.{answer_text}
 use Rattle.ygg_run_commands.specs.Ran.{Ran, answer_in}
 use Rattle.ygg_run_commands.specs.OnGround.{layers_on}
 use Rattle.ygg_run_commands.specs.Running.{LeftOf, StopsWaking}

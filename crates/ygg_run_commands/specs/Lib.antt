@@ -1,10 +1,10 @@
 pub use Rattle.ygg_run.specs.ygg_disk
-pub use Rattle.ygg_run.specs.ygg_eval_lower
+pub use Rattle.ygg_run.specs.ygg_eval_block
 pub use Rattle.ygg_run.specs.ygg_meaning_proofs_Mirrored
 pub use Rattle.ygg_run.specs.ygg_meaning
 pub use Rattle.ygg_run.specs.ygg_machine
 pub use Rattle.ygg_run.specs.ygg_report
-pub use Rattle.ygg_run.specs.ygg_run_text
+pub use Rattle.ygg_run.specs.ygg_run_play
 pub use Rattle.ygg_run.specs.ygg_script
 pub use Rattle.ygg_run.specs.ygg_type
 pub use Rattle.ygg_run.specs.ygg_type_rules

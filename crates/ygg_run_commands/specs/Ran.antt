@@ -9,8 +9,8 @@ use Rattle.ygg_run.specs.ygg_meaning.History as history
 use Rattle.ygg_run.specs.ygg_report.Lines.{ended}
 use Rattle.ygg_run.specs.ygg_script.declared.command.Command.{Command}
 use Rattle.ygg_run.specs.ygg_script.declared.command.Command.TheVariants.{Call, Tick, Lost, Fail, Keep}
-use Rattle.ygg_run.specs.ygg_run_text.Named.{operation_name, tick_name}
-use Rattle.ygg_run.specs.ygg_run_text.Lines.{answer_text}
+use Rattle.ygg_run.specs.ygg_run_play.Named.{operation_name, tick_name}
+use Rattle.ygg_run.specs.ygg_run_play.Lines.{answer_text}
 
 -- the entry of a command, whatever it answers; only operations and background steps are run
 abbrev pub Ran : File → Command → Entry → Type 0

@@ -3,11 +3,11 @@ use Rattle.std.specs.Prelude.{◌≡◌, ◌⊎◌, ℕ, List, [], ◌∷◌, �
 use Rattle.ygg_syntax.specs.declared.tree.File.{File}
 use Rattle.ygg_run.specs.ygg_meaning.Machine.{State, Machine}
 use Rattle.ygg_run.specs.ygg_meaning.History.{Entry, Steps}
-use Rattle.ygg_run.specs.ygg_eval_lower.Lower.{Cause, GivenUp}
+use Rattle.ygg_run.specs.ygg_eval_block.Lower.{Cause, GivenUp}
 use Rattle.ygg_run.specs.ygg_report.Putting.{Adds, IsFront}
 use Rattle.ygg_run.specs.ygg_script.declared.command.Command.{Command}
 use Rattle.ygg_run.specs.ygg_script.declared.command.Command.TheVariants.{Call, Tick, Lost, Fail, Keep}
-use Rattle.ygg_run.specs.ygg_run_text.Named.{operation_name, tick_name}
+use Rattle.ygg_run.specs.ygg_run_play.Named.{operation_name, tick_name}
 use Rattle.ygg_run_commands.specs.Ran.{AllRan, run_lines, run_text}
 use Rattle.ygg_run_commands.specs.declared.halting.RunHalted.{RunHalted}
 use Rattle.ygg_run_commands.specs.declared.halting.RunHalted.TheVariants.{DeviceFailed, SinkFailed, Memory}

@@ -6,7 +6,7 @@ ghost use Rattle.ygg_run.specs.ygg_machine.Viewed.{floor_seen};
 ghost use Rattle.ygg_run.specs.ygg_report.Lines.{ended};
 ghost use Rattle.ygg_run.specs.ygg_script.Fitting.{IsCommandOf, IsScriptOf};
 ghost use Rattle.ygg_run.specs.ygg_script.Plain.{is_plain, plain_of};
-ghost use Rattle.ygg_run.specs.ygg_run_text.Lines.{answer_text};
+ghost use Rattle.ygg_run.specs.ygg_run_play.Lines.{answer_text};
 ghost use Rattle.ygg_run_commands.specs.Ran.{ran_line};
 ghost use Rattle.ygg_run_commands.specs.OnGround.{layers_on};
 ghost use Rattle.ygg_run_commands.specs.Running.{IsRun};

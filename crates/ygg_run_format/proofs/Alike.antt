@@ -9,20 +9,20 @@ use Rattle.ygg_value.specs.declared.row.Value.TheVariants.{Table}
 use Rattle.ygg_syntax.specs.declared.tree.Block.{Block}
 use Rattle.ygg_syntax.specs.declared.tree.DiskText.{DiskText}
 use Rattle.ygg_syntax.specs.declared.tree.File.{File}
-use Rattle.ygg_run_held.specs.ygg_disk.Disk as disk
-use Rattle.ygg_run_held.specs.ygg_disk.Kinds.{model_of}
-use Rattle.ygg_run_held.specs.ygg_meaning.Environments.{Name, Env, bind, look_up}
-use Rattle.ygg_run_held.specs.ygg_meaning.Progress.{Answer}
-use Rattle.ygg_run_held.specs.ygg_meaning.Machine.{Picks, State, based, on, Machine}
-use Rattle.ygg_run_held.specs.ygg_meaning.DiskMachine.{tables_in, zeros_on, DiskMachine}
-use Rattle.ygg_run_held.specs.ygg_meaning.Runs.{Dialogue, WholeCall, answers_of, notes_of, Reaches}
-use Rattle.ygg_run_held.specs.ygg_meaning.Layer.{ClosedLayer, dialogue_of, BlockRuns, Layered}
-use Rattle.ygg_run_held.specs.ygg_meaning.Shapes.{zeros_of}
-use Rattle.ygg_run_held.specs.ygg_meaning.Stack.{Layers, Stacked, Bottom, BottomOf, layers_of}
-use Rattle.ygg_run_held.specs.ygg_meaning.Under.{Between}
-use Rattle.ygg_run_held.specs.ygg_meaning.History.{Lost}
-use Rattle.ygg_run_held.specs.ygg_meaning.Left.{Left}
-use Rattle.ygg_run_held.specs.ygg_meaning.Mirror.{SameOn}
+use Rattle.ygg_run_image.specs.ygg_disk.Disk as disk
+use Rattle.ygg_run_image.specs.ygg_disk.Kinds.{model_of}
+use Rattle.ygg_run_image.specs.ygg_meaning.Environments.{Name, Env, bind, look_up}
+use Rattle.ygg_run_image.specs.ygg_meaning.Progress.{Answer}
+use Rattle.ygg_run_image.specs.ygg_meaning.Machine.{Picks, State, based, on, Machine}
+use Rattle.ygg_run_image.specs.ygg_meaning.DiskMachine.{tables_in, zeros_on, DiskMachine}
+use Rattle.ygg_run_image.specs.ygg_meaning.Runs.{Dialogue, WholeCall, answers_of, notes_of, Reaches}
+use Rattle.ygg_run_image.specs.ygg_meaning.Layer.{ClosedLayer, dialogue_of, BlockRuns, Layered}
+use Rattle.ygg_run_image.specs.ygg_meaning.Shapes.{zeros_of}
+use Rattle.ygg_run_image.specs.ygg_meaning.Stack.{Layers, Stacked, Bottom, BottomOf, layers_of}
+use Rattle.ygg_run_image.specs.ygg_meaning.Under.{Between}
+use Rattle.ygg_run_image.specs.ygg_meaning.History.{Lost}
+use Rattle.ygg_run_image.specs.ygg_meaning.Left.{Left}
+use Rattle.ygg_run_image.specs.ygg_meaning.Mirror.{SameOn}
 use Rattle.ygg_run_format.specs.Formatted.{Views, AreFormatted}
 
 -- all writes are kept

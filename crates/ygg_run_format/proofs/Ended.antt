@@ -1,11 +1,11 @@
 -- How the formatting of all layers ended, as what it did to the ground.
 use Rattle.std.proofs.Common.{◌≡◌, ℕ, Option, None, IsSomeAnd, length, refl, sym, ◌∙◌, subst}
 use Rattle.ygg_syntax.specs.declared.tree.File.{File}
-use Rattle.ygg_run_held.specs.ygg_disk.Ground.{Meaning}
-use Rattle.ygg_run_held.specs.ygg_disk.declared.power.Fuse.{Fuse}
-use Rattle.ygg_run_held.specs.ygg_disk.declared.power.Power.{Power}
-use Rattle.ygg_run_held.specs.ygg_eval_lower.Lower.{PowerLoss, GivenUp, Ending, Whole, Down, Failed, Starved}
-use Rattle.ygg_run_held.specs.ygg_machine.Bottoms.{bottom_on, FormatFalls, View, ViewEnds, formats, state_seen}
+use Rattle.ygg_run_image.specs.ygg_disk.Ground.{Meaning}
+use Rattle.ygg_run_image.specs.ygg_disk.declared.power.Fuse.{Fuse}
+use Rattle.ygg_run_image.specs.ygg_disk.declared.power.Power.{Power}
+use Rattle.ygg_run_image.specs.ygg_eval_block.Lower.{PowerLoss, GivenUp, Ending, Whole, Down, Failed, Starved}
+use Rattle.ygg_run_image.specs.ygg_machine.Bottoms.{bottom_on, FormatFalls, View, ViewEnds, formats, state_seen}
 use Rattle.ygg_run_format.specs.declared.end.FormatEnd.{FormatEnd}
 use Rattle.ygg_run_format.specs.Formatting.{end_of, FormatsSo, Formats}
 

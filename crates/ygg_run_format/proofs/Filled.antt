@@ -3,17 +3,17 @@ use Rattle.std.proofs.Common.{◌≡◌, ◌⊎◌, ℕ, ◌+◌, ◌*◌, ◌�
 use Rattle.std.proofs.Math.Nat.{suc-mul}
 use Rattle.std.proofs.lemmas.List.{take-replicate}
 use Rattle.ygg_base.specs.declared.geometry.Geometry.{Geometry}
-use Rattle.ygg_run_held.specs.ygg_base_device.Devices.{AttachedTurns, Attachment, Image, IsCreated, Tells, image_of, zeros}
-use Rattle.ygg_run_held.specs.ygg_base_device.declared.device.Made.TheVariants as made
+use Rattle.ygg_run_image.specs.ygg_base_device.Devices.{AttachedTurns, Attachment, Image, IsCreated, Tells, image_of, zeros}
+use Rattle.ygg_run_image.specs.ygg_base_device.declared.device.Made.TheVariants as made
 use Rattle.ygg_value.specs.Shapes.{IsShape}
-use Rattle.ygg_run_held.specs.ygg_disk.Size.{table_shape}
+use Rattle.ygg_run_image.specs.ygg_disk.Size.{table_shape}
 use Rattle.ygg_syntax.specs.declared.tree.File.{File}
-use Rattle.ygg_run_held.specs.ygg_type.Typed.{geometry_of}
-use Rattle.ygg_run_held.specs.ygg_run_image.Image.{block_bytes, image_bytes, rows_in}
-use Rattle.ygg_run_held.specs.ygg_run_image.Laws.{AreBlocks}
-use Rattle.ygg_run_held.proofs.of_ygg_run_image.Images.{zeros-held}
-use Rattle.ygg_run_held.specs.Sight.{held}
-use Rattle.ygg_run_held.specs.Standing.{KeepsHeader}
+use Rattle.ygg_run_image.specs.ygg_type.Typed.{geometry_of}
+use Rattle.ygg_run_image.specs.Image.{block_bytes, image_bytes, rows_in}
+use Rattle.ygg_run_image.specs.Laws.{AreBlocks}
+use Rattle.ygg_run_image.proofs.Images.{zeros-held}
+use Rattle.ygg_run_image.specs.Sight.{held}
+use Rattle.ygg_run_image.specs.Standing.{KeepsHeader}
 use Rattle.ygg_run_format.specs.declared.end.FormatEnd.{FormatEnd}
 use Rattle.ygg_run_format.specs.declared.end.FormatEnd.TheVariants as end
 use Rattle.ygg_run_format.specs.Formatted.{AreFormatted}

@@ -2,17 +2,17 @@
 use Rattle.std.proofs.Common.{ℕ, zero, suc, List, [], Option, Some, None, slice_get, inl, inr, subst}
 use Rattle.ygg_syntax.specs.declared.tree.Layer.{Layer}
 use Rattle.ygg_syntax.specs.declared.tree.File.{File}
-use Rattle.ygg_run_held.specs.ygg_disk.Ground.{Meaning}
-use Rattle.ygg_run_held.specs.ygg_meaning.Machine.{State, Machine}
-use Rattle.ygg_run_held.specs.ygg_meaning.Layer.{Layered}
-use Rattle.ygg_run_held.specs.ygg_meaning.Noted.{Note}
-use Rattle.ygg_run_held.specs.ygg_eval_lower.Layers.{closed_at}
-use Rattle.ygg_run_held.specs.ygg_eval_lower.Lower.{Cause}
-use Rattle.ygg_run_held.specs.ygg_machine.GroundSteps.{ground_machine}
-use Rattle.ygg_run_held.specs.ygg_machine.Floors.{idle_on}
-use Rattle.ygg_run_held.specs.ygg_machine.Bottoms.{bottom_on, FormatFalls}
-use Rattle.ygg_run_held.specs.Kept.{Keeps}
-use Rattle.ygg_run_held.proofs.StackKeeping.{fall_keeps, layered_keeps}
+use Rattle.ygg_run_image.specs.ygg_disk.Ground.{Meaning}
+use Rattle.ygg_run_image.specs.ygg_meaning.Machine.{State, Machine}
+use Rattle.ygg_run_image.specs.ygg_meaning.Layer.{Layered}
+use Rattle.ygg_run_image.specs.ygg_meaning.Noted.{Note}
+use Rattle.ygg_run_image.specs.ygg_eval_block.Layers.{closed_at}
+use Rattle.ygg_run_image.specs.ygg_eval_block.Lower.{Cause}
+use Rattle.ygg_run_image.specs.ygg_machine.GroundSteps.{ground_machine}
+use Rattle.ygg_run_image.specs.ygg_machine.Floors.{idle_on}
+use Rattle.ygg_run_image.specs.ygg_machine.Bottoms.{bottom_on, FormatFalls}
+use Rattle.ygg_run_image.specs.Kept.{Keeps}
+use Rattle.ygg_run_image.proofs.StackKeeping.{fall_keeps, layered_keeps}
 
 module _ {S : Type 0} (G : Meaning S) (f : File) (start : S) (I : S → Type 0) (cause : Cause) (k : Keeps I (ground_machine G cause start)) where
   idle_keeps : (M : Machine S Note) → Keeps I M → Keeps I (idle_on M)

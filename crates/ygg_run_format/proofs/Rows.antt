@@ -4,28 +4,28 @@ use Rattle.std.specs.Option.{option_map}
 use Rattle.ygg_base.specs.declared.geometry.DiskKind.{DiskKind}
 use Rattle.ygg_base.specs.declared.geometry.DiskKind.TheVariants as kind
 use Rattle.ygg_base.specs.declared.geometry.Geometry.{Geometry}
-use Rattle.ygg_run_held.specs.ygg_base_device.Devices.{AttachedTurns, Attachment, Image, Tells}
+use Rattle.ygg_run_image.specs.ygg_base_device.Devices.{AttachedTurns, Attachment, Image, Tells}
 use Rattle.ygg_value.specs.Number.{Grid}
 use Rattle.ygg_value.specs.Shapes.{IsShape}
 use Rattle.ygg_value.specs.declared.row.Value.TheVariants.{Table}
 use Rattle.ygg_syntax.specs.declared.tree.File.{File}
-use Rattle.ygg_run_held.specs.ygg_type.Typed.{geometry_of}
-use Rattle.ygg_run_held.specs.ygg_disk.Ground.{Meaning}
-use Rattle.ygg_run_held.specs.ygg_disk.Kinds.{Disk, model_of}
-use Rattle.ygg_run_held.specs.ygg_disk.Size.{table_shape, zeros_of}
+use Rattle.ygg_run_image.specs.ygg_type.Typed.{geometry_of}
+use Rattle.ygg_run_image.specs.ygg_disk.Ground.{Meaning}
+use Rattle.ygg_run_image.specs.ygg_disk.Kinds.{Disk, model_of}
+use Rattle.ygg_run_image.specs.ygg_disk.Size.{table_shape, zeros_of}
 use Rattle.std.specs.Prelude.{codes}
-use Rattle.ygg_run_held.specs.ygg_meaning.Environments.{look_up}
-use Rattle.ygg_run_held.specs.ygg_meaning.Noted.{disk_in}
-use Rattle.ygg_run_held.specs.ygg_meaning.Grounds.{TellsZeros}
-use Rattle.ygg_run_held.specs.ygg_eval_lower.Lower.{Cause, PowerLoss, GivenUp}
-use Rattle.ygg_run_held.specs.ygg_machine.GroundSteps.{ground_machine}
-use Rattle.ygg_run_held.proofs.of_ygg_machine.Noting.{stacks_tell}
-use Rattle.ygg_run_held.specs.ygg_run_image.Image.{rows_in}
-use Rattle.ygg_run_held.proofs.of_ygg_run_image.Images.{zeros-held}
-use Rattle.ygg_run_held.specs.Kept.{Keeps}
-use Rattle.ygg_run_held.specs.Sight.{Sight, held, state_of, told_disk}
-use Rattle.ygg_run_held.specs.DeviceMeaning.{device_meaning}
-use Rattle.ygg_run_held.specs.Standing.{KeepsHeader, StaysOn}
+use Rattle.ygg_run_image.specs.ygg_meaning.Environments.{look_up}
+use Rattle.ygg_run_image.specs.ygg_meaning.Noted.{disk_in}
+use Rattle.ygg_run_image.specs.ygg_meaning.Grounds.{TellsZeros}
+use Rattle.ygg_run_image.specs.ygg_eval_block.Lower.{Cause, PowerLoss, GivenUp}
+use Rattle.ygg_run_image.specs.ygg_machine.GroundSteps.{ground_machine}
+use Rattle.ygg_run_image.proofs.of_ygg_machine.Noting.{stacks_tell}
+use Rattle.ygg_run_image.specs.Image.{rows_in}
+use Rattle.ygg_run_image.proofs.Images.{zeros-held}
+use Rattle.ygg_run_image.specs.Kept.{Keeps}
+use Rattle.ygg_run_image.specs.Sight.{Sight, held, state_of, told_disk}
+use Rattle.ygg_run_image.specs.DeviceMeaning.{device_meaning}
+use Rattle.ygg_run_image.specs.Standing.{KeepsHeader, StaysOn}
 use Rattle.ygg_run_format.specs.declared.end.FormatEnd.{FormatEnd}
 use Rattle.ygg_run_format.specs.declared.end.FormatEnd.TheVariants as end
 use Rattle.ygg_run_format.specs.Formatted.{AreFormatted}

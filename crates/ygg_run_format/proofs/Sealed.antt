@@ -7,13 +7,13 @@ use Rattle.std.proofs.lemmas.List.{drop-drop, get_or-take, get_or-replicate, sam
 use Rattle.ygg_base.specs.declared.geometry.Geometry.{Geometry}
 use Rattle.ygg_base.specs.declared.outside.Moved.{Moved}
 use Rattle.ygg_base.specs.declared.outside.Moved.TheVariants.{Done, Failed}
-use Rattle.ygg_run_held.specs.ygg_base_device.Devices.{Image, Attachment, Flushes, MayHave, Writes, block_at, with_block}
+use Rattle.ygg_run_image.specs.ygg_base_device.Devices.{Image, Attachment, Flushes, MayHave, Writes, block_at, with_block}
 use Rattle.ygg_value.proofs.Rows.{get_or-first_chunks, length-first_chunks, same_from_chunks}
-use Rattle.ygg_run_held.specs.ygg_run_image.Image.{block_bytes, header, image, rows_in}
-use Rattle.ygg_run_held.specs.ygg_run_image.Judged.{IsSealed}
-use Rattle.ygg_run_held.specs.ygg_run_image.Laws.{AreBlocks}
-use Rattle.ygg_run_held.proofs.of_ygg_run_image.Blocks.{length-written, rest-header}
-use Rattle.ygg_run_held.proofs.of_ygg_run_image.Images.{length-header, header-blocks, blocks-image}
+use Rattle.ygg_run_image.specs.Image.{block_bytes, header, image, rows_in}
+use Rattle.ygg_run_image.specs.Judged.{IsSealed}
+use Rattle.ygg_run_image.specs.Laws.{AreBlocks}
+use Rattle.ygg_run_image.proofs.Blocks.{length-written, rest-header}
+use Rattle.ygg_run_image.proofs.Images.{length-header, header-blocks, blocks-image}
 use Rattle.ygg_run_format.specs.Sealing.{IsUnsealed, IsFresh, sealed_of, MayBe, HeaderTurns, SealedOnlyAs, SealTurns}
 use Rattle.ygg_run_format.proofs.Turns.{Attaches}
 

@@ -1,10 +1,10 @@
 -- What one turn of the attached image after another makes of it.
 use Rattle.std.proofs.Common.{◌≡◌, ◌+◌, List, Option, Some, None, IfSome, refl, sym, ap, ◌∙◌, subst}
 use Rattle.ygg_base.specs.declared.geometry.Geometry.{Geometry}
-use Rattle.ygg_run_held.specs.ygg_base_device.Devices.{Image, Attachment, AttachedTurns, Tells, image_of}
-use Rattle.ygg_run_held.specs.ygg_run_image.Image.{block_bytes}
-use Rattle.ygg_run_held.specs.ygg_run_image.Laws.{AreBlocks}
-use Rattle.ygg_run_held.specs.Sight.{Holds, held}
+use Rattle.ygg_run_image.specs.ygg_base_device.Devices.{Image, Attachment, AttachedTurns, Tells, image_of}
+use Rattle.ygg_run_image.specs.Image.{block_bytes}
+use Rattle.ygg_run_image.specs.Laws.{AreBlocks}
+use Rattle.ygg_run_image.specs.Sight.{Holds, held}
 
 -- an image is attached as that of a disk, holds rows, and this is so of it
 pub record Attaches (g : Geometry) (P : Image → Type 0) (a : Attachment) (i : Image) : Type 0 where

@@ -3,9 +3,9 @@ use Rattle.std.specs.Prelude.{◌≡◌, true, All, codes}
 use Rattle.ygg_value.specs.Number.{Grid}
 use Rattle.ygg_value.specs.declared.row.Value.TheVariants.{Table}
 use Rattle.ygg_syntax.specs.declared.tree.File.{File}
-use Rattle.ygg_run_held.specs.ygg_meaning.Environments.{Env, look_up}
-use Rattle.ygg_run_held.specs.ygg_meaning.Machine.{Picks, State}
-use Rattle.ygg_run_held.specs.ygg_meaning.Stack.{BottomOf}
+use Rattle.ygg_run_image.specs.ygg_meaning.Environments.{Env, look_up}
+use Rattle.ygg_run_image.specs.ygg_meaning.Machine.{Picks, State}
+use Rattle.ygg_run_image.specs.ygg_meaning.Stack.{BottomOf}
 
 -- the disk of the bottom implementation shows these rows
 abbrev pub Views : State Env → Grid → Type 0

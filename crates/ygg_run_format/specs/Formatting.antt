@@ -2,11 +2,11 @@
 use Rattle.std.specs.Prelude.{◌≡◌, ◌≤◌, List, length}
 use Rattle.ygg_base.specs.Outside.{Rose}
 use Rattle.ygg_syntax.specs.declared.tree.File.{File}
-use Rattle.ygg_run_held.specs.ygg_disk.Ground.{Meaning}
-use Rattle.ygg_run_held.specs.ygg_meaning.Machine.{State}
-use Rattle.ygg_run_held.specs.ygg_meaning.Noted.{Note}
-use Rattle.ygg_run_held.specs.ygg_eval_lower.Lower.{PowerLoss, GivenUp, Ending, Whole, Down, Failed, Starved}
-use Rattle.ygg_run_held.specs.ygg_machine.Bottoms.{bottom_on, FormatFalls}
+use Rattle.ygg_run_image.specs.ygg_disk.Ground.{Meaning}
+use Rattle.ygg_run_image.specs.ygg_meaning.Machine.{State}
+use Rattle.ygg_run_image.specs.ygg_meaning.Noted.{Note}
+use Rattle.ygg_run_image.specs.ygg_eval_block.Lower.{PowerLoss, GivenUp, Ending, Whole, Down, Failed, Starved}
+use Rattle.ygg_run_image.specs.ygg_machine.Bottoms.{bottom_on, FormatFalls}
 use Rattle.ygg_run_format.specs.declared.end.FormatEnd.{FormatEnd}
 use Rattle.ygg_run_format.specs.declared.end.FormatEnd.TheVariants as end
 

@@ -1,15 +1,15 @@
 -- What formatting leaves of an image, and of all others.
 use Rattle.std.specs.Prelude.{◌≡◌, ◌⊎◌, ◌+◌, true, List, [], ◌∷◌, ℕ, Option, Some, None, IfSome, replicate}
 use Rattle.ygg_base.specs.declared.geometry.Geometry.{Geometry}
-use Rattle.ygg_run_held.specs.ygg_base_device.Devices.{Image, Attachment, OthersStay, image_of}
+use Rattle.ygg_run_image.specs.ygg_base_device.Devices.{Image, Attachment, OthersStay, image_of}
 use Rattle.ygg_value.specs.Number.{Grid}
 use Rattle.ygg_syntax.specs.declared.tree.File.{File}
-use Rattle.ygg_run_held.specs.ygg_type.Typed.{geometry_of}
-use Rattle.ygg_run_held.specs.ygg_meaning.History.{Lost}
-use Rattle.ygg_run_held.specs.ygg_meaning.Left.{Left}
-use Rattle.ygg_run_held.specs.ygg_run_image.Image.{block_bytes, image, image_bytes, rows_in}
-use Rattle.ygg_run_held.specs.ygg_run_image.Judged.{IsSealed}
-use Rattle.ygg_run_held.specs.Sight.{Holds, held}
+use Rattle.ygg_run_image.specs.ygg_type.Typed.{geometry_of}
+use Rattle.ygg_run_image.specs.ygg_meaning.History.{Lost}
+use Rattle.ygg_run_image.specs.ygg_meaning.Left.{Left}
+use Rattle.ygg_run_image.specs.Image.{block_bytes, image, image_bytes, rows_in}
+use Rattle.ygg_run_image.specs.Judged.{IsSealed}
+use Rattle.ygg_run_image.specs.Sight.{Holds, held}
 use Rattle.ygg_run_format.specs.Formatted.{AreFormatted}
 use Rattle.ygg_run_format.specs.Sealing.{HasBytes, IsFresh}
 use Rattle.ygg_run_format.specs.declared.end.FormatEnd.{FormatEnd}

@@ -1,4 +1,4 @@
-pub use Rattle.ygg_run_held.specs.ygg_base_device
+pub use Rattle.ygg_run_image.specs.ygg_base_device
 pub mod Formatted
 pub mod Formatting
 pub mod Leaving

@@ -3,9 +3,9 @@ use Rattle.std.specs.Prelude.{◌≡◌, ◌⊎◌, true, ℕ, List, take, repli
 use Rattle.ygg_base.specs.declared.geometry.Geometry.{Geometry}
 use Rattle.ygg_base.specs.declared.outside.Moved.{Moved}
 use Rattle.ygg_base.specs.declared.outside.Moved.TheVariants.{Done, Failed}
-use Rattle.ygg_run_held.specs.ygg_base_device.Devices.{Image, Attachment}
-use Rattle.ygg_run_held.specs.ygg_run_image.Image.{block_bytes, image, rows_in}
-use Rattle.ygg_run_held.specs.ygg_run_image.Judged.{IsSealed}
+use Rattle.ygg_run_image.specs.ygg_base_device.Devices.{Image, Attachment}
+use Rattle.ygg_run_image.specs.Image.{block_bytes, image, rows_in}
+use Rattle.ygg_run_image.specs.Judged.{IsSealed}
 
 -- bytes that begin with a block of zeros, as those of an image do that was created and isn't sealed
 abbrev pub IsUnsealed : Geometry → List ℕ → Type 0

@@ -2,11 +2,11 @@
 
 ghost use Rattle.std.specs.Prelude.{◌≡◌, ◌≤◌, IfSome};
 ghost use Rattle.ygg_base.specs.Outside.{Rose};
-ghost use Rattle.ygg_run_held.specs.ygg_base_device.Devices.{AttachedTurns, OthersStay, Tells};
-ghost use Rattle.ygg_run_held.specs.ygg_type.Typed.{geometry_of};
-ghost use Rattle.ygg_run_held.specs.ygg_run_image.Image.{rows_in};
-ghost use Rattle.ygg_run_held.specs.Sight.{Holds, held};
-ghost use Rattle.ygg_run_held.specs.Standing.{KeepsHeader};
+ghost use Rattle.ygg_run_image.specs.ygg_base_device.Devices.{AttachedTurns, OthersStay, Tells};
+ghost use Rattle.ygg_run_image.specs.ygg_type.Typed.{geometry_of};
+ghost use Rattle.ygg_run_image.specs.Image.{rows_in};
+ghost use Rattle.ygg_run_image.specs.Sight.{Holds, held};
+ghost use Rattle.ygg_run_image.specs.Standing.{KeepsHeader};
 ghost use Rattle.ygg_run_format.specs.Formatted.{AreFormatted};
 ghost use Rattle.ygg_run_format.specs.Leaving.{Fills, IsBlank};
 ghost use Rattle.ygg_run_format.specs.declared.end.FormatEnd.TheVariants.{Done, Failed};
@@ -15,7 +15,7 @@ use crate::end::FormatEnd;
 use crate::formatting::Formatting;
 use std::alloc::Global;
 use ygg_base::Text;
-use ygg_run_held::{Device, DeviceGround, Made, Typed, block_size, on_stack};
+use ygg_run_image::{Device, DeviceGround, Made, Typed, block_size, on_stack};
 
 /// Formats all layers of a file, the lowest first, on a ground over a device whose image is all zeros.
 fn format_ground<'a, D: Device>(

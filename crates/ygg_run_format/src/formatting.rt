@@ -1,15 +1,15 @@
 //! The layers of a file are formatted on a ground.
 
 ghost use Rattle.std.specs.Prelude.{◌≡◌, ◌≢◌, None};
-ghost use Rattle.ygg_run_held.specs.ygg_eval_lower.Lower.{Down, ending_of};
-ghost use Rattle.ygg_run_held.specs.ygg_machine.Viewed.{floor_seen};
+ghost use Rattle.ygg_run_image.specs.ygg_eval_block.Lower.{Down, ending_of};
+ghost use Rattle.ygg_run_image.specs.ygg_machine.Viewed.{floor_seen};
 ghost use Rattle.ygg_run_format.specs.Formatting.{end_of, Formats};
 
 use crate::end::FormatEnd;
 use std::alloc::Global;
 use ygg_base::Bits;
 use ygg_list::NoMemory;
-use ygg_run_held::{Errand, Floor, Picks, Power, Turn, Typed, Viewed, viewed};
+use ygg_run_image::{Errand, Floor, Picks, Power, Turn, Typed, Viewed, viewed};
 
 /// Power that doesn't fail and names picks of 1, of which nothing is noted.
 fn steady(alloc: Global) -> Power

@@ -9,4 +9,4 @@ mod seal;
 
 pub use end::FormatEnd;
 pub use on_device::format;
-pub use ygg_run_held::Device;
+pub use ygg_run_image::Device;

@@ -2,9 +2,9 @@
 
 ghost use Rattle.std.specs.Prelude.{◌≡◌, ◌≤◌, IfSome};
 ghost use Rattle.ygg_base.specs.Outside.{Rose};
-ghost use Rattle.ygg_run_held.specs.ygg_base_device.Devices.{AttachedTurns, Tells};
-ghost use Rattle.ygg_run_held.specs.ygg_type.Typed.{geometry_of};
-ghost use Rattle.ygg_run_held.specs.Sight.{Holds, held};
+ghost use Rattle.ygg_run_image.specs.ygg_base_device.Devices.{AttachedTurns, Tells};
+ghost use Rattle.ygg_run_image.specs.ygg_type.Typed.{geometry_of};
+ghost use Rattle.ygg_run_image.specs.Sight.{Holds, held};
 ghost use Rattle.ygg_run_format.specs.Leaving.{FinishTurns, IsFilled, FormatsImage};
 ghost use Rattle.ygg_run_format.specs.declared.end.FormatEnd.TheVariants.{Failed};
 
@@ -13,7 +13,7 @@ use crate::filling::fill;
 use crate::seal::seal;
 use std::alloc::Global;
 use ygg_base::{Moved, Text};
-use ygg_run_held::{Device, Typed, block_size};
+use ygg_run_image::{Device, Typed, block_size};
 
 /// Seals the attached image, which holds the rows of a format.
 fn finish<D: Device>(alloc: Global, typed: &Typed, device: &mut D) -> FormatEnd

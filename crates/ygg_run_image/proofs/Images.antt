@@ -19,7 +19,7 @@ use Rattle.ygg_run_image.specs.Laws.{AreRows, AreBlocks, ImagesHoldTheirRows, Im
 use Rattle.ygg_run_image.specs.Laws.{BlocksAreImages, HeadersHoldNoRows, WrittenRowsAreHeld, ZerosHoldZeros}
 use Rattle.ygg_run_image.proofs.Blocks.{length-rest, block-chunk, length-written, rest-header, chunks-written}
 use Rattle.ygg_run_image.proofs.Pieces.{length-pieces, chunks-pieces}
-use Rattle.ygg_run_image.proofs.Rows.{length-row_block, words-row_block, row_block-words, words-are, zeros-are, zeros-block}
+use Rattle.ygg_run_image.proofs.ImageRows.{length-row_block, words-row_block, row_block-words, words-are, zeros-are, zeros-block}
 
 -- the header is as long as a block
 pub length-header : (g : Geometry) (sealed : Bool) → length (header g sealed) ≡ block_bytes g

@@ -1,6 +1,17 @@
 pub mod Pieces
 pub mod Numbers
-pub mod Rows
+pub mod ImageRows
 pub mod Blocks
 pub mod Images
-pub mod Judging
+pub mod ImageJudging
+pub mod Staying
+pub mod Held
+pub mod Keeping
+pub mod Telling
+mod Leaving
+pub mod Whole
+pub mod JudgedBlocks
+pub mod Attached
+pub use Rattle.ygg_machine.proofs as of_ygg_machine
+pub mod Some
+pub mod StackKeeping

@@ -1,13 +1,32 @@
-//! Images of disks: a header, and a block for each row, as bytes alone; and why an image is refused.
+//! Images of disks: a header, and a block for each row, as bytes; why an image is refused; an image on a device as a disk that is mounted, what disk calls
+//! make of it, the layers that are put on it, and what these keep of the device.
 #![tactic(auto)]
 
+mod beginning;
+mod device_ground;
+mod errand;
+pub mod ground_law;
 mod header;
+pub mod held_law;
+mod judging;
 pub mod law;
+mod levels;
+mod mounting;
 mod reason;
 mod row;
+mod rows;
 mod size;
+mod unmounted;
 
+pub use device_ground::DeviceGround;
+pub use errand::Errand;
 pub use header::{judge_header, write_header};
+pub use law::images_are_of_rows;
+pub use levels::on_stack;
+pub use mounting::mount;
 pub use reason::ImageReason;
 pub use row::{decode_row, encode_row, is_row_block};
 pub use size::block_size;
+pub use unmounted::Unmounted;
+pub use ygg_base_device::{Device, Made};
+pub use ygg_machine::{Floor, Picks, Power, Turn, Typed, Viewed, viewed};

@@ -9,11 +9,11 @@ use Rattle.ygg_run_commands.specs.ygg_meaning.Machine.{State, TickName, Machine}
 use Rattle.ygg_run_commands.specs.ygg_meaning.Mirror.{SameOn, FormattedIf, Mirrors}
 use Rattle.ygg_run_commands.specs.ygg_meaning.History.{Entry, Step, Steps}
 use Rattle.ygg_run_commands.specs.ygg_meaning.Noted.{Note}
-use Rattle.ygg_run_commands.specs.ygg_eval_lower.Lower.{Cause, GivenUp}
+use Rattle.ygg_run_commands.specs.ygg_eval_block.Lower.{Cause, GivenUp}
 use Rattle.ygg_run_commands.specs.ygg_machine.Told.{SameNotes}
 use Rattle.ygg_run_commands.specs.ygg_script.declared.command.Command.{Command}
 use Rattle.ygg_run_commands.specs.ygg_script.declared.command.Command.TheVariants.{Call, Tick, Lost, Fail, Keep}
-use Rattle.ygg_run_commands.specs.ygg_run_text.Named.{operation_name, tick_name}
+use Rattle.ygg_run_commands.specs.ygg_run_play.Named.{operation_name, tick_name}
 use Rattle.ygg_run_commands.specs.Ran.{AllRan}
 use Rattle.ygg_run_commands.specs.Running.{Runs, LeftOf, StopsWaking, StopsBefore, IsRun}
 use Rattle.ygg_run_commands.specs.declared.halting.RunHalted.{RunHalted}

@@ -7,13 +7,13 @@ use Rattle.ygg_run_commands.specs.ygg_meaning.Machine.{State}
 use Rattle.ygg_run_commands.specs.ygg_meaning.DiskMachine.{machine_on}
 use Rattle.ygg_run_commands.specs.ygg_meaning.Stack.{layers_of}
 use Rattle.ygg_run_commands.specs.ygg_meaning.History.{Entry, Step, Steps}
-use Rattle.ygg_run_commands.specs.ygg_eval_lower.Lower.{Cause, PowerLoss, GivenUp}
+use Rattle.ygg_run_commands.specs.ygg_eval_block.Lower.{Cause, PowerLoss, GivenUp}
 use Rattle.ygg_run_commands.specs.ygg_machine.GroundSteps.{ground_machine, ground_calls}
-use Rattle.ygg_run_held.specs.Kept.{Keeps}
-use Rattle.ygg_run_held.proofs.StackKeeping.{stacked_keeps}
+use Rattle.ygg_run_image.specs.Kept.{Keeps}
+use Rattle.ygg_run_image.proofs.StackKeeping.{stacked_keeps}
 use Rattle.ygg_run_commands.specs.ygg_script.declared.command.Command.{Command}
 use Rattle.ygg_run_commands.specs.ygg_script.declared.command.Command.TheVariants.{Call, Tick, Lost, Fail, Keep}
-use Rattle.ygg_run_commands.specs.ygg_run_text.Named.{operation_name, tick_name}
+use Rattle.ygg_run_commands.specs.ygg_run_play.Named.{operation_name, tick_name}
 use Rattle.ygg_run_commands.specs.Ran.{AllRan}
 use Rattle.ygg_run_commands.specs.OnGround.{layers_on}
 use Rattle.ygg_run_commands.specs.Running.{Runs, LeftOf, StopsWaking, StopsBefore, IsRun}

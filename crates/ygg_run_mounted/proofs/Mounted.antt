@@ -4,16 +4,16 @@ use Rattle.std.specs.Prelude.{IfSome}
 use Rattle.ygg_base.specs.declared.geometry.Geometry.{Geometry}
 use Rattle.ygg_base.specs.declared.geometry.DiskKind.{DiskKind}
 use Rattle.ygg_base.specs.declared.geometry.DiskKind.TheVariants.{Sync, Async}
-use Rattle.ygg_run_held.specs.ygg_base_device.Devices.{Image, Tells}
+use Rattle.ygg_run_image.specs.ygg_base_device.Devices.{Image, Tells}
 use Rattle.ygg_value.specs.Shapes.{IsShape}
 use Rattle.ygg_run_commands.specs.ygg_disk.Kinds.{Disk, model_of}
 use Rattle.ygg_run_commands.specs.ygg_disk.Size.{table_shape}
 use Rattle.ygg_run_commands.specs.ygg_meaning.Noted.{disk_in}
-use Rattle.ygg_run_held.specs.ygg_run_image.Image.{rows_in}
-use Rattle.ygg_run_held.specs.ygg_run_image.Judged.{IsJudged}
-use Rattle.ygg_run_held.specs.ygg_run_image.Laws.{AreBlocks}
-use Rattle.ygg_run_held.specs.Sight.{Holds, HoldsImage, state_of, told_disk}
-use Rattle.ygg_run_held.specs.Mounting.{Mounts, whole_image}
+use Rattle.ygg_run_image.specs.Image.{rows_in}
+use Rattle.ygg_run_image.specs.Judged.{IsJudged}
+use Rattle.ygg_run_image.specs.Laws.{AreBlocks}
+use Rattle.ygg_run_image.specs.Sight.{Holds, HoldsImage, state_of, told_disk}
+use Rattle.ygg_run_image.specs.Mounting.{Mounts, whole_image}
 use Rattle.ygg_run_mounted.specs.OnDevice.{seen}
 
 module _ (g : Geometry) (limits : IsShape (table_shape g)) (name : List ℕ) where

@@ -1,7 +1,7 @@
 -- What a run on a ground over a device did.
 use Rattle.std.proofs.Common.{◌≡◌, ℕ, List, Option, Result, Ok, Err, refl, ap, ◌∙◌, subst}
 use Rattle.ygg_base.specs.declared.geometry.Geometry.{Geometry}
-use Rattle.ygg_run_held.specs.ygg_base_device.Devices.{Attachment, Tells, AttachedTurns}
+use Rattle.ygg_run_image.specs.ygg_base_device.Devices.{Attachment, Tells, AttachedTurns}
 use Rattle.ygg_syntax.specs.declared.tree.File.{File}
 use Rattle.ygg_syntax.specs.Files.{IsDerived}
 use Rattle.ygg_run_commands.specs.ygg_type_rules.Files.{IsTyped}
@@ -9,15 +9,15 @@ use Rattle.ygg_value.specs.Shapes.{IsShape}
 use Rattle.ygg_run_commands.specs.ygg_disk.Size.{table_shape}
 use Rattle.ygg_run_commands.specs.ygg_type.Typed.{geometry_of}
 use Rattle.ygg_run_commands.specs.ygg_script.declared.command.Command.{Command}
-use Rattle.ygg_run_held.specs.ygg_run_image.Laws.{BlocksAreImages, ImagesHoldTheirRows}
+use Rattle.ygg_run_image.specs.Laws.{BlocksAreImages, ImagesHoldTheirRows}
 use Rattle.ygg_run_commands.specs.OnGround.{layers_on}
 use Rattle.ygg_run_commands.specs.Running.{IsRun}
 use Rattle.ygg_run_commands.specs.Extending.{RunsExtend}
 use Rattle.ygg_run_commands.specs.declared.halting.RunHalted.{RunHalted}
-use Rattle.ygg_run_held.specs.DeviceMeaning.{device_meaning}
-use Rattle.ygg_run_held.specs.Sight.{Sight, Holds}
-use Rattle.ygg_run_held.specs.Standing.{KeepsHeader, StaysOn}
-use Rattle.ygg_run_held.proofs.Staying.{stays_there, stays_keeps}
+use Rattle.ygg_run_image.specs.DeviceMeaning.{device_meaning}
+use Rattle.ygg_run_image.specs.Sight.{Sight, Holds}
+use Rattle.ygg_run_image.specs.Standing.{KeepsHeader, StaysOn}
+use Rattle.ygg_run_image.proofs.Staying.{stays_there, stays_keeps}
 use Rattle.ygg_run_mounted.specs.OnDevice.{on_device, seen}
 use Rattle.ygg_run_mounted.specs.Ran.{RanSo, RanPart}
 use Rattle.ygg_run_mounted.proofs.Seen.{bare, run_seen}

@@ -8,7 +8,7 @@ use Rattle.ygg_base.specs.declared.geometry.Geometry.{Geometry}
 use Rattle.ygg_base.specs.declared.geometry.DiskKind.{DiskKind}
 use Rattle.ygg_base.specs.declared.geometry.DiskKind.TheVariants.{Sync, Async}
 use Rattle.ygg_base.specs.declared.outside.Moved.TheVariants.{Done}
-use Rattle.ygg_run_held.specs.ygg_base_device.Devices.{Image, Attachment, ImageTurns, Tells, Flushes, image_of}
+use Rattle.ygg_run_image.specs.ygg_base_device.Devices.{Image, Attachment, ImageTurns, Tells, Flushes, image_of}
 use Rattle.ygg_value.specs.Number.{Grid}
 use Rattle.ygg_value.specs.Shapes.{IsShape}
 use Rattle.ygg_value.specs.declared.row.Value.TheVariants.{Table}
@@ -25,16 +25,16 @@ use Rattle.ygg_run_commands.specs.ygg_meaning.History.{Entry}
 use Rattle.ygg_run_commands.specs.ygg_meaning.Left.{Left}
 use Rattle.ygg_run_commands.specs.ygg_meaning.Noted.{disk_in}
 use Rattle.ygg_run_commands.specs.ygg_script.declared.command.Command.{Command}
-use Rattle.ygg_run_held.specs.ygg_run_image.Image.{block_bytes, header, image, rows_in, row_block}
-use Rattle.ygg_run_held.specs.ygg_run_image.Laws.{AreRows, BlocksAreImages, ImagesHoldTheirRows}
-use Rattle.ygg_run_held.proofs.of_ygg_run_image.Images.{length-header}
+use Rattle.ygg_run_image.specs.Image.{block_bytes, header, image, rows_in, row_block}
+use Rattle.ygg_run_image.specs.Laws.{AreRows, BlocksAreImages, ImagesHoldTheirRows}
+use Rattle.ygg_run_image.proofs.Images.{length-header}
 use Rattle.ygg_run_commands.specs.OnGround.{layers_on}
 use Rattle.ygg_run_commands.specs.Running.{Runs}
 use Rattle.ygg_run_commands.specs.Extending.{RunsExtend, TellsFlushed}
-use Rattle.ygg_run_held.specs.DeviceMeaning.{device_meaning}
-use Rattle.ygg_run_held.specs.Sight.{Sight, state_of, told_disk}
-use Rattle.ygg_run_held.specs.Standing.{KeepsHeader}
-use Rattle.ygg_run_held.specs.Mounting.{Mounts, whole_image}
+use Rattle.ygg_run_image.specs.DeviceMeaning.{device_meaning}
+use Rattle.ygg_run_image.specs.Sight.{Sight, state_of, told_disk}
+use Rattle.ygg_run_image.specs.Standing.{KeepsHeader}
+use Rattle.ygg_run_image.specs.Mounting.{Mounts, whole_image}
 use Rattle.ygg_run_mounted.specs.OnDevice.{seen}
 use Rattle.ygg_run_mounted.specs.Extending.{KeepsImage, LeadsTo, HasRun}
 use Rattle.ygg_run_mounted.proofs.Seen.{bare}

@@ -1,17 +1,17 @@
 -- How a run on the image of a name ends, what it leaves, and what the sink has taken.
 use Rattle.std.specs.Prelude.{◌≡◌, ◌⊎◌, ℕ, List, [], Option, Some, Result, Ok, Err}
-use Rattle.ygg_run_held.specs.ygg_base_device.Devices.{Image, ImageTurns, Tells}
+use Rattle.ygg_run_image.specs.ygg_base_device.Devices.{Image, ImageTurns, Tells}
 use Rattle.ygg_syntax.specs.declared.tree.File.{File}
 use Rattle.ygg_run_commands.specs.ygg_type.Typed.{geometry_of}
 use Rattle.ygg_run_commands.specs.ygg_meaning.History.{Entry}
 use Rattle.ygg_run_commands.specs.ygg_report.Putting.{Adds}
 use Rattle.ygg_run_commands.specs.ygg_script.declared.command.Command.{Command}
-use Rattle.ygg_run_held.specs.ygg_run_image.Judged.{number_of}
-use Rattle.ygg_run_held.specs.ygg_run_image.declared.reason.ImageReason.{ImageReason}
-use Rattle.ygg_run_held.specs.Sight.{Sight}
-use Rattle.ygg_run_held.specs.Mounting.{Mounts, whole_image}
-use Rattle.ygg_run_held.specs.declared.unmounted.Unmounted.{Unmounted}
-use Rattle.ygg_run_held.specs.declared.unmounted.Unmounted.TheVariants as unmounted
+use Rattle.ygg_run_image.specs.Judged.{number_of}
+use Rattle.ygg_run_image.specs.declared.reason.ImageReason.{ImageReason}
+use Rattle.ygg_run_image.specs.Sight.{Sight}
+use Rattle.ygg_run_image.specs.Mounting.{Mounts, whole_image}
+use Rattle.ygg_run_image.specs.declared.unmounted.Unmounted.{Unmounted}
+use Rattle.ygg_run_image.specs.declared.unmounted.Unmounted.TheVariants as unmounted
 use Rattle.ygg_run_commands.specs.OnGround.{layers_on}
 use Rattle.ygg_run_commands.specs.Ran.{AllRan, run_text}
 use Rattle.ygg_run_commands.specs.Running.{IsRun}

@@ -1,7 +1,7 @@
 -- What a whole run is to the history that left the image, and what it leaves there.
 use Rattle.std.specs.Prelude.{◌≡◌, true, List, ◌++◌, take, codes}
 use Rattle.ygg_base.specs.declared.geometry.Geometry.{Geometry}
-use Rattle.ygg_run_held.specs.ygg_base_device.Devices.{Image}
+use Rattle.ygg_run_image.specs.ygg_base_device.Devices.{Image}
 use Rattle.ygg_value.specs.Number.{Grid}
 use Rattle.ygg_value.specs.declared.row.Value.TheVariants.{Table}
 use Rattle.ygg_syntax.specs.declared.tree.File.{File}
@@ -11,8 +11,8 @@ use Rattle.ygg_run_commands.specs.ygg_meaning.Machine.{State}
 use Rattle.ygg_run_commands.specs.ygg_meaning.Stack.{BottomOf, FileRefines}
 use Rattle.ygg_run_commands.specs.ygg_meaning.History.{Entry, History, Allows}
 use Rattle.ygg_run_commands.specs.ygg_meaning.Left.{Left}
-use Rattle.ygg_run_held.specs.ygg_run_image.Image.{block_bytes, image, rows_in}
-use Rattle.ygg_run_held.specs.ygg_run_image.Laws.{AreBlocks, AreRows}
+use Rattle.ygg_run_image.specs.Image.{block_bytes, image, rows_in}
+use Rattle.ygg_run_image.specs.Laws.{AreBlocks, AreRows}
 
 -- The entries are a history of the bottom implementation, to a state whose disk shows these rows. If each layer refines its specification, the topmost
 -- specification allows it.

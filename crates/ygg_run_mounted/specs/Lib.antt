@@ -1,7 +1,6 @@
-pub use Rattle.ygg_run_held.specs.ygg_base_device
+pub use Rattle.ygg_run_image.specs.ygg_base_device
 pub use Rattle.ygg_run_commands.specs as ygg_run_commands
-pub use Rattle.ygg_run_held.specs.ygg_run_image
-pub use Rattle.ygg_run_held.specs as ygg_run_held
+pub use Rattle.ygg_run_image.specs as ygg_run_image
 pub use Rattle.ygg_run_commands.specs.ygg_script
 pub mod Errand
 pub mod OnDevice

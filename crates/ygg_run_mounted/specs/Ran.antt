@@ -1,13 +1,13 @@
 -- What a run of a script on the layers of a file over a device that holds their disk did.
 use Rattle.std.specs.Prelude.{◌≡◌, ℕ, List, [], Option, Some, Result, Ok, Err}
-use Rattle.ygg_run_held.specs.ygg_base_device.Devices.{Image, Attachment, ImageTurns, Tells}
+use Rattle.ygg_run_image.specs.ygg_base_device.Devices.{Image, Attachment, ImageTurns, Tells}
 use Rattle.ygg_syntax.specs.declared.tree.File.{File}
 use Rattle.ygg_run_commands.specs.ygg_type.Typed.{geometry_of}
 use Rattle.ygg_run_commands.specs.ygg_meaning.History.{Entry}
 use Rattle.ygg_run_commands.specs.ygg_report.Putting.{Adds}
 use Rattle.ygg_run_commands.specs.ygg_script.declared.command.Command.{Command}
-use Rattle.ygg_run_held.specs.Standing.{StaysOn}
-use Rattle.ygg_run_held.specs.Mounting.{Mounts, whole_image}
+use Rattle.ygg_run_image.specs.Standing.{StaysOn}
+use Rattle.ygg_run_image.specs.Mounting.{Mounts, whole_image}
 use Rattle.ygg_run_commands.specs.OnGround.{layers_on}
 use Rattle.ygg_run_commands.specs.Ran.{AllRan, run_text}
 use Rattle.ygg_run_commands.specs.Running.{IsRun}

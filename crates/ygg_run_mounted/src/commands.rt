@@ -7,7 +7,7 @@ ghost use Rattle.ygg_run_mounted.specs.Errand.{SuitsFile, RunsCommands};
 use std::alloc::Global;
 use ygg_base::Sink;
 use ygg_run_commands::{Command, Floor, RunHalted, Typed, Viewed, run_on};
-use ygg_run_held::Errand;
+use ygg_run_image::Errand;
 
 /// The commands of a script, what takes their lines, and how they ended.
 #[derive(Drop)]

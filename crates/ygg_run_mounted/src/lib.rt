@@ -8,4 +8,4 @@ mod running;
 pub use run_end::RunEnd;
 pub use running::run;
 pub use ygg_run_commands::{Script, plain_script, read_script};
-pub use ygg_run_held::Device;
+pub use ygg_run_image::Device;

@@ -5,7 +5,7 @@ ghost use Rattle.ygg_base.specs.Outside.{Rose};
 ghost use Rattle.ygg_run_commands.specs.ygg_machine.Grounded.{HasRows};
 ghost use Rattle.ygg_run_commands.specs.Extending.{RunsExtend};
 ghost use Rattle.ygg_run_mounted.specs.Errand.{RunsCommands, SuitsFile};
-ghost use Rattle.ygg_run_held.specs.Sight.{Holds};
+ghost use Rattle.ygg_run_image.specs.Sight.{Holds};
 ghost use Rattle.ygg_run_commands.specs.ygg_type.Typed.{geometry_of};
 ghost use Rattle.ygg_run_mounted.specs.Ran.{RanSo};
 ghost use Rattle.ygg_run_commands.specs.ygg_script.Fitting.{IsScriptOf};
@@ -18,7 +18,7 @@ use std::alloc::Global;
 use ygg_base::{Sink, Text};
 use ygg_run_commands::law::runs_extend;
 use ygg_run_commands::{Command, Ground, RunHalted, Script, Typed};
-use ygg_run_held::{Device, DeviceGround, Unmounted, images_are_of_rows, mount, on_stack};
+use ygg_run_image::{Device, DeviceGround, Unmounted, images_are_of_rows, mount, on_stack};
 
 /// Runs the commands of a script on the layers of a file over a ground, and gives the ground back.
 fn run_over<G: Ground + Drop, K: Sink>(

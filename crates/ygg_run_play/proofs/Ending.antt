@@ -3,19 +3,19 @@ use Rattle.std.proofs.Common.{◌≡◌, true, ℕ, All, List, [], ◌∷◌, �
 use Rattle.std.proofs.lemmas.List.Elements.{All-nil, All-cons}
 use Rattle.std.specs.List.{count_by}
 use Rattle.ygg_syntax.specs.declared.tree.File.{File}
-use Rattle.ygg_run_text.specs.ygg_disk.declared.power.Power.{Power}
-use Rattle.ygg_run_text.specs.ygg_meaning.Environments.{Env}
-use Rattle.ygg_run_text.specs.ygg_meaning.Machine.{Picks, State, Machine}
-use Rattle.ygg_run_text.specs.ygg_meaning.Noted.{Note, picks_in}
-use Rattle.ygg_run_text.specs.ygg_meaning.Trace.{Up, Moment}
-use Rattle.ygg_run_text.specs.ygg_direct.Acts.{Taken}
-use Rattle.ygg_run_text.specs.ygg_report.Putting.{Adds, IsFront}
-use Rattle.ygg_run_text.proofs.of_ygg_report.Fronts.{adds_more, adds_none, front_after, front_first, front_longer}
-use Rattle.ygg_run_text.specs.ygg_script.declared.command.Command.{Command}
-use Rattle.ygg_run_text.specs.Named.{Names}
-use Rattle.ygg_run_text.specs.Lines.{moments_lines, is_played, played_line, text_of}
-use Rattle.ygg_run_text.specs.Played.{IsFresh, Plays}
-use Rattle.ygg_run_text.proofs.OneText.{one_text}
+use Rattle.ygg_run_play.specs.ygg_disk.declared.power.Power.{Power}
+use Rattle.ygg_run_play.specs.ygg_meaning.Environments.{Env}
+use Rattle.ygg_run_play.specs.ygg_meaning.Machine.{Picks, State, Machine}
+use Rattle.ygg_run_play.specs.ygg_meaning.Noted.{Note, picks_in}
+use Rattle.ygg_run_play.specs.ygg_meaning.Trace.{Up, Moment}
+use Rattle.ygg_run_play.specs.ygg_direct.Acts.{Taken}
+use Rattle.ygg_run_play.specs.ygg_report.Putting.{Adds, IsFront}
+use Rattle.ygg_run_play.proofs.of_ygg_report.Fronts.{adds_more, adds_none, front_after, front_first, front_longer}
+use Rattle.ygg_run_play.specs.ygg_script.declared.command.Command.{Command}
+use Rattle.ygg_run_play.specs.Named.{Names}
+use Rattle.ygg_run_play.specs.Lines.{moments_lines, is_played, played_line, text_of}
+use Rattle.ygg_run_play.specs.Played.{IsFresh, Plays}
+use Rattle.ygg_run_play.proofs.OneText.{one_text}
 use Rattle.ygg_run_play.specs.Scene.{Leave}
 use Rattle.ygg_run_play.specs.Doing.{left_of, ArePut}
 use Rattle.ygg_run_play.specs.Playing.{IsPlayFront, IsPlayed, IsNamedFront, ArePlayed}

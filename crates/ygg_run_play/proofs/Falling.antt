@@ -3,14 +3,14 @@ use Rattle.std.proofs.Common.{false, List, [], ◌∷◌, inl, inr, sym, ◌∙�
 use Rattle.std.proofs.lemmas.List.{append-nil}
 use Rattle.ygg_syntax.specs.declared.tree.Block.{Block}
 use Rattle.ygg_syntax.specs.declared.tree.DiskText.{DiskText}
-use Rattle.ygg_run_text.specs.ygg_meaning.Environments.{Env}
-use Rattle.ygg_run_text.specs.ygg_meaning.Progress.{Answer}
-use Rattle.ygg_run_text.specs.ygg_meaning.Machine.{State, TickName, Machine}
-use Rattle.ygg_run_text.specs.ygg_meaning.Layer.{ClosedLayer, Layered, BlockRuns, BlockFalls}
-use Rattle.ygg_run_text.specs.ygg_meaning.Runs.{notes_of}
-use Rattle.ygg_run_text.specs.ygg_meaning.Noted.{Note, NotedDisk}
-use Rattle.ygg_run_text.specs.ygg_meaning.Stack.{Layers, Stacked}
-use Rattle.ygg_run_text.specs.ygg_meaning_proofs_Monotone.{same_lower}
+use Rattle.ygg_run_play.specs.ygg_meaning.Environments.{Env}
+use Rattle.ygg_run_play.specs.ygg_meaning.Progress.{Answer}
+use Rattle.ygg_run_play.specs.ygg_meaning.Machine.{State, TickName, Machine}
+use Rattle.ygg_run_play.specs.ygg_meaning.Layer.{ClosedLayer, Layered, BlockRuns, BlockFalls}
+use Rattle.ygg_run_play.specs.ygg_meaning.Runs.{notes_of}
+use Rattle.ygg_run_play.specs.ygg_meaning.Noted.{Note, NotedDisk}
+use Rattle.ygg_run_play.specs.ygg_meaning.Stack.{Layers, Stacked}
+use Rattle.ygg_run_play.specs.ygg_meaning_proofs_Monotone.{same_lower}
 use Rattle.ygg_run_play.specs.Scene.{FallsAfterAll}
 
 module _ (L : ClosedLayer) (M : Machine Env Note) where

@@ -2,16 +2,16 @@
 use Rattle.std.proofs.Common.{◌≡◌, ◌≤◌, ◌<◌, ℕ, ◌+◌, ◌^◌, Bool, true, false, List, [], ◌∷◌}
 use Rattle.std.proofs.Common.{◌++◌, length, MatchBool, MatchOption, Option, Some, None, refl, sym, ap, ◌∙◌, subst, arith}
 use Rattle.std.proofs.lemmas.List.{length-map, length-append}
-use Rattle.ygg_run_text.specs.ygg_disk.declared.power.Fuse.{Fuse}
-use Rattle.ygg_run_text.specs.ygg_disk.declared.power.Power.{Power}
-use Rattle.ygg_run_text.specs.ygg_disk.declared.turn.Event.{Event}
-use Rattle.ygg_run_text.specs.ygg_meaning.Environments.{Env}
-use Rattle.ygg_run_text.specs.ygg_meaning.Progress.{Answer}
-use Rattle.ygg_run_text.specs.ygg_meaning.Machine.{State, Machine}
-use Rattle.ygg_run_text.specs.ygg_meaning.Noted.{Note}
-use Rattle.ygg_run_text.specs.ygg_meaning.Trace.{Leads, Up, Down}
-use Rattle.ygg_run_text.specs.Named.{EndsAt, Misses}
-use Rattle.ygg_run_text.specs.Lines.{events_of, calls_lines}
+use Rattle.ygg_run_play.specs.ygg_disk.declared.power.Fuse.{Fuse}
+use Rattle.ygg_run_play.specs.ygg_disk.declared.power.Power.{Power}
+use Rattle.ygg_run_play.specs.ygg_disk.declared.turn.Event.{Event}
+use Rattle.ygg_run_play.specs.ygg_meaning.Environments.{Env}
+use Rattle.ygg_run_play.specs.ygg_meaning.Progress.{Answer}
+use Rattle.ygg_run_play.specs.ygg_meaning.Machine.{State, Machine}
+use Rattle.ygg_run_play.specs.ygg_meaning.Noted.{Note}
+use Rattle.ygg_run_play.specs.ygg_meaning.Trace.{Leads, Up, Down}
+use Rattle.ygg_run_play.specs.Named.{EndsAt, Misses}
+use Rattle.ygg_run_play.specs.Lines.{events_of, calls_lines}
 use Rattle.ygg_run_play.specs.Scene.{Deed, Leave, AreWhole, AreCut, Whole, Cut, Ends, After, FallsAfterAll}
 use Rattle.ygg_run_play.specs.Doing.{left_of, IsReady, CutsAfterAll, Counted, Missed, StopsSo, IsStopped}
 use Rattle.ygg_run_play.specs.declared.scene.CommandOutcome.{CommandOutcome}

@@ -6,20 +6,20 @@ use Rattle.std.proofs.lemmas.List.{append-nil}
 use Rattle.std.proofs.lemmas.List.Elements.{All-head, All-tail}
 use Rattle.ygg_base.specs.Outside.{Rose}
 use Rattle.ygg_syntax.specs.declared.tree.File.{File}
-use Rattle.ygg_run_text.specs.ygg_disk.declared.power.Fuse.{Fuse}
-use Rattle.ygg_run_text.specs.ygg_disk.declared.power.Picks as disk
-use Rattle.ygg_run_text.specs.ygg_meaning.Environments.{Env}
-use Rattle.ygg_run_text.specs.ygg_meaning.Machine.{Picks, State, Machine}
-use Rattle.ygg_run_text.specs.ygg_meaning.Noted.{Note}
-use Rattle.ygg_run_text.specs.ygg_meaning.Trace.{Standing, Up, Moment}
-use Rattle.ygg_run_text.specs.ygg_report.Putting.{Adds, IsFront}
-use Rattle.ygg_run_text.proofs.of_ygg_report.Fronts.{adds_more, adds_none, front_after, front_longer}
-use Rattle.ygg_run_text.specs.ygg_script.declared.command.Command.{Command}
-use Rattle.ygg_run_text.specs.ygg_script.declared.command.Command.TheVariants.{Call, Tick, Lost, Fail, Keep}
-use Rattle.ygg_run_text.specs.ygg_script.Fitting.{IsCommandOf, IsScriptOf, may_stand, are_placed}
-use Rattle.ygg_run_text.specs.ygg_script.Reading.{is_stoppable}
-use Rattle.ygg_run_text.specs.Named.{Happens, Leading, Names, stop_after}
-use Rattle.ygg_run_text.specs.Lines.{moment_lines, moments_lines}
+use Rattle.ygg_run_play.specs.ygg_disk.declared.power.Fuse.{Fuse}
+use Rattle.ygg_run_play.specs.ygg_disk.declared.power.Picks as disk
+use Rattle.ygg_run_play.specs.ygg_meaning.Environments.{Env}
+use Rattle.ygg_run_play.specs.ygg_meaning.Machine.{Picks, State, Machine}
+use Rattle.ygg_run_play.specs.ygg_meaning.Noted.{Note}
+use Rattle.ygg_run_play.specs.ygg_meaning.Trace.{Standing, Up, Moment}
+use Rattle.ygg_run_play.specs.ygg_report.Putting.{Adds, IsFront}
+use Rattle.ygg_run_play.proofs.of_ygg_report.Fronts.{adds_more, adds_none, front_after, front_longer}
+use Rattle.ygg_run_play.specs.ygg_script.declared.command.Command.{Command}
+use Rattle.ygg_run_play.specs.ygg_script.declared.command.Command.TheVariants.{Call, Tick, Lost, Fail, Keep}
+use Rattle.ygg_run_play.specs.ygg_script.Fitting.{IsCommandOf, IsScriptOf, may_stand, are_placed}
+use Rattle.ygg_run_play.specs.ygg_script.Reading.{is_stoppable}
+use Rattle.ygg_run_play.specs.Named.{Happens, Leading, Names, stop_after}
+use Rattle.ygg_run_play.specs.Lines.{moment_lines, moments_lines}
 use Rattle.ygg_run_play.specs.Doing.{left_of, Holds, StepEnds, standing, is_fail}
 use Rattle.ygg_run_play.specs.Playing.{Playing, IsNamedFront, ArePlayed}
 use Rattle.ygg_run_play.specs.declared.halting.PlayHalted.{PlayHalted}

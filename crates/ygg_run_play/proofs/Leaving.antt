@@ -4,15 +4,15 @@ use Rattle.std.proofs.Common.{◌∷◌, ◌++◌, length, drop, nat_lt, Option,
 use Rattle.std.proofs.lemmas.Bool.{ltb-false}
 use Rattle.std.proofs.lemmas.List.{append-nil}
 use Rattle.std.proofs.lemmas.List.Elements.{All-head, All-tail}
-use Rattle.ygg_run_text.specs.ygg_disk.Power.{pick_of, after_pick, Takes, noted, event_of, shown, counted}
-use Rattle.ygg_run_text.specs.ygg_disk.declared.power.Picks.{Picks as Source}
-use Rattle.ygg_run_text.specs.ygg_disk.declared.power.Power.{Power}
-use Rattle.ygg_run_text.specs.ygg_disk.declared.turn.Event.{Event}
-use Rattle.ygg_run_text.specs.ygg_meaning.Machine.{Picks}
-use Rattle.ygg_run_text.specs.ygg_meaning.Noted.{Note, picks_in}
-use Rattle.ygg_run_text.specs.ygg_direct.Acts.{next_of, later, Taken}
-use Rattle.ygg_run_text.proofs.of_ygg_direct.Taking.{taken_append}
-use Rattle.ygg_run_text.specs.Lines.{events_of}
+use Rattle.ygg_run_play.specs.ygg_disk.Power.{pick_of, after_pick, Takes, noted, event_of, shown, counted}
+use Rattle.ygg_run_play.specs.ygg_disk.declared.power.Picks.{Picks as Source}
+use Rattle.ygg_run_play.specs.ygg_disk.declared.power.Power.{Power}
+use Rattle.ygg_run_play.specs.ygg_disk.declared.turn.Event.{Event}
+use Rattle.ygg_run_play.specs.ygg_meaning.Machine.{Picks}
+use Rattle.ygg_run_play.specs.ygg_meaning.Noted.{Note, picks_in}
+use Rattle.ygg_run_play.specs.ygg_direct.Acts.{next_of, later, Taken}
+use Rattle.ygg_run_play.proofs.of_ygg_direct.Taking.{taken_append}
+use Rattle.ygg_run_play.specs.Lines.{events_of}
 use Rattle.ygg_run_play.specs.Scene.{Leave, AreWhole}
 use Rattle.ygg_run_play.specs.Doing.{left_of}
 

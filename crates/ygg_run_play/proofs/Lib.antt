@@ -1,7 +1,17 @@
-pub use Rattle.ygg_run_text.proofs.of_ygg_meaning
-pub use Rattle.ygg_run_text.proofs.of_ygg_report
-pub use Rattle.ygg_run_text.proofs as of_ygg_run_text
-pub use Rattle.ygg_run_text.proofs.of_ygg_type_progress
+pub use Rattle.ygg_direct.proofs as of_ygg_direct
+pub use Rattle.ygg_script.proofs.of_ygg_meaning
+pub use Rattle.ygg_script.proofs.of_ygg_report
+pub use Rattle.ygg_direct.proofs.of_ygg_type_sound
+pub mod Endings
+pub mod Alike
+pub mod Blocks
+pub mod Layered
+pub mod Disks
+pub mod Names
+pub mod Scripted
+pub mod OneText
+pub mod Shown
+pub mod Histories
 pub mod Falling
 mod Leaving
 mod Finishing

@@ -4,20 +4,20 @@ use Rattle.std.proofs.Common.{None, is_some, Result, Ok, Err, IsErrAnd, refl, sy
 use Rattle.std.proofs.lemmas.List.{append-nil}
 use Rattle.ygg_value.specs.declared.row.Value.{Value}
 use Rattle.ygg_syntax.specs.declared.tree.File.{File}
-use Rattle.ygg_run_text.specs.ygg_disk.declared.power.Fuse.{Fuse}
-use Rattle.ygg_run_text.specs.ygg_disk.declared.power.Power.{Power}
-use Rattle.ygg_run_text.specs.ygg_meaning.Environments.{Env}
-use Rattle.ygg_run_text.specs.ygg_meaning.Progress.{Answer}
-use Rattle.ygg_run_text.specs.ygg_meaning.Machine.{Picks, State, Machine}
-use Rattle.ygg_run_text.specs.ygg_meaning.Noted.{Note, picks_in}
-use Rattle.ygg_run_text.specs.ygg_meaning.Trace.{Standing, Up, Down, Moment, Fails, Traces}
-use Rattle.ygg_run_text.specs.ygg_meaning.Under.{Between}
-use Rattle.ygg_run_text.specs.ygg_direct.Acts.{Taken}
-use Rattle.ygg_run_text.specs.ygg_report.Lines.{ended}
-use Rattle.ygg_run_text.specs.ygg_script.declared.command.Command.{Command}
-use Rattle.ygg_run_text.specs.ygg_script.declared.command.Command.TheVariants.{Call, Tick, Lost, Fail, Keep}
-use Rattle.ygg_run_text.specs.Named.{Wholly, CutShort, Happens, Leading, IsMissed, notes_in, picks_from, picks_of, operation_name, tick_name}
-use Rattle.ygg_run_text.specs.Lines.{calls_lines, moment_lines, moments_lines, end_text}
+use Rattle.ygg_run_play.specs.ygg_disk.declared.power.Fuse.{Fuse}
+use Rattle.ygg_run_play.specs.ygg_disk.declared.power.Power.{Power}
+use Rattle.ygg_run_play.specs.ygg_meaning.Environments.{Env}
+use Rattle.ygg_run_play.specs.ygg_meaning.Progress.{Answer}
+use Rattle.ygg_run_play.specs.ygg_meaning.Machine.{Picks, State, Machine}
+use Rattle.ygg_run_play.specs.ygg_meaning.Noted.{Note, picks_in}
+use Rattle.ygg_run_play.specs.ygg_meaning.Trace.{Standing, Up, Down, Moment, Fails, Traces}
+use Rattle.ygg_run_play.specs.ygg_meaning.Under.{Between}
+use Rattle.ygg_run_play.specs.ygg_direct.Acts.{Taken}
+use Rattle.ygg_run_play.specs.ygg_report.Lines.{ended}
+use Rattle.ygg_run_play.specs.ygg_script.declared.command.Command.{Command}
+use Rattle.ygg_run_play.specs.ygg_script.declared.command.Command.TheVariants.{Call, Tick, Lost, Fail, Keep}
+use Rattle.ygg_run_play.specs.Named.{Wholly, CutShort, Happens, Leading, IsMissed, notes_in, picks_from, picks_of, operation_name, tick_name}
+use Rattle.ygg_run_play.specs.Lines.{calls_lines, moment_lines, moments_lines, end_text}
 use Rattle.ygg_run_play.specs.Scene.{Deed, Gives, calling, ticking, waking, After}
 use Rattle.ygg_run_play.specs.Doing.{
   left_of,

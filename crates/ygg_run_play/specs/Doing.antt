@@ -1,21 +1,21 @@
 -- How a script's line ends: whole, cut by the stop that follows it, or with a stop that isn't reached.
 use Rattle.std.specs.Prelude.{◌≡◌, ℕ, Bool, true, false, if◌then◌else◌, List, [], ◌++◌, drop, Option, Some, None, is_some, Result, Ok, Err, MatchBool, codes}
 use Rattle.ygg_syntax.specs.declared.tree.File.{File}
-use Rattle.ygg_run_text.specs.ygg_disk.declared.power.Fuse.{Fuse}
-use Rattle.ygg_run_text.specs.ygg_disk.declared.power.Picks as disk
-use Rattle.ygg_run_text.specs.ygg_disk.declared.power.Power.{Power}
-use Rattle.ygg_run_text.specs.ygg_meaning.Environments.{Env}
-use Rattle.ygg_run_text.specs.ygg_meaning.Progress.{Answer}
-use Rattle.ygg_run_text.specs.ygg_meaning.Machine.{Picks, State, Machine}
-use Rattle.ygg_run_text.specs.ygg_meaning.Noted.{Note, picks_in}
-use Rattle.ygg_run_text.specs.ygg_meaning.Trace.{Standing, Up, Down, Moment, Leads}
-use Rattle.ygg_run_text.specs.ygg_direct.Acts.{Taken}
-use Rattle.ygg_run_text.specs.ygg_report.Putting.{Adds, IsFront}
-use Rattle.ygg_run_text.specs.ygg_script.declared.command.Command.{Command}
-use Rattle.ygg_run_text.specs.ygg_script.declared.command.Command.TheVariants.{Call, Tick, Lost, Fail, Keep}
-use Rattle.ygg_run_text.specs.Named.{EndsAt, Misses, Happens, Leading, IsMissed}
-use Rattle.ygg_run_text.specs.Lines.{answer_text, calls_lines, moments_lines}
-use Rattle.ygg_run_text.specs.Played.{unreached_at}
+use Rattle.ygg_run_play.specs.ygg_disk.declared.power.Fuse.{Fuse}
+use Rattle.ygg_run_play.specs.ygg_disk.declared.power.Picks as disk
+use Rattle.ygg_run_play.specs.ygg_disk.declared.power.Power.{Power}
+use Rattle.ygg_run_play.specs.ygg_meaning.Environments.{Env}
+use Rattle.ygg_run_play.specs.ygg_meaning.Progress.{Answer}
+use Rattle.ygg_run_play.specs.ygg_meaning.Machine.{Picks, State, Machine}
+use Rattle.ygg_run_play.specs.ygg_meaning.Noted.{Note, picks_in}
+use Rattle.ygg_run_play.specs.ygg_meaning.Trace.{Standing, Up, Down, Moment, Leads}
+use Rattle.ygg_run_play.specs.ygg_direct.Acts.{Taken}
+use Rattle.ygg_run_play.specs.ygg_report.Putting.{Adds, IsFront}
+use Rattle.ygg_run_play.specs.ygg_script.declared.command.Command.{Command}
+use Rattle.ygg_run_play.specs.ygg_script.declared.command.Command.TheVariants.{Call, Tick, Lost, Fail, Keep}
+use Rattle.ygg_run_play.specs.Named.{EndsAt, Misses, Happens, Leading, IsMissed}
+use Rattle.ygg_run_play.specs.Lines.{answer_text, calls_lines, moments_lines}
+use Rattle.ygg_run_play.specs.Played.{unreached_at}
 use Rattle.ygg_run_play.specs.Scene.{Deed, Gives, After, FallsAfterAll}
 use Rattle.ygg_run_play.specs.declared.scene.CommandOutcome.{CommandOutcome}
 use Rattle.ygg_run_play.specs.declared.scene.CommandOutcome.TheVariants as outcome

@@ -1,11 +1,17 @@
-pub use Rattle.ygg_run_text.specs.ygg_meaning_proofs_Mirrored
-pub use Rattle.ygg_run_text.specs.ygg_meaning
-pub use Rattle.ygg_run_text.specs.ygg_report
-pub use Rattle.ygg_run_text.specs as ygg_run_text
-pub use Rattle.ygg_run_text.specs.ygg_sched
-pub use Rattle.ygg_run_text.specs.ygg_script
-pub use Rattle.ygg_run_text.specs.ygg_type_progress_proofs_Grammar
-pub use Rattle.ygg_run_text.specs.ygg_type_progress
+pub use Rattle.ygg_direct.specs as ygg_direct
+pub use Rattle.ygg_script.specs.ygg_disk
+pub use Rattle.ygg_script.specs.ygg_meaning_proofs_Mirrored
+pub use Rattle.ygg_script.specs.ygg_meaning_proofs_Monotone
+pub use Rattle.ygg_script.specs.ygg_meaning
+pub use Rattle.ygg_script.specs.ygg_report
+pub use Rattle.ygg_script.specs.ygg_sched
+pub use Rattle.ygg_script.specs as ygg_script
+pub use Rattle.ygg_direct.specs.ygg_type_sound_proofs_Grammar
+pub use Rattle.ygg_direct.specs.ygg_type_sound
+pub mod Named
+pub mod Lines
+pub mod Played
+pub mod Laws
 pub mod Scene
 pub mod Doing
 pub mod Playing

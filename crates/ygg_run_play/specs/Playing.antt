@@ -1,16 +1,16 @@
 -- How the play of a script ends.
 use Rattle.std.specs.Prelude.{◌≡◌, ℕ, List, [], ◌++◌, Option, Result, Ok, Err}
 use Rattle.ygg_syntax.specs.declared.tree.File.{File}
-use Rattle.ygg_run_text.specs.ygg_meaning.Environments.{Env}
-use Rattle.ygg_run_text.specs.ygg_meaning.Machine.{Picks, State, Machine}
-use Rattle.ygg_run_text.specs.ygg_meaning.Noted.{Note}
-use Rattle.ygg_run_text.specs.ygg_meaning.Trace.{Standing, Up, Moment}
-use Rattle.ygg_run_text.specs.ygg_report.Putting.{Adds, IsFront}
-use Rattle.ygg_run_text.specs.ygg_script.declared.command.Command.{Command}
-use Rattle.ygg_run_text.specs.Named.{Names, Unreached}
-use Rattle.ygg_run_text.specs.Lines.{moments_lines}
-use Rattle.ygg_run_text.specs.Played.{Plays, MissesAt, unreached_at}
-use Rattle.ygg_run_text.specs.Laws.{HasOneWay}
+use Rattle.ygg_run_play.specs.ygg_meaning.Environments.{Env}
+use Rattle.ygg_run_play.specs.ygg_meaning.Machine.{Picks, State, Machine}
+use Rattle.ygg_run_play.specs.ygg_meaning.Noted.{Note}
+use Rattle.ygg_run_play.specs.ygg_meaning.Trace.{Standing, Up, Moment}
+use Rattle.ygg_run_play.specs.ygg_report.Putting.{Adds, IsFront}
+use Rattle.ygg_run_play.specs.ygg_script.declared.command.Command.{Command}
+use Rattle.ygg_run_play.specs.Named.{Names, Unreached}
+use Rattle.ygg_run_play.specs.Lines.{moments_lines}
+use Rattle.ygg_run_play.specs.Played.{Plays, MissesAt, unreached_at}
+use Rattle.ygg_run_play.specs.Laws.{HasOneWay}
 use Rattle.ygg_run_play.specs.declared.halting.PlayHalted.{PlayHalted}
 use Rattle.ygg_run_play.specs.declared.halting.PlayHalted.TheVariants as halted
 

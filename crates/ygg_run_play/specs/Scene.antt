@@ -1,15 +1,15 @@
 -- What is done to a machine by one command or one waking, whole or cut by power, and what it leaves of `power`.
 use Rattle.std.specs.Prelude.{◌≡◌, ◌≤◌, Bool, true, false, List, [], ◌∷◌, ◌++◌, All, Some, None, MatchBool}
 use Rattle.ygg_value.specs.declared.row.Value.{Value}
-use Rattle.ygg_run_text.specs.ygg_disk.Power.{Begun}
-use Rattle.ygg_run_text.specs.ygg_disk.declared.power.Fuse.{Fuse}
-use Rattle.ygg_run_text.specs.ygg_disk.declared.power.Power.{Power}
-use Rattle.ygg_run_text.specs.ygg_meaning.Environments.{Name, Env}
-use Rattle.ygg_run_text.specs.ygg_meaning.Progress.{Answer}
-use Rattle.ygg_run_text.specs.ygg_meaning.Machine.{State, TickName, Machine}
-use Rattle.ygg_run_text.specs.ygg_meaning.Noted.{Note}
-use Rattle.ygg_run_text.specs.ygg_meaning.Trace.{Standing, Up, Down, Moment, Calls, Ticks, Fails, WakeFails, Wakes, Leads}
-use Rattle.ygg_run_text.specs.ygg_meaning.Under.{InCall, InTick}
+use Rattle.ygg_run_play.specs.ygg_disk.Power.{Begun}
+use Rattle.ygg_run_play.specs.ygg_disk.declared.power.Fuse.{Fuse}
+use Rattle.ygg_run_play.specs.ygg_disk.declared.power.Power.{Power}
+use Rattle.ygg_run_play.specs.ygg_meaning.Environments.{Name, Env}
+use Rattle.ygg_run_play.specs.ygg_meaning.Progress.{Answer}
+use Rattle.ygg_run_play.specs.ygg_meaning.Machine.{State, TickName, Machine}
+use Rattle.ygg_run_play.specs.ygg_meaning.Noted.{Note}
+use Rattle.ygg_run_play.specs.ygg_meaning.Trace.{Standing, Up, Down, Moment, Calls, Ticks, Fails, WakeFails, Wakes, Leads}
+use Rattle.ygg_run_play.specs.ygg_meaning.Under.{InCall, InTick}
 use Rattle.ygg_run_play.specs.declared.scene.CommandOutcome.{CommandOutcome}
 use Rattle.ygg_run_play.specs.declared.scene.CommandOutcome.TheVariants as outcome
 

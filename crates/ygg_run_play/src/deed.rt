@@ -2,21 +2,20 @@
 
 ghost use Rattle.std.specs.Prelude.{◌≡◌, ◌<◌, ◌^◌, ◌++◌, [], Some, IfOk, IfErr, OnOk, MatchOption};
 ghost use Rattle.ygg_syntax.specs.declared.tree.File.{File};
-ghost use Rattle.ygg_run_text.specs.ygg_disk.declared.power.Power as ghost_power;
-ghost use Rattle.ygg_run_text.specs.ygg_meaning.Environments.{Env};
-ghost use Rattle.ygg_run_text.specs.ygg_meaning.Machine.{State};
-ghost use Rattle.ygg_run_text.specs.ygg_report.Lines.{ended};
+ghost use Rattle.ygg_run_play.specs.ygg_disk.declared.power.Power as ghost_power;
+ghost use Rattle.ygg_run_play.specs.ygg_meaning.Environments.{Env};
+ghost use Rattle.ygg_run_play.specs.ygg_meaning.Machine.{State};
+ghost use Rattle.ygg_run_play.specs.ygg_report.Lines.{ended};
 ghost use Rattle.ygg_run_play.specs.Scene.{Deed, Ends, After};
 ghost use Rattle.ygg_run_play.specs.Doing.{left_of, IsReady, CutsAfterAll, Counted, Missed, IsHalted, IsStopped, command_end, waking_end};
 
 use crate::halting::PlayHalted;
 use crate::scene::{CommandOutcome, Scene};
+use crate::{put_answer, put_down, put_events, put_up, unreached};
 use std::alloc::Global;
 use ygg_base::Text;
 use ygg_list::NoMemory;
-use ygg_run_text::{
-    Event, Events, Fuse, Power, put_answer, put_down, put_events, put_up, unreached,
-};
+use ygg_script::{Event, Events, Fuse, Power};
 
 /// Makes power ready for what a line does: it fails where the stop says that follows the line, if one does, and disk calls are counted and shown anew.
 pub fn make_ready(alloc: Global, power: &mut Power, stop: Option<Fuse>)

@@ -1,19 +1,20 @@
 //! What a machine does by each kind of line.
 
 ghost use Rattle.std.specs.Prelude.{◌≡◌, ℕ, Bool, false, true, None, IfOk, IfErr};
-ghost use Rattle.ygg_run_text.specs.ygg_script.declared.command.Command.TheVariants as command;
-ghost use Rattle.ygg_run_text.specs.ygg_script.Fitting.{IsCallOf, IsTickOf, IsCommandOf};
-ghost use Rattle.ygg_run_text.specs.ygg_script.Reading.{is_stoppable};
+ghost use Rattle.ygg_run_play.specs.ygg_script.declared.command.Command.TheVariants as command;
+ghost use Rattle.ygg_run_play.specs.ygg_script.Fitting.{IsCallOf, IsTickOf, IsCommandOf};
+ghost use Rattle.ygg_run_play.specs.ygg_script.Reading.{is_stoppable};
 ghost use Rattle.ygg_run_play.specs.declared.halting.PlayHalted.TheVariants as halted;
 ghost use Rattle.ygg_run_play.specs.Doing.{IsReady, LineEnds, Holds, standing, is_fail};
 
 use crate::deed::{counted, end_command, end_waking};
 use crate::halting::PlayHalted;
+use crate::put_down;
 use crate::scene::Scene;
 use std::alloc::Global;
 use ygg_base::{Bits, Text};
 use ygg_list::NoMemory;
-use ygg_run_text::{Command, Power, Typed, put_down};
+use ygg_script::{Command, Power, Typed};
 use ygg_value::Values;
 
 impl From<NoMemory> for PlayHalted {

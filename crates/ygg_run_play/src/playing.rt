@@ -2,11 +2,11 @@
 
 ghost use Rattle.std.specs.Prelude.{◌≡◌, ◌≤◌, [], length, false, true, None, IfOk, is_some};
 ghost use Rattle.ygg_base.specs.Outside.{Rose};
-ghost use Rattle.ygg_run_text.specs.ygg_script.Fitting.{IsCommandOf, IsScriptOf};
-ghost use Rattle.ygg_run_text.specs.ygg_script.Reading.{is_stoppable};
+ghost use Rattle.ygg_run_play.specs.ygg_script.Fitting.{IsCommandOf, IsScriptOf};
+ghost use Rattle.ygg_run_play.specs.ygg_script.Reading.{is_stoppable};
 ghost use Rattle.std.specs.List.{count_by};
-ghost use Rattle.ygg_run_text.specs.Named.{stop_after};
-ghost use Rattle.ygg_run_text.specs.Lines.{is_played, played_line};
+ghost use Rattle.ygg_run_play.specs.Named.{stop_after};
+ghost use Rattle.ygg_run_play.specs.Lines.{is_played, played_line};
 ghost use Rattle.ygg_run_play.specs.Doing.{left_of, Holds, ArePut, StepEnds, standing, is_fail};
 ghost use Rattle.ygg_run_play.specs.Playing.{IsPlayed, ArePlayed};
 
@@ -14,9 +14,10 @@ use crate::deed::make_ready;
 use crate::halting::PlayHalted;
 use crate::line::do_line;
 use crate::scene::Scene;
+use crate::{played, put_played};
 use std::alloc::Global;
 use ygg_base::{Bits, Sink, Text};
-use ygg_run_text::{Command, Fuse, Picks, Power, Script, Typed, played, put, put_played};
+use ygg_script::{Command, Fuse, Picks, Power, Script, Typed, put};
 
 /// The stop that the next of these lines sets for the one before it, if that is a line `fail`.
 fn stop_in(rest: &[Command]) -> Option<Fuse>

@@ -1,7 +1,7 @@
 //! What a script is played on.
 
 use ygg_list::NoMemory;
-use ygg_run_text::{Power, Typed};
+use ygg_script::{Power, Typed};
 use ygg_value::{Value, Values};
 
 /// How a command or a waking ended.
@@ -18,11 +18,11 @@ pub enum CommandOutcome {
 pub trait Scene {
     ghost use Rattle.std.specs.Prelude.{◌≡◌, [], List, None, IfOk};
     ghost use Rattle.ygg_syntax.specs.declared.tree.File.{File};
-    ghost use Rattle.ygg_run_text.specs.ygg_meaning.Environments.{Env};
-    ghost use Rattle.ygg_run_text.specs.ygg_meaning.Machine.{State, Machine};
-    ghost use Rattle.ygg_run_text.specs.ygg_meaning.Noted.{Note};
-    ghost use Rattle.ygg_run_text.specs.ygg_script.Fitting.{IsCallOf, IsTickOf};
-    ghost use Rattle.ygg_run_text.specs.Named.{operation_name, tick_name};
+    ghost use Rattle.ygg_run_play.specs.ygg_meaning.Environments.{Env};
+    ghost use Rattle.ygg_run_play.specs.ygg_meaning.Machine.{State, Machine};
+    ghost use Rattle.ygg_run_play.specs.ygg_meaning.Noted.{Note};
+    ghost use Rattle.ygg_run_play.specs.ygg_script.Fitting.{IsCallOf, IsTickOf};
+    ghost use Rattle.ygg_run_play.specs.Named.{operation_name, tick_name};
     ghost use Rattle.ygg_run_play.specs.Scene.{calling, ticking, waking, Leave, Ends, After, FallsAfterAll};
 
     /// The machine of a file.

@@ -23,10 +23,10 @@ use Rattle.ygg_replay.specs.ygg_meaning.Refines.{Below}
 use Rattle.ygg_replay.specs.ygg_meaning.Shapes.{shape_in}
 use Rattle.ygg_replay.specs.ygg_meaning.Claims.{Claim, claims_at, claims_on, claims_of}
 use Rattle.ygg_replay.specs.ygg_meaning.Stack.{Layers, below_of, layers_on, layers_of, tables_of, tables_of_kind}
-use Rattle.ygg_oblige_schedules.specs.ygg_oblige_pieces.Layers.{OperationFits}
-use Rattle.ygg_oblige_schedules.specs.ygg_oblige_pieces.Meaning.{claim_name}
-use Rattle.ygg_oblige_schedules.specs.ygg_oblige_laws.TypedLayers.{LayersTyped}
-use Rattle.ygg_oblige_schedules.proofs.of_ygg_oblige_laws.Files.{typed_layers}
+use Rattle.ygg_oblige_laws.specs.LayerTerms.{OperationFits}
+use Rattle.ygg_oblige_laws.specs.Meaning.{claim_name}
+use Rattle.ygg_oblige_laws.specs.TypedLayers.{LayersTyped}
+use Rattle.ygg_oblige_laws.proofs.Files.{typed_layers}
 use Rattle.ygg_replay.specs.ygg_sched.Fitting.{IsPlain, is_plain, all_plain}
 use Rattle.ygg_replay.specs.ygg_sched.Laws.{asked_at, asked_of}
 use Rattle.ygg_replay.specs.ygg_sched.Sites.{Site, arguments_of, has_state, has_low, sites_of}

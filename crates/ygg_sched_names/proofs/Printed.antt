@@ -13,11 +13,11 @@ use Rattle.ygg_replay.specs.ygg_meaning.Refines.{machine_below}
 use Rattle.ygg_replay.specs.ygg_meaning.Replayed.{Shows}
 use Rattle.ygg_replay.specs.ygg_meaning.Claims.{Claim, ClaimViolated, claims_of}
 use Rattle.ygg_replay.specs.ygg_meaning.Stack.{layers_of}
-use Rattle.ygg_oblige_schedules.specs.ygg_rules.declared.rule.RuleKind.{RuleKind}
-use Rattle.ygg_oblige_schedules.specs.ygg_bank.Values.{Inputs}
-use Rattle.ygg_oblige_schedules.specs.ygg_sym_expr.Exprs.{SymFunctions}
-use Rattle.ygg_oblige_schedules.specs.ygg_oblige_pieces.Meaning.{claim_name}
-use Rattle.ygg_oblige_schedules.specs.Schedules.{all_schedules}
+use Rattle.ygg_oblige_laws.specs.ygg_rules.declared.rule.RuleKind.{RuleKind}
+use Rattle.ygg_oblige_laws.specs.ygg_bank.Values.{Inputs}
+use Rattle.ygg_oblige_laws.specs.ygg_sym_expr.Exprs.{SymFunctions}
+use Rattle.ygg_oblige_laws.specs.Meaning.{claim_name}
+use Rattle.ygg_oblige_laws.specs.Schedules.{all_schedules}
 use Rattle.ygg_replay.specs.ygg_report.Lines.{shows_line}
 use Rattle.ygg_replay.specs.ygg_sched.Fitting.{IsAt, IsScheduleOf, IsPlain, halt_meant}
 use Rattle.ygg_replay.specs.ygg_sched.Printing.{line_of, variable_lines, value_lines, run_lines, lines_of, text_of}

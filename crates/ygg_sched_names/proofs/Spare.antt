@@ -7,16 +7,16 @@ use Rattle.ygg_replay.specs.ygg_meaning.Obligations.{Obligation, Init, CallOf, C
 use Rattle.ygg_replay.specs.ygg_meaning.Refines.{Below}
 use Rattle.ygg_replay.specs.ygg_meaning.Claims.{Claim, claims_at, claims_on}
 use Rattle.ygg_replay.specs.ygg_meaning.Stack.{Layers, below_of}
-use Rattle.ygg_oblige_schedules.specs.ygg_rules.declared.rule.RuleKind.{RuleKind}
-use Rattle.ygg_oblige_schedules.specs.ygg_bank.Values.{Inputs}
-use Rattle.ygg_oblige_schedules.specs.ygg_sym_expr.Exprs.{SymFunctions}
-use Rattle.ygg_oblige_schedules.specs.ygg_oblige_pieces.Numbers.{Numbers, numbers_of, arguments_of}
-use Rattle.ygg_oblige_schedules.specs.ygg_oblige_pieces.TermStates.{state_words}
-use Rattle.ygg_oblige_schedules.specs.ygg_oblige_pieces.Terms.{after_layers}
-use Rattle.ygg_oblige_schedules.specs.ygg_oblige_pieces.Inputs.{given_env}
-use Rattle.ygg_oblige_schedules.specs.ygg_oblige_pieces.States.{given_stand}
-use Rattle.ygg_oblige_schedules.specs.ygg_oblige_pieces.Worth.{Stand}
-use Rattle.ygg_oblige_schedules.specs.Schedules.{values_of, schedule_from, schedules_of, layer_schedules, all_schedules}
+use Rattle.ygg_oblige_laws.specs.ygg_rules.declared.rule.RuleKind.{RuleKind}
+use Rattle.ygg_oblige_laws.specs.ygg_bank.Values.{Inputs}
+use Rattle.ygg_oblige_laws.specs.ygg_sym_expr.Exprs.{SymFunctions}
+use Rattle.ygg_oblige_laws.specs.Numbers.{Numbers, numbers_of, arguments_of}
+use Rattle.ygg_oblige_laws.specs.TermStates.{state_words}
+use Rattle.ygg_oblige_laws.specs.Terms.{after_layers}
+use Rattle.ygg_oblige_laws.specs.Inputs.{given_env}
+use Rattle.ygg_oblige_laws.specs.States.{given_stand}
+use Rattle.ygg_oblige_laws.specs.Worth.{Stand}
+use Rattle.ygg_oblige_laws.specs.Schedules.{values_of, schedule_from, schedules_of, layer_schedules, all_schedules}
 use Rattle.ygg_sched_names.proofs.Lists.{Zipped, zipped_append}
 
 -- what an obligation doesn't speak of is empty

@@ -9,7 +9,7 @@ use Rattle.ygg_syntax.specs.declared.tree.Tick.{Tick}
 use Rattle.ygg_syntax.specs.declared.tree.Layer.{Layer}
 use Rattle.ygg_syntax.specs.declared.tree.File.{File}
 use Rattle.ygg_accept.specs.ygg_syntax_count.Weights.{Weights, weights_of}
-use Rattle.ygg_accept.specs.ygg_symbols.Names.{Named, look_up, has, added}
+use Rattle.ygg_accept.specs.ygg_type_rules.Names.{Named, look_up, has, added}
 use Rattle.ygg_accept.specs.ygg_type_rules.declared.scope.Signature.{Signature}
 use Rattle.ygg_accept.specs.ygg_type_rules.TypeErrors.{none, unless}
 use Rattle.ygg_accept.specs.ygg_type_rules.Scopes.{Scope}
@@ -32,7 +32,7 @@ use Rattle.ygg_accept.specs.ygg_type_rules.Layers.{
 use Rattle.ygg_accept.specs.ygg_type_rules.Files.{IsTyped, type_errors_of, disk_errors, disk_below, count_error, layer_errors, layers_errors}
 use Rattle.ygg_replay.specs.ygg_type_sound_proofs_Names.{or_else, look_up_append}
 use Rattle.ygg_replay.specs.ygg_type_sound_proofs_Tests.{left, right, passed, turned, bytes_equal}
-use Rattle.ygg_replay.specs.ygg_type_progress_proofs_TypeErrors.{none_listed}
+use Rattle.ygg_replay.specs.ygg_type_sound_proofs_TypeErrors.{none_listed}
 use Rattle.ygg_sched_names.proofs.Apart.{Differs, Apart}
 use Rattle.ygg_sched_names.proofs.Keys.{OwnNames, operation_name, tick_name, layer_name}
 

@@ -3,11 +3,11 @@ use Rattle.std.specs.Prelude.{◌≡◌, ℕ, ◌<◌, ◌^◌, List, slice_get,
 use Rattle.ygg_syntax.specs.declared.tree.File.{File}
 use Rattle.ygg_replay.specs.ygg_meaning.Claims.{Claim, ClaimViolated, claims_of}
 use Rattle.ygg_replay.specs.ygg_meaning.Stack.{layers_of}
-use Rattle.ygg_oblige_schedules.specs.ygg_rules.declared.rule.RuleKind.{RuleKind}
-use Rattle.ygg_oblige_schedules.specs.ygg_bank.Values.{Inputs}
-use Rattle.ygg_oblige_schedules.specs.ygg_sym_expr.Exprs.{SymFunctions}
-use Rattle.ygg_oblige_schedules.specs.ygg_oblige_pieces.Meaning.{claim_name}
-use Rattle.ygg_oblige_schedules.specs.Schedules.{all_schedules}
+use Rattle.ygg_oblige_laws.specs.ygg_rules.declared.rule.RuleKind.{RuleKind}
+use Rattle.ygg_oblige_laws.specs.ygg_bank.Values.{Inputs}
+use Rattle.ygg_oblige_laws.specs.ygg_sym_expr.Exprs.{SymFunctions}
+use Rattle.ygg_oblige_laws.specs.Meaning.{claim_name}
+use Rattle.ygg_oblige_laws.specs.Schedules.{all_schedules}
 use Rattle.ygg_replay.specs.ygg_sched.declared.schedule.Schedule.{Schedule}
 use Rattle.ygg_replay.specs.Shown.{meant}
 

@@ -6,5 +6,5 @@ mod law;
 pub use law::{
     accepted_has_names, named_is, names_are_plain, names_differ, printed_shows, site_named_is,
 };
-pub use ygg_oblige_schedules::law::file_schedules;
+pub use ygg_oblige_laws::schedules_law::file_schedules;
 pub use ygg_replay::one_ending;

@@ -39,13 +39,13 @@ use Rattle.std.proofs.lemmas.Option.{slice_get-get_or, same_Some, get_or_from_sl
 use Rattle.ygg_cnf.specs.Literals.{Satisfies, SatisfiesClause, SatisfiesAll}
 use Rattle.ygg_cnf.specs.Logs.{IsOpen}
 use Rattle.ygg_cnf.specs.declared.lit.Lit.{Lit}
-use Rattle.ygg_solver_learn.specs.Learning.{IsSound}
+use Rattle.ygg_solver.specs.Learning.{IsSound}
 use Rattle.ygg_watch_plain.specs.Propagation.{Propagation}
 use Rattle.ygg_solver.specs.Kept.{trail_value, IsReady}
-use Rattle.ygg_watch_trail.proofs.TrailLemmas.{entry_within, assigned_at, assigned_has, assigned_of, same_or_complement}
-use Rattle.ygg_watch_trail.specs.Trail.{IsAssigned, IsAt, IsQuietBefore, assigned_before}
-use Rattle.ygg_watch_trail.proofs.CountLemmas.{is_assigned}
-use Rattle.ygg_watch_trail.specs.declared.entry.Entry.{Entry}
+use Rattle.ygg_watch_plain.proofs.TrailLemmas.{entry_within, assigned_at, assigned_has, assigned_of, same_or_complement}
+use Rattle.ygg_watch_plain.specs.Trail.{IsAssigned, IsAt, IsQuietBefore, assigned_before}
+use Rattle.ygg_watch_plain.proofs.CountLemmas.{is_assigned}
+use Rattle.ygg_watch_plain.specs.declared.entry.Entry.{Entry}
 
 -- a variable that is assigned has an entry, whose literal the trail's value satisfies
 found_entry : (trail : List Entry) (v : ℕ) → is_assigned trail v ≡ true

@@ -3,8 +3,8 @@ use Rattle.std.specs.Prelude.{ℕ, ◌≤◌, List, length, map, All}
 use Rattle.ygg_cnf.specs.Literals.{SatisfiesAll}
 use Rattle.ygg_cnf.specs.Logs.{clause_of, Refutes, SpentLog}
 use Rattle.ygg_cnf.specs.declared.lit.Lit.{Lit}
-use Rattle.ygg_watch_trail.specs.Assignments.{IsTrail}
-use Rattle.ygg_watch_trail.specs.declared.entry.Entry.{Entry}
+use Rattle.ygg_watch_plain.specs.Assignments.{IsTrail}
+use Rattle.ygg_watch_plain.specs.declared.entry.Entry.{Entry}
 use Rattle.ygg_watch_plain.specs.Propagation.{IsWithin}
 use Rattle.ygg_solver.specs.Kept.{trail_value}
 use Rattle.ygg_solver.specs.declared.searching.SearchEnd.{SearchEnd}

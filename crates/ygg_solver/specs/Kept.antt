@@ -1,8 +1,8 @@
 -- What the search keeps of a propagation.
 use Rattle.std.specs.Prelude.{◌≡◌, ℕ, ◌<◌, ◌≤◌, Bool, false, not, cond, List, [], ◌∷◌, None, eqb}
-use Rattle.ygg_solver_learn.specs.Learning.{IsSound}
-use Rattle.ygg_watch_trail.specs.Trail.{IsAt, IsQuietBefore}
-use Rattle.ygg_watch_trail.specs.declared.entry.Entry.{Entry}
+use Rattle.ygg_solver.specs.Learning.{IsSound}
+use Rattle.ygg_watch_plain.specs.Trail.{IsAt, IsQuietBefore}
+use Rattle.ygg_watch_plain.specs.declared.entry.Entry.{Entry}
 use Rattle.ygg_watch_plain.specs.Propagation.{Propagation}
 
 -- no variable is assigned twice and each reason is one; before each decision no clause was false or left with one literal,

@@ -1,3 +1,4 @@
+pub mod Learning
 pub mod Answers
 pub mod Names
 pub use Rattle.ygg_cnf.specs as ygg_cnf

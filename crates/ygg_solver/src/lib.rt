@@ -1,4 +1,4 @@
-//! A solver by conflict-driven clause learning, whose every learned clause comes with the chain that derives it.
+//! A solver by conflict-driven clause learning, whose every learned clause comes with the chain of resolution steps that derives it.
 //!
 //! An example, which asks whether some assignment satisfies `1 -2` and `2`, with at most a thousand learned clauses:
 //!
@@ -17,15 +17,21 @@
 #![tactic(auto)]
 
 mod advice;
+mod analysis;
 mod answer;
 mod names;
+mod removal;
 mod run;
 mod searching;
+mod seen_places;
 mod solving;
 
 pub use advice::order_for;
+pub use analysis::{Learned, analyze, refute};
 pub use answer::Answer;
+pub use removal::Removal;
 pub use searching::{SearchEnd, search_clauses};
+pub use seen_places::{entry_at, last_decision};
 pub use solving::{solve, solve_and_count, solve_owned};
 pub use ygg_cnf::{Assignment, Clause, Clauses, Lit, Step, truth};
-pub use ygg_watch_order::Work;
+pub use ygg_watch_plain::Work;

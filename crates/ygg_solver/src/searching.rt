@@ -5,14 +5,12 @@ ghost use Rattle.ygg_solver.specs.Kept.{IsReady};
 ghost use Rattle.ygg_solver.specs.Ends.{IsEnd};
 
 use crate::run::to_conflict;
+use crate::{Learned, Removal, analyze, last_decision, refute};
 use std::alloc::Global;
 use ygg_cnf::{Clause, Lit, Log, Step};
 use ygg_cnf_set::PackedClause;
 use ygg_list::{NoMemory, Sequence};
-use ygg_solver_learn::{Learned, Removal, analyze, last_decision, refute};
-use ygg_watch_order::{Order, Restarts};
-use ygg_watch_plain::Trail;
-use ygg_watch_trail::PackedEntry;
+use ygg_watch_plain::{Order, PackedEntry, Restarts, Trail};
 
 /// How a search ended.
 #[derive(Drop)]

@@ -12,8 +12,7 @@ use ygg_cnf::{Clauses, Log};
 use ygg_cnf_set::PackedClause;
 use ygg_list::NoMemory;
 use ygg_watch::Watch;
-use ygg_watch_order::{Order, Work};
-use ygg_watch_plain::Trail;
+use ygg_watch_plain::{Order, Trail, Work};
 
 /// Whether a clause is empty.
 fn has_empty(clauses: &Clauses) -> bool

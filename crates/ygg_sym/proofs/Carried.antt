@@ -1,8 +1,8 @@
 -- What is proved of definitions holds of what calls answer that make what is defined.
 use Rattle.std.proofs.Common.{◌≡◌, List, Result, Ok, Err, OnOk, IfOk, sym, subst}
-use Rattle.ygg_sym_laws.specs.ygg_bank.Makes.{Out}
-use Rattle.ygg_sym_laws.specs.ygg_bank.Nodes.{IsBank}
-use Rattle.ygg_sym_laws.specs.ygg_bank.declared.node.Node.{Node}
+use Rattle.ygg_sym_spec.specs.ygg_bank.Makes.{Out}
+use Rattle.ygg_sym_spec.specs.ygg_bank.Nodes.{IsBank}
+use Rattle.ygg_sym_spec.specs.ygg_bank.declared.node.Node.{Node}
 
 pub on_value : {A E : Type 0} (P : List Node → A → Type 0) (out : Out A) (new : List Node) (r : Result A E) → OnOk r (new ≡ out.nodes) →
     IfOk r (λ x. x ≡ out.value) → IsBank new → (IsBank out.nodes → P out.nodes out.value) → IfOk r (P new)

@@ -25,7 +25,7 @@ use Rattle.ygg_sym_stops.specs.ygg_sym_runs.Ready.{CanRun, Ended, order_run, ter
 use Rattle.ygg_sym_stops.proofs.of_ygg_sym_runs.Singles.{single_stays}
 use Rattle.ygg_sym_stops.proofs.of_ygg_sym_runs.Walking.{run_left}
 use Rattle.ygg_sym_stops.specs.StopTerms.{SymFallen, SymHalted}
-use Rattle.ygg_sym_runs.specs.WholeReady.{CanWhole}
+use Rattle.ygg_sym_spec.specs.ygg_sym_runs.WholeReady.{CanWhole}
 use Rattle.ygg_sym_stops.specs.Halting.{halted_of, halting_meaning, sym_fall}
 use Rattle.ygg_sym_stops.specs.Stopping.{Power}
 use Rattle.ygg_sym_stops.specs.declared.ending.StopEnd.{StopEnd}

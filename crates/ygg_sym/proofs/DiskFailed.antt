@@ -1,22 +1,22 @@
 -- What power that fails on a disk wants follows from what may be asked, and what it keeps.
 use Rattle.std.proofs.Common.{◌≡◌, ◌≤◌, ℕ, List, Bor, subst, sym, arith}
 use Rattle.std.specs.Prelude.{min}
-use Rattle.ygg_sym_disk.specs.ygg_rules.declared.rule.RuleKind.{RuleKind}
-use Rattle.ygg_sym_disk.specs.ygg_bank.Nodes.{IsBank, OneWidth}
-use Rattle.ygg_sym_disk.specs.ygg_bank.declared.node.Node.{Node}
-use Rattle.ygg_sym_disk.specs.ygg_shape_cells.declared.terms.SymValue.{SymValue}
-use Rattle.ygg_sym_disk.proofs.of_ygg_sym_runs.Singles.{input_single, single_stays}
-use Rattle.ygg_sym_disk.specs.ygg_sym_runs.Lower.{KeepsSingle, SingleFrom, question_of}
-use Rattle.ygg_sym_disk.specs.ygg_sym_runs.Runs.{SymQuestion}
-use Rattle.ygg_sym_disk.specs.ygg_sym_runs.declared.question.Awaited as asked
-use Rattle.ygg_sym_disk.specs.ygg_sym_runs.declared.question.Awaited.TheVariants as question
-use Rattle.ygg_sym_disk.specs.ygg_sym_runs.Cuts.{disk_cuts}
-use Rattle.ygg_sym_disk.specs.ygg_sym_runs.Disks.{sym_call}
-use Rattle.ygg_sym_disk.specs.ygg_sym_runs_proofs_DiskKeeps.{cuts_keep}
-use Rattle.ygg_sym_disk.proofs.Asked.{can_call}
-use Rattle.ygg_sym_disk.specs.Asking.{CallStands}
-use Rattle.ygg_sym_disk.specs.Means.{disk_meaning}
-use Rattle.ygg_sym_disk.specs.declared.lower.SymDisk.{SymDisk}
+use Rattle.ygg_sym_spec.specs.ygg_rules.declared.rule.RuleKind.{RuleKind}
+use Rattle.ygg_sym_spec.specs.ygg_bank.Nodes.{IsBank, OneWidth}
+use Rattle.ygg_sym_spec.specs.ygg_bank.declared.node.Node.{Node}
+use Rattle.ygg_sym_spec.specs.ygg_shape_cells.declared.terms.SymValue.{SymValue}
+use Rattle.ygg_sym_spec.proofs.of_ygg_sym_runs.Singles.{input_single, single_stays}
+use Rattle.ygg_sym_spec.specs.ygg_sym_runs.Lower.{KeepsSingle, SingleFrom, question_of}
+use Rattle.ygg_sym_spec.specs.ygg_sym_runs.Runs.{SymQuestion}
+use Rattle.ygg_sym_spec.specs.ygg_sym_runs.declared.question.Awaited as asked
+use Rattle.ygg_sym_spec.specs.ygg_sym_runs.declared.question.Awaited.TheVariants as question
+use Rattle.ygg_sym_spec.specs.ygg_sym_runs.Cuts.{disk_cuts}
+use Rattle.ygg_sym_spec.specs.ygg_sym_runs.Disks.{sym_call}
+use Rattle.ygg_sym_spec.specs.ygg_sym_runs_proofs_DiskKeeps.{cuts_keep}
+use Rattle.ygg_sym_spec.proofs.of_ygg_sym_disk.Asked.{can_call}
+use Rattle.ygg_sym_spec.specs.ygg_sym_disk.Asking.{CallStands}
+use Rattle.ygg_sym_spec.specs.ygg_sym_disk.Means.{disk_meaning}
+use Rattle.ygg_sym_spec.specs.ygg_sym_disk.declared.lower.SymDisk.{SymDisk}
 use Rattle.ygg_sym_stops.specs.Stopping.{CanCut}
 use Rattle.ygg_sym.specs.DiskFailing.{disk_power}
 use Rattle.ygg_sym.specs.declared.disk_stops.DiskStops.{DiskStops}

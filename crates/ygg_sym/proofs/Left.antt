@@ -1,8 +1,8 @@
 -- Loops over lists make what is made of all items: what is made so far, and what the rest will make.
 use Rattle.std.proofs.Common.{◌≡◌, ◌<◌, ℕ, ◌+◌, List, [], ◌∷◌, ◌++◌, length, drop, get_or, refl, sym, ap, ◌∙◌, append_assoc}
 use Rattle.std.proofs.lemmas.List.{drop_more, append-nil}
-use Rattle.ygg_sym_laws.specs.ygg_bank.Makes.{Out}
-use Rattle.ygg_sym_laws.specs.ygg_bank.declared.node.Node.{Node}
+use Rattle.ygg_sym_spec.specs.ygg_bank.Makes.{Out}
+use Rattle.ygg_sym_spec.specs.ygg_bank.declared.node.Node.{Node}
 
 -- the item at a place, and those after it
 pub rest_is : {X : Type 0} (xs : List X) (i : ℕ) (x d : X) → i < length xs → x ≡ get_or xs i d → drop i xs ≡ x ∷ drop (i + 1) xs

@@ -3,22 +3,22 @@ use Rattle.std.proofs.Common.{◌≡◌, ℕ, List, OnOk, IfOk, Ok, Err, Result,
 use Rattle.ygg_syntax.specs.declared.tree.Declared.{Declared}
 use Rattle.ygg_syntax.specs.declared.tree.Def.{Def}
 use Rattle.ygg_syntax.specs.declared.tree.DiskText.{DiskText}
-use Rattle.ygg_sym_laws.specs.ygg_rules.declared.rule.RuleKind.{RuleKind}
-use Rattle.ygg_sym_laws.specs.ygg_bank.Makes.{Out}
-use Rattle.ygg_sym_laws.specs.ygg_bank.Nodes.{IsBank}
-use Rattle.ygg_sym_laws.specs.ygg_bank.Values.{value_of}
-use Rattle.ygg_sym_laws.specs.ygg_bank.declared.node.Node.{Node}
-use Rattle.ygg_sym_laws.proofs.of_ygg_shape.Answered.{no_inputs, some_fit}
-use Rattle.ygg_sym_laws.specs.ygg_shape_cells.declared.terms.SymValue.{SymValue}
-use Rattle.ygg_sym_laws.specs.ygg_sym_runs.Lower.{KeepsSingle}
+use Rattle.ygg_sym_spec.specs.ygg_rules.declared.rule.RuleKind.{RuleKind}
+use Rattle.ygg_sym_spec.specs.ygg_bank.Makes.{Out}
+use Rattle.ygg_sym_spec.specs.ygg_bank.Nodes.{IsBank}
+use Rattle.ygg_sym_spec.specs.ygg_bank.Values.{value_of}
+use Rattle.ygg_sym_spec.specs.ygg_bank.declared.node.Node.{Node}
+use Rattle.ygg_sym_spec.proofs.of_ygg_shape.Answered.{no_inputs, some_fit}
+use Rattle.ygg_sym_spec.specs.ygg_shape_cells.declared.terms.SymValue.{SymValue}
+use Rattle.ygg_sym_spec.specs.ygg_sym_runs.Lower.{KeepsSingle}
 use Rattle.ygg_sym.specs.ygg_sym_disk.Cuts.{disk_loses}
 use Rattle.ygg_sym.specs.ygg_sym_disk.SymBelowLows.{LowShaped}
 use Rattle.ygg_sym.specs.ygg_sym_disk.SpecCuts.{crash_made}
 use Rattle.ygg_sym.specs.ygg_sym_disk.Specs.{input_pick}
-use Rattle.ygg_sym_laws.specs.Below.{lost_made, lows_at_start, lows_on, start_made, zeros_made}
-use Rattle.ygg_sym_laws.specs.Means.{LossMeans, terms_of}
-use Rattle.ygg_sym_laws.proofs.Loss.{disk_loss}
-use Rattle.ygg_sym_laws.proofs.AnyLayer.{spec_loss}
+use Rattle.ygg_sym_spec.specs.ygg_sym_laws.Below.{lost_made, lows_at_start, lows_on, start_made, zeros_made}
+use Rattle.ygg_sym_spec.specs.ygg_sym_laws.Means.{LossMeans, terms_of}
+use Rattle.ygg_sym_spec.proofs.of_ygg_sym_laws.Loss.{disk_loss}
+use Rattle.ygg_sym_spec.proofs.of_ygg_sym_laws.AnyLayer.{spec_loss}
 use Rattle.ygg_sym.specs.Layers.{closed, crash_of, terms_in}
 use Rattle.ygg_sym.specs.SymLayer.{SymLayer}
 use Rattle.ygg_sym.specs.SymPicks.TheVariants as picks

@@ -2,19 +2,19 @@
 use Rattle.std.proofs.Common.{◌≡◌, ℕ, List, [], IsTrue, sym, ap, ◌∙◌, subst}
 use Rattle.ygg_syntax.specs.declared.tree.Def.{Def}
 use Rattle.ygg_syntax.specs.declared.tree.DiskText.{DiskText}
-use Rattle.ygg_sym_laws.specs.ygg_type_rules.TypeErrors.{none}
-use Rattle.ygg_sym_laws.specs.ygg_type_rules.Definitions.{definitions_errors}
-use Rattle.ygg_sym_laws.specs.ygg_rules.declared.rule.RuleKind.{RuleKind}
-use Rattle.ygg_sym_laws.specs.ygg_bank.declared.node.Node.{Node}
-use Rattle.ygg_sym_laws.specs.ygg_shape_cells.declared.terms.SymValue.{SymValue}
-use Rattle.ygg_sym_laws.specs.ygg_sym_runs.Lower.{SingleFrom, Stands}
+use Rattle.ygg_sym_spec.specs.ygg_type_rules.TypeErrors.{none}
+use Rattle.ygg_sym_spec.specs.ygg_type_rules.Definitions.{definitions_errors}
+use Rattle.ygg_sym_spec.specs.ygg_rules.declared.rule.RuleKind.{RuleKind}
+use Rattle.ygg_sym_spec.specs.ygg_bank.declared.node.Node.{Node}
+use Rattle.ygg_sym_spec.specs.ygg_shape_cells.declared.terms.SymValue.{SymValue}
+use Rattle.ygg_sym_spec.specs.ygg_sym_runs.Lower.{SingleFrom, Stands}
 use Rattle.ygg_sym.specs.ygg_sym_disk.SymBelowLows.{LowShaped}
 use Rattle.ygg_sym.specs.ygg_sym_disk.SpecCuts.{spec_stops}
 use Rattle.ygg_sym.specs.ygg_sym_disk.Specs.{input_pick, sym_spec}
 use Rattle.ygg_sym.specs.ygg_sym_disk.Means.{disk_meaning}
-use Rattle.ygg_sym_laws.specs.Below.{lows_on, machine_on, signatures_on, space_on, stops_on}
-use Rattle.ygg_sym_laws.specs.Means.{terms_of}
-use Rattle.ygg_sym_laws.specs.Typed.{BelowTyped, SpecTyped}
+use Rattle.ygg_sym_spec.specs.ygg_sym_laws.Below.{lows_on, machine_on, signatures_on, space_on, stops_on}
+use Rattle.ygg_sym_spec.specs.ygg_sym_laws.Means.{terms_of}
+use Rattle.ygg_sym_spec.specs.ygg_sym_laws.Typed.{BelowTyped, SpecTyped}
 use Rattle.ygg_sym.specs.Stopping as stopping
 use Rattle.ygg_sym.specs.DiskFailing.{disk_power}
 use Rattle.ygg_sym.specs.Layers.{SpecServes, closed, terms_in}

@@ -3,19 +3,19 @@ use Rattle.std.proofs.Common.{◌≡◌, ◌<◌, ℕ, ◌+◌, List, [], ◌∷
 use Rattle.std.proofs.lemmas.List.Elements.{All-head, All-tail}
 use Rattle.ygg_value.specs.Shapes.{IsShape}
 use Rattle.ygg_syntax.specs.declared.tree.Declared.{Declared}
-use Rattle.ygg_sym_laws.specs.ygg_rules.declared.rule.RuleKind.{RuleKind}
-use Rattle.ygg_sym_laws.specs.ygg_meaning.Shapes.{shape_in}
-use Rattle.ygg_sym_laws.specs.ygg_bank.Nodes.{IsBank}
-use Rattle.ygg_sym_laws.specs.ygg_bank.Values.{value_of}
-use Rattle.ygg_sym_laws.specs.ygg_bank.declared.node.Node.{Node}
-use Rattle.ygg_sym_laws.specs.ygg_shape.Wholes.{zero_made}
-use Rattle.ygg_sym_laws.proofs.of_ygg_shape.Answered.{no_inputs, some_fit}
-use Rattle.ygg_sym_laws.specs.ygg_shape_cells.declared.terms.SymValue.{SymValue}
+use Rattle.ygg_sym_spec.specs.ygg_rules.declared.rule.RuleKind.{RuleKind}
+use Rattle.ygg_sym_spec.specs.ygg_meaning.Shapes.{shape_in}
+use Rattle.ygg_sym_spec.specs.ygg_bank.Nodes.{IsBank}
+use Rattle.ygg_sym_spec.specs.ygg_bank.Values.{value_of}
+use Rattle.ygg_sym_spec.specs.ygg_bank.declared.node.Node.{Node}
+use Rattle.ygg_sym_spec.specs.ygg_shape.Wholes.{zero_made}
+use Rattle.ygg_sym_spec.proofs.of_ygg_shape.Answered.{no_inputs, some_fit}
+use Rattle.ygg_sym_spec.specs.ygg_shape_cells.declared.terms.SymValue.{SymValue}
 use Rattle.ygg_sym.specs.ygg_sym_disk.SymBelowLows.{LowShaped}
-use Rattle.ygg_sym_laws.specs.ygg_sym_runs.Lower.{KeepsSingle, SingleFrom}
-use Rattle.ygg_sym_laws.proofs.of_ygg_sym_runs.Singles.{single_stays}
-use Rattle.ygg_sym_laws.specs.Below.{zeros_made}
-use Rattle.ygg_sym_laws.proofs.Zeros.{AreShapes, zeros_give, zeros_made_keep}
+use Rattle.ygg_sym_spec.specs.ygg_sym_runs.Lower.{KeepsSingle, SingleFrom}
+use Rattle.ygg_sym_spec.proofs.of_ygg_sym_runs.Singles.{single_stays}
+use Rattle.ygg_sym_spec.specs.ygg_sym_laws.Below.{zeros_made}
+use Rattle.ygg_sym_spec.proofs.of_ygg_sym_laws.Zeros.{AreShapes, zeros_give, zeros_made_keep}
 use Rattle.ygg_sym.specs.Kept.{AreKept}
 use Rattle.ygg_sym.proofs.Left.{Left, left_goes, rest_is}
 

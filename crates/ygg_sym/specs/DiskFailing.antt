@@ -1,8 +1,8 @@
 -- Power that fails on a disk over terms.
 use Rattle.std.specs.Prelude.{min, List}
-use Rattle.ygg_sym_disk.specs.ygg_bank.Makes.{pure}
-use Rattle.ygg_sym_disk.specs.ygg_shape_cells.declared.terms.SymValue.{SymValue}
-use Rattle.ygg_sym_disk.specs.ygg_sym_runs.Cuts.{disk_cuts, disk_loses}
+use Rattle.ygg_sym_spec.specs.ygg_bank.Makes.{pure}
+use Rattle.ygg_sym_spec.specs.ygg_shape_cells.declared.terms.SymValue.{SymValue}
+use Rattle.ygg_sym_spec.specs.ygg_sym_runs.Cuts.{disk_cuts, disk_loses}
 use Rattle.ygg_sym_stops.specs.Stopping.{Power}
 use Rattle.ygg_sym.specs.declared.disk_stops.DiskStops.{DiskStops}
 

@@ -2,13 +2,13 @@
 use Rattle.std.specs.Prelude.{◌≡◌, List}
 use Rattle.ygg_syntax.specs.declared.tree.Block.{Block}
 use Rattle.ygg_syntax.specs.declared.tree.Def.{Def}
-use Rattle.ygg_sym_laws.specs.ygg_rules.declared.rule.RuleKind.{RuleKind}
-use Rattle.ygg_sym_laws.specs.ygg_bank.declared.node.Node.{Node}
-use Rattle.ygg_sym_laws.specs.ygg_sym_expr.Names.{SymEnv}
-use Rattle.ygg_sym_laws.specs.ygg_sym_runs.Lower.{SymMeaning, KeepsSingle}
-use Rattle.ygg_sym_laws.specs.ygg_sym_runs.Ready.{terms_of}
+use Rattle.ygg_sym_spec.specs.ygg_rules.declared.rule.RuleKind.{RuleKind}
+use Rattle.ygg_sym_spec.specs.ygg_bank.declared.node.Node.{Node}
+use Rattle.ygg_sym_spec.specs.ygg_sym_expr.Names.{SymEnv}
+use Rattle.ygg_sym_spec.specs.ygg_sym_runs.Lower.{SymMeaning, KeepsSingle}
+use Rattle.ygg_sym_spec.specs.ygg_sym_runs.Ready.{terms_of}
 use Rattle.ygg_sym.specs.ygg_sym_disk.Wholes.{sym_whole}
-use Rattle.ygg_sym_laws.specs.Means.{values_in}
+use Rattle.ygg_sym_spec.specs.ygg_sym_laws.Means.{values_in}
 use Rattle.ygg_sym.specs.declared.running.Ran.{Ran}
 
 module _ {S : Type 0} (M : SymMeaning S) (defs : List Def) (kinds : List RuleKind) where

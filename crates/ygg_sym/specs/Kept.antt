@@ -1,7 +1,7 @@
 -- Declared names.
 use Rattle.std.specs.Prelude.{List, All}
 use Rattle.ygg_value.specs.Shapes.{IsShape}
-use Rattle.ygg_sym_laws.specs.ygg_meaning.Shapes.{shape_in}
+use Rattle.ygg_sym_spec.specs.ygg_meaning.Shapes.{shape_in}
 use Rattle.ygg_syntax.specs.declared.tree.Declared.{Declared}
 
 -- the declared shapes keep the limits

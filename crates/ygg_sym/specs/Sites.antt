@@ -1,10 +1,10 @@
 -- A layer of a file in code, and what it is specified over.
 use Rattle.std.specs.Prelude.{◌≡◌, IsTrue, []}
-use Rattle.ygg_sym_laws.specs.ygg_type_rules.TypeErrors.{none}
-use Rattle.ygg_sym_laws.specs.ygg_type_rules.Definitions.{definitions_errors}
-use Rattle.ygg_sym_laws.specs.ygg_meaning.Refines.{Below, OnDisk, OnSpec}
-use Rattle.ygg_sym_laws.specs.Below.{lows_on}
-use Rattle.ygg_sym_laws.specs.Typed.{BelowTyped}
+use Rattle.ygg_sym_spec.specs.ygg_type_rules.TypeErrors.{none}
+use Rattle.ygg_sym_spec.specs.ygg_type_rules.Definitions.{definitions_errors}
+use Rattle.ygg_sym_spec.specs.ygg_meaning.Refines.{Below, OnDisk, OnSpec}
+use Rattle.ygg_sym_spec.specs.ygg_sym_laws.Below.{lows_on}
+use Rattle.ygg_sym_spec.specs.ygg_sym_laws.Typed.{BelowTyped}
 use Rattle.ygg_sym.specs.Layers.{closed}
 use Rattle.ygg_sym.specs.SymLayer.{SymLayer}
 use Rattle.ygg_sym.specs.declared.below.SymBelow.{SymBelow}

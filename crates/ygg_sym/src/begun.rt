@@ -1,16 +1,15 @@
 //! A specification's variables at its start.
 
 ghost use Rattle.std.specs.Prelude.{◌≡◌, IfOk, OnOk};
-ghost use Rattle.ygg_sym_laws.specs.ygg_bank.Nodes.{Extends, IsBank};
+ghost use Rattle.ygg_sym_spec.specs.ygg_bank.Nodes.{Extends, IsBank};
 ghost use Rattle.ygg_sym.specs.ygg_sym_disk.SymBelowLows.{LowShaped};
-ghost use Rattle.ygg_sym_laws.specs.ygg_sym_runs.Lower.{KeepsSingle, SingleFrom};
-ghost use Rattle.ygg_sym_laws.specs.Below.{start_made};
+ghost use Rattle.ygg_sym_spec.specs.ygg_sym_runs.Lower.{KeepsSingle, SingleFrom};
+ghost use Rattle.ygg_sym_spec.specs.ygg_sym_laws.Below.{start_made};
 ghost use Rattle.ygg_sym.specs.Layers.{SpecServes, closed, terms_in};
 
 use crate::declared::zeros;
 use std::alloc::Global;
-use ygg_sym_laws::{Bank, Book, NoMemory, SymValues};
-use ygg_sym_spec::{SymLayer, SymPicks, block};
+use ygg_sym_spec::{Bank, Book, NoMemory, SymLayer, SymPicks, SymValues, block};
 
 /// The variables of a specification at its start. Inputs of the bank from the given number on are single digits. Its only error is out of memory,
 /// after which the bank may have more nodes.

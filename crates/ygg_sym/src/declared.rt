@@ -2,15 +2,15 @@
 
 ghost use Rattle.std.specs.Prelude.{◌≡◌, IfOk, OnOk};
 ghost use Rattle.ygg_value.specs.Shapes.{IsShape};
-ghost use Rattle.ygg_sym_laws.specs.ygg_bank.Nodes.{Extends, IsBank};
-ghost use Rattle.ygg_sym_laws.specs.ygg_meaning.Shapes.{shape_in};
+ghost use Rattle.ygg_sym_spec.specs.ygg_bank.Nodes.{Extends, IsBank};
+ghost use Rattle.ygg_sym_spec.specs.ygg_meaning.Shapes.{shape_in};
 ghost use Rattle.ygg_sym.specs.ygg_sym_disk.SymBelowLows.{LowShaped};
-ghost use Rattle.ygg_sym_laws.specs.ygg_sym_runs.Lower.{KeepsSingle};
-ghost use Rattle.ygg_sym_laws.specs.Below.{zeros_made};
+ghost use Rattle.ygg_sym_spec.specs.ygg_sym_runs.Lower.{KeepsSingle};
+ghost use Rattle.ygg_sym_spec.specs.ygg_sym_laws.Below.{zeros_made};
 ghost use Rattle.ygg_sym.specs.Kept.{AreKept};
 
 use std::alloc::Global;
-use ygg_sym_laws::{Bank, Book, NoMemory, SymValues, zero};
+use ygg_sym_spec::{Bank, Book, NoMemory, SymValues, zero};
 use ygg_syntax::tree::{Declared, TypeText};
 use ygg_value::Shape;
 

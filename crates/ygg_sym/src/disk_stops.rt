@@ -1,7 +1,7 @@
 //! A disk whose power fails, as the machine on which a block runs.
 
 use std::alloc::Global;
-use ygg_sym_disk::{
+use ygg_sym_spec::{
     Awaited, Bank, Book, Id, Lows, NoMemory, SymDisk, SymLower, SymValue, cut, lose,
 };
 use ygg_sym_stops::SymStops;
@@ -18,8 +18,8 @@ pub struct DiskStops {
 }
 
 impl SymLower for DiskStops {
-    ghost use Rattle.ygg_sym_disk.specs.Means.{disk_meaning};
-    ghost use Rattle.ygg_sym_disk.specs.Keeps.{disk_keeps_meaning};
+    ghost use Rattle.ygg_sym_spec.specs.ygg_sym_disk.Means.{disk_meaning};
+    ghost use Rattle.ygg_sym_spec.specs.ygg_sym_disk.Keeps.{disk_keeps_meaning};
 
     type State = Lows;
 

@@ -19,8 +19,7 @@ pub use rooms::{failure_room, places};
 pub use runs::{SymBlock, SymCut, SymEnd, cut, lost, low_at_start, run};
 pub use spec_stops::SpecStops;
 pub use stopping::cut_short;
-pub use ygg_sym_laws::{
-    Bank, Book, Env, Given, Id, NoMemory, Node, SymBinding, SymEvaluator, SymValue, SymValues,
-    choices, equal, equal_all, id_in, inputs_of,
+pub use ygg_sym_spec::{
+    Bank, Book, Env, Given, Id, NoMemory, Node, SpecDone, SymBinding, SymEvaluator, SymLayer,
+    SymPicks, SymValue, SymValues, block, crash, equal, equal_all, id_in, inputs_of, then_crash,
 };
-pub use ygg_sym_spec::{SpecDone, SymLayer, SymPicks, block, crash, then_crash};

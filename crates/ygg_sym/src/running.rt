@@ -1,11 +1,11 @@
 //! Runs of a layer's blocks on the disk, and on the specification of the layer below.
 
 ghost use Rattle.std.specs.Prelude.{◌≡◌, ◌≤◌, ◌++◌, length, IfOk, OnOk};
-ghost use Rattle.ygg_sym_laws.specs.ygg_bank.Nodes.{Extends, IsBank};
-ghost use Rattle.ygg_sym_laws.specs.ygg_sym_expr.Names.{sym_bind};
-ghost use Rattle.ygg_sym_laws.specs.ygg_sym_expr.Seen.{env_of};
-ghost use Rattle.ygg_sym_laws.specs.ygg_sym_runs.Lower.{KeepsSingle, SingleFrom};
-ghost use Rattle.ygg_sym_runs.specs.WholeReady.{CanWhole};
+ghost use Rattle.ygg_sym_spec.specs.ygg_bank.Nodes.{Extends, IsBank};
+ghost use Rattle.ygg_sym_spec.specs.ygg_sym_expr.Names.{sym_bind};
+ghost use Rattle.ygg_sym_spec.specs.ygg_sym_expr.Seen.{env_of};
+ghost use Rattle.ygg_sym_spec.specs.ygg_sym_runs.Lower.{KeepsSingle, SingleFrom};
+ghost use Rattle.ygg_sym_spec.specs.ygg_sym_runs.WholeReady.{CanWhole};
 ghost use Rattle.ygg_sym.specs.Falls.{IsFall};
 ghost use Rattle.ygg_sym.specs.Ends.{IsRun};
 ghost use Rattle.ygg_sym.specs.Running.{CanRunBlock, CutIs, EndIs, cut_of, run_of};
@@ -16,10 +16,10 @@ use crate::runs::{SymBlock, SymCut, SymEnd};
 use crate::spec_stops::SpecStops;
 use crate::stopping::cut_short;
 use std::alloc::Global;
-use ygg_sym_disk::{Lows, SymDisk};
-use ygg_sym_laws::{Bank, Book, NoMemory, SymBinding, SymLower, SymRunner, SymValue, SymValues};
-use ygg_sym_runs::whole;
-use ygg_sym_spec::{SymLayer, SymSpec, bind, values_of};
+use ygg_sym_spec::{
+    Bank, Book, Lows, NoMemory, SymBinding, SymDisk, SymLayer, SymLower, SymRunner, SymSpec,
+    SymValue, SymValues, bind, values_of, whole,
+};
 use ygg_sym_stops::{StopEnd, SymStops};
 use ygg_syntax::tree::{Block, Declared, DiskText};
 

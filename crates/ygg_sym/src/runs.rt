@@ -1,10 +1,10 @@
 //! Runs of a layer's blocks on what the layer is specified over.
 
 ghost use Rattle.std.specs.Prelude.{◌≡◌, ◌≤◌, IfOk, OnOk};
-ghost use Rattle.ygg_sym_laws.specs.ygg_bank.Nodes.{Extends, HasWidth, IsBank};
+ghost use Rattle.ygg_sym_spec.specs.ygg_bank.Nodes.{Extends, HasWidth, IsBank};
 ghost use Rattle.ygg_sym.specs.ygg_sym_disk.SymBelowLows.{LowShaped};
-ghost use Rattle.ygg_sym_laws.specs.ygg_sym_runs.Lower.{KeepsSingle, SingleFrom};
-ghost use Rattle.ygg_sym_laws.specs.Below.{lost_made, lows_at_start};
+ghost use Rattle.ygg_sym_spec.specs.ygg_sym_runs.Lower.{KeepsSingle, SingleFrom};
+ghost use Rattle.ygg_sym_spec.specs.ygg_sym_laws.Below.{lost_made, lows_at_start};
 ghost use Rattle.ygg_sym.specs.Layers.{terms_in};
 ghost use Rattle.ygg_sym.specs.Sites.{below_in, BelowFits};
 ghost use Rattle.ygg_sym.specs.Running.{CanRunBlock, CutIs, EndIs, EndStands, cut_of, run_of};
@@ -14,9 +14,9 @@ use crate::below::SymBelow;
 use crate::declared::zeros;
 use crate::running::{cut_on_disk, cut_on_spec, run_on_disk, run_on_spec};
 use std::alloc::Global;
-use ygg_sym_disk::lose;
-use ygg_sym_laws::{Bank, Book, Id, NoMemory, SymValue, SymValues};
-use ygg_sym_spec::{SymLayer, SymPicks, crash};
+use ygg_sym_spec::{
+    Bank, Book, Id, NoMemory, SymLayer, SymPicks, SymValue, SymValues, crash, lose,
+};
 use ygg_syntax::tree::{Block, Declared};
 
 /// What a whole run leaves.

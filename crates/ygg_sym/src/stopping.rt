@@ -6,7 +6,7 @@ ghost use Rattle.ygg_sym_stops.specs.ygg_sym_expr.Names.{SymEnv};
 ghost use Rattle.ygg_sym_stops.specs.ygg_sym_expr.Seen.{env_of};
 ghost use Rattle.ygg_sym_stops.specs.ygg_sym_runs.Lower.{SingleFrom};
 ghost use Rattle.ygg_sym_stops.specs.ygg_sym_runs.Ready.{CanRun, Ended, order_run};
-ghost use Rattle.ygg_sym_runs.specs.WholeReady.{CanWhole};
+ghost use Rattle.ygg_sym_spec.specs.ygg_sym_runs.WholeReady.{CanWhole};
 ghost use Rattle.ygg_sym.specs.Falls.{IsFall};
 
 use ygg_list::Duplicate;

@@ -4,7 +4,7 @@ use Rattle.std.proofs.lemmas.List.{append-nil}
 use Rattle.ygg_syntax.specs.declared.tree.Block.{Block}
 use Rattle.ygg_syntax.specs.declared.tree.Declared.{Declared}
 use Rattle.ygg_syntax.specs.declared.tree.Def.{Def}
-use Rattle.ygg_symbols.specs.Names.{Named}
+use Rattle.ygg_type_rules.specs.Names.{Named}
 use Rattle.ygg_type_rules.specs.Definitions.{definitions_errors, with_definitions}
 use Rattle.ygg_type_rules.specs.TypeErrors.{none}
 use Rattle.ygg_type_rules.specs.declared.scope.Signature.{Signature}

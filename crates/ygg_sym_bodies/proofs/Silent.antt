@@ -17,7 +17,7 @@ use Rattle.ygg_meaning.specs.Progress.{Asks, Call, Eval, Goes, Point, Question, 
 use Rattle.ygg_meaning.specs.Refines.{Below, machine_below}
 use Rattle.ygg_meaning.specs.Runs.{Dialogue, FallsAt, Reaches, WholeCall, answers_of, notes_of}
 use Rattle.ygg_type_sound.proofs.Tests.{left as first_of}
-use Rattle.ygg_type_progress.proofs.Asking.{statements_known}
+use Rattle.ygg_type_sound.proofs.Asking.{statements_known}
 use Rattle.ygg_sym_runs.specs.Stops.{halt}
 use Rattle.ygg_sym_laws.specs.Typed.{SpecBlockTyped}
 use Rattle.ygg_fronts.specs.Laws.{FallsThere}

@@ -3,7 +3,7 @@ use Rattle.std.proofs.Common.{◌≡◌, ℕ, Bool, true, false, List, Option, S
 use Rattle.ygg_syntax.specs.declared.tree.Def.{Def}
 use Rattle.ygg_syntax.specs.declared.tree.File.{File}
 use Rattle.ygg_meaning.specs.Machine.{Picks}
-use Rattle.ygg_type_progress.specs.Kinds.{may_call}
+use Rattle.ygg_type_sound.specs.Kinds.{may_call}
 use Rattle.ygg_rules.specs.declared.rule.RuleKind.{RuleKind}
 use Rattle.ygg_bank.specs.Inputs.{InputsBelow}
 use Rattle.ygg_bank.specs.Making.{made}
@@ -13,10 +13,10 @@ use Rattle.ygg_bank.specs.declared.node.Node.{Node}
 use Rattle.ygg_bank.specs.declared.node.Node.TheVariants.{Const}
 use Rattle.ygg_value.specs.Words.{word}
 use Rattle.ygg_shape_cells.specs.declared.terms.SymValue.{SymValue}
-use Rattle.ygg_eval_lower.specs.Bodies.{kind_of, variables_in}
-use Rattle.ygg_eval_lower.specs.declared.body.Body.{Body}
-use Rattle.ygg_eval_lower.specs.declared.body.Part.{Part}
-use Rattle.ygg_eval_lower.specs.declared.body.Part.TheVariants.{Start, Spec, OnCrash, Crash, Format, Impl, Tick, Recover}
+use Rattle.ygg_eval_block.specs.Bodies.{kind_of, variables_in}
+use Rattle.ygg_eval_block.specs.declared.body.Body.{Body}
+use Rattle.ygg_eval_block.specs.declared.body.Part.{Part}
+use Rattle.ygg_eval_block.specs.declared.body.Part.TheVariants.{Start, Spec, OnCrash, Crash, Format, Impl, Tick, Recover}
 use Rattle.ygg_sym_laws.specs.Below.{zeros_made}
 use Rattle.ygg_fronts.specs.SymLaws.{OverTyped}
 use Rattle.ygg_sym_spec.specs.Layers.{closed}

@@ -16,16 +16,16 @@ use Rattle.ygg_meaning.specs.Layer.{ClosedLayer}
 use Rattle.ygg_meaning.specs.Meaning.{functions_of}
 use Rattle.ygg_meaning.specs.Refines.{Below}
 use Rattle.ygg_meaning.specs.Stack.{Layers, below_of, layers_of}
-use Rattle.ygg_type_progress.specs.Kinds.{may_call}
-use Rattle.ygg_eval_lower.specs.Bodies.{IsBlock, arguments_in, block_in, kind_of, variables_in}
-use Rattle.ygg_eval_lower.specs.Layers.{below_at, closed_at, variables_at}
-use Rattle.ygg_eval_lower.specs.declared.body.Body.{Body}
-use Rattle.ygg_eval_lower.specs.declared.body.Part.{Part}
-use Rattle.ygg_eval_lower.specs.declared.body.Part.TheVariants.{Start, Spec, OnCrash, Crash, Format, Impl as ImplPart, Tick, Recover}
-use Rattle.ygg_eval_lower.proofs.Numbers.{below_is_numbered, numbered_is_listed}
+use Rattle.ygg_type_sound.specs.Kinds.{may_call}
+use Rattle.ygg_eval_block.specs.Bodies.{IsBlock, arguments_in, block_in, kind_of, variables_in}
+use Rattle.ygg_eval_block.specs.Layers.{below_at, closed_at, variables_at}
+use Rattle.ygg_eval_block.specs.declared.body.Body.{Body}
+use Rattle.ygg_eval_block.specs.declared.body.Part.{Part}
+use Rattle.ygg_eval_block.specs.declared.body.Part.TheVariants.{Start, Spec, OnCrash, Crash, Format, Impl as ImplPart, Tick, Recover}
+use Rattle.ygg_eval_block.proofs.Numbers.{below_is_numbered, numbered_is_listed}
 use Rattle.ygg_sym_laws.specs.Below.{signatures_on}
 use Rattle.ygg_sym_laws.specs.Typed.{BlockTyped, SpecBlockTyped}
-use Rattle.ygg_oblige_pieces.specs.Layers.{LayerTyped, OperationFits}
+use Rattle.ygg_oblige_laws.specs.LayerTerms.{LayerTyped, OperationFits}
 use Rattle.ygg_oblige_laws.specs.TypedLayers.{LayersTyped}
 use Rattle.ygg_sym_spec.specs.Layers.{closed}
 use Rattle.ygg_sym.specs.Kept.{AreKept}

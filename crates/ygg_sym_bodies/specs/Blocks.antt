@@ -4,13 +4,13 @@ use Rattle.ygg_syntax.specs.declared.grammar.BlockKind.TheVariants.{Impl}
 use Rattle.ygg_syntax.specs.declared.tree.Declared.{Declared}
 use Rattle.ygg_type_rules.specs.Definitions.{definitions_errors}
 use Rattle.ygg_type_rules.specs.TypeErrors.{none}
-use Rattle.ygg_type_progress.specs.Kinds.{may_call}
+use Rattle.ygg_type_sound.specs.Kinds.{may_call}
 use Rattle.ygg_bank.specs.declared.node.Node.{Node}
 use Rattle.ygg_sym_laws.specs.Below.{signatures_on}
 use Rattle.ygg_sym_laws.specs.Typed.{BlockTyped, SpecBlockTyped}
 use Rattle.ygg_sym_spec.specs.Layers.{closed}
-use Rattle.ygg_eval_lower.specs.Bodies.{kind_of, variables_in}
-use Rattle.ygg_eval_lower.specs.declared.body.Part.{Part}
+use Rattle.ygg_eval_block.specs.Bodies.{kind_of, variables_in}
+use Rattle.ygg_eval_block.specs.declared.body.Part.{Part}
 use Rattle.ygg_sym.specs.Kept.{AreKept}
 use Rattle.ygg_sym.specs.Sites.{BelowFits, below_in}
 use Rattle.ygg_sym.specs.declared.runs.SymBlock.{SymBlock}

@@ -8,13 +8,13 @@ use Rattle.ygg_syntax.specs.declared.tree.Layer.{Layer}
 use Rattle.ygg_meaning.specs.Layer.{ClosedLayer}
 use Rattle.ygg_meaning.specs.Machine.{Picks}
 use Rattle.ygg_meaning.specs.Refines.{Below}
-use Rattle.ygg_type_progress.specs.Kinds.{may_call, may_choose}
+use Rattle.ygg_type_sound.specs.Kinds.{may_call, may_choose}
 use Rattle.ygg_bank.specs.declared.node.Node.{Node}
 use Rattle.ygg_sym_runs.specs.Lows.{LowShaped}
-use Rattle.ygg_eval_lower.specs.Bodies.{IsBlock, arguments_in, kind_of, variables_in}
-use Rattle.ygg_eval_lower.specs.Layers.{below_at, closed_at}
-use Rattle.ygg_eval_lower.specs.declared.body.Body.{Body}
-use Rattle.ygg_eval_lower.specs.declared.body.Part.{Part}
+use Rattle.ygg_eval_block.specs.Bodies.{IsBlock, arguments_in, kind_of, variables_in}
+use Rattle.ygg_eval_block.specs.Layers.{below_at, closed_at}
+use Rattle.ygg_eval_block.specs.declared.body.Body.{Body}
+use Rattle.ygg_eval_block.specs.declared.body.Part.{Part}
 use Rattle.ygg_sym_bodies.specs.declared.state.SymState.{SymState}
 
 -- a block of a layer: the file's definitions, what the layer is specified over, the variables and the arguments that the block sees, and whether it may

@@ -31,7 +31,7 @@ use Rattle.ygg_syntax.specs.declared.tree.Declared.{Declared}
 use Rattle.ygg_syntax.specs.declared.tree.Def.{Def}
 use Rattle.ygg_value.specs.declared.row.Value.{Value}
 use Rattle.ygg_eval_expr.specs.ygg_syntax_count.Weights.{weights_of, expr_weight}
-use Rattle.ygg_eval_expr.specs.ygg_symbols.Names.{Named, look_up}
+use Rattle.ygg_eval_expr.specs.ygg_type_rules.Names.{Named, look_up}
 use Rattle.ygg_eval_expr.specs.ygg_type_sound.Signature.{Signature}
 use Rattle.ygg_eval_expr.specs.ygg_type_sound.TypeErrors.{none}
 use Rattle.ygg_eval_expr.specs.ygg_type_sound.Shapes.{shape_of}

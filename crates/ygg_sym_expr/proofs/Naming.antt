@@ -1,7 +1,7 @@
 -- Names that are looked for in one list and then in another.
 use Rattle.std.proofs.Common.{◌≡◌, ℕ, Bool, true, false, cond, List, [], ◌∷◌, ◌++◌, Some, None, refl, ◌∙◌}
 use Rattle.std.specs.Str.{bytes_eq}
-use Rattle.ygg_eval_expr.specs.ygg_symbols.Names.{look_up as found}
+use Rattle.ygg_eval_expr.specs.ygg_type_rules.Names.{look_up as found}
 use Rattle.ygg_eval_expr.specs.ygg_type_sound_proofs_Names.{still_found, new_found}
 use Rattle.ygg_shape.specs.ygg_shape_cells.declared.terms.SymValue.{SymValue}
 use Rattle.ygg_sym_expr.specs.Names.{SymEnv, no_term, sym_look_up}

@@ -39,7 +39,7 @@ use Rattle.std.proofs.lemmas.List.Elements.{All-nil}
 use Rattle.std.proofs.lemmas.Option.{slice_get-get_or}
 use Rattle.ygg_syntax.specs.declared.tree.Def.{Def}
 use Rattle.ygg_eval_expr.specs.ygg_syntax_count.Weights.{weights_of, expr_weight}
-use Rattle.ygg_eval_expr.specs.ygg_symbols.Names.{Named, look_up, has}
+use Rattle.ygg_eval_expr.specs.ygg_type_rules.Names.{Named, look_up, has}
 use Rattle.ygg_eval_expr.specs.ygg_type_sound.Signature.{Signature}
 use Rattle.ygg_eval_expr.specs.ygg_type_sound.TypeErrors.{none}
 use Rattle.ygg_eval_expr.specs.ygg_type_sound.Shapes.{shape_of}

@@ -48,7 +48,7 @@ use Rattle.ygg_syntax.specs.declared.tree.Expr.{Expr, roll-Expr, map-Expr}
 use Rattle.ygg_syntax.specs.declared.tree.Expr.TheVariants as tree
 use Rattle.ygg_syntax.specs.declared.tree.Expr.TheOpen.{Expr-F}
 use Rattle.ygg_syntax.specs.declared.tree.Expr.TheFolds.{ind-Expr, fold-roll-Expr}
-use Rattle.ygg_eval_expr.specs.ygg_symbols.Names.{Named, look_up, has, added}
+use Rattle.ygg_eval_expr.specs.ygg_type_rules.Names.{Named, look_up, has, added}
 use Rattle.ygg_eval_expr.specs.ygg_type_sound.Signature.{Signature}
 use Rattle.ygg_eval_expr.specs.ygg_type_sound.TypeErrors.{none}
 use Rattle.ygg_eval_expr.specs.ygg_type_sound.Scopes.{Scope, name_in, low_in, with_local}

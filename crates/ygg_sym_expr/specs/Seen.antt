@@ -10,7 +10,7 @@ use Rattle.ygg_syntax.specs.declared.tree.Quantifier.TheVariants as quantifier
 use Rattle.ygg_syntax.specs.declared.tree.Def.{Def}
 use Rattle.ygg_syntax.specs.declared.tree.Expr.{Expr}
 use Rattle.ygg_syntax.specs.declared.tree.Expr.TheVariants as tree
-use Rattle.ygg_eval_expr.specs.ygg_symbols.Names.{look_up}
+use Rattle.ygg_eval_expr.specs.ygg_type_rules.Names.{look_up}
 use Rattle.ygg_eval_expr.specs.ygg_type_sound.Signature.{Signature}
 use Rattle.ygg_eval_expr.specs.ygg_type_sound.TypeErrors.{none}
 use Rattle.ygg_eval_expr.specs.ygg_type_sound.Scopes.{Scope}

@@ -2,7 +2,7 @@
 
 ghost use Rattle.std.specs.Prelude.{◌≡◌, ◌++◌, IfOk, List};
 ghost use Rattle.std.specs.Option.{option_copied};
-ghost use Rattle.ygg_eval_expr.specs.ygg_symbols.Names.{look_up as found};
+ghost use Rattle.ygg_eval_expr.specs.ygg_type_rules.Names.{look_up as found};
 ghost use Rattle.ygg_sym_expr.specs.Names.{sym_bind, sym_look_up};
 ghost use Rattle.ygg_sym_expr.specs.Seen.{env_of};
 

@@ -16,7 +16,7 @@ use Rattle.ygg_sym_laws.specs.ygg_meaning.Layer.{ClosedLayer}
 use Rattle.ygg_sym_laws.specs.ygg_meaning.Refines.{OnDisk}
 use Rattle.ygg_sym_laws.specs.ygg_meaning.Stack.{tables_of}
 use Rattle.ygg_sym_laws.specs.ygg_type_sound.Agrees.{Agrees}
-use Rattle.ygg_sym_laws.specs.ygg_type_progress.Questions.{plain}
+use Rattle.ygg_sym_laws.specs.ygg_type_sound.Questions.{plain}
 use Rattle.ygg_sym_laws.specs.ygg_rules.declared.rule.RuleKind.{RuleKind}
 use Rattle.ygg_sym_laws.specs.ygg_bank.Values.{Inputs, Values, Fits}
 use Rattle.ygg_sym_laws.specs.ygg_bank.declared.node.Node.{Node}

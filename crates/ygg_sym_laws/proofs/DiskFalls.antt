@@ -24,7 +24,7 @@ use Rattle.ygg_sym_laws.specs.ygg_meaning.Obligations.{Halt}
 use Rattle.ygg_sym_laws.specs.ygg_meaning.DiskMachine.{DiskMachine, disk_call, tables_in}
 use Rattle.ygg_sym_laws.specs.ygg_meaning.Refines.{OnDisk}
 use Rattle.ygg_sym_laws.specs.ygg_meaning.Stack.{tables_of}
-use Rattle.ygg_sym_laws.specs.ygg_type_progress.Machines.{IsSized}
+use Rattle.ygg_sym_laws.specs.ygg_type_sound.Machines.{IsSized}
 use Rattle.ygg_sym_laws.specs.ygg_rules.declared.rule.RuleKind.{RuleKind}
 use Rattle.ygg_sym_laws.specs.ygg_bank_proofs_Meaning.{fits_fewer}
 use Rattle.ygg_sym_laws.specs.ygg_bank_proofs_Widths.{extends_self}

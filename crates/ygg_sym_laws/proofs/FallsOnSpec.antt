@@ -18,7 +18,7 @@ use Rattle.ygg_sym_laws.specs.ygg_meaning.Machine.{State, based}
 use Rattle.ygg_sym_laws.specs.ygg_meaning.Layer.{ClosedLayer}
 use Rattle.ygg_sym_laws.specs.ygg_meaning.Obligations.{Halt}
 use Rattle.ygg_sym_laws.specs.ygg_meaning.Refines.{OnSpec}
-use Rattle.ygg_sym_laws.specs.ygg_type_progress.Blocks.{eval_with}
+use Rattle.ygg_sym_laws.specs.ygg_type_sound.Blocks.{eval_with}
 use Rattle.ygg_sym_laws.specs.ygg_rules.declared.rule.RuleKind.{RuleKind}
 use Rattle.ygg_sym_laws.specs.ygg_bank_proofs_Meaning.{fits_fewer}
 use Rattle.ygg_sym_laws.specs.ygg_bank.Inputs.{InputsBelow}

@@ -11,8 +11,8 @@ use Rattle.ygg_sym_laws.specs.ygg_meaning.Machine.{Picks, based}
 use Rattle.ygg_sym_laws.specs.ygg_meaning.DiskMachine.{DiskMachine}
 use Rattle.ygg_sym_laws.specs.ygg_meaning.Refines.{OnDisk}
 use Rattle.ygg_sym_laws.specs.ygg_meaning.Stack.{tables_of}
-use Rattle.ygg_sym_laws.specs.ygg_type_progress.Machines.{IsSized}
-use Rattle.ygg_sym_laws.specs.ygg_type_progress_proofs_Sizes.{disk_answers_all}
+use Rattle.ygg_sym_laws.specs.ygg_type_sound.Machines.{IsSized}
+use Rattle.ygg_sym_laws.specs.ygg_type_sound_proofs_Sizes.{disk_answers_all}
 use Rattle.ygg_sym_laws.specs.ygg_rules.declared.rule.RuleKind.{RuleKind}
 use Rattle.ygg_sym_laws.specs.ygg_bank_proofs_Widths.{extends_self}
 use Rattle.ygg_sym_laws.specs.ygg_bank.Values.{Inputs, Values, Fits}

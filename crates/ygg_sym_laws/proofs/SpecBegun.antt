@@ -7,7 +7,7 @@ use Rattle.ygg_syntax.specs.declared.tree.Declared.{Declared}
 use Rattle.ygg_syntax.specs.declared.tree.Def.{Def}
 use Rattle.ygg_syntax.specs.declared.tree.Layer.{Layer}
 use Rattle.ygg_syntax.specs.declared.tree.Block.{Block}
-use Rattle.ygg_sym_laws.specs.ygg_symbols.Names.{Named}
+use Rattle.ygg_sym_laws.specs.ygg_type_rules.Names.{Named}
 use Rattle.ygg_sym_laws.specs.ygg_type_rules.declared.scope.Signature.{Signature}
 use Rattle.ygg_sym_laws.specs.ygg_type_rules.TypeErrors.{none}
 use Rattle.ygg_sym_laws.specs.ygg_type_rules.Definitions.{definitions_errors, with_definitions}
@@ -18,7 +18,7 @@ use Rattle.ygg_sym_laws.specs.ygg_meaning.Layer.{ClosedLayer}
 use Rattle.ygg_sym_laws.specs.ygg_meaning.Machine.{State}
 use Rattle.ygg_sym_laws.specs.ygg_meaning.Refines.{OnSpec}
 use Rattle.ygg_sym_laws.specs.ygg_type_sound.Agrees.{Agrees}
-use Rattle.ygg_sym_laws.specs.ygg_type_progress.Questions.{plain}
+use Rattle.ygg_sym_laws.specs.ygg_type_sound.Questions.{plain}
 use Rattle.ygg_sym_laws.specs.ygg_rules.declared.rule.RuleKind.{RuleKind}
 use Rattle.ygg_sym_laws.specs.ygg_bank.Values.{Inputs, Values, Fits}
 use Rattle.ygg_sym_laws.specs.ygg_bank.declared.node.Node.{Node}

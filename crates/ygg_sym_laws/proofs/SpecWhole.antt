@@ -17,9 +17,9 @@ use Rattle.ygg_sym_laws.specs.ygg_meaning.Machine.{State, on, based}
 use Rattle.ygg_sym_laws.specs.ygg_meaning.Layer.{ClosedLayer, BlockRuns}
 use Rattle.ygg_sym_laws.specs.ygg_meaning.Refines.{OnSpec}
 use Rattle.ygg_sym_laws.specs.ygg_meaning.Spec.{Spec}
-use Rattle.ygg_sym_laws.specs.ygg_type_progress.Blocks.{eval_with, is_returned}
-use Rattle.ygg_sym_laws.specs.ygg_type_progress.Questions.{Follows}
-use Rattle.ygg_sym_laws.specs.ygg_type_progress_proofs_Following.{follows_front, fits_after}
+use Rattle.ygg_sym_laws.specs.ygg_type_sound.Blocks.{eval_with, is_returned}
+use Rattle.ygg_sym_laws.specs.ygg_type_sound.Questions.{Follows}
+use Rattle.ygg_sym_laws.specs.ygg_type_sound_proofs_Following.{follows_front, fits_after}
 use Rattle.ygg_sym_laws.specs.ygg_rules.declared.rule.RuleKind.{RuleKind}
 use Rattle.ygg_sym_laws.specs.ygg_bank_proofs_Meaning.{fits_fewer}
 use Rattle.ygg_sym_laws.specs.ygg_bank.Inputs.{InputsBelow}

@@ -7,5 +7,5 @@ pub mod spec_law;
 pub use ygg_sym_runs::{
     Awaited, Bank, Book, Env, Given, Id, NoMemory, Node, SymBinding, SymEvaluator, SymLower,
     SymRunner, SymValue, SymValues, choices, equal, equal_all, id_in, inputs_of, refines_by_list,
-    room, typed_histories, zero,
+    room, typed_histories, whole, zero,
 };

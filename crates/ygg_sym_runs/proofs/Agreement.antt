@@ -19,7 +19,7 @@ use Rattle.ygg_syntax.specs.declared.tree.Stmt.{Stmt, roll-Stmt, map-Stmt}
 use Rattle.ygg_syntax.specs.declared.tree.Block.{Block, roll-Block, map-Block, fold-Block}
 use Rattle.ygg_syntax.specs.declared.tree.Stmt.TheOpen.{Stmt-F, Block-F}
 use Rattle.ygg_syntax.specs.declared.tree.Stmt.TheFolds.{ind-Stmt, fold-roll-Stmt, fold-roll-Block}
-use Rattle.ygg_direct.specs.ygg_symbols.Names.{Named, look_up}
+use Rattle.ygg_direct.specs.ygg_type_rules.Names.{Named, look_up}
 use Rattle.ygg_base.specs.declared.reason.Reason.TheVariants as reason
 use Rattle.ygg_direct.specs.ygg_type_rules.declared.scope.Signature.{Signature}
 use Rattle.ygg_direct.specs.ygg_type_rules.TypeErrors.{TypeErrors, none}
@@ -51,11 +51,11 @@ use Rattle.ygg_direct.specs.ygg_type_sound_proofs_Fits.{word_wide, value_fits}
 use Rattle.ygg_direct.specs.ygg_type_sound_proofs_Names.{value_found}
 use Rattle.ygg_direct.specs.ygg_type_sound_proofs_Rules.{NumberParts, number_parts, wanted_has}
 use Rattle.ygg_direct.specs.ygg_type_sound_proofs_Steps.{agrees_with_local, agrees_with_number}
-use Rattle.ygg_direct.specs.ygg_type_progress.Kinds.{all_keep, node_keeps, node_all_keep, stmt_keeps}
-use Rattle.ygg_direct.specs.ygg_type_progress.Questions.{plain, question_fits, Follows}
-use Rattle.ygg_direct.specs.ygg_type_progress.Blocks.{eval_with}
-use Rattle.ygg_direct.specs.ygg_type_progress_proofs_TypeErrors.{called}
-use Rattle.ygg_direct.specs.ygg_type_progress_proofs_Following.{
+use Rattle.ygg_direct.specs.ygg_type_sound.Kinds.{all_keep, node_keeps, node_all_keep, stmt_keeps}
+use Rattle.ygg_direct.specs.ygg_type_sound.Questions.{plain, question_fits, Follows}
+use Rattle.ygg_direct.specs.ygg_type_sound.Blocks.{eval_with}
+use Rattle.ygg_direct.specs.ygg_type_sound_proofs_TypeErrors.{called}
+use Rattle.ygg_direct.specs.ygg_type_sound_proofs_Following.{
   Keeps,
   follows_same,
   follows_more,
@@ -66,8 +66,8 @@ use Rattle.ygg_direct.specs.ygg_type_progress_proofs_Following.{
   take_assigned,
   agrees_after,
 }
-use Rattle.ygg_direct.specs.ygg_type_progress_proofs_Asking.{local_lower}
-use Rattle.ygg_direct.specs.ygg_type_progress_proofs_Fits.{one_shape, part_fits}
+use Rattle.ygg_direct.specs.ygg_type_sound_proofs_Asking.{local_lower}
+use Rattle.ygg_direct.specs.ygg_type_sound_proofs_ProgressFits.{one_shape, part_fits}
 use Rattle.ygg_sym_expr.specs.ygg_rules.declared.rule.RuleKind.{RuleKind}
 use Rattle.ygg_sym_expr.specs.ygg_bank_proofs_Meaning.{fits_fewer}
 use Rattle.ygg_sym_expr.specs.ygg_bank_proofs_Widths.{wider, extends_self, extends_both}
@@ -94,7 +94,7 @@ use Rattle.ygg_sym_runs.specs.Runs.{sym_in_order, sym_change, sym_values, sym_so
 use Rattle.ygg_sym_runs.specs.Meaning.{Low, is_set, question_worth, MachineMeans, RunIs}
 use Rattle.ygg_sym_runs.proofs.Worths.{env_fits_some, merge_env_grows, merge_env_gives}
 use Rattle.ygg_sym_runs.proofs.Putting.{ArePlaces, put_grows, put_gives}
-use Rattle.ygg_direct.specs.ygg_type_progress_proofs_Sounds.{call_fits, target_of}
+use Rattle.ygg_direct.specs.ygg_type_sound_proofs_ProgressSounds.{call_fits, target_of}
 use Rattle.ygg_sym_runs.proofs.Typed.{Indices, all_have, indices_of_place}
 use Rattle.ygg_sym_runs.proofs.Ends.{if_env, if_to, if_both, follows_length, take_length, env_take, one_more, one_worth}
 use Rattle.ygg_sym_runs.proofs.Parts.{InScope, eval_gives, change_grows, change_gives, places_worth, values_grow, values_give, source_grows, source_gives}

@@ -8,14 +8,14 @@ use Rattle.ygg_syntax.specs.declared.tree.Def.{Def}
 use Rattle.ygg_syntax.specs.declared.tree.Index.{Index}
 use Rattle.ygg_syntax.specs.declared.tree.Name as tree_name
 use Rattle.ygg_syntax.specs.declared.tree.Source.{Source}
-use Rattle.ygg_direct.specs.ygg_symbols.Names.{Named, look_up}
+use Rattle.ygg_direct.specs.ygg_type_rules.Names.{Named, look_up}
 use Rattle.ygg_direct.specs.ygg_type_rules.declared.scope.Signature.{Signature}
 use Rattle.ygg_direct.specs.ygg_type_rules.TypeErrors.{none}
 use Rattle.ygg_direct.specs.ygg_type_rules.Scopes.{Scope}
 use Rattle.ygg_direct.specs.ygg_type_rules.Expressions.{wanted}
 use Rattle.ygg_direct.specs.ygg_type_rules.Statements.{source_typing, place_rule}
 use Rattle.ygg_direct.specs.ygg_type_sound_proofs_Tests.{left as first_of, right as second_of}
-use Rattle.ygg_direct.specs.ygg_type_progress.Blocks.{eval_with}
+use Rattle.ygg_direct.specs.ygg_type_sound.Blocks.{eval_with}
 use Rattle.ygg_direct.specs.ygg_meaning.Environments.{Name}
 use Rattle.ygg_direct.specs.ygg_meaning.Meaning.{Functions}
 use Rattle.ygg_direct.specs.ygg_meaning.Progress.{values_of}

@@ -9,7 +9,7 @@ use Rattle.std.specs.Prelude.{Option}
 use Rattle.ygg_syntax.specs.declared.grammar.BlockKind.TheVariants.{Spec}
 use Rattle.ygg_syntax.specs.declared.tree.Declared.{Declared}
 use Rattle.ygg_syntax.specs.declared.tree.Block.{Block}
-use Rattle.ygg_sym_runs.specs.ygg_symbols.Names.{Named}
+use Rattle.ygg_sym_runs.specs.ygg_type_rules.Names.{Named}
 use Rattle.ygg_sym_runs.specs.ygg_type_rules.declared.scope.Signature.{Signature}
 use Rattle.ygg_sym_runs.specs.ygg_type_rules.TypeErrors.{none}
 use Rattle.ygg_sym_runs.specs.ygg_type_rules.Scopes.{Scope}
@@ -19,10 +19,10 @@ use Rattle.ygg_sym_runs.specs.ygg_meaning.Shapes.{shape_in, fits, values_fit, en
 use Rattle.ygg_sym_runs.specs.ygg_meaning.Progress.{answer_of}
 use Rattle.ygg_sym_runs.specs.ygg_meaning.Layer.{ClosedLayer}
 use Rattle.ygg_sym_runs.specs.ygg_type_sound.Agrees.{Agrees}
-use Rattle.ygg_sym_runs.specs.ygg_type_progress.Kinds.{keeps}
-use Rattle.ygg_sym_runs.specs.ygg_type_progress.Questions.{plain, Follows}
-use Rattle.ygg_sym_runs.specs.ygg_type_progress.Blocks.{eval_with, is_returned}
-use Rattle.ygg_sym_runs.specs.ygg_type_progress_proofs_Following.{follows_front, fits_after}
+use Rattle.ygg_sym_runs.specs.ygg_type_sound.Kinds.{keeps}
+use Rattle.ygg_sym_runs.specs.ygg_type_sound.Questions.{plain, Follows}
+use Rattle.ygg_sym_runs.specs.ygg_type_sound.Blocks.{eval_with, is_returned}
+use Rattle.ygg_sym_runs.specs.ygg_type_sound_proofs_Following.{follows_front, fits_after}
 use Rattle.ygg_sym_runs.specs.ygg_rules.declared.rule.RuleKind.{RuleKind}
 use Rattle.ygg_sym_runs.specs.ygg_bank_proofs_Meaning.{fits_fewer}
 use Rattle.ygg_sym_runs.specs.ygg_bank.Makes.{Make}

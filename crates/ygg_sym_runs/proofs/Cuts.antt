@@ -17,7 +17,7 @@ use Rattle.ygg_sym_runs.specs.ygg_meaning.Progress as progress
 use Rattle.ygg_sym_runs.specs.ygg_meaning.Machine.{State, based}
 use Rattle.ygg_sym_runs.specs.ygg_meaning.DiskMachine.{tables_in}
 use Rattle.ygg_sym_runs.specs.ygg_meaning.Stack.{tables_of_kind, tables_of}
-use Rattle.ygg_sym_runs.specs.ygg_type_progress.Questions.{question_fits}
+use Rattle.ygg_sym_runs.specs.ygg_type_sound.Questions.{question_fits}
 use Rattle.ygg_sym_runs.specs.ygg_rules.declared.rule.RuleKind.{RuleKind}
 use Rattle.ygg_sym_runs.specs.ygg_bank_proofs_Made.{made_grows}
 use Rattle.ygg_sym_runs.specs.ygg_bank_proofs_Meaning.{fits_fewer}

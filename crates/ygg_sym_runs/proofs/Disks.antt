@@ -15,7 +15,7 @@ use Rattle.ygg_value.specs.declared.shape.Shape.{Shape}
 use Rattle.ygg_value.specs.declared.shape.Shape.TheVariants as shape
 use Rattle.ygg_syntax.specs.declared.grammar.BlockKind.TheVariants.{Impl}
 use Rattle.ygg_syntax.specs.declared.tree.DiskText.{DiskText}
-use Rattle.ygg_sym_runs.specs.ygg_symbols.Names.{Named, look_up}
+use Rattle.ygg_sym_runs.specs.ygg_type_rules.Names.{Named, look_up}
 use Rattle.ygg_sym_runs.specs.ygg_type_rules.declared.scope.Signature.{Signature}
 use Rattle.ygg_sym_runs.specs.ygg_type_rules.TypeErrors.{none}
 use Rattle.ygg_sym_runs.specs.ygg_type_rules.Shapes.{is_word}
@@ -32,9 +32,9 @@ use Rattle.ygg_sym_runs.specs.ygg_meaning.Stack.{tables_of_kind, tables_of}
 use Rattle.ygg_sym_runs.specs.ygg_type_sound.Fitting.{fits_wanted, all_fit}
 use Rattle.ygg_sym_runs.specs.ygg_type_sound_proofs_Tests.{left as first_of, right as second_of, bytes_same, bytes_equal}
 use Rattle.ygg_sym_runs.specs.ygg_type_sound_proofs_Fits.{fits_has}
-use Rattle.ygg_sym_runs.specs.ygg_type_progress.Questions.{answer_fits, question_fits}
-use Rattle.ygg_sym_runs.specs.ygg_type_progress.Machines.{IsSized}
-use Rattle.ygg_sym_runs.specs.ygg_type_progress_proofs_Disks.{disk_row_is}
+use Rattle.ygg_sym_runs.specs.ygg_type_sound.Questions.{answer_fits, question_fits}
+use Rattle.ygg_sym_runs.specs.ygg_type_sound.Machines.{IsSized}
+use Rattle.ygg_sym_runs.specs.ygg_type_sound_proofs_Disks.{disk_row_is}
 use Rattle.ygg_sym_runs.specs.ygg_rules.declared.rule.RuleKind.{RuleKind}
 use Rattle.ygg_sym_runs.specs.ygg_bank_proofs_Made.{made_grows, added_there}
 use Rattle.ygg_sym_runs.specs.ygg_bank_proofs_Meaning.{fits_fewer}

@@ -4,7 +4,7 @@ use Rattle.std.proofs.lemmas.List.{map-append}
 use Rattle.std.proofs.lemmas.List.Elements.{All-head, All-tail, All-cons, All-nil, All-append}
 use Rattle.ygg_value.specs.declared.row.Value.{Value}
 use Rattle.ygg_direct.specs.ygg_meaning.Environments.{Name, Env}
-use Rattle.ygg_direct.specs.ygg_type_progress.Questions.{Follows}
+use Rattle.ygg_direct.specs.ygg_type_sound.Questions.{Follows}
 use Rattle.ygg_sym_expr.specs.ygg_bank.Values.{Inputs, Values}
 use Rattle.ygg_sym_expr.specs.ygg_bank.declared.node.Node.{Node}
 use Rattle.ygg_sym_expr.specs.ygg_shape_cells.Terms.{worth}

@@ -3,7 +3,7 @@ pub use Rattle.ygg_direct.proofs as of_ygg_direct
 pub use Rattle.ygg_direct.proofs.of_ygg_meaning
 pub use Rattle.ygg_sym_expr.proofs.of_ygg_shape
 pub use Rattle.ygg_sym_expr.proofs as of_ygg_sym_expr
-pub use Rattle.ygg_direct.proofs.of_ygg_type_progress
+pub use Rattle.ygg_direct.proofs.of_ygg_type_sound
 pub mod Worths
 pub mod Below
 pub mod Putting

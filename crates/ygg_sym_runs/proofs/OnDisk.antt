@@ -19,10 +19,10 @@ use Rattle.ygg_sym_runs.specs.ygg_meaning.Machine.{State, on, based}
 use Rattle.ygg_sym_runs.specs.ygg_meaning.DiskMachine.{DiskMachine}
 use Rattle.ygg_sym_runs.specs.ygg_meaning.Stack.{tables_of}
 use Rattle.ygg_sym_runs.specs.ygg_type_sound.Agrees.{Agrees}
-use Rattle.ygg_sym_runs.specs.ygg_type_progress.Questions.{plain, Follows}
-use Rattle.ygg_sym_runs.specs.ygg_type_progress.Blocks.{eval_with, is_returned}
-use Rattle.ygg_sym_runs.specs.ygg_type_progress.Machines.{IsSized}
-use Rattle.ygg_sym_runs.specs.ygg_type_progress_proofs_Following.{follows_front, fits_after}
+use Rattle.ygg_sym_runs.specs.ygg_type_sound.Questions.{plain, Follows}
+use Rattle.ygg_sym_runs.specs.ygg_type_sound.Blocks.{eval_with, is_returned}
+use Rattle.ygg_sym_runs.specs.ygg_type_sound.Machines.{IsSized}
+use Rattle.ygg_sym_runs.specs.ygg_type_sound_proofs_Following.{follows_front, fits_after}
 use Rattle.ygg_sym_runs.specs.ygg_rules.declared.rule.RuleKind.{RuleKind}
 use Rattle.ygg_sym_runs.specs.ygg_bank_proofs_Exist.{values_fit}
 use Rattle.ygg_sym_runs.specs.ygg_bank_proofs_Meaning.{fits_fewer}

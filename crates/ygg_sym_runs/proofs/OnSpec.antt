@@ -9,9 +9,9 @@ use Rattle.ygg_sym_runs.specs.ygg_meaning.Progress.{Answer, answer_of}
 use Rattle.ygg_sym_runs.specs.ygg_meaning.Machine.{State, on, based}
 use Rattle.ygg_sym_runs.specs.ygg_meaning.Spec.{Spec}
 use Rattle.ygg_sym_runs.specs.ygg_type_sound.Agrees.{Agrees}
-use Rattle.ygg_sym_runs.specs.ygg_type_progress.Questions.{plain}
-use Rattle.ygg_sym_runs.specs.ygg_type_progress.Blocks.{eval_with}
-use Rattle.ygg_sym_runs.specs.ygg_type_progress.Machines.{IsStateOf}
+use Rattle.ygg_sym_runs.specs.ygg_type_sound.Questions.{plain}
+use Rattle.ygg_sym_runs.specs.ygg_type_sound.Blocks.{eval_with}
+use Rattle.ygg_sym_runs.specs.ygg_type_sound.Machines.{IsStateOf}
 use Rattle.ygg_sym_runs.specs.ygg_bank_proofs_Exist.{values_fit}
 use Rattle.ygg_sym_runs.specs.ygg_bank_proofs_Meaning.{fits_fewer}
 use Rattle.ygg_sym_runs.specs.ygg_bank.Values.{value_of}

@@ -11,7 +11,7 @@ use Rattle.ygg_syntax.specs.declared.grammar.BlockKind.{BlockKind}
 use Rattle.ygg_syntax.specs.declared.tree.Expr.{Expr}
 use Rattle.ygg_syntax.specs.declared.tree.Source.{Source}
 use Rattle.ygg_syntax.specs.declared.tree.Source.TheVariants as source
-use Rattle.ygg_direct.specs.ygg_symbols.Names.{Named, look_up}
+use Rattle.ygg_direct.specs.ygg_type_rules.Names.{Named, look_up}
 use Rattle.ygg_direct.specs.ygg_type_rules.declared.scope.Signature.{Signature}
 use Rattle.ygg_direct.specs.ygg_type_rules.TypeErrors.{none}
 use Rattle.ygg_direct.specs.ygg_type_rules.Scopes.{Scope}
@@ -26,10 +26,10 @@ use Rattle.ygg_direct.specs.ygg_type_sound.Agrees.{Agrees}
 use Rattle.ygg_direct.specs.ygg_type_sound_proofs_Tests.{left as first_of, right as second_of}
 use Rattle.ygg_direct.specs.ygg_type_sound_proofs_Fits.{fits_has}
 use Rattle.ygg_direct.specs.ygg_type_sound_proofs_Sounds.{sound}
-use Rattle.ygg_direct.specs.ygg_type_progress.Kinds.{source_keeps}
-use Rattle.ygg_direct.specs.ygg_type_progress.Questions.{plain, answer_has, question_fits}
-use Rattle.ygg_direct.specs.ygg_type_progress.Blocks.{eval_with}
-use Rattle.ygg_direct.specs.ygg_type_progress_proofs_TypeErrors.{called}
+use Rattle.ygg_direct.specs.ygg_type_sound.Kinds.{source_keeps}
+use Rattle.ygg_direct.specs.ygg_type_sound.Questions.{plain, answer_has, question_fits}
+use Rattle.ygg_direct.specs.ygg_type_sound.Blocks.{eval_with}
+use Rattle.ygg_direct.specs.ygg_type_sound_proofs_TypeErrors.{called}
 use Rattle.ygg_sym_expr.specs.ygg_rules.declared.rule.RuleKind.{RuleKind}
 use Rattle.ygg_sym_expr.specs.ygg_bank_proofs_Meaning.{fits_fewer}
 use Rattle.ygg_sym_expr.specs.ygg_bank_proofs_Widths.{extends_self, extends_both}
@@ -48,7 +48,7 @@ use Rattle.ygg_sym_expr.proofs.Parts.{AllWorth}
 use Rattle.ygg_sym_expr.proofs.Values.{FunctionsMean, value_means}
 use Rattle.ygg_sym_runs.specs.Runs.{Choice, Call, SymGot, SymMachine, plain_scope, sym_answer, sym_change, sym_values, sym_asks, sym_source}
 use Rattle.ygg_sym_runs.specs.Meaning.{Low, answer_worth, question_worth, AnswerShaped, IsHandled, MachineMeans}
-use Rattle.ygg_direct.specs.ygg_type_progress_proofs_Sounds.{call_fits}
+use Rattle.ygg_direct.specs.ygg_type_sound_proofs_ProgressSounds.{call_fits}
 use Rattle.ygg_sym_runs.proofs.Typed.{all_have, call_has}
 use Rattle.ygg_sym_expr.specs.ygg_bank.Nodes.{Extends}
 use Rattle.ygg_sym_runs.proofs.Below.{change_keeps}

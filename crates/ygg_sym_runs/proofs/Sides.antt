@@ -21,10 +21,10 @@ use Rattle.ygg_direct.specs.ygg_type_rules.Statements.{node_walked, walked, bloc
 use Rattle.ygg_direct.specs.ygg_type_sound_proofs_Tests.{left as first_of, right as second_of}
 use Rattle.ygg_direct.specs.ygg_type_sound_proofs_Fits.{word_wide}
 use Rattle.ygg_direct.specs.ygg_type_sound_proofs_Rules.{wanted_has}
-use Rattle.ygg_direct.specs.ygg_type_progress.Blocks.{eval_with}
-use Rattle.ygg_direct.specs.ygg_type_progress.Kinds.{keeps, node_keeps, stmt_keeps}
-use Rattle.ygg_direct.specs.ygg_type_progress.Questions.{plain, Follows}
-use Rattle.ygg_direct.specs.ygg_type_progress_proofs_Fits.{one_shape}
+use Rattle.ygg_direct.specs.ygg_type_sound.Blocks.{eval_with}
+use Rattle.ygg_direct.specs.ygg_type_sound.Kinds.{keeps, node_keeps, stmt_keeps}
+use Rattle.ygg_direct.specs.ygg_type_sound.Questions.{plain, Follows}
+use Rattle.ygg_direct.specs.ygg_type_sound_proofs_ProgressFits.{one_shape}
 use Rattle.ygg_direct.specs.ygg_meaning.Environments.{Name, Env}
 use Rattle.ygg_sym_expr.specs.ygg_rules.declared.rule.RuleKind.{RuleKind}
 use Rattle.ygg_sym_expr.specs.ygg_bank_proofs_Meaning.{fits_fewer}

@@ -2,7 +2,7 @@
 use Rattle.std.proofs.Common.{◌≡◌, ◌≤◌, ◌+◌, ◌*◌, ℕ, Bool, true, false, [], ◌++◌, take, length, Some, refl, sym, ap, ◌∙◌, subst, arith}
 use Rattle.std.proofs.lemmas.List.{append-nil, length-append}
 use Rattle.ygg_syntax.specs.declared.tree.Block.{Block}
-use Rattle.ygg_sym_runs.specs.ygg_symbols.Names.{Named}
+use Rattle.ygg_sym_runs.specs.ygg_type_rules.Names.{Named}
 use Rattle.ygg_sym_runs.specs.ygg_type_rules.declared.scope.Signature.{Signature}
 use Rattle.ygg_sym_runs.specs.ygg_meaning.Environments.{Env}
 use Rattle.ygg_sym_runs.specs.ygg_meaning.Shapes.{env_fits}
@@ -11,7 +11,7 @@ use Rattle.ygg_sym_runs.specs.ygg_meaning.Machine.{Picks, State, on, based}
 use Rattle.ygg_sym_runs.specs.ygg_meaning.Layer.{ClosedLayer, eval_of, BlockRuns, BlockFalls}
 use Rattle.ygg_sym_runs.specs.ygg_meaning.Obligations.{Halt}
 use Rattle.ygg_sym_runs.specs.ygg_meaning.Spec.{Spec}
-use Rattle.ygg_sym_runs.specs.ygg_type_progress.Machines.{IsStateOf, SpecAnswers}
+use Rattle.ygg_sym_runs.specs.ygg_type_sound.Machines.{IsStateOf, SpecAnswers}
 use Rattle.ygg_sym_runs.specs.ygg_direct.Direct.{Reached, Within, direct_run, question_space, room_of}
 use Rattle.ygg_sym_runs.specs.ygg_direct.Acts.{Taken, Did, Acts, noted_picks, runs, falls_in}
 use Rattle.ygg_sym_runs.specs.ygg_direct.Places.{by_place, calling}

@@ -6,7 +6,7 @@ use Rattle.ygg_value.specs.declared.row.Value.{Value}
 use Rattle.ygg_syntax.specs.declared.grammar.BlockKind.TheVariants.{Impl}
 use Rattle.ygg_syntax.specs.declared.tree.Declared.{Declared}
 use Rattle.ygg_syntax.specs.declared.tree.Operation.{Operation}
-use Rattle.ygg_sym_runs.specs.ygg_symbols.Names.{Named, look_up}
+use Rattle.ygg_sym_runs.specs.ygg_type_rules.Names.{Named, look_up}
 use Rattle.ygg_sym_runs.specs.ygg_type_rules.declared.scope.Signature.{Signature}
 use Rattle.ygg_sym_runs.specs.ygg_type_rules.Layers.{operation_signature}
 use Rattle.ygg_sym_runs.specs.ygg_meaning.Environments.{Name, Env, bind}
@@ -17,7 +17,7 @@ use Rattle.ygg_sym_runs.specs.ygg_meaning.Machine.{State, based}
 use Rattle.ygg_sym_runs.specs.ygg_meaning.Layer.{ClosedLayer, operation_of}
 use Rattle.ygg_sym_runs.specs.ygg_type_sound.Fitting.{all_fit}
 use Rattle.ygg_sym_runs.specs.ygg_type_sound_proofs_Tests.{left as first_of, right as second_of, bytes_equal}
-use Rattle.ygg_sym_runs.specs.ygg_type_progress.Questions.{question_fits}
+use Rattle.ygg_sym_runs.specs.ygg_type_sound.Questions.{question_fits}
 use Rattle.ygg_sym_runs.specs.ygg_rules.declared.rule.RuleKind.{RuleKind}
 use Rattle.ygg_sym_runs.specs.ygg_bank_proofs_Widths.{extends_self}
 use Rattle.ygg_sym_runs.specs.ygg_bank.Makes.{Make}

@@ -8,15 +8,15 @@ use Rattle.ygg_value.specs.declared.row.Value.TheVariants as value
 use Rattle.ygg_value.specs.declared.shape.Shape.TheVariants as shape
 use Rattle.ygg_syntax.specs.declared.grammar.BlockKind.TheVariants.{Spec}
 use Rattle.ygg_syntax.specs.declared.tree.Declared.{Declared}
-use Rattle.ygg_sym_runs.specs.ygg_symbols.Names.{Named}
+use Rattle.ygg_sym_runs.specs.ygg_type_rules.Names.{Named}
 use Rattle.ygg_sym_runs.specs.ygg_type_rules.declared.scope.Signature.{Signature}
 use Rattle.ygg_sym_runs.specs.ygg_meaning.Environments.{Name, bind}
 use Rattle.ygg_sym_runs.specs.ygg_meaning.Shapes.{shape_in, fits, env_fits}
 use Rattle.ygg_sym_runs.specs.ygg_meaning.Progress.{Question}
 use Rattle.ygg_sym_runs.specs.ygg_type_sound_proofs_Tests.{left as first_of, right as second_of, bytes_same}
 use Rattle.ygg_sym_runs.specs.ygg_type_sound_proofs_Fits.{has_fits, digit_has}
-use Rattle.ygg_sym_runs.specs.ygg_type_progress.Questions.{question_fits}
-use Rattle.ygg_sym_runs.specs.ygg_type_progress_proofs_Fits.{one_shape}
+use Rattle.ygg_sym_runs.specs.ygg_type_sound.Questions.{question_fits}
+use Rattle.ygg_sym_runs.specs.ygg_type_sound_proofs_ProgressFits.{one_shape}
 use Rattle.ygg_sym_runs.specs.ygg_rules.declared.rule.RuleKind.{RuleKind}
 use Rattle.ygg_sym_runs.specs.ygg_bank_proofs_Widths.{extends_self}
 use Rattle.ygg_sym_runs.specs.ygg_bank.Makes.{Make}

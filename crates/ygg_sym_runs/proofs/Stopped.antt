@@ -12,15 +12,15 @@ use Rattle.ygg_sym_runs.specs.ygg_direct.RunPlaces.{base_at, asked_in}
 use Rattle.ygg_sym_runs.specs.ygg_direct_proofs_Order.{block_follows}
 use Rattle.ygg_sym_runs.specs.ygg_direct_proofs_Mirror.{block_mirrors}
 use Rattle.ygg_syntax.specs.declared.grammar.BlockKind.{BlockKind}
-use Rattle.ygg_sym_runs.specs.ygg_symbols.Names.{Named}
+use Rattle.ygg_sym_runs.specs.ygg_type_rules.Names.{Named}
 use Rattle.ygg_sym_runs.specs.ygg_type_rules.declared.scope.Signature.{Signature}
 use Rattle.ygg_sym_runs.specs.ygg_type_rules.TypeErrors.{none}
 use Rattle.ygg_sym_runs.specs.ygg_type_rules.Scopes.{Scope}
 use Rattle.ygg_sym_runs.specs.ygg_type_rules.Statements.{walked}
 use Rattle.ygg_sym_runs.specs.ygg_type_rules.Statements as rules
 use Rattle.ygg_sym_runs.specs.ygg_meaning.Meaning.{Functions}
-use Rattle.ygg_sym_runs.specs.ygg_type_progress.Blocks.{eval_with}
-use Rattle.ygg_sym_runs.specs.ygg_type_progress.Kinds.{keeps}
+use Rattle.ygg_sym_runs.specs.ygg_type_sound.Blocks.{eval_with}
+use Rattle.ygg_sym_runs.specs.ygg_type_sound.Kinds.{keeps}
 use Rattle.ygg_sym_runs.specs.ygg_rules.declared.rule.RuleKind.{RuleKind}
 use Rattle.ygg_sym_runs.specs.ygg_sym_expr.Names.{SymEnv}
 use Rattle.ygg_sym_runs.specs.ygg_sym_expr.Exprs.{SymFunctions}

@@ -18,9 +18,9 @@ use Rattle.ygg_direct.specs.ygg_type_sound.Agrees.{Agrees}
 use Rattle.ygg_direct.specs.ygg_type_sound_proofs_Tests.{left as first_of, right as second_of}
 use Rattle.ygg_direct.specs.ygg_type_sound_proofs_Rules.{NumberParts, number_parts}
 use Rattle.ygg_direct.specs.ygg_type_sound_proofs_Steps.{agrees_with_number}
-use Rattle.ygg_direct.specs.ygg_type_progress.Questions.{plain, Follows}
-use Rattle.ygg_direct.specs.ygg_type_progress_proofs_Asking.{local_lower}
-use Rattle.ygg_direct.specs.ygg_type_progress_proofs_Following.{follows_front, agrees_after}
+use Rattle.ygg_direct.specs.ygg_type_sound.Questions.{plain, Follows}
+use Rattle.ygg_direct.specs.ygg_type_sound_proofs_Asking.{local_lower}
+use Rattle.ygg_direct.specs.ygg_type_sound_proofs_Following.{follows_front, agrees_after}
 use Rattle.ygg_direct.specs.ygg_meaning.Environments.{Name, Env}
 use Rattle.ygg_direct.specs.ygg_meaning.Meaning.{functions_of}
 use Rattle.ygg_sym_expr.specs.ygg_rules.declared.rule.RuleKind.{RuleKind}

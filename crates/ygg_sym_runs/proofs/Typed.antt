@@ -10,7 +10,7 @@ use Rattle.ygg_syntax.specs.declared.tree.Place.{Place}
 use Rattle.ygg_syntax.specs.declared.tree.Name.{Name}
 use Rattle.ygg_syntax.specs.declared.tree.Index.{Index}
 use Rattle.ygg_syntax.specs.declared.tree.Expr.{Expr}
-use Rattle.ygg_direct.specs.ygg_symbols.Names.{Named, look_up}
+use Rattle.ygg_direct.specs.ygg_type_rules.Names.{Named, look_up}
 use Rattle.ygg_direct.specs.ygg_type_rules.declared.scope.TypedExpr.{TypedExpr}
 use Rattle.ygg_direct.specs.ygg_type_rules.declared.scope.Signature.{Signature}
 use Rattle.ygg_direct.specs.ygg_type_rules.TypeErrors.{none, both, unless}
@@ -29,10 +29,10 @@ use Rattle.ygg_direct.specs.ygg_type_sound_proofs_Fits.{fits_has}
 use Rattle.ygg_direct.specs.ygg_type_sound_proofs_Rules.{word_without_errors}
 use Rattle.ygg_direct.specs.ygg_type_sound_proofs_Lists.{have_shapes}
 use Rattle.ygg_direct.specs.ygg_type_sound_proofs_Sounds.{sound}
-use Rattle.ygg_direct.specs.ygg_type_progress.Questions.{plain, answer_has, gives, answer_fits}
-use Rattle.ygg_direct.specs.ygg_type_progress.Blocks.{eval_with}
-use Rattle.ygg_direct.specs.ygg_type_progress_proofs_Sounds.{ExpressionsHave, arguments_have}
-use Rattle.ygg_direct.specs.ygg_type_progress_proofs_TypeErrors.{Called, called}
+use Rattle.ygg_direct.specs.ygg_type_sound.Questions.{plain, answer_has, gives, answer_fits}
+use Rattle.ygg_direct.specs.ygg_type_sound.Blocks.{eval_with}
+use Rattle.ygg_direct.specs.ygg_type_sound_proofs_ProgressSounds.{ExpressionsHave, arguments_have}
+use Rattle.ygg_direct.specs.ygg_type_sound_proofs_TypeErrors.{Called, called}
 use Rattle.ygg_base.specs.declared.reason.Reason.TheVariants as reason
 use Rattle.ygg_sym_runs.specs.Runs.{places_of}
 use Rattle.ygg_sym_runs.specs.Putting.{led_to}

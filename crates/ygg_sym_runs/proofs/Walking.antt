@@ -10,7 +10,7 @@ use Rattle.ygg_syntax.specs.declared.tree.Name as tree_name
 use Rattle.ygg_syntax.specs.declared.tree.Place.{Place}
 use Rattle.ygg_syntax.specs.declared.tree.Source.TheVariants as source
 use Rattle.ygg_syntax.specs.declared.tree.Stmt.{Stmt}
-use Rattle.ygg_direct.specs.ygg_symbols.Names.{Named}
+use Rattle.ygg_direct.specs.ygg_type_rules.Names.{Named}
 use Rattle.ygg_direct.specs.ygg_type_rules.declared.scope.Signature.{Signature}
 use Rattle.ygg_direct.specs.ygg_type_rules.TypeErrors.{TypeErrors, none}
 use Rattle.ygg_direct.specs.ygg_type_rules.Scopes.{Scope}
@@ -24,12 +24,12 @@ use Rattle.ygg_direct.specs.ygg_meaning.Progress.{values_of}
 use Rattle.ygg_direct.specs.ygg_meaning.Progress as progress
 use Rattle.ygg_direct.specs.ygg_type_sound.Agrees.{Agrees}
 use Rattle.ygg_direct.specs.ygg_type_sound_proofs_Tests.{left as first_of, right as second_of}
-use Rattle.ygg_direct.specs.ygg_type_progress.Blocks.{eval_with}
-use Rattle.ygg_direct.specs.ygg_type_progress.Kinds.{all_keep, stmt_keeps}
-use Rattle.ygg_direct.specs.ygg_type_progress.Questions.{plain, question_fits, Follows}
+use Rattle.ygg_direct.specs.ygg_type_sound.Blocks.{eval_with}
+use Rattle.ygg_direct.specs.ygg_type_sound.Kinds.{all_keep, stmt_keeps}
+use Rattle.ygg_direct.specs.ygg_type_sound.Questions.{plain, question_fits, Follows}
 use Rattle.ygg_direct.specs.Direct.{forgets, in_order, direct_of}
-use Rattle.ygg_direct.specs.ygg_type_progress_proofs_Sounds.{call_fits}
-use Rattle.ygg_direct.specs.ygg_type_progress_proofs_TypeErrors.{called}
+use Rattle.ygg_direct.specs.ygg_type_sound_proofs_ProgressSounds.{call_fits}
+use Rattle.ygg_direct.specs.ygg_type_sound_proofs_TypeErrors.{called}
 use Rattle.ygg_sym_expr.specs.ygg_rules.declared.rule.RuleKind.{RuleKind}
 use Rattle.ygg_sym_expr.specs.ygg_bank_proofs_Meaning.{fits_fewer}
 use Rattle.ygg_sym_expr.specs.ygg_bank.Nodes.{IsBank, Extends}

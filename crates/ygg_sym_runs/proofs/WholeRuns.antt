@@ -6,7 +6,7 @@ use Rattle.ygg_syntax.specs.declared.grammar.BlockKind.{BlockKind}
 use Rattle.ygg_syntax.specs.declared.tree.Expr.{Expr}
 use Rattle.ygg_syntax.specs.declared.tree.Stmt.{Stmt}
 use Rattle.ygg_syntax.specs.declared.tree.Block.{Block}
-use Rattle.ygg_sym_runs.specs.ygg_symbols.Names.{Named}
+use Rattle.ygg_sym_runs.specs.ygg_type_rules.Names.{Named}
 use Rattle.ygg_sym_runs.specs.ygg_type_rules.declared.scope.Signature.{Signature}
 use Rattle.ygg_sym_runs.specs.ygg_type_rules.TypeErrors.{none}
 use Rattle.ygg_sym_runs.specs.ygg_type_rules.Scopes.{Scope}
@@ -18,12 +18,12 @@ use Rattle.ygg_sym_runs.specs.ygg_meaning.Meaning.{Functions}
 use Rattle.ygg_sym_runs.specs.ygg_meaning.Progress.{Question, Answer, answer_of}
 use Rattle.ygg_sym_runs.specs.ygg_type_sound_proofs_Tests.{left as first_of, right as second_of}
 use Rattle.ygg_sym_runs.specs.ygg_type_sound.Agrees.{Agrees}
-use Rattle.ygg_sym_runs.specs.ygg_type_progress.Questions.{plain, Follows}
-use Rattle.ygg_sym_runs.specs.ygg_type_progress.Blocks.{eval_with, is_returned}
-use Rattle.ygg_sym_runs.specs.ygg_type_progress_proofs_Sounds.{returns_fit}
+use Rattle.ygg_sym_runs.specs.ygg_type_sound.Questions.{plain, Follows}
+use Rattle.ygg_sym_runs.specs.ygg_type_sound.Blocks.{eval_with, is_returned}
+use Rattle.ygg_sym_runs.specs.ygg_type_sound_proofs_ProgressSounds.{returns_fit}
 use Rattle.ygg_sym_runs.specs.ygg_type_sound_proofs_Sounds.{sound}
 use Rattle.ygg_sym_runs.proofs.Ends.{env_take}
-use Rattle.ygg_sym_runs.specs.ygg_type_progress.Kinds.{keeps}
+use Rattle.ygg_sym_runs.specs.ygg_type_sound.Kinds.{keeps}
 use Rattle.ygg_sym_runs.specs.ygg_rules.declared.rule.RuleKind.{RuleKind}
 use Rattle.ygg_sym_runs.specs.ygg_bank_proofs_Meaning.{fits_fewer}
 use Rattle.ygg_sym_runs.specs.ygg_bank_proofs_Widths.{extends_self, extends_both}

@@ -10,8 +10,8 @@ use Rattle.ygg_value.specs.declared.shape.Shape.TheVariants as shape
 use Rattle.ygg_direct.specs.ygg_meaning.Environments.{Name, Env}
 use Rattle.ygg_direct.specs.ygg_meaning.Shapes.{fits}
 use Rattle.ygg_direct.specs.ygg_type_sound_proofs_Fits.{value_fits}
-use Rattle.ygg_direct.specs.ygg_type_progress.Questions.{Follows}
-use Rattle.ygg_direct.specs.ygg_type_progress_proofs_Fits.{one_shape}
+use Rattle.ygg_direct.specs.ygg_type_sound.Questions.{Follows}
+use Rattle.ygg_direct.specs.ygg_type_sound_proofs_ProgressFits.{one_shape}
 use Rattle.ygg_sym_expr.specs.ygg_rules.declared.rule.RuleKind.{RuleKind}
 use Rattle.ygg_sym_expr.specs.ygg_bank_proofs_Meaning.{fits_fewer}
 use Rattle.ygg_sym_expr.specs.ygg_bank_proofs_Widths.{wider, extends_self, extends_both}

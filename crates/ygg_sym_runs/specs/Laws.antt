@@ -6,7 +6,7 @@ use Rattle.ygg_syntax.specs.declared.tree.Def.{Def}
 use Rattle.ygg_base.specs.declared.geometry.DiskKind.{DiskKind}
 use Rattle.ygg_syntax.specs.declared.tree.Block.{Block}
 use Rattle.ygg_syntax.specs.declared.tree.DiskText.{DiskText}
-use Rattle.ygg_sym_runs.specs.ygg_symbols.Names.{Named}
+use Rattle.ygg_sym_runs.specs.ygg_type_rules.Names.{Named}
 use Rattle.ygg_sym_runs.specs.ygg_type_rules.declared.scope.Signature.{Signature}
 use Rattle.ygg_sym_runs.specs.ygg_type_rules.TypeErrors.{none}
 use Rattle.ygg_sym_runs.specs.ygg_type_rules.Scopes.{Scope}
@@ -21,8 +21,8 @@ use Rattle.ygg_sym_runs.specs.ygg_meaning.Obligations.{Halt}
 use Rattle.ygg_sym_runs.specs.ygg_meaning.DiskMachine.{DiskMachine}
 use Rattle.ygg_sym_runs.specs.ygg_meaning.Stack.{tables_of}
 use Rattle.ygg_sym_runs.specs.ygg_type_sound.Agrees.{Agrees}
-use Rattle.ygg_sym_runs.specs.ygg_type_progress.Kinds.{keeps}
-use Rattle.ygg_sym_runs.specs.ygg_type_progress.Questions.{plain}
+use Rattle.ygg_sym_runs.specs.ygg_type_sound.Kinds.{keeps}
+use Rattle.ygg_sym_runs.specs.ygg_type_sound.Questions.{plain}
 use Rattle.ygg_sym_runs.specs.ygg_rules.declared.rule.RuleKind.{RuleKind}
 use Rattle.ygg_sym_runs.specs.ygg_bank.Inputs.{InputsBelow}
 use Rattle.ygg_sym_runs.specs.ygg_bank.Nodes.{IsBank}
@@ -34,7 +34,7 @@ use Rattle.ygg_sym_runs.specs.ygg_direct.Acts.{noted_picks}
 use Rattle.ygg_sym_runs.specs.ygg_direct.DiskActs.{disk_acts}
 use Rattle.ygg_sym_runs.specs.ygg_direct.Laws.{RunsOn, FallsOn, Sees}
 use Rattle.ygg_sym_runs.specs.ygg_direct.SpecActs.{spec_acts}
-use Rattle.ygg_sym_runs.specs.ygg_type_progress.Machines.{SpecAnswers}
+use Rattle.ygg_sym_runs.specs.ygg_type_sound.Machines.{SpecAnswers}
 use Rattle.ygg_syntax.specs.declared.tree.Operation.{Operation}
 use Rattle.ygg_sym_runs.specs.ygg_meaning.Spec.{Spec}
 use Rattle.ygg_sym_runs.specs.Specs.{SpecBlock, input_pick, sym_spec}

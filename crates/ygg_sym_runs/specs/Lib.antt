@@ -34,37 +34,35 @@ pub use Rattle.ygg_sym_expr.proofs.Keeps as ygg_sym_expr_proofs_Keeps
 pub use Rattle.ygg_sym_expr.proofs.Shaped as ygg_sym_expr_proofs_Shaped
 pub use Rattle.ygg_sym_expr.proofs.Values as ygg_sym_expr_proofs_Values
 pub use Rattle.ygg_sym_expr.specs as ygg_sym_expr
-pub use Rattle.ygg_direct.specs.ygg_symbols
-pub use Rattle.ygg_direct.specs.ygg_syntax_count
-pub use Rattle.ygg_direct.specs.ygg_type_progress_proofs_Disks
-pub use Rattle.ygg_direct.specs.ygg_type_progress_proofs_Files
-pub use Rattle.ygg_direct.specs.ygg_type_progress_proofs_Fits
-pub use Rattle.ygg_direct.specs.ygg_type_progress_proofs_Following
-pub use Rattle.ygg_direct.specs.ygg_type_progress_proofs_Operations
-pub use Rattle.ygg_direct.specs.ygg_type_progress_proofs_Sizes
-pub use Rattle.ygg_direct.specs.ygg_type_progress_proofs_Sounds
-pub use Rattle.ygg_direct.specs.ygg_type_progress_proofs_Specs
-pub use Rattle.ygg_direct.specs.ygg_type_progress_proofs_TypeErrors
-pub use Rattle.ygg_direct.specs.ygg_type_progress_proofs_Typed
-pub use Rattle.ygg_direct.specs.ygg_type_progress
 pub use Rattle.ygg_direct.specs.ygg_type_rules
+pub use Rattle.ygg_direct.specs.ygg_syntax_count
+pub use Rattle.ygg_direct.specs.ygg_type_sound_proofs_Disks
+pub use Rattle.ygg_direct.specs.ygg_type_sound_proofs_Files
+pub use Rattle.ygg_direct.specs.ygg_type_sound_proofs_ProgressFits
+pub use Rattle.ygg_direct.specs.ygg_type_sound_proofs_Following
+pub use Rattle.ygg_direct.specs.ygg_type_sound_proofs_Operations
+pub use Rattle.ygg_direct.specs.ygg_type_sound_proofs_Sizes
+pub use Rattle.ygg_direct.specs.ygg_type_sound_proofs_ProgressSounds
+pub use Rattle.ygg_direct.specs.ygg_type_sound_proofs_Specs
+pub use Rattle.ygg_direct.specs.ygg_type_sound_proofs_TypeErrors
+pub use Rattle.ygg_direct.specs.ygg_type_sound_proofs_Typed
+pub use Rattle.ygg_direct.specs.ygg_type_sound
 pub use Rattle.ygg_direct.specs.ygg_type_sound_proofs_Definitions
 pub use Rattle.ygg_direct.specs.ygg_type_sound_proofs_Fits
 pub use Rattle.ygg_direct.specs.ygg_type_sound_proofs_Parameters
 pub use Rattle.ygg_direct.specs.ygg_type_sound_proofs_Rules
 pub use Rattle.ygg_direct.specs.ygg_type_sound_proofs_Sounds
 pub use Rattle.ygg_direct.specs.ygg_type_sound_proofs_Tests
-pub use Rattle.ygg_direct.specs.ygg_type_sound
 pub mod Putting
 pub mod Runs
 pub mod Meaning
 pub mod Lower
 pub mod Ready
 pub mod Joining
-pub use Rattle.ygg_direct.specs.ygg_type_progress.Machines
-pub use Rattle.ygg_direct.specs.ygg_type_progress.Questions
-pub use Rattle.ygg_direct.specs.ygg_type_progress.Kinds
-pub use Rattle.ygg_direct.specs.ygg_type_progress.Blocks
+pub use Rattle.ygg_direct.specs.ygg_type_sound.Machines
+pub use Rattle.ygg_direct.specs.ygg_type_sound.Questions
+pub use Rattle.ygg_direct.specs.ygg_type_sound.Kinds
+pub use Rattle.ygg_direct.specs.ygg_type_sound.Blocks
 pub use Rattle.ygg_sym_expr.specs.Exprs
 pub use Rattle.ygg_sym_expr.specs.Meaning as SymExprMeaning
 pub use Rattle.ygg_sym_expr.specs.Names

@@ -1,7 +1,7 @@
 -- What is asked of a machine over terms, and what a run over terms is then worth.
 use Rattle.std.specs.Prelude.{◌≡◌, ◌==◌, ℕ, Bool, IsTrue, if◌then◌else◌, List, map, All, Option, Some, None}
 use Rattle.ygg_syntax.specs.declared.grammar.BlockKind.{BlockKind}
-use Rattle.ygg_direct.specs.ygg_symbols.Names.{Named}
+use Rattle.ygg_direct.specs.ygg_type_rules.Names.{Named}
 use Rattle.ygg_direct.specs.ygg_type_rules.declared.scope.Signature.{Signature}
 use Rattle.ygg_direct.specs.ygg_type_rules.Scopes.{Scope}
 use Rattle.ygg_direct.specs.ygg_meaning.Environments.{Env}
@@ -9,7 +9,7 @@ use Rattle.ygg_direct.specs.ygg_meaning.Meaning.{Functions}
 use Rattle.ygg_direct.specs.ygg_meaning.Progress.{Question, Answer}
 use Rattle.ygg_direct.specs.ygg_meaning.Progress as progress
 use Rattle.ygg_direct.specs.ygg_type_sound.Agrees.{Agrees}
-use Rattle.ygg_direct.specs.ygg_type_progress.Questions.{plain, answer_fits, question_fits, Follows}
+use Rattle.ygg_direct.specs.ygg_type_sound.Questions.{plain, answer_fits, question_fits, Follows}
 use Rattle.ygg_sym_expr.specs.ygg_bank.Nodes.{HasWidth, Extends}
 use Rattle.ygg_sym_expr.specs.ygg_bank.Values.{Inputs, Values}
 use Rattle.ygg_sym_expr.specs.ygg_bank.declared.node.Id.{Id}

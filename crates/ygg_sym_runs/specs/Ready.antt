@@ -21,8 +21,8 @@ use Rattle.ygg_direct.specs.ygg_type_rules.Definitions.{definitions_errors, with
 use Rattle.ygg_direct.specs.ygg_meaning.Environments.{Name}
 use Rattle.ygg_direct.specs.ygg_meaning.Meaning.{functions_of}
 use Rattle.ygg_direct.specs.ygg_type_sound.Agrees.{Agrees}
-use Rattle.ygg_direct.specs.ygg_type_progress.Kinds.{may_call, source_keeps, all_keep, node_keeps, stmt_keeps, keeps}
-use Rattle.ygg_direct.specs.ygg_type_progress.Questions.{plain}
+use Rattle.ygg_direct.specs.ygg_type_sound.Kinds.{may_call, source_keeps, all_keep, node_keeps, stmt_keeps, keeps}
+use Rattle.ygg_direct.specs.ygg_type_sound.Questions.{plain}
 use Rattle.ygg_sym_expr.specs.ygg_rules.declared.rule.RuleKind.{RuleKind}
 use Rattle.ygg_sym_expr.specs.ygg_bank.Makes.{Make, pure, and_make}
 use Rattle.ygg_sym_expr.specs.ygg_bank.Nodes as bank

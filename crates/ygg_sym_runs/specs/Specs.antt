@@ -5,7 +5,7 @@ use Rattle.ygg_syntax.specs.declared.tree.Operation.{Operation}
 use Rattle.ygg_value.specs.declared.row.Value.{Value}
 use Rattle.ygg_value.specs.declared.shape.Shape.{Shape}
 use Rattle.ygg_syntax.specs.declared.grammar.BlockKind.TheVariants.{Spec}
-use Rattle.ygg_sym_runs.specs.ygg_symbols.Names.{Named}
+use Rattle.ygg_sym_runs.specs.ygg_type_rules.Names.{Named}
 use Rattle.ygg_sym_runs.specs.ygg_type_rules.declared.scope.Signature.{Signature}
 use Rattle.ygg_sym_runs.specs.ygg_type_rules.TypeErrors.{none}
 use Rattle.ygg_sym_runs.specs.ygg_type_rules.Scopes.{Scope}
@@ -15,9 +15,9 @@ use Rattle.ygg_sym_runs.specs.ygg_meaning.Environments.{Env, bind}
 use Rattle.ygg_sym_runs.specs.ygg_meaning.Shapes.{values_fit, env_fits}
 use Rattle.ygg_sym_runs.specs.ygg_meaning.Progress.{Answer}
 use Rattle.ygg_sym_runs.specs.ygg_type_sound.Agrees.{Agrees}
-use Rattle.ygg_sym_runs.specs.ygg_type_progress.Blocks.{is_returned}
-use Rattle.ygg_sym_runs.specs.ygg_type_progress.Kinds.{keeps}
-use Rattle.ygg_sym_runs.specs.ygg_type_progress.Questions.{plain, gives}
+use Rattle.ygg_sym_runs.specs.ygg_type_sound.Blocks.{is_returned}
+use Rattle.ygg_sym_runs.specs.ygg_type_sound.Kinds.{keeps}
+use Rattle.ygg_sym_runs.specs.ygg_type_sound.Questions.{plain, gives}
 use Rattle.ygg_sym_runs.specs.ygg_meaning.Machine.{Picks}
 use Rattle.ygg_sym_runs.specs.ygg_meaning.Layer.{ClosedLayer, operation_of}
 use Rattle.ygg_sym_runs.specs.ygg_rules.declared.rule.RuleKind.{RuleKind}

@@ -7,7 +7,7 @@ use Rattle.ygg_sym_laws.specs.ygg_type_rules.Layers.{operation_signature}
 use Rattle.ygg_sym_laws.specs.ygg_meaning.Shapes.{shape_in, fits, values_fit}
 use Rattle.ygg_sym_laws.specs.ygg_type_sound.Fitting.{all_fit}
 use Rattle.ygg_sym_laws.specs.ygg_type_sound_proofs_Tests.{left as first_of, right as second_of}
-use Rattle.ygg_sym_laws.specs.ygg_type_progress_proofs_Fits.{one_shape}
+use Rattle.ygg_sym_laws.specs.ygg_type_sound_proofs_ProgressFits.{one_shape}
 use Rattle.ygg_sym_laws.specs.ygg_direct_proofs_DiskServes.{fitting_call}
 use Rattle.ygg_sym_laws.specs.ygg_rules.declared.rule.RuleKind.{RuleKind}
 use Rattle.ygg_sym_laws.specs.ygg_bank.Makes.{Out}

@@ -17,8 +17,7 @@ use crate::layer::SymLayer;
 use crate::picks::SymPicks;
 use std::alloc::Global;
 use ygg_list::Duplicate;
-use ygg_sym_laws::{Bank, Book, NoMemory, SymBinding, SymRunner, SymValue, SymValues, room};
-use ygg_sym_runs::whole;
+use ygg_sym_laws::{Bank, Book, NoMemory, SymBinding, SymRunner, SymValue, SymValues, room, whole};
 use ygg_syntax::tree::{Block, Declared};
 
 /// What a block of a specification leaves.

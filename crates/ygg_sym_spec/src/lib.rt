@@ -14,4 +14,8 @@ pub use falls::fall;
 pub use layer::SymLayer;
 pub use machine::SymSpec;
 pub use picks::SymPicks;
-pub use ygg_sym_disk::Lows;
+pub use ygg_sym_disk::{Awaited, Lows, SymDisk, cut, lose};
+pub use ygg_sym_laws::{
+    Bank, Book, Env, Given, Id, NoMemory, Node, SymBinding, SymEvaluator, SymLower, SymRunner,
+    SymValue, SymValues, equal, equal_all, id_in, inputs_of, room, whole, zero,
+};

@@ -1,3 +1,4 @@
 pub mod Budget
 pub mod Definitions
 pub mod Weights
+pub mod Table

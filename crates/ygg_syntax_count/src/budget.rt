@@ -5,7 +5,7 @@ ghost use Rattle.ygg_syntax_count.specs.Budget.{limit};
 pub const LIMIT: u64 = 1_000_000;
 
 /// What is left of a budget after so many times what one time takes, where one time leaves `after_one`.
-#[tactic(auto, using(crate::proofs::Budgets::taken_often))]
+#[tactic(auto, using(crate::proofs::Limits::taken_often))]
 pub fn repeated(left: u64, count: u64, after_one: u64) -> u64
     requires within { left ≤ limit }
     requires less { after_one ≤ left }

@@ -3,8 +3,7 @@
 
 use std::alloc::Global;
 use ygg_base::{Files, Held, Library, Numbers, Opened, Shelf, Text};
-use ygg_cert::{CertEnd, CertReader, Fed, Goal, Wanted, check_cert};
-use ygg_cert_open::check_open;
+use ygg_cert::{CertEnd, CertReader, Fed, Goal, Wanted, check_cert, check_open};
 use ygg_cnf::{Clause, Clauses, Lit};
 use ygg_list::NoMemory;
 

@@ -6,21 +6,21 @@ use Rattle.std.proofs.lemmas.Bool.{and_parts, and_from}
 use Rattle.std.proofs.lemmas.Bool.Decides.{nat_tests}
 use Rattle.std.proofs.lemmas.Option.{get_or_from_slice_get}
 use Rattle.ygg_syntax.specs.declared.tree.File.{File}
-use Rattle.ygg_dimacs_term.specs.ygg_rules.declared.rule.RuleKind.{RuleKind}
+use Rattle.ygg_dimacs.specs.ygg_rules.declared.rule.RuleKind.{RuleKind}
 use Rattle.ygg_sched.specs.ygg_meaning.Claims.{Claim, claims_of}
-use Rattle.ygg_dimacs_term.specs.ygg_bank.Nodes.{IsBank}
-use Rattle.ygg_dimacs_term.specs.ygg_bank.declared.node.Id.{Id}
-use Rattle.ygg_dimacs_term.specs.ygg_bank.declared.node.Node.{Node}
-use Rattle.ygg_dimacs_term.specs.ygg_gates.Groups.{translated}
-use Rattle.ygg_dimacs_term.specs.ygg_gates.Laws.{AreExact}
-use Rattle.ygg_dimacs_term.proofs.of_ygg_gates.Whole.{satisfiable_exactly}
-use Rattle.ygg_oblige_decided.specs.ygg_oblige_pieces.Terms.{file_made}
-use Rattle.ygg_oblige_decided.specs.ygg_oblige_pieces.Meaning.{claim_name, IsTermOf, AreTermsOf}
+use Rattle.ygg_dimacs.specs.ygg_bank.Nodes.{IsBank}
+use Rattle.ygg_dimacs.specs.ygg_bank.declared.node.Id.{Id}
+use Rattle.ygg_dimacs.specs.ygg_bank.declared.node.Node.{Node}
+use Rattle.ygg_dimacs.specs.ygg_gates.Groups.{translated}
+use Rattle.ygg_dimacs.specs.ygg_gates.Laws.{AreExact}
+use Rattle.ygg_dimacs.proofs.of_ygg_gates.Whole.{satisfiable_exactly}
+use Rattle.ygg_oblige_decided.specs.ygg_oblige_laws.Terms.{file_made}
+use Rattle.ygg_oblige_decided.specs.ygg_oblige_laws.Meaning.{claim_name, IsTermOf, AreTermsOf}
 use Rattle.ygg_oblige_decided.proofs.Deciding.{zero_is_violated}
 use Rattle.ygg_oblige_decided.proofs.Listed.{listed_zero}
 use Rattle.ygg_oblige.specs.declared.obligation.Obligation.{Obligation}
 use Rattle.ygg_oblige.specs.Obligations.{names_in, terms_in}
-use Rattle.ygg_dimacs_term.specs.Counted.{clauses_text}
+use Rattle.ygg_dimacs.specs.Counted.{clauses_text}
 use Rattle.ygg_top.specs.Printed.{AskFor, IsClausesOf, IsPlace}
 
 -- the clauses of an obligation's term ask for what violates it

@@ -2,10 +2,10 @@
 use Rattle.std.proofs.Common.{◌<◌, ℕ, List, Option, Some, inl, inr, refl}
 use Rattle.ygg_base.specs.declared.lists.Held.{Held}
 use Rattle.ygg_base.specs.declared.status.Status.{Status}
-use Rattle.ygg_dimacs_solve.specs.ygg_report.Putting.{IsCutOf}
-use Rattle.ygg_dimacs_solve.specs.ygg_solver.Answers.{IsNumbered}
-use Rattle.ygg_dimacs_solve.specs.ygg_dimacs.declared.cnf.Cnf.{Cnf}
-use Rattle.ygg_dimacs_solve.specs.Solved.{Solved}
+use Rattle.ygg_dimacs.specs.ygg_report.Putting.{IsCutOf}
+use Rattle.ygg_dimacs.specs.ygg_solver.Answers.{IsNumbered}
+use Rattle.ygg_dimacs.specs.declared.cnf.Cnf.{Cnf}
+use Rattle.ygg_dimacs.specs.Solved.{Solved}
 use Rattle.ygg_top_command.specs.declared.stopping.CommandStop.{CommandStop}
 use Rattle.ygg_top_command.specs.declared.stopping.CommandStop.TheVariants.{Refused, LibraryFailed, NoMemory}
 use Rattle.ygg_top_command.specs.Fetched.{IsUnread}

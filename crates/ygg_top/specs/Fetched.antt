@@ -1,7 +1,7 @@
 -- The clauses of which a text stands under a name.
 use Rattle.std.specs.Prelude.{ℕ, List, Option, Some}
 use Rattle.ygg_base.specs.declared.lists.Held.{Held}
-use Rattle.ygg_dimacs_solve.specs.ygg_dimacs.declared.cnf.Cnf.{Cnf}
+use Rattle.ygg_dimacs.specs.declared.cnf.Cnf.{Cnf}
 use Rattle.ygg_top_command.specs.declared.stopping.CommandStop.{CommandStop}
 use Rattle.ygg_top_command.specs.declared.stopping.CommandStop.TheVariants.{Refused, LibraryFailed, NoMemory}
 use Rattle.ygg_top_command.specs.Standing.{Stands}

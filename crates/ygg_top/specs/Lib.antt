@@ -1,7 +1,7 @@
 pub mod Words
 pub mod Ending
 pub mod Imaging
-pub use Rattle.ygg_dimacs_term.specs.ygg_rules
+pub use Rattle.ygg_dimacs.specs.ygg_rules
 pub mod Printed
 pub mod Asking
 pub mod Printing

@@ -3,17 +3,17 @@ use Rattle.std.specs.Prelude.{◌≡◌, ◌↔◌, ◌<◌, ℕ, Bool, List, []
 use Rattle.ygg_base.specs.declared.status.Status.{Status}
 use Rattle.ygg_base.specs.declared.status.Status.TheVariants.{Done}
 use Rattle.ygg_syntax.specs.declared.tree.File.{File}
-use Rattle.ygg_dimacs_term.specs.ygg_rules.declared.rule.RuleKind.{RuleKind}
+use Rattle.ygg_dimacs.specs.ygg_rules.declared.rule.RuleKind.{RuleKind}
 use Rattle.ygg_sched.specs.ygg_meaning.Obligations.{Schedule}
 use Rattle.ygg_sched.specs.ygg_meaning.Claims.{Claim, ClaimViolated, claims_of}
-use Rattle.ygg_dimacs_term.specs.ygg_bank.declared.node.Id.{Id}
-use Rattle.ygg_dimacs_term.specs.ygg_cnf.declared.lit.Lit.{Lit}
-use Rattle.ygg_dimacs_term.specs.ygg_cnf.Literals.{SatisfiesAll}
-use Rattle.ygg_dimacs_term.specs.ygg_gates.Groups.{translated}
+use Rattle.ygg_dimacs.specs.ygg_bank.declared.node.Id.{Id}
+use Rattle.ygg_dimacs.specs.ygg_cnf.declared.lit.Lit.{Lit}
+use Rattle.ygg_dimacs.specs.ygg_cnf.Literals.{SatisfiesAll}
+use Rattle.ygg_dimacs.specs.ygg_gates.Groups.{translated}
 use Rattle.ygg_oblige.specs.declared.obligation.Obligation.{Obligation}
-use Rattle.ygg_oblige_decided.specs.ygg_oblige_pieces.Terms.{file_made}
-use Rattle.ygg_oblige_decided.specs.ygg_oblige_pieces.Meaning.{claim_name}
-use Rattle.ygg_dimacs_term.specs.Counted.{clauses_text}
+use Rattle.ygg_oblige_decided.specs.ygg_oblige_laws.Terms.{file_made}
+use Rattle.ygg_oblige_decided.specs.ygg_oblige_laws.Meaning.{claim_name}
+use Rattle.ygg_dimacs.specs.Counted.{clauses_text}
 
 -- some truth values satisfy the clauses exactly where some schedule violates the obligation
 abbrev pub AskFor : List (List Lit) → Claim → Type 0

@@ -2,11 +2,11 @@
 use Rattle.std.specs.Prelude.{◌≡◌, ◌⊎◌, ℕ, ◌<◌, ◌≤◌, List, length, Option, Some, None, Ok, Err}
 use Rattle.ygg_base.specs.declared.failure.Refusal.{Refusal}
 use Rattle.ygg_base.specs.declared.status.Status.{Status}
-use Rattle.ygg_dimacs_solve.specs.ygg_report.Putting.{IsCutOf}
-use Rattle.ygg_dimacs_solve.specs.ygg_solver.Answers.{IsNumbered}
-use Rattle.ygg_dimacs_solve.specs.ygg_dimacs.declared.cnf.Cnf.{Cnf}
-use Rattle.ygg_dimacs_solve.specs.ygg_dimacs.Reading.{cnf_of}
-use Rattle.ygg_dimacs_solve.specs.Solved.{Solved}
+use Rattle.ygg_dimacs.specs.ygg_report.Putting.{IsCutOf}
+use Rattle.ygg_dimacs.specs.ygg_solver.Answers.{IsNumbered}
+use Rattle.ygg_dimacs.specs.declared.cnf.Cnf.{Cnf}
+use Rattle.ygg_dimacs.specs.Reading.{cnf_of}
+use Rattle.ygg_dimacs.specs.Solved.{Solved}
 use Rattle.ygg_top_command.specs.Refusing.{RefusesUnread}
 use Rattle.ygg_top_command.specs.Standing.{IsRefused}
 

@@ -9,7 +9,7 @@ use crate::naming::is_obligation;
 use crate::printing::put_obligation;
 use std::alloc::Global;
 use ygg_base::{Library, Reason, Sink, Status, Text};
-use ygg_dimacs_term::Book;
+use ygg_dimacs::Book;
 use ygg_top_command::{CommandStop, Typed, close, end, layer_file};
 
 /// Puts the text of the clauses of the obligation of this name of a layer file. A name that no obligation of it has is refused 74 at `0:2`.

@@ -20,9 +20,9 @@ use ygg_base_device::Device;
 use ygg_report::put_all;
 use ygg_rules::{Book, RuleBook};
 use ygg_top_command::{CommandStop, USUAL_BUDGET, end};
-use ygg_top_format::format;
-use ygg_top_replay::replay;
-use ygg_top_run::{certify, certify_within, check, demo, play, run, verify, verify_within};
+use ygg_top_run::{
+    certify, certify_within, check, demo, format, play, replay, run, verify, verify_within,
+};
 
 /// Runs the command that the words name, and ends with its status: `verify FILE`, `verify FILE BUDGET`, `print FILE`, `demo N`, `replay FILE SCHEDULE`,
 /// `play FILE SCRIPT`, `solve CNF`, `solve CNF BUDGET`, `cnf FILE OBLIGATION`, `certify FILE`, `certify FILE BUDGET`, `check FILE CERTIFICATE`,

@@ -8,7 +8,7 @@ ghost use Rattle.ygg_top.specs.Printed.{Printed, IsNamed, IsPlace};
 
 use std::alloc::Global;
 use ygg_base::{Sink, Status};
-use ygg_dimacs_term::{Bank, Book, put_term};
+use ygg_dimacs::{Bank, Book, put_term};
 use ygg_oblige::{Obligation, obligations};
 use ygg_sched::Typed;
 

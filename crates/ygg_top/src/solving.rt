@@ -2,7 +2,7 @@
 
 ghost use Rattle.std.specs.Prelude.{◌≡◌, ◌<◌, ◌≤◌, IfOk, IfErr};
 ghost use Rattle.ygg_base.specs.Outside.{Rose};
-ghost use Rattle.ygg_dimacs_solve.specs.ygg_solver.Answers.{IsNumbered};
+ghost use Rattle.ygg_dimacs.specs.ygg_solver.Answers.{IsNumbered};
 ghost use Rattle.ygg_top_command.specs.Reports.{Told};
 ghost use Rattle.ygg_top_command.specs.Standing.{DoesWith, DoesWithin};
 ghost use Rattle.ygg_top.specs.Fetched.{StandsClauses, IsNoClauses};
@@ -10,7 +10,7 @@ ghost use Rattle.ygg_top.specs.Solving.{Solves, IsCutSolving};
 
 use std::alloc::Global;
 use ygg_base::{Library, Sink, Status, Text};
-use ygg_dimacs_solve::{Cnf, read_cnf, solve_cnf};
+use ygg_dimacs::{Cnf, read_cnf, solve_cnf};
 use ygg_top_command::{CommandStop, budget, end, fetched};
 
 /// The most bytes of a text of clauses.

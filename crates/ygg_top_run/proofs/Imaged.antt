@@ -11,7 +11,7 @@ use Rattle.ygg_top_command.specs.ygg_report.Putting.{Adds, IsPutSo}
 use Rattle.ygg_run_mounted.specs.ygg_script.declared.command.Command.{Command}
 use Rattle.ygg_run_mounted.specs.ygg_run_commands.declared.halting.RunHalted.{RunHalted}
 use Rattle.ygg_run_mounted.specs.ygg_run_commands.declared.halting.RunHalted.TheVariants as halted
-use Rattle.ygg_run_mounted.specs.ygg_run_held.declared.unmounted.Unmounted.TheVariants as unmounted
+use Rattle.ygg_run_mounted.specs.ygg_run_image.declared.unmounted.Unmounted.TheVariants as unmounted
 use Rattle.ygg_run_mounted.specs.Ending.{HaltsBy, IsGivenUp, IsNotMounted, RunsTo}
 use Rattle.ygg_run_mounted.specs.declared.run_end.RunEnd.TheVariants as run_end
 use Rattle.ygg_run_mounted.specs.Extending.{HasRun}

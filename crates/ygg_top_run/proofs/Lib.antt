@@ -1,3 +1,4 @@
+mod Left
 pub mod Ending
 pub mod Imaged
 pub mod Scripted

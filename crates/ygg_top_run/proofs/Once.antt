@@ -8,9 +8,9 @@ use Rattle.ygg_top_command.specs.ygg_report.Lines.{refused_line}
 use Rattle.ygg_run.specs.ygg_sched.Lines.{Read}
 use Rattle.ygg_run.specs.ygg_script.declared.command.Command.{Command}
 use Rattle.ygg_run.specs.ygg_script.Reading.{script_of}
-use Rattle.ygg_run.specs.ygg_run_text.Played.{Noted, unreached_at}
-use Rattle.ygg_run.specs.ygg_run_text.Laws.{HasOneText}
-use Rattle.ygg_run.proofs.of_ygg_run_text.OneText.{scripts_have_one_text}
+use Rattle.ygg_run.specs.ygg_run_play.Played.{Noted, unreached_at}
+use Rattle.ygg_run.specs.ygg_run_play.Laws.{HasOneText}
+use Rattle.ygg_run.proofs.of_ygg_run_play.OneText.{scripts_have_one_text}
 use Rattle.ygg_top_command.specs.Refusing.{RefusesUnread, most_bytes}
 use Rattle.ygg_top_command.specs.Standing.{IsRefused}
 use Rattle.ygg_top_run.specs.Laws.{PlayEndsOneWay}

@@ -9,12 +9,12 @@ use Rattle.ygg_base.specs.Reason.{refusal_at}
 use Rattle.ygg_run_mounted.specs.ygg_base_device.Devices.{Image, ImageTurns, Tells}
 use Rattle.ygg_syntax.specs.declared.tree.File.{File}
 use Rattle.ygg_type.specs.Typed.{geometry_of}
-use Rattle.ygg_top_certify.specs.ygg_meaning.History.{Entry}
+use Rattle.ygg_top_verify.specs.ygg_meaning.History.{Entry}
 use Rattle.ygg_run_mounted.specs.ygg_script.declared.command.Command.{Command}
 use Rattle.ygg_run_mounted.specs.ygg_run_image.Judged.{number_of}
 use Rattle.ygg_run_mounted.specs.ygg_run_image.declared.reason.ImageReason.{ImageReason}
-use Rattle.ygg_run_mounted.specs.ygg_run_held.Mounting.{IsFlushed, Mounts}
-use Rattle.ygg_run_mounted.specs.ygg_run_held.declared.unmounted.Unmounted.TheVariants as unmounted
+use Rattle.ygg_run_mounted.specs.ygg_run_image.Mounting.{IsFlushed, Mounts}
+use Rattle.ygg_run_mounted.specs.ygg_run_image.declared.unmounted.Unmounted.TheVariants as unmounted
 use Rattle.ygg_run_mounted.specs.ygg_run_commands.Ran.{AllRan, run_text}
 use Rattle.ygg_run_mounted.specs.ygg_run_commands.declared.halting.RunHalted.TheVariants.{DeviceFailed, SinkFailed, Memory}
 use Rattle.ygg_run_mounted.specs.Ending.{IsGivenUp}

@@ -9,18 +9,18 @@ use Rattle.ygg_value.specs.Number.{Grid}
 use Rattle.ygg_value.specs.declared.row.Value.TheVariants.{Table}
 use Rattle.ygg_syntax.specs.declared.tree.File.{File}
 use Rattle.ygg_type.specs.Typed.{geometry_of}
-use Rattle.ygg_top_certify.specs.ygg_rules.declared.rule.RuleKind.{RuleKind}
-use Rattle.ygg_top_certify.specs.ygg_meaning.Environments.{Env, look_up}
-use Rattle.ygg_top_certify.specs.ygg_meaning.Machine.{State}
-use Rattle.ygg_top_certify.specs.ygg_meaning.Stack.{BottomOf}
-use Rattle.ygg_top_certify.specs.ygg_meaning.History.{Entry, History, Allows}
-use Rattle.ygg_top_certify.specs.ygg_meaning.Left.{Left}
+use Rattle.ygg_top_verify.specs.ygg_rules.declared.rule.RuleKind.{RuleKind}
+use Rattle.ygg_top_verify.specs.ygg_meaning.Environments.{Env, look_up}
+use Rattle.ygg_top_verify.specs.ygg_meaning.Machine.{State}
+use Rattle.ygg_top_verify.specs.ygg_meaning.Stack.{BottomOf}
+use Rattle.ygg_top_verify.specs.ygg_meaning.History.{Entry, History, Allows}
+use Rattle.ygg_top_verify.specs.ygg_meaning.Left.{Left}
 use Rattle.ygg_run_mounted.specs.ygg_run_image.Image.{rows_in}
 use Rattle.ygg_run_mounted.specs.Extending.{HasRun}
 use Rattle.ygg_top_command.specs.Fetched.{StandsFile}
 use Rattle.ygg_top_command.specs.Refusing.{RefusesFile}
 use Rattle.ygg_top_command.specs.Standing.{Stands, IsRefused}
-use Rattle.ygg_top_certify.specs.Checking.{ChecksStored}
+use Rattle.ygg_top_verify.specs.Checking.{ChecksStored}
 use Rattle.ygg_top_run.specs.Images.{LeavesImage}
 use Rattle.ygg_top_run.specs.Scripts.{RunsScript, ScriptBroken, ScriptLeft}
 

@@ -11,8 +11,8 @@ use crate::script::run_script;
 use std::alloc::Global;
 use ygg_base::{Library, Sink, Status, Text};
 use ygg_run_mounted::Device;
-use ygg_top_certify::{Book, checked_stored};
 use ygg_top_command::{close, end, layer_file, put_all};
+use ygg_top_verify::{Book, checked_stored};
 use ygg_type::Typed;
 
 /// Runs the script that stands under the name, the fourth word after the command's, on the image of that name, once the text under the second name is a

@@ -36,23 +36,23 @@ use Rattle.std.proofs.lemmas.Bool.{lt-ltb}
 use Rattle.ygg_base.specs.declared.status.Status.TheVariants.{Done, Refuted, Undecided}
 use Rattle.ygg_syntax.specs.declared.tree.File.{File}
 use Rattle.ygg_oblige_reading.specs.ygg_rules.declared.rule.RuleKind.{RuleKind}
-use Rattle.ygg_yard_made.specs.ygg_meaning.Claims.{Claim, ClaimHolds, claims_of}
-use Rattle.ygg_yard_made.specs.ygg_meaning.Stack.{FileRefines}
+use Rattle.ygg_yard.specs.ygg_meaning.Claims.{Claim, ClaimHolds, claims_of}
+use Rattle.ygg_yard.specs.ygg_meaning.Stack.{FileRefines}
 use Rattle.ygg_oblige_decided.specs.ygg_bank.Nodes.{IsBank}
 use Rattle.ygg_oblige_decided.specs.ygg_bank.declared.node.Id.{Id}
 use Rattle.ygg_oblige_decided.specs.ygg_bank.declared.node.Node.{Node}
-use Rattle.ygg_oblige_decided.specs.ygg_oblige_pieces.Terms.{file_made}
-use Rattle.ygg_oblige_decided.specs.ygg_oblige_pieces.Meaning.{AreTermsOf}
+use Rattle.ygg_oblige_decided.specs.ygg_oblige_laws.Terms.{file_made}
+use Rattle.ygg_oblige_decided.specs.ygg_oblige_laws.Meaning.{AreTermsOf}
 use Rattle.ygg_oblige_reading.specs.Obligations.{terms_in}
 use Rattle.ygg_oblige_reading.specs.Obligation.{Obligation}
-use Rattle.ygg_top_replay.specs.ygg_report.Lines.{demo_line}
-use Rattle.ygg_top_replay.specs.ygg_report.Tallies.{finds_held, finds_failed, finds_spent, tally_of}
-use Rattle.ygg_top_replay.specs.ygg_report.declared.verdict.Tally.{Tally}
-use Rattle.ygg_top_replay.specs.ygg_report.declared.verdict.Verdict as report
-use Rattle.ygg_top_replay.specs.ygg_report.declared.verdict.Verdict.TheVariants as reports
+use Rattle.ygg_top_verify.specs.ygg_report.Lines.{demo_line}
+use Rattle.ygg_top_verify.specs.ygg_report.Tallies.{finds_held, finds_failed, finds_spent, tally_of}
+use Rattle.ygg_top_verify.specs.ygg_report.declared.verdict.Tally.{Tally}
+use Rattle.ygg_top_verify.specs.ygg_report.declared.verdict.Verdict as report
+use Rattle.ygg_top_verify.specs.ygg_report.declared.verdict.Verdict.TheVariants as reports
 use Rattle.ygg_sched_names.specs.ygg_replay.Shown.{meant}
-use Rattle.ygg_yard_made.specs.Laws.{HoldsAll}
-use Rattle.ygg_top_replay.specs.ygg_top_command.Words.{usual_budget}
+use Rattle.ygg_yard.specs.Laws.{HoldsAll}
+use Rattle.ygg_top_verify.specs.ygg_top_command.Words.{usual_budget}
 use Rattle.ygg_top_verify.specs.Verdict.{Verdict, Holds, Fails, Spent, reported, Counted, AreTrue, any_failed, any_spent, demo_tally}
 use Rattle.ygg_top_verify.specs.Findings.{AreFound, any_of, first_failed, status_of_counts}
 use Rattle.ygg_top_verify.proofs.Judging.{Whole, whole}

@@ -4,17 +4,17 @@ use Rattle.ygg_base.specs.declared.lists.Held.{Held}
 use Rattle.ygg_base.specs.declared.status.Status.{Status}
 use Rattle.ygg_base.specs.declared.status.Status.TheVariants.{Done, Refuted, Refused, Undecided, Fault, NoMemory}
 use Rattle.ygg_syntax.specs.declared.tree.File.{File}
-use Rattle.ygg_top_replay.specs.ygg_report.Lines.{refused_line}
-use Rattle.ygg_top_replay.specs.ygg_report.Putting.{NoFront, Puts}
+use Rattle.ygg_top_verify.specs.ygg_report.Lines.{refused_line}
+use Rattle.ygg_top_verify.specs.ygg_report.Putting.{NoFront, Puts}
 use Rattle.ygg_oblige_reading.specs.ygg_rules.declared.rule.RuleKind.{RuleKind}
-use Rattle.ygg_top_replay.specs.ygg_top_command.declared.stopping.CommandStop.{CommandStop}
-use Rattle.ygg_top_replay.specs.ygg_top_command.declared.stopping.CommandStop.TheVariants as stop
-use Rattle.ygg_top_replay.specs.ygg_top_command.Fetched.{StandsFile}
-use Rattle.ygg_top_replay.specs.ygg_top_command.Refusing.{IsLayerFile}
-use Rattle.ygg_top_replay.specs.ygg_top_command.Reports.{MayStop, Told}
-use Rattle.ygg_top_replay.specs.ygg_top_command.Standing.{DoesWith, DoesWithin}
-use Rattle.ygg_top_replay.specs.ygg_top_command.Words.{IsBudget, IsNumber}
-use Rattle.ygg_top_replay.proofs.of_ygg_top_command.Telling.{puts_told, told_to}
+use Rattle.ygg_top_verify.specs.ygg_top_command.declared.stopping.CommandStop.{CommandStop}
+use Rattle.ygg_top_verify.specs.ygg_top_command.declared.stopping.CommandStop.TheVariants as stop
+use Rattle.ygg_top_verify.specs.ygg_top_command.Fetched.{StandsFile}
+use Rattle.ygg_top_verify.specs.ygg_top_command.Refusing.{IsLayerFile}
+use Rattle.ygg_top_verify.specs.ygg_top_command.Reports.{MayStop, Told}
+use Rattle.ygg_top_verify.specs.ygg_top_command.Standing.{DoesWith, DoesWithin}
+use Rattle.ygg_top_verify.specs.ygg_top_command.Words.{IsBudget, IsNumber}
+use Rattle.ygg_top_verify.proofs.of_ygg_top_command.Telling.{puts_told, told_to}
 use Rattle.ygg_top_verify.specs.Verdict.{Verified, Counted, any_failed, any_spent}
 use Rattle.ygg_top_verify.specs.Verifying.{Verifies, Demos, DemosMade, VerifyingIs, IsCutRun, Streams, IsMadeFor, IsNumberless, most_operations}
 

@@ -1,5 +1,7 @@
-pub use Rattle.ygg_top_replay.proofs.of_ygg_top_command
-pub use Rattle.ygg_yard_made.proofs.of_ygg_type_progress
+pub use Rattle.ygg_top_command.proofs.of_ygg_report
+pub use Rattle.ygg_top_command.proofs as of_ygg_top_command
+mod Replays
+pub use Rattle.ygg_yard.proofs.of_ygg_type_sound
 pub mod Verdicts
 mod Written
 pub mod Judging
@@ -8,3 +10,8 @@ pub mod Reporting
 mod Counts
 mod Made
 mod Found
+mod Checked
+mod Again
+mod Opened
+mod Certifies
+mod Failing

@@ -8,13 +8,13 @@ use Rattle.ygg_base.specs.declared.failure.Refuse.{Refuse}
 use Rattle.ygg_base.specs.declared.failure.Refuse.TheVariants.{At, Memory}
 use Rattle.ygg_base.specs.Failure.{IfRefused}
 use Rattle.ygg_syntax.specs.declared.tree.File.{File}
-use Rattle.ygg_yard_made.specs.ygg_accept.Accepting.{RefusesLayers}
-use Rattle.ygg_yard_made.specs.Laws.{IsSound}
-use Rattle.ygg_yard_made.specs.Texts.{begun_with, operation_with, operations_text, file_ended, made}
-use Rattle.ygg_top_replay.specs.ygg_top_command.declared.stopping.CommandStop.{CommandStop}
-use Rattle.ygg_top_replay.specs.ygg_top_command.declared.stopping.CommandStop.TheVariants.{NoMemory}
-use Rattle.ygg_top_replay.specs.ygg_top_command.Fetched.{stop_of}
-use Rattle.ygg_top_replay.specs.ygg_top_command.Refusing.{IsLayerFile, most_bytes}
+use Rattle.ygg_yard.specs.ygg_accept.Accepting.{RefusesLayers}
+use Rattle.ygg_yard.specs.Laws.{IsSound}
+use Rattle.ygg_yard.specs.Texts.{begun_with, operation_with, operations_text, file_ended, made}
+use Rattle.ygg_top_verify.specs.ygg_top_command.declared.stopping.CommandStop.{CommandStop}
+use Rattle.ygg_top_verify.specs.ygg_top_command.declared.stopping.CommandStop.TheVariants.{NoMemory}
+use Rattle.ygg_top_verify.specs.ygg_top_command.Fetched.{stop_of}
+use Rattle.ygg_top_verify.specs.ygg_top_command.Refusing.{IsLayerFile, most_bytes}
 use Rattle.ygg_top_verify.specs.Verifying.{IsMadeFor}
 
 -- a number with two digits

@@ -43,24 +43,24 @@ use Rattle.ygg_base.specs.declared.status.Status.TheVariants.{Done, Refuted, Ref
 use Rattle.ygg_base.specs.Outside.{Rose}
 use Rattle.ygg_syntax.specs.declared.tree.File.{File}
 use Rattle.ygg_oblige_reading.specs.ygg_rules.declared.rule.RuleKind.{RuleKind}
-use Rattle.ygg_yard_made.specs.ygg_meaning.Claims.{Claim, ClaimViolated, claims_of}
+use Rattle.ygg_yard.specs.ygg_meaning.Claims.{Claim, ClaimViolated, claims_of}
 use Rattle.std.proofs.lemmas.List.Elements.{All-nil, All-cons}
 use Rattle.ygg_oblige_decided.specs.ygg_bank.Nodes.{IsBank, HasWidth}
 use Rattle.ygg_oblige_decided.specs.ygg_bank.Values.{InputsFit, inputs_of}
 use Rattle.ygg_oblige_decided.specs.ygg_bank.declared.env.Given.{Given}
 use Rattle.ygg_oblige_decided.specs.ygg_bank.declared.node.Id.{Id}
 use Rattle.ygg_oblige_decided.specs.ygg_bank.declared.node.Node.{Node}
-use Rattle.ygg_oblige_decided.specs.ygg_oblige_pieces.Terms.{file_made}
-use Rattle.ygg_oblige_decided.specs.ygg_oblige_pieces.Meaning.{AreTermsOf, claim_name}
+use Rattle.ygg_oblige_decided.specs.ygg_oblige_laws.Terms.{file_made}
+use Rattle.ygg_oblige_decided.specs.ygg_oblige_laws.Meaning.{AreTermsOf, claim_name}
 use Rattle.ygg_oblige_reading.specs.Obligations.{ArePlaced, terms_in, names_in}
 use Rattle.ygg_oblige_reading.specs.Obligation.{Obligation}
-use Rattle.ygg_top_replay.specs.ygg_report.Lines.{verdict_line, verified_line, undecided_line, shows_line}
-use Rattle.ygg_top_replay.specs.ygg_report.Tallies.{finds_failed, finds_spent}
-use Rattle.ygg_top_replay.specs.ygg_report.declared.verdict.Verdict as report
-use Rattle.ygg_top_replay.specs.ygg_report.declared.verdict.Verdict.TheVariants as reports
+use Rattle.ygg_top_verify.specs.ygg_report.Lines.{verdict_line, verified_line, undecided_line, shows_line}
+use Rattle.ygg_top_verify.specs.ygg_report.Tallies.{finds_failed, finds_spent}
+use Rattle.ygg_top_verify.specs.ygg_report.declared.verdict.Verdict as report
+use Rattle.ygg_top_verify.specs.ygg_report.declared.verdict.Verdict.TheVariants as reports
 use Rattle.ygg_oblige_reading.specs.ygg_sched.Printing.{text_of}
-use Rattle.ygg_yard_made.specs.ygg_meaning.Stack.{layers_of}
-use Rattle.ygg_yard_made.specs.ygg_meaning.Obligations as meaning
+use Rattle.ygg_yard.specs.ygg_meaning.Stack.{layers_of}
+use Rattle.ygg_yard.specs.ygg_meaning.Obligations as meaning
 use Rattle.ygg_oblige_decided.specs.ygg_sym_laws.Means.{terms_of}
 use Rattle.ygg_oblige_reading.specs.Meant.{IsMadeIn}
 use Rattle.ygg_sched_names.specs.ObligeSchedulesLaws.{AllExact}
@@ -84,7 +84,7 @@ use Rattle.ygg_top_verify.specs.Verdict.{
   first_refuted,
   refutation,
 }
-use Rattle.ygg_top_replay.specs.ygg_report.Putting.{Adds, IsFront, IsPutSo, Puts}
+use Rattle.ygg_top_verify.specs.ygg_report.Putting.{Adds, IsFront, IsPutSo, Puts}
 use Rattle.ygg_top_verify.specs.Showing.{IsShownAgain}
 use Rattle.ygg_top_verify.specs.Verifying.{IsCutVerdict, Streams}
 use Rattle.ygg_top_verify.specs.Findings.{
@@ -110,8 +110,8 @@ use Rattle.ygg_top_verify.specs.Findings.{
   EndsWith,
   status_of,
 }
-use Rattle.ygg_top_replay.proofs.of_ygg_report.Fronts.{adds_more, adds_none, front_after, front_first, front_longer}
-use Rattle.ygg_top_replay.proofs.of_ygg_report.Printing.{put_whole}
+use Rattle.ygg_top_verify.proofs.of_ygg_report.Fronts.{adds_more, adds_none, front_after, front_first, front_longer}
+use Rattle.ygg_top_verify.proofs.of_ygg_report.Printing.{put_whole}
 use Rattle.ygg_top_verify.proofs.Judging.{names_of, completed, Whole, whole, ViolatesFirst, first_whole}
 use Rattle.ygg_top_verify.proofs.Written.{AllWrite, file_writes, shown_at}
 use Rattle.ygg_top_verify.proofs.Shown.{OnReplays, shown_again}

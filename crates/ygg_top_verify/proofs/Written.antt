@@ -7,17 +7,17 @@ use Rattle.ygg_syntax.specs.Files.{IsDerived}
 use Rattle.ygg_syntax.specs.declared.tree.Declared.{Declared}
 use Rattle.ygg_syntax.specs.declared.tree.DiskText.{DiskText}
 use Rattle.ygg_syntax.specs.declared.tree.File.{File}
-use Rattle.ygg_yard_made.specs.ygg_type_rules.Files.{IsTyped}
-use Rattle.ygg_yard_made.specs.ygg_meaning.Environments.{Env, bind}
-use Rattle.ygg_yard_made.specs.ygg_meaning.Layer.{ClosedLayer}
-use Rattle.ygg_yard_made.specs.ygg_meaning.Obligations.{Obligation, Init, CallOf, CutOf, TickOf, CutTickOf, Idle, Again, obligations_of}
-use Rattle.ygg_yard_made.specs.ygg_meaning.Obligations as meaning
-use Rattle.ygg_yard_made.specs.ygg_meaning.Refines.{Below}
-use Rattle.ygg_yard_made.specs.ygg_meaning.Related.{shaped}
-use Rattle.ygg_yard_made.specs.ygg_meaning.Shapes.{env_fits}
-use Rattle.ygg_yard_made.specs.ygg_meaning.Violates.{shapes_fit}
-use Rattle.ygg_yard_made.specs.ygg_meaning.Claims.{Claim, ClaimViolated, claims_at, claims_on, claims_of}
-use Rattle.ygg_yard_made.specs.ygg_meaning.Stack.{Layers, below_of, layers_of}
+use Rattle.ygg_yard.specs.ygg_type_rules.Files.{IsTyped}
+use Rattle.ygg_yard.specs.ygg_meaning.Environments.{Env, bind}
+use Rattle.ygg_yard.specs.ygg_meaning.Layer.{ClosedLayer}
+use Rattle.ygg_yard.specs.ygg_meaning.Obligations.{Obligation, Init, CallOf, CutOf, TickOf, CutTickOf, Idle, Again, obligations_of}
+use Rattle.ygg_yard.specs.ygg_meaning.Obligations as meaning
+use Rattle.ygg_yard.specs.ygg_meaning.Refines.{Below}
+use Rattle.ygg_yard.specs.ygg_meaning.Related.{shaped}
+use Rattle.ygg_yard.specs.ygg_meaning.Shapes.{env_fits}
+use Rattle.ygg_yard.specs.ygg_meaning.Violates.{shapes_fit}
+use Rattle.ygg_yard.specs.ygg_meaning.Claims.{Claim, ClaimViolated, claims_at, claims_on, claims_of}
+use Rattle.ygg_yard.specs.ygg_meaning.Stack.{Layers, below_of, layers_of}
 use Rattle.ygg_oblige_reading.specs.ygg_rules.declared.rule.RuleKind.{RuleKind}
 use Rattle.ygg_oblige_decided.specs.ygg_bank.Nodes.{IsBank}
 use Rattle.ygg_oblige_decided.specs.ygg_bank.Values.{Inputs, InputsFit, value_of}
@@ -25,10 +25,10 @@ use Rattle.ygg_oblige_decided.specs.ygg_bank.declared.node.Id.{Id}
 use Rattle.ygg_oblige_decided.specs.ygg_bank.declared.node.Node.{Node}
 use Rattle.ygg_oblige_decided.specs.ygg_sym_expr.Exprs.{SymFunctions}
 use Rattle.ygg_oblige_decided.specs.ygg_sym_laws.Means.{terms_of}
-use Rattle.ygg_oblige_decided.specs.ygg_oblige_pieces.Meaning.{Refuting, AreTermsOf, claim_name}
-use Rattle.ygg_oblige_decided.specs.ygg_oblige_pieces.Numbers.{numbers_of}
-use Rattle.ygg_oblige_decided.specs.ygg_oblige_pieces.TermStates.{state_words}
-use Rattle.ygg_oblige_decided.specs.ygg_oblige_pieces.Terms.{after_layers, file_made}
+use Rattle.ygg_oblige_decided.specs.ygg_oblige_laws.Meaning.{Refuting, AreTermsOf, claim_name}
+use Rattle.ygg_oblige_decided.specs.ygg_oblige_laws.Numbers.{numbers_of}
+use Rattle.ygg_oblige_decided.specs.ygg_oblige_laws.TermStates.{state_words}
+use Rattle.ygg_oblige_decided.specs.ygg_oblige_laws.Terms.{after_layers, file_made}
 use Rattle.ygg_sched_names.specs.ObligeSchedulesLaws.{AllExact, FileSchedules}
 use Rattle.ygg_sched_names.specs.Schedules.{values_of, schedule_of, schedules_of, layer_schedules, all_schedules}
 use Rattle.ygg_oblige_reading.specs.ygg_sched.Fitting.{halt_meant}

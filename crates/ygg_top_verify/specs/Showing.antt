@@ -5,9 +5,9 @@ use Rattle.ygg_base.specs.declared.status.Status.{Status}
 use Rattle.ygg_base.specs.declared.status.Status.TheVariants.{Refuted}
 use Rattle.ygg_base.specs.Outside.{bytes_of}
 use Rattle.ygg_syntax.specs.declared.tree.File.{File}
-use Rattle.ygg_top_replay.specs.ygg_report.Lines.{shows_line}
-use Rattle.ygg_top_replay.specs.ygg_top_command.Refusing.{IsLayerFile, most_bytes}
-use Rattle.ygg_top_replay.specs.Replaying.{ReplaysNamed}
+use Rattle.ygg_top_verify.specs.ygg_report.Lines.{shows_line}
+use Rattle.ygg_top_verify.specs.ygg_top_command.Refusing.{IsLayerFile, most_bytes}
+use Rattle.ygg_top_verify.specs.Replaying.{ReplaysNamed}
 
 -- `replay` of a file's name and a schedule's name in this library ends as refuted, and shows the obligation of this name
 abbrev pub OnlyShows : List Held → (file schedule name : List ℕ) → Type 0

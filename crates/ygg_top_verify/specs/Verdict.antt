@@ -4,28 +4,28 @@ use Rattle.ygg_base.specs.declared.status.Status.{Status}
 use Rattle.ygg_base.specs.declared.status.Status.TheVariants.{Done, Refuted, Undecided}
 use Rattle.ygg_syntax.specs.declared.tree.File.{File}
 use Rattle.ygg_oblige_reading.specs.ygg_rules.declared.rule.RuleKind.{RuleKind}
-use Rattle.ygg_yard_made.specs.ygg_meaning.Environments.{Env}
-use Rattle.ygg_yard_made.specs.ygg_meaning.Machine.{State}
-use Rattle.ygg_yard_made.specs.ygg_meaning.Stack.{BottomOf, FileRefines}
-use Rattle.ygg_yard_made.specs.ygg_meaning.History.{Entry, History, Allows}
-use Rattle.ygg_yard_made.specs.ygg_meaning.Claims.{Claim, ClaimHolds, ClaimViolated, claims_of}
+use Rattle.ygg_yard.specs.ygg_meaning.Environments.{Env}
+use Rattle.ygg_yard.specs.ygg_meaning.Machine.{State}
+use Rattle.ygg_yard.specs.ygg_meaning.Stack.{BottomOf, FileRefines}
+use Rattle.ygg_yard.specs.ygg_meaning.History.{Entry, History, Allows}
+use Rattle.ygg_yard.specs.ygg_meaning.Claims.{Claim, ClaimHolds, ClaimViolated, claims_of}
 use Rattle.ygg_oblige_decided.specs.ygg_bank.declared.node.Id.{Id}
 use Rattle.ygg_oblige_decided.specs.ygg_bank.declared.node.Node.{Node}
 use Rattle.ygg_oblige_decided.specs.ygg_cnf.Logs.{SpentLog}
 use Rattle.ygg_oblige_decided.specs.ygg_cnf.declared.log.Step.{Step}
 use Rattle.ygg_oblige_decided.specs.ygg_gates.Groups.{translated}
-use Rattle.ygg_oblige_decided.specs.ygg_oblige_pieces.Terms.{file_made}
-use Rattle.ygg_oblige_decided.specs.ygg_oblige_pieces.Meaning.{claim_name}
-use Rattle.ygg_top_replay.specs.ygg_report.Lines.{verdict_line, verified_line, refuted_line, undecided_line, demo_line}
-use Rattle.ygg_top_replay.specs.ygg_report.Tallies.{tally_of}
-use Rattle.ygg_top_replay.specs.ygg_report.declared.verdict.Tally.{Tally}
-use Rattle.ygg_top_replay.specs.ygg_report.declared.verdict.Verdict as report
-use Rattle.ygg_top_replay.specs.ygg_report.declared.verdict.Verdict.TheVariants as reports
+use Rattle.ygg_oblige_decided.specs.ygg_oblige_laws.Terms.{file_made}
+use Rattle.ygg_oblige_decided.specs.ygg_oblige_laws.Meaning.{claim_name}
+use Rattle.ygg_top_verify.specs.ygg_report.Lines.{verdict_line, verified_line, refuted_line, undecided_line, demo_line}
+use Rattle.ygg_top_verify.specs.ygg_report.Tallies.{tally_of}
+use Rattle.ygg_top_verify.specs.ygg_report.declared.verdict.Tally.{Tally}
+use Rattle.ygg_top_verify.specs.ygg_report.declared.verdict.Verdict as report
+use Rattle.ygg_top_verify.specs.ygg_report.declared.verdict.Verdict.TheVariants as reports
 use Rattle.ygg_oblige_reading.specs.ygg_sched.declared.schedule.Schedule.{Schedule}
 use Rattle.ygg_oblige_reading.specs.ygg_sched.Printing.{text_of}
 use Rattle.ygg_sched_names.specs.ygg_replay.Shown.{meant}
-use Rattle.ygg_yard_made.specs.Laws.{HoldsAll}
-use Rattle.ygg_top_replay.specs.ygg_top_command.Words.{usual_budget}
+use Rattle.ygg_yard.specs.Laws.{HoldsAll}
+use Rattle.ygg_top_verify.specs.ygg_top_command.Words.{usual_budget}
 use Rattle.ygg_top_verify.specs.Showing.{IsShownAgain}
 
 -- a verdict on an obligation

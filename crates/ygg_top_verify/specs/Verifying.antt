@@ -6,16 +6,16 @@ use Rattle.ygg_base.specs.Reason.{refusal_at}
 use Rattle.ygg_base.specs.declared.status.Status.{Status}
 use Rattle.ygg_base.specs.declared.status.Status.TheVariants.{Refused, Fault, NoMemory}
 use Rattle.ygg_syntax.specs.declared.tree.File.{File}
-use Rattle.ygg_top_replay.specs.ygg_report.Lines.{refused_line}
-use Rattle.ygg_top_replay.specs.ygg_report.Putting.{Adds, IsCutOf}
+use Rattle.ygg_top_verify.specs.ygg_report.Lines.{refused_line}
+use Rattle.ygg_top_verify.specs.ygg_report.Putting.{Adds, IsCutOf}
 use Rattle.ygg_oblige_reading.specs.ygg_rules.declared.rule.RuleKind.{RuleKind}
-use Rattle.ygg_yard_made.specs.Laws.{HoldsAll}
-use Rattle.ygg_yard_made.specs.Texts.{made}
-use Rattle.ygg_top_replay.specs.ygg_top_command.declared.stopping.CommandStop.{CommandStop}
-use Rattle.ygg_top_replay.specs.ygg_top_command.declared.stopping.CommandStop.TheVariants as stop
-use Rattle.ygg_top_replay.specs.ygg_top_command.Words.{IsNumber, IsNoNumber}
-use Rattle.ygg_top_replay.specs.ygg_top_command.Refusing.{IsLayerFile, RefusesFile}
-use Rattle.ygg_top_replay.specs.ygg_top_command.Standing.{IsRefused}
+use Rattle.ygg_yard.specs.Laws.{HoldsAll}
+use Rattle.ygg_yard.specs.Texts.{made}
+use Rattle.ygg_top_verify.specs.ygg_top_command.declared.stopping.CommandStop.{CommandStop}
+use Rattle.ygg_top_verify.specs.ygg_top_command.declared.stopping.CommandStop.TheVariants as stop
+use Rattle.ygg_top_verify.specs.ygg_top_command.Words.{IsNumber, IsNoNumber}
+use Rattle.ygg_top_verify.specs.ygg_top_command.Refusing.{IsLayerFile, RefusesFile}
+use Rattle.ygg_top_verify.specs.ygg_top_command.Standing.{IsRefused}
 use Rattle.ygg_top_verify.specs.Verdict.{ByVerdicts, Verified, Counted}
 
 -- `verify` within a budget of what stands under the name, under a book of these kinds: it is refused, or it is a layer file without a fault, and there

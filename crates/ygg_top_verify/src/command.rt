@@ -2,9 +2,9 @@
 
 ghost use Rattle.std.specs.Prelude.{◌≡◌, ◌<◌, ◌≤◌};
 ghost use Rattle.ygg_base.specs.Outside.{Rose};
-ghost use Rattle.ygg_top_replay.specs.ygg_report.Putting.{NoFront};
-ghost use Rattle.ygg_top_replay.specs.ygg_top_command.Reports.{Told};
-ghost use Rattle.ygg_top_replay.specs.ygg_top_command.Standing.{DoesWith, DoesWithin};
+ghost use Rattle.ygg_top_verify.specs.ygg_report.Putting.{NoFront};
+ghost use Rattle.ygg_top_verify.specs.ygg_top_command.Reports.{Told};
+ghost use Rattle.ygg_top_verify.specs.ygg_top_command.Standing.{DoesWith, DoesWithin};
 ghost use Rattle.ygg_top_verify.specs.Verifying.{Demos, DemosMade, IsCutRun, Verifies, most_operations};
 
 use crate::counting::put_counts;
@@ -13,7 +13,7 @@ use crate::verdict::put_verdicts;
 use std::alloc::Global;
 use ygg_base::{Library, Sink, Status, Text};
 use ygg_oblige_reading::Book;
-use ygg_top_replay::{budget, close, end, layer_file};
+use ygg_top_command::{budget, close, end, layer_file};
 
 /// Verifies the layer file of that name within a budget: puts a line for each of its obligations as soon as it is decided, and the last line. What is no layer
 /// file without a fault is refused: 73 or 11 at `0:1`, or 1 to 10.

@@ -3,12 +3,12 @@
 ghost use Rattle.std.specs.Prelude.{◌≡◌, ◌≤◌, length, IfOk};
 ghost use Rattle.ygg_base.specs.Outside.{Rose};
 ghost use Rattle.ygg_oblige_reading.specs.Obligations.{terms_in};
-ghost use Rattle.ygg_top_replay.specs.ygg_report.Lines.{demo_line};
-ghost use Rattle.ygg_top_replay.specs.ygg_report.Putting.{NoFront, Puts};
+ghost use Rattle.ygg_top_verify.specs.ygg_report.Lines.{demo_line};
+ghost use Rattle.ygg_top_verify.specs.ygg_report.Putting.{NoFront, Puts};
 ghost use Rattle.ygg_top_verify.specs.Findings.{AreDigits, AreFound, status_of_counts};
 ghost use Rattle.ygg_top_verify.specs.Verdict.{Counted};
-ghost use Rattle.ygg_top_replay.specs.ygg_top_command.Words.{usual_budget};
-ghost use Rattle.ygg_yard_made.specs.Laws.{HoldsAll};
+ghost use Rattle.ygg_top_verify.specs.ygg_top_command.Words.{usual_budget};
+ghost use Rattle.ygg_yard.specs.Laws.{HoldsAll};
 
 use crate::finding::found;
 use std::alloc::Global;
@@ -17,10 +17,10 @@ use ygg_list::Sequence;
 use ygg_oblige_decided::Bank;
 use ygg_oblige_reading::{Book, Obligation, obligations};
 use ygg_sched_names::file_schedules;
-use ygg_top_replay::{Tally, USUAL_BUDGET, Verdict, put};
+use ygg_top_command::{Tally, USUAL_BUDGET, Verdict, put};
 use ygg_top_status::status_by;
 use ygg_type::Typed;
-use ygg_yard_made::{refines_by_list, typed_histories};
+use ygg_yard::{refines_by_list, typed_histories};
 
 /// Decides obligations one after another, each within the usual budget. Its only error is out of memory.
 fn all_found<B: Book>(
@@ -78,7 +78,7 @@ pub fn put_counts<B: Book, K: Sink>(
         return Status::NoMemory;
     };
     let tally = Tally::of(verdicts.as_slice());
-    let Ok(line) = ygg_top_replay::demo(alloc, number, &tally) else {
+    let Ok(line) = ygg_top_command::demo(alloc, number, &tally) else {
         return Status::NoMemory;
     };
     match put(sink, line.as_slice()) {

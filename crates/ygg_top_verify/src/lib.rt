@@ -1,15 +1,20 @@
-//! The commands `verify` and `demo`: the verdicts on the obligations of a layer file.
+//! The commands that judge the obligations of a layer file: `verify` and `demo` decide them, `certify` and `check` make and check certificates of them, and
+//! `replay` runs a schedule of one.
 #![tactic(auto)]
 
+mod certified_finding;
+mod certifying;
+mod checking;
 mod command;
 mod counting;
 mod finding;
 mod making;
+mod replaying;
 mod verdict;
 
+pub use certifying::{certify, certify_within};
+pub use checking::{check, checked_stored};
 pub use command::{demo, verify, verify_within};
+pub use replaying::replay;
 pub use verdict::refuted_by;
 pub use ygg_oblige_reading::Book;
-pub use ygg_sched_names::{file_schedules, one_ending, printed_shows};
-pub use ygg_top_replay::{CommandStop, budget, close, end, layer_file, replay};
-pub use ygg_yard_made::{refines_by_list, typed_histories};

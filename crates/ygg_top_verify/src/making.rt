@@ -1,15 +1,15 @@
 //! The layer file that `demo` makes for a number.
 
 ghost use Rattle.std.specs.Prelude.{◌≡◌, ◌≤◌, IfOk, IfErr};
-ghost use Rattle.ygg_top_replay.specs.ygg_top_command.Words.{IsNumber};
+ghost use Rattle.ygg_top_verify.specs.ygg_top_command.Words.{IsNumber};
 ghost use Rattle.ygg_top_verify.specs.Verifying.{IsMadeFor, IsNumberless, most_operations};
 
 use std::alloc::Global;
 use ygg_base::Reason;
-use ygg_top_replay::{CommandStop, file_of, number_up_to};
+use ygg_top_command::{CommandStop, file_of, number_up_to};
 use ygg_type::Typed;
-use ygg_yard_made::law::made_is_sound;
-use ygg_yard_made::make;
+use ygg_yard::law::made_is_sound;
+use ygg_yard::make;
 
 /// The most operations of a file that `demo` makes.
 const MOST_OPERATIONS: u32 = 64;

@@ -3,10 +3,10 @@
 ghost use Rattle.std.specs.Prelude.{◌≡◌, ◌<◌, ◌≤◌, ◌||◌, length, IfOk, IfErr, IfSome};
 ghost use Rattle.ygg_base.specs.Outside.{Rose};
 ghost use Rattle.ygg_oblige_decided.specs.ygg_bank.Values.{inputs_of};
-ghost use Rattle.ygg_yard_made.specs.ygg_meaning.Claims.{claims_of};
+ghost use Rattle.ygg_yard.specs.ygg_meaning.Claims.{claims_of};
 ghost use Rattle.ygg_oblige_reading.specs.Obligations.{names_in};
 ghost use Rattle.ygg_oblige_reading.specs.Meant.{FitsTerms};
-ghost use Rattle.ygg_top_replay.specs.ygg_report.Tallies.{finds_spent};
+ghost use Rattle.ygg_top_verify.specs.ygg_report.Tallies.{finds_spent};
 ghost use Rattle.ygg_top_verify.specs.Verdict.{refutation};
 ghost use Rattle.ygg_top_verify.specs.Verifying.{Streams};
 ghost use Rattle.ygg_top_verify.specs.Findings.{
@@ -29,10 +29,10 @@ use ygg_oblige_decided::{Bank, Env};
 use ygg_oblige_reading::{Book, Obligation, obligations, schedule, schedule_at};
 use ygg_sched::{Schedule, print_schedule};
 use ygg_sched_names::{file_schedules, one_ending, printed_shows};
-use ygg_top_replay::{Verdict, put_all, refuted, undecided, verified};
+use ygg_top_command::{Verdict, put_all, refuted, undecided, verified};
 use ygg_top_status::status_by;
 use ygg_type::Typed;
-use ygg_yard_made::{refines_by_list, typed_histories};
+use ygg_yard::{refines_by_list, typed_histories};
 
 /// What is kept of an obligation that fails.
 #[derive(Drop)]

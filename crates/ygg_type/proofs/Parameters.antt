@@ -2,7 +2,7 @@
 use Rattle.std.proofs.Common.{◌≡◌, List, [], ◌∷◌, refl, ap, ◌∙◌}
 use Rattle.ygg_syntax.specs.declared.tree.Declared.{Declared}
 use Rattle.ygg_syntax.specs.declared.tree.Def.{Def}
-use Rattle.ygg_type_body.specs.ygg_symbols.Names.{Named}
+use Rattle.ygg_type_body.specs.ygg_type_rules.Names.{Named}
 use Rattle.ygg_type_body.specs.ygg_type_rules.declared.scope.Signature.{Signature}
 use Rattle.ygg_type_body.specs.ygg_type_rules.Scopes.{Scope}
 use Rattle.ygg_type_body.specs.ygg_type_rules.Definitions.{with_parameter, with_parameters, definition_scope, with_definition}

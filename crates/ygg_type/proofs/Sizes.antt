@@ -13,7 +13,7 @@ use Rattle.ygg_syntax.specs.declared.tree.DiskText.{DiskText}
 use Rattle.ygg_syntax.specs.declared.tree.Layer.{Layer}
 use Rattle.ygg_syntax.specs.declared.tree.File.{File}
 use Rattle.ygg_type_body.specs.ygg_syntax_count.Weights.{Weights, weights_of}
-use Rattle.ygg_type_body.specs.ygg_symbols.Names.{Named, added}
+use Rattle.ygg_type_body.specs.ygg_type_rules.Names.{Named, added}
 use Rattle.ygg_type_body.specs.ygg_type_rules.declared.scope.Signature.{Signature}
 use Rattle.ygg_type_body.specs.ygg_type_rules.TypeErrors.{none, unless}
 use Rattle.ygg_type_body.specs.ygg_type_rules.Limits.{width_fits, rows_fit, words_fit_in}

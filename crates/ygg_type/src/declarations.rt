@@ -11,7 +11,7 @@ ghost use Rattle.ygg_type_body.specs.Checking.{scope_of};
 use ygg_base::Reason;
 use ygg_list::NoMemory;
 use ygg_syntax::tree::{Block, Declared, Expr};
-use ygg_syntax_weigh::Weights;
+use ygg_syntax_count::Weights;
 use ygg_type_body::{Typer, Visibility, body, shapes};
 use ygg_value::Shape;
 

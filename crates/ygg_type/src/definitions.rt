@@ -11,7 +11,7 @@ use crate::declarations::parameters;
 use ygg_base::Reason;
 use ygg_list::NoMemory;
 use ygg_syntax::tree::Def;
-use ygg_syntax_weigh::Weights;
+use ygg_syntax_count::Weights;
 use ygg_type_body::{Signature, Typer, shapes};
 
 /// The type errors of a definition, whose parameters stay in scope.

@@ -2,7 +2,7 @@
 
 ghost use Rattle.std.specs.Prelude.{◌≡◌, [], OnOk, IfOk, None};
 ghost use Rattle.ygg_type_body.specs.ygg_syntax_count.Weights.{weights_of};
-ghost use Rattle.ygg_type_body.specs.ygg_symbols.Names.{added};
+ghost use Rattle.ygg_type_body.specs.ygg_type_rules.Names.{added};
 ghost use Rattle.ygg_type_body.specs.ygg_type_rules.TypeErrors.{first_after, both};
 ghost use Rattle.ygg_type_body.specs.ygg_type_rules.Definitions.{with_definitions, definitions_errors, definition_scope};
 ghost use Rattle.ygg_type_body.specs.ygg_type_rules.Layers.{below_of};
@@ -26,7 +26,7 @@ use std::mem;
 use ygg_base::{DiskKind, Reason};
 use ygg_list::{NoMemory, Sequence};
 use ygg_syntax::tree::{DiskText, File, Layer, TypeText};
-use ygg_syntax_weigh::Weights;
+use ygg_syntax_count::Weights;
 use ygg_type_body::{
     First, Names, Owner, Signature, TypeError, Typer, Variable, Visibility, shapes,
 };

@@ -2,7 +2,7 @@
 
 ghost use Rattle.std.specs.Prelude.{◌≡◌, [], OnOk, IfOk, None};
 ghost use Rattle.ygg_type_body.specs.ygg_syntax_count.Weights.{weights_of};
-ghost use Rattle.ygg_type_body.specs.ygg_symbols.Names.{added};
+ghost use Rattle.ygg_type_body.specs.ygg_type_rules.Names.{added};
 ghost use Rattle.ygg_type_body.specs.ygg_type_rules.TypeErrors.{first_after};
 ghost use Rattle.ygg_type_body.specs.ygg_type_rules.Definitions.{with_parameters};
 ghost use Rattle.ygg_type_body.specs.ygg_type_rules.Layers.{
@@ -30,7 +30,7 @@ use std::alloc::Global;
 use ygg_base::Reason;
 use ygg_list::NoMemory;
 use ygg_syntax::tree::{Block, Declared, Expr, Layer, Operation, Tick};
-use ygg_syntax_weigh::Weights;
+use ygg_syntax_count::Weights;
 use ygg_type_body::{
     Names, Owner, Signature, Typer, Variable, Visibility, are_picks, choices, picks, shapes,
 };

@@ -4,7 +4,7 @@ use Rattle.std.specs.Prelude.{Option}
 use Rattle.std.proofs.Math.Seq.{take-append_seam}
 use Rattle.std.proofs.lemmas.List.{append-nil}
 use Rattle.ygg_value.specs.declared.shape.Shape.{Shape}
-use Rattle.ygg_type_rules.specs.ygg_symbols.Names.{has}
+use Rattle.ygg_type_rules.specs.Names.{has}
 use Rattle.ygg_type_rules.specs.Scopes.{Scope, with_local}
 use Rattle.ygg_type_body.specs.Checking.{Grows, with_locals}
 

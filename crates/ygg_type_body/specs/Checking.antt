@@ -1,6 +1,6 @@
 -- What a checker has in scope.
 use Rattle.std.specs.Prelude.{◌≡◌, ◌++◌}
-use Rattle.ygg_type_rules.specs.ygg_symbols.Names.{Named}
+use Rattle.ygg_type_rules.specs.Names.{Named}
 use Rattle.ygg_type_rules.specs.declared.scope.Local.{Local}
 use Rattle.ygg_type_rules.specs.Scopes.{Scope}
 use Rattle.ygg_type_body.specs.declared.checker.Typer.{Typer}

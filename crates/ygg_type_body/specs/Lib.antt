@@ -1,4 +1,3 @@
-pub use Rattle.ygg_type_rules.specs.ygg_symbols
-pub use Rattle.ygg_type_rules.specs.ygg_syntax_count
 pub use Rattle.ygg_type_rules.specs as ygg_type_rules
+pub use Rattle.ygg_type_rules.specs.ygg_syntax_count
 pub mod Checking

@@ -8,7 +8,7 @@ use Rattle.ygg_syntax.specs.declared.tree.Declared.{Declared}
 use Rattle.ygg_syntax.specs.declared.tree.Def.{Def}
 use Rattle.ygg_syntax.specs.declared.tree.Expr.{Expr}
 use Rattle.ygg_syntax_count.specs.Weights.{weights_of, expr_weight}
-use Rattle.ygg_symbols.specs.Names.{Named, has, added}
+use Rattle.ygg_type_rules.specs.Names.{Named, has, added}
 use Rattle.ygg_type_rules.specs.declared.scope.Signature.{Signature}
 use Rattle.ygg_type_rules.specs.declared.scope.Visibility.TheVariants.{Definition}
 use Rattle.ygg_type_rules.specs.TypeErrors.{TypeErrors, nothing, both, unless}

@@ -11,7 +11,7 @@ use Rattle.ygg_syntax.specs.declared.tree.Numeral.{Numeral}
 use Rattle.ygg_syntax.specs.declared.tree.Expr.{Expr}
 use Rattle.ygg_syntax.specs.declared.tree.Expr.TheOpen.{Expr-F}
 use Rattle.ygg_syntax.specs.declared.tree.Expr.TheFolds.{fold-Expr}
-use Rattle.ygg_symbols.specs.Names.{look_up}
+use Rattle.ygg_type_rules.specs.Names.{look_up}
 use Rattle.ygg_type_rules.specs.declared.scope.Local.{Local}
 use Rattle.ygg_type_rules.specs.declared.scope.TypedExpr.{TypedExpr}
 use Rattle.ygg_type_rules.specs.declared.scope.Signature.{Signature}

@@ -1,4 +1,4 @@
-pub use Rattle.ygg_symbols.specs as ygg_symbols
+pub mod Names
 pub use Rattle.ygg_syntax_count.specs as ygg_syntax_count
 pub use Rattle.ygg_syntax_count.specs.Weights
 pub mod TypeErrors

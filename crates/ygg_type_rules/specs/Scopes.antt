@@ -1,7 +1,7 @@
 -- What is in scope.
 use Rattle.std.specs.Prelude.{ℕ, Bool, true, false, ◌||◌, List, Option, Some, None, if◌then◌else◌}
 use Rattle.ygg_value.specs.declared.shape.Shape.{Shape}
-use Rattle.ygg_symbols.specs.Names.{Named, look_up, has, added}
+use Rattle.ygg_type_rules.specs.Names.{Named, look_up, has, added}
 use Rattle.ygg_type_rules.specs.declared.scope.Owner.{Owner}
 use Rattle.ygg_type_rules.specs.declared.scope.Owner.TheVariants.{State, Memory}
 use Rattle.ygg_type_rules.specs.declared.scope.Variable.{Variable}

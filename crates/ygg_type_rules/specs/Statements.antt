@@ -13,7 +13,7 @@ use Rattle.ygg_syntax.specs.declared.tree.Stmt.{Stmt}
 use Rattle.ygg_syntax.specs.declared.tree.Block.{Block}
 use Rattle.ygg_syntax.specs.declared.tree.Stmt.TheOpen.{Stmt-F, Block-F}
 use Rattle.ygg_syntax.specs.declared.tree.Stmt.TheFolds.{fold-Stmt}
-use Rattle.ygg_symbols.specs.Names.{look_up}
+use Rattle.ygg_type_rules.specs.Names.{look_up}
 use Rattle.ygg_type_rules.specs.declared.scope.Local.{Local}
 use Rattle.ygg_type_rules.specs.declared.scope.TypedExpr.{TypedExpr}
 use Rattle.ygg_type_rules.specs.declared.scope.Signature.{Signature}

@@ -10,7 +10,7 @@ use Rattle.ygg_meaning.specs.Expr.{Expr}
 use Rattle.ygg_value.specs.declared.shape.Shape.{Shape}
 use Rattle.ygg_value.specs.declared.row.Value.{Value}
 use Rattle.ygg_type_rules.specs.Weights.{weights_of, expr_weight}
-use Rattle.ygg_type_rules.specs.ygg_symbols.Names.{Named, look_up, has}
+use Rattle.ygg_type_rules.specs.Names.{Named, look_up, has}
 use Rattle.ygg_type_rules.specs.declared.scope.Signature.{Signature}
 use Rattle.ygg_type_rules.specs.TypeErrors.{none, unless}
 use Rattle.ygg_type_rules.specs.Limits.{weight_fits}

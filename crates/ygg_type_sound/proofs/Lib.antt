@@ -9,3 +9,20 @@ pub mod Sounds
 pub mod Parts
 pub mod Parameters
 pub mod Definitions
+pub use Rattle.ygg_meaning.proofs as of_ygg_meaning
+pub mod Enough
+pub mod TypeErrors
+pub mod Asking
+pub mod ProgressFits
+pub mod Following
+pub mod ProgressSounds
+pub mod Views
+pub mod Operations
+pub mod Typed
+pub mod Specs
+pub mod Disks
+pub mod Answering
+pub mod Grammar
+pub mod Files
+pub mod Sizes
+pub mod Derived

@@ -42,7 +42,7 @@ use Rattle.ygg_value.specs.declared.row.Value.{Value}
 use Rattle.ygg_value.specs.declared.row.Value.TheVariants as value
 use Rattle.ygg_value.specs.declared.shape.Shape.{Shape}
 use Rattle.ygg_value.specs.declared.shape.Shape.TheVariants as shape
-use Rattle.ygg_type_rules.specs.ygg_symbols.Names.{Named, look_up}
+use Rattle.ygg_type_rules.specs.Names.{Named, look_up}
 use Rattle.ygg_type_rules.specs.declared.scope.TypedExpr.{TypedExpr}
 use Rattle.ygg_type_rules.specs.declared.scope.Signature.{Signature}
 use Rattle.ygg_type_rules.specs.TypeErrors.{nothing, one, both, none, type_error}

@@ -2,7 +2,7 @@
 use Rattle.std.proofs.Common.{◌≡◌, ℕ, Bool, true, false, cond, List, [], ◌∷◌, ◌++◌, Option, Some, None, is_some, refl, ap, ◌∙◌}
 use Rattle.std.specs.Str.{bytes_eq}
 use Rattle.ygg_value.specs.declared.row.Value.{Value}
-use Rattle.ygg_type_rules.specs.ygg_symbols.Names.{Named, look_up, has, added}
+use Rattle.ygg_type_rules.specs.Names.{Named, look_up, has, added}
 use Rattle.ygg_meaning.specs.Environments.{Env}
 use Rattle.ygg_meaning.specs.Environments as meaning
 

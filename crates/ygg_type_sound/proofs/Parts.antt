@@ -13,7 +13,7 @@ use Rattle.ygg_value.specs.declared.operation.Op.{Op}
 use Rattle.ygg_value.specs.declared.row.Value.{Value}
 use Rattle.ygg_value.specs.Shapes.{shape_of}
 use Rattle.ygg_value.specs.declared.shape.Shape.TheVariants.{Word}
-use Rattle.ygg_type_rules.specs.ygg_symbols.Names.{look_up}
+use Rattle.ygg_type_rules.specs.Names.{look_up}
 use Rattle.ygg_type_rules.specs.TypeErrors.{none}
 use Rattle.ygg_type_rules.specs.Shapes.{is_word}
 use Rattle.ygg_type_rules.specs.Scopes.{Scope, name_in, low_in, is_taken}

@@ -9,7 +9,7 @@ use Rattle.ygg_meaning.specs.Expr.TheFolds.{ind-Expr, fold-roll-Expr}
 use Rattle.ygg_value.specs.declared.row.Value.{Value}
 use Rattle.ygg_value.specs.declared.shape.Shape.{Shape}
 use Rattle.ygg_value.specs.declared.shape.Shape.TheVariants.{Word}
-use Rattle.ygg_type_rules.specs.ygg_symbols.Names.{look_up}
+use Rattle.ygg_type_rules.specs.Names.{look_up}
 use Rattle.ygg_type_rules.specs.declared.scope.Local.{Local}
 use Rattle.ygg_type_rules.specs.TypeErrors.{TypeErrors, nothing, both, none}
 use Rattle.ygg_type_rules.specs.Scopes.{Scope, name_in, low_in, is_taken}

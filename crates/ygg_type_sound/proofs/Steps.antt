@@ -10,7 +10,7 @@ use Rattle.ygg_value.specs.declared.row.Value.{Value}
 use Rattle.ygg_value.specs.declared.row.Value.TheVariants as value
 use Rattle.ygg_value.specs.declared.shape.Shape.{Shape}
 use Rattle.ygg_value.specs.declared.shape.Shape.TheVariants as shape
-use Rattle.ygg_type_rules.specs.ygg_symbols.Names.{Named, look_up, has, added}
+use Rattle.ygg_type_rules.specs.Names.{Named, look_up, has, added}
 use Rattle.ygg_type_rules.specs.declared.scope.Local.{Local}
 use Rattle.ygg_type_rules.specs.Limits.{width_fits}
 use Rattle.ygg_type_rules.specs.Shapes.{word_shape}

@@ -1,7 +1,7 @@
 -- A scope of typing and the values of names that go together.
 use Rattle.std.specs.Prelude.{◌≡◌, ℕ, IsTrue, List, Option, Some}
 use Rattle.ygg_value.specs.declared.shape.Shape.{Shape}
-use Rattle.ygg_type_rules.specs.ygg_symbols.Names.{look_up, has}
+use Rattle.ygg_type_rules.specs.Names.{look_up, has}
 use Rattle.ygg_type_rules.specs.declared.scope.Local.{Local}
 use Rattle.ygg_type_rules.specs.declared.scope.Signature.{Signature}
 use Rattle.ygg_type_rules.specs.Scopes.{Scope, name_in, low_in, is_taken}

@@ -3,7 +3,7 @@ use Rattle.std.specs.Prelude.{◌≡◌, ℕ, Bool, true, false, ◌&&◌, IsTru
 use Rattle.ygg_value.specs.declared.shape.Shape.{Shape}
 use Rattle.ygg_value.specs.declared.row.Value.{Value}
 use Rattle.ygg_value.specs.Shapes.{IsShape, IsValue, shape_of}
-use Rattle.ygg_type_rules.specs.ygg_symbols.Names.{Named, look_up}
+use Rattle.ygg_type_rules.specs.Names.{Named, look_up}
 use Rattle.ygg_type_rules.specs.declared.scope.Signature.{Signature}
 use Rattle.ygg_meaning.specs.Meaning.{Functions}
 use Rattle.ygg_meaning.specs.Shapes.{fits}

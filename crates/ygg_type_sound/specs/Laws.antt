@@ -2,7 +2,7 @@
 use Rattle.std.specs.Prelude.{◌≡◌, ℕ, IsTrue, List, [], Some}
 use Rattle.ygg_meaning.specs.Def.{Def}
 use Rattle.ygg_meaning.specs.Expr.{Expr}
-use Rattle.ygg_type_rules.specs.ygg_symbols.Names.{look_up}
+use Rattle.ygg_type_rules.specs.Names.{look_up}
 use Rattle.ygg_type_rules.specs.declared.scope.Signature.{Signature}
 use Rattle.ygg_type_rules.specs.TypeErrors.{none}
 use Rattle.ygg_type_rules.specs.Scopes.{Scope}

@@ -1,9 +1,8 @@
 pub use Rattle.ygg_meaning.specs.ygg_disk
 pub use Rattle.ygg_meaning.proofs.Exact as ygg_meaning_proofs_Exact
 pub use Rattle.ygg_meaning.specs as ygg_meaning
-pub use Rattle.ygg_type_rules.specs.ygg_symbols
-pub use Rattle.ygg_type_rules.specs.ygg_syntax_count
 pub use Rattle.ygg_type_rules.specs as ygg_type_rules
+pub use Rattle.ygg_type_rules.specs.ygg_syntax_count
 pub use Rattle.ygg_type_rules.specs.Weights
 pub use Rattle.ygg_meaning.specs.Related
 pub use Rattle.ygg_meaning.specs.Runs
@@ -38,3 +37,11 @@ pub use Rattle.ygg_type_rules.specs.TypeErrors
 pub mod Fitting
 pub mod Agrees
 pub mod Laws
+pub use Rattle.ygg_meaning.proofs.Mirrored as ygg_meaning_proofs_Mirrored
+pub use Rattle.ygg_meaning.specs.Noted
+pub use Rattle.ygg_meaning.specs.Stack
+pub mod Kinds
+pub mod Questions
+pub mod Blocks
+pub mod Machines
+pub mod ProgressLaws

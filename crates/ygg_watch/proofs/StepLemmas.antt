@@ -49,11 +49,11 @@ use Rattle.ygg_cnf_set.specs.LiteralSet.{code_of}
 use Rattle.ygg_cnf.specs.Literals.{complement}
 use Rattle.ygg_cnf.specs.declared.lit.Lit.{Lit}
 use Rattle.ygg_watch_plain.specs.Propagation.{Propagation, Spreads, Implies}
-use Rattle.ygg_watch_trail.proofs.AssignmentLemmas.{not_both_on, at_take, take_at, at_start, keep_all}
-use Rattle.ygg_watch_trail.proofs.TrailLemmas.{entry_within, at_front, at_in}
-use Rattle.ygg_watch_trail.specs.Assignments.{IsTrail, IsLevelled}
-use Rattle.ygg_watch_trail.specs.Trail.{IsAt, keep_level, IsOnTrail}
-use Rattle.ygg_watch_trail.specs.declared.entry.Entry.{Entry}
+use Rattle.ygg_watch_plain.proofs.AssignmentLemmas.{not_both_on, at_take, take_at, at_start, keep_all}
+use Rattle.ygg_watch_plain.proofs.TrailLemmas.{entry_within, at_front, at_in}
+use Rattle.ygg_watch_plain.specs.Assignments.{IsTrail, IsLevelled}
+use Rattle.ygg_watch_plain.specs.Trail.{IsAt, keep_level, IsOnTrail}
+use Rattle.ygg_watch_plain.specs.declared.entry.Entry.{Entry}
 use Rattle.ygg_watch.proofs.ListLemmas.{sibling_first, sibling_second, sibling_twice, sibling_within, lists_linked, lists_attached}
 use Rattle.ygg_watch.specs.Lists.{sibling, no_lit, lit_of, IsLinked, IsOwn, Among, IsLists, IsMember, IsPath, IsList}
 use Rattle.ygg_watch.specs.State.{IsLive, IsState}

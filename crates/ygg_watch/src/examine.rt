@@ -9,8 +9,7 @@ use crate::frame::Checkpoint;
 use crate::links::{Links, lits_of};
 use ygg_cnf::Lit;
 use ygg_cnf_set::{PackedClause, PackedLit};
-use ygg_watch_plain::{ClauseStatus, status_of};
-use ygg_watch_trail::Assignments;
+use ygg_watch_plain::{Assignments, ClauseStatus, status_of};
 
 /// A literal of the clause other than the given one: one that is not false, or else the one that became so last, which
 /// going back makes free first.

@@ -11,8 +11,7 @@ use std::marker::Model;
 use ygg_cnf::{Clause, Lit};
 use ygg_cnf_set::PackedClause;
 use ygg_list::NoMemory;
-use ygg_watch_plain::{Assigned, Found, Propagate, Trail, spread};
-use ygg_watch_trail::{Assignments, PackedEntry};
+use ygg_watch_plain::{Assigned, Assignments, Found, PackedEntry, Propagate, Trail, spread};
 
 /// Propagation that watches two literals of each clause, and reads a clause only where a watched one becomes false.
 ///

@@ -1,7 +1,7 @@
 -- The number of unassigned variables falls as literals are assigned.
 use Rattle.std.proofs.Common.{◌≡◌, List, [], ◌∷◌, ◌++◌, sym, ap, refl}
 use Rattle.ygg_watch_plain.specs.Propagation.{Propagation, Spreads}
-use Rattle.ygg_watch_trail.specs.declared.entry.Entry.{Entry}
+use Rattle.ygg_watch_plain.specs.declared.entry.Entry.{Entry}
 
 pub append-nil : (xs : List Entry) → xs ++ [] ≡ xs
 append-nil [] = refl

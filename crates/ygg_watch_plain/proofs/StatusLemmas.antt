@@ -49,11 +49,11 @@ use Rattle.ygg_watch_plain.specs.declared.found.Found.{Found}
 use Rattle.ygg_watch_plain.specs.declared.found.Found.TheVariants.{Quiet, False}
 use Rattle.ygg_watch_plain.specs.Propagation.{HasValue, IsConflict, IsFalse}
 use Rattle.ygg_watch_plain.specs.Propagation.{Propagation, IsImplied, Implies, Spreads}
-use Rattle.ygg_watch_trail.proofs.AssignmentLemmas.{not_both_on}
-use Rattle.ygg_watch_trail.specs.Assignments.{IsTrail}
-use Rattle.ygg_watch_trail.proofs.TrailLemmas.{in_before, assigned_has, assigned_at, entry_within, fresh_place, same_or_complement}
-use Rattle.ygg_watch_trail.specs.Trail.{IsQuietBefore, IsAt, assigned_before, IsAssigned, IsOnTrail}
-use Rattle.ygg_watch_trail.specs.declared.entry.Entry.{Entry}
+use Rattle.ygg_watch_plain.proofs.AssignmentLemmas.{not_both_on}
+use Rattle.ygg_watch_plain.specs.Assignments.{IsTrail}
+use Rattle.ygg_watch_plain.proofs.TrailLemmas.{in_before, assigned_has, assigned_at, entry_within, fresh_place, same_or_complement}
+use Rattle.ygg_watch_plain.specs.Trail.{IsQuietBefore, IsAt, assigned_before, IsAssigned, IsOnTrail}
+use Rattle.ygg_watch_plain.specs.declared.entry.Entry.{Entry}
 use Rattle.ygg_watch_plain.proofs.PropagationLemmas.{append-nil}
 
 -- a literal that is neither true nor false is not assigned

@@ -1,2 +1,5 @@
+pub mod Trail
+pub mod Assignments
+pub mod Reasons
 pub mod Propagation
 pub mod Status

@@ -2,8 +2,8 @@
 use Rattle.std.specs.Prelude.{◌≡◌, ℕ, ◌<◌, ◌+◌, not, List, [], ◌∷◌, ◌++◌, length, Contains, All, Some, None}
 use Rattle.ygg_cnf.specs.Derivations.{HasClause}
 use Rattle.ygg_cnf.specs.declared.lit.Lit.{Lit}
-use Rattle.ygg_watch_trail.specs.Trail.{IsAt, IsFalseBefore, IsReason, IsAssigned, keep_level}
-use Rattle.ygg_watch_trail.specs.declared.entry.Entry.{Entry}
+use Rattle.ygg_watch_plain.specs.Trail.{IsAt, IsFalseBefore, IsReason, IsAssigned, keep_level}
+use Rattle.ygg_watch_plain.specs.declared.entry.Entry.{Entry}
 use Rattle.ygg_watch_plain.specs.declared.found.Assigned.{Assigned}
 
 -- the held clauses, numbered from 1, the assigned literals in order, the greatest open level, and the number that the

@@ -2,9 +2,9 @@
 use Rattle.std.specs.Prelude.{◌≢◌, List, length, Contains}
 use Rattle.ygg_cnf.specs.Derivations.{HasClause}
 use Rattle.ygg_cnf.specs.declared.lit.Lit.{Lit}
-use Rattle.ygg_watch_trail.specs.Trail.{IsQuietBefore, IsAssigned, IsOnTrail}
-use Rattle.ygg_watch_trail.specs.declared.assignments.Assignments.{Assignments}
-use Rattle.ygg_watch_trail.specs.declared.entry.Entry.{Entry}
+use Rattle.ygg_watch_plain.specs.Trail.{IsQuietBefore, IsAssigned, IsOnTrail}
+use Rattle.ygg_watch_plain.specs.declared.assignments.Assignments.{Assignments}
+use Rattle.ygg_watch_plain.specs.declared.entry.Entry.{Entry}
 use Rattle.ygg_watch_plain.specs.Propagation.{Propagation, IsFalse, IsConflict}
 use Rattle.ygg_watch_plain.specs.declared.status.ClauseStatus.{ClauseStatus}
 use Rattle.ygg_watch_plain.specs.declared.status.ClauseStatus.TheVariants.{True, Open, Unit, False}

@@ -1,19 +1,31 @@
-//! Unit propagation: the calls of a propagation with their meaning, the plain one that looks at every clause, and which variable is
-//! decided next.
+//! Unit propagation: its calls with their meaning, and the plain one that looks at every clause; the assigned literals of a search in order, each with its
+//! level and its reason; which variable is decided next, and when to begin again. The last is advice: no proof rests on it.
 #![tactic(auto)]
 
+mod assignments;
+mod entry;
 mod found;
+mod heap;
 mod loading;
+mod packed_entry;
 mod picking;
 mod plain;
+mod polarity;
 mod propagate;
+mod restarts;
 mod spreading;
 mod status;
 
+pub use assignments::Assignments;
+pub use entry::Entry;
 pub use found::{Assigned, Found};
+pub use heap::{Order, Work};
 pub use loading::{load, variable_count_for};
+pub use packed_entry::PackedEntry;
 pub use picking::pick;
 pub use plain::{PlainSpread, plain_spread};
+pub use polarity::InitialPolarity;
 pub use propagate::{Propagate, Trail};
+pub use restarts::Restarts;
 pub use spreading::spread;
 pub use status::{ClauseStatus, status_of};

@@ -1,10 +1,10 @@
 //! Which variable to decide next.
 
 ghost use Rattle.std.specs.Prelude.{◌<◌, ℕ, IfSome, IfNone};
-ghost use Rattle.ygg_watch_trail.specs.Trail.{IsAssigned};
+ghost use Rattle.ygg_watch_plain.specs.Trail.{IsAssigned};
 
+use crate::Order;
 use crate::propagate::Propagate;
-use ygg_watch_order::Order;
 
 /// The most active variable that is not assigned, if the order has one.
 fn propose<P: Propagate>(propagation: &P, order: &mut Order, variable_count: u64) -> Option<u64>

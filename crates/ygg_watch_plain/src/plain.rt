@@ -6,11 +6,11 @@ use crate::found::{Assigned, Found};
 use crate::loading::{load, variable_count_for};
 use crate::propagate::{Propagate, Trail};
 use crate::spreading::spread;
+use crate::{Assignments, PackedEntry};
 use std::alloc::Global;
 use ygg_cnf::{Clause, Clauses, Lit};
 use ygg_cnf_set::PackedClause;
 use ygg_list::NoMemory;
-use ygg_watch_trail::{Assignments, PackedEntry};
 
 /// Propagation that looks at every clause for each literal that it finds.
 #[derive(Drop)]

@@ -1,12 +1,12 @@
 ghost use Rattle.std.specs.Prelude.{◌≡◌, ◌<◌, ◌≤◌, ◌↔◌, ℕ, OnOk, OnErr, length, IsNone, IfSome};
-ghost use Rattle.ygg_watch_trail.specs.Trail.{IsAssigned, IsQuietBefore};
+ghost use Rattle.ygg_watch_plain.specs.Trail.{IsAssigned, IsQuietBefore};
 ghost use Rattle.ygg_watch_plain.specs.Propagation.{Propagation, IsWithin, with_clause, decided, Spreads, back_to, IsConflict, HasValue};
 
+use crate::PackedEntry;
 use crate::found::{Assigned, Found};
 use ygg_cnf::{Clause, Lit};
 use ygg_cnf_set::PackedClause;
 use ygg_list::NoMemory;
-use ygg_watch_trail::PackedEntry;
 
 /// Holds clauses and assigned literals, and finds what they imply. Its calls may come in any order that their conditions
 /// allow. All but `add` take no memory.

@@ -1,13 +1,13 @@
 ghost use Rattle.std.specs.Prelude.{◌≡◌, ◌<◌, ◌^◌, ℕ, All, length};
-ghost use Rattle.ygg_watch_trail.specs.Trail.{IsQuietBefore};
+ghost use Rattle.ygg_watch_plain.specs.Trail.{IsQuietBefore};
 ghost use Rattle.ygg_watch_plain.specs.Propagation.{IsWithin, Spreads, IsConflict};
 ghost use Rattle.ygg_watch_plain.specs.Status.{IsScanned, state_of};
 
+use crate::Assignments;
 use crate::found::Found;
 use crate::status::{ClauseStatus, status_of};
 use ygg_cnf::Lit;
 use ygg_cnf_set::PackedClause;
-use ygg_watch_trail::Assignments;
 
 /// The first clause that is false or has a single literal left, with its number.
 #[derive(Clone, Copy)]

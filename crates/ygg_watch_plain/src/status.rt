@@ -1,9 +1,9 @@
 ghost use Rattle.ygg_watch_plain.specs.Propagation.{IsWithin};
 ghost use Rattle.ygg_watch_plain.specs.Status.{IsStatus};
 
+use crate::Assignments;
 use ygg_cnf::Lit;
 use ygg_cnf_set::PackedLit;
-use ygg_watch_trail::Assignments;
 
 /// What is left of a clause: a true literal, two that are not assigned, one, or none.
 #[derive(Clone, Copy)]

@@ -1,13 +1,13 @@
 use Rattle.std.proofs.Common.{◌≡◌, List, [], map, OnOk, IfOk, subst, sym}
 use Rattle.ygg_syntax.specs.declared.tree.File.{File}
-use Rattle.ygg_oblige_laws.proofs.of_ygg_type_progress.Derived.{derivable_derived}
+use Rattle.ygg_oblige_laws.proofs.of_ygg_type_sound.Derived.{derivable_derived}
 use Rattle.ygg_oblige_laws.specs.ygg_bank.declared.node.Id.{Id}
 use Rattle.ygg_oblige_laws.specs.ygg_bank.declared.node.Node.{Node}
 use Rattle.ygg_oblige_laws.specs.ygg_meaning.Claims.{claims_of}
 use Rattle.ygg_oblige_laws.specs.ygg_meaning.Stack.{layers_of}
-use Rattle.ygg_oblige_kinds.proofs.Carried.{on_value_of}
-use Rattle.ygg_oblige_laws.specs.ygg_oblige_pieces.Meaning.{AreTermsIn, claim_name}
-use Rattle.ygg_oblige_laws.specs.ygg_oblige_pieces.Terms.{file_made}
+use Rattle.ygg_oblige.proofs.Carried.{on_value_of}
+use Rattle.ygg_oblige_laws.specs.Meaning.{AreTermsIn, claim_name}
+use Rattle.ygg_oblige_laws.specs.Terms.{file_made}
 use Rattle.ygg_oblige_laws.proofs.Files.{typed_layers}
 use Rattle.ygg_oblige_laws.specs.TypedLayers.{LayersTyped}
 use Rattle.ygg_oblige_laws.proofs.Whole.{file_terms_mean}

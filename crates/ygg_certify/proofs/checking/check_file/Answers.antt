@@ -1,9 +1,9 @@
 use Rattle.std.proofs.Common.{◌≡◌, List, length, sym, ap, subst, ◌∙◌}
 use Rattle.std.specs.Prelude.{All}
 use Rattle.ygg_oblige_decided.specs.ygg_bank.Nodes.{HasWidth}
-use Rattle.ygg_oblige_decided.proofs.of_ygg_type_progress.Derived.{derivable_derived}
-use Rattle.ygg_cert_open.specs.ygg_cert.declared.verdict.CertEnd.{CertEnd}
-use Rattle.ygg_cert_open.specs.Opened.{JudgesOpen}
+use Rattle.ygg_oblige_decided.proofs.of_ygg_type_sound.Derived.{derivable_derived}
+use Rattle.ygg_cert.specs.declared.verdict.CertEnd.{CertEnd}
+use Rattle.ygg_cert.specs.Opened.{JudgesOpen}
 use Rattle.ygg_oblige_decided.specs.ygg_meaning.Claims.{claims_of}
 use Rattle.ygg_oblige.specs.declared.obligation.Obligation.{Obligation}
 use Rattle.ygg_certify.specs.FileGoals.{ChecksAll, IfChecked, IsRight, goals_in, goals_of}

@@ -2,7 +2,7 @@ use Rattle.std.proofs.Common.{slice_get, sym, ap, ◌∙◌}
 use Rattle.ygg_syntax.specs.declared.tree.File.{File}
 use Rattle.ygg_eval_expr.specs.ygg_meaning.Environments.{bind}
 use Rattle.ygg_eval_expr.specs.Held.{env_of}
-use Rattle.ygg_eval_lower.specs.Bodies.{kind_of, variables_in, arguments_in}
+use Rattle.ygg_eval_block.specs.Bodies.{kind_of, variables_in, arguments_in}
 use Rattle.ygg_eval_block.specs.Steps.{stands}
 use Rattle.ygg_eval_block.proofs.Tops.{is_ready, values_do, body_ends}
 use Rattle.ygg_eval_block.proofs.run.run_body.Goals as goal

@@ -1,7 +1,7 @@
 use Rattle.std.proofs.Common.{refl}
-use Rattle.ygg_oblige_kinds.specs.Makers.{starting_of}
-use Rattle.ygg_oblige_kinds.specs.Steps.{obligation_of}
-use Rattle.ygg_oblige_kinds.specs.Numbering.{numbers_in}
+use Rattle.ygg_oblige.specs.Makers.{starting_of}
+use Rattle.ygg_oblige.specs.Steps.{obligation_of}
+use Rattle.ygg_oblige.specs.Numbering.{numbers_in}
 use Rattle.ygg_oblige.proofs.Asking.{asked_one}
 use Rattle.ygg_oblige.proofs.Going.{added_one}
 use Rattle.ygg_oblige.proofs.KnownSo.{known_shapes, known_typed}

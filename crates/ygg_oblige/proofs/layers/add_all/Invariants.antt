@@ -1,6 +1,6 @@
 use Rattle.std.proofs.Common.{drop}
 use Rattle.ygg_oblige_list.specs.Listing.{asked_in}
-use Rattle.ygg_oblige_kinds.specs.Makers.{starting_of}
+use Rattle.ygg_oblige.specs.Makers.{starting_of}
 use Rattle.ygg_oblige.proofs.Asking.{AsksOn}
 use Rattle.ygg_oblige.proofs.Going.{Going}
 use Rattle.ygg_oblige.proofs.layers.add_all.Given as goal

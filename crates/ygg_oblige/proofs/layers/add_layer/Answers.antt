@@ -3,7 +3,7 @@ use Rattle.ygg_oblige_laws.specs.ygg_bank.Inputs.{InputsBelow}
 use Rattle.ygg_oblige_laws.specs.ygg_bank.Makes.{Out}
 use Rattle.ygg_oblige_laws.specs.ygg_bank.declared.node.Id.{Id}
 use Rattle.ygg_oblige_laws.specs.ygg_meaning.Obligations.{Obligation}
-use Rattle.ygg_oblige_kinds.specs.Makers.{starting_of}
+use Rattle.ygg_oblige.specs.Makers.{starting_of}
 use Rattle.ygg_oblige.specs.Adding.{AddsAsked, names_of}
 use Rattle.ygg_oblige_list.specs.Listing.{AreNumbered, asked_in}
 use Rattle.ygg_oblige_list.specs.declared.listing.Asked.{Asked}

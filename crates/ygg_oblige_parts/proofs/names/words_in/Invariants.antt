@@ -1,6 +1,6 @@
 use Rattle.std.proofs.Common.{◌≡◌, ◌+◌, drop}
-use Rattle.ygg_oblige_pieces.specs.Layers.{ShapesKept}
-use Rattle.ygg_oblige_pieces.specs.TermStates.{words_in}
+use Rattle.ygg_oblige_laws.specs.LayerTerms.{ShapesKept}
+use Rattle.ygg_oblige_laws.specs.TermStates.{words_in}
 use Rattle.ygg_oblige_parts.proofs.names.words_in.Given as goal
 
 -- those so far, and those that are left

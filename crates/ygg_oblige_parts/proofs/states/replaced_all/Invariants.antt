@@ -1,5 +1,5 @@
 use Rattle.std.proofs.Common.{◌≡◌, ◌++◌, drop}
-use Rattle.ygg_oblige_pieces.specs.TermStates.{replaced_all}
+use Rattle.ygg_oblige_laws.specs.TermStates.{replaced_all}
 use Rattle.ygg_oblige_parts.proofs.states.replaced_all.Given as goal
 
 -- those so far, and then what is left

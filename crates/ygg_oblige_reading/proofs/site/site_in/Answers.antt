@@ -1,11 +1,11 @@
 use Rattle.std.proofs.Common.{take, refl, sym, ap, ◌∙◌, subst}
 use Rattle.std.specs.Prelude.{IfSome, Option}
 use Rattle.std.specs.Option.{option_map}
-use Rattle.ygg_eval_lower.specs.ygg_meaning.Obligations.{obligations_of}
+use Rattle.ygg_eval_block.specs.ygg_meaning.Obligations.{obligations_of}
 use Rattle.ygg_oblige_reading.specs.declared.listed.Listed.{Listed}
 use Rattle.ygg_oblige.specs.Sites.{below_in}
 use Rattle.ygg_oblige.specs.ygg_sym_spec.Layers.{closed}
-use Rattle.ygg_oblige.specs.ygg_oblige_pieces.Numbers.{numbers_of}
+use Rattle.ygg_oblige.specs.ygg_oblige_laws.Numbers.{numbers_of}
 use Rattle.ygg_oblige.specs.Adding.{after_at}
 use Rattle.ygg_oblige_reading.specs.Listing.{ArgumentsKept, ListedStands, listed_in}
 use Rattle.ygg_oblige_reading.proofs.NumbersAfter.{arguments_kept, item_of}

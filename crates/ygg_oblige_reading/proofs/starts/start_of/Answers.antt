@@ -1,11 +1,11 @@
 use Rattle.std.proofs.Common.{◌≡◌, ◌+◌, suc, take, ap, ◌∙◌, sym, arith}
 use Rattle.std.specs.Prelude.{slice_get, Some}
 use Rattle.std.specs.Option.{option_map}
-use Rattle.ygg_eval_lower.specs.ygg_meaning.Obligations.{obligations_of}
+use Rattle.ygg_eval_block.specs.ygg_meaning.Obligations.{obligations_of}
 use Rattle.ygg_oblige_reading.specs.declared.listed.Listed.{Listed}
 use Rattle.ygg_oblige.specs.Sites.{below_in}
 use Rattle.ygg_oblige.specs.ygg_sym_spec.Layers.{closed, terms_in}
-use Rattle.ygg_oblige.specs.ygg_oblige_pieces.Numbers.{Numbers, numbers_of}
+use Rattle.ygg_oblige.specs.ygg_oblige_laws.Numbers.{Numbers, numbers_of}
 use Rattle.ygg_oblige.specs.Adding.{after_at}
 use Rattle.ygg_oblige_reading.specs.Listing.{ArgumentsKept, listed_in}
 use Rattle.ygg_oblige_reading.proofs.NumbersAfter.{after_next, item_of}

@@ -2,7 +2,7 @@ use Rattle.std.proofs.Common.{◌∙◌, ap, subst, Result, Err}
 use Rattle.ygg_base.specs.Outside.{Rose}
 use Rattle.ygg_run.specs.ygg_type_rules.Files.{type_errors_of}
 use Rattle.ygg_run.specs.ygg_type_proofs_Least.{is_empty}
-use Rattle.ygg_run.specs.ygg_run_text.Played.{Noted}
+use Rattle.ygg_run.specs.ygg_run_play.Played.{Noted}
 use Rattle.ygg_run.specs.ygg_run_play.declared.halting.PlayHalted.{PlayHalted}
 use Rattle.ygg_run.specs.ygg_run_play.Playing.{IsPlayed}
 use Rattle.ygg_run.proofs.Plays.{fault_puts, memory_puts, not_missed}

@@ -1,7 +1,7 @@
-use Rattle.ygg_run.specs.ygg_eval_lower.Lower.{ending_of}
+use Rattle.ygg_run.specs.ygg_eval_block.Lower.{ending_of}
 use Rattle.ygg_run.specs.ygg_machine.Commands as command
 use Rattle.ygg_run.specs.ygg_machine.Viewed.{floor_seen}
-use Rattle.ygg_run.specs.ygg_run_text.Named.{operation_name}
+use Rattle.ygg_run.specs.ygg_run_play.Named.{operation_name}
 use Rattle.ygg_run.proofs.Asked.{callable, signature_there}
 use Rattle.ygg_run_commands.proofs.Done.{never_down, called}
 use Rattle.ygg_run_commands.proofs.doing.call.Goals as goal

@@ -1,7 +1,7 @@
-use Rattle.ygg_run.specs.ygg_eval_lower.Lower.{ending_of}
+use Rattle.ygg_run.specs.ygg_eval_block.Lower.{ending_of}
 use Rattle.ygg_run.specs.ygg_machine.Commands as command
 use Rattle.ygg_run.specs.ygg_machine.Viewed.{floor_seen}
-use Rattle.ygg_run.specs.ygg_run_text.Named.{tick_name}
+use Rattle.ygg_run.specs.ygg_run_play.Named.{tick_name}
 use Rattle.ygg_run.proofs.Asked.{tick_there, tick_named, layer_there}
 use Rattle.ygg_run_commands.proofs.Done.{never_down, ticked}
 use Rattle.ygg_run_commands.proofs.doing.tick.Goals as goal

@@ -1,10 +1,10 @@
 use Rattle.std.proofs.Common.{sym, subst}
 use Rattle.ygg_base.specs.declared.geometry.Geometry.{Geometry}
-use Rattle.ygg_run_held.specs.ygg_base_device.Devices.{AttachedTurns, Tells}
-use Rattle.ygg_run_held.specs.Sight.{Sight, Holds}
-use Rattle.ygg_run_held.specs.Standing.{KeepsHeader, StaysOn}
-use Rattle.ygg_run_held.specs.declared.device_ground.DeviceGround.{DeviceGround}
-use Rattle.ygg_run_held.proofs.Staying.{stays_keeps}
+use Rattle.ygg_run_image.specs.ygg_base_device.Devices.{AttachedTurns, Tells}
+use Rattle.ygg_run_image.specs.Sight.{Sight, Holds}
+use Rattle.ygg_run_image.specs.Standing.{KeepsHeader, StaysOn}
+use Rattle.ygg_run_image.specs.declared.device_ground.DeviceGround.{DeviceGround}
+use Rattle.ygg_run_image.proofs.Staying.{stays_keeps}
 use Rattle.ygg_run_format.proofs.Rows.{stays, rows, untold}
 use Rattle.ygg_run_format.proofs.filling.format_ground.Given.{Over}
 use Rattle.ygg_run_format.proofs.filling.format_ground.Goals as goal

@@ -1,7 +1,7 @@
 use Rattle.std.proofs.Common.{subst}
 use Rattle.ygg_base.specs.declared.geometry.Geometry.{Geometry}
 use Rattle.ygg_base.specs.declared.outside.Moved.TheVariants as moved
-use Rattle.ygg_run_held.specs.ygg_base_device.Devices.{AttachedTurns, Tells}
+use Rattle.ygg_run_image.specs.ygg_base_device.Devices.{AttachedTurns, Tells}
 use Rattle.ygg_run_format.specs.Sealing.{SealTurns}
 use Rattle.ygg_run_format.proofs.Finished.{finish_starved, finish_done, finish_failed}
 use Rattle.ygg_run_format.proofs.on_device.finish.Goals as goal

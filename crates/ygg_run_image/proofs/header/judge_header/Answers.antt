@@ -1,7 +1,7 @@
 use Rattle.std.proofs.Common.{◌≡◌, ◌+◌, ◌*◌, ◌≤◌, length, sym, ap, ◌∙◌, arith}
 use Rattle.std.proofs.lemmas.Bool.{false≢true}
 use Rattle.ygg_run_image.specs.Image.{block_bytes, image_bytes}
-use Rattle.ygg_run_image.proofs.Judging.{sealed-by, sized-by, sized-to}
+use Rattle.ygg_run_image.proofs.ImageJudging.{sealed-by, sized-by, sized-to}
 use Rattle.ygg_run_image.proofs.header.judge_header.Goals as goal
 
 pub returns-then-not-is_sized : goal.returns-then-not-is_sized

@@ -1,5 +1,5 @@
 use Rattle.ygg_run_image.proofs.Images.{images_hold_their_rows, images_are_blocks, blocks_are_images}
-use Rattle.ygg_run_image.proofs.Judging.{images_are_accepted}
+use Rattle.ygg_run_image.proofs.ImageJudging.{images_are_accepted}
 use Rattle.ygg_run_image.proofs.law.images_are_of_rows.Goals as goal
 
 pub returns-clause-held : goal.returns-clause-held

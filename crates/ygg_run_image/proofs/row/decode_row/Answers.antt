@@ -1,7 +1,7 @@
 use Rattle.std.proofs.Common.{◌≡◌, ap, ◌∙◌, arith}
 use Rattle.ygg_value.specs.Number.{Digits}
 use Rattle.ygg_run_image.specs.Image.{words_in}
-use Rattle.ygg_run_image.proofs.Rows.{read-all}
+use Rattle.ygg_run_image.proofs.ImageRows.{read-all}
 use Rattle.ygg_run_image.proofs.row.decode_row.Goals as goal
 
 pub returns : goal.returns

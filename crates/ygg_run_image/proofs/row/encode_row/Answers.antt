@@ -3,7 +3,7 @@ use Rattle.std.specs.Prelude.{slice_get, unwrap_or}
 use Rattle.std.proofs.lemmas.List.Elements.{All-from_get_or}
 use Rattle.std.proofs.lemmas.Option.{unwrap_or-slice_get}
 use Rattle.ygg_value.specs.Number.{Number}
-use Rattle.ygg_run_image.proofs.Rows.{begun-step, fits-next}
+use Rattle.ygg_run_image.proofs.ImageRows.{begun-step, fits-next}
 use Rattle.ygg_run_image.proofs.row.encode_row.Goals as goal
 
 pub loop-place-preserved : goal.loop-place-preserved

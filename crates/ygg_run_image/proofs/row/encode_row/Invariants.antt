@@ -1,5 +1,5 @@
 use Rattle.std.proofs.Common.{◌≡◌, ℕ, ◌<◌, ◌^◌, get_or}
-use Rattle.ygg_run_image.proofs.Rows.{begun}
+use Rattle.ygg_run_image.proofs.ImageRows.{begun}
 use Rattle.ygg_run_image.proofs.row.encode_row.Given as goal
 
 abbrev pub invariant-loop-place : goal.invariant-loop-place

@@ -2,7 +2,7 @@ use Rattle.std.proofs.Common.{◌≡◌, refl, sym, ap, subst, ◌∙◌}
 use Rattle.ygg_value.specs.Number.{Digits}
 use Rattle.ygg_disk.specs.Rows.{IsDiskRow}
 use Rattle.ygg_run_image.specs.Image.{row_block, words_in}
-use Rattle.ygg_run_image.proofs.Rows.{row_block-is, row_block-words, words-are}
+use Rattle.ygg_run_image.proofs.ImageRows.{row_block-is, row_block-words, words-are}
 use Rattle.ygg_run_image.proofs.row.is_row_block.Goals as goal
 
 pub encode_row-requires-clause-row : goal.encode_row-requires-clause-row

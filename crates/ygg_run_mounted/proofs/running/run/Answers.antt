@@ -1,11 +1,11 @@
 use Rattle.std.proofs.Common.{◌≡◌, ◌≤◌, List, Option, Some, Ok, arith, subst, sym}
 use Rattle.ygg_base.specs.Outside.{Rose}
 use Rattle.ygg_base.specs.declared.geometry.Geometry.{Geometry}
-use Rattle.ygg_run_held.specs.ygg_base_device.Devices.{Attachment, Tells}
+use Rattle.ygg_run_image.specs.ygg_base_device.Devices.{Attachment, Tells}
 use Rattle.ygg_run_commands.specs.ygg_type.Typed.{geometry_of}
 use Rattle.ygg_run_commands.specs.ygg_script.declared.command.Command.{Command}
-use Rattle.ygg_run_held.specs.Sight.{Holds}
-use Rattle.ygg_run_held.specs.Mounting.{Mounts, whole_image}
+use Rattle.ygg_run_image.specs.Sight.{Holds}
+use Rattle.ygg_run_image.specs.Mounting.{Mounts, whole_image}
 use Rattle.ygg_run_mounted.specs.Ran.{RanSo}
 use Rattle.ygg_run_mounted.specs.Ending.{RunsTo}
 use Rattle.ygg_run_mounted.specs.declared.run_end.RunEnd.{RunEnd}

@@ -1,8 +1,8 @@
 use Rattle.ygg_base.specs.Outside.{Rose}
-use Rattle.ygg_run_commands.proofs.of_ygg_type_progress.Derived.{derivable_derived}
-use Rattle.ygg_run_held.specs.declared.device_ground.DeviceGround.{DeviceGround}
-use Rattle.ygg_run_held.specs.Sight.{Sight}
-use Rattle.ygg_run_held.proofs.Held.{holds_here}
+use Rattle.ygg_run_commands.proofs.of_ygg_type_sound.Derived.{derivable_derived}
+use Rattle.ygg_run_image.specs.declared.device_ground.DeviceGround.{DeviceGround}
+use Rattle.ygg_run_image.specs.Sight.{Sight}
+use Rattle.ygg_run_image.proofs.Held.{holds_here}
 use Rattle.ygg_run_mounted.proofs.Ran.{stayed, ran_so}
 use Rattle.ygg_run_mounted.proofs.running.run_ground.Goals as goal
 

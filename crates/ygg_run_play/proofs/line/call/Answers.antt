@@ -1,5 +1,5 @@
-use Rattle.ygg_run_text.specs.ygg_script.declared.command.Command.TheVariants.{Call}
-use Rattle.ygg_run_text.specs.Named.{operation_name}
+use Rattle.ygg_run_play.specs.ygg_script.declared.command.Command.TheVariants.{Call}
+use Rattle.ygg_run_play.specs.Named.{operation_name}
 use Rattle.ygg_run_play.specs.Scene.{calling}
 use Rattle.ygg_run_play.specs.Doing.{command_end}
 use Rattle.ygg_run_play.proofs.Lines.{call_line, call_cut, line_done, line_halted}

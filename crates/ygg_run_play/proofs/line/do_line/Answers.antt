@@ -1,5 +1,5 @@
 use Rattle.std.proofs.Common.{sym, subst}
-use Rattle.ygg_run_text.specs.ygg_script.declared.command.Command.{Command}
+use Rattle.ygg_run_play.specs.ygg_script.declared.command.Command.{Command}
 use Rattle.ygg_run_play.specs.Doing.{LineEnds, standing, is_fail}
 use Rattle.ygg_run_play.proofs.line.do_line.Goals as goal
 

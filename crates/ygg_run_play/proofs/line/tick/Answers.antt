@@ -1,5 +1,5 @@
-use Rattle.ygg_run_text.specs.ygg_script.declared.command.Command.TheVariants.{Tick}
-use Rattle.ygg_run_text.specs.Named.{tick_name}
+use Rattle.ygg_run_play.specs.ygg_script.declared.command.Command.TheVariants.{Tick}
+use Rattle.ygg_run_play.specs.Named.{tick_name}
 use Rattle.ygg_run_play.specs.Scene.{ticking}
 use Rattle.ygg_run_play.specs.Doing.{command_end}
 use Rattle.ygg_run_play.proofs.Lines.{tick_line, tick_cut, line_done, line_halted}

@@ -1,4 +1,4 @@
-use Rattle.ygg_run_text.specs.ygg_script.declared.command.Command.TheVariants.{Fail}
+use Rattle.ygg_run_play.specs.ygg_script.declared.command.Command.TheVariants.{Fail}
 use Rattle.ygg_run_play.specs.Scene.{waking}
 use Rattle.ygg_run_play.specs.Doing.{waking_end}
 use Rattle.ygg_run_play.proofs.Lines.{wake_line, wake_cut, line_done, line_halted}

@@ -1,6 +1,6 @@
 use Rattle.std.proofs.Common.{◌≤◌, List, arith, subst}
 use Rattle.ygg_base.specs.Outside.{Rose}
-use Rattle.ygg_run_text.specs.ygg_script.declared.command.Command.{Command}
+use Rattle.ygg_run_play.specs.ygg_script.declared.command.Command.{Command}
 use Rattle.ygg_run_play.proofs.Going.{Going, going_first, going_more, going_end, given_up_so, next_fits, no_lines, rose_since}
 use Rattle.ygg_run_play.proofs.playing.play_lines.Goals as goal
 

@@ -1,6 +1,6 @@
 use Rattle.std.proofs.Common.{List, Err, Ok, subst}
 use Rattle.ygg_base.specs.Outside.{Rose}
-use Rattle.ygg_run_text.specs.ygg_script.declared.command.Command.{Command}
+use Rattle.ygg_run_play.specs.ygg_script.declared.command.Command.{Command}
 use Rattle.ygg_run_play.specs.Doing.{ArePut}
 use Rattle.ygg_run_play.specs.Playing.{ArePlayed}
 use Rattle.ygg_run_play.proofs.Ending.{format_kept, lines_halted, end_played, last_line}

@@ -1,7 +1,7 @@
 use Rattle.std.proofs.Common.{List, subst}
 use Rattle.ygg_syntax.specs.declared.tree.Declared.{Declared}
 use Rattle.ygg_sym.specs.ygg_sym_disk.SymBelowLows.{LowShaped}
-use Rattle.ygg_sym_laws.proofs.of_ygg_sym_runs.Zeros.{single_both}
+use Rattle.ygg_sym_spec.proofs.of_ygg_sym_runs.Zeros.{single_both}
 use Rattle.ygg_sym.proofs.begun.start.Goals as goal
 
 pub block-requires : goal.block-requires

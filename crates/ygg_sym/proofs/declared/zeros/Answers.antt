@@ -1,5 +1,5 @@
-use Rattle.ygg_sym_laws.specs.Below.{zeros_made}
-use Rattle.ygg_sym_laws.proofs.of_ygg_sym_runs.Zeros.{single_kept}
+use Rattle.ygg_sym_spec.specs.ygg_sym_laws.Below.{zeros_made}
+use Rattle.ygg_sym_spec.proofs.of_ygg_sym_runs.Zeros.{single_kept}
 use Rattle.ygg_sym.proofs.Carried.{on_value}
 use Rattle.ygg_sym.proofs.ZerosMade.{zeros_stand, zeros_single}
 use Rattle.ygg_sym.specs.ygg_sym_disk.SymBelowLows.{LowShaped}

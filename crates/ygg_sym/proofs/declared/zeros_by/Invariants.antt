@@ -1,6 +1,6 @@
 use Rattle.std.proofs.Common.{drop}
-use Rattle.ygg_sym_laws.specs.ygg_bank.Nodes.{Extends, IsBank}
-use Rattle.ygg_sym_laws.specs.Below.{zeros_made}
+use Rattle.ygg_sym_spec.specs.ygg_bank.Nodes.{Extends, IsBank}
+use Rattle.ygg_sym_spec.specs.ygg_sym_laws.Below.{zeros_made}
 use Rattle.ygg_sym.specs.Kept.{AreKept}
 use Rattle.ygg_sym.proofs.Left.{Left}
 use Rattle.ygg_sym.proofs.declared.zeros_by.Given as goal

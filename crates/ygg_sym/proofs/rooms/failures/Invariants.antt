@@ -1,5 +1,5 @@
 use Rattle.std.proofs.Common.{◌≡◌, ◌+◌, drop, map}
-use Rattle.ygg_sym_laws.specs.ygg_direct.Direct.{total}
+use Rattle.ygg_sym_spec.specs.ygg_direct.Direct.{total}
 use Rattle.ygg_sym.specs.ygg_sym_disk.SpecCuts.{fall_places, fall_room}
 use Rattle.ygg_sym.specs.Layers.{closed}
 use Rattle.ygg_sym.proofs.rooms.failures.Given as goal

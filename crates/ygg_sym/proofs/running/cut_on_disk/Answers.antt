@@ -1,8 +1,8 @@
 use Rattle.std.proofs.Common.{◌++◌, length, refl, sym, ap, subst, ◌∙◌}
 use Rattle.std.specs.Prelude.{min}
-use Rattle.ygg_sym_laws.specs.ygg_sym_expr.Names.{sym_bind}
-use Rattle.ygg_sym_laws.proofs.of_ygg_sym_runs.Singles.{single_less}
-use Rattle.ygg_sym.proofs.Whole.{lows_count}
+use Rattle.ygg_sym_spec.specs.ygg_sym_expr.Names.{sym_bind}
+use Rattle.ygg_sym_spec.proofs.of_ygg_sym_runs.Singles.{single_less}
+use Rattle.ygg_sym.proofs.WholeRun.{lows_count}
 use Rattle.ygg_sym.specs.ygg_sym_disk.Means.{disk_meaning}
 use Rattle.ygg_sym.specs.DiskFailing.{disk_power}
 use Rattle.ygg_sym.proofs.Placed.{disk_lower, disk_same, disk_stands, disk_space, disk_stops_same}

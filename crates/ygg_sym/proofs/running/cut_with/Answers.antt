@@ -1,5 +1,5 @@
 use Rattle.std.proofs.Common.{sym, subst}
-use Rattle.ygg_sym_runs.specs.WholeReady.{CanWhole}
+use Rattle.ygg_sym_spec.specs.ygg_sym_runs.WholeReady.{CanWhole}
 use Rattle.ygg_sym.proofs.running.cut_with.Goals as goal
 
 pub cut_short-requires-clause-can : goal.cut_short-requires-clause-can

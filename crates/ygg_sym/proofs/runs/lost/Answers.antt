@@ -1,7 +1,7 @@
 use Rattle.std.proofs.Common.{◌≡◌, List, OnOk, IfOk, subst, sym}
-use Rattle.ygg_sym_laws.specs.ygg_bank.Makes.{Out}
+use Rattle.ygg_sym_spec.specs.ygg_bank.Makes.{Out}
 use Rattle.ygg_syntax.specs.declared.tree.Declared.{Declared}
-use Rattle.ygg_sym_laws.specs.ygg_shape_cells.declared.terms.SymValue.{SymValue}
+use Rattle.ygg_sym_spec.specs.ygg_shape_cells.declared.terms.SymValue.{SymValue}
 use Rattle.ygg_sym.specs.ygg_sym_disk.SymBelowLows.{LowShaped}
 use Rattle.ygg_sym.specs.Sites.{BelowFits}
 use Rattle.ygg_sym.specs.declared.below.SymBelow.TheVariants.{Layer}

@@ -1,6 +1,6 @@
 use Rattle.ygg_base.specs.Outside.{Rose}
-use Rattle.ygg_dimacs_solve.specs.ygg_report.Putting.{IsCutOf}
-use Rattle.ygg_dimacs_solve.specs.Solved.{Solved}
+use Rattle.ygg_dimacs.specs.ygg_report.Putting.{IsCutOf}
+use Rattle.ygg_dimacs.specs.Solved.{Solved}
 use Rattle.ygg_top_command.specs.Standing.{DoesWith}
 use Rattle.ygg_top_command.proofs.Telling.{puts_told, stop_told}
 use Rattle.ygg_top.specs.Solving.{Solves, IsCutSolving}

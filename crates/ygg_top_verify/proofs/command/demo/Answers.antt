@@ -1,6 +1,6 @@
 use Rattle.std.proofs.Common.{List, ℕ, subst}
-use Rattle.ygg_top_replay.proofs.of_ygg_top_command.Telling.{stop_told}
-use Rattle.ygg_top_replay.specs.ygg_top_command.Words.{IsNumber}
+use Rattle.ygg_top_verify.proofs.of_ygg_top_command.Telling.{stop_told}
+use Rattle.ygg_top_verify.specs.ygg_top_command.Words.{IsNumber}
 use Rattle.ygg_top_verify.specs.Verifying.{IsNumberless, most_operations}
 use Rattle.ygg_top_verify.proofs.Found.{no_number, number_told}
 use Rattle.ygg_top_verify.proofs.command.demo.Goals as goal

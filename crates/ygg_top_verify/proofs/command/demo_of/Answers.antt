@@ -1,4 +1,4 @@
-use Rattle.ygg_top_replay.proofs.of_ygg_top_command.Telling.{stop_told}
+use Rattle.ygg_top_verify.proofs.of_ygg_top_command.Telling.{stop_told}
 use Rattle.ygg_top_verify.proofs.Found.{made_told, none_made}
 use Rattle.ygg_top_verify.proofs.command.demo_of.Goals as goal
 

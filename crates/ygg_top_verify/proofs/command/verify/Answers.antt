@@ -1,6 +1,6 @@
 use Rattle.std.proofs.Common.{refl}
-use Rattle.ygg_top_replay.proofs.of_ygg_top_command.Stops.{file_stop}
-use Rattle.ygg_top_replay.proofs.of_ygg_top_command.Telling.{stop_told}
+use Rattle.ygg_top_verify.proofs.of_ygg_top_command.Stops.{file_stop}
+use Rattle.ygg_top_verify.proofs.of_ygg_top_command.Telling.{stop_told}
 use Rattle.ygg_top_verify.specs.Verifying.{Verifies}
 use Rattle.ygg_top_verify.proofs.Found.{file_told}
 use Rattle.ygg_top_verify.proofs.command.verify.Goals as goal

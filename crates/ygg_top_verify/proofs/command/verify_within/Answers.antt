@@ -1,8 +1,8 @@
 use Rattle.std.proofs.Common.{List, ℕ, subst}
-use Rattle.ygg_top_replay.proofs.of_ygg_top_command.Stops.{budget_stop}
-use Rattle.ygg_top_replay.proofs.of_ygg_top_command.Telling.{stop_told}
-use Rattle.ygg_top_replay.specs.ygg_top_command.Fetched.{IsBudgetless}
-use Rattle.ygg_top_replay.specs.ygg_top_command.Words.{IsBudget}
+use Rattle.ygg_top_verify.proofs.of_ygg_top_command.Stops.{budget_stop}
+use Rattle.ygg_top_verify.proofs.of_ygg_top_command.Telling.{stop_told}
+use Rattle.ygg_top_verify.specs.ygg_top_command.Fetched.{IsBudgetless}
+use Rattle.ygg_top_verify.specs.ygg_top_command.Words.{IsBudget}
 use Rattle.ygg_top_verify.specs.Verifying.{Verifies}
 use Rattle.ygg_top_verify.proofs.Found.{within_told}
 use Rattle.ygg_top_verify.proofs.command.verify_within.Goals as goal

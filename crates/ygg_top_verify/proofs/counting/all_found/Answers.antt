@@ -4,9 +4,9 @@ use Rattle.std.proofs.lemmas.List.{length-append}
 use Rattle.std.proofs.lemmas.Option.{slice_get_read}
 use Rattle.ygg_oblige_decided.specs.ygg_bank.declared.node.Node.{Node}
 use Rattle.ygg_oblige_reading.specs.Obligations.{terms_in}
-use Rattle.ygg_top_replay.specs.ygg_report.declared.verdict.Verdict.{Verdict}
+use Rattle.ygg_top_verify.specs.ygg_report.declared.verdict.Verdict.{Verdict}
 use Rattle.ygg_top_verify.specs.Findings.{IsFound, AreFound}
-use Rattle.ygg_top_replay.specs.ygg_top_command.Words.{usual_budget}
+use Rattle.ygg_top_verify.specs.ygg_top_command.Words.{usual_budget}
 use Rattle.ygg_top_verify.proofs.Reporting.{found_more}
 use Rattle.ygg_top_verify.proofs.counting.all_found.Goals as goal
 

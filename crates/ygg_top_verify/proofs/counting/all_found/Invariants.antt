@@ -1,7 +1,7 @@
 use Rattle.std.proofs.Common.{◌≡◌, length}
 use Rattle.ygg_oblige_reading.specs.Obligations.{terms_in}
 use Rattle.ygg_top_verify.specs.Findings.{AreFound}
-use Rattle.ygg_top_replay.specs.ygg_top_command.Words.{usual_budget}
+use Rattle.ygg_top_verify.specs.ygg_top_command.Words.{usual_budget}
 use Rattle.ygg_top_verify.proofs.counting.all_found.Given as goal
 
 abbrev pub invariant-loop-o : goal.invariant-loop-o

@@ -2,17 +2,17 @@ use Rattle.std.proofs.Common.{◌≡◌, List, ℕ, sym, subst, ap, ◌∙◌}
 use Rattle.std.specs.Prelude.{nat_lt, Err}
 use Rattle.ygg_base.specs.Outside.{Rose}
 use Rattle.ygg_base.specs.declared.status.Status.{Status}
-use Rattle.ygg_yard_made.specs.ygg_meaning.Claims.{claims_of}
-use Rattle.ygg_yard_made.proofs.of_ygg_type_progress.Derived.{derivable_derived}
+use Rattle.ygg_yard.specs.ygg_meaning.Claims.{claims_of}
+use Rattle.ygg_yard.proofs.of_ygg_type_sound.Derived.{derivable_derived}
 use Rattle.ygg_oblige_reading.specs.Obligation.{Obligation}
-use Rattle.ygg_top_replay.specs.ygg_report.Lines.{demo_line}
-use Rattle.ygg_top_replay.specs.ygg_report.Tallies.{tally_of}
-use Rattle.ygg_top_replay.specs.ygg_report.declared.verdict.Tally.{Tally}
-use Rattle.ygg_top_replay.specs.ygg_report.Putting.{Adds, IsPut, NoFront}
+use Rattle.ygg_top_verify.specs.ygg_report.Lines.{demo_line}
+use Rattle.ygg_top_verify.specs.ygg_report.Tallies.{tally_of}
+use Rattle.ygg_top_verify.specs.ygg_report.declared.verdict.Tally.{Tally}
+use Rattle.ygg_top_verify.specs.ygg_report.Putting.{Adds, IsPut, NoFront}
 use Rattle.ygg_top_verify.specs.Findings.{AreDigits, status_of_counts}
 use Rattle.ygg_top_verify.specs.Verdict.{Counted}
 use Rattle.ygg_top_verify.proofs.Counts.{counted_in}
-use Rattle.ygg_top_replay.proofs.of_ygg_report.Printing.{put_whole, put_cut}
+use Rattle.ygg_top_verify.proofs.of_ygg_report.Printing.{put_whole, put_cut}
 use Rattle.ygg_top_verify.proofs.Reporting.{digits_of}
 use Rattle.ygg_top_verify.proofs.Verdicts.{Proper}
 use Rattle.ygg_top_verify.proofs.counting.put_counts.Goals as goal

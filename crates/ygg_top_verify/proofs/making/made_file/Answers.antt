@@ -1,5 +1,5 @@
 use Rattle.std.proofs.Common.{◌≤◌, List, ℕ, ◌∙◌, length, sym, subst}
-use Rattle.ygg_top_replay.specs.ygg_top_command.Refusing.{most_bytes}
+use Rattle.ygg_top_verify.specs.ygg_top_command.Refusing.{most_bytes}
 use Rattle.ygg_top_verify.proofs.Made.{made_small, made_for, unmade}
 use Rattle.ygg_top_verify.proofs.making.made_file.Goals as goal
 

@@ -1,5 +1,5 @@
 use borrow.Author.Count.{below_more}
-use Rattle.ygg_watch_trail.specs.Trail.{IsAssigned}
+use Rattle.ygg_watch_plain.specs.Trail.{IsAssigned}
 use Rattle.ygg_watch_plain.proofs.PickLemmas.{value_assigned}
 use Rattle.ygg_watch_plain.proofs.picking.pick.Goals as goal
 

@@ -1,5 +1,5 @@
 use Rattle.std.proofs.Common.{◌<◌, ℕ}
-use Rattle.ygg_watch_trail.specs.Trail.{IsAssigned}
+use Rattle.ygg_watch_plain.specs.Trail.{IsAssigned}
 use Rattle.ygg_watch_plain.proofs.picking.pick.Given as goal
 
 abbrev pub invariant-loop-var : goal.invariant-loop-var

@@ -5,7 +5,7 @@ use Rattle.ygg_cnf.specs.Logs.{IsOpen}
 use Rattle.ygg_cnf.specs.declared.lit.Lit.{Lit}
 use Rattle.ygg_watch_plain.proofs.StatusLemmas.{open_true, open_loose}
 use Rattle.ygg_watch_plain.proofs.spreading.scan.Goals.{in-True, in-Open}
-use Rattle.ygg_watch_trail.specs.Trail.{assigned_before}
+use Rattle.ygg_watch_plain.specs.Trail.{assigned_before}
 use Rattle.ygg_watch_plain.proofs.spreading.scan.Goals as goal
 
 pub loop-at-preserved : goal.loop-at-preserved

@@ -2,8 +2,8 @@ use Rattle.std.proofs.Common.{◌<◌, ◌∙◌, ap, List, length, arith, Some,
 use Rattle.ygg_cnf.specs.declared.lit.Lit.{Lit}
 use Rattle.ygg_watch_plain.proofs.StatusLemmas.{step_spreads, state_same, within_of}
 use Rattle.ygg_watch_plain.specs.Status.{state_of}
-use Rattle.ygg_watch_trail.proofs.AssignmentLemmas.{has_place}
-use Rattle.ygg_watch_trail.specs.declared.entry.Entry.{Entry}
+use Rattle.ygg_watch_plain.proofs.AssignmentLemmas.{has_place}
+use Rattle.ygg_watch_plain.specs.declared.entry.Entry.{Entry}
 use Rattle.ygg_watch_plain.proofs.spreading.spread.Goals as goal
 
 pub loop-id-smaller : goal.loop-id-smaller

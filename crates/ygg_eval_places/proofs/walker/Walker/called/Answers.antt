@@ -3,7 +3,7 @@ use Rattle.ygg_value.specs.declared.row.Value.{Value}
 use Rattle.ygg_direct.specs.ygg_meaning.Progress.{Call}
 use Rattle.ygg_eval_block.specs.ygg_eval_expr.Held.{env_of}
 use Rattle.ygg_eval_places.specs.Machines.{CanAnswer}
-use Rattle.ygg_eval_places.proofs.Below.{args_evaluate}
+use Rattle.ygg_eval_places.proofs.PlacesBelow.{args_evaluate}
 use Rattle.ygg_eval_places.proofs.Parts.{call_asks}
 use Rattle.ygg_eval_places.proofs.walker.Walker.called.Goals as goal
 

@@ -5,7 +5,7 @@ use Rattle.ygg_direct.specs.ygg_meaning.Progress.{Call}
 use Rattle.ygg_eval_block.specs.ygg_eval_expr.Held.{env_of}
 use Rattle.ygg_eval_places.specs.Machines.{CanAnswer}
 use Rattle.ygg_eval_places.specs.Ready.{CanCall}
-use Rattle.ygg_eval_places.proofs.Below.{args_evaluate}
+use Rattle.ygg_eval_places.proofs.PlacesBelow.{args_evaluate}
 use Rattle.ygg_eval_places.proofs.Parts.{ask_calls, call_asks}
 use Rattle.ygg_eval_places.proofs.walker.Walker.source.Goals as goal
 

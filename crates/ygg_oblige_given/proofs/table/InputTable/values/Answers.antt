@@ -8,7 +8,7 @@ use Rattle.ygg_syntax.specs.declared.tree.Declared.{Declared}
 use Rattle.ygg_sym.specs.ygg_meaning.Environments.{bind}
 use Rattle.ygg_sym.specs.ygg_meaning.Shapes.{fits, shape_in, values_fit}
 use Rattle.ygg_sym.specs.ygg_shape.Fresh.{given_value, words_of}
-use Rattle.ygg_oblige_pieces.specs.Layers.{ShapesKept}
+use Rattle.ygg_oblige_laws.specs.LayerTerms.{ShapesKept}
 use Rattle.ygg_oblige_given.specs.Tables.{given_values, inputs_in}
 use Rattle.ygg_oblige_given.proofs.Bound.{bound_given, fit_given, left_fits, values_go}
 use Rattle.ygg_oblige_given.proofs.table.InputTable.values.Goals as goal

@@ -10,9 +10,9 @@ use Rattle.ygg_sym.specs.ygg_sym_runs.Disks.{Done, done}
 use Rattle.ygg_sym.proofs.of_ygg_sym_runs.Zeros.{single_both, single_then}
 use Rattle.ygg_sym.specs.Layers.{closed, terms_in}
 use Rattle.ygg_sym.specs.Sites.{below_in}
-use Rattle.ygg_oblige_pieces.specs.Outcomes.{outcome_made}
-use Rattle.ygg_oblige_pieces.specs.TermStates.{related_made}
-use Rattle.ygg_oblige_pieces.specs.Terms.{same_answers_made}
+use Rattle.ygg_oblige_laws.specs.Outcomes.{outcome_made}
+use Rattle.ygg_oblige_laws.specs.TermStates.{related_made}
+use Rattle.ygg_oblige_laws.specs.Terms.{same_answers_made}
 use Rattle.ygg_oblige_parts.specs.Passing.{AskedAlike}
 use Rattle.ygg_oblige_parts.specs.Steps.{obligation_of}
 use Rattle.ygg_oblige_parts.proofs.StepPasses.{passes_from, step_alike}

@@ -7,9 +7,9 @@ use Rattle.ygg_sym.proofs.of_ygg_sym_runs.Singles.{single_stays}
 use Rattle.ygg_sym.proofs.of_ygg_sym_runs.Zeros.{single_kept}
 use Rattle.ygg_sym.specs.Layers.{closed, terms_in}
 use Rattle.ygg_sym.specs.Sites.{below_in}
-use Rattle.ygg_oblige_pieces.specs.TermStates.{settled_made}
-use Rattle.ygg_oblige_pieces.proofs.Truths.{defs_keep}
-use Rattle.ygg_oblige_pieces.proofs.Starting.{settled_keeps}
+use Rattle.ygg_oblige_laws.specs.TermStates.{settled_made}
+use Rattle.ygg_oblige_laws.proofs.Truths.{defs_keep}
+use Rattle.ygg_oblige_laws.proofs.Starting.{settled_keeps}
 use Rattle.ygg_oblige_parts.specs.Formulas.{CanTest, seen, truths_in}
 use Rattle.ygg_oblige_parts.proofs.Bound.{one_names}
 use Rattle.ygg_oblige_parts.proofs.Scoped.{settled_tests}

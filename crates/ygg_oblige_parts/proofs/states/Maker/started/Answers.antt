@@ -1,8 +1,8 @@
 use Rattle.ygg_sym.specs.ygg_bank_proofs_Widths.{extends_both}
-use Rattle.ygg_oblige_pieces.specs.ygg_shape_hypothesis.Finding.{facts_in}
+use Rattle.ygg_oblige_laws.specs.ygg_shape_hypothesis.Finding.{facts_in}
 use Rattle.ygg_sym.specs.ygg_sym_runs_proofs_Lows.{low_wider}
 use Rattle.ygg_sym.specs.Layers.{closed, terms_in}
-use Rattle.ygg_oblige_pieces.specs.TermStates.{related_made, settled_made}
+use Rattle.ygg_oblige_laws.specs.TermStates.{related_made, settled_made}
 use Rattle.ygg_oblige_parts.specs.Makers.{trio_of}
 use Rattle.ygg_oblige_parts.proofs.Started.{started_from}
 use Rattle.ygg_oblige_parts.proofs.states.Maker.started.Goals as goal

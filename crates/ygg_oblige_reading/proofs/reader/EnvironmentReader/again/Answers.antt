@@ -1,10 +1,10 @@
 use Rattle.std.proofs.Common.{◌∙◌, [], length, refl, sym, ap}
 use Rattle.ygg_replay.specs.ygg_meaning.Obligations.{Again}
 use Rattle.ygg_replay.specs.ygg_meaning.Shapes.{values_fit, zeros_of}
-use Rattle.ygg_oblige_reading.specs.ygg_eval_lower.Bodies.{IsBlock}
-use Rattle.ygg_oblige_reading.specs.ygg_eval_lower.Layers.{variables_at}
-use Rattle.ygg_oblige_reading.specs.ygg_eval_lower.declared.body.Part.TheVariants as part
-use Rattle.ygg_oblige_schedules.specs.Schedules.{schedule_from}
+use Rattle.ygg_oblige_reading.specs.ygg_eval_block.Bodies.{IsBlock}
+use Rattle.ygg_oblige_reading.specs.ygg_eval_block.Layers.{variables_at}
+use Rattle.ygg_oblige_reading.specs.ygg_eval_block.declared.body.Part.TheVariants as part
+use Rattle.ygg_oblige_laws.specs.Schedules.{schedule_from}
 use Rattle.ygg_oblige_reading.specs.Here.{below_of, body_of, file_of, inputs_of, layer_of, low_env, numbers_of}
 use Rattle.ygg_oblige_reading.specs.Schedules.{given_here}
 use Rattle.ygg_oblige_reading.proofs.Means.{HasStand, none_bound, parts_are, read_so, wake_is}

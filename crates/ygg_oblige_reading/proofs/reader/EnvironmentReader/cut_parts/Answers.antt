@@ -1,5 +1,5 @@
 use Rattle.std.proofs.Common.{Option, refl, subst}
-use Rattle.ygg_eval_fronts.specs.declared.below.Fallen.{Fallen}
+use Rattle.ygg_eval_places.specs.declared.below.Fallen.{Fallen}
 use Rattle.ygg_oblige_reading.specs.Runs.{FallsHere}
 use Rattle.ygg_oblige_reading.proofs.Parts.{left_fits, no_parts, woken}
 use Rattle.ygg_oblige_reading.proofs.reader.EnvironmentReader.cut_parts.Goals as goal

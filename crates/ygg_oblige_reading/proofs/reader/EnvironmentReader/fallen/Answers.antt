@@ -2,9 +2,9 @@ use Rattle.std.proofs.Common.{◌≡◌, ◌∙◌, true, List, refl, ap}
 use Rattle.ygg_syntax.specs.declared.tree.Declared.{Declared}
 use Rattle.ygg_replay.specs.ygg_meaning.Environments.{bind}
 use Rattle.ygg_replay.specs.ygg_meaning.Shapes.{values_fit}
-use Rattle.ygg_oblige_reading.specs.ygg_eval_lower.Bodies.{arguments_in, variables_in}
-use Rattle.ygg_oblige_reading.specs.ygg_eval_lower.Layers.{variables_at}
-use Rattle.ygg_oblige_schedules.specs.Schedules.{stop_of, cut_from}
+use Rattle.ygg_oblige_reading.specs.ygg_eval_block.Bodies.{arguments_in, variables_in}
+use Rattle.ygg_oblige_reading.specs.ygg_eval_block.Layers.{variables_at}
+use Rattle.ygg_oblige_laws.specs.Schedules.{stop_of, cut_from}
 use Rattle.ygg_oblige_reading.specs.Here.{below_of, file_of, inputs_of, layer_of, low_env, numbers_of}
 use Rattle.ygg_oblige_reading.specs.Schedules.{given_here}
 use Rattle.ygg_oblige_reading.proofs.Falling.{memory_of}

@@ -1,8 +1,8 @@
 use Rattle.std.proofs.Common.{[], refl, ap}
 use Rattle.ygg_replay.specs.ygg_meaning.Obligations.{Init}
 use Rattle.ygg_replay.specs.ygg_meaning.Shapes.{values_fit, zeros_of}
-use Rattle.ygg_eval_fronts.specs.ygg_fronts.Fronts.{low_at_start}
-use Rattle.ygg_oblige_schedules.specs.Schedules.{schedule_from}
+use Rattle.ygg_eval_places.specs.ygg_fronts.Fronts.{low_at_start}
+use Rattle.ygg_oblige_laws.specs.Schedules.{schedule_from}
 use Rattle.ygg_oblige_reading.specs.Here.{below_of, inputs_of, layer_of, numbers_of}
 use Rattle.ygg_oblige_reading.specs.Schedules.{given_here}
 use Rattle.ygg_oblige_reading.proofs.Means.{has_none, picks_are, read_so}

@@ -2,9 +2,9 @@ use Rattle.std.proofs.Common.{◌∙◌, [], refl, ap}
 use Rattle.ygg_replay.specs.ygg_meaning.Environments.{Env}
 use Rattle.ygg_replay.specs.ygg_meaning.Machine.{based}
 use Rattle.ygg_replay.specs.ygg_meaning.Obligations.{Idle}
-use Rattle.ygg_eval_fronts.specs.ygg_sym_runs.Laws.{picked_by}
-use Rattle.ygg_eval_fronts.specs.ygg_fronts.Fronts.{lose_on, loss_picks}
-use Rattle.ygg_oblige_schedules.specs.Schedules.{schedule_from}
+use Rattle.ygg_eval_places.specs.ygg_sym_runs.Laws.{picked_by}
+use Rattle.ygg_eval_places.specs.ygg_fronts.Fronts.{lose_on, loss_picks}
+use Rattle.ygg_oblige_laws.specs.Schedules.{schedule_from}
 use Rattle.ygg_oblige_reading.specs.Here.{below_of, inputs_of, layer_of, numbers_of}
 use Rattle.ygg_oblige_reading.specs.Schedules.{given_here}
 use Rattle.ygg_oblige_reading.proofs.Means.{has_stand, left_is, read_so, wake_is}

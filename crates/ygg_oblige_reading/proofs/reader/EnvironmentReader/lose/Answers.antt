@@ -1,6 +1,6 @@
 use Rattle.std.proofs.Common.{ℕ, Bool, [], subst, arith}
 use Rattle.std.proofs.lemmas.Option.{slice_get_within}
-use Rattle.ygg_eval_fronts.specs.Steps.{FellBetween}
+use Rattle.ygg_eval_places.specs.Steps.{FellBetween}
 use Rattle.ygg_oblige_reading.specs.Here.{file_of}
 use Rattle.ygg_oblige_reading.proofs.reader.EnvironmentReader.lose.Goals as goal
 

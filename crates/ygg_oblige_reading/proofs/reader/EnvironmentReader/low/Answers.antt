@@ -2,9 +2,9 @@ use Rattle.std.proofs.Common.{◌≡◌, ◌+◌, ◌∙◌, List, sym, ap}
 use Rattle.ygg_syntax.specs.declared.tree.Declared.{Declared}
 use Rattle.ygg_replay.specs.ygg_meaning.Environments.{bind}
 use Rattle.ygg_replay.specs.ygg_meaning.Shapes.{values_fit}
-use Rattle.ygg_oblige_reading.specs.ygg_eval_lower.Layers.{variables_at}
-use Rattle.ygg_oblige_given.specs.ygg_oblige_pieces.Inputs.{given_env}
-use Rattle.ygg_oblige_given.specs.ygg_oblige_pieces.TermStates.{words_in}
+use Rattle.ygg_oblige_reading.specs.ygg_eval_block.Layers.{variables_at}
+use Rattle.ygg_oblige_given.specs.ygg_oblige_laws.Inputs.{given_env}
+use Rattle.ygg_oblige_given.specs.ygg_oblige_laws.TermStates.{words_in}
 use Rattle.ygg_oblige_reading.specs.Here.{file_of, inputs_of}
 use Rattle.ygg_oblige_reading.proofs.Stands.{fits_at}
 use Rattle.ygg_oblige_reading.proofs.reader.EnvironmentReader.low.Goals as goal

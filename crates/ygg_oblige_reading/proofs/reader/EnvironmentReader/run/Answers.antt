@@ -1,5 +1,5 @@
 use Rattle.std.proofs.Common.{◌∙◌, ℕ, Bool, ap}
-use Rattle.ygg_eval_fronts.specs.ygg_fronts.Fronts.{run_picks}
+use Rattle.ygg_eval_places.specs.ygg_fronts.Fronts.{run_picks}
 use Rattle.ygg_oblige_reading.specs.Here.{below_of, low_env}
 use Rattle.ygg_oblige_reading.specs.Runs.{args_env, layer_at, memory_env}
 use Rattle.ygg_oblige_reading.proofs.reader.EnvironmentReader.run.Goals as goal

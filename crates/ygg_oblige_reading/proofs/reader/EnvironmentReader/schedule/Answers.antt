@@ -3,10 +3,10 @@ use Rattle.ygg_syntax.specs.declared.tree.Declared.{Declared}
 use Rattle.ygg_replay.specs.ygg_meaning.Obligations.{Init, CallOf, CutOf, TickOf, CutTickOf, Idle, Again}
 use Rattle.ygg_replay.specs.ygg_meaning.Obligations as meaning
 use Rattle.ygg_replay.specs.ygg_meaning.Shapes.{values_fit}
-use Rattle.ygg_oblige_given.specs.ygg_oblige_pieces.Layers.{ShapesKept}
+use Rattle.ygg_oblige_given.specs.ygg_oblige_laws.LayerTerms.{ShapesKept}
 use Rattle.ygg_oblige_reading.specs.Sites.{obligation_of}
 use Rattle.ygg_oblige_given.specs.Tables.{given_values}
-use Rattle.ygg_eval_fronts.proofs.ChoiceNoting.{if_ok}
+use Rattle.ygg_eval_places.proofs.ChoiceNoting.{if_ok}
 use Rattle.ygg_oblige_reading.specs.Here.{inputs_of, numbers_of}
 use Rattle.ygg_oblige_reading.specs.Schedules.{IsRead}
 use Rattle.ygg_oblige_reading.proofs.EachKind.{

@@ -1,7 +1,7 @@
 use Rattle.std.proofs.Common.{◌≡◌, ◌∙◌, ◌+◌, refl, ap}
-use Rattle.ygg_oblige_given.specs.ygg_oblige_pieces.Inputs.{given_env}
-use Rattle.ygg_oblige_given.specs.ygg_oblige_pieces.States.{given_stand}
-use Rattle.ygg_oblige_given.specs.ygg_oblige_pieces.TermStates.{words_in}
+use Rattle.ygg_oblige_given.specs.ygg_oblige_laws.Inputs.{given_env}
+use Rattle.ygg_oblige_given.specs.ygg_oblige_laws.States.{given_stand}
+use Rattle.ygg_oblige_given.specs.ygg_oblige_laws.TermStates.{words_in}
 use Rattle.ygg_oblige_reading.specs.Here.{inputs_of, layer_of}
 use Rattle.ygg_oblige_reading.proofs.Stands.{fits_at, stand_parts}
 use Rattle.ygg_oblige_reading.proofs.reader.EnvironmentReader.stand.Goals as goal

@@ -2,8 +2,8 @@ use Rattle.std.proofs.Common.{◌≡◌, ◌∙◌, true, List, sym, ap, subst}
 use Rattle.ygg_syntax.specs.declared.tree.Declared.{Declared}
 use Rattle.ygg_replay.specs.ygg_meaning.Environments.{bind}
 use Rattle.ygg_replay.specs.ygg_meaning.Shapes.{env_fits, values_fit}
-use Rattle.ygg_oblige_given.specs.ygg_oblige_pieces.Inputs.{given_env}
-use Rattle.ygg_oblige_given.specs.ygg_oblige_pieces.Layers.{ShapesKept}
+use Rattle.ygg_oblige_given.specs.ygg_oblige_laws.Inputs.{given_env}
+use Rattle.ygg_oblige_given.specs.ygg_oblige_laws.LayerTerms.{ShapesKept}
 use Rattle.ygg_oblige_reading.specs.Here.{inputs_of}
 use Rattle.ygg_oblige_reading.proofs.reader.EnvironmentReader.state.Goals as goal
 

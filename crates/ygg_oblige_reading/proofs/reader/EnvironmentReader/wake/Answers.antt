@@ -1,8 +1,8 @@
 use Rattle.std.proofs.Common.{◌∙◌, ap, refl, []}
 use Rattle.ygg_replay.specs.ygg_meaning.Environments.{Env}
 use Rattle.ygg_replay.specs.ygg_meaning.Shapes.{values_fit}
-use Rattle.ygg_eval_fronts.specs.ygg_sym_runs.Laws.{picked_by}
-use Rattle.ygg_eval_fronts.specs.ygg_fronts.Fronts.{run_picks}
+use Rattle.ygg_eval_places.specs.ygg_sym_runs.Laws.{picked_by}
+use Rattle.ygg_eval_places.specs.ygg_fronts.Fronts.{run_picks}
 use Rattle.ygg_oblige_reading.specs.Here.{below_of, inputs_of, layer_of, low_env}
 use Rattle.ygg_oblige_reading.proofs.reader.EnvironmentReader.wake.Goals as goal
 

@@ -1,5 +1,5 @@
 use Rattle.ygg_machine.specs.Commands as command
-use Rattle.ygg_run_play.specs.ygg_run_text.Named.{operation_name}
+use Rattle.ygg_run_play.specs.Named.{operation_name}
 use Rattle.ygg_run_play.specs.Scene.{calling}
 use Rattle.ygg_run.proofs.Asked.{callable, signature_there}
 use Rattle.ygg_run.proofs.Played.{call_is}

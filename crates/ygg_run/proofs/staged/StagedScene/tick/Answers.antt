@@ -1,5 +1,5 @@
 use Rattle.ygg_machine.specs.Commands as command
-use Rattle.ygg_run_play.specs.ygg_run_text.Named.{tick_name}
+use Rattle.ygg_run_play.specs.Named.{tick_name}
 use Rattle.ygg_run_play.specs.Scene.{ticking}
 use Rattle.ygg_run.proofs.Asked.{tick_there, tick_named, layer_there}
 use Rattle.ygg_run.proofs.Played.{tick_is}

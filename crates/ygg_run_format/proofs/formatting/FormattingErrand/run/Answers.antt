@@ -1,5 +1,5 @@
-use Rattle.ygg_run_held.specs.ygg_eval_lower.Lower.{ending_of}
-use Rattle.ygg_run_held.specs.ygg_machine.Viewed.{floor_seen}
+use Rattle.ygg_run_image.specs.ygg_eval_block.Lower.{ending_of}
+use Rattle.ygg_run_image.specs.ygg_machine.Viewed.{floor_seen}
 use Rattle.ygg_run_format.proofs.Ended.{ended}
 use Rattle.ygg_run_format.proofs.formatting.FormattingErrand.run.Goals as goal
 

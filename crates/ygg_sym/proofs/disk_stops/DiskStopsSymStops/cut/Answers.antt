@@ -1,4 +1,4 @@
-use Rattle.ygg_sym_disk.specs.ygg_sym_runs.Runs.{Call}
+use Rattle.ygg_sym_spec.specs.ygg_sym_runs.Runs.{Call}
 use Rattle.ygg_sym.proofs.DiskFailed.{can_call_cut, cut_single, pick_single}
 use Rattle.ygg_sym.proofs.disk_stops.DiskStopsSymStops.cut.Goals as goal
 

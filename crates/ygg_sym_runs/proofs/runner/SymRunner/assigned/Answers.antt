@@ -9,7 +9,7 @@ use Rattle.ygg_sym_expr.specs.Exprs.{id_in}
 use Rattle.ygg_sym_expr.specs.Seen.{CanTerm, env_of}
 use Rattle.ygg_sym_expr.specs.declared.held.SymBinding.{SymBinding}
 use Rattle.ygg_direct.specs.ygg_type_rules.Statements.{source_typing}
-use Rattle.ygg_direct.specs.ygg_type_progress.Kinds.{source_keeps}
+use Rattle.ygg_direct.specs.ygg_type_sound.Kinds.{source_keeps}
 use Rattle.ygg_sym_runs.specs.Putting.{put_made}
 use Rattle.ygg_sym_runs.specs.Ready.{known_with, terms_of, CanGet, CanPut}
 use Rattle.ygg_sym_runs.specs.Runs.{places_of, sym_change, sym_source, sym_values}

@@ -3,7 +3,7 @@ use Rattle.ygg_cnf.specs.declared.lit.Lit.{Lit}
 use Rattle.ygg_watch_plain.proofs.PropagationLemmas.{variable_count_spreads}
 use Rattle.ygg_watch_plain.specs.Status.{state_of}
 use Rattle.ygg_watch_plain.specs.Propagation.{Propagation, Spreads}
-use Rattle.ygg_watch_trail.specs.Trail.{IsQuietBefore}
+use Rattle.ygg_watch_plain.specs.Trail.{IsQuietBefore}
 use Rattle.ygg_watch.proofs.WatchLemmas.{quiet_of}
 use Rattle.ygg_watch.proofs.StepLemmas.{closed, live_as, live_spread, spreads_on}
 use Rattle.ygg_watch.proofs.watching.WatchPropagate.spread.Goals.{in-Some, in-None}

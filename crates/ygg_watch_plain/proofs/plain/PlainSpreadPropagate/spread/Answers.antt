@@ -1,6 +1,6 @@
 use Rattle.std.proofs.Common.{subst, List, length}
 use Rattle.ygg_cnf.specs.declared.lit.Lit.{Lit}
-use Rattle.ygg_watch_trail.specs.Trail.{IsQuietBefore}
+use Rattle.ygg_watch_plain.specs.Trail.{IsQuietBefore}
 use Rattle.ygg_watch_plain.specs.Propagation.{IsConflict}
 use Rattle.ygg_watch_plain.proofs.StatusLemmas.{quiet_exact}
 use Rattle.ygg_watch_plain.proofs.plain.PlainSpreadPropagate.spread.Goals as goal

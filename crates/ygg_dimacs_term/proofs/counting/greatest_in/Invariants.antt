@@ -1,7 +1,0 @@
-use Rattle.std.proofs.Common.{◌≡◌, drop}
-use Rattle.ygg_dimacs_term.specs.Counted.{greatest_in}
-use Rattle.ygg_dimacs_term.proofs.counting.greatest_in.Given as goal
-
--- what is left decides
-abbrev pub invariant-loop-literal : goal.invariant-loop-literal
-invariant-loop-literal l = greatest_in l.greatest (drop l.literal-index l.clause) ≡ greatest_in l.most l.clause

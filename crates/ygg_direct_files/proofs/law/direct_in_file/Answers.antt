@@ -1,6 +1,0 @@
--- It is the lemma.
-use Rattle.ygg_direct_files.proofs.InFile.{direct_in_file}
-use Rattle.ygg_direct_files.proofs.law.direct_in_file.Goals as goal
-
-pub returns : goal.returns
-returns c = direct_in_file

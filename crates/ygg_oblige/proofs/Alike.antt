@@ -1,0 +1,37 @@
+-- Ends of runs, compared.
+use Rattle.std.proofs.Common.{◌≡◌, List, [], Option, Some, None, sym, subst}
+use Rattle.ygg_syntax.specs.declared.tree.Declared.{Declared}
+use Rattle.ygg_oblige_list.specs.ygg_bank.Nodes.{Extends}
+use Rattle.ygg_oblige_list.specs.ygg_bank.declared.node.Node.{Node}
+use Rattle.ygg_oblige_list.specs.ygg_shape.Wholes.{AllAlike}
+use Rattle.ygg_oblige_list.specs.ygg_shape_cells.declared.terms.SymValue.{SymValue}
+use Rattle.ygg_oblige_list.specs.ygg_sym_runs_proofs_Lows.{low_wider}
+use Rattle.ygg_oblige_list.specs.ygg_sym_runs.Lows.{LowShaped}
+use Rattle.ygg_oblige_list.proofs.of_ygg_sym_disk.Asked.{lows_alike}
+use Rattle.ygg_oblige_list.specs.ygg_sym_expr_proofs_Shaped.{some_wider}
+use Rattle.ygg_oblige_list.specs.ygg_sym_runs.Meaning.{AnswerShaped}
+use Rattle.ygg_oblige_list.specs.ygg_oblige_parts.SymLayer.{SymLayer}
+use Rattle.ygg_oblige_list.specs.ygg_oblige_parts.SymEnd.{SymEnd}
+use Rattle.ygg_oblige.specs.Making.{EndShaped}
+
+-- values that are two states of the same names are alike
+pub alike_is : (nodes : List Node) (ds : List Declared) (es bs xs ys : List SymValue) → es ≡ xs → bs ≡ ys → LowShaped nodes ds xs → LowShaped nodes ds ys →
+    AllAlike nodes es bs
+alike_is nodes ds es bs xs ys e f p q =
+    subst (λ zs. AllAlike nodes zs bs) (sym e) (subst (λ bs. AllAlike nodes xs bs) (sym f) (lows_alike nodes ds xs ys p q))
+
+pub answer_wider : (old new : List Node) (y : Option SymValue) → Extends old new → AnswerShaped old y → AnswerShaped new y
+answer_wider old new None g s = tt
+answer_wider old new (Some x) g s = some_wider old new x g s
+
+-- an end keeps its shape as nodes are added
+pub end_wider : (l : SymLayer) (old new : List Node) (e : SymEnd) → Extends old new → EndShaped l old e → EndShaped l new e
+end_wider l old new e g s = record {
+  memory = low_wider old new (l.layer.now).memory e.memory g s.memory;
+  low = low_wider old new l.low.now e.low g s.low;
+  answer = answer_wider old new e.answer g s.answer;
+}
+
+-- no values for no names
+pub no_values : (nodes : List Node) (xs : List SymValue) → xs ≡ [] → LowShaped nodes [] xs
+no_values nodes xs e = subst (λ (zs : List SymValue). LowShaped nodes [] zs) (sym e) tt

@@ -1,0 +1,101 @@
+-- Obligations' terms, step by step.
+use Rattle.std.proofs.Common.{◌≡◌, List, [], Option}
+use Rattle.ygg_value.specs.declared.operation.Op.TheVariants.{And, Imp}
+use Rattle.ygg_syntax.specs.declared.tree.Block.{Block}
+use Rattle.ygg_syntax.specs.declared.tree.Declared.{Declared}
+use Rattle.ygg_oblige_list.specs.ygg_rules.declared.rule.RuleKind.{RuleKind}
+use Rattle.ygg_oblige_list.specs.ygg_bank.Makes.{Make, Out, and_make, goes_on}
+use Rattle.ygg_oblige_list.specs.ygg_bank.Making.{made}
+use Rattle.ygg_oblige_list.specs.ygg_bank.declared.node.Id.{Id}
+use Rattle.ygg_oblige_list.specs.ygg_bank.declared.node.Node.{Node}
+use Rattle.ygg_oblige_list.specs.ygg_bank.declared.node.Node.TheVariants.{Bin}
+use Rattle.ygg_oblige_list.specs.ygg_shape_cells.declared.terms.SymValue.{SymValue}
+use Rattle.ygg_oblige_list.specs.ygg_sym_runs.StopTerms.{SymFallen}
+use Rattle.ygg_oblige_list.specs.ygg_sym_laws.Means.{values_in}
+use Rattle.ygg_oblige_list.specs.ygg_oblige_laws.Terms.{Finish}
+
+-- a run over values that another step made, without arguments
+pub without_from : {A B : Type 0} (Z : Out A) (R : A → List SymValue → Make B) (z : A) (none : List SymValue) (one : List Node) → z ≡ Z.value →
+    none ≡ [] → one ≡ Z.nodes → R z none one ≡ goes_on Z (λ z. R z [])
+without_from Z R z none one a b e = cc
+
+-- a run over values made for names that are these, without arguments
+pub zeros_from : {A B : Type 0} (Z : List Declared → Make A) (R : A → List SymValue → Make B) (ds es : List Declared) (z : A) (none : List SymValue)
+    (old one : List Node) → ds ≡ es → z ≡ (Z ds old).value → none ≡ [] → one ≡ (Z ds old).nodes → R z none one ≡ goes_on (Z es old) (λ z. R z [])
+zeros_from Z R ds es z none old one d a b e = cc
+
+-- a whole run, and the step after it
+pub runs_from : (kinds : List RuleKind) (R : Block → List Declared → Out Finish) (p : Option SymValue → List SymValue → List SymValue → Make Id)
+    (related : Id) (b c : Block) (ds es : List Declared) (answer : Option SymValue) (memory low : List SymValue) (some : Id) (one two : List Node) →
+    b ≡ c → ds ≡ es → answer ≡ (R b ds).value.answer → memory ≡ values_in (R b ds).value.vars → low ≡ (R b ds).value.to → one ≡ (R b ds).nodes →
+    some ≡ (p answer memory low one).value → two ≡ (p answer memory low one).nodes →
+    made kinds (Bin Imp related some) two
+    ≡ goes_on (R c es) (λ end. and_make (p end.answer (values_in end.vars) end.to) (λ some. made kinds (Bin Imp related some)))
+runs_from kinds R p related b c ds es answer memory low some one two e f h i j k m n = cc
+
+-- a run that power cuts, and what comes after it
+pub falls_from : (kinds : List RuleKind) (R : Block → List Declared → Out (SymFallen (List SymValue))) (r : Id → List SymValue → Make Id)
+    (related : Id) (b c : Block) (ds es : List Declared) (fallen : List SymValue) (reached hypothesis : Id) (one two : List Node) →
+    b ≡ c → ds ≡ es → fallen ≡ (R b ds).value.fallen → reached ≡ (R b ds).value.reached → one ≡ (R b ds).nodes →
+    hypothesis ≡ (made kinds (Bin And related reached) one).value → two ≡ (made kinds (Bin And related reached) one).nodes →
+    r hypothesis fallen two
+    ≡ goes_on (R c es) (λ left. and_make (made kinds (Bin And related left.reached)) (λ hypothesis. r hypothesis left.fallen))
+falls_from kinds R r related b c ds es fallen reached hypothesis one two e f h i j k m = cc
+
+-- a recovery, and the step after it
+pub recovers_from : (kinds : List RuleKind) (E : Out Finish) (s : Make Id) (p : Option SymValue → List SymValue → List SymValue → Make Id)
+    (hypothesis : Id) (answer : Option SymValue) (memory low : List SymValue) (side some conclusion : Id) (one two three four : List Node) →
+    answer ≡ E.value.answer → memory ≡ values_in E.value.vars → low ≡ E.value.to → one ≡ E.nodes → side ≡ (s one).value → two ≡ (s one).nodes →
+    some ≡ (p answer memory low two).value → three ≡ (p answer memory low two).nodes →
+    conclusion ≡ (made kinds (Bin And side some) three).value → four ≡ (made kinds (Bin And side some) three).nodes →
+    made kinds (Bin Imp hypothesis conclusion) four
+    ≡ goes_on E (λ end. and_make s (λ side. and_make (p end.answer (values_in end.vars) end.to) (λ some. and_make (made kinds (Bin And side some))
+    (λ conclusion. made kinds (Bin Imp hypothesis conclusion)))))
+recovers_from kinds E s p hypothesis answer memory low side some conclusion one two three four a b c d e f h i j k = cc
+
+-- two comparisons, joined
+pub both_from : (kinds : List RuleKind) (m : List SymValue → List SymValue → Make Id) (a b xs ys d e zs ws : List SymValue) (old : List Node) →
+    a ≡ xs → b ≡ ys → d ≡ zs → e ≡ ws → (memories bases : Id) (one two : List Node) → memories ≡ (m a b old).value → one ≡ (m a b old).nodes →
+    bases ≡ (m d e one).value → two ≡ (m d e one).nodes →
+    made kinds (Bin And memories bases) two ≡ goes_on (m xs ys old) (λ memories. and_make (m zs ws) (λ bases. made kinds (Bin And memories bases)))
+both_from kinds m a b xs ys d e zs ws old p q r s memories bases one two f h i j = cc
+
+-- two recoveries, after the first of which the base is settled, and both of which end alike
+pub alike_from : (kinds : List RuleKind) (r q : Make Finish) (s : Make Id) (m : List SymValue → List SymValue → Make Id)
+    (memory low other base : List SymValue) (side same : Id) (old one two three four : List Node) →
+    memory ≡ values_in (r old).value.vars → low ≡ (r old).value.to → one ≡ (r old).nodes →
+    other ≡ values_in (q one).value.vars → base ≡ (q one).value.to → two ≡ (q one).nodes →
+    side ≡ (s two).value → three ≡ (s two).nodes →
+    (let both = and_make (m memory other) (λ memories. and_make (m low base) (λ bases. made kinds (Bin And memories bases))) in
+    same ≡ (both three).value → four ≡ (both three).nodes →
+    made kinds (Bin And side same) four
+    ≡ goes_on (r old) (λ end. and_make q (λ other. and_make s (λ side.
+    and_make (m (values_in end.vars) (values_in other.vars)) (λ memories. and_make (m end.to other.to) (λ bases.
+    and_make (made kinds (Bin And memories bases)) (λ same. made kinds (Bin And side same))))))))
+alike_from kinds r q s m memory low other base side same old one two three four a b c d e f h i j k = cc
+
+-- a recovery that power cuts, and what is asked of those after it
+pub again_from : (kinds : List RuleKind) (C : Out (SymFallen (List SymValue))) (a : List SymValue → Make Id) (settled : Id)
+    (fallen : List SymValue) (reached conclusion hypothesis : Id) (one two three : List Node) →
+    fallen ≡ C.value.fallen → reached ≡ C.value.reached → one ≡ C.nodes →
+    conclusion ≡ (a fallen one).value → two ≡ (a fallen one).nodes →
+    hypothesis ≡ (made kinds (Bin And settled reached) two).value → three ≡ (made kinds (Bin And settled reached) two).nodes →
+    made kinds (Bin Imp hypothesis conclusion) three
+    ≡ goes_on C (λ left. and_make (a left.fallen) (λ conclusion.
+    and_make (made kinds (Bin And settled left.reached)) (λ hypothesis. made kinds (Bin Imp hypothesis conclusion))))
+again_from kinds C a settled fallen reached conclusion hypothesis one two three b c d e f h i = cc
+
+-- a whole run from a state below that another step made, without arguments, and the step after it
+pub formats_from : (L : Out (List SymValue)) (Z : List Declared → Make (List SymValue)) (R : List SymValue → List SymValue → List SymValue → Make Finish)
+    (p : List SymValue → Option SymValue → List SymValue → List SymValue → Make Id) (ds es : List Declared) (base zeros none : List SymValue)
+    (answer : Option SymValue) (memory low : List SymValue) (one two three : List Node) → ds ≡ es → base ≡ L.value → one ≡ L.nodes →
+    zeros ≡ (Z ds one).value → two ≡ (Z ds one).nodes → none ≡ [] → answer ≡ (R zeros none base two).value.answer →
+    memory ≡ values_in (R zeros none base two).value.vars → low ≡ (R zeros none base two).value.to → three ≡ (R zeros none base two).nodes →
+    p none answer memory low three
+    ≡ goes_on L (λ base. and_make (Z es) (λ zeros. and_make (R zeros [] base) (λ end. p [] end.answer (values_in end.vars) end.to)))
+formats_from L Z R p ds es base zeros none answer memory low one two three k a b c d e f h i j = cc
+
+-- a step over values for names that are these
+pub args_from : {B : Type 0} (f : List Declared → Make (List SymValue)) (ds es : List Declared) (r : List SymValue → Make B) (args : List SymValue)
+    (old one : List Node) → ds ≡ es → args ≡ (f ds old).value → one ≡ (f ds old).nodes → r args one ≡ goes_on (f es old) r
+args_from f ds es r args old one a b c = cc

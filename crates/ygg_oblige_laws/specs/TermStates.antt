@@ -1,0 +1,105 @@
+-- The states that a layer's obligations speak of, over terms: fresh inputs, and whether a layer's author relates or settles them.
+use Rattle.std.specs.Prelude.{ℕ, ◌+◌, List, [], ◌∷◌, ◌++◌, map}
+use Rattle.ygg_value.specs.Words.{word}
+use Rattle.ygg_value.specs.declared.operation.Op.TheVariants.{And}
+use Rattle.ygg_syntax.specs.declared.tree.Declared.{Declared}
+use Rattle.ygg_syntax.specs.declared.tree.Expr.{Expr}
+use Rattle.ygg_fronts.specs.ygg_meaning.Layer.{ClosedLayer}
+use Rattle.ygg_fronts.specs.ygg_meaning.Related.{relations}
+use Rattle.ygg_fronts.specs.ygg_meaning.Shapes.{shape_in}
+use Rattle.ygg_fronts.specs.ygg_rules.declared.rule.RuleKind.{RuleKind}
+use Rattle.ygg_fronts.specs.ygg_bank.Makes.{Make, pure, and_make}
+use Rattle.ygg_fronts.specs.ygg_bank.Making.{made}
+use Rattle.ygg_fronts.specs.ygg_bank.declared.node.Id.{Id}
+use Rattle.ygg_fronts.specs.ygg_bank.declared.node.Node.TheVariants.{Const, Bin}
+use Rattle.ygg_fronts.specs.ygg_shape_cells.Making.{compared}
+use Rattle.ygg_fronts.specs.ygg_shape_cells.declared.terms.SymValue.{SymValue}
+use Rattle.ygg_fronts.specs.ygg_shape.Fresh.{fresh_made, words_of}
+use Rattle.ygg_shape_hypothesis.specs.Finding.{facts_in}
+use Rattle.ygg_shape_hypothesis.specs.Replacing.{replaced_value}
+use Rattle.ygg_shape_hypothesis.specs.declared.replacing.Replacement.{Replacement}
+use Rattle.ygg_fronts.specs.ygg_sym_laws.Names.{SymScope, sym_bind}
+use Rattle.ygg_fronts.specs.ygg_sym_laws.Exprs.{SymFunctions, id_in, sym_value}
+
+-- how many words the values of declared names have
+abbrev pub words_in : List Declared → ℕ
+words_in [] = 0
+words_in (d ∷ ds) = words_of (shape_in d.shape) + words_in ds
+
+-- specification variables, a memory and a state below
+pub record Trio : Type 0 where
+  pub vars : List SymValue
+  pub memory : List SymValue
+  pub low : List SymValue
+
+-- terms in the stead of inputs, and in these in turn, so often that what is said of one input by another is followed a few times
+abbrev pub replaced_all : List Replacement → List SymValue → List SymValue
+replaced_all rs = map (λ x. replaced_value rs (replaced_value rs (replaced_value rs x)))
+
+module _ (kinds : List RuleKind) where
+  -- inputs for declared names, numbered on from a number
+  abbrev pub fresh_all : ℕ → List Declared → Make (List SymValue)
+  fresh_all number [] = pure []
+  fresh_all number (d ∷ ds) =
+      and_make (fresh_made kinds number (shape_in d.shape)) (λ x. and_make (fresh_all (number + words_of (shape_in d.shape)) ds) (λ xs. pure (x ∷ xs)))
+
+  -- whether two lists of values are equal, value by value
+  abbrev pub all_compared : List SymValue → List SymValue → Make Id
+  all_compared (x ∷ xs) (y ∷ ys) = and_make (compared kinds x y) (λ a. and_make (all_compared xs ys) (λ rest. made kinds (Bin And a rest)))
+  all_compared _ _ = made kinds (Const (word 1 1))
+
+  module _ (terms : SymFunctions) where
+    -- whether all of these expressions are 1
+    abbrev pub truths_made : List Expr → SymScope → Make Id
+    truths_made [] scope = made kinds (Const (word 1 1))
+    truths_made (e ∷ es) scope =
+        and_make (sym_value kinds terms e scope) (λ x. and_make (truths_made es scope) (λ rest. made kinds (Bin And (id_in x) rest)))
+
+    module _ (L : ClosedLayer) where
+      -- the names that `relate` and `always` see
+      abbrev pub trio_scope : Trio → SymScope
+      trio_scope x = record { own = sym_bind L.layer.state x.vars ++ sym_bind L.layer.memory x.memory; low = sym_bind L.low x.low }
+
+      -- whether the layer's relation holds
+      abbrev pub related_made : Trio → Make Id
+      related_made x = truths_made (relations L) (trio_scope x)
+
+      -- whether the state below is one that recovery may begin with
+      abbrev pub settled_made : List SymValue → Make Id
+      settled_made low = truths_made L.layer.settled (record { own = []; low = sym_bind L.low low })
+
+      -- fresh variables, memory and state below, numbered on from a number
+      abbrev pub fresh_trio : ℕ → Make Trio
+      fresh_trio number =
+          and_make (fresh_all number L.layer.state) (λ vars.
+          and_make (fresh_all (number + words_in L.layer.state) L.layer.memory) (λ memory.
+          and_make (fresh_all (number + words_in L.layer.state + words_in L.layer.memory) L.low) (λ low.
+          pure (record { vars = vars; memory = memory; low = low }))))
+
+-- the states that a layer's obligations begin with
+pub record Starting : Type 0 where
+  -- whether the relation holds of the inputs, and the states with what it says of them put in their stead
+  pub related : Id
+  pub from : Trio
+  -- whether the state below is settled, and that state with what is said of it put in its stead
+  pub settled : Id
+  pub settled_low : List SymValue
+
+-- a trio with terms in the stead of inputs
+abbrev pub replaced_trio : List Replacement → Trio → Trio
+replaced_trio rs x = record { vars = replaced_all rs x.vars; memory = replaced_all rs x.memory; low = replaced_all rs x.low }
+
+-- how many words the states of a layer have
+abbrev pub state_words : ClosedLayer → ℕ
+state_words L = words_in L.layer.state + words_in L.layer.memory + words_in L.low
+
+module _ (kinds : List RuleKind) (terms : SymFunctions) (L : ClosedLayer) where
+  -- the states that the obligations begin with, their inputs numbered on from a number
+  abbrev pub starting : ℕ → Make Starting
+  starting number =
+      and_make (fresh_trio kinds terms L number) (λ x.
+      and_make (related_made kinds terms L x) (λ related.
+      and_make (facts_in kinds related) (λ facts.
+      and_make (settled_made kinds terms L x.low) (λ settled.
+      and_make (facts_in kinds settled) (λ settling.
+      pure (record { related = related; from = replaced_trio facts x; settled = settled; settled_low = replaced_all settling x.low }))))))

@@ -1,4 +1,0 @@
-pub mod Begins
-pub mod Lists
-pub mod Phrases
-pub mod Results

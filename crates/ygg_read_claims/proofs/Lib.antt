@@ -1,9 +1,0 @@
-pub mod Answered
-pub mod Files
-pub mod Lists
-pub mod Shapes
-pub mod Declared
-pub mod Layers
-pub mod Parts
-pub mod Sources
-pub mod Statements

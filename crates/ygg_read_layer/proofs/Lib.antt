@@ -1,0 +1,13 @@
+pub mod Begins
+pub mod Lists
+pub mod Phrases
+pub mod Results
+pub mod Answered
+pub mod Files
+pub mod ClaimLists
+pub mod Shapes
+pub mod Declared
+pub mod Layers
+pub mod ClaimParts
+pub mod Sources
+pub mod Statements

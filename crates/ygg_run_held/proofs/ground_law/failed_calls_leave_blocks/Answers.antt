@@ -1,5 +1,0 @@
-use Rattle.ygg_run_held.proofs.Leaving.{failed_calls_leave_blocks}
-use Rattle.ygg_run_held.proofs.ground_law.failed_calls_leave_blocks.Goals as goal
-
-pub returns : goal.returns
-returns c = failed_calls_leave_blocks

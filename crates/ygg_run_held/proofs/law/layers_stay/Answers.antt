@@ -1,6 +1,0 @@
-use Rattle.ygg_run_held.specs.Laws.{as_seen}
-use Rattle.ygg_run_held.proofs.Staying.{layers_stay}
-use Rattle.ygg_run_held.proofs.law.layers_stay.Goals as goal
-
-pub returns : goal.returns
-returns c start cause layers h = layers_stay as_seen start h cause layers

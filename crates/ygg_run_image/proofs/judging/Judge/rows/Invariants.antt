@@ -1,0 +1,18 @@
+use Rattle.std.proofs.Common.{◌≡◌, ℕ, ◌+◌, ◌<◌, ◌≤◌}
+use Rattle.ygg_base_device.specs.Devices.{Image, block_at}
+use Rattle.ygg_run_image.specs.Image.{block_bytes, image_bytes}
+use Rattle.ygg_run_image.specs.Judged.{IsRowBlock}
+use Rattle.ygg_run_image.specs.Mounting.{IsShown}
+use Rattle.ygg_run_image.proofs.judging.Judge.rows.Given as goal
+
+-- the blocks of the rows so far are those of rows, and no image has changed
+abbrev pub invariant-loop-place : goal.invariant-loop-place
+invariant-loop-place g l = record {
+  end : l.place-end ≡ l.fn.self.geometry.rows;
+  geometry : l.self.geometry ≡ l.fn.self.geometry;
+  kept : g.D.Device.images l.device ≡ g.D.Device.images l.fn.device;
+  still : g.D.Device.attached l.device ≡ g.D.Device.attached l.fn.device;
+  later : g.D.Device.faults l.fn.device ≤ g.D.Device.faults l.device;
+  rows : (image : Image) → IsShown (g.D.Device.images l.fn.device) (g.D.Device.attached l.fn.device) (image_bytes l.fn.self.geometry) image →
+      (k : ℕ) → k < l.place → IsRowBlock l.fn.self.geometry (block_at (block_bytes l.fn.self.geometry) (k + 1) image.view);
+}

@@ -1,6 +1,0 @@
--- It is the lemma.
-use Rattle.ygg_run_text.proofs.Histories.{plays_are_histories}
-use Rattle.ygg_run_text.proofs.law.plays_are_histories.Goals as goal
-
-pub returns : goal.returns
-returns c = plays_are_histories

@@ -1,2 +1,0 @@
-pub mod LearnLemmas
-pub mod TeachLemmas

@@ -1,5 +1,0 @@
-use Rattle.ygg_solver_learn.specs.Learning.{IsReduced}
-use Rattle.ygg_solver_learn.proofs.analysis.minimize.Given as goal
-
-abbrev pub invariant-loop-place : goal.invariant-loop-place
-invariant-loop-place l = record { reduced : IsReduced l.clauses l.seen l.trail l.start l.at l.chain.items }

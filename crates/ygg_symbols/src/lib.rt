@@ -1,6 +1,0 @@
-//! Values by name.
-#![tactic(auto)]
-
-mod names;
-
-pub use names::Names;

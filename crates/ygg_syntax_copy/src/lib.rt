@@ -1,6 +1,0 @@
-//! Copies of layer files.
-#![tactic(auto)]
-
-mod copy;
-
-pub use copy::copy_file;

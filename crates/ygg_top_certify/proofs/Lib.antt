@@ -1,5 +1,0 @@
-mod Checked
-mod Again
-mod Opened
-mod Certifies
-mod Failing

@@ -1,4 +1,0 @@
-use Rattle.ygg_watch_order.proofs.heap.rise.Given as goal
-
-abbrev pub decreases-loop-at : goal.decreases-loop-at
-decreases-loop-at l = l.at

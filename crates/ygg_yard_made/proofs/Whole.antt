@@ -1,7 +1,0 @@
--- The law of the texts that are made.
-use Rattle.ygg_accept.proofs.of_ygg_read_unique.Files.{only_file}
-use Rattle.ygg_yard_made.specs.Laws.{MadeIsSound}
-use Rattle.ygg_yard_made.proofs.Sound.{is_sound}
-
-pub made_is_sound : MadeIsSound
-made_is_sound = is_sound only_file

@@ -1,5 +1,0 @@
-use Rattle.ygg_yard_made.proofs.Whole.{made_is_sound}
-use Rattle.ygg_yard_made.proofs.law.made_is_sound.Goals as goal
-
-pub returns : goal.returns
-returns c = made_is_sound

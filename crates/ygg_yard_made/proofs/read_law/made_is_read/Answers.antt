@@ -1,6 +1,0 @@
-use Rattle.ygg_print_tree.proofs.Relexed.{relexed}
-use Rattle.ygg_yard_made.proofs.Read.{is_read}
-use Rattle.ygg_yard_made.proofs.read_law.made_is_read.Goals as goal
-
-pub returns : goal.returns
-returns c = is_read relexed

@@ -1,5 +1,0 @@
-use Rattle.ygg_yard_made.proofs.Typed.{is_typed}
-use Rattle.ygg_yard_made.proofs.typed_law.made_is_typed.Goals as goal
-
-pub returns : goal.returns
-returns c = is_typed
