@@ -27,6 +27,7 @@ pub use Rattle.ygg_eval_expr.specs.ygg_type_sound_proofs_Names
 pub use Rattle.ygg_eval_expr.specs.ygg_type_sound_proofs_Parameters
 pub use Rattle.ygg_eval_expr.specs.ygg_type_sound_proofs_Tests
 pub mod Formulas
+pub mod Zeros
 pub use Rattle.ygg_eval_block.proofs.Public as ygg_eval_block_proofs_Public
 pub mod Taken
 pub mod Kept

@@ -27,6 +27,7 @@ mod shapes;
 mod silent;
 mod spec;
 mod state;
+mod zeroing;
 
 pub use formula::{Formula, Which};
 pub use law::runs_are_steps;
@@ -38,3 +39,4 @@ pub use state::are_values_of;
 pub use ygg_direct::{Picks, Power, Turn};
 pub use ygg_eval_block::{Body, Ended, Lower, Part, Stop, Typed, block_of, place_of, run_body};
 pub use ygg_eval_expr::{AsyncDisk, Ground, SyncDisk, fresh_async, fresh_sync};
+pub use zeroing::zeros;

@@ -15,7 +15,7 @@ use Rattle.ygg_eval.specs.ygg_eval_block.Layers.{closed_at}
 use Rattle.ygg_eval.specs.ygg_eval_block.Lower.{Standing, Meaning, Ending, Whole, Down, Failed, Starved, Cause, PowerLoss, GivenUp, Passes, IsLower}
 use Rattle.ygg_machine.specs.Floors.{Raised, lower_of, place_of, silent, zeroed, Begins, floor_meaning}
 use Rattle.ygg_machine.specs.FloorKeeps.{state_on, BlockKept, block_kept, at_place}
-use Rattle.ygg_machine.specs.Zeros.{zero_values}
+use Rattle.ygg_eval.specs.Zeros.{zero_values}
 use Rattle.ygg_machine.specs.Commands.{Command, formatting, waking}
 use Rattle.ygg_machine.specs.Towers.{FormatFallsHere, CommandEnds}
 use Rattle.ygg_machine.proofs.Typing.{bind_zeros}

@@ -61,7 +61,7 @@ use Rattle.ygg_machine.specs.Floors.{
   floor_meaning,
 }
 use Rattle.ygg_machine.specs.FloorStacks.{layer_there}
-use Rattle.ygg_machine.specs.Zeros.{zero_values}
+use Rattle.ygg_eval.specs.Zeros.{zero_values}
 use Rattle.ygg_machine.proofs.Serving.{serves_on}
 use Rattle.ygg_machine.proofs.Typing.{memory_zeros}
 

@@ -97,7 +97,7 @@ use Rattle.ygg_eval.specs.ygg_eval_block_proofs_Blocks.{LayerAt, bind_fits, bloc
 use Rattle.ygg_eval.specs.ygg_eval_block.Runs.{Finished}
 use Rattle.ygg_eval.proofs.Values.{bound_fits}
 use Rattle.ygg_machine.specs.Floors.{memory_at}
-use Rattle.ygg_machine.specs.Zeros.{AreShapes, zero_values}
+use Rattle.ygg_eval.specs.Zeros.{AreShapes, zero_values}
 
 shapes_kept : (ds : List Declared) → AllTyped ds → AreShapes ds
 shapes_kept [] t = All-nil (λ (d : Declared). IsShape (shape_in d.shape))

@@ -19,7 +19,7 @@ use Rattle.ygg_eval.specs.ygg_eval_block.declared.run.Ended.{Ended}
 use Rattle.ygg_eval.specs.ygg_eval_block.declared.run.Ended.TheVariants as ended
 use Rattle.ygg_eval.specs.ygg_eval_block.declared.body.Part.{Part}
 use Rattle.ygg_eval.specs.ygg_eval_block.declared.body.Part.TheVariants as part
-use Rattle.ygg_machine.specs.Zeros.{zero_values}
+use Rattle.ygg_eval.specs.Zeros.{zero_values}
 
 -- the values of a layer's memory, and the machine below
 pub record Raised (S : Type 0) : Type 0 where

@@ -17,7 +17,6 @@ pub mod FloorStacks
 pub mod Bottoms
 pub mod BlocksTold
 pub mod Viewed
-pub mod Zeros
 pub mod Answered
 pub mod Told
 pub mod Leaves

@@ -7,10 +7,9 @@ ghost use Rattle.ygg_machine.specs.Floors.{memory_at, EndsAs, run_ending, silent
 
 use crate::tower::Tower;
 use crate::viewed::Viewed;
-use crate::zeroing::zeros;
 use std::alloc::Global;
 use std::marker::Model;
-use ygg_eval::{Body, Ended, Lower, Part, Power, Turn, Typed, run_body};
+use ygg_eval::{Body, Ended, Lower, Part, Power, Turn, Typed, run_body, zeros};
 use ygg_list::{NoMemory, Sequence};
 use ygg_syntax::tree::Declared;
 use ygg_value::Values;
@@ -115,7 +114,7 @@ impl<W: Lower + Drop> Floor<W> {
     ghost use Rattle.ygg_eval.specs.ygg_eval_block.Bodies.{IsBlock, IsRunnable, kind_of, arguments_in};
     ghost use Rattle.ygg_eval.specs.ygg_eval_block.Lower.{Serves, AfterWhole};
     ghost use Rattle.ygg_machine.specs.Floors.{RunsOn};
-    ghost use Rattle.ygg_machine.specs.Zeros.{zero_values};
+    ghost use Rattle.ygg_eval.specs.Zeros.{zero_values};
 
     /// The layer of a file at a place on the machine below, which is that of the number before, where it was neither formatted nor woken yet: it keeps
     /// nothing. It takes no memory.

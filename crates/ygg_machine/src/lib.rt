@@ -6,7 +6,6 @@ mod grounded;
 pub mod law;
 mod tower;
 pub mod viewed;
-mod zeroing;
 
 pub use floor::Floor;
 pub use grounded::Grounded;

@@ -49,7 +49,7 @@ use Rattle.ygg_sched.specs.ygg_meaning.Stack.{tables_of, tables_of_kind}
 use Rattle.ygg_eval.specs.ygg_eval_block.Layers.{below_at, closed_at, machine_at, variables_at}
 use Rattle.ygg_eval.proofs.OnDisk.{variables_zero}
 use Rattle.ygg_eval.proofs.OnSpec.{layer_variables}
-use Rattle.ygg_replay.specs.Zeros.{zero_values}
+use Rattle.ygg_eval.specs.Zeros.{zero_values}
 use Rattle.ygg_replay.proofs.Typing.{zeros_shaped}
 
 tables_typed : (d : DiskText) (kind : DiskKind) → none (disk_errors d) ≡ true → AllTyped (tables_of_kind kind d)

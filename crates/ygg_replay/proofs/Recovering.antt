@@ -25,7 +25,7 @@ use Rattle.ygg_replay.specs.Runs.{RanBy, CutBy, LostBy}
 use Rattle.ygg_sched.specs.Fitting.{halt_meant}
 use Rattle.ygg_replay.specs.Sites.{closed_in, machine_in, memory_at, low_at, state_at}
 use Rattle.ygg_replay.specs.Steps.{meant_at}
-use Rattle.ygg_replay.specs.Zeros.{zero_values}
+use Rattle.ygg_eval.specs.Zeros.{zero_values}
 use Rattle.ygg_replay.proofs.Typing.{bind_zeros}
 
 -- waking the machine below takes no pick and leaves its base

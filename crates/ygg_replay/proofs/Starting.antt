@@ -24,7 +24,7 @@ use Rattle.ygg_eval.proofs.Values.{bind_count}
 use Rattle.ygg_replay.specs.declared.site.ReplaySite.{ReplaySite}
 use Rattle.ygg_replay.specs.Sites.{IsHere, closed_in}
 use Rattle.ygg_replay.specs.Steps.{IsStart}
-use Rattle.ygg_replay.specs.Zeros.{zero_values}
+use Rattle.ygg_eval.specs.Zeros.{zero_values}
 use Rattle.ygg_replay.proofs.Typing.{bind_zeros, memory_zeros}
 use Rattle.ygg_syntax.specs.declared.tree.File.{File}
 use Rattle.ygg_eval.specs.ygg_type_sound.Questions.{question_fits}

@@ -15,7 +15,7 @@ use Rattle.ygg_replay.specs.Ends.{EndFits, FellIn, RecoveredFrom, end_at, same_l
 use Rattle.ygg_replay.specs.Runs.{RanBy}
 use Rattle.ygg_replay.specs.Sites.{closed_in, machine_in, memory_at, low_at, state_at}
 use Rattle.ygg_replay.specs.Steps.{meant_at}
-use Rattle.ygg_replay.specs.Zeros.{zero_values}
+use Rattle.ygg_eval.specs.Zeros.{zero_values}
 use Rattle.ygg_replay.proofs.Recovering.{same_bound}
 use Rattle.ygg_replay.proofs.Serving.{low_fits}
 use Rattle.ygg_replay.proofs.Typing.{bind_zeros}

@@ -25,7 +25,7 @@ use Rattle.ygg_eval.specs.ygg_eval_block.declared.body.Body.{Body}
 use Rattle.ygg_eval.specs.ygg_eval_block.Bodies.{kind_of, IsBlock}
 use Rattle.ygg_eval.specs.ygg_eval_block_proofs_Blocks.{blocks_kept, block_typing, layer_typing}
 use Rattle.ygg_eval.proofs.Values.{bound_fits}
-use Rattle.ygg_replay.specs.Zeros.{AreShapes, zero_values}
+use Rattle.ygg_eval.specs.Zeros.{AreShapes, zero_values}
 
 shapes_kept : (ds : List Declared) → AllTyped ds → AreShapes ds
 shapes_kept [] t = All-nil (λ (d : Declared). IsShape (shape_in d.shape))

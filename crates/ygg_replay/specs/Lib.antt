@@ -7,7 +7,7 @@ pub use Rattle.ygg_sched.specs.ygg_type_rules
 pub use Rattle.ygg_eval.specs.ygg_type_sound_proofs_Fits
 pub use Rattle.ygg_eval.specs.ygg_type_sound_proofs_Names
 pub use Rattle.ygg_eval.specs.ygg_type_sound_proofs_Tests
-pub mod Zeros
+pub use Rattle.ygg_eval.specs.Zeros
 pub mod Schedules
 pub mod Sites
 pub mod Runs

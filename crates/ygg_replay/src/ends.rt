@@ -25,12 +25,11 @@ ghost use Rattle.ygg_sched.specs.Cases.{obligation_at};
 ghost use Rattle.ygg_replay.specs.Schedules.{schedule_fits};
 ghost use Rattle.ygg_replay.specs.Sites.{IsBelow, IsHere, LowFits, closed_in, low_at, machine_in, state_at};
 ghost use Rattle.ygg_replay.specs.Steps.{meant_at};
-ghost use Rattle.ygg_replay.specs.Zeros.{zero_values};
+ghost use Rattle.ygg_eval.specs.Zeros.{zero_values};
 
 use crate::site::ReplaySite;
-use crate::zeroing::zeros;
 use ygg_base::{Bits, DiskKind};
-use ygg_eval::{Part, SpecLower, spec_lower};
+use ygg_eval::{Part, SpecLower, spec_lower, zeros};
 use ygg_list::{NoMemory, Sequence};
 use ygg_sched::{CaseKind, Schedule};
 use ygg_value::{Shape, Value, Values, same, zero};

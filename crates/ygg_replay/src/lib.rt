@@ -13,15 +13,14 @@ mod search;
 mod showing;
 mod site;
 mod spec;
-mod zeroing;
 
 pub use law::{one_ending, refuted_exactly};
 pub use replaying::replay_text;
 pub use schedule::Replayed;
 pub use showing::replay;
 pub use site::ReplaySite;
+pub use ygg_eval::zeros;
 pub use ygg_sched::{
     Halt, Schedule, Typed, case_named, holds_with, hypothesis, print_schedule, read_schedule,
     refused, shows,
 };
-pub use zeroing::zeros;

@@ -10,8 +10,7 @@ ghost use Rattle.ygg_replay.specs.Steps.{CanStep, EndsIn, EndsSomehow, HasOperat
 
 use crate::runs::power_with;
 use crate::site::ReplaySite;
-use crate::zeroing::zeros;
-use ygg_eval::{Body, Ended, Lower, Part, SpecLower, run_body, spec_lower};
+use ygg_eval::{Body, Ended, Lower, Part, SpecLower, run_body, spec_lower, zeros};
 use ygg_list::{NoMemory, Sequence};
 use ygg_sched::{CaseKind, Schedule, Turn};
 use ygg_value::{Value, Values};

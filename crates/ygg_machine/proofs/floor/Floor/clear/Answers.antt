@@ -1,6 +1,6 @@
 use Rattle.std.proofs.Common.{sym, subst, ap, ◌∙◌}
 use Rattle.ygg_machine.specs.Floors.{Raised, memory_at}
-use Rattle.ygg_machine.specs.Zeros.{AreShapes, zero_values}
+use Rattle.ygg_eval.specs.Zeros.{AreShapes, zero_values}
 use Rattle.ygg_machine.proofs.Typing.{shapes_at}
 use Rattle.ygg_machine.proofs.floor.Floor.clear.Goals as goal
 

@@ -1,7 +1,7 @@
 use Rattle.std.proofs.Common.{◌≡◌, true, List, refl, sym, ap, ◌∙◌, subst}
 use Rattle.ygg_value.specs.declared.row.Value.{Value}
 use Rattle.ygg_sched.specs.ygg_meaning.Shapes.{values_fit}
-use Rattle.ygg_replay.specs.Zeros.{AreShapes, zero_values}
+use Rattle.ygg_eval.specs.Zeros.{AreShapes, zero_values}
 use Rattle.ygg_replay.proofs.Starting.{nothing_but_whole, started_so, start_runs, whole_only}
 use Rattle.ygg_replay.proofs.Typing.{state_shapes, state_zeros}
 use Rattle.ygg_replay.proofs.site.ReplaySite.start.Goals as goal

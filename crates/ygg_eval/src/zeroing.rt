@@ -2,8 +2,8 @@
 
 ghost use Rattle.std.specs.Prelude.{◌≡◌, IfOk};
 ghost use Rattle.ygg_value.specs.Shapes.{IsShape};
-ghost use Rattle.ygg_sched.specs.ygg_meaning.Shapes.{shape_in};
-ghost use Rattle.ygg_replay.specs.Zeros.{AreShapes, zero_values};
+ghost use Rattle.ygg_direct.specs.ygg_meaning.Shapes.{shape_in};
+ghost use Rattle.ygg_eval.specs.Zeros.{AreShapes, zero_values};
 
 use std::alloc::Global;
 use ygg_list::NoMemory;

@@ -1,6 +1,6 @@
 use Rattle.std.proofs.Common.{◌≡◌, ◌++◌, drop}
-use Rattle.ygg_replay.specs.Zeros.{AreShapes, zero_values}
-use Rattle.ygg_replay.proofs.zeroing.zeros.Given as goal
+use Rattle.ygg_eval.specs.Zeros.{AreShapes, zero_values}
+use Rattle.ygg_eval.proofs.zeroing.zeros.Given as goal
 
 -- those so far, and then what is left
 abbrev pub invariant-loop-variable : goal.invariant-loop-variable
