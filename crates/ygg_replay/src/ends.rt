@@ -1,12 +1,14 @@
 //! The runs that an obligation speaks of, with a schedule's picks.
 
-ghost use Rattle.std.specs.Prelude.{◌≡◌, ◌&&◌, [], IfOk, IfSome, IsTrue, Some};
+ghost use Rattle.std.specs.Prelude.{◌≡◌, ◌&&◌, [], codes, IfOk, IfSome, IsTrue, Some};
 ghost use Rattle.ygg_syntax.specs.declared.grammar.BlockKind.TheVariants as kind;
 ghost use Rattle.ygg_syntax.specs.declared.tree.Block.{Block};
 ghost use Rattle.ygg_sched.specs.ygg_meaning.Machine.{based};
 ghost use Rattle.ygg_sched.specs.ygg_meaning.Obligations.{Again, Idle, Obligation};
 ghost use Rattle.ygg_sched.specs.ygg_meaning.Violates.{FallsSo, Formatted, RanWhole};
-ghost use Rattle.ygg_sched.specs.ygg_meaning.Stack.{tables_of};
+ghost use Rattle.ygg_sched.specs.ygg_meaning.Shapes.{shape_in};
+ghost use Rattle.ygg_sched.specs.ygg_meaning.Stack.{table_named, tables_of};
+ghost use Rattle.ygg_value.specs.Shapes.{zero_of};
 ghost use Rattle.ygg_eval.specs.ygg_eval_block.Bodies.{IsRunnable, block_in, kind_of};
 ghost use Rattle.ygg_replay.specs.Ends.{
   EndFits,
@@ -83,9 +85,9 @@ impl<'a> ReplaySite<'a> {
         spec_lower(self.alloc, self.typed, self.place, low.copy(self.alloc)?)
     }
 
-    /// The tables of the file's disk, of zeros. Its only error is out of memory.
-    fn fresh_tables(&self) -> Result<Values, NoMemory>
-        ensures { IfOk result (λ low. low ≡ zero_values (tables_of self.now.typed.now.file.disk)) }
+    /// A table of the file's disk, of zeros. Its only error is out of memory.
+    fn fresh_table(&self) -> Result<Value, NoMemory>
+        ensures { IfOk result (λ table. table ≡ zero_of (shape_in (table_named (codes "view") self.now.typed.now.file.disk).shape)) }
     {
         let geometry = self.typed.geometry();
         let shape = Shape::Table {
@@ -93,12 +95,19 @@ impl<'a> ReplaySite<'a> {
             words: geometry.words,
             width: geometry.width,
         };
+        zero(self.alloc, shape)
+    }
+
+    /// The tables of the file's disk, of zeros. Its only error is out of memory.
+    fn fresh_tables(&self) -> Result<Values, NoMemory>
+        ensures { IfOk result (λ low. low ≡ zero_values (tables_of self.now.typed.now.file.disk)) }
+    {
         let mut tables = Values::new(self.alloc);
-        tables.push(zero(self.alloc, shape)?)?;
-        match geometry.kind {
+        tables.push(self.fresh_table()?)?;
+        match self.typed.geometry().kind {
             DiskKind::Sync => Ok(tables),
             DiskKind::Async => {
-                tables.push(zero(self.alloc, shape)?)?;
+                tables.push(self.fresh_table()?)?;
                 Ok(tables)
             }
         }
