@@ -7,6 +7,6 @@ mod scanner;
 mod spelling;
 
 pub use law::follows_rules;
-pub use recognize::is_name_byte;
+pub use recognize::{is_name_byte, number_of};
 pub use scanner::tokens;
 pub use spelling::{Spelled, keyword_of};

@@ -1,12 +1,13 @@
 //! The runs that an obligation speaks of, with the picks that an environment names by place.
 
-ghost use Rattle.std.specs.Prelude.{◌≡◌, [], IfOk, IsTrue};
+ghost use Rattle.std.specs.Prelude.{◌≡◌, ◌+◌, [], IfOk, IsTrue};
 ghost use Rattle.ygg_eval_places.specs.Bits.{bits_in};
 ghost use Rattle.ygg_eval_places.specs.Steps.{FellBetween};
 ghost use Rattle.ygg_replay.specs.ygg_meaning.Environments.{bind};
 ghost use Rattle.ygg_replay.specs.ygg_meaning.Shapes.{env_fits, values_fit};
 ghost use Rattle.ygg_oblige_given.specs.ygg_oblige_laws.Inputs.{given_env};
 ghost use Rattle.ygg_oblige_given.specs.ygg_oblige_laws.States.{given_stand};
+ghost use Rattle.ygg_oblige_given.specs.ygg_oblige_laws.TermStates.{words_in};
 ghost use Rattle.ygg_oblige_given.specs.ygg_oblige_laws.LayerTerms.{ShapesKept};
 ghost use Rattle.ygg_oblige_laws.specs.Schedules.{woken_picks};
 ghost use Rattle.ygg_eval_places.specs.ygg_sym_runs.Laws.{picked_by};
@@ -71,12 +72,21 @@ impl<'a> EnvironmentReader<'a> {
         ensures fits { IfOk result (LowFits self.now) }
         ensures is { IfOk result (λ low. low_env self.now low ≡ (given_stand (inputs_of self.now) self.now.site.states (layer_of self.now)).low) }
     {
+        let from = self.low_from()?;
+        let low = self.table.values(self.alloc, from, self.site.low)?;
+        Ok(low)
+    }
+
+    /// The number of the first input of the state below: those of the layer's state and memory come before. Its only error is out of memory.
+    fn low_from(&self) -> Result<u64, NoMemory>
+        requires { IsHere self.now }
+        ensures { IfOk result (λ from. from ≡ self.now.site.states + words_in self.now.site.layer.now.state + words_in self.now.site.layer.now.memory) }
+    {
         let state = words_in(self.site.layer.state.as_slice())?;
         let memory = words_in(self.site.layer.memory.as_slice())?;
         let after_state = further(self.site.states, state)?;
         let from = further(after_state, memory)?;
-        let low = self.table.values(self.alloc, from, self.site.low)?;
-        Ok(low)
+        Ok(from)
     }
 
     /// The values of the specification's variables that the obligation begins with. Its only error is out of memory.

@@ -1,8 +1,8 @@
 //! Numbers in decimal digits, and stops.
 
-ghost use Rattle.std.specs.Prelude.{◌≡◌, ◌≤◌, ◌^◌, ◌+◌, ◌*◌, ◌-◌, IfSome, IsNone, OnOk, ◌++◌};
+ghost use Rattle.std.specs.Prelude.{◌≡◌, ◌++◌, OnOk};
 ghost use Rattle.std.specs.List.{list_all};
-ghost use Rattle.ygg_base.specs.Lexing.{is_digit, has_leading_zero, number_of};
+ghost use Rattle.ygg_base.specs.Lexing.{is_digit};
 ghost use Rattle.ygg_sched.specs.Numbers.{decimal_in, stop_in};
 ghost use Rattle.ygg_sched.specs.Printing.{stop_lines};
 
@@ -10,47 +10,13 @@ use crate::schedule::Halt;
 use crate::words::after_front;
 use std::alloc::Global;
 use ygg_base::{NoMemory, Text};
+use ygg_lex::number_of;
 
 /// Whether all bytes are decimal digits.
 fn are_digits(bytes: &[u8]) -> bool
     ensures { result ≡ list_all is_digit bytes.now }
 {
     bytes.iter().all(|byte| byte.is_ascii_digit())
-}
-
-/// Whether several digits begin with 0.
-fn has_leading_zero(digits: &[u8]) -> bool
-    ensures { result ≡ has_leading_zero digits.now }
-{
-    digits.len() > 1 && digits[0] == b'0'
-}
-
-/// The number that a further digit gives, unless it is 2 ^ 64 or more.
-fn with_digit(number: u64, digit: u8) -> Option<u64>
-    ensures some { IfSome result (λ longer. longer ≡ 10 * number + (digit - 48)) }
-    ensures none { IsNone result → 2 ^ 64 ≤ 10 * number + (digit - 48) }
-{
-    number
-        .checked_mul(10)?
-        .checked_add(u64::from(digit.saturating_sub(b'0')))
-}
-
-/// The number of these digits, unless it has a leading zero or is 2 ^ 64 or more.
-#[tactic(auto, using(crate::proofs::Decimals::too_great, crate::proofs::Decimals::all_digits))]
-fn number_of(digits: &[u8]) -> Option<u64>
-    ensures { result ≡ number_of digits.now }
-{
-    if has_leading_zero(digits) {
-        return None;
-    }
-    let mut number: u64 = 0;
-    for digit in digits {
-        match with_digit(number, *digit) {
-            Some(longer) => number = longer,
-            None => return None,
-        }
-    }
-    Some(number)
 }
 
 /// The number below 2 ^ 64 that decimal digits without a leading zero give.

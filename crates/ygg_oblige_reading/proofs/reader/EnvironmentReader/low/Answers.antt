@@ -1,10 +1,9 @@
-use Rattle.std.proofs.Common.{◌≡◌, ◌+◌, ◌∙◌, List, sym, ap}
+use Rattle.std.proofs.Common.{◌∙◌, List, sym, ap}
 use Rattle.ygg_syntax.specs.declared.tree.Declared.{Declared}
 use Rattle.ygg_replay.specs.ygg_meaning.Environments.{bind}
 use Rattle.ygg_replay.specs.ygg_meaning.Shapes.{values_fit}
 use Rattle.ygg_oblige_reading.specs.ygg_eval_block.Layers.{variables_at}
 use Rattle.ygg_oblige_given.specs.ygg_oblige_laws.Inputs.{given_env}
-use Rattle.ygg_oblige_given.specs.ygg_oblige_laws.TermStates.{words_in}
 use Rattle.ygg_oblige_reading.specs.Here.{file_of, inputs_of}
 use Rattle.ygg_oblige_reading.proofs.Stands.{fits_at}
 use Rattle.ygg_oblige_reading.proofs.reader.EnvironmentReader.low.Goals as goal
@@ -12,12 +11,7 @@ use Rattle.ygg_oblige_reading.proofs.reader.EnvironmentReader.low.Goals as goal
 pub values-requires-clause-fit : goal.values-requires-clause-fit
 values-requires-clause-fit c =
     let r = c.args.self.now in
-    let l = r.site.layer.now in
-    let from : c.in_ok-from.from ≡ r.site.states + words_in l.state + words_in l.memory =
-    c.in_ok-from.ensures
-    ∙ ap (λ n. n + c.in_ok-memory.memory) (c.in_ok-after_state.ensures ∙ ap (λ n. r.site.states + n) (c.in_ok-state.ensures ∙ ap words_in c.as_slice.ensures))
-    ∙ ap (λ n. r.site.states + words_in l.state + n) (c.in_ok-memory.ensures ∙ ap words_in c.as_slice-2.ensures) in
-    fits_at (inputs_of r) r.site.low.now _ c.in_ok-from.from _ c.requires.here.low_is from c.requires.fit
+    fits_at (inputs_of r) r.site.low.now _ c.in_ok-from.from _ c.requires.here.low_is c.in_ok-from.ensures c.requires.fit
 
 pub returns-clause-fits : goal.returns-clause-fits
 returns-clause-fits c =
@@ -26,11 +20,7 @@ returns-clause-fits c =
 pub returns-clause-is : goal.returns-clause-is
 returns-clause-is c =
     let r = c.args.self.now in
-    let l = r.site.layer.now in
     let low = variables_at (file_of r) r.site.place in
-    let from : c.in_ok-from.from ≡ r.site.states + words_in l.state + words_in l.memory =
-    c.in_ok-from.ensures
-    ∙ ap (λ n. n + c.in_ok-memory.memory) (c.in_ok-after_state.ensures ∙ ap (λ n. r.site.states + n) (c.in_ok-state.ensures ∙ ap words_in c.as_slice.ensures))
-    ∙ ap (λ n. r.site.states + words_in l.state + n) (c.in_ok-memory.ensures ∙ ap words_in c.as_slice-2.ensures) in
     ap (λ (ds : List Declared). bind ds c.in_ok-low.low) (sym c.requires.here.low_is) ∙ c.in_ok-low.ensures.bound
-    ∙ ap (λ (ds : List Declared). given_env (inputs_of r) c.in_ok-from.from ds) c.requires.here.low_is ∙ ap (λ n. given_env (inputs_of r) n low) from
+    ∙ ap (λ (ds : List Declared). given_env (inputs_of r) c.in_ok-from.from ds) c.requires.here.low_is
+    ∙ ap (λ n. given_env (inputs_of r) n low) c.in_ok-from.ensures
