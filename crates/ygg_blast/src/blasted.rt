@@ -94,7 +94,8 @@ pub fn circuit_of(alloc: Global, bank: &Bank, term: Id) -> Result<Groups, NoMemo
     groups_of(alloc, bank, term, reached.as_slice())
 }
 
-/// Puts the clauses of a term into what takes clauses: those that `clauses_of` gives. Its only error is out of memory, after which nothing is said of what it holds.
+/// Puts the clauses of a term into what takes clauses: those that `clauses_of` gives. Its only error is out of memory, after which nothing is said
+/// of what it holds.
 pub fn put_clauses<S: ClauseSink>(
     alloc: Global,
     bank: &Bank,

@@ -5,11 +5,11 @@ use Rattle.std.proofs.lemmas.List.{append-nil}
 use Rattle.ygg_cnf.specs.declared.lit.Lit.{Lit}
 use Rattle.ygg_cnf.specs.declared.log.Step.{Step}
 use Rattle.ygg_cnf.specs.declared.log.Step.TheVariants.{Added}
-use Rattle.ygg_log_text.specs.Lines.{step_line}
-use Rattle.ygg_log_text.specs.Steps.{IsStep, BeginsStep}
-use Rattle.ygg_log_text.specs.Runs.{IsRun}
-use Rattle.ygg_log_text.specs.Reading.{IsReading}
-use Rattle.ygg_log_text.specs.declared.reader.StepReader.{StepReader}
+use Rattle.ygg_cnf.specs.Lines.{step_line}
+use Rattle.ygg_cnf.specs.Steps.{IsStep, BeginsStep}
+use Rattle.ygg_cnf.specs.Runs.{IsRun}
+use Rattle.ygg_cnf.specs.Reading.{IsReading}
+use Rattle.ygg_cnf.specs.declared.reader.StepReader.{StepReader}
 use Rattle.ygg_cert.specs.declared.item.Goal.{Goal}
 use Rattle.ygg_cert.specs.declared.verdict.Heard.{Heard}
 use Rattle.ygg_cert.specs.declared.verdict.Heard.TheVariants as heard

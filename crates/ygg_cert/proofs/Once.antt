@@ -5,8 +5,8 @@ use Rattle.std.proofs.lemmas.List.{append-nil, append_cancel_left, length-append
 use Rattle.ygg_cnf.specs.declared.log.Step.{Step}
 use Rattle.ygg_cnf.specs.declared.log.Step.TheVariants.{Added}
 use Rattle.ygg_cnf.specs.Logs.{clause_of}
-use Rattle.ygg_log_text.specs.Lines.{step_line}
-use Rattle.ygg_log_text.proofs.Decoding.{same_step}
+use Rattle.ygg_cnf.specs.Lines.{step_line}
+use Rattle.ygg_cnf.proofs.Decoding.{same_step}
 use Rattle.ygg_base.specs.declared.failure.Refusal.{Refusal}
 use Rattle.ygg_cert.specs.declared.item.Goal.{Goal}
 use Rattle.ygg_cert.specs.declared.verdict.CertEnd.{CertEnd}

@@ -8,8 +8,8 @@ use Rattle.std.proofs.lemmas.List.Elements.{All-head, All-tail, Contains-append_
 use Rattle.ygg_cnf.specs.declared.lit.Lit.{Lit}
 use Rattle.ygg_cnf.specs.declared.log.Step.{Step}
 use Rattle.ygg_cnf.specs.Logs.{clause_of, Derives, EndsEmpty}
-use Rattle.ygg_log_text.specs.Lines.{step_line}
-use Rattle.ygg_log_text.specs.Steps.{IsStep}
+use Rattle.ygg_cnf.specs.Lines.{step_line}
+use Rattle.ygg_cnf.specs.Steps.{IsStep}
 use Rattle.ygg_cert.specs.declared.item.Goal.{Goal}
 use Rattle.ygg_cert.specs.declared.item.Item.{Item}
 use Rattle.ygg_cert.specs.Texts.{first_line, opening_line, closing_line, last_line, item_text, certificate_of}

@@ -9,7 +9,7 @@ use Rattle.ygg_cnf.specs.declared.log.Step.TheVariants.{Added}
 use Rattle.ygg_cnf.specs.Derivations.{HasClause, DerivesClause, Resolves, Resolvent}
 use Rattle.ygg_cnf.specs.Logs.{clause_of, chain_of, Derives}
 use Rattle.ygg_cnf.proofs.Soundness.{numbered_among, chain_within}
-use Rattle.ygg_log_text.specs.Steps.{IsNumber, IsLiteral, IsStep}
+use Rattle.ygg_cnf.specs.Steps.{IsNumber, IsLiteral, IsStep}
 
 -- what holds of each literal that a clause has
 all_from : (clause : List Lit) → ((y : Lit) → Contains clause y → IsLiteral y) → All IsLiteral clause

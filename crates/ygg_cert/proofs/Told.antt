@@ -1,7 +1,7 @@
 -- What a reader of certificates says.
 use Rattle.std.proofs.Common.{◌≡◌, ℕ, ◌+◌, List, [], ◌∷◌, ◌++◌, length, drop, refl, sym, ap, subst, inl, inr}
 use Rattle.std.specs.Prelude.{codes}
-use Rattle.ygg_log_text.proofs.Ending.{can_end}
+use Rattle.ygg_cnf.proofs.Ending.{can_end}
 use Rattle.ygg_base.specs.declared.failure.Refusal.{Refusal}
 use Rattle.ygg_cert.specs.declared.item.Goal.{Goal}
 use Rattle.ygg_cert.specs.declared.expected.Expected.{Expected}

@@ -3,7 +3,7 @@ use Rattle.std.specs.Prelude.{◌≡◌, ℕ, ◌+◌, ◌^◌, ◌<◌, List, [
 use Rattle.ygg_cnf.specs.declared.lit.Lit.{Lit}
 use Rattle.ygg_cnf.specs.declared.log.Step.{Step}
 use Rattle.ygg_cnf.specs.Logs.{Derives, Refutes}
-use Rattle.ygg_log_text.specs.Steps.{IsLiteral, IsStep}
+use Rattle.ygg_cnf.specs.Steps.{IsLiteral, IsStep}
 use Rattle.ygg_cert.specs.declared.item.Goal.{Goal}
 use Rattle.ygg_cert.specs.declared.item.Item.{Item}
 use Rattle.ygg_cert.specs.declared.verdict.CertEnd.{CertEnd}

@@ -1,5 +1,4 @@
 pub use Rattle.ygg_cnf.specs as ygg_cnf
-pub use Rattle.ygg_log_text.specs as ygg_log_text
 pub mod Texts
 pub mod Places
 pub mod Judging

@@ -4,8 +4,8 @@ use Rattle.ygg_cnf.specs.declared.lit.Lit.{Lit}
 use Rattle.ygg_cnf.specs.declared.log.Step.{Step}
 use Rattle.ygg_cnf.specs.Logs.{clause_of, chain_of}
 use Rattle.ygg_cnf.specs.Derivations.{HasClause, DerivesClause}
-use Rattle.ygg_log_text.specs.Lines.{step_line}
-use Rattle.ygg_log_text.specs.Steps.{IsStep}
+use Rattle.ygg_cnf.specs.Lines.{step_line}
+use Rattle.ygg_cnf.specs.Steps.{IsStep}
 use Rattle.ygg_cert.specs.declared.item.Goal.{Goal}
 use Rattle.ygg_cert.specs.Texts.{first_line, goal_line, closing_line, last_line}
 

@@ -1,7 +1,7 @@
 -- What a reader of certificates has read.
 use Rattle.std.specs.Prelude.{◌≡◌, ℕ, ◌+◌, ◌<◌, List, [], ◌∷◌, ◌++◌, length, drop, Contains, codes}
 use Rattle.ygg_cnf.specs.declared.log.Step.TheVariants.{Added}
-use Rattle.ygg_log_text.specs.Reading.{IsReading}
+use Rattle.ygg_cnf.specs.Reading.{IsReading}
 use Rattle.ygg_cert.specs.declared.item.Goal.{Goal}
 use Rattle.ygg_cert.specs.declared.verdict.Heard.{Heard}
 use Rattle.ygg_cert.specs.declared.verdict.Heard.TheVariants as heard

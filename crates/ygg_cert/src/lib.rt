@@ -35,5 +35,4 @@ pub use reading::Reading;
 pub use source::Goals;
 pub use verdict::{CertEnd, Fed};
 pub use ygg_chain::Checker;
-pub use ygg_cnf::{Clause, Lit, Log, Step, derivations_are_sound};
-pub use ygg_log_text::put_number;
+pub use ygg_cnf::{Clause, Lit, Log, Step, derivations_are_sound, put_number};

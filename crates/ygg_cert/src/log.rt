@@ -9,8 +9,8 @@ use crate::verdict::Heard;
 use std::alloc::Global;
 use ygg_base::Text;
 use ygg_chain::Checker;
+use ygg_cnf::{StepHeard, StepReader};
 use ygg_list::NoMemory;
-use ygg_log_text::{StepHeard, StepReader};
 
 /// Which line of a log is being read.
 #[derive(Clone, Copy)]

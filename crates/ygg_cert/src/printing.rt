@@ -2,15 +2,14 @@
 
 ghost use Rattle.std.specs.Prelude.{◌≡◌, ◌++◌, IfOk, OnOk};
 ghost use Rattle.std.specs.List.{flat_map};
-ghost use Rattle.ygg_log_text.specs.Lines.{step_line};
+ghost use Rattle.ygg_cnf.specs.Lines.{step_line};
 ghost use Rattle.ygg_cert.specs.Texts.{first_line, opening_line, closing_line, last_line, item_text, certificate_of};
 
 use crate::item::{CertItems, Item};
 use std::alloc::Global;
 use ygg_base::Text;
-use ygg_cnf::Step;
+use ygg_cnf::{Step, put_number, put_step};
 use ygg_list::NoMemory;
-use ygg_log_text::{put_number, put_step};
 
 /// Adds the first line. Its only error is out of memory.
 pub fn put_first(out: &mut Text) -> Result<(), NoMemory>

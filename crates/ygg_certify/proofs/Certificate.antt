@@ -4,8 +4,8 @@ use Rattle.std.specs.List.{flat_map}
 use Rattle.std.proofs.lemmas.List.{append-nil}
 use Rattle.std.proofs.lemmas.List.Concat.{flat_map-cons}
 use Rattle.ygg_base.specs.declared.status.Status.{Status}
-use Rattle.ygg_log_text.specs.Pieces.{Flows, Passes, log_lines}
-use Rattle.ygg_log_text.proofs.Flowing.{begun, joined, passes_on, passes_short}
+use Rattle.ygg_cnf.specs.Pieces.{Flows, Passes, log_lines}
+use Rattle.ygg_cnf.proofs.Flowing.{begun, joined, passes_on, passes_short}
 use Rattle.ygg_cert.specs.Texts.{opening_line, closing_line, item_text}
 use Rattle.ygg_certify.specs.declared.finding.Finding.{Finding}
 use Rattle.ygg_certify.specs.Findings.{item_of, lines_of, log_of}

@@ -6,19 +6,19 @@ use Rattle.std.proofs.lemmas.List.Elements.{All-nil, All-cons, All-head, All-tai
 use Rattle.ygg_syntax.specs.declared.tree.File.{File}
 use Rattle.ygg_syntax.specs.Files.{IsDerived}
 use Rattle.ygg_type.specs.ygg_type_rules.Files.{IsTyped}
-use Rattle.ygg_oblige_decided.specs.ygg_rules.declared.rule.RuleKind.{RuleKind}
-use Rattle.ygg_oblige_decided.specs.ygg_meaning.Claims.{Claim, claims_of}
-use Rattle.ygg_oblige_decided.specs.ygg_bank.Nodes.{HasWidth, IsBank}
-use Rattle.ygg_oblige_decided.specs.ygg_bank.declared.node.Id.{Id}
-use Rattle.ygg_oblige_decided.specs.ygg_bank.declared.node.Node.{Node}
+use Rattle.ygg_certify.specs.ygg_rules.declared.rule.RuleKind.{RuleKind}
+use Rattle.ygg_certify.specs.ygg_meaning.Claims.{Claim, claims_of}
+use Rattle.ygg_certify.specs.ygg_bank.Nodes.{HasWidth, IsBank}
+use Rattle.ygg_certify.specs.ygg_bank.declared.node.Id.{Id}
+use Rattle.ygg_certify.specs.ygg_bank.declared.node.Node.{Node}
 use Rattle.ygg_cert.specs.ygg_cnf.Logs.{Refutes}
-use Rattle.ygg_oblige_decided.specs.ygg_gates.Groups.{translated}
-use Rattle.ygg_oblige_decided.specs.ygg_oblige_laws.Terms.{file_made}
-use Rattle.ygg_oblige_decided.specs.ygg_oblige_laws.Meaning.{AreTermsOf, claim_name}
+use Rattle.ygg_certify.specs.ygg_gates.Groups.{translated}
+use Rattle.ygg_certify.specs.ygg_oblige_laws.Terms.{file_made}
+use Rattle.ygg_certify.specs.ygg_oblige_laws.Meaning.{AreTermsOf, claim_name}
 use Rattle.ygg_oblige.specs.declared.obligation.Obligation.{Obligation}
 use Rattle.ygg_oblige.specs.Obligations.{names_in, terms_in}
-use Rattle.ygg_cert.specs.ygg_log_text.Steps.{IsStep}
-use Rattle.ygg_certify.proofs.of_ygg_log_text.Flowing.{puts_done}
+use Rattle.ygg_cert.specs.ygg_cnf.Steps.{IsStep}
+use Rattle.ygg_certify.proofs.of_ygg_cnf.Flowing.{puts_done}
 use Rattle.ygg_cert.specs.Laws.{IsItemOf, AreItemsOf, PrintedIsChecked}
 use Rattle.ygg_cert.specs.Judging.{IsWhole}
 use Rattle.ygg_certify.specs.declared.finding.Outcome.{Outcome}

@@ -7,24 +7,24 @@ use Rattle.ygg_base.specs.Outside.{Reading}
 use Rattle.ygg_syntax.specs.declared.tree.File.{File}
 use Rattle.ygg_syntax.specs.Files.{IsDerived}
 use Rattle.ygg_type.specs.ygg_type_rules.Files.{IsTyped}
-use Rattle.ygg_oblige_decided.specs.ygg_rules.declared.rule.RuleKind.{RuleKind}
-use Rattle.ygg_oblige_decided.specs.ygg_meaning.Stack.{FileRefines}
-use Rattle.ygg_oblige_decided.specs.ygg_meaning.Claims.{Claim, ClaimHolds, claims_of}
-use Rattle.ygg_oblige_decided.specs.ygg_meaning.HistoryLaws.{RefinesByList}
-use Rattle.ygg_oblige_decided.specs.ygg_type_sound.ProgressLaws.{TypedHistories}
-use Rattle.ygg_oblige_decided.specs.ygg_bank.Nodes.{IsBank}
-use Rattle.ygg_oblige_decided.specs.ygg_bank.declared.node.Id.{Id}
-use Rattle.ygg_oblige_decided.specs.ygg_bank.declared.node.Node.{Node}
+use Rattle.ygg_certify.specs.ygg_rules.declared.rule.RuleKind.{RuleKind}
+use Rattle.ygg_certify.specs.ygg_meaning.Stack.{FileRefines}
+use Rattle.ygg_certify.specs.ygg_meaning.Claims.{Claim, ClaimHolds, claims_of}
+use Rattle.ygg_certify.specs.ygg_meaning.HistoryLaws.{RefinesByList}
+use Rattle.ygg_certify.specs.ygg_meaning_laws.ProgressLaws.{TypedHistories}
+use Rattle.ygg_certify.specs.ygg_bank.Nodes.{IsBank}
+use Rattle.ygg_certify.specs.ygg_bank.declared.node.Id.{Id}
+use Rattle.ygg_certify.specs.ygg_bank.declared.node.Node.{Node}
 use Rattle.ygg_cert.specs.ygg_cnf.declared.lit.Lit.{Lit}
 use Rattle.ygg_cert.specs.ygg_cnf.declared.log.Step.{Step}
 use Rattle.ygg_cert.specs.ygg_cnf.Literals.{SatisfiesAll}
 use Rattle.ygg_cert.specs.ygg_cnf.Logs.{Refutes}
-use Rattle.ygg_oblige_decided.specs.ygg_gates.Groups.{translated}
-use Rattle.ygg_oblige_decided.specs.ygg_gates.Laws.{SatisfiableExactly}
-use Rattle.ygg_oblige_decided.specs.ygg_decide.Deciding.{IsNeverZero}
-use Rattle.ygg_oblige_decided.specs.ygg_oblige_laws.Terms.{file_made}
-use Rattle.ygg_oblige_decided.specs.ygg_oblige_laws.Meaning.{IsTermOf, AreTermsOf, claim_name}
-use Rattle.ygg_oblige_decided.specs.Laws.{NeverZeroHolds}
+use Rattle.ygg_certify.specs.ygg_gates.Groups.{translated}
+use Rattle.ygg_certify.specs.ygg_gates.Laws.{SatisfiableExactly}
+use Rattle.ygg_certify.specs.ygg_decide.Deciding.{IsNeverZero}
+use Rattle.ygg_certify.specs.ygg_oblige_laws.Terms.{file_made}
+use Rattle.ygg_certify.specs.ygg_oblige_laws.Meaning.{IsTermOf, AreTermsOf, claim_name}
+use Rattle.ygg_certify.specs.Laws.{NeverZeroHolds}
 use Rattle.ygg_oblige.specs.declared.obligation.Obligation.{Obligation}
 use Rattle.ygg_oblige.specs.Obligations.{names_in, terms_in}
 use Rattle.ygg_cert.specs.declared.item.Goal.{Goal}

@@ -7,7 +7,7 @@ use Rattle.ygg_cert.specs.ygg_cnf.declared.lit.Lit.{Lit}
 use Rattle.ygg_cert.specs.ygg_cnf.declared.log.Step.{Step}
 use Rattle.ygg_cert.specs.ygg_cnf.Logs.{Refutes}
 use Rattle.ygg_decide.specs.ygg_gates.Groups.{Translated, translated}
-use Rattle.ygg_cert.specs.ygg_log_text.Steps.{IsLiteral, IsStep}
+use Rattle.ygg_cert.specs.ygg_cnf.Steps.{IsLiteral, IsStep}
 use Rattle.ygg_cert.specs.Laws.{StepsMay}
 use Rattle.ygg_decide.specs.declared.deciding.Decided.{Decided}
 use Rattle.ygg_decide.specs.declared.deciding.Decided.TheVariants as decided

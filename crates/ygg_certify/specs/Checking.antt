@@ -6,8 +6,8 @@ use Rattle.ygg_base.specs.declared.status.Status.{Status}
 use Rattle.ygg_base.specs.declared.status.Status.TheVariants.{Done, Refuted, Refused}
 use Rattle.ygg_base.specs.Outside.{Reading}
 use Rattle.ygg_syntax.specs.declared.tree.File.{File}
-use Rattle.ygg_oblige_decided.specs.ygg_rules.declared.rule.RuleKind.{RuleKind}
-use Rattle.ygg_oblige_decided.specs.ygg_meaning.Claims.{claims_of}
+use Rattle.ygg_certify.specs.ygg_rules.declared.rule.RuleKind.{RuleKind}
+use Rattle.ygg_certify.specs.ygg_meaning.Claims.{claims_of}
 use Rattle.ygg_report.specs.Lines.{ended, refused_line}
 use Rattle.ygg_cert.specs.Judging.{IsWhole, IsBadAt, IsWrongAt, IsCutAt}
 use Rattle.ygg_certify.specs.FileGoals.{goals_of, IsRight}

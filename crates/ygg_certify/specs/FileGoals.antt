@@ -1,17 +1,17 @@
 -- What a certificate of a layer file is for.
 use Rattle.std.specs.Prelude.{◌≡◌, ℕ, List, [], ◌∷◌, map}
 use Rattle.ygg_syntax.specs.declared.tree.File.{File}
-use Rattle.ygg_oblige_decided.specs.ygg_rules.declared.rule.RuleKind.{RuleKind}
-use Rattle.ygg_oblige_decided.specs.ygg_meaning.Environments.{Env}
-use Rattle.ygg_oblige_decided.specs.ygg_meaning.Machine.{State}
-use Rattle.ygg_oblige_decided.specs.ygg_meaning.Stack.{BottomOf, FileRefines}
-use Rattle.ygg_oblige_decided.specs.ygg_meaning.History.{Entry, History, Allows}
-use Rattle.ygg_oblige_decided.specs.ygg_meaning.Claims.{claims_of}
-use Rattle.ygg_oblige_decided.specs.ygg_bank.declared.node.Id.{Id}
-use Rattle.ygg_oblige_decided.specs.ygg_bank.declared.node.Node.{Node}
-use Rattle.ygg_oblige_decided.specs.ygg_gates.Groups.{translated}
-use Rattle.ygg_oblige_decided.specs.ygg_oblige_laws.Terms.{file_made}
-use Rattle.ygg_oblige_decided.specs.ygg_oblige_laws.Meaning.{claim_name}
+use Rattle.ygg_certify.specs.ygg_rules.declared.rule.RuleKind.{RuleKind}
+use Rattle.ygg_certify.specs.ygg_meaning.Environments.{Env}
+use Rattle.ygg_certify.specs.ygg_meaning.Machine.{State}
+use Rattle.ygg_certify.specs.ygg_meaning.Stack.{BottomOf, FileRefines}
+use Rattle.ygg_certify.specs.ygg_meaning.History.{Entry, History, Allows}
+use Rattle.ygg_certify.specs.ygg_meaning.Claims.{claims_of}
+use Rattle.ygg_certify.specs.ygg_bank.declared.node.Id.{Id}
+use Rattle.ygg_certify.specs.ygg_bank.declared.node.Node.{Node}
+use Rattle.ygg_certify.specs.ygg_gates.Groups.{translated}
+use Rattle.ygg_certify.specs.ygg_oblige_laws.Terms.{file_made}
+use Rattle.ygg_certify.specs.ygg_oblige_laws.Meaning.{claim_name}
 use Rattle.ygg_oblige.specs.declared.obligation.Obligation.{Obligation}
 use Rattle.ygg_cert.specs.declared.item.Goal.{Goal}
 use Rattle.ygg_cert.specs.declared.verdict.CertEnd.{CertEnd}

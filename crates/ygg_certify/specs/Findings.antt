@@ -6,7 +6,7 @@ use Rattle.ygg_cert.specs.ygg_cnf.declared.log.Step.{Step}
 use Rattle.ygg_cert.specs.ygg_cnf.Logs.{Refutes, SpentLog}
 use Rattle.ygg_decide.specs.ygg_gates.Groups.{translated}
 use Rattle.ygg_decide.specs.ygg_gates.Laws.{IsZeroIn}
-use Rattle.ygg_cert.specs.ygg_log_text.Steps.{IsStep}
+use Rattle.ygg_cert.specs.ygg_cnf.Steps.{IsStep}
 use Rattle.ygg_cert.specs.declared.item.Item.{Item}
 use Rattle.ygg_cert.specs.Texts.{item_text, certificate_of}
 use Rattle.ygg_certify.specs.declared.finding.Outcome.{Outcome}

@@ -2,19 +2,20 @@
 
 ghost use Rattle.std.specs.Prelude.{◌≡◌, ◌<◌, ◌≤◌, All, IfOk};
 ghost use Rattle.ygg_base.specs.Outside.{Rose};
-ghost use Rattle.ygg_oblige_decided.specs.ygg_bank.Nodes.{HasWidth};
+ghost use Rattle.ygg_certify.specs.ygg_bank.Nodes.{HasWidth};
 ghost use Rattle.ygg_oblige.specs.Obligations.{names_in, terms_in};
 ghost use Rattle.ygg_certify.specs.Certifying.{AreFound, Concludes, IsCertifying};
 
 use crate::finding::{Findings, all_hold, find};
+use crate::law::never_zero_holds;
 use crate::putting::put_findings;
 use std::alloc::Global;
 use ygg_base::{Sink, Status};
 use ygg_cert::{checked_is_refuted, derivations_are_sound, printed_is_checked};
+use ygg_decide::{Bank, Book, clauses_mean_terms};
 use ygg_list::NoMemory;
 use ygg_oblige::{Obligation, obligations};
-use ygg_oblige_decided::law::never_zero_holds;
-use ygg_oblige_decided::{Bank, Book, clauses_mean_terms, refines_by_list, typed_histories};
+use ygg_oblige_laws::{refines_by_list, typed_histories};
 use ygg_type::Typed;
 
 /// What certifying a layer file comes to.

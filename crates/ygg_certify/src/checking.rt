@@ -2,17 +2,18 @@
 
 ghost use Rattle.std.specs.Prelude.{◌≡◌, ◌≤◌, length, IfOk, IsErr};
 ghost use Rattle.ygg_base.specs.Outside.{IsOpen, Rose};
-ghost use Rattle.ygg_oblige_decided.specs.ygg_meaning.Claims.{claims_of};
+ghost use Rattle.ygg_certify.specs.ygg_meaning.Claims.{claims_of};
 ghost use Rattle.ygg_cert.specs.Opened.{JudgesOpen};
 ghost use Rattle.ygg_certify.specs.FileGoals.{ChecksAll, IfChecked, IsRight, goals_of};
 
 use crate::goals::FileGoals;
+use crate::law::never_zero_holds;
 use std::alloc::Global;
 use ygg_base::Library;
 use ygg_cert::{CertEnd, LibraryFailed, check_open, checked_is_refuted, derivations_are_sound};
+use ygg_decide::{Bank, Book, clauses_mean_terms};
 use ygg_oblige::obligations;
-use ygg_oblige_decided::law::never_zero_holds;
-use ygg_oblige_decided::{Bank, Book, clauses_mean_terms, refines_by_list, typed_histories};
+use ygg_oblige_laws::{refines_by_list, typed_histories};
 use ygg_type::Typed;
 
 /// What is said of the file that the library has open as the certificate of a layer file, for the terms that the rules make of its obligations. It is read in

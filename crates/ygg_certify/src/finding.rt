@@ -1,7 +1,7 @@
 //! What is found of terms by deciding them.
 
 ghost use Rattle.std.specs.Prelude.{◌≡◌, ◌<◌, ◌^◌, true, false, length, All, IfOk};
-ghost use Rattle.ygg_cert.specs.ygg_log_text.Steps.{IsLiteral};
+ghost use Rattle.ygg_cert.specs.ygg_cnf.Steps.{IsLiteral};
 ghost use Rattle.ygg_decide.specs.Deciding.{IsDecided};
 ghost use Rattle.ygg_decide.specs.ygg_bank.Nodes.{HasWidth, Stands};
 ghost use Rattle.ygg_certify.specs.Findings.{IsFinding, IsHeld};

@@ -1,14 +1,14 @@
 //! The goals of a layer file: the clauses of the terms of its obligations.
 
 ghost use Rattle.std.specs.Prelude.{◌≡◌, All, IfOk};
-ghost use Rattle.ygg_oblige_decided.specs.ygg_bank.Nodes.{HasWidth};
+ghost use Rattle.ygg_certify.specs.ygg_bank.Nodes.{HasWidth};
 ghost use Rattle.ygg_certify.specs.FileGoals.{goal_in};
 
 use std::alloc::Global;
 use ygg_cert::{Checker, Goals, HeldGoal};
+use ygg_decide::{Bank, put_clauses};
 use ygg_list::NoMemory;
 use ygg_oblige::Obligation;
-use ygg_oblige_decided::{Bank, put_clauses};
 
 /// Obligations with the bank of their terms. The clauses of a term are put into a checker when its goal is asked for, so that those of one obligation alone are
 /// in memory.

@@ -1,7 +1,7 @@
 //! Which literals may stand in a certificate.
 
 ghost use Rattle.std.specs.Prelude.{◌<◌, All};
-ghost use Rattle.ygg_cert.specs.ygg_log_text.Steps.{IsLiteral, IsNumber};
+ghost use Rattle.ygg_cert.specs.ygg_cnf.Steps.{IsLiteral, IsNumber};
 
 use ygg_cert::{Clause, Lit};
 

@@ -3,14 +3,14 @@
 ghost use Rattle.std.specs.Prelude.{◌≡◌, ◌≤◌, []};
 ghost use Rattle.std.specs.List.{flat_map};
 ghost use Rattle.ygg_base.specs.Outside.{Rose};
-ghost use Rattle.ygg_log_text.specs.Pieces.{Passes, Finishes, FinishesWith};
+ghost use Rattle.ygg_cnf.specs.Pieces.{Passes, Finishes, FinishesWith};
 ghost use Rattle.ygg_certify.specs.Findings.{lines_of, log_of, text_of};
 
 use crate::finding::{Finding, Outcome};
 use std::alloc::Global;
 use ygg_base::{Sink, Status, Text};
 use ygg_cert::{Step, put_closing, put_first, put_opening};
-use ygg_log_text::{finish, pass, pass_log};
+use ygg_cnf::{finish, pass, pass_log};
 
 /// The steps of the log that was found; none where none was.
 fn steps(outcome: &Outcome) -> &[Step]

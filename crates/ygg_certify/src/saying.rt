@@ -3,8 +3,8 @@
 ghost use Rattle.std.specs.Prelude.{◌≡◌, ◌≤◌, ℕ, List, length, IfOk};
 ghost use Rattle.ygg_base.specs.Outside.{IsOpen, Rose};
 ghost use Rattle.ygg_syntax.specs.declared.tree.File.{File};
-ghost use Rattle.ygg_oblige_decided.specs.ygg_rules.declared.rule.RuleKind.{RuleKind};
-ghost use Rattle.ygg_oblige_decided.specs.ygg_meaning.Claims.{claims_of};
+ghost use Rattle.ygg_certify.specs.ygg_rules.declared.rule.RuleKind.{RuleKind};
+ghost use Rattle.ygg_certify.specs.ygg_meaning.Claims.{claims_of};
 ghost use Rattle.ygg_cert.specs.Judging.{Judges};
 ghost use Rattle.ygg_certify.specs.Checking.{Checks, ChecksOpen, bad_line, checked_line};
 ghost use Rattle.ygg_certify.specs.FileGoals.{ChecksAll, IfChecked, IsRight, goals_of};
@@ -13,8 +13,8 @@ use crate::checking::check_file;
 use std::alloc::Global;
 use ygg_base::{Library, Status, Text};
 use ygg_cert::{CertEnd, put_number};
+use ygg_decide::Book;
 use ygg_list::NoMemory;
-use ygg_oblige_decided::Book;
 use ygg_report::refused;
 use ygg_type::Typed;
 

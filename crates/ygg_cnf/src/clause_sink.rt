@@ -24,7 +24,8 @@ pub trait ClauseSink {
     fn take(&mut self, alloc: Global, lits: &[Lit]) -> Result<(), NoMemory>
         ensures { OnOk result (held self.new ≡ held self.old ++ once lits.now ∷ []) };
 
-    /// Takes in the clauses that patterns make of a block of literals, as they are. Its only error is out of memory, after which nothing is said of the clauses held.
+    /// Takes in the clauses that patterns make of a block of literals, as they are. Its only error is out of memory, after which nothing is
+    /// said of the clauses held.
     fn take_made(
         &mut self,
         alloc: Global,
@@ -87,8 +88,8 @@ fn put_one<S: ClauseSink>(
     }
 }
 
-/// Puts the clauses that patterns make of a block, each literal of a clause once, into what takes clauses in. Where the literals of the block have different
-/// variables, none stands twice. Its only error is out of memory, after which nothing is said of what it holds.
+/// Puts the clauses that patterns make of a block, each literal of a clause once, into what takes clauses in. Where the literals of the block have
+/// different variables, none stands twice. Its only error is out of memory, after which nothing is said of what it holds.
 pub fn put_made<S: ClauseSink>(
     alloc: Global,
     sink: &mut S,

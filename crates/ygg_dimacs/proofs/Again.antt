@@ -13,7 +13,7 @@ use Rattle.ygg_base.specs.Lexing.{is_empty, is_blank}
 use Rattle.ygg_cnf.specs.declared.lit.Lit.{Lit}
 use Rattle.ygg_cnf.specs.Literals.{once, with_literals, with_literal, IsOnce}
 use Rattle.ygg_cnf.proofs.Once.{once_is_kept}
-use Rattle.ygg_log_text.specs.Lines.{literal_word, literal_words, clause_line}
+use Rattle.ygg_cnf.specs.Lines.{literal_word, literal_words, clause_line}
 use Rattle.ygg_dimacs.specs.Places.{TextPlace, Line, TextWord, place, word_at}
 use Rattle.ygg_dimacs.specs.Lines.{numbered, pieces_of, is_last, is_passed_over, content_of, end_from}
 use Rattle.ygg_dimacs.specs.Words.{words_among, words_from, words_of_all}

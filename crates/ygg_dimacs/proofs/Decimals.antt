@@ -10,7 +10,7 @@ use Rattle.std.proofs.lemmas.List.Folds.{list_all-append}
 use Rattle.std.proofs.lemmas.Fmt.{decimal_by_steps, length-decimal-le}
 use Rattle.ygg_base.specs.Lexing.{is_digit, is_empty, value_after}
 use Rattle.ygg_cnf.specs.declared.lit.Lit.{Lit}
-use Rattle.ygg_log_text.specs.Lines.{literal_word}
+use Rattle.ygg_cnf.specs.Lines.{literal_word}
 use Rattle.ygg_dimacs.specs.Numbers.{number_in, literal, literal_in}
 
 -- some digits that give this number

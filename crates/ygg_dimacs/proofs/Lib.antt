@@ -1,3 +1,5 @@
+pub use Rattle.ygg_blast.proofs.of_ygg_gates
+pub use Rattle.ygg_cnf.proofs as of_ygg_cnf
 mod Splitting
 mod Digits
 mod Decimals
@@ -7,7 +9,5 @@ mod Numbered
 mod Again
 mod Lining
 pub mod Values
-pub use Rattle.ygg_blast.proofs.of_ygg_gates
-pub use Rattle.ygg_log_text.proofs as of_ygg_log_text
 pub mod Gatewise
 pub mod Texts

@@ -10,10 +10,10 @@ use Rattle.ygg_blast.specs.ygg_cnf.declared.lit.Lit.{Lit}
 use Rattle.ygg_blast.specs.ygg_gates.Circuits.{literal, true_literal}
 use Rattle.ygg_blast.specs.ygg_gates.Clauses.{clauses_from, gate_clauses}
 use Rattle.ygg_blast.specs.ygg_gates.declared.gate.Gate.{Gate}
-use Rattle.ygg_log_text.specs.Lines.{clause_line}
+use Rattle.ygg_cnf.specs.Lines.{clause_line}
 use Rattle.ygg_dimacs.specs.Printing.{header_line, clause_lines}
-use Rattle.ygg_log_text.specs.Pieces.{Flows, Cuts, Passes, Finishes}
-use Rattle.ygg_log_text.proofs.Flowing.{text_done, text_short}
+use Rattle.ygg_cnf.specs.Pieces.{Flows, Cuts, Passes, Finishes}
+use Rattle.ygg_cnf.proofs.Flowing.{text_done, text_short}
 use Rattle.ygg_dimacs.specs.declared.counting.ClauseCount.{ClauseCount}
 use Rattle.ygg_dimacs.specs.Counted.{between, clauses_text, IsCountOf, greatest_of}
 use Rattle.ygg_dimacs.proofs.Gatewise.{gates_more}

@@ -5,9 +5,9 @@ use Rattle.std.proofs.lemmas.List.{append-nil}
 use Rattle.std.proofs.lemmas.Grind.{flat_map-append}
 use Rattle.ygg_base.specs.declared.status.Status.{Status}
 use Rattle.ygg_solver.specs.ygg_cnf.declared.lit.Lit.{Lit}
-use Rattle.ygg_log_text.specs.Lines.{literal_word, literal_words}
-use Rattle.ygg_log_text.specs.Pieces.{Flows, Passes}
-use Rattle.ygg_log_text.proofs.Flowing.{joined, passes_on, passes_short}
+use Rattle.ygg_cnf.specs.Lines.{literal_word, literal_words}
+use Rattle.ygg_cnf.specs.Pieces.{Flows, Passes}
+use Rattle.ygg_cnf.proofs.Flowing.{joined, passes_on, passes_short}
 use Rattle.ygg_dimacs.specs.Solved.{true_literal, true_literals}
 
 -- one true literal more

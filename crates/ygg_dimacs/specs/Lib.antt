@@ -1,3 +1,9 @@
+pub use Rattle.ygg_report.specs as ygg_report
+pub use Rattle.ygg_solver.specs as ygg_solver
+pub use Rattle.ygg_blast.specs.ygg_bank
+pub use Rattle.ygg_blast.specs.ygg_cnf
+pub use Rattle.ygg_blast.specs.ygg_gates
+pub use Rattle.ygg_blast.specs.ygg_rules
 pub mod Flaws
 pub mod Places
 pub mod Sizes
@@ -11,11 +17,5 @@ pub mod Reading
 pub mod States
 pub mod Printing
 pub mod Laws
-pub use Rattle.ygg_report.specs as ygg_report
-pub use Rattle.ygg_solver.specs as ygg_solver
 pub mod Solved
-pub use Rattle.ygg_blast.specs.ygg_bank
-pub use Rattle.ygg_blast.specs.ygg_cnf
-pub use Rattle.ygg_blast.specs.ygg_gates
-pub use Rattle.ygg_blast.specs.ygg_rules
 pub mod Counted

@@ -3,7 +3,7 @@ use Rattle.std.specs.Prelude.{ℕ, ◌≤◌, List, ◌++◌, All, codes, length
 use Rattle.std.specs.List.{flat_map}
 use Rattle.std.specs.Fmt.{decimal}
 use Rattle.ygg_cnf.specs.declared.lit.Lit.{Lit}
-use Rattle.ygg_log_text.specs.Lines.{clause_line}
+use Rattle.ygg_cnf.specs.Lines.{clause_line}
 use Rattle.ygg_dimacs.specs.declared.cnf.Cnf.{Cnf}
 
 -- the header of so many clauses over so many variables

@@ -7,8 +7,8 @@ use Rattle.ygg_solver.specs.ygg_cnf.declared.log.Step.{Step}
 use Rattle.ygg_solver.specs.ygg_cnf.Literals.{SatisfiesAll}
 use Rattle.ygg_solver.specs.ygg_cnf.Logs.{Refutes, SpentLog}
 use Rattle.ygg_report.specs.Lines.{undecided_line}
-use Rattle.ygg_log_text.specs.Lines.{literal_words}
-use Rattle.ygg_log_text.specs.Pieces.{log_lines}
+use Rattle.ygg_cnf.specs.Lines.{literal_words}
+use Rattle.ygg_cnf.specs.Pieces.{log_lines}
 use Rattle.ygg_dimacs.specs.declared.cnf.Cnf.{Cnf}
 
 -- the literal of a variable that is true under these truth values

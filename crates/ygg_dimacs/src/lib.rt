@@ -7,8 +7,8 @@
 //! -1 2 0
 //! ```
 //!
-//! Clauses are solved within a budget, and what comes of it is put piece by piece. The clauses of a term are put so too: they are counted first, for the header,
-//! and then made a second time, those of one gate after another, so that they don't stand in memory together.
+//! Clauses are solved within a budget, and what comes of it is put piece by piece. The clauses of a term are put so too: they are counted first,
+//! for the header, and then made a second time, those of one gate after another, so that they don't stand in memory together.
 #![tactic(auto)]
 
 mod cnf;

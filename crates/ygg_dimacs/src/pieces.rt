@@ -3,13 +3,13 @@
 ghost use Rattle.std.specs.Prelude.{◌≤◌, [], ◌∷◌};
 ghost use Rattle.ygg_base.specs.Outside.{Rose};
 ghost use Rattle.ygg_solver.specs.ygg_cnf.Literals.{truth_of};
-ghost use Rattle.ygg_log_text.specs.Lines.{literal_words};
-ghost use Rattle.ygg_log_text.specs.Pieces.{Passes, Finishes, FinishesWith};
+ghost use Rattle.ygg_cnf.specs.Lines.{literal_words};
+ghost use Rattle.ygg_cnf.specs.Pieces.{Passes, Finishes, FinishesWith};
 ghost use Rattle.ygg_dimacs.specs.Solved.{true_literal, true_literals, satisfiable_text, unsatisfiable_text};
 
 use std::alloc::Global;
 use ygg_base::{Sink, Status, Text};
-use ygg_log_text::{finish, pass, pass_log, put_literals};
+use ygg_cnf::{finish, pass, pass_log, put_literals};
 use ygg_solver::{Assignment, Lit, Step, truth};
 
 /// Goes on with the literal of a variable that is true.

@@ -6,7 +6,7 @@ ghost use Rattle.ygg_dimacs.specs.Printing.{header_line, cnf_text, AreWithin};
 use crate::cnf::Cnf;
 use std::alloc::Global;
 use ygg_base::{NoMemory, Text};
-use ygg_log_text::{put_clause, put_number};
+use ygg_cnf::{put_clause, put_number};
 
 /// Adds the header: `p cnf V C`. Its only error is out of memory.
 pub fn put_header(out: &mut Text, variables: u64, clauses: u64) -> Result<(), NoMemory>

@@ -6,9 +6,9 @@ ghost use Rattle.ygg_blast.specs.ygg_bank.Nodes.{HasWidth};
 ghost use Rattle.ygg_blast.specs.ygg_gates.Circuits.{literal, true_literal as one};
 ghost use Rattle.ygg_blast.specs.ygg_gates.Clauses.{clauses_from, gate_clauses};
 ghost use Rattle.ygg_blast.specs.ygg_gates.Groups.{translated};
-ghost use Rattle.ygg_log_text.specs.Lines.{clause_line};
+ghost use Rattle.ygg_cnf.specs.Lines.{clause_line};
 ghost use Rattle.ygg_dimacs.specs.Printing.{header_line, clause_lines};
-ghost use Rattle.ygg_log_text.specs.Pieces.{Passes, Finishes, FinishesWith};
+ghost use Rattle.ygg_cnf.specs.Pieces.{Passes, Finishes, FinishesWith};
 ghost use Rattle.ygg_dimacs.specs.Counted.{between, clauses_text, IsCountOf};
 
 use crate::counting::{ClauseCount, count};
@@ -16,7 +16,7 @@ use crate::put_header;
 use std::alloc::Global;
 use ygg_base::{NoMemory, Sink, Status, Text};
 use ygg_blast::{Bank, Clause, Gate, Id, Lit, circuit_of, clauses_of_gate, true_literal};
-use ygg_log_text::{finish, pass, put_clause};
+use ygg_cnf::{finish, pass, put_clause};
 
 /// Goes on with the line of a clause.
 fn pass_clause<K: Sink>(

@@ -5,7 +5,7 @@ ghost use Rattle.ygg_base.specs.Outside.{Rose};
 ghost use Rattle.ygg_report.specs.Putting.{Puts, IsCutOf};
 ghost use Rattle.ygg_solver.specs.Answers.{IsNumbered};
 ghost use Rattle.ygg_dimacs.specs.Solved.{Solved};
-ghost use Rattle.ygg_log_text.specs.Pieces.{FinishesWith};
+ghost use Rattle.ygg_cnf.specs.Pieces.{FinishesWith};
 ghost use Rattle.ygg_report.specs.Lines.{undecided_line};
 
 use crate::Cnf;

@@ -68,11 +68,11 @@ use Rattle.ygg_eval_expr.specs.ygg_meaning.Environments.{Env, bind}
 use Rattle.ygg_eval_expr.specs.ygg_meaning.Meaning.{functions_of, is_one}
 use Rattle.ygg_eval_expr.specs.ygg_meaning.Shapes.{values_fit}
 use Rattle.ygg_eval_block.specs.ygg_meaning.Stack.{tables_of}
-use Rattle.ygg_eval_expr.specs.ygg_type_sound.Agrees.{Agrees}
-use Rattle.ygg_eval_expr.specs.ygg_type_sound_proofs_Tests.{left, right}
-use Rattle.ygg_eval_expr.specs.ygg_type_sound_proofs_Definitions.{MeetsAll, definitions_meet}
-use Rattle.ygg_eval_block.specs.ygg_type_sound_proofs_TypeErrors.{none_listed}
-use Rattle.ygg_eval_block.proofs.of_ygg_type_sound.Views.{LayerVariables, layer_variables}
+use Rattle.ygg_eval_expr.specs.ygg_meaning_laws.Agrees.{Agrees}
+use Rattle.ygg_eval_expr.specs.ygg_meaning_laws_proofs_Tests.{left, right}
+use Rattle.ygg_eval_expr.specs.ygg_meaning_laws_proofs_Definitions.{MeetsAll, definitions_meet}
+use Rattle.ygg_eval_block.specs.ygg_meaning_laws_proofs_TypeErrors.{none_listed}
+use Rattle.ygg_eval_block.proofs.of_ygg_meaning_laws.Views.{LayerVariables, layer_variables}
 use Rattle.ygg_eval_expr.specs.Known.{Known, value_in, CanEvaluate}
 use Rattle.ygg_eval.specs.declared.formula.Formula.{Formula}
 use Rattle.ygg_eval.specs.declared.formula.Which.{Which}

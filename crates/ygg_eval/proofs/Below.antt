@@ -65,15 +65,15 @@ use Rattle.ygg_eval_expr.specs.ygg_meaning.Environments.{Env}
 use Rattle.ygg_eval_expr.specs.ygg_meaning.Meaning.{Functions}
 use Rattle.ygg_eval_expr.specs.ygg_meaning.Shapes.{env_fits}
 use Rattle.ygg_eval_block.specs.ygg_meaning.Stack.{tables_of_kind, tables_of}
-use Rattle.ygg_eval_expr.specs.ygg_type_sound.Fitting.{IsShaped, IsHeld}
-use Rattle.ygg_eval_expr.specs.ygg_type_sound.Agrees.{Agrees}
-use Rattle.ygg_eval_expr.specs.ygg_type_sound_proofs_Tests.{left, right}
-use Rattle.ygg_eval_expr.specs.ygg_type_sound_proofs_Names.{or_else, look_up_append, new_found, absent}
-use Rattle.ygg_eval_expr.specs.ygg_type_sound_proofs_Steps.{held_more}
-use Rattle.ygg_eval_expr.specs.ygg_type_sound_proofs_Definitions.{MeetsAll}
-use Rattle.ygg_eval_block.proofs.of_ygg_type_sound.Views.{entries, AllTyped, held_in, has_in, LayerVariables, LowerShaped}
-use Rattle.ygg_eval_block.specs.ygg_type_sound_proofs_Operations.{answer_shaped}
-use Rattle.ygg_eval_block.specs.ygg_type_sound_proofs_Files.{on_disk}
+use Rattle.ygg_eval_expr.specs.ygg_meaning_laws.Fitting.{IsShaped, IsHeld}
+use Rattle.ygg_eval_expr.specs.ygg_meaning_laws.Agrees.{Agrees}
+use Rattle.ygg_eval_expr.specs.ygg_meaning_laws_proofs_Tests.{left, right}
+use Rattle.ygg_eval_expr.specs.ygg_meaning_laws_proofs_Names.{or_else, look_up_append, new_found, absent}
+use Rattle.ygg_eval_expr.specs.ygg_meaning_laws_proofs_Steps.{held_more}
+use Rattle.ygg_eval_expr.specs.ygg_meaning_laws_proofs_Definitions.{MeetsAll}
+use Rattle.ygg_eval_block.proofs.of_ygg_meaning_laws.Views.{entries, AllTyped, held_in, has_in, LayerVariables, LowerShaped}
+use Rattle.ygg_eval_block.specs.ygg_meaning_laws_proofs_Operations.{answer_shaped}
+use Rattle.ygg_eval_block.specs.ygg_meaning_laws_proofs_Files.{on_disk}
 
 -- each operation of a layer that gives an answer gives one of some shape
 shaped_more : (o : Operation) (known : Named Signature) → LowerShaped known → none (answer_type_errors o.answer) ≡ true → LowerShaped (with_operation o known)

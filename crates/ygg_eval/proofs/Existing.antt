@@ -35,7 +35,7 @@ use Rattle.ygg_syntax.specs.declared.tree.Block.{Block}
 use Rattle.ygg_syntax.specs.declared.tree.Layer.{Layer}
 use Rattle.ygg_syntax.specs.declared.tree.File.{File}
 use Rattle.ygg_eval_block.specs.ygg_meaning.Shapes.{values_fit}
-use Rattle.ygg_eval_block.specs.ygg_type_sound_proofs_Tests.{left, right}
+use Rattle.ygg_eval_block.specs.ygg_meaning_laws_proofs_Tests.{left, right}
 use Rattle.ygg_eval_block.specs.declared.body.Body.{Body}
 use Rattle.ygg_eval_block.specs.ygg_meaning.Stack.{tables_of}
 use Rattle.ygg_eval_block.specs.Layers.{variables_from, variables_at}

@@ -4,34 +4,34 @@ use Rattle.std.specs.List.{list_all}
 use Rattle.ygg_syntax.specs.declared.tree.Block.{Block}
 use Rattle.ygg_syntax.specs.declared.tree.Layer.{Layer}
 use Rattle.ygg_syntax.specs.declared.tree.File.{File}
-use Rattle.ygg_direct.specs.ygg_syntax_count.Weights.{weights_of}
-use Rattle.ygg_direct.specs.ygg_type_rules.Names.{Named, look_up}
-use Rattle.ygg_direct.specs.ygg_type_rules.declared.scope.Signature.{Signature}
-use Rattle.ygg_direct.specs.ygg_type_rules.TypeErrors.{none}
-use Rattle.ygg_direct.specs.ygg_type_rules.Definitions.{with_definitions}
-use Rattle.ygg_direct.specs.ygg_type_rules.Layers.{layer_scope}
-use Rattle.ygg_direct.specs.ygg_type_rules.Files.{IsTyped, type_errors_of, disk_errors}
-use Rattle.ygg_direct.specs.ygg_meaning.Environments.{Env, bind}
-use Rattle.ygg_direct.specs.ygg_meaning.Meaning.{functions_of}
-use Rattle.ygg_direct.specs.ygg_meaning.Machine.{State, on}
-use Rattle.ygg_direct.specs.ygg_meaning.Layer.{ClosedLayer}
-use Rattle.ygg_direct.specs.ygg_meaning.Refines.{Below, OnDisk, OnSpec, machine_below}
-use Rattle.ygg_direct.specs.ygg_type_sound_proofs_Parameters.{same_fit}
-use Rattle.ygg_direct.specs.ygg_type_sound_proofs_Tests.{left as first_of}
-use Rattle.ygg_direct.specs.ygg_type_sound.Kinds.{keeps, layer_keeps}
-use Rattle.ygg_direct.specs.ygg_type_sound.Machines.{SpecAnswers}
-use Rattle.ygg_direct.specs.ygg_type_sound_proofs_TypeErrors.{none_listed}
-use Rattle.ygg_direct.specs.ygg_type_sound_proofs_Files.{have}
-use Rattle.ygg_direct.specs.ygg_type_sound_proofs_Operations.{added_all, find_operation, seen_operations}
-use Rattle.ygg_direct.specs.ygg_type_sound_proofs_Typed.{parts}
-use Rattle.ygg_direct.specs.ygg_type_sound_proofs_Specs.{spec_answers}
+use Rattle.ygg_meaning_laws.specs.ygg_syntax_count.Weights.{weights_of}
+use Rattle.ygg_meaning_laws.specs.ygg_type_rules.Names.{Named, look_up}
+use Rattle.ygg_meaning_laws.specs.ygg_type_rules.declared.scope.Signature.{Signature}
+use Rattle.ygg_meaning_laws.specs.ygg_type_rules.TypeErrors.{none}
+use Rattle.ygg_meaning_laws.specs.ygg_type_rules.Definitions.{with_definitions}
+use Rattle.ygg_meaning_laws.specs.ygg_type_rules.Layers.{layer_scope}
+use Rattle.ygg_meaning_laws.specs.ygg_type_rules.Files.{IsTyped, type_errors_of, disk_errors}
+use Rattle.ygg_meaning_laws.specs.ygg_meaning.Environments.{Env, bind}
+use Rattle.ygg_meaning_laws.specs.ygg_meaning.Meaning.{functions_of}
+use Rattle.ygg_meaning_laws.specs.ygg_meaning.Machine.{State, on}
+use Rattle.ygg_meaning_laws.specs.ygg_meaning.Layer.{ClosedLayer}
+use Rattle.ygg_meaning_laws.specs.ygg_meaning.Refines.{Below, OnDisk, OnSpec, machine_below}
+use Rattle.ygg_meaning_laws.proofs.Parameters.{same_fit}
+use Rattle.ygg_meaning_laws.proofs.Tests.{left as first_of}
+use Rattle.ygg_meaning_laws.specs.Kinds.{keeps, layer_keeps}
+use Rattle.ygg_meaning_laws.specs.Machines.{SpecAnswers}
+use Rattle.ygg_meaning_laws.proofs.TypeErrors.{none_listed}
+use Rattle.ygg_meaning_laws.proofs.Files.{have}
+use Rattle.ygg_meaning_laws.proofs.Operations.{added_all, find_operation, seen_operations}
+use Rattle.ygg_meaning_laws.proofs.Typed.{parts}
+use Rattle.ygg_meaning_laws.proofs.Specs.{spec_answers}
 use Rattle.ygg_eval_block.specs.Bodies.{variables_in, arguments_in}
 use Rattle.ygg_eval_block.specs.Layers.{closed_at, below_at, signatures_of, signatures_at}
 use Rattle.ygg_eval_block.proofs.Blocks.{block_typing, blocks_kept, layer_typing}
-use Rattle.ygg_direct.specs.Acts.{noted_picks}
-use Rattle.ygg_direct.specs.Laws.{IsTypedBlock, RunsDirectly, FallsDirectly, Sees}
+use Rattle.ygg_meaning_laws.specs.Acts.{noted_picks}
+use Rattle.ygg_meaning_laws.specs.DirectLaws.{IsTypedBlock, RunsDirectly, FallsDirectly, Sees}
 use Rattle.ygg_eval.specs.Files.{below_acts, IsStateBelow, DirectInFile}
-use Rattle.ygg_direct.proofs.Typed.{direct_on_disk, direct_on_spec}
+use Rattle.ygg_meaning_laws.proofs.DirectTyped.{direct_on_disk, direct_on_spec}
 
 layer_before : (ls : List Layer) (n : ℕ) (l : Layer) → slice_get ls (suc n) ≡ Some l → slice_get ls n ≡ None → ⊥
 layer_before [] n l h g = absurd (cc)

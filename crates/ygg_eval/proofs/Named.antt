@@ -59,8 +59,8 @@ use Rattle.ygg_eval_block.specs.ygg_meaning.Environments.{Name}
 use Rattle.ygg_eval_block.specs.ygg_meaning.Meaning.{Functions}
 use Rattle.ygg_eval_block.specs.ygg_meaning.Layer.{ClosedLayer, operation_in}
 use Rattle.ygg_eval_block.specs.ygg_meaning.Stack.{Layers, layers_on}
-use Rattle.ygg_eval_block.specs.ygg_type_sound_proofs_Tests.{left, right, passed, turned, bytes_equal}
-use Rattle.ygg_eval_block.specs.ygg_type_sound_proofs_Names.{or_else, look_up_append}
+use Rattle.ygg_eval_block.specs.ygg_meaning_laws_proofs_Tests.{left, right, passed, turned, bytes_equal}
+use Rattle.ygg_eval_block.specs.ygg_meaning_laws_proofs_Names.{or_else, look_up_append}
 use Rattle.ygg_eval_block.specs.Layers.{variables_from}
 
 -- an operation of a layer without type errors is the first of its name, and its name is new

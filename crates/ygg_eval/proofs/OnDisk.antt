@@ -55,12 +55,12 @@ use Rattle.ygg_eval_block.specs.ygg_meaning.Machine.{State, based}
 use Rattle.ygg_eval_block.specs.ygg_disk.Kinds.{model_of}
 use Rattle.ygg_eval_block.specs.ygg_meaning.DiskMachine.{disk_call, answer_to, tables_in, DiskMachine}
 use Rattle.ygg_eval_block.specs.ygg_meaning.Stack.{tables_of_kind, tables_of}
-use Rattle.ygg_eval_block.specs.ygg_type_sound.Fitting.{fits_wanted, all_fit}
-use Rattle.ygg_eval_block.specs.ygg_type_sound_proofs_Tests.{left, right}
-use Rattle.ygg_eval_block.specs.ygg_type_sound.Machines.{IsSized, DiskAnswers}
-use Rattle.ygg_eval_block.specs.ygg_type_sound_proofs_ProgressFits.{IsTableOf, table_parts}
-use Rattle.ygg_eval_block.specs.ygg_type_sound_proofs_Disks.{disk_row_is}
-use Rattle.ygg_eval_block.specs.ygg_type_sound_proofs_Sizes.{AllSized, disk_answers_all}
+use Rattle.ygg_eval_block.specs.ygg_meaning_laws.Fitting.{fits_wanted, all_fit}
+use Rattle.ygg_eval_block.specs.ygg_meaning_laws_proofs_Tests.{left, right}
+use Rattle.ygg_eval_block.specs.ygg_meaning_laws.Machines.{IsSized, DiskAnswers}
+use Rattle.ygg_eval_block.specs.ygg_meaning_laws_proofs_ProgressFits.{IsTableOf, table_parts}
+use Rattle.ygg_eval_block.specs.ygg_meaning_laws_proofs_Disks.{disk_row_is}
+use Rattle.ygg_eval_block.specs.ygg_meaning_laws_proofs_Sizes.{AllSized, disk_answers_all}
 use Rattle.ygg_eval_block.specs.Layers.{variables_from, variables_at, signatures_at}
 use Rattle.ygg_eval_block.specs.Lower.{IsCallable, Called, Fell, Whole, Happened}
 use Rattle.ygg_eval.specs.Kept.{standing, spec_meaning, Loses}

@@ -55,12 +55,12 @@ use Rattle.ygg_eval_block.specs.ygg_meaning.Spec.{chosen, block_outcome, then_bl
 use Rattle.ygg_eval_block.specs.ygg_meaning.Refines.{Below, OnDisk, OnSpec, machine_below}
 use Rattle.ygg_eval_block.specs.ygg_meaning_proofs_Exact.{block_exact}
 use Rattle.ygg_eval_block.specs.ygg_meaning.Stack.{tables_of}
-use Rattle.ygg_eval_block.specs.ygg_type_sound.Fitting.{all_fit}
-use Rattle.ygg_eval_block.specs.ygg_type_sound_proofs_Parameters.{same_fit}
-use Rattle.ygg_eval_block.specs.ygg_type_sound.Questions.{gives}
-use Rattle.ygg_eval_block.specs.ygg_type_sound.Machines.{SpecAnswers}
-use Rattle.ygg_eval_block.specs.ygg_type_sound_proofs_Grammar.{file_kept}
-use Rattle.ygg_eval_block.specs.ygg_type_sound_proofs_Files.{file_known}
+use Rattle.ygg_eval_block.specs.ygg_meaning_laws.Fitting.{all_fit}
+use Rattle.ygg_eval_block.specs.ygg_meaning_laws_proofs_Parameters.{same_fit}
+use Rattle.ygg_eval_block.specs.ygg_meaning_laws.Questions.{gives}
+use Rattle.ygg_eval_block.specs.ygg_meaning_laws.Machines.{SpecAnswers}
+use Rattle.ygg_eval_block.specs.ygg_meaning_laws_proofs_Grammar.{file_kept}
+use Rattle.ygg_eval_block.specs.ygg_meaning_laws_proofs_Files.{file_known}
 use Rattle.ygg_eval_block.specs.declared.body.Part.TheVariants as part
 use Rattle.ygg_eval_block.specs.Layers.{variables_from, variables_at, closed_at, below_at, signatures_of, signatures_at}
 use Rattle.ygg_eval_block.specs.Bodies.{IsBlock, IsRunnable, arguments_at}

@@ -61,7 +61,7 @@ use Rattle.ygg_eval.specs.ygg_eval_block.Lower.{
 }
 use Rattle.ygg_eval.specs.ygg_eval_block.Lower as ending
 use Rattle.ygg_eval.specs.ygg_eval_block.Layers.{signatures_at}
-use Rattle.ygg_eval.specs.ygg_type_sound.Questions.{question_fits}
+use Rattle.ygg_eval.specs.ygg_meaning_laws.Questions.{question_fits}
 use Rattle.ygg_eval.specs.ygg_eval_block.Conversations.{Exchange, Exchanged, Answered, Talks, asked, answers_of}
 use Rattle.ygg_eval.specs.ygg_eval_block.Runs.{Came, Finished, EndedIn, StoppedAt, StarvedAt, FinishedEarly, RunEnds}
 use Rattle.ygg_eval.specs.ygg_eval_block.Runs as block_runs

@@ -5,20 +5,20 @@ use Rattle.ygg_syntax.specs.declared.grammar.BlockKind.TheVariants.{Impl}
 use Rattle.ygg_syntax.specs.declared.tree.Block.{Block}
 use Rattle.ygg_syntax.specs.declared.tree.Layer.{Layer}
 use Rattle.ygg_syntax.specs.declared.tree.File.{File}
-use Rattle.ygg_direct.specs.ygg_type_rules.Files.{IsTyped}
+use Rattle.ygg_meaning_laws.specs.ygg_type_rules.Files.{IsTyped}
 use Rattle.ygg_syntax.specs.Files.{IsDerived}
-use Rattle.ygg_direct.specs.ygg_meaning.Environments.{Env, bind}
-use Rattle.ygg_direct.specs.ygg_meaning.Shapes.{values_fit}
-use Rattle.ygg_direct.specs.ygg_meaning.Machine.{State, on}
-use Rattle.ygg_direct.specs.ygg_meaning.Refines.{Below, OnDisk, OnSpec}
-use Rattle.ygg_direct.specs.ygg_type_sound.Machines.{IsSized, IsStateOf}
+use Rattle.ygg_meaning_laws.specs.ygg_meaning.Environments.{Env, bind}
+use Rattle.ygg_meaning_laws.specs.ygg_meaning.Shapes.{values_fit}
+use Rattle.ygg_meaning_laws.specs.ygg_meaning.Machine.{State, on}
+use Rattle.ygg_meaning_laws.specs.ygg_meaning.Refines.{Below, OnDisk, OnSpec}
+use Rattle.ygg_meaning_laws.specs.Machines.{IsSized, IsStateOf}
 use Rattle.ygg_eval_block.specs.declared.body.Body.{Body}
 use Rattle.ygg_eval_block.specs.Bodies.{kind_of, variables_in, arguments_in, IsBlock}
 use Rattle.ygg_eval_block.specs.Layers.{closed_at, below_at, machine_at}
-use Rattle.ygg_direct.specs.Acts.{Acts, noted_picks}
-use Rattle.ygg_direct.specs.DiskActs.{disk_acts}
-use Rattle.ygg_direct.specs.SpecActs.{spec_acts}
-use Rattle.ygg_direct.specs.Laws.{RunsDirectly, FallsDirectly}
+use Rattle.ygg_meaning_laws.specs.Acts.{Acts, noted_picks}
+use Rattle.ygg_meaning_laws.specs.DiskActs.{disk_acts}
+use Rattle.ygg_meaning_laws.specs.SpecActs.{spec_acts}
+use Rattle.ygg_meaning_laws.specs.DirectLaws.{RunsDirectly, FallsDirectly}
 
 -- what a layer is specified over, as a function of picks
 abbrev pub below_acts : Bool → Below → Acts Env Bool

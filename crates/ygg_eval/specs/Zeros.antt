@@ -3,7 +3,7 @@ use Rattle.std.specs.Prelude.{List, map, All}
 use Rattle.ygg_value.specs.Shapes.{IsShape, zero_of}
 use Rattle.ygg_value.specs.declared.row.Value.{Value}
 use Rattle.ygg_syntax.specs.declared.tree.Declared.{Declared}
-use Rattle.ygg_direct.specs.ygg_meaning.Shapes.{shape_in}
+use Rattle.ygg_meaning_laws.specs.ygg_meaning.Shapes.{shape_in}
 
 -- the shapes keep the limits
 abbrev pub AreShapes : List Declared → Type 0

@@ -36,7 +36,7 @@ pub use related::holds;
 pub use runnable::is_runnable;
 pub use shapes::{fits, values_fit};
 pub use state::are_values_of;
-pub use ygg_direct::{Picks, Power, Turn};
 pub use ygg_eval_block::{Body, Ended, Lower, Part, Stop, Typed, block_of, place_of, run_body};
 pub use ygg_eval_expr::{AsyncDisk, Ground, SyncDisk, fresh_async, fresh_sync};
+pub use ygg_meaning_laws::{Picks, Power, Turn};
 pub use zeroing::zeros;

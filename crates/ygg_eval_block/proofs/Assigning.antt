@@ -54,18 +54,18 @@ use Rattle.ygg_eval_expr.specs.ygg_meaning.Environments as meaning
 use Rattle.ygg_eval_expr.specs.ygg_meaning.Meaning.{Functions, functions_of, value_with}
 use Rattle.ygg_eval_expr.specs.ygg_meaning.Progress.{indices_of, assigned}
 use Rattle.ygg_eval_expr.specs.ygg_meaning.Shapes.{fits}
-use Rattle.ygg_eval_expr.specs.ygg_type_sound.Agrees.{Agrees}
-use Rattle.ygg_eval_expr.specs.ygg_type_sound.Fitting.{HasShape, fits_wanted}
-use Rattle.ygg_eval_expr.specs.ygg_type_sound_proofs_Tests.{left as first_of, right as second_of}
-use Rattle.ygg_eval_expr.specs.ygg_type_sound_proofs_Rules.{wanted_has}
-use Rattle.ygg_eval_expr.specs.ygg_type_sound_proofs_Fits.{value_fits}
-use Rattle.ygg_eval_expr.specs.ygg_type_sound_proofs_Names.{value_found}
+use Rattle.ygg_eval_expr.specs.ygg_meaning_laws.Agrees.{Agrees}
+use Rattle.ygg_eval_expr.specs.ygg_meaning_laws.Fitting.{HasShape, fits_wanted}
+use Rattle.ygg_eval_expr.specs.ygg_meaning_laws_proofs_Tests.{left as first_of, right as second_of}
+use Rattle.ygg_eval_expr.specs.ygg_meaning_laws_proofs_Rules.{wanted_has}
+use Rattle.ygg_eval_expr.specs.ygg_meaning_laws_proofs_Fits.{value_fits}
+use Rattle.ygg_eval_expr.specs.ygg_meaning_laws_proofs_Names.{value_found}
 use Rattle.ygg_eval_expr.specs.declared.held.Binding.{Binding}
 use Rattle.ygg_eval_expr.specs.Held.{env_of}
 use Rattle.ygg_eval_expr.specs.Known.{CanEvaluate}
 use Rattle.ygg_eval_expr.specs.Writing.{shape_led_to, CanWrite}
-use Rattle.ygg_eval_block.specs.ygg_type_sound.Questions.{plain}
-use Rattle.ygg_eval_block.specs.ygg_type_sound_proofs_Files.{have}
+use Rattle.ygg_eval_block.specs.ygg_meaning_laws.Questions.{plain}
+use Rattle.ygg_eval_block.specs.ygg_meaning_laws_proofs_Files.{have}
 use Rattle.ygg_eval_block.specs.declared.body.Stop.{Stop}
 use Rattle.ygg_eval_block.specs.Lower.{Standing, Meaning}
 use Rattle.ygg_eval_block.specs.Ready.{eval_in, known_in, Fits, CanAsk, CanAssign, IsGiven}

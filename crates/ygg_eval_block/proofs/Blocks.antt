@@ -40,18 +40,18 @@ use Rattle.ygg_syntax.specs.declared.tree.Operation.{Operation}
 use Rattle.ygg_syntax.specs.declared.tree.Tick.{Tick}
 use Rattle.ygg_syntax.specs.declared.tree.Layer.{Layer}
 use Rattle.ygg_syntax.specs.declared.tree.File.{File}
-use Rattle.ygg_type_sound.specs.ygg_syntax_count.Weights.{Weights, weights_of}
-use Rattle.ygg_type_sound.specs.ygg_type_rules.Names.{Named, has, added}
-use Rattle.ygg_type_sound.specs.ygg_type_rules.declared.scope.Visibility.{Visibility}
-use Rattle.ygg_type_sound.specs.ygg_type_rules.declared.scope.Visibility.TheVariants.{Specification, Implementation}
-use Rattle.ygg_type_sound.specs.ygg_type_rules.declared.scope.Signature.{Signature}
-use Rattle.ygg_type_sound.specs.ygg_type_rules.TypeErrors.{none, unless}
-use Rattle.ygg_type_sound.specs.ygg_type_rules.Shapes.{shape_of, answer_shape}
-use Rattle.ygg_type_sound.specs.ygg_type_rules.Scopes.{Scope, seen_as}
-use Rattle.ygg_type_sound.specs.ygg_type_rules.Statements.{block_errors}
-use Rattle.ygg_type_sound.specs.ygg_type_rules.Definitions.{definitions_errors, with_definitions, with_parameter}
-use Rattle.ygg_type_sound.specs.ygg_type_rules.Definitions.{with_parameters, parameters_errors, answer_type_errors}
-use Rattle.ygg_type_sound.specs.ygg_type_rules.Layers.{
+use Rattle.ygg_meaning_laws.specs.ygg_syntax_count.Weights.{Weights, weights_of}
+use Rattle.ygg_meaning_laws.specs.ygg_type_rules.Names.{Named, has, added}
+use Rattle.ygg_meaning_laws.specs.ygg_type_rules.declared.scope.Visibility.{Visibility}
+use Rattle.ygg_meaning_laws.specs.ygg_type_rules.declared.scope.Visibility.TheVariants.{Specification, Implementation}
+use Rattle.ygg_meaning_laws.specs.ygg_type_rules.declared.scope.Signature.{Signature}
+use Rattle.ygg_meaning_laws.specs.ygg_type_rules.TypeErrors.{none, unless}
+use Rattle.ygg_meaning_laws.specs.ygg_type_rules.Shapes.{shape_of, answer_shape}
+use Rattle.ygg_meaning_laws.specs.ygg_type_rules.Scopes.{Scope, seen_as}
+use Rattle.ygg_meaning_laws.specs.ygg_type_rules.Statements.{block_errors}
+use Rattle.ygg_meaning_laws.specs.ygg_type_rules.Definitions.{definitions_errors, with_definitions, with_parameter}
+use Rattle.ygg_meaning_laws.specs.ygg_type_rules.Definitions.{with_parameters, parameters_errors, answer_type_errors}
+use Rattle.ygg_meaning_laws.specs.ygg_type_rules.Layers.{
   Known,
   Below,
   below_of,
@@ -70,22 +70,22 @@ use Rattle.ygg_type_sound.specs.ygg_type_rules.Layers.{
   ticks_errors,
   relations_errors,
 }
-use Rattle.ygg_type_sound.specs.ygg_type_rules.Files.{IsTyped, type_errors_of, disk_errors, disk_operations, disk_below}
-use Rattle.ygg_type_sound.specs.ygg_type_rules.Files.{count_error, layer_errors, layers_errors}
-use Rattle.ygg_type_sound.specs.ygg_meaning.Environments.{bind}
-use Rattle.ygg_type_sound.specs.ygg_meaning.Meaning.{Functions, functions_of}
-use Rattle.ygg_type_sound.specs.ygg_meaning.Shapes.{shape_in, fits, values_fit, env_fits}
-use Rattle.ygg_type_sound.specs.Agrees.{Agrees}
-use Rattle.ygg_type_sound.proofs.Definitions.{MeetsAll, definitions_meet}
-use Rattle.ygg_type_sound.proofs.Tests.{left as first_of, right as second_of, bytes_equal}
-use Rattle.ygg_type_sound.specs.Kinds.{keeps, on_crash_keeps, returns_declared, operation_keeps, tick_keeps, layer_keeps}
-use Rattle.ygg_type_sound.specs.Questions.{plain}
-use Rattle.ygg_type_sound.proofs.TypeErrors.{none_listed}
-use Rattle.ygg_type_sound.proofs.Views.{LowerShaped, state_agrees, memory_agrees, agrees_with_arguments}
-use Rattle.ygg_type_sound.proofs.Operations.{added_all, operations_shaped}
-use Rattle.ygg_type_sound.proofs.Typed.{IsTypedLayer, Parts, parts}
-use Rattle.ygg_type_sound.proofs.Files.{on_disk}
-use Rattle.ygg_type_sound.proofs.Grammar.{file_kept}
+use Rattle.ygg_meaning_laws.specs.ygg_type_rules.Files.{IsTyped, type_errors_of, disk_errors, disk_operations, disk_below}
+use Rattle.ygg_meaning_laws.specs.ygg_type_rules.Files.{count_error, layer_errors, layers_errors}
+use Rattle.ygg_meaning_laws.specs.ygg_meaning.Environments.{bind}
+use Rattle.ygg_meaning_laws.specs.ygg_meaning.Meaning.{Functions, functions_of}
+use Rattle.ygg_meaning_laws.specs.ygg_meaning.Shapes.{shape_in, fits, values_fit, env_fits}
+use Rattle.ygg_meaning_laws.specs.Agrees.{Agrees}
+use Rattle.ygg_meaning_laws.proofs.Definitions.{MeetsAll, definitions_meet}
+use Rattle.ygg_meaning_laws.proofs.Tests.{left as first_of, right as second_of, bytes_equal}
+use Rattle.ygg_meaning_laws.specs.Kinds.{keeps, on_crash_keeps, returns_declared, operation_keeps, tick_keeps, layer_keeps}
+use Rattle.ygg_meaning_laws.specs.Questions.{plain}
+use Rattle.ygg_meaning_laws.proofs.TypeErrors.{none_listed}
+use Rattle.ygg_meaning_laws.proofs.Views.{LowerShaped, state_agrees, memory_agrees, agrees_with_arguments}
+use Rattle.ygg_meaning_laws.proofs.Operations.{added_all, operations_shaped}
+use Rattle.ygg_meaning_laws.proofs.Typed.{IsTypedLayer, Parts, parts}
+use Rattle.ygg_meaning_laws.proofs.Files.{on_disk}
+use Rattle.ygg_meaning_laws.proofs.Grammar.{file_kept}
 use Rattle.ygg_syntax.specs.Files.{IsDerived}
 use Rattle.ygg_eval_block.specs.declared.body.Body.{Body}
 use Rattle.ygg_eval_block.specs.declared.body.Part.{Part}

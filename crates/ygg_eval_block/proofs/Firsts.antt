@@ -36,7 +36,7 @@ use Rattle.std.proofs.lemmas.Option.{slice_get_read, slice_get-map}
 use Rattle.std.proofs.lemmas.List.{map-set}
 use Rattle.ygg_value.specs.declared.row.Value.{Value}
 use Rattle.ygg_value.specs.Values.{with_part}
-use Rattle.ygg_eval_expr.specs.ygg_type_sound_proofs_Tests.{bytes_same}
+use Rattle.ygg_eval_expr.specs.ygg_meaning_laws_proofs_Tests.{bytes_same}
 use Rattle.ygg_eval_expr.specs.ygg_meaning.Environments.{Name, Env, look_up, assign}
 use Rattle.ygg_eval_expr.specs.declared.held.Binding.{Binding}
 use Rattle.ygg_eval_expr.specs.Held.{env_of, held_value}

@@ -65,19 +65,19 @@ use Rattle.ygg_eval_expr.specs.ygg_meaning.Environments.{Env}
 use Rattle.ygg_eval_expr.specs.ygg_meaning.Meaning.{Functions, functions_of, value_with}
 use Rattle.ygg_eval_expr.specs.ygg_meaning.Progress.{Answer, Point, Waits, Goes, Question, Call, forget_since, in_turn, run_of, values_of, value_in}
 use Rattle.ygg_eval_expr.specs.ygg_meaning.Shapes.{fits}
-use Rattle.ygg_eval_expr.specs.ygg_type_sound.Agrees.{Agrees}
-use Rattle.ygg_eval_expr.specs.ygg_type_sound.Fitting.{HasShape, fits_wanted}
-use Rattle.ygg_eval_expr.specs.ygg_type_sound_proofs_Tests.{left as first_of, right as second_of}
-use Rattle.ygg_eval_expr.specs.ygg_type_sound_proofs_Lists.{AllHave, have_shapes, arguments_fit}
-use Rattle.ygg_eval_expr.specs.ygg_type_sound_proofs_Fits.{fits_has, digit_has}
+use Rattle.ygg_eval_expr.specs.ygg_meaning_laws.Agrees.{Agrees}
+use Rattle.ygg_eval_expr.specs.ygg_meaning_laws.Fitting.{HasShape, fits_wanted}
+use Rattle.ygg_eval_expr.specs.ygg_meaning_laws_proofs_Tests.{left as first_of, right as second_of}
+use Rattle.ygg_eval_expr.specs.ygg_meaning_laws_proofs_Lists.{AllHave, have_shapes, arguments_fit}
+use Rattle.ygg_eval_expr.specs.ygg_meaning_laws_proofs_Fits.{fits_has, digit_has}
 use Rattle.ygg_eval_expr.specs.Known.{CanEvaluate}
-use Rattle.ygg_eval_block.specs.ygg_type_sound.Kinds.{all_keep, node_keeps, stmt_keeps, keeps}
-use Rattle.ygg_eval_block.specs.ygg_type_sound.Questions.{plain, answer_has, gives, answer_fits, Follows}
-use Rattle.ygg_eval_block.specs.ygg_type_sound_proofs_TypeErrors.{Called, called}
-use Rattle.ygg_eval_block.specs.ygg_type_sound_proofs_Following.{follows_cut, agrees_after}
-use Rattle.ygg_eval_block.specs.ygg_type_sound_proofs_Asking.{all_known}
-use Rattle.ygg_eval_block.specs.ygg_type_sound_proofs_ProgressSounds.{Told, all_sound, statements_sound}
-use Rattle.ygg_eval_block.specs.ygg_type_sound_proofs_Files.{have}
+use Rattle.ygg_eval_block.specs.ygg_meaning_laws.Kinds.{all_keep, node_keeps, stmt_keeps, keeps}
+use Rattle.ygg_eval_block.specs.ygg_meaning_laws.Questions.{plain, answer_has, gives, answer_fits, Follows}
+use Rattle.ygg_eval_block.specs.ygg_meaning_laws_proofs_TypeErrors.{Called, called}
+use Rattle.ygg_eval_block.specs.ygg_meaning_laws_proofs_Following.{follows_cut, agrees_after}
+use Rattle.ygg_eval_block.specs.ygg_meaning_laws_proofs_Asking.{all_known}
+use Rattle.ygg_eval_block.specs.ygg_meaning_laws_proofs_ProgressSounds.{Told, all_sound, statements_sound}
+use Rattle.ygg_eval_block.specs.ygg_meaning_laws_proofs_Files.{have}
 use Rattle.ygg_eval_block.specs.declared.body.Stop.{Stop}
 use Rattle.ygg_eval_block.specs.Layers.{signatures_at}
 use Rattle.ygg_eval_block.specs.Lower.{Standing, Meaning}

@@ -1,6 +1,6 @@
-pub use Rattle.ygg_type_sound.proofs.of_ygg_meaning
+pub use Rattle.ygg_meaning_laws.proofs.of_ygg_meaning
 pub use Rattle.ygg_type.proofs as of_ygg_type
-pub use Rattle.ygg_type_sound.proofs as of_ygg_type_sound
+pub use Rattle.ygg_meaning_laws.proofs as of_ygg_meaning_laws
 pub mod Blocks
 pub mod Numbers
 pub mod Firsts

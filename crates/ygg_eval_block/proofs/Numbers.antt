@@ -26,10 +26,10 @@ use Rattle.std.proofs.Common.{
 }
 use Rattle.ygg_syntax.specs.declared.tree.Declared.{Declared}
 use Rattle.ygg_syntax.specs.declared.tree.Layer.{Layer}
-use Rattle.ygg_type_sound.specs.ygg_meaning.Meaning.{Functions, functions_of}
-use Rattle.ygg_type_sound.specs.ygg_meaning.Layer.{ClosedLayer}
-use Rattle.ygg_type_sound.specs.ygg_meaning.Refines.{OnDisk, OnSpec}
-use Rattle.ygg_type_sound.specs.ygg_meaning.Stack.{Layers, layers_on, tables_of}
+use Rattle.ygg_meaning_laws.specs.ygg_meaning.Meaning.{Functions, functions_of}
+use Rattle.ygg_meaning_laws.specs.ygg_meaning.Layer.{ClosedLayer}
+use Rattle.ygg_meaning_laws.specs.ygg_meaning.Refines.{OnDisk, OnSpec}
+use Rattle.ygg_meaning_laws.specs.ygg_meaning.Stack.{Layers, layers_on, tables_of}
 use Rattle.ygg_eval_block.specs.Layers.{variables_from, closed_at}
 use Rattle.ygg_eval_block.specs.Numbers.{IsAt, ListedIsNumbered, NumberedIsListed, BelowIsNumbered}
 

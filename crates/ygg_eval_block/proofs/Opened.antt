@@ -15,7 +15,7 @@ use Rattle.ygg_eval_expr.specs.ygg_type_rules.Scopes.{Scope}
 use Rattle.ygg_eval_expr.specs.ygg_type_rules.Statements.{Walked, node_walked, node_inside, walked, block_errors}
 use Rattle.ygg_eval_expr.specs.ygg_meaning.Progress.{Eval, Run, stmt_run, block_run, run_of}
 use Rattle.ygg_eval_block.specs.Ready.{inside_run}
-use Rattle.ygg_eval_block.specs.ygg_type_sound.Kinds.{node_keeps, node_all_keep, stmt_keeps, keeps}
+use Rattle.ygg_eval_block.specs.ygg_meaning_laws.Kinds.{node_keeps, node_all_keep, stmt_keeps, keeps}
 
 module _ (eval : Eval) where
   abbrev R' : Block → Run

@@ -38,8 +38,8 @@ use Rattle.ygg_eval_expr.specs.ygg_type_rules.Layers.{operation_signature}
 use Rattle.ygg_eval_expr.specs.ygg_type_rules.Files.{address, disk_row, disk_operations}
 use Rattle.ygg_eval_block.specs.ygg_type.Typed.{operations_at, operation_place}
 use Rattle.ygg_eval_expr.specs.ygg_meaning.Environments.{Name}
-use Rattle.ygg_eval_expr.specs.ygg_type_sound.Fitting.{all_fit}
-use Rattle.ygg_eval_expr.specs.ygg_type_sound_proofs_Tests.{bytes_same}
+use Rattle.ygg_eval_expr.specs.ygg_meaning_laws.Fitting.{all_fit}
+use Rattle.ygg_eval_expr.specs.ygg_meaning_laws_proofs_Tests.{bytes_same}
 use Rattle.ygg_eval_block.specs.Layers.{signatures_of, signatures_at}
 use Rattle.ygg_eval_block.specs.Lower.{Standing, Meaning, Serves, IsCallable}
 use Rattle.ygg_eval_block.specs.Ready.{IsPlace, place_on_disk}

@@ -46,14 +46,14 @@ use Rattle.ygg_eval_expr.specs.ygg_type_rules.declared.scope.Signature.{Signatur
 use Rattle.ygg_eval_expr.specs.ygg_type_rules.Scopes.{Scope}
 use Rattle.ygg_eval_expr.specs.ygg_meaning.Environments.{Env, bind}
 use Rattle.ygg_eval_expr.specs.ygg_meaning.Shapes.{shape_in, fits, values_fit}
-use Rattle.ygg_eval_expr.specs.ygg_type_sound_proofs_Tests.{left as first_of, right as second_of}
+use Rattle.ygg_eval_expr.specs.ygg_meaning_laws_proofs_Tests.{left as first_of, right as second_of}
 use Rattle.ygg_eval_expr.specs.ygg_meaning.Meaning.{functions_of}
 use Rattle.ygg_eval_expr.specs.ygg_meaning.Progress.{Answer, Question, Point, Waits, Goes, Asks, Ends, in_turn, run_of, answer_of, ended, after}
 use Rattle.ygg_eval_expr.specs.ygg_meaning.Runs.{Dialogue}
-use Rattle.ygg_eval_block.specs.ygg_type_sound.Questions.{answer_fits, question_fits, AnswersFit, Follows}
+use Rattle.ygg_eval_block.specs.ygg_meaning_laws.Questions.{answer_fits, question_fits, AnswersFit, Follows}
 use Rattle.ygg_eval_block.specs.declared.body.Stop.{Stop}
 use Rattle.ygg_eval_block.specs.Layers.{signatures_at}
-use Rattle.ygg_eval_block.specs.ygg_type_sound.Blocks.{IsSound}
+use Rattle.ygg_eval_block.specs.ygg_meaning_laws.Blocks.{IsSound}
 use Rattle.ygg_eval_block.specs.Lower.{Standing, Meaning, Ending, Outage, Happened, Lacking, Serves}
 use Rattle.ygg_eval_block.specs.Lower as ending
 use Rattle.ygg_eval_block.specs.Conversations.{Exchange, Exchanged, Talks, asked, answers_of, calls_in}

@@ -15,11 +15,11 @@ use Rattle.ygg_eval_expr.specs.ygg_type_rules.Statements.{block_errors}
 use Rattle.ygg_eval_expr.specs.ygg_meaning.Environments.{Env}
 use Rattle.ygg_eval_expr.specs.ygg_meaning.Meaning.{functions_of}
 use Rattle.ygg_eval_expr.specs.ygg_meaning.Progress.{and_then, forget_since, for_each}
-use Rattle.ygg_eval_expr.specs.ygg_type_sound_proofs_Tests.{left as first_of, right as second_of}
-use Rattle.ygg_eval_expr.specs.ygg_type_sound_proofs_Rules.{NumberParts, number_parts}
-use Rattle.ygg_eval_expr.specs.ygg_type_sound_proofs_Steps.{agrees_with_number}
-use Rattle.ygg_eval_block.specs.ygg_type_sound.Questions.{plain}
-use Rattle.ygg_eval_block.specs.ygg_type_sound_proofs_Following.{follows_front, agrees_after}
+use Rattle.ygg_eval_expr.specs.ygg_meaning_laws_proofs_Tests.{left as first_of, right as second_of}
+use Rattle.ygg_eval_expr.specs.ygg_meaning_laws_proofs_Rules.{NumberParts, number_parts}
+use Rattle.ygg_eval_expr.specs.ygg_meaning_laws_proofs_Steps.{agrees_with_number}
+use Rattle.ygg_eval_block.specs.ygg_meaning_laws.Questions.{plain}
+use Rattle.ygg_eval_block.specs.ygg_meaning_laws_proofs_Following.{follows_front, agrees_after}
 use Rattle.ygg_eval_block.specs.declared.body.Stop.{Stop}
 use Rattle.ygg_eval_block.specs.Lower.{Standing, Meaning}
 use Rattle.ygg_eval_block.specs.declared.flow.Flow.{Flow}

@@ -15,7 +15,7 @@ use Rattle.ygg_eval_expr.specs.ygg_disk.Power.{pick_of, after_pick}
 use Rattle.ygg_eval_expr.specs.ygg_meaning.Environments.{Env}
 use Rattle.ygg_eval_expr.specs.ygg_meaning.Progress.{Answer, Call, Choice, ask, from_source, value_in, values_of}
 use Rattle.ygg_eval_expr.specs.ygg_meaning.Shapes.{fits}
-use Rattle.ygg_eval_expr.specs.ygg_type_sound_proofs_Fits.{digit_has, value_fits}
+use Rattle.ygg_eval_expr.specs.ygg_meaning_laws_proofs_Fits.{digit_has, value_fits}
 use Rattle.ygg_eval_block.specs.declared.body.Stop.{Stop}
 use Rattle.ygg_eval_block.specs.Lower.{Standing, Meaning, Serves}
 use Rattle.ygg_eval_block.specs.declared.flow.Flow.{Flow}

@@ -43,13 +43,13 @@ use Rattle.ygg_eval_expr.specs.ygg_meaning.Meaning.{functions_of}
 use Rattle.ygg_eval_expr.specs.ygg_meaning.Shapes.{values_fit}
 use Rattle.ygg_eval_expr.specs.ygg_meaning.Progress.{Answer, Goes, in_turn, run_of, ended, after}
 use Rattle.ygg_eval_expr.specs.Known.{CanEvaluate}
-use Rattle.ygg_eval_expr.specs.ygg_type_sound.Agrees.{Agrees}
-use Rattle.ygg_eval_expr.specs.ygg_type_sound_proofs_Tests.{left as first_of, right as second_of}
-use Rattle.ygg_eval_block.specs.ygg_type_sound.Questions.{plain, AnswersFit}
-use Rattle.ygg_eval_block.specs.ygg_type_sound.Blocks.{IsSound}
-use Rattle.ygg_eval_block.specs.ygg_type_sound_proofs_ProgressSounds.{Fine, Met, Left, block_sound, statements_sound}
-use Rattle.ygg_eval_block.specs.ygg_type_sound_proofs_Files.{have}
-use Rattle.ygg_eval_block.proofs.of_ygg_type_sound.Derived.{derivable_derived}
+use Rattle.ygg_eval_expr.specs.ygg_meaning_laws.Agrees.{Agrees}
+use Rattle.ygg_eval_expr.specs.ygg_meaning_laws_proofs_Tests.{left as first_of, right as second_of}
+use Rattle.ygg_eval_block.specs.ygg_meaning_laws.Questions.{plain, AnswersFit}
+use Rattle.ygg_eval_block.specs.ygg_meaning_laws.Blocks.{IsSound}
+use Rattle.ygg_eval_block.specs.ygg_meaning_laws_proofs_ProgressSounds.{Fine, Met, Left, block_sound, statements_sound}
+use Rattle.ygg_eval_block.specs.ygg_meaning_laws_proofs_Files.{have}
+use Rattle.ygg_eval_block.proofs.of_ygg_meaning_laws.Derived.{derivable_derived}
 use Rattle.ygg_eval_expr.specs.ygg_type_rules.Files.{IsTyped}
 use Rattle.ygg_syntax.specs.Files.{IsDerivable}
 use Rattle.ygg_eval_block.specs.declared.body.Body.{Body}

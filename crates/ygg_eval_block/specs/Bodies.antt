@@ -10,10 +10,10 @@ use Rattle.ygg_syntax.specs.declared.tree.Operation.{Operation}
 use Rattle.ygg_syntax.specs.declared.tree.Tick.{Tick}
 use Rattle.ygg_syntax.specs.declared.tree.Layer.{Layer}
 use Rattle.ygg_syntax.specs.declared.tree.File.{File}
-use Rattle.ygg_type_sound.specs.ygg_meaning.Environments.{bind}
-use Rattle.ygg_type_sound.specs.ygg_meaning.Shapes.{values_fit}
-use Rattle.ygg_type_sound.specs.ygg_meaning.Layer.{dialogue_of}
-use Rattle.ygg_type_sound.specs.ygg_meaning.Runs.{Dialogue}
+use Rattle.ygg_meaning_laws.specs.ygg_meaning.Environments.{bind}
+use Rattle.ygg_meaning_laws.specs.ygg_meaning.Shapes.{values_fit}
+use Rattle.ygg_meaning_laws.specs.ygg_meaning.Layer.{dialogue_of}
+use Rattle.ygg_meaning_laws.specs.ygg_meaning.Runs.{Dialogue}
 use Rattle.ygg_eval_block.specs.declared.body.Body.{Body}
 use Rattle.ygg_eval_block.specs.declared.body.Part.{Part}
 use Rattle.ygg_eval_block.specs.declared.body.Part.TheVariants.{Start, Spec, OnCrash, Crash, Format, Impl, Tick as TickPart, Recover}

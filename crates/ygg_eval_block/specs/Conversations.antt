@@ -3,9 +3,9 @@ use Rattle.std.specs.Prelude.{◌≡◌, ℕ, ◌+◌, IsTrue, List, [], ◌∷�
 use Rattle.ygg_value.specs.Values.{digit}
 use Rattle.ygg_syntax.specs.declared.grammar.BlockKind.{BlockKind}
 use Rattle.ygg_syntax.specs.declared.tree.File.{File}
-use Rattle.ygg_type_sound.specs.ygg_disk.Power.{pick_of, after_pick}
-use Rattle.ygg_type_sound.specs.ygg_meaning.Progress.{Question, Choice, Call, Answer, Point, Waits, Goes, Progress, Asks, Ends, Stray}
-use Rattle.ygg_type_sound.specs.Questions.{answer_fits, question_fits}
+use Rattle.ygg_meaning_laws.specs.ygg_disk.Power.{pick_of, after_pick}
+use Rattle.ygg_meaning_laws.specs.ygg_meaning.Progress.{Question, Choice, Call, Answer, Point, Waits, Goes, Progress, Asks, Ends, Stray}
+use Rattle.ygg_meaning_laws.specs.Questions.{answer_fits, question_fits}
 use Rattle.ygg_eval_block.specs.Layers.{signatures_at}
 use Rattle.ygg_eval_block.specs.Lower.{Standing, Meaning, Whole}
 

@@ -14,7 +14,7 @@ use Rattle.ygg_eval_expr.specs.ygg_type_rules.Statements.{block_errors}
 use Rattle.ygg_eval_expr.specs.ygg_meaning.Environments.{Name, Env, bind}
 use Rattle.ygg_eval_expr.specs.ygg_meaning.Shapes.{values_fit}
 use Rattle.ygg_eval_expr.specs.ygg_meaning.Progress.{answer_of, after}
-use Rattle.ygg_eval_block.specs.ygg_type_sound.Kinds.{keeps}
+use Rattle.ygg_eval_block.specs.ygg_meaning_laws.Kinds.{keeps}
 use Rattle.ygg_eval_block.specs.declared.body.Stop.{Stop}
 use Rattle.ygg_eval_block.specs.Lower.{Standing, Meaning, Happened, Lacking, Serves}
 use Rattle.ygg_eval_block.specs.Ready.{eval_in, Fits}

@@ -5,16 +5,16 @@ use Rattle.ygg_syntax.specs.declared.tree.Declared.{Declared}
 use Rattle.ygg_syntax.specs.declared.tree.Operation.{Operation}
 use Rattle.ygg_syntax.specs.declared.tree.Layer.{Layer}
 use Rattle.ygg_syntax.specs.declared.tree.File.{File}
-use Rattle.ygg_type_sound.specs.ygg_type_rules.Names.{Named}
-use Rattle.ygg_type_sound.specs.ygg_type_rules.declared.scope.Signature.{Signature}
-use Rattle.ygg_type_sound.specs.ygg_type_rules.Layers.{operation_signature}
-use Rattle.ygg_type_sound.specs.ygg_type_rules.Files.{disk_operations}
-use Rattle.ygg_type_sound.specs.ygg_meaning.Environments.{Env}
-use Rattle.ygg_type_sound.specs.ygg_meaning.Meaning.{functions_of}
-use Rattle.ygg_type_sound.specs.ygg_meaning.Machine.{Machine}
-use Rattle.ygg_type_sound.specs.ygg_meaning.Layer.{ClosedLayer}
-use Rattle.ygg_type_sound.specs.ygg_meaning.Refines.{Below, OnDisk, OnSpec, machine_below}
-use Rattle.ygg_type_sound.specs.ygg_meaning.Stack.{tables_of}
+use Rattle.ygg_meaning_laws.specs.ygg_type_rules.Names.{Named}
+use Rattle.ygg_meaning_laws.specs.ygg_type_rules.declared.scope.Signature.{Signature}
+use Rattle.ygg_meaning_laws.specs.ygg_type_rules.Layers.{operation_signature}
+use Rattle.ygg_meaning_laws.specs.ygg_type_rules.Files.{disk_operations}
+use Rattle.ygg_meaning_laws.specs.ygg_meaning.Environments.{Env}
+use Rattle.ygg_meaning_laws.specs.ygg_meaning.Meaning.{functions_of}
+use Rattle.ygg_meaning_laws.specs.ygg_meaning.Machine.{Machine}
+use Rattle.ygg_meaning_laws.specs.ygg_meaning.Layer.{ClosedLayer}
+use Rattle.ygg_meaning_laws.specs.ygg_meaning.Refines.{Below, OnDisk, OnSpec, machine_below}
+use Rattle.ygg_meaning_laws.specs.ygg_meaning.Stack.{tables_of}
 
 -- the variables of the machine with this number, where those of the first are these: the state variables of the layer
 abbrev pub variables_from : List Declared → List Layer → ℕ → List Declared

@@ -4,18 +4,18 @@ use Rattle.ygg_base.specs.Outside.{Rose}
 use Rattle.ygg_list.specs.declared.memory.NoMemory.{NoMemory}
 use Rattle.ygg_value.specs.declared.row.Value.{Value}
 use Rattle.ygg_syntax.specs.declared.tree.File.{File}
-use Rattle.ygg_type_sound.specs.ygg_type_rules.Names.{Named}
-use Rattle.ygg_type_sound.specs.ygg_type_rules.declared.scope.Signature.{Signature}
-use Rattle.ygg_type_sound.specs.ygg_disk.Power.{IsNamed}
-use Rattle.ygg_type_sound.specs.ygg_disk.declared.power.Fuse.{Fuse}
-use Rattle.ygg_type_sound.specs.ygg_disk.declared.power.Power.{Power}
-use Rattle.ygg_type_sound.specs.ygg_disk.declared.turn.Turn.{Turn}
-use Rattle.ygg_type_sound.specs.ygg_disk.declared.turn.Turn.TheVariants as turn
-use Rattle.ygg_type_sound.specs.ygg_meaning.Environments.{Name}
-use Rattle.ygg_type_sound.specs.ygg_meaning.Progress.{Answer}
-use Rattle.ygg_type_sound.specs.ygg_meaning.Machine.{State, Machine}
-use Rattle.ygg_type_sound.specs.Fitting.{all_fit}
-use Rattle.ygg_type_sound.specs.Questions.{gives}
+use Rattle.ygg_meaning_laws.specs.ygg_type_rules.Names.{Named}
+use Rattle.ygg_meaning_laws.specs.ygg_type_rules.declared.scope.Signature.{Signature}
+use Rattle.ygg_meaning_laws.specs.ygg_disk.Power.{IsNamed}
+use Rattle.ygg_meaning_laws.specs.ygg_disk.declared.power.Fuse.{Fuse}
+use Rattle.ygg_meaning_laws.specs.ygg_disk.declared.power.Power.{Power}
+use Rattle.ygg_meaning_laws.specs.ygg_disk.declared.turn.Turn.{Turn}
+use Rattle.ygg_meaning_laws.specs.ygg_disk.declared.turn.Turn.TheVariants as turn
+use Rattle.ygg_meaning_laws.specs.ygg_meaning.Environments.{Name}
+use Rattle.ygg_meaning_laws.specs.ygg_meaning.Progress.{Answer}
+use Rattle.ygg_meaning_laws.specs.ygg_meaning.Machine.{State, Machine}
+use Rattle.ygg_meaning_laws.specs.Fitting.{all_fit}
+use Rattle.ygg_meaning_laws.specs.Questions.{gives}
 
 -- a machine in a state, and what it is told of power
 pub record Standing (S : Type 0) : Type 0 where

@@ -2,8 +2,8 @@
 use Rattle.std.specs.Prelude.{◌≡◌, ℕ, length, ◌∷◌, ◌++◌, slice_get, Some}
 use Rattle.ygg_syntax.specs.declared.tree.Layer.{Layer}
 use Rattle.ygg_syntax.specs.declared.tree.File.{File}
-use Rattle.ygg_type_sound.specs.ygg_meaning.Layer.{ClosedLayer}
-use Rattle.ygg_type_sound.specs.ygg_meaning.Stack.{Layers, layers_of, below_of}
+use Rattle.ygg_meaning_laws.specs.ygg_meaning.Layer.{ClosedLayer}
+use Rattle.ygg_meaning_laws.specs.ygg_meaning.Stack.{Layers, layers_of, below_of}
 use Rattle.ygg_eval_block.specs.Layers.{closed_at, below_at}
 
 -- it is the layer of the file with so many layers below it

@@ -25,12 +25,12 @@ use Rattle.ygg_eval_expr.specs.ygg_type_rules.Definitions.{definitions_errors, w
 use Rattle.ygg_eval_expr.specs.ygg_meaning.Environments.{Env}
 use Rattle.ygg_eval_expr.specs.ygg_meaning.Meaning.{functions_of}
 use Rattle.ygg_eval_expr.specs.ygg_meaning.Progress.{Eval, Run, forget_since, in_turn, run_of}
-use Rattle.ygg_eval_expr.specs.ygg_type_sound.Agrees.{Agrees}
-use Rattle.ygg_eval_expr.specs.ygg_type_sound.Fitting.{HasShape, all_fit}
+use Rattle.ygg_eval_expr.specs.ygg_meaning_laws.Agrees.{Agrees}
+use Rattle.ygg_eval_expr.specs.ygg_meaning_laws.Fitting.{HasShape, all_fit}
 use Rattle.ygg_eval_expr.specs.Known.{Known}
-use Rattle.ygg_eval_block.specs.ygg_type_sound.Kinds.{may_call, source_keeps, all_keep, stmt_keeps, keeps}
-use Rattle.ygg_eval_block.specs.ygg_type_sound.Questions.{plain}
-use Rattle.ygg_eval_block.specs.ygg_type_sound.Blocks.{eval_with}
+use Rattle.ygg_eval_block.specs.ygg_meaning_laws.Kinds.{may_call, source_keeps, all_keep, stmt_keeps, keeps}
+use Rattle.ygg_eval_block.specs.ygg_meaning_laws.Questions.{plain}
+use Rattle.ygg_eval_block.specs.ygg_meaning_laws.Blocks.{eval_with}
 use Rattle.ygg_eval_block.specs.declared.body.Stop.{Stop}
 use Rattle.ygg_eval_block.specs.Layers.{signatures_at}
 use Rattle.ygg_eval_block.specs.Lower.{Standing, Meaning, Serves}

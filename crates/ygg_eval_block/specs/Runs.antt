@@ -11,7 +11,7 @@ use Rattle.ygg_eval_expr.specs.ygg_meaning.Environments.{Name, Env, bind}
 use Rattle.ygg_eval_expr.specs.ygg_meaning.Shapes.{values_fit}
 use Rattle.ygg_eval_expr.specs.ygg_meaning.Progress.{Answer, Call, Asks, Ends}
 use Rattle.ygg_eval_expr.specs.ygg_meaning.Runs.{Dialogue}
-use Rattle.ygg_eval_block.specs.ygg_type_sound.Kinds.{may_call}
+use Rattle.ygg_eval_block.specs.ygg_meaning_laws.Kinds.{may_call}
 use Rattle.ygg_eval_block.specs.declared.body.Body.{Body}
 use Rattle.ygg_eval_block.specs.declared.body.Stop.{Stop}
 use Rattle.ygg_eval_block.specs.Bodies.{IsBlock, dialogue_in, variables_in, kind_of}

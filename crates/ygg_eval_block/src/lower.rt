@@ -1,6 +1,6 @@
 use ygg_list::NoMemory;
+use ygg_meaning_laws::{Power, Turn};
 use ygg_type::Typed;
-use ygg_type_sound::{Power, Turn};
 use ygg_value::Values;
 
 /// The machine on which the blocks of a layer are run: a disk, the specification of the layer below, or an implementation of it.

@@ -39,15 +39,15 @@ use Rattle.ygg_syntax.specs.declared.tree.Declared.{Declared}
 use Rattle.ygg_syntax.specs.declared.tree.Def.{Def}
 use Rattle.ygg_value.specs.declared.row.Value.{Value}
 use Rattle.ygg_value.specs.declared.shape.Shape.{Shape}
-use Rattle.ygg_type_sound.specs.ygg_syntax_count.Weights.{weights_of, weight_at, expr_weight}
-use Rattle.ygg_type_sound.proofs.of_ygg_syntax_count.Searched.{Searched, begun, other as searched_other, found as searched_found}
-use Rattle.ygg_type_sound.specs.ygg_type_rules.Names.{Named, look_up, has, added}
-use Rattle.ygg_type_sound.specs.Signature.{Signature}
-use Rattle.ygg_type_sound.specs.TypeErrors.{none}
-use Rattle.ygg_type_sound.specs.Shapes.{shape_of}
-use Rattle.ygg_type_sound.specs.Scopes.{Scope, with_local}
-use Rattle.ygg_type_sound.specs.Expressions.{typing, wanted}
-use Rattle.ygg_type_sound.specs.Definitions.{
+use Rattle.ygg_meaning_laws.specs.ygg_syntax_count.Weights.{weights_of, weight_at, expr_weight}
+use Rattle.ygg_meaning_laws.proofs.of_ygg_syntax_count.Searched.{Searched, begun, other as searched_other, found as searched_found}
+use Rattle.ygg_meaning_laws.specs.ygg_type_rules.Names.{Named, look_up, has, added}
+use Rattle.ygg_meaning_laws.specs.Signature.{Signature}
+use Rattle.ygg_meaning_laws.specs.TypeErrors.{none}
+use Rattle.ygg_meaning_laws.specs.Shapes.{shape_of}
+use Rattle.ygg_meaning_laws.specs.Scopes.{Scope, with_local}
+use Rattle.ygg_meaning_laws.specs.Expressions.{typing, wanted}
+use Rattle.ygg_meaning_laws.specs.Definitions.{
   with_parameter,
   with_parameters,
   definition_signature,
@@ -57,11 +57,11 @@ use Rattle.ygg_type_sound.specs.Definitions.{
   with_definitions,
   definitions_errors,
 }
-use Rattle.ygg_type_sound.specs.Environments.{nothing, bind}
-use Rattle.ygg_type_sound.specs.Meaning.{value_with, functions_from, functions_of}
-use Rattle.ygg_type_sound.proofs.Tests.{left, right, bytes_same, bytes_equal}
-use Rattle.ygg_type_sound.proofs.Names.{still_found, look_up_append, added_new, or_else, absent}
-use Rattle.ygg_type_sound.proofs.Definitions.{DefinitionParts, definition_parts, called, body_agrees, definitions_meet}
+use Rattle.ygg_meaning_laws.specs.Environments.{nothing, bind}
+use Rattle.ygg_meaning_laws.specs.Meaning.{value_with, functions_from, functions_of}
+use Rattle.ygg_meaning_laws.proofs.Tests.{left, right, bytes_same, bytes_equal}
+use Rattle.ygg_meaning_laws.proofs.Names.{still_found, look_up_append, added_new, or_else, absent}
+use Rattle.ygg_meaning_laws.proofs.Definitions.{DefinitionParts, definition_parts, called, body_agrees, definitions_meet}
 use Rattle.ygg_eval_expr.specs.Known.{CanCall, CanEvaluate, IsDefinition}
 
 -- one more definition, the last of all

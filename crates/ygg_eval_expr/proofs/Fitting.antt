@@ -6,8 +6,8 @@ use Rattle.ygg_value.specs.Number.{Digits, Grid}
 use Rattle.ygg_value.specs.Values.{word_in}
 use Rattle.ygg_value.specs.declared.row.Value.{Value}
 use Rattle.ygg_value.specs.declared.row.Value.TheVariants.{Word, Row, Table}
-use Rattle.ygg_type_sound.specs.MeaningShapes.{fits}
-use Rattle.ygg_type_sound.proofs.Tests.{left}
+use Rattle.ygg_meaning_laws.specs.MeaningShapes.{fits}
+use Rattle.ygg_meaning_laws.proofs.Tests.{left}
 use Rattle.ygg_eval_expr.specs.Writing.{shape_led_to, CanWrite}
 
 -- indices of a word lead to it

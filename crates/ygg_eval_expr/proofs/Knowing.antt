@@ -39,15 +39,15 @@ use Rattle.ygg_value.specs.Number.{Number}
 use Rattle.ygg_value.specs.Values.{word_in}
 use Rattle.ygg_value.specs.Shapes.{Within}
 use Rattle.ygg_value.specs.declared.row.Value.{Value}
-use Rattle.ygg_type_sound.specs.ygg_type_rules.Names.{look_up}
-use Rattle.ygg_type_sound.specs.Signature.{Signature}
-use Rattle.ygg_type_sound.specs.Shapes.{word_shape}
-use Rattle.ygg_type_sound.specs.Expressions.{with_number as typing_number}
-use Rattle.ygg_type_sound.specs.Meaning.{functions_of, row_of, filled}
-use Rattle.ygg_type_sound.specs.Fitting.{all_fit}
-use Rattle.ygg_type_sound.proofs.Rules.{is_equality, Operands}
-use Rattle.ygg_type_sound.proofs.Lists.{IsWordOf, RowParts}
-use Rattle.ygg_type_sound.proofs.Parts.{
+use Rattle.ygg_meaning_laws.specs.ygg_type_rules.Names.{look_up}
+use Rattle.ygg_meaning_laws.specs.Signature.{Signature}
+use Rattle.ygg_meaning_laws.specs.Shapes.{word_shape}
+use Rattle.ygg_meaning_laws.specs.Expressions.{with_number as typing_number}
+use Rattle.ygg_meaning_laws.specs.Meaning.{functions_of, row_of, filled}
+use Rattle.ygg_meaning_laws.specs.Fitting.{all_fit}
+use Rattle.ygg_meaning_laws.proofs.Rules.{is_equality, Operands}
+use Rattle.ygg_meaning_laws.proofs.Lists.{IsWordOf, RowParts}
+use Rattle.ygg_meaning_laws.proofs.Parts.{
   WithoutErrors,
   HasValue,
   values_in,

@@ -1,9 +1,9 @@
 -- Names that are looked for in one list and then in another.
 use Rattle.std.proofs.Common.{◌≡◌, Bool, true, false, cond, List, [], ◌∷◌, ◌++◌, Some, None, refl, sym, ◌∙◌, ℕ}
 use Rattle.std.specs.Str.{bytes_eq}
-use Rattle.ygg_type_sound.specs.ygg_type_rules.Names.{look_up as found}
-use Rattle.ygg_type_sound.specs.Environments.{Env, look_up, nothing}
-use Rattle.ygg_type_sound.proofs.Names.{still_found, new_found, value_found}
+use Rattle.ygg_meaning_laws.specs.ygg_type_rules.Names.{look_up as found}
+use Rattle.ygg_meaning_laws.specs.Environments.{Env, look_up, nothing}
+use Rattle.ygg_meaning_laws.proofs.Names.{still_found, new_found, value_found}
 use Rattle.ygg_value.specs.declared.row.Value.{Value}
 
 -- a name without a value

@@ -13,8 +13,8 @@ use Rattle.ygg_value.specs.Values.{word_in, digit, apply_value, part_of}
 use Rattle.ygg_value.specs.Shapes.{Within}
 use Rattle.ygg_value.specs.declared.row.Value.{Value}
 use Rattle.ygg_value.specs.declared.row.Value.TheVariants as value
-use Rattle.ygg_type_sound.specs.Environments.{Env, bind}
-use Rattle.ygg_type_sound.specs.Meaning.{functions_of, is_one, quantified}
+use Rattle.ygg_meaning_laws.specs.Environments.{Env, bind}
+use Rattle.ygg_meaning_laws.specs.Meaning.{functions_of, is_one, quantified}
 use Rattle.ygg_eval_expr.specs.Words.{row_from, AreOfRow, CanOperate}
 use Rattle.ygg_eval_expr.specs.Known.{Known, value_in, with_number, CanEvaluate, CanCall, CanQuantify, IsDefinition}
 use Rattle.ygg_eval_expr.proofs.Called.{body_parts}

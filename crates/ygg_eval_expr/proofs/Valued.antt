@@ -12,8 +12,8 @@ use Rattle.ygg_value.specs.declared.operation.Op.{Op}
 use Rattle.ygg_value.specs.declared.row.Value.{Value}
 use Rattle.ygg_value.specs.declared.row.Value.TheVariants as value
 use Rattle.ygg_value.specs.Values.{word_in, digit, apply_value, part_of}
-use Rattle.ygg_type_sound.specs.Meaning.{functions_of, node_value, value_with, is_one, quantified, row_of, filled}
-use Rattle.ygg_type_sound.specs.Meaning as meaning
+use Rattle.ygg_meaning_laws.specs.Meaning.{functions_of, node_value, value_with, is_one, quantified, row_of, filled}
+use Rattle.ygg_meaning_laws.specs.Meaning as meaning
 use Rattle.ygg_eval_expr.specs.Known.{Known, scope_in, value_in, with_number}
 
 abbrev Means : Type 0

@@ -37,8 +37,8 @@ use Rattle.ygg_value.specs.declared.row.Value.TheVariants.{Word}
 use Rattle.ygg_syntax.specs.declared.tree.Def.{Def}
 use Rattle.ygg_syntax.specs.declared.tree.Quantifier.{Quantifier}
 use Rattle.ygg_syntax.specs.declared.tree.Quantifier.TheVariants.{All, Any}
-use Rattle.ygg_type_sound.specs.Environments.{Env}
-use Rattle.ygg_type_sound.specs.Meaning.{all_below, any_below, quantified}
+use Rattle.ygg_meaning_laws.specs.Environments.{Env}
+use Rattle.ygg_meaning_laws.specs.Meaning.{all_below, any_below, quantified}
 use Rattle.ygg_eval_expr.specs.declared.held.Binding.{Binding}
 use Rattle.ygg_eval_expr.specs.Held.{env_of, held_value}
 use Rattle.ygg_eval_expr.specs.Known.{Known, is_all, with_number}

@@ -1,7 +1,7 @@
 -- Values that are made or lent, and what names stand for.
 use Rattle.std.specs.Prelude.{List, map}
 use Rattle.ygg_value.specs.declared.row.Value.{Value}
-use Rattle.ygg_type_sound.specs.Environments.{Env}
+use Rattle.ygg_meaning_laws.specs.Environments.{Env}
 use Rattle.ygg_eval_expr.specs.declared.held.Binding.{Binding}
 use Rattle.ygg_eval_expr.specs.declared.held.CowValue.{CowValue}
 use Rattle.ygg_eval_expr.specs.declared.held.CowValue.TheVariants.{Made, Lent}

@@ -8,18 +8,18 @@ use Rattle.ygg_syntax.specs.declared.tree.Expr.{Expr}
 use Rattle.ygg_syntax.specs.declared.tree.Numeral.{Numeral}
 use Rattle.ygg_syntax.specs.declared.tree.Quantifier.{Quantifier}
 use Rattle.ygg_syntax.specs.declared.tree.Quantifier.TheVariants.{All, Any}
-use Rattle.ygg_type_sound.specs.ygg_syntax_count.Definitions.{WeighsAsAt}
-use Rattle.ygg_type_sound.specs.ygg_type_rules.Names.{look_up}
-use Rattle.ygg_type_sound.specs.Signature.{Signature}
-use Rattle.ygg_type_sound.specs.TypeErrors.{none}
-use Rattle.ygg_type_sound.specs.Scopes.{Scope}
-use Rattle.ygg_type_sound.specs.Expressions.{typing}
-use Rattle.ygg_type_sound.specs.Definitions.{definitions_errors, with_definitions}
-use Rattle.ygg_type_sound.specs.Environments.{Env}
-use Rattle.ygg_type_sound.specs.Meaning.{value_with, functions_of}
-use Rattle.ygg_type_sound.specs.Meaning as meaning
-use Rattle.ygg_type_sound.specs.Fitting.{all_fit}
-use Rattle.ygg_type_sound.specs.Agrees.{Agrees}
+use Rattle.ygg_meaning_laws.specs.ygg_syntax_count.Definitions.{WeighsAsAt}
+use Rattle.ygg_meaning_laws.specs.ygg_type_rules.Names.{look_up}
+use Rattle.ygg_meaning_laws.specs.Signature.{Signature}
+use Rattle.ygg_meaning_laws.specs.TypeErrors.{none}
+use Rattle.ygg_meaning_laws.specs.Scopes.{Scope}
+use Rattle.ygg_meaning_laws.specs.Expressions.{typing}
+use Rattle.ygg_meaning_laws.specs.Definitions.{definitions_errors, with_definitions}
+use Rattle.ygg_meaning_laws.specs.Environments.{Env}
+use Rattle.ygg_meaning_laws.specs.Meaning.{value_with, functions_of}
+use Rattle.ygg_meaning_laws.specs.Meaning as meaning
+use Rattle.ygg_meaning_laws.specs.Fitting.{all_fit}
+use Rattle.ygg_meaning_laws.specs.Agrees.{Agrees}
 use Rattle.ygg_eval_expr.specs.declared.evaluator.Evaluator.{Evaluator}
 use Rattle.ygg_eval_expr.specs.Held.{env_of}
 

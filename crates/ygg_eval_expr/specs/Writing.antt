@@ -2,8 +2,8 @@
 use Rattle.std.specs.Prelude.{ℕ, zero, suc, IsTrue}
 use Rattle.ygg_value.specs.declared.row.Value.{Value}
 use Rattle.ygg_value.specs.declared.shape.Shape.{Shape}
-use Rattle.ygg_type_sound.specs.Shapes.{part_shape}
-use Rattle.ygg_type_sound.specs.MeaningShapes.{fits}
+use Rattle.ygg_meaning_laws.specs.Shapes.{part_shape}
+use Rattle.ygg_meaning_laws.specs.MeaningShapes.{fits}
 
 -- the shape that so many indices lead to
 abbrev pub shape_led_to : Shape → ℕ → Shape

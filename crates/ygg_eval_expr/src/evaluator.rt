@@ -5,8 +5,8 @@ ghost use Rattle.ygg_value.specs.declared.row.Value.{Value as AnyValue};
 ghost use Rattle.ygg_value.specs.declared.row.Value.TheVariants.{Word as AsWord};
 ghost use Rattle.ygg_value.specs.Words.{word};
 ghost use Rattle.ygg_value.specs.Values.{word_in};
-ghost use Rattle.ygg_type_sound.specs.Environments.{bind, nothing};
-ghost use Rattle.ygg_type_sound.specs.Meaning.{functions_of, quantified, is_one};
+ghost use Rattle.ygg_meaning_laws.specs.Environments.{bind, nothing};
+ghost use Rattle.ygg_meaning_laws.specs.Meaning.{functions_of, quantified, is_one};
 ghost use Rattle.ygg_eval_expr.specs.Held.{env_of, held_value, held_values};
 ghost use Rattle.ygg_eval_expr.specs.Known.{is_all, known_of, value_in, with_number, CanEvaluate, CanCall, CanQuantify, IsDefinition};
 

@@ -2,8 +2,8 @@
 
 ghost use Rattle.std.specs.Prelude.{◌≡◌, ◌++◌, IfOk, OnOk};
 ghost use Rattle.std.specs.Option.{option_copied};
-ghost use Rattle.ygg_type_sound.specs.ygg_type_rules.Names.{look_up as found};
-ghost use Rattle.ygg_type_sound.specs.Environments.{bind, look_up};
+ghost use Rattle.ygg_meaning_laws.specs.ygg_type_rules.Names.{look_up as found};
+ghost use Rattle.ygg_meaning_laws.specs.Environments.{bind, look_up};
 ghost use Rattle.ygg_eval_expr.specs.Held.{env_of, held_value};
 
 use std::alloc::Global;

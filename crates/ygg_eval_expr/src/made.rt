@@ -3,7 +3,7 @@
 ghost use Rattle.std.specs.Prelude.{◌≡◌, ◌≤◌, ◌<◌, ◌^◌, IfOk, replicate};
 ghost use Rattle.ygg_value.specs.Words.{word};
 ghost use Rattle.ygg_value.specs.Values.{word_in, apply_value, part_of, digit};
-ghost use Rattle.ygg_type_sound.specs.Meaning.{is_one};
+ghost use Rattle.ygg_meaning_laws.specs.Meaning.{is_one};
 ghost use Rattle.ygg_eval_expr.specs.Words.{row_from, AreOfRow, CanOperate};
 
 use std::alloc::Global;

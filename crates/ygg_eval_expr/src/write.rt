@@ -6,7 +6,7 @@ ghost use Rattle.ygg_value.specs.Shapes.{shape_of, IsShape};
 ghost use Rattle.ygg_value.specs.Values.{row_in, row_write, table_read, table_write, with_part};
 ghost use Rattle.ygg_value.specs.declared.row.Value.TheVariants.{Table as AsTable};
 ghost use Rattle.ygg_value.specs.declared.shape.Shape.TheVariants.{Row as RowShape};
-ghost use Rattle.ygg_type_sound.specs.MeaningShapes.{fits};
+ghost use Rattle.ygg_meaning_laws.specs.MeaningShapes.{fits};
 ghost use Rattle.ygg_eval_expr.specs.Writing.{CanWrite};
 
 use crate::made::{word_in, zero_row};

@@ -8,21 +8,21 @@ use Rattle.ygg_syntax.specs.declared.tree.Declared.{Declared}
 use Rattle.ygg_syntax.specs.declared.tree.Expr.{Expr}
 use Rattle.ygg_syntax.specs.declared.tree.File.{File}
 use Rattle.ygg_syntax.specs.declared.tree.Layer.{Layer}
-use Rattle.ygg_direct.specs.ygg_type_rules.Files.{IsTyped}
-use Rattle.ygg_direct.specs.ygg_type_rules.TypeErrors.{none}
-use Rattle.ygg_direct.specs.ygg_type_rules.Scopes.{Scope}
-use Rattle.ygg_direct.specs.ygg_type_rules.Expressions.{typing}
-use Rattle.ygg_direct.specs.ygg_type_rules.Statements.{in_order, return_errors, walked}
-use Rattle.ygg_direct.specs.ygg_meaning.Environments.{Env, bind}
-use Rattle.ygg_direct.specs.ygg_meaning.Meaning.{functions_of}
-use Rattle.ygg_direct.specs.ygg_meaning.Progress.{Answer, answer_of}
-use Rattle.ygg_direct.specs.ygg_meaning.Shapes.{values_fit}
-use Rattle.ygg_direct.specs.ygg_type_sound.Agrees.{Agrees}
-use Rattle.ygg_direct.specs.ygg_type_sound_proofs_Tests.{left as first_of, right as second_of}
-use Rattle.ygg_direct.specs.ygg_type_sound.Kinds.{keeps}
-use Rattle.ygg_direct.specs.ygg_type_sound.Questions.{plain, Follows}
-use Rattle.ygg_direct.proofs.of_ygg_type_sound.Derived.{derivable_derived}
-use Rattle.ygg_direct.specs.Direct.{Reached, direct_run}
+use Rattle.ygg_meaning_laws.specs.ygg_type_rules.Files.{IsTyped}
+use Rattle.ygg_meaning_laws.specs.ygg_type_rules.TypeErrors.{none}
+use Rattle.ygg_meaning_laws.specs.ygg_type_rules.Scopes.{Scope}
+use Rattle.ygg_meaning_laws.specs.ygg_type_rules.Expressions.{typing}
+use Rattle.ygg_meaning_laws.specs.ygg_type_rules.Statements.{in_order, return_errors, walked}
+use Rattle.ygg_meaning_laws.specs.ygg_meaning.Environments.{Env, bind}
+use Rattle.ygg_meaning_laws.specs.ygg_meaning.Meaning.{functions_of}
+use Rattle.ygg_meaning_laws.specs.ygg_meaning.Progress.{Answer, answer_of}
+use Rattle.ygg_meaning_laws.specs.ygg_meaning.Shapes.{values_fit}
+use Rattle.ygg_meaning_laws.specs.Agrees.{Agrees}
+use Rattle.ygg_meaning_laws.proofs.Tests.{left as first_of, right as second_of}
+use Rattle.ygg_meaning_laws.specs.Kinds.{keeps}
+use Rattle.ygg_meaning_laws.specs.Questions.{plain, Follows}
+use Rattle.ygg_meaning_laws.proofs.Derived.{derivable_derived}
+use Rattle.ygg_meaning_laws.specs.Direct.{Reached, direct_run}
 use Rattle.ygg_eval_block.specs.ygg_eval_expr.Known.{CanEvaluate}
 use Rattle.ygg_eval_block.specs.Bodies.{IsBlock, IsRunnable, arguments_in, block_in, variables_in}
 use Rattle.ygg_eval_block.specs.declared.body.Body.{Body}

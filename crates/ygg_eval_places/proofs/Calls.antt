@@ -10,9 +10,9 @@ use Rattle.ygg_eval.specs.ygg_type_rules.declared.scope.Signature.{Signature}
 use Rattle.ygg_eval.specs.ygg_meaning.Environments.{Name}
 use Rattle.ygg_eval.specs.ygg_meaning.Progress.{Call}
 use Rattle.ygg_eval.specs.ygg_meaning.Shapes.{values_fit}
-use Rattle.ygg_eval.specs.ygg_type_sound.Fitting.{all_fit}
-use Rattle.ygg_eval.specs.ygg_type_sound.Questions.{question_fits}
-use Rattle.ygg_eval.specs.ygg_direct_proofs_DiskServes.{fitting_call}
+use Rattle.ygg_eval.specs.ygg_meaning_laws.Fitting.{all_fit}
+use Rattle.ygg_eval.specs.ygg_meaning_laws.Questions.{question_fits}
+use Rattle.ygg_eval.specs.ygg_meaning_laws_proofs_DiskServes.{fitting_call}
 use Rattle.ygg_eval_places.specs.ygg_sym_runs_proofs_Chosen.{room}
 use Rattle.ygg_eval_places.specs.ygg_sym_runs_proofs_SpecFalls.{bits_after}
 use Rattle.ygg_eval.specs.ygg_eval_block.Layers.{signatures_at, variables_at}

@@ -11,15 +11,15 @@ use Rattle.ygg_eval_places.specs.ygg_meaning.Environments.{Env, bind}
 use Rattle.ygg_eval_places.specs.ygg_meaning.Layer.{ClosedLayer, eval_of}
 use Rattle.ygg_eval_places.specs.ygg_meaning.Machine.{Picks}
 use Rattle.ygg_eval_places.specs.ygg_meaning.Progress.{Question, Answer, answer_of}
-use Rattle.ygg_eval_places.specs.ygg_direct.Places as places
-use Rattle.ygg_eval_places.specs.ygg_direct.Direct.{Handled, Event, Reached, Chained, Alike, seen, seen_run, direct_run}
-use Rattle.ygg_eval_places.specs.ygg_direct_proofs_Choosing.{one}
-use Rattle.ygg_eval_places.specs.ygg_direct_proofs_Mirror.{block_mirrors}
-use Rattle.ygg_eval_places.specs.ygg_direct_proofs_Order.{block_follows}
-use Rattle.ygg_fronts.specs.ygg_sym_runs.Specs.{Nothing}
-use Rattle.ygg_fronts.specs.ygg_sym_runs_proofs_Chosen.{block_run_at}
-use Rattle.ygg_fronts.specs.ygg_sym_runs_proofs_Specs.{choose_at}
-use Rattle.ygg_fronts.specs.Taking.{picks_of, one_each, block_takes}
+use Rattle.ygg_eval_places.specs.ygg_meaning_laws.Places as places
+use Rattle.ygg_eval_places.specs.ygg_meaning_laws.Direct.{Handled, Event, Reached, Chained, Alike, seen, seen_run, direct_run}
+use Rattle.ygg_eval_places.specs.ygg_meaning_laws_proofs_Choosing.{one}
+use Rattle.ygg_eval_places.specs.ygg_meaning_laws_proofs_Mirror.{block_mirrors}
+use Rattle.ygg_eval_places.specs.ygg_meaning_laws_proofs_Order.{block_follows}
+use Rattle.ygg_sym_laws.specs.ygg_sym_runs.Specs.{Nothing}
+use Rattle.ygg_sym_laws.specs.ygg_sym_runs_proofs_Chosen.{block_run_at}
+use Rattle.ygg_sym_laws.specs.ygg_sym_runs_proofs_Specs.{choose_at}
+use Rattle.ygg_sym_laws.specs.Taking.{picks_of, one_each, block_takes}
 use Rattle.ygg_eval_places.specs.ygg_eval_block.Bodies.{arguments_in, variables_in}
 use Rattle.ygg_eval_places.specs.ygg_eval_block.Layers.{closed_at}
 use Rattle.ygg_eval_places.specs.ygg_eval_block.declared.body.Body.{Body}

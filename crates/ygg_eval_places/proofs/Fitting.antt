@@ -1,12 +1,12 @@
 -- What answers of a machine that answers by place keep: its state is in order, and they fit what is asked.
 use Rattle.std.proofs.Common.{◌≡◌, ℕ, true, List, [], ◌∷◌, ◌++◌, map, refl, sym, ap, ◌∙◌, subst, append_assoc}
 use Rattle.std.proofs.lemmas.List.{append-nil}
-use Rattle.ygg_direct.specs.ygg_type_rules.Names.{Named}
-use Rattle.ygg_direct.specs.ygg_type_rules.declared.scope.Signature.{Signature}
-use Rattle.ygg_direct.specs.ygg_meaning.Progress.{Answer, Point, Waits, Question}
-use Rattle.ygg_direct.specs.ygg_type_sound.Questions.{answer_fits, question_fits}
-use Rattle.ygg_direct.specs.ygg_type_sound_proofs_ProgressSounds.{Told}
-use Rattle.ygg_direct.specs.Direct.{Handled, Event, told_by, AsksAll, Chained}
+use Rattle.ygg_meaning_laws.specs.ygg_type_rules.Names.{Named}
+use Rattle.ygg_meaning_laws.specs.ygg_type_rules.declared.scope.Signature.{Signature}
+use Rattle.ygg_meaning_laws.specs.ygg_meaning.Progress.{Answer, Point, Waits, Question}
+use Rattle.ygg_meaning_laws.specs.Questions.{answer_fits, question_fits}
+use Rattle.ygg_meaning_laws.proofs.ProgressSounds.{Told}
+use Rattle.ygg_meaning_laws.specs.Direct.{Handled, Event, told_by, AsksAll, Chained}
 use Rattle.ygg_eval_places.specs.Machines.{PlaceMeaning, IsPlaces, CanAnswer}
 
 heads : {A : Type 0} {x y : A} {xs ys : List A} → x ∷ xs ≡ y ∷ ys → x ≡ y

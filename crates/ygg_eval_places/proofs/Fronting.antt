@@ -10,11 +10,11 @@ use Rattle.ygg_eval.specs.ygg_meaning.Obligations.{Halt}
 use Rattle.ygg_eval.specs.ygg_meaning.Progress.{Answer, answer_of}
 use Rattle.ygg_eval.specs.ygg_meaning.Refines.{Below}
 use Rattle.ygg_eval.specs.ygg_meaning.Shapes.{values_fit}
-use Rattle.ygg_eval.specs.ygg_direct.Direct.{Reached, direct_run}
+use Rattle.ygg_eval.specs.ygg_meaning_laws.Direct.{Reached, direct_run}
 use Rattle.ygg_eval_places.specs.ygg_sym_runs.Stops.{halt, first_stop}
 use Rattle.ygg_eval_places.specs.ygg_sym_laws.Below.{places_on, space_on}
-use Rattle.ygg_eval_places.specs.ygg_fronts.Fronts.{takes_on, cut_takes_on, lose_takes_on, run_by_place, run_stop, stopped_picks}
-use Rattle.ygg_eval_places.specs.ygg_fronts.Taking.{picks_of}
+use Rattle.ygg_eval_places.specs.ygg_sym_laws.Fronts.{takes_on, cut_takes_on, lose_takes_on, run_by_place, run_stop, stopped_picks}
+use Rattle.ygg_eval_places.specs.ygg_sym_laws.Taking.{picks_of}
 use Rattle.ygg_eval.specs.ygg_eval_block.Ready.{eval_in}
 use Rattle.ygg_eval.specs.ygg_eval_block.Bodies.{arguments_in, variables_in}
 use Rattle.ygg_eval.specs.ygg_eval_block.Layers.{below_at, closed_at, variables_at}

@@ -6,8 +6,8 @@ use Rattle.ygg_syntax.specs.declared.tree.File.{File}
 use Rattle.ygg_syntax.specs.declared.tree.Name.{Name}
 use Rattle.ygg_syntax.specs.declared.tree.Numeral.{Numeral}
 use Rattle.ygg_syntax.specs.declared.tree.Stmt.{Stmt}
-use Rattle.ygg_direct.specs.ygg_meaning.Environments.{Env}
-use Rattle.ygg_direct.specs.Direct.{Direct, Reached, times, in_order}
+use Rattle.ygg_meaning_laws.specs.ygg_meaning.Environments.{Env}
+use Rattle.ygg_meaning_laws.specs.Direct.{Direct, Reached, times, in_order}
 use Rattle.ygg_eval_block.specs.ygg_eval_expr.Held.{env_of}
 use Rattle.ygg_eval_block.specs.ygg_eval_expr.declared.held.Binding.{Binding}
 use Rattle.ygg_eval_block.specs.Ready.{numbered}

@@ -31,13 +31,13 @@ use Rattle.ygg_eval.specs.ygg_meaning.Machine.{State}
 use Rattle.ygg_eval.specs.ygg_meaning.Obligations.{Halt}
 use Rattle.ygg_eval.specs.ygg_meaning.Progress.{Eval, Question}
 use Rattle.ygg_eval.specs.ygg_meaning.Refines.{Below}
-use Rattle.ygg_eval.specs.ygg_direct.Direct.{Handled, Event, Reached, Chained, Alike, seen, seen_run, direct_run}
-use Rattle.ygg_eval.specs.ygg_direct.RunPlaces.{base_at, asked_in}
-use Rattle.ygg_eval.specs.ygg_direct_proofs_Mirror.{block_mirrors}
-use Rattle.ygg_eval.specs.ygg_direct_proofs_Order.{block_follows}
+use Rattle.ygg_eval.specs.ygg_meaning_laws.Direct.{Handled, Event, Reached, Chained, Alike, seen, seen_run, direct_run}
+use Rattle.ygg_eval.specs.ygg_meaning_laws.RunPlaces.{base_at, asked_in}
+use Rattle.ygg_eval.specs.ygg_meaning_laws_proofs_Mirror.{block_mirrors}
+use Rattle.ygg_eval.specs.ygg_meaning_laws_proofs_Order.{block_follows}
 use Rattle.ygg_eval_places.specs.ygg_sym_runs.Stops.{before_at, within_at, halt, further, first_stop}
-use Rattle.ygg_eval_places.specs.ygg_fronts.Fronts.{handle_on, takes_on, cut_on, cut_takes_on, lose_on, lose_takes_on, stopped_picks}
-use Rattle.ygg_eval_places.specs.ygg_fronts.Taking.{picks_of}
+use Rattle.ygg_eval_places.specs.ygg_sym_laws.Fronts.{handle_on, takes_on, cut_on, cut_takes_on, lose_on, lose_takes_on, stopped_picks}
+use Rattle.ygg_eval_places.specs.ygg_sym_laws.Taking.{picks_of}
 use Rattle.ygg_eval_places.specs.Belows.{Cut, Noted, falls_there, falls_before, falls_by, first_of, notes_below, fallen_at_end}
 
 module _ (G : Below) (bits stops last : ℕ → Bool) where

@@ -47,11 +47,11 @@ use Rattle.ygg_eval.specs.ygg_meaning.Environments.{Name, Env, bind}
 use Rattle.ygg_eval.specs.ygg_meaning.Machine.{Picks, State, based}
 use Rattle.ygg_eval.specs.ygg_meaning.Progress.{Answer, Call}
 use Rattle.ygg_eval.specs.ygg_meaning.Shapes.{values_fit}
-use Rattle.ygg_eval.specs.ygg_type_sound.Questions.{question_fits}
-use Rattle.ygg_eval.specs.ygg_direct.Acts.{Taken, Did, Fell as Left}
-use Rattle.ygg_eval.specs.ygg_direct.DiskActs.{kind_calls, kind_falls, state_in, disk_does, disk_drops}
-use Rattle.ygg_eval.proofs.of_ygg_direct.DiskActed.{disk_acted}
-use Rattle.ygg_eval_places.specs.ygg_fronts.Taking.{whole_picks, cut_picks}
+use Rattle.ygg_eval.specs.ygg_meaning_laws.Questions.{question_fits}
+use Rattle.ygg_eval.specs.ygg_meaning_laws.Acts.{Taken, Did, Fell as Left}
+use Rattle.ygg_eval.specs.ygg_meaning_laws.DiskActs.{kind_calls, kind_falls, state_in, disk_does, disk_drops}
+use Rattle.ygg_eval.proofs.of_ygg_meaning_laws.DiskActed.{disk_acted}
+use Rattle.ygg_eval_places.specs.ygg_sym_laws.Taking.{whole_picks, cut_picks}
 use Rattle.ygg_eval.specs.ygg_eval_block.Layers.{machine_at, signatures_at, variables_at}
 use Rattle.ygg_eval.specs.ygg_eval_block.Lower.{Standing, Whole, Happened, Called, Fell, AfterWhole, IsCallable, Serves, ending_of}
 use Rattle.ygg_eval.specs.ygg_eval_block.Ready.{IsPlace}

@@ -46,13 +46,13 @@ use Rattle.ygg_eval.specs.ygg_meaning.Progress.{Answer, Call}
 use Rattle.ygg_eval.specs.ygg_meaning.Refines.{Below, OnDisk, OnSpec}
 use Rattle.ygg_eval.specs.ygg_meaning.Shapes.{values_fit}
 use Rattle.ygg_eval.specs.ygg_meaning.Stack.{tables_of}
-use Rattle.ygg_eval.specs.ygg_type_sound.Questions.{question_fits}
-use Rattle.ygg_eval.specs.ygg_direct.Places.{Result}
+use Rattle.ygg_eval.specs.ygg_meaning_laws.Questions.{question_fits}
+use Rattle.ygg_eval.specs.ygg_meaning_laws.Places.{Result}
 use Rattle.ygg_eval_places.specs.ygg_sym_runs_proofs_Chosen.{room, block_end}
 use Rattle.ygg_eval_places.specs.ygg_sym_runs_proofs_SpecFalls.{bits_after, crash_end, then_end, fall_end, drop_end}
 use Rattle.ygg_eval_places.specs.ygg_sym_runs_proofs_SpecMeans.{spec_ended}
-use Rattle.ygg_eval_places.specs.ygg_fronts.Fronts.{handle_on, takes_on, cut_on, cut_takes_on, lose_on, lose_takes_on}
-use Rattle.ygg_eval_places.specs.ygg_fronts.Taking.{block_takes, operation_takes, crash_takes, then_takes, fall_takes, drop_takes}
+use Rattle.ygg_eval_places.specs.ygg_sym_laws.Fronts.{handle_on, takes_on, cut_on, cut_takes_on, lose_on, lose_takes_on}
+use Rattle.ygg_eval_places.specs.ygg_sym_laws.Taking.{block_takes, operation_takes, crash_takes, then_takes, fall_takes, drop_takes}
 use Rattle.ygg_eval.specs.ygg_eval_block.Bodies.{IsBlock, IsRunnable, arguments_at, arguments_in, block_in, kind_of, variables_in}
 use Rattle.ygg_eval.specs.ygg_eval_block.Layers.{below_at, closed_at, signatures_at, variables_at}
 use Rattle.ygg_eval.specs.ygg_eval_block.declared.body.Body.{Body}

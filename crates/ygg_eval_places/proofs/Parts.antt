@@ -46,30 +46,30 @@ use Rattle.ygg_syntax.specs.declared.tree.Source.TheVariants as source
 use Rattle.ygg_syntax.specs.declared.tree.Stmt.{Stmt}
 use Rattle.ygg_syntax.specs.declared.tree.Stmt.TheOpen.{Stmt-F}
 use Rattle.ygg_syntax.specs.declared.tree.Stmt.TheVariants as tree
-use Rattle.ygg_direct.specs.ygg_type_rules.Names.{Named}
-use Rattle.ygg_direct.specs.ygg_type_rules.declared.scope.Signature.{Signature}
-use Rattle.ygg_direct.specs.ygg_type_rules.TypeErrors.{none}
-use Rattle.ygg_direct.specs.ygg_type_rules.Scopes.{Scope, is_taken}
-use Rattle.ygg_direct.specs.ygg_type_rules.Shapes.{word_shape}
-use Rattle.ygg_direct.specs.ygg_type_rules.Expressions.{typing, expected_errors, with_number, number_errors, wanted}
-use Rattle.ygg_direct.specs.ygg_type_rules.Statements.{Walked, source_typing, call_typing, place_rule, in_order, return_errors}
-use Rattle.ygg_direct.specs.ygg_type_rules.Statements.{node_walked, walked, block_errors}
-use Rattle.ygg_direct.specs.ygg_meaning.Environments.{Env}
-use Rattle.ygg_direct.specs.ygg_meaning.Meaning.{Functions, functions_of}
-use Rattle.ygg_direct.specs.ygg_meaning.Progress.{Answer, Point, Waits, Goes, Question, Choice, Call, in_turn, run_of, values_of, value_in}
-use Rattle.ygg_direct.specs.ygg_type_sound.Agrees.{Agrees}
-use Rattle.ygg_direct.specs.ygg_type_sound_proofs_Tests.{left as first_of, right as second_of}
-use Rattle.ygg_direct.specs.ygg_type_sound_proofs_Rules.{NumberParts, number_parts}
-use Rattle.ygg_direct.specs.ygg_type_sound_proofs_Steps.{agrees_with_number}
+use Rattle.ygg_meaning_laws.specs.ygg_type_rules.Names.{Named}
+use Rattle.ygg_meaning_laws.specs.ygg_type_rules.declared.scope.Signature.{Signature}
+use Rattle.ygg_meaning_laws.specs.ygg_type_rules.TypeErrors.{none}
+use Rattle.ygg_meaning_laws.specs.ygg_type_rules.Scopes.{Scope, is_taken}
+use Rattle.ygg_meaning_laws.specs.ygg_type_rules.Shapes.{word_shape}
+use Rattle.ygg_meaning_laws.specs.ygg_type_rules.Expressions.{typing, expected_errors, with_number, number_errors, wanted}
+use Rattle.ygg_meaning_laws.specs.ygg_type_rules.Statements.{Walked, source_typing, call_typing, place_rule, in_order, return_errors}
+use Rattle.ygg_meaning_laws.specs.ygg_type_rules.Statements.{node_walked, walked, block_errors}
+use Rattle.ygg_meaning_laws.specs.ygg_meaning.Environments.{Env}
+use Rattle.ygg_meaning_laws.specs.ygg_meaning.Meaning.{Functions, functions_of}
+use Rattle.ygg_meaning_laws.specs.ygg_meaning.Progress.{Answer, Point, Waits, Goes, Question, Choice, Call, in_turn, run_of, values_of, value_in}
+use Rattle.ygg_meaning_laws.specs.Agrees.{Agrees}
+use Rattle.ygg_meaning_laws.proofs.Tests.{left as first_of, right as second_of}
+use Rattle.ygg_meaning_laws.proofs.Rules.{NumberParts, number_parts}
+use Rattle.ygg_meaning_laws.proofs.Steps.{agrees_with_number}
 use Rattle.ygg_eval_block.specs.ygg_eval_expr.Known.{CanEvaluate}
-use Rattle.ygg_direct.specs.ygg_type_sound.Kinds.{all_keep, node_keeps, stmt_keeps, keeps}
-use Rattle.ygg_direct.specs.ygg_type_sound.Questions.{plain, answer_fits, question_fits, Follows}
-use Rattle.ygg_direct.specs.ygg_type_sound_proofs_Asking.{all_known}
-use Rattle.ygg_direct.specs.ygg_type_sound_proofs_Files.{have}
-use Rattle.ygg_direct.specs.ygg_type_sound_proofs_Following.{follows_cut, follows_front, agrees_after}
-use Rattle.ygg_direct.specs.ygg_type_sound_proofs_ProgressSounds.{Told, Fine, all_sound, statements_sound, call_fits}
-use Rattle.ygg_direct.specs.Direct.{told_by, in_order as run_in_order}
-use Rattle.ygg_direct.proofs.Order.{all_follow, block_follows}
+use Rattle.ygg_meaning_laws.specs.Kinds.{all_keep, node_keeps, stmt_keeps, keeps}
+use Rattle.ygg_meaning_laws.specs.Questions.{plain, answer_fits, question_fits, Follows}
+use Rattle.ygg_meaning_laws.proofs.Asking.{all_known}
+use Rattle.ygg_meaning_laws.proofs.Files.{have}
+use Rattle.ygg_meaning_laws.proofs.Following.{follows_cut, follows_front, agrees_after}
+use Rattle.ygg_meaning_laws.proofs.ProgressSounds.{Told, Fine, all_sound, statements_sound, call_fits}
+use Rattle.ygg_meaning_laws.specs.Direct.{told_by, in_order as run_in_order}
+use Rattle.ygg_meaning_laws.proofs.Order.{all_follow, block_follows}
 use Rattle.ygg_eval_block.specs.Layers.{signatures_at}
 use Rattle.ygg_eval_block.specs.Ready.{eval_in, known_in, numbered, IsGiven}
 use Rattle.ygg_eval_block.proofs.Fitting.{local_defs, local_lower, walked_defs, given_value, given_choice, given_call}

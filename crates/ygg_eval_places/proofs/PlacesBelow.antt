@@ -8,12 +8,12 @@ use Rattle.ygg_syntax.specs.declared.tree.Index.{Index}
 use Rattle.ygg_syntax.specs.declared.tree.Name.{Name}
 use Rattle.ygg_syntax.specs.declared.tree.Source.{Source}
 use Rattle.ygg_syntax.specs.declared.tree.Source.TheVariants as source
-use Rattle.ygg_direct.specs.ygg_type_rules.TypeErrors.{TypeErrors}
-use Rattle.ygg_direct.specs.ygg_type_rules.Scopes.{Scope}
-use Rattle.ygg_direct.specs.ygg_type_rules.Statements.{source_typing, call_typing, place_rule, assignment_errors}
-use Rattle.ygg_direct.specs.ygg_meaning.Environments.{Env, look_up}
-use Rattle.ygg_direct.specs.ygg_meaning.Machine.{based}
-use Rattle.ygg_direct.specs.ygg_type_sound.Kinds.{may_call, source_keeps}
+use Rattle.ygg_meaning_laws.specs.ygg_type_rules.TypeErrors.{TypeErrors}
+use Rattle.ygg_meaning_laws.specs.ygg_type_rules.Scopes.{Scope}
+use Rattle.ygg_meaning_laws.specs.ygg_type_rules.Statements.{source_typing, call_typing, place_rule, assignment_errors}
+use Rattle.ygg_meaning_laws.specs.ygg_meaning.Environments.{Env, look_up}
+use Rattle.ygg_meaning_laws.specs.ygg_meaning.Machine.{based}
+use Rattle.ygg_meaning_laws.specs.Kinds.{may_call, source_keeps}
 use Rattle.ygg_eval_block.specs.ygg_eval_expr.Known.{CanEvaluate}
 use Rattle.ygg_eval_block.specs.ygg_eval_expr.Writing.{CanWrite}
 use Rattle.ygg_eval_block.specs.Lower.{Standing, Meaning, Behavior}

@@ -11,14 +11,14 @@ use Rattle.ygg_syntax.specs.declared.tree.Place.{Place}
 use Rattle.ygg_syntax.specs.declared.tree.Source.{Source}
 use Rattle.ygg_syntax.specs.declared.tree.Source.TheVariants as source
 use Rattle.ygg_syntax.specs.declared.tree.Stmt.TheOpen.{Stmt-F}
-use Rattle.ygg_direct.specs.ygg_type_rules.Names.{Named}
-use Rattle.ygg_direct.specs.ygg_type_rules.declared.scope.Signature.{Signature}
-use Rattle.ygg_direct.specs.ygg_meaning.Environments.{Env, look_up}
-use Rattle.ygg_direct.specs.ygg_meaning.Progress.{Answer, Question, Choice, Call, values_of, value_in, assigned}
-use Rattle.ygg_direct.specs.ygg_type_sound_proofs_Fits.{fits_has}
-use Rattle.ygg_direct.specs.ygg_type_sound.Fitting.{HasShape}
-use Rattle.ygg_direct.specs.ygg_type_sound.Questions.{answer_fits, answer_has}
-use Rattle.ygg_direct.specs.Direct.{Got, source_got, source_space, stmt_direct}
+use Rattle.ygg_meaning_laws.specs.ygg_type_rules.Names.{Named}
+use Rattle.ygg_meaning_laws.specs.ygg_type_rules.declared.scope.Signature.{Signature}
+use Rattle.ygg_meaning_laws.specs.ygg_meaning.Environments.{Env, look_up}
+use Rattle.ygg_meaning_laws.specs.ygg_meaning.Progress.{Answer, Question, Choice, Call, values_of, value_in, assigned}
+use Rattle.ygg_meaning_laws.proofs.Fits.{fits_has}
+use Rattle.ygg_meaning_laws.specs.Fitting.{HasShape}
+use Rattle.ygg_meaning_laws.specs.Questions.{answer_fits, answer_has}
+use Rattle.ygg_meaning_laws.specs.Direct.{Got, source_got, source_space, stmt_direct}
 use Rattle.ygg_eval_block.specs.ygg_eval_expr.Writing.{CanWrite}
 use Rattle.ygg_eval_block.specs.Layers.{signatures_at}
 use Rattle.ygg_eval_block.specs.Ready.{eval_in, IsGiven}

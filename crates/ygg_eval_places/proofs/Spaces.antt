@@ -35,7 +35,7 @@ use Rattle.ygg_syntax.specs.declared.tree.Operation.{Operation}
 use Rattle.ygg_eval.specs.ygg_type.Typed.{operations_at, operation_place}
 use Rattle.ygg_eval.specs.ygg_meaning.Environments.{Name}
 use Rattle.ygg_eval.specs.ygg_meaning.Layer.{operation_in}
-use Rattle.ygg_eval.specs.ygg_direct.Direct.{room_of}
+use Rattle.ygg_eval.specs.ygg_meaning_laws.Direct.{room_of}
 use Rattle.ygg_eval_places.specs.ygg_sym_laws.Below.{space_on}
 use Rattle.ygg_eval.specs.ygg_eval_block.Bodies.{IsBlock}
 use Rattle.ygg_eval.specs.ygg_eval_block.Layers.{below_at}

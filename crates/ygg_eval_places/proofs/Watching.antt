@@ -38,10 +38,10 @@ use Rattle.ygg_eval.specs.ygg_meaning.Progress.{Answer, Question}
 use Rattle.ygg_eval.specs.ygg_meaning.Refines.{Below}
 use Rattle.ygg_eval.specs.ygg_meaning.Shapes.{env_fits, values_fit}
 use Rattle.ygg_eval.specs.ygg_meaning.Stack.{tables_of}
-use Rattle.ygg_eval.proofs.of_ygg_type_sound.Derived.{derivable_derived}
+use Rattle.ygg_eval.proofs.of_ygg_meaning_laws.Derived.{derivable_derived}
 use Rattle.ygg_eval.specs.Files.{IsStateBelow}
 use Rattle.ygg_eval_places.specs.ygg_sym_runs.Stops.{before_at, within_at, halt}
-use Rattle.ygg_eval_places.specs.ygg_fronts.Fronts.{handle_on, takes_on, cut_on, cut_takes_on, lose_on, lose_takes_on}
+use Rattle.ygg_eval_places.specs.ygg_sym_laws.Fronts.{handle_on, takes_on, cut_on, cut_takes_on, lose_on, lose_takes_on}
 use Rattle.ygg_eval.specs.ygg_eval_block.Layers.{below_at, variables_at}
 use Rattle.ygg_eval.specs.ygg_eval_block_proofs_Blocks.{bind_fits, blocks_kept}
 use Rattle.ygg_eval.proofs.OnDisk.{variables_zero}

@@ -11,12 +11,12 @@ use Rattle.ygg_eval.specs.ygg_meaning.Obligations.{Halt}
 use Rattle.ygg_eval.specs.ygg_meaning.Progress.{Question}
 use Rattle.ygg_eval.specs.ygg_meaning.Refines.{Below}
 use Rattle.ygg_eval.specs.ygg_meaning.Shapes.{values_fit}
-use Rattle.ygg_eval.specs.ygg_type_sound.Kinds.{layer_keeps}
-use Rattle.ygg_eval.specs.ygg_direct.Direct.{Handled}
+use Rattle.ygg_eval.specs.ygg_meaning_laws.Kinds.{layer_keeps}
+use Rattle.ygg_eval.specs.ygg_meaning_laws.Direct.{Handled}
 use Rattle.ygg_eval.specs.Files.{IsStateBelow}
 use Rattle.ygg_eval_places.specs.ygg_sym_runs.Stops.{before_at, within_at, halt}
 use Rattle.ygg_eval_places.specs.ygg_sym_laws.Below.{space_on}
-use Rattle.ygg_eval_places.specs.ygg_fronts.Fronts.{handle_on, takes_on, cut_on, cut_takes_on, lose_on, lose_takes_on}
+use Rattle.ygg_eval_places.specs.ygg_sym_laws.Fronts.{handle_on, takes_on, cut_on, cut_takes_on, lose_on, lose_takes_on}
 use Rattle.ygg_eval.specs.ygg_eval_block.Layers.{below_at, signatures_at, variables_at}
 use Rattle.ygg_eval.specs.ygg_eval_block.declared.body.Stop.{Stop}
 use Rattle.ygg_eval_places.specs.Machines.{PlaceMeaning}

@@ -4,7 +4,7 @@ use Rattle.ygg_value.specs.Values.{digit}
 use Rattle.ygg_value.specs.declared.shape.Shape.TheVariants as shape
 use Rattle.ygg_eval_places.specs.ygg_meaning.Progress.{Question, Choice, Call}
 use Rattle.ygg_eval_places.specs.ygg_meaning.Machine.{Picks}
-use Rattle.ygg_eval_places.specs.ygg_type_sound.Questions.{answer_fits, answer_has}
+use Rattle.ygg_eval_places.specs.ygg_meaning_laws.Questions.{answer_fits, answer_has}
 use Rattle.ygg_eval_places.specs.Machines.{IsPlaces, CanAnswer}
 use Rattle.ygg_eval_places.specs.Chosen.{choice_meaning}
 use Rattle.ygg_eval_places.specs.declared.choices.ChoicePlaces.{ChoicePlaces}

@@ -11,10 +11,10 @@ use Rattle.ygg_eval_places.specs.ygg_meaning.Layer.{ClosedLayer}
 use Rattle.ygg_eval_places.specs.ygg_meaning.Machine.{Picks}
 use Rattle.ygg_eval_places.specs.ygg_meaning.Progress.{Question, Answer}
 use Rattle.ygg_eval_places.specs.ygg_meaning.Shapes.{values_fit}
-use Rattle.ygg_eval_places.specs.ygg_direct.Direct.{Handled}
-use Rattle.ygg_eval_places.specs.ygg_direct.Places.{Result}
-use Rattle.ygg_fronts.specs.ygg_sym_runs_proofs_Chosen.{block_end}
-use Rattle.ygg_fronts.specs.Taking.{block_takes}
+use Rattle.ygg_eval_places.specs.ygg_meaning_laws.Direct.{Handled}
+use Rattle.ygg_eval_places.specs.ygg_meaning_laws.Places.{Result}
+use Rattle.ygg_sym_laws.specs.ygg_sym_runs_proofs_Chosen.{block_end}
+use Rattle.ygg_sym_laws.specs.Taking.{block_takes}
 use Rattle.ygg_eval_places.specs.ygg_eval_block.Bodies.{IsBlock, arguments_in, variables_in}
 use Rattle.ygg_eval_places.specs.ygg_eval_block.Layers.{closed_at, signatures_at}
 use Rattle.ygg_eval_places.specs.ygg_eval_block.declared.body.Body.{Body}

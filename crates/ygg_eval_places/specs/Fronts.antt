@@ -10,7 +10,7 @@ use Rattle.ygg_eval.specs.ygg_meaning.Machine.{on, based}
 use Rattle.ygg_eval.specs.ygg_meaning.Obligations.{Halt}
 use Rattle.ygg_eval.specs.ygg_meaning.Refines.{Below}
 use Rattle.ygg_eval.specs.ygg_meaning.Shapes.{values_fit}
-use Rattle.ygg_eval_places.specs.ygg_fronts.Fronts.{answer_by_place, state_by_place, run_picks, run_stop, left_at, fall_picks}
+use Rattle.ygg_eval_places.specs.ygg_sym_laws.Fronts.{answer_by_place, state_by_place, run_picks, run_stop, left_at, fall_picks}
 use Rattle.ygg_eval.specs.ygg_eval_block.Bodies.{IsBlock, arguments_in, variables_in}
 use Rattle.ygg_eval.specs.ygg_eval_block.Layers.{below_at, closed_at, variables_at}
 use Rattle.ygg_eval.specs.ygg_eval_block.declared.body.Body.{Body}

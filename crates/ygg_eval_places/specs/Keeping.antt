@@ -12,21 +12,21 @@ use Rattle.ygg_eval.specs.ygg_meaning.Environments.{Env}
 use Rattle.ygg_eval.specs.ygg_meaning.Machine.{Machine, State}
 use Rattle.ygg_eval.specs.ygg_meaning.Progress.{Question, Choice, Call}
 use Rattle.ygg_eval.specs.ygg_meaning.Refines.{Below, OnDisk, OnSpec}
-use Rattle.ygg_eval.specs.ygg_type_sound.Questions.{answer_fits, question_fits}
-use Rattle.ygg_eval.specs.ygg_direct.Direct.{Handled}
-use Rattle.ygg_eval.specs.ygg_direct.Acts.{Acts, Did, noted_picks}
-use Rattle.ygg_eval.specs.ygg_direct.DiskActs.{disk_acts}
-use Rattle.ygg_eval.specs.ygg_direct.SpecActs.{spec_acts}
-use Rattle.ygg_eval.specs.ygg_direct_proofs_DiskServes.{disk_serves}
-use Rattle.ygg_eval.specs.ygg_direct_proofs_SpecServes.{spec_serves}
-use Rattle.ygg_eval.specs.ygg_direct_proofs_Made.{Serves}
+use Rattle.ygg_eval.specs.ygg_meaning_laws.Questions.{answer_fits, question_fits}
+use Rattle.ygg_eval.specs.ygg_meaning_laws.Direct.{Handled}
+use Rattle.ygg_eval.specs.ygg_meaning_laws.Acts.{Acts, Did, noted_picks}
+use Rattle.ygg_eval.specs.ygg_meaning_laws.DiskActs.{disk_acts}
+use Rattle.ygg_eval.specs.ygg_meaning_laws.SpecActs.{spec_acts}
+use Rattle.ygg_eval.specs.ygg_meaning_laws_proofs_DiskServes.{disk_serves}
+use Rattle.ygg_eval.specs.ygg_meaning_laws_proofs_SpecServes.{spec_serves}
+use Rattle.ygg_eval.specs.ygg_meaning_laws_proofs_Made.{Serves}
 use Rattle.ygg_eval.specs.Files.{IsStateBelow}
 use Rattle.ygg_eval.proofs.InFile.{disk_fine, layer_sees, layer_answers}
-use Rattle.ygg_eval_places.specs.ygg_fronts.Fronts.{handle_on, takes_on}
-use Rattle.ygg_eval_places.specs.ygg_fronts.Taking.{Takes}
-use Rattle.ygg_eval_places.specs.ygg_fronts_proofs_Acting.{Named}
-use Rattle.ygg_eval_places.specs.ygg_fronts_proofs_Disk.{disk_named}
-use Rattle.ygg_eval_places.specs.ygg_fronts_proofs_Spec.{spec_named}
+use Rattle.ygg_eval_places.specs.ygg_sym_laws.Fronts.{handle_on, takes_on}
+use Rattle.ygg_eval_places.specs.ygg_sym_laws.Taking.{Takes}
+use Rattle.ygg_eval_places.specs.ygg_sym_laws_proofs_Acting.{Named}
+use Rattle.ygg_eval_places.specs.ygg_sym_laws_proofs_Disk.{disk_named}
+use Rattle.ygg_eval_places.specs.ygg_sym_laws_proofs_Spec.{spec_named}
 use Rattle.ygg_eval.specs.ygg_eval_block.Layers.{below_at, closed_at, signatures_at, signatures_of}
 use Rattle.ygg_eval_places.specs.Machines.{IsPlaces}
 use Rattle.ygg_eval_places.specs.Bits.{bits_in}

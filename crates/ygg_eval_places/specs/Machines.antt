@@ -1,13 +1,13 @@
 -- The machine on which a block is run by place.
 use Rattle.std.specs.Prelude.{ℕ, IsTrue}
 use Rattle.ygg_syntax.specs.declared.grammar.BlockKind.{BlockKind}
-use Rattle.ygg_direct.specs.ygg_type_rules.Names.{Named}
-use Rattle.ygg_direct.specs.ygg_type_rules.declared.scope.Signature.{Signature}
-use Rattle.ygg_direct.specs.ygg_meaning.Environments.{Name}
-use Rattle.ygg_direct.specs.ygg_meaning.Progress.{Question}
-use Rattle.ygg_direct.specs.ygg_meaning.Progress as progress
-use Rattle.ygg_direct.specs.ygg_type_sound.Questions.{answer_fits, question_fits}
-use Rattle.ygg_direct.specs.Direct.{Handled}
+use Rattle.ygg_meaning_laws.specs.ygg_type_rules.Names.{Named}
+use Rattle.ygg_meaning_laws.specs.ygg_type_rules.declared.scope.Signature.{Signature}
+use Rattle.ygg_meaning_laws.specs.ygg_meaning.Environments.{Name}
+use Rattle.ygg_meaning_laws.specs.ygg_meaning.Progress.{Question}
+use Rattle.ygg_meaning_laws.specs.ygg_meaning.Progress as progress
+use Rattle.ygg_meaning_laws.specs.Questions.{answer_fits, question_fits}
+use Rattle.ygg_meaning_laws.specs.Direct.{Handled}
 use Rattle.ygg_eval_places.specs.declared.places.Question as asked
 use Rattle.ygg_eval_places.specs.declared.places.Question.TheVariants.{Choice, Call}
 

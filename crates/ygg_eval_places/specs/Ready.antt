@@ -10,16 +10,16 @@ use Rattle.ygg_syntax.specs.declared.tree.Numeral.{Numeral}
 use Rattle.ygg_syntax.specs.declared.tree.Place.{Place}
 use Rattle.ygg_syntax.specs.declared.tree.Source.{Source}
 use Rattle.ygg_syntax.specs.declared.tree.Stmt.{Stmt}
-use Rattle.ygg_direct.specs.ygg_type_rules.TypeErrors.{TypeErrors, none, both}
-use Rattle.ygg_direct.specs.ygg_type_rules.Scopes.{Scope, is_taken}
-use Rattle.ygg_direct.specs.ygg_type_rules.Expressions.{with_number, number_errors}
-use Rattle.ygg_direct.specs.ygg_type_rules.Statements.{source_typing, call_typing, place_rule, assignment_errors, in_order, walked, block_errors}
-use Rattle.ygg_direct.specs.ygg_type_rules.Definitions.{definitions_errors, with_definitions}
-use Rattle.ygg_direct.specs.ygg_meaning.Environments.{Env}
-use Rattle.ygg_direct.specs.ygg_meaning.Meaning.{functions_of}
-use Rattle.ygg_direct.specs.ygg_type_sound.Agrees.{Agrees}
-use Rattle.ygg_direct.specs.ygg_type_sound.Kinds.{may_call, source_keeps, all_keep, stmt_keeps, keeps}
-use Rattle.ygg_direct.specs.ygg_type_sound.Questions.{plain}
+use Rattle.ygg_meaning_laws.specs.ygg_type_rules.TypeErrors.{TypeErrors, none, both}
+use Rattle.ygg_meaning_laws.specs.ygg_type_rules.Scopes.{Scope, is_taken}
+use Rattle.ygg_meaning_laws.specs.ygg_type_rules.Expressions.{with_number, number_errors}
+use Rattle.ygg_meaning_laws.specs.ygg_type_rules.Statements.{source_typing, call_typing, place_rule, assignment_errors, in_order, walked, block_errors}
+use Rattle.ygg_meaning_laws.specs.ygg_type_rules.Definitions.{definitions_errors, with_definitions}
+use Rattle.ygg_meaning_laws.specs.ygg_meaning.Environments.{Env}
+use Rattle.ygg_meaning_laws.specs.ygg_meaning.Meaning.{functions_of}
+use Rattle.ygg_meaning_laws.specs.Agrees.{Agrees}
+use Rattle.ygg_meaning_laws.specs.Kinds.{may_call, source_keeps, all_keep, stmt_keeps, keeps}
+use Rattle.ygg_meaning_laws.specs.Questions.{plain}
 use Rattle.ygg_eval_block.specs.Layers.{signatures_at}
 use Rattle.ygg_eval_places.specs.Machines.{PlaceMeaning}
 

@@ -12,8 +12,8 @@ use Rattle.ygg_eval.specs.ygg_meaning.Layer.{ClosedLayer}
 use Rattle.ygg_eval.specs.ygg_meaning.Machine.{Picks, State, based}
 use Rattle.ygg_eval.specs.ygg_meaning.Progress.{Answer, Question}
 use Rattle.ygg_eval.specs.ygg_meaning.Shapes.{values_fit}
-use Rattle.ygg_eval_places.specs.ygg_fronts.Fronts.{handle_on, takes_on, cut_on, cut_takes_on, lose_on, lose_takes_on}
-use Rattle.ygg_eval_places.specs.ygg_fronts.Taking.{crash_takes, then_takes}
+use Rattle.ygg_eval_places.specs.ygg_sym_laws.Fronts.{handle_on, takes_on, cut_on, cut_takes_on, lose_on, lose_takes_on}
+use Rattle.ygg_eval_places.specs.ygg_sym_laws.Taking.{crash_takes, then_takes}
 use Rattle.ygg_eval_places.specs.ygg_sym_runs_proofs_SpecFalls.{crash_end, then_end}
 use Rattle.ygg_eval.specs.ygg_eval_block.Bodies.{arguments_in}
 use Rattle.ygg_eval.specs.ygg_eval_block.Layers.{below_at, closed_at, variables_at}

@@ -7,8 +7,8 @@ use Rattle.ygg_syntax.specs.declared.tree.File.{File}
 use Rattle.ygg_syntax.specs.declared.tree.Name.{Name}
 use Rattle.ygg_syntax.specs.declared.tree.Numeral.{Numeral}
 use Rattle.ygg_syntax.specs.declared.tree.Stmt.{Stmt}
-use Rattle.ygg_direct.specs.ygg_meaning.Environments.{Env}
-use Rattle.ygg_direct.specs.Direct.{Direct, Reached, total, forgets, times, in_order, direct_of}
+use Rattle.ygg_meaning_laws.specs.ygg_meaning.Environments.{Env}
+use Rattle.ygg_meaning_laws.specs.Direct.{Direct, Reached, total, forgets, times, in_order, direct_of}
 use Rattle.ygg_eval_block.specs.Ready.{eval_in}
 use Rattle.ygg_eval_places.specs.Machines.{PlaceMeaning}
 

@@ -5,14 +5,14 @@ use Rattle.ygg_value.specs.declared.shape.Shape.{Shape}
 use Rattle.ygg_syntax.specs.declared.tree.Block.{Block}
 use Rattle.ygg_syntax.specs.declared.tree.File.{File}
 use Rattle.ygg_syntax.specs.declared.tree.Layer.{Layer}
-use Rattle.ygg_direct.specs.ygg_type_rules.TypeErrors.{none}
-use Rattle.ygg_direct.specs.ygg_type_rules.Scopes.{Scope}
-use Rattle.ygg_direct.specs.ygg_type_rules.Statements.{block_errors}
-use Rattle.ygg_direct.specs.ygg_meaning.Environments.{Env, bind}
-use Rattle.ygg_direct.specs.ygg_meaning.Progress.{Answer, answer_of}
-use Rattle.ygg_direct.specs.ygg_meaning.Shapes.{values_fit}
-use Rattle.ygg_direct.specs.ygg_type_sound.Kinds.{keeps}
-use Rattle.ygg_direct.specs.Direct.{Reached, direct_run}
+use Rattle.ygg_meaning_laws.specs.ygg_type_rules.TypeErrors.{none}
+use Rattle.ygg_meaning_laws.specs.ygg_type_rules.Scopes.{Scope}
+use Rattle.ygg_meaning_laws.specs.ygg_type_rules.Statements.{block_errors}
+use Rattle.ygg_meaning_laws.specs.ygg_meaning.Environments.{Env, bind}
+use Rattle.ygg_meaning_laws.specs.ygg_meaning.Progress.{Answer, answer_of}
+use Rattle.ygg_meaning_laws.specs.ygg_meaning.Shapes.{values_fit}
+use Rattle.ygg_meaning_laws.specs.Kinds.{keeps}
+use Rattle.ygg_meaning_laws.specs.Direct.{Reached, direct_run}
 use Rattle.ygg_eval_block.specs.Bodies.{IsBlock, arguments_in, kind_of, variables_in}
 use Rattle.ygg_eval_block.specs.Layers.{signatures_at}
 use Rattle.ygg_eval_block.specs.declared.body.Body.{Body}

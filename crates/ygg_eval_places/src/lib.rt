@@ -26,4 +26,4 @@ pub use run::{choices_room, run_choices};
 pub use unrolled::{add, room};
 pub use walker::Walker;
 pub use whole::run_places;
-pub use ygg_fronts::{Bank, Env};
+pub use ygg_sym_laws::{Bank, Env};

@@ -7,7 +7,7 @@ ghost use Rattle.ygg_eval.specs.ygg_eval_block.Layers.{signatures_at, variables_
 ghost use Rattle.ygg_eval.specs.ygg_meaning.Progress.{Call};
 ghost use Rattle.ygg_eval.specs.ygg_meaning.Shapes.{values_fit};
 ghost use Rattle.ygg_syntax.specs.declared.grammar.BlockKind.TheVariants.{Impl};
-ghost use Rattle.ygg_eval.specs.ygg_type_sound.Questions.{question_fits};
+ghost use Rattle.ygg_eval.specs.ygg_meaning_laws.Questions.{question_fits};
 
 use crate::bits::Choices;
 use crate::{disk, spec};

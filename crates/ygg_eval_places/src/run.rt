@@ -1,7 +1,7 @@
 //! Runs of such blocks.
 
 ghost use Rattle.std.specs.Prelude.{◌≡◌, IfOk};
-ghost use Rattle.ygg_eval_places.specs.ygg_direct.Direct.{room_of};
+ghost use Rattle.ygg_eval_places.specs.ygg_meaning_laws.Direct.{room_of};
 ghost use Rattle.ygg_syntax.specs.declared.tree.Block.{Block};
 ghost use Rattle.ygg_syntax.specs.declared.tree.Layer.{Layer};
 ghost use Rattle.ygg_syntax.specs.declared.grammar.BlockKind.TheVariants as kind;

@@ -1,12 +1,12 @@
 //! The right sides and calls of a block.
 
 ghost use Rattle.std.specs.Prelude.{◌≡◌, ◌+◌, IfOk, OnOk};
-ghost use Rattle.ygg_direct.specs.Direct.{source_got, source_space};
+ghost use Rattle.ygg_meaning_laws.specs.Direct.{source_got, source_space};
 ghost use Rattle.ygg_eval_block.specs.Ready.{eval_in};
 ghost use Rattle.ygg_eval_block.specs.ygg_eval_expr.Held.{env_of};
 ghost use Rattle.ygg_eval_places.specs.Machines.{CanAnswer, question_of};
 ghost use Rattle.ygg_eval_places.specs.Ready.{CanAsk};
-ghost use Rattle.ygg_direct.specs.ygg_meaning.Progress.{value_in};
+ghost use Rattle.ygg_meaning_laws.specs.ygg_meaning.Progress.{value_in};
 
 use crate::places::{Places, Question};
 use crate::unrolled::{add, source_room};

@@ -11,7 +11,7 @@ ghost use Rattle.ygg_syntax.specs.declared.grammar.BlockKind.TheVariants as kind
 ghost use Rattle.ygg_syntax.specs.declared.grammar.BlockKind.TheVariants.{Impl};
 ghost use Rattle.ygg_syntax.specs.declared.tree.Block.{Block};
 ghost use Rattle.ygg_syntax.specs.declared.tree.Layer.{Layer};
-ghost use Rattle.ygg_eval.specs.ygg_type_sound.Questions.{question_fits};
+ghost use Rattle.ygg_eval.specs.ygg_meaning_laws.Questions.{question_fits};
 
 use crate::bits::Choices;
 use crate::run::{choices_room, run_choices};

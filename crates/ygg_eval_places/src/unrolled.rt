@@ -1,7 +1,7 @@
 //! How many places a block has in the unrolled text. No machine has memory for 2^64 of them: where there are as many the answer is out of memory.
 
 ghost use Rattle.std.specs.Prelude.{◌≡◌, ◌+◌, ◌*◌, ℕ, IfOk, map};
-ghost use Rattle.ygg_direct.specs.Direct.{block_room, room_of, source_space, stmt_room, total};
+ghost use Rattle.ygg_meaning_laws.specs.Direct.{block_room, room_of, source_space, stmt_room, total};
 ghost use Rattle.ygg_syntax.specs.declared.tree.Stmt.TheFolds.{fold-Stmt};
 
 use crate::places::Places;

@@ -2,7 +2,7 @@
 
 ghost use Rattle.std.specs.Prelude.{◌≡◌, ◌≤◌, ◌<◌, ◌^◌, IfOk, OnOk};
 ghost use Rattle.ygg_syntax.specs.declared.tree.Stmt.TheOpen.{Stmt-F};
-ghost use Rattle.ygg_direct.specs.Direct.{direct_run, stmt_direct};
+ghost use Rattle.ygg_meaning_laws.specs.Direct.{direct_run, stmt_direct};
 ghost use Rattle.ygg_eval_block.specs.Ready.{eval_in};
 ghost use Rattle.ygg_eval_block.specs.ygg_eval_expr.Held.{env_of};
 ghost use Rattle.ygg_eval_places.specs.Ready.{CanAsk, CanAssign, CanCall, CanEnter, CanRepeat, CanRun, CanStep};

@@ -1,13 +1,13 @@
 //! Whole runs of blocks of a file by place.
 
 ghost use Rattle.std.specs.Prelude.{◌≡◌, IfOk, OnOk, take};
-ghost use Rattle.ygg_direct.specs.Direct.{direct_run};
+ghost use Rattle.ygg_meaning_laws.specs.Direct.{direct_run};
 ghost use Rattle.ygg_eval_block.specs.Ending.{values_in};
 ghost use Rattle.ygg_eval_block.specs.Ready.{eval_in};
 ghost use Rattle.ygg_eval_block.specs.ygg_eval_expr.Held.{env_of};
 ghost use Rattle.ygg_eval_block.specs.Bodies.{IsRunnable};
 ghost use Rattle.ygg_eval_places.specs.Wholes.{IsReady, BodyWalked, CanServe};
-ghost use Rattle.ygg_direct.specs.ygg_meaning.Progress.{answer_of};
+ghost use Rattle.ygg_meaning_laws.specs.ygg_meaning.Progress.{answer_of};
 
 use crate::places::Places;
 use crate::walker::Walker;

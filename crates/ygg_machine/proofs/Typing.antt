@@ -79,17 +79,17 @@ use Rattle.ygg_eval.specs.ygg_meaning.Progress.{Question, Answer, Asks}
 use Rattle.ygg_eval.specs.ygg_meaning.Runs.{Dialogue}
 use Rattle.ygg_eval.specs.ygg_meaning.Layer.{dialogue_of, tick_in}
 use Rattle.ygg_eval.specs.ygg_meaning.Shapes.{env_fits, shape_in, values_fit, zeros_of}
-use Rattle.ygg_eval.specs.ygg_type_sound_proofs_Names.{or_else, look_up_append}
-use Rattle.ygg_eval.specs.ygg_type_sound_proofs_Parameters.{type_is}
-use Rattle.ygg_eval.specs.ygg_type_sound_proofs_Tests.{left, right, passed, turned, bytes_equal}
-use Rattle.ygg_eval.specs.ygg_type_sound.Blocks.{is_returned}
-use Rattle.ygg_eval.specs.ygg_type_sound.Kinds.{keeps, layer_keeps, operation_keeps, on_crash_keeps, returns_declared}
-use Rattle.ygg_eval.specs.ygg_type_sound.Questions.{gives, answer_has, answer_fits, AnswersFit}
-use Rattle.ygg_eval.proofs.of_ygg_type_sound.Derived.{derivable_derived}
-use Rattle.ygg_eval.specs.ygg_type_sound_proofs_Files.{have}
-use Rattle.ygg_eval.specs.ygg_type_sound_proofs_ProgressSounds.{block_sound}
-use Rattle.ygg_eval.specs.ygg_type_sound_proofs_Typed.{Parts, parts}
-use Rattle.ygg_eval.proofs.of_ygg_type_sound.Views.{AllTyped, zeros_fit, memory_agrees, agrees_with_arguments}
+use Rattle.ygg_eval.specs.ygg_meaning_laws_proofs_Names.{or_else, look_up_append}
+use Rattle.ygg_eval.specs.ygg_meaning_laws_proofs_Parameters.{type_is}
+use Rattle.ygg_eval.specs.ygg_meaning_laws_proofs_Tests.{left, right, passed, turned, bytes_equal}
+use Rattle.ygg_eval.specs.ygg_meaning_laws.Blocks.{is_returned}
+use Rattle.ygg_eval.specs.ygg_meaning_laws.Kinds.{keeps, layer_keeps, operation_keeps, on_crash_keeps, returns_declared}
+use Rattle.ygg_eval.specs.ygg_meaning_laws.Questions.{gives, answer_has, answer_fits, AnswersFit}
+use Rattle.ygg_eval.proofs.of_ygg_meaning_laws.Derived.{derivable_derived}
+use Rattle.ygg_eval.specs.ygg_meaning_laws_proofs_Files.{have}
+use Rattle.ygg_eval.specs.ygg_meaning_laws_proofs_ProgressSounds.{block_sound}
+use Rattle.ygg_eval.specs.ygg_meaning_laws_proofs_Typed.{Parts, parts}
+use Rattle.ygg_eval.proofs.of_ygg_meaning_laws.Views.{AllTyped, zeros_fit, memory_agrees, agrees_with_arguments}
 use Rattle.ygg_eval.specs.ygg_eval_block.Conversations.{Exchange, Exchanged, Talks, asked, answers_of}
 use Rattle.ygg_eval.specs.ygg_eval_block.Layers.{closed_at, signatures_at}
 use Rattle.ygg_eval.specs.ygg_eval_block.Lower.{Standing, Meaning}

@@ -4,8 +4,8 @@ pub use Rattle.ygg_eval.specs.ygg_meaning
 pub use Rattle.ygg_eval.specs.ygg_type_rules
 pub use Rattle.ygg_eval.specs.ygg_type_proofs_Least
 pub use Rattle.ygg_eval.specs.ygg_type
-pub use Rattle.ygg_eval.specs.ygg_type_sound_proofs_Fits
-pub use Rattle.ygg_eval.specs.ygg_type_sound
+pub use Rattle.ygg_eval.specs.ygg_meaning_laws_proofs_Fits
+pub use Rattle.ygg_eval.specs.ygg_meaning_laws
 pub mod GroundSteps
 pub mod Grounded
 pub mod GroundKeeps

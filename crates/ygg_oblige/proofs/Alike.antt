@@ -1,17 +1,17 @@
 -- Ends of runs, compared.
 use Rattle.std.proofs.Common.{◌≡◌, List, [], Option, Some, None, sym, subst}
 use Rattle.ygg_syntax.specs.declared.tree.Declared.{Declared}
-use Rattle.ygg_oblige_list.specs.ygg_bank.Nodes.{Extends}
-use Rattle.ygg_oblige_list.specs.ygg_bank.declared.node.Node.{Node}
-use Rattle.ygg_oblige_list.specs.ygg_shape.Wholes.{AllAlike}
-use Rattle.ygg_oblige_list.specs.ygg_shape_cells.declared.terms.SymValue.{SymValue}
-use Rattle.ygg_oblige_list.specs.ygg_sym_runs_proofs_Lows.{low_wider}
-use Rattle.ygg_oblige_list.specs.ygg_sym_runs.Lows.{LowShaped}
-use Rattle.ygg_oblige_list.proofs.of_ygg_sym_disk.Asked.{lows_alike}
-use Rattle.ygg_oblige_list.specs.ygg_sym_expr_proofs_Shaped.{some_wider}
-use Rattle.ygg_oblige_list.specs.ygg_sym_runs.Meaning.{AnswerShaped}
-use Rattle.ygg_oblige_list.specs.ygg_oblige_parts.SymLayer.{SymLayer}
-use Rattle.ygg_oblige_list.specs.ygg_oblige_parts.SymEnd.{SymEnd}
+use Rattle.ygg_oblige_parts.specs.ygg_bank.Nodes.{Extends}
+use Rattle.ygg_oblige_parts.specs.ygg_bank.declared.node.Node.{Node}
+use Rattle.ygg_oblige_parts.specs.ygg_shape.Wholes.{AllAlike}
+use Rattle.ygg_oblige_parts.specs.ygg_shape_cells.declared.terms.SymValue.{SymValue}
+use Rattle.ygg_oblige_parts.specs.ygg_sym_runs_proofs_Lows.{low_wider}
+use Rattle.ygg_oblige_parts.specs.ygg_sym_runs.Lows.{LowShaped}
+use Rattle.ygg_oblige_parts.proofs.of_ygg_sym_runs.MergedLows.{lows_alike}
+use Rattle.ygg_oblige_parts.specs.ygg_sym_expr_proofs_Shaped.{some_wider}
+use Rattle.ygg_oblige_parts.specs.ygg_sym_runs.Meaning.{AnswerShaped}
+use Rattle.ygg_oblige_parts.specs.SymLayer.{SymLayer}
+use Rattle.ygg_sym.specs.declared.runs.SymEnd.{SymEnd}
 use Rattle.ygg_oblige.specs.Making.{EndShaped}
 
 -- values that are two states of the same names are alike

@@ -5,10 +5,10 @@ use Rattle.ygg_oblige_laws.specs.ygg_rules.declared.rule.RuleKind.{RuleKind}
 use Rattle.ygg_oblige_laws.specs.ygg_bank.Makes.{Out}
 use Rattle.ygg_oblige_laws.specs.ygg_bank.declared.node.Node.{Node}
 use Rattle.ygg_oblige_laws.specs.ygg_meaning.Obligations.{Obligation, obligations_of}
-use Rattle.ygg_oblige_list.specs.ygg_sym_spec.Layers.{closed, terms_in}
-use Rattle.ygg_oblige_list.specs.ygg_sym_spec.declared.layer.SymLayer.{SymLayer}
+use Rattle.ygg_oblige_parts.specs.ygg_sym_spec.Layers.{closed, terms_in}
+use Rattle.ygg_oblige_parts.specs.ygg_sym_spec.declared.layer.SymLayer.{SymLayer}
 use Rattle.ygg_oblige.specs.Sites.{below_in}
-use Rattle.ygg_oblige.specs.SymBelow.{SymBelow}
+use Rattle.ygg_sym.specs.ygg_sym_spec.declared.below.SymBelow.{SymBelow}
 use Rattle.ygg_oblige_laws.specs.LayerTerms.{LayerTyped}
 use Rattle.ygg_oblige_laws.specs.TermStates.{Starting, starting, state_words}
 use Rattle.ygg_oblige_laws.proofs.EachKind.{all_known}

@@ -4,28 +4,28 @@ use Rattle.std.proofs.lemmas.List.Elements.{All-nil}
 use Rattle.ygg_value.specs.Shapes.{IsShape}
 use Rattle.ygg_syntax.specs.declared.tree.Declared.{Declared}
 use Rattle.ygg_syntax.specs.declared.tree.Def.{Def}
-use Rattle.ygg_oblige_list.specs.ygg_meaning.Shapes.{shape_in}
-use Rattle.ygg_oblige_list.specs.ygg_meaning.Layer.{ClosedLayer}
-use Rattle.ygg_oblige_list.specs.ygg_meaning.Obligations.{Obligation, Init, CallOf, CutOf, TickOf, CutTickOf, Idle, Again}
-use Rattle.ygg_oblige_list.specs.ygg_meaning.Refines.{Below}
-use Rattle.ygg_oblige_list.specs.ygg_rules.declared.rule.RuleKind.{RuleKind}
-use Rattle.ygg_oblige_list.specs.ygg_bank.Inputs.{InputsBelow}
-use Rattle.ygg_oblige_list.specs.ygg_bank.Makes.{Make}
-use Rattle.ygg_oblige_list.specs.ygg_bank.declared.node.Id.{Id}
-use Rattle.ygg_oblige_list.specs.ygg_bank.declared.node.Node.{Node}
-use Rattle.ygg_oblige_list.specs.ygg_sym_runs.Lower.{SingleFrom}
-use Rattle.ygg_oblige_list.specs.ygg_oblige_parts.Layers.{closed, terms_in}
-use Rattle.ygg_oblige_list.specs.ygg_oblige_parts.SymLayer.{SymLayer}
-use Rattle.ygg_oblige_list.specs.ygg_oblige_parts.Sites.{below_in}
-use Rattle.ygg_oblige_list.specs.ygg_oblige_parts.SymBelow.{SymBelow}
-use Rattle.ygg_oblige_list.specs.ygg_oblige_laws.Numbers.{Numbers, arguments_of, numbers_of}
-use Rattle.ygg_oblige_list.specs.ygg_oblige_laws.LayerTerms.{ShapesKept}
-use Rattle.ygg_oblige_list.specs.ygg_oblige_laws.TermStates.{Starting}
-use Rattle.ygg_oblige_list.specs.ygg_oblige_laws.Terms.{term_made}
-use Rattle.ygg_oblige_list.specs.ygg_oblige_parts.ObligePiecesSteps.{HasStep, ObligationTyped, variables_of}
-use Rattle.ygg_oblige_list.specs.ygg_oblige_parts.Makers.{StartingShaped}
-use Rattle.ygg_oblige_list.specs.ygg_oblige_parts.Steps.{obligation_of}
-use Rattle.ygg_oblige_list.specs.ygg_oblige_parts.declared.outcome.SymObligation.{SymObligation}
+use Rattle.ygg_oblige_parts.specs.ygg_meaning.Shapes.{shape_in}
+use Rattle.ygg_oblige_parts.specs.ygg_meaning.Layer.{ClosedLayer}
+use Rattle.ygg_oblige_parts.specs.ygg_meaning.Obligations.{Obligation, Init, CallOf, CutOf, TickOf, CutTickOf, Idle, Again}
+use Rattle.ygg_oblige_parts.specs.ygg_meaning.Refines.{Below}
+use Rattle.ygg_oblige_parts.specs.ygg_rules.declared.rule.RuleKind.{RuleKind}
+use Rattle.ygg_oblige_parts.specs.ygg_bank.Inputs.{InputsBelow}
+use Rattle.ygg_oblige_parts.specs.ygg_bank.Makes.{Make}
+use Rattle.ygg_oblige_parts.specs.ygg_bank.declared.node.Id.{Id}
+use Rattle.ygg_oblige_parts.specs.ygg_bank.declared.node.Node.{Node}
+use Rattle.ygg_oblige_parts.specs.ygg_sym_runs.Lower.{SingleFrom}
+use Rattle.ygg_oblige_parts.specs.Layers.{closed, terms_in}
+use Rattle.ygg_oblige_parts.specs.SymLayer.{SymLayer}
+use Rattle.ygg_oblige_parts.specs.Sites.{below_in}
+use Rattle.ygg_sym.specs.ygg_sym_spec.declared.below.SymBelow.{SymBelow}
+use Rattle.ygg_oblige_parts.specs.ygg_oblige_laws.Numbers.{Numbers, arguments_of, numbers_of}
+use Rattle.ygg_oblige_parts.specs.ygg_oblige_laws.LayerTerms.{ShapesKept}
+use Rattle.ygg_oblige_parts.specs.ygg_oblige_laws.TermStates.{Starting}
+use Rattle.ygg_oblige_parts.specs.ygg_oblige_laws.Terms.{term_made}
+use Rattle.ygg_oblige_parts.specs.ObligePiecesSteps.{HasStep, ObligationTyped, variables_of}
+use Rattle.ygg_oblige_parts.specs.Makers.{StartingShaped}
+use Rattle.ygg_oblige_list.specs.InCode.{obligation_of}
+use Rattle.ygg_oblige_list.specs.declared.obligation.SymObligation.{SymObligation}
 use Rattle.ygg_oblige.specs.Making.{CanBegin, SiteFits, TickFits}
 use Rattle.ygg_oblige.specs.Parts.{cut_term, whole_term}
 use Rattle.ygg_oblige.proofs.KindsBegun.{can_begin, run_single}

@@ -3,16 +3,16 @@ use Rattle.std.proofs.Common.{◌≡◌, List, [], Option}
 use Rattle.ygg_value.specs.declared.operation.Op.TheVariants.{And, Imp}
 use Rattle.ygg_syntax.specs.declared.tree.Block.{Block}
 use Rattle.ygg_syntax.specs.declared.tree.Declared.{Declared}
-use Rattle.ygg_oblige_list.specs.ygg_rules.declared.rule.RuleKind.{RuleKind}
-use Rattle.ygg_oblige_list.specs.ygg_bank.Makes.{Make, Out, and_make, goes_on}
-use Rattle.ygg_oblige_list.specs.ygg_bank.Making.{made}
-use Rattle.ygg_oblige_list.specs.ygg_bank.declared.node.Id.{Id}
-use Rattle.ygg_oblige_list.specs.ygg_bank.declared.node.Node.{Node}
-use Rattle.ygg_oblige_list.specs.ygg_bank.declared.node.Node.TheVariants.{Bin}
-use Rattle.ygg_oblige_list.specs.ygg_shape_cells.declared.terms.SymValue.{SymValue}
-use Rattle.ygg_oblige_list.specs.ygg_sym_runs.StopTerms.{SymFallen}
-use Rattle.ygg_oblige_list.specs.ygg_sym_laws.Means.{values_in}
-use Rattle.ygg_oblige_list.specs.ygg_oblige_laws.Terms.{Finish}
+use Rattle.ygg_oblige_parts.specs.ygg_rules.declared.rule.RuleKind.{RuleKind}
+use Rattle.ygg_oblige_parts.specs.ygg_bank.Makes.{Make, Out, and_make, goes_on}
+use Rattle.ygg_oblige_parts.specs.ygg_bank.Making.{made}
+use Rattle.ygg_oblige_parts.specs.ygg_bank.declared.node.Id.{Id}
+use Rattle.ygg_oblige_parts.specs.ygg_bank.declared.node.Node.{Node}
+use Rattle.ygg_oblige_parts.specs.ygg_bank.declared.node.Node.TheVariants.{Bin}
+use Rattle.ygg_oblige_parts.specs.ygg_shape_cells.declared.terms.SymValue.{SymValue}
+use Rattle.ygg_oblige_parts.specs.ygg_sym_runs.StopTerms.{SymFallen}
+use Rattle.ygg_oblige_laws.specs.ygg_sym_runs.Means.{values_in}
+use Rattle.ygg_oblige_parts.specs.ygg_oblige_laws.Terms.{Finish}
 
 -- a run over values that another step made, without arguments
 pub without_from : {A B : Type 0} (Z : Out A) (R : A → List SymValue → Make B) (z : A) (none : List SymValue) (one : List Node) → z ≡ Z.value →

@@ -17,10 +17,10 @@ use Rattle.ygg_oblige_laws.specs.ygg_meaning.Obligations.{Obligation, name_of}
 use Rattle.ygg_oblige_laws.specs.ygg_meaning.Refines.{Below}
 use Rattle.ygg_syntax.specs.declared.tree.Def.{Def}
 use Rattle.ygg_oblige_laws.specs.ygg_sym_runs_proofs_Lows.{low_wider}
-use Rattle.ygg_oblige_list.specs.ygg_sym_spec.Layers.{closed, terms_in}
-use Rattle.ygg_oblige_list.specs.ygg_sym_spec.declared.layer.SymLayer.{SymLayer}
+use Rattle.ygg_oblige_parts.specs.ygg_sym_spec.Layers.{closed, terms_in}
+use Rattle.ygg_oblige_parts.specs.ygg_sym_spec.declared.layer.SymLayer.{SymLayer}
 use Rattle.ygg_oblige.specs.Sites.{below_in}
-use Rattle.ygg_oblige.specs.SymBelow.{SymBelow}
+use Rattle.ygg_sym.specs.ygg_sym_spec.declared.below.SymBelow.{SymBelow}
 use Rattle.ygg_oblige_laws.specs.LayerTerms.{LayerTyped}
 use Rattle.ygg_oblige_laws.specs.Numbers.{Numbers, numbers_of}
 use Rattle.ygg_oblige_laws.specs.TermStates.{Starting}

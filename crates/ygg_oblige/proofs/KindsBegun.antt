@@ -1,27 +1,27 @@
 -- What an obligation's term begins with.
 use Rattle.std.proofs.Common.{◌≡◌, ◌+◌, ◌<◌, ◌≤◌, ◌^◌, ℕ, List, sym, ap, ◌∙◌, subst}
 use Rattle.ygg_syntax.specs.declared.tree.Declared.{Declared}
-use Rattle.ygg_oblige_list.specs.ygg_meaning.Layer.{ClosedLayer}
-use Rattle.ygg_oblige_list.specs.ygg_meaning.Obligations.{Obligation}
-use Rattle.ygg_oblige_list.specs.ygg_meaning.Refines.{Below}
-use Rattle.ygg_oblige_list.specs.ygg_bank_proofs_Widths.{wider}
-use Rattle.ygg_oblige_list.specs.ygg_bank.Inputs.{InputsBelow}
-use Rattle.ygg_oblige_list.specs.ygg_bank.Nodes.{Extends}
-use Rattle.ygg_oblige_list.specs.ygg_bank.declared.node.Node.{Node}
-use Rattle.ygg_oblige_list.specs.ygg_shape_cells.declared.terms.SymValue.{SymValue}
-use Rattle.ygg_oblige_list.specs.ygg_sym_runs_proofs_Lows.{low_wider}
-use Rattle.ygg_oblige_list.specs.ygg_sym_runs.Lows.{LowShaped}
-use Rattle.ygg_oblige_list.proofs.of_ygg_sym_runs.Singles.{below_single, single_less}
-use Rattle.ygg_oblige_list.specs.ygg_sym_runs.Lower.{SingleFrom}
-use Rattle.ygg_oblige_list.specs.ygg_oblige_parts.Layers.{closed}
-use Rattle.ygg_oblige_list.specs.ygg_oblige_parts.SymLayer.{SymLayer}
-use Rattle.ygg_oblige_list.specs.ygg_oblige_parts.Sites.{below_in}
-use Rattle.ygg_oblige_list.specs.ygg_oblige_parts.SymBelow.{SymBelow}
-use Rattle.ygg_oblige_list.specs.ygg_oblige_laws.Numbers.{Numbers, arguments_of, numbers_of}
-use Rattle.ygg_oblige_list.specs.ygg_oblige_laws.LayerTerms.{ShapesKept}
-use Rattle.ygg_oblige_list.specs.ygg_oblige_laws.TermStates.{Starting, words_in}
-use Rattle.ygg_oblige_list.specs.ygg_oblige_parts.ObligePiecesSteps.{HasStep, ObligationTyped, variables_of}
-use Rattle.ygg_oblige_list.specs.ygg_oblige_parts.Makers.{StartingShaped}
+use Rattle.ygg_oblige_parts.specs.ygg_meaning.Layer.{ClosedLayer}
+use Rattle.ygg_oblige_parts.specs.ygg_meaning.Obligations.{Obligation}
+use Rattle.ygg_oblige_parts.specs.ygg_meaning.Refines.{Below}
+use Rattle.ygg_oblige_parts.specs.ygg_bank_proofs_Widths.{wider}
+use Rattle.ygg_oblige_parts.specs.ygg_bank.Inputs.{InputsBelow}
+use Rattle.ygg_oblige_parts.specs.ygg_bank.Nodes.{Extends}
+use Rattle.ygg_oblige_parts.specs.ygg_bank.declared.node.Node.{Node}
+use Rattle.ygg_oblige_parts.specs.ygg_shape_cells.declared.terms.SymValue.{SymValue}
+use Rattle.ygg_oblige_parts.specs.ygg_sym_runs_proofs_Lows.{low_wider}
+use Rattle.ygg_oblige_parts.specs.ygg_sym_runs.Lows.{LowShaped}
+use Rattle.ygg_oblige_parts.proofs.of_ygg_sym_runs.Singles.{below_single, single_less}
+use Rattle.ygg_oblige_parts.specs.ygg_sym_runs.Lower.{SingleFrom}
+use Rattle.ygg_oblige_parts.specs.Layers.{closed}
+use Rattle.ygg_oblige_parts.specs.SymLayer.{SymLayer}
+use Rattle.ygg_oblige_parts.specs.Sites.{below_in}
+use Rattle.ygg_sym.specs.ygg_sym_spec.declared.below.SymBelow.{SymBelow}
+use Rattle.ygg_oblige_parts.specs.ygg_oblige_laws.Numbers.{Numbers, arguments_of, numbers_of}
+use Rattle.ygg_oblige_parts.specs.ygg_oblige_laws.LayerTerms.{ShapesKept}
+use Rattle.ygg_oblige_parts.specs.ygg_oblige_laws.TermStates.{Starting, words_in}
+use Rattle.ygg_oblige_parts.specs.ObligePiecesSteps.{HasStep, ObligationTyped, variables_of}
+use Rattle.ygg_oblige_parts.specs.Makers.{StartingShaped}
 use Rattle.ygg_oblige.specs.Making.{CanBegin, CanOblige, SiteFits, TickFits}
 use Rattle.ygg_oblige.proofs.Sites.{after_run, block_fits}
 

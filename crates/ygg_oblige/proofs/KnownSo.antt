@@ -6,10 +6,10 @@ use Rattle.ygg_syntax.specs.declared.tree.Declared.{Declared}
 use Rattle.ygg_value.specs.Shapes.{IsShape}
 use Rattle.ygg_oblige_laws.specs.ygg_meaning.Shapes.{shape_in}
 use Rattle.ygg_oblige_laws.specs.ygg_meaning.Obligations.{Obligation, Init, CallOf, CutOf, TickOf, CutTickOf, Idle, Again}
-use Rattle.ygg_oblige_list.specs.ygg_sym_spec.Layers.{closed}
-use Rattle.ygg_oblige_list.specs.ygg_sym_spec.declared.layer.SymLayer.{SymLayer}
+use Rattle.ygg_oblige_parts.specs.ygg_sym_spec.Layers.{closed}
+use Rattle.ygg_oblige_parts.specs.ygg_sym_spec.declared.layer.SymLayer.{SymLayer}
 use Rattle.ygg_oblige.specs.Sites.{below_in}
-use Rattle.ygg_oblige.specs.SymBelow.{SymBelow}
+use Rattle.ygg_sym.specs.ygg_sym_spec.declared.below.SymBelow.{SymBelow}
 use Rattle.ygg_oblige_laws.specs.LayerTerms.{ShapesKept}
 use Rattle.ygg_oblige_laws.specs.Numbers.{arguments_of}
 use Rattle.ygg_oblige_laws.specs.Steps.{ObligationTyped}

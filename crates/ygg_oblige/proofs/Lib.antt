@@ -1,12 +1,12 @@
-pub use Rattle.ygg_oblige_list.proofs.of_ygg_oblige_parts.Carried
-pub use Rattle.ygg_oblige_list.proofs.of_ygg_oblige_parts.Left
+pub use Rattle.ygg_oblige_parts.proofs.Carried
+pub use Rattle.ygg_oblige_parts.proofs.Left
+pub use Rattle.ygg_oblige_laws.proofs as of_ygg_oblige_laws
 pub mod Sites
 pub mod Chains
 pub mod Alike
 pub mod KindsBegun
 pub mod Cases
 pub mod Numbered
-pub use Rattle.ygg_oblige_laws.proofs as of_ygg_oblige_laws
 pub mod KnownSo
 pub mod Going
 pub mod Asking

@@ -2,12 +2,12 @@
 use Rattle.std.proofs.Common.{◌≡◌, ℕ, List}
 use Rattle.ygg_syntax.specs.declared.tree.Block.{Block}
 use Rattle.ygg_syntax.specs.declared.tree.Declared.{Declared}
-use Rattle.ygg_oblige_list.specs.ygg_meaning.Layer.{ClosedLayer}
-use Rattle.ygg_oblige_list.specs.ygg_meaning.Obligations.{Obligation}
-use Rattle.ygg_oblige_list.specs.ygg_meaning.Refines.{Below}
-use Rattle.ygg_oblige_list.specs.ygg_sym_laws.Below.{places_on, failure_room}
-use Rattle.ygg_oblige_list.specs.ygg_oblige_laws.Numbers.{arguments_of, block_of, numbers_from, numbers_of}
-use Rattle.ygg_oblige_list.specs.ygg_oblige_laws.TermStates.{words_in}
+use Rattle.ygg_oblige_parts.specs.ygg_meaning.Layer.{ClosedLayer}
+use Rattle.ygg_oblige_parts.specs.ygg_meaning.Obligations.{Obligation}
+use Rattle.ygg_oblige_parts.specs.ygg_meaning.Refines.{Below}
+use Rattle.ygg_oblige_laws.specs.ygg_sym_runs.Below.{places_on, failure_room}
+use Rattle.ygg_oblige_parts.specs.ygg_oblige_laws.Numbers.{arguments_of, block_of, numbers_from, numbers_of}
+use Rattle.ygg_oblige_parts.specs.ygg_oblige_laws.TermStates.{words_in}
 
 -- the counts are those of the obligation
 pub counted : (G : Below) (L : ClosedLayer) (o : Obligation) (start : ℕ) (ds : List Declared) (b : Block) (words places failure waking : ℕ) →

@@ -2,22 +2,22 @@
 use Rattle.std.proofs.Common.{◌≡◌, ℕ, List, sym, subst, arith}
 use Rattle.ygg_syntax.specs.declared.tree.Block.{Block}
 use Rattle.ygg_syntax.specs.declared.tree.Declared.{Declared}
-use Rattle.ygg_oblige_list.specs.ygg_meaning.Obligations.{Obligation, Init, CallOf, CutOf, TickOf, CutTickOf, Idle, Again}
-use Rattle.ygg_oblige_list.specs.ygg_meaning.Layer.{ClosedLayer}
-use Rattle.ygg_oblige_list.specs.ygg_meaning.Refines.{Below}
-use Rattle.ygg_oblige_list.specs.ygg_bank.Values.{Inputs, Values, Fits}
-use Rattle.ygg_oblige_list.specs.ygg_bank.declared.node.Node.{Node}
-use Rattle.ygg_oblige_list.specs.ygg_sym_runs.Meaning.{answer_worth}
-use Rattle.ygg_oblige_list.specs.ygg_oblige_parts.Layers.{closed}
-use Rattle.ygg_oblige_list.specs.ygg_oblige_parts.SymLayer.{SymLayer}
-use Rattle.ygg_oblige_list.specs.ygg_oblige_parts.Running.{EndStands}
-use Rattle.ygg_oblige_list.specs.ygg_oblige_parts.Sites.{BelowFits, below_in}
-use Rattle.ygg_oblige_list.specs.ygg_oblige_parts.SymBelow.{SymBelow}
-use Rattle.ygg_oblige_list.specs.ygg_oblige_parts.SymBlock.{SymBlock}
-use Rattle.ygg_oblige_list.specs.ygg_oblige_parts.SymEnd.{SymEnd}
-use Rattle.ygg_oblige_list.specs.ygg_oblige_laws.Numbers.{Numbers, arguments_of, block_of, numbers_of}
-use Rattle.ygg_oblige_list.specs.ygg_oblige_parts.ObligePiecesSteps.{AnswerKept, ObligationTyped}
-use Rattle.ygg_oblige_list.specs.ygg_oblige_parts.Passing.{answered}
+use Rattle.ygg_oblige_parts.specs.ygg_meaning.Obligations.{Obligation, Init, CallOf, CutOf, TickOf, CutTickOf, Idle, Again}
+use Rattle.ygg_oblige_parts.specs.ygg_meaning.Layer.{ClosedLayer}
+use Rattle.ygg_oblige_parts.specs.ygg_meaning.Refines.{Below}
+use Rattle.ygg_oblige_parts.specs.ygg_bank.Values.{Inputs, Values, Fits}
+use Rattle.ygg_oblige_parts.specs.ygg_bank.declared.node.Node.{Node}
+use Rattle.ygg_oblige_parts.specs.ygg_sym_runs.Meaning.{answer_worth}
+use Rattle.ygg_oblige_parts.specs.Layers.{closed}
+use Rattle.ygg_oblige_parts.specs.SymLayer.{SymLayer}
+use Rattle.ygg_sym.specs.Running.{EndStands}
+use Rattle.ygg_oblige_parts.specs.Sites.{BelowFits, below_in}
+use Rattle.ygg_sym.specs.ygg_sym_spec.declared.below.SymBelow.{SymBelow}
+use Rattle.ygg_sym.specs.declared.runs.SymBlock.{SymBlock}
+use Rattle.ygg_sym.specs.declared.runs.SymEnd.{SymEnd}
+use Rattle.ygg_oblige_parts.specs.ygg_oblige_laws.Numbers.{Numbers, arguments_of, block_of, numbers_of}
+use Rattle.ygg_oblige_parts.specs.ObligePiecesSteps.{AnswerKept, ObligationTyped}
+use Rattle.ygg_oblige_parts.specs.Passing.{answered}
 use Rattle.ygg_oblige.specs.Making.{AfterRun, BlockFits, SiteFits, TickFits}
 
 pub below_fits : (l : SymLayer) (g : SymBelow) → SiteFits l g → BelowFits l g

@@ -19,11 +19,11 @@ use Rattle.ygg_oblige_laws.specs.ygg_meaning.Refines.{Below, OnSpec}
 use Rattle.ygg_oblige_laws.specs.ygg_meaning.Claims.{claims_at, claims_of, claims_on}
 use Rattle.ygg_oblige_laws.specs.ygg_meaning.Stack.{Layers, below_of, layers_on, layers_of, tables_of}
 use Rattle.ygg_oblige_laws.specs.ygg_sym_laws.Means.{terms_of}
-use Rattle.ygg_oblige_list.specs.ygg_sym_spec.Layers.{closed}
-use Rattle.ygg_oblige_list.specs.ygg_sym_spec.declared.layer.SymLayer.{SymLayer}
+use Rattle.ygg_oblige_parts.specs.ygg_sym_spec.Layers.{closed}
+use Rattle.ygg_oblige_parts.specs.ygg_sym_spec.declared.layer.SymLayer.{SymLayer}
 use Rattle.ygg_oblige.specs.Sites.{SameDefs, below_in}
-use Rattle.ygg_oblige.specs.SymBelow.{SymBelow}
-use Rattle.ygg_oblige.specs.SymBelow.TheVariants as on
+use Rattle.ygg_sym.specs.ygg_sym_spec.declared.below.SymBelow.{SymBelow}
+use Rattle.ygg_sym.specs.ygg_sym_spec.declared.below.SymBelow.TheVariants as on
 use Rattle.ygg_oblige.proofs.Left.{rest_is}
 use Rattle.ygg_oblige_laws.specs.LayerTerms.{LayerTyped}
 use Rattle.ygg_oblige_laws.specs.Meaning.{claim_name}

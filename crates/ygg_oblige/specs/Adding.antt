@@ -5,10 +5,10 @@ use Rattle.ygg_oblige_laws.specs.ygg_meaning.Obligations.{Obligation, name_of}
 use Rattle.ygg_oblige_laws.specs.ygg_rules.declared.rule.RuleKind.{RuleKind}
 use Rattle.ygg_oblige_laws.specs.ygg_bank.Makes.{Make}
 use Rattle.ygg_oblige_laws.specs.ygg_bank.declared.node.Id.{Id}
-use Rattle.ygg_oblige_list.specs.ygg_sym_spec.Layers.{closed, terms_in}
-use Rattle.ygg_oblige_list.specs.ygg_sym_spec.declared.layer.SymLayer.{SymLayer}
+use Rattle.ygg_oblige_parts.specs.ygg_sym_spec.Layers.{closed, terms_in}
+use Rattle.ygg_oblige_parts.specs.ygg_sym_spec.declared.layer.SymLayer.{SymLayer}
 use Rattle.ygg_oblige.specs.Sites.{below_in}
-use Rattle.ygg_oblige.specs.SymBelow.{SymBelow}
+use Rattle.ygg_sym.specs.ygg_sym_spec.declared.below.SymBelow.{SymBelow}
 use Rattle.ygg_oblige.specs.Making.{TickFits}
 use Rattle.ygg_oblige_laws.specs.ObligationMeans.{ObligationKnown}
 use Rattle.ygg_oblige_laws.specs.Numbers.{numbers_of}

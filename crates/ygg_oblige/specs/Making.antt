@@ -3,30 +3,30 @@ use Rattle.std.specs.Prelude.{◌≡◌, ◌≤◌, ◌+◌, ℕ, IsTrue, List, 
 use Rattle.ygg_syntax.specs.declared.grammar.BlockKind.TheVariants.{Impl}
 use Rattle.ygg_syntax.specs.declared.tree.Block.{Block}
 use Rattle.ygg_syntax.specs.declared.tree.Declared.{Declared}
-use Rattle.ygg_oblige_list.specs.ygg_meaning.Obligations.{Obligation, Init, CallOf, CutOf, TickOf, CutTickOf, Idle, Again}
-use Rattle.ygg_oblige_list.specs.ygg_type_sound.Blocks.{is_returned}
-use Rattle.ygg_oblige_list.specs.ygg_bank.Inputs.{InputsBelow}
-use Rattle.ygg_oblige_list.specs.ygg_bank.Nodes.{HasWidth}
-use Rattle.ygg_oblige_list.specs.ygg_bank.Values.{Values}
-use Rattle.ygg_oblige_list.specs.ygg_bank.declared.node.Id.{Id}
-use Rattle.ygg_oblige_list.specs.ygg_bank.declared.node.Node.{Node}
-use Rattle.ygg_oblige_list.specs.ygg_shape_cells.declared.terms.SymValue.{SymValue}
-use Rattle.ygg_oblige_list.specs.ygg_sym_runs.Lower.{SingleFrom}
-use Rattle.ygg_oblige_list.specs.ygg_sym_runs.Meaning.{AnswerShaped, answer_worth}
-use Rattle.ygg_oblige_list.specs.ygg_sym_runs.Lows.{LowShaped}
-use Rattle.ygg_oblige_list.specs.ygg_sym_laws.Below.{signatures_on}
-use Rattle.ygg_oblige_list.specs.ygg_sym_laws.Typed.{BlockTyped}
-use Rattle.ygg_oblige_list.specs.ygg_oblige_parts.Layers.{closed}
-use Rattle.ygg_oblige_list.specs.ygg_oblige_parts.SymLayer.{SymLayer}
-use Rattle.ygg_oblige_list.specs.ygg_oblige_parts.Sites.{SameDefs, below_in}
-use Rattle.ygg_oblige_list.specs.ygg_oblige_parts.SymBelow.{SymBelow}
-use Rattle.ygg_oblige_list.specs.ygg_oblige_parts.SymEnd.{SymEnd}
-use Rattle.ygg_oblige_list.specs.ygg_oblige_laws.LayerTerms.{ShapesKept}
-use Rattle.ygg_oblige_list.specs.ygg_oblige_laws.Numbers.{Numbers, arguments_of, block_of}
-use Rattle.ygg_oblige_list.specs.ygg_oblige_laws.TermStates.{Starting, words_in}
-use Rattle.ygg_oblige_list.specs.ygg_oblige_parts.ObligePiecesSteps.{AnswerKept, HasStep, ObligationTyped, variables_of}
-use Rattle.ygg_oblige_list.specs.ygg_oblige_parts.Makers.{LayerFits, StartingShaped}
-use Rattle.ygg_oblige_list.specs.ygg_oblige_parts.Passing.{answered}
+use Rattle.ygg_oblige_parts.specs.ygg_meaning.Obligations.{Obligation, Init, CallOf, CutOf, TickOf, CutTickOf, Idle, Again}
+use Rattle.ygg_oblige_parts.specs.ygg_meaning_laws.Blocks.{is_returned}
+use Rattle.ygg_oblige_parts.specs.ygg_bank.Inputs.{InputsBelow}
+use Rattle.ygg_oblige_parts.specs.ygg_bank.Nodes.{HasWidth}
+use Rattle.ygg_oblige_parts.specs.ygg_bank.Values.{Values}
+use Rattle.ygg_oblige_parts.specs.ygg_bank.declared.node.Id.{Id}
+use Rattle.ygg_oblige_parts.specs.ygg_bank.declared.node.Node.{Node}
+use Rattle.ygg_oblige_parts.specs.ygg_shape_cells.declared.terms.SymValue.{SymValue}
+use Rattle.ygg_oblige_parts.specs.ygg_sym_runs.Lower.{SingleFrom}
+use Rattle.ygg_oblige_parts.specs.ygg_sym_runs.Meaning.{AnswerShaped, answer_worth}
+use Rattle.ygg_oblige_parts.specs.ygg_sym_runs.Lows.{LowShaped}
+use Rattle.ygg_oblige_laws.specs.ygg_sym_runs.Below.{signatures_on}
+use Rattle.ygg_oblige_laws.specs.ygg_sym_runs.Typed.{BlockTyped}
+use Rattle.ygg_oblige_parts.specs.Layers.{closed}
+use Rattle.ygg_oblige_parts.specs.SymLayer.{SymLayer}
+use Rattle.ygg_oblige_parts.specs.Sites.{SameDefs, below_in}
+use Rattle.ygg_sym.specs.ygg_sym_spec.declared.below.SymBelow.{SymBelow}
+use Rattle.ygg_sym.specs.declared.runs.SymEnd.{SymEnd}
+use Rattle.ygg_oblige_parts.specs.ygg_oblige_laws.LayerTerms.{ShapesKept}
+use Rattle.ygg_oblige_parts.specs.ygg_oblige_laws.Numbers.{Numbers, arguments_of, block_of}
+use Rattle.ygg_oblige_parts.specs.ygg_oblige_laws.TermStates.{Starting, words_in}
+use Rattle.ygg_oblige_parts.specs.ObligePiecesSteps.{AnswerKept, HasStep, ObligationTyped, variables_of}
+use Rattle.ygg_oblige_parts.specs.Makers.{LayerFits, StartingShaped}
+use Rattle.ygg_oblige_parts.specs.Passing.{answered}
 
 -- the layer has no type error on what it is specified over, which has the same definitions
 pub record SiteFits (l : SymLayer) (g : SymBelow) : Type 0 where

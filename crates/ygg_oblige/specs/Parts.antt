@@ -1,24 +1,24 @@
 -- Parts of obligations' terms, as code makes them.
 use Rattle.std.specs.Prelude.{List, []}
 use Rattle.ygg_value.specs.declared.operation.Op.TheVariants.{And}
-use Rattle.ygg_oblige_list.specs.ygg_meaning.Obligations.{Obligation, Idle}
-use Rattle.ygg_oblige_list.specs.ygg_rules.declared.rule.RuleKind.{RuleKind}
-use Rattle.ygg_oblige_list.specs.ygg_bank.Makes.{Make, and_make}
-use Rattle.ygg_oblige_list.specs.ygg_bank.Making.{made}
-use Rattle.ygg_oblige_list.specs.ygg_bank.declared.node.Id.{Id}
-use Rattle.ygg_oblige_list.specs.ygg_bank.declared.node.Node.TheVariants.{Bin}
-use Rattle.ygg_oblige_list.specs.ygg_shape_cells.declared.terms.SymValue.{SymValue}
-use Rattle.ygg_oblige_list.specs.ygg_sym_runs.StopTerms.{SymFallen}
-use Rattle.ygg_oblige_list.specs.ygg_sym_laws.Below.{zeros_made, lost_made}
-use Rattle.ygg_oblige_list.specs.ygg_sym_laws.Means.{values_in}
-use Rattle.ygg_oblige_list.specs.ygg_oblige_parts.Layers.{closed, terms_in}
-use Rattle.ygg_oblige_list.specs.ygg_oblige_parts.SymLayer.{SymLayer}
-use Rattle.ygg_oblige_list.specs.ygg_oblige_parts.Sites.{below_in}
-use Rattle.ygg_oblige_list.specs.ygg_oblige_parts.SymBelow.{SymBelow}
-use Rattle.ygg_oblige_list.specs.ygg_oblige_parts.SymEnd.{SymEnd}
-use Rattle.ygg_oblige_list.specs.ygg_oblige_laws.Numbers.{Numbers, arguments_of, block_of}
-use Rattle.ygg_oblige_list.specs.ygg_oblige_laws.TermStates.{Starting, fresh_all, all_compared, settled_made}
-use Rattle.ygg_oblige_list.specs.ygg_oblige_laws.Terms.{cut_short, falls_through, recovered, recovers, runs_through}
+use Rattle.ygg_oblige_parts.specs.ygg_meaning.Obligations.{Obligation, Idle}
+use Rattle.ygg_oblige_parts.specs.ygg_rules.declared.rule.RuleKind.{RuleKind}
+use Rattle.ygg_oblige_parts.specs.ygg_bank.Makes.{Make, and_make}
+use Rattle.ygg_oblige_parts.specs.ygg_bank.Making.{made}
+use Rattle.ygg_oblige_parts.specs.ygg_bank.declared.node.Id.{Id}
+use Rattle.ygg_oblige_parts.specs.ygg_bank.declared.node.Node.TheVariants.{Bin}
+use Rattle.ygg_oblige_parts.specs.ygg_shape_cells.declared.terms.SymValue.{SymValue}
+use Rattle.ygg_oblige_parts.specs.ygg_sym_runs.StopTerms.{SymFallen}
+use Rattle.ygg_oblige_laws.specs.ygg_sym_runs.Below.{zeros_made, lost_made}
+use Rattle.ygg_oblige_laws.specs.ygg_sym_runs.Means.{values_in}
+use Rattle.ygg_oblige_parts.specs.Layers.{closed, terms_in}
+use Rattle.ygg_oblige_parts.specs.SymLayer.{SymLayer}
+use Rattle.ygg_oblige_parts.specs.Sites.{below_in}
+use Rattle.ygg_sym.specs.ygg_sym_spec.declared.below.SymBelow.{SymBelow}
+use Rattle.ygg_sym.specs.declared.runs.SymEnd.{SymEnd}
+use Rattle.ygg_oblige_parts.specs.ygg_oblige_laws.Numbers.{Numbers, arguments_of, block_of}
+use Rattle.ygg_oblige_parts.specs.ygg_oblige_laws.TermStates.{Starting, fresh_all, all_compared, settled_made}
+use Rattle.ygg_oblige_parts.specs.ygg_oblige_laws.Terms.{cut_short, falls_through, recovered, recovers, runs_through}
 
 module _ (kinds : List RuleKind) where
   -- whether two runs leave the same memory and the same state below

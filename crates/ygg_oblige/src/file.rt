@@ -14,7 +14,8 @@ use crate::obligation::Obligations;
 use std::alloc::Global;
 use ygg_base::{DiskKind, Text};
 use ygg_oblige_laws::{Bank, Book, NoMemory};
-use ygg_oblige_list::{Maker, SymBelow, SymLayer, place_of};
+use ygg_oblige_list::place_of;
+use ygg_oblige_parts::{Maker, SymBelow, SymLayer};
 use ygg_syntax::tree::{Declared, DiskText, File, Name, Place, TypeText};
 
 /// A table of the disk's size, as if it were declared. Its only error is out of memory.

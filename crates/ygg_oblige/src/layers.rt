@@ -4,10 +4,10 @@ ghost use Rattle.std.specs.Prelude.{◌≡◌, ◌+◌, ◌∷◌, ◌++◌, [],
 ghost use Rattle.ygg_oblige_laws.specs.ygg_bank.Inputs.{InputsBelow};
 ghost use Rattle.ygg_oblige_laws.specs.ygg_bank.Nodes.{Extends, IsBank};
 ghost use Rattle.ygg_oblige_laws.specs.ygg_meaning.Obligations.{name_of, obligations_of};
-ghost use Rattle.ygg_oblige_list.specs.ygg_sym_spec.Layers.{closed};
+ghost use Rattle.ygg_oblige_parts.specs.ygg_sym_spec.Layers.{closed};
 ghost use Rattle.ygg_oblige_laws.specs.TermStates.{state_words};
 ghost use Rattle.ygg_oblige.specs.Makers.{StartingShaped, starting_of};
-ghost use Rattle.ygg_oblige.specs.Steps.{obligation_of};
+ghost use Rattle.ygg_oblige_list.specs.InCode.{obligation_of};
 ghost use Rattle.ygg_oblige.specs.Adding.{
   AddsAsked,
   KnownAt,
@@ -24,11 +24,11 @@ ghost use Rattle.ygg_oblige_list.specs.Listing.{AreNumbered, IsNumberIn, asked_i
 ghost use Rattle.ygg_oblige.specs.Making.{SiteFits};
 ghost use Rattle.ygg_oblige.specs.Obligations.{ArePlaced, names_in, terms_in};
 
-use crate::names::name_of;
 use crate::obligation::{Kind, Obligation, Obligations};
 use crate::{numbers_of, term};
 use ygg_oblige_laws::{Bank, Book, NoMemory};
-use ygg_oblige_list::{Asked, Maker, SymObligation, SymStarting, asked_of, words_in};
+use ygg_oblige_list::{Asked, SymObligation, asked_of, name_of};
+use ygg_oblige_parts::{Maker, SymStarting, words_in};
 
 /// What an obligation asks.
 fn kind_of(obligation: SymObligation<'_>) -> Kind

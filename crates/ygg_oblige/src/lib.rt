@@ -10,20 +10,19 @@ ghost use Rattle.ygg_oblige.specs.Obligations.{AreClaims, ArePlaced, names_in, t
 
 mod file;
 mod layers;
-mod names;
 mod numbers;
 mod obligation;
 mod terms;
 
 pub use file::tables;
 pub use layers::after_states;
-pub use names::name_of;
-pub use numbers::{SymNumbers, numbers_of};
+pub use numbers::numbers_of;
 pub use obligation::{Kind, Obligation, Obligations};
 use std::alloc::Global;
 pub use terms::term;
 use ygg_oblige_laws::{Bank, Book, NoMemory};
-pub use ygg_oblige_list::{Maker, SymBelow, SymLayer, SymObligation, words_in};
+pub use ygg_oblige_list::SymNumbers;
+pub use ygg_oblige_parts::{Maker, SymBelow, SymLayer, words_in};
 use ygg_type::Typed;
 
 /// The obligations of a file in order, and their terms, made in a bank without nodes. Its only error is out of memory, after which the bank may

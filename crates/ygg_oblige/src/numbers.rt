@@ -1,36 +1,18 @@
 //! Which inputs an obligation has.
 
 ghost use Rattle.std.specs.Prelude.{◌≡◌, ◌+◌, IfOk};
-ghost use Rattle.ygg_oblige_list.specs.ygg_oblige_laws.Numbers.{arguments_of, block_of, numbers_from, numbers_of};
-ghost use Rattle.ygg_oblige_list.specs.ygg_meaning.Layer.{ClosedLayer};
-ghost use Rattle.ygg_oblige_list.specs.ygg_oblige_parts.Sites.{below_in};
-ghost use Rattle.ygg_oblige_list.specs.ygg_oblige_parts.Layers.{closed};
-ghost use Rattle.ygg_oblige_list.specs.ygg_oblige_laws.LayerTerms.{ShapesKept};
-ghost use Rattle.ygg_oblige_list.specs.ygg_oblige_parts.Steps.{obligation_of};
+ghost use Rattle.ygg_oblige_parts.specs.ygg_oblige_laws.Numbers.{arguments_of, block_of, numbers_from, numbers_of};
+ghost use Rattle.ygg_oblige_parts.specs.ygg_meaning.Layer.{ClosedLayer};
+ghost use Rattle.ygg_oblige_parts.specs.Sites.{below_in};
+ghost use Rattle.ygg_oblige_parts.specs.Layers.{closed};
+ghost use Rattle.ygg_oblige_parts.specs.ygg_oblige_laws.LayerTerms.{ShapesKept};
+ghost use Rattle.ygg_oblige_list.specs.InCode.{obligation_of};
 ghost use Rattle.ygg_oblige.specs.Numbering.{numbers_in};
 
-use ygg_oblige_list::{Maker, NoMemory, SymObligation, failure_room, places, words_in};
+use ygg_oblige_list::{SymNumbers, SymObligation};
+use ygg_oblige_parts::{Maker, NoMemory, words_in};
+use ygg_sym::{failure_room, places};
 use ygg_syntax::tree::{Block, Declared, Layer};
-
-/// Where the inputs of an obligation begin: those of its arguments, of the run's picks, of its stops, of the failure's picks, of the recovery's
-/// picks and of the other recovery's; and the number after all of them.
-#[derive(Clone, Copy)]
-pub struct SymNumbers {
-    /// The first input of its arguments.
-    pub args: u64,
-    /// The first of the run's picks.
-    pub run: u64,
-    /// The first of its stops.
-    pub stop: u64,
-    /// The first of the failure's picks.
-    pub last: u64,
-    /// The first of the recovery's picks.
-    pub wake: u64,
-    /// The first of the other recovery's picks.
-    pub other: u64,
-    /// The number after all of them.
-    pub next: u64,
-}
 
 /// The arguments that an obligation speaks of.
 pub fn arguments_of<'a>(obligation: SymObligation<'a>) -> &'a [Declared]

@@ -1,28 +1,29 @@
 //! The terms of obligations.
 
 ghost use Rattle.std.specs.Prelude.{◌≡◌, ◌≤◌, [], IfOk, OnOk};
-ghost use Rattle.ygg_oblige_list.specs.ygg_bank.Inputs.{InputsBelow};
-ghost use Rattle.ygg_oblige_list.specs.ygg_bank.Nodes.{Extends, HasWidth, IsBank};
-ghost use Rattle.ygg_oblige_list.specs.ygg_sym_runs.Lows.{LowShaped};
-ghost use Rattle.ygg_oblige_list.specs.ygg_sym_runs.Lower.{KeepsSingle, SingleFrom};
-ghost use Rattle.ygg_oblige_list.specs.ygg_oblige_parts.Layers.{closed, terms_in};
-ghost use Rattle.ygg_oblige_list.specs.ygg_oblige_parts.Running.{CutIs, EndIs};
-ghost use Rattle.ygg_oblige_list.specs.ygg_oblige_parts.Sites.{below_in};
-ghost use Rattle.ygg_oblige_list.specs.ygg_oblige_laws.Numbers.{numbers_of};
-ghost use Rattle.ygg_oblige_list.specs.ygg_oblige_laws.Terms.{formats, recovered, recovers, recovers_again, term_made};
-ghost use Rattle.ygg_oblige_list.specs.ygg_oblige_parts.ObligePiecesSteps.{ObligationTyped};
-ghost use Rattle.ygg_oblige_list.specs.ygg_oblige_parts.Makers.{StartingShaped, starting_of};
-ghost use Rattle.ygg_oblige_list.specs.ygg_oblige_parts.Passing.{StepFits, some_in};
-ghost use Rattle.ygg_oblige_list.specs.ygg_oblige_parts.Steps.{obligation_of};
+ghost use Rattle.ygg_oblige_parts.specs.ygg_bank.Inputs.{InputsBelow};
+ghost use Rattle.ygg_oblige_parts.specs.ygg_bank.Nodes.{Extends, HasWidth, IsBank};
+ghost use Rattle.ygg_oblige_parts.specs.ygg_sym_runs.Lows.{LowShaped};
+ghost use Rattle.ygg_oblige_parts.specs.ygg_sym_runs.Lower.{KeepsSingle, SingleFrom};
+ghost use Rattle.ygg_oblige_parts.specs.Layers.{closed, terms_in};
+ghost use Rattle.ygg_sym.specs.Running.{CutIs, EndIs};
+ghost use Rattle.ygg_oblige_parts.specs.Sites.{below_in};
+ghost use Rattle.ygg_oblige_parts.specs.ygg_oblige_laws.Numbers.{numbers_of};
+ghost use Rattle.ygg_oblige_parts.specs.ygg_oblige_laws.Terms.{formats, recovered, recovers, recovers_again, term_made};
+ghost use Rattle.ygg_oblige_parts.specs.ObligePiecesSteps.{ObligationTyped};
+ghost use Rattle.ygg_oblige_parts.specs.Makers.{StartingShaped, starting_of};
+ghost use Rattle.ygg_oblige_parts.specs.Passing.{StepFits, some_in};
+ghost use Rattle.ygg_oblige_list.specs.InCode.{obligation_of};
 ghost use Rattle.ygg_oblige.specs.Making.{AfterRun, CanBegin, CanOblige, CanRecover, CanWake, EndShaped, SiteFits, SpeaksOfNoAnswer, TickFits};
 ghost use Rattle.ygg_oblige.specs.Numbering.{numbers_in};
 ghost use Rattle.ygg_oblige.specs.Parts.{cut_term, idles, recovers_alike, recovery_cut, runs_through_in, falls_through_in, same_ends, whole_term};
 
-use crate::numbers::{SymNumbers, arguments_of, block_of};
-use ygg_oblige_list::{
-    Bank, Book, Id, Maker, NoMemory, SymBlock, SymCut, SymEnd, SymObligation, SymStarting, SymStep,
-    SymValues, all_equal, cut, fresh, join, lost, low_at_start, run, zeros,
+use crate::numbers::{arguments_of, block_of};
+use ygg_oblige_list::{SymNumbers, SymObligation};
+use ygg_oblige_parts::{
+    Bank, Book, Id, Maker, NoMemory, SymStarting, SymStep, SymValues, all_equal, fresh, join, zeros,
 };
+use ygg_sym::{SymBlock, SymCut, SymEnd, cut, lost, low_at_start, run};
 use ygg_value::Op;
 
 /// Whether the specification's step passes after a run that has ended so. Inputs of the bank from the given number on are single digits.

@@ -5,10 +5,10 @@ use Rattle.std.specs.Str.{bytes_eq}
 use Rattle.std.proofs.lemmas.Bool.{and_from, and_parts}
 use Rattle.ygg_value.specs.declared.row.Value.{Value}
 use Rattle.ygg_syntax.specs.declared.tree.Declared.{Declared}
-use Rattle.ygg_sym.specs.ygg_meaning.Environments.{bind}
-use Rattle.ygg_sym.specs.ygg_meaning.Shapes.{env_fits, fits, shape_in, values_fit}
-use Rattle.ygg_sym.specs.ygg_bank.Values.{Inputs}
-use Rattle.ygg_sym.specs.ygg_shape.Fresh.{given_value, words_of}
+use Rattle.ygg_oblige_laws.specs.ygg_meaning.Environments.{bind}
+use Rattle.ygg_oblige_laws.specs.ygg_meaning.Shapes.{env_fits, fits, shape_in, values_fit}
+use Rattle.ygg_oblige_laws.specs.ygg_bank.Values.{Inputs}
+use Rattle.ygg_oblige_laws.specs.ygg_shape.Fresh.{given_value, words_of}
 use Rattle.ygg_oblige_laws.specs.Inputs.{given_env}
 use Rattle.ygg_oblige_given.specs.Tables.{given_values}
 

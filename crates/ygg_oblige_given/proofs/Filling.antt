@@ -1,9 +1,9 @@
 -- Numbers that environments give, and which of them are 1.
 use Rattle.std.proofs.Common.{◌≡◌, ◌==◌, ℕ, zero, suc, true, false, List, [], ◌∷◌, ◌∙◌, refl}
 use Rattle.std.specs.Prelude.{if◌then◌else◌, map, slice_get, unwrap_or, Some}
-use Rattle.ygg_sym.specs.ygg_bank.Values.{bits_or_zero, given_for, inputs_of}
-use Rattle.ygg_sym.specs.ygg_bank.declared.env.Given.{Given}
-use Rattle.ygg_sym.specs.ygg_bank.declared.env.Given.TheVariants as given
+use Rattle.ygg_oblige_laws.specs.ygg_bank.Values.{bits_or_zero, given_for, inputs_of}
+use Rattle.ygg_oblige_laws.specs.ygg_bank.declared.env.Given.{Given}
+use Rattle.ygg_oblige_laws.specs.ygg_bank.declared.env.Given.TheVariants as given
 use Rattle.ygg_oblige_given.specs.Ones.{given_over, is_one, number_at}
 
 -- one more item before others

@@ -6,9 +6,9 @@ use Rattle.std.proofs.lemmas.Bool.{and_parts}
 use Rattle.std.proofs.lemmas.Bool.Decides.{Decides-ltb}
 use Rattle.std.proofs.lemmas.List.{take_more_set}
 use Rattle.std.specs.Prelude.{slice_set}
-use Rattle.ygg_sym.specs.ygg_meaning.Shapes.{words_fit}
-use Rattle.ygg_sym.specs.ygg_bank.Values.{Inputs}
-use Rattle.ygg_sym.specs.ygg_shape.Fresh.{numbers_from, rows_from}
+use Rattle.ygg_oblige_laws.specs.ygg_meaning.Shapes.{words_fit}
+use Rattle.ygg_oblige_laws.specs.ygg_bank.Values.{Inputs}
+use Rattle.ygg_oblige_laws.specs.ygg_shape.Fresh.{numbers_from, rows_from}
 
 module _ (inputs : Inputs) where
   -- one more number

@@ -1,8 +1,8 @@
 -- Numbers by place, and which of them are 1.
 use Rattle.std.specs.Prelude.{ℕ, ◌==◌, if◌then◌else◌, Bool, List, get_or}
-use Rattle.ygg_sym.specs.ygg_bank.Values.{Inputs}
-use Rattle.ygg_sym.specs.ygg_bank.declared.env.Given.{Given}
-use Rattle.ygg_sym.specs.ygg_bank.declared.env.Given.TheVariants as given
+use Rattle.ygg_oblige_laws.specs.ygg_bank.Values.{Inputs}
+use Rattle.ygg_oblige_laws.specs.ygg_bank.declared.env.Given.{Given}
+use Rattle.ygg_oblige_laws.specs.ygg_bank.declared.env.Given.TheVariants as given
 
 -- the number at a place; 0 past the end
 abbrev pub number_at : List ℕ → ℕ → ℕ

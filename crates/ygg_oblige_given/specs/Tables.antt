@@ -2,8 +2,8 @@
 use Rattle.std.specs.Prelude.{ℕ, List, map}
 use Rattle.ygg_value.specs.declared.row.Value.{Value}
 use Rattle.ygg_syntax.specs.declared.tree.Declared.{Declared}
-use Rattle.ygg_sym.specs.ygg_meaning.Environments.{Name}
-use Rattle.ygg_sym.specs.ygg_bank.Values.{Inputs}
+use Rattle.ygg_oblige_laws.specs.ygg_meaning.Environments.{Name}
+use Rattle.ygg_oblige_laws.specs.ygg_bank.Values.{Inputs}
 use Rattle.ygg_oblige_laws.specs.Inputs.{given_env}
 use Rattle.ygg_oblige_given.specs.Ones.{number_at}
 use Rattle.ygg_oblige_given.specs.declared.table.InputTable.{InputTable}

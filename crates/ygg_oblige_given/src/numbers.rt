@@ -1,14 +1,14 @@
 //! From an environment to the numbers that it gives.
 
 ghost use Rattle.std.specs.Prelude.{◌≡◌, ◌≤◌, ◌==◌, ℕ, if◌then◌else◌, length, map, IfOk, OnOk};
-ghost use Rattle.ygg_sym.specs.ygg_bank.Values.{inputs_of};
+ghost use Rattle.ygg_oblige_laws.specs.ygg_bank.Values.{inputs_of};
 ghost use Rattle.ygg_oblige_given.specs.Ones.{given_over, is_one, number_at};
 ghost use Rattle.ygg_oblige_given.specs.Tables.{inputs_in};
 
 use crate::table::InputTable;
 use std::alloc::Global;
 use ygg_list::NoMemory;
-use ygg_sym::{Env, Given};
+use ygg_oblige_laws::{Env, Given};
 
 /// Makes room for so many numbers, with zeros. Its only error is out of memory.
 fn make_room(numbers: &mut Vec<u64>, room: usize) -> Result<(), NoMemory>

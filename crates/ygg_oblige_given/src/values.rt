@@ -1,11 +1,11 @@
 //! Values of shapes that inputs give.
 
 ghost use Rattle.std.specs.Prelude.{◌≡◌, ◌+◌, IfOk, IsTrue};
-ghost use Rattle.ygg_sym.specs.ygg_meaning.Shapes.{env_fits, fits, shape_in, values_fit, words_fit};
+ghost use Rattle.ygg_oblige_laws.specs.ygg_meaning.Shapes.{env_fits, fits, shape_in, values_fit, words_fit};
 ghost use Rattle.ygg_oblige_laws.specs.Inputs.{given_env};
 ghost use Rattle.ygg_oblige_laws.specs.LayerTerms.{ShapesKept};
-ghost use Rattle.ygg_sym.specs.ygg_meaning.Environments.{bind};
-ghost use Rattle.ygg_sym.specs.ygg_shape.Fresh.{given_value, numbers_from, rows_from, words_of};
+ghost use Rattle.ygg_oblige_laws.specs.ygg_meaning.Environments.{bind};
+ghost use Rattle.ygg_oblige_laws.specs.ygg_shape.Fresh.{given_value, numbers_from, rows_from, words_of};
 ghost use Rattle.std.specs.List.{list_all};
 ghost use Rattle.ygg_value.specs.Shapes.{IsShape};
 ghost use Rattle.ygg_value.specs.declared.shape.Shape.TheVariants as shape;
@@ -14,7 +14,7 @@ ghost use Rattle.ygg_oblige_given.specs.Tables.{given_values, inputs_in};
 use crate::table::InputTable;
 use std::alloc::Global;
 use ygg_list::NoMemory;
-use ygg_sym::shape_of;
+use ygg_oblige_laws::shape_of;
 use ygg_syntax::tree::Declared;
 use ygg_value::{Row, Shape, Table, Value, Values, Word, row_write, table_write, zero};
 

@@ -4,30 +4,30 @@ use Rattle.std.specs.Prelude.{Option}
 use Rattle.ygg_value.specs.declared.operation.Op.TheVariants.{And, Imp}
 use Rattle.ygg_value.specs.declared.shape.Shape.{Shape}
 use Rattle.ygg_syntax.specs.declared.tree.Def.{Def}
-use Rattle.ygg_fronts.specs.ygg_meaning.Environments.{same_env}
-use Rattle.ygg_fronts.specs.ygg_meaning.Layer.{ClosedLayer}
-use Rattle.ygg_fronts.specs.ygg_meaning.Related.{settled}
-use Rattle.ygg_fronts.specs.ygg_meaning.Refines.{Below}
-use Rattle.ygg_fronts.specs.ygg_meaning.Violates.{same_state}
-use Rattle.ygg_fronts.specs.ygg_rules.declared.rule.RuleKind.{RuleKind}
-use Rattle.ygg_fronts.specs.ygg_bank_proofs_Made.{made_grows}
-use Rattle.ygg_fronts.specs.ygg_bank_proofs_Meaning.{fits_fewer}
-use Rattle.ygg_fronts.specs.ygg_bank_proofs_Widths.{wider, extends_both}
-use Rattle.ygg_fronts.specs.ygg_bank.Makes.{Make}
-use Rattle.ygg_fronts.specs.ygg_bank.Making.{made}
-use Rattle.ygg_fronts.specs.ygg_bank.Nodes.{HasWidth}
-use Rattle.ygg_fronts.specs.ygg_bank.Values.{Inputs, Values, Fits}
-use Rattle.ygg_fronts.specs.ygg_bank.declared.node.Id.{Id}
-use Rattle.ygg_fronts.specs.ygg_bank.declared.node.Node.{Node}
-use Rattle.ygg_fronts.specs.ygg_bank.declared.node.Node.TheVariants.{Bin}
-use Rattle.ygg_fronts.specs.ygg_shape_cells.declared.terms.SymValue.{SymValue}
-use Rattle.ygg_fronts.specs.ygg_sym_expr.Meaning.{Grows, Gives}
-use Rattle.ygg_fronts.specs.ygg_sym_runs.Meaning.{is_set}
-use Rattle.ygg_fronts.specs.ygg_sym_runs.Lows.{LowShaped, low_worth}
-use Rattle.ygg_fronts.specs.ygg_sym_runs.StopTerms.{SymFallen}
-use Rattle.ygg_fronts.specs.ygg_sym_runs_proofs_Lows.{low_wider}
-use Rattle.ygg_fronts.specs.ygg_sym_laws.Below.{zeros_made}
-use Rattle.ygg_fronts.specs.ygg_sym_laws.Means.{terms_of, values_in, WorthFall, WholeMeans, FallMeans}
+use Rattle.ygg_sym_laws.specs.ygg_meaning.Environments.{same_env}
+use Rattle.ygg_sym_laws.specs.ygg_meaning.Layer.{ClosedLayer}
+use Rattle.ygg_sym_laws.specs.ygg_meaning.Related.{settled}
+use Rattle.ygg_sym_laws.specs.ygg_meaning.Refines.{Below}
+use Rattle.ygg_sym_laws.specs.ygg_meaning.Violates.{same_state}
+use Rattle.ygg_sym_laws.specs.ygg_rules.declared.rule.RuleKind.{RuleKind}
+use Rattle.ygg_sym_laws.specs.ygg_bank_proofs_Made.{made_grows}
+use Rattle.ygg_sym_laws.specs.ygg_bank_proofs_Meaning.{fits_fewer}
+use Rattle.ygg_sym_laws.specs.ygg_bank_proofs_Widths.{wider, extends_both}
+use Rattle.ygg_sym_laws.specs.ygg_bank.Makes.{Make}
+use Rattle.ygg_sym_laws.specs.ygg_bank.Making.{made}
+use Rattle.ygg_sym_laws.specs.ygg_bank.Nodes.{HasWidth}
+use Rattle.ygg_sym_laws.specs.ygg_bank.Values.{Inputs, Values, Fits}
+use Rattle.ygg_sym_laws.specs.ygg_bank.declared.node.Id.{Id}
+use Rattle.ygg_sym_laws.specs.ygg_bank.declared.node.Node.{Node}
+use Rattle.ygg_sym_laws.specs.ygg_bank.declared.node.Node.TheVariants.{Bin}
+use Rattle.ygg_sym_laws.specs.ygg_shape_cells.declared.terms.SymValue.{SymValue}
+use Rattle.ygg_sym_laws.specs.ygg_sym_expr.Meaning.{Grows, Gives}
+use Rattle.ygg_sym_laws.specs.ygg_sym_runs.Meaning.{is_set}
+use Rattle.ygg_sym_laws.specs.ygg_sym_runs.Lows.{LowShaped, low_worth}
+use Rattle.ygg_sym_laws.specs.ygg_sym_runs.StopTerms.{SymFallen}
+use Rattle.ygg_sym_laws.specs.ygg_sym_runs_proofs_Lows.{low_wider}
+use Rattle.ygg_sym_laws.specs.Below.{zeros_made}
+use Rattle.ygg_sym_laws.specs.Means.{terms_of, values_in, WorthFall, WholeMeans, FallMeans}
 use Rattle.ygg_oblige_laws.specs.LayerTerms.{ShapesKept}
 use Rattle.ygg_oblige_laws.specs.Numbers.{Numbers}
 use Rattle.ygg_oblige_laws.specs.TermStates.{Starting, settled_made, all_compared}

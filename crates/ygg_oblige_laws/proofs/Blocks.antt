@@ -81,18 +81,18 @@ use Rattle.ygg_oblige_laws.specs.ygg_meaning.Shapes.{shape_in, fits, values_fit,
 use Rattle.ygg_oblige_laws.specs.ygg_meaning.Progress.{Answer}
 use Rattle.ygg_oblige_laws.specs.ygg_meaning.Layer.{ClosedLayer, operation_of}
 use Rattle.ygg_oblige_laws.specs.ygg_meaning.Refines as stands
-use Rattle.ygg_oblige_laws.specs.ygg_type_sound.Agrees.{Agrees}
-use Rattle.ygg_oblige_laws.specs.ygg_type_sound_proofs_Parameters.{type_is, same_fit}
-use Rattle.ygg_oblige_laws.specs.ygg_type_sound_proofs_Tests.{left as first_of, right as second_of, bytes_equal}
-use Rattle.ygg_oblige_laws.specs.ygg_type_sound.Blocks.{is_returned}
-use Rattle.ygg_oblige_laws.specs.ygg_type_sound.Kinds.{keeps, on_crash_keeps, returns_declared, operation_keeps, tick_keeps}
-use Rattle.ygg_oblige_laws.specs.ygg_type_sound.Questions.{plain, answer_has}
-use Rattle.ygg_oblige_laws.proofs.of_ygg_type_sound.Views.{AllTyped, state_agrees, memory_agrees, agrees_with_arguments}
-use Rattle.ygg_oblige_laws.specs.ygg_type_sound_proofs_Operations.{OnCrashTyped, IsOperation, find_operation, added_all, seen_operations}
-use Rattle.ygg_oblige_laws.specs.ygg_type_sound_proofs_Typed.{IsTypedLayer, Parts, parts}
-use Rattle.ygg_oblige_laws.specs.ygg_type_sound_proofs_Specs.{spec_answers}
-use Rattle.ygg_oblige_laws.specs.ygg_type_sound_proofs_Files.{have}
-use Rattle.ygg_oblige_laws.specs.ygg_direct.Laws.{Sees}
+use Rattle.ygg_oblige_laws.specs.ygg_meaning_laws.Agrees.{Agrees}
+use Rattle.ygg_oblige_laws.specs.ygg_meaning_laws_proofs_Parameters.{type_is, same_fit}
+use Rattle.ygg_oblige_laws.specs.ygg_meaning_laws_proofs_Tests.{left as first_of, right as second_of, bytes_equal}
+use Rattle.ygg_oblige_laws.specs.ygg_meaning_laws.Blocks.{is_returned}
+use Rattle.ygg_oblige_laws.specs.ygg_meaning_laws.Kinds.{keeps, on_crash_keeps, returns_declared, operation_keeps, tick_keeps}
+use Rattle.ygg_oblige_laws.specs.ygg_meaning_laws.Questions.{plain, answer_has}
+use Rattle.ygg_oblige_laws.proofs.of_ygg_meaning_laws.Views.{AllTyped, state_agrees, memory_agrees, agrees_with_arguments}
+use Rattle.ygg_oblige_laws.specs.ygg_meaning_laws_proofs_Operations.{OnCrashTyped, IsOperation, find_operation, added_all, seen_operations}
+use Rattle.ygg_oblige_laws.specs.ygg_meaning_laws_proofs_Typed.{IsTypedLayer, Parts, parts}
+use Rattle.ygg_oblige_laws.specs.ygg_meaning_laws_proofs_Specs.{spec_answers}
+use Rattle.ygg_oblige_laws.specs.ygg_meaning_laws_proofs_Files.{have}
+use Rattle.ygg_oblige_laws.specs.ygg_meaning_laws.DirectLaws.{Sees}
 use Rattle.ygg_oblige_laws.specs.Specs.{SpecBlock}
 use Rattle.ygg_oblige_laws.specs.Below.{lows_on, signatures_of, signatures_on}
 use Rattle.ygg_oblige_laws.specs.Typed.{BlockTyped, SpecBlockTyped, OperationTyped, SpecTyped, BelowTyped}

@@ -10,36 +10,35 @@ use Rattle.ygg_value.specs.declared.operation.Op.TheVariants.{And}
 use Rattle.ygg_syntax.specs.declared.tree.Declared.{Declared}
 use Rattle.ygg_syntax.specs.declared.tree.Operation.{Operation}
 use Rattle.ygg_syntax.specs.declared.tree.TypeText.{TypeText}
-use Rattle.ygg_fronts.specs.ygg_type_rules.Layers.{operation_signature}
-use Rattle.ygg_fronts.specs.ygg_type_rules.Shapes.{answer_shape}
-use Rattle.ygg_fronts.specs.ygg_type_sound_proofs_Tests.{bytes_equal}
-use Rattle.ygg_fronts.specs.ygg_meaning.Environments.{same_env}
-use Rattle.ygg_fronts.specs.ygg_meaning.Shapes.{shape_in, zeros_of}
-use Rattle.ygg_fronts.specs.ygg_meaning.Violates.{same_answer}
-use Rattle.ygg_fronts.specs.ygg_type_sound.Questions.{answer_has, gives}
-use Rattle.ygg_fronts.specs.ygg_type_sound_proofs_ProgressFits.{one_shape}
-use Rattle.ygg_fronts.specs.ygg_rules.declared.rule.RuleKind.{RuleKind}
-use Rattle.ygg_fronts.specs.ygg_bank_proofs_Made.{made_grows}
-use Rattle.ygg_fronts.specs.ygg_bank_proofs_Meaning.{fits_fewer}
-use Rattle.ygg_fronts.specs.ygg_bank.Making.{made}
-use Rattle.ygg_fronts.specs.ygg_bank.Values.{Inputs, Values}
-use Rattle.ygg_fronts.specs.ygg_bank.declared.node.Node.{Node}
-use Rattle.ygg_fronts.specs.ygg_bank.declared.node.Node.TheVariants.{Const, Bin}
-use Rattle.ygg_fronts.specs.ygg_shape_words_proofs_Keeps.{Stays}
-use Rattle.ygg_fronts.specs.ygg_shape_cells.Making.{compared}
-use Rattle.ygg_fronts.specs.ygg_shape_cells.Terms.{IsShaped, worth}
-use Rattle.ygg_fronts.specs.ygg_shape_cells.declared.terms.SymValue.{SymValue}
-use Rattle.ygg_fronts.specs.ygg_shape_proofs_Grows.{compared_grows}
-use Rattle.ygg_fronts.specs.ygg_shape_proofs_Keeps.{compared_keeps}
-use Rattle.ygg_fronts.specs.ygg_shape_proofs_Makers.{compared_gives}
-use Rattle.ygg_fronts.specs.ygg_sym_expr.Meaning.{SomeShape, Grows, Gives}
-use Rattle.ygg_fronts.specs.ygg_sym_expr_proofs_Keeps.{Keeps}
-use Rattle.ygg_fronts.proofs.of_ygg_sym_laws.Worths.{shape_fits}
-use Rattle.ygg_fronts.specs.ygg_sym_laws.Meaning.{AnswerShaped, answer_worth}
-use Rattle.ygg_fronts.proofs.of_ygg_sym_laws.Lows.{low_wider}
-use Rattle.ygg_fronts.specs.ygg_sym_laws.Lows.{LowShaped, low_worth}
-use Rattle.ygg_fronts.specs.ygg_sym_laws.Below.{zeros_made}
-use Rattle.ygg_fronts.proofs.of_ygg_sym_laws.Zeros.{AreShapes, zeros_made_keep, zeros_give}
+use Rattle.ygg_sym_laws.specs.ygg_type_rules.Layers.{operation_signature}
+use Rattle.ygg_sym_laws.specs.ygg_type_rules.Shapes.{answer_shape}
+use Rattle.ygg_sym_laws.specs.ygg_meaning_laws_proofs_Tests.{bytes_equal}
+use Rattle.ygg_sym_laws.specs.ygg_meaning.Environments.{same_env}
+use Rattle.ygg_sym_laws.specs.ygg_meaning.Shapes.{shape_in, zeros_of}
+use Rattle.ygg_sym_laws.specs.ygg_meaning.Violates.{same_answer}
+use Rattle.ygg_sym_laws.specs.ygg_meaning_laws.Questions.{answer_has, gives}
+use Rattle.ygg_sym_laws.specs.ygg_meaning_laws_proofs_ProgressFits.{one_shape}
+use Rattle.ygg_sym_laws.specs.ygg_rules.declared.rule.RuleKind.{RuleKind}
+use Rattle.ygg_sym_laws.specs.ygg_bank_proofs_Made.{made_grows}
+use Rattle.ygg_sym_laws.specs.ygg_bank_proofs_Meaning.{fits_fewer}
+use Rattle.ygg_sym_laws.specs.ygg_bank.Making.{made}
+use Rattle.ygg_sym_laws.specs.ygg_bank.Values.{Inputs, Values}
+use Rattle.ygg_sym_laws.specs.ygg_bank.declared.node.Node.{Node}
+use Rattle.ygg_sym_laws.specs.ygg_bank.declared.node.Node.TheVariants.{Const, Bin}
+use Rattle.ygg_sym_laws.specs.ygg_shape_words_proofs_Keeps.{Stays}
+use Rattle.ygg_sym_laws.specs.ygg_shape.Comparing.{compared}
+use Rattle.ygg_sym_laws.specs.ygg_shape_cells.Terms.{IsShaped, worth}
+use Rattle.ygg_sym_laws.specs.ygg_shape_cells.declared.terms.SymValue.{SymValue}
+use Rattle.ygg_sym_laws.specs.ygg_shape_proofs_ComparedKeeps.{compared_grows, compared_keeps}
+use Rattle.ygg_sym_laws.specs.ygg_shape_proofs_Compared.{compared_gives}
+use Rattle.ygg_sym_laws.specs.ygg_sym_expr.Meaning.{SomeShape, Grows, Gives}
+use Rattle.ygg_sym_laws.specs.ygg_sym_expr_proofs_Keeps.{Keeps}
+use Rattle.ygg_sym_laws.proofs.Worths.{shape_fits}
+use Rattle.ygg_sym_laws.specs.Meaning.{AnswerShaped, answer_worth}
+use Rattle.ygg_sym_laws.proofs.Lows.{low_wider}
+use Rattle.ygg_sym_laws.specs.Lows.{LowShaped, low_worth}
+use Rattle.ygg_sym_laws.specs.Below.{zeros_made}
+use Rattle.ygg_sym_laws.proofs.of_ygg_sym_runs.DeclaredZeros.{AreShapes, zeros_made_keep, zeros_give}
 use Rattle.ygg_oblige_laws.specs.LayerTerms.{ShapesKept}
 use Rattle.ygg_oblige_laws.specs.Outcomes.{answers_compared}
 use Rattle.ygg_oblige_laws.specs.TermStates.{all_compared}

@@ -3,21 +3,21 @@ use Rattle.std.proofs.Common.{◌≡◌, ◌==◌, Bool, true, false, not, ◌&&
 use Rattle.ygg_value.specs.Number.{Number}
 use Rattle.ygg_value.specs.Words.{word, apply_to, bit_of}
 use Rattle.ygg_value.specs.declared.operation.Op.TheVariants.{And, Imp}
-use Rattle.ygg_fronts.specs.ygg_rules.declared.rule.RuleKind.{RuleKind}
-use Rattle.ygg_fronts.specs.ygg_bank_proofs_Made.{made_grows}
-use Rattle.ygg_fronts.specs.ygg_bank_proofs_Meaning.{fits_fewer}
-use Rattle.ygg_fronts.specs.ygg_bank_proofs_Widths.{width_is, stands}
-use Rattle.ygg_fronts.specs.ygg_bank.Making.{made}
-use Rattle.ygg_fronts.specs.ygg_bank.Nodes.{HasWidth, CanBin}
-use Rattle.ygg_fronts.specs.ygg_bank.Values.{Inputs, Values, Fits}
-use Rattle.ygg_fronts.specs.ygg_bank.declared.node.Id.{Id}
-use Rattle.ygg_fronts.specs.ygg_bank.declared.node.Node.{Node}
-use Rattle.ygg_fronts.specs.ygg_bank.declared.node.Node.TheVariants.{Bin}
-use Rattle.ygg_fronts.specs.ygg_shape_words_proofs_Fit.{can_and}
-use Rattle.ygg_fronts.specs.ygg_shape_words_proofs_Terms.{made_is, term_digit, and_digits, bit_is}
-use Rattle.ygg_fronts.specs.ygg_sym_expr.Meaning.{Gives}
-use Rattle.ygg_fronts.specs.ygg_sym_runs.Meaning.{is_set}
-use Rattle.ygg_fronts.proofs.of_ygg_sym_runs.StopMeaning.{IsTest}
+use Rattle.ygg_sym_laws.specs.ygg_rules.declared.rule.RuleKind.{RuleKind}
+use Rattle.ygg_sym_laws.specs.ygg_bank_proofs_Made.{made_grows}
+use Rattle.ygg_sym_laws.specs.ygg_bank_proofs_Meaning.{fits_fewer}
+use Rattle.ygg_sym_laws.specs.ygg_bank_proofs_Widths.{width_is, stands}
+use Rattle.ygg_sym_laws.specs.ygg_bank.Making.{made}
+use Rattle.ygg_sym_laws.specs.ygg_bank.Nodes.{HasWidth, CanBin}
+use Rattle.ygg_sym_laws.specs.ygg_bank.Values.{Inputs, Values, Fits}
+use Rattle.ygg_sym_laws.specs.ygg_bank.declared.node.Id.{Id}
+use Rattle.ygg_sym_laws.specs.ygg_bank.declared.node.Node.{Node}
+use Rattle.ygg_sym_laws.specs.ygg_bank.declared.node.Node.TheVariants.{Bin}
+use Rattle.ygg_sym_laws.specs.ygg_shape_words_proofs_Fit.{can_and}
+use Rattle.ygg_sym_laws.specs.ygg_shape_words_proofs_Terms.{made_is, term_digit, and_digits, bit_is}
+use Rattle.ygg_sym_laws.specs.ygg_sym_expr.Meaning.{Gives}
+use Rattle.ygg_sym_laws.specs.ygg_sym_runs.Meaning.{is_set}
+use Rattle.ygg_sym_laws.proofs.of_ygg_sym_runs.StopMeaning.{IsTest}
 
 imp_digits : (c d : Bool) → apply_to Imp (word 1 (bit_of c)) (word 1 (bit_of d)) ≡ word 1 (bit_of (not c || d))
 imp_digits true true = refl

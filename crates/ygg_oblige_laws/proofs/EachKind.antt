@@ -9,21 +9,21 @@ use Rattle.ygg_syntax.specs.declared.tree.Declared.{Declared}
 use Rattle.ygg_syntax.specs.declared.tree.Def.{Def}
 use Rattle.ygg_syntax.specs.declared.tree.Operation.{Operation}
 use Rattle.ygg_syntax.specs.declared.tree.Tick.{Tick}
-use Rattle.ygg_fronts.specs.ygg_type_sound_proofs_Tests.{left, right}
-use Rattle.ygg_fronts.specs.ygg_meaning.Environments.{Env, bind}
-use Rattle.ygg_fronts.specs.ygg_meaning.Layer.{ClosedLayer}
-use Rattle.ygg_fronts.specs.ygg_meaning.Obligations.{Schedule, Obligation, Init, CallOf, CutOf, TickOf, CutTickOf, Idle, Again, obligations_of}
-use Rattle.ygg_fronts.specs.ygg_meaning.Refines.{Below}
-use Rattle.ygg_fronts.specs.ygg_meaning.Related.{shaped}
-use Rattle.ygg_fronts.specs.ygg_meaning.Shapes.{shape_in, values_fit}
-use Rattle.ygg_fronts.specs.ygg_rules.declared.rule.RuleKind.{RuleKind}
-use Rattle.ygg_fronts.specs.ygg_bank.Nodes.{Extends}
-use Rattle.ygg_fronts.specs.ygg_bank.declared.node.Node.{Node}
-use Rattle.ygg_fronts.specs.ygg_shape_cells.Terms.{worth}
-use Rattle.ygg_fronts.specs.ygg_sym_expr.Meaning.{Grows}
-use Rattle.ygg_fronts.specs.ygg_sym_runs.Meaning.{answer_worth}
-use Rattle.ygg_fronts.specs.ygg_sym_runs.Lows.{low_worth}
-use Rattle.ygg_fronts.specs.ygg_sym_laws.Means.{terms_of}
+use Rattle.ygg_sym_laws.specs.ygg_meaning_laws_proofs_Tests.{left, right}
+use Rattle.ygg_sym_laws.specs.ygg_meaning.Environments.{Env, bind}
+use Rattle.ygg_sym_laws.specs.ygg_meaning.Layer.{ClosedLayer}
+use Rattle.ygg_sym_laws.specs.ygg_meaning.Obligations.{Schedule, Obligation, Init, CallOf, CutOf, TickOf, CutTickOf, Idle, Again, obligations_of}
+use Rattle.ygg_sym_laws.specs.ygg_meaning.Refines.{Below}
+use Rattle.ygg_sym_laws.specs.ygg_meaning.Related.{shaped}
+use Rattle.ygg_sym_laws.specs.ygg_meaning.Shapes.{shape_in, values_fit}
+use Rattle.ygg_sym_laws.specs.ygg_rules.declared.rule.RuleKind.{RuleKind}
+use Rattle.ygg_sym_laws.specs.ygg_bank.Nodes.{Extends}
+use Rattle.ygg_sym_laws.specs.ygg_bank.declared.node.Node.{Node}
+use Rattle.ygg_sym_laws.specs.ygg_shape_cells.Terms.{worth}
+use Rattle.ygg_sym_laws.specs.ygg_sym_expr.Meaning.{Grows}
+use Rattle.ygg_sym_laws.specs.ygg_sym_runs.Meaning.{answer_worth}
+use Rattle.ygg_sym_laws.specs.ygg_sym_runs.Lows.{low_worth}
+use Rattle.ygg_sym_laws.specs.Means.{terms_of}
 use Rattle.ygg_oblige_laws.specs.LayerTerms.{ShapesKept, OperationFits, LayerTyped}
 use Rattle.ygg_oblige_laws.specs.Meaning.{IsTermOf}
 use Rattle.ygg_oblige_laws.specs.Numbers.{numbers_of}

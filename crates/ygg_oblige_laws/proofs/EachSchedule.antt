@@ -9,9 +9,9 @@ use Rattle.ygg_oblige_laws.specs.ygg_bank.Nodes.{Extends}
 use Rattle.ygg_oblige_laws.specs.ygg_bank.Values.{Inputs, Values, Fits}
 use Rattle.ygg_oblige_laws.specs.ygg_bank.declared.node.Node.{Node}
 use Rattle.ygg_oblige_laws.specs.ygg_sym_runs.Meaning.{is_set}
-use Rattle.ygg_fronts.proofs.AnyLayer.{runs_are_named, loss_is_named}
-use Rattle.ygg_fronts.proofs.Others.{start_named}
-use Rattle.ygg_fronts.specs.SymLaws.{OverTyped}
+use Rattle.ygg_sym_laws.proofs.FrontAnyLayer.{runs_are_named, loss_is_named}
+use Rattle.ygg_sym_laws.proofs.Others.{start_named}
+use Rattle.ygg_sym_laws.specs.SymLaws.{OverTyped}
 use Rattle.ygg_oblige_laws.specs.ygg_sym_laws.Means.{terms_of}
 use Rattle.ygg_oblige_laws.specs.LayerTerms.{LayerTyped}
 use Rattle.ygg_oblige_laws.specs.Numbers.{numbers_of}

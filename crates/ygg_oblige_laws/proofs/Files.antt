@@ -18,14 +18,14 @@ use Rattle.ygg_oblige_laws.specs.ygg_type_rules.Files.{IsTyped, type_errors_of, 
 use Rattle.ygg_oblige_laws.specs.ygg_meaning.Meaning.{functions_of}
 use Rattle.ygg_oblige_laws.specs.ygg_meaning.Layer.{ClosedLayer}
 use Rattle.ygg_oblige_laws.specs.ygg_meaning.Stack.{Layers, below_of, tables_of, layers_on, layers_of}
-use Rattle.ygg_oblige_laws.specs.ygg_type_sound_proofs_Definitions.{MeetsAll, definitions_meet}
-use Rattle.ygg_oblige_laws.specs.ygg_type_sound_proofs_Tests.{left as first_of, right as second_of}
-use Rattle.ygg_oblige_laws.specs.ygg_type_sound.Kinds.{layer_keeps}
-use Rattle.ygg_oblige_laws.specs.ygg_type_sound_proofs_TypeErrors.{none_listed}
-use Rattle.ygg_oblige_laws.specs.ygg_type_sound_proofs_Operations.{added_all, operations_shaped}
-use Rattle.ygg_oblige_laws.specs.ygg_type_sound_proofs_Typed.{IsTypedLayer, parts}
-use Rattle.ygg_oblige_laws.specs.ygg_type_sound_proofs_Files.{on_disk}
-use Rattle.ygg_oblige_laws.proofs.of_ygg_type_sound.Derived.{derived_kept}
+use Rattle.ygg_oblige_laws.specs.ygg_meaning_laws_proofs_Definitions.{MeetsAll, definitions_meet}
+use Rattle.ygg_oblige_laws.specs.ygg_meaning_laws_proofs_Tests.{left as first_of, right as second_of}
+use Rattle.ygg_oblige_laws.specs.ygg_meaning_laws.Kinds.{layer_keeps}
+use Rattle.ygg_oblige_laws.specs.ygg_meaning_laws_proofs_TypeErrors.{none_listed}
+use Rattle.ygg_oblige_laws.specs.ygg_meaning_laws_proofs_Operations.{added_all, operations_shaped}
+use Rattle.ygg_oblige_laws.specs.ygg_meaning_laws_proofs_Typed.{IsTypedLayer, parts}
+use Rattle.ygg_oblige_laws.specs.ygg_meaning_laws_proofs_Files.{on_disk}
+use Rattle.ygg_oblige_laws.proofs.of_ygg_meaning_laws.Derived.{derived_kept}
 use Rattle.ygg_oblige_laws.specs.Below.{lows_on, signatures_on}
 use Rattle.ygg_oblige_laws.specs.Typed.{BelowTyped}
 use Rattle.ygg_oblige_laws.specs.TypedLayers.{LayersTyped}

@@ -3,25 +3,25 @@ use Rattle.std.proofs.Common.{◌≡◌, ℕ, Bool, true, List, [], ◌++◌, re
 use Rattle.std.specs.Prelude.{Option}
 use Rattle.ygg_value.specs.declared.shape.Shape.{Shape}
 use Rattle.ygg_syntax.specs.declared.tree.Def.{Def}
-use Rattle.ygg_fronts.specs.ygg_meaning.Environments.{Env}
-use Rattle.ygg_fronts.specs.ygg_meaning.Shapes.{zeros_of}
-use Rattle.ygg_fronts.specs.ygg_meaning.Progress.{Answer}
-use Rattle.ygg_fronts.specs.ygg_meaning.Layer.{ClosedLayer, BlockRuns, StartsAndFormats}
-use Rattle.ygg_fronts.specs.ygg_meaning.Machine.{Picks, State, on, based}
-use Rattle.ygg_fronts.specs.ygg_meaning.Obligations.{Schedule, Init}
-use Rattle.ygg_fronts.specs.ygg_meaning.Refines.{Below, OnDisk, OnSpec, machine_below}
-use Rattle.ygg_fronts.specs.ygg_rules.declared.rule.RuleKind.{RuleKind}
-use Rattle.ygg_fronts.specs.ygg_bank_proofs_Meaning.{fits_fewer}
-use Rattle.ygg_fronts.specs.ygg_bank_proofs_Widths.{extends_both}
-use Rattle.ygg_fronts.specs.ygg_bank.Values.{Inputs, Values}
-use Rattle.ygg_fronts.specs.ygg_bank.declared.node.Id.{Id}
-use Rattle.ygg_fronts.specs.ygg_bank.declared.node.Node.{Node}
-use Rattle.ygg_fronts.specs.ygg_sym_expr.Meaning.{Grows, Gives}
-use Rattle.ygg_fronts.specs.ygg_sym_runs.Meaning.{answer_worth}
-use Rattle.ygg_fronts.specs.ygg_sym_runs.Lows.{low_worth}
-use Rattle.ygg_fronts.specs.ygg_sym_runs_proofs_Lows.{low_wider}
-use Rattle.ygg_fronts.specs.ygg_sym_laws.Below.{places_on, zeros_made, lows_at_start}
-use Rattle.ygg_fronts.specs.ygg_sym_laws.Means.{AreBits, terms_of, values_in, Begins, EndsSo, StartMeans, WholeMeans}
+use Rattle.ygg_sym_laws.specs.ygg_meaning.Environments.{Env}
+use Rattle.ygg_sym_laws.specs.ygg_meaning.Shapes.{zeros_of}
+use Rattle.ygg_sym_laws.specs.ygg_meaning.Progress.{Answer}
+use Rattle.ygg_sym_laws.specs.ygg_meaning.Layer.{ClosedLayer, BlockRuns, StartsAndFormats}
+use Rattle.ygg_sym_laws.specs.ygg_meaning.Machine.{Picks, State, on, based}
+use Rattle.ygg_sym_laws.specs.ygg_meaning.Obligations.{Schedule, Init}
+use Rattle.ygg_sym_laws.specs.ygg_meaning.Refines.{Below, OnDisk, OnSpec, machine_below}
+use Rattle.ygg_sym_laws.specs.ygg_rules.declared.rule.RuleKind.{RuleKind}
+use Rattle.ygg_sym_laws.specs.ygg_bank_proofs_Meaning.{fits_fewer}
+use Rattle.ygg_sym_laws.specs.ygg_bank_proofs_Widths.{extends_both}
+use Rattle.ygg_sym_laws.specs.ygg_bank.Values.{Inputs, Values}
+use Rattle.ygg_sym_laws.specs.ygg_bank.declared.node.Id.{Id}
+use Rattle.ygg_sym_laws.specs.ygg_bank.declared.node.Node.{Node}
+use Rattle.ygg_sym_laws.specs.ygg_sym_expr.Meaning.{Grows, Gives}
+use Rattle.ygg_sym_laws.specs.ygg_sym_runs.Meaning.{answer_worth}
+use Rattle.ygg_sym_laws.specs.ygg_sym_runs.Lows.{low_worth}
+use Rattle.ygg_sym_laws.specs.ygg_sym_runs_proofs_Lows.{low_wider}
+use Rattle.ygg_sym_laws.specs.Below.{places_on, zeros_made, lows_at_start}
+use Rattle.ygg_sym_laws.specs.Means.{AreBits, terms_of, values_in, Begins, EndsSo, StartMeans, WholeMeans}
 use Rattle.ygg_oblige_laws.specs.LayerTerms.{ShapesKept}
 use Rattle.ygg_oblige_laws.specs.Numbers.{Numbers}
 use Rattle.ygg_oblige_laws.specs.Terms.{Finish, some_passes, ran, formats}

@@ -60,13 +60,13 @@ use Rattle.ygg_oblige_laws.specs.ygg_meaning.Shapes.{env_fits, zeros_of}
 use Rattle.ygg_oblige_laws.specs.ygg_meaning.Layer.{ClosedLayer}
 use Rattle.ygg_oblige_laws.specs.ygg_meaning.Related.{relations}
 use Rattle.ygg_oblige_laws.specs.ygg_meaning.Stack.{tables_of_kind, tables_of}
-use Rattle.ygg_oblige_laws.specs.ygg_type_sound.Fitting.{IsHeld}
-use Rattle.ygg_oblige_laws.specs.ygg_type_sound.Agrees.{Agrees}
-use Rattle.ygg_oblige_laws.specs.ygg_type_sound_proofs_Tests.{left as first_of, right as second_of}
-use Rattle.ygg_oblige_laws.specs.ygg_type_sound_proofs_Rules.{wanted_has}
-use Rattle.ygg_oblige_laws.specs.ygg_type_sound_proofs_Sounds.{sound}
-use Rattle.ygg_oblige_laws.specs.ygg_type_sound_proofs_Definitions.{MeetsAll}
-use Rattle.ygg_oblige_laws.proofs.of_ygg_type_sound.Views.{entries, AllTyped, held_in, has_in, zeros_fit, LayerVariables, LowerShaped}
+use Rattle.ygg_oblige_laws.specs.ygg_meaning_laws.Fitting.{IsHeld}
+use Rattle.ygg_oblige_laws.specs.ygg_meaning_laws.Agrees.{Agrees}
+use Rattle.ygg_oblige_laws.specs.ygg_meaning_laws_proofs_Tests.{left as first_of, right as second_of}
+use Rattle.ygg_oblige_laws.specs.ygg_meaning_laws_proofs_Rules.{wanted_has}
+use Rattle.ygg_oblige_laws.specs.ygg_meaning_laws_proofs_Sounds.{sound}
+use Rattle.ygg_oblige_laws.specs.ygg_meaning_laws_proofs_Definitions.{MeetsAll}
+use Rattle.ygg_oblige_laws.proofs.of_ygg_meaning_laws.Views.{entries, AllTyped, held_in, has_in, zeros_fit, LayerVariables, LowerShaped}
 use Rattle.ygg_oblige_laws.specs.LayerTerms.{FormulaTyped}
 
 pub all_typed : (ds es : List Declared) → AllTyped ds → AllTyped es → AllTyped (ds ++ es)

@@ -3,22 +3,22 @@ use Rattle.std.proofs.Common.{◌≡◌, ◌≤◌, ◌+◌, ℕ, false, List, [
 use Rattle.std.specs.Prelude.{All}
 use Rattle.std.proofs.lemmas.List.Elements.{All-nil}
 use Rattle.ygg_syntax.specs.declared.tree.Def.{Def}
-use Rattle.ygg_fronts.specs.ygg_meaning.Layer.{ClosedLayer}
-use Rattle.ygg_fronts.specs.ygg_meaning.Obligations.{Schedule, Obligation}
-use Rattle.ygg_fronts.specs.ygg_meaning.Refines.{Below, machine_below}
-use Rattle.ygg_fronts.specs.ygg_meaning.Violates.{Violates}
-use Rattle.ygg_fronts.specs.ygg_rules.declared.rule.RuleKind.{RuleKind}
-use Rattle.ygg_fronts.specs.ygg_bank_proofs_Exist.{values_fit}
-use Rattle.ygg_fronts.specs.ygg_bank_proofs_Meaning.{fits_fewer}
-use Rattle.ygg_fronts.specs.ygg_bank_proofs_Widths.{wider, extends_both}
-use Rattle.ygg_fronts.specs.ygg_bank.Inputs.{InputsBelow}
-use Rattle.ygg_fronts.specs.ygg_bank.Makes.{Out}
-use Rattle.ygg_fronts.specs.ygg_bank.Nodes.{HasWidth, IsBank, Extends}
-use Rattle.ygg_fronts.specs.ygg_bank.Values.{Inputs, InputsFit, Values, Fits, value_of}
-use Rattle.ygg_fronts.specs.ygg_bank.declared.node.Id.{Id}
-use Rattle.ygg_fronts.specs.ygg_bank.declared.node.Node.{Node}
-use Rattle.ygg_fronts.specs.ygg_sym_runs.Meaning.{is_set}
-use Rattle.ygg_fronts.specs.ygg_sym_laws.Means.{terms_of}
+use Rattle.ygg_sym_laws.specs.ygg_meaning.Layer.{ClosedLayer}
+use Rattle.ygg_sym_laws.specs.ygg_meaning.Obligations.{Schedule, Obligation}
+use Rattle.ygg_sym_laws.specs.ygg_meaning.Refines.{Below, machine_below}
+use Rattle.ygg_sym_laws.specs.ygg_meaning.Violates.{Violates}
+use Rattle.ygg_sym_laws.specs.ygg_rules.declared.rule.RuleKind.{RuleKind}
+use Rattle.ygg_sym_laws.specs.ygg_bank_proofs_Exist.{values_fit}
+use Rattle.ygg_sym_laws.specs.ygg_bank_proofs_Meaning.{fits_fewer}
+use Rattle.ygg_sym_laws.specs.ygg_bank_proofs_Widths.{wider, extends_both}
+use Rattle.ygg_sym_laws.specs.ygg_bank.Inputs.{InputsBelow}
+use Rattle.ygg_sym_laws.specs.ygg_bank.Makes.{Out}
+use Rattle.ygg_sym_laws.specs.ygg_bank.Nodes.{HasWidth, IsBank, Extends}
+use Rattle.ygg_sym_laws.specs.ygg_bank.Values.{Inputs, InputsFit, Values, Fits, value_of}
+use Rattle.ygg_sym_laws.specs.ygg_bank.declared.node.Id.{Id}
+use Rattle.ygg_sym_laws.specs.ygg_bank.declared.node.Node.{Node}
+use Rattle.ygg_sym_laws.specs.ygg_sym_runs.Meaning.{is_set}
+use Rattle.ygg_sym_laws.specs.Means.{terms_of}
 use Rattle.ygg_oblige_laws.specs.Meaning.{IsTermOf}
 use Rattle.ygg_oblige_laws.specs.TermStates.{Starting, words_in, state_words, starting}
 use Rattle.ygg_oblige_laws.specs.Inputs.{Part, PartFits, glued, GluedMeans}

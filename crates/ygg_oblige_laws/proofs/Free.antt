@@ -6,22 +6,22 @@ use Rattle.ygg_value.specs.declared.shape.Shape.{Shape}
 use Rattle.ygg_syntax.specs.declared.tree.Block.{Block}
 use Rattle.ygg_syntax.specs.declared.tree.Declared.{Declared}
 use Rattle.ygg_syntax.specs.declared.tree.Def.{Def}
-use Rattle.ygg_fronts.specs.ygg_meaning.Layer.{ClosedLayer}
-use Rattle.ygg_fronts.specs.ygg_meaning.Obligations.{Obligation, Init, CallOf, CutOf, TickOf, CutTickOf, Idle, Again}
-use Rattle.ygg_fronts.specs.ygg_meaning.Refines.{Below}
-use Rattle.ygg_fronts.specs.ygg_rules.declared.rule.RuleKind.{RuleKind}
-use Rattle.ygg_fronts.specs.ygg_bank_proofs_Inputs.{made_keeps}
-use Rattle.ygg_fronts.specs.ygg_bank.Inputs.{InputsBelow}
-use Rattle.ygg_fronts.specs.ygg_bank.Makes.{Make, and_make}
-use Rattle.ygg_fronts.specs.ygg_bank.Making.{made}
-use Rattle.ygg_fronts.specs.ygg_bank.declared.node.Id.{Id}
-use Rattle.ygg_fronts.specs.ygg_bank.declared.node.Node.{Node}
-use Rattle.ygg_fronts.specs.ygg_bank.declared.node.Node.TheVariants.{Bin}
-use Rattle.ygg_fronts.specs.ygg_shape_cells.declared.terms.SymValue.{SymValue}
-use Rattle.ygg_fronts.specs.ygg_sym_expr_proofs_Keeps.{Keeps}
-use Rattle.ygg_fronts.proofs.of_ygg_sym_runs.Below.{below_more}
-use Rattle.ygg_fronts.specs.ygg_sym_laws.Below.{places_on, failure_room, zeros_made, lows_at_start, lost_made}
-use Rattle.ygg_fronts.specs.ygg_sym_laws.Means.{terms_of, values_in, WholeMeans, FallMeans}
+use Rattle.ygg_sym_laws.specs.ygg_meaning.Layer.{ClosedLayer}
+use Rattle.ygg_sym_laws.specs.ygg_meaning.Obligations.{Obligation, Init, CallOf, CutOf, TickOf, CutTickOf, Idle, Again}
+use Rattle.ygg_sym_laws.specs.ygg_meaning.Refines.{Below}
+use Rattle.ygg_sym_laws.specs.ygg_rules.declared.rule.RuleKind.{RuleKind}
+use Rattle.ygg_sym_laws.specs.ygg_bank_proofs_Inputs.{made_keeps}
+use Rattle.ygg_sym_laws.specs.ygg_bank.Inputs.{InputsBelow}
+use Rattle.ygg_sym_laws.specs.ygg_bank.Makes.{Make, and_make}
+use Rattle.ygg_sym_laws.specs.ygg_bank.Making.{made}
+use Rattle.ygg_sym_laws.specs.ygg_bank.declared.node.Id.{Id}
+use Rattle.ygg_sym_laws.specs.ygg_bank.declared.node.Node.{Node}
+use Rattle.ygg_sym_laws.specs.ygg_bank.declared.node.Node.TheVariants.{Bin}
+use Rattle.ygg_sym_laws.specs.ygg_shape_cells.declared.terms.SymValue.{SymValue}
+use Rattle.ygg_sym_laws.specs.ygg_sym_expr_proofs_Keeps.{Keeps}
+use Rattle.ygg_sym_laws.proofs.of_ygg_sym_runs.Below.{below_more}
+use Rattle.ygg_sym_laws.specs.Below.{places_on, failure_room, zeros_made, lows_at_start, lost_made}
+use Rattle.ygg_sym_laws.specs.Means.{terms_of, values_in, WholeMeans, FallMeans}
 use Rattle.ygg_oblige_laws.specs.Numbers.{Numbers, numbers_of, arguments_of}
 use Rattle.ygg_oblige_laws.specs.TermStates.{Starting, words_in, all_compared, settled_made, fresh_all}
 use Rattle.ygg_oblige_laws.specs.Terms.{

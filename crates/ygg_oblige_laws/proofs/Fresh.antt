@@ -33,25 +33,25 @@ use Rattle.ygg_value.specs.Shapes.{IsShape}
 use Rattle.ygg_value.specs.declared.shape.Shape.{Shape}
 use Rattle.ygg_value.specs.declared.shape.Shape.TheVariants as shape
 use Rattle.ygg_syntax.specs.declared.tree.Declared.{Declared}
-use Rattle.ygg_fronts.specs.ygg_meaning.Shapes.{shape_in, env_fits}
-use Rattle.ygg_fronts.specs.ygg_rules.declared.rule.RuleKind.{RuleKind}
-use Rattle.ygg_fronts.specs.ygg_bank_proofs_Made.{made_grows, added_there}
-use Rattle.ygg_fronts.specs.ygg_bank_proofs_Meaning.{fits_fewer}
-use Rattle.ygg_fronts.proofs.of_ygg_bank.Places.{in_front}
-use Rattle.ygg_fronts.specs.ygg_bank_proofs_Widths.{extends_self, extends_both}
-use Rattle.ygg_fronts.specs.ygg_bank.Inputs.{InputsBelow}
-use Rattle.ygg_fronts.specs.ygg_bank.Making.{made}
-use Rattle.ygg_fronts.specs.ygg_bank.Nodes.{Extends}
-use Rattle.ygg_fronts.specs.ygg_bank.Values.{Inputs, Values}
-use Rattle.ygg_fronts.specs.ygg_bank.declared.node.Node.{Node}
-use Rattle.ygg_fronts.specs.ygg_bank.declared.node.Node.TheVariants.{Input}
-use Rattle.ygg_fronts.specs.ygg_shape_cells_proofs_Wider.{shaped_wider}
-use Rattle.ygg_fronts.proofs.of_ygg_shape.Freshness.{row_on, rows_on, fresh_grows, fresh_below, fresh_gives, below_as}
-use Rattle.ygg_fronts.specs.ygg_shape_proofs_Keeps.{each_from_keeps}
-use Rattle.ygg_fronts.specs.ygg_shape.Fresh.{fresh_row, fresh_made, words_of, given_value}
-use Rattle.ygg_fronts.specs.ygg_sym_expr.Meaning.{Grows, Gives}
-use Rattle.ygg_fronts.proofs.of_ygg_sym_laws.Lows.{low_fits}
-use Rattle.ygg_fronts.specs.ygg_sym_laws.Lows.{low_worth}
+use Rattle.ygg_sym_laws.specs.ygg_meaning.Shapes.{shape_in, env_fits}
+use Rattle.ygg_sym_laws.specs.ygg_rules.declared.rule.RuleKind.{RuleKind}
+use Rattle.ygg_sym_laws.specs.ygg_bank_proofs_Made.{made_grows, added_there}
+use Rattle.ygg_sym_laws.specs.ygg_bank_proofs_Meaning.{fits_fewer}
+use Rattle.ygg_sym_laws.proofs.of_ygg_bank.Places.{in_front}
+use Rattle.ygg_sym_laws.specs.ygg_bank_proofs_Widths.{extends_self, extends_both}
+use Rattle.ygg_sym_laws.specs.ygg_bank.Inputs.{InputsBelow}
+use Rattle.ygg_sym_laws.specs.ygg_bank.Making.{made}
+use Rattle.ygg_sym_laws.specs.ygg_bank.Nodes.{Extends}
+use Rattle.ygg_sym_laws.specs.ygg_bank.Values.{Inputs, Values}
+use Rattle.ygg_sym_laws.specs.ygg_bank.declared.node.Node.{Node}
+use Rattle.ygg_sym_laws.specs.ygg_bank.declared.node.Node.TheVariants.{Input}
+use Rattle.ygg_sym_laws.specs.ygg_shape_cells_proofs_Wider.{shaped_wider}
+use Rattle.ygg_sym_laws.proofs.of_ygg_shape.Freshness.{row_on, rows_on, fresh_grows, fresh_below, fresh_gives, below_as}
+use Rattle.ygg_sym_laws.specs.ygg_shape_cells_proofs_Keeps.{each_from_keeps}
+use Rattle.ygg_sym_laws.specs.ygg_shape.Fresh.{fresh_row, fresh_made, words_of, given_value}
+use Rattle.ygg_sym_laws.specs.ygg_sym_expr.Meaning.{Grows, Gives}
+use Rattle.ygg_sym_laws.proofs.Lows.{low_fits}
+use Rattle.ygg_sym_laws.specs.Lows.{low_worth}
 use Rattle.ygg_oblige_laws.specs.LayerTerms.{ShapesKept}
 use Rattle.ygg_oblige_laws.specs.TermStates.{words_in, fresh_all}
 use Rattle.ygg_oblige_laws.proofs.PieceDigits.{env_digits}

@@ -2,18 +2,18 @@
 use Rattle.std.proofs.Common.{◌≡◌, ◌≤◌, ◌+◌, ◌*◌, ◌&&◌, ℕ, Bool, true, List, [], ◌∷◌, sym, ap, ◌∙◌, subst, arith}
 use Rattle.std.proofs.lemmas.List.Elements.{All-nil, All-cons, All-head, All-tail}
 use Rattle.std.specs.Prelude.{All}
-use Rattle.ygg_fronts.specs.ygg_type_sound_proofs_Tests.{left, right}
-use Rattle.ygg_fronts.specs.ygg_meaning.Environments.{Env}
-use Rattle.ygg_fronts.specs.ygg_meaning.Layer.{ClosedLayer}
-use Rattle.ygg_fronts.specs.ygg_meaning.Obligations.{Schedule, Obligation}
-use Rattle.ygg_fronts.specs.ygg_meaning.Refines.{Below}
-use Rattle.ygg_fronts.specs.ygg_meaning.Related.{shaped, all_true, relates}
-use Rattle.ygg_fronts.specs.ygg_meaning.Shapes.{env_fits}
-use Rattle.ygg_fronts.specs.ygg_bank.Values.{Inputs, Values}
-use Rattle.ygg_fronts.specs.ygg_bank.declared.node.Node.{Node}
-use Rattle.ygg_fronts.specs.ygg_sym_runs.Meaning.{is_set}
-use Rattle.ygg_fronts.specs.ygg_sym_laws.Below.{places_on, failure_room}
-use Rattle.ygg_fronts.specs.ygg_sym_laws.Means.{AreBits}
+use Rattle.ygg_sym_laws.specs.ygg_meaning_laws_proofs_Tests.{left, right}
+use Rattle.ygg_sym_laws.specs.ygg_meaning.Environments.{Env}
+use Rattle.ygg_sym_laws.specs.ygg_meaning.Layer.{ClosedLayer}
+use Rattle.ygg_sym_laws.specs.ygg_meaning.Obligations.{Schedule, Obligation}
+use Rattle.ygg_sym_laws.specs.ygg_meaning.Refines.{Below}
+use Rattle.ygg_sym_laws.specs.ygg_meaning.Related.{shaped, all_true, relates}
+use Rattle.ygg_sym_laws.specs.ygg_meaning.Shapes.{env_fits}
+use Rattle.ygg_sym_laws.specs.ygg_bank.Values.{Inputs, Values}
+use Rattle.ygg_sym_laws.specs.ygg_bank.declared.node.Node.{Node}
+use Rattle.ygg_sym_laws.specs.ygg_sym_runs.Meaning.{is_set}
+use Rattle.ygg_sym_laws.specs.Below.{places_on, failure_room}
+use Rattle.ygg_sym_laws.specs.Means.{AreBits}
 use Rattle.ygg_oblige_laws.specs.LayerTerms.{ShapesKept}
 use Rattle.ygg_oblige_laws.specs.Numbers.{Numbers, numbers_of, block_of}
 use Rattle.ygg_oblige_laws.specs.TermStates.{Starting, words_in, state_words}

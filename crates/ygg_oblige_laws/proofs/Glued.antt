@@ -37,13 +37,13 @@ use Rattle.std.proofs.lemmas.Nat.{pow_pos}
 use Rattle.std.proofs.lemmas.List.Elements.{All-head, All-tail, All-cons, All-nil, All-weaker}
 use Rattle.std.proofs.Math.Pow.{pow_mono}
 use Rattle.ygg_value.specs.Words.{bit_of}
-use Rattle.ygg_fronts.specs.ygg_type_sound_proofs_Tests.{left as first_of, right as second_of}
-use Rattle.ygg_fronts.specs.ygg_bank_proofs_Widths.{stored_can}
-use Rattle.ygg_fronts.specs.ygg_bank.Nodes.{InOrder}
-use Rattle.ygg_fronts.specs.ygg_bank.Values.{InputsFit}
-use Rattle.ygg_fronts.specs.ygg_bank.declared.node.Node.{Node}
-use Rattle.ygg_fronts.specs.ygg_bank.declared.node.Node.TheVariants.{Input}
-use Rattle.ygg_fronts.specs.ygg_shape_words_proofs_Terms.{bit_is}
+use Rattle.ygg_sym_laws.specs.ygg_meaning_laws_proofs_Tests.{left as first_of, right as second_of}
+use Rattle.ygg_sym_laws.specs.ygg_bank_proofs_Widths.{stored_can}
+use Rattle.ygg_sym_laws.specs.ygg_bank.Nodes.{InOrder}
+use Rattle.ygg_sym_laws.specs.ygg_bank.Values.{InputsFit}
+use Rattle.ygg_sym_laws.specs.ygg_bank.declared.node.Node.{Node}
+use Rattle.ygg_sym_laws.specs.ygg_bank.declared.node.Node.TheVariants.{Input}
+use Rattle.ygg_sym_laws.specs.ygg_shape_words_proofs_Terms.{bit_is}
 use Rattle.ygg_oblige_laws.specs.Inputs.{word_width, AreDigits, Part, is_within, glued, InTurn, InputTakes, PartFits, GluedMeans}
 
 take_there : {X : Type 0} (xs : List X) (j k : ℕ) (x : X) → j < k → slice_get xs j ≡ Some x → slice_get (take k xs) j ≡ Some x

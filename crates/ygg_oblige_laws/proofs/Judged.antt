@@ -5,7 +5,7 @@ use Rattle.ygg_oblige_laws.specs.ygg_meaning.Layer.{ClosedLayer}
 use Rattle.ygg_oblige_laws.specs.ygg_meaning.Obligations.{Halt, Schedule, Obligation, Again, StopsAt}
 use Rattle.ygg_oblige_laws.specs.ygg_meaning.Refines.{Below, machine_below}
 use Rattle.ygg_oblige_laws.specs.ygg_meaning.Violates.{End, Meets, Violates, shapes_fit, spec_after}
-use Rattle.ygg_oblige_laws.proofs.of_ygg_direct.OneEnd.{one_conclusion}
+use Rattle.ygg_oblige_laws.proofs.of_ygg_meaning_laws.OneEnd.{one_conclusion}
 use Rattle.ygg_oblige_laws.specs.ygg_bank.Values.{Values}
 use Rattle.ygg_oblige_laws.specs.ygg_bank.declared.node.Id.{Id}
 use Rattle.ygg_oblige_laws.specs.ygg_bank.declared.node.Node.{Node}

@@ -13,9 +13,9 @@ use Rattle.ygg_oblige_laws.specs.ygg_meaning.Refines.{Below}
 use Rattle.ygg_oblige_laws.specs.ygg_rules.declared.rule.RuleKind.{RuleKind}
 use Rattle.ygg_oblige_laws.specs.ygg_sym_laws.Below.{signatures_on}
 use Rattle.ygg_oblige_laws.specs.ygg_sym_laws.Typed.{BlockTyped}
-use Rattle.ygg_fronts.proofs.AnyLayer.{runs_are_named, falls_are_named}
-use Rattle.ygg_fronts.specs.SymLaws.{OverTyped}
-use Rattle.ygg_fronts.specs.Named.{RunNamed, FallNamed}
+use Rattle.ygg_sym_laws.proofs.FrontAnyLayer.{runs_are_named, falls_are_named}
+use Rattle.ygg_sym_laws.specs.SymLaws.{OverTyped}
+use Rattle.ygg_sym_laws.specs.Named.{RunNamed, FallNamed}
 use Rattle.ygg_oblige_laws.specs.LayerTerms.{OperationFits, LayerTyped}
 use Rattle.ygg_oblige_laws.specs.Numbers.{arguments_of, block_of}
 use Rattle.ygg_oblige_laws.specs.LayerMeans.{OperationMeans, TickMeans, LayerMeans}

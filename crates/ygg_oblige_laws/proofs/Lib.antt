@@ -1,5 +1,8 @@
-pub use Rattle.ygg_fronts.proofs.of_ygg_type_sound
-pub use Rattle.ygg_fronts.proofs.of_ygg_sym_laws.AnyLayer
+pub use Rattle.ygg_sym_laws.proofs.of_ygg_meaning_laws
+pub use Rattle.ygg_sym_laws.proofs.AnyLayer
+pub use Rattle.ygg_shape_hypothesis.proofs as of_ygg_shape_hypothesis
+pub use Rattle.ygg_sym_laws.proofs.of_ygg_bank
+pub use Rattle.ygg_sym_laws.proofs.of_ygg_sym_runs
 pub mod Glued
 pub mod PieceDigits
 pub mod Fresh
@@ -11,10 +14,6 @@ pub mod Placed
 pub mod AnyPicks
 pub mod Outcomes
 pub mod Steps
-pub use Rattle.ygg_shape_hypothesis.proofs as of_ygg_shape_hypothesis
-pub use Rattle.ygg_fronts.proofs.of_ygg_bank
-pub use Rattle.ygg_fronts.proofs.of_ygg_direct
-pub use Rattle.ygg_fronts.proofs.of_ygg_sym_runs
 pub mod Digits
 pub mod Setting
 pub mod Wholes
@@ -37,7 +36,7 @@ pub mod Widening
 pub mod Formulas
 pub mod Blocks
 pub mod Files
-pub mod Given
+pub mod ValuesGiven
 pub mod Judged
 pub mod Recovering
 pub mod Known

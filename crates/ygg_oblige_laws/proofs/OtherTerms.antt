@@ -4,25 +4,25 @@ use Rattle.std.proofs.lemmas.List.Elements.{All-cons, All-head, All-tail}
 use Rattle.std.specs.Prelude.{None}
 use Rattle.ygg_oblige_laws.specs.Steps.{end_worth}
 use Rattle.ygg_syntax.specs.declared.tree.Def.{Def}
-use Rattle.ygg_fronts.specs.ygg_type_sound_proofs_Tests.{right}
-use Rattle.ygg_fronts.specs.ygg_meaning.Layer.{ClosedLayer, BlockRuns}
-use Rattle.ygg_fronts.specs.ygg_meaning.Machine.{on}
-use Rattle.ygg_fronts.specs.ygg_meaning.Obligations.{Schedule, Init, Idle, Again}
-use Rattle.ygg_fronts.specs.ygg_meaning.Refines.{Below, machine_below}
-use Rattle.ygg_fronts.specs.ygg_meaning.Related.{all_true, settles}
-use Rattle.ygg_fronts.specs.ygg_meaning.Shapes.{env_fits, zeros_of}
-use Rattle.ygg_fronts.specs.ygg_meaning.Violates.{End, Violates}
-use Rattle.ygg_fronts.specs.ygg_rules.declared.rule.RuleKind.{RuleKind}
-use Rattle.ygg_fronts.specs.ygg_bank_proofs_Meaning.{fits_fewer}
-use Rattle.ygg_fronts.specs.ygg_bank_proofs_Widths.{extends_both}
-use Rattle.ygg_fronts.specs.ygg_bank.Makes.{Make, and_make}
-use Rattle.ygg_fronts.specs.ygg_bank.Nodes.{Extends}
-use Rattle.ygg_fronts.specs.ygg_bank.Values.{Inputs, Values, Fits, value_of}
-use Rattle.ygg_fronts.specs.ygg_bank.declared.node.Id.{Id}
-use Rattle.ygg_fronts.specs.ygg_bank.declared.node.Node.{Node}
-use Rattle.ygg_fronts.specs.ygg_sym_expr.Meaning.{Grows}
-use Rattle.ygg_fronts.specs.ygg_sym_laws.Below.{lost_made}
-use Rattle.ygg_fronts.specs.ygg_sym_laws.Means.{terms_of}
+use Rattle.ygg_sym_laws.specs.ygg_meaning_laws_proofs_Tests.{right}
+use Rattle.ygg_sym_laws.specs.ygg_meaning.Layer.{ClosedLayer, BlockRuns}
+use Rattle.ygg_sym_laws.specs.ygg_meaning.Machine.{on}
+use Rattle.ygg_sym_laws.specs.ygg_meaning.Obligations.{Schedule, Init, Idle, Again}
+use Rattle.ygg_sym_laws.specs.ygg_meaning.Refines.{Below, machine_below}
+use Rattle.ygg_sym_laws.specs.ygg_meaning.Related.{all_true, settles}
+use Rattle.ygg_sym_laws.specs.ygg_meaning.Shapes.{env_fits, zeros_of}
+use Rattle.ygg_sym_laws.specs.ygg_meaning.Violates.{End, Violates}
+use Rattle.ygg_sym_laws.specs.ygg_rules.declared.rule.RuleKind.{RuleKind}
+use Rattle.ygg_sym_laws.specs.ygg_bank_proofs_Meaning.{fits_fewer}
+use Rattle.ygg_sym_laws.specs.ygg_bank_proofs_Widths.{extends_both}
+use Rattle.ygg_sym_laws.specs.ygg_bank.Makes.{Make, and_make}
+use Rattle.ygg_sym_laws.specs.ygg_bank.Nodes.{Extends}
+use Rattle.ygg_sym_laws.specs.ygg_bank.Values.{Inputs, Values, Fits, value_of}
+use Rattle.ygg_sym_laws.specs.ygg_bank.declared.node.Id.{Id}
+use Rattle.ygg_sym_laws.specs.ygg_bank.declared.node.Node.{Node}
+use Rattle.ygg_sym_laws.specs.ygg_sym_expr.Meaning.{Grows}
+use Rattle.ygg_sym_laws.specs.Below.{lost_made}
+use Rattle.ygg_sym_laws.specs.Means.{terms_of}
 use Rattle.ygg_oblige_laws.specs.LayerTerms.{LayerTyped}
 use Rattle.ygg_oblige_laws.specs.Meaning.{IsTermOf}
 use Rattle.ygg_oblige_laws.specs.Numbers.{numbers_of}

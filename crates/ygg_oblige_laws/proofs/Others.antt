@@ -3,7 +3,7 @@
 use Rattle.std.proofs.Common.{◌≡◌, ◌&&◌, ℕ, true, List, [], length, Some, refl, sym, ap, ◌∙◌, subst}
 use Rattle.std.specs.Prelude.{is_some}
 use Rattle.ygg_syntax.specs.declared.tree.Def.{Def}
-use Rattle.ygg_oblige_laws.specs.ygg_type_sound_proofs_Tests.{right}
+use Rattle.ygg_oblige_laws.specs.ygg_meaning_laws_proofs_Tests.{right}
 use Rattle.ygg_oblige_laws.specs.ygg_meaning.Environments.{Env}
 use Rattle.ygg_oblige_laws.specs.ygg_meaning.Layer.{ClosedLayer, BlockRuns}
 use Rattle.ygg_oblige_laws.specs.ygg_meaning.Machine.{on, based}
@@ -26,10 +26,10 @@ use Rattle.ygg_oblige_laws.specs.ygg_sym_runs.Lows.{low_worth}
 use Rattle.ygg_oblige_laws.specs.ygg_sym_runs_proofs_Lows.{low_wider}
 use Rattle.ygg_oblige_laws.specs.ygg_sym_laws.Below.{zeros_made, lows_at_start, lost_made}
 use Rattle.ygg_oblige_laws.specs.ygg_sym_laws.Means.{terms_of, Begins}
-use Rattle.ygg_fronts.specs.Fronts.{low_at_start, run_picks, run_stop, left_at, fall_picks}
-use Rattle.ygg_fronts.specs.Laws.{FallsThere}
-use Rattle.ygg_fronts.proofs.NamedRuns.{starts}
-use Rattle.ygg_fronts.specs.Named.{LossNamed, StartNamed, RunNamed, FallNamed}
+use Rattle.ygg_sym_laws.specs.Fronts.{low_at_start, run_picks, run_stop, left_at, fall_picks}
+use Rattle.ygg_sym_laws.specs.FrontLaws.{FallsThere}
+use Rattle.ygg_sym_laws.proofs.NamedRuns.{starts}
+use Rattle.ygg_sym_laws.specs.Named.{LossNamed, StartNamed, RunNamed, FallNamed}
 use Rattle.ygg_oblige_laws.specs.LayerTerms.{LayerTyped}
 use Rattle.ygg_oblige_laws.specs.Numbers.{numbers_of}
 use Rattle.ygg_oblige_laws.specs.TermStates.{Starting}
@@ -48,7 +48,7 @@ use Rattle.ygg_oblige_laws.proofs.Wholes.{woken}
 use Rattle.ygg_oblige_laws.specs.LayerMeans.{LayerMeans}
 use Rattle.ygg_oblige_laws.specs.Parts.{PartsMean}
 use Rattle.ygg_oblige_laws.specs.Schedules.{woken_picks, wake_picks, again_from, schedule_from, schedule_of}
-use Rattle.ygg_oblige_laws.proofs.Given.{saying, some_stop}
+use Rattle.ygg_oblige_laws.proofs.ValuesGiven.{saying, some_stop}
 use Rattle.ygg_oblige_laws.proofs.Judged.{either, not_both, stops_there, Judged, NamedSo, unmet_so, met_plain, met_sided, met_again}
 use Rattle.ygg_oblige_laws.proofs.Recovering.{recovery_named, recovers_named}
 

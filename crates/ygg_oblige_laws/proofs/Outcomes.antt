@@ -9,59 +9,59 @@ use Rattle.ygg_syntax.specs.declared.tree.Block.{Block}
 use Rattle.ygg_syntax.specs.declared.tree.Declared.{Declared}
 use Rattle.ygg_syntax.specs.declared.tree.Def.{Def}
 use Rattle.ygg_syntax.specs.declared.tree.Operation.{Operation}
-use Rattle.ygg_fronts.specs.ygg_type_rules.Names.{Named}
-use Rattle.ygg_fronts.specs.ygg_type_rules.Definitions.{with_definitions}
-use Rattle.ygg_fronts.specs.ygg_type_rules.Layers.{operation_signature}
-use Rattle.ygg_fronts.specs.ygg_type_rules.declared.scope.Signature.{Signature}
-use Rattle.ygg_fronts.specs.ygg_meaning.Environments.{Env, bind}
-use Rattle.ygg_fronts.specs.ygg_meaning.Layer.{ClosedLayer}
-use Rattle.ygg_fronts.specs.ygg_meaning.Machine.{Picks, State, based}
-use Rattle.ygg_fronts.specs.ygg_meaning.Obligations.{Obligation, Init, CallOf, CutOf, TickOf, CutTickOf, Idle, Again, crash_picks}
-use Rattle.ygg_fronts.specs.ygg_meaning.Refines.{Below}
-use Rattle.ygg_fronts.specs.ygg_meaning.Related.{related}
-use Rattle.ygg_fronts.specs.ygg_meaning.Spec.{SpecStarts}
-use Rattle.ygg_fronts.specs.ygg_meaning.Violates.{same_answer}
-use Rattle.ygg_fronts.specs.ygg_type_sound.Kinds.{keeps, on_crash_keeps}
-use Rattle.ygg_fronts.specs.ygg_type_sound.Questions.{gives}
-use Rattle.ygg_fronts.specs.ygg_rules.declared.rule.RuleKind.{RuleKind}
-use Rattle.ygg_fronts.specs.ygg_bank_proofs_Made.{made_grows}
-use Rattle.ygg_fronts.specs.ygg_bank_proofs_Meaning.{fits_fewer}
-use Rattle.ygg_fronts.specs.ygg_bank_proofs_Widths.{extends_both}
-use Rattle.ygg_fronts.specs.ygg_bank.Makes.{Make}
-use Rattle.ygg_fronts.specs.ygg_bank.Making.{made}
-use Rattle.ygg_fronts.specs.ygg_bank.Nodes.{Extends}
-use Rattle.ygg_fronts.specs.ygg_bank.Values.{Inputs, Values}
-use Rattle.ygg_fronts.specs.ygg_bank.declared.node.Node.{Node}
-use Rattle.ygg_fronts.specs.ygg_bank.declared.node.Node.TheVariants.{Const, Bin}
-use Rattle.ygg_fronts.specs.ygg_shape_words_proofs_Keeps.{Stays}
-use Rattle.ygg_fronts.specs.ygg_shape_cells.declared.terms.SymValue.{SymValue}
-use Rattle.ygg_fronts.specs.ygg_direct.Acts.{next_of}
-use Rattle.ygg_fronts.specs.ygg_direct.Places.{left_after, Result, outcome_by_place}
-use Rattle.ygg_fronts.specs.ygg_direct.SpecPlaces.{crash_by_place, then_by_place}
-use Rattle.ygg_fronts.specs.ygg_sym_expr.Exprs.{SymFunctions}
-use Rattle.ygg_fronts.specs.ygg_sym_expr.Meaning.{Grows, Gives}
-use Rattle.ygg_fronts.specs.ygg_sym_expr.Names.{sym_bind}
-use Rattle.ygg_fronts.specs.ygg_sym_expr_proofs_Grows.{FunctionsGrow, functions_grow}
-use Rattle.ygg_fronts.specs.ygg_sym_expr_proofs_Keeps.{Keeps, FunctionsKeep}
-use Rattle.ygg_fronts.specs.ygg_sym_expr_proofs_Shaped.{some_wider}
-use Rattle.ygg_fronts.specs.ygg_sym_expr_proofs_Values.{FunctionsMean}
-use Rattle.ygg_fronts.specs.ygg_sym_laws.Meaning.{AnswerShaped, answer_worth}
-use Rattle.ygg_fronts.proofs.of_ygg_sym_laws.Blocks.{BlockOfSpec, values_worth, low_stands, block_made_gives}
-use Rattle.ygg_fronts.proofs.of_ygg_sym_laws.Chosen.{block_end, nth, placed_end}
-use Rattle.ygg_fronts.proofs.of_ygg_sym_laws.Lows.{low_wider}
-use Rattle.ygg_fronts.proofs.of_ygg_sym_laws.SpecKeeps.{block_keeps, crash_keeps, then_keeps}
-use Rattle.ygg_fronts.proofs.of_ygg_sym_laws.SpecStops.{SomeBlock, FallsTyped, crash_gives, then_grows, then_gives}
-use Rattle.ygg_fronts.proofs.of_ygg_sym_laws.Specs.{given_pick_means}
-use Rattle.ygg_fronts.specs.ygg_sym_laws.Disks.{Done, done}
-use Rattle.ygg_fronts.specs.ygg_sym_laws.Lows.{LowShaped, low_worth}
-use Rattle.ygg_fronts.specs.ygg_sym_laws.SpecCuts.{block_made, crash_made, then_crash_made}
-use Rattle.ygg_fronts.specs.ygg_sym_laws.Specs.{given_pick}
-use Rattle.ygg_fronts.proofs.of_ygg_sym_laws.Zeros.{zeros_made_keep}
-use Rattle.ygg_fronts.specs.ygg_sym_laws.Below.{zeros_made, start_made}
-use Rattle.ygg_fronts.specs.ygg_sym_laws.Means.{terms_of, values_in}
-use Rattle.ygg_fronts.specs.ygg_sym_laws.Typed.{SpecBlockTyped}
-use Rattle.ygg_fronts.proofs.of_ygg_sym_laws.AnyLayer.{spec_start}
-use Rattle.ygg_fronts.proofs.of_ygg_sym_laws.SpecBegun.{falls_typed}
+use Rattle.ygg_sym_laws.specs.ygg_type_rules.Names.{Named}
+use Rattle.ygg_sym_laws.specs.ygg_type_rules.Definitions.{with_definitions}
+use Rattle.ygg_sym_laws.specs.ygg_type_rules.Layers.{operation_signature}
+use Rattle.ygg_sym_laws.specs.ygg_type_rules.declared.scope.Signature.{Signature}
+use Rattle.ygg_sym_laws.specs.ygg_meaning.Environments.{Env, bind}
+use Rattle.ygg_sym_laws.specs.ygg_meaning.Layer.{ClosedLayer}
+use Rattle.ygg_sym_laws.specs.ygg_meaning.Machine.{Picks, State, based}
+use Rattle.ygg_sym_laws.specs.ygg_meaning.Obligations.{Obligation, Init, CallOf, CutOf, TickOf, CutTickOf, Idle, Again, crash_picks}
+use Rattle.ygg_sym_laws.specs.ygg_meaning.Refines.{Below}
+use Rattle.ygg_sym_laws.specs.ygg_meaning.Related.{related}
+use Rattle.ygg_sym_laws.specs.ygg_meaning.Spec.{SpecStarts}
+use Rattle.ygg_sym_laws.specs.ygg_meaning.Violates.{same_answer}
+use Rattle.ygg_sym_laws.specs.ygg_meaning_laws.Kinds.{keeps, on_crash_keeps}
+use Rattle.ygg_sym_laws.specs.ygg_meaning_laws.Questions.{gives}
+use Rattle.ygg_sym_laws.specs.ygg_rules.declared.rule.RuleKind.{RuleKind}
+use Rattle.ygg_sym_laws.specs.ygg_bank_proofs_Made.{made_grows}
+use Rattle.ygg_sym_laws.specs.ygg_bank_proofs_Meaning.{fits_fewer}
+use Rattle.ygg_sym_laws.specs.ygg_bank_proofs_Widths.{extends_both}
+use Rattle.ygg_sym_laws.specs.ygg_bank.Makes.{Make}
+use Rattle.ygg_sym_laws.specs.ygg_bank.Making.{made}
+use Rattle.ygg_sym_laws.specs.ygg_bank.Nodes.{Extends}
+use Rattle.ygg_sym_laws.specs.ygg_bank.Values.{Inputs, Values}
+use Rattle.ygg_sym_laws.specs.ygg_bank.declared.node.Node.{Node}
+use Rattle.ygg_sym_laws.specs.ygg_bank.declared.node.Node.TheVariants.{Const, Bin}
+use Rattle.ygg_sym_laws.specs.ygg_shape_words_proofs_Keeps.{Stays}
+use Rattle.ygg_sym_laws.specs.ygg_shape_cells.declared.terms.SymValue.{SymValue}
+use Rattle.ygg_sym_laws.specs.ygg_meaning_laws.Acts.{next_of}
+use Rattle.ygg_sym_laws.specs.ygg_meaning_laws.Places.{left_after, Result, outcome_by_place}
+use Rattle.ygg_sym_laws.specs.ygg_meaning_laws.SpecPlaces.{crash_by_place, then_by_place}
+use Rattle.ygg_sym_laws.specs.ygg_sym_expr.Exprs.{SymFunctions}
+use Rattle.ygg_sym_laws.specs.ygg_sym_expr.Meaning.{Grows, Gives}
+use Rattle.ygg_sym_laws.specs.ygg_sym_expr.Names.{sym_bind}
+use Rattle.ygg_sym_laws.specs.ygg_sym_expr_proofs_Grows.{FunctionsGrow, functions_grow}
+use Rattle.ygg_sym_laws.specs.ygg_sym_expr_proofs_Keeps.{Keeps, FunctionsKeep}
+use Rattle.ygg_sym_laws.specs.ygg_sym_expr_proofs_Shaped.{some_wider}
+use Rattle.ygg_sym_laws.specs.ygg_sym_expr_proofs_Values.{FunctionsMean}
+use Rattle.ygg_sym_laws.specs.Meaning.{AnswerShaped, answer_worth}
+use Rattle.ygg_sym_laws.proofs.Blocks.{BlockOfSpec, values_worth, low_stands, block_made_gives}
+use Rattle.ygg_sym_laws.proofs.Chosen.{block_end, nth, placed_end}
+use Rattle.ygg_sym_laws.proofs.Lows.{low_wider}
+use Rattle.ygg_sym_laws.proofs.SpecKeeps.{block_keeps, crash_keeps, then_keeps}
+use Rattle.ygg_sym_laws.proofs.SpecStops.{SomeBlock, FallsTyped, crash_gives, then_grows, then_gives}
+use Rattle.ygg_sym_laws.proofs.Specs.{given_pick_means}
+use Rattle.ygg_sym_laws.specs.Disks.{Done, done}
+use Rattle.ygg_sym_laws.specs.Lows.{LowShaped, low_worth}
+use Rattle.ygg_sym_laws.specs.SpecCuts.{block_made, crash_made, then_crash_made}
+use Rattle.ygg_sym_laws.specs.Specs.{given_pick}
+use Rattle.ygg_sym_laws.proofs.of_ygg_sym_runs.DeclaredZeros.{zeros_made_keep}
+use Rattle.ygg_sym_laws.specs.Below.{zeros_made, start_made}
+use Rattle.ygg_sym_laws.specs.Means.{terms_of, values_in}
+use Rattle.ygg_sym_laws.specs.Typed.{SpecBlockTyped}
+use Rattle.ygg_sym_laws.proofs.AnyLayer.{spec_start}
+use Rattle.ygg_sym_laws.proofs.SpecBegun.{falls_typed}
 use Rattle.ygg_oblige_laws.specs.LayerTerms.{OperationFits, LayerTyped}
 use Rattle.ygg_oblige_laws.specs.Outcomes.{fall_with_picks, leaving, outcome_made}
 use Rattle.ygg_oblige_laws.specs.TermStates.{Trio, related_made}

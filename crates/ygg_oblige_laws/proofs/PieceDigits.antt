@@ -38,12 +38,12 @@ use Rattle.ygg_value.specs.declared.row.Value.{Value}
 use Rattle.ygg_value.specs.declared.row.Value.TheVariants as value
 use Rattle.ygg_value.specs.declared.shape.Shape.{Shape}
 use Rattle.ygg_syntax.specs.declared.tree.Declared.{Declared}
-use Rattle.ygg_fronts.specs.ygg_meaning.Environments.{Env}
-use Rattle.ygg_fronts.specs.ygg_meaning.Shapes.{shape_in, fits, env_fits}
-use Rattle.ygg_fronts.specs.ygg_type_sound_proofs_Tests.{left as first_of, right as second_of, bytes_same}
-use Rattle.ygg_fronts.specs.ygg_type_sound_proofs_Fits.{fits_has}
-use Rattle.ygg_fronts.specs.ygg_bank.Values.{Inputs}
-use Rattle.ygg_fronts.specs.ygg_shape.Fresh.{words_of, numbers_from, rows_from, given_value}
+use Rattle.ygg_sym_laws.specs.ygg_meaning.Environments.{Env}
+use Rattle.ygg_sym_laws.specs.ygg_meaning.Shapes.{shape_in, fits, env_fits}
+use Rattle.ygg_sym_laws.specs.ygg_meaning_laws_proofs_Tests.{left as first_of, right as second_of, bytes_same}
+use Rattle.ygg_sym_laws.specs.ygg_meaning_laws_proofs_Fits.{fits_has}
+use Rattle.ygg_sym_laws.specs.ygg_bank.Values.{Inputs}
+use Rattle.ygg_sym_laws.specs.ygg_shape.Fresh.{words_of, numbers_from, rows_from, given_value}
 use Rattle.ygg_oblige_laws.specs.LayerTerms.{ShapesKept}
 use Rattle.ygg_oblige_laws.specs.TermStates.{words_in}
 use Rattle.ygg_oblige_laws.specs.Inputs.{given_env, width_of, word_width, AreDigits, EnvDigits}

@@ -30,22 +30,22 @@ use Rattle.ygg_syntax.specs.declared.grammar.BlockKind.TheVariants.{Spec}
 use Rattle.ygg_syntax.specs.declared.tree.Block.{Block}
 use Rattle.ygg_syntax.specs.declared.tree.Operation.{Operation}
 use Rattle.ygg_value.specs.declared.row.Value.{Value}
-use Rattle.ygg_fronts.specs.ygg_meaning.Environments.{Env, bind}
-use Rattle.ygg_fronts.specs.ygg_meaning.Layer.{ClosedLayer}
-use Rattle.ygg_fronts.specs.ygg_meaning.Machine.{Picks}
-use Rattle.ygg_fronts.specs.ygg_meaning.Obligations.{Schedule, Obligation, Init, CallOf, CutOf, TickOf, CutTickOf, Idle, Again, NoPicksPass, crash_picks}
-use Rattle.ygg_fronts.specs.ygg_meaning.Spec.{Outcome, chosen, then_block, call_outcome, crash_outcome, fall_with, start_outcome}
-use Rattle.ygg_fronts.specs.ygg_meaning.Violates.{End, most, passes, spec_after}
-use Rattle.ygg_fronts.specs.ygg_type_sound.Kinds.{keeps, on_crash_keeps}
-use Rattle.ygg_fronts.specs.ygg_direct.Acts.{next_of, later}
-use Rattle.ygg_fronts.specs.ygg_direct.Places.{left_after, Result, outcome_by_place}
-use Rattle.ygg_fronts.specs.ygg_direct.SpecPlaces.{crash_by_place, then_by_place, as_outcome, ChoosesAlone}
-use Rattle.ygg_fronts.specs.ygg_direct_proofs_Choosing.{choices_room}
-use Rattle.ygg_fronts.proofs.of_ygg_direct.Failing.{fails_by_place}
-use Rattle.ygg_fronts.proofs.of_ygg_direct.Matching.{Fronts, Puts, Matches, block_matches, then_matches, fall_on_crash, fails_alike}
-use Rattle.ygg_fronts.specs.ygg_direct_proofs_Placing.{after_more, zeros_long, long_append}
-use Rattle.ygg_fronts.proofs.of_ygg_sym_laws.Chosen.{room, same_below, nth, placed_end}
-use Rattle.ygg_fronts.proofs.of_ygg_sym_laws.SpecFalls.{bits_after, crash_end, then_end}
+use Rattle.ygg_sym_laws.specs.ygg_meaning.Environments.{Env, bind}
+use Rattle.ygg_sym_laws.specs.ygg_meaning.Layer.{ClosedLayer}
+use Rattle.ygg_sym_laws.specs.ygg_meaning.Machine.{Picks}
+use Rattle.ygg_sym_laws.specs.ygg_meaning.Obligations.{Schedule, Obligation, Init, CallOf, CutOf, TickOf, CutTickOf, Idle, Again, NoPicksPass, crash_picks}
+use Rattle.ygg_sym_laws.specs.ygg_meaning.Spec.{Outcome, chosen, then_block, call_outcome, crash_outcome, fall_with, start_outcome}
+use Rattle.ygg_sym_laws.specs.ygg_meaning.Violates.{End, most, passes, spec_after}
+use Rattle.ygg_sym_laws.specs.ygg_meaning_laws.Kinds.{keeps, on_crash_keeps}
+use Rattle.ygg_sym_laws.specs.ygg_meaning_laws.Acts.{next_of, later}
+use Rattle.ygg_sym_laws.specs.ygg_meaning_laws.Places.{left_after, Result, outcome_by_place}
+use Rattle.ygg_sym_laws.specs.ygg_meaning_laws.SpecPlaces.{crash_by_place, then_by_place, as_outcome, ChoosesAlone}
+use Rattle.ygg_sym_laws.specs.ygg_meaning_laws_proofs_Choosing.{choices_room}
+use Rattle.ygg_sym_laws.proofs.of_ygg_meaning_laws.Failing.{fails_by_place}
+use Rattle.ygg_sym_laws.proofs.of_ygg_meaning_laws.Matching.{Fronts, Puts, Matches, block_matches, then_matches, fall_on_crash, fails_alike}
+use Rattle.ygg_sym_laws.specs.ygg_meaning_laws_proofs_Placing.{after_more, zeros_long, long_append}
+use Rattle.ygg_sym_laws.proofs.Chosen.{room, same_below, nth, placed_end}
+use Rattle.ygg_sym_laws.proofs.SpecFalls.{bits_after, crash_end, then_end}
 
 -- a step that leaves places at the end
 raised : (n k : ℕ) (O : Picks → Option Outcome) (P : Picks → Result) → Matches n O P → Matches (n + k) O P

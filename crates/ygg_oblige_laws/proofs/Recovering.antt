@@ -19,8 +19,8 @@ use Rattle.ygg_oblige_laws.specs.ygg_sym_runs.Laws.{picked_by}
 use Rattle.ygg_oblige_laws.specs.ygg_sym_runs.Lows.{LowShaped, low_worth}
 use Rattle.ygg_oblige_laws.specs.ygg_sym_laws.Below.{zeros_made}
 use Rattle.ygg_oblige_laws.specs.ygg_sym_laws.Means.{terms_of, WholeMeans}
-use Rattle.ygg_fronts.specs.Fronts.{run_picks}
-use Rattle.ygg_fronts.specs.Named.{RunNamed}
+use Rattle.ygg_sym_laws.specs.Fronts.{run_picks}
+use Rattle.ygg_sym_laws.specs.Named.{RunNamed}
 use Rattle.ygg_oblige_laws.specs.LayerTerms.{ShapesKept}
 use Rattle.ygg_oblige_laws.specs.Terms.{ran, recovered}
 use Rattle.ygg_oblige_laws.specs.Steps.{end_worth}

@@ -5,24 +5,24 @@ use Rattle.ygg_value.specs.declared.shape.Shape.{Shape}
 use Rattle.ygg_syntax.specs.declared.tree.Block.{Block}
 use Rattle.ygg_syntax.specs.declared.tree.Declared.{Declared}
 use Rattle.ygg_syntax.specs.declared.tree.Def.{Def}
-use Rattle.ygg_fronts.specs.ygg_meaning.Environments.{Env}
-use Rattle.ygg_fronts.specs.ygg_meaning.Layer.{ClosedLayer}
-use Rattle.ygg_fronts.specs.ygg_meaning.Machine.{State}
-use Rattle.ygg_fronts.specs.ygg_meaning.Progress.{Answer}
-use Rattle.ygg_fronts.specs.ygg_meaning.Obligations.{Schedule, Obligation}
-use Rattle.ygg_fronts.specs.ygg_meaning.Refines.{Below}
-use Rattle.ygg_fronts.specs.ygg_meaning.Related.{settled}
-use Rattle.ygg_fronts.specs.ygg_meaning.Shapes.{zeros_of}
-use Rattle.ygg_fronts.specs.ygg_meaning.Violates.{End, same_state}
-use Rattle.ygg_fronts.specs.ygg_rules.declared.rule.RuleKind.{RuleKind}
-use Rattle.ygg_fronts.specs.ygg_bank.Values.{Inputs, Values, Fits}
-use Rattle.ygg_fronts.specs.ygg_bank.declared.node.Id.{Id}
-use Rattle.ygg_fronts.specs.ygg_bank.declared.node.Node.{Node}
-use Rattle.ygg_fronts.specs.ygg_shape_cells.declared.terms.SymValue.{SymValue}
-use Rattle.ygg_fronts.specs.ygg_sym_runs.Meaning.{is_set}
-use Rattle.ygg_fronts.specs.ygg_sym_runs.Lows.{LowShaped, low_worth}
-use Rattle.ygg_fronts.specs.ygg_sym_laws.Below.{places_on}
-use Rattle.ygg_fronts.specs.ygg_sym_laws.Means.{AreBits, terms_of, Begins, AreWorth, EndsSo, WholeMeans, FallBits, AreFallBits, FallsTo}
+use Rattle.ygg_sym_laws.specs.ygg_meaning.Environments.{Env}
+use Rattle.ygg_sym_laws.specs.ygg_meaning.Layer.{ClosedLayer}
+use Rattle.ygg_sym_laws.specs.ygg_meaning.Machine.{State}
+use Rattle.ygg_sym_laws.specs.ygg_meaning.Progress.{Answer}
+use Rattle.ygg_sym_laws.specs.ygg_meaning.Obligations.{Schedule, Obligation}
+use Rattle.ygg_sym_laws.specs.ygg_meaning.Refines.{Below}
+use Rattle.ygg_sym_laws.specs.ygg_meaning.Related.{settled}
+use Rattle.ygg_sym_laws.specs.ygg_meaning.Shapes.{zeros_of}
+use Rattle.ygg_sym_laws.specs.ygg_meaning.Violates.{End, same_state}
+use Rattle.ygg_sym_laws.specs.ygg_rules.declared.rule.RuleKind.{RuleKind}
+use Rattle.ygg_sym_laws.specs.ygg_bank.Values.{Inputs, Values, Fits}
+use Rattle.ygg_sym_laws.specs.ygg_bank.declared.node.Id.{Id}
+use Rattle.ygg_sym_laws.specs.ygg_bank.declared.node.Node.{Node}
+use Rattle.ygg_sym_laws.specs.ygg_shape_cells.declared.terms.SymValue.{SymValue}
+use Rattle.ygg_sym_laws.specs.ygg_sym_runs.Meaning.{is_set}
+use Rattle.ygg_sym_laws.specs.ygg_sym_runs.Lows.{LowShaped, low_worth}
+use Rattle.ygg_sym_laws.specs.Below.{places_on}
+use Rattle.ygg_sym_laws.specs.Means.{AreBits, terms_of, Begins, AreWorth, EndsSo, WholeMeans, FallBits, AreFallBits, FallsTo}
 use Rattle.ygg_oblige_laws.specs.LayerTerms.{ShapesKept}
 use Rattle.ygg_oblige_laws.specs.Numbers.{Numbers, arguments_of}
 use Rattle.ygg_oblige_laws.specs.TermStates.{Starting}

@@ -4,28 +4,28 @@ use Rattle.std.proofs.lemmas.List.Elements.{All-cons, All-head, All-tail}
 use Rattle.std.specs.Prelude.{IsTrue, Option}
 use Rattle.ygg_value.specs.declared.shape.Shape.{Shape}
 use Rattle.ygg_syntax.specs.declared.tree.Def.{Def}
-use Rattle.ygg_fronts.specs.ygg_meaning.Environments.{Env}
-use Rattle.ygg_fronts.specs.ygg_meaning.Layer.{ClosedLayer, BlockRuns}
-use Rattle.ygg_fronts.specs.ygg_meaning.Machine.{Picks, on, based}
-use Rattle.ygg_fronts.specs.ygg_meaning.Obligations.{Schedule, Obligation}
-use Rattle.ygg_fronts.specs.ygg_meaning.Refines.{Below, machine_below}
-use Rattle.ygg_fronts.specs.ygg_meaning.Related.{shaped, all_true, relates}
-use Rattle.ygg_fronts.specs.ygg_meaning.Shapes.{env_fits}
-use Rattle.ygg_fronts.specs.ygg_meaning.Violates.{End, Violates}
-use Rattle.ygg_fronts.specs.ygg_type_sound.Blocks.{is_returned}
-use Rattle.ygg_fronts.specs.ygg_rules.declared.rule.RuleKind.{RuleKind}
-use Rattle.ygg_fronts.specs.ygg_bank_proofs_Meaning.{fits_fewer}
-use Rattle.ygg_fronts.specs.ygg_bank_proofs_Widths.{extends_both}
-use Rattle.ygg_fronts.specs.ygg_bank.Makes.{Make, and_make}
-use Rattle.ygg_fronts.specs.ygg_bank.Nodes.{Extends}
-use Rattle.ygg_fronts.specs.ygg_bank.Values.{Inputs, Values, Fits, value_of}
-use Rattle.ygg_fronts.specs.ygg_bank.declared.node.Id.{Id}
-use Rattle.ygg_fronts.specs.ygg_bank.declared.node.Node.{Node}
-use Rattle.ygg_fronts.specs.ygg_shape_cells.declared.terms.SymValue.{SymValue}
-use Rattle.ygg_fronts.specs.ygg_sym_expr.Meaning.{Grows}
-use Rattle.ygg_fronts.specs.ygg_sym_runs.Meaning.{answer_worth, is_set}
-use Rattle.ygg_fronts.specs.ygg_sym_runs.Lows.{LowShaped, low_worth}
-use Rattle.ygg_fronts.specs.ygg_sym_laws.Means.{terms_of, WholeMeans}
+use Rattle.ygg_sym_laws.specs.ygg_meaning.Environments.{Env}
+use Rattle.ygg_sym_laws.specs.ygg_meaning.Layer.{ClosedLayer, BlockRuns}
+use Rattle.ygg_sym_laws.specs.ygg_meaning.Machine.{Picks, on, based}
+use Rattle.ygg_sym_laws.specs.ygg_meaning.Obligations.{Schedule, Obligation}
+use Rattle.ygg_sym_laws.specs.ygg_meaning.Refines.{Below, machine_below}
+use Rattle.ygg_sym_laws.specs.ygg_meaning.Related.{shaped, all_true, relates}
+use Rattle.ygg_sym_laws.specs.ygg_meaning.Shapes.{env_fits}
+use Rattle.ygg_sym_laws.specs.ygg_meaning.Violates.{End, Violates}
+use Rattle.ygg_sym_laws.specs.ygg_meaning_laws.Blocks.{is_returned}
+use Rattle.ygg_sym_laws.specs.ygg_rules.declared.rule.RuleKind.{RuleKind}
+use Rattle.ygg_sym_laws.specs.ygg_bank_proofs_Meaning.{fits_fewer}
+use Rattle.ygg_sym_laws.specs.ygg_bank_proofs_Widths.{extends_both}
+use Rattle.ygg_sym_laws.specs.ygg_bank.Makes.{Make, and_make}
+use Rattle.ygg_sym_laws.specs.ygg_bank.Nodes.{Extends}
+use Rattle.ygg_sym_laws.specs.ygg_bank.Values.{Inputs, Values, Fits, value_of}
+use Rattle.ygg_sym_laws.specs.ygg_bank.declared.node.Id.{Id}
+use Rattle.ygg_sym_laws.specs.ygg_bank.declared.node.Node.{Node}
+use Rattle.ygg_sym_laws.specs.ygg_shape_cells.declared.terms.SymValue.{SymValue}
+use Rattle.ygg_sym_laws.specs.ygg_sym_expr.Meaning.{Grows}
+use Rattle.ygg_sym_laws.specs.ygg_sym_runs.Meaning.{answer_worth, is_set}
+use Rattle.ygg_sym_laws.specs.ygg_sym_runs.Lows.{LowShaped, low_worth}
+use Rattle.ygg_sym_laws.specs.Means.{terms_of, WholeMeans}
 use Rattle.ygg_oblige_laws.specs.LayerTerms.{ShapesKept, LayerTyped}
 use Rattle.ygg_oblige_laws.specs.Meaning.{IsTermOf}
 use Rattle.ygg_oblige_laws.specs.Numbers.{Numbers, numbers_of, arguments_of, block_of}

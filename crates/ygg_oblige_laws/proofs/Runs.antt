@@ -11,7 +11,7 @@ use Rattle.ygg_oblige_laws.specs.ygg_meaning.Refines.{Below, machine_below}
 use Rattle.ygg_oblige_laws.specs.ygg_meaning.Related.{shaped}
 use Rattle.ygg_oblige_laws.specs.ygg_meaning.Shapes.{values_fit}
 use Rattle.ygg_oblige_laws.specs.ygg_meaning.Violates.{End, Meets}
-use Rattle.ygg_oblige_laws.specs.ygg_type_sound.Blocks.{is_returned}
+use Rattle.ygg_oblige_laws.specs.ygg_meaning_laws.Blocks.{is_returned}
 use Rattle.ygg_oblige_laws.specs.ygg_rules.declared.rule.RuleKind.{RuleKind}
 use Rattle.ygg_oblige_laws.specs.ygg_bank_proofs_Meaning.{fits_fewer}
 use Rattle.ygg_oblige_laws.specs.ygg_bank_proofs_Widths.{extends_both}
@@ -27,7 +27,7 @@ use Rattle.ygg_oblige_laws.proofs.of_ygg_sym_runs.Blocks.{values_worth}
 use Rattle.ygg_oblige_laws.specs.ygg_sym_runs.Laws.{picked_by}
 use Rattle.ygg_oblige_laws.specs.ygg_sym_runs.Lows.{low_worth}
 use Rattle.ygg_oblige_laws.specs.ygg_sym_laws.Means.{terms_of, Begins, WholeMeans}
-use Rattle.ygg_fronts.specs.Named.{RunSo, RunNamed}
+use Rattle.ygg_sym_laws.specs.Named.{RunSo, RunNamed}
 use Rattle.ygg_oblige_laws.specs.LayerTerms.{ShapesKept}
 use Rattle.ygg_oblige_laws.specs.Numbers.{Numbers, numbers_of, arguments_of, block_of}
 use Rattle.ygg_oblige_laws.specs.TermStates.{Starting, fresh_all}
@@ -47,7 +47,7 @@ use Rattle.ygg_oblige_laws.specs.LayerMeans.{TickMeans}
 use Rattle.ygg_oblige_laws.specs.ObligationMeans.{OperationKnown}
 use Rattle.ygg_oblige_laws.specs.Parts.{PartsMean}
 use Rattle.ygg_oblige_laws.specs.Schedules.{values_of, schedule_from, schedule_of}
-use Rattle.ygg_oblige_laws.proofs.Given.{saying, no_shapes, arguments_fit, schedule_same}
+use Rattle.ygg_oblige_laws.proofs.ValuesGiven.{saying, no_shapes, arguments_fit, schedule_same}
 use Rattle.ygg_oblige_laws.proofs.Judged.{either, not_both, Judged, NamedSo, unmet_so, met_plain}
 
 -- an obligation that speaks of a whole run

@@ -27,8 +27,8 @@ use Rattle.ygg_oblige_laws.specs.ygg_sym_runs.Laws.{picked_by}
 use Rattle.ygg_oblige_laws.specs.ygg_sym_runs.Lows.{low_worth}
 use Rattle.ygg_oblige_laws.specs.ygg_sym_runs.StopTerms.{SymFallen}
 use Rattle.ygg_oblige_laws.specs.ygg_sym_laws.Means.{terms_of, Begins, FallMeans}
-use Rattle.ygg_fronts.specs.Fronts.{run_stop}
-use Rattle.ygg_fronts.specs.Named.{RunNamed, FallSo, FallNamed}
+use Rattle.ygg_sym_laws.specs.Fronts.{run_stop}
+use Rattle.ygg_sym_laws.specs.Named.{RunNamed, FallSo, FallNamed}
 use Rattle.ygg_oblige_laws.specs.LayerTerms.{ShapesKept, LayerTyped}
 use Rattle.ygg_oblige_laws.specs.Numbers.{Numbers, numbers_of, arguments_of, block_of}
 use Rattle.ygg_oblige_laws.specs.TermStates.{Starting, fresh_all}
@@ -49,7 +49,7 @@ use Rattle.ygg_oblige_laws.specs.LayerMeans.{TickMeans, LayerMeans}
 use Rattle.ygg_oblige_laws.specs.ObligationMeans.{OperationKnown}
 use Rattle.ygg_oblige_laws.specs.Parts.{PartsMean}
 use Rattle.ygg_oblige_laws.specs.Schedules.{values_of, wake_picks, cut_from, schedule_from, schedule_of}
-use Rattle.ygg_oblige_laws.proofs.Given.{saying, no_shapes, some_stop, arguments_fit, schedule_same}
+use Rattle.ygg_oblige_laws.proofs.ValuesGiven.{saying, no_shapes, some_stop, arguments_fit, schedule_same}
 use Rattle.ygg_oblige_laws.proofs.Judged.{either, not_both, stops_there, Judged, NamedSo, unmet_so, met_sided}
 use Rattle.ygg_oblige_laws.proofs.Recovering.{recovers_named}
 

@@ -3,21 +3,21 @@ use Rattle.std.proofs.Common.{◌≡◌, ◌&&◌, Bool, true, false, List, [], 
 use Rattle.std.proofs.Math.Seq.{take-append_seam}
 use Rattle.ygg_value.specs.declared.row.Value.{Value}
 use Rattle.ygg_syntax.specs.declared.tree.Declared.{Declared}
-use Rattle.ygg_fronts.specs.ygg_type_sound_proofs_Tests.{left, right, bytes_equal}
-use Rattle.ygg_fronts.specs.ygg_meaning.Environments.{Env, bind}
-use Rattle.ygg_fronts.specs.ygg_meaning.Shapes.{shape_in, fits, values_fit, env_fits}
-use Rattle.ygg_fronts.specs.ygg_meaning.Layer.{ClosedLayer}
-use Rattle.ygg_fronts.specs.ygg_meaning.Machine.{Picks, State, based}
-use Rattle.ygg_fronts.specs.ygg_meaning.Obligations.{Schedule, Obligation, IsRead, NoPicksPass}
-use Rattle.ygg_fronts.specs.ygg_meaning.Refines.{Below, OnDisk, OnSpec, machine_below}
-use Rattle.ygg_fronts.specs.ygg_meaning.Spec.{Outcome}
-use Rattle.ygg_fronts.specs.ygg_meaning.Violates.{End, most, spec_after, passes}
+use Rattle.ygg_sym_laws.specs.ygg_meaning_laws_proofs_Tests.{left, right, bytes_equal}
+use Rattle.ygg_sym_laws.specs.ygg_meaning.Environments.{Env, bind}
+use Rattle.ygg_sym_laws.specs.ygg_meaning.Shapes.{shape_in, fits, values_fit, env_fits}
+use Rattle.ygg_sym_laws.specs.ygg_meaning.Layer.{ClosedLayer}
+use Rattle.ygg_sym_laws.specs.ygg_meaning.Machine.{Picks, State, based}
+use Rattle.ygg_sym_laws.specs.ygg_meaning.Obligations.{Schedule, Obligation, IsRead, NoPicksPass}
+use Rattle.ygg_sym_laws.specs.ygg_meaning.Refines.{Below, OnDisk, OnSpec, machine_below}
+use Rattle.ygg_sym_laws.specs.ygg_meaning.Spec.{Outcome}
+use Rattle.ygg_sym_laws.specs.ygg_meaning.Violates.{End, most, spec_after, passes}
 use Rattle.std.specs.Prelude.{Option}
 use Rattle.std.specs.Str.{bytes_eq}
-use Rattle.ygg_fronts.specs.ygg_bank.Values.{Values}
-use Rattle.ygg_fronts.specs.ygg_bank.declared.node.Id.{Id}
-use Rattle.ygg_fronts.specs.ygg_bank.declared.node.Node.{Node}
-use Rattle.ygg_fronts.specs.ygg_sym_runs.Meaning.{is_set}
+use Rattle.ygg_sym_laws.specs.ygg_bank.Values.{Values}
+use Rattle.ygg_sym_laws.specs.ygg_bank.declared.node.Id.{Id}
+use Rattle.ygg_sym_laws.specs.ygg_bank.declared.node.Node.{Node}
+use Rattle.ygg_sym_laws.specs.ygg_sym_runs.Meaning.{is_set}
 use Rattle.ygg_oblige_laws.specs.Steps.{PassesSo}
 use Rattle.ygg_oblige_laws.proofs.Digits.{both_hold}
 

@@ -3,24 +3,24 @@ use Rattle.std.proofs.Common.{◌≡◌, ℕ, Bool, List, Option, Some, None}
 use Rattle.ygg_syntax.specs.declared.tree.Block.{Block}
 use Rattle.ygg_syntax.specs.declared.tree.Declared.{Declared}
 use Rattle.ygg_syntax.specs.declared.tree.Def.{Def}
-use Rattle.ygg_fronts.specs.ygg_meaning.Environments.{Env}
-use Rattle.ygg_fronts.specs.ygg_meaning.Machine.{State}
-use Rattle.ygg_fronts.specs.ygg_meaning.Progress.{Answer}
-use Rattle.ygg_fronts.specs.ygg_meaning.Layer.{ClosedLayer}
-use Rattle.ygg_fronts.specs.ygg_meaning.Obligations.{Schedule}
-use Rattle.ygg_fronts.specs.ygg_meaning.Refines.{Below}
-use Rattle.ygg_fronts.specs.ygg_rules.declared.rule.RuleKind.{RuleKind}
-use Rattle.ygg_fronts.specs.ygg_bank_proofs_Widths.{wider}
-use Rattle.ygg_fronts.specs.ygg_bank.Nodes.{HasWidth, Extends}
-use Rattle.ygg_fronts.specs.ygg_bank.Values.{Inputs, Values, Fits}
-use Rattle.ygg_fronts.specs.ygg_bank.declared.node.Node.{Node}
-use Rattle.ygg_fronts.specs.ygg_shape_cells.declared.terms.SymValue.{SymValue}
-use Rattle.ygg_fronts.specs.ygg_sym_expr_proofs_Shaped.{some_wider}
-use Rattle.ygg_fronts.specs.ygg_sym_runs.Meaning.{AnswerShaped}
-use Rattle.ygg_fronts.specs.ygg_sym_runs.Lows.{LowShaped, low_worth}
-use Rattle.ygg_fronts.specs.ygg_sym_runs_proofs_Lows.{low_wider}
-use Rattle.ygg_fronts.specs.ygg_sym_laws.Below.{places_on}
-use Rattle.ygg_fronts.specs.ygg_sym_laws.Means.{AreBits, Values3, Begins, AreWorth, whole_run, cut_run, EndsSo, FallBits, AreFallBits, FallsTo}
+use Rattle.ygg_sym_laws.specs.ygg_meaning.Environments.{Env}
+use Rattle.ygg_sym_laws.specs.ygg_meaning.Machine.{State}
+use Rattle.ygg_sym_laws.specs.ygg_meaning.Progress.{Answer}
+use Rattle.ygg_sym_laws.specs.ygg_meaning.Layer.{ClosedLayer}
+use Rattle.ygg_sym_laws.specs.ygg_meaning.Obligations.{Schedule}
+use Rattle.ygg_sym_laws.specs.ygg_meaning.Refines.{Below}
+use Rattle.ygg_sym_laws.specs.ygg_rules.declared.rule.RuleKind.{RuleKind}
+use Rattle.ygg_sym_laws.specs.ygg_bank_proofs_Widths.{wider}
+use Rattle.ygg_sym_laws.specs.ygg_bank.Nodes.{HasWidth, Extends}
+use Rattle.ygg_sym_laws.specs.ygg_bank.Values.{Inputs, Values, Fits}
+use Rattle.ygg_sym_laws.specs.ygg_bank.declared.node.Node.{Node}
+use Rattle.ygg_sym_laws.specs.ygg_shape_cells.declared.terms.SymValue.{SymValue}
+use Rattle.ygg_sym_laws.specs.ygg_sym_expr_proofs_Shaped.{some_wider}
+use Rattle.ygg_sym_laws.specs.ygg_sym_runs.Meaning.{AnswerShaped}
+use Rattle.ygg_sym_laws.specs.ygg_sym_runs.Lows.{LowShaped, low_worth}
+use Rattle.ygg_sym_laws.specs.ygg_sym_runs_proofs_Lows.{low_wider}
+use Rattle.ygg_sym_laws.specs.Below.{places_on}
+use Rattle.ygg_sym_laws.specs.Means.{AreBits, Values3, Begins, AreWorth, whole_run, cut_run, EndsSo, FallBits, AreFallBits, FallsTo}
 use Rattle.ygg_oblige_laws.specs.TermStates.{Starting}
 use Rattle.ygg_oblige_laws.specs.Worth.{TrioShaped}
 

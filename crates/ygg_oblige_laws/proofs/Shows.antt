@@ -6,24 +6,24 @@ use Rattle.ygg_value.specs.declared.shape.Shape.{Shape}
 use Rattle.ygg_syntax.specs.declared.tree.Def.{Def}
 use Rattle.ygg_syntax.specs.declared.tree.Operation.{Operation}
 use Rattle.ygg_syntax.specs.declared.tree.Tick.{Tick}
-use Rattle.ygg_fronts.specs.ygg_type_sound_proofs_Tests.{right}
-use Rattle.ygg_fronts.specs.ygg_meaning.Layer.{ClosedLayer, BlockFalls, Layered}
-use Rattle.ygg_fronts.specs.ygg_meaning.Machine.{Picks, on, based}
-use Rattle.ygg_fronts.specs.ygg_meaning.Obligations.{Schedule, Halt, IsRead, Init, CallOf, CutOf, TickOf, CutTickOf, Idle, Again}
-use Rattle.ygg_fronts.specs.ygg_meaning.Refines.{Below, machine_below}
-use Rattle.ygg_fronts.specs.ygg_meaning.Related.{shaped, all_true, relates, settles, settled}
-use Rattle.ygg_fronts.specs.ygg_meaning.Shapes.{values_fit, env_fits}
-use Rattle.ygg_fronts.specs.ygg_meaning.Violates.{Recovers, Violates}
-use Rattle.ygg_fronts.specs.ygg_rules.declared.rule.RuleKind.{RuleKind}
-use Rattle.ygg_fronts.specs.ygg_bank.Values.{Inputs, Values, Fits}
-use Rattle.ygg_fronts.specs.ygg_bank.declared.node.Id.{Id}
-use Rattle.ygg_fronts.specs.ygg_bank.declared.node.Node.{Node}
-use Rattle.ygg_fronts.specs.ygg_shape_cells.Terms.{worth}
-use Rattle.ygg_fronts.specs.ygg_shape_cells.declared.terms.SymValue.{SymValue}
-use Rattle.ygg_fronts.specs.ygg_sym_runs.Meaning.{answer_worth, is_set}
-use Rattle.ygg_fronts.specs.ygg_sym_runs.Lows.{LowShaped, low_worth}
-use Rattle.ygg_fronts.proofs.of_ygg_sym_runs.Blocks.{values_worth}
-use Rattle.ygg_fronts.specs.ygg_sym_laws.Means.{terms_of, WholeMeans, StartMeans}
+use Rattle.ygg_sym_laws.specs.ygg_meaning_laws_proofs_Tests.{right}
+use Rattle.ygg_sym_laws.specs.ygg_meaning.Layer.{ClosedLayer, BlockFalls, Layered}
+use Rattle.ygg_sym_laws.specs.ygg_meaning.Machine.{Picks, on, based}
+use Rattle.ygg_sym_laws.specs.ygg_meaning.Obligations.{Schedule, Halt, IsRead, Init, CallOf, CutOf, TickOf, CutTickOf, Idle, Again}
+use Rattle.ygg_sym_laws.specs.ygg_meaning.Refines.{Below, machine_below}
+use Rattle.ygg_sym_laws.specs.ygg_meaning.Related.{shaped, all_true, relates, settles, settled}
+use Rattle.ygg_sym_laws.specs.ygg_meaning.Shapes.{values_fit, env_fits}
+use Rattle.ygg_sym_laws.specs.ygg_meaning.Violates.{Recovers, Violates}
+use Rattle.ygg_sym_laws.specs.ygg_rules.declared.rule.RuleKind.{RuleKind}
+use Rattle.ygg_sym_laws.specs.ygg_bank.Values.{Inputs, Values, Fits}
+use Rattle.ygg_sym_laws.specs.ygg_bank.declared.node.Id.{Id}
+use Rattle.ygg_sym_laws.specs.ygg_bank.declared.node.Node.{Node}
+use Rattle.ygg_sym_laws.specs.ygg_shape_cells.Terms.{worth}
+use Rattle.ygg_sym_laws.specs.ygg_shape_cells.declared.terms.SymValue.{SymValue}
+use Rattle.ygg_sym_laws.specs.ygg_sym_runs.Meaning.{answer_worth, is_set}
+use Rattle.ygg_sym_laws.specs.ygg_sym_runs.Lows.{LowShaped, low_worth}
+use Rattle.ygg_sym_laws.proofs.of_ygg_sym_runs.Blocks.{values_worth}
+use Rattle.ygg_sym_laws.specs.Means.{terms_of, WholeMeans, StartMeans}
 use Rattle.ygg_oblige_laws.specs.LayerTerms.{ShapesKept}
 use Rattle.ygg_oblige_laws.specs.Numbers.{Numbers}
 use Rattle.ygg_oblige_laws.specs.TermStates.{Starting}

@@ -2,28 +2,28 @@
 use Rattle.std.proofs.Common.{◌≡◌, ◌⊎◌, inl, inr, Bool, true, false, List, [], length, refl, sym, ap, subst, arith}
 use Rattle.ygg_syntax.specs.declared.grammar.BlockKind.TheVariants.{Spec}
 use Rattle.ygg_syntax.specs.declared.tree.Def.{Def}
-use Rattle.ygg_fronts.specs.ygg_meaning.Environments.{bind}
-use Rattle.ygg_fronts.specs.ygg_meaning.Layer.{ClosedLayer}
-use Rattle.ygg_fronts.specs.ygg_meaning.Machine.{Picks}
-use Rattle.ygg_fronts.specs.ygg_meaning.Obligations.{Schedule, Obligation, Init, CallOf, CutOf, TickOf, CutTickOf, Idle, Again, NoPicksPass}
-use Rattle.ygg_fronts.specs.ygg_meaning.Refines.{Below}
-use Rattle.ygg_fronts.specs.ygg_meaning.Violates.{End, related_after, same_answer, most, spec_after, passes}
-use Rattle.ygg_fronts.proofs.of_ygg_meaning.Search.{Passes, find_picks}
-use Rattle.ygg_fronts.specs.ygg_type_sound.Kinds.{keeps}
-use Rattle.ygg_fronts.specs.ygg_rules.declared.rule.RuleKind.{RuleKind}
-use Rattle.ygg_fronts.specs.ygg_bank.Nodes.{Extends}
-use Rattle.ygg_fronts.specs.ygg_bank.Values.{Inputs, Values}
-use Rattle.ygg_fronts.specs.ygg_bank.declared.node.Node.{Node}
-use Rattle.ygg_fronts.specs.ygg_shape_cells.declared.terms.SymValue.{SymValue}
-use Rattle.ygg_fronts.specs.ygg_direct.Places.{outcome_by_place}
-use Rattle.ygg_fronts.specs.ygg_direct.SpecPlaces.{crash_by_place, ChoosesAlone}
-use Rattle.ygg_fronts.specs.ygg_sym_expr.Meaning.{Grows, Gives}
-use Rattle.ygg_fronts.specs.ygg_sym_laws.Meaning.{answer_worth}
-use Rattle.ygg_fronts.proofs.of_ygg_sym_laws.Lows.{low_wider}
-use Rattle.ygg_fronts.specs.ygg_sym_laws.Specs.{given_pick}
-use Rattle.ygg_fronts.specs.ygg_sym_laws.SpecCuts.{crash_made}
-use Rattle.ygg_fronts.specs.ygg_sym_laws.Below.{start_made}
-use Rattle.ygg_fronts.specs.ygg_sym_laws.Means.{terms_of, values_in}
+use Rattle.ygg_sym_laws.specs.ygg_meaning.Environments.{bind}
+use Rattle.ygg_sym_laws.specs.ygg_meaning.Layer.{ClosedLayer}
+use Rattle.ygg_sym_laws.specs.ygg_meaning.Machine.{Picks}
+use Rattle.ygg_sym_laws.specs.ygg_meaning.Obligations.{Schedule, Obligation, Init, CallOf, CutOf, TickOf, CutTickOf, Idle, Again, NoPicksPass}
+use Rattle.ygg_sym_laws.specs.ygg_meaning.Refines.{Below}
+use Rattle.ygg_sym_laws.specs.ygg_meaning.Violates.{End, related_after, same_answer, most, spec_after, passes}
+use Rattle.ygg_sym_laws.proofs.of_ygg_meaning.Search.{Passes, find_picks}
+use Rattle.ygg_sym_laws.specs.ygg_meaning_laws.Kinds.{keeps}
+use Rattle.ygg_sym_laws.specs.ygg_rules.declared.rule.RuleKind.{RuleKind}
+use Rattle.ygg_sym_laws.specs.ygg_bank.Nodes.{Extends}
+use Rattle.ygg_sym_laws.specs.ygg_bank.Values.{Inputs, Values}
+use Rattle.ygg_sym_laws.specs.ygg_bank.declared.node.Node.{Node}
+use Rattle.ygg_sym_laws.specs.ygg_shape_cells.declared.terms.SymValue.{SymValue}
+use Rattle.ygg_sym_laws.specs.ygg_meaning_laws.Places.{outcome_by_place}
+use Rattle.ygg_sym_laws.specs.ygg_meaning_laws.SpecPlaces.{crash_by_place, ChoosesAlone}
+use Rattle.ygg_sym_laws.specs.ygg_sym_expr.Meaning.{Grows, Gives}
+use Rattle.ygg_sym_laws.specs.Meaning.{answer_worth}
+use Rattle.ygg_sym_laws.proofs.Lows.{low_wider}
+use Rattle.ygg_sym_laws.specs.Specs.{given_pick}
+use Rattle.ygg_sym_laws.specs.SpecCuts.{crash_made}
+use Rattle.ygg_sym_laws.specs.Below.{start_made}
+use Rattle.ygg_sym_laws.specs.Means.{terms_of, values_in}
 use Rattle.ygg_oblige_laws.specs.LayerTerms.{LayerTyped}
 use Rattle.ygg_oblige_laws.specs.Numbers.{arguments_of}
 use Rattle.ygg_oblige_laws.specs.Outcomes.{fall_with_picks}

@@ -3,23 +3,23 @@ use Rattle.std.proofs.Common.{◌≡◌, ◌&&◌, ◌||◌, ◌==◌, Bool, tru
 use Rattle.ygg_value.specs.Number.{Number, IsWord}
 use Rattle.ygg_value.specs.Words.{word, apply_to, bit_of}
 use Rattle.ygg_value.specs.declared.operation.Op.TheVariants.{And, Or}
-use Rattle.ygg_fronts.specs.ygg_rules.declared.rule.RuleKind.{RuleKind}
-use Rattle.ygg_fronts.specs.ygg_bank_proofs_Made.{made_grows}
-use Rattle.ygg_fronts.specs.ygg_bank_proofs_Meaning.{fits_fewer}
-use Rattle.ygg_fronts.specs.ygg_bank_proofs_Widths.{wider, width_is, extends_self}
-use Rattle.ygg_fronts.specs.ygg_bank.Inputs.{InputsBelow}
-use Rattle.ygg_fronts.specs.ygg_bank.Makes.{Make}
-use Rattle.ygg_fronts.specs.ygg_bank.Making.{made}
-use Rattle.ygg_fronts.specs.ygg_bank.Nodes.{Extends}
-use Rattle.ygg_fronts.specs.ygg_bank.Values.{Inputs, Values, Fits}
-use Rattle.ygg_fronts.specs.ygg_bank.declared.node.Id.{Id}
-use Rattle.ygg_fronts.specs.ygg_bank.declared.node.Node.{Node}
-use Rattle.ygg_fronts.specs.ygg_bank.declared.node.Node.TheVariants.{Const, Bin}
-use Rattle.ygg_fronts.specs.ygg_shape_words_proofs_Fit.{can_and, can_or}
-use Rattle.ygg_fronts.specs.ygg_shape_words_proofs_Keeps.{Stays, grows_stays, inputs_stay}
-use Rattle.ygg_fronts.specs.ygg_shape_words_proofs_Terms.{TermIs, made_is, bit_is, term_digit, and_digits, or_digits}
-use Rattle.ygg_fronts.specs.ygg_sym_expr.Meaning.{Gives}
-use Rattle.ygg_fronts.specs.ygg_sym_expr_proofs_Keeps.{Keeps}
+use Rattle.ygg_sym_laws.specs.ygg_rules.declared.rule.RuleKind.{RuleKind}
+use Rattle.ygg_sym_laws.specs.ygg_bank_proofs_Made.{made_grows}
+use Rattle.ygg_sym_laws.specs.ygg_bank_proofs_Meaning.{fits_fewer}
+use Rattle.ygg_sym_laws.specs.ygg_bank_proofs_Widths.{wider, width_is, extends_self}
+use Rattle.ygg_sym_laws.specs.ygg_bank.Inputs.{InputsBelow}
+use Rattle.ygg_sym_laws.specs.ygg_bank.Makes.{Make}
+use Rattle.ygg_sym_laws.specs.ygg_bank.Making.{made}
+use Rattle.ygg_sym_laws.specs.ygg_bank.Nodes.{Extends}
+use Rattle.ygg_sym_laws.specs.ygg_bank.Values.{Inputs, Values, Fits}
+use Rattle.ygg_sym_laws.specs.ygg_bank.declared.node.Id.{Id}
+use Rattle.ygg_sym_laws.specs.ygg_bank.declared.node.Node.{Node}
+use Rattle.ygg_sym_laws.specs.ygg_bank.declared.node.Node.TheVariants.{Const, Bin}
+use Rattle.ygg_sym_laws.specs.ygg_shape_words_proofs_Fit.{can_and, can_or}
+use Rattle.ygg_sym_laws.specs.ygg_shape_words_proofs_Keeps.{Stays, grows_stays, inputs_stay}
+use Rattle.ygg_sym_laws.specs.ygg_shape_words_proofs_Terms.{TermIs, made_is, bit_is, term_digit, and_digits, or_digits}
+use Rattle.ygg_sym_laws.specs.ygg_sym_expr.Meaning.{Gives}
+use Rattle.ygg_sym_laws.specs.ygg_sym_expr_proofs_Keeps.{Keeps}
 use Rattle.ygg_oblige_laws.specs.States.{AddsNoInputs}
 use Rattle.ygg_oblige_laws.specs.Worth.{IsTruth}
 

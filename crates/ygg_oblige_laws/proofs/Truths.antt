@@ -15,42 +15,42 @@ use Rattle.ygg_value.specs.declared.shape.Shape.TheVariants as shape
 use Rattle.ygg_syntax.specs.declared.tree.Declared.{Declared}
 use Rattle.ygg_syntax.specs.declared.tree.Def.{Def}
 use Rattle.ygg_syntax.specs.declared.tree.Expr.{Expr}
-use Rattle.ygg_fronts.specs.ygg_type_rules.Definitions.{with_definitions}
-use Rattle.ygg_fronts.specs.ygg_type_rules.Shapes.{is_word}
-use Rattle.ygg_fronts.specs.ygg_meaning.Environments.{Name, Env}
-use Rattle.ygg_fronts.specs.ygg_meaning.Layer.{ClosedLayer}
-use Rattle.ygg_fronts.specs.ygg_meaning.Meaning.{Functions, value_with, is_one, functions_of}
-use Rattle.ygg_fronts.specs.ygg_meaning.Meaning as meaning
-use Rattle.ygg_fronts.specs.ygg_meaning.Refines.{Below}
-use Rattle.ygg_fronts.specs.ygg_meaning.Related.{shaped, all_true, relations, relates, settles}
-use Rattle.ygg_fronts.specs.ygg_meaning.Shapes.{shape_in, fits, env_fits}
-use Rattle.ygg_fronts.specs.ygg_type_sound.Fitting.{HasShape}
-use Rattle.ygg_fronts.specs.ygg_type_sound_proofs_Sounds.{sound}
-use Rattle.ygg_fronts.specs.ygg_type_sound_proofs_Tests.{left as first_of, right as second_of}
-use Rattle.ygg_fronts.specs.ygg_rules.declared.rule.RuleKind.{RuleKind}
-use Rattle.ygg_fronts.specs.ygg_bank_proofs_Made.{made_grows}
-use Rattle.ygg_fronts.specs.ygg_bank_proofs_Meaning.{fits_fewer}
-use Rattle.ygg_fronts.specs.ygg_bank.Making.{made}
-use Rattle.ygg_fronts.specs.ygg_bank.Nodes.{HasWidth}
-use Rattle.ygg_fronts.specs.ygg_bank.Values.{Inputs, Values}
-use Rattle.ygg_fronts.specs.ygg_bank.declared.node.Node.{Node}
-use Rattle.ygg_fronts.specs.ygg_bank.declared.node.Node.TheVariants.{Const, Bin}
-use Rattle.ygg_fronts.specs.ygg_shape_words_proofs_Keeps.{Stays}
-use Rattle.ygg_fronts.specs.ygg_shape_cells.Terms.{worth}
-use Rattle.ygg_fronts.specs.ygg_shape_cells.declared.terms.SymValue.{SymValue}
-use Rattle.ygg_fronts.specs.ygg_sym_expr.Exprs.{SymFunctions, id_in, sym_value}
-use Rattle.ygg_fronts.specs.ygg_sym_expr.Meaning.{ScopeShaped, Grows, Gives, worths, scope_worth}
-use Rattle.ygg_fronts.specs.ygg_sym_expr.Names.{SymScope, sym_bind}
-use Rattle.ygg_fronts.specs.ygg_sym_expr_proofs_Definitions.{functions_mean}
-use Rattle.ygg_fronts.specs.ygg_sym_expr_proofs_Grows.{FunctionsGrow, functions_grow, value_grows}
-use Rattle.ygg_fronts.specs.ygg_sym_expr_proofs_Keeps.{Keeps, FunctionsKeep, functions_keep, value_keeps}
-use Rattle.ygg_fronts.specs.ygg_sym_expr_proofs_Shaped.{is_term, scope_wider}
-use Rattle.ygg_fronts.specs.ygg_sym_expr_proofs_Values.{FunctionsMean, value_means}
-use Rattle.ygg_fronts.proofs.of_ygg_sym_laws.Worths.{NameShaped}
-use Rattle.ygg_fronts.proofs.of_ygg_sym_laws.Lows.{low_fits}
-use Rattle.ygg_fronts.proofs.of_ygg_sym_laws.Specs.{bound_worth, low_shaped}
-use Rattle.ygg_fronts.specs.ygg_sym_laws.Lows.{LowShaped, low_worth}
-use Rattle.ygg_fronts.specs.ygg_sym_laws.Means.{terms_of}
+use Rattle.ygg_sym_laws.specs.ygg_type_rules.Definitions.{with_definitions}
+use Rattle.ygg_sym_laws.specs.ygg_type_rules.Shapes.{is_word}
+use Rattle.ygg_sym_laws.specs.ygg_meaning.Environments.{Name, Env}
+use Rattle.ygg_sym_laws.specs.ygg_meaning.Layer.{ClosedLayer}
+use Rattle.ygg_sym_laws.specs.ygg_meaning.Meaning.{Functions, value_with, is_one, functions_of}
+use Rattle.ygg_sym_laws.specs.ygg_meaning.Meaning as meaning
+use Rattle.ygg_sym_laws.specs.ygg_meaning.Refines.{Below}
+use Rattle.ygg_sym_laws.specs.ygg_meaning.Related.{shaped, all_true, relations, relates, settles}
+use Rattle.ygg_sym_laws.specs.ygg_meaning.Shapes.{shape_in, fits, env_fits}
+use Rattle.ygg_sym_laws.specs.ygg_meaning_laws.Fitting.{HasShape}
+use Rattle.ygg_sym_laws.specs.ygg_meaning_laws_proofs_Sounds.{sound}
+use Rattle.ygg_sym_laws.specs.ygg_meaning_laws_proofs_Tests.{left as first_of, right as second_of}
+use Rattle.ygg_sym_laws.specs.ygg_rules.declared.rule.RuleKind.{RuleKind}
+use Rattle.ygg_sym_laws.specs.ygg_bank_proofs_Made.{made_grows}
+use Rattle.ygg_sym_laws.specs.ygg_bank_proofs_Meaning.{fits_fewer}
+use Rattle.ygg_sym_laws.specs.ygg_bank.Making.{made}
+use Rattle.ygg_sym_laws.specs.ygg_bank.Nodes.{HasWidth}
+use Rattle.ygg_sym_laws.specs.ygg_bank.Values.{Inputs, Values}
+use Rattle.ygg_sym_laws.specs.ygg_bank.declared.node.Node.{Node}
+use Rattle.ygg_sym_laws.specs.ygg_bank.declared.node.Node.TheVariants.{Const, Bin}
+use Rattle.ygg_sym_laws.specs.ygg_shape_words_proofs_Keeps.{Stays}
+use Rattle.ygg_sym_laws.specs.ygg_shape_cells.Terms.{worth}
+use Rattle.ygg_sym_laws.specs.ygg_shape_cells.declared.terms.SymValue.{SymValue}
+use Rattle.ygg_sym_laws.specs.ygg_sym_expr.Exprs.{SymFunctions, id_in, sym_value}
+use Rattle.ygg_sym_laws.specs.ygg_sym_expr.Meaning.{ScopeShaped, Grows, Gives, worths, scope_worth}
+use Rattle.ygg_sym_laws.specs.ygg_sym_expr.Names.{SymScope, sym_bind}
+use Rattle.ygg_sym_laws.specs.ygg_sym_expr_proofs_Definitions.{functions_mean}
+use Rattle.ygg_sym_laws.specs.ygg_sym_expr_proofs_Grows.{FunctionsGrow, functions_grow, value_grows}
+use Rattle.ygg_sym_laws.specs.ygg_sym_expr_proofs_Keeps.{Keeps, FunctionsKeep, functions_keep, value_keeps}
+use Rattle.ygg_sym_laws.specs.ygg_sym_expr_proofs_Shaped.{is_term, scope_wider}
+use Rattle.ygg_sym_laws.specs.ygg_sym_expr_proofs_Values.{FunctionsMean, value_means}
+use Rattle.ygg_sym_laws.proofs.Worths.{NameShaped}
+use Rattle.ygg_sym_laws.proofs.Lows.{low_fits}
+use Rattle.ygg_sym_laws.proofs.Specs.{bound_worth, low_shaped}
+use Rattle.ygg_sym_laws.specs.Lows.{LowShaped, low_worth}
+use Rattle.ygg_sym_laws.specs.Means.{terms_of}
 use Rattle.ygg_oblige_laws.specs.LayerTerms.{FormulaTyped, LayerTyped}
 use Rattle.ygg_oblige_laws.specs.TermStates.{Trio, truths_made, trio_scope, related_made, settled_made}
 use Rattle.ygg_oblige_laws.proofs.Truth.{adds, truth_wider, one_gives, and_gives}

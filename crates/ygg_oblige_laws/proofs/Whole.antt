@@ -7,17 +7,17 @@ use Rattle.ygg_syntax.specs.declared.tree.Declared.{Declared}
 use Rattle.ygg_syntax.specs.declared.tree.Def.{Def}
 use Rattle.ygg_syntax.specs.declared.tree.DiskText.{DiskText}
 use Rattle.ygg_syntax.specs.declared.tree.Tick.{Tick}
-use Rattle.ygg_fronts.specs.ygg_meaning.Layer.{ClosedLayer}
-use Rattle.ygg_fronts.specs.ygg_meaning.Refines.{Below, OnDisk, OnSpec}
-use Rattle.ygg_fronts.specs.ygg_meaning.Stack.{Layers, below_of, layers_of}
-use Rattle.ygg_fronts.specs.ygg_rules.declared.rule.RuleKind.{RuleKind}
-use Rattle.ygg_fronts.specs.ygg_sym_laws.Below.{signatures_on}
-use Rattle.ygg_fronts.specs.ygg_sym_laws.Means.{LossMeans, StartMeans, WholeMeans, FallMeans}
-use Rattle.ygg_fronts.specs.ygg_sym_laws.Typed.{BlockTyped}
-use Rattle.ygg_fronts.proofs.of_ygg_sym_laws.DiskFalls.{disk_falls}
-use Rattle.ygg_fronts.proofs.of_ygg_sym_laws.Loss.{disk_loss}
-use Rattle.ygg_fronts.proofs.of_ygg_sym_laws.Start.{disk_start}
-use Rattle.ygg_fronts.proofs.of_ygg_sym_laws.DiskWhole.{disk_whole}
+use Rattle.ygg_sym_laws.specs.ygg_meaning.Layer.{ClosedLayer}
+use Rattle.ygg_sym_laws.specs.ygg_meaning.Refines.{Below, OnDisk, OnSpec}
+use Rattle.ygg_sym_laws.specs.ygg_meaning.Stack.{Layers, below_of, layers_of}
+use Rattle.ygg_sym_laws.specs.ygg_rules.declared.rule.RuleKind.{RuleKind}
+use Rattle.ygg_sym_laws.specs.Below.{signatures_on}
+use Rattle.ygg_sym_laws.specs.Means.{LossMeans, StartMeans, WholeMeans, FallMeans}
+use Rattle.ygg_sym_laws.specs.Typed.{BlockTyped}
+use Rattle.ygg_sym_laws.proofs.DiskFalls.{disk_falls}
+use Rattle.ygg_sym_laws.proofs.Loss.{disk_loss}
+use Rattle.ygg_sym_laws.proofs.Start.{disk_start}
+use Rattle.ygg_sym_laws.proofs.DiskWhole.{disk_whole}
 use Rattle.ygg_oblige_laws.proofs.AnyLayer.{spec_falls, spec_loss, spec_start, spec_whole}
 use Rattle.ygg_oblige_laws.specs.LayerTerms.{OperationFits, LayerTyped}
 use Rattle.ygg_oblige_laws.proofs.Compares.{comparing_means}

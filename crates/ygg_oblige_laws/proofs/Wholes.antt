@@ -6,31 +6,31 @@ use Rattle.ygg_value.specs.declared.shape.Shape.{Shape}
 use Rattle.ygg_syntax.specs.declared.tree.Block.{Block}
 use Rattle.ygg_syntax.specs.declared.tree.Declared.{Declared}
 use Rattle.ygg_syntax.specs.declared.tree.Def.{Def}
-use Rattle.ygg_fronts.specs.ygg_meaning.Environments.{Env}
-use Rattle.ygg_fronts.specs.ygg_meaning.Shapes.{zeros_of}
-use Rattle.ygg_fronts.specs.ygg_meaning.Progress.{Answer}
-use Rattle.ygg_fronts.specs.ygg_meaning.Machine.{Picks, State, based, on}
-use Rattle.ygg_fronts.specs.ygg_meaning.Layer.{ClosedLayer, BlockRuns}
-use Rattle.ygg_fronts.specs.ygg_meaning.Obligations.{Schedule, Obligation}
-use Rattle.ygg_fronts.specs.ygg_meaning.Refines.{Below, machine_below}
-use Rattle.ygg_fronts.specs.ygg_type_sound.Blocks.{is_returned}
-use Rattle.ygg_fronts.specs.ygg_rules.declared.rule.RuleKind.{RuleKind}
-use Rattle.ygg_fronts.specs.ygg_bank_proofs_Made.{made_grows}
-use Rattle.ygg_fronts.specs.ygg_bank_proofs_Meaning.{fits_fewer}
-use Rattle.ygg_fronts.specs.ygg_bank_proofs_Widths.{wider, extends_both}
-use Rattle.ygg_fronts.specs.ygg_bank.Making.{made}
-use Rattle.ygg_fronts.specs.ygg_bank.Nodes.{HasWidth}
-use Rattle.ygg_fronts.specs.ygg_bank.Values.{Inputs, Values, Fits}
-use Rattle.ygg_fronts.specs.ygg_bank.declared.node.Id.{Id}
-use Rattle.ygg_fronts.specs.ygg_bank.declared.node.Node.{Node}
-use Rattle.ygg_fronts.specs.ygg_bank.declared.node.Node.TheVariants.{Bin}
-use Rattle.ygg_fronts.specs.ygg_shape_cells.declared.terms.SymValue.{SymValue}
-use Rattle.ygg_fronts.specs.ygg_sym_expr.Meaning.{Grows, Gives}
-use Rattle.ygg_fronts.specs.ygg_sym_runs.Meaning.{answer_worth, is_set}
-use Rattle.ygg_fronts.specs.ygg_sym_runs.Lows.{LowShaped, low_worth}
-use Rattle.ygg_fronts.specs.ygg_sym_runs_proofs_Lows.{low_wider}
-use Rattle.ygg_fronts.specs.ygg_sym_laws.Below.{places_on, zeros_made}
-use Rattle.ygg_fronts.specs.ygg_sym_laws.Means.{AreBits, values_in, terms_of, Values3, Begins, WholeAfter, WorthRun, EndsSo, WholeMeans}
+use Rattle.ygg_sym_laws.specs.ygg_meaning.Environments.{Env}
+use Rattle.ygg_sym_laws.specs.ygg_meaning.Shapes.{zeros_of}
+use Rattle.ygg_sym_laws.specs.ygg_meaning.Progress.{Answer}
+use Rattle.ygg_sym_laws.specs.ygg_meaning.Machine.{Picks, State, based, on}
+use Rattle.ygg_sym_laws.specs.ygg_meaning.Layer.{ClosedLayer, BlockRuns}
+use Rattle.ygg_sym_laws.specs.ygg_meaning.Obligations.{Schedule, Obligation}
+use Rattle.ygg_sym_laws.specs.ygg_meaning.Refines.{Below, machine_below}
+use Rattle.ygg_sym_laws.specs.ygg_meaning_laws.Blocks.{is_returned}
+use Rattle.ygg_sym_laws.specs.ygg_rules.declared.rule.RuleKind.{RuleKind}
+use Rattle.ygg_sym_laws.specs.ygg_bank_proofs_Made.{made_grows}
+use Rattle.ygg_sym_laws.specs.ygg_bank_proofs_Meaning.{fits_fewer}
+use Rattle.ygg_sym_laws.specs.ygg_bank_proofs_Widths.{wider, extends_both}
+use Rattle.ygg_sym_laws.specs.ygg_bank.Making.{made}
+use Rattle.ygg_sym_laws.specs.ygg_bank.Nodes.{HasWidth}
+use Rattle.ygg_sym_laws.specs.ygg_bank.Values.{Inputs, Values, Fits}
+use Rattle.ygg_sym_laws.specs.ygg_bank.declared.node.Id.{Id}
+use Rattle.ygg_sym_laws.specs.ygg_bank.declared.node.Node.{Node}
+use Rattle.ygg_sym_laws.specs.ygg_bank.declared.node.Node.TheVariants.{Bin}
+use Rattle.ygg_sym_laws.specs.ygg_shape_cells.declared.terms.SymValue.{SymValue}
+use Rattle.ygg_sym_laws.specs.ygg_sym_expr.Meaning.{Grows, Gives}
+use Rattle.ygg_sym_laws.specs.ygg_sym_runs.Meaning.{answer_worth, is_set}
+use Rattle.ygg_sym_laws.specs.ygg_sym_runs.Lows.{LowShaped, low_worth}
+use Rattle.ygg_sym_laws.specs.ygg_sym_runs_proofs_Lows.{low_wider}
+use Rattle.ygg_sym_laws.specs.Below.{places_on, zeros_made}
+use Rattle.ygg_sym_laws.specs.Means.{AreBits, values_in, terms_of, Values3, Begins, WholeAfter, WorthRun, EndsSo, WholeMeans}
 use Rattle.ygg_oblige_laws.specs.LayerTerms.{ShapesKept}
 use Rattle.ygg_oblige_laws.specs.Numbers.{Numbers, arguments_of}
 use Rattle.ygg_oblige_laws.specs.TermStates.{Starting}

@@ -9,8 +9,8 @@ use Rattle.ygg_syntax.specs.declared.tree.Stmt.{Stmt, map-Stmt}
 use Rattle.ygg_syntax.specs.declared.tree.Block.{Block, map-Block, fold-Block}
 use Rattle.ygg_syntax.specs.declared.tree.Stmt.TheOpen.{Stmt-F, Block-F}
 use Rattle.ygg_syntax.specs.declared.tree.Stmt.TheFolds.{ind-Stmt, fold-roll-Stmt, fold-roll-Block}
-use Rattle.ygg_oblige_laws.specs.ygg_type_sound_proofs_Tests.{left as first_of, right as second_of}
-use Rattle.ygg_oblige_laws.specs.ygg_type_sound.Kinds.{source_keeps, all_keep, node_keeps, node_all_keep, stmt_keeps, keeps}
+use Rattle.ygg_oblige_laws.specs.ygg_meaning_laws_proofs_Tests.{left as first_of, right as second_of}
+use Rattle.ygg_oblige_laws.specs.ygg_meaning_laws.Kinds.{source_keeps, all_keep, node_keeps, node_all_keep, stmt_keeps, keeps}
 
 -- what keeps the one kind keeps the other
 record Widens (k : BlockKind → Bool) : Type 0 where

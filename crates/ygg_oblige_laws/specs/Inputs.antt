@@ -25,17 +25,17 @@ use Rattle.ygg_value.specs.Words.{bit_of}
 use Rattle.ygg_value.specs.declared.shape.Shape.{Shape}
 use Rattle.ygg_value.specs.declared.shape.Shape.TheVariants.{Word, Row, Table}
 use Rattle.ygg_syntax.specs.declared.tree.Declared.{Declared}
-use Rattle.ygg_fronts.specs.ygg_meaning.Environments.{Env}
-use Rattle.ygg_fronts.specs.ygg_meaning.Shapes.{shape_in, env_fits}
-use Rattle.ygg_fronts.specs.ygg_rules.declared.rule.RuleKind.{RuleKind}
-use Rattle.ygg_fronts.specs.ygg_bank.Inputs.{InputsBelow}
-use Rattle.ygg_fronts.specs.ygg_bank.Nodes.{Extends, InOrder}
-use Rattle.ygg_fronts.specs.ygg_bank.Values.{Inputs, InputsFit, Values}
-use Rattle.ygg_fronts.specs.ygg_bank.declared.node.Node.{Node}
-use Rattle.ygg_fronts.specs.ygg_bank.declared.node.Node.TheVariants.{Input}
-use Rattle.ygg_fronts.specs.ygg_shape.Fresh.{words_of, given_value}
-use Rattle.ygg_fronts.specs.ygg_sym_expr.Meaning.{Grows, Gives}
-use Rattle.ygg_fronts.specs.ygg_sym_laws.Means.{AreBits}
+use Rattle.ygg_sym_laws.specs.ygg_meaning.Environments.{Env}
+use Rattle.ygg_sym_laws.specs.ygg_meaning.Shapes.{shape_in, env_fits}
+use Rattle.ygg_sym_laws.specs.ygg_rules.declared.rule.RuleKind.{RuleKind}
+use Rattle.ygg_sym_laws.specs.ygg_bank.Inputs.{InputsBelow}
+use Rattle.ygg_sym_laws.specs.ygg_bank.Nodes.{Extends, InOrder}
+use Rattle.ygg_sym_laws.specs.ygg_bank.Values.{Inputs, InputsFit, Values}
+use Rattle.ygg_sym_laws.specs.ygg_bank.declared.node.Node.{Node}
+use Rattle.ygg_sym_laws.specs.ygg_bank.declared.node.Node.TheVariants.{Input}
+use Rattle.ygg_sym_laws.specs.ygg_shape.Fresh.{words_of, given_value}
+use Rattle.ygg_sym_laws.specs.ygg_sym_expr.Meaning.{Grows, Gives}
+use Rattle.ygg_sym_laws.specs.Means.{AreBits}
 use Rattle.ygg_oblige_laws.specs.LayerTerms.{ShapesKept}
 use Rattle.ygg_oblige_laws.specs.TermStates.{words_in, fresh_all}
 use Rattle.ygg_oblige_laws.specs.Worth.{LowIs}

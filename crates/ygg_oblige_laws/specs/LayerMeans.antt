@@ -4,11 +4,11 @@ use Rattle.ygg_value.specs.declared.shape.Shape.{Shape}
 use Rattle.ygg_syntax.specs.declared.tree.Def.{Def}
 use Rattle.ygg_syntax.specs.declared.tree.Operation.{Operation}
 use Rattle.ygg_syntax.specs.declared.tree.Tick.{Tick}
-use Rattle.ygg_fronts.specs.ygg_meaning.Layer.{ClosedLayer}
-use Rattle.ygg_fronts.specs.ygg_meaning.Refines.{Below}
-use Rattle.ygg_fronts.specs.ygg_rules.declared.rule.RuleKind.{RuleKind}
-use Rattle.ygg_fronts.specs.ygg_sym_laws.Typed.{AnswersAs}
-use Rattle.ygg_fronts.specs.ygg_sym_laws.Means.{WholeMeans, FallMeans, LossMeans, StartMeans}
+use Rattle.ygg_sym_laws.specs.ygg_meaning.Layer.{ClosedLayer}
+use Rattle.ygg_sym_laws.specs.ygg_meaning.Refines.{Below}
+use Rattle.ygg_sym_laws.specs.ygg_rules.declared.rule.RuleKind.{RuleKind}
+use Rattle.ygg_sym_laws.specs.Typed.{AnswersAs}
+use Rattle.ygg_sym_laws.specs.Means.{WholeMeans, FallMeans, LossMeans, StartMeans}
 
 module _ (kinds : List RuleKind) (defs : List Def) (G : Below) (L : ClosedLayer) where
   -- the runs of an operation's implementation, whole and cut by power

@@ -8,20 +8,20 @@ use Rattle.ygg_syntax.specs.declared.tree.Def.{Def}
 use Rattle.ygg_syntax.specs.declared.tree.Expr.{Expr}
 use Rattle.ygg_syntax.specs.declared.tree.Operation.{Operation}
 use Rattle.ygg_syntax.specs.declared.tree.Tick.{Tick}
-use Rattle.ygg_fronts.specs.ygg_type_rules.Shapes.{answer_shape}
-use Rattle.ygg_fronts.specs.ygg_type_rules.TypeErrors.{none}
-use Rattle.ygg_fronts.specs.ygg_type_rules.Scopes.{Scope}
-use Rattle.ygg_fronts.specs.ygg_type_rules.Expressions.{typing}
-use Rattle.ygg_fronts.specs.ygg_type_rules.Definitions.{definitions_errors, with_definitions}
-use Rattle.ygg_fronts.specs.ygg_meaning.Environments.{Env}
-use Rattle.ygg_fronts.specs.ygg_meaning.Meaning.{functions_of}
-use Rattle.ygg_fronts.specs.ygg_meaning.Shapes.{shape_in, env_fits}
-use Rattle.ygg_fronts.specs.ygg_meaning.Layer.{ClosedLayer}
-use Rattle.ygg_fronts.specs.ygg_meaning.Refines.{Below}
-use Rattle.ygg_fronts.specs.ygg_meaning.Related.{relations}
-use Rattle.ygg_fronts.specs.ygg_type_sound.Agrees.{Agrees}
-use Rattle.ygg_fronts.specs.ygg_sym_laws.Below.{lows_on, signatures_on}
-use Rattle.ygg_fronts.specs.ygg_sym_laws.Typed.{BlockTyped, BelowTyped, SpecTyped, OperationTyped, AnswersAs}
+use Rattle.ygg_sym_laws.specs.ygg_type_rules.Shapes.{answer_shape}
+use Rattle.ygg_sym_laws.specs.ygg_type_rules.TypeErrors.{none}
+use Rattle.ygg_sym_laws.specs.ygg_type_rules.Scopes.{Scope}
+use Rattle.ygg_sym_laws.specs.ygg_type_rules.Expressions.{typing}
+use Rattle.ygg_sym_laws.specs.ygg_type_rules.Definitions.{definitions_errors, with_definitions}
+use Rattle.ygg_sym_laws.specs.ygg_meaning.Environments.{Env}
+use Rattle.ygg_sym_laws.specs.ygg_meaning.Meaning.{functions_of}
+use Rattle.ygg_sym_laws.specs.ygg_meaning.Shapes.{shape_in, env_fits}
+use Rattle.ygg_sym_laws.specs.ygg_meaning.Layer.{ClosedLayer}
+use Rattle.ygg_sym_laws.specs.ygg_meaning.Refines.{Below}
+use Rattle.ygg_sym_laws.specs.ygg_meaning.Related.{relations}
+use Rattle.ygg_sym_laws.specs.ygg_meaning_laws.Agrees.{Agrees}
+use Rattle.ygg_sym_laws.specs.Below.{lows_on, signatures_on}
+use Rattle.ygg_sym_laws.specs.Typed.{BlockTyped, BelowTyped, SpecTyped, OperationTyped, AnswersAs}
 
 -- A formula over names of these shapes and, behind `low`, of these, in a scope in which it has no type error and with which all such values agree: it is
 -- a word of one digit.

@@ -1,12 +1,12 @@
 -- What the terms of obligations mean.
 use Rattle.std.specs.Prelude.{◌≡◌, ℕ, List, [], ◌∷◌}
-use Rattle.ygg_fronts.specs.ygg_meaning.Obligations.{Schedule, name_of}
-use Rattle.ygg_fronts.specs.ygg_meaning.Claims.{Claim, ClaimViolated, claims_of}
+use Rattle.ygg_sym_laws.specs.ygg_meaning.Obligations.{Schedule, name_of}
+use Rattle.ygg_sym_laws.specs.ygg_meaning.Claims.{Claim, ClaimViolated, claims_of}
 use Rattle.ygg_syntax.specs.declared.tree.File.{File}
-use Rattle.ygg_fronts.specs.ygg_bank.Nodes.{HasWidth}
-use Rattle.ygg_fronts.specs.ygg_bank.Values.{Inputs, InputsFit, value_of}
-use Rattle.ygg_fronts.specs.ygg_bank.declared.node.Id.{Id}
-use Rattle.ygg_fronts.specs.ygg_bank.declared.node.Node.{Node}
+use Rattle.ygg_sym_laws.specs.ygg_bank.Nodes.{HasWidth}
+use Rattle.ygg_sym_laws.specs.ygg_bank.Values.{Inputs, InputsFit, value_of}
+use Rattle.ygg_sym_laws.specs.ygg_bank.declared.node.Id.{Id}
+use Rattle.ygg_sym_laws.specs.ygg_bank.declared.node.Node.{Node}
 
 -- the name of an obligation
 abbrev pub claim_name : Claim → List ℕ

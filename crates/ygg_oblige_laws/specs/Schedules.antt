@@ -32,7 +32,7 @@ use Rattle.ygg_oblige_laws.specs.Terms.{after_layers}
 use Rattle.ygg_oblige_laws.specs.Inputs.{given_env}
 use Rattle.ygg_oblige_laws.specs.States.{given_stand}
 use Rattle.ygg_oblige_laws.specs.Worth.{Stand}
-use Rattle.ygg_fronts.specs.Fronts.{lose_on, loss_picks, low_at_start, run_picks, run_stop, left_at, fall_picks}
+use Rattle.ygg_sym_laws.specs.Fronts.{lose_on, loss_picks, low_at_start, run_picks, run_stop, left_at, fall_picks}
 
 -- the values of names, in order
 abbrev pub values_of : Env → List Value

@@ -4,30 +4,30 @@ use Rattle.ygg_syntax.specs.declared.tree.Declared.{Declared}
 use Rattle.ygg_syntax.specs.declared.tree.Def.{Def}
 use Rattle.ygg_syntax.specs.declared.tree.Expr.{Expr}
 use Rattle.ygg_syntax.specs.declared.tree.Operation.{Operation}
-use Rattle.ygg_fronts.specs.ygg_type_rules.Layers.{operation_signature}
-use Rattle.ygg_fronts.specs.ygg_type_rules.Shapes.{answer_shape}
-use Rattle.ygg_fronts.specs.ygg_meaning.Environments.{Env, same_env}
-use Rattle.ygg_fronts.specs.ygg_meaning.Meaning.{value_with, is_one}
-use Rattle.ygg_fronts.specs.ygg_meaning.Layer.{ClosedLayer}
-use Rattle.ygg_fronts.specs.ygg_meaning.Refines.{Below}
-use Rattle.ygg_fronts.specs.ygg_meaning.Related.{shaped, all_true, relates, settles, related, settled}
-use Rattle.ygg_fronts.specs.ygg_meaning.Shapes.{shape_in, env_fits, zeros_of}
-use Rattle.ygg_fronts.specs.ygg_meaning.Violates.{same_answer}
-use Rattle.ygg_fronts.specs.ygg_type_sound.Questions.{gives}
-use Rattle.ygg_fronts.specs.ygg_rules.declared.rule.RuleKind.{RuleKind}
-use Rattle.ygg_fronts.specs.ygg_bank.Inputs.{InputsBelow, KeepsInputs}
-use Rattle.ygg_fronts.specs.ygg_bank.Makes.{Make}
-use Rattle.ygg_fronts.specs.ygg_bank.Nodes.{HasWidth}
-use Rattle.ygg_fronts.specs.ygg_bank.Values.{Inputs, Values}
-use Rattle.ygg_fronts.specs.ygg_bank.declared.node.Id.{Id}
-use Rattle.ygg_fronts.specs.ygg_bank.declared.node.Node.{Node}
-use Rattle.ygg_fronts.specs.ygg_shape_cells.declared.terms.SymValue.{SymValue}
-use Rattle.ygg_fronts.specs.ygg_sym_expr.Names.{SymScope}
-use Rattle.ygg_fronts.specs.ygg_sym_expr.Meaning.{ScopeShaped, Grows, Gives, worths, scope_worth}
-use Rattle.ygg_fronts.specs.ygg_sym_laws.Meaning.{AnswerShaped, answer_worth, is_set}
-use Rattle.ygg_fronts.specs.ygg_sym_laws.Lows.{LowShaped, low_worth}
-use Rattle.ygg_fronts.specs.ygg_sym_laws.Below.{zeros_made}
-use Rattle.ygg_fronts.specs.ygg_sym_laws.Means.{terms_of}
+use Rattle.ygg_sym_laws.specs.ygg_type_rules.Layers.{operation_signature}
+use Rattle.ygg_sym_laws.specs.ygg_type_rules.Shapes.{answer_shape}
+use Rattle.ygg_sym_laws.specs.ygg_meaning.Environments.{Env, same_env}
+use Rattle.ygg_sym_laws.specs.ygg_meaning.Meaning.{value_with, is_one}
+use Rattle.ygg_sym_laws.specs.ygg_meaning.Layer.{ClosedLayer}
+use Rattle.ygg_sym_laws.specs.ygg_meaning.Refines.{Below}
+use Rattle.ygg_sym_laws.specs.ygg_meaning.Related.{shaped, all_true, relates, settles, related, settled}
+use Rattle.ygg_sym_laws.specs.ygg_meaning.Shapes.{shape_in, env_fits, zeros_of}
+use Rattle.ygg_sym_laws.specs.ygg_meaning.Violates.{same_answer}
+use Rattle.ygg_sym_laws.specs.ygg_meaning_laws.Questions.{gives}
+use Rattle.ygg_sym_laws.specs.ygg_rules.declared.rule.RuleKind.{RuleKind}
+use Rattle.ygg_sym_laws.specs.ygg_bank.Inputs.{InputsBelow, KeepsInputs}
+use Rattle.ygg_sym_laws.specs.ygg_bank.Makes.{Make}
+use Rattle.ygg_sym_laws.specs.ygg_bank.Nodes.{HasWidth}
+use Rattle.ygg_sym_laws.specs.ygg_bank.Values.{Inputs, Values}
+use Rattle.ygg_sym_laws.specs.ygg_bank.declared.node.Id.{Id}
+use Rattle.ygg_sym_laws.specs.ygg_bank.declared.node.Node.{Node}
+use Rattle.ygg_sym_laws.specs.ygg_shape_cells.declared.terms.SymValue.{SymValue}
+use Rattle.ygg_sym_laws.specs.ygg_sym_expr.Names.{SymScope}
+use Rattle.ygg_sym_laws.specs.ygg_sym_expr.Meaning.{ScopeShaped, Grows, Gives, worths, scope_worth}
+use Rattle.ygg_sym_laws.specs.Meaning.{AnswerShaped, answer_worth, is_set}
+use Rattle.ygg_sym_laws.specs.Lows.{LowShaped, low_worth}
+use Rattle.ygg_sym_laws.specs.Below.{zeros_made}
+use Rattle.ygg_sym_laws.specs.Means.{terms_of}
 use Rattle.ygg_oblige_laws.specs.LayerTerms.{ShapesKept, FormulaTyped, LayerTyped}
 use Rattle.ygg_oblige_laws.specs.Outcomes.{answers_compared}
 use Rattle.ygg_oblige_laws.specs.TermStates.{Trio, Starting, words_in, state_words, all_compared, truths_made, related_made, settled_made, starting}

@@ -4,22 +4,22 @@ use Rattle.ygg_value.specs.Words.{word}
 use Rattle.ygg_value.specs.declared.operation.Op.TheVariants.{And}
 use Rattle.ygg_syntax.specs.declared.tree.Declared.{Declared}
 use Rattle.ygg_syntax.specs.declared.tree.Expr.{Expr}
-use Rattle.ygg_fronts.specs.ygg_meaning.Layer.{ClosedLayer}
-use Rattle.ygg_fronts.specs.ygg_meaning.Related.{relations}
-use Rattle.ygg_fronts.specs.ygg_meaning.Shapes.{shape_in}
-use Rattle.ygg_fronts.specs.ygg_rules.declared.rule.RuleKind.{RuleKind}
-use Rattle.ygg_fronts.specs.ygg_bank.Makes.{Make, pure, and_make}
-use Rattle.ygg_fronts.specs.ygg_bank.Making.{made}
-use Rattle.ygg_fronts.specs.ygg_bank.declared.node.Id.{Id}
-use Rattle.ygg_fronts.specs.ygg_bank.declared.node.Node.TheVariants.{Const, Bin}
-use Rattle.ygg_fronts.specs.ygg_shape_cells.Making.{compared}
-use Rattle.ygg_fronts.specs.ygg_shape_cells.declared.terms.SymValue.{SymValue}
-use Rattle.ygg_fronts.specs.ygg_shape.Fresh.{fresh_made, words_of}
+use Rattle.ygg_sym_laws.specs.ygg_meaning.Layer.{ClosedLayer}
+use Rattle.ygg_sym_laws.specs.ygg_meaning.Related.{relations}
+use Rattle.ygg_sym_laws.specs.ygg_meaning.Shapes.{shape_in}
+use Rattle.ygg_sym_laws.specs.ygg_rules.declared.rule.RuleKind.{RuleKind}
+use Rattle.ygg_sym_laws.specs.ygg_bank.Makes.{Make, pure, and_make}
+use Rattle.ygg_sym_laws.specs.ygg_bank.Making.{made}
+use Rattle.ygg_sym_laws.specs.ygg_bank.declared.node.Id.{Id}
+use Rattle.ygg_sym_laws.specs.ygg_bank.declared.node.Node.TheVariants.{Const, Bin}
+use Rattle.ygg_sym_laws.specs.ygg_shape.Comparing.{compared}
+use Rattle.ygg_sym_laws.specs.ygg_shape_cells.declared.terms.SymValue.{SymValue}
+use Rattle.ygg_sym_laws.specs.ygg_shape.Fresh.{fresh_made, words_of}
 use Rattle.ygg_shape_hypothesis.specs.Finding.{facts_in}
 use Rattle.ygg_shape_hypothesis.specs.Replacing.{replaced_value}
 use Rattle.ygg_shape_hypothesis.specs.declared.replacing.Replacement.{Replacement}
-use Rattle.ygg_fronts.specs.ygg_sym_laws.Names.{SymScope, sym_bind}
-use Rattle.ygg_fronts.specs.ygg_sym_laws.Exprs.{SymFunctions, id_in, sym_value}
+use Rattle.ygg_sym_laws.specs.Names.{SymScope, sym_bind}
+use Rattle.ygg_sym_laws.specs.Exprs.{SymFunctions, id_in, sym_value}
 
 -- how many words the values of declared names have
 abbrev pub words_in : List Declared → ℕ

@@ -6,24 +6,24 @@ use Rattle.ygg_syntax.specs.declared.tree.Block.{Block}
 use Rattle.ygg_syntax.specs.declared.tree.Declared.{Declared}
 use Rattle.ygg_syntax.specs.declared.tree.DiskText.{DiskText}
 use Rattle.ygg_syntax.specs.declared.tree.File.{File}
-use Rattle.ygg_fronts.specs.ygg_meaning.Machine.{Picks}
-use Rattle.ygg_fronts.specs.ygg_meaning.Layer.{ClosedLayer}
-use Rattle.ygg_fronts.specs.ygg_meaning.Obligations.{Obligation, Init, CallOf, CutOf, TickOf, CutTickOf, Idle, Again, obligations_of}
-use Rattle.ygg_fronts.specs.ygg_meaning.Refines.{Below}
-use Rattle.ygg_fronts.specs.ygg_meaning.Violates.{most}
-use Rattle.ygg_fronts.specs.ygg_meaning.Stack.{Layers, below_of, layers_of}
-use Rattle.ygg_fronts.specs.ygg_rules.declared.rule.RuleKind.{RuleKind}
-use Rattle.ygg_fronts.specs.ygg_bank.Makes.{Make, pure, and_make}
-use Rattle.ygg_fronts.specs.ygg_bank.Making.{made}
-use Rattle.ygg_fronts.specs.ygg_bank.declared.node.Id.{Id}
-use Rattle.ygg_fronts.specs.ygg_bank.declared.node.Node.TheVariants.{Const, Bin}
-use Rattle.ygg_fronts.specs.ygg_shape_cells.declared.terms.SymValue.{SymValue}
-use Rattle.ygg_fronts.specs.ygg_sym_laws.Names.{sym_bind}
-use Rattle.ygg_fronts.specs.ygg_sym_laws.Exprs.{SymFunctions}
-use Rattle.ygg_fronts.specs.ygg_sym_laws.StopTerms.{SymFallen}
-use Rattle.ygg_fronts.specs.ygg_sym_laws.Wholes.{SymFinish}
-use Rattle.ygg_fronts.specs.ygg_sym_laws.Below.{zeros_made, lows_at_start, run_made, cut_made, lost_made}
-use Rattle.ygg_fronts.specs.ygg_sym_laws.Means.{terms_of, values_in}
+use Rattle.ygg_sym_laws.specs.ygg_meaning.Machine.{Picks}
+use Rattle.ygg_sym_laws.specs.ygg_meaning.Layer.{ClosedLayer}
+use Rattle.ygg_sym_laws.specs.ygg_meaning.Obligations.{Obligation, Init, CallOf, CutOf, TickOf, CutTickOf, Idle, Again, obligations_of}
+use Rattle.ygg_sym_laws.specs.ygg_meaning.Refines.{Below}
+use Rattle.ygg_sym_laws.specs.ygg_meaning.Violates.{most}
+use Rattle.ygg_sym_laws.specs.ygg_meaning.Stack.{Layers, below_of, layers_of}
+use Rattle.ygg_sym_laws.specs.ygg_rules.declared.rule.RuleKind.{RuleKind}
+use Rattle.ygg_sym_laws.specs.ygg_bank.Makes.{Make, pure, and_make}
+use Rattle.ygg_sym_laws.specs.ygg_bank.Making.{made}
+use Rattle.ygg_sym_laws.specs.ygg_bank.declared.node.Id.{Id}
+use Rattle.ygg_sym_laws.specs.ygg_bank.declared.node.Node.TheVariants.{Const, Bin}
+use Rattle.ygg_sym_laws.specs.ygg_shape_cells.declared.terms.SymValue.{SymValue}
+use Rattle.ygg_sym_laws.specs.Names.{sym_bind}
+use Rattle.ygg_sym_laws.specs.Exprs.{SymFunctions}
+use Rattle.ygg_sym_laws.specs.StopTerms.{SymFallen}
+use Rattle.ygg_sym_laws.specs.Wholes.{SymFinish}
+use Rattle.ygg_sym_laws.specs.Below.{zeros_made, lows_at_start, run_made, cut_made, lost_made}
+use Rattle.ygg_sym_laws.specs.Means.{terms_of, values_in}
 use Rattle.ygg_oblige_laws.specs.TermStates.{Starting, starting, state_words, fresh_all, all_compared, related_made, settled_made}
 use Rattle.ygg_oblige_laws.specs.Outcomes.{any_picks, answers_compared, outcome_made}
 use Rattle.ygg_oblige_laws.specs.Numbers.{Numbers, numbers_of, arguments_of}

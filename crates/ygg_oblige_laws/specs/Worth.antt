@@ -1,15 +1,15 @@
 -- What parts of obligations' terms are worth.
 use Rattle.std.specs.Prelude.{◌≡◌, Bool, List}
 use Rattle.ygg_syntax.specs.declared.tree.Declared.{Declared}
-use Rattle.ygg_fronts.specs.ygg_meaning.Environments.{Env}
-use Rattle.ygg_fronts.specs.ygg_meaning.Layer.{ClosedLayer}
-use Rattle.ygg_fronts.specs.ygg_bank.Nodes.{HasWidth}
-use Rattle.ygg_fronts.specs.ygg_bank.Values.{Values}
-use Rattle.ygg_fronts.specs.ygg_bank.declared.node.Id.{Id}
-use Rattle.ygg_fronts.specs.ygg_bank.declared.node.Node.{Node}
-use Rattle.ygg_fronts.specs.ygg_shape_cells.declared.terms.SymValue.{SymValue}
-use Rattle.ygg_fronts.specs.ygg_sym_laws.Meaning.{is_set}
-use Rattle.ygg_fronts.specs.ygg_sym_laws.Lows.{LowShaped, low_worth}
+use Rattle.ygg_sym_laws.specs.ygg_meaning.Environments.{Env}
+use Rattle.ygg_sym_laws.specs.ygg_meaning.Layer.{ClosedLayer}
+use Rattle.ygg_sym_laws.specs.ygg_bank.Nodes.{HasWidth}
+use Rattle.ygg_sym_laws.specs.ygg_bank.Values.{Values}
+use Rattle.ygg_sym_laws.specs.ygg_bank.declared.node.Id.{Id}
+use Rattle.ygg_sym_laws.specs.ygg_bank.declared.node.Node.{Node}
+use Rattle.ygg_sym_laws.specs.ygg_shape_cells.declared.terms.SymValue.{SymValue}
+use Rattle.ygg_sym_laws.specs.Meaning.{is_set}
+use Rattle.ygg_sym_laws.specs.Lows.{LowShaped, low_worth}
 use Rattle.ygg_oblige_laws.specs.TermStates.{Trio}
 
 -- values of the declared shapes that are worth these names with these values

@@ -7,5 +7,7 @@ pub mod pieces_law;
 pub mod schedules_law;
 pub mod typed_law;
 
-pub use ygg_fronts::{Bank, Book, Id, NoMemory, refines_by_list, typed_histories};
 pub use ygg_shape_hypothesis::{Replacements, facts, replace};
+pub use ygg_sym_laws::{
+    Bank, Book, Env, Given, Id, NoMemory, refines_by_list, shape_of, typed_histories,
+};

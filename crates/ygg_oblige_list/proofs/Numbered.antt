@@ -2,11 +2,11 @@
 use Rattle.std.proofs.Common.{◌≡◌, ◌<◌, ℕ, ◌+◌, List, [], ◌∷◌, ◌++◌, length, drop, get_or, Some, refl, subst, sym, ap, ◌∙◌, append_assoc}
 use Rattle.std.specs.Prelude.{slice_get}
 use Rattle.std.proofs.lemmas.List.Elements.{All-push}
+use Rattle.std.proofs.lemmas.List.{drop_more}
 use Rattle.std.proofs.lemmas.Option.{slice_get_read}
 use Rattle.ygg_syntax.specs.declared.tree.Layer.{Layer}
-use Rattle.ygg_oblige_parts.specs.ygg_meaning.Obligations.{Obligation}
-use Rattle.ygg_oblige_parts.specs.Steps.{obligation_of}
-use Rattle.ygg_oblige_parts.proofs.Left.{rest_is}
+use Rattle.ygg_meaning.specs.Obligations.{Obligation}
+use Rattle.ygg_oblige_list.specs.InCode.{obligation_of}
 use Rattle.ygg_oblige_list.specs.Listing.{AreNumbered, IsNumberIn}
 use Rattle.ygg_oblige_list.specs.declared.listing.Asked.{Asked}
 
@@ -25,7 +25,7 @@ element_here xs items i x e h is = subst (λ z. slice_get z i ≡ Some x) e (sli
 
 -- the elements from a place on
 pub rest_here : {X : Type 0} (xs items : List X) (i : ℕ) (x : X) → items ≡ xs → i < length items → x ≡ get_or items i x → drop i xs ≡ x ∷ drop (i + 1) xs
-rest_here xs items i x e h is = subst (λ z. drop i z ≡ x ∷ drop (i + 1) z) e (rest_is items i x x h is)
+rest_here xs items i x e h is = subst (λ z. drop i z ≡ x ∷ drop (i + 1) z) e (drop_more items i x h ∙ ap (λ z. z ∷ drop (i + 1) items) (sym is))
 
 -- two more are listed before those that are left
 pub two_asked : (so_far one two rest all : List Obligation) (a b : Obligation) → one ≡ so_far ++ a ∷ [] → two ≡ one ++ b ∷ [] →

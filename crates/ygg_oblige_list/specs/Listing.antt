@@ -4,8 +4,8 @@ use Rattle.std.specs.List.{flat_map}
 use Rattle.ygg_syntax.specs.declared.tree.Layer.{Layer}
 use Rattle.ygg_syntax.specs.declared.tree.Operation.{Operation}
 use Rattle.ygg_syntax.specs.declared.tree.Tick.{Tick}
-use Rattle.ygg_oblige_parts.specs.ygg_meaning.Obligations.{Obligation, Init, CallOf, CutOf, TickOf, CutTickOf, Idle, Again}
-use Rattle.ygg_oblige_parts.specs.Steps.{obligation_of}
+use Rattle.ygg_meaning.specs.Obligations.{Obligation, Init, CallOf, CutOf, TickOf, CutTickOf, Idle, Again}
+use Rattle.ygg_oblige_list.specs.InCode.{obligation_of}
 use Rattle.ygg_oblige_list.specs.declared.listing.Asked.{Asked}
 
 -- those listed, in order

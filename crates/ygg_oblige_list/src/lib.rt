@@ -1,11 +1,12 @@
-//! Which obligations a layer has, in order.
+//! The obligations of a layer: which it has, in order, their names, and where the inputs of each begin.
 #![tactic(auto)]
 
 mod listing;
+mod names;
+mod numbers;
+mod obligation;
 
 pub use listing::{Asked, asked_of, place_of};
-pub use ygg_oblige_parts::{
-    Bank, Book, Id, Maker, NoMemory, SymBelow, SymBlock, SymCut, SymEnd, SymLayer, SymObligation,
-    SymPicks, SymStarting, SymStep, SymValues, all_equal, block, cut, failure_room, fresh, join,
-    lost, low_at_start, places, run, words_in, zeros,
-};
+pub use names::name_of;
+pub use numbers::SymNumbers;
+pub use obligation::SymObligation;

@@ -1,13 +1,13 @@
 //! The obligations of a layer, in order.
 
 ghost use Rattle.std.specs.Prelude.{◌≡◌, ◌∷◌, ◌++◌, [], IfOk, OnOk};
-ghost use Rattle.ygg_oblige_parts.specs.ygg_meaning.Obligations.{obligations_of};
-ghost use Rattle.ygg_oblige_parts.specs.Steps.{obligation_of};
+ghost use Rattle.ygg_meaning.specs.Obligations.{obligations_of};
+ghost use Rattle.ygg_oblige_list.specs.InCode.{obligation_of};
 ghost use Rattle.ygg_oblige_list.specs.Listing.{AreNumbered, asked_in, calls_of, ticks_of};
 
+use crate::obligation::SymObligation;
 use std::alloc::Global;
 use ygg_list::NoMemory;
-use ygg_oblige_parts::SymObligation;
 use ygg_syntax::tree::Layer;
 
 /// An obligation, and the place of its operation or background step in the layer's list, else 0.

@@ -4,14 +4,14 @@ use Rattle.std.proofs.lemmas.List.{take_all}
 use Rattle.ygg_syntax.specs.declared.tree.Block.{Block}
 use Rattle.ygg_syntax.specs.declared.tree.Declared.{Declared}
 use Rattle.ygg_syntax.specs.declared.tree.Operation.{Operation}
-use Rattle.ygg_sym.specs.ygg_meaning.Layer.{ClosedLayer}
-use Rattle.ygg_sym.specs.ygg_meaning.Machine.{Picks}
-use Rattle.ygg_sym.specs.ygg_rules.declared.rule.RuleKind.{RuleKind}
-use Rattle.ygg_sym.specs.ygg_shape_cells.declared.terms.SymValue.{SymValue}
-use Rattle.ygg_sym.specs.ygg_sym_expr.Exprs.{SymFunctions}
-use Rattle.ygg_sym.specs.ygg_sym_expr.Names.{sym_bind}
-use Rattle.ygg_sym.specs.ygg_sym_runs.Specs.{given_pick}
-use Rattle.ygg_sym.specs.ygg_sym_runs.SpecCuts.{crash_made, then_crash_made}
+use Rattle.ygg_sym_spec.specs.ygg_meaning.Layer.{ClosedLayer}
+use Rattle.ygg_sym_spec.specs.ygg_meaning.Machine.{Picks}
+use Rattle.ygg_sym_spec.specs.ygg_rules.declared.rule.RuleKind.{RuleKind}
+use Rattle.ygg_sym_spec.specs.ygg_shape_cells.declared.terms.SymValue.{SymValue}
+use Rattle.ygg_sym_spec.specs.ygg_sym_expr.Exprs.{SymFunctions}
+use Rattle.ygg_sym_spec.specs.ygg_sym_expr.Names.{sym_bind}
+use Rattle.ygg_sym_spec.specs.ygg_sym_runs.Specs.{given_pick}
+use Rattle.ygg_sym_spec.specs.ygg_sym_runs.SpecCuts.{crash_made, then_crash_made}
 use Rattle.ygg_oblige_laws.specs.Outcomes.{fall_with_picks}
 
 module _ (kinds : List RuleKind) (terms : SymFunctions) (L : ClosedLayer) (o : Operation) (vars args : List SymValue) where

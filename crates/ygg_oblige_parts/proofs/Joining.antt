@@ -4,10 +4,10 @@ use Rattle.ygg_value.specs.Number.{IsWord}
 use Rattle.ygg_value.specs.Words.{word, result_width, CanApply}
 use Rattle.ygg_value.specs.declared.operation.Op.{Op}
 use Rattle.ygg_value.specs.declared.operation.Op.TheVariants.{Add, Sub, Mul, And, Or, Xor, Shl, Shr, Eq, Ne, Lt, Le, Gt, Ge, Imp}
-use Rattle.ygg_sym.specs.ygg_bank_proofs_Widths.{width_is, stands}
-use Rattle.ygg_sym.specs.ygg_bank.Nodes.{CanBin, HasWidth, widths_of, width_at}
-use Rattle.ygg_sym.specs.ygg_bank.declared.node.Id.{Id}
-use Rattle.ygg_sym.specs.ygg_bank.declared.node.Node.{Node}
+use Rattle.ygg_sym_spec.specs.ygg_bank_proofs_Widths.{width_is, stands}
+use Rattle.ygg_sym_spec.specs.ygg_bank.Nodes.{CanBin, HasWidth, widths_of, width_at}
+use Rattle.ygg_sym_spec.specs.ygg_bank.declared.node.Id.{Id}
+use Rattle.ygg_sym_spec.specs.ygg_bank.declared.node.Node.{Node}
 
 -- the word of a bit
 pub bit_word : (n : ℕ) → n < 2 → IsWord (word 1 n)

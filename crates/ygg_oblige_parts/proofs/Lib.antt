@@ -1,7 +1,6 @@
-pub use Rattle.ygg_sym.proofs.of_ygg_sym_disk
-pub use Rattle.ygg_sym.proofs.of_ygg_sym_runs
-pub use Rattle.ygg_sym.proofs.Left
-pub use Rattle.ygg_sym.proofs.Carried
+pub use Rattle.ygg_sym_spec.proofs.of_ygg_sym_runs
+pub use Rattle.ygg_sym_spec.proofs.Left
+pub use Rattle.ygg_sym_spec.proofs.Carried
 pub mod Compared
 pub mod Joining
 pub mod Named

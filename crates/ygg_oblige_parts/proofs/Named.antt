@@ -1,17 +1,17 @@
 -- Inputs for declared names, name by name.
 use Rattle.std.proofs.Common.{◌≡◌, ◌<◌, ℕ, ◌+◌, List, ◌∷◌, [], ◌++◌, length, drop, get_or, sym, ap, ◌∙◌}
 use Rattle.ygg_syntax.specs.declared.tree.Declared.{Declared}
-use Rattle.ygg_sym.specs.ygg_rules.declared.rule.RuleKind.{RuleKind}
-use Rattle.ygg_sym.specs.ygg_meaning.Shapes.{shape_in}
-use Rattle.ygg_sym.specs.ygg_bank.Inputs.{InputsBelow}
-use Rattle.ygg_sym.specs.ygg_bank.Nodes.{IsBank}
-use Rattle.ygg_sym.specs.ygg_bank.Values.{value_of}
-use Rattle.ygg_sym.specs.ygg_bank.declared.node.Node.{Node}
-use Rattle.ygg_sym.specs.ygg_shape.Fresh.{fresh_made, words_of}
-use Rattle.ygg_sym.proofs.of_ygg_shape.Answered.{no_inputs, some_fit}
-use Rattle.ygg_sym.specs.ygg_shape_cells.declared.terms.SymValue.{SymValue}
-use Rattle.ygg_sym.specs.ygg_sym_runs.Lows.{LowShaped}
-use Rattle.ygg_sym.proofs.Left.{Left, left_goes, rest_is}
+use Rattle.ygg_sym_spec.specs.ygg_rules.declared.rule.RuleKind.{RuleKind}
+use Rattle.ygg_sym_spec.specs.ygg_meaning.Shapes.{shape_in}
+use Rattle.ygg_sym_spec.specs.ygg_bank.Inputs.{InputsBelow}
+use Rattle.ygg_sym_spec.specs.ygg_bank.Nodes.{IsBank}
+use Rattle.ygg_sym_spec.specs.ygg_bank.Values.{value_of}
+use Rattle.ygg_sym_spec.specs.ygg_bank.declared.node.Node.{Node}
+use Rattle.ygg_sym_spec.specs.ygg_shape_cells.Fresh.{fresh_made, words_of}
+use Rattle.ygg_sym_spec.proofs.of_ygg_shape.Answered.{no_inputs, some_fit}
+use Rattle.ygg_sym_spec.specs.ygg_shape_cells.declared.terms.SymValue.{SymValue}
+use Rattle.ygg_sym_spec.specs.ygg_sym_runs.Lows.{LowShaped}
+use Rattle.ygg_sym_spec.proofs.Left.{Left, left_goes, rest_is}
 use Rattle.ygg_oblige_laws.specs.LayerTerms.{ShapesKept}
 use Rattle.ygg_oblige_laws.specs.TermStates.{fresh_all, words_in}
 use Rattle.ygg_oblige_laws.proofs.Fresh.{all_gives}

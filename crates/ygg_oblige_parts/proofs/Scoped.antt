@@ -6,28 +6,28 @@ use Rattle.std.proofs.lemmas.List.Elements.{All-append, All-nil, All-weaker}
 use Rattle.ygg_syntax.specs.declared.tree.Declared.{Declared}
 use Rattle.ygg_syntax.specs.declared.tree.Def.{Def}
 use Rattle.ygg_syntax.specs.declared.tree.Expr.{Expr}
-use Rattle.ygg_sym.specs.ygg_type_rules.TypeErrors.{none}
-use Rattle.ygg_sym.specs.ygg_type_rules.Definitions.{definitions_errors}
-use Rattle.ygg_sym.specs.ygg_meaning.Environments.{Name}
-use Rattle.ygg_sym.specs.ygg_meaning.Layer.{ClosedLayer}
-use Rattle.ygg_sym.specs.ygg_meaning.Meaning.{functions_of}
-use Rattle.ygg_sym.specs.ygg_meaning.Refines.{Below}
-use Rattle.ygg_sym.specs.ygg_meaning.Related.{relations}
-use Rattle.ygg_sym.specs.ygg_meaning.Shapes.{env_fits}
-use Rattle.ygg_sym.specs.ygg_type_sound.Agrees.{Agrees}
-use Rattle.ygg_sym.specs.ygg_rules.declared.rule.RuleKind.{RuleKind}
-use Rattle.ygg_sym.specs.ygg_bank.Values.{Inputs, Values, Fits}
-use Rattle.ygg_sym.specs.ygg_bank.declared.node.Node.{Node}
-use Rattle.ygg_sym.specs.ygg_shape_cells.Terms.{worth}
-use Rattle.ygg_sym.specs.ygg_shape_cells.declared.terms.SymValue.{SymValue}
-use Rattle.ygg_sym.specs.ygg_sym_expr.Meaning.{ScopeShaped, worths, scope_worth}
-use Rattle.ygg_sym.specs.ygg_sym_expr.Names.{SymScope, SymEnv, sym_bind}
-use Rattle.ygg_sym.proofs.of_ygg_sym_runs.Worths.{NameShaped}
-use Rattle.ygg_sym.proofs.of_ygg_shape.Answered.{no_inputs}
-use Rattle.ygg_sym.specs.ygg_bank.Values.{value_of}
-use Rattle.ygg_sym.specs.ygg_sym_runs_proofs_Lows.{low_fits}
-use Rattle.ygg_sym.specs.ygg_sym_runs_proofs_Specs.{bound_worth, low_shaped}
-use Rattle.ygg_sym.specs.ygg_sym_runs.Lows.{LowShaped, low_worth}
+use Rattle.ygg_sym_spec.specs.ygg_type_rules.TypeErrors.{none}
+use Rattle.ygg_sym_spec.specs.ygg_type_rules.Definitions.{definitions_errors}
+use Rattle.ygg_sym_spec.specs.ygg_meaning.Environments.{Name}
+use Rattle.ygg_sym_spec.specs.ygg_meaning.Layer.{ClosedLayer}
+use Rattle.ygg_sym_spec.specs.ygg_meaning.Meaning.{functions_of}
+use Rattle.ygg_sym_spec.specs.ygg_meaning.Refines.{Below}
+use Rattle.ygg_sym_spec.specs.ygg_meaning.Related.{relations}
+use Rattle.ygg_sym_spec.specs.ygg_meaning.Shapes.{env_fits}
+use Rattle.ygg_sym_spec.specs.ygg_meaning_laws.Agrees.{Agrees}
+use Rattle.ygg_sym_spec.specs.ygg_rules.declared.rule.RuleKind.{RuleKind}
+use Rattle.ygg_sym_spec.specs.ygg_bank.Values.{Inputs, Values, Fits}
+use Rattle.ygg_sym_spec.specs.ygg_bank.declared.node.Node.{Node}
+use Rattle.ygg_sym_spec.specs.ygg_shape_cells.Terms.{worth}
+use Rattle.ygg_sym_spec.specs.ygg_shape_cells.declared.terms.SymValue.{SymValue}
+use Rattle.ygg_sym_spec.specs.ygg_sym_expr.Meaning.{ScopeShaped, worths, scope_worth}
+use Rattle.ygg_sym_spec.specs.ygg_sym_expr.Names.{SymScope, SymEnv, sym_bind}
+use Rattle.ygg_sym_spec.proofs.of_ygg_sym_runs.Worths.{NameShaped}
+use Rattle.ygg_sym_spec.proofs.of_ygg_shape.Answered.{no_inputs}
+use Rattle.ygg_sym_spec.specs.ygg_bank.Values.{value_of}
+use Rattle.ygg_sym_spec.specs.ygg_sym_runs_proofs_Lows.{low_fits}
+use Rattle.ygg_sym_spec.specs.ygg_sym_runs_proofs_Specs.{bound_worth, low_shaped}
+use Rattle.ygg_sym_spec.specs.ygg_sym_runs.Lows.{LowShaped, low_worth}
 use Rattle.ygg_oblige_laws.specs.LayerTerms.{FormulaTyped, LayerTyped}
 use Rattle.ygg_oblige_laws.specs.TermStates.{Trio}
 use Rattle.ygg_oblige_laws.proofs.Truths.{both_fit}

@@ -1,19 +1,19 @@
 -- The states that obligations begin with, step by step.
 use Rattle.std.proofs.Common.{◌≡◌, ℕ, List, ap, ◌∙◌}
 use Rattle.ygg_syntax.specs.declared.tree.Def.{Def}
-use Rattle.ygg_sym.specs.ygg_meaning.Layer.{ClosedLayer}
-use Rattle.ygg_sym.specs.ygg_meaning.Refines.{Below}
-use Rattle.ygg_sym.specs.ygg_rules.declared.rule.RuleKind.{RuleKind}
-use Rattle.ygg_sym.specs.ygg_bank.Inputs.{InputsBelow}
-use Rattle.ygg_sym.specs.ygg_bank.Makes.{Make, Out, pure, and_make, goes_on}
-use Rattle.ygg_sym.specs.ygg_bank.Nodes.{IsBank}
-use Rattle.ygg_sym.specs.ygg_bank.Values.{value_of}
-use Rattle.ygg_sym.specs.ygg_bank.declared.node.Id.{Id}
-use Rattle.ygg_sym.specs.ygg_bank.declared.node.Node.{Node}
-use Rattle.ygg_sym.proofs.of_ygg_shape.Answered.{no_inputs, some_fit}
-use Rattle.ygg_sym.specs.ygg_shape_cells.declared.terms.SymValue.{SymValue}
+use Rattle.ygg_sym_spec.specs.ygg_meaning.Layer.{ClosedLayer}
+use Rattle.ygg_sym_spec.specs.ygg_meaning.Refines.{Below}
+use Rattle.ygg_sym_spec.specs.ygg_rules.declared.rule.RuleKind.{RuleKind}
+use Rattle.ygg_sym_spec.specs.ygg_bank.Inputs.{InputsBelow}
+use Rattle.ygg_sym_spec.specs.ygg_bank.Makes.{Make, Out, pure, and_make, goes_on}
+use Rattle.ygg_sym_spec.specs.ygg_bank.Nodes.{IsBank}
+use Rattle.ygg_sym_spec.specs.ygg_bank.Values.{value_of}
+use Rattle.ygg_sym_spec.specs.ygg_bank.declared.node.Id.{Id}
+use Rattle.ygg_sym_spec.specs.ygg_bank.declared.node.Node.{Node}
+use Rattle.ygg_sym_spec.proofs.of_ygg_shape.Answered.{no_inputs, some_fit}
+use Rattle.ygg_sym_spec.specs.ygg_shape_cells.declared.terms.SymValue.{SymValue}
 use Rattle.ygg_oblige_laws.specs.ygg_shape_hypothesis.declared.replacing.Replacement.{Replacement}
-use Rattle.ygg_sym.specs.ygg_sym_expr.Exprs.{SymFunctions}
+use Rattle.ygg_sym_spec.specs.ygg_sym_expr.Exprs.{SymFunctions}
 use Rattle.ygg_oblige_laws.specs.Means.{terms_of}
 use Rattle.ygg_oblige_laws.specs.LayerTerms.{LayerTyped}
 use Rattle.ygg_oblige_laws.specs.TermStates.{Trio, Starting, fresh_trio, replaced_all, replaced_trio, starting}

@@ -5,46 +5,46 @@ use Rattle.ygg_value.specs.declared.operation.Op.TheVariants.{And, Or}
 use Rattle.ygg_syntax.specs.declared.tree.Def.{Def}
 use Rattle.ygg_syntax.specs.declared.tree.Operation.{Operation}
 use Rattle.ygg_syntax.specs.declared.tree.TypeText.{TypeText}
-use Rattle.ygg_sym.specs.ygg_type_rules.Definitions.{with_definitions}
-use Rattle.ygg_sym.specs.ygg_type_rules.Layers.{operation_signature}
-use Rattle.ygg_sym.specs.ygg_type_rules.Shapes.{answer_shape}
-use Rattle.ygg_sym.specs.ygg_meaning.Layer.{ClosedLayer}
-use Rattle.ygg_sym.specs.ygg_meaning.Machine.{Picks}
-use Rattle.ygg_sym.specs.ygg_meaning.Obligations.{Obligation, Init, CallOf, CutOf, TickOf, CutTickOf, Idle, Again}
-use Rattle.ygg_sym.specs.ygg_meaning.Refines.{Below}
-use Rattle.ygg_sym.specs.ygg_meaning.Shapes.{shape_in}
-use Rattle.ygg_sym.specs.ygg_type_sound_proofs_ProgressFits.{one_shape}
-use Rattle.ygg_sym.specs.ygg_type_sound.Questions.{answer_has, gives}
-use Rattle.ygg_sym.specs.ygg_rules.declared.rule.RuleKind.{RuleKind}
-use Rattle.ygg_sym.specs.ygg_bank_proofs_Meaning.{fits_fewer}
-use Rattle.ygg_sym.specs.ygg_bank.Makes.{Make, Out, and_make, goes_on}
-use Rattle.ygg_sym.specs.ygg_bank.Making.{made}
-use Rattle.ygg_sym.specs.ygg_bank.Nodes.{Extends, IsBank}
-use Rattle.ygg_sym.specs.ygg_bank.Values.{Inputs, Values, Fits, value_of}
-use Rattle.ygg_sym.specs.ygg_bank.declared.node.Id.{Id}
-use Rattle.ygg_sym.specs.ygg_bank.declared.node.Node.{Node}
-use Rattle.ygg_sym.specs.ygg_bank.declared.node.Node.TheVariants.{Bin}
-use Rattle.ygg_sym.proofs.of_ygg_shape.Answered.{no_inputs, some_fit}
-use Rattle.ygg_sym.specs.ygg_shape_cells.Terms.{HasShape, worth}
-use Rattle.ygg_sym.specs.ygg_shape_cells.declared.terms.SymValue.{SymValue}
-use Rattle.ygg_sym.specs.ygg_sym_expr_proofs_Grows.{functions_grow}
-use Rattle.ygg_sym.specs.ygg_sym_expr_proofs_Shaped.{some_wider}
-use Rattle.ygg_sym.specs.ygg_sym_expr.Names.{sym_bind}
-use Rattle.ygg_sym.proofs.of_ygg_sym_runs.Worths.{shape_fits}
-use Rattle.ygg_sym.specs.ygg_sym_runs.Lower.{KeepsSingle}
-use Rattle.ygg_sym.specs.ygg_sym_runs.Meaning.{AnswerShaped, answer_worth}
-use Rattle.ygg_sym.proofs.of_ygg_sym_runs.Blocks.{BlockOfSpec, values_worth, low_stands, block_made_grows, block_made_gives}
-use Rattle.ygg_sym.specs.ygg_sym_runs_proofs_Chosen.{block_end, nth}
-use Rattle.ygg_sym.specs.ygg_sym_runs_proofs_Lows.{low_wider}
-use Rattle.ygg_sym.specs.ygg_sym_runs_proofs_Specs.{given_pick_means}
-use Rattle.ygg_sym.specs.ygg_sym_runs.Disks.{Done}
-use Rattle.ygg_sym.specs.ygg_sym_runs.Lows.{LowShaped, low_worth}
-use Rattle.ygg_sym.specs.ygg_sym_runs.SpecCuts.{block_made}
-use Rattle.ygg_sym.specs.ygg_sym_runs.Specs.{given_pick}
+use Rattle.ygg_sym_spec.specs.ygg_type_rules.Definitions.{with_definitions}
+use Rattle.ygg_sym_spec.specs.ygg_type_rules.Layers.{operation_signature}
+use Rattle.ygg_sym_spec.specs.ygg_type_rules.Shapes.{answer_shape}
+use Rattle.ygg_sym_spec.specs.ygg_meaning.Layer.{ClosedLayer}
+use Rattle.ygg_sym_spec.specs.ygg_meaning.Machine.{Picks}
+use Rattle.ygg_sym_spec.specs.ygg_meaning.Obligations.{Obligation, Init, CallOf, CutOf, TickOf, CutTickOf, Idle, Again}
+use Rattle.ygg_sym_spec.specs.ygg_meaning.Refines.{Below}
+use Rattle.ygg_sym_spec.specs.ygg_meaning.Shapes.{shape_in}
+use Rattle.ygg_sym_spec.specs.ygg_meaning_laws_proofs_ProgressFits.{one_shape}
+use Rattle.ygg_sym_spec.specs.ygg_meaning_laws.Questions.{answer_has, gives}
+use Rattle.ygg_sym_spec.specs.ygg_rules.declared.rule.RuleKind.{RuleKind}
+use Rattle.ygg_sym_spec.specs.ygg_bank_proofs_Meaning.{fits_fewer}
+use Rattle.ygg_sym_spec.specs.ygg_bank.Makes.{Make, Out, and_make, goes_on}
+use Rattle.ygg_sym_spec.specs.ygg_bank.Making.{made}
+use Rattle.ygg_sym_spec.specs.ygg_bank.Nodes.{Extends, IsBank}
+use Rattle.ygg_sym_spec.specs.ygg_bank.Values.{Inputs, Values, Fits, value_of}
+use Rattle.ygg_sym_spec.specs.ygg_bank.declared.node.Id.{Id}
+use Rattle.ygg_sym_spec.specs.ygg_bank.declared.node.Node.{Node}
+use Rattle.ygg_sym_spec.specs.ygg_bank.declared.node.Node.TheVariants.{Bin}
+use Rattle.ygg_sym_spec.proofs.of_ygg_shape.Answered.{no_inputs, some_fit}
+use Rattle.ygg_sym_spec.specs.ygg_shape_cells.Terms.{HasShape, worth}
+use Rattle.ygg_sym_spec.specs.ygg_shape_cells.declared.terms.SymValue.{SymValue}
+use Rattle.ygg_sym_spec.specs.ygg_sym_expr_proofs_Grows.{functions_grow}
+use Rattle.ygg_sym_spec.specs.ygg_sym_expr_proofs_Shaped.{some_wider}
+use Rattle.ygg_sym_spec.specs.ygg_sym_expr.Names.{sym_bind}
+use Rattle.ygg_sym_spec.proofs.of_ygg_sym_runs.Worths.{shape_fits}
+use Rattle.ygg_sym_spec.specs.ygg_sym_runs.Lower.{KeepsSingle}
+use Rattle.ygg_sym_spec.specs.ygg_sym_runs.Meaning.{AnswerShaped, answer_worth}
+use Rattle.ygg_sym_spec.proofs.of_ygg_sym_runs.Blocks.{BlockOfSpec, values_worth, low_stands, block_made_grows, block_made_gives}
+use Rattle.ygg_sym_spec.specs.ygg_sym_runs_proofs_Chosen.{block_end, nth}
+use Rattle.ygg_sym_spec.specs.ygg_sym_runs_proofs_Lows.{low_wider}
+use Rattle.ygg_sym_spec.specs.ygg_sym_runs_proofs_Specs.{given_pick_means}
+use Rattle.ygg_sym_spec.specs.ygg_sym_runs.Disks.{Done}
+use Rattle.ygg_sym_spec.specs.ygg_sym_runs.Lows.{LowShaped, low_worth}
+use Rattle.ygg_sym_spec.specs.ygg_sym_runs.SpecCuts.{block_made}
+use Rattle.ygg_sym_spec.specs.ygg_sym_runs.Specs.{given_pick}
 use Rattle.ygg_oblige_laws.specs.Means.{terms_of}
-use Rattle.ygg_sym.specs.Layers.{closed}
-use Rattle.ygg_sym.specs.SymLayer.{SymLayer}
-use Rattle.ygg_sym.specs.declared.below.SymBelow.{SymBelow}
+use Rattle.ygg_sym_spec.specs.Layers.{closed}
+use Rattle.ygg_sym_spec.specs.declared.layer.SymLayer.{SymLayer}
+use Rattle.ygg_sym_spec.specs.declared.below.SymBelow.{SymBelow}
 use Rattle.ygg_oblige_laws.specs.LayerTerms.{OperationFits, LayerTyped}
 use Rattle.ygg_oblige_laws.specs.Numbers.{arguments_of}
 use Rattle.ygg_oblige_laws.specs.Outcomes.{any_picks, outcome_made}

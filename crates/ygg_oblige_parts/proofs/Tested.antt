@@ -4,23 +4,23 @@ use Rattle.std.proofs.lemmas.List.Elements.{All-head, All-tail, All-append, All-
 use Rattle.ygg_value.specs.declared.operation.Op.TheVariants.{And}
 use Rattle.ygg_value.specs.declared.shape.Shape.TheVariants as shape
 use Rattle.ygg_syntax.specs.declared.tree.Expr.{Expr}
-use Rattle.ygg_sym.specs.ygg_rules.declared.rule.RuleKind.{RuleKind}
-use Rattle.ygg_sym.specs.ygg_bank_proofs_Widths.{wider}
-use Rattle.ygg_sym.specs.ygg_bank.Makes.{Out, goes_on}
-use Rattle.ygg_sym.specs.ygg_bank.Making.{made}
-use Rattle.ygg_sym.specs.ygg_bank.Nodes.{Extends, HasWidth, IsBank}
-use Rattle.ygg_sym.specs.ygg_bank.declared.node.Id.{Id}
-use Rattle.ygg_sym.specs.ygg_bank.declared.node.Node.{Node}
-use Rattle.ygg_sym.specs.ygg_bank.declared.node.Node.TheVariants.{Bin}
-use Rattle.ygg_sym.specs.ygg_shape_cells.Terms.{IsShaped}
-use Rattle.ygg_sym.specs.ygg_shape_cells.declared.terms.SymValue.{SymValue}
-use Rattle.ygg_sym.specs.ygg_shape_cells.declared.terms.SymValue.TheVariants as value
-use Rattle.ygg_sym.specs.ygg_sym_expr.Exprs.{id_in}
-use Rattle.ygg_sym.specs.ygg_sym_expr.Seen.{SymKnown, terms_in}
-use Rattle.ygg_sym.specs.ygg_bank_proofs_Meaning.{fits_fewer}
-use Rattle.ygg_sym.specs.ygg_sym_expr_proofs_Shaped.{scope_wider}
-use Rattle.ygg_sym.proofs.of_ygg_sym_expr.Terms.{terms_shaped}
-use Rattle.ygg_sym.proofs.Left.{Left, left_goes, rest_is}
+use Rattle.ygg_sym_spec.specs.ygg_rules.declared.rule.RuleKind.{RuleKind}
+use Rattle.ygg_sym_spec.specs.ygg_bank_proofs_Widths.{wider}
+use Rattle.ygg_sym_spec.specs.ygg_bank.Makes.{Out, goes_on}
+use Rattle.ygg_sym_spec.specs.ygg_bank.Making.{made}
+use Rattle.ygg_sym_spec.specs.ygg_bank.Nodes.{Extends, HasWidth, IsBank}
+use Rattle.ygg_sym_spec.specs.ygg_bank.declared.node.Id.{Id}
+use Rattle.ygg_sym_spec.specs.ygg_bank.declared.node.Node.{Node}
+use Rattle.ygg_sym_spec.specs.ygg_bank.declared.node.Node.TheVariants.{Bin}
+use Rattle.ygg_sym_spec.specs.ygg_shape_cells.Terms.{IsShaped}
+use Rattle.ygg_sym_spec.specs.ygg_shape_cells.declared.terms.SymValue.{SymValue}
+use Rattle.ygg_sym_spec.specs.ygg_shape_cells.declared.terms.SymValue.TheVariants as value
+use Rattle.ygg_sym_spec.specs.ygg_sym_expr.Exprs.{id_in}
+use Rattle.ygg_sym_spec.specs.ygg_sym_expr.Seen.{SymKnown, terms_in}
+use Rattle.ygg_sym_spec.specs.ygg_bank_proofs_Meaning.{fits_fewer}
+use Rattle.ygg_sym_spec.specs.ygg_sym_expr_proofs_Shaped.{scope_wider}
+use Rattle.ygg_sym_spec.proofs.of_ygg_sym_expr.Terms.{terms_shaped}
+use Rattle.ygg_sym_spec.proofs.Left.{Left, left_goes, rest_is}
 use Rattle.ygg_oblige_parts.specs.Digits.{IsDigit, conjunction}
 use Rattle.ygg_oblige_parts.specs.Formulas.{CanTest, digits_made, truths_in}
 

@@ -3,14 +3,14 @@ use Rattle.std.specs.Prelude.{◌≡◌, List, [], ◌∷◌, Some}
 use Rattle.ygg_value.specs.declared.shape.Shape.TheVariants.{Word}
 use Rattle.ygg_syntax.specs.declared.tree.Def.{Def}
 use Rattle.ygg_syntax.specs.declared.tree.Expr.{Expr}
-use Rattle.ygg_sym.specs.ygg_type_rules.Expressions.{typing}
-use Rattle.ygg_sym.specs.ygg_rules.declared.rule.RuleKind.{RuleKind}
-use Rattle.ygg_sym.specs.ygg_bank.Makes.{Make, pure, and_make}
-use Rattle.ygg_sym.specs.ygg_bank.declared.node.Id.{Id}
-use Rattle.ygg_sym.specs.ygg_bank.declared.node.Node.{Node}
-use Rattle.ygg_sym.specs.ygg_sym_expr.Exprs.{id_in}
-use Rattle.ygg_sym.specs.ygg_sym_expr.Names.{SymEnv}
-use Rattle.ygg_sym.specs.ygg_sym_expr.Seen.{SymKnown, CanTerm, terms_called, terms_in}
+use Rattle.ygg_sym_spec.specs.ygg_type_rules.Expressions.{typing}
+use Rattle.ygg_sym_spec.specs.ygg_rules.declared.rule.RuleKind.{RuleKind}
+use Rattle.ygg_sym_spec.specs.ygg_bank.Makes.{Make, pure, and_make}
+use Rattle.ygg_sym_spec.specs.ygg_bank.declared.node.Id.{Id}
+use Rattle.ygg_sym_spec.specs.ygg_bank.declared.node.Node.{Node}
+use Rattle.ygg_sym_spec.specs.ygg_sym_expr.Exprs.{id_in}
+use Rattle.ygg_sym_spec.specs.ygg_sym_expr.Names.{SymEnv}
+use Rattle.ygg_sym_spec.specs.ygg_sym_expr.Seen.{SymKnown, CanTerm, terms_called, terms_in}
 use Rattle.ygg_oblige_laws.specs.TermStates.{truths_made}
 
 -- these definitions, and these names

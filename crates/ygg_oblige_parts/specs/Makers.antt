@@ -1,17 +1,17 @@
 -- A layer whose obligations' terms are made, and the states that they begin with.
 use Rattle.std.specs.Prelude.{List}
-use Rattle.ygg_sym.specs.ygg_meaning.Layer.{ClosedLayer}
-use Rattle.ygg_sym.specs.ygg_rules.declared.rule.RuleKind.{RuleKind}
-use Rattle.ygg_sym.specs.ygg_bank.Makes.{Make, pure, and_make}
-use Rattle.ygg_sym.specs.ygg_bank.Nodes.{HasWidth}
-use Rattle.ygg_sym.specs.ygg_bank.declared.node.Node.{Node}
+use Rattle.ygg_sym_spec.specs.ygg_meaning.Layer.{ClosedLayer}
+use Rattle.ygg_sym_spec.specs.ygg_rules.declared.rule.RuleKind.{RuleKind}
+use Rattle.ygg_sym_spec.specs.ygg_bank.Makes.{Make, pure, and_make}
+use Rattle.ygg_sym_spec.specs.ygg_bank.Nodes.{HasWidth}
+use Rattle.ygg_sym_spec.specs.ygg_bank.declared.node.Node.{Node}
 use Rattle.ygg_oblige_laws.specs.ygg_shape_hypothesis.Finding.{facts_in}
-use Rattle.ygg_sym.specs.ygg_sym_expr.Exprs.{SymFunctions}
-use Rattle.ygg_sym.specs.ygg_sym_runs.Lows.{LowShaped}
-use Rattle.ygg_sym.specs.Layers.{closed}
-use Rattle.ygg_sym.specs.SymLayer.{SymLayer}
-use Rattle.ygg_sym.specs.Sites.{below_in}
-use Rattle.ygg_sym.specs.declared.below.SymBelow.{SymBelow}
+use Rattle.ygg_sym_spec.specs.ygg_sym_expr.Exprs.{SymFunctions}
+use Rattle.ygg_sym_spec.specs.ygg_sym_runs.Lows.{LowShaped}
+use Rattle.ygg_sym_spec.specs.Layers.{closed}
+use Rattle.ygg_sym_spec.specs.declared.layer.SymLayer.{SymLayer}
+use Rattle.ygg_sym_spec.specs.Sites.{below_in}
+use Rattle.ygg_sym_spec.specs.declared.below.SymBelow.{SymBelow}
 use Rattle.ygg_oblige_laws.specs.LayerTerms.{LayerTyped}
 use Rattle.ygg_oblige_laws.specs.TermStates.{Trio, Starting, related_made, settled_made, replaced_trio, replaced_all}
 use Rattle.ygg_oblige_laws.specs.Worth.{TrioShaped}

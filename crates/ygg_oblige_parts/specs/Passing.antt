@@ -1,26 +1,26 @@
 -- Whether the specification's step passes after a run, in code.
 use Rattle.std.specs.Prelude.{ℕ, List, [], Option}
-use Rattle.ygg_sym.specs.ygg_meaning.Layer.{ClosedLayer}
-use Rattle.ygg_sym.specs.ygg_meaning.Machine.{Picks}
-use Rattle.ygg_sym.specs.ygg_meaning.Obligations.{Obligation, Init, CallOf, CutOf, TickOf, CutTickOf, Idle, Again}
-use Rattle.ygg_sym.specs.ygg_meaning.Violates.{most}
-use Rattle.ygg_sym.specs.ygg_rules.declared.rule.RuleKind.{RuleKind}
+use Rattle.ygg_sym_spec.specs.ygg_meaning.Layer.{ClosedLayer}
+use Rattle.ygg_sym_spec.specs.ygg_meaning.Machine.{Picks}
+use Rattle.ygg_sym_spec.specs.ygg_meaning.Obligations.{Obligation, Init, CallOf, CutOf, TickOf, CutTickOf, Idle, Again}
+use Rattle.ygg_sym_spec.specs.ygg_meaning.Violates.{most}
+use Rattle.ygg_sym_spec.specs.ygg_rules.declared.rule.RuleKind.{RuleKind}
 use Rattle.ygg_value.specs.declared.operation.Op.TheVariants.{And}
-use Rattle.ygg_sym.specs.ygg_bank.Makes.{Make, and_make}
-use Rattle.ygg_sym.specs.ygg_bank.Making.{made}
-use Rattle.ygg_sym.specs.ygg_bank.Values.{Inputs, Values, Fits}
-use Rattle.ygg_sym.specs.ygg_bank.declared.node.Id.{Id}
-use Rattle.ygg_sym.specs.ygg_bank.declared.node.Node.{Node}
-use Rattle.ygg_sym.specs.ygg_bank.declared.node.Node.TheVariants.{Bin}
-use Rattle.ygg_sym.specs.ygg_shape_cells.declared.terms.SymValue.{SymValue}
-use Rattle.ygg_sym.specs.ygg_sym_expr.Exprs.{SymFunctions}
-use Rattle.ygg_sym.specs.ygg_sym_runs.Meaning.{AnswerShaped}
-use Rattle.ygg_sym.specs.ygg_sym_runs.Lower.{SingleFrom}
-use Rattle.ygg_sym.specs.ygg_sym_runs.Lows.{LowShaped}
-use Rattle.ygg_sym.specs.Layers.{closed, terms_in}
-use Rattle.ygg_sym.specs.SymLayer.{SymLayer}
-use Rattle.ygg_sym.specs.Sites.{below_in}
-use Rattle.ygg_sym.specs.declared.below.SymBelow.{SymBelow}
+use Rattle.ygg_sym_spec.specs.ygg_bank.Makes.{Make, and_make}
+use Rattle.ygg_sym_spec.specs.ygg_bank.Making.{made}
+use Rattle.ygg_sym_spec.specs.ygg_bank.Values.{Inputs, Values, Fits}
+use Rattle.ygg_sym_spec.specs.ygg_bank.declared.node.Id.{Id}
+use Rattle.ygg_sym_spec.specs.ygg_bank.declared.node.Node.{Node}
+use Rattle.ygg_sym_spec.specs.ygg_bank.declared.node.Node.TheVariants.{Bin}
+use Rattle.ygg_sym_spec.specs.ygg_shape_cells.declared.terms.SymValue.{SymValue}
+use Rattle.ygg_sym_spec.specs.ygg_sym_expr.Exprs.{SymFunctions}
+use Rattle.ygg_sym_spec.specs.ygg_sym_runs.Meaning.{AnswerShaped}
+use Rattle.ygg_sym_spec.specs.ygg_sym_runs.Lower.{SingleFrom}
+use Rattle.ygg_sym_spec.specs.ygg_sym_runs.Lows.{LowShaped}
+use Rattle.ygg_sym_spec.specs.Layers.{closed, terms_in}
+use Rattle.ygg_sym_spec.specs.declared.layer.SymLayer.{SymLayer}
+use Rattle.ygg_sym_spec.specs.Sites.{below_in}
+use Rattle.ygg_sym_spec.specs.declared.below.SymBelow.{SymBelow}
 use Rattle.ygg_oblige_laws.specs.Numbers.{arguments_of}
 use Rattle.ygg_oblige_laws.specs.Outcomes.{any_picks, outcome_made}
 use Rattle.ygg_oblige_laws.specs.TermStates.{related_made}
@@ -28,7 +28,7 @@ use Rattle.ygg_oblige_laws.specs.Terms.{Finish, same_answers_made}
 use Rattle.ygg_oblige_laws.specs.Steps.{AnswerKept, HasStep, ObligationTyped, variables_of}
 use Rattle.ygg_oblige_parts.specs.Digits.{AnswersAlike}
 use Rattle.ygg_oblige_parts.specs.Makers.{LayerFits}
-use Rattle.ygg_oblige_parts.specs.Steps.{obligation_of}
+use Rattle.ygg_oblige_list.specs.InCode.{obligation_of}
 use Rattle.ygg_oblige_parts.specs.declared.passing.SymStep.{SymStep}
 
 -- two answers may be compared, where the obligation speaks of an answer

@@ -1,16 +1,16 @@
 //! Comparing states, and comparing answers.
 
 ghost use Rattle.std.specs.Prelude.{◌≡◌, IfOk, OnOk};
-ghost use Rattle.ygg_sym.specs.ygg_bank.Nodes.{Extends, HasWidth, IsBank};
-ghost use Rattle.ygg_sym.specs.ygg_shape.Wholes.{AllAlike};
-ghost use Rattle.ygg_sym.specs.ygg_sym_runs.Lower.{KeepsSingle};
+ghost use Rattle.ygg_sym_spec.specs.ygg_bank.Nodes.{Extends, HasWidth, IsBank};
+ghost use Rattle.ygg_sym_spec.specs.ygg_shape_cells.Wholes.{AllAlike};
+ghost use Rattle.ygg_sym_spec.specs.ygg_sym_runs.Lower.{KeepsSingle};
 ghost use Rattle.ygg_oblige_laws.specs.Outcomes.{answers_compared};
 ghost use Rattle.ygg_oblige_laws.specs.TermStates.{all_compared};
 ghost use Rattle.ygg_oblige_parts.specs.Digits.{AnswersAlike};
 
 use crate::digits::constant;
 use std::alloc::Global;
-use ygg_sym::{Bank, Book, Id, NoMemory, SymValue, equal, equal_all};
+use ygg_sym_spec::{Bank, Book, Id, NoMemory, SymValue, equal, equal_all};
 
 /// Whether two lists of values are equal, value by value. Its only error is out of memory, after which the bank may have more nodes.
 pub fn all_equal<B: Book>(

@@ -2,13 +2,13 @@
 
 ghost use Rattle.std.specs.Prelude.{◌≡◌, ◌<◌, IfOk, OnOk, All};
 ghost use Rattle.ygg_value.specs.Words.{word};
-ghost use Rattle.ygg_sym.specs.ygg_bank.Making.{made};
-ghost use Rattle.ygg_sym.specs.ygg_bank.Nodes.{Extends, HasWidth, IsBank};
-ghost use Rattle.ygg_sym.specs.ygg_bank.declared.node.Node.TheVariants.{Bin, Const};
-ghost use Rattle.ygg_sym.specs.ygg_sym_runs.Lower.{KeepsSingle};
+ghost use Rattle.ygg_sym_spec.specs.ygg_bank.Making.{made};
+ghost use Rattle.ygg_sym_spec.specs.ygg_bank.Nodes.{Extends, HasWidth, IsBank};
+ghost use Rattle.ygg_sym_spec.specs.ygg_bank.declared.node.Node.TheVariants.{Bin, Const};
+ghost use Rattle.ygg_sym_spec.specs.ygg_sym_runs.Lower.{KeepsSingle};
 ghost use Rattle.ygg_oblige_parts.specs.Digits.{IsDigit, conjunction};
 
-use ygg_sym::{Bank, Book, Id, NoMemory, Node};
+use ygg_sym_spec::{Bank, Book, Id, NoMemory, Node};
 use ygg_value::{Op, Word};
 
 /// The constant of a bit.

@@ -1,15 +1,15 @@
 //! Formulas over terms, of which each is a single digit.
 
 ghost use Rattle.std.specs.Prelude.{◌≡◌, IfOk, OnOk, All};
-ghost use Rattle.ygg_sym.specs.ygg_bank.Nodes.{Extends, HasWidth, IsBank};
-ghost use Rattle.ygg_sym.specs.ygg_sym_expr.Seen.{known_of, terms_in};
-ghost use Rattle.ygg_sym.specs.ygg_sym_expr.Exprs.{id_in};
+ghost use Rattle.ygg_sym_spec.specs.ygg_bank.Nodes.{Extends, HasWidth, IsBank};
+ghost use Rattle.ygg_sym_spec.specs.ygg_sym_expr.Seen.{known_of, terms_in};
+ghost use Rattle.ygg_sym_spec.specs.ygg_sym_expr.Exprs.{id_in};
 ghost use Rattle.ygg_oblige_parts.specs.Digits.{IsDigit};
 ghost use Rattle.ygg_oblige_parts.specs.Formulas.{CanTest, digits_made, truths_in};
 
 use crate::digits::all;
 use std::alloc::Global;
-use ygg_sym::{Bank, Book, Id, NoMemory, SymEvaluator, id_in};
+use ygg_sym_spec::{Bank, Book, Id, NoMemory, SymEvaluator, id_in};
 use ygg_syntax::tree::Expr;
 
 /// The digit of a formula.

@@ -11,11 +11,8 @@ mod states;
 
 pub use comparing::all_equal;
 pub use digits::join;
-pub use names::{fresh, words_in};
-pub use outcome::SymObligation;
+pub use names::fresh;
 pub use passing::SymStep;
 pub use states::{Maker, SymStarting, SymTrio};
-pub use ygg_sym::{
-    Bank, Book, Id, NoMemory, SymBelow, SymBlock, SymCut, SymEnd, SymLayer, SymPicks, SymValues,
-    block, cut, failure_room, lost, low_at_start, places, run, zeros,
-};
+pub use ygg_oblige_given::words_in;
+pub use ygg_sym_spec::{Bank, Book, Id, NoMemory, SymBelow, SymLayer, SymValues, zeros};

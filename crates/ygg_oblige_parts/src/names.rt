@@ -1,21 +1,19 @@
-//! Names with values of terms, and how many words they have.
+//! Names with values of terms.
 
 ghost use Rattle.std.specs.Prelude.{◌≡◌, ◌++◌, ◌+◌, ◌<◌, ◌^◌, IfOk, OnOk};
-ghost use Rattle.ygg_sym.specs.ygg_bank.Inputs.{InputsBelow};
-ghost use Rattle.ygg_sym.specs.ygg_bank.Nodes.{Extends, IsBank};
-ghost use Rattle.ygg_sym.specs.ygg_shape.Fresh.{words_of};
-ghost use Rattle.ygg_value.specs.Shapes.{IsShape};
-ghost use Rattle.ygg_sym.specs.ygg_meaning.Shapes.{shape_in};
-ghost use Rattle.ygg_sym.specs.ygg_sym_runs.Lows.{LowShaped};
-ghost use Rattle.ygg_sym.specs.ygg_sym_expr.Names.{sym_bind};
-ghost use Rattle.ygg_sym.specs.ygg_sym_expr.Seen.{env_of};
+ghost use Rattle.ygg_sym_spec.specs.ygg_bank.Inputs.{InputsBelow};
+ghost use Rattle.ygg_sym_spec.specs.ygg_bank.Nodes.{Extends, IsBank};
+ghost use Rattle.ygg_sym_spec.specs.ygg_sym_runs.Lows.{LowShaped};
+ghost use Rattle.ygg_sym_spec.specs.ygg_sym_expr.Names.{sym_bind};
+ghost use Rattle.ygg_sym_spec.specs.ygg_sym_expr.Seen.{env_of};
 ghost use Rattle.ygg_oblige_laws.specs.LayerTerms.{ShapesKept};
 ghost use Rattle.ygg_oblige_laws.specs.TermStates.{fresh_all, words_in};
 
 use std::alloc::Global;
 use ygg_list::Duplicate;
-use ygg_sym::{Bank, Book, NoMemory, SymBinding, SymValue, SymValues, inputs_of, shape_of};
-use ygg_syntax::tree::{Declared, TypeText};
+use ygg_oblige_given::words_of;
+use ygg_sym_spec::{Bank, Book, NoMemory, SymBinding, SymValue, SymValues, inputs_of, shape_of};
+use ygg_syntax::tree::Declared;
 
 /// Adds the declared names with these values, in order. Its only error is out of memory.
 pub fn add_names<'a>(
@@ -36,33 +34,6 @@ pub fn add_names<'a>(
         })?;
     }
     Ok(())
-}
-
-/// How many words a value has whose type this is.
-pub fn words_of(text: TypeText) -> u64
-    requires { IsShape (shape_in text) }
-    ensures { result ≡ words_of (shape_in text) }
-{
-    match text {
-        TypeText::Word(_) => 1,
-        TypeText::Row(words, _) => words.value,
-        TypeText::Table(rows, words, _) => rows.value * words.value,
-    }
-}
-
-/// How many words the values of declared names have. Its only error is out of memory: no machine has memory for 2^64 of them.
-pub fn words_in(declared: &[Declared]) -> Result<u64, NoMemory>
-    requires { ShapesKept declared.now }
-    ensures { IfOk result (λ n. n ≡ words_in declared.now) }
-{
-    let mut count: u64 = 0;
-    for variable in declared {
-        match count.checked_add(words_of(variable.shape)) {
-            Some(more) => count = more,
-            None => return Err(NoMemory),
-        }
-    }
-    Ok(count)
 }
 
 /// Inputs for declared names, numbered on from a number that is above those of all inputs. Its only error is out of memory, after which the bank

@@ -1,43 +1,25 @@
 //! What a layer's own specification may do, over terms.
 
 ghost use Rattle.std.specs.Prelude.{◌≡◌, IfOk, OnOk};
-ghost use Rattle.ygg_sym.specs.ygg_bank.Nodes.{Extends, IsBank};
-ghost use Rattle.ygg_sym.specs.ygg_sym_runs.Disks.{done};
-ghost use Rattle.ygg_sym.specs.ygg_sym_runs.Lows.{LowShaped};
-ghost use Rattle.ygg_sym.specs.ygg_sym_runs.Lower.{KeepsSingle, SingleFrom};
-ghost use Rattle.ygg_sym.specs.Layers.{closed, terms_in};
-ghost use Rattle.ygg_sym.specs.Sites.{below_in};
+ghost use Rattle.ygg_sym_spec.specs.ygg_bank.Nodes.{Extends, IsBank};
+ghost use Rattle.ygg_sym_spec.specs.ygg_sym_runs.Disks.{done};
+ghost use Rattle.ygg_sym_spec.specs.ygg_sym_runs.Lows.{LowShaped};
+ghost use Rattle.ygg_sym_spec.specs.ygg_sym_runs.Lower.{KeepsSingle, SingleFrom};
+ghost use Rattle.ygg_sym_spec.specs.Layers.{closed, terms_in};
+ghost use Rattle.ygg_sym_spec.specs.Sites.{below_in};
 ghost use Rattle.ygg_oblige_laws.specs.LayerTerms.{OperationFits};
 ghost use Rattle.ygg_oblige_laws.specs.Numbers.{arguments_of};
 ghost use Rattle.ygg_oblige_laws.specs.Outcomes.{fall_with_picks, outcome_made};
 ghost use Rattle.ygg_oblige_laws.specs.Steps.{ObligationTyped, variables_of};
 ghost use Rattle.ygg_oblige_parts.specs.Makers.{LayerFits};
-ghost use Rattle.ygg_oblige_parts.specs.Steps.{obligation_of};
+ghost use Rattle.ygg_oblige_list.specs.InCode.{obligation_of};
 
 use crate::states::Maker;
-use ygg_sym::{
+use ygg_oblige_list::SymObligation;
+use ygg_sym_spec::{
     Bank, Book, NoMemory, SpecDone, SymPicks, SymValues, block, crash, start, then_crash,
 };
-use ygg_syntax::tree::{Operation, Tick};
-
-/// An obligation of a layer, with its operation or background step.
-#[derive(Clone, Copy)]
-pub enum SymObligation<'a> {
-    /// Formatting gives a state that is related to the specification's start.
-    Init,
-    /// A whole operation does what its specification does.
-    Call(&'a Operation),
-    /// An operation that power cuts, and a recovery, leave what its specification may leave.
-    Cut(&'a Operation),
-    /// A whole background step changes nothing that the specification sees.
-    Tick(&'a Tick),
-    /// A background step that power cuts, and a recovery, leave what power loss alone may leave.
-    CutTick(&'a Tick),
-    /// Power loss between operations, and a recovery, leave what the specification's power loss may leave.
-    Idle,
-    /// A recovery that power cuts, and another, end where one whole recovery ends.
-    Again,
-}
+use ygg_syntax::tree::Operation;
 
 /// Variables without an answer.
 fn left(vars: SymValues) -> SpecDone

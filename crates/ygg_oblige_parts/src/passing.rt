@@ -1,23 +1,23 @@
 //! Whether some step of a layer's own specification passes, over terms.
 
 ghost use Rattle.std.specs.Prelude.{◌≡◌, ◌<◌, ◌++◌, ◌∷◌, [], IfOk, OnOk};
-ghost use Rattle.ygg_sym.specs.ygg_bank.Nodes.{Extends, HasWidth, IsBank};
-ghost use Rattle.ygg_sym.specs.ygg_meaning.Violates.{most};
-ghost use Rattle.ygg_sym.specs.ygg_sym_runs.Lower.{KeepsSingle};
-ghost use Rattle.ygg_sym.specs.Layers.{closed};
+ghost use Rattle.ygg_sym_spec.specs.ygg_bank.Nodes.{Extends, HasWidth, IsBank};
+ghost use Rattle.ygg_sym_spec.specs.ygg_meaning.Violates.{most};
+ghost use Rattle.ygg_sym_spec.specs.ygg_sym_runs.Lower.{KeepsSingle};
+ghost use Rattle.ygg_sym_spec.specs.Layers.{closed};
 ghost use Rattle.ygg_oblige_laws.specs.Outcomes.{any_picks};
 ghost use Rattle.ygg_oblige_laws.specs.Terms.{same_answers_made};
 ghost use Rattle.ygg_syntax.specs.Choices.{choices_of};
-ghost use Rattle.ygg_sym.specs.ygg_syntax_count.Budget.{limit};
+ghost use Rattle.ygg_syntax_count.specs.Budget.{limit};
 ghost use Rattle.ygg_oblige_parts.specs.Passing.{AskedAlike, StepCan, passes_of, some_of};
-ghost use Rattle.ygg_oblige_parts.specs.Steps.{obligation_of};
+ghost use Rattle.ygg_oblige_list.specs.InCode.{obligation_of};
 
 use crate::comparing::same_answers;
 use crate::digits::{constant, join};
-use crate::outcome::SymObligation;
 use crate::states::Maker;
 use std::alloc::Global;
-use ygg_sym::{Bank, Book, Id, NoMemory, SymValue, SymValues};
+use ygg_oblige_list::SymObligation;
+use ygg_sym_spec::{Bank, Book, Id, NoMemory, SymValue, SymValues};
 use ygg_syntax::tree::Block;
 use ygg_syntax_count::choices;
 use ygg_value::Op;

@@ -1,13 +1,13 @@
 //! The states that a layer's obligations speak of, over terms.
 
 ghost use Rattle.std.specs.Prelude.{◌≡◌, ◌+◌, ◌<◌, ◌^◌, IfOk, OnOk, All};
-ghost use Rattle.ygg_sym.specs.ygg_bank.Inputs.{InputsBelow};
-ghost use Rattle.ygg_sym.specs.ygg_bank.Nodes.{Extends, HasWidth, IsBank};
-ghost use Rattle.ygg_sym.specs.ygg_meaning.Related.{relations};
-ghost use Rattle.ygg_sym.specs.ygg_sym_runs.Lows.{LowShaped};
-ghost use Rattle.ygg_sym.specs.ygg_sym_expr.Seen.{env_of};
-ghost use Rattle.ygg_sym.specs.ygg_sym_runs.Lower.{KeepsSingle};
-ghost use Rattle.ygg_sym.specs.Layers.{closed, terms_in};
+ghost use Rattle.ygg_sym_spec.specs.ygg_bank.Inputs.{InputsBelow};
+ghost use Rattle.ygg_sym_spec.specs.ygg_bank.Nodes.{Extends, HasWidth, IsBank};
+ghost use Rattle.ygg_sym_spec.specs.ygg_meaning.Related.{relations};
+ghost use Rattle.ygg_sym_spec.specs.ygg_sym_runs.Lows.{LowShaped};
+ghost use Rattle.ygg_sym_spec.specs.ygg_sym_expr.Seen.{env_of};
+ghost use Rattle.ygg_sym_spec.specs.ygg_sym_runs.Lower.{KeepsSingle};
+ghost use Rattle.ygg_sym_spec.specs.Layers.{closed, terms_in};
 ghost use Rattle.ygg_oblige_laws.specs.TermStates.{
   fresh_trio,
   related_made,
@@ -23,10 +23,13 @@ ghost use Rattle.ygg_oblige_parts.specs.Makers.{LayerFits, StartingShaped, start
 
 use crate::digits::join;
 use crate::formulas::{digit, truths};
-use crate::names::{add_names, fresh, words_in};
+use crate::names::{add_names, fresh};
 use std::alloc::Global;
+use ygg_oblige_given::words_in;
 use ygg_oblige_laws::{Replacements, facts, replace};
-use ygg_sym::{Bank, Book, Id, NoMemory, SymBelow, SymBinding, SymEvaluator, SymLayer, SymValues};
+use ygg_sym_spec::{
+    Bank, Book, Id, NoMemory, SymBelow, SymBinding, SymEvaluator, SymLayer, SymValues,
+};
 use ygg_value::Op;
 
 /// Variables of a specification, a memory, and a state below.

@@ -2,8 +2,8 @@
 use Rattle.std.proofs.Common.{◌≡◌, ◌+◌, ◌*◌, ℕ, suc, [], ◌∷◌, ◌++◌, length, arith}
 use Rattle.std.proofs.lemmas.List.{length-append}
 use Rattle.ygg_syntax.specs.declared.tree.Layer.{Layer}
-use Rattle.ygg_eval_block.specs.ygg_meaning.Obligations.{CallOf, CutOf, TickOf, CutTickOf, Idle, Again, obligations_of}
-use Rattle.ygg_oblige.specs.Listing.{calls_of, ticks_of}
+use Rattle.ygg_oblige_list.specs.ygg_meaning.Obligations.{CallOf, CutOf, TickOf, CutTickOf, Idle, Again, obligations_of}
+use Rattle.ygg_oblige_list.specs.Listing.{calls_of, ticks_of}
 use Rattle.ygg_oblige_reading.proofs.Lists.{both_length}
 
 total : (all front calls ticks operations steps : ℕ) → all ≡ front + 2 → front ≡ calls + ticks → calls ≡ 2 * operations → ticks ≡ 2 * steps →

@@ -4,20 +4,20 @@ use Rattle.std.specs.Prelude.{slice_get}
 use Rattle.ygg_syntax.specs.Files.{IsDerived}
 use Rattle.ygg_syntax.specs.declared.tree.File.{File}
 use Rattle.ygg_oblige_reading.specs.ygg_type_rules.Files.{IsTyped}
-use Rattle.ygg_replay.specs.ygg_meaning.Obligations as meaning
-use Rattle.ygg_replay.specs.ygg_meaning.Claims.{Claim, ClaimViolated, claims_of}
-use Rattle.ygg_replay.specs.ygg_meaning.Stack.{layers_of}
+use Rattle.ygg_oblige_list.specs.ygg_meaning.Obligations as meaning
+use Rattle.ygg_oblige_list.specs.ygg_meaning.Claims.{Claim, ClaimViolated, claims_of}
+use Rattle.ygg_oblige_list.specs.ygg_meaning.Stack.{layers_of}
 use Rattle.ygg_oblige_reading.specs.ygg_rules.declared.rule.RuleKind.{RuleKind}
-use Rattle.ygg_eval_places.specs.ygg_bank.Values.{Inputs, value_of}
-use Rattle.ygg_eval_places.specs.ygg_bank.declared.node.Id.{Id}
-use Rattle.ygg_eval_places.specs.ygg_bank.declared.node.Node.{Node}
-use Rattle.ygg_eval_places.specs.ygg_sym_laws.Means.{terms_of}
-use Rattle.ygg_oblige_given.specs.ygg_oblige_laws.Terms.{file_made}
+use Rattle.ygg_oblige.specs.ygg_bank.Values.{Inputs, value_of}
+use Rattle.ygg_oblige.specs.ygg_bank.declared.node.Id.{Id}
+use Rattle.ygg_oblige.specs.ygg_bank.declared.node.Node.{Node}
+use Rattle.ygg_oblige.specs.ygg_sym_laws.Means.{terms_of}
+use Rattle.ygg_oblige.specs.ygg_oblige_laws.Terms.{file_made}
 use Rattle.ygg_oblige_reading.specs.Obligation.{Obligation}
-use Rattle.ygg_oblige_reading.specs.ScheduleLaws.{AllExact, IsExact}
-use Rattle.ygg_oblige_laws.specs.Schedules.{all_schedules}
-use Rattle.ygg_oblige_reading.proofs.ScheduleLayers.{file_named}
-use Rattle.ygg_replay.specs.ygg_sched.declared.schedule.Schedule.{Schedule}
+use Rattle.ygg_oblige_reading.specs.ygg_oblige_laws.ScheduleLaws.{AllExact, IsExact}
+use Rattle.ygg_oblige.specs.ygg_oblige_laws.Schedules.{all_schedules}
+use Rattle.ygg_oblige_reading.proofs.of_ygg_oblige_laws.ScheduleLayers.{file_named}
+use Rattle.ygg_oblige_schedule.specs.ygg_sched.declared.schedule.Schedule.{Schedule}
 use Rattle.ygg_oblige_reading.specs.Meant.{FitsTerms, IsExactly, IsMadeIn, IsNamed, Names, NamesShaped, ViolatesAtZero, meant}
 
 -- the term of an obligation, and what it says of the schedule

@@ -2,15 +2,15 @@
 use Rattle.std.proofs.Common.{◌≡◌, ℕ, zero, suc, List, [], ◌∷◌, ◌<◌, length, get_or, take, None, Some, refl, ap, subst, arith}
 use Rattle.std.specs.Prelude.{All, slice_get}
 use Rattle.std.proofs.lemmas.Option.{get_or_from_slice_get, slice_get_within}
-use Rattle.ygg_eval_block.specs.ygg_meaning.Layer.{ClosedLayer}
-use Rattle.ygg_eval_block.specs.ygg_meaning.Refines.{Below}
+use Rattle.ygg_oblige_list.specs.ygg_meaning.Layer.{ClosedLayer}
+use Rattle.ygg_oblige_list.specs.ygg_meaning.Refines.{Below}
 use Rattle.ygg_rules.specs.declared.rule.RuleKind.{RuleKind}
 use Rattle.ygg_oblige.specs.ygg_sym_expr.Exprs.{SymFunctions}
-use Rattle.ygg_eval_block.specs.ygg_meaning.Obligations.{Obligation, obligations_of}
+use Rattle.ygg_oblige_list.specs.ygg_meaning.Obligations.{Obligation, obligations_of}
 use Rattle.ygg_oblige.specs.ygg_sym_spec.Layers.{closed}
 use Rattle.ygg_oblige.specs.ygg_sym_spec.declared.layer.SymLayer.{SymLayer}
 use Rattle.ygg_oblige.specs.Sites.{below_in}
-use Rattle.ygg_oblige.specs.SymBelow.{SymBelow}
+use Rattle.ygg_oblige.specs.ygg_sym_spec.declared.below.SymBelow.{SymBelow}
 use Rattle.ygg_oblige.specs.ygg_oblige_laws.LayerTerms.{LayerTyped}
 use Rattle.ygg_oblige.proofs.Begun.{layer_known}
 use Rattle.ygg_oblige.proofs.KnownSo.{known_shapes}

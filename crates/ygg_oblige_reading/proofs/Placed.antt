@@ -5,30 +5,30 @@ use Rattle.std.specs.Prelude.{IsTrue, slice_get}
 use Rattle.std.proofs.lemmas.Option.{slice_get-map}
 use Rattle.ygg_syntax.specs.declared.tree.Declared.{Declared}
 use Rattle.ygg_syntax.specs.declared.tree.Layer.{Layer}
-use Rattle.ygg_replay.specs.ygg_meaning.Obligations.{Obligation, Init, CallOf, CutOf, TickOf, CutTickOf, Idle, Again, name_of}
-use Rattle.ygg_replay.specs.ygg_meaning.Obligations as meaning
-use Rattle.ygg_replay.specs.ygg_meaning.Violates.{shapes_fit}
-use Rattle.ygg_replay.specs.ygg_meaning.Claims.{Claim, claims_of}
+use Rattle.ygg_oblige_list.specs.ygg_meaning.Obligations.{Obligation, Init, CallOf, CutOf, TickOf, CutTickOf, Idle, Again, name_of}
+use Rattle.ygg_oblige_list.specs.ygg_meaning.Obligations as meaning
+use Rattle.ygg_oblige_list.specs.ygg_meaning.Violates.{shapes_fit}
+use Rattle.ygg_oblige_list.specs.ygg_meaning.Claims.{Claim, claims_of}
 use Rattle.ygg_oblige_reading.specs.ygg_rules.declared.rule.RuleKind.{RuleKind}
-use Rattle.ygg_eval_places.specs.ygg_bank.Values.{Inputs}
-use Rattle.ygg_oblige_given.specs.ygg_oblige_laws.LayerTerms.{OperationFits, ShapesKept}
-use Rattle.ygg_oblige_given.specs.ygg_oblige_laws.Numbers.{arguments_of}
-use Rattle.ygg_oblige_given.specs.ygg_oblige_laws.Numbers as terms
-use Rattle.ygg_oblige_given.specs.Tables.{given_values}
+use Rattle.ygg_oblige.specs.ygg_bank.Values.{Inputs}
+use Rattle.ygg_oblige.specs.ygg_oblige_laws.LayerTerms.{OperationFits, ShapesKept}
+use Rattle.ygg_oblige.specs.ygg_oblige_laws.Numbers.{arguments_of}
+use Rattle.ygg_oblige.specs.ygg_oblige_laws.Numbers as terms
+use Rattle.ygg_oblige_schedule.specs.Tables.{given_values}
 use Rattle.ygg_oblige_reading.specs.Listing.{StandsIn}
 use Rattle.ygg_oblige_reading.specs.Sites.{IsPlaced}
 use Rattle.ygg_oblige_reading.proofs.NumbersAfter.{item_of}
-use Rattle.ygg_oblige_reading.proofs.Given.{no_shapes}
-use Rattle.ygg_replay.specs.ygg_sched.Laws.{asked_at, asked_of}
-use Rattle.ygg_replay.specs.ygg_sched.Sites.{sites_of}
-use Rattle.ygg_replay.specs.ygg_sched.declared.schedule.Schedule.{Schedule}
-use Rattle.ygg_replay.proofs.of_ygg_sched.Standing.{sites_are_claims}
-use Rattle.ygg_oblige_reading.specs.Fitted.{FitsAt, IsFitted}
-use Rattle.ygg_oblige_reading.specs.Here.{below_of, file_of, inputs_of, layer_of, numbers_of, obligation_of, IsHere}
+use Rattle.ygg_oblige_reading.proofs.of_ygg_oblige_laws.ValuesGiven.{no_shapes}
+use Rattle.ygg_oblige_schedule.specs.ygg_sched.Laws.{asked_at, asked_of}
+use Rattle.ygg_oblige_schedule.specs.ygg_sched.Sites.{sites_of}
+use Rattle.ygg_oblige_schedule.specs.ygg_sched.declared.schedule.Schedule.{Schedule}
+use Rattle.ygg_oblige_schedule.proofs.of_ygg_sched.Standing.{sites_are_claims}
+use Rattle.ygg_oblige_schedule.specs.Fitted.{FitsAt, IsFitted}
+use Rattle.ygg_oblige_schedule.specs.Here.{below_of, file_of, inputs_of, layer_of, numbers_of, obligation_of, IsHere}
 use Rattle.ygg_oblige_reading.specs.Meant.{IsNamed, Names, NamesShaped}
-use Rattle.ygg_oblige_reading.specs.Schedules.{given_here, named_here, IsRead, NamedShaped, StandsHere}
-use Rattle.ygg_oblige_reading.specs.declared.reader.EnvironmentReader.{EnvironmentReader}
-use Rattle.ygg_oblige_reading.proofs.Fitted.{Kept, fits_at}
+use Rattle.ygg_oblige_schedule.specs.Schedules.{given_here, named_here, IsRead, NamedShaped, StandsHere}
+use Rattle.ygg_oblige_schedule.specs.declared.reader.EnvironmentReader.{EnvironmentReader}
+use Rattle.ygg_oblige_schedule.proofs.Fitted.{Kept, fits_at}
 
 -- an obligation to which a claim is the same, where there is a claim
 found : {A B : Type 0} (f : A → B) (o : Option A) (y : B) → option_map f o ≡ Some y → (a : A) × (o ≡ Some a) × (f a ≡ y)

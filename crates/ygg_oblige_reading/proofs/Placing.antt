@@ -9,26 +9,26 @@ use Rattle.ygg_syntax.specs.declared.tree.Declared.{Declared}
 use Rattle.ygg_syntax.specs.declared.tree.DiskText.{DiskText}
 use Rattle.ygg_syntax.specs.declared.tree.File.{File}
 use Rattle.ygg_syntax.specs.declared.tree.Layer.{Layer}
-use Rattle.ygg_eval_block.specs.ygg_meaning.Layer.{ClosedLayer}
-use Rattle.ygg_eval_block.specs.ygg_meaning.Meaning.{functions_of}
-use Rattle.ygg_eval_block.specs.ygg_meaning.Obligations.{Obligation, obligations_of}
-use Rattle.ygg_eval_block.specs.ygg_meaning.Refines.{Below}
-use Rattle.ygg_eval_block.specs.ygg_meaning.Claims.{Claim, claims_at, claims_of, claims_on}
-use Rattle.ygg_eval_block.specs.ygg_meaning.Stack.{Layers, below_of, layers_of}
+use Rattle.ygg_oblige_list.specs.ygg_meaning.Layer.{ClosedLayer}
+use Rattle.ygg_oblige_list.specs.ygg_meaning.Meaning.{functions_of}
+use Rattle.ygg_oblige_list.specs.ygg_meaning.Obligations.{Obligation, obligations_of}
+use Rattle.ygg_oblige_list.specs.ygg_meaning.Refines.{Below}
+use Rattle.ygg_oblige_list.specs.ygg_meaning.Claims.{Claim, claims_at, claims_of, claims_on}
+use Rattle.ygg_oblige_list.specs.ygg_meaning.Stack.{Layers, below_of, layers_of}
 use Rattle.ygg_oblige.specs.ygg_bank.Values.{Inputs}
 use Rattle.ygg_oblige.specs.ygg_sym_expr.Exprs.{SymFunctions}
 use Rattle.ygg_oblige.specs.ygg_sym_laws.Means.{terms_of}
-use Rattle.ygg_eval_block.specs.Layers.{below_at, closed_at, variables_at}
-use Rattle.ygg_eval_block.specs.Numbers.{IsAt}
-use Rattle.ygg_eval_block.proofs.Numbers.{below_is_numbered, listed_is_numbered}
+use Rattle.ygg_oblige_schedule.specs.ygg_eval_block.Layers.{below_at, closed_at, variables_at}
+use Rattle.ygg_oblige_schedule.specs.ygg_eval_block.Numbers.{IsAt}
+use Rattle.ygg_oblige_schedule.proofs.of_ygg_eval_block.Numbers.{below_is_numbered, listed_is_numbered}
 use Rattle.ygg_oblige.specs.ygg_oblige_laws.LayerTerms.{LayerTyped}
 use Rattle.ygg_oblige.specs.ygg_oblige_laws.Numbers.{Numbers, numbers_of}
 use Rattle.ygg_oblige.specs.ygg_oblige_laws.TermStates.{state_words}
 use Rattle.ygg_oblige.specs.ygg_oblige_laws.Terms.{after_all, after_layers}
-use Rattle.ygg_oblige_laws.specs.Schedules.{all_schedules, layer_schedules, schedule_of, schedules_of}
+use Rattle.ygg_oblige.specs.ygg_oblige_laws.Schedules.{all_schedules, layer_schedules, schedule_of, schedules_of}
 use Rattle.ygg_oblige_reading.proofs.Lists.{get_left, get_right}
 use Rattle.ygg_oblige_reading.specs.Sites.{IsPlaced, IsSite, layer_here, obligation_here}
-use Rattle.ygg_oblige_reading.specs.declared.site.Site.{Site}
+use Rattle.ygg_oblige_schedule.specs.declared.site.Site.{Site}
 
 -- an item of what a layer adds to a list, behind what the layers below have added
 module _ {X : Type 0} (F : Layers → List X) (own : ClosedLayer → Layers → List X)

@@ -7,18 +7,18 @@ use Rattle.ygg_syntax.specs.declared.tree.Declared.{Declared}
 use Rattle.ygg_syntax.specs.declared.tree.Def.{Def}
 use Rattle.ygg_syntax.specs.declared.tree.File.{File}
 use Rattle.ygg_syntax.specs.declared.tree.Layer.{Layer}
-use Rattle.ygg_eval_block.specs.ygg_meaning.Layer.{ClosedLayer}
-use Rattle.ygg_eval_block.specs.ygg_meaning.Meaning.{Functions, functions_of}
-use Rattle.ygg_eval_block.specs.ygg_meaning.Obligations.{Obligation, obligations_of}
-use Rattle.ygg_eval_block.specs.ygg_meaning.Refines.{Below, OnSpec}
-use Rattle.ygg_eval_block.specs.ygg_meaning.Claims.{claims_at, claims_of, claims_on}
-use Rattle.ygg_eval_block.specs.ygg_meaning.Stack.{Layers, below_of, layers_on, layers_of, tables_of}
+use Rattle.ygg_oblige_list.specs.ygg_meaning.Layer.{ClosedLayer}
+use Rattle.ygg_oblige_list.specs.ygg_meaning.Meaning.{Functions, functions_of}
+use Rattle.ygg_oblige_list.specs.ygg_meaning.Obligations.{Obligation, obligations_of}
+use Rattle.ygg_oblige_list.specs.ygg_meaning.Refines.{Below, OnSpec}
+use Rattle.ygg_oblige_list.specs.ygg_meaning.Claims.{claims_at, claims_of, claims_on}
+use Rattle.ygg_oblige_list.specs.ygg_meaning.Stack.{Layers, below_of, layers_on, layers_of, tables_of}
 use Rattle.ygg_oblige.specs.ygg_sym_laws.Means.{terms_of}
 use Rattle.ygg_oblige.specs.ygg_sym_spec.Layers.{closed}
 use Rattle.ygg_oblige.specs.ygg_sym_spec.declared.layer.SymLayer.{SymLayer}
 use Rattle.ygg_oblige.specs.Sites.{below_in}
-use Rattle.ygg_oblige.specs.SymBelow.{SymBelow}
-use Rattle.ygg_oblige.specs.SymBelow.TheVariants as on
+use Rattle.ygg_oblige.specs.ygg_sym_spec.declared.below.SymBelow.{SymBelow}
+use Rattle.ygg_oblige.specs.ygg_sym_spec.declared.below.SymBelow.TheVariants as on
 use Rattle.ygg_oblige.specs.ygg_oblige_laws.LayerTerms.{LayerTyped}
 use Rattle.ygg_oblige.specs.ygg_oblige_laws.Numbers.{Numbers, numbers_of}
 use Rattle.ygg_oblige.specs.ygg_oblige_laws.TermStates.{state_words}
@@ -29,7 +29,7 @@ use Rattle.ygg_oblige.specs.Adding.{after_layer_at}
 use Rattle.ygg_oblige.proofs.Walking.{HasDefs, lower_typed, same_defs}
 use Rattle.ygg_oblige_reading.specs.Listing.{StandsIn}
 use Rattle.ygg_oblige_reading.specs.Sites.{IsInLayer, IsSite, layer_here, obligation_here}
-use Rattle.ygg_oblige_reading.specs.declared.site.Site.{Site}
+use Rattle.ygg_oblige_schedule.specs.declared.site.Site.{Site}
 
 -- what was gathered stays last
 record EndsWith (all gathered : Layers) : Type 0 where

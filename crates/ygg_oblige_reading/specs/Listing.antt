@@ -1,12 +1,13 @@
 -- The obligations of a layer by their places in its list.
-use Rattle.std.specs.Prelude.{◌≡◌, ℕ, List, [], ◌∷◌, ◌++◌, slice_get, Some}
+use Rattle.std.specs.Prelude.{List, [], ◌∷◌, ◌++◌}
 use Rattle.ygg_syntax.specs.declared.tree.Operation.{Operation}
 use Rattle.ygg_syntax.specs.declared.tree.Tick.{Tick}
-use Rattle.ygg_eval_block.specs.ygg_meaning.Obligations.{Obligation, Init, CallOf, CutOf, TickOf, CutTickOf, Idle, Again}
+use Rattle.ygg_oblige_list.specs.ygg_meaning.Obligations.{Obligation, Idle, Again}
 use Rattle.ygg_oblige.specs.ygg_oblige_laws.LayerTerms.{ShapesKept}
 use Rattle.ygg_oblige.specs.ygg_oblige_laws.Numbers.{arguments_of}
-use Rattle.ygg_oblige.specs.Listing.{calls_of, ticks_of}
-use Rattle.ygg_oblige.specs.Steps.{obligation_of}
+use Rattle.ygg_oblige_list.specs.Listing.{calls_of, ticks_of}
+use Rattle.ygg_oblige_list.specs.InCode.{obligation_of}
+pub use Rattle.ygg_oblige_schedule.specs.Schedules.{StandsIn}
 use Rattle.ygg_oblige_reading.specs.declared.listed.Listed.{Listed}
 
 -- the obligation
@@ -24,16 +25,6 @@ later_ones ticks = ticks_of ticks ++ last_ones
 -- those after the first
 abbrev pub other_ones : List Operation → List Tick → List Obligation
 other_ones operations ticks = calls_of operations ++ later_ones ticks
-
--- the operation or background step of an obligation stands at this place of these lists
-abbrev pub StandsIn : List Operation → List Tick → Obligation → ℕ → Type 0
-StandsIn operations ticks Init number = Unit {0}
-StandsIn operations ticks (CallOf o) number = slice_get operations number ≡ Some o
-StandsIn operations ticks (CutOf o) number = slice_get operations number ≡ Some o
-StandsIn operations ticks (TickOf t) number = slice_get ticks number ≡ Some t
-StandsIn operations ticks (CutTickOf t) number = slice_get ticks number ≡ Some t
-StandsIn operations ticks Idle number = Unit {0}
-StandsIn operations ticks Again number = Unit {0}
 
 -- the same of what is listed
 abbrev pub ListedStands : List Operation → List Tick → Listed → Type 0

@@ -1,38 +1,23 @@
 -- The schedule that an environment names for an obligation of a file.
 use Rattle.std.specs.Prelude.{◌≡◌, ◌<◌, ◌↔◌, ℕ, IsTrue, List, [], length, slice_get, Some}
-use Rattle.std.specs.Option.{option_map}
 use Rattle.ygg_syntax.specs.declared.tree.File.{File}
-use Rattle.ygg_replay.specs.ygg_meaning.Environments.{bind}
-use Rattle.ygg_replay.specs.ygg_meaning.Obligations as meaning
-use Rattle.ygg_replay.specs.ygg_meaning.Violates.{shapes_fit}
-use Rattle.ygg_replay.specs.ygg_meaning.Claims.{Claim, ClaimViolated, claims_of}
-use Rattle.ygg_replay.specs.ygg_meaning.Stack.{layers_of}
+use Rattle.ygg_oblige_list.specs.ygg_meaning.Obligations as meaning
+use Rattle.ygg_oblige_list.specs.ygg_meaning.Violates.{shapes_fit}
+use Rattle.ygg_oblige_list.specs.ygg_meaning.Claims.{Claim, ClaimViolated, claims_of}
+use Rattle.ygg_oblige_list.specs.ygg_meaning.Stack.{layers_of}
 use Rattle.ygg_oblige_reading.specs.ygg_rules.declared.rule.RuleKind.{RuleKind}
-use Rattle.ygg_eval_places.specs.ygg_bank.Nodes.{IsBank}
-use Rattle.ygg_eval_places.specs.ygg_bank.Values.{Inputs, InputsFit, value_of}
-use Rattle.ygg_eval_places.specs.ygg_bank.declared.node.Id.{Id}
-use Rattle.ygg_eval_places.specs.ygg_bank.declared.node.Node.{Node}
-use Rattle.ygg_eval_places.specs.ygg_sym_laws.Means.{terms_of}
-use Rattle.ygg_oblige_given.specs.ygg_oblige_laws.Meaning.{claim_name}
-use Rattle.ygg_oblige_given.specs.ygg_oblige_laws.Terms.{file_made}
+use Rattle.ygg_oblige.specs.ygg_bank.Nodes.{IsBank}
+use Rattle.ygg_oblige.specs.ygg_bank.Values.{Inputs, InputsFit, value_of}
+use Rattle.ygg_oblige.specs.ygg_bank.declared.node.Id.{Id}
+use Rattle.ygg_oblige.specs.ygg_bank.declared.node.Node.{Node}
+use Rattle.ygg_oblige.specs.ygg_sym_laws.Means.{terms_of}
+use Rattle.ygg_oblige.specs.ygg_oblige_laws.Meaning.{claim_name}
+use Rattle.ygg_oblige.specs.ygg_oblige_laws.Terms.{file_made}
 use Rattle.ygg_oblige_reading.specs.Obligation.{Obligation}
 pub use Rattle.ygg_oblige_reading.specs.Sites.{Init}
-use Rattle.ygg_oblige_laws.specs.Schedules.{all_schedules}
-use Rattle.ygg_replay.specs.ygg_sched.Fitting.{halt_meant}
-use Rattle.ygg_replay.specs.ygg_sched.declared.schedule.Schedule.{Schedule}
-
--- The schedule that is meant: variables by their names, arguments in their order.
-abbrev pub meant : Claim → Schedule → meaning.Schedule
-meant c x = record {
-  state = bind c.layer.layer.state x.state;
-  memory = bind c.layer.layer.memory x.memory;
-  low = bind c.layer.low x.low;
-  args = x.args;
-  stop = option_map halt_meant x.stop;
-  picks = x.picks;
-  wake = x.wake;
-  other = x.other;
-}
+pub use Rattle.ygg_oblige_schedule.specs.Schedules.{meant}
+use Rattle.ygg_oblige.specs.ygg_oblige_laws.Schedules.{all_schedules}
+use Rattle.ygg_oblige_schedule.specs.ygg_sched.declared.schedule.Schedule.{Schedule}
 
 module _ (kinds : List RuleKind) (f : File) (inputs : Inputs) where
   -- the environment gives each input of the terms of the file's obligations a word of its width, and these stand in a bank

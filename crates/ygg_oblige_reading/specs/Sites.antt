@@ -1,11 +1,11 @@
 -- The obligation at a place in a file's list.
 use Rattle.std.specs.Prelude.{◌≡◌, ℕ, ◌+◌, List, ◌∷◌, ◌++◌, length, take, slice_get, Some}
 use Rattle.ygg_syntax.specs.declared.tree.File.{File}
-use Rattle.ygg_eval_block.specs.ygg_meaning.Layer.{ClosedLayer}
-use Rattle.ygg_eval_block.specs.ygg_meaning.Meaning.{functions_of}
-use Rattle.ygg_eval_block.specs.ygg_meaning.Obligations.{Obligation, obligations_of}
-use Rattle.ygg_eval_block.specs.ygg_meaning.Claims.{claims_of, claims_on}
-use Rattle.ygg_eval_block.specs.ygg_meaning.Stack.{Layers, below_of, layers_of}
+use Rattle.ygg_oblige_list.specs.ygg_meaning.Layer.{ClosedLayer}
+use Rattle.ygg_oblige_list.specs.ygg_meaning.Meaning.{functions_of}
+use Rattle.ygg_oblige_list.specs.ygg_meaning.Obligations.{obligations_of}
+use Rattle.ygg_oblige_list.specs.ygg_meaning.Claims.{claims_of, claims_on}
+use Rattle.ygg_oblige_list.specs.ygg_meaning.Stack.{Layers, below_of, layers_of}
 use Rattle.ygg_rules.specs.declared.rule.RuleKind.{RuleKind}
 use Rattle.ygg_oblige.specs.ygg_sym_laws.Means.{terms_of}
 use Rattle.ygg_oblige.specs.ygg_oblige_laws.LayerTerms.{LayerTyped}
@@ -13,22 +13,18 @@ use Rattle.ygg_oblige.specs.ygg_oblige_laws.Numbers.{numbers_of}
 use Rattle.ygg_oblige.specs.ygg_oblige_laws.TermStates.{state_words}
 use Rattle.ygg_oblige.specs.ygg_oblige_laws.Terms.{after_all, after_layers}
 pub use Rattle.ygg_oblige.specs.declared.obligation.Kind.TheVariants.{Init}
-pub use Rattle.ygg_oblige.specs.Steps.{obligation_of}
-pub use Rattle.ygg_oblige.specs.Numbering.{numbers_in}
+pub use Rattle.ygg_oblige_schedule.specs.Here.{obligation_here}
+use Rattle.ygg_oblige.specs.Numbering.{numbers_in}
 use Rattle.ygg_oblige.specs.ygg_sym_spec.Layers.{closed}
 use Rattle.ygg_oblige.specs.ygg_sym_spec.declared.layer.SymLayer.{SymLayer}
 use Rattle.ygg_oblige.specs.Sites.{below_in}
-use Rattle.ygg_oblige.specs.SymBelow.{SymBelow}
+use Rattle.ygg_oblige.specs.ygg_sym_spec.declared.below.SymBelow.{SymBelow}
 use Rattle.ygg_oblige.specs.Adding.{after_at}
-use Rattle.ygg_eval_block.specs.Layers.{below_at, closed_at, variables_at}
+use Rattle.ygg_oblige_schedule.specs.ygg_eval_block.Layers.{below_at, closed_at, variables_at}
 use Rattle.ygg_oblige.specs.ygg_bank.Values.{Inputs}
-use Rattle.ygg_oblige_laws.specs.Schedules.{all_schedules, schedule_of}
+use Rattle.ygg_oblige.specs.ygg_oblige_laws.Schedules.{all_schedules, schedule_of}
 use Rattle.ygg_oblige_reading.specs.Listing.{StandsIn}
-use Rattle.ygg_oblige_reading.specs.declared.site.Site.{Site}
-
--- the obligation
-abbrev pub obligation_here : Site → Obligation
-obligation_here s = obligation_of s.obligation
+use Rattle.ygg_oblige_schedule.specs.declared.site.Site.{Site}
 
 -- the layer in a file
 abbrev pub layer_here : File → Site → ClosedLayer

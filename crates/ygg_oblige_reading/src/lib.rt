@@ -1,17 +1,15 @@
-//! The schedule of an obligation, read from an environment: the values are those of its inputs, and the picks are those that the runs take,
-//! which it names by place.
+//! The schedule of an obligation of a file, read from an environment: the obligation at a place with the inputs that it has, and the schedule that the
+//! environment names for it.
 #![tactic(auto)]
 
 mod listed;
-mod named;
-mod reader;
 mod reading;
 mod site;
-mod starting;
 mod starts;
 
 pub use listed::{Listed, obligation_at};
 pub use reading::{schedule, schedule_at};
-pub use site::{Site, site_at};
+pub use site::site_at;
 pub use ygg_oblige::{Obligation, obligations};
+pub use ygg_oblige_schedule::Site;
 pub use ygg_rules::Book;

@@ -4,12 +4,12 @@ ghost use Rattle.std.specs.Prelude.{List, ◌≡◌, ◌<◌, ◌/◌, length, s
 ghost use Rattle.std.specs.Option.{option_map};
 ghost use Rattle.ygg_syntax.specs.declared.tree.Operation as operation;
 ghost use Rattle.ygg_syntax.specs.declared.tree.Tick as tick;
-ghost use Rattle.ygg_eval_block.specs.ygg_meaning.Obligations.{obligations_of};
-ghost use Rattle.ygg_oblige.specs.Listing.{calls_of, ticks_of};
+ghost use Rattle.ygg_oblige_list.specs.ygg_meaning.Obligations.{obligations_of};
+ghost use Rattle.ygg_oblige_list.specs.Listing.{calls_of, ticks_of};
 ghost use Rattle.ygg_oblige_reading.specs.Listing.{ListedStands, last_ones, later_ones, listed_in, other_ones};
 
 use ygg_list::NoMemory;
-use ygg_oblige::SymObligation;
+use ygg_oblige_list::SymObligation;
 use ygg_syntax::tree::{Layer, Operation, Tick};
 
 /// An obligation of a layer, and the place of its operation or background step in the layer's list, else 0.

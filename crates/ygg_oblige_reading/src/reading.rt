@@ -1,20 +1,16 @@
 //! The schedule that an environment names for an obligation of a file.
 
 ghost use Rattle.std.specs.Prelude.{◌<◌, ◌^◌, IfOk, IfSome, length};
-ghost use Rattle.ygg_eval_places.specs.ygg_bank.Values.{InputsFit, inputs_of};
-ghost use Rattle.ygg_replay.specs.ygg_meaning.Claims.{claims_of};
-ghost use Rattle.ygg_oblige_reading.specs.Fitted.{IsFitted};
+ghost use Rattle.ygg_oblige.specs.ygg_bank.Values.{InputsFit, inputs_of};
+ghost use Rattle.ygg_oblige_list.specs.ygg_meaning.Claims.{claims_of};
+ghost use Rattle.ygg_oblige_schedule.specs.Fitted.{IsFitted};
 ghost use Rattle.ygg_oblige_reading.specs.Meant.{FitsTerms, IsExactly, IsMadeIn, IsNamed, ViolatesAtZero};
 
-use crate::reader::EnvironmentReader;
 use crate::site::site_at;
 use std::alloc::Global;
-use ygg_eval_block::Typed;
-use ygg_eval_places::{Bank, Env};
 use ygg_list::NoMemory;
 use ygg_oblige::{Obligation, tables};
-use ygg_oblige_given::InputTable;
-use ygg_replay::Schedule;
+use ygg_oblige_schedule::{Bank, Env, EnvironmentReader, InputTable, Schedule, Typed};
 use ygg_rules::Book;
 
 /// The schedule that an environment names for the obligation at a place in the file's list: the values of its inputs, and the picks, as many as the runs

@@ -1,9 +1,9 @@
-//! An obligation of a file with the inputs that it has.
+//! The obligation at a place of a file, with the inputs that it has.
 
 ghost use Rattle.std.specs.Prelude.{◌≡◌, ◌<◌, ◌+◌, length, take, slice_get, Some, IfOk};
-ghost use Rattle.ygg_eval_block.specs.ygg_meaning.Claims.{claims_of};
-ghost use Rattle.ygg_eval_block.specs.ygg_meaning.Stack.{layers_of, tables_of};
-ghost use Rattle.ygg_eval_block.specs.ygg_meaning.Obligations.{obligations_of};
+ghost use Rattle.ygg_oblige_list.specs.ygg_meaning.Claims.{claims_of};
+ghost use Rattle.ygg_oblige_list.specs.ygg_meaning.Stack.{layers_of, tables_of};
+ghost use Rattle.ygg_oblige_list.specs.ygg_meaning.Obligations.{obligations_of};
 ghost use Rattle.ygg_oblige.specs.Sites.{below_in};
 ghost use Rattle.ygg_oblige.specs.ygg_sym_spec.Layers.{closed};
 ghost use Rattle.ygg_oblige.specs.Adding.{after_at, after_layer_at};
@@ -19,28 +19,10 @@ use crate::listed::{number_of, obligation_at};
 use crate::starts::{count_of, start_of};
 use std::alloc::Global;
 use ygg_list::NoMemory;
-use ygg_oblige::{Maker, SymBelow, SymLayer, SymNumbers, SymObligation, after_states, numbers_of};
+use ygg_oblige::{Maker, SymBelow, SymLayer, after_states, numbers_of};
+use ygg_oblige_schedule::Site;
 use ygg_rules::Book;
 use ygg_syntax::tree::{Declared, File, Layer};
-
-/// An obligation of a file, its layer, and which inputs it has.
-#[derive(Clone, Copy)]
-pub struct Site<'a> {
-    /// The layer.
-    pub layer: &'a Layer,
-    /// The layer's place from the bottom one on.
-    pub place: u32,
-    /// The variables of what the layer is specified over.
-    pub low: &'a [Declared],
-    /// The obligation.
-    pub obligation: SymObligation<'a>,
-    /// The place of its operation or background step in the layer's list, else 0.
-    pub number: u32,
-    /// The first input of the layer's states.
-    pub states: u64,
-    /// The obligation's own inputs.
-    pub numbers: SymNumbers,
-}
 
 /// The obligation at a place in the list of a layer with a place, where the inputs of the layer's states are numbered on from a number. Its only error is
 /// out of memory.

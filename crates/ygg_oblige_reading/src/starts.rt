@@ -1,7 +1,7 @@
 //! Where the inputs of a layer's obligations begin.
 
 ghost use Rattle.std.specs.Prelude.{◌≡◌, ◌≤◌, ◌+◌, ◌*◌, All, length, take, IfOk};
-ghost use Rattle.ygg_eval_block.specs.ygg_meaning.Obligations.{obligations_of};
+ghost use Rattle.ygg_oblige_list.specs.ygg_meaning.Obligations.{obligations_of};
 ghost use Rattle.ygg_oblige.specs.Adding.{after_at};
 ghost use Rattle.ygg_oblige_reading.specs.Listing.{ArgumentsKept};
 

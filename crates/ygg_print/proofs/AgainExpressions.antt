@@ -13,9 +13,9 @@ use Rattle.ygg_syntax.specs.declared.tree.Expr.TheOpen.{Expr-F}
 use Rattle.ygg_syntax.specs.declared.tree.Expr.TheFolds.{ind-Expr, fold-roll-Expr}
 use Rattle.ygg_syntax.specs.Reading.{Reading, in_turn, impossible}
 use Rattle.ygg_syntax.specs.Expressions.{Phrase, node_phrase, phrase, whole, indexed, any, some, more, operator_sign, quantifier_word}
-use Rattle.ygg_print_tree.specs.Printed.{printed, node_printed, list_printed, more_printed}
+use Rattle.ygg_print.specs.Printed.{printed, node_printed, list_printed, more_printed}
 use Rattle.ygg_syntax_trees.specs.Bare.{nowhere, bare, node_bare}
-use Rattle.ygg_print.proofs.Expressions.{may_have}
+use Rattle.ygg_print.proofs.ExpressionMarks.{may_have}
 use Rattle.ygg_print.proofs.Again.{Single, Again, row, done, pass, take, part, turn, turns, never, last}
 
 -- an expression that is this one without places, and whether an index may follow it

@@ -67,9 +67,9 @@ use Rattle.ygg_syntax.specs.Files.{
   whole_file,
   Derives,
 }
-use Rattle.ygg_print_tree.specs.Printed.{printed, list_printed, more_printed}
-use Rattle.ygg_print_tree.specs.PrintedBlocks.{all_printed, block_printed}
-use Rattle.ygg_print_tree.specs.PrintedFiles.{
+use Rattle.ygg_print.specs.Printed.{printed, list_printed, more_printed}
+use Rattle.ygg_print.specs.PrintedBlocks.{all_printed, block_printed}
+use Rattle.ygg_print.specs.PrintedFiles.{
   type_printed,
   declared_printed,
   disk_printed,
@@ -105,8 +105,8 @@ use Rattle.ygg_read_expr.proofs.Marks.{took}
 use Rattle.ygg_read_expr.proofs.Claims.{split, empty}
 use Rattle.ygg_print.specs.UniqueLaws.{LeftOut, nothing, leaves, DerivesAs}
 use Rattle.ygg_print.proofs.Parser.{unwritten}
-use Rattle.ygg_print.proofs.Statements.{some_is}
-use Rattle.ygg_print.proofs.Files.{only_file}
+use Rattle.ygg_print.proofs.StatementMarks.{some_is}
+use Rattle.ygg_print.proofs.FileMarks.{only_file}
 use Rattle.ygg_print.proofs.Again.{
   marks_of,
   Read,

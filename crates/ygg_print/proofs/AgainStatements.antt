@@ -56,9 +56,9 @@ use Rattle.ygg_syntax.specs.Blocks.{
   statement,
   block_phrase,
 }
-use Rattle.ygg_print_tree.specs.Printed.{printed}
-use Rattle.ygg_print_tree.specs.Printed as print
-use Rattle.ygg_print_tree.specs.PrintedBlocks.{
+use Rattle.ygg_print.specs.Printed.{printed}
+use Rattle.ygg_print.specs.Printed as print
+use Rattle.ygg_print.specs.PrintedBlocks.{
   all_printed,
   source_printed,
   indices_printed,
@@ -74,7 +74,7 @@ use Rattle.ygg_read_expr.proofs.Marks.{passed, took}
 use Rattle.ygg_read_expr.proofs.Claims.{split, empty}
 use Rattle.ygg_print.specs.UniqueLaws.{is_optional, LeftOut, leaves}
 use Rattle.ygg_print.proofs.Parser.{unwritten}
-use Rattle.ygg_print.proofs.Statements.{some_is}
+use Rattle.ygg_print.proofs.StatementMarks.{some_is}
 use Rattle.ygg_print.proofs.Again.{
   marks_of,
   Read,

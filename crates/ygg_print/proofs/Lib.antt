@@ -1,12 +1,16 @@
+pub mod Indentation
+pub mod Joined
+pub mod Marks
+pub mod Readable
+pub mod Relexed
 pub mod Again
 pub mod AgainExpressions
 pub mod AgainFiles
 pub mod AgainStatements
-pub mod Expressions
-pub mod Files
+pub mod ExpressionMarks
+pub mod FileMarks
 pub mod Parser
 pub mod Printed
 pub mod Runs
-pub mod Statements
-pub use Rattle.ygg_print_tree.proofs as of_ygg_print_tree
+pub mod StatementMarks
 pub mod Reread

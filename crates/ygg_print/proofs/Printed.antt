@@ -23,8 +23,8 @@ use Rattle.ygg_syntax.specs.declared.tree.Operation.{Operation}
 use Rattle.ygg_syntax.specs.declared.tree.Tick.{Tick}
 use Rattle.ygg_syntax.specs.declared.tree.Layer.{Layer}
 use Rattle.ygg_syntax.specs.declared.tree.File.{File}
-use Rattle.ygg_print_tree.specs.Printed.{printed, node_printed, list_printed, bracketed}
-use Rattle.ygg_print_tree.specs.PrintedBlocks.{
+use Rattle.ygg_print.specs.Printed.{printed, node_printed, list_printed, bracketed}
+use Rattle.ygg_print.specs.PrintedBlocks.{
   all_printed,
   source_printed,
   indices_printed,
@@ -37,7 +37,7 @@ use Rattle.ygg_print_tree.specs.PrintedBlocks.{
   stmt_printed,
   block_printed,
 }
-use Rattle.ygg_print_tree.specs.PrintedFiles.{
+use Rattle.ygg_print.specs.PrintedFiles.{
   type_printed,
   declared_printed,
   definition_printed,

@@ -10,10 +10,10 @@ use Rattle.ygg_base.specs.declared.tokens.Tokens.{Tokens}
 use Rattle.ygg_base.specs.Lexing.{Lexed, tokens_of}
 use Rattle.ygg_syntax.specs.declared.tree.File.{File}
 use Rattle.ygg_syntax.specs.Files.{Derives}
-use Rattle.ygg_print_tree.specs.PrintedFiles.{file_printed}
-use Rattle.ygg_print_tree.specs.Layout.{layout}
-use Rattle.ygg_print_tree.specs.Laws.{HasMarks, IsMark}
-use Rattle.ygg_print_tree.proofs.Relexed.{relexed}
+use Rattle.ygg_print.specs.PrintedFiles.{file_printed}
+use Rattle.ygg_print.specs.Layout.{layout}
+use Rattle.ygg_print.specs.TreeLaws.{HasMarks, IsMark}
+use Rattle.ygg_print.proofs.Relexed.{relexed}
 use Rattle.ygg_print.specs.UniqueLaws.{LeftOut, nothing, keeps, leaves, DerivesAs}
 use Rattle.ygg_syntax_trees.specs.Bare.{bare_file}
 use Rattle.ygg_print.specs.Laws.{IsRead}

@@ -5,9 +5,9 @@ use Rattle.ygg_base.specs.declared.token.Token.{Token}
 use Rattle.ygg_base.specs.Lexing.{Lexed, tokens_of}
 use Rattle.ygg_syntax.specs.declared.tree.File.{File}
 use Rattle.ygg_syntax.specs.Files.{Derives}
-use Rattle.ygg_print_tree.specs.PrintedFiles.{file_printed}
-use Rattle.ygg_print_tree.specs.Layout.{layout}
-use Rattle.ygg_print_tree.specs.Laws.{IsMark}
+use Rattle.ygg_print.specs.PrintedFiles.{file_printed}
+use Rattle.ygg_print.specs.Layout.{layout}
+use Rattle.ygg_print.specs.TreeLaws.{IsMark}
 use Rattle.ygg_print.specs.UniqueLaws.{DerivesAs}
 
 -- the marks of the file in order, as they are laid out

@@ -1,4 +1,9 @@
+pub mod Plain
+pub mod Printed
+pub mod PrintedBlocks
+pub mod PrintedFiles
+pub mod TreeLaws
+pub mod Layout
 pub mod UniqueLaws
-pub use Rattle.ygg_print_tree.specs as ygg_print_tree
 pub mod Canonical
 pub mod Laws

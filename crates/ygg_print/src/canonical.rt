@@ -2,10 +2,10 @@ ghost use Rattle.std.specs.Prelude.{◌≡◌, IfOk};
 ghost use Rattle.ygg_print.specs.Canonical.{IsReadAgain, canonical};
 
 use crate::layers::marks_of;
+use crate::layout::lay_out;
 use std::alloc::Global;
 use ygg_base::Text;
 use ygg_list::NoMemory;
-use ygg_print_tree::lay_out;
 use ygg_syntax::tree::File;
 
 /// The canonical text of a layer file. Where some tokens of the language derive the file, the tokens of the text derive it

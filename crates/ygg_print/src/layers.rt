@@ -1,12 +1,13 @@
 ghost use Rattle.std.specs.Prelude.{◌≡◌, ◌++◌, OnOk, IfOk, map};
-ghost use Rattle.ygg_print_tree.specs.PrintedBlocks.{all_printed};
-ghost use Rattle.ygg_print_tree.specs.PrintedFiles.{file_printed, head_printed, layer_printed, steps_printed, variables_printed};
+ghost use Rattle.ygg_print.specs.PrintedBlocks.{all_printed};
+ghost use Rattle.ygg_print.specs.PrintedFiles.{file_printed, head_printed, layer_printed, steps_printed, variables_printed};
 
+use crate::files::{claims, definitions, disk, optional, ticks, variables};
 use crate::operations::operations;
+use crate::printer::{Plain, Printer};
 use std::alloc::Global;
 use ygg_base::{Keyword, Mark, Symbol};
 use ygg_list::{NoMemory, Sequence};
-use ygg_print_tree::{Plain, Printer, claims, definitions, disk, optional, ticks, variables};
 use ygg_syntax::tree::{DiskText, File, Layer};
 
 /// The marks of a layer file's one canonical text. Its only error is out of memory.

@@ -1,12 +1,14 @@
 //! Operations.
 
 ghost use Rattle.std.specs.Prelude.{◌≡◌, ◌++◌, OnOk, map};
-ghost use Rattle.ygg_print_tree.specs.PrintedBlocks.{all_printed, block_printed};
-ghost use Rattle.ygg_print_tree.specs.PrintedFiles.{answer_type_printed, bodies_printed, heading_printed, on_crash_printed, operation_printed};
+ghost use Rattle.ygg_print.specs.PrintedBlocks.{all_printed, block_printed};
+ghost use Rattle.ygg_print.specs.PrintedFiles.{answer_type_printed, bodies_printed, heading_printed, on_crash_printed, operation_printed};
 
+use crate::blocks::block;
+use crate::files::{shape, titled_list};
+use crate::printer::{Plain, Printer};
 use ygg_base::{Keyword, Symbol};
 use ygg_list::NoMemory;
-use ygg_print_tree::{Plain, Printer, block, shape, titled_list};
 use ygg_syntax::tree::{Block, Operation, TypeText};
 
 /// The block for a crash, where one is written.

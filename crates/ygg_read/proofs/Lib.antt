@@ -1,2 +1,14 @@
+pub mod Begins
+pub mod Lists
+pub mod Phrases
+pub mod Results
+pub mod Answered
+pub mod Files
+pub mod ClaimLists
+pub mod Shapes
+pub mod Declared
+pub mod LayerClaims
+pub mod ClaimParts
+pub mod Sources
+pub mod Statements
 pub mod Refusals
-pub use Rattle.ygg_read_layer.proofs as of_ygg_read_layer

@@ -5,7 +5,7 @@ use Rattle.ygg_base.specs.declared.reason.Reason.TheVariants.{Syntax}
 use Rattle.ygg_base.specs.Reason.{refusal_at}
 use Rattle.ygg_base.specs.declared.tokens.Tokens.{Tokens}
 use Rattle.ygg_syntax.specs.Pending.{file, outcome, reads, stops}
-use Rattle.ygg_read.proofs.of_ygg_read_layer.Layers.{file_complete}
+use Rattle.ygg_read.proofs.LayerClaims.{file_complete}
 use Rattle.ygg_read.specs.Refused.{IsRefusal, place_with}
 
 -- where reading stops nothing derives

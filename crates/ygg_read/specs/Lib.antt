@@ -1,2 +1,5 @@
+pub mod Steps
+pub mod LayerParts
+pub mod Laws
 pub mod Refused
 pub mod Parts

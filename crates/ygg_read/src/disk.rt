@@ -41,7 +41,7 @@ pub fn disk(reader: &mut Reader<'_>) -> Option<DiskText>
 }
 
 /// Reads the kind of the disk.
-#[tactic(auto, using(ygg_read_layer::proofs::Files::begins_sync, ygg_read_layer::proofs::Files::begins_async, ygg_read_layer::proofs::Files::stopped_kind))]
+#[tactic(auto, using(crate::proofs::Files::begins_sync, crate::proofs::Files::begins_async, crate::proofs::Files::stopped_kind))]
 fn kind(reader: &mut Reader<'_>) -> Option<DiskKind>
     ensures reads { IfSome result (λ k. Reads (keyword (disk_word k) ∷ []) reader.old reader.new) }
     ensures goes { OnSome result (Goes (disk_kind ∷ []) reader.old reader.new) }

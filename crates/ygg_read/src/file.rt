@@ -76,7 +76,7 @@ fn ends(reader: &Reader<'_>) -> bool
 }
 
 /// Reads a file.
-#[tactic(auto, using(ygg_read_expr::proofs::Phrases::joined, ygg_read_layer::proofs::Files::file_opens))]
+#[tactic(auto, using(ygg_read_expr::proofs::Phrases::joined, crate::proofs::Files::file_opens))]
 fn file(reader: &mut Reader<'_>) -> Result<Option<File>, NoMemory>
     ensures reads { IfRead result (λ f. Reads (whole_file f ∷ []) reader.old reader.new) }
     ensures goes { OnRead result (Goes (pending.file ∷ []) reader.old reader.new) }

@@ -13,9 +13,10 @@ ghost use Rattle.ygg_syntax.specs.Blocks.{block, answering};
 ghost use Rattle.ygg_syntax.specs.Pending.{some_type, perhaps, repeated, rest_of, word_of};
 ghost use Rattle.ygg_syntax.specs.Pending as pending;
 ghost use Rattle.ygg_read_expr.specs.Steps.{Reads, Goes, Stops, IfRead, OnRead, IfRefused};
-ghost use Rattle.ygg_read_layer.specs.Parts.{ReadsAfter};
+ghost use Rattle.ygg_read.specs.LayerParts.{ReadsAfter};
 ghost use Rattle.ygg_read.specs.Parts.{operation_of};
 
+use crate::blocks::{answering, block};
 use crate::types::type_text;
 use crate::variables::named_list;
 use sqlite_items::Items;
@@ -23,7 +24,6 @@ use ygg_base::{Keyword, Symbol};
 use ygg_list::NoMemory;
 use ygg_read_expr::Reader;
 use ygg_read_expr::both::both;
-use ygg_read_layer::{answering, block};
 use ygg_syntax::grammar::{BlockKind, Sort};
 use ygg_syntax::tree::{Block, Operation, Tick, TypeText};
 
@@ -84,7 +84,7 @@ fn rest_of_operation(reader: &mut Reader<'_>) -> Result<Option<Operation>, NoMem
 }
 
 /// Reads what follows the arguments of an operation.
-#[tactic(auto, using(ygg_read_layer::proofs::Layers::begins_spec, ygg_read_layer::proofs::Layers::begins_arrow, ygg_read_layer::proofs::Files::stopped_blocks))]
+#[tactic(auto, using(crate::proofs::LayerClaims::begins_spec, crate::proofs::LayerClaims::begins_arrow, crate::proofs::Files::stopped_blocks))]
 fn blocks(reader: &mut Reader<'_>) -> Result<Option<OperationBlocks>, NoMemory>
     ensures reads { IfRead result (λ b. (x : Name) (arguments : List Declared) →
         Reads (operation_blocks (operation_of x arguments b) b.answer ∷ []) reader.old reader.new) }

@@ -56,7 +56,7 @@ pub fn three(reader: &mut Reader<'_>) -> Option<(Numeral, Numeral, Numeral)>
 }
 
 /// Reads a type of those that may stand here. Where nothing is answered, the first token that can't come is the next one.
-#[tactic(auto, using(ygg_read_layer::proofs::Declared::begins_word, ygg_read_layer::proofs::Declared::begins_row, ygg_read_expr::proofs::Phrases::joined, ygg_read_layer::proofs::Shapes::stopped_small))]
+#[tactic(auto, using(crate::proofs::Declared::begins_word, crate::proofs::Declared::begins_row, ygg_read_expr::proofs::Phrases::joined, crate::proofs::Shapes::stopped_small))]
 pub fn type_text(reader: &mut Reader<'_>, sort: Sort) -> Option<TypeText>
     ensures reads { IfSome result (λ t. Reads (type_in sort t ∷ []) reader.old reader.new) }
     ensures goes { OnSome result (Goes (some_type sort ∷ []) reader.old reader.new) }
@@ -82,7 +82,7 @@ pub fn type_text(reader: &mut Reader<'_>, sort: Sort) -> Option<TypeText>
 }
 
 /// Reads a table, where neither a word nor a row comes.
-#[tactic(auto, using(ygg_read_layer::proofs::Declared::begins_table, ygg_read_expr::proofs::Phrases::joined, ygg_read_layer::proofs::Shapes::stopped_all))]
+#[tactic(auto, using(crate::proofs::Declared::begins_table, ygg_read_expr::proofs::Phrases::joined, crate::proofs::Shapes::stopped_all))]
 fn table(reader: &mut Reader<'_>) -> Option<TypeText>
     requires no_word { starts (mark.Keyword word.Word) reader.old ≡ false }
     requires no_row { starts (mark.Keyword word.Row) reader.old ≡ false }
@@ -121,7 +121,7 @@ pub fn declared(reader: &mut Reader<'_>, sort: Sort) -> Result<Option<Declared>,
 }
 
 /// Reads names with their types, or none, and the bracket after them.
-#[tactic(auto, using(ygg_read_layer::proofs::Declared::begins_none, ygg_read_layer::proofs::Shapes::some_declared, ygg_read_expr::proofs::Phrases::joined))]
+#[tactic(auto, using(crate::proofs::Declared::begins_none, crate::proofs::Shapes::some_declared, ygg_read_expr::proofs::Phrases::joined))]
 pub fn parameters(reader: &mut Reader<'_>, sort: Sort) -> Result<Option<Items<Declared>>, NoMemory>
     ensures reads { IfRead result (λ ds. Reads (any_declared sort ds ∷ symbol sign.RoundClose ∷ []) reader.old reader.new) }
     ensures goes { OnRead result (Goes (rest_of_declared sort ∷ []) reader.old reader.new) }

@@ -10,7 +10,7 @@ ghost use Rattle.ygg_syntax.specs.Files.{type_in, any_declared, variable, defini
 ghost use Rattle.ygg_syntax.specs.Pending.{name, expression, some_type, rest_of, rest_of_declared, rest_of_variable, repeated, sign_of};
 ghost use Rattle.ygg_syntax.specs.Pending as pending;
 ghost use Rattle.ygg_read_expr.specs.Steps.{Reads, Goes, Stops, IfRead, OnRead, IfRefused};
-ghost use Rattle.ygg_read_layer.specs.Parts.{ReadsAfter, ForRepeated};
+ghost use Rattle.ygg_read.specs.LayerParts.{ReadsAfter, ForRepeated};
 
 use crate::types::{declared, parameters, type_text};
 use sqlite_items::Items;

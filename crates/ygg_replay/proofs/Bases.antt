@@ -34,8 +34,8 @@ use Rattle.ygg_sched.specs.ygg_syntax_count.Weights.{weights_of}
 use Rattle.ygg_sched.specs.ygg_type_rules.TypeErrors.{none}
 use Rattle.ygg_sched.specs.ygg_type_rules.Definitions.{definitions_errors, with_definitions}
 use Rattle.ygg_sched.specs.ygg_type_rules.Files.{disk_below, disk_errors, layers_errors, type_errors_of}
-use Rattle.ygg_eval.specs.ygg_type_sound_proofs_Tests.{left}
-use Rattle.ygg_eval.proofs.of_ygg_type_sound.Views.{AllTyped}
+use Rattle.ygg_eval.specs.ygg_meaning_laws_proofs_Tests.{left}
+use Rattle.ygg_eval.proofs.of_ygg_meaning_laws.Views.{AllTyped}
 use Rattle.ygg_sched.specs.ygg_disk.Kinds.{model_of}
 use Rattle.ygg_sched.specs.ygg_meaning.Environments.{bind}
 use Rattle.ygg_sched.specs.ygg_meaning.Shapes.{values_fit}

@@ -16,8 +16,8 @@ use Rattle.ygg_sched.specs.ygg_meaning.Layer.{dialogue_of}
 use Rattle.ygg_sched.specs.ygg_meaning.Obligations.{IsRead}
 use Rattle.ygg_sched.specs.ygg_meaning.Refines.{Below, OnDisk, OnSpec, machine_below}
 use Rattle.ygg_sched.specs.ygg_meaning.Runs.{Dialogue, Reaches, WholeRun, FallenRun, notes_of}
-use Rattle.ygg_eval.specs.ygg_direct.Acts.{noted_picks, IsActed}
-use Rattle.ygg_eval.proofs.of_ygg_direct.OneEnd.{disk_one, spec_one}
+use Rattle.ygg_eval.specs.ygg_meaning_laws.Acts.{noted_picks, IsActed}
+use Rattle.ygg_eval.proofs.of_ygg_meaning_laws.OneEnd.{disk_one, spec_one}
 use Rattle.ygg_eval.specs.Files.{below_acts}
 use Rattle.ygg_eval.specs.ygg_eval_block.declared.body.Body.{Body}
 use Rattle.ygg_eval.specs.ygg_eval_block.declared.body.Part.{Part}

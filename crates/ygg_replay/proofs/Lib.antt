@@ -1,4 +1,4 @@
-pub use Rattle.ygg_eval.proofs.of_ygg_direct
+pub use Rattle.ygg_eval.proofs.of_ygg_meaning_laws
 pub use Rattle.ygg_sched.proofs as of_ygg_sched
 mod Picks
 mod Turns

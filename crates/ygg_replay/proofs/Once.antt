@@ -7,7 +7,7 @@ use Rattle.ygg_syntax.specs.declared.tree.File.{File}
 use Rattle.ygg_replay.specs.ygg_meaning.Replayed.{Replayed, Replays, Shows, Hypothesis, Passes}
 use Rattle.ygg_replay.specs.ygg_meaning.Refines.{machine_below}
 use Rattle.ygg_replay.specs.ygg_meaning.Claims.{Claim}
-use Rattle.ygg_replay.proofs.of_ygg_direct.OneReplay.{one_replay}
+use Rattle.ygg_replay.proofs.of_ygg_meaning_laws.OneReplay.{one_replay}
 use Rattle.ygg_replay.specs.ygg_report.Lines.{refused_line}
 use Rattle.ygg_replay.specs.ygg_sched.declared.schedule.Schedule.{Schedule}
 use Rattle.ygg_replay.specs.ygg_sched.Lines.{Read}

@@ -6,8 +6,8 @@ use Rattle.ygg_sched.specs.ygg_disk.declared.power.Picks.{Picks as Source}
 use Rattle.ygg_sched.specs.ygg_disk.declared.power.Power.{Power}
 use Rattle.ygg_sched.specs.ygg_meaning.Machine.{Picks}
 use Rattle.ygg_sched.specs.ygg_meaning.Obligations.{IsRead}
-use Rattle.ygg_eval.specs.ygg_direct.Acts.{next_of, later, Taken}
-use Rattle.ygg_eval.proofs.of_ygg_direct.Taking.{left_after, taken_read}
+use Rattle.ygg_eval.specs.ygg_meaning_laws.Acts.{next_of, later, Taken}
+use Rattle.ygg_eval.proofs.of_ygg_meaning_laws.Taking.{left_after, taken_read}
 use Rattle.ygg_eval.specs.Taken.{TakesOnly}
 use Rattle.ygg_replay.specs.Runs.{fresh}
 

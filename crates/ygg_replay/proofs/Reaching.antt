@@ -13,7 +13,7 @@ use Rattle.ygg_sched.specs.ygg_meaning.Violates as violates
 use Rattle.ygg_eval.specs.ygg_eval_block.declared.body.Part.TheVariants as part
 use Rattle.ygg_eval.specs.ygg_eval_block.Bodies.{IsRunnable, block_in}
 use Rattle.ygg_eval.specs.ygg_eval_block.Layers.{variables_at}
-use Rattle.ygg_eval.specs.ygg_type_sound_proofs_Tests.{left, right}
+use Rattle.ygg_eval.specs.ygg_meaning_laws_proofs_Tests.{left, right}
 use Rattle.ygg_replay.specs.declared.site.ReplaySite.{ReplaySite}
 use Rattle.ygg_sched.specs.declared.schedule.Schedule.{Schedule}
 use Rattle.ygg_replay.specs.declared.ends.End.{End}

@@ -12,8 +12,8 @@ use Rattle.ygg_sched.specs.ygg_meaning.Layer.{ClosedLayer}
 use Rattle.ygg_sched.specs.ygg_meaning.Obligations.{IsRead}
 use Rattle.ygg_sched.specs.ygg_meaning.Spec.{Outcome, chosen, block_outcome, then_block, call_outcome, crash_outcome, fall_with}
 use Rattle.ygg_sched.specs.ygg_meaning_proofs_Exact.{Exact, block_exact, then_exact}
-use Rattle.ygg_eval.specs.ygg_direct.Acts.{Taken}
-use Rattle.ygg_eval.proofs.of_ygg_direct.Taking.{left_after, read_taken}
+use Rattle.ygg_eval.specs.ygg_meaning_laws.Acts.{Taken}
+use Rattle.ygg_eval.proofs.of_ygg_meaning_laws.Taking.{left_after, read_taken}
 
 chosen_more : (p q : Picks) → chosen (p ++ q) ≡ chosen p ++ chosen q
 chosen_more p q = map-append (λ (pick : Bool). Some (digit pick)) p q

@@ -19,9 +19,9 @@ use Rattle.ygg_sched.specs.ygg_meaning.Machine.{Picks, State, based}
 use Rattle.ygg_sched.specs.ygg_meaning.Refines.{Below, OnDisk, OnSpec, machine_below}
 use Rattle.ygg_sched.specs.ygg_meaning.Spec.{Outcome, chosen, call_outcome, crash_outcome, fall_outcome, SpecCalls, SpecFalls, SpecLoses}
 use Rattle.ygg_sched.specs.ygg_meaning.Stack.{tables_of}
-use Rattle.ygg_eval.specs.ygg_type_sound_proofs_Parameters.{same_fit}
-use Rattle.ygg_eval.proofs.of_ygg_direct.Matching.{Matches}
-use Rattle.ygg_eval.specs.ygg_direct.Places.{Result}
+use Rattle.ygg_eval.specs.ygg_meaning_laws_proofs_Parameters.{same_fit}
+use Rattle.ygg_eval.proofs.of_ygg_meaning_laws.Matching.{Matches}
+use Rattle.ygg_eval.specs.ygg_meaning_laws.Places.{Result}
 use Rattle.ygg_eval.specs.ygg_eval_block.Layers.{variables_at, closed_at, below_at, machine_at, signatures_of, signatures_at}
 use Rattle.ygg_eval.specs.ygg_eval_block.Lower.{IsCallable, Called, Fell, Whole, Happened}
 use Rattle.ygg_eval.specs.Kept.{Kept, spec_meaning, Loses}

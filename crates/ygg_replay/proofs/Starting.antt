@@ -27,7 +27,7 @@ use Rattle.ygg_replay.specs.Steps.{IsStart}
 use Rattle.ygg_eval.specs.Zeros.{zero_values}
 use Rattle.ygg_replay.proofs.Typing.{bind_zeros, memory_zeros}
 use Rattle.ygg_syntax.specs.declared.tree.File.{File}
-use Rattle.ygg_eval.specs.ygg_type_sound.Questions.{question_fits}
+use Rattle.ygg_eval.specs.ygg_meaning_laws.Questions.{question_fits}
 use Rattle.ygg_eval.specs.ygg_eval_block.Layers.{signatures_at}
 
 -- a plain block asks for nothing

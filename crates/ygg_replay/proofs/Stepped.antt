@@ -19,8 +19,8 @@ use Rattle.ygg_sched.specs.ygg_meaning.Machine.{Picks}
 use Rattle.ygg_sched.specs.ygg_meaning.Layer.{ClosedLayer}
 use Rattle.ygg_sched.specs.ygg_meaning.Obligations.{call_picks, crash_picks, fall_picks}
 use Rattle.ygg_sched.specs.ygg_meaning.Spec.{Outcome, chosen, call_outcome, crash_outcome, fall_with, fall_outcome}
-use Rattle.ygg_eval.specs.ygg_type_sound.Kinds.{keeps}
-use Rattle.ygg_eval.proofs.of_ygg_direct.Matching.{block_matches, fall_on_crash, fall_maybe}
+use Rattle.ygg_eval.specs.ygg_meaning_laws.Kinds.{keeps}
+use Rattle.ygg_eval.proofs.of_ygg_meaning_laws.Matching.{block_matches, fall_on_crash, fall_maybe}
 use Rattle.ygg_eval.specs.ygg_eval_block.declared.body.Part.TheVariants as part
 use Rattle.ygg_eval.specs.Kept.{Kept, IsKept}
 use Rattle.ygg_eval.proofs.OnSpec.{layer_fits}

@@ -7,12 +7,12 @@ use Rattle.ygg_sched.specs.ygg_meaning.Machine.{Picks, State, on, Machine}
 use Rattle.ygg_sched.specs.ygg_meaning.Layer.{ClosedLayer, dialogue_of, BlockFalls}
 use Rattle.ygg_sched.specs.ygg_meaning.Obligations.{Halt, IsRead}
 use Rattle.ygg_sched.specs.ygg_meaning.Runs.{WholeRun, answers_of}
-use Rattle.ygg_eval.specs.ygg_direct.Direct.{Event}
-use Rattle.ygg_eval.specs.ygg_direct.Acts.{Acts, Fell, Standing, noted_picks, Taken, run_from, stopped_in, IsActed}
-use Rattle.ygg_eval.proofs.of_ygg_direct.Agreed.{falls_unique}
-use Rattle.ygg_eval.proofs.of_ygg_direct.Running.{run_asks, run_chains, run_ends}
-use Rattle.ygg_eval.proofs.of_ygg_direct.Taking.{left_after, read_taken}
-use Rattle.ygg_eval.proofs.of_ygg_direct.Unique.{Asked, never_both, walk}
+use Rattle.ygg_eval.specs.ygg_meaning_laws.Direct.{Event}
+use Rattle.ygg_eval.specs.ygg_meaning_laws.Acts.{Acts, Fell, Standing, noted_picks, Taken, run_from, stopped_in, IsActed}
+use Rattle.ygg_eval.proofs.of_ygg_meaning_laws.Agreed.{falls_unique}
+use Rattle.ygg_eval.proofs.of_ygg_meaning_laws.Running.{run_asks, run_chains, run_ends}
+use Rattle.ygg_eval.proofs.of_ygg_meaning_laws.Taking.{left_after, read_taken}
+use Rattle.ygg_eval.proofs.of_ygg_meaning_laws.Unique.{Asked, never_both, walk}
 
 -- how many calls there are before a stop at the earliest that isn't reached
 abbrev pub beyond : Bool → ℕ → ℕ

@@ -19,7 +19,7 @@ use Rattle.ygg_eval.specs.Taken.{TakesOnly}
 use Rattle.ygg_eval.specs.Kept.{Kept, spec_meaning, named_in}
 use Rattle.ygg_eval.specs.Keeping.{takes_both}
 use Rattle.ygg_eval.proofs.Stepping.{no_pick}
-use Rattle.ygg_eval.specs.ygg_type_sound.Questions.{question_fits}
+use Rattle.ygg_eval.specs.ygg_meaning_laws.Questions.{question_fits}
 
 asks_of : (p : Progress) (q : Question) → asked p ≡ Some q → p ≡ Asks q
 asks_of (Asks r) q h = let same : r ≡ q = cc in ap (λ x. Asks x) same

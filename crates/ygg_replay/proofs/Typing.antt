@@ -16,11 +16,11 @@ use Rattle.ygg_sched.specs.ygg_type_proofs_Least.{is_empty}
 use Rattle.ygg_sched.specs.ygg_meaning.Environments.{bind}
 use Rattle.ygg_sched.specs.ygg_meaning.Meaning.{functions_of}
 use Rattle.ygg_sched.specs.ygg_meaning.Shapes.{env_fits, shape_in, values_fit, zeros_of}
-use Rattle.ygg_eval.specs.ygg_type_sound_proofs_Parameters.{type_is}
-use Rattle.ygg_eval.specs.ygg_type_sound.Kinds.{keeps, layer_keeps}
-use Rattle.ygg_eval.proofs.of_ygg_type_sound.Derived.{derivable_derived}
-use Rattle.ygg_eval.specs.ygg_type_sound_proofs_Typed.{parts}
-use Rattle.ygg_eval.proofs.of_ygg_type_sound.Views.{AllTyped, LayerVariables, zeros_fit}
+use Rattle.ygg_eval.specs.ygg_meaning_laws_proofs_Parameters.{type_is}
+use Rattle.ygg_eval.specs.ygg_meaning_laws.Kinds.{keeps, layer_keeps}
+use Rattle.ygg_eval.proofs.of_ygg_meaning_laws.Derived.{derivable_derived}
+use Rattle.ygg_eval.specs.ygg_meaning_laws_proofs_Typed.{parts}
+use Rattle.ygg_eval.proofs.of_ygg_meaning_laws.Views.{AllTyped, LayerVariables, zeros_fit}
 use Rattle.ygg_eval.specs.ygg_eval_block.declared.body.Body.{Body}
 use Rattle.ygg_eval.specs.ygg_eval_block.Bodies.{kind_of, IsBlock}
 use Rattle.ygg_eval.specs.ygg_eval_block_proofs_Blocks.{blocks_kept, block_typing, layer_typing}

@@ -16,8 +16,8 @@ use Rattle.ygg_machine.specs.ygg_type_rules.Definitions.{parameter_shapes}
 use Rattle.ygg_machine.specs.ygg_type_rules.Layers.{operation_signature}
 use Rattle.ygg_machine.specs.ygg_type.Typed.{operations_at}
 use Rattle.ygg_machine.specs.ygg_meaning.Environments.{Name}
-use Rattle.ygg_machine.specs.ygg_type_sound.Fitting.{fits_wanted, all_fit}
-use Rattle.ygg_machine.specs.ygg_type_sound_proofs_Fits.{value_fits}
+use Rattle.ygg_machine.specs.ygg_meaning_laws.Fitting.{fits_wanted, all_fit}
+use Rattle.ygg_machine.specs.ygg_meaning_laws_proofs_Fits.{value_fits}
 use Rattle.ygg_machine.specs.ygg_eval_block.Layers.{signatures_at, signatures_of}
 use Rattle.ygg_machine.specs.ygg_eval_block.Lower.{IsCallable}
 use Rattle.ygg_run_play.specs.ygg_sched.Fitting.{AreOfTypes}

@@ -5,7 +5,7 @@ use Rattle.std.proofs.Math.Logic.{∥∥₁_elim}
 use Rattle.ygg_syntax.specs.declared.tree.Layer.{Layer}
 use Rattle.ygg_syntax.specs.declared.tree.File.{File}
 use Rattle.ygg_syntax.specs.Files.{IsDerivable, whole_file, layers}
-use Rattle.ygg_run.specs.ygg_type_sound_proofs_Grammar.{IsRead, first_read, others_read}
+use Rattle.ygg_run.specs.ygg_meaning_laws_proofs_Grammar.{IsRead, first_read, others_read}
 
 abbrev has_layers : List Layer → Bool
 has_layers [] = false

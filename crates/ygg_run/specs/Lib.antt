@@ -1,4 +1,3 @@
-pub mod Playing
 pub use Rattle.ygg_machine.specs.ygg_disk
 pub use Rattle.ygg_machine.specs.ygg_eval_block
 pub use Rattle.ygg_run_play.specs.ygg_meaning_proofs_Mirrored
@@ -10,8 +9,9 @@ pub use Rattle.ygg_run_play.specs.ygg_sched
 pub use Rattle.ygg_run_play.specs.ygg_script
 pub use Rattle.ygg_machine.specs.ygg_type_proofs_Least
 pub use Rattle.ygg_machine.specs.ygg_type
-pub use Rattle.ygg_run_play.specs.ygg_type_sound_proofs_Grammar
-pub use Rattle.ygg_run_play.specs.ygg_type_sound
+pub use Rattle.ygg_run_play.specs.ygg_meaning_laws_proofs_Grammar
+pub use Rattle.ygg_run_play.specs.ygg_meaning_laws
 pub use Rattle.ygg_machine.specs.ygg_type_rules
+pub mod Playing
 pub mod TowerPlaying
 pub mod Falling

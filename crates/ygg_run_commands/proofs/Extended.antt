@@ -16,7 +16,7 @@ use Rattle.ygg_run.specs.ygg_machine.Told.{SameNotes}
 use Rattle.ygg_run.specs.ygg_script.declared.command.Command.{Command}
 use Rattle.ygg_run.specs.ygg_script.declared.command.Command.TheVariants.{Call, Tick, Lost, Fail, Keep}
 use Rattle.ygg_run.specs.ygg_run_play.Named.{operation_name, tick_name}
-use Rattle.ygg_run.specs.ygg_type_sound.ProgressLaws.{TypedHistories}
+use Rattle.ygg_run.specs.ygg_meaning_laws.ProgressLaws.{TypedHistories}
 use Rattle.ygg_run_commands.specs.Ran.{AllRan}
 use Rattle.ygg_run_commands.specs.OnGround.{layers_on}
 use Rattle.ygg_run_commands.specs.Extending.{RunsExtend}

@@ -1,3 +1,4 @@
+pub use Rattle.ygg_machine.proofs as of_ygg_machine
 pub mod Pieces
 pub mod Numbers
 pub mod ImageRows
@@ -12,6 +13,13 @@ mod Leaving
 pub mod Whole
 pub mod JudgedBlocks
 pub mod Attached
-pub use Rattle.ygg_machine.proofs as of_ygg_machine
 pub mod Some
 pub mod StackKeeping
+pub mod Alike
+pub mod Ended
+pub mod Filled
+pub mod Finished
+pub mod Kept
+pub mod FormatRows
+pub mod Turns
+pub mod Sealed

@@ -11,8 +11,11 @@ ghost use Rattle.ygg_run_image.specs.Judged.{BeginsWith, IsHeaderJudged, IsJudge
 ghost use Rattle.ygg_run_image.specs.Mounting.{Accepts, AreRowsJudged, IsRowJudged, IsSeenAs, IsShown};
 ghost use Rattle.ygg_run_image.specs.declared.unmounted.Unmounted.TheVariants as unmounted;
 
+use crate::header::judge_header;
+use crate::reason::ImageReason;
+use crate::row::is_row_block;
+use crate::size::block_size;
 use crate::unmounted::Unmounted;
-use crate::{ImageReason, block_size, is_row_block, judge_header};
 use std::alloc::Global;
 use ygg_base::{Geometry, Moved};
 use ygg_base_device::Device;

@@ -12,7 +12,8 @@ ghost use Rattle.ygg_run_image.specs.Judged.{AreWords};
 ghost use Rattle.ygg_run_image.specs.Sight.{Holds, held};
 ghost use Rattle.ygg_run_image.specs.Turning.{FlushesDisk, WritesBlock, WritesRow};
 
-use crate::{block_size, decode_row, encode_row};
+use crate::row::{decode_row, encode_row};
+use crate::size::block_size;
 use ygg_base::{DiskKind, Geometry, Moved};
 use ygg_base_device::Device;
 use ygg_value::Row;

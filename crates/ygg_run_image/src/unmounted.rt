@@ -1,4 +1,4 @@
-use crate::ImageReason;
+use crate::reason::ImageReason;
 use ygg_list::NoMemory;
 
 /// Why an image isn't mounted.

@@ -6,8 +6,8 @@ use Rattle.ygg_script.specs.ygg_meaning.Progress.{Answer}
 use Rattle.ygg_script.specs.ygg_meaning.Machine.{Picks, State}
 use Rattle.ygg_script.specs.ygg_meaning.Noted.{Note, picks_in}
 use Rattle.ygg_script.proofs.of_ygg_meaning.Stores.{picks_joined}
-use Rattle.ygg_direct.specs.Acts.{Taken, later}
-use Rattle.ygg_direct.proofs.Taking.{taken_split}
+use Rattle.ygg_meaning_laws.specs.Acts.{Taken, later}
+use Rattle.ygg_meaning_laws.proofs.Taking.{taken_split}
 use Rattle.ygg_run_play.proofs.Endings.{AllWhole, Before, OneEnd, one_end, before_more, before_after, end_after, whole_append}
 
 -- how a run ends

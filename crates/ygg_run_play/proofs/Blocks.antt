@@ -9,7 +9,7 @@ use Rattle.ygg_script.specs.ygg_meaning.Machine.{Picks, State, on, memory_in, Ti
 use Rattle.ygg_script.specs.ygg_meaning.Runs.{Dialogue, WholeCall, Reaches, FallsAt, answers_of, notes_of}
 use Rattle.ygg_script.specs.ygg_meaning.Layer.{ClosedLayer, BlockRuns, BlockFalls, dialogue_of}
 use Rattle.ygg_script.specs.ygg_meaning.Noted.{Note}
-use Rattle.ygg_direct.specs.Acts.{under}
+use Rattle.ygg_meaning_laws.specs.Acts.{under}
 use Rattle.ygg_run_play.proofs.Endings.{AllWhole, Before, like_none}
 use Rattle.ygg_run_play.proofs.Alike.{End, Whole, Cut, Process, Alike, flipped, alike_after, alike_cut, Takes, split, one_left, Follows, Steady, follows_after}
 

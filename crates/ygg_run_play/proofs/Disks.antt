@@ -10,10 +10,10 @@ use Rattle.ygg_script.specs.ygg_meaning.Progress.{Answer}
 use Rattle.ygg_script.specs.ygg_meaning.Machine.{Picks, State, TickName}
 use Rattle.ygg_script.specs.ygg_meaning.DiskMachine.{tables_in, disk_call}
 use Rattle.ygg_script.specs.ygg_meaning.Noted.{Note, picks_in, NotedDisk}
-use Rattle.ygg_direct.specs.Acts.{Taken, Did}
-use Rattle.ygg_direct.specs.DiskActs.{Replied, Dropped, kind_calls, kind_falls, state_in}
-use Rattle.ygg_direct.proofs.DiskActed.{state_is, call_replies, fall_drops}
-use Rattle.ygg_direct.proofs.StackActed.{stacks_directly}
+use Rattle.ygg_meaning_laws.specs.Acts.{Taken, Did}
+use Rattle.ygg_meaning_laws.specs.DiskActs.{Replied, Dropped, kind_calls, kind_falls, state_in}
+use Rattle.ygg_meaning_laws.proofs.DiskActed.{state_is, call_replies, fall_drops}
+use Rattle.ygg_meaning_laws.proofs.StackActed.{stacks_directly}
 use Rattle.ygg_run_play.proofs.Endings.{Before}
 use Rattle.ygg_run_play.proofs.Alike.{End, Whole, Cut, Alike, Takes, Follows, Steady}
 use Rattle.ygg_run_play.proofs.Blocks.{calling, ticking, waking, Tidy}

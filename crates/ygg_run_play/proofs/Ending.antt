@@ -8,7 +8,7 @@ use Rattle.ygg_run_play.specs.ygg_meaning.Environments.{Env}
 use Rattle.ygg_run_play.specs.ygg_meaning.Machine.{Picks, State, Machine}
 use Rattle.ygg_run_play.specs.ygg_meaning.Noted.{Note, picks_in}
 use Rattle.ygg_run_play.specs.ygg_meaning.Trace.{Up, Moment}
-use Rattle.ygg_run_play.specs.ygg_direct.Acts.{Taken}
+use Rattle.ygg_run_play.specs.ygg_meaning_laws.Acts.{Taken}
 use Rattle.ygg_run_play.specs.ygg_report.Putting.{Adds, IsFront}
 use Rattle.ygg_run_play.proofs.of_ygg_report.Fronts.{adds_more, adds_none, front_after, front_first, front_longer}
 use Rattle.ygg_run_play.specs.ygg_script.declared.command.Command.{Command}

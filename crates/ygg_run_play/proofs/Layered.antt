@@ -10,7 +10,7 @@ use Rattle.ygg_script.specs.ygg_meaning.Shapes.{zeros_of}
 use Rattle.ygg_script.specs.ygg_meaning.Layer.{ClosedLayer, Layered, BlockRuns, operation_of, tick_of}
 use Rattle.ygg_script.specs.ygg_meaning.Noted.{Note}
 use Rattle.ygg_script.specs.ygg_meaning.Stack.{Layers, Stacked}
-use Rattle.ygg_direct.specs.Acts.{under}
+use Rattle.ygg_meaning_laws.specs.Acts.{under}
 use Rattle.ygg_run_play.proofs.Alike.{End, Whole, Cut, Process, Alike, Takes, split, one_left, Follows, Steady, mute, mute_steady, sequel, sequel_steady}
 use Rattle.ygg_run_play.proofs.Blocks.{calling, ticking, waking, blocking, Tidy, block_steady}
 

@@ -10,8 +10,8 @@ use Rattle.ygg_run_play.specs.ygg_disk.declared.power.Power.{Power}
 use Rattle.ygg_run_play.specs.ygg_disk.declared.turn.Event.{Event}
 use Rattle.ygg_run_play.specs.ygg_meaning.Machine.{Picks}
 use Rattle.ygg_run_play.specs.ygg_meaning.Noted.{Note, picks_in}
-use Rattle.ygg_run_play.specs.ygg_direct.Acts.{next_of, later, Taken}
-use Rattle.ygg_run_play.proofs.of_ygg_direct.Taking.{taken_append}
+use Rattle.ygg_run_play.specs.ygg_meaning_laws.Acts.{next_of, later, Taken}
+use Rattle.ygg_run_play.proofs.of_ygg_meaning_laws.Taking.{taken_append}
 use Rattle.ygg_run_play.specs.Lines.{events_of}
 use Rattle.ygg_run_play.specs.Scene.{Leave, AreWhole}
 use Rattle.ygg_run_play.specs.Doing.{left_of}

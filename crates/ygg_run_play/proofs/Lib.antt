@@ -1,7 +1,6 @@
-pub use Rattle.ygg_direct.proofs as of_ygg_direct
+pub use Rattle.ygg_meaning_laws.proofs as of_ygg_meaning_laws
 pub use Rattle.ygg_script.proofs.of_ygg_meaning
 pub use Rattle.ygg_script.proofs.of_ygg_report
-pub use Rattle.ygg_direct.proofs.of_ygg_type_sound
 pub mod Endings
 pub mod Alike
 pub mod Blocks

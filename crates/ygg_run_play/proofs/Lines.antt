@@ -12,7 +12,7 @@ use Rattle.ygg_run_play.specs.ygg_meaning.Machine.{Picks, State, Machine}
 use Rattle.ygg_run_play.specs.ygg_meaning.Noted.{Note, picks_in}
 use Rattle.ygg_run_play.specs.ygg_meaning.Trace.{Standing, Up, Down, Moment, Fails, Traces}
 use Rattle.ygg_run_play.specs.ygg_meaning.Under.{Between}
-use Rattle.ygg_run_play.specs.ygg_direct.Acts.{Taken}
+use Rattle.ygg_run_play.specs.ygg_meaning_laws.Acts.{Taken}
 use Rattle.ygg_run_play.specs.ygg_report.Lines.{ended}
 use Rattle.ygg_run_play.specs.ygg_script.declared.command.Command.{Command}
 use Rattle.ygg_run_play.specs.ygg_script.declared.command.Command.TheVariants.{Call, Tick, Lost, Fail, Keep}

@@ -5,20 +5,20 @@ use Rattle.ygg_base.specs.declared.reason.Reason.TheVariants as reason
 use Rattle.ygg_syntax.specs.declared.tree.Declared.{Declared}
 use Rattle.ygg_syntax.specs.declared.tree.Layer.{Layer}
 use Rattle.ygg_syntax.specs.declared.tree.File.{File}
-use Rattle.ygg_direct.specs.ygg_syntax_count.Weights.{Weights, weights_of}
-use Rattle.ygg_direct.specs.ygg_type_rules.Names.{Named, look_up, has, added}
-use Rattle.ygg_direct.specs.ygg_type_rules.declared.scope.Signature.{Signature}
-use Rattle.ygg_direct.specs.ygg_type_rules.TypeErrors.{none, unless}
-use Rattle.ygg_direct.specs.ygg_type_rules.Definitions.{definitions_errors, with_definitions}
-use Rattle.ygg_direct.specs.ygg_type_rules.Layers.{Known, Below, below_of, layer_scope, parts_errors}
-use Rattle.ygg_direct.specs.ygg_type_rules.Files.{IsTyped, type_errors_of, disk_errors, disk_below, count_error, layer_errors, layers_errors}
+use Rattle.ygg_meaning_laws.specs.ygg_syntax_count.Weights.{Weights, weights_of}
+use Rattle.ygg_meaning_laws.specs.ygg_type_rules.Names.{Named, look_up, has, added}
+use Rattle.ygg_meaning_laws.specs.ygg_type_rules.declared.scope.Signature.{Signature}
+use Rattle.ygg_meaning_laws.specs.ygg_type_rules.TypeErrors.{none, unless}
+use Rattle.ygg_meaning_laws.specs.ygg_type_rules.Definitions.{definitions_errors, with_definitions}
+use Rattle.ygg_meaning_laws.specs.ygg_type_rules.Layers.{Known, Below, below_of, layer_scope, parts_errors}
+use Rattle.ygg_meaning_laws.specs.ygg_type_rules.Files.{IsTyped, type_errors_of, disk_errors, disk_below, count_error, layer_errors, layers_errors}
 use Rattle.ygg_script.specs.ygg_meaning.Environments.{Name}
 use Rattle.ygg_script.specs.ygg_meaning.Meaning.{Functions, functions_of}
 use Rattle.ygg_script.specs.ygg_meaning.Layer.{ClosedLayer}
 use Rattle.ygg_script.specs.ygg_meaning.Stack.{Layers, tables_of, layers_on, layers_of}
-use Rattle.ygg_direct.specs.ygg_type_sound_proofs_Names.{or_else, look_up_append}
-use Rattle.ygg_direct.specs.ygg_type_sound_proofs_Tests.{left, right, passed, turned, bytes_equal}
-use Rattle.ygg_direct.specs.ygg_type_sound_proofs_TypeErrors.{none_listed}
+use Rattle.ygg_meaning_laws.proofs.Names.{or_else, look_up_append}
+use Rattle.ygg_meaning_laws.proofs.Tests.{left, right, passed, turned, bytes_equal}
+use Rattle.ygg_meaning_laws.proofs.TypeErrors.{none_listed}
 use Rattle.ygg_run_play.proofs.Layered.{Absent, Distinct}
 
 -- all of their names are known

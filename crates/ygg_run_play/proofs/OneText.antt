@@ -3,13 +3,13 @@ use Rattle.std.proofs.Common.{◌≡◌, ℕ, ◌+◌, true, Bool, List, [], ◌
 use Rattle.std.specs.List.{All}
 use Rattle.std.proofs.lemmas.List.Elements.{All-head, All-tail}
 use Rattle.ygg_syntax.specs.declared.tree.File.{File}
-use Rattle.ygg_direct.specs.ygg_type_rules.Files.{IsTyped}
+use Rattle.ygg_meaning_laws.specs.ygg_type_rules.Files.{IsTyped}
 use Rattle.ygg_script.specs.ygg_meaning.Environments.{Env}
 use Rattle.ygg_script.specs.ygg_meaning.Machine.{Picks, Machine}
 use Rattle.ygg_script.specs.ygg_meaning.Stack.{layers_of}
 use Rattle.ygg_script.specs.ygg_meaning.Trace.{Standing, Up, Moment}
 use Rattle.ygg_script.specs.ygg_meaning.Noted.{Note, picks_in, NotedDisk}
-use Rattle.ygg_direct.specs.Acts.{Taken}
+use Rattle.ygg_meaning_laws.specs.Acts.{Taken}
 use Rattle.ygg_script.specs.declared.command.Command.{Command}
 use Rattle.ygg_run_play.specs.Named.{stop_after, Names, Unreached}
 use Rattle.ygg_run_play.specs.Lines.{text_of}

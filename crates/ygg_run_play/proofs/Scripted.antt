@@ -10,7 +10,7 @@ use Rattle.ygg_script.specs.ygg_meaning.Machine.{Picks, State, Machine}
 use Rattle.ygg_script.specs.ygg_meaning.Under.{InCall, InTick, Between}
 use Rattle.ygg_script.specs.ygg_meaning.Trace.{Standing, Up, Down, Moment, Calls, Ticks, Fails, WakeFails, Wakes, Leads, Traces}
 use Rattle.ygg_script.specs.ygg_meaning.Noted.{Note, picks_in}
-use Rattle.ygg_direct.specs.Acts.{Taken}
+use Rattle.ygg_meaning_laws.specs.Acts.{Taken}
 use Rattle.ygg_script.specs.declared.command.Command.{Command}
 use Rattle.ygg_script.specs.declared.command.Command.TheVariants.{Call, Tick, Lost, Fail, Keep}
 use Rattle.ygg_run_play.specs.Named.{operation_name, tick_name, Wholly, CutShort, Misses, Happens, picks_of, picks_from, Leading, IsMissed}

@@ -1,7 +1,7 @@
 -- A script has one text, or is refused at one line; and what it names is a history.
 use Rattle.std.specs.Prelude.{◌≡◌, ℕ, List, Option}
 use Rattle.ygg_syntax.specs.declared.tree.File.{File}
-use Rattle.ygg_direct.specs.ygg_type_rules.Files.{IsTyped}
+use Rattle.ygg_meaning_laws.specs.ygg_type_rules.Files.{IsTyped}
 use Rattle.ygg_script.specs.ygg_disk.declared.power.Fuse.{Fuse}
 use Rattle.ygg_script.specs.ygg_meaning.Environments.{Env}
 use Rattle.ygg_script.specs.ygg_meaning.Machine.{Picks, State, Machine}

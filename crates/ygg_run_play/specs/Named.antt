@@ -30,7 +30,7 @@ use Rattle.ygg_script.specs.ygg_meaning.Machine.{Picks, TickName, Machine}
 use Rattle.ygg_script.specs.ygg_meaning.Under.{InCall, InTick, Between}
 use Rattle.ygg_script.specs.ygg_meaning.Trace.{Standing, Moment, Calls, Ticks, Fails, WakeFails, Wakes, Traces}
 use Rattle.ygg_script.specs.ygg_meaning.Noted.{Note, picks_in}
-use Rattle.ygg_direct.specs.Acts.{Taken}
+use Rattle.ygg_meaning_laws.specs.Acts.{Taken}
 use Rattle.ygg_script.specs.declared.command.Command.{Command}
 use Rattle.ygg_script.specs.declared.command.Command.TheVariants.{Call, Tick, Lost, Fail, Keep}
 use Rattle.ygg_script.specs.Places.{top_operations}

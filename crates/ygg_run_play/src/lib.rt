@@ -26,5 +26,5 @@ pub use halting::PlayHalted;
 pub use law::{files_have_one_way, plays_are_histories, scripts_have_one_text};
 pub use playing::play_on;
 pub use scene::{CommandOutcome, Scene};
-pub use ygg_direct::typed_histories;
+pub use ygg_meaning_laws::typed_histories;
 pub use ygg_script::{Command, Script, left_goes_on, plain_script, put, read_script};

@@ -1,6 +1,6 @@
 -- The names of a file that a text is have the form of a name.
 use Rattle.ygg_print.proofs.Reread.{printed_are}
-use Rattle.ygg_print.proofs.of_ygg_print_tree.Marks.{tokens_are}
+use Rattle.ygg_print.proofs.Marks.{tokens_are}
 use Rattle.ygg_sched_names.specs.Laws.{AcceptedHasNames, NamesArePlain, PrintedShows}
 use Rattle.ygg_sched_names.proofs.Good.{all_good, plain_at}
 use Rattle.ygg_sched_names.proofs.Marks.{names_printed}

@@ -11,7 +11,7 @@ use Rattle.ygg_accept.specs.ygg_type_rules.Files.{IsTyped}
 use Rattle.ygg_replay.specs.ygg_meaning.Obligations.{Obligation, obligations_of, name_of}
 use Rattle.ygg_replay.specs.ygg_meaning.Claims.{Claim, claims_of}
 use Rattle.ygg_replay.specs.ygg_meaning.Stack.{tables_of}
-use Rattle.ygg_print.specs.ygg_print_tree.Laws.{IsName}
+use Rattle.ygg_print.specs.TreeLaws.{IsName}
 use Rattle.ygg_oblige_laws.specs.Meaning.{claim_name}
 use Rattle.ygg_replay.specs.ygg_sched.Laws.{asked_at, asked_of}
 use Rattle.ygg_replay.specs.ygg_sched.Sites.{Site, sites_at, sites_on, sites_of, site_named}

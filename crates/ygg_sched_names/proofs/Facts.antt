@@ -14,7 +14,7 @@ use Rattle.ygg_replay.specs.ygg_sched.Fitting.{OnlyIf, halt_meant}
 use Rattle.ygg_replay.specs.ygg_sched.Sites.{has_state, has_low, has_stop, has_wake, has_other, arguments_of}
 use Rattle.ygg_replay.specs.ygg_sched.declared.schedule.Halt.{Halt}
 use Rattle.ygg_replay.specs.ygg_sched.declared.schedule.Schedule.{Schedule}
-use Rattle.ygg_replay.specs.ygg_type_sound_proofs_Tests.{left, right}
+use Rattle.ygg_replay.specs.ygg_meaning_laws_proofs_Tests.{left, right}
 use Rattle.ygg_sched_names.proofs.Kept.{Spoken}
 use Rattle.ygg_sched_names.proofs.Spare.{IsSpare}
 

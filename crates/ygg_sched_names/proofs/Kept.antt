@@ -12,8 +12,8 @@ use Rattle.ygg_syntax.specs.declared.tree.TypeText.TheVariants as text
 use Rattle.ygg_accept.specs.ygg_type_rules.Shapes.{shape_of}
 use Rattle.ygg_replay.specs.ygg_meaning.Environments.{bind}
 use Rattle.ygg_replay.specs.ygg_meaning.Shapes.{shape_in, fits, values_fit, env_fits}
-use Rattle.ygg_replay.specs.ygg_type_sound_proofs_Fits.{fits_has}
-use Rattle.ygg_replay.specs.ygg_type_sound_proofs_Tests.{left, right}
+use Rattle.ygg_replay.specs.ygg_meaning_laws_proofs_Fits.{fits_has}
+use Rattle.ygg_replay.specs.ygg_meaning_laws_proofs_Tests.{left, right}
 use Rattle.ygg_replay.specs.ygg_sched.Fitting.{IsOfType, AreOfTypes}
 use Rattle.ygg_replay.specs.ygg_sched.Printing.{variable_line, variable_lines}
 

@@ -12,7 +12,7 @@ use Rattle.ygg_syntax.specs.declared.tree.Operation.{Operation}
 use Rattle.ygg_syntax.specs.declared.tree.Tick.{Tick}
 use Rattle.ygg_syntax.specs.declared.tree.Layer.{Layer}
 use Rattle.ygg_replay.specs.ygg_meaning.Obligations.{Obligation, Init, CallOf, CutOf, TickOf, CutTickOf, Idle, Again, obligations_of, name_of}
-use Rattle.ygg_print.specs.ygg_print_tree.Laws.{IsName}
+use Rattle.ygg_print.specs.TreeLaws.{IsName}
 use Rattle.ygg_replay.specs.ygg_sched.Words.{cut_at}
 use Rattle.ygg_sched_names.proofs.Apart.{Differs, Apart, differs_append, apart_append, apart_seen}
 

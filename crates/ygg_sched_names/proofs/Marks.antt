@@ -12,10 +12,10 @@ use Rattle.ygg_syntax.specs.declared.tree.Operation.{Operation}
 use Rattle.ygg_syntax.specs.declared.tree.Tick.{Tick}
 use Rattle.ygg_syntax.specs.declared.tree.Layer.{Layer}
 use Rattle.ygg_syntax.specs.declared.tree.File.{File}
-use Rattle.ygg_print.specs.ygg_print_tree.Laws.{IsName, IsMark}
-use Rattle.ygg_print.specs.ygg_print_tree.Printed.{list_printed, more_printed}
-use Rattle.ygg_print.specs.ygg_print_tree.PrintedBlocks.{all_printed, block_printed}
-use Rattle.ygg_print.specs.ygg_print_tree.PrintedFiles.{
+use Rattle.ygg_print.specs.TreeLaws.{IsName, IsMark}
+use Rattle.ygg_print.specs.Printed.{list_printed, more_printed}
+use Rattle.ygg_print.specs.PrintedBlocks.{all_printed, block_printed}
+use Rattle.ygg_print.specs.PrintedFiles.{
   type_printed,
   declared_printed,
   variable_printed,

@@ -7,7 +7,7 @@ use Rattle.std.proofs.lemmas.List.Elements.{All-head, All-tail}
 use Rattle.std.proofs.lemmas.List.Folds.{list_all-append}
 use Rattle.ygg_syntax.specs.declared.tree.Declared.{Declared}
 use Rattle.ygg_replay.specs.ygg_meaning.Obligations.{Obligation, Init, CallOf, CutOf, TickOf, CutTickOf, Idle, Again, name_of}
-use Rattle.ygg_print.specs.ygg_print_tree.Laws.{IsName}
+use Rattle.ygg_print.specs.TreeLaws.{IsName}
 use Rattle.ygg_replay.specs.ygg_sched.Fitting.{is_plain, all_plain}
 use Rattle.ygg_replay.specs.ygg_sched.Words.{is_empty}
 use Rattle.ygg_sched_names.specs.Names.{AreNamed}

@@ -30,9 +30,9 @@ use Rattle.ygg_accept.specs.ygg_type_rules.Layers.{
   parts_errors,
 }
 use Rattle.ygg_accept.specs.ygg_type_rules.Files.{IsTyped, type_errors_of, disk_errors, disk_below, count_error, layer_errors, layers_errors}
-use Rattle.ygg_replay.specs.ygg_type_sound_proofs_Names.{or_else, look_up_append}
-use Rattle.ygg_replay.specs.ygg_type_sound_proofs_Tests.{left, right, passed, turned, bytes_equal}
-use Rattle.ygg_replay.specs.ygg_type_sound_proofs_TypeErrors.{none_listed}
+use Rattle.ygg_replay.specs.ygg_meaning_laws_proofs_Names.{or_else, look_up_append}
+use Rattle.ygg_replay.specs.ygg_meaning_laws_proofs_Tests.{left, right, passed, turned, bytes_equal}
+use Rattle.ygg_replay.specs.ygg_meaning_laws_proofs_TypeErrors.{none_listed}
 use Rattle.ygg_sched_names.proofs.Apart.{Differs, Apart}
 use Rattle.ygg_sched_names.proofs.Keys.{OwnNames, operation_name, tick_name, layer_name}
 

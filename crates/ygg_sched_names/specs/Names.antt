@@ -5,7 +5,7 @@ use Rattle.ygg_syntax.specs.declared.tree.Operation.{Operation}
 use Rattle.ygg_syntax.specs.declared.tree.Tick.{Tick}
 use Rattle.ygg_syntax.specs.declared.tree.Layer.{Layer}
 use Rattle.ygg_syntax.specs.declared.tree.File.{File}
-use Rattle.ygg_print.specs.ygg_print_tree.Laws.{IsName}
+use Rattle.ygg_print.specs.TreeLaws.{IsName}
 
 -- variables or arguments whose names have the form of a name
 abbrev pub AreNamed : List Declared → Type 0

@@ -1,4 +1,4 @@
--- Lists of values that are compared, and shapes of lists.
+-- Lists of values that are compared.
 use Rattle.std.proofs.Common.{
   ◌≡◌,
   ◌<◌,
@@ -49,16 +49,14 @@ use Rattle.ygg_shape_cells.specs.ygg_shape_words_proofs_Keeps.{Stays, grows_stay
 use Rattle.ygg_shape_cells.specs.ygg_shape_words_proofs_Terms.{TermIs, made_is, and_digits}
 use Rattle.ygg_shape_cells.proofs.Wider.{all_shaped_wider}
 use Rattle.ygg_shape_cells.specs.Lists.{each_two}
-use Rattle.ygg_shape_cells.specs.Making.{compared}
+use Rattle.ygg_shape.specs.Comparing.{compared, AreCompared, IsDigit, all_compared, conjunction, same_values}
 use Rattle.ygg_shape_cells.specs.Terms.{AreShaped, worth}
 use Rattle.ygg_shape_cells.specs.declared.terms.SymValue.{SymValue}
-use Rattle.ygg_shape.proofs.Answered.{no_inputs, some_fit}
-use Rattle.ygg_shape.proofs.Grows.{compared_grows}
-use Rattle.ygg_shape.proofs.Keeps.{compared_keeps}
-use Rattle.ygg_shape.proofs.Makers.{compared_gives}
-use Rattle.ygg_shape.proofs.Steps.{rest_is}
-use Rattle.ygg_shape.proofs.Whole.{merged_all_gives}
-use Rattle.ygg_shape.specs.Wholes.{AllAlike, AreCompared, IsDigit, all_compared, conjunction, merged_all, same_values}
+use Rattle.ygg_shape_cells.proofs.Answered.{no_inputs, some_fit}
+use Rattle.ygg_shape.proofs.ComparedKeeps.{compared_grows, compared_keeps}
+use Rattle.ygg_shape.proofs.Compared.{compared_gives}
+use Rattle.ygg_shape_cells.proofs.Steps.{rest_is}
+use Rattle.ygg_shape_cells.specs.Wholes.{AllAlike}
 
 module _ (kinds : List RuleKind) (P : List Node → Type 0) (stays : Stays kinds P) where
   pub all_compared_keeps : (xs ys : List SymValue) (nodes : List Node) → P nodes → P (all_compared kinds xs ys nodes).nodes
@@ -126,17 +124,6 @@ all_compared_width kinds ones twos old new (Ok answer) b e g p =
     (some_fit o.nodes (subst IsBank e b)) in
     subst (λ z. HasWidth z answer 1) (sym e) (subst (λ z. HasWidth o.nodes z 1) (sym g) m.wide)
 all_compared_width kinds ones twos old new (Err x) b e g p = tt
-
-pub merged_all_shaped : {E : Type 0} (kinds : List RuleKind) (t : Id) (shapes : List Shape) (ones twos : List SymValue) (old new : List Node)
-    (r : Result (List SymValue) E) →
-    IsBank new → HasWidth old t 1 → OnOk r (new ≡ (merged_all kinds t ones twos old).nodes) →
-    IfOk r (λ answers. answers ≡ (merged_all kinds t ones twos old).value) → AreShaped old shapes ones → AreShaped old shapes twos →
-    IfOk r (AreShaped new shapes)
-merged_all_shaped kinds t shapes ones twos old new (Ok answers) b d e g p q =
-    let o = merged_all kinds t ones twos old in
-    let m = merged_all_gives no_inputs (value_of no_inputs o.nodes) kinds shapes t ones twos old d p q (some_fit o.nodes (subst IsBank e b)) in
-    subst (λ z. AreShaped z shapes answers) (sym e) (subst (AreShaped o.nodes shapes) (sym g) m.shaped)
-merged_all_shaped kinds t shapes ones twos old new (Err x) b d e g p q = tt
 
 -- digits, as more nodes and more digits come
 pub digits_later : (old new : List Node) (xs : List Id) → Extends old new → All (IsDigit old) xs → All (IsDigit new) xs

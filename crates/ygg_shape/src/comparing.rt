@@ -4,11 +4,12 @@ ghost use Rattle.std.specs.Prelude.{◌≡◌, IfOk, OnOk};
 ghost use Rattle.ygg_shape_cells.specs.ygg_bank.Inputs.{KeepsInputs};
 ghost use Rattle.ygg_shape_cells.specs.ygg_bank.Nodes.{Extends, HasWidth, IsBank};
 ghost use Rattle.ygg_shape_cells.specs.ygg_bank.Values.{KeepsValues};
-ghost use Rattle.ygg_shape_cells.specs.Making.{compared, compared_row, compared_rows};
-ghost use Rattle.ygg_shape.specs.Meaning.{IsCompared};
+ghost use Rattle.ygg_shape.specs.Comparing.{IsCompared, compared, compared_row, compared_rows};
 ghost use Rattle.ygg_shape_cells.specs.Terms.{AreAlike, RowsAlike, TablesAlike};
 
-use ygg_shape_cells::{Bank, Book, Id, NoMemory, Node, SymRow, SymValue, equate, equate_rows};
+use crate::equating::equate_rows;
+use ygg_shape_cells::{Bank, Book, Id, NoMemory, Node, SymRow, SymValue};
+use ygg_shape_sums::equate;
 use ygg_value::{Op, Word};
 
 /// The term that is 1 where the two values are equal, and 0 where they aren't, in every environment. Its only error is out of memory,

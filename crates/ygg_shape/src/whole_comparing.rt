@@ -8,8 +8,8 @@ ghost use Rattle.ygg_shape_cells.specs.ygg_bank.Values.{KeepsValues};
 ghost use Rattle.ygg_shape_cells.specs.ygg_bank.declared.node.Node.TheVariants.{Bin};
 ghost use Rattle.ygg_value.specs.declared.operation.Op.TheVariants.{And};
 ghost use Rattle.ygg_shape_cells.specs.Lists.{each_two};
-ghost use Rattle.ygg_shape_cells.specs.Making.{compared};
-ghost use Rattle.ygg_shape.specs.Wholes.{AllAlike, AreCompared, IsDigit, all_compared, conjunction};
+ghost use Rattle.ygg_shape_cells.specs.Wholes.{AllAlike};
+ghost use Rattle.ygg_shape.specs.Comparing.{AreCompared, IsDigit, all_compared, compared, conjunction};
 
 use crate::comparing::equal;
 use std::alloc::Global;

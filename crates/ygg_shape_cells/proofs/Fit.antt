@@ -3,17 +3,16 @@ use Rattle.std.proofs.Common.{◌≡◌, ◌==◌, ◌-◌, ◌&&◌, ℕ, Bool,
 use Rattle.std.proofs.Common.{◌<◌, All, slice_get, get_or, length, refl, sym, ap, ◌∙◌}
 use Rattle.std.specs.Prelude.{nat_le, nat_lt}
 use Rattle.std.proofs.lemmas.List.Elements.{All-head, All-tail, All-append, All-push, All-nil, All-weaker, All-get_or}
-use Rattle.ygg_shape_sums.specs.ygg_bank_proofs_Widths.{stands}
-use Rattle.ygg_shape_sums.specs.ygg_bank.Making.{id}
-use Rattle.ygg_shape_sums.specs.ygg_bank.Nodes.{widths_of, HasWidth, InOrder, Extends, Stands}
-use Rattle.ygg_shape_sums.specs.ygg_bank.declared.node.Id.{Id}
-use Rattle.ygg_shape_sums.specs.ygg_bank.declared.node.Node.{Node}
-use Rattle.ygg_shape_sums.specs.ygg_bank.declared.node.Node.TheVariants.{Pick}
-use Rattle.ygg_shape_sums.specs.ygg_shape_words_proofs_Children.{pick_children}
-use Rattle.ygg_shape_sums.specs.ygg_shape_words_proofs_Fit.{alike, alike_wider}
-use Rattle.ygg_shape_sums.specs.ygg_shape_words.Forms.{WordsAlike}
-use Rattle.ygg_shape_cells.specs.Equates.{RowsFit}
-use Rattle.ygg_shape_cells.specs.Pairs.{PairsFit, pair, unequal, differing, side, side_at, has_test, sides_of, sides, without_of, without}
+use Rattle.ygg_shape_words.specs.ygg_bank_proofs_Widths.{stands}
+use Rattle.ygg_shape_words.specs.ygg_bank.Making.{id}
+use Rattle.ygg_shape_words.specs.ygg_bank.Nodes.{widths_of, HasWidth, InOrder, Extends, Stands}
+use Rattle.ygg_shape_words.specs.ygg_bank.declared.node.Id.{Id}
+use Rattle.ygg_shape_words.specs.ygg_bank.declared.node.Node.{Node}
+use Rattle.ygg_shape_words.specs.ygg_bank.declared.node.Node.TheVariants.{Pick}
+use Rattle.ygg_shape_words.proofs.Children.{pick_children}
+use Rattle.ygg_shape_words.proofs.Fit.{alike, alike_wider}
+use Rattle.ygg_shape_words.specs.Forms.{WordsAlike}
+use Rattle.ygg_shape_cells.specs.Pairs.{RowsFit, PairsFit, pair, unequal, differing, side, side_at, has_test, sides_of, sides, without_of, without}
 use Rattle.ygg_shape_cells.specs.Sharing.{candidate, test_of, count, is_best, better_with, better, better_of, best_of, most_shared, shared}
 use Rattle.ygg_shape_cells.specs.declared.pairs.Pair.{Pair}
 use Rattle.ygg_shape_cells.specs.declared.sharing.Candidate.{Candidate}

@@ -1,78 +1,165 @@
--- What holds of nodes, and stays as nodes other than inputs are made, holds after rows are equated.
-use Rattle.std.proofs.Common.{ℕ, zero, suc, true, false, Option, Some, None, List, [], ◌∷◌}
+-- What holds of nodes, and stays as nodes other than inputs are made, holds after merging, selecting and storing.
+use Rattle.std.proofs.Common.{◌+◌, ◌^◌, ℕ, Bool, true, false, if◌then◌else◌, Option, Some, None, List, [], ◌∷◌, slice_get}
+use Rattle.std.specs.Prelude.{nat_lt}
+use Rattle.ygg_value.specs.Number.{Number}
 use Rattle.ygg_value.specs.Words.{word}
 use Rattle.ygg_value.specs.declared.operation.Op.TheVariants.{And}
-use Rattle.ygg_shape_sums.specs.ygg_rules.declared.rule.RuleKind.{RuleKind}
-use Rattle.ygg_shape_sums.specs.ygg_bank_proofs_Widths.{extends_self}
-use Rattle.ygg_shape_sums.specs.ygg_bank.Makes.{Make}
-use Rattle.ygg_shape_sums.specs.ygg_bank.Making.{made}
-use Rattle.ygg_shape_sums.specs.ygg_bank.Nodes.{Extends}
-use Rattle.ygg_shape_sums.specs.ygg_bank.declared.node.Id.{Id}
-use Rattle.ygg_shape_sums.specs.ygg_bank.declared.node.Node.{Node}
-use Rattle.ygg_shape_sums.specs.ygg_bank.declared.node.Node.TheVariants.{Const, Bin}
-use Rattle.ygg_shape_sums.specs.ygg_shape_words_proofs_Keeps.{Stays, grows_stays, picked_keeps}
-use Rattle.ygg_shape_sums.specs.ygg_shape_words.Picking.{picked}
-use Rattle.ygg_shape_sums.proofs.Keeps.{equated_words_keeps}
-use Rattle.ygg_shape_sums.specs.Equates.{equated_words}
-use Rattle.ygg_shape_cells.specs.Pairs.{differing, sides, without}
-use Rattle.ygg_shape_cells.specs.Sharing.{shared}
-use Rattle.ygg_shape_cells.specs.Equates.{joined, all_joined, one_by_one, split_on, equal_within, equated_rows}
-use Rattle.ygg_shape_cells.specs.declared.equating.TheConstants.{ROW_DEPTH}
-use Rattle.ygg_shape_cells.specs.declared.pairs.Pair.{Pair}
+use Rattle.ygg_shape_words.specs.ygg_rules.declared.rule.RuleKind.{RuleKind}
+use Rattle.ygg_shape_words.specs.ygg_bank.Makes.{Make, pure}
+use Rattle.ygg_shape_words.specs.ygg_bank.Making.{known_in, made}
+use Rattle.ygg_shape_words.specs.ygg_bank.Nodes.{width_at, widths_of}
+use Rattle.ygg_shape_words.specs.ygg_bank.declared.node.Id.{Id}
+use Rattle.ygg_shape_words.specs.ygg_bank.declared.node.Node.{Node}
+use Rattle.ygg_shape_words.specs.ygg_bank.declared.node.Node.TheVariants.{Const, Bin}
+use Rattle.ygg_shape_words.proofs.Keeps.{Stays, picked_keeps, same_words_keeps}
+use Rattle.ygg_shape_words.specs.Same.{same_words}
+use Rattle.ygg_shape_words.specs.Picking.{picked}
+use Rattle.ygg_shape_cells.specs.Lists.{each_two, each_from, fold_two, fold_from}
+use Rattle.ygg_shape_cells.specs.Making.{
+  merged_row,
+  merged_rows,
+  merged,
+  split_at,
+  where_at,
+  zeros,
+  chosen,
+  row_or_zeros,
+  selected,
+  selected_at,
+  width_in,
+  stored_from,
+  stored,
+  stored_at,
+}
+use Rattle.ygg_shape_cells.specs.Terms.{words_in}
+use Rattle.ygg_shape_cells.specs.declared.terms.SymValue.{SymValue}
+use Rattle.ygg_shape_cells.specs.declared.terms.SymValue.TheVariants as value
+use Rattle.ygg_shape_cells.specs.Guarding.{guarded_split, guarded_at, guarded_from, guarded_known, stored_where, stored_where_at}
 
--- a step that says whether the words of each pair are equal
-abbrev pub Step : Type 0
-Step = List Pair → Make Id
+module _ (P : List Node → Type 0) where
+  -- one of two steps
+  pub either_keeps : {A : Type 0} (b : Bool) (f g : Make A) (nodes : List Node) → P (f nodes).nodes → P (g nodes).nodes → P ((if b then f else g) nodes).nodes
+  either_keeps true f g nodes p q = p
+  either_keeps false f g nodes p q = q
+
+  -- steps for the items of lists
+  pub each_two_keeps : {A B C : Type 0} (step : A → B → Make C) → ((a : A) (b : B) (nodes : List Node) → P nodes → P (step a b nodes).nodes) →
+      (xs : List A) (ys : List B) (nodes : List Node) → P nodes → P (each_two step xs ys nodes).nodes
+  each_two_keeps step s [] ys nodes p = p
+  each_two_keeps step s (x ∷ xs) [] nodes p = p
+  each_two_keeps step s (x ∷ xs) (y ∷ ys) nodes p = each_two_keeps step s xs ys (step x y nodes).nodes (s x y nodes p)
+
+  pub each_from_keeps : {A C : Type 0} (step : ℕ → A → Make C) → ((i : ℕ) (a : A) (nodes : List Node) → P nodes → P (step i a nodes).nodes) →
+      (i : ℕ) (xs : List A) (nodes : List Node) → P nodes → P (each_from step i xs nodes).nodes
+  each_from_keeps step s i [] nodes p = p
+  each_from_keeps step s i (x ∷ xs) nodes p = each_from_keeps step s (i + 1) xs (step i x nodes).nodes (s i x nodes p)
+
+  pub fold_two_keeps : {S A B : Type 0} (step : S → A → B → Make S) →
+      ((so_far : S) (a : A) (b : B) (nodes : List Node) → P nodes → P (step so_far a b nodes).nodes) →
+      (so_far : S) (xs : List A) (ys : List B) (nodes : List Node) → P nodes → P (fold_two step so_far xs ys nodes).nodes
+  fold_two_keeps step s so_far [] ys nodes p = p
+  fold_two_keeps step s so_far (x ∷ xs) [] nodes p = p
+  fold_two_keeps step s so_far (x ∷ xs) (y ∷ ys) nodes p =
+      let o = step so_far x y nodes in fold_two_keeps step s o.value xs ys o.nodes (s so_far x y nodes p)
+
+  pub fold_from_keeps : {S A : Type 0} (step : S → ℕ → A → Make S) →
+      ((so_far : S) (i : ℕ) (a : A) (nodes : List Node) → P nodes → P (step so_far i a nodes).nodes) →
+      (so_far : S) (i : ℕ) (xs : List A) (nodes : List Node) → P nodes → P (fold_from step so_far i xs nodes).nodes
+  fold_from_keeps step s so_far i [] nodes p = p
+  fold_from_keeps step s so_far i (x ∷ xs) nodes p =
+      let o = step so_far i x nodes in fold_from_keeps step s o.value (i + 1) xs o.nodes (s so_far i x nodes p)
 
 module _ (kinds : List RuleKind) (P : List Node → Type 0) (stays : Stays kinds P) where
-  joined_keeps : (so_far : Id) (q : Pair) (nodes : List Node) → P nodes → P (joined kinds so_far q nodes).nodes
-  joined_keeps so_far q nodes p =
-      let o = equated_words kinds q.one q.two nodes in stays (Bin And so_far o.value) o.nodes tt (equated_words_keeps kinds P stays q.one q.two nodes p)
+  pub merged_row_keeps : (t : Id) (xs ys : List Id) (nodes : List Node) → P nodes → P (merged_row kinds t xs ys nodes).nodes
+  merged_row_keeps t xs ys nodes p = each_two_keeps P (picked kinds t) (picked_keeps kinds P stays t) xs ys nodes p
 
-  all_joined_keeps : (so_far : Id) (qs : List Pair) (nodes : List Node) → P nodes → P (all_joined kinds so_far qs nodes).nodes
-  all_joined_keeps so_far [] nodes p = p
-  all_joined_keeps so_far (q ∷ qs) nodes p =
-      let o = joined kinds so_far q nodes in all_joined_keeps o.value qs o.nodes (joined_keeps so_far q nodes p)
+  pub merged_rows_keeps : (t : Id) (xs ys : List (List Id)) (nodes : List Node) → P nodes → P (merged_rows kinds t xs ys nodes).nodes
+  merged_rows_keeps t xs ys nodes p = each_two_keeps P (merged_row kinds t) (merged_row_keeps t) xs ys nodes p
 
-  abbrev StepKeeps : Step → Type 0
-  StepKeeps next = (qs : List Pair) (nodes : List Node) → P nodes → P (next qs nodes).nodes
+  pub merged_keeps : (t : Id) (one two : SymValue) (nodes : List Node) → P nodes → P (merged kinds t one two nodes).nodes
+  merged_keeps t (value.Word a) (value.Word b) nodes p = picked_keeps kinds P stays t a b nodes p
+  merged_keeps t (value.Row x) (value.Row y) nodes p = merged_row_keeps t x y nodes p
+  merged_keeps t (value.Table x) (value.Table y) nodes p = merged_rows_keeps t x y nodes p
+  merged_keeps t one two nodes p = p
 
-  one_by_one_keeps : StepKeeps (one_by_one kinds)
-  one_by_one_keeps qs nodes p =
-      let o = made kinds (Const (word 1 1)) nodes in all_joined_keeps o.value qs o.nodes (stays (Const (word 1 1)) nodes tt p)
+  pub split_at_keeps : (at : Id) (width number : ℕ) (one two : List Id) (nodes : List Node) → P nodes → P (split_at kinds at width number one two nodes).nodes
+  split_at_keeps at width number one two nodes p =
+      let k = made kinds (Const (word width number)) nodes in
+      let t = same_words kinds at k.value k.nodes in
+      merged_row_keeps t.value one two t.nodes (same_words_keeps kinds P stays at k.value k.nodes (stays (Const (word width number)) nodes tt p))
 
-  split_on_keeps : (next : Step) (first : List Node) (qs : List Pair) (n : Option Id) (nodes : List Node) → StepKeeps next → P nodes →
-      P (split_on kinds next first qs n nodes).nodes
-  split_on_keeps next first qs None nodes g p = one_by_one_keeps qs nodes p
-  split_on_keeps next first qs (Some t) nodes g p =
-      let o = next (sides first t true qs) nodes in
-      let m = next (sides first t false qs) o.nodes in
-      let s = picked kinds t o.value m.value m.nodes in
-      let r = next (without first t qs) s.nodes in
-      stays (Bin And s.value r.value) r.nodes tt (g (without first t qs) s.nodes (picked_keeps kinds P stays t o.value m.value m.nodes
-      (g (sides first t false qs) o.nodes (g (sides first t true qs) nodes p))))
+  pub where_at_keeps : (at : Id) (width number : ℕ) (one two : List Id) (nodes : List Node) → P nodes → P (where_at kinds at width number one two nodes).nodes
+  where_at_keeps at width number one two nodes p =
+      either_keeps P (nat_lt number (2 ^ width)) (split_at kinds at width number one two) (pure two) nodes (split_at_keeps at width number one two nodes p) p
 
-  equal_within_keeps : (depth : ℕ) → StepKeeps (equal_within kinds depth)
-  unfolding equal_within
-  equal_within_keeps zero qs nodes p = one_by_one_keeps qs nodes p
-  equal_within_keeps (suc depth) qs nodes p =
-      split_on_keeps (equal_within kinds depth) nodes qs (shared nodes qs) nodes (equal_within_keeps depth) p
+  pub zeros_keeps : (words width : ℕ) (nodes : List Node) → P nodes → P (zeros kinds words width nodes).nodes
+  zeros_keeps words width nodes p = stays (Const (word width 0)) nodes tt p
 
-  pub equated_rows_keeps : (one two : List Id) (nodes : List Node) → P nodes → P (equated_rows kinds one two nodes).nodes
-  equated_rows_keeps one two nodes p = equal_within_keeps ROW_DEPTH (differing one two) nodes p
+  pub chosen_keeps : (at : Id) (width : ℕ) (past : List Id) (number : ℕ) (rows : List (List Id)) (nodes : List Node) → P nodes →
+      P (chosen kinds at width past number rows nodes).nodes
+  chosen_keeps at width past number rows nodes p =
+      fold_from_keeps P (λ so_far number row. where_at kinds at width number row so_far) (λ so_far number row. where_at_keeps at width number row so_far)
+      past number rows nodes p
 
-module _ (kinds : List RuleKind) where
-  abbrev only : (first : List Node) → Stays kinds (Extends first)
-  only first = grows_stays kinds first
+  row_or_zeros_keeps : (words width : ℕ) (row : Option (List Id)) (nodes : List Node) → P nodes → P (row_or_zeros kinds words width row nodes).nodes
+  row_or_zeros_keeps words width (Some row) nodes p = p
+  row_or_zeros_keeps words width None nodes p = zeros_keeps words width nodes p
 
-  pub joined_grows : (so_far : Id) (q : Pair) (nodes : List Node) → Extends nodes (joined kinds so_far q nodes).nodes
-  joined_grows so_far q nodes = joined_keeps kinds (Extends nodes) (only nodes) so_far q nodes (extends_self nodes)
+  selected_at_keeps : (table : List (List Id)) (width : ℕ) (at : Id) (digits : ℕ) (k : Option Number) (nodes : List Node) → P nodes →
+      P (selected_at kinds table width at digits k nodes).nodes
+  selected_at_keeps table width at digits (Some k) nodes p = row_or_zeros_keeps (words_in table) width (slice_get table k.bits) nodes p
+  selected_at_keeps table width at digits None nodes p =
+      let o = zeros kinds (words_in table) width nodes in chosen_keeps at digits o.value 0 table o.nodes (zeros_keeps (words_in table) width nodes p)
 
-  pub all_joined_grows : (so_far : Id) (qs : List Pair) (nodes : List Node) → Extends nodes (all_joined kinds so_far qs nodes).nodes
-  all_joined_grows so_far qs nodes = all_joined_keeps kinds (Extends nodes) (only nodes) so_far qs nodes (extends_self nodes)
+  pub selected_keeps : (table : List (List Id)) (at : Id) (nodes : List Node) → P nodes → P (selected kinds table at nodes).nodes
+  selected_keeps table at nodes p =
+      selected_at_keeps table (width_in nodes table) at (width_at (widths_of nodes) at) (known_in (slice_get nodes at.0)) nodes p
 
-  pub equal_within_grows : (depth : ℕ) (qs : List Pair) (nodes : List Node) → Extends nodes (equal_within kinds depth qs nodes).nodes
-  equal_within_grows depth qs nodes = equal_within_keeps kinds (Extends nodes) (only nodes) depth qs nodes (extends_self nodes)
+  pub stored_from_keeps : (at : Id) (width : ℕ) (new : List Id) (number : ℕ) (rows : List (List Id)) (nodes : List Node) → P nodes →
+      P (stored_from kinds at width new number rows nodes).nodes
+  stored_from_keeps at width new number rows nodes p =
+      each_from_keeps P (λ number old. where_at kinds at width number new old) (λ number old. where_at_keeps at width number new old) number rows nodes p
 
-  pub equated_rows_grows : (one two : List Id) (nodes : List Node) → Extends nodes (equated_rows kinds one two nodes).nodes
-  equated_rows_grows one two nodes = equated_rows_keeps kinds (Extends nodes) (only nodes) one two nodes (extends_self nodes)
+  stored_at_keeps : (table : List (List Id)) (new : List Id) (at : Id) (digits : ℕ) (k : Option Number) (nodes : List Node) → P nodes →
+      P (stored_at kinds table new at digits k nodes).nodes
+  stored_at_keeps table new at digits (Some k) nodes p = p
+  stored_at_keeps table new at digits None nodes p = stored_from_keeps at digits new 0 table nodes p
+
+  pub stored_keeps : (table : List (List Id)) (at : Id) (new : List Id) (nodes : List Node) → P nodes → P (stored kinds table at new nodes).nodes
+  stored_keeps table at new nodes p = stored_at_keeps table new at (width_at (widths_of nodes) at) (known_in (slice_get nodes at.0)) nodes p
+
+  pub guarded_split_keeps : (t at : Id) (width number : ℕ) (one two : List Id) (nodes : List Node) → P nodes →
+      P (guarded_split kinds t at width number one two nodes).nodes
+  guarded_split_keeps t at width number one two nodes p =
+      let k = made kinds (Const (word width number)) nodes in
+      let e = same_words kinds at k.value k.nodes in
+      let b = made kinds (Bin And t e.value) e.nodes in
+      merged_row_keeps b.value one two b.nodes
+      (stays (Bin And t e.value) e.nodes tt (same_words_keeps kinds P stays at k.value k.nodes (stays (Const (word width number)) nodes tt p)))
+
+  pub guarded_at_keeps : (t at : Id) (width number : ℕ) (one two : List Id) (nodes : List Node) → P nodes →
+      P (guarded_at kinds t at width number one two nodes).nodes
+  guarded_at_keeps t at width number one two nodes p =
+      either_keeps P (nat_lt number (2 ^ width)) (guarded_split kinds t at width number one two) (pure two) nodes
+      (guarded_split_keeps t at width number one two nodes p) p
+
+  pub guarded_from_keeps : (t at : Id) (width : ℕ) (new : List Id) (number : ℕ) (rows : List (List Id)) (nodes : List Node) → P nodes →
+      P (guarded_from kinds t at width new number rows nodes).nodes
+  guarded_from_keeps t at width new number rows nodes p =
+      each_from_keeps P (λ number old. guarded_at kinds t at width number new old)
+      (λ number old. guarded_at_keeps t at width number new old) number rows nodes p
+
+  guarded_known_keeps : (t : Id) (table : List (List Id)) (new : List Id) (k : ℕ) (o : Option (List Id)) (nodes : List Node) → P nodes →
+      P (guarded_known kinds t table new k o nodes).nodes
+  guarded_known_keeps t table new k (Some old) nodes p = merged_row_keeps t new old nodes p
+  guarded_known_keeps t table new k None nodes p = p
+
+  stored_where_at_keeps : (t : Id) (table : List (List Id)) (new : List Id) (at : Id) (digits : ℕ) (k : Option Number) (nodes : List Node) → P nodes →
+      P (stored_where_at kinds t table new at digits k nodes).nodes
+  stored_where_at_keeps t table new at digits (Some k) nodes p = guarded_known_keeps t table new k.bits (slice_get table k.bits) nodes p
+  stored_where_at_keeps t table new at digits None nodes p = guarded_from_keeps t at digits new 0 table nodes p
+
+  pub stored_where_keeps : (t : Id) (table : List (List Id)) (at : Id) (new : List Id) (nodes : List Node) → P nodes →
+      P (stored_where kinds t table at new nodes).nodes
+  stored_where_keeps t table at new nodes p =
+      stored_where_at_keeps t table new at (width_at (widths_of nodes) at) (known_in (slice_get nodes at.0)) nodes p

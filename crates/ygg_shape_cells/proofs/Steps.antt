@@ -1,162 +1,147 @@
--- What the code answers is what the definitions say.
-use Rattle.std.proofs.Common.{◌≡◌, ◌<◌, ◌≤◌, ℕ, zero, suc, ◌+◌, ◌-◌, Bool, true, false, Some, None, List, [], ◌∷◌, ◌++◌}
-use Rattle.std.proofs.Common.{length, drop, get_or, append_assoc, append-nil, refl, sym, ap, ◌∙◌, arith}
-use Rattle.std.proofs.lemmas.List.{drop_all}
-use Rattle.ygg_value.specs.Words.{word}
-use Rattle.ygg_value.specs.declared.operation.Op.TheVariants.{And}
-use Rattle.ygg_shape_sums.specs.ygg_rules.declared.rule.RuleKind.{RuleKind}
-use Rattle.ygg_shape_sums.specs.ygg_bank.Makes.{Make, Out, pure, and_make}
-use Rattle.ygg_shape_sums.specs.ygg_bank.Making.{made}
-use Rattle.ygg_shape_sums.specs.ygg_bank.declared.node.Id.{Id}
-use Rattle.ygg_shape_sums.specs.ygg_bank.declared.node.Node.{Node}
-use Rattle.ygg_shape_sums.specs.ygg_bank.declared.node.Node.TheVariants.{Const, Bin}
-use Rattle.ygg_shape_sums.specs.ygg_shape_words.Picking.{picked}
-use Rattle.ygg_shape_sums.proofs.Steps.{rest_is, goes}
-use Rattle.ygg_shape_cells.specs.Pairs.{unequal, differing, sides_of, sides, without_of, without}
-use Rattle.ygg_shape_cells.specs.Sharing.{shared}
-use Rattle.ygg_shape_cells.specs.Equates.{IsMade, joined, all_joined, one_by_one, split_on, equal_within}
-use Rattle.ygg_shape_cells.specs.declared.pairs.Pair.{Pair}
+-- Loops over lists make what the steps for all items make.
+use Rattle.std.proofs.Common.{◌≡◌, ◌<◌, ◌≤◌, ℕ, ◌+◌, List, [], ◌∷◌, ◌++◌, length, drop, get_or, refl, sym, ap, ◌∙◌, append_assoc}
+use Rattle.std.proofs.lemmas.List.{drop_more, drop_all, append-nil}
+use Rattle.ygg_shape_words.specs.ygg_bank.Makes.{Make, Out}
+use Rattle.ygg_shape_words.specs.ygg_bank.declared.node.Node.{Node}
+use Rattle.ygg_shape_cells.specs.Lists.{each_two, each_from, fold_two, fold_from}
 
--- what was put for the items so far, and what is put for the rest
-put_on : {X : Type 0} (found own rest left more whole : List X) → more ≡ found ++ own → left ≡ own ++ rest → found ++ left ≡ whole → more ++ rest ≡ whole
-put_on found own rest left more whole e g w =
-    ap (λ z. z ++ rest) e ∙ append_assoc found own rest ∙ ap (λ z. found ++ z) (sym g) ∙ w
+-- the item at a place, and those after it
+pub rest_is : {X : Type 0} (xs : List X) (i : ℕ) (x d : X) → i < length xs → x ≡ get_or xs i d → drop i xs ≡ x ∷ drop (i + 1) xs
+rest_is xs i x d l e = drop_more xs i d l ∙ ap (λ z. z ∷ drop (i + 1) xs) (sym e)
 
-put_all : {X : Type 0} (found left whole : List X) → left ≡ [] → found ++ left ≡ whole → found ≡ whole
-put_all found left whole e w = sym (append-nil found) ∙ ap (λ z. found ++ z) (sym e) ∙ w
+-- what is answered so far, and what the rest will be
+pub record EachTwo {A B C : Type 0} (step : A → B → Make C) (xs : List A) (ys : List B) (old : List Node) (i : ℕ) (so_far : List C)
+    (now : List Node) : Type 0 where
+  pub value : so_far ++ (each_two step (drop i xs) (drop i ys) now).value ≡ (each_two step xs ys old).value
+  pub nodes : (each_two step (drop i xs) (drop i ys) now).nodes ≡ (each_two step xs ys old).nodes
 
--- the pairs of two rows before a place
-pub record DifferingSoFar (one two : List Id) (i : ℕ) (found : List Pair) : Type 0 where
-  pub is : found ++ differing (drop i one) (drop i two) ≡ differing one two
-
-pub differing_goes : (one two : List Id) (i : ℕ) (d : Id) (found more : List Pair) → i < length one → length one ≡ length two →
-    more ≡ found ++ unequal (get_or one i d) (get_or two i d) → DifferingSoFar one two i found → DifferingSoFar one two (i + 1) more
-differing_goes one two i d found more l e g h =
-    let a = get_or one i d in
-    let b = get_or two i d in
+pub each_two_goes : {A B C : Type 0} (step : A → B → Make C) (xs : List A) (ys : List B) (old : List Node) (i : ℕ) (so_far : List C) (now : List Node)
+    (x dx : A) (y dy : B) (c : C) (next : List Node) →
+    i < length xs → i < length ys → x ≡ get_or xs i dx → y ≡ get_or ys i dy → next ≡ (step x y now).nodes → c ≡ (step x y now).value →
+    EachTwo step xs ys old i so_far now → EachTwo step xs ys old (i + 1) (so_far ++ c ∷ []) next
+each_two_goes {A} {B} {C} step xs ys old i so_far now x dx y dy c next p q e f g h s =
+    let d = rest_is xs i x dx p e in
+    let b = rest_is ys i y dy q f in
+    let o = step x y now in
     record {
-      is = put_on found (unequal a b) (differing (drop (i + 1) one) (drop (i + 1) two)) (differing (drop i one) (drop i two)) more (differing one two) g
-          (ap (λ z. differing z (drop i two)) (rest_is one i a d l refl)
-          ∙ ap (λ z. differing (a ∷ drop (i + 1) one) z) (rest_is two i b d (omega arith) refl)) h.is;
+      value = append_assoc so_far (c ∷ []) (each_two step (drop (i + 1) xs) (drop (i + 1) ys) next).value
+          ∙ ap (λ z. so_far ++ (z ∷ (each_two step (drop (i + 1) xs) (drop (i + 1) ys) next).value)) h
+          ∙ ap (λ z. so_far ++ (o.value ∷ (each_two step (drop (i + 1) xs) (drop (i + 1) ys) z).value)) g
+          ∙ ap (λ z. so_far ++ (each_two step z (y ∷ drop (i + 1) ys) now).value) (sym d)
+          ∙ ap (λ z. so_far ++ (each_two step (drop i xs) z now).value) (sym b) ∙ s.value;
+      nodes = ap (λ z. (each_two step (drop (i + 1) xs) (drop (i + 1) ys) z).nodes) g
+          ∙ ap (λ z. (each_two step z (y ∷ drop (i + 1) ys) now).nodes) (sym d)
+          ∙ ap (λ z. (each_two step (drop i xs) z now).nodes) (sym b) ∙ s.nodes;
     }
 
-pub differing_done : (one two : List Id) (i : ℕ) (found : List Pair) → length one ≤ i → DifferingSoFar one two i found → found ≡ differing one two
-differing_done one two i found l h =
-    put_all found (differing (drop i one) (drop i two)) (differing one two) (ap (λ z. differing z (drop i two)) (drop_all i one l)) h.is
+pub each_two_value : {A B C : Type 0} (step : A → B → Make C) (xs : List A) (ys : List B) (old : List Node) (i : ℕ) (so_far : List C)
+    (now : List Node) → length xs ≤ i →
+    EachTwo step xs ys old i so_far now → so_far ≡ (each_two step xs ys old).value
+each_two_value step xs ys old i so_far now l s =
+    sym (append-nil so_far) ∙ ap (λ z. so_far ++ (each_two step z (drop i ys) now).value) (sym (drop_all i xs l)) ∙ s.value
 
--- the sides of the pairs before a place
-pub record SidesSoFar (nodes : List Node) (t : Id) (value : Bool) (ps : List Pair) (i : ℕ) (found : List Pair) : Type 0 where
-  pub is : found ++ sides nodes t value (drop i ps) ≡ sides nodes t value ps
+pub each_two_nodes : {A B C : Type 0} (step : A → B → Make C) (xs : List A) (ys : List B) (old : List Node) (i : ℕ) (so_far : List C)
+    (now : List Node) → length xs ≤ i →
+    EachTwo step xs ys old i so_far now → now ≡ (each_two step xs ys old).nodes
+each_two_nodes step xs ys old i so_far now l s = ap (λ z. (each_two step z (drop i ys) now).nodes) (sym (drop_all i xs l)) ∙ s.nodes
 
-pub sides_goes : (nodes : List Node) (t : Id) (value : Bool) (ps : List Pair) (i : ℕ) (d : Pair) (found more : List Pair) → i < length ps →
-    more ≡ found ++ sides_of nodes t value (get_or ps i d) → SidesSoFar nodes t value ps i found → SidesSoFar nodes t value ps (i + 1) more
-sides_goes nodes t value ps i d found more l g h =
-    let p = get_or ps i d in
+-- the same of one list whose items are numbered
+pub record EachFrom {A C : Type 0} (step : ℕ → A → Make C) (xs : List A) (old : List Node) (i : ℕ) (so_far : List C) (now : List Node) : Type 0 where
+  pub value : so_far ++ (each_from step i (drop i xs) now).value ≡ (each_from step 0 xs old).value
+  pub nodes : (each_from step i (drop i xs) now).nodes ≡ (each_from step 0 xs old).nodes
+
+pub each_from_goes : {A C : Type 0} (step : ℕ → A → Make C) (xs : List A) (old : List Node) (i : ℕ) (so_far : List C) (now : List Node) (x dx : A)
+    (c : C) (next : List Node) →
+    i < length xs → x ≡ get_or xs i dx → next ≡ (step i x now).nodes → c ≡ (step i x now).value → EachFrom step xs old i so_far now →
+    EachFrom step xs old (i + 1) (so_far ++ c ∷ []) next
+each_from_goes step xs old i so_far now x dx c next p e g h s =
+    let d = rest_is xs i x dx p e in
+    let o = step i x now in
     record {
-      is = put_on found (sides_of nodes t value p) (sides nodes t value (drop (i + 1) ps)) (sides nodes t value (drop i ps)) more (sides nodes t value ps) g
-          (ap (sides nodes t value) (rest_is ps i p d l refl)) h.is;
+      value = append_assoc so_far (c ∷ []) (each_from step (i + 1) (drop (i + 1) xs) next).value
+          ∙ ap (λ z. so_far ++ (z ∷ (each_from step (i + 1) (drop (i + 1) xs) next).value)) h
+          ∙ ap (λ z. so_far ++ (o.value ∷ (each_from step (i + 1) (drop (i + 1) xs) z).value)) g
+          ∙ ap (λ z. so_far ++ (each_from step i z now).value) (sym d) ∙ s.value;
+      nodes = ap (λ z. (each_from step (i + 1) (drop (i + 1) xs) z).nodes) g ∙ ap (λ z. (each_from step i z now).nodes) (sym d) ∙ s.nodes;
     }
 
-pub sides_done : (nodes : List Node) (t : Id) (value : Bool) (ps : List Pair) (i : ℕ) (found : List Pair) → length ps ≤ i →
-    SidesSoFar nodes t value ps i found → found ≡ sides nodes t value ps
-sides_done nodes t value ps i found l h =
-    put_all found (sides nodes t value (drop i ps)) (sides nodes t value ps) (ap (sides nodes t value) (drop_all i ps l)) h.is
+pub each_from_value : {A C : Type 0} (step : ℕ → A → Make C) (xs : List A) (old : List Node) (i : ℕ) (so_far : List C) (now : List Node) → length xs ≤ i →
+    EachFrom step xs old i so_far now → so_far ≡ (each_from step 0 xs old).value
+each_from_value step xs old i so_far now l s =
+    sym (append-nil so_far) ∙ ap (λ z. so_far ++ (each_from step i z now).value) (sym (drop_all i xs l)) ∙ s.value
 
--- the pairs before a place that don't have the test
-pub record WithoutSoFar (nodes : List Node) (t : Id) (ps : List Pair) (i : ℕ) (found : List Pair) : Type 0 where
-  pub is : found ++ without nodes t (drop i ps) ≡ without nodes t ps
+pub each_from_nodes : {A C : Type 0} (step : ℕ → A → Make C) (xs : List A) (old : List Node) (i : ℕ) (so_far : List C) (now : List Node) → length xs ≤ i →
+    EachFrom step xs old i so_far now → now ≡ (each_from step 0 xs old).nodes
+each_from_nodes step xs old i so_far now l s = ap (λ z. (each_from step i z now).nodes) (sym (drop_all i xs l)) ∙ s.nodes
 
-pub without_goes : (nodes : List Node) (t : Id) (ps : List Pair) (i : ℕ) (d : Pair) (found more : List Pair) → i < length ps →
-    more ≡ found ++ without_of nodes t (get_or ps i d) → WithoutSoFar nodes t ps i found → WithoutSoFar nodes t ps (i + 1) more
-without_goes nodes t ps i d found more l g h =
-    let p = get_or ps i d in
-    record {
-      is = put_on found (without_of nodes t p) (without nodes t (drop (i + 1) ps)) (without nodes t (drop i ps)) more (without nodes t ps) g
-          (ap (without nodes t) (rest_is ps i p d l refl)) h.is;
-    }
+-- what has been reached, and what the rest will make of it
+pub record FoldTwo {S A B : Type 0} (step : S → A → B → Make S) (first : S) (xs : List A) (ys : List B) (old : List Node) (i : ℕ) (so_far : S)
+    (now : List Node) : Type 0 where
+  pub value : (fold_two step so_far (drop i xs) (drop i ys) now).value ≡ (fold_two step first xs ys old).value
+  pub nodes : (fold_two step so_far (drop i xs) (drop i ys) now).nodes ≡ (fold_two step first xs ys old).nodes
 
-pub without_done : (nodes : List Node) (t : Id) (ps : List Pair) (i : ℕ) (found : List Pair) → length ps ≤ i → WithoutSoFar nodes t ps i found →
-    found ≡ without nodes t ps
-without_done nodes t ps i found l h =
-    put_all found (without nodes t (drop i ps)) (without nodes t ps) (ap (without nodes t) (drop_all i ps l)) h.is
+pub fold_two_goes : {S A B : Type 0} (step : S → A → B → Make S) (first : S) (xs : List A) (ys : List B) (old : List Node) (i : ℕ) (so_far : S)
+    (now : List Node) (x dx : A) (y dy : B) (c : S) (next : List Node) →
+    i < length xs → i < length ys → x ≡ get_or xs i dx → y ≡ get_or ys i dy → next ≡ (step so_far x y now).nodes → c ≡ (step so_far x y now).value →
+    FoldTwo step first xs ys old i so_far now → FoldTwo step first xs ys old (i + 1) c next
+fold_two_goes {S} {A} {B} step first xs ys old i so_far now x dx y dy c next p q e f g h s =
+    let d = rest_is xs i x dx p e in
+    let b = rest_is ys i y dy q f in
+    let o = step so_far x y now in
+    let went : (R : Type 0) (read : Out S → R) → read (fold_two step c (drop (i + 1) xs) (drop (i + 1) ys) next) ≡ read
+    (fold_two step so_far (drop i xs) (drop i ys) now) =
+    λ R read. ap (λ z. read (fold_two step z (drop (i + 1) xs) (drop (i + 1) ys) next)) h
+    ∙ ap (λ z. read (fold_two step o.value (drop (i + 1) xs) (drop (i + 1) ys) z)) g
+    ∙ ap (λ z. read (fold_two step so_far z (y ∷ drop (i + 1) ys) now)) (sym d) ∙ ap (λ z. read (fold_two step so_far (drop i xs) z now)) (sym b) in
+    record { value = went S (λ r. r.value) ∙ s.value; nodes = went (List Node) (λ r. r.nodes) ∙ s.nodes }
 
--- what the pairs before a place have made, and what the rest will make
-pub record JoinedSoFar (kinds : List RuleKind) (ps : List Pair) (old : List Node) (i : ℕ) (so_far : Id) (now : List Node) : Type 0 where
-  pub value : (all_joined kinds so_far (drop i ps) now).value ≡ (one_by_one kinds ps old).value
-  pub nodes : (all_joined kinds so_far (drop i ps) now).nodes ≡ (one_by_one kinds ps old).nodes
+pub fold_two_value : {S A B : Type 0} (step : S → A → B → Make S) (first : S) (xs : List A) (ys : List B) (old : List Node) (i : ℕ) (so_far : S)
+    (now : List Node) → length xs ≤ i →
+    FoldTwo step first xs ys old i so_far now → so_far ≡ (fold_two step first xs ys old).value
+fold_two_value step first xs ys old i so_far now l s = ap (λ z. (fold_two step so_far z (drop i ys) now).value) (sym (drop_all i xs l)) ∙ s.value
 
-pub joined_begins : (kinds : List RuleKind) (ps : List Pair) (old now : List Node) (a : Id) → now ≡ (made kinds (Const (word 1 1)) old).nodes →
-    a ≡ (made kinds (Const (word 1 1)) old).value → JoinedSoFar kinds ps old 0 a now
-joined_begins kinds ps old now a e g =
-    let whole : all_joined kinds a ps now ≡ one_by_one kinds ps old =
-    goes (made kinds (Const (word 1 1))) (λ so_far. all_joined kinds so_far ps) old now a e g in
-    record { value = ap (λ (o : Out Id). o.value) whole; nodes = ap (λ (o : Out Id). o.nodes) whole }
+pub fold_two_nodes : {S A B : Type 0} (step : S → A → B → Make S) (first : S) (xs : List A) (ys : List B) (old : List Node) (i : ℕ) (so_far : S)
+    (now : List Node) → length xs ≤ i →
+    FoldTwo step first xs ys old i so_far now → now ≡ (fold_two step first xs ys old).nodes
+fold_two_nodes step first xs ys old i so_far now l s = ap (λ z. (fold_two step so_far z (drop i ys) now).nodes) (sym (drop_all i xs l)) ∙ s.nodes
 
-pub joined_goes : (kinds : List RuleKind) (ps : List Pair) (old : List Node) (i : ℕ) (d : Pair) (so_far next : Id) (now new : List Node) →
-    i < length ps → new ≡ (joined kinds so_far (get_or ps i d) now).nodes → next ≡ (joined kinds so_far (get_or ps i d) now).value →
-    JoinedSoFar kinds ps old i so_far now → JoinedSoFar kinds ps old (i + 1) next new
-joined_goes kinds ps old i d so_far next now new l e g r =
-    let p = get_or ps i d in
-    let rest : Id → Make Id = λ z. all_joined kinds z (drop (i + 1) ps) in
-    let whole : all_joined kinds next (drop (i + 1) ps) new ≡ all_joined kinds so_far (drop i ps) now =
-    goes (joined kinds so_far p) rest now new next e g ∙ ap (λ z. all_joined kinds so_far z now) (sym (rest_is ps i p d l refl)) in
-    record { value = ap (λ (o : Out Id). o.value) whole ∙ r.value; nodes = ap (λ (o : Out Id). o.nodes) whole ∙ r.nodes }
+-- the same of one list whose items are numbered
+pub record FoldFrom {S A : Type 0} (step : S → ℕ → A → Make S) (first : S) (xs : List A) (old : List Node) (i : ℕ) (so_far : S) (now : List Node) : Type 0 where
+  pub value : (fold_from step so_far i (drop i xs) now).value ≡ (fold_from step first 0 xs old).value
+  pub nodes : (fold_from step so_far i (drop i xs) now).nodes ≡ (fold_from step first 0 xs old).nodes
 
-pub joined_value : (kinds : List RuleKind) (ps : List Pair) (old : List Node) (i : ℕ) (so_far : Id) (now : List Node) → length ps ≤ i →
-    JoinedSoFar kinds ps old i so_far now → so_far ≡ (one_by_one kinds ps old).value
-joined_value kinds ps old i so_far now l r = ap (λ z. (all_joined kinds so_far z now).value) (sym (drop_all i ps l)) ∙ r.value
+pub fold_from_goes : {S A : Type 0} (step : S → ℕ → A → Make S) (first : S) (xs : List A) (old : List Node) (i : ℕ) (so_far : S) (now : List Node)
+    (x dx : A) (c : S) (next : List Node) →
+    i < length xs → x ≡ get_or xs i dx → next ≡ (step so_far i x now).nodes → c ≡ (step so_far i x now).value →
+    FoldFrom step first xs old i so_far now → FoldFrom step first xs old (i + 1) c next
+fold_from_goes {S} {A} step first xs old i so_far now x dx c next p e g h s =
+    let d = rest_is xs i x dx p e in
+    let o = step so_far i x now in
+    let went : (R : Type 0) (read : Out S → R) → read (fold_from step c (i + 1) (drop (i + 1) xs) next) ≡ read (fold_from step so_far i (drop i xs) now) =
+    λ R read. ap (λ z. read (fold_from step z (i + 1) (drop (i + 1) xs) next)) h
+    ∙ ap (λ z. read (fold_from step o.value (i + 1) (drop (i + 1) xs) z)) g ∙ ap (λ z. read (fold_from step so_far i z now)) (sym d) in
+    record { value = went S (λ r. r.value) ∙ s.value; nodes = went (List Node) (λ r. r.nodes) ∙ s.nodes }
 
-pub joined_nodes : (kinds : List RuleKind) (ps : List Pair) (old : List Node) (i : ℕ) (so_far : Id) (now : List Node) → length ps ≤ i →
-    JoinedSoFar kinds ps old i so_far now → now ≡ (one_by_one kinds ps old).nodes
-joined_nodes kinds ps old i so_far now l r = ap (λ z. (all_joined kinds so_far z now).nodes) (sym (drop_all i ps l)) ∙ r.nodes
+pub fold_from_value : {S A : Type 0} (step : S → ℕ → A → Make S) (first : S) (xs : List A) (old : List Node) (i : ℕ) (so_far : S) (now : List Node) →
+    length xs ≤ i →
+    FoldFrom step first xs old i so_far now → so_far ≡ (fold_from step first 0 xs old).value
+fold_from_value step first xs old i so_far now l s = ap (λ z. (fold_from step so_far i z now).value) (sym (drop_all i xs l)) ∙ s.value
 
-module _ (kinds : List RuleKind) where
-  abbrev out : Id → List Node → Out Id
-  out a nodes = record { value = a; nodes = nodes }
+pub fold_from_nodes : {S A : Type 0} (step : S → ℕ → A → Make S) (first : S) (xs : List A) (old : List Node) (i : ℕ) (so_far : S) (now : List Node) →
+    length xs ≤ i →
+    FoldFrom step first xs old i so_far now → now ≡ (fold_from step first 0 xs old).nodes
+fold_from_nodes step first xs old i so_far now l s = ap (λ z. (fold_from step so_far i z now).nodes) (sym (drop_all i xs l)) ∙ s.nodes
 
-  is_made : (step : Make Id) (old new : List Node) (a : Id) → out a new ≡ step old → IsMade step old new a
-  is_made step old new a e = record { nodes = ap (λ (o : Out Id). o.nodes) e; value = ap (λ (o : Out Id). o.value) e }
+-- where the loops begin
+pub each_two_begins : {A B C : Type 0} (step : A → B → Make C) (xs : List A) (ys : List B) (old : List Node) → EachTwo step xs ys old 0 [] old
+each_two_begins step xs ys old = record { value = refl; nodes = refl }
 
-  pub within_zero : (depth : ℕ) (ps : List Pair) (old new : List Node) (r : Id) → depth ≡ 0 → new ≡ (one_by_one kinds ps old).nodes →
-      r ≡ (one_by_one kinds ps old).value → IsMade (equal_within kinds depth ps) old new r
-  unfolding equal_within
-  within_zero zero ps old new r d e g = record { nodes = e; value = g }
-  within_zero (suc depth) ps old new r d e g = absurd (omega arith)
+pub each_from_begins : {A C : Type 0} (step : ℕ → A → Make C) (xs : List A) (old : List Node) → EachFrom step xs old 0 [] old
+each_from_begins step xs old = record { value = refl; nodes = refl }
 
-  pub within_whole : (depth : ℕ) (ps : List Pair) (old new : List Node) (r : Id) → None ≡ shared old ps → new ≡ (one_by_one kinds ps old).nodes →
-      r ≡ (one_by_one kinds ps old).value → IsMade (equal_within kinds depth ps) old new r
-  unfolding equal_within
-  within_whole zero ps old new r n e g = record { nodes = e; value = g }
-  within_whole (suc depth) ps old new r n e g =
-      let step = equal_within kinds depth in
-      record { nodes = e ∙ ap (λ z. (split_on kinds step old ps z old).nodes) n; value = g ∙ ap (λ z. (split_on kinds step old ps z old).value) n }
+pub fold_two_begins : {S A B : Type 0} (step : S → A → B → Make S) (first : S) (xs : List A) (ys : List B) (old : List Node) →
+    FoldTwo step first xs ys old 0 first old
+fold_two_begins step first xs ys old = record { value = refl; nodes = refl }
 
-  pub within_split : (depth : ℕ) (ps yes_sides no_sides others : List Pair) (t a1 a2 split rest r : Id) (old n1 n2 n3 n4 new : List Node) → 0 < depth →
-      Some t ≡ shared old ps → yes_sides ≡ sides old t true ps → no_sides ≡ sides old t false ps → others ≡ without old t ps →
-      IsMade (equal_within kinds (depth - 1) yes_sides) old n1 a1 → IsMade (equal_within kinds (depth - 1) no_sides) n1 n2 a2 →
-      IsMade (picked kinds t a1 a2) n2 n3 split → IsMade (equal_within kinds (depth - 1) others) n3 n4 rest →
-      IsMade (made kinds (Bin And split rest)) n4 new r → IsMade (equal_within kinds depth ps) old new r
-  unfolding equal_within
-  within_split zero ps yes_sides no_sides others t a1 a2 split rest r old n1 n2 n3 n4 new d n e f g a b c x y = absurd (omega arith)
-  within_split (suc depth) ps yes_sides no_sides others t a1 a2 split rest r old n1 n2 n3 n4 new d n e f g a b c x y =
-      let step = equal_within kinds depth in
-      let same : suc depth - 1 ≡ depth = omega arith in
-      let last : Id → Id → Make Id = λ split rest. made kinds (Bin And split rest) in
-      let beside : Id → Make Id = λ split. and_make (step (without old t ps)) (last split) in
-      let second : Id → Id → Make Id = λ one two. and_make (picked kinds t one two) beside in
-      let first : Id → Make Id = λ one. and_make (step (sides old t false ps)) (second one) in
-      let here : (qs own : List Pair) (m k : List Node) (z : Id) → qs ≡ own → IsMade (equal_within kinds (suc depth - 1) qs) m k z → IsMade (step own) m k z =
-      λ qs own m k z e i. record {
-        nodes = i.nodes ∙ ap (λ w. (equal_within kinds w qs m).nodes) same ∙ ap (λ w. (step w m).nodes) e;
-        value = i.value ∙ ap (λ w. (equal_within kinds w qs m).value) same ∙ ap (λ w. (step w m).value) e;
-      } in
-      let one = here yes_sides (sides old t true ps) old n1 a1 e a in
-      let two = here no_sides (sides old t false ps) n1 n2 a2 f b in
-      let three = here others (without old t ps) n3 n4 rest g x in
-      is_made (equal_within kinds (suc depth) ps) old new r
-      (goes (last split rest) pure n4 new r y.nodes y.value
-      ∙ goes (step (without old t ps)) (last split) n3 n4 rest three.nodes three.value
-      ∙ goes (picked kinds t a1 a2) beside n2 n3 split c.nodes c.value
-      ∙ goes (step (sides old t false ps)) (second a1) n1 n2 a2 two.nodes two.value
-      ∙ goes (step (sides old t true ps)) first old n1 a1 one.nodes one.value
-      ∙ ap (λ z. split_on kinds step old ps z old) n)
+pub fold_from_begins : {S A : Type 0} (step : S → ℕ → A → Make S) (first : S) (xs : List A) (old : List Node) → FoldFrom step first xs old 0 first old
+fold_from_begins step first xs old = record { value = refl; nodes = refl }

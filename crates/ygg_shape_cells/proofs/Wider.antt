@@ -1,14 +1,14 @@
 -- What holds of terms among nodes holds of them among more nodes, and what it lets be made.
 use Rattle.std.proofs.Common.{◌≡◌, ◌<◌, ℕ, List, [], ◌∷◌, length, get_or, All, refl, sym, ap, ◌∙◌, subst, arith}
 use Rattle.std.proofs.lemmas.List.Elements.{All-weaker}
-use Rattle.ygg_shape_cells.specs.ygg_bank_proofs_Widths.{wider, stands, width_is}
+use Rattle.ygg_shape_words.specs.ygg_bank_proofs_Widths.{wider, stands, width_is}
 use Rattle.ygg_value.specs.declared.shape.Shape.{Shape}
 use Rattle.ygg_value.specs.declared.shape.Shape.TheVariants as shape
-use Rattle.ygg_shape_cells.specs.ygg_bank.Nodes.{width_at, widths_of, HasWidth, Stands, CanPick, Extends}
-use Rattle.ygg_shape_cells.specs.ygg_bank.declared.node.Id.{Id}
-use Rattle.ygg_shape_cells.specs.ygg_bank.declared.node.Node.{Node}
-use Rattle.ygg_shape_cells.specs.ygg_shape_words_proofs_Fit.{can_pick}
-use Rattle.ygg_shape_cells.specs.ygg_shape_words.Forms.{WordsAlike}
+use Rattle.ygg_shape_words.specs.ygg_bank.Nodes.{width_at, widths_of, HasWidth, Stands, CanPick, Extends}
+use Rattle.ygg_shape_words.specs.ygg_bank.declared.node.Id.{Id}
+use Rattle.ygg_shape_words.specs.ygg_bank.declared.node.Node.{Node}
+use Rattle.ygg_shape_words.proofs.Fit.{can_pick}
+use Rattle.ygg_shape_words.specs.Forms.{WordsAlike}
 use Rattle.ygg_shape_cells.specs.Making.{width_in}
 use Rattle.ygg_shape_cells.specs.Terms.{IsRow, IsTable, HasShape, IsShaped, AreShaped, AreAlike, RowsAlike, TablesAlike, TableStands, words_in}
 use Rattle.ygg_shape_cells.specs.declared.terms.SymValue.{SymValue}

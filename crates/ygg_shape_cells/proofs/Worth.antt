@@ -1,96 +1,131 @@
--- What the equality of pairs is worth, and that a split on a test keeps it.
-use Rattle.std.proofs.Common.{◌≡◌, ◌==◌, ℕ, Bool, true, false, ◌&&◌, if◌then◌else◌, Option, Some, List, [], ◌∷◌, ◌++◌}
-use Rattle.std.proofs.Common.{slice_get, length, map, refl, sym, ap, ◌∙◌, arith}
-use Rattle.std.specs.Str.{bytes_eq}
-use Rattle.std.proofs.lemmas.Bool.Decides.{Decides-eqb}
-use Rattle.ygg_value.specs.Number.{Number}
-use Rattle.ygg_shape_sums.specs.ygg_bank.Values.{Inputs, Values, Fits}
-use Rattle.ygg_shape_sums.specs.ygg_bank.declared.node.Id.{Id}
-use Rattle.ygg_shape_sums.specs.ygg_bank.declared.node.Node.{Node}
-use Rattle.ygg_shape_sums.specs.ygg_bank.declared.node.Node.TheVariants.{Pick}
-use Rattle.ygg_shape_sums.specs.ygg_shape_words_proofs_Terms.{holds, equal}
-use Rattle.ygg_shape_cells.specs.Pairs.{pair, unequal, differing, side, side_at, has_test, sides, without}
-use Rattle.ygg_shape_cells.specs.declared.pairs.Pair.{Pair}
+-- What answers are worth as rows, tables and values, under one valuation of the nodes at the end.
+use Rattle.std.proofs.Common.{◌≡◌, ◌≤◌, ℕ, Bool, true, false, if◌then◌else◌, List, [], ◌∷◌, map, length, All, refl, sym, ap, ◌∙◌, subst, arith}
+use Rattle.std.proofs.lemmas.List.Elements.{All-head}
+use Rattle.ygg_value.specs.Number.{Digits, Grid}
+use Rattle.ygg_value.specs.Shapes.{IsShape}
+use Rattle.ygg_value.specs.declared.operation.Op.TheVariants.{Eq}
+use Rattle.ygg_value.specs.declared.row.Value.TheVariants as value
+use Rattle.ygg_value.specs.declared.shape.Shape.{Shape}
+use Rattle.ygg_value.specs.declared.shape.Shape.TheVariants as shape
+use Rattle.ygg_shape_words.specs.ygg_rules.declared.rule.RuleKind.{RuleKind}
+use Rattle.ygg_shape_words.specs.ygg_bank.Making.{made}
+use Rattle.ygg_shape_words.specs.ygg_bank.Nodes.{HasWidth, Extends}
+use Rattle.ygg_shape_words.specs.ygg_bank.Values.{Inputs, Values, Fits}
+use Rattle.ygg_shape_words.specs.ygg_bank.declared.node.Id.{Id}
+use Rattle.ygg_shape_words.specs.ygg_bank.declared.node.Node.{Node}
+use Rattle.ygg_shape_words.specs.ygg_bank.declared.node.Node.TheVariants.{Bin}
+use Rattle.ygg_shape_words.proofs.Picks.{picked_is}
+use Rattle.ygg_shape_words.proofs.Terms.{holds}
+use Rattle.ygg_shape_cells.proofs.Rows.{merged_row_is}
+use Rattle.ygg_shape_cells.proofs.Tables.{merged_rows_is, merged_rows_length}
+use Rattle.ygg_shape_cells.proofs.Wider.{row_wider, table_wider, words_in_table}
+use Rattle.ygg_shape_cells.specs.Making.{merged, merged_rows}
+use Rattle.ygg_shape_cells.specs.Terms.{IsRow, IsTable, HasShape, numbers_of, row_width, row_of, table_width, table_of, words_in, worth}
+use Rattle.ygg_shape_cells.specs.declared.terms.SymValue.{SymValue}
+use Rattle.ygg_shape_cells.specs.declared.terms.SymValue.TheVariants.{Word, Row, Table}
 
-self_equal : (x : ℕ) → (x == x) ≡ true
-self_equal x = (Decides-eqb x x).1 refl
+-- a row of numbers
+abbrev pub digits : ℕ → List ℕ → Digits
+digits w ns = record { width = w; words = ns }
 
-pub and_true : (a : Bool) → (a && true) ≡ a
-and_true true = refl
-and_true false = refl
+-- a table of numbers
+abbrev pub grid : ℕ → ℕ → List (List ℕ) → Grid
+grid w n rows = record { width = w; words = n; rows = rows }
 
-pub and_both : (a b c : Bool) → (a && (b && c)) ≡ ((a && b) && c)
-and_both true b c = refl
-and_both false b c = refl
+-- a function of one of two is one of what it gives
+pub if_of : {X Y : Type 0} (f : X → Y) (c : Bool) (a b : X) → f (if c then a else b) ≡ (if c then f a else f b)
+if_of f true a b = refl
+if_of f false a b = refl
 
-and_between : (a b c : Bool) → (a && (b && c)) ≡ (b && (a && c))
-and_between true true c = refl
-and_between true false c = refl
-and_between false true c = refl
-and_between false false c = refl
+module _ (inputs : Inputs) (v : Values) (kinds : List RuleKind) where
+  pub row_width_is : (nodes : List Node) (n w : ℕ) (row : List Id) → Fits inputs v nodes → IsRow nodes n w row → 1 ≤ n → row_width v row ≡ w
+  row_width_is nodes n w [] h p l = absurd (omega (arith, p.count))
+  row_width_is nodes n w (a ∷ row) h p l = h.widths a.0 w (All-head (λ (x : Id). HasWidth nodes x w) a row p.wide)
 
-module _ (inputs : Inputs) (v : Values) where
-  -- whether the words of each pair have one number
-  abbrev pub all_equal : List Pair → Bool
-  all_equal [] = true
-  all_equal (p ∷ ps) = equal inputs v p.one p.two && all_equal ps
+  pub row_worth : (nodes : List Node) (n w : ℕ) (row : List Id) → Fits inputs v nodes → IsRow nodes n w row → 1 ≤ n → row_of v row ≡ digits w (numbers_of v row)
+  row_worth nodes n w row h p l = ap (λ z. digits z (numbers_of v row)) (row_width_is nodes n w row h p l)
 
-  append_equal : (ps qs : List Pair) → all_equal (ps ++ qs) ≡ (all_equal ps && all_equal qs)
-  append_equal [] qs = refl
-  append_equal (p ∷ ps) qs =
-      ap (λ z. equal inputs v p.one p.two && z) (append_equal ps qs) ∙ and_both (equal inputs v p.one p.two) (all_equal ps) (all_equal qs)
+  pub table_width_is : (nodes : List Node) (n w : ℕ) (table : List (List Id)) → Fits inputs v nodes → IsTable nodes n w table → table_width v table ≡ w
+  table_width_is nodes n w [] h p = let l = p.limits in absurd (omega arith)
+  table_width_is nodes n w (row ∷ rows) h p = let l = p.limits in row_width_is nodes n w row h (All-head (IsRow nodes n w) row rows p.rows) (omega arith)
 
-  unequal_is : (a b : Id) → all_equal (unequal a b) ≡ equal inputs v a b
-  unequal_is a b = case (a.0 == b.0) refl where
-    case : (c : Bool) → (a.0 == b.0) ≡ c → all_equal (if c then [] else pair a b ∷ []) ≡ equal inputs v a b
-    case true e = sym (ap (λ z. (v a.0).bits == (v z).bits) (sym ((Decides-eqb a.0 b.0).0 e)) ∙ self_equal (v a.0).bits)
-    case false e = and_true (equal inputs v a b)
+  pub table_worth : (nodes : List Node) (n w : ℕ) (table : List (List Id)) → Fits inputs v nodes → IsTable nodes n w table →
+      table_of v table ≡ grid w n (map (numbers_of v) table)
+  table_worth nodes n w table h p =
+      ap (λ z. grid z (words_in table) (map (numbers_of v) table)) (table_width_is nodes n w table h p)
+      ∙ ap (λ z. grid w z (map (numbers_of v) table)) (words_in_table nodes table n w p)
 
-  -- the pairs of two rows are equal where the rows are
-  pub differing_is : (one two : List Id) → length one ≡ length two →
-      all_equal (differing one two) ≡ bytes_eq (map (λ a. (v a.0).bits) one) (map (λ a. (v a.0).bits) two)
-  differing_is [] [] l = refl
-  differing_is [] (b ∷ two) l = absurd (omega arith)
-  differing_is (a ∷ one) [] l = absurd (omega arith)
-  differing_is (a ∷ one) (b ∷ two) l =
-      append_equal (unequal a b) (differing one two) ∙ ap (λ z. z && all_equal (differing one two)) (unequal_is a b)
-      ∙ ap (λ z. equal inputs v a b && z) (differing_is one two (omega arith))
+  -- a table with as many rows as another keeps the limits as well
+  pub table_like : (old new : List Node) (n w : ℕ) (table answer : List (List Id)) → IsTable old n w table → length answer ≡ length table →
+      All (IsRow new n w) answer → IsTable new n w answer
+  table_like old new n w table answer h e q = record { limits = subst (λ z. IsShape (shape.Table z n w)) (sym e) h.limits; rows = q }
 
-  -- where the test has the value, a word is that side
-  side_is : (nodes : List Node) (t a : Id) (value : Bool) (n : Option Node) → Fits inputs v nodes → slice_get nodes a.0 ≡ n → holds inputs v t ≡ value →
-      v (side t value a n).0 ≡ v a.0
-  side_is nodes t a value (Some (Pick u x y)) f e h = case (u.0 == t.0) value refl h where
-    case : (c d : Bool) → (u.0 == t.0) ≡ c → holds inputs v t ≡ d → v (if c then if d then x else y else a).0 ≡ v a.0
-    case true true g h =
-        sym (f.values a.0 (Pick u x y) e ∙ ap (λ z. if (v z).bits == 1 then v x.0 else v y.0) ((Decides-eqb u.0 t.0).0 g)
-        ∙ ap (λ (c : Bool). if c then v x.0 else v y.0) h)
-    case true false g h =
-        sym (f.values a.0 (Pick u x y) e ∙ ap (λ z. if (v z).bits == 1 then v x.0 else v y.0) ((Decides-eqb u.0 t.0).0 g)
-        ∙ ap (λ (c : Bool). if c then v x.0 else v y.0) h)
-    case false d g h = refl
-  side_is nodes t a value n f e h = refl
+  -- what is merged of two values of a shape has the shape, and is one of them
+  pub record MergedIs (s : Shape) (t : Id) (one two : SymValue) (nodes : List Node) (answer : SymValue) : Type 0 where
+    pub has : HasShape nodes s answer
+    pub is : IsShape s → worth v answer ≡ (if holds inputs v t then worth v one else worth v two)
 
-  sides_equal : (nodes : List Node) (t : Id) (value : Bool) (p : Pair) → Fits inputs v nodes → holds inputs v t ≡ value →
-      all_equal (unequal (side_at nodes t value p.one) (side_at nodes t value p.two)) ≡ equal inputs v p.one p.two
-  sides_equal nodes t value p f h =
-      let a = side_at nodes t value p.one in let b = side_at nodes t value p.two in
-      unequal_is a b ∙ ap (λ (z : Number). z.bits == (v b.0).bits) (side_is nodes t p.one value (slice_get nodes p.one.0) f refl h)
-      ∙ ap (λ (z : Number). (v p.one.0).bits == z.bits) (side_is nodes t p.two value (slice_get nodes p.two.0) f refl h)
+  merged_words : (w : ℕ) (t : Id) (one two : SymValue) (nodes : List Node) → HasShape nodes (shape.Word w) one → HasShape nodes (shape.Word w) two →
+      HasWidth nodes t 1 →
+      Fits inputs v (merged kinds t one two nodes).nodes →
+      MergedIs (shape.Word w) t one two (merged kinds t one two nodes).nodes (merged kinds t one two nodes).value
+  merged_words w t (Word a) (Word b) nodes p q d h =
+      let m = picked_is inputs v kinds w t a b nodes d p q h in
+      record { has = m.wide; is = λ l. ap value.Word m.is ∙ if_of value.Word (holds inputs v t) (v a.0) (v b.0) }
+  merged_words w t (Word a) (Row y) nodes p q d h = absurd q
+  merged_words w t (Word a) (Table y) nodes p q d h = absurd q
+  merged_words w t (Row x) two nodes p q d h = absurd p
+  merged_words w t (Table x) two nodes p q d h = absurd p
 
-  -- a pair that goes to the sides, or beside the split
-  one_split : (p : Pair) (own some rest : List Pair) (whole c : Bool) → all_equal own ≡ equal inputs v p.one p.two →
-      whole ≡ (all_equal some && all_equal rest) →
-      (equal inputs v p.one p.two && whole) ≡ (all_equal ((if c then own else []) ++ some) && all_equal ((if c then [] else p ∷ []) ++ rest))
-  one_split p own some rest whole true e h =
-      ap (λ z. equal inputs v p.one p.two && z) h ∙ and_both (equal inputs v p.one p.two) (all_equal some) (all_equal rest)
-      ∙ ap (λ z. (z && all_equal some) && all_equal rest) (sym e) ∙ ap (λ z. z && all_equal rest) (sym (append_equal own some))
-  one_split p own some rest whole false e h =
-      ap (λ z. equal inputs v p.one p.two && z) h ∙ and_between (equal inputs v p.one p.two) (all_equal some) (all_equal rest)
+  merged_rowed : (n w : ℕ) (t : Id) (one two : SymValue) (nodes : List Node) → HasShape nodes (shape.Row n w) one → HasShape nodes (shape.Row n w) two
+      → HasWidth nodes t 1 →
+      Extends nodes (merged kinds t one two nodes).nodes → Fits inputs v (merged kinds t one two nodes).nodes →
+      MergedIs (shape.Row n w) t one two (merged kinds t one two nodes).nodes (merged kinds t one two nodes).value
+  merged_rowed n w t (Row x) (Row y) nodes p q d g h =
+      let o = merged kinds t (Row x) (Row y) nodes in
+      let c = holds inputs v t in
+      let m = merged_row_is inputs v kinds n w t x y nodes d p q h in
+      record {
+        has = m.shaped;
+        is = λ l.
+            let some : 1 ≤ n = l.0.0 in
+            ap value.Row (row_worth o.nodes n w _ h m.shaped some ∙ ap (digits w) m.is ∙ if_of (digits w) c (numbers_of v x) (numbers_of v y)
+            ∙ ap (λ z. if c then z else digits w (numbers_of v y)) (sym (row_worth o.nodes n w x h (row_wider nodes o.nodes n w x g p) some))
+            ∙ ap (λ z. if c then row_of v x else z) (sym (row_worth o.nodes n w y h (row_wider nodes o.nodes n w y g q) some)))
+            ∙ if_of value.Row c (row_of v x) (row_of v y);
+      }
+  merged_rowed n w t (Row x) (Word y) nodes p q d g h = absurd q
+  merged_rowed n w t (Row x) (Table y) nodes p q d g h = absurd q
+  merged_rowed n w t (Word x) two nodes p q d g h = absurd p
+  merged_rowed n w t (Table x) two nodes p q d g h = absurd p
 
-  -- where the test has the value, pairs are equal where those sides are, and the pairs that don't have the test
-  pub split_is : (nodes : List Node) (t : Id) (value : Bool) (ps : List Pair) → Fits inputs v nodes → holds inputs v t ≡ value →
-      all_equal ps ≡ (all_equal (sides nodes t value ps) && all_equal (without nodes t ps))
-  split_is nodes t value [] f h = refl
-  split_is nodes t value (p ∷ ps) f h =
-      one_split p (unequal (side_at nodes t value p.one) (side_at nodes t value p.two)) (sides nodes t value ps) (without nodes t ps) (all_equal ps)
-      (has_test nodes t p) (sides_equal nodes t value p f h) (split_is nodes t value ps f h)
+  merged_tables : (k n w : ℕ) (t : Id) (one two : SymValue) (nodes : List Node) → HasShape nodes (shape.Table k n w) one →
+      HasShape nodes (shape.Table k n w) two → HasWidth nodes t 1 →
+      Extends nodes (merged kinds t one two nodes).nodes → Fits inputs v (merged kinds t one two nodes).nodes →
+      MergedIs (shape.Table k n w) t one two (merged kinds t one two nodes).nodes (merged kinds t one two nodes).value
+  merged_tables k n w t (Table x) (Table y) nodes p q d g h =
+      let o = merged_rows kinds t x y nodes in
+      let c = holds inputs v t in
+      let px = p.1 in let qy = q.1 in
+      let m = merged_rows_is inputs v kinds n w t x y nodes d px.rows qy.rows (p.0 ∙ sym q.0) h in
+      let size : length o.value ≡ length x = merged_rows_length inputs v kinds t x y nodes (p.0 ∙ sym q.0) in
+      let made : IsTable o.nodes n w o.value = table_like nodes o.nodes n w x o.value px size m.rows_are in
+      record {
+        has = (size ∙ p.0, made);
+        is = λ l.
+            ap value.Table (table_worth o.nodes n w o.value h made ∙ ap (grid w n) m.is ∙ if_of (grid w n) c (map (numbers_of v) x) (map (numbers_of v) y)
+            ∙ ap (λ z. if c then z else grid w n (map (numbers_of v) y)) (sym (table_worth o.nodes n w x h (table_wider nodes o.nodes n w x g px)))
+            ∙ ap (λ z. if c then table_of v x else z) (sym (table_worth o.nodes n w y h (table_wider nodes o.nodes n w y g qy))))
+            ∙ if_of value.Table c (table_of v x) (table_of v y);
+      }
+  merged_tables k n w t (Table x) (Word y) nodes p q d g h = absurd q
+  merged_tables k n w t (Table x) (Row y) nodes p q d g h = absurd q
+  merged_tables k n w t (Word x) two nodes p q d g h = absurd p
+  merged_tables k n w t (Row x) two nodes p q d g h = absurd p
+
+  pub merged_is : (s : Shape) (t : Id) (one two : SymValue) (nodes : List Node) → HasShape nodes s one → HasShape nodes s two → HasWidth nodes t 1 →
+      Extends nodes (merged kinds t one two nodes).nodes → Fits inputs v (merged kinds t one two nodes).nodes →
+      MergedIs s t one two (merged kinds t one two nodes).nodes (merged kinds t one two nodes).value
+  merged_is (shape.Word w) t one two nodes p q d g h = merged_words w t one two nodes p q d h
+  merged_is (shape.Row n w) t one two nodes p q d g h = merged_rowed n w t one two nodes p q d g h
+  merged_is (shape.Table k n w) t one two nodes p q d g h = merged_tables k n w t one two nodes p q d g h

@@ -1,6 +1,6 @@
 -- Steps that make nodes, one for each item of a list.
 use Rattle.std.specs.Prelude.{ℕ, ◌+◌, List, [], ◌∷◌}
-use Rattle.ygg_shape_cells.specs.ygg_bank.Makes.{Make, pure, and_make}
+use Rattle.ygg_shape_words.specs.ygg_bank.Makes.{Make, pure, and_make}
 
 -- a step for each pair of items at one place of two lists, and the list of what they answer
 abbrev pub each_two : {A B C : Type 0} → (A → B → Make C) → List A → List B → Make (List C)

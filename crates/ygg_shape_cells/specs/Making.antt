@@ -1,20 +1,17 @@
--- What merging, comparing, selecting and storing make in a bank, under a book of these kinds.
+-- What merging, selecting and storing make in a bank, under a book of these kinds.
 use Rattle.std.specs.Prelude.{ℕ, ◌^◌, nat_lt, if◌then◌else◌, Option, Some, None, List, ◌∷◌, replicate, slice_get, slice_set}
 use Rattle.ygg_value.specs.Number.{Number}
 use Rattle.ygg_value.specs.Words.{word}
-use Rattle.ygg_value.specs.declared.operation.Op.TheVariants.{And}
-use Rattle.ygg_shape_cells.specs.ygg_rules.declared.rule.RuleKind.{RuleKind}
-use Rattle.ygg_shape_cells.specs.ygg_bank.Makes.{Make, pure, and_make}
-use Rattle.ygg_shape_cells.specs.ygg_bank.Making.{known_in, made}
-use Rattle.ygg_shape_cells.specs.ygg_bank.Nodes.{width_at, widths_of}
-use Rattle.ygg_shape_cells.specs.ygg_bank.declared.node.Id.{Id}
-use Rattle.ygg_shape_cells.specs.ygg_bank.declared.node.Node.{Node}
-use Rattle.ygg_shape_cells.specs.ygg_bank.declared.node.Node.TheVariants.{Const, Bin}
-use Rattle.ygg_shape_cells.specs.ygg_shape_words.Picking.{picked}
-use Rattle.ygg_shape_cells.specs.ygg_shape_words.Same.{same_words}
-use Rattle.ygg_shape_cells.specs.ygg_shape_sums.Equates.{equated_words}
-use Rattle.ygg_shape_cells.specs.Equates.{equated_rows}
-use Rattle.ygg_shape_cells.specs.Lists.{each_two, each_from, fold_two, fold_from}
+use Rattle.ygg_shape_words.specs.ygg_rules.declared.rule.RuleKind.{RuleKind}
+use Rattle.ygg_shape_words.specs.ygg_bank.Makes.{Make, pure, and_make}
+use Rattle.ygg_shape_words.specs.ygg_bank.Making.{known_in, made}
+use Rattle.ygg_shape_words.specs.ygg_bank.Nodes.{width_at, widths_of}
+use Rattle.ygg_shape_words.specs.ygg_bank.declared.node.Id.{Id}
+use Rattle.ygg_shape_words.specs.ygg_bank.declared.node.Node.{Node}
+use Rattle.ygg_shape_words.specs.ygg_bank.declared.node.Node.TheVariants.{Const}
+use Rattle.ygg_shape_words.specs.Picking.{picked}
+use Rattle.ygg_shape_words.specs.Same.{same_words}
+use Rattle.ygg_shape_cells.specs.Lists.{each_two, each_from, fold_from}
 use Rattle.ygg_shape_cells.specs.Terms.{words_in}
 use Rattle.ygg_shape_cells.specs.declared.terms.SymValue.{SymValue}
 use Rattle.ygg_shape_cells.specs.declared.terms.SymValue.TheVariants.{Word, Row, Table}
@@ -33,21 +30,6 @@ merged kinds test (Word one) (Word two) = and_make (picked kinds test one two) (
 merged kinds test (Row one) (Row two) = and_make (merged_row kinds test one two) (λ row. pure (Row row))
 merged kinds test (Table one) (Table two) = and_make (merged_rows kinds test one two) (λ table. pure (Table table))
 merged kinds test one two = pure one
-
--- whether two rows are equal, joined to what is known so far
-abbrev pub compared_row : List RuleKind → Id → List Id → List Id → Make Id
-compared_row kinds so_far one two = and_make (equated_rows kinds one two) (λ same. made kinds (Bin And so_far same))
-
--- whether two tables are equal, joined to what is known so far, row by row
-abbrev pub compared_rows : List RuleKind → Id → List (List Id) → List (List Id) → Make Id
-compared_rows kinds = fold_two (compared_row kinds)
-
--- whether two values are equal; unlike values aren't
-abbrev pub compared : List RuleKind → SymValue → SymValue → Make Id
-compared kinds (Word one) (Word two) = equated_words kinds one two
-compared kinds (Row one) (Row two) = and_make (made kinds (Const (word 1 1))) (λ so_far. compared_row kinds so_far one two)
-compared kinds (Table one) (Table two) = and_make (made kinds (Const (word 1 1))) (λ so_far. compared_rows kinds so_far one two)
-compared kinds one two = made kinds (Const (word 1 0))
 
 -- one row where the place, which is so wide, has this number, and else the other
 abbrev pub split_at : List RuleKind → Id → ℕ → ℕ → List Id → List Id → Make (List Id)

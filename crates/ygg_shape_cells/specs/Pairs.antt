@@ -1,9 +1,10 @@
 -- Pairs of words that are to be compared.
-use Rattle.std.specs.Prelude.{Bool, false, ◌==◌, ◌||◌, if◌then◌else◌, Option, Some, List, [], ◌∷◌, ◌++◌, All, slice_get}
-use Rattle.ygg_shape_sums.specs.ygg_bank.declared.node.Id.{Id}
-use Rattle.ygg_shape_sums.specs.ygg_bank.declared.node.Node.{Node}
-use Rattle.ygg_shape_sums.specs.ygg_bank.declared.node.Node.TheVariants.{Pick}
-use Rattle.ygg_shape_sums.specs.ygg_shape_words.Forms.{WordsAlike}
+use Rattle.std.specs.Prelude.{◌≡◌, ℕ, Bool, false, ◌==◌, ◌||◌, if◌then◌else◌, Option, Some, List, [], ◌∷◌, ◌++◌, All, length, slice_get}
+use Rattle.ygg_shape_words.specs.ygg_bank.Nodes.{HasWidth}
+use Rattle.ygg_shape_words.specs.ygg_bank.declared.node.Id.{Id}
+use Rattle.ygg_shape_words.specs.ygg_bank.declared.node.Node.{Node}
+use Rattle.ygg_shape_words.specs.ygg_bank.declared.node.Node.TheVariants.{Pick}
+use Rattle.ygg_shape_words.specs.Forms.{WordsAlike}
 use Rattle.ygg_shape_cells.specs.declared.pairs.Pair.{Pair}
 
 abbrev pub pair : Id → Id → Pair
@@ -56,3 +57,10 @@ without_of nodes t p = if has_test nodes t p then [] else p ∷ []
 abbrev pub without : List Node → Id → List Pair → List Pair
 without nodes t [] = []
 without nodes t (p ∷ ps) = without_of nodes t p ++ without nodes t ps
+
+-- two rows of as many words of one width
+pub record RowsFit (nodes : List Node) (one two : List Id) : Type 0 where
+  pub width : ℕ
+  pub count : length one ≡ length two
+  pub one_has : All (λ a. HasWidth nodes a width) one
+  pub two_has : All (λ a. HasWidth nodes a width) two

@@ -1,9 +1,9 @@
 -- The test that most of some pairs share.
 use Rattle.std.specs.Prelude.{ℕ, Bool, ◌==◌, ◌-◌, ◌&&◌, nat_le, nat_lt, if◌then◌else◌, Option, Some, None, List, [], ◌∷◌, length, count_by, slice_get}
-use Rattle.ygg_shape_sums.specs.ygg_bank.Making.{id}
-use Rattle.ygg_shape_sums.specs.ygg_bank.declared.node.Id.{Id}
-use Rattle.ygg_shape_sums.specs.ygg_bank.declared.node.Node.{Node}
-use Rattle.ygg_shape_sums.specs.ygg_bank.declared.node.Node.TheVariants.{Pick}
+use Rattle.ygg_shape_words.specs.ygg_bank.Making.{id}
+use Rattle.ygg_shape_words.specs.ygg_bank.declared.node.Id.{Id}
+use Rattle.ygg_shape_words.specs.ygg_bank.declared.node.Node.{Node}
+use Rattle.ygg_shape_words.specs.ygg_bank.declared.node.Node.TheVariants.{Pick}
 use Rattle.ygg_shape_cells.specs.Pairs.{has_test}
 use Rattle.ygg_shape_cells.specs.declared.pairs.Pair.{Pair}
 use Rattle.ygg_shape_cells.specs.declared.sharing.Candidate.{Candidate}

@@ -6,10 +6,10 @@ use Rattle.ygg_value.specs.declared.row.Value.{Value}
 use Rattle.ygg_value.specs.declared.row.Value.TheVariants as value
 use Rattle.ygg_value.specs.declared.shape.Shape.{Shape}
 use Rattle.ygg_value.specs.declared.shape.Shape.TheVariants as shape
-use Rattle.ygg_shape_cells.specs.ygg_bank.Nodes.{HasWidth}
-use Rattle.ygg_shape_cells.specs.ygg_bank.Values.{Values}
-use Rattle.ygg_shape_cells.specs.ygg_bank.declared.node.Id.{Id}
-use Rattle.ygg_shape_cells.specs.ygg_bank.declared.node.Node.{Node}
+use Rattle.ygg_shape_words.specs.ygg_bank.Nodes.{HasWidth}
+use Rattle.ygg_shape_words.specs.ygg_bank.Values.{Values}
+use Rattle.ygg_shape_words.specs.ygg_bank.declared.node.Id.{Id}
+use Rattle.ygg_shape_words.specs.ygg_bank.declared.node.Node.{Node}
 use Rattle.ygg_shape_cells.specs.declared.terms.SymValue.{SymValue}
 use Rattle.ygg_shape_cells.specs.declared.terms.SymValue.TheVariants.{Word, Row, Table}
 

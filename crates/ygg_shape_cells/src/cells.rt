@@ -1,13 +1,13 @@
 //! Rows of tables at places that are known.
 
 ghost use Rattle.std.specs.Prelude.{◌≡◌, ℕ, slice_get, slice_set, IfOk, OnOk};
-ghost use Rattle.ygg_shape_cells.specs.ygg_bank.Nodes.{Extends, IsBank};
+ghost use Rattle.ygg_shape_words.specs.ygg_bank.Nodes.{Extends, IsBank};
 ghost use Rattle.ygg_shape_cells.specs.Making.{row_or_zeros, width_in, zeros};
 ghost use Rattle.ygg_shape_cells.specs.Terms.{IsRow, IsTable, TableStands, words_in};
 
 use crate::terms::{SymRow, SymTable};
 use std::alloc::Global;
-use ygg_shape_sums::{Bank, Book, NoMemory, Node};
+use ygg_shape_words::{Bank, Book, NoMemory, Node};
 use ygg_value::Word;
 
 /// The row at a place that is known, and zeros past the end.

@@ -1,11 +1,11 @@
 //! Pairs of words that are to be compared.
 
 ghost use Rattle.std.specs.Prelude.{◌≡◌, ◌++◌, IfOk, OnOk, length, slice_get};
-ghost use Rattle.ygg_shape_sums.specs.ygg_bank.Nodes.{Stands};
-ghost use Rattle.ygg_shape_sums.specs.ygg_shape_words.Forms.{WordsAlike};
+ghost use Rattle.ygg_shape_words.specs.ygg_bank.Nodes.{Stands};
+ghost use Rattle.ygg_shape_words.specs.Forms.{WordsAlike};
 ghost use Rattle.ygg_shape_cells.specs.Pairs.{PairsFit, differing, has_test, is_pick_on, side, sides, sides_of, unequal, without, without_of};
 
-use ygg_shape_sums::{Bank, Id, NoMemory, Node};
+use ygg_shape_words::{Bank, Id, NoMemory, Node};
 
 /// Two words, one of each of two rows.
 #[derive(Clone, Copy, Drop)]

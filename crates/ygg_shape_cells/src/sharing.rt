@@ -1,13 +1,13 @@
 //! The test that most of the words of two rows share.
 
 ghost use Rattle.std.specs.Prelude.{◌≡◌, slice_get};
-ghost use Rattle.ygg_shape_sums.specs.ygg_bank.Nodes.{Stands};
-ghost use Rattle.ygg_shape_sums.specs.ygg_shape_words.Forms.{WordsAlike};
+ghost use Rattle.ygg_shape_words.specs.ygg_bank.Nodes.{Stands};
+ghost use Rattle.ygg_shape_words.specs.Forms.{WordsAlike};
 ghost use Rattle.ygg_shape_cells.specs.Pairs.{PairsFit};
 ghost use Rattle.ygg_shape_cells.specs.Sharing.{better, better_of, count, is_best, most_shared, shared, test_of};
 
 use crate::pairs::{Pair, has_test};
-use ygg_shape_sums::{Bank, Id, Node};
+use ygg_shape_words::{Bank, Id, Node};
 
 /// A test that pairs may be split on.
 #[derive(Clone, Copy, Drop)]

@@ -2,7 +2,7 @@
 
 use std::alloc::Global;
 use ygg_list::{Duplicate, Sequence};
-use ygg_shape_sums::{Id, NoMemory};
+use ygg_shape_words::{Id, NoMemory};
 
 /// The terms of a row's words, in order.
 pub type SymRow = Sequence<Id>;

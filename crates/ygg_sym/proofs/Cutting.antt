@@ -8,7 +8,7 @@ use Rattle.ygg_syntax.specs.declared.tree.Stmt.{Stmt}
 use Rattle.ygg_sym_stops.specs.ygg_type_rules.TypeErrors.{none}
 use Rattle.ygg_sym_stops.specs.ygg_type_rules.Statements.{walked, return_errors}
 use Rattle.ygg_sym_stops.specs.ygg_type_rules.Statements as rules
-use Rattle.ygg_sym_stops.specs.ygg_type_sound_proofs_Tests.{left as first_of}
+use Rattle.ygg_sym_stops.specs.ygg_meaning_laws_proofs_Tests.{left as first_of}
 use Rattle.ygg_sym_stops.specs.ygg_rules.declared.rule.RuleKind.{RuleKind}
 use Rattle.ygg_sym_stops.specs.ygg_bank_proofs_Meaning.{fits_fewer}
 use Rattle.ygg_sym_stops.specs.ygg_bank.Makes.{Out}
@@ -17,7 +17,7 @@ use Rattle.ygg_sym_stops.specs.ygg_bank.Nodes.{Extends, HasWidth, IsBank}
 use Rattle.ygg_sym_stops.specs.ygg_bank.declared.node.Id.{Id}
 use Rattle.ygg_sym_stops.specs.ygg_bank.declared.node.Node.{Node}
 use Rattle.ygg_sym_stops.specs.ygg_bank.declared.node.Node.TheVariants.{Const}
-use Rattle.ygg_sym_stops.specs.ygg_direct.Direct.{room_of}
+use Rattle.ygg_sym_stops.specs.ygg_meaning_laws.Direct.{room_of}
 use Rattle.ygg_sym_stops.specs.ygg_sym_expr.Names.{SymEnv}
 use Rattle.ygg_sym_stops.specs.ygg_sym_expr_proofs_Shaped.{env_wider}
 use Rattle.ygg_sym_stops.specs.ygg_sym_runs.Lower.{SymMeaning, IsLower, KeepsSingle, SingleFrom, Stands}

@@ -1,15 +1,15 @@
 pub use Rattle.ygg_sym_spec.proofs.of_ygg_shape
 pub use Rattle.ygg_sym_spec.proofs.of_ygg_sym_runs
 pub use Rattle.ygg_sym_spec.proofs.of_ygg_sym_expr
-pub mod Carried
-pub mod Left
+pub use Rattle.ygg_sym_disk.proofs as of_ygg_sym_disk
+pub use Rattle.ygg_sym_spec.proofs.WholeRun
+pub use Rattle.ygg_sym_spec.proofs.Carried
+pub use Rattle.ygg_sym_spec.proofs.Left
 pub mod Losing
 pub mod Placed
 pub mod Ran
-pub mod ZerosMade
+pub use Rattle.ygg_sym_spec.proofs.ZerosMade
 pub mod PlacesCounted
 pub mod Cutting
-pub use Rattle.ygg_sym_spec.proofs.of_ygg_sym_disk
 pub mod DiskFailed
-pub use Rattle.ygg_sym_spec.proofs.WholeRun
 pub mod SpecFailed

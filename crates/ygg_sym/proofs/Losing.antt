@@ -11,20 +11,20 @@ use Rattle.ygg_sym_spec.specs.ygg_bank.declared.node.Node.{Node}
 use Rattle.ygg_sym_spec.proofs.of_ygg_shape.Answered.{no_inputs, some_fit}
 use Rattle.ygg_sym_spec.specs.ygg_shape_cells.declared.terms.SymValue.{SymValue}
 use Rattle.ygg_sym_spec.specs.ygg_sym_runs.Lower.{KeepsSingle}
-use Rattle.ygg_sym.specs.ygg_sym_disk.Cuts.{disk_loses}
-use Rattle.ygg_sym.specs.ygg_sym_disk.SymBelowLows.{LowShaped}
-use Rattle.ygg_sym.specs.ygg_sym_disk.SpecCuts.{crash_made}
-use Rattle.ygg_sym.specs.ygg_sym_disk.Specs.{input_pick}
-use Rattle.ygg_sym_spec.specs.ygg_sym_laws.Below.{lost_made, lows_at_start, lows_on, start_made, zeros_made}
-use Rattle.ygg_sym_spec.specs.ygg_sym_laws.Means.{LossMeans, terms_of}
-use Rattle.ygg_sym_spec.proofs.of_ygg_sym_laws.Loss.{disk_loss}
-use Rattle.ygg_sym_spec.proofs.of_ygg_sym_laws.AnyLayer.{spec_loss}
+use Rattle.ygg_sym_stops.specs.ygg_sym_runs.Cuts.{disk_loses}
+use Rattle.ygg_sym_stops.specs.ygg_sym_runs.Lows.{LowShaped}
+use Rattle.ygg_sym_stops.specs.ygg_sym_runs.SpecCuts.{crash_made}
+use Rattle.ygg_sym_stops.specs.ygg_sym_runs.Specs.{input_pick}
+use Rattle.ygg_sym_stops.specs.ygg_sym_runs.Below.{lost_made, lows_at_start, lows_on, start_made, zeros_made}
+use Rattle.ygg_sym_stops.specs.ygg_sym_runs.Means.{LossMeans, terms_of}
+use Rattle.ygg_sym_laws.proofs.Loss.{disk_loss}
+use Rattle.ygg_sym_laws.proofs.AnyLayer.{spec_loss}
 use Rattle.ygg_sym.specs.Layers.{closed, crash_of, terms_in}
 use Rattle.ygg_sym.specs.SymLayer.{SymLayer}
 use Rattle.ygg_sym.specs.SymPicks.TheVariants as picks
 use Rattle.ygg_sym.specs.Sites.{BelowFits, below_in}
-use Rattle.ygg_sym.specs.declared.below.SymBelow.{SymBelow}
-use Rattle.ygg_sym.specs.declared.below.SymBelow.TheVariants.{Disk, Layer}
+use Rattle.ygg_sym_spec.specs.declared.below.SymBelow.{SymBelow}
+use Rattle.ygg_sym_spec.specs.declared.below.SymBelow.TheVariants.{Disk, Layer}
 use Rattle.ygg_sym.proofs.Carried.{on_value}
 
 -- power loss means what it should

@@ -8,13 +8,13 @@ use Rattle.ygg_sym_spec.specs.ygg_rules.declared.rule.RuleKind.{RuleKind}
 use Rattle.ygg_sym_spec.specs.ygg_bank.declared.node.Node.{Node}
 use Rattle.ygg_sym_spec.specs.ygg_shape_cells.declared.terms.SymValue.{SymValue}
 use Rattle.ygg_sym_spec.specs.ygg_sym_runs.Lower.{SingleFrom, Stands}
-use Rattle.ygg_sym.specs.ygg_sym_disk.SymBelowLows.{LowShaped}
-use Rattle.ygg_sym.specs.ygg_sym_disk.SpecCuts.{spec_stops}
-use Rattle.ygg_sym.specs.ygg_sym_disk.Specs.{input_pick, sym_spec}
-use Rattle.ygg_sym.specs.ygg_sym_disk.Means.{disk_meaning}
-use Rattle.ygg_sym_spec.specs.ygg_sym_laws.Below.{lows_on, machine_on, signatures_on, space_on, stops_on}
-use Rattle.ygg_sym_spec.specs.ygg_sym_laws.Means.{terms_of}
-use Rattle.ygg_sym_spec.specs.ygg_sym_laws.Typed.{BelowTyped, SpecTyped}
+use Rattle.ygg_sym_stops.specs.ygg_sym_runs.Lows.{LowShaped}
+use Rattle.ygg_sym_stops.specs.ygg_sym_runs.SpecCuts.{spec_stops}
+use Rattle.ygg_sym_stops.specs.ygg_sym_runs.Specs.{input_pick, sym_spec}
+use Rattle.ygg_sym_disk.specs.Means.{disk_meaning}
+use Rattle.ygg_sym_stops.specs.ygg_sym_runs.Below.{lows_on, machine_on, signatures_on, space_on, stops_on}
+use Rattle.ygg_sym_stops.specs.ygg_sym_runs.Means.{terms_of}
+use Rattle.ygg_sym_stops.specs.ygg_sym_runs.Typed.{BelowTyped, SpecTyped}
 use Rattle.ygg_sym.specs.Stopping as stopping
 use Rattle.ygg_sym.specs.DiskFailing.{disk_power}
 use Rattle.ygg_sym.specs.Layers.{SpecServes, closed, terms_in}
@@ -22,8 +22,8 @@ use Rattle.ygg_sym.specs.Machine.{spec_meaning}
 use Rattle.ygg_sym.specs.SymLayer.{SymLayer}
 use Rattle.ygg_sym.specs.SpecFailing.{spec_power}
 use Rattle.ygg_sym.specs.Sites.{BelowFits, below_in}
-use Rattle.ygg_sym.specs.declared.below.SymBelow.{SymBelow}
-use Rattle.ygg_sym.specs.declared.below.SymBelow.TheVariants.{Disk, Layer}
+use Rattle.ygg_sym_spec.specs.declared.below.SymBelow.{SymBelow}
+use Rattle.ygg_sym_spec.specs.declared.below.SymBelow.TheVariants.{Disk, Layer}
 
 -- the layer below is in order
 pub spec_serves : (l m : SymLayer) → BelowFits l (Layer m) → SpecServes m

@@ -8,10 +8,10 @@ use Rattle.ygg_syntax.specs.declared.tree.Block.{Block}
 use Rattle.ygg_syntax.specs.declared.tree.Declared.{Declared}
 use Rattle.ygg_sym_spec.specs.ygg_meaning.Environments.{Name, bind}
 use Rattle.ygg_sym_spec.specs.ygg_meaning.Meaning.{functions_of}
-use Rattle.ygg_sym_spec.specs.ygg_type_sound.Agrees.{Agrees}
-use Rattle.ygg_sym_spec.specs.ygg_type_sound.Blocks.{is_returned}
-use Rattle.ygg_sym_spec.specs.ygg_type_sound.Kinds.{keeps}
-use Rattle.ygg_sym_spec.specs.ygg_type_sound.Questions.{plain}
+use Rattle.ygg_sym_spec.specs.ygg_meaning_laws.Agrees.{Agrees}
+use Rattle.ygg_sym_spec.specs.ygg_meaning_laws.Blocks.{is_returned}
+use Rattle.ygg_sym_spec.specs.ygg_meaning_laws.Kinds.{keeps}
+use Rattle.ygg_sym_spec.specs.ygg_meaning_laws.Questions.{plain}
 use Rattle.ygg_sym_spec.specs.ygg_rules.declared.rule.RuleKind.{RuleKind}
 use Rattle.ygg_sym_spec.specs.ygg_bank.Makes.{Make}
 use Rattle.ygg_sym_spec.specs.ygg_bank.Nodes.{HasWidth, IsBank}
@@ -21,24 +21,24 @@ use Rattle.ygg_sym_spec.specs.ygg_bank.declared.node.Node.{Node}
 use Rattle.ygg_sym_spec.proofs.of_ygg_shape.Answered.{no_inputs, some_fit}
 use Rattle.ygg_sym_spec.specs.ygg_shape_cells.Terms.{worth}
 use Rattle.ygg_sym_spec.specs.ygg_shape_cells.declared.terms.SymValue.{SymValue}
-use Rattle.ygg_sym_spec.specs.ygg_direct.Direct.{room_of}
+use Rattle.ygg_sym_spec.specs.ygg_meaning_laws.Direct.{room_of}
 use Rattle.ygg_sym_spec.specs.ygg_sym_expr.Names.{SymEnv, sym_bind}
 use Rattle.ygg_sym_spec.specs.ygg_sym_expr.Meaning.{worths}
 use Rattle.ygg_sym_spec.specs.ygg_sym_runs.Lower.{SymMeaning, Stands}
 use Rattle.ygg_sym_spec.specs.ygg_sym_runs.Meaning.{AnswerShaped, answer_worth}
 use Rattle.ygg_sym_spec.specs.ygg_sym_runs.Runs.{SymMachine}
 use Rattle.ygg_sym_spec.proofs.of_ygg_sym_runs.Worths.{NameShaped}
-use Rattle.ygg_sym.specs.ygg_sym_disk.SymBelowLows.{LowShaped}
-use Rattle.ygg_sym.specs.ygg_sym_disk.StopTerms.{Stops, SymFallen, stop_whole}
-use Rattle.ygg_sym.specs.ygg_sym_disk.Wholes.{sym_whole}
-use Rattle.ygg_sym.proofs.of_ygg_sym_disk.Blocks.{values_worth}
-use Rattle.ygg_sym.proofs.of_ygg_sym_disk.Specs.{bound_worth, low_shaped}
-use Rattle.ygg_sym_spec.specs.ygg_sym_laws.Below.{machine_on, signatures_on, space_on, stops_on}
-use Rattle.ygg_sym_spec.specs.ygg_sym_laws.Means.{Begins, FallMeans, Values3, WholeMeans}
-use Rattle.ygg_sym_spec.specs.ygg_sym_laws.Typed.{BlockTyped}
-use Rattle.ygg_sym_spec.proofs.of_ygg_sym_laws.DiskFalls.{disk_falls}
-use Rattle.ygg_sym_spec.proofs.of_ygg_sym_laws.DiskWhole.{disk_whole}
-use Rattle.ygg_sym_spec.proofs.of_ygg_sym_laws.AnyLayer.{spec_falls, spec_whole}
+use Rattle.ygg_sym_stops.specs.ygg_sym_runs.Lows.{LowShaped}
+use Rattle.ygg_sym_stops.specs.ygg_sym_runs.StopTerms.{Stops, SymFallen, stop_whole}
+use Rattle.ygg_sym_stops.specs.ygg_sym_runs.Wholes.{sym_whole}
+use Rattle.ygg_sym_stops.proofs.of_ygg_sym_runs.Blocks.{values_worth}
+use Rattle.ygg_sym_stops.proofs.of_ygg_sym_runs.Specs.{bound_worth, low_shaped}
+use Rattle.ygg_sym_stops.specs.ygg_sym_runs.Below.{machine_on, signatures_on, space_on, stops_on}
+use Rattle.ygg_sym_stops.specs.ygg_sym_runs.Means.{Begins, FallMeans, Values3, WholeMeans}
+use Rattle.ygg_sym_stops.specs.ygg_sym_runs.Typed.{BlockTyped}
+use Rattle.ygg_sym_laws.proofs.DiskFalls.{disk_falls}
+use Rattle.ygg_sym_laws.proofs.DiskWhole.{disk_whole}
+use Rattle.ygg_sym_laws.proofs.AnyLayer.{spec_falls, spec_whole}
 use Rattle.ygg_sym.specs.Stopping as stopping
 use Rattle.ygg_sym.specs.Stopping.{Power}
 use Rattle.ygg_sym.specs.Falls.{IsFall}
@@ -49,8 +49,8 @@ use Rattle.ygg_sym.specs.Ends.{IsRun}
 use Rattle.ygg_sym.specs.declared.running.Ran.{Ran}
 use Rattle.ygg_sym.specs.Running.{CanRunBlock, CutIs, EndIs, EndStands, cut_of, run_of}
 use Rattle.ygg_sym.specs.Sites.{BelowFits, below_in}
-use Rattle.ygg_sym.specs.declared.below.SymBelow.{SymBelow}
-use Rattle.ygg_sym.specs.declared.below.SymBelow.TheVariants.{Disk, Layer}
+use Rattle.ygg_sym_spec.specs.declared.below.SymBelow.{SymBelow}
+use Rattle.ygg_sym_spec.specs.declared.below.SymBelow.TheVariants.{Disk, Layer}
 use Rattle.ygg_sym.specs.declared.runs.SymBlock.{SymBlock}
 use Rattle.ygg_sym.specs.declared.runs.SymCut.{SymCut}
 use Rattle.ygg_sym.specs.declared.runs.SymEnd.{SymEnd}

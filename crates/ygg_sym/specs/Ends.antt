@@ -7,8 +7,8 @@ use Rattle.ygg_sym_spec.specs.ygg_bank.declared.node.Node.{Node}
 use Rattle.ygg_sym_spec.specs.ygg_sym_expr.Names.{SymEnv}
 use Rattle.ygg_sym_spec.specs.ygg_sym_runs.Lower.{SymMeaning, KeepsSingle}
 use Rattle.ygg_sym_spec.specs.ygg_sym_runs.Ready.{terms_of}
-use Rattle.ygg_sym.specs.ygg_sym_disk.Wholes.{sym_whole}
-use Rattle.ygg_sym_spec.specs.ygg_sym_laws.Means.{values_in}
+use Rattle.ygg_sym_stops.specs.ygg_sym_runs.Wholes.{sym_whole}
+use Rattle.ygg_sym_stops.specs.ygg_sym_runs.Means.{values_in}
 use Rattle.ygg_sym.specs.declared.running.Ran.{Ran}
 
 module _ {S : Type 0} (M : SymMeaning S) (defs : List Def) (kinds : List RuleKind) where

@@ -7,7 +7,7 @@ use Rattle.ygg_sym_stops.specs.ygg_bank.Makes.{Make}
 use Rattle.ygg_sym_stops.specs.ygg_bank.Nodes.{HasWidth}
 use Rattle.ygg_sym_stops.specs.ygg_bank.declared.node.Id.{Id}
 use Rattle.ygg_sym_stops.specs.ygg_bank.declared.node.Node.{Node}
-use Rattle.ygg_sym_stops.specs.ygg_direct.Direct.{room_of}
+use Rattle.ygg_sym_stops.specs.ygg_meaning_laws.Direct.{room_of}
 use Rattle.ygg_sym_stops.specs.ygg_sym_expr.Names.{SymEnv}
 use Rattle.ygg_sym_stops.specs.ygg_sym_runs.Lower.{SymMeaning, KeepsSingle}
 use Rattle.ygg_sym_stops.specs.ygg_sym_runs.Ready.{terms_of}

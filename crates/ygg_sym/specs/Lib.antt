@@ -12,25 +12,25 @@ pub use Rattle.ygg_sym_spec.specs.ygg_sym_runs
 pub use Rattle.ygg_sym_spec.specs.ygg_sym_expr_proofs_Grows
 pub use Rattle.ygg_sym_spec.specs.ygg_sym_expr_proofs_Shaped
 pub use Rattle.ygg_sym_spec.specs.ygg_sym_expr
-pub use Rattle.ygg_sym_spec.specs.ygg_sym_laws
+pub use Rattle.ygg_sym_laws.specs as ygg_sym_laws
 pub use Rattle.ygg_sym_spec.specs.ygg_syntax_count
-pub use Rattle.ygg_sym_spec.specs.ygg_type_sound_proofs_ProgressFits
-pub use Rattle.ygg_sym_spec.specs.ygg_type_sound
+pub use Rattle.ygg_sym_spec.specs.ygg_meaning_laws_proofs_ProgressFits
+pub use Rattle.ygg_sym_spec.specs.ygg_meaning_laws
 pub use Rattle.ygg_sym_spec.specs.ygg_type_rules
-pub mod Kept
-pub mod Sites
-pub mod Ends
-pub mod Running
 pub use Rattle.ygg_sym_stops.specs.Stopping
-pub mod Falls
-pub use Rattle.ygg_sym_spec.specs.ygg_sym_disk
-pub mod DiskFailing
-pub mod DiskFailingKeeps
+pub use Rattle.ygg_sym_disk.specs as ygg_sym_disk
 pub use Rattle.ygg_sym_spec.specs as ygg_sym_spec
 pub use Rattle.ygg_sym_spec.specs.Machine
 pub use Rattle.ygg_sym_spec.specs.declared.picks.SymPicks
 pub use Rattle.ygg_sym_spec.specs.declared.layer.SymLayer
 pub use Rattle.ygg_sym_spec.specs.Layers
+pub use Rattle.ygg_sym_spec.specs.Kept
+pub use Rattle.ygg_sym_spec.specs.Sites
+pub mod Ends
+pub mod Running
+pub mod Falls
+pub mod DiskFailing
+pub mod DiskFailingKeeps
 pub mod SpecFailing
 pub mod Growing
 pub mod SpecFailingKeeps

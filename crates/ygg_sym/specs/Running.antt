@@ -1,7 +1,7 @@
 -- Runs of a layer's blocks on what the layer is specified over, in code.
 use Rattle.std.specs.Prelude.{◌≡◌, ℕ, IsTrue, List}
 use Rattle.ygg_syntax.specs.declared.grammar.BlockKind.TheVariants.{Impl}
-use Rattle.ygg_sym_spec.specs.ygg_type_sound.Blocks.{is_returned}
+use Rattle.ygg_sym_spec.specs.ygg_meaning_laws.Blocks.{is_returned}
 use Rattle.ygg_sym_spec.specs.ygg_rules.declared.rule.RuleKind.{RuleKind}
 use Rattle.ygg_sym_spec.specs.ygg_bank.Makes.{Make}
 use Rattle.ygg_sym_spec.specs.ygg_bank.Values.{Inputs, Values, Fits}
@@ -9,12 +9,12 @@ use Rattle.ygg_sym_spec.specs.ygg_bank.declared.node.Node.{Node}
 use Rattle.ygg_sym_spec.specs.ygg_shape_cells.declared.terms.SymValue.{SymValue}
 use Rattle.ygg_sym_spec.specs.ygg_sym_expr.Names.{sym_bind}
 use Rattle.ygg_sym_spec.specs.ygg_sym_runs.Meaning.{AnswerShaped, answer_worth}
-use Rattle.ygg_sym.specs.ygg_sym_disk.SymBelowLows.{LowShaped}
-use Rattle.ygg_sym.specs.ygg_sym_disk.StopTerms.{SymFallen}
-use Rattle.ygg_sym.specs.ygg_sym_disk.Wholes.{SymFinish}
-use Rattle.ygg_sym_spec.specs.ygg_sym_laws.Below.{cut_made, run_made, signatures_on}
-use Rattle.ygg_sym_spec.specs.ygg_sym_laws.Means.{values_in}
-use Rattle.ygg_sym_spec.specs.ygg_sym_laws.Typed.{BlockTyped}
+use Rattle.ygg_sym_stops.specs.ygg_sym_runs.Lows.{LowShaped}
+use Rattle.ygg_sym_stops.specs.ygg_sym_runs.StopTerms.{SymFallen}
+use Rattle.ygg_sym_stops.specs.ygg_sym_runs.Wholes.{SymFinish}
+use Rattle.ygg_sym_stops.specs.ygg_sym_runs.Below.{cut_made, run_made, signatures_on}
+use Rattle.ygg_sym_stops.specs.ygg_sym_runs.Means.{values_in}
+use Rattle.ygg_sym_stops.specs.ygg_sym_runs.Typed.{BlockTyped}
 use Rattle.ygg_sym.specs.Layers.{closed, terms_in}
 use Rattle.ygg_sym.specs.Sites.{BelowFits, below_in}
 use Rattle.ygg_sym.specs.declared.runs.SymBlock.{SymBlock}

@@ -2,13 +2,13 @@
 
 ghost use Rattle.std.specs.Prelude.{◌≡◌, ◌+◌, IfOk};
 ghost use Rattle.ygg_sym_spec.specs.ygg_meaning.Refines.{OnDisk, OnSpec};
-ghost use Rattle.ygg_sym.specs.ygg_sym_disk.SpecCuts.{choice_room, fall_places, fall_room};
-ghost use Rattle.ygg_sym_spec.specs.ygg_sym_laws.Below.{failure_room, places_on};
+ghost use Rattle.ygg_sym_stops.specs.ygg_sym_runs.SpecCuts.{choice_room, fall_places, fall_room};
+ghost use Rattle.ygg_sym_stops.specs.ygg_sym_runs.Below.{failure_room, places_on};
 ghost use Rattle.ygg_sym.specs.Layers.{closed};
 ghost use Rattle.ygg_sym.specs.Sites.{below_in};
 
-use crate::below::SymBelow;
-use ygg_sym_spec::{NoMemory, SymDisk, SymLayer, SymSpec, choices, room};
+use ygg_sym_disk::SymDisk;
+use ygg_sym_spec::{NoMemory, SymBelow, SymLayer, SymSpec, choices, room};
 use ygg_syntax::tree::{Block, DiskText, Operation};
 
 /// How many places a block has, each call of it as many as the machine below says. Its only error is out of memory: no machine has memory for so

@@ -9,16 +9,17 @@ ghost use Rattle.ygg_sym_spec.specs.ygg_sym_runs.WholeReady.{CanWhole};
 ghost use Rattle.ygg_sym.specs.Falls.{IsFall};
 ghost use Rattle.ygg_sym.specs.Ends.{IsRun};
 ghost use Rattle.ygg_sym.specs.Running.{CanRunBlock, CutIs, EndIs, cut_of, run_of};
-ghost use Rattle.ygg_sym.specs.declared.below.SymBelow.TheVariants.{Disk, Layer};
+ghost use Rattle.ygg_sym_spec.specs.declared.below.SymBelow.TheVariants.{Disk, Layer};
 
 use crate::disk_stops::DiskStops;
 use crate::runs::{SymBlock, SymCut, SymEnd};
 use crate::spec_stops::SpecStops;
 use crate::stopping::cut_short;
 use std::alloc::Global;
+use ygg_sym_disk::{Lows, SymDisk};
 use ygg_sym_spec::{
-    Bank, Book, Lows, NoMemory, SymBinding, SymDisk, SymLayer, SymLower, SymRunner, SymSpec,
-    SymValue, SymValues, bind, values_of, whole,
+    Bank, Book, NoMemory, SymBinding, SymLayer, SymLower, SymRunner, SymSpec, SymValue, SymValues,
+    bind, values_of, whole,
 };
 use ygg_sym_stops::{StopEnd, SymStops};
 use ygg_syntax::tree::{Block, Declared, DiskText};

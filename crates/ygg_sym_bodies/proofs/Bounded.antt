@@ -22,9 +22,9 @@ use Rattle.ygg_sym_runs.proofs.SpecKeeps.{block_keeps}
 use Rattle.ygg_sym_laws.specs.Below.{failure_room, places_on, signatures_on, zeros_made}
 use Rattle.ygg_sym_laws.specs.Means.{Values3, terms_of}
 use Rattle.ygg_sym_laws.specs.Typed.{BlockTyped, SpecBlockTyped}
-use Rattle.ygg_sym_laws.proofs.Zeros.{zeros_made_keep}
+use Rattle.ygg_sym_runs.proofs.DeclaredZeros.{zeros_made_keep}
 use Rattle.ygg_sym_spec.specs.Picking.{bit_in}
-use Rattle.ygg_fronts.specs.SymLaws.{OverTyped}
+use Rattle.ygg_sym_laws.specs.SymLaws.{OverTyped}
 use Rattle.ygg_sym_bodies.specs.Runs.{cut_body, cut_inputs, whole_body, whole_inputs}
 use Rattle.ygg_sym_bodies.specs.declared.state.SymState.{SymState}
 use Rattle.ygg_sym_bodies.proofs.Laws.{fall_means, loss_means, whole_means}

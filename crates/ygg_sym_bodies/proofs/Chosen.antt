@@ -21,11 +21,11 @@ use Rattle.ygg_bank.specs.Makes.{Make}
 use Rattle.ygg_bank.specs.Values.{Inputs, Values, Fits}
 use Rattle.ygg_bank.specs.declared.node.Id.{Id}
 use Rattle.ygg_bank.specs.declared.node.Node.{Node}
-use Rattle.ygg_direct.specs.Acts.{Taken}
-use Rattle.ygg_direct.specs.SpecActs.{Ran, block_ran}
-use Rattle.ygg_direct.proofs.Placing.{taken_self}
-use Rattle.ygg_direct.proofs.SpecActed.{block_whole}
-use Rattle.ygg_direct.proofs.SpecServes.{ran_alone}
+use Rattle.ygg_meaning_laws.specs.Acts.{Taken}
+use Rattle.ygg_meaning_laws.specs.SpecActs.{Ran, block_ran}
+use Rattle.ygg_meaning_laws.proofs.Placing.{taken_self}
+use Rattle.ygg_meaning_laws.proofs.SpecActed.{block_whole}
+use Rattle.ygg_meaning_laws.proofs.SpecServes.{ran_alone}
 use Rattle.ygg_sym_expr.specs.Meaning.{Grows}
 use Rattle.ygg_sym_expr.specs.Names.{sym_bind}
 use Rattle.ygg_sym_runs.specs.Meaning.{AnswerShaped, answer_worth}
@@ -39,8 +39,8 @@ use Rattle.ygg_sym_expr.proofs.Grows.{FunctionsGrow, functions_grow}
 use Rattle.ygg_sym_expr.proofs.Values.{FunctionsMean}
 use Rattle.ygg_sym_laws.specs.Means.{terms_of}
 use Rattle.ygg_sym_laws.specs.Typed.{SpecBlockTyped}
-use Rattle.ygg_fronts.specs.Taking.{block_takes}
-use Rattle.ygg_fronts.proofs.Spec.{block_named}
+use Rattle.ygg_sym_laws.specs.Taking.{block_takes}
+use Rattle.ygg_sym_laws.proofs.Spec.{block_named}
 use Rattle.ygg_sym_bodies.specs.Runs.{Ending, chosen}
 use Rattle.ygg_sym_bodies.specs.Sites.{IsShaped, Site}
 use Rattle.ygg_sym_bodies.specs.Worths.{Chooses, SameBits, args_worth, vars_worth}

@@ -32,11 +32,11 @@ use Rattle.ygg_sym_runs.proofs.Specs.{input_pick_means}
 use Rattle.ygg_sym_laws.specs.Below.{failure_room, lost_made, signatures_on, zeros_made}
 use Rattle.ygg_sym_laws.specs.Means.{Begins, Values3, terms_of}
 use Rattle.ygg_sym_laws.specs.Typed.{BlockTyped, SpecBlockTyped}
-use Rattle.ygg_sym_laws.proofs.Zeros.{zeros_made_grow}
-use Rattle.ygg_fronts.specs.Fronts.{loss_picks}
-use Rattle.ygg_fronts.specs.Laws.{FallsThere}
-use Rattle.ygg_fronts.specs.SymLaws.{OverTyped}
-use Rattle.ygg_fronts.proofs.AnyLayer.{falls_are_named, loss_is_named}
+use Rattle.ygg_sym_runs.proofs.DeclaredZeros.{zeros_made_grow}
+use Rattle.ygg_sym_laws.specs.Fronts.{loss_picks}
+use Rattle.ygg_sym_laws.specs.FrontLaws.{FallsThere}
+use Rattle.ygg_sym_laws.specs.SymLaws.{OverTyped}
+use Rattle.ygg_sym_laws.proofs.FrontAnyLayer.{falls_are_named, loss_is_named}
 use Rattle.ygg_sym_bodies.specs.Runs.{Ending, IsMade, calls_of, cut_body}
 use Rattle.ygg_sym_bodies.specs.Sites.{IsShaped, Site}
 use Rattle.ygg_sym_bodies.specs.Worths.{AreWorth, CutBits, CutsAsAny, CutsAsNamed, SameBits, args_worth, below_worth, fall_takes, stop_at, vars_worth}

@@ -23,7 +23,7 @@ use Rattle.ygg_sym_laws.proofs.DiskFalls.{disk_falls}
 use Rattle.ygg_sym_laws.proofs.Loss.{disk_loss}
 use Rattle.ygg_sym_laws.proofs.DiskWhole.{disk_whole}
 use Rattle.ygg_sym_laws.proofs.AnyLayer.{spec_falls, spec_loss, spec_whole}
-use Rattle.ygg_fronts.specs.SymLaws.{OverTyped}
+use Rattle.ygg_sym_laws.specs.SymLaws.{OverTyped}
 use Rattle.ygg_sym_bodies.specs.Runs.{pick_made}
 use Rattle.ygg_sym_bodies.specs.Worths.{bits_named}
 

@@ -11,8 +11,8 @@ use Rattle.ygg_meaning.specs.Refines.{OnDisk, OnSpec}
 use Rattle.ygg_meaning.specs.Stack.{tables_of}
 use Rattle.ygg_eval_block.specs.Layers.{below_at, closed_at, variables_at, variables_from}
 use Rattle.ygg_sym.specs.Sites.{SameDefs}
-use Rattle.ygg_sym.specs.declared.below.SymBelow.{SymBelow}
-use Rattle.ygg_sym.specs.declared.below.SymBelow.TheVariants as on
+use Rattle.ygg_sym_spec.specs.declared.below.SymBelow.{SymBelow}
+use Rattle.ygg_sym_spec.specs.declared.below.SymBelow.TheVariants as on
 use Rattle.ygg_sym_spec.specs.declared.layer.SymLayer.{SymLayer}
 use Rattle.ygg_sym_bodies.specs.Places.{HasDefs}
 

@@ -16,11 +16,11 @@ use Rattle.ygg_meaning.specs.Obligations.{Halt}
 use Rattle.ygg_meaning.specs.Progress.{Asks, Call, Eval, Goes, Point, Question, Waits, ended, in_turn, run_of}
 use Rattle.ygg_meaning.specs.Refines.{Below, machine_below}
 use Rattle.ygg_meaning.specs.Runs.{Dialogue, FallsAt, Reaches, WholeCall, answers_of, notes_of}
-use Rattle.ygg_type_sound.proofs.Tests.{left as first_of}
-use Rattle.ygg_type_sound.proofs.Asking.{statements_known}
+use Rattle.ygg_meaning_laws.proofs.Tests.{left as first_of}
+use Rattle.ygg_meaning_laws.proofs.Asking.{statements_known}
 use Rattle.ygg_sym_runs.specs.Stops.{halt}
 use Rattle.ygg_sym_laws.specs.Typed.{SpecBlockTyped}
-use Rattle.ygg_fronts.specs.Laws.{FallsThere}
+use Rattle.ygg_sym_laws.specs.FrontLaws.{FallsThere}
 
 -- power fails at the end of a block that has made no call
 pub at_end : (G : Below) (L : ClosedLayer) (b : Block) (vars args low : Env) (picks : Picks) (fallen : Env) →

@@ -3,7 +3,7 @@ use Rattle.std.proofs.Common.{◌≡◌, ℕ, Bool, true, false, List, Option, S
 use Rattle.ygg_syntax.specs.declared.tree.Def.{Def}
 use Rattle.ygg_syntax.specs.declared.tree.File.{File}
 use Rattle.ygg_meaning.specs.Machine.{Picks}
-use Rattle.ygg_type_sound.specs.Kinds.{may_call}
+use Rattle.ygg_meaning_laws.specs.Kinds.{may_call}
 use Rattle.ygg_rules.specs.declared.rule.RuleKind.{RuleKind}
 use Rattle.ygg_bank.specs.Inputs.{InputsBelow}
 use Rattle.ygg_bank.specs.Making.{made}
@@ -18,7 +18,7 @@ use Rattle.ygg_eval_block.specs.declared.body.Body.{Body}
 use Rattle.ygg_eval_block.specs.declared.body.Part.{Part}
 use Rattle.ygg_eval_block.specs.declared.body.Part.TheVariants.{Start, Spec, OnCrash, Crash, Format, Impl, Tick, Recover}
 use Rattle.ygg_sym_laws.specs.Below.{zeros_made}
-use Rattle.ygg_fronts.specs.SymLaws.{OverTyped}
+use Rattle.ygg_sym_laws.specs.SymLaws.{OverTyped}
 use Rattle.ygg_sym_spec.specs.Layers.{closed}
 use Rattle.ygg_sym.specs.Running.{CanRunBlock}
 use Rattle.ygg_sym.specs.Sites.{below_in}

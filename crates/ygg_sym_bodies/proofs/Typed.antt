@@ -16,7 +16,7 @@ use Rattle.ygg_meaning.specs.Layer.{ClosedLayer}
 use Rattle.ygg_meaning.specs.Meaning.{functions_of}
 use Rattle.ygg_meaning.specs.Refines.{Below}
 use Rattle.ygg_meaning.specs.Stack.{Layers, below_of, layers_of}
-use Rattle.ygg_type_sound.specs.Kinds.{may_call}
+use Rattle.ygg_meaning_laws.specs.Kinds.{may_call}
 use Rattle.ygg_eval_block.specs.Bodies.{IsBlock, arguments_in, block_in, kind_of, variables_in}
 use Rattle.ygg_eval_block.specs.Layers.{below_at, closed_at, variables_at}
 use Rattle.ygg_eval_block.specs.declared.body.Body.{Body}

@@ -28,8 +28,8 @@ use Rattle.ygg_sym_runs.proofs.Lows.{low_wider}
 use Rattle.ygg_sym_laws.specs.Below.{signatures_on}
 use Rattle.ygg_sym_laws.specs.Means.{Begins, Values3}
 use Rattle.ygg_sym_laws.specs.Typed.{BlockTyped, SpecBlockTyped}
-use Rattle.ygg_fronts.specs.SymLaws.{OverTyped}
-use Rattle.ygg_fronts.proofs.AnyLayer.{runs_are_named}
+use Rattle.ygg_sym_laws.specs.SymLaws.{OverTyped}
+use Rattle.ygg_sym_laws.proofs.FrontAnyLayer.{runs_are_named}
 use Rattle.ygg_sym_bodies.specs.Runs.{Ending, IsMade, pick_made, places_of, whole_body}
 use Rattle.ygg_sym_bodies.specs.Sites.{IsShaped, Site}
 use Rattle.ygg_sym_bodies.specs.Worths.{

@@ -4,7 +4,7 @@ use Rattle.ygg_syntax.specs.declared.grammar.BlockKind.TheVariants.{Impl}
 use Rattle.ygg_syntax.specs.declared.tree.Declared.{Declared}
 use Rattle.ygg_type_rules.specs.Definitions.{definitions_errors}
 use Rattle.ygg_type_rules.specs.TypeErrors.{none}
-use Rattle.ygg_type_sound.specs.Kinds.{may_call}
+use Rattle.ygg_meaning_laws.specs.Kinds.{may_call}
 use Rattle.ygg_bank.specs.declared.node.Node.{Node}
 use Rattle.ygg_sym_laws.specs.Below.{signatures_on}
 use Rattle.ygg_sym_laws.specs.Typed.{BlockTyped, SpecBlockTyped}

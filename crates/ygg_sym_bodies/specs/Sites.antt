@@ -8,7 +8,7 @@ use Rattle.ygg_syntax.specs.declared.tree.Layer.{Layer}
 use Rattle.ygg_meaning.specs.Layer.{ClosedLayer}
 use Rattle.ygg_meaning.specs.Machine.{Picks}
 use Rattle.ygg_meaning.specs.Refines.{Below}
-use Rattle.ygg_type_sound.specs.Kinds.{may_call, may_choose}
+use Rattle.ygg_meaning_laws.specs.Kinds.{may_call, may_choose}
 use Rattle.ygg_bank.specs.declared.node.Node.{Node}
 use Rattle.ygg_sym_runs.specs.Lows.{LowShaped}
 use Rattle.ygg_eval_block.specs.Bodies.{IsBlock, arguments_in, kind_of, variables_in}

@@ -16,9 +16,9 @@ use Rattle.ygg_sym_runs.specs.Lows.{low_worth}
 use Rattle.ygg_sym_runs.specs.Stops.{halt}
 use Rattle.ygg_sym_laws.specs.Below.{failure_room}
 use Rattle.ygg_sym_spec.specs.Picking.{bit_in}
-use Rattle.ygg_fronts.specs.Fronts.{fall_picks, loss_picks, run_picks, run_stop}
-use Rattle.ygg_fronts.specs.Laws.{FallsThere}
-use Rattle.ygg_fronts.specs.Taking.{block_takes}
+use Rattle.ygg_sym_laws.specs.Fronts.{fall_picks, loss_picks, run_picks, run_stop}
+use Rattle.ygg_sym_laws.specs.FrontLaws.{FallsThere}
+use Rattle.ygg_sym_laws.specs.Taking.{block_takes}
 use Rattle.ygg_sym_bodies.specs.Runs.{calls_of, places_of}
 use Rattle.ygg_sym_bodies.specs.Sites.{Site}
 use Rattle.ygg_sym_bodies.specs.declared.state.SymRun.{SymRun}

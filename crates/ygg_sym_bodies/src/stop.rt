@@ -18,7 +18,8 @@ use ygg_bank::{Bank, NoMemory};
 use ygg_eval_block::{Body, Part, variables_of};
 use ygg_oblige::tables;
 use ygg_rules::Book;
-use ygg_sym::{SymBlock, zeros};
+use ygg_sym::SymBlock;
+use ygg_sym_spec::zeros;
 use ygg_type::Typed;
 
 /// A run that power cuts of a block of a layer that is this part of it.

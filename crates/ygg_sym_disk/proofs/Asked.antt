@@ -2,7 +2,7 @@
 use Rattle.std.proofs.Common.{◌≡◌, ℕ, Some, List, [], ◌∷◌, map, sym, subst, Result, Ok, Err, OnOk, Bor}
 use Rattle.ygg_syntax.specs.declared.tree.DiskText.{DiskText}
 use Rattle.ygg_sym_runs.specs.ygg_type_rules.Files.{disk_operations}
-use Rattle.ygg_sym_runs.specs.ygg_direct_proofs_DiskServes.{fitting_call}
+use Rattle.ygg_sym_runs.specs.ygg_meaning_laws_proofs_DiskServes.{fitting_call}
 use Rattle.ygg_sym_runs.specs.ygg_rules.declared.rule.RuleKind.{RuleKind}
 use Rattle.ygg_sym_runs.specs.ygg_bank_proofs_Widths.{stands}
 use Rattle.ygg_sym_runs.specs.ygg_bank.Nodes.{IsBank}
@@ -10,21 +10,16 @@ use Rattle.ygg_sym_runs.specs.ygg_bank.Values.{Inputs, Values, value_of}
 use Rattle.ygg_sym_runs.specs.ygg_bank.declared.node.Id.{Id}
 use Rattle.ygg_sym_runs.specs.ygg_bank.declared.node.Node.{Node}
 use Rattle.ygg_sym_runs.proofs.of_ygg_shape.Answered.{no_inputs, some_fit}
-use Rattle.ygg_sym_runs.specs.ygg_shape.Wholes.{AllAlike}
-use Rattle.ygg_sym_runs.specs.ygg_shape_cells.Terms.{AreShaped, worth}
+use Rattle.ygg_sym_runs.specs.ygg_shape_cells.Terms.{worth}
 use Rattle.ygg_sym_runs.specs.ygg_shape_cells.declared.terms.SymValue.{SymValue}
-use Rattle.ygg_syntax.specs.declared.tree.Declared.{Declared}
-use Rattle.ygg_sym_runs.specs.ygg_meaning.Shapes.{shape_in}
 use Rattle.ygg_sym_runs.specs.Lower.{CanAsk, KeepsSingle, SingleFrom, question_of}
 use Rattle.ygg_sym_runs.specs.declared.question.Awaited as asked
 use Rattle.ygg_sym_runs.specs.declared.question.Awaited.TheVariants as question
 use Rattle.ygg_sym_runs.specs.Runs.{SymQuestion}
 use Rattle.ygg_sym_runs.proofs.Singles.{single_stays, input_single}
 use Rattle.ygg_sym_runs.specs.Disks.{SymCall, Read, Write, Flush, sym_call, disk_handles}
-use Rattle.ygg_sym_runs.specs.Lows.{LowShaped, merge_lows}
 use Rattle.ygg_sym_runs.proofs.Disks.{CallShaped, ask_is}
 use Rattle.ygg_sym_runs.proofs.DiskKeeps.{disk_keeps}
-use Rattle.ygg_sym_runs.proofs.of_ygg_shape.Whole.{merged_all_keeps}
 use Rattle.ygg_sym_disk.specs.Asking.{CallStands}
 use Rattle.ygg_sym_disk.specs.Means.{disk_meaning}
 use Rattle.ygg_sym_disk.specs.declared.lower.SymDisk.{SymDisk}
@@ -47,30 +42,9 @@ can_call m q name xs tables nodes b e may =
     let a = ask_is no_inputs v [] m.disk right name.now xs.now nodes f.operation h can.shaped f.found f.fit in
     subst (CallStands m.disk nodes) (sym a.terms) (shaped_stands no_inputs v [] m.disk nodes a.call a.shaped)
 
--- two states of the same names are alike
-pub lows_alike : (nodes : List Node) (names : List Declared) (xs ys : List SymValue) → LowShaped nodes names xs → LowShaped nodes names ys →
-    AllAlike nodes xs ys
-lows_alike nodes names xs ys p q = record {
-  shapes = map (λ (d : Declared). shape_in d.shape) names;
-  ones_are = all names xs p;
-  twos_are = all names ys q;
-}
-  where
-    all : (names : List Declared) (xs : List SymValue) → LowShaped nodes names xs → AreShaped nodes (map (λ (d : Declared). shape_in d.shape) names) xs
-    all [] [] p = tt
-    all [] (x ∷ xs) p = absurd p
-    all (d ∷ names) [] p = absurd p
-    all (d ∷ names) (x ∷ xs) p = (p.0, all names xs p.1)
-
 -- the input of a question's place, and no others, come
 pub handled_single : {E A : Type 0} (kinds : List RuleKind) (m : SymDisk) (number : ℕ) (q : SymQuestion) (tables : List SymValue) (old new : List Node)
     (r : Result A E) → OnOk r (new ≡ (disk_handles kinds m.disk.kind number q tables old).nodes) → OnOk r (KeepsSingle old new)
 handled_single kinds m number q tables old new (Ok a) e = λ first h. subst (SingleFrom first) (sym e)
     (disk_keeps kinds (SingleFrom first) (single_stays kinds first) number (λ nodes p. input_single kinds first number nodes p) m.disk.kind q tables old h)
 handled_single kinds m number q tables old new (Err x) e = tt
-
--- no input comes as states are merged
-pub merged_single : (kinds : List RuleKind) (t : Id) (xs ys : List SymValue) (old new : List Node) → new ≡ (merge_lows kinds t xs ys old).nodes →
-    KeepsSingle old new
-merged_single kinds t xs ys old new e = λ first h. subst (SingleFrom first) (sym e)
-    (merged_all_keeps kinds (SingleFrom first) (single_stays kinds first) t xs ys old h)

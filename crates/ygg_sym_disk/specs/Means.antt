@@ -6,7 +6,7 @@ use Rattle.ygg_sym_runs.specs.ygg_type_rules.Files.{disk_errors, disk_operations
 use Rattle.ygg_sym_runs.specs.ygg_meaning.Environments.{Env}
 use Rattle.ygg_sym_runs.specs.ygg_meaning.Machine.{State}
 use Rattle.ygg_sym_runs.specs.ygg_meaning.Stack.{tables_of}
-use Rattle.ygg_sym_runs.specs.ygg_direct.RunPlaces.{disk_space}
+use Rattle.ygg_sym_runs.specs.ygg_meaning_laws.RunPlaces.{disk_space}
 use Rattle.ygg_sym_runs.specs.ygg_shape_cells.declared.terms.SymValue.{SymValue}
 use Rattle.ygg_sym_runs.specs.Lower.{SymMeaning}
 use Rattle.ygg_sym_runs.specs.Disks.{sym_disk}

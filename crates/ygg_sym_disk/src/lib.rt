@@ -3,13 +3,12 @@
 
 mod asking;
 mod lower;
-mod lows;
 mod machine;
 mod power;
 mod tables;
 
 pub use lower::SymDisk;
-pub use lows::{Lows, merge_lows};
 pub use machine::handle;
 pub use power::{cut, lose};
+pub use ygg_sym_runs::low_states::Lows;
 pub use ygg_sym_runs::{Awaited, Bank, Book, Id, NoMemory, SymLower, SymValue};

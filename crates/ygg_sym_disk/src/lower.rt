@@ -1,8 +1,8 @@
 //! A disk as the machine on which a block runs.
 
-use crate::lows::{Lows, merge_lows};
 use crate::machine::handle;
 use std::alloc::Global;
+use ygg_sym_runs::low_states::{Lows, merge_lows};
 use ygg_sym_runs::{Awaited, Bank, Book, Id, NoMemory, SymLower, SymValue};
 use ygg_syntax::tree::DiskText;
 

@@ -2,7 +2,7 @@
 use Rattle.std.proofs.Common.{◌≡◌, ℕ, ◌<◌, ◌≤◌, List, map, replicate, length, get_or, All, refl, sym, ap, ◌∙◌, subst}
 use Rattle.ygg_value.specs.Shapes.{Within}
 use Rattle.ygg_value.specs.declared.operation.Op.{Op}
-use Rattle.ygg_eval_expr.specs.ygg_type_sound_proofs_Rules.{ConstantParts}
+use Rattle.ygg_eval_expr.specs.ygg_meaning_laws_proofs_Rules.{ConstantParts}
 use Rattle.ygg_syntax.specs.declared.tree.Def.{Def}
 use Rattle.ygg_syntax.specs.declared.tree.Place.{Place}
 use Rattle.ygg_syntax.specs.declared.tree.Name.{Name}

@@ -32,12 +32,12 @@ use Rattle.ygg_syntax.specs.declared.tree.Def.{Def}
 use Rattle.ygg_value.specs.declared.row.Value.{Value}
 use Rattle.ygg_eval_expr.specs.ygg_syntax_count.Weights.{weights_of, expr_weight}
 use Rattle.ygg_eval_expr.specs.ygg_type_rules.Names.{Named, look_up}
-use Rattle.ygg_eval_expr.specs.ygg_type_sound.Signature.{Signature}
-use Rattle.ygg_eval_expr.specs.ygg_type_sound.TypeErrors.{none}
-use Rattle.ygg_eval_expr.specs.ygg_type_sound.Shapes.{shape_of}
-use Rattle.ygg_eval_expr.specs.ygg_type_sound.Scopes.{Scope}
-use Rattle.ygg_eval_expr.specs.ygg_type_sound.Expressions.{typing, wanted, expected_errors}
-use Rattle.ygg_eval_expr.specs.ygg_type_sound.Definitions.{
+use Rattle.ygg_eval_expr.specs.ygg_meaning_laws.Signature.{Signature}
+use Rattle.ygg_eval_expr.specs.ygg_meaning_laws.TypeErrors.{none}
+use Rattle.ygg_eval_expr.specs.ygg_meaning_laws.Shapes.{shape_of}
+use Rattle.ygg_eval_expr.specs.ygg_meaning_laws.Scopes.{Scope}
+use Rattle.ygg_eval_expr.specs.ygg_meaning_laws.Expressions.{typing, wanted, expected_errors}
+use Rattle.ygg_eval_expr.specs.ygg_meaning_laws.Definitions.{
   with_parameter,
   with_parameters,
   definition_signature,
@@ -47,20 +47,20 @@ use Rattle.ygg_eval_expr.specs.ygg_type_sound.Definitions.{
   with_definitions,
   definitions_errors,
 }
-use Rattle.ygg_eval_expr.specs.ygg_type_sound.Environments.{Name, bind}
-use Rattle.ygg_eval_expr.specs.ygg_type_sound.Meaning.{functions_from, functions_of, value_with}
-use Rattle.ygg_eval_expr.specs.ygg_type_sound.Fitting.{HasShape, all_fit}
-use Rattle.ygg_eval_expr.specs.ygg_type_sound.Agrees.{Agrees}
-use Rattle.ygg_eval_expr.specs.ygg_type_sound_proofs_Tests.{left, right, bytes_same}
-use Rattle.ygg_eval_expr.specs.ygg_type_sound_proofs_Names.{or_else, look_up_append, absent, added_new}
-use Rattle.ygg_eval_expr.specs.ygg_type_sound_proofs_Parameters.{type_is}
-use Rattle.ygg_eval_expr.specs.ygg_type_sound_proofs_Definitions.{MeetsAll, DefinitionParts, definition_parts, called, body_agrees, expected_has}
+use Rattle.ygg_eval_expr.specs.ygg_meaning_laws.Environments.{Name, bind}
+use Rattle.ygg_eval_expr.specs.ygg_meaning_laws.Meaning.{functions_from, functions_of, value_with}
+use Rattle.ygg_eval_expr.specs.ygg_meaning_laws.Fitting.{HasShape, all_fit}
+use Rattle.ygg_eval_expr.specs.ygg_meaning_laws.Agrees.{Agrees}
+use Rattle.ygg_eval_expr.specs.ygg_meaning_laws_proofs_Tests.{left, right, bytes_same}
+use Rattle.ygg_eval_expr.specs.ygg_meaning_laws_proofs_Names.{or_else, look_up_append, absent, added_new}
+use Rattle.ygg_eval_expr.specs.ygg_meaning_laws_proofs_Parameters.{type_is}
+use Rattle.ygg_eval_expr.specs.ygg_meaning_laws_proofs_Definitions.{MeetsAll, DefinitionParts, definition_parts, called, body_agrees, expected_has}
 use Rattle.ygg_shape.specs.ygg_rules.declared.rule.RuleKind.{RuleKind}
 use Rattle.ygg_shape.specs.ygg_bank.Values.{Inputs, Values}
 use Rattle.ygg_shape.specs.ygg_bank.declared.node.Node.{Node}
 use Rattle.ygg_shape.specs.ygg_shape_cells.Terms.{worth}
 use Rattle.ygg_shape.specs.ygg_shape_cells.declared.terms.SymValue.{SymValue}
-use Rattle.ygg_eval_expr.specs.ygg_type_sound.MeaningShapes.{shape_in}
+use Rattle.ygg_eval_expr.specs.ygg_meaning_laws.MeaningShapes.{shape_in}
 use Rattle.ygg_sym_expr.specs.Names.{SymScope, sym_bind}
 use Rattle.ygg_sym_expr.specs.Exprs.{sym_value, sym_functions}
 use Rattle.ygg_sym_expr.specs.Meaning.{SomeShape, EnvShaped, ScopeShaped, Gives, worths, scope_worth, IsWorth}

@@ -3,7 +3,7 @@ use Rattle.std.proofs.Common.{ℕ, List, map}
 use Rattle.ygg_value.specs.declared.operation.Op.{Op}
 use Rattle.ygg_syntax.specs.declared.tree.Def.{Def}
 use Rattle.ygg_syntax.specs.declared.tree.Expr.{Expr}
-use Rattle.ygg_eval_expr.specs.ygg_type_sound.Environments.{Name}
+use Rattle.ygg_eval_expr.specs.ygg_meaning_laws.Environments.{Name}
 use Rattle.ygg_shape.specs.ygg_rules.declared.rule.RuleKind.{RuleKind}
 use Rattle.ygg_shape.specs.ygg_bank_proofs_Made.{made_grows}
 use Rattle.ygg_shape.specs.ygg_bank_proofs_Widths.{extends_self, extends_both}

@@ -11,7 +11,7 @@ use Rattle.ygg_syntax.specs.declared.tree.Quantifier.{Quantifier}
 use Rattle.ygg_syntax.specs.declared.tree.Quantifier.TheVariants as quantifier
 use Rattle.ygg_syntax.specs.declared.tree.Expr.{Expr}
 use Rattle.ygg_syntax.specs.declared.tree.Expr.TheVariants as tree
-use Rattle.ygg_eval_expr.specs.ygg_type_sound.Environments.{Name}
+use Rattle.ygg_eval_expr.specs.ygg_meaning_laws.Environments.{Name}
 use Rattle.ygg_shape.specs.ygg_rules.declared.rule.RuleKind.{RuleKind}
 use Rattle.ygg_shape.specs.ygg_bank_proofs_Widths.{width_is}
 use Rattle.ygg_shape.specs.ygg_bank.Makes.{Make}

@@ -9,17 +9,18 @@ use Rattle.ygg_syntax.specs.declared.tree.Quantifier.TheVariants.{All, Any}
 use Rattle.ygg_syntax.specs.declared.tree.Expr.{Expr, map-Expr}
 use Rattle.ygg_syntax.specs.declared.tree.Expr.TheOpen.{Expr-F}
 use Rattle.ygg_syntax.specs.declared.tree.Expr.TheFolds.{ind-Expr, fold-roll-Expr}
-use Rattle.ygg_eval_expr.specs.ygg_type_sound.Environments.{Name}
+use Rattle.ygg_eval_expr.specs.ygg_meaning_laws.Environments.{Name}
 use Rattle.ygg_shape.specs.ygg_rules.declared.rule.RuleKind.{RuleKind}
 use Rattle.ygg_shape.specs.ygg_bank.Makes.{Make}
 use Rattle.ygg_shape.specs.ygg_bank.declared.node.Id.{Id}
 use Rattle.ygg_shape.specs.ygg_bank.declared.node.Node.{Node}
 use Rattle.ygg_shape.specs.ygg_bank.declared.node.Node.TheVariants as node
 use Rattle.ygg_shape.specs.ygg_shape_words_proofs_Keeps.{Stays}
-use Rattle.ygg_shape.specs.ygg_shape_cells.Making.{compared}
+use Rattle.ygg_shape.specs.Comparing.{compared}
 use Rattle.ygg_shape.specs.ygg_shape_cells.declared.terms.SymValue.{SymValue}
 use Rattle.ygg_shape.specs.ygg_shape_cells.declared.terms.SymValue.TheVariants.{Word, Row, Table}
-use Rattle.ygg_shape.proofs.Keeps.{merged_keeps, compared_keeps, selected_keeps}
+use Rattle.ygg_shape.specs.ygg_shape_cells_proofs_Keeps.{merged_keeps, selected_keeps}
+use Rattle.ygg_shape.proofs.ComparedKeeps.{compared_keeps}
 use Rattle.ygg_shape.specs.RowPlaces.{singles}
 use Rattle.ygg_sym_expr.specs.Names.{SymScope, sym_bind}
 use Rattle.ygg_sym_expr.specs.Exprs.{

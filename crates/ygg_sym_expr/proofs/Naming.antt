@@ -2,7 +2,7 @@
 use Rattle.std.proofs.Common.{◌≡◌, ℕ, Bool, true, false, cond, List, [], ◌∷◌, ◌++◌, Some, None, refl, ◌∙◌}
 use Rattle.std.specs.Str.{bytes_eq}
 use Rattle.ygg_eval_expr.specs.ygg_type_rules.Names.{look_up as found}
-use Rattle.ygg_eval_expr.specs.ygg_type_sound_proofs_Names.{still_found, new_found}
+use Rattle.ygg_eval_expr.specs.ygg_meaning_laws_proofs_Names.{still_found, new_found}
 use Rattle.ygg_shape.specs.ygg_shape_cells.declared.terms.SymValue.{SymValue}
 use Rattle.ygg_sym_expr.specs.Names.{SymEnv, no_term, sym_look_up}
 

@@ -38,13 +38,13 @@ use Rattle.ygg_value.specs.declared.row.Value.{Value}
 use Rattle.ygg_value.specs.declared.row.Value.TheVariants as value
 use Rattle.ygg_value.specs.declared.shape.Shape.{Shape}
 use Rattle.ygg_value.specs.declared.shape.Shape.TheVariants as shape
-use Rattle.ygg_eval_expr.specs.ygg_type_sound.Shapes.{is_word, width_of}
-use Rattle.ygg_eval_expr.specs.ygg_type_sound.Comparisons.{operator_error}
-use Rattle.ygg_eval_expr.specs.ygg_type_sound_proofs_Tests.{wanted_is}
-use Rattle.ygg_eval_expr.specs.ygg_type_sound_proofs_Fits.{word_wide}
-use Rattle.ygg_eval_expr.specs.ygg_type_sound_proofs_Rules.{Operands, operands, PickParts}
-use Rattle.ygg_eval_expr.specs.ygg_type_sound_proofs_Lists.{IsWordOf, RowParts}
-use Rattle.ygg_eval_expr.specs.ygg_type_sound.Meaning.{is_one, row_of, filled}
+use Rattle.ygg_eval_expr.specs.ygg_meaning_laws.Shapes.{is_word, width_of}
+use Rattle.ygg_eval_expr.specs.ygg_meaning_laws.Comparisons.{operator_error}
+use Rattle.ygg_eval_expr.specs.ygg_meaning_laws_proofs_Tests.{wanted_is}
+use Rattle.ygg_eval_expr.specs.ygg_meaning_laws_proofs_Fits.{word_wide}
+use Rattle.ygg_eval_expr.specs.ygg_meaning_laws_proofs_Rules.{Operands, operands, PickParts}
+use Rattle.ygg_eval_expr.specs.ygg_meaning_laws_proofs_Lists.{IsWordOf, RowParts}
+use Rattle.ygg_eval_expr.specs.ygg_meaning_laws.Meaning.{is_one, row_of, filled}
 use Rattle.ygg_shape.specs.ygg_rules.declared.rule.RuleKind.{RuleKind}
 use Rattle.ygg_shape.specs.ygg_bank_proofs_Made.{made_grows}
 use Rattle.ygg_shape.specs.ygg_bank_proofs_Meaning.{fits_fewer}
@@ -57,8 +57,10 @@ use Rattle.ygg_shape.specs.ygg_bank.declared.node.Id.{Id}
 use Rattle.ygg_shape.specs.ygg_bank.declared.node.Node.{Node}
 use Rattle.ygg_shape.specs.ygg_bank.declared.node.Node.TheVariants as node
 use Rattle.ygg_shape.specs.ygg_shape_words_proofs_Terms.{TermIs, made_is, digit_is, not_digit}
-use Rattle.ygg_shape.proofs.Makers.{merged_gives, compared_gives, selected_gives, word_selected_gives}
-use Rattle.ygg_shape.specs.ygg_shape_cells.Making.{merged, compared}
+use Rattle.ygg_shape.specs.ygg_shape_cells_proofs_Makers.{merged_gives, selected_gives, word_selected_gives}
+use Rattle.ygg_shape.proofs.Compared.{compared_gives}
+use Rattle.ygg_shape.specs.ygg_shape_cells.Making.{merged}
+use Rattle.ygg_shape.specs.Comparing.{compared}
 use Rattle.ygg_shape.specs.ygg_shape_cells.Terms.{IsShaped, AreAlike, worth, numbers_of, row_width}
 use Rattle.ygg_shape.specs.ygg_shape_cells.declared.terms.SymValue.{SymValue}
 use Rattle.ygg_shape.specs.ygg_shape_cells.declared.terms.SymValue.TheVariants.{Word, Row, Table}
@@ -66,7 +68,7 @@ use Rattle.ygg_sym_expr.specs.Exprs.{id_in, word_made, number_made, applied, par
 use Rattle.ygg_sym_expr.specs.Names.{SymScope}
 use Rattle.ygg_sym_expr.specs.Meaning.{SomeShape, ScopeShaped, Grows, Gives, IsWorth}
 use Rattle.ygg_sym_expr.proofs.Shaped.{worth_shape, is_term, word_worth, scope_wider}
-use Rattle.ygg_shape.proofs.Grows.{compared_grows}
+use Rattle.ygg_shape.proofs.ComparedKeeps.{compared_grows}
 use Rattle.ygg_sym_expr.proofs.Grows.{word_grows, joined_grows}
 
 -- words of these widths may be operated on as words that have them

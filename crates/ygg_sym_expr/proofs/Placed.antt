@@ -40,11 +40,11 @@ use Rattle.std.proofs.lemmas.Option.{slice_get-get_or}
 use Rattle.ygg_syntax.specs.declared.tree.Def.{Def}
 use Rattle.ygg_eval_expr.specs.ygg_syntax_count.Weights.{weights_of, expr_weight}
 use Rattle.ygg_eval_expr.specs.ygg_type_rules.Names.{Named, look_up, has}
-use Rattle.ygg_eval_expr.specs.ygg_type_sound.Signature.{Signature}
-use Rattle.ygg_eval_expr.specs.ygg_type_sound.TypeErrors.{none}
-use Rattle.ygg_eval_expr.specs.ygg_type_sound.Shapes.{shape_of}
-use Rattle.ygg_eval_expr.specs.ygg_type_sound.Expressions.{typing, wanted}
-use Rattle.ygg_eval_expr.specs.ygg_type_sound.Definitions.{
+use Rattle.ygg_eval_expr.specs.ygg_meaning_laws.Signature.{Signature}
+use Rattle.ygg_eval_expr.specs.ygg_meaning_laws.TypeErrors.{none}
+use Rattle.ygg_eval_expr.specs.ygg_meaning_laws.Shapes.{shape_of}
+use Rattle.ygg_eval_expr.specs.ygg_meaning_laws.Expressions.{typing, wanted}
+use Rattle.ygg_eval_expr.specs.ygg_meaning_laws.Definitions.{
   with_parameters,
   definition_signature,
   definition_scope,
@@ -53,12 +53,12 @@ use Rattle.ygg_eval_expr.specs.ygg_type_sound.Definitions.{
   with_definitions,
   definitions_errors,
 }
-use Rattle.ygg_eval_expr.specs.ygg_type_sound.Environments.{Name}
-use Rattle.ygg_eval_expr.specs.ygg_type_sound.Meaning.{functions_of}
-use Rattle.ygg_eval_expr.specs.ygg_type_sound.Agrees.{Agrees}
-use Rattle.ygg_eval_expr.specs.ygg_type_sound_proofs_Tests.{left, right, bytes_same, bytes_equal}
-use Rattle.ygg_eval_expr.specs.ygg_type_sound_proofs_Names.{still_found, look_up_append, added_new, or_else, absent}
-use Rattle.ygg_eval_expr.specs.ygg_type_sound_proofs_Definitions.{DefinitionParts, definition_parts, called, body_agrees, definitions_meet}
+use Rattle.ygg_eval_expr.specs.ygg_meaning_laws.Environments.{Name}
+use Rattle.ygg_eval_expr.specs.ygg_meaning_laws.Meaning.{functions_of}
+use Rattle.ygg_eval_expr.specs.ygg_meaning_laws.Agrees.{Agrees}
+use Rattle.ygg_eval_expr.specs.ygg_meaning_laws_proofs_Tests.{left, right, bytes_same, bytes_equal}
+use Rattle.ygg_eval_expr.specs.ygg_meaning_laws_proofs_Names.{still_found, look_up_append, added_new, or_else, absent}
+use Rattle.ygg_eval_expr.specs.ygg_meaning_laws_proofs_Definitions.{DefinitionParts, definition_parts, called, body_agrees, definitions_meet}
 use Rattle.ygg_eval_expr.specs.Known.{IsDefinition}
 use Rattle.ygg_eval_expr.proofs.Called.{Missing, missing_begun, missing_more}
 use Rattle.ygg_shape.specs.ygg_rules.declared.rule.RuleKind.{RuleKind}

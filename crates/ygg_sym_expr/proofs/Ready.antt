@@ -40,22 +40,22 @@ use Rattle.ygg_syntax.specs.declared.tree.Quantifier.TheVariants as quantifier
 use Rattle.ygg_syntax.specs.declared.tree.Expr.{Expr}
 use Rattle.ygg_syntax.specs.declared.tree.Expr.TheVariants as tree
 use Rattle.ygg_eval_expr.specs.ygg_type_rules.Names.{look_up}
-use Rattle.ygg_eval_expr.specs.ygg_type_sound.Signature.{Signature}
-use Rattle.ygg_eval_expr.specs.ygg_type_sound.TypeErrors.{none}
-use Rattle.ygg_eval_expr.specs.ygg_type_sound.Scopes.{Scope, is_taken}
-use Rattle.ygg_eval_expr.specs.ygg_type_sound.Shapes.{is_word, width_of, word_shape}
-use Rattle.ygg_eval_expr.specs.ygg_type_sound.Comparisons.{operator_error}
-use Rattle.ygg_eval_expr.specs.ygg_type_sound.Expressions.{typing, with_number, operator_rule}
-use Rattle.ygg_eval_expr.specs.ygg_type_sound.Environments.{Name}
-use Rattle.ygg_eval_expr.specs.ygg_type_sound.Meaning.{Functions, functions_of, value_with}
-use Rattle.ygg_eval_expr.specs.ygg_type_sound.Meaning as meaning
-use Rattle.ygg_eval_expr.specs.ygg_type_sound.Agrees.{Agrees}
-use Rattle.ygg_eval_expr.specs.ygg_type_sound.Fitting.{all_fit}
-use Rattle.ygg_eval_expr.specs.ygg_type_sound_proofs_Tests.{wanted_is}
-use Rattle.ygg_eval_expr.specs.ygg_type_sound_proofs_Fits.{word_wide}
-use Rattle.ygg_eval_expr.specs.ygg_type_sound_proofs_Rules.{ConstantParts, NumberParts, operands, operator_without_errors}
-use Rattle.ygg_eval_expr.specs.ygg_type_sound_proofs_Sounds.{two_none}
-use Rattle.ygg_eval_expr.specs.ygg_type_sound_proofs_Parts.{
+use Rattle.ygg_eval_expr.specs.ygg_meaning_laws.Signature.{Signature}
+use Rattle.ygg_eval_expr.specs.ygg_meaning_laws.TypeErrors.{none}
+use Rattle.ygg_eval_expr.specs.ygg_meaning_laws.Scopes.{Scope, is_taken}
+use Rattle.ygg_eval_expr.specs.ygg_meaning_laws.Shapes.{is_word, width_of, word_shape}
+use Rattle.ygg_eval_expr.specs.ygg_meaning_laws.Comparisons.{operator_error}
+use Rattle.ygg_eval_expr.specs.ygg_meaning_laws.Expressions.{typing, with_number, operator_rule}
+use Rattle.ygg_eval_expr.specs.ygg_meaning_laws.Environments.{Name}
+use Rattle.ygg_eval_expr.specs.ygg_meaning_laws.Meaning.{Functions, functions_of, value_with}
+use Rattle.ygg_eval_expr.specs.ygg_meaning_laws.Meaning as meaning
+use Rattle.ygg_eval_expr.specs.ygg_meaning_laws.Agrees.{Agrees}
+use Rattle.ygg_eval_expr.specs.ygg_meaning_laws.Fitting.{all_fit}
+use Rattle.ygg_eval_expr.specs.ygg_meaning_laws_proofs_Tests.{wanted_is}
+use Rattle.ygg_eval_expr.specs.ygg_meaning_laws_proofs_Fits.{word_wide}
+use Rattle.ygg_eval_expr.specs.ygg_meaning_laws_proofs_Rules.{ConstantParts, NumberParts, operands, operator_without_errors}
+use Rattle.ygg_eval_expr.specs.ygg_meaning_laws_proofs_Sounds.{two_none}
+use Rattle.ygg_eval_expr.specs.ygg_meaning_laws_proofs_Parts.{
   QuantifiedTyped,
   values_in,
   typed_binary,

@@ -8,14 +8,14 @@ use Rattle.ygg_value.specs.declared.row.Value.{Value}
 use Rattle.ygg_value.specs.declared.row.Value.TheVariants as value
 use Rattle.ygg_value.specs.declared.shape.Shape.{Shape}
 use Rattle.ygg_value.specs.declared.shape.Shape.TheVariants as shape
-use Rattle.ygg_eval_expr.specs.ygg_type_sound.Shapes.{is_word}
+use Rattle.ygg_eval_expr.specs.ygg_meaning_laws.Shapes.{is_word}
 use Rattle.ygg_shape.specs.ygg_bank_proofs_Widths.{width_fits}
 use Rattle.ygg_shape.specs.ygg_bank.Nodes.{HasWidth, Extends}
 use Rattle.ygg_shape.specs.ygg_bank.Values.{Inputs, Values, Fits}
 use Rattle.ygg_shape.specs.ygg_bank.declared.node.Id.{Id}
 use Rattle.ygg_shape.specs.ygg_bank.declared.node.Node.{Node}
 use Rattle.ygg_shape.specs.ygg_shape_words_proofs_Terms.{TermIs}
-use Rattle.ygg_shape.proofs.Worth.{row_worth, table_worth}
+use Rattle.ygg_shape.specs.ygg_shape_cells_proofs_Worth.{row_worth, table_worth}
 use Rattle.ygg_shape.specs.ygg_shape_cells_proofs_Wider.{shaped_wider}
 use Rattle.ygg_shape.specs.ygg_shape_cells.Terms.{IsShaped, worth, numbers_of}
 use Rattle.ygg_shape.specs.ygg_shape_cells.declared.terms.SymValue.{SymValue}

@@ -3,11 +3,11 @@ use Rattle.std.proofs.Common.{◌≡◌, true, List, [], reverse, Ok, Err, Resul
 use Rattle.ygg_value.specs.Shapes.{shape_of}
 use Rattle.ygg_value.specs.declared.shape.Shape.{Shape}
 use Rattle.ygg_syntax.specs.declared.tree.Expr.{Expr}
-use Rattle.ygg_eval_expr.specs.ygg_type_sound.TypeErrors.{none}
-use Rattle.ygg_eval_expr.specs.ygg_type_sound.Expressions.{typing}
-use Rattle.ygg_eval_expr.specs.ygg_type_sound.Definitions.{with_definitions}
-use Rattle.ygg_eval_expr.specs.ygg_type_sound.Meaning.{functions_of, value_with}
-use Rattle.ygg_eval_expr.specs.ygg_type_sound_proofs_Sounds.{sound}
+use Rattle.ygg_eval_expr.specs.ygg_meaning_laws.TypeErrors.{none}
+use Rattle.ygg_eval_expr.specs.ygg_meaning_laws.Expressions.{typing}
+use Rattle.ygg_eval_expr.specs.ygg_meaning_laws.Definitions.{with_definitions}
+use Rattle.ygg_eval_expr.specs.ygg_meaning_laws.Meaning.{functions_of, value_with}
+use Rattle.ygg_eval_expr.specs.ygg_meaning_laws_proofs_Sounds.{sound}
 use Rattle.ygg_shape.specs.ygg_rules.declared.rule.RuleKind.{RuleKind}
 use Rattle.ygg_shape.specs.ygg_bank_proofs_Meaning.{fits_fewer}
 use Rattle.ygg_shape.specs.ygg_bank.Inputs.{InputsBelow, KeepsInputs}

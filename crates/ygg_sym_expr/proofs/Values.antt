@@ -49,21 +49,21 @@ use Rattle.ygg_syntax.specs.declared.tree.Expr.TheVariants as tree
 use Rattle.ygg_syntax.specs.declared.tree.Expr.TheOpen.{Expr-F}
 use Rattle.ygg_syntax.specs.declared.tree.Expr.TheFolds.{ind-Expr, fold-roll-Expr}
 use Rattle.ygg_eval_expr.specs.ygg_type_rules.Names.{Named, look_up, has, added}
-use Rattle.ygg_eval_expr.specs.ygg_type_sound.Signature.{Signature}
-use Rattle.ygg_eval_expr.specs.ygg_type_sound.TypeErrors.{none}
-use Rattle.ygg_eval_expr.specs.ygg_type_sound.Scopes.{Scope, name_in, low_in, with_local}
-use Rattle.ygg_eval_expr.specs.ygg_type_sound.Shapes.{word_shape}
-use Rattle.ygg_eval_expr.specs.ygg_type_sound.Expressions.{Typing, node_typing, typing, with_number, name_rule, low_rule, operator_rule}
-use Rattle.ygg_eval_expr.specs.ygg_type_sound.Environments.{Name, Env}
-use Rattle.ygg_eval_expr.specs.ygg_type_sound.Environments as names
-use Rattle.ygg_eval_expr.specs.ygg_type_sound.Meaning.{Functions, is_one, all_below, any_below, quantified, row_of, value_with}
-use Rattle.ygg_eval_expr.specs.ygg_type_sound.Meaning as meaning
-use Rattle.ygg_eval_expr.specs.ygg_type_sound.Fitting.{IsHeld, all_fit}
-use Rattle.ygg_eval_expr.specs.ygg_type_sound.Agrees.{Agrees}
-use Rattle.ygg_eval_expr.specs.ygg_type_sound_proofs_Names.{value_found}
-use Rattle.ygg_eval_expr.specs.ygg_type_sound_proofs_Rules.{NumberParts, operator_without_errors}
-use Rattle.ygg_eval_expr.specs.ygg_type_sound_proofs_Sounds.{two_none}
-use Rattle.ygg_eval_expr.specs.ygg_type_sound_proofs_Parts.{
+use Rattle.ygg_eval_expr.specs.ygg_meaning_laws.Signature.{Signature}
+use Rattle.ygg_eval_expr.specs.ygg_meaning_laws.TypeErrors.{none}
+use Rattle.ygg_eval_expr.specs.ygg_meaning_laws.Scopes.{Scope, name_in, low_in, with_local}
+use Rattle.ygg_eval_expr.specs.ygg_meaning_laws.Shapes.{word_shape}
+use Rattle.ygg_eval_expr.specs.ygg_meaning_laws.Expressions.{Typing, node_typing, typing, with_number, name_rule, low_rule, operator_rule}
+use Rattle.ygg_eval_expr.specs.ygg_meaning_laws.Environments.{Name, Env}
+use Rattle.ygg_eval_expr.specs.ygg_meaning_laws.Environments as names
+use Rattle.ygg_eval_expr.specs.ygg_meaning_laws.Meaning.{Functions, is_one, all_below, any_below, quantified, row_of, value_with}
+use Rattle.ygg_eval_expr.specs.ygg_meaning_laws.Meaning as meaning
+use Rattle.ygg_eval_expr.specs.ygg_meaning_laws.Fitting.{IsHeld, all_fit}
+use Rattle.ygg_eval_expr.specs.ygg_meaning_laws.Agrees.{Agrees}
+use Rattle.ygg_eval_expr.specs.ygg_meaning_laws_proofs_Names.{value_found}
+use Rattle.ygg_eval_expr.specs.ygg_meaning_laws_proofs_Rules.{NumberParts, operator_without_errors}
+use Rattle.ygg_eval_expr.specs.ygg_meaning_laws_proofs_Sounds.{two_none}
+use Rattle.ygg_eval_expr.specs.ygg_meaning_laws_proofs_Parts.{
   WithoutErrors,
   HasValue,
   values_in,
@@ -125,7 +125,7 @@ use Rattle.ygg_sym_expr.specs.Exprs.{
 }
 use Rattle.ygg_sym_expr.specs.Meaning.{SomeShape, EnvShaped, ScopeShaped, Gives, worths, scope_worth, IsWorth}
 use Rattle.ygg_sym_expr.proofs.Shaped.{some_wider, scope_wider, word_worth}
-use Rattle.ygg_shape.proofs.Grows.{merged_grows}
+use Rattle.ygg_shape.specs.ygg_shape_cells_proofs_Grows.{merged_grows}
 use Rattle.ygg_sym_expr.proofs.Grows.{AlwaysGrows, FunctionsGrow, word_grows, applied_grows, part_grows, at_number_grows, all_grow, value_grows}
 use Rattle.ygg_sym_expr.proofs.Parts.{
   AllWorth,

@@ -10,14 +10,15 @@ use Rattle.ygg_syntax.specs.declared.tree.Quantifier.TheVariants.{All, Any}
 use Rattle.ygg_syntax.specs.declared.tree.Expr.{Expr}
 use Rattle.ygg_syntax.specs.declared.tree.Expr.TheOpen.{Expr-F}
 use Rattle.ygg_syntax.specs.declared.tree.Expr.TheFolds.{fold-Expr}
-use Rattle.ygg_eval_expr.specs.ygg_type_sound.Environments.{Name}
+use Rattle.ygg_eval_expr.specs.ygg_meaning_laws.Environments.{Name}
 use Rattle.ygg_shape.specs.ygg_rules.declared.rule.RuleKind.{RuleKind}
 use Rattle.ygg_shape.specs.ygg_bank.Makes.{Make, pure, and_make}
 use Rattle.ygg_shape.specs.ygg_bank.Making.{id, made}
 use Rattle.ygg_shape.specs.ygg_bank.declared.node.Id.{Id}
 use Rattle.ygg_shape.specs.ygg_bank.declared.node.Node.{Node}
 use Rattle.ygg_shape.specs.ygg_bank.declared.node.Node.TheVariants as node
-use Rattle.ygg_shape.specs.ygg_shape_cells.Making.{merged, compared, selected}
+use Rattle.ygg_shape.specs.ygg_shape_cells.Making.{merged, selected}
+use Rattle.ygg_shape.specs.Comparing.{compared}
 use Rattle.ygg_shape.specs.ygg_shape_cells.declared.terms.SymValue.{SymValue}
 use Rattle.ygg_shape.specs.ygg_shape_cells.declared.terms.SymValue.TheVariants.{Word, Row, Table}
 use Rattle.ygg_sym_expr.specs.Names.{SymScope, no_term, sym_look_up, sym_bind}

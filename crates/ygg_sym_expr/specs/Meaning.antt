@@ -4,14 +4,14 @@ use Rattle.ygg_value.specs.declared.row.Value.{Value}
 use Rattle.ygg_value.specs.declared.shape.Shape.{Shape}
 use Rattle.ygg_syntax.specs.declared.tree.Def.{Def}
 use Rattle.ygg_syntax.specs.declared.tree.Expr.{Expr}
-use Rattle.ygg_eval_expr.specs.ygg_type_sound.TypeErrors.{none}
-use Rattle.ygg_eval_expr.specs.ygg_type_sound.Scopes.{Scope}
-use Rattle.ygg_eval_expr.specs.ygg_type_sound.Expressions.{typing}
-use Rattle.ygg_eval_expr.specs.ygg_type_sound.Definitions.{definitions_errors, with_definitions}
-use Rattle.ygg_eval_expr.specs.ygg_type_sound.Environments.{Name, Env}
-use Rattle.ygg_eval_expr.specs.ygg_type_sound.Meaning.{value_with, functions_of}
-use Rattle.ygg_eval_expr.specs.ygg_type_sound.Meaning as meaning
-use Rattle.ygg_eval_expr.specs.ygg_type_sound.Agrees.{Agrees}
+use Rattle.ygg_eval_expr.specs.ygg_meaning_laws.TypeErrors.{none}
+use Rattle.ygg_eval_expr.specs.ygg_meaning_laws.Scopes.{Scope}
+use Rattle.ygg_eval_expr.specs.ygg_meaning_laws.Expressions.{typing}
+use Rattle.ygg_eval_expr.specs.ygg_meaning_laws.Definitions.{definitions_errors, with_definitions}
+use Rattle.ygg_eval_expr.specs.ygg_meaning_laws.Environments.{Name, Env}
+use Rattle.ygg_eval_expr.specs.ygg_meaning_laws.Meaning.{value_with, functions_of}
+use Rattle.ygg_eval_expr.specs.ygg_meaning_laws.Meaning as meaning
+use Rattle.ygg_eval_expr.specs.ygg_meaning_laws.Agrees.{Agrees}
 use Rattle.ygg_shape.specs.ygg_rules.declared.rule.RuleKind.{RuleKind}
 use Rattle.ygg_shape.specs.ygg_bank.Makes.{Make}
 use Rattle.ygg_shape.specs.ygg_bank.Nodes.{IsBank, Extends}

@@ -11,14 +11,14 @@ use Rattle.ygg_syntax.specs.declared.tree.Def.{Def}
 use Rattle.ygg_syntax.specs.declared.tree.Expr.{Expr}
 use Rattle.ygg_syntax.specs.declared.tree.Expr.TheVariants as tree
 use Rattle.ygg_eval_expr.specs.ygg_type_rules.Names.{look_up}
-use Rattle.ygg_eval_expr.specs.ygg_type_sound.Signature.{Signature}
-use Rattle.ygg_eval_expr.specs.ygg_type_sound.TypeErrors.{none}
-use Rattle.ygg_eval_expr.specs.ygg_type_sound.Scopes.{Scope}
-use Rattle.ygg_eval_expr.specs.ygg_type_sound.Expressions.{typing}
-use Rattle.ygg_eval_expr.specs.ygg_type_sound.Definitions.{definitions_errors, with_definitions}
-use Rattle.ygg_eval_expr.specs.ygg_type_sound.Meaning.{functions_of}
-use Rattle.ygg_eval_expr.specs.ygg_type_sound.Agrees.{Agrees}
-use Rattle.ygg_eval_expr.specs.ygg_type_sound.Fitting.{all_fit}
+use Rattle.ygg_eval_expr.specs.ygg_meaning_laws.Signature.{Signature}
+use Rattle.ygg_eval_expr.specs.ygg_meaning_laws.TypeErrors.{none}
+use Rattle.ygg_eval_expr.specs.ygg_meaning_laws.Scopes.{Scope}
+use Rattle.ygg_eval_expr.specs.ygg_meaning_laws.Expressions.{typing}
+use Rattle.ygg_eval_expr.specs.ygg_meaning_laws.Definitions.{definitions_errors, with_definitions}
+use Rattle.ygg_eval_expr.specs.ygg_meaning_laws.Meaning.{functions_of}
+use Rattle.ygg_eval_expr.specs.ygg_meaning_laws.Agrees.{Agrees}
+use Rattle.ygg_eval_expr.specs.ygg_meaning_laws.Fitting.{all_fit}
 use Rattle.ygg_shape.specs.ygg_rules.declared.rule.RuleKind.{RuleKind}
 use Rattle.ygg_shape.specs.ygg_bank.Makes.{Make}
 use Rattle.ygg_shape.specs.ygg_bank.Nodes.{CanBin}

@@ -15,15 +15,15 @@ use Rattle.ygg_sym_laws.specs.ygg_meaning.Shapes.{env_fits}
 use Rattle.ygg_sym_laws.specs.ygg_meaning.Layer.{ClosedLayer}
 use Rattle.ygg_sym_laws.specs.ygg_meaning.Refines.{OnDisk}
 use Rattle.ygg_sym_laws.specs.ygg_meaning.Stack.{tables_of}
-use Rattle.ygg_sym_laws.specs.ygg_type_sound.Agrees.{Agrees}
-use Rattle.ygg_sym_laws.specs.ygg_type_sound.Questions.{plain}
+use Rattle.ygg_sym_laws.specs.ygg_meaning_laws.Agrees.{Agrees}
+use Rattle.ygg_sym_laws.specs.ygg_meaning_laws.Questions.{plain}
 use Rattle.ygg_sym_laws.specs.ygg_rules.declared.rule.RuleKind.{RuleKind}
 use Rattle.ygg_sym_laws.specs.ygg_bank.Values.{Inputs, Values, Fits}
 use Rattle.ygg_sym_laws.specs.ygg_bank.declared.node.Node.{Node}
 use Rattle.ygg_sym_laws.specs.ygg_shape_cells.Terms.{worth}
-use Rattle.ygg_sym_laws.specs.ygg_direct.Direct.{room_of}
-use Rattle.ygg_sym_laws.specs.ygg_direct.Laws.{IsTypedBlock}
-use Rattle.ygg_sym_laws.specs.ygg_direct.RunPlaces.{disk_space}
+use Rattle.ygg_sym_laws.specs.ygg_meaning_laws.Direct.{room_of}
+use Rattle.ygg_sym_laws.specs.ygg_meaning_laws.DirectLaws.{IsTypedBlock}
+use Rattle.ygg_sym_laws.specs.ygg_meaning_laws.RunPlaces.{disk_space}
 use Rattle.ygg_sym_laws.specs.ygg_sym_expr.Names.{sym_bind}
 use Rattle.ygg_sym_laws.specs.ygg_sym_expr.Meaning.{worths}
 use Rattle.ygg_sym_laws.specs.Lows.{low_worth}

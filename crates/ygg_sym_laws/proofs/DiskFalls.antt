@@ -24,7 +24,7 @@ use Rattle.ygg_sym_laws.specs.ygg_meaning.Obligations.{Halt}
 use Rattle.ygg_sym_laws.specs.ygg_meaning.DiskMachine.{DiskMachine, disk_call, tables_in}
 use Rattle.ygg_sym_laws.specs.ygg_meaning.Refines.{OnDisk}
 use Rattle.ygg_sym_laws.specs.ygg_meaning.Stack.{tables_of}
-use Rattle.ygg_sym_laws.specs.ygg_type_sound.Machines.{IsSized}
+use Rattle.ygg_sym_laws.specs.ygg_meaning_laws.Machines.{IsSized}
 use Rattle.ygg_sym_laws.specs.ygg_rules.declared.rule.RuleKind.{RuleKind}
 use Rattle.ygg_sym_laws.specs.ygg_bank_proofs_Meaning.{fits_fewer}
 use Rattle.ygg_sym_laws.specs.ygg_bank_proofs_Widths.{extends_self}
@@ -35,17 +35,17 @@ use Rattle.ygg_sym_laws.specs.ygg_bank.Values.{Inputs, Values, Fits}
 use Rattle.ygg_sym_laws.specs.ygg_bank.declared.node.Node.{Node}
 use Rattle.ygg_sym_laws.specs.ygg_shape_words_proofs_Keeps.{grows_stays, inputs_stay}
 use Rattle.ygg_sym_laws.specs.ygg_shape_cells.declared.terms.SymValue.{SymValue}
-use Rattle.ygg_sym_laws.specs.ygg_direct.Direct.{Reached, Within, question_space}
-use Rattle.ygg_sym_laws.specs.ygg_direct.Acts.{Fell, next_of, falls_in}
-use Rattle.ygg_sym_laws.specs.ygg_direct.Places.{by_place, calling}
-use Rattle.ygg_sym_laws.specs.ygg_direct.DiskActs.{kind_falls, state_in, disk_drops, disk_acts}
-use Rattle.ygg_sym_laws.specs.ygg_direct.RunPlaces.{disk_space, placed_run, base_at, asked_in, base_of, cut_by, falls_by_place}
-use Rattle.ygg_sym_laws.proofs.of_ygg_direct.FallPlacing.{falls_by_place_on_disk}
-use Rattle.ygg_sym_laws.specs.ygg_direct_proofs_Order.{within_later, block_follows}
-use Rattle.ygg_sym_laws.specs.ygg_direct_proofs_Placing.{taken_self}
-use Rattle.ygg_sym_laws.specs.ygg_direct_proofs_Rooms.{room_is}
-use Rattle.ygg_sym_laws.specs.ygg_direct_proofs_RunPlacing.{disk_tidy}
-use Rattle.ygg_sym_laws.proofs.of_ygg_direct.Typed.{direct_on_disk}
+use Rattle.ygg_sym_laws.specs.ygg_meaning_laws.Direct.{Reached, Within, question_space}
+use Rattle.ygg_sym_laws.specs.ygg_meaning_laws.Acts.{Fell, next_of, falls_in}
+use Rattle.ygg_sym_laws.specs.ygg_meaning_laws.Places.{by_place, calling}
+use Rattle.ygg_sym_laws.specs.ygg_meaning_laws.DiskActs.{kind_falls, state_in, disk_drops, disk_acts}
+use Rattle.ygg_sym_laws.specs.ygg_meaning_laws.RunPlaces.{disk_space, placed_run, base_at, asked_in, base_of, cut_by, falls_by_place}
+use Rattle.ygg_sym_laws.proofs.of_ygg_meaning_laws.FallPlacing.{falls_by_place_on_disk}
+use Rattle.ygg_sym_laws.specs.ygg_meaning_laws_proofs_Order.{within_later, block_follows}
+use Rattle.ygg_sym_laws.specs.ygg_meaning_laws_proofs_Placing.{taken_self}
+use Rattle.ygg_sym_laws.specs.ygg_meaning_laws_proofs_Rooms.{room_is}
+use Rattle.ygg_sym_laws.specs.ygg_meaning_laws_proofs_RunPlacing.{disk_tidy}
+use Rattle.ygg_sym_laws.proofs.of_ygg_meaning_laws.DirectTyped.{direct_on_disk}
 use Rattle.ygg_sym_laws.specs.ygg_sym_expr.Names.{sym_bind}
 use Rattle.ygg_sym_laws.specs.ygg_sym_expr.Exprs.{sym_functions}
 use Rattle.ygg_sym_laws.specs.ygg_sym_expr.Meaning.{Grows, worths}

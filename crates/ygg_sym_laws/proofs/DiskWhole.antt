@@ -18,7 +18,7 @@ use Rattle.ygg_sym_laws.specs.ygg_meaning.Layer.{ClosedLayer, BlockRuns}
 use Rattle.ygg_sym_laws.specs.ygg_meaning.DiskMachine.{DiskMachine}
 use Rattle.ygg_sym_laws.specs.ygg_meaning.Refines.{OnDisk}
 use Rattle.ygg_sym_laws.specs.ygg_meaning.Stack.{tables_of}
-use Rattle.ygg_sym_laws.specs.ygg_type_sound.Machines.{IsSized}
+use Rattle.ygg_sym_laws.specs.ygg_meaning_laws.Machines.{IsSized}
 use Rattle.ygg_sym_laws.specs.ygg_rules.declared.rule.RuleKind.{RuleKind}
 use Rattle.ygg_sym_laws.specs.ygg_bank_proofs_Meaning.{fits_fewer}
 use Rattle.ygg_sym_laws.specs.ygg_bank_proofs_Widths.{extends_self}
@@ -30,12 +30,12 @@ use Rattle.ygg_sym_laws.specs.ygg_bank.declared.node.Node.{Node}
 use Rattle.ygg_sym_laws.specs.ygg_shape_words_proofs_Keeps.{grows_stays, inputs_stay}
 use Rattle.ygg_sym_laws.specs.ygg_shape_cells.Terms.{worth}
 use Rattle.ygg_sym_laws.specs.ygg_shape_cells.declared.terms.SymValue.{SymValue}
-use Rattle.ygg_sym_laws.specs.ygg_direct.Acts.{Did, runs}
-use Rattle.ygg_sym_laws.specs.ygg_direct.DiskActs.{disk_acts}
-use Rattle.ygg_sym_laws.specs.ygg_direct.RunPlaces.{Finish, finish_of, disk_space, runs_by_place}
-use Rattle.ygg_sym_laws.specs.ygg_direct_proofs_Placing.{taken_self}
-use Rattle.ygg_sym_laws.specs.ygg_direct_proofs_RunPlacing.{disk_tidy, runs_by_place_on_disk}
-use Rattle.ygg_sym_laws.proofs.of_ygg_direct.Typed.{direct_on_disk}
+use Rattle.ygg_sym_laws.specs.ygg_meaning_laws.Acts.{Did, runs}
+use Rattle.ygg_sym_laws.specs.ygg_meaning_laws.DiskActs.{disk_acts}
+use Rattle.ygg_sym_laws.specs.ygg_meaning_laws.RunPlaces.{Finish, finish_of, disk_space, runs_by_place}
+use Rattle.ygg_sym_laws.specs.ygg_meaning_laws_proofs_Placing.{taken_self}
+use Rattle.ygg_sym_laws.specs.ygg_meaning_laws_proofs_RunPlacing.{disk_tidy, runs_by_place_on_disk}
+use Rattle.ygg_sym_laws.proofs.of_ygg_meaning_laws.DirectTyped.{direct_on_disk}
 use Rattle.ygg_sym_laws.specs.ygg_sym_expr.Names.{sym_bind}
 use Rattle.ygg_sym_laws.specs.ygg_sym_expr.Exprs.{sym_functions}
 use Rattle.ygg_sym_laws.specs.ygg_sym_expr.Meaning.{Grows, worths}

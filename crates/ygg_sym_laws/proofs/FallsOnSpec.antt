@@ -11,14 +11,14 @@ use Rattle.ygg_sym_laws.specs.ygg_type_rules.TypeErrors.{none}
 use Rattle.ygg_sym_laws.specs.ygg_type_rules.Statements.{walked, return_errors}
 use Rattle.ygg_sym_laws.specs.ygg_type_rules.Statements as rules
 use Rattle.ygg_sym_laws.specs.ygg_type_rules.Definitions.{definitions_errors}
-use Rattle.ygg_sym_laws.specs.ygg_type_sound_proofs_Tests.{left as first_of}
+use Rattle.ygg_sym_laws.specs.ygg_meaning_laws_proofs_Tests.{left as first_of}
 use Rattle.ygg_sym_laws.specs.ygg_meaning.Environments.{Env}
 use Rattle.ygg_sym_laws.specs.ygg_meaning.Meaning.{Functions, functions_of}
 use Rattle.ygg_sym_laws.specs.ygg_meaning.Machine.{State, based}
 use Rattle.ygg_sym_laws.specs.ygg_meaning.Layer.{ClosedLayer}
 use Rattle.ygg_sym_laws.specs.ygg_meaning.Obligations.{Halt}
 use Rattle.ygg_sym_laws.specs.ygg_meaning.Refines.{OnSpec}
-use Rattle.ygg_sym_laws.specs.ygg_type_sound.Blocks.{eval_with}
+use Rattle.ygg_sym_laws.specs.ygg_meaning_laws.Blocks.{eval_with}
 use Rattle.ygg_sym_laws.specs.ygg_rules.declared.rule.RuleKind.{RuleKind}
 use Rattle.ygg_sym_laws.specs.ygg_bank_proofs_Meaning.{fits_fewer}
 use Rattle.ygg_sym_laws.specs.ygg_bank.Inputs.{InputsBelow}
@@ -27,8 +27,8 @@ use Rattle.ygg_sym_laws.specs.ygg_bank.Values.{Inputs, Values, Fits}
 use Rattle.ygg_sym_laws.specs.ygg_bank.declared.node.Node.{Node}
 use Rattle.ygg_sym_laws.specs.ygg_shape_words_proofs_Keeps.{inputs_stay}
 use Rattle.ygg_sym_laws.specs.ygg_shape_cells.declared.terms.SymValue.{SymValue}
-use Rattle.ygg_sym_laws.specs.ygg_direct.Direct.{Reached, direct_run, room_of}
-use Rattle.ygg_sym_laws.specs.ygg_direct.RunPlaces.{spec_space}
+use Rattle.ygg_sym_laws.specs.ygg_meaning_laws.Direct.{Reached, direct_run, room_of}
+use Rattle.ygg_sym_laws.specs.ygg_meaning_laws.RunPlaces.{spec_space}
 use Rattle.ygg_sym_laws.specs.ygg_sym_expr.Names.{sym_bind}
 use Rattle.ygg_sym_laws.specs.ygg_sym_expr.Meaning.{Grows}
 use Rattle.ygg_sym_laws.specs.Meaning.{is_set}

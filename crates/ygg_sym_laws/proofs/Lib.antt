@@ -1,10 +1,9 @@
 pub use Rattle.ygg_sym_runs.proofs.of_ygg_bank
-pub use Rattle.ygg_sym_runs.proofs.of_ygg_direct
+pub use Rattle.ygg_sym_runs.proofs.of_ygg_meaning_laws
 pub use Rattle.ygg_sym_runs.proofs.of_ygg_meaning
 pub use Rattle.ygg_sym_runs.proofs.of_ygg_shape
 pub use Rattle.ygg_sym_runs.proofs as of_ygg_sym_runs
 pub use Rattle.ygg_sym_runs.proofs.of_ygg_sym_expr
-pub use Rattle.ygg_sym_runs.proofs.of_ygg_type_sound
 pub use Rattle.ygg_sym_runs.proofs.DiskKeeps
 pub use Rattle.ygg_sym_runs.proofs.Stopping
 pub use Rattle.ygg_sym_runs.proofs.SameStops
@@ -28,7 +27,6 @@ pub use Rattle.ygg_sym_runs.proofs.Specs
 pub use Rattle.ygg_sym_runs.proofs.SpecBits
 pub use Rattle.ygg_sym_runs.proofs.MadeInputs
 pub mod Begun
-pub mod Zeros
 pub mod DiskBegun
 pub mod DiskWhole
 pub mod DiskFalls
@@ -39,3 +37,14 @@ pub mod SpecWhole
 pub mod FallsOnSpec
 pub mod Starts
 pub mod AnyLayer
+pub mod Fronting
+pub mod Acting
+pub mod Disk
+pub mod Spec
+pub mod NamedRuns
+pub mod Machines
+pub mod Beginning
+pub mod Wholes
+pub mod Falls
+pub mod Others
+pub mod FrontAnyLayer

@@ -11,17 +11,17 @@ use Rattle.ygg_sym_laws.specs.ygg_meaning.Machine.{Picks, based}
 use Rattle.ygg_sym_laws.specs.ygg_meaning.DiskMachine.{DiskMachine}
 use Rattle.ygg_sym_laws.specs.ygg_meaning.Refines.{OnDisk}
 use Rattle.ygg_sym_laws.specs.ygg_meaning.Stack.{tables_of}
-use Rattle.ygg_sym_laws.specs.ygg_type_sound.Machines.{IsSized}
-use Rattle.ygg_sym_laws.specs.ygg_type_sound_proofs_Sizes.{disk_answers_all}
+use Rattle.ygg_sym_laws.specs.ygg_meaning_laws.Machines.{IsSized}
+use Rattle.ygg_sym_laws.specs.ygg_meaning_laws_proofs_Sizes.{disk_answers_all}
 use Rattle.ygg_sym_laws.specs.ygg_rules.declared.rule.RuleKind.{RuleKind}
 use Rattle.ygg_sym_laws.specs.ygg_bank_proofs_Widths.{extends_self}
 use Rattle.ygg_sym_laws.specs.ygg_bank.Values.{Inputs, Values, Fits}
 use Rattle.ygg_sym_laws.specs.ygg_bank.declared.node.Node.{Node}
 use Rattle.ygg_sym_laws.specs.ygg_shape_cells.declared.terms.SymValue.{SymValue}
-use Rattle.ygg_sym_laws.specs.ygg_direct.Acts.{Fell}
-use Rattle.ygg_sym_laws.specs.ygg_direct.DiskActs.{disk_acts}
-use Rattle.ygg_sym_laws.proofs.of_ygg_direct.DiskActed.{disk_acted}
-use Rattle.ygg_sym_laws.specs.ygg_direct_proofs_Placing.{taken_self}
+use Rattle.ygg_sym_laws.specs.ygg_meaning_laws.Acts.{Fell}
+use Rattle.ygg_sym_laws.specs.ygg_meaning_laws.DiskActs.{disk_acts}
+use Rattle.ygg_sym_laws.proofs.of_ygg_meaning_laws.DiskActed.{disk_acted}
+use Rattle.ygg_sym_laws.specs.ygg_meaning_laws_proofs_Placing.{taken_self}
 use Rattle.ygg_sym_laws.specs.Meaning.{IsLow}
 use Rattle.ygg_sym_laws.specs.Lows.{LowShaped, low_worth}
 use Rattle.ygg_sym_laws.specs.Cuts.{disk_loses}

@@ -17,14 +17,14 @@ use Rattle.ygg_sym_laws.specs.ygg_meaning.Shapes.{env_fits}
 use Rattle.ygg_sym_laws.specs.ygg_meaning.Layer.{ClosedLayer}
 use Rattle.ygg_sym_laws.specs.ygg_meaning.Machine.{State}
 use Rattle.ygg_sym_laws.specs.ygg_meaning.Refines.{OnSpec}
-use Rattle.ygg_sym_laws.specs.ygg_type_sound.Agrees.{Agrees}
-use Rattle.ygg_sym_laws.specs.ygg_type_sound.Questions.{plain}
+use Rattle.ygg_sym_laws.specs.ygg_meaning_laws.Agrees.{Agrees}
+use Rattle.ygg_sym_laws.specs.ygg_meaning_laws.Questions.{plain}
 use Rattle.ygg_sym_laws.specs.ygg_rules.declared.rule.RuleKind.{RuleKind}
 use Rattle.ygg_sym_laws.specs.ygg_bank.Values.{Inputs, Values, Fits}
 use Rattle.ygg_sym_laws.specs.ygg_bank.declared.node.Node.{Node}
 use Rattle.ygg_sym_laws.specs.ygg_shape_cells.Terms.{worth}
 use Rattle.ygg_sym_laws.specs.ygg_shape_cells.declared.terms.SymValue.{SymValue}
-use Rattle.ygg_sym_laws.specs.ygg_direct.Laws.{IsTypedBlock}
+use Rattle.ygg_sym_laws.specs.ygg_meaning_laws.DirectLaws.{IsTypedBlock}
 use Rattle.ygg_sym_laws.specs.ygg_sym_expr.Names.{sym_bind}
 use Rattle.ygg_sym_laws.specs.ygg_sym_expr.Exprs.{SymFunctions, sym_functions}
 use Rattle.ygg_sym_laws.specs.ygg_sym_expr.Meaning.{EnvShaped, worths}

@@ -17,9 +17,9 @@ use Rattle.ygg_sym_laws.specs.ygg_meaning.Machine.{State, on, based}
 use Rattle.ygg_sym_laws.specs.ygg_meaning.Layer.{ClosedLayer, BlockRuns}
 use Rattle.ygg_sym_laws.specs.ygg_meaning.Refines.{OnSpec}
 use Rattle.ygg_sym_laws.specs.ygg_meaning.Spec.{Spec}
-use Rattle.ygg_sym_laws.specs.ygg_type_sound.Blocks.{eval_with, is_returned}
-use Rattle.ygg_sym_laws.specs.ygg_type_sound.Questions.{Follows}
-use Rattle.ygg_sym_laws.specs.ygg_type_sound_proofs_Following.{follows_front, fits_after}
+use Rattle.ygg_sym_laws.specs.ygg_meaning_laws.Blocks.{eval_with, is_returned}
+use Rattle.ygg_sym_laws.specs.ygg_meaning_laws.Questions.{Follows}
+use Rattle.ygg_sym_laws.specs.ygg_meaning_laws_proofs_Following.{follows_front, fits_after}
 use Rattle.ygg_sym_laws.specs.ygg_rules.declared.rule.RuleKind.{RuleKind}
 use Rattle.ygg_sym_laws.specs.ygg_bank_proofs_Meaning.{fits_fewer}
 use Rattle.ygg_sym_laws.specs.ygg_bank.Inputs.{InputsBelow}
@@ -29,8 +29,8 @@ use Rattle.ygg_sym_laws.specs.ygg_bank.declared.node.Node.{Node}
 use Rattle.ygg_sym_laws.specs.ygg_shape_words_proofs_Keeps.{inputs_stay}
 use Rattle.ygg_sym_laws.specs.ygg_shape_cells.Terms.{worth}
 use Rattle.ygg_sym_laws.specs.ygg_shape_cells.declared.terms.SymValue.{SymValue}
-use Rattle.ygg_sym_laws.specs.ygg_direct.Direct.{Reached, direct_run, room_of}
-use Rattle.ygg_sym_laws.specs.ygg_direct.RunPlaces.{Finish, spec_space}
+use Rattle.ygg_sym_laws.specs.ygg_meaning_laws.Direct.{Reached, direct_run, room_of}
+use Rattle.ygg_sym_laws.specs.ygg_meaning_laws.RunPlaces.{Finish, spec_space}
 use Rattle.ygg_sym_laws.specs.ygg_sym_expr.Names.{sym_bind}
 use Rattle.ygg_sym_laws.specs.ygg_sym_expr.Meaning.{Grows, worths}
 use Rattle.ygg_sym_laws.specs.Meaning.{answer_worth}

@@ -16,7 +16,7 @@ use Rattle.ygg_sym_laws.specs.ygg_meaning.DiskMachine.{DiskMachine, tables_in, z
 use Rattle.ygg_sym_laws.specs.ygg_meaning.Refines.{OnDisk}
 use Rattle.ygg_sym_laws.specs.ygg_meaning.Shapes.{zeros_of}
 use Rattle.ygg_sym_laws.specs.ygg_meaning.Stack.{tables_of_kind, tables_of}
-use Rattle.ygg_sym_laws.specs.ygg_type_sound_proofs_Parameters.{type_is}
+use Rattle.ygg_sym_laws.specs.ygg_meaning_laws_proofs_Parameters.{type_is}
 use Rattle.ygg_sym_laws.specs.ygg_rules.declared.rule.RuleKind.{RuleKind}
 use Rattle.ygg_sym_laws.specs.ygg_bank.Inputs.{InputsBelow}
 use Rattle.ygg_sym_laws.specs.ygg_bank.Values.{Inputs, Values, Fits}
@@ -25,7 +25,7 @@ use Rattle.ygg_sym_laws.specs.ygg_shape_words_proofs_Keeps.{inputs_stay}
 use Rattle.ygg_sym_laws.specs.Lows.{low_worth}
 use Rattle.ygg_sym_laws.specs.Below.{zeros_made}
 use Rattle.ygg_sym_laws.specs.Means.{StartMeans}
-use Rattle.ygg_sym_laws.proofs.Zeros.{AreShapes, zeros_made_keep, zeros_made_grow, AreZeros, zeros_give}
+use Rattle.ygg_sym_runs.proofs.DeclaredZeros.{AreShapes, zeros_made_keep, zeros_made_grow, AreZeros, zeros_give}
 use Rattle.ygg_sym_laws.specs.DiskLaws.{DiskStart}
 use Rattle.ygg_sym_laws.proofs.DiskBegun.{on_disk}
 

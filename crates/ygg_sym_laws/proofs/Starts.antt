@@ -26,12 +26,12 @@ use Rattle.ygg_sym_laws.specs.ygg_bank.declared.node.Node.{Node}
 use Rattle.ygg_sym_laws.specs.ygg_bank.declared.node.Node.TheVariants.{Const}
 use Rattle.ygg_sym_laws.specs.ygg_shape_words_proofs_Keeps.{inputs_stay}
 use Rattle.ygg_sym_laws.specs.ygg_shape_cells.declared.terms.SymValue.{SymValue}
-use Rattle.ygg_sym_laws.specs.ygg_direct.Acts.{next_of, Taken}
-use Rattle.ygg_sym_laws.specs.ygg_direct.Places.{left_after}
-use Rattle.ygg_sym_laws.specs.ygg_direct.SpecActs.{Ran, block_ran}
-use Rattle.ygg_sym_laws.specs.ygg_direct_proofs_Placing.{taken_self}
-use Rattle.ygg_sym_laws.proofs.of_ygg_direct.SpecActed.{block_whole}
-use Rattle.ygg_sym_laws.specs.ygg_direct_proofs_SpecServes.{ran_alone}
+use Rattle.ygg_sym_laws.specs.ygg_meaning_laws.Acts.{next_of, Taken}
+use Rattle.ygg_sym_laws.specs.ygg_meaning_laws.Places.{left_after}
+use Rattle.ygg_sym_laws.specs.ygg_meaning_laws.SpecActs.{Ran, block_ran}
+use Rattle.ygg_sym_laws.specs.ygg_meaning_laws_proofs_Placing.{taken_self}
+use Rattle.ygg_sym_laws.proofs.of_ygg_meaning_laws.SpecActed.{block_whole}
+use Rattle.ygg_sym_laws.specs.ygg_meaning_laws_proofs_SpecServes.{ran_alone}
 use Rattle.ygg_sym_laws.specs.ygg_sym_expr.Meaning.{SomeShape, Grows}
 use Rattle.ygg_sym_laws.specs.Laws.{picked_by}
 use Rattle.ygg_sym_laws.specs.Lows.{LowShaped, low_worth}
@@ -48,7 +48,7 @@ use Rattle.ygg_sym_laws.proofs.SpecStops.{crash_grows, crash_gives}
 use Rattle.ygg_sym_laws.specs.Below.{zeros_made, lost_made, lows_at_start}
 use Rattle.ygg_sym_laws.specs.Typed.{SpecTyped}
 use Rattle.ygg_sym_laws.specs.Means.{LossMeans, StartMeans}
-use Rattle.ygg_sym_laws.proofs.Zeros.{AreShapes, zeros_made_grow, zeros_made_keep, zeros_give}
+use Rattle.ygg_sym_runs.proofs.DeclaredZeros.{AreShapes, zeros_made_grow, zeros_made_keep, zeros_give}
 use Rattle.ygg_sym_laws.proofs.SpecBegun.{terms, names, grow, mean_of, block_of, falls_typed}
 
 all_taken : (past : Bool) (taken : Picks) → Taken past taken taken []

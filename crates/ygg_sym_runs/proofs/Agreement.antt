@@ -19,14 +19,14 @@ use Rattle.ygg_syntax.specs.declared.tree.Stmt.{Stmt, roll-Stmt, map-Stmt}
 use Rattle.ygg_syntax.specs.declared.tree.Block.{Block, roll-Block, map-Block, fold-Block}
 use Rattle.ygg_syntax.specs.declared.tree.Stmt.TheOpen.{Stmt-F, Block-F}
 use Rattle.ygg_syntax.specs.declared.tree.Stmt.TheFolds.{ind-Stmt, fold-roll-Stmt, fold-roll-Block}
-use Rattle.ygg_direct.specs.ygg_type_rules.Names.{Named, look_up}
+use Rattle.ygg_meaning_laws.specs.ygg_type_rules.Names.{Named, look_up}
 use Rattle.ygg_base.specs.declared.reason.Reason.TheVariants as reason
-use Rattle.ygg_direct.specs.ygg_type_rules.declared.scope.Signature.{Signature}
-use Rattle.ygg_direct.specs.ygg_type_rules.TypeErrors.{TypeErrors, none}
-use Rattle.ygg_direct.specs.ygg_type_rules.Shapes.{is_word, width_of, word_shape}
-use Rattle.ygg_direct.specs.ygg_type_rules.Scopes.{Scope, name_in, is_taken}
-use Rattle.ygg_direct.specs.ygg_type_rules.Expressions.{wanted, typing, number_errors, with_number, expected_errors}
-use Rattle.ygg_direct.specs.ygg_type_rules.Statements.{
+use Rattle.ygg_meaning_laws.specs.ygg_type_rules.declared.scope.Signature.{Signature}
+use Rattle.ygg_meaning_laws.specs.ygg_type_rules.TypeErrors.{TypeErrors, none}
+use Rattle.ygg_meaning_laws.specs.ygg_type_rules.Shapes.{is_word, width_of, word_shape}
+use Rattle.ygg_meaning_laws.specs.ygg_type_rules.Scopes.{Scope, name_in, is_taken}
+use Rattle.ygg_meaning_laws.specs.ygg_type_rules.Expressions.{wanted, typing, number_errors, with_number, expected_errors}
+use Rattle.ygg_meaning_laws.specs.ygg_type_rules.Statements.{
   Walked,
   source_typing,
   call_typing,
@@ -38,24 +38,24 @@ use Rattle.ygg_direct.specs.ygg_type_rules.Statements.{
   node_inside,
   walked,
 }
-use Rattle.ygg_direct.specs.ygg_type_rules.Statements as rules
-use Rattle.ygg_direct.specs.ygg_meaning.Environments.{Name, Env, assign}
-use Rattle.ygg_direct.specs.ygg_meaning.Meaning.{Functions, is_one}
-use Rattle.ygg_direct.specs.ygg_meaning.Shapes.{fits}
-use Rattle.ygg_direct.specs.ygg_meaning.Progress.{Question, values_of, indices_of, assigned}
-use Rattle.ygg_direct.specs.ygg_meaning.Progress as progress
-use Rattle.ygg_direct.specs.ygg_type_sound.Fitting.{HasShape}
-use Rattle.ygg_direct.specs.ygg_type_sound.Agrees.{Agrees}
-use Rattle.ygg_direct.specs.ygg_type_sound_proofs_Tests.{left as first_of, right as second_of, passed, turned}
-use Rattle.ygg_direct.specs.ygg_type_sound_proofs_Fits.{word_wide, value_fits}
-use Rattle.ygg_direct.specs.ygg_type_sound_proofs_Names.{value_found}
-use Rattle.ygg_direct.specs.ygg_type_sound_proofs_Rules.{NumberParts, number_parts, wanted_has}
-use Rattle.ygg_direct.specs.ygg_type_sound_proofs_Steps.{agrees_with_local, agrees_with_number}
-use Rattle.ygg_direct.specs.ygg_type_sound.Kinds.{all_keep, node_keeps, node_all_keep, stmt_keeps}
-use Rattle.ygg_direct.specs.ygg_type_sound.Questions.{plain, question_fits, Follows}
-use Rattle.ygg_direct.specs.ygg_type_sound.Blocks.{eval_with}
-use Rattle.ygg_direct.specs.ygg_type_sound_proofs_TypeErrors.{called}
-use Rattle.ygg_direct.specs.ygg_type_sound_proofs_Following.{
+use Rattle.ygg_meaning_laws.specs.ygg_type_rules.Statements as rules
+use Rattle.ygg_meaning_laws.specs.ygg_meaning.Environments.{Name, Env, assign}
+use Rattle.ygg_meaning_laws.specs.ygg_meaning.Meaning.{Functions, is_one}
+use Rattle.ygg_meaning_laws.specs.ygg_meaning.Shapes.{fits}
+use Rattle.ygg_meaning_laws.specs.ygg_meaning.Progress.{Question, values_of, indices_of, assigned}
+use Rattle.ygg_meaning_laws.specs.ygg_meaning.Progress as progress
+use Rattle.ygg_meaning_laws.specs.Fitting.{HasShape}
+use Rattle.ygg_meaning_laws.specs.Agrees.{Agrees}
+use Rattle.ygg_meaning_laws.proofs.Tests.{left as first_of, right as second_of, passed, turned}
+use Rattle.ygg_meaning_laws.proofs.Fits.{word_wide, value_fits}
+use Rattle.ygg_meaning_laws.proofs.Names.{value_found}
+use Rattle.ygg_meaning_laws.proofs.Rules.{NumberParts, number_parts, wanted_has}
+use Rattle.ygg_meaning_laws.proofs.Steps.{agrees_with_local, agrees_with_number}
+use Rattle.ygg_meaning_laws.specs.Kinds.{all_keep, node_keeps, node_all_keep, stmt_keeps}
+use Rattle.ygg_meaning_laws.specs.Questions.{plain, question_fits, Follows}
+use Rattle.ygg_meaning_laws.specs.Blocks.{eval_with}
+use Rattle.ygg_meaning_laws.proofs.TypeErrors.{called}
+use Rattle.ygg_meaning_laws.proofs.Following.{
   Keeps,
   follows_same,
   follows_more,
@@ -66,8 +66,8 @@ use Rattle.ygg_direct.specs.ygg_type_sound_proofs_Following.{
   take_assigned,
   agrees_after,
 }
-use Rattle.ygg_direct.specs.ygg_type_sound_proofs_Asking.{local_lower}
-use Rattle.ygg_direct.specs.ygg_type_sound_proofs_ProgressFits.{one_shape, part_fits}
+use Rattle.ygg_meaning_laws.proofs.Asking.{local_lower}
+use Rattle.ygg_meaning_laws.proofs.ProgressFits.{one_shape, part_fits}
 use Rattle.ygg_sym_expr.specs.ygg_rules.declared.rule.RuleKind.{RuleKind}
 use Rattle.ygg_sym_expr.specs.ygg_bank_proofs_Meaning.{fits_fewer}
 use Rattle.ygg_sym_expr.specs.ygg_bank_proofs_Widths.{wider, extends_self, extends_both}
@@ -79,8 +79,8 @@ use Rattle.ygg_sym_expr.specs.ygg_bank.declared.node.Node.{Node}
 use Rattle.ygg_sym_expr.specs.ygg_bank.declared.node.Node.TheVariants as node
 use Rattle.ygg_sym_expr.specs.ygg_shape_cells.Terms.{worth}
 use Rattle.ygg_sym_expr.specs.ygg_shape_cells.declared.terms.SymValue.{SymValue}
-use Rattle.ygg_direct.specs.Direct.{Handled, Reached, Direct, total, then_run, stays}
-use Rattle.ygg_direct.specs.Direct.{forgets, times, in_order, source_got, stmt_direct, block_direct, direct_of}
+use Rattle.ygg_meaning_laws.specs.Direct.{Handled, Reached, Direct, total, then_run, stays}
+use Rattle.ygg_meaning_laws.specs.Direct.{forgets, times, in_order, source_got, stmt_direct, block_direct, direct_of}
 use Rattle.ygg_sym_expr.specs.Names.{SymEnv}
 use Rattle.ygg_sym_expr.specs.Exprs.{SymFunctions, id_in, number_made, sym_value}
 use Rattle.ygg_sym_expr.specs.Meaning.{EnvShaped, Grows, Gives, worths}
@@ -94,7 +94,7 @@ use Rattle.ygg_sym_runs.specs.Runs.{sym_in_order, sym_change, sym_values, sym_so
 use Rattle.ygg_sym_runs.specs.Meaning.{Low, is_set, question_worth, MachineMeans, RunIs}
 use Rattle.ygg_sym_runs.proofs.Worths.{env_fits_some, merge_env_grows, merge_env_gives}
 use Rattle.ygg_sym_runs.proofs.Putting.{ArePlaces, put_grows, put_gives}
-use Rattle.ygg_direct.specs.ygg_type_sound_proofs_ProgressSounds.{call_fits, target_of}
+use Rattle.ygg_meaning_laws.proofs.ProgressSounds.{call_fits, target_of}
 use Rattle.ygg_sym_runs.proofs.Typed.{Indices, all_have, indices_of_place}
 use Rattle.ygg_sym_runs.proofs.Ends.{if_env, if_to, if_both, follows_length, take_length, env_take, one_more, one_worth}
 use Rattle.ygg_sym_runs.proofs.Parts.{InScope, eval_gives, change_grows, change_gives, places_worth, values_grow, values_give, source_grows, source_gives}

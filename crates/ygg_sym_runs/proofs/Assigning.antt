@@ -8,17 +8,17 @@ use Rattle.ygg_syntax.specs.declared.tree.Def.{Def}
 use Rattle.ygg_syntax.specs.declared.tree.Index.{Index}
 use Rattle.ygg_syntax.specs.declared.tree.Name as tree_name
 use Rattle.ygg_syntax.specs.declared.tree.Source.{Source}
-use Rattle.ygg_direct.specs.ygg_type_rules.Names.{Named, look_up}
-use Rattle.ygg_direct.specs.ygg_type_rules.declared.scope.Signature.{Signature}
-use Rattle.ygg_direct.specs.ygg_type_rules.TypeErrors.{none}
-use Rattle.ygg_direct.specs.ygg_type_rules.Scopes.{Scope}
-use Rattle.ygg_direct.specs.ygg_type_rules.Expressions.{wanted}
-use Rattle.ygg_direct.specs.ygg_type_rules.Statements.{source_typing, place_rule}
-use Rattle.ygg_direct.specs.ygg_type_sound_proofs_Tests.{left as first_of, right as second_of}
-use Rattle.ygg_direct.specs.ygg_type_sound.Blocks.{eval_with}
-use Rattle.ygg_direct.specs.ygg_meaning.Environments.{Name}
-use Rattle.ygg_direct.specs.ygg_meaning.Meaning.{Functions}
-use Rattle.ygg_direct.specs.ygg_meaning.Progress.{values_of}
+use Rattle.ygg_meaning_laws.specs.ygg_type_rules.Names.{Named, look_up}
+use Rattle.ygg_meaning_laws.specs.ygg_type_rules.declared.scope.Signature.{Signature}
+use Rattle.ygg_meaning_laws.specs.ygg_type_rules.TypeErrors.{none}
+use Rattle.ygg_meaning_laws.specs.ygg_type_rules.Scopes.{Scope}
+use Rattle.ygg_meaning_laws.specs.ygg_type_rules.Expressions.{wanted}
+use Rattle.ygg_meaning_laws.specs.ygg_type_rules.Statements.{source_typing, place_rule}
+use Rattle.ygg_meaning_laws.proofs.Tests.{left as first_of, right as second_of}
+use Rattle.ygg_meaning_laws.specs.Blocks.{eval_with}
+use Rattle.ygg_meaning_laws.specs.ygg_meaning.Environments.{Name}
+use Rattle.ygg_meaning_laws.specs.ygg_meaning.Meaning.{Functions}
+use Rattle.ygg_meaning_laws.specs.ygg_meaning.Progress.{values_of}
 use Rattle.ygg_sym_expr.specs.ygg_rules.declared.rule.RuleKind.{RuleKind}
 use Rattle.ygg_sym_expr.specs.ygg_bank_proofs_Meaning.{fits_fewer}
 use Rattle.ygg_sym_expr.specs.ygg_bank_proofs_Widths.{stands, extends_both}
@@ -28,7 +28,7 @@ use Rattle.ygg_sym_expr.specs.ygg_bank.declared.node.Id.{Id}
 use Rattle.ygg_sym_expr.specs.ygg_bank.declared.node.Node.{Node}
 use Rattle.ygg_sym_expr.specs.ygg_shape_cells.Terms.{IsShaped, worth}
 use Rattle.ygg_sym_expr.specs.ygg_shape_cells.declared.terms.SymValue.{SymValue}
-use Rattle.ygg_direct.specs.Direct.{source_got}
+use Rattle.ygg_meaning_laws.specs.Direct.{source_got}
 use Rattle.ygg_sym_expr.specs.Names.{SymEnv, sym_look_up}
 use Rattle.ygg_sym_expr.specs.Exprs.{SymFunctions, id_in}
 use Rattle.ygg_sym_expr.specs.Meaning.{EnvShaped, IsWorth, worths}

@@ -18,11 +18,11 @@ use Rattle.ygg_sym_runs.specs.ygg_meaning.Environments.{Name, bind}
 use Rattle.ygg_sym_runs.specs.ygg_meaning.Shapes.{shape_in, fits, values_fit, env_fits}
 use Rattle.ygg_sym_runs.specs.ygg_meaning.Progress.{answer_of}
 use Rattle.ygg_sym_runs.specs.ygg_meaning.Layer.{ClosedLayer}
-use Rattle.ygg_sym_runs.specs.ygg_type_sound.Agrees.{Agrees}
-use Rattle.ygg_sym_runs.specs.ygg_type_sound.Kinds.{keeps}
-use Rattle.ygg_sym_runs.specs.ygg_type_sound.Questions.{plain, Follows}
-use Rattle.ygg_sym_runs.specs.ygg_type_sound.Blocks.{eval_with, is_returned}
-use Rattle.ygg_sym_runs.specs.ygg_type_sound_proofs_Following.{follows_front, fits_after}
+use Rattle.ygg_sym_runs.specs.ygg_meaning_laws.Agrees.{Agrees}
+use Rattle.ygg_sym_runs.specs.ygg_meaning_laws.Kinds.{keeps}
+use Rattle.ygg_sym_runs.specs.ygg_meaning_laws.Questions.{plain, Follows}
+use Rattle.ygg_sym_runs.specs.ygg_meaning_laws.Blocks.{eval_with, is_returned}
+use Rattle.ygg_sym_runs.specs.ygg_meaning_laws_proofs_Following.{follows_front, fits_after}
 use Rattle.ygg_sym_runs.specs.ygg_rules.declared.rule.RuleKind.{RuleKind}
 use Rattle.ygg_sym_runs.specs.ygg_bank_proofs_Meaning.{fits_fewer}
 use Rattle.ygg_sym_runs.specs.ygg_bank.Makes.{Make}
@@ -31,8 +31,8 @@ use Rattle.ygg_sym_runs.specs.ygg_bank.declared.node.Id.{Id}
 use Rattle.ygg_sym_runs.specs.ygg_bank.declared.node.Node.{Node}
 use Rattle.ygg_sym_runs.specs.ygg_shape_cells.Terms.{worth}
 use Rattle.ygg_sym_runs.specs.ygg_shape_cells.declared.terms.SymValue.{SymValue}
-use Rattle.ygg_sym_runs.specs.ygg_direct.Direct.{Reached, direct_run}
-use Rattle.ygg_sym_runs.specs.ygg_direct.Places.{Result}
+use Rattle.ygg_sym_runs.specs.ygg_meaning_laws.Direct.{Reached, direct_run}
+use Rattle.ygg_sym_runs.specs.ygg_meaning_laws.Places.{Result}
 use Rattle.ygg_sym_runs.specs.ygg_sym_expr.Names.{SymEnv, sym_bind}
 use Rattle.ygg_sym_runs.specs.ygg_sym_expr.Exprs.{SymFunctions}
 use Rattle.ygg_sym_runs.specs.ygg_sym_expr.Meaning.{SomeShape, Grows, Gives, worths}

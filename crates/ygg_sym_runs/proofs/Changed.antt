@@ -34,8 +34,8 @@ use Rattle.std.specs.Str.{bytes_eq}
 use Rattle.std.proofs.lemmas.Option.{slice_get_read, slice_get-map}
 use Rattle.std.proofs.lemmas.List.{map-set}
 use Rattle.std.proofs.Math.Seq.{take-append_seam}
-use Rattle.ygg_direct.specs.ygg_meaning.Environments.{Name}
-use Rattle.ygg_direct.specs.ygg_type_sound_proofs_Tests.{bytes_same}
+use Rattle.ygg_meaning_laws.specs.ygg_meaning.Environments.{Name}
+use Rattle.ygg_meaning_laws.proofs.Tests.{bytes_same}
 use Rattle.ygg_sym_expr.specs.ygg_bank.Makes.{Make, Out, pure, and_make}
 use Rattle.ygg_sym_expr.specs.ygg_bank.declared.node.Node.{Node}
 use Rattle.ygg_sym_expr.specs.ygg_shape_cells.declared.terms.SymValue.{SymValue}

@@ -6,15 +6,15 @@ use Rattle.ygg_sym_runs.specs.ygg_meaning.Environments.{Env}
 use Rattle.ygg_sym_runs.specs.ygg_meaning.Progress.{Question, Choice, Call, Answer, answer_of}
 use Rattle.ygg_sym_runs.specs.ygg_meaning.Machine.{Picks}
 use Rattle.ygg_sym_runs.specs.ygg_meaning.Layer.{ClosedLayer, eval_of}
-use Rattle.ygg_sym_runs.specs.ygg_direct.Direct.{Handled, Event, Reached, Chained, Within, Alike, question_space, room_of, direct_run}
-use Rattle.ygg_sym_runs.specs.ygg_direct.Acts.{next_of}
-use Rattle.ygg_sym_runs.specs.ygg_direct.Places.{Held, left_after, by_place, from_front, choosing, Result, outcome_by_place}
-use Rattle.ygg_sym_runs.specs.ygg_direct.SpecActs.{Ran, block_ran}
-use Rattle.ygg_sym_runs.specs.ygg_direct_proofs_Order.{block_follows}
-use Rattle.ygg_sym_runs.specs.ygg_direct_proofs_Mirror.{block_mirrors}
-use Rattle.ygg_sym_runs.specs.ygg_direct_proofs_Rooms.{room_is}
-use Rattle.ygg_sym_runs.specs.ygg_direct_proofs_Placing.{fronted, all_placed}
-use Rattle.ygg_sym_runs.specs.ygg_direct_proofs_Choosing.{one, choosing_draws}
+use Rattle.ygg_sym_runs.specs.ygg_meaning_laws.Direct.{Handled, Event, Reached, Chained, Within, Alike, question_space, room_of, direct_run}
+use Rattle.ygg_sym_runs.specs.ygg_meaning_laws.Acts.{next_of}
+use Rattle.ygg_sym_runs.specs.ygg_meaning_laws.Places.{Held, left_after, by_place, from_front, choosing, Result, outcome_by_place}
+use Rattle.ygg_sym_runs.specs.ygg_meaning_laws.SpecActs.{Ran, block_ran}
+use Rattle.ygg_sym_runs.specs.ygg_meaning_laws_proofs_Order.{block_follows}
+use Rattle.ygg_sym_runs.specs.ygg_meaning_laws_proofs_Mirror.{block_mirrors}
+use Rattle.ygg_sym_runs.specs.ygg_meaning_laws_proofs_Rooms.{room_is}
+use Rattle.ygg_sym_runs.specs.ygg_meaning_laws_proofs_Placing.{fronted, all_placed}
+use Rattle.ygg_sym_runs.specs.ygg_meaning_laws_proofs_Choosing.{one, choosing_draws}
 use Rattle.ygg_sym_runs.specs.Specs.{Nothing}
 use Rattle.ygg_sym_runs.specs.Wholes.{picks_from}
 use Rattle.ygg_sym_runs.proofs.Specs.{choose_at}

@@ -17,7 +17,7 @@ use Rattle.ygg_sym_runs.specs.ygg_meaning.Progress as progress
 use Rattle.ygg_sym_runs.specs.ygg_meaning.Machine.{State, based}
 use Rattle.ygg_sym_runs.specs.ygg_meaning.DiskMachine.{tables_in}
 use Rattle.ygg_sym_runs.specs.ygg_meaning.Stack.{tables_of_kind, tables_of}
-use Rattle.ygg_sym_runs.specs.ygg_type_sound.Questions.{question_fits}
+use Rattle.ygg_sym_runs.specs.ygg_meaning_laws.Questions.{question_fits}
 use Rattle.ygg_sym_runs.specs.ygg_rules.declared.rule.RuleKind.{RuleKind}
 use Rattle.ygg_sym_runs.specs.ygg_bank_proofs_Made.{made_grows}
 use Rattle.ygg_sym_runs.specs.ygg_bank_proofs_Meaning.{fits_fewer}
@@ -27,14 +27,13 @@ use Rattle.ygg_sym_runs.specs.ygg_bank.Values.{Inputs, Values}
 use Rattle.ygg_sym_runs.specs.ygg_bank.declared.node.Node.{Node}
 use Rattle.ygg_sym_runs.specs.ygg_bank.declared.node.Node.TheVariants.{Input, Bin}
 use Rattle.ygg_sym_runs.specs.ygg_shape_words_proofs_Grows.{picked_grows}
-use Rattle.ygg_sym_runs.specs.ygg_shape_cells_proofs_Wider.{row_wider}
+use Rattle.ygg_sym_runs.specs.ygg_shape_cells_proofs_Wider.{row_wider, shaped_wider}
 use Rattle.ygg_sym_runs.specs.ygg_shape_cells.Terms.{worth, row_of}
 use Rattle.ygg_sym_runs.specs.ygg_shape_cells.declared.terms.SymValue.{SymValue}
-use Rattle.ygg_sym_runs.specs.ygg_direct.DiskActs.{kind_falls, state_in, table_in, disk_drops, disk_acts}
-use Rattle.ygg_sym_runs.specs.ygg_direct.RunPlaces.{cut_by}
-use Rattle.ygg_sym_runs.specs.ygg_direct_proofs_DiskServes.{fitting_call}
+use Rattle.ygg_sym_runs.specs.ygg_meaning_laws.DiskActs.{kind_falls, state_in, table_in, disk_drops, disk_acts}
+use Rattle.ygg_sym_runs.specs.ygg_meaning_laws.RunPlaces.{cut_by}
+use Rattle.ygg_sym_runs.specs.ygg_meaning_laws_proofs_DiskServes.{fitting_call}
 use Rattle.ygg_sym_runs.specs.ygg_sym_expr.Meaning.{Gives}
-use Rattle.ygg_sym_runs.specs.ygg_shape_cells_proofs_Wider.{shaped_wider}
 use Rattle.ygg_sym_runs.specs.Runs.{SymQuestion, Choice, Call}
 use Rattle.ygg_sym_runs.specs.Meaning.{Low, question_worth, QuestionShaped, IsLow}
 use Rattle.ygg_sym_runs.specs.Lows.{LowShaped, low_worth}

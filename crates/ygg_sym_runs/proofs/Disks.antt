@@ -29,12 +29,12 @@ use Rattle.ygg_sym_runs.specs.ygg_meaning.Progress as progress
 use Rattle.ygg_sym_runs.specs.ygg_meaning.Machine.{State, based}
 use Rattle.ygg_sym_runs.specs.ygg_meaning.DiskMachine.{disk_call, answer_to, tables_in}
 use Rattle.ygg_sym_runs.specs.ygg_meaning.Stack.{tables_of_kind, tables_of}
-use Rattle.ygg_sym_runs.specs.ygg_type_sound.Fitting.{fits_wanted, all_fit}
-use Rattle.ygg_sym_runs.specs.ygg_type_sound_proofs_Tests.{left as first_of, right as second_of, bytes_same, bytes_equal}
-use Rattle.ygg_sym_runs.specs.ygg_type_sound_proofs_Fits.{fits_has}
-use Rattle.ygg_sym_runs.specs.ygg_type_sound.Questions.{answer_fits, question_fits}
-use Rattle.ygg_sym_runs.specs.ygg_type_sound.Machines.{IsSized}
-use Rattle.ygg_sym_runs.specs.ygg_type_sound_proofs_Disks.{disk_row_is}
+use Rattle.ygg_sym_runs.specs.ygg_meaning_laws.Fitting.{fits_wanted, all_fit}
+use Rattle.ygg_sym_runs.specs.ygg_meaning_laws_proofs_Tests.{left as first_of, right as second_of, bytes_same, bytes_equal}
+use Rattle.ygg_sym_runs.specs.ygg_meaning_laws_proofs_Fits.{fits_has}
+use Rattle.ygg_sym_runs.specs.ygg_meaning_laws.Questions.{answer_fits, question_fits}
+use Rattle.ygg_sym_runs.specs.ygg_meaning_laws.Machines.{IsSized}
+use Rattle.ygg_sym_runs.specs.ygg_meaning_laws_proofs_Disks.{disk_row_is}
 use Rattle.ygg_sym_runs.specs.ygg_rules.declared.rule.RuleKind.{RuleKind}
 use Rattle.ygg_sym_runs.specs.ygg_bank_proofs_Made.{made_grows, added_there}
 use Rattle.ygg_sym_runs.specs.ygg_bank_proofs_Meaning.{fits_fewer}
@@ -45,20 +45,19 @@ use Rattle.ygg_sym_runs.specs.ygg_bank.Values.{Inputs, Values, Fits}
 use Rattle.ygg_sym_runs.specs.ygg_bank.declared.node.Id.{Id}
 use Rattle.ygg_sym_runs.specs.ygg_bank.declared.node.Node.{Node}
 use Rattle.ygg_sym_runs.specs.ygg_bank.declared.node.Node.TheVariants.{Input}
-use Rattle.ygg_sym_runs.specs.ygg_shape_cells_proofs_Wider.{row_wider}
+use Rattle.ygg_sym_runs.specs.ygg_shape_cells_proofs_Wider.{row_wider, shaped_wider}
 use Rattle.ygg_sym_runs.specs.ygg_shape_cells.Terms.{IsRow, worth, row_of}
 use Rattle.ygg_sym_runs.specs.ygg_shape_cells.declared.terms.SymValue.{SymValue}
 use Rattle.ygg_sym_runs.specs.ygg_shape_cells.declared.terms.SymValue.TheVariants.{Word, Row, Table}
-use Rattle.ygg_sym_runs.specs.ygg_shape_proofs_Makers.{selected_gives, stored_gives, stored_where_gives}
-use Rattle.ygg_sym_runs.specs.ygg_direct.Direct.{Handled, question_space}
-use Rattle.ygg_sym_runs.specs.ygg_direct.RunPlaces.{disk_space}
-use Rattle.ygg_sym_runs.specs.ygg_direct.Places.{calling}
-use Rattle.ygg_sym_runs.specs.ygg_direct.DiskActs.{Replied, kind_calls, state_in, table_in, disk_does, disk_acts}
-use Rattle.ygg_sym_runs.specs.ygg_direct_proofs_DiskServes.{fitting_call, disk_serves}
+use Rattle.ygg_sym_runs.specs.ygg_shape_cells_proofs_Makers.{selected_gives, stored_gives, stored_where_gives}
+use Rattle.ygg_sym_runs.specs.ygg_meaning_laws.Direct.{Handled, question_space}
+use Rattle.ygg_sym_runs.specs.ygg_meaning_laws.RunPlaces.{disk_space}
+use Rattle.ygg_sym_runs.specs.ygg_meaning_laws.Places.{calling}
+use Rattle.ygg_sym_runs.specs.ygg_meaning_laws.DiskActs.{Replied, kind_calls, state_in, table_in, disk_does, disk_acts}
+use Rattle.ygg_sym_runs.specs.ygg_meaning_laws_proofs_DiskServes.{fitting_call, disk_serves}
 use Rattle.ygg_sym_runs.specs.ygg_sym_expr.Exprs.{id_in}
 use Rattle.ygg_sym_runs.specs.ygg_shape_cells.Terms.{IsShaped}
 use Rattle.ygg_sym_runs.specs.ygg_sym_expr.Meaning.{SomeShape, Gives}
-use Rattle.ygg_sym_runs.specs.ygg_shape_cells_proofs_Wider.{shaped_wider}
 use Rattle.ygg_sym_runs.specs.ygg_sym_expr_proofs_Shaped.{worth_shape, is_term}
 use Rattle.ygg_sym_runs.specs.Putting.{row_in}
 use Rattle.ygg_sym_runs.specs.Runs.{SymQuestion, Choice, Call, SymHandled}

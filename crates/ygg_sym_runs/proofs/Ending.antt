@@ -11,7 +11,7 @@ use Rattle.ygg_sym_runs.specs.ygg_type_rules.Scopes.{Scope}
 use Rattle.ygg_sym_runs.specs.ygg_type_rules.Expressions.{typing, wanted}
 use Rattle.ygg_sym_runs.specs.ygg_type_rules.Statements.{walked, return_errors}
 use Rattle.ygg_sym_runs.specs.ygg_type_rules.Statements as rules
-use Rattle.ygg_sym_runs.specs.ygg_type_sound_proofs_Tests.{left as first_of, right as second_of}
+use Rattle.ygg_sym_runs.specs.ygg_meaning_laws_proofs_Tests.{left as first_of, right as second_of}
 use Rattle.ygg_sym_runs.specs.ygg_rules.declared.rule.RuleKind.{RuleKind}
 use Rattle.ygg_sym_runs.specs.ygg_bank.Makes.{Out}
 use Rattle.ygg_sym_runs.specs.ygg_bank.Nodes.{IsBank}

@@ -3,13 +3,13 @@ use Rattle.std.proofs.Common.{◌≡◌, ℕ, zero, suc, ◌≤◌, Bool, true, 
 use Rattle.std.proofs.lemmas.List.{map-append}
 use Rattle.std.proofs.lemmas.List.Elements.{All-head, All-tail, All-cons, All-nil, All-append}
 use Rattle.ygg_value.specs.declared.row.Value.{Value}
-use Rattle.ygg_direct.specs.ygg_meaning.Environments.{Name, Env}
-use Rattle.ygg_direct.specs.ygg_type_sound.Questions.{Follows}
+use Rattle.ygg_meaning_laws.specs.ygg_meaning.Environments.{Name, Env}
+use Rattle.ygg_meaning_laws.specs.Questions.{Follows}
 use Rattle.ygg_sym_expr.specs.ygg_bank.Values.{Inputs, Values}
 use Rattle.ygg_sym_expr.specs.ygg_bank.declared.node.Node.{Node}
 use Rattle.ygg_sym_expr.specs.ygg_shape_cells.Terms.{worth}
 use Rattle.ygg_sym_expr.specs.ygg_shape_cells.declared.terms.SymValue.{SymValue}
-use Rattle.ygg_direct.specs.Direct.{Reached}
+use Rattle.ygg_meaning_laws.specs.Direct.{Reached}
 use Rattle.ygg_sym_expr.specs.Names.{SymEnv}
 use Rattle.ygg_sym_expr.specs.Meaning.{SomeShape, EnvShaped, worths}
 use Rattle.ygg_sym_runs.proofs.Worths.{NameShaped}

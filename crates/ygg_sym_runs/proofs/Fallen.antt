@@ -15,8 +15,8 @@ use Rattle.ygg_sym_runs.specs.ygg_meaning.Environments.{Name, Env}
 use Rattle.ygg_sym_runs.specs.ygg_meaning.Meaning.{Functions}
 use Rattle.ygg_sym_runs.specs.ygg_meaning.Progress.{Eval, Question}
 use Rattle.ygg_sym_runs.specs.ygg_meaning.Obligations.{Halt}
-use Rattle.ygg_sym_runs.specs.ygg_type_sound.Blocks.{eval_with}
-use Rattle.ygg_sym_runs.specs.ygg_type_sound.Kinds.{keeps}
+use Rattle.ygg_sym_runs.specs.ygg_meaning_laws.Blocks.{eval_with}
+use Rattle.ygg_sym_runs.specs.ygg_meaning_laws.Kinds.{keeps}
 use Rattle.ygg_sym_runs.specs.ygg_rules.declared.rule.RuleKind.{RuleKind}
 use Rattle.ygg_sym_runs.specs.ygg_bank_proofs_Made.{made_grows}
 use Rattle.ygg_sym_runs.specs.ygg_bank_proofs_Meaning.{fits_fewer}
@@ -28,10 +28,10 @@ use Rattle.ygg_sym_runs.specs.ygg_bank.declared.node.Id.{Id}
 use Rattle.ygg_sym_runs.specs.ygg_bank.declared.node.Node.{Node}
 use Rattle.ygg_sym_runs.specs.ygg_bank.declared.node.Node.TheVariants.{Const}
 use Rattle.ygg_sym_runs.specs.ygg_shape_words_proofs_Terms.{made_is}
-use Rattle.ygg_sym_runs.specs.ygg_direct.Direct.{Handled, Event, Reached, Chained, seen, direct_run}
-use Rattle.ygg_sym_runs.specs.ygg_direct.RunPlaces.{base_at, asked_in}
-use Rattle.ygg_sym_runs.specs.ygg_direct_proofs_Order.{block_follows}
-use Rattle.ygg_sym_runs.specs.ygg_direct_proofs_Mirror.{block_mirrors}
+use Rattle.ygg_sym_runs.specs.ygg_meaning_laws.Direct.{Handled, Event, Reached, Chained, seen, direct_run}
+use Rattle.ygg_sym_runs.specs.ygg_meaning_laws.RunPlaces.{base_at, asked_in}
+use Rattle.ygg_sym_runs.specs.ygg_meaning_laws_proofs_Order.{block_follows}
+use Rattle.ygg_sym_runs.specs.ygg_meaning_laws_proofs_Mirror.{block_mirrors}
 use Rattle.ygg_sym_runs.specs.ygg_sym_expr.Names.{SymEnv}
 use Rattle.ygg_sym_runs.specs.ygg_sym_expr.Exprs.{SymFunctions}
 use Rattle.ygg_sym_runs.specs.ygg_sym_expr.Meaning.{EnvShaped, Grows, Gives, worths}

@@ -11,7 +11,7 @@ use Rattle.ygg_sym_runs.specs.ygg_type_rules.TypeErrors.{none}
 use Rattle.ygg_sym_runs.specs.ygg_type_rules.Statements.{walked, return_errors}
 use Rattle.ygg_sym_runs.specs.ygg_type_rules.Statements as rules
 use Rattle.ygg_sym_runs.specs.ygg_type_rules.Definitions.{definitions_errors, with_definitions}
-use Rattle.ygg_sym_runs.specs.ygg_type_sound_proofs_Tests.{left as first_of}
+use Rattle.ygg_sym_runs.specs.ygg_meaning_laws_proofs_Tests.{left as first_of}
 use Rattle.ygg_sym_runs.specs.ygg_type_rules.Files.{disk_errors, disk_operations}
 use Rattle.ygg_sym_runs.specs.ygg_meaning.Environments.{Name, Env}
 use Rattle.ygg_sym_runs.specs.ygg_meaning.Meaning.{functions_of}
@@ -20,10 +20,10 @@ use Rattle.ygg_sym_runs.specs.ygg_meaning.Machine.{State, on, based}
 use Rattle.ygg_sym_runs.specs.ygg_meaning.Obligations.{Halt}
 use Rattle.ygg_sym_runs.specs.ygg_meaning.DiskMachine.{DiskMachine}
 use Rattle.ygg_sym_runs.specs.ygg_meaning.Stack.{tables_of}
-use Rattle.ygg_sym_runs.specs.ygg_type_sound.Agrees.{Agrees}
-use Rattle.ygg_sym_runs.specs.ygg_type_sound.Questions.{plain}
-use Rattle.ygg_sym_runs.specs.ygg_type_sound.Blocks.{eval_with}
-use Rattle.ygg_sym_runs.specs.ygg_type_sound.Machines.{IsSized}
+use Rattle.ygg_sym_runs.specs.ygg_meaning_laws.Agrees.{Agrees}
+use Rattle.ygg_sym_runs.specs.ygg_meaning_laws.Questions.{plain}
+use Rattle.ygg_sym_runs.specs.ygg_meaning_laws.Blocks.{eval_with}
+use Rattle.ygg_sym_runs.specs.ygg_meaning_laws.Machines.{IsSized}
 use Rattle.ygg_sym_runs.specs.ygg_rules.declared.rule.RuleKind.{RuleKind}
 use Rattle.ygg_sym_runs.specs.ygg_bank_proofs_Exist.{values_fit}
 use Rattle.ygg_sym_runs.specs.ygg_bank_proofs_Meaning.{fits_fewer}
@@ -32,15 +32,15 @@ use Rattle.ygg_sym_runs.specs.ygg_bank.Values.{Inputs, Values, Fits, value_of}
 use Rattle.ygg_sym_runs.specs.ygg_bank.declared.node.Node.{Node}
 use Rattle.ygg_sym_runs.specs.ygg_shape_cells.Terms.{worth}
 use Rattle.ygg_sym_runs.specs.ygg_shape_cells.declared.terms.SymValue.{SymValue}
-use Rattle.ygg_sym_runs.specs.ygg_direct.Direct.{Reached, direct_run, room_of}
-use Rattle.ygg_sym_runs.specs.ygg_direct.Acts.{Fell, noted_picks, falls_in}
-use Rattle.ygg_sym_runs.specs.ygg_direct.Places.{by_place, calling}
-use Rattle.ygg_sym_runs.specs.ygg_direct.DiskActs.{disk_acts}
-use Rattle.ygg_sym_runs.specs.ygg_direct.Laws.{FallsOn, IsTypedBlock}
-use Rattle.ygg_sym_runs.specs.ygg_direct.RunPlaces.{disk_space, falls_by_place, base_at, asked_in, base_of}
-use Rattle.ygg_sym_runs.proofs.of_ygg_direct.FallPlacing.{falls_by_place_on_disk}
-use Rattle.ygg_sym_runs.specs.ygg_direct_proofs_RunPlacing.{calling_draws, disk_tidy}
-use Rattle.ygg_sym_runs.proofs.of_ygg_direct.Typed.{direct_on_disk}
+use Rattle.ygg_sym_runs.specs.ygg_meaning_laws.Direct.{Reached, direct_run, room_of}
+use Rattle.ygg_sym_runs.specs.ygg_meaning_laws.Acts.{Fell, noted_picks, falls_in}
+use Rattle.ygg_sym_runs.specs.ygg_meaning_laws.Places.{by_place, calling}
+use Rattle.ygg_sym_runs.specs.ygg_meaning_laws.DiskActs.{disk_acts}
+use Rattle.ygg_sym_runs.specs.ygg_meaning_laws.DirectLaws.{FallsOn, IsTypedBlock}
+use Rattle.ygg_sym_runs.specs.ygg_meaning_laws.RunPlaces.{disk_space, falls_by_place, base_at, asked_in, base_of}
+use Rattle.ygg_sym_runs.proofs.of_ygg_meaning_laws.FallPlacing.{falls_by_place_on_disk}
+use Rattle.ygg_sym_runs.specs.ygg_meaning_laws_proofs_RunPlacing.{calling_draws, disk_tidy}
+use Rattle.ygg_sym_runs.proofs.of_ygg_meaning_laws.DirectTyped.{direct_on_disk}
 use Rattle.ygg_sym_runs.specs.ygg_sym_expr.Exprs.{sym_functions}
 use Rattle.ygg_sym_runs.specs.ygg_sym_expr.Meaning.{EnvShaped, worths}
 use Rattle.ygg_sym_runs.specs.ygg_sym_expr.Names.{SymEnv}

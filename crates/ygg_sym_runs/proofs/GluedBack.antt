@@ -7,13 +7,13 @@ use Rattle.ygg_sym_runs.specs.ygg_meaning.Environments.{Name, Env, bind}
 use Rattle.ygg_sym_runs.specs.ygg_meaning.Progress.{Eval, Question, Choice, Call, Answer}
 use Rattle.ygg_sym_runs.specs.ygg_meaning.Machine.{Picks, State, based}
 use Rattle.ygg_sym_runs.specs.ygg_meaning.Layer.{ClosedLayer, operation_of}
-use Rattle.ygg_sym_runs.specs.ygg_direct.Direct.{Handled, Event, direct_run, room_of, question_space, Chained, Within, Alike}
-use Rattle.ygg_sym_runs.specs.ygg_direct.Places.{Draw, left_after, by_place, calling}
-use Rattle.ygg_sym_runs.specs.ygg_direct.SpecActs.{spec_does, spec_acts}
-use Rattle.ygg_sym_runs.specs.ygg_direct.RunPlaces.{spec_space}
-use Rattle.ygg_sym_runs.specs.ygg_direct_proofs_Order.{block_follows}
-use Rattle.ygg_sym_runs.specs.ygg_direct_proofs_Mirror.{block_mirrors}
-use Rattle.ygg_sym_runs.specs.ygg_direct_proofs_Rooms.{room_is}
+use Rattle.ygg_sym_runs.specs.ygg_meaning_laws.Direct.{Handled, Event, direct_run, room_of, question_space, Chained, Within, Alike}
+use Rattle.ygg_sym_runs.specs.ygg_meaning_laws.Places.{Draw, left_after, by_place, calling}
+use Rattle.ygg_sym_runs.specs.ygg_meaning_laws.SpecActs.{spec_does, spec_acts}
+use Rattle.ygg_sym_runs.specs.ygg_meaning_laws.RunPlaces.{spec_space}
+use Rattle.ygg_sym_runs.specs.ygg_meaning_laws_proofs_Order.{block_follows}
+use Rattle.ygg_sym_runs.specs.ygg_meaning_laws_proofs_Mirror.{block_mirrors}
+use Rattle.ygg_sym_runs.specs.ygg_meaning_laws_proofs_Rooms.{room_is}
 use Rattle.ygg_sym_runs.proofs.SpecMeans.{spec_ended, spec_at}
 use Rattle.ygg_sym_runs.proofs.Gluing.{Slot, glue, glue_here, glue_later, reached, same_events}
 use Rattle.ygg_sym_runs.proofs.Chosen.{Decided, room, backs}

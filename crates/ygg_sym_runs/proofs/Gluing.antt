@@ -36,15 +36,15 @@ use Rattle.ygg_sym_runs.specs.ygg_meaning.Environments.{Name, Env, bind}
 use Rattle.ygg_sym_runs.specs.ygg_meaning.Progress.{Eval, Question, Choice, Call, Answer}
 use Rattle.ygg_sym_runs.specs.ygg_meaning.Machine.{Picks, State, based}
 use Rattle.ygg_sym_runs.specs.ygg_meaning.Layer.{ClosedLayer, operation_of}
-use Rattle.ygg_sym_runs.specs.ygg_direct.Direct.{Handled, Event, Reached, direct_run, direct_of, room_of, question_space, total, Chained, Within, Alike, seen}
-use Rattle.ygg_sym_runs.specs.ygg_direct.Acts.{next_of}
-use Rattle.ygg_sym_runs.specs.ygg_direct.Places.{Draw, left_after, calling, IsDraw}
-use Rattle.ygg_sym_runs.specs.ygg_direct.SpecActs.{Ran, spec_does, spec_acts}
-use Rattle.ygg_sym_runs.specs.ygg_direct.RunPlaces.{spec_space}
-use Rattle.ygg_sym_runs.specs.ygg_direct_proofs_Order.{block_follows}
-use Rattle.ygg_sym_runs.specs.ygg_direct_proofs_Mirror.{block_mirrors}
-use Rattle.ygg_sym_runs.specs.ygg_direct_proofs_Choosing.{one}
-use Rattle.ygg_sym_runs.specs.ygg_direct_proofs_RunPlacing.{calling_draws, spec_tidy}
+use Rattle.ygg_sym_runs.specs.ygg_meaning_laws.Direct.{Handled, Event, Reached, direct_run, direct_of, room_of, question_space, total, Chained, Within, Alike, seen}
+use Rattle.ygg_sym_runs.specs.ygg_meaning_laws.Acts.{next_of}
+use Rattle.ygg_sym_runs.specs.ygg_meaning_laws.Places.{Draw, left_after, calling, IsDraw}
+use Rattle.ygg_sym_runs.specs.ygg_meaning_laws.SpecActs.{Ran, spec_does, spec_acts}
+use Rattle.ygg_sym_runs.specs.ygg_meaning_laws.RunPlaces.{spec_space}
+use Rattle.ygg_sym_runs.specs.ygg_meaning_laws_proofs_Order.{block_follows}
+use Rattle.ygg_sym_runs.specs.ygg_meaning_laws_proofs_Mirror.{block_mirrors}
+use Rattle.ygg_sym_runs.specs.ygg_meaning_laws_proofs_Choosing.{one}
+use Rattle.ygg_sym_runs.specs.ygg_meaning_laws_proofs_RunPlacing.{calling_draws, spec_tidy}
 use Rattle.ygg_sym_runs.specs.Wholes.{picks_from}
 use Rattle.ygg_sym_runs.proofs.Placed.{by_bits}
 use Rattle.ygg_sym_runs.proofs.SpecMeans.{spec_ended, spec_at}

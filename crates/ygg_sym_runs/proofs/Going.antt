@@ -6,12 +6,12 @@ use Rattle.ygg_syntax.specs.declared.tree.Def.{Def}
 use Rattle.ygg_syntax.specs.declared.tree.Name as tree
 use Rattle.ygg_syntax.specs.declared.tree.Numeral.{Numeral}
 use Rattle.ygg_syntax.specs.declared.tree.Stmt.{Stmt}
-use Rattle.ygg_direct.specs.ygg_meaning.Environments.{Name}
+use Rattle.ygg_meaning_laws.specs.ygg_meaning.Environments.{Name}
 use Rattle.ygg_sym_expr.specs.ygg_rules.declared.rule.RuleKind.{RuleKind}
 use Rattle.ygg_sym_expr.specs.ygg_bank.Makes.{Out}
 use Rattle.ygg_sym_expr.specs.ygg_bank.declared.node.Node.{Node}
 use Rattle.ygg_sym_expr.specs.ygg_shape_cells.declared.terms.SymValue.{SymValue}
-use Rattle.ygg_direct.specs.Direct.{total}
+use Rattle.ygg_meaning_laws.specs.Direct.{total}
 use Rattle.ygg_sym_expr.specs.Names.{SymEnv}
 use Rattle.ygg_sym_expr.specs.Exprs.{number_made}
 use Rattle.ygg_sym_expr.specs.Seen.{env_of}

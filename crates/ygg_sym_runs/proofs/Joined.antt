@@ -6,7 +6,7 @@ use Rattle.ygg_sym_expr.specs.ygg_bank_proofs_Widths.{wider}
 use Rattle.ygg_sym_expr.specs.ygg_bank.Nodes.{Extends}
 use Rattle.ygg_sym_expr.specs.ygg_bank.declared.node.Id.{Id}
 use Rattle.ygg_sym_expr.specs.ygg_bank.declared.node.Node.{Node}
-use Rattle.ygg_sym_expr.specs.ygg_shape_proofs_Keeps.{merged_keeps}
+use Rattle.ygg_sym_expr.specs.ygg_shape_cells_proofs_Keeps.{merged_keeps}
 use Rattle.ygg_sym_expr.specs.ygg_shape_cells_proofs_Wider.{has_wider}
 use Rattle.ygg_sym_expr.specs.ygg_shape_cells.Making.{merged}
 use Rattle.ygg_sym_expr.specs.ygg_shape_cells.Terms.{AreAlike}

@@ -1,9 +1,8 @@
 pub use Rattle.ygg_sym_expr.proofs.of_ygg_bank
-pub use Rattle.ygg_direct.proofs as of_ygg_direct
-pub use Rattle.ygg_direct.proofs.of_ygg_meaning
+pub use Rattle.ygg_meaning_laws.proofs as of_ygg_meaning_laws
+pub use Rattle.ygg_meaning_laws.proofs.of_ygg_meaning
 pub use Rattle.ygg_sym_expr.proofs.of_ygg_shape
 pub use Rattle.ygg_sym_expr.proofs as of_ygg_sym_expr
-pub use Rattle.ygg_direct.proofs.of_ygg_type_sound
 pub mod Worths
 pub mod Below
 pub mod Putting
@@ -56,3 +55,5 @@ pub mod SpecStops
 pub mod SpecKeeps
 pub mod SpecMeans
 mod Ending
+pub mod MergedLows
+pub mod DeclaredZeros

@@ -7,7 +7,7 @@ use Rattle.ygg_syntax.specs.declared.tree.Declared.{Declared}
 use Rattle.ygg_sym_runs.specs.ygg_meaning.Environments.{Env}
 use Rattle.ygg_sym_runs.specs.ygg_meaning.Shapes.{shape_in, fits, env_fits}
 use Rattle.ygg_sym_runs.specs.ygg_meaning.Machine.{State, based}
-use Rattle.ygg_sym_runs.specs.ygg_type_sound_proofs_Tests.{bytes_equal}
+use Rattle.ygg_sym_runs.specs.ygg_meaning_laws_proofs_Tests.{bytes_equal}
 use Rattle.ygg_sym_runs.specs.ygg_rules.declared.rule.RuleKind.{RuleKind}
 use Rattle.ygg_sym_runs.specs.ygg_bank_proofs_Meaning.{fits_fewer}
 use Rattle.ygg_sym_runs.specs.ygg_bank_proofs_Widths.{wider, extends_self, extends_both}
@@ -15,13 +15,13 @@ use Rattle.ygg_sym_runs.specs.ygg_bank.Nodes.{HasWidth, Extends}
 use Rattle.ygg_sym_runs.specs.ygg_bank.Values.{Inputs, Values, Fits}
 use Rattle.ygg_sym_runs.specs.ygg_bank.declared.node.Id.{Id}
 use Rattle.ygg_sym_runs.specs.ygg_bank.declared.node.Node.{Node}
-use Rattle.ygg_sym_runs.specs.ygg_shape_proofs_Makers.{merged_gives}
+use Rattle.ygg_sym_runs.specs.ygg_shape_cells_proofs_Makers.{merged_gives}
 use Rattle.ygg_sym_runs.specs.ygg_shape_cells.Making.{merged}
 use Rattle.ygg_sym_runs.specs.ygg_shape_cells.Terms.{worth}
 use Rattle.ygg_sym_runs.specs.ygg_shape_cells.declared.terms.SymValue.{SymValue}
 use Rattle.ygg_sym_runs.specs.ygg_sym_expr.Meaning.{Grows, Gives}
 use Rattle.ygg_sym_runs.specs.ygg_shape_cells_proofs_Wider.{shaped_wider}
-use Rattle.ygg_sym_runs.specs.ygg_shape_proofs_Grows.{merged_grows}
+use Rattle.ygg_sym_runs.specs.ygg_shape_cells_proofs_Grows.{merged_grows}
 use Rattle.ygg_sym_runs.specs.Meaning.{Low, is_set, IsLow}
 use Rattle.ygg_sym_runs.proofs.Worths.{shape_fits}
 use Rattle.ygg_sym_runs.specs.Lows.{LowShaped, low_worth, merge_lows}

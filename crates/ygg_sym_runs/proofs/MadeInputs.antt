@@ -18,9 +18,9 @@ use Rattle.ygg_sym_runs.specs.ygg_bank.declared.node.Node.TheVariants.{Input}
 use Rattle.ygg_sym_runs.specs.ygg_shape_words_proofs_Keeps.{Stays, grows_stays, inputs_stay}
 use Rattle.ygg_sym_runs.specs.ygg_shape_cells.Making.{merged}
 use Rattle.ygg_sym_runs.specs.ygg_shape_cells.declared.terms.SymValue.{SymValue}
-use Rattle.ygg_sym_runs.specs.ygg_shape_proofs_Keeps.{each_two_keeps, merged_keeps}
-use Rattle.ygg_sym_runs.specs.ygg_direct.Direct.{room_of}
-use Rattle.ygg_sym_runs.specs.ygg_direct.RunPlaces.{disk_space, spec_space}
+use Rattle.ygg_sym_runs.specs.ygg_shape_cells_proofs_Keeps.{each_two_keeps, merged_keeps}
+use Rattle.ygg_sym_runs.specs.ygg_meaning_laws.Direct.{room_of}
+use Rattle.ygg_sym_runs.specs.ygg_meaning_laws.RunPlaces.{disk_space, spec_space}
 use Rattle.ygg_sym_runs.specs.ygg_sym_expr.Names.{SymEnv, sym_bind}
 use Rattle.ygg_sym_runs.specs.ygg_sym_expr.Exprs.{SymFunctions, sym_functions}
 use Rattle.ygg_sym_runs.specs.ygg_sym_expr_proofs_Keeps.{Keeps, FunctionsKeep, functions_keep}

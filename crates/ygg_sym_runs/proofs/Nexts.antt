@@ -5,8 +5,8 @@ use Rattle.ygg_syntax.specs.declared.tree.Def.{Def}
 use Rattle.ygg_syntax.specs.declared.tree.Expr.{Expr}
 use Rattle.ygg_syntax.specs.declared.tree.Stmt.{Stmt}
 use Rattle.ygg_syntax.specs.declared.tree.Stmt.TheVariants as tree
-use Rattle.ygg_direct.specs.ygg_type_rules.Statements.{block_errors}
-use Rattle.ygg_direct.specs.ygg_type_sound.Kinds.{keeps}
+use Rattle.ygg_meaning_laws.specs.ygg_type_rules.Statements.{block_errors}
+use Rattle.ygg_meaning_laws.specs.Kinds.{keeps}
 use Rattle.ygg_sym_expr.specs.ygg_bank_proofs_Widths.{extends_both}
 use Rattle.ygg_sym_expr.specs.ygg_bank.Nodes.{Extends}
 use Rattle.ygg_sym_expr.specs.ygg_bank.declared.node.Node.{Node}

@@ -18,11 +18,11 @@ use Rattle.ygg_sym_runs.specs.ygg_meaning.Progress.{Answer, answer_of}
 use Rattle.ygg_sym_runs.specs.ygg_meaning.Machine.{State, on, based}
 use Rattle.ygg_sym_runs.specs.ygg_meaning.DiskMachine.{DiskMachine}
 use Rattle.ygg_sym_runs.specs.ygg_meaning.Stack.{tables_of}
-use Rattle.ygg_sym_runs.specs.ygg_type_sound.Agrees.{Agrees}
-use Rattle.ygg_sym_runs.specs.ygg_type_sound.Questions.{plain, Follows}
-use Rattle.ygg_sym_runs.specs.ygg_type_sound.Blocks.{eval_with, is_returned}
-use Rattle.ygg_sym_runs.specs.ygg_type_sound.Machines.{IsSized}
-use Rattle.ygg_sym_runs.specs.ygg_type_sound_proofs_Following.{follows_front, fits_after}
+use Rattle.ygg_sym_runs.specs.ygg_meaning_laws.Agrees.{Agrees}
+use Rattle.ygg_sym_runs.specs.ygg_meaning_laws.Questions.{plain, Follows}
+use Rattle.ygg_sym_runs.specs.ygg_meaning_laws.Blocks.{eval_with, is_returned}
+use Rattle.ygg_sym_runs.specs.ygg_meaning_laws.Machines.{IsSized}
+use Rattle.ygg_sym_runs.specs.ygg_meaning_laws_proofs_Following.{follows_front, fits_after}
 use Rattle.ygg_sym_runs.specs.ygg_rules.declared.rule.RuleKind.{RuleKind}
 use Rattle.ygg_sym_runs.specs.ygg_bank_proofs_Exist.{values_fit}
 use Rattle.ygg_sym_runs.specs.ygg_bank_proofs_Meaning.{fits_fewer}
@@ -30,14 +30,14 @@ use Rattle.ygg_sym_runs.specs.ygg_bank.Values.{Inputs, Values, Fits, value_of}
 use Rattle.ygg_sym_runs.specs.ygg_bank.declared.node.Node.{Node}
 use Rattle.ygg_sym_runs.specs.ygg_shape_cells.Terms.{worth}
 use Rattle.ygg_sym_runs.specs.ygg_shape_cells.declared.terms.SymValue.{SymValue}
-use Rattle.ygg_sym_runs.specs.ygg_direct.Direct.{direct_run, room_of}
-use Rattle.ygg_sym_runs.specs.ygg_direct.Acts.{noted_picks, runs}
-use Rattle.ygg_sym_runs.specs.ygg_direct.Places.{by_place, calling}
-use Rattle.ygg_sym_runs.specs.ygg_direct.DiskActs.{disk_acts}
-use Rattle.ygg_sym_runs.specs.ygg_direct.Laws.{RunsOn, IsTypedBlock}
-use Rattle.ygg_sym_runs.specs.ygg_direct.RunPlaces.{Finish, finish_of, disk_space, runs_by_place}
-use Rattle.ygg_sym_runs.specs.ygg_direct_proofs_RunPlacing.{calling_draws, disk_tidy, runs_by_place_on_disk}
-use Rattle.ygg_sym_runs.proofs.of_ygg_direct.Typed.{direct_on_disk}
+use Rattle.ygg_sym_runs.specs.ygg_meaning_laws.Direct.{direct_run, room_of}
+use Rattle.ygg_sym_runs.specs.ygg_meaning_laws.Acts.{noted_picks, runs}
+use Rattle.ygg_sym_runs.specs.ygg_meaning_laws.Places.{by_place, calling}
+use Rattle.ygg_sym_runs.specs.ygg_meaning_laws.DiskActs.{disk_acts}
+use Rattle.ygg_sym_runs.specs.ygg_meaning_laws.DirectLaws.{RunsOn, IsTypedBlock}
+use Rattle.ygg_sym_runs.specs.ygg_meaning_laws.RunPlaces.{Finish, finish_of, disk_space, runs_by_place}
+use Rattle.ygg_sym_runs.specs.ygg_meaning_laws_proofs_RunPlacing.{calling_draws, disk_tidy, runs_by_place_on_disk}
+use Rattle.ygg_sym_runs.proofs.of_ygg_meaning_laws.DirectTyped.{direct_on_disk}
 use Rattle.ygg_sym_runs.specs.ygg_sym_expr.Exprs.{sym_functions}
 use Rattle.ygg_sym_runs.specs.ygg_sym_expr.Meaning.{EnvShaped, worths}
 use Rattle.ygg_sym_runs.specs.ygg_sym_expr.Names.{SymEnv}

@@ -8,23 +8,23 @@ use Rattle.ygg_sym_runs.specs.ygg_meaning.Environments.{Name, Env}
 use Rattle.ygg_sym_runs.specs.ygg_meaning.Progress.{Answer, answer_of}
 use Rattle.ygg_sym_runs.specs.ygg_meaning.Machine.{State, on, based}
 use Rattle.ygg_sym_runs.specs.ygg_meaning.Spec.{Spec}
-use Rattle.ygg_sym_runs.specs.ygg_type_sound.Agrees.{Agrees}
-use Rattle.ygg_sym_runs.specs.ygg_type_sound.Questions.{plain}
-use Rattle.ygg_sym_runs.specs.ygg_type_sound.Blocks.{eval_with}
-use Rattle.ygg_sym_runs.specs.ygg_type_sound.Machines.{IsStateOf}
+use Rattle.ygg_sym_runs.specs.ygg_meaning_laws.Agrees.{Agrees}
+use Rattle.ygg_sym_runs.specs.ygg_meaning_laws.Questions.{plain}
+use Rattle.ygg_sym_runs.specs.ygg_meaning_laws.Blocks.{eval_with}
+use Rattle.ygg_sym_runs.specs.ygg_meaning_laws.Machines.{IsStateOf}
 use Rattle.ygg_sym_runs.specs.ygg_bank_proofs_Exist.{values_fit}
 use Rattle.ygg_sym_runs.specs.ygg_bank_proofs_Meaning.{fits_fewer}
 use Rattle.ygg_sym_runs.specs.ygg_bank.Values.{value_of}
 use Rattle.ygg_sym_runs.specs.ygg_shape_cells.Terms.{worth}
 use Rattle.ygg_sym_runs.specs.ygg_shape_cells.declared.terms.SymValue.{SymValue}
-use Rattle.ygg_sym_runs.specs.ygg_direct.Direct.{direct_run, room_of}
-use Rattle.ygg_sym_runs.specs.ygg_direct.Acts.{noted_picks, runs}
-use Rattle.ygg_sym_runs.specs.ygg_direct.Places.{by_place, calling}
-use Rattle.ygg_sym_runs.specs.ygg_direct.SpecActs.{spec_acts}
-use Rattle.ygg_sym_runs.specs.ygg_direct.Laws.{RunsOn, IsTypedBlock}
-use Rattle.ygg_sym_runs.specs.ygg_direct.RunPlaces.{Finish, finish_of, spec_space, runs_by_place}
-use Rattle.ygg_sym_runs.specs.ygg_direct_proofs_RunPlacing.{runs_by_place_on_spec}
-use Rattle.ygg_sym_runs.proofs.of_ygg_direct.Typed.{direct_on_spec}
+use Rattle.ygg_sym_runs.specs.ygg_meaning_laws.Direct.{direct_run, room_of}
+use Rattle.ygg_sym_runs.specs.ygg_meaning_laws.Acts.{noted_picks, runs}
+use Rattle.ygg_sym_runs.specs.ygg_meaning_laws.Places.{by_place, calling}
+use Rattle.ygg_sym_runs.specs.ygg_meaning_laws.SpecActs.{spec_acts}
+use Rattle.ygg_sym_runs.specs.ygg_meaning_laws.DirectLaws.{RunsOn, IsTypedBlock}
+use Rattle.ygg_sym_runs.specs.ygg_meaning_laws.RunPlaces.{Finish, finish_of, spec_space, runs_by_place}
+use Rattle.ygg_sym_runs.specs.ygg_meaning_laws_proofs_RunPlacing.{runs_by_place_on_spec}
+use Rattle.ygg_sym_runs.proofs.of_ygg_meaning_laws.DirectTyped.{direct_on_spec}
 use Rattle.ygg_sym_runs.specs.ygg_sym_expr.Exprs.{sym_functions}
 use Rattle.ygg_sym_runs.specs.ygg_sym_expr.Meaning.{worths}
 use Rattle.ygg_sym_runs.specs.ygg_sym_expr_proofs_Grows.{functions_grow}

@@ -12,10 +12,10 @@ use Rattle.ygg_syntax.specs.declared.tree.Stmt.TheVariants as tree
 use Rattle.ygg_syntax.specs.declared.tree.Stmt.TheOpen.{Stmt-F}
 use Rattle.ygg_syntax.specs.declared.tree.Stmt.TheFolds.{fold-roll-Stmt}
 use Rattle.ygg_syntax.specs.declared.tree.Block.{Block, fold-Block, fold_out-Block}
-use Rattle.ygg_direct.specs.ygg_type_rules.TypeErrors.{TypeErrors}
-use Rattle.ygg_direct.specs.ygg_type_rules.Scopes.{Scope}
-use Rattle.ygg_direct.specs.ygg_type_rules.Statements.{Walked, node_walked, node_inside, walked, block_errors}
-use Rattle.ygg_direct.specs.ygg_type_sound.Kinds.{node_keeps, node_all_keep, stmt_keeps, keeps}
+use Rattle.ygg_meaning_laws.specs.ygg_type_rules.TypeErrors.{TypeErrors}
+use Rattle.ygg_meaning_laws.specs.ygg_type_rules.Scopes.{Scope}
+use Rattle.ygg_meaning_laws.specs.ygg_type_rules.Statements.{Walked, node_walked, node_inside, walked, block_errors}
+use Rattle.ygg_meaning_laws.specs.Kinds.{node_keeps, node_all_keep, stmt_keeps, keeps}
 use Rattle.ygg_sym_expr.specs.ygg_rules.declared.rule.RuleKind.{RuleKind}
 use Rattle.ygg_sym_runs.specs.Lower.{SymMeaning}
 use Rattle.ygg_sym_runs.specs.Ready.{terms_of, stmt_run, inside_run}

@@ -6,30 +6,30 @@ use Rattle.ygg_value.specs.Values.{word_in}
 use Rattle.ygg_value.specs.Shapes.{shape_of}
 use Rattle.ygg_value.specs.declared.row.Value.{Value}
 use Rattle.ygg_value.specs.declared.shape.Shape.TheVariants as shape
-use Rattle.ygg_direct.specs.ygg_type_rules.Shapes.{is_word}
+use Rattle.ygg_meaning_laws.specs.ygg_type_rules.Shapes.{is_word}
 use Rattle.ygg_syntax.specs.declared.grammar.BlockKind.{BlockKind}
 use Rattle.ygg_syntax.specs.declared.tree.Expr.{Expr}
 use Rattle.ygg_syntax.specs.declared.tree.Source.{Source}
 use Rattle.ygg_syntax.specs.declared.tree.Source.TheVariants as source
-use Rattle.ygg_direct.specs.ygg_type_rules.Names.{Named, look_up}
-use Rattle.ygg_direct.specs.ygg_type_rules.declared.scope.Signature.{Signature}
-use Rattle.ygg_direct.specs.ygg_type_rules.TypeErrors.{none}
-use Rattle.ygg_direct.specs.ygg_type_rules.Scopes.{Scope}
-use Rattle.ygg_direct.specs.ygg_type_rules.Expressions.{typing, typings, type_errors_in}
-use Rattle.ygg_direct.specs.ygg_type_rules.Statements.{source_typing, call_typing}
-use Rattle.ygg_direct.specs.ygg_meaning.Environments.{Name, Env, assign}
-use Rattle.ygg_direct.specs.ygg_meaning.Meaning.{Functions}
-use Rattle.ygg_direct.specs.ygg_meaning.Progress.{Question, Answer, value_in, values_of, indices_of}
-use Rattle.ygg_direct.specs.ygg_meaning.Progress as progress
-use Rattle.ygg_direct.specs.ygg_type_sound.Fitting.{HasShape}
-use Rattle.ygg_direct.specs.ygg_type_sound.Agrees.{Agrees}
-use Rattle.ygg_direct.specs.ygg_type_sound_proofs_Tests.{left as first_of, right as second_of}
-use Rattle.ygg_direct.specs.ygg_type_sound_proofs_Fits.{fits_has}
-use Rattle.ygg_direct.specs.ygg_type_sound_proofs_Sounds.{sound}
-use Rattle.ygg_direct.specs.ygg_type_sound.Kinds.{source_keeps}
-use Rattle.ygg_direct.specs.ygg_type_sound.Questions.{plain, answer_has, question_fits}
-use Rattle.ygg_direct.specs.ygg_type_sound.Blocks.{eval_with}
-use Rattle.ygg_direct.specs.ygg_type_sound_proofs_TypeErrors.{called}
+use Rattle.ygg_meaning_laws.specs.ygg_type_rules.Names.{Named, look_up}
+use Rattle.ygg_meaning_laws.specs.ygg_type_rules.declared.scope.Signature.{Signature}
+use Rattle.ygg_meaning_laws.specs.ygg_type_rules.TypeErrors.{none}
+use Rattle.ygg_meaning_laws.specs.ygg_type_rules.Scopes.{Scope}
+use Rattle.ygg_meaning_laws.specs.ygg_type_rules.Expressions.{typing, typings, type_errors_in}
+use Rattle.ygg_meaning_laws.specs.ygg_type_rules.Statements.{source_typing, call_typing}
+use Rattle.ygg_meaning_laws.specs.ygg_meaning.Environments.{Name, Env, assign}
+use Rattle.ygg_meaning_laws.specs.ygg_meaning.Meaning.{Functions}
+use Rattle.ygg_meaning_laws.specs.ygg_meaning.Progress.{Question, Answer, value_in, values_of, indices_of}
+use Rattle.ygg_meaning_laws.specs.ygg_meaning.Progress as progress
+use Rattle.ygg_meaning_laws.specs.Fitting.{HasShape}
+use Rattle.ygg_meaning_laws.specs.Agrees.{Agrees}
+use Rattle.ygg_meaning_laws.proofs.Tests.{left as first_of, right as second_of}
+use Rattle.ygg_meaning_laws.proofs.Fits.{fits_has}
+use Rattle.ygg_meaning_laws.proofs.Sounds.{sound}
+use Rattle.ygg_meaning_laws.specs.Kinds.{source_keeps}
+use Rattle.ygg_meaning_laws.specs.Questions.{plain, answer_has, question_fits}
+use Rattle.ygg_meaning_laws.specs.Blocks.{eval_with}
+use Rattle.ygg_meaning_laws.proofs.TypeErrors.{called}
 use Rattle.ygg_sym_expr.specs.ygg_rules.declared.rule.RuleKind.{RuleKind}
 use Rattle.ygg_sym_expr.specs.ygg_bank_proofs_Meaning.{fits_fewer}
 use Rattle.ygg_sym_expr.specs.ygg_bank_proofs_Widths.{extends_self, extends_both}
@@ -38,7 +38,7 @@ use Rattle.ygg_sym_expr.specs.ygg_bank.Values.{Inputs, Values, Fits}
 use Rattle.ygg_sym_expr.specs.ygg_bank.declared.node.Node.{Node}
 use Rattle.ygg_sym_expr.specs.ygg_shape_cells.Terms.{worth}
 use Rattle.ygg_sym_expr.specs.ygg_shape_cells.declared.terms.SymValue.{SymValue}
-use Rattle.ygg_direct.specs.Direct.{Handled, Got, source_got}
+use Rattle.ygg_meaning_laws.specs.Direct.{Handled, Got, source_got}
 use Rattle.ygg_sym_expr.specs.Names.{SymEnv}
 use Rattle.ygg_sym_expr.specs.Exprs.{SymFunctions, id_in, sym_value}
 use Rattle.ygg_sym_expr.specs.Meaning.{SomeShape, EnvShaped, Grows, Gives, worths, IsWorth}
@@ -48,7 +48,7 @@ use Rattle.ygg_sym_expr.proofs.Parts.{AllWorth}
 use Rattle.ygg_sym_expr.proofs.Values.{FunctionsMean, value_means}
 use Rattle.ygg_sym_runs.specs.Runs.{Choice, Call, SymGot, SymMachine, plain_scope, sym_answer, sym_change, sym_values, sym_asks, sym_source}
 use Rattle.ygg_sym_runs.specs.Meaning.{Low, answer_worth, question_worth, AnswerShaped, IsHandled, MachineMeans}
-use Rattle.ygg_direct.specs.ygg_type_sound_proofs_ProgressSounds.{call_fits}
+use Rattle.ygg_meaning_laws.proofs.ProgressSounds.{call_fits}
 use Rattle.ygg_sym_runs.proofs.Typed.{all_have, call_has}
 use Rattle.ygg_sym_expr.specs.ygg_bank.Nodes.{Extends}
 use Rattle.ygg_sym_runs.proofs.Below.{change_keeps}

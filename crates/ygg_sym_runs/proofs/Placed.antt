@@ -5,15 +5,15 @@ use Rattle.ygg_sym_runs.specs.ygg_meaning.Environments.{Name, Env}
 use Rattle.ygg_sym_runs.specs.ygg_meaning.Progress.{Eval, Question, answer_of}
 use Rattle.ygg_sym_runs.specs.ygg_meaning.Machine.{Picks, State, on, memory_in}
 use Rattle.ygg_sym_runs.specs.ygg_meaning.Layer.{ClosedLayer, eval_of}
-use Rattle.ygg_sym_runs.specs.ygg_direct.Direct.{Handled, Event, Reached, direct_run, direct_of, room_of, question_space, total, Chained, Within, Alike, seen}
-use Rattle.ygg_sym_runs.specs.ygg_direct.Acts.{Taken, Acts, next_of, under}
-use Rattle.ygg_sym_runs.specs.ygg_direct.Places.{Drawn, Draw, left_after, by_place, calling, IsDraw}
-use Rattle.ygg_sym_runs.specs.ygg_direct.RunPlaces.{IsTidy, placed_run, runs_by_place}
-use Rattle.ygg_sym_runs.specs.ygg_direct_proofs_Order.{block_follows}
-use Rattle.ygg_sym_runs.specs.ygg_direct_proofs_Mirror.{block_mirrors}
-use Rattle.ygg_sym_runs.specs.ygg_direct_proofs_Rooms.{room_is}
-use Rattle.ygg_sym_runs.specs.ygg_direct_proofs_Placing.{after_more}
-use Rattle.ygg_sym_runs.specs.ygg_direct_proofs_RunPlacing.{calling_draws}
+use Rattle.ygg_sym_runs.specs.ygg_meaning_laws.Direct.{Handled, Event, Reached, direct_run, direct_of, room_of, question_space, total, Chained, Within, Alike, seen}
+use Rattle.ygg_sym_runs.specs.ygg_meaning_laws.Acts.{Taken, Acts, next_of, under}
+use Rattle.ygg_sym_runs.specs.ygg_meaning_laws.Places.{Drawn, Draw, left_after, by_place, calling, IsDraw}
+use Rattle.ygg_sym_runs.specs.ygg_meaning_laws.RunPlaces.{IsTidy, placed_run, runs_by_place}
+use Rattle.ygg_sym_runs.specs.ygg_meaning_laws_proofs_Order.{block_follows}
+use Rattle.ygg_sym_runs.specs.ygg_meaning_laws_proofs_Mirror.{block_mirrors}
+use Rattle.ygg_sym_runs.specs.ygg_meaning_laws_proofs_Rooms.{room_is}
+use Rattle.ygg_sym_runs.specs.ygg_meaning_laws_proofs_Placing.{after_more}
+use Rattle.ygg_sym_runs.specs.ygg_meaning_laws_proofs_RunPlacing.{calling_draws}
 use Rattle.ygg_sym_runs.specs.Wholes.{picks_from}
 
 left_from : (bits : ℕ → Bool) (i n k : ℕ) → left_after k (picks_from bits i (k + n)) ≡ picks_from bits (i + k) n

@@ -9,7 +9,7 @@ use Rattle.ygg_sym_expr.specs.ygg_bank_proofs_Widths.{wider, extends_both}
 use Rattle.ygg_sym_expr.specs.ygg_bank.Nodes.{HasWidth, IsBank, Extends, Stands}
 use Rattle.ygg_sym_expr.specs.ygg_bank.declared.node.Id.{Id}
 use Rattle.ygg_sym_expr.specs.ygg_bank.declared.node.Node.{Node}
-use Rattle.ygg_sym_expr.specs.ygg_shape_proofs_Makers.{word_stored_gives}
+use Rattle.ygg_sym_expr.specs.ygg_shape_cells_proofs_Makers.{word_stored_gives}
 use Rattle.ygg_sym_expr.specs.ygg_shape.RowPlaces.{CanWrite, word_stored}
 use Rattle.ygg_sym_expr.specs.ygg_shape_cells_proofs_Wider.{table_wider}
 use Rattle.ygg_sym_expr.specs.ygg_shape_cells.Terms.{IsRow, IsTable, IsShaped, CanStore}

@@ -13,8 +13,8 @@ use Rattle.ygg_syntax.specs.declared.tree.Stmt.{Stmt}
 use Rattle.ygg_syntax.specs.declared.tree.Stmt.TheFolds.{fold-Stmt, fold-roll-Stmt}
 use Rattle.ygg_syntax.specs.declared.tree.Stmt.TheOpen.{Stmt-F}
 use Rattle.ygg_syntax.specs.declared.tree.Stmt.TheVariants as tree
-use Rattle.ygg_direct.specs.ygg_meaning.Environments.{Name}
-use Rattle.ygg_direct.specs.Direct.{total, source_space, stmt_room, block_room, room_of}
+use Rattle.ygg_meaning_laws.specs.ygg_meaning.Environments.{Name}
+use Rattle.ygg_meaning_laws.specs.Direct.{total, source_space, stmt_room, block_room, room_of}
 use Rattle.ygg_sym_runs.specs.Lower.{Counts}
 
 module _ (space : Name → ℕ) where

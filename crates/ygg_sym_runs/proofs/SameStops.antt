@@ -2,7 +2,7 @@
 use Rattle.std.proofs.Common.{◌≡◌, ◌<◌, ◌≤◌, ◌+◌, ◌*◌, ℕ, Bool, true, false, if◌then◌else◌, List, [], ◌∷◌, Option, Some, None, ap, ◌∙◌, arith}
 use Rattle.ygg_sym_runs.specs.ygg_meaning.Progress.{Question}
 use Rattle.ygg_sym_runs.specs.ygg_meaning.Obligations.{Halt}
-use Rattle.ygg_sym_runs.specs.ygg_direct.Direct.{Event, Within}
+use Rattle.ygg_sym_runs.specs.ygg_meaning_laws.Direct.{Event, Within}
 use Rattle.ygg_sym_runs.specs.Stops.{before_at, within_at, halt, further, first_stop}
 
 module _ {S : Type 0} (size : Question → ℕ) (one : (q : Question) → 1 ≤ size q) where

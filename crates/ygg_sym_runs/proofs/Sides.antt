@@ -13,19 +13,19 @@ use Rattle.ygg_syntax.specs.declared.tree.Numeral.{Numeral}
 use Rattle.ygg_syntax.specs.declared.tree.Stmt.{Stmt}
 use Rattle.ygg_syntax.specs.declared.tree.Stmt.TheOpen.{Stmt-F}
 use Rattle.ygg_syntax.specs.declared.tree.Stmt.TheVariants as tree
-use Rattle.ygg_direct.specs.ygg_type_rules.Shapes.{is_word, width_of}
-use Rattle.ygg_direct.specs.ygg_type_rules.TypeErrors.{none}
-use Rattle.ygg_direct.specs.ygg_type_rules.Scopes.{Scope}
-use Rattle.ygg_direct.specs.ygg_type_rules.Expressions.{typing, wanted, expected_errors}
-use Rattle.ygg_direct.specs.ygg_type_rules.Statements.{node_walked, walked, block_errors}
-use Rattle.ygg_direct.specs.ygg_type_sound_proofs_Tests.{left as first_of, right as second_of}
-use Rattle.ygg_direct.specs.ygg_type_sound_proofs_Fits.{word_wide}
-use Rattle.ygg_direct.specs.ygg_type_sound_proofs_Rules.{wanted_has}
-use Rattle.ygg_direct.specs.ygg_type_sound.Blocks.{eval_with}
-use Rattle.ygg_direct.specs.ygg_type_sound.Kinds.{keeps, node_keeps, stmt_keeps}
-use Rattle.ygg_direct.specs.ygg_type_sound.Questions.{plain, Follows}
-use Rattle.ygg_direct.specs.ygg_type_sound_proofs_ProgressFits.{one_shape}
-use Rattle.ygg_direct.specs.ygg_meaning.Environments.{Name, Env}
+use Rattle.ygg_meaning_laws.specs.ygg_type_rules.Shapes.{is_word, width_of}
+use Rattle.ygg_meaning_laws.specs.ygg_type_rules.TypeErrors.{none}
+use Rattle.ygg_meaning_laws.specs.ygg_type_rules.Scopes.{Scope}
+use Rattle.ygg_meaning_laws.specs.ygg_type_rules.Expressions.{typing, wanted, expected_errors}
+use Rattle.ygg_meaning_laws.specs.ygg_type_rules.Statements.{node_walked, walked, block_errors}
+use Rattle.ygg_meaning_laws.proofs.Tests.{left as first_of, right as second_of}
+use Rattle.ygg_meaning_laws.proofs.Fits.{word_wide}
+use Rattle.ygg_meaning_laws.proofs.Rules.{wanted_has}
+use Rattle.ygg_meaning_laws.specs.Blocks.{eval_with}
+use Rattle.ygg_meaning_laws.specs.Kinds.{keeps, node_keeps, stmt_keeps}
+use Rattle.ygg_meaning_laws.specs.Questions.{plain, Follows}
+use Rattle.ygg_meaning_laws.proofs.ProgressFits.{one_shape}
+use Rattle.ygg_meaning_laws.specs.ygg_meaning.Environments.{Name, Env}
 use Rattle.ygg_sym_expr.specs.ygg_rules.declared.rule.RuleKind.{RuleKind}
 use Rattle.ygg_sym_expr.specs.ygg_bank_proofs_Meaning.{fits_fewer}
 use Rattle.ygg_sym_expr.specs.ygg_bank_proofs_Widths.{wider}

@@ -8,7 +8,7 @@ use Rattle.ygg_syntax.specs.declared.tree.Stmt.{Stmt}
 use Rattle.ygg_syntax.specs.declared.tree.Stmt.TheFolds.{fold-Stmt, fold-roll-Stmt}
 use Rattle.ygg_syntax.specs.declared.tree.Stmt.TheOpen.{Stmt-F, Block-F}
 use Rattle.ygg_syntax.specs.declared.tree.Stmt.TheVariants as tree
-use Rattle.ygg_direct.specs.Direct.{total}
+use Rattle.ygg_meaning_laws.specs.Direct.{total}
 
 abbrev stmt_size : Stmt-F ℕ ℕ → ℕ
 stmt_size (Stmt-F.Let x s) = 0

@@ -11,22 +11,22 @@ use Rattle.ygg_sym_runs.specs.ygg_meaning.Machine.{Picks, State, on, based}
 use Rattle.ygg_sym_runs.specs.ygg_meaning.Layer.{ClosedLayer, eval_of, BlockRuns, BlockFalls}
 use Rattle.ygg_sym_runs.specs.ygg_meaning.Obligations.{Halt}
 use Rattle.ygg_sym_runs.specs.ygg_meaning.Spec.{Spec}
-use Rattle.ygg_sym_runs.specs.ygg_type_sound.Machines.{IsStateOf, SpecAnswers}
-use Rattle.ygg_sym_runs.specs.ygg_direct.Direct.{Reached, Within, direct_run, question_space, room_of}
-use Rattle.ygg_sym_runs.specs.ygg_direct.Acts.{Taken, Did, Acts, noted_picks, runs, falls_in}
-use Rattle.ygg_sym_runs.specs.ygg_direct.Places.{by_place, calling}
-use Rattle.ygg_sym_runs.specs.ygg_direct.SpecActs.{spec_acts}
-use Rattle.ygg_sym_runs.specs.ygg_direct.Laws.{IsTypedBlock, Sees}
-use Rattle.ygg_sym_runs.specs.ygg_direct.RunPlaces.{Finish, finish_of, spec_space, placed_run, runs_by_place}
-use Rattle.ygg_sym_runs.specs.ygg_direct.RunPlaces.{falls_by_place, base_at, asked_in, base_of, cut_by}
-use Rattle.ygg_sym_runs.proofs.of_ygg_direct.Agreed.{runs_unique, falls_unique}
-use Rattle.ygg_sym_runs.proofs.of_ygg_direct.FallPlacing.{falls_by_place_on_spec}
-use Rattle.ygg_sym_runs.specs.ygg_direct_proofs_Order.{block_follows}
-use Rattle.ygg_sym_runs.specs.ygg_direct_proofs_Placing.{taken_self}
-use Rattle.ygg_sym_runs.specs.ygg_direct_proofs_Rooms.{room_is}
-use Rattle.ygg_sym_runs.specs.ygg_direct_proofs_RunPlacing.{runs_by_place_on_spec}
-use Rattle.ygg_sym_runs.proofs.of_ygg_direct.SpecActed.{spec_acted}
-use Rattle.ygg_sym_runs.proofs.of_ygg_direct.Typed.{direct_on_spec}
+use Rattle.ygg_sym_runs.specs.ygg_meaning_laws.Machines.{IsStateOf, SpecAnswers}
+use Rattle.ygg_sym_runs.specs.ygg_meaning_laws.Direct.{Reached, Within, direct_run, question_space, room_of}
+use Rattle.ygg_sym_runs.specs.ygg_meaning_laws.Acts.{Taken, Did, Acts, noted_picks, runs, falls_in}
+use Rattle.ygg_sym_runs.specs.ygg_meaning_laws.Places.{by_place, calling}
+use Rattle.ygg_sym_runs.specs.ygg_meaning_laws.SpecActs.{spec_acts}
+use Rattle.ygg_sym_runs.specs.ygg_meaning_laws.DirectLaws.{IsTypedBlock, Sees}
+use Rattle.ygg_sym_runs.specs.ygg_meaning_laws.RunPlaces.{Finish, finish_of, spec_space, placed_run, runs_by_place}
+use Rattle.ygg_sym_runs.specs.ygg_meaning_laws.RunPlaces.{falls_by_place, base_at, asked_in, base_of, cut_by}
+use Rattle.ygg_sym_runs.proofs.of_ygg_meaning_laws.Agreed.{runs_unique, falls_unique}
+use Rattle.ygg_sym_runs.proofs.of_ygg_meaning_laws.FallPlacing.{falls_by_place_on_spec}
+use Rattle.ygg_sym_runs.specs.ygg_meaning_laws_proofs_Order.{block_follows}
+use Rattle.ygg_sym_runs.specs.ygg_meaning_laws_proofs_Placing.{taken_self}
+use Rattle.ygg_sym_runs.specs.ygg_meaning_laws_proofs_Rooms.{room_is}
+use Rattle.ygg_sym_runs.specs.ygg_meaning_laws_proofs_RunPlacing.{runs_by_place_on_spec}
+use Rattle.ygg_sym_runs.proofs.of_ygg_meaning_laws.SpecActed.{spec_acted}
+use Rattle.ygg_sym_runs.proofs.of_ygg_meaning_laws.DirectTyped.{direct_on_spec}
 use Rattle.ygg_sym_runs.specs.SpecCuts.{fall_room}
 use Rattle.ygg_sym_runs.specs.Stops.{halt, first_stop}
 use Rattle.ygg_sym_runs.specs.Wholes.{picks_from}

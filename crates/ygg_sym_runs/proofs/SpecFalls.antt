@@ -35,10 +35,10 @@ use Rattle.ygg_sym_runs.specs.ygg_meaning.Environments.{Name, Env, bind}
 use Rattle.ygg_sym_runs.specs.ygg_meaning.Progress.{Question, Choice, Call}
 use Rattle.ygg_sym_runs.specs.ygg_meaning.Machine.{Picks, State}
 use Rattle.ygg_sym_runs.specs.ygg_meaning.Layer.{ClosedLayer, operation_in, operation_of}
-use Rattle.ygg_sym_runs.specs.ygg_direct.Direct.{total}
-use Rattle.ygg_sym_runs.specs.ygg_direct.Acts.{next_of, later}
-use Rattle.ygg_sym_runs.specs.ygg_direct.SpecActs.{Ran, block_ran, then_crash, fall_ran, spec_drops, spec_acts}
-use Rattle.ygg_sym_runs.specs.ygg_direct.RunPlaces.{base_at, cut_by}
+use Rattle.ygg_sym_runs.specs.ygg_meaning_laws.Direct.{total}
+use Rattle.ygg_sym_runs.specs.ygg_meaning_laws.Acts.{next_of, later}
+use Rattle.ygg_sym_runs.specs.ygg_meaning_laws.SpecActs.{Ran, block_ran, then_crash, fall_ran, spec_drops, spec_acts}
+use Rattle.ygg_sym_runs.specs.ygg_meaning_laws.RunPlaces.{base_at, cut_by}
 use Rattle.ygg_sym_runs.specs.SpecCuts.{fall_places, fall_room}
 use Rattle.ygg_sym_runs.proofs.Chosen.{Decided, room, block_end, fronts, backs}
 

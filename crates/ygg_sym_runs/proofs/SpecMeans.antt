@@ -15,9 +15,9 @@ use Rattle.ygg_sym_runs.specs.ygg_meaning.Progress.{Question, Answer}
 use Rattle.ygg_sym_runs.specs.ygg_meaning.Progress as progress
 use Rattle.ygg_sym_runs.specs.ygg_meaning.Machine.{State, based}
 use Rattle.ygg_sym_runs.specs.ygg_meaning.Layer.{ClosedLayer, operation_of}
-use Rattle.ygg_sym_runs.specs.ygg_type_sound.Fitting.{all_fit}
-use Rattle.ygg_sym_runs.specs.ygg_type_sound_proofs_Tests.{left as first_of, right as second_of, bytes_equal}
-use Rattle.ygg_sym_runs.specs.ygg_type_sound.Questions.{question_fits}
+use Rattle.ygg_sym_runs.specs.ygg_meaning_laws.Fitting.{all_fit}
+use Rattle.ygg_sym_runs.specs.ygg_meaning_laws_proofs_Tests.{left as first_of, right as second_of, bytes_equal}
+use Rattle.ygg_sym_runs.specs.ygg_meaning_laws.Questions.{question_fits}
 use Rattle.ygg_sym_runs.specs.ygg_rules.declared.rule.RuleKind.{RuleKind}
 use Rattle.ygg_sym_runs.specs.ygg_bank_proofs_Widths.{extends_self}
 use Rattle.ygg_sym_runs.specs.ygg_bank.Makes.{Make}
@@ -26,9 +26,9 @@ use Rattle.ygg_sym_runs.specs.ygg_bank.declared.node.Id.{Id}
 use Rattle.ygg_sym_runs.specs.ygg_bank.declared.node.Node.{Node}
 use Rattle.ygg_sym_runs.specs.ygg_shape_cells.Terms.{worth}
 use Rattle.ygg_sym_runs.specs.ygg_shape_cells.declared.terms.SymValue.{SymValue}
-use Rattle.ygg_sym_runs.specs.ygg_direct.Direct.{Handled}
-use Rattle.ygg_sym_runs.specs.ygg_direct.Laws.{Sees}
-use Rattle.ygg_sym_runs.specs.ygg_direct_proofs_DiskServes.{answer_does, fitting_call}
+use Rattle.ygg_sym_runs.specs.ygg_meaning_laws.Direct.{Handled}
+use Rattle.ygg_sym_runs.specs.ygg_meaning_laws.DirectLaws.{Sees}
+use Rattle.ygg_sym_runs.specs.ygg_meaning_laws_proofs_DiskServes.{answer_does, fitting_call}
 use Rattle.ygg_sym_runs.specs.ygg_sym_expr.Names.{sym_bind}
 use Rattle.ygg_sym_runs.specs.ygg_sym_expr.Exprs.{SymFunctions}
 use Rattle.ygg_sym_runs.specs.ygg_sym_expr.Meaning.{SomeShape, Grows, Gives}

@@ -15,8 +15,8 @@ use Rattle.ygg_sym_runs.specs.ygg_meaning.Environments.{Name, Env, bind}
 use Rattle.ygg_sym_runs.specs.ygg_meaning.Shapes.{values_fit}
 use Rattle.ygg_sym_runs.specs.ygg_meaning.Machine.{based}
 use Rattle.ygg_sym_runs.specs.ygg_meaning.Layer.{ClosedLayer, operation_of}
-use Rattle.ygg_sym_runs.specs.ygg_type_sound.Fitting.{all_fit}
-use Rattle.ygg_sym_runs.specs.ygg_type_sound.Questions.{question_fits}
+use Rattle.ygg_sym_runs.specs.ygg_meaning_laws.Fitting.{all_fit}
+use Rattle.ygg_sym_runs.specs.ygg_meaning_laws.Questions.{question_fits}
 use Rattle.ygg_sym_runs.specs.ygg_rules.declared.rule.RuleKind.{RuleKind}
 use Rattle.ygg_sym_runs.specs.ygg_bank_proofs_Made.{made_grows}
 use Rattle.ygg_sym_runs.specs.ygg_bank_proofs_Meaning.{fits_fewer}
@@ -30,8 +30,8 @@ use Rattle.ygg_sym_runs.specs.ygg_bank.declared.node.Node.TheVariants.{Bin}
 use Rattle.ygg_sym_runs.specs.ygg_shape_words_proofs_Grows.{picked_grows}
 use Rattle.ygg_sym_runs.specs.ygg_shape_cells.Terms.{worth}
 use Rattle.ygg_sym_runs.specs.ygg_shape_cells.declared.terms.SymValue.{SymValue}
-use Rattle.ygg_sym_runs.specs.ygg_direct.Laws.{Sees}
-use Rattle.ygg_sym_runs.specs.ygg_direct_proofs_DiskServes.{fitting_call}
+use Rattle.ygg_sym_runs.specs.ygg_meaning_laws.DirectLaws.{Sees}
+use Rattle.ygg_sym_runs.specs.ygg_meaning_laws_proofs_DiskServes.{fitting_call}
 use Rattle.ygg_sym_runs.specs.ygg_sym_expr.Names.{SymEnv, sym_bind}
 use Rattle.ygg_sym_runs.specs.ygg_sym_expr.Exprs.{SymFunctions}
 use Rattle.ygg_sym_runs.specs.ygg_sym_expr.Meaning.{SomeShape, Grows, Gives}

@@ -13,10 +13,10 @@ use Rattle.ygg_sym_runs.specs.ygg_type_rules.declared.scope.Signature.{Signature
 use Rattle.ygg_sym_runs.specs.ygg_meaning.Environments.{Name, bind}
 use Rattle.ygg_sym_runs.specs.ygg_meaning.Shapes.{shape_in, fits, env_fits}
 use Rattle.ygg_sym_runs.specs.ygg_meaning.Progress.{Question}
-use Rattle.ygg_sym_runs.specs.ygg_type_sound_proofs_Tests.{left as first_of, right as second_of, bytes_same}
-use Rattle.ygg_sym_runs.specs.ygg_type_sound_proofs_Fits.{has_fits, digit_has}
-use Rattle.ygg_sym_runs.specs.ygg_type_sound.Questions.{question_fits}
-use Rattle.ygg_sym_runs.specs.ygg_type_sound_proofs_ProgressFits.{one_shape}
+use Rattle.ygg_sym_runs.specs.ygg_meaning_laws_proofs_Tests.{left as first_of, right as second_of, bytes_same}
+use Rattle.ygg_sym_runs.specs.ygg_meaning_laws_proofs_Fits.{has_fits, digit_has}
+use Rattle.ygg_sym_runs.specs.ygg_meaning_laws.Questions.{question_fits}
+use Rattle.ygg_sym_runs.specs.ygg_meaning_laws_proofs_ProgressFits.{one_shape}
 use Rattle.ygg_sym_runs.specs.ygg_rules.declared.rule.RuleKind.{RuleKind}
 use Rattle.ygg_sym_runs.specs.ygg_bank_proofs_Widths.{extends_self}
 use Rattle.ygg_sym_runs.specs.ygg_bank.Makes.{Make}
@@ -26,7 +26,7 @@ use Rattle.ygg_sym_runs.specs.ygg_bank.declared.node.Id.{Id}
 use Rattle.ygg_sym_runs.specs.ygg_bank.declared.node.Node.{Node}
 use Rattle.ygg_sym_runs.specs.ygg_shape_cells.Terms.{worth}
 use Rattle.ygg_sym_runs.specs.ygg_shape_cells.declared.terms.SymValue.{SymValue}
-use Rattle.ygg_sym_runs.specs.ygg_direct.Direct.{Handled}
+use Rattle.ygg_sym_runs.specs.ygg_meaning_laws.Direct.{Handled}
 use Rattle.ygg_sym_runs.specs.ygg_sym_expr.Names.{SymEnv}
 use Rattle.ygg_sym_runs.specs.ygg_shape_cells.Terms.{IsShaped}
 use Rattle.ygg_sym_runs.specs.ygg_sym_expr.Meaning.{SomeShape, EnvShaped, Grows, Gives, worths}
@@ -36,8 +36,8 @@ use Rattle.ygg_sym_runs.proofs.Worths.{NameShaped, shape_fits}
 use Rattle.ygg_sym_runs.specs.Lows.{LowShaped, low_worth}
 use Rattle.ygg_sym_runs.specs.ygg_sym_expr.Names.{sym_bind}
 use Rattle.ygg_sym_runs.specs.Specs.{Nothing, chooses, sym_chooser, input_pick, given_pick}
-use Rattle.ygg_sym_runs.specs.ygg_direct.Acts.{next_of}
-use Rattle.ygg_sym_runs.specs.ygg_direct.Places.{left_after}
+use Rattle.ygg_sym_runs.specs.ygg_meaning_laws.Acts.{next_of}
+use Rattle.ygg_sym_runs.specs.ygg_meaning_laws.Places.{left_after}
 use Rattle.ygg_sym_runs.specs.ygg_meaning.Machine.{Picks}
 use Rattle.ygg_value.specs.Number.{IsWord}
 use Rattle.ygg_sym_runs.specs.ygg_bank_proofs_Made.{made_grows, added_there}

@@ -11,8 +11,8 @@ use Rattle.ygg_sym_runs.specs.ygg_bank.declared.node.Id.{Id}
 use Rattle.ygg_sym_runs.specs.ygg_bank.declared.node.Node.{Node}
 use Rattle.ygg_sym_runs.specs.ygg_bank.declared.node.Node.TheVariants.{Const, Input, Bin}
 use Rattle.ygg_sym_runs.specs.ygg_shape_words_proofs_Keeps.{Stays, inputs_stay, picked_keeps}
-use Rattle.ygg_sym_runs.specs.ygg_direct.Direct.{room_of}
-use Rattle.ygg_sym_runs.specs.ygg_direct.RunPlaces.{disk_space}
+use Rattle.ygg_sym_runs.specs.ygg_meaning_laws.Direct.{room_of}
+use Rattle.ygg_sym_runs.specs.ygg_meaning_laws.RunPlaces.{disk_space}
 use Rattle.ygg_sym_runs.specs.ygg_sym_expr.Names.{SymEnv}
 use Rattle.ygg_sym_runs.specs.ygg_sym_expr.Exprs.{SymFunctions}
 use Rattle.ygg_sym_runs.specs.ygg_sym_expr_proofs_Keeps.{Keeps, FunctionsKeep}

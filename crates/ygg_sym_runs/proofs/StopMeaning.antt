@@ -4,7 +4,7 @@ use Rattle.ygg_syntax.specs.declared.grammar.BlockKind.{BlockKind}
 use Rattle.ygg_sym_runs.specs.ygg_type_rules.Names.{Named}
 use Rattle.ygg_sym_runs.specs.ygg_type_rules.declared.scope.Signature.{Signature}
 use Rattle.ygg_sym_runs.specs.ygg_meaning.Progress.{Question}
-use Rattle.ygg_sym_runs.specs.ygg_type_sound.Questions.{question_fits}
+use Rattle.ygg_sym_runs.specs.ygg_meaning_laws.Questions.{question_fits}
 use Rattle.ygg_sym_runs.specs.ygg_bank_proofs_Widths.{wider}
 use Rattle.ygg_sym_runs.specs.ygg_bank.Nodes.{HasWidth}
 use Rattle.ygg_sym_runs.specs.ygg_bank.Values.{Inputs, Values}

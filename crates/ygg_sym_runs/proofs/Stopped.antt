@@ -7,10 +7,10 @@ use Rattle.ygg_sym_runs.specs.ygg_meaning.Obligations.{Halt}
 use Rattle.ygg_sym_runs.specs.ygg_bank_proofs_Meaning.{fits_fewer}
 use Rattle.ygg_sym_runs.specs.ygg_bank.Values.{Inputs, Values}
 use Rattle.ygg_sym_runs.specs.ygg_bank.declared.node.Node.{Node}
-use Rattle.ygg_sym_runs.specs.ygg_direct.Direct.{Handled, Event, Reached, Chained, Alike, seen, direct_run}
-use Rattle.ygg_sym_runs.specs.ygg_direct.RunPlaces.{base_at, asked_in}
-use Rattle.ygg_sym_runs.specs.ygg_direct_proofs_Order.{block_follows}
-use Rattle.ygg_sym_runs.specs.ygg_direct_proofs_Mirror.{block_mirrors}
+use Rattle.ygg_sym_runs.specs.ygg_meaning_laws.Direct.{Handled, Event, Reached, Chained, Alike, seen, direct_run}
+use Rattle.ygg_sym_runs.specs.ygg_meaning_laws.RunPlaces.{base_at, asked_in}
+use Rattle.ygg_sym_runs.specs.ygg_meaning_laws_proofs_Order.{block_follows}
+use Rattle.ygg_sym_runs.specs.ygg_meaning_laws_proofs_Mirror.{block_mirrors}
 use Rattle.ygg_syntax.specs.declared.grammar.BlockKind.{BlockKind}
 use Rattle.ygg_sym_runs.specs.ygg_type_rules.Names.{Named}
 use Rattle.ygg_sym_runs.specs.ygg_type_rules.declared.scope.Signature.{Signature}
@@ -19,8 +19,8 @@ use Rattle.ygg_sym_runs.specs.ygg_type_rules.Scopes.{Scope}
 use Rattle.ygg_sym_runs.specs.ygg_type_rules.Statements.{walked}
 use Rattle.ygg_sym_runs.specs.ygg_type_rules.Statements as rules
 use Rattle.ygg_sym_runs.specs.ygg_meaning.Meaning.{Functions}
-use Rattle.ygg_sym_runs.specs.ygg_type_sound.Blocks.{eval_with}
-use Rattle.ygg_sym_runs.specs.ygg_type_sound.Kinds.{keeps}
+use Rattle.ygg_sym_runs.specs.ygg_meaning_laws.Blocks.{eval_with}
+use Rattle.ygg_sym_runs.specs.ygg_meaning_laws.Kinds.{keeps}
 use Rattle.ygg_sym_runs.specs.ygg_rules.declared.rule.RuleKind.{RuleKind}
 use Rattle.ygg_sym_runs.specs.ygg_sym_expr.Names.{SymEnv}
 use Rattle.ygg_sym_runs.specs.ygg_sym_expr.Exprs.{SymFunctions}

@@ -30,8 +30,8 @@ use Rattle.std.proofs.Common.{
 use Rattle.std.proofs.lemmas.Bool.Decides.{Decides-eqb}
 use Rattle.ygg_sym_runs.specs.ygg_meaning.Progress.{Question}
 use Rattle.ygg_sym_runs.specs.ygg_meaning.Obligations.{Halt}
-use Rattle.ygg_sym_runs.specs.ygg_direct.Direct.{Handled, Event, Chained, Within}
-use Rattle.ygg_sym_runs.specs.ygg_direct.RunPlaces.{base_at, asked_in}
+use Rattle.ygg_sym_runs.specs.ygg_meaning_laws.Direct.{Handled, Event, Chained, Within}
+use Rattle.ygg_sym_runs.specs.ygg_meaning_laws.RunPlaces.{base_at, asked_in}
 use Rattle.ygg_sym_runs.specs.Stops.{
   before_at,
   within_at,

@@ -9,20 +9,20 @@ use Rattle.ygg_syntax.specs.declared.tree.Block.{Block}
 use Rattle.ygg_syntax.specs.declared.tree.Def.{Def}
 use Rattle.ygg_syntax.specs.declared.tree.Name as tree_name
 use Rattle.ygg_syntax.specs.declared.tree.Numeral.{Numeral}
-use Rattle.ygg_direct.specs.ygg_type_rules.Shapes.{word_shape}
-use Rattle.ygg_direct.specs.ygg_type_rules.TypeErrors.{none}
-use Rattle.ygg_direct.specs.ygg_type_rules.Scopes.{is_taken}
-use Rattle.ygg_direct.specs.ygg_type_rules.Expressions.{with_number, number_errors}
-use Rattle.ygg_direct.specs.ygg_type_rules.Statements.{block_errors}
-use Rattle.ygg_direct.specs.ygg_type_sound.Agrees.{Agrees}
-use Rattle.ygg_direct.specs.ygg_type_sound_proofs_Tests.{left as first_of, right as second_of}
-use Rattle.ygg_direct.specs.ygg_type_sound_proofs_Rules.{NumberParts, number_parts}
-use Rattle.ygg_direct.specs.ygg_type_sound_proofs_Steps.{agrees_with_number}
-use Rattle.ygg_direct.specs.ygg_type_sound.Questions.{plain, Follows}
-use Rattle.ygg_direct.specs.ygg_type_sound_proofs_Asking.{local_lower}
-use Rattle.ygg_direct.specs.ygg_type_sound_proofs_Following.{follows_front, agrees_after}
-use Rattle.ygg_direct.specs.ygg_meaning.Environments.{Name, Env}
-use Rattle.ygg_direct.specs.ygg_meaning.Meaning.{functions_of}
+use Rattle.ygg_meaning_laws.specs.ygg_type_rules.Shapes.{word_shape}
+use Rattle.ygg_meaning_laws.specs.ygg_type_rules.TypeErrors.{none}
+use Rattle.ygg_meaning_laws.specs.ygg_type_rules.Scopes.{is_taken}
+use Rattle.ygg_meaning_laws.specs.ygg_type_rules.Expressions.{with_number, number_errors}
+use Rattle.ygg_meaning_laws.specs.ygg_type_rules.Statements.{block_errors}
+use Rattle.ygg_meaning_laws.specs.Agrees.{Agrees}
+use Rattle.ygg_meaning_laws.proofs.Tests.{left as first_of, right as second_of}
+use Rattle.ygg_meaning_laws.proofs.Rules.{NumberParts, number_parts}
+use Rattle.ygg_meaning_laws.proofs.Steps.{agrees_with_number}
+use Rattle.ygg_meaning_laws.specs.Questions.{plain, Follows}
+use Rattle.ygg_meaning_laws.proofs.Asking.{local_lower}
+use Rattle.ygg_meaning_laws.proofs.Following.{follows_front, agrees_after}
+use Rattle.ygg_meaning_laws.specs.ygg_meaning.Environments.{Name, Env}
+use Rattle.ygg_meaning_laws.specs.ygg_meaning.Meaning.{functions_of}
 use Rattle.ygg_sym_expr.specs.ygg_rules.declared.rule.RuleKind.{RuleKind}
 use Rattle.ygg_sym_expr.specs.ygg_bank_proofs_Meaning.{fits_fewer}
 use Rattle.ygg_sym_expr.specs.ygg_bank.Nodes.{IsBank, Extends}

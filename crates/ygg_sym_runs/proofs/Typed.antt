@@ -10,29 +10,29 @@ use Rattle.ygg_syntax.specs.declared.tree.Place.{Place}
 use Rattle.ygg_syntax.specs.declared.tree.Name.{Name}
 use Rattle.ygg_syntax.specs.declared.tree.Index.{Index}
 use Rattle.ygg_syntax.specs.declared.tree.Expr.{Expr}
-use Rattle.ygg_direct.specs.ygg_type_rules.Names.{Named, look_up}
-use Rattle.ygg_direct.specs.ygg_type_rules.declared.scope.TypedExpr.{TypedExpr}
-use Rattle.ygg_direct.specs.ygg_type_rules.declared.scope.Signature.{Signature}
-use Rattle.ygg_direct.specs.ygg_type_rules.TypeErrors.{none, both, unless}
-use Rattle.ygg_direct.specs.ygg_type_rules.Shapes.{part_shape, is_word}
-use Rattle.ygg_direct.specs.ygg_type_rules.Scopes.{Scope}
-use Rattle.ygg_direct.specs.ygg_type_rules.Expressions.{wanted_word, typing, typings, type_errors_in, parts_of, index_rule}
-use Rattle.ygg_direct.specs.ygg_type_rules.Statements.{call_rule, call_typing, indexed}
-use Rattle.ygg_direct.specs.ygg_meaning.Environments.{Env}
-use Rattle.ygg_direct.specs.ygg_meaning.Meaning.{Functions, value_with}
-use Rattle.ygg_direct.specs.ygg_meaning.Shapes.{fits}
-use Rattle.ygg_direct.specs.ygg_meaning.Progress.{Answer, Call, values_of}
-use Rattle.ygg_direct.specs.ygg_type_sound.Fitting.{HasShape, fits_wanted}
-use Rattle.ygg_direct.specs.ygg_type_sound.Agrees.{Agrees}
-use Rattle.ygg_direct.specs.ygg_type_sound_proofs_Tests.{left as first_of, right as second_of}
-use Rattle.ygg_direct.specs.ygg_type_sound_proofs_Fits.{fits_has}
-use Rattle.ygg_direct.specs.ygg_type_sound_proofs_Rules.{word_without_errors}
-use Rattle.ygg_direct.specs.ygg_type_sound_proofs_Lists.{have_shapes}
-use Rattle.ygg_direct.specs.ygg_type_sound_proofs_Sounds.{sound}
-use Rattle.ygg_direct.specs.ygg_type_sound.Questions.{plain, answer_has, gives, answer_fits}
-use Rattle.ygg_direct.specs.ygg_type_sound.Blocks.{eval_with}
-use Rattle.ygg_direct.specs.ygg_type_sound_proofs_ProgressSounds.{ExpressionsHave, arguments_have}
-use Rattle.ygg_direct.specs.ygg_type_sound_proofs_TypeErrors.{Called, called}
+use Rattle.ygg_meaning_laws.specs.ygg_type_rules.Names.{Named, look_up}
+use Rattle.ygg_meaning_laws.specs.ygg_type_rules.declared.scope.TypedExpr.{TypedExpr}
+use Rattle.ygg_meaning_laws.specs.ygg_type_rules.declared.scope.Signature.{Signature}
+use Rattle.ygg_meaning_laws.specs.ygg_type_rules.TypeErrors.{none, both, unless}
+use Rattle.ygg_meaning_laws.specs.ygg_type_rules.Shapes.{part_shape, is_word}
+use Rattle.ygg_meaning_laws.specs.ygg_type_rules.Scopes.{Scope}
+use Rattle.ygg_meaning_laws.specs.ygg_type_rules.Expressions.{wanted_word, typing, typings, type_errors_in, parts_of, index_rule}
+use Rattle.ygg_meaning_laws.specs.ygg_type_rules.Statements.{call_rule, call_typing, indexed}
+use Rattle.ygg_meaning_laws.specs.ygg_meaning.Environments.{Env}
+use Rattle.ygg_meaning_laws.specs.ygg_meaning.Meaning.{Functions, value_with}
+use Rattle.ygg_meaning_laws.specs.ygg_meaning.Shapes.{fits}
+use Rattle.ygg_meaning_laws.specs.ygg_meaning.Progress.{Answer, Call, values_of}
+use Rattle.ygg_meaning_laws.specs.Fitting.{HasShape, fits_wanted}
+use Rattle.ygg_meaning_laws.specs.Agrees.{Agrees}
+use Rattle.ygg_meaning_laws.proofs.Tests.{left as first_of, right as second_of}
+use Rattle.ygg_meaning_laws.proofs.Fits.{fits_has}
+use Rattle.ygg_meaning_laws.proofs.Rules.{word_without_errors}
+use Rattle.ygg_meaning_laws.proofs.Lists.{have_shapes}
+use Rattle.ygg_meaning_laws.proofs.Sounds.{sound}
+use Rattle.ygg_meaning_laws.specs.Questions.{plain, answer_has, gives, answer_fits}
+use Rattle.ygg_meaning_laws.specs.Blocks.{eval_with}
+use Rattle.ygg_meaning_laws.proofs.ProgressSounds.{ExpressionsHave, arguments_have}
+use Rattle.ygg_meaning_laws.proofs.TypeErrors.{Called, called}
 use Rattle.ygg_base.specs.declared.reason.Reason.TheVariants as reason
 use Rattle.ygg_sym_runs.specs.Runs.{places_of}
 use Rattle.ygg_sym_runs.specs.Putting.{led_to}

@@ -10,26 +10,26 @@ use Rattle.ygg_syntax.specs.declared.tree.Name as tree_name
 use Rattle.ygg_syntax.specs.declared.tree.Place.{Place}
 use Rattle.ygg_syntax.specs.declared.tree.Source.TheVariants as source
 use Rattle.ygg_syntax.specs.declared.tree.Stmt.{Stmt}
-use Rattle.ygg_direct.specs.ygg_type_rules.Names.{Named}
-use Rattle.ygg_direct.specs.ygg_type_rules.declared.scope.Signature.{Signature}
-use Rattle.ygg_direct.specs.ygg_type_rules.TypeErrors.{TypeErrors, none}
-use Rattle.ygg_direct.specs.ygg_type_rules.Scopes.{Scope}
-use Rattle.ygg_direct.specs.ygg_type_rules.Expressions.{typing, typings, type_errors_in}
-use Rattle.ygg_direct.specs.ygg_type_rules.Statements.{source_typing, call_typing, place_rule, return_errors, walked, block_errors}
-use Rattle.ygg_direct.specs.ygg_type_rules.Statements as rules
-use Rattle.ygg_direct.specs.ygg_type_rules.Definitions.{definitions_errors, with_definitions}
-use Rattle.ygg_direct.specs.ygg_meaning.Environments.{Name}
-use Rattle.ygg_direct.specs.ygg_meaning.Meaning.{Functions, functions_of}
-use Rattle.ygg_direct.specs.ygg_meaning.Progress.{values_of}
-use Rattle.ygg_direct.specs.ygg_meaning.Progress as progress
-use Rattle.ygg_direct.specs.ygg_type_sound.Agrees.{Agrees}
-use Rattle.ygg_direct.specs.ygg_type_sound_proofs_Tests.{left as first_of, right as second_of}
-use Rattle.ygg_direct.specs.ygg_type_sound.Blocks.{eval_with}
-use Rattle.ygg_direct.specs.ygg_type_sound.Kinds.{all_keep, stmt_keeps}
-use Rattle.ygg_direct.specs.ygg_type_sound.Questions.{plain, question_fits, Follows}
-use Rattle.ygg_direct.specs.Direct.{forgets, in_order, direct_of}
-use Rattle.ygg_direct.specs.ygg_type_sound_proofs_ProgressSounds.{call_fits}
-use Rattle.ygg_direct.specs.ygg_type_sound_proofs_TypeErrors.{called}
+use Rattle.ygg_meaning_laws.specs.ygg_type_rules.Names.{Named}
+use Rattle.ygg_meaning_laws.specs.ygg_type_rules.declared.scope.Signature.{Signature}
+use Rattle.ygg_meaning_laws.specs.ygg_type_rules.TypeErrors.{TypeErrors, none}
+use Rattle.ygg_meaning_laws.specs.ygg_type_rules.Scopes.{Scope}
+use Rattle.ygg_meaning_laws.specs.ygg_type_rules.Expressions.{typing, typings, type_errors_in}
+use Rattle.ygg_meaning_laws.specs.ygg_type_rules.Statements.{source_typing, call_typing, place_rule, return_errors, walked, block_errors}
+use Rattle.ygg_meaning_laws.specs.ygg_type_rules.Statements as rules
+use Rattle.ygg_meaning_laws.specs.ygg_type_rules.Definitions.{definitions_errors, with_definitions}
+use Rattle.ygg_meaning_laws.specs.ygg_meaning.Environments.{Name}
+use Rattle.ygg_meaning_laws.specs.ygg_meaning.Meaning.{Functions, functions_of}
+use Rattle.ygg_meaning_laws.specs.ygg_meaning.Progress.{values_of}
+use Rattle.ygg_meaning_laws.specs.ygg_meaning.Progress as progress
+use Rattle.ygg_meaning_laws.specs.Agrees.{Agrees}
+use Rattle.ygg_meaning_laws.proofs.Tests.{left as first_of, right as second_of}
+use Rattle.ygg_meaning_laws.specs.Blocks.{eval_with}
+use Rattle.ygg_meaning_laws.specs.Kinds.{all_keep, stmt_keeps}
+use Rattle.ygg_meaning_laws.specs.Questions.{plain, question_fits, Follows}
+use Rattle.ygg_meaning_laws.specs.Direct.{forgets, in_order, direct_of}
+use Rattle.ygg_meaning_laws.proofs.ProgressSounds.{call_fits}
+use Rattle.ygg_meaning_laws.proofs.TypeErrors.{called}
 use Rattle.ygg_sym_expr.specs.ygg_rules.declared.rule.RuleKind.{RuleKind}
 use Rattle.ygg_sym_expr.specs.ygg_bank_proofs_Meaning.{fits_fewer}
 use Rattle.ygg_sym_expr.specs.ygg_bank.Nodes.{IsBank, Extends}

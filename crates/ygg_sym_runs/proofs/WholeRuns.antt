@@ -16,14 +16,14 @@ use Rattle.ygg_sym_runs.specs.ygg_type_rules.Statements as rules
 use Rattle.ygg_sym_runs.specs.ygg_meaning.Environments.{Name, Env}
 use Rattle.ygg_sym_runs.specs.ygg_meaning.Meaning.{Functions}
 use Rattle.ygg_sym_runs.specs.ygg_meaning.Progress.{Question, Answer, answer_of}
-use Rattle.ygg_sym_runs.specs.ygg_type_sound_proofs_Tests.{left as first_of, right as second_of}
-use Rattle.ygg_sym_runs.specs.ygg_type_sound.Agrees.{Agrees}
-use Rattle.ygg_sym_runs.specs.ygg_type_sound.Questions.{plain, Follows}
-use Rattle.ygg_sym_runs.specs.ygg_type_sound.Blocks.{eval_with, is_returned}
-use Rattle.ygg_sym_runs.specs.ygg_type_sound_proofs_ProgressSounds.{returns_fit}
-use Rattle.ygg_sym_runs.specs.ygg_type_sound_proofs_Sounds.{sound}
+use Rattle.ygg_sym_runs.specs.ygg_meaning_laws_proofs_Tests.{left as first_of, right as second_of}
+use Rattle.ygg_sym_runs.specs.ygg_meaning_laws.Agrees.{Agrees}
+use Rattle.ygg_sym_runs.specs.ygg_meaning_laws.Questions.{plain, Follows}
+use Rattle.ygg_sym_runs.specs.ygg_meaning_laws.Blocks.{eval_with, is_returned}
+use Rattle.ygg_sym_runs.specs.ygg_meaning_laws_proofs_ProgressSounds.{returns_fit}
+use Rattle.ygg_sym_runs.specs.ygg_meaning_laws_proofs_Sounds.{sound}
 use Rattle.ygg_sym_runs.proofs.Ends.{env_take}
-use Rattle.ygg_sym_runs.specs.ygg_type_sound.Kinds.{keeps}
+use Rattle.ygg_sym_runs.specs.ygg_meaning_laws.Kinds.{keeps}
 use Rattle.ygg_sym_runs.specs.ygg_rules.declared.rule.RuleKind.{RuleKind}
 use Rattle.ygg_sym_runs.specs.ygg_bank_proofs_Meaning.{fits_fewer}
 use Rattle.ygg_sym_runs.specs.ygg_bank_proofs_Widths.{extends_self, extends_both}
@@ -31,7 +31,7 @@ use Rattle.ygg_sym_runs.specs.ygg_bank.Values.{Inputs, Values}
 use Rattle.ygg_sym_runs.specs.ygg_bank.declared.node.Node.{Node}
 use Rattle.ygg_sym_runs.specs.ygg_shape_cells.Terms.{worth}
 use Rattle.ygg_sym_runs.specs.ygg_shape_cells.declared.terms.SymValue.{SymValue}
-use Rattle.ygg_sym_runs.specs.ygg_direct.Direct.{Handled, Reached, direct_run}
+use Rattle.ygg_sym_runs.specs.ygg_meaning_laws.Direct.{Handled, Reached, direct_run}
 use Rattle.ygg_sym_runs.specs.ygg_sym_expr.Names.{SymEnv}
 use Rattle.ygg_sym_runs.specs.ygg_sym_expr.Exprs.{SymFunctions}
 use Rattle.ygg_sym_runs.specs.ygg_sym_expr.Meaning.{EnvShaped, Grows, Gives, worths}

@@ -7,11 +7,11 @@ use Rattle.ygg_value.specs.Shapes.{IsValue}
 use Rattle.ygg_value.specs.declared.row.Value.{Value}
 use Rattle.ygg_value.specs.declared.shape.Shape.{Shape}
 use Rattle.ygg_value.specs.declared.shape.Shape.TheVariants as shape
-use Rattle.ygg_direct.specs.ygg_meaning.Environments.{Name, Env}
-use Rattle.ygg_direct.specs.ygg_meaning.Shapes.{fits}
-use Rattle.ygg_direct.specs.ygg_type_sound_proofs_Fits.{value_fits}
-use Rattle.ygg_direct.specs.ygg_type_sound.Questions.{Follows}
-use Rattle.ygg_direct.specs.ygg_type_sound_proofs_ProgressFits.{one_shape}
+use Rattle.ygg_meaning_laws.specs.ygg_meaning.Environments.{Name, Env}
+use Rattle.ygg_meaning_laws.specs.ygg_meaning.Shapes.{fits}
+use Rattle.ygg_meaning_laws.proofs.Fits.{value_fits}
+use Rattle.ygg_meaning_laws.specs.Questions.{Follows}
+use Rattle.ygg_meaning_laws.proofs.ProgressFits.{one_shape}
 use Rattle.ygg_sym_expr.specs.ygg_rules.declared.rule.RuleKind.{RuleKind}
 use Rattle.ygg_sym_expr.specs.ygg_bank_proofs_Meaning.{fits_fewer}
 use Rattle.ygg_sym_expr.specs.ygg_bank_proofs_Widths.{wider, extends_self, extends_both}
@@ -19,8 +19,8 @@ use Rattle.ygg_sym_expr.specs.ygg_bank.Nodes.{HasWidth}
 use Rattle.ygg_sym_expr.specs.ygg_bank.Values.{Inputs, Values, Fits}
 use Rattle.ygg_sym_expr.specs.ygg_bank.declared.node.Id.{Id}
 use Rattle.ygg_sym_expr.specs.ygg_bank.declared.node.Node.{Node}
-use Rattle.ygg_sym_expr.specs.ygg_shape_proofs_Makers.{merged_gives}
-use Rattle.ygg_sym_expr.specs.ygg_shape_proofs_Worth.{digits, grid, row_worth, table_worth}
+use Rattle.ygg_sym_expr.specs.ygg_shape_cells_proofs_Makers.{merged_gives}
+use Rattle.ygg_sym_expr.specs.ygg_shape_cells_proofs_Worth.{digits, grid, row_worth, table_worth}
 use Rattle.ygg_sym_expr.specs.ygg_shape_cells.Making.{merged}
 use Rattle.ygg_sym_expr.specs.ygg_shape_cells.Terms.{worth, numbers_of}
 use Rattle.ygg_sym_expr.specs.ygg_shape_cells.Terms as cells
@@ -31,7 +31,7 @@ use Rattle.ygg_sym_expr.specs.Exprs.{SymFunctions}
 use Rattle.ygg_sym_expr.specs.ygg_shape_cells.Terms.{IsShaped}
 use Rattle.ygg_sym_expr.specs.Meaning.{SomeShape, EnvShaped, Grows, Gives, worths}
 use Rattle.ygg_sym_expr.proofs.Shaped.{worth_shape, some_wider, env_wider}
-use Rattle.ygg_sym_expr.specs.ygg_shape_proofs_Grows.{merged_grows}
+use Rattle.ygg_sym_expr.specs.ygg_shape_cells_proofs_Grows.{merged_grows}
 use Rattle.ygg_sym_runs.specs.Runs.{SymMachine, merge_env}
 use Rattle.ygg_sym_runs.specs.Meaning.{is_set}
 

@@ -20,25 +20,25 @@ use Rattle.ygg_sym_runs.specs.ygg_meaning.Layer.{ClosedLayer, operation_of}
 use Rattle.ygg_sym_runs.specs.ygg_meaning.Obligations.{Halt}
 use Rattle.ygg_sym_runs.specs.ygg_meaning.DiskMachine.{DiskMachine}
 use Rattle.ygg_sym_runs.specs.ygg_meaning.Stack.{tables_of}
-use Rattle.ygg_sym_runs.specs.ygg_type_sound.Agrees.{Agrees}
-use Rattle.ygg_sym_runs.specs.ygg_type_sound.Kinds.{keeps}
-use Rattle.ygg_sym_runs.specs.ygg_type_sound.Questions.{plain}
+use Rattle.ygg_sym_runs.specs.ygg_meaning_laws.Agrees.{Agrees}
+use Rattle.ygg_sym_runs.specs.ygg_meaning_laws.Kinds.{keeps}
+use Rattle.ygg_sym_runs.specs.ygg_meaning_laws.Questions.{plain}
 use Rattle.ygg_sym_runs.specs.ygg_rules.declared.rule.RuleKind.{RuleKind}
 use Rattle.ygg_sym_runs.specs.ygg_bank.Inputs.{InputsBelow}
 use Rattle.ygg_sym_runs.specs.ygg_bank.Nodes.{IsBank}
 use Rattle.ygg_sym_runs.specs.ygg_bank.Values.{Inputs, Values, InputsFit, value_of}
 use Rattle.ygg_sym_runs.specs.ygg_bank.declared.node.Node.{Node}
 use Rattle.ygg_sym_runs.specs.ygg_shape_cells.declared.terms.SymValue.{SymValue}
-use Rattle.ygg_sym_runs.specs.ygg_direct.Direct.{room_of}
-use Rattle.ygg_sym_runs.specs.ygg_direct.Acts.{noted_picks}
-use Rattle.ygg_sym_runs.specs.ygg_direct.DiskActs.{disk_acts}
-use Rattle.ygg_sym_runs.specs.ygg_direct.Laws.{RunsOn, FallsOn, Sees}
-use Rattle.ygg_sym_runs.specs.ygg_direct.SpecActs.{spec_acts}
-use Rattle.ygg_sym_runs.specs.ygg_type_sound.Machines.{SpecAnswers}
+use Rattle.ygg_sym_runs.specs.ygg_meaning_laws.Direct.{room_of}
+use Rattle.ygg_sym_runs.specs.ygg_meaning_laws.Acts.{noted_picks}
+use Rattle.ygg_sym_runs.specs.ygg_meaning_laws.DiskActs.{disk_acts}
+use Rattle.ygg_sym_runs.specs.ygg_meaning_laws.DirectLaws.{RunsOn, FallsOn, Sees}
+use Rattle.ygg_sym_runs.specs.ygg_meaning_laws.SpecActs.{spec_acts}
+use Rattle.ygg_sym_runs.specs.ygg_meaning_laws.Machines.{SpecAnswers}
 use Rattle.ygg_syntax.specs.declared.tree.Operation.{Operation}
 use Rattle.ygg_sym_runs.specs.ygg_meaning.Spec.{Spec}
 use Rattle.ygg_sym_runs.specs.Specs.{SpecBlock, input_pick, sym_spec}
-use Rattle.ygg_sym_runs.specs.ygg_direct.RunPlaces.{disk_space, spec_space, placed_run, runs_by_place, falls_by_place}
+use Rattle.ygg_sym_runs.specs.ygg_meaning_laws.RunPlaces.{disk_space, spec_space, placed_run, runs_by_place, falls_by_place}
 use Rattle.ygg_sym_runs.specs.ygg_sym_expr.Names.{SymEnv}
 use Rattle.ygg_sym_runs.specs.ygg_sym_expr.Exprs.{sym_functions}
 use Rattle.ygg_sym_runs.specs.ygg_sym_expr.Meaning.{EnvShaped, worths}

@@ -1,18 +1,18 @@
 -- The machine that a run over terms stands on, and what its steps ask.
 use Rattle.std.specs.Prelude.{◌≡◌, ◌≤◌, ◌^◌, ℕ, IsTrue, List, Option, Some, None, slice_get}
 use Rattle.ygg_syntax.specs.declared.grammar.BlockKind.{BlockKind}
-use Rattle.ygg_direct.specs.ygg_type_rules.Names.{Named}
-use Rattle.ygg_direct.specs.ygg_type_rules.declared.scope.Signature.{Signature}
-use Rattle.ygg_direct.specs.ygg_meaning.Environments.{Name}
-use Rattle.ygg_direct.specs.ygg_meaning.Progress.{Question}
-use Rattle.ygg_direct.specs.ygg_type_sound.Questions.{question_fits}
+use Rattle.ygg_meaning_laws.specs.ygg_type_rules.Names.{Named}
+use Rattle.ygg_meaning_laws.specs.ygg_type_rules.declared.scope.Signature.{Signature}
+use Rattle.ygg_meaning_laws.specs.ygg_meaning.Environments.{Name}
+use Rattle.ygg_meaning_laws.specs.ygg_meaning.Progress.{Question}
+use Rattle.ygg_meaning_laws.specs.Questions.{question_fits}
 use Rattle.ygg_sym_expr.specs.ygg_rules.declared.rule.RuleKind.{RuleKind}
 use Rattle.ygg_sym_expr.specs.ygg_bank.Nodes.{HasWidth}
 use Rattle.ygg_sym_expr.specs.ygg_bank.Values.{Inputs, Values, Fits}
 use Rattle.ygg_sym_expr.specs.ygg_bank.declared.node.Id.{Id}
 use Rattle.ygg_sym_expr.specs.ygg_bank.declared.node.Node.{Node}
 use Rattle.ygg_sym_expr.specs.ygg_bank.declared.node.Node.TheVariants.{Input}
-use Rattle.ygg_direct.specs.Direct.{Handled}
+use Rattle.ygg_meaning_laws.specs.Direct.{Handled}
 use Rattle.ygg_sym_runs.specs.Runs.{SymQuestion, SymMachine}
 use Rattle.ygg_sym_runs.specs.Runs as runs
 use Rattle.ygg_sym_runs.specs.Meaning.{Low, MachineMeans, QuestionShaped, question_worth}

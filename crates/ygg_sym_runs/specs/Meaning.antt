@@ -1,22 +1,22 @@
 -- What is asked of a machine over terms, and what a run over terms is then worth.
 use Rattle.std.specs.Prelude.{◌≡◌, ◌==◌, ℕ, Bool, IsTrue, if◌then◌else◌, List, map, All, Option, Some, None}
 use Rattle.ygg_syntax.specs.declared.grammar.BlockKind.{BlockKind}
-use Rattle.ygg_direct.specs.ygg_type_rules.Names.{Named}
-use Rattle.ygg_direct.specs.ygg_type_rules.declared.scope.Signature.{Signature}
-use Rattle.ygg_direct.specs.ygg_type_rules.Scopes.{Scope}
-use Rattle.ygg_direct.specs.ygg_meaning.Environments.{Env}
-use Rattle.ygg_direct.specs.ygg_meaning.Meaning.{Functions}
-use Rattle.ygg_direct.specs.ygg_meaning.Progress.{Question, Answer}
-use Rattle.ygg_direct.specs.ygg_meaning.Progress as progress
-use Rattle.ygg_direct.specs.ygg_type_sound.Agrees.{Agrees}
-use Rattle.ygg_direct.specs.ygg_type_sound.Questions.{plain, answer_fits, question_fits, Follows}
+use Rattle.ygg_meaning_laws.specs.ygg_type_rules.Names.{Named}
+use Rattle.ygg_meaning_laws.specs.ygg_type_rules.declared.scope.Signature.{Signature}
+use Rattle.ygg_meaning_laws.specs.ygg_type_rules.Scopes.{Scope}
+use Rattle.ygg_meaning_laws.specs.ygg_meaning.Environments.{Env}
+use Rattle.ygg_meaning_laws.specs.ygg_meaning.Meaning.{Functions}
+use Rattle.ygg_meaning_laws.specs.ygg_meaning.Progress.{Question, Answer}
+use Rattle.ygg_meaning_laws.specs.ygg_meaning.Progress as progress
+use Rattle.ygg_meaning_laws.specs.Agrees.{Agrees}
+use Rattle.ygg_meaning_laws.specs.Questions.{plain, answer_fits, question_fits, Follows}
 use Rattle.ygg_sym_expr.specs.ygg_bank.Nodes.{HasWidth, Extends}
 use Rattle.ygg_sym_expr.specs.ygg_bank.Values.{Inputs, Values}
 use Rattle.ygg_sym_expr.specs.ygg_bank.declared.node.Id.{Id}
 use Rattle.ygg_sym_expr.specs.ygg_bank.declared.node.Node.{Node}
 use Rattle.ygg_sym_expr.specs.ygg_shape_cells.Terms.{worth}
 use Rattle.ygg_sym_expr.specs.ygg_shape_cells.declared.terms.SymValue.{SymValue}
-use Rattle.ygg_direct.specs.Direct.{Handled, Reached}
+use Rattle.ygg_meaning_laws.specs.Direct.{Handled, Reached}
 use Rattle.ygg_sym_expr.specs.Meaning.{SomeShape, EnvShaped, Grows, Gives, worths}
 use Rattle.ygg_sym_runs.specs.Runs.{SymQuestion, Choice, Call, SymHandled, SymState, SymMachine}
 

@@ -1,7 +1,7 @@
 -- Terms with a part written anew.
 use Rattle.std.specs.Prelude.{ℕ, zero, suc, List, [], ◌∷◌}
 use Rattle.ygg_value.specs.declared.shape.Shape.{Shape}
-use Rattle.ygg_direct.specs.ygg_type_rules.Shapes.{part_shape}
+use Rattle.ygg_meaning_laws.specs.ygg_type_rules.Shapes.{part_shape}
 use Rattle.ygg_sym_expr.specs.ygg_rules.declared.rule.RuleKind.{RuleKind}
 use Rattle.ygg_sym_expr.specs.ygg_bank.Makes.{Make, pure, and_make}
 use Rattle.ygg_sym_expr.specs.ygg_bank.declared.node.Id.{Id}

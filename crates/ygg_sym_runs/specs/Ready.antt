@@ -13,16 +13,16 @@ use Rattle.ygg_syntax.specs.declared.tree.Place.{Place}
 use Rattle.ygg_syntax.specs.declared.tree.Source.{Source}
 use Rattle.ygg_syntax.specs.declared.tree.Stmt.{Stmt}
 use Rattle.ygg_syntax.specs.declared.tree.Stmt.TheOpen.{Stmt-F}
-use Rattle.ygg_direct.specs.ygg_type_rules.TypeErrors.{TypeErrors, none, both}
-use Rattle.ygg_direct.specs.ygg_type_rules.Scopes.{Scope, is_taken}
-use Rattle.ygg_direct.specs.ygg_type_rules.Expressions.{with_number, number_errors}
-use Rattle.ygg_direct.specs.ygg_type_rules.Statements.{source_typing, call_typing, place_rule, assignment_errors, in_order, node_walked, walked, block_errors}
-use Rattle.ygg_direct.specs.ygg_type_rules.Definitions.{definitions_errors, with_definitions}
-use Rattle.ygg_direct.specs.ygg_meaning.Environments.{Name}
-use Rattle.ygg_direct.specs.ygg_meaning.Meaning.{functions_of}
-use Rattle.ygg_direct.specs.ygg_type_sound.Agrees.{Agrees}
-use Rattle.ygg_direct.specs.ygg_type_sound.Kinds.{may_call, source_keeps, all_keep, node_keeps, stmt_keeps, keeps}
-use Rattle.ygg_direct.specs.ygg_type_sound.Questions.{plain}
+use Rattle.ygg_meaning_laws.specs.ygg_type_rules.TypeErrors.{TypeErrors, none, both}
+use Rattle.ygg_meaning_laws.specs.ygg_type_rules.Scopes.{Scope, is_taken}
+use Rattle.ygg_meaning_laws.specs.ygg_type_rules.Expressions.{with_number, number_errors}
+use Rattle.ygg_meaning_laws.specs.ygg_type_rules.Statements.{source_typing, call_typing, place_rule, assignment_errors, in_order, node_walked, walked, block_errors}
+use Rattle.ygg_meaning_laws.specs.ygg_type_rules.Definitions.{definitions_errors, with_definitions}
+use Rattle.ygg_meaning_laws.specs.ygg_meaning.Environments.{Name}
+use Rattle.ygg_meaning_laws.specs.ygg_meaning.Meaning.{functions_of}
+use Rattle.ygg_meaning_laws.specs.Agrees.{Agrees}
+use Rattle.ygg_meaning_laws.specs.Kinds.{may_call, source_keeps, all_keep, node_keeps, stmt_keeps, keeps}
+use Rattle.ygg_meaning_laws.specs.Questions.{plain}
 use Rattle.ygg_sym_expr.specs.ygg_rules.declared.rule.RuleKind.{RuleKind}
 use Rattle.ygg_sym_expr.specs.ygg_bank.Makes.{Make, pure, and_make}
 use Rattle.ygg_sym_expr.specs.ygg_bank.Nodes as bank
@@ -34,7 +34,7 @@ use Rattle.ygg_sym_expr.specs.ygg_shape_cells.Lists.{each_two}
 use Rattle.ygg_sym_expr.specs.ygg_shape_cells.Making.{merged}
 use Rattle.ygg_sym_expr.specs.ygg_shape_cells.Terms.{AreAlike, IsShaped}
 use Rattle.ygg_sym_expr.specs.ygg_shape_cells.declared.terms.SymValue.{SymValue}
-use Rattle.ygg_direct.specs.Direct.{total}
+use Rattle.ygg_meaning_laws.specs.Direct.{total}
 use Rattle.ygg_sym_expr.specs.Names.{SymEnv}
 use Rattle.ygg_sym_expr.specs.Exprs.{SymFunctions, sym_functions}
 use Rattle.ygg_sym_expr.specs.Meaning.{EnvShaped, worths}

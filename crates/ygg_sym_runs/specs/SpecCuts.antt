@@ -11,7 +11,7 @@ use Rattle.ygg_sym_runs.specs.ygg_bank.declared.node.Id.{Id}
 use Rattle.ygg_sym_runs.specs.ygg_bank.declared.node.Node.TheVariants.{Input, Bin}
 use Rattle.ygg_sym_runs.specs.ygg_shape_words.Picking.{picked}
 use Rattle.ygg_sym_runs.specs.ygg_shape_cells.declared.terms.SymValue.{SymValue}
-use Rattle.ygg_sym_runs.specs.ygg_direct.Direct.{room_of, total}
+use Rattle.ygg_sym_runs.specs.ygg_meaning_laws.Direct.{room_of, total}
 use Rattle.ygg_sym_runs.specs.ygg_sym_expr.Names.{SymEnv, sym_bind}
 use Rattle.ygg_sym_runs.specs.ygg_sym_expr.Exprs.{SymFunctions}
 use Rattle.ygg_sym_runs.specs.Runs.{SymQuestion, Choice, Call}

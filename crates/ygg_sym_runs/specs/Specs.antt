@@ -14,10 +14,10 @@ use Rattle.ygg_sym_runs.specs.ygg_type_rules.Layers.{operation_signature}
 use Rattle.ygg_sym_runs.specs.ygg_meaning.Environments.{Env, bind}
 use Rattle.ygg_sym_runs.specs.ygg_meaning.Shapes.{values_fit, env_fits}
 use Rattle.ygg_sym_runs.specs.ygg_meaning.Progress.{Answer}
-use Rattle.ygg_sym_runs.specs.ygg_type_sound.Agrees.{Agrees}
-use Rattle.ygg_sym_runs.specs.ygg_type_sound.Blocks.{is_returned}
-use Rattle.ygg_sym_runs.specs.ygg_type_sound.Kinds.{keeps}
-use Rattle.ygg_sym_runs.specs.ygg_type_sound.Questions.{plain, gives}
+use Rattle.ygg_sym_runs.specs.ygg_meaning_laws.Agrees.{Agrees}
+use Rattle.ygg_sym_runs.specs.ygg_meaning_laws.Blocks.{is_returned}
+use Rattle.ygg_sym_runs.specs.ygg_meaning_laws.Kinds.{keeps}
+use Rattle.ygg_sym_runs.specs.ygg_meaning_laws.Questions.{plain, gives}
 use Rattle.ygg_sym_runs.specs.ygg_meaning.Machine.{Picks}
 use Rattle.ygg_sym_runs.specs.ygg_meaning.Layer.{ClosedLayer, operation_of}
 use Rattle.ygg_sym_runs.specs.ygg_rules.declared.rule.RuleKind.{RuleKind}
@@ -27,9 +27,9 @@ use Rattle.ygg_sym_runs.specs.ygg_bank.declared.node.Id.{Id}
 use Rattle.ygg_sym_runs.specs.ygg_bank.declared.node.Node.TheVariants.{Input, Const}
 use Rattle.ygg_sym_runs.specs.ygg_shape_cells.declared.terms.SymValue.{SymValue}
 use Rattle.ygg_sym_runs.specs.ygg_shape_cells.declared.terms.SymValue.TheVariants.{Word}
-use Rattle.ygg_sym_runs.specs.ygg_direct.Acts.{next_of}
-use Rattle.ygg_sym_runs.specs.ygg_direct.Places.{left_after}
-use Rattle.ygg_sym_runs.specs.ygg_direct.RunPlaces.{spec_space}
+use Rattle.ygg_sym_runs.specs.ygg_meaning_laws.Acts.{next_of}
+use Rattle.ygg_sym_runs.specs.ygg_meaning_laws.Places.{left_after}
+use Rattle.ygg_sym_runs.specs.ygg_meaning_laws.RunPlaces.{spec_space}
 use Rattle.ygg_sym_runs.specs.ygg_sym_expr.Names.{sym_bind}
 use Rattle.ygg_sym_runs.specs.ygg_sym_expr.Exprs.{SymFunctions}
 use Rattle.ygg_sym_runs.specs.Runs.{SymQuestion, Choice, Call, SymHandled, SymMachine}

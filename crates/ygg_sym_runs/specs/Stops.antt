@@ -2,8 +2,8 @@
 use Rattle.std.specs.Prelude.{◌≡◌, ◌≤◌, ℕ, zero, suc, ◌+◌, ◌*◌, Bool, true, false, ◌||◌, if◌then◌else◌, List, [], ◌∷◌, Option, Some, None}
 use Rattle.ygg_sym_runs.specs.ygg_meaning.Progress.{Question}
 use Rattle.ygg_sym_runs.specs.ygg_meaning.Obligations.{Halt}
-use Rattle.ygg_sym_runs.specs.ygg_direct.Direct.{Handled, Event, Chained, Within}
-use Rattle.ygg_sym_runs.specs.ygg_direct.RunPlaces.{base_at, asked_in}
+use Rattle.ygg_sym_runs.specs.ygg_meaning_laws.Direct.{Handled, Event, Chained, Within}
+use Rattle.ygg_sym_runs.specs.ygg_meaning_laws.RunPlaces.{base_at, asked_in}
 
 -- the stop before the question at a place
 abbrev pub before_at : ℕ → ℕ

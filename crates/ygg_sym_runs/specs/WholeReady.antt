@@ -6,7 +6,7 @@ use Rattle.ygg_syntax.specs.declared.tree.Def.{Def}
 use Rattle.ygg_sym_runs.specs.ygg_type_rules.TypeErrors.{none}
 use Rattle.ygg_sym_runs.specs.ygg_type_rules.Scopes.{Scope}
 use Rattle.ygg_sym_runs.specs.ygg_type_rules.Statements.{block_errors}
-use Rattle.ygg_sym_runs.specs.ygg_type_sound.Kinds.{keeps}
+use Rattle.ygg_sym_runs.specs.ygg_meaning_laws.Kinds.{keeps}
 use Rattle.ygg_sym_runs.specs.ygg_rules.declared.rule.RuleKind.{RuleKind}
 use Rattle.ygg_sym_runs.specs.ygg_bank.declared.node.Node.{Node}
 use Rattle.ygg_sym_runs.specs.ygg_shape_cells.declared.terms.SymValue.{SymValue}

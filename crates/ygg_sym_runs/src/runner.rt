@@ -2,7 +2,7 @@
 
 ghost use Rattle.std.specs.Prelude.{◌≡◌, ◌+◌, IfOk, OnOk, All, map};
 ghost use Rattle.ygg_sym_expr.specs.ygg_bank.Nodes.{Extends, IsBank};
-ghost use Rattle.ygg_direct.specs.Direct.{source_space};
+ghost use Rattle.ygg_meaning_laws.specs.Direct.{source_space};
 ghost use Rattle.ygg_sym_expr.specs.Exprs.{id_in, sym_value};
 ghost use Rattle.ygg_sym_expr.specs.Seen.{CanTerm, env_of};
 ghost use Rattle.ygg_sym_runs.specs.Lower.{CanAsk, KeepsSingle, question_of};

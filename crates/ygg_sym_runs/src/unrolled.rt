@@ -1,7 +1,7 @@
 //! How many places a block has in the unrolled text.
 
 ghost use Rattle.std.specs.Prelude.{map};
-ghost use Rattle.ygg_direct.specs.Direct.{block_room, room_of, source_space, stmt_room, total};
+ghost use Rattle.ygg_meaning_laws.specs.Direct.{block_room, room_of, source_space, stmt_room, total};
 ghost use Rattle.ygg_syntax.specs.declared.tree.Stmt.TheFolds.{fold-Stmt};
 ghost use Rattle.std.specs.Prelude.{ℕ};
 ghost use Rattle.ygg_sym_runs.specs.Lower.{Counts};

@@ -2,32 +2,32 @@
 use Rattle.std.proofs.Common.{◌≡◌, ◌≤◌, ◌+◌, ℕ, true, List, [], ◌∷◌, All, map, Option, Some, option_map, Result, Ok, Err, IfOk, OnOk, Bor, sym, ap, ◌∙◌, subst}
 use Rattle.std.proofs.lemmas.List.Elements.{All-head, All-tail}
 use Rattle.ygg_syntax.specs.declared.tree.Declared.{Declared}
-use Rattle.ygg_sym_laws.specs.ygg_type_rules.declared.scope.Signature.{Signature}
-use Rattle.ygg_sym_laws.specs.ygg_type_rules.Layers.{operation_signature}
-use Rattle.ygg_sym_laws.specs.ygg_meaning.Shapes.{shape_in, fits, values_fit}
-use Rattle.ygg_sym_laws.specs.ygg_type_sound.Fitting.{all_fit}
-use Rattle.ygg_sym_laws.specs.ygg_type_sound_proofs_Tests.{left as first_of, right as second_of}
-use Rattle.ygg_sym_laws.specs.ygg_type_sound_proofs_ProgressFits.{one_shape}
-use Rattle.ygg_sym_laws.specs.ygg_direct_proofs_DiskServes.{fitting_call}
-use Rattle.ygg_sym_laws.specs.ygg_rules.declared.rule.RuleKind.{RuleKind}
-use Rattle.ygg_sym_laws.specs.ygg_bank.Makes.{Out}
-use Rattle.ygg_sym_laws.specs.ygg_bank.Nodes.{IsBank}
-use Rattle.ygg_sym_laws.specs.ygg_bank.Values.{Inputs, Values, Fits, value_of}
-use Rattle.ygg_sym_laws.specs.ygg_bank.declared.node.Node.{Node}
-use Rattle.ygg_sym_laws.proofs.of_ygg_shape.Answered.{no_inputs, some_fit}
-use Rattle.ygg_sym_laws.specs.ygg_shape_cells.Terms.{IsShaped, worth}
-use Rattle.ygg_sym_laws.specs.ygg_shape_cells.declared.terms.SymValue.{SymValue}
-use Rattle.ygg_sym_laws.specs.ygg_sym_expr.Meaning.{SomeShape}
-use Rattle.ygg_sym_laws.proofs.of_ygg_sym_runs.Singles.{single_less}
-use Rattle.ygg_sym_laws.proofs.of_ygg_sym_runs.Worths.{shape_fits}
-use Rattle.ygg_sym_laws.specs.ygg_sym_runs.Lower.{CanAsk, question_of}
-use Rattle.ygg_sym_laws.specs.ygg_sym_runs.declared.question.Awaited as asked
-use Rattle.ygg_sym_laws.specs.ygg_sym_runs.declared.question.Awaited.TheVariants as question
-use Rattle.ygg_sym_laws.specs.ygg_sym_runs.Runs.{Call}
-use Rattle.ygg_sym_laws.specs.ygg_sym_runs.Disks.{Done, done}
-use Rattle.ygg_sym_laws.specs.ygg_sym_runs.Lows.{LowShaped}
-use Rattle.ygg_sym_laws.specs.ygg_sym_runs.Specs.{input_pick, spec_handles}
-use Rattle.ygg_sym_laws.specs.Below.{signatures_of}
+use Rattle.ygg_sym_runs.specs.ygg_type_rules.declared.scope.Signature.{Signature}
+use Rattle.ygg_sym_runs.specs.ygg_type_rules.Layers.{operation_signature}
+use Rattle.ygg_sym_runs.specs.ygg_meaning.Shapes.{shape_in, fits, values_fit}
+use Rattle.ygg_sym_runs.specs.ygg_meaning_laws.Fitting.{all_fit}
+use Rattle.ygg_sym_runs.specs.ygg_meaning_laws_proofs_Tests.{left as first_of, right as second_of}
+use Rattle.ygg_sym_runs.specs.ygg_meaning_laws_proofs_ProgressFits.{one_shape}
+use Rattle.ygg_sym_runs.specs.ygg_meaning_laws_proofs_DiskServes.{fitting_call}
+use Rattle.ygg_sym_runs.specs.ygg_rules.declared.rule.RuleKind.{RuleKind}
+use Rattle.ygg_sym_runs.specs.ygg_bank.Makes.{Out}
+use Rattle.ygg_sym_runs.specs.ygg_bank.Nodes.{IsBank}
+use Rattle.ygg_sym_runs.specs.ygg_bank.Values.{Inputs, Values, Fits, value_of}
+use Rattle.ygg_sym_runs.specs.ygg_bank.declared.node.Node.{Node}
+use Rattle.ygg_sym_runs.proofs.of_ygg_shape.Answered.{no_inputs, some_fit}
+use Rattle.ygg_sym_runs.specs.ygg_shape_cells.Terms.{IsShaped, worth}
+use Rattle.ygg_sym_runs.specs.ygg_shape_cells.declared.terms.SymValue.{SymValue}
+use Rattle.ygg_sym_runs.specs.ygg_sym_expr.Meaning.{SomeShape}
+use Rattle.ygg_sym_runs.proofs.Singles.{single_less}
+use Rattle.ygg_sym_runs.proofs.Worths.{shape_fits}
+use Rattle.ygg_sym_runs.specs.Lower.{CanAsk, question_of}
+use Rattle.ygg_sym_runs.specs.declared.question.Awaited as asked
+use Rattle.ygg_sym_runs.specs.declared.question.Awaited.TheVariants as question
+use Rattle.ygg_sym_runs.specs.Runs.{Call}
+use Rattle.ygg_sym_runs.specs.Disks.{Done, done}
+use Rattle.ygg_sym_runs.specs.Lows.{LowShaped}
+use Rattle.ygg_sym_runs.specs.Specs.{input_pick, spec_handles}
+use Rattle.ygg_sym_runs.specs.Below.{signatures_of}
 use Rattle.ygg_sym_spec.proofs.Bits.{inputs_later}
 use Rattle.ygg_sym_spec.specs.Layers.{CanCut, closed, terms_in}
 use Rattle.ygg_sym_spec.specs.Machine.{call_of, spec_meaning}

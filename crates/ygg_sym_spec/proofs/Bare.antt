@@ -17,11 +17,11 @@ use Rattle.ygg_syntax.specs.declared.tree.Stmt.{Stmt, roll-Stmt, map-Stmt}
 use Rattle.ygg_syntax.specs.declared.tree.Block.{Block, roll-Block, map-Block, fold-Block}
 use Rattle.ygg_syntax.specs.declared.tree.Stmt.TheOpen.{Stmt-F, Block-F}
 use Rattle.ygg_syntax.specs.declared.tree.Stmt.TheFolds.{ind-Stmt, fold-roll-Stmt, fold-roll-Block}
-use Rattle.ygg_sym_laws.specs.ygg_type_rules.Names.{has, look_up}
-use Rattle.ygg_sym_laws.specs.ygg_type_rules.TypeErrors.{TypeErrors, both, unless}
-use Rattle.ygg_sym_laws.specs.ygg_type_rules.Scopes.{Scope, is_taken, name_in, with_local}
-use Rattle.ygg_sym_laws.specs.ygg_type_rules.Shapes.{word_shape}
-use Rattle.ygg_sym_laws.specs.ygg_type_rules.Expressions.{
+use Rattle.ygg_sym_runs.specs.ygg_type_rules.Names.{has, look_up}
+use Rattle.ygg_sym_runs.specs.ygg_type_rules.TypeErrors.{TypeErrors, both, unless}
+use Rattle.ygg_sym_runs.specs.ygg_type_rules.Scopes.{Scope, is_taken, name_in, with_local}
+use Rattle.ygg_sym_runs.specs.ygg_type_rules.Shapes.{word_shape}
+use Rattle.ygg_sym_runs.specs.ygg_type_rules.Expressions.{
   Typing,
   Own,
   construct,
@@ -43,7 +43,7 @@ use Rattle.ygg_sym_laws.specs.ygg_type_rules.Expressions.{
   typing,
   expected_errors,
 }
-use Rattle.ygg_sym_laws.specs.ygg_type_rules.Statements.{
+use Rattle.ygg_sym_runs.specs.ygg_type_rules.Statements.{
   Walked,
   source_typing,
   indexed,
@@ -59,8 +59,8 @@ use Rattle.ygg_sym_laws.specs.ygg_type_rules.Statements.{
   walked,
   block_errors,
 }
-use Rattle.ygg_sym_laws.specs.ygg_type_sound.Kinds.{source_keeps, all_keep, node_keeps, node_all_keep, stmt_keeps, keeps}
-use Rattle.ygg_sym_laws.specs.ygg_type_sound_proofs_Tests.{left as first_of, right as second_of}
+use Rattle.ygg_sym_runs.specs.ygg_meaning_laws.Kinds.{source_keeps, all_keep, node_keeps, node_all_keep, stmt_keeps, keeps}
+use Rattle.ygg_sym_runs.specs.ygg_meaning_laws_proofs_Tests.{left as first_of, right as second_of}
 use Rattle.ygg_sym_spec.specs.Bare.{bare}
 
 -- an expression is typed alike

@@ -1,12 +1,12 @@
 -- Picks that are given, by place.
 use Rattle.std.proofs.Common.{◌≡◌, ◌≤◌, ◌<◌, ◌+◌, ◌-◌, ℕ, zero, suc, Bool, false, List, [], ◌∷◌, length, get_or, take, drop, refl, sym, ap, ◌∙◌, arith}
 use Rattle.ygg_value.specs.Words.{word, bit_of}
-use Rattle.ygg_sym_laws.specs.ygg_direct.Acts.{next_of}
-use Rattle.ygg_sym_laws.specs.ygg_direct.Places.{left_after}
-use Rattle.ygg_sym_laws.specs.ygg_rules.declared.rule.RuleKind.{RuleKind}
-use Rattle.ygg_sym_laws.specs.ygg_bank.Making.{made}
-use Rattle.ygg_sym_laws.specs.ygg_bank.declared.node.Node.TheVariants.{Const, Input}
-use Rattle.ygg_sym_laws.specs.ygg_sym_runs.Specs.{given_pick, input_pick}
+use Rattle.ygg_sym_runs.specs.ygg_meaning_laws.Acts.{next_of}
+use Rattle.ygg_sym_runs.specs.ygg_meaning_laws.Places.{left_after}
+use Rattle.ygg_sym_runs.specs.ygg_rules.declared.rule.RuleKind.{RuleKind}
+use Rattle.ygg_sym_runs.specs.ygg_bank.Making.{made}
+use Rattle.ygg_sym_runs.specs.ygg_bank.declared.node.Node.TheVariants.{Const, Input}
+use Rattle.ygg_sym_runs.specs.Specs.{given_pick, input_pick}
 use Rattle.ygg_sym_spec.specs.Picking.{bit_in}
 use mathlib.Core.Path.{fun_ext}
 

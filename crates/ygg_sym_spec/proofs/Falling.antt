@@ -3,16 +3,16 @@ use Rattle.std.proofs.Common.{◌≡◌, ◌≤◌, List, [], Some, sym, subst}
 use Rattle.ygg_syntax.specs.declared.tree.Block.{Block}
 use Rattle.ygg_syntax.specs.declared.tree.Declared.{Declared}
 use Rattle.ygg_syntax.specs.declared.tree.Operation.{Operation}
-use Rattle.ygg_sym_laws.specs.ygg_meaning.Environments.{Name}
-use Rattle.ygg_sym_laws.specs.ygg_meaning.Layer.{operation_of}
-use Rattle.ygg_sym_laws.specs.ygg_bank.Nodes.{Extends}
-use Rattle.ygg_sym_laws.specs.ygg_bank.declared.node.Node.{Node}
-use Rattle.ygg_sym_laws.specs.ygg_shape_cells.declared.terms.SymValue.{SymValue}
-use Rattle.ygg_sym_laws.specs.ygg_sym_runs.Lower.{KeepsSingle}
-use Rattle.ygg_sym_laws.proofs.of_ygg_sym_runs.Singles.{single_less}
-use Rattle.ygg_sym_laws.specs.ygg_sym_runs.Lows.{LowShaped}
-use Rattle.ygg_sym_laws.specs.ygg_sym_runs_proofs_Lows.{low_wider}
-use Rattle.ygg_sym_laws.specs.Typed.{SpecBlockTyped}
+use Rattle.ygg_sym_runs.specs.ygg_meaning.Environments.{Name}
+use Rattle.ygg_sym_runs.specs.ygg_meaning.Layer.{operation_of}
+use Rattle.ygg_sym_runs.specs.ygg_bank.Nodes.{Extends}
+use Rattle.ygg_sym_runs.specs.ygg_bank.declared.node.Node.{Node}
+use Rattle.ygg_sym_runs.specs.ygg_shape_cells.declared.terms.SymValue.{SymValue}
+use Rattle.ygg_sym_runs.specs.Lower.{KeepsSingle}
+use Rattle.ygg_sym_runs.proofs.Singles.{single_less}
+use Rattle.ygg_sym_runs.specs.Lows.{LowShaped}
+use Rattle.ygg_sym_runs.proofs.Lows.{low_wider}
+use Rattle.ygg_sym_runs.specs.Typed.{SpecBlockTyped}
 use Rattle.ygg_sym_spec.specs.Layers.{CanBlock, CanCut, CanFall, closed}
 use Rattle.ygg_sym_spec.specs.Picking.{first_number}
 use Rattle.ygg_sym_spec.specs.declared.layer.SymLayer.{SymLayer}

@@ -3,19 +3,19 @@ use Rattle.std.proofs.Common.{◌≡◌, ◌+◌, ℕ, List, Option, Some, None,
 use Rattle.ygg_syntax.specs.declared.tree.Block.{Block}
 use Rattle.ygg_syntax.specs.declared.tree.Declared.{Declared}
 use Rattle.ygg_syntax.specs.declared.tree.Operation.{Operation}
-use Rattle.ygg_sym_laws.specs.ygg_meaning.Environments.{Name}
-use Rattle.ygg_sym_laws.specs.ygg_meaning.Layer.{operation_in, operation_of}
-use Rattle.ygg_sym_laws.specs.ygg_rules.declared.rule.RuleKind.{RuleKind}
-use Rattle.ygg_sym_laws.specs.ygg_bank.Makes.{Make, Out, pure, and_make}
-use Rattle.ygg_sym_laws.specs.ygg_bank.declared.node.Id.{Id}
-use Rattle.ygg_sym_laws.specs.ygg_bank.declared.node.Node.{Node}
-use Rattle.ygg_sym_laws.specs.ygg_shape_cells.declared.terms.SymValue.{SymValue}
-use Rattle.ygg_sym_laws.specs.ygg_sym_expr.Names.{sym_bind}
-use Rattle.ygg_sym_laws.specs.ygg_sym_runs.Lower.{KeepsSingle}
-use Rattle.ygg_sym_laws.specs.ygg_sym_runs.Disks.{Done, done}
-use Rattle.ygg_sym_laws.specs.ygg_sym_runs.Lows.{merge_lows}
-use Rattle.ygg_sym_laws.specs.ygg_sym_runs.SpecCuts.{picks_after, choice_room, crash_made, then_crash_made, fall_made, fall_asked}
-use Rattle.ygg_sym_disk.proofs.Asked.{merged_single}
+use Rattle.ygg_sym_runs.specs.ygg_meaning.Environments.{Name}
+use Rattle.ygg_sym_runs.specs.ygg_meaning.Layer.{operation_in, operation_of}
+use Rattle.ygg_sym_runs.specs.ygg_rules.declared.rule.RuleKind.{RuleKind}
+use Rattle.ygg_sym_runs.specs.ygg_bank.Makes.{Make, Out, pure, and_make}
+use Rattle.ygg_sym_runs.specs.ygg_bank.declared.node.Id.{Id}
+use Rattle.ygg_sym_runs.specs.ygg_bank.declared.node.Node.{Node}
+use Rattle.ygg_sym_runs.specs.ygg_shape_cells.declared.terms.SymValue.{SymValue}
+use Rattle.ygg_sym_runs.specs.ygg_sym_expr.Names.{sym_bind}
+use Rattle.ygg_sym_runs.specs.Lower.{KeepsSingle}
+use Rattle.ygg_sym_runs.specs.Disks.{Done, done}
+use Rattle.ygg_sym_runs.specs.Lows.{merge_lows}
+use Rattle.ygg_sym_runs.specs.SpecCuts.{picks_after, choice_room, crash_made, then_crash_made, fall_made, fall_asked}
+use Rattle.ygg_sym_runs.proofs.MergedLows.{merged_single}
 use Rattle.ygg_sym_spec.specs.Layers.{closed, terms_in, block_of, crash_of, then_crash_of, fall_of, cut_of}
 use Rattle.ygg_sym_spec.specs.Picking.{picking}
 use Rattle.ygg_sym_spec.specs.declared.layer.SymLayer.{SymLayer}

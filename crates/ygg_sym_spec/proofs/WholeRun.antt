@@ -4,36 +4,36 @@ use Rattle.std.proofs.lemmas.List.{map-append}
 use Rattle.std.proofs.lemmas.List.Elements.{All-append}
 use Rattle.ygg_syntax.specs.declared.tree.Block.{Block}
 use Rattle.ygg_syntax.specs.declared.tree.Declared.{Declared}
-use Rattle.ygg_sym_laws.specs.ygg_type_rules.TypeErrors.{none}
-use Rattle.ygg_sym_laws.specs.ygg_type_rules.Scopes.{Scope}
-use Rattle.ygg_sym_laws.specs.ygg_type_rules.Definitions.{with_definitions}
-use Rattle.ygg_sym_laws.specs.ygg_meaning.Environments.{Name, bind}
-use Rattle.ygg_sym_laws.specs.ygg_meaning.Meaning.{Functions, functions_of}
-use Rattle.ygg_sym_laws.specs.ygg_meaning.Meaning as meaning
-use Rattle.ygg_sym_laws.specs.ygg_type_sound.Agrees.{Agrees}
-use Rattle.ygg_sym_laws.specs.ygg_type_sound.Questions.{plain}
-use Rattle.ygg_sym_laws.specs.ygg_rules.declared.rule.RuleKind.{RuleKind}
-use Rattle.ygg_sym_laws.specs.ygg_bank_proofs_Meaning.{fits_fewer}
-use Rattle.ygg_sym_laws.specs.ygg_bank.Nodes.{IsBank}
-use Rattle.ygg_sym_laws.specs.ygg_bank.Values.{value_of}
-use Rattle.ygg_sym_laws.specs.ygg_bank.declared.node.Node.{Node}
-use Rattle.ygg_sym_laws.proofs.of_ygg_shape.Answered.{no_inputs, some_fit}
-use Rattle.ygg_sym_laws.specs.ygg_shape_cells.Terms.{worth}
-use Rattle.ygg_sym_laws.specs.ygg_shape_cells.declared.terms.SymValue.{SymValue}
-use Rattle.ygg_sym_laws.specs.ygg_sym_expr.Names.{SymEnv, sym_bind}
-use Rattle.ygg_sym_laws.specs.ygg_sym_expr.Meaning.{worths}
-use Rattle.ygg_sym_laws.specs.ygg_sym_expr.Seen.{env_of}
-use Rattle.ygg_sym_laws.specs.ygg_sym_expr.declared.held.SymBinding.{SymBinding}
-use Rattle.ygg_sym_laws.specs.ygg_sym_expr_proofs_Definitions.{functions_mean}
-use Rattle.ygg_sym_laws.specs.ygg_sym_expr_proofs_Grows.{functions_grow}
-use Rattle.ygg_sym_laws.proofs.of_ygg_sym_runs.Worths.{NameShaped}
-use Rattle.ygg_sym_laws.specs.ygg_sym_runs.Disks.{done}
-use Rattle.ygg_sym_laws.specs.ygg_sym_runs.Lows.{LowShaped}
-use Rattle.ygg_sym_laws.proofs.of_ygg_sym_runs.Blocks.{BlockOfSpec, block_made_gives, block_made_grows, low_stands, values_worth}
-use Rattle.ygg_sym_laws.specs.ygg_sym_runs_proofs_Specs.{bound_worth, low_shaped}
-use Rattle.ygg_sym_laws.specs.Means.{values_in}
-use Rattle.ygg_sym_laws.specs.ygg_sym_runs.WholeReady.{CanWhole, IsWhole}
-use Rattle.ygg_sym_laws.specs.ygg_sym_runs.Specs.{Nothing}
+use Rattle.ygg_sym_runs.specs.ygg_type_rules.TypeErrors.{none}
+use Rattle.ygg_sym_runs.specs.ygg_type_rules.Scopes.{Scope}
+use Rattle.ygg_sym_runs.specs.ygg_type_rules.Definitions.{with_definitions}
+use Rattle.ygg_sym_runs.specs.ygg_meaning.Environments.{Name, bind}
+use Rattle.ygg_sym_runs.specs.ygg_meaning.Meaning.{Functions, functions_of}
+use Rattle.ygg_sym_runs.specs.ygg_meaning.Meaning as meaning
+use Rattle.ygg_sym_runs.specs.ygg_meaning_laws.Agrees.{Agrees}
+use Rattle.ygg_sym_runs.specs.ygg_meaning_laws.Questions.{plain}
+use Rattle.ygg_sym_runs.specs.ygg_rules.declared.rule.RuleKind.{RuleKind}
+use Rattle.ygg_sym_runs.specs.ygg_bank_proofs_Meaning.{fits_fewer}
+use Rattle.ygg_sym_runs.specs.ygg_bank.Nodes.{IsBank}
+use Rattle.ygg_sym_runs.specs.ygg_bank.Values.{value_of}
+use Rattle.ygg_sym_runs.specs.ygg_bank.declared.node.Node.{Node}
+use Rattle.ygg_sym_runs.proofs.of_ygg_shape.Answered.{no_inputs, some_fit}
+use Rattle.ygg_sym_runs.specs.ygg_shape_cells.Terms.{worth}
+use Rattle.ygg_sym_runs.specs.ygg_shape_cells.declared.terms.SymValue.{SymValue}
+use Rattle.ygg_sym_runs.specs.ygg_sym_expr.Names.{SymEnv, sym_bind}
+use Rattle.ygg_sym_runs.specs.ygg_sym_expr.Meaning.{worths}
+use Rattle.ygg_sym_runs.specs.ygg_sym_expr.Seen.{env_of}
+use Rattle.ygg_sym_runs.specs.ygg_sym_expr.declared.held.SymBinding.{SymBinding}
+use Rattle.ygg_sym_runs.specs.ygg_sym_expr_proofs_Definitions.{functions_mean}
+use Rattle.ygg_sym_runs.specs.ygg_sym_expr_proofs_Grows.{functions_grow}
+use Rattle.ygg_sym_runs.proofs.Worths.{NameShaped}
+use Rattle.ygg_sym_runs.specs.Disks.{done}
+use Rattle.ygg_sym_runs.specs.Lows.{LowShaped}
+use Rattle.ygg_sym_runs.proofs.Blocks.{BlockOfSpec, block_made_gives, block_made_grows, low_stands, values_worth}
+use Rattle.ygg_sym_runs.proofs.Specs.{bound_worth, low_shaped}
+use Rattle.ygg_sym_runs.specs.Means.{values_in}
+use Rattle.ygg_sym_runs.specs.WholeReady.{CanWhole, IsWhole}
+use Rattle.ygg_sym_runs.specs.Specs.{Nothing}
 use Rattle.ygg_sym_spec.proofs.Bare.{block_alike}
 use Rattle.ygg_sym_spec.specs.Bare.{bare}
 use Rattle.ygg_sym_spec.specs.Choosing.{pick_means}

@@ -1,6 +1,6 @@
 -- Scopes without operations below: what a block of a specification, which calls none, is typed in as well.
 use Rattle.std.specs.Prelude.{[]}
-use Rattle.ygg_sym_laws.specs.ygg_type_rules.Scopes.{Scope}
+use Rattle.ygg_sym_runs.specs.ygg_type_rules.Scopes.{Scope}
 
 -- the same scope, with no operation below
 abbrev pub bare : Scope → Scope

@@ -1,9 +1,9 @@
 -- What choices over terms are as the machine on which a block of a specification runs.
 use Rattle.std.specs.Prelude.{[]}
 use Rattle.ygg_syntax.specs.declared.grammar.BlockKind.TheVariants.{Spec}
-use Rattle.ygg_sym_laws.specs.ygg_sym_runs.Lower.{SymMeaning}
-use Rattle.ygg_sym_laws.specs.ygg_sym_runs.Specs.{Nothing, sym_chooser}
-use Rattle.ygg_sym_laws.specs.ygg_sym_runs_proofs_Specs.{choose_at, low_nothing}
+use Rattle.ygg_sym_runs.specs.Lower.{SymMeaning}
+use Rattle.ygg_sym_runs.specs.Specs.{Nothing, sym_chooser}
+use Rattle.ygg_sym_runs.proofs.Specs.{choose_at, low_nothing}
 use Rattle.ygg_sym_spec.specs.Picking.{bit_at, first_number, picking}
 use Rattle.ygg_sym_spec.specs.declared.chooser.SymChooser.{SymChooser}
 

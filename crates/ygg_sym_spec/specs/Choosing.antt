@@ -1,9 +1,9 @@
 -- Choices over terms do what they mean.
 use Rattle.std.specs.Prelude.{List, [], refl}
-use Rattle.ygg_sym_laws.specs.ygg_rules.declared.rule.RuleKind.{RuleKind}
-use Rattle.ygg_sym_laws.specs.ygg_bank.Values.{Inputs, Values}
-use Rattle.ygg_sym_laws.specs.ygg_sym_runs.Lower.{IsLower}
-use Rattle.ygg_sym_laws.specs.ygg_sym_runs_proofs_Specs.{PickMeans, chooser_means, input_pick_means, given_pick_means}
+use Rattle.ygg_sym_runs.specs.ygg_rules.declared.rule.RuleKind.{RuleKind}
+use Rattle.ygg_sym_runs.specs.ygg_bank.Values.{Inputs, Values}
+use Rattle.ygg_sym_runs.specs.Lower.{IsLower}
+use Rattle.ygg_sym_runs.proofs.Specs.{PickMeans, chooser_means, input_pick_means, given_pick_means}
 use Rattle.ygg_sym_spec.specs.Picking.{bit_at, picking}
 use Rattle.ygg_sym_spec.specs.Chooser.{chooser_meaning}
 use Rattle.ygg_sym_spec.specs.declared.chooser.SymChooser.{SymChooser}

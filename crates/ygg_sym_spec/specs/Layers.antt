@@ -3,23 +3,23 @@ use Rattle.std.specs.Prelude.{◌≡◌, IsTrue, List, [], Some}
 use Rattle.ygg_syntax.specs.declared.tree.Block.{Block}
 use Rattle.ygg_syntax.specs.declared.tree.Declared.{Declared}
 use Rattle.ygg_syntax.specs.declared.tree.Operation.{Operation}
-use Rattle.ygg_sym_laws.specs.ygg_type_rules.TypeErrors.{none}
-use Rattle.ygg_sym_laws.specs.ygg_type_rules.Definitions.{definitions_errors}
-use Rattle.ygg_sym_laws.specs.ygg_meaning.Environments.{Name}
-use Rattle.ygg_sym_laws.specs.ygg_meaning.Layer.{ClosedLayer, operation_of}
-use Rattle.ygg_sym_laws.specs.ygg_meaning.Meaning.{functions_of}
-use Rattle.ygg_sym_laws.specs.ygg_rules.declared.rule.RuleKind.{RuleKind}
-use Rattle.ygg_sym_laws.specs.ygg_bank.Makes.{Make}
-use Rattle.ygg_sym_laws.specs.ygg_bank.declared.node.Node.{Node}
-use Rattle.ygg_sym_laws.specs.ygg_shape_cells.declared.terms.SymValue.{SymValue}
-use Rattle.ygg_sym_laws.specs.ygg_sym_expr.Names.{sym_bind}
-use Rattle.ygg_sym_laws.specs.ygg_sym_expr.Exprs.{SymFunctions}
-use Rattle.ygg_sym_laws.specs.ygg_sym_runs.Lower.{SingleFrom}
-use Rattle.ygg_sym_laws.specs.ygg_sym_runs.Disks.{Done}
-use Rattle.ygg_sym_laws.specs.ygg_sym_runs.Lows.{LowShaped}
-use Rattle.ygg_sym_laws.specs.ygg_sym_runs.SpecCuts.{block_made, crash_made, then_crash_made, fall_made, fall_asked}
-use Rattle.ygg_sym_laws.specs.Means.{terms_of}
-use Rattle.ygg_sym_laws.specs.Typed.{OperationTyped, SpecBlockTyped, SpecTyped}
+use Rattle.ygg_sym_runs.specs.ygg_type_rules.TypeErrors.{none}
+use Rattle.ygg_sym_runs.specs.ygg_type_rules.Definitions.{definitions_errors}
+use Rattle.ygg_sym_runs.specs.ygg_meaning.Environments.{Name}
+use Rattle.ygg_sym_runs.specs.ygg_meaning.Layer.{ClosedLayer, operation_of}
+use Rattle.ygg_sym_runs.specs.ygg_meaning.Meaning.{functions_of}
+use Rattle.ygg_sym_runs.specs.ygg_rules.declared.rule.RuleKind.{RuleKind}
+use Rattle.ygg_sym_runs.specs.ygg_bank.Makes.{Make}
+use Rattle.ygg_sym_runs.specs.ygg_bank.declared.node.Node.{Node}
+use Rattle.ygg_sym_runs.specs.ygg_shape_cells.declared.terms.SymValue.{SymValue}
+use Rattle.ygg_sym_runs.specs.ygg_sym_expr.Names.{sym_bind}
+use Rattle.ygg_sym_runs.specs.ygg_sym_expr.Exprs.{SymFunctions}
+use Rattle.ygg_sym_runs.specs.Lower.{SingleFrom}
+use Rattle.ygg_sym_runs.specs.Disks.{Done}
+use Rattle.ygg_sym_runs.specs.Lows.{LowShaped}
+use Rattle.ygg_sym_runs.specs.SpecCuts.{block_made, crash_made, then_crash_made, fall_made, fall_asked}
+use Rattle.ygg_sym_runs.specs.Means.{terms_of}
+use Rattle.ygg_sym_runs.specs.Typed.{OperationTyped, SpecBlockTyped, SpecTyped}
 use Rattle.ygg_sym_spec.specs.Picking.{first_number, picking}
 use Rattle.ygg_sym_spec.specs.declared.layer.SymLayer.{SymLayer}
 use Rattle.ygg_sym_spec.specs.declared.picks.SymPicks.{SymPicks}

@@ -1,28 +1,23 @@
-pub use Rattle.ygg_sym_disk.specs as ygg_sym_disk
-pub use Rattle.ygg_sym_disk.specs.ygg_sym_runs_proofs_Cuts
-pub use Rattle.ygg_sym_disk.specs.ygg_sym_runs_proofs_DiskKeeps
-pub use Rattle.ygg_sym_laws.specs.ygg_bank
-pub use Rattle.ygg_sym_laws.specs.ygg_bank_proofs_Meaning
-pub use Rattle.ygg_sym_laws.specs.ygg_bank_proofs_Widths
-pub use Rattle.ygg_sym_laws.specs.ygg_direct
-pub use Rattle.ygg_sym_laws.specs.ygg_meaning
-pub use Rattle.ygg_sym_laws.specs.ygg_rules
-pub use Rattle.ygg_sym_laws.specs.ygg_shape
-pub use Rattle.ygg_sym_laws.specs.ygg_shape_cells
-pub use Rattle.ygg_sym_laws.specs.ygg_sym_expr
-pub use Rattle.ygg_sym_laws.specs.ygg_sym_expr_proofs_Grows
-pub use Rattle.ygg_sym_laws.specs.ygg_sym_expr_proofs_Shaped
-pub use Rattle.ygg_sym_laws.specs as ygg_sym_laws
-pub use Rattle.ygg_sym_laws.specs.ygg_sym_runs
-pub use Rattle.ygg_sym_laws.specs.ygg_sym_runs_proofs_Chosen
-pub use Rattle.ygg_sym_laws.specs.ygg_sym_runs_proofs_Lows
-pub use Rattle.ygg_sym_laws.specs.ygg_sym_runs_proofs_Specs
-pub use Rattle.ygg_sym_laws.specs.ygg_syntax_count
-pub use Rattle.ygg_sym_laws.specs.ygg_type_rules
-pub use Rattle.ygg_sym_laws.specs.ygg_type_sound
-pub use Rattle.ygg_sym_laws.specs.ygg_type_sound_proofs_ProgressFits
-pub use Rattle.ygg_sym_laws.specs.Typed
-pub use Rattle.ygg_sym_laws.specs.Below
+pub use Rattle.ygg_sym_runs.specs.ygg_bank
+pub use Rattle.ygg_sym_runs.specs.ygg_bank_proofs_Meaning
+pub use Rattle.ygg_sym_runs.specs.ygg_bank_proofs_Widths
+pub use Rattle.ygg_sym_runs.specs.ygg_meaning_laws
+pub use Rattle.ygg_sym_runs.specs.ygg_meaning
+pub use Rattle.ygg_sym_runs.specs.ygg_rules
+pub use Rattle.ygg_sym_runs.specs.ygg_shape
+pub use Rattle.ygg_sym_runs.specs.ygg_shape_cells
+pub use Rattle.ygg_sym_runs.specs.ygg_sym_expr
+pub use Rattle.ygg_sym_runs.specs.ygg_sym_expr_proofs_Grows
+pub use Rattle.ygg_sym_runs.specs.ygg_sym_expr_proofs_Shaped
+pub use Rattle.ygg_sym_runs.specs as ygg_sym_runs
+pub use Rattle.ygg_sym_runs.proofs.Chosen as ygg_sym_runs_proofs_Chosen
+pub use Rattle.ygg_sym_runs.proofs.Lows as ygg_sym_runs_proofs_Lows
+pub use Rattle.ygg_sym_runs.proofs.Specs as ygg_sym_runs_proofs_Specs
+pub use Rattle.ygg_sym_runs.specs.ygg_syntax_count
+pub use Rattle.ygg_sym_runs.specs.ygg_type_rules
+pub use Rattle.ygg_sym_runs.specs.ygg_meaning_laws_proofs_ProgressFits
+pub use Rattle.ygg_sym_runs.specs.Typed
+pub use Rattle.ygg_sym_runs.specs.Below
 pub mod Bare
 pub mod Picking
 pub mod Layers
@@ -30,3 +25,5 @@ pub mod Chooser
 pub mod Choosing
 pub mod Machine
 pub mod Meaning
+pub mod Kept
+pub mod Sites

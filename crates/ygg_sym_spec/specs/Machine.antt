@@ -1,22 +1,22 @@
 -- What the specification of a layer over terms is as the machine on which a block runs.
 use Rattle.std.specs.Prelude.{ℕ, List}
 use Rattle.ygg_syntax.specs.declared.grammar.BlockKind.TheVariants.{Impl}
-use Rattle.ygg_sym_laws.specs.ygg_meaning.Environments.{Env}
-use Rattle.ygg_sym_laws.specs.ygg_meaning.Machine.{State}
-use Rattle.ygg_sym_laws.specs.ygg_direct.RunPlaces.{spec_space}
-use Rattle.ygg_sym_laws.specs.ygg_shape_cells.declared.terms.SymValue.{SymValue}
-use Rattle.ygg_sym_laws.specs.ygg_sym_runs.Lower.{SymMeaning}
-use Rattle.ygg_sym_laws.specs.ygg_sym_runs.Laws.{picked_by}
-use Rattle.ygg_sym_laws.specs.ygg_rules.declared.rule.RuleKind.{RuleKind}
-use Rattle.ygg_sym_laws.specs.ygg_bank.Makes.{Make}
-use Rattle.ygg_sym_laws.specs.ygg_meaning.Environments.{Name}
-use Rattle.ygg_sym_laws.specs.ygg_sym_runs.Runs.{Call}
-use Rattle.ygg_sym_laws.specs.ygg_sym_runs.Disks.{Done}
-use Rattle.ygg_sym_laws.specs.ygg_sym_runs.Specs.{input_pick, spec_handles, sym_spec}
+use Rattle.ygg_sym_runs.specs.ygg_meaning.Environments.{Env}
+use Rattle.ygg_sym_runs.specs.ygg_meaning.Machine.{State}
+use Rattle.ygg_sym_runs.specs.ygg_meaning_laws.RunPlaces.{spec_space}
+use Rattle.ygg_sym_runs.specs.ygg_shape_cells.declared.terms.SymValue.{SymValue}
+use Rattle.ygg_sym_runs.specs.Lower.{SymMeaning}
+use Rattle.ygg_sym_runs.specs.Laws.{picked_by}
+use Rattle.ygg_sym_runs.specs.ygg_rules.declared.rule.RuleKind.{RuleKind}
+use Rattle.ygg_sym_runs.specs.ygg_bank.Makes.{Make}
+use Rattle.ygg_sym_runs.specs.ygg_meaning.Environments.{Name}
+use Rattle.ygg_sym_runs.specs.Runs.{Call}
+use Rattle.ygg_sym_runs.specs.Disks.{Done}
+use Rattle.ygg_sym_runs.specs.Specs.{input_pick, spec_handles, sym_spec}
 use Rattle.ygg_sym_spec.specs.declared.layer.SymLayer.{SymLayer}
-use Rattle.ygg_sym_laws.specs.ygg_sym_runs_proofs_Lows.{low_of}
-use Rattle.ygg_sym_laws.specs.ygg_sym_runs_proofs_SpecMeans.{spec_at}
-use Rattle.ygg_sym_laws.specs.Below.{signatures_of}
+use Rattle.ygg_sym_runs.proofs.Lows.{low_of}
+use Rattle.ygg_sym_runs.proofs.SpecMeans.{spec_at}
+use Rattle.ygg_sym_runs.specs.Below.{signatures_of}
 use Rattle.ygg_sym_spec.specs.Layers.{SpecServes, closed, terms_in}
 use Rattle.ygg_sym_spec.specs.declared.machine.SymSpec.{SymSpec}
 

@@ -1,14 +1,14 @@
 -- The specification of a layer over terms does what it means.
 use Rattle.std.specs.Prelude.{[], reverse, refl}
-use Rattle.ygg_sym_laws.specs.ygg_type_rules.Definitions.{with_definitions}
-use Rattle.ygg_sym_laws.specs.ygg_sym_expr_proofs_Definitions.{functions_mean}
-use Rattle.ygg_sym_laws.specs.ygg_sym_expr_proofs_Grows.{functions_grow}
-use Rattle.ygg_sym_laws.specs.ygg_sym_runs.Lower.{IsLower}
-use Rattle.ygg_sym_laws.specs.ygg_sym_runs.Specs.{input_pick}
-use Rattle.ygg_sym_laws.specs.ygg_sym_runs.Laws.{picked_by}
-use Rattle.ygg_sym_laws.specs.ygg_sym_runs_proofs_SpecMeans.{spec_means}
-use Rattle.ygg_sym_laws.specs.ygg_sym_runs_proofs_Specs.{input_pick_means}
-use Rattle.ygg_sym_laws.specs.Below.{signatures_of}
+use Rattle.ygg_sym_runs.specs.ygg_type_rules.Definitions.{with_definitions}
+use Rattle.ygg_sym_runs.specs.ygg_sym_expr_proofs_Definitions.{functions_mean}
+use Rattle.ygg_sym_runs.specs.ygg_sym_expr_proofs_Grows.{functions_grow}
+use Rattle.ygg_sym_runs.specs.Lower.{IsLower}
+use Rattle.ygg_sym_runs.specs.Specs.{input_pick}
+use Rattle.ygg_sym_runs.specs.Laws.{picked_by}
+use Rattle.ygg_sym_runs.proofs.SpecMeans.{spec_means}
+use Rattle.ygg_sym_runs.proofs.Specs.{input_pick_means}
+use Rattle.ygg_sym_runs.specs.Below.{signatures_of}
 use Rattle.ygg_sym_spec.specs.Layers.{closed, terms_in}
 use Rattle.ygg_sym_spec.specs.Machine.{spec_meaning}
 use Rattle.ygg_sym_spec.specs.declared.machine.SymSpec.{SymSpec}

@@ -1,12 +1,12 @@
 -- Where the picks of a specification come from.
 use Rattle.std.specs.Prelude.{◌==◌, ◌+◌, ℕ, Bool, false, List}
-use Rattle.ygg_sym_laws.specs.ygg_direct.Acts.{next_of}
-use Rattle.ygg_sym_laws.specs.ygg_direct.Places.{left_after}
-use Rattle.ygg_sym_laws.specs.ygg_rules.declared.rule.RuleKind.{RuleKind}
-use Rattle.ygg_sym_laws.specs.ygg_bank.Makes.{Make}
-use Rattle.ygg_sym_laws.specs.ygg_bank.Values.{Inputs}
-use Rattle.ygg_sym_laws.specs.ygg_bank.declared.node.Id.{Id}
-use Rattle.ygg_sym_laws.specs.ygg_sym_runs.Specs.{input_pick, given_pick}
+use Rattle.ygg_sym_runs.specs.ygg_meaning_laws.Acts.{next_of}
+use Rattle.ygg_sym_runs.specs.ygg_meaning_laws.Places.{left_after}
+use Rattle.ygg_sym_runs.specs.ygg_rules.declared.rule.RuleKind.{RuleKind}
+use Rattle.ygg_sym_runs.specs.ygg_bank.Makes.{Make}
+use Rattle.ygg_sym_runs.specs.ygg_bank.Values.{Inputs}
+use Rattle.ygg_sym_runs.specs.ygg_bank.declared.node.Id.{Id}
+use Rattle.ygg_sym_runs.specs.Specs.{input_pick, given_pick}
 use Rattle.ygg_sym_spec.specs.declared.picks.SymPicks.{SymPicks}
 use Rattle.ygg_sym_spec.specs.declared.picks.SymPicks.TheVariants as picks
 

@@ -1,15 +1,15 @@
 //! Blocks of a specification over terms.
 
 ghost use Rattle.std.specs.Prelude.{◌≡◌, ◌++◌, [], IfOk, OnOk, length};
-ghost use Rattle.ygg_sym_laws.specs.ygg_bank.Nodes.{Extends, IsBank};
-ghost use Rattle.ygg_sym_laws.specs.ygg_sym_expr.Names.{sym_bind};
-ghost use Rattle.ygg_sym_laws.specs.ygg_sym_expr.Seen.{env_of};
-ghost use Rattle.ygg_sym_laws.specs.ygg_sym_runs.Lower.{Counts, KeepsSingle};
-ghost use Rattle.ygg_sym_laws.specs.ygg_sym_runs.Disks.{done};
-ghost use Rattle.ygg_sym_laws.specs.ygg_sym_runs.Lows.{LowShaped};
-ghost use Rattle.ygg_sym_laws.specs.ygg_sym_runs.SpecCuts.{choice_room};
-ghost use Rattle.ygg_sym_laws.specs.Means.{values_in};
-ghost use Rattle.ygg_sym_laws.specs.Typed.{SpecBlockTyped};
+ghost use Rattle.ygg_sym_runs.specs.ygg_bank.Nodes.{Extends, IsBank};
+ghost use Rattle.ygg_sym_runs.specs.ygg_sym_expr.Names.{sym_bind};
+ghost use Rattle.ygg_sym_runs.specs.ygg_sym_expr.Seen.{env_of};
+ghost use Rattle.ygg_sym_runs.specs.Lower.{Counts, KeepsSingle};
+ghost use Rattle.ygg_sym_runs.specs.Disks.{done};
+ghost use Rattle.ygg_sym_runs.specs.Lows.{LowShaped};
+ghost use Rattle.ygg_sym_runs.specs.SpecCuts.{choice_room};
+ghost use Rattle.ygg_sym_runs.specs.Means.{values_in};
+ghost use Rattle.ygg_sym_runs.specs.Typed.{SpecBlockTyped};
 ghost use Rattle.ygg_sym_spec.specs.Layers.{CanBlock, block_of, closed, crash_of, then_crash_of};
 
 use crate::chooser::{Nothing, SymChooser};
@@ -17,7 +17,7 @@ use crate::layer::SymLayer;
 use crate::picks::SymPicks;
 use std::alloc::Global;
 use ygg_list::Duplicate;
-use ygg_sym_laws::{Bank, Book, NoMemory, SymBinding, SymRunner, SymValue, SymValues, room, whole};
+use ygg_sym_runs::{Bank, Book, NoMemory, SymBinding, SymRunner, SymValue, SymValues, room, whole};
 use ygg_syntax::tree::{Block, Declared};
 
 /// What a block of a specification leaves.

@@ -4,14 +4,14 @@ use crate::picks::SymPicks;
 use std::alloc::Global;
 use std::marker::Model;
 use ygg_list::Duplicate;
-use ygg_sym_laws::{Awaited, Bank, Book, Id, NoMemory, SymLower, SymValue};
+use ygg_sym_runs::{Awaited, Bank, Book, Id, NoMemory, SymLower, SymValue};
 
 /// The state of a machine that has none.
 #[derive(Drop)]
 pub struct Nothing;
 
 impl Model for Nothing {
-    ghost use Rattle.ygg_sym_laws.specs.ygg_sym_runs.Specs.{Nothing};
+    ghost use Rattle.ygg_sym_runs.specs.Specs.{Nothing};
 
     ghost Value = { Nothing };
 

@@ -1,10 +1,10 @@
 //! Power that fails on a specification over terms.
 
 ghost use Rattle.std.specs.Prelude.{◌≡◌, IfOk, None, OnOk};
-ghost use Rattle.ygg_sym_laws.specs.ygg_bank.Nodes.{Extends, IsBank};
-ghost use Rattle.ygg_sym_laws.specs.ygg_sym_runs.Lower.{KeepsSingle};
-ghost use Rattle.ygg_sym_laws.specs.ygg_sym_runs.Lows.{LowShaped};
-ghost use Rattle.ygg_sym_laws.specs.ygg_sym_runs.SpecCuts.{fall_made};
+ghost use Rattle.ygg_sym_runs.specs.ygg_bank.Nodes.{Extends, IsBank};
+ghost use Rattle.ygg_sym_runs.specs.Lower.{KeepsSingle};
+ghost use Rattle.ygg_sym_runs.specs.Lows.{LowShaped};
+ghost use Rattle.ygg_sym_runs.specs.SpecCuts.{fall_made};
 ghost use Rattle.ygg_sym_spec.specs.Layers.{CanCut, CanFall, closed, cut_of, fall_of, terms_in};
 ghost use Rattle.ygg_sym_spec.specs.Picking.{picking};
 
@@ -12,8 +12,8 @@ use crate::blocks::{crash, then_crash};
 use crate::layer::{SymLayer, operation_of};
 use crate::picks::SymPicks;
 use std::alloc::Global;
-use ygg_sym_disk::merge_lows;
-use ygg_sym_laws::{Bank, Book, NoMemory, SymValue, SymValues};
+use ygg_sym_runs::low_states::merge_lows;
+use ygg_sym_runs::{Bank, Book, NoMemory, SymValue, SymValues};
 use ygg_syntax::tree::Operation;
 
 /// What power leaves that fails within an operation of this name: what is none leaves the variables. Its only error is out of memory, after which

@@ -2,7 +2,7 @@
 
 ghost use Rattle.std.specs.Prelude.{◌≡◌, ◌+◌, suc, OnOk, IfOk, IfNone};
 ghost use Rattle.std.specs.Option.{option_copied};
-ghost use Rattle.ygg_sym_laws.specs.ygg_meaning.Layer.{operation_in};
+ghost use Rattle.ygg_sym_runs.specs.ygg_meaning.Layer.{operation_in};
 
 use ygg_syntax::tree::{Declared, Def, Layer, Operation};
 

@@ -1,10 +1,10 @@
 //! The specification of a layer as the machine on which a block runs.
 
 ghost use Rattle.std.specs.Prelude.{◌≡◌, IfOk, OnOk};
-ghost use Rattle.ygg_sym_laws.specs.ygg_bank.Nodes.{Extends, IsBank};
-ghost use Rattle.ygg_sym_laws.specs.ygg_sym_runs.Lower.{KeepsSingle};
-ghost use Rattle.ygg_sym_laws.specs.ygg_sym_runs.Runs.{Call};
-ghost use Rattle.ygg_sym_laws.specs.ygg_sym_runs.Disks.{done};
+ghost use Rattle.ygg_sym_runs.specs.ygg_bank.Nodes.{Extends, IsBank};
+ghost use Rattle.ygg_sym_runs.specs.Lower.{KeepsSingle};
+ghost use Rattle.ygg_sym_runs.specs.Runs.{Call};
+ghost use Rattle.ygg_sym_runs.specs.Disks.{done};
 ghost use Rattle.ygg_sym_spec.specs.Layers.{CanCut};
 ghost use Rattle.ygg_sym_spec.specs.Machine.{call_of};
 
@@ -12,8 +12,8 @@ use crate::blocks::{block, choices};
 use crate::layer::{SymLayer, operation_of};
 use crate::picks::SymPicks;
 use std::alloc::Global;
-use ygg_sym_disk::{Lows, merge_lows};
-use ygg_sym_laws::{Awaited, Bank, Book, Id, NoMemory, SymLower, SymValue};
+use ygg_sym_runs::low_states::{Lows, merge_lows};
+use ygg_sym_runs::{Awaited, Bank, Book, Id, NoMemory, SymLower, SymValue};
 
 /// The specification of a layer over terms, whose picks are inputs of the bank: of each place the one whose number is so much above the first.
 #[derive(Clone, Copy)]

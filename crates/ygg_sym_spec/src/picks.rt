@@ -1,14 +1,14 @@
 //! The picks of a specification over terms.
 
 ghost use Rattle.std.specs.Prelude.{◌≡◌, ◌+◌, ◌≤◌, ℕ, List, IfOk, OnErr, OnOk};
-ghost use Rattle.ygg_sym_laws.specs.ygg_direct.Places.{left_after};
-ghost use Rattle.ygg_sym_laws.specs.ygg_rules.declared.rule.RuleKind.{RuleKind};
+ghost use Rattle.ygg_sym_runs.specs.ygg_meaning_laws.Places.{left_after};
+ghost use Rattle.ygg_sym_runs.specs.ygg_rules.declared.rule.RuleKind.{RuleKind};
 ghost use Rattle.ygg_value.specs.Words.{bit_of, word};
-ghost use Rattle.ygg_sym_laws.specs.ygg_bank.Nodes.{Extends, HasWidth, IsBank};
-ghost use Rattle.ygg_sym_laws.specs.ygg_sym_runs.Lower.{KeepsSingle, SingleFrom};
+ghost use Rattle.ygg_sym_runs.specs.ygg_bank.Nodes.{Extends, HasWidth, IsBank};
+ghost use Rattle.ygg_sym_runs.specs.Lower.{KeepsSingle, SingleFrom};
 ghost use Rattle.ygg_sym_spec.specs.Picking.{bit_in, first_number, picking};
 
-use ygg_sym_laws::{Bank, Book, Id, NoMemory, Node};
+use ygg_sym_runs::{Bank, Book, Id, NoMemory, Node};
 use ygg_value::Word;
 
 /// Where the picks of a specification come from, by place.

@@ -13,7 +13,7 @@ use Rattle.ygg_sym_runs.specs.ygg_bank.declared.node.Node.{Node}
 use Rattle.ygg_sym_runs.specs.ygg_bank.declared.node.Node.TheVariants.{Input, Bin}
 use Rattle.ygg_sym_runs.specs.ygg_shape_words_proofs_Grows.{picked_grows}
 use Rattle.ygg_sym_runs.specs.ygg_shape_words.Picking.{picked}
-use Rattle.ygg_sym_runs.specs.ygg_type_sound.Questions.{question_fits}
+use Rattle.ygg_sym_runs.specs.ygg_meaning_laws.Questions.{question_fits}
 use Rattle.ygg_sym_runs.specs.ygg_sym_expr.Meaning.{Grows, Gives}
 use Rattle.ygg_sym_runs.specs.ygg_sym_expr_proofs_Shaped.{some_wider}
 use Rattle.ygg_sym_runs.specs.Runs as runs

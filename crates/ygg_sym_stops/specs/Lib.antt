@@ -2,7 +2,7 @@ pub use Rattle.ygg_sym_runs.specs.ygg_bank_proofs_Made
 pub use Rattle.ygg_sym_runs.specs.ygg_bank_proofs_Meaning
 pub use Rattle.ygg_sym_runs.specs.ygg_bank_proofs_Widths
 pub use Rattle.ygg_sym_runs.specs.ygg_bank
-pub use Rattle.ygg_sym_runs.specs.ygg_direct
+pub use Rattle.ygg_sym_runs.specs.ygg_meaning_laws
 pub use Rattle.ygg_sym_runs.specs.ygg_meaning
 pub use Rattle.ygg_sym_runs.specs.ygg_rules
 pub use Rattle.ygg_sym_runs.specs.ygg_shape_cells
@@ -17,7 +17,7 @@ pub use Rattle.ygg_sym_runs.specs.ygg_sym_expr_proofs_Keeps
 pub use Rattle.ygg_sym_runs.specs.ygg_sym_expr_proofs_Shaped
 pub use Rattle.ygg_sym_runs.specs.ygg_sym_expr
 pub use Rattle.ygg_sym_runs.specs.ygg_type_rules
-pub use Rattle.ygg_sym_runs.specs.ygg_type_sound_proofs_Tests
+pub use Rattle.ygg_sym_runs.specs.ygg_meaning_laws_proofs_Tests
 pub use Rattle.ygg_sym_runs.specs.StopTerms
 pub mod Stopping
 pub mod Halting

@@ -1,7 +1,7 @@
 -- Power that fails on a machine over terms: what its stops are made of, and what is asked of them.
 use Rattle.std.specs.Prelude.{◌≤◌, ◌+◌, ℕ, IsTrue, List}
 use Rattle.ygg_value.specs.declared.operation.Op.TheVariants.{Or}
-use Rattle.ygg_sym_runs.specs.ygg_type_sound.Questions.{question_fits}
+use Rattle.ygg_sym_runs.specs.ygg_meaning_laws.Questions.{question_fits}
 use Rattle.ygg_sym_runs.specs.ygg_rules.declared.rule.RuleKind.{RuleKind}
 use Rattle.ygg_sym_runs.specs.ygg_bank.Makes.{Make}
 use Rattle.ygg_sym_runs.specs.ygg_bank.Making.{made}

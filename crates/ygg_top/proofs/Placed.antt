@@ -14,10 +14,10 @@ use Rattle.ygg_dimacs.specs.ygg_bank.declared.node.Node.{Node}
 use Rattle.ygg_dimacs.specs.ygg_gates.Groups.{translated}
 use Rattle.ygg_dimacs.specs.ygg_gates.Laws.{AreExact}
 use Rattle.ygg_dimacs.proofs.of_ygg_gates.Whole.{satisfiable_exactly}
-use Rattle.ygg_oblige_decided.specs.ygg_oblige_laws.Terms.{file_made}
-use Rattle.ygg_oblige_decided.specs.ygg_oblige_laws.Meaning.{claim_name, IsTermOf, AreTermsOf}
-use Rattle.ygg_oblige_decided.proofs.Deciding.{zero_is_violated}
-use Rattle.ygg_oblige_decided.proofs.Listed.{listed_zero}
+use Rattle.ygg_certify.specs.ygg_oblige_laws.Terms.{file_made}
+use Rattle.ygg_certify.specs.ygg_oblige_laws.Meaning.{claim_name, IsTermOf, AreTermsOf}
+use Rattle.ygg_certify.proofs.Deciding.{zero_is_violated}
+use Rattle.ygg_certify.proofs.Listed.{listed_zero}
 use Rattle.ygg_oblige.specs.declared.obligation.Obligation.{Obligation}
 use Rattle.ygg_oblige.specs.Obligations.{names_in, terms_in}
 use Rattle.ygg_dimacs.specs.Counted.{clauses_text}

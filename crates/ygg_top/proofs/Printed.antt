@@ -3,7 +3,7 @@ use Rattle.std.proofs.Common.{◌≡◌, ℕ, List, Option, Some, refl, subst}
 use Rattle.ygg_base.specs.declared.lists.Held.{Held}
 use Rattle.ygg_base.specs.declared.status.Status.TheVariants.{Done}
 use Rattle.ygg_syntax.specs.declared.tree.File.{File}
-use Rattle.ygg_print.specs.ygg_print_tree.Laws.{TokensAreMarks}
+use Rattle.ygg_print.specs.TreeLaws.{TokensAreMarks}
 use Rattle.ygg_print.specs.Canonical.{canonical, IsReadAgain}
 use Rattle.ygg_top_command.specs.declared.stopping.CommandStop.{CommandStop}
 use Rattle.ygg_top_command.specs.Fetched.{IsNoFile, StandsFile}

@@ -6,7 +6,7 @@ use Rattle.std.specs.Option.{option_map}
 use Rattle.ygg_syntax.specs.declared.tree.File.{File}
 use Rattle.ygg_sched.specs.ygg_meaning.Obligations.{name_of}
 use Rattle.ygg_sched.specs.ygg_meaning.Claims.{Claim, claims_of}
-use Rattle.ygg_oblige_decided.specs.ygg_oblige_laws.Meaning.{claim_name}
+use Rattle.ygg_certify.specs.ygg_oblige_laws.Meaning.{claim_name}
 use Rattle.ygg_sched.specs.declared.claim.Claim as code
 use Rattle.ygg_sched.specs.Laws.{asked_at, asked_of}
 use Rattle.ygg_sched.specs.Sites.{Site, sites_of, is_named, site_named, site_in}

@@ -9,14 +9,14 @@ use Rattle.ygg_report.specs.Putting.{NoFront}
 use Rattle.ygg_rules.specs.declared.rule.RuleKind.{RuleKind}
 use Rattle.ygg_top_command.specs.Standing.{DoesWith, DoesWithin, IsRefused}
 use Rattle.ygg_top_command.specs.Words.{usual_budget}
-use Rattle.ygg_top_run.specs.Certifying.{Certified, IsCutCertifying}
-use Rattle.ygg_top_run.specs.Checking.{ChecksNamed}
+use Rattle.ygg_top.specs.Certifying.{Certified, IsCutCertifying}
+use Rattle.ygg_top.specs.Checking.{ChecksNamed}
 use Rattle.ygg_top.specs.Asking.{AsksNamed, IsCutAsking}
-use Rattle.ygg_top_run.specs.Playing.{PlaysNamed, IsCutPlaying}
+use Rattle.ygg_top.specs.Playing.{PlaysNamed, IsCutPlaying}
 use Rattle.ygg_top.specs.Printing.{Prints}
-use Rattle.ygg_top_run.specs.ygg_top_verify.Replaying.{ReplaysNamed}
+use Rattle.ygg_top.specs.ygg_top_verify.Replaying.{ReplaysNamed}
 use Rattle.ygg_top.specs.Solving.{Solves, IsCutSolving}
-use Rattle.ygg_top_run.specs.Verifying.{Demos, Verifies, IsCutRun}
+use Rattle.ygg_top.specs.Verifying.{Demos, Verifies, IsCutRun}
 use Rattle.ygg_top.specs.declared.help.TheConstants.{HELP, VERSION}
 use Rattle.ygg_top.specs.declared.words.Alone.{Alone}
 use Rattle.ygg_top.specs.declared.words.Alone.TheVariants as alone

@@ -5,8 +5,8 @@ use Rattle.ygg_base.specs.declared.status.Status.{Status}
 use Rattle.ygg_base_device.specs.Devices.{Image, Attachment}
 use Rattle.ygg_report.specs.Putting.{NoFront}
 use Rattle.ygg_rules.specs.declared.rule.RuleKind.{RuleKind}
-use Rattle.ygg_top_run.specs.Formatting.{FormatsNamed, FormatsBroken, FormatsLeave}
-use Rattle.ygg_top_run.specs.Running.{RunsNamed, RunsLeft, RunsBroken, RunLeaves}
+use Rattle.ygg_top.specs.Formatting.{FormatsNamed, FormatsBroken, FormatsLeave}
+use Rattle.ygg_top.specs.Running.{RunsNamed, RunsLeft, RunsBroken, RunLeaves}
 use Rattle.ygg_top.specs.declared.words.OnImage.{OnImage}
 use Rattle.ygg_top.specs.declared.words.OnImage.TheVariants.{Format, Run}
 use Rattle.ygg_top.specs.Words.{on_image}

@@ -1,7 +1,17 @@
+pub use Rattle.ygg_top_verify.specs as ygg_top_verify
+pub use Rattle.ygg_top_verify.specs.Certifying
+pub use Rattle.ygg_top_verify.specs.Checking
+pub use Rattle.ygg_top_verify.specs.Verifying
+pub use Rattle.ygg_dimacs.specs.ygg_rules
+pub mod Formatting
+pub mod Images
+pub mod Scripts
+pub mod Running
+pub mod Laws
+pub mod Playing
 pub mod Words
 pub mod Ending
 pub mod Imaging
-pub use Rattle.ygg_dimacs.specs.ygg_rules
 pub mod Printed
 pub mod Asking
 pub mod Printing

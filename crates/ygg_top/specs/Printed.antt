@@ -11,8 +11,8 @@ use Rattle.ygg_dimacs.specs.ygg_cnf.declared.lit.Lit.{Lit}
 use Rattle.ygg_dimacs.specs.ygg_cnf.Literals.{SatisfiesAll}
 use Rattle.ygg_dimacs.specs.ygg_gates.Groups.{translated}
 use Rattle.ygg_oblige.specs.declared.obligation.Obligation.{Obligation}
-use Rattle.ygg_oblige_decided.specs.ygg_oblige_laws.Terms.{file_made}
-use Rattle.ygg_oblige_decided.specs.ygg_oblige_laws.Meaning.{claim_name}
+use Rattle.ygg_certify.specs.ygg_oblige_laws.Terms.{file_made}
+use Rattle.ygg_certify.specs.ygg_oblige_laws.Meaning.{claim_name}
 use Rattle.ygg_dimacs.specs.Counted.{clauses_text}
 
 -- some truth values satisfy the clauses exactly where some schedule violates the obligation

@@ -10,8 +10,11 @@ ghost use Rattle.ygg_top.specs.Ending.{EndsAlone, EndsOne, EndsTwo, LeavesOne, L
 ghost use Rattle.ygg_top.specs.Imaging.{EndsOn, IsLeftOn, IsBrokenOn, KeepsOn, UsesImage};
 
 use crate::asking::cnf;
+use crate::formatting::format;
 use crate::help::{HELP, VERSION};
+use crate::playing::play;
 use crate::print_command::print;
+use crate::running::run;
 use crate::solving::{solve, solve_within};
 use crate::words::{Alone, OnImage, One, Two};
 use std::alloc::Global;
@@ -20,9 +23,7 @@ use ygg_base_device::Device;
 use ygg_report::put_all;
 use ygg_rules::{Book, RuleBook};
 use ygg_top_command::{CommandStop, USUAL_BUDGET, end};
-use ygg_top_run::{
-    certify, certify_within, check, demo, format, play, replay, run, verify, verify_within,
-};
+use ygg_top_verify::{certify, certify_within, check, demo, replay, verify, verify_within};
 
 /// Runs the command that the words name, and ends with its status: `verify FILE`, `verify FILE BUDGET`, `print FILE`, `demo N`, `replay FILE SCHEDULE`,
 /// `play FILE SCRIPT`, `solve CNF`, `solve CNF BUDGET`, `cnf FILE OBLIGATION`, `certify FILE`, `certify FILE BUDGET`, `check FILE CERTIFICATE`,

@@ -38,11 +38,11 @@ use Rattle.ygg_syntax.specs.declared.tree.File.{File}
 use Rattle.ygg_oblige_reading.specs.ygg_rules.declared.rule.RuleKind.{RuleKind}
 use Rattle.ygg_yard.specs.ygg_meaning.Claims.{Claim, ClaimHolds, claims_of}
 use Rattle.ygg_yard.specs.ygg_meaning.Stack.{FileRefines}
-use Rattle.ygg_oblige_decided.specs.ygg_bank.Nodes.{IsBank}
-use Rattle.ygg_oblige_decided.specs.ygg_bank.declared.node.Id.{Id}
-use Rattle.ygg_oblige_decided.specs.ygg_bank.declared.node.Node.{Node}
-use Rattle.ygg_oblige_decided.specs.ygg_oblige_laws.Terms.{file_made}
-use Rattle.ygg_oblige_decided.specs.ygg_oblige_laws.Meaning.{AreTermsOf}
+use Rattle.ygg_certify.specs.ygg_bank.Nodes.{IsBank}
+use Rattle.ygg_certify.specs.ygg_bank.declared.node.Id.{Id}
+use Rattle.ygg_certify.specs.ygg_bank.declared.node.Node.{Node}
+use Rattle.ygg_certify.specs.ygg_oblige_laws.Terms.{file_made}
+use Rattle.ygg_certify.specs.ygg_oblige_laws.Meaning.{AreTermsOf}
 use Rattle.ygg_oblige_reading.specs.Obligations.{terms_in}
 use Rattle.ygg_oblige_reading.specs.Obligation.{Obligation}
 use Rattle.ygg_top_verify.specs.ygg_report.Lines.{demo_line}

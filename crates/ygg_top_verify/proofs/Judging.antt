@@ -28,12 +28,12 @@ use Rattle.std.specs.Prelude.{option_map, is_some, get_or, slice_get}
 use Rattle.ygg_yard.specs.ygg_meaning.Obligations as meaning
 use Rattle.ygg_syntax.specs.declared.tree.File.{File}
 use Rattle.ygg_yard.specs.ygg_meaning.Claims.{Claim, ClaimHolds, ClaimViolated}
-use Rattle.ygg_oblige_decided.specs.ygg_bank.Nodes.{IsBank}
-use Rattle.ygg_oblige_decided.specs.ygg_bank.Values.{inputs_of}
-use Rattle.ygg_oblige_decided.specs.ygg_bank.declared.node.Id.{Id}
-use Rattle.ygg_oblige_decided.specs.ygg_bank.declared.node.Node.{Node}
-use Rattle.ygg_oblige_decided.specs.ygg_oblige_laws.Meaning.{IsTermOf, AreTermsOf, claim_name}
-use Rattle.ygg_oblige_decided.proofs.Deciding.{never_zero_holds, each_is_decided}
+use Rattle.ygg_certify.specs.ygg_bank.Nodes.{IsBank}
+use Rattle.ygg_certify.specs.ygg_bank.Values.{inputs_of}
+use Rattle.ygg_certify.specs.ygg_bank.declared.node.Id.{Id}
+use Rattle.ygg_certify.specs.ygg_bank.declared.node.Node.{Node}
+use Rattle.ygg_certify.specs.ygg_oblige_laws.Meaning.{IsTermOf, AreTermsOf, claim_name}
+use Rattle.ygg_certify.proofs.Deciding.{never_zero_holds, each_is_decided}
 use Rattle.ygg_top_verify.specs.ygg_report.Lines.{verdict_line}
 use Rattle.ygg_top_verify.specs.ygg_report.Tallies.{finds_failed, finds_spent}
 use Rattle.ygg_top_verify.specs.ygg_report.declared.verdict.Verdict as report

@@ -45,13 +45,13 @@ use Rattle.ygg_syntax.specs.declared.tree.File.{File}
 use Rattle.ygg_oblige_reading.specs.ygg_rules.declared.rule.RuleKind.{RuleKind}
 use Rattle.ygg_yard.specs.ygg_meaning.Claims.{Claim, ClaimViolated, claims_of}
 use Rattle.std.proofs.lemmas.List.Elements.{All-nil, All-cons}
-use Rattle.ygg_oblige_decided.specs.ygg_bank.Nodes.{IsBank, HasWidth}
-use Rattle.ygg_oblige_decided.specs.ygg_bank.Values.{InputsFit, inputs_of}
-use Rattle.ygg_oblige_decided.specs.ygg_bank.declared.env.Given.{Given}
-use Rattle.ygg_oblige_decided.specs.ygg_bank.declared.node.Id.{Id}
-use Rattle.ygg_oblige_decided.specs.ygg_bank.declared.node.Node.{Node}
-use Rattle.ygg_oblige_decided.specs.ygg_oblige_laws.Terms.{file_made}
-use Rattle.ygg_oblige_decided.specs.ygg_oblige_laws.Meaning.{AreTermsOf, claim_name}
+use Rattle.ygg_certify.specs.ygg_bank.Nodes.{IsBank, HasWidth}
+use Rattle.ygg_certify.specs.ygg_bank.Values.{InputsFit, inputs_of}
+use Rattle.ygg_certify.specs.ygg_bank.declared.env.Given.{Given}
+use Rattle.ygg_certify.specs.ygg_bank.declared.node.Id.{Id}
+use Rattle.ygg_certify.specs.ygg_bank.declared.node.Node.{Node}
+use Rattle.ygg_certify.specs.ygg_oblige_laws.Terms.{file_made}
+use Rattle.ygg_certify.specs.ygg_oblige_laws.Meaning.{AreTermsOf, claim_name}
 use Rattle.ygg_oblige_reading.specs.Obligations.{ArePlaced, terms_in, names_in}
 use Rattle.ygg_oblige_reading.specs.Obligation.{Obligation}
 use Rattle.ygg_top_verify.specs.ygg_report.Lines.{verdict_line, verified_line, undecided_line, shows_line}
@@ -61,7 +61,7 @@ use Rattle.ygg_top_verify.specs.ygg_report.declared.verdict.Verdict.TheVariants 
 use Rattle.ygg_oblige_reading.specs.ygg_sched.Printing.{text_of}
 use Rattle.ygg_yard.specs.ygg_meaning.Stack.{layers_of}
 use Rattle.ygg_yard.specs.ygg_meaning.Obligations as meaning
-use Rattle.ygg_oblige_decided.specs.ygg_sym_laws.Means.{terms_of}
+use Rattle.ygg_certify.specs.ygg_sym_laws.Means.{terms_of}
 use Rattle.ygg_oblige_reading.specs.Meant.{IsMadeIn}
 use Rattle.ygg_sched_names.specs.ObligeSchedulesLaws.{AllExact}
 use Rattle.ygg_sched_names.specs.Schedules.{all_schedules}

@@ -10,10 +10,10 @@ use Rattle.ygg_oblige_reading.specs.ygg_rules.declared.rule.RuleKind.{RuleKind}
 use Rattle.ygg_yard.specs.ygg_meaning.Stack.{FileRefines}
 use Rattle.ygg_yard.specs.ygg_meaning.Claims.{Claim, ClaimHolds, claims_of}
 use Rattle.ygg_yard.specs.ygg_meaning.HistoryLaws.{RefinesByList}
-use Rattle.ygg_yard.specs.ygg_type_sound.ProgressLaws.{TypedHistories}
-use Rattle.ygg_oblige_decided.specs.ygg_bank.declared.node.Id.{Id}
-use Rattle.ygg_oblige_decided.specs.ygg_bank.declared.node.Node.{Node}
-use Rattle.ygg_oblige_decided.specs.ygg_oblige_laws.Terms.{file_made}
+use Rattle.ygg_yard.specs.ygg_meaning_laws.ProgressLaws.{TypedHistories}
+use Rattle.ygg_certify.specs.ygg_bank.declared.node.Id.{Id}
+use Rattle.ygg_certify.specs.ygg_bank.declared.node.Node.{Node}
+use Rattle.ygg_certify.specs.ygg_oblige_laws.Terms.{file_made}
 use Rattle.ygg_sched_names.specs.ObligeSchedulesLaws.{FileSchedules}
 use Rattle.ygg_top_verify.specs.Verdict.{
   Verdict,

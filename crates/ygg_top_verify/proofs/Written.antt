@@ -19,16 +19,16 @@ use Rattle.ygg_yard.specs.ygg_meaning.Violates.{shapes_fit}
 use Rattle.ygg_yard.specs.ygg_meaning.Claims.{Claim, ClaimViolated, claims_at, claims_on, claims_of}
 use Rattle.ygg_yard.specs.ygg_meaning.Stack.{Layers, below_of, layers_of}
 use Rattle.ygg_oblige_reading.specs.ygg_rules.declared.rule.RuleKind.{RuleKind}
-use Rattle.ygg_oblige_decided.specs.ygg_bank.Nodes.{IsBank}
-use Rattle.ygg_oblige_decided.specs.ygg_bank.Values.{Inputs, InputsFit, value_of}
-use Rattle.ygg_oblige_decided.specs.ygg_bank.declared.node.Id.{Id}
-use Rattle.ygg_oblige_decided.specs.ygg_bank.declared.node.Node.{Node}
-use Rattle.ygg_oblige_decided.specs.ygg_sym_expr.Exprs.{SymFunctions}
-use Rattle.ygg_oblige_decided.specs.ygg_sym_laws.Means.{terms_of}
-use Rattle.ygg_oblige_decided.specs.ygg_oblige_laws.Meaning.{Refuting, AreTermsOf, claim_name}
-use Rattle.ygg_oblige_decided.specs.ygg_oblige_laws.Numbers.{numbers_of}
-use Rattle.ygg_oblige_decided.specs.ygg_oblige_laws.TermStates.{state_words}
-use Rattle.ygg_oblige_decided.specs.ygg_oblige_laws.Terms.{after_layers, file_made}
+use Rattle.ygg_certify.specs.ygg_bank.Nodes.{IsBank}
+use Rattle.ygg_certify.specs.ygg_bank.Values.{Inputs, InputsFit, value_of}
+use Rattle.ygg_certify.specs.ygg_bank.declared.node.Id.{Id}
+use Rattle.ygg_certify.specs.ygg_bank.declared.node.Node.{Node}
+use Rattle.ygg_certify.specs.ygg_sym_expr.Exprs.{SymFunctions}
+use Rattle.ygg_certify.specs.ygg_sym_laws.Means.{terms_of}
+use Rattle.ygg_certify.specs.ygg_oblige_laws.Meaning.{Refuting, AreTermsOf, claim_name}
+use Rattle.ygg_certify.specs.ygg_oblige_laws.Numbers.{numbers_of}
+use Rattle.ygg_certify.specs.ygg_oblige_laws.TermStates.{state_words}
+use Rattle.ygg_certify.specs.ygg_oblige_laws.Terms.{after_layers, file_made}
 use Rattle.ygg_sched_names.specs.ObligeSchedulesLaws.{AllExact, FileSchedules}
 use Rattle.ygg_sched_names.specs.Schedules.{values_of, schedule_of, schedules_of, layer_schedules, all_schedules}
 use Rattle.ygg_oblige_reading.specs.ygg_sched.Fitting.{halt_meant}

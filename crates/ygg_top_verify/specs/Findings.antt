@@ -31,22 +31,22 @@ use Rattle.ygg_base.specs.declared.status.Status.{Status}
 use Rattle.ygg_base.specs.declared.status.Status.TheVariants as status
 use Rattle.ygg_syntax.specs.declared.tree.File.{File}
 use Rattle.ygg_oblige_reading.specs.ygg_rules.declared.rule.RuleKind.{RuleKind}
-use Rattle.ygg_oblige_decided.specs.ygg_bank.declared.env.Given.{Given}
-use Rattle.ygg_oblige_decided.specs.ygg_bank.Values.{inputs_of}
-use Rattle.ygg_oblige_decided.specs.ygg_bank.declared.node.Id.{Id}
-use Rattle.ygg_oblige_decided.specs.ygg_bank.declared.node.Node.{Node}
-use Rattle.ygg_oblige_decided.specs.ygg_gates.Laws.{IsZeroIn}
-use Rattle.ygg_oblige_decided.specs.ygg_decide.Deciding.{IsNeverZero}
+use Rattle.ygg_certify.specs.ygg_bank.declared.env.Given.{Given}
+use Rattle.ygg_certify.specs.ygg_bank.Values.{inputs_of}
+use Rattle.ygg_certify.specs.ygg_bank.declared.node.Id.{Id}
+use Rattle.ygg_certify.specs.ygg_bank.declared.node.Node.{Node}
+use Rattle.ygg_certify.specs.ygg_gates.Laws.{IsZeroIn}
+use Rattle.ygg_certify.specs.ygg_decide.Deciding.{IsNeverZero}
 use Rattle.ygg_top_verify.specs.ygg_report.Lines.{verdict_line, undecided_line, verified_line}
 use Rattle.ygg_top_verify.specs.ygg_report.Tallies.{finds_spent}
 use Rattle.ygg_top_verify.specs.ygg_report.declared.verdict.Tally as counts
 use Rattle.ygg_top_verify.specs.ygg_report.declared.verdict.Verdict.{Verdict}
 use Rattle.ygg_top_verify.specs.ygg_report.declared.verdict.Verdict.TheVariants.{Holds, Fails, Spent}
-use Rattle.ygg_oblige_decided.specs.ygg_bank.Nodes.{HasWidth, IsBank}
+use Rattle.ygg_certify.specs.ygg_bank.Nodes.{HasWidth, IsBank}
 use Rattle.ygg_oblige_reading.specs.ygg_sched.declared.schedule.Schedule.{Schedule}
 use Rattle.ygg_oblige_reading.specs.Obligations.{ArePlaced}
 pub use Rattle.ygg_oblige_reading.specs.Obligations.{terms_in, names_in}
-use Rattle.ygg_oblige_decided.specs.ygg_oblige_laws.Terms.{file_made}
+use Rattle.ygg_certify.specs.ygg_oblige_laws.Terms.{file_made}
 pub use Rattle.ygg_oblige_reading.specs.Meant.{FitsTerms, Init}
 use Rattle.ygg_oblige_reading.specs.Meant.{IsNamed}
 pub use Rattle.ygg_oblige_reading.specs.Obligation.{Obligation}

@@ -1,8 +1,8 @@
 pub use Rattle.ygg_top_command.specs.ygg_report
 pub use Rattle.ygg_top_command.specs as ygg_top_command
-pub mod Replaying
 pub use Rattle.ygg_yard.specs.ygg_meaning
 pub use Rattle.ygg_oblige_reading.specs.ygg_rules
+pub mod Replaying
 pub mod Showing
 pub mod Verdict
 pub mod Verifying

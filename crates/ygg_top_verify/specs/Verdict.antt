@@ -9,13 +9,13 @@ use Rattle.ygg_yard.specs.ygg_meaning.Machine.{State}
 use Rattle.ygg_yard.specs.ygg_meaning.Stack.{BottomOf, FileRefines}
 use Rattle.ygg_yard.specs.ygg_meaning.History.{Entry, History, Allows}
 use Rattle.ygg_yard.specs.ygg_meaning.Claims.{Claim, ClaimHolds, ClaimViolated, claims_of}
-use Rattle.ygg_oblige_decided.specs.ygg_bank.declared.node.Id.{Id}
-use Rattle.ygg_oblige_decided.specs.ygg_bank.declared.node.Node.{Node}
-use Rattle.ygg_oblige_decided.specs.ygg_cnf.Logs.{SpentLog}
-use Rattle.ygg_oblige_decided.specs.ygg_cnf.declared.log.Step.{Step}
-use Rattle.ygg_oblige_decided.specs.ygg_gates.Groups.{translated}
-use Rattle.ygg_oblige_decided.specs.ygg_oblige_laws.Terms.{file_made}
-use Rattle.ygg_oblige_decided.specs.ygg_oblige_laws.Meaning.{claim_name}
+use Rattle.ygg_certify.specs.ygg_bank.declared.node.Id.{Id}
+use Rattle.ygg_certify.specs.ygg_bank.declared.node.Node.{Node}
+use Rattle.ygg_certify.specs.ygg_cnf.Logs.{SpentLog}
+use Rattle.ygg_certify.specs.ygg_cnf.declared.log.Step.{Step}
+use Rattle.ygg_certify.specs.ygg_gates.Groups.{translated}
+use Rattle.ygg_certify.specs.ygg_oblige_laws.Terms.{file_made}
+use Rattle.ygg_certify.specs.ygg_oblige_laws.Meaning.{claim_name}
 use Rattle.ygg_top_verify.specs.ygg_report.Lines.{verdict_line, verified_line, refuted_line, undecided_line, demo_line}
 use Rattle.ygg_top_verify.specs.ygg_report.Tallies.{tally_of}
 use Rattle.ygg_top_verify.specs.ygg_report.declared.verdict.Tally.{Tally}

@@ -2,14 +2,14 @@
 
 ghost use Rattle.std.specs.Prelude.{◌≡◌, ◌<◌, ◌≤◌, IfOk, IfErr};
 ghost use Rattle.ygg_base.specs.Outside.{Rose};
-ghost use Rattle.ygg_oblige_decided.specs.ygg_bank.Nodes.{HasWidth};
+ghost use Rattle.ygg_certify.specs.ygg_bank.Nodes.{HasWidth};
 ghost use Rattle.ygg_top_verify.specs.ygg_report.Lines.{verdict_line};
 ghost use Rattle.ygg_top_verify.specs.ygg_report.Putting.{Adds};
 ghost use Rattle.ygg_top_verify.specs.Findings.{IsFound, IsKept, IsUnreported};
 
 use std::alloc::Global;
 use ygg_base::{NoMemory, Sink, Status, Text};
-use ygg_oblige_decided::{Bank, Decided, Env, Id, decide};
+use ygg_certify::{Bank, Decided, Env, Id, decide};
 use ygg_oblige_reading::{Book, Obligation};
 use ygg_top_command::{Verdict, line, put};
 

@@ -2,7 +2,7 @@
 
 ghost use Rattle.std.specs.Prelude.{◌≡◌, ◌<◌, ◌≤◌, ◌||◌, length, IfOk, IfErr, IfSome};
 ghost use Rattle.ygg_base.specs.Outside.{Rose};
-ghost use Rattle.ygg_oblige_decided.specs.ygg_bank.Values.{inputs_of};
+ghost use Rattle.ygg_certify.specs.ygg_bank.Values.{inputs_of};
 ghost use Rattle.ygg_yard.specs.ygg_meaning.Claims.{claims_of};
 ghost use Rattle.ygg_oblige_reading.specs.Obligations.{names_in};
 ghost use Rattle.ygg_oblige_reading.specs.Meant.{FitsTerms};
@@ -25,7 +25,7 @@ ghost use Rattle.ygg_top_verify.specs.Findings.{
 use crate::finding::{Decision, report};
 use std::alloc::Global;
 use ygg_base::{NoMemory, Sink, Status, Text};
-use ygg_oblige_decided::{Bank, Env};
+use ygg_certify::{Bank, Env};
 use ygg_oblige_reading::{Book, Obligation, obligations, schedule, schedule_at};
 use ygg_sched::{Schedule, print_schedule};
 use ygg_sched_names::{file_schedules, one_ending, printed_shows};

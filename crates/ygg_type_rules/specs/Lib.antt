@@ -1,6 +1,6 @@
-pub mod Names
 pub use Rattle.ygg_syntax_count.specs as ygg_syntax_count
 pub use Rattle.ygg_syntax_count.specs.Weights
+pub mod Names
 pub mod TypeErrors
 pub mod Limits
 pub mod Shapes

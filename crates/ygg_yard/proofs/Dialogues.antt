@@ -1,10 +1,10 @@
 -- What a machine does with a block that makes no call, or one.
 use Rattle.std.proofs.Common.{◌≡◌, true, false, List, [], ◌∷◌, ◌⊎◌, inl, inr, refl, sym, ◌∙◌, subst}
 use Rattle.ygg_value.specs.declared.row.Value.{Value}
-use Rattle.ygg_type_sound.specs.ygg_meaning.Environments.{Name, Env}
-use Rattle.ygg_type_sound.specs.ygg_meaning.Progress.{Call, Answer, Asks, Ends}
-use Rattle.ygg_type_sound.specs.ygg_meaning.Machine.{State, Machine}
-use Rattle.ygg_type_sound.specs.ygg_meaning.Runs.{Dialogue, WholeCall, Reaches, WholeRun, FallenRun, FallsAt, answers_of}
+use Rattle.ygg_meaning_laws.specs.ygg_meaning.Environments.{Name, Env}
+use Rattle.ygg_meaning_laws.specs.ygg_meaning.Progress.{Call, Answer, Asks, Ends}
+use Rattle.ygg_meaning_laws.specs.ygg_meaning.Machine.{State, Machine}
+use Rattle.ygg_meaning_laws.specs.ygg_meaning.Runs.{Dialogue, WholeCall, Reaches, WholeRun, FallenRun, FallsAt, answers_of}
 
 module _ {B X : Type 0} (M : Machine B X) (D : Dialogue) where
   -- a block that ends at once makes no call

@@ -4,13 +4,13 @@ use Rattle.ygg_value.specs.Number.{Grid}
 use Rattle.ygg_value.specs.Values.{word_in, row_in, table_write}
 use Rattle.ygg_value.specs.declared.row.Value.{Value}
 use Rattle.ygg_value.specs.declared.row.Value.TheVariants.{Word, Row, Table}
-use Rattle.ygg_type_sound.specs.ygg_disk.Disk as disk
-use Rattle.ygg_type_sound.specs.ygg_meaning.Environments.{Env}
-use Rattle.ygg_type_sound.specs.ygg_meaning.Progress.{Answer}
-use Rattle.ygg_type_sound.specs.ygg_meaning.Machine.{Picks, State, based}
-use Rattle.ygg_type_sound.specs.ygg_meaning.DiskMachine.{disk_call, DiskMachine}
+use Rattle.ygg_meaning_laws.specs.ygg_disk.Disk as disk
+use Rattle.ygg_meaning_laws.specs.ygg_meaning.Environments.{Env}
+use Rattle.ygg_meaning_laws.specs.ygg_meaning.Progress.{Answer}
+use Rattle.ygg_meaning_laws.specs.ygg_meaning.Machine.{Picks, State, based}
+use Rattle.ygg_meaning_laws.specs.ygg_meaning.DiskMachine.{disk_call, DiskMachine}
 use Rattle.ygg_syntax.specs.declared.tree.DiskText.{DiskText}
-use Rattle.ygg_type_sound.proofs.Tests.{bytes_equal}
+use Rattle.ygg_meaning_laws.proofs.Tests.{bytes_equal}
 use Rattle.ygg_yard.specs.Trees.{Places, disk_made}
 
 -- the one table of a synchronous disk, by its name

@@ -13,8 +13,8 @@ use Rattle.ygg_syntax.specs.declared.tree.Expr.TheVariants as expr
 use Rattle.ygg_syntax.specs.Reading.{Reading, starts, same_mark, in_turn}
 use Rattle.ygg_syntax.specs.Files.{operation, whole_file}
 use Rattle.ygg_read_expr.proofs.Phrases.{reads_binary, reads_low, reads_variable}
-use Rattle.ygg_read_layer.proofs.Phrases.{reads_unwritten}
-use Rattle.ygg_read_layer.proofs.Files.{reads_no_crash_block}
+use Rattle.ygg_read.proofs.Phrases.{reads_unwritten}
+use Rattle.ygg_read.proofs.Files.{reads_no_crash_block}
 use Rattle.ygg_yard.specs.Trees.{Places, name_at, unwritten, operation_made, operations_made, file_made}
 use Rattle.ygg_yard.specs.Marks.{head_marks, operation_marks, operations_marks, tail_marks, made_marks}
 use Rattle.ygg_yard.proofs.Standing.{stand, behind, stand_append}

@@ -46,19 +46,19 @@ use Rattle.ygg_value.specs.declared.row.Value.TheVariants.{Word, Row, Table}
 use Rattle.ygg_value.proofs.Equality.{same_value-iff}
 use Rattle.ygg_syntax.specs.declared.tree.Place.{Place}
 use Rattle.ygg_syntax.specs.declared.tree.Operation.{Operation}
-use Rattle.ygg_type_sound.specs.ygg_meaning.Environments.{Env, bind}
-use Rattle.ygg_type_sound.specs.ygg_meaning.Shapes.{values_fit}
-use Rattle.ygg_type_sound.specs.ygg_meaning.Progress.{Answer}
-use Rattle.ygg_type_sound.specs.ygg_meaning.Machine.{Picks, State, based, on, Machine}
-use Rattle.ygg_type_sound.specs.ygg_meaning.Layer.{ClosedLayer, BlockRuns, BlockFalls, Layered, dialogue_of}
-use Rattle.ygg_type_sound.specs.ygg_meaning.Spec.{Outcome, chosen, then_block, call_outcome, fall_outcome, crash_outcome}
-use Rattle.ygg_type_sound.specs.ygg_meaning.Related.{shaped, settled}
-use Rattle.ygg_type_sound.specs.ygg_meaning.Obligations.{Obligation, Init, CallOf, CutOf, Idle, Again, obligations_of}
-use Rattle.ygg_type_sound.specs.ygg_meaning.DiskMachine.{DiskMachine}
-use Rattle.ygg_type_sound.specs.ygg_meaning.Refines.{OnDisk}
-use Rattle.ygg_type_sound.specs.ygg_meaning.Violates.{related_after, answers_alike, same_state, most, passes, Holds, start_at}
-use Rattle.ygg_type_sound.specs.ygg_meaning.Claims.{Claim, ClaimHolds}
-use Rattle.ygg_type_sound.proofs.Tests.{left, right, bytes_equal}
+use Rattle.ygg_meaning_laws.specs.ygg_meaning.Environments.{Env, bind}
+use Rattle.ygg_meaning_laws.specs.ygg_meaning.Shapes.{values_fit}
+use Rattle.ygg_meaning_laws.specs.ygg_meaning.Progress.{Answer}
+use Rattle.ygg_meaning_laws.specs.ygg_meaning.Machine.{Picks, State, based, on, Machine}
+use Rattle.ygg_meaning_laws.specs.ygg_meaning.Layer.{ClosedLayer, BlockRuns, BlockFalls, Layered, dialogue_of}
+use Rattle.ygg_meaning_laws.specs.ygg_meaning.Spec.{Outcome, chosen, then_block, call_outcome, fall_outcome, crash_outcome}
+use Rattle.ygg_meaning_laws.specs.ygg_meaning.Related.{shaped, settled}
+use Rattle.ygg_meaning_laws.specs.ygg_meaning.Obligations.{Obligation, Init, CallOf, CutOf, Idle, Again, obligations_of}
+use Rattle.ygg_meaning_laws.specs.ygg_meaning.DiskMachine.{DiskMachine}
+use Rattle.ygg_meaning_laws.specs.ygg_meaning.Refines.{OnDisk}
+use Rattle.ygg_meaning_laws.specs.ygg_meaning.Violates.{related_after, answers_alike, same_state, most, passes, Holds, start_at}
+use Rattle.ygg_meaning_laws.specs.ygg_meaning.Claims.{Claim, ClaimHolds}
+use Rattle.ygg_meaning_laws.proofs.Tests.{left, right, bytes_equal}
 use Rattle.ygg_yard.specs.Trees.{Places, unwritten, disk_made, operation_made, operations_made, file_made}
 use Rattle.ygg_yard.specs.RefinesLaws.{HoldsAll}
 use Rattle.ygg_yard.proofs.Dialogues.{quiet_fall, one_run, one_fall, Fell, before, in_it, behind}

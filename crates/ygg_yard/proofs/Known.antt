@@ -8,7 +8,7 @@ use Rattle.std.proofs.lemmas.Str.Parse.{IsNumeralModel, numerals_by_fold}
 use Rattle.std.proofs.lemmas.Bool.{and_from, and_parts}
 use Rattle.std.proofs.lemmas.List.Elements.{All-nil, All-append, All-from_recursion}
 use Rattle.ygg_base.specs.Lexing.{is_lower, is_digit, is_name_byte, value_after}
-use Rattle.ygg_print_tree.specs.Laws.{IsName, IsMark}
+use Rattle.ygg_print.specs.TreeLaws.{IsName, IsMark}
 use Rattle.ygg_yard.specs.Trees.{put_name}
 use Rattle.ygg_yard.specs.Marks.{head_marks, operation_marks, operations_marks, tail_marks, made_marks}
 

@@ -36,16 +36,16 @@ use Rattle.ygg_syntax.specs.declared.tree.Expr.TheVariants as expr
 use Rattle.ygg_syntax.specs.declared.tree.Source.TheVariants as source
 use Rattle.ygg_syntax.specs.declared.tree.Block.{Block}
 use Rattle.ygg_syntax.specs.declared.tree.Operation.{Operation}
-use Rattle.ygg_type_sound.specs.ygg_meaning.Environments.{Env, look_up, assign, bind}
-use Rattle.ygg_type_sound.specs.ygg_meaning.Meaning.{functions_of, row_of}
-use Rattle.ygg_type_sound.specs.ygg_meaning.Shapes.{words_fit, fits, values_fit}
-use Rattle.ygg_type_sound.specs.ygg_meaning.Progress.{Eval, Run, Answer, Call, Asks, Ends, ended, in_turn}
-use Rattle.ygg_type_sound.specs.ygg_meaning.Machine.{State, based, on, memory_in, Machine}
-use Rattle.ygg_type_sound.specs.ygg_meaning.Runs.{Dialogue, WholeRun, FallenRun}
-use Rattle.ygg_type_sound.specs.ygg_meaning.Layer.{ClosedLayer, eval_of, dialogue_of, BlockRuns, BlockFalls}
-use Rattle.ygg_type_sound.specs.ygg_meaning.Spec.{Outcome, outcome_at, call_outcome, crash_outcome}
-use Rattle.ygg_type_sound.proofs.Tests.{bytes_equal}
-use Rattle.ygg_type_sound.proofs.ProgressFits.{word_bits}
+use Rattle.ygg_meaning_laws.specs.ygg_meaning.Environments.{Env, look_up, assign, bind}
+use Rattle.ygg_meaning_laws.specs.ygg_meaning.Meaning.{functions_of, row_of}
+use Rattle.ygg_meaning_laws.specs.ygg_meaning.Shapes.{words_fit, fits, values_fit}
+use Rattle.ygg_meaning_laws.specs.ygg_meaning.Progress.{Eval, Run, Answer, Call, Asks, Ends, ended, in_turn}
+use Rattle.ygg_meaning_laws.specs.ygg_meaning.Machine.{State, based, on, memory_in, Machine}
+use Rattle.ygg_meaning_laws.specs.ygg_meaning.Runs.{Dialogue, WholeRun, FallenRun}
+use Rattle.ygg_meaning_laws.specs.ygg_meaning.Layer.{ClosedLayer, eval_of, dialogue_of, BlockRuns, BlockFalls}
+use Rattle.ygg_meaning_laws.specs.ygg_meaning.Spec.{Outcome, outcome_at, call_outcome, crash_outcome}
+use Rattle.ygg_meaning_laws.proofs.Tests.{bytes_equal}
+use Rattle.ygg_meaning_laws.proofs.ProgressFits.{word_bits}
 use Rattle.ygg_yard.specs.Trees.{Places, name_at, number_at, unwritten, row_number, row_given, index_made, operation_made}
 use Rattle.ygg_yard.proofs.Dialogues.{quiet_run}
 use Rattle.ygg_yard.proofs.Relations.{vars_of, L}

@@ -3,8 +3,8 @@ use Rattle.std.proofs.Common.{◌≡◌, ℕ, ◌<◌, ◌^◌, Ok, Err, refl, s
 use Rattle.ygg_base.specs.Lexing.{Lexed, tokens_of}
 use Rattle.ygg_syntax.specs.Files.{whole_file}
 use Rattle.ygg_yard.specs.Texts.{made}
-use Rattle.ygg_print_tree.specs.Layout.{layout}
-use Rattle.ygg_print_tree.specs.Laws.{HasMarks, LaidOut}
+use Rattle.ygg_print.specs.Layout.{layout}
+use Rattle.ygg_print.specs.TreeLaws.{HasMarks, LaidOut}
 use Rattle.ygg_yard.specs.Trees.{file_made}
 use Rattle.ygg_yard.specs.Marks.{made_marks}
 use Rattle.ygg_yard.specs.ReadLaws.{IsReadAt}

@@ -14,14 +14,14 @@ use Rattle.ygg_value.proofs.Equality.{same_value-iff}
 use Rattle.ygg_syntax.specs.declared.tree.Declared.{Declared}
 use Rattle.ygg_syntax.specs.declared.tree.Expr.TheVariants as expr
 use Rattle.ygg_syntax.specs.declared.tree.Layer.{Layer}
-use Rattle.ygg_type_sound.specs.ygg_meaning.Environments.{Env, look_up}
-use Rattle.ygg_type_sound.specs.ygg_meaning.Meaning.{Scope, functions_of, value_with, is_one}
-use Rattle.ygg_type_sound.specs.ygg_meaning.Shapes.{shape_in, words_fit, fits, env_fits}
-use Rattle.ygg_type_sound.specs.ygg_meaning.Layer.{ClosedLayer}
-use Rattle.ygg_type_sound.specs.ygg_meaning.Related.{holds, shaped, all_true, relates, related, settled}
-use Rattle.ygg_type_sound.specs.ygg_meaning.Stack.{table_named, tables_of}
-use Rattle.ygg_type_sound.proofs.Tests.{left, right, bytes_same, bytes_equal}
-use Rattle.ygg_type_sound.proofs.ProgressFits.{zeros_fit, table_parts, table_whole, row_written}
+use Rattle.ygg_meaning_laws.specs.ygg_meaning.Environments.{Env, look_up}
+use Rattle.ygg_meaning_laws.specs.ygg_meaning.Meaning.{Scope, functions_of, value_with, is_one}
+use Rattle.ygg_meaning_laws.specs.ygg_meaning.Shapes.{shape_in, words_fit, fits, env_fits}
+use Rattle.ygg_meaning_laws.specs.ygg_meaning.Layer.{ClosedLayer}
+use Rattle.ygg_meaning_laws.specs.ygg_meaning.Related.{holds, shaped, all_true, relates, related, settled}
+use Rattle.ygg_meaning_laws.specs.ygg_meaning.Stack.{table_named, tables_of}
+use Rattle.ygg_meaning_laws.proofs.Tests.{left, right, bytes_same, bytes_equal}
+use Rattle.ygg_meaning_laws.proofs.ProgressFits.{zeros_fit, table_parts, table_whole, row_written}
 use Rattle.ygg_yard.specs.Trees.{Places, name_at, disk_made, table_made, relation_made, layer_made}
 use Rattle.ygg_yard.proofs.Disk.{view_of}
 use Rattle.ygg_yard.proofs.Values.{worth_binary, worth_low, worth_variable}

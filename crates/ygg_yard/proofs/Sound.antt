@@ -12,7 +12,7 @@ use Rattle.ygg_yard.specs.ygg_type_rules.declared.type_error.TypeError.{TypeErro
 use Rattle.ygg_yard.specs.ygg_type_rules.Files.{IsTyped, type_errors_of}
 use Rattle.ygg_accept.specs.Accepting.{RefusesTokens, RefusesLayers}
 use Rattle.ygg_yard.specs.Texts.{made}
-use Rattle.ygg_yard.proofs.of_ygg_print_tree.Relexed.{relexed}
+use Rattle.ygg_yard.proofs.of_ygg_print.Relexed.{relexed}
 use Rattle.ygg_yard.specs.Trees.{file_made}
 use Rattle.ygg_yard.specs.ReadLaws.{IsReadAt}
 use Rattle.ygg_yard.proofs.Read.{is_read}

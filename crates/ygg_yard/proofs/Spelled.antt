@@ -28,7 +28,7 @@ use Rattle.std.proofs.lemmas.Fmt.{decimal_digit}
 use Rattle.ygg_base.specs.declared.token.Symbol.TheVariants as sign
 use Rattle.ygg_base.specs.declared.token.Mark.{Mark}
 use Rattle.ygg_base.specs.declared.token.Mark.TheVariants as mark
-use Rattle.ygg_print_tree.specs.Layout.{is_next, continues, line_end, previous_after, layout_from, layout}
+use Rattle.ygg_print.specs.Layout.{is_next, continues, line_end, previous_after, layout_from, layout}
 use Rattle.ygg_yard.specs.Texts.{begun_with, operation_with, operations_text, file_ended, made}
 use Rattle.ygg_yard.specs.Marks.{head_marks, operation_marks, operations_marks, tail_marks, made_marks}
 

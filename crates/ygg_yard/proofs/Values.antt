@@ -17,9 +17,9 @@ use Rattle.ygg_syntax.specs.declared.tree.Source.{Source}
 use Rattle.ygg_syntax.specs.declared.tree.Stmt.TheVariants as stmt
 use Rattle.ygg_syntax.specs.declared.tree.Stmt.TheOpen.{Stmt-F}
 use Rattle.ygg_syntax.specs.declared.tree.Stmt.TheFolds.{fold-roll-Stmt}
-use Rattle.ygg_type_sound.specs.ygg_meaning.Environments.{look_up}
-use Rattle.ygg_type_sound.specs.ygg_meaning.Meaning.{Functions, Scope, node_value, value_with, row_of}
-use Rattle.ygg_type_sound.specs.ygg_meaning.Progress.{Eval, Run, stmt_run, block_run, run_of}
+use Rattle.ygg_meaning_laws.specs.ygg_meaning.Environments.{look_up}
+use Rattle.ygg_meaning_laws.specs.ygg_meaning.Meaning.{Functions, Scope, node_value, value_with, row_of}
+use Rattle.ygg_meaning_laws.specs.ygg_meaning.Progress.{Eval, Run, stmt_run, block_run, run_of}
 
 abbrev Means : Type 0
 Means = Scope → Value

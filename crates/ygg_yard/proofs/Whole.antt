@@ -1,5 +1,5 @@
 -- The law of the texts that are made.
-use Rattle.ygg_accept.proofs.of_ygg_print.Files.{only_file}
+use Rattle.ygg_accept.proofs.of_ygg_print.FileMarks.{only_file}
 use Rattle.ygg_yard.specs.Laws.{MadeIsSound}
 use Rattle.ygg_yard.proofs.Sound.{is_sound}
 

@@ -1,7 +1,7 @@
 -- The law of the obligations of files that are made.
 use Rattle.std.specs.Prelude.{◌≡◌, ℕ, ◌+◌, ◌*◌, All, length}
 use Rattle.ygg_syntax.specs.declared.tree.File.{File}
-use Rattle.ygg_type_sound.specs.ygg_meaning.Claims.{ClaimHolds, claims_of}
+use Rattle.ygg_meaning_laws.specs.ygg_meaning.Claims.{ClaimHolds, claims_of}
 use Rattle.ygg_yard.specs.Trees.{Places, file_made}
 
 -- a file with so many operations has this many obligations, and each of them holds

@@ -12,5 +12,5 @@ pub mod typed_law;
 
 pub use examples::example;
 pub use generator::make;
-pub use ygg_type_sound::progress_law::typed_histories;
-pub use ygg_type_sound::refines_by_list;
+pub use ygg_meaning_laws::progress_law::typed_histories;
+pub use ygg_meaning_laws::refines_by_list;

@@ -1,6 +1,6 @@
 use Rattle.std.proofs.Common.{◌≡◌, List, [], map, OnOk, IfOk, subst, sym}
 use Rattle.ygg_syntax.specs.declared.tree.File.{File}
-use Rattle.ygg_oblige_laws.proofs.of_ygg_type_sound.Derived.{derivable_derived}
+use Rattle.ygg_oblige_laws.proofs.of_ygg_meaning_laws.Derived.{derivable_derived}
 use Rattle.ygg_oblige_laws.specs.ygg_bank.declared.node.Id.{Id}
 use Rattle.ygg_oblige_laws.specs.ygg_bank.declared.node.Node.{Node}
 use Rattle.ygg_oblige_laws.specs.ygg_meaning.Claims.{claims_of}

@@ -1,6 +1,6 @@
 use Rattle.std.proofs.Common.{◌≡◌, ◌++◌, drop}
 use Rattle.std.specs.List.{flat_map}
-use Rattle.ygg_log_text.specs.Lines.{step_line}
+use Rattle.ygg_cnf.specs.Lines.{step_line}
 use Rattle.ygg_cert.proofs.printing.put_steps.Given as goal
 
 -- what is there, and what is still to come

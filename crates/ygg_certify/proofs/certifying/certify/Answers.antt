@@ -1,8 +1,8 @@
 use Rattle.std.proofs.Common.{List, sym, subst}
 use Rattle.std.specs.Prelude.{All}
-use Rattle.ygg_oblige_decided.specs.ygg_bank.Nodes.{HasWidth}
-use Rattle.ygg_oblige_decided.specs.ygg_meaning.Claims.{claims_of}
-use Rattle.ygg_oblige_decided.proofs.of_ygg_type_sound.Derived.{derivable_derived}
+use Rattle.ygg_certify.specs.ygg_bank.Nodes.{HasWidth}
+use Rattle.ygg_certify.specs.ygg_meaning.Claims.{claims_of}
+use Rattle.ygg_certify.proofs.of_ygg_meaning_laws.Derived.{derivable_derived}
 use Rattle.ygg_oblige.specs.declared.obligation.Obligation.{Obligation}
 use Rattle.ygg_certify.proofs.Refining.{Laws, bank_in, terms_of}
 use Rattle.ygg_certify.proofs.Certified.{digits_of, found_in, certified}

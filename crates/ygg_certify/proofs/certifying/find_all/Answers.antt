@@ -1,6 +1,6 @@
 use Rattle.std.proofs.Common.{◌+◌, List, take, sym, subst, ◌∙◌}
 use Rattle.std.proofs.lemmas.List.{take_all}
-use Rattle.ygg_oblige_decided.specs.ygg_bank.declared.node.Node.{Node}
+use Rattle.ygg_certify.specs.ygg_bank.declared.node.Node.{Node}
 use Rattle.ygg_oblige.specs.Obligations.{names_in, terms_in}
 use Rattle.ygg_oblige.specs.declared.obligation.Obligation.{Obligation}
 use Rattle.ygg_certify.specs.declared.finding.Finding.{Finding}

@@ -1,10 +1,10 @@
 use Rattle.std.proofs.Common.{◌≡◌, List, length, sym, ap, subst, ◌∙◌}
 use Rattle.std.specs.Prelude.{All}
-use Rattle.ygg_oblige_decided.specs.ygg_bank.Nodes.{HasWidth}
-use Rattle.ygg_oblige_decided.proofs.of_ygg_type_sound.Derived.{derivable_derived}
+use Rattle.ygg_certify.specs.ygg_bank.Nodes.{HasWidth}
+use Rattle.ygg_certify.proofs.of_ygg_meaning_laws.Derived.{derivable_derived}
 use Rattle.ygg_cert.specs.declared.verdict.CertEnd.{CertEnd}
 use Rattle.ygg_cert.specs.Opened.{JudgesOpen}
-use Rattle.ygg_oblige_decided.specs.ygg_meaning.Claims.{claims_of}
+use Rattle.ygg_certify.specs.ygg_meaning.Claims.{claims_of}
 use Rattle.ygg_oblige.specs.declared.obligation.Obligation.{Obligation}
 use Rattle.ygg_certify.specs.FileGoals.{ChecksAll, IfChecked, IsRight, goals_in, goals_of}
 use Rattle.ygg_certify.proofs.Refining.{Laws, bank_in, terms_of, goals_are, judged_open, open_right, open_all, if_ok}

@@ -2,7 +2,7 @@ use Rattle.std.proofs.Common.{ℕ, ◌<◌, ◌^◌, List, length, ap, refl, sub
 use Rattle.std.specs.Prelude.{All}
 use Rattle.ygg_cert.specs.ygg_cnf.declared.lit.Lit.{Lit}
 use Rattle.ygg_cert.specs.ygg_cnf.Logs.{Refutes}
-use Rattle.ygg_cert.specs.ygg_log_text.Steps.{IsLiteral}
+use Rattle.ygg_cert.specs.ygg_cnf.Steps.{IsLiteral}
 use Rattle.ygg_decide.specs.declared.deciding.Decided.{Decided}
 use Rattle.ygg_decide.specs.Deciding.{IsDecided}
 use Rattle.ygg_decide.specs.ygg_gates.Groups.{Translated}

@@ -1,4 +1,4 @@
-use Rattle.ygg_oblige_decided.specs.ygg_bank_proofs_Widths.{stands}
+use Rattle.ygg_certify.specs.ygg_bank_proofs_Widths.{stands}
 use Rattle.ygg_certify.proofs.goals.goal_in.Goals as goal
 
 pub put_clauses-requires : goal.put_clauses-requires

@@ -1,4 +1,4 @@
-use Rattle.ygg_cert.specs.ygg_log_text.Steps.{IsLiteral}
+use Rattle.ygg_cert.specs.ygg_cnf.Steps.{IsLiteral}
 use Rattle.ygg_certify.proofs.Firsts.{all_more, all_whole}
 use Rattle.ygg_certify.proofs.literals.clause_may.Goals as goal
 

@@ -1,7 +1,7 @@
 use Rattle.std.proofs.Common.{◌<◌, List, sym, subst, ◌∙◌}
 use Rattle.std.specs.Prelude.{All}
 use Rattle.ygg_cert.specs.ygg_cnf.declared.lit.Lit.{Lit}
-use Rattle.ygg_cert.specs.ygg_log_text.Steps.{IsLiteral}
+use Rattle.ygg_cert.specs.ygg_cnf.Steps.{IsLiteral}
 use Rattle.ygg_certify.proofs.Firsts.{all_more, all_whole}
 use Rattle.ygg_certify.proofs.Standing.{all_at}
 use Rattle.ygg_certify.proofs.literals.literals_may.Goals as goal

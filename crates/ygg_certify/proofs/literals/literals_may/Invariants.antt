@@ -1,6 +1,6 @@
 use Rattle.std.proofs.Common.{take}
 use Rattle.std.specs.Prelude.{All}
-use Rattle.ygg_cert.specs.ygg_log_text.Steps.{IsLiteral}
+use Rattle.ygg_cert.specs.ygg_cnf.Steps.{IsLiteral}
 use Rattle.ygg_certify.proofs.literals.literals_may.Given as goal
 
 abbrev pub invariant-loop-clause : goal.invariant-loop-clause

@@ -2,8 +2,8 @@ use Rattle.std.proofs.Common.{List, ℕ, [], ◌++◌, Err, ap, subst, ◌∙◌
 use Rattle.std.specs.List.{flat_map}
 use Rattle.ygg_base.specs.Outside.{Rose}
 use Rattle.ygg_cert.specs.Texts.{first_line, last_line}
-use Rattle.ygg_log_text.specs.Pieces.{Finishes}
-use Rattle.ygg_log_text.proofs.Flowing.{text_done, text_short, rose_since}
+use Rattle.ygg_cnf.specs.Pieces.{Finishes}
+use Rattle.ygg_cnf.proofs.Flowing.{text_done, text_short, rose_since}
 use Rattle.ygg_certify.specs.Findings.{lines_of}
 use Rattle.ygg_certify.proofs.Certificate.{lines_same}
 use Rattle.ygg_certify.proofs.putting.pass_certificate.Goals as goal

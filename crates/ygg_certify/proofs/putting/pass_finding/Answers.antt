@@ -3,8 +3,8 @@ use Rattle.ygg_base.specs.Outside.{Rose}
 use Rattle.ygg_base.specs.declared.status.Status.TheVariants.{NoMemory}
 use Rattle.ygg_cert.specs.ygg_cnf.declared.log.Step.{Step}
 use Rattle.ygg_cert.specs.Texts.{opening_line, closing_line}
-use Rattle.ygg_log_text.specs.Pieces.{Passes, Flows, log_lines}
-use Rattle.ygg_log_text.proofs.Flowing.{cut_here, rose_since}
+use Rattle.ygg_cnf.specs.Pieces.{Passes, Flows, log_lines}
+use Rattle.ygg_cnf.proofs.Flowing.{cut_here, rose_since}
 use Rattle.ygg_certify.proofs.Certificate.{lines_passed, lines_short, lines_lost}
 use Rattle.ygg_certify.proofs.putting.pass_finding.Goals as goal
 

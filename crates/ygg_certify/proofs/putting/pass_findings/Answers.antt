@@ -1,7 +1,7 @@
 use Rattle.std.proofs.Common.{arith}
 use Rattle.std.specs.List.{flat_map}
 use Rattle.ygg_base.specs.Outside.{Rose}
-use Rattle.ygg_log_text.proofs.Flowing.{line_short, line_on, rose_since}
+use Rattle.ygg_cnf.proofs.Flowing.{line_short, line_on, rose_since}
 use Rattle.ygg_certify.specs.Findings.{lines_of}
 use Rattle.ygg_certify.proofs.putting.pass_findings.Goals as goal
 

@@ -1,6 +1,6 @@
 use Rattle.std.proofs.Common.{◌++◌, ◌≤◌, drop}
 use Rattle.std.specs.List.{flat_map}
-use Rattle.ygg_log_text.specs.Pieces.{Flows}
+use Rattle.ygg_cnf.specs.Pieces.{Flows}
 use Rattle.ygg_certify.specs.Findings.{lines_of}
 use Rattle.ygg_certify.proofs.putting.pass_findings.Given as goal
 

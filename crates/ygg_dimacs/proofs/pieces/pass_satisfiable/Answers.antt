@@ -1,9 +1,9 @@
 use Rattle.std.specs.Prelude.{codes}
 use Rattle.ygg_base.specs.Outside.{Rose}
 use Rattle.ygg_solver.specs.ygg_cnf.Literals.{truth_of}
-use Rattle.ygg_log_text.specs.Lines.{literal_words}
+use Rattle.ygg_cnf.specs.Lines.{literal_words}
 use Rattle.ygg_dimacs.specs.Solved.{true_literals}
-use Rattle.ygg_log_text.proofs.Flowing.{text_done, text_short, rose_since}
+use Rattle.ygg_cnf.proofs.Flowing.{text_done, text_short, rose_since}
 use Rattle.ygg_dimacs.proofs.pieces.pass_satisfiable.Goals as goal
 
 pub returns-in-Ok-pass_values-clause-told : goal.returns-in-Ok-pass_values-clause-told

@@ -1,7 +1,7 @@
 use Rattle.std.specs.Prelude.{codes}
 use Rattle.ygg_base.specs.Outside.{Rose}
-use Rattle.ygg_log_text.specs.Pieces.{log_lines}
-use Rattle.ygg_log_text.proofs.Flowing.{text_done, text_short, rose_since}
+use Rattle.ygg_cnf.specs.Pieces.{log_lines}
+use Rattle.ygg_cnf.proofs.Flowing.{text_done, text_short, rose_since}
 use Rattle.ygg_dimacs.proofs.pieces.pass_unsatisfiable.Goals as goal
 
 pub returns-in-Ok-pass_log-clause-told : goal.returns-in-Ok-pass_log-clause-told

@@ -1,7 +1,7 @@
 use Rattle.std.proofs.Common.{arith}
 use Rattle.ygg_base.specs.Outside.{Rose}
 use Rattle.ygg_solver.specs.ygg_cnf.Literals.{truth_of}
-use Rattle.ygg_log_text.proofs.Flowing.{rose_since}
+use Rattle.ygg_cnf.proofs.Flowing.{rose_since}
 use Rattle.ygg_dimacs.proofs.Values.{value_short, value_on}
 use Rattle.ygg_dimacs.proofs.pieces.pass_values.Goals as goal
 

@@ -1,7 +1,7 @@
 use Rattle.std.proofs.Common.{◌≤◌}
 use Rattle.ygg_solver.specs.ygg_cnf.Literals.{truth_of}
-use Rattle.ygg_log_text.specs.Lines.{literal_words}
-use Rattle.ygg_log_text.specs.Pieces.{Flows}
+use Rattle.ygg_cnf.specs.Lines.{literal_words}
+use Rattle.ygg_cnf.specs.Pieces.{Flows}
 use Rattle.ygg_dimacs.specs.Solved.{true_literals}
 use Rattle.ygg_dimacs.proofs.pieces.pass_values.Given as goal
 

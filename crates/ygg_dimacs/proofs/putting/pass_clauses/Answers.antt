@@ -1,8 +1,8 @@
 use Rattle.std.proofs.Common.{arith}
 use Rattle.ygg_base.specs.Outside.{Rose}
-use Rattle.ygg_log_text.specs.Lines.{clause_line}
+use Rattle.ygg_cnf.specs.Lines.{clause_line}
 use Rattle.ygg_dimacs.specs.Printing.{clause_lines}
-use Rattle.ygg_log_text.proofs.Flowing.{line_short, line_on, rose_since}
+use Rattle.ygg_cnf.proofs.Flowing.{line_short, line_on, rose_since}
 use Rattle.ygg_dimacs.proofs.putting.pass_clauses.Goals as goal
 
 pub returns-in-Err-clause-told : goal.returns-in-Err-clause-told

@@ -2,7 +2,7 @@ use Rattle.std.proofs.Common.{arith, refl}
 use Rattle.ygg_base.specs.Outside.{Rose}
 use Rattle.ygg_blast.specs.ygg_gates.Clauses.{clauses_from}
 use Rattle.ygg_dimacs.specs.Printing.{clause_lines}
-use Rattle.ygg_log_text.proofs.Flowing.{rose_since}
+use Rattle.ygg_cnf.proofs.Flowing.{rose_since}
 use Rattle.ygg_dimacs.proofs.Texts.{gate_on, gate_short}
 use Rattle.ygg_dimacs.proofs.putting.pass_gates.Goals as goal
 

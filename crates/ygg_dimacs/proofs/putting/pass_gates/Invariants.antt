@@ -1,5 +1,5 @@
 use Rattle.std.proofs.Common.{◌++◌, ◌+◌, ◌≤◌, drop}
-use Rattle.ygg_log_text.specs.Pieces.{Flows}
+use Rattle.ygg_cnf.specs.Pieces.{Flows}
 use Rattle.ygg_dimacs.specs.Printing.{clause_lines}
 use Rattle.ygg_blast.specs.ygg_gates.Clauses.{clauses_from}
 use Rattle.ygg_dimacs.proofs.putting.pass_gates.Given as goal

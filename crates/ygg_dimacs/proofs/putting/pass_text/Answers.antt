@@ -1,5 +1,5 @@
 use Rattle.ygg_base.specs.Outside.{Rose}
-use Rattle.ygg_log_text.proofs.Flowing.{rose_since}
+use Rattle.ygg_cnf.proofs.Flowing.{rose_since}
 use Rattle.ygg_dimacs.proofs.Texts.{text_ends, text_cut}
 use Rattle.ygg_dimacs.proofs.putting.pass_text.Goals as goal
 

@@ -1,5 +1,5 @@
 use Rattle.std.proofs.Common.{inr, refl, []}
-use Rattle.ygg_log_text.proofs.Flowing.{cut_here}
+use Rattle.ygg_cnf.proofs.Flowing.{cut_here}
 use Rattle.ygg_dimacs.specs.Counted.{between, clauses_text}
 use Rattle.ygg_dimacs.proofs.putting.put_circuit.Goals as goal
 

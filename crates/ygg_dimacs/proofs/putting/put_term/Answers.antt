@@ -2,7 +2,7 @@ use Rattle.std.proofs.Common.{inr, refl, []}
 use Rattle.ygg_blast.specs.ygg_bank_proofs_Widths.{stands}
 use Rattle.ygg_blast.specs.ygg_gates.Groups.{translated}
 use Rattle.ygg_dimacs.specs.Counted.{clauses_text}
-use Rattle.ygg_log_text.proofs.Flowing.{cut_here}
+use Rattle.ygg_cnf.proofs.Flowing.{cut_here}
 use Rattle.ygg_dimacs.proofs.putting.put_term.Goals as goal
 
 pub circuit_of-requires : goal.circuit_of-requires

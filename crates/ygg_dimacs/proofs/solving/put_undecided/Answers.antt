@@ -3,7 +3,7 @@ use Rattle.ygg_base.specs.Outside.{Rose}
 use Rattle.ygg_base.specs.declared.status.Status.TheVariants.{Undecided}
 use Rattle.ygg_report.specs.Putting.{IsPutSo}
 use Rattle.ygg_report.specs.Lines.{undecided_line}
-use Rattle.ygg_log_text.proofs.Flowing.{at_once, cut_here}
+use Rattle.ygg_cnf.proofs.Flowing.{at_once, cut_here}
 use Rattle.ygg_dimacs.proofs.solving.put_undecided.Goals as goal
 
 pub returns-in-Ok-clause-told : goal.returns-in-Ok-clause-told

@@ -1,7 +1,7 @@
 use Rattle.std.proofs.Common.{inl, inr, refl, ap}
 use Rattle.ygg_solver.specs.ygg_cnf.Literals.{truth_of}
 use Rattle.ygg_dimacs.specs.Solved.{Solved, unsatisfiable_text}
-use Rattle.ygg_log_text.proofs.Flowing.{puts_done, puts_undecided}
+use Rattle.ygg_cnf.proofs.Flowing.{puts_done, puts_undecided}
 use Rattle.ygg_dimacs.proofs.solving.solve_cnf.Goals as goal
 
 pub returns-in-Sat-clause-told : goal.returns-in-Sat-clause-told

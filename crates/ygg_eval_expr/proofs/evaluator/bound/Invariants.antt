@@ -1,5 +1,5 @@
 use Rattle.std.proofs.Common.{◌≡◌, ◌++◌, drop}
-use Rattle.ygg_type_sound.specs.Environments.{bind}
+use Rattle.ygg_meaning_laws.specs.Environments.{bind}
 use Rattle.ygg_eval_expr.specs.Held.{env_of, held_values}
 use Rattle.ygg_eval_expr.proofs.evaluator.bound.Given as goal
 

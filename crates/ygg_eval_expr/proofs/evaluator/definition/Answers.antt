@@ -1,7 +1,7 @@
 use Rattle.std.proofs.Common.{◌≡◌, true, false, sym, ap, ◌∙◌, arith}
 use Rattle.std.proofs.lemmas.List.{take_all}
 use Rattle.std.specs.Str.{bytes_eq}
-use Rattle.ygg_type_sound.specs.Meaning.{functions_of}
+use Rattle.ygg_meaning_laws.specs.Meaning.{functions_of}
 use Rattle.ygg_eval_expr.proofs.Called.{missing_begun, missing_more, is_definition}
 use Rattle.ygg_eval_expr.proofs.evaluator.definition.Goals as goal
 

@@ -1,5 +1,5 @@
 use Rattle.std.proofs.Common.{◌≡◌, drop}
-use Rattle.ygg_type_sound.specs.ygg_type_rules.Names.{look_up}
+use Rattle.ygg_meaning_laws.specs.ygg_type_rules.Names.{look_up}
 use Rattle.ygg_eval_expr.specs.Held.{env_of}
 use Rattle.ygg_eval_expr.proofs.held.find.Given as goal
 

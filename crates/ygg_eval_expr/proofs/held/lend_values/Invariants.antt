@@ -1,5 +1,5 @@
 use Rattle.std.proofs.Common.{◌≡◌, ◌++◌, drop}
-use Rattle.ygg_type_sound.specs.Environments.{bind}
+use Rattle.ygg_meaning_laws.specs.Environments.{bind}
 use Rattle.ygg_eval_expr.specs.Held.{env_of}
 use Rattle.ygg_eval_expr.proofs.held.lend_values.Given as goal
 

@@ -1,5 +1,5 @@
 use Rattle.std.proofs.Common.{◌≡◌, ◌+◌, drop, map}
-use Rattle.ygg_direct.specs.Direct.{total}
+use Rattle.ygg_meaning_laws.specs.Direct.{total}
 use Rattle.ygg_eval_places.proofs.Rooms.{places}
 use Rattle.ygg_eval_places.proofs.unrolled.+room.Given as goal
 

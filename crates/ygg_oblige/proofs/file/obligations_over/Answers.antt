@@ -2,7 +2,7 @@ use Rattle.std.proofs.Common.{◌≤◌, ◌+◌, ℕ, List, length, drop, sym, 
 use Rattle.std.proofs.Math.ListN.{drop_of_length-le}
 use Rattle.ygg_syntax.specs.declared.tree.Layer.{Layer}
 use Rattle.ygg_oblige_laws.specs.ygg_meaning.Obligations.{obligations_of}
-use Rattle.ygg_oblige.specs.SymBelow.TheVariants as on
+use Rattle.ygg_sym.specs.ygg_sym_spec.declared.below.SymBelow.TheVariants as on
 use Rattle.ygg_oblige.specs.Adding.{AddsAsked}
 use Rattle.ygg_oblige.specs.declared.obligation.Obligation as code
 use Rattle.ygg_oblige_list.proofs.Numbered.{element_here}

@@ -1,6 +1,6 @@
 use Rattle.std.proofs.Common.{refl}
 use Rattle.ygg_oblige.specs.Makers.{starting_of}
-use Rattle.ygg_oblige.specs.Steps.{obligation_of}
+use Rattle.ygg_oblige_list.specs.InCode.{obligation_of}
 use Rattle.ygg_oblige.specs.Numbering.{numbers_in}
 use Rattle.ygg_oblige.proofs.Asking.{asked_one}
 use Rattle.ygg_oblige.proofs.Going.{added_one}

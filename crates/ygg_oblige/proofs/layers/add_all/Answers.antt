@@ -5,7 +5,7 @@ use Rattle.std.proofs.lemmas.List.Elements.{All-head}
 use Rattle.ygg_oblige_laws.specs.ygg_meaning.Obligations.{Obligation}
 use Rattle.ygg_oblige.proofs.Left.{rest_is}
 use Rattle.ygg_oblige.specs.Makers.{starting_of}
-use Rattle.ygg_oblige.specs.Steps.{obligation_of}
+use Rattle.ygg_oblige_list.specs.InCode.{obligation_of}
 use Rattle.ygg_oblige.specs.Adding.{KnownAt}
 use Rattle.ygg_oblige_list.specs.Listing.{IsNumberIn, asked_in}
 use Rattle.ygg_oblige_list.specs.declared.listing.Asked.{Asked}

@@ -1,12 +1,12 @@
 use Rattle.std.proofs.Common.{◌≡◌, List, IfOk, refl, sym, subst}
 use Rattle.ygg_syntax.specs.declared.tree.Declared.{Declared}
-use Rattle.ygg_oblige_list.specs.ygg_oblige_parts.Layers.{closed}
-use Rattle.ygg_oblige_list.specs.ygg_oblige_parts.Sites.{below_in}
-use Rattle.ygg_oblige_list.specs.ygg_oblige_laws.LayerTerms.{ShapesKept}
-use Rattle.ygg_oblige_list.specs.ygg_oblige_laws.Numbers.{Numbers}
-use Rattle.ygg_oblige_list.specs.ygg_oblige_parts.Steps.{obligation_of}
+use Rattle.ygg_oblige_parts.specs.Layers.{closed}
+use Rattle.ygg_oblige_parts.specs.Sites.{below_in}
+use Rattle.ygg_oblige_parts.specs.ygg_oblige_laws.LayerTerms.{ShapesKept}
+use Rattle.ygg_oblige_parts.specs.ygg_oblige_laws.Numbers.{Numbers}
+use Rattle.ygg_oblige_list.specs.InCode.{obligation_of}
 use Rattle.ygg_oblige.specs.Numbering.{numbers_in}
-use Rattle.ygg_oblige.specs.declared.numbers.SymNumbers.{SymNumbers}
+use Rattle.ygg_oblige_list.specs.declared.numbers.SymNumbers.{SymNumbers}
 use Rattle.ygg_oblige.proofs.Numbered.{counted}
 use Rattle.ygg_oblige.proofs.numbers.numbers_of.Goals as goal
 

@@ -1,20 +1,20 @@
 use Rattle.std.proofs.Common.{◌≡◌, List, OnOk, IfOk, refl, sym, subst}
-use Rattle.ygg_oblige_list.specs.ygg_bank_proofs_Widths.{extends_both, wider}
-use Rattle.ygg_oblige_list.specs.ygg_bank.Makes.{Out}
-use Rattle.ygg_oblige_list.specs.ygg_bank.declared.node.Id.{Id}
-use Rattle.ygg_oblige_list.specs.ygg_sym_runs.Lows.{LowShaped}
-use Rattle.ygg_oblige_list.specs.ygg_sym_runs_proofs_Lows.{low_wider}
-use Rattle.ygg_oblige_list.proofs.of_ygg_sym_runs.Singles.{single_less}
-use Rattle.ygg_oblige_list.specs.ygg_oblige_parts.Layers.{closed, terms_in}
-use Rattle.ygg_oblige_list.specs.ygg_oblige_parts.Sites.{below_in}
+use Rattle.ygg_oblige_parts.specs.ygg_bank_proofs_Widths.{extends_both, wider}
+use Rattle.ygg_oblige_parts.specs.ygg_bank.Makes.{Out}
+use Rattle.ygg_oblige_parts.specs.ygg_bank.declared.node.Id.{Id}
+use Rattle.ygg_oblige_parts.specs.ygg_sym_runs.Lows.{LowShaped}
+use Rattle.ygg_oblige_parts.specs.ygg_sym_runs_proofs_Lows.{low_wider}
+use Rattle.ygg_oblige_parts.proofs.of_ygg_sym_runs.Singles.{single_less}
+use Rattle.ygg_oblige_parts.specs.Layers.{closed, terms_in}
+use Rattle.ygg_oblige_parts.specs.Sites.{below_in}
 use Rattle.ygg_oblige.proofs.Sites.{below_fits, block_fits_is}
 use Rattle.ygg_syntax.specs.declared.tree.Declared.{Declared}
-use Rattle.ygg_oblige_list.specs.ygg_sym_expr.Names.{sym_bind}
-use Rattle.ygg_oblige_list.specs.ygg_sym_laws.Below.{cut_made}
-use Rattle.ygg_oblige_list.specs.ygg_oblige_laws.Numbers.{arguments_of, block_of}
-use Rattle.ygg_oblige_list.specs.ygg_oblige_laws.Terms.{recovers}
-use Rattle.ygg_oblige_list.specs.ygg_oblige_parts.ObligePiecesSteps.{variables_of}
-use Rattle.ygg_oblige_list.specs.ygg_oblige_parts.Steps.{obligation_of}
+use Rattle.ygg_oblige_parts.specs.ygg_sym_expr.Names.{sym_bind}
+use Rattle.ygg_oblige_laws.specs.ygg_sym_runs.Below.{cut_made}
+use Rattle.ygg_oblige_parts.specs.ygg_oblige_laws.Numbers.{arguments_of, block_of}
+use Rattle.ygg_oblige_parts.specs.ygg_oblige_laws.Terms.{recovers}
+use Rattle.ygg_oblige_parts.specs.ObligePiecesSteps.{variables_of}
+use Rattle.ygg_oblige_list.specs.InCode.{obligation_of}
 use Rattle.ygg_oblige.specs.Numbering.{numbers_in}
 use Rattle.ygg_oblige.proofs.Chains.{falls_from}
 use Rattle.ygg_oblige.proofs.terms.falls_through.Goals as goal

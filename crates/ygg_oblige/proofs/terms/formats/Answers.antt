@@ -1,20 +1,20 @@
 use Rattle.std.proofs.Common.{◌≡◌, List, [], OnOk, IfOk, sym, subst}
-use Rattle.ygg_oblige_list.specs.ygg_bank.Makes.{Out}
-use Rattle.ygg_oblige_list.specs.ygg_bank.declared.node.Id.{Id}
+use Rattle.ygg_oblige_parts.specs.ygg_bank.Makes.{Out}
+use Rattle.ygg_oblige_parts.specs.ygg_bank.declared.node.Id.{Id}
 use Rattle.ygg_syntax.specs.declared.tree.Declared.{Declared}
-use Rattle.ygg_oblige_list.specs.ygg_oblige_parts.Kept.{AreKept}
-use Rattle.ygg_oblige_list.specs.ygg_sym_runs.Lows.{LowShaped}
-use Rattle.ygg_oblige_list.specs.ygg_sym_runs_proofs_Lows.{low_wider}
-use Rattle.ygg_oblige_list.specs.ygg_oblige_parts.Layers.{closed, terms_in}
-use Rattle.ygg_oblige_list.specs.ygg_oblige_parts.Sites.{below_in}
+use Rattle.ygg_oblige_parts.specs.Kept.{AreKept}
+use Rattle.ygg_oblige_parts.specs.ygg_sym_runs.Lows.{LowShaped}
+use Rattle.ygg_oblige_parts.specs.ygg_sym_runs_proofs_Lows.{low_wider}
+use Rattle.ygg_oblige_parts.specs.Layers.{closed, terms_in}
+use Rattle.ygg_oblige_parts.specs.Sites.{below_in}
 use Rattle.ygg_oblige.proofs.Sites.{below_fits}
-use Rattle.ygg_oblige_list.specs.ygg_meaning.Obligations.{Init}
-use Rattle.ygg_oblige_list.specs.ygg_sym_expr.Names.{sym_bind}
-use Rattle.ygg_oblige_list.specs.ygg_sym_laws.Below.{lows_at_start, run_made, zeros_made}
-use Rattle.ygg_oblige_list.specs.ygg_oblige_parts.Passing.{some_in}
+use Rattle.ygg_oblige_parts.specs.ygg_meaning.Obligations.{Init}
+use Rattle.ygg_oblige_parts.specs.ygg_sym_expr.Names.{sym_bind}
+use Rattle.ygg_oblige_laws.specs.ygg_sym_runs.Below.{lows_at_start, run_made, zeros_made}
+use Rattle.ygg_oblige_parts.specs.Passing.{some_in}
 use Rattle.ygg_oblige.proofs.Alike.{no_values}
 use Rattle.ygg_oblige.proofs.Chains.{formats_from}
-use Rattle.ygg_oblige_list.specs.ygg_bank_proofs_Widths.{extends_both}
+use Rattle.ygg_oblige_parts.specs.ygg_bank_proofs_Widths.{extends_both}
 use Rattle.ygg_oblige.proofs.terms.formats.Goals as goal
 
 pub low_at_start-requires-clause-below : goal.low_at_start-requires-clause-below

@@ -1,15 +1,15 @@
 use Rattle.std.proofs.Common.{◌≡◌, OnOk, IfOk, subst}
-use Rattle.ygg_oblige_list.specs.ygg_bank_proofs_Widths.{extends_both, wider}
-use Rattle.ygg_oblige_list.specs.ygg_bank.Makes.{Out}
-use Rattle.ygg_oblige_list.specs.ygg_bank.declared.node.Id.{Id}
-use Rattle.ygg_oblige_list.specs.ygg_sym_runs_proofs_Lows.{low_wider}
-use Rattle.ygg_oblige_list.proofs.of_ygg_sym_runs.Singles.{single_less}
-use Rattle.ygg_oblige_list.specs.ygg_oblige_parts.Layers.{closed, terms_in}
-use Rattle.ygg_oblige_list.specs.ygg_oblige_parts.Sites.{below_in}
+use Rattle.ygg_oblige_parts.specs.ygg_bank_proofs_Widths.{extends_both, wider}
+use Rattle.ygg_oblige_parts.specs.ygg_bank.Makes.{Out}
+use Rattle.ygg_oblige_parts.specs.ygg_bank.declared.node.Id.{Id}
+use Rattle.ygg_oblige_parts.specs.ygg_sym_runs_proofs_Lows.{low_wider}
+use Rattle.ygg_oblige_parts.proofs.of_ygg_sym_runs.Singles.{single_less}
+use Rattle.ygg_oblige_parts.specs.Layers.{closed, terms_in}
+use Rattle.ygg_oblige_parts.specs.Sites.{below_in}
 use Rattle.ygg_oblige.proofs.Sites.{below_fits}
-use Rattle.ygg_oblige_list.specs.ygg_meaning.Obligations.{Idle}
-use Rattle.ygg_oblige_list.specs.ygg_sym_laws.Below.{lost_made}
-use Rattle.ygg_oblige_list.specs.ygg_oblige_laws.Terms.{recovers}
+use Rattle.ygg_oblige_parts.specs.ygg_meaning.Obligations.{Idle}
+use Rattle.ygg_oblige_laws.specs.ygg_sym_runs.Below.{lost_made}
+use Rattle.ygg_oblige_parts.specs.ygg_oblige_laws.Terms.{recovers}
 use Rattle.ygg_oblige.specs.Numbering.{numbers_in}
 use Rattle.ygg_oblige.proofs.Alike.{no_values}
 use Rattle.ygg_oblige.proofs.Chains.{without_from}

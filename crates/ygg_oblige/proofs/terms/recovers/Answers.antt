@@ -1,16 +1,16 @@
 use Rattle.std.proofs.Common.{◌≡◌, OnOk, IfOk, subst}
-use Rattle.ygg_oblige_list.specs.ygg_bank_proofs_Widths.{extends_both, wider}
-use Rattle.ygg_oblige_list.specs.ygg_bank.Makes.{Out}
-use Rattle.ygg_oblige_list.specs.ygg_bank.declared.node.Id.{Id}
-use Rattle.ygg_oblige_list.specs.ygg_sym_runs_proofs_Lows.{low_wider}
-use Rattle.ygg_oblige_list.specs.ygg_oblige_parts.Layers.{closed, terms_in}
-use Rattle.ygg_oblige_list.specs.ygg_oblige_parts.Sites.{below_in}
-use Rattle.ygg_oblige_list.specs.ygg_oblige_laws.Numbers.{arguments_of}
-use Rattle.ygg_oblige_list.specs.ygg_oblige_laws.TermStates.{settled_made}
-use Rattle.ygg_oblige_list.specs.ygg_oblige_laws.Terms.{recovered}
-use Rattle.ygg_oblige_list.specs.ygg_oblige_parts.ObligePiecesSteps.{variables_of}
-use Rattle.ygg_oblige_list.specs.ygg_oblige_parts.Passing.{some_in}
-use Rattle.ygg_oblige_list.specs.ygg_oblige_parts.Steps.{obligation_of}
+use Rattle.ygg_oblige_parts.specs.ygg_bank_proofs_Widths.{extends_both, wider}
+use Rattle.ygg_oblige_parts.specs.ygg_bank.Makes.{Out}
+use Rattle.ygg_oblige_parts.specs.ygg_bank.declared.node.Id.{Id}
+use Rattle.ygg_oblige_parts.specs.ygg_sym_runs_proofs_Lows.{low_wider}
+use Rattle.ygg_oblige_parts.specs.Layers.{closed, terms_in}
+use Rattle.ygg_oblige_parts.specs.Sites.{below_in}
+use Rattle.ygg_oblige_parts.specs.ygg_oblige_laws.Numbers.{arguments_of}
+use Rattle.ygg_oblige_parts.specs.ygg_oblige_laws.TermStates.{settled_made}
+use Rattle.ygg_oblige_parts.specs.ygg_oblige_laws.Terms.{recovered}
+use Rattle.ygg_oblige_parts.specs.ObligePiecesSteps.{variables_of}
+use Rattle.ygg_oblige_parts.specs.Passing.{some_in}
+use Rattle.ygg_oblige_list.specs.InCode.{obligation_of}
 use Rattle.ygg_oblige.proofs.Alike.{answer_wider}
 use Rattle.ygg_oblige.proofs.Chains.{recovers_from}
 use Rattle.ygg_oblige.proofs.terms.recovers.Goals as goal

@@ -1,9 +1,9 @@
 use Rattle.std.proofs.Common.{◌≡◌, OnOk, IfOk, subst}
-use Rattle.ygg_oblige_list.specs.ygg_bank_proofs_Widths.{wider, extends_both}
-use Rattle.ygg_oblige_list.specs.ygg_bank.Makes.{Out}
-use Rattle.ygg_oblige_list.specs.ygg_bank.declared.node.Id.{Id}
-use Rattle.ygg_oblige_list.specs.ygg_sym_runs_proofs_Lows.{low_wider}
-use Rattle.ygg_oblige_list.specs.ygg_oblige_parts.Makers.{starting_of}
+use Rattle.ygg_oblige_parts.specs.ygg_bank_proofs_Widths.{wider, extends_both}
+use Rattle.ygg_oblige_parts.specs.ygg_bank.Makes.{Out}
+use Rattle.ygg_oblige_parts.specs.ygg_bank.declared.node.Id.{Id}
+use Rattle.ygg_oblige_parts.specs.ygg_sym_runs_proofs_Lows.{low_wider}
+use Rattle.ygg_oblige_parts.specs.Makers.{starting_of}
 use Rattle.ygg_oblige.specs.Numbering.{numbers_in}
 use Rattle.ygg_oblige.specs.Parts.{recovers_alike, recovery_cut}
 use Rattle.ygg_oblige.proofs.Chains.{again_from}

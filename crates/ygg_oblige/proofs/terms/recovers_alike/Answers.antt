@@ -1,13 +1,13 @@
 use Rattle.std.proofs.Common.{◌≡◌, OnOk, IfOk, subst}
-use Rattle.ygg_oblige_list.specs.ygg_bank_proofs_Widths.{extends_both, wider}
-use Rattle.ygg_oblige_list.specs.ygg_bank.Makes.{Out}
-use Rattle.ygg_oblige_list.specs.ygg_bank.declared.node.Id.{Id}
-use Rattle.ygg_oblige_list.specs.ygg_sym_runs_proofs_Lows.{low_wider}
-use Rattle.ygg_oblige_list.proofs.of_ygg_sym_runs.Singles.{single_less}
-use Rattle.ygg_oblige_list.specs.ygg_oblige_parts.Layers.{closed, terms_in}
-use Rattle.ygg_oblige_list.specs.ygg_oblige_parts.Sites.{below_in}
-use Rattle.ygg_oblige_list.specs.ygg_oblige_laws.TermStates.{all_compared, settled_made}
-use Rattle.ygg_oblige_list.specs.ygg_oblige_laws.Terms.{recovered}
+use Rattle.ygg_oblige_parts.specs.ygg_bank_proofs_Widths.{extends_both, wider}
+use Rattle.ygg_oblige_parts.specs.ygg_bank.Makes.{Out}
+use Rattle.ygg_oblige_parts.specs.ygg_bank.declared.node.Id.{Id}
+use Rattle.ygg_oblige_parts.specs.ygg_sym_runs_proofs_Lows.{low_wider}
+use Rattle.ygg_oblige_parts.proofs.of_ygg_sym_runs.Singles.{single_less}
+use Rattle.ygg_oblige_parts.specs.Layers.{closed, terms_in}
+use Rattle.ygg_oblige_parts.specs.Sites.{below_in}
+use Rattle.ygg_oblige_parts.specs.ygg_oblige_laws.TermStates.{all_compared, settled_made}
+use Rattle.ygg_oblige_parts.specs.ygg_oblige_laws.Terms.{recovered}
 use Rattle.ygg_oblige.proofs.Alike.{end_wider}
 use Rattle.ygg_oblige.proofs.Chains.{alike_from}
 use Rattle.ygg_oblige.proofs.terms.recovers_alike.Goals as goal

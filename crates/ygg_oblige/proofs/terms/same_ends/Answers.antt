@@ -1,9 +1,9 @@
 use Rattle.std.proofs.Common.{◌≡◌, OnOk, IfOk, subst}
-use Rattle.ygg_oblige_list.specs.ygg_bank_proofs_Widths.{extends_both, wider}
-use Rattle.ygg_oblige_list.specs.ygg_bank.Makes.{Out}
-use Rattle.ygg_oblige_list.specs.ygg_bank.declared.node.Id.{Id}
-use Rattle.ygg_oblige_list.specs.ygg_sym_runs_proofs_Lows.{low_wider}
-use Rattle.ygg_oblige_list.specs.ygg_oblige_laws.TermStates.{all_compared}
+use Rattle.ygg_oblige_parts.specs.ygg_bank_proofs_Widths.{extends_both, wider}
+use Rattle.ygg_oblige_parts.specs.ygg_bank.Makes.{Out}
+use Rattle.ygg_oblige_parts.specs.ygg_bank.declared.node.Id.{Id}
+use Rattle.ygg_oblige_parts.specs.ygg_sym_runs_proofs_Lows.{low_wider}
+use Rattle.ygg_oblige_parts.specs.ygg_oblige_laws.TermStates.{all_compared}
 use Rattle.ygg_oblige.proofs.Alike.{alike_is}
 use Rattle.ygg_oblige.proofs.Chains.{both_from}
 use Rattle.ygg_oblige.proofs.terms.same_ends.Goals as goal

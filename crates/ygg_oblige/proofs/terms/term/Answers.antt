@@ -1,11 +1,11 @@
 use Rattle.std.proofs.Common.{◌≡◌, OnOk, IfOk, refl, subst}
-use Rattle.ygg_oblige_list.specs.ygg_bank.Makes.{Make}
-use Rattle.ygg_oblige_list.specs.ygg_bank.declared.node.Id.{Id}
-use Rattle.ygg_oblige_list.specs.ygg_oblige_parts.Layers.{closed}
-use Rattle.ygg_oblige_list.specs.ygg_oblige_parts.Sites.{below_in}
-use Rattle.ygg_oblige_list.specs.ygg_oblige_parts.Makers.{starting_of}
-use Rattle.ygg_oblige_list.specs.ygg_oblige_parts.Steps.{obligation_of}
-use Rattle.ygg_oblige_list.specs.ygg_oblige_parts.declared.outcome.SymObligation.TheVariants as asked
+use Rattle.ygg_oblige_parts.specs.ygg_bank.Makes.{Make}
+use Rattle.ygg_oblige_parts.specs.ygg_bank.declared.node.Id.{Id}
+use Rattle.ygg_oblige_parts.specs.Layers.{closed}
+use Rattle.ygg_oblige_parts.specs.Sites.{below_in}
+use Rattle.ygg_oblige_parts.specs.Makers.{starting_of}
+use Rattle.ygg_oblige_list.specs.InCode.{obligation_of}
+use Rattle.ygg_oblige_list.specs.declared.obligation.SymObligation.TheVariants as asked
 use Rattle.ygg_oblige.specs.Making.{SpeaksOfNoAnswer}
 use Rattle.ygg_oblige.specs.Numbering.{numbers_in}
 use Rattle.ygg_oblige.proofs.Cases.{begun, case_has, cut_is, single_begun, whole_is}

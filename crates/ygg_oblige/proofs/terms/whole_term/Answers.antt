@@ -1,18 +1,18 @@
 use Rattle.std.proofs.Common.{◌≡◌, List, OnOk, IfOk, sym, subst, arith}
-use Rattle.ygg_oblige_list.specs.ygg_bank.Makes.{Out}
-use Rattle.ygg_oblige_list.specs.ygg_bank.declared.node.Id.{Id}
-use Rattle.ygg_oblige_list.specs.ygg_oblige_parts.Layers.{closed}
+use Rattle.ygg_oblige_parts.specs.ygg_bank.Makes.{Out}
+use Rattle.ygg_oblige_parts.specs.ygg_bank.declared.node.Id.{Id}
+use Rattle.ygg_oblige_parts.specs.Layers.{closed}
 use Rattle.ygg_syntax.specs.declared.tree.Declared.{Declared}
-use Rattle.ygg_oblige_list.specs.ygg_oblige_laws.LayerTerms.{ShapesKept}
-use Rattle.ygg_oblige_list.specs.ygg_oblige_laws.Numbers.{arguments_of}
-use Rattle.ygg_oblige_list.specs.ygg_oblige_laws.TermStates.{fresh_all}
-use Rattle.ygg_oblige_list.specs.ygg_oblige_parts.Makers.{starting_of}
-use Rattle.ygg_oblige_list.specs.ygg_oblige_parts.Steps.{obligation_of}
+use Rattle.ygg_oblige_parts.specs.ygg_oblige_laws.LayerTerms.{ShapesKept}
+use Rattle.ygg_oblige_parts.specs.ygg_oblige_laws.Numbers.{arguments_of}
+use Rattle.ygg_oblige_parts.specs.ygg_oblige_laws.TermStates.{fresh_all}
+use Rattle.ygg_oblige_parts.specs.Makers.{starting_of}
+use Rattle.ygg_oblige_list.specs.InCode.{obligation_of}
 use Rattle.ygg_oblige.specs.Numbering.{numbers_in}
 use Rattle.ygg_oblige.specs.Parts.{runs_through_in}
 use Rattle.ygg_oblige.proofs.KindsBegun.{can_oblige, room}
 use Rattle.ygg_oblige.proofs.Chains.{args_from}
-use Rattle.ygg_oblige_list.specs.ygg_bank_proofs_Widths.{extends_both}
+use Rattle.ygg_oblige_parts.specs.ygg_bank_proofs_Widths.{extends_both}
 use Rattle.ygg_oblige.proofs.terms.whole_term.Goals as goal
 
 pub fresh-requires-clause-kept : goal.fresh-requires-clause-kept

@@ -1,8 +1,8 @@
 use Rattle.std.proofs.Common.{◌≡◌, ◌<◌, ◌+◌, ◌-◌, ◌∙◌, List, ◌∷◌, length, drop, sym, ap, arith}
 use Rattle.std.proofs.Math.ListN.{drop_of_length-le}
-use Rattle.ygg_sym.proofs.Left.{rest_is}
-use Rattle.ygg_sym.specs.ygg_bank.Values.{inputs_of}
-use Rattle.ygg_sym.specs.ygg_bank.declared.env.Given.{Given}
+use Rattle.ygg_oblige_laws.proofs.of_ygg_sym_runs.Going.{rest_is}
+use Rattle.ygg_oblige_laws.specs.ygg_bank.Values.{inputs_of}
+use Rattle.ygg_oblige_laws.specs.ygg_bank.declared.env.Given.{Given}
 use Rattle.ygg_oblige_given.specs.Ones.{number_at}
 use Rattle.ygg_oblige_given.proofs.Filling.{one_more}
 use Rattle.ygg_oblige_given.proofs.numbers.numbers_of.Goals as goal

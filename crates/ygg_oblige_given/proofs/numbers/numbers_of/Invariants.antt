@@ -1,5 +1,5 @@
 use Rattle.std.proofs.Common.{◌≡◌, ℕ, drop}
-use Rattle.ygg_sym.specs.ygg_bank.Values.{inputs_of}
+use Rattle.ygg_oblige_laws.specs.ygg_bank.Values.{inputs_of}
 use Rattle.ygg_oblige_given.specs.Ones.{number_at}
 use Rattle.ygg_oblige_given.proofs.numbers.numbers_of.Given as goal
 

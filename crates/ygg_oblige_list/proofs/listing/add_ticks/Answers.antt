@@ -1,6 +1,6 @@
 use Rattle.std.proofs.Common.{◌≡◌, ◌+◌, ◌++◌, drop, ap, subst, ◌∙◌, sym}
 use Rattle.std.specs.Prelude.{slice_get, Some}
-use Rattle.ygg_oblige_parts.specs.ygg_meaning.Obligations.{TickOf, CutTickOf}
+use Rattle.ygg_meaning.specs.Obligations.{TickOf, CutTickOf}
 use Rattle.ygg_oblige_list.specs.Listing.{asked_in, ticks_of}
 use Rattle.ygg_oblige_list.proofs.Numbered.{element_here, one_more, rest_here, two_asked}
 use Rattle.ygg_oblige_list.proofs.listing.add_ticks.Goals as goal

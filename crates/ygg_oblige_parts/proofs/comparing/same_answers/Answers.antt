@@ -1,6 +1,6 @@
-use Rattle.ygg_sym.specs.ygg_sym_runs.Lower.{SingleFrom}
-use Rattle.ygg_sym.proofs.of_ygg_sym_runs.Singles.{single_stays}
-use Rattle.ygg_sym.proofs.of_ygg_sym_runs.Zeros.{single_kept}
+use Rattle.ygg_sym_spec.specs.ygg_sym_runs.Lower.{SingleFrom}
+use Rattle.ygg_sym_spec.proofs.of_ygg_sym_runs.Singles.{single_stays}
+use Rattle.ygg_sym_spec.proofs.of_ygg_sym_runs.Zeros.{single_kept}
 use Rattle.ygg_oblige_laws.specs.Outcomes.{answers_compared}
 use Rattle.ygg_oblige_laws.proofs.Compares.{answers_keep}
 use Rattle.ygg_oblige_parts.proofs.comparing.same_answers.Goals as goal

@@ -1,7 +1,7 @@
 use Rattle.std.proofs.Common.{◌-◌, List, length, sym, ap, ◌∙◌, arith}
 use Rattle.std.proofs.lemmas.List.{drop_all}
-use Rattle.ygg_sym.specs.ygg_bank_proofs_Widths.{extends_both}
-use Rattle.ygg_sym.specs.ygg_bank.declared.node.Id.{Id}
+use Rattle.ygg_sym_spec.specs.ygg_bank_proofs_Widths.{extends_both}
+use Rattle.ygg_sym_spec.specs.ygg_bank.declared.node.Id.{Id}
 use Rattle.ygg_oblige_parts.specs.Digits.{conjunction}
 use Rattle.ygg_oblige_parts.proofs.Tested.{digits_later, conjunction_more}
 use Rattle.ygg_oblige_parts.proofs.digits.all.Goals as goal

@@ -1,5 +1,5 @@
 use Rattle.std.proofs.Common.{◌≡◌, ◌≤◌, length, drop, All}
-use Rattle.ygg_sym.specs.ygg_bank.Nodes.{Extends, HasWidth, IsBank}
+use Rattle.ygg_sym_spec.specs.ygg_bank.Nodes.{Extends, HasWidth, IsBank}
 use Rattle.ygg_oblige_parts.specs.Digits.{IsDigit, conjunction}
 use Rattle.ygg_oblige_parts.proofs.digits.all.Given as goal
 

@@ -1,8 +1,8 @@
 use Rattle.ygg_value.specs.Words.{word}
-use Rattle.ygg_sym.specs.ygg_bank.Making.{made}
-use Rattle.ygg_sym.specs.ygg_bank.declared.node.Node.TheVariants.{Const}
-use Rattle.ygg_sym.proofs.of_ygg_sym_runs.Singles.{single_stays}
-use Rattle.ygg_sym.proofs.of_ygg_sym_runs.Zeros.{single_kept}
+use Rattle.ygg_sym_spec.specs.ygg_bank.Making.{made}
+use Rattle.ygg_sym_spec.specs.ygg_bank.declared.node.Node.TheVariants.{Const}
+use Rattle.ygg_sym_spec.proofs.of_ygg_sym_runs.Singles.{single_stays}
+use Rattle.ygg_sym_spec.proofs.of_ygg_sym_runs.Zeros.{single_kept}
 use Rattle.ygg_oblige_parts.proofs.Joining.{bit_word}
 use Rattle.ygg_oblige_parts.proofs.digits.constant.Goals as goal
 

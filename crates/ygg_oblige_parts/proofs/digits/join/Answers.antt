@@ -1,10 +1,10 @@
 use Rattle.std.proofs.Common.{IfOk, subst}
-use Rattle.ygg_sym.specs.ygg_bank.Making.{made}
-use Rattle.ygg_sym.specs.ygg_bank.Nodes.{HasWidth}
-use Rattle.ygg_sym.specs.ygg_bank.declared.node.Id.{Id}
-use Rattle.ygg_sym.specs.ygg_bank.declared.node.Node.TheVariants.{Bin}
-use Rattle.ygg_sym.proofs.of_ygg_sym_runs.Singles.{single_stays}
-use Rattle.ygg_sym.proofs.of_ygg_sym_runs.Zeros.{single_kept}
+use Rattle.ygg_sym_spec.specs.ygg_bank.Making.{made}
+use Rattle.ygg_sym_spec.specs.ygg_bank.Nodes.{HasWidth}
+use Rattle.ygg_sym_spec.specs.ygg_bank.declared.node.Id.{Id}
+use Rattle.ygg_sym_spec.specs.ygg_bank.declared.node.Node.TheVariants.{Bin}
+use Rattle.ygg_sym_spec.proofs.of_ygg_sym_runs.Singles.{single_stays}
+use Rattle.ygg_sym_spec.proofs.of_ygg_sym_runs.Zeros.{single_kept}
 use Rattle.ygg_oblige_parts.proofs.Joining.{can_join, joined_width}
 use Rattle.ygg_oblige_parts.proofs.digits.join.Goals as goal
 

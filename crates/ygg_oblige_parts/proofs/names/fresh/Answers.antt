@@ -1,8 +1,8 @@
 use Rattle.std.proofs.Common.{◌+◌}
-use Rattle.ygg_sym.specs.ygg_bank.Inputs.{InputsBelow}
+use Rattle.ygg_sym_spec.specs.ygg_bank.Inputs.{InputsBelow}
 use Rattle.ygg_oblige_laws.specs.TermStates.{fresh_all, words_in}
-use Rattle.ygg_sym.specs.ygg_sym_runs.Lows.{LowShaped}
-use Rattle.ygg_sym.proofs.Carried.{on_value, on_nodes}
+use Rattle.ygg_sym_spec.specs.ygg_sym_runs.Lows.{LowShaped}
+use Rattle.ygg_sym_spec.proofs.Carried.{on_value, on_nodes}
 use Rattle.ygg_oblige_laws.proofs.Fresh.{all_below}
 use Rattle.ygg_oblige_parts.proofs.Named.{fresh_stand}
 use Rattle.ygg_oblige_parts.proofs.names.fresh.Goals as goal

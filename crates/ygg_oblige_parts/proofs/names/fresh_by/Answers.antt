@@ -1,4 +1,4 @@
-use Rattle.ygg_sym.specs.ygg_bank_proofs_Widths.{extends_both}
+use Rattle.ygg_sym_spec.specs.ygg_bank_proofs_Widths.{extends_both}
 use Rattle.ygg_oblige_parts.proofs.names.fresh_by.Goals as goal
 
 pub returns-in_err-value-clause-grows : goal.returns-in_err-value-clause-grows

@@ -1,9 +1,9 @@
 use Rattle.std.proofs.Common.{◌≡◌, ◌+◌, drop}
-use Rattle.ygg_sym.specs.ygg_bank.Inputs.{InputsBelow}
-use Rattle.ygg_sym.specs.ygg_bank.Nodes.{Extends, IsBank}
+use Rattle.ygg_sym_spec.specs.ygg_bank.Inputs.{InputsBelow}
+use Rattle.ygg_sym_spec.specs.ygg_bank.Nodes.{Extends, IsBank}
 use Rattle.ygg_oblige_laws.specs.LayerTerms.{ShapesKept}
 use Rattle.ygg_oblige_laws.specs.TermStates.{fresh_all, words_in}
-use Rattle.ygg_sym.proofs.Left.{Left}
+use Rattle.ygg_sym_spec.proofs.Left.{Left}
 use Rattle.ygg_oblige_parts.proofs.names.fresh_by.Given as goal
 
 -- the inputs so far, and those that are left

@@ -1,7 +1,7 @@
 use Rattle.std.proofs.Common.{◌-◌, ◌*◌, length, sym, ◌∙◌}
 use Rattle.std.proofs.lemmas.Option.{slice_get_within}
-use Rattle.ygg_eval_block.specs.ygg_meaning.Obligations.{TickOf, CutTickOf}
-use Rattle.ygg_oblige.specs.Listing.{ticks_of}
+use Rattle.ygg_oblige_list.specs.ygg_meaning.Obligations.{TickOf, CutTickOf}
+use Rattle.ygg_oblige_list.specs.Listing.{ticks_of}
 use Rattle.ygg_oblige_reading.specs.Listing.{last_ones, listed_in}
 use Rattle.ygg_oblige_reading.proofs.Lists.{both_length, get_left, get_right, rest_at}
 use Rattle.ygg_oblige_reading.proofs.listed.later_at.Goals as goal

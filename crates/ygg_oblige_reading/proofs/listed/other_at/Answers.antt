@@ -1,8 +1,8 @@
 use Rattle.std.proofs.Common.{◌≡◌, ◌-◌, ◌*◌, IfOk, Option, length, sym, ◌∙◌, subst}
 use Rattle.std.specs.Option.{option_map}
 use Rattle.std.proofs.lemmas.Option.{slice_get_within}
-use Rattle.ygg_eval_block.specs.ygg_meaning.Obligations.{Obligation, CallOf, CutOf}
-use Rattle.ygg_oblige.specs.Listing.{calls_of}
+use Rattle.ygg_oblige_list.specs.ygg_meaning.Obligations.{Obligation, CallOf, CutOf}
+use Rattle.ygg_oblige_list.specs.Listing.{calls_of}
 use Rattle.ygg_oblige_reading.specs.Listing.{later_ones, listed_in}
 use Rattle.ygg_oblige_reading.specs.declared.listed.Listed.{Listed}
 use Rattle.ygg_oblige_reading.proofs.Lists.{both_length, get_left, get_right, rest_at}

@@ -2,7 +2,7 @@ use Rattle.std.proofs.Common.{◌≡◌, ◌+◌, ◌*◌, ◌/◌, length, refl
 use Rattle.std.specs.Prelude.{slice_get}
 use Rattle.std.proofs.lemmas.Option.{slice_get_read}
 use Rattle.ygg_syntax.specs.declared.tree.Tick.{Tick}
-use Rattle.ygg_eval_block.specs.ygg_meaning.Obligations.{TickOf, CutTickOf}
+use Rattle.ygg_oblige_list.specs.ygg_meaning.Obligations.{TickOf, CutTickOf}
 use Rattle.ygg_oblige_reading.proofs.Lists.{both_first, both_second}
 use Rattle.ygg_oblige_reading.proofs.listed.tick_at.Goals as goal
 

@@ -1,8 +1,8 @@
 use Rattle.std.proofs.Common.{List, sym, subst}
-use Rattle.ygg_eval_places.specs.ygg_bank.Nodes.{IsBank}
-use Rattle.ygg_eval_places.specs.ygg_bank.Values.{InputsFit, inputs_of}
-use Rattle.ygg_eval_places.specs.ygg_bank.declared.node.Node.{Node}
-use Rattle.ygg_eval_places.proofs.ChoiceNoting.{if_ok}
+use Rattle.ygg_oblige.specs.ygg_bank.Nodes.{IsBank}
+use Rattle.ygg_oblige.specs.ygg_bank.Values.{InputsFit, inputs_of}
+use Rattle.ygg_oblige.specs.ygg_bank.declared.node.Node.{Node}
+use Rattle.ygg_oblige_schedule.proofs.ChoiceNoting.{if_ok}
 use Rattle.ygg_oblige_reading.proofs.Exactly.{at_zero}
 use Rattle.ygg_oblige_reading.proofs.reading.schedule.Goals as goal
 

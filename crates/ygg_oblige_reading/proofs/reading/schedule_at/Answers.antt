@@ -1,13 +1,13 @@
 use Rattle.std.proofs.Common.{sym, subst}
 use Rattle.ygg_syntax.specs.declared.tree.File.{File}
-use Rattle.ygg_oblige_reading.proofs.of_ygg_type_sound.Derived.{derivable_derived}
-use Rattle.ygg_replay.specs.ygg_meaning.Stack.{layers_of}
-use Rattle.ygg_eval_places.specs.ygg_bank.Values.{inputs_of}
-use Rattle.ygg_eval_places.proofs.ChoiceNoting.{if_ok}
+use Rattle.ygg_oblige_reading.proofs.of_ygg_meaning_laws.Derived.{derivable_derived}
+use Rattle.ygg_oblige_list.specs.ygg_meaning.Stack.{layers_of}
+use Rattle.ygg_oblige.specs.ygg_bank.Values.{inputs_of}
+use Rattle.ygg_oblige_schedule.proofs.ChoiceNoting.{if_ok}
 use Rattle.ygg_oblige_reading.proofs.of_ygg_oblige_laws.Files.{typed_layers}
 use Rattle.ygg_oblige_reading.specs.ygg_oblige_laws.TypedLayers.{LayersTyped}
 use Rattle.ygg_oblige_reading.specs.Sites.{IsPlaced}
-use Rattle.ygg_oblige_reading.specs.declared.reader.EnvironmentReader.{EnvironmentReader}
+use Rattle.ygg_oblige_schedule.specs.declared.reader.EnvironmentReader.{EnvironmentReader}
 use Rattle.ygg_oblige_reading.proofs.Exactly.{exactly_so, shaped_so}
 use Rattle.ygg_oblige_reading.proofs.Placed.{fitted, here, named, named_shaped, stands}
 use Rattle.ygg_oblige_reading.proofs.reading.schedule_at.Goals as goal

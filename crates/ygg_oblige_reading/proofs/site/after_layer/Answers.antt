@@ -1,6 +1,6 @@
 use Rattle.std.proofs.Common.{◌≡◌, ◌≤◌, ℕ, IfOk, List, length, ap, ◌∙◌, subst, sym, arith}
 use Rattle.std.proofs.lemmas.List.{take_all}
-use Rattle.ygg_eval_block.specs.ygg_meaning.Obligations.{Obligation, obligations_of}
+use Rattle.ygg_oblige_list.specs.ygg_meaning.Obligations.{Obligation, obligations_of}
 use Rattle.ygg_oblige.specs.Adding.{after_at}
 use Rattle.ygg_oblige_reading.proofs.NumbersAfter.{arguments_kept}
 use Rattle.ygg_oblige_reading.proofs.site.after_layer.Goals as goal

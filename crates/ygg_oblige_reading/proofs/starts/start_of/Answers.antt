@@ -1,7 +1,7 @@
 use Rattle.std.proofs.Common.{◌≡◌, ◌+◌, suc, take, ap, ◌∙◌, sym, arith}
 use Rattle.std.specs.Prelude.{slice_get, Some}
 use Rattle.std.specs.Option.{option_map}
-use Rattle.ygg_eval_block.specs.ygg_meaning.Obligations.{obligations_of}
+use Rattle.ygg_oblige_list.specs.ygg_meaning.Obligations.{obligations_of}
 use Rattle.ygg_oblige_reading.specs.declared.listed.Listed.{Listed}
 use Rattle.ygg_oblige.specs.Sites.{below_in}
 use Rattle.ygg_oblige.specs.ygg_sym_spec.Layers.{closed, terms_in}

@@ -1,5 +1,5 @@
 use Rattle.std.proofs.Common.{◌≡◌, take}
-use Rattle.ygg_eval_block.specs.ygg_meaning.Obligations.{obligations_of}
+use Rattle.ygg_oblige_list.specs.ygg_meaning.Obligations.{obligations_of}
 use Rattle.ygg_oblige.specs.Adding.{after_at}
 use Rattle.ygg_oblige_reading.proofs.starts.start_of.Given as goal
 

@@ -1,7 +1,7 @@
 use Rattle.std.proofs.Common.{◌≡◌, ap, ◌∙◌, rules}
 use Rattle.std.proofs.lemmas.Result.{IfOk-weaker}
-use Rattle.ygg_print_tree.specs.PrintedFiles.{file_printed}
-use Rattle.ygg_print_tree.specs.Layout.{layout}
+use Rattle.ygg_print.specs.PrintedFiles.{file_printed}
+use Rattle.ygg_print.specs.Layout.{layout}
 use Rattle.ygg_print.specs.Canonical.{IsReadAgain}
 use Rattle.ygg_print.proofs.Reread.{text_again}
 use Rattle.ygg_print.proofs.canonical.print.Goals as goal

@@ -3,7 +3,7 @@ use Rattle.ygg_base.specs.declared.token.Keyword.TheVariants as word
 use Rattle.ygg_base.specs.declared.token.Symbol.TheVariants as sign
 use Rattle.ygg_base.specs.declared.token.Mark.{Mark}
 use Rattle.ygg_base.specs.declared.token.Mark.TheVariants as mark
-use Rattle.ygg_print_tree.specs.PrintedFiles.{disk_printed}
+use Rattle.ygg_print.specs.PrintedFiles.{disk_printed}
 use Rattle.ygg_print.proofs.layers.head.Goals as goal
 
 pub returns : goal.returns

@@ -1,6 +1,6 @@
 use Rattle.std.proofs.Common.{◌≡◌, ◌++◌, drop, map}
-use Rattle.ygg_print_tree.specs.PrintedBlocks.{all_printed}
-use Rattle.ygg_print_tree.specs.PrintedFiles.{layer_printed}
+use Rattle.ygg_print.specs.PrintedBlocks.{all_printed}
+use Rattle.ygg_print.specs.PrintedFiles.{layer_printed}
 use Rattle.ygg_print.proofs.layers.layers.Given as goal
 
 -- those so far and those of what is left

@@ -1,6 +1,6 @@
 use Rattle.std.proofs.Common.{◌≡◌, ◌++◌, drop, map}
-use Rattle.ygg_print_tree.specs.PrintedBlocks.{all_printed}
-use Rattle.ygg_print_tree.specs.PrintedFiles.{operation_printed}
+use Rattle.ygg_print.specs.PrintedBlocks.{all_printed}
+use Rattle.ygg_print.specs.PrintedFiles.{operation_printed}
 use Rattle.ygg_print.proofs.operations.operations.Given as goal
 
 -- those so far and those of what is left

@@ -1,4 +1,4 @@
-use Rattle.ygg_print.proofs.Files.{only_file}
+use Rattle.ygg_print.proofs.FileMarks.{only_file}
 use Rattle.ygg_print.proofs.unique_law.one_file_derives.Goals as goal
 
 pub returns : goal.returns

@@ -3,7 +3,7 @@ use Rattle.ygg_base.specs.declared.token.Keyword.TheVariants as word
 use Rattle.ygg_base.specs.declared.token.Symbol.TheVariants as sign
 use Rattle.ygg_syntax.specs.Pending.{Pending, number, disk_kind, repeated, rest_of_layer, word_of, sign_of}
 use Rattle.ygg_syntax.specs.Pending as pending
-use Rattle.ygg_read_layer.proofs.Files.{file_opens}
+use Rattle.ygg_read.proofs.Files.{file_opens}
 use Rattle.ygg_read.proofs.file.file.Goals as goal
 
 pub returns-in_default-3-clause-refused : goal.returns-in_default-3-clause-refused

@@ -3,7 +3,7 @@ use Rattle.ygg_base.specs.declared.reason.Reason.TheVariants.{Syntax}
 use Rattle.ygg_base.specs.Reason.{refusal_at}
 use Rattle.ygg_syntax.specs.declared.tree.Place.{Place}
 use Rattle.ygg_syntax.specs.Pending.{file, outcome, stops}
-use Rattle.ygg_read_layer.proofs.Files.{stops_within}
+use Rattle.ygg_read.proofs.Files.{stops_within}
 use Rattle.ygg_read.proofs.Refusals.{refusal_of}
 use Rattle.ygg_read.proofs.file.read.Goals as goal
 

@@ -1,6 +1,6 @@
 use Rattle.std.proofs.Common.{◌≡◌, ◌==◌, true, false, [], length, sym, ◌∙◌}
 use Rattle.ygg_syntax.specs.Files.{whole_file}
-use Rattle.ygg_read_layer.proofs.Files.{reads_all, left_over, none_left}
+use Rattle.ygg_read.proofs.Files.{reads_all, left_over, none_left}
 use Rattle.ygg_read.proofs.file.whole.Goals as goal
 
 pub returns-then-not-ends-clause-refused : goal.returns-then-not-ends-clause-refused

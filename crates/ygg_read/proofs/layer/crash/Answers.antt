@@ -3,8 +3,8 @@ use Rattle.ygg_syntax.specs.Reading.{in_turn}
 use Rattle.ygg_syntax.specs.Files.{crash_block}
 use Rattle.ygg_syntax.specs.Pending.{perhaps, outcome}
 use Rattle.ygg_syntax.specs.Pending as pending
-use Rattle.ygg_read_layer.proofs.ClaimParts.{begins_perhaps}
-use Rattle.ygg_read_layer.proofs.Files.{reads_crash}
+use Rattle.ygg_read.proofs.ClaimParts.{begins_perhaps}
+use Rattle.ygg_read.proofs.Files.{reads_crash}
 use Rattle.ygg_read.proofs.layer.crash.Goals as goal
 
 pub returns-in_default-2-clause-refused : goal.returns-in_default-2-clause-refused

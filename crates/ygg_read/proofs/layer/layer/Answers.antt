@@ -1,8 +1,8 @@
 use Rattle.std.proofs.Common.{◌++◌, ◌∙◌}
 use Rattle.ygg_syntax.specs.declared.tree.Layer.{Layer}
-use Rattle.ygg_read_layer.specs.Parts.{claims_pending, claims_read}
+use Rattle.ygg_read.specs.LayerParts.{claims_pending, claims_read}
 use Rattle.ygg_read.specs.Parts.{setup_pending, setup_read, steps_pending, steps_read}
-use Rattle.ygg_read_layer.proofs.Files.{reads_layer}
+use Rattle.ygg_read.proofs.Files.{reads_layer}
 use Rattle.ygg_read.proofs.layer.layer.Goals as goal
 
 pub returns-in_default-2-clause-refused : goal.returns-in_default-2-clause-refused

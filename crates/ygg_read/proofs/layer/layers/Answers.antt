@@ -3,7 +3,7 @@ use Rattle.ygg_base.specs.declared.token.Keyword.TheVariants as word
 use Rattle.ygg_syntax.specs.Reading.{Reading, in_turn}
 use Rattle.ygg_syntax.specs.Files.{layer}
 use Rattle.ygg_syntax.specs.Pending.{repeated, next_layer, rest_of_layer, outcome}
-use Rattle.ygg_read_layer.proofs.ClaimLists.{none_read, one_more, all_read, all_gone, one_stops, filled, layer_comes}
+use Rattle.ygg_read.proofs.ClaimLists.{none_read, one_more, all_read, all_gone, one_stops, filled, layer_comes}
 use Rattle.ygg_read.proofs.layer.layers.Goals as goal
 
 pub loop-place-init : goal.loop-place-init

@@ -1,5 +1,5 @@
 use Rattle.std.proofs.Common.{length}
-use Rattle.ygg_read_layer.proofs.ClaimLists.{LayersRead}
+use Rattle.ygg_read.proofs.ClaimLists.{LayersRead}
 use Rattle.ygg_read.proofs.layer.layers.Given as goal
 
 -- the layers so far

@@ -1,5 +1,5 @@
 use Rattle.std.proofs.Common.{◌++◌, ◌∙◌}
-use Rattle.ygg_read_layer.specs.Parts.{claims_pending, claims_read}
+use Rattle.ygg_read.specs.LayerParts.{claims_pending, claims_read}
 use Rattle.ygg_read.specs.Parts.{steps_pending, steps_read}
 use Rattle.ygg_read.proofs.layer.parts.Goals as goal
 

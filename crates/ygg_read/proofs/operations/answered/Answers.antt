@@ -8,7 +8,7 @@ use Rattle.ygg_syntax.specs.Reading.{Reading}
 use Rattle.ygg_syntax.specs.Expressions.{keyword}
 use Rattle.ygg_syntax.specs.Blocks.{answering}
 use Rattle.ygg_syntax.specs.Files.{type_in, on_crash}
-use Rattle.ygg_read_layer.proofs.Files.{opened}
+use Rattle.ygg_read.proofs.Files.{opened}
 use Rattle.ygg_read.proofs.operations.answered.Goals as goal
 
 pub returns-clause-reads : goal.returns-clause-reads

@@ -2,7 +2,7 @@ use Rattle.std.proofs.Common.{◌∷◌, ◌∙◌, sym, ap}
 use Rattle.ygg_syntax.specs.Reading.{in_turn}
 use Rattle.ygg_syntax.specs.Files.{operation_blocks}
 use Rattle.ygg_read.specs.Parts.{operation_of}
-use Rattle.ygg_read_layer.proofs.Answered.{if_read}
+use Rattle.ygg_read.proofs.Answered.{if_read}
 use Rattle.ygg_read.proofs.operations.blocks.Goals as goal
 
 pub returns-in-Some-clause-reads : goal.returns-in-Some-clause-reads

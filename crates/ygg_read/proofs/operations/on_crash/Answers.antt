@@ -2,7 +2,7 @@ use Rattle.std.proofs.Common.{◌∷◌, ◌∙◌, ap}
 use Rattle.ygg_syntax.specs.declared.grammar.BlockKind.TheVariants.{Spec}
 use Rattle.ygg_syntax.specs.Pending.{perhaps, outcome}
 use Rattle.ygg_syntax.specs.Pending as pending
-use Rattle.ygg_read_layer.proofs.ClaimParts.{begins_perhaps}
+use Rattle.ygg_read.proofs.ClaimParts.{begins_perhaps}
 use Rattle.ygg_read.proofs.operations.on_crash.Goals as goal
 
 pub returns-in_default-keyword-clause-refused : goal.returns-in_default-keyword-clause-refused

@@ -6,7 +6,7 @@ use Rattle.ygg_syntax.specs.declared.grammar.Sort.TheVariants as sorts
 use Rattle.ygg_syntax.specs.Expressions.{symbol, named}
 use Rattle.ygg_syntax.specs.Files.{any_declared, operation_blocks}
 use Rattle.ygg_read.specs.Parts.{operation_of}
-use Rattle.ygg_read_layer.proofs.Files.{opened}
+use Rattle.ygg_read.proofs.Files.{opened}
 use Rattle.ygg_read.proofs.operations.rest_of_operation.Goals as goal
 
 pub returns-clause-reads : goal.returns-clause-reads

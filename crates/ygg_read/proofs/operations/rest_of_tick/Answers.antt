@@ -4,7 +4,7 @@ use Rattle.ygg_base.specs.declared.token.Mark.TheVariants as mark
 use Rattle.ygg_syntax.specs.declared.grammar.BlockKind.TheVariants.{Impl}
 use Rattle.ygg_syntax.specs.Expressions.{named}
 use Rattle.ygg_syntax.specs.Blocks.{block}
-use Rattle.ygg_read_layer.proofs.Files.{opened}
+use Rattle.ygg_read.proofs.Files.{opened}
 use Rattle.ygg_read.proofs.operations.rest_of_tick.Goals as goal
 
 pub returns-clause-reads : goal.returns-clause-reads

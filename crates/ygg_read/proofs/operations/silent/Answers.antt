@@ -5,7 +5,7 @@ use Rattle.ygg_syntax.specs.declared.grammar.BlockKind.TheVariants.{Spec, Impl}
 use Rattle.ygg_syntax.specs.Expressions.{keyword}
 use Rattle.ygg_syntax.specs.Blocks.{block}
 use Rattle.ygg_syntax.specs.Files.{on_crash}
-use Rattle.ygg_read_layer.proofs.Files.{opened}
+use Rattle.ygg_read.proofs.Files.{opened}
 use Rattle.ygg_read.proofs.operations.silent.Goals as goal
 
 pub returns-clause-reads : goal.returns-clause-reads

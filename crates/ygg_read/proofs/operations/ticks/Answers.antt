@@ -4,7 +4,7 @@ use Rattle.ygg_base.specs.declared.token.Keyword.TheVariants as word
 use Rattle.ygg_syntax.specs.Files.{tick}
 use Rattle.ygg_syntax.specs.Pending.{rest_of, outcome}
 use Rattle.ygg_syntax.specs.Pending as pending
-use Rattle.ygg_read_layer.proofs.ClaimLists.{none_read, one_more, all_read, all_gone, one_stops}
+use Rattle.ygg_read.proofs.ClaimLists.{none_read, one_more, all_read, all_gone, one_stops}
 use Rattle.ygg_read.proofs.operations.ticks.Goals as goal
 
 pub loop-reader-init : goal.loop-reader-init

@@ -3,7 +3,7 @@ use Rattle.ygg_base.specs.declared.token.Keyword.TheVariants as word
 use Rattle.ygg_syntax.specs.Files.{tick}
 use Rattle.ygg_syntax.specs.Pending.{rest_of}
 use Rattle.ygg_syntax.specs.Pending as pending
-use Rattle.ygg_read_layer.proofs.ClaimLists.{ListRead}
+use Rattle.ygg_read.proofs.ClaimLists.{ListRead}
 use Rattle.ygg_read.proofs.operations.ticks.Given as goal
 
 -- the background steps so far

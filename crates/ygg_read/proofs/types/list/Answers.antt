@@ -3,7 +3,7 @@ use Rattle.ygg_base.specs.declared.token.Symbol.TheVariants as sign
 use Rattle.ygg_syntax.specs.Reading.{in_turn}
 use Rattle.ygg_syntax.specs.Expressions.{symbol}
 use Rattle.ygg_syntax.specs.Pending.{sign_of, outcome}
-use Rattle.ygg_read_layer.proofs.ClaimLists.{first_declared, more_declared_read, declared_read, declared_gone, declared_stops}
+use Rattle.ygg_read.proofs.ClaimLists.{first_declared, more_declared_read, declared_read, declared_gone, declared_stops}
 use Rattle.ygg_read.proofs.types.list.Goals as goal
 
 pub loop-reader-init : goal.loop-reader-init

@@ -1,5 +1,5 @@
 use Rattle.std.proofs.Common.{length}
-use Rattle.ygg_read_layer.proofs.ClaimLists.{SomeDeclared}
+use Rattle.ygg_read.proofs.ClaimLists.{SomeDeclared}
 use Rattle.ygg_read.proofs.types.list.Given as goal
 
 -- the names so far, and those that still come

@@ -5,7 +5,7 @@ use Rattle.ygg_base.specs.declared.token.Mark.TheVariants as mark
 use Rattle.ygg_syntax.specs.declared.grammar.Sort.TheVariants as sorts
 use Rattle.ygg_syntax.specs.Expressions.{symbol, named, expr}
 use Rattle.ygg_syntax.specs.Files.{type_in, any_declared}
-use Rattle.ygg_read_layer.proofs.Files.{opened}
+use Rattle.ygg_read.proofs.Files.{opened}
 use Rattle.ygg_read.proofs.variables.rest_of_definition.Goals as goal
 
 pub returns-clause-reads : goal.returns-clause-reads

@@ -4,7 +4,7 @@ use Rattle.ygg_base.specs.declared.token.Mark.TheVariants as mark
 use Rattle.ygg_syntax.specs.declared.grammar.Sort.TheVariants as sorts
 use Rattle.ygg_syntax.specs.Expressions.{symbol}
 use Rattle.ygg_syntax.specs.Files.{declared}
-use Rattle.ygg_read_layer.proofs.Files.{opened}
+use Rattle.ygg_read.proofs.Files.{opened}
 use Rattle.ygg_read.proofs.variables.rest_of_variable.Goals as goal
 
 pub returns-clause-reads : goal.returns-clause-reads

@@ -2,7 +2,7 @@ use Rattle.std.proofs.Common.{◌∙◌, sym, ap, rules}
 use Rattle.ygg_syntax.specs.Reading.{in_turn}
 use Rattle.ygg_syntax.specs.Files.{variable}
 use Rattle.ygg_syntax.specs.Pending.{rest_of_variable, outcome}
-use Rattle.ygg_read_layer.proofs.ClaimLists.{none_read, one_more, all_read, all_gone, one_stops}
+use Rattle.ygg_read.proofs.ClaimLists.{none_read, one_more, all_read, all_gone, one_stops}
 use Rattle.ygg_read.proofs.variables.variables.Goals as goal
 
 pub loop-reader-init : goal.loop-reader-init

@@ -1,7 +1,7 @@
 use Rattle.std.proofs.Common.{length}
 use Rattle.ygg_syntax.specs.Files.{variable}
 use Rattle.ygg_syntax.specs.Pending.{rest_of_variable}
-use Rattle.ygg_read_layer.proofs.ClaimLists.{ListRead}
+use Rattle.ygg_read.proofs.ClaimLists.{ListRead}
 use Rattle.ygg_read.proofs.variables.variables.Given as goal
 
 -- the variables so far

@@ -1,7 +1,7 @@
 use Rattle.std.proofs.Common.{◌≡◌, suc, Bool, true, false, List, [], ◌∷◌, length, refl, ap}
 use Rattle.ygg_value.specs.Values.{same_value}
 use Rattle.ygg_value.specs.declared.row.Value.{Value}
-use Rattle.ygg_eval.specs.ygg_type_sound_proofs_Tests.{right}
+use Rattle.ygg_eval.specs.ygg_meaning_laws_proofs_Tests.{right}
 use Rattle.ygg_replay.specs.Ends.{same_list}
 use Rattle.ygg_replay.proofs.ends.same_values.Goals as goal
 

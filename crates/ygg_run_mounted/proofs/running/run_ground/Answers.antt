@@ -1,5 +1,5 @@
 use Rattle.ygg_base.specs.Outside.{Rose}
-use Rattle.ygg_run_commands.proofs.of_ygg_type_sound.Derived.{derivable_derived}
+use Rattle.ygg_run_commands.proofs.of_ygg_meaning_laws.Derived.{derivable_derived}
 use Rattle.ygg_run_image.specs.declared.device_ground.DeviceGround.{DeviceGround}
 use Rattle.ygg_run_image.specs.Sight.{Sight}
 use Rattle.ygg_run_image.proofs.Held.{holds_here}

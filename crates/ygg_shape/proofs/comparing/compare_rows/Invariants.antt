@@ -1,6 +1,6 @@
 use Rattle.ygg_shape_cells.specs.ygg_bank.Nodes.{Extends, HasWidth, IsBank}
-use Rattle.ygg_shape_cells.specs.Making.{compared_row}
-use Rattle.ygg_shape.proofs.Steps.{FoldTwo}
+use Rattle.ygg_shape.specs.Comparing.{compared_row}
+use Rattle.ygg_shape_cells.proofs.Steps.{FoldTwo}
 use Rattle.ygg_shape.proofs.comparing.compare_rows.Given as goal
 
 abbrev pub invariant-loop-place : goal.invariant-loop-place

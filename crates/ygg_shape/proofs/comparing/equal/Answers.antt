@@ -1,9 +1,9 @@
 use Rattle.ygg_shape_cells.specs.ygg_bank_proofs_Exist.{keeps_values}
-use Rattle.ygg_shape.proofs.Answered.{compared_width, compared_value}
+use Rattle.ygg_shape.proofs.Compared.{compared_width, compared_value}
 use Rattle.ygg_shape_cells.specs.ygg_shape_words_proofs_Keeps.{inputs_stay, kept}
 use Rattle.ygg_shape_cells.specs.ygg_bank.Inputs.{InputsBelow}
-use Rattle.ygg_shape_cells.specs.Making.{compared}
-use Rattle.ygg_shape.proofs.Keeps.{compared_keeps}
+use Rattle.ygg_shape.specs.Comparing.{compared}
+use Rattle.ygg_shape.proofs.ComparedKeeps.{compared_keeps}
 use Rattle.ygg_shape.proofs.comparing.equal.Goals as goal
 
 pub returns-clause-width : goal.returns-clause-width

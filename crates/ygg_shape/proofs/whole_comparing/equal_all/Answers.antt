@@ -2,7 +2,7 @@ use Rattle.ygg_shape_cells.specs.ygg_bank_proofs_Exist.{keeps_values}
 use Rattle.ygg_shape_cells.specs.ygg_bank.Inputs.{InputsBelow}
 use Rattle.ygg_shape_cells.specs.ygg_shape_words_proofs_Keeps.{inputs_stay, kept}
 use Rattle.ygg_shape.proofs.Listed.{all_compared_keeps, all_compared_value, all_compared_width}
-use Rattle.ygg_shape.specs.Wholes.{all_compared}
+use Rattle.ygg_shape.specs.Comparing.{all_compared}
 use Rattle.ygg_shape.proofs.whole_comparing.equal_all.Goals as goal
 
 pub returns-clause-width : goal.returns-clause-width

@@ -1,10 +1,9 @@
 use Rattle.std.proofs.Common.{◌+◌, ◌<◌, List, All, length, sym, subst, arith}
 use Rattle.ygg_shape_cells.specs.ygg_bank_proofs_Widths.{extends_both}
 use Rattle.ygg_shape_cells.specs.ygg_bank.declared.node.Id.{Id}
-use Rattle.ygg_shape_cells.specs.Making.{compared}
-use Rattle.ygg_shape.proofs.Steps.{EachTwo, each_two_goes}
-use Rattle.ygg_shape.proofs.Whole.{alike_at, same_count}
-use Rattle.ygg_shape.specs.Wholes.{IsDigit}
+use Rattle.ygg_shape.specs.Comparing.{compared, IsDigit}
+use Rattle.ygg_shape_cells.proofs.Steps.{EachTwo, each_two_goes}
+use Rattle.ygg_shape_cells.proofs.Whole.{alike_at, same_count}
 use Rattle.ygg_shape.proofs.Listed.{digits_more}
 use Rattle.ygg_shape.proofs.whole_comparing.equals.Goals as goal
 

@@ -1,8 +1,7 @@
 use Rattle.std.proofs.Common.{All}
 use Rattle.ygg_shape_cells.specs.ygg_bank.Nodes.{Extends, IsBank}
-use Rattle.ygg_shape_cells.specs.Making.{compared}
-use Rattle.ygg_shape.proofs.Steps.{EachTwo}
-use Rattle.ygg_shape.specs.Wholes.{IsDigit}
+use Rattle.ygg_shape.specs.Comparing.{compared, IsDigit}
+use Rattle.ygg_shape_cells.proofs.Steps.{EachTwo}
 use Rattle.ygg_shape.proofs.whole_comparing.equals.Given as goal
 
 -- the places so far, and those that are left

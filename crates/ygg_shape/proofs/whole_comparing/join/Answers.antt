@@ -3,7 +3,7 @@ use Rattle.std.proofs.lemmas.List.{drop_all}
 use Rattle.ygg_shape_cells.specs.ygg_bank_proofs_Widths.{extends_both}
 use Rattle.ygg_shape_cells.specs.ygg_bank.declared.node.Id.{Id}
 use Rattle.ygg_shape.proofs.Listed.{digits_later, conjunction_more}
-use Rattle.ygg_shape.specs.Wholes.{conjunction}
+use Rattle.ygg_shape.specs.Comparing.{conjunction}
 use Rattle.ygg_shape.proofs.whole_comparing.join.Goals as goal
 
 pub loop-left-init : goal.loop-left-init

@@ -1,6 +1,6 @@
 use Rattle.std.proofs.Common.{◌≡◌, ◌≤◌, length, drop, All}
 use Rattle.ygg_shape_cells.specs.ygg_bank.Nodes.{Extends, HasWidth, IsBank}
-use Rattle.ygg_shape.specs.Wholes.{IsDigit, conjunction}
+use Rattle.ygg_shape.specs.Comparing.{IsDigit, conjunction}
 use Rattle.ygg_shape.proofs.whole_comparing.join.Given as goal
 
 -- the conjunction of those that were joined

@@ -1,4 +1,4 @@
-use Rattle.ygg_shape_cells.proofs.Steps.{DifferingSoFar}
+use Rattle.ygg_shape_cells.proofs.PairSteps.{DifferingSoFar}
 use Rattle.ygg_shape_cells.proofs.pairs.differing.Given as goal
 
 abbrev pub invariant-loop-place : goal.invariant-loop-place

@@ -1,4 +1,4 @@
-use Rattle.ygg_shape_cells.proofs.Steps.{SidesSoFar}
+use Rattle.ygg_shape_cells.proofs.PairSteps.{SidesSoFar}
 use Rattle.ygg_shape_cells.proofs.pairs.sides.Given as goal
 
 abbrev pub invariant-loop-pair : goal.invariant-loop-pair

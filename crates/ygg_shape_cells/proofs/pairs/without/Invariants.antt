@@ -1,4 +1,4 @@
-use Rattle.ygg_shape_cells.proofs.Steps.{WithoutSoFar}
+use Rattle.ygg_shape_cells.proofs.PairSteps.{WithoutSoFar}
 use Rattle.ygg_shape_cells.proofs.pairs.without.Given as goal
 
 abbrev pub invariant-loop-pair : goal.invariant-loop-pair

@@ -3,7 +3,7 @@ use Rattle.std.specs.Prelude.{min}
 use Rattle.ygg_sym_spec.specs.ygg_sym_expr.Names.{sym_bind}
 use Rattle.ygg_sym_spec.proofs.of_ygg_sym_runs.Singles.{single_less}
 use Rattle.ygg_sym.proofs.WholeRun.{lows_count}
-use Rattle.ygg_sym.specs.ygg_sym_disk.Means.{disk_meaning}
+use Rattle.ygg_sym_disk.specs.Means.{disk_meaning}
 use Rattle.ygg_sym.specs.DiskFailing.{disk_power}
 use Rattle.ygg_sym.proofs.Placed.{disk_lower, disk_same, disk_stands, disk_space, disk_stops_same}
 use Rattle.ygg_sym.proofs.Ran.{can_whole, cut_nodes, cut_end, least}

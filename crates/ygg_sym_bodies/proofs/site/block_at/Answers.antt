@@ -1,6 +1,6 @@
 use Rattle.std.proofs.Common.{refl, sym, subst}
 use Rattle.ygg_syntax.specs.declared.tree.File.{File}
-use Rattle.ygg_type_sound.proofs.Derived.{derivable_derived}
+use Rattle.ygg_meaning_laws.proofs.Derived.{derivable_derived}
 use Rattle.ygg_meaning.specs.Stack.{layers_of}
 use Rattle.ygg_oblige_laws.proofs.Files.{typed_layers}
 use Rattle.ygg_oblige_laws.specs.TypedLayers.{LayersTyped}

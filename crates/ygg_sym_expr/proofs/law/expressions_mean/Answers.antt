@@ -1,6 +1,6 @@
 use Rattle.std.proofs.Common.{[], reverse}
-use Rattle.ygg_eval_expr.specs.ygg_type_sound.Definitions.{with_definitions}
-use Rattle.ygg_eval_expr.specs.ygg_type_sound.Meaning.{functions_of}
+use Rattle.ygg_eval_expr.specs.ygg_meaning_laws.Definitions.{with_definitions}
+use Rattle.ygg_eval_expr.specs.ygg_meaning_laws.Meaning.{functions_of}
 use Rattle.ygg_shape.specs.ygg_bank_proofs_Exist.{values_fit}
 use Rattle.ygg_shape.specs.ygg_bank.Values.{value_of}
 use Rattle.ygg_sym_expr.specs.Exprs.{sym_value, sym_functions}

@@ -1,5 +1,5 @@
 use Rattle.std.proofs.Common.{◌*◌, sym}
-use Rattle.ygg_direct.specs.Direct.{room_of}
+use Rattle.ygg_meaning_laws.specs.Direct.{room_of}
 use Rattle.ygg_sym_runs.proofs.Rooms.{places_for, counts_as, counts_product}
 use Rattle.ygg_sym_runs.proofs.unrolled.+room.Goals as goal
 

@@ -1,4 +1,4 @@
-use Rattle.ygg_sym_laws.specs.ygg_bank_proofs_Widths.{extends_both}
+use Rattle.ygg_sym_runs.specs.ygg_bank_proofs_Widths.{extends_both}
 use Rattle.ygg_sym_spec.proofs.Falling.{crash_can}
 use Rattle.ygg_sym_spec.proofs.Going.{both_single, form_along, nodes_along, then_goes}
 use Rattle.ygg_sym_spec.specs.Layers.{crash_of, then_crash_of}

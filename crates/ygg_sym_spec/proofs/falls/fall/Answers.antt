@@ -1,5 +1,5 @@
 use Rattle.std.proofs.Common.{Some, None}
-use Rattle.ygg_sym_laws.specs.ygg_bank.Makes.{pure}
+use Rattle.ygg_sym_runs.specs.ygg_bank.Makes.{pure}
 use Rattle.ygg_sym_spec.proofs.Falling.{fall_can}
 use Rattle.ygg_sym_spec.proofs.Going.{fall_goes, form_along, found_so, nodes_along, none_goes}
 use Rattle.ygg_sym_spec.specs.Layers.{cut_of, fall_of}

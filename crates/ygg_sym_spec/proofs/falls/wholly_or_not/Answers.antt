@@ -1,9 +1,9 @@
 use Rattle.std.proofs.Common.{None}
-use Rattle.ygg_sym_laws.specs.ygg_bank_proofs_Widths.{extends_both, wider}
-use Rattle.ygg_sym_laws.specs.ygg_sym_runs_proofs_Lows.{low_wider}
-use Rattle.ygg_sym_laws.specs.ygg_sym_runs.Lows.{merge_lows}
-use Rattle.ygg_sym_laws.specs.ygg_sym_runs.SpecCuts.{fall_made}
-use Rattle.ygg_sym_disk.proofs.Asked.{lows_alike}
+use Rattle.ygg_sym_runs.specs.ygg_bank_proofs_Widths.{extends_both, wider}
+use Rattle.ygg_sym_runs.proofs.Lows.{low_wider}
+use Rattle.ygg_sym_runs.specs.Lows.{merge_lows}
+use Rattle.ygg_sym_runs.specs.SpecCuts.{fall_made}
+use Rattle.ygg_sym_runs.proofs.MergedLows.{lows_alike}
 use Rattle.ygg_sym_spec.proofs.Falling.{not_can, spec_can}
 use Rattle.ygg_sym_spec.proofs.Going.{both_single, form_along, lows_single, nodes_along, then_single, whole_goes}
 use Rattle.ygg_sym_spec.specs.Layers.{closed, terms_in}

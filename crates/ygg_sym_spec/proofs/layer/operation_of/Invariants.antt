@@ -1,5 +1,5 @@
 use Rattle.std.proofs.Common.{◌≡◌, drop}
-use Rattle.ygg_sym_laws.specs.ygg_meaning.Layer.{operation_in}
+use Rattle.ygg_sym_runs.specs.ygg_meaning.Layer.{operation_in}
 use Rattle.ygg_sym_spec.proofs.layer.operation_of.Given as goal
 
 -- what is left decides

@@ -1,7 +1,7 @@
 use Rattle.ygg_base.specs.Outside.{Rose}
 use Rattle.ygg_report.specs.Putting.{NoFront}
 use Rattle.ygg_top_command.proofs.Telling.{more_told}
-use Rattle.ygg_top_run.specs.Verifying.{Demos}
+use Rattle.ygg_top.specs.Verifying.{Demos}
 use Rattle.ygg_top.proofs.ByWords.{one_so}
 use Rattle.ygg_top.specs.declared.words.One.TheVariants as command
 use Rattle.ygg_top.specs.Ending.{EndsOne, LeavesOne, NamesNone}

@@ -1,10 +1,10 @@
 use Rattle.std.proofs.Common.{refl}
 use Rattle.ygg_sched.specs.ygg_meaning.Claims.{claims_of}
-use Rattle.ygg_oblige_decided.specs.ygg_oblige_laws.Meaning.{claim_name}
+use Rattle.ygg_certify.specs.ygg_oblige_laws.Meaning.{claim_name}
 use Rattle.std.specs.Prelude.{map}
 use Rattle.ygg_top.specs.Printed.{Printed}
 use Rattle.ygg_top.proofs.Placed.{is_at, is_clauses_of, placed_name, some_named}
-use Rattle.ygg_dimacs.proofs.of_ygg_log_text.Flowing.{puts_done}
+use Rattle.ygg_dimacs.proofs.of_ygg_cnf.Flowing.{puts_done}
 use Rattle.ygg_top.proofs.printing.put_obligation.Goals as goal
 
 pub put_term-requires : goal.put_term-requires

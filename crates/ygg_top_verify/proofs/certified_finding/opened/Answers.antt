@@ -1,4 +1,4 @@
-use Rattle.ygg_top_verify.proofs.of_ygg_type_sound.Derived.{derivable_derived}
+use Rattle.ygg_top_verify.proofs.of_ygg_meaning_laws.Derived.{derivable_derived}
 use Rattle.ygg_top_verify.proofs.Failing.{with_lines}
 use Rattle.ygg_top_verify.proofs.Opened.{OnLogs, as_many_found, found_fits, opened_so}
 use Rattle.ygg_top_verify.proofs.Shown.{OnReplays}

@@ -2,7 +2,7 @@ use Rattle.std.proofs.Common.{List, [], ◌∷◌, refl, subst, ap, sym, ◌∙�
 use Rattle.std.specs.Prelude.{slice_get}
 use Rattle.std.proofs.lemmas.List.{length-append}
 use Rattle.std.proofs.lemmas.Option.{slice_get_read}
-use Rattle.ygg_oblige_decided.specs.ygg_bank.declared.node.Node.{Node}
+use Rattle.ygg_certify.specs.ygg_bank.declared.node.Node.{Node}
 use Rattle.ygg_oblige_reading.specs.Obligations.{terms_in}
 use Rattle.ygg_top_verify.specs.ygg_report.declared.verdict.Verdict.{Verdict}
 use Rattle.ygg_top_verify.specs.Findings.{IsFound, AreFound}

@@ -3,7 +3,7 @@ use Rattle.std.specs.Prelude.{nat_lt, Err}
 use Rattle.ygg_base.specs.Outside.{Rose}
 use Rattle.ygg_base.specs.declared.status.Status.{Status}
 use Rattle.ygg_yard.specs.ygg_meaning.Claims.{claims_of}
-use Rattle.ygg_yard.proofs.of_ygg_type_sound.Derived.{derivable_derived}
+use Rattle.ygg_yard.proofs.of_ygg_meaning_laws.Derived.{derivable_derived}
 use Rattle.ygg_oblige_reading.specs.Obligation.{Obligation}
 use Rattle.ygg_top_verify.specs.ygg_report.Lines.{demo_line}
 use Rattle.ygg_top_verify.specs.ygg_report.Tallies.{tally_of}

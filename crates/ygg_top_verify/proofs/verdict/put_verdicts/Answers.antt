@@ -1,6 +1,6 @@
 use Rattle.std.proofs.Common.{List, sym, subst}
 use Rattle.ygg_yard.specs.ygg_meaning.Claims.{claims_of}
-use Rattle.ygg_yard.proofs.of_ygg_type_sound.Derived.{derivable_derived}
+use Rattle.ygg_yard.proofs.of_ygg_meaning_laws.Derived.{derivable_derived}
 use Rattle.ygg_oblige_reading.specs.Obligation.{Obligation}
 use Rattle.ygg_top_verify.specs.Findings.{AreDigits}
 use Rattle.ygg_top_verify.proofs.Shown.{OnReplays}

@@ -2,8 +2,8 @@ use Rattle.std.proofs.Common.{◌≡◌, ◌<◌, ◌^◌, ℕ, List}
 use Rattle.std.specs.Prelude.{IfSome}
 use Rattle.ygg_syntax.specs.declared.tree.File.{File}
 use Rattle.ygg_oblige_reading.specs.ygg_rules.declared.rule.RuleKind.{RuleKind}
-use Rattle.ygg_oblige_decided.specs.ygg_bank.Values.{inputs_of}
-use Rattle.ygg_oblige_decided.specs.ygg_bank.declared.env.Given.{Given}
+use Rattle.ygg_certify.specs.ygg_bank.Values.{inputs_of}
+use Rattle.ygg_certify.specs.ygg_bank.declared.env.Given.{Given}
 use Rattle.ygg_oblige_reading.specs.ygg_sched.declared.schedule.Schedule.{Schedule}
 use Rattle.ygg_oblige_reading.specs.Meant.{IsNamed}
 use Rattle.ygg_top_verify.specs.Findings.{IsRefutingBy}

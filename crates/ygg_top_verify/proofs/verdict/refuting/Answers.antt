@@ -4,8 +4,8 @@ use Rattle.std.proofs.lemmas.List.{get_or-map}
 use Rattle.std.proofs.lemmas.Option.{slice_get_read}
 use Rattle.ygg_syntax.specs.declared.tree.File.{File}
 use Rattle.ygg_oblige_reading.specs.ygg_rules.declared.rule.RuleKind.{RuleKind}
-use Rattle.ygg_oblige_decided.specs.ygg_bank.Values.{InputsFit, inputs_of}
-use Rattle.ygg_oblige_decided.specs.ygg_bank.declared.node.Node.{Node}
+use Rattle.ygg_certify.specs.ygg_bank.Values.{InputsFit, inputs_of}
+use Rattle.ygg_certify.specs.ygg_bank.declared.node.Node.{Node}
 use Rattle.ygg_oblige_reading.specs.ygg_sched.declared.schedule.Schedule.{Schedule}
 use Rattle.ygg_oblige_reading.specs.Obligations.{names_in}
 use Rattle.ygg_oblige_reading.specs.Obligation.{Obligation}

@@ -1,6 +1,6 @@
 use Rattle.std.proofs.Common.{◌≡◌, ◌+◌, List, refl, ap, subst, ◌∙◌, arith}
 use Rattle.std.proofs.lemmas.Option.{slice_get_read}
-use Rattle.ygg_oblige_decided.specs.ygg_bank.declared.node.Node.{Node}
+use Rattle.ygg_certify.specs.ygg_bank.declared.node.Node.{Node}
 use Rattle.ygg_top_verify.specs.Findings.{IsFound, IsKept, first_kept}
 use Rattle.ygg_top_verify.proofs.Reporting.{none_reported, one_reported, unreported_since}
 use Rattle.ygg_top_verify.proofs.verdict.report_all.Goals as goal

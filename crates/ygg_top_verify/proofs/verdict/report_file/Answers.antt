@@ -1,5 +1,5 @@
 use Rattle.std.proofs.Common.{List, sym, subst}
-use Rattle.ygg_oblige_decided.specs.ygg_bank.declared.node.Node.{Node}
+use Rattle.ygg_certify.specs.ygg_bank.declared.node.Node.{Node}
 use Rattle.ygg_top_verify.specs.Findings.{AreMadeIn, first_failed}
 use Rattle.ygg_top_verify.proofs.Reporting.{kept_there, kept_fits, put_end, no_end}
 use Rattle.ygg_top_verify.proofs.verdict.report_file.Goals as goal

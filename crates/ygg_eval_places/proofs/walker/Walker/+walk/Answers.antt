@@ -1,6 +1,6 @@
 use Rattle.std.proofs.Common.{rules, ◌≡◌, true, false, List, length, sym, ap, ◌∙◌, subst, arith}
 use Rattle.ygg_syntax.specs.declared.tree.Expr.{Expr}
-use Rattle.ygg_direct.specs.ygg_meaning.Meaning.{is_one}
+use Rattle.ygg_meaning_laws.specs.ygg_meaning.Meaning.{is_one}
 use Rattle.ygg_eval_block.specs.ygg_eval_expr.Held.{env_of}
 use Rattle.ygg_eval_block.specs.ygg_eval_expr.declared.held.Binding.{Binding}
 use Rattle.ygg_eval_block.specs.Ready.{eval_in}

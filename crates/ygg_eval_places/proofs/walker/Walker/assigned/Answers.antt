@@ -1,5 +1,5 @@
 use Rattle.std.proofs.Common.{List, ap, ◌∙◌}
-use Rattle.ygg_direct.specs.Direct.{source_got}
+use Rattle.ygg_meaning_laws.specs.Direct.{source_got}
 use Rattle.ygg_eval_block.specs.ygg_eval_expr.Held.{env_of}
 use Rattle.ygg_eval_block.specs.ygg_eval_expr.declared.held.Binding.{Binding}
 use Rattle.ygg_eval_block.specs.Ready.{eval_in}

@@ -1,7 +1,7 @@
 use Rattle.std.proofs.Common.{refl, ◌<◌, ◌^◌, ℕ, subst, ◌∙◌}
 use Rattle.ygg_eval.specs.ygg_type_rules.TypeErrors.{none}
 use Rattle.ygg_eval.specs.ygg_type_rules.Files.{disk_errors}
-use Rattle.ygg_eval.specs.ygg_type_sound_proofs_Tests.{left}
+use Rattle.ygg_eval.specs.ygg_meaning_laws_proofs_Tests.{left}
 use Rattle.ygg_machine.proofs.Grounding.{one_word, word_and_row, no_argument, read_so, write_so, flush_so}
 use Rattle.ygg_machine.proofs.grounded.GroundedLower.call.Goals as goal
 

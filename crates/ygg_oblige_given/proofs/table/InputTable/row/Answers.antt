@@ -2,7 +2,7 @@ use Rattle.std.proofs.Common.{◌≡◌, ◌∙◌, ◌+◌, ◌<◌, ◌≤◌,
 use Rattle.std.specs.Prelude.{slice_set}
 use Rattle.std.proofs.lemmas.List.{take_all}
 use Rattle.ygg_value.specs.Number.{Digits}
-use Rattle.ygg_sym.specs.ygg_shape.Fresh.{numbers_from}
+use Rattle.ygg_oblige_laws.specs.ygg_shape.Fresh.{numbers_from}
 use Rattle.ygg_oblige_given.specs.Tables.{inputs_in}
 use Rattle.ygg_oblige_given.proofs.Runs.{row_goes, word_fits}
 use Rattle.ygg_oblige_given.proofs.table.InputTable.row.Goals as goal

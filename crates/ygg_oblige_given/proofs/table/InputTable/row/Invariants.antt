@@ -1,5 +1,5 @@
 use Rattle.std.proofs.Common.{◌≡◌, length, take}
-use Rattle.ygg_sym.specs.ygg_shape.Fresh.{numbers_from}
+use Rattle.ygg_oblige_laws.specs.ygg_shape.Fresh.{numbers_from}
 use Rattle.ygg_oblige_given.specs.Tables.{inputs_in}
 use Rattle.ygg_oblige_given.proofs.table.InputTable.row.Given as goal
 

@@ -1,9 +1,9 @@
 use Rattle.std.proofs.Common.{◌≡◌, ◌∙◌, ◌+◌, ◌*◌, ◌<◌, ◌≤◌, true, ℕ, List, length, sym, ap, subst, arith}
 use Rattle.std.specs.Prelude.{slice_set}
 use Rattle.std.proofs.lemmas.List.{take_all}
-use Rattle.ygg_sym.specs.ygg_meaning.Shapes.{words_fit}
+use Rattle.ygg_oblige_laws.specs.ygg_meaning.Shapes.{words_fit}
 use Rattle.ygg_value.specs.Number.{Digits, Grid}
-use Rattle.ygg_sym.specs.ygg_shape.Fresh.{numbers_from, rows_from}
+use Rattle.ygg_oblige_laws.specs.ygg_shape.Fresh.{numbers_from, rows_from}
 use Rattle.ygg_oblige_given.specs.Tables.{inputs_in}
 use Rattle.ygg_oblige_given.proofs.Runs.{numbers_length, row_fits, rows_go}
 use Rattle.ygg_oblige_given.proofs.table.InputTable.table.Goals as goal

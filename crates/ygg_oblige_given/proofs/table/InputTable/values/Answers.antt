@@ -2,12 +2,12 @@ use Rattle.std.proofs.Common.{◌≡◌, ◌∙◌, ◌+◌, true, List, [], ◌
 use Rattle.std.proofs.Math.ListN.{drop_of_length-le}
 use Rattle.std.proofs.lemmas.List.{append-nil}
 use Rattle.std.proofs.lemmas.List.Elements.{All-tail}
-use Rattle.ygg_sym.proofs.Left.{rest_is}
+use Rattle.ygg_oblige_laws.proofs.of_ygg_sym_runs.Going.{rest_is}
 use Rattle.ygg_value.specs.Shapes.{IsShape}
 use Rattle.ygg_syntax.specs.declared.tree.Declared.{Declared}
-use Rattle.ygg_sym.specs.ygg_meaning.Environments.{bind}
-use Rattle.ygg_sym.specs.ygg_meaning.Shapes.{fits, shape_in, values_fit}
-use Rattle.ygg_sym.specs.ygg_shape.Fresh.{given_value, words_of}
+use Rattle.ygg_oblige_laws.specs.ygg_meaning.Environments.{bind}
+use Rattle.ygg_oblige_laws.specs.ygg_meaning.Shapes.{fits, shape_in, values_fit}
+use Rattle.ygg_oblige_laws.specs.ygg_shape.Fresh.{given_value, words_of}
 use Rattle.ygg_oblige_laws.specs.LayerTerms.{ShapesKept}
 use Rattle.ygg_oblige_given.specs.Tables.{given_values, inputs_in}
 use Rattle.ygg_oblige_given.proofs.Bound.{bound_given, fit_given, left_fits, values_go}

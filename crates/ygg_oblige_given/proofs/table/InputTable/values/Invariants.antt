@@ -1,6 +1,6 @@
 use Rattle.std.proofs.Common.{◌≡◌, ◌++◌, drop}
 use Rattle.std.specs.Prelude.{IsTrue}
-use Rattle.ygg_sym.specs.ygg_meaning.Shapes.{env_fits}
+use Rattle.ygg_oblige_laws.specs.ygg_meaning.Shapes.{env_fits}
 use Rattle.ygg_oblige_laws.specs.Inputs.{given_env}
 use Rattle.ygg_oblige_laws.specs.LayerTerms.{ShapesKept}
 use Rattle.ygg_oblige_given.specs.Tables.{given_values, inputs_in}

@@ -1,10 +1,10 @@
 use Rattle.std.proofs.Common.{◌≡◌, ◌-◌, ◌∙◌, suc, OnOk, IfOk, rules, subst, arith}
-use Rattle.ygg_sym.specs.ygg_bank_proofs_Widths.{extends_both, wider}
-use Rattle.ygg_sym.specs.ygg_bank.Makes.{Make, Out}
-use Rattle.ygg_sym.specs.ygg_bank.declared.node.Id.{Id}
-use Rattle.ygg_sym.proofs.of_ygg_sym_runs.Zeros.{single_both, single_then}
+use Rattle.ygg_sym_spec.specs.ygg_bank_proofs_Widths.{extends_both, wider}
+use Rattle.ygg_sym_spec.specs.ygg_bank.Makes.{Make, Out}
+use Rattle.ygg_sym_spec.specs.ygg_bank.declared.node.Id.{Id}
+use Rattle.ygg_sym_spec.proofs.of_ygg_sym_runs.Zeros.{single_both, single_then}
 use Rattle.ygg_oblige_parts.specs.Passing.{passes_of}
-use Rattle.ygg_oblige_parts.specs.Steps.{obligation_of}
+use Rattle.ygg_oblige_list.specs.InCode.{obligation_of}
 use Rattle.ygg_oblige_parts.proofs.StepPasses.{any_from, fits_later, none_left}
 use Rattle.ygg_oblige_parts.proofs.states.Maker.+some_after.Goals as goal
 

@@ -1,7 +1,7 @@
 use Rattle.std.proofs.Common.{◌≡◌, List, OnOk, IfOk, subst}
-use Rattle.ygg_sym.specs.ygg_bank.Makes.{Make}
-use Rattle.ygg_sym.specs.ygg_shape_cells.declared.terms.SymValue.{SymValue}
-use Rattle.ygg_sym.specs.Layers.{closed, terms_in}
+use Rattle.ygg_sym_spec.specs.ygg_bank.Makes.{Make}
+use Rattle.ygg_sym_spec.specs.ygg_shape_cells.declared.terms.SymValue.{SymValue}
+use Rattle.ygg_sym_spec.specs.Layers.{closed, terms_in}
 use Rattle.ygg_oblige_parts.proofs.Falling.{fall_some, fall_whole, fall_nothing, picks_split}
 use Rattle.ygg_oblige_parts.proofs.states.Maker.fall.Goals as goal
 

@@ -1,8 +1,8 @@
 use Rattle.std.proofs.Common.{List, subst}
 use Rattle.ygg_syntax.specs.declared.tree.Declared.{Declared}
-use Rattle.ygg_sym.specs.ygg_bank_proofs_Widths.{extends_both}
-use Rattle.ygg_sym.specs.ygg_sym_runs.Lows.{LowShaped}
-use Rattle.ygg_sym.specs.ygg_sym_runs_proofs_Lows.{low_wider}
+use Rattle.ygg_sym_spec.specs.ygg_bank_proofs_Widths.{extends_both}
+use Rattle.ygg_sym_spec.specs.ygg_sym_runs.Lows.{LowShaped}
+use Rattle.ygg_sym_spec.specs.ygg_sym_runs_proofs_Lows.{low_wider}
 use Rattle.ygg_oblige_parts.proofs.states.Maker.fresh_trio.Goals as goal
 
 pub returns-clause-shape : goal.returns-clause-shape

@@ -1,20 +1,20 @@
 use Rattle.std.proofs.Common.{◌≡◌, List, Option, OnOk, IfOk, sym, ap, subst}
-use Rattle.ygg_sym.specs.ygg_bank_proofs_Widths.{extends_both, wider}
-use Rattle.ygg_sym.specs.ygg_bank.Makes.{Out}
-use Rattle.ygg_sym.specs.ygg_bank.Nodes.{IsBank}
-use Rattle.ygg_sym.specs.ygg_bank.declared.node.Id.{Id}
-use Rattle.ygg_sym.specs.ygg_bank.declared.node.Node.{Node}
-use Rattle.ygg_sym.specs.ygg_shape_cells.declared.terms.SymValue.{SymValue}
-use Rattle.ygg_sym.specs.ygg_sym_runs_proofs_Lows.{low_wider}
-use Rattle.ygg_sym.specs.ygg_sym_runs.Disks.{Done, done}
-use Rattle.ygg_sym.proofs.of_ygg_sym_runs.Zeros.{single_both, single_then}
-use Rattle.ygg_sym.specs.Layers.{closed, terms_in}
-use Rattle.ygg_sym.specs.Sites.{below_in}
+use Rattle.ygg_sym_spec.specs.ygg_bank_proofs_Widths.{extends_both, wider}
+use Rattle.ygg_sym_spec.specs.ygg_bank.Makes.{Out}
+use Rattle.ygg_sym_spec.specs.ygg_bank.Nodes.{IsBank}
+use Rattle.ygg_sym_spec.specs.ygg_bank.declared.node.Id.{Id}
+use Rattle.ygg_sym_spec.specs.ygg_bank.declared.node.Node.{Node}
+use Rattle.ygg_sym_spec.specs.ygg_shape_cells.declared.terms.SymValue.{SymValue}
+use Rattle.ygg_sym_spec.specs.ygg_sym_runs_proofs_Lows.{low_wider}
+use Rattle.ygg_sym_spec.specs.ygg_sym_runs.Disks.{Done, done}
+use Rattle.ygg_sym_spec.proofs.of_ygg_sym_runs.Zeros.{single_both, single_then}
+use Rattle.ygg_sym_spec.specs.Layers.{closed, terms_in}
+use Rattle.ygg_sym_spec.specs.Sites.{below_in}
 use Rattle.ygg_oblige_laws.specs.Outcomes.{outcome_made}
 use Rattle.ygg_oblige_laws.specs.TermStates.{related_made}
 use Rattle.ygg_oblige_laws.specs.Terms.{same_answers_made}
 use Rattle.ygg_oblige_parts.specs.Passing.{AskedAlike}
-use Rattle.ygg_oblige_parts.specs.Steps.{obligation_of}
+use Rattle.ygg_oblige_list.specs.InCode.{obligation_of}
 use Rattle.ygg_oblige_parts.proofs.StepPasses.{passes_from, step_alike}
 use Rattle.ygg_oblige_parts.proofs.states.Maker.passes.Goals as goal
 

@@ -1,13 +1,13 @@
 use Rattle.std.proofs.Common.{◌≡◌, All, OnOk, IfOk, refl, sym, ap, ◌∙◌, subst}
-use Rattle.ygg_sym.specs.ygg_meaning.Related.{relations}
-use Rattle.ygg_sym.specs.ygg_bank.declared.node.Id.{Id}
-use Rattle.ygg_sym.specs.ygg_sym_expr.Names.{SymEnv}
-use Rattle.ygg_sym.specs.ygg_sym_expr.Seen.{SymKnown, env_of}
-use Rattle.ygg_sym.specs.ygg_sym_runs.Lower.{SingleFrom}
-use Rattle.ygg_sym.proofs.of_ygg_sym_runs.Singles.{single_stays}
-use Rattle.ygg_sym.proofs.of_ygg_sym_runs.Zeros.{single_kept}
-use Rattle.ygg_sym.specs.Layers.{closed, terms_in}
-use Rattle.ygg_sym.specs.Sites.{below_in}
+use Rattle.ygg_sym_spec.specs.ygg_meaning.Related.{relations}
+use Rattle.ygg_sym_spec.specs.ygg_bank.declared.node.Id.{Id}
+use Rattle.ygg_sym_spec.specs.ygg_sym_expr.Names.{SymEnv}
+use Rattle.ygg_sym_spec.specs.ygg_sym_expr.Seen.{SymKnown, env_of}
+use Rattle.ygg_sym_spec.specs.ygg_sym_runs.Lower.{SingleFrom}
+use Rattle.ygg_sym_spec.proofs.of_ygg_sym_runs.Singles.{single_stays}
+use Rattle.ygg_sym_spec.proofs.of_ygg_sym_runs.Zeros.{single_kept}
+use Rattle.ygg_sym_spec.specs.Layers.{closed, terms_in}
+use Rattle.ygg_sym_spec.specs.Sites.{below_in}
 use Rattle.ygg_oblige_laws.specs.TermStates.{Trio, related_made}
 use Rattle.ygg_oblige_laws.proofs.Truths.{defs_keep}
 use Rattle.ygg_oblige_laws.proofs.Starting.{related_keeps}

@@ -1,12 +1,12 @@
 use Rattle.std.proofs.Common.{◌≡◌, List, [], All, OnOk, IfOk, refl, sym, ap, ◌∙◌, subst}
 use Rattle.ygg_syntax.specs.declared.tree.Expr.{Expr}
-use Rattle.ygg_sym.specs.ygg_bank.declared.node.Id.{Id}
-use Rattle.ygg_sym.specs.ygg_sym_expr.Seen.{SymKnown, env_of, known_of}
-use Rattle.ygg_sym.specs.ygg_sym_runs.Lower.{SingleFrom}
-use Rattle.ygg_sym.proofs.of_ygg_sym_runs.Singles.{single_stays}
-use Rattle.ygg_sym.proofs.of_ygg_sym_runs.Zeros.{single_kept}
-use Rattle.ygg_sym.specs.Layers.{closed, terms_in}
-use Rattle.ygg_sym.specs.Sites.{below_in}
+use Rattle.ygg_sym_spec.specs.ygg_bank.declared.node.Id.{Id}
+use Rattle.ygg_sym_spec.specs.ygg_sym_expr.Seen.{SymKnown, env_of, known_of}
+use Rattle.ygg_sym_spec.specs.ygg_sym_runs.Lower.{SingleFrom}
+use Rattle.ygg_sym_spec.proofs.of_ygg_sym_runs.Singles.{single_stays}
+use Rattle.ygg_sym_spec.proofs.of_ygg_sym_runs.Zeros.{single_kept}
+use Rattle.ygg_sym_spec.specs.Layers.{closed, terms_in}
+use Rattle.ygg_sym_spec.specs.Sites.{below_in}
 use Rattle.ygg_oblige_laws.specs.TermStates.{settled_made}
 use Rattle.ygg_oblige_laws.proofs.Truths.{defs_keep}
 use Rattle.ygg_oblige_laws.proofs.Starting.{settled_keeps}

@@ -1,5 +1,5 @@
 use Rattle.std.proofs.Common.{◌≡◌, ℕ, [], OnOk, IfOk, subst}
-use Rattle.ygg_sym.specs.ygg_bank.declared.node.Id.{Id}
+use Rattle.ygg_sym_spec.specs.ygg_bank.declared.node.Id.{Id}
 use Rattle.ygg_oblige_laws.specs.Outcomes.{any_picks}
 use Rattle.ygg_oblige_parts.specs.Passing.{passes_of}
 use Rattle.ygg_oblige_parts.proofs.states.Maker.some_passes.Goals as goal

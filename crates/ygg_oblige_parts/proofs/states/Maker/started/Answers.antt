@@ -1,7 +1,7 @@
-use Rattle.ygg_sym.specs.ygg_bank_proofs_Widths.{extends_both}
+use Rattle.ygg_sym_spec.specs.ygg_bank_proofs_Widths.{extends_both}
 use Rattle.ygg_oblige_laws.specs.ygg_shape_hypothesis.Finding.{facts_in}
-use Rattle.ygg_sym.specs.ygg_sym_runs_proofs_Lows.{low_wider}
-use Rattle.ygg_sym.specs.Layers.{closed, terms_in}
+use Rattle.ygg_sym_spec.specs.ygg_sym_runs_proofs_Lows.{low_wider}
+use Rattle.ygg_sym_spec.specs.Layers.{closed, terms_in}
 use Rattle.ygg_oblige_laws.specs.TermStates.{related_made, settled_made}
 use Rattle.ygg_oblige_parts.specs.Makers.{trio_of}
 use Rattle.ygg_oblige_parts.proofs.Started.{started_from}

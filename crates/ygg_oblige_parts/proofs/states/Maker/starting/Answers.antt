@@ -1,15 +1,15 @@
 use Rattle.std.proofs.Common.{◌≡◌, ◌+◌, OnOk, IfOk, subst}
-use Rattle.ygg_sym.specs.ygg_bank.Inputs.{InputsBelow}
-use Rattle.ygg_sym.specs.ygg_bank.Makes.{Out}
-use Rattle.ygg_sym.proofs.Carried.{on_nodes, on_value_of}
-use Rattle.ygg_sym.specs.Sites.{below_in}
-use Rattle.ygg_sym.specs.Layers.{closed, terms_in}
+use Rattle.ygg_sym_spec.specs.ygg_bank.Inputs.{InputsBelow}
+use Rattle.ygg_sym_spec.specs.ygg_bank.Makes.{Out}
+use Rattle.ygg_sym_spec.proofs.Carried.{on_nodes, on_value_of}
+use Rattle.ygg_sym_spec.specs.Sites.{below_in}
+use Rattle.ygg_sym_spec.specs.Layers.{closed, terms_in}
 use Rattle.ygg_oblige_laws.specs.TermStates.{Starting, starting, state_words}
 use Rattle.ygg_oblige_laws.proofs.Starting.{states_mean}
 use Rattle.ygg_oblige_parts.specs.Makers.{StartingShaped, starting_of, trio_of}
 use Rattle.ygg_oblige_parts.specs.declared.states.SymStarting.{SymStarting}
 use Rattle.ygg_oblige_parts.proofs.Started.{starting_from, starting_stands}
-use Rattle.ygg_sym.specs.ygg_bank_proofs_Widths.{extends_both}
+use Rattle.ygg_sym_spec.specs.ygg_bank_proofs_Widths.{extends_both}
 use Rattle.ygg_oblige_parts.proofs.states.Maker.starting.Goals as goal
 
 pub returns-clause-nodes : goal.returns-clause-nodes

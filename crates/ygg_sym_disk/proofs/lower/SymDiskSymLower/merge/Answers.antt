@@ -1,7 +1,7 @@
 use Rattle.std.proofs.Common.{subst, sym}
 use Rattle.ygg_sym_runs.specs.ygg_meaning.Stack.{tables_of}
 use Rattle.ygg_sym_runs.specs.Lows.{LowShaped}
-use Rattle.ygg_sym_disk.proofs.Asked.{lows_alike, merged_single}
+use Rattle.ygg_sym_runs.proofs.MergedLows.{lows_alike, merged_single}
 use Rattle.ygg_sym_disk.proofs.lower.SymDiskSymLower.merge.Goals as goal
 
 pub merge_lows-requires-clause-values : goal.merge_lows-requires-clause-values

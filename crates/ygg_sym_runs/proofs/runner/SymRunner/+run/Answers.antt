@@ -1,7 +1,7 @@
 use Rattle.std.proofs.Common.{rules, ◌≡◌, ◌+◌, List, None, drop, length, refl, sym, ap, ◌∙◌, subst, arith}
 use Rattle.ygg_syntax.specs.declared.tree.Stmt.{Stmt}
-use Rattle.ygg_direct.specs.ygg_type_rules.Statements.{block_errors}
-use Rattle.ygg_direct.specs.ygg_type_sound.Kinds.{keeps}
+use Rattle.ygg_meaning_laws.specs.ygg_type_rules.Statements.{block_errors}
+use Rattle.ygg_meaning_laws.specs.Kinds.{keeps}
 use Rattle.ygg_sym_expr.specs.ygg_bank_proofs_Widths.{extends_self, extends_both}
 use Rattle.ygg_sym_expr.specs.Exprs.{sym_value}
 use Rattle.ygg_sym_expr.specs.Names.{SymEnv}

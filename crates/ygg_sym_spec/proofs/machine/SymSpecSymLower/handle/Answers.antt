@@ -1,6 +1,6 @@
 use Rattle.std.proofs.Common.{◌+◌, arith}
-use Rattle.ygg_sym_laws.specs.ygg_sym_runs.Lower.{question_of}
-use Rattle.ygg_sym_laws.specs.ygg_sym_runs.Specs.{input_pick, spec_handles}
+use Rattle.ygg_sym_runs.specs.Lower.{question_of}
+use Rattle.ygg_sym_runs.specs.Specs.{input_pick, spec_handles}
 use Rattle.ygg_sym_spec.proofs.Asked.{answer_along, call_goes, can_cut, state_along}
 use Rattle.ygg_sym_spec.proofs.Going.{nodes_along}
 use Rattle.ygg_sym_spec.specs.Layers.{closed, terms_in}

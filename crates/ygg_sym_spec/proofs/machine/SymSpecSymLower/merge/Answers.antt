@@ -1,6 +1,6 @@
 use Rattle.std.proofs.Common.{subst, sym}
-use Rattle.ygg_sym_laws.specs.ygg_sym_runs.Lows.{LowShaped}
-use Rattle.ygg_sym_disk.proofs.Asked.{lows_alike, merged_single}
+use Rattle.ygg_sym_runs.specs.Lows.{LowShaped}
+use Rattle.ygg_sym_runs.proofs.MergedLows.{lows_alike, merged_single}
 use Rattle.ygg_sym_spec.proofs.machine.SymSpecSymLower.merge.Goals as goal
 
 pub merge_lows-requires-clause-values : goal.merge_lows-requires-clause-values

@@ -1,5 +1,5 @@
 use Rattle.std.proofs.Common.{◌≡◌, ◌+◌, sym, subst}
-use Rattle.ygg_sym_laws.specs.ygg_sym_runs.Specs.{given_pick}
+use Rattle.ygg_sym_runs.specs.Specs.{given_pick}
 use Rattle.ygg_sym_spec.proofs.Bits.{given_more}
 use Rattle.ygg_sym_spec.specs.Picking.{picking}
 use Rattle.ygg_sym_spec.proofs.picks.SymPicks.after.Goals as goal

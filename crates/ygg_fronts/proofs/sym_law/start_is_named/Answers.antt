@@ -1,5 +1,0 @@
-use Rattle.ygg_fronts.proofs.Others.{start_named}
-use Rattle.ygg_fronts.proofs.sym_law.start_is_named.Goals as goal
-
-pub returns : goal.returns
-returns c = start_named

@@ -1,0 +1,6 @@
+-- It is the lemma.
+use Rattle.ygg_meaning_laws.proofs.DirectTyped.{direct_on_spec}
+use Rattle.ygg_meaning_laws.proofs.direct_law.direct_on_spec.Goals as goal
+
+pub returns : goal.returns
+returns c = direct_on_spec

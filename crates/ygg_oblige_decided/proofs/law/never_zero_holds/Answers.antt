@@ -1,5 +1,0 @@
-use Rattle.ygg_oblige_decided.proofs.Deciding.{never_zero_holds}
-use Rattle.ygg_oblige_decided.proofs.law.never_zero_holds.Goals as goal
-
-pub returns : goal.returns
-returns c = never_zero_holds

@@ -1,0 +1,26 @@
+use Rattle.std.proofs.Common.{◌∙◌, List, sym, ap}
+use Rattle.ygg_syntax.specs.declared.tree.Declared.{Declared}
+use Rattle.ygg_replay.specs.ygg_meaning.Environments.{bind}
+use Rattle.ygg_replay.specs.ygg_meaning.Shapes.{values_fit}
+use Rattle.ygg_oblige_schedule.specs.ygg_eval_block.Layers.{variables_at}
+use Rattle.ygg_oblige_given.specs.ygg_oblige_laws.Inputs.{given_env}
+use Rattle.ygg_oblige_schedule.specs.Here.{file_of, inputs_of}
+use Rattle.ygg_oblige_schedule.proofs.Stands.{fits_at}
+use Rattle.ygg_oblige_schedule.proofs.reader.EnvironmentReader.low.Goals as goal
+
+pub values-requires-clause-fit : goal.values-requires-clause-fit
+values-requires-clause-fit c =
+    let r = c.args.self.now in
+    fits_at (inputs_of r) r.site.low.now _ c.in_ok-from.from _ c.requires.here.low_is c.in_ok-from.ensures c.requires.fit
+
+pub returns-clause-fits : goal.returns-clause-fits
+returns-clause-fits c =
+    let r = c.args.self.now in ap (λ (ds : List Declared). values_fit ds c.in_ok-low.low) (sym c.requires.here.low_is) ∙ c.in_ok-low.ensures.fits
+
+pub returns-clause-is : goal.returns-clause-is
+returns-clause-is c =
+    let r = c.args.self.now in
+    let low = variables_at (file_of r) r.site.place in
+    ap (λ (ds : List Declared). bind ds c.in_ok-low.low) (sym c.requires.here.low_is) ∙ c.in_ok-low.ensures.bound
+    ∙ ap (λ (ds : List Declared). given_env (inputs_of r) c.in_ok-from.from ds) c.requires.here.low_is
+    ∙ ap (λ n. given_env (inputs_of r) n low) c.in_ok-from.ensures

@@ -1,0 +1,26 @@
+use Rattle.std.proofs.Common.{◌≡◌, ◌∙◌, true, List, sym, ap, subst}
+use Rattle.ygg_syntax.specs.declared.tree.Declared.{Declared}
+use Rattle.ygg_replay.specs.ygg_meaning.Environments.{bind}
+use Rattle.ygg_replay.specs.ygg_meaning.Shapes.{env_fits, values_fit}
+use Rattle.ygg_oblige_given.specs.ygg_oblige_laws.Inputs.{given_env}
+use Rattle.ygg_oblige_given.specs.ygg_oblige_laws.LayerTerms.{ShapesKept}
+use Rattle.ygg_oblige_schedule.specs.Here.{inputs_of}
+use Rattle.ygg_oblige_schedule.proofs.reader.EnvironmentReader.state.Goals as goal
+
+pub values-requires-clause-shapes : goal.values-requires-clause-shapes
+values-requires-clause-shapes c = subst ShapesKept (sym c.as_slice-declared.ensures) c.requires.kept
+
+pub values-requires-clause-fit : goal.values-requires-clause-fit
+values-requires-clause-fit c =
+    let r = c.args.self.now in
+    subst (λ (ds : List Declared). env_fits ds (given_env (inputs_of r) r.site.states ds) ≡ true) (sym c.as_slice-declared.ensures) c.requires.fit
+
+pub returns-clause-fits : goal.returns-clause-fits
+returns-clause-fits c =
+    ap (λ (ds : List Declared). values_fit ds c.in_ok-state.state) (sym c.as_slice-declared.ensures) ∙ c.in_ok-state.ensures.fits
+
+pub returns-clause-is : goal.returns-clause-is
+returns-clause-is c =
+    let r = c.args.self.now in
+    subst (λ (ds : List Declared). bind ds c.in_ok-state.state ≡ given_env (inputs_of r) r.site.states ds) c.as_slice-declared.ensures
+    c.in_ok-state.ensures.bound

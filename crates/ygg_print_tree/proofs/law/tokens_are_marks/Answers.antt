@@ -1,5 +1,0 @@
-use Rattle.ygg_print_tree.proofs.Marks.{tokens_are}
-use Rattle.ygg_print_tree.proofs.law.tokens_are_marks.Goals as goal
-
-pub returns : goal.returns
-returns c text found is = tokens_are text found is

@@ -1,5 +1,0 @@
-use Rattle.std.proofs.Common.{◌≡◌, ◌*◌, ◌++◌, replicate}
-use Rattle.ygg_print_tree.proofs.layout.add_indentation.Given as goal
-
-abbrev pub invariant-loop : goal.invariant-loop
-invariant-loop l = l.text ≡ l.initial.text ++ replicate (2 * l.counter) 32

@@ -1,7 +1,0 @@
-use Rattle.std.proofs.Common.{◌≡◌, ◌++◌, drop, map}
-use Rattle.ygg_print_tree.specs.Plain.{plain_mark}
-use Rattle.ygg_print_tree.proofs.printer.Printer.tokens.Given as goal
-
--- those so far and those of what is left
-abbrev pub invariant-loop-token : goal.invariant-loop-token
-invariant-loop-token l = l.self-inside.marks ++ map plain_mark (drop l.token-index l.tokens) ≡ l.initial.self-inside.marks ++ map plain_mark l.tokens

@@ -1,6 +1,0 @@
-ghost use Rattle.ygg_read_layer.specs.Laws.{Complete};
-
-/// Where a file derives from tokens, the pending symbols take them all, so nothing derives where reading is refused.
-pub fn complete()
-    ensures { Complete }
-{}

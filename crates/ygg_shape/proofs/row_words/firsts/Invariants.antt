@@ -1,6 +1,0 @@
-use Rattle.std.proofs.Common.{◌≡◌, map, take}
-use Rattle.ygg_shape.specs.RowPlaces.{first}
-use Rattle.ygg_shape.proofs.row_words.firsts.Given as goal
-
-abbrev pub invariant-loop-single : goal.invariant-loop-single
-invariant-loop-single l = l.row ≡ map first (take l.single-index l.table)

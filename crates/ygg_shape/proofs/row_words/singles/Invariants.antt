@@ -1,6 +1,0 @@
-use Rattle.std.proofs.Common.{◌≡◌, take}
-use Rattle.ygg_shape.specs.RowPlaces.{singles}
-use Rattle.ygg_shape.proofs.row_words.singles.Given as goal
-
-abbrev pub invariant-loop-word : goal.invariant-loop-word
-invariant-loop-word l = l.table ≡ singles (take l.word-index l.row)

@@ -1,0 +1,50 @@
+use Rattle.std.proofs.Common.{◌∙◌, ◌+◌, ℕ, List, sym, subst}
+use Rattle.ygg_shape_words.specs.ygg_bank_proofs_Widths.{wider, extends_both}
+use Rattle.ygg_shape_cells.proofs.Wider.{row_at, row_wider}
+use Rattle.ygg_shape_words.specs.ygg_bank.declared.node.Id.{Id}
+use Rattle.ygg_shape_cells.specs.Guarding.{guarded_at}
+use Rattle.ygg_shape_cells.proofs.Steps.{EachFrom, each_from_goes}
+use Rattle.ygg_shape_cells.proofs.guarding.guard_all.Goals as goal
+
+pub guarded_at-requires-clause-test : goal.guarded_at-requires-clause-test
+guarded_at-requires-clause-test g c = wider c.args.bank.now c.loop-number.bank c.args.guard.test 1 c.loop-number.invariant.grows c.requires.test
+
+pub guarded_at-requires-clause-place : goal.guarded_at-requires-clause-place
+guarded_at-requires-clause-place g c = wider c.args.bank.now c.loop-number.bank c.args.guard.at c.args.guard.width c.loop-number.invariant.grows
+    c.requires.place
+
+pub guarded_at-requires-clause-rows : goal.guarded_at-requires-clause-rows
+guarded_at-requires-clause-rows g c =
+    let r = c.requires.rows in
+    record {
+      words = r.words;
+      width = r.width;
+      one_is = row_wider c.args.bank.now c.loop-number.bank r.words r.width c.args.new.now c.loop-number.invariant.grows r.row_is;
+      two_is = row_at c.args.bank.now c.loop-number.bank r.words r.width c.args.table.now c.loop-number.number c.as_slice.result.now _
+          c.loop-number.invariant.grows r.rows_are c.loop-number-test.true
+          (c.as_slice.ensures ∙ c.index-table-number.is);
+    }
+
+pub returns-in_err-row-clause-grows : goal.returns-in_err-row-clause-grows
+returns-in_err-row-clause-grows g c =
+    extends_both c.args.bank.now c.loop-number.bank c.guarded_at.new.bank c.loop-number.invariant.grows c.guarded_at.ensures.grows
+
+pub returns-in_err-push-clause-grows : goal.returns-in_err-push-clause-grows
+returns-in_err-push-clause-grows g c =
+    extends_both c.args.bank.now c.loop-number.bank c.guarded_at.new.bank c.loop-number.invariant.grows c.guarded_at.ensures.grows
+
+pub loop-number-preserved : goal.loop-number-preserved
+loop-number-preserved g c =
+    let kinds = g.B.Book.kinds c.args.book.now in
+    let step = λ (number : ℕ) (row : List Id). guarded_at kinds c.args.guard.test c.args.guard.at c.args.guard.width number c.args.new.now row in
+    let table = c.args.table.now in
+    let number = c.loop-number.number in
+    let old = c.args.bank.now in
+    let next = c.guarded_at.new.bank in
+    record {
+      went = subst (λ z. EachFrom step table old (number + 1) z next) (sym c.in_ok-push.ensures.ok)
+          (each_from_goes step table old number c.loop-number.rows c.loop-number.bank c.as_slice.result.now _ c.in_ok-row.row next c.loop-number-test.true
+          (c.as_slice.ensures ∙ c.index-table-number.is) c.in_ok-row.ensures.nodes c.in_ok-row.ensures.form c.loop-number.invariant.went);
+      grows = extends_both old c.loop-number.bank next c.loop-number.invariant.grows c.guarded_at.ensures.grows;
+      bank = c.guarded_at.ensures.bank;
+    }

@@ -1,0 +1,45 @@
+use Rattle.std.proofs.Common.{Some, refl, ap, ◌∙◌}
+use Rattle.ygg_shape_words.specs.ygg_bank_proofs_Widths.{wider, width_is, extends_both}
+use Rattle.ygg_shape_words.proofs.Fit.{alike, can_and}
+use Rattle.ygg_shape_cells.proofs.Wider.{rows_alike_wider}
+use Rattle.ygg_shape_cells.proofs.guarding.guarded_split.Goals as goal
+
+pub same-requires : goal.same-requires
+same-requires g c =
+    record {
+      words = alike c.make.new.self c.args.guard.at c.in_ok-constant.constant c.args.guard.width
+          (wider c.args.bank.now c.make.new.self c.args.guard.at c.args.guard.width c.make.ensures.grows c.requires.place) c.in_ok-constant.ensures.width;
+    }
+
+pub make-requires-2 : goal.make-requires-2
+make-requires-2 g c =
+    can_and c.same.new.bank c.args.guard.test c.in_ok-b.b 1
+    (wider c.args.bank.now c.same.new.bank c.args.guard.test 1
+    (extends_both c.args.bank.now c.make.new.self c.same.new.bank c.make.ensures.grows c.same.ensures.grows) c.requires.test)
+    c.in_ok-b.ensures.width
+
+pub merge_row-requires-clause-test : goal.merge_row-requires-clause-test
+merge_row-requires-clause-test g c =
+    c.in_ok-both.ensures.width ∙ ap (λ z. Some z) (width_is c.same.new.bank c.args.guard.test 1
+    (wider c.args.bank.now c.same.new.bank c.args.guard.test 1
+    (extends_both c.args.bank.now c.make.new.self c.same.new.bank c.make.ensures.grows c.same.ensures.grows) c.requires.test))
+
+pub merge_row-requires-clause-rows : goal.merge_row-requires-clause-rows
+merge_row-requires-clause-rows g c =
+    rows_alike_wider c.args.bank.now c.make-2.new.self c.args.yes.now c.args.no.now c.args.yes.now c.args.no.now
+    (extends_both c.args.bank.now c.make.new.self c.make-2.new.self c.make.ensures.grows
+    (extends_both c.make.new.self c.same.new.bank c.make-2.new.self c.same.ensures.grows c.make-2.ensures.grows)) c.requires.rows refl refl
+
+pub returns-in_err-b-clause-grows : goal.returns-in_err-b-clause-grows
+returns-in_err-b-clause-grows g c = extends_both c.args.bank.now c.make.new.self c.same.new.bank c.make.ensures.grows c.same.ensures.grows
+
+pub returns-in_err-both-clause-grows : goal.returns-in_err-both-clause-grows
+returns-in_err-both-clause-grows g c =
+    extends_both c.args.bank.now c.make.new.self c.make-2.new.self c.make.ensures.grows
+    (extends_both c.make.new.self c.same.new.bank c.make-2.new.self c.same.ensures.grows c.make-2.ensures.grows)
+
+pub returns-clause-grows : goal.returns-clause-grows
+returns-clause-grows g c =
+    extends_both c.args.bank.now c.make.new.self c.merge_row.new.bank c.make.ensures.grows
+    (extends_both c.make.new.self c.same.new.bank c.merge_row.new.bank c.same.ensures.grows
+    (extends_both c.same.new.bank c.make-2.new.self c.merge_row.new.bank c.make-2.ensures.grows c.merge_row.ensures.grows))

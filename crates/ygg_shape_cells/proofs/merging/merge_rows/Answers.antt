@@ -1,0 +1,21 @@
+use Rattle.std.proofs.Common.{◌∙◌}
+use Rattle.ygg_shape_words.specs.ygg_bank_proofs_Widths.{wider, extends_both}
+use Rattle.ygg_shape_cells.proofs.Wider.{rows_at}
+use Rattle.ygg_shape_cells.proofs.merging.merge_rows.Goals as goal
+
+pub merge_row-requires-clause-test : goal.merge_row-requires-clause-test
+merge_row-requires-clause-test g c = wider c.args.bank.now c.loop-place.bank c.args.test 1 c.loop-place.invariant.grows c.requires.test
+
+pub merge_row-requires-clause-rows : goal.merge_row-requires-clause-rows
+merge_row-requires-clause-rows g c =
+    rows_at c.args.bank.now c.loop-place.bank c.args.yes.now c.args.no.now c.loop-place.place c.as_slice.result.now _
+    c.as_slice-in-loop-place.result.now _ c.loop-place.invariant.grows c.requires.rows
+    c.loop-place-test.true (c.as_slice.ensures ∙ c.index-yes-place.is) (c.as_slice-in-loop-place.ensures ∙ c.index-no-place.is)
+
+pub returns-in_err-row-clause-grows : goal.returns-in_err-row-clause-grows
+returns-in_err-row-clause-grows g c =
+    extends_both c.args.bank.now c.loop-place.bank c.merge_row.new.bank c.loop-place.invariant.grows c.merge_row.ensures.grows
+
+pub returns-in_err-push-clause-grows : goal.returns-in_err-push-clause-grows
+returns-in_err-push-clause-grows g c =
+    extends_both c.args.bank.now c.loop-place.bank c.merge_row.new.bank c.loop-place.invariant.grows c.merge_row.ensures.grows

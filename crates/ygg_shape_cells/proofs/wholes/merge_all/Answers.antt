@@ -1,0 +1,54 @@
+use Rattle.std.proofs.Common.{◌≡◌, OnOk, IfOk, subst}
+use Rattle.ygg_shape_words.specs.ygg_bank_proofs_Exist.{keeps_values}
+use Rattle.ygg_shape_words.specs.ygg_bank.Inputs.{InputsBelow}
+use Rattle.ygg_shape_words.proofs.Keeps.{inputs_stay, kept}
+use Rattle.ygg_shape_cells.proofs.Whole.{merged_all_shaped, merged_all_keeps, merged_all_value}
+use Rattle.ygg_shape_cells.specs.Wholes.{AreMerged, merged_all}
+use Rattle.ygg_shape_cells.proofs.wholes.merge_all.Goals as goal
+
+pub returns-clause-keeps : goal.returns-clause-keeps
+returns-clause-keeps g c = keeps_values c.args.bank.now c.merge_all_by.new.bank c.merge_all_by.ensures.grows
+
+pub returns-clause-value : goal.returns-clause-value
+returns-clause-value g c =
+    let kinds = g.B.Book.kinds c.args.book.now in
+    let old = c.args.bank.now in
+    let new = c.merge_all_by.new.bank in
+    let r = c.merge_all_by.result in
+    let t = c.args.test in
+    let one = c.as_slice.ensures in
+    let two = c.as_slice-2.ensures in
+    merged_all_value kinds t c.args.yes.now c.args.no.now old new r c.merge_all_by.ensures.bank c.requires.test
+    (subst (λ z. OnOk r (new ≡ (merged_all kinds t z c.args.no.now old).nodes)) one
+    (subst (λ z. OnOk r (new ≡ (merged_all kinds t c.as_slice.result.now z old).nodes)) two c.merge_all_by.ensures.nodes))
+    (subst (λ z. IfOk r (λ answers. answers ≡ (merged_all kinds t z c.args.no.now old).value)) one
+    (subst (λ z. IfOk r (λ answers. answers ≡ (merged_all kinds t c.as_slice.result.now z old).value)) two c.merge_all_by.ensures.form))
+    c.requires.values
+
+pub returns-clause-shape : goal.returns-clause-shape
+returns-clause-shape g c shapes p q =
+    let kinds = g.B.Book.kinds c.args.book.now in
+    let old = c.args.bank.now in
+    let new = c.merge_all_by.new.bank in
+    let r = c.merge_all_by.result in
+    let t = c.args.test in
+    let one = c.as_slice.ensures in
+    let two = c.as_slice-2.ensures in
+    merged_all_shaped kinds t shapes c.args.yes.now c.args.no.now old new r c.merge_all_by.ensures.bank c.requires.test
+    (subst (λ z. OnOk r (new ≡ (merged_all kinds t z c.args.no.now old).nodes)) one
+    (subst (λ z. OnOk r (new ≡ (merged_all kinds t c.as_slice.result.now z old).nodes)) two c.merge_all_by.ensures.nodes))
+    (subst (λ z. IfOk r (λ answers. answers ≡ (merged_all kinds t z c.args.no.now old).value)) one
+    (subst (λ z. IfOk r (λ answers. answers ≡ (merged_all kinds t c.as_slice.result.now z old).value)) two c.merge_all_by.ensures.form))
+    p q
+
+pub returns-clause-inputs : goal.returns-clause-inputs
+returns-clause-inputs g c =
+    let kinds = g.B.Book.kinds c.args.book.now in
+    let old = c.args.bank.now in
+    let new = c.merge_all_by.new.bank in
+    let r = c.merge_all_by.result in
+    let t = c.args.test in
+    kept old new (merged_all kinds t c.args.yes.now c.args.no.now old).nodes r
+    (subst (λ z. OnOk r (new ≡ (merged_all kinds t z c.args.no.now old).nodes)) c.as_slice.ensures
+    (subst (λ z. OnOk r (new ≡ (merged_all kinds t c.as_slice.result.now z old).nodes)) c.as_slice-2.ensures c.merge_all_by.ensures.nodes))
+    (λ next. merged_all_keeps kinds (InputsBelow next) (inputs_stay kinds next) t c.args.yes.now c.args.no.now old)

@@ -1,0 +1,42 @@
+use Rattle.std.proofs.Common.{[], ◌∷◌, ◌++◌, ◌+◌, ◌<◌, length, sym, subst, arith}
+use Rattle.ygg_shape_words.specs.ygg_bank_proofs_Widths.{wider, extends_both}
+use Rattle.ygg_shape_cells.specs.Making.{merged}
+use Rattle.ygg_shape_cells.proofs.Steps.{EachTwo, each_two_goes}
+use Rattle.ygg_shape_cells.proofs.Whole.{alike_at, same_count}
+use Rattle.ygg_shape_cells.proofs.wholes.merge_all_by.Goals as goal
+
+pub bounds-no-place : goal.bounds-no-place
+bounds-no-place g c =
+    let h = c.requires.values in omega (arith, same_count c.args.bank.now h.shapes c.args.yes.now c.args.no.now h.ones_are h.twos_are, c.loop-place-test.true)
+
+pub merge-requires-clause-test : goal.merge-requires-clause-test
+merge-requires-clause-test g c = wider c.args.bank.now c.loop-place.bank c.args.test 1 c.loop-place.invariant.grows c.requires.test
+
+pub merge-requires-clause-values : goal.merge-requires-clause-values
+merge-requires-clause-values g c =
+    let h = c.requires.values in
+    alike_at c.args.bank.now c.loop-place.bank h.shapes c.args.yes.now c.args.no.now c.loop-place.place c.index-yes-place.result _
+    c.index-no-place.result _ c.loop-place.invariant.grows h.ones_are h.twos_are c.loop-place-test.true c.index-yes-place.is c.index-no-place.is
+
+pub loop-place-preserved : goal.loop-place-preserved
+loop-place-preserved g c =
+    let h = c.requires.values in
+    let step = merged (g.B.Book.kinds c.args.book.now) c.args.test in
+    let q : c.loop-place.place < length c.args.no.now =
+    omega (arith, same_count c.args.bank.now h.shapes c.args.yes.now c.args.no.now h.ones_are h.twos_are, c.loop-place-test.true) in
+    record {
+      went = subst (λ z. EachTwo step c.args.yes.now c.args.no.now c.args.bank.now (c.loop-place.place + 1) z c.merge.new.bank) (sym c.in_ok-push.ensures.ok)
+          (each_two_goes step c.args.yes.now c.args.no.now c.args.bank.now c.loop-place.place c.loop-place.answers c.loop-place.bank c.index-yes-place.result _
+          c.index-no-place.result _ c.in_ok-answer.answer c.merge.new.bank c.loop-place-test.true q c.index-yes-place.is c.index-no-place.is
+          c.in_ok-answer.ensures.nodes c.in_ok-answer.ensures.form c.loop-place.invariant.went);
+      grows = extends_both c.args.bank.now c.loop-place.bank c.merge.new.bank c.loop-place.invariant.grows c.merge.ensures.grows;
+      bank = c.merge.ensures.bank;
+    }
+
+pub returns-in_err-answer-clause-grows : goal.returns-in_err-answer-clause-grows
+returns-in_err-answer-clause-grows g c =
+    extends_both c.args.bank.now c.loop-place.bank c.merge.new.bank c.loop-place.invariant.grows c.merge.ensures.grows
+
+pub returns-in_err-push-clause-grows : goal.returns-in_err-push-clause-grows
+returns-in_err-push-clause-grows g c =
+    extends_both c.args.bank.now c.loop-place.bank c.merge.new.bank c.loop-place.invariant.grows c.merge.ensures.grows

@@ -1,5 +1,0 @@
-use Rattle.ygg_type_sound.proofs.Sounds.{sound}
-use Rattle.ygg_type_sound.proofs.law.expressions_are_sound.Goals as goal
-
-pub returns : goal.returns
-returns c = λ functions e scope env agrees h. (sound functions e).gives scope env agrees h

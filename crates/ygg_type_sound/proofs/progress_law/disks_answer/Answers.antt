@@ -1,5 +1,0 @@
-use Rattle.ygg_type_sound.proofs.Sizes.{disk_answers_all}
-use Rattle.ygg_type_sound.proofs.progress_law.disks_answer.Goals as goal
-
-pub returns : goal.returns
-returns c = disk_answers_all
