@@ -3,7 +3,7 @@ pub use Rattle.ygg_oblige_schedule.proofs.of_ygg_meaning_laws
 pub mod Placed
 pub mod Exactly
 pub mod Lists
-pub mod Counting
+pub mod Listed
 pub mod NumbersAfter
 pub mod Walking
 pub mod Placing

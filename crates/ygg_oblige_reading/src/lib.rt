@@ -2,12 +2,10 @@
 //! environment names for it.
 #![tactic(auto)]
 
-mod listed;
 mod reading;
 mod site;
 mod starts;
 
-pub use listed::{Listed, obligation_at};
 pub use reading::{schedule, schedule_at};
 pub use site::site_at;
 pub use ygg_oblige::{Obligation, obligations};

@@ -6,6 +6,7 @@ ghost use Rattle.ygg_oblige_list.specs.ygg_meaning.Stack.{layers_of, tables_of};
 ghost use Rattle.ygg_oblige_list.specs.ygg_meaning.Obligations.{obligations_of};
 ghost use Rattle.ygg_oblige.specs.Sites.{below_in};
 ghost use Rattle.ygg_oblige.specs.ygg_sym_spec.Layers.{closed};
+ghost use Rattle.ygg_oblige_list.specs.Listing.{AreNumbered, asked_in};
 ghost use Rattle.ygg_oblige.specs.Adding.{after_at, after_layer_at};
 ghost use Rattle.ygg_oblige.specs.Making.{SiteFits};
 ghost use Rattle.ygg_oblige.specs.Numbering.{numbers_in};
@@ -15,56 +16,57 @@ ghost use Rattle.ygg_oblige.specs.ygg_oblige_laws.TypedLayers.{LayersTyped};
 ghost use Rattle.ygg_oblige_reading.specs.Listing.{StandsIn};
 ghost use Rattle.ygg_oblige_reading.specs.Sites.{IsInLayer, IsPlaced};
 
-use crate::listed::{number_of, obligation_at};
-use crate::starts::{count_of, start_of};
+use crate::starts::number_after;
 use std::alloc::Global;
 use ygg_list::NoMemory;
 use ygg_oblige::{Maker, SymBelow, SymLayer, after_states, numbers_of};
+use ygg_oblige_list::{Asked, asked_of, place_of};
 use ygg_oblige_schedule::Site;
 use ygg_rules::Book;
-use ygg_syntax::tree::{Declared, File, Layer};
+use ygg_syntax::tree::{Declared, File};
 
 /// The obligation at a place in the list of a layer with a place, where the inputs of the layer's states are numbered on from a number. Its only error is
 /// out of memory.
 fn site_in<'a, B: Book>(
     maker: &Maker<'a, B>,
+    asked: &[Asked<'a>],
     layer: u32,
     states: u64,
     place: usize,
 ) -> Result<Site<'a>, NoMemory>
     requires site { SiteFits maker.now.layer maker.now.below }
-    requires there { place < length (obligations_of maker.now.layer.layer.now) }
+    requires asked { asked_in asked.now ≡ obligations_of maker.now.layer.layer.now }
+    requires numbered { AreNumbered maker.now.layer.layer.now asked.now }
+    requires there { place < length asked.now }
     ensures { IfOk result (IsInLayer (B.kinds maker.now.book.now) maker.now.layer maker.now.below layer states place) }
 {
-    let Some(listed) = obligation_at(maker.layer.layer, place)? else {
-        unreachable!();
-    };
     let first = after_states(maker, states)?;
-    let start = start_of(maker, place, first)?;
-    let numbers = numbers_of(maker, listed.obligation, start)?;
+    let start = number_after(maker, &asked[..place], first)?;
+    let one = asked[place];
+    let numbers = numbers_of(maker, one.obligation, start)?;
     Ok(Site {
         layer: maker.layer.layer,
         place: layer,
         low: maker.layer.low,
-        obligation: listed.obligation,
-        number: listed.number,
+        obligation: one.obligation,
+        number: one.number,
         states,
         numbers,
     })
 }
 
-/// The number after the inputs of a layer that are numbered on from a number. Its only error is out of memory.
+/// The number after the inputs of a layer, whose obligations these are, that are numbered on from a number. Its only error is out of memory.
 fn after_layer<'a, B: Book>(
     maker: &Maker<'a, B>,
+    asked: &[Asked<'a>],
     number: u64,
-    count: usize,
 ) -> Result<u64, NoMemory>
     requires site { SiteFits maker.now.layer maker.now.below }
-    requires count { count ≡ length (obligations_of maker.now.layer.layer.now) }
+    requires asked { asked_in asked.now ≡ obligations_of maker.now.layer.layer.now }
     ensures { IfOk result (λ n. n ≡ after_layer_at (B.kinds maker.now.book.now) maker.now.layer maker.now.below number) }
 {
     let first = after_states(maker, number)?;
-    start_of(maker, count, first)
+    number_after(maker, asked, first)
 }
 
 /// The obligation at a place in a file's list, whose disk shows these tables. Its only error is out of memory.
@@ -96,14 +98,16 @@ pub fn site_at<'a, B: Book>(
             layer: at,
             below,
         };
-        let count = count_of(layer)?;
+        let listed = asked_of(alloc, layer)?;
+        let asked = listed.as_slice();
+        let count = asked.len();
         if left < count {
-            let layer_number = number_of(i)?;
-            let site = site_in(&maker, layer_number, number, left)?;
+            let layer_number = place_of(i)?;
+            let site = site_in(&maker, asked, layer_number, number, left)?;
             return Ok(site);
         }
         left -= count;
-        number = after_layer(&maker, number, count)?;
+        number = after_layer(&maker, asked, number)?;
         low = layer.state.as_slice();
         below = SymBelow::Layer(at);
     }

@@ -1,4 +1,5 @@
 pub mod Budget
 pub mod Definitions
+pub mod Known
 pub mod Weights
 pub mod Table

@@ -5,11 +5,10 @@ ghost use Rattle.ygg_syntax_count.specs.Budget.{limit};
 pub const LIMIT: u64 = 1_000_000;
 
 /// What is left of a budget after so many times what one time takes, where one time leaves `after_one`.
-#[tactic(auto, using(crate::proofs::Limits::taken_often))]
 pub fn repeated(left: u64, count: u64, after_one: u64) -> u64
     requires within { left ≤ limit }
     requires less { after_one ≤ left }
     ensures { (one : ℕ) → after_one ≡ left - one → result ≡ left - count * one }
 {
-    left.saturating_sub(count.min(LIMIT) * (left - after_one))
+    left.saturating_sub(count.saturating_mul(left - after_one))
 }

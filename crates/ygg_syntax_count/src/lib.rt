@@ -3,7 +3,6 @@
 #![tactic(auto)]
 
 pub mod budget;
-mod budgets;
 mod steps;
 mod table;
 mod weigh;

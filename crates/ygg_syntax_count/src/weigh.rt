@@ -3,8 +3,8 @@ ghost use Rattle.ygg_syntax_count.specs.Budget.{limit};
 ghost use Rattle.ygg_syntax_count.specs.Weights.{weights_of, expr_weight, block_weight};
 
 use crate::budget::LIMIT;
-use crate::budgets;
 use crate::table::Weights;
+use crate::weights::{self, Known};
 use ygg_list::NoMemory;
 use ygg_syntax::tree::{Block, Def, Expr};
 
@@ -26,13 +26,13 @@ impl<'a> Weights<'a> {
     pub fn expression(&self, e: &Expr) -> u64
         ensures { result ≡ min limit (expr_weight (weights_of self.now) e.now) }
     {
-        LIMIT - budgets::expression(self, e, LIMIT)
+        LIMIT - weights::expression(Known::Table(self), e, LIMIT)
     }
 
     /// The weight of a block, counted in the same way, or 1,000,000 where it is more. It takes no memory.
     pub fn block(&self, block: &Block) -> u64
         ensures { result ≡ min limit (block_weight (weights_of self.now) block.now) }
     {
-        LIMIT - budgets::block(self, block, LIMIT)
+        LIMIT - weights::block(Known::Table(self), block, LIMIT)
     }
 }

@@ -1,5 +1,8 @@
+//! What a block or an expression leaves of a budget, over definitions that are searched for and weighed again at each use, or over a table of their weights.
+
 ghost use Rattle.std.specs.Prelude.{◌≡◌, ◌≤◌, ◌-◌, min, sum, map, IfSome, IfNone};
 ghost use Rattle.ygg_syntax_count.specs.Budget.{limit};
+ghost use Rattle.ygg_syntax_count.specs.Known.{known_weights};
 ghost use Rattle.ygg_syntax_count.specs.Weights.{
   weights_of,
   weight_at,
@@ -15,7 +18,17 @@ ghost use Rattle.ygg_syntax_count.specs.Weights.{
 ghost use Rattle.ygg_syntax_count.specs.Definitions.{WeighsAsAt};
 
 use crate::budget::{LIMIT, repeated};
+use crate::table::Weights;
 use ygg_syntax::tree::{Block, Def, Expr, File, Index, Source, Stmt};
+
+/// Where the weight of a name's definition is found.
+#[derive(Clone, Copy)]
+pub enum Known<'a, 'b> {
+    /// Among definitions, whose expressions are weighed at each use, each over those before it. This takes no memory.
+    Defs(&'a [Def]),
+    /// In a table, where it was counted once.
+    Table(&'a Weights<'b>),
+}
 
 /// The weight of a block of a layer of the file, or 1,000,000 where it is more: one for each part, what is repeated as often,
 /// and for each use of a definition the weight of its expression besides. The time is that of as many steps, and of the
@@ -23,73 +36,70 @@ use ygg_syntax::tree::{Block, Def, Expr, File, Index, Source, Stmt};
 pub fn weight(file: &File, block: &Block) -> u64
     ensures { result ≡ min limit (weight_in file.now block.now) }
 {
-    LIMIT - self::block(file.defs.as_slice(), block, LIMIT)
+    LIMIT - self::block(Known::Defs(file.defs.as_slice()), block, LIMIT)
 }
 
 /// What a block leaves of a budget.
 #[cycle(blocks)]
-fn block(defs: &[Def], block: &Block, left: u64) -> u64
+pub fn block(known: Known<'_, '_>, block: &Block, left: u64) -> u64
     requires { left ≤ limit }
-    ensures { result ≡ left - block_weight (weights_of defs.now) block.now }
+    ensures { result ≡ left - block_weight (known_weights known.entry) block.now }
 {
-    let rest = statements(defs, block.statements.as_slice(), left);
-    answer(defs, &block.answer, rest)
+    let rest = statements(known, block.statements.as_slice(), left);
+    answer(known, &block.answer, rest)
 }
 
 /// What statements leave of a budget.
 #[cycle(blocks)]
-fn statements(defs: &[Def], statements: &[Stmt], left: u64) -> u64
+fn statements(known: Known<'_, '_>, statements: &[Stmt], left: u64) -> u64
     requires { left ≤ limit }
-    ensures { result ≡ left - sum (map (stmt_weight (weights_of defs.now)) statements.now) }
+    ensures { result ≡ left - sum (map (stmt_weight (known_weights known.entry)) statements.now) }
 {
     let mut rest = left;
     for one in statements {
-        rest = statement(defs, one, rest);
+        rest = statement(known, one, rest);
     }
     rest
 }
 
 /// What a statement leaves of a budget.
 #[cycle(blocks)]
-fn statement(defs: &[Def], statement: &Stmt, left: u64) -> u64
+fn statement(known: Known<'_, '_>, statement: &Stmt, left: u64) -> u64
     requires { left ≤ limit }
-    ensures { result ≡ left - stmt_weight (weights_of defs.now) statement.now }
+    ensures { result ≡ left - stmt_weight (known_weights known.entry) statement.now }
 {
     if left == 0 {
         return 0;
     }
     match statement {
-        Stmt::Let(_, from) => source(defs, from, left - 1),
+        Stmt::Let(_, from) => source(known, from, left - 1),
         Stmt::Assign(_, indices, from) => {
-            let rest = self::indices(defs, indices.as_slice(), left - 1);
-            source(defs, from, rest)
+            let rest = self::indices(known, indices.as_slice(), left - 1);
+            source(known, from, rest)
         }
         Stmt::If(test, first, second) => {
-            let rest = expression(defs, test, left - 1);
-            let rest = block(defs, first, rest);
-            block(defs, second, rest)
+            let rest = expression(known, test, left - 1);
+            let rest = block(known, first, rest);
+            block(known, second, rest)
         }
         Stmt::For(_, _, count, each) => {
-            if count.value == 0 {
-                return left - 1;
-            }
-            let after_one = block(defs, each, (left - 1).saturating_sub(1));
+            let after_one = block(known, each, (left - 1).saturating_sub(1));
             repeated(left - 1, count.value, after_one)
         }
-        Stmt::Call(_, arguments) => expressions(defs, arguments.as_slice(), left - 1),
+        Stmt::Call(_, arguments) => expressions(known, arguments.as_slice(), left - 1),
     }
 }
 
 /// What a right side leaves of a budget.
-fn source(defs: &[Def], from: &Source, left: u64) -> u64
+fn source(known: Known<'_, '_>, from: &Source, left: u64) -> u64
     requires { left ≤ limit }
-    ensures { result ≡ left - source_weight (weights_of defs.now) from.now }
+    ensures { result ≡ left - source_weight (known_weights known.entry) from.now }
 {
     match from {
-        Source::Value(e) => expression(defs, e, left),
+        Source::Value(e) => expression(known, e, left),
         Source::Choose(_) => left.saturating_sub(1),
         Source::Call(_, _, arguments) => expressions(
-            defs,
+            known,
             arguments.as_slice(),
             left.saturating_sub(1),
         ),
@@ -97,46 +107,46 @@ fn source(defs: &[Def], from: &Source, left: u64) -> u64
 }
 
 /// What the indices of an assignment leave of a budget.
-fn indices(defs: &[Def], indices: &[Index], left: u64) -> u64
+fn indices(known: Known<'_, '_>, indices: &[Index], left: u64) -> u64
     requires { left ≤ limit }
-    ensures { result ≡ left - indices_weight (weights_of defs.now) indices.now }
+    ensures { result ≡ left - indices_weight (known_weights known.entry) indices.now }
 {
     let mut rest = left;
     for index in indices {
-        rest = expression(defs, &index.at, rest);
+        rest = expression(known, &index.at, rest);
     }
     rest
 }
 
 /// What a block's answer leaves of a budget.
-fn answer(defs: &[Def], answer: &Option<Expr>, left: u64) -> u64
+fn answer(known: Known<'_, '_>, answer: &Option<Expr>, left: u64) -> u64
     requires { left ≤ limit }
-    ensures { result ≡ left - answer_weight (weights_of defs.now) answer.now }
+    ensures { result ≡ left - answer_weight (known_weights known.entry) answer.now }
 {
     match answer {
         None => left,
-        Some(e) => expression(defs, e, left.saturating_sub(1)),
+        Some(e) => expression(known, e, left.saturating_sub(1)),
     }
 }
 
 /// What expressions leave of a budget.
 #[cycle(expression)]
-fn expressions(defs: &[Def], expressions: &[Expr], left: u64) -> u64
+fn expressions(known: Known<'_, '_>, expressions: &[Expr], left: u64) -> u64
     requires { left ≤ limit }
-    ensures { result ≡ left - exprs_weight (weights_of defs.now) expressions.now }
+    ensures { result ≡ left - exprs_weight (known_weights known.entry) expressions.now }
 {
     let mut rest = left;
     for e in expressions {
-        rest = expression(defs, e, rest);
+        rest = expression(known, e, rest);
     }
     rest
 }
 
 /// What an expression leaves of a budget.
 #[cycle(expression)]
-fn expression(defs: &[Def], e: &Expr, left: u64) -> u64
+pub fn expression(known: Known<'_, '_>, e: &Expr, left: u64) -> u64
     requires { left ≤ limit }
-    ensures { result ≡ left - expr_weight (weights_of defs.now) e.now }
+    ensures { result ≡ left - expr_weight (known_weights known.entry) e.now }
 {
     if left == 0 {
         return 0;
@@ -147,45 +157,48 @@ fn expression(defs: &[Def], e: &Expr, left: u64) -> u64
         Expr::Low(_, _) => rest,
         Expr::Variable(_) => rest,
         Expr::Apply(f, arguments) => {
-            let rest = expressions(defs, arguments.as_slice(), rest);
-            definition(defs, f.text.as_slice(), rest)
+            let rest = expressions(known, arguments.as_slice(), rest);
+            definition(known, f.text.as_slice(), rest)
         }
         Expr::Binary(_, first, _, _, second) => {
-            let rest = expression(defs, first.get(), rest);
-            expression(defs, second.get(), rest)
+            let rest = expression(known, first.get(), rest);
+            expression(known, second.get(), rest)
         }
-        Expr::Not(_, part) => expression(defs, part.get(), rest),
+        Expr::Not(_, part) => expression(known, part.get(), rest),
         Expr::At(whole, _, index) => {
-            let rest = expression(defs, whole.get(), rest);
-            expression(defs, index.get(), rest)
+            let rest = expression(known, whole.get(), rest);
+            expression(known, index.get(), rest)
         }
         Expr::Pick(_, test, first, second) => {
-            let rest = expression(defs, test.get(), rest);
-            let rest = expression(defs, first.get(), rest);
-            expression(defs, second.get(), rest)
+            let rest = expression(known, test.get(), rest);
+            let rest = expression(known, first.get(), rest);
+            expression(known, second.get(), rest)
         }
-        Expr::Resize(_, part, _) => expression(defs, part.get(), rest),
-        Expr::Fill(_, _, part) => expression(defs, part.get(), rest),
-        Expr::Row(_, parts) => expressions(defs, parts.as_slice(), rest),
+        Expr::Resize(_, part, _) => expression(known, part.get(), rest),
+        Expr::Fill(_, _, part) => expression(known, part.get(), rest),
+        Expr::Row(_, parts) => expressions(known, parts.as_slice(), rest),
         Expr::Quantified(_, _, _, _, count, part) => {
             if count.value == 0 {
                 return rest;
             }
-            let after_one = expression(defs, part.get(), rest.saturating_sub(1));
+            let after_one = expression(known, part.get(), rest.saturating_sub(1));
             repeated(rest, count.value, after_one)
         }
     }
 }
 
-/// What the expression of a definition leaves of a budget.
+/// What the expression of a name's definition leaves of a budget.
 #[cycle(expression)]
-fn definition(defs: &[Def], name: &[u8], left: u64) -> u64
+fn definition(known: Known<'_, '_>, name: &[u8], left: u64) -> u64
     requires { left ≤ limit }
-    ensures { result ≡ left - weight_at (weights_of defs.now) name.now }
+    ensures { result ≡ left - weight_at (known_weights known.entry) name.now }
 {
-    match first_of(defs, name) {
-        Some(place) => expression(&defs[..place], &defs[place].body, left),
-        None => left,
+    match known {
+        Known::Defs(defs) => match first_of(defs, name) {
+            Some(place) => expression(Known::Defs(&defs[..place]), &defs[place].body, left),
+            None => left,
+        },
+        Known::Table(table) => left.saturating_sub(table.first_of(name)),
     }
 }
 

@@ -1,4 +1,4 @@
-use Rattle.std.proofs.Common.{List, sym, subst}
+use Rattle.std.proofs.Common.{List, subst}
 use Rattle.ygg_oblige.specs.ygg_bank.Nodes.{IsBank}
 use Rattle.ygg_oblige.specs.ygg_bank.Values.{InputsFit, inputs_of}
 use Rattle.ygg_oblige.specs.ygg_bank.declared.node.Node.{Node}

@@ -2,6 +2,8 @@ use Rattle.std.proofs.Common.{◌≡◌, ◌≤◌, ◌+◌, ◌-◌, ℕ, List,
 use Rattle.std.proofs.Math.ListN.{drop_of_length-le}
 use Rattle.ygg_syntax.specs.declared.tree.Layer.{Layer}
 use Rattle.ygg_oblige.proofs.Walking.{next_layer}
+use Rattle.ygg_oblige_list.specs.Listing.{asked_in}
+use Rattle.ygg_oblige_reading.proofs.Listed.{as_many}
 use Rattle.ygg_oblige_reading.proofs.Placing.{placed}
 use Rattle.ygg_oblige_reading.proofs.Walking.{Walked, found_there, site_fits, walk_begun, walked_on, walked_past}
 use Rattle.ygg_oblige_reading.proofs.site.site_at.Goals as goal
@@ -51,13 +53,14 @@ loop-i-preserved g c =
     let file = c.args.file.now in
     let kinds = g.B.Book.kinds c.args.book.now in
     let now = c.loop-i in
-    let count = c.in_ok-count.count in
+    let count = length c.as_slice-asked.result.now in
     let left = now.left - count in
     walked_on kinds file c.args.place _ now.below (drop (now.i + 1) file.layers) now.i now.number now.left c.as_slice.ensures
     (subst (λ (z : List Layer). Walked kinds file c.args.place now.low.now z now.i now.below now.number now.left)
     (next_layer file.layers c.as_slice-layer-items.result.now now.i c.layer-item.result _ c.as_slice-layer-items.ensures c.loop-i-test.true c.layer-item.is)
     now.invariant) c.as_slice-low.result.now c.in_ok-number.number left c.as_slice-low.ensures c.in_ok-number.ensures
-    (ap (λ n. n + left) (sym c.in_ok-count.ensures) ∙ rest_of count now.left c.if-left-count.false)
+    (ap (λ n. n + left) (sym (as_many _ _ (ap asked_in c.as_slice-asked.ensures.value ∙ c.in_ok-listed.ensures.asked)))
+    ∙ rest_of count now.left c.if-left-count.false)
 
 pub unreachable-requires : goal.unreachable-requires
 unreachable-requires g c =
