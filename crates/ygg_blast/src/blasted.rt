@@ -18,7 +18,7 @@ use std::marker::Model;
 use ygg_bank::{Bank, Env, Given, Id, reached};
 use ygg_cnf::{Assignment, ClauseSink, Clauses, Lit, truth};
 use ygg_gates::{InputVariables, groups_are_of_reached_nodes};
-use ygg_gates_circuit::true_literal;
+use ygg_gates_operation::true_literal;
 use ygg_list::{NoMemory, Sequence};
 use ygg_value::Word;
 

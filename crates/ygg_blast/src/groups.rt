@@ -13,7 +13,7 @@ use std::marker::Model;
 use ygg_bank::{Bank, Id, Node};
 use ygg_cnf::Lit;
 use ygg_gates::{Gate, InputVariables, Joint};
-use ygg_gates_circuit::{
+use ygg_gates_operation::{
     BitLiterals, complements, constant_bits, free_bits, join_each, lowest, operation, resized,
 };
 use ygg_list::{NoMemory, Sequence};

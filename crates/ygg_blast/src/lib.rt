@@ -12,6 +12,6 @@ pub use groups::Groups;
 pub use ygg_bank::{Bank, Env, Id};
 pub use ygg_cnf::{Clause, Lit, Log, derivations_are_sound};
 pub use ygg_gates::{Gate, InputVariables, clauses_mean_terms};
-pub use ygg_gates_circuit::true_literal;
+pub use ygg_gates_operation::true_literal;
 pub use ygg_list::NoMemory;
 pub use ygg_rules::{Book, RuleBook};

@@ -7,7 +7,7 @@ use indexmap::IndexMap;
 use std::alloc::Global;
 use std::marker::Model;
 use ygg_cnf::Lit;
-use ygg_gates_circuit::BitLiterals;
+use ygg_gates_operation::BitLiterals;
 use ygg_list::NoMemory;
 
 /// The bits of nodes by place, as many nodes as were looked at. Those of nodes that aren't reached are none and take no memory.

@@ -1,16 +1,17 @@
-//! The gates of an operation.
+//! The gates of an operation on words.
+#![tactic(auto)]
 
 ghost use Rattle.std.specs.Prelude.{◌≡◌, OnOk, IfOk};
 ghost use Rattle.ygg_gates.specs.Rows.{operation};
 
-use crate::bits::{BitLiterals, complements, copies, false_literal};
-use crate::comparisons::{is_at_least, is_different, is_equal, is_less};
-use crate::pairs::join_each;
-use crate::shifts::shift;
-use crate::sums::{add, multiply, subtract};
 use std::alloc::Global;
 use ygg_cnf::Lit;
 use ygg_gates::{Gate, Joint, Way};
+use ygg_gates_circuit::comparisons::{is_at_least, is_different, is_equal, is_less};
+use ygg_gates_circuit::{add, copies, false_literal, multiply, shift, subtract};
+pub use ygg_gates_circuit::{
+    BitLiterals, complements, constant_bits, free_bits, join_each, lowest, resized, true_literal,
+};
 use ygg_list::NoMemory;
 use ygg_value::Op;
 
