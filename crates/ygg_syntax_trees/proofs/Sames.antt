@@ -1,9 +1,10 @@
 -- When trees are the same but for places.
-use Rattle.std.proofs.Common.{◌≡◌, ◌↔◌, sym, ap, ◌∙◌}
+use Rattle.std.proofs.Common.{◌≡◌, ◌↔◌, sym, ap, ◌∙◌, List, map}
 use Rattle.ygg_syntax.specs.declared.tree.Place.{Place}
 use Rattle.ygg_syntax.specs.declared.tree.Name.{Name}
 use Rattle.ygg_syntax.specs.declared.tree.Numeral.{Numeral}
 use Rattle.ygg_syntax.specs.declared.tree.Quantifier.{Quantifier}
+use Rattle.ygg_value.specs.declared.Op.{Op}
 use Rattle.ygg_syntax.specs.declared.tree.Expr.{Expr, roll-Expr, map-Expr, out-Expr, out-roll-Expr}
 use Rattle.ygg_syntax.specs.declared.tree.Expr.TheVariants as expr
 use Rattle.ygg_syntax.specs.declared.tree.Expr.TheOpen.{Expr-F}
@@ -26,15 +27,74 @@ same_opened {a} {b} x y ea eb =
     let right : bare b ≡ roll-Expr (opened y) = ap bare eb ∙ fold-roll-Expr Expr (λ e. roll-Expr (node_bare e)) y in
     (λ same. left ∙ ap roll-Expr same ∙ sym right, λ same. sym (out-roll-Expr (opened x)) ∙ ap out-Expr (sym left ∙ same ∙ right) ∙ out-roll-Expr (opened y))
 
+-- definitions at arguments are the same where the names and the arguments are
+pub same_apply : {a b : Expr} (f g : Name) (es ds : List Expr) → a ≡ expr.Apply f es → b ≡ expr.Apply g ds
+    → ((bare_name f ≡ bare_name g) × (map bare es ≡ map bare ds)) ↔ (bare a ≡ bare b)
+same_apply f g es ds ea eb =
+    let whole = same_opened (Expr-F.Apply f es) (Expr-F.Apply g ds) (ea ∙ sym (expr.rolls-Apply f es)) (eb ∙ sym (expr.rolls-Apply g ds)) in
+    (λ parts. whole.0 (cc), λ same. let opened_same = whole.1 same in (cc, cc))
+
+-- operations are the same where the operators and the sides are
+pub same_binary : {a b : Expr} (f f' at at' : Place) (o p : Op) (e c g d : Expr) {y z v w : Expr}
+    → a ≡ expr.Binary f e o at g → b ≡ expr.Binary f' c p at' d → y ≡ e → z ≡ c → v ≡ g → w ≡ d
+    → ((o ≡ p) × (bare y ≡ bare z) × (bare v ≡ bare w)) ↔ (bare a ≡ bare b)
+same_binary f f' at at' o p e c g d ea eb ey ez ev ew =
+    let whole = same_opened (Expr-F.Binary f e o at g) (Expr-F.Binary f' c p at' d) (ea ∙ sym (expr.rolls-Binary f e o at g))
+    (eb ∙ sym (expr.rolls-Binary f' c p at' d)) in
+    (λ parts. whole.0 (cc), λ same. let opened_same = whole.1 same in (cc, cc, cc))
+
+-- negations are the same where their parts are
+pub same_not : {a b : Expr} (f f' : Place) (d e : Expr) {y z : Expr} → a ≡ expr.Not f d → b ≡ expr.Not f' e → y ≡ d → z ≡ e
+    → (bare y ≡ bare z) ↔ (bare a ≡ bare b)
+same_not f f' d e ea eb left right =
+    let whole = same_opened (Expr-F.Not f d) (Expr-F.Not f' e) (ea ∙ sym (expr.rolls-Not f d)) (eb ∙ sym (expr.rolls-Not f' e)) in
+    (λ part. whole.0 (cc), λ same. let opened_same = whole.1 same in cc)
+
+-- parts at an index are the same where the wholes and the indices are
+pub same_at : {a b : Expr} (f f' : Place) (e i d j : Expr) {y z v w : Expr} → a ≡ expr.At e f i → b ≡ expr.At d f' j → y ≡ e → z ≡ d → v ≡ i → w ≡ j
+    → ((bare y ≡ bare z) × (bare v ≡ bare w)) ↔ (bare a ≡ bare b)
+same_at f f' e i d j ea eb ey ez ev ew =
+    let whole = same_opened (Expr-F.At e f i) (Expr-F.At d f' j) (ea ∙ sym (expr.rolls-At e f i)) (eb ∙ sym (expr.rolls-At d f' j)) in
+    (λ parts. whole.0 (cc), λ same. let opened_same = whole.1 same in (cc, cc))
+
+-- choices are the same where the tests and the sides are
+pub same_pick : {a b : Expr} (f f' : Place) (t e g t' d h : Expr) {p q y z v w : Expr} → a ≡ expr.Pick f t e g → b ≡ expr.Pick f' t' d h
+    → p ≡ t → q ≡ t' → y ≡ e → z ≡ d → v ≡ g → w ≡ h
+    → ((bare p ≡ bare q) × (bare y ≡ bare z) × (bare v ≡ bare w)) ↔ (bare a ≡ bare b)
+same_pick f f' t e g t' d h ea eb ep eq ey ez ev ew =
+    let whole = same_opened (Expr-F.Pick f t e g) (Expr-F.Pick f' t' d h) (ea ∙ sym (expr.rolls-Pick f t e g)) (eb ∙ sym (expr.rolls-Pick f' t' d h)) in
+    (λ parts. whole.0 (cc), λ same. let opened_same = whole.1 same in (cc, cc, cc))
+
+-- changes of width are the same where the widths and the words are
+pub same_resize : {a b : Expr} (f f' : Place) (w x : Numeral) (d e : Expr) → a ≡ expr.Resize f d w → b ≡ expr.Resize f' e x
+    → ((bare_number w ≡ bare_number x) × (bare d ≡ bare e)) ↔ (bare a ≡ bare b)
+same_resize f f' w x d e ea eb =
+    let whole = same_opened (Expr-F.Resize f d w) (Expr-F.Resize f' e x) (ea ∙ sym (expr.rolls-Resize f d w)) (eb ∙ sym (expr.rolls-Resize f' e x)) in
+    (λ parts. whole.0 (cc), λ same. let opened_same = whole.1 same in (cc, cc))
+
+-- filled rows are the same where the counts and the words are
+pub same_fill : {a b : Expr} (f f' : Place) (m n : Numeral) (d e : Expr) → a ≡ expr.Fill f m d → b ≡ expr.Fill f' n e
+    → ((bare_number m ≡ bare_number n) × (bare d ≡ bare e)) ↔ (bare a ≡ bare b)
+same_fill f f' m n d e ea eb =
+    let whole = same_opened (Expr-F.Fill f m d) (Expr-F.Fill f' n e) (ea ∙ sym (expr.rolls-Fill f m d)) (eb ∙ sym (expr.rolls-Fill f' n e)) in
+    (λ parts. whole.0 (cc), λ same. let opened_same = whole.1 same in (cc, cc))
+
+-- rows are the same where their words are
+pub same_row : {a b : Expr} (f f' : Place) (es ds : List Expr) {ys zs : List Expr} → a ≡ expr.Row f es → b ≡ expr.Row f' ds → ys ≡ es → zs ≡ ds
+    → (map bare ys ≡ map bare zs) ↔ (bare a ≡ bare b)
+same_row f f' es ds ea eb left right =
+    let whole = same_opened (Expr-F.Row f es) (Expr-F.Row f' ds) (ea ∙ sym (expr.rolls-Row f es)) (eb ∙ sym (expr.rolls-Row f' ds)) in
+    (λ parts. whole.0 (cc), λ same. let opened_same = whole.1 same in cc)
+
 -- quantified tests are the same where their parts are
 pub same_quantified : {a b : Expr} (f f' : Place) (q q' : Quantifier) (x x' : Name) (w w' n n' : Numeral) (d e : Expr) {y z : Expr}
     → a ≡ expr.Quantified f q x w n d → b ≡ expr.Quantified f' q' x' w' n' e → y ≡ d → z ≡ e
-    → ((q ≡ q') × ((bare_name x ≡ bare_name x') × ((bare_number w ≡ bare_number w') × (bare_number n ≡ bare_number n'))) × (bare y ≡ bare z))
+    → (((q ≡ q') × ((bare_name x ≡ bare_name x') × ((bare_number w ≡ bare_number w') × (bare_number n ≡ bare_number n')))) × (bare y ≡ bare z))
     ↔ (bare a ≡ bare b)
 same_quantified f f' q q' x x' w w' n n' d e ea eb left right =
     let whole = same_opened (Expr-F.Quantified f q x w n d) (Expr-F.Quantified f' q' x' w' n' e) (ea ∙ sym (expr.rolls-Quantified f q x w n d))
     (eb ∙ sym (expr.rolls-Quantified f' q' x' w' n' e)) in
-    (λ parts. whole.0 (cc), λ same. let opened_same = whole.1 same in (cc, (cc, (cc, cc)), cc))
+    (λ parts. whole.0 (cc), λ same. let opened_same = whole.1 same in ((cc, (cc, (cc, cc))), cc))
 
 -- a block without its places, as the fold makes it inside a statement
 inside : Block → Block

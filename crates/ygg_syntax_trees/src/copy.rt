@@ -1,4 +1,4 @@
-ghost use Rattle.std.specs.Prelude.{◌≡◌, IfOk, Ok};
+ghost use Rattle.std.specs.Prelude.{◌≡◌, [], ◌∷◌, ◌++◌, IfOk, Ok};
 
 use sqlite_items::{Boxed, Items};
 use std::alloc::Global;
@@ -13,16 +13,19 @@ pub fn copy_file(alloc: Global, file: &File) -> Result<File, NoMemory>
 {
     let defs = items(alloc, file.defs.as_slice());
     let layers = items(alloc, file.layers.as_slice());
-    let (defs, layers) = both(defs, layers)?;
-    Ok(File {
-        disk: file.disk,
-        defs,
-        layers,
-    })
+    match both(defs, layers) {
+        Ok((defs, layers)) => Ok(File {
+            disk: file.disk,
+            defs,
+            layers,
+        }),
+        Err(error) => Err(error),
+    }
 }
 
 /// Both parts, where memory sufficed for both. A function that puts its parts together with it has one place at which it
-/// may end early, and owns no part there.
+/// may end early, and owns no part there. Where a part holds expressions that place is an arm of a `match`: the proof of a
+/// `?` spells out the type of the whole.
 fn both<A: Drop, B: Drop>(
     first: Result<A, NoMemory>,
     second: Result<B, NoMemory>,
@@ -34,11 +37,32 @@ fn both<A: Drop, B: Drop>(
     Ok((first, second))
 }
 
+/// All four parts, where memory sufficed for each.
+fn four<A: Drop, B: Drop, C: Drop, D: Drop>(
+    first: Result<A, NoMemory>,
+    second: Result<B, NoMemory>,
+    third: Result<C, NoMemory>,
+    fourth: Result<D, NoMemory>,
+) -> Result<(A, B, C, D), NoMemory>
+    ensures { IfOk result (λ parts. (first ≡ Ok parts.0) × (second ≡ Ok parts.1) × (third ≡ Ok parts.2) × (fourth ≡ Ok parts.3)) }
+{
+    let ((first, second), (third, fourth)) = both(both(first, second), both(third, fourth))?;
+    Ok((first, second, third, fourth))
+}
+
 /// A part of a tree.
 trait Part: Sized {
     /// The same part with the same places. Its only error is out of memory.
     fn duplicate(&self, alloc: Global) -> Result<Self, NoMemory>
         ensures { IfOk result (λ copy. copy ≡ self.now) };
+}
+
+/// The copies with one more, where memory suffices.
+fn added<T: Drop>(mut copies: Items<T>, copy: Result<T, NoMemory>) -> Result<Items<T>, NoMemory>
+    ensures { IfOk result (λ more. (one : T) × (copy ≡ Ok one) × (more ≡ copies ++ one ∷ [])) }
+{
+    copies.push(copy?)?;
+    Ok(copies)
 }
 
 /// Copies of all the items.
@@ -47,7 +71,10 @@ fn items<T: Part + Drop>(alloc: Global, all: &[T]) -> Result<Items<T>, NoMemory>
 {
     let mut copies = Items::new(alloc);
     for one in all {
-        copies.push(one.duplicate(alloc)?)?;
+        match added(copies, one.duplicate(alloc)) {
+            Ok(more) => copies = more,
+            Err(error) => return Err(error),
+        }
     }
     Ok(copies)
 }
@@ -80,11 +107,13 @@ impl Part for Expr {
 
 impl Part for Index {
     fn duplicate(&self, alloc: Global) -> Result<Index, NoMemory> {
-        let at = expression(alloc, &self.at)?;
-        Ok(Index {
-            bracket: self.bracket,
-            at,
-        })
+        match expression(alloc, &self.at) {
+            Ok(at) => Ok(Index {
+                bracket: self.bracket,
+                at,
+            }),
+            Err(error) => Err(error),
+        }
     }
 }
 
@@ -94,13 +123,15 @@ impl Part for Def {
             self.name.duplicate(alloc),
             items(alloc, self.parameters.as_slice()),
         );
-        let ((name, parameters), body) = both(head, expression(alloc, &self.body))?;
-        Ok(Def {
-            name,
-            parameters,
-            shape: self.shape,
-            body,
-        })
+        match both(head, expression(alloc, &self.body)) {
+            Ok(((name, parameters), body)) => Ok(Def {
+                name,
+                parameters,
+                shape: self.shape,
+                body,
+            }),
+            Err(error) => Err(error),
+        }
     }
 }
 
@@ -110,99 +141,97 @@ impl Part for Operation {
             self.name.duplicate(alloc),
             items(alloc, self.arguments.as_slice()),
         );
+        let spec = block(alloc, &self.spec);
         let crash = on_crash(alloc, &self.on_crash);
-        let specified = both(block(alloc, &self.spec), crash);
-        let blocks = both(specified, block(alloc, &self.implementation));
-        let ((name, arguments), ((spec, on_crash), implementation)) = both(head, blocks)?;
-        Ok(Operation {
-            name,
-            arguments,
-            answer: self.answer,
-            spec,
-            on_crash,
-            implementation,
-        })
+        match four(head, spec, crash, block(alloc, &self.implementation)) {
+            Ok(((name, arguments), spec, on_crash, implementation)) => Ok(Operation {
+                name,
+                arguments,
+                answer: self.answer,
+                spec,
+                on_crash,
+                implementation,
+            }),
+            Err(error) => Err(error),
+        }
     }
 }
 
 impl Part for Tick {
     fn duplicate(&self, alloc: Global) -> Result<Tick, NoMemory> {
-        let (name, body) = both(self.name.duplicate(alloc), block(alloc, &self.body))?;
-        Ok(Tick { name, body })
+        match both(self.name.duplicate(alloc), block(alloc, &self.body)) {
+            Ok((name, body)) => Ok(Tick { name, body }),
+            Err(error) => Err(error),
+        }
     }
 }
 
 impl Part for Layer {
     fn duplicate(&self, alloc: Global) -> Result<Layer, NoMemory> {
-        let parts = both(variables(alloc, self), steps(alloc, self));
-        let rest = both(blocks(alloc, self), claims(alloc, self));
-        let (parts, (blocks, claims)) = both(parts, rest)?;
-        let ((name, (state, memory)), (operations, ticks)) = parts;
-        let ((start, format), (crash, recover)) = blocks;
-        let ((relate, always), (settled, maybe)) = claims;
-        Ok(Layer {
-            place: self.place,
-            name,
-            state,
-            start,
-            memory,
-            format,
-            operations,
-            crash_place: self.crash_place,
-            crash,
-            ticks,
-            recover,
-            relate,
-            always,
-            settled,
-            maybe,
-        })
+        let ticks = items(alloc, self.ticks.as_slice());
+        let blocks = blocks(alloc, self);
+        match four(machine(alloc, self), ticks, blocks, claims(alloc, self)) {
+            Ok((machine, ticks, blocks, claims)) => {
+                let (name, state, memory, operations) = machine;
+                let (start, format, crash, recover) = blocks;
+                let (relate, always, settled, maybe) = claims;
+                Ok(Layer {
+                    place: self.place,
+                    name,
+                    state,
+                    start,
+                    memory,
+                    format,
+                    operations,
+                    crash_place: self.crash_place,
+                    crash,
+                    ticks,
+                    recover,
+                    relate,
+                    always,
+                    settled,
+                    maybe,
+                })
+            }
+            Err(error) => Err(error),
+        }
     }
 }
 
-/// Two parts of one kind.
-type Pair<T> = (T, T);
+/// The name, the variables and the operations of a layer.
+type Machine = (Name, Items<Declared>, Items<Declared>, Items<Operation>);
 
-/// Copies of the name and the variables of a layer.
-fn variables(alloc: Global, layer: &Layer) -> Result<(Name, Pair<Items<Declared>>), NoMemory>
-    ensures { IfOk result (λ copies. copies ≡ (layer.now.name, (layer.now.state, layer.now.memory))) }
+/// Copies of the name, the variables and the operations of a layer.
+fn machine(alloc: Global, layer: &Layer) -> Result<Machine, NoMemory>
+    ensures { IfOk result (λ copies. copies ≡ (layer.now.name, layer.now.state, layer.now.memory, layer.now.operations)) }
 {
     let state = items(alloc, layer.state.as_slice());
     let memory = items(alloc, layer.memory.as_slice());
-    both(layer.name.duplicate(alloc), both(state, memory))
-}
-
-/// Copies of the operations and the background steps of a layer.
-fn steps(alloc: Global, layer: &Layer) -> Result<(Items<Operation>, Items<Tick>), NoMemory>
-    ensures { IfOk result (λ copies. copies ≡ (layer.now.operations, layer.now.ticks)) }
-{
     let operations = items(alloc, layer.operations.as_slice());
-    let ticks = items(alloc, layer.ticks.as_slice());
-    both(operations, ticks)
+    four(layer.name.duplicate(alloc), state, memory, operations)
 }
 
 /// Copies of the blocks of a layer, in the order of the text.
-fn blocks(alloc: Global, layer: &Layer) -> Result<Pair<Pair<Block>>, NoMemory>
-    ensures { IfOk result (λ copies. copies ≡ ((layer.now.start, layer.now.format), (layer.now.crash, layer.now.recover))) }
+fn blocks(alloc: Global, layer: &Layer) -> Result<(Block, Block, Block, Block), NoMemory>
+    ensures { IfOk result (λ copies. copies ≡ (layer.now.start, layer.now.format, layer.now.crash, layer.now.recover)) }
 {
-    let begun = both(block(alloc, &layer.start), block(alloc, &layer.format));
+    let start = block(alloc, &layer.start);
+    let format = block(alloc, &layer.format);
     let crash = block(alloc, &layer.crash);
-    let recover = block(alloc, &layer.recover);
-    both(begun, both(crash, recover))
+    four(start, format, crash, block(alloc, &layer.recover))
 }
 
-/// Copies of what a layer claims, in the order of the text.
-fn claims(
-    alloc: Global,
-    layer: &Layer,
-) -> Result<((Expr, Items<Expr>), Pair<Items<Expr>>), NoMemory>
-    ensures { IfOk result (λ copies. copies ≡ ((layer.now.relate, layer.now.always), (layer.now.settled, layer.now.maybe))) }
+/// What a layer claims, in the order of the text.
+type Claims = (Expr, Items<Expr>, Items<Expr>, Items<Expr>);
+
+/// Copies of what a layer claims.
+fn claims(alloc: Global, layer: &Layer) -> Result<Claims, NoMemory>
+    ensures { IfOk result (λ copies. copies ≡ (layer.now.relate, layer.now.always, layer.now.settled, layer.now.maybe)) }
 {
-    let relate = expression(alloc, &layer.relate);
     let always = expressions(alloc, layer.always.as_slice());
     let settled = expressions(alloc, layer.settled.as_slice());
     let maybe = expressions(alloc, layer.maybe.as_slice());
-    both(both(relate, always), both(settled, maybe))
+    four(expression(alloc, &layer.relate), always, settled, maybe)
 }
 
 /// A copy of the block for a crash, where one is written.
@@ -212,8 +241,10 @@ fn on_crash(alloc: Global, on_crash: &Option<Block>) -> Result<Option<Block>, No
     match on_crash {
         None => Ok(None),
         Some(written) => {
-            let copy = block(alloc, written)?;
-            Ok(Some(copy))
+            match block(alloc, written) {
+                Ok(copy) => Ok(Some(copy)),
+                Err(error) => Err(error),
+            }
         }
     }
 }
@@ -224,12 +255,14 @@ fn block(alloc: Global, block: &Block) -> Result<Block, NoMemory>
     ensures { IfOk result (λ copy. copy ≡ block.now) }
 {
     let statements = statements(alloc, block.statements.as_slice());
-    let (statements, answer) = both(statements, answer(alloc, &block.answer))?;
-    Ok(Block {
-        place: block.place,
-        statements,
-        answer,
-    })
+    match both(statements, answer(alloc, &block.answer)) {
+        Ok((statements, answer)) => Ok(Block {
+            place: block.place,
+            statements,
+            answer,
+        }),
+        Err(error) => Err(error),
+    }
 }
 
 /// A copy of what a block returns.
@@ -239,8 +272,10 @@ fn answer(alloc: Global, answer: &Option<Expr>) -> Result<Option<Expr>, NoMemory
     match answer {
         None => Ok(None),
         Some(e) => {
-            let copy = expression(alloc, e)?;
-            Ok(Some(copy))
+            match expression(alloc, e) {
+                Ok(copy) => Ok(Some(copy)),
+                Err(error) => Err(error),
+            }
         }
     }
 }
@@ -252,7 +287,10 @@ fn statements(alloc: Global, statements: &[Stmt]) -> Result<Items<Stmt>, NoMemor
 {
     let mut copies = Items::new(alloc);
     for one in statements {
-        copies.push(statement(alloc, one)?)?;
+        match added(copies, statement(alloc, one)) {
+            Ok(more) => copies = more,
+            Err(error) => return Err(error),
+        }
     }
     Ok(copies)
 }
@@ -264,27 +302,37 @@ fn statement(alloc: Global, statement: &Stmt) -> Result<Stmt, NoMemory>
 {
     match statement {
         Stmt::Let(name, from) => {
-            let (name, from) = both(name.duplicate(alloc), source(alloc, from))?;
-            Ok(Stmt::Let(name, from))
+            match both(name.duplicate(alloc), source(alloc, from)) {
+                Ok((name, from)) => Ok(Stmt::Let(name, from)),
+                Err(error) => Err(error),
+            }
         }
         Stmt::Assign(name, indices, from) => {
             let written = both(items(alloc, indices.as_slice()), source(alloc, from));
-            let (name, (indices, from)) = both(name.duplicate(alloc), written)?;
-            Ok(Stmt::Assign(name, indices, from))
+            match both(name.duplicate(alloc), written) {
+                Ok((name, (indices, from))) => Ok(Stmt::Assign(name, indices, from)),
+                Err(error) => Err(error),
+            }
         }
         Stmt::If(test, first, second) => {
             let blocks = both(block(alloc, first), block(alloc, second));
-            let (test, (first, second)) = both(expression(alloc, test), blocks)?;
-            Ok(Stmt::If(test, first, second))
+            match both(expression(alloc, test), blocks) {
+                Ok((test, (first, second))) => Ok(Stmt::If(test, first, second)),
+                Err(error) => Err(error),
+            }
         }
         Stmt::For(name, width, bound, each) => {
-            let (name, each) = both(name.duplicate(alloc), block(alloc, each))?;
-            Ok(Stmt::For(name, *width, *bound, each))
+            match both(name.duplicate(alloc), block(alloc, each)) {
+                Ok((name, each)) => Ok(Stmt::For(name, *width, *bound, each)),
+                Err(error) => Err(error),
+            }
         }
         Stmt::Call(name, arguments) => {
             let arguments = items(alloc, arguments.as_slice());
-            let (name, arguments) = both(name.duplicate(alloc), arguments)?;
-            Ok(Stmt::Call(name, arguments))
+            match both(name.duplicate(alloc), arguments) {
+                Ok((name, arguments)) => Ok(Stmt::Call(name, arguments)),
+                Err(error) => Err(error),
+            }
         }
     }
 }
@@ -295,14 +343,18 @@ fn source(alloc: Global, from: &Source) -> Result<Source, NoMemory>
 {
     match from {
         Source::Value(e) => {
-            let e = expression(alloc, e)?;
-            Ok(Source::Value(e))
+            match expression(alloc, e) {
+                Ok(e) => Ok(Source::Value(e)),
+                Err(error) => Err(error),
+            }
         }
         Source::Choose(place) => Ok(Source::Choose(*place)),
         Source::Call(place, name, arguments) => {
             let arguments = items(alloc, arguments.as_slice());
-            let (name, arguments) = both(name.duplicate(alloc), arguments)?;
-            Ok(Source::Call(*place, name, arguments))
+            match both(name.duplicate(alloc), arguments) {
+                Ok((name, arguments)) => Ok(Source::Call(*place, name, arguments)),
+                Err(error) => Err(error),
+            }
         }
     }
 }
@@ -315,50 +367,79 @@ fn expression(alloc: Global, e: &Expr) -> Result<Expr, NoMemory>
     match e {
         Expr::Constant(value, width) => Ok(Expr::Constant(*value, *width)),
         Expr::Low(first, name) => {
-            let name = name.duplicate(alloc)?;
-            Ok(Expr::Low(*first, name))
+            match name.duplicate(alloc) {
+                Ok(name) => Ok(Expr::Low(*first, name)),
+                Err(error) => Err(error),
+            }
         }
         Expr::Variable(name) => {
-            let name = name.duplicate(alloc)?;
-            Ok(Expr::Variable(name))
+            match name.duplicate(alloc) {
+                Ok(name) => Ok(Expr::Variable(name)),
+                Err(error) => Err(error),
+            }
         }
         Expr::Apply(name, arguments) => {
             let arguments = expressions(alloc, arguments.as_slice());
-            let (name, arguments) = both(name.duplicate(alloc), arguments)?;
-            Ok(Expr::Apply(name, arguments))
+            match both(name.duplicate(alloc), arguments) {
+                Ok((name, arguments)) => Ok(Expr::Apply(name, arguments)),
+                Err(error) => Err(error),
+            }
         }
         Expr::Binary(first, left, operator, place, right) => {
-            let (left, right) = both(boxed(alloc, left.get()), boxed(alloc, right.get()))?;
-            Ok(Expr::Binary(*first, left, *operator, *place, right))
+            match both(boxed(alloc, left.get()), boxed(alloc, right.get())) {
+                Ok((left, right)) => Ok(Expr::Binary(*first, left, *operator, *place, right)),
+                Err(error) => Err(error),
+            }
         }
         Expr::Not(first, part) => {
-            let part = boxed(alloc, part.get())?;
-            Ok(Expr::Not(*first, part))
+            match boxed(alloc, part.get()) {
+                Ok(part) => Ok(Expr::Not(*first, part)),
+                Err(error) => Err(error),
+            }
         }
         Expr::At(whole, bracket, index) => {
-            let (whole, index) = both(boxed(alloc, whole.get()), boxed(alloc, index.get()))?;
-            Ok(Expr::At(whole, *bracket, index))
+            match both(boxed(alloc, whole.get()), boxed(alloc, index.get())) {
+                Ok((whole, index)) => Ok(Expr::At(whole, *bracket, index)),
+                Err(error) => Err(error),
+            }
         }
         Expr::Pick(first, test, left, right) => {
             let sides = both(boxed(alloc, left.get()), boxed(alloc, right.get()));
-            let (test, (left, right)) = both(boxed(alloc, test.get()), sides)?;
-            Ok(Expr::Pick(*first, test, left, right))
+            match both(boxed(alloc, test.get()), sides) {
+                Ok((test, (left, right))) => Ok(Expr::Pick(*first, test, left, right)),
+                Err(error) => Err(error),
+            }
         }
         Expr::Resize(first, part, width) => {
-            let part = boxed(alloc, part.get())?;
-            Ok(Expr::Resize(*first, part, *width))
+            match boxed(alloc, part.get()) {
+                Ok(part) => Ok(Expr::Resize(*first, part, *width)),
+                Err(error) => Err(error),
+            }
         }
         Expr::Fill(first, count, part) => {
-            let part = boxed(alloc, part.get())?;
-            Ok(Expr::Fill(*first, *count, part))
+            match boxed(alloc, part.get()) {
+                Ok(part) => Ok(Expr::Fill(*first, *count, part)),
+                Err(error) => Err(error),
+            }
         }
         Expr::Row(first, parts) => {
-            let parts = expressions(alloc, parts.as_slice())?;
-            Ok(Expr::Row(*first, parts))
+            match expressions(alloc, parts.as_slice()) {
+                Ok(parts) => Ok(Expr::Row(*first, parts)),
+                Err(error) => Err(error),
+            }
         }
         Expr::Quantified(first, quantifier, name, width, bound, test) => {
-            let (name, test) = both(name.duplicate(alloc), boxed(alloc, test.get()))?;
-            Ok(Expr::Quantified(*first, *quantifier, name, *width, *bound, test))
+            match both(name.duplicate(alloc), boxed(alloc, test.get())) {
+                Ok((name, test)) => Ok(Expr::Quantified(
+                    *first,
+                    *quantifier,
+                    name,
+                    *width,
+                    *bound,
+                    test,
+                )),
+                Err(error) => Err(error),
+            }
         }
     }
 }
@@ -368,8 +449,10 @@ fn expression(alloc: Global, e: &Expr) -> Result<Expr, NoMemory>
 fn boxed(alloc: Global, e: &Expr) -> Result<Boxed<Expr>, NoMemory>
     ensures { IfOk result (λ copy. copy ≡ e.now) }
 {
-    let copy = expression(alloc, e)?;
-    Ok(Boxed::new(alloc, copy)?)
+    match expression(alloc, e) {
+        Ok(copy) => Ok(Boxed::new(alloc, copy)?),
+        Err(error) => Err(error),
+    }
 }
 
 /// Copies of expressions.
@@ -379,7 +462,10 @@ fn expressions(alloc: Global, expressions: &[Expr]) -> Result<Items<Expr>, NoMem
 {
     let mut copies = Items::new(alloc);
     for e in expressions {
-        copies.push(expression(alloc, e)?)?;
+        match added(copies, expression(alloc, e)) {
+            Ok(more) => copies = more,
+            Err(error) => return Err(error),
+        }
     }
     Ok(copies)
 }

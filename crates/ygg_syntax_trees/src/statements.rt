@@ -3,7 +3,7 @@
 ghost use Rattle.std.specs.Prelude.{◌≡◌, IsTrue, ◌↔◌, map};
 ghost use Rattle.ygg_syntax_trees.specs.Bare.{bare_source, bare_index, bare_statement, bare_block};
 
-use crate::expressions::{expression, expressions, name, range};
+use crate::expressions::{call, expression, name, range};
 use crate::parts::{Alike, items, optional};
 use ygg_syntax::tree::{Block, Index, Source, Stmt};
 
@@ -57,13 +57,11 @@ fn statement(a: &Stmt, b: &Stmt) -> bool
     match (a, b) {
         (Stmt::Let(x, e), Stmt::Let(y, d)) => name(x, y) && source(e, d),
         (Stmt::Assign(x, places, e), Stmt::Assign(y, others, d)) => {
-            name(x, y) && items(places.as_slice(), others.as_slice()) && source(e, d)
+            name(x, y) && (items(places.as_slice(), others.as_slice()) && source(e, d))
         }
-        (Stmt::If(e, f, g), Stmt::If(d, h, k)) => expression(e, d) && block(f, h) && block(g, k),
+        (Stmt::If(e, f, g), Stmt::If(d, h, k)) => expression(e, d) && (block(f, h) && block(g, k)),
         (Stmt::For(x, w, n, f), Stmt::For(y, v, m, g)) => range(x, w, n, y, v, m) && block(f, g),
-        (Stmt::Call(f, es), Stmt::Call(g, ds)) => {
-            name(f, g) && expressions(es.as_slice(), ds.as_slice())
-        }
+        (Stmt::Call(f, es), Stmt::Call(g, ds)) => call(f, es, g, ds),
         _ => false,
     }
 }
@@ -75,9 +73,7 @@ fn source(a: &Source, b: &Source) -> bool
     match (a, b) {
         (Source::Value(e), Source::Value(d)) => expression(e, d),
         (Source::Choose(_), Source::Choose(_)) => true,
-        (Source::Call(_, f, es), Source::Call(_, g, ds)) => {
-            name(f, g) && expressions(es.as_slice(), ds.as_slice())
-        }
+        (Source::Call(_, f, es), Source::Call(_, g, ds)) => call(f, es, g, ds),
         _ => false,
     }
 }
