@@ -31,8 +31,7 @@ fn type_errors<'a>(
     parameters(checker, def.parameters.as_slice())?;
     checker.first.type_text(def.shape);
     let weight = weights.define(def)?;
-    checker.claim(&def.body, shapes::named(def.shape), weight)?;
-    Ok(())
+    checker.claim(&def.body, shapes::named(def.shape), weight)
 }
 
 /// Makes a definition known to those after it, and forgets its parameters.

@@ -51,8 +51,7 @@ fn add_disk_operation<'a>(
             answers,
             answer,
         },
-    )?;
-    Ok(())
+    )
 }
 
 /// The operations of a disk: `read`, `write` and `flush`.

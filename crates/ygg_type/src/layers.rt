@@ -79,8 +79,7 @@ fn operation_blocks<'a>(
         Visibility::Implementation,
         &operation.implementation,
         answer,
-    )?;
-    Ok(())
+    )
 }
 
 /// An `on crash` block, if there is one.
@@ -118,8 +117,7 @@ fn operation_inside<'a>(
     picks(&mut checker.first, operation, crash);
     parameters(checker, operation.arguments.as_slice())?;
     checker.first.answer_type(operation.answer);
-    operation_blocks(checker, weights, operation)?;
-    Ok(())
+    operation_blocks(checker, weights, operation)
 }
 
 /// Makes an operation known.
@@ -138,8 +136,7 @@ fn add_operation<'a>(
             answers: operation.answer.is_some(),
             answer: shapes::answer(operation.answer),
         },
-    )?;
-    Ok(())
+    )
 }
 
 /// An operation after these of its layer, which has this `crash` block.
@@ -203,8 +200,7 @@ fn tick<'a>(
         &tick.body,
         None,
     )?;
-    known.add(name, ())?;
-    Ok(())
+    known.add(name, ())
 }
 
 /// The background steps of a layer.
@@ -265,8 +261,7 @@ fn relations<'a>(
         weights,
         Visibility::Relation,
         layer.maybe.as_slice(),
-    )?;
-    Ok(())
+    )
 }
 
 /// The blocks of a layer outside its operations and background steps.
@@ -308,8 +303,7 @@ fn blocks<'a>(checker: &mut Typer<'a>, weights: &Weights, layer: &'a Layer) -> R
         Visibility::Implementation,
         &layer.recover,
         None,
-    )?;
-    Ok(())
+    )
 }
 
 /// The state and memory variables of a layer, of which none are there yet.
@@ -319,8 +313,7 @@ fn declared<'a>(checker: &mut Typer<'a>, layer: &'a Layer) -> Result<(), NoMemor
     ensures scope { OnOk result (scope_of checker.new ≡ record (scope_of checker.old) { variables = variables_of layer.now }) }
 {
     variables(checker, Owner::State, layer.state.as_slice())?;
-    variables(checker, Owner::Memory, layer.memory.as_slice())?;
-    Ok(())
+    variables(checker, Owner::Memory, layer.memory.as_slice())
 }
 
 /// All parts of a layer, whose variables are not there yet. Answers its operations.
