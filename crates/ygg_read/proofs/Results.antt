@@ -1,7 +1,7 @@
 -- What follows of what was read.
 use Rattle.std.proofs.Common.{Option, Some, None, Result, Ok, Err}
 use Rattle.ygg_list.specs.declared.memory.NoMemory.{NoMemory}
-use Rattle.ygg_read_expr.specs.Steps.{IfRead, IfRefused}
+use Rattle.ygg_read_expr.specs.Steps.{IfRead, OnRead, IfRefused}
 
 pub where_read : {A : Type 0} (result : Result (Option A) NoMemory) (P Q : A → Type 0) → ((read : A) → P read → Q read) → IfRead result P → IfRead result Q
 where_read (Ok (Some read)) P Q f h = f read h
@@ -12,3 +12,8 @@ pub where_refused : {A : Type 0} (result : Result (Option A) NoMemory) (P Q : Ty
 where_refused (Ok (Some read)) P Q f h = h
 where_refused (Ok None) P Q f h = f h
 where_refused (Err e) P Q f h = h
+
+pub where_gone : {A : Type 0} (result : Result (Option A) NoMemory) (P Q : Type 0) → (P → Q) → OnRead result P → OnRead result Q
+where_gone (Ok (Some read)) P Q f h = f h
+where_gone (Ok None) P Q f h = h
+where_gone (Err e) P Q f h = h

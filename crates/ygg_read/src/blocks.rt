@@ -15,13 +15,12 @@ use std::alloc::Global;
 use ygg_base::{Keyword, Symbol};
 use ygg_list::NoMemory;
 use ygg_read_expr::Reader;
-use ygg_read_expr::both::both;
+use ygg_read_expr::both::{added, both};
 use ygg_syntax::grammar::BlockKind;
 use ygg_syntax::tree::{Block, Place, Stmt};
 
 /// Reads a block without an answer. Where none comes nothing is answered, and the first token that can't come is the next
 /// one.
-#[tactic(auto, using(crate::proofs::Begins::begins_block, crate::proofs::Begins::stopped_block))]
 #[cycle(blocks)]
 pub fn block(reader: &mut Reader<'_>, kind: BlockKind) -> Result<Option<Block>, NoMemory>
     ensures reads { IfRead result (λ b. Reads (block kind b ∷ []) reader.old reader.new) }
@@ -35,7 +34,7 @@ pub fn block(reader: &mut Reader<'_>, kind: BlockKind) -> Result<Option<Block>, 
     let Some(statements) = statements(reader, kind)? else {
         return Ok(None);
     };
-    let Some(_) = reader.symbol(Symbol::BraceClose) else {
+    let Some(statements) = reader.symbol_after(statements, Symbol::BraceClose) else {
         return Ok(None);
     };
     Ok(Some(Block {
@@ -47,7 +46,6 @@ pub fn block(reader: &mut Reader<'_>, kind: BlockKind) -> Result<Option<Block>, 
 
 /// Reads a block that ends with its answer. Where none comes nothing is answered, and the first token that can't come is
 /// the next one.
-#[tactic(auto, using(crate::proofs::Begins::begins_answering, crate::proofs::Begins::stopped_answering))]
 pub fn answering(reader: &mut Reader<'_>, kind: BlockKind) -> Result<Option<Block>, NoMemory>
     ensures reads { IfRead result (λ b. Reads (answering kind b ∷ []) reader.old reader.new) }
     ensures goes { OnRead result (Goes (pending.answering kind ∷ []) reader.old reader.new) }
@@ -60,7 +58,7 @@ pub fn answering(reader: &mut Reader<'_>, kind: BlockKind) -> Result<Option<Bloc
     let Some(statements) = statements(reader, kind)? else {
         return Ok(None);
     };
-    let Some(answer) = parts::answer(reader)? else {
+    let Some((statements, answer)) = both(statements, parts::answer(reader))? else {
         return Ok(None);
     };
     Ok(Some(Block {
@@ -72,7 +70,6 @@ pub fn answering(reader: &mut Reader<'_>, kind: BlockKind) -> Result<Option<Bloc
 
 /// Reads a keyword and a block, or nothing where the keyword doesn't come. Where a block has to come after the keyword and
 /// none does nothing is answered, and the first token that can't come is the next one.
-#[tactic(auto, using(crate::proofs::Begins::begins_part, crate::proofs::Begins::no_part, crate::proofs::Phrases::reads_unwritten))]
 #[cycle(blocks)]
 pub fn optional(
     reader: &mut Reader<'_>,
@@ -102,7 +99,6 @@ pub fn unwritten(alloc: Global) -> Block
 }
 
 /// Reads as many statements as come.
-#[tactic(auto, using(crate::proofs::Begins::no_statement))]
 #[cycle(blocks)]
 fn statements(reader: &mut Reader<'_>, kind: BlockKind) -> Result<Option<Items<Stmt>>, NoMemory>
     ensures reads { IfRead result (λ ss. Reads (statements_of kind ss) reader.old reader.new) }
@@ -112,10 +108,10 @@ fn statements(reader: &mut Reader<'_>, kind: BlockKind) -> Result<Option<Items<S
 {
     let mut read = Items::new(reader.alloc());
     while parts::begins(reader, kind) {
-        let Some(next) = statement(reader, kind)? else {
+        let Some(more) = added(read, statement(reader, kind))? else {
             return Ok(None);
         };
-        read.push(next)?;
+        read = more;
     }
     Ok(Some(read))
 }
@@ -150,7 +146,6 @@ fn statement(reader: &mut Reader<'_>, kind: BlockKind) -> Result<Option<Stmt>, N
 }
 
 /// Reads what follows an `if`.
-#[tactic(auto, using(crate::proofs::Phrases::reads_if))]
 #[cycle(blocks)]
 fn branch(reader: &mut Reader<'_>, kind: BlockKind) -> Result<Option<Stmt>, NoMemory>
     ensures reads { IfRead result (λ s. ReadsAfter (mark.Keyword word.If) kind s reader.old reader.new) }
@@ -187,7 +182,6 @@ fn sides(reader: &mut Reader<'_>, kind: BlockKind) -> Result<Option<(Block, Bloc
 }
 
 /// Reads what follows a `for`.
-#[tactic(auto, using(crate::proofs::Phrases::reads_for))]
 #[cycle(blocks)]
 fn repetition(reader: &mut Reader<'_>, kind: BlockKind) -> Result<Option<Stmt>, NoMemory>
     ensures reads { IfRead result (λ s. ReadsAfter (mark.Keyword word.For) kind s reader.old reader.new) }
@@ -197,11 +191,12 @@ fn repetition(reader: &mut Reader<'_>, kind: BlockKind) -> Result<Option<Stmt>, 
         ∷ pending.number ∷ pending.block kind ∷ []) reader.old reader.new) }
     ensures shorter { OnRead result (length reader.new < length reader.old) }
 {
-    let Some((name, width, bound)) = reader.range()? else {
+    let Some(range) = reader.range()? else {
         return Ok(None);
     };
-    let Some(each) = block(reader, kind)? else {
+    let Some((range, each)) = both(range, block(reader, kind))? else {
         return Ok(None);
     };
+    let (name, width, bound) = range;
     Ok(Some(Stmt::For(name, width, bound, each)))
 }

@@ -11,11 +11,12 @@ ghost use Rattle.ygg_syntax.specs.Pending as pending;
 ghost use Rattle.ygg_read_expr.specs.Steps.{Reads, Goes, Stops, IfRead, OnRead, IfRefused};
 ghost use Rattle.ygg_read.specs.LayerParts.{ReadsAfter, ForRepeated, rest_of_claim, claims_pending, claims_read};
 
+use crate::parts::expression_before;
 use sqlite_items::Items;
 use ygg_base::{Keyword, Symbol};
 use ygg_list::NoMemory;
 use ygg_read_expr::Reader;
-use ygg_read_expr::both::both;
+use ygg_read_expr::both::{added, both};
 use ygg_syntax::tree::Expr;
 
 /// What a layer claims.
@@ -77,9 +78,10 @@ fn from_always(
     let Some(always) = repeated(reader, Keyword::Always)? else {
         return Ok(None);
     };
-    let Some((settled, maybe)) = from_settled(reader)? else {
+    let Some((always, rest)) = both(always, from_settled(reader))? else {
         return Ok(None);
     };
+    let (settled, maybe) = rest;
     Ok(Some((always, settled, maybe)))
 }
 
@@ -94,10 +96,10 @@ fn from_settled(reader: &mut Reader<'_>) -> Result<Option<(Items<Expr>, Items<Ex
     let Some(settled) = repeated(reader, Keyword::Settled)? else {
         return Ok(None);
     };
-    let Some(maybe) = from_maybe(reader)? else {
+    let Some(read) = both(settled, from_maybe(reader))? else {
         return Ok(None);
     };
-    Ok(Some((settled, maybe)))
+    Ok(Some(read))
 }
 
 /// Reads the claims that may hold, and the brace after them.
@@ -110,7 +112,7 @@ fn from_maybe(reader: &mut Reader<'_>) -> Result<Option<Items<Expr>>, NoMemory>
     let Some(maybe) = repeated(reader, Keyword::Maybe)? else {
         return Ok(None);
     };
-    let Some(_) = reader.symbol(Symbol::BraceClose) else {
+    let Some(maybe) = reader.symbol_after(maybe, Symbol::BraceClose) else {
         return Ok(None);
     };
     Ok(Some(maybe))
@@ -125,10 +127,10 @@ fn repeated(reader: &mut Reader<'_>, keyword: Keyword) -> Result<Option<Items<Ex
 {
     let mut all = Items::new(reader.alloc());
     while let Some(_) = reader.keyword(keyword) {
-        let Some(next) = rest_of_claim(reader)? else {
+        let Some(more) = added(all, rest_of_claim(reader))? else {
             return Ok(None);
         };
-        all.push(next)?;
+        all = more;
     }
     Ok(Some(all))
 }
@@ -140,11 +142,5 @@ fn rest_of_claim(reader: &mut Reader<'_>) -> Result<Option<Expr>, NoMemory>
     ensures refused { IfRefused result (Stops rest_of_claim reader.old reader.new) }
     ensures shorter { OnRead result (length reader.new < length reader.old) }
 {
-    let Some(claim) = reader.expression()? else {
-        return Ok(None);
-    };
-    let Some(_) = reader.symbol(Symbol::Semicolon) else {
-        return Ok(None);
-    };
-    Ok(Some(claim))
+    expression_before(reader, Symbol::Semicolon)
 }

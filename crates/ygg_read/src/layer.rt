@@ -22,7 +22,7 @@ use sqlite_items::Items;
 use ygg_base::{Keyword, Symbol};
 use ygg_list::NoMemory;
 use ygg_read_expr::Reader;
-use ygg_read_expr::both::both;
+use ygg_read_expr::both::{added, both};
 use ygg_syntax::grammar::BlockKind;
 use ygg_syntax::tree::{Block, Declared, Layer, Name, Operation, Place, Tick};
 
@@ -51,19 +51,19 @@ pub fn layers(reader: &mut Reader<'_>) -> Result<Option<Items<Layer>>, NoMemory>
     ensures goes { OnRead result (Goes (word_of word.Layer ∷ rest_of_layer ++ repeated pending.next_layer ∷ []) reader.old reader.new) }
     ensures refused { IfRefused result (Stops (word_of word.Layer ∷ rest_of_layer ++ repeated pending.next_layer ∷ []) reader.old reader.new) }
 {
-    let mut all = Items::new(reader.alloc());
     let Some(place) = reader.keyword(Keyword::Layer) else {
         return Ok(None);
     };
-    let Some(first) = layer(reader, place)? else {
+    let none = Items::new(reader.alloc());
+    let Some(first) = added(none, layer(reader, place))? else {
         return Ok(None);
     };
-    all.push(first)?;
+    let mut all = first;
     while let Some(place) = reader.keyword(Keyword::Layer) {
-        let Some(next) = layer(reader, place)? else {
+        let Some(more) = added(all, layer(reader, place))? else {
             return Ok(None);
         };
-        all.push(next)?;
+        all = more;
     }
     Ok(Some(all))
 }
@@ -78,9 +78,10 @@ fn layer(reader: &mut Reader<'_>, place: Place) -> Result<Option<Layer>, NoMemor
     let Some(name) = opening(reader)? else {
         return Ok(None);
     };
-    let Some((setup, steps, claims)) = parts(reader)? else {
+    let Some((name, parts)) = both(name, parts(reader))? else {
         return Ok(None);
     };
+    let (setup, steps, claims) = parts;
     Ok(Some(Layer {
         place,
         name,
@@ -110,7 +111,7 @@ fn opening(reader: &mut Reader<'_>) -> Result<Option<Name>, NoMemory>
     let Some(name) = reader.name()? else {
         return Ok(None);
     };
-    let Some(_) = reader.symbol(Symbol::BraceOpen) else {
+    let Some(name) = reader.symbol_after(name, Symbol::BraceOpen) else {
         return Ok(None);
     };
     Ok(Some(name))
@@ -173,10 +174,10 @@ fn variables_and_block(
     let Some(all) = variables(reader, each)? else {
         return Ok(None);
     };
-    let Some(block) = optional(reader, setup, kind)? else {
+    let Some(read) = both(all, optional(reader, setup, kind))? else {
         return Ok(None);
     };
-    Ok(Some((all, block)))
+    Ok(Some(read))
 }
 
 /// Reads what a layer does and what it claims.
@@ -268,8 +269,8 @@ fn ticks_and_recover(reader: &mut Reader<'_>) -> Result<Option<(Items<Tick>, Blo
     let Some(all) = ticks(reader)? else {
         return Ok(None);
     };
-    let Some(recover) = optional(reader, Keyword::Recover, BlockKind::Impl)? else {
+    let Some(read) = both(all, optional(reader, Keyword::Recover, BlockKind::Impl))? else {
         return Ok(None);
     };
-    Ok(Some((all, recover)))
+    Ok(Some(read))
 }

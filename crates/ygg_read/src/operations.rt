@@ -23,7 +23,7 @@ use sqlite_items::Items;
 use ygg_base::{Keyword, Symbol};
 use ygg_list::NoMemory;
 use ygg_read_expr::Reader;
-use ygg_read_expr::both::both;
+use ygg_read_expr::both::{added, both};
 use ygg_syntax::grammar::{BlockKind, Sort};
 use ygg_syntax::tree::{Block, Operation, Tick, TypeText};
 
@@ -45,10 +45,10 @@ pub fn operations(reader: &mut Reader<'_>) -> Result<Option<Items<Operation>>, N
 {
     let mut all = Items::new(reader.alloc());
     while let Some(_) = reader.keyword(Keyword::Op) {
-        let Some(next) = rest_of_operation(reader)? else {
+        let Some(more) = added(all, rest_of_operation(reader))? else {
             return Ok(None);
         };
-        all.push(next)?;
+        all = more;
     }
     Ok(Some(all))
 }
@@ -233,10 +233,10 @@ pub fn ticks(reader: &mut Reader<'_>) -> Result<Option<Items<Tick>>, NoMemory>
 {
     let mut all = Items::new(reader.alloc());
     while let Some(_) = reader.keyword(Keyword::Tick) {
-        let Some(next) = rest_of_tick(reader)? else {
+        let Some(more) = added(all, rest_of_tick(reader))? else {
             return Ok(None);
         };
-        all.push(next)?;
+        all = more;
     }
     Ok(Some(all))
 }
@@ -251,7 +251,7 @@ fn rest_of_tick(reader: &mut Reader<'_>) -> Result<Option<Tick>, NoMemory>
     let Some(name) = reader.name()? else {
         return Ok(None);
     };
-    let Some(body) = block(reader, BlockKind::Impl)? else {
+    let Some((name, body)) = both(name, block(reader, BlockKind::Impl))? else {
         return Ok(None);
     };
     Ok(Some(Tick { name, body }))

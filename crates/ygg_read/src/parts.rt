@@ -5,7 +5,7 @@ ghost use Rattle.ygg_base.specs.declared.token.Keyword.TheVariants as word;
 ghost use Rattle.ygg_base.specs.declared.token.Symbol.TheVariants as sign;
 ghost use Rattle.ygg_base.specs.declared.token.Mark.TheVariants as mark;
 ghost use Rattle.ygg_syntax.specs.declared.grammar.BlockKind.TheVariants as purpose;
-ghost use Rattle.ygg_syntax.specs.Reading.{token};
+ghost use Rattle.ygg_syntax.specs.Reading.{token, in_turn};
 ghost use Rattle.ygg_syntax.specs.Expressions.{expr, symbol, keyword};
 ghost use Rattle.ygg_syntax.specs.Blocks.{statement, source_in, indices_of};
 ghost use Rattle.ygg_syntax.specs.Pending as pending;
@@ -16,6 +16,7 @@ use sqlite_items::Items;
 use ygg_base::{Keyword, Mark, Symbol};
 use ygg_list::NoMemory;
 use ygg_read_expr::Reader;
+use ygg_read_expr::both::{added, both};
 use ygg_syntax::grammar::BlockKind;
 use ygg_syntax::tree::{Expr, Index, Name, Place, Source, Stmt};
 
@@ -46,13 +47,29 @@ pub fn answer(reader: &mut Reader<'_>) -> Result<Option<Expr>, NoMemory>
     let Some(_) = reader.keyword(Keyword::Return) else {
         return Ok(None);
     };
+    let Some(e) = expression_before(reader, Symbol::Semicolon)? else {
+        return Ok(None);
+    };
+    let Some(e) = reader.symbol_after(e, Symbol::BraceClose) else {
+        return Ok(None);
+    };
+    Ok(Some(e))
+}
+
+/// Reads an expression and this symbol after it.
+pub fn expression_before(
+    reader: &mut Reader<'_>,
+    after: Symbol,
+) -> Result<Option<Expr>, NoMemory>
+    ensures reads { IfRead result (λ e. Reads (expr e ∷ symbol after ∷ []) reader.old reader.new) }
+    ensures goes { OnRead result (Goes (pending.expression ∷ pending.sign_of after ∷ []) reader.old reader.new) }
+    ensures refused { IfRefused result (Stops (pending.expression ∷ pending.sign_of after ∷ []) reader.old reader.new) }
+    ensures shorter { OnRead result (length reader.new < length reader.old) }
+{
     let Some(e) = reader.expression()? else {
         return Ok(None);
     };
-    let Some(_) = reader.symbol(Symbol::Semicolon) else {
-        return Ok(None);
-    };
-    let Some(_) = reader.symbol(Symbol::BraceClose) else {
+    let Some(e) = reader.symbol_after(e, after) else {
         return Ok(None);
     };
     Ok(Some(e))
@@ -68,14 +85,13 @@ fn value(reader: &mut Reader<'_>, kind: BlockKind) -> Result<Option<Source>, NoM
     let Some(source) = reader.source(kind)? else {
         return Ok(None);
     };
-    if reader.symbol(Symbol::Semicolon).is_none() {
+    let Some(source) = reader.symbol_after(source, Symbol::Semicolon) else {
         return Ok(None);
-    }
+    };
     Ok(Some(source))
 }
 
 /// Reads what follows a `let`.
-#[tactic(auto, using(crate::proofs::Phrases::reads_let))]
 pub fn binding(reader: &mut Reader<'_>, kind: BlockKind) -> Result<Option<Stmt>, NoMemory>
     ensures reads { IfRead result (λ s. ReadsAfter (mark.Keyword word.Let) kind s reader.old reader.new) }
     ensures goes { OnRead result (Goes (pending.name ∷ pending.sign_of sign.Assign ∷ pending.right_side kind ∷ pending.sign_of sign.Semicolon ∷ [])
@@ -87,17 +103,16 @@ pub fn binding(reader: &mut Reader<'_>, kind: BlockKind) -> Result<Option<Stmt>,
     let Some(name) = reader.name()? else {
         return Ok(None);
     };
-    let Some(_) = reader.symbol(Symbol::Assign) else {
+    let Some(name) = reader.symbol_after(name, Symbol::Assign) else {
         return Ok(None);
     };
-    let Some(source) = value(reader, kind)? else {
+    let Some((name, source)) = both(name, value(reader, kind))? else {
         return Ok(None);
     };
     Ok(Some(Stmt::Let(name, source)))
 }
 
 /// Reads what follows the name that an assignment begins with.
-#[tactic(auto, using(crate::proofs::Phrases::reads_assign))]
 pub fn assignment(
     reader: &mut Reader<'_>,
     kind: BlockKind,
@@ -110,16 +125,36 @@ pub fn assignment(
         ∷ pending.sign_of sign.Semicolon ∷ []) reader.old reader.new) }
     ensures shorter { OnRead result (length reader.new < length reader.old) }
 {
+    let Some((name, read)) = both(name, indexed_value(reader, kind))? else {
+        return Ok(None);
+    };
+    let (indices, source) = read;
+    Ok(Some(Stmt::Assign(name, indices, source)))
+}
+
+/// Reads indices, and a right side and the semicolon after it.
+fn indexed_value(
+    reader: &mut Reader<'_>,
+    kind: BlockKind,
+) -> Result<Option<(Items<Index>, Source)>, NoMemory>
+    ensures reads { IfRead result (λ read. Reads (in_turn (indices_of read.0) ∷ symbol sign.Assign ∷ source_in kind read.1 ∷ symbol sign.Semicolon ∷
+        []) reader.old reader.new) }
+    ensures goes { OnRead result (Goes (pending.indices ∷ pending.sign_of sign.Assign ∷ pending.right_side kind ∷ pending.sign_of sign.Semicolon ∷ [])
+        reader.old reader.new) }
+    ensures refused { IfRefused result (Stops (pending.indices ∷ pending.sign_of sign.Assign ∷ pending.right_side kind
+        ∷ pending.sign_of sign.Semicolon ∷ []) reader.old reader.new) }
+    ensures shorter { OnRead result (length reader.new < length reader.old) }
+{
     let Some(indices) = indices(reader)? else {
         return Ok(None);
     };
-    let Some(_) = reader.symbol(Symbol::Assign) else {
+    let Some(indices) = reader.symbol_after(indices, Symbol::Assign) else {
         return Ok(None);
     };
-    let Some(source) = value(reader, kind)? else {
+    let Some(read) = both(indices, value(reader, kind))? else {
         return Ok(None);
     };
-    Ok(Some(Stmt::Assign(name, indices, source)))
+    Ok(Some(read))
 }
 
 /// Reads as many indices as come.
@@ -131,10 +166,10 @@ fn indices(reader: &mut Reader<'_>) -> Result<Option<Items<Index>>, NoMemory>
 {
     let mut read = Items::new(reader.alloc());
     while let Some(bracket) = reader.symbol(Symbol::SquareOpen) {
-        let Some(next) = index(reader, bracket)? else {
+        let Some(more) = added(read, index(reader, bracket))? else {
             return Ok(None);
         };
-        read.push(next)?;
+        read = more;
     }
     Ok(Some(read))
 }
@@ -147,17 +182,13 @@ fn index(reader: &mut Reader<'_>, bracket: Place) -> Result<Option<Index>, NoMem
     ensures refused { IfRefused result (Stops (pending.expression ∷ pending.sign_of sign.SquareClose ∷ []) reader.old reader.new) }
     ensures shorter { OnRead result (length reader.new < length reader.old) }
 {
-    let Some(at) = reader.expression()? else {
-        return Ok(None);
-    };
-    let Some(_) = reader.symbol(Symbol::SquareClose) else {
+    let Some(at) = expression_before(reader, Symbol::SquareClose)? else {
         return Ok(None);
     };
     Ok(Some(Index { bracket, at }))
 }
 
 /// Reads what follows a `call` that begins a statement.
-#[tactic(auto, using(crate::proofs::Phrases::reads_call))]
 pub fn call(reader: &mut Reader<'_>) -> Result<Option<Stmt>, NoMemory>
     ensures reads { IfRead result (λ s. ReadsAfter (mark.Keyword word.Call) purpose.Impl s reader.old reader.new) }
     ensures goes { OnRead result (Goes (pending.name ∷ pending.sign_of sign.RoundOpen ∷ pending.rest_of_arguments ∷ pending.sign_of sign.Semicolon ∷
@@ -166,10 +197,10 @@ pub fn call(reader: &mut Reader<'_>) -> Result<Option<Stmt>, NoMemory>
         ∷ pending.sign_of sign.Semicolon ∷ []) reader.old reader.new) }
     ensures shorter { OnRead result (length reader.new < length reader.old) }
 {
-    let Some((name, arguments)) = reader.called()? else {
+    let Some(call) = reader.called()? else {
         return Ok(None);
     };
-    let Some(_) = reader.symbol(Symbol::Semicolon) else {
+    let Some((name, arguments)) = reader.symbol_after(call, Symbol::Semicolon) else {
         return Ok(None);
     };
     Ok(Some(Stmt::Call(name, arguments)))

@@ -13,6 +13,7 @@ use sqlite_items::Items;
 use ygg_base::{Keyword, Symbol};
 use ygg_list::NoMemory;
 use ygg_read_expr::Reader;
+use ygg_read_expr::both::added;
 use ygg_syntax::grammar::Sort;
 use ygg_syntax::tree::{Declared, Numeral, TypeText};
 
@@ -111,7 +112,7 @@ pub fn declared(reader: &mut Reader<'_>, sort: Sort) -> Result<Option<Declared>,
     let Some(name) = reader.name()? else {
         return Ok(None);
     };
-    let Some(_) = reader.symbol(Symbol::Colon) else {
+    let Some(name) = reader.symbol_after(name, Symbol::Colon) else {
         return Ok(None);
     };
     let Some(shape) = type_text(reader, sort) else {
@@ -143,18 +144,18 @@ fn list(reader: &mut Reader<'_>, sort: Sort) -> Result<Option<Items<Declared>>, 
         []) reader.old reader.new) }
     ensures shorter { OnRead result (length reader.new < length reader.old) }
 {
-    let mut all = Items::new(reader.alloc());
-    let Some(first) = declared(reader, sort)? else {
+    let none = Items::new(reader.alloc());
+    let Some(first) = added(none, declared(reader, sort))? else {
         return Ok(None);
     };
-    all.push(first)?;
+    let mut all = first;
     while let Some(_) = reader.symbol(Symbol::Comma) {
-        let Some(next) = declared(reader, sort)? else {
+        let Some(more) = added(all, declared(reader, sort))? else {
             return Ok(None);
         };
-        all.push(next)?;
+        all = more;
     }
-    let Some(_) = reader.symbol(Symbol::RoundClose) else {
+    let Some(all) = reader.symbol_after(all, Symbol::RoundClose) else {
         return Ok(None);
     };
     Ok(Some(all))

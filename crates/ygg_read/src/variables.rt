@@ -12,11 +12,13 @@ ghost use Rattle.ygg_syntax.specs.Pending as pending;
 ghost use Rattle.ygg_read_expr.specs.Steps.{Reads, Goes, Stops, IfRead, OnRead, IfRefused};
 ghost use Rattle.ygg_read.specs.LayerParts.{ReadsAfter, ForRepeated};
 
+use crate::parts::expression_before;
 use crate::types::{declared, parameters, type_text};
 use sqlite_items::Items;
 use ygg_base::{Keyword, Symbol};
 use ygg_list::NoMemory;
 use ygg_read_expr::Reader;
+use ygg_read_expr::both::{added, both};
 use ygg_syntax::grammar::Sort;
 use ygg_syntax::tree::{Declared, Def, Expr, Name, TypeText};
 
@@ -32,10 +34,10 @@ pub fn variables(
 {
     let mut all = Items::new(reader.alloc());
     while let Some(_) = reader.keyword(keyword) {
-        let Some(next) = rest_of_variable(reader)? else {
+        let Some(more) = added(all, rest_of_variable(reader))? else {
             return Ok(None);
         };
-        all.push(next)?;
+        all = more;
     }
     Ok(Some(all))
 }
@@ -50,7 +52,7 @@ fn rest_of_variable(reader: &mut Reader<'_>) -> Result<Option<Declared>, NoMemor
     let Some(read) = declared(reader, Sort::All)? else {
         return Ok(None);
     };
-    let Some(_) = reader.symbol(Symbol::Semicolon) else {
+    let Some(read) = reader.symbol_after(read, Symbol::Semicolon) else {
         return Ok(None);
     };
     Ok(Some(read))
@@ -65,10 +67,10 @@ pub fn definitions(reader: &mut Reader<'_>) -> Result<Option<Items<Def>>, NoMemo
 {
     let mut all = Items::new(reader.alloc());
     while let Some(_) = reader.keyword(Keyword::Def) {
-        let Some(next) = rest_of_definition(reader)? else {
+        let Some(more) = added(all, rest_of_definition(reader))? else {
             return Ok(None);
         };
-        all.push(next)?;
+        all = more;
     }
     Ok(Some(all))
 }
@@ -80,12 +82,14 @@ fn rest_of_definition(reader: &mut Reader<'_>) -> Result<Option<Def>, NoMemory>
     ensures refused { IfRefused result (Stops (rest_of pending.definition) reader.old reader.new) }
     ensures shorter { OnRead result (length reader.new < length reader.old) }
 {
-    let Some((name, parameters)) = named_list(reader, Sort::All)? else {
+    let Some(head) = named_list(reader, Sort::All)? else {
         return Ok(None);
     };
-    let Some((shape, body)) = typed_expression(reader)? else {
+    let Some((head, rest)) = both(head, typed_expression(reader))? else {
         return Ok(None);
     };
+    let (name, parameters) = head;
+    let (shape, body) = rest;
     Ok(Some(Def {
         name,
         parameters,
@@ -108,13 +112,13 @@ pub fn named_list(
     let Some(name) = reader.name()? else {
         return Ok(None);
     };
-    let Some(_) = reader.symbol(Symbol::RoundOpen) else {
+    let Some(name) = reader.symbol_after(name, Symbol::RoundOpen) else {
         return Ok(None);
     };
-    let Some(list) = parameters(reader, sort)? else {
+    let Some(read) = both(name, parameters(reader, sort))? else {
         return Ok(None);
     };
-    Ok(Some((name, list)))
+    Ok(Some(read))
 }
 
 /// Reads what follows the parameters of a definition.
@@ -136,10 +140,7 @@ fn typed_expression(reader: &mut Reader<'_>) -> Result<Option<(TypeText, Expr)>,
     let Some(_) = reader.symbol(Symbol::Assign) else {
         return Ok(None);
     };
-    let Some(body) = reader.expression()? else {
-        return Ok(None);
-    };
-    let Some(_) = reader.symbol(Symbol::Semicolon) else {
+    let Some(body) = expression_before(reader, Symbol::Semicolon)? else {
         return Ok(None);
     };
     Ok(Some((shape, body)))

@@ -1,5 +1,5 @@
 -- What reading does.
-use Rattle.std.specs.Prelude.{◌≡◌, ℕ, List, [], ◌∷◌, ◌++◌, length, Option, Result, IfOk, IfSome, IfNone, OnSome}
+use Rattle.std.specs.Prelude.{◌≡◌, ℕ, List, [], ◌∷◌, ◌++◌, length, Option, Some, Result, Ok, IfOk, IfSome, IfNone, OnSome}
 use Rattle.ygg_base.specs.declared.token.Token.{Token}
 use Rattle.ygg_list.specs.declared.memory.NoMemory.{NoMemory}
 use Rattle.ygg_syntax.specs.Reading.{Reading, in_turn}
@@ -32,3 +32,7 @@ OnRead result P = IfOk result (λ read. OnSome read P)
 -- what holds where nothing was read
 abbrev pub IfRefused : {A : Type 0} → Result (Option A) NoMemory → Type 0 → Type 0
 IfRefused result P = IfOk result (λ read. IfNone read P)
+
+-- something was read, and all is the list with it at its end
+abbrev pub Added : {A : Type 0} → List A → Result (Option A) NoMemory → List A → Type 0
+Added {A} list next all = (a : A) × ((next ≡ Ok (Some a)) × (all ≡ list ++ a ∷ []))

@@ -1,12 +1,12 @@
-//! Two parts, one read after the other.
+//! Parts that are put together as they are read. A function that puts its parts together so owns none of them where it ends early.
 
 ghost use Rattle.std.specs.Prelude.{◌≡◌, Ok, Some, None};
-ghost use Rattle.ygg_read_expr.specs.Steps.{IfRead, IfRefused};
+ghost use Rattle.ygg_read_expr.specs.Steps.{IfRead, IfRefused, Added};
 
+use sqlite_items::Items;
 use ygg_list::NoMemory;
 
-/// A part that was read, and what was read after it, where something was. A function that puts its parts together with it owns no part
-/// where it ends early. Its only error is that of the second part.
+/// A part that was read, and what was read after it, where something was. The only error is that of the second part.
 pub fn both<A: Drop, B: Drop>(
     first: A,
     second: Result<Option<B>, NoMemory>,
@@ -18,4 +18,20 @@ pub fn both<A: Drop, B: Drop>(
         return Ok(None);
     };
     Ok(Some((first, second)))
+}
+
+/// A list, and what was read for it at its end, where something was. The errors are that of the part and out of memory.
+pub fn added<A: Drop>(
+    list: Items<A>,
+    next: Result<Option<A>, NoMemory>,
+) -> Result<Option<Items<A>>, NoMemory>
+    ensures read { IfRead result (λ all. Added list next all) }
+    ensures refused { IfRefused result (next ≡ Ok None) }
+{
+    let mut all = list;
+    let Some(next) = next? else {
+        return Ok(None);
+    };
+    all.push(next)?;
+    Ok(Some(all))
 }

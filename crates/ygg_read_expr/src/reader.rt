@@ -99,6 +99,21 @@ impl<'a> Reader<'a> {
         None
     }
 
+    /// A part that was read, where the token after it is this symbol, which is taken. A function that goes on so owns no part where it
+    /// ends early.
+    pub fn symbol_after<A: Drop>(&mut self, part: A, symbol: Symbol) -> Option<A>
+        ensures same { IfSome result (λ same. part ≡ same) }
+        ensures reads { OnSome result (Reads (passes (mark.Symbol symbol) ∷ []) self.old self.new) }
+        ensures goes { OnSome result (Goes (exactly (mark.Symbol symbol) ∷ []) self.old self.new) }
+        ensures refused { IfNone result (Stops (exactly (mark.Symbol symbol) ∷ []) self.old self.new) }
+        ensures shorter { OnSome result (length self.new < length self.old) }
+    {
+        let Some(_) = self.symbol(symbol) else {
+            return None;
+        };
+        Some(part)
+    }
+
     /// Takes the next token where it is a number.
     pub fn number(&mut self) -> Option<Numeral>
         ensures taken { IfSome result (λ n. self.old ≡ token (mark.Num n.value) n.place ∷ self.new) }

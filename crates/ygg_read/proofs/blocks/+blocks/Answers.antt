@@ -1,19 +1,54 @@
-use Rattle.std.proofs.Common.{[], ◌∷◌, ◌∙◌, refl, ap}
+use Rattle.std.proofs.Common.{◌≡◌, false, [], ◌∷◌, ◌∙◌, refl, sym, ap, rules}
 use Rattle.ygg_base.specs.declared.token.Keyword.TheVariants as word
-use Rattle.ygg_syntax.specs.Pending.{perhaps, block, else_block, outcome}
-use Rattle.ygg_read_expr.specs.Steps.{Reads, Stops}
+use Rattle.ygg_base.specs.declared.token.Symbol.TheVariants as sign
+use Rattle.ygg_syntax.specs.Reading.{in_turn}
+use Rattle.ygg_syntax.specs.Pending.{perhaps, block, else_block, sign_of, outcome}
+use Rattle.ygg_read_expr.specs.Steps.{Reads, Goes, Stops}
 use Rattle.ygg_syntax.specs.Blocks as phrase
-use Rattle.ygg_read.specs.Steps.{ForPart}
-use Rattle.ygg_read.proofs.Begins.{begins_part}
-use Rattle.ygg_read.proofs.Lists.{all_statements}
-use Rattle.ygg_read.proofs.Phrases.{reads_block, reads_written, reads_if}
-use Rattle.ygg_read.proofs.Results.{where_read, where_refused}
+use Rattle.ygg_read.specs.Steps.{ForPart, begins}
+use Rattle.ygg_read.proofs.Begins.{begins_block, stopped_block, begins_part, no_part, no_statement}
+use Rattle.ygg_read.proofs.Lists.{statement_more, all_statements}
+use Rattle.ygg_read.proofs.Phrases.{reads_block, reads_written, reads_unwritten, reads_if, reads_for}
+use Rattle.ygg_read.proofs.Results.{where_read, where_gone, where_refused}
 use Rattle.ygg_read.proofs.blocks.+blocks.Goals as goal
+
+pub block-returns-in_default-clause-refused : goal.block-returns-in_default-clause-refused
+block-returns-in_default-clause-refused t c =
+    λ qs. stopped_block c.args.kind c.args.reader.now c.in_default.ensures.other qs ∙ c.in_default.ensures.refused qs
+
+pub block-returns-in_default-2-clause-refused : goal.block-returns-in_default-2-clause-refused
+block-returns-in_default-2-clause-refused t c =
+    let stopped = rw c.in_default-2.is at c.in_ok-statements.ensures.refused in
+    λ qs. ap (outcome (block c.args.kind ∷ qs)) c.in-Some.ensures.taken ∙ begins_block c.args.kind c.in-Some.place c.symbol.new.self qs
+    ∙ stopped (sign_of sign.BraceClose ∷ qs)
+
+pub block-returns-in_default-symbol_after-clause-refused : goal.block-returns-in_default-symbol_after-clause-refused
+block-returns-in_default-symbol_after-clause-refused t c =
+    let gone = rw c.in-Some-2.is at c.in_ok-statements.ensures.goes in
+    λ qs. ap (outcome (block c.args.kind ∷ qs)) c.in-Some.ensures.taken ∙ begins_block c.args.kind c.in-Some.place c.symbol.new.self qs
+    ∙ gone (sign_of sign.BraceClose ∷ qs) ∙ c.in_default-symbol_after.ensures.refused qs
 
 pub block-returns-clause-reads : goal.block-returns-clause-reads
 block-returns-clause-reads t c =
-    reads_block c.args.kind c.in-Some.place c.in-Some-2.statements c.args.reader.now c.symbol.new.self c.statements.new.reader c.symbol-2.new.self
-    c.in-Some.ensures.taken (rw c.in-Some-2.is at c.in_ok-statements.ensures.reads) c.in-Some-symbol.ensures.reads
+    let first = rw c.in-Some-2.is at c.in_ok-statements.ensures.reads in
+    let read = rw c.in-Some-symbol_after.ensures.same at first in
+    reads_block c.args.kind c.in-Some.place c.in-Some-symbol_after.statements c.args.reader.now c.symbol.new.self c.statements.new.reader
+    c.symbol_after.new.self c.in-Some.ensures.taken read c.in-Some-symbol_after.ensures.reads
+
+pub block-returns-clause-goes : goal.block-returns-clause-goes
+block-returns-clause-goes t c =
+    let gone = rw c.in-Some-2.is at c.in_ok-statements.ensures.goes in
+    λ qs. ap (outcome (block c.args.kind ∷ qs)) c.in-Some.ensures.taken ∙ begins_block c.args.kind c.in-Some.place c.symbol.new.self qs
+    ∙ gone (sign_of sign.BraceClose ∷ qs) ∙ c.in-Some-symbol_after.ensures.goes qs
+
+pub optional-returns-in_default-clause-reads : goal.optional-returns-in_default-clause-reads
+optional-returns-in_default-clause-reads t c =
+    λ qs. reads_unwritten c.args.keyword c.args.kind c.unwritten.result c.args.reader.now c.in_default.ensures.other c.unwritten.ensures qs
+    ∙ ap (in_turn qs) (sym c.in_default.ensures.left)
+
+pub optional-returns-in_default-clause-goes : goal.optional-returns-in_default-clause-goes
+optional-returns-in_default-clause-goes t c =
+    λ p begin is qs. no_part p c.args.keyword c.args.reader.now begin c.in_default.ensures.other qs ∙ ap (outcome qs) (sym c.in_default.ensures.left)
 
 pub optional-returns-clause-reads : goal.optional-returns-clause-reads
 optional-returns-clause-reads t c =
@@ -29,8 +64,40 @@ optional-returns-clause-refused t c =
     (λ stops p begin is qs. ap (outcome (perhaps p ∷ qs)) c.in-Some.ensures.taken
     ∙ begins_part p c.args.keyword c.args.kind begin is c.in-Some.field-0 c.keyword.new.self qs ∙ stops qs) c.block.ensures.refused
 
+pub optional-returns-clause-goes : goal.optional-returns-clause-goes
+optional-returns-clause-goes t c =
+    where_gone c.block.result (Goes (block c.args.kind ∷ []) c.keyword.new.self c.block.new.reader)
+    (ForPart c.args.keyword c.args.kind (λ p. Goes (perhaps p ∷ []) c.args.reader.now c.block.new.reader))
+    (λ gone p begin is qs. ap (outcome (perhaps p ∷ qs)) c.in-Some.ensures.taken
+    ∙ begins_part p c.args.keyword c.args.kind begin is c.in-Some.field-0 c.keyword.new.self qs ∙ gone qs) c.block.ensures.goes
+
+pub statements-loop-kind-preserved : goal.statements-loop-kind-preserved
+statements-loop-kind-preserved t c =
+    let step = rw c.in-Some.is at c.in_ok-more.ensures.read in
+    let reads = rw step.1.0 at c.statement.ensures.reads in
+    let goes = rw step.1.0 at c.statement.ensures.goes in
+    let shorter = rw step.1.0 at c.statement.ensures.shorter in
+    statement_more c.args.kind _ c.loop-kind.reader c.statement.new.reader c.loop-kind.read c.in-Some.more step.0 c.loop-kind.invariant reads goes
+    shorter step.1.1
+
+pub statements-loop-kind-smaller : goal.statements-loop-kind-smaller
+statements-loop-kind-smaller t c =
+    let step = rw c.in-Some.is at c.in_ok-more.ensures.read in
+    rw step.1.0 at c.statement.ensures.shorter
+
+pub statements-returns-in_default-clause-refused : goal.statements-returns-in_default-clause-refused
+statements-returns-in_default-clause-refused t c =
+    let none = rw c.in_default.is at c.in_ok-more.ensures.refused in
+    let stopped = rw none at c.statement.ensures.refused in
+    λ qs. c.loop-kind.invariant.goes qs ∙ stopped qs
+
 pub statements-returns-clause-reads : goal.statements-returns-clause-reads
 statements-returns-clause-reads t c = all_statements c.args.kind c.args.reader.now c.loop-kind.reader c.loop-kind.read c.loop-kind.invariant
+
+pub statements-returns-clause-goes : goal.statements-returns-clause-goes
+statements-returns-clause-goes t c =
+    let none : begins c.args.kind c.loop-kind.reader ≡ false = search rules in
+    λ qs. c.loop-kind.invariant.goes qs ∙ no_statement c.args.kind c.loop-kind.reader none qs
 
 pub branch-returns-in_default-2-clause-refused : goal.branch-returns-in_default-2-clause-refused
 branch-returns-in_default-2-clause-refused t c =
@@ -78,3 +145,27 @@ sides-returns-clause-goes t c =
     let first = rw c.in-Some.is at c.in_ok-first.ensures.goes in
     let rest = rw parts.1 at c.optional.ensures.goes in
     λ qs. first (perhaps (else_block c.args.kind) ∷ qs) ∙ rest (else_block c.args.kind) refl refl qs
+
+pub repetition-returns-in_default-2-clause-refused : goal.repetition-returns-in_default-2-clause-refused
+repetition-returns-in_default-2-clause-refused t c =
+    let gone = rw c.in-Some.is at c.in_ok-range.ensures.goes in
+    let none = rw c.in_default-2.is at c.in_ok-range-2.ensures.refused in
+    let stopped = rw none at c.block.ensures.refused in
+    λ qs. gone (block c.args.kind ∷ qs) ∙ stopped qs
+
+pub repetition-returns-clause-reads : goal.repetition-returns-clause-reads
+repetition-returns-clause-reads t c =
+    let x = c.in-Some-2.range in
+    let each = c.in-Some-2.each in
+    let parts = rw c.in-Some-2.is at c.in_ok-range-2.ensures.read in
+    let first = rw c.in-Some.is at c.in_ok-range.ensures.reads in
+    let range = rw parts.0 at first in
+    let block = rw parts.1 at c.block.ensures.reads in
+    λ at qs. reads_for x.0 x.1 x.2 each c.args.kind at c.args.reader.now qs ∙ range (phrase.block c.args.kind each ∷ qs) ∙ block qs
+
+pub repetition-returns-clause-goes : goal.repetition-returns-clause-goes
+repetition-returns-clause-goes t c =
+    let parts = rw c.in-Some-2.is at c.in_ok-range-2.ensures.read in
+    let range = rw c.in-Some.is at c.in_ok-range.ensures.goes in
+    let each = rw parts.1 at c.block.ensures.goes in
+    λ qs. range (block c.args.kind ∷ qs) ∙ each qs

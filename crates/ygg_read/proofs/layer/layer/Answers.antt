@@ -8,19 +8,22 @@ use Rattle.ygg_read.proofs.layer.layer.Goals as goal
 pub returns-in_default-2-clause-refused : goal.returns-in_default-2-clause-refused
 returns-in_default-2-clause-refused c =
     let name = rw c.in-Some.is at c.in_ok-name.ensures.goes in
-    let stopped = rw c.in_default-2.is at c.in_ok-setup.ensures.refused in
+    let none = rw c.in_default-2.is at c.in_ok-name-2.ensures.refused in
+    let stopped = rw none at c.parts.ensures.refused in
     λ qs. name (setup_pending ++ (steps_pending ++ (claims_pending ++ qs))) ∙ stopped qs
 
 pub returns-clause-reads : goal.returns-clause-reads
 returns-clause-reads c =
-    let name = rw c.in-Some.is at c.in_ok-name.ensures.reads in
-    let parts = rw c.in-Some-2.is at c.in_ok-setup.ensures.reads in
-    let s = c.in-Some-2.setup in
-    let t = c.in-Some-2.steps in
-    let u = c.in-Some-2.claims in
+    let both = rw c.in-Some-2.is at c.in_ok-name-2.ensures.read in
+    let first = rw c.in-Some.is at c.in_ok-name.ensures.reads in
+    let name = rw both.0 at first in
+    let parts = rw both.1 at c.parts.ensures.reads in
+    let s = c.in-Some-2.parts.0 in
+    let t = c.in-Some-2.parts.1 in
+    let u = c.in-Some-2.parts.2 in
     let l : Layer = record {
       place = c.args.place;
-      name = c.in-Some.name;
+      name = c.in-Some-2.name;
       state = s.state;
       start = s.start;
       memory = s.memory;
@@ -39,6 +42,7 @@ returns-clause-reads c =
 
 pub returns-clause-goes : goal.returns-clause-goes
 returns-clause-goes c =
+    let both = rw c.in-Some-2.is at c.in_ok-name-2.ensures.read in
     let name = rw c.in-Some.is at c.in_ok-name.ensures.goes in
-    let parts = rw c.in-Some-2.is at c.in_ok-setup.ensures.goes in
+    let parts = rw both.1 at c.parts.ensures.goes in
     λ qs. name (setup_pending ++ (steps_pending ++ (claims_pending ++ qs))) ∙ parts qs

@@ -9,7 +9,9 @@ use Rattle.ygg_read.proofs.operations.rest_of_tick.Goals as goal
 
 pub returns-clause-reads : goal.returns-clause-reads
 returns-clause-reads c =
-    let name = rw c.in-Some.is at c.in_ok-name.ensures.reads in
-    let body = rw c.in-Some-2.is at c.in_ok-body.ensures.reads in
-    λ at qs. opened (mark.Keyword word.Tick) (named c.in-Some.name ∷ block Impl c.in-Some-2.body ∷ []) at c.args.reader.now qs
+    let parts = rw c.in-Some-2.is at c.in_ok-name-2.ensures.read in
+    let first = rw c.in-Some.is at c.in_ok-name.ensures.reads in
+    let name = rw parts.0 at first in
+    let body = rw parts.1 at c.block.ensures.reads in
+    λ at qs. opened (mark.Keyword word.Tick) (named c.in-Some-2.name ∷ block Impl c.in-Some-2.body ∷ []) at c.args.reader.now qs
     ∙ name (block Impl c.in-Some-2.body ∷ qs) ∙ body qs

@@ -7,8 +7,8 @@ use Rattle.ygg_read.proofs.ClaimLists.{ListRead}
 use Rattle.ygg_read.proofs.operations.ticks.Given as goal
 
 -- the background steps so far
-abbrev pub invariant-loop-reader : goal.invariant-loop-reader
-invariant-loop-reader l = ListRead tick word.Tick (rest_of pending.tick) l.fn.reader l.all l.reader
+abbrev pub invariant-loop-all : goal.invariant-loop-all
+invariant-loop-all l = ListRead tick word.Tick (rest_of pending.tick) l.fn.reader l.all l.reader
 
-abbrev pub decreases-loop-reader : goal.decreases-loop-reader
-decreases-loop-reader l = length l.reader
+abbrev pub decreases-loop-all : goal.decreases-loop-all
+decreases-loop-all l = length l.reader

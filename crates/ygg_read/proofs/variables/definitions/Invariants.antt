@@ -7,8 +7,8 @@ use Rattle.ygg_read.proofs.ClaimLists.{ListRead}
 use Rattle.ygg_read.proofs.variables.definitions.Given as goal
 
 -- the definitions so far
-abbrev pub invariant-loop-reader : goal.invariant-loop-reader
-invariant-loop-reader l = ListRead definition word.Def (rest_of pending.definition) l.fn.reader l.all l.reader
+abbrev pub invariant-loop-all : goal.invariant-loop-all
+invariant-loop-all l = ListRead definition word.Def (rest_of pending.definition) l.fn.reader l.all l.reader
 
-abbrev pub decreases-loop-reader : goal.decreases-loop-reader
-decreases-loop-reader l = length l.reader
+abbrev pub decreases-loop-all : goal.decreases-loop-all
+decreases-loop-all l = length l.reader

@@ -10,8 +10,12 @@ use Rattle.ygg_read.proofs.variables.rest_of_definition.Goals as goal
 
 pub returns-clause-reads : goal.returns-clause-reads
 returns-clause-reads c =
-    let list = rw c.in-Some.is at c.in_ok-name.ensures.reads in
-    let body = rw c.in-Some-2.is at c.in_ok-shape.ensures.reads in
-    λ at qs. opened (mark.Keyword word.Def) (named c.in-Some.name ∷ symbol sign.RoundOpen ∷ any_declared sorts.All c.in-Some.parameters ∷ symbol sign.RoundClose
-    ∷ symbol sign.Arrow ∷ type_in sorts.All c.in-Some-2.shape ∷ symbol sign.Assign ∷ expr c.in-Some-2.body ∷ symbol sign.Semicolon ∷ []) at c.args.reader.now qs
-    ∙ list (symbol sign.Arrow ∷ type_in sorts.All c.in-Some-2.shape ∷ symbol sign.Assign ∷ expr c.in-Some-2.body ∷ symbol sign.Semicolon ∷ qs) ∙ body qs
+    let head = c.in-Some-2.head in
+    let rest = c.in-Some-2.rest in
+    let parts = rw c.in-Some-2.is at c.in_ok-head-2.ensures.read in
+    let first = rw c.in-Some.is at c.in_ok-head.ensures.reads in
+    let list = rw parts.0 at first in
+    let body = rw parts.1 at c.typed_expression.ensures.reads in
+    λ at qs. opened (mark.Keyword word.Def) (named head.0 ∷ symbol sign.RoundOpen ∷ any_declared sorts.All head.1 ∷ symbol sign.RoundClose
+    ∷ symbol sign.Arrow ∷ type_in sorts.All rest.0 ∷ symbol sign.Assign ∷ expr rest.1 ∷ symbol sign.Semicolon ∷ []) at c.args.reader.now qs
+    ∙ list (symbol sign.Arrow ∷ type_in sorts.All rest.0 ∷ symbol sign.Assign ∷ expr rest.1 ∷ symbol sign.Semicolon ∷ qs) ∙ body qs

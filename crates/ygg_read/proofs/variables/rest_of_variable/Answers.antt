@@ -9,6 +9,7 @@ use Rattle.ygg_read.proofs.variables.rest_of_variable.Goals as goal
 
 pub returns-clause-reads : goal.returns-clause-reads
 returns-clause-reads c =
-    let read = rw c.in-Some.is at c.in_ok-read.ensures.reads in
-    λ k at qs. opened (mark.Keyword k) (declared sorts.All c.in-Some.read ∷ symbol sign.Semicolon ∷ []) at c.args.reader.now qs
-    ∙ read (symbol sign.Semicolon ∷ qs) ∙ c.in-Some-symbol.ensures.reads qs
+    let first = rw c.in-Some.is at c.in_ok-read.ensures.reads in
+    let read = rw c.in-Some-symbol_after.ensures.same at first in
+    λ k at qs. opened (mark.Keyword k) (declared sorts.All c.in-Some-symbol_after.read ∷ symbol sign.Semicolon ∷ []) at c.args.reader.now qs
+    ∙ read (symbol sign.Semicolon ∷ qs) ∙ c.in-Some-symbol_after.ensures.reads qs

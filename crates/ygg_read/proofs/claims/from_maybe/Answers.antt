@@ -1,0 +1,10 @@
+use Rattle.std.proofs.Common.{◌∷◌, ◌∙◌}
+use Rattle.ygg_base.specs.declared.token.Symbol.TheVariants as sign
+use Rattle.ygg_syntax.specs.Expressions.{symbol}
+use Rattle.ygg_read.proofs.claims.from_maybe.Goals as goal
+
+pub returns-clause-reads : goal.returns-clause-reads
+returns-clause-reads c =
+    let first = rw c.in-Some.is at c.in_ok-maybe.ensures.reads in
+    let read = rw c.in-Some-symbol_after.ensures.same at first in
+    λ qs. read (symbol sign.BraceClose ∷ qs) ∙ c.in-Some-symbol_after.ensures.reads qs

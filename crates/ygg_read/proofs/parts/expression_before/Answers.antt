@@ -1,0 +1,9 @@
+use Rattle.std.proofs.Common.{◌∷◌, ◌∙◌}
+use Rattle.ygg_syntax.specs.Expressions.{symbol}
+use Rattle.ygg_read.proofs.parts.expression_before.Goals as goal
+
+pub returns-clause-reads : goal.returns-clause-reads
+returns-clause-reads c =
+    let first = rw c.in-Some.is at c.in_ok-e.ensures.reads in
+    let read = rw c.in-Some-symbol_after.ensures.same at first in
+    λ qs. read (symbol c.args.after ∷ qs) ∙ c.in-Some-symbol_after.ensures.reads qs
