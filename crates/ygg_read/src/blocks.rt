@@ -117,7 +117,6 @@ fn statements(reader: &mut Reader<'_>, kind: BlockKind) -> Result<Option<Items<S
 }
 
 /// Reads a statement, where one begins.
-#[tactic(auto, using(crate::proofs::Begins::begins_assign, crate::proofs::Begins::begins_let, crate::proofs::Begins::begins_if, crate::proofs::Begins::begins_for, crate::proofs::Begins::begins_call, crate::proofs::Begins::calls, crate::proofs::Begins::begun))]
 #[cycle(blocks)]
 fn statement(reader: &mut Reader<'_>, kind: BlockKind) -> Result<Option<Stmt>, NoMemory>
     requires { begins kind reader.old ≡ true }
@@ -129,17 +128,17 @@ fn statement(reader: &mut Reader<'_>, kind: BlockKind) -> Result<Option<Stmt>, N
     if let Some(name) = reader.name()? {
         return parts::assignment(reader, kind, name);
     }
-    if reader.keyword(Keyword::Let).is_some() {
+    if let Some(_) = reader.keyword(Keyword::Let) {
         return parts::binding(reader, kind);
     }
-    if reader.keyword(Keyword::If).is_some() {
+    if let Some(_) = reader.keyword(Keyword::If) {
         return branch(reader, kind);
     }
-    if reader.keyword(Keyword::For).is_some() {
+    if let Some(_) = reader.keyword(Keyword::For) {
         return repetition(reader, kind);
     }
     // in an implementation, since a statement begins so there alone
-    if reader.keyword(Keyword::Call).is_some() {
+    if let Some(_) = reader.keyword(Keyword::Call) {
         return parts::call(reader);
     }
     Ok(None)

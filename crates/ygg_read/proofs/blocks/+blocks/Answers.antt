@@ -1,12 +1,27 @@
-use Rattle.std.proofs.Common.{◌≡◌, false, [], ◌∷◌, ◌∙◌, refl, sym, ap, rules}
+use Rattle.std.proofs.Common.{◌≡◌, false, [], ◌∷◌, ◌∙◌, length, refl, sym, ap, rules, arith}
 use Rattle.ygg_base.specs.declared.token.Keyword.TheVariants as word
 use Rattle.ygg_base.specs.declared.token.Symbol.TheVariants as sign
-use Rattle.ygg_syntax.specs.Reading.{in_turn}
-use Rattle.ygg_syntax.specs.Pending.{perhaps, block, else_block, sign_of, outcome}
+use Rattle.ygg_base.specs.declared.token.Mark.TheVariants as mark
+use Rattle.ygg_syntax.specs.declared.grammar.BlockKind.TheVariants.{Impl}
+use Rattle.ygg_syntax.specs.Reading.{starts, in_turn}
+use Rattle.ygg_syntax.specs.Pending.{perhaps, block, statements, else_block, sign_of, outcome}
 use Rattle.ygg_read_expr.specs.Steps.{Reads, Goes, Stops}
 use Rattle.ygg_syntax.specs.Blocks as phrase
 use Rattle.ygg_read.specs.Steps.{ForPart, begins}
-use Rattle.ygg_read.proofs.Begins.{begins_block, stopped_block, begins_part, no_part, no_statement}
+use Rattle.ygg_read.proofs.Begins.{
+  begins_assign,
+  begins_let,
+  begins_if,
+  begins_for,
+  begins_call,
+  calls,
+  begun,
+  begins_block,
+  stopped_block,
+  begins_part,
+  no_part,
+  no_statement,
+}
 use Rattle.ygg_read.proofs.Lists.{statement_more, all_statements}
 use Rattle.ygg_read.proofs.Phrases.{reads_block, reads_written, reads_unwritten, reads_if, reads_for}
 use Rattle.ygg_read.proofs.Results.{where_read, where_gone, where_refused}
@@ -169,3 +184,145 @@ repetition-returns-clause-goes t c =
     let range = rw c.in-Some.is at c.in_ok-range.ensures.goes in
     let each = rw parts.1 at c.block.ensures.goes in
     λ qs. range (block c.args.kind ∷ qs) ∙ each qs
+
+pub statement-returns-in-Some-clause-reads : goal.statement-returns-in-Some-clause-reads
+statement-returns-in-Some-clause-reads t c =
+    let taken = rw c.in-Some.is at c.in_ok-name.ensures.taken in
+    where_read c.assignment.result _ _ (λ s read qs. ap (in_turn (phrase.statement s c.args.kind ∷ qs)) taken ∙ read qs) c.assignment.ensures.reads
+
+pub statement-returns-in-Some-clause-goes : goal.statement-returns-in-Some-clause-goes
+statement-returns-in-Some-clause-goes t c =
+    let taken = rw c.in-Some.is at c.in_ok-name.ensures.taken in
+    where_gone c.assignment.result _ _ (λ gone qs. ap (outcome (statements c.args.kind ∷ qs)) taken
+    ∙ begins_assign c.args.kind c.in-Some.name.text c.in-Some.name.place c.name.new.self qs ∙ gone (statements c.args.kind ∷ qs)) c.assignment.ensures.goes
+
+pub statement-returns-in-Some-clause-refused : goal.statement-returns-in-Some-clause-refused
+statement-returns-in-Some-clause-refused t c =
+    let taken = rw c.in-Some.is at c.in_ok-name.ensures.taken in
+    where_refused c.assignment.result _ _ (λ stopped qs. ap (outcome (statements c.args.kind ∷ qs)) taken
+    ∙ begins_assign c.args.kind c.in-Some.name.text c.in-Some.name.place c.name.new.self qs ∙ stopped (statements c.args.kind ∷ qs)) c.assignment.ensures.refused
+
+pub statement-returns-in-Some-clause-shorter : goal.statement-returns-in-Some-clause-shorter
+statement-returns-in-Some-clause-shorter t c =
+    let taken = rw c.in-Some.is at c.in_ok-name.ensures.taken in
+    where_gone c.assignment.result _ _ (λ shorter. omega (arith, shorter, ap length taken)) c.assignment.ensures.shorter
+
+pub statement-returns-in-Some-keyword-clause-reads : goal.statement-returns-in-Some-keyword-clause-reads
+statement-returns-in-Some-keyword-clause-reads t c =
+    let left = rw c.in_default.is at c.in_ok-name.ensures.left in
+    let taken = sym left ∙ c.in-Some-keyword.ensures.taken in
+    where_read c.binding.result _ _ (λ s read qs. ap (in_turn (phrase.statement s c.args.kind ∷ qs)) taken ∙ read c.in-Some-keyword.field-0 qs) c.binding.ensures.reads
+
+pub statement-returns-in-Some-keyword-clause-goes : goal.statement-returns-in-Some-keyword-clause-goes
+statement-returns-in-Some-keyword-clause-goes t c =
+    let left = rw c.in_default.is at c.in_ok-name.ensures.left in
+    let taken = sym left ∙ c.in-Some-keyword.ensures.taken in
+    where_gone c.binding.result _ _ (λ gone qs. ap (outcome (statements c.args.kind ∷ qs)) taken
+    ∙ begins_let c.args.kind c.in-Some-keyword.field-0 c.keyword.new.self qs ∙ gone (statements c.args.kind ∷ qs)) c.binding.ensures.goes
+
+pub statement-returns-in-Some-keyword-clause-refused : goal.statement-returns-in-Some-keyword-clause-refused
+statement-returns-in-Some-keyword-clause-refused t c =
+    let left = rw c.in_default.is at c.in_ok-name.ensures.left in
+    let taken = sym left ∙ c.in-Some-keyword.ensures.taken in
+    where_refused c.binding.result _ _ (λ stopped qs. ap (outcome (statements c.args.kind ∷ qs)) taken
+    ∙ begins_let c.args.kind c.in-Some-keyword.field-0 c.keyword.new.self qs ∙ stopped (statements c.args.kind ∷ qs)) c.binding.ensures.refused
+
+pub statement-returns-in-Some-keyword-clause-shorter : goal.statement-returns-in-Some-keyword-clause-shorter
+statement-returns-in-Some-keyword-clause-shorter t c =
+    let left = rw c.in_default.is at c.in_ok-name.ensures.left in
+    let taken = sym left ∙ c.in-Some-keyword.ensures.taken in
+    where_gone c.binding.result _ _ (λ shorter. omega (arith, shorter, ap length taken)) c.binding.ensures.shorter
+
+pub statement-returns-in-Some-keyword-2-clause-reads : goal.statement-returns-in-Some-keyword-2-clause-reads
+statement-returns-in-Some-keyword-2-clause-reads t c =
+    let left = rw c.in_default.is at c.in_ok-name.ensures.left in
+    let taken = sym left ∙ sym c.in_default-keyword.ensures.left ∙ c.in-Some-keyword-2.ensures.taken in
+    where_read c.branch-reader.result _ _ (λ s read qs. ap (in_turn (phrase.statement s c.args.kind ∷ qs)) taken ∙ read c.in-Some-keyword-2.field-0 qs) c.branch-reader.ensures.reads
+
+pub statement-returns-in-Some-keyword-2-clause-goes : goal.statement-returns-in-Some-keyword-2-clause-goes
+statement-returns-in-Some-keyword-2-clause-goes t c =
+    let left = rw c.in_default.is at c.in_ok-name.ensures.left in
+    let taken = sym left ∙ sym c.in_default-keyword.ensures.left ∙ c.in-Some-keyword-2.ensures.taken in
+    where_gone c.branch-reader.result _ _ (λ gone qs. ap (outcome (statements c.args.kind ∷ qs)) taken
+    ∙ begins_if c.args.kind c.in-Some-keyword-2.field-0 c.keyword-2.new.self qs ∙ gone (statements c.args.kind ∷ qs)) c.branch-reader.ensures.goes
+
+pub statement-returns-in-Some-keyword-2-clause-refused : goal.statement-returns-in-Some-keyword-2-clause-refused
+statement-returns-in-Some-keyword-2-clause-refused t c =
+    let left = rw c.in_default.is at c.in_ok-name.ensures.left in
+    let taken = sym left ∙ sym c.in_default-keyword.ensures.left ∙ c.in-Some-keyword-2.ensures.taken in
+    where_refused c.branch-reader.result _ _ (λ stopped qs. ap (outcome (statements c.args.kind ∷ qs)) taken
+    ∙ begins_if c.args.kind c.in-Some-keyword-2.field-0 c.keyword-2.new.self qs ∙ stopped (statements c.args.kind ∷ qs)) c.branch-reader.ensures.refused
+
+pub statement-returns-in-Some-keyword-2-clause-shorter : goal.statement-returns-in-Some-keyword-2-clause-shorter
+statement-returns-in-Some-keyword-2-clause-shorter t c =
+    let left = rw c.in_default.is at c.in_ok-name.ensures.left in
+    let taken = sym left ∙ sym c.in_default-keyword.ensures.left ∙ c.in-Some-keyword-2.ensures.taken in
+    where_gone c.branch-reader.result _ _ (λ shorter. omega (arith, shorter, ap length taken)) c.branch-reader.ensures.shorter
+
+pub statement-returns-in-Some-keyword-3-clause-reads : goal.statement-returns-in-Some-keyword-3-clause-reads
+statement-returns-in-Some-keyword-3-clause-reads t c =
+    let left = rw c.in_default.is at c.in_ok-name.ensures.left in
+    let taken = sym left ∙ sym c.in_default-keyword.ensures.left ∙ sym c.in_default-keyword-2.ensures.left ∙ c.in-Some-keyword-3.ensures.taken in
+    where_read c.repetition.result _ _ (λ s read qs. ap (in_turn (phrase.statement s c.args.kind ∷ qs)) taken ∙ read c.in-Some-keyword-3.field-0 qs) c.repetition.ensures.reads
+
+pub statement-returns-in-Some-keyword-3-clause-goes : goal.statement-returns-in-Some-keyword-3-clause-goes
+statement-returns-in-Some-keyword-3-clause-goes t c =
+    let left = rw c.in_default.is at c.in_ok-name.ensures.left in
+    let taken = sym left ∙ sym c.in_default-keyword.ensures.left ∙ sym c.in_default-keyword-2.ensures.left ∙ c.in-Some-keyword-3.ensures.taken in
+    where_gone c.repetition.result _ _ (λ gone qs. ap (outcome (statements c.args.kind ∷ qs)) taken
+    ∙ begins_for c.args.kind c.in-Some-keyword-3.field-0 c.keyword-3.new.self qs ∙ gone (statements c.args.kind ∷ qs)) c.repetition.ensures.goes
+
+pub statement-returns-in-Some-keyword-3-clause-refused : goal.statement-returns-in-Some-keyword-3-clause-refused
+statement-returns-in-Some-keyword-3-clause-refused t c =
+    let left = rw c.in_default.is at c.in_ok-name.ensures.left in
+    let taken = sym left ∙ sym c.in_default-keyword.ensures.left ∙ sym c.in_default-keyword-2.ensures.left ∙ c.in-Some-keyword-3.ensures.taken in
+    where_refused c.repetition.result _ _ (λ stopped qs. ap (outcome (statements c.args.kind ∷ qs)) taken
+    ∙ begins_for c.args.kind c.in-Some-keyword-3.field-0 c.keyword-3.new.self qs ∙ stopped (statements c.args.kind ∷ qs)) c.repetition.ensures.refused
+
+pub statement-returns-in-Some-keyword-3-clause-shorter : goal.statement-returns-in-Some-keyword-3-clause-shorter
+statement-returns-in-Some-keyword-3-clause-shorter t c =
+    let left = rw c.in_default.is at c.in_ok-name.ensures.left in
+    let taken = sym left ∙ sym c.in_default-keyword.ensures.left ∙ sym c.in_default-keyword-2.ensures.left ∙ c.in-Some-keyword-3.ensures.taken in
+    where_gone c.repetition.result _ _ (λ shorter. omega (arith, shorter, ap length taken)) c.repetition.ensures.shorter
+
+pub statement-returns-in-Some-keyword-4-clause-reads : goal.statement-returns-in-Some-keyword-4-clause-reads
+statement-returns-in-Some-keyword-4-clause-reads t c =
+    let left = rw c.in_default.is at c.in_ok-name.ensures.left in
+    let taken = sym left ∙ sym c.in_default-keyword.ensures.left ∙ sym c.in_default-keyword-2.ensures.left ∙ sym c.in_default-keyword-3.ensures.left ∙ c.in-Some-keyword-4.ensures.taken in
+    let is = calls c.args.kind c.in-Some-keyword-4.field-0 c.keyword-4.new.self (sym (ap (begins c.args.kind) taken) ∙ c.requires) in
+    where_read c.call.result _ _ (λ s read qs. ap (λ kind. in_turn (phrase.statement s kind ∷ qs) c.args.reader.now) is
+    ∙ ap (in_turn (phrase.statement s Impl ∷ qs)) taken ∙ read c.in-Some-keyword-4.field-0 qs) c.call.ensures.reads
+
+pub statement-returns-in-Some-keyword-4-clause-goes : goal.statement-returns-in-Some-keyword-4-clause-goes
+statement-returns-in-Some-keyword-4-clause-goes t c =
+    let left = rw c.in_default.is at c.in_ok-name.ensures.left in
+    let taken = sym left ∙ sym c.in_default-keyword.ensures.left ∙ sym c.in_default-keyword-2.ensures.left ∙ sym c.in_default-keyword-3.ensures.left ∙ c.in-Some-keyword-4.ensures.taken in
+    let is = calls c.args.kind c.in-Some-keyword-4.field-0 c.keyword-4.new.self (sym (ap (begins c.args.kind) taken) ∙ c.requires) in
+    where_gone c.call.result _ _ (λ gone qs. ap (λ kind. outcome (statements kind ∷ qs) c.args.reader.now) is
+    ∙ ap (outcome (statements Impl ∷ qs)) taken ∙ begins_call c.in-Some-keyword-4.field-0 c.keyword-4.new.self qs ∙ gone (statements Impl ∷ qs)
+    ∙ ap (λ kind. outcome (statements kind ∷ qs) c.call.new.reader) (sym is)) c.call.ensures.goes
+
+pub statement-returns-in-Some-keyword-4-clause-refused : goal.statement-returns-in-Some-keyword-4-clause-refused
+statement-returns-in-Some-keyword-4-clause-refused t c =
+    let left = rw c.in_default.is at c.in_ok-name.ensures.left in
+    let taken = sym left ∙ sym c.in_default-keyword.ensures.left ∙ sym c.in_default-keyword-2.ensures.left ∙ sym c.in_default-keyword-3.ensures.left ∙ c.in-Some-keyword-4.ensures.taken in
+    let is = calls c.args.kind c.in-Some-keyword-4.field-0 c.keyword-4.new.self (sym (ap (begins c.args.kind) taken) ∙ c.requires) in
+    where_refused c.call.result _ _ (λ stopped qs. ap (λ kind. outcome (statements kind ∷ qs) c.args.reader.now) is
+    ∙ ap (outcome (statements Impl ∷ qs)) taken ∙ begins_call c.in-Some-keyword-4.field-0 c.keyword-4.new.self qs ∙ stopped (statements Impl ∷ qs)) c.call.ensures.refused
+
+pub statement-returns-in-Some-keyword-4-clause-shorter : goal.statement-returns-in-Some-keyword-4-clause-shorter
+statement-returns-in-Some-keyword-4-clause-shorter t c =
+    let left = rw c.in_default.is at c.in_ok-name.ensures.left in
+    let taken = sym left ∙ sym c.in_default-keyword.ensures.left ∙ sym c.in_default-keyword-2.ensures.left ∙ sym c.in_default-keyword-3.ensures.left ∙ c.in-Some-keyword-4.ensures.taken in
+    where_gone c.call.result _ _ (λ shorter. omega (arith, shorter, ap length taken)) c.call.ensures.shorter
+
+pub statement-returns-clause-refused : goal.statement-returns-clause-refused
+statement-returns-clause-refused t c =
+    let left = rw c.in_default.is at c.in_ok-name.ensures.left in
+    let no_name = rw c.in_default.is at c.in_ok-name.ensures.other in
+    let l1 = sym left ∙ sym c.in_default-keyword.ensures.left in
+    let l2 = l1 ∙ sym c.in_default-keyword-2.ensures.left in
+    let l3 = l2 ∙ sym c.in_default-keyword-3.ensures.left in
+    absurd (begun c.args.kind c.args.reader.now c.requires no_name (ap (starts (mark.Keyword word.Let)) (sym left) ∙ c.in_default-keyword.ensures.other)
+    (ap (starts (mark.Keyword word.If)) l1 ∙ c.in_default-keyword-2.ensures.other) (ap (starts (mark.Keyword word.For)) l2
+    ∙ c.in_default-keyword-3.ensures.other) (ap (starts (mark.Keyword word.Call)) l3 ∙ c.in_default-keyword-4.ensures.other))
