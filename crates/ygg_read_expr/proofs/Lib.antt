@@ -5,3 +5,4 @@ pub mod Marks
 pub mod Phrases
 pub mod Sources
 pub mod Stopped
+pub mod Results

@@ -7,6 +7,7 @@ ghost use Rattle.ygg_syntax.specs.Reading.{token, takes, starts};
 ghost use Rattle.ygg_syntax.specs.Pending.{exactly, name, number, operator, expression, more_expressions, rest_of_arguments, sign_of};
 ghost use Rattle.ygg_read_expr.specs.Steps.{Reads, Goes, GoesAsAtom, Stops, IfRead, OnRead, IfRefused};
 
+use crate::both::{added, both};
 use crate::reader::Reader;
 use sqlite_items::{Boxed, Items};
 use ygg_base::{Keyword, Symbol};
@@ -16,7 +17,6 @@ use ygg_value::Op;
 
 impl<'a> Reader<'a> {
     /// Reads an expression. Where none comes nothing is answered, and the first token that can't come is the next one.
-    #[tactic(auto, using(crate::proofs::Begins::begins_index, crate::proofs::Stopped::dropped_indices))]
     #[cycle(expression)]
     pub fn expression(&mut self) -> Result<Option<Expr>, NoMemory>
         ensures reads { IfRead result (λ e. Reads (expr e ∷ []) self.old self.new) }
@@ -52,7 +52,7 @@ impl<'a> Reader<'a> {
         let Some(e) = self.expression()? else {
             return Ok(None);
         };
-        let Some(_) = self.symbol(after) else {
+        let Some(e) = self.symbol_after(e, after) else {
             return Ok(None);
         };
         Ok(Some(Boxed::new(self.alloc(), e)?))
@@ -138,7 +138,6 @@ impl<'a> Reader<'a> {
     }
 
     /// Reads what follows a name: its arguments, or nothing.
-    #[tactic(auto, using(crate::proofs::Begins::begins_name, crate::proofs::Begins::begins_arguments, crate::proofs::Stopped::dropped_arguments, crate::proofs::Phrases::reads_apply, crate::proofs::Phrases::parts_apply, crate::proofs::Phrases::reads_variable, crate::proofs::Phrases::parts_variable))]
     #[cycle(expression)]
     fn named(&mut self, name: Name) -> Result<Option<Expr>, NoMemory>
         ensures reads { IfRead result (λ e. Reads (expr e ∷ []) (token (mark.Name name.text) name.place ∷ self.old) self.new) }
@@ -147,17 +146,16 @@ impl<'a> Reader<'a> {
         ensures refused { IfRefused result (Stops (expression ∷ []) (token (mark.Name name.text) name.place ∷ self.old) self.new) }
         ensures shorter { OnRead result (length self.new ≤ length self.old) }
     {
-        if self.symbol(Symbol::RoundOpen).is_none() {
+        let Some(_) = self.symbol(Symbol::RoundOpen) else {
             return Ok(Some(Expr::Variable(name)));
-        }
-        let Some(arguments) = self.arguments()? else {
+        };
+        let Some((name, arguments)) = both(name, self.arguments())? else {
             return Ok(None);
         };
         Ok(Some(Expr::Apply(name, arguments)))
     }
 
     /// Reads arguments and the bracket after them.
-    #[tactic(auto, using(crate::proofs::Begins::begins_no_arguments, crate::proofs::Stopped::some_argument, crate::proofs::Phrases::reads_nothing))]
     #[cycle(expression)]
     pub fn arguments(&mut self) -> Result<Option<Items<Expr>>, NoMemory>
         ensures reads { IfRead result (λ es. Reads (any (map phrase es) ∷ symbol sign.RoundClose ∷ []) self.old self.new) }
@@ -165,14 +163,13 @@ impl<'a> Reader<'a> {
         ensures refused { IfRefused result (Stops (rest_of_arguments ∷ []) self.old self.new) }
         ensures shorter { OnRead result (length self.new < length self.old) }
     {
-        if self.symbol(Symbol::RoundClose).is_some() {
-            return Ok(Some(Items::new(self.alloc())));
-        }
-        self.list()
+        let Some(_) = self.symbol(Symbol::RoundClose) else {
+            return self.list();
+        };
+        Ok(Some(Items::new(self.alloc())))
     }
 
     /// Reads one expression or more, and the bracket after them.
-    #[tactic(auto, using(crate::proofs::Begins::begins_more, crate::proofs::Stopped::dropped_more))]
     #[cycle(expression)]
     fn list(&mut self) -> Result<Option<Items<Expr>>, NoMemory>
         ensures reads { IfRead result (λ es. Reads (some (map phrase es) ∷ symbol sign.RoundClose ∷ []) self.old self.new) }
@@ -181,25 +178,24 @@ impl<'a> Reader<'a> {
         ensures refused { IfRefused result (Stops (expression ∷ more_expressions ∷ sign_of sign.RoundClose ∷ []) self.old self.new) }
         ensures shorter { OnRead result (length self.new < length self.old) }
     {
-        let mut parts = Items::new(self.alloc());
-        let Some(first) = self.expression()? else {
+        let none = Items::new(self.alloc());
+        let Some(first) = added(none, self.expression())? else {
             return Ok(None);
         };
-        parts.push(first)?;
+        let mut parts = first;
         while let Some(_) = self.symbol(Symbol::Comma) {
-            let Some(next) = self.expression()? else {
+            let Some(more) = added(parts, self.expression())? else {
                 return Ok(None);
             };
-            parts.push(next)?;
+            parts = more;
         }
-        let Some(_) = self.symbol(Symbol::RoundClose) else {
+        let Some(parts) = self.symbol_after(parts, Symbol::RoundClose) else {
             return Ok(None);
         };
         Ok(Some(parts))
     }
 
     /// Reads what follows a `~`.
-    #[tactic(auto, using(crate::proofs::Begins::begins_not, crate::proofs::Phrases::reads_not, crate::proofs::Phrases::parts_not))]
     #[cycle(expression)]
     fn negation(&mut self, first: Place) -> Result<Option<Expr>, NoMemory>
         ensures reads { IfRead result (λ e. Reads (expr e ∷ []) (token (mark.Symbol sign.Tilde) first ∷ self.old) self.new) }
@@ -210,11 +206,11 @@ impl<'a> Reader<'a> {
         let Some(part) = self.expression()? else {
             return Ok(None);
         };
-        Ok(Some(Expr::Not(first, Boxed::new(self.alloc(), part)?)))
+        let part = Boxed::new(self.alloc(), part)?;
+        Ok(Some(Expr::Not(first, part)))
     }
 
     /// Reads what follows the bracket of a binary operation.
-    #[tactic(auto, using(crate::proofs::Begins::begins_binary, crate::proofs::Phrases::reads_binary, crate::proofs::Phrases::parts_binary))]
     #[cycle(expression)]
     fn binary(&mut self, first: Place) -> Result<Option<Expr>, NoMemory>
         ensures reads { IfRead result (λ e. Reads (expr e ∷ []) (token (mark.Symbol sign.RoundOpen) first ∷ self.old) self.new) }
@@ -233,7 +229,6 @@ impl<'a> Reader<'a> {
     }
 
     /// Reads what follows a `pick`.
-    #[tactic(auto, using(crate::proofs::Begins::begins_pick, crate::proofs::Phrases::reads_pick, crate::proofs::Phrases::parts_pick))]
     #[cycle(expression)]
     fn pick(&mut self, first: Place) -> Result<Option<Expr>, NoMemory>
         ensures reads { IfRead result (λ e. Reads (expr e ∷ []) (token (mark.Keyword word.Pick) first ∷ self.old) self.new) }
@@ -258,7 +253,6 @@ impl<'a> Reader<'a> {
     }
 
     /// Reads what follows a `resize`.
-    #[tactic(auto, using(crate::proofs::Begins::begins_resize, crate::proofs::Phrases::reads_resize, crate::proofs::Phrases::parts_resize))]
     #[cycle(expression)]
     fn resize(&mut self, first: Place) -> Result<Option<Expr>, NoMemory>
         ensures reads { IfRead result (λ e. Reads (expr e ∷ []) (token (mark.Keyword word.Resize) first ∷ self.old) self.new) }
@@ -283,7 +277,6 @@ impl<'a> Reader<'a> {
     }
 
     /// Reads what follows a `fill`.
-    #[tactic(auto, using(crate::proofs::Begins::begins_fill, crate::proofs::Phrases::reads_fill, crate::proofs::Phrases::parts_fill))]
     #[cycle(expression)]
     fn fill(&mut self, first: Place) -> Result<Option<Expr>, NoMemory>
         ensures reads { IfRead result (λ e. Reads (expr e ∷ []) (token (mark.Keyword word.Fill) first ∷ self.old) self.new) }
@@ -308,7 +301,6 @@ impl<'a> Reader<'a> {
     }
 
     /// Reads what follows a `row`.
-    #[tactic(auto, using(crate::proofs::Begins::begins_row, crate::proofs::Phrases::reads_row, crate::proofs::Phrases::parts_row))]
     #[cycle(expression)]
     fn row(&mut self, first: Place) -> Result<Option<Expr>, NoMemory>
         ensures reads { IfRead result (λ e. Reads (expr e ∷ []) (token (mark.Keyword word.Row) first ∷ self.old) self.new) }
@@ -327,7 +319,6 @@ impl<'a> Reader<'a> {
     }
 
     /// Reads what follows an `all` or `any`.
-    #[tactic(auto, using(crate::proofs::Begins::begins_quantified, crate::proofs::Phrases::reads_quantified, crate::proofs::Phrases::parts_quantified))]
     #[cycle(expression)]
     fn quantified(&mut self, first: Place, which: Quantifier) -> Result<Option<Expr>, NoMemory>
         ensures reads { IfRead result (λ e. Reads (expr e ∷ []) (token (mark.Keyword (quantifier_word which)) first ∷ self.old) self.new) }
@@ -339,15 +330,16 @@ impl<'a> Reader<'a> {
         let Some(_) = self.symbol(Symbol::RoundOpen) else {
             return Ok(None);
         };
-        let Some((name, width, bound)) = self.range()? else {
+        let Some(range) = self.range()? else {
             return Ok(None);
         };
-        let Some(_) = self.symbol(Symbol::Comma) else {
+        let Some(range) = self.symbol_after(range, Symbol::Comma) else {
             return Ok(None);
         };
-        let Some(test) = self.part(Symbol::RoundClose)? else {
+        let Some((range, test)) = both(range, self.part(Symbol::RoundClose))? else {
             return Ok(None);
         };
+        let (name, width, bound) = range;
         Ok(Some(Expr::Quantified(first, which, name, width, bound, test)))
     }
 
@@ -362,7 +354,7 @@ impl<'a> Reader<'a> {
         let Some(e) = self.expression()? else {
             return Ok(None);
         };
-        let Some((operator, place)) = self.operator() else {
+        let Some((e, (operator, place))) = Some(e).zip(self.operator()) else {
             return Ok(None);
         };
         Ok(Some((Boxed::new(self.alloc(), e)?, operator, place)))
@@ -379,18 +371,31 @@ impl<'a> Reader<'a> {
         let Some(name) = self.name()? else {
             return Ok(None);
         };
-        let Some(_) = self.symbol(Symbol::Colon) else {
+        let Some(name) = self.symbol_after(name, Symbol::Colon) else {
             return Ok(None);
         };
-        let Some(width) = self.number() else {
-            return Ok(None);
-        };
-        let Some(_) = self.keyword(Keyword::Below) else {
-            return Ok(None);
-        };
-        let Some(bound) = self.number() else {
+        let Some((name, (width, bound))) = Some(name).zip(self.counted()) else {
             return Ok(None);
         };
         Ok(Some((name, width, bound)))
+    }
+
+    /// Reads the width and the bound of a number that is counted.
+    fn counted(&mut self) -> Option<(Numeral, Numeral)>
+        ensures reads { IfSome result (λ read. Reads (numbered read.0 ∷ keyword word.Below ∷ numbered read.1 ∷ []) self.old self.new) }
+        ensures goes { OnSome result (Goes (number ∷ exactly (mark.Keyword word.Below) ∷ number ∷ []) self.old self.new) }
+        ensures refused { IfNone result (Stops (number ∷ exactly (mark.Keyword word.Below) ∷ number ∷ []) self.old self.new) }
+        ensures shorter { OnSome result (length self.new < length self.old) }
+    {
+        let Some(width) = self.number() else {
+            return None;
+        };
+        let Some(_) = self.keyword(Keyword::Below) else {
+            return None;
+        };
+        let Some(bound) = self.number() else {
+            return None;
+        };
+        Some((width, bound))
     }
 }

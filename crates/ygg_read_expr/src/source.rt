@@ -9,6 +9,7 @@ ghost use Rattle.ygg_syntax.specs.Blocks.{source_in, bracketed};
 ghost use Rattle.ygg_syntax.specs.Pending.{name, rest_of_arguments, right_side, sign_of};
 ghost use Rattle.ygg_read_expr.specs.Steps.{Reads, Goes, Stops, IfRead, OnRead, IfRefused};
 
+use crate::both::both;
 use crate::reader::Reader;
 use sqlite_items::Items;
 use ygg_base::{Keyword, Symbol};
@@ -93,12 +94,12 @@ impl<'a> Reader<'a> {
         let Some(name) = self.name()? else {
             return Ok(None);
         };
-        let Some(_) = self.symbol(Symbol::RoundOpen) else {
+        let Some(name) = self.symbol_after(name, Symbol::RoundOpen) else {
             return Ok(None);
         };
-        let Some(arguments) = self.arguments()? else {
+        let Some(read) = both(name, self.arguments())? else {
             return Ok(None);
         };
-        Ok(Some((name, arguments)))
+        Ok(Some(read))
     }
 }

@@ -52,8 +52,8 @@ abbrev pub decreases-expression-loop-bracket : goal.decreases-expression-loop-br
 decreases-expression-loop-bracket l = length l.self
 
 -- the expressions so far, and those that still come
-abbrev pub invariant-list-loop-self : goal.invariant-list-loop-self
-invariant-list-loop-self l = SomeRead l.fn.self l.parts l.self
+abbrev pub invariant-list-loop-parts : goal.invariant-list-loop-parts
+invariant-list-loop-parts l = SomeRead l.fn.self l.parts l.self
 
-abbrev pub decreases-list-loop-self : goal.decreases-list-loop-self
-decreases-list-loop-self l = length l.self
+abbrev pub decreases-list-loop-parts : goal.decreases-list-loop-parts
+decreases-list-loop-parts l = length l.self

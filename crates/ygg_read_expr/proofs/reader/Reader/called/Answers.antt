@@ -7,7 +7,11 @@ use Rattle.ygg_read_expr.proofs.reader.Reader.called.Goals as goal
 
 pub returns-clause-reads : goal.returns-clause-reads
 returns-clause-reads c =
-    let name = rw c.in-Some.is at c.in_ok-name.ensures.reads in
-    let arguments = rw c.in-Some-2.is at c.in_ok-arguments.ensures.reads in
-    λ qs. name (bracketed c.in-Some-2.arguments ∷ qs) ∙ reads_bracketed c.in-Some-2.arguments c.name.new.self qs
-    ∙ c.in-Some-symbol.ensures.reads (any (map phrase c.in-Some-2.arguments) ∷ symbol sign.RoundClose ∷ qs) ∙ arguments qs
+    let read = c.in-Some-2.read in
+    let parts = rw c.in-Some-2.is at c.in_ok-read.ensures.read in
+    let first = rw c.in-Some.is at c.in_ok-name.ensures.reads in
+    let kept = rw c.in-Some-symbol_after.ensures.same at first in
+    let name = rw parts.0 at kept in
+    let arguments = rw parts.1 at c.arguments.ensures.reads in
+    λ qs. name (bracketed read.1 ∷ qs) ∙ reads_bracketed read.1 c.name.new.self qs
+    ∙ c.in-Some-symbol_after.ensures.reads (any (map phrase read.1) ∷ symbol sign.RoundClose ∷ qs) ∙ arguments qs
