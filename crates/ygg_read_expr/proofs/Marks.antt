@@ -1,5 +1,5 @@
 -- Marks that are spelled alike are the same.
-use Rattle.std.proofs.Common.{◌≡◌, ℕ, ◌==◌, Bool, true, false, cond, ◌&&◌, List, [], ◌∷◌, Option, Some, None, refl, sym, ap, ◌∙◌, arith}
+use Rattle.std.proofs.Common.{◌≡◌, ℕ, ◌==◌, Bool, true, false, cond, ◌&&◌, List, [], ◌∷◌, length, Option, Some, None, refl, sym, ap, ◌∙◌, arith}
 use Rattle.std.specs.Str.{bytes_eq}
 use Rattle.std.proofs.lemmas.Bool.Decides.{nat_tests}
 use Rattle.std.proofs.lemmas.Slice.Eq.{bytes_eq-Decides}
@@ -13,7 +13,7 @@ use Rattle.ygg_base.specs.declared.token.Token.{Token}
 use Rattle.ygg_base.specs.Spelling.{keyword_bytes, symbol_bytes}
 use Rattle.ygg_base.specs.Lexing.{keyword_of, symbol_of}
 use Rattle.ygg_syntax.specs.declared.tree.Place.{Place}
-use Rattle.ygg_syntax.specs.Reading.{token, same_mark, passes, takes}
+use Rattle.ygg_syntax.specs.Reading.{token, same_mark, starts, passes, takes}
 
 keyword_again : (k : Keyword) → keyword_of (keyword_bytes k) ≡ Some k
 keyword_again word.Yggdrasil = refl
@@ -112,6 +112,19 @@ same_is (mark.Keyword j) (mark.Symbol t) h = absurd (cc)
 same_is (mark.Symbol s) (mark.Name t) h = absurd (cc)
 same_is (mark.Symbol s) (mark.Num n) h = absurd (cc)
 same_is (mark.Symbol s) (mark.Keyword k) h = absurd (cc)
+
+not_true : (b : Bool) → (b ≡ true → ⊥) → b ≡ false
+not_true true h = absurd (h refl)
+not_true false h = refl
+
+-- another token comes first
+pub starts_other : (m : Mark) (t : Token) (ts from : List Token) → from ≡ t ∷ ts → (m ≡ t.mark → ⊥) → starts m from ≡ false
+starts_other m t ts from is h = ap (starts m) is ∙ not_true (same_mark m t.mark) (λ same. h (same_is m t.mark same))
+
+-- no token comes
+pub starts_none : (m : Mark) (from : List Token) → length from ≡ 0 → starts m from ≡ false
+starts_none m [] h = refl
+starts_none m (t ∷ ts) h = absurd (omega arith)
 
 -- a token of this mark comes first
 pub record Comes (m : Mark) (from rest : List Token) : Type 0 where

@@ -99,8 +99,22 @@ impl<'a> Reader<'a> {
         None
     }
 
-    /// A part that was read, where the token after it is this symbol, which is taken. A function that goes on so owns no part where it
+    /// A part that was read, where the token after it is this keyword, which is taken. A function that goes on so owns no part where it
     /// ends early.
+    pub fn keyword_after<A: Drop>(&mut self, part: A, keyword: Keyword) -> Option<A>
+        ensures same { IfSome result (λ same. part ≡ same) }
+        ensures reads { OnSome result (Reads (passes (mark.Keyword keyword) ∷ []) self.old self.new) }
+        ensures goes { OnSome result (Goes (exactly (mark.Keyword keyword) ∷ []) self.old self.new) }
+        ensures refused { IfNone result (Stops (exactly (mark.Keyword keyword) ∷ []) self.old self.new) }
+        ensures shorter { OnSome result (length self.new < length self.old) }
+    {
+        let Some(_) = self.keyword(keyword) else {
+            return None;
+        };
+        Some(part)
+    }
+
+    /// The same with a symbol.
     pub fn symbol_after<A: Drop>(&mut self, part: A, symbol: Symbol) -> Option<A>
         ensures same { IfSome result (λ same. part ≡ same) }
         ensures reads { OnSome result (Reads (passes (mark.Symbol symbol) ∷ []) self.old self.new) }
