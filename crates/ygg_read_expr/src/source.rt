@@ -64,7 +64,6 @@ impl<'a> Reader<'a> {
     }
 
     /// Reads a right side that may call the machine below.
-    #[tactic(auto, using(crate::proofs::Sources::impl_value, crate::proofs::Sources::begins_call, crate::proofs::Sources::reads_call))]
     fn impl_source(&mut self) -> Result<Option<Source>, NoMemory>
         ensures reads { IfRead result (λ s. Reads (source_in purpose.Impl s ∷ []) self.old self.new) }
         ensures goes { OnRead result (Goes (right_side purpose.Impl ∷ []) self.old self.new) }
@@ -84,7 +83,6 @@ impl<'a> Reader<'a> {
     }
 
     /// Reads what follows a `call`.
-    #[tactic(auto, using(crate::proofs::Sources::reads_bracketed))]
     pub fn called(&mut self) -> Result<Option<(Name, Items<Expr>)>, NoMemory>
         ensures reads { IfRead result (λ read. Reads (named read.0 ∷ bracketed read.1 ∷ []) self.old self.new) }
         ensures goes { OnRead result (Goes (name ∷ sign_of sign.RoundOpen ∷ rest_of_arguments ∷ []) self.old self.new) }
