@@ -1,15 +1,7 @@
 -- From what a callee answers to what its caller does.
-use Rattle.std.proofs.Common.{Option, Some, None, Result, Ok, Err, IfSome, OnSome, IfNone}
-use Rattle.ygg_list.specs.declared.memory.NoMemory.{NoMemory}
-use Rattle.ygg_read_expr.specs.Steps.{IfRead}
+use Rattle.std.proofs.Common.{Option, Some, None, IfSome, OnSome, IfNone}
 
--- what is read has another property
-pub if_read : {A : Type 0} (result : Result (Option A) NoMemory) (P Q : A → Type 0) → ((a : A) → P a → Q a) → IfRead result P → IfRead result Q
-if_read (Ok (Some a)) P Q f h = f a h
-if_read (Ok None) P Q f h = h
-if_read (Err e) P Q f h = h
-
--- the same without running out of memory, where the property doesn't speak of what is read
+-- what is read has another property that doesn't speak of it
 pub on_some : {A : Type 0} (result : Option A) (P : A → Type 0) (Q : Type 0) → ((a : A) → P a → Q) → IfSome result P → OnSome result Q
 on_some (Some a) P Q f h = f a h
 on_some None P Q f h = h

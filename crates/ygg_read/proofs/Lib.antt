@@ -1,7 +1,6 @@
 pub mod Begins
 pub mod Lists
 pub mod Phrases
-pub mod Results
 pub mod Answered
 pub mod Files
 pub mod ClaimLists

@@ -18,6 +18,7 @@ use std::alloc::Global;
 use ygg_base::{Keyword, Mark, Reason, Refuse, Symbol, Token, Tokens};
 use ygg_list::NoMemory;
 use ygg_read_expr::Reader;
+use ygg_read_expr::both::both;
 use ygg_syntax::tree::{File, Numeral, Place};
 
 /// The file that derives from the tokens. Where none does they are refused 3 at the first token that can't come, or at the
@@ -76,7 +77,6 @@ fn ends(reader: &Reader<'_>) -> bool
 }
 
 /// Reads a file.
-#[tactic(auto, using(ygg_read_expr::proofs::Phrases::joined, crate::proofs::Files::file_opens))]
 fn file(reader: &mut Reader<'_>) -> Result<Option<File>, NoMemory>
     ensures reads { IfRead result (λ f. Reads (whole_file f ∷ []) reader.old reader.new) }
     ensures goes { OnRead result (Goes (pending.file ∷ []) reader.old reader.new) }
@@ -91,7 +91,7 @@ fn file(reader: &mut Reader<'_>) -> Result<Option<File>, NoMemory>
     let Some(defs) = definitions(reader)? else {
         return Ok(None);
     };
-    let Some(layers) = layers(reader)? else {
+    let Some((defs, layers)) = both(defs, layers(reader))? else {
         return Ok(None);
     };
     Ok(Some(File { disk, defs, layers }))

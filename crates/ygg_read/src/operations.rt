@@ -84,7 +84,6 @@ fn rest_of_operation(reader: &mut Reader<'_>) -> Result<Option<Operation>, NoMem
 }
 
 /// Reads what follows the arguments of an operation.
-#[tactic(auto, using(crate::proofs::LayerClaims::begins_spec, crate::proofs::LayerClaims::begins_arrow, crate::proofs::Files::stopped_blocks))]
 fn blocks(reader: &mut Reader<'_>) -> Result<Option<OperationBlocks>, NoMemory>
     ensures reads { IfRead result (λ b. (x : Name) (arguments : List Declared) →
         Reads (operation_blocks (operation_of x arguments b) b.answer ∷ []) reader.old reader.new) }
@@ -198,14 +197,13 @@ fn crash_case(reader: &mut Reader<'_>) -> Result<Option<Option<Block>>, NoMemory
     let Some(on_crash) = on_crash(reader)? else {
         return Ok(None);
     };
-    let Some(_) = reader.keyword(Keyword::Impl) else {
+    let Some(on_crash) = reader.keyword_after(on_crash, Keyword::Impl) else {
         return Ok(None);
     };
     Ok(Some(on_crash))
 }
 
 /// Reads the block for a crash, or nothing where its keyword doesn't come.
-#[tactic(auto, using(ygg_read_expr::proofs::Stopped::left_out, ygg_read_expr::proofs::Phrases::joined))]
 fn on_crash(reader: &mut Reader<'_>) -> Result<Option<Option<Block>>, NoMemory>
     ensures reads { IfRead result (λ b. Reads (on_crash b ∷ []) reader.old reader.new) }
     ensures goes { OnRead result (Goes (perhaps pending.on_crash ∷ []) reader.old reader.new) }

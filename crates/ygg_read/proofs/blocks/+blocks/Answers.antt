@@ -24,7 +24,7 @@ use Rattle.ygg_read.proofs.Begins.{
 }
 use Rattle.ygg_read.proofs.Lists.{statement_more, all_statements}
 use Rattle.ygg_read.proofs.Phrases.{reads_block, reads_written, reads_unwritten, reads_if, reads_for}
-use Rattle.ygg_read.proofs.Results.{where_read, where_gone, where_refused}
+use Rattle.ygg_read_expr.proofs.Results.{where_read, where_gone, where_refused}
 use Rattle.ygg_read.proofs.blocks.+blocks.Goals as goal
 
 pub block-returns-in_default-clause-refused : goal.block-returns-in_default-clause-refused
