@@ -57,10 +57,7 @@ pub fn answer(reader: &mut Reader<'_>) -> Result<Option<Expr>, NoMemory>
 }
 
 /// Reads an expression and this symbol after it.
-pub fn expression_before(
-    reader: &mut Reader<'_>,
-    after: Symbol,
-) -> Result<Option<Expr>, NoMemory>
+pub fn expression_before(reader: &mut Reader<'_>, after: Symbol) -> Result<Option<Expr>, NoMemory>
     ensures reads { IfRead result (λ e. Reads (expr e ∷ symbol after ∷ []) reader.old reader.new) }
     ensures goes { OnRead result (Goes (pending.expression ∷ pending.sign_of after ∷ []) reader.old reader.new) }
     ensures refused { IfRefused result (Stops (pending.expression ∷ pending.sign_of after ∷ []) reader.old reader.new) }

@@ -102,7 +102,6 @@ fn table(reader: &mut Reader<'_>) -> Option<TypeText>
 }
 
 /// Reads a name and its type.
-#[tactic(auto, using(ygg_read_expr::proofs::Phrases::joined))]
 pub fn declared(reader: &mut Reader<'_>, sort: Sort) -> Result<Option<Declared>, NoMemory>
     ensures reads { IfRead result (λ d. Reads (declared sort d ∷ []) reader.old reader.new) }
     ensures goes { OnRead result (Goes (name ∷ sign_of sign.Colon ∷ some_type sort ∷ []) reader.old reader.new) }

@@ -1,11 +1,10 @@
 use Rattle.std.proofs.Common.{◌≡◌, [], ◌∷◌, ◌++◌, ◌∙◌, ap, map, sym, length, rules, arith}
 use Rattle.ygg_base.specs.declared.token.Keyword.TheVariants as word
 use Rattle.ygg_base.specs.declared.token.Mark.TheVariants as mark
-use Rattle.ygg_base.specs.declared.token.Token.{Token}
 use Rattle.ygg_base.specs.declared.token.Symbol.TheVariants as sign
-use Rattle.ygg_syntax.specs.Expressions.{Phrase, phrase, expr, keyword, named, numbered, operator_sign, any, some, symbol}
-use Rattle.ygg_syntax.specs.Reading.{in_turn, takes}
-use Rattle.ygg_syntax.specs.Pending.{exactly, name, number, operator, expression, more_expressions, rest_of_arguments, arguments, indices, sign_of, outcome, stops}
+use Rattle.ygg_syntax.specs.Expressions.{Phrase, phrase, expr, keyword, named, numbered, any, some, symbol}
+use Rattle.ygg_syntax.specs.Reading.{in_turn}
+use Rattle.ygg_syntax.specs.Pending.{exactly, name, number, operator, expression, more_expressions, rest_of_arguments, arguments, indices, sign_of, outcome}
 use Rattle.ygg_read_expr.proofs.Begins.{
   begins_index,
   begins_not,

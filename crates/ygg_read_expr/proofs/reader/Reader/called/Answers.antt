@@ -1,4 +1,4 @@
-use Rattle.std.proofs.Common.{◌≡◌, ◌∷◌, ◌∙◌, map}
+use Rattle.std.proofs.Common.{◌∷◌, ◌∙◌, map}
 use Rattle.ygg_base.specs.declared.token.Symbol.TheVariants as sign
 use Rattle.ygg_syntax.specs.Expressions.{phrase, symbol, any}
 use Rattle.ygg_syntax.specs.Blocks.{bracketed}
