@@ -21,19 +21,19 @@ use Rattle.ygg_oblige_laws.proofs.Starting.{states_mean}
 use Rattle.ygg_oblige_parts.specs.Makers.{StartingShaped, started_made}
 
 -- what is made of steps, where each went as it is defined to
-pub started_from : (R : Out Id) (f : Id → Make (List Replacement)) (s : Make Id) (x : Trio) (related settled : Id) (known settling : List Replacement)
-    (one two three : List Node) (from : Trio) (low : List SymValue) → related ≡ R.value → one ≡ R.nodes → known ≡ (f related one).value →
-    two ≡ (f related one).nodes → settled ≡ (s two).value → three ≡ (s two).nodes → settling ≡ (f settled three).value → from ≡ replaced_trio known x →
-    low ≡ replaced_all settling x.low →
-    (let S : Starting = record { related = related; from = from; settled = settled; settled_low = low } in S)
-    ≡ (goes_on R (λ related. and_make (f related) (λ facts. and_make s (λ settled. and_make (f settled) (λ settling.
+pub started_from : (R : Out Id) (f : Id → Make (List Replacement)) (s : Make Id) (x : Trio) (related settled : Id)
+    (one two three last : List Node) (from : Trio) (low : List SymValue) → related ≡ R.value → one ≡ R.nodes →
+    from ≡ replaced_trio (f related one).value x → two ≡ (f related one).nodes → settled ≡ (s two).value → three ≡ (s two).nodes →
+    low ≡ replaced_all (f settled three).value x.low → last ≡ (f settled three).nodes →
+    (let O : Out Starting = record { value = record { related = related; from = from; settled = settled; settled_low = low }; nodes = last } in O)
+    ≡ goes_on R (λ related. and_make (f related) (λ facts. and_make s (λ settled. and_make (f settled) (λ settling.
     pure (let S : Starting = record {
       related = related;
       from = replaced_trio facts x;
       settled = settled;
       settled_low = replaced_all settling x.low;
-    } in S)))))).value
-started_from R f s x related settled known settling one two three from low a b c d e g h i j = cc
+    } in S)))))
+started_from R f s x related settled one two three last from low a b c d e g h i = cc
 
 module _ (kinds : List RuleKind) (terms : SymFunctions) (L : ClosedLayer) where
   pub starting_from : (number : ℕ) (old : List Node) (x : Trio) (mid : List Node) → x ≡ (fresh_trio kinds terms L number old).value →

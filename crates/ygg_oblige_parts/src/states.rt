@@ -8,6 +8,8 @@ ghost use Rattle.ygg_sym_spec.specs.ygg_sym_runs.Lows.{LowShaped};
 ghost use Rattle.ygg_sym_spec.specs.ygg_sym_expr.Seen.{env_of};
 ghost use Rattle.ygg_sym_spec.specs.ygg_sym_runs.Lower.{KeepsSingle};
 ghost use Rattle.ygg_sym_spec.specs.Layers.{closed, terms_in};
+ghost use Rattle.ygg_oblige_laws.specs.ygg_shape_hypothesis.Finding.{facts_in};
+ghost use Rattle.ygg_oblige_laws.specs.ygg_shape_hypothesis.Replacing.{replaced_value};
 ghost use Rattle.ygg_oblige_laws.specs.TermStates.{
   fresh_trio,
   related_made,
@@ -28,7 +30,8 @@ use std::alloc::Global;
 use ygg_oblige_given::words_in;
 use ygg_oblige_laws::{Replacements, facts, replace};
 use ygg_sym_spec::{
-    Bank, Book, Id, NoMemory, SymBelow, SymBinding, SymEvaluator, SymLayer, SymValues,
+    Bank, Book, Id, NoMemory, SymBelow, SymBinding, SymEvaluator, SymLayer, SymValue,
+    SymValues,
 };
 use ygg_value::Op;
 
@@ -69,7 +72,21 @@ pub struct Maker<'a, B> {
     pub below: SymBelow<'a>,
 }
 
-/// Values with terms in the stead of their inputs, so often that what is said of one input by another is followed a few times.
+/// A value with terms in the stead of its inputs, so often that what is said of one input by another is followed a few times.
+fn replaced(
+    alloc: Global,
+    replacements: &Replacements,
+    value: &SymValue,
+) -> Result<SymValue, NoMemory>
+    ensures { IfOk result (λ x. x
+        ≡ replaced_value replacements.now (replaced_value replacements.now (replaced_value replacements.now value.now))) }
+{
+    let once = replace(alloc, replacements, value)?;
+    let twice = replace(alloc, replacements, &once)?;
+    replace(alloc, replacements, &twice)
+}
+
+/// Values with terms in the stead of their inputs.
 fn replaced_all(
     alloc: Global,
     replacements: &Replacements,
@@ -77,15 +94,13 @@ fn replaced_all(
 ) -> Result<SymValues, NoMemory>
     ensures { IfOk result (λ xs. xs ≡ replaced_all replacements.now values.now) }
 {
-    let mut replaced = SymValues::new(alloc);
+    let mut answer = SymValues::new(alloc);
     let all = values.as_slice();
     for value in all {
-        let once = replace(alloc, replacements, value)?;
-        let twice = replace(alloc, replacements, &once)?;
-        let thrice = replace(alloc, replacements, &twice)?;
-        replaced.push(thrice)?;
+        let other = replaced(alloc, replacements, value)?;
+        answer.push(other)?;
     }
-    Ok(replaced)
+    Ok(answer)
 }
 
 /// The states with terms in the stead of their inputs.
@@ -101,6 +116,42 @@ fn replaced_trio(
         memory: replaced_all(alloc, replacements, &x.memory)?,
         low: replaced_all(alloc, replacements, &x.low)?,
     })
+}
+
+/// The states with what a term says of their inputs, where it is 1, put in the inputs' stead.
+fn trio_under<B: Book>(
+    alloc: Global,
+    bank: &mut Bank,
+    book: &B,
+    known: Id,
+    x: &SymTrio,
+) -> Result<SymTrio, NoMemory>
+    requires { HasWidth bank.old known 1 }
+    ensures nodes { OnOk result (bank.new ≡ (facts_in (B.kinds book.now) known bank.old).nodes) }
+    ensures form { IfOk result (λ y. trio_of y ≡ replaced_trio (facts_in (B.kinds book.now) known bank.old).value (trio_of x.now)) }
+    ensures grows { Extends bank.old bank.new }
+    ensures bank { IsBank bank.new }
+{
+    let replacements = facts(alloc, bank, book, known)?;
+    replaced_trio(alloc, &replacements, x)
+}
+
+/// The values with what a term says of their inputs, where it is 1, put in the inputs' stead.
+fn values_under<B: Book>(
+    alloc: Global,
+    bank: &mut Bank,
+    book: &B,
+    known: Id,
+    values: &SymValues,
+) -> Result<SymValues, NoMemory>
+    requires { HasWidth bank.old known 1 }
+    ensures nodes { OnOk result (bank.new ≡ (facts_in (B.kinds book.now) known bank.old).nodes) }
+    ensures form { IfOk result (λ xs. xs ≡ replaced_all (facts_in (B.kinds book.now) known bank.old).value values.now) }
+    ensures grows { Extends bank.old bank.new }
+    ensures bank { IsBank bank.new }
+{
+    let replacements = facts(alloc, bank, book, known)?;
+    replaced_all(alloc, &replacements, values)
 }
 
 impl<'a, B: Book> Maker<'a, B> {
@@ -225,26 +276,24 @@ impl<'a, B: Book> Maker<'a, B> {
         // the bank's nodes stand in order
         let _ = bank.len();
         let x = self.fresh_trio(bank, number)?;
-        self.started(bank, x)
+        self.started(bank, &x)
     }
 
     /// The states that the obligations begin with, from their inputs.
-    fn started(&self, bank: &mut Bank, x: SymTrio) -> Result<SymStarting, NoMemory>
+    fn started(&self, bank: &mut Bank, x: &SymTrio) -> Result<SymStarting, NoMemory>
         requires layer { LayerFits self.now.layer self.now.below }
-        requires shaped { TrioShaped (closed self.now.layer) bank.old (trio_of x) }
+        requires shaped { TrioShaped (closed self.now.layer) bank.old (trio_of x.now) }
         ensures nodes { OnOk result (bank.new ≡ (started_made (B.kinds self.now.book.now) (terms_in (B.kinds self.now.book.now) self.now.layer)
-            (closed self.now.layer) (trio_of x) bank.old).nodes) }
+            (closed self.now.layer) (trio_of x.now) bank.old).nodes) }
         ensures form { IfOk result (λ s. starting_of s ≡ (started_made (B.kinds self.now.book.now) (terms_in (B.kinds self.now.book.now) self.now.layer)
-            (closed self.now.layer) (trio_of x) bank.old).value) }
+            (closed self.now.layer) (trio_of x.now) bank.old).value) }
         ensures grows { Extends bank.old bank.new }
         ensures bank { IsBank bank.new }
     {
         let related = self.related(bank, &x.vars, &x.memory, &x.low)?;
-        let known = facts(self.alloc, bank, self.book, related)?;
+        let from = trio_under(self.alloc, bank, self.book, related, x)?;
         let settled = self.settled(bank, &x.low)?;
-        let settling = facts(self.alloc, bank, self.book, settled)?;
-        let from = replaced_trio(self.alloc, &known, &x)?;
-        let settled_low = replaced_all(self.alloc, &settling, &x.low)?;
+        let settled_low = values_under(self.alloc, bank, self.book, settled, &x.low)?;
         Ok(SymStarting {
             related,
             from,

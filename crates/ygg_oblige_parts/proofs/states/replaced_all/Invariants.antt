@@ -4,4 +4,4 @@ use Rattle.ygg_oblige_parts.proofs.states.replaced_all.Given as goal
 
 -- those so far, and then what is left
 abbrev pub invariant-loop-value : goal.invariant-loop-value
-invariant-loop-value l = l.replaced ++ replaced_all l.replacements (drop l.value-index l.all) ≡ replaced_all l.replacements l.all
+invariant-loop-value l = l.answer ++ replaced_all l.replacements (drop l.value-index l.all) ≡ replaced_all l.replacements l.all
