@@ -42,16 +42,19 @@ pub falls_from : (kinds : List RuleKind) (R : Block → List Declared → Out (S
     ≡ goes_on (R c es) (λ left. and_make (made kinds (Bin And related left.reached)) (λ hypothesis. r hypothesis left.fallen))
 falls_from kinds R r related b c ds es fallen reached hypothesis one two e f h i j k m = cc
 
--- a recovery, and the step after it
-pub recovers_from : (kinds : List RuleKind) (E : Out Finish) (s : Make Id) (p : Option SymValue → List SymValue → List SymValue → Make Id)
-    (hypothesis : Id) (answer : Option SymValue) (memory low : List SymValue) (side some conclusion : Id) (one two three four : List Node) →
-    answer ≡ E.value.answer → memory ≡ values_in E.value.vars → low ≡ E.value.to → one ≡ E.nodes → side ≡ (s one).value → two ≡ (s one).nodes →
-    some ≡ (p answer memory low two).value → three ≡ (p answer memory low two).nodes →
+-- what is asked of an end that another step made
+pub end_from : {B : Type 0} (E : Out Finish) (k : Option SymValue → List SymValue → List SymValue → Make B) (answer : Option SymValue)
+    (memory low : List SymValue) (one : List Node) → answer ≡ E.value.answer → memory ≡ values_in E.value.vars → low ≡ E.value.to → one ≡ E.nodes →
+    k answer memory low one ≡ goes_on E (λ end. k end.answer (values_in end.vars) end.to)
+end_from E k answer memory low one a b c d = cc
+
+-- the tests of a base and of an end, and what they are the conclusion of
+pub woken_from : (kinds : List RuleKind) (s p : Make Id) (hypothesis side some conclusion : Id) (old two three four : List Node) →
+    side ≡ (s old).value → two ≡ (s old).nodes → some ≡ (p two).value → three ≡ (p two).nodes →
     conclusion ≡ (made kinds (Bin And side some) three).value → four ≡ (made kinds (Bin And side some) three).nodes →
     made kinds (Bin Imp hypothesis conclusion) four
-    ≡ goes_on E (λ end. and_make s (λ side. and_make (p end.answer (values_in end.vars) end.to) (λ some. and_make (made kinds (Bin And side some))
-    (λ conclusion. made kinds (Bin Imp hypothesis conclusion)))))
-recovers_from kinds E s p hypothesis answer memory low side some conclusion one two three four a b c d e f h i j k = cc
+    ≡ goes_on (s old) (λ side. and_make p (λ some. and_make (made kinds (Bin And side some)) (λ conclusion. made kinds (Bin Imp hypothesis conclusion))))
+woken_from kinds s p hypothesis side some conclusion old two three four a b c d e f = cc
 
 -- two comparisons, joined
 pub both_from : (kinds : List RuleKind) (m : List SymValue → List SymValue → Make Id) (a b xs ys d e zs ws : List SymValue) (old : List Node) →
@@ -60,30 +63,29 @@ pub both_from : (kinds : List RuleKind) (m : List SymValue → List SymValue →
     made kinds (Bin And memories bases) two ≡ goes_on (m xs ys old) (λ memories. and_make (m zs ws) (λ bases. made kinds (Bin And memories bases)))
 both_from kinds m a b xs ys d e zs ws old p q r s memories bases one two f h i j = cc
 
--- two recoveries, after the first of which the base is settled, and both of which end alike
-pub alike_from : (kinds : List RuleKind) (r q : Make Finish) (s : Make Id) (m : List SymValue → List SymValue → Make Id)
-    (memory low other base : List SymValue) (side same : Id) (old one two three four : List Node) →
-    memory ≡ values_in (r old).value.vars → low ≡ (r old).value.to → one ≡ (r old).nodes →
-    other ≡ values_in (q one).value.vars → base ≡ (q one).value.to → two ≡ (q one).nodes →
-    side ≡ (s two).value → three ≡ (s two).nodes →
+-- the test of a base, and the comparison of two ends
+pub alike_from : (kinds : List RuleKind) (s : Make Id) (m : List SymValue → List SymValue → Make Id) (memory low other base : List SymValue)
+    (side same : Id) (old three four : List Node) → side ≡ (s old).value → three ≡ (s old).nodes →
     (let both = and_make (m memory other) (λ memories. and_make (m low base) (λ bases. made kinds (Bin And memories bases))) in
     same ≡ (both three).value → four ≡ (both three).nodes →
     made kinds (Bin And side same) four
-    ≡ goes_on (r old) (λ end. and_make q (λ other. and_make s (λ side.
-    and_make (m (values_in end.vars) (values_in other.vars)) (λ memories. and_make (m end.to other.to) (λ bases.
-    and_make (made kinds (Bin And memories bases)) (λ same. made kinds (Bin And side same))))))))
-alike_from kinds r q s m memory low other base side same old one two three four a b c d e f h i j k = cc
+    ≡ goes_on (s old) (λ side. and_make (m memory other) (λ memories. and_make (m low base) (λ bases.
+    and_make (made kinds (Bin And memories bases)) (λ same. made kinds (Bin And side same))))))
+alike_from kinds s m memory low other base side same old three four a b c d = cc
 
--- a recovery that power cuts, and what is asked of those after it
-pub again_from : (kinds : List RuleKind) (C : Out (SymFallen (List SymValue))) (a : List SymValue → Make Id) (settled : Id)
-    (fallen : List SymValue) (reached conclusion hypothesis : Id) (one two three : List Node) →
-    fallen ≡ C.value.fallen → reached ≡ C.value.reached → one ≡ C.nodes →
-    conclusion ≡ (a fallen one).value → two ≡ (a fallen one).nodes →
+-- what is asked of what a run left that power cut
+pub left_from : {B : Type 0} (C : Out (SymFallen (List SymValue))) (k : List SymValue → Id → Make B) (fallen : List SymValue) (reached : Id)
+    (one : List Node) → fallen ≡ C.value.fallen → reached ≡ C.value.reached → one ≡ C.nodes →
+    k fallen reached one ≡ goes_on C (λ left. k left.fallen left.reached)
+left_from C k fallen reached one a b c = cc
+
+-- the recoveries after one that power cut, and what they are the conclusion of
+pub again_from : (kinds : List RuleKind) (a : Make Id) (settled reached conclusion hypothesis : Id) (old two three : List Node) →
+    conclusion ≡ (a old).value → two ≡ (a old).nodes →
     hypothesis ≡ (made kinds (Bin And settled reached) two).value → three ≡ (made kinds (Bin And settled reached) two).nodes →
     made kinds (Bin Imp hypothesis conclusion) three
-    ≡ goes_on C (λ left. and_make (a left.fallen) (λ conclusion.
-    and_make (made kinds (Bin And settled left.reached)) (λ hypothesis. made kinds (Bin Imp hypothesis conclusion))))
-again_from kinds C a settled fallen reached conclusion hypothesis one two three b c d e f h i = cc
+    ≡ goes_on (a old) (λ conclusion. and_make (made kinds (Bin And settled reached)) (λ hypothesis. made kinds (Bin Imp hypothesis conclusion)))
+again_from kinds a settled reached conclusion hypothesis old two three b c d e = cc
 
 -- a whole run from a state below that another step made, without arguments, and the step after it
 pub formats_from : (L : Out (List SymValue)) (Z : List Declared → Make (List SymValue)) (R : List SymValue → List SymValue → List SymValue → Make Finish)

@@ -16,7 +16,20 @@ ghost use Rattle.ygg_oblige_parts.specs.Passing.{StepFits, some_in};
 ghost use Rattle.ygg_oblige_list.specs.InCode.{obligation_of};
 ghost use Rattle.ygg_oblige.specs.Making.{AfterRun, CanBegin, CanOblige, CanRecover, CanWake, EndShaped, SiteFits, SpeaksOfNoAnswer, TickFits};
 ghost use Rattle.ygg_oblige.specs.Numbering.{numbers_in};
-ghost use Rattle.ygg_oblige.specs.Parts.{cut_term, idles, recovers_alike, recovery_cut, runs_through_in, falls_through_in, same_ends, whole_term};
+ghost use Rattle.ygg_oblige.specs.Parts.{
+  again_after,
+  cut_term,
+  ends_alike,
+  idles,
+  recovers_alike,
+  recovery_cut,
+  runs_through_in,
+  falls_through_in,
+  same_ends,
+  settled_alike,
+  whole_term,
+  woken,
+};
 
 use crate::numbers::{arguments_of, block_of};
 use ygg_oblige_list::{SymNumbers, SymObligation};
@@ -99,6 +112,35 @@ fn recovered<'a, B: Book>(
     )
 }
 
+/// Where the hypothesis is this: the base that a recovery began with is settled, and the recovery has ended in a state that passes.
+fn woken<'a, B: Book>(
+    maker: &Maker<'a, B>,
+    bank: &mut Bank,
+    obligation: SymObligation<'a>,
+    first: u64,
+    hypothesis: Id,
+    vars: &SymValues,
+    args: &SymValues,
+    fallen: &SymValues,
+    end: &SymEnd,
+) -> Result<Id, NoMemory>
+    requires bank { IsBank bank.old }
+    requires can { CanWake maker.now.layer maker.now.below bank.old (obligation_of obligation) first hypothesis vars.now args.now fallen.now }
+    requires end { EndShaped maker.now.layer bank.old end.now }
+    ensures nodes { OnOk result (bank.new ≡ (woken (B.kinds maker.now.book.now) maker.now.layer maker.now.below (obligation_of obligation.entry)
+        hypothesis vars.now args.now fallen.now end.now.answer end.now.memory end.now.low bank.old).nodes) }
+    ensures id { IfOk result (λ id. id ≡ (woken (B.kinds maker.now.book.now) maker.now.layer maker.now.below (obligation_of obligation.entry)
+        hypothesis vars.now args.now fallen.now end.now.answer end.now.memory end.now.low bank.old).value) }
+    ensures width { IfOk result (λ id. HasWidth bank.new id 1) }
+    ensures grows { Extends bank.old bank.new }
+    ensures bank { IsBank bank.new }
+{
+    let side = maker.settled(bank, fallen)?;
+    let some = passes_after(maker, bank, obligation, vars, args, end, first)?;
+    let conclusion = join(bank, maker.book, Op::And, side, some)?;
+    join(bank, maker.book, Op::Imp, hypothesis, conclusion)
+}
+
 /// After power has failed and left this, where the hypothesis is this: the base is settled, and a recovery ends in a state that passes.
 fn recovers<'a, B: Book>(
     maker: &Maker<'a, B>,
@@ -122,10 +164,9 @@ fn recovers<'a, B: Book>(
     ensures bank { IsBank bank.new }
 {
     let end = recovered(maker, bank, n.wake, fallen)?;
-    let side = maker.settled(bank, fallen)?;
-    let some = passes_after(maker, bank, obligation, vars, args, &end, n.wake)?;
-    let conclusion = join(bank, maker.book, Op::And, side, some)?;
-    join(bank, maker.book, Op::Imp, hypothesis, conclusion)
+    woken(
+        maker, bank, obligation, n.wake, hypothesis, vars, args, fallen, &end,
+    )
 }
 
 /// A whole run of the obligation's block ends in a state that passes.
@@ -299,6 +340,57 @@ fn same_ends<'a, B: Book>(
     join(bank, maker.book, Op::And, memories, bases)
 }
 
+/// Whether the base is settled that the first of two recoveries began with, and both end alike.
+fn settled_alike<'a, B: Book>(
+    maker: &Maker<'a, B>,
+    bank: &mut Bank,
+    fallen: &SymValues,
+    one: &SymEnd,
+    two: &SymEnd,
+) -> Result<Id, NoMemory>
+    requires bank { IsBank bank.old }
+    requires site { SiteFits maker.now.layer maker.now.below }
+    requires fallen { LowShaped bank.old maker.now.layer.low.now fallen.now }
+    requires one { EndShaped maker.now.layer bank.old one.now }
+    requires two { EndShaped maker.now.layer bank.old two.now }
+    ensures nodes { OnOk result (bank.new ≡ (settled_alike (B.kinds maker.now.book.now) maker.now.layer maker.now.below fallen.now
+        one.now.memory one.now.low two.now.memory two.now.low bank.old).nodes) }
+    ensures id { IfOk result (λ id. id ≡ (settled_alike (B.kinds maker.now.book.now) maker.now.layer maker.now.below fallen.now
+        one.now.memory one.now.low two.now.memory two.now.low bank.old).value) }
+    ensures width { IfOk result (λ id. HasWidth bank.new id 1) }
+    ensures grows { Extends bank.old bank.new }
+    ensures bank { IsBank bank.new }
+{
+    let side = maker.settled(bank, fallen)?;
+    let same = same_ends(maker, bank, one, two)?;
+    join(bank, maker.book, Op::And, side, same)
+}
+
+/// Whether a recovery that has ended so, from a base that is to be settled, ends like one from the first base.
+fn ends_alike<'a, B: Book>(
+    maker: &Maker<'a, B>,
+    bank: &mut Bank,
+    n: SymNumbers,
+    low: &SymValues,
+    fallen: &SymValues,
+    end: &SymEnd,
+) -> Result<Id, NoMemory>
+    requires bank { IsBank bank.old }
+    requires can { CanRecover maker.now.layer maker.now.below bank.old n.other low.now }
+    requires fallen { LowShaped bank.old maker.now.layer.low.now fallen.now }
+    requires end { EndShaped maker.now.layer bank.old end.now }
+    ensures nodes { OnOk result (bank.new ≡ (ends_alike (B.kinds maker.now.book.now) maker.now.layer maker.now.below
+        (numbers_in n) low.now fallen.now end.now.memory end.now.low bank.old).nodes) }
+    ensures id { IfOk result (λ id. id ≡ (ends_alike (B.kinds maker.now.book.now) maker.now.layer maker.now.below
+        (numbers_in n) low.now fallen.now end.now.memory end.now.low bank.old).value) }
+    ensures width { IfOk result (λ id. HasWidth bank.new id 1) }
+    ensures grows { Extends bank.old bank.new }
+    ensures bank { IsBank bank.new }
+{
+    let other = recovered(maker, bank, n.other, low)?;
+    settled_alike(maker, bank, fallen, end, &other)
+}
+
 /// Whether a recovery from what power left, which is to be settled, ends like one from the first base.
 fn recovers_alike<'a, B: Book>(
     maker: &Maker<'a, B>,
@@ -322,10 +414,37 @@ fn recovers_alike<'a, B: Book>(
     ensures bank { IsBank bank.new }
 {
     let end = recovered(maker, bank, n.wake, fallen)?;
-    let other = recovered(maker, bank, n.other, low)?;
-    let side = maker.settled(bank, fallen)?;
-    let same = same_ends(maker, bank, &end, &other)?;
-    join(bank, maker.book, Op::And, side, same)
+    ends_alike(maker, bank, n, low, fallen, &end)
+}
+
+/// What is asked of the recoveries after one that power cut, which left this.
+fn again_after<'a, B: Book>(
+    maker: &Maker<'a, B>,
+    bank: &mut Bank,
+    n: SymNumbers,
+    settled: Id,
+    low: &SymValues,
+    left: &SymCut,
+) -> Result<Id, NoMemory>
+    requires bank { IsBank bank.old }
+    requires site { SiteFits maker.now.layer maker.now.below }
+    requires settled { HasWidth bank.old settled 1 }
+    requires low { LowShaped bank.old maker.now.layer.low.now low.now }
+    requires fallen { LowShaped bank.old maker.now.layer.low.now left.now.fallen }
+    requires reached { HasWidth bank.old left.now.reached 1 }
+    requires single { SingleFrom n.run bank.old }
+    requires after { AfterRun (numbers_in n) }
+    ensures nodes { OnOk result (bank.new ≡ (again_after (B.kinds maker.now.book.now) maker.now.layer maker.now.below
+        (numbers_in n) settled low.now left.now.fallen left.now.reached bank.old).nodes) }
+    ensures id { IfOk result (λ id. id ≡ (again_after (B.kinds maker.now.book.now) maker.now.layer maker.now.below
+        (numbers_in n) settled low.now left.now.fallen left.now.reached bank.old).value) }
+    ensures width { IfOk result (λ id. HasWidth bank.new id 1) }
+    ensures grows { Extends bank.old bank.new }
+    ensures bank { IsBank bank.new }
+{
+    let conclusion = recovers_alike(maker, bank, n, low, &left.fallen)?;
+    let hypothesis = join(bank, maker.book, Op::And, settled, left.reached)?;
+    join(bank, maker.book, Op::Imp, hypothesis, conclusion)
 }
 
 /// A recovery that power cuts, another after it, and one whole recovery from the first base.
@@ -349,9 +468,7 @@ fn recovers_again<'a, B: Book>(
     ensures bank { IsBank bank.new }
 {
     let left = recovery_cut(maker, bank, n, &s.settled_low)?;
-    let conclusion = recovers_alike(maker, bank, n, &s.settled_low, &left.fallen)?;
-    let hypothesis = join(bank, maker.book, Op::And, s.settled, left.reached)?;
-    join(bank, maker.book, Op::Imp, hypothesis, conclusion)
+    again_after(maker, bank, n, s.settled, &s.settled_low, &left)
 }
 
 /// Formatting ends in a state that passes.

@@ -1,119 +1,53 @@
 use Rattle.std.proofs.Common.{◌≡◌, OnOk, IfOk, subst}
-use Rattle.ygg_oblige_parts.specs.ygg_bank_proofs_Widths.{extends_both, wider}
+use Rattle.ygg_oblige_parts.specs.ygg_bank_proofs_Widths.{extends_both}
 use Rattle.ygg_oblige_parts.specs.ygg_bank.Makes.{Out}
 use Rattle.ygg_oblige_parts.specs.ygg_bank.declared.node.Id.{Id}
-use Rattle.ygg_oblige_parts.specs.ygg_sym_runs_proofs_Lows.{low_wider}
 use Rattle.ygg_oblige_parts.specs.Layers.{closed, terms_in}
 use Rattle.ygg_oblige_parts.specs.Sites.{below_in}
-use Rattle.ygg_oblige_parts.specs.ygg_oblige_laws.Numbers.{arguments_of}
-use Rattle.ygg_oblige_parts.specs.ygg_oblige_laws.TermStates.{settled_made}
 use Rattle.ygg_oblige_parts.specs.ygg_oblige_laws.Terms.{recovered}
-use Rattle.ygg_oblige_parts.specs.ObligePiecesSteps.{variables_of}
-use Rattle.ygg_oblige_parts.specs.Passing.{some_in}
 use Rattle.ygg_oblige_list.specs.InCode.{obligation_of}
-use Rattle.ygg_oblige.proofs.Alike.{answer_wider}
-use Rattle.ygg_oblige.proofs.Chains.{recovers_from}
+use Rattle.ygg_oblige.specs.Parts.{woken}
+use Rattle.ygg_oblige.proofs.Alike.{wake_later}
+use Rattle.ygg_oblige.proofs.Chains.{end_from}
 use Rattle.ygg_oblige.proofs.terms.recovers.Goals as goal
 
-pub settled-requires-clause-layer : goal.settled-requires-clause-layer
-settled-requires-clause-layer g c = c.requires.can.recovers.site.layer
+pub recovered-requires-clause-can : goal.recovered-requires-clause-can
+recovered-requires-clause-can g c = c.requires.can.recovers
 
-pub settled-requires-clause-shaped : goal.settled-requires-clause-shaped
-settled-requires-clause-shaped g c =
-    let l = c.args.maker.now.layer in
-    low_wider c.args.bank.now c.recovered.new.bank l.low.now c.args.fallen.now c.recovered.ensures.grows c.requires.can.recovers.low_are
+pub woken-requires-clause-bank : goal.woken-requires-clause-bank
+woken-requires-clause-bank g c = c.recovered.ensures.bank
 
-pub passes_after-requires-clause-can : goal.passes_after-requires-clause-can
-passes_after-requires-clause-can g c =
-    let f = c.requires.can in
-    let l = c.args.maker.now.layer in
-    let o = obligation_of c.args.obligation in
-    let old = c.args.bank.now in
-    let one = c.recovered.new.bank in
-    let two = c.settled.new.bank in
-    let e = c.in_ok-end.end in
-    let stands = c.in_ok-end.ensures.shape in
-    let grows = extends_both old one two c.recovered.ensures.grows c.settled.ensures.grows in
-    record {
-      layer = f.recovers.site.layer;
-      typed = f.typed;
-      has = f.has;
-      vars_are = low_wider old two (variables_of (closed l) o) c.args.vars.now grows f.vars_are;
-      args_are = low_wider old two (arguments_of o) c.args.args.now grows f.args_are;
-      memory_are = low_wider one two l.layer.now.memory e.memory c.settled.ensures.grows stands.memory;
-      low_are = low_wider one two l.low.now e.low c.settled.ensures.grows stands.low;
-      answer_shaped = answer_wider one two e.answer c.settled.ensures.grows stands.answer;
-      answer_kept = λ inputs v h. f.silent v e.answer;
-      single = c.in_ok-side.ensures.single c.args.n.wake (c.in_ok-end.ensures.single c.args.n.wake f.recovers.single);
-    }
+pub woken-requires-clause-can : goal.woken-requires-clause-can
+woken-requires-clause-can g c =
+    wake_later c.args.maker.now.layer c.args.maker.now.below c.args.bank.now c.recovered.new.bank (obligation_of c.args.obligation) c.args.n.wake
+    c.args.hypothesis c.args.vars.now c.args.args.now c.args.fallen.now c.recovered.ensures.grows
+    (c.in_ok-end.ensures.single c.args.n.wake c.requires.can.recovers.single) c.requires.can
 
-pub join-requires-clause-one : goal.join-requires-clause-one
-join-requires-clause-one g c =
-    wider c.settled.new.bank c.passes_after.new.bank c.in_ok-side.side 1 c.passes_after.ensures.grows c.in_ok-side.ensures.width
-
-pub join-requires-2-clause-one : goal.join-requires-2-clause-one
-join-requires-2-clause-one g c =
-    let a = c.args.hypothesis in
-    wider c.passes_after.new.bank c.join.new.bank a 1 c.join.ensures.grows
-    (wider c.settled.new.bank c.passes_after.new.bank a 1 c.passes_after.ensures.grows
-    (wider c.recovered.new.bank c.settled.new.bank a 1 c.settled.ensures.grows
-    (wider c.args.bank.now c.recovered.new.bank a 1 c.recovered.ensures.grows c.requires.can.hypothesis_is)))
+pub woken-requires-clause-end : goal.woken-requires-clause-end
+woken-requires-clause-end g c = c.in_ok-end.ensures.shape
 
 pub returns-clause-nodes : goal.returns-clause-nodes
 returns-clause-nodes g c =
     let kinds = g.B.Book.kinds c.args.maker.now.book.now in
     let l = c.args.maker.now.layer in
     let below = c.args.maker.now.below in
-    let L = closed l in
-    let o = obligation_of c.args.obligation in
     let e = c.in_ok-end.end in
-    subst (λ (p : Out Id). OnOk c.join-2.result (c.join-2.new.bank ≡ p.nodes))
-    (recovers_from kinds (recovered kinds (terms_in kinds l) L (below_in below) c.args.n.wake c.args.fallen.now c.args.bank.now)
-    (settled_made kinds (terms_in kinds l) L c.args.fallen.now)
-    (λ answer memory low. some_in kinds (terms_in kinds l) L o c.args.vars.now c.args.args.now answer memory low) c.args.hypothesis e.answer e.memory e.low
-    c.in_ok-side.side c.in_ok-some.some c.in_ok-conclusion.conclusion c.recovered.new.bank c.settled.new.bank c.passes_after.new.bank c.join.new.bank
-    c.in_ok-end.ensures.end.answer c.in_ok-end.ensures.end.memory c.in_ok-end.ensures.end.low c.in_ok-end.ensures.nodes c.in_ok-side.ensures.id
-    c.in_ok-side.ensures.nodes c.in_ok-some.ensures.id c.in_ok-some.ensures.nodes c.in_ok-conclusion.ensures.id c.in_ok-conclusion.ensures.nodes)
-    c.join-2.ensures.nodes
+    subst (λ (p : Out Id). OnOk c.woken.result (c.woken.new.bank ≡ p.nodes))
+    (end_from (recovered kinds (terms_in kinds l) (closed l) (below_in below) c.args.n.wake c.args.fallen.now c.args.bank.now)
+    (woken kinds l below (obligation_of c.args.obligation) c.args.hypothesis c.args.vars.now c.args.args.now c.args.fallen.now) e.answer e.memory e.low
+    c.recovered.new.bank c.in_ok-end.ensures.end.answer c.in_ok-end.ensures.end.memory c.in_ok-end.ensures.end.low c.in_ok-end.ensures.nodes) c.woken.ensures.nodes
 
 pub returns-clause-id : goal.returns-clause-id
 returns-clause-id g c =
     let kinds = g.B.Book.kinds c.args.maker.now.book.now in
     let l = c.args.maker.now.layer in
     let below = c.args.maker.now.below in
-    let L = closed l in
-    let o = obligation_of c.args.obligation in
     let e = c.in_ok-end.end in
-    subst (λ (p : Out Id). IfOk c.join-2.result (λ (id : Id). id ≡ p.value))
-    (recovers_from kinds (recovered kinds (terms_in kinds l) L (below_in below) c.args.n.wake c.args.fallen.now c.args.bank.now)
-    (settled_made kinds (terms_in kinds l) L c.args.fallen.now)
-    (λ answer memory low. some_in kinds (terms_in kinds l) L o c.args.vars.now c.args.args.now answer memory low) c.args.hypothesis e.answer e.memory e.low
-    c.in_ok-side.side c.in_ok-some.some c.in_ok-conclusion.conclusion c.recovered.new.bank c.settled.new.bank c.passes_after.new.bank c.join.new.bank
-    c.in_ok-end.ensures.end.answer c.in_ok-end.ensures.end.memory c.in_ok-end.ensures.end.low c.in_ok-end.ensures.nodes c.in_ok-side.ensures.id
-    c.in_ok-side.ensures.nodes c.in_ok-some.ensures.id c.in_ok-some.ensures.nodes c.in_ok-conclusion.ensures.id c.in_ok-conclusion.ensures.nodes)
-    c.join-2.ensures.id
-
-pub returns-in_err-side-clause-grows : goal.returns-in_err-side-clause-grows
-returns-in_err-side-clause-grows g c =
-    extends_both c.args.bank.now c.recovered.new.bank c.settled.new.bank c.recovered.ensures.grows c.settled.ensures.grows
-
-pub returns-in_err-some-clause-grows : goal.returns-in_err-some-clause-grows
-returns-in_err-some-clause-grows g c =
-    extends_both c.args.bank.now c.recovered.new.bank c.passes_after.new.bank c.recovered.ensures.grows
-    (extends_both c.recovered.new.bank c.settled.new.bank c.passes_after.new.bank c.settled.ensures.grows
-    c.passes_after.ensures.grows)
-
-pub returns-in_err-conclusion-clause-grows : goal.returns-in_err-conclusion-clause-grows
-returns-in_err-conclusion-clause-grows g c =
-    extends_both c.args.bank.now c.recovered.new.bank c.join.new.bank c.recovered.ensures.grows
-    (extends_both c.recovered.new.bank c.settled.new.bank c.join.new.bank c.settled.ensures.grows
-    (extends_both c.settled.new.bank c.passes_after.new.bank c.join.new.bank c.passes_after.ensures.grows
-    c.join.ensures.grows))
+    subst (λ (p : Out Id). IfOk c.woken.result (λ (id : Id). id ≡ p.value))
+    (end_from (recovered kinds (terms_in kinds l) (closed l) (below_in below) c.args.n.wake c.args.fallen.now c.args.bank.now)
+    (woken kinds l below (obligation_of c.args.obligation) c.args.hypothesis c.args.vars.now c.args.args.now c.args.fallen.now) e.answer e.memory e.low
+    c.recovered.new.bank c.in_ok-end.ensures.end.answer c.in_ok-end.ensures.end.memory c.in_ok-end.ensures.end.low c.in_ok-end.ensures.nodes) c.woken.ensures.id
 
 pub returns-clause-grows : goal.returns-clause-grows
 returns-clause-grows g c =
-    extends_both c.args.bank.now c.recovered.new.bank c.join-2.new.bank c.recovered.ensures.grows
-    (extends_both c.recovered.new.bank c.settled.new.bank c.join-2.new.bank c.settled.ensures.grows
-    (extends_both c.settled.new.bank c.passes_after.new.bank c.join-2.new.bank c.passes_after.ensures.grows
-    (extends_both c.passes_after.new.bank c.join.new.bank c.join-2.new.bank c.join.ensures.grows
-    c.join-2.ensures.grows)))
+    extends_both c.args.bank.now c.recovered.new.bank c.woken.new.bank c.recovered.ensures.grows c.woken.ensures.grows
