@@ -1,5 +1,6 @@
 -- The states that obligations begin with, step by step.
-use Rattle.std.proofs.Common.{◌≡◌, ℕ, List, ap, ◌∙◌}
+use Rattle.std.proofs.Common.{◌≡◌, ℕ, ◌+◌, List, ap, ◌∙◌}
+use Rattle.ygg_syntax.specs.declared.tree.Declared.{Declared}
 use Rattle.ygg_syntax.specs.declared.tree.Def.{Def}
 use Rattle.ygg_sym_spec.specs.ygg_meaning.Layer.{ClosedLayer}
 use Rattle.ygg_sym_spec.specs.ygg_meaning.Refines.{Below}
@@ -16,7 +17,7 @@ use Rattle.ygg_oblige_laws.specs.ygg_shape_hypothesis.declared.replacing.Replace
 use Rattle.ygg_sym_spec.specs.ygg_sym_expr.Exprs.{SymFunctions}
 use Rattle.ygg_oblige_laws.specs.Means.{terms_of}
 use Rattle.ygg_oblige_laws.specs.LayerTerms.{LayerTyped}
-use Rattle.ygg_oblige_laws.specs.TermStates.{Trio, Starting, fresh_trio, replaced_all, replaced_trio, starting}
+use Rattle.ygg_oblige_laws.specs.TermStates.{Trio, Starting, fresh_all, fresh_trio, replaced_all, replaced_trio, starting, words_in}
 use Rattle.ygg_oblige_laws.proofs.Starting.{states_mean}
 use Rattle.ygg_oblige_parts.specs.Makers.{StartingShaped, started_made}
 
@@ -36,6 +37,15 @@ pub started_from : (R : Out Id) (f : Id → Make (List Replacement)) (s : Make I
 started_from R f s x related settled one two three last from low a b c d e g h i = cc
 
 module _ (kinds : List RuleKind) (terms : SymFunctions) (L : ClosedLayer) where
+  -- a trio of inputs, where each step went as it is defined to
+  pub trio_from : (ds es : List Declared) (number own more : ℕ) (vars memory low : List SymValue) (old one two three : List Node) →
+      ds ≡ L.layer.state → es ≡ L.layer.memory → own ≡ words_in ds → more ≡ words_in es →
+      vars ≡ (fresh_all kinds number ds old).value → one ≡ (fresh_all kinds number ds old).nodes →
+      memory ≡ (fresh_all kinds (number + own) es one).value → two ≡ (fresh_all kinds (number + own) es one).nodes →
+      low ≡ (fresh_all kinds (number + own + more) L.low two).value → three ≡ (fresh_all kinds (number + own + more) L.low two).nodes →
+      (let O : Out Trio = record { value = record { vars = vars; memory = memory; low = low }; nodes = three } in O) ≡ fresh_trio kinds terms L number old
+  trio_from ds es number own more vars memory low old one two three a b d e f h i j k m = cc
+
   pub starting_from : (number : ℕ) (old : List Node) (x : Trio) (mid : List Node) → x ≡ (fresh_trio kinds terms L number old).value →
       mid ≡ (fresh_trio kinds terms L number old).nodes → started_made kinds terms L x mid ≡ starting kinds terms L number old
   starting_from number old x mid p q =

@@ -111,10 +111,7 @@ impl<'a, B: Book> Maker<'a, B> {
         let layer = self.layer;
         let given = SymPicks::Given(picks, first);
         match obligation {
-            SymObligation::Init => {
-                let vars = start(self.alloc, bank, self.book, layer, first)?;
-                Ok(left(vars))
-            }
+            SymObligation::Init => { start(self.alloc, bank, self.book, layer, first).map(left) }
             SymObligation::Call(operation) => {
                 let b = &operation.spec;
                 let names = operation.arguments.as_slice();
@@ -131,13 +128,12 @@ impl<'a, B: Book> Maker<'a, B> {
                 )
             }
             SymObligation::Cut(operation) => {
-                let vars = self.fall(bank, operation, vars, args, picks, first)?;
-                Ok(left(vars))
+                self.fall(bank, operation, vars, args, picks, first)
+                    .map(left)
             }
-            SymObligation::Tick(_) | SymObligation::Again => Ok(left(vars.copy(self.alloc)?)),
+            SymObligation::Tick(_) | SymObligation::Again => vars.copy(self.alloc).map(left),
             SymObligation::CutTick(_) | SymObligation::Idle => {
-                let vars = crash(self.alloc, bank, self.book, layer, given, vars)?;
-                Ok(left(vars))
+                crash(self.alloc, bank, self.book, layer, given, vars).map(left)
             }
         }
     }

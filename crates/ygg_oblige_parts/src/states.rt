@@ -30,8 +30,7 @@ use std::alloc::Global;
 use ygg_oblige_given::words_in;
 use ygg_oblige_laws::{Replacements, facts, replace};
 use ygg_sym_spec::{
-    Bank, Book, Id, NoMemory, SymBelow, SymBinding, SymEvaluator, SymLayer, SymValue,
-    SymValues,
+    Bank, Book, Id, NoMemory, SymBelow, SymBinding, SymEvaluator, SymLayer, SymValue, SymValues,
 };
 use ygg_value::Op;
 
@@ -250,11 +249,11 @@ impl<'a, B: Book> Maker<'a, B> {
         let state = self.layer.layer.state.as_slice();
         let memory = self.layer.layer.memory.as_slice();
         let low = self.layer.low;
-        let after_state = number + words_in(state)?;
-        let after_memory = after_state + words_in(memory)?;
+        let own = words_in(state)?;
+        let more = words_in(memory)?;
         let vars = fresh(self.alloc, bank, self.book, number, state)?;
-        let memory = fresh(self.alloc, bank, self.book, after_state, memory)?;
-        let low = fresh(self.alloc, bank, self.book, after_memory, low)?;
+        let memory = fresh(self.alloc, bank, self.book, number + own, memory)?;
+        let low = fresh(self.alloc, bank, self.book, number + own + more, low)?;
         Ok(SymTrio { vars, memory, low })
     }
 
