@@ -1,5 +1,5 @@
 -- When what was read is a schedule that is wanted.
-use Rattle.std.proofs.Common.{◌≡◌, ◌∙◌, ℕ, List, [], ◌∷◌, length, Option, refl, sym, ap, subst}
+use Rattle.std.proofs.Common.{◌≡◌, ◌∙◌, ℕ, List, [], ◌∷◌, length, Option, Result, Ok, Err, IfOk, refl, sym, ap, subst}
 use Rattle.std.specs.Option.{option_map}
 use Rattle.ygg_value.specs.declared.row.Value.{Value}
 use Rattle.ygg_syntax.specs.declared.grammar.BlockKind.TheVariants as kind
@@ -20,7 +20,7 @@ use Rattle.ygg_replay.specs.ygg_sched.Fitting.{halt_meant}
 use Rattle.ygg_replay.specs.ygg_sched.declared.schedule.Schedule.{Schedule}
 use Rattle.ygg_oblige_schedule.specs.Here.{below_of, body_of, file_of, inputs_of, layer_of, low_env, numbers_of, obligation_of}
 use Rattle.ygg_oblige_schedule.specs.Runs.{PicksAre, StandIs, args_env, memory_env}
-use Rattle.ygg_oblige_schedule.specs.Schedules.{IsBounded, IsRead, PartsAre, given_here, meant_here}
+use Rattle.ygg_oblige_schedule.specs.Schedules.{IsBounded, IsRead, PartsAre, given_here, made_of, meant_here}
 use Rattle.ygg_oblige_schedule.specs.declared.named.CutParts.{CutParts}
 use Rattle.ygg_oblige_schedule.specs.declared.reader.FirstBlock.{FirstBlock}
 use Rattle.ygg_oblige_schedule.specs.declared.reader.EnvironmentReader.{EnvironmentReader}
@@ -149,3 +149,9 @@ module _ (r : EnvironmentReader) where
       FellBetween (file_of r) r.site.place (picked_by (inputs_of r) (numbers_of r).last) low left [] picks →
       low_env r left ≡ lose_on (below_of r) (picked_by (inputs_of r) (numbers_of r).last) (based from)
   left_is low left from picks e h = h.base ∙ ap (λ (z : Env). lose_on (below_of r) (picked_by (inputs_of r) (numbers_of r).last) (based z)) e
+
+  -- what holds of a schedule of these parts holds of what a call answers that makes it
+  pub read_from : {E : Type 0} (s : Stand) (args : List Value) (p : CutParts) (other : Picks) (x : Result Schedule E) (P : Schedule → Type 0) →
+      IfOk x (λ x. x ≡ made_of r s args p other) → P (made_of r s args p other) → IfOk x P
+  read_from s args p other (Ok x) P e h = subst P (sym e) h
+  read_from s args p other (Err x) P e h = tt

@@ -7,6 +7,7 @@ use Rattle.ygg_syntax.specs.declared.tree.Operation.{Operation}
 use Rattle.ygg_syntax.specs.declared.tree.Tick.{Tick}
 use Rattle.ygg_replay.specs.ygg_meaning.Claims.{Claim}
 use Rattle.ygg_replay.specs.ygg_meaning.Environments.{Env, bind}
+use Rattle.ygg_replay.specs.ygg_meaning.Machine.{Picks}
 use Rattle.ygg_replay.specs.ygg_meaning.Obligations.{Obligation, Init, CallOf, CutOf, TickOf, CutTickOf, Idle, Again, name_of}
 use Rattle.ygg_replay.specs.ygg_meaning.Obligations as meaning
 use Rattle.ygg_replay.specs.ygg_meaning.Violates.{shapes_fit}
@@ -25,6 +26,7 @@ use Rattle.ygg_replay.specs.ygg_sched.declared.schedule.Schedule.{Schedule}
 use Rattle.ygg_oblige_schedule.specs.Here.{below_of, body_of, file_of, inputs_of, layer_of, numbers_of, obligation_of}
 use Rattle.ygg_oblige_schedule.specs.declared.reader.FirstBlock.{FirstBlock}
 use Rattle.ygg_oblige_schedule.specs.declared.reader.EnvironmentReader.{EnvironmentReader}
+use Rattle.ygg_oblige_schedule.specs.declared.reader.Stand.{Stand}
 use Rattle.ygg_oblige_schedule.specs.declared.named.CutParts.{CutParts}
 
 -- The schedule that is meant: variables by their names, arguments in their order.
@@ -68,6 +70,20 @@ module _ (r : EnvironmentReader) where
   -- the states that the inputs give
   abbrev pub given_here : worth.Stand
   given_here = given_stand (inputs_of r) r.site.states (layer_of r)
+
+  -- the obligation's schedule of these parts
+  abbrev pub made_of : Stand → List Value → CutParts → Picks → Schedule
+  made_of s args p other = record {
+    name = name_of r.site.layer.now.name.text (obligation_of r);
+    state = s.state;
+    memory = s.memory;
+    low = s.low;
+    args = args;
+    stop = p.stop;
+    picks = p.picks;
+    wake = p.wake;
+    other = other;
+  }
 
   -- the schedule that the inputs name
   abbrev pub named_here : meaning.Schedule

@@ -6,7 +6,9 @@ ghost use Rattle.ygg_replay.specs.ygg_sched.Fitting.{halt_meant};
 ghost use Rattle.ygg_oblige_schedule.specs.ygg_eval_block.Bodies.{arguments_in};
 ghost use Rattle.ygg_replay.specs.ygg_meaning.Environments.{bind};
 ghost use Rattle.ygg_replay.specs.ygg_meaning.Obligations.{Again, Idle, Init, name_of};
-ghost use Rattle.ygg_replay.specs.ygg_meaning.Shapes.{env_fits, values_fit};
+ghost use Rattle.ygg_replay.specs.ygg_meaning.Shapes.{env_fits, values_fit, zeros_of};
+ghost use Rattle.ygg_eval_places.specs.ygg_sym_laws.Fronts.{run_picks};
+ghost use Rattle.ygg_eval_places.specs.ygg_sym_runs.Laws.{picked_by};
 ghost use Rattle.ygg_oblige_given.specs.Tables.{given_values};
 ghost use Rattle.ygg_oblige_given.specs.ygg_oblige_laws.Schedules.{stop_of, cut_from, schedule_from, whole_from, woken_picks};
 ghost use Rattle.ygg_oblige_given.specs.ygg_oblige_laws.LayerTerms.{ShapesKept};
@@ -21,9 +23,10 @@ ghost use Rattle.ygg_oblige_schedule.specs.Here.{
   IsHere,
   LowFits,
 };
-ghost use Rattle.ygg_oblige_schedule.specs.Runs.{args_env, memory_env, stand_fits};
+ghost use Rattle.ygg_oblige_schedule.specs.Runs.{StandIs, args_env, memory_env, stand_fits};
 ghost use Rattle.ygg_oblige_schedule.specs.Schedules.{
   given_here,
+  made_of,
   named_here,
   HasBlock,
   IsBounded,
@@ -75,6 +78,30 @@ impl<'a> EnvironmentReader<'a> {
         Bits::new(self.alloc)
     }
 
+    /// The obligation's schedule of these parts. Its only error is out of memory.
+    fn scheduled(
+        &self,
+        stand: Stand,
+        args: Values,
+        parts: CutParts,
+        other: Bits,
+    ) -> Result<Schedule, NoMemory>
+        ensures { IfOk result (λ x. x ≡ made_of self.now stand args parts other) }
+    {
+        let name = self.name()?;
+        Ok(Schedule {
+            name,
+            state: stand.state,
+            memory: stand.memory,
+            low: stand.low,
+            args,
+            stop: parts.stop,
+            picks: parts.picks,
+            wake: parts.wake,
+            other,
+        })
+    }
+
     /// Formatting. Its only error is out of memory.
     fn formatting(&self) -> Result<Schedule, NoMemory>
         requires here { IsHere self.now }
@@ -88,17 +115,31 @@ impl<'a> EnvironmentReader<'a> {
             number: 0,
         };
         let picks = self.run(block, &self.none(), memory, low, self.site.numbers.run)?;
-        Ok(Schedule {
-            name: self.name()?,
+        let stand = Stand {
             state: self.none(),
             memory: self.none(),
             low: self.none(),
-            args: self.none(),
+        };
+        let parts = CutParts {
             stop: None,
             picks,
             wake: self.no_picks(),
-            other: self.no_picks(),
-        })
+        };
+        self.scheduled(stand, self.none(), parts, self.no_picks())
+    }
+
+    /// The picks of a whole run of a block from these states. Its only error is out of memory.
+    fn whole_picks(&self, block: FirstBlock, args: &Values, stand: &Stand) -> Result<Bits, NoMemory>
+        requires here { IsHere self.now }
+        requires stand { StandIs self.now stand.now }
+        requires block { HasBlock self.now block args.now }
+        ensures { IfOk result (λ picks. OfBlock self.now block (λ b. picks ≡ run_picks (below_of self.now) (layer_of self.now) b (given_here self.now).memory
+            (bind (arguments_in self.now.site.layer.now block.part block.number) args.now) (given_here self.now).low
+            (picked_by (inputs_of self.now) (numbers_of self.now).run))) }
+    {
+        let memory = stand.memory.copy(self.alloc)?;
+        let low = stand.low.copy(self.alloc)?;
+        self.run(block, args, memory, low, self.site.numbers.run)
     }
 
     /// A whole run of a block. Its only error is out of memory.
@@ -109,22 +150,32 @@ impl<'a> EnvironmentReader<'a> {
         ensures { IfOk result (λ x. OfBlock self.now block (λ b. IsRead self.now (whole_from (below_of self.now) (layer_of self.now) (inputs_of self.now)
             (numbers_of self.now) b (given_here self.now) (bind (arguments_in self.now.site.layer.now block.part block.number) args) args) x)) }
     {
-        let Stand { state, memory, low } = self.stand()?;
-        let first = self.site.numbers.run;
-        let own = memory.copy(self.alloc)?;
-        let below = low.copy(self.alloc)?;
-        let picks = self.run(block, &args, own, below, first)?;
-        Ok(Schedule {
-            name: self.name()?,
-            state,
-            memory,
-            low,
-            args,
+        let stand = self.stand()?;
+        let picks = self.whole_picks(block, &args, &stand)?;
+        let parts = CutParts {
             stop: None,
             picks,
             wake: self.no_picks(),
-            other: self.no_picks(),
-        })
+        };
+        self.scheduled(stand, args, parts, self.no_picks())
+    }
+
+    /// The stop and the picks of a run of a block from these states that power cuts, and of the recovery after it. Its only error is out of memory.
+    fn fallen_parts(
+        &self,
+        block: FirstBlock,
+        args: &Values,
+        stand: &Stand,
+    ) -> Result<CutParts, NoMemory>
+        requires here { IsHere self.now }
+        requires stand { StandIs self.now stand.now }
+        requires block { HasBlock self.now block args.now }
+        ensures { IfOk result (λ p. OfBlock self.now block (λ b. PartsAre self.now b (given_here self.now).memory
+            (bind (arguments_in self.now.site.layer.now block.part block.number) args.now) (given_here self.now).low p)) }
+    {
+        let memory = stand.memory.copy(self.alloc)?;
+        let low = stand.low.copy(self.alloc)?;
+        self.cut_parts(block, args, memory, low)
     }
 
     /// A run of a block that power cuts, and the recovery after it. Its only error is out of memory.
@@ -137,21 +188,9 @@ impl<'a> EnvironmentReader<'a> {
             (stop_of (below_of self.now) (layer_of self.now) (inputs_of self.now) (numbers_of self.now) b (given_here self.now).memory
             (bind (arguments_in self.now.site.layer.now block.part block.number) args) (given_here self.now).low)) x)) }
     {
-        let Stand { state, memory, low } = self.stand()?;
-        let own = memory.copy(self.alloc)?;
-        let below = low.copy(self.alloc)?;
-        let CutParts { stop, picks, wake } = self.cut_parts(block, &args, own, below)?;
-        Ok(Schedule {
-            name: self.name()?,
-            state,
-            memory,
-            low,
-            args,
-            stop,
-            picks,
-            wake,
-            other: self.no_picks(),
-        })
+        let stand = self.stand()?;
+        let parts = self.fallen_parts(block, &args, &stand)?;
+        self.scheduled(stand, args, parts, self.no_picks())
     }
 
     /// Power loss between operations, and the recovery after it. Its only error is out of memory.
@@ -161,20 +200,42 @@ impl<'a> EnvironmentReader<'a> {
         ensures { IfOk result (IsRead self.now (schedule_from (below_of self.now) (layer_of self.now) (inputs_of self.now) (numbers_of self.now) Idle
             (given_here self.now) [])) }
     {
-        let Stand { state, memory, low } = self.stand()?;
-        let Lost { low: left, picks } = self.lose(&low)?;
-        let wake = self.wake(left, self.site.numbers.wake)?;
-        Ok(Schedule {
-            name: self.name()?,
-            state,
-            memory,
-            low,
-            args: self.none(),
+        let stand = self.stand()?;
+        let Lost { low, picks } = self.lose(&stand.low)?;
+        let wake = self.wake(low, self.site.numbers.wake)?;
+        let parts = CutParts {
             stop: None,
             picks,
             wake,
-            other: self.no_picks(),
-        })
+        };
+        self.scheduled(stand, self.none(), parts, self.no_picks())
+    }
+
+    /// The stop and the picks of a recovery from a state below that power cuts, and of the recovery after it. Its only error is out of memory.
+    fn recovery_parts(&self, low: &Values) -> Result<CutParts, NoMemory>
+        requires here { IsHere self.now }
+        requires low { LowFits self.now low.now }
+        ensures { IfOk result (PartsAre self.now self.now.site.layer.now.recover (zeros_of self.now.site.layer.now.memory) [] (low_env self.now low.now)) }
+    {
+        let memory = self.zero_memory()?;
+        let below = low.copy(self.alloc)?;
+        let block = FirstBlock {
+            part: Part::Recover,
+            number: 0,
+        };
+        let none = self.none();
+        self.cut_parts(block, &none, memory, below)
+    }
+
+    /// The picks of the one whole recovery from a state below. Its only error is out of memory.
+    fn other_picks(&self, low: &Values) -> Result<Bits, NoMemory>
+        requires here { IsHere self.now }
+        requires low { LowFits self.now low.now }
+        ensures { IfOk result (λ picks. picks ≡ woken_picks (below_of self.now) (layer_of self.now) (inputs_of self.now) (numbers_of self.now).other
+            (low_env self.now low.now)) }
+    {
+        let first = low.copy(self.alloc)?;
+        self.wake(first, self.site.numbers.other)
     }
 
     /// A recovery that power cuts, the recovery after it, and one whole recovery from the first state. Its only error is out of memory.
@@ -185,26 +246,14 @@ impl<'a> EnvironmentReader<'a> {
             (given_here self.now) [])) }
     {
         let low = self.low()?;
-        let memory = self.zero_memory()?;
-        let block = FirstBlock {
-            part: Part::Recover,
-            number: 0,
-        };
-        let below = low.copy(self.alloc)?;
-        let CutParts { stop, picks, wake } = self.cut_parts(block, &self.none(), memory, below)?;
-        let first = low.copy(self.alloc)?;
-        let other = self.wake(first, self.site.numbers.other)?;
-        Ok(Schedule {
-            name: self.name()?,
+        let parts = self.recovery_parts(&low)?;
+        let other = self.other_picks(&low)?;
+        let stand = Stand {
             state: self.none(),
             memory: self.none(),
             low,
-            args: self.none(),
-            stop,
-            picks,
-            wake,
-            other,
-        })
+        };
+        self.scheduled(stand, self.none(), parts, other)
     }
 
     /// The stop and the picks of a run that power cuts and of the recovery after it. Its only error is out of memory.
@@ -263,8 +312,7 @@ impl<'a> EnvironmentReader<'a> {
         ensures { IfOk result (λ args. args ≡ given_values (inputs_of self.now) (numbers_of self.now).args declared.now) }
     {
         let first = self.site.numbers.args;
-        let args = self.table.values(self.alloc, first, declared)?;
-        Ok(args)
+        self.table.values(self.alloc, first, declared)
     }
 
     /// The schedule of the obligation. Its only error is out of memory.

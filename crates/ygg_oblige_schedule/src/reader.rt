@@ -72,8 +72,7 @@ impl<'a> EnvironmentReader<'a> {
         ensures is { IfOk result (λ low. low_env self.now low ≡ (given_stand (inputs_of self.now) self.now.site.states (layer_of self.now)).low) }
     {
         let from = self.low_from()?;
-        let low = self.table.values(self.alloc, from, self.site.low)?;
-        Ok(low)
+        self.table.values(self.alloc, from, self.site.low)
     }
 
     /// The number of the first input of the state below: those of the layer's state and memory come before. Its only error is out of memory.
@@ -98,8 +97,7 @@ impl<'a> EnvironmentReader<'a> {
             ≡ given_env (inputs_of self.now) self.now.site.states self.now.site.layer.now.state) }
     {
         let declared = self.site.layer.state.as_slice();
-        let state = self.table.values(self.alloc, self.site.states, declared)?;
-        Ok(state)
+        self.table.values(self.alloc, self.site.states, declared)
     }
 
     /// The values of the memory that the obligation begins with, whose inputs are numbered on from a number. Its only error is out of memory.
@@ -111,8 +109,7 @@ impl<'a> EnvironmentReader<'a> {
             ≡ given_env (inputs_of self.now) from self.now.site.layer.now.memory) }
     {
         let declared = self.site.layer.memory.as_slice();
-        let memory = self.table.values(self.alloc, from, declared)?;
-        Ok(memory)
+        self.table.values(self.alloc, from, declared)
     }
 
     /// The states that the obligation begins with. Its only error is out of memory.
@@ -206,8 +203,7 @@ impl<'a> EnvironmentReader<'a> {
             lost.low [] lost.picks) }
     {
         let last = self.choices(self.site.numbers.last);
-        let lost = lose_fronts(self.alloc, self.typed, self.site.place, low, last)?;
-        Ok(lost)
+        lose_fronts(self.alloc, self.typed, self.site.place, low, last)
     }
 
     /// The picks of a whole recovery, whose inputs are numbered on from a number. Its only error is out of memory.
@@ -222,7 +218,6 @@ impl<'a> EnvironmentReader<'a> {
             part: Part::Recover,
             number: 0,
         };
-        let picks = self.run(block, &none, memory, low, first)?;
-        Ok(picks)
+        self.run(block, &none, memory, low, first)
     }
 }

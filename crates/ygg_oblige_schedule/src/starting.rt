@@ -18,8 +18,7 @@ impl<'a> EnvironmentReader<'a> {
         ensures is { IfOk result (λ memory. bind self.now.site.layer.now.memory memory ≡ zeros_of self.now.site.layer.now.memory) }
         ensures fits { IfOk result (λ memory. IsTrue (values_fit self.now.site.layer.now.memory memory)) }
     {
-        let memory = zeros(self.alloc, self.site.layer.memory.as_slice())?;
-        Ok(memory)
+        zeros(self.alloc, self.site.layer.memory.as_slice())
     }
 
     /// What the layer is specified over, as it starts. Its only error is out of memory.
@@ -34,7 +33,6 @@ impl<'a> EnvironmentReader<'a> {
             place: self.site.place,
             layer: self.site.layer,
         };
-        let low = site.low_at_start()?;
-        Ok(low)
+        site.low_at_start()
     }
 }

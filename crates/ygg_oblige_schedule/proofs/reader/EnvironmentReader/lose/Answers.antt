@@ -2,6 +2,7 @@ use Rattle.std.proofs.Common.{ℕ, Bool, [], subst, arith}
 use Rattle.std.proofs.lemmas.Option.{slice_get_within}
 use Rattle.ygg_eval_places.specs.Steps.{FellBetween}
 use Rattle.ygg_oblige_schedule.specs.Here.{file_of}
+use Rattle.ygg_eval_places.proofs.ChoiceNoting.{if_ok}
 use Rattle.ygg_oblige_schedule.proofs.reader.EnvironmentReader.lose.Goals as goal
 
 pub lose_fronts-requires-clause-there : goal.lose_fronts-requires-clause-there
@@ -12,5 +13,5 @@ lose_fronts-requires-clause-there c =
 pub returns : goal.returns
 returns c =
     let r = c.args.self.now in
-    subst (λ (bits : ℕ → Bool). FellBetween (file_of r) r.site.place bits c.args.low.now c.in_ok-lost.lost.low [] c.in_ok-lost.lost.picks)
-    c.choices-last.ensures c.in_ok-lost.ensures.lost
+    if_ok c.lose_fronts.result c.lose_fronts.ensures.lost (λ lost h.
+    subst (λ (bits : ℕ → Bool). FellBetween (file_of r) r.site.place bits c.args.low.now lost.low [] lost.picks) c.choices-last.ensures h)

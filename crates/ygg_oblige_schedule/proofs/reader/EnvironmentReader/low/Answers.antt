@@ -6,6 +6,7 @@ use Rattle.ygg_oblige_schedule.specs.ygg_eval_block.Layers.{variables_at}
 use Rattle.ygg_oblige_given.specs.ygg_oblige_laws.Inputs.{given_env}
 use Rattle.ygg_oblige_schedule.specs.Here.{file_of, inputs_of}
 use Rattle.ygg_oblige_schedule.proofs.Stands.{fits_at}
+use Rattle.ygg_eval_places.proofs.ChoiceNoting.{if_ok}
 use Rattle.ygg_oblige_schedule.proofs.reader.EnvironmentReader.low.Goals as goal
 
 pub values-requires-clause-fit : goal.values-requires-clause-fit
@@ -15,12 +16,13 @@ values-requires-clause-fit c =
 
 pub returns-clause-fits : goal.returns-clause-fits
 returns-clause-fits c =
-    let r = c.args.self.now in ap (λ (ds : List Declared). values_fit ds c.in_ok-low.low) (sym c.requires.here.low_is) ∙ c.in_ok-low.ensures.fits
+    if_ok c.values.result c.values.ensures.fits (λ xs h. ap (λ (ds : List Declared). values_fit ds xs) (sym c.requires.here.low_is) ∙ h)
 
 pub returns-clause-is : goal.returns-clause-is
 returns-clause-is c =
     let r = c.args.self.now in
     let low = variables_at (file_of r) r.site.place in
-    ap (λ (ds : List Declared). bind ds c.in_ok-low.low) (sym c.requires.here.low_is) ∙ c.in_ok-low.ensures.bound
+    if_ok c.values.result c.values.ensures.bound (λ xs h.
+    ap (λ (ds : List Declared). bind ds xs) (sym c.requires.here.low_is) ∙ h
     ∙ ap (λ (ds : List Declared). given_env (inputs_of r) c.in_ok-from.from ds) c.requires.here.low_is
-    ∙ ap (λ n. given_env (inputs_of r) n low) c.in_ok-from.ensures
+    ∙ ap (λ n. given_env (inputs_of r) n low) c.in_ok-from.ensures)

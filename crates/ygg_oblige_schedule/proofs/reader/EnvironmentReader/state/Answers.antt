@@ -5,6 +5,7 @@ use Rattle.ygg_replay.specs.ygg_meaning.Shapes.{env_fits, values_fit}
 use Rattle.ygg_oblige_given.specs.ygg_oblige_laws.Inputs.{given_env}
 use Rattle.ygg_oblige_given.specs.ygg_oblige_laws.LayerTerms.{ShapesKept}
 use Rattle.ygg_oblige_schedule.specs.Here.{inputs_of}
+use Rattle.ygg_eval_places.proofs.ChoiceNoting.{if_ok}
 use Rattle.ygg_oblige_schedule.proofs.reader.EnvironmentReader.state.Goals as goal
 
 pub values-requires-clause-shapes : goal.values-requires-clause-shapes
@@ -17,10 +18,10 @@ values-requires-clause-fit c =
 
 pub returns-clause-fits : goal.returns-clause-fits
 returns-clause-fits c =
-    ap (λ (ds : List Declared). values_fit ds c.in_ok-state.state) (sym c.as_slice-declared.ensures) ∙ c.in_ok-state.ensures.fits
+    if_ok c.values.result c.values.ensures.fits (λ xs h. ap (λ (ds : List Declared). values_fit ds xs) (sym c.as_slice-declared.ensures) ∙ h)
 
 pub returns-clause-is : goal.returns-clause-is
 returns-clause-is c =
     let r = c.args.self.now in
-    subst (λ (ds : List Declared). bind ds c.in_ok-state.state ≡ given_env (inputs_of r) r.site.states ds) c.as_slice-declared.ensures
-    c.in_ok-state.ensures.bound
+    if_ok c.values.result c.values.ensures.bound (λ xs h.
+    subst (λ (ds : List Declared). bind ds xs ≡ given_env (inputs_of r) r.site.states ds) c.as_slice-declared.ensures h)
