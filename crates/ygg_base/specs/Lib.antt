@@ -5,3 +5,5 @@ pub mod Shelves
 pub mod Reason
 pub mod Spelling
 pub mod Status
+pub mod Devices
+pub mod Ram

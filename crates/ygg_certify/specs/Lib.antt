@@ -6,7 +6,7 @@ pub use Rattle.ygg_decide.specs.ygg_gates
 pub use Rattle.ygg_oblige_laws.specs.ygg_meaning
 pub use Rattle.ygg_oblige_laws.specs as ygg_oblige_laws
 pub use Rattle.ygg_decide.specs.ygg_rules
-pub use Rattle.ygg_oblige_laws.specs.ygg_sym_expr
+pub use Rattle.ygg_oblige_laws.specs.ygg_sym_runs
 pub use Rattle.ygg_oblige_laws.specs.ygg_sym_laws
 pub use Rattle.ygg_oblige_laws.specs.ygg_meaning_laws
 pub use Rattle.ygg_cert.specs as ygg_cert

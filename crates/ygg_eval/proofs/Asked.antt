@@ -39,7 +39,7 @@ use Rattle.ygg_syntax.specs.declared.tree.Layer.{Layer}
 use Rattle.ygg_syntax.specs.declared.tree.File.{File}
 use Rattle.ygg_value.specs.declared.row.Value.{Value}
 use Rattle.ygg_value.specs.declared.shape.Shape.TheVariants.{Word}
-use Rattle.ygg_eval_expr.specs.ygg_syntax_count.Weights.{Weights, weights_of, expr_weight}
+use Rattle.ygg_eval_expr.specs.ygg_syntax.Weights.{Weights, weights_of, expr_weight}
 use Rattle.ygg_eval_expr.specs.ygg_type_rules.Names.{Named, has, added}
 use Rattle.ygg_eval_expr.specs.ygg_type_rules.declared.scope.Signature.{Signature}
 use Rattle.ygg_eval_expr.specs.ygg_type_rules.declared.scope.Visibility.{Visibility}
@@ -67,20 +67,20 @@ use Rattle.ygg_eval_expr.specs.ygg_type_rules.Files.{disk_errors, disk_below, la
 use Rattle.ygg_eval_expr.specs.ygg_meaning.Environments.{Env, bind}
 use Rattle.ygg_eval_expr.specs.ygg_meaning.Meaning.{functions_of, is_one}
 use Rattle.ygg_eval_expr.specs.ygg_meaning.Shapes.{values_fit}
-use Rattle.ygg_eval_block.specs.ygg_meaning.Stack.{tables_of}
+use Rattle.ygg_eval.specs.ygg_meaning.Stack.{tables_of}
 use Rattle.ygg_eval_expr.specs.ygg_meaning_laws.Agrees.{Agrees}
 use Rattle.ygg_eval_expr.specs.ygg_meaning_laws_proofs_Tests.{left, right}
 use Rattle.ygg_eval_expr.specs.ygg_meaning_laws_proofs_Definitions.{MeetsAll, definitions_meet}
-use Rattle.ygg_eval_block.specs.ygg_meaning_laws_proofs_TypeErrors.{none_listed}
-use Rattle.ygg_eval_block.proofs.of_ygg_meaning_laws.Views.{LayerVariables, layer_variables}
+use Rattle.ygg_eval.specs.ygg_meaning_laws_proofs_TypeErrors.{none_listed}
+use Rattle.ygg_eval.proofs.of_ygg_meaning_laws.Views.{LayerVariables, layer_variables}
 use Rattle.ygg_eval_expr.specs.Known.{Known, value_in, CanEvaluate}
 use Rattle.ygg_eval.specs.declared.formula.Formula.{Formula}
 use Rattle.ygg_eval.specs.declared.formula.Which.{Which}
 use Rattle.ygg_eval.specs.declared.formula.Which.TheVariants.{Relate, Always, Settled, Maybe}
-use Rattle.ygg_eval_block.specs.Layers.{variables_from, variables_at}
-use Rattle.ygg_eval_block.proofs.Blocks.{bind_fits}
+use Rattle.ygg_eval.specs.Layers.{variables_from, variables_at}
+use Rattle.ygg_eval.proofs.Blocks.{bind_fits}
 use Rattle.ygg_eval.specs.Formulas.{chosen_in, formula_in, own_in, sees_all, IsAsked, Answers}
-use Rattle.ygg_eval.proofs.Below.{IsBelow, disk_is_below, layer_is_below, relation_agrees, settled_agrees}
+use Rattle.ygg_eval.proofs.SeenBelow.{IsBelow, disk_is_below, layer_is_below, relation_agrees, settled_agrees}
 
 -- the parts of a layer without type errors that formulas ask for
 record LayerParts (l : Layer) (weights : Weights) (scope : Scope) : Type 0 where

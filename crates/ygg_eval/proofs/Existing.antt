@@ -34,12 +34,12 @@ use Rattle.ygg_syntax.specs.declared.tree.Declared.{Declared}
 use Rattle.ygg_syntax.specs.declared.tree.Block.{Block}
 use Rattle.ygg_syntax.specs.declared.tree.Layer.{Layer}
 use Rattle.ygg_syntax.specs.declared.tree.File.{File}
-use Rattle.ygg_eval_block.specs.ygg_meaning.Shapes.{values_fit}
-use Rattle.ygg_eval_block.specs.ygg_meaning_laws_proofs_Tests.{left, right}
-use Rattle.ygg_eval_block.specs.declared.body.Body.{Body}
-use Rattle.ygg_eval_block.specs.ygg_meaning.Stack.{tables_of}
-use Rattle.ygg_eval_block.specs.Layers.{variables_from, variables_at}
-use Rattle.ygg_eval_block.specs.Bodies.{block_in, variables_in, arguments_in, IsRunnable}
+use Rattle.ygg_eval.specs.ygg_meaning.Shapes.{values_fit}
+use Rattle.ygg_eval.specs.ygg_meaning_laws_proofs_Tests.{left, right}
+use Rattle.ygg_eval.specs.declared.body.Body.{Body}
+use Rattle.ygg_eval.specs.ygg_meaning.Stack.{tables_of}
+use Rattle.ygg_eval.specs.Layers.{variables_from, variables_at}
+use Rattle.ygg_eval.specs.Bodies.{block_in, variables_in, arguments_in, IsRunnable}
 use Rattle.ygg_eval.specs.Running.{runs_in}
 
 module _ (file : File) (body : Body) (args variables : List Value) where

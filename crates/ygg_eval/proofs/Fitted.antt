@@ -9,9 +9,9 @@ use Rattle.ygg_value.specs.declared.row.Value.TheVariants as value
 use Rattle.ygg_value.specs.declared.shape.Shape.{Shape}
 use Rattle.ygg_value.specs.declared.shape.Shape.TheVariants as shape
 use Rattle.ygg_syntax.specs.declared.tree.Declared.{Declared}
-use Rattle.ygg_eval_block.specs.ygg_meaning.Shapes.{words_fit, shape_in, fits, values_fit}
-use Rattle.ygg_eval_block.specs.ygg_meaning_laws_proofs_Fits.{value_fits}
-use Rattle.ygg_eval_block.specs.ygg_meaning_laws_proofs_Tests.{left, right}
+use Rattle.ygg_eval.specs.ygg_meaning.Shapes.{words_fit, shape_in, fits, values_fit}
+use Rattle.ygg_eval.specs.ygg_meaning_laws_proofs_Fits.{value_fits}
+use Rattle.ygg_eval.specs.ygg_meaning_laws_proofs_Tests.{left, right}
 
 -- what fits a shape has it
 shape_is : (s : Shape) (v : Value) → fits s v ≡ true → shape_of v ≡ s

@@ -4,7 +4,7 @@ use Rattle.std.specs.List.{list_all}
 use Rattle.ygg_syntax.specs.declared.tree.Block.{Block}
 use Rattle.ygg_syntax.specs.declared.tree.Layer.{Layer}
 use Rattle.ygg_syntax.specs.declared.tree.File.{File}
-use Rattle.ygg_meaning_laws.specs.ygg_syntax_count.Weights.{weights_of}
+use Rattle.ygg_meaning_laws.specs.ygg_syntax.Weights.{weights_of}
 use Rattle.ygg_meaning_laws.specs.ygg_type_rules.Names.{Named, look_up}
 use Rattle.ygg_meaning_laws.specs.ygg_type_rules.declared.scope.Signature.{Signature}
 use Rattle.ygg_meaning_laws.specs.ygg_type_rules.TypeErrors.{none}
@@ -25,9 +25,9 @@ use Rattle.ygg_meaning_laws.proofs.Files.{have}
 use Rattle.ygg_meaning_laws.proofs.Operations.{added_all, find_operation, seen_operations}
 use Rattle.ygg_meaning_laws.proofs.Typed.{parts}
 use Rattle.ygg_meaning_laws.proofs.Specs.{spec_answers}
-use Rattle.ygg_eval_block.specs.Bodies.{variables_in, arguments_in}
-use Rattle.ygg_eval_block.specs.Layers.{closed_at, below_at, signatures_of, signatures_at}
-use Rattle.ygg_eval_block.proofs.Blocks.{block_typing, blocks_kept, layer_typing}
+use Rattle.ygg_eval.specs.Bodies.{variables_in, arguments_in}
+use Rattle.ygg_eval.specs.Layers.{closed_at, below_at, signatures_of, signatures_at}
+use Rattle.ygg_eval.proofs.Blocks.{block_typing, blocks_kept, layer_typing}
 use Rattle.ygg_meaning_laws.specs.Acts.{noted_picks}
 use Rattle.ygg_meaning_laws.specs.DirectLaws.{IsTypedBlock, RunsDirectly, FallsDirectly, Sees}
 use Rattle.ygg_eval.specs.Files.{below_acts, IsStateBelow, DirectInFile}

@@ -35,13 +35,13 @@ use Rattle.ygg_syntax.specs.declared.tree.Block.{Block}
 use Rattle.ygg_syntax.specs.declared.tree.Operation.{Operation}
 use Rattle.ygg_syntax.specs.declared.tree.Layer.{Layer}
 use Rattle.ygg_syntax.specs.declared.tree.File.{File}
-use Rattle.ygg_eval_block.specs.ygg_syntax_count.Weights.{Weights, weights_of}
-use Rattle.ygg_eval_block.specs.ygg_type_rules.Names.{Named, look_up, has, added}
-use Rattle.ygg_eval_block.specs.ygg_type_rules.declared.scope.Signature.{Signature}
-use Rattle.ygg_eval_block.specs.ygg_type_rules.TypeErrors.{none, unless}
-use Rattle.ygg_eval_block.specs.ygg_type_rules.Scopes.{Scope}
-use Rattle.ygg_eval_block.specs.ygg_type_rules.Definitions.{definitions_errors, with_definitions, parameters_errors}
-use Rattle.ygg_eval_block.specs.ygg_type_rules.Layers.{
+use Rattle.ygg_eval.specs.ygg_syntax.Weights.{Weights, weights_of}
+use Rattle.ygg_eval.specs.ygg_type_rules.Names.{Named, look_up, has, added}
+use Rattle.ygg_eval.specs.ygg_type_rules.declared.scope.Signature.{Signature}
+use Rattle.ygg_eval.specs.ygg_type_rules.TypeErrors.{none, unless}
+use Rattle.ygg_eval.specs.ygg_type_rules.Scopes.{Scope}
+use Rattle.ygg_eval.specs.ygg_type_rules.Definitions.{definitions_errors, with_definitions, parameters_errors}
+use Rattle.ygg_eval.specs.ygg_type_rules.Layers.{
   Below,
   below_of,
   layer_scope,
@@ -53,15 +53,15 @@ use Rattle.ygg_eval_block.specs.ygg_type_rules.Layers.{
   operation_errors,
   operations_errors,
 }
-use Rattle.ygg_eval_block.specs.ygg_type_rules.Layers as typing
-use Rattle.ygg_eval_block.specs.ygg_type_rules.Files.{type_errors_of, disk_errors, disk_below, count_error, layer_errors, layers_errors}
-use Rattle.ygg_eval_block.specs.ygg_meaning.Environments.{Name}
-use Rattle.ygg_eval_block.specs.ygg_meaning.Meaning.{Functions}
-use Rattle.ygg_eval_block.specs.ygg_meaning.Layer.{ClosedLayer, operation_in}
-use Rattle.ygg_eval_block.specs.ygg_meaning.Stack.{Layers, layers_on}
-use Rattle.ygg_eval_block.specs.ygg_meaning_laws_proofs_Tests.{left, right, passed, turned, bytes_equal}
-use Rattle.ygg_eval_block.specs.ygg_meaning_laws_proofs_Names.{or_else, look_up_append}
-use Rattle.ygg_eval_block.specs.Layers.{variables_from}
+use Rattle.ygg_eval.specs.ygg_type_rules.Layers as typing
+use Rattle.ygg_eval.specs.ygg_type_rules.Files.{type_errors_of, disk_errors, disk_below, count_error, layer_errors, layers_errors}
+use Rattle.ygg_eval.specs.ygg_meaning.Environments.{Name}
+use Rattle.ygg_eval.specs.ygg_meaning.Meaning.{Functions}
+use Rattle.ygg_eval.specs.ygg_meaning.Layer.{ClosedLayer, operation_in}
+use Rattle.ygg_eval.specs.ygg_meaning.Stack.{Layers, layers_on}
+use Rattle.ygg_eval.specs.ygg_meaning_laws_proofs_Tests.{left, right, passed, turned, bytes_equal}
+use Rattle.ygg_eval.specs.ygg_meaning_laws_proofs_Names.{or_else, look_up_append}
+use Rattle.ygg_eval.specs.Layers.{variables_from}
 
 -- an operation of a layer without type errors is the first of its name, and its name is new
 pub record IsFirst (os : List Operation) (known : Named Signature) (scope : Scope) (o : Operation) : Type 0 where

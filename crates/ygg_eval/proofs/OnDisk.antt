@@ -40,33 +40,33 @@ use Rattle.ygg_base.specs.declared.geometry.DiskKind.{DiskKind}
 use Rattle.ygg_base.specs.declared.geometry.DiskKind.TheVariants.{Sync, Async}
 use Rattle.ygg_syntax.specs.declared.tree.Layer.{Layer}
 use Rattle.ygg_syntax.specs.declared.tree.File.{File}
-use Rattle.ygg_eval_block.specs.ygg_type_rules.Names.{look_up}
-use Rattle.ygg_eval_block.specs.ygg_type_rules.declared.scope.Signature.{Signature}
-use Rattle.ygg_eval_block.specs.ygg_type_rules.TypeErrors.{none}
-use Rattle.ygg_eval_block.specs.ygg_type_rules.Files.{type_errors_of, disk_errors, address, disk_row, disk_operations}
-use Rattle.ygg_eval_block.specs.ygg_type.Typed.{geometry_of}
-use Rattle.ygg_eval_block.specs.ygg_disk.Disk as disk
-use Rattle.ygg_eval_block.specs.ygg_disk.Size.{IsRowOf}
-use Rattle.ygg_eval_block.specs.ygg_disk.declared.power.Power.{Power}
-use Rattle.ygg_eval_block.specs.ygg_meaning.Environments.{Name, Env, bind}
-use Rattle.ygg_eval_block.specs.ygg_meaning.Shapes.{fits, words_fit, values_fit, env_fits}
-use Rattle.ygg_eval_block.specs.ygg_meaning.Progress.{Answer}
-use Rattle.ygg_eval_block.specs.ygg_meaning.Machine.{State, based}
-use Rattle.ygg_eval_block.specs.ygg_disk.Kinds.{model_of}
-use Rattle.ygg_eval_block.specs.ygg_meaning.DiskMachine.{disk_call, answer_to, tables_in, DiskMachine}
-use Rattle.ygg_eval_block.specs.ygg_meaning.Stack.{tables_of_kind, tables_of}
-use Rattle.ygg_eval_block.specs.ygg_meaning_laws.Fitting.{fits_wanted, all_fit}
-use Rattle.ygg_eval_block.specs.ygg_meaning_laws_proofs_Tests.{left, right}
-use Rattle.ygg_eval_block.specs.ygg_meaning_laws.Machines.{IsSized, DiskAnswers}
-use Rattle.ygg_eval_block.specs.ygg_meaning_laws_proofs_ProgressFits.{IsTableOf, table_parts}
-use Rattle.ygg_eval_block.specs.ygg_meaning_laws_proofs_Disks.{disk_row_is}
-use Rattle.ygg_eval_block.specs.ygg_meaning_laws_proofs_Sizes.{AllSized, disk_answers_all}
-use Rattle.ygg_eval_block.specs.Layers.{variables_from, variables_at, signatures_at}
-use Rattle.ygg_eval_block.specs.Lower.{IsCallable, Called, Fell, Whole, Happened}
+use Rattle.ygg_eval.specs.ygg_type_rules.Names.{look_up}
+use Rattle.ygg_eval.specs.ygg_type_rules.declared.scope.Signature.{Signature}
+use Rattle.ygg_eval.specs.ygg_type_rules.TypeErrors.{none}
+use Rattle.ygg_eval.specs.ygg_type_rules.Files.{type_errors_of, disk_errors, address, disk_row, disk_operations}
+use Rattle.ygg_eval.specs.ygg_type.Typed.{geometry_of}
+use Rattle.ygg_eval.specs.ygg_disk.Disk as disk
+use Rattle.ygg_eval.specs.ygg_disk.Size.{IsRowOf}
+use Rattle.ygg_eval.specs.ygg_disk.declared.power.Power.{Power}
+use Rattle.ygg_eval.specs.ygg_meaning.Environments.{Name, Env, bind}
+use Rattle.ygg_eval.specs.ygg_meaning.Shapes.{fits, words_fit, values_fit, env_fits}
+use Rattle.ygg_eval.specs.ygg_meaning.Progress.{Answer}
+use Rattle.ygg_eval.specs.ygg_meaning.Machine.{State, based}
+use Rattle.ygg_eval.specs.ygg_disk.Kinds.{model_of}
+use Rattle.ygg_eval.specs.ygg_meaning.DiskMachine.{disk_call, answer_to, tables_in, DiskMachine}
+use Rattle.ygg_eval.specs.ygg_meaning.Stack.{tables_of_kind, tables_of}
+use Rattle.ygg_eval.specs.ygg_meaning_laws.Fitting.{fits_wanted, all_fit}
+use Rattle.ygg_eval.specs.ygg_meaning_laws_proofs_Tests.{left, right}
+use Rattle.ygg_eval.specs.ygg_meaning_laws.Machines.{IsSized, DiskAnswers}
+use Rattle.ygg_eval.specs.ygg_meaning_laws_proofs_ProgressFits.{IsTableOf, table_parts}
+use Rattle.ygg_eval.specs.ygg_meaning_laws_proofs_Disks.{disk_row_is}
+use Rattle.ygg_eval.specs.ygg_meaning_laws_proofs_Sizes.{AllSized, disk_answers_all}
+use Rattle.ygg_eval.specs.Layers.{variables_from, variables_at, signatures_at}
+use Rattle.ygg_eval.specs.Lower.{IsCallable, Called, Fell, Whole, Happened}
 use Rattle.ygg_eval.specs.Kept.{standing, spec_meaning, Loses}
 use Rattle.ygg_eval.specs.Tables.{IsReadable, AreTables, AreWritable, IsRowOfAll, values_of, Made, Cut, Lost}
 use Rattle.ygg_eval.proofs.Stepping.{no_pick}
-use Rattle.ygg_eval_block.proofs.Blocks.{bind_fits}
+use Rattle.ygg_eval.proofs.Blocks.{bind_fits}
 use Rattle.ygg_eval.proofs.Values.{bound_fits}
 
 -- values that are the tables of a disk of the size

@@ -37,39 +37,39 @@ use Rattle.ygg_syntax.specs.declared.tree.Block.{Block}
 use Rattle.ygg_syntax.specs.declared.tree.Operation.{Operation}
 use Rattle.ygg_syntax.specs.declared.tree.Layer.{Layer}
 use Rattle.ygg_syntax.specs.declared.tree.File.{File}
-use Rattle.ygg_eval_block.specs.ygg_type_rules.Names.{Named}
-use Rattle.ygg_eval_block.specs.ygg_type_rules.declared.scope.Signature.{Signature}
-use Rattle.ygg_eval_block.specs.ygg_type_rules.TypeErrors.{none}
-use Rattle.ygg_eval_block.specs.ygg_type_rules.Layers.{operation_signature}
-use Rattle.ygg_eval_block.specs.ygg_type_rules.Files.{type_errors_of}
+use Rattle.ygg_eval.specs.ygg_type_rules.Names.{Named}
+use Rattle.ygg_eval.specs.ygg_type_rules.declared.scope.Signature.{Signature}
+use Rattle.ygg_eval.specs.ygg_type_rules.TypeErrors.{none}
+use Rattle.ygg_eval.specs.ygg_type_rules.Layers.{operation_signature}
+use Rattle.ygg_eval.specs.ygg_type_rules.Files.{type_errors_of}
 use Rattle.ygg_syntax.specs.Files.{IsDerivable}
-use Rattle.ygg_eval_block.specs.ygg_type_proofs_Least.{is_empty}
-use Rattle.ygg_eval_block.specs.ygg_disk.declared.power.Power.{Power}
-use Rattle.ygg_eval_block.specs.ygg_meaning.Environments.{Name, Env, bind}
-use Rattle.ygg_eval_block.specs.ygg_meaning.Meaning.{functions_of}
-use Rattle.ygg_eval_block.specs.ygg_meaning.Shapes.{values_fit}
-use Rattle.ygg_eval_block.specs.ygg_meaning.Progress.{Answer}
-use Rattle.ygg_eval_block.specs.ygg_meaning.Machine.{Picks, State, based}
-use Rattle.ygg_eval_block.specs.ygg_meaning.Layer.{ClosedLayer, operation_in}
-use Rattle.ygg_eval_block.specs.ygg_meaning.Spec.{chosen, block_outcome, then_block, crash_outcome, fall_with, SpecCalls, SpecFalls, SpecLoses}
-use Rattle.ygg_eval_block.specs.ygg_meaning.Refines.{Below, OnDisk, OnSpec, machine_below}
-use Rattle.ygg_eval_block.specs.ygg_meaning_proofs_Exact.{block_exact}
-use Rattle.ygg_eval_block.specs.ygg_meaning.Stack.{tables_of}
-use Rattle.ygg_eval_block.specs.ygg_meaning_laws.Fitting.{all_fit}
-use Rattle.ygg_eval_block.specs.ygg_meaning_laws_proofs_Parameters.{same_fit}
-use Rattle.ygg_eval_block.specs.ygg_meaning_laws.Questions.{gives}
-use Rattle.ygg_eval_block.specs.ygg_meaning_laws.Machines.{SpecAnswers}
-use Rattle.ygg_eval_block.specs.ygg_meaning_laws_proofs_Grammar.{file_kept}
-use Rattle.ygg_eval_block.specs.ygg_meaning_laws_proofs_Files.{file_known}
-use Rattle.ygg_eval_block.specs.declared.body.Part.TheVariants as part
-use Rattle.ygg_eval_block.specs.Layers.{variables_from, variables_at, closed_at, below_at, signatures_of, signatures_at}
-use Rattle.ygg_eval_block.specs.Bodies.{IsBlock, IsRunnable, arguments_at}
-use Rattle.ygg_eval_block.specs.Lower.{IsCallable, Called, Fell, Whole, Happened}
+use Rattle.ygg_eval.specs.ygg_type_proofs_Least.{is_empty}
+use Rattle.ygg_eval.specs.ygg_disk.declared.power.Power.{Power}
+use Rattle.ygg_eval.specs.ygg_meaning.Environments.{Name, Env, bind}
+use Rattle.ygg_eval.specs.ygg_meaning.Meaning.{functions_of}
+use Rattle.ygg_eval.specs.ygg_meaning.Shapes.{values_fit}
+use Rattle.ygg_eval.specs.ygg_meaning.Progress.{Answer}
+use Rattle.ygg_eval.specs.ygg_meaning.Machine.{Picks, State, based}
+use Rattle.ygg_eval.specs.ygg_meaning.Layer.{ClosedLayer, operation_in}
+use Rattle.ygg_eval.specs.ygg_meaning.Spec.{chosen, block_outcome, then_block, crash_outcome, fall_with, SpecCalls, SpecFalls, SpecLoses}
+use Rattle.ygg_eval.specs.ygg_meaning.Refines.{Below, OnDisk, OnSpec, machine_below}
+use Rattle.ygg_eval.specs.ygg_meaning_proofs_Exact.{block_exact}
+use Rattle.ygg_eval.specs.ygg_meaning.Stack.{tables_of}
+use Rattle.ygg_eval.specs.ygg_meaning_laws.Fitting.{all_fit}
+use Rattle.ygg_eval.specs.ygg_meaning_laws_proofs_Parameters.{same_fit}
+use Rattle.ygg_eval.specs.ygg_meaning_laws.Questions.{gives}
+use Rattle.ygg_eval.specs.ygg_meaning_laws.Machines.{SpecAnswers}
+use Rattle.ygg_eval.specs.ygg_meaning_laws_proofs_Grammar.{file_kept}
+use Rattle.ygg_eval.specs.ygg_meaning_laws_proofs_Files.{file_known}
+use Rattle.ygg_eval.specs.declared.body.Part.TheVariants as part
+use Rattle.ygg_eval.specs.Layers.{variables_from, variables_at, closed_at, below_at, signatures_of, signatures_at}
+use Rattle.ygg_eval.specs.Bodies.{IsBlock, IsRunnable, arguments_at}
+use Rattle.ygg_eval.specs.Lower.{IsCallable, Called, Fell, Whole, Happened}
 use Rattle.ygg_eval.specs.Taken.{TakesOnly}
 use Rattle.ygg_eval.specs.Kept.{standing, spec_meaning, Loses}
 use Rattle.ygg_eval.specs.Ran.{Ran, Broken, OperationBroken, CrashRan}
 use Rattle.ygg_eval.specs.Keeping.{takes_both}
-use Rattle.ygg_eval_block.proofs.Blocks.{bind_fits}
+use Rattle.ygg_eval.proofs.Blocks.{bind_fits}
 use Rattle.ygg_eval.proofs.OnDisk.{variables_zero}
 use Rattle.ygg_eval.proofs.Named.{find_first, typed_operations, all_of}
 

@@ -3,9 +3,9 @@ use Rattle.std.proofs.Common.{◌≡◌, ℕ, List, Result, Ok, Err, IsErr, OnOk
 use Rattle.ygg_list.specs.declared.memory.NoMemory.{NoMemory}
 use Rattle.ygg_value.specs.declared.row.Value.{Value}
 use Rattle.ygg_syntax.specs.declared.tree.File.{File}
-use Rattle.ygg_eval_block.specs.ygg_disk.declared.power.Power.{Power}
-use Rattle.ygg_eval_block.specs.Layers.{signatures_at}
-use Rattle.ygg_eval_block.specs.Lower.{IsCallable, Fell, Happened, outage_of}
+use Rattle.ygg_eval.specs.ygg_disk.declared.power.Power.{Power}
+use Rattle.ygg_eval.specs.Layers.{signatures_at}
+use Rattle.ygg_eval.specs.Lower.{IsCallable, Fell, Happened, outage_of}
 use Rattle.ygg_eval.specs.Kept.{standing, spec_meaning, Loses}
 
 module _ (file : File) (number : ℕ) (values values' : List Value) (p p' : Power) where

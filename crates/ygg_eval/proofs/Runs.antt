@@ -6,10 +6,10 @@ use Rattle.ygg_syntax.specs.declared.grammar.BlockKind.TheVariants as kind
 use Rattle.ygg_syntax.specs.declared.tree.Block.{Block}
 use Rattle.ygg_syntax.specs.declared.tree.Layer.{Layer}
 use Rattle.ygg_syntax.specs.declared.tree.File.{File}
-use Rattle.ygg_eval_block.specs.ygg_disk.Power.{pick_of}
-use Rattle.ygg_eval_block.specs.ygg_meaning.Environments.{Env, bind}
-use Rattle.ygg_eval_block.specs.ygg_meaning.Shapes.{values_fit}
-use Rattle.ygg_eval_block.specs.ygg_meaning.Progress.{
+use Rattle.ygg_eval.specs.ygg_disk.Power.{pick_of}
+use Rattle.ygg_eval.specs.ygg_meaning.Environments.{Env, bind}
+use Rattle.ygg_eval.specs.ygg_meaning.Shapes.{values_fit}
+use Rattle.ygg_eval.specs.ygg_meaning.Progress.{
   Question,
   Choice,
   Call,
@@ -27,17 +27,17 @@ use Rattle.ygg_eval_block.specs.ygg_meaning.Progress.{
   ended,
   after,
 }
-use Rattle.ygg_eval_block.specs.ygg_meaning.Machine.{Picks}
-use Rattle.ygg_eval_block.specs.ygg_meaning.Layer.{ClosedLayer, eval_of}
-use Rattle.ygg_eval_block.specs.ygg_meaning.Spec.{chosen, outcome_at, block_outcome}
-use Rattle.ygg_eval_block.specs.declared.body.Body.{Body}
-use Rattle.ygg_eval_block.specs.declared.body.Part.{Part}
-use Rattle.ygg_eval_block.specs.declared.body.Part.TheVariants as part
-use Rattle.ygg_eval_block.specs.Layers.{closed_at}
-use Rattle.ygg_eval_block.specs.Bodies.{IsBlock, IsRunnable, arguments_in, variables_in, kind_of, dialogue_in}
-use Rattle.ygg_eval_block.specs.Lower.{Standing, Meaning}
-use Rattle.ygg_eval_block.specs.Conversations.{Asking, Exchange, Exchanged, Talks, asked, answers_of}
-use Rattle.ygg_eval_block.specs.Runs.{Finished}
+use Rattle.ygg_eval.specs.ygg_meaning.Machine.{Picks}
+use Rattle.ygg_eval.specs.ygg_meaning.Layer.{ClosedLayer, eval_of}
+use Rattle.ygg_eval.specs.ygg_meaning.Spec.{chosen, outcome_at, block_outcome}
+use Rattle.ygg_eval.specs.declared.body.Body.{Body}
+use Rattle.ygg_eval.specs.declared.body.Part.{Part}
+use Rattle.ygg_eval.specs.declared.body.Part.TheVariants as part
+use Rattle.ygg_eval.specs.Layers.{closed_at}
+use Rattle.ygg_eval.specs.Bodies.{IsBlock, IsRunnable, arguments_in, variables_in, kind_of, dialogue_in}
+use Rattle.ygg_eval.specs.Lower.{Standing, Meaning}
+use Rattle.ygg_eval.specs.Conversations.{Asking, Exchange, Exchanged, Talks, asked, answers_of}
+use Rattle.ygg_eval.specs.Runs.{Finished}
 use Rattle.ygg_eval.specs.Taken.{TakesOnly}
 use Rattle.ygg_eval.specs.Ran.{Ran}
 use Rattle.ygg_eval.proofs.Stepping.{no_pick, one_pick}

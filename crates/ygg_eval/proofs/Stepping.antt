@@ -5,10 +5,10 @@ use Rattle.ygg_value.specs.declared.row.Value.{Value}
 use Rattle.ygg_value.specs.declared.row.Value.TheVariants.{Table}
 use Rattle.ygg_base.specs.declared.geometry.DiskKind.{DiskKind}
 use Rattle.ygg_base.specs.declared.geometry.DiskKind.TheVariants.{Sync, Async}
-use Rattle.ygg_eval_block.specs.ygg_disk.Disk as disk
-use Rattle.ygg_eval_block.specs.ygg_disk.Power.{pick_of, after_pick}
-use Rattle.ygg_eval_block.specs.ygg_disk.declared.power.Picks.{Picks as Source}
-use Rattle.ygg_eval_block.specs.ygg_disk.declared.power.Power.{Power}
+use Rattle.ygg_eval.specs.ygg_disk.Disk as disk
+use Rattle.ygg_eval.specs.ygg_disk.Power.{pick_of, after_pick}
+use Rattle.ygg_eval.specs.ygg_disk.declared.power.Picks.{Picks as Source}
+use Rattle.ygg_eval.specs.ygg_disk.declared.power.Power.{Power}
 use Rattle.ygg_eval.specs.Taken.{TakesOnly}
 use Rattle.ygg_eval.specs.Tables.{IsWritable, AreTables, AreWritable, Made, Cut, Lost}
 

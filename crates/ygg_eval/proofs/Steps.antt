@@ -38,8 +38,8 @@ use Rattle.ygg_eval.specs.ygg_meaning.Progress.{Question, Choice, Call, Answer, 
 use Rattle.ygg_eval.specs.ygg_meaning.Machine.{State}
 use Rattle.ygg_eval.specs.ygg_meaning.Runs.{Dialogue, WholeCall, Reaches, FallsAt, notes_of}
 use Rattle.ygg_eval.specs.ygg_meaning.Runs as runs
-use Rattle.ygg_eval.specs.ygg_eval_block.declared.body.Stop.{Stop}
-use Rattle.ygg_eval.specs.ygg_eval_block.Lower.{
+use Rattle.ygg_eval.specs.declared.body.Stop.{Stop}
+use Rattle.ygg_eval.specs.Lower.{
   Standing,
   Meaning,
   Ending,
@@ -59,14 +59,14 @@ use Rattle.ygg_eval.specs.ygg_eval_block.Lower.{
   GoesOn,
   IsLower,
 }
-use Rattle.ygg_eval.specs.ygg_eval_block.Lower as ending
-use Rattle.ygg_eval.specs.ygg_eval_block.Layers.{signatures_at}
+use Rattle.ygg_eval.specs.Lower as ending
+use Rattle.ygg_eval.specs.Layers.{signatures_at}
 use Rattle.ygg_eval.specs.ygg_meaning_laws.Questions.{question_fits}
-use Rattle.ygg_eval.specs.ygg_eval_block.Conversations.{Exchange, Exchanged, Answered, Talks, asked, answers_of}
-use Rattle.ygg_eval.specs.ygg_eval_block.Runs.{Came, Finished, EndedIn, StoppedAt, StarvedAt, FinishedEarly, RunEnds}
-use Rattle.ygg_eval.specs.ygg_eval_block.Runs as block_runs
-use Rattle.ygg_eval.specs.ygg_eval_block.declared.run.Ended.{Ended}
-use Rattle.ygg_eval.specs.ygg_eval_block.declared.run.Ended.TheVariants.{Whole, Stopped, Short, Down, Failed}
+use Rattle.ygg_eval.specs.Conversations.{Exchange, Exchanged, Answered, Talks, asked, answers_of}
+use Rattle.ygg_eval.specs.Runs.{Came, Finished, EndedIn, StoppedAt, StarvedAt, FinishedEarly, RunEnds}
+use Rattle.ygg_eval.specs.Runs as block_runs
+use Rattle.ygg_eval.specs.declared.run.Ended.{Ended}
+use Rattle.ygg_eval.specs.declared.run.Ended.TheVariants.{Whole, Stopped, Short, Down, Failed}
 use Rattle.ygg_eval.specs.Steps.{RunsWhole, RunsDown, RunsInPart, RunSteps, RunsAreSteps}
 
 asks_of : (p : Progress) (q : Question) → asked p ≡ Some q → p ≡ Asks q

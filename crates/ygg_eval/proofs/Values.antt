@@ -3,9 +3,9 @@ use Rattle.std.proofs.Common.{◌≡◌, suc, true, ◌&&◌, List, [], ◌∷�
 use Rattle.std.specs.Str.{bytes_eq}
 use Rattle.ygg_value.specs.declared.row.Value.{Value}
 use Rattle.ygg_syntax.specs.declared.tree.Declared.{Declared}
-use Rattle.ygg_eval_block.specs.ygg_meaning.Environments.{bind}
-use Rattle.ygg_eval_block.specs.ygg_meaning.Shapes.{shape_in, fits, values_fit, env_fits}
-use Rattle.ygg_eval_block.specs.ygg_meaning_laws_proofs_Tests.{left, right}
+use Rattle.ygg_eval.specs.ygg_meaning.Environments.{bind}
+use Rattle.ygg_eval.specs.ygg_meaning.Shapes.{shape_in, fits, values_fit, env_fits}
+use Rattle.ygg_eval.specs.ygg_meaning_laws_proofs_Tests.{left, right}
 
 -- as many values that fit by name fit in order
 pub bound_fits : (ds : List Declared) (vs : List Value) → length vs ≡ length ds → env_fits ds (bind ds vs) ≡ true → values_fit ds vs ≡ true

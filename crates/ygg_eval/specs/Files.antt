@@ -12,9 +12,9 @@ use Rattle.ygg_meaning_laws.specs.ygg_meaning.Shapes.{values_fit}
 use Rattle.ygg_meaning_laws.specs.ygg_meaning.Machine.{State, on}
 use Rattle.ygg_meaning_laws.specs.ygg_meaning.Refines.{Below, OnDisk, OnSpec}
 use Rattle.ygg_meaning_laws.specs.Machines.{IsSized, IsStateOf}
-use Rattle.ygg_eval_block.specs.declared.body.Body.{Body}
-use Rattle.ygg_eval_block.specs.Bodies.{kind_of, variables_in, arguments_in, IsBlock}
-use Rattle.ygg_eval_block.specs.Layers.{closed_at, below_at, machine_at}
+use Rattle.ygg_eval.specs.declared.body.Body.{Body}
+use Rattle.ygg_eval.specs.Bodies.{kind_of, variables_in, arguments_in, IsBlock}
+use Rattle.ygg_eval.specs.Layers.{closed_at, below_at, machine_at}
 use Rattle.ygg_meaning_laws.specs.Acts.{Acts, noted_picks}
 use Rattle.ygg_meaning_laws.specs.DiskActs.{disk_acts}
 use Rattle.ygg_meaning_laws.specs.SpecActs.{spec_acts}

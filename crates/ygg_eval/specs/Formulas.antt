@@ -7,7 +7,7 @@ use Rattle.ygg_syntax.specs.declared.tree.File.{File}
 use Rattle.ygg_eval_expr.specs.ygg_meaning.Environments.{Env, bind}
 use Rattle.ygg_eval_expr.specs.ygg_meaning.Shapes.{values_fit}
 use Rattle.ygg_eval_expr.specs.ygg_meaning.Related.{holds}
-use Rattle.ygg_eval_block.specs.Layers.{variables_at, closed_at}
+use Rattle.ygg_eval.specs.Layers.{variables_at, closed_at}
 use Rattle.ygg_eval.specs.declared.formula.Formula.{Formula}
 use Rattle.ygg_eval.specs.declared.formula.Which.{Which}
 use Rattle.ygg_eval.specs.declared.formula.Which.TheVariants.{Relate, Always, Settled, Maybe}

@@ -5,14 +5,14 @@ use Rattle.std.proofs.Common.{refl, sym, ap, ◌∙◌, subst}
 use Rattle.std.proofs.Math.Nat.{le_refl}
 use Rattle.ygg_value.specs.declared.row.Value.{Value}
 use Rattle.ygg_syntax.specs.declared.tree.File.{File}
-use Rattle.ygg_eval_block.specs.ygg_disk.Power.{Takes, after_pick}
-use Rattle.ygg_eval_block.specs.ygg_disk.declared.power.Fuse.{Fuse}
-use Rattle.ygg_eval_block.specs.ygg_disk.declared.power.Picks.{Picks as Source}
-use Rattle.ygg_eval_block.specs.ygg_disk.declared.power.Power.{Power}
-use Rattle.ygg_eval_block.specs.ygg_meaning.Environments.{Name}
-use Rattle.ygg_eval_block.specs.ygg_meaning.Progress.{Answer}
-use Rattle.ygg_eval_block.specs.ygg_meaning.Machine.{Picks, based}
-use Rattle.ygg_eval_block.specs.Lower.{
+use Rattle.ygg_eval.specs.ygg_disk.Power.{Takes, after_pick}
+use Rattle.ygg_eval.specs.ygg_disk.declared.power.Fuse.{Fuse}
+use Rattle.ygg_eval.specs.ygg_disk.declared.power.Picks.{Picks as Source}
+use Rattle.ygg_eval.specs.ygg_disk.declared.power.Power.{Power}
+use Rattle.ygg_eval.specs.ygg_meaning.Environments.{Name}
+use Rattle.ygg_eval.specs.ygg_meaning.Progress.{Answer}
+use Rattle.ygg_eval.specs.ygg_meaning.Machine.{Picks, based}
+use Rattle.ygg_eval.specs.Lower.{
   Standing,
   Meaning,
   Ending,
@@ -32,7 +32,7 @@ use Rattle.ygg_eval_block.specs.Lower.{
   KeepsInLoss,
   IsLower,
 }
-use Rattle.ygg_eval_block.specs.Layers.{machine_at}
+use Rattle.ygg_eval.specs.Layers.{machine_at}
 use Rattle.ygg_eval.specs.Taken.{TakesOnly}
 use Rattle.ygg_eval.specs.Kept.{Kept, Stepped, Calls, Falls, Loses, TakesBy, named_in, machine_by, spec_meaning, silent_meaning}
 

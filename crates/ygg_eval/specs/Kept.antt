@@ -2,12 +2,12 @@
 use Rattle.std.specs.Prelude.{◌≡◌, ℕ, ◌≤◌, Bool, true, IsTrue, List, length, Option, Some, None}
 use Rattle.ygg_value.specs.declared.row.Value.{Value}
 use Rattle.ygg_syntax.specs.declared.tree.File.{File}
-use Rattle.ygg_eval_block.specs.ygg_disk.declared.power.Power.{Power}
-use Rattle.ygg_eval_block.specs.ygg_meaning.Environments.{Name, Env, bind}
-use Rattle.ygg_eval_block.specs.ygg_meaning.Shapes.{values_fit}
-use Rattle.ygg_eval_block.specs.ygg_meaning.Machine.{Picks, Machine, based}
-use Rattle.ygg_eval_block.specs.Layers.{variables_at, machine_at}
-use Rattle.ygg_eval_block.specs.Lower.{
+use Rattle.ygg_eval.specs.ygg_disk.declared.power.Power.{Power}
+use Rattle.ygg_eval.specs.ygg_meaning.Environments.{Name, Env, bind}
+use Rattle.ygg_eval.specs.ygg_meaning.Shapes.{values_fit}
+use Rattle.ygg_eval.specs.ygg_meaning.Machine.{Picks, Machine, based}
+use Rattle.ygg_eval.specs.Layers.{variables_at, machine_at}
+use Rattle.ygg_eval.specs.Lower.{
   Standing,
   Behavior,
   Meaning,

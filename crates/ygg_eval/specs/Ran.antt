@@ -5,16 +5,16 @@ use Rattle.ygg_syntax.specs.declared.tree.Block.{Block}
 use Rattle.ygg_syntax.specs.declared.tree.Operation.{Operation}
 use Rattle.ygg_syntax.specs.declared.tree.Layer.{Layer}
 use Rattle.ygg_syntax.specs.declared.tree.File.{File}
-use Rattle.ygg_eval_block.specs.ygg_disk.declared.power.Power.{Power}
-use Rattle.ygg_eval_block.specs.ygg_meaning.Environments.{bind}
-use Rattle.ygg_eval_block.specs.ygg_meaning.Shapes.{values_fit}
-use Rattle.ygg_eval_block.specs.ygg_meaning.Progress.{Answer}
-use Rattle.ygg_eval_block.specs.ygg_meaning.Machine.{Picks}
-use Rattle.ygg_eval_block.specs.ygg_meaning.Spec.{chosen, block_outcome, crash_outcome, fall_outcome}
-use Rattle.ygg_eval_block.specs.declared.body.Body.{Body}
-use Rattle.ygg_eval_block.specs.declared.body.Part.TheVariants.{Crash}
-use Rattle.ygg_eval_block.specs.Layers.{closed_at}
-use Rattle.ygg_eval_block.specs.Bodies.{IsBlock, arguments_in}
+use Rattle.ygg_eval.specs.ygg_disk.declared.power.Power.{Power}
+use Rattle.ygg_eval.specs.ygg_meaning.Environments.{bind}
+use Rattle.ygg_eval.specs.ygg_meaning.Shapes.{values_fit}
+use Rattle.ygg_eval.specs.ygg_meaning.Progress.{Answer}
+use Rattle.ygg_eval.specs.ygg_meaning.Machine.{Picks}
+use Rattle.ygg_eval.specs.ygg_meaning.Spec.{chosen, block_outcome, crash_outcome, fall_outcome}
+use Rattle.ygg_eval.specs.declared.body.Body.{Body}
+use Rattle.ygg_eval.specs.declared.body.Part.TheVariants.{Crash}
+use Rattle.ygg_eval.specs.Layers.{closed_at}
+use Rattle.ygg_eval.specs.Bodies.{IsBlock, arguments_in}
 use Rattle.ygg_eval.specs.Taken.{TakesOnly}
 
 -- a block ran wholly with the next picks, and gave this answer

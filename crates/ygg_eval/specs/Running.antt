@@ -2,9 +2,9 @@
 use Rattle.std.specs.Prelude.{Bool, ◌&&◌, List, is_some}
 use Rattle.ygg_value.specs.declared.row.Value.{Value}
 use Rattle.ygg_syntax.specs.declared.tree.Layer.{Layer}
-use Rattle.ygg_eval_block.specs.ygg_meaning.Shapes.{values_fit}
-use Rattle.ygg_eval_block.specs.declared.body.Body.{Body}
-use Rattle.ygg_eval_block.specs.Bodies.{block_in, variables_in, arguments_in}
+use Rattle.ygg_eval.specs.ygg_meaning.Shapes.{values_fit}
+use Rattle.ygg_eval.specs.declared.body.Body.{Body}
+use Rattle.ygg_eval.specs.Bodies.{block_in, variables_in, arguments_in}
 
 -- whether a layer has the block, and the values have the shapes that are declared
 abbrev pub runs_in : Body → List Value → List Value → Layer → Bool

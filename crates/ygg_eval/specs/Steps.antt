@@ -11,11 +11,11 @@ use Rattle.ygg_eval.specs.ygg_meaning.Environments.{Env, bind}
 use Rattle.ygg_eval.specs.ygg_meaning.Shapes.{values_fit}
 use Rattle.ygg_eval.specs.ygg_meaning.Progress.{Answer}
 use Rattle.ygg_eval.specs.ygg_meaning.Runs.{Dialogue, WholeRun, FallenRun}
-use Rattle.ygg_eval.specs.ygg_eval_block.declared.body.Stop.{Stop}
-use Rattle.ygg_eval.specs.ygg_eval_block.Lower.{Standing, Meaning, Cause, PowerLoss, GivenUp, Passes, GoesOn}
-use Rattle.ygg_eval.specs.ygg_eval_block.Runs.{RunEnds}
-use Rattle.ygg_eval.specs.ygg_eval_block.declared.run.Ended.{Ended}
-use Rattle.ygg_eval.specs.ygg_eval_block.declared.run.Ended.TheVariants.{Whole, Stopped, Short, Down, Failed}
+use Rattle.ygg_eval.specs.declared.body.Stop.{Stop}
+use Rattle.ygg_eval.specs.Lower.{Standing, Meaning, Cause, PowerLoss, GivenUp, Passes, GoesOn}
+use Rattle.ygg_eval.specs.Runs.{RunEnds}
+use Rattle.ygg_eval.specs.declared.run.Ended.{Ended}
+use Rattle.ygg_eval.specs.declared.run.Ended.TheVariants.{Whole, Stopped, Short, Down, Failed}
 
 module _ {S : Type 0} (M : Meaning S) (file : File) (number : ℕ) (block : Dialogue) (variables : List Declared) (values values' : List Value)
     (from to : Standing S) where

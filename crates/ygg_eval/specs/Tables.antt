@@ -6,11 +6,11 @@ use Rattle.ygg_value.specs.declared.row.Value.TheVariants.{Word, Row, Table}
 use Rattle.ygg_base.specs.declared.geometry.Geometry.{Geometry}
 use Rattle.ygg_base.specs.declared.geometry.DiskKind.{DiskKind}
 use Rattle.ygg_base.specs.declared.geometry.DiskKind.TheVariants.{Sync, Async}
-use Rattle.ygg_eval_block.specs.ygg_disk.Disk as disk
-use Rattle.ygg_eval_block.specs.ygg_disk.Size.{HasSize, IsRowOf}
-use Rattle.ygg_eval_block.specs.ygg_disk.declared.power.Power.{Power}
-use Rattle.ygg_eval_block.specs.ygg_meaning.Machine.{Picks}
-use Rattle.ygg_eval_block.specs.ygg_disk.Kinds.{model_of}
+use Rattle.ygg_eval.specs.ygg_disk.Disk as disk
+use Rattle.ygg_eval.specs.ygg_disk.Size.{HasSize, IsRowOf}
+use Rattle.ygg_eval.specs.ygg_disk.declared.power.Power.{Power}
+use Rattle.ygg_eval.specs.ygg_meaning.Machine.{Picks}
+use Rattle.ygg_eval.specs.ygg_disk.Kinds.{model_of}
 use Rattle.ygg_eval.specs.Taken.{TakesOnly}
 
 -- a table of the size, and an address

@@ -1,8 +1,8 @@
 -- The picks that a step takes.
 use Rattle.std.specs.Prelude.{◌≡◌}
-use Rattle.ygg_eval_block.specs.ygg_disk.declared.power.Power.{Power}
-use Rattle.ygg_eval_block.specs.ygg_disk.Power.{Takes}
-use Rattle.ygg_eval_block.specs.ygg_meaning.Machine.{Picks}
+use Rattle.ygg_eval.specs.ygg_disk.declared.power.Power.{Power}
+use Rattle.ygg_eval.specs.ygg_disk.Power.{Takes}
+use Rattle.ygg_eval.specs.ygg_meaning.Machine.{Picks}
 
 -- these are the next picks, and nothing of power has changed but that they were taken
 pub record TakesOnly (taken : Picks) (before after : Power) : Type 0 where

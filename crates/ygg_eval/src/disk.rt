@@ -1,16 +1,16 @@
 //! The disk, whose tables are read and written in place.
 
 ghost use Rattle.std.specs.Prelude.{IsTrue, OnOk};
-ghost use Rattle.ygg_eval_block.specs.ygg_meaning.Shapes.{values_fit};
-ghost use Rattle.ygg_eval_block.specs.Layers.{variables_at, signatures_at};
-ghost use Rattle.ygg_eval_block.specs.Lower.{IsCallable, Called, Fell, AfterWhole, ending_of, outage_of};
+ghost use Rattle.ygg_eval.specs.ygg_meaning.Shapes.{values_fit};
+ghost use Rattle.ygg_eval.specs.Layers.{variables_at, signatures_at};
+ghost use Rattle.ygg_eval.specs.Lower.{IsCallable, Called, Fell, AfterWhole, ending_of, outage_of};
 ghost use Rattle.ygg_eval.specs.Kept.{spec_meaning, standing, Loses};
-ghost use Rattle.ygg_eval_block.specs.ygg_disk.declared.power.Power.{Power as PowerIs};
+ghost use Rattle.ygg_eval.specs.ygg_disk.declared.power.Power.{Power as PowerIs};
 
 use crate::rows::{cut_write, lose_unstable, read, settle, write};
+use crate::{Power, Turn, Typed};
 use std::alloc::Global;
 use std::mem;
-use ygg_eval_block::{Power, Turn, Typed};
 use ygg_list::{NoMemory, Sequence};
 use ygg_value::{Value, Values};
 

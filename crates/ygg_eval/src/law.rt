@@ -2,7 +2,7 @@
 
 ghost use Rattle.ygg_eval.specs.Steps.{RunsAreSteps};
 
-use ygg_eval_block::Lower;
+use crate::Lower;
 
 /// A run of a block that makes no choice is one on the machine whose steps the calls of the machine below are, however it ends: whole runs are
 /// whole ones, power failing in them falls, and after `Failed` or out of memory the first calls of the block were made, all of them whole but at

@@ -1,13 +1,12 @@
 //! The machine itself.
 
 ghost use Rattle.std.specs.Prelude.{◌≡◌, ◌≤◌, IfOk, IsTrue, length};
-ghost use Rattle.ygg_eval_block.specs.ygg_meaning.Shapes.{values_fit};
-ghost use Rattle.ygg_eval_block.specs.Layers.{variables_at};
+ghost use Rattle.ygg_eval.specs.ygg_meaning.Shapes.{values_fit};
+ghost use Rattle.ygg_eval.specs.Layers.{variables_at};
 
-use crate::{disk, spec};
+use crate::{Lower, Power, Turn, Typed, disk, spec};
 use std::alloc::Global;
 use std::marker::Model;
-use ygg_eval_block::{Lower, Power, Turn, Typed};
 use ygg_list::NoMemory;
 use ygg_value::Values;
 

@@ -3,15 +3,15 @@
 ghost use Rattle.std.specs.Prelude.{◌≡◌, ◌++◌, ◌<◌, length, IfOk, OnOk, IsTrue, slice_get, Some};
 ghost use Rattle.ygg_eval_expr.specs.ygg_meaning.Environments.{bind};
 ghost use Rattle.ygg_eval_expr.specs.ygg_meaning.Shapes.{values_fit};
-ghost use Rattle.ygg_eval_block.specs.ygg_meaning.Stack.{tables_of};
+ghost use Rattle.ygg_eval.specs.ygg_meaning.Stack.{tables_of};
 ghost use Rattle.ygg_eval_expr.specs.Held.{env_of};
-ghost use Rattle.ygg_eval_block.specs.Layers.{variables_from};
+ghost use Rattle.ygg_eval.specs.Layers.{variables_from};
 ghost use Rattle.ygg_eval.specs.Formulas.{IsAsked, Answers, own_in, sees_all};
 
+use crate::Typed;
 use crate::formula::{Formula, Which, expression_of};
 use std::alloc::Global;
 use ygg_base::DiskKind;
-use ygg_eval_block::Typed;
 use ygg_eval_expr::{Binding, CowValue, Evaluator, is_one, lend_values};
 use ygg_list::NoMemory;
 use ygg_syntax::tree::{DiskText, Layer};

@@ -2,13 +2,13 @@
 
 ghost use Rattle.std.specs.Prelude.{◌≡◌, [], ◌∷◌, IfOk, OnOk, Some, None};
 ghost use Rattle.ygg_value.specs.Values.{word_in, row_in, part_of, with_part};
-ghost use Rattle.ygg_eval_block.specs.ygg_disk.Disk as calls;
+ghost use Rattle.ygg_eval.specs.ygg_disk.Disk as calls;
 ghost use Rattle.ygg_eval.specs.Tables.{IsReadable, IsWritable, AreTables, AreWritable, Made, Cut, Lost};
-ghost use Rattle.ygg_eval_block.specs.ygg_disk.declared.power.Power.{Power as PowerIs};
+ghost use Rattle.ygg_eval.specs.ygg_disk.declared.power.Power.{Power as PowerIs};
 
+use crate::{Power, read_row};
 use std::alloc::Global;
 use ygg_base::{DiskKind, Geometry};
-use ygg_eval_block::{Power, read_row};
 use ygg_list::NoMemory;
 use ygg_value::{Value, copy_value, table_write};
 

@@ -1,11 +1,11 @@
 //! Whether a block may be run with some values.
 
 ghost use Rattle.std.specs.Prelude.{◌≡◌, ◌↔◌, IsTrue};
-ghost use Rattle.ygg_eval_block.specs.Bodies.{IsRunnable};
+ghost use Rattle.ygg_eval.specs.Bodies.{IsRunnable};
 ghost use Rattle.ygg_eval.specs.Running.{runs_in};
 
 use crate::shapes::values_fit;
-use ygg_eval_block::{Body, Typed, arguments_of, block_of, variables_of};
+use crate::{Body, Typed, arguments_of, block_of, variables_of};
 use ygg_syntax::tree::Layer;
 use ygg_value::Values;
 

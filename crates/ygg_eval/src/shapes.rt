@@ -1,5 +1,5 @@
 ghost use Rattle.std.specs.Prelude.{◌≡◌, ◌↔◌, IsTrue};
-ghost use Rattle.ygg_eval_block.specs.ygg_meaning.Shapes.{shape_in, fits, values_fit};
+ghost use Rattle.ygg_eval.specs.ygg_meaning.Shapes.{shape_in, fits, values_fit};
 
 use ygg_syntax::tree::{Declared, TypeText};
 use ygg_value::{Shape, Value, shape_of};

@@ -1,6 +1,6 @@
 //! The machine below a block that calls none.
 
-use ygg_eval_block::{Lower, Power, Turn, Typed};
+use crate::{Lower, Power, Turn, Typed};
 use ygg_list::NoMemory;
 use ygg_value::Values;
 

@@ -4,16 +4,16 @@ ghost use Rattle.std.specs.Prelude.{◌≡◌, ◌<◌, suc, IfOk, OnOk, IsTrue,
 ghost use Rattle.ygg_syntax.specs.declared.tree.Layer.{Layer};
 ghost use Rattle.ygg_syntax.specs.declared.tree.Operation.{Operation};
 ghost use Rattle.ygg_syntax.specs.declared.grammar.BlockKind.TheVariants as kind;
-ghost use Rattle.ygg_eval_block.specs.ygg_meaning.Shapes.{values_fit};
-ghost use Rattle.ygg_eval_block.specs.Layers.{variables_at, signatures_at};
-ghost use Rattle.ygg_eval_block.specs.Bodies.{IsRunnable, kind_of};
-ghost use Rattle.ygg_eval_block.specs.Lower.{IsCallable, Called, Fell, AfterWhole, ending_of, outage_of};
+ghost use Rattle.ygg_eval.specs.ygg_meaning.Shapes.{values_fit};
+ghost use Rattle.ygg_eval.specs.Layers.{variables_at, signatures_at};
+ghost use Rattle.ygg_eval.specs.Bodies.{IsRunnable, kind_of};
+ghost use Rattle.ygg_eval.specs.Lower.{IsCallable, Called, Fell, AfterWhole, ending_of, outage_of};
 ghost use Rattle.ygg_eval.specs.Kept.{spec_meaning, standing, Loses};
 ghost use Rattle.ygg_eval.specs.Ran.{BodyRan, OperationBroken, CrashRan};
 
 use crate::silent::Silent;
+use crate::{Body, Ended, Part, Power, Turn, Typed, run_body};
 use std::alloc::Global;
-use ygg_eval_block::{Body, Ended, Part, Power, Turn, Typed, run_body};
 use ygg_list::{NoMemory, Sequence};
 use ygg_value::{Value, Values};
 

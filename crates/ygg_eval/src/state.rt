@@ -1,13 +1,13 @@
 //! Whether values are those of a machine's variables.
 
 ghost use Rattle.std.specs.Prelude.{◌≡◌, ◌↔◌, ◌≤◌, IsTrue, length};
-ghost use Rattle.ygg_eval_block.specs.ygg_meaning.Shapes.{values_fit};
-ghost use Rattle.ygg_eval_block.specs.ygg_meaning.Stack.{tables_of};
-ghost use Rattle.ygg_eval_block.specs.Layers.{variables_at};
+ghost use Rattle.ygg_eval.specs.ygg_meaning.Shapes.{values_fit};
+ghost use Rattle.ygg_eval.specs.ygg_meaning.Stack.{tables_of};
+ghost use Rattle.ygg_eval.specs.Layers.{variables_at};
 
+use crate::Typed;
 use crate::shapes::{fits, values_fit};
 use ygg_base::DiskKind;
-use ygg_eval_block::Typed;
 use ygg_syntax::tree::{DiskText, TypeText};
 use ygg_value::{Value, Values};
 

@@ -39,8 +39,8 @@ use Rattle.ygg_syntax.specs.declared.tree.Declared.{Declared}
 use Rattle.ygg_syntax.specs.declared.tree.Def.{Def}
 use Rattle.ygg_value.specs.declared.row.Value.{Value}
 use Rattle.ygg_value.specs.declared.shape.Shape.{Shape}
-use Rattle.ygg_meaning_laws.specs.ygg_syntax_count.Weights.{weights_of, weight_at, expr_weight}
-use Rattle.ygg_meaning_laws.proofs.of_ygg_syntax_count.Searched.{Searched, begun, other as searched_other, found as searched_found}
+use Rattle.ygg_meaning_laws.specs.ygg_syntax.Weights.{weights_of, weight_at, expr_weight}
+use Rattle.ygg_meaning_laws.proofs.of_ygg_syntax.Searched.{Searched, begun, other as searched_other, found as searched_found}
 use Rattle.ygg_meaning_laws.specs.ygg_type_rules.Names.{Named, look_up, has, added}
 use Rattle.ygg_meaning_laws.specs.Signature.{Signature}
 use Rattle.ygg_meaning_laws.specs.TypeErrors.{none}

@@ -11,7 +11,7 @@ use Rattle.ygg_syntax.specs.declared.tree.Expr.{Expr}
 use Rattle.ygg_syntax.specs.declared.tree.Expr.TheVariants as tree
 use Rattle.ygg_syntax.specs.declared.tree.Expr.TheOpen.{Expr-F}
 use Rattle.ygg_syntax.specs.declared.tree.Expr.TheFolds.{fold-roll-Expr}
-use Rattle.ygg_meaning_laws.specs.ygg_syntax_count.Weights.{Weights, weights_of, weight_at, node_weight, expr_weight, exprs_weight}
+use Rattle.ygg_meaning_laws.specs.ygg_syntax.Weights.{Weights, weights_of, weight_at, node_weight, expr_weight, exprs_weight}
 use Rattle.ygg_eval_expr.specs.Known.{Known}
 use Rattle.ygg_eval_expr.proofs.Knowing.{one_pass}
 

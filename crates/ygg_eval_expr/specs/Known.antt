@@ -8,7 +8,7 @@ use Rattle.ygg_syntax.specs.declared.tree.Expr.{Expr}
 use Rattle.ygg_syntax.specs.declared.tree.Numeral.{Numeral}
 use Rattle.ygg_syntax.specs.declared.tree.Quantifier.{Quantifier}
 use Rattle.ygg_syntax.specs.declared.tree.Quantifier.TheVariants.{All, Any}
-use Rattle.ygg_meaning_laws.specs.ygg_syntax_count.Definitions.{WeighsAsAt}
+use Rattle.ygg_meaning_laws.specs.ygg_syntax.Definitions.{WeighsAsAt}
 use Rattle.ygg_meaning_laws.specs.ygg_type_rules.Names.{look_up}
 use Rattle.ygg_meaning_laws.specs.Signature.{Signature}
 use Rattle.ygg_meaning_laws.specs.TypeErrors.{none}

@@ -2,7 +2,7 @@ pub use Rattle.ygg_meaning_laws.specs.ygg_disk
 pub use Rattle.ygg_meaning_laws.specs.ygg_meaning_proofs_Exact
 pub use Rattle.ygg_meaning_laws.specs.ygg_meaning
 pub use Rattle.ygg_meaning_laws.specs.ygg_type_rules
-pub use Rattle.ygg_meaning_laws.specs.ygg_syntax_count
+pub use Rattle.ygg_meaning_laws.specs.ygg_syntax
 pub use Rattle.ygg_meaning_laws.proofs.Definitions as ygg_meaning_laws_proofs_Definitions
 pub use Rattle.ygg_meaning_laws.proofs.Fits as ygg_meaning_laws_proofs_Fits
 pub use Rattle.ygg_meaning_laws.proofs.Lists as ygg_meaning_laws_proofs_Lists

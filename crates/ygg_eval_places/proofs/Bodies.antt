@@ -23,14 +23,14 @@ use Rattle.ygg_meaning_laws.specs.Kinds.{keeps}
 use Rattle.ygg_meaning_laws.specs.Questions.{plain, Follows}
 use Rattle.ygg_meaning_laws.proofs.Derived.{derivable_derived}
 use Rattle.ygg_meaning_laws.specs.Direct.{Reached, direct_run}
-use Rattle.ygg_eval_block.specs.ygg_eval_expr.Known.{CanEvaluate}
-use Rattle.ygg_eval_block.specs.Bodies.{IsBlock, IsRunnable, arguments_in, block_in, variables_in}
-use Rattle.ygg_eval_block.specs.declared.body.Body.{Body}
-use Rattle.ygg_eval_block.proofs.Blocks.{block_typing, blocks_kept}
-use Rattle.ygg_eval_block.specs.Ending.{values_in}
-use Rattle.ygg_eval_block.specs.Ready.{eval_in, known_in}
-use Rattle.ygg_eval_block.proofs.Public.{bound, bind_counted}
-use Rattle.ygg_eval_block.proofs.Tops.{in_order_defs}
+use Rattle.ygg_eval.specs.ygg_eval_expr.Known.{CanEvaluate}
+use Rattle.ygg_eval.specs.Bodies.{IsBlock, IsRunnable, arguments_in, block_in, variables_in}
+use Rattle.ygg_eval.specs.declared.body.Body.{Body}
+use Rattle.ygg_eval.proofs.Blocks.{block_typing, blocks_kept}
+use Rattle.ygg_eval.specs.Ending.{values_in}
+use Rattle.ygg_eval.specs.Ready.{eval_in, known_in}
+use Rattle.ygg_eval.proofs.Public.{bound, bind_counted}
+use Rattle.ygg_eval.proofs.Tops.{in_order_defs}
 use Rattle.ygg_eval_places.specs.Machines.{PlaceMeaning, IsPlaces}
 use Rattle.ygg_eval_places.specs.Ready.{CanRun}
 use Rattle.ygg_eval_places.specs.Wholes.{IsReady, CanServe, Walked, BodyWalked, block_walk}

@@ -15,9 +15,9 @@ use Rattle.ygg_eval.specs.ygg_meaning_laws.Questions.{question_fits}
 use Rattle.ygg_eval.specs.ygg_meaning_laws_proofs_DiskServes.{fitting_call}
 use Rattle.ygg_eval_places.specs.ygg_sym_runs_proofs_Chosen.{room}
 use Rattle.ygg_eval_places.specs.ygg_sym_runs_proofs_SpecFalls.{bits_after}
-use Rattle.ygg_eval.specs.ygg_eval_block.Layers.{signatures_at, variables_at}
-use Rattle.ygg_eval.specs.ygg_eval_block.Lower.{IsCallable}
-use Rattle.ygg_eval.specs.ygg_eval_block.Ready.{IsPlace}
+use Rattle.ygg_eval.specs.Layers.{signatures_at, variables_at}
+use Rattle.ygg_eval.specs.Lower.{IsCallable}
+use Rattle.ygg_eval.specs.Ready.{IsPlace}
 use Rattle.ygg_eval_places.specs.Bits.{bit_at, bits_in}
 use Rattle.ygg_eval_places.specs.declared.bits.Choices.{Choices}
 

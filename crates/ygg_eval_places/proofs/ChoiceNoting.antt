@@ -20,9 +20,9 @@ use Rattle.ygg_sym_laws.specs.ygg_sym_runs.Specs.{Nothing}
 use Rattle.ygg_sym_laws.specs.ygg_sym_runs_proofs_Chosen.{block_run_at}
 use Rattle.ygg_sym_laws.specs.ygg_sym_runs_proofs_Specs.{choose_at}
 use Rattle.ygg_sym_laws.specs.Taking.{picks_of, one_each, block_takes}
-use Rattle.ygg_eval_places.specs.ygg_eval_block.Bodies.{arguments_in, variables_in}
-use Rattle.ygg_eval_places.specs.ygg_eval_block.Layers.{closed_at}
-use Rattle.ygg_eval_places.specs.ygg_eval_block.declared.body.Body.{Body}
+use Rattle.ygg_eval_places.specs.ygg_eval.Bodies.{arguments_in, variables_in}
+use Rattle.ygg_eval_places.specs.ygg_eval.Layers.{closed_at}
+use Rattle.ygg_eval_places.specs.ygg_eval.declared.body.Body.{Body}
 use Rattle.ygg_eval_places.specs.Wholes.{Walked, BodyWalked}
 use Rattle.ygg_eval_places.specs.Bits.{bits_in}
 use Rattle.ygg_eval_places.specs.Chosen.{notes_choice, choice_meaning, Chose, BlockChose}

@@ -15,10 +15,10 @@ use Rattle.ygg_eval_places.specs.ygg_sym_runs.Stops.{halt, first_stop}
 use Rattle.ygg_eval_places.specs.ygg_sym_laws.Below.{places_on, space_on}
 use Rattle.ygg_eval_places.specs.ygg_sym_laws.Fronts.{takes_on, cut_takes_on, lose_takes_on, run_by_place, run_stop, stopped_picks}
 use Rattle.ygg_eval_places.specs.ygg_sym_laws.Taking.{picks_of}
-use Rattle.ygg_eval.specs.ygg_eval_block.Ready.{eval_in}
-use Rattle.ygg_eval.specs.ygg_eval_block.Bodies.{arguments_in, variables_in}
-use Rattle.ygg_eval.specs.ygg_eval_block.Layers.{below_at, closed_at, variables_at}
-use Rattle.ygg_eval.specs.ygg_eval_block.declared.body.Body.{Body}
+use Rattle.ygg_eval.specs.Ready.{eval_in}
+use Rattle.ygg_eval.specs.Bodies.{arguments_in, variables_in}
+use Rattle.ygg_eval.specs.Layers.{below_at, closed_at, variables_at}
+use Rattle.ygg_eval.specs.declared.body.Body.{Body}
 use Rattle.ygg_eval_places.specs.Bits.{bits_in}
 use Rattle.ygg_eval_places.specs.Belows.{Noted, cut_of, failing, fallen_at_end, noted_of, notes_below}
 use Rattle.ygg_eval_places.specs.Fronts.{Falls, Fronted}

@@ -8,10 +8,10 @@ use Rattle.ygg_syntax.specs.declared.tree.Numeral.{Numeral}
 use Rattle.ygg_syntax.specs.declared.tree.Stmt.{Stmt}
 use Rattle.ygg_meaning_laws.specs.ygg_meaning.Environments.{Env}
 use Rattle.ygg_meaning_laws.specs.Direct.{Direct, Reached, times, in_order}
-use Rattle.ygg_eval_block.specs.ygg_eval_expr.Held.{env_of}
-use Rattle.ygg_eval_block.specs.ygg_eval_expr.declared.held.Binding.{Binding}
-use Rattle.ygg_eval_block.specs.Ready.{numbered}
-use Rattle.ygg_eval_block.proofs.Running.{dropped_is}
+use Rattle.ygg_eval.specs.ygg_eval_expr.Held.{env_of}
+use Rattle.ygg_eval.specs.ygg_eval_expr.declared.held.Binding.{Binding}
+use Rattle.ygg_eval.specs.Ready.{numbered}
+use Rattle.ygg_eval.proofs.Running.{dropped_is}
 use Rattle.ygg_eval_places.specs.Machines.{PlaceMeaning}
 use Rattle.ygg_eval_places.specs.Walks.{Ended, stmt_part, parts_room, order_part, inside_part, turn_part, turns_part}
 

@@ -52,9 +52,9 @@ use Rattle.ygg_eval.specs.ygg_meaning_laws.Acts.{Taken, Did, Fell as Left}
 use Rattle.ygg_eval.specs.ygg_meaning_laws.DiskActs.{kind_calls, kind_falls, state_in, disk_does, disk_drops}
 use Rattle.ygg_eval.proofs.of_ygg_meaning_laws.DiskActed.{disk_acted}
 use Rattle.ygg_eval_places.specs.ygg_sym_laws.Taking.{whole_picks, cut_picks}
-use Rattle.ygg_eval.specs.ygg_eval_block.Layers.{machine_at, signatures_at, variables_at}
-use Rattle.ygg_eval.specs.ygg_eval_block.Lower.{Standing, Whole, Happened, Called, Fell, AfterWhole, IsCallable, Serves, ending_of}
-use Rattle.ygg_eval.specs.ygg_eval_block.Ready.{IsPlace}
+use Rattle.ygg_eval.specs.Layers.{machine_at, signatures_at, variables_at}
+use Rattle.ygg_eval.specs.Lower.{Standing, Whole, Happened, Called, Fell, AfterWhole, IsCallable, Serves, ending_of}
+use Rattle.ygg_eval.specs.Ready.{IsPlace}
 use Rattle.ygg_eval.specs.Kept.{Kept, Loses, named_in, spec_meaning, standing}
 use Rattle.ygg_eval_places.specs.Steps.{Answered, FellWithin, FellBetween, one_pick, whole_answer}
 use Rattle.ygg_eval_places.proofs.Calls.{callable}

@@ -53,12 +53,12 @@ use Rattle.ygg_eval_places.specs.ygg_sym_runs_proofs_SpecFalls.{bits_after, cras
 use Rattle.ygg_eval_places.specs.ygg_sym_runs_proofs_SpecMeans.{spec_ended}
 use Rattle.ygg_eval_places.specs.ygg_sym_laws.Fronts.{handle_on, takes_on, cut_on, cut_takes_on, lose_on, lose_takes_on}
 use Rattle.ygg_eval_places.specs.ygg_sym_laws.Taking.{block_takes, operation_takes, crash_takes, then_takes, fall_takes, drop_takes}
-use Rattle.ygg_eval.specs.ygg_eval_block.Bodies.{IsBlock, IsRunnable, arguments_at, arguments_in, block_in, kind_of, variables_in}
-use Rattle.ygg_eval.specs.ygg_eval_block.Layers.{below_at, closed_at, signatures_at, variables_at}
-use Rattle.ygg_eval.specs.ygg_eval_block.declared.body.Body.{Body}
-use Rattle.ygg_eval.specs.ygg_eval_block.declared.body.Part.{Part}
-use Rattle.ygg_eval.specs.ygg_eval_block.declared.body.Part.TheVariants as part
-use Rattle.ygg_eval.specs.ygg_eval_block.Ready.{IsPlace}
+use Rattle.ygg_eval.specs.Bodies.{IsBlock, IsRunnable, arguments_at, arguments_in, block_in, kind_of, variables_in}
+use Rattle.ygg_eval.specs.Layers.{below_at, closed_at, signatures_at, variables_at}
+use Rattle.ygg_eval.specs.declared.body.Body.{Body}
+use Rattle.ygg_eval.specs.declared.body.Part.{Part}
+use Rattle.ygg_eval.specs.declared.body.Part.TheVariants as part
+use Rattle.ygg_eval.specs.Ready.{IsPlace}
 use Rattle.ygg_eval.proofs.OnSpec.{AsksSpec, asks_spec, fits_at, layer_variables}
 use Rattle.ygg_eval_places.specs.Chosen.{Chose}
 use Rattle.ygg_eval_places.specs.Steps.{Answered, CrashedOf, FellBetween, FellWithin, ThenCrashed}

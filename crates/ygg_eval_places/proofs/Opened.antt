@@ -15,7 +15,7 @@ use Rattle.ygg_meaning_laws.specs.ygg_meaning.Environments.{Env}
 use Rattle.ygg_meaning_laws.specs.ygg_meaning.Meaning.{is_one}
 use Rattle.ygg_meaning_laws.specs.Direct.{Direct, Reached, room_of, stmt_direct, block_direct}
 use Rattle.ygg_meaning_laws.proofs.Rooms.{room_is}
-use Rattle.ygg_eval_block.specs.Ready.{eval_in}
+use Rattle.ygg_eval.specs.Ready.{eval_in}
 use Rattle.ygg_eval_places.specs.Machines.{PlaceMeaning}
 use Rattle.ygg_eval_places.specs.Walks.{Ended, stmt_part, inside_part, turns_part, parts_room}
 

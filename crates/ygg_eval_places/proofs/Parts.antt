@@ -61,7 +61,7 @@ use Rattle.ygg_meaning_laws.specs.Agrees.{Agrees}
 use Rattle.ygg_meaning_laws.proofs.Tests.{left as first_of, right as second_of}
 use Rattle.ygg_meaning_laws.proofs.Rules.{NumberParts, number_parts}
 use Rattle.ygg_meaning_laws.proofs.Steps.{agrees_with_number}
-use Rattle.ygg_eval_block.specs.ygg_eval_expr.Known.{CanEvaluate}
+use Rattle.ygg_eval.specs.ygg_eval_expr.Known.{CanEvaluate}
 use Rattle.ygg_meaning_laws.specs.Kinds.{all_keep, node_keeps, stmt_keeps, keeps}
 use Rattle.ygg_meaning_laws.specs.Questions.{plain, answer_fits, question_fits, Follows}
 use Rattle.ygg_meaning_laws.proofs.Asking.{all_known}
@@ -70,10 +70,10 @@ use Rattle.ygg_meaning_laws.proofs.Following.{follows_cut, follows_front, agrees
 use Rattle.ygg_meaning_laws.proofs.ProgressSounds.{Told, Fine, all_sound, statements_sound, call_fits}
 use Rattle.ygg_meaning_laws.specs.Direct.{told_by, in_order as run_in_order}
 use Rattle.ygg_meaning_laws.proofs.Order.{all_follow, block_follows}
-use Rattle.ygg_eval_block.specs.Layers.{signatures_at}
-use Rattle.ygg_eval_block.specs.Ready.{eval_in, known_in, numbered, IsGiven}
-use Rattle.ygg_eval_block.proofs.Fitting.{local_defs, local_lower, walked_defs, given_value, given_choice, given_call}
-use Rattle.ygg_eval_block.proofs.Opened.{
+use Rattle.ygg_eval.specs.Layers.{signatures_at}
+use Rattle.ygg_eval.specs.Ready.{eval_in, known_in, numbered, IsGiven}
+use Rattle.ygg_eval.proofs.Fitting.{local_defs, local_lower, walked_defs, given_value, given_choice, given_call}
+use Rattle.ygg_eval.proofs.Opened.{
   walked_let,
   walked_assign,
   walked_if,

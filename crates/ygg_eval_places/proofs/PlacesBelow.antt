@@ -14,13 +14,13 @@ use Rattle.ygg_meaning_laws.specs.ygg_type_rules.Statements.{source_typing, call
 use Rattle.ygg_meaning_laws.specs.ygg_meaning.Environments.{Env, look_up}
 use Rattle.ygg_meaning_laws.specs.ygg_meaning.Machine.{based}
 use Rattle.ygg_meaning_laws.specs.Kinds.{may_call, source_keeps}
-use Rattle.ygg_eval_block.specs.ygg_eval_expr.Known.{CanEvaluate}
-use Rattle.ygg_eval_block.specs.ygg_eval_expr.Writing.{CanWrite}
-use Rattle.ygg_eval_block.specs.Lower.{Standing, Meaning, Behavior}
-use Rattle.ygg_eval_block.specs.Ready as block
-use Rattle.ygg_eval_block.specs.Ready.{known_in, IsGiven}
-use Rattle.ygg_eval_block.proofs.Fitting.{ask_evaluates, call_evaluates}
-use Rattle.ygg_eval_block.proofs.Assigning.{assign_evaluates, assign_writes}
+use Rattle.ygg_eval.specs.ygg_eval_expr.Known.{CanEvaluate}
+use Rattle.ygg_eval.specs.ygg_eval_expr.Writing.{CanWrite}
+use Rattle.ygg_eval.specs.Lower.{Standing, Meaning, Behavior}
+use Rattle.ygg_eval.specs.Ready as block
+use Rattle.ygg_eval.specs.Ready.{known_in, IsGiven}
+use Rattle.ygg_eval.proofs.Fitting.{ask_evaluates, call_evaluates}
+use Rattle.ygg_eval.proofs.Assigning.{assign_evaluates, assign_writes}
 use Rattle.ygg_eval_places.specs.Machines.{PlaceMeaning}
 use Rattle.ygg_eval_places.specs.Ready.{CanDo, CanAsk, CanAssign, CanCall}
 

@@ -19,10 +19,10 @@ use Rattle.ygg_meaning_laws.proofs.Fits.{fits_has}
 use Rattle.ygg_meaning_laws.specs.Fitting.{HasShape}
 use Rattle.ygg_meaning_laws.specs.Questions.{answer_fits, answer_has}
 use Rattle.ygg_meaning_laws.specs.Direct.{Got, source_got, source_space, stmt_direct}
-use Rattle.ygg_eval_block.specs.ygg_eval_expr.Writing.{CanWrite}
-use Rattle.ygg_eval_block.specs.Layers.{signatures_at}
-use Rattle.ygg_eval_block.specs.Ready.{eval_in, IsGiven}
-use Rattle.ygg_eval_block.proofs.Fitting.{given_value, given_call}
+use Rattle.ygg_eval.specs.ygg_eval_expr.Writing.{CanWrite}
+use Rattle.ygg_eval.specs.Layers.{signatures_at}
+use Rattle.ygg_eval.specs.Ready.{eval_in, IsGiven}
+use Rattle.ygg_eval.proofs.Fitting.{given_value, given_call}
 use Rattle.ygg_eval_places.specs.Machines.{PlaceMeaning, IsPlaces}
 use Rattle.ygg_eval_places.specs.Ready.{CanAsk, CanAssign}
 use Rattle.ygg_eval_places.specs.Walks.{Ended}

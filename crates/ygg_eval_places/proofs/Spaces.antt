@@ -37,9 +37,9 @@ use Rattle.ygg_eval.specs.ygg_meaning.Environments.{Name}
 use Rattle.ygg_eval.specs.ygg_meaning.Layer.{operation_in}
 use Rattle.ygg_eval.specs.ygg_meaning_laws.Direct.{room_of}
 use Rattle.ygg_eval_places.specs.ygg_sym_laws.Below.{space_on}
-use Rattle.ygg_eval.specs.ygg_eval_block.Bodies.{IsBlock}
-use Rattle.ygg_eval.specs.ygg_eval_block.Layers.{below_at}
-use Rattle.ygg_eval.specs.ygg_eval_block.declared.body.Part.TheVariants as part
+use Rattle.ygg_eval.specs.Bodies.{IsBlock}
+use Rattle.ygg_eval.specs.Layers.{below_at}
+use Rattle.ygg_eval.specs.declared.body.Part.TheVariants as part
 use Rattle.ygg_eval.proofs.OnSpec.{there}
 use Rattle.ygg_eval_places.proofs.Calls.{number_is}
 use Rattle.ygg_eval_places.proofs.OnSpec.{at_spec}

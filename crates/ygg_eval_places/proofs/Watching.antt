@@ -42,8 +42,8 @@ use Rattle.ygg_eval.proofs.of_ygg_meaning_laws.Derived.{derivable_derived}
 use Rattle.ygg_eval.specs.Files.{IsStateBelow}
 use Rattle.ygg_eval_places.specs.ygg_sym_runs.Stops.{before_at, within_at, halt}
 use Rattle.ygg_eval_places.specs.ygg_sym_laws.Fronts.{handle_on, takes_on, cut_on, cut_takes_on, lose_on, lose_takes_on}
-use Rattle.ygg_eval.specs.ygg_eval_block.Layers.{below_at, variables_at}
-use Rattle.ygg_eval.specs.ygg_eval_block_proofs_Blocks.{bind_fits, blocks_kept}
+use Rattle.ygg_eval.specs.Layers.{below_at, variables_at}
+use Rattle.ygg_eval.proofs.Blocks.{bind_fits, blocks_kept}
 use Rattle.ygg_eval.proofs.OnDisk.{variables_zero}
 use Rattle.ygg_eval.proofs.OnSpec.{layer_fits, there}
 use Rattle.ygg_eval_places.specs.Belows.{

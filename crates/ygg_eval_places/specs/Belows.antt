@@ -17,8 +17,8 @@ use Rattle.ygg_eval.specs.Files.{IsStateBelow}
 use Rattle.ygg_eval_places.specs.ygg_sym_runs.Stops.{before_at, within_at, halt}
 use Rattle.ygg_eval_places.specs.ygg_sym_laws.Below.{space_on}
 use Rattle.ygg_eval_places.specs.ygg_sym_laws.Fronts.{handle_on, takes_on, cut_on, cut_takes_on, lose_on, lose_takes_on}
-use Rattle.ygg_eval.specs.ygg_eval_block.Layers.{below_at, signatures_at, variables_at}
-use Rattle.ygg_eval.specs.ygg_eval_block.declared.body.Stop.{Stop}
+use Rattle.ygg_eval.specs.Layers.{below_at, signatures_at, variables_at}
+use Rattle.ygg_eval.specs.declared.body.Stop.{Stop}
 use Rattle.ygg_eval_places.specs.Machines.{PlaceMeaning}
 use Rattle.ygg_eval_places.specs.Bits.{bits_in}
 use Rattle.ygg_eval_places.specs.declared.below.BelowPlaces.{BelowPlaces}

@@ -15,9 +15,9 @@ use Rattle.ygg_eval_places.specs.ygg_meaning_laws.Direct.{Handled}
 use Rattle.ygg_eval_places.specs.ygg_meaning_laws.Places.{Result}
 use Rattle.ygg_sym_laws.specs.ygg_sym_runs_proofs_Chosen.{block_end}
 use Rattle.ygg_sym_laws.specs.Taking.{block_takes}
-use Rattle.ygg_eval_places.specs.ygg_eval_block.Bodies.{IsBlock, arguments_in, variables_in}
-use Rattle.ygg_eval_places.specs.ygg_eval_block.Layers.{closed_at, signatures_at}
-use Rattle.ygg_eval_places.specs.ygg_eval_block.declared.body.Body.{Body}
+use Rattle.ygg_eval_places.specs.ygg_eval.Bodies.{IsBlock, arguments_in, variables_in}
+use Rattle.ygg_eval_places.specs.ygg_eval.Layers.{closed_at, signatures_at}
+use Rattle.ygg_eval_places.specs.ygg_eval.declared.body.Body.{Body}
 use Rattle.ygg_eval_places.specs.Machines.{PlaceMeaning}
 use Rattle.ygg_eval_places.specs.Bits.{bits_in}
 use Rattle.ygg_eval_places.specs.declared.bits.Choices.{Choices}

@@ -11,9 +11,9 @@ use Rattle.ygg_eval.specs.ygg_meaning.Obligations.{Halt}
 use Rattle.ygg_eval.specs.ygg_meaning.Refines.{Below}
 use Rattle.ygg_eval.specs.ygg_meaning.Shapes.{values_fit}
 use Rattle.ygg_eval_places.specs.ygg_sym_laws.Fronts.{answer_by_place, state_by_place, run_picks, run_stop, left_at, fall_picks}
-use Rattle.ygg_eval.specs.ygg_eval_block.Bodies.{IsBlock, arguments_in, variables_in}
-use Rattle.ygg_eval.specs.ygg_eval_block.Layers.{below_at, closed_at, variables_at}
-use Rattle.ygg_eval.specs.ygg_eval_block.declared.body.Body.{Body}
+use Rattle.ygg_eval.specs.Bodies.{IsBlock, arguments_in, variables_in}
+use Rattle.ygg_eval.specs.Layers.{below_at, closed_at, variables_at}
+use Rattle.ygg_eval.specs.declared.body.Body.{Body}
 use Rattle.ygg_eval_places.specs.Bits.{bits_in}
 use Rattle.ygg_eval_places.specs.Belows.{halt_of}
 use Rattle.ygg_eval_places.specs.declared.below.Fallen.{Fallen}

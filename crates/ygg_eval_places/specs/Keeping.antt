@@ -27,7 +27,7 @@ use Rattle.ygg_eval_places.specs.ygg_sym_laws.Taking.{Takes}
 use Rattle.ygg_eval_places.specs.ygg_sym_laws_proofs_Acting.{Named}
 use Rattle.ygg_eval_places.specs.ygg_sym_laws_proofs_Disk.{disk_named}
 use Rattle.ygg_eval_places.specs.ygg_sym_laws_proofs_Spec.{spec_named}
-use Rattle.ygg_eval.specs.ygg_eval_block.Layers.{below_at, closed_at, signatures_at, signatures_of}
+use Rattle.ygg_eval.specs.Layers.{below_at, closed_at, signatures_at, signatures_of}
 use Rattle.ygg_eval_places.specs.Machines.{IsPlaces}
 use Rattle.ygg_eval_places.specs.Bits.{bits_in}
 use Rattle.ygg_eval.proofs.OnSpec.{there}

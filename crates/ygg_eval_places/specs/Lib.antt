@@ -2,7 +2,7 @@ pub use Rattle.ygg_meaning_laws.proofs.Choosing as ygg_meaning_laws_proofs_Choos
 pub use Rattle.ygg_meaning_laws.proofs.Mirror as ygg_meaning_laws_proofs_Mirror
 pub use Rattle.ygg_meaning_laws.proofs.Order as ygg_meaning_laws_proofs_Order
 pub use Rattle.ygg_meaning_laws.specs as ygg_meaning_laws
-pub use Rattle.ygg_eval_block.specs as ygg_eval_block
+pub use Rattle.ygg_eval.specs as ygg_eval
 pub use Rattle.ygg_meaning_laws.specs.ygg_meaning
 pub use Rattle.ygg_sym_laws.specs.ygg_bank
 pub use Rattle.ygg_sym_laws.proofs.Acting as ygg_sym_laws_proofs_Acting

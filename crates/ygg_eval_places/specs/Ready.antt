@@ -20,7 +20,7 @@ use Rattle.ygg_meaning_laws.specs.ygg_meaning.Meaning.{functions_of}
 use Rattle.ygg_meaning_laws.specs.Agrees.{Agrees}
 use Rattle.ygg_meaning_laws.specs.Kinds.{may_call, source_keeps, all_keep, stmt_keeps, keeps}
 use Rattle.ygg_meaning_laws.specs.Questions.{plain}
-use Rattle.ygg_eval_block.specs.Layers.{signatures_at}
+use Rattle.ygg_eval.specs.Layers.{signatures_at}
 use Rattle.ygg_eval_places.specs.Machines.{PlaceMeaning}
 
 module _ {S : Type 0} (M : PlaceMeaning S) (file : File) (number : ℕ) where

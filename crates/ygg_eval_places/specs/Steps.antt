@@ -15,9 +15,9 @@ use Rattle.ygg_eval.specs.ygg_meaning.Shapes.{values_fit}
 use Rattle.ygg_eval_places.specs.ygg_sym_laws.Fronts.{handle_on, takes_on, cut_on, cut_takes_on, lose_on, lose_takes_on}
 use Rattle.ygg_eval_places.specs.ygg_sym_laws.Taking.{crash_takes, then_takes}
 use Rattle.ygg_eval_places.specs.ygg_sym_runs_proofs_SpecFalls.{crash_end, then_end}
-use Rattle.ygg_eval.specs.ygg_eval_block.Bodies.{arguments_in}
-use Rattle.ygg_eval.specs.ygg_eval_block.Layers.{below_at, closed_at, variables_at}
-use Rattle.ygg_eval.specs.ygg_eval_block.declared.body.Body.{Body}
+use Rattle.ygg_eval.specs.Bodies.{arguments_in}
+use Rattle.ygg_eval.specs.Layers.{below_at, closed_at, variables_at}
+use Rattle.ygg_eval.specs.declared.body.Body.{Body}
 
 -- power with one pick
 abbrev pub one_pick : Bool → Power

@@ -9,7 +9,7 @@ use Rattle.ygg_syntax.specs.declared.tree.Numeral.{Numeral}
 use Rattle.ygg_syntax.specs.declared.tree.Stmt.{Stmt}
 use Rattle.ygg_meaning_laws.specs.ygg_meaning.Environments.{Env}
 use Rattle.ygg_meaning_laws.specs.Direct.{Direct, Reached, total, forgets, times, in_order, direct_of}
-use Rattle.ygg_eval_block.specs.Ready.{eval_in}
+use Rattle.ygg_eval.specs.Ready.{eval_in}
 use Rattle.ygg_eval_places.specs.Machines.{PlaceMeaning}
 
 -- what a part of a run that began at a place with these names and this state ends with: what it is defined to

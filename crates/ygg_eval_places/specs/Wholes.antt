@@ -13,10 +13,10 @@ use Rattle.ygg_meaning_laws.specs.ygg_meaning.Progress.{Answer, answer_of}
 use Rattle.ygg_meaning_laws.specs.ygg_meaning.Shapes.{values_fit}
 use Rattle.ygg_meaning_laws.specs.Kinds.{keeps}
 use Rattle.ygg_meaning_laws.specs.Direct.{Reached, direct_run}
-use Rattle.ygg_eval_block.specs.Bodies.{IsBlock, arguments_in, kind_of, variables_in}
-use Rattle.ygg_eval_block.specs.Layers.{signatures_at}
-use Rattle.ygg_eval_block.specs.declared.body.Body.{Body}
-use Rattle.ygg_eval_block.specs.Ready.{eval_in}
+use Rattle.ygg_eval.specs.Bodies.{IsBlock, arguments_in, kind_of, variables_in}
+use Rattle.ygg_eval.specs.Layers.{signatures_at}
+use Rattle.ygg_eval.specs.declared.body.Body.{Body}
+use Rattle.ygg_eval.specs.Ready.{eval_in}
 use Rattle.ygg_eval_places.specs.Machines.{PlaceMeaning}
 use Rattle.ygg_eval_places.specs.Ready.{Fits}
 

@@ -14,7 +14,7 @@ ghost use Rattle.ygg_eval_places.specs.Belows.{
   Stands,
 };
 ghost use Rattle.ygg_eval_places.specs.Steps.{Answered};
-ghost use Rattle.ygg_eval.specs.ygg_eval_block.Layers.{below_at};
+ghost use Rattle.ygg_eval.specs.Layers.{below_at};
 ghost use Rattle.ygg_eval_places.specs.Machines.{CanAnswer};
 ghost use Rattle.ygg_eval_places.specs.ygg_sym_laws.Fronts.{cut_on, cut_takes_on, lose_on, lose_takes_on};
 ghost use Rattle.ygg_eval.specs.ygg_meaning.Progress.{Call};

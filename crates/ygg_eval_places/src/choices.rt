@@ -4,7 +4,7 @@ use crate::bits::Choices;
 use crate::{Places, Question};
 use std::alloc::Global;
 use ygg_base::{Bits, Text};
-use ygg_eval_block::{Typed, digit};
+use ygg_eval::{Typed, digit};
 use ygg_list::NoMemory;
 use ygg_value::Value;
 

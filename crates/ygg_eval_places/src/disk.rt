@@ -3,7 +3,7 @@
 ghost use Rattle.std.specs.Prelude.{◌≡◌, ℕ, ◌++◌, Bool, List, [], ◌∷◌, nat_lt, if◌then◌else◌, IfOk, OnOk, IsTrue};
 ghost use Rattle.ygg_eval_places.specs.Bits.{bits_in};
 ghost use Rattle.ygg_eval_places.specs.Steps.{Answered, FellBetween, FellWithin, one_pick, whole_answer};
-ghost use Rattle.ygg_eval.specs.ygg_eval_block.Layers.{signatures_at, variables_at};
+ghost use Rattle.ygg_eval.specs.Layers.{signatures_at, variables_at};
 ghost use Rattle.ygg_eval.specs.ygg_meaning.Progress.{Call};
 ghost use Rattle.ygg_eval.specs.ygg_meaning.Shapes.{values_fit};
 ghost use Rattle.ygg_syntax.specs.declared.grammar.BlockKind.TheVariants.{Impl};

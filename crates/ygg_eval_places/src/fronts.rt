@@ -3,8 +3,8 @@
 ghost use Rattle.std.specs.Prelude.{◌≡◌, IfOk, IsTrue};
 ghost use Rattle.ygg_eval_places.specs.Belows.{Stands};
 ghost use Rattle.ygg_eval_places.specs.Fronts.{BodyFronted};
-ghost use Rattle.ygg_eval.specs.ygg_eval_block.Bodies.{IsBlock, IsRunnable, kind_of};
-ghost use Rattle.ygg_eval.specs.ygg_eval_block.Layers.{below_at, variables_at};
+ghost use Rattle.ygg_eval.specs.Bodies.{IsBlock, IsRunnable, kind_of};
+ghost use Rattle.ygg_eval.specs.Layers.{below_at, variables_at};
 ghost use Rattle.ygg_eval.specs.ygg_meaning.Shapes.{values_fit};
 ghost use Rattle.ygg_eval_places.specs.ygg_sym_laws.Below.{places_on};
 ghost use Rattle.ygg_syntax.specs.declared.grammar.BlockKind.TheVariants as kind;

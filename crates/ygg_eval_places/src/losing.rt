@@ -3,7 +3,7 @@
 ghost use Rattle.std.specs.Prelude.{◌≡◌, ◌≤◌, [], IfOk, IsTrue, length};
 ghost use Rattle.ygg_eval_places.specs.Bits.{bits_in};
 ghost use Rattle.ygg_eval_places.specs.Steps.{FellBetween, FellWithin};
-ghost use Rattle.ygg_eval.specs.ygg_eval_block.Layers.{signatures_at, variables_at};
+ghost use Rattle.ygg_eval.specs.Layers.{signatures_at, variables_at};
 ghost use Rattle.ygg_eval.specs.ygg_meaning.Progress.{Call};
 ghost use Rattle.ygg_eval.specs.ygg_meaning.Shapes.{values_fit};
 ghost use Rattle.ygg_syntax.specs.declared.grammar.BlockKind.TheVariants.{Impl};

@@ -6,14 +6,14 @@ ghost use Rattle.ygg_syntax.specs.declared.tree.Block.{Block};
 ghost use Rattle.ygg_syntax.specs.declared.tree.Layer.{Layer};
 ghost use Rattle.ygg_syntax.specs.declared.grammar.BlockKind.TheVariants as kind;
 ghost use Rattle.ygg_eval_places.specs.Chosen.{BlockChose};
-ghost use Rattle.ygg_eval_places.specs.ygg_eval_block.Bodies.{IsBlock, IsRunnable, kind_of};
+ghost use Rattle.ygg_eval_places.specs.ygg_eval.Bodies.{IsBlock, IsRunnable, kind_of};
 
 use crate::bits::Choices;
 use crate::choices::ChoicePlaces;
 use crate::{room, run_places};
 use std::alloc::Global;
 use ygg_base::Bits;
-use ygg_eval_block::{Body, Typed, block_of};
+use ygg_eval::{Body, Typed, block_of};
 use ygg_list::NoMemory;
 use ygg_value::{Value, Values};
 

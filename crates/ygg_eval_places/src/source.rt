@@ -2,8 +2,8 @@
 
 ghost use Rattle.std.specs.Prelude.{◌≡◌, ◌+◌, IfOk, OnOk};
 ghost use Rattle.ygg_meaning_laws.specs.Direct.{source_got, source_space};
-ghost use Rattle.ygg_eval_block.specs.Ready.{eval_in};
-ghost use Rattle.ygg_eval_block.specs.ygg_eval_expr.Held.{env_of};
+ghost use Rattle.ygg_eval.specs.Ready.{eval_in};
+ghost use Rattle.ygg_eval.specs.ygg_eval_expr.Held.{env_of};
 ghost use Rattle.ygg_eval_places.specs.Machines.{CanAnswer, question_of};
 ghost use Rattle.ygg_eval_places.specs.Ready.{CanAsk};
 ghost use Rattle.ygg_meaning_laws.specs.ygg_meaning.Progress.{value_in};
@@ -11,7 +11,7 @@ ghost use Rattle.ygg_meaning_laws.specs.ygg_meaning.Progress.{value_in};
 use crate::places::{Places, Question};
 use crate::unrolled::{add, source_room};
 use crate::walker::Walker;
-use ygg_eval_block::{Binding, digit};
+use ygg_eval::{Binding, digit};
 use ygg_list::NoMemory;
 use ygg_syntax::tree::Source;
 use ygg_value::Value;

@@ -3,8 +3,8 @@
 ghost use Rattle.std.specs.Prelude.{◌≡◌, ◌<◌, ◌≤◌, suc, is_some, slice_get, IfOk, OnOk, IsTrue, Some, length};
 ghost use Rattle.ygg_eval_places.specs.Bits.{bits_in};
 ghost use Rattle.ygg_eval_places.specs.Steps.{Answered, Crashed, FellBetween, FellWithin, ThenCrashed};
-ghost use Rattle.ygg_eval.specs.ygg_eval_block.Bodies.{IsBlock, IsRunnable, block_in, kind_of};
-ghost use Rattle.ygg_eval.specs.ygg_eval_block.Layers.{signatures_at, variables_at};
+ghost use Rattle.ygg_eval.specs.Bodies.{IsBlock, IsRunnable, block_in, kind_of};
+ghost use Rattle.ygg_eval.specs.Layers.{signatures_at, variables_at};
 ghost use Rattle.ygg_eval.specs.ygg_meaning.Progress.{Call};
 ghost use Rattle.ygg_eval.specs.ygg_meaning.Shapes.{values_fit};
 ghost use Rattle.ygg_syntax.specs.declared.grammar.BlockKind.TheVariants as kind;

@@ -3,14 +3,14 @@
 ghost use Rattle.std.specs.Prelude.{◌≡◌, ◌≤◌, ◌<◌, ◌^◌, IfOk, OnOk};
 ghost use Rattle.ygg_syntax.specs.declared.tree.Stmt.TheOpen.{Stmt-F};
 ghost use Rattle.ygg_meaning_laws.specs.Direct.{direct_run, stmt_direct};
-ghost use Rattle.ygg_eval_block.specs.Ready.{eval_in};
-ghost use Rattle.ygg_eval_block.specs.ygg_eval_expr.Held.{env_of};
+ghost use Rattle.ygg_eval.specs.Ready.{eval_in};
+ghost use Rattle.ygg_eval.specs.ygg_eval_expr.Held.{env_of};
 ghost use Rattle.ygg_eval_places.specs.Ready.{CanAsk, CanAssign, CanCall, CanEnter, CanRepeat, CanRun, CanStep};
 ghost use Rattle.ygg_eval_places.specs.Walks.{Ended, inside_part, order_part, stmt_part, turns_part};
 
 use crate::places::{Places, Question};
 use crate::unrolled::{add, rooms_after};
-use ygg_eval_block::{Binding, Runner, name_number, name_value};
+use ygg_eval::{Binding, Runner, name_number, name_value};
 use ygg_list::NoMemory;
 use ygg_syntax::tree::{Block, Expr, Index, Name, Numeral, Source, Stmt};
 

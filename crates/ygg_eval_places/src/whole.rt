@@ -2,17 +2,17 @@
 
 ghost use Rattle.std.specs.Prelude.{◌≡◌, IfOk, OnOk, take};
 ghost use Rattle.ygg_meaning_laws.specs.Direct.{direct_run};
-ghost use Rattle.ygg_eval_block.specs.Ending.{values_in};
-ghost use Rattle.ygg_eval_block.specs.Ready.{eval_in};
-ghost use Rattle.ygg_eval_block.specs.ygg_eval_expr.Held.{env_of};
-ghost use Rattle.ygg_eval_block.specs.Bodies.{IsRunnable};
+ghost use Rattle.ygg_eval.specs.Ending.{values_in};
+ghost use Rattle.ygg_eval.specs.Ready.{eval_in};
+ghost use Rattle.ygg_eval.specs.ygg_eval_expr.Held.{env_of};
+ghost use Rattle.ygg_eval.specs.Bodies.{IsRunnable};
 ghost use Rattle.ygg_eval_places.specs.Wholes.{IsReady, BodyWalked, CanServe};
 ghost use Rattle.ygg_meaning_laws.specs.ygg_meaning.Progress.{answer_of};
 
 use crate::places::Places;
 use crate::walker::Walker;
 use std::alloc::Global;
-use ygg_eval_block::{Binding, Body, Runner, Typed, block_of, give_back, names_of};
+use ygg_eval::{Binding, Body, Runner, Typed, block_of, give_back, names_of};
 use ygg_list::NoMemory;
 use ygg_syntax::tree::Block;
 use ygg_value::{Value, Values};

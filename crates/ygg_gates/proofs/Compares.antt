@@ -40,9 +40,9 @@ use Rattle.ygg_gates.specs.declared.gate.Gate.{Gate}
 use Rattle.ygg_gates.specs.declared.gate.Gate.TheVariants.{And, Xor}
 use Rattle.ygg_gates.proofs.Truths.{value_of, differ, value_of-complement}
 use Rattle.ygg_gates.proofs.Following.{Below}
-use Rattle.ygg_gates.proofs.Numbers.{number, AllBelow, all_below_more, all_below_complements, number_below, number_complements, true_bit}
-use Rattle.ygg_gates.proofs.Steps.{Good, done, follow, changed, placed_good, either_good, grows_length}
-use Rattle.ygg_gates.proofs.Sums.{SumBelow, added_good}
+use Rattle.ygg_gates.proofs.BitNumbers.{number, AllBelow, all_below_more, all_below_complements, number_below, number_complements, true_bit}
+use Rattle.ygg_gates.proofs.CircuitSteps.{Good, done, follow, changed, placed_good, either_good, grows_length}
+use Rattle.ygg_gates.proofs.MeantSums.{SumBelow, added_good}
 
 pub test_true : (m n : ℕ) → m < n → nat_lt m n ≡ true
 test_true m n h = grind (arith, nat_tests)

@@ -45,9 +45,9 @@ use Rattle.ygg_gates.specs.Circuits.{next_variable}
 use Rattle.ygg_gates.specs.Groups.{Circuit, bits_at, node_bits, with_node, with_nodes}
 use Rattle.ygg_gates.specs.Sources.{number_from, given_by, environment_by}
 use Rattle.ygg_gates.proofs.Lists.{among_first}
-use Rattle.ygg_gates.proofs.Numbers.{number}
+use Rattle.ygg_gates.proofs.BitNumbers.{number}
 use Rattle.ygg_gates.proofs.Shapes.{IsNext, IsPart, last_bits, next_good, next_length, next_same, part_next, part_step, rest_later}
-use Rattle.ygg_gates.proofs.Steps.{follows_before}
+use Rattle.ygg_gates.proofs.CircuitSteps.{follows_before}
 use Rattle.ygg_gates.proofs.Truths.{Follows}
 
 -- the environment so far

@@ -36,8 +36,8 @@ use Rattle.ygg_gates.specs.declared.gate.Joint.{Joint}
 use Rattle.ygg_gates.specs.declared.gate.Joint.TheVariants as joint
 use Rattle.ygg_gates.proofs.Truths.{value_of, differ}
 use Rattle.ygg_gates.proofs.Following.{Below}
-use Rattle.ygg_gates.proofs.Numbers.{number, AllBelow, all_below_more, AreBits, bit_small}
-use Rattle.ygg_gates.proofs.Steps.{Good, done, follow, placed_good, either_good, grows_length}
+use Rattle.ygg_gates.proofs.BitNumbers.{number, AllBelow, all_below_more, AreBits, bit_small}
+use Rattle.ygg_gates.proofs.CircuitSteps.{Good, done, follow, placed_good, either_good, grows_length}
 
 -- what joins two truth values
 abbrev pub joint_value : (ℕ → Bool) → Joint → Bool → Bool → Bool

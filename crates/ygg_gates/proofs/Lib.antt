@@ -1,13 +1,13 @@
 pub mod Lists
 pub mod Truths
 pub mod Following
-pub mod Steps
-pub mod Numbers
+pub mod CircuitSteps
+pub mod BitNumbers
 pub mod Joints
-pub mod Sums
+pub mod MeantSums
 pub mod Compares
 pub mod Products
-pub mod Shifts
+pub mod MeantShifts
 pub mod Operations
 pub mod Reached
 pub mod NodeGates
@@ -15,3 +15,5 @@ pub mod Shapes
 pub mod Meant
 pub mod Given
 pub mod Whole
+pub mod Steps
+pub mod Numbers

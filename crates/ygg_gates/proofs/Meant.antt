@@ -51,7 +51,7 @@ use Rattle.ygg_gates.specs.declared.gate.Gate.{Gate}
 use Rattle.ygg_gates.specs.declared.gate.Gate.TheVariants.{Free}
 use Rattle.ygg_gates.proofs.Following.{Closed, SameBelow, Extended, chosen, closed_push}
 use Rattle.ygg_gates.proofs.NodeGates.{AreChildren, IsChild, IsGiven, NodeMeans, node_value_is}
-use Rattle.ygg_gates.proofs.Numbers.{number, double, same_number}
+use Rattle.ygg_gates.proofs.BitNumbers.{number, double, same_number}
 use Rattle.ygg_gates.proofs.Shapes.{
   Shaped,
   IsNext,
@@ -67,7 +67,7 @@ use Rattle.ygg_gates.proofs.Shapes.{
   part_step,
   rest_later,
 }
-use Rattle.ygg_gates.proofs.Steps.{follows_before}
+use Rattle.ygg_gates.proofs.CircuitSteps.{follows_before}
 use Rattle.ygg_gates.proofs.Truths.{Follows}
 
 -- each node that is reached has the value that its bits name

@@ -53,7 +53,7 @@ use Rattle.ygg_gates.specs.declared.gate.Joint.TheVariants as joint
 use Rattle.ygg_gates.proofs.Truths.{value_of}
 use Rattle.ygg_gates.proofs.Following.{Below}
 use Rattle.ygg_gates.proofs.Joints.{joined_each_good}
-use Rattle.ygg_gates.proofs.Numbers.{
+use Rattle.ygg_gates.proofs.BitNumbers.{
   number,
   AllBelow,
   all_below_append,
@@ -68,7 +68,7 @@ use Rattle.ygg_gates.proofs.Numbers.{
   false_bit,
 }
 use Rattle.ygg_gates.proofs.Operations.{IsResult, CanOperate, operation_good}
-use Rattle.ygg_gates.proofs.Steps.{Good, done, follow, changed, placed_good}
+use Rattle.ygg_gates.proofs.CircuitSteps.{Good, done, follow, changed, placed_good}
 
 -- new variables, and the number that they name
 pub free_good : (width : ℕ) (old : List Gate) → Good (List Lit) (AreBits width) (λ v os. number v os ≡ number_from v (next_variable old) width) old

@@ -1,201 +1,136 @@
--- Numbers of lists of bits, under values of their variables.
+-- Loops over bits that make no gates.
 use Rattle.std.proofs.Common.{
   ◌≡◌,
   ◌<◌,
   ◌≤◌,
+  ◌^◌,
   ℕ,
-  zero,
   suc,
   ◌+◌,
   ◌-◌,
-  ◌*◌,
   ◌/◌,
   ◌%◌,
-  ◌^◌,
-  Bool,
   true,
   false,
-  not,
+  nat_lt,
+  ◌==◌,
+  if◌then◌else◌,
   List,
   [],
   ◌∷◌,
   ◌++◌,
   length,
-  take,
   drop,
-  replicate,
+  get_or,
   ⊎_elim,
+  refl,
   sym,
-  subst,
   ap,
   ◌∙◌,
+  subst,
+  append_assoc,
   arith,
-  refl,
 }
 use Rattle.std.proofs.lemmas.Bool.{cases_lt}
-use Rattle.std.proofs.lemmas.List.{length-take, length-replicate, take-append-drop, take_all}
-use Rattle.std.proofs.lemmas.Nat.{mod_low, shr_high, mod-pow-add, shl-shr}
-use Rattle.std.proofs.Math.Nat.{pow-suc, mod-eq_of_lt, mul_comm, mul_assoc, pow-le-pow_right, mul-mod_left}
+use Rattle.std.proofs.lemmas.Bool.Decides.{nat_tests}
+use Rattle.std.proofs.lemmas.List.{drop_more, drop_all, append-nil}
+use Rattle.std.proofs.lemmas.Nat.{pow_pos, shr-shr}
+use Rattle.std.proofs.Math.Nat.{div-eq_of_lt, div-lt_iff_lt-mul, div-one, pow-le-pow_right}
 use Rattle.ygg_cnf.specs.declared.lit.Lit.{Lit}
-use Rattle.ygg_value.specs.Words.{bit_of}
-use Rattle.ygg_gates.specs.Circuits.{true_literal, false_literal, complements}
-use Rattle.ygg_gates.specs.Rows.{resized_bits, moved_up, moved_down}
-use Rattle.ygg_gates.proofs.Truths.{value_of, value_of-complement}
-use Rattle.ygg_gates.proofs.Following.{Below, SameBelow, same_literal}
+use Rattle.ygg_gates.specs.Circuits.{true_literal, false_literal}
+use Rattle.ygg_gates.specs.Rows.{constant_bits, near}
 
--- the number of the bits, the lowest first
-abbrev pub number : (ℕ → Bool) → List Lit → ℕ
-number v [] = 0
-number v (x ∷ xs) = bit_of (value_of v x) + 2 * number v xs
+test_true : (m n : ℕ) → m < n → nat_lt m n ≡ true
+test_true m n h = grind (arith, nat_tests)
 
--- all literals are of variables below a number
-abbrev pub AllBelow : ℕ → List Lit → Type 0
-AllBelow n [] = Unit {0}
-AllBelow n (x ∷ xs) = Below n x × AllBelow n xs
+test_false : (m n : ℕ) → n ≤ m → nat_lt m n ≡ false
+test_false m n h = grind (arith, nat_tests)
 
--- so many bits, of variables below a number
-pub record AreBits (width n : ℕ) (xs : List Lit) : Type 0 where
-  pub count : length xs ≡ width
-  pub below : AllBelow n xs
+-- a quotient that isn't 0
+reaches_up : (n k : ℕ) → 0 < n / 2 ^ k → 2 ^ k ≤ n
+reaches_up n k h =
+    ⊎_elim (λ (l : n < 2 ^ k). absurd (let z : n / 2 ^ k ≡ 0 = div-eq_of_lt l in omega arith)) (λ (l : 2 ^ k ≤ n). l) (cases_lt n (2 ^ k))
 
-pub all_below_more : (n m : ℕ) (xs : List Lit) → n ≤ m → AllBelow n xs → AllBelow m xs
-all_below_more n m [] l h = tt
-all_below_more n m (x ∷ xs) l h = (let b = h.0 in omega arith, all_below_more n m xs l h.1)
+-- a quotient that is 0
+stays_below : (n k : ℕ) → n / 2 ^ k ≡ 0 → n < 2 ^ k
+stays_below n k e = let l = (div-lt_iff_lt-mul {k = 2 ^ k} {x = n} {y = 1} (pow_pos k)).0 (omega arith) in omega arith
 
-pub bits_more : (width n m : ℕ) (xs : List Lit) → n ≤ m → AreBits width n xs → AreBits width m xs
-bits_more width n m xs l d = record { count = d.count; below = all_below_more n m xs l d.below }
+-- how many near bits there are: those so far, and those of the rest
+pub record Nearing (width : ℕ) (ys : List Lit) (count rest : ℕ) : Type 0 where
+  pub whole : near width 0 ys ≡ near width count (drop count ys) + count
+  pub rest_is : rest ≡ (width - 1) / 2 ^ count
+  pub below : (k : ℕ) → k < count → 2 ^ k < width
+  pub within : count ≤ length ys
 
-pub all_below_append : (n : ℕ) (xs ys : List Lit) → AllBelow n xs → AllBelow n ys → AllBelow n (xs ++ ys)
-all_below_append n [] ys h k = k
-all_below_append n (x ∷ xs) ys h k = (h.0, all_below_append n xs ys h.1 k)
+pub near_begins : (width : ℕ) (ys : List Lit) → Nearing width ys 0 (width - 1)
+near_begins width ys = record { whole = omega arith; rest_is = sym (div-one (width - 1)); below = λ k l. absurd (omega arith); within = omega arith }
 
-pub all_below_replicate : (n k : ℕ) (x : Lit) → Below n x → AllBelow n (replicate k x)
-all_below_replicate n zero x h = tt
-all_below_replicate n (suc k) x h = (h, all_below_replicate n k x h)
+near_here : (width count : ℕ) (y : Lit) (ys : List Lit) → 2 ^ count < width → near width count (y ∷ ys) ≡ near width (count + 1) ys + 1
+near_here width count y ys l = rw (test_true (2 ^ count) width l) refl
 
-pub all_below_take : (n k : ℕ) (xs : List Lit) → AllBelow n xs → AllBelow n (take k xs)
-all_below_take n zero xs h = tt
-all_below_take n (suc k) [] h = tt
-all_below_take n (suc k) (x ∷ xs) h = (h.0, all_below_take n k xs h.1)
+near_none : (width count : ℕ) (ys : List Lit) → width ≤ 2 ^ count → near width count ys ≡ 0
+near_none width count [] l = refl
+near_none width count (y ∷ ys) l = rw (test_false (2 ^ count) width l) refl
 
-pub all_below_drop : (n k : ℕ) (xs : List Lit) → AllBelow n xs → AllBelow n (drop k xs)
-all_below_drop n zero xs h = h
-all_below_drop n (suc k) [] h = tt
-all_below_drop n (suc k) (x ∷ xs) h = all_below_drop n k xs h.1
+pub near_goes : (width : ℕ) (ys : List Lit) (count rest : ℕ) → count < length ys → 0 < rest → Nearing width ys count rest →
+    Nearing width ys (count + 1) (rest / 2)
+near_goes width ys count rest l p s =
+    let some : 0 < (width - 1) / 2 ^ count = subst (λ z. 0 < z) s.rest_is p in
+    let fits : 2 ^ count < width = let h = reaches_up (width - 1) count some in let q = pow_pos count in omega arith in
+    let one : near width count (drop count ys) ≡ near width (count + 1) (drop (count + 1) ys) + 1
+    = ap (near width count) (drop_more ys count (get_or ys count (record { var = 0; negated = false })) l)
+    ∙ near_here width count (get_or ys count (record { var = 0; negated = false })) (drop (count + 1) ys) fits in
+    let w = s.whole in
+    record {
+      whole = omega (arith, one, w);
+      rest_is = ap (λ z. z / 2) s.rest_is ∙ shr-shr (width - 1) count 1;
+      below = λ k h. ⊎_elim (λ (c : k < count). s.below k c)
+          (λ (c : count ≤ k). let e : k ≡ count = omega arith in subst (λ z. 2 ^ z < width) (sym e) fits) (cases_lt k count);
+      within = omega arith;
+    }
 
-pub all_below_complements : (n : ℕ) (xs : List Lit) → AllBelow n xs → AllBelow n (complements xs)
-all_below_complements n [] h = tt
-all_below_complements n (x ∷ xs) h = (h.0, all_below_complements n xs h.1)
+near_end : (width : ℕ) (ys : List Lit) (count : ℕ) → near width count (drop count ys) ≡ 0 → near width 0 ys ≡ near width count (drop count ys) + count
+    → count ≡ near width 0 ys
+near_end width ys count e w = omega (arith, e, w)
 
--- the same values give the same number
-pub same_number : (n : ℕ) (v u : ℕ → Bool) (xs : List Lit) → SameBelow n v u → AllBelow n xs → number v xs ≡ number u xs
-same_number n v u [] s h = refl
-same_number n v u (x ∷ xs) s h = rw (same_literal n v u x s h.0, same_number n v u xs s h.1) refl
+pub near_done : (width : ℕ) (ys : List Lit) (count rest : ℕ) → rest ≤ 0 → Nearing width ys count rest → count ≡ near width 0 ys
+near_done width ys count rest stop s =
+    let z : (width - 1) / 2 ^ count ≡ 0 = (let e = s.rest_is in omega (arith, e)) in
+    let h = stays_below (width - 1) count z in
+    near_end width ys count (near_none width count (drop count ys) (omega arith)) s.whole
 
-pub double : (k : ℕ) → 2 ^ suc k ≡ 2 * 2 ^ k
-double k = pow-suc 2 k ∙ mul_comm (2 ^ k) 2
+pub near_all : (width : ℕ) (ys : List Lit) (count rest : ℕ) → length ys ≤ count → Nearing width ys count rest → count ≡ near width 0 ys
+near_all width ys count rest l s = near_end width ys count (ap (near width count) (drop_all count ys l)) s.whole
 
-pub double_times : (k m : ℕ) → 2 ^ suc k * m ≡ 2 * (2 ^ k * m)
-double_times k m = ap (λ z. z * m) (double k) ∙ mul_assoc 2 (2 ^ k) m
+-- a power that fits 64 bits has a place below 64
+pub place_below : (place : ℕ) → 2 ^ place < 2 ^ 64 → place < 64
+place_below place h = ⊎_elim (λ (l : place < 64). l)
+    (λ (l : 64 ≤ place). absurd (let p = pow-le-pow_right {n = 2} (omega arith) {i = 64} {j = place} l in omega arith)) (cases_lt place 64)
 
-pub bit_small : (b : Bool) → bit_of b < 2
-bit_small true = omega arith
-bit_small false = omega arith
+-- the lowest bit of a number
+abbrev bit_of : ℕ → Lit
+bit_of bits = if bits % 2 == 1 then true_literal else false_literal
 
-pub number_below : (v : ℕ → Bool) (xs : List Lit) → number v xs < 2 ^ length xs
-number_below v [] = omega arith
-number_below v (x ∷ xs) = let b = bit_small (value_of v x) in let r = number_below v xs in let d = double (length xs) in omega (arith, b, r, d)
+-- bits of a number, those so far and those of the rest
+pub record Spelling (width bits i : ℕ) (so_far : List Lit) (rest : ℕ) : Type 0 where
+  pub all : so_far ++ constant_bits (width - i) rest ≡ constant_bits width bits
 
-pub bits_below : (v : ℕ → Bool) (w n : ℕ) (xs : List Lit) → AreBits w n xs → number v xs < 2 ^ w
-bits_below v w n xs d = subst (λ k. number v xs < 2 ^ k) d.count (number_below v xs)
+pub spelling_begins : (width bits : ℕ) → Spelling width bits 0 [] bits
+spelling_begins width bits = let all : width - 0 ≡ width = omega arith in record { all = ap (λ k. constant_bits k bits) all }
 
-bit_not : (b : Bool) → bit_of (not b) + bit_of b ≡ 1
-bit_not true = refl
-bit_not false = refl
+pub spelling_goes : (width bits i : ℕ) (so_far : List Lit) (rest : ℕ) (d : Lit) → i < width → d ≡ bit_of rest → Spelling width bits i so_far rest →
+    Spelling width bits (i + 1) (so_far ++ d ∷ []) (rest / 2)
+spelling_goes width bits i so_far rest d l e s =
+    let more : width - i ≡ suc (width - (i + 1)) = omega arith in
+    record {
+      all = append_assoc so_far (d ∷ []) (constant_bits (width - (i + 1)) (rest / 2))
+          ∙ ap (λ (z : Lit). so_far ++ (z ∷ constant_bits (width - (i + 1)) (rest / 2))) e
+          ∙ ap (λ k. so_far ++ constant_bits k rest) (sym more) ∙ s.all;
+    }
 
--- the complements' number
-pub number_complements : (v : ℕ → Bool) (xs : List Lit) → number v (complements xs) + number v xs + 1 ≡ 2 ^ length xs
-number_complements v [] = refl
-number_complements v (x ∷ xs) =
-    let e = ap bit_of (value_of-complement v x) in
-    let b = bit_not (value_of v x) in
-    let r = number_complements v xs in
-    let d = double (length xs) in
-    omega (arith, e, b, r, d)
+pub spelling_is : (width bits i : ℕ) (so_far : List Lit) (rest : ℕ) → width ≤ i → Spelling width bits i so_far rest → so_far ≡ constant_bits width bits
+spelling_is width bits i so_far rest l s =
+    let none : width - i ≡ 0 = omega arith in
+    sym (append-nil so_far) ∙ ap (λ k. so_far ++ constant_bits k rest) (sym none) ∙ s.all
 
-pub number_append : (v : ℕ → Bool) (xs ys : List Lit) → number v (xs ++ ys) ≡ number v xs + 2 ^ length xs * number v ys
-number_append v [] ys = omega arith
-number_append v (x ∷ xs) ys = let r = number_append v xs ys in let d = double_times (length xs) (number v ys) in omega (arith, r, d)
-
-pub false_bit : (v : ℕ → Bool) → v 1 ≡ true → bit_of (value_of v false_literal) ≡ 0
-false_bit v t = rw t refl
-
-pub true_bit : (v : ℕ → Bool) → v 1 ≡ true → bit_of (value_of v true_literal) ≡ 1
-true_bit v t = rw t refl
-
-pub number_falses : (v : ℕ → Bool) (k : ℕ) → v 1 ≡ true → number v (replicate k false_literal) ≡ 0
-number_falses v zero t = refl
-number_falses v (suc k) t = let e = false_bit v t in let r = number_falses v k t in omega (arith, e, r)
-
--- the low bits and the high ones
-pub number_split : (v : ℕ → Bool) (k : ℕ) (xs : List Lit) → k ≤ length xs → number v (drop k xs) * 2 ^ k + number v (take k xs) ≡ number v xs
-number_split v k xs l =
-    let count : length (take k xs) ≡ k = omega (arith, length-take k xs) in
-    let e : number v (take k xs ++ drop k xs) ≡ number v (take k xs) + 2 ^ k * number v (drop k xs)
-    = number_append v (take k xs) (drop k xs) ∙ ap (λ z. number v (take k xs) + 2 ^ z * number v (drop k xs)) count in
-    let c = mul_comm (2 ^ k) (number v (drop k xs)) in
-    let w = ap (number v) (take-append-drop k xs) in
-    omega (arith, e, c, w)
-
-take_below : (v : ℕ → Bool) (k : ℕ) (xs : List Lit) → k ≤ length xs → number v (take k xs) < 2 ^ k
-take_below v k xs l = let count : length (take k xs) ≡ k = omega (arith, length-take k xs) in
-    subst (λ z. number v (take k xs) < 2 ^ z) count (number_below v (take k xs))
-
-pub number_drop : (v : ℕ → Bool) (k : ℕ) (xs : List Lit) → k ≤ length xs → number v (drop k xs) ≡ number v xs / 2 ^ k
-number_drop v k xs l = sym (ap (λ z. z / 2 ^ k) (sym (number_split v k xs l)) ∙ shr_high (number v (drop k xs)) k (number v (take k xs)) (take_below v k xs l))
-
-pub number_take : (v : ℕ → Bool) (k : ℕ) (xs : List Lit) → number v (take k xs) ≡ number v xs % 2 ^ k
-number_take v k xs =
-    ⊎_elim
-    (λ (l : k < length xs).
-    let m : k ≤ length xs = omega arith in
-    sym (ap (λ z. z % 2 ^ k) (sym (number_split v k xs m)) ∙ mod_low (number v (drop k xs)) k (number v (take k xs)) (take_below v k xs m)))
-    (λ (l : length xs ≤ k).
-    let fits : number v xs < 2 ^ k = (let b = number_below v xs in let p = pow-le-pow_right {n = 2} (omega arith) {i = length xs} {j = k} l in omega arith) in
-    ap (number v) (take_all k xs l) ∙ sym (mod-eq_of_lt fits))
-    (cases_lt k (length xs))
-
-falses_after : (v : ℕ → Bool) (xs : List Lit) (k : ℕ) → v 1 ≡ true → number v (xs ++ replicate k false_literal) ≡ number v xs
-falses_after v xs k t =
-    number_append v xs (replicate k false_literal) ∙ ap (λ z. number v xs + 2 ^ length xs * z) (number_falses v k t) ∙ none (number v xs) (2 ^ length xs) where
-      none : (a p : ℕ) → a + p * 0 ≡ a
-      none a p = omega arith
-
-pub number_resized : (v : ℕ → Bool) (w : ℕ) (xs : List Lit) → v 1 ≡ true → number v (resized_bits w xs) ≡ number v xs % 2 ^ w
-number_resized v w xs t = falses_after v (take w xs) (w - length xs) t ∙ number_take v w xs
-
-pub number_moved_down : (v : ℕ → Bool) (k : ℕ) (xs : List Lit) → v 1 ≡ true → k ≤ length xs → number v (moved_down k xs) ≡ number v xs / 2 ^ k
-number_moved_down v k xs t l = falses_after v (drop k xs) k t ∙ number_drop v k xs l
-
--- a number moved up, cut to a width
-moved_mod : (a j k : ℕ) → (a * 2 ^ k) % 2 ^ (j + k) ≡ (a % 2 ^ j) * 2 ^ k
-moved_mod a j k =
-    let none : (a * 2 ^ k) % 2 ^ k ≡ 0 = mul-mod_left a (2 ^ k) in
-    mod-pow-add (a * 2 ^ k) j k ∙ ap (λ z. (z % 2 ^ j) * 2 ^ k + (a * 2 ^ k) % 2 ^ k) (shl-shr a k) ∙ ap (λ z. (a % 2 ^ j) * 2 ^ k + z) none
-    ∙ last ((a % 2 ^ j) * 2 ^ k) where
-      last : (n : ℕ) → n + 0 ≡ n
-      last n = omega arith
-
-pub number_moved_up : (v : ℕ → Bool) (k : ℕ) (xs : List Lit) → v 1 ≡ true → k ≤ length xs → number v (moved_up k xs) ≡ (number v xs * 2 ^ k) % 2 ^ length xs
-number_moved_up v k xs t l =
-    let j : ℕ = length xs - k in
-    let all : j + k ≡ length xs = omega arith in
-    let low : 2 ^ length (replicate k false_literal) ≡ 2 ^ k = ap (λ z. 2 ^ z) (length-replicate k false_literal) in
-    let z = number_falses v k t in
-    let front : number v (replicate k false_literal ++ take j xs) ≡ 2 ^ k * number v (take j xs)
-    = number_append v (replicate k false_literal) (take j xs) ∙ ap (λ p. p + 2 ^ length (replicate k false_literal) * number v (take j xs)) z
-    ∙ ap (λ p. 0 + p * number v (take j xs)) low ∙ first (2 ^ k * number v (take j xs)) in
-    front ∙ ap (λ p. 2 ^ k * p) (number_take v j xs) ∙ mul_comm (2 ^ k) (number v xs % 2 ^ j) ∙ sym (moved_mod (number v xs) j k)
-    ∙ ap (λ p. (number v xs * 2 ^ k) % 2 ^ p) all where
-      first : (n : ℕ) → 0 + n ≡ n
-      first n = omega arith
+pub ruleset near_rules = (near_begins, near_goes, near_done, near_all)

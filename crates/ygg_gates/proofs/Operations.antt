@@ -45,7 +45,7 @@ use Rattle.ygg_gates.proofs.Truths.{value_of, value_of-complement}
 use Rattle.ygg_gates.proofs.Following.{Below}
 use Rattle.ygg_gates.proofs.Compares.{subtracted_good, less_good, equal_good}
 use Rattle.ygg_gates.proofs.Joints.{joined_each_good}
-use Rattle.ygg_gates.proofs.Numbers.{
+use Rattle.ygg_gates.proofs.BitNumbers.{
   number,
   AllBelow,
   all_below_replicate,
@@ -57,9 +57,9 @@ use Rattle.ygg_gates.proofs.Numbers.{
   false_bit,
 }
 use Rattle.ygg_gates.proofs.Products.{wraps_mod, multiplied_good}
-use Rattle.ygg_gates.proofs.Shifts.{shifted_good}
-use Rattle.ygg_gates.proofs.Steps.{Good, changed}
-use Rattle.ygg_gates.proofs.Sums.{added_good}
+use Rattle.ygg_gates.proofs.MeantShifts.{shifted_good}
+use Rattle.ygg_gates.proofs.CircuitSteps.{Good, changed}
+use Rattle.ygg_gates.proofs.MeantSums.{added_good}
 
 -- the width and the number of an operation's result
 abbrev pub IsResult : Op → List Lit → List Lit → (ℕ → Bool) → List Lit → Type 0

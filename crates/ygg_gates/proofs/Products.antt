@@ -41,7 +41,7 @@ use Rattle.ygg_gates.specs.declared.gate.Joint.TheVariants as joint
 use Rattle.ygg_gates.proofs.Truths.{value_of}
 use Rattle.ygg_gates.proofs.Following.{Below}
 use Rattle.ygg_gates.proofs.Joints.{joined_each_good}
-use Rattle.ygg_gates.proofs.Numbers.{
+use Rattle.ygg_gates.proofs.BitNumbers.{
   number,
   AllBelow,
   all_below_more,
@@ -55,8 +55,8 @@ use Rattle.ygg_gates.proofs.Numbers.{
   false_bit,
   number_moved_up,
 }
-use Rattle.ygg_gates.proofs.Steps.{Good, done, follow, grows_length}
-use Rattle.ygg_gates.proofs.Sums.{added_good}
+use Rattle.ygg_gates.proofs.CircuitSteps.{Good, done, follow, grows_length}
+use Rattle.ygg_gates.proofs.MeantSums.{added_good}
 
 -- one bit, so many times: all ones or none
 number_copies : (v : ℕ → Bool) (k : ℕ) (d : Lit) (b : Bool) → value_of v d ≡ b → number v (replicate k d) + bit_of b ≡ bit_of b * 2 ^ k

@@ -44,8 +44,8 @@ use Rattle.ygg_gates.specs.Groups.{Circuit, bits_at, node_bits, with_node, with_
 use Rattle.ygg_gates.proofs.Following.{Closed}
 use Rattle.ygg_gates.proofs.Lists.{middle}
 use Rattle.ygg_gates.proofs.NodeGates.{ChildBits, ChildrenBits, NodeMeans, node_good}
-use Rattle.ygg_gates.proofs.Numbers.{AreBits, bits_more}
-use Rattle.ygg_gates.proofs.Steps.{Good, Grows, grows_self, grows_both, grows_length}
+use Rattle.ygg_gates.proofs.BitNumbers.{AreBits, bits_more}
+use Rattle.ygg_gates.proofs.CircuitSteps.{Good, Grows, grows_self, grows_both, grows_length}
 
 -- the first nodes, and all
 pub front : (ns : List Node) (k : ℕ) → Extends (take k ns) ns

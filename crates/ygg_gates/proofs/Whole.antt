@@ -57,7 +57,7 @@ use Rattle.ygg_gates.specs.Groups.{Circuit, circuit_clauses, circuit_of, bits_at
 use Rattle.ygg_gates.specs.Sources.{Variables, environment_by, number_from}
 use Rattle.ygg_gates.proofs.Given.{env_of, one_width, rest_sourced}
 use Rattle.ygg_gates.proofs.Meant.{Found, Meant, found_rest, rest_meant}
-use Rattle.ygg_gates.proofs.Numbers.{bit_small, double, number}
+use Rattle.ygg_gates.proofs.BitNumbers.{bit_small, double, number}
 use Rattle.ygg_gates.proofs.Reached.{reach_children, term_reached}
 use Rattle.ygg_gates.proofs.Shapes.{Downwards, IsPart, front, next_length, rest_later}
 use Rattle.ygg_gates.proofs.Truths.{

@@ -6,10 +6,9 @@ ghost use Rattle.ygg_gates.specs.Rows.{operation};
 
 use std::alloc::Global;
 use ygg_cnf::Lit;
-use ygg_gates::{Gate, Joint, Way};
-use ygg_gates_circuit::comparisons::{is_at_least, is_different, is_equal, is_less};
-use ygg_gates_circuit::{add, copies, false_literal, multiply, shift, subtract};
-pub use ygg_gates_circuit::{
+use ygg_gates::comparisons::{is_at_least, is_different, is_equal, is_less};
+use ygg_gates::{Gate, Joint, Way, add, copies, false_literal, multiply, shift, subtract};
+pub use ygg_gates::{
     BitLiterals, complements, constant_bits, free_bits, join_each, lowest, resized, true_literal,
 };
 use ygg_list::NoMemory;

@@ -11,8 +11,8 @@ use Rattle.ygg_eval.specs.ygg_meaning.Shapes.{zeros_of}
 use Rattle.ygg_eval.specs.ygg_meaning.Progress.{Answer}
 use Rattle.ygg_eval.specs.ygg_meaning.Machine.{State, on, Machine}
 use Rattle.ygg_eval.specs.ygg_meaning.Layer.{ClosedLayer, Layered, BlockRuns, BlockFalls}
-use Rattle.ygg_eval.specs.ygg_eval_block.Layers.{closed_at}
-use Rattle.ygg_eval.specs.ygg_eval_block.Lower.{Standing, Meaning, Ending, Whole, Down, Failed, Starved, Cause, PowerLoss, GivenUp, Passes, IsLower}
+use Rattle.ygg_eval.specs.Layers.{closed_at}
+use Rattle.ygg_eval.specs.Lower.{Standing, Meaning, Ending, Whole, Down, Failed, Starved, Cause, PowerLoss, GivenUp, Passes, IsLower}
 use Rattle.ygg_machine.specs.Floors.{Raised, lower_of, place_of, silent, zeroed, Begins, floor_meaning}
 use Rattle.ygg_machine.specs.FloorKeeps.{state_on, BlockKept, block_kept, at_place}
 use Rattle.ygg_eval.specs.Zeros.{zero_values}

@@ -10,8 +10,8 @@ use Rattle.ygg_eval.specs.ygg_meaning.Progress.{Answer}
 use Rattle.ygg_eval.specs.ygg_meaning.Machine.{Machine}
 use Rattle.ygg_eval.specs.ygg_meaning.Layer.{ClosedLayer, Layered, operation_of}
 use Rattle.ygg_eval.specs.ygg_meaning.Shapes.{values_fit}
-use Rattle.ygg_eval.specs.ygg_eval_block.Layers.{closed_at, signatures_at}
-use Rattle.ygg_eval.specs.ygg_eval_block.Lower.{Standing, Meaning, Ending, Whole, Down, Failed, Starved, Cause, PowerLoss, GivenUp, Called, IsLower}
+use Rattle.ygg_eval.specs.Layers.{closed_at, signatures_at}
+use Rattle.ygg_eval.specs.Lower.{Standing, Meaning, Ending, Whole, Down, Failed, Starved, Cause, PowerLoss, GivenUp, Called, IsLower}
 use Rattle.ygg_machine.specs.Floors.{Raised, lower_of, place_of, floor_meaning}
 use Rattle.ygg_machine.specs.FloorKeeps.{state_on, BlockKept, block_kept, at_place}
 use Rattle.ygg_machine.specs.FloorStacks.{run_lasts}

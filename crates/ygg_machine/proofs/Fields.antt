@@ -10,10 +10,10 @@ use Rattle.ygg_eval.specs.ygg_type_rules.TypeErrors.{none}
 use Rattle.ygg_eval.specs.ygg_type_rules.Files.{type_errors_of}
 use Rattle.ygg_eval.specs.ygg_disk.declared.power.Power.{Power}
 use Rattle.ygg_eval.specs.ygg_meaning.Machine.{TickName}
-use Rattle.ygg_eval.specs.ygg_eval_block.declared.body.Part.{Part}
-use Rattle.ygg_eval.specs.ygg_eval_block.declared.body.Part.TheVariants as part
-use Rattle.ygg_eval.specs.ygg_eval_block.Bodies.{block_in, IsBlock}
-use Rattle.ygg_eval.specs.ygg_eval_block.Lower.{Standing, Meaning, Ending, AfterWhole, Serves, IsLower}
+use Rattle.ygg_eval.specs.declared.body.Part.{Part}
+use Rattle.ygg_eval.specs.declared.body.Part.TheVariants as part
+use Rattle.ygg_eval.specs.Bodies.{block_in, IsBlock}
+use Rattle.ygg_eval.specs.Lower.{Standing, Meaning, Ending, AfterWhole, Serves, IsLower}
 use Rattle.ygg_machine.specs.Floors.{Raised, lower_of, place_of, IsFirst, IsCut, IsWhole, RunsSilently, Begins, FitsFloor, floor_meaning}
 use Rattle.ygg_machine.specs.FloorStacks.{layer_there}
 use Rattle.ygg_machine.specs.Commands.{waking, ticking, HasTick, IsTickAt}

@@ -25,7 +25,7 @@ use Rattle.ygg_eval.specs.ygg_meaning_laws.Fitting.{fits_wanted, all_fit}
 use Rattle.ygg_eval.specs.ygg_meaning_laws_proofs_Fits.{value_fits}
 use Rattle.ygg_eval.specs.ygg_meaning_laws_proofs_Tests.{left, right}
 use Rattle.ygg_eval.specs.ygg_meaning_laws_proofs_Disks.{disk_row_is}
-use Rattle.ygg_eval.specs.ygg_eval_block.Lower.{Standing, IsCallable, Called, GivesWhole, ending_of}
+use Rattle.ygg_eval.specs.Lower.{Standing, IsCallable, Called, GivesWhole, ending_of}
 use Rattle.ygg_machine.specs.Grounded.{row_of, HasRows, ground_meaning}
 use Rattle.ygg_machine.specs.Answered.{AnswersValue}
 

@@ -16,7 +16,7 @@ use Rattle.ygg_eval.specs.ygg_meaning.Noted.{Note, noting, disk_in, NotedDisk}
 use Rattle.ygg_eval.specs.ygg_meaning.Grounds.{ground_store, TellsBase, TellsZeros, ArePicks, OnGround}
 use Rattle.ygg_eval.specs.ygg_meaning_proofs_Mirrored.{stacked_mirrors}
 use Rattle.ygg_eval.proofs.of_ygg_meaning.Stores.{StoreMirrors, machine_mirrors, told_steps}
-use Rattle.ygg_eval.specs.ygg_eval_block.Lower.{PowerLoss}
+use Rattle.ygg_eval.specs.Lower.{PowerLoss}
 use Rattle.ygg_machine.specs.Bottoms.{bottom_on}
 use Rattle.ygg_machine.specs.Told.{StacksAreListed, StacksTell, SameNotes, StacksNote}
 use Rattle.ygg_machine.proofs.Numbered.{bottom_is}

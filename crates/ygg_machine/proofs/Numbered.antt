@@ -10,8 +10,8 @@ use Rattle.ygg_eval.specs.ygg_meaning.Layer.{ClosedLayer, Layered}
 use Rattle.ygg_eval.specs.ygg_disk.Ground as ground
 use Rattle.ygg_eval.specs.ygg_meaning.Noted.{Note}
 use Rattle.ygg_eval.specs.ygg_meaning.Stack.{Layers, Stacked, layers_on, layers_of, tables_of}
-use Rattle.ygg_eval.specs.ygg_eval_block.Layers.{closed_at, variables_from, variables_at}
-use Rattle.ygg_eval.specs.ygg_eval_block.Lower.{Cause}
+use Rattle.ygg_eval.specs.Layers.{closed_at, variables_from, variables_at}
+use Rattle.ygg_eval.specs.Lower.{Cause}
 use Rattle.ygg_eval.proofs.OnSpec.{layer_variables}
 use Rattle.ygg_machine.specs.GroundSteps.{ground_machine}
 use Rattle.ygg_machine.specs.Floors.{idle_on}

@@ -12,15 +12,15 @@ use Rattle.ygg_eval.specs.ygg_disk.declared.power.Power.{Power}
 use Rattle.ygg_eval.specs.ygg_meaning.Environments.{bind}
 use Rattle.ygg_eval.specs.ygg_meaning.Shapes.{values_fit}
 use Rattle.ygg_eval.specs.ygg_meaning.Layer.{dialogue_of}
-use Rattle.ygg_eval.specs.ygg_eval_block.declared.body.Part.{Part}
-use Rattle.ygg_eval.specs.ygg_eval_block.declared.body.Part.TheVariants as part
-use Rattle.ygg_eval.specs.ygg_eval_block.declared.body.Body.{Body}
-use Rattle.ygg_eval.specs.ygg_eval_block.Bodies.{kind_of, variables_in, arguments_in, IsBlock, IsRunnable}
-use Rattle.ygg_eval.specs.ygg_eval_block.Layers.{closed_at}
-use Rattle.ygg_eval.specs.ygg_eval_block.Lower.{Standing, Meaning, IsLower}
-use Rattle.ygg_eval.specs.ygg_eval_block.Runs.{RunEnds, BodyEnds}
-use Rattle.ygg_eval.specs.ygg_eval_block.declared.run.Ended.{Ended}
-use Rattle.ygg_eval.specs.ygg_eval_block.declared.run.Ended.TheVariants as ended
+use Rattle.ygg_eval.specs.declared.body.Part.{Part}
+use Rattle.ygg_eval.specs.declared.body.Part.TheVariants as part
+use Rattle.ygg_eval.specs.declared.body.Body.{Body}
+use Rattle.ygg_eval.specs.Bodies.{kind_of, variables_in, arguments_in, IsBlock, IsRunnable}
+use Rattle.ygg_eval.specs.Layers.{closed_at}
+use Rattle.ygg_eval.specs.Lower.{Standing, Meaning, IsLower}
+use Rattle.ygg_eval.specs.Runs.{RunEnds, BodyEnds}
+use Rattle.ygg_eval.specs.declared.run.Ended.{Ended}
+use Rattle.ygg_eval.specs.declared.run.Ended.TheVariants as ended
 use Rattle.ygg_eval.proofs.Steps.{runs_are_steps}
 use Rattle.ygg_machine.specs.Floors.{Raised, lower_of, place_of, EndsAs, run_ending, RunsOn}
 

@@ -10,8 +10,8 @@ use Rattle.ygg_eval.specs.ygg_meaning.Progress.{Answer}
 use Rattle.ygg_eval.specs.ygg_meaning.Machine.{State, TickName, Machine}
 use Rattle.ygg_eval.specs.ygg_meaning.Noted.{Note}
 use Rattle.ygg_eval.specs.ygg_meaning.Mirror.{SameOn, Mirrors}
-use Rattle.ygg_eval.specs.ygg_eval_block.Layers.{signatures_at}
-use Rattle.ygg_eval.specs.ygg_eval_block.Lower.{Standing, Meaning, Ending, Whole, Down, Failed, Starved, Cause, PowerLoss, GivenUp, AfterWhole, Serves}
+use Rattle.ygg_eval.specs.Layers.{signatures_at}
+use Rattle.ygg_eval.specs.Lower.{Standing, Meaning, Ending, Whole, Down, Failed, Starved, Cause, PowerLoss, GivenUp, AfterWhole, Serves}
 use Rattle.ygg_machine.specs.Leaves.{LeaveBy}
 use Rattle.ygg_machine.specs.FloorStacks.{Told, Retold, Renoted, is_told}
 use Rattle.ygg_machine.specs.Commands.{Command, formatting, calling, ticking, waking, Ended}

@@ -17,12 +17,12 @@ use Rattle.ygg_eval.specs.ygg_meaning.Environments.{Env, bind}
 use Rattle.ygg_eval.specs.ygg_meaning.Progress.{Answer}
 use Rattle.ygg_eval.specs.ygg_meaning.Layer.{dialogue_of}
 use Rattle.ygg_eval.specs.ygg_meaning.Shapes.{values_fit}
-use Rattle.ygg_eval.specs.ygg_eval_block.declared.body.Part.TheVariants as part
-use Rattle.ygg_eval.specs.ygg_eval_block.Bodies.{IsBlock, IsRunnable, arguments_at, arguments_in}
-use Rattle.ygg_eval.specs.ygg_eval_block.Layers.{closed_at, signatures_at}
-use Rattle.ygg_eval.specs.ygg_eval_block.Lower.{Standing, Meaning, Ending, Whole, Down, Failed, Starved, AfterWhole, GivesWhole, Serves, Called, IsCallable}
-use Rattle.ygg_eval.specs.ygg_eval_block.Runs.{RunEnds, Finished}
-use Rattle.ygg_eval.specs.ygg_eval_block.declared.run.Ended.{Ended}
+use Rattle.ygg_eval.specs.declared.body.Part.TheVariants as part
+use Rattle.ygg_eval.specs.Bodies.{IsBlock, IsRunnable, arguments_at, arguments_in}
+use Rattle.ygg_eval.specs.Layers.{closed_at, signatures_at}
+use Rattle.ygg_eval.specs.Lower.{Standing, Meaning, Ending, Whole, Down, Failed, Starved, AfterWhole, GivesWhole, Serves, Called, IsCallable}
+use Rattle.ygg_eval.specs.Runs.{RunEnds, Finished}
+use Rattle.ygg_eval.specs.declared.run.Ended.{Ended}
 use Rattle.ygg_eval.proofs.OnSpec.{AsksSpec, asks_spec}
 use Rattle.ygg_machine.specs.Floors.{Raised, lower_of, place_of, RunsOn, FitsFloor, floor_meaning}
 use Rattle.ygg_machine.proofs.Typing.{implementation_gives}

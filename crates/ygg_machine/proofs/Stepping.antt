@@ -37,11 +37,11 @@ use Rattle.ygg_eval.specs.ygg_disk.declared.power.Power.{Power}
 use Rattle.ygg_eval.specs.ygg_meaning.Environments.{Env, bind}
 use Rattle.ygg_eval.specs.ygg_meaning.Progress.{Answer}
 use Rattle.ygg_eval.specs.ygg_meaning.Shapes.{values_fit}
-use Rattle.ygg_eval.specs.ygg_eval_block.declared.body.Part.{Part}
-use Rattle.ygg_eval.specs.ygg_eval_block.declared.body.Part.TheVariants as part
-use Rattle.ygg_eval.specs.ygg_eval_block.Bodies.{arguments_in, IsBlock, IsRunnable}
-use Rattle.ygg_eval.specs.ygg_eval_block.Lower.{Standing, Meaning, Ending, Whole, Down, Failed, Starved, AfterWhole, Serves}
-use Rattle.ygg_eval.specs.ygg_eval_block.declared.run.Ended.{Ended}
+use Rattle.ygg_eval.specs.declared.body.Part.{Part}
+use Rattle.ygg_eval.specs.declared.body.Part.TheVariants as part
+use Rattle.ygg_eval.specs.Bodies.{arguments_in, IsBlock, IsRunnable}
+use Rattle.ygg_eval.specs.Lower.{Standing, Meaning, Ending, Whole, Down, Failed, Starved, AfterWhole, Serves}
+use Rattle.ygg_eval.specs.declared.run.Ended.{Ended}
 use Rattle.ygg_eval.proofs.OnSpec.{there}
 use Rattle.ygg_machine.specs.Commands.{HasTick}
 use Rattle.ygg_machine.specs.Floors.{

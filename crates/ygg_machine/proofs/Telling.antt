@@ -11,8 +11,8 @@ use Rattle.ygg_eval.specs.ygg_meaning.Shapes.{values_fit}
 use Rattle.ygg_eval.specs.ygg_meaning.Progress.{Answer}
 use Rattle.ygg_eval.specs.ygg_meaning.Machine.{State, on}
 use Rattle.ygg_eval.specs.ygg_meaning.Layer.{ClosedLayer, BlockRuns, BlockFalls}
-use Rattle.ygg_eval.specs.ygg_eval_block.Layers.{closed_at}
-use Rattle.ygg_eval.specs.ygg_eval_block.Lower.{Standing, Meaning, Ending, Whole, Down, Failed, Starved, Cause, PowerLoss, GivenUp}
+use Rattle.ygg_eval.specs.Layers.{closed_at}
+use Rattle.ygg_eval.specs.Lower.{Standing, Meaning, Ending, Whole, Down, Failed, Starved, Cause, PowerLoss, GivenUp}
 use Rattle.ygg_machine.specs.Floors.{Raised, lower_of, place_of}
 use Rattle.ygg_machine.specs.FloorKeeps.{Below, state_on, BlockInPart, BlockSteps, BlockKept}
 use Rattle.ygg_machine.specs.FloorStacks.{renoted_joined}

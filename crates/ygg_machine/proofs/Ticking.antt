@@ -7,8 +7,8 @@ use Rattle.ygg_syntax.specs.declared.tree.File.{File}
 use Rattle.ygg_eval.specs.ygg_meaning.Environments.{bind}
 use Rattle.ygg_eval.specs.ygg_meaning.Machine.{on, TickName, Machine}
 use Rattle.ygg_eval.specs.ygg_meaning.Layer.{ClosedLayer, Layered, tick_in}
-use Rattle.ygg_eval.specs.ygg_eval_block.Layers.{closed_at}
-use Rattle.ygg_eval.specs.ygg_eval_block.Lower.{Standing, Meaning, Ending, Whole, Down, Failed, Starved, Cause, PowerLoss, GivenUp}
+use Rattle.ygg_eval.specs.Layers.{closed_at}
+use Rattle.ygg_eval.specs.Lower.{Standing, Meaning, Ending, Whole, Down, Failed, Starved, Cause, PowerLoss, GivenUp}
 use Rattle.ygg_machine.specs.Floors.{Raised, lower_of, place_of, silent, floor_meaning}
 use Rattle.ygg_machine.specs.FloorKeeps.{state_on, BlockKept, at_place}
 use Rattle.ygg_machine.specs.Commands.{ticking}

@@ -11,10 +11,10 @@ use Rattle.ygg_eval.specs.ygg_meaning.Environments.{bind}
 use Rattle.ygg_eval.specs.ygg_meaning.Progress.{Answer}
 use Rattle.ygg_eval.specs.ygg_meaning.Machine.{TickName}
 use Rattle.ygg_eval.specs.ygg_meaning.Layer.{tick_in}
-use Rattle.ygg_eval.specs.ygg_eval_block.declared.body.Part.TheVariants as part
-use Rattle.ygg_eval.specs.ygg_eval_block.Bodies.{IsBlock}
-use Rattle.ygg_eval.specs.ygg_eval_block.Layers.{closed_at}
-use Rattle.ygg_eval.specs.ygg_eval_block.Lower.{Standing, Meaning, Ending, Whole, Down, Failed, Starved, PowerLoss, IsLower}
+use Rattle.ygg_eval.specs.declared.body.Part.TheVariants as part
+use Rattle.ygg_eval.specs.Bodies.{IsBlock}
+use Rattle.ygg_eval.specs.Layers.{closed_at}
+use Rattle.ygg_eval.specs.Lower.{Standing, Meaning, Ending, Whole, Down, Failed, Starved, PowerLoss, IsLower}
 use Rattle.ygg_machine.specs.Floors.{Raised, lower_of, place_of, silent, zeroed, Begins, RunsOn, RunsSilently, IsCut, floor_meaning}
 use Rattle.ygg_machine.specs.FloorKeeps.{block_kept, at_place}
 use Rattle.ygg_machine.specs.FloorStacks.{run_lasts, layer_there}

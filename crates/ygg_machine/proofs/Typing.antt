@@ -45,7 +45,7 @@ use Rattle.ygg_syntax.specs.declared.tree.Tick.{Tick}
 use Rattle.ygg_syntax.specs.declared.tree.TypeText.{TypeText}
 use Rattle.ygg_syntax.specs.declared.tree.File.{File}
 use Rattle.ygg_syntax.specs.Files.{IsDerivable}
-use Rattle.ygg_eval.specs.ygg_syntax_count.Weights.{Weights, weights_of}
+use Rattle.ygg_eval.specs.ygg_syntax.Weights.{Weights, weights_of}
 use Rattle.ygg_eval.specs.ygg_type_rules.Names.{Named, look_up, has, added}
 use Rattle.ygg_eval.specs.ygg_type_rules.declared.scope.Visibility.TheVariants.{Implementation}
 use Rattle.ygg_eval.specs.ygg_type_rules.declared.scope.Signature.{Signature}
@@ -90,11 +90,11 @@ use Rattle.ygg_eval.specs.ygg_meaning_laws_proofs_Files.{have}
 use Rattle.ygg_eval.specs.ygg_meaning_laws_proofs_ProgressSounds.{block_sound}
 use Rattle.ygg_eval.specs.ygg_meaning_laws_proofs_Typed.{Parts, parts}
 use Rattle.ygg_eval.proofs.of_ygg_meaning_laws.Views.{AllTyped, zeros_fit, memory_agrees, agrees_with_arguments}
-use Rattle.ygg_eval.specs.ygg_eval_block.Conversations.{Exchange, Exchanged, Talks, asked, answers_of}
-use Rattle.ygg_eval.specs.ygg_eval_block.Layers.{closed_at, signatures_at}
-use Rattle.ygg_eval.specs.ygg_eval_block.Lower.{Standing, Meaning}
-use Rattle.ygg_eval.specs.ygg_eval_block_proofs_Blocks.{LayerAt, bind_fits, blocks_kept, layer_typing}
-use Rattle.ygg_eval.specs.ygg_eval_block.Runs.{Finished}
+use Rattle.ygg_eval.specs.Conversations.{Exchange, Exchanged, Talks, asked, answers_of}
+use Rattle.ygg_eval.specs.Layers.{closed_at, signatures_at}
+use Rattle.ygg_eval.specs.Lower.{Standing, Meaning}
+use Rattle.ygg_eval.proofs.Blocks.{LayerAt, bind_fits, blocks_kept, layer_typing}
+use Rattle.ygg_eval.specs.Runs.{Finished}
 use Rattle.ygg_eval.proofs.Values.{bound_fits}
 use Rattle.ygg_machine.specs.Floors.{memory_at}
 use Rattle.ygg_eval.specs.Zeros.{AreShapes, zero_values}

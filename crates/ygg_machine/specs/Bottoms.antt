@@ -9,7 +9,7 @@ use Rattle.ygg_eval.specs.ygg_meaning.Environments.{Env, bind}
 use Rattle.ygg_eval.specs.ygg_meaning.Machine.{State, Machine}
 use Rattle.ygg_eval.specs.ygg_meaning.Shapes.{values_fit}
 use Rattle.ygg_eval.specs.ygg_meaning.Noted.{Note}
-use Rattle.ygg_eval.specs.ygg_eval_block.Lower.{Cause, PowerLoss, Ending}
+use Rattle.ygg_eval.specs.Lower.{Cause, PowerLoss, Ending}
 use Rattle.ygg_machine.specs.GroundSteps.{ground_machine}
 use Rattle.ygg_machine.specs.Leaves.{LeaveBy}
 use Rattle.ygg_machine.specs.Grounded.{HasRows}

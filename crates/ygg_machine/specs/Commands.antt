@@ -10,7 +10,7 @@ use Rattle.ygg_eval.specs.ygg_disk.declared.power.Power.{Power}
 use Rattle.ygg_eval.specs.ygg_meaning.Environments.{Name}
 use Rattle.ygg_eval.specs.ygg_meaning.Progress.{Answer}
 use Rattle.ygg_eval.specs.ygg_meaning.Machine.{State, TickName, Machine}
-use Rattle.ygg_eval.specs.ygg_eval_block.Lower.{Cause, PowerLoss, GivenUp, Passes, Ending, Whole, Down, Failed, Starved}
+use Rattle.ygg_eval.specs.Lower.{Cause, PowerLoss, GivenUp, Passes, Ending, Whole, Down, Failed, Starved}
 
 -- A command, as what it does to a machine where it is whole, and what it leaves where it is cut, by power or for being given up.
 pub record Command (B X : Type 0) : Type 1 where

@@ -16,8 +16,8 @@ use Rattle.ygg_eval.specs.ygg_meaning.Progress.{Answer}
 use Rattle.ygg_eval.specs.ygg_meaning.Machine.{State, on, Machine}
 use Rattle.ygg_eval.specs.ygg_meaning.Runs.{Dialogue, FallenRun}
 use Rattle.ygg_eval.specs.ygg_meaning.Layer.{ClosedLayer, Layered, OfOperation, BlockRuns, BlockFalls, dialogue_of}
-use Rattle.ygg_eval.specs.ygg_eval_block.Layers.{closed_at}
-use Rattle.ygg_eval.specs.ygg_eval_block.Lower.{
+use Rattle.ygg_eval.specs.Layers.{closed_at}
+use Rattle.ygg_eval.specs.Lower.{
   Standing,
   Meaning,
   Ending,
@@ -33,8 +33,8 @@ use Rattle.ygg_eval.specs.ygg_eval_block.Lower.{
   KeepsInCall,
   IsLower,
 }
-use Rattle.ygg_eval.specs.ygg_eval_block.declared.run.Ended.{Ended}
-use Rattle.ygg_eval.specs.ygg_eval_block_proofs_Public.{bind_counted}
+use Rattle.ygg_eval.specs.declared.run.Ended.{Ended}
+use Rattle.ygg_eval.proofs.Public.{bind_counted}
 use Rattle.ygg_eval.specs.Steps.{RunsWhole, RunsInPart, RunSteps}
 use Rattle.ygg_eval.proofs.Steps.{runs_are_steps}
 use Rattle.ygg_machine.specs.Floors.{Raised, lower_of, place_of, idle_on, layer_over, EndsAs, RunsOn, CallsFloor, floor_meaning}

@@ -20,13 +20,13 @@ use Rattle.ygg_eval.specs.ygg_disk.Disk as disk
 use Rattle.ygg_eval.specs.ygg_meaning.Noted.{Note}
 use Rattle.ygg_eval.specs.ygg_meaning.Mirror.{SameOn, IsJoined, Mirrors}
 use Rattle.ygg_eval.specs.ygg_meaning_proofs_Mirrored.{layered_mirrors, formatted_mirrors}
-use Rattle.ygg_eval.specs.ygg_eval_block.Layers.{closed_at}
-use Rattle.ygg_eval.specs.ygg_eval_block.Lower.{Standing, Meaning, Cause, PowerLoss, GivenUp, Ending, IsLower}
-use Rattle.ygg_eval.specs.ygg_eval_block.Lower as ending
-use Rattle.ygg_eval.specs.ygg_eval_block.Conversations.{Asking, Exchange, Exchanged, Answers, Talks}
-use Rattle.ygg_eval.specs.ygg_eval_block.Runs.{Came, EndedIn, RunEnds}
-use Rattle.ygg_eval.specs.ygg_eval_block.declared.run.Ended.{Ended}
-use Rattle.ygg_eval.specs.ygg_eval_block.declared.run.Ended.TheVariants as ended
+use Rattle.ygg_eval.specs.Layers.{closed_at}
+use Rattle.ygg_eval.specs.Lower.{Standing, Meaning, Cause, PowerLoss, GivenUp, Ending, IsLower}
+use Rattle.ygg_eval.specs.Lower as ending
+use Rattle.ygg_eval.specs.Conversations.{Asking, Exchange, Exchanged, Answers, Talks}
+use Rattle.ygg_eval.specs.Runs.{Came, EndedIn, RunEnds}
+use Rattle.ygg_eval.specs.declared.run.Ended.{Ended}
+use Rattle.ygg_eval.specs.declared.run.Ended.TheVariants as ended
 use Rattle.ygg_eval.specs.ygg_meaning.DiskMachine.{machine_on}
 use Rattle.ygg_machine.specs.GroundSteps.{ground_steps, ground_machine, ground_calls}
 use Rattle.ygg_machine.specs.Leaves.{LeaveBy}

@@ -12,13 +12,13 @@ use Rattle.ygg_eval.specs.ygg_meaning.Environments.{Name, Env, bind}
 use Rattle.ygg_eval.specs.ygg_meaning.Shapes.{values_fit}
 use Rattle.ygg_eval.specs.ygg_meaning.Machine.{on, Machine}
 use Rattle.ygg_eval.specs.ygg_meaning.Layer.{FallsBelow, Layered, operation_of, dialogue_of}
-use Rattle.ygg_eval.specs.ygg_eval_block.Layers.{closed_at}
-use Rattle.ygg_eval.specs.ygg_eval_block.Lower.{Standing, Behavior, Meaning, Cause, Ending, Whole, Down, Failed, Starved}
-use Rattle.ygg_eval.specs.ygg_eval_block.Runs.{RunEnds}
-use Rattle.ygg_eval.specs.ygg_eval_block.declared.run.Ended.{Ended}
-use Rattle.ygg_eval.specs.ygg_eval_block.declared.run.Ended.TheVariants as ended
-use Rattle.ygg_eval.specs.ygg_eval_block.declared.body.Part.{Part}
-use Rattle.ygg_eval.specs.ygg_eval_block.declared.body.Part.TheVariants as part
+use Rattle.ygg_eval.specs.Layers.{closed_at}
+use Rattle.ygg_eval.specs.Lower.{Standing, Behavior, Meaning, Cause, Ending, Whole, Down, Failed, Starved}
+use Rattle.ygg_eval.specs.Runs.{RunEnds}
+use Rattle.ygg_eval.specs.declared.run.Ended.{Ended}
+use Rattle.ygg_eval.specs.declared.run.Ended.TheVariants as ended
+use Rattle.ygg_eval.specs.declared.body.Part.{Part}
+use Rattle.ygg_eval.specs.declared.body.Part.TheVariants as part
 use Rattle.ygg_eval.specs.Zeros.{zero_values}
 
 -- the values of a layer's memory, and the machine below

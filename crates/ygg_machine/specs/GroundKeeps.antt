@@ -45,7 +45,7 @@ use Rattle.ygg_eval.specs.ygg_disk.declared.turn.Turn.TheVariants as turn
 use Rattle.ygg_eval.specs.ygg_meaning.Environments.{Name}
 use Rattle.ygg_eval.specs.ygg_meaning.DiskMachine.{disk_call, answer_to}
 use Rattle.ygg_eval.specs.ygg_meaning.Noted.{Note}
-use Rattle.ygg_eval.specs.ygg_eval_block.Lower.{
+use Rattle.ygg_eval.specs.Lower.{
   Standing,
   Ending,
   Whole,

@@ -6,7 +6,7 @@ use Rattle.ygg_eval.specs.ygg_meaning.Machine.{Machine}
 use Rattle.ygg_eval.specs.ygg_meaning.DiskMachine.{Store, machine_on}
 use Rattle.ygg_eval.specs.ygg_meaning.Noted.{Note}
 use Rattle.ygg_eval.specs.ygg_meaning.Grounds.{ground_store}
-use Rattle.ygg_eval.specs.ygg_eval_block.Lower.{Cause, PowerLoss, GivenUp}
+use Rattle.ygg_eval.specs.Lower.{Cause, PowerLoss, GivenUp}
 
 -- a call that failed or found no memory: it is noted as cut short, or wasn't begun
 abbrev pub IsBroken : Call → List Note → Type 0

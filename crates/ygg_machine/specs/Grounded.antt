@@ -13,7 +13,7 @@ use Rattle.ygg_eval.specs.ygg_meaning.Environments.{Name}
 use Rattle.ygg_eval.specs.ygg_meaning.Machine.{based}
 use Rattle.ygg_eval.specs.ygg_meaning.DiskMachine.{disk_call, machine_on}
 use Rattle.ygg_eval.specs.ygg_meaning.Noted.{Note}
-use Rattle.ygg_eval.specs.ygg_eval_block.Lower.{Standing, Behavior, Meaning, Ending, ending_of}
+use Rattle.ygg_eval.specs.Lower.{Standing, Behavior, Meaning, Ending, ending_of}
 use Rattle.ygg_machine.specs.GroundSteps.{ground_machine, ground_calls}
 use Rattle.ygg_machine.specs.Leaves.{LeaveBy}
 

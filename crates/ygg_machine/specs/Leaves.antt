@@ -6,7 +6,7 @@ use Rattle.ygg_eval.specs.ygg_disk.Power.{IsNamed, Begun, BegunInVain}
 use Rattle.ygg_eval.specs.ygg_disk.declared.power.Fuse.{Fuse}
 use Rattle.ygg_eval.specs.ygg_disk.declared.power.Power.{Power}
 use Rattle.ygg_eval.specs.ygg_meaning.Noted.{Note}
-use Rattle.ygg_eval.specs.ygg_eval_block.Lower.{Cause, PowerLoss, GivenUp}
+use Rattle.ygg_eval.specs.Lower.{Cause, PowerLoss, GivenUp}
 
 -- the calls are whole, one after another, and the fuse names none of them
 abbrev pub LeaveWhole : {S : Type 0} → Meaning S → List Note → Power → Power → Type 0

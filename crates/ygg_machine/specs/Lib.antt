@@ -1,5 +1,5 @@
 pub use Rattle.ygg_eval.specs.ygg_disk
-pub use Rattle.ygg_eval.specs.ygg_eval_block
+pub use Rattle.ygg_eval.specs as ygg_eval
 pub use Rattle.ygg_eval.specs.ygg_meaning
 pub use Rattle.ygg_eval.specs.ygg_type_rules
 pub use Rattle.ygg_eval.specs.ygg_type_proofs_Least

@@ -8,7 +8,7 @@ use Rattle.ygg_eval.specs.ygg_meaning.Mirror.{FormattedIf, Mirrors}
 use Rattle.ygg_eval.specs.ygg_meaning.Noted.{Note, NotedDisk}
 use Rattle.ygg_eval.specs.ygg_meaning.StepLaws.{Same}
 use Rattle.ygg_eval.specs.ygg_meaning.Grounds.{TellsBase, TellsZeros, ArePicks}
-use Rattle.ygg_eval.specs.ygg_eval_block.Lower.{Cause, PowerLoss}
+use Rattle.ygg_eval.specs.Lower.{Cause, PowerLoss}
 use Rattle.ygg_machine.specs.GroundSteps.{ground_machine}
 use Rattle.ygg_machine.specs.Bottoms.{bottom_on}
 

@@ -9,8 +9,8 @@ use Rattle.ygg_eval.specs.ygg_meaning.Machine.{State, on, Machine}
 use Rattle.ygg_eval.specs.ygg_meaning.Layer.{BlockFalls}
 use Rattle.ygg_eval.specs.ygg_meaning.Shapes.{zeros_of}
 use Rattle.ygg_eval.specs.ygg_meaning.Mirror.{Mirrors}
-use Rattle.ygg_eval.specs.ygg_eval_block.Layers.{closed_at}
-use Rattle.ygg_eval.specs.ygg_eval_block.Lower.{Standing, Meaning, Cause, PowerLoss, Ending}
+use Rattle.ygg_eval.specs.Layers.{closed_at}
+use Rattle.ygg_eval.specs.Lower.{Standing, Meaning, Cause, PowerLoss, Ending}
 use Rattle.ygg_machine.specs.Grounded.{ground_from}
 use Rattle.ygg_machine.specs.Floors.{Raised, floor_meaning}
 use Rattle.ygg_machine.specs.Commands.{Stage, Command, formatting, Ended}

@@ -14,8 +14,8 @@ use Rattle.ygg_eval.specs.ygg_meaning.Shapes.{values_fit, zeros_of}
 use Rattle.ygg_eval.specs.ygg_meaning.Noted.{Note}
 use Rattle.ygg_eval.specs.ygg_meaning.Mirror.{SameOn, Mirrors}
 use Rattle.ygg_eval.specs.ygg_meaning_proofs_Mirrored.{layered_mirrors, formatted_mirrors}
-use Rattle.ygg_eval.specs.ygg_eval_block.Layers.{closed_at}
-use Rattle.ygg_eval.specs.ygg_eval_block.Lower.{Standing, Meaning, Cause}
+use Rattle.ygg_eval.specs.Layers.{closed_at}
+use Rattle.ygg_eval.specs.Lower.{Standing, Meaning, Cause}
 use Rattle.ygg_machine.specs.GroundSteps.{ground_machine}
 use Rattle.ygg_machine.specs.Leaves.{LeaveBy}
 use Rattle.ygg_machine.specs.Grounded.{HasRows, ground_meaning}

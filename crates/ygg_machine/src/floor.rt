@@ -2,7 +2,7 @@
 
 ghost use Rattle.std.specs.Prelude.{◌≡◌};
 ghost use Rattle.std.specs.Prelude.{Ok, IsTrue, IsFalse};
-ghost use Rattle.ygg_eval.specs.ygg_eval_block.Lower.{ending_of};
+ghost use Rattle.ygg_eval.specs.Lower.{ending_of};
 ghost use Rattle.ygg_machine.specs.Floors.{memory_at, EndsAs, run_ending, silent, IsCut, IsWhole};
 
 use crate::tower::Tower;
@@ -111,8 +111,8 @@ impl<W: Lower + Drop> Floor<W> {
     ghost use Rattle.ygg_syntax.specs.declared.tree.Layer.{Layer};
     ghost use Rattle.ygg_syntax.specs.declared.tree.Block.{Block};
     ghost use Rattle.ygg_eval.specs.ygg_meaning.Environments.{bind};
-    ghost use Rattle.ygg_eval.specs.ygg_eval_block.Bodies.{IsBlock, IsRunnable, kind_of, arguments_in};
-    ghost use Rattle.ygg_eval.specs.ygg_eval_block.Lower.{Serves, AfterWhole};
+    ghost use Rattle.ygg_eval.specs.Bodies.{IsBlock, IsRunnable, kind_of, arguments_in};
+    ghost use Rattle.ygg_eval.specs.Lower.{Serves, AfterWhole};
     ghost use Rattle.ygg_machine.specs.Floors.{RunsOn};
     ghost use Rattle.ygg_eval.specs.Zeros.{zero_values};
 
@@ -231,9 +231,9 @@ impl<W: Tower + Drop> Floor<W> {
     ghost use Rattle.ygg_syntax.specs.declared.tree.Block.{Block};
     ghost use Rattle.ygg_eval.specs.ygg_type_rules.declared.scope.Signature.{Signature};
     ghost use Rattle.ygg_eval.specs.ygg_meaning.Environments.{Name};
-    ghost use Rattle.ygg_eval.specs.ygg_eval_block.Bodies.{IsBlock, IsRunnable, kind_of};
-    ghost use Rattle.ygg_eval.specs.ygg_eval_block.Layers.{signatures_at};
-    ghost use Rattle.ygg_eval.specs.ygg_eval_block.Lower.{Standing, Serves, AfterWhole, IsCallable, ending_of};
+    ghost use Rattle.ygg_eval.specs.Bodies.{IsBlock, IsRunnable, kind_of};
+    ghost use Rattle.ygg_eval.specs.Layers.{signatures_at};
+    ghost use Rattle.ygg_eval.specs.Lower.{Standing, Serves, AfterWhole, IsCallable, ending_of};
     ghost use Rattle.ygg_machine.specs.Commands.{calling};
     ghost use Rattle.ygg_machine.specs.Floors.{floor_meaning, RunsSilently, Begins, IsFirst};
     ghost use Rattle.ygg_machine.specs.Towers.{StandsOn, StillStands, CommandEnds, floor_rooted};

@@ -8,7 +8,7 @@ use ygg_list::NoMemory;
 pub trait Tower: Lower {
     ghost use Rattle.std.specs.Prelude.{◌≡◌, ◌<◌, IsTrue, IsSome, None};
     ghost use Rattle.ygg_eval.specs.ygg_meaning.Machine.{TickName};
-    ghost use Rattle.ygg_eval.specs.ygg_eval_block.Lower.{Standing, Serves, AfterWhole, ending_of};
+    ghost use Rattle.ygg_eval.specs.Lower.{Standing, Serves, AfterWhole, ending_of};
     ghost use Rattle.ygg_syntax.specs.declared.tree.File.{File};
     ghost use Rattle.ygg_machine.specs.Commands.{ticking, waking, IsTickAt, HasTick};
     ghost use Rattle.ygg_machine.specs.Towers.{Rooted, IsTower, FormatEnds, CommandEnds, StillStands, LosesPower};

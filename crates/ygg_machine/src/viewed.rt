@@ -21,8 +21,8 @@ ghost use Rattle.std.specs.Prelude.{◌≡◌, ◌<◌, IsTrue, IsSome, Some, No
 ghost use Rattle.ygg_eval.specs.ygg_type_rules.declared.scope.Signature.{Signature};
 ghost use Rattle.ygg_eval.specs.ygg_meaning.Environments.{Name};
 ghost use Rattle.ygg_eval.specs.ygg_meaning.Machine.{TickName};
-ghost use Rattle.ygg_eval.specs.ygg_eval_block.Layers.{signatures_at};
-ghost use Rattle.ygg_eval.specs.ygg_eval_block.Lower.{AfterWhole, IsCallable, ending_of};
+ghost use Rattle.ygg_eval.specs.Layers.{signatures_at};
+ghost use Rattle.ygg_eval.specs.Lower.{AfterWhole, IsCallable, ending_of};
 ghost use Rattle.ygg_machine.specs.Commands.{calling, ticking, waking, IsTickAt, HasTick};
 ghost use Rattle.ygg_machine.specs.Bottoms.{ViewStands, ViewRuns, ViewEnds, StillLooks, LosesAll, formats};
 ghost use Rattle.ygg_machine.specs.Viewed.{floor_seen};

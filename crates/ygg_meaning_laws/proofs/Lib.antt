@@ -1,4 +1,4 @@
-pub use Rattle.ygg_type_rules.proofs.of_ygg_syntax_count
+pub use Rattle.ygg_type_rules.proofs.of_ygg_syntax
 pub use Rattle.ygg_meaning.proofs as of_ygg_meaning
 pub mod Tests
 pub mod Fits

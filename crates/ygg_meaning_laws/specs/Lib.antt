@@ -2,7 +2,7 @@ pub use Rattle.ygg_meaning.specs.ygg_disk
 pub use Rattle.ygg_meaning.proofs.Exact as ygg_meaning_proofs_Exact
 pub use Rattle.ygg_meaning.specs as ygg_meaning
 pub use Rattle.ygg_type_rules.specs as ygg_type_rules
-pub use Rattle.ygg_type_rules.specs.ygg_syntax_count
+pub use Rattle.ygg_type_rules.specs.ygg_syntax
 pub use Rattle.ygg_type_rules.specs.Weights
 pub use Rattle.ygg_meaning.specs.Related
 pub use Rattle.ygg_meaning.specs.Runs

@@ -11,7 +11,7 @@ use Rattle.ygg_oblige_parts.specs.ygg_shape_cells.declared.terms.SymValue.{SymVa
 use Rattle.ygg_oblige_parts.specs.ygg_sym_runs_proofs_Lows.{low_wider}
 use Rattle.ygg_oblige_parts.specs.ygg_sym_runs.Lows.{LowShaped}
 use Rattle.ygg_oblige_parts.proofs.of_ygg_sym_runs.MergedLows.{lows_alike}
-use Rattle.ygg_oblige_parts.specs.ygg_sym_expr_proofs_Shaped.{some_wider}
+use Rattle.ygg_oblige_parts.specs.ygg_sym_runs_proofs_Shaped.{some_wider}
 use Rattle.ygg_oblige_parts.specs.ygg_sym_runs.Lower.{SingleFrom}
 use Rattle.ygg_oblige_parts.specs.ygg_sym_runs.Meaning.{AnswerShaped}
 use Rattle.ygg_oblige_parts.specs.SymLayer.{SymLayer}

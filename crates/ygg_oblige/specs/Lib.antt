@@ -4,7 +4,7 @@ pub use Rattle.ygg_oblige_parts.specs.Makers
 pub use Rattle.ygg_oblige_parts.specs.Numbering
 pub use Rattle.ygg_oblige_laws.specs.ygg_bank
 pub use Rattle.ygg_oblige_laws.specs as ygg_oblige_laws
-pub use Rattle.ygg_oblige_laws.specs.ygg_sym_expr
+pub use Rattle.ygg_oblige_laws.specs.ygg_sym_runs
 pub use Rattle.ygg_oblige_laws.specs.ygg_sym_laws
 pub use Rattle.ygg_oblige_parts.specs.ygg_sym_spec
 pub mod Making

@@ -18,8 +18,8 @@ use Rattle.ygg_sym_laws.specs.ygg_bank.declared.node.Node.{Node}
 use Rattle.ygg_sym_laws.specs.ygg_bank.declared.node.Node.TheVariants.{Bin}
 use Rattle.ygg_sym_laws.specs.ygg_shape_words_proofs_Keeps.{Stays}
 use Rattle.ygg_sym_laws.specs.ygg_meaning_laws_proofs_Placing.{long_append}
-use Rattle.ygg_sym_laws.specs.ygg_sym_expr.Meaning.{Grows, Gives}
-use Rattle.ygg_sym_laws.specs.ygg_sym_expr_proofs_Keeps.{Keeps}
+use Rattle.ygg_sym_laws.specs.ygg_sym_runs.ExpressionMeaning.{Grows, Gives}
+use Rattle.ygg_sym_laws.specs.ygg_sym_runs_proofs_Keeps.{Keeps}
 use Rattle.ygg_sym_laws.specs.Meaning.{is_set}
 use Rattle.ygg_oblige_laws.specs.Outcomes.{any_picks}
 use Rattle.ygg_oblige_laws.proofs.Truth.{or_gives}

@@ -40,7 +40,7 @@ use Rattle.ygg_syntax.specs.declared.tree.Block.{Block}
 use Rattle.ygg_syntax.specs.declared.tree.Operation.{Operation}
 use Rattle.ygg_syntax.specs.declared.tree.Tick.{Tick}
 use Rattle.ygg_syntax.specs.declared.tree.Layer.{Layer}
-use Rattle.ygg_oblige_laws.specs.ygg_syntax_count.Weights.{Weights}
+use Rattle.ygg_oblige_laws.specs.ygg_syntax.Weights.{Weights}
 use Rattle.ygg_oblige_laws.specs.ygg_type_rules.Names.{Named, look_up, has, added}
 use Rattle.ygg_oblige_laws.specs.ygg_type_rules.declared.scope.Visibility.{Visibility}
 use Rattle.ygg_oblige_laws.specs.ygg_type_rules.declared.scope.Visibility.TheVariants.{Specification, Implementation}

@@ -31,8 +31,8 @@ use Rattle.ygg_sym_laws.specs.ygg_shape_cells.Terms.{IsShaped, worth}
 use Rattle.ygg_sym_laws.specs.ygg_shape_cells.declared.terms.SymValue.{SymValue}
 use Rattle.ygg_sym_laws.specs.ygg_shape_proofs_ComparedKeeps.{compared_grows, compared_keeps}
 use Rattle.ygg_sym_laws.specs.ygg_shape_proofs_Compared.{compared_gives}
-use Rattle.ygg_sym_laws.specs.ygg_sym_expr.Meaning.{SomeShape, Grows, Gives}
-use Rattle.ygg_sym_laws.specs.ygg_sym_expr_proofs_Keeps.{Keeps}
+use Rattle.ygg_sym_laws.specs.ygg_sym_runs.ExpressionMeaning.{SomeShape, Grows, Gives}
+use Rattle.ygg_sym_laws.specs.ygg_sym_runs_proofs_Keeps.{Keeps}
 use Rattle.ygg_sym_laws.proofs.Worths.{shape_fits}
 use Rattle.ygg_sym_laws.specs.Meaning.{AnswerShaped, answer_worth}
 use Rattle.ygg_sym_laws.proofs.Lows.{low_wider}

@@ -15,7 +15,7 @@ use Rattle.ygg_sym_laws.specs.ygg_bank.declared.node.Node.{Node}
 use Rattle.ygg_sym_laws.specs.ygg_bank.declared.node.Node.TheVariants.{Bin}
 use Rattle.ygg_sym_laws.specs.ygg_shape_words_proofs_Fit.{can_and}
 use Rattle.ygg_sym_laws.specs.ygg_shape_words_proofs_Terms.{made_is, term_digit, and_digits, bit_is}
-use Rattle.ygg_sym_laws.specs.ygg_sym_expr.Meaning.{Gives}
+use Rattle.ygg_sym_laws.specs.ygg_sym_runs.ExpressionMeaning.{Gives}
 use Rattle.ygg_sym_laws.specs.ygg_sym_runs.Meaning.{is_set}
 use Rattle.ygg_sym_laws.proofs.of_ygg_sym_runs.StopMeaning.{IsTest}
 

@@ -20,7 +20,7 @@ use Rattle.ygg_sym_laws.specs.ygg_rules.declared.rule.RuleKind.{RuleKind}
 use Rattle.ygg_sym_laws.specs.ygg_bank.Nodes.{Extends}
 use Rattle.ygg_sym_laws.specs.ygg_bank.declared.node.Node.{Node}
 use Rattle.ygg_sym_laws.specs.ygg_shape_cells.Terms.{worth}
-use Rattle.ygg_sym_laws.specs.ygg_sym_expr.Meaning.{Grows}
+use Rattle.ygg_sym_laws.specs.ygg_sym_runs.ExpressionMeaning.{Grows}
 use Rattle.ygg_sym_laws.specs.ygg_sym_runs.Meaning.{answer_worth}
 use Rattle.ygg_sym_laws.specs.ygg_sym_runs.Lows.{low_worth}
 use Rattle.ygg_sym_laws.specs.Means.{terms_of}

@@ -8,7 +8,7 @@ use Rattle.ygg_syntax.specs.declared.tree.DiskText.{DiskText}
 use Rattle.ygg_syntax.specs.declared.tree.Layer.{Layer}
 use Rattle.ygg_syntax.specs.declared.tree.File.{File}
 use Rattle.ygg_syntax.specs.Files.{IsDerived}
-use Rattle.ygg_oblige_laws.specs.ygg_syntax_count.Weights.{Weights, weights_of}
+use Rattle.ygg_oblige_laws.specs.ygg_syntax.Weights.{Weights, weights_of}
 use Rattle.ygg_oblige_laws.specs.ygg_type_rules.Names.{has, added}
 use Rattle.ygg_oblige_laws.specs.ygg_type_rules.TypeErrors.{none, unless}
 use Rattle.ygg_oblige_laws.specs.ygg_type_rules.Definitions.{definitions_errors, with_definitions}

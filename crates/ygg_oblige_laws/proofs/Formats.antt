@@ -16,7 +16,7 @@ use Rattle.ygg_sym_laws.specs.ygg_bank_proofs_Widths.{extends_both}
 use Rattle.ygg_sym_laws.specs.ygg_bank.Values.{Inputs, Values}
 use Rattle.ygg_sym_laws.specs.ygg_bank.declared.node.Id.{Id}
 use Rattle.ygg_sym_laws.specs.ygg_bank.declared.node.Node.{Node}
-use Rattle.ygg_sym_laws.specs.ygg_sym_expr.Meaning.{Grows, Gives}
+use Rattle.ygg_sym_laws.specs.ygg_sym_runs.ExpressionMeaning.{Grows, Gives}
 use Rattle.ygg_sym_laws.specs.ygg_sym_runs.Meaning.{answer_worth}
 use Rattle.ygg_sym_laws.specs.ygg_sym_runs.Lows.{low_worth}
 use Rattle.ygg_sym_laws.specs.ygg_sym_runs_proofs_Lows.{low_wider}

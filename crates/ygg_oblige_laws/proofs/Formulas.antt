@@ -37,7 +37,7 @@ use Rattle.ygg_syntax.specs.declared.tree.Def.{Def}
 use Rattle.ygg_syntax.specs.declared.tree.DiskText.{DiskText}
 use Rattle.ygg_syntax.specs.declared.tree.Expr.{Expr}
 use Rattle.ygg_syntax.specs.declared.tree.Layer.{Layer}
-use Rattle.ygg_oblige_laws.specs.ygg_syntax_count.Weights.{Weights, expr_weight}
+use Rattle.ygg_oblige_laws.specs.ygg_syntax.Weights.{Weights, expr_weight}
 use Rattle.ygg_oblige_laws.specs.ygg_type_rules.Names.{look_up, has}
 use Rattle.ygg_oblige_laws.specs.ygg_type_rules.declared.scope.Owner.{Owner}
 use Rattle.ygg_oblige_laws.specs.ygg_type_rules.declared.scope.Owner.TheVariants.{State, Memory}

@@ -18,7 +18,7 @@ use Rattle.ygg_sym_laws.specs.ygg_bank.declared.node.Id.{Id}
 use Rattle.ygg_sym_laws.specs.ygg_bank.declared.node.Node.{Node}
 use Rattle.ygg_sym_laws.specs.ygg_bank.declared.node.Node.TheVariants.{Bin}
 use Rattle.ygg_sym_laws.specs.ygg_shape_cells.declared.terms.SymValue.{SymValue}
-use Rattle.ygg_sym_laws.specs.ygg_sym_expr_proofs_Keeps.{Keeps}
+use Rattle.ygg_sym_laws.specs.ygg_sym_runs_proofs_Keeps.{Keeps}
 use Rattle.ygg_sym_laws.proofs.of_ygg_sym_runs.Below.{below_more}
 use Rattle.ygg_sym_laws.specs.Below.{places_on, failure_room, zeros_made, lows_at_start, lost_made}
 use Rattle.ygg_sym_laws.specs.Means.{terms_of, values_in, WholeMeans, FallMeans}

@@ -49,7 +49,7 @@ use Rattle.ygg_sym_laws.specs.ygg_shape_cells_proofs_Wider.{shaped_wider}
 use Rattle.ygg_sym_laws.proofs.of_ygg_shape.Freshness.{row_on, rows_on, fresh_grows, fresh_below, fresh_gives, below_as}
 use Rattle.ygg_sym_laws.specs.ygg_shape_cells_proofs_Keeps.{each_from_keeps}
 use Rattle.ygg_sym_laws.specs.ygg_shape.Fresh.{fresh_row, fresh_made, words_of, given_value}
-use Rattle.ygg_sym_laws.specs.ygg_sym_expr.Meaning.{Grows, Gives}
+use Rattle.ygg_sym_laws.specs.ygg_sym_runs.ExpressionMeaning.{Grows, Gives}
 use Rattle.ygg_sym_laws.proofs.Lows.{low_fits}
 use Rattle.ygg_sym_laws.specs.Lows.{low_worth}
 use Rattle.ygg_oblige_laws.specs.LayerTerms.{ShapesKept}

@@ -20,7 +20,7 @@ use Rattle.ygg_sym_laws.specs.ygg_bank.Nodes.{Extends}
 use Rattle.ygg_sym_laws.specs.ygg_bank.Values.{Inputs, Values, Fits, value_of}
 use Rattle.ygg_sym_laws.specs.ygg_bank.declared.node.Id.{Id}
 use Rattle.ygg_sym_laws.specs.ygg_bank.declared.node.Node.{Node}
-use Rattle.ygg_sym_laws.specs.ygg_sym_expr.Meaning.{Grows}
+use Rattle.ygg_sym_laws.specs.ygg_sym_runs.ExpressionMeaning.{Grows}
 use Rattle.ygg_sym_laws.specs.Below.{lost_made}
 use Rattle.ygg_sym_laws.specs.Means.{terms_of}
 use Rattle.ygg_oblige_laws.specs.LayerTerms.{LayerTyped}

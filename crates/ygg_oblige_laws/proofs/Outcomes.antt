@@ -38,13 +38,13 @@ use Rattle.ygg_sym_laws.specs.ygg_shape_cells.declared.terms.SymValue.{SymValue}
 use Rattle.ygg_sym_laws.specs.ygg_meaning_laws.Acts.{next_of}
 use Rattle.ygg_sym_laws.specs.ygg_meaning_laws.Places.{left_after, Result, outcome_by_place}
 use Rattle.ygg_sym_laws.specs.ygg_meaning_laws.SpecPlaces.{crash_by_place, then_by_place}
-use Rattle.ygg_sym_laws.specs.ygg_sym_expr.Exprs.{SymFunctions}
-use Rattle.ygg_sym_laws.specs.ygg_sym_expr.Meaning.{Grows, Gives}
-use Rattle.ygg_sym_laws.specs.ygg_sym_expr.Names.{sym_bind}
-use Rattle.ygg_sym_laws.specs.ygg_sym_expr_proofs_Grows.{FunctionsGrow, functions_grow}
-use Rattle.ygg_sym_laws.specs.ygg_sym_expr_proofs_Keeps.{Keeps, FunctionsKeep}
-use Rattle.ygg_sym_laws.specs.ygg_sym_expr_proofs_Shaped.{some_wider}
-use Rattle.ygg_sym_laws.specs.ygg_sym_expr_proofs_Values.{FunctionsMean}
+use Rattle.ygg_sym_laws.specs.ygg_sym_runs.Exprs.{SymFunctions}
+use Rattle.ygg_sym_laws.specs.ygg_sym_runs.ExpressionMeaning.{Grows, Gives}
+use Rattle.ygg_sym_laws.specs.ygg_sym_runs.Names.{sym_bind}
+use Rattle.ygg_sym_laws.specs.ygg_sym_runs_proofs_Grows.{FunctionsGrow, functions_grow}
+use Rattle.ygg_sym_laws.specs.ygg_sym_runs_proofs_Keeps.{Keeps, FunctionsKeep}
+use Rattle.ygg_sym_laws.specs.ygg_sym_runs_proofs_Shaped.{some_wider}
+use Rattle.ygg_sym_laws.specs.ygg_sym_runs_proofs_Values.{FunctionsMean}
 use Rattle.ygg_sym_laws.specs.Meaning.{AnswerShaped, answer_worth}
 use Rattle.ygg_sym_laws.proofs.Blocks.{BlockOfSpec, values_worth, low_stands, block_made_gives}
 use Rattle.ygg_sym_laws.proofs.Chosen.{block_end, nth, placed_end}

@@ -15,7 +15,7 @@ use Rattle.ygg_sym_laws.specs.ygg_bank.Nodes.{HasWidth, Extends}
 use Rattle.ygg_sym_laws.specs.ygg_bank.Values.{Inputs, Values, Fits}
 use Rattle.ygg_sym_laws.specs.ygg_bank.declared.node.Node.{Node}
 use Rattle.ygg_sym_laws.specs.ygg_shape_cells.declared.terms.SymValue.{SymValue}
-use Rattle.ygg_sym_laws.specs.ygg_sym_expr_proofs_Shaped.{some_wider}
+use Rattle.ygg_sym_laws.specs.ygg_sym_runs_proofs_Shaped.{some_wider}
 use Rattle.ygg_sym_laws.specs.ygg_sym_runs.Meaning.{AnswerShaped}
 use Rattle.ygg_sym_laws.specs.ygg_sym_runs.Lows.{LowShaped, low_worth}
 use Rattle.ygg_sym_laws.specs.ygg_sym_runs_proofs_Lows.{low_wider}

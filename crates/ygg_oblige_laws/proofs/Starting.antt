@@ -32,9 +32,9 @@ use Rattle.ygg_oblige_laws.proofs.of_ygg_shape_hypothesis.Replaced.{AreTrue, val
 use Rattle.ygg_oblige_laws.specs.ygg_shape_hypothesis.Finding.{facts_in}
 use Rattle.ygg_oblige_laws.specs.ygg_shape_hypothesis.Replacing.{replaced_value, AreFit}
 use Rattle.ygg_oblige_laws.specs.ygg_shape_hypothesis.declared.replacing.Replacement.{Replacement}
-use Rattle.ygg_sym_laws.specs.ygg_sym_expr.Exprs.{SymFunctions}
-use Rattle.ygg_sym_laws.specs.ygg_sym_expr.Meaning.{Grows, Gives}
-use Rattle.ygg_sym_laws.specs.ygg_sym_expr_proofs_Keeps.{Keeps, FunctionsKeep}
+use Rattle.ygg_sym_laws.specs.ygg_sym_runs.Exprs.{SymFunctions}
+use Rattle.ygg_sym_laws.specs.ygg_sym_runs.ExpressionMeaning.{Grows, Gives}
+use Rattle.ygg_sym_laws.specs.ygg_sym_runs_proofs_Keeps.{Keeps, FunctionsKeep}
 use Rattle.ygg_sym_laws.specs.Meaning.{is_set}
 use Rattle.ygg_sym_laws.proofs.Lows.{low_wider}
 use Rattle.ygg_sym_laws.specs.Lows.{LowShaped, low_worth}

@@ -18,8 +18,8 @@ use Rattle.ygg_sym_laws.specs.ygg_bank.declared.node.Node.TheVariants.{Const, Bi
 use Rattle.ygg_sym_laws.specs.ygg_shape_words_proofs_Fit.{can_and, can_or}
 use Rattle.ygg_sym_laws.specs.ygg_shape_words_proofs_Keeps.{Stays, grows_stays, inputs_stay}
 use Rattle.ygg_sym_laws.specs.ygg_shape_words_proofs_Terms.{TermIs, made_is, bit_is, term_digit, and_digits, or_digits}
-use Rattle.ygg_sym_laws.specs.ygg_sym_expr.Meaning.{Gives}
-use Rattle.ygg_sym_laws.specs.ygg_sym_expr_proofs_Keeps.{Keeps}
+use Rattle.ygg_sym_laws.specs.ygg_sym_runs.ExpressionMeaning.{Gives}
+use Rattle.ygg_sym_laws.specs.ygg_sym_runs_proofs_Keeps.{Keeps}
 use Rattle.ygg_oblige_laws.specs.States.{AddsNoInputs}
 use Rattle.ygg_oblige_laws.specs.Worth.{IsTruth}
 

@@ -38,14 +38,14 @@ use Rattle.ygg_sym_laws.specs.ygg_bank.declared.node.Node.TheVariants.{Const, Bi
 use Rattle.ygg_sym_laws.specs.ygg_shape_words_proofs_Keeps.{Stays}
 use Rattle.ygg_sym_laws.specs.ygg_shape_cells.Terms.{worth}
 use Rattle.ygg_sym_laws.specs.ygg_shape_cells.declared.terms.SymValue.{SymValue}
-use Rattle.ygg_sym_laws.specs.ygg_sym_expr.Exprs.{SymFunctions, id_in, sym_value}
-use Rattle.ygg_sym_laws.specs.ygg_sym_expr.Meaning.{ScopeShaped, Grows, Gives, worths, scope_worth}
-use Rattle.ygg_sym_laws.specs.ygg_sym_expr.Names.{SymScope, sym_bind}
-use Rattle.ygg_sym_laws.specs.ygg_sym_expr_proofs_Definitions.{functions_mean}
-use Rattle.ygg_sym_laws.specs.ygg_sym_expr_proofs_Grows.{FunctionsGrow, functions_grow, value_grows}
-use Rattle.ygg_sym_laws.specs.ygg_sym_expr_proofs_Keeps.{Keeps, FunctionsKeep, functions_keep, value_keeps}
-use Rattle.ygg_sym_laws.specs.ygg_sym_expr_proofs_Shaped.{is_term, scope_wider}
-use Rattle.ygg_sym_laws.specs.ygg_sym_expr_proofs_Values.{FunctionsMean, value_means}
+use Rattle.ygg_sym_laws.specs.ygg_sym_runs.Exprs.{SymFunctions, id_in, sym_value}
+use Rattle.ygg_sym_laws.specs.ygg_sym_runs.ExpressionMeaning.{ScopeShaped, Grows, Gives, worths, scope_worth}
+use Rattle.ygg_sym_laws.specs.ygg_sym_runs.Names.{SymScope, sym_bind}
+use Rattle.ygg_sym_laws.specs.ygg_sym_runs_proofs_Definitions.{functions_mean}
+use Rattle.ygg_sym_laws.specs.ygg_sym_runs_proofs_Grows.{FunctionsGrow, functions_grow, value_grows}
+use Rattle.ygg_sym_laws.specs.ygg_sym_runs_proofs_Keeps.{Keeps, FunctionsKeep, functions_keep, value_keeps}
+use Rattle.ygg_sym_laws.specs.ygg_sym_runs_proofs_Shaped.{is_term, scope_wider}
+use Rattle.ygg_sym_laws.specs.ygg_sym_runs_proofs_Values.{FunctionsMean, value_means}
 use Rattle.ygg_sym_laws.proofs.Worths.{NameShaped}
 use Rattle.ygg_sym_laws.proofs.Lows.{low_fits}
 use Rattle.ygg_sym_laws.proofs.Specs.{bound_worth, low_shaped}

@@ -34,7 +34,7 @@ use Rattle.ygg_sym_laws.specs.ygg_bank.Values.{Inputs, InputsFit, Values}
 use Rattle.ygg_sym_laws.specs.ygg_bank.declared.node.Node.{Node}
 use Rattle.ygg_sym_laws.specs.ygg_bank.declared.node.Node.TheVariants.{Input}
 use Rattle.ygg_sym_laws.specs.ygg_shape.Fresh.{words_of, given_value}
-use Rattle.ygg_sym_laws.specs.ygg_sym_expr.Meaning.{Grows, Gives}
+use Rattle.ygg_sym_laws.specs.ygg_sym_runs.ExpressionMeaning.{Grows, Gives}
 use Rattle.ygg_sym_laws.specs.Means.{AreBits}
 use Rattle.ygg_oblige_laws.specs.LayerTerms.{ShapesKept}
 use Rattle.ygg_oblige_laws.specs.TermStates.{words_in, fresh_all}

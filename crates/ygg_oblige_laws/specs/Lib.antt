@@ -1,11 +1,11 @@
 pub use Rattle.ygg_sym_laws.specs.ygg_meaning
-pub use Rattle.ygg_sym_laws.specs.ygg_sym_expr
+pub use Rattle.ygg_sym_laws.specs.ygg_sym_runs
 pub use Rattle.ygg_sym_laws.specs as ygg_sym_laws
 pub use Rattle.ygg_sym_laws.specs.ygg_meaning_laws
 pub use Rattle.ygg_sym_laws.specs.Means
 pub use Rattle.ygg_shape_hypothesis.specs as ygg_shape_hypothesis
 pub use Rattle.ygg_sym_laws.specs.ygg_type_rules
-pub use Rattle.ygg_sym_laws.specs.ygg_syntax_count
+pub use Rattle.ygg_sym_laws.specs.ygg_syntax
 pub use Rattle.ygg_sym_laws.specs.ygg_meaning_laws_proofs_Files
 pub use Rattle.ygg_sym_laws.specs.ygg_meaning_laws_proofs_Operations
 pub use Rattle.ygg_sym_laws.specs.ygg_meaning_laws_proofs_Specs
@@ -26,7 +26,6 @@ pub use Rattle.ygg_sym_laws.specs.ygg_rules
 pub use Rattle.ygg_sym_laws.specs.ygg_shape
 pub use Rattle.ygg_sym_laws.specs.ygg_shape_cells
 pub use Rattle.ygg_sym_laws.specs.ygg_sym_runs_proofs_Lows
-pub use Rattle.ygg_sym_laws.specs.ygg_sym_runs
 pub mod Inputs
 pub mod Worth
 pub mod States

@@ -25,7 +25,7 @@ use Rattle.ygg_oblige_laws.specs.ygg_meaning.Stack.{Layers, below_of}
 use Rattle.ygg_oblige_laws.specs.ygg_rules.declared.rule.RuleKind.{RuleKind}
 use Rattle.ygg_oblige_laws.specs.ygg_bank.Values.{Inputs}
 use Rattle.ygg_oblige_laws.specs.ygg_sym_runs.Laws.{picked_by}
-use Rattle.ygg_oblige_laws.specs.ygg_sym_expr.Exprs.{SymFunctions}
+use Rattle.ygg_oblige_laws.specs.ygg_sym_runs.Exprs.{SymFunctions}
 use Rattle.ygg_oblige_laws.specs.Numbers.{Numbers, numbers_of, arguments_of}
 use Rattle.ygg_oblige_laws.specs.TermStates.{state_words}
 use Rattle.ygg_oblige_laws.specs.Terms.{after_layers}

@@ -22,8 +22,8 @@ use Rattle.ygg_sym_laws.specs.ygg_bank.Values.{Inputs, Values}
 use Rattle.ygg_sym_laws.specs.ygg_bank.declared.node.Id.{Id}
 use Rattle.ygg_sym_laws.specs.ygg_bank.declared.node.Node.{Node}
 use Rattle.ygg_sym_laws.specs.ygg_shape_cells.declared.terms.SymValue.{SymValue}
-use Rattle.ygg_sym_laws.specs.ygg_sym_expr.Names.{SymScope}
-use Rattle.ygg_sym_laws.specs.ygg_sym_expr.Meaning.{ScopeShaped, Grows, Gives, worths, scope_worth}
+use Rattle.ygg_sym_laws.specs.ygg_sym_runs.Names.{SymScope}
+use Rattle.ygg_sym_laws.specs.ygg_sym_runs.ExpressionMeaning.{ScopeShaped, Grows, Gives, worths, scope_worth}
 use Rattle.ygg_sym_laws.specs.Meaning.{AnswerShaped, answer_worth, is_set}
 use Rattle.ygg_sym_laws.specs.Lows.{LowShaped, low_worth}
 use Rattle.ygg_sym_laws.specs.Below.{zeros_made}

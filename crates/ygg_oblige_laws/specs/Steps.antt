@@ -16,7 +16,7 @@ use Rattle.ygg_sym_laws.specs.ygg_bank.Values.{Inputs, Values}
 use Rattle.ygg_sym_laws.specs.ygg_bank.declared.node.Id.{Id}
 use Rattle.ygg_sym_laws.specs.ygg_bank.declared.node.Node.{Node}
 use Rattle.ygg_sym_laws.specs.ygg_shape_cells.declared.terms.SymValue.{SymValue}
-use Rattle.ygg_sym_laws.specs.ygg_sym_expr.Meaning.{Gives}
+use Rattle.ygg_sym_laws.specs.ygg_sym_runs.ExpressionMeaning.{Gives}
 use Rattle.ygg_sym_laws.specs.Meaning.{AnswerShaped, answer_worth, is_set}
 use Rattle.ygg_sym_laws.specs.Lows.{LowShaped, low_worth}
 use Rattle.ygg_sym_laws.specs.Means.{terms_of, values_in}

@@ -2,9 +2,9 @@
 use Rattle.std.proofs.Common.{◌≡◌, List, [], ◌++◌, ap, ◌∙◌}
 use Rattle.ygg_syntax.specs.declared.tree.Declared.{Declared}
 use Rattle.ygg_sym_spec.specs.ygg_shape_cells.declared.terms.SymValue.{SymValue}
-use Rattle.ygg_sym_spec.specs.ygg_sym_expr.Names.{sym_bind}
-use Rattle.ygg_sym_spec.specs.ygg_sym_expr.Seen.{env_of}
-use Rattle.ygg_sym_spec.specs.ygg_sym_expr.declared.held.SymBinding.{SymBinding}
+use Rattle.ygg_sym_spec.specs.ygg_sym_runs.Names.{sym_bind}
+use Rattle.ygg_sym_spec.specs.ygg_sym_runs.Seen.{env_of}
+use Rattle.ygg_sym_spec.specs.ygg_sym_runs.declared.held.SymBinding.{SymBinding}
 
 pub one_names : (nothing one : List SymBinding) (ds D : List Declared) (xs X : List SymValue) → nothing ≡ [] →
     env_of one ≡ env_of nothing ++ sym_bind ds xs → ds ≡ D → xs ≡ X → env_of one ≡ sym_bind D X

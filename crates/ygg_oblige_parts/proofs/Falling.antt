@@ -8,8 +8,8 @@ use Rattle.ygg_sym_spec.specs.ygg_meaning.Layer.{ClosedLayer}
 use Rattle.ygg_sym_spec.specs.ygg_meaning.Machine.{Picks}
 use Rattle.ygg_sym_spec.specs.ygg_rules.declared.rule.RuleKind.{RuleKind}
 use Rattle.ygg_sym_spec.specs.ygg_shape_cells.declared.terms.SymValue.{SymValue}
-use Rattle.ygg_sym_spec.specs.ygg_sym_expr.Exprs.{SymFunctions}
-use Rattle.ygg_sym_spec.specs.ygg_sym_expr.Names.{sym_bind}
+use Rattle.ygg_sym_spec.specs.ygg_sym_runs.Exprs.{SymFunctions}
+use Rattle.ygg_sym_spec.specs.ygg_sym_runs.Names.{sym_bind}
 use Rattle.ygg_sym_spec.specs.ygg_sym_runs.Specs.{given_pick}
 use Rattle.ygg_sym_spec.specs.ygg_sym_runs.SpecCuts.{crash_made, then_crash_made}
 use Rattle.ygg_oblige_laws.specs.Outcomes.{fall_with_picks}

@@ -20,8 +20,8 @@ use Rattle.ygg_sym_spec.specs.ygg_bank.Values.{Inputs, Values, Fits}
 use Rattle.ygg_sym_spec.specs.ygg_bank.declared.node.Node.{Node}
 use Rattle.ygg_sym_spec.specs.ygg_shape_cells.Terms.{worth}
 use Rattle.ygg_sym_spec.specs.ygg_shape_cells.declared.terms.SymValue.{SymValue}
-use Rattle.ygg_sym_spec.specs.ygg_sym_expr.Meaning.{ScopeShaped, worths, scope_worth}
-use Rattle.ygg_sym_spec.specs.ygg_sym_expr.Names.{SymScope, SymEnv, sym_bind}
+use Rattle.ygg_sym_spec.specs.ygg_sym_runs.ExpressionMeaning.{ScopeShaped, worths, scope_worth}
+use Rattle.ygg_sym_spec.specs.ygg_sym_runs.Names.{SymScope, SymEnv, sym_bind}
 use Rattle.ygg_sym_spec.proofs.of_ygg_sym_runs.Worths.{NameShaped}
 use Rattle.ygg_sym_spec.proofs.of_ygg_shape.Answered.{no_inputs}
 use Rattle.ygg_sym_spec.specs.ygg_bank.Values.{value_of}

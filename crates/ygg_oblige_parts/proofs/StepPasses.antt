@@ -27,9 +27,9 @@ use Rattle.ygg_sym_spec.specs.ygg_bank.declared.node.Node.TheVariants.{Bin}
 use Rattle.ygg_sym_spec.proofs.of_ygg_shape.Answered.{no_inputs, some_fit}
 use Rattle.ygg_sym_spec.specs.ygg_shape_cells.Terms.{HasShape, worth}
 use Rattle.ygg_sym_spec.specs.ygg_shape_cells.declared.terms.SymValue.{SymValue}
-use Rattle.ygg_sym_spec.specs.ygg_sym_expr_proofs_Grows.{functions_grow}
-use Rattle.ygg_sym_spec.specs.ygg_sym_expr_proofs_Shaped.{some_wider}
-use Rattle.ygg_sym_spec.specs.ygg_sym_expr.Names.{sym_bind}
+use Rattle.ygg_sym_spec.specs.ygg_sym_runs_proofs_Grows.{functions_grow}
+use Rattle.ygg_sym_spec.specs.ygg_sym_runs_proofs_Shaped.{some_wider}
+use Rattle.ygg_sym_spec.specs.ygg_sym_runs.Names.{sym_bind}
 use Rattle.ygg_sym_spec.proofs.of_ygg_sym_runs.Worths.{shape_fits}
 use Rattle.ygg_sym_spec.specs.ygg_sym_runs.Lower.{KeepsSingle}
 use Rattle.ygg_sym_spec.specs.ygg_sym_runs.Meaning.{AnswerShaped, answer_worth}

@@ -15,11 +15,11 @@ use Rattle.ygg_sym_spec.specs.ygg_bank.declared.node.Node.TheVariants.{Bin}
 use Rattle.ygg_sym_spec.specs.ygg_shape_cells.Terms.{IsShaped}
 use Rattle.ygg_sym_spec.specs.ygg_shape_cells.declared.terms.SymValue.{SymValue}
 use Rattle.ygg_sym_spec.specs.ygg_shape_cells.declared.terms.SymValue.TheVariants as value
-use Rattle.ygg_sym_spec.specs.ygg_sym_expr.Exprs.{id_in}
-use Rattle.ygg_sym_spec.specs.ygg_sym_expr.Seen.{SymKnown, terms_in}
+use Rattle.ygg_sym_spec.specs.ygg_sym_runs.Exprs.{id_in}
+use Rattle.ygg_sym_spec.specs.ygg_sym_runs.Seen.{SymKnown, terms_in}
 use Rattle.ygg_sym_spec.specs.ygg_bank_proofs_Meaning.{fits_fewer}
-use Rattle.ygg_sym_spec.specs.ygg_sym_expr_proofs_Shaped.{scope_wider}
-use Rattle.ygg_sym_spec.proofs.of_ygg_sym_expr.Terms.{terms_shaped}
+use Rattle.ygg_sym_spec.specs.ygg_sym_runs_proofs_Shaped.{scope_wider}
+use Rattle.ygg_sym_spec.proofs.of_ygg_sym_runs.Terms.{terms_shaped}
 use Rattle.ygg_sym_spec.proofs.Left.{Left, left_goes, rest_is}
 use Rattle.ygg_oblige_parts.specs.Digits.{IsDigit, conjunction}
 use Rattle.ygg_oblige_parts.specs.Formulas.{CanTest, digits_made, truths_in}

@@ -8,9 +8,9 @@ use Rattle.ygg_sym_spec.specs.ygg_rules.declared.rule.RuleKind.{RuleKind}
 use Rattle.ygg_sym_spec.specs.ygg_bank.Makes.{Make, pure, and_make}
 use Rattle.ygg_sym_spec.specs.ygg_bank.declared.node.Id.{Id}
 use Rattle.ygg_sym_spec.specs.ygg_bank.declared.node.Node.{Node}
-use Rattle.ygg_sym_spec.specs.ygg_sym_expr.Exprs.{id_in}
-use Rattle.ygg_sym_spec.specs.ygg_sym_expr.Names.{SymEnv}
-use Rattle.ygg_sym_spec.specs.ygg_sym_expr.Seen.{SymKnown, CanTerm, terms_called, terms_in}
+use Rattle.ygg_sym_spec.specs.ygg_sym_runs.Exprs.{id_in}
+use Rattle.ygg_sym_spec.specs.ygg_sym_runs.Names.{SymEnv}
+use Rattle.ygg_sym_spec.specs.ygg_sym_runs.Seen.{SymKnown, CanTerm, terms_called, terms_in}
 use Rattle.ygg_oblige_laws.specs.TermStates.{truths_made}
 
 -- these definitions, and these names

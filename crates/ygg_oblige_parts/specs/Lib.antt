@@ -8,8 +8,7 @@ pub use Rattle.ygg_sym_spec.specs.ygg_shape
 pub use Rattle.ygg_sym_spec.specs.ygg_shape_cells
 pub use Rattle.ygg_sym_spec.specs.ygg_sym_runs_proofs_Lows
 pub use Rattle.ygg_sym_spec.specs.ygg_sym_runs
-pub use Rattle.ygg_sym_spec.specs.ygg_sym_expr_proofs_Shaped
-pub use Rattle.ygg_sym_spec.specs.ygg_sym_expr
+pub use Rattle.ygg_sym_spec.specs.ygg_sym_runs_proofs_Shaped
 pub use Rattle.ygg_oblige_laws.specs.ygg_sym_laws
 pub use Rattle.ygg_sym_spec.specs as ygg_sym_spec
 pub use Rattle.ygg_sym_spec.specs.ygg_meaning_laws

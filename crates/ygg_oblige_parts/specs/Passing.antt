@@ -13,7 +13,7 @@ use Rattle.ygg_sym_spec.specs.ygg_bank.declared.node.Id.{Id}
 use Rattle.ygg_sym_spec.specs.ygg_bank.declared.node.Node.{Node}
 use Rattle.ygg_sym_spec.specs.ygg_bank.declared.node.Node.TheVariants.{Bin}
 use Rattle.ygg_sym_spec.specs.ygg_shape_cells.declared.terms.SymValue.{SymValue}
-use Rattle.ygg_sym_spec.specs.ygg_sym_expr.Exprs.{SymFunctions}
+use Rattle.ygg_sym_spec.specs.ygg_sym_runs.Exprs.{SymFunctions}
 use Rattle.ygg_sym_spec.specs.ygg_sym_runs.Meaning.{AnswerShaped}
 use Rattle.ygg_sym_spec.specs.ygg_sym_runs.Lower.{SingleFrom}
 use Rattle.ygg_sym_spec.specs.ygg_sym_runs.Lows.{LowShaped}

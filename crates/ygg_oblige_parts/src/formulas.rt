@@ -2,8 +2,8 @@
 
 ghost use Rattle.std.specs.Prelude.{◌≡◌, IfOk, OnOk, All};
 ghost use Rattle.ygg_sym_spec.specs.ygg_bank.Nodes.{Extends, HasWidth, IsBank};
-ghost use Rattle.ygg_sym_spec.specs.ygg_sym_expr.Seen.{known_of, terms_in};
-ghost use Rattle.ygg_sym_spec.specs.ygg_sym_expr.Exprs.{id_in};
+ghost use Rattle.ygg_sym_spec.specs.ygg_sym_runs.Seen.{known_of, terms_in};
+ghost use Rattle.ygg_sym_spec.specs.ygg_sym_runs.Exprs.{id_in};
 ghost use Rattle.ygg_oblige_parts.specs.Digits.{IsDigit};
 ghost use Rattle.ygg_oblige_parts.specs.Formulas.{CanTest, digits_made, truths_in};
 

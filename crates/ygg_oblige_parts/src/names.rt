@@ -4,8 +4,8 @@ ghost use Rattle.std.specs.Prelude.{◌≡◌, ◌++◌, ◌+◌, ◌<◌, ◌^�
 ghost use Rattle.ygg_sym_spec.specs.ygg_bank.Inputs.{InputsBelow};
 ghost use Rattle.ygg_sym_spec.specs.ygg_bank.Nodes.{Extends, IsBank};
 ghost use Rattle.ygg_sym_spec.specs.ygg_sym_runs.Lows.{LowShaped};
-ghost use Rattle.ygg_sym_spec.specs.ygg_sym_expr.Names.{sym_bind};
-ghost use Rattle.ygg_sym_spec.specs.ygg_sym_expr.Seen.{env_of};
+ghost use Rattle.ygg_sym_spec.specs.ygg_sym_runs.Names.{sym_bind};
+ghost use Rattle.ygg_sym_spec.specs.ygg_sym_runs.Seen.{env_of};
 ghost use Rattle.ygg_oblige_laws.specs.LayerTerms.{ShapesKept};
 ghost use Rattle.ygg_oblige_laws.specs.TermStates.{fresh_all, words_in};
 

@@ -8,7 +8,7 @@ ghost use Rattle.ygg_sym_spec.specs.Layers.{closed};
 ghost use Rattle.ygg_oblige_laws.specs.Outcomes.{any_picks};
 ghost use Rattle.ygg_oblige_laws.specs.Terms.{same_answers_made};
 ghost use Rattle.ygg_syntax.specs.Choices.{choices_of};
-ghost use Rattle.ygg_syntax_count.specs.Budget.{limit};
+ghost use Rattle.ygg_syntax.specs.Budget.{limit};
 ghost use Rattle.ygg_oblige_parts.specs.Passing.{AskedAlike, StepCan, passes_of, some_of};
 ghost use Rattle.ygg_oblige_list.specs.InCode.{obligation_of};
 
@@ -18,8 +18,8 @@ use crate::states::Maker;
 use std::alloc::Global;
 use ygg_oblige_list::SymObligation;
 use ygg_sym_spec::{Bank, Book, Id, NoMemory, SymValue, SymValues};
+use ygg_syntax::choices;
 use ygg_syntax::tree::Block;
-use ygg_syntax_count::choices;
 use ygg_value::Op;
 
 /// From how many choices on a block has more than the count tells.

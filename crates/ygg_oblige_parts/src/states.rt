@@ -5,7 +5,7 @@ ghost use Rattle.ygg_sym_spec.specs.ygg_bank.Inputs.{InputsBelow};
 ghost use Rattle.ygg_sym_spec.specs.ygg_bank.Nodes.{Extends, HasWidth, IsBank};
 ghost use Rattle.ygg_sym_spec.specs.ygg_meaning.Related.{relations};
 ghost use Rattle.ygg_sym_spec.specs.ygg_sym_runs.Lows.{LowShaped};
-ghost use Rattle.ygg_sym_spec.specs.ygg_sym_expr.Seen.{env_of};
+ghost use Rattle.ygg_sym_spec.specs.ygg_sym_runs.Seen.{env_of};
 ghost use Rattle.ygg_sym_spec.specs.ygg_sym_runs.Lower.{KeepsSingle};
 ghost use Rattle.ygg_sym_spec.specs.Layers.{closed, terms_in};
 ghost use Rattle.ygg_oblige_laws.specs.ygg_shape_hypothesis.Finding.{facts_in};

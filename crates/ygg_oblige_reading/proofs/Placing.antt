@@ -16,11 +16,11 @@ use Rattle.ygg_oblige_list.specs.ygg_meaning.Refines.{Below}
 use Rattle.ygg_oblige_list.specs.ygg_meaning.Claims.{Claim, claims_at, claims_of, claims_on}
 use Rattle.ygg_oblige_list.specs.ygg_meaning.Stack.{Layers, below_of, layers_of}
 use Rattle.ygg_oblige.specs.ygg_bank.Values.{Inputs}
-use Rattle.ygg_oblige.specs.ygg_sym_expr.Exprs.{SymFunctions}
+use Rattle.ygg_oblige.specs.ygg_sym_runs.Exprs.{SymFunctions}
 use Rattle.ygg_oblige.specs.ygg_sym_laws.Means.{terms_of}
-use Rattle.ygg_oblige_schedule.specs.ygg_eval_block.Layers.{below_at, closed_at, variables_at}
-use Rattle.ygg_oblige_schedule.specs.ygg_eval_block.Numbers.{IsAt}
-use Rattle.ygg_oblige_schedule.proofs.of_ygg_eval_block.Numbers.{below_is_numbered, listed_is_numbered}
+use Rattle.ygg_oblige_schedule.specs.ygg_eval.Layers.{below_at, closed_at, variables_at}
+use Rattle.ygg_oblige_schedule.specs.ygg_eval.Numbers.{IsAt}
+use Rattle.ygg_oblige_schedule.proofs.of_ygg_eval.Numbers.{below_is_numbered, listed_is_numbered}
 use Rattle.ygg_oblige.specs.ygg_oblige_laws.LayerTerms.{LayerTyped}
 use Rattle.ygg_oblige.specs.ygg_oblige_laws.Numbers.{Numbers, numbers_of}
 use Rattle.ygg_oblige.specs.ygg_oblige_laws.TermStates.{state_words}

@@ -20,7 +20,7 @@ use Rattle.ygg_oblige.specs.ygg_sym_spec.declared.layer.SymLayer.{SymLayer}
 use Rattle.ygg_oblige.specs.Sites.{below_in}
 use Rattle.ygg_oblige.specs.ygg_sym_spec.declared.below.SymBelow.{SymBelow}
 use Rattle.ygg_oblige.specs.Adding.{after_at}
-use Rattle.ygg_oblige_schedule.specs.ygg_eval_block.Layers.{below_at, closed_at, variables_at}
+use Rattle.ygg_oblige_schedule.specs.ygg_eval.Layers.{below_at, closed_at, variables_at}
 use Rattle.ygg_oblige.specs.ygg_bank.Values.{Inputs}
 use Rattle.ygg_oblige.specs.ygg_oblige_laws.Schedules.{all_schedules, schedule_of}
 use Rattle.ygg_oblige_reading.specs.Listing.{StandsIn}

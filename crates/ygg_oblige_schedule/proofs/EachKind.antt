@@ -14,8 +14,8 @@ use Rattle.ygg_replay.specs.ygg_meaning.Obligations.{Obligation, CallOf, CutOf, 
 use Rattle.ygg_replay.specs.ygg_meaning.Obligations as meaning
 use Rattle.ygg_replay.specs.ygg_meaning.Shapes.{values_fit}
 use Rattle.ygg_replay.specs.ygg_meaning.Violates.{shapes_fit}
-use Rattle.ygg_oblige_schedule.specs.ygg_eval_block.Bodies.{IsBlock, arguments_at, arguments_in}
-use Rattle.ygg_oblige_schedule.specs.ygg_eval_block.declared.body.Part.TheVariants as part
+use Rattle.ygg_oblige_schedule.specs.ygg_eval.Bodies.{IsBlock, arguments_at, arguments_in}
+use Rattle.ygg_oblige_schedule.specs.ygg_eval.declared.body.Part.TheVariants as part
 use Rattle.ygg_oblige_given.specs.ygg_oblige_laws.LayerTerms.{ShapesKept}
 use Rattle.ygg_oblige_given.specs.ygg_oblige_laws.Numbers.{Numbers, arguments_of}
 use Rattle.ygg_oblige_given.specs.Tables.{given_values}

@@ -7,9 +7,9 @@ use Rattle.ygg_syntax.specs.declared.tree.Layer.{Layer}
 use Rattle.ygg_replay.specs.ygg_meaning.Obligations.{Halt}
 use Rattle.ygg_eval_places.specs.ygg_sym_runs.Laws.{picked_by}
 use Rattle.ygg_eval_places.specs.ygg_sym_laws.Fronts.{fall_picks, left_at, run_stop}
-use Rattle.ygg_oblige_schedule.specs.ygg_eval_block.Bodies.{kind_of, variables_in}
-use Rattle.ygg_oblige_schedule.specs.ygg_eval_block.declared.body.Part.{Part}
-use Rattle.ygg_oblige_schedule.specs.ygg_eval_block.declared.body.Part.TheVariants as part
+use Rattle.ygg_oblige_schedule.specs.ygg_eval.Bodies.{kind_of, variables_in}
+use Rattle.ygg_oblige_schedule.specs.ygg_eval.declared.body.Part.{Part}
+use Rattle.ygg_oblige_schedule.specs.ygg_eval.declared.body.Part.TheVariants as part
 use Rattle.ygg_eval_places.specs.Bits.{bits_in}
 use Rattle.ygg_eval_places.specs.Fronts.{Falls}
 use Rattle.ygg_eval_places.specs.declared.below.Fallen.{Fallen}

@@ -1,5 +1,5 @@
-pub use Rattle.ygg_eval_block.proofs as of_ygg_eval_block
-pub use Rattle.ygg_eval_block.proofs.of_ygg_meaning_laws
+pub use Rattle.ygg_eval.proofs as of_ygg_eval
+pub use Rattle.ygg_eval.proofs.of_ygg_meaning_laws
 pub use Rattle.ygg_replay.proofs.of_ygg_sched
 pub use Rattle.ygg_eval_places.proofs.ChoiceNoting
 pub mod Zeros

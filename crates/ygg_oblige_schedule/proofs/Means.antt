@@ -12,8 +12,8 @@ use Rattle.ygg_replay.specs.ygg_meaning.Obligations.{name_of}
 use Rattle.ygg_replay.specs.ygg_meaning.Obligations as meaning
 use Rattle.ygg_eval_places.specs.ygg_sym_runs.Laws.{picked_by}
 use Rattle.ygg_eval_places.specs.ygg_sym_laws.Fronts.{lose_on, run_picks}
-use Rattle.ygg_oblige_schedule.specs.ygg_eval_block.Bodies.{IsBlock, kind_of}
-use Rattle.ygg_oblige_schedule.specs.ygg_eval_block.Layers.{variables_at}
+use Rattle.ygg_oblige_schedule.specs.ygg_eval.Bodies.{IsBlock, kind_of}
+use Rattle.ygg_oblige_schedule.specs.ygg_eval.Layers.{variables_at}
 use Rattle.ygg_eval_places.specs.Steps.{FellBetween}
 use Rattle.ygg_oblige_given.specs.ygg_oblige_laws.Schedules.{woken_picks}
 use Rattle.ygg_replay.specs.ygg_sched.Fitting.{halt_meant}

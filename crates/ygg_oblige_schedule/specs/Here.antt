@@ -9,9 +9,9 @@ use Rattle.ygg_replay.specs.ygg_meaning.Obligations.{Obligation}
 use Rattle.ygg_replay.specs.ygg_meaning.Refines.{Below}
 use Rattle.ygg_replay.specs.ygg_meaning.Shapes.{values_fit}
 use Rattle.ygg_eval_places.specs.ygg_bank.Values.{Inputs}
-use Rattle.ygg_oblige_schedule.specs.ygg_eval_block.Bodies.{IsRunnable, kind_of}
-use Rattle.ygg_oblige_schedule.specs.ygg_eval_block.Layers.{below_at, closed_at, variables_at}
-use Rattle.ygg_oblige_schedule.specs.ygg_eval_block.declared.body.Body.{Body}
+use Rattle.ygg_oblige_schedule.specs.ygg_eval.Bodies.{IsRunnable, kind_of}
+use Rattle.ygg_oblige_schedule.specs.ygg_eval.Layers.{below_at, closed_at, variables_at}
+use Rattle.ygg_oblige_schedule.specs.ygg_eval.declared.body.Body.{Body}
 use Rattle.ygg_oblige_given.specs.ygg_oblige_laws.LayerTerms.{ShapesKept}
 use Rattle.ygg_oblige_given.specs.ygg_oblige_laws.Numbers.{Numbers}
 use Rattle.ygg_oblige_given.specs.Tables.{inputs_in}

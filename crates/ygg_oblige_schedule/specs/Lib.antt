@@ -1,8 +1,8 @@
-pub use Rattle.ygg_eval_block.proofs.Blocks as ygg_eval_block_proofs_Blocks
-pub use Rattle.ygg_eval_block.specs as ygg_eval_block
-pub use Rattle.ygg_eval_block.specs.ygg_meaning_laws_proofs_ProgressFits
-pub use Rattle.ygg_eval_block.specs.ygg_type_rules
-pub use Rattle.ygg_eval_block.specs.ygg_meaning_laws_proofs_Fits
+pub use Rattle.ygg_eval.proofs.Blocks as ygg_eval_proofs_Blocks
+pub use Rattle.ygg_eval.specs as ygg_eval
+pub use Rattle.ygg_eval.specs.ygg_meaning_laws_proofs_ProgressFits
+pub use Rattle.ygg_eval.specs.ygg_type_rules
+pub use Rattle.ygg_eval.specs.ygg_meaning_laws_proofs_Fits
 pub use Rattle.ygg_replay.specs.ygg_sched
 pub use Rattle.ygg_oblige_given.specs.Tables
 pub mod Here

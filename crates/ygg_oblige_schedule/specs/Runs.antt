@@ -10,8 +10,8 @@ use Rattle.ygg_replay.specs.ygg_meaning.Obligations.{Halt}
 use Rattle.ygg_replay.specs.ygg_meaning.Shapes.{values_fit}
 use Rattle.ygg_eval_places.specs.ygg_sym_runs.Laws.{picked_by}
 use Rattle.ygg_eval_places.specs.ygg_sym_laws.Fronts.{run_picks, run_stop, left_at, fall_picks}
-use Rattle.ygg_oblige_schedule.specs.ygg_eval_block.Bodies.{IsBlock, arguments_in, variables_in}
-use Rattle.ygg_oblige_schedule.specs.ygg_eval_block.Layers.{closed_at}
+use Rattle.ygg_oblige_schedule.specs.ygg_eval.Bodies.{IsBlock, arguments_in, variables_in}
+use Rattle.ygg_oblige_schedule.specs.ygg_eval.Layers.{closed_at}
 use Rattle.ygg_eval_places.specs.Belows.{halt_of}
 use Rattle.ygg_eval_places.specs.declared.below.Fallen.{Fallen}
 use Rattle.ygg_oblige_schedule.specs.Here.{below_of, body_of, file_of, inputs_of, layer_of, low_env, numbers_of, LowFits}

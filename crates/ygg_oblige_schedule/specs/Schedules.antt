@@ -13,7 +13,7 @@ use Rattle.ygg_replay.specs.ygg_meaning.Obligations as meaning
 use Rattle.ygg_replay.specs.ygg_meaning.Violates.{shapes_fit}
 use Rattle.ygg_syntax.specs.declared.grammar.BlockKind.TheVariants as kind
 use Rattle.ygg_replay.specs.ygg_meaning.Shapes.{values_fit}
-use Rattle.ygg_oblige_schedule.specs.ygg_eval_block.Bodies.{IsBlock, arguments_in, block_in, kind_of}
+use Rattle.ygg_oblige_schedule.specs.ygg_eval.Bodies.{IsBlock, arguments_in, block_in, kind_of}
 use Rattle.ygg_oblige_given.specs.ygg_oblige_laws.LayerTerms.{ShapesKept}
 use Rattle.ygg_oblige_given.specs.ygg_oblige_laws.Numbers.{arguments_of}
 use Rattle.ygg_oblige_given.specs.ygg_oblige_laws.Numbers as terms

@@ -9,7 +9,7 @@ mod starting;
 
 pub use reader::EnvironmentReader;
 pub use site::Site;
-pub use ygg_eval_block::Typed;
+pub use ygg_eval::Typed;
 pub use ygg_eval_places::{Bank, Env};
 pub use ygg_oblige_given::InputTable;
 pub use ygg_replay::Schedule;

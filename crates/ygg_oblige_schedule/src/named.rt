@@ -3,7 +3,7 @@
 ghost use Rattle.std.specs.Prelude.{◌≡◌, ◌<◌, ◌^◌, [], IfOk, IfSome, IsTrue, Some, length};
 ghost use Rattle.std.specs.Option.{option_map};
 ghost use Rattle.ygg_replay.specs.ygg_sched.Fitting.{halt_meant};
-ghost use Rattle.ygg_oblige_schedule.specs.ygg_eval_block.Bodies.{arguments_in};
+ghost use Rattle.ygg_oblige_schedule.specs.ygg_eval.Bodies.{arguments_in};
 ghost use Rattle.ygg_replay.specs.ygg_meaning.Environments.{bind};
 ghost use Rattle.ygg_replay.specs.ygg_meaning.Obligations.{Again, Idle, Init, name_of};
 ghost use Rattle.ygg_replay.specs.ygg_meaning.Shapes.{env_fits, values_fit, zeros_of};
@@ -40,7 +40,7 @@ ghost use Rattle.ygg_oblige_schedule.specs.Schedules.{
 use crate::reader::{EnvironmentReader, FirstBlock, Stand};
 use std::alloc::Global;
 use ygg_base::{Bits, Text};
-use ygg_eval_block::Part;
+use ygg_eval::Part;
 use ygg_eval_places::{Fallen, Lost};
 use ygg_list::NoMemory;
 use ygg_oblige_list::{SymObligation, name_of};

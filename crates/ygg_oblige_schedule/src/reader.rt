@@ -27,7 +27,7 @@ ghost use Rattle.ygg_oblige_schedule.specs.Runs.{FallsHere, PicksAre, StandIs, s
 use crate::site::Site;
 use std::alloc::Global;
 use ygg_base::Bits;
-use ygg_eval_block::{Body, Part, Typed};
+use ygg_eval::{Body, Part, Typed};
 use ygg_eval_places::{Choices, Fallen, Lost, PlacedBits, lose_fronts, run_fronts};
 use ygg_list::NoMemory;
 use ygg_oblige_given::{InputTable, further, words_in};

@@ -1,5 +1,5 @@
 -- What a device over files has attached.
-use Rattle.ygg_base_device.specs.Devices.{Attachment}
+use Rattle.ygg_base.specs.Devices.{Attachment}
 use Rattle.ygg_outside.specs.declared.image.Attached.{Attached}
 
 -- the file of that name, as so many blocks of so many bytes

@@ -8,8 +8,7 @@ use crate::output::write_all;
 use std::fs::{File, OpenOptions};
 use std::io::{ErrorKind, Read, Seek, SeekFrom};
 use std::str;
-use ygg_base::{Moved, Text};
-use ygg_base_device::{Attach, Device, Made, blocks_in};
+use ygg_base::{Attach, Device, Made, Moved, Text, blocks_in};
 
 /// The files of the system, by their paths, as images.
 #[derive(Drop)]

@@ -4,9 +4,9 @@ use Rattle.ygg_base.specs.declared.token.Mark.{Mark}
 use Rattle.ygg_base.specs.declared.token.Token.{Token}
 use Rattle.ygg_syntax.specs.declared.tree.Place.{Place}
 use Rattle.ygg_syntax.specs.Reading.{Reading, token, same_mark, starts, passes, takes, in_turn, impossible}
-use Rattle.ygg_read_expr.proofs.Phrases.{taken, joined, reads_token, reads_mark}
-use Rattle.ygg_read_expr.proofs.Marks.{passed, took}
-use Rattle.ygg_read_expr.proofs.Claims.{split, empty}
+use Rattle.ygg_read.proofs.ExpressionPhrases.{taken, joined, reads_token, reads_mark}
+use Rattle.ygg_read.proofs.Marks.{passed, took}
+use Rattle.ygg_read.proofs.TakenWhole.{split, empty}
 use Rattle.ygg_print.specs.UniqueLaws.{LeftOut, keeps}
 use Rattle.ygg_print.proofs.Parser.{place_of}
 

@@ -14,7 +14,7 @@ use Rattle.ygg_syntax.specs.declared.tree.Expr.TheFolds.{ind-Expr, fold-roll-Exp
 use Rattle.ygg_syntax.specs.Reading.{Reading, in_turn, impossible}
 use Rattle.ygg_syntax.specs.Expressions.{Phrase, node_phrase, phrase, whole, indexed, any, some, more, operator_sign, quantifier_word}
 use Rattle.ygg_print.specs.Printed.{printed, node_printed, list_printed, more_printed}
-use Rattle.ygg_syntax_trees.specs.Bare.{nowhere, bare, node_bare}
+use Rattle.ygg_syntax.specs.Bare.{nowhere, bare, node_bare}
 use Rattle.ygg_print.proofs.ExpressionMarks.{may_have}
 use Rattle.ygg_print.proofs.Again.{Single, Again, row, done, pass, take, part, turn, turns, never, last}
 

@@ -88,7 +88,7 @@ use Rattle.ygg_print.specs.PrintedFiles.{
   layer_printed,
   file_printed,
 }
-use Rattle.ygg_syntax_trees.specs.Bare.{
+use Rattle.ygg_syntax.specs.Bare.{
   nowhere,
   bare,
   bare_type,
@@ -101,8 +101,8 @@ use Rattle.ygg_syntax_trees.specs.Bare.{
   bare_layer,
   bare_file,
 }
-use Rattle.ygg_read_expr.proofs.Marks.{took}
-use Rattle.ygg_read_expr.proofs.Claims.{split, empty}
+use Rattle.ygg_read.proofs.Marks.{took}
+use Rattle.ygg_read.proofs.TakenWhole.{split, empty}
 use Rattle.ygg_print.specs.UniqueLaws.{LeftOut, nothing, leaves, DerivesAs}
 use Rattle.ygg_print.proofs.Parser.{unwritten}
 use Rattle.ygg_print.proofs.StatementMarks.{some_is}

@@ -68,10 +68,10 @@ use Rattle.ygg_print.specs.PrintedBlocks.{
   stmt_printed,
   block_printed,
 }
-use Rattle.ygg_syntax_trees.specs.Bare.{nowhere, bare, bare_source, bare_index, node_bare_statement, node_bare_block, bare_statement, bare_block}
-use Rattle.ygg_read_expr.proofs.Phrases as phrases
-use Rattle.ygg_read_expr.proofs.Marks.{passed, took}
-use Rattle.ygg_read_expr.proofs.Claims.{split, empty}
+use Rattle.ygg_syntax.specs.Bare.{nowhere, bare, bare_source, bare_index, node_bare_statement, node_bare_block, bare_statement, bare_block}
+use Rattle.ygg_read.proofs.ExpressionPhrases as phrases
+use Rattle.ygg_read.proofs.Marks.{passed, took}
+use Rattle.ygg_read.proofs.TakenWhole.{split, empty}
 use Rattle.ygg_print.specs.UniqueLaws.{is_optional, LeftOut, leaves}
 use Rattle.ygg_print.proofs.Parser.{unwritten}
 use Rattle.ygg_print.proofs.StatementMarks.{some_is}

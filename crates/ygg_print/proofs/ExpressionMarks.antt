@@ -19,9 +19,9 @@ use Rattle.ygg_syntax.specs.declared.tree.Expr.TheFolds.{ind-Expr, fold-roll-Exp
 use Rattle.ygg_syntax.specs.Reading.{Reading, token, same_mark, starts, takes, in_turn, impossible}
 use Rattle.ygg_syntax.specs.Expressions.{Phrase, node_phrase, phrase, expr, atom, whole, any, some, operator_sign, quantifier_word}
 use Rattle.ygg_syntax.specs.Expressions as phrases
-use Rattle.ygg_read_expr.proofs.Phrases.{joined}
-use Rattle.ygg_read_expr.proofs.Marks.{passed, took}
-use Rattle.ygg_read_expr.proofs.Claims.{split, empty, all_claims}
+use Rattle.ygg_read.proofs.ExpressionPhrases.{joined}
+use Rattle.ygg_read.proofs.Marks.{passed, took}
+use Rattle.ygg_read.proofs.TakenWhole.{split, empty, all_claims}
 use Rattle.ygg_print.proofs.Parser.{
   Parser,
   perhaps,

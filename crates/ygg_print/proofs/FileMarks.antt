@@ -31,9 +31,9 @@ use Rattle.ygg_syntax.specs.Blocks as blocks
 use Rattle.ygg_syntax.specs.Blocks.{block_phrase, is_nowhere, is_unwritten}
 use Rattle.ygg_syntax.specs.Files as files
 use Rattle.ygg_syntax.specs.Files.{disk_word, Derives}
-use Rattle.ygg_read_expr.proofs.Marks.{passed}
-use Rattle.ygg_read_expr.proofs.Phrases.{joined}
-use Rattle.ygg_read_expr.proofs.Claims.{split, empty}
+use Rattle.ygg_read.proofs.Marks.{passed}
+use Rattle.ygg_read.proofs.ExpressionPhrases.{joined}
+use Rattle.ygg_read.proofs.TakenWhole.{split, empty}
 use Rattle.ygg_print.proofs.Parser.{
   Parser,
   answer,

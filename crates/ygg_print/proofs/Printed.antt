@@ -52,7 +52,7 @@ use Rattle.ygg_print.specs.PrintedFiles.{
   file_printed,
   head_printed,
 }
-use Rattle.ygg_syntax_trees.specs.Bare.{
+use Rattle.ygg_syntax.specs.Bare.{
   nowhere,
   bare,
   node_bare,

@@ -15,7 +15,7 @@ use Rattle.ygg_print.specs.Layout.{layout}
 use Rattle.ygg_print.specs.TreeLaws.{HasMarks, IsMark}
 use Rattle.ygg_print.proofs.Relexed.{relexed}
 use Rattle.ygg_print.specs.UniqueLaws.{LeftOut, nothing, keeps, leaves, DerivesAs}
-use Rattle.ygg_syntax_trees.specs.Bare.{bare_file}
+use Rattle.ygg_syntax.specs.Bare.{bare_file}
 use Rattle.ygg_print.specs.Laws.{IsRead}
 use Rattle.ygg_print.proofs.AgainFiles.{left_out, derives_as}
 use Rattle.ygg_print.proofs.Printed.{same_printed}

@@ -11,9 +11,9 @@ use Rattle.ygg_syntax.specs.declared.tree.Numeral.{Numeral}
 use Rattle.ygg_syntax.specs.declared.tree.File.{File}
 use Rattle.ygg_syntax.specs.Reading.{Reading, token, same_mark, starts, passes, takes, in_turn, impossible}
 use Rattle.ygg_syntax.specs.Expressions.{named, numbered, operator_sign}
-use Rattle.ygg_read_expr.proofs.Phrases.{same, joined}
-use Rattle.ygg_read_expr.proofs.Marks.{same_is, passed, took}
-use Rattle.ygg_read_expr.proofs.Claims.{split, empty}
+use Rattle.ygg_read.proofs.ExpressionPhrases.{same, joined}
+use Rattle.ygg_read.proofs.Marks.{same_is, passed, took}
+use Rattle.ygg_read.proofs.TakenWhole.{split, empty}
 use Rattle.ygg_print.proofs.Parser.{
   Parser,
   exactly,

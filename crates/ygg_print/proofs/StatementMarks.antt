@@ -62,8 +62,8 @@ use Rattle.ygg_syntax.specs.Blocks.{
   node_block,
   block_phrase,
 }
-use Rattle.ygg_read_expr.proofs.Marks.{passed, took}
-use Rattle.ygg_read_expr.proofs.Claims.{split, empty, all_claims}
+use Rattle.ygg_read.proofs.Marks.{passed, took}
+use Rattle.ygg_read.proofs.TakenWhole.{split, empty, all_claims}
 use Rattle.ygg_print.proofs.Parser.{
   Parser,
   perhaps,

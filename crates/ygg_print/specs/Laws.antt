@@ -6,7 +6,7 @@ use Rattle.ygg_base.specs.declared.tokens.Tokens.{Tokens}
 use Rattle.ygg_base.specs.Lexing.{tokens_of}
 use Rattle.ygg_syntax.specs.declared.tree.File.{File}
 use Rattle.ygg_syntax.specs.Files.{Derives}
-use Rattle.ygg_syntax_trees.specs.Bare.{bare_file}
+use Rattle.ygg_syntax.specs.Bare.{bare_file}
 use Rattle.ygg_read.specs.Refused.{IsRefusal}
 use Rattle.ygg_print.specs.Canonical.{AreOfLanguage, canonical}
 

@@ -9,7 +9,7 @@ use Rattle.ygg_base.specs.declared.token.Token.{Token}
 use Rattle.ygg_syntax.specs.declared.tree.File.{File}
 use Rattle.ygg_syntax.specs.Files.{Derives}
 use Rattle.ygg_print.specs.PrintedFiles.{file_printed}
-use Rattle.ygg_syntax_trees.specs.Bare.{bare_file}
+use Rattle.ygg_syntax.specs.Bare.{bare_file}
 
 -- two files that derive from the same tokens are equal, places included
 abbrev pub OneFileDerives : Type 0

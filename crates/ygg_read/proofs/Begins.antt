@@ -35,8 +35,8 @@ use Rattle.ygg_syntax.specs.Pending.{
   word_of,
   outcome,
 }
-use Rattle.ygg_read_expr.proofs.Phrases.{same}
-use Rattle.ygg_read_expr.proofs.Stopped.{next, left_out}
+use Rattle.ygg_read.proofs.ExpressionPhrases.{same}
+use Rattle.ygg_read.proofs.Stopped.{next, left_out}
 use Rattle.ygg_read.specs.Steps.{takes_token, begins}
 
 pub begins_let : (kind : BlockKind) (at : Place) (rest : List Token) (qs : List Pending)

@@ -28,9 +28,9 @@ use Rattle.ygg_syntax.specs.Pending.{
   outcome,
   stops,
 }
-use Rattle.ygg_read_expr.specs.Steps.{Reads, Goes, Stops}
-use Rattle.ygg_read_expr.proofs.Phrases.{joined}
-use Rattle.ygg_read_expr.proofs.Stopped.{goes_token, ended}
+use Rattle.ygg_read.specs.ExpressionSteps.{Reads, Goes, Stops}
+use Rattle.ygg_read.proofs.ExpressionPhrases.{joined}
+use Rattle.ygg_read.proofs.Stopped.{goes_token, ended}
 use Rattle.ygg_read.proofs.ClaimParts.{begins_repeated}
 
 -- the parts so far, each of which begins with this keyword and goes on with these symbols

@@ -5,10 +5,10 @@ use Rattle.ygg_base.specs.declared.token.Token.{Token}
 use Rattle.ygg_syntax.specs.declared.tree.Place.{Place}
 use Rattle.ygg_syntax.specs.Reading.{Reading, token, same_mark, starts, passes, takes, in_turn}
 use Rattle.ygg_syntax.specs.Pending.{Pending, exactly, Part, perhaps, repeated, beginning, rest_of, after, leaves, outcome}
-use Rattle.ygg_read_expr.proofs.Phrases.{same}
-use Rattle.ygg_read_expr.proofs.Marks.{passed, took}
-use Rattle.ygg_read_expr.proofs.Stopped.{next, goes_token, left_out, ended}
-use Rattle.ygg_read_expr.proofs.Claims.{split, empty, Runs, next_mark}
+use Rattle.ygg_read.proofs.ExpressionPhrases.{same}
+use Rattle.ygg_read.proofs.Marks.{passed, took}
+use Rattle.ygg_read.proofs.Stopped.{next, goes_token, left_out, ended}
+use Rattle.ygg_read.proofs.TakenWhole.{split, empty, Runs, next_mark}
 use Rattle.ygg_read.proofs.Sources.{next_rule}
 
 -- the first token of a part that may be left out

@@ -14,10 +14,10 @@ use Rattle.ygg_syntax.specs.Reading.{Reading, token, starts, in_turn}
 use Rattle.ygg_syntax.specs.Expressions.{keyword, symbol, named, numbered}
 use Rattle.ygg_syntax.specs.Files.{type_in, declared, more_declared, any_declared}
 use Rattle.ygg_syntax.specs.Pending.{Pending, name, number, some_type, rest_of_declared, repeated, next_declared, sign_of, word_of, outcome}
-use Rattle.ygg_read_expr.proofs.Phrases.{joined}
-use Rattle.ygg_read_expr.proofs.Marks.{passed, took}
-use Rattle.ygg_read_expr.proofs.Stopped.{goes_token, ended}
-use Rattle.ygg_read_expr.proofs.Claims.{split, empty, Runs, done, next_mark, next_number, next_name}
+use Rattle.ygg_read.proofs.ExpressionPhrases.{joined}
+use Rattle.ygg_read.proofs.Marks.{passed, took}
+use Rattle.ygg_read.proofs.Stopped.{goes_token, ended}
+use Rattle.ygg_read.proofs.TakenWhole.{split, empty, Runs, done, next_mark, next_number, next_name}
 use Rattle.ygg_read.proofs.ClaimParts.{begins_repeated}
 
 pub begins_word : (sort : Sort) (at : Place) (rest : List Token) (qs : List Pending) →

@@ -57,11 +57,11 @@ use Rattle.ygg_syntax.specs.Pending.{
   outcome,
 }
 use Rattle.ygg_syntax.specs.Pending as pending
-use Rattle.ygg_read_expr.specs.Steps.{Reads, Stops}
-use Rattle.ygg_read_expr.proofs.Phrases.{joined, reads_mark, reads_token}
-use Rattle.ygg_read_expr.proofs.Marks.{same_is}
-use Rattle.ygg_read_expr.proofs.Stopped.{next}
-use Rattle.ygg_read_expr.proofs.Claims.{split, empty}
+use Rattle.ygg_read.specs.ExpressionSteps.{Reads, Stops}
+use Rattle.ygg_read.proofs.ExpressionPhrases.{joined, reads_mark, reads_token}
+use Rattle.ygg_read.proofs.Marks.{same_is}
+use Rattle.ygg_read.proofs.Stopped.{next}
+use Rattle.ygg_read.proofs.TakenWhole.{split, empty}
 use Rattle.ygg_read.proofs.LayerClaims.{begins_kind}
 
 -- a rule after its first token

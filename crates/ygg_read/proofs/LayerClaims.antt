@@ -67,9 +67,9 @@ use Rattle.ygg_syntax.specs.Pending.{
   reads,
 }
 use Rattle.ygg_syntax.specs.Pending as pending
-use Rattle.ygg_read_expr.proofs.Marks.{passed}
-use Rattle.ygg_read_expr.proofs.Stopped.{goes_token, left_out, ended}
-use Rattle.ygg_read_expr.proofs.Claims.{split, empty, Runs, done, next_mark, next_number, next_name, next_part, all_claims}
+use Rattle.ygg_read.proofs.Marks.{passed}
+use Rattle.ygg_read.proofs.Stopped.{goes_token, left_out, ended}
+use Rattle.ygg_read.proofs.TakenWhole.{split, empty, Runs, done, next_mark, next_number, next_name, next_part, all_claims}
 use Rattle.ygg_read.proofs.Sources.{next_rule}
 use Rattle.ygg_read.proofs.ClaimParts.{
   begins_perhaps,

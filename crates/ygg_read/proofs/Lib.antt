@@ -1,3 +1,11 @@
+pub mod ExpressionBegins
+pub mod TakenWhole
+pub mod ExpressionLists
+pub mod Marks
+pub mod ExpressionPhrases
+pub mod ExpressionSources
+pub mod Stopped
+pub mod Results
 pub mod Begins
 pub mod Lists
 pub mod Phrases

@@ -11,9 +11,9 @@ use Rattle.ygg_syntax.specs.Reading.{Reading, token, in_turn}
 use Rattle.ygg_syntax.specs.Expressions.{expr, symbol}
 use Rattle.ygg_syntax.specs.Blocks.{statement, indices_of}
 use Rattle.ygg_syntax.specs.Pending.{Pending, expression, sign_of, indices, outcome}
-use Rattle.ygg_read_expr.specs.Steps.{Reads, Goes}
-use Rattle.ygg_read_expr.proofs.Begins.{begins_index}
-use Rattle.ygg_read_expr.proofs.Phrases.{reads_token}
+use Rattle.ygg_read.specs.ExpressionSteps.{Reads, Goes}
+use Rattle.ygg_read.proofs.ExpressionBegins.{begins_index}
+use Rattle.ygg_read.proofs.ExpressionPhrases.{reads_token}
 use Rattle.ygg_read.specs.Steps.{statements_of, GoesAsStatement}
 
 -- indices, where others may follow

@@ -34,8 +34,8 @@ use Rattle.ygg_syntax.specs.Blocks.{
   indices_of,
   bracketed,
 }
-use Rattle.ygg_read_expr.specs.Steps.{Reads}
-use Rattle.ygg_read_expr.proofs.Phrases.{same, joined, reads_token, reads_mark}
+use Rattle.ygg_read.specs.ExpressionSteps.{Reads}
+use Rattle.ygg_read.proofs.ExpressionPhrases.{same, joined, reads_token, reads_mark}
 use Rattle.ygg_read.specs.Steps.{statements_of}
 
 -- a statement that begins with a mark

@@ -9,8 +9,8 @@ use Rattle.ygg_syntax.specs.declared.grammar.Sort.{Sort}
 use Rattle.ygg_syntax.specs.declared.grammar.Sort.TheVariants as sorts
 use Rattle.ygg_syntax.specs.Reading.{same_mark, starts}
 use Rattle.ygg_syntax.specs.Pending.{Pending, leaves, refuses, after, name, some_type, rest_of_declared, repeated, next_declared, sign_of, outcome}
-use Rattle.ygg_read_expr.specs.Steps.{Stops}
-use Rattle.ygg_read_expr.proofs.Stopped.{next}
+use Rattle.ygg_read.specs.ExpressionSteps.{Stops}
+use Rattle.ygg_read.proofs.Stopped.{next}
 
 no_small : (m : Mark) → same_mark (mark.Keyword word.Word) m ≡ false → same_mark (mark.Keyword word.Row) m ≡ false → after (some_type sorts.Small) m ≡ refuses
 no_small (mark.Keyword word.Word) h k = absurd (cc)

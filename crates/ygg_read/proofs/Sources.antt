@@ -14,11 +14,11 @@ use Rattle.ygg_syntax.specs.Reading.{Reading, starts, takes, in_turn, impossible
 use Rattle.ygg_syntax.specs.Expressions.{Phrase, phrase, expr, any, symbol, named}
 use Rattle.ygg_syntax.specs.Blocks.{bracketed, source_in}
 use Rattle.ygg_syntax.specs.Pending.{Pending, name, expression, right_side, rest_of_arguments, sign_of, outcome}
-use Rattle.ygg_read_expr.proofs.Phrases.{joined}
-use Rattle.ygg_read_expr.proofs.Marks.{took}
-use Rattle.ygg_read_expr.proofs.Stopped.{dropped_indices}
-use Rattle.ygg_read_expr.proofs.Sources.{plain_value, spec_value, impl_value, begins_choose, begins_call}
-use Rattle.ygg_read_expr.proofs.Claims.{split, Runs, next_mark, next_name, next_part, next_any, Shown, phrases, all_claims}
+use Rattle.ygg_read.proofs.ExpressionPhrases.{joined}
+use Rattle.ygg_read.proofs.Marks.{took}
+use Rattle.ygg_read.proofs.Stopped.{dropped_indices}
+use Rattle.ygg_read.proofs.ExpressionSources.{plain_value, spec_value, impl_value, begins_choose, begins_call}
+use Rattle.ygg_read.proofs.TakenWhole.{split, Runs, next_mark, next_name, next_part, next_any, Shown, phrases, all_claims}
 
 -- a rule inside another
 pub next_rule : {inner : List Reading} {ps : List Pending} → Runs inner ps → {rs : List Reading} {qs : List Pending} → Runs rs qs →

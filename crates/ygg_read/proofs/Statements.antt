@@ -52,10 +52,10 @@ use Rattle.ygg_syntax.specs.Pending.{
   word_of,
   outcome,
 }
-use Rattle.ygg_read_expr.proofs.Marks.{passed, took}
-use Rattle.ygg_read_expr.proofs.Stopped.{goes_token, dropped_indices}
-use Rattle.ygg_read_expr.proofs.Begins.{begins_index}
-use Rattle.ygg_read_expr.proofs.Claims.{split, empty, Runs, done, next_mark, next_number, next_name}
+use Rattle.ygg_read.proofs.Marks.{passed, took}
+use Rattle.ygg_read.proofs.Stopped.{goes_token, dropped_indices}
+use Rattle.ygg_read.proofs.ExpressionBegins.{begins_index}
+use Rattle.ygg_read.proofs.TakenWhole.{split, empty, Runs, done, next_mark, next_number, next_name}
 use Rattle.ygg_read.proofs.Sources.{expression_goes, next_call, next_source}
 use Rattle.ygg_read.proofs.ClaimParts.{Enters, passing, Chooses, chosen}
 

@@ -12,7 +12,7 @@ use Rattle.ygg_syntax.specs.Expressions.{symbol}
 use Rattle.ygg_syntax.specs.Files.{claim}
 use Rattle.ygg_syntax.specs.Pending.{Pending, Part, beginning, rest_of, repeated, expression, word_of, sign_of}
 use Rattle.ygg_syntax.specs.Pending as pending
-use Rattle.ygg_read_expr.specs.Steps.{Reads}
+use Rattle.ygg_read.specs.ExpressionSteps.{Reads}
 use Rattle.ygg_read.specs.declared.claims.LayerClaims.{LayerClaims}
 
 -- what is read takes this mark, wherever it stands, and the tokens between

@@ -1,3 +1,5 @@
+pub mod ExpressionLaws
+pub mod ExpressionSteps
 pub mod Steps
 pub mod LayerParts
 pub mod Laws

@@ -10,7 +10,7 @@ use Rattle.ygg_syntax.specs.declared.tree.Stmt.{Stmt}
 use Rattle.ygg_syntax.specs.Reading.{Reading, token}
 use Rattle.ygg_syntax.specs.Blocks.{statement}
 use Rattle.ygg_syntax.specs.Pending.{Pending, Part, block, statements, beginning, rest_of, After, leaves, drops, refuses, after, outcome}
-use Rattle.ygg_read_expr.specs.Steps.{Reads}
+use Rattle.ygg_read.specs.ExpressionSteps.{Reads}
 
 -- statements, one after another
 abbrev pub statements_of : BlockKind → List Stmt → List Reading

@@ -6,16 +6,15 @@ ghost use Rattle.ygg_base.specs.declared.token.Symbol.TheVariants as sign;
 ghost use Rattle.ygg_base.specs.declared.token.Mark.TheVariants as mark;
 ghost use Rattle.ygg_syntax.specs.Blocks.{statement, block, answering, optional, block_phrase, is_unwritten};
 ghost use Rattle.ygg_syntax.specs.Pending as pending;
-ghost use Rattle.ygg_read_expr.specs.Steps.{Reads, Goes, Stops, IfRead, OnRead, IfRefused};
+ghost use Rattle.ygg_read.specs.ExpressionSteps.{Reads, Goes, Stops, IfRead, OnRead, IfRefused};
 ghost use Rattle.ygg_read.specs.Steps.{statements_of, ReadsAfter, GoesAsStatement, ForPart, begins};
 
-use crate::parts;
+use crate::both::{added, both};
+use crate::{Reader, parts};
 use sqlite_items::Items;
 use std::alloc::Global;
 use ygg_base::{Keyword, Symbol};
 use ygg_list::NoMemory;
-use ygg_read_expr::Reader;
-use ygg_read_expr::both::{added, both};
 use ygg_syntax::grammar::BlockKind;
 use ygg_syntax::tree::{Block, Place, Stmt};
 

@@ -8,15 +8,15 @@ ghost use Rattle.ygg_syntax.specs.Files.{claim};
 ghost use Rattle.ygg_syntax.specs.Expressions.{symbol};
 ghost use Rattle.ygg_syntax.specs.Pending.{repeated, sign_of, word_of};
 ghost use Rattle.ygg_syntax.specs.Pending as pending;
-ghost use Rattle.ygg_read_expr.specs.Steps.{Reads, Goes, Stops, IfRead, OnRead, IfRefused};
+ghost use Rattle.ygg_read.specs.ExpressionSteps.{Reads, Goes, Stops, IfRead, OnRead, IfRefused};
 ghost use Rattle.ygg_read.specs.LayerParts.{ReadsAfter, ForRepeated, rest_of_claim, claims_pending, claims_read};
 
+use crate::Reader;
+use crate::both::{added, both};
 use crate::parts::expression_before;
 use sqlite_items::Items;
 use ygg_base::{Keyword, Symbol};
 use ygg_list::NoMemory;
-use ygg_read_expr::Reader;
-use ygg_read_expr::both::{added, both};
 use ygg_syntax::tree::Expr;
 
 /// What a layer claims.

@@ -4,15 +4,15 @@ ghost use Rattle.ygg_base.specs.declared.token.Symbol.TheVariants as sign;
 ghost use Rattle.ygg_syntax.specs.Expressions.{keyword};
 ghost use Rattle.ygg_syntax.specs.Files.{disk_word, disk_text};
 ghost use Rattle.ygg_syntax.specs.Pending.{number, disk_kind, sign_of, word_of};
-ghost use Rattle.ygg_read_expr.specs.Steps.{Reads, Goes, Stops};
+ghost use Rattle.ygg_read.specs.ExpressionSteps.{Reads, Goes, Stops};
 
+use crate::Reader;
 use crate::types::three;
 use ygg_base::{DiskKind, Keyword, Symbol};
-use ygg_read_expr::Reader;
 use ygg_syntax::tree::DiskText;
 
 /// Reads the disk.
-#[tactic(auto, using(ygg_read_expr::proofs::Phrases::joined))]
+#[tactic(auto, using(crate::proofs::ExpressionPhrases::joined))]
 pub fn disk(reader: &mut Reader<'_>) -> Option<DiskText>
     ensures reads { IfSome result (λ d. Reads (disk_text d ∷ []) reader.old reader.new) }
     ensures goes { OnSome result (Goes (word_of word.Disk ∷ disk_kind ∷ number ∷ word_of word.Of ∷ number ∷ word_of word.Of ∷ number

@@ -8,17 +8,17 @@ ghost use Rattle.ygg_syntax.specs.Expressions.{keyword, symbol};
 ghost use Rattle.ygg_syntax.specs.Files.{whole_file, Derives};
 ghost use Rattle.ygg_syntax.specs.Pending.{exactly, word_of, sign_of, outcome, stops};
 ghost use Rattle.ygg_syntax.specs.Pending as pending;
-ghost use Rattle.ygg_read_expr.specs.Steps.{Reads, Goes, Stops, IfRead, OnRead, IfRefused};
+ghost use Rattle.ygg_read.specs.ExpressionSteps.{Reads, Goes, Stops, IfRead, OnRead, IfRefused};
 ghost use Rattle.ygg_read.specs.Refused.{IsRefusal, place_with};
 
+use crate::Reader;
+use crate::both::both;
 use crate::disk::disk;
 use crate::layer::layers;
 use crate::variables::definitions;
 use std::alloc::Global;
 use ygg_base::{Keyword, Mark, Reason, Refuse, Symbol, Token, Tokens};
 use ygg_list::NoMemory;
-use ygg_read_expr::Reader;
-use ygg_read_expr::both::both;
 use ygg_syntax::tree::{File, Numeral, Place};
 
 /// The file that derives from the tokens. Where none does they are refused 3 at the first token that can't come, or at the

@@ -9,20 +9,20 @@ ghost use Rattle.ygg_syntax.specs.Blocks.{optional};
 ghost use Rattle.ygg_syntax.specs.Files.{variable, tick, layer, layers, crash_block};
 ghost use Rattle.ygg_syntax.specs.Pending.{name, perhaps, repeated, rest_of_variable, rest_of_layer, sign_of, word_of};
 ghost use Rattle.ygg_syntax.specs.Pending as pending;
-ghost use Rattle.ygg_read_expr.specs.Steps.{Reads, Goes, Stops, IfRead, OnRead, IfRefused};
+ghost use Rattle.ygg_read.specs.ExpressionSteps.{Reads, Goes, Stops, IfRead, OnRead, IfRefused};
 ghost use Rattle.ygg_read.specs.Steps.{ForPart};
 ghost use Rattle.ygg_read.specs.LayerParts.{ForRepeated, claims_pending, claims_read};
 ghost use Rattle.ygg_read.specs.Parts.{setup_pending, setup_read, steps_pending, steps_read};
 
+use crate::Reader;
 use crate::blocks::{block, optional, unwritten};
+use crate::both::{added, both};
 use crate::claims::{LayerClaims, claims};
 use crate::operations::{operations, ticks};
 use crate::variables::variables;
 use sqlite_items::Items;
 use ygg_base::{Keyword, Symbol};
 use ygg_list::NoMemory;
-use ygg_read_expr::Reader;
-use ygg_read_expr::both::{added, both};
 use ygg_syntax::grammar::BlockKind;
 use ygg_syntax::tree::{Block, Declared, Layer, Name, Operation, Place, Tick};
 
@@ -242,7 +242,7 @@ fn after_operations(reader: &mut Reader<'_>) -> Result<Option<AfterOperations>, 
 }
 
 /// Reads the keyword `crash` and its block, or nothing where the keyword doesn't come.
-#[tactic(auto, using(ygg_read_expr::proofs::Stopped::left_out, crate::proofs::Files::reads_no_crash_block))]
+#[tactic(auto, using(crate::proofs::Stopped::left_out, crate::proofs::Files::reads_no_crash_block))]
 fn crash(reader: &mut Reader<'_>) -> Result<Option<(Place, Block)>, NoMemory>
     ensures reads { IfRead result (λ read. Reads (crash_block read.0 read.1 ∷ []) reader.old reader.new) }
     ensures goes { OnRead result (Goes (perhaps pending.crash_block ∷ []) reader.old reader.new) }

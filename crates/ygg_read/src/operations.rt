@@ -12,18 +12,18 @@ ghost use Rattle.ygg_syntax.specs.Files.{operation, operation_blocks, on_crash, 
 ghost use Rattle.ygg_syntax.specs.Blocks.{block, answering};
 ghost use Rattle.ygg_syntax.specs.Pending.{some_type, perhaps, repeated, rest_of, word_of};
 ghost use Rattle.ygg_syntax.specs.Pending as pending;
-ghost use Rattle.ygg_read_expr.specs.Steps.{Reads, Goes, Stops, IfRead, OnRead, IfRefused};
+ghost use Rattle.ygg_read.specs.ExpressionSteps.{Reads, Goes, Stops, IfRead, OnRead, IfRefused};
 ghost use Rattle.ygg_read.specs.LayerParts.{ReadsAfter};
 ghost use Rattle.ygg_read.specs.Parts.{operation_of};
 
+use crate::Reader;
 use crate::blocks::{answering, block};
+use crate::both::{added, both};
 use crate::types::type_text;
 use crate::variables::named_list;
 use sqlite_items::Items;
 use ygg_base::{Keyword, Symbol};
 use ygg_list::NoMemory;
-use ygg_read_expr::Reader;
-use ygg_read_expr::both::{added, both};
 use ygg_syntax::grammar::{BlockKind, Sort};
 use ygg_syntax::tree::{Block, Operation, Tick, TypeText};
 

@@ -9,14 +9,14 @@ ghost use Rattle.ygg_syntax.specs.Reading.{token, in_turn};
 ghost use Rattle.ygg_syntax.specs.Expressions.{expr, symbol, keyword};
 ghost use Rattle.ygg_syntax.specs.Blocks.{statement, source_in, indices_of};
 ghost use Rattle.ygg_syntax.specs.Pending as pending;
-ghost use Rattle.ygg_read_expr.specs.Steps.{Reads, Goes, Stops, IfRead, OnRead, IfRefused};
+ghost use Rattle.ygg_read.specs.ExpressionSteps.{Reads, Goes, Stops, IfRead, OnRead, IfRefused};
 ghost use Rattle.ygg_read.specs.Steps.{ReadsAfter, begins};
 
+use crate::Reader;
+use crate::both::{added, both};
 use sqlite_items::Items;
 use ygg_base::{Keyword, Mark, Symbol};
 use ygg_list::NoMemory;
-use ygg_read_expr::Reader;
-use ygg_read_expr::both::{added, both};
 use ygg_syntax::grammar::BlockKind;
 use ygg_syntax::tree::{Expr, Index, Name, Place, Source, Stmt};
 

@@ -9,16 +9,16 @@ ghost use Rattle.ygg_syntax.specs.Expressions.{symbol, named, expr};
 ghost use Rattle.ygg_syntax.specs.Files.{type_in, any_declared, variable, definition};
 ghost use Rattle.ygg_syntax.specs.Pending.{name, expression, some_type, rest_of, rest_of_declared, rest_of_variable, repeated, sign_of};
 ghost use Rattle.ygg_syntax.specs.Pending as pending;
-ghost use Rattle.ygg_read_expr.specs.Steps.{Reads, Goes, Stops, IfRead, OnRead, IfRefused};
+ghost use Rattle.ygg_read.specs.ExpressionSteps.{Reads, Goes, Stops, IfRead, OnRead, IfRefused};
 ghost use Rattle.ygg_read.specs.LayerParts.{ReadsAfter, ForRepeated};
 
+use crate::Reader;
+use crate::both::{added, both};
 use crate::parts::expression_before;
 use crate::types::{declared, parameters, type_text};
 use sqlite_items::Items;
 use ygg_base::{Keyword, Symbol};
 use ygg_list::NoMemory;
-use ygg_read_expr::Reader;
-use ygg_read_expr::both::{added, both};
 use ygg_syntax::grammar::Sort;
 use ygg_syntax::tree::{Declared, Def, Expr, Name, TypeText};
 

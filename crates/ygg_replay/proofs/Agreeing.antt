@@ -8,7 +8,7 @@ use Rattle.ygg_sched.specs.ygg_meaning.Spec.{Outcome}
 use Rattle.ygg_sched.specs.ygg_meaning.Obligations.{Obligation, Init, CallOf, CutOf, TickOf, CutTickOf, Idle, Again}
 use Rattle.ygg_sched.specs.ygg_meaning.Shapes.{values_fit}
 use Rattle.ygg_sched.specs.ygg_meaning.Related.{related}
-use Rattle.ygg_eval.specs.ygg_eval_block.Layers.{variables_at}
+use Rattle.ygg_eval.specs.Layers.{variables_at}
 use Rattle.ygg_sched.specs.ygg_meaning.Violates.{answers_alike, related_after, spec_after}
 use Rattle.ygg_replay.specs.declared.site.ReplaySite.{ReplaySite}
 use Rattle.ygg_replay.specs.declared.conclusion.Trial.{Trial}

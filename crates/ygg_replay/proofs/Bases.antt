@@ -30,7 +30,7 @@ use Rattle.ygg_syntax.specs.declared.tree.Declared.{Declared}
 use Rattle.ygg_syntax.specs.declared.tree.DiskText.{DiskText}
 use Rattle.ygg_syntax.specs.declared.tree.Layer.{Layer}
 use Rattle.ygg_syntax.specs.declared.tree.File.{File}
-use Rattle.ygg_sched.specs.ygg_syntax_count.Weights.{weights_of}
+use Rattle.ygg_sched.specs.ygg_syntax.Weights.{weights_of}
 use Rattle.ygg_sched.specs.ygg_type_rules.TypeErrors.{none}
 use Rattle.ygg_sched.specs.ygg_type_rules.Definitions.{definitions_errors, with_definitions}
 use Rattle.ygg_sched.specs.ygg_type_rules.Files.{disk_below, disk_errors, layers_errors, type_errors_of}
@@ -46,7 +46,7 @@ use Rattle.ygg_sched.specs.ygg_meaning.Spec.{start_outcome}
 use Rattle.ygg_sched.specs.ygg_meaning.Refines.{Below, OnDisk, OnSpec, machine_below}
 use Rattle.ygg_sched.specs.ygg_meaning_proofs_Exact.{start_exact}
 use Rattle.ygg_sched.specs.ygg_meaning.Stack.{tables_of, tables_of_kind}
-use Rattle.ygg_eval.specs.ygg_eval_block.Layers.{below_at, closed_at, machine_at, variables_at}
+use Rattle.ygg_eval.specs.Layers.{below_at, closed_at, machine_at, variables_at}
 use Rattle.ygg_eval.proofs.OnDisk.{variables_zero}
 use Rattle.ygg_eval.proofs.OnSpec.{layer_variables}
 use Rattle.ygg_eval.specs.Zeros.{zero_values}

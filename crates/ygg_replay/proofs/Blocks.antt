@@ -19,17 +19,17 @@ use Rattle.ygg_sched.specs.ygg_meaning.Runs.{Dialogue, Reaches, WholeRun, Fallen
 use Rattle.ygg_eval.specs.ygg_meaning_laws.Acts.{noted_picks, IsActed}
 use Rattle.ygg_eval.proofs.of_ygg_meaning_laws.OneEnd.{disk_one, spec_one}
 use Rattle.ygg_eval.specs.Files.{below_acts}
-use Rattle.ygg_eval.specs.ygg_eval_block.declared.body.Body.{Body}
-use Rattle.ygg_eval.specs.ygg_eval_block.declared.body.Part.{Part}
-use Rattle.ygg_eval.specs.ygg_eval_block.declared.body.Part.TheVariants as part
-use Rattle.ygg_eval.specs.ygg_eval_block.declared.body.Stop.{Stop}
-use Rattle.ygg_eval.specs.ygg_eval_block.Bodies.{kind_of, variables_in, arguments_in, dialogue_in}
-use Rattle.ygg_eval.specs.ygg_eval_block.Layers.{variables_at, below_at}
-use Rattle.ygg_eval.specs.ygg_eval_block.Lower.{Standing}
-use Rattle.ygg_eval.specs.ygg_eval_block.Conversations.{calls_in}
-use Rattle.ygg_eval.specs.ygg_eval_block.Runs.{Finished, FinishedEarly, StoppedAt, RunEnds}
-use Rattle.ygg_eval.specs.ygg_eval_block.declared.run.Ended.{Ended}
-use Rattle.ygg_eval.specs.ygg_eval_block.declared.run.Ended.TheVariants as ended
+use Rattle.ygg_eval.specs.declared.body.Body.{Body}
+use Rattle.ygg_eval.specs.declared.body.Part.{Part}
+use Rattle.ygg_eval.specs.declared.body.Part.TheVariants as part
+use Rattle.ygg_eval.specs.declared.body.Stop.{Stop}
+use Rattle.ygg_eval.specs.Bodies.{kind_of, variables_in, arguments_in, dialogue_in}
+use Rattle.ygg_eval.specs.Layers.{variables_at, below_at}
+use Rattle.ygg_eval.specs.Lower.{Standing}
+use Rattle.ygg_eval.specs.Conversations.{calls_in}
+use Rattle.ygg_eval.specs.Runs.{Finished, FinishedEarly, StoppedAt, RunEnds}
+use Rattle.ygg_eval.specs.declared.run.Ended.{Ended}
+use Rattle.ygg_eval.specs.declared.run.Ended.TheVariants as ended
 use Rattle.ygg_eval.specs.Kept.{Kept, spec_meaning}
 use Rattle.ygg_eval.proofs.Values.{bind_count}
 use Rattle.ygg_replay.specs.declared.site.ReplaySite.{ReplaySite}

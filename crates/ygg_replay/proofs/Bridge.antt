@@ -2,7 +2,7 @@
 use Rattle.std.proofs.Common.{◌≡◌, ℕ, true, List, slice_get, Option, Some, Result, Ok, Err, IfOk, sym, ap, subst, ◌∙◌}
 use Rattle.ygg_syntax.specs.declared.tree.File.{File}
 use Rattle.ygg_replay.specs.ygg_meaning.Replayed.{Replays}
-use Rattle.ygg_replay.specs.ygg_eval_block.Layers.{closed_at, machine_at}
+use Rattle.ygg_replay.specs.ygg_eval.Layers.{closed_at, machine_at}
 use Rattle.ygg_replay.specs.ygg_sched.declared.case.Case.{Case}
 use Rattle.ygg_replay.specs.ygg_sched.declared.schedule.Schedule.{Schedule}
 use Rattle.ygg_replay.specs.ygg_sched.Cases.{IsFirstNamed, IsCaseNamed}

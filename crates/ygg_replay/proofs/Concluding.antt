@@ -12,8 +12,8 @@ use Rattle.ygg_sched.specs.ygg_meaning.Related.{all_true, shaped}
 use Rattle.ygg_sched.specs.ygg_meaning.Replayed.{Shows, Hypothesis, Passes, Replays, IsFirstPassing, has_stop}
 use Rattle.ygg_sched.specs.ygg_meaning.Violates.{End, Meets, Reached, FallsSo, hypotheses, most, passes, shapes_fit, spec_after}
 use Rattle.ygg_eval.specs.ygg_meaning_laws_proofs_Tests.{left, right}
-use Rattle.ygg_eval.specs.ygg_eval_block.Layers.{variables_at, closed_at}
-use Rattle.ygg_eval.specs.ygg_eval_block_proofs_Blocks.{bind_fits}
+use Rattle.ygg_eval.specs.Layers.{variables_at, closed_at}
+use Rattle.ygg_eval.proofs.Blocks.{bind_fits}
 use Rattle.ygg_sched.specs.declared.schedule.Schedule.{Schedule}
 use Rattle.ygg_replay.specs.Schedules.{meant, schedule_fits, states_fit}
 use Rattle.ygg_replay.specs.Sites.{first_false}

@@ -5,8 +5,8 @@ use Rattle.ygg_syntax.specs.declared.tree.File.{File}
 use Rattle.ygg_sched.specs.ygg_disk.declared.power.Power.{Power}
 use Rattle.ygg_sched.specs.ygg_meaning.Environments.{bind}
 use Rattle.ygg_sched.specs.ygg_meaning.Machine.{Picks, based}
-use Rattle.ygg_eval.specs.ygg_eval_block.Layers.{variables_at, machine_at}
-use Rattle.ygg_eval.specs.ygg_eval_block.Lower.{Standing, Happened, outage_of}
+use Rattle.ygg_eval.specs.Layers.{variables_at, machine_at}
+use Rattle.ygg_eval.specs.Lower.{Standing, Happened, outage_of}
 use Rattle.ygg_eval.specs.Kept.{Kept, Loses}
 use Rattle.ygg_replay.specs.declared.site.ReplaySite.{ReplaySite}
 use Rattle.ygg_replay.specs.Sites.{IsBelow, low_at}

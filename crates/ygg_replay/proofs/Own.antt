@@ -11,8 +11,8 @@ use Rattle.ygg_sched.specs.ygg_meaning.Machine.{Picks}
 use Rattle.ygg_sched.specs.ygg_meaning.Progress.{Answer}
 use Rattle.ygg_sched.specs.ygg_meaning.Obligations.{call_picks, crash_picks, fall_picks}
 use Rattle.ygg_sched.specs.ygg_meaning.Spec.{call_outcome, chosen, crash_outcome, fall_outcome}
-use Rattle.ygg_eval.specs.ygg_eval_block.Layers.{signatures_at}
-use Rattle.ygg_eval.specs.ygg_eval_block.Lower.{Serves, IsCallable, Called, Fell, Happened, Whole}
+use Rattle.ygg_eval.specs.Layers.{signatures_at}
+use Rattle.ygg_eval.specs.Lower.{Serves, IsCallable, Called, Fell, Happened, Whole}
 use Rattle.ygg_eval.specs.Kept.{Kept, spec_meaning, Loses}
 use Rattle.ygg_eval.proofs.OnSpec.{fits_at}
 use Rattle.ygg_replay.specs.declared.site.ReplaySite.{ReplaySite}

@@ -38,7 +38,7 @@ use Rattle.ygg_replay.specs.ygg_meaning.Obligations.{Obligation, obligations_of}
 use Rattle.ygg_replay.specs.ygg_meaning.Refines.{Below, OnDisk, OnSpec}
 use Rattle.ygg_replay.specs.ygg_meaning.Stack.{Layers, below_of, layers_on, tables_of}
 use Rattle.ygg_replay.specs.ygg_meaning.Claims.{Claim, claims_on, claims_of}
-use Rattle.ygg_replay.specs.ygg_eval_block.Layers.{variables_from, variables_at, closed_at, below_at}
+use Rattle.ygg_replay.specs.ygg_eval.Layers.{variables_from, variables_at, closed_at, below_at}
 use Rattle.ygg_replay.specs.ygg_sched.Sites.{Site, sites_at, sites_on, sites_of, is_named, site_named}
 use Rattle.ygg_replay.proofs.of_ygg_sched.Finding.{find-map}
 use Rattle.ygg_replay.specs.Shown.{claim_named, is_name}

@@ -10,9 +10,9 @@ use Rattle.ygg_sched.specs.ygg_meaning.Shapes.{values_fit}
 use Rattle.ygg_sched.specs.ygg_meaning.Obligations.{Obligation, CallOf, CutOf, CutTickOf}
 use Rattle.ygg_sched.specs.ygg_meaning.Violates.{FallsSo, RanWhole, Reached}
 use Rattle.ygg_sched.specs.ygg_meaning.Violates as violates
-use Rattle.ygg_eval.specs.ygg_eval_block.declared.body.Part.TheVariants as part
-use Rattle.ygg_eval.specs.ygg_eval_block.Bodies.{IsRunnable, block_in}
-use Rattle.ygg_eval.specs.ygg_eval_block.Layers.{variables_at}
+use Rattle.ygg_eval.specs.declared.body.Part.TheVariants as part
+use Rattle.ygg_eval.specs.Bodies.{IsRunnable, block_in}
+use Rattle.ygg_eval.specs.Layers.{variables_at}
 use Rattle.ygg_eval.specs.ygg_meaning_laws_proofs_Tests.{left, right}
 use Rattle.ygg_replay.specs.declared.site.ReplaySite.{ReplaySite}
 use Rattle.ygg_sched.specs.declared.schedule.Schedule.{Schedule}

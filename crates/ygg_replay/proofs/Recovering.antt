@@ -13,7 +13,7 @@ use Rattle.ygg_sched.specs.ygg_meaning.Obligations.{StopsAt}
 use Rattle.ygg_sched.specs.ygg_meaning.Obligations as obligations
 use Rattle.ygg_sched.specs.ygg_meaning.Refines.{Below, OnDisk, OnSpec, machine_below}
 use Rattle.ygg_sched.specs.ygg_meaning.Violates.{Formatted, LostBetween, RanWhole, Recovers}
-use Rattle.ygg_eval.specs.ygg_eval_block.Layers.{below_at}
+use Rattle.ygg_eval.specs.Layers.{below_at}
 use Rattle.ygg_eval.specs.ygg_meaning_laws_proofs_Tests.{bytes_equal, right}
 use Rattle.ygg_eval.specs.Kept.{Kept}
 use Rattle.ygg_replay.specs.declared.site.ReplaySite.{ReplaySite}

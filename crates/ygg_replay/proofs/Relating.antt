@@ -3,8 +3,8 @@ use Rattle.std.proofs.Common.{◌≡◌, ℕ, Bool, true, ◌&&◌, List, false,
 use Rattle.ygg_value.specs.declared.row.Value.{Value}
 use Rattle.ygg_sched.specs.ygg_meaning.Shapes.{env_fits}
 use Rattle.ygg_sched.specs.ygg_meaning.Related.{all_true, related, relates, settled, settles, shaped}
-use Rattle.ygg_eval.specs.ygg_eval_block.Layers.{variables_at}
-use Rattle.ygg_eval.specs.ygg_eval_block_proofs_Blocks.{bind_fits}
+use Rattle.ygg_eval.specs.Layers.{variables_at}
+use Rattle.ygg_eval.proofs.Blocks.{bind_fits}
 use Rattle.ygg_replay.specs.declared.site.ReplaySite.{ReplaySite}
 use Rattle.ygg_replay.specs.Sites.{LowFits, StatesFit, closed_in, first_false, low_at, memory_at, vars_at}
 use Rattle.ygg_replay.proofs.Concluding.{both_true}

@@ -5,12 +5,12 @@ use Rattle.ygg_value.specs.declared.row.Value.{Value}
 use Rattle.ygg_syntax.specs.declared.tree.Block.{Block}
 use Rattle.ygg_sched.specs.ygg_disk.declared.power.Power.{Power}
 use Rattle.ygg_sched.specs.ygg_meaning.Shapes.{values_fit}
-use Rattle.ygg_eval.specs.ygg_eval_block.declared.body.Part.{Part}
-use Rattle.ygg_eval.specs.ygg_eval_block.declared.body.Stop.{Stop}
-use Rattle.ygg_eval.specs.ygg_eval_block.Bodies.{IsBlock, block_in}
-use Rattle.ygg_eval.specs.ygg_eval_block.Layers.{variables_at}
-use Rattle.ygg_eval.specs.ygg_eval_block.Lower.{Serves}
-use Rattle.ygg_eval.specs.ygg_eval_block.Runs.{CanServe}
+use Rattle.ygg_eval.specs.declared.body.Part.{Part}
+use Rattle.ygg_eval.specs.declared.body.Stop.{Stop}
+use Rattle.ygg_eval.specs.Bodies.{IsBlock, block_in}
+use Rattle.ygg_eval.specs.Layers.{variables_at}
+use Rattle.ygg_eval.specs.Lower.{Serves}
+use Rattle.ygg_eval.specs.Runs.{CanServe}
 use Rattle.ygg_eval.specs.Kept.{Kept, spec_meaning}
 use Rattle.ygg_replay.specs.declared.site.ReplaySite.{ReplaySite}
 use Rattle.ygg_replay.specs.Sites.{IsHere, IsBelow, LowFits}

@@ -22,8 +22,8 @@ use Rattle.ygg_sched.specs.ygg_meaning.Stack.{tables_of}
 use Rattle.ygg_eval.specs.ygg_meaning_laws_proofs_Parameters.{same_fit}
 use Rattle.ygg_eval.proofs.of_ygg_meaning_laws.Matching.{Matches}
 use Rattle.ygg_eval.specs.ygg_meaning_laws.Places.{Result}
-use Rattle.ygg_eval.specs.ygg_eval_block.Layers.{variables_at, closed_at, below_at, machine_at, signatures_of, signatures_at}
-use Rattle.ygg_eval.specs.ygg_eval_block.Lower.{IsCallable, Called, Fell, Whole, Happened}
+use Rattle.ygg_eval.specs.Layers.{variables_at, closed_at, below_at, machine_at, signatures_of, signatures_at}
+use Rattle.ygg_eval.specs.Lower.{IsCallable, Called, Fell, Whole, Happened}
 use Rattle.ygg_eval.specs.Kept.{Kept, spec_meaning, Loses}
 use Rattle.ygg_eval.specs.Taken.{TakesOnly}
 use Rattle.ygg_eval.proofs.Named.{find_first, typed_operations}

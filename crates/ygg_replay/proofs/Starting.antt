@@ -10,14 +10,14 @@ use Rattle.ygg_sched.specs.ygg_meaning.Shapes.{values_fit}
 use Rattle.ygg_sched.specs.ygg_meaning.Progress.{Answer, Question, Choice, Call, Ends}
 use Rattle.ygg_sched.specs.ygg_meaning.Runs.{Dialogue}
 use Rattle.ygg_sched.specs.ygg_meaning.Spec.{block_outcome}
-use Rattle.ygg_eval.specs.ygg_eval_block.declared.body.Part.TheVariants as part
-use Rattle.ygg_eval.specs.ygg_eval_block.declared.body.Part.{Part}
-use Rattle.ygg_eval.specs.ygg_eval_block.Bodies.{arguments_in, block_in, dialogue_in, variables_in, IsRunnable}
-use Rattle.ygg_eval.specs.ygg_eval_block.Conversations.{Exchange, Exchanged, Talks, asked, answers_of}
-use Rattle.ygg_eval.specs.ygg_eval_block.Lower.{Standing}
-use Rattle.ygg_eval.specs.ygg_eval_block.declared.run.Ended.{Ended}
-use Rattle.ygg_eval.specs.ygg_eval_block.declared.run.Ended.TheVariants as ended
-use Rattle.ygg_eval.specs.ygg_eval_block.Runs.{Finished, RunEnds}
+use Rattle.ygg_eval.specs.declared.body.Part.TheVariants as part
+use Rattle.ygg_eval.specs.declared.body.Part.{Part}
+use Rattle.ygg_eval.specs.Bodies.{arguments_in, block_in, dialogue_in, variables_in, IsRunnable}
+use Rattle.ygg_eval.specs.Conversations.{Exchange, Exchanged, Talks, asked, answers_of}
+use Rattle.ygg_eval.specs.Lower.{Standing}
+use Rattle.ygg_eval.specs.declared.run.Ended.{Ended}
+use Rattle.ygg_eval.specs.declared.run.Ended.TheVariants as ended
+use Rattle.ygg_eval.specs.Runs.{Finished, RunEnds}
 use Rattle.ygg_eval.specs.Kept.{Kept, spec_meaning}
 use Rattle.ygg_eval.proofs.Runs.{ended_outcome}
 use Rattle.ygg_eval.proofs.Values.{bind_count}
@@ -28,7 +28,7 @@ use Rattle.ygg_eval.specs.Zeros.{zero_values}
 use Rattle.ygg_replay.proofs.Typing.{bind_zeros, memory_zeros}
 use Rattle.ygg_syntax.specs.declared.tree.File.{File}
 use Rattle.ygg_eval.specs.ygg_meaning_laws.Questions.{question_fits}
-use Rattle.ygg_eval.specs.ygg_eval_block.Layers.{signatures_at}
+use Rattle.ygg_eval.specs.Layers.{signatures_at}
 
 -- a plain block asks for nothing
 silent : (file : File) (number : ℕ) (block : Dialogue) (from to : Standing Kept) (xs : List (Exchange Kept)) (env : Env) (answer : Answer) →

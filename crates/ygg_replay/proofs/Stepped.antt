@@ -21,10 +21,10 @@ use Rattle.ygg_sched.specs.ygg_meaning.Obligations.{call_picks, crash_picks, fal
 use Rattle.ygg_sched.specs.ygg_meaning.Spec.{Outcome, chosen, call_outcome, crash_outcome, fall_with, fall_outcome}
 use Rattle.ygg_eval.specs.ygg_meaning_laws.Kinds.{keeps}
 use Rattle.ygg_eval.proofs.of_ygg_meaning_laws.Matching.{block_matches, fall_on_crash, fall_maybe}
-use Rattle.ygg_eval.specs.ygg_eval_block.declared.body.Part.TheVariants as part
+use Rattle.ygg_eval.specs.declared.body.Part.TheVariants as part
 use Rattle.ygg_eval.specs.Kept.{Kept, IsKept}
 use Rattle.ygg_eval.proofs.OnSpec.{layer_fits}
-use Rattle.ygg_eval.specs.ygg_eval_block.Layers.{variables_at}
+use Rattle.ygg_eval.specs.Layers.{variables_at}
 use Rattle.ygg_replay.specs.declared.site.ReplaySite.{ReplaySite}
 use Rattle.ygg_replay.specs.Runs.{fresh}
 use Rattle.ygg_replay.specs.Sites.{IsHere, closed_in, vars_at, VarsFit}

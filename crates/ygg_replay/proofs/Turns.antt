@@ -8,13 +8,13 @@ use Rattle.ygg_sched.specs.ygg_meaning.Progress.{Question, Choice, Call, Answer,
 use Rattle.ygg_sched.specs.ygg_meaning.Machine.{Picks, State, based}
 use Rattle.ygg_sched.specs.ygg_meaning.Runs.{Dialogue, WholeCall, Reaches, FallenRun, notes_of}
 use Rattle.ygg_sched.specs.ygg_meaning.Runs as runs
-use Rattle.ygg_eval.specs.ygg_eval_block.declared.body.Stop.{Stop}
-use Rattle.ygg_eval.specs.ygg_eval_block.Lower.{Standing, Happened}
-use Rattle.ygg_eval.specs.ygg_eval_block.Lower as ending
-use Rattle.ygg_eval.specs.ygg_eval_block.Layers.{signatures_at, machine_at}
-use Rattle.ygg_eval.specs.ygg_eval_block.Conversations.{Exchange, Exchanged, Answered, Talks, asked, answers_of, one_call, calls_in}
-use Rattle.ygg_eval.specs.ygg_eval_block.Runs.{Came, StoppedAt}
-use Rattle.ygg_eval.specs.ygg_eval_block.Runs as block_runs
+use Rattle.ygg_eval.specs.declared.body.Stop.{Stop}
+use Rattle.ygg_eval.specs.Lower.{Standing, Happened}
+use Rattle.ygg_eval.specs.Lower as ending
+use Rattle.ygg_eval.specs.Layers.{signatures_at, machine_at}
+use Rattle.ygg_eval.specs.Conversations.{Exchange, Exchanged, Answered, Talks, asked, answers_of, one_call, calls_in}
+use Rattle.ygg_eval.specs.Runs.{Came, StoppedAt}
+use Rattle.ygg_eval.specs.Runs as block_runs
 use Rattle.ygg_eval.specs.Taken.{TakesOnly}
 use Rattle.ygg_eval.specs.Kept.{Kept, spec_meaning, named_in}
 use Rattle.ygg_eval.specs.Keeping.{takes_both}

@@ -7,7 +7,7 @@ use Rattle.ygg_sched.specs.ygg_meaning.Machine.{State, based, on}
 use Rattle.ygg_sched.specs.ygg_meaning.Layer.{BlockRuns}
 use Rattle.ygg_sched.specs.ygg_meaning.Obligations.{Again}
 use Rattle.ygg_sched.specs.ygg_meaning.Violates.{CutShort, FallsSo, RecoveredTwice, same_state}
-use Rattle.ygg_eval.specs.ygg_eval_block.Layers.{variables_at}
+use Rattle.ygg_eval.specs.Layers.{variables_at}
 use Rattle.ygg_replay.specs.declared.site.ReplaySite.{ReplaySite}
 use Rattle.ygg_sched.specs.declared.schedule.Schedule.{Schedule}
 use Rattle.ygg_replay.specs.declared.ends.End.{End}

@@ -8,7 +8,7 @@ use Rattle.ygg_syntax.specs.declared.tree.Declared.{Declared}
 use Rattle.ygg_syntax.specs.declared.tree.Layer.{Layer}
 use Rattle.ygg_syntax.specs.declared.tree.File.{File}
 use Rattle.ygg_syntax.specs.Files.{IsDerivable}
-use Rattle.ygg_sched.specs.ygg_syntax_count.Weights.{weights_of}
+use Rattle.ygg_sched.specs.ygg_syntax.Weights.{weights_of}
 use Rattle.ygg_sched.specs.ygg_type_rules.TypeErrors.{none}
 use Rattle.ygg_sched.specs.ygg_type_rules.Definitions.{with_definitions}
 use Rattle.ygg_sched.specs.ygg_type_rules.Files.{type_errors_of}
@@ -21,9 +21,9 @@ use Rattle.ygg_eval.specs.ygg_meaning_laws.Kinds.{keeps, layer_keeps}
 use Rattle.ygg_eval.proofs.of_ygg_meaning_laws.Derived.{derivable_derived}
 use Rattle.ygg_eval.specs.ygg_meaning_laws_proofs_Typed.{parts}
 use Rattle.ygg_eval.proofs.of_ygg_meaning_laws.Views.{AllTyped, LayerVariables, zeros_fit}
-use Rattle.ygg_eval.specs.ygg_eval_block.declared.body.Body.{Body}
-use Rattle.ygg_eval.specs.ygg_eval_block.Bodies.{kind_of, IsBlock}
-use Rattle.ygg_eval.specs.ygg_eval_block_proofs_Blocks.{blocks_kept, block_typing, layer_typing}
+use Rattle.ygg_eval.specs.declared.body.Body.{Body}
+use Rattle.ygg_eval.specs.Bodies.{kind_of, IsBlock}
+use Rattle.ygg_eval.proofs.Blocks.{blocks_kept, block_typing, layer_typing}
 use Rattle.ygg_eval.proofs.Values.{bound_fits}
 use Rattle.ygg_eval.specs.Zeros.{AreShapes, zero_values}
 

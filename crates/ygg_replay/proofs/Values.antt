@@ -16,7 +16,7 @@ use Rattle.ygg_replay.specs.ygg_type_rules.Shapes.{shape_of}
 use Rattle.ygg_replay.specs.ygg_meaning.Obligations.{Obligation, Init, CallOf, CutOf, TickOf, CutTickOf, Idle, Again}
 use Rattle.ygg_replay.specs.ygg_meaning.Shapes.{fits, shape_in, values_fit}
 use Rattle.ygg_replay.specs.ygg_meaning_laws_proofs_Fits.{value_fits}
-use Rattle.ygg_replay.specs.ygg_eval_block.Layers.{variables_at}
+use Rattle.ygg_replay.specs.ygg_eval.Layers.{variables_at}
 use Rattle.ygg_replay.specs.ygg_sched.declared.schedule.Schedule.{Schedule}
 use Rattle.ygg_replay.specs.ygg_sched.Fitting.{IsOfType, AreOfTypes, IsAt}
 use Rattle.ygg_replay.proofs.of_ygg_sched.Shaped.{chosen}

@@ -9,8 +9,8 @@ use Rattle.ygg_sched.specs.ygg_meaning.Obligations.{Obligation}
 use Rattle.ygg_sched.specs.ygg_meaning.Violates.{Reached, FallsSo, Recovers, CutShort}
 use Rattle.ygg_sched.specs.ygg_meaning.Violates as violates
 use Rattle.ygg_sched.specs.ygg_meaning.Replayed.{has_stop}
-use Rattle.ygg_eval.specs.ygg_eval_block.declared.body.Part.{Part}
-use Rattle.ygg_eval.specs.ygg_eval_block.Bodies.{arguments_in}
+use Rattle.ygg_eval.specs.declared.body.Part.{Part}
+use Rattle.ygg_eval.specs.Bodies.{arguments_in}
 use Rattle.ygg_eval.specs.Kept.{Kept}
 use Rattle.ygg_replay.specs.declared.site.ReplaySite.{ReplaySite}
 use Rattle.ygg_sched.specs.declared.schedule.Schedule.{Schedule}

@@ -1,4 +1,4 @@
-pub use Rattle.ygg_eval.specs.ygg_eval_block
+pub use Rattle.ygg_eval.specs as ygg_eval
 pub use Rattle.ygg_sched.specs.ygg_meaning
 pub use Rattle.ygg_sched.specs.ygg_report
 pub use Rattle.ygg_sched.specs as ygg_sched

@@ -8,8 +8,8 @@ use Rattle.ygg_sched.specs.ygg_meaning.Progress.{Answer}
 use Rattle.ygg_sched.specs.ygg_meaning.Machine.{Picks, State, based}
 use Rattle.ygg_sched.specs.ygg_meaning.Layer.{BlockRuns, BlockFalls}
 use Rattle.ygg_sched.specs.ygg_meaning.Obligations.{Halt, IsRead}
-use Rattle.ygg_eval.specs.ygg_eval_block.declared.body.Part.{Part}
-use Rattle.ygg_eval.specs.ygg_eval_block.Bodies.{block_in, arguments_in}
+use Rattle.ygg_eval.specs.declared.body.Part.{Part}
+use Rattle.ygg_eval.specs.Bodies.{block_in, arguments_in}
 use Rattle.ygg_replay.specs.declared.site.ReplaySite.{ReplaySite}
 use Rattle.ygg_replay.specs.Sites.{closed_in, machine_in, state_at}
 

@@ -10,7 +10,7 @@ use Rattle.ygg_sched.specs.ygg_meaning.Obligations.{Obligation, Init, CallOf, Cu
 use Rattle.ygg_sched.specs.ygg_meaning.Obligations as obligations
 use Rattle.ygg_sched.specs.ygg_meaning.Replayed.{Shows, Hypothesis, Passes, Replays}
 use Rattle.ygg_sched.specs.ygg_meaning.Replayed as replayed
-use Rattle.ygg_eval.specs.ygg_eval_block.Layers.{variables_at, closed_at, machine_at}
+use Rattle.ygg_eval.specs.Layers.{variables_at, closed_at, machine_at}
 use Rattle.ygg_sched.specs.declared.case.Case.{Case}
 use Rattle.ygg_sched.specs.declared.schedule.Halt.{Halt}
 use Rattle.ygg_sched.specs.declared.schedule.Schedule.{Schedule}

@@ -7,7 +7,7 @@ use Rattle.ygg_sched.specs.ygg_meaning.Environments.{Env, bind}
 use Rattle.ygg_sched.specs.ygg_meaning.Shapes.{values_fit}
 use Rattle.ygg_sched.specs.ygg_meaning.Machine.{State, based, on, Machine}
 use Rattle.ygg_sched.specs.ygg_meaning.Layer.{ClosedLayer}
-use Rattle.ygg_eval.specs.ygg_eval_block.Layers.{variables_at, closed_at, machine_at}
+use Rattle.ygg_eval.specs.Layers.{variables_at, closed_at, machine_at}
 use Rattle.ygg_eval.specs.Kept.{Kept, IsKept}
 use Rattle.ygg_replay.specs.declared.site.ReplaySite.{ReplaySite}
 

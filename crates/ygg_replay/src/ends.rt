@@ -9,7 +9,7 @@ ghost use Rattle.ygg_sched.specs.ygg_meaning.Violates.{FallsSo, Formatted, RanWh
 ghost use Rattle.ygg_sched.specs.ygg_meaning.Shapes.{shape_in};
 ghost use Rattle.ygg_sched.specs.ygg_meaning.Stack.{table_named, tables_of};
 ghost use Rattle.ygg_value.specs.Shapes.{zero_of};
-ghost use Rattle.ygg_eval.specs.ygg_eval_block.Bodies.{IsRunnable, block_in, kind_of};
+ghost use Rattle.ygg_eval.specs.Bodies.{IsRunnable, block_in, kind_of};
 ghost use Rattle.ygg_replay.specs.Ends.{
   EndFits,
   FellAndRecovered,

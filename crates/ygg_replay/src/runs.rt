@@ -2,7 +2,7 @@
 
 ghost use Rattle.std.specs.Prelude.{◌≡◌, IfOk, IsTrue, OnOk};
 ghost use Rattle.ygg_syntax.specs.declared.grammar.BlockKind.TheVariants as kind;
-ghost use Rattle.ygg_eval.specs.ygg_eval_block.Bodies.{IsRunnable, kind_of};
+ghost use Rattle.ygg_eval.specs.Bodies.{IsRunnable, kind_of};
 ghost use Rattle.ygg_replay.specs.Runs.{LostBy, PartCut, PartRan, fresh};
 ghost use Rattle.ygg_sched.specs.Fitting.{halt_meant};
 ghost use Rattle.ygg_replay.specs.Sites.{IsBelow, IsHere, MemoryFits, low_at};

@@ -2,7 +2,7 @@
 
 ghost use Rattle.std.specs.Prelude.{◌≡◌, ◌<◌, [], IfOk};
 ghost use Rattle.ygg_syntax.specs.Choices.{choices_of};
-ghost use Rattle.ygg_sched.specs.ygg_syntax_count.Budget.{limit};
+ghost use Rattle.ygg_sched.specs.ygg_syntax.Budget.{limit};
 ghost use Rattle.ygg_sched.specs.ygg_meaning.Obligations.{Obligation, fall_picks};
 ghost use Rattle.ygg_sched.specs.ygg_meaning.Violates.{most};
 ghost use Rattle.ygg_replay.specs.Passing.{CanConclude, IsOf, passing};

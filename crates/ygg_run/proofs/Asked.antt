@@ -18,8 +18,8 @@ use Rattle.ygg_machine.specs.ygg_type.Typed.{operations_at}
 use Rattle.ygg_machine.specs.ygg_meaning.Environments.{Name}
 use Rattle.ygg_machine.specs.ygg_meaning_laws.Fitting.{fits_wanted, all_fit}
 use Rattle.ygg_machine.specs.ygg_meaning_laws_proofs_Fits.{value_fits}
-use Rattle.ygg_machine.specs.ygg_eval_block.Layers.{signatures_at, signatures_of}
-use Rattle.ygg_machine.specs.ygg_eval_block.Lower.{IsCallable}
+use Rattle.ygg_machine.specs.ygg_eval.Layers.{signatures_at, signatures_of}
+use Rattle.ygg_machine.specs.ygg_eval.Lower.{IsCallable}
 use Rattle.ygg_run_play.specs.ygg_sched.Fitting.{AreOfTypes}
 use Rattle.ygg_run_play.specs.ygg_script.Places.{top_operations}
 use Rattle.ygg_run_play.specs.ygg_script.Fitting.{IsCallOf, IsTickOf}

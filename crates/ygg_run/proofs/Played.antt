@@ -17,8 +17,8 @@ use Rattle.ygg_run_play.specs.ygg_meaning.Mirror.{SameOn, FormattedIf, Mirrors}
 use Rattle.ygg_run_play.specs.ygg_meaning.Noted.{Note}
 use Rattle.ygg_run_play.specs.ygg_meaning.Grounds.{TellsBase, TellsZeros}
 use Rattle.ygg_run_play.specs.ygg_meaning.Trace.{Up, Down, Leads}
-use Rattle.ygg_machine.specs.ygg_eval_block.Lower.{PowerLoss, Ending, Whole, Failed}
-use Rattle.ygg_machine.specs.ygg_eval_block.Lower as ending
+use Rattle.ygg_machine.specs.ygg_eval.Lower.{PowerLoss, Ending, Whole, Failed}
+use Rattle.ygg_machine.specs.ygg_eval.Lower as ending
 use Rattle.ygg_machine.specs.Bottoms.{bottom_on, View, ViewStands, ViewRuns, ViewEnds, ViewLoses, StillLooks, state_seen, formats}
 use Rattle.ygg_machine.specs.Commands.{Command}
 use Rattle.ygg_machine.specs.Commands as command

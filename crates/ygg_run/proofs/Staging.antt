@@ -5,7 +5,7 @@ use Rattle.ygg_machine.specs.ygg_disk.declared.power.Power.{Power}
 use Rattle.ygg_machine.specs.ygg_disk.declared.turn.Turn.{Turn}
 use Rattle.ygg_machine.specs.ygg_disk.declared.turn.Turn.TheVariants as turn
 use Rattle.ygg_run_play.specs.ygg_meaning.Noted.{Note}
-use Rattle.ygg_machine.specs.ygg_eval_block.Lower.{Ending, Failed, AfterWhole, ending_of}
+use Rattle.ygg_machine.specs.ygg_eval.Lower.{Ending, Failed, AfterWhole, ending_of}
 use Rattle.ygg_machine.specs.Bottoms.{View, ViewStands, ViewRuns, ViewEnds, StillLooks, LosesAll, formats}
 use Rattle.ygg_machine.specs.Commands.{Command}
 use Rattle.ygg_machine.specs.Floors.{Raised}

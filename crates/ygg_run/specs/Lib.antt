@@ -1,5 +1,5 @@
 pub use Rattle.ygg_machine.specs.ygg_disk
-pub use Rattle.ygg_machine.specs.ygg_eval_block
+pub use Rattle.ygg_machine.specs.ygg_eval
 pub use Rattle.ygg_run_play.specs.ygg_meaning_proofs_Mirrored
 pub use Rattle.ygg_run_play.specs.ygg_meaning
 pub use Rattle.ygg_machine.specs as ygg_machine

@@ -11,7 +11,7 @@ use Rattle.ygg_machine.specs.ygg_meaning.Machine.{State}
 use Rattle.ygg_machine.specs.ygg_meaning.DiskMachine.{tables_in}
 use Rattle.ygg_run_play.specs.ygg_meaning.Noted.{disk_in}
 use Rattle.ygg_run_play.specs.ygg_meaning.Grounds.{TellsZeros}
-use Rattle.ygg_machine.specs.ygg_eval_block.Lower.{Ending, Whole, Down}
+use Rattle.ygg_machine.specs.ygg_eval.Lower.{Ending, Whole, Down}
 use Rattle.ygg_machine.specs.Grounded.{HasRows}
 use Rattle.ygg_machine.specs.Bottoms.{View, ViewStands, ViewRuns, memories_of}
 use Rattle.ygg_run_play.specs.declared.scene.CommandOutcome.{CommandOutcome}

@@ -1,7 +1,7 @@
 //! Layers as a scene.
 
 ghost use Rattle.std.specs.Prelude.{◌≡◌, ◌≢◌, Ok};
-ghost use Rattle.ygg_machine.specs.ygg_eval_block.Lower.{Failed, ending_of};
+ghost use Rattle.ygg_machine.specs.ygg_eval.Lower.{Failed, ending_of};
 ghost use Rattle.ygg_run.specs.TowerPlaying.{ending_in};
 
 use crate::playable::Playable;

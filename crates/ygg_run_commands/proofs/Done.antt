@@ -12,7 +12,7 @@ use Rattle.ygg_run.specs.ygg_meaning.Mirror.{SameOn, FormattedIf, Mirrors}
 use Rattle.ygg_run.specs.ygg_meaning.Noted.{Note}
 use Rattle.ygg_run.specs.ygg_meaning.StepLaws.{Same}
 use Rattle.ygg_run.specs.ygg_meaning.History.{Called, Ticked, Step}
-use Rattle.ygg_run.specs.ygg_eval_block.Lower.{Cause, GivenUp, Ending, Whole, Down, Failed, Starved, AfterWhole}
+use Rattle.ygg_run.specs.ygg_eval.Lower.{Cause, GivenUp, Ending, Whole, Down, Failed, Starved, AfterWhole}
 use Rattle.ygg_run.specs.ygg_machine.Bottoms.{bottom_on, View, ViewRuns, ViewEnds, StillLooks, state_seen}
 use Rattle.ygg_run.specs.ygg_machine.Commands.{Stopped}
 use Rattle.ygg_run.specs.ygg_machine.Commands as command

@@ -11,7 +11,7 @@ use Rattle.ygg_run.specs.ygg_meaning.History.{Entry, Step, Steps}
 use Rattle.ygg_run.specs.ygg_meaning.StepLaws.{Same, LeftGoesOn}
 use Rattle.ygg_run.specs.ygg_meaning.Grounds.{OnGround, TellsBase, TellsZeros, Tells, ArePicks}
 use Rattle.ygg_run.proofs.of_ygg_meaning.Stores.{told_steps}
-use Rattle.ygg_run.specs.ygg_eval_block.Lower.{PowerLoss}
+use Rattle.ygg_run.specs.ygg_eval.Lower.{PowerLoss}
 use Rattle.ygg_run.specs.ygg_machine.Told.{SameNotes}
 use Rattle.ygg_run.specs.ygg_script.declared.command.Command.{Command}
 use Rattle.ygg_run.specs.ygg_script.declared.command.Command.TheVariants.{Call, Tick, Lost, Fail, Keep}

@@ -12,7 +12,7 @@ use Rattle.ygg_run.specs.ygg_meaning.Machine.{Machine}
 use Rattle.ygg_run.specs.ygg_meaning.History.{Entry}
 use Rattle.ygg_run.specs.ygg_meaning.Noted.{Note}
 use Rattle.ygg_run.proofs.of_ygg_meaning.Resumed.{steps_append}
-use Rattle.ygg_run.specs.ygg_eval_block.Lower.{Cause}
+use Rattle.ygg_run.specs.ygg_eval.Lower.{Cause}
 use Rattle.ygg_run.specs.ygg_machine.Bottoms.{View, state_seen}
 use Rattle.ygg_run.specs.ygg_report.Lines.{ended}
 use Rattle.ygg_run.specs.ygg_report.Putting.{Adds, IsFront}

@@ -13,7 +13,7 @@ use Rattle.ygg_run.specs.ygg_meaning.StepLaws.{Same}
 use Rattle.ygg_run.specs.ygg_meaning.Grounds.{ground_store, OnGround}
 use Rattle.ygg_run.specs.ygg_meaning_proofs_Mirrored.{stacked_mirrors}
 use Rattle.ygg_run.proofs.of_ygg_meaning.Stores.{StoreMirrors, machine_mirrors}
-use Rattle.ygg_run.specs.ygg_eval_block.Lower.{Cause, PowerLoss, GivenUp}
+use Rattle.ygg_run.specs.ygg_eval.Lower.{Cause, PowerLoss, GivenUp}
 use Rattle.ygg_run.specs.ygg_machine.GroundSteps.{ground_steps, ground_machine, ground_calls}
 use Rattle.ygg_run.specs.ygg_machine.Bottoms.{bottom_on}
 use Rattle.ygg_run.specs.ygg_machine.Told.{SameNotes}

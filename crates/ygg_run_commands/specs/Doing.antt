@@ -6,7 +6,7 @@ use Rattle.ygg_run.specs.ygg_disk.Ground.{Meaning}
 use Rattle.ygg_run.specs.ygg_meaning.Progress.{Answer}
 use Rattle.ygg_run.specs.ygg_meaning.History.{Entry, Step}
 use Rattle.ygg_run.specs.ygg_meaning.Noted.{Note}
-use Rattle.ygg_run.specs.ygg_eval_block.Lower.{Cause, Ending, Whole, Down, Failed, Starved}
+use Rattle.ygg_run.specs.ygg_eval.Lower.{Cause, Ending, Whole, Down, Failed, Starved}
 use Rattle.ygg_run.specs.ygg_machine.Bottoms.{View, ViewStands, ViewRuns, state_seen}
 use Rattle.ygg_run.specs.ygg_report.Lines.{ended}
 use Rattle.ygg_run.specs.ygg_report.Putting.{Adds, IsFront}

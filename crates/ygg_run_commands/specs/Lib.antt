@@ -1,5 +1,5 @@
 pub use Rattle.ygg_run.specs.ygg_disk
-pub use Rattle.ygg_run.specs.ygg_eval_block
+pub use Rattle.ygg_run.specs.ygg_eval
 pub use Rattle.ygg_run.specs.ygg_meaning_proofs_Mirrored
 pub use Rattle.ygg_run.specs.ygg_meaning
 pub use Rattle.ygg_run.specs.ygg_machine

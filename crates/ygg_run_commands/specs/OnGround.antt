@@ -5,7 +5,7 @@ use Rattle.ygg_run.specs.ygg_meaning.Machine.{Machine}
 use Rattle.ygg_run.specs.ygg_meaning.DiskMachine.{machine_on}
 use Rattle.ygg_run.specs.ygg_meaning.Stack.{Stacked, layers_of}
 use Rattle.ygg_run.specs.ygg_meaning.Noted.{Note}
-use Rattle.ygg_run.specs.ygg_eval_block.Lower.{Cause}
+use Rattle.ygg_run.specs.ygg_eval.Lower.{Cause}
 use Rattle.ygg_run.specs.ygg_machine.GroundSteps.{ground_calls}
 
 -- By the cause a fall is what power loss leaves, or what is done of a step that is given up: its first disk calls, all of them whole but at most the last.

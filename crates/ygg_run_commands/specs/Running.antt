@@ -3,7 +3,7 @@ use Rattle.std.specs.Prelude.{◌≡◌, ◌⊎◌, ℕ, List, [], ◌∷◌, �
 use Rattle.ygg_syntax.specs.declared.tree.File.{File}
 use Rattle.ygg_run.specs.ygg_meaning.Machine.{State, Machine}
 use Rattle.ygg_run.specs.ygg_meaning.History.{Entry, Steps}
-use Rattle.ygg_run.specs.ygg_eval_block.Lower.{Cause, GivenUp}
+use Rattle.ygg_run.specs.ygg_eval.Lower.{Cause, GivenUp}
 use Rattle.ygg_run.specs.ygg_report.Putting.{Adds, IsFront}
 use Rattle.ygg_run.specs.ygg_script.declared.command.Command.{Command}
 use Rattle.ygg_run.specs.ygg_script.declared.command.Command.TheVariants.{Call, Tick, Lost, Fail, Keep}

@@ -1,7 +1,7 @@
 //! The layers are woken, and do what one command says.
 
 ghost use Rattle.std.specs.Prelude.{◌≡◌, ◌≢◌, true, None};
-ghost use Rattle.ygg_run.specs.ygg_eval_block.Lower.{Down, ending_of};
+ghost use Rattle.ygg_run.specs.ygg_eval.Lower.{Down, ending_of};
 ghost use Rattle.ygg_run.specs.ygg_machine.Viewed.{floor_seen};
 ghost use Rattle.ygg_run.specs.ygg_script.Fitting.{IsCallOf, IsTickOf, IsCommandOf};
 ghost use Rattle.ygg_run.specs.ygg_script.Plain.{is_plain};

@@ -4,8 +4,8 @@ use Rattle.std.proofs.Common.{None, Result, Ok, Err, OnOk, IfSome, ap, ◌∙◌
 use Rattle.std.proofs.Math.Nat.{le-max_left, min-eq_left}
 use Rattle.std.proofs.lemmas.Nat.{div-mul-add}
 use Rattle.ygg_base.specs.declared.geometry.Geometry.{Geometry}
-use Rattle.ygg_base_device.specs.declared.device.Attach.TheVariants as attach
-use Rattle.ygg_base_device.specs.Devices.{Attachment, Image, FitsImage, blocks_in, image_of}
+use Rattle.ygg_base.specs.declared.device.Attach.TheVariants as attach
+use Rattle.ygg_base.specs.Devices.{Attachment, Image, FitsImage, blocks_in, image_of}
 use Rattle.ygg_value.specs.Shapes.{IsShape}
 use Rattle.ygg_disk.specs.Size.{table_shape}
 use Rattle.ygg_run_image.specs.Image.{block_bytes, image_bytes}

@@ -4,7 +4,7 @@ use Rattle.std.proofs.Math.Nat.{zero-mul, suc-mul, mul-le-mul_right}
 use Rattle.std.proofs.Math.Seq.{take-add}
 use Rattle.std.proofs.lemmas.List.{append_assoc, drop-drop, drop_at, length-append, length-drop, length-take-le}
 use Rattle.std.specs.Simd.{first_chunks}
-use Rattle.ygg_base_device.specs.Devices.{block_at, with_block}
+use Rattle.ygg_base.specs.Devices.{block_at, with_block}
 use Rattle.ygg_value.proofs.Rows.{get_or-first_chunks, first_chunks-write}
 
 module _ (size count : ℕ) (bytes : List ℕ) (long : length bytes ≡ (count + 1) * size) where

@@ -4,7 +4,7 @@ use Rattle.ygg_syntax.specs.declared.tree.File.{File}
 use Rattle.ygg_run_image.specs.ygg_disk.Ground.{Meaning}
 use Rattle.ygg_run_image.specs.ygg_disk.declared.power.Fuse.{Fuse}
 use Rattle.ygg_run_image.specs.ygg_disk.declared.power.Power.{Power}
-use Rattle.ygg_run_image.specs.ygg_eval_block.Lower.{PowerLoss, GivenUp, Ending, Whole, Down, Failed, Starved}
+use Rattle.ygg_run_image.specs.ygg_eval.Lower.{PowerLoss, GivenUp, Ending, Whole, Down, Failed, Starved}
 use Rattle.ygg_run_image.specs.ygg_machine.Bottoms.{bottom_on, FormatFalls, View, ViewEnds, formats, state_seen}
 use Rattle.ygg_run_image.specs.declared.end.FormatEnd.{FormatEnd}
 use Rattle.ygg_run_image.specs.Formatting.{end_of, FormatsSo, Formats}

@@ -3,8 +3,8 @@ use Rattle.std.proofs.Common.{◌≡◌, ◌⊎◌, ℕ, ◌+◌, ◌*◌, ◌�
 use Rattle.std.proofs.Math.Nat.{suc-mul}
 use Rattle.std.proofs.lemmas.List.{take-replicate}
 use Rattle.ygg_base.specs.declared.geometry.Geometry.{Geometry}
-use Rattle.ygg_run_image.specs.ygg_base_device.Devices.{AttachedTurns, Attachment, Image, IsCreated, Tells, image_of, zeros}
-use Rattle.ygg_run_image.specs.ygg_base_device.declared.device.Made.TheVariants as made
+use Rattle.ygg_run_image.specs.ygg_base.Devices.{AttachedTurns, Attachment, Image, IsCreated, Tells, image_of, zeros}
+use Rattle.ygg_run_image.specs.ygg_base.declared.device.Made.TheVariants as made
 use Rattle.ygg_value.specs.Shapes.{IsShape}
 use Rattle.ygg_run_image.specs.ygg_disk.Size.{table_shape}
 use Rattle.ygg_syntax.specs.declared.tree.File.{File}

@@ -1,7 +1,7 @@
 -- What is left of an image that was to be formatted.
 use Rattle.std.proofs.Common.{◌≡◌, ◌⊎◌, ℕ, List, Option, Some, None, IfSome, inl, inr, ◌∙◌, subst}
 use Rattle.ygg_base.specs.declared.outside.Moved.TheVariants.{Done, Failed}
-use Rattle.ygg_run_image.specs.ygg_base_device.Devices.{AttachedTurns, Attachment, Image, OthersStay, Tells, image_of}
+use Rattle.ygg_run_image.specs.ygg_base.Devices.{AttachedTurns, Attachment, Image, OthersStay, Tells, image_of}
 use Rattle.ygg_syntax.specs.declared.tree.File.{File}
 use Rattle.ygg_run_image.specs.ygg_type.Typed.{geometry_of}
 use Rattle.ygg_run_image.specs.Image.{rows_in}

@@ -4,7 +4,7 @@ use Rattle.std.specs.Option.{option_map}
 use Rattle.ygg_base.specs.declared.geometry.DiskKind.{DiskKind}
 use Rattle.ygg_base.specs.declared.geometry.DiskKind.TheVariants as kind
 use Rattle.ygg_base.specs.declared.geometry.Geometry.{Geometry}
-use Rattle.ygg_run_image.specs.ygg_base_device.Devices.{AttachedTurns, Attachment, Image, Tells}
+use Rattle.ygg_run_image.specs.ygg_base.Devices.{AttachedTurns, Attachment, Image, Tells}
 use Rattle.ygg_value.specs.Number.{Grid}
 use Rattle.ygg_value.specs.Shapes.{IsShape}
 use Rattle.ygg_value.specs.declared.row.Value.TheVariants.{Table}
@@ -17,7 +17,7 @@ use Rattle.std.specs.Prelude.{codes}
 use Rattle.ygg_run_image.specs.ygg_meaning.Environments.{look_up}
 use Rattle.ygg_run_image.specs.ygg_meaning.Noted.{disk_in}
 use Rattle.ygg_run_image.specs.ygg_meaning.Grounds.{TellsZeros}
-use Rattle.ygg_run_image.specs.ygg_eval_block.Lower.{Cause, PowerLoss, GivenUp}
+use Rattle.ygg_run_image.specs.ygg_eval.Lower.{Cause, PowerLoss, GivenUp}
 use Rattle.ygg_run_image.specs.ygg_machine.GroundSteps.{ground_machine}
 use Rattle.ygg_run_image.proofs.of_ygg_machine.Noting.{stacks_tell}
 use Rattle.ygg_run_image.specs.Image.{rows_in}

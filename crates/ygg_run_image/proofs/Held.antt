@@ -6,7 +6,7 @@ use Rattle.std.proofs.Props.{props}
 use Rattle.std.specs.Coded.{Coded-set, coded_list, coded_ℕ}
 use Rattle.std.specs.Prelude.{IfSome}
 use Rattle.ygg_base.specs.declared.geometry.Geometry.{Geometry}
-use Rattle.ygg_base_device.specs.Devices.{Image, Attachment, image_of, IsAttached, IsBlock}
+use Rattle.ygg_base.specs.Devices.{Image, Attachment, image_of, IsAttached, IsBlock}
 use Rattle.ygg_value.specs.Shapes.{IsShape}
 use Rattle.ygg_disk.specs.Size.{table_shape}
 use Rattle.ygg_run_image.specs.Image.{block_bytes}

@@ -2,7 +2,7 @@
 use Rattle.std.proofs.Common.{◌≡◌, ℕ, ◌+◌, ◌<◌, List, Option, None, Result, Ok, Err, sym, ◌∙◌, subst}
 use Rattle.std.specs.Prelude.{IsErrAnd}
 use Rattle.ygg_base.specs.declared.geometry.Geometry.{Geometry}
-use Rattle.ygg_base_device.specs.Devices.{Attachment, Image, block_at}
+use Rattle.ygg_base.specs.Devices.{Attachment, Image, block_at}
 use Rattle.ygg_run_image.specs.Image.{block_bytes}
 use Rattle.ygg_run_image.specs.Judged.{IsHeaderJudged, IsJudged}
 use Rattle.ygg_run_image.specs.declared.reason.ImageReason.{ImageReason}

@@ -9,7 +9,7 @@ use Rattle.ygg_base.specs.declared.geometry.DiskKind.TheVariants.{Sync, Async}
 use Rattle.ygg_base.specs.declared.geometry.Geometry.{Geometry}
 use Rattle.ygg_base.specs.declared.outside.Moved.{Moved}
 use Rattle.ygg_base.specs.declared.outside.Moved.TheVariants.{Done, Failed}
-use Rattle.ygg_base_device.specs.Devices.{Image, Attachment, image_of, block_at, with_block, MayHave, Writes, Flushes, Tells, AttachedTurns, ImageTurns}
+use Rattle.ygg_base.specs.Devices.{Image, Attachment, image_of, block_at, with_block, MayHave, Writes, Flushes, Tells, AttachedTurns, ImageTurns}
 use Rattle.ygg_value.specs.Number.{Digits}
 use Rattle.ygg_disk.specs.Disk.{Call, Read, Write, Flush}
 use Rattle.ygg_run_image.specs.Image.{block_bytes, row_block}

@@ -6,8 +6,8 @@ use Rattle.ygg_run_image.specs.ygg_disk.Ground.{Meaning}
 use Rattle.ygg_run_image.specs.ygg_meaning.Machine.{State, Machine}
 use Rattle.ygg_run_image.specs.ygg_meaning.Layer.{Layered}
 use Rattle.ygg_run_image.specs.ygg_meaning.Noted.{Note}
-use Rattle.ygg_run_image.specs.ygg_eval_block.Layers.{closed_at}
-use Rattle.ygg_run_image.specs.ygg_eval_block.Lower.{Cause}
+use Rattle.ygg_run_image.specs.ygg_eval.Layers.{closed_at}
+use Rattle.ygg_run_image.specs.ygg_eval.Lower.{Cause}
 use Rattle.ygg_run_image.specs.ygg_machine.GroundSteps.{ground_machine}
 use Rattle.ygg_run_image.specs.ygg_machine.Floors.{idle_on}
 use Rattle.ygg_run_image.specs.ygg_machine.Bottoms.{bottom_on, FormatFalls}

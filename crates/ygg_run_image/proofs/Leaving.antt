@@ -6,7 +6,7 @@ use Rattle.ygg_base.specs.declared.geometry.DiskKind.{DiskKind}
 use Rattle.ygg_base.specs.declared.geometry.DiskKind.TheVariants.{Sync, Async}
 use Rattle.ygg_base.specs.declared.geometry.Geometry.{Geometry}
 use Rattle.ygg_base.specs.declared.outside.Moved.TheVariants.{Failed}
-use Rattle.ygg_base_device.specs.Devices.{Image, Attachment, block_at, with_block, MayHave, Writes, Flushes}
+use Rattle.ygg_base.specs.Devices.{Image, Attachment, block_at, with_block, MayHave, Writes, Flushes}
 use Rattle.ygg_value.specs.Number.{Digits}
 use Rattle.ygg_disk.specs.Disk.{Call, Read, Write, Flush}
 use Rattle.ygg_run_image.specs.Image.{block_bytes, row_block}

@@ -7,7 +7,7 @@ use Rattle.std.proofs.lemmas.List.{drop-drop, get_or-take, get_or-replicate, sam
 use Rattle.ygg_base.specs.declared.geometry.Geometry.{Geometry}
 use Rattle.ygg_base.specs.declared.outside.Moved.{Moved}
 use Rattle.ygg_base.specs.declared.outside.Moved.TheVariants.{Done, Failed}
-use Rattle.ygg_run_image.specs.ygg_base_device.Devices.{Image, Attachment, Flushes, MayHave, Writes, block_at, with_block}
+use Rattle.ygg_run_image.specs.ygg_base.Devices.{Image, Attachment, Flushes, MayHave, Writes, block_at, with_block}
 use Rattle.ygg_value.proofs.Rows.{get_or-first_chunks, length-first_chunks, same_from_chunks}
 use Rattle.ygg_run_image.specs.Image.{block_bytes, header, image, rows_in}
 use Rattle.ygg_run_image.specs.Judged.{IsSealed}

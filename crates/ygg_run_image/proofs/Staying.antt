@@ -4,11 +4,11 @@ use Rattle.std.specs.Prelude.{IfSome}
 use Rattle.ygg_base.specs.declared.geometry.Geometry.{Geometry}
 use Rattle.ygg_base.specs.declared.outside.Moved.{Moved}
 use Rattle.ygg_base.specs.declared.outside.Moved.TheVariants.{Done, Failed}
-use Rattle.ygg_base_device.specs.Devices.{Image, Attachment, Tells, AttachedTurns, ImageTurns}
+use Rattle.ygg_base.specs.Devices.{Image, Attachment, Tells, AttachedTurns, ImageTurns}
 use Rattle.ygg_run_image.specs.ygg_disk.Disk.{Call}
 use Rattle.ygg_run_image.specs.ygg_meaning.Machine.{State, based}
 use Rattle.ygg_run_image.specs.ygg_meaning.Stack.{Layers, Stacked}
-use Rattle.ygg_run_image.specs.ygg_eval_block.Lower.{Cause, PowerLoss, GivenUp}
+use Rattle.ygg_run_image.specs.ygg_eval.Lower.{Cause, PowerLoss, GivenUp}
 use Rattle.ygg_run_image.specs.ygg_machine.GroundSteps.{ground_machine}
 use Rattle.ygg_run_image.specs.Image.{block_bytes}
 use Rattle.ygg_run_image.specs.Laws.{AreBlocks}

@@ -10,7 +10,7 @@ use Rattle.ygg_base.specs.declared.geometry.DiskKind.TheVariants.{Sync, Async}
 use Rattle.ygg_base.specs.declared.geometry.Geometry.{Geometry}
 use Rattle.ygg_base.specs.declared.outside.Moved.{Moved}
 use Rattle.ygg_base.specs.declared.outside.Moved.TheVariants.{Done, Failed}
-use Rattle.ygg_base_device.specs.Devices.{Image, Attachment, block_at, with_block, MayHave, Reads, Tells, AttachedTurns}
+use Rattle.ygg_base.specs.Devices.{Image, Attachment, block_at, with_block, MayHave, Reads, Tells, AttachedTurns}
 use Rattle.ygg_value.specs.Number.{Digits, Grid}
 use Rattle.ygg_value.specs.Values.{table_read, table_write}
 use Rattle.ygg_value.proofs.Places.{table_read-get_or, table_read_past, table_write_past}

@@ -1,7 +1,7 @@
 -- What one turn of the attached image after another makes of it.
 use Rattle.std.proofs.Common.{◌≡◌, ◌+◌, List, Option, Some, None, IfSome, refl, sym, ap, ◌∙◌, subst}
 use Rattle.ygg_base.specs.declared.geometry.Geometry.{Geometry}
-use Rattle.ygg_run_image.specs.ygg_base_device.Devices.{Image, Attachment, AttachedTurns, Tells, image_of}
+use Rattle.ygg_run_image.specs.ygg_base.Devices.{Image, Attachment, AttachedTurns, Tells, image_of}
 use Rattle.ygg_run_image.specs.Image.{block_bytes}
 use Rattle.ygg_run_image.specs.Laws.{AreBlocks}
 use Rattle.ygg_run_image.specs.Sight.{Holds, held}

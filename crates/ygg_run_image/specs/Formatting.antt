@@ -5,7 +5,7 @@ use Rattle.ygg_syntax.specs.declared.tree.File.{File}
 use Rattle.ygg_run_image.specs.ygg_disk.Ground.{Meaning}
 use Rattle.ygg_run_image.specs.ygg_meaning.Machine.{State}
 use Rattle.ygg_run_image.specs.ygg_meaning.Noted.{Note}
-use Rattle.ygg_run_image.specs.ygg_eval_block.Lower.{PowerLoss, GivenUp, Ending, Whole, Down, Failed, Starved}
+use Rattle.ygg_run_image.specs.ygg_eval.Lower.{PowerLoss, GivenUp, Ending, Whole, Down, Failed, Starved}
 use Rattle.ygg_run_image.specs.ygg_machine.Bottoms.{bottom_on, FormatFalls}
 use Rattle.ygg_run_image.specs.declared.end.FormatEnd.{FormatEnd}
 use Rattle.ygg_run_image.specs.declared.end.FormatEnd.TheVariants as end

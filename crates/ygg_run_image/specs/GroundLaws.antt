@@ -2,7 +2,7 @@
 use Rattle.std.specs.Prelude.{◌≡◌, ℕ, ◌+◌, nat_lt, if◌then◌else◌, List, ◌⊎◌}
 use Rattle.ygg_base.specs.declared.geometry.Geometry.{Geometry}
 use Rattle.ygg_base.specs.declared.outside.Moved.TheVariants.{Failed}
-use Rattle.ygg_base_device.specs.Devices.{Image, Attachment, block_at, with_block}
+use Rattle.ygg_base.specs.Devices.{Image, Attachment, block_at, with_block}
 use Rattle.ygg_disk.specs.Disk.{Call, Read, Write, Flush}
 use Rattle.ygg_run_image.specs.Image.{block_bytes, row_block}
 use Rattle.ygg_run_image.specs.Turning.{Turned}

@@ -1,6 +1,6 @@
 -- What layers on a disk that a device holds keep of the device.
 use Rattle.ygg_run_image.specs.ygg_meaning.Stack.{Layers, Stacked}
-use Rattle.ygg_run_image.specs.ygg_eval_block.Lower.{Cause}
+use Rattle.ygg_run_image.specs.ygg_eval.Lower.{Cause}
 use Rattle.ygg_run_image.specs.ygg_machine.GroundSteps.{ground_machine}
 use Rattle.ygg_run_image.specs.Kept.{Keeps}
 use Rattle.ygg_run_image.specs.DeviceMeaning.{device_meaning}

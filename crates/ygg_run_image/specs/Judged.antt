@@ -1,7 +1,7 @@
 -- Which images are accepted, and why others are refused.
 use Rattle.std.specs.Prelude.{◌≡◌, ℕ, ◌+◌, ◌<◌, ◌≤◌, ◌^◌, List, length, take, drop, slice_get, Option, Some, None, All}
 use Rattle.ygg_base.specs.declared.geometry.Geometry.{Geometry}
-use Rattle.ygg_base_device.specs.Devices.{block_at}
+use Rattle.ygg_base.specs.Devices.{block_at}
 use Rattle.ygg_run_image.specs.Image.{block_bytes, image_bytes, mark, row_block, sizes}
 use Rattle.ygg_run_image.specs.declared.reason.ImageReason.{ImageReason}
 use Rattle.ygg_run_image.specs.declared.reason.ImageReason.TheVariants.{Unsealed, OtherDisk, SpareBits}

@@ -1,7 +1,7 @@
 -- What formatting leaves of an image, and of all others.
 use Rattle.std.specs.Prelude.{◌≡◌, ◌⊎◌, ◌+◌, true, List, [], ◌∷◌, ℕ, Option, Some, None, IfSome, replicate}
 use Rattle.ygg_base.specs.declared.geometry.Geometry.{Geometry}
-use Rattle.ygg_run_image.specs.ygg_base_device.Devices.{Image, Attachment, OthersStay, image_of}
+use Rattle.ygg_run_image.specs.ygg_base.Devices.{Image, Attachment, OthersStay, image_of}
 use Rattle.ygg_value.specs.Number.{Grid}
 use Rattle.ygg_syntax.specs.declared.tree.File.{File}
 use Rattle.ygg_run_image.specs.ygg_type.Typed.{geometry_of}

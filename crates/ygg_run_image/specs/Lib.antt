@@ -1,6 +1,6 @@
-pub use Rattle.ygg_base_device.specs as ygg_base_device
+pub use Rattle.ygg_base.specs as ygg_base
 pub use Rattle.ygg_machine.specs.ygg_disk
-pub use Rattle.ygg_machine.specs.ygg_eval_block
+pub use Rattle.ygg_machine.specs.ygg_eval
 pub use Rattle.ygg_machine.specs.ygg_meaning
 pub use Rattle.ygg_machine.specs as ygg_machine
 pub use Rattle.ygg_machine.specs.ygg_type

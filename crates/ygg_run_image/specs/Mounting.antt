@@ -3,7 +3,7 @@ use Rattle.std.specs.Prelude.{◌≡◌, ◌⊎◌, ℕ, ◌+◌, List, length, 
 use Rattle.ygg_base.specs.declared.geometry.Geometry.{Geometry}
 use Rattle.ygg_base.specs.declared.outside.Moved.{Moved}
 use Rattle.ygg_base.specs.declared.outside.Moved.TheVariants as moved
-use Rattle.ygg_base_device.specs.Devices.{Image, Attachment, ImageTurns, Flushes, blocks_in, image_of}
+use Rattle.ygg_base.specs.Devices.{Image, Attachment, ImageTurns, Flushes, blocks_in, image_of}
 use Rattle.ygg_run_image.specs.Image.{block_bytes}
 use Rattle.ygg_run_image.specs.Judged.{HoldsRows, IsJudged, IsRowBlock}
 use Rattle.ygg_run_image.specs.declared.reason.ImageReason.{ImageReason}

@@ -3,7 +3,7 @@ use Rattle.std.specs.Prelude.{◌≡◌, ◌⊎◌, true, ℕ, List, take, repli
 use Rattle.ygg_base.specs.declared.geometry.Geometry.{Geometry}
 use Rattle.ygg_base.specs.declared.outside.Moved.{Moved}
 use Rattle.ygg_base.specs.declared.outside.Moved.TheVariants.{Done, Failed}
-use Rattle.ygg_run_image.specs.ygg_base_device.Devices.{Image, Attachment}
+use Rattle.ygg_run_image.specs.ygg_base.Devices.{Image, Attachment}
 use Rattle.ygg_run_image.specs.Image.{block_bytes, image, rows_in}
 use Rattle.ygg_run_image.specs.Judged.{IsSealed}
 

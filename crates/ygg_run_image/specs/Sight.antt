@@ -4,7 +4,7 @@ use Rattle.std.specs.Option.{option_map}
 use Rattle.ygg_base.specs.declared.geometry.DiskKind.{DiskKind}
 use Rattle.ygg_base.specs.declared.geometry.DiskKind.TheVariants.{Sync, Async}
 use Rattle.ygg_base.specs.declared.geometry.Geometry.{Geometry}
-use Rattle.ygg_base_device.specs.Devices.{Image, Attachment, image_of}
+use Rattle.ygg_base.specs.Devices.{Image, Attachment, image_of}
 use Rattle.ygg_value.specs.Shapes.{IsShape}
 use Rattle.ygg_disk.specs.Kinds.{Disk, model_of}
 use Rattle.ygg_disk.specs.Size.{table_shape}

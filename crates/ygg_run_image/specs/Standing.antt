@@ -1,7 +1,7 @@
 -- What all calls on a ground over a device keep.
 use Rattle.std.specs.Prelude.{◌≡◌, take, ◌⊎◌}
 use Rattle.ygg_base.specs.declared.geometry.Geometry.{Geometry}
-use Rattle.ygg_base_device.specs.Devices.{Image, Attachment}
+use Rattle.ygg_base.specs.Devices.{Image, Attachment}
 use Rattle.ygg_run_image.specs.Image.{block_bytes}
 use Rattle.ygg_run_image.specs.Laws.{AreBlocks}
 use Rattle.ygg_run_image.specs.Sight.{Sight}

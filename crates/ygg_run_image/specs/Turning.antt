@@ -5,7 +5,7 @@ use Rattle.ygg_base.specs.declared.geometry.DiskKind.TheVariants.{Sync, Async}
 use Rattle.ygg_base.specs.declared.geometry.Geometry.{Geometry}
 use Rattle.ygg_base.specs.declared.outside.Moved.{Moved}
 use Rattle.ygg_base.specs.declared.outside.Moved.TheVariants.{Done, Failed}
-use Rattle.ygg_base_device.specs.Devices.{Image, Attachment, AttachedTurns, Flushes, Tells, Writes}
+use Rattle.ygg_base.specs.Devices.{Image, Attachment, AttachedTurns, Flushes, Tells, Writes}
 use Rattle.ygg_value.specs.Number.{Digits}
 use Rattle.ygg_disk.specs.Disk.{Call, Read, Write, Flush}
 use Rattle.ygg_run_image.specs.Image.{row_block}

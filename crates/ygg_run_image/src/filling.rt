@@ -2,7 +2,7 @@
 
 ghost use Rattle.std.specs.Prelude.{◌≡◌, ◌≤◌, IfSome};
 ghost use Rattle.ygg_base.specs.Outside.{Rose};
-ghost use Rattle.ygg_run_image.specs.ygg_base_device.Devices.{AttachedTurns, OthersStay, Tells};
+ghost use Rattle.ygg_run_image.specs.ygg_base.Devices.{AttachedTurns, OthersStay, Tells};
 ghost use Rattle.ygg_run_image.specs.ygg_type.Typed.{geometry_of};
 ghost use Rattle.ygg_run_image.specs.Image.{rows_in};
 ghost use Rattle.ygg_run_image.specs.Sight.{Holds, held};
@@ -17,8 +17,7 @@ use crate::formatting::Formatting;
 use crate::levels::on_stack;
 use crate::size::block_size;
 use std::alloc::Global;
-use ygg_base::Text;
-use ygg_base_device::{Device, Made};
+use ygg_base::{Device, Made, Text};
 use ygg_machine::Typed;
 
 /// Formats all layers of a file, the lowest first, on a ground over a device whose image is all zeros.

@@ -1,7 +1,7 @@
 //! The layers of a file are formatted on a ground.
 
 ghost use Rattle.std.specs.Prelude.{◌≡◌, ◌≢◌, None};
-ghost use Rattle.ygg_run_image.specs.ygg_eval_block.Lower.{Down, ending_of};
+ghost use Rattle.ygg_run_image.specs.ygg_eval.Lower.{Down, ending_of};
 ghost use Rattle.ygg_run_image.specs.ygg_machine.Viewed.{floor_seen};
 ghost use Rattle.ygg_run_image.specs.Formatting.{end_of, Formats};
 

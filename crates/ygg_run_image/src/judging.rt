@@ -2,7 +2,7 @@
 
 ghost use Rattle.std.specs.Prelude.{◌≡◌, ◌≤◌, ◌<◌, ◌+◌, IfOk, OnOk, length};
 ghost use Rattle.ygg_base.specs.Outside.{Rose};
-ghost use Rattle.ygg_base_device.specs.Devices.{Image, block_at};
+ghost use Rattle.ygg_base.specs.Devices.{Image, block_at};
 ghost use Rattle.ygg_value.specs.Shapes.{IsShape};
 ghost use Rattle.ygg_disk.specs.Rows.{IsDiskRow};
 ghost use Rattle.ygg_disk.specs.Size.{table_shape};
@@ -17,8 +17,7 @@ use crate::row::is_row_block;
 use crate::size::block_size;
 use crate::unmounted::Unmounted;
 use std::alloc::Global;
-use ygg_base::{Geometry, Moved};
-use ygg_base_device::Device;
+use ygg_base::{Device, Geometry, Moved};
 use ygg_disk::rows::zero_row;
 use ygg_list::NoMemory;
 use ygg_value::Row;

@@ -35,4 +35,4 @@ pub use reason::ImageReason;
 pub use row::{decode_row, encode_row, is_row_block};
 pub use size::block_size;
 pub use unmounted::Unmounted;
-pub use ygg_base_device::Device;
+pub use ygg_base::Device;

@@ -2,7 +2,7 @@
 
 ghost use Rattle.std.specs.Prelude.{◌≡◌, ◌≤◌, Some, OnOk, IfSome};
 ghost use Rattle.ygg_base.specs.Outside.{Rose};
-ghost use Rattle.ygg_base_device.specs.Devices.{Tells};
+ghost use Rattle.ygg_base.specs.Devices.{Tells};
 ghost use Rattle.ygg_value.specs.Shapes.{IsShape};
 ghost use Rattle.ygg_disk.specs.Size.{table_shape};
 ghost use Rattle.ygg_run_image.specs.Mounting.{Finds, Mounts, whole_image};
@@ -11,8 +11,7 @@ ghost use Rattle.ygg_run_image.specs.declared.unmounted.Unmounted.TheVariants as
 use crate::judging::Judge;
 use crate::unmounted::Unmounted;
 use std::alloc::Global;
-use ygg_base::{Geometry, Moved, Text};
-use ygg_base_device::{Attach, Device};
+use ygg_base::{Attach, Device, Geometry, Moved, Text};
 
 /// Attaches the image of that name and judges it. No image is changed.
 fn attach<D: Device>(judge: &mut Judge, name: &Text, device: &mut D) -> Result<(), Unmounted>

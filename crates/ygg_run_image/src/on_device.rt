@@ -2,7 +2,7 @@
 
 ghost use Rattle.std.specs.Prelude.{◌≡◌, ◌≤◌, IfSome};
 ghost use Rattle.ygg_base.specs.Outside.{Rose};
-ghost use Rattle.ygg_run_image.specs.ygg_base_device.Devices.{AttachedTurns, Tells};
+ghost use Rattle.ygg_run_image.specs.ygg_base.Devices.{AttachedTurns, Tells};
 ghost use Rattle.ygg_run_image.specs.ygg_type.Typed.{geometry_of};
 ghost use Rattle.ygg_run_image.specs.Sight.{Holds, held};
 ghost use Rattle.ygg_run_image.specs.Leaving.{FinishTurns, IsFilled, FormatsImage};
@@ -13,8 +13,7 @@ use crate::filling::fill;
 use crate::seal::seal;
 use crate::size::block_size;
 use std::alloc::Global;
-use ygg_base::{Moved, Text};
-use ygg_base_device::Device;
+use ygg_base::{Device, Moved, Text};
 use ygg_machine::Typed;
 
 /// Seals the attached image, which holds the rows of a format.

@@ -2,7 +2,7 @@
 
 ghost use Rattle.std.specs.Prelude.{◌≡◌, ◌≤◌, ◌<◌, ◌+◌, IfSome, length, replicate};
 ghost use Rattle.ygg_base.specs.Outside.{Rose};
-ghost use Rattle.ygg_base_device.specs.Devices.{AttachedTurns, IsBlock, Tells};
+ghost use Rattle.ygg_base.specs.Devices.{AttachedTurns, IsBlock, Tells};
 ghost use Rattle.ygg_value.specs.Shapes.{IsShape};
 ghost use Rattle.ygg_value.specs.Values.{table_read};
 ghost use Rattle.ygg_disk.specs.Rows.{IsDiskRow};
@@ -14,8 +14,7 @@ ghost use Rattle.ygg_run_image.specs.Turning.{FlushesDisk, WritesBlock, WritesRo
 
 use crate::row::{decode_row, encode_row};
 use crate::size::block_size;
-use ygg_base::{DiskKind, Geometry, Moved};
-use ygg_base_device::Device;
+use ygg_base::{Device, DiskKind, Geometry, Moved};
 use ygg_value::Row;
 
 /// How many bytes a block of the disk that is held has.

@@ -3,14 +3,13 @@
 ghost use Rattle.std.specs.Prelude.{◌≡◌, ◌≤◌, length, IfSome};
 ghost use Rattle.ygg_base.specs.Outside.{Rose};
 ghost use Rattle.ygg_base.specs.declared.outside.Moved.TheVariants.{Failed};
-ghost use Rattle.ygg_run_image.specs.ygg_base_device.Devices.{AttachedTurns, Image, Tells};
+ghost use Rattle.ygg_run_image.specs.ygg_base.Devices.{AttachedTurns, Image, Tells};
 ghost use Rattle.ygg_run_image.specs.Image.{block_bytes};
 ghost use Rattle.ygg_run_image.specs.Sight.{Holds, held};
 ghost use Rattle.ygg_run_image.specs.Sealing.{HeaderTurns, IsFresh, SealTurns};
 
 use crate::header::write_header;
-use ygg_base::{Geometry, Moved};
-use ygg_base_device::Device;
+use ygg_base::{Device, Geometry, Moved};
 
 /// Writes the header with the seal before the rows of the attached image, which all stay, and makes it stay, by way of a block to spare.
 fn put_header<D: Device>(geometry: Geometry, block: &mut [u8], device: &mut D) -> Moved

@@ -9,7 +9,7 @@ use Rattle.ygg_run_commands.specs.ygg_meaning.Machine.{State, TickName, Machine}
 use Rattle.ygg_run_commands.specs.ygg_meaning.Mirror.{SameOn, FormattedIf, Mirrors}
 use Rattle.ygg_run_commands.specs.ygg_meaning.History.{Entry, Step, Steps}
 use Rattle.ygg_run_commands.specs.ygg_meaning.Noted.{Note}
-use Rattle.ygg_run_commands.specs.ygg_eval_block.Lower.{Cause, GivenUp}
+use Rattle.ygg_run_commands.specs.ygg_eval.Lower.{Cause, GivenUp}
 use Rattle.ygg_run_commands.specs.ygg_machine.Told.{SameNotes}
 use Rattle.ygg_run_commands.specs.ygg_script.declared.command.Command.{Command}
 use Rattle.ygg_run_commands.specs.ygg_script.declared.command.Command.TheVariants.{Call, Tick, Lost, Fail, Keep}

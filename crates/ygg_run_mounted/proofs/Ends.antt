@@ -1,10 +1,10 @@
 -- How a run ends on an image that was mounted.
 use Rattle.std.proofs.Common.{ℕ, List, [], Option, Some, Result, Ok, Err, inr, refl}
-use Rattle.ygg_run_image.specs.ygg_base_device.Devices.{Image, Tells}
+use Rattle.ygg_run_image.specs.ygg_base.Devices.{Image, Tells}
 use Rattle.ygg_syntax.specs.declared.tree.File.{File}
 use Rattle.ygg_run_commands.specs.ygg_type.Typed.{geometry_of}
 use Rattle.ygg_run_commands.specs.ygg_meaning.Machine.{Machine}
-use Rattle.ygg_run_commands.specs.ygg_eval_block.Lower.{Cause}
+use Rattle.ygg_run_commands.specs.ygg_eval.Lower.{Cause}
 use Rattle.ygg_run_commands.specs.ygg_script.declared.command.Command.{Command}
 use Rattle.ygg_run_commands.specs.Running.{IsRun}
 use Rattle.ygg_run_commands.specs.declared.halting.RunHalted.{RunHalted}

@@ -7,7 +7,7 @@ use Rattle.ygg_run_commands.specs.ygg_meaning.Machine.{State}
 use Rattle.ygg_run_commands.specs.ygg_meaning.DiskMachine.{machine_on}
 use Rattle.ygg_run_commands.specs.ygg_meaning.Stack.{layers_of}
 use Rattle.ygg_run_commands.specs.ygg_meaning.History.{Entry, Step, Steps}
-use Rattle.ygg_run_commands.specs.ygg_eval_block.Lower.{Cause, PowerLoss, GivenUp}
+use Rattle.ygg_run_commands.specs.ygg_eval.Lower.{Cause, PowerLoss, GivenUp}
 use Rattle.ygg_run_commands.specs.ygg_machine.GroundSteps.{ground_machine, ground_calls}
 use Rattle.ygg_run_image.specs.Kept.{Keeps}
 use Rattle.ygg_run_image.proofs.StackKeeping.{stacked_keeps}

@@ -4,7 +4,7 @@ use Rattle.std.specs.Prelude.{IfSome}
 use Rattle.ygg_base.specs.declared.geometry.Geometry.{Geometry}
 use Rattle.ygg_base.specs.declared.geometry.DiskKind.{DiskKind}
 use Rattle.ygg_base.specs.declared.geometry.DiskKind.TheVariants.{Sync, Async}
-use Rattle.ygg_run_image.specs.ygg_base_device.Devices.{Image, Tells}
+use Rattle.ygg_run_image.specs.ygg_base.Devices.{Image, Tells}
 use Rattle.ygg_value.specs.Shapes.{IsShape}
 use Rattle.ygg_run_commands.specs.ygg_disk.Kinds.{Disk, model_of}
 use Rattle.ygg_run_commands.specs.ygg_disk.Size.{table_shape}

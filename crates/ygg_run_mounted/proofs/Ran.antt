@@ -1,7 +1,7 @@
 -- What a run on a ground over a device did.
 use Rattle.std.proofs.Common.{◌≡◌, ℕ, List, Option, Result, Ok, Err, refl, ap, ◌∙◌, subst}
 use Rattle.ygg_base.specs.declared.geometry.Geometry.{Geometry}
-use Rattle.ygg_run_image.specs.ygg_base_device.Devices.{Attachment, Tells, AttachedTurns}
+use Rattle.ygg_run_image.specs.ygg_base.Devices.{Attachment, Tells, AttachedTurns}
 use Rattle.ygg_syntax.specs.declared.tree.File.{File}
 use Rattle.ygg_syntax.specs.Files.{IsDerived}
 use Rattle.ygg_run_commands.specs.ygg_type_rules.Files.{IsTyped}

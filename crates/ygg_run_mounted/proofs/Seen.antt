@@ -1,6 +1,6 @@
 -- What is done on a ground over a device is done on what is seen of the device.
 use Rattle.std.proofs.Common.{ℕ, List, ◌++◌, Option, Result, refl, sym, ap, ◌∙◌, subst}
-use Rattle.ygg_run_image.specs.ygg_base_device.Devices.{Attachment, Image}
+use Rattle.ygg_run_image.specs.ygg_base.Devices.{Attachment, Image}
 use Rattle.ygg_syntax.specs.declared.tree.File.{File}
 use Rattle.ygg_run_commands.specs.ygg_disk.Disk as disk
 use Rattle.ygg_run_commands.specs.ygg_meaning.DiskMachine.{machine_on}
@@ -9,7 +9,7 @@ use Rattle.ygg_run_commands.specs.ygg_meaning.Mirror.{IsJoined, FormattedIf, Mir
 use Rattle.ygg_run_commands.specs.ygg_meaning.Noted.{Note}
 use Rattle.ygg_run_commands.specs.ygg_meaning_proofs_Mirrored.{stacked_mirrors}
 use Rattle.ygg_run_commands.proofs.of_ygg_meaning.Stores.{StoreMirrors, machine_mirrors}
-use Rattle.ygg_run_commands.specs.ygg_eval_block.Lower.{Cause, PowerLoss, GivenUp}
+use Rattle.ygg_run_commands.specs.ygg_eval.Lower.{Cause, PowerLoss, GivenUp}
 use Rattle.ygg_run_commands.specs.ygg_machine.GroundSteps.{ground_calls}
 use Rattle.ygg_run_commands.specs.ygg_machine.Told.{SameNotes}
 use Rattle.ygg_run_commands.specs.ygg_script.declared.command.Command.{Command}

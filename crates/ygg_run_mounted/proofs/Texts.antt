@@ -2,7 +2,7 @@
 use Rattle.std.proofs.Common.{◌≡◌, ℕ, List, [], Option, Some, None, Err, inl, inr, refl, sym, ap, ◌∙◌, append-nil}
 use Rattle.ygg_syntax.specs.declared.tree.File.{File}
 use Rattle.ygg_run_commands.specs.ygg_meaning.Machine.{Machine}
-use Rattle.ygg_run_commands.specs.ygg_eval_block.Lower.{Cause}
+use Rattle.ygg_run_commands.specs.ygg_eval.Lower.{Cause}
 use Rattle.ygg_run_commands.specs.ygg_report.Putting.{Adds}
 use Rattle.ygg_run_commands.specs.ygg_script.declared.command.Command.{Command}
 use Rattle.ygg_run_commands.specs.Ran.{run_lines}

@@ -8,7 +8,7 @@ use Rattle.ygg_base.specs.declared.geometry.Geometry.{Geometry}
 use Rattle.ygg_base.specs.declared.geometry.DiskKind.{DiskKind}
 use Rattle.ygg_base.specs.declared.geometry.DiskKind.TheVariants.{Sync, Async}
 use Rattle.ygg_base.specs.declared.outside.Moved.TheVariants.{Done}
-use Rattle.ygg_run_image.specs.ygg_base_device.Devices.{Image, Attachment, ImageTurns, Tells, Flushes, image_of}
+use Rattle.ygg_run_image.specs.ygg_base.Devices.{Image, Attachment, ImageTurns, Tells, Flushes, image_of}
 use Rattle.ygg_value.specs.Number.{Grid}
 use Rattle.ygg_value.specs.Shapes.{IsShape}
 use Rattle.ygg_value.specs.declared.row.Value.TheVariants.{Table}

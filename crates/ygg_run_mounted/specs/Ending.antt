@@ -1,6 +1,6 @@
 -- How a run on the image of a name ends, what it leaves, and what the sink has taken.
 use Rattle.std.specs.Prelude.{◌≡◌, ◌⊎◌, ℕ, List, [], Option, Some, Result, Ok, Err}
-use Rattle.ygg_run_image.specs.ygg_base_device.Devices.{Image, ImageTurns, Tells}
+use Rattle.ygg_run_image.specs.ygg_base.Devices.{Image, ImageTurns, Tells}
 use Rattle.ygg_syntax.specs.declared.tree.File.{File}
 use Rattle.ygg_run_commands.specs.ygg_type.Typed.{geometry_of}
 use Rattle.ygg_run_commands.specs.ygg_meaning.History.{Entry}

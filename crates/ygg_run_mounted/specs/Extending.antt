@@ -1,7 +1,7 @@
 -- What a whole run is to the history that left the image, and what it leaves there.
 use Rattle.std.specs.Prelude.{◌≡◌, true, List, ◌++◌, take, codes}
 use Rattle.ygg_base.specs.declared.geometry.Geometry.{Geometry}
-use Rattle.ygg_run_image.specs.ygg_base_device.Devices.{Image}
+use Rattle.ygg_run_image.specs.ygg_base.Devices.{Image}
 use Rattle.ygg_value.specs.Number.{Grid}
 use Rattle.ygg_value.specs.declared.row.Value.TheVariants.{Table}
 use Rattle.ygg_syntax.specs.declared.tree.File.{File}

@@ -1,4 +1,4 @@
-pub use Rattle.ygg_run_image.specs.ygg_base_device
+pub use Rattle.ygg_run_image.specs.ygg_base
 pub use Rattle.ygg_run_commands.specs as ygg_run_commands
 pub use Rattle.ygg_run_image.specs as ygg_run_image
 pub use Rattle.ygg_run_commands.specs.ygg_script

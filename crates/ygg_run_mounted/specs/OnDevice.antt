@@ -1,7 +1,7 @@
 -- A disk that a device holds, as what is seen of the device alone.
 use Rattle.std.specs.Prelude.{List, Option}
 use Rattle.ygg_base.specs.declared.geometry.Geometry.{Geometry}
-use Rattle.ygg_run_image.specs.ygg_base_device.Devices.{Image, Attachment}
+use Rattle.ygg_run_image.specs.ygg_base.Devices.{Image, Attachment}
 use Rattle.ygg_run_commands.specs.ygg_disk.Ground.{Meaning}
 use Rattle.ygg_run_image.specs.DeviceMeaning.{device_meaning}
 use Rattle.ygg_run_image.specs.Sight.{Sight}

@@ -1,6 +1,6 @@
 -- What a run of a script on the layers of a file over a device that holds their disk did.
 use Rattle.std.specs.Prelude.{◌≡◌, ℕ, List, [], Option, Some, Result, Ok, Err}
-use Rattle.ygg_run_image.specs.ygg_base_device.Devices.{Image, Attachment, ImageTurns, Tells}
+use Rattle.ygg_run_image.specs.ygg_base.Devices.{Image, Attachment, ImageTurns, Tells}
 use Rattle.ygg_syntax.specs.declared.tree.File.{File}
 use Rattle.ygg_run_commands.specs.ygg_type.Typed.{geometry_of}
 use Rattle.ygg_run_commands.specs.ygg_meaning.History.{Entry}

@@ -5,7 +5,7 @@ use Rattle.ygg_base.specs.declared.reason.Reason.TheVariants as reason
 use Rattle.ygg_syntax.specs.declared.tree.Declared.{Declared}
 use Rattle.ygg_syntax.specs.declared.tree.Layer.{Layer}
 use Rattle.ygg_syntax.specs.declared.tree.File.{File}
-use Rattle.ygg_meaning_laws.specs.ygg_syntax_count.Weights.{Weights, weights_of}
+use Rattle.ygg_meaning_laws.specs.ygg_syntax.Weights.{Weights, weights_of}
 use Rattle.ygg_meaning_laws.specs.ygg_type_rules.Names.{Named, look_up, has, added}
 use Rattle.ygg_meaning_laws.specs.ygg_type_rules.declared.scope.Signature.{Signature}
 use Rattle.ygg_meaning_laws.specs.ygg_type_rules.TypeErrors.{none, unless}

@@ -5,7 +5,7 @@ pub use Rattle.ygg_meaning.specs as ygg_meaning
 pub use Rattle.ygg_meaning.proofs.Exact as ygg_meaning_proofs_Exact
 pub use Rattle.ygg_report.specs as ygg_report
 pub use Rattle.ygg_type.specs.ygg_type_rules
-pub use Rattle.ygg_type.specs.ygg_syntax_count
+pub use Rattle.ygg_type.specs.ygg_syntax
 pub use Rattle.ygg_type.proofs.Least as ygg_type_proofs_Least
 pub use Rattle.ygg_type.specs as ygg_type
 pub mod Flaws

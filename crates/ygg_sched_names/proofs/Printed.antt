@@ -15,7 +15,7 @@ use Rattle.ygg_replay.specs.ygg_meaning.Claims.{Claim, ClaimViolated, claims_of}
 use Rattle.ygg_replay.specs.ygg_meaning.Stack.{layers_of}
 use Rattle.ygg_oblige_laws.specs.ygg_rules.declared.rule.RuleKind.{RuleKind}
 use Rattle.ygg_oblige_laws.specs.ygg_bank.Values.{Inputs}
-use Rattle.ygg_oblige_laws.specs.ygg_sym_expr.Exprs.{SymFunctions}
+use Rattle.ygg_oblige_laws.specs.ygg_sym_runs.Exprs.{SymFunctions}
 use Rattle.ygg_oblige_laws.specs.Meaning.{claim_name}
 use Rattle.ygg_oblige_laws.specs.Schedules.{all_schedules}
 use Rattle.ygg_replay.specs.ygg_report.Lines.{shows_line}

@@ -8,7 +8,7 @@ use Rattle.ygg_syntax.specs.declared.tree.Operation.{Operation}
 use Rattle.ygg_syntax.specs.declared.tree.Tick.{Tick}
 use Rattle.ygg_syntax.specs.declared.tree.Layer.{Layer}
 use Rattle.ygg_syntax.specs.declared.tree.File.{File}
-use Rattle.ygg_accept.specs.ygg_syntax_count.Weights.{Weights, weights_of}
+use Rattle.ygg_accept.specs.ygg_syntax.Weights.{Weights, weights_of}
 use Rattle.ygg_accept.specs.ygg_type_rules.Names.{Named, look_up, has, added}
 use Rattle.ygg_accept.specs.ygg_type_rules.declared.scope.Signature.{Signature}
 use Rattle.ygg_accept.specs.ygg_type_rules.TypeErrors.{none, unless}

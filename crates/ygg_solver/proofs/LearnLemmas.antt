@@ -45,9 +45,9 @@ use Rattle.ygg_cnf.specs.Derivations.{IsPivot, Resolvent, HasClause, Resolves, D
 use Rattle.ygg_cnf.specs.Literals.{complement}
 use Rattle.ygg_cnf.specs.declared.lit.Lit.{Lit}
 use Rattle.ygg_solver.specs.Learning.{IsSound, IsSeenAt, ChainReaches}
-use Rattle.ygg_watch_plain.specs.Trail.{IsAt, IsFalseBefore, IsReason}
-use Rattle.ygg_watch_plain.specs.declared.entry.Entry.{Entry}
-use Rattle.ygg_watch_plain.proofs.TrailLemmas.{one_entry, entry_within}
+use Rattle.ygg_watch.specs.Trail.{IsAt, IsFalseBefore, IsReason}
+use Rattle.ygg_watch.specs.declared.entry.Entry.{Entry}
+use Rattle.ygg_watch.proofs.TrailLemmas.{one_entry, entry_within}
 
 not_own : (b : Bool) → not b ≡ b → ⊥
 not_own true e = false≢true e

@@ -2,12 +2,12 @@
 use Rattle.std.proofs.Common.{◌≡◌, ℕ, zero, suc, ◌<◌, ◌≤◌, ◌+◌, Bool, true, false, cond, List, [], ◌∷◌, ◌++◌, ⊎_elim, subst, arith, refl, eqb, append_assoc}
 use Rattle.std.proofs.lemmas.Bool.{false≢true, cases_Bool, cases_eq, eq-eqb}
 use Rattle.ygg_cnf.specs.declared.lit.Lit.{Lit}
-use Rattle.ygg_watch_plain.specs.Propagation.{Propagation, decided, Spreads, Implies}
-use Rattle.ygg_watch_plain.specs.Trail.{IsAssigned}
-use Rattle.ygg_watch_plain.proofs.CountLemmas.{is_assigned, failing}
-use Rattle.ygg_watch_plain.specs.declared.entry.Entry.{Entry}
-use Rattle.ygg_watch_plain.proofs.TrailLemmas.{not_assigned}
-use Rattle.ygg_watch_plain.proofs.PropagationLemmas.{append-nil}
+use Rattle.ygg_watch.specs.Propagation.{Propagation, decided, Spreads, Implies}
+use Rattle.ygg_watch.specs.Trail.{IsAssigned}
+use Rattle.ygg_watch.proofs.CountLemmas.{is_assigned, failing}
+use Rattle.ygg_watch.specs.declared.entry.Entry.{Entry}
+use Rattle.ygg_watch.proofs.TrailLemmas.{not_assigned}
+use Rattle.ygg_watch.proofs.PropagationLemmas.{append-nil}
 
 -- the number of unassigned variables
 unfoldable pub left : Propagation → ℕ

@@ -40,12 +40,12 @@ use Rattle.ygg_cnf.specs.Literals.{Satisfies, SatisfiesClause, SatisfiesAll}
 use Rattle.ygg_cnf.specs.Logs.{IsOpen}
 use Rattle.ygg_cnf.specs.declared.lit.Lit.{Lit}
 use Rattle.ygg_solver.specs.Learning.{IsSound}
-use Rattle.ygg_watch_plain.specs.Propagation.{Propagation}
+use Rattle.ygg_watch.specs.Propagation.{Propagation}
 use Rattle.ygg_solver.specs.Kept.{trail_value, IsReady}
-use Rattle.ygg_watch_plain.proofs.TrailLemmas.{entry_within, assigned_at, assigned_has, assigned_of, same_or_complement}
-use Rattle.ygg_watch_plain.specs.Trail.{IsAssigned, IsAt, IsQuietBefore, assigned_before}
-use Rattle.ygg_watch_plain.proofs.CountLemmas.{is_assigned}
-use Rattle.ygg_watch_plain.specs.declared.entry.Entry.{Entry}
+use Rattle.ygg_watch.proofs.TrailLemmas.{entry_within, assigned_at, assigned_has, assigned_of, same_or_complement}
+use Rattle.ygg_watch.specs.Trail.{IsAssigned, IsAt, IsQuietBefore, assigned_before}
+use Rattle.ygg_watch.proofs.CountLemmas.{is_assigned}
+use Rattle.ygg_watch.specs.declared.entry.Entry.{Entry}
 
 -- a variable that is assigned has an entry, whose literal the trail's value satisfies
 found_entry : (trail : List Entry) (v : ℕ) → is_assigned trail v ≡ true

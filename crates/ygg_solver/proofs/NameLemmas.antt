@@ -44,9 +44,9 @@ use Rattle.ygg_cnf.specs.Logs.{clause_of, Refutes, SpentLog}
 use Rattle.ygg_chain.specs.Places.{IsDistinct, IsPlaced, literal_at, clause_at, clauses_at}
 use Rattle.ygg_chain.proofs.PlaceLemmas.{kept_more, stands_once, contains_map}
 use Rattle.ygg_solver.specs.Names.{log_at, GivesValues}
-use Rattle.ygg_watch_plain.specs.declared.entry.Entry.{Entry}
-use Rattle.ygg_watch_plain.specs.Trail.{IsAt}
-use Rattle.ygg_watch_plain.specs.Assignments.{IsTrail}
+use Rattle.ygg_watch.specs.declared.entry.Entry.{Entry}
+use Rattle.ygg_watch.specs.Trail.{IsAt}
+use Rattle.ygg_watch.specs.Assignments.{IsTrail}
 use Rattle.ygg_solver.proofs.ModelLemmas.{value_more}
 use Rattle.ygg_solver.proofs.RenameLemmas.{IsRenaming, renamed_step, refutes_renamed, spent_renamed}
 

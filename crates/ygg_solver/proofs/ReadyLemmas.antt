@@ -46,11 +46,11 @@ use Rattle.ygg_cnf.specs.declared.lit.Lit.{Lit}
 use Rattle.ygg_cnf_set.specs.LiteralSet.{Fits}
 use Rattle.ygg_solver.proofs.LearnLemmas.{none_is_some}
 use Rattle.ygg_solver.specs.Learning.{IsLastDecision, IsJump}
-use Rattle.ygg_watch_plain.specs.Propagation.{Propagation, decided, Implies, Spreads, with_clause, back_to}
+use Rattle.ygg_watch.specs.Propagation.{Propagation, decided, Implies, Spreads, with_clause, back_to}
 use Rattle.ygg_solver.specs.Kept.{IsReady}
-use Rattle.ygg_watch_plain.proofs.TrailLemmas.{entry_within, assigned_at, at_push, at_front, fresh_place, at_in}
-use Rattle.ygg_watch_plain.specs.Trail.{IsAt, IsFalseBefore, IsReason, IsQuietBefore, assigned_before, IsAssigned, keep_level}
-use Rattle.ygg_watch_plain.specs.declared.entry.Entry.{Entry}
+use Rattle.ygg_watch.proofs.TrailLemmas.{entry_within, assigned_at, at_push, at_front, fresh_place, at_in}
+use Rattle.ygg_watch.specs.Trail.{IsAt, IsFalseBefore, IsReason, IsQuietBefore, assigned_before, IsAssigned, keep_level}
+use Rattle.ygg_watch.specs.declared.entry.Entry.{Entry}
 
 pub false_front : (xs ys : List Entry) (n : ℕ) (y : Lit) → IsFalseBefore xs n y → IsFalseBefore (xs ++ ys) n y
 false_front xs ys n y (q, (e, (l, (h, s)))) = (q, (e, (l, (at_front xs ys e q h, s))))

@@ -36,9 +36,9 @@ use Rattle.ygg_cnf.specs.Logs.{IsOpen, TeachesAt}
 use Rattle.ygg_cnf.specs.declared.lit.Lit.{Lit}
 use Rattle.ygg_solver.proofs.LearnLemmas.{not_both}
 use Rattle.ygg_solver.specs.Learning.{IsSound, IsAsserting, IsSeenAt}
-use Rattle.ygg_watch_plain.proofs.TrailLemmas.{assigned_at, false_before, in_before}
-use Rattle.ygg_watch_plain.specs.Trail.{IsAt, IsFalseBefore, assigned_before, IsQuietBefore}
-use Rattle.ygg_watch_plain.specs.declared.entry.Entry.{Entry}
+use Rattle.ygg_watch.proofs.TrailLemmas.{assigned_at, false_before, in_before}
+use Rattle.ygg_watch.specs.Trail.{IsAt, IsFalseBefore, assigned_before, IsQuietBefore}
+use Rattle.ygg_watch.specs.declared.entry.Entry.{Entry}
 
 -- no literal of the variable of a later place is assigned before
 not_before : (clauses : List (List Lit)) (trail : List Entry) (at start : ℕ) (entry : Entry) (x : Lit) → IsSound clauses trail

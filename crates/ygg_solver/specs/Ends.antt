@@ -3,9 +3,9 @@ use Rattle.std.specs.Prelude.{ℕ, ◌≤◌, List, length, map, All}
 use Rattle.ygg_cnf.specs.Literals.{SatisfiesAll}
 use Rattle.ygg_cnf.specs.Logs.{clause_of, Refutes, SpentLog}
 use Rattle.ygg_cnf.specs.declared.lit.Lit.{Lit}
-use Rattle.ygg_watch_plain.specs.Assignments.{IsTrail}
-use Rattle.ygg_watch_plain.specs.declared.entry.Entry.{Entry}
-use Rattle.ygg_watch_plain.specs.Propagation.{IsWithin}
+use Rattle.ygg_watch.specs.Assignments.{IsTrail}
+use Rattle.ygg_watch.specs.declared.entry.Entry.{Entry}
+use Rattle.ygg_watch.specs.Propagation.{IsWithin}
 use Rattle.ygg_solver.specs.Kept.{trail_value}
 use Rattle.ygg_solver.specs.declared.searching.SearchEnd.{SearchEnd}
 use Rattle.ygg_solver.specs.declared.searching.SearchEnd.TheVariants as end

@@ -1,9 +1,9 @@
 -- What the search keeps of a propagation.
 use Rattle.std.specs.Prelude.{◌≡◌, ℕ, ◌<◌, ◌≤◌, Bool, false, not, cond, List, [], ◌∷◌, None, eqb}
 use Rattle.ygg_solver.specs.Learning.{IsSound}
-use Rattle.ygg_watch_plain.specs.Trail.{IsAt, IsQuietBefore}
-use Rattle.ygg_watch_plain.specs.declared.entry.Entry.{Entry}
-use Rattle.ygg_watch_plain.specs.Propagation.{Propagation}
+use Rattle.ygg_watch.specs.Trail.{IsAt, IsQuietBefore}
+use Rattle.ygg_watch.specs.declared.entry.Entry.{Entry}
+use Rattle.ygg_watch.specs.Propagation.{Propagation}
 
 -- no variable is assigned twice and each reason is one; before each decision no clause was false or left with one literal,
 -- which is why learned clauses teach; a decision's level is above those before it, above 0, and at most the open one

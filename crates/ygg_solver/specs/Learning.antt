@@ -4,8 +4,8 @@ use Rattle.ygg_cnf_set.specs.LiteralSet.{InSet}
 use Rattle.ygg_cnf.specs.Derivations.{HasClause, Resolves, DerivesClause}
 use Rattle.ygg_cnf.specs.Literals.{complement}
 use Rattle.ygg_cnf.specs.declared.lit.Lit.{Lit}
-use Rattle.ygg_watch_plain.specs.declared.entry.Entry.{Entry}
-use Rattle.ygg_watch_plain.specs.Trail.{IsAt, IsFalseBefore, IsReason}
+use Rattle.ygg_watch.specs.declared.entry.Entry.{Entry}
+use Rattle.ygg_watch.specs.Trail.{IsAt, IsFalseBefore, IsReason}
 
 -- no variable is assigned twice, and the clause of each reason has the literal, its others false by earlier entries
 pub record IsSound (clauses : List (List Lit)) (trail : List Entry) : Type 0 where

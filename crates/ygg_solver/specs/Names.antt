@@ -4,7 +4,7 @@ use Rattle.ygg_cnf.specs.declared.log.Step.{Step}
 use Rattle.ygg_cnf.specs.declared.log.Step.TheVariants.{Added}
 use Rattle.ygg_cnf.specs.Literals.{truth_of}
 use Rattle.ygg_chain.specs.Places.{clause_at}
-use Rattle.ygg_watch_plain.specs.declared.entry.Entry.{Entry}
+use Rattle.ygg_watch.specs.declared.entry.Entry.{Entry}
 use Rattle.ygg_solver.specs.Kept.{trail_value}
 
 -- the entry of the variables that have its places

@@ -1,7 +1,7 @@
 use std::alloc::Global;
 use ygg_cnf_set::PackedClause;
 use ygg_list::NoMemory;
-use ygg_watch_plain::{InitialPolarity, Order};
+use ygg_watch::{InitialPolarity, Order};
 
 /// Lets each clause vote for the values of its variables.
 fn vote(polarity: &mut InitialPolarity, clauses: &[PackedClause]) {

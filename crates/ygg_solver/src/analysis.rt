@@ -3,7 +3,7 @@ ghost use Rattle.ygg_cnf.specs.Literals.{complement};
 ghost use Rattle.ygg_cnf.specs.Derivations.{HasClause, Resolves, DerivesClause};
 ghost use Rattle.ygg_cnf.specs.Logs.{Teaches};
 ghost use Rattle.ygg_cnf_set.specs.LiteralSet.{Fits, InSet, IsSetOf};
-ghost use Rattle.ygg_watch_plain.specs.Trail.{IsAt, IsFalseBefore, IsQuietBefore};
+ghost use Rattle.ygg_watch.specs.Trail.{IsAt, IsFalseBefore, IsQuietBefore};
 ghost use Rattle.ygg_solver.specs.Learning.{IsSound, IsSeenAt, ChainReaches, IsJump, IsReduced};
 
 use crate::removal::{Removal, find};
@@ -12,7 +12,7 @@ use std::alloc::Global;
 use ygg_cnf::Clause;
 use ygg_cnf_set::{PackedClause, insert_all, remove_all, resolve};
 use ygg_list::NoMemory;
-use ygg_watch_plain::PackedEntry;
+use ygg_watch::PackedEntry;
 
 /// The clause of a number, where clauses are numbered from 1.
 fn clause_at(clauses: &[PackedClause], id: u64) -> &PackedClause

@@ -34,4 +34,4 @@ pub use searching::{SearchEnd, search_clauses};
 pub use seen_places::{entry_at, last_decision};
 pub use solving::{solve, solve_and_count, solve_owned};
 pub use ygg_cnf::{Assignment, Clause, Clauses, Lit, Step, truth};
-pub use ygg_watch_plain::Work;
+pub use ygg_watch::Work;

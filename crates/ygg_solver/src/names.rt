@@ -4,7 +4,7 @@ ghost use Rattle.std.specs.Prelude.{◌≡◌, ◌≢◌, ◌<◌, ◌≤◌, �
 ghost use Rattle.ygg_cnf.specs.Literals.{truth_of};
 ghost use Rattle.ygg_cnf.specs.Logs.{clause_of};
 ghost use Rattle.ygg_chain.specs.Places.{IsDistinct, IsPlaced, literal_at, clause_at, clauses_at};
-ghost use Rattle.ygg_watch_plain.specs.Assignments.{IsTrail};
+ghost use Rattle.ygg_watch.specs.Assignments.{IsTrail};
 ghost use Rattle.ygg_solver.specs.Names.{step_at, log_at, GivesValues};
 
 use std::alloc::Global;
@@ -12,7 +12,7 @@ use ygg_chain::Variables;
 use ygg_cnf::{Assignment, Clause, Clauses, Lit, Log, Step};
 use ygg_cnf_set::PackedClause;
 use ygg_list::NoMemory;
-use ygg_watch_plain::PackedEntry;
+use ygg_watch::PackedEntry;
 
 /// The clause with the places of its variables, after those that had none have been given one. After running out of memory, which more
 /// than 2,147,483,648 variables come to, some of them may have been given one.

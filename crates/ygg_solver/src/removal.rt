@@ -5,7 +5,7 @@ use std::alloc::Global;
 use ygg_cnf::Lit;
 use ygg_cnf_set::PackedClause;
 use ygg_list::NoMemory;
-use ygg_watch_plain::PackedEntry;
+use ygg_watch::PackedEntry;
 
 /// What is known of a place: nothing, that seen literals imply its literal, or that it was not found so.
 #[derive(Clone, Copy, PartialEq, Eq)]

@@ -1,10 +1,10 @@
 ghost use Rattle.std.specs.Prelude.{◌≡◌, ◌<◌, ℕ, length, IfSome, IfNone};
-ghost use Rattle.ygg_watch_plain.specs.Trail.{IsQuietBefore, IsAssigned};
-ghost use Rattle.ygg_watch_plain.specs.Propagation.{IsConflict};
+ghost use Rattle.ygg_watch.specs.Trail.{IsQuietBefore, IsAssigned};
+ghost use Rattle.ygg_watch.specs.Propagation.{IsConflict};
 ghost use Rattle.ygg_solver.specs.Kept.{IsReady};
 
 use ygg_cnf::Lit;
-use ygg_watch_plain::{Found, Order, Propagate, pick};
+use ygg_watch::{Found, Order, Propagate, pick};
 
 /// Decides and propagates until a clause is false, whose number it gives, or each variable is assigned. It ends since each
 /// turn assigns a variable.

@@ -1,6 +1,6 @@
 ghost use Rattle.std.specs.Prelude.{◌≡◌, ◌<◌, ◌≤◌, ◌*◌, ◌^◌, ◌⊎◌, length, All, IfOk};
 ghost use Rattle.ygg_cnf_set.specs.LiteralSet.{Fits, IsSetOf};
-ghost use Rattle.ygg_watch_plain.specs.Propagation.{IsFresh, IsWithin};
+ghost use Rattle.ygg_watch.specs.Propagation.{IsFresh, IsWithin};
 ghost use Rattle.ygg_solver.specs.Kept.{IsReady};
 ghost use Rattle.ygg_solver.specs.Ends.{IsEnd};
 
@@ -10,7 +10,7 @@ use std::alloc::Global;
 use ygg_cnf::{Clause, Lit, Log, Step};
 use ygg_cnf_set::PackedClause;
 use ygg_list::{NoMemory, Sequence};
-use ygg_watch_plain::{Order, PackedEntry, Restarts, Trail};
+use ygg_watch::{Order, PackedEntry, Restarts, Trail};
 
 /// How a search ended.
 #[derive(Drop)]

@@ -2,11 +2,11 @@
 
 ghost use Rattle.std.specs.Prelude.{◌≡◌, ◌<◌, ◌≤◌, ℕ, length, IsTrue, ◌↔◌, MatchOption, IsSome};
 ghost use Rattle.ygg_cnf_set.specs.LiteralSet.{InSet};
-ghost use Rattle.ygg_watch_plain.specs.Trail.{IsAt};
+ghost use Rattle.ygg_watch.specs.Trail.{IsAt};
 ghost use Rattle.ygg_solver.specs.Learning.{IsSeenAt, IsLastSeen, IsLastDecision};
 
 use ygg_cnf::Lit;
-use ygg_watch_plain::{Entry, PackedEntry};
+use ygg_watch::{Entry, PackedEntry};
 
 /// Whether the literal is seen. One that has no place in the set is not.
 pub fn has_seen(seen: &[bool], lit: Lit) -> bool

@@ -11,8 +11,7 @@ use ygg_chain::Variables;
 use ygg_cnf::{Clauses, Log};
 use ygg_cnf_set::PackedClause;
 use ygg_list::NoMemory;
-use ygg_watch::Watch;
-use ygg_watch_plain::{Order, Trail, Work};
+use ygg_watch::{Order, Trail, Watch, Work};
 
 /// Whether a clause is empty.
 fn has_empty(clauses: &Clauses) -> bool

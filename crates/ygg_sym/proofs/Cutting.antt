@@ -5,30 +5,30 @@ use Rattle.ygg_value.specs.Words.{word}
 use Rattle.ygg_syntax.specs.declared.tree.Block.{Block}
 use Rattle.ygg_syntax.specs.declared.tree.Def.{Def}
 use Rattle.ygg_syntax.specs.declared.tree.Stmt.{Stmt}
-use Rattle.ygg_sym_stops.specs.ygg_type_rules.TypeErrors.{none}
-use Rattle.ygg_sym_stops.specs.ygg_type_rules.Statements.{walked, return_errors}
-use Rattle.ygg_sym_stops.specs.ygg_type_rules.Statements as rules
-use Rattle.ygg_sym_stops.specs.ygg_meaning_laws_proofs_Tests.{left as first_of}
-use Rattle.ygg_sym_stops.specs.ygg_rules.declared.rule.RuleKind.{RuleKind}
-use Rattle.ygg_sym_stops.specs.ygg_bank_proofs_Meaning.{fits_fewer}
-use Rattle.ygg_sym_stops.specs.ygg_bank.Makes.{Out}
-use Rattle.ygg_sym_stops.specs.ygg_bank.Making.{made}
-use Rattle.ygg_sym_stops.specs.ygg_bank.Nodes.{Extends, HasWidth, IsBank}
-use Rattle.ygg_sym_stops.specs.ygg_bank.declared.node.Id.{Id}
-use Rattle.ygg_sym_stops.specs.ygg_bank.declared.node.Node.{Node}
-use Rattle.ygg_sym_stops.specs.ygg_bank.declared.node.Node.TheVariants.{Const}
-use Rattle.ygg_sym_stops.specs.ygg_meaning_laws.Direct.{room_of}
-use Rattle.ygg_sym_stops.specs.ygg_sym_expr.Names.{SymEnv}
-use Rattle.ygg_sym_stops.specs.ygg_sym_expr_proofs_Shaped.{env_wider}
-use Rattle.ygg_sym_stops.specs.ygg_sym_runs.Lower.{SymMeaning, IsLower, KeepsSingle, SingleFrom, Stands}
-use Rattle.ygg_sym_stops.specs.ygg_sym_runs.Ready.{CanRun, Ended, order_run, terms_of}
-use Rattle.ygg_sym_stops.proofs.of_ygg_sym_runs.Singles.{single_stays}
-use Rattle.ygg_sym_stops.proofs.of_ygg_sym_runs.Walking.{run_left}
-use Rattle.ygg_sym_stops.specs.StopTerms.{SymFallen, SymHalted}
+use Rattle.ygg_sym_machine.specs.ygg_type_rules.TypeErrors.{none}
+use Rattle.ygg_sym_machine.specs.ygg_type_rules.Statements.{walked, return_errors}
+use Rattle.ygg_sym_machine.specs.ygg_type_rules.Statements as rules
+use Rattle.ygg_sym_machine.specs.ygg_meaning_laws_proofs_Tests.{left as first_of}
+use Rattle.ygg_sym_machine.specs.ygg_rules.declared.rule.RuleKind.{RuleKind}
+use Rattle.ygg_sym_machine.specs.ygg_bank_proofs_Meaning.{fits_fewer}
+use Rattle.ygg_sym_machine.specs.ygg_bank.Makes.{Out}
+use Rattle.ygg_sym_machine.specs.ygg_bank.Making.{made}
+use Rattle.ygg_sym_machine.specs.ygg_bank.Nodes.{Extends, HasWidth, IsBank}
+use Rattle.ygg_sym_machine.specs.ygg_bank.declared.node.Id.{Id}
+use Rattle.ygg_sym_machine.specs.ygg_bank.declared.node.Node.{Node}
+use Rattle.ygg_sym_machine.specs.ygg_bank.declared.node.Node.TheVariants.{Const}
+use Rattle.ygg_sym_machine.specs.ygg_meaning_laws.Direct.{room_of}
+use Rattle.ygg_sym_machine.specs.ygg_sym_runs.Names.{SymEnv}
+use Rattle.ygg_sym_machine.specs.ygg_sym_runs_proofs_Shaped.{env_wider}
+use Rattle.ygg_sym_machine.specs.ygg_sym_runs.Lower.{SymMeaning, IsLower, KeepsSingle, SingleFrom, Stands}
+use Rattle.ygg_sym_machine.specs.ygg_sym_runs.Ready.{CanRun, Ended, order_run, terms_of}
+use Rattle.ygg_sym_machine.proofs.of_ygg_sym_runs.Singles.{single_stays}
+use Rattle.ygg_sym_machine.proofs.of_ygg_sym_runs.Walking.{run_left}
+use Rattle.ygg_sym_machine.specs.StopTerms.{SymFallen, SymHalted}
 use Rattle.ygg_sym_spec.specs.ygg_sym_runs.WholeReady.{CanWhole}
-use Rattle.ygg_sym_stops.specs.Halting.{halted_of, halting_meaning, sym_fall}
-use Rattle.ygg_sym_stops.specs.Stopping.{Power}
-use Rattle.ygg_sym_stops.specs.declared.ending.StopEnd.{StopEnd}
+use Rattle.ygg_sym_machine.specs.Halting.{halted_of, halting_meaning, sym_fall}
+use Rattle.ygg_sym_machine.specs.Stopping.{Power}
+use Rattle.ygg_sym_machine.specs.declared.ending.StopEnd.{StopEnd}
 use Rattle.ygg_sym.specs.Falls.{IsFall}
 use Rattle.ygg_sym.proofs.PlacesCounted.{rooms_are}
 

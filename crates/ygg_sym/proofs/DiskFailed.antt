@@ -12,12 +12,12 @@ use Rattle.ygg_sym_spec.specs.ygg_sym_runs.declared.question.Awaited as asked
 use Rattle.ygg_sym_spec.specs.ygg_sym_runs.declared.question.Awaited.TheVariants as question
 use Rattle.ygg_sym_spec.specs.ygg_sym_runs.Cuts.{disk_cuts}
 use Rattle.ygg_sym_spec.specs.ygg_sym_runs.Disks.{sym_call}
-use Rattle.ygg_sym_disk.specs.ygg_sym_runs_proofs_DiskKeeps.{cuts_keep}
-use Rattle.ygg_sym_disk.proofs.Asked.{can_call}
-use Rattle.ygg_sym_disk.specs.Asking.{CallStands}
-use Rattle.ygg_sym_disk.specs.Means.{disk_meaning}
-use Rattle.ygg_sym_disk.specs.declared.lower.SymDisk.{SymDisk}
-use Rattle.ygg_sym_stops.specs.Stopping.{CanCut}
+use Rattle.ygg_sym_machine.specs.ygg_sym_runs_proofs_DiskKeeps.{cuts_keep}
+use Rattle.ygg_sym_machine.proofs.Asked.{can_call}
+use Rattle.ygg_sym_machine.specs.Asking.{CallStands}
+use Rattle.ygg_sym_machine.specs.Means.{disk_meaning}
+use Rattle.ygg_sym_machine.specs.declared.lower.SymDisk.{SymDisk}
+use Rattle.ygg_sym_machine.specs.Stopping.{CanCut}
 use Rattle.ygg_sym.specs.DiskFailing.{disk_power}
 use Rattle.ygg_sym.specs.declared.disk_stops.DiskStops.{DiskStops}
 

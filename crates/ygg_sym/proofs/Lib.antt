@@ -1,7 +1,6 @@
 pub use Rattle.ygg_sym_spec.proofs.of_ygg_shape
 pub use Rattle.ygg_sym_spec.proofs.of_ygg_sym_runs
-pub use Rattle.ygg_sym_spec.proofs.of_ygg_sym_expr
-pub use Rattle.ygg_sym_disk.proofs as of_ygg_sym_disk
+pub use Rattle.ygg_sym_machine.proofs as of_ygg_sym_machine
 pub use Rattle.ygg_sym_spec.proofs.WholeRun
 pub use Rattle.ygg_sym_spec.proofs.Carried
 pub use Rattle.ygg_sym_spec.proofs.Left

@@ -11,12 +11,12 @@ use Rattle.ygg_sym_spec.specs.ygg_bank.declared.node.Node.{Node}
 use Rattle.ygg_sym_spec.proofs.of_ygg_shape.Answered.{no_inputs, some_fit}
 use Rattle.ygg_sym_spec.specs.ygg_shape_cells.declared.terms.SymValue.{SymValue}
 use Rattle.ygg_sym_spec.specs.ygg_sym_runs.Lower.{KeepsSingle}
-use Rattle.ygg_sym_stops.specs.ygg_sym_runs.Cuts.{disk_loses}
-use Rattle.ygg_sym_stops.specs.ygg_sym_runs.Lows.{LowShaped}
-use Rattle.ygg_sym_stops.specs.ygg_sym_runs.SpecCuts.{crash_made}
-use Rattle.ygg_sym_stops.specs.ygg_sym_runs.Specs.{input_pick}
-use Rattle.ygg_sym_stops.specs.ygg_sym_runs.Below.{lost_made, lows_at_start, lows_on, start_made, zeros_made}
-use Rattle.ygg_sym_stops.specs.ygg_sym_runs.Means.{LossMeans, terms_of}
+use Rattle.ygg_sym_machine.specs.ygg_sym_runs.Cuts.{disk_loses}
+use Rattle.ygg_sym_machine.specs.ygg_sym_runs.Lows.{LowShaped}
+use Rattle.ygg_sym_machine.specs.ygg_sym_runs.SpecCuts.{crash_made}
+use Rattle.ygg_sym_machine.specs.ygg_sym_runs.Specs.{input_pick}
+use Rattle.ygg_sym_machine.specs.ygg_sym_runs.Below.{lost_made, lows_at_start, lows_on, start_made, zeros_made}
+use Rattle.ygg_sym_machine.specs.ygg_sym_runs.Means.{LossMeans, terms_of}
 use Rattle.ygg_sym_laws.proofs.Loss.{disk_loss}
 use Rattle.ygg_sym_laws.proofs.AnyLayer.{spec_loss}
 use Rattle.ygg_sym.specs.Layers.{closed, crash_of, terms_in}

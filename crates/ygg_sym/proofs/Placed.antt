@@ -8,13 +8,13 @@ use Rattle.ygg_sym_spec.specs.ygg_rules.declared.rule.RuleKind.{RuleKind}
 use Rattle.ygg_sym_spec.specs.ygg_bank.declared.node.Node.{Node}
 use Rattle.ygg_sym_spec.specs.ygg_shape_cells.declared.terms.SymValue.{SymValue}
 use Rattle.ygg_sym_spec.specs.ygg_sym_runs.Lower.{SingleFrom, Stands}
-use Rattle.ygg_sym_stops.specs.ygg_sym_runs.Lows.{LowShaped}
-use Rattle.ygg_sym_stops.specs.ygg_sym_runs.SpecCuts.{spec_stops}
-use Rattle.ygg_sym_stops.specs.ygg_sym_runs.Specs.{input_pick, sym_spec}
-use Rattle.ygg_sym_disk.specs.Means.{disk_meaning}
-use Rattle.ygg_sym_stops.specs.ygg_sym_runs.Below.{lows_on, machine_on, signatures_on, space_on, stops_on}
-use Rattle.ygg_sym_stops.specs.ygg_sym_runs.Means.{terms_of}
-use Rattle.ygg_sym_stops.specs.ygg_sym_runs.Typed.{BelowTyped, SpecTyped}
+use Rattle.ygg_sym_machine.specs.ygg_sym_runs.Lows.{LowShaped}
+use Rattle.ygg_sym_machine.specs.ygg_sym_runs.SpecCuts.{spec_stops}
+use Rattle.ygg_sym_machine.specs.ygg_sym_runs.Specs.{input_pick, sym_spec}
+use Rattle.ygg_sym_machine.specs.Means.{disk_meaning}
+use Rattle.ygg_sym_machine.specs.ygg_sym_runs.Below.{lows_on, machine_on, signatures_on, space_on, stops_on}
+use Rattle.ygg_sym_machine.specs.ygg_sym_runs.Means.{terms_of}
+use Rattle.ygg_sym_machine.specs.ygg_sym_runs.Typed.{BelowTyped, SpecTyped}
 use Rattle.ygg_sym.specs.Stopping as stopping
 use Rattle.ygg_sym.specs.DiskFailing.{disk_power}
 use Rattle.ygg_sym.specs.Layers.{SpecServes, closed, terms_in}

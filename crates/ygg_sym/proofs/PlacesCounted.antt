@@ -4,10 +4,10 @@ use Rattle.ygg_syntax.specs.declared.tree.Stmt.{Stmt, map-Stmt}
 use Rattle.ygg_syntax.specs.declared.tree.Block.{Block, map-Block, fold-Block}
 use Rattle.ygg_syntax.specs.declared.tree.Stmt.TheOpen.{Stmt-F, Block-F}
 use Rattle.ygg_syntax.specs.declared.tree.Stmt.TheFolds.{fold-Stmt, ind-Stmt, fold-roll-Stmt, fold-roll-Block}
-use Rattle.ygg_sym_stops.specs.ygg_rules.declared.rule.RuleKind.{RuleKind}
-use Rattle.ygg_sym_stops.specs.ygg_meaning_laws.Direct.{total, stmt_room, block_room, room_of}
-use Rattle.ygg_sym_stops.specs.ygg_sym_expr.Exprs.{SymFunctions}
-use Rattle.ygg_sym_stops.specs.ygg_sym_runs.Runs.{SymRun, SymMachine, sym_stmt, sym_block, sym_of}
+use Rattle.ygg_sym_machine.specs.ygg_rules.declared.rule.RuleKind.{RuleKind}
+use Rattle.ygg_sym_machine.specs.ygg_meaning_laws.Direct.{total, stmt_room, block_room, room_of}
+use Rattle.ygg_sym_machine.specs.ygg_sym_runs.Exprs.{SymFunctions}
+use Rattle.ygg_sym_machine.specs.ygg_sym_runs.Runs.{SymRun, SymMachine, sym_stmt, sym_block, sym_of}
 
 module _ {S : Type 0} (kinds : List RuleKind) (terms : SymFunctions) (M : SymMachine S) where
   abbrev R : Stmt → SymRun S

@@ -22,20 +22,20 @@ use Rattle.ygg_sym_spec.proofs.of_ygg_shape.Answered.{no_inputs, some_fit}
 use Rattle.ygg_sym_spec.specs.ygg_shape_cells.Terms.{worth}
 use Rattle.ygg_sym_spec.specs.ygg_shape_cells.declared.terms.SymValue.{SymValue}
 use Rattle.ygg_sym_spec.specs.ygg_meaning_laws.Direct.{room_of}
-use Rattle.ygg_sym_spec.specs.ygg_sym_expr.Names.{SymEnv, sym_bind}
-use Rattle.ygg_sym_spec.specs.ygg_sym_expr.Meaning.{worths}
+use Rattle.ygg_sym_spec.specs.ygg_sym_runs.Names.{SymEnv, sym_bind}
+use Rattle.ygg_sym_spec.specs.ygg_sym_runs.ExpressionMeaning.{worths}
 use Rattle.ygg_sym_spec.specs.ygg_sym_runs.Lower.{SymMeaning, Stands}
 use Rattle.ygg_sym_spec.specs.ygg_sym_runs.Meaning.{AnswerShaped, answer_worth}
 use Rattle.ygg_sym_spec.specs.ygg_sym_runs.Runs.{SymMachine}
 use Rattle.ygg_sym_spec.proofs.of_ygg_sym_runs.Worths.{NameShaped}
-use Rattle.ygg_sym_stops.specs.ygg_sym_runs.Lows.{LowShaped}
-use Rattle.ygg_sym_stops.specs.ygg_sym_runs.StopTerms.{Stops, SymFallen, stop_whole}
-use Rattle.ygg_sym_stops.specs.ygg_sym_runs.Wholes.{sym_whole}
-use Rattle.ygg_sym_stops.proofs.of_ygg_sym_runs.Blocks.{values_worth}
-use Rattle.ygg_sym_stops.proofs.of_ygg_sym_runs.Specs.{bound_worth, low_shaped}
-use Rattle.ygg_sym_stops.specs.ygg_sym_runs.Below.{machine_on, signatures_on, space_on, stops_on}
-use Rattle.ygg_sym_stops.specs.ygg_sym_runs.Means.{Begins, FallMeans, Values3, WholeMeans}
-use Rattle.ygg_sym_stops.specs.ygg_sym_runs.Typed.{BlockTyped}
+use Rattle.ygg_sym_machine.specs.ygg_sym_runs.Lows.{LowShaped}
+use Rattle.ygg_sym_machine.specs.ygg_sym_runs.StopTerms.{Stops, SymFallen, stop_whole}
+use Rattle.ygg_sym_machine.specs.ygg_sym_runs.Wholes.{sym_whole}
+use Rattle.ygg_sym_machine.proofs.of_ygg_sym_runs.Blocks.{values_worth}
+use Rattle.ygg_sym_machine.proofs.of_ygg_sym_runs.Specs.{bound_worth, low_shaped}
+use Rattle.ygg_sym_machine.specs.ygg_sym_runs.Below.{machine_on, signatures_on, space_on, stops_on}
+use Rattle.ygg_sym_machine.specs.ygg_sym_runs.Means.{Begins, FallMeans, Values3, WholeMeans}
+use Rattle.ygg_sym_machine.specs.ygg_sym_runs.Typed.{BlockTyped}
 use Rattle.ygg_sym_laws.proofs.DiskFalls.{disk_falls}
 use Rattle.ygg_sym_laws.proofs.DiskWhole.{disk_whole}
 use Rattle.ygg_sym_laws.proofs.AnyLayer.{spec_falls, spec_whole}

@@ -1,21 +1,21 @@
 -- What power that fails on a specification wants follows from what may be asked.
 use Rattle.std.proofs.Common.{◌≡◌, ℕ, List, [], Bor, sym, ap, ◌∙◌, arith}
 use Rattle.std.specs.Prelude.{min}
-use Rattle.ygg_sym_stops.specs.ygg_rules.declared.rule.RuleKind.{RuleKind}
-use Rattle.ygg_sym_stops.specs.ygg_bank.Makes.{Out}
-use Rattle.ygg_sym_stops.specs.ygg_bank.Nodes.{IsBank}
-use Rattle.ygg_sym_stops.specs.ygg_bank.declared.node.Node.{Node}
-use Rattle.ygg_sym_stops.specs.ygg_shape_cells.declared.terms.SymValue.{SymValue}
-use Rattle.ygg_sym_stops.proofs.of_ygg_sym_runs.Singles.{single_less}
-use Rattle.ygg_sym_stops.specs.ygg_sym_runs.Lower.{question_of}
-use Rattle.ygg_sym_stops.specs.ygg_sym_runs.declared.question.Awaited as asked
-use Rattle.ygg_sym_stops.specs.ygg_sym_runs.declared.question.Awaited.TheVariants as question
+use Rattle.ygg_sym_machine.specs.ygg_rules.declared.rule.RuleKind.{RuleKind}
+use Rattle.ygg_sym_machine.specs.ygg_bank.Makes.{Out}
+use Rattle.ygg_sym_machine.specs.ygg_bank.Nodes.{IsBank}
+use Rattle.ygg_sym_machine.specs.ygg_bank.declared.node.Node.{Node}
+use Rattle.ygg_sym_machine.specs.ygg_shape_cells.declared.terms.SymValue.{SymValue}
+use Rattle.ygg_sym_machine.proofs.of_ygg_sym_runs.Singles.{single_less}
+use Rattle.ygg_sym_machine.specs.ygg_sym_runs.Lower.{question_of}
+use Rattle.ygg_sym_machine.specs.ygg_sym_runs.declared.question.Awaited as asked
+use Rattle.ygg_sym_machine.specs.ygg_sym_runs.declared.question.Awaited.TheVariants as question
 use Rattle.ygg_sym_spec.proofs.Asked.{can_cut}
 use Rattle.ygg_sym_spec.specs.Layers as layers
 use Rattle.ygg_sym_spec.specs.Machine.{spec_meaning}
 use Rattle.ygg_sym_spec.specs.declared.machine.SymSpec.{SymSpec}
 use Rattle.ygg_sym_spec.specs.declared.picks.SymPicks.TheVariants as picks
-use Rattle.ygg_sym_stops.specs.Stopping.{CanCut, CanLose}
+use Rattle.ygg_sym_machine.specs.Stopping.{CanCut, CanLose}
 use Rattle.ygg_sym.specs.SpecFailing.{spec_power}
 use Rattle.ygg_sym.specs.declared.spec_stops.SpecStops.{SpecStops}
 

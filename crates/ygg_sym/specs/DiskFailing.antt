@@ -3,7 +3,7 @@ use Rattle.std.specs.Prelude.{min, List}
 use Rattle.ygg_sym_spec.specs.ygg_bank.Makes.{pure}
 use Rattle.ygg_sym_spec.specs.ygg_shape_cells.declared.terms.SymValue.{SymValue}
 use Rattle.ygg_sym_spec.specs.ygg_sym_runs.Cuts.{disk_cuts, disk_loses}
-use Rattle.ygg_sym_stops.specs.Stopping.{Power}
+use Rattle.ygg_sym_machine.specs.Stopping.{Power}
 use Rattle.ygg_sym.specs.declared.disk_stops.DiskStops.{DiskStops}
 
 -- one input for each stop, from a number on, and one for the pick of the failure

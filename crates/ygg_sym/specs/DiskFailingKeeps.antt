@@ -1,10 +1,10 @@
 -- What power leaves of a disk over terms stands among the nodes.
 use Rattle.std.proofs.Common.{false, arith}
 use Rattle.ygg_sym_spec.specs.ygg_bank_proofs_Widths.{extends_self}
-use Rattle.ygg_sym_disk.specs.Means.{disk_meaning}
-use Rattle.ygg_sym_disk.specs.ygg_sym_runs_proofs_Cuts.{disk_stops_mean}
-use Rattle.ygg_sym_disk.specs.ygg_sym_runs_proofs_DiskKeeps.{cuts_grow}
-use Rattle.ygg_sym_stops.specs.Stopping.{IsPower}
+use Rattle.ygg_sym_machine.specs.Means.{disk_meaning}
+use Rattle.ygg_sym_machine.specs.ygg_sym_runs_proofs_Cuts.{disk_stops_mean}
+use Rattle.ygg_sym_machine.specs.ygg_sym_runs_proofs_DiskKeeps.{cuts_grow}
+use Rattle.ygg_sym_machine.specs.Stopping.{IsPower}
 use Rattle.ygg_sym.specs.DiskFailing.{disk_power}
 use Rattle.ygg_sym.specs.declared.disk_stops.DiskStops.{DiskStops}
 

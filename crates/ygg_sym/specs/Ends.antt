@@ -4,11 +4,11 @@ use Rattle.ygg_syntax.specs.declared.tree.Block.{Block}
 use Rattle.ygg_syntax.specs.declared.tree.Def.{Def}
 use Rattle.ygg_sym_spec.specs.ygg_rules.declared.rule.RuleKind.{RuleKind}
 use Rattle.ygg_sym_spec.specs.ygg_bank.declared.node.Node.{Node}
-use Rattle.ygg_sym_spec.specs.ygg_sym_expr.Names.{SymEnv}
+use Rattle.ygg_sym_spec.specs.ygg_sym_runs.Names.{SymEnv}
 use Rattle.ygg_sym_spec.specs.ygg_sym_runs.Lower.{SymMeaning, KeepsSingle}
 use Rattle.ygg_sym_spec.specs.ygg_sym_runs.Ready.{terms_of}
-use Rattle.ygg_sym_stops.specs.ygg_sym_runs.Wholes.{sym_whole}
-use Rattle.ygg_sym_stops.specs.ygg_sym_runs.Means.{values_in}
+use Rattle.ygg_sym_machine.specs.ygg_sym_runs.Wholes.{sym_whole}
+use Rattle.ygg_sym_machine.specs.ygg_sym_runs.Means.{values_in}
 use Rattle.ygg_sym.specs.declared.running.Ran.{Ran}
 
 module _ {S : Type 0} (M : SymMeaning S) (defs : List Def) (kinds : List RuleKind) where

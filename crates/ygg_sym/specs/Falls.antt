@@ -2,17 +2,17 @@
 use Rattle.std.specs.Prelude.{◌≡◌, List}
 use Rattle.ygg_syntax.specs.declared.tree.Block.{Block}
 use Rattle.ygg_syntax.specs.declared.tree.Def.{Def}
-use Rattle.ygg_sym_stops.specs.ygg_rules.declared.rule.RuleKind.{RuleKind}
-use Rattle.ygg_sym_stops.specs.ygg_bank.Makes.{Make}
-use Rattle.ygg_sym_stops.specs.ygg_bank.Nodes.{HasWidth}
-use Rattle.ygg_sym_stops.specs.ygg_bank.declared.node.Id.{Id}
-use Rattle.ygg_sym_stops.specs.ygg_bank.declared.node.Node.{Node}
-use Rattle.ygg_sym_stops.specs.ygg_meaning_laws.Direct.{room_of}
-use Rattle.ygg_sym_stops.specs.ygg_sym_expr.Names.{SymEnv}
-use Rattle.ygg_sym_stops.specs.ygg_sym_runs.Lower.{SymMeaning, KeepsSingle}
-use Rattle.ygg_sym_stops.specs.ygg_sym_runs.Ready.{terms_of}
-use Rattle.ygg_sym_stops.specs.StopTerms.{SymFallen, stop_whole}
-use Rattle.ygg_sym_stops.specs.Stopping.{Power, stops_on}
+use Rattle.ygg_sym_machine.specs.ygg_rules.declared.rule.RuleKind.{RuleKind}
+use Rattle.ygg_sym_machine.specs.ygg_bank.Makes.{Make}
+use Rattle.ygg_sym_machine.specs.ygg_bank.Nodes.{HasWidth}
+use Rattle.ygg_sym_machine.specs.ygg_bank.declared.node.Id.{Id}
+use Rattle.ygg_sym_machine.specs.ygg_bank.declared.node.Node.{Node}
+use Rattle.ygg_sym_machine.specs.ygg_meaning_laws.Direct.{room_of}
+use Rattle.ygg_sym_machine.specs.ygg_sym_runs.Names.{SymEnv}
+use Rattle.ygg_sym_machine.specs.ygg_sym_runs.Lower.{SymMeaning, KeepsSingle}
+use Rattle.ygg_sym_machine.specs.ygg_sym_runs.Ready.{terms_of}
+use Rattle.ygg_sym_machine.specs.StopTerms.{SymFallen, stop_whole}
+use Rattle.ygg_sym_machine.specs.Stopping.{Power, stops_on}
 
 module _ {S : Type 0} (M : SymMeaning S) (K : Power S) (defs : List Def) (kinds : List RuleKind) where
   -- a run of the block that power cuts, where the stop after it comes after all its places

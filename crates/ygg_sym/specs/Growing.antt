@@ -3,27 +3,27 @@ use Rattle.std.specs.Prelude.{ℕ, ◌+◌, List, Option, Some, None, reverse}
 use Rattle.ygg_syntax.specs.declared.tree.Block.{Block}
 use Rattle.ygg_syntax.specs.declared.tree.Def.{Def}
 use Rattle.ygg_syntax.specs.declared.tree.Operation.{Operation}
-use Rattle.ygg_sym_stops.specs.ygg_meaning.Layer.{ClosedLayer, operation_of}
-use Rattle.ygg_sym_stops.specs.ygg_rules.declared.rule.RuleKind.{RuleKind}
-use Rattle.ygg_sym_stops.specs.ygg_bank_proofs_Made.{made_grows}
-use Rattle.ygg_sym_stops.specs.ygg_bank_proofs_Widths.{extends_both, extends_self}
-use Rattle.ygg_sym_stops.specs.ygg_bank.Makes.{Make}
-use Rattle.ygg_sym_stops.specs.ygg_bank.Making.{made}
-use Rattle.ygg_sym_stops.specs.ygg_bank.Nodes.{Extends}
-use Rattle.ygg_sym_stops.specs.ygg_bank.declared.node.Id.{Id}
-use Rattle.ygg_sym_stops.specs.ygg_bank.declared.node.Node.{Node}
-use Rattle.ygg_sym_stops.specs.ygg_bank.declared.node.Node.TheVariants.{Input}
-use Rattle.ygg_sym_stops.specs.ygg_shape_words_proofs_Keeps.{Stays, grows_stays}
-use Rattle.ygg_sym_stops.specs.ygg_shape_cells.declared.terms.SymValue.{SymValue}
-use Rattle.ygg_sym_stops.specs.ygg_sym_expr.Meaning.{Grows}
-use Rattle.ygg_sym_stops.specs.ygg_sym_expr.Names.{SymEnv, sym_bind}
-use Rattle.ygg_sym_stops.specs.ygg_sym_expr.Exprs.{SymFunctions, sym_functions}
-use Rattle.ygg_sym_stops.specs.ygg_sym_expr_proofs_Keeps.{Keeps, FunctionsKeep, functions_keep}
-use Rattle.ygg_sym_stops.specs.ygg_sym_runs.Runs.{SymQuestion, Choice, Call}
-use Rattle.ygg_sym_stops.specs.ygg_sym_runs.Specs.{input_pick}
-use Rattle.ygg_sym_stops.specs.ygg_sym_runs.SpecCuts.{picks_after, choice_room, block_made, crash_made, then_crash_made, fall_made, fall_asked, spec_cuts}
-use Rattle.ygg_sym_stops.specs.ygg_sym_runs_proofs_MadeInputs.{lows_keep}
-use Rattle.ygg_sym_stops.specs.ygg_sym_runs_proofs_SpecKeeps.{block_keeps, crash_keeps}
+use Rattle.ygg_sym_machine.specs.ygg_meaning.Layer.{ClosedLayer, operation_of}
+use Rattle.ygg_sym_machine.specs.ygg_rules.declared.rule.RuleKind.{RuleKind}
+use Rattle.ygg_sym_machine.specs.ygg_bank_proofs_Made.{made_grows}
+use Rattle.ygg_sym_machine.specs.ygg_bank_proofs_Widths.{extends_both, extends_self}
+use Rattle.ygg_sym_machine.specs.ygg_bank.Makes.{Make}
+use Rattle.ygg_sym_machine.specs.ygg_bank.Making.{made}
+use Rattle.ygg_sym_machine.specs.ygg_bank.Nodes.{Extends}
+use Rattle.ygg_sym_machine.specs.ygg_bank.declared.node.Id.{Id}
+use Rattle.ygg_sym_machine.specs.ygg_bank.declared.node.Node.{Node}
+use Rattle.ygg_sym_machine.specs.ygg_bank.declared.node.Node.TheVariants.{Input}
+use Rattle.ygg_sym_machine.specs.ygg_shape_words_proofs_Keeps.{Stays, grows_stays}
+use Rattle.ygg_sym_machine.specs.ygg_shape_cells.declared.terms.SymValue.{SymValue}
+use Rattle.ygg_sym_machine.specs.ygg_sym_runs.ExpressionMeaning.{Grows}
+use Rattle.ygg_sym_machine.specs.ygg_sym_runs.Names.{SymEnv, sym_bind}
+use Rattle.ygg_sym_machine.specs.ygg_sym_runs.Exprs.{SymFunctions, sym_functions}
+use Rattle.ygg_sym_machine.specs.ygg_sym_runs_proofs_Keeps.{Keeps, FunctionsKeep, functions_keep}
+use Rattle.ygg_sym_machine.specs.ygg_sym_runs.Runs.{SymQuestion, Choice, Call}
+use Rattle.ygg_sym_machine.specs.ygg_sym_runs.Specs.{input_pick}
+use Rattle.ygg_sym_machine.specs.ygg_sym_runs.SpecCuts.{picks_after, choice_room, block_made, crash_made, then_crash_made, fall_made, fall_asked, spec_cuts}
+use Rattle.ygg_sym_machine.specs.ygg_sym_runs_proofs_MadeInputs.{lows_keep}
+use Rattle.ygg_sym_machine.specs.ygg_sym_runs_proofs_SpecKeeps.{block_keeps, crash_keeps}
 
 module _ (kinds : List RuleKind) (P : List Node → Type 0) (stays : Stays kinds P) (terms : SymFunctions) (keep : FunctionsKeep P terms) (m : ClosedLayer) where
   -- what holds stays at all picks

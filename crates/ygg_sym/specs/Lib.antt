@@ -9,16 +9,15 @@ pub use Rattle.ygg_sym_spec.specs.ygg_sym_runs_proofs_Chosen
 pub use Rattle.ygg_sym_spec.specs.ygg_sym_runs_proofs_Lows
 pub use Rattle.ygg_sym_spec.specs.ygg_sym_runs_proofs_Specs
 pub use Rattle.ygg_sym_spec.specs.ygg_sym_runs
-pub use Rattle.ygg_sym_spec.specs.ygg_sym_expr_proofs_Grows
-pub use Rattle.ygg_sym_spec.specs.ygg_sym_expr_proofs_Shaped
-pub use Rattle.ygg_sym_spec.specs.ygg_sym_expr
+pub use Rattle.ygg_sym_spec.specs.ygg_sym_runs_proofs_Grows
+pub use Rattle.ygg_sym_spec.specs.ygg_sym_runs_proofs_Shaped
 pub use Rattle.ygg_sym_laws.specs as ygg_sym_laws
-pub use Rattle.ygg_sym_spec.specs.ygg_syntax_count
+pub use Rattle.ygg_sym_spec.specs.ygg_syntax
 pub use Rattle.ygg_sym_spec.specs.ygg_meaning_laws_proofs_ProgressFits
 pub use Rattle.ygg_sym_spec.specs.ygg_meaning_laws
 pub use Rattle.ygg_sym_spec.specs.ygg_type_rules
-pub use Rattle.ygg_sym_stops.specs.Stopping
-pub use Rattle.ygg_sym_disk.specs as ygg_sym_disk
+pub use Rattle.ygg_sym_machine.specs.Stopping
+pub use Rattle.ygg_sym_machine.specs as ygg_sym_machine
 pub use Rattle.ygg_sym_spec.specs as ygg_sym_spec
 pub use Rattle.ygg_sym_spec.specs.Machine
 pub use Rattle.ygg_sym_spec.specs.declared.picks.SymPicks

@@ -7,14 +7,14 @@ use Rattle.ygg_sym_spec.specs.ygg_bank.Makes.{Make}
 use Rattle.ygg_sym_spec.specs.ygg_bank.Values.{Inputs, Values, Fits}
 use Rattle.ygg_sym_spec.specs.ygg_bank.declared.node.Node.{Node}
 use Rattle.ygg_sym_spec.specs.ygg_shape_cells.declared.terms.SymValue.{SymValue}
-use Rattle.ygg_sym_spec.specs.ygg_sym_expr.Names.{sym_bind}
+use Rattle.ygg_sym_spec.specs.ygg_sym_runs.Names.{sym_bind}
 use Rattle.ygg_sym_spec.specs.ygg_sym_runs.Meaning.{AnswerShaped, answer_worth}
-use Rattle.ygg_sym_stops.specs.ygg_sym_runs.Lows.{LowShaped}
-use Rattle.ygg_sym_stops.specs.ygg_sym_runs.StopTerms.{SymFallen}
-use Rattle.ygg_sym_stops.specs.ygg_sym_runs.Wholes.{SymFinish}
-use Rattle.ygg_sym_stops.specs.ygg_sym_runs.Below.{cut_made, run_made, signatures_on}
-use Rattle.ygg_sym_stops.specs.ygg_sym_runs.Means.{values_in}
-use Rattle.ygg_sym_stops.specs.ygg_sym_runs.Typed.{BlockTyped}
+use Rattle.ygg_sym_machine.specs.ygg_sym_runs.Lows.{LowShaped}
+use Rattle.ygg_sym_machine.specs.ygg_sym_runs.StopTerms.{SymFallen}
+use Rattle.ygg_sym_machine.specs.ygg_sym_runs.Wholes.{SymFinish}
+use Rattle.ygg_sym_machine.specs.ygg_sym_runs.Below.{cut_made, run_made, signatures_on}
+use Rattle.ygg_sym_machine.specs.ygg_sym_runs.Means.{values_in}
+use Rattle.ygg_sym_machine.specs.ygg_sym_runs.Typed.{BlockTyped}
 use Rattle.ygg_sym.specs.Layers.{closed, terms_in}
 use Rattle.ygg_sym.specs.Sites.{BelowFits, below_in}
 use Rattle.ygg_sym.specs.declared.runs.SymBlock.{SymBlock}

@@ -1,10 +1,10 @@
 -- Power that fails on a specification over terms.
 use Rattle.std.specs.Prelude.{min, List}
-use Rattle.ygg_sym_stops.specs.ygg_shape_cells.declared.terms.SymValue.{SymValue}
-use Rattle.ygg_sym_stops.specs.ygg_sym_runs.SpecCuts.{crash_made, spec_cuts}
-use Rattle.ygg_sym_stops.specs.ygg_sym_runs.Specs.{input_pick}
+use Rattle.ygg_sym_machine.specs.ygg_shape_cells.declared.terms.SymValue.{SymValue}
+use Rattle.ygg_sym_machine.specs.ygg_sym_runs.SpecCuts.{crash_made, spec_cuts}
+use Rattle.ygg_sym_machine.specs.ygg_sym_runs.Specs.{input_pick}
 use Rattle.ygg_sym_spec.specs.Layers.{closed, terms_in}
-use Rattle.ygg_sym_stops.specs.Stopping.{Power}
+use Rattle.ygg_sym_machine.specs.Stopping.{Power}
 use Rattle.ygg_sym.specs.declared.spec_stops.SpecStops.{SpecStops}
 
 -- one input for each stop, from a number on, and one for each pick of the failure, from another number on

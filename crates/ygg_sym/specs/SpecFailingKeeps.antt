@@ -3,16 +3,16 @@ use Rattle.std.proofs.Common.{List, [], reverse, arith}
 use Rattle.ygg_syntax.specs.declared.tree.Block.{Block}
 use Rattle.ygg_syntax.specs.declared.tree.Declared.{Declared}
 use Rattle.ygg_syntax.specs.declared.tree.Def.{Def}
-use Rattle.ygg_sym_stops.specs.ygg_type_rules.Definitions.{with_definitions}
-use Rattle.ygg_sym_stops.specs.ygg_meaning.Layer.{ClosedLayer}
-use Rattle.ygg_sym_stops.specs.ygg_sym_expr_proofs_Definitions.{functions_mean}
-use Rattle.ygg_sym_stops.specs.ygg_sym_expr_proofs_Grows.{functions_grow}
-use Rattle.ygg_sym_stops.specs.ygg_sym_runs_proofs_SpecStops.{FallsTyped, SomeBlock, spec_stops_mean}
+use Rattle.ygg_sym_machine.specs.ygg_type_rules.Definitions.{with_definitions}
+use Rattle.ygg_sym_machine.specs.ygg_meaning.Layer.{ClosedLayer}
+use Rattle.ygg_sym_machine.specs.ygg_sym_runs_proofs_Definitions.{functions_mean}
+use Rattle.ygg_sym_machine.specs.ygg_sym_runs_proofs_Grows.{functions_grow}
+use Rattle.ygg_sym_machine.specs.ygg_sym_runs_proofs_SpecStops.{FallsTyped, SomeBlock, spec_stops_mean}
 use Rattle.ygg_sym_spec.specs.Below.{signatures_of}
 use Rattle.ygg_sym_spec.specs.Typed.{SpecBlockTyped, SpecTyped}
 use Rattle.ygg_sym_spec.specs.Layers.{closed, terms_in}
 use Rattle.ygg_sym_spec.specs.Machine.{spec_meaning}
-use Rattle.ygg_sym_stops.specs.Stopping.{IsPower}
+use Rattle.ygg_sym_machine.specs.Stopping.{IsPower}
 use Rattle.ygg_sym.specs.SpecFailing.{spec_power}
 use Rattle.ygg_sym.specs.Growing.{cut_grows, loss_grows}
 use Rattle.ygg_sym.specs.declared.spec_stops.SpecStops.{SpecStops}

@@ -1,9 +1,8 @@
 //! A disk whose power fails, as the machine on which a block runs.
 
 use std::alloc::Global;
-use ygg_sym_disk::{Awaited, Lows, SymDisk, cut, lose};
+use ygg_sym_machine::{Awaited, Lows, SymDisk, SymStops, cut, lose};
 use ygg_sym_spec::{Bank, Book, Id, NoMemory, SymLower, SymValue};
-use ygg_sym_stops::SymStops;
 
 /// A disk over terms whose power fails at stops.
 #[derive(Clone, Copy)]
@@ -17,8 +16,8 @@ pub struct DiskStops {
 }
 
 impl SymLower for DiskStops {
-    ghost use Rattle.ygg_sym_disk.specs.Means.{disk_meaning};
-    ghost use Rattle.ygg_sym_disk.specs.Keeps.{disk_keeps_meaning};
+    ghost use Rattle.ygg_sym_machine.specs.Means.{disk_meaning};
+    ghost use Rattle.ygg_sym_machine.specs.Keeps.{disk_keeps_meaning};
 
     type State = Lows;
 

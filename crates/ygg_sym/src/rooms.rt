@@ -2,12 +2,12 @@
 
 ghost use Rattle.std.specs.Prelude.{◌≡◌, ◌+◌, IfOk};
 ghost use Rattle.ygg_sym_spec.specs.ygg_meaning.Refines.{OnDisk, OnSpec};
-ghost use Rattle.ygg_sym_stops.specs.ygg_sym_runs.SpecCuts.{choice_room, fall_places, fall_room};
-ghost use Rattle.ygg_sym_stops.specs.ygg_sym_runs.Below.{failure_room, places_on};
+ghost use Rattle.ygg_sym_machine.specs.ygg_sym_runs.SpecCuts.{choice_room, fall_places, fall_room};
+ghost use Rattle.ygg_sym_machine.specs.ygg_sym_runs.Below.{failure_room, places_on};
 ghost use Rattle.ygg_sym.specs.Layers.{closed};
 ghost use Rattle.ygg_sym.specs.Sites.{below_in};
 
-use ygg_sym_disk::SymDisk;
+use ygg_sym_machine::SymDisk;
 use ygg_sym_spec::{NoMemory, SymBelow, SymLayer, SymSpec, choices, room};
 use ygg_syntax::tree::{Block, DiskText, Operation};
 

@@ -2,8 +2,8 @@
 
 ghost use Rattle.std.specs.Prelude.{◌≡◌, ◌≤◌, ◌++◌, length, IfOk, OnOk};
 ghost use Rattle.ygg_sym_spec.specs.ygg_bank.Nodes.{Extends, IsBank};
-ghost use Rattle.ygg_sym_spec.specs.ygg_sym_expr.Names.{sym_bind};
-ghost use Rattle.ygg_sym_spec.specs.ygg_sym_expr.Seen.{env_of};
+ghost use Rattle.ygg_sym_spec.specs.ygg_sym_runs.Names.{sym_bind};
+ghost use Rattle.ygg_sym_spec.specs.ygg_sym_runs.Seen.{env_of};
 ghost use Rattle.ygg_sym_spec.specs.ygg_sym_runs.Lower.{KeepsSingle, SingleFrom};
 ghost use Rattle.ygg_sym_spec.specs.ygg_sym_runs.WholeReady.{CanWhole};
 ghost use Rattle.ygg_sym.specs.Falls.{IsFall};
@@ -16,12 +16,11 @@ use crate::runs::{SymBlock, SymCut, SymEnd};
 use crate::spec_stops::SpecStops;
 use crate::stopping::cut_short;
 use std::alloc::Global;
-use ygg_sym_disk::{Lows, SymDisk};
+use ygg_sym_machine::{Lows, StopEnd, SymDisk, SymStops};
 use ygg_sym_spec::{
     Bank, Book, NoMemory, SymBinding, SymLayer, SymLower, SymRunner, SymSpec, SymValue, SymValues,
     bind, values_of, whole,
 };
-use ygg_sym_stops::{StopEnd, SymStops};
 use ygg_syntax::tree::{Block, Declared, DiskText};
 
 /// What a whole run on a machine leaves.

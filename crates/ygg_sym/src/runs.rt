@@ -2,16 +2,16 @@
 
 ghost use Rattle.std.specs.Prelude.{◌≡◌, ◌≤◌, IfOk, OnOk};
 ghost use Rattle.ygg_sym_spec.specs.ygg_bank.Nodes.{Extends, HasWidth, IsBank};
-ghost use Rattle.ygg_sym_stops.specs.ygg_sym_runs.Lows.{LowShaped};
+ghost use Rattle.ygg_sym_machine.specs.ygg_sym_runs.Lows.{LowShaped};
 ghost use Rattle.ygg_sym_spec.specs.ygg_sym_runs.Lower.{KeepsSingle, SingleFrom};
-ghost use Rattle.ygg_sym_stops.specs.ygg_sym_runs.Below.{lost_made, lows_at_start};
+ghost use Rattle.ygg_sym_machine.specs.ygg_sym_runs.Below.{lost_made, lows_at_start};
 ghost use Rattle.ygg_sym.specs.Layers.{terms_in};
 ghost use Rattle.ygg_sym.specs.Sites.{below_in, BelowFits};
 ghost use Rattle.ygg_sym.specs.Running.{CanRunBlock, CutIs, EndIs, EndStands, cut_of, run_of};
 
 use crate::running::{cut_on_disk, cut_on_spec, run_on_disk, run_on_spec};
 use std::alloc::Global;
-use ygg_sym_disk::lose;
+use ygg_sym_machine::lose;
 use ygg_sym_spec::{
     Bank, Book, Id, NoMemory, SymBelow, SymLayer, SymPicks, SymValue, SymValues, crash, start,
     zeros,

@@ -1,9 +1,8 @@
 //! A specification whose power fails, as the machine on which a block runs.
 
 use std::alloc::Global;
-use ygg_sym_disk::Lows;
+use ygg_sym_machine::{Awaited, Bank, Book, Id, Lows, NoMemory, SymLower, SymStops, SymValue};
 use ygg_sym_spec::{SymPicks, SymSpec, crash, fall};
-use ygg_sym_stops::{Awaited, Bank, Book, Id, NoMemory, SymLower, SymStops, SymValue};
 
 /// The specification of a layer over terms whose power fails at stops.
 #[derive(Clone, Copy)]

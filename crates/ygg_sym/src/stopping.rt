@@ -1,16 +1,16 @@
 //! Runs that power cuts.
 
 ghost use Rattle.std.specs.Prelude.{◌≡◌, ◌++◌, IfOk};
-ghost use Rattle.ygg_sym_stops.specs.ygg_bank.Nodes.{Extends, IsBank};
-ghost use Rattle.ygg_sym_stops.specs.ygg_sym_expr.Names.{SymEnv};
-ghost use Rattle.ygg_sym_stops.specs.ygg_sym_expr.Seen.{env_of};
-ghost use Rattle.ygg_sym_stops.specs.ygg_sym_runs.Lower.{SingleFrom};
-ghost use Rattle.ygg_sym_stops.specs.ygg_sym_runs.Ready.{CanRun, Ended, order_run};
+ghost use Rattle.ygg_sym_machine.specs.ygg_bank.Nodes.{Extends, IsBank};
+ghost use Rattle.ygg_sym_machine.specs.ygg_sym_runs.Names.{SymEnv};
+ghost use Rattle.ygg_sym_machine.specs.ygg_sym_runs.Seen.{env_of};
+ghost use Rattle.ygg_sym_machine.specs.ygg_sym_runs.Lower.{SingleFrom};
+ghost use Rattle.ygg_sym_machine.specs.ygg_sym_runs.Ready.{CanRun, Ended, order_run};
 ghost use Rattle.ygg_sym_spec.specs.ygg_sym_runs.WholeReady.{CanWhole};
 ghost use Rattle.ygg_sym.specs.Falls.{IsFall};
 
 use ygg_list::Duplicate;
-use ygg_sym_stops::{
+use ygg_sym_machine::{
     Bank, Book, Halting, NoMemory, Node, StopEnd, StopState, SymBinding, SymFrame, SymLower,
     SymRunner, SymStops, end_halting,
 };

@@ -14,7 +14,7 @@ use Rattle.ygg_bank.specs.Making.{made}
 use Rattle.ygg_bank.specs.declared.node.Node.{Node}
 use Rattle.ygg_bank.specs.declared.node.Node.TheVariants.{Const}
 use Rattle.ygg_shape_words.proofs.Keeps.{inputs_stay}
-use Rattle.ygg_sym_expr.specs.Names.{sym_bind}
+use Rattle.ygg_sym_runs.specs.Names.{sym_bind}
 use Rattle.ygg_sym_runs.specs.SpecCuts.{choice_room}
 use Rattle.ygg_sym_runs.specs.Specs.{given_pick, input_pick}
 use Rattle.ygg_sym_runs.proofs.MadeInputs.{fresh_below, terms_below}

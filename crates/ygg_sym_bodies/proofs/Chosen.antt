@@ -26,17 +26,17 @@ use Rattle.ygg_meaning_laws.specs.SpecActs.{Ran, block_ran}
 use Rattle.ygg_meaning_laws.proofs.Placing.{taken_self}
 use Rattle.ygg_meaning_laws.proofs.SpecActed.{block_whole}
 use Rattle.ygg_meaning_laws.proofs.SpecServes.{ran_alone}
-use Rattle.ygg_sym_expr.specs.Meaning.{Grows}
-use Rattle.ygg_sym_expr.specs.Names.{sym_bind}
+use Rattle.ygg_sym_runs.specs.ExpressionMeaning.{Grows}
+use Rattle.ygg_sym_runs.specs.Names.{sym_bind}
 use Rattle.ygg_sym_runs.specs.Meaning.{AnswerShaped, answer_worth}
 use Rattle.ygg_sym_runs.specs.Lows.{low_worth}
 use Rattle.ygg_sym_runs.specs.SpecCuts.{choice_room}
 use Rattle.ygg_sym_runs.proofs.Blocks.{BlockOfSpec, block_made_gives, block_made_grows, low_stands, values_worth}
 use Rattle.ygg_sym_runs.proofs.Chosen.{backs, block_end}
 use Rattle.ygg_sym_runs.proofs.Specs.{PickMeans}
-use Rattle.ygg_sym_expr.proofs.Definitions.{functions_mean}
-use Rattle.ygg_sym_expr.proofs.Grows.{FunctionsGrow, functions_grow}
-use Rattle.ygg_sym_expr.proofs.Values.{FunctionsMean}
+use Rattle.ygg_sym_runs.proofs.Definitions.{functions_mean}
+use Rattle.ygg_sym_runs.proofs.Grows.{FunctionsGrow, functions_grow}
+use Rattle.ygg_sym_runs.proofs.Values.{FunctionsMean}
 use Rattle.ygg_sym_laws.specs.Means.{terms_of}
 use Rattle.ygg_sym_laws.specs.Typed.{SpecBlockTyped}
 use Rattle.ygg_sym_laws.specs.Taking.{block_takes}

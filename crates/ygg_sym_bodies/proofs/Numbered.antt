@@ -9,7 +9,7 @@ use Rattle.ygg_syntax.specs.declared.tree.Layer.{Layer}
 use Rattle.ygg_meaning.specs.Meaning.{functions_of}
 use Rattle.ygg_meaning.specs.Refines.{OnDisk, OnSpec}
 use Rattle.ygg_meaning.specs.Stack.{tables_of}
-use Rattle.ygg_eval_block.specs.Layers.{below_at, closed_at, variables_at, variables_from}
+use Rattle.ygg_eval.specs.Layers.{below_at, closed_at, variables_at, variables_from}
 use Rattle.ygg_sym.specs.Sites.{SameDefs}
 use Rattle.ygg_sym_spec.specs.declared.below.SymBelow.{SymBelow}
 use Rattle.ygg_sym_spec.specs.declared.below.SymBelow.TheVariants as on

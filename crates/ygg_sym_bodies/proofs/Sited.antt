@@ -13,10 +13,10 @@ use Rattle.ygg_bank.specs.declared.node.Node.{Node}
 use Rattle.ygg_bank.specs.declared.node.Node.TheVariants.{Const}
 use Rattle.ygg_value.specs.Words.{word}
 use Rattle.ygg_shape_cells.specs.declared.terms.SymValue.{SymValue}
-use Rattle.ygg_eval_block.specs.Bodies.{kind_of, variables_in}
-use Rattle.ygg_eval_block.specs.declared.body.Body.{Body}
-use Rattle.ygg_eval_block.specs.declared.body.Part.{Part}
-use Rattle.ygg_eval_block.specs.declared.body.Part.TheVariants.{Start, Spec, OnCrash, Crash, Format, Impl, Tick, Recover}
+use Rattle.ygg_eval.specs.Bodies.{kind_of, variables_in}
+use Rattle.ygg_eval.specs.declared.body.Body.{Body}
+use Rattle.ygg_eval.specs.declared.body.Part.{Part}
+use Rattle.ygg_eval.specs.declared.body.Part.TheVariants.{Start, Spec, OnCrash, Crash, Format, Impl, Tick, Recover}
 use Rattle.ygg_sym_laws.specs.Below.{zeros_made}
 use Rattle.ygg_sym_laws.specs.SymLaws.{OverTyped}
 use Rattle.ygg_sym_spec.specs.Layers.{closed}

@@ -9,7 +9,7 @@ use Rattle.ygg_bank.specs.Values.{Fits}
 use Rattle.ygg_bank.specs.declared.node.Id.{Id}
 use Rattle.ygg_bank.specs.declared.node.Node.{Node}
 use Rattle.ygg_shape_cells.specs.declared.terms.SymValue.{SymValue}
-use Rattle.ygg_sym_expr.specs.Names.{sym_bind}
+use Rattle.ygg_sym_runs.specs.Names.{sym_bind}
 use Rattle.ygg_sym_runs.specs.Meaning.{AnswerShaped}
 use Rattle.ygg_sym_runs.proofs.Zeros.{zero_values, zeros, zeros_fit}
 use Rattle.ygg_sym_runs.specs.Disks.{Done, done}

@@ -17,12 +17,12 @@ use Rattle.ygg_meaning.specs.Meaning.{functions_of}
 use Rattle.ygg_meaning.specs.Refines.{Below}
 use Rattle.ygg_meaning.specs.Stack.{Layers, below_of, layers_of}
 use Rattle.ygg_meaning_laws.specs.Kinds.{may_call}
-use Rattle.ygg_eval_block.specs.Bodies.{IsBlock, arguments_in, block_in, kind_of, variables_in}
-use Rattle.ygg_eval_block.specs.Layers.{below_at, closed_at, variables_at}
-use Rattle.ygg_eval_block.specs.declared.body.Body.{Body}
-use Rattle.ygg_eval_block.specs.declared.body.Part.{Part}
-use Rattle.ygg_eval_block.specs.declared.body.Part.TheVariants.{Start, Spec, OnCrash, Crash, Format, Impl as ImplPart, Tick, Recover}
-use Rattle.ygg_eval_block.proofs.Numbers.{below_is_numbered, numbered_is_listed}
+use Rattle.ygg_eval.specs.Bodies.{IsBlock, arguments_in, block_in, kind_of, variables_in}
+use Rattle.ygg_eval.specs.Layers.{below_at, closed_at, variables_at}
+use Rattle.ygg_eval.specs.declared.body.Body.{Body}
+use Rattle.ygg_eval.specs.declared.body.Part.{Part}
+use Rattle.ygg_eval.specs.declared.body.Part.TheVariants.{Start, Spec, OnCrash, Crash, Format, Impl as ImplPart, Tick, Recover}
+use Rattle.ygg_eval.proofs.Numbers.{below_is_numbered, numbered_is_listed}
 use Rattle.ygg_sym_laws.specs.Below.{signatures_on}
 use Rattle.ygg_sym_laws.specs.Typed.{BlockTyped, SpecBlockTyped}
 use Rattle.ygg_oblige_laws.specs.LayerTerms.{LayerTyped, OperationFits}

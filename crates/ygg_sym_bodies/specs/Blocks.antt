@@ -9,8 +9,8 @@ use Rattle.ygg_bank.specs.declared.node.Node.{Node}
 use Rattle.ygg_sym_laws.specs.Below.{signatures_on}
 use Rattle.ygg_sym_laws.specs.Typed.{BlockTyped, SpecBlockTyped}
 use Rattle.ygg_sym_spec.specs.Layers.{closed}
-use Rattle.ygg_eval_block.specs.Bodies.{kind_of, variables_in}
-use Rattle.ygg_eval_block.specs.declared.body.Part.{Part}
+use Rattle.ygg_eval.specs.Bodies.{kind_of, variables_in}
+use Rattle.ygg_eval.specs.declared.body.Part.{Part}
 use Rattle.ygg_sym.specs.Kept.{AreKept}
 use Rattle.ygg_sym.specs.Sites.{BelowFits, below_in}
 use Rattle.ygg_sym.specs.declared.runs.SymBlock.{SymBlock}

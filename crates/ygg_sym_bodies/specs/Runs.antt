@@ -10,7 +10,7 @@ use Rattle.ygg_bank.specs.declared.node.Id.{Id}
 use Rattle.ygg_bank.specs.declared.node.Node.{Node}
 use Rattle.ygg_bank.specs.declared.node.Node.TheVariants.{Const}
 use Rattle.ygg_shape_cells.specs.declared.terms.SymValue.{SymValue}
-use Rattle.ygg_sym_expr.specs.Names.{sym_bind}
+use Rattle.ygg_sym_runs.specs.Names.{sym_bind}
 use Rattle.ygg_sym_runs.specs.Meaning.{AnswerShaped}
 use Rattle.ygg_sym_runs.specs.SpecCuts.{block_made, choice_room}
 use Rattle.ygg_sym_runs.specs.Specs.{given_pick, input_pick}

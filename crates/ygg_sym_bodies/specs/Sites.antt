@@ -11,10 +11,10 @@ use Rattle.ygg_meaning.specs.Refines.{Below}
 use Rattle.ygg_meaning_laws.specs.Kinds.{may_call, may_choose}
 use Rattle.ygg_bank.specs.declared.node.Node.{Node}
 use Rattle.ygg_sym_runs.specs.Lows.{LowShaped}
-use Rattle.ygg_eval_block.specs.Bodies.{IsBlock, arguments_in, kind_of, variables_in}
-use Rattle.ygg_eval_block.specs.Layers.{below_at, closed_at}
-use Rattle.ygg_eval_block.specs.declared.body.Body.{Body}
-use Rattle.ygg_eval_block.specs.declared.body.Part.{Part}
+use Rattle.ygg_eval.specs.Bodies.{IsBlock, arguments_in, kind_of, variables_in}
+use Rattle.ygg_eval.specs.Layers.{below_at, closed_at}
+use Rattle.ygg_eval.specs.declared.body.Body.{Body}
+use Rattle.ygg_eval.specs.declared.body.Part.{Part}
 use Rattle.ygg_sym_bodies.specs.declared.state.SymState.{SymState}
 
 -- a block of a layer: the file's definitions, what the layer is specified over, the variables and the arguments that the block sees, and whether it may

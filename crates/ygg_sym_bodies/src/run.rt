@@ -17,7 +17,7 @@ use crate::state::{SymRun, SymState};
 use std::alloc::Global;
 use ygg_bank::{Bank, NoMemory, Node};
 use ygg_base::Bits;
-use ygg_eval_block::{Body, Part};
+use ygg_eval::{Body, Part};
 use ygg_oblige::tables;
 use ygg_rules::Book;
 use ygg_sym::SymBlock;

@@ -5,14 +5,14 @@ ghost use Rattle.ygg_syntax.specs.declared.tree.Block as block;
 ghost use Rattle.ygg_syntax.specs.declared.tree.Layer as layer;
 ghost use Rattle.ygg_meaning.specs.Stack.{tables_of};
 ghost use Rattle.ygg_meaning_laws.specs.Kinds.{may_call};
-ghost use Rattle.ygg_eval_block.specs.Bodies.{IsBlock, kind_of};
-ghost use Rattle.ygg_eval_block.specs.Layers.{below_at, variables_at};
+ghost use Rattle.ygg_eval.specs.Bodies.{IsBlock, kind_of};
+ghost use Rattle.ygg_eval.specs.Layers.{below_at, variables_at};
 ghost use Rattle.ygg_sym.specs.Sites.{SameDefs, below_in};
 ghost use Rattle.ygg_sym_bodies.specs.Blocks.{SiteFits, site_in};
 ghost use Rattle.ygg_sym_bodies.specs.Places.{HasDefs};
 ghost use Rattle.ygg_sym_bodies.specs.Sites.{AtBlock};
 
-use ygg_eval_block::{Body, Part, arguments_of, block_of};
+use ygg_eval::{Body, Part, arguments_of, block_of};
 use ygg_sym::{SymBlock, SymLayer};
 use ygg_sym_spec::SymBelow;
 use ygg_syntax::tree::{Declared, File};

@@ -15,7 +15,7 @@ use crate::site::{block_at, calls};
 use crate::state::{SymRun, SymState};
 use std::alloc::Global;
 use ygg_bank::{Bank, NoMemory};
-use ygg_eval_block::{Body, Part, variables_of};
+use ygg_eval::{Body, Part, variables_of};
 use ygg_oblige::tables;
 use ygg_rules::Book;
 use ygg_sym::SymBlock;

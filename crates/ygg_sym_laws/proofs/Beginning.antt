@@ -21,8 +21,8 @@ use Rattle.ygg_sym_laws.specs.ygg_bank.Values.{Inputs, Values, Fits}
 use Rattle.ygg_sym_laws.specs.ygg_bank.declared.node.Node.{Node}
 use Rattle.ygg_sym_laws.specs.ygg_shape_cells.Terms.{worth}
 use Rattle.ygg_sym_laws.specs.ygg_shape_cells.declared.terms.SymValue.{SymValue}
-use Rattle.ygg_sym_laws.specs.ygg_sym_expr.Meaning.{EnvShaped, worths}
-use Rattle.ygg_sym_laws.specs.ygg_sym_expr.Names.{sym_bind}
+use Rattle.ygg_sym_laws.specs.ygg_sym_runs.ExpressionMeaning.{EnvShaped, worths}
+use Rattle.ygg_sym_laws.specs.ygg_sym_runs.Names.{sym_bind}
 use Rattle.ygg_sym_laws.proofs.of_ygg_sym_runs.Parts.{InScope}
 use Rattle.ygg_sym_laws.proofs.of_ygg_sym_runs.Worths.{NameShaped}
 use Rattle.ygg_sym_laws.proofs.of_ygg_sym_runs.Blocks.{values_worth}

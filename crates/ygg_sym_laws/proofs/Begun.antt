@@ -10,7 +10,7 @@ use Rattle.ygg_sym_runs.specs.ygg_bank.declared.node.Node.{Node}
 use Rattle.ygg_sym_runs.specs.ygg_rules.declared.rule.RuleKind.{RuleKind}
 use Rattle.ygg_sym_runs.specs.ygg_shape_cells.Terms.{worth}
 use Rattle.ygg_sym_runs.specs.Names.{SymEnv, sym_bind}
-use Rattle.ygg_sym_runs.specs.SymExprMeaning.{EnvShaped, worths}
+use Rattle.ygg_sym_runs.specs.ExpressionMeaning.{EnvShaped, worths}
 use Rattle.ygg_sym_runs.specs.Lows.{LowShaped, low_worth}
 use Rattle.ygg_sym_runs.proofs.Specs.{lows_back}
 use Rattle.ygg_sym_laws.specs.Means.{values_in}

@@ -24,8 +24,8 @@ use Rattle.ygg_sym_laws.specs.ygg_shape_cells.Terms.{worth}
 use Rattle.ygg_sym_laws.specs.ygg_meaning_laws.Direct.{room_of}
 use Rattle.ygg_sym_laws.specs.ygg_meaning_laws.DirectLaws.{IsTypedBlock}
 use Rattle.ygg_sym_laws.specs.ygg_meaning_laws.RunPlaces.{disk_space}
-use Rattle.ygg_sym_laws.specs.ygg_sym_expr.Names.{sym_bind}
-use Rattle.ygg_sym_laws.specs.ygg_sym_expr.Meaning.{worths}
+use Rattle.ygg_sym_laws.specs.ygg_sym_runs.Names.{sym_bind}
+use Rattle.ygg_sym_laws.specs.ygg_sym_runs.ExpressionMeaning.{worths}
 use Rattle.ygg_sym_laws.specs.Lows.{low_worth}
 use Rattle.ygg_sym_laws.specs.Laws.{IsTypedOver}
 use Rattle.ygg_sym_laws.proofs.Blocks.{values_worth}

@@ -36,10 +36,10 @@ use Rattle.ygg_sym_laws.specs.ygg_meaning_laws.RunPlaces.{Finish, finish_of, dis
 use Rattle.ygg_sym_laws.specs.ygg_meaning_laws_proofs_Placing.{taken_self}
 use Rattle.ygg_sym_laws.specs.ygg_meaning_laws_proofs_RunPlacing.{disk_tidy, runs_by_place_on_disk}
 use Rattle.ygg_sym_laws.proofs.of_ygg_meaning_laws.DirectTyped.{direct_on_disk}
-use Rattle.ygg_sym_laws.specs.ygg_sym_expr.Names.{sym_bind}
-use Rattle.ygg_sym_laws.specs.ygg_sym_expr.Exprs.{sym_functions}
-use Rattle.ygg_sym_laws.specs.ygg_sym_expr.Meaning.{Grows, worths}
-use Rattle.ygg_sym_laws.specs.ygg_sym_expr_proofs_Keeps.{functions_keep}
+use Rattle.ygg_sym_laws.specs.ygg_sym_runs.Names.{sym_bind}
+use Rattle.ygg_sym_laws.specs.ygg_sym_runs.Exprs.{sym_functions}
+use Rattle.ygg_sym_laws.specs.ygg_sym_runs.ExpressionMeaning.{Grows, worths}
+use Rattle.ygg_sym_laws.specs.ygg_sym_runs_proofs_Keeps.{functions_keep}
 use Rattle.ygg_sym_laws.specs.Meaning.{answer_worth}
 use Rattle.ygg_sym_laws.specs.Lows.{low_worth}
 use Rattle.ygg_sym_laws.specs.Disks.{sym_disk}

@@ -19,8 +19,8 @@ use Rattle.ygg_sym_laws.specs.ygg_meaning_laws.Blocks.{eval_with}
 use Rattle.ygg_sym_laws.specs.ygg_rules.declared.rule.RuleKind.{RuleKind}
 use Rattle.ygg_sym_laws.specs.ygg_bank_proofs_Meaning.{fits_fewer}
 use Rattle.ygg_sym_laws.specs.ygg_meaning_laws.Direct.{Reached, direct_run}
-use Rattle.ygg_sym_laws.specs.ygg_sym_expr.Meaning.{worths}
-use Rattle.ygg_sym_laws.specs.ygg_sym_expr.Names.{sym_bind}
+use Rattle.ygg_sym_laws.specs.ygg_sym_runs.ExpressionMeaning.{worths}
+use Rattle.ygg_sym_laws.specs.ygg_sym_runs.Names.{sym_bind}
 use Rattle.ygg_sym_laws.specs.ygg_sym_runs.Laws.{picked_by}
 use Rattle.ygg_sym_laws.specs.ygg_sym_runs.Lows.{low_worth}
 use Rattle.ygg_sym_laws.proofs.of_ygg_sym_runs.Fallen.{FallenIs, fallen_grows, fallen_gives}

@@ -3,7 +3,6 @@ pub use Rattle.ygg_sym_runs.proofs.of_ygg_meaning_laws
 pub use Rattle.ygg_sym_runs.proofs.of_ygg_meaning
 pub use Rattle.ygg_sym_runs.proofs.of_ygg_shape
 pub use Rattle.ygg_sym_runs.proofs as of_ygg_sym_runs
-pub use Rattle.ygg_sym_runs.proofs.of_ygg_sym_expr
 pub use Rattle.ygg_sym_runs.proofs.DiskKeeps
 pub use Rattle.ygg_sym_runs.proofs.Stopping
 pub use Rattle.ygg_sym_runs.proofs.SameStops

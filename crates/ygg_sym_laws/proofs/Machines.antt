@@ -15,10 +15,10 @@ use Rattle.ygg_sym_laws.specs.ygg_meaning_laws.RunPlaces.{cut_by}
 use Rattle.ygg_sym_laws.specs.ygg_rules.declared.rule.RuleKind.{RuleKind}
 use Rattle.ygg_sym_laws.specs.ygg_bank.Values.{Inputs, Values}
 use Rattle.ygg_sym_laws.specs.ygg_shape_cells.declared.terms.SymValue.{SymValue}
-use Rattle.ygg_sym_laws.specs.ygg_sym_expr_proofs_Definitions.{functions_mean}
-use Rattle.ygg_sym_laws.specs.ygg_sym_expr_proofs_Grows.{FunctionsGrow, functions_grow}
-use Rattle.ygg_sym_laws.specs.ygg_sym_expr_proofs_Values.{FunctionsMean}
-use Rattle.ygg_sym_laws.specs.ygg_sym_expr.Exprs.{SymFunctions}
+use Rattle.ygg_sym_laws.specs.ygg_sym_runs_proofs_Definitions.{functions_mean}
+use Rattle.ygg_sym_laws.specs.ygg_sym_runs_proofs_Grows.{FunctionsGrow, functions_grow}
+use Rattle.ygg_sym_laws.specs.ygg_sym_runs_proofs_Values.{FunctionsMean}
+use Rattle.ygg_sym_laws.specs.ygg_sym_runs.Exprs.{SymFunctions}
 use Rattle.ygg_sym_laws.specs.ygg_sym_runs.Meaning.{Low, MachineMeans}
 use Rattle.ygg_sym_laws.specs.ygg_sym_runs.Laws.{picked_by}
 use Rattle.ygg_sym_laws.specs.ygg_sym_runs_proofs_Cuts.{disk_stops_mean}

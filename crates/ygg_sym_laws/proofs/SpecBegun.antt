@@ -25,12 +25,12 @@ use Rattle.ygg_sym_laws.specs.ygg_bank.declared.node.Node.{Node}
 use Rattle.ygg_sym_laws.specs.ygg_shape_cells.Terms.{worth}
 use Rattle.ygg_sym_laws.specs.ygg_shape_cells.declared.terms.SymValue.{SymValue}
 use Rattle.ygg_sym_laws.specs.ygg_meaning_laws.DirectLaws.{IsTypedBlock}
-use Rattle.ygg_sym_laws.specs.ygg_sym_expr.Names.{sym_bind}
-use Rattle.ygg_sym_laws.specs.ygg_sym_expr.Exprs.{SymFunctions, sym_functions}
-use Rattle.ygg_sym_laws.specs.ygg_sym_expr.Meaning.{EnvShaped, worths}
-use Rattle.ygg_sym_laws.specs.ygg_sym_expr_proofs_Grows.{FunctionsGrow, functions_grow}
-use Rattle.ygg_sym_laws.specs.ygg_sym_expr_proofs_Values.{FunctionsMean}
-use Rattle.ygg_sym_laws.specs.ygg_sym_expr_proofs_Definitions.{functions_mean}
+use Rattle.ygg_sym_laws.specs.ygg_sym_runs.Names.{sym_bind}
+use Rattle.ygg_sym_laws.specs.ygg_sym_runs.Exprs.{SymFunctions, sym_functions}
+use Rattle.ygg_sym_laws.specs.ygg_sym_runs.ExpressionMeaning.{EnvShaped, worths}
+use Rattle.ygg_sym_laws.specs.ygg_sym_runs_proofs_Grows.{FunctionsGrow, functions_grow}
+use Rattle.ygg_sym_laws.specs.ygg_sym_runs_proofs_Values.{FunctionsMean}
+use Rattle.ygg_sym_laws.specs.ygg_sym_runs_proofs_Definitions.{functions_mean}
 use Rattle.ygg_sym_laws.specs.Runs.{SymMachine}
 use Rattle.ygg_sym_laws.specs.Meaning.{Low, MachineMeans}
 use Rattle.ygg_sym_laws.proofs.Worths.{NameShaped}

@@ -31,8 +31,8 @@ use Rattle.ygg_sym_laws.specs.ygg_shape_cells.Terms.{worth}
 use Rattle.ygg_sym_laws.specs.ygg_shape_cells.declared.terms.SymValue.{SymValue}
 use Rattle.ygg_sym_laws.specs.ygg_meaning_laws.Direct.{Reached, direct_run, room_of}
 use Rattle.ygg_sym_laws.specs.ygg_meaning_laws.RunPlaces.{Finish, spec_space}
-use Rattle.ygg_sym_laws.specs.ygg_sym_expr.Names.{sym_bind}
-use Rattle.ygg_sym_laws.specs.ygg_sym_expr.Meaning.{Grows, worths}
+use Rattle.ygg_sym_laws.specs.ygg_sym_runs.Names.{sym_bind}
+use Rattle.ygg_sym_laws.specs.ygg_sym_runs.ExpressionMeaning.{Grows, worths}
 use Rattle.ygg_sym_laws.specs.Meaning.{answer_worth}
 use Rattle.ygg_sym_laws.specs.Laws.{picked_by}
 use Rattle.ygg_sym_laws.specs.Lows.{low_worth}

@@ -32,7 +32,7 @@ use Rattle.ygg_sym_laws.specs.ygg_meaning_laws.SpecActs.{Ran, block_ran}
 use Rattle.ygg_sym_laws.specs.ygg_meaning_laws_proofs_Placing.{taken_self}
 use Rattle.ygg_sym_laws.proofs.of_ygg_meaning_laws.SpecActed.{block_whole}
 use Rattle.ygg_sym_laws.specs.ygg_meaning_laws_proofs_SpecServes.{ran_alone}
-use Rattle.ygg_sym_laws.specs.ygg_sym_expr.Meaning.{SomeShape, Grows}
+use Rattle.ygg_sym_laws.specs.ygg_sym_runs.ExpressionMeaning.{SomeShape, Grows}
 use Rattle.ygg_sym_laws.specs.Laws.{picked_by}
 use Rattle.ygg_sym_laws.specs.Lows.{LowShaped, low_worth}
 use Rattle.ygg_sym_laws.specs.SpecCuts.{fall_room}

@@ -23,8 +23,8 @@ use Rattle.ygg_sym_laws.specs.ygg_bank_proofs_Meaning.{fits_fewer}
 use Rattle.ygg_sym_laws.specs.ygg_shape_cells.Terms.{worth}
 use Rattle.ygg_sym_laws.specs.ygg_shape_cells.declared.terms.SymValue.{SymValue}
 use Rattle.ygg_sym_laws.specs.ygg_meaning_laws.Direct.{Reached, direct_run}
-use Rattle.ygg_sym_laws.specs.ygg_sym_expr.Meaning.{worths}
-use Rattle.ygg_sym_laws.specs.ygg_sym_expr.Names.{sym_bind}
+use Rattle.ygg_sym_laws.specs.ygg_sym_runs.ExpressionMeaning.{worths}
+use Rattle.ygg_sym_laws.specs.ygg_sym_runs.Names.{sym_bind}
 use Rattle.ygg_sym_laws.specs.ygg_sym_runs.Meaning.{answer_worth}
 use Rattle.ygg_sym_laws.specs.ygg_sym_runs.Laws.{picked_by}
 use Rattle.ygg_sym_laws.specs.ygg_sym_runs.Lows.{low_worth}

@@ -37,14 +37,13 @@ pub use Rattle.ygg_sym_runs.proofs.SpecStops as ygg_sym_runs_proofs_SpecStops
 pub use Rattle.ygg_sym_runs.proofs.Specs as ygg_sym_runs_proofs_Specs
 pub use Rattle.ygg_sym_runs.proofs.WholeRuns as ygg_sym_runs_proofs_WholeRuns
 pub use Rattle.ygg_sym_runs.specs as ygg_sym_runs
-pub use Rattle.ygg_sym_runs.specs.ygg_sym_expr_proofs_Definitions
-pub use Rattle.ygg_sym_runs.specs.ygg_sym_expr_proofs_Grows
-pub use Rattle.ygg_sym_runs.specs.ygg_sym_expr_proofs_Keeps
-pub use Rattle.ygg_sym_runs.specs.ygg_sym_expr_proofs_Shaped
-pub use Rattle.ygg_sym_runs.specs.ygg_sym_expr_proofs_Values
-pub use Rattle.ygg_sym_runs.specs.ygg_sym_expr
+pub use Rattle.ygg_sym_runs.proofs.Definitions as ygg_sym_runs_proofs_Definitions
+pub use Rattle.ygg_sym_runs.proofs.Grows as ygg_sym_runs_proofs_Grows
+pub use Rattle.ygg_sym_runs.proofs.Keeps as ygg_sym_runs_proofs_Keeps
+pub use Rattle.ygg_sym_runs.proofs.Shaped as ygg_sym_runs_proofs_Shaped
+pub use Rattle.ygg_sym_runs.proofs.Values as ygg_sym_runs_proofs_Values
 pub use Rattle.ygg_sym_runs.specs.ygg_type_rules
-pub use Rattle.ygg_sym_runs.specs.ygg_syntax_count
+pub use Rattle.ygg_sym_runs.specs.ygg_syntax
 pub use Rattle.ygg_sym_runs.specs.ygg_meaning_laws_proofs_Files
 pub use Rattle.ygg_sym_runs.specs.ygg_meaning_laws_proofs_ProgressFits
 pub use Rattle.ygg_sym_runs.specs.ygg_meaning_laws_proofs_Following

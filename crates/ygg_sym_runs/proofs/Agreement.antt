@@ -68,26 +68,26 @@ use Rattle.ygg_meaning_laws.proofs.Following.{
 }
 use Rattle.ygg_meaning_laws.proofs.Asking.{local_lower}
 use Rattle.ygg_meaning_laws.proofs.ProgressFits.{one_shape, part_fits}
-use Rattle.ygg_sym_expr.specs.ygg_rules.declared.rule.RuleKind.{RuleKind}
-use Rattle.ygg_sym_expr.specs.ygg_bank_proofs_Meaning.{fits_fewer}
-use Rattle.ygg_sym_expr.specs.ygg_bank_proofs_Widths.{wider, extends_self, extends_both}
-use Rattle.ygg_sym_expr.specs.ygg_bank.Makes.{Make}
-use Rattle.ygg_sym_expr.specs.ygg_bank.Nodes.{HasWidth, Extends}
-use Rattle.ygg_sym_expr.specs.ygg_bank.Values.{Inputs, Values}
-use Rattle.ygg_sym_expr.specs.ygg_bank.declared.node.Id.{Id}
-use Rattle.ygg_sym_expr.specs.ygg_bank.declared.node.Node.{Node}
-use Rattle.ygg_sym_expr.specs.ygg_bank.declared.node.Node.TheVariants as node
-use Rattle.ygg_sym_expr.specs.ygg_shape_cells.Terms.{worth}
-use Rattle.ygg_sym_expr.specs.ygg_shape_cells.declared.terms.SymValue.{SymValue}
+use Rattle.ygg_sym_runs.specs.ygg_rules.declared.rule.RuleKind.{RuleKind}
+use Rattle.ygg_sym_runs.specs.ygg_bank_proofs_Meaning.{fits_fewer}
+use Rattle.ygg_sym_runs.specs.ygg_bank_proofs_Widths.{wider, extends_self, extends_both}
+use Rattle.ygg_sym_runs.specs.ygg_bank.Makes.{Make}
+use Rattle.ygg_sym_runs.specs.ygg_bank.Nodes.{HasWidth, Extends}
+use Rattle.ygg_sym_runs.specs.ygg_bank.Values.{Inputs, Values}
+use Rattle.ygg_sym_runs.specs.ygg_bank.declared.node.Id.{Id}
+use Rattle.ygg_sym_runs.specs.ygg_bank.declared.node.Node.{Node}
+use Rattle.ygg_sym_runs.specs.ygg_bank.declared.node.Node.TheVariants as node
+use Rattle.ygg_sym_runs.specs.ygg_shape_cells.Terms.{worth}
+use Rattle.ygg_sym_runs.specs.ygg_shape_cells.declared.terms.SymValue.{SymValue}
 use Rattle.ygg_meaning_laws.specs.Direct.{Handled, Reached, Direct, total, then_run, stays}
 use Rattle.ygg_meaning_laws.specs.Direct.{forgets, times, in_order, source_got, stmt_direct, block_direct, direct_of}
-use Rattle.ygg_sym_expr.specs.Names.{SymEnv}
-use Rattle.ygg_sym_expr.specs.Exprs.{SymFunctions, id_in, number_made, sym_value}
-use Rattle.ygg_sym_expr.specs.Meaning.{EnvShaped, Grows, Gives, worths}
-use Rattle.ygg_sym_expr.proofs.Shaped.{is_term, env_wider}
-use Rattle.ygg_sym_expr.proofs.Grows.{FunctionsGrow, word_grows, value_grows}
-use Rattle.ygg_sym_expr.proofs.Parts.{number_gives}
-use Rattle.ygg_sym_expr.proofs.Values.{FunctionsMean, same_defs}
+use Rattle.ygg_sym_runs.specs.Names.{SymEnv}
+use Rattle.ygg_sym_runs.specs.Exprs.{SymFunctions, id_in, number_made, sym_value}
+use Rattle.ygg_sym_runs.specs.ExpressionMeaning.{EnvShaped, Grows, Gives, worths}
+use Rattle.ygg_sym_runs.proofs.Shaped.{is_term, env_wider}
+use Rattle.ygg_sym_runs.proofs.Grows.{FunctionsGrow, word_grows, value_grows}
+use Rattle.ygg_sym_runs.proofs.ExpressionParts.{number_gives}
+use Rattle.ygg_sym_runs.proofs.Values.{FunctionsMean, same_defs}
 use Rattle.ygg_sym_runs.specs.Putting.{put_made, led_to}
 use Rattle.ygg_sym_runs.specs.Runs.{Call, SymState, SymRun, SymMachine, plain_scope, places_of, state, sym_times}
 use Rattle.ygg_sym_runs.specs.Runs.{sym_in_order, sym_change, sym_values, sym_source, merge_env, sym_each, sym_stmt, sym_block, sym_of}

@@ -19,22 +19,22 @@ use Rattle.ygg_meaning_laws.specs.Blocks.{eval_with}
 use Rattle.ygg_meaning_laws.specs.ygg_meaning.Environments.{Name}
 use Rattle.ygg_meaning_laws.specs.ygg_meaning.Meaning.{Functions}
 use Rattle.ygg_meaning_laws.specs.ygg_meaning.Progress.{values_of}
-use Rattle.ygg_sym_expr.specs.ygg_rules.declared.rule.RuleKind.{RuleKind}
-use Rattle.ygg_sym_expr.specs.ygg_bank_proofs_Meaning.{fits_fewer}
-use Rattle.ygg_sym_expr.specs.ygg_bank_proofs_Widths.{stands, extends_both}
-use Rattle.ygg_sym_expr.specs.ygg_bank.Nodes.{IsBank, Stands}
-use Rattle.ygg_sym_expr.specs.ygg_bank.Values.{Inputs, Values}
-use Rattle.ygg_sym_expr.specs.ygg_bank.declared.node.Id.{Id}
-use Rattle.ygg_sym_expr.specs.ygg_bank.declared.node.Node.{Node}
-use Rattle.ygg_sym_expr.specs.ygg_shape_cells.Terms.{IsShaped, worth}
-use Rattle.ygg_sym_expr.specs.ygg_shape_cells.declared.terms.SymValue.{SymValue}
+use Rattle.ygg_sym_runs.specs.ygg_rules.declared.rule.RuleKind.{RuleKind}
+use Rattle.ygg_sym_runs.specs.ygg_bank_proofs_Meaning.{fits_fewer}
+use Rattle.ygg_sym_runs.specs.ygg_bank_proofs_Widths.{stands, extends_both}
+use Rattle.ygg_sym_runs.specs.ygg_bank.Nodes.{IsBank, Stands}
+use Rattle.ygg_sym_runs.specs.ygg_bank.Values.{Inputs, Values}
+use Rattle.ygg_sym_runs.specs.ygg_bank.declared.node.Id.{Id}
+use Rattle.ygg_sym_runs.specs.ygg_bank.declared.node.Node.{Node}
+use Rattle.ygg_sym_runs.specs.ygg_shape_cells.Terms.{IsShaped, worth}
+use Rattle.ygg_sym_runs.specs.ygg_shape_cells.declared.terms.SymValue.{SymValue}
 use Rattle.ygg_meaning_laws.specs.Direct.{source_got}
-use Rattle.ygg_sym_expr.specs.Names.{SymEnv, sym_look_up}
-use Rattle.ygg_sym_expr.specs.Exprs.{SymFunctions, id_in}
-use Rattle.ygg_sym_expr.specs.Meaning.{EnvShaped, IsWorth, worths}
-use Rattle.ygg_sym_expr.specs.Seen.{CanTerm}
-use Rattle.ygg_sym_expr.proofs.Grows.{FunctionsGrow}
-use Rattle.ygg_sym_expr.proofs.Shaped.{worth_shape, env_wider}
+use Rattle.ygg_sym_runs.specs.Names.{SymEnv, sym_look_up}
+use Rattle.ygg_sym_runs.specs.Exprs.{SymFunctions, id_in}
+use Rattle.ygg_sym_runs.specs.ExpressionMeaning.{EnvShaped, IsWorth, worths}
+use Rattle.ygg_sym_runs.specs.Seen.{CanTerm}
+use Rattle.ygg_sym_runs.proofs.Grows.{FunctionsGrow}
+use Rattle.ygg_sym_runs.proofs.Shaped.{worth_shape, env_wider}
 use Rattle.ygg_sym_runs.specs.Lower.{SymMeaning, IsLower}
 use Rattle.ygg_sym_runs.specs.Putting.{led_to}
 use Rattle.ygg_sym_runs.specs.Ready.{known_with, CanPut, CanGet, CanAssign}

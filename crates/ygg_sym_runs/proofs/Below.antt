@@ -10,22 +10,22 @@ use Rattle.ygg_syntax.specs.declared.tree.Block.{Block, roll-Block, map-Block, f
 use Rattle.ygg_syntax.specs.declared.tree.Stmt.TheOpen.{Stmt-F, Block-F}
 use Rattle.ygg_syntax.specs.declared.tree.Stmt.TheFolds.{fold-Stmt, ind-Stmt, fold-roll-Stmt, fold-roll-Block}
 use Rattle.ygg_meaning_laws.specs.ygg_meaning.Environments.{Name}
-use Rattle.ygg_sym_expr.specs.ygg_rules.declared.rule.RuleKind.{RuleKind}
-use Rattle.ygg_sym_expr.specs.ygg_bank.Inputs.{InputsBelow}
-use Rattle.ygg_sym_expr.specs.ygg_bank.Makes.{Make, pure, and_make}
-use Rattle.ygg_sym_expr.specs.ygg_bank.declared.node.Id.{Id}
-use Rattle.ygg_sym_expr.specs.ygg_bank.declared.node.Node.{Node}
-use Rattle.ygg_sym_expr.specs.ygg_bank.declared.node.Node.TheVariants as node
-use Rattle.ygg_sym_expr.specs.ygg_shape_words_proofs_Keeps.{Stays}
-use Rattle.ygg_sym_expr.specs.ygg_shape_cells.Making.{merged, selected}
-use Rattle.ygg_sym_expr.specs.ygg_shape_cells.declared.terms.SymValue.{SymValue}
-use Rattle.ygg_sym_expr.specs.ygg_shape_cells.declared.terms.SymValue.TheVariants.{Word, Row, Table}
-use Rattle.ygg_sym_expr.specs.ygg_shape_cells_proofs_Keeps.{merged_keeps, selected_keeps, stored_keeps}
-use Rattle.ygg_sym_expr.specs.ygg_shape.RowPlaces.{single, singles, word_stored}
+use Rattle.ygg_sym_runs.specs.ygg_rules.declared.rule.RuleKind.{RuleKind}
+use Rattle.ygg_sym_runs.specs.ygg_bank.Inputs.{InputsBelow}
+use Rattle.ygg_sym_runs.specs.ygg_bank.Makes.{Make, pure, and_make}
+use Rattle.ygg_sym_runs.specs.ygg_bank.declared.node.Id.{Id}
+use Rattle.ygg_sym_runs.specs.ygg_bank.declared.node.Node.{Node}
+use Rattle.ygg_sym_runs.specs.ygg_bank.declared.node.Node.TheVariants as node
+use Rattle.ygg_sym_runs.specs.ygg_shape_words_proofs_Keeps.{Stays}
+use Rattle.ygg_sym_runs.specs.ygg_shape_cells.Making.{merged, selected}
+use Rattle.ygg_sym_runs.specs.ygg_shape_cells.declared.terms.SymValue.{SymValue}
+use Rattle.ygg_sym_runs.specs.ygg_shape_cells.declared.terms.SymValue.TheVariants.{Word, Row, Table}
+use Rattle.ygg_sym_runs.specs.ygg_shape_cells_proofs_Keeps.{merged_keeps, selected_keeps, stored_keeps}
+use Rattle.ygg_sym_runs.specs.ygg_shape.RowPlaces.{single, singles, word_stored}
 use Rattle.ygg_meaning_laws.specs.Direct.{total, source_space, stmt_room, block_room, room_of}
-use Rattle.ygg_sym_expr.specs.Names.{SymEnv}
-use Rattle.ygg_sym_expr.specs.Exprs.{SymFunctions, id_in, number_made, sym_value}
-use Rattle.ygg_sym_expr.proofs.Keeps.{Keeps, FunctionsKeep, if_keeps, value_keeps, all_keep}
+use Rattle.ygg_sym_runs.specs.Names.{SymEnv}
+use Rattle.ygg_sym_runs.specs.Exprs.{SymFunctions, id_in, number_made, sym_value}
+use Rattle.ygg_sym_runs.proofs.Keeps.{Keeps, FunctionsKeep, if_keeps, value_keeps, all_keep}
 use Rattle.ygg_sym_runs.specs.Putting.{row_in, put_made}
 use Rattle.ygg_sym_runs.specs.Runs.{
   SymQuestion,

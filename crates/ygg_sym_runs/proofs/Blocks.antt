@@ -33,11 +33,11 @@ use Rattle.ygg_sym_runs.specs.ygg_shape_cells.Terms.{worth}
 use Rattle.ygg_sym_runs.specs.ygg_shape_cells.declared.terms.SymValue.{SymValue}
 use Rattle.ygg_sym_runs.specs.ygg_meaning_laws.Direct.{Reached, direct_run}
 use Rattle.ygg_sym_runs.specs.ygg_meaning_laws.Places.{Result}
-use Rattle.ygg_sym_runs.specs.ygg_sym_expr.Names.{SymEnv, sym_bind}
-use Rattle.ygg_sym_runs.specs.ygg_sym_expr.Exprs.{SymFunctions}
-use Rattle.ygg_sym_runs.specs.ygg_sym_expr.Meaning.{SomeShape, Grows, Gives, worths}
-use Rattle.ygg_sym_runs.specs.ygg_sym_expr_proofs_Grows.{FunctionsGrow}
-use Rattle.ygg_sym_runs.specs.ygg_sym_expr_proofs_Values.{FunctionsMean}
+use Rattle.ygg_sym_runs.specs.Names.{SymEnv, sym_bind}
+use Rattle.ygg_sym_runs.specs.Exprs.{SymFunctions}
+use Rattle.ygg_sym_runs.specs.ExpressionMeaning.{SomeShape, Grows, Gives, worths}
+use Rattle.ygg_sym_runs.proofs.Grows.{FunctionsGrow}
+use Rattle.ygg_sym_runs.proofs.Values.{FunctionsMean}
 use Rattle.ygg_sym_runs.specs.Meaning.{AnswerShaped, answer_worth}
 use Rattle.ygg_sym_runs.proofs.Worths.{NameShaped, shape_fits}
 use Rattle.ygg_sym_runs.proofs.Parts.{InScope}

@@ -36,12 +36,12 @@ use Rattle.std.proofs.lemmas.List.{map-set}
 use Rattle.std.proofs.Math.Seq.{take-append_seam}
 use Rattle.ygg_meaning_laws.specs.ygg_meaning.Environments.{Name}
 use Rattle.ygg_meaning_laws.proofs.Tests.{bytes_same}
-use Rattle.ygg_sym_expr.specs.ygg_bank.Makes.{Make, Out, pure, and_make}
-use Rattle.ygg_sym_expr.specs.ygg_bank.declared.node.Node.{Node}
-use Rattle.ygg_sym_expr.specs.ygg_shape_cells.declared.terms.SymValue.{SymValue}
-use Rattle.ygg_sym_expr.specs.Names.{SymEnv, sym_look_up}
-use Rattle.ygg_sym_expr.specs.Seen.{env_of}
-use Rattle.ygg_sym_expr.specs.declared.held.SymBinding.{SymBinding}
+use Rattle.ygg_sym_runs.specs.ygg_bank.Makes.{Make, Out, pure, and_make}
+use Rattle.ygg_sym_runs.specs.ygg_bank.declared.node.Node.{Node}
+use Rattle.ygg_sym_runs.specs.ygg_shape_cells.declared.terms.SymValue.{SymValue}
+use Rattle.ygg_sym_runs.specs.Names.{SymEnv, sym_look_up}
+use Rattle.ygg_sym_runs.specs.Seen.{env_of}
+use Rattle.ygg_sym_runs.specs.declared.held.SymBinding.{SymBinding}
 use Rattle.ygg_sym_runs.specs.Ready.{first_place}
 use Rattle.ygg_sym_runs.specs.Runs.{sym_change}
 

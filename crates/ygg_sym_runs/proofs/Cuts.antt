@@ -33,7 +33,7 @@ use Rattle.ygg_sym_runs.specs.ygg_shape_cells.declared.terms.SymValue.{SymValue}
 use Rattle.ygg_sym_runs.specs.ygg_meaning_laws.DiskActs.{kind_falls, state_in, table_in, disk_drops, disk_acts}
 use Rattle.ygg_sym_runs.specs.ygg_meaning_laws.RunPlaces.{cut_by}
 use Rattle.ygg_sym_runs.specs.ygg_meaning_laws_proofs_DiskServes.{fitting_call}
-use Rattle.ygg_sym_runs.specs.ygg_sym_expr.Meaning.{Gives}
+use Rattle.ygg_sym_runs.specs.ExpressionMeaning.{Gives}
 use Rattle.ygg_sym_runs.specs.Runs.{SymQuestion, Choice, Call}
 use Rattle.ygg_sym_runs.specs.Meaning.{Low, question_worth, QuestionShaped, IsLow}
 use Rattle.ygg_sym_runs.specs.Lows.{LowShaped, low_worth}

@@ -3,20 +3,20 @@ use Rattle.std.proofs.Common.{◌≡◌, List, [], ◌∷◌, refl, ap, ◌∙�
 use Rattle.ygg_value.specs.Shapes.{IsShape, zero_of}
 use Rattle.ygg_syntax.specs.declared.tree.Declared.{Declared}
 use Rattle.ygg_meaning_laws.specs.ygg_meaning.Shapes.{shape_in, zeros_of}
-use Rattle.ygg_sym_expr.specs.ygg_rules.declared.rule.RuleKind.{RuleKind}
-use Rattle.ygg_sym_expr.specs.ygg_bank_proofs_Meaning.{fits_fewer}
-use Rattle.ygg_sym_expr.specs.ygg_bank_proofs_Widths.{extends_self}
-use Rattle.ygg_sym_expr.specs.ygg_bank.Nodes.{Extends}
-use Rattle.ygg_sym_expr.specs.ygg_bank.Values.{Inputs, Values, Fits}
-use Rattle.ygg_sym_expr.specs.ygg_bank.declared.node.Node.{Node}
-use Rattle.ygg_sym_expr.specs.ygg_shape_words_proofs_Keeps.{Stays, grows_stays}
-use Rattle.ygg_sym_expr.specs.ygg_shape_cells_proofs_Wider.{shaped_wider}
-use Rattle.ygg_sym_expr.proofs.of_ygg_shape.Whole.{zero_made_keeps, zero_gives}
-use Rattle.ygg_sym_expr.specs.ygg_shape.Wholes.{zero_made}
-use Rattle.ygg_sym_expr.specs.Meaning.{Grows}
-use Rattle.ygg_sym_expr.proofs.Keeps.{Keeps}
+use Rattle.ygg_sym_runs.specs.ygg_rules.declared.rule.RuleKind.{RuleKind}
+use Rattle.ygg_sym_runs.specs.ygg_bank_proofs_Meaning.{fits_fewer}
+use Rattle.ygg_sym_runs.specs.ygg_bank_proofs_Widths.{extends_self}
+use Rattle.ygg_sym_runs.specs.ygg_bank.Nodes.{Extends}
+use Rattle.ygg_sym_runs.specs.ygg_bank.Values.{Inputs, Values, Fits}
+use Rattle.ygg_sym_runs.specs.ygg_bank.declared.node.Node.{Node}
+use Rattle.ygg_sym_runs.specs.ygg_shape_words_proofs_Keeps.{Stays, grows_stays}
+use Rattle.ygg_sym_runs.specs.ygg_shape_cells_proofs_Wider.{shaped_wider}
+use Rattle.ygg_sym_runs.proofs.of_ygg_shape.Whole.{zero_made_keeps, zero_gives}
+use Rattle.ygg_sym_runs.specs.ygg_shape.Wholes.{zero_made}
+use Rattle.ygg_sym_runs.specs.ExpressionMeaning.{Grows}
+use Rattle.ygg_sym_runs.proofs.Keeps.{Keeps}
 use Rattle.ygg_sym_runs.specs.Lows.{LowShaped, low_worth}
-use Rattle.ygg_sym_expr.specs.ygg_shape_cells.declared.terms.SymValue.{SymValue}
+use Rattle.ygg_sym_runs.specs.ygg_shape_cells.declared.terms.SymValue.{SymValue}
 use Rattle.ygg_sym_runs.specs.Below.{zeros_made}
 
 -- the declared shapes keep the limits

@@ -14,8 +14,8 @@ use Rattle.ygg_sym_runs.specs.ygg_shape_words_proofs_Keeps.{Stays, grows_stays}
 use Rattle.ygg_sym_runs.specs.ygg_shape_cells.declared.terms.SymValue.{SymValue}
 use Rattle.ygg_sym_runs.specs.ygg_shape_cells.declared.terms.SymValue.TheVariants.{Word, Row, Table}
 use Rattle.ygg_sym_runs.specs.ygg_shape_cells_proofs_Keeps.{selected_keeps, stored_keeps, stored_where_keeps}
-use Rattle.ygg_sym_runs.specs.ygg_sym_expr.Meaning.{Grows}
-use Rattle.ygg_sym_runs.specs.ygg_sym_expr_proofs_Keeps.{Keeps}
+use Rattle.ygg_sym_runs.specs.ExpressionMeaning.{Grows}
+use Rattle.ygg_sym_runs.proofs.Keeps.{Keeps}
 use Rattle.ygg_sym_runs.specs.Runs.{SymQuestion, Choice, Call}
 use Rattle.ygg_sym_runs.specs.Disks.{
   SymCall,

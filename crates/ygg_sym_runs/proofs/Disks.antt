@@ -55,10 +55,10 @@ use Rattle.ygg_sym_runs.specs.ygg_meaning_laws.RunPlaces.{disk_space}
 use Rattle.ygg_sym_runs.specs.ygg_meaning_laws.Places.{calling}
 use Rattle.ygg_sym_runs.specs.ygg_meaning_laws.DiskActs.{Replied, kind_calls, state_in, table_in, disk_does, disk_acts}
 use Rattle.ygg_sym_runs.specs.ygg_meaning_laws_proofs_DiskServes.{fitting_call, disk_serves}
-use Rattle.ygg_sym_runs.specs.ygg_sym_expr.Exprs.{id_in}
+use Rattle.ygg_sym_runs.specs.Exprs.{id_in}
 use Rattle.ygg_sym_runs.specs.ygg_shape_cells.Terms.{IsShaped}
-use Rattle.ygg_sym_runs.specs.ygg_sym_expr.Meaning.{SomeShape, Gives}
-use Rattle.ygg_sym_runs.specs.ygg_sym_expr_proofs_Shaped.{worth_shape, is_term}
+use Rattle.ygg_sym_runs.specs.ExpressionMeaning.{SomeShape, Gives}
+use Rattle.ygg_sym_runs.proofs.Shaped.{worth_shape, is_term}
 use Rattle.ygg_sym_runs.specs.Putting.{row_in}
 use Rattle.ygg_sym_runs.specs.Runs.{SymQuestion, Choice, Call, SymHandled}
 use Rattle.ygg_sym_runs.specs.Meaning.{answer_worth, question_worth, is_set, AnswerShaped, QuestionShaped, IsHandled, MachineMeans}

@@ -18,9 +18,9 @@ use Rattle.ygg_sym_runs.specs.ygg_bank.Nodes.{IsBank}
 use Rattle.ygg_sym_runs.specs.ygg_bank.declared.node.Node.{Node}
 use Rattle.ygg_sym_runs.specs.ygg_meaning.Environments.{Name}
 use Rattle.ygg_sym_runs.specs.ygg_shape_cells.declared.terms.SymValue.{SymValue}
-use Rattle.ygg_sym_runs.specs.ygg_sym_expr.Names.{SymEnv}
-use Rattle.ygg_sym_runs.specs.ygg_sym_expr.Seen.{CanTerm, env_of}
-use Rattle.ygg_sym_runs.specs.ygg_sym_expr.declared.held.SymBinding.{SymBinding}
+use Rattle.ygg_sym_runs.specs.Names.{SymEnv}
+use Rattle.ygg_sym_runs.specs.Seen.{CanTerm, env_of}
+use Rattle.ygg_sym_runs.specs.declared.held.SymBinding.{SymBinding}
 use Rattle.ygg_sym_runs.specs.Lower.{SymMeaning, IsLower, KeepsSingle}
 use Rattle.ygg_sym_runs.specs.Ready.{InNames, CanRun, Ended, order_run, known_with, terms_of}
 use Rattle.ygg_sym_runs.proofs.Walking.{can_term, run_left}

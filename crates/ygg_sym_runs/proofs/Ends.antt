@@ -5,13 +5,13 @@ use Rattle.std.proofs.lemmas.List.Elements.{All-head, All-tail, All-cons, All-ni
 use Rattle.ygg_value.specs.declared.row.Value.{Value}
 use Rattle.ygg_meaning_laws.specs.ygg_meaning.Environments.{Name, Env}
 use Rattle.ygg_meaning_laws.specs.Questions.{Follows}
-use Rattle.ygg_sym_expr.specs.ygg_bank.Values.{Inputs, Values}
-use Rattle.ygg_sym_expr.specs.ygg_bank.declared.node.Node.{Node}
-use Rattle.ygg_sym_expr.specs.ygg_shape_cells.Terms.{worth}
-use Rattle.ygg_sym_expr.specs.ygg_shape_cells.declared.terms.SymValue.{SymValue}
+use Rattle.ygg_sym_runs.specs.ygg_bank.Values.{Inputs, Values}
+use Rattle.ygg_sym_runs.specs.ygg_bank.declared.node.Node.{Node}
+use Rattle.ygg_sym_runs.specs.ygg_shape_cells.Terms.{worth}
+use Rattle.ygg_sym_runs.specs.ygg_shape_cells.declared.terms.SymValue.{SymValue}
 use Rattle.ygg_meaning_laws.specs.Direct.{Reached}
-use Rattle.ygg_sym_expr.specs.Names.{SymEnv}
-use Rattle.ygg_sym_expr.specs.Meaning.{SomeShape, EnvShaped, worths}
+use Rattle.ygg_sym_runs.specs.Names.{SymEnv}
+use Rattle.ygg_sym_runs.specs.ExpressionMeaning.{SomeShape, EnvShaped, worths}
 use Rattle.ygg_sym_runs.proofs.Worths.{NameShaped}
 
 pub if_env : {L : Type 0} (c : Bool) (p q : Reached L) → (if c then p.env else q.env) ≡ (if c then p else q).env

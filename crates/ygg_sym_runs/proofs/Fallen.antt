@@ -32,12 +32,12 @@ use Rattle.ygg_sym_runs.specs.ygg_meaning_laws.Direct.{Handled, Event, Reached, 
 use Rattle.ygg_sym_runs.specs.ygg_meaning_laws.RunPlaces.{base_at, asked_in}
 use Rattle.ygg_sym_runs.specs.ygg_meaning_laws_proofs_Order.{block_follows}
 use Rattle.ygg_sym_runs.specs.ygg_meaning_laws_proofs_Mirror.{block_mirrors}
-use Rattle.ygg_sym_runs.specs.ygg_sym_expr.Names.{SymEnv}
-use Rattle.ygg_sym_runs.specs.ygg_sym_expr.Exprs.{SymFunctions}
-use Rattle.ygg_sym_runs.specs.ygg_sym_expr.Meaning.{EnvShaped, Grows, Gives, worths}
-use Rattle.ygg_sym_runs.specs.ygg_sym_expr_proofs_Shaped.{env_wider}
-use Rattle.ygg_sym_runs.specs.ygg_sym_expr_proofs_Grows.{FunctionsGrow}
-use Rattle.ygg_sym_runs.specs.ygg_sym_expr_proofs_Values.{FunctionsMean}
+use Rattle.ygg_sym_runs.specs.Names.{SymEnv}
+use Rattle.ygg_sym_runs.specs.Exprs.{SymFunctions}
+use Rattle.ygg_sym_runs.specs.ExpressionMeaning.{EnvShaped, Grows, Gives, worths}
+use Rattle.ygg_sym_runs.proofs.Shaped.{env_wider}
+use Rattle.ygg_sym_runs.proofs.Grows.{FunctionsGrow}
+use Rattle.ygg_sym_runs.proofs.Values.{FunctionsMean}
 use Rattle.ygg_sym_runs.specs.Runs.{SymMachine, sym_run}
 use Rattle.ygg_sym_runs.specs.Meaning.{Low, is_set, MachineMeans}
 use Rattle.ygg_sym_runs.proofs.Parts.{InScope}

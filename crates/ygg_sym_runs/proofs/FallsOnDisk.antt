@@ -41,12 +41,12 @@ use Rattle.ygg_sym_runs.specs.ygg_meaning_laws.RunPlaces.{disk_space, falls_by_p
 use Rattle.ygg_sym_runs.proofs.of_ygg_meaning_laws.FallPlacing.{falls_by_place_on_disk}
 use Rattle.ygg_sym_runs.specs.ygg_meaning_laws_proofs_RunPlacing.{calling_draws, disk_tidy}
 use Rattle.ygg_sym_runs.proofs.of_ygg_meaning_laws.DirectTyped.{direct_on_disk}
-use Rattle.ygg_sym_runs.specs.ygg_sym_expr.Exprs.{sym_functions}
-use Rattle.ygg_sym_runs.specs.ygg_sym_expr.Meaning.{EnvShaped, worths}
-use Rattle.ygg_sym_runs.specs.ygg_sym_expr.Names.{SymEnv}
-use Rattle.ygg_sym_runs.specs.ygg_sym_expr_proofs_Grows.{functions_grow}
-use Rattle.ygg_sym_runs.specs.ygg_sym_expr_proofs_Values.{FunctionsMean}
-use Rattle.ygg_sym_runs.specs.ygg_sym_expr_proofs_Definitions.{functions_mean}
+use Rattle.ygg_sym_runs.specs.Exprs.{sym_functions}
+use Rattle.ygg_sym_runs.specs.ExpressionMeaning.{EnvShaped, worths}
+use Rattle.ygg_sym_runs.specs.Names.{SymEnv}
+use Rattle.ygg_sym_runs.proofs.Grows.{functions_grow}
+use Rattle.ygg_sym_runs.proofs.Values.{FunctionsMean}
+use Rattle.ygg_sym_runs.proofs.Definitions.{functions_mean}
 use Rattle.ygg_sym_runs.proofs.Worths.{NameShaped}
 use Rattle.ygg_sym_runs.proofs.Parts.{InScope}
 use Rattle.ygg_sym_runs.specs.Lows.{LowShaped, low_worth}

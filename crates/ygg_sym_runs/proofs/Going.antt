@@ -7,15 +7,15 @@ use Rattle.ygg_syntax.specs.declared.tree.Name as tree
 use Rattle.ygg_syntax.specs.declared.tree.Numeral.{Numeral}
 use Rattle.ygg_syntax.specs.declared.tree.Stmt.{Stmt}
 use Rattle.ygg_meaning_laws.specs.ygg_meaning.Environments.{Name}
-use Rattle.ygg_sym_expr.specs.ygg_rules.declared.rule.RuleKind.{RuleKind}
-use Rattle.ygg_sym_expr.specs.ygg_bank.Makes.{Out}
-use Rattle.ygg_sym_expr.specs.ygg_bank.declared.node.Node.{Node}
-use Rattle.ygg_sym_expr.specs.ygg_shape_cells.declared.terms.SymValue.{SymValue}
+use Rattle.ygg_sym_runs.specs.ygg_rules.declared.rule.RuleKind.{RuleKind}
+use Rattle.ygg_sym_runs.specs.ygg_bank.Makes.{Out}
+use Rattle.ygg_sym_runs.specs.ygg_bank.declared.node.Node.{Node}
+use Rattle.ygg_sym_runs.specs.ygg_shape_cells.declared.terms.SymValue.{SymValue}
 use Rattle.ygg_meaning_laws.specs.Direct.{total}
-use Rattle.ygg_sym_expr.specs.Names.{SymEnv}
-use Rattle.ygg_sym_expr.specs.Exprs.{number_made}
-use Rattle.ygg_sym_expr.specs.Seen.{env_of}
-use Rattle.ygg_sym_expr.specs.declared.held.SymBinding.{SymBinding}
+use Rattle.ygg_sym_runs.specs.Names.{SymEnv}
+use Rattle.ygg_sym_runs.specs.Exprs.{number_made}
+use Rattle.ygg_sym_runs.specs.Seen.{env_of}
+use Rattle.ygg_sym_runs.specs.declared.held.SymBinding.{SymBinding}
 use Rattle.ygg_sym_runs.specs.Lower.{SymMeaning, KeepsSingle}
 use Rattle.ygg_sym_runs.specs.Ready.{Ended, terms_of, stmt_run, order_run, inside_run, turns_run}
 use Rattle.ygg_sym_runs.specs.Runs.{SymRun, SymState, state, sym_in_order, sym_times, sym_each}

@@ -13,9 +13,9 @@ use Rattle.ygg_syntax.specs.declared.grammar.BlockKind.{BlockKind}
 use Rattle.ygg_sym_runs.specs.ygg_type_rules.Names.{Named}
 use Rattle.ygg_sym_runs.specs.ygg_type_rules.declared.scope.Signature.{Signature}
 use Rattle.ygg_sym_runs.specs.ygg_meaning_laws.Questions.{question_fits}
-use Rattle.ygg_sym_runs.specs.ygg_sym_expr.Exprs.{SymFunctions}
-use Rattle.ygg_sym_runs.specs.ygg_sym_expr.Meaning.{Grows, Gives}
-use Rattle.ygg_sym_runs.specs.ygg_sym_expr_proofs_Shaped.{some_wider}
+use Rattle.ygg_sym_runs.specs.Exprs.{SymFunctions}
+use Rattle.ygg_sym_runs.specs.ExpressionMeaning.{Grows, Gives}
+use Rattle.ygg_sym_runs.proofs.Shaped.{some_wider}
 use Rattle.ygg_sym_runs.specs.Runs as runs
 use Rattle.ygg_sym_runs.specs.Runs.{SymQuestion, SymMachine}
 use Rattle.ygg_sym_runs.specs.Meaning.{Low, question_worth, is_set, QuestionShaped, IsHandled, IsLow, MachineMeans}

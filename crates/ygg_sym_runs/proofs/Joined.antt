@@ -1,20 +1,20 @@
 -- Names of two lists that go together are merged one by one.
 use Rattle.std.proofs.Common.{◌≡◌, ◌<◌, ℕ, zero, suc, List, [], ◌∷◌, length, get_or, refl, sym, ap, ◌∙◌, subst, arith}
-use Rattle.ygg_sym_expr.specs.ygg_rules.declared.rule.RuleKind.{RuleKind}
-use Rattle.ygg_sym_expr.specs.ygg_bank.Makes.{Out}
-use Rattle.ygg_sym_expr.specs.ygg_bank_proofs_Widths.{wider}
-use Rattle.ygg_sym_expr.specs.ygg_bank.Nodes.{Extends}
-use Rattle.ygg_sym_expr.specs.ygg_bank.declared.node.Id.{Id}
-use Rattle.ygg_sym_expr.specs.ygg_bank.declared.node.Node.{Node}
-use Rattle.ygg_sym_expr.specs.ygg_shape_cells_proofs_Keeps.{merged_keeps}
-use Rattle.ygg_sym_expr.specs.ygg_shape_cells_proofs_Wider.{has_wider}
-use Rattle.ygg_sym_expr.specs.ygg_shape_cells.Making.{merged}
-use Rattle.ygg_sym_expr.specs.ygg_shape_cells.Terms.{AreAlike}
-use Rattle.ygg_sym_expr.specs.ygg_shape_cells.declared.terms.SymValue.{SymValue}
-use Rattle.ygg_sym_expr.specs.Names.{SymEnv}
-use Rattle.ygg_sym_expr.specs.Exprs.{SymFunctions}
-use Rattle.ygg_sym_expr.specs.Seen.{env_of}
-use Rattle.ygg_sym_expr.specs.declared.held.SymBinding.{SymBinding}
+use Rattle.ygg_sym_runs.specs.ygg_rules.declared.rule.RuleKind.{RuleKind}
+use Rattle.ygg_sym_runs.specs.ygg_bank.Makes.{Out}
+use Rattle.ygg_sym_runs.specs.ygg_bank_proofs_Widths.{wider}
+use Rattle.ygg_sym_runs.specs.ygg_bank.Nodes.{Extends}
+use Rattle.ygg_sym_runs.specs.ygg_bank.declared.node.Id.{Id}
+use Rattle.ygg_sym_runs.specs.ygg_bank.declared.node.Node.{Node}
+use Rattle.ygg_sym_runs.specs.ygg_shape_cells_proofs_Keeps.{merged_keeps}
+use Rattle.ygg_sym_runs.specs.ygg_shape_cells_proofs_Wider.{has_wider}
+use Rattle.ygg_sym_runs.specs.ygg_shape_cells.Making.{merged}
+use Rattle.ygg_sym_runs.specs.ygg_shape_cells.Terms.{AreAlike}
+use Rattle.ygg_sym_runs.specs.ygg_shape_cells.declared.terms.SymValue.{SymValue}
+use Rattle.ygg_sym_runs.specs.Names.{SymEnv}
+use Rattle.ygg_sym_runs.specs.Exprs.{SymFunctions}
+use Rattle.ygg_sym_runs.specs.Seen.{env_of}
+use Rattle.ygg_sym_runs.specs.declared.held.SymBinding.{SymBinding}
 use Rattle.ygg_sym_runs.specs.Lower.{SymMeaning, SingleFrom, CanMerge}
 use Rattle.ygg_sym_runs.specs.Ready.{EnvAlike, joined_names}
 use Rattle.ygg_sym_runs.specs.Runs.{SymMachine, SymState, state, merge_env, merge_state}

@@ -1,8 +1,21 @@
-pub use Rattle.ygg_sym_expr.proofs.of_ygg_bank
 pub use Rattle.ygg_meaning_laws.proofs as of_ygg_meaning_laws
 pub use Rattle.ygg_meaning_laws.proofs.of_ygg_meaning
-pub use Rattle.ygg_sym_expr.proofs.of_ygg_shape
-pub use Rattle.ygg_sym_expr.proofs as of_ygg_sym_expr
+pub use Rattle.ygg_shape.proofs as of_ygg_shape
+pub use Rattle.ygg_shape.proofs.of_ygg_bank
+pub mod Shaped
+pub mod Keeps
+pub mod Grows
+pub mod ExpressionParts
+pub mod Values
+pub mod Definitions
+pub mod ExpressionPlaced
+pub mod Naming
+pub mod Constructs
+pub mod Terms
+pub mod Ready
+pub mod Arms
+pub mod Lighter
+pub mod Joins
 pub mod Worths
 pub mod Below
 pub mod Putting

@@ -19,7 +19,7 @@ use Rattle.ygg_sym_runs.specs.ygg_shape_cells_proofs_Makers.{merged_gives}
 use Rattle.ygg_sym_runs.specs.ygg_shape_cells.Making.{merged}
 use Rattle.ygg_sym_runs.specs.ygg_shape_cells.Terms.{worth}
 use Rattle.ygg_sym_runs.specs.ygg_shape_cells.declared.terms.SymValue.{SymValue}
-use Rattle.ygg_sym_runs.specs.ygg_sym_expr.Meaning.{Grows, Gives}
+use Rattle.ygg_sym_runs.specs.ExpressionMeaning.{Grows, Gives}
 use Rattle.ygg_sym_runs.specs.ygg_shape_cells_proofs_Wider.{shaped_wider}
 use Rattle.ygg_sym_runs.specs.ygg_shape_cells_proofs_Grows.{merged_grows}
 use Rattle.ygg_sym_runs.specs.Meaning.{Low, is_set, IsLow}

@@ -21,9 +21,9 @@ use Rattle.ygg_sym_runs.specs.ygg_shape_cells.declared.terms.SymValue.{SymValue}
 use Rattle.ygg_sym_runs.specs.ygg_shape_cells_proofs_Keeps.{each_two_keeps, merged_keeps}
 use Rattle.ygg_sym_runs.specs.ygg_meaning_laws.Direct.{room_of}
 use Rattle.ygg_sym_runs.specs.ygg_meaning_laws.RunPlaces.{disk_space, spec_space}
-use Rattle.ygg_sym_runs.specs.ygg_sym_expr.Names.{SymEnv, sym_bind}
-use Rattle.ygg_sym_runs.specs.ygg_sym_expr.Exprs.{SymFunctions, sym_functions}
-use Rattle.ygg_sym_runs.specs.ygg_sym_expr_proofs_Keeps.{Keeps, FunctionsKeep, functions_keep}
+use Rattle.ygg_sym_runs.specs.Names.{SymEnv, sym_bind}
+use Rattle.ygg_sym_runs.specs.Exprs.{SymFunctions, sym_functions}
+use Rattle.ygg_sym_runs.proofs.Keeps.{Keeps, FunctionsKeep, functions_keep}
 use Rattle.ygg_sym_runs.specs.Runs.{SymQuestion, Choice, Call, SymMachine, sym_run}
 use Rattle.ygg_sym_runs.proofs.Below.{below_more, asked_space, MachineKeeps, plain_keeps, run_keeps}
 use Rattle.ygg_sym_runs.specs.Lows.{merge_lows}

@@ -1,16 +1,16 @@
 -- States of the same names are alike; where they are merged, the state stands with its names, and no input comes.
 use Rattle.std.proofs.Common.{◌≡◌, List, [], ◌∷◌, map, subst, sym, Result, Ok, Err, IfOk, OnOk}
 use Rattle.ygg_syntax.specs.declared.tree.Declared.{Declared}
-use Rattle.ygg_sym_expr.specs.ygg_rules.declared.rule.RuleKind.{RuleKind}
-use Rattle.ygg_sym_expr.specs.ygg_bank.declared.node.Id.{Id}
-use Rattle.ygg_sym_expr.specs.ygg_bank.declared.node.Node.{Node}
-use Rattle.ygg_sym_expr.specs.ygg_bank.Nodes.{HasWidth, IsBank}
-use Rattle.ygg_sym_expr.specs.ygg_bank.Values.{value_of}
-use Rattle.ygg_sym_expr.specs.ygg_shape.Wholes.{AllAlike}
-use Rattle.ygg_sym_expr.specs.ygg_shape_cells.Terms.{AreShaped}
-use Rattle.ygg_sym_expr.specs.ygg_shape_cells.declared.terms.SymValue.{SymValue}
-use Rattle.ygg_sym_expr.proofs.of_ygg_shape.Answered.{no_inputs, some_fit}
-use Rattle.ygg_sym_expr.proofs.of_ygg_shape.Whole.{merged_all_keeps}
+use Rattle.ygg_sym_runs.specs.ygg_rules.declared.rule.RuleKind.{RuleKind}
+use Rattle.ygg_sym_runs.specs.ygg_bank.declared.node.Id.{Id}
+use Rattle.ygg_sym_runs.specs.ygg_bank.declared.node.Node.{Node}
+use Rattle.ygg_sym_runs.specs.ygg_bank.Nodes.{HasWidth, IsBank}
+use Rattle.ygg_sym_runs.specs.ygg_bank.Values.{value_of}
+use Rattle.ygg_sym_runs.specs.ygg_shape.Wholes.{AllAlike}
+use Rattle.ygg_sym_runs.specs.ygg_shape_cells.Terms.{AreShaped}
+use Rattle.ygg_sym_runs.specs.ygg_shape_cells.declared.terms.SymValue.{SymValue}
+use Rattle.ygg_sym_runs.proofs.of_ygg_shape.Answered.{no_inputs, some_fit}
+use Rattle.ygg_sym_runs.proofs.of_ygg_shape.Whole.{merged_all_keeps}
 use Rattle.ygg_sym_runs.specs.ygg_meaning.Shapes.{shape_in}
 use Rattle.ygg_sym_runs.specs.Lower.{KeepsSingle, SingleFrom}
 use Rattle.ygg_sym_runs.specs.Lows.{LowShaped, merge_lows}

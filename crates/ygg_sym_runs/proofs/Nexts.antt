@@ -7,10 +7,10 @@ use Rattle.ygg_syntax.specs.declared.tree.Stmt.{Stmt}
 use Rattle.ygg_syntax.specs.declared.tree.Stmt.TheVariants as tree
 use Rattle.ygg_meaning_laws.specs.ygg_type_rules.Statements.{block_errors}
 use Rattle.ygg_meaning_laws.specs.Kinds.{keeps}
-use Rattle.ygg_sym_expr.specs.ygg_bank_proofs_Widths.{extends_both}
-use Rattle.ygg_sym_expr.specs.ygg_bank.Nodes.{Extends}
-use Rattle.ygg_sym_expr.specs.ygg_bank.declared.node.Node.{Node}
-use Rattle.ygg_sym_expr.specs.Names.{SymEnv}
+use Rattle.ygg_sym_runs.specs.ygg_bank_proofs_Widths.{extends_both}
+use Rattle.ygg_sym_runs.specs.ygg_bank.Nodes.{Extends}
+use Rattle.ygg_sym_runs.specs.ygg_bank.declared.node.Node.{Node}
+use Rattle.ygg_sym_runs.specs.Names.{SymEnv}
 use Rattle.ygg_sym_runs.specs.Lower.{SymMeaning, IsLower, KeepsSingle}
 use Rattle.ygg_sym_runs.specs.Ready.{CanStep, CanRun, CanEnter, Ended}
 use Rattle.ygg_sym_runs.specs.Runs.{SymRun}

@@ -25,11 +25,11 @@ use Rattle.ygg_sym_runs.specs.ygg_meaning_laws.DirectLaws.{RunsOn, IsTypedBlock}
 use Rattle.ygg_sym_runs.specs.ygg_meaning_laws.RunPlaces.{Finish, finish_of, spec_space, runs_by_place}
 use Rattle.ygg_sym_runs.specs.ygg_meaning_laws_proofs_RunPlacing.{runs_by_place_on_spec}
 use Rattle.ygg_sym_runs.proofs.of_ygg_meaning_laws.DirectTyped.{direct_on_spec}
-use Rattle.ygg_sym_runs.specs.ygg_sym_expr.Exprs.{sym_functions}
-use Rattle.ygg_sym_runs.specs.ygg_sym_expr.Meaning.{worths}
-use Rattle.ygg_sym_runs.specs.ygg_sym_expr_proofs_Grows.{functions_grow}
-use Rattle.ygg_sym_runs.specs.ygg_sym_expr_proofs_Values.{FunctionsMean}
-use Rattle.ygg_sym_runs.specs.ygg_sym_expr_proofs_Definitions.{functions_mean}
+use Rattle.ygg_sym_runs.specs.Exprs.{sym_functions}
+use Rattle.ygg_sym_runs.specs.ExpressionMeaning.{worths}
+use Rattle.ygg_sym_runs.proofs.Grows.{functions_grow}
+use Rattle.ygg_sym_runs.proofs.Values.{FunctionsMean}
+use Rattle.ygg_sym_runs.proofs.Definitions.{functions_mean}
 use Rattle.ygg_sym_runs.specs.Meaning.{answer_worth}
 use Rattle.ygg_sym_runs.proofs.Worths.{NameShaped}
 use Rattle.ygg_sym_runs.proofs.Parts.{InScope}

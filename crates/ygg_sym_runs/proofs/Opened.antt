@@ -16,7 +16,7 @@ use Rattle.ygg_meaning_laws.specs.ygg_type_rules.TypeErrors.{TypeErrors}
 use Rattle.ygg_meaning_laws.specs.ygg_type_rules.Scopes.{Scope}
 use Rattle.ygg_meaning_laws.specs.ygg_type_rules.Statements.{Walked, node_walked, node_inside, walked, block_errors}
 use Rattle.ygg_meaning_laws.specs.Kinds.{node_keeps, node_all_keep, stmt_keeps, keeps}
-use Rattle.ygg_sym_expr.specs.ygg_rules.declared.rule.RuleKind.{RuleKind}
+use Rattle.ygg_sym_runs.specs.ygg_rules.declared.rule.RuleKind.{RuleKind}
 use Rattle.ygg_sym_runs.specs.Lower.{SymMeaning}
 use Rattle.ygg_sym_runs.specs.Ready.{terms_of, stmt_run, inside_run}
 use Rattle.ygg_sym_runs.specs.Runs.{SymRun, sym_stmt, sym_block}

@@ -30,27 +30,27 @@ use Rattle.ygg_meaning_laws.specs.Kinds.{source_keeps}
 use Rattle.ygg_meaning_laws.specs.Questions.{plain, answer_has, question_fits}
 use Rattle.ygg_meaning_laws.specs.Blocks.{eval_with}
 use Rattle.ygg_meaning_laws.proofs.TypeErrors.{called}
-use Rattle.ygg_sym_expr.specs.ygg_rules.declared.rule.RuleKind.{RuleKind}
-use Rattle.ygg_sym_expr.specs.ygg_bank_proofs_Meaning.{fits_fewer}
-use Rattle.ygg_sym_expr.specs.ygg_bank_proofs_Widths.{extends_self, extends_both}
-use Rattle.ygg_sym_expr.specs.ygg_bank.Makes.{Make, pure, and_make}
-use Rattle.ygg_sym_expr.specs.ygg_bank.Values.{Inputs, Values, Fits}
-use Rattle.ygg_sym_expr.specs.ygg_bank.declared.node.Node.{Node}
-use Rattle.ygg_sym_expr.specs.ygg_shape_cells.Terms.{worth}
-use Rattle.ygg_sym_expr.specs.ygg_shape_cells.declared.terms.SymValue.{SymValue}
+use Rattle.ygg_sym_runs.specs.ygg_rules.declared.rule.RuleKind.{RuleKind}
+use Rattle.ygg_sym_runs.specs.ygg_bank_proofs_Meaning.{fits_fewer}
+use Rattle.ygg_sym_runs.specs.ygg_bank_proofs_Widths.{extends_self, extends_both}
+use Rattle.ygg_sym_runs.specs.ygg_bank.Makes.{Make, pure, and_make}
+use Rattle.ygg_sym_runs.specs.ygg_bank.Values.{Inputs, Values, Fits}
+use Rattle.ygg_sym_runs.specs.ygg_bank.declared.node.Node.{Node}
+use Rattle.ygg_sym_runs.specs.ygg_shape_cells.Terms.{worth}
+use Rattle.ygg_sym_runs.specs.ygg_shape_cells.declared.terms.SymValue.{SymValue}
 use Rattle.ygg_meaning_laws.specs.Direct.{Handled, Got, source_got}
-use Rattle.ygg_sym_expr.specs.Names.{SymEnv}
-use Rattle.ygg_sym_expr.specs.Exprs.{SymFunctions, id_in, sym_value}
-use Rattle.ygg_sym_expr.specs.Meaning.{SomeShape, EnvShaped, Grows, Gives, worths, IsWorth}
-use Rattle.ygg_sym_expr.proofs.Shaped.{is_term, some_wider, env_wider}
-use Rattle.ygg_sym_expr.proofs.Grows.{FunctionsGrow, all_grow, value_grows}
-use Rattle.ygg_sym_expr.proofs.Parts.{AllWorth}
-use Rattle.ygg_sym_expr.proofs.Values.{FunctionsMean, value_means}
+use Rattle.ygg_sym_runs.specs.Names.{SymEnv}
+use Rattle.ygg_sym_runs.specs.Exprs.{SymFunctions, id_in, sym_value}
+use Rattle.ygg_sym_runs.specs.ExpressionMeaning.{SomeShape, EnvShaped, Grows, Gives, worths, IsWorth}
+use Rattle.ygg_sym_runs.proofs.Shaped.{is_term, some_wider, env_wider}
+use Rattle.ygg_sym_runs.proofs.Grows.{FunctionsGrow, all_grow, value_grows}
+use Rattle.ygg_sym_runs.proofs.ExpressionParts.{AllWorth}
+use Rattle.ygg_sym_runs.proofs.Values.{FunctionsMean, value_means}
 use Rattle.ygg_sym_runs.specs.Runs.{Choice, Call, SymGot, SymMachine, plain_scope, sym_answer, sym_change, sym_values, sym_asks, sym_source}
 use Rattle.ygg_sym_runs.specs.Meaning.{Low, answer_worth, question_worth, AnswerShaped, IsHandled, MachineMeans}
 use Rattle.ygg_meaning_laws.proofs.ProgressSounds.{call_fits}
 use Rattle.ygg_sym_runs.proofs.Typed.{all_have, call_has}
-use Rattle.ygg_sym_expr.specs.ygg_bank.Nodes.{Extends}
+use Rattle.ygg_sym_runs.specs.ygg_bank.Nodes.{Extends}
 use Rattle.ygg_sym_runs.proofs.Below.{change_keeps}
 use Rattle.ygg_sym_runs.proofs.Putting.{ArePlaces}
 use Rattle.ygg_sym_runs.proofs.Worths.{NameShaped, EnvIs}

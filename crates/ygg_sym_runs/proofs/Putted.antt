@@ -4,18 +4,18 @@ use Rattle.std.specs.Prelude.{slice_index_or}
 use Rattle.std.proofs.lemmas.List.Elements.{All-head, All-tail, All-cons, All-nil}
 use Rattle.ygg_value.specs.declared.shape.Shape.{Shape}
 use Rattle.ygg_value.specs.declared.shape.Shape.TheVariants as shape
-use Rattle.ygg_sym_expr.specs.ygg_rules.declared.rule.RuleKind.{RuleKind}
-use Rattle.ygg_sym_expr.specs.ygg_bank_proofs_Widths.{wider, extends_both}
-use Rattle.ygg_sym_expr.specs.ygg_bank.Nodes.{HasWidth, IsBank, Extends, Stands}
-use Rattle.ygg_sym_expr.specs.ygg_bank.declared.node.Id.{Id}
-use Rattle.ygg_sym_expr.specs.ygg_bank.declared.node.Node.{Node}
-use Rattle.ygg_sym_expr.specs.ygg_shape_cells_proofs_Makers.{word_stored_gives}
-use Rattle.ygg_sym_expr.specs.ygg_shape.RowPlaces.{CanWrite, word_stored}
-use Rattle.ygg_sym_expr.specs.ygg_shape_cells_proofs_Wider.{table_wider}
-use Rattle.ygg_sym_expr.specs.ygg_shape_cells.Terms.{IsRow, IsTable, IsShaped, CanStore}
-use Rattle.ygg_sym_expr.specs.ygg_shape_cells.declared.terms.SymValue.{SymValue}
-use Rattle.ygg_sym_expr.specs.ygg_shape_cells.declared.terms.SymValue.TheVariants.{Word, Row, Table}
-use Rattle.ygg_sym_expr.specs.Exprs.{id_in}
+use Rattle.ygg_sym_runs.specs.ygg_rules.declared.rule.RuleKind.{RuleKind}
+use Rattle.ygg_sym_runs.specs.ygg_bank_proofs_Widths.{wider, extends_both}
+use Rattle.ygg_sym_runs.specs.ygg_bank.Nodes.{HasWidth, IsBank, Extends, Stands}
+use Rattle.ygg_sym_runs.specs.ygg_bank.declared.node.Id.{Id}
+use Rattle.ygg_sym_runs.specs.ygg_bank.declared.node.Node.{Node}
+use Rattle.ygg_sym_runs.specs.ygg_shape_cells_proofs_Makers.{word_stored_gives}
+use Rattle.ygg_sym_runs.specs.ygg_shape.RowPlaces.{CanWrite, word_stored}
+use Rattle.ygg_sym_runs.specs.ygg_shape_cells_proofs_Wider.{table_wider}
+use Rattle.ygg_sym_runs.specs.ygg_shape_cells.Terms.{IsRow, IsTable, IsShaped, CanStore}
+use Rattle.ygg_sym_runs.specs.ygg_shape_cells.declared.terms.SymValue.{SymValue}
+use Rattle.ygg_sym_runs.specs.ygg_shape_cells.declared.terms.SymValue.TheVariants.{Word, Row, Table}
+use Rattle.ygg_sym_runs.specs.Exprs.{id_in}
 use Rattle.ygg_sym_runs.specs.Putting.{led_to}
 use Rattle.ygg_sym_runs.specs.Ready.{CanPut}
 use Rattle.ygg_sym_runs.proofs.Putting.{led_word}

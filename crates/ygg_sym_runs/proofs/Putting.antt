@@ -10,26 +10,26 @@ use Rattle.ygg_value.specs.declared.shape.Shape.{Shape}
 use Rattle.ygg_value.specs.declared.shape.Shape.TheVariants as shape
 use Rattle.ygg_meaning_laws.specs.ygg_type_rules.Shapes.{is_word, width_of}
 use Rattle.ygg_meaning_laws.proofs.Fits.{word_wide}
-use Rattle.ygg_sym_expr.specs.ygg_rules.declared.rule.RuleKind.{RuleKind}
-use Rattle.ygg_sym_expr.specs.ygg_bank_proofs_Meaning.{fits_fewer}
-use Rattle.ygg_sym_expr.specs.ygg_bank_proofs_Widths.{wider, stands, extends_self, extends_both}
-use Rattle.ygg_sym_expr.specs.ygg_bank.Nodes.{HasWidth, Extends}
-use Rattle.ygg_sym_expr.specs.ygg_bank.Values.{Inputs, Values}
-use Rattle.ygg_sym_expr.specs.ygg_bank.declared.node.Id.{Id}
-use Rattle.ygg_sym_expr.specs.ygg_bank.declared.node.Node.{Node}
-use Rattle.ygg_sym_expr.specs.ygg_shape_cells_proofs_Grows.{stored_grows, selected_grows}
-use Rattle.ygg_sym_expr.specs.ygg_shape_cells_proofs_Makers.{selected_gives, stored_gives, word_stored_gives}
-use Rattle.ygg_sym_expr.specs.ygg_shape_cells_proofs_Wider.{rows_wider}
-use Rattle.ygg_sym_expr.specs.ygg_shape_cells.Making.{selected, stored}
-use Rattle.ygg_sym_expr.specs.ygg_shape_cells.Terms.{IsRow, IsTable, worth, row_of, table_of}
-use Rattle.ygg_sym_expr.specs.ygg_shape_cells.declared.terms.SymValue.{SymValue}
-use Rattle.ygg_sym_expr.specs.ygg_shape_cells.declared.terms.SymValue.TheVariants.{Word, Row, Table}
-use Rattle.ygg_sym_expr.specs.ygg_shape.RowPlaces.{single, singles, word_stored}
-use Rattle.ygg_sym_expr.specs.Exprs.{id_in}
-use Rattle.ygg_sym_expr.specs.ygg_shape_cells.Terms.{IsShaped}
-use Rattle.ygg_sym_expr.specs.Meaning.{Grows, Gives, IsWorth}
-use Rattle.ygg_sym_expr.proofs.Shaped.{worth_shape, is_term}
-use Rattle.ygg_sym_expr.specs.ygg_shape_words_proofs_Keeps.{grows_stays}
+use Rattle.ygg_sym_runs.specs.ygg_rules.declared.rule.RuleKind.{RuleKind}
+use Rattle.ygg_sym_runs.specs.ygg_bank_proofs_Meaning.{fits_fewer}
+use Rattle.ygg_sym_runs.specs.ygg_bank_proofs_Widths.{wider, stands, extends_self, extends_both}
+use Rattle.ygg_sym_runs.specs.ygg_bank.Nodes.{HasWidth, Extends}
+use Rattle.ygg_sym_runs.specs.ygg_bank.Values.{Inputs, Values}
+use Rattle.ygg_sym_runs.specs.ygg_bank.declared.node.Id.{Id}
+use Rattle.ygg_sym_runs.specs.ygg_bank.declared.node.Node.{Node}
+use Rattle.ygg_sym_runs.specs.ygg_shape_cells_proofs_Grows.{stored_grows, selected_grows}
+use Rattle.ygg_sym_runs.specs.ygg_shape_cells_proofs_Makers.{selected_gives, stored_gives, word_stored_gives}
+use Rattle.ygg_sym_runs.specs.ygg_shape_cells_proofs_Wider.{rows_wider}
+use Rattle.ygg_sym_runs.specs.ygg_shape_cells.Making.{selected, stored}
+use Rattle.ygg_sym_runs.specs.ygg_shape_cells.Terms.{IsRow, IsTable, worth, row_of, table_of}
+use Rattle.ygg_sym_runs.specs.ygg_shape_cells.declared.terms.SymValue.{SymValue}
+use Rattle.ygg_sym_runs.specs.ygg_shape_cells.declared.terms.SymValue.TheVariants.{Word, Row, Table}
+use Rattle.ygg_sym_runs.specs.ygg_shape.RowPlaces.{single, singles, word_stored}
+use Rattle.ygg_sym_runs.specs.Exprs.{id_in}
+use Rattle.ygg_sym_runs.specs.ygg_shape_cells.Terms.{IsShaped}
+use Rattle.ygg_sym_runs.specs.ExpressionMeaning.{Grows, Gives, IsWorth}
+use Rattle.ygg_sym_runs.proofs.Shaped.{worth_shape, is_term}
+use Rattle.ygg_sym_runs.specs.ygg_shape_words_proofs_Keeps.{grows_stays}
 use Rattle.ygg_sym_runs.proofs.Below.{put_keeps}
 use Rattle.ygg_sym_runs.specs.Putting.{row_in, put_made, led_to}
 

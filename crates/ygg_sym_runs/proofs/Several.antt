@@ -5,18 +5,18 @@ use Rattle.std.proofs.lemmas.List.{drop_more, drop_all, append-nil}
 use Rattle.std.proofs.lemmas.List.Elements.{All-head, All-tail}
 use Rattle.ygg_syntax.specs.declared.tree.Expr.{Expr}
 use Rattle.ygg_syntax.specs.declared.tree.Index.{Index}
-use Rattle.ygg_sym_expr.specs.ygg_rules.declared.rule.RuleKind.{RuleKind}
-use Rattle.ygg_sym_expr.specs.ygg_bank_proofs_Meaning.{fits_fewer}
-use Rattle.ygg_sym_expr.specs.ygg_bank.Makes.{Out}
-use Rattle.ygg_sym_expr.specs.ygg_bank.Nodes.{Extends}
-use Rattle.ygg_sym_expr.specs.ygg_bank.declared.node.Id.{Id}
-use Rattle.ygg_sym_expr.specs.ygg_bank.declared.node.Node.{Node}
-use Rattle.ygg_sym_expr.specs.ygg_shape_cells.declared.terms.SymValue.{SymValue}
-use Rattle.ygg_sym_expr.specs.Names.{SymScope}
-use Rattle.ygg_sym_expr.specs.Exprs.{SymFunctions, id_in, all_made, sym_value, sym_functions}
-use Rattle.ygg_sym_expr.specs.Seen.{SymKnown, CanTerm, terms_in}
-use Rattle.ygg_sym_expr.proofs.Keeps.{functions_keep, value_keeps}
-use Rattle.ygg_sym_expr.proofs.Shaped.{scope_wider}
+use Rattle.ygg_sym_runs.specs.ygg_rules.declared.rule.RuleKind.{RuleKind}
+use Rattle.ygg_sym_runs.specs.ygg_bank_proofs_Meaning.{fits_fewer}
+use Rattle.ygg_sym_runs.specs.ygg_bank.Makes.{Out}
+use Rattle.ygg_sym_runs.specs.ygg_bank.Nodes.{Extends}
+use Rattle.ygg_sym_runs.specs.ygg_bank.declared.node.Id.{Id}
+use Rattle.ygg_sym_runs.specs.ygg_bank.declared.node.Node.{Node}
+use Rattle.ygg_sym_runs.specs.ygg_shape_cells.declared.terms.SymValue.{SymValue}
+use Rattle.ygg_sym_runs.specs.Names.{SymScope}
+use Rattle.ygg_sym_runs.specs.Exprs.{SymFunctions, id_in, all_made, sym_value, sym_functions}
+use Rattle.ygg_sym_runs.specs.Seen.{SymKnown, CanTerm, terms_in}
+use Rattle.ygg_sym_runs.proofs.Keeps.{functions_keep, value_keeps}
+use Rattle.ygg_sym_runs.proofs.Shaped.{scope_wider}
 use Rattle.ygg_sym_runs.specs.Lower.{SingleFrom}
 use Rattle.ygg_sym_runs.specs.Runs.{places_of}
 use Rattle.ygg_sym_runs.proofs.Singles.{single_stays}

@@ -26,21 +26,21 @@ use Rattle.ygg_meaning_laws.specs.Kinds.{keeps, node_keeps, stmt_keeps}
 use Rattle.ygg_meaning_laws.specs.Questions.{plain, Follows}
 use Rattle.ygg_meaning_laws.proofs.ProgressFits.{one_shape}
 use Rattle.ygg_meaning_laws.specs.ygg_meaning.Environments.{Name, Env}
-use Rattle.ygg_sym_expr.specs.ygg_rules.declared.rule.RuleKind.{RuleKind}
-use Rattle.ygg_sym_expr.specs.ygg_bank_proofs_Meaning.{fits_fewer}
-use Rattle.ygg_sym_expr.specs.ygg_bank_proofs_Widths.{wider}
-use Rattle.ygg_sym_expr.specs.ygg_bank.Nodes.{HasWidth, IsBank, Extends}
-use Rattle.ygg_sym_expr.specs.ygg_bank.Values.{Inputs, Values, Fits}
-use Rattle.ygg_sym_expr.specs.ygg_bank.declared.node.Id.{Id}
-use Rattle.ygg_sym_expr.specs.ygg_bank.declared.node.Node.{Node}
-use Rattle.ygg_sym_expr.specs.ygg_shape_cells.Terms.{IsShaped, worth}
-use Rattle.ygg_sym_expr.specs.ygg_shape_cells.declared.terms.SymValue.{SymValue}
-use Rattle.ygg_sym_expr.specs.Names.{SymEnv}
-use Rattle.ygg_sym_expr.specs.Exprs.{id_in, sym_value}
-use Rattle.ygg_sym_expr.specs.Meaning.{EnvShaped, worths}
-use Rattle.ygg_sym_expr.specs.Seen.{CanTerm}
-use Rattle.ygg_sym_expr.proofs.Grows.{value_grows}
-use Rattle.ygg_sym_expr.proofs.Shaped.{is_term, env_wider}
+use Rattle.ygg_sym_runs.specs.ygg_rules.declared.rule.RuleKind.{RuleKind}
+use Rattle.ygg_sym_runs.specs.ygg_bank_proofs_Meaning.{fits_fewer}
+use Rattle.ygg_sym_runs.specs.ygg_bank_proofs_Widths.{wider}
+use Rattle.ygg_sym_runs.specs.ygg_bank.Nodes.{HasWidth, IsBank, Extends}
+use Rattle.ygg_sym_runs.specs.ygg_bank.Values.{Inputs, Values, Fits}
+use Rattle.ygg_sym_runs.specs.ygg_bank.declared.node.Id.{Id}
+use Rattle.ygg_sym_runs.specs.ygg_bank.declared.node.Node.{Node}
+use Rattle.ygg_sym_runs.specs.ygg_shape_cells.Terms.{IsShaped, worth}
+use Rattle.ygg_sym_runs.specs.ygg_shape_cells.declared.terms.SymValue.{SymValue}
+use Rattle.ygg_sym_runs.specs.Names.{SymEnv}
+use Rattle.ygg_sym_runs.specs.Exprs.{id_in, sym_value}
+use Rattle.ygg_sym_runs.specs.ExpressionMeaning.{EnvShaped, worths}
+use Rattle.ygg_sym_runs.specs.Seen.{CanTerm}
+use Rattle.ygg_sym_runs.proofs.Grows.{value_grows}
+use Rattle.ygg_sym_runs.proofs.Shaped.{is_term, env_wider}
 use Rattle.ygg_sym_runs.specs.Joining.{CanJoinEnds}
 use Rattle.ygg_sym_runs.specs.Lower.{SymMeaning, IsLower}
 use Rattle.ygg_sym_runs.specs.Ready.{EnvAlike, Ended, known_with, terms_of, stmt_run, inside_run}

@@ -2,18 +2,18 @@
 use Rattle.std.proofs.Common.{◌≡◌, ◌<◌, ◌≤◌, ◌⊎◌, inl, inr, ℕ, Bool, true, false, if◌then◌else◌, Option, Some, None, List, [], ◌∷◌, ◌++◌, length, sym, arith}
 use Rattle.std.specs.List.{list_any}
 use Rattle.std.proofs.lemmas.Bool.{cases_lt}
-use Rattle.ygg_sym_expr.specs.ygg_rules.Rows.{book_row}
-use Rattle.ygg_sym_expr.specs.ygg_rules.Views.{Seen, operand}
-use Rattle.ygg_sym_expr.specs.ygg_rules.declared.rule.RuleKind.{RuleKind}
-use Rattle.ygg_sym_expr.specs.ygg_rules.declared.view.Rewrite.{Rewrite}
-use Rattle.ygg_sym_expr.specs.ygg_rules.declared.view.Rewrite.TheVariants as rewrite
-use Rattle.ygg_sym_expr.proofs.of_ygg_bank.Places.{here_or_last, last_is}
-use Rattle.ygg_sym_expr.specs.ygg_bank.Inputs.{InputsBelow, NoInput}
-use Rattle.ygg_sym_expr.specs.ygg_bank.Making.{id_of, same, added, rewritten, asked, view_of, made}
-use Rattle.ygg_sym_expr.specs.ygg_bank.Nodes.{CanMake}
-use Rattle.ygg_sym_expr.specs.ygg_bank.declared.node.Node.{Node}
-use Rattle.ygg_sym_expr.specs.ygg_bank.declared.node.Node.TheVariants.{Input, Const, Bin, Not, Resize, Pick}
-use Rattle.ygg_sym_expr.specs.ygg_shape_words_proofs_Keeps.{Stays}
+use Rattle.ygg_sym_runs.specs.ygg_rules.Rows.{book_row}
+use Rattle.ygg_sym_runs.specs.ygg_rules.Views.{Seen, operand}
+use Rattle.ygg_sym_runs.specs.ygg_rules.declared.rule.RuleKind.{RuleKind}
+use Rattle.ygg_sym_runs.specs.ygg_rules.declared.view.Rewrite.{Rewrite}
+use Rattle.ygg_sym_runs.specs.ygg_rules.declared.view.Rewrite.TheVariants as rewrite
+use Rattle.ygg_sym_runs.proofs.of_ygg_bank.Places.{here_or_last, last_is}
+use Rattle.ygg_sym_runs.specs.ygg_bank.Inputs.{InputsBelow, NoInput}
+use Rattle.ygg_sym_runs.specs.ygg_bank.Making.{id_of, same, added, rewritten, asked, view_of, made}
+use Rattle.ygg_sym_runs.specs.ygg_bank.Nodes.{CanMake}
+use Rattle.ygg_sym_runs.specs.ygg_bank.declared.node.Node.{Node}
+use Rattle.ygg_sym_runs.specs.ygg_bank.declared.node.Node.TheVariants.{Input, Const, Bin, Not, Resize, Pick}
+use Rattle.ygg_sym_runs.specs.ygg_shape_words_proofs_Keeps.{Stays}
 use Rattle.ygg_sym_runs.specs.Lower.{SingleFrom}
 
 -- an input that a node is, is a single digit

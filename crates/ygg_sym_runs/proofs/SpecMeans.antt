@@ -29,11 +29,11 @@ use Rattle.ygg_sym_runs.specs.ygg_shape_cells.declared.terms.SymValue.{SymValue}
 use Rattle.ygg_sym_runs.specs.ygg_meaning_laws.Direct.{Handled}
 use Rattle.ygg_sym_runs.specs.ygg_meaning_laws.DirectLaws.{Sees}
 use Rattle.ygg_sym_runs.specs.ygg_meaning_laws_proofs_DiskServes.{answer_does, fitting_call}
-use Rattle.ygg_sym_runs.specs.ygg_sym_expr.Names.{sym_bind}
-use Rattle.ygg_sym_runs.specs.ygg_sym_expr.Exprs.{SymFunctions}
-use Rattle.ygg_sym_runs.specs.ygg_sym_expr.Meaning.{SomeShape, Grows, Gives}
-use Rattle.ygg_sym_runs.specs.ygg_sym_expr_proofs_Grows.{FunctionsGrow}
-use Rattle.ygg_sym_runs.specs.ygg_sym_expr_proofs_Values.{FunctionsMean}
+use Rattle.ygg_sym_runs.specs.Names.{sym_bind}
+use Rattle.ygg_sym_runs.specs.Exprs.{SymFunctions}
+use Rattle.ygg_sym_runs.specs.ExpressionMeaning.{SomeShape, Grows, Gives}
+use Rattle.ygg_sym_runs.proofs.Grows.{FunctionsGrow}
+use Rattle.ygg_sym_runs.proofs.Values.{FunctionsMean}
 use Rattle.ygg_sym_runs.specs.Runs.{SymQuestion, Choice, Call}
 use Rattle.ygg_sym_runs.specs.Meaning.{question_worth, QuestionShaped, IsHandled, MachineMeans}
 use Rattle.ygg_sym_runs.specs.Lows.{LowShaped, low_worth}

@@ -32,12 +32,12 @@ use Rattle.ygg_sym_runs.specs.ygg_shape_cells.Terms.{worth}
 use Rattle.ygg_sym_runs.specs.ygg_shape_cells.declared.terms.SymValue.{SymValue}
 use Rattle.ygg_sym_runs.specs.ygg_meaning_laws.DirectLaws.{Sees}
 use Rattle.ygg_sym_runs.specs.ygg_meaning_laws_proofs_DiskServes.{fitting_call}
-use Rattle.ygg_sym_runs.specs.ygg_sym_expr.Names.{SymEnv, sym_bind}
-use Rattle.ygg_sym_runs.specs.ygg_sym_expr.Exprs.{SymFunctions}
-use Rattle.ygg_sym_runs.specs.ygg_sym_expr.Meaning.{SomeShape, Grows, Gives}
-use Rattle.ygg_sym_runs.specs.ygg_sym_expr_proofs_Shaped.{some_wider}
-use Rattle.ygg_sym_runs.specs.ygg_sym_expr_proofs_Grows.{FunctionsGrow}
-use Rattle.ygg_sym_runs.specs.ygg_sym_expr_proofs_Values.{FunctionsMean}
+use Rattle.ygg_sym_runs.specs.Names.{SymEnv, sym_bind}
+use Rattle.ygg_sym_runs.specs.Exprs.{SymFunctions}
+use Rattle.ygg_sym_runs.specs.ExpressionMeaning.{SomeShape, Grows, Gives}
+use Rattle.ygg_sym_runs.proofs.Shaped.{some_wider}
+use Rattle.ygg_sym_runs.proofs.Grows.{FunctionsGrow}
+use Rattle.ygg_sym_runs.proofs.Values.{FunctionsMean}
 use Rattle.ygg_sym_runs.specs.Runs.{SymQuestion, Choice, Call}
 use Rattle.ygg_sym_runs.specs.Meaning.{Low, question_worth, is_set, QuestionShaped, IsLow}
 use Rattle.ygg_sym_runs.specs.Lows.{LowShaped, low_worth, merge_lows}

@@ -27,14 +27,14 @@ use Rattle.ygg_sym_runs.specs.ygg_bank.declared.node.Node.{Node}
 use Rattle.ygg_sym_runs.specs.ygg_shape_cells.Terms.{worth}
 use Rattle.ygg_sym_runs.specs.ygg_shape_cells.declared.terms.SymValue.{SymValue}
 use Rattle.ygg_sym_runs.specs.ygg_meaning_laws.Direct.{Handled}
-use Rattle.ygg_sym_runs.specs.ygg_sym_expr.Names.{SymEnv}
+use Rattle.ygg_sym_runs.specs.Names.{SymEnv}
 use Rattle.ygg_sym_runs.specs.ygg_shape_cells.Terms.{IsShaped}
-use Rattle.ygg_sym_runs.specs.ygg_sym_expr.Meaning.{SomeShape, EnvShaped, Grows, Gives, worths}
+use Rattle.ygg_sym_runs.specs.ExpressionMeaning.{SomeShape, EnvShaped, Grows, Gives, worths}
 use Rattle.ygg_sym_runs.specs.Runs.{SymQuestion, Choice, Call}
 use Rattle.ygg_sym_runs.specs.Meaning.{Low, question_worth, is_set, IsHandled, MachineMeans}
 use Rattle.ygg_sym_runs.proofs.Worths.{NameShaped, shape_fits}
 use Rattle.ygg_sym_runs.specs.Lows.{LowShaped, low_worth}
-use Rattle.ygg_sym_runs.specs.ygg_sym_expr.Names.{sym_bind}
+use Rattle.ygg_sym_runs.specs.Names.{sym_bind}
 use Rattle.ygg_sym_runs.specs.Specs.{Nothing, chooses, sym_chooser, input_pick, given_pick}
 use Rattle.ygg_sym_runs.specs.ygg_meaning_laws.Acts.{next_of}
 use Rattle.ygg_sym_runs.specs.ygg_meaning_laws.Places.{left_after}

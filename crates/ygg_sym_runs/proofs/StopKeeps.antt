@@ -13,9 +13,9 @@ use Rattle.ygg_sym_runs.specs.ygg_bank.declared.node.Node.TheVariants.{Const, In
 use Rattle.ygg_sym_runs.specs.ygg_shape_words_proofs_Keeps.{Stays, inputs_stay, picked_keeps}
 use Rattle.ygg_sym_runs.specs.ygg_meaning_laws.Direct.{room_of}
 use Rattle.ygg_sym_runs.specs.ygg_meaning_laws.RunPlaces.{disk_space}
-use Rattle.ygg_sym_runs.specs.ygg_sym_expr.Names.{SymEnv}
-use Rattle.ygg_sym_runs.specs.ygg_sym_expr.Exprs.{SymFunctions}
-use Rattle.ygg_sym_runs.specs.ygg_sym_expr_proofs_Keeps.{Keeps, FunctionsKeep}
+use Rattle.ygg_sym_runs.specs.Names.{SymEnv}
+use Rattle.ygg_sym_runs.specs.Exprs.{SymFunctions}
+use Rattle.ygg_sym_runs.proofs.Keeps.{Keeps, FunctionsKeep}
 use Rattle.ygg_sym_runs.specs.Runs.{SymQuestion, Choice, Call, SymMachine, sym_run}
 use Rattle.ygg_sym_runs.proofs.Below.{asked_space, MachineKeeps, run_keeps}
 use Rattle.ygg_sym_runs.specs.Stops.{before_at, within_at}

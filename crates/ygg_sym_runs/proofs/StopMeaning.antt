@@ -10,7 +10,7 @@ use Rattle.ygg_sym_runs.specs.ygg_bank.Nodes.{HasWidth}
 use Rattle.ygg_sym_runs.specs.ygg_bank.Values.{Inputs, Values}
 use Rattle.ygg_sym_runs.specs.ygg_bank.declared.node.Id.{Id}
 use Rattle.ygg_sym_runs.specs.ygg_bank.declared.node.Node.{Node}
-use Rattle.ygg_sym_runs.specs.ygg_sym_expr.Meaning.{Grows, Gives}
+use Rattle.ygg_sym_runs.specs.ExpressionMeaning.{Grows, Gives}
 use Rattle.ygg_sym_runs.specs.Runs.{SymQuestion}
 use Rattle.ygg_sym_runs.specs.Meaning.{Low, question_worth, is_set, QuestionShaped, IsLow}
 use Rattle.ygg_sym_runs.specs.Stops.{Halted}

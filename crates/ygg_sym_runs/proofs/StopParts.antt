@@ -16,7 +16,7 @@ use Rattle.ygg_sym_runs.specs.ygg_bank.declared.node.Node.TheVariants.{Bin}
 use Rattle.ygg_sym_runs.specs.ygg_shape_words_proofs_Picks.{picked_is}
 use Rattle.ygg_sym_runs.specs.ygg_shape_words_proofs_Terms.{made_is, digit_is}
 use Rattle.ygg_sym_runs.specs.ygg_shape_words.Picking.{picked}
-use Rattle.ygg_sym_runs.specs.ygg_sym_expr.Meaning.{Gives}
+use Rattle.ygg_sym_runs.specs.ExpressionMeaning.{Gives}
 use Rattle.ygg_sym_runs.specs.Meaning.{is_set}
 use Rattle.ygg_sym_runs.proofs.StopMeaning.{IsTest}
 

@@ -22,11 +22,11 @@ use Rattle.ygg_sym_runs.specs.ygg_meaning.Meaning.{Functions}
 use Rattle.ygg_sym_runs.specs.ygg_meaning_laws.Blocks.{eval_with}
 use Rattle.ygg_sym_runs.specs.ygg_meaning_laws.Kinds.{keeps}
 use Rattle.ygg_sym_runs.specs.ygg_rules.declared.rule.RuleKind.{RuleKind}
-use Rattle.ygg_sym_runs.specs.ygg_sym_expr.Names.{SymEnv}
-use Rattle.ygg_sym_runs.specs.ygg_sym_expr.Exprs.{SymFunctions}
-use Rattle.ygg_sym_runs.specs.ygg_sym_expr.Meaning.{EnvShaped, Gives, worths}
-use Rattle.ygg_sym_runs.specs.ygg_sym_expr_proofs_Grows.{FunctionsGrow}
-use Rattle.ygg_sym_runs.specs.ygg_sym_expr_proofs_Values.{FunctionsMean}
+use Rattle.ygg_sym_runs.specs.Names.{SymEnv}
+use Rattle.ygg_sym_runs.specs.Exprs.{SymFunctions}
+use Rattle.ygg_sym_runs.specs.ExpressionMeaning.{EnvShaped, Gives, worths}
+use Rattle.ygg_sym_runs.proofs.Grows.{FunctionsGrow}
+use Rattle.ygg_sym_runs.proofs.Values.{FunctionsMean}
 use Rattle.ygg_sym_runs.specs.Runs.{SymMachine, sym_run}
 use Rattle.ygg_sym_runs.specs.Meaning.{Low, is_set, IsLow, MachineMeans}
 use Rattle.ygg_sym_runs.proofs.Parts.{InScope}

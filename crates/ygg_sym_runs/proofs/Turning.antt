@@ -23,20 +23,20 @@ use Rattle.ygg_meaning_laws.proofs.Asking.{local_lower}
 use Rattle.ygg_meaning_laws.proofs.Following.{follows_front, agrees_after}
 use Rattle.ygg_meaning_laws.specs.ygg_meaning.Environments.{Name, Env}
 use Rattle.ygg_meaning_laws.specs.ygg_meaning.Meaning.{functions_of}
-use Rattle.ygg_sym_expr.specs.ygg_rules.declared.rule.RuleKind.{RuleKind}
-use Rattle.ygg_sym_expr.specs.ygg_bank_proofs_Meaning.{fits_fewer}
-use Rattle.ygg_sym_expr.specs.ygg_bank.Nodes.{IsBank, Extends}
-use Rattle.ygg_sym_expr.specs.ygg_bank.declared.node.Node.{Node}
-use Rattle.ygg_sym_expr.specs.ygg_bank.declared.node.Node.TheVariants as node
-use Rattle.ygg_sym_expr.specs.ygg_shape_cells.Terms.{worth}
-use Rattle.ygg_sym_expr.specs.ygg_shape_cells.declared.terms.SymValue.{SymValue}
-use Rattle.ygg_sym_expr.specs.Names.{SymEnv}
-use Rattle.ygg_sym_expr.specs.Exprs.{number_made}
-use Rattle.ygg_sym_expr.specs.Meaning.{EnvShaped, worths}
-use Rattle.ygg_sym_expr.proofs.Grows.{word_grows}
-use Rattle.ygg_sym_expr.proofs.Parts.{number_gives}
-use Rattle.ygg_sym_expr.proofs.Shaped.{env_wider}
-use Rattle.ygg_sym_expr.proofs.Values.{same_defs}
+use Rattle.ygg_sym_runs.specs.ygg_rules.declared.rule.RuleKind.{RuleKind}
+use Rattle.ygg_sym_runs.specs.ygg_bank_proofs_Meaning.{fits_fewer}
+use Rattle.ygg_sym_runs.specs.ygg_bank.Nodes.{IsBank, Extends}
+use Rattle.ygg_sym_runs.specs.ygg_bank.declared.node.Node.{Node}
+use Rattle.ygg_sym_runs.specs.ygg_bank.declared.node.Node.TheVariants as node
+use Rattle.ygg_sym_runs.specs.ygg_shape_cells.Terms.{worth}
+use Rattle.ygg_sym_runs.specs.ygg_shape_cells.declared.terms.SymValue.{SymValue}
+use Rattle.ygg_sym_runs.specs.Names.{SymEnv}
+use Rattle.ygg_sym_runs.specs.Exprs.{number_made}
+use Rattle.ygg_sym_runs.specs.ExpressionMeaning.{EnvShaped, worths}
+use Rattle.ygg_sym_runs.proofs.Grows.{word_grows}
+use Rattle.ygg_sym_runs.proofs.ExpressionParts.{number_gives}
+use Rattle.ygg_sym_runs.proofs.Shaped.{env_wider}
+use Rattle.ygg_sym_runs.proofs.Values.{same_defs}
 use Rattle.ygg_sym_runs.specs.Lower.{SymMeaning, IsLower, KeepsSingle}
 use Rattle.ygg_sym_runs.specs.Ready.{CanEnter, CanRepeat, inside_run}
 use Rattle.ygg_sym_runs.proofs.Ends.{env_take, one_more, one_worth}

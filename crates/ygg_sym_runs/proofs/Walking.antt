@@ -30,20 +30,20 @@ use Rattle.ygg_meaning_laws.specs.Questions.{plain, question_fits, Follows}
 use Rattle.ygg_meaning_laws.specs.Direct.{forgets, in_order, direct_of}
 use Rattle.ygg_meaning_laws.proofs.ProgressSounds.{call_fits}
 use Rattle.ygg_meaning_laws.proofs.TypeErrors.{called}
-use Rattle.ygg_sym_expr.specs.ygg_rules.declared.rule.RuleKind.{RuleKind}
-use Rattle.ygg_sym_expr.specs.ygg_bank_proofs_Meaning.{fits_fewer}
-use Rattle.ygg_sym_expr.specs.ygg_bank.Nodes.{IsBank, Extends}
-use Rattle.ygg_sym_expr.specs.ygg_bank.Values.{Inputs, Values, Fits}
-use Rattle.ygg_sym_expr.specs.ygg_bank.declared.node.Node.{Node}
-use Rattle.ygg_sym_expr.specs.ygg_shape_cells.declared.terms.SymValue.{SymValue}
-use Rattle.ygg_sym_expr.specs.Names.{SymEnv}
-use Rattle.ygg_sym_expr.specs.Exprs.{SymFunctions}
-use Rattle.ygg_sym_expr.specs.Meaning.{worths}
-use Rattle.ygg_sym_expr.specs.Seen.{CanTerm}
-use Rattle.ygg_sym_expr.proofs.Definitions.{functions_mean}
-use Rattle.ygg_sym_expr.proofs.Grows.{FunctionsGrow, functions_grow}
-use Rattle.ygg_sym_expr.proofs.Shaped.{env_wider}
-use Rattle.ygg_sym_expr.proofs.Values.{FunctionsMean}
+use Rattle.ygg_sym_runs.specs.ygg_rules.declared.rule.RuleKind.{RuleKind}
+use Rattle.ygg_sym_runs.specs.ygg_bank_proofs_Meaning.{fits_fewer}
+use Rattle.ygg_sym_runs.specs.ygg_bank.Nodes.{IsBank, Extends}
+use Rattle.ygg_sym_runs.specs.ygg_bank.Values.{Inputs, Values, Fits}
+use Rattle.ygg_sym_runs.specs.ygg_bank.declared.node.Node.{Node}
+use Rattle.ygg_sym_runs.specs.ygg_shape_cells.declared.terms.SymValue.{SymValue}
+use Rattle.ygg_sym_runs.specs.Names.{SymEnv}
+use Rattle.ygg_sym_runs.specs.Exprs.{SymFunctions}
+use Rattle.ygg_sym_runs.specs.ExpressionMeaning.{worths}
+use Rattle.ygg_sym_runs.specs.Seen.{CanTerm}
+use Rattle.ygg_sym_runs.proofs.Definitions.{functions_mean}
+use Rattle.ygg_sym_runs.proofs.Grows.{FunctionsGrow, functions_grow}
+use Rattle.ygg_sym_runs.proofs.Shaped.{env_wider}
+use Rattle.ygg_sym_runs.proofs.Values.{FunctionsMean}
 use Rattle.ygg_sym_runs.specs.Lower.{SymMeaning, IsLower, KeepsSingle, Stands, CanAsk}
 use Rattle.ygg_sym_runs.specs.Meaning.{MachineMeans, RunIs, question_worth}
 use Rattle.ygg_sym_runs.specs.Ready.{known_with, terms_of, stmt_run, inside_run, InNames, CanDo, CanCall, CanGet, CanStep, CanRun, CanEnter}

@@ -32,12 +32,12 @@ use Rattle.ygg_sym_runs.specs.ygg_bank.declared.node.Node.{Node}
 use Rattle.ygg_sym_runs.specs.ygg_shape_cells.Terms.{worth}
 use Rattle.ygg_sym_runs.specs.ygg_shape_cells.declared.terms.SymValue.{SymValue}
 use Rattle.ygg_sym_runs.specs.ygg_meaning_laws.Direct.{Handled, Reached, direct_run}
-use Rattle.ygg_sym_runs.specs.ygg_sym_expr.Names.{SymEnv}
-use Rattle.ygg_sym_runs.specs.ygg_sym_expr.Exprs.{SymFunctions}
-use Rattle.ygg_sym_runs.specs.ygg_sym_expr.Meaning.{EnvShaped, Grows, Gives, worths}
-use Rattle.ygg_sym_runs.specs.ygg_sym_expr_proofs_Shaped.{env_wider}
-use Rattle.ygg_sym_runs.specs.ygg_sym_expr_proofs_Grows.{FunctionsGrow, value_grows}
-use Rattle.ygg_sym_runs.specs.ygg_sym_expr_proofs_Values.{FunctionsMean}
+use Rattle.ygg_sym_runs.specs.Names.{SymEnv}
+use Rattle.ygg_sym_runs.specs.Exprs.{SymFunctions}
+use Rattle.ygg_sym_runs.specs.ExpressionMeaning.{EnvShaped, Grows, Gives, worths}
+use Rattle.ygg_sym_runs.proofs.Shaped.{env_wider}
+use Rattle.ygg_sym_runs.proofs.Grows.{FunctionsGrow, value_grows}
+use Rattle.ygg_sym_runs.proofs.Values.{FunctionsMean}
 use Rattle.ygg_sym_runs.specs.Runs.{SymMachine, plain_scope, sym_run}
 use Rattle.ygg_sym_runs.specs.Meaning.{Low, answer_worth, AnswerShaped, MachineMeans}
 use Rattle.ygg_sym_runs.proofs.Parts.{InScope, eval_gives}

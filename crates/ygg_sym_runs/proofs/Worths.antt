@@ -12,26 +12,26 @@ use Rattle.ygg_meaning_laws.specs.ygg_meaning.Shapes.{fits}
 use Rattle.ygg_meaning_laws.proofs.Fits.{value_fits}
 use Rattle.ygg_meaning_laws.specs.Questions.{Follows}
 use Rattle.ygg_meaning_laws.proofs.ProgressFits.{one_shape}
-use Rattle.ygg_sym_expr.specs.ygg_rules.declared.rule.RuleKind.{RuleKind}
-use Rattle.ygg_sym_expr.specs.ygg_bank_proofs_Meaning.{fits_fewer}
-use Rattle.ygg_sym_expr.specs.ygg_bank_proofs_Widths.{wider, extends_self, extends_both}
-use Rattle.ygg_sym_expr.specs.ygg_bank.Nodes.{HasWidth}
-use Rattle.ygg_sym_expr.specs.ygg_bank.Values.{Inputs, Values, Fits}
-use Rattle.ygg_sym_expr.specs.ygg_bank.declared.node.Id.{Id}
-use Rattle.ygg_sym_expr.specs.ygg_bank.declared.node.Node.{Node}
-use Rattle.ygg_sym_expr.specs.ygg_shape_cells_proofs_Makers.{merged_gives}
-use Rattle.ygg_sym_expr.specs.ygg_shape_cells_proofs_Worth.{digits, grid, row_worth, table_worth}
-use Rattle.ygg_sym_expr.specs.ygg_shape_cells.Making.{merged}
-use Rattle.ygg_sym_expr.specs.ygg_shape_cells.Terms.{worth, numbers_of}
-use Rattle.ygg_sym_expr.specs.ygg_shape_cells.Terms as cells
-use Rattle.ygg_sym_expr.specs.ygg_shape_cells.declared.terms.SymValue.{SymValue}
-use Rattle.ygg_sym_expr.specs.ygg_shape_cells.declared.terms.SymValue.TheVariants.{Word, Row, Table}
-use Rattle.ygg_sym_expr.specs.Names.{SymEnv}
-use Rattle.ygg_sym_expr.specs.Exprs.{SymFunctions}
-use Rattle.ygg_sym_expr.specs.ygg_shape_cells.Terms.{IsShaped}
-use Rattle.ygg_sym_expr.specs.Meaning.{SomeShape, EnvShaped, Grows, Gives, worths}
-use Rattle.ygg_sym_expr.proofs.Shaped.{worth_shape, some_wider, env_wider}
-use Rattle.ygg_sym_expr.specs.ygg_shape_cells_proofs_Grows.{merged_grows}
+use Rattle.ygg_sym_runs.specs.ygg_rules.declared.rule.RuleKind.{RuleKind}
+use Rattle.ygg_sym_runs.specs.ygg_bank_proofs_Meaning.{fits_fewer}
+use Rattle.ygg_sym_runs.specs.ygg_bank_proofs_Widths.{wider, extends_self, extends_both}
+use Rattle.ygg_sym_runs.specs.ygg_bank.Nodes.{HasWidth}
+use Rattle.ygg_sym_runs.specs.ygg_bank.Values.{Inputs, Values, Fits}
+use Rattle.ygg_sym_runs.specs.ygg_bank.declared.node.Id.{Id}
+use Rattle.ygg_sym_runs.specs.ygg_bank.declared.node.Node.{Node}
+use Rattle.ygg_sym_runs.specs.ygg_shape_cells_proofs_Makers.{merged_gives}
+use Rattle.ygg_sym_runs.specs.ygg_shape_cells_proofs_Worth.{digits, grid, row_worth, table_worth}
+use Rattle.ygg_sym_runs.specs.ygg_shape_cells.Making.{merged}
+use Rattle.ygg_sym_runs.specs.ygg_shape_cells.Terms.{worth, numbers_of}
+use Rattle.ygg_sym_runs.specs.ygg_shape_cells.Terms as cells
+use Rattle.ygg_sym_runs.specs.ygg_shape_cells.declared.terms.SymValue.{SymValue}
+use Rattle.ygg_sym_runs.specs.ygg_shape_cells.declared.terms.SymValue.TheVariants.{Word, Row, Table}
+use Rattle.ygg_sym_runs.specs.Names.{SymEnv}
+use Rattle.ygg_sym_runs.specs.Exprs.{SymFunctions}
+use Rattle.ygg_sym_runs.specs.ygg_shape_cells.Terms.{IsShaped}
+use Rattle.ygg_sym_runs.specs.ExpressionMeaning.{SomeShape, EnvShaped, Grows, Gives, worths}
+use Rattle.ygg_sym_runs.proofs.Shaped.{worth_shape, some_wider, env_wider}
+use Rattle.ygg_sym_runs.specs.ygg_shape_cells_proofs_Grows.{merged_grows}
 use Rattle.ygg_sym_runs.specs.Runs.{SymMachine, merge_env}
 use Rattle.ygg_sym_runs.specs.Meaning.{is_set}
 

@@ -1,10 +1,10 @@
 -- The environment of zeros fits any nodes.
 use Rattle.std.proofs.Common.{◌≡◌, ℕ, List, Result, Ok, Err, OnOk, sym, subst}
 use Rattle.std.proofs.lemmas.Nat.{pow_pos}
-use Rattle.ygg_sym_expr.specs.ygg_bank_proofs_Exist.{values_fit}
-use Rattle.ygg_sym_expr.specs.ygg_bank.Nodes.{IsBank}
-use Rattle.ygg_sym_expr.specs.ygg_bank.Values.{Inputs, Values, Fits, value_of}
-use Rattle.ygg_sym_expr.specs.ygg_bank.declared.node.Node.{Node}
+use Rattle.ygg_sym_runs.specs.ygg_bank_proofs_Exist.{values_fit}
+use Rattle.ygg_sym_runs.specs.ygg_bank.Nodes.{IsBank}
+use Rattle.ygg_sym_runs.specs.ygg_bank.Values.{Inputs, Values, Fits, value_of}
+use Rattle.ygg_sym_runs.specs.ygg_bank.declared.node.Node.{Node}
 use Rattle.ygg_sym_runs.specs.Lower.{SingleFrom, KeepsSingle}
 
 -- each input is 0

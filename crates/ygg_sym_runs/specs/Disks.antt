@@ -15,7 +15,7 @@ use Rattle.ygg_sym_runs.specs.ygg_shape_cells.declared.terms.SymValue.{SymValue}
 use Rattle.ygg_sym_runs.specs.ygg_shape_cells.declared.terms.SymValue.TheVariants.{Word, Row, Table}
 use Rattle.ygg_sym_runs.specs.ygg_shape.Guarding.{stored_where}
 use Rattle.ygg_sym_runs.specs.ygg_meaning_laws.RunPlaces.{disk_space}
-use Rattle.ygg_sym_runs.specs.ygg_sym_expr.Exprs.{id_in}
+use Rattle.ygg_sym_runs.specs.Exprs.{id_in}
 use Rattle.ygg_sym_runs.specs.Putting.{row_in}
 use Rattle.ygg_sym_runs.specs.Runs.{SymQuestion, Choice, Call, SymHandled, SymMachine}
 use Rattle.ygg_sym_runs.specs.Lows.{merge_lows}

@@ -1,8 +1,8 @@
 -- What lets the ends of two sides be merged.
 use Rattle.std.specs.Prelude.{List}
-use Rattle.ygg_sym_expr.specs.ygg_bank.declared.node.Id.{Id}
-use Rattle.ygg_sym_expr.specs.ygg_bank.declared.node.Node.{Node}
-use Rattle.ygg_sym_expr.specs.Names.{SymEnv}
+use Rattle.ygg_sym_runs.specs.ygg_bank.declared.node.Id.{Id}
+use Rattle.ygg_sym_runs.specs.ygg_bank.declared.node.Node.{Node}
+use Rattle.ygg_sym_runs.specs.Names.{SymEnv}
 use Rattle.ygg_sym_runs.specs.Lower.{SymMeaning, CanMerge}
 use Rattle.ygg_sym_runs.specs.Ready.{CanJoin}
 

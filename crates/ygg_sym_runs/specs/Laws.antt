@@ -39,9 +39,9 @@ use Rattle.ygg_syntax.specs.declared.tree.Operation.{Operation}
 use Rattle.ygg_sym_runs.specs.ygg_meaning.Spec.{Spec}
 use Rattle.ygg_sym_runs.specs.Specs.{SpecBlock, input_pick, sym_spec}
 use Rattle.ygg_sym_runs.specs.ygg_meaning_laws.RunPlaces.{disk_space, spec_space, placed_run, runs_by_place, falls_by_place}
-use Rattle.ygg_sym_runs.specs.ygg_sym_expr.Names.{SymEnv}
-use Rattle.ygg_sym_runs.specs.ygg_sym_expr.Exprs.{sym_functions}
-use Rattle.ygg_sym_runs.specs.ygg_sym_expr.Meaning.{EnvShaped, worths}
+use Rattle.ygg_sym_runs.specs.Names.{SymEnv}
+use Rattle.ygg_sym_runs.specs.Exprs.{sym_functions}
+use Rattle.ygg_sym_runs.specs.ExpressionMeaning.{EnvShaped, worths}
 use Rattle.ygg_sym_runs.specs.Meaning.{answer_worth, is_set}
 use Rattle.ygg_sym_runs.specs.Lows.{LowShaped, low_worth}
 use Rattle.ygg_sym_runs.specs.Disks.{sym_disk}

@@ -10,14 +10,14 @@ use Rattle.ygg_meaning_laws.specs.ygg_meaning.Progress.{Question, Answer}
 use Rattle.ygg_meaning_laws.specs.ygg_meaning.Progress as progress
 use Rattle.ygg_meaning_laws.specs.Agrees.{Agrees}
 use Rattle.ygg_meaning_laws.specs.Questions.{plain, answer_fits, question_fits, Follows}
-use Rattle.ygg_sym_expr.specs.ygg_bank.Nodes.{HasWidth, Extends}
-use Rattle.ygg_sym_expr.specs.ygg_bank.Values.{Inputs, Values}
-use Rattle.ygg_sym_expr.specs.ygg_bank.declared.node.Id.{Id}
-use Rattle.ygg_sym_expr.specs.ygg_bank.declared.node.Node.{Node}
-use Rattle.ygg_sym_expr.specs.ygg_shape_cells.Terms.{worth}
-use Rattle.ygg_sym_expr.specs.ygg_shape_cells.declared.terms.SymValue.{SymValue}
+use Rattle.ygg_sym_runs.specs.ygg_bank.Nodes.{HasWidth, Extends}
+use Rattle.ygg_sym_runs.specs.ygg_bank.Values.{Inputs, Values}
+use Rattle.ygg_sym_runs.specs.ygg_bank.declared.node.Id.{Id}
+use Rattle.ygg_sym_runs.specs.ygg_bank.declared.node.Node.{Node}
+use Rattle.ygg_sym_runs.specs.ygg_shape_cells.Terms.{worth}
+use Rattle.ygg_sym_runs.specs.ygg_shape_cells.declared.terms.SymValue.{SymValue}
 use Rattle.ygg_meaning_laws.specs.Direct.{Handled, Reached}
-use Rattle.ygg_sym_expr.specs.Meaning.{SomeShape, EnvShaped, Grows, Gives, worths}
+use Rattle.ygg_sym_runs.specs.ExpressionMeaning.{SomeShape, EnvShaped, Grows, Gives, worths}
 use Rattle.ygg_sym_runs.specs.Runs.{SymQuestion, Choice, Call, SymHandled, SymState, SymMachine}
 
 -- how terms stand for states of the machine below: what a state is worth, and that it stands among nodes, and among more nodes too

@@ -21,7 +21,7 @@ use Rattle.ygg_sym_runs.specs.ygg_bank.declared.node.Node.{Node}
 use Rattle.ygg_sym_runs.specs.ygg_shape_cells.declared.terms.SymValue.{SymValue}
 use Rattle.ygg_sym_runs.specs.Names.{SymEnv, sym_bind}
 use Rattle.ygg_sym_runs.specs.Exprs.{SymFunctions, sym_functions}
-use Rattle.ygg_sym_runs.specs.SymExprMeaning.{Grows, worths}
+use Rattle.ygg_sym_runs.specs.ExpressionMeaning.{Grows, worths}
 use Rattle.ygg_sym_runs.specs.Meaning.{AnswerShaped, answer_worth, is_set}
 use Rattle.ygg_sym_runs.specs.Lows.{LowShaped, low_worth}
 use Rattle.ygg_sym_runs.specs.StopTerms.{SymFallen}

@@ -2,14 +2,14 @@
 use Rattle.std.specs.Prelude.{ℕ, zero, suc, List, [], ◌∷◌}
 use Rattle.ygg_value.specs.declared.shape.Shape.{Shape}
 use Rattle.ygg_meaning_laws.specs.ygg_type_rules.Shapes.{part_shape}
-use Rattle.ygg_sym_expr.specs.ygg_rules.declared.rule.RuleKind.{RuleKind}
-use Rattle.ygg_sym_expr.specs.ygg_bank.Makes.{Make, pure, and_make}
-use Rattle.ygg_sym_expr.specs.ygg_bank.declared.node.Id.{Id}
-use Rattle.ygg_sym_expr.specs.ygg_shape_cells.Making.{selected, stored}
-use Rattle.ygg_sym_expr.specs.ygg_shape_cells.declared.terms.SymValue.{SymValue}
-use Rattle.ygg_sym_expr.specs.ygg_shape_cells.declared.terms.SymValue.TheVariants.{Word, Row, Table}
-use Rattle.ygg_sym_expr.specs.ygg_shape.RowPlaces.{word_stored}
-use Rattle.ygg_sym_expr.specs.Exprs.{id_in}
+use Rattle.ygg_sym_runs.specs.ygg_rules.declared.rule.RuleKind.{RuleKind}
+use Rattle.ygg_sym_runs.specs.ygg_bank.Makes.{Make, pure, and_make}
+use Rattle.ygg_sym_runs.specs.ygg_bank.declared.node.Id.{Id}
+use Rattle.ygg_sym_runs.specs.ygg_shape_cells.Making.{selected, stored}
+use Rattle.ygg_sym_runs.specs.ygg_shape_cells.declared.terms.SymValue.{SymValue}
+use Rattle.ygg_sym_runs.specs.ygg_shape_cells.declared.terms.SymValue.TheVariants.{Word, Row, Table}
+use Rattle.ygg_sym_runs.specs.ygg_shape.RowPlaces.{word_stored}
+use Rattle.ygg_sym_runs.specs.Exprs.{id_in}
 
 -- the row that a value is; a word or a table, which no typed file has there, counts as no words
 abbrev pub row_in : SymValue → List Id

@@ -23,22 +23,22 @@ use Rattle.ygg_meaning_laws.specs.ygg_meaning.Meaning.{functions_of}
 use Rattle.ygg_meaning_laws.specs.Agrees.{Agrees}
 use Rattle.ygg_meaning_laws.specs.Kinds.{may_call, source_keeps, all_keep, node_keeps, stmt_keeps, keeps}
 use Rattle.ygg_meaning_laws.specs.Questions.{plain}
-use Rattle.ygg_sym_expr.specs.ygg_rules.declared.rule.RuleKind.{RuleKind}
-use Rattle.ygg_sym_expr.specs.ygg_bank.Makes.{Make, pure, and_make}
-use Rattle.ygg_sym_expr.specs.ygg_bank.Nodes as bank
-use Rattle.ygg_sym_expr.specs.ygg_bank.Nodes.{HasWidth}
-use Rattle.ygg_sym_expr.specs.ygg_bank.Values.{Inputs, Values, Fits}
-use Rattle.ygg_sym_expr.specs.ygg_bank.declared.node.Id.{Id}
-use Rattle.ygg_sym_expr.specs.ygg_bank.declared.node.Node.{Node}
-use Rattle.ygg_sym_expr.specs.ygg_shape_cells.Lists.{each_two}
-use Rattle.ygg_sym_expr.specs.ygg_shape_cells.Making.{merged}
-use Rattle.ygg_sym_expr.specs.ygg_shape_cells.Terms.{AreAlike, IsShaped}
-use Rattle.ygg_sym_expr.specs.ygg_shape_cells.declared.terms.SymValue.{SymValue}
+use Rattle.ygg_sym_runs.specs.ygg_rules.declared.rule.RuleKind.{RuleKind}
+use Rattle.ygg_sym_runs.specs.ygg_bank.Makes.{Make, pure, and_make}
+use Rattle.ygg_sym_runs.specs.ygg_bank.Nodes as bank
+use Rattle.ygg_sym_runs.specs.ygg_bank.Nodes.{HasWidth}
+use Rattle.ygg_sym_runs.specs.ygg_bank.Values.{Inputs, Values, Fits}
+use Rattle.ygg_sym_runs.specs.ygg_bank.declared.node.Id.{Id}
+use Rattle.ygg_sym_runs.specs.ygg_bank.declared.node.Node.{Node}
+use Rattle.ygg_sym_runs.specs.ygg_shape_cells.Lists.{each_two}
+use Rattle.ygg_sym_runs.specs.ygg_shape_cells.Making.{merged}
+use Rattle.ygg_sym_runs.specs.ygg_shape_cells.Terms.{AreAlike, IsShaped}
+use Rattle.ygg_sym_runs.specs.ygg_shape_cells.declared.terms.SymValue.{SymValue}
 use Rattle.ygg_meaning_laws.specs.Direct.{total}
-use Rattle.ygg_sym_expr.specs.Names.{SymEnv}
-use Rattle.ygg_sym_expr.specs.Exprs.{SymFunctions, sym_functions}
-use Rattle.ygg_sym_expr.specs.Meaning.{EnvShaped, worths}
-use Rattle.ygg_sym_expr.specs.Seen.{SymKnown}
+use Rattle.ygg_sym_runs.specs.Names.{SymEnv}
+use Rattle.ygg_sym_runs.specs.Exprs.{SymFunctions, sym_functions}
+use Rattle.ygg_sym_runs.specs.ExpressionMeaning.{EnvShaped, worths}
+use Rattle.ygg_sym_runs.specs.Seen.{SymKnown}
 use Rattle.ygg_sym_runs.specs.Putting.{led_to}
 use Rattle.ygg_sym_runs.specs.Runs.{SymRun, plain_scope, sym_of, sym_in_order, sym_forget, sym_times, sym_each}
 use Rattle.ygg_sym_runs.specs.Lower.{SymMeaning, KeepsSingle, Stands}

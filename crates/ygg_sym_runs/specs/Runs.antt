@@ -10,14 +10,14 @@ use Rattle.ygg_syntax.specs.declared.tree.Block.{Block}
 use Rattle.ygg_syntax.specs.declared.tree.Stmt.TheOpen.{Stmt-F, Block-F}
 use Rattle.ygg_syntax.specs.declared.tree.Stmt.TheFolds.{fold-Stmt}
 use Rattle.ygg_meaning_laws.specs.ygg_meaning.Environments.{Name}
-use Rattle.ygg_sym_expr.specs.ygg_rules.declared.rule.RuleKind.{RuleKind}
-use Rattle.ygg_sym_expr.specs.ygg_bank.Makes.{Make, pure, and_make}
-use Rattle.ygg_sym_expr.specs.ygg_bank.declared.node.Id.{Id}
-use Rattle.ygg_sym_expr.specs.ygg_shape_cells.Making.{merged}
-use Rattle.ygg_sym_expr.specs.ygg_shape_cells.declared.terms.SymValue.{SymValue}
+use Rattle.ygg_sym_runs.specs.ygg_rules.declared.rule.RuleKind.{RuleKind}
+use Rattle.ygg_sym_runs.specs.ygg_bank.Makes.{Make, pure, and_make}
+use Rattle.ygg_sym_runs.specs.ygg_bank.declared.node.Id.{Id}
+use Rattle.ygg_sym_runs.specs.ygg_shape_cells.Making.{merged}
+use Rattle.ygg_sym_runs.specs.ygg_shape_cells.declared.terms.SymValue.{SymValue}
 use Rattle.ygg_meaning_laws.specs.Direct.{total, source_space}
-use Rattle.ygg_sym_expr.specs.Names.{SymEnv, SymScope, no_term}
-use Rattle.ygg_sym_expr.specs.Exprs.{SymFunctions, id_in, all_made, number_made, sym_value}
+use Rattle.ygg_sym_runs.specs.Names.{SymEnv, SymScope, no_term}
+use Rattle.ygg_sym_runs.specs.Exprs.{SymFunctions, id_in, all_made, number_made, sym_value}
 use Rattle.ygg_sym_runs.specs.Putting.{put_made}
 
 -- what a block waits for: a choice, or the answer of a call

@@ -12,8 +12,8 @@ use Rattle.ygg_sym_runs.specs.ygg_bank.declared.node.Node.TheVariants.{Input, Bi
 use Rattle.ygg_sym_runs.specs.ygg_shape_words.Picking.{picked}
 use Rattle.ygg_sym_runs.specs.ygg_shape_cells.declared.terms.SymValue.{SymValue}
 use Rattle.ygg_sym_runs.specs.ygg_meaning_laws.Direct.{room_of, total}
-use Rattle.ygg_sym_runs.specs.ygg_sym_expr.Names.{SymEnv, sym_bind}
-use Rattle.ygg_sym_runs.specs.ygg_sym_expr.Exprs.{SymFunctions}
+use Rattle.ygg_sym_runs.specs.Names.{SymEnv, sym_bind}
+use Rattle.ygg_sym_runs.specs.Exprs.{SymFunctions}
 use Rattle.ygg_sym_runs.specs.Runs.{SymQuestion, Choice, Call}
 use Rattle.ygg_sym_runs.specs.Lows.{merge_lows}
 use Rattle.ygg_sym_runs.specs.Disks.{Done, done}

@@ -30,8 +30,8 @@ use Rattle.ygg_sym_runs.specs.ygg_shape_cells.declared.terms.SymValue.TheVariant
 use Rattle.ygg_sym_runs.specs.ygg_meaning_laws.Acts.{next_of}
 use Rattle.ygg_sym_runs.specs.ygg_meaning_laws.Places.{left_after}
 use Rattle.ygg_sym_runs.specs.ygg_meaning_laws.RunPlaces.{spec_space}
-use Rattle.ygg_sym_runs.specs.ygg_sym_expr.Names.{sym_bind}
-use Rattle.ygg_sym_runs.specs.ygg_sym_expr.Exprs.{SymFunctions}
+use Rattle.ygg_sym_runs.specs.Names.{sym_bind}
+use Rattle.ygg_sym_runs.specs.Exprs.{SymFunctions}
 use Rattle.ygg_sym_runs.specs.Runs.{SymQuestion, Choice, Call, SymHandled, SymMachine}
 use Rattle.ygg_sym_runs.specs.Lows.{merge_lows}
 use Rattle.ygg_sym_runs.specs.Disks.{Done, done}

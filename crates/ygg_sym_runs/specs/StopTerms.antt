@@ -7,8 +7,8 @@ use Rattle.ygg_sym_runs.specs.ygg_bank.Makes.{Make, pure, and_make}
 use Rattle.ygg_sym_runs.specs.ygg_bank.Making.{made}
 use Rattle.ygg_sym_runs.specs.ygg_bank.declared.node.Id.{Id}
 use Rattle.ygg_sym_runs.specs.ygg_bank.declared.node.Node.TheVariants.{Const}
-use Rattle.ygg_sym_runs.specs.ygg_sym_expr.Names.{SymEnv}
-use Rattle.ygg_sym_runs.specs.ygg_sym_expr.Exprs.{SymFunctions}
+use Rattle.ygg_sym_runs.specs.Names.{SymEnv}
+use Rattle.ygg_sym_runs.specs.Exprs.{SymFunctions}
 use Rattle.ygg_sym_runs.specs.Runs.{SymQuestion, SymHandled, SymMachine, sym_run}
 use Rattle.ygg_sym_runs.specs.Stops.{before_at, within_at}
 

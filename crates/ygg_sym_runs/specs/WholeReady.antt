@@ -10,7 +10,7 @@ use Rattle.ygg_sym_runs.specs.ygg_meaning_laws.Kinds.{keeps}
 use Rattle.ygg_sym_runs.specs.ygg_rules.declared.rule.RuleKind.{RuleKind}
 use Rattle.ygg_sym_runs.specs.ygg_bank.declared.node.Node.{Node}
 use Rattle.ygg_sym_runs.specs.ygg_shape_cells.declared.terms.SymValue.{SymValue}
-use Rattle.ygg_sym_runs.specs.ygg_sym_expr.Names.{SymEnv}
+use Rattle.ygg_sym_runs.specs.Names.{SymEnv}
 use Rattle.ygg_sym_runs.specs.Lower.{SymMeaning, KeepsSingle, Stands}
 use Rattle.ygg_sym_runs.specs.Ready.{InNames, terms_of}
 use Rattle.ygg_sym_runs.specs.Wholes.{sym_whole}

@@ -6,8 +6,8 @@ use Rattle.ygg_sym_runs.specs.ygg_meaning.Machine.{Picks}
 use Rattle.ygg_sym_runs.specs.ygg_rules.declared.rule.RuleKind.{RuleKind}
 use Rattle.ygg_sym_runs.specs.ygg_bank.Makes.{Make, pure, and_make}
 use Rattle.ygg_sym_runs.specs.ygg_shape_cells.declared.terms.SymValue.{SymValue}
-use Rattle.ygg_sym_runs.specs.ygg_sym_expr.Names.{SymEnv}
-use Rattle.ygg_sym_runs.specs.ygg_sym_expr.Exprs.{SymFunctions, sym_value}
+use Rattle.ygg_sym_runs.specs.Names.{SymEnv}
+use Rattle.ygg_sym_runs.specs.Exprs.{SymFunctions, sym_value}
 use Rattle.ygg_sym_runs.specs.Runs.{SymMachine, plain_scope, sym_run}
 
 -- how a whole run ends: an answer, the variables, and the state of the machine below

@@ -7,10 +7,10 @@ ghost use Rattle.ygg_sym_runs.specs.ygg_bank.Nodes.{Extends, HasWidth, IsBank};
 ghost use Rattle.ygg_sym_runs.specs.ygg_shape.Wholes.{AllAlike};
 ghost use Rattle.ygg_sym_runs.specs.Lows.{LowShaped, merge_lows};
 
+use crate::{Bank, Book, Id, NoMemory, SymValues, merge_all};
 use std::alloc::Global;
 use std::marker::Model;
 use ygg_list::Duplicate;
-use ygg_sym_expr::{Bank, Book, Id, NoMemory, SymValues, merge_all};
 
 /// A state of a machine below, which contracts see as its values.
 #[derive(Drop)]

@@ -1,14 +1,14 @@
 use crate::question::Awaited;
+use crate::{Bank, Book, Id, NoMemory, SymValue};
 use std::alloc::Global;
 use ygg_list::Duplicate;
-use ygg_sym_expr::{Bank, Book, Id, NoMemory, SymValue};
 
 /// The machine over terms on which a block is run. Its states are values of terms; what it is made of stays the same. Each call has places of
 /// its own in the unrolled text, and a machine names its inputs by them. No machine has memory for so many inputs that their numbers don't fit
 /// in 64 digits: where a number doesn't, the answer is out of memory.
 pub trait SymLower {
     ghost use Rattle.std.specs.Prelude.{◌≡◌, IfOk, OnOk};
-    ghost use Rattle.ygg_sym_expr.specs.ygg_bank.Nodes.{Extends, IsBank};
+    ghost use Rattle.ygg_sym_runs.specs.ygg_bank.Nodes.{Extends, IsBank};
     ghost use Rattle.ygg_sym_runs.specs.Lower.{
       SymMeaning,
       IsLower,

@@ -1,18 +1,18 @@
 //! The names that a block sees, with their values of terms.
 
 ghost use Rattle.std.specs.Prelude.{◌≡◌, ◌<◌, ◌++◌, ◌∷◌, [], length, IfOk, IfSome, OnOk};
-ghost use Rattle.ygg_sym_expr.specs.ygg_bank.Nodes.{Extends, IsBank};
-ghost use Rattle.ygg_sym_expr.specs.Names.{sym_look_up};
-ghost use Rattle.ygg_sym_expr.specs.Seen.{env_of};
+ghost use Rattle.ygg_sym_runs.specs.ygg_bank.Nodes.{Extends, IsBank};
+ghost use Rattle.ygg_sym_runs.specs.Names.{sym_look_up};
+ghost use Rattle.ygg_sym_runs.specs.Seen.{env_of};
 ghost use Rattle.ygg_sym_runs.specs.Lower.{KeepsSingle};
 ghost use Rattle.ygg_sym_runs.specs.Putting.{put_made};
 ghost use Rattle.ygg_sym_runs.specs.Ready.{CanJoin, CanPut, first_place, joined_names};
 ghost use Rattle.ygg_sym_runs.specs.Runs.{sym_change};
 
 use crate::written::put;
+use crate::{Bank, Book, Id, NoMemory, SymBinding, SymValue, merge};
 use std::alloc::Global;
 use ygg_list::Duplicate;
-use ygg_sym_expr::{Bank, Book, Id, NoMemory, SymBinding, SymValue, merge};
 use ygg_syntax::tree::Name;
 
 /// The same names with the same values. Its only error is out of memory.

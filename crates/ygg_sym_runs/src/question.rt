@@ -1,6 +1,6 @@
 //! What a block waits for.
 
-use ygg_sym_expr::SymValue;
+use crate::SymValue;
 
 /// What a block waits for: a choice, or the answer of an operation that it calls by name, with arguments.
 #[derive(Clone, Copy)]

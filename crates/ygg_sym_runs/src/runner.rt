@@ -1,20 +1,18 @@
 //! The expressions, calls and right sides of a block, over terms.
 
 ghost use Rattle.std.specs.Prelude.{◌≡◌, ◌+◌, IfOk, OnOk, All, map};
-ghost use Rattle.ygg_sym_expr.specs.ygg_bank.Nodes.{Extends, IsBank};
+ghost use Rattle.ygg_sym_runs.specs.ygg_bank.Nodes.{Extends, IsBank};
 ghost use Rattle.ygg_meaning_laws.specs.Direct.{source_space};
-ghost use Rattle.ygg_sym_expr.specs.Exprs.{id_in, sym_value};
-ghost use Rattle.ygg_sym_expr.specs.Seen.{CanTerm, env_of};
+ghost use Rattle.ygg_sym_runs.specs.Exprs.{id_in, sym_value};
+ghost use Rattle.ygg_sym_runs.specs.Seen.{CanTerm, env_of};
 ghost use Rattle.ygg_sym_runs.specs.Lower.{CanAsk, KeepsSingle, question_of};
 ghost use Rattle.ygg_sym_runs.specs.Ready.{CanGet, known_with, terms_of};
 ghost use Rattle.ygg_sym_runs.specs.Runs.{places_of, plain_scope, sym_asks, sym_source, sym_values};
 
 use crate::lower::SymLower;
 use crate::question::Awaited;
+use crate::{Bank, Book, Id, NoMemory, SymBinding, SymEvaluator, SymValue, SymValues, id_in};
 use std::alloc::Global;
-use ygg_sym_expr::{
-    Bank, Book, Id, NoMemory, SymBinding, SymEvaluator, SymValue, SymValues, id_in,
-};
 use ygg_syntax::tree::{Def, Expr, Index, Name, Source};
 
 /// What stays the same while a block is run over terms: the definitions of its file, the machine below it, and the rules of terms.

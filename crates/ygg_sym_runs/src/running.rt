@@ -4,8 +4,8 @@ ghost use Rattle.std.specs.Prelude.{◌≡◌, ◌++◌, length, IfOk};
 ghost use Rattle.std.specs.Option.{ForSome};
 ghost use Rattle.ygg_sym_runs.specs.ygg_bank.Nodes.{Extends, IsBank};
 ghost use Rattle.ygg_sym_runs.specs.Wholes.{sym_returned};
-ghost use Rattle.ygg_sym_runs.specs.ygg_sym_expr.Names.{SymEnv};
-ghost use Rattle.ygg_sym_runs.specs.ygg_sym_expr.Seen.{CanTerm, env_of};
+ghost use Rattle.ygg_sym_runs.specs.Names.{SymEnv};
+ghost use Rattle.ygg_sym_runs.specs.Seen.{CanTerm, env_of};
 ghost use Rattle.ygg_sym_runs.specs.Lower.{KeepsSingle};
 ghost use Rattle.ygg_sym_runs.specs.Ready.{known_with, terms_of};
 ghost use Rattle.ygg_sym_runs.specs.WholeReady.{CanWhole, IsWhole};
@@ -14,7 +14,7 @@ ghost use Rattle.std.specs.Prelude.{OnOk};
 use crate::lower::SymLower;
 use crate::runner::SymRunner;
 use crate::statements::SymFrame;
-use ygg_sym_expr::{Bank, Book, NoMemory, SymBinding, SymValue};
+use crate::{Bank, Book, NoMemory, SymBinding, SymValue};
 use ygg_syntax::tree::{Block, Expr};
 
 /// How a whole run ended.

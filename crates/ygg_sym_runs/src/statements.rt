@@ -1,10 +1,10 @@
 //! The statements of a block over terms, one after another.
 
 ghost use Rattle.std.specs.Prelude.{◌≡◌, ◌≤◌, ◌<◌, ◌^◌, ◌++◌, ◌∷◌, [], IfOk, OnOk};
-ghost use Rattle.ygg_sym_expr.specs.ygg_bank.Nodes.{Extends, IsBank};
+ghost use Rattle.ygg_sym_runs.specs.ygg_bank.Nodes.{Extends, IsBank};
 ghost use Rattle.ygg_syntax.specs.declared.tree.Stmt.TheOpen.{Stmt-F};
-ghost use Rattle.ygg_sym_expr.specs.Exprs.{number_made};
-ghost use Rattle.ygg_sym_expr.specs.Seen.{env_of};
+ghost use Rattle.ygg_sym_runs.specs.Exprs.{number_made};
+ghost use Rattle.ygg_sym_runs.specs.Seen.{env_of};
 ghost use Rattle.ygg_sym_runs.specs.Joining.{CanJoinEnds};
 ghost use Rattle.ygg_sym_runs.specs.Lower.{KeepsSingle};
 ghost use Rattle.ygg_sym_runs.specs.Ready.{
@@ -28,8 +28,8 @@ use crate::lower::SymLower;
 use crate::names::{change, copy_names, join_names, name_value};
 use crate::question::Awaited;
 use crate::runner::SymRunner;
+use crate::{Bank, Book, Id, NoMemory, Node, SymBinding, SymValue, id_in};
 use ygg_list::Duplicate;
-use ygg_sym_expr::{Bank, Book, Id, NoMemory, Node, SymBinding, SymValue, id_in};
 use ygg_syntax::tree::{Block, Expr, Index, Name, Numeral, Source, Stmt};
 use ygg_value::Word;
 

@@ -1,16 +1,14 @@
 //! Terms with a part written anew.
 
 ghost use Rattle.std.specs.Prelude.{◌≡◌, [], ◌∷◌, IfOk, OnOk};
-ghost use Rattle.ygg_sym_expr.specs.ygg_bank.Nodes.{Extends, IsBank};
+ghost use Rattle.ygg_sym_runs.specs.ygg_bank.Nodes.{Extends, IsBank};
 ghost use Rattle.ygg_sym_runs.specs.Lower.{KeepsSingle};
 ghost use Rattle.ygg_sym_runs.specs.Putting.{put_made};
 ghost use Rattle.ygg_sym_runs.specs.Ready.{CanPut};
-ghost use Rattle.ygg_sym_expr.specs.ygg_shape_cells.declared.terms.SymValue.TheVariants as value;
+ghost use Rattle.ygg_sym_runs.specs.ygg_shape_cells.declared.terms.SymValue.TheVariants as value;
 
+use crate::{Bank, Book, Id, NoMemory, SymTable, SymValue, id_in, select, store, store_word};
 use std::alloc::Global;
-use ygg_sym_expr::{
-    Bank, Book, Id, NoMemory, SymTable, SymValue, id_in, select, store, store_word,
-};
 
 /// The value with the part at these places written anew, the outermost place first; with no place, the new value. Its only error is out of
 /// memory, after which the bank may have more nodes.

@@ -17,7 +17,7 @@ use Rattle.ygg_sym_runs.specs.ygg_bank.declared.node.Node.{Node}
 use Rattle.ygg_sym_runs.proofs.of_ygg_shape.Answered.{no_inputs, some_fit}
 use Rattle.ygg_sym_runs.specs.ygg_shape_cells.Terms.{IsShaped, worth}
 use Rattle.ygg_sym_runs.specs.ygg_shape_cells.declared.terms.SymValue.{SymValue}
-use Rattle.ygg_sym_runs.specs.ygg_sym_expr.Meaning.{SomeShape}
+use Rattle.ygg_sym_runs.specs.ExpressionMeaning.{SomeShape}
 use Rattle.ygg_sym_runs.proofs.Singles.{single_less}
 use Rattle.ygg_sym_runs.proofs.Worths.{shape_fits}
 use Rattle.ygg_sym_runs.specs.Lower.{CanAsk, question_of}

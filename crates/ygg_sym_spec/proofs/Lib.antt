@@ -1,5 +1,4 @@
 pub use Rattle.ygg_sym_runs.proofs.of_ygg_shape
-pub use Rattle.ygg_sym_runs.proofs.of_ygg_sym_expr
 pub use Rattle.ygg_sym_runs.proofs as of_ygg_sym_runs
 pub mod Bare
 pub mod Bits

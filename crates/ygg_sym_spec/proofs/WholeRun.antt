@@ -20,12 +20,12 @@ use Rattle.ygg_sym_runs.specs.ygg_bank.declared.node.Node.{Node}
 use Rattle.ygg_sym_runs.proofs.of_ygg_shape.Answered.{no_inputs, some_fit}
 use Rattle.ygg_sym_runs.specs.ygg_shape_cells.Terms.{worth}
 use Rattle.ygg_sym_runs.specs.ygg_shape_cells.declared.terms.SymValue.{SymValue}
-use Rattle.ygg_sym_runs.specs.ygg_sym_expr.Names.{SymEnv, sym_bind}
-use Rattle.ygg_sym_runs.specs.ygg_sym_expr.Meaning.{worths}
-use Rattle.ygg_sym_runs.specs.ygg_sym_expr.Seen.{env_of}
-use Rattle.ygg_sym_runs.specs.ygg_sym_expr.declared.held.SymBinding.{SymBinding}
-use Rattle.ygg_sym_runs.specs.ygg_sym_expr_proofs_Definitions.{functions_mean}
-use Rattle.ygg_sym_runs.specs.ygg_sym_expr_proofs_Grows.{functions_grow}
+use Rattle.ygg_sym_runs.specs.Names.{SymEnv, sym_bind}
+use Rattle.ygg_sym_runs.specs.ExpressionMeaning.{worths}
+use Rattle.ygg_sym_runs.specs.Seen.{env_of}
+use Rattle.ygg_sym_runs.specs.declared.held.SymBinding.{SymBinding}
+use Rattle.ygg_sym_runs.proofs.Definitions.{functions_mean}
+use Rattle.ygg_sym_runs.proofs.Grows.{functions_grow}
 use Rattle.ygg_sym_runs.proofs.Worths.{NameShaped}
 use Rattle.ygg_sym_runs.specs.Disks.{done}
 use Rattle.ygg_sym_runs.specs.Lows.{LowShaped}

@@ -1,8 +1,8 @@
 -- The specification of a layer over terms does what it means.
 use Rattle.std.specs.Prelude.{[], reverse, refl}
 use Rattle.ygg_sym_runs.specs.ygg_type_rules.Definitions.{with_definitions}
-use Rattle.ygg_sym_runs.specs.ygg_sym_expr_proofs_Definitions.{functions_mean}
-use Rattle.ygg_sym_runs.specs.ygg_sym_expr_proofs_Grows.{functions_grow}
+use Rattle.ygg_sym_runs.proofs.Definitions.{functions_mean}
+use Rattle.ygg_sym_runs.proofs.Grows.{functions_grow}
 use Rattle.ygg_sym_runs.specs.Lower.{IsLower}
 use Rattle.ygg_sym_runs.specs.Specs.{input_pick}
 use Rattle.ygg_sym_runs.specs.Laws.{picked_by}

@@ -2,8 +2,8 @@
 
 ghost use Rattle.std.specs.Prelude.{◌≡◌, ◌++◌, [], IfOk, OnOk, length};
 ghost use Rattle.ygg_sym_runs.specs.ygg_bank.Nodes.{Extends, IsBank};
-ghost use Rattle.ygg_sym_runs.specs.ygg_sym_expr.Names.{sym_bind};
-ghost use Rattle.ygg_sym_runs.specs.ygg_sym_expr.Seen.{env_of};
+ghost use Rattle.ygg_sym_runs.specs.Names.{sym_bind};
+ghost use Rattle.ygg_sym_runs.specs.Seen.{env_of};
 ghost use Rattle.ygg_sym_runs.specs.Lower.{Counts, KeepsSingle};
 ghost use Rattle.ygg_sym_runs.specs.Disks.{done};
 ghost use Rattle.ygg_sym_runs.specs.Lows.{LowShaped};

@@ -4,3 +4,9 @@ pub mod Expressions
 pub mod Files
 pub mod Pending
 pub mod Reading
+pub mod Budget
+pub mod Definitions
+pub mod Known
+pub mod Weights
+pub mod Table
+pub mod Bare

@@ -6,7 +6,7 @@ use ygg_base::Refuse;
 use ygg_lex::tokens;
 use ygg_read::read;
 use ygg_syntax::tree::File;
-use ygg_syntax_trees::{copy_file, same_tree};
+use ygg_syntax::{copy_file, same_tree};
 
 /// A layer with every part that a file may have.
 const WHOLE: &[u8] = b"yggdrasil 1;

@@ -1,8 +1,7 @@
 //! The device in memory: what is written is read, and what fails or is lost.
 
 use std::alloc::Global;
-use ygg_base::{Bits, Moved, Numbers, Text};
-use ygg_base_device::{Attach, Device, Made, RamDevice};
+use ygg_base::{Attach, Bits, Device, Made, Moved, Numbers, RamDevice, Text};
 use ygg_list::NoMemory;
 
 /// What is done with an image of two blocks of four bytes, and what comes of it.

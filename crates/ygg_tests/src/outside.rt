@@ -6,8 +6,7 @@ use crate::devices::{is_got, put};
 use std::alloc::Global;
 use std::fs;
 use std::io::{self, Write};
-use ygg_base::{Fetch, Library, Moved, Opened, Piece, Sink, Text};
-use ygg_base_device::{Attach, Device, Made};
+use ygg_base::{Attach, Device, Fetch, Library, Made, Moved, Opened, Piece, Sink, Text};
 use ygg_outside::{FileDevice, FileLibrary, OutSink};
 
 /// What is asked for a path.

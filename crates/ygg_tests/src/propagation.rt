@@ -1,13 +1,12 @@
 //! The worked row of propagation, on the plain one and on that by watched literals.
 
 ghost use Rattle.std.specs.Prelude.{◌≡◌, ℕ, ◌<◌, [], ◌∷◌, ◌++◌, All, IfOk, OnOk};
-ghost use Rattle.ygg_watch_plain.specs.Propagation.{IsWithin};
+ghost use Rattle.ygg_watch.specs.Propagation.{IsWithin};
 
 use std::alloc::Global;
 use ygg_cnf::{Clause, Clauses, Lit};
 use ygg_list::NoMemory;
-use ygg_watch::{Found, Propagate, watch};
-use ygg_watch_plain::plain_spread;
+use ygg_watch::{Found, Propagate, plain_spread, watch};
 
 /// The literal of a variable.
 fn lit(var: u64, negated: bool) -> Lit

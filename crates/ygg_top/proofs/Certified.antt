@@ -3,12 +3,12 @@ use Rattle.std.proofs.Common.{◌≡◌, ◌⊎◌, ℕ, List, ◌++◌, Option,
 use Rattle.ygg_base.specs.declared.lists.Held.{Held}
 use Rattle.ygg_base.specs.declared.status.Status.{Status}
 use Rattle.ygg_base.specs.declared.status.Status.TheVariants as status
-use Rattle.ygg_run_mounted.specs.ygg_base_device.Devices.{Image, ImageTurns, Tells}
+use Rattle.ygg_run_mounted.specs.ygg_base.Devices.{Image, ImageTurns, Tells}
 use Rattle.ygg_syntax.specs.declared.tree.File.{File}
 use Rattle.ygg_type.specs.Typed.{geometry_of}
-use Rattle.ygg_top_verify.specs.ygg_rules.declared.rule.RuleKind.{RuleKind}
-use Rattle.ygg_top_verify.specs.ygg_meaning.Stack.{FileRefines}
-use Rattle.ygg_top_verify.specs.ygg_meaning.History.{Entry}
+use Rattle.ygg_top.specs.ygg_rules.declared.rule.RuleKind.{RuleKind}
+use Rattle.ygg_top.specs.ygg_meaning.Stack.{FileRefines}
+use Rattle.ygg_top.specs.ygg_meaning.History.{Entry}
 use Rattle.ygg_top_command.specs.ygg_report.Lines.{refused_line}
 use Rattle.ygg_run_mounted.specs.ygg_script.declared.command.Command.{Command}
 use Rattle.ygg_run_mounted.specs.Extending.{HasRun}
@@ -16,7 +16,7 @@ use Rattle.ygg_top_command.specs.declared.stopping.CommandStop.{CommandStop}
 use Rattle.ygg_top_command.specs.declared.stopping.CommandStop.TheVariants.{Refused, LibraryFailed, NoMemory}
 use Rattle.ygg_top_command.specs.Reports.{IsDoneWith, MayStop}
 use Rattle.ygg_top_command.specs.Standing.{DoesWith, Stands}
-use Rattle.ygg_top_verify.specs.Checking.{ChecksStored}
+use Rattle.ygg_top.specs.Checking.{ChecksStored}
 use Rattle.ygg_top_command.specs.Breaking.{ToldOn}
 use Rattle.ygg_top_command.proofs.Breaks.{told_on_to}
 use Rattle.ygg_top.specs.Images.{RunsImage, RunsWhole}

@@ -2,7 +2,7 @@
 use Rattle.std.proofs.Common.{◌≡◌, ◌⊎◌, ◌≤◌, ◌<◌, ℕ, List, [], ◌∷◌, Option, length, slice_index_or, inl, inr, refl, sym, ap, subst, ◌∙◌, arith}
 use Rattle.ygg_base.specs.declared.lists.Held.{Held}
 use Rattle.ygg_base.specs.declared.status.Status.{Status}
-use Rattle.ygg_base_device.specs.Devices.{Image, Attachment}
+use Rattle.ygg_base.specs.Devices.{Image, Attachment}
 use Rattle.ygg_rules.specs.declared.rule.RuleKind.{RuleKind}
 use Rattle.ygg_top_command.specs.Reports.{Told}
 use Rattle.ygg_top_command.specs.Breaking.{ToldOn}

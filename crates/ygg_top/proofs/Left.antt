@@ -3,7 +3,7 @@ use Rattle.std.proofs.Common.{◌≡◌, ◌⊎◌, ℕ, List, [], Option, Some,
 use Rattle.ygg_base.specs.declared.lists.Held.{Held}
 use Rattle.ygg_base.specs.declared.status.Status.{Status}
 use Rattle.ygg_base.specs.declared.status.Status.TheVariants as status
-use Rattle.ygg_run_image.specs.ygg_base_device.Devices.{Image, Tells}
+use Rattle.ygg_run_image.specs.ygg_base.Devices.{Image, Tells}
 use Rattle.ygg_syntax.specs.declared.tree.File.{File}
 use Rattle.ygg_top_command.specs.ygg_report.Putting.{IsPutSo, NoFront}
 use Rattle.ygg_run_image.specs.Leaving.{IsFormattedOn}

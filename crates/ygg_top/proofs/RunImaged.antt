@@ -5,7 +5,7 @@ use Rattle.ygg_base.specs.declared.reason.Reason.TheVariants as reason
 use Rattle.ygg_base.specs.Reason.{refusal_at}
 use Rattle.ygg_base.specs.declared.status.Status.{Status}
 use Rattle.ygg_base.specs.declared.status.Status.TheVariants.{Fault, NoMemory}
-use Rattle.ygg_run_mounted.specs.ygg_base_device.Devices.{Image}
+use Rattle.ygg_run_mounted.specs.ygg_base.Devices.{Image}
 use Rattle.ygg_syntax.specs.declared.tree.File.{File}
 use Rattle.ygg_top_command.specs.ygg_report.Putting.{Adds, IsPutSo}
 use Rattle.ygg_run_mounted.specs.ygg_script.declared.command.Command.{Command}

@@ -2,9 +2,9 @@
 use Rattle.std.proofs.Common.{◌≡◌, ℕ, List, Option, inl, inr, refl}
 use Rattle.ygg_base.specs.declared.lists.Held.{Held}
 use Rattle.ygg_base.specs.declared.status.Status.{Status}
-use Rattle.ygg_run_mounted.specs.ygg_base_device.Devices.{Image}
+use Rattle.ygg_run_mounted.specs.ygg_base.Devices.{Image}
 use Rattle.ygg_syntax.specs.declared.tree.File.{File}
-use Rattle.ygg_top_verify.specs.ygg_meaning.History.{Entry}
+use Rattle.ygg_top.specs.ygg_meaning.History.{Entry}
 use Rattle.ygg_run_mounted.specs.ygg_script.declared.command.Command.{Command}
 use Rattle.ygg_top_command.specs.declared.stopping.CommandStop.{CommandStop}
 use Rattle.ygg_top_command.specs.declared.stopping.CommandStop.TheVariants.{Refused, LibraryFailed, NoMemory}

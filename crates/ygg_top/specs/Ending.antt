@@ -14,7 +14,7 @@ use Rattle.ygg_top.specs.Checking.{ChecksNamed}
 use Rattle.ygg_top.specs.Asking.{AsksNamed, IsCutAsking}
 use Rattle.ygg_top.specs.Playing.{PlaysNamed, IsCutPlaying}
 use Rattle.ygg_top.specs.Printing.{Prints}
-use Rattle.ygg_top.specs.ygg_top_verify.Replaying.{ReplaysNamed}
+use Rattle.ygg_top.specs.Replaying.{ReplaysNamed}
 use Rattle.ygg_top.specs.Solving.{Solves, IsCutSolving}
 use Rattle.ygg_top.specs.Verifying.{Demos, Verifies, IsCutRun}
 use Rattle.ygg_top.specs.declared.help.TheConstants.{HELP, VERSION}

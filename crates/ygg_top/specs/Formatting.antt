@@ -4,7 +4,7 @@ use Rattle.ygg_base.specs.declared.failure.Refusal.{Refusal}
 use Rattle.ygg_base.specs.declared.lists.Held.{Held}
 use Rattle.ygg_base.specs.declared.status.Status.{Status}
 use Rattle.ygg_base.specs.declared.status.Status.TheVariants.{Done}
-use Rattle.ygg_run_image.specs.ygg_base_device.Devices.{Attachment, Image, Tells}
+use Rattle.ygg_run_image.specs.ygg_base.Devices.{Attachment, Image, Tells}
 use Rattle.ygg_syntax.specs.declared.tree.File.{File}
 use Rattle.ygg_top_command.specs.ygg_report.Lines.{ended}
 use Rattle.ygg_run_image.specs.Leaving.{IsFormattedOn, IsLeft}

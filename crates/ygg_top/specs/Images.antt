@@ -6,10 +6,10 @@ use Rattle.ygg_base.specs.declared.reason.Reason.TheVariants as reason
 use Rattle.ygg_base.specs.declared.status.Status.{Status}
 use Rattle.ygg_base.specs.declared.status.Status.TheVariants.{Done}
 use Rattle.ygg_base.specs.Reason.{refusal_at}
-use Rattle.ygg_run_mounted.specs.ygg_base_device.Devices.{Image, ImageTurns, Tells}
+use Rattle.ygg_run_mounted.specs.ygg_base.Devices.{Image, ImageTurns, Tells}
 use Rattle.ygg_syntax.specs.declared.tree.File.{File}
 use Rattle.ygg_type.specs.Typed.{geometry_of}
-use Rattle.ygg_top_verify.specs.ygg_meaning.History.{Entry}
+use Rattle.ygg_top.specs.ygg_meaning.History.{Entry}
 use Rattle.ygg_run_mounted.specs.ygg_script.declared.command.Command.{Command}
 use Rattle.ygg_run_mounted.specs.ygg_run_image.Judged.{number_of}
 use Rattle.ygg_run_mounted.specs.ygg_run_image.declared.reason.ImageReason.{ImageReason}

@@ -2,7 +2,7 @@
 use Rattle.std.specs.Prelude.{◌≡◌, ℕ, List, ◌∷◌, [], Option}
 use Rattle.ygg_base.specs.declared.lists.Held.{Held}
 use Rattle.ygg_base.specs.declared.status.Status.{Status}
-use Rattle.ygg_base_device.specs.Devices.{Image, Attachment}
+use Rattle.ygg_base.specs.Devices.{Image, Attachment}
 use Rattle.ygg_report.specs.Putting.{NoFront}
 use Rattle.ygg_rules.specs.declared.rule.RuleKind.{RuleKind}
 use Rattle.ygg_top.specs.Formatting.{FormatsNamed, FormatsBroken, FormatsLeave}

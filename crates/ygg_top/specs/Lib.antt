@@ -1,8 +1,16 @@
-pub use Rattle.ygg_top_verify.specs as ygg_top_verify
-pub use Rattle.ygg_top_verify.specs.Certifying
-pub use Rattle.ygg_top_verify.specs.Checking
-pub use Rattle.ygg_top_verify.specs.Verifying
-pub use Rattle.ygg_dimacs.specs.ygg_rules
+pub use Rattle.ygg_oblige_reading.specs.ygg_rules
+pub use Rattle.ygg_top_command.specs as ygg_top_command
+pub use Rattle.ygg_top_command.specs.ygg_report
+pub use Rattle.ygg_yard.specs.ygg_meaning
+pub mod Replaying
+pub mod Showing
+pub mod Verdict
+pub mod Verifying
+pub mod Findings
+pub mod Checking
+pub mod Again
+pub mod Certifying
+pub mod CertifiedFindings
 pub mod Formatting
 pub mod Images
 pub mod Scripts

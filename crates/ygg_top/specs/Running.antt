@@ -4,23 +4,23 @@ use Rattle.ygg_base.specs.declared.failure.Refusal.{Refusal}
 use Rattle.ygg_base.specs.declared.lists.Held.{Held}
 use Rattle.ygg_base.specs.declared.status.Status.{Status}
 use Rattle.ygg_base.specs.declared.status.Status.TheVariants.{Done}
-use Rattle.ygg_run_mounted.specs.ygg_base_device.Devices.{Image}
+use Rattle.ygg_run_mounted.specs.ygg_base.Devices.{Image}
 use Rattle.ygg_value.specs.Number.{Grid}
 use Rattle.ygg_value.specs.declared.row.Value.TheVariants.{Table}
 use Rattle.ygg_syntax.specs.declared.tree.File.{File}
 use Rattle.ygg_type.specs.Typed.{geometry_of}
-use Rattle.ygg_top_verify.specs.ygg_rules.declared.rule.RuleKind.{RuleKind}
-use Rattle.ygg_top_verify.specs.ygg_meaning.Environments.{Env, look_up}
-use Rattle.ygg_top_verify.specs.ygg_meaning.Machine.{State}
-use Rattle.ygg_top_verify.specs.ygg_meaning.Stack.{BottomOf}
-use Rattle.ygg_top_verify.specs.ygg_meaning.History.{Entry, History, Allows}
-use Rattle.ygg_top_verify.specs.ygg_meaning.Left.{Left}
+use Rattle.ygg_top.specs.ygg_rules.declared.rule.RuleKind.{RuleKind}
+use Rattle.ygg_top.specs.ygg_meaning.Environments.{Env, look_up}
+use Rattle.ygg_top.specs.ygg_meaning.Machine.{State}
+use Rattle.ygg_top.specs.ygg_meaning.Stack.{BottomOf}
+use Rattle.ygg_top.specs.ygg_meaning.History.{Entry, History, Allows}
+use Rattle.ygg_top.specs.ygg_meaning.Left.{Left}
 use Rattle.ygg_run_mounted.specs.ygg_run_image.Image.{rows_in}
 use Rattle.ygg_run_mounted.specs.Extending.{HasRun}
 use Rattle.ygg_top_command.specs.Fetched.{StandsFile}
 use Rattle.ygg_top_command.specs.Refusing.{RefusesFile}
 use Rattle.ygg_top_command.specs.Standing.{Stands, IsRefused}
-use Rattle.ygg_top_verify.specs.Checking.{ChecksStored}
+use Rattle.ygg_top.specs.Checking.{ChecksStored}
 use Rattle.ygg_top.specs.Images.{LeavesImage}
 use Rattle.ygg_top.specs.Scripts.{RunsScript, ScriptBroken, ScriptLeft}
 

@@ -17,13 +17,12 @@ use crate::print_command::print;
 use crate::running::run;
 use crate::solving::{solve, solve_within};
 use crate::words::{Alone, OnImage, One, Two};
+use crate::{certify, certify_within, check, demo, replay, verify, verify_within};
 use std::alloc::Global;
-use ygg_base::{Library, Reason, Sink, Status, Text};
-use ygg_base_device::Device;
+use ygg_base::{Device, Library, Reason, Sink, Status, Text};
 use ygg_report::put_all;
 use ygg_rules::{Book, RuleBook};
 use ygg_top_command::{CommandStop, USUAL_BUDGET, end};
-use ygg_top_verify::{certify, certify_within, check, demo, replay, verify, verify_within};
 
 /// Runs the command that the words name, and ends with its status: `verify FILE`, `verify FILE BUDGET`, `print FILE`, `demo N`, `replay FILE SCHEDULE`,
 /// `play FILE SCRIPT`, `solve CNF`, `solve CNF BUDGET`, `cnf FILE OBLIGATION`, `certify FILE`, `certify FILE BUDGET`, `check FILE CERTIFICATE`,

@@ -3,7 +3,7 @@
 ghost use Rattle.std.specs.Prelude.{◌≡◌, ◌≢◌, ◌≤◌};
 ghost use Rattle.ygg_base.specs.Outside.{Rose};
 ghost use Rattle.ygg_base.specs.declared.status.Status.TheVariants.{Refused};
-ghost use Rattle.ygg_run_image.specs.ygg_base_device.Devices.{Tells};
+ghost use Rattle.ygg_run_image.specs.ygg_base.Devices.{Tells};
 ghost use Rattle.ygg_top_command.specs.ygg_report.Putting.{NoFront};
 ghost use Rattle.ygg_run_image.specs.Leaving.{IsLeft};
 ghost use Rattle.ygg_top_command.specs.Breaking.{ToldOn};

@@ -8,11 +8,11 @@ ghost use Rattle.ygg_top.specs.Images.{LeavesImage};
 ghost use Rattle.ygg_top.specs.Running.{CertifiedBroken, CertifiedLeft, RunLeaves, RunsBroken, RunsCertified, RunsLeft, RunsNamed};
 
 use crate::script::run_script;
+use crate::{Book, checked_stored};
 use std::alloc::Global;
 use ygg_base::{Library, Sink, Status, Text};
 use ygg_run_mounted::Device;
 use ygg_top_command::{close, end, layer_file, put_all};
-use ygg_top_verify::{Book, checked_stored};
 use ygg_type::Typed;
 
 /// Runs the script that stands under the name, the fourth word after the command's, on the image of that name, once the text under the second name is a

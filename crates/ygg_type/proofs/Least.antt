@@ -27,8 +27,8 @@ use Rattle.std.proofs.Common.{
 use Rattle.std.specs.Prelude.{◌&&◌}
 use Rattle.std.proofs.lemmas.Bool.Decides.{nat_tests}
 use Rattle.std.proofs.lemmas.List.Elements.{Contains-append_left, Contains-append_right, Contains-append_cases, Contains-push, Contains-push_cases}
-use Rattle.ygg_type_body.specs.ygg_type_rules.declared.type_error.TypeError.{TypeError}
-use Rattle.ygg_type_body.specs.ygg_type_rules.TypeErrors.{TypeErrors, nothing, one, both, listed, none, first_after, earlier, comes_before, IsLeast}
+use Rattle.ygg_type.specs.ygg_type_rules.declared.type_error.TypeError.{TypeError}
+use Rattle.ygg_type.specs.ygg_type_rules.TypeErrors.{TypeErrors, nothing, one, both, listed, none, first_after, earlier, comes_before, IsLeast}
 
 before_not : (a b c : TypeError) → comes_before a b ≡ false → comes_before b c ≡ false → comes_before a c ≡ false
 before_not a b c h g = grind (arith, nat_tests)

@@ -2,12 +2,12 @@
 use Rattle.std.proofs.Common.{◌≡◌, List, [], ◌∷◌, refl, ap, ◌∙◌}
 use Rattle.ygg_syntax.specs.declared.tree.Declared.{Declared}
 use Rattle.ygg_syntax.specs.declared.tree.Def.{Def}
-use Rattle.ygg_type_body.specs.ygg_type_rules.Names.{Named}
-use Rattle.ygg_type_body.specs.ygg_type_rules.declared.scope.Signature.{Signature}
-use Rattle.ygg_type_body.specs.ygg_type_rules.Scopes.{Scope}
-use Rattle.ygg_type_body.specs.ygg_type_rules.Definitions.{with_parameter, with_parameters, definition_scope, with_definition}
-use Rattle.ygg_type_body.specs.Checking.{Grows}
-use Rattle.ygg_type_body.proofs.Restored.{grows_same, grows_on, grows_local}
+use Rattle.ygg_type.specs.ygg_type_rules.Names.{Named}
+use Rattle.ygg_type.specs.ygg_type_rules.declared.scope.Signature.{Signature}
+use Rattle.ygg_type.specs.ygg_type_rules.Scopes.{Scope}
+use Rattle.ygg_type.specs.ygg_type_rules.Definitions.{with_parameter, with_parameters, definition_scope, with_definition}
+use Rattle.ygg_type.specs.Checking.{Grows}
+use Rattle.ygg_type.proofs.Restored.{grows_same, grows_on, grows_local}
 
 -- parameters are names at the end
 pub grows_parameters : (ps : List Declared) (scope : Scope) → Grows scope (with_parameters ps scope)

@@ -12,14 +12,14 @@ use Rattle.ygg_syntax.specs.declared.tree.Place.{Place}
 use Rattle.ygg_syntax.specs.declared.tree.DiskText.{DiskText}
 use Rattle.ygg_syntax.specs.declared.tree.Layer.{Layer}
 use Rattle.ygg_syntax.specs.declared.tree.File.{File}
-use Rattle.ygg_type_body.specs.ygg_syntax_count.Weights.{Weights, weights_of}
-use Rattle.ygg_type_body.specs.ygg_type_rules.Names.{Named, added}
-use Rattle.ygg_type_body.specs.ygg_type_rules.declared.scope.Signature.{Signature}
-use Rattle.ygg_type_body.specs.ygg_type_rules.TypeErrors.{none, unless}
-use Rattle.ygg_type_body.specs.ygg_type_rules.Limits.{width_fits, rows_fit, words_fit_in}
-use Rattle.ygg_type_body.specs.ygg_type_rules.Definitions.{definitions_errors, with_definitions}
-use Rattle.ygg_type_body.specs.ygg_type_rules.Layers.{Known, Below, below_of}
-use Rattle.ygg_type_body.specs.ygg_type_rules.Files.{disk_errors, disk_below, count_error, layer_errors, layers_errors, type_errors_of}
+use Rattle.ygg_type.specs.ygg_syntax.Weights.{Weights, weights_of}
+use Rattle.ygg_type.specs.ygg_type_rules.Names.{Named, added}
+use Rattle.ygg_type.specs.ygg_type_rules.declared.scope.Signature.{Signature}
+use Rattle.ygg_type.specs.ygg_type_rules.TypeErrors.{none, unless}
+use Rattle.ygg_type.specs.ygg_type_rules.Limits.{width_fits, rows_fit, words_fit_in}
+use Rattle.ygg_type.specs.ygg_type_rules.Definitions.{definitions_errors, with_definitions}
+use Rattle.ygg_type.specs.ygg_type_rules.Layers.{Known, Below, below_of}
+use Rattle.ygg_type.specs.ygg_type_rules.Files.{disk_errors, disk_below, count_error, layer_errors, layers_errors, type_errors_of}
 use Rattle.ygg_type.specs.Typed.{has_few}
 use Rattle.ygg_type.proofs.Least.{and_left, and_right}
 

@@ -5,13 +5,13 @@ use Rattle.ygg_base.specs.declared.reason.Reason.TheVariants as reason
 use Rattle.ygg_value.specs.declared.shape.Shape.{Shape}
 use Rattle.ygg_syntax.specs.declared.tree.Block.{Block}
 use Rattle.ygg_syntax.specs.declared.tree.Expr.{Expr}
-use Rattle.ygg_type_body.specs.ygg_syntax_count.Budget.{limit}
-use Rattle.ygg_type_body.specs.ygg_type_rules.TypeErrors.{both, unless}
-use Rattle.ygg_type_body.specs.ygg_type_rules.Limits.{weight_fits}
-use Rattle.ygg_type_body.specs.ygg_type_rules.Scopes.{Scope}
-use Rattle.ygg_type_body.specs.ygg_type_rules.Expressions.{typing, expected_errors}
-use Rattle.ygg_type_body.specs.ygg_type_rules.Statements.{block_errors, body_errors}
-use Rattle.ygg_type_body.specs.ygg_type_rules.Definitions.{claim_errors}
+use Rattle.ygg_type.specs.ygg_syntax.Budget.{limit}
+use Rattle.ygg_type.specs.ygg_type_rules.TypeErrors.{both, unless}
+use Rattle.ygg_type.specs.ygg_type_rules.Limits.{weight_fits}
+use Rattle.ygg_type.specs.ygg_type_rules.Scopes.{Scope}
+use Rattle.ygg_type.specs.ygg_type_rules.Expressions.{typing, expected_errors}
+use Rattle.ygg_type.specs.ygg_type_rules.Statements.{block_errors, body_errors}
+use Rattle.ygg_type.specs.ygg_type_rules.Definitions.{claim_errors}
 
 pub weight_stays : (n : ℕ) → weight_fits (min limit n) ≡ weight_fits n
 weight_stays n = grind (arith, nat_tests)

@@ -1,4 +1,5 @@
-pub use Rattle.ygg_type_body.specs.ygg_type_rules
-pub use Rattle.ygg_type_body.specs.ygg_syntax_count
+pub use Rattle.ygg_type_rules.specs as ygg_type_rules
+pub use Rattle.ygg_type_rules.specs.ygg_syntax
+pub mod Checking
 pub mod Ready
 pub mod Typed

@@ -1,8 +1,8 @@
 -- A scope in which a layer may begin.
 use Rattle.std.specs.Prelude.{◌≡◌, []}
-use Rattle.ygg_type_body.specs.ygg_type_rules.declared.scope.Visibility.TheVariants.{Settled}
-use Rattle.ygg_type_body.specs.ygg_type_rules.Scopes.{Scope}
-use Rattle.ygg_type_body.specs.ygg_type_rules.Layers.{Below}
+use Rattle.ygg_type.specs.ygg_type_rules.declared.scope.Visibility.TheVariants.{Settled}
+use Rattle.ygg_type.specs.ygg_type_rules.Scopes.{Scope}
+use Rattle.ygg_type.specs.ygg_type_rules.Layers.{Below}
 
 -- no variables and no local names are there yet
 pub record IsReady (scope : Scope) : Type 0 where

@@ -9,9 +9,9 @@ use Rattle.ygg_syntax.specs.declared.tree.Operation.{Operation}
 use Rattle.ygg_syntax.specs.declared.tree.Tick.{Tick}
 use Rattle.ygg_syntax.specs.declared.tree.Layer.{Layer}
 use Rattle.ygg_syntax.specs.declared.tree.File.{File}
-use Rattle.ygg_type_body.specs.ygg_type_rules.declared.type_error.TypeError.{TypeError}
-use Rattle.ygg_type_body.specs.ygg_type_rules.TypeErrors.{IsLeast, listed}
-use Rattle.ygg_type_body.specs.ygg_type_rules.Files.{type_errors_of}
+use Rattle.ygg_type.specs.ygg_type_rules.declared.type_error.TypeError.{TypeError}
+use Rattle.ygg_type.specs.ygg_type_rules.TypeErrors.{IsLeast, listed}
+use Rattle.ygg_type.specs.ygg_type_rules.Files.{type_errors_of}
 
 -- the refusal of a file: its least type error
 abbrev pub IsFirstTypeError : File → Refusal → Type 0

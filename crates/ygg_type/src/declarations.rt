@@ -1,18 +1,18 @@
 //! What declarations have in common.
 
 ghost use Rattle.std.specs.Prelude.{◌≡◌, OnOk};
-ghost use Rattle.ygg_type_body.specs.ygg_syntax_count.Weights.{weights_of, expr_weight, block_weight};
-ghost use Rattle.ygg_type_body.specs.ygg_type_rules.TypeErrors.{first_after};
-ghost use Rattle.ygg_type_body.specs.ygg_type_rules.Scopes.{seen_as};
-ghost use Rattle.ygg_type_body.specs.ygg_type_rules.Definitions.{parameters_errors, with_parameters, claim_errors};
-ghost use Rattle.ygg_type_body.specs.ygg_type_rules.Layers.{view_errors, formula_errors};
-ghost use Rattle.ygg_type_body.specs.Checking.{scope_of};
+ghost use Rattle.ygg_type.specs.ygg_syntax.Weights.{weights_of, expr_weight, block_weight};
+ghost use Rattle.ygg_type.specs.ygg_type_rules.TypeErrors.{first_after};
+ghost use Rattle.ygg_type.specs.ygg_type_rules.Scopes.{seen_as};
+ghost use Rattle.ygg_type.specs.ygg_type_rules.Definitions.{parameters_errors, with_parameters, claim_errors};
+ghost use Rattle.ygg_type.specs.ygg_type_rules.Layers.{view_errors, formula_errors};
+ghost use Rattle.ygg_type.specs.Checking.{scope_of};
 
+use crate::{Typer, Visibility, body, shapes};
 use ygg_base::Reason;
 use ygg_list::NoMemory;
+use ygg_syntax::Weights;
 use ygg_syntax::tree::{Block, Declared, Expr};
-use ygg_syntax_count::Weights;
-use ygg_type_body::{Typer, Visibility, body, shapes};
 use ygg_value::Shape;
 
 /// Parameters or arguments, whose names stay in scope.

@@ -1,18 +1,18 @@
 //! Typing of definitions.
 
 ghost use Rattle.std.specs.Prelude.{◌≡◌, ◌++◌, ◌∷◌, [], OnOk};
-ghost use Rattle.ygg_type_body.specs.ygg_syntax_count.Weights.{weights_of, expr_weight};
-ghost use Rattle.ygg_type_body.specs.ygg_type_rules.TypeErrors.{first_after};
-ghost use Rattle.ygg_type_body.specs.ygg_type_rules.Definitions.{definition_errors, definitions_errors, definition_scope};
-ghost use Rattle.ygg_type_body.specs.ygg_type_rules.Definitions.{with_definition, with_definitions, with_parameters};
-ghost use Rattle.ygg_type_body.specs.Checking.{scope_of};
+ghost use Rattle.ygg_type.specs.ygg_syntax.Weights.{weights_of, expr_weight};
+ghost use Rattle.ygg_type.specs.ygg_type_rules.TypeErrors.{first_after};
+ghost use Rattle.ygg_type.specs.ygg_type_rules.Definitions.{definition_errors, definitions_errors, definition_scope};
+ghost use Rattle.ygg_type.specs.ygg_type_rules.Definitions.{with_definition, with_definitions, with_parameters};
+ghost use Rattle.ygg_type.specs.Checking.{scope_of};
 
 use crate::declarations::parameters;
+use crate::{Signature, Typer, shapes};
 use ygg_base::Reason;
 use ygg_list::NoMemory;
+use ygg_syntax::Weights;
 use ygg_syntax::tree::Def;
-use ygg_syntax_count::Weights;
-use ygg_type_body::{Signature, Typer, shapes};
 
 /// The type errors of a definition, whose parameters stay in scope.
 fn type_errors<'a>(

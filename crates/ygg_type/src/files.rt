@@ -1,12 +1,12 @@
 //! Typing of files.
 
 ghost use Rattle.std.specs.Prelude.{◌≡◌, [], OnOk, IfOk, None};
-ghost use Rattle.ygg_type_body.specs.ygg_syntax_count.Weights.{weights_of};
-ghost use Rattle.ygg_type_body.specs.ygg_type_rules.Names.{added};
-ghost use Rattle.ygg_type_body.specs.ygg_type_rules.TypeErrors.{first_after, both};
-ghost use Rattle.ygg_type_body.specs.ygg_type_rules.Definitions.{with_definitions, definitions_errors, definition_scope};
-ghost use Rattle.ygg_type_body.specs.ygg_type_rules.Layers.{below_of};
-ghost use Rattle.ygg_type_body.specs.ygg_type_rules.Files.{
+ghost use Rattle.ygg_type.specs.ygg_syntax.Weights.{weights_of};
+ghost use Rattle.ygg_type.specs.ygg_type_rules.Names.{added};
+ghost use Rattle.ygg_type.specs.ygg_type_rules.TypeErrors.{first_after, both};
+ghost use Rattle.ygg_type.specs.ygg_type_rules.Definitions.{with_definitions, definitions_errors, definition_scope};
+ghost use Rattle.ygg_type.specs.ygg_type_rules.Layers.{below_of};
+ghost use Rattle.ygg_type.specs.ygg_type_rules.Files.{
   disk_errors,
   disk_operations as operations_of_disk,
   disk_variables as variables_of_disk,
@@ -16,20 +16,18 @@ ghost use Rattle.ygg_type_body.specs.ygg_type_rules.Files.{
   disk_below,
   type_errors_of,
 };
-ghost use Rattle.ygg_type_body.specs.Checking.{scope_of};
+ghost use Rattle.ygg_type.specs.Checking.{scope_of};
 ghost use Rattle.ygg_type.specs.Ready.{IsReady, below_in};
 
 use crate::definitions::definitions;
 use crate::layers::parts;
+use crate::{First, Names, Owner, Signature, TypeError, Typer, Variable, Visibility, shapes};
 use std::alloc::Global;
 use std::mem;
 use ygg_base::{DiskKind, Reason};
 use ygg_list::{NoMemory, Sequence};
+use ygg_syntax::Weights;
 use ygg_syntax::tree::{DiskText, File, Layer, TypeText};
-use ygg_syntax_count::Weights;
-use ygg_type_body::{
-    First, Names, Owner, Signature, TypeError, Typer, Variable, Visibility, shapes,
-};
 use ygg_value::Shape;
 
 /// Adds an operation of a disk.

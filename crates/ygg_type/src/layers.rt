@@ -1,11 +1,11 @@
 //! Typing of layers.
 
 ghost use Rattle.std.specs.Prelude.{◌≡◌, [], OnOk, IfOk, None};
-ghost use Rattle.ygg_type_body.specs.ygg_syntax_count.Weights.{weights_of};
-ghost use Rattle.ygg_type_body.specs.ygg_type_rules.Names.{added};
-ghost use Rattle.ygg_type_body.specs.ygg_type_rules.TypeErrors.{first_after};
-ghost use Rattle.ygg_type_body.specs.ygg_type_rules.Definitions.{with_parameters};
-ghost use Rattle.ygg_type_body.specs.ygg_type_rules.Layers.{
+ghost use Rattle.ygg_type.specs.ygg_syntax.Weights.{weights_of};
+ghost use Rattle.ygg_type.specs.ygg_type_rules.Names.{added};
+ghost use Rattle.ygg_type.specs.ygg_type_rules.TypeErrors.{first_after};
+ghost use Rattle.ygg_type.specs.ygg_type_rules.Definitions.{with_parameters};
+ghost use Rattle.ygg_type.specs.ygg_type_rules.Layers.{
   variables_errors,
   with_variables,
   variables_of,
@@ -23,17 +23,17 @@ ghost use Rattle.ygg_type_body.specs.ygg_type_rules.Layers.{
   relations_errors,
   parts_errors,
 };
-ghost use Rattle.ygg_type_body.specs.Checking.{scope_of};
+ghost use Rattle.ygg_type.specs.Checking.{scope_of};
 
 use crate::declarations::{formula, parameters, viewed};
+use crate::{
+    Names, Owner, Signature, Typer, Variable, Visibility, are_picks, choices, picks, shapes,
+};
 use std::alloc::Global;
 use ygg_base::Reason;
 use ygg_list::NoMemory;
+use ygg_syntax::Weights;
 use ygg_syntax::tree::{Block, Declared, Expr, Layer, Operation, Tick};
-use ygg_syntax_count::Weights;
-use ygg_type_body::{
-    Names, Owner, Signature, Typer, Variable, Visibility, are_picks, choices, picks, shapes,
-};
 
 /// Variables of a kind, after those that are there.
 fn variables<'a>(checker: &mut Typer<'a>, kind: Owner, all: &'a [Declared]) -> Result<(), NoMemory>
@@ -265,7 +265,7 @@ fn relations<'a>(
 }
 
 /// The blocks of a layer outside its operations and background steps.
-#[tactic(auto, using(ygg_type_body::proofs::Counted::picks_stay))]
+#[tactic(auto, using(crate::proofs::Counted::picks_stay))]
 fn blocks<'a>(checker: &mut Typer<'a>, weights: &Weights, layer: &'a Layer) -> Result<(), NoMemory>
     ensures first { OnOk result (checker.new.first.type_error ≡ first_after checker.old.first.type_error
         (blocks_errors layer.now (weights_of weights.now) (scope_of checker.old))) }

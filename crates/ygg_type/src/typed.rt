@@ -3,8 +3,8 @@ ghost use Rattle.std.specs.List.{list_all};
 ghost use Rattle.ygg_value.specs.Shapes.{IsShape};
 ghost use Rattle.ygg_value.specs.declared.shape.Shape.TheVariants.{Table};
 ghost use Rattle.ygg_base.specs.Failure.{IfRefused};
-ghost use Rattle.ygg_type_body.specs.ygg_type_rules.TypeErrors.{none};
-ghost use Rattle.ygg_type_body.specs.ygg_type_rules.Files.{disk_errors, type_errors_of, IsTyped};
+ghost use Rattle.ygg_type.specs.ygg_type_rules.TypeErrors.{none};
+ghost use Rattle.ygg_type.specs.ygg_type_rules.Files.{disk_errors, type_errors_of, IsTyped};
 ghost use Rattle.ygg_syntax.specs.Files.{IsDerivable};
 ghost use Rattle.ygg_type.specs.Typed.{IsFirstTypeError, geometry_of, operations_at, ticks_at, operation_place, tick_place, has_few};
 

@@ -1,2 +1,2 @@
-pub use Rattle.ygg_syntax_count.proofs as of_ygg_syntax_count
+pub use Rattle.ygg_syntax.proofs as of_ygg_syntax
 pub mod Entries

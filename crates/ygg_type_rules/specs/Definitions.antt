@@ -7,7 +7,7 @@ use Rattle.ygg_syntax.specs.declared.tree.TypeText.TheVariants as text
 use Rattle.ygg_syntax.specs.declared.tree.Declared.{Declared}
 use Rattle.ygg_syntax.specs.declared.tree.Def.{Def}
 use Rattle.ygg_syntax.specs.declared.tree.Expr.{Expr}
-use Rattle.ygg_syntax_count.specs.Weights.{weights_of, expr_weight}
+use Rattle.ygg_syntax.specs.Weights.{weights_of, expr_weight}
 use Rattle.ygg_type_rules.specs.Names.{Named, has, added}
 use Rattle.ygg_type_rules.specs.declared.scope.Signature.{Signature}
 use Rattle.ygg_type_rules.specs.declared.scope.Visibility.TheVariants.{Definition}

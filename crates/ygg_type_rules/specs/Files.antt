@@ -8,7 +8,7 @@ use Rattle.ygg_syntax.specs.declared.tree.DiskText.{DiskText}
 use Rattle.ygg_syntax.specs.declared.tree.TypeText.TheVariants as text
 use Rattle.ygg_syntax.specs.declared.tree.Layer.{Layer}
 use Rattle.ygg_syntax.specs.declared.tree.File.{File}
-use Rattle.ygg_syntax_count.specs.Weights.{Weights, weights_of}
+use Rattle.ygg_syntax.specs.Weights.{Weights, weights_of}
 use Rattle.ygg_type_rules.specs.Names.{Named, has, added}
 use Rattle.ygg_type_rules.specs.declared.scope.Owner.TheVariants.{State}
 use Rattle.ygg_type_rules.specs.declared.scope.Variable.{Variable}

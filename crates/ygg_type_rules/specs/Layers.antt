@@ -10,7 +10,7 @@ use Rattle.ygg_syntax.specs.declared.tree.Operation.{Operation}
 use Rattle.ygg_syntax.specs.declared.tree.Tick.{Tick}
 use Rattle.ygg_syntax.specs.declared.tree.Layer.{Layer}
 use Rattle.ygg_syntax.specs.Choices.{choices_of}
-use Rattle.ygg_syntax_count.specs.Weights.{Weights, expr_weight, block_weight}
+use Rattle.ygg_syntax.specs.Weights.{Weights, expr_weight, block_weight}
 use Rattle.ygg_type_rules.specs.Names.{Named, has, added}
 use Rattle.ygg_type_rules.specs.declared.scope.Owner.{Owner}
 use Rattle.ygg_type_rules.specs.declared.scope.Owner.TheVariants.{State, Memory}

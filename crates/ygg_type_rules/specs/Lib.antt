@@ -1,5 +1,5 @@
-pub use Rattle.ygg_syntax_count.specs as ygg_syntax_count
-pub use Rattle.ygg_syntax_count.specs.Weights
+pub use Rattle.ygg_syntax.specs as ygg_syntax
+pub use Rattle.ygg_syntax.specs.Weights
 pub mod Names
 pub mod TypeErrors
 pub mod Limits

@@ -8,4 +8,4 @@ mod type_error;
 pub use names::Names;
 pub use scope::{Local, Owner, Signature, TypedExpr, Variable, Visibility};
 pub use type_error::TypeError;
-pub use ygg_syntax_count::choices;
+pub use ygg_syntax::choices;

@@ -39,8 +39,8 @@ use Rattle.std.proofs.Common.{
 use Rattle.std.proofs.lemmas.Bool.{cases_eq, eq-eqb, ne_eqb}
 use Rattle.ygg_cnf_set.specs.LiteralSet.{code_of}
 use Rattle.ygg_cnf.specs.declared.lit.Lit.{Lit}
-use Rattle.ygg_watch_plain.proofs.CountLemmas.{failing_one}
-use Rattle.ygg_watch_plain.proofs.CountLemmas.{failing}
+use Rattle.ygg_watch.proofs.CountLemmas.{failing_one}
+use Rattle.ygg_watch.proofs.CountLemmas.{failing}
 use Rattle.ygg_watch.specs.Lists.{sibling, no_lit, lit_of, IsLinked, IsOwn, Among, IsOnce, IsPath, IsList, IsLists, IsPending}
 
 pub sibling_even : (n : ℕ) → n % 2 ≡ 0 → sibling n ≡ n + 1

@@ -48,18 +48,18 @@ use Rattle.std.proofs.lemmas.Option.{same_Some, slice_get-get_or, slice_get_with
 use Rattle.ygg_cnf_set.specs.LiteralSet.{code_of}
 use Rattle.ygg_cnf.specs.Literals.{complement}
 use Rattle.ygg_cnf.specs.declared.lit.Lit.{Lit}
-use Rattle.ygg_watch_plain.specs.Propagation.{Propagation, Spreads, Implies}
-use Rattle.ygg_watch_plain.proofs.AssignmentLemmas.{not_both_on, at_take, take_at, at_start, keep_all}
-use Rattle.ygg_watch_plain.proofs.TrailLemmas.{entry_within, at_front, at_in}
-use Rattle.ygg_watch_plain.specs.Assignments.{IsTrail, IsLevelled}
-use Rattle.ygg_watch_plain.specs.Trail.{IsAt, keep_level, IsOnTrail}
-use Rattle.ygg_watch_plain.specs.declared.entry.Entry.{Entry}
+use Rattle.ygg_watch.specs.Propagation.{Propagation, Spreads, Implies}
+use Rattle.ygg_watch.proofs.AssignmentLemmas.{not_both_on, at_take, take_at, at_start, keep_all}
+use Rattle.ygg_watch.proofs.TrailLemmas.{entry_within, at_front, at_in}
+use Rattle.ygg_watch.specs.Assignments.{IsTrail, IsLevelled}
+use Rattle.ygg_watch.specs.Trail.{IsAt, keep_level, IsOnTrail}
+use Rattle.ygg_watch.specs.declared.entry.Entry.{Entry}
 use Rattle.ygg_watch.proofs.ListLemmas.{sibling_first, sibling_second, sibling_twice, sibling_within, lists_linked, lists_attached}
 use Rattle.ygg_watch.specs.Lists.{sibling, no_lit, lit_of, IsLinked, IsOwn, Among, IsLists, IsMember, IsPath, IsList}
 use Rattle.ygg_watch.specs.State.{IsLive, IsState}
 use Rattle.ygg_watch.specs.Watching.{frame_of, IsHeldTrue, IsHalf, IsFramed, IsWatchedAt, IsWatching, IsDone, IsStanding}
 use Rattle.ygg_watch.specs.declared.frame.Checkpoint.{Checkpoint}
-use Rattle.ygg_watch_plain.proofs.PropagationLemmas.{append-nil}
+use Rattle.ygg_watch.proofs.PropagationLemmas.{append-nil}
 use Rattle.ygg_watch.proofs.WatchLemmas.{framed_head, framed_seen, held_now, lit_within, live_push, not_seen, watched_loose, watching_head, watching_seen}
 
 pub watched_standing : (watched : List Lit) (trail : List Entry) (variable_count : ℕ) (frames : List Checkpoint) (head seen : ℕ) (clause : List Lit) →

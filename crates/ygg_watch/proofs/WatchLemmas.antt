@@ -44,13 +44,13 @@ use Rattle.ygg_cnf.proofs.Lits.{complement_twice}
 use Rattle.ygg_cnf.specs.Derivations.{HasClause}
 use Rattle.ygg_cnf.specs.Literals.{complement}
 use Rattle.ygg_cnf.specs.declared.lit.Lit.{Lit}
-use Rattle.ygg_watch_plain.proofs.StatusLemmas.{on_of_false, open_true, open_two}
-use Rattle.ygg_watch_plain.specs.Propagation.{IsFalse}
-use Rattle.ygg_watch_plain.proofs.AssignmentLemmas.{not_both_on, at_last}
-use Rattle.ygg_watch_plain.proofs.TrailLemmas.{entry_within, one_entry, assigned_at, in_before, at_front, at_in}
-use Rattle.ygg_watch_plain.specs.Assignments.{IsTrail}
-use Rattle.ygg_watch_plain.specs.Trail.{IsAt, IsQuietBefore, assigned_before, IsOnTrail}
-use Rattle.ygg_watch_plain.specs.declared.entry.Entry.{Entry}
+use Rattle.ygg_watch.proofs.StatusLemmas.{on_of_false, open_true, open_two}
+use Rattle.ygg_watch.specs.Propagation.{IsFalse}
+use Rattle.ygg_watch.proofs.AssignmentLemmas.{not_both_on, at_last}
+use Rattle.ygg_watch.proofs.TrailLemmas.{entry_within, one_entry, assigned_at, in_before, at_front, at_in}
+use Rattle.ygg_watch.specs.Assignments.{IsTrail}
+use Rattle.ygg_watch.specs.Trail.{IsAt, IsQuietBefore, assigned_before, IsOnTrail}
+use Rattle.ygg_watch.specs.declared.entry.Entry.{Entry}
 use Rattle.ygg_watch.proofs.ListLemmas.{
   sibling_first,
   sibling_second,

@@ -1,7 +1,7 @@
 -- What is kept of the watches.
 use Rattle.std.specs.Prelude.{◌≡◌, ◌<◌, ◌≤◌, ◌*◌, ℕ, List, [], length, All}
 use Rattle.ygg_cnf.specs.declared.lit.Lit.{Lit}
-use Rattle.ygg_watch_plain.specs.declared.entry.Entry.{Entry}
+use Rattle.ygg_watch.specs.declared.entry.Entry.{Entry}
 use Rattle.ygg_watch.specs.Lists.{IsLists, IsMember}
 use Rattle.ygg_watch.specs.Watching.{IsFramed, IsWatching}
 use Rattle.ygg_watch.specs.declared.frame.Checkpoint.{Checkpoint}

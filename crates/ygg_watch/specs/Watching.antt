@@ -2,10 +2,10 @@
 use Rattle.std.specs.Prelude.{◌≡◌, ◌≢◌, ℕ, ◌<◌, ◌≤◌, ◌+◌, ◌*◌, List, length, get_or, Contains, ◌⊎◌, slice_get, Some}
 use Rattle.ygg_cnf.specs.Literals.{complement}
 use Rattle.ygg_cnf.specs.declared.lit.Lit.{Lit}
-use Rattle.ygg_watch_plain.specs.Status.{IsFree}
-use Rattle.ygg_watch_plain.specs.Propagation.{IsFalse}
-use Rattle.ygg_watch_plain.specs.Trail.{IsAt, IsOnTrail}
-use Rattle.ygg_watch_plain.specs.declared.entry.Entry.{Entry}
+use Rattle.ygg_watch.specs.Status.{IsFree}
+use Rattle.ygg_watch.specs.Propagation.{IsFalse}
+use Rattle.ygg_watch.specs.Trail.{IsAt, IsOnTrail}
+use Rattle.ygg_watch.specs.declared.entry.Entry.{Entry}
 use Rattle.ygg_watch.specs.Lists.{lit_of, sibling, IsLinked, IsOwn, Among}
 use Rattle.ygg_watch.specs.declared.frame.Checkpoint.{Checkpoint}
 use Rattle.ygg_watch.specs.declared.visit.Judged.{Judged}

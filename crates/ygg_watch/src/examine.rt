@@ -1,15 +1,15 @@
 ghost use Rattle.std.specs.Prelude.{◌≡◌, ◌≢◌, ◌<◌, ◌≤◌, ◌+◌, ◌*◌, ◌↔◌, length, All, Contains, IfSome, IsTrue, slice_get, Some, [], set};
-ghost use Rattle.ygg_watch_plain.specs.Propagation.{IsWithin, Spreads, IsConflict};
-ghost use Rattle.ygg_watch_plain.specs.Status.{state_of};
+ghost use Rattle.ygg_watch.specs.Propagation.{IsWithin, Spreads, IsConflict};
+ghost use Rattle.ygg_watch.specs.Status.{state_of};
 ghost use Rattle.ygg_watch.specs.Lists.{IsMember, lit_of};
 ghost use Rattle.ygg_watch.specs.State.{IsLive};
 ghost use Rattle.ygg_watch.specs.Watching.{IsStanding, IsWatchedAt};
 
 use crate::frame::Checkpoint;
 use crate::links::{Links, lits_of};
+use crate::{Assignments, ClauseStatus, status_of};
 use ygg_cnf::Lit;
 use ygg_cnf_set::{PackedClause, PackedLit};
-use ygg_watch_plain::{Assignments, ClauseStatus, status_of};
 
 /// A literal of the clause other than the given one: one that is not false, or else the one that became so last, which
 /// going back makes free first.

@@ -1,12 +1,12 @@
 ghost use Rattle.std.specs.Prelude.{IfOk};
-ghost use Rattle.ygg_watch_plain.specs.Propagation.{IsFresh};
+ghost use Rattle.ygg_watch.specs.Propagation.{IsFresh};
 
+use crate::variable_count_for;
 use crate::watching::Watch;
 use std::alloc::Global;
 use ygg_cnf::Clauses;
 use ygg_cnf_set::pack_all;
 use ygg_list::NoMemory;
-use ygg_watch_plain::variable_count_for;
 
 /// Watched propagation that holds the clauses. Its only error is out of memory; tables are as long as the greatest variable.
 pub fn watch(alloc: Global, clauses: &Clauses) -> Result<Watch, NoMemory>

@@ -1,18 +1,18 @@
 ghost use Rattle.std.specs.Prelude.{◌≡◌, ◌≢◌, ◌<◌, ◌≤◌, ℕ, length, Contains, IfSome, IfNone, List, []};
 ghost use Rattle.ygg_cnf_set.specs.LiteralSet.{code_of};
 ghost use Rattle.ygg_cnf.specs.Literals.{complement};
-ghost use Rattle.ygg_watch_plain.specs.Propagation.{IsWithin, IsFalse, Spreads, IsConflict};
-ghost use Rattle.ygg_watch_plain.specs.Status.{state_of};
-ghost use Rattle.ygg_watch_plain.specs.Trail.{IsAt, IsOnTrail};
+ghost use Rattle.ygg_watch.specs.Propagation.{IsWithin, IsFalse, Spreads, IsConflict};
+ghost use Rattle.ygg_watch.specs.Status.{state_of};
+ghost use Rattle.ygg_watch.specs.Trail.{IsAt, IsOnTrail};
 ghost use Rattle.ygg_watch.specs.Lists.{IsLists, IsPending};
 ghost use Rattle.ygg_watch.specs.State.{IsLive};
 ghost use Rattle.ygg_watch.specs.Watching.{IsDone, IsJudged};
 
+use crate::Assignments;
 use crate::frame::Checkpoint;
 use crate::links::{Links, held_clause, sibling_of};
 use ygg_cnf::Lit;
 use ygg_cnf_set::{PackedClause, PackedLit};
-use ygg_watch_plain::Assignments;
 
 /// The first literal that is not false, other than the given one. Each one before it is counted.
 fn replacement(

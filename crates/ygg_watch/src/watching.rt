@@ -1,17 +1,17 @@
 ghost use Rattle.std.specs.Prelude.{◌≡◌, ◌≤◌, ◌^◌, [], All, IfOk};
-ghost use Rattle.ygg_watch_plain.specs.Propagation.{IsFresh, IsWithin};
+ghost use Rattle.ygg_watch.specs.Propagation.{IsFresh, IsWithin};
 ghost use Rattle.ygg_watch.specs.State.{IsLive};
 
 use crate::examine::{Examined, examine_all};
 use crate::frame::Checkpoint;
 use crate::links::Links;
 use crate::visit::visit_all;
+use crate::{Assigned, Assignments, Found, PackedEntry, Propagate, Trail, spread};
 use std::alloc::Global;
 use std::marker::Model;
 use ygg_cnf::{Clause, Lit};
 use ygg_cnf_set::PackedClause;
 use ygg_list::NoMemory;
-use ygg_watch_plain::{Assigned, Assignments, Found, PackedEntry, Propagate, Trail, spread};
 
 /// Propagation that watches two literals of each clause, and reads a clause only where a watched one becomes false.
 ///
@@ -32,8 +32,8 @@ pub struct Watch {
 
 impl Model for Watch {
     ghost use Rattle.std.specs.Prelude.{vec_capacity};
-    ghost use Rattle.ygg_watch_plain.specs.Propagation.{Propagation};
-    ghost use Rattle.ygg_watch_plain.specs.Status.{state_of};
+    ghost use Rattle.ygg_watch.specs.Propagation.{Propagation};
+    ghost use Rattle.ygg_watch.specs.Status.{state_of};
     ghost use Rattle.ygg_watch.specs.State.{IsState};
 
     ghost Value = { Propagation };

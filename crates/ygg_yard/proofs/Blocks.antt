@@ -13,7 +13,7 @@ use Rattle.ygg_syntax.specs.declared.tree.Source.TheVariants as source
 use Rattle.ygg_syntax.specs.declared.tree.Stmt.{Stmt}
 use Rattle.ygg_syntax.specs.declared.tree.Operation.{Operation}
 use Rattle.ygg_syntax.specs.Choices.{choices_of}
-use Rattle.ygg_type_rules.specs.ygg_syntax_count.Weights.{Weights, expr_weight, block_weight}
+use Rattle.ygg_type_rules.specs.ygg_syntax.Weights.{Weights, expr_weight, block_weight}
 use Rattle.ygg_type_rules.specs.declared.scope.Local.{Local}
 use Rattle.ygg_type_rules.specs.declared.scope.Owner.TheVariants.{State}
 use Rattle.ygg_type_rules.specs.declared.scope.Signature.{Signature}

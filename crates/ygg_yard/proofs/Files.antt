@@ -12,7 +12,7 @@ use Rattle.ygg_syntax.specs.declared.tree.Place.{Place}
 use Rattle.ygg_syntax.specs.declared.tree.Expr.TheVariants as expr
 use Rattle.ygg_syntax.specs.Reading.{Reading, starts, same_mark, in_turn}
 use Rattle.ygg_syntax.specs.Files.{operation, whole_file}
-use Rattle.ygg_read_expr.proofs.Phrases.{reads_binary, reads_low, reads_variable}
+use Rattle.ygg_read.proofs.ExpressionPhrases.{reads_binary, reads_low, reads_variable}
 use Rattle.ygg_read.proofs.Phrases.{reads_unwritten}
 use Rattle.ygg_read.proofs.Files.{reads_no_crash_block}
 use Rattle.ygg_yard.specs.Trees.{Places, name_at, unwritten, operation_made, operations_made, file_made}

@@ -14,7 +14,7 @@ use Rattle.ygg_syntax.specs.declared.tree.Stmt.TheVariants as stmt
 use Rattle.ygg_syntax.specs.declared.tree.Stmt.TheOpen.{Stmt-F}
 use Rattle.ygg_syntax.specs.declared.tree.Stmt.TheFolds.{fold-roll-Stmt}
 use Rattle.ygg_syntax.specs.Choices.{node_steps, block_steps, stmt_steps}
-use Rattle.ygg_type_rules.specs.ygg_syntax_count.Weights.{Weights, node_weight, expr_weight, node_stmt_weight, node_block_weight, stmt_weight}
+use Rattle.ygg_type_rules.specs.ygg_syntax.Weights.{Weights, node_weight, expr_weight, node_stmt_weight, node_block_weight, stmt_weight}
 use Rattle.ygg_type_rules.specs.TypeErrors.{TypeErrors}
 use Rattle.ygg_type_rules.specs.Scopes.{Scope}
 use Rattle.ygg_type_rules.specs.Expressions.{Typing, node_typing, typing}

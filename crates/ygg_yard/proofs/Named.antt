@@ -9,7 +9,7 @@ use Rattle.ygg_type_rules.specs.Names.{Named, look_up, has, added}
 use Rattle.ygg_syntax.specs.declared.tree.Place.{Place}
 use Rattle.ygg_syntax.specs.declared.tree.Block.{Block}
 use Rattle.ygg_syntax.specs.declared.tree.Operation.{Operation}
-use Rattle.ygg_type_rules.specs.ygg_syntax_count.Weights.{Weights}
+use Rattle.ygg_type_rules.specs.ygg_syntax.Weights.{Weights}
 use Rattle.ygg_type_rules.specs.declared.scope.Signature.{Signature}
 use Rattle.ygg_type_rules.specs.TypeErrors.{none}
 use Rattle.ygg_type_rules.specs.Scopes.{Scope}

@@ -11,7 +11,7 @@ use Rattle.ygg_syntax.specs.declared.tree.Expr.TheVariants as expr
 use Rattle.ygg_syntax.specs.declared.tree.Source.TheVariants as source
 use Rattle.ygg_syntax.specs.Reading.{Reading, token, takes, passes, in_turn}
 use Rattle.ygg_syntax.specs.Files.{operation}
-use Rattle.ygg_read_expr.proofs.Phrases.{joined, reads_token, reads_mark, reads_constant, reads_variable, reads_row}
+use Rattle.ygg_read.proofs.ExpressionPhrases.{joined, reads_token, reads_mark, reads_constant, reads_variable, reads_row}
 use Rattle.ygg_read.proofs.Phrases.{reads_assign, reads_call}
 use Rattle.ygg_yard.specs.Trees.{name_at, number_at, put_name, row_number, row_given, index_made, operation_made}
 use Rattle.ygg_yard.specs.Marks.{operation_marks}

@@ -4,7 +4,7 @@ use Rattle.std.specs.Prelude.{nat_le}
 use Rattle.std.proofs.lemmas.Bool.{and_from, and_parts, lt-ltb, le-leb}
 use Rattle.ygg_value.specs.declared.shape.Shape.{Shape}
 use Rattle.ygg_value.specs.declared.shape.Shape.TheVariants.{Table}
-use Rattle.ygg_type_rules.specs.ygg_syntax_count.Weights.{Weights}
+use Rattle.ygg_type_rules.specs.ygg_syntax.Weights.{Weights}
 use Rattle.ygg_type_rules.specs.declared.scope.Visibility.TheVariants.{Relation}
 use Rattle.ygg_type_rules.specs.declared.type_error.TypeError.{TypeError}
 use Rattle.ygg_type_rules.specs.TypeErrors.{TypeErrors, nothing, one, both, none, listed}

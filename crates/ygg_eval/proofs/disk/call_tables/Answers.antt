@@ -1,9 +1,9 @@
 use Rattle.std.proofs.Common.{None, sym, subst, arith}
 use Rattle.ygg_value.specs.Values.{word_in, row_in}
 use Rattle.ygg_syntax.specs.declared.tree.File.{File}
-use Rattle.ygg_eval_block.specs.ygg_disk.Disk as disk
+use Rattle.ygg_eval.specs.ygg_disk.Disk as disk
 use Rattle.ygg_eval.specs.Tables.{AreTables, AreWritable, Made}
-use Rattle.ygg_eval_block.specs.ygg_disk.declared.power.Power.{Power}
+use Rattle.ygg_eval.specs.ygg_disk.declared.power.Power.{Power}
 use Rattle.ygg_eval.proofs.OnDisk.{are_tables, read_ready, read_called, write_ready, write_called, flush_called}
 use Rattle.ygg_eval.proofs.disk.call_tables.Goals as goal
 

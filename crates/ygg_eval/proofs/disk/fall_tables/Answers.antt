@@ -2,7 +2,7 @@ use Rattle.std.proofs.Common.{sym, subst, arith}
 use Rattle.std.proofs.lemmas.Result.{on_ok_weaker}
 use Rattle.ygg_value.specs.Values.{word_in, row_in}
 use Rattle.ygg_syntax.specs.declared.tree.File.{File}
-use Rattle.ygg_eval_block.specs.ygg_disk.Disk as disk
+use Rattle.ygg_eval.specs.ygg_disk.Disk as disk
 use Rattle.ygg_eval.specs.Tables.{AreTables, AreWritable, Cut, Lost}
 use Rattle.ygg_eval.proofs.OnDisk.{are_tables, write_ready, write_fell, other_fell}
 use Rattle.ygg_eval.proofs.Outages.{fell_as}

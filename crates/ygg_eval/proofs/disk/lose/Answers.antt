@@ -1,7 +1,7 @@
 use Rattle.std.proofs.Common.{◌≡◌, arith, rules, subst, sym}
 use Rattle.std.proofs.lemmas.Grind.{common_steps}
-use Rattle.ygg_eval_block.specs.ygg_disk.declared.power.Power.{Power}
-use Rattle.ygg_eval_block.specs.Lower.{outage_of}
+use Rattle.ygg_eval.specs.ygg_disk.declared.power.Power.{Power}
+use Rattle.ygg_eval.specs.Lower.{outage_of}
 use Rattle.ygg_eval.specs.Kept.{standing, Loses}
 use Rattle.ygg_eval.proofs.disk.lose.Goals as goal
 

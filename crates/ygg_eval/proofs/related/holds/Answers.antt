@@ -4,9 +4,9 @@ use Rattle.std.proofs.lemmas.Option.{slice_get-get_or, slice_get_within}
 use Rattle.ygg_syntax.specs.declared.tree.File.{File}
 use Rattle.ygg_eval_expr.specs.ygg_meaning.Environments.{bind}
 use Rattle.ygg_eval_expr.specs.ygg_meaning.Meaning.{is_one}
-use Rattle.ygg_eval_block.specs.ygg_meaning.Stack.{tables_of}
+use Rattle.ygg_eval.specs.ygg_meaning.Stack.{tables_of}
 use Rattle.ygg_eval_expr.specs.Held.{env_of}
-use Rattle.ygg_eval_block.specs.Layers.{variables_from}
+use Rattle.ygg_eval.specs.Layers.{variables_from}
 use Rattle.ygg_eval.specs.Formulas.{formula_in}
 use Rattle.ygg_eval.proofs.Asked.{known_is, asked_can, asked_gives}
 use Rattle.ygg_eval.proofs.related.holds.Goals as goal

@@ -1,7 +1,7 @@
 use Rattle.std.proofs.Common.{◌≡◌, true, ◌++◌, sym, ap, ◌∙◌, subst}
 use Rattle.ygg_eval_expr.specs.ygg_meaning.Environments.{bind}
 use Rattle.ygg_eval_expr.specs.ygg_meaning.Shapes.{values_fit}
-use Rattle.ygg_eval_block.specs.ygg_meaning.Stack.{tables_of}
+use Rattle.ygg_eval.specs.ygg_meaning.Stack.{tables_of}
 use Rattle.ygg_eval_expr.specs.Held.{env_of}
 use Rattle.ygg_eval.proofs.Asked.{low_first, low_later}
 use Rattle.ygg_eval.proofs.related.name_low.Goals as goal

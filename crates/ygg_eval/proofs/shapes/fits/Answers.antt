@@ -1,5 +1,5 @@
 use Rattle.std.proofs.Common.{sym, ◌∙◌}
-use Rattle.ygg_eval_block.specs.ygg_meaning.Shapes.{shape_in}
+use Rattle.ygg_eval.specs.ygg_meaning.Shapes.{shape_in}
 use Rattle.ygg_eval.proofs.Fitted.{fits_by_shape}
 use Rattle.ygg_eval.proofs.shapes.fits.Goals as goal
 

@@ -1,5 +1,5 @@
 use Rattle.std.proofs.Common.{◌≡◌, drop}
-use Rattle.ygg_eval_block.specs.ygg_meaning.Shapes.{values_fit}
+use Rattle.ygg_eval.specs.ygg_meaning.Shapes.{values_fit}
 use Rattle.ygg_eval.proofs.shapes.values_fit.Given as goal
 
 -- what is left decides

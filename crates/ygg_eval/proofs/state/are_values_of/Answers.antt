@@ -1,6 +1,6 @@
 use Rattle.std.proofs.Common.{◌-◌, slice_get, sym, ap, ◌∙◌}
 use Rattle.ygg_syntax.specs.declared.tree.File.{File}
-use Rattle.ygg_eval_block.specs.ygg_meaning.Shapes.{values_fit}
+use Rattle.ygg_eval.specs.ygg_meaning.Shapes.{values_fit}
 use Rattle.ygg_eval.proofs.Existing.{in_state, in_no_state}
 use Rattle.ygg_eval.proofs.state.are_values_of.Goals as goal
 

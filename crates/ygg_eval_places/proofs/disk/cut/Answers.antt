@@ -1,5 +1,5 @@
 use Rattle.std.proofs.Common.{◌++◌, Bool, refl, ap, ◌∙◌}
-use Rattle.ygg_eval.specs.ygg_eval_block.Layers.{signatures_at}
+use Rattle.ygg_eval.specs.Layers.{signatures_at}
 use Rattle.ygg_eval_places.specs.Bits.{bits_in}
 use Rattle.ygg_eval_places.proofs.ChoiceNoting.{if_ok}
 use Rattle.ygg_eval_places.specs.Steps.{one_pick}

@@ -1,7 +1,7 @@
 use Rattle.std.proofs.Common.{◌-◌, subst}
 use Rattle.ygg_eval.specs.ygg_meaning.Progress.{Call}
-use Rattle.ygg_eval.specs.ygg_eval_block.Layers.{closed_at, signatures_at}
-use Rattle.ygg_eval.specs.ygg_eval_block.declared.body.Part.TheVariants as part
+use Rattle.ygg_eval.specs.Layers.{closed_at, signatures_at}
+use Rattle.ygg_eval.specs.declared.body.Part.TheVariants as part
 use Rattle.ygg_eval.proofs.OnSpec.{is_spec, runs_spec}
 use Rattle.ygg_eval_places.specs.Bits.{bits_in}
 use Rattle.ygg_eval_places.specs.Chosen.{Chose}

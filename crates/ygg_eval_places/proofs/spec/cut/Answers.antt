@@ -3,10 +3,10 @@ use Rattle.std.proofs.lemmas.Result.{on_ok_weaker}
 use Rattle.ygg_syntax.specs.declared.tree.Block.{Block}
 use Rattle.ygg_syntax.specs.declared.tree.Layer.{Layer}
 use Rattle.ygg_eval.specs.ygg_meaning.Progress.{Call}
-use Rattle.ygg_eval.specs.ygg_eval_block.Bodies.{IsBlock}
-use Rattle.ygg_eval.specs.ygg_eval_block.Layers.{signatures_at}
-use Rattle.ygg_eval.specs.ygg_eval_block.declared.body.Body.{Body}
-use Rattle.ygg_eval.specs.ygg_eval_block.declared.body.Part.TheVariants as part
+use Rattle.ygg_eval.specs.Bodies.{IsBlock}
+use Rattle.ygg_eval.specs.Layers.{signatures_at}
+use Rattle.ygg_eval.specs.declared.body.Body.{Body}
+use Rattle.ygg_eval.specs.declared.body.Part.TheVariants as part
 use Rattle.ygg_eval.proofs.OnSpec.{is_spec, is_on_crash, runs_spec, runs_on_crash}
 use Rattle.ygg_eval_places.specs.Bits.{bits_in}
 use Rattle.ygg_eval_places.specs.Steps.{Crashed, FellWithin, ThenCrashed}

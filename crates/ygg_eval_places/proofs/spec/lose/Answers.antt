@@ -1,7 +1,7 @@
 use Rattle.std.proofs.Common.{◌≡◌, ◌-◌, true, sym, subst, arith}
 use Rattle.std.proofs.lemmas.Result.{on_ok_weaker}
 use Rattle.ygg_eval.specs.ygg_meaning.Shapes.{values_fit}
-use Rattle.ygg_eval.specs.ygg_eval_block.Layers.{variables_at}
+use Rattle.ygg_eval.specs.Layers.{variables_at}
 use Rattle.ygg_eval_places.specs.Bits.{bits_in}
 use Rattle.ygg_eval.proofs.OnSpec.{there}
 use Rattle.ygg_eval_places.specs.Steps.{Crashed, FellBetween}

@@ -1,6 +1,6 @@
 use Rattle.std.proofs.Common.{slice_get, sym, ap, ◌∙◌}
 use Rattle.ygg_syntax.specs.declared.tree.File.{File}
-use Rattle.ygg_eval_block.specs.ygg_eval_expr.Held.{env_of}
+use Rattle.ygg_eval.specs.ygg_eval_expr.Held.{env_of}
 use Rattle.ygg_eval_places.proofs.Bodies.{is_ready, body_walked}
 use Rattle.ygg_eval_places.proofs.Sides.{if_all_ok}
 use Rattle.ygg_eval_places.proofs.whole.run_places.Goals as goal

@@ -9,7 +9,7 @@ use Rattle.ygg_oblige_parts.specs.Layers.{closed, terms_in}
 use Rattle.ygg_oblige_parts.specs.Sites.{below_in}
 use Rattle.ygg_oblige.proofs.Sites.{below_fits, block_fits_is}
 use Rattle.ygg_syntax.specs.declared.tree.Declared.{Declared}
-use Rattle.ygg_oblige_parts.specs.ygg_sym_expr.Names.{sym_bind}
+use Rattle.ygg_oblige_parts.specs.ygg_sym_runs.Names.{sym_bind}
 use Rattle.ygg_oblige_laws.specs.ygg_sym_runs.Below.{cut_made}
 use Rattle.ygg_oblige_parts.specs.ygg_oblige_laws.Numbers.{arguments_of, block_of}
 use Rattle.ygg_oblige_parts.specs.ygg_oblige_laws.Terms.{recovers}

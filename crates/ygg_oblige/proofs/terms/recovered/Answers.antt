@@ -8,7 +8,7 @@ use Rattle.ygg_oblige_parts.proofs.of_ygg_sym_runs.Zeros.{single_then}
 use Rattle.ygg_oblige_parts.specs.Layers.{closed, terms_in}
 use Rattle.ygg_oblige_parts.specs.Sites.{below_in}
 use Rattle.ygg_oblige.proofs.Sites.{below_fits}
-use Rattle.ygg_oblige_parts.specs.ygg_sym_expr.Names.{sym_bind}
+use Rattle.ygg_oblige_parts.specs.ygg_sym_runs.Names.{sym_bind}
 use Rattle.ygg_oblige_laws.specs.ygg_sym_runs.Below.{run_made, zeros_made}
 use Rattle.ygg_sym.specs.Running.{EndIs}
 use Rattle.ygg_oblige_parts.specs.ygg_oblige_laws.Terms.{Finish}

@@ -10,7 +10,7 @@ use Rattle.ygg_oblige_parts.specs.Layers.{closed, terms_in}
 use Rattle.ygg_oblige_parts.specs.Sites.{below_in}
 use Rattle.ygg_oblige.proofs.Sites.{below_fits}
 use Rattle.ygg_oblige_parts.specs.ygg_sym_runs.StopTerms.{SymFallen}
-use Rattle.ygg_oblige_parts.specs.ygg_sym_expr.Names.{sym_bind}
+use Rattle.ygg_oblige_parts.specs.ygg_sym_runs.Names.{sym_bind}
 use Rattle.ygg_oblige_laws.specs.ygg_sym_runs.Below.{cut_made, zeros_made}
 use Rattle.ygg_sym.specs.Running.{CutIs}
 use Rattle.ygg_oblige.proofs.Alike.{no_values}

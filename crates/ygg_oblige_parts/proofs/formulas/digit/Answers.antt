@@ -1,7 +1,7 @@
 use Rattle.std.proofs.Common.{sym, ap, ◌∙◌, subst}
 use Rattle.ygg_sym_spec.specs.ygg_bank.Nodes.{HasWidth, IsBank}
-use Rattle.ygg_sym_spec.specs.ygg_sym_expr.Exprs.{id_in}
-use Rattle.ygg_sym_spec.specs.ygg_sym_expr.Seen.{known_of, terms_in}
+use Rattle.ygg_sym_spec.specs.ygg_sym_runs.Exprs.{id_in}
+use Rattle.ygg_sym_spec.specs.ygg_sym_runs.Seen.{known_of, terms_in}
 use Rattle.ygg_oblige_parts.proofs.Tested.{test_wide}
 use Rattle.ygg_oblige_parts.proofs.formulas.digit.Goals as goal
 

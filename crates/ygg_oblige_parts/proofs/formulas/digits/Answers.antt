@@ -1,7 +1,7 @@
 use Rattle.std.proofs.Common.{◌+◌, List, All, drop, sym, subst}
 use Rattle.ygg_sym_spec.specs.ygg_bank_proofs_Widths.{extends_both}
 use Rattle.ygg_sym_spec.specs.ygg_bank.declared.node.Id.{Id}
-use Rattle.ygg_sym_spec.specs.ygg_sym_expr.Seen.{known_of}
+use Rattle.ygg_sym_spec.specs.ygg_sym_runs.Seen.{known_of}
 use Rattle.ygg_sym_spec.proofs.Left.{Left}
 use Rattle.ygg_oblige_parts.specs.Digits.{IsDigit}
 use Rattle.ygg_oblige_parts.specs.Formulas.{digits_made}

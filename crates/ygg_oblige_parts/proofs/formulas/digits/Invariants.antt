@@ -1,6 +1,6 @@
 use Rattle.std.proofs.Common.{drop, All}
 use Rattle.ygg_sym_spec.specs.ygg_bank.Nodes.{Extends, IsBank}
-use Rattle.ygg_sym_spec.specs.ygg_sym_expr.Seen.{known_of}
+use Rattle.ygg_sym_spec.specs.ygg_sym_runs.Seen.{known_of}
 use Rattle.ygg_sym_spec.proofs.Left.{Left}
 use Rattle.ygg_oblige_parts.specs.Digits.{IsDigit}
 use Rattle.ygg_oblige_parts.specs.Formulas.{CanTest, digits_made}

@@ -1,7 +1,7 @@
 use Rattle.std.proofs.Common.{◌≡◌, ◌∙◌, OnOk, IfOk, subst}
 use Rattle.ygg_sym_spec.specs.ygg_bank.Makes.{Out}
 use Rattle.ygg_sym_spec.specs.ygg_bank.declared.node.Id.{Id}
-use Rattle.ygg_sym_spec.specs.ygg_sym_expr.Seen.{known_of}
+use Rattle.ygg_sym_spec.specs.ygg_sym_runs.Seen.{known_of}
 use Rattle.ygg_oblige_parts.proofs.Tested.{truths_from}
 use Rattle.ygg_sym_spec.specs.ygg_bank_proofs_Widths.{extends_both}
 use Rattle.ygg_oblige_parts.proofs.formulas.truths.Goals as goal

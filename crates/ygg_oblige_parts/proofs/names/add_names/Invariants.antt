@@ -1,6 +1,6 @@
 use Rattle.std.proofs.Common.{◌≡◌, ◌++◌, drop}
-use Rattle.ygg_sym_spec.specs.ygg_sym_expr.Names.{sym_bind}
-use Rattle.ygg_sym_spec.specs.ygg_sym_expr.Seen.{env_of}
+use Rattle.ygg_sym_spec.specs.ygg_sym_runs.Names.{sym_bind}
+use Rattle.ygg_sym_spec.specs.ygg_sym_runs.Seen.{env_of}
 use Rattle.ygg_oblige_parts.proofs.names.add_names.Given as goal
 
 -- those so far, and then what is left

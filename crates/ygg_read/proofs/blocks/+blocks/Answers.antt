@@ -5,7 +5,7 @@ use Rattle.ygg_base.specs.declared.token.Mark.TheVariants as mark
 use Rattle.ygg_syntax.specs.declared.grammar.BlockKind.TheVariants.{Impl}
 use Rattle.ygg_syntax.specs.Reading.{starts, in_turn}
 use Rattle.ygg_syntax.specs.Pending.{perhaps, block, statements, else_block, sign_of, outcome}
-use Rattle.ygg_read_expr.specs.Steps.{Reads, Goes, Stops}
+use Rattle.ygg_read.specs.ExpressionSteps.{Reads, Goes, Stops}
 use Rattle.ygg_syntax.specs.Blocks as phrase
 use Rattle.ygg_read.specs.Steps.{ForPart, begins}
 use Rattle.ygg_read.proofs.Begins.{
@@ -24,7 +24,7 @@ use Rattle.ygg_read.proofs.Begins.{
 }
 use Rattle.ygg_read.proofs.Lists.{statement_more, all_statements}
 use Rattle.ygg_read.proofs.Phrases.{reads_block, reads_written, reads_unwritten, reads_if, reads_for}
-use Rattle.ygg_read_expr.proofs.Results.{where_read, where_gone, where_refused}
+use Rattle.ygg_read.proofs.Results.{where_read, where_gone, where_refused}
 use Rattle.ygg_read.proofs.blocks.+blocks.Goals as goal
 
 pub block-returns-in_default-clause-refused : goal.block-returns-in_default-clause-refused

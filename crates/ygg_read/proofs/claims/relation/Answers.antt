@@ -2,7 +2,7 @@ use Rattle.std.proofs.Common.{◌∷◌, ◌∙◌, ap}
 use Rattle.ygg_base.specs.declared.token.Keyword.TheVariants as word
 use Rattle.ygg_syntax.specs.Reading.{in_turn}
 use Rattle.ygg_syntax.specs.Files.{claim}
-use Rattle.ygg_read_expr.proofs.Results.{where_read}
+use Rattle.ygg_read.proofs.Results.{where_read}
 use Rattle.ygg_read.proofs.claims.relation.Goals as goal
 
 pub returns-clause-reads : goal.returns-clause-reads

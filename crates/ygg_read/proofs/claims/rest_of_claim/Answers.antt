@@ -2,7 +2,7 @@ use Rattle.std.proofs.Common.{[], ◌∷◌, ◌∙◌}
 use Rattle.ygg_base.specs.declared.token.Symbol.TheVariants as sign
 use Rattle.ygg_base.specs.declared.token.Mark.TheVariants as mark
 use Rattle.ygg_syntax.specs.Expressions.{symbol, expr}
-use Rattle.ygg_read_expr.proofs.Results.{where_read}
+use Rattle.ygg_read.proofs.Results.{where_read}
 use Rattle.ygg_read.proofs.Files.{opened}
 use Rattle.ygg_read.proofs.claims.rest_of_claim.Goals as goal
 

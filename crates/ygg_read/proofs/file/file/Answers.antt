@@ -7,7 +7,7 @@ use Rattle.ygg_syntax.specs.Expressions.{keyword, symbol}
 use Rattle.ygg_syntax.specs.Files.{disk_text, definition, layers}
 use Rattle.ygg_syntax.specs.Pending.{Pending, number, disk_kind, repeated, rest_of_layer, word_of, sign_of}
 use Rattle.ygg_syntax.specs.Pending as pending
-use Rattle.ygg_read_expr.proofs.Phrases.{joined}
+use Rattle.ygg_read.proofs.ExpressionPhrases.{joined}
 use Rattle.ygg_read.proofs.Files.{file_opens}
 use Rattle.ygg_read.proofs.file.file.Goals as goal
 

@@ -1,8 +1,8 @@
 use Rattle.std.proofs.Common.{◌≡◌, true, false, rules}
 use Rattle.ygg_base.specs.declared.token.Mark.TheVariants as mark
 use Rattle.ygg_syntax.specs.Reading.{starts}
-use Rattle.ygg_read_expr.proofs.Phrases.{reads_mark}
-use Rattle.ygg_read_expr.proofs.Stopped.{goes_token, stopped}
+use Rattle.ygg_read.proofs.ExpressionPhrases.{reads_mark}
+use Rattle.ygg_read.proofs.Stopped.{goes_token, stopped}
 use Rattle.ygg_read.proofs.Answered.{on_some, if_none}
 use Rattle.ygg_read.proofs.Files.{one_comes, some_number}
 use Rattle.ygg_read.proofs.file.one.Goals as goal

@@ -4,7 +4,7 @@ use Rattle.ygg_base.specs.declared.token.Mark.TheVariants as mark
 use Rattle.ygg_syntax.specs.Reading.{starts, in_turn}
 use Rattle.ygg_syntax.specs.Files.{operation_blocks}
 use Rattle.ygg_syntax.specs.Pending.{rest_of_operation, outcome, stops}
-use Rattle.ygg_read_expr.proofs.Results.{where_read, where_gone, where_refused}
+use Rattle.ygg_read.proofs.Results.{where_read, where_gone, where_refused}
 use Rattle.ygg_read.specs.Parts.{operation_of}
 use Rattle.ygg_read.proofs.Files.{stopped_blocks}
 use Rattle.ygg_read.proofs.LayerClaims.{begins_spec, begins_arrow}

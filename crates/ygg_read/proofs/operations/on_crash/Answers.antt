@@ -6,8 +6,8 @@ use Rattle.ygg_syntax.specs.Expressions.{keyword}
 use Rattle.ygg_syntax.specs.Blocks.{block}
 use Rattle.ygg_syntax.specs.Pending.{perhaps, outcome}
 use Rattle.ygg_syntax.specs.Pending as pending
-use Rattle.ygg_read_expr.proofs.Phrases.{joined}
-use Rattle.ygg_read_expr.proofs.Stopped.{left_out}
+use Rattle.ygg_read.proofs.ExpressionPhrases.{joined}
+use Rattle.ygg_read.proofs.Stopped.{left_out}
 use Rattle.ygg_read.proofs.ClaimParts.{begins_perhaps}
 use Rattle.ygg_read.proofs.operations.on_crash.Goals as goal
 

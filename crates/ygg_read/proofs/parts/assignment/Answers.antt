@@ -2,7 +2,7 @@ use Rattle.std.proofs.Common.{◌∷◌, ◌∙◌, sym}
 use Rattle.ygg_base.specs.declared.token.Symbol.TheVariants as sign
 use Rattle.ygg_syntax.specs.Expressions.{symbol}
 use Rattle.ygg_syntax.specs.Blocks.{source_in, indices_of}
-use Rattle.ygg_read_expr.proofs.Phrases.{joined}
+use Rattle.ygg_read.proofs.ExpressionPhrases.{joined}
 use Rattle.ygg_read.proofs.Phrases.{reads_assign}
 use Rattle.ygg_read.proofs.parts.assignment.Goals as goal
 

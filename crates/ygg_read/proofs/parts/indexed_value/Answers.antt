@@ -3,7 +3,7 @@ use Rattle.ygg_base.specs.declared.token.Symbol.TheVariants as sign
 use Rattle.ygg_syntax.specs.Expressions.{symbol}
 use Rattle.ygg_syntax.specs.Blocks.{source_in, indices_of}
 use Rattle.ygg_syntax.specs.Pending.{right_side, sign_of}
-use Rattle.ygg_read_expr.proofs.Phrases.{joined}
+use Rattle.ygg_read.proofs.ExpressionPhrases.{joined}
 use Rattle.ygg_read.proofs.parts.indexed_value.Goals as goal
 
 pub returns-in_default-2-clause-refused : goal.returns-in_default-2-clause-refused

@@ -1,8 +1,8 @@
 use Rattle.std.proofs.Common.{◌∷◌, ◌∙◌, ap, sym, length, arith}
 use Rattle.ygg_syntax.specs.Reading.{in_turn}
 use Rattle.ygg_syntax.specs.Pending.{indices, outcome}
-use Rattle.ygg_read_expr.proofs.Begins.{begins_index}
-use Rattle.ygg_read_expr.proofs.Stopped.{dropped_indices}
+use Rattle.ygg_read.proofs.ExpressionBegins.{begins_index}
+use Rattle.ygg_read.proofs.Stopped.{dropped_indices}
 use Rattle.ygg_read.proofs.Lists.{index_more, all_indices}
 use Rattle.ygg_read.proofs.parts.indices.Goals as goal
 

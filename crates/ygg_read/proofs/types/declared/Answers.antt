@@ -2,7 +2,7 @@ use Rattle.std.proofs.Common.{[], ◌∷◌, ◌∙◌}
 use Rattle.ygg_base.specs.declared.token.Symbol.TheVariants as sign
 use Rattle.ygg_syntax.specs.Expressions.{named, symbol}
 use Rattle.ygg_syntax.specs.Files.{type_in}
-use Rattle.ygg_read_expr.proofs.Phrases.{joined}
+use Rattle.ygg_read.proofs.ExpressionPhrases.{joined}
 use Rattle.ygg_read.proofs.types.declared.Goals as goal
 
 pub returns-clause-reads : goal.returns-clause-reads

@@ -1,4 +1,4 @@
-use Rattle.ygg_run.specs.ygg_eval_block.Lower.{ending_of}
+use Rattle.ygg_run.specs.ygg_eval.Lower.{ending_of}
 use Rattle.ygg_run.specs.ygg_machine.Commands as command
 use Rattle.ygg_run.specs.ygg_machine.Viewed.{floor_seen}
 use Rattle.ygg_run_commands.proofs.Done.{never_down, woke, unwoken}

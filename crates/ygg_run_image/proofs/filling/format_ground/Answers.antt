@@ -1,6 +1,6 @@
 use Rattle.std.proofs.Common.{sym, subst}
 use Rattle.ygg_base.specs.declared.geometry.Geometry.{Geometry}
-use Rattle.ygg_run_image.specs.ygg_base_device.Devices.{AttachedTurns, Tells}
+use Rattle.ygg_run_image.specs.ygg_base.Devices.{AttachedTurns, Tells}
 use Rattle.ygg_run_image.specs.Sight.{Sight, Holds}
 use Rattle.ygg_run_image.specs.Standing.{KeepsHeader, StaysOn}
 use Rattle.ygg_run_image.specs.declared.device_ground.DeviceGround.{DeviceGround}

@@ -1,6 +1,6 @@
 use Rattle.std.proofs.Common.{◌≡◌, OnOk, subst}
 use Rattle.ygg_base.specs.declared.geometry.Geometry.{Geometry}
-use Rattle.ygg_base_device.specs.Devices.{Image}
+use Rattle.ygg_base.specs.Devices.{Image}
 use Rattle.ygg_run_image.specs.Image.{image_bytes}
 use Rattle.ygg_run_image.specs.Judged.{IsJudged}
 use Rattle.ygg_run_image.specs.Mounting.{Accepts, IsShown}

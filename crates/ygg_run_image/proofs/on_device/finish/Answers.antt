@@ -1,7 +1,7 @@
 use Rattle.std.proofs.Common.{subst}
 use Rattle.ygg_base.specs.declared.geometry.Geometry.{Geometry}
 use Rattle.ygg_base.specs.declared.outside.Moved.TheVariants as moved
-use Rattle.ygg_run_image.specs.ygg_base_device.Devices.{AttachedTurns, Tells}
+use Rattle.ygg_run_image.specs.ygg_base.Devices.{AttachedTurns, Tells}
 use Rattle.ygg_run_image.specs.Sealing.{SealTurns}
 use Rattle.ygg_run_image.proofs.Finished.{finish_starved, finish_done, finish_failed}
 use Rattle.ygg_run_image.proofs.on_device.finish.Goals as goal

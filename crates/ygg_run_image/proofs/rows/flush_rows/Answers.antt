@@ -1,7 +1,7 @@
 use Rattle.std.proofs.Common.{refl, sym, subst}
 use Rattle.ygg_base.specs.declared.geometry.DiskKind.{DiskKind}
 use Rattle.ygg_base.specs.declared.outside.Moved.TheVariants.{Done}
-use Rattle.ygg_base_device.specs.Devices.{Tells, AttachedTurns}
+use Rattle.ygg_base.specs.Devices.{Tells, AttachedTurns}
 use Rattle.ygg_run_image.specs.Turning.{FlushesDisk}
 use Rattle.ygg_run_image.proofs.Held.{attached_here, holds_here}
 use Rattle.ygg_run_image.proofs.Keeping.{flush_holds, stays_so}

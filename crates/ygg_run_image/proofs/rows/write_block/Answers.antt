@@ -1,6 +1,6 @@
 use Rattle.std.proofs.Common.{sym, subst}
 use Rattle.ygg_base.specs.declared.geometry.DiskKind.{DiskKind}
-use Rattle.ygg_base_device.specs.Devices.{Tells, AttachedTurns}
+use Rattle.ygg_base.specs.Devices.{Tells, AttachedTurns}
 use Rattle.ygg_run_image.specs.Turning.{WritesBlock}
 use Rattle.ygg_run_image.proofs.Keeping.{through}
 use Rattle.ygg_run_image.proofs.rows.write_block.Goals as goal

@@ -1,5 +1,5 @@
 use Rattle.ygg_base.specs.declared.outside.Moved.TheVariants.{Done, Failed}
-use Rattle.ygg_run_image.specs.ygg_base_device.Devices.{Writes, Flushes}
+use Rattle.ygg_run_image.specs.ygg_base.Devices.{Writes, Flushes}
 use Rattle.ygg_run_image.specs.Sealing.{HeaderTurns}
 use Rattle.ygg_run_image.proofs.Turns.{turns, turns_twice}
 use Rattle.ygg_run_image.proofs.Sealed.{IsEven, header_failed, header_done}

@@ -1,7 +1,7 @@
 use Rattle.std.proofs.Common.{subst}
 use Rattle.ygg_base.specs.declared.outside.Moved.{Moved}
 use Rattle.ygg_base.specs.declared.outside.Moved.TheVariants.{Done, Failed}
-use Rattle.ygg_run_image.specs.ygg_base_device.Devices.{AttachedTurns, Flushes, Tells}
+use Rattle.ygg_run_image.specs.ygg_base.Devices.{AttachedTurns, Flushes, Tells}
 use Rattle.ygg_run_image.specs.Sealing.{IsFresh, HeaderTurns, SealTurns}
 use Rattle.ygg_run_image.proofs.Turns.{turns, turns_twice}
 use Rattle.ygg_run_image.proofs.Sealed.{flush_failed, then_header}

@@ -1,7 +1,7 @@
 use Rattle.std.proofs.Common.{◌≡◌, ◌≤◌, List, Option, Some, Ok, arith, subst, sym}
 use Rattle.ygg_base.specs.Outside.{Rose}
 use Rattle.ygg_base.specs.declared.geometry.Geometry.{Geometry}
-use Rattle.ygg_run_image.specs.ygg_base_device.Devices.{Attachment, Tells}
+use Rattle.ygg_run_image.specs.ygg_base.Devices.{Attachment, Tells}
 use Rattle.ygg_run_commands.specs.ygg_type.Typed.{geometry_of}
 use Rattle.ygg_run_commands.specs.ygg_script.declared.command.Command.{Command}
 use Rattle.ygg_run_image.specs.Sight.{Holds}

@@ -7,9 +7,9 @@ use Rattle.ygg_cnf.specs.declared.lit.Lit.{Lit}
 use Rattle.ygg_solver.proofs.LearnLemmas.{seen_entry, fits_clause}
 use Rattle.ygg_solver.proofs.TeachLemmas.{conflict_from, numbered_all, teaches_at, append-nil, asserting}
 use Rattle.ygg_solver.proofs.analysis.analyze.Goals.{in-Some, in-None}
-use Rattle.ygg_watch_plain.proofs.TrailLemmas.{one_entry}
-use Rattle.ygg_watch_plain.specs.Trail.{assigned_before}
-use Rattle.ygg_watch_plain.specs.declared.entry.Entry.{Entry}
+use Rattle.ygg_watch.proofs.TrailLemmas.{one_entry}
+use Rattle.ygg_watch.specs.Trail.{assigned_before}
+use Rattle.ygg_watch.specs.declared.entry.Entry.{Entry}
 use Rattle.ygg_solver.proofs.analysis.analyze.Goals as goal
 
 pub begin-requires-clause-named : goal.begin-requires-clause-named

@@ -1,6 +1,6 @@
 use Rattle.std.proofs.Common.{Contains}
 use Rattle.ygg_cnf_set.specs.LiteralSet.{InSet}
-use Rattle.ygg_watch_plain.specs.Trail.{IsFalseBefore}
+use Rattle.ygg_watch.specs.Trail.{IsFalseBefore}
 use Rattle.ygg_solver.proofs.analysis.collect.Given as goal
 
 abbrev pub invariant-loop-at : goal.invariant-loop-at

@@ -1,7 +1,7 @@
 use Rattle.std.proofs.Common.{sym, subst, ℕ, List, [], ◌∙◌}
 use Rattle.ygg_cnf.specs.Derivations.{HasClause, DerivesClause}
 use Rattle.ygg_solver.proofs.TeachLemmas.{append-nil}
-use Rattle.ygg_watch_plain.proofs.TrailLemmas.{contains_none}
+use Rattle.ygg_watch.proofs.TrailLemmas.{contains_none}
 use Rattle.ygg_solver.proofs.analysis.refute.Goals as goal
 
 pub begin-requires-clause-named : goal.begin-requires-clause-named

@@ -1,7 +1,7 @@
 use Rattle.std.proofs.Common.{◌≤◌, length}
 use Rattle.ygg_cnf_set.specs.LiteralSet.{InSet}
 use Rattle.ygg_solver.specs.Learning.{ChainReaches}
-use Rattle.ygg_watch_plain.specs.Trail.{IsFalseBefore}
+use Rattle.ygg_watch.specs.Trail.{IsFalseBefore}
 use Rattle.ygg_solver.proofs.analysis.resolve_rest.Given as goal
 
 abbrev pub invariant-loop-at : goal.invariant-loop-at

@@ -1,7 +1,7 @@
 use Rattle.std.proofs.Common.{◌≡◌, ◌∙◌, sym, inl, inr, arith, get_or}
 use Rattle.std.proofs.lemmas.Option.{get_or_from_slice_get, slice_get-get_or}
-use Rattle.ygg_watch_plain.specs.declared.entry.Entry.{Entry}
-use Rattle.ygg_watch_plain.specs.Trail.{IsAt}
+use Rattle.ygg_watch.specs.declared.entry.Entry.{Entry}
+use Rattle.ygg_watch.specs.Trail.{IsAt}
 use Rattle.ygg_solver.proofs.NameLemmas.{not_false, not_true, values_kept, values_set}
 use Rattle.ygg_solver.proofs.names.assignment_of.Goals as goal
 use Rattle.ygg_solver.proofs.names.assignment_of.Goals.{

@@ -1,7 +1,7 @@
 use Rattle.std.proofs.Common.{◌≡◌, ◌<◌, ◌≤◌, ◌∙◌, arith, subst, sym, ap, refl, not}
 use Rattle.ygg_cnf.specs.declared.lit.Lit.{Lit}
-use Rattle.ygg_watch_plain.proofs.PropagationLemmas.{variable_count_spreads, clauses_spreads}
-use Rattle.ygg_watch_plain.specs.Propagation.{Propagation, decided}
+use Rattle.ygg_watch.proofs.PropagationLemmas.{variable_count_spreads, clauses_spreads}
+use Rattle.ygg_watch.specs.Propagation.{Propagation, decided}
 use Rattle.ygg_solver.proofs.LeftLemmas.{left, left_decided, left_spreads}
 use Rattle.ygg_solver.proofs.ReadyLemmas.{ready_spreads, ready_decided}
 use Rattle.ygg_solver.specs.Kept.{IsReady}

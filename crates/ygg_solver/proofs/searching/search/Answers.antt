@@ -7,13 +7,13 @@ use Rattle.ygg_cnf.specs.declared.lit.Lit.{Lit}
 use Rattle.ygg_cnf.specs.declared.log.Step.{Step}
 use Rattle.ygg_cnf.specs.declared.log.Step.TheVariants.{Added}
 use Rattle.ygg_solver.specs.Learning.{IsLastDecision, IsJump}
-use Rattle.ygg_watch_plain.specs.Propagation.{IsWithin, Propagation, with_clause, back_to}
+use Rattle.ygg_watch.specs.Propagation.{IsWithin, Propagation, with_clause, back_to}
 use Rattle.ygg_cnf.proofs.LogLemmas.{map_push, all_back, derives_push, teaches_push, derives_as, ends_empty, learned_more}
 use Rattle.ygg_solver.proofs.ModelLemmas.{satisfies_front, assigned_test}
 use Rattle.ygg_solver.proofs.ReadyLemmas.{conflict_in, quiet_at, false_within, fits_within, ready_jump, jump_low, jump_or, decision_within}
 use Rattle.ygg_solver.specs.Kept.{IsReady}
-use Rattle.ygg_watch_plain.specs.Trail.{IsAt}
-use Rattle.ygg_watch_plain.specs.declared.entry.Entry.{Entry}
+use Rattle.ygg_watch.specs.Trail.{IsAt}
+use Rattle.ygg_watch.specs.declared.entry.Entry.{Entry}
 use Rattle.ygg_solver.proofs.searching.search.Goals as goal
 
 pub refute-requires-clause-falses : goal.refute-requires-clause-falses

@@ -1,5 +1,5 @@
 use Rattle.std.proofs.Common.{◌≤◌, ℕ, length, IsSome}
-use Rattle.ygg_watch_plain.specs.Trail.{IsAt}
+use Rattle.ygg_watch.specs.Trail.{IsAt}
 use Rattle.ygg_solver.proofs.seen_places.last_decision.Given as goal
 
 abbrev pub invariant-loop-at : goal.invariant-loop-at

@@ -4,8 +4,8 @@ use Rattle.ygg_cnf.specs.declared.log.Step.{Step}
 use Rattle.ygg_cnf.specs.Literals.{SatisfiesAll, truth_of}
 use Rattle.ygg_cnf.specs.Logs.{clause_of, Refutes, SpentLog}
 use Rattle.ygg_chain.specs.Places.{clauses_at}
-use Rattle.ygg_watch_plain.specs.Propagation.{IsWithin}
-use Rattle.ygg_watch_plain.specs.declared.entry.Entry.{Entry}
+use Rattle.ygg_watch.specs.Propagation.{IsWithin}
+use Rattle.ygg_watch.specs.declared.entry.Entry.{Entry}
 use Rattle.ygg_solver.specs.Kept.{trail_value}
 use Rattle.ygg_solver.specs.Names.{step_at, log_at}
 use Rattle.ygg_solver.proofs.NameLemmas.{satisfied_named, refutes_named, spent_named}

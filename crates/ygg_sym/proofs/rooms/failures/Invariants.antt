@@ -1,6 +1,6 @@
 use Rattle.std.proofs.Common.{◌≡◌, ◌+◌, drop, map}
 use Rattle.ygg_sym_spec.specs.ygg_meaning_laws.Direct.{total}
-use Rattle.ygg_sym_stops.specs.ygg_sym_runs.SpecCuts.{fall_places, fall_room}
+use Rattle.ygg_sym_machine.specs.ygg_sym_runs.SpecCuts.{fall_places, fall_room}
 use Rattle.ygg_sym.specs.Layers.{closed}
 use Rattle.ygg_sym.proofs.rooms.failures.Given as goal
 

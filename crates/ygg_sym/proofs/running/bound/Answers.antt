@@ -1,6 +1,6 @@
 use Rattle.std.proofs.Common.{◌++◌, length, sym, ap, ◌∙◌}
-use Rattle.ygg_sym_spec.specs.ygg_sym_expr.Names.{sym_bind}
-use Rattle.ygg_sym_spec.specs.ygg_sym_expr.Seen.{env_of}
+use Rattle.ygg_sym_spec.specs.ygg_sym_runs.Names.{sym_bind}
+use Rattle.ygg_sym_spec.specs.ygg_sym_runs.Seen.{env_of}
 use Rattle.ygg_sym.proofs.WholeRun.{all_names}
 use Rattle.ygg_sym.proofs.running.bound.Goals as goal
 

@@ -1,9 +1,9 @@
 use Rattle.std.proofs.Common.{◌++◌, length, refl, sym, ap, subst, ◌∙◌}
 use Rattle.std.specs.Prelude.{min}
-use Rattle.ygg_sym_spec.specs.ygg_sym_expr.Names.{sym_bind}
+use Rattle.ygg_sym_spec.specs.ygg_sym_runs.Names.{sym_bind}
 use Rattle.ygg_sym_spec.proofs.of_ygg_sym_runs.Singles.{single_less}
 use Rattle.ygg_sym.proofs.WholeRun.{lows_count}
-use Rattle.ygg_sym_disk.specs.Means.{disk_meaning}
+use Rattle.ygg_sym_machine.specs.Means.{disk_meaning}
 use Rattle.ygg_sym.specs.DiskFailing.{disk_power}
 use Rattle.ygg_sym.proofs.Placed.{disk_lower, disk_same, disk_stands, disk_space, disk_stops_same}
 use Rattle.ygg_sym.proofs.Ran.{can_whole, cut_nodes, cut_end, least}

@@ -1,6 +1,6 @@
 use Rattle.std.proofs.Common.{◌++◌, length, refl, sym, ap, subst, ◌∙◌}
 use Rattle.std.specs.Prelude.{min}
-use Rattle.ygg_sym_spec.specs.ygg_sym_expr.Names.{sym_bind}
+use Rattle.ygg_sym_spec.specs.ygg_sym_runs.Names.{sym_bind}
 use Rattle.ygg_sym_spec.proofs.of_ygg_sym_runs.Singles.{single_less}
 use Rattle.ygg_sym.proofs.WholeRun.{lows_count}
 use Rattle.ygg_sym.specs.Machine.{spec_meaning}

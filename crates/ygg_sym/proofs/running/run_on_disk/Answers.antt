@@ -1,7 +1,7 @@
 use Rattle.std.proofs.Common.{◌++◌, length, refl, sym, ap, subst, ◌∙◌}
-use Rattle.ygg_sym_spec.specs.ygg_sym_expr.Names.{sym_bind}
+use Rattle.ygg_sym_spec.specs.ygg_sym_runs.Names.{sym_bind}
 use Rattle.ygg_sym.proofs.WholeRun.{lows_count}
-use Rattle.ygg_sym_disk.specs.Means.{disk_meaning}
+use Rattle.ygg_sym_machine.specs.Means.{disk_meaning}
 use Rattle.ygg_sym.proofs.Placed.{disk_lower, disk_same, disk_stands}
 use Rattle.ygg_sym.proofs.Ran.{can_whole, run_nodes, run_end}
 use Rattle.ygg_sym.specs.Running.{EndIs, run_of}

@@ -1,5 +1,5 @@
 use Rattle.std.proofs.Common.{◌++◌, length, refl, sym, ap, subst, ◌∙◌}
-use Rattle.ygg_sym_spec.specs.ygg_sym_expr.Names.{sym_bind}
+use Rattle.ygg_sym_spec.specs.ygg_sym_runs.Names.{sym_bind}
 use Rattle.ygg_sym.proofs.WholeRun.{lows_count}
 use Rattle.ygg_sym.specs.Machine.{spec_meaning}
 use Rattle.ygg_sym.proofs.Placed.{spec_lower, spec_same, spec_stands}

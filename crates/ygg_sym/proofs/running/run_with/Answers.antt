@@ -1,7 +1,7 @@
 use Rattle.std.proofs.Common.{sym, ap, subst, ◌∙◌}
-use Rattle.ygg_sym_spec.specs.ygg_sym_expr.Names.{sym_bind}
-use Rattle.ygg_sym_spec.specs.ygg_sym_expr.Seen.{env_of}
-use Rattle.ygg_sym_stops.specs.ygg_sym_runs.Means.{values_in}
+use Rattle.ygg_sym_spec.specs.ygg_sym_runs.Names.{sym_bind}
+use Rattle.ygg_sym_spec.specs.ygg_sym_runs.Seen.{env_of}
+use Rattle.ygg_sym_machine.specs.ygg_sym_runs.Means.{values_in}
 use Rattle.ygg_sym_spec.specs.ygg_sym_runs.WholeReady.{CanWhole}
 use Rattle.ygg_sym.proofs.Ran.{bound_many}
 use Rattle.ygg_sym.proofs.running.run_with.Goals as goal

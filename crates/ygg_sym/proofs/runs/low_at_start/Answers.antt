@@ -2,7 +2,7 @@ use Rattle.std.proofs.Common.{◌≡◌, List, OnOk, IfOk, subst, sym}
 use Rattle.ygg_sym_spec.specs.ygg_bank.Makes.{Out}
 use Rattle.ygg_syntax.specs.declared.tree.Declared.{Declared}
 use Rattle.ygg_sym_spec.specs.ygg_shape_cells.declared.terms.SymValue.{SymValue}
-use Rattle.ygg_sym_stops.specs.ygg_sym_runs.Lows.{LowShaped}
+use Rattle.ygg_sym_machine.specs.ygg_sym_runs.Lows.{LowShaped}
 use Rattle.ygg_sym.specs.Sites.{BelowFits}
 use Rattle.ygg_sym_spec.specs.declared.below.SymBelow.TheVariants.{Layer}
 use Rattle.ygg_sym.proofs.Losing.{disk_begun, lows_are, spec_begun}

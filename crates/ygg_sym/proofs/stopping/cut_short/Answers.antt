@@ -1,9 +1,9 @@
 use Rattle.std.proofs.Common.{refl, subst, sym}
-use Rattle.ygg_sym_stops.specs.ygg_sym_expr.Seen.{env_of}
-use Rattle.ygg_sym_stops.specs.ygg_sym_runs.Lower.{Stands}
-use Rattle.ygg_sym_stops.specs.ygg_sym_runs.Ready.{CanRun, Ended, order_run}
-use Rattle.ygg_sym_stops.specs.Halting.{halted_of, halting_meaning}
-use Rattle.ygg_sym_stops.specs.HaltingKeeps.{halting_keeps}
+use Rattle.ygg_sym_machine.specs.ygg_sym_runs.Seen.{env_of}
+use Rattle.ygg_sym_machine.specs.ygg_sym_runs.Lower.{Stands}
+use Rattle.ygg_sym_machine.specs.ygg_sym_runs.Ready.{CanRun, Ended, order_run}
+use Rattle.ygg_sym_machine.specs.Halting.{halted_of, halting_meaning}
+use Rattle.ygg_sym_machine.specs.HaltingKeeps.{halting_keeps}
 use Rattle.ygg_sym.proofs.Cutting.{cut_if, cut_runs, cut_stands, never_single}
 use Rattle.ygg_sym.proofs.stopping.cut_short.Goals as goal
 

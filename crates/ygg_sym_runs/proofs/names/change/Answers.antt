@@ -1,9 +1,9 @@
 use Rattle.std.proofs.Common.{Some, None, get_or, ap, sym, refl, ◌∙◌, subst}
 use Rattle.std.specs.Prelude.{slice_set}
-use Rattle.ygg_sym_expr.specs.ygg_bank.Makes.{Out}
-use Rattle.ygg_sym_expr.specs.ygg_shape_cells.declared.terms.SymValue.{SymValue}
-use Rattle.ygg_sym_expr.specs.Names.{SymEnv}
-use Rattle.ygg_sym_expr.specs.Seen.{env_of}
+use Rattle.ygg_sym_runs.specs.ygg_bank.Makes.{Out}
+use Rattle.ygg_sym_runs.specs.ygg_shape_cells.declared.terms.SymValue.{SymValue}
+use Rattle.ygg_sym_runs.specs.Names.{SymEnv}
+use Rattle.ygg_sym_runs.specs.Seen.{env_of}
 use Rattle.ygg_sym_runs.specs.Putting.{put_made}
 use Rattle.ygg_sym_runs.specs.Ready.{CanPut}
 use Rattle.ygg_sym_runs.proofs.Changed.{place_found, value_first, names_first}

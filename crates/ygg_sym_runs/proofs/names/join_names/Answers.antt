@@ -1,12 +1,12 @@
 use Rattle.std.proofs.Common.{◌≡◌, ◌<◌, ◌+◌, ◌++◌, ◌∷◌, [], length, get_or, ap, sym, ◌∙◌, subst, arith}
 use Rattle.std.proofs.lemmas.List.{get_or-map, length-map, map-append}
 use Rattle.ygg_meaning_laws.specs.ygg_meaning.Environments.{Name}
-use Rattle.ygg_sym_expr.specs.ygg_bank_proofs_Widths.{wider, extends_both}
-use Rattle.ygg_sym_expr.proofs.of_ygg_shape.Steps.{EachTwo, each_two_goes}
-use Rattle.ygg_sym_expr.specs.ygg_shape_cells.declared.terms.SymValue.{SymValue}
-use Rattle.ygg_sym_expr.specs.Names.{SymEnv}
-use Rattle.ygg_sym_expr.specs.Seen.{env_of}
-use Rattle.ygg_sym_expr.specs.declared.held.SymBinding.{SymBinding}
+use Rattle.ygg_sym_runs.specs.ygg_bank_proofs_Widths.{wider, extends_both}
+use Rattle.ygg_sym_runs.proofs.of_ygg_shape.Steps.{EachTwo, each_two_goes}
+use Rattle.ygg_sym_runs.specs.ygg_shape_cells.declared.terms.SymValue.{SymValue}
+use Rattle.ygg_sym_runs.specs.Names.{SymEnv}
+use Rattle.ygg_sym_runs.specs.Seen.{env_of}
+use Rattle.ygg_sym_runs.specs.declared.held.SymBinding.{SymBinding}
 use Rattle.ygg_sym_runs.specs.Ready.{joined_name}
 use Rattle.ygg_sym_runs.proofs.Joined.{alike_at}
 use Rattle.ygg_sym_runs.proofs.names.join_names.Goals as goal

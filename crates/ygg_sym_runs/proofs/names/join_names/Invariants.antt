@@ -1,6 +1,6 @@
-use Rattle.ygg_sym_expr.specs.ygg_bank.Nodes.{Extends, IsBank}
-use Rattle.ygg_sym_expr.proofs.of_ygg_shape.Steps.{EachTwo}
-use Rattle.ygg_sym_expr.specs.Seen.{env_of}
+use Rattle.ygg_sym_runs.specs.ygg_bank.Nodes.{Extends, IsBank}
+use Rattle.ygg_sym_runs.proofs.of_ygg_shape.Steps.{EachTwo}
+use Rattle.ygg_sym_runs.specs.Seen.{env_of}
 use Rattle.ygg_sym_runs.specs.Ready.{joined_name}
 use Rattle.ygg_sym_runs.proofs.names.join_names.Given as goal
 

@@ -1,5 +1,5 @@
 use Rattle.std.proofs.Common.{◌≡◌, drop}
-use Rattle.ygg_sym_expr.specs.Seen.{env_of}
+use Rattle.ygg_sym_runs.specs.Seen.{env_of}
 use Rattle.ygg_sym_runs.specs.Ready.{first_place}
 use Rattle.ygg_sym_runs.proofs.names.place_in.Given as goal
 

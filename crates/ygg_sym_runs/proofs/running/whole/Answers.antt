@@ -1,8 +1,8 @@
 use Rattle.std.proofs.Common.{List, ap, sym, subst, ◌∙◌}
 use Rattle.std.specs.Option.{ForSome}
 use Rattle.ygg_sym_runs.specs.Wholes.{sym_returned}
-use Rattle.ygg_sym_runs.specs.ygg_sym_expr.Seen.{CanTerm, env_of}
-use Rattle.ygg_sym_runs.specs.ygg_sym_expr.declared.held.SymBinding.{SymBinding}
+use Rattle.ygg_sym_runs.specs.Seen.{CanTerm, env_of}
+use Rattle.ygg_sym_runs.specs.declared.held.SymBinding.{SymBinding}
 use Rattle.ygg_sym_runs.specs.Ready.{known_with, terms_of}
 use Rattle.ygg_sym_runs.proofs.Ending.{first_names, whole_returns, whole_ends}
 use Rattle.ygg_sym_runs.proofs.running.whole.Goals as goal

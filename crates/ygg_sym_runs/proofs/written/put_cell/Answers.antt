@@ -1,5 +1,5 @@
 use Rattle.std.proofs.Common.{arith}
-use Rattle.ygg_sym_expr.specs.ygg_bank_proofs_Widths.{extends_both, extends_length}
+use Rattle.ygg_sym_runs.specs.ygg_bank_proofs_Widths.{extends_both, extends_length}
 use Rattle.ygg_sym_runs.proofs.Putted.{cell_row, cell_store, cell_places}
 use Rattle.ygg_sym_runs.proofs.written.put_cell.Goals as goal
 

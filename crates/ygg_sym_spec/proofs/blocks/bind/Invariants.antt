@@ -1,6 +1,6 @@
 use Rattle.std.proofs.Common.{◌≡◌, ◌++◌, drop}
-use Rattle.ygg_sym_runs.specs.ygg_sym_expr.Names.{sym_bind}
-use Rattle.ygg_sym_runs.specs.ygg_sym_expr.Seen.{env_of}
+use Rattle.ygg_sym_runs.specs.Names.{sym_bind}
+use Rattle.ygg_sym_runs.specs.Seen.{env_of}
 use Rattle.ygg_sym_spec.proofs.blocks.bind.Given as goal
 
 -- the names so far, and the rest

@@ -1,6 +1,6 @@
 use Rattle.std.proofs.Common.{length, sym, ap, ◌∙◌}
-use Rattle.ygg_sym_runs.specs.ygg_sym_expr.Names.{sym_bind}
-use Rattle.ygg_sym_runs.specs.ygg_sym_expr.Seen.{env_of}
+use Rattle.ygg_sym_runs.specs.Names.{sym_bind}
+use Rattle.ygg_sym_runs.specs.Seen.{env_of}
 use Rattle.ygg_sym_spec.proofs.WholeRun.{all_names, block_form, block_left, bound_count, can_whole, first_names, lows_count}
 use Rattle.ygg_sym_spec.proofs.blocks.block.Goals as goal
 

@@ -1,6 +1,6 @@
 use Rattle.std.proofs.Common.{◌≡◌, ◌++◌, drop}
 use Rattle.ygg_sym_runs.specs.Means.{values_in}
-use Rattle.ygg_sym_runs.specs.ygg_sym_expr.Seen.{env_of}
+use Rattle.ygg_sym_runs.specs.Seen.{env_of}
 use Rattle.ygg_sym_spec.proofs.blocks.values_of.Given as goal
 
 -- the values so far, and the rest

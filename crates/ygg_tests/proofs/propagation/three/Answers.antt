@@ -1,7 +1,7 @@
 use Rattle.std.proofs.Common.{ℕ, ◌<◌, List, [], ◌∷◌, ◌++◌, All, subst}
 use Rattle.std.proofs.lemmas.List.Elements.{All-head, All-tail}
 use Rattle.ygg_cnf.specs.declared.lit.Lit.{Lit}
-use Rattle.ygg_watch_plain.specs.Propagation.{IsWithin}
+use Rattle.ygg_watch.specs.Propagation.{IsWithin}
 use Rattle.ygg_tests.proofs.propagation.three.Goals as goal
 
 -- the second literal of a clause that is within

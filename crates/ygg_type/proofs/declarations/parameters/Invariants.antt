@@ -1,7 +1,7 @@
 use Rattle.std.proofs.Common.{◌≡◌, drop}
-use Rattle.ygg_type_body.specs.ygg_type_rules.TypeErrors.{first_after}
-use Rattle.ygg_type_body.specs.ygg_type_rules.Definitions.{parameters_errors, with_parameters}
-use Rattle.ygg_type_body.specs.Checking.{scope_of}
+use Rattle.ygg_type.specs.ygg_type_rules.TypeErrors.{first_after}
+use Rattle.ygg_type.specs.ygg_type_rules.Definitions.{parameters_errors, with_parameters}
+use Rattle.ygg_type.specs.Checking.{scope_of}
 use Rattle.ygg_type.proofs.declarations.parameters.Given as goal
 
 -- what is left decides

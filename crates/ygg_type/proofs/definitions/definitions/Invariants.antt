@@ -1,7 +1,7 @@
 use Rattle.std.proofs.Common.{◌≡◌, ◌++◌, drop}
-use Rattle.ygg_type_body.specs.ygg_type_rules.TypeErrors.{first_after}
-use Rattle.ygg_type_body.specs.ygg_type_rules.Definitions.{definitions_errors, definition_scope, with_definitions}
-use Rattle.ygg_type_body.specs.Checking.{scope_of}
+use Rattle.ygg_type.specs.ygg_type_rules.TypeErrors.{first_after}
+use Rattle.ygg_type.specs.ygg_type_rules.Definitions.{definitions_errors, definition_scope, with_definitions}
+use Rattle.ygg_type.specs.Checking.{scope_of}
 use Rattle.ygg_type.proofs.definitions.definitions.Given as goal
 
 -- what is left decides

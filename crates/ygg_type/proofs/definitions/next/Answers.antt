@@ -1,4 +1,4 @@
-use Rattle.ygg_type_body.specs.Checking.{scope_of}
+use Rattle.ygg_type.specs.Checking.{scope_of}
 use Rattle.ygg_type.proofs.Parameters.{after_definition}
 use Rattle.ygg_type.proofs.definitions.next.Goals as goal
 

@@ -1,8 +1,8 @@
 use Rattle.std.proofs.Common.{◌≡◌, drop}
-use Rattle.ygg_type_body.specs.ygg_syntax_count.Weights.{weights_of}
-use Rattle.ygg_type_body.specs.ygg_type_rules.TypeErrors.{first_after}
-use Rattle.ygg_type_body.specs.ygg_type_rules.Layers.{formulas_errors}
-use Rattle.ygg_type_body.specs.Checking.{scope_of}
+use Rattle.ygg_type.specs.ygg_syntax.Weights.{weights_of}
+use Rattle.ygg_type.specs.ygg_type_rules.TypeErrors.{first_after}
+use Rattle.ygg_type.specs.ygg_type_rules.Layers.{formulas_errors}
+use Rattle.ygg_type.specs.Checking.{scope_of}
 use Rattle.ygg_type.proofs.layers.formulas.Given as goal
 
 -- what is left decides

@@ -1,6 +1,6 @@
 use Rattle.std.proofs.Common.{◌∙◌}
-use Rattle.ygg_type_body.specs.Checking.{scope_of}
-use Rattle.ygg_type_body.proofs.Restored.{cut_to}
+use Rattle.ygg_type.specs.Checking.{scope_of}
+use Rattle.ygg_type.proofs.Restored.{cut_to}
 use Rattle.ygg_type.proofs.Parameters.{grows_with}
 use Rattle.ygg_type.proofs.layers.operation.Goals as goal
 

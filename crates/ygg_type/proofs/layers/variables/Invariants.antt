@@ -1,7 +1,7 @@
 use Rattle.std.proofs.Common.{◌≡◌, drop}
-use Rattle.ygg_type_body.specs.ygg_type_rules.TypeErrors.{first_after}
-use Rattle.ygg_type_body.specs.ygg_type_rules.Layers.{variables_errors, with_variables}
-use Rattle.ygg_type_body.specs.Checking.{scope_of}
+use Rattle.ygg_type.specs.ygg_type_rules.TypeErrors.{first_after}
+use Rattle.ygg_type.specs.ygg_type_rules.Layers.{variables_errors, with_variables}
+use Rattle.ygg_type.specs.Checking.{scope_of}
 use Rattle.ygg_type.proofs.layers.variables.Given as goal
 
 -- what is left decides

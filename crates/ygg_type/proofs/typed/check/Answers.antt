@@ -1,5 +1,5 @@
 use Rattle.std.proofs.Common.{◌∙◌, sym, refl}
-use Rattle.ygg_type_body.specs.ygg_type_rules.Files.{type_errors_of}
+use Rattle.ygg_type.specs.ygg_type_rules.Files.{type_errors_of}
 use Rattle.ygg_type.proofs.Least.{is_least, is_none, is_clear}
 use Rattle.ygg_type.proofs.Few.{few_places}
 use Rattle.ygg_type.proofs.typed.check.Goals as goal

@@ -1,11 +1,11 @@
 use Rattle.std.proofs.Common.{◌≡◌, ◌<◌, ◌*◌, ◌+◌, ◌++◌, ◌∷◌, List, [], length, sym, subst, ◌∙◌, arith, Some, refl, Contains}
 use Rattle.std.proofs.lemmas.Option.{same_Some}
 use Rattle.ygg_cnf.specs.declared.lit.Lit.{Lit}
-use Rattle.ygg_watch_plain.proofs.StatusLemmas.{spreads_none, step_spreads, state_same, not_false}
-use Rattle.ygg_watch_plain.specs.Status.{state_of}
-use Rattle.ygg_watch_plain.specs.Propagation.{IsFalse}
-use Rattle.ygg_watch_plain.proofs.AssignmentLemmas.{at_last}
-use Rattle.ygg_watch_plain.specs.declared.entry.Entry.{Entry}
+use Rattle.ygg_watch.proofs.StatusLemmas.{spreads_none, step_spreads, state_same, not_false}
+use Rattle.ygg_watch.specs.Status.{state_of}
+use Rattle.ygg_watch.specs.Propagation.{IsFalse}
+use Rattle.ygg_watch.proofs.AssignmentLemmas.{at_last}
+use Rattle.ygg_watch.specs.declared.entry.Entry.{Entry}
 use Rattle.ygg_watch.proofs.WatchLemmas.{clause_within, lit_within, has_clause, live_push, framed_push, watched_satisfied, watched_loose}
 use Rattle.ygg_watch.proofs.StepLemmas.{watched_standing, attached_linked, first_lit, second_lit}
 use Rattle.ygg_watch.specs.State.{IsLive}

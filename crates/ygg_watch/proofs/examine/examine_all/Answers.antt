@@ -1,5 +1,5 @@
 use Rattle.std.proofs.Common.{◌∙◌, refl, arith}
-use Rattle.ygg_watch_plain.specs.Status.{state_of}
+use Rattle.ygg_watch.specs.Status.{state_of}
 use Rattle.ygg_watch.proofs.StepLemmas.{live_seen, spreads_on}
 use Rattle.ygg_watch.proofs.examine.examine_all.Goals as goal
 

@@ -1,7 +1,7 @@
 use Rattle.std.proofs.Common.{◌≢◌, ◌<◌, ◌*◌, ◌+◌, sym, subst, ◌∙◌, arith, inl, inr}
 use Rattle.std.proofs.lemmas.Bool.{false≢true}
 use Rattle.ygg_cnf.specs.declared.lit.Lit.{Lit}
-use Rattle.ygg_watch_plain.specs.Trail.{IsOnTrail}
+use Rattle.ygg_watch.specs.Trail.{IsOnTrail}
 use Rattle.ygg_watch.proofs.StepLemmas.{watch_within, linked_from, linked_second}
 use Rattle.ygg_watch.proofs.examine.stands.Goals.{then-is_true-via-then-is_true, then-is_true-via-else-is_true+then-is_true-2}
 use Rattle.ygg_watch.specs.Lists.{lit_of}

@@ -1,7 +1,7 @@
 use Rattle.std.proofs.Common.{◌≡◌, ◌∙◌, subst, sym, ⊎_elim}
 use Rattle.ygg_cnf_set.proofs.ListLemmas.{contains_more, contains_all}
 use Rattle.ygg_cnf.proofs.Lits.{same_from_ne}
-use Rattle.ygg_watch_plain.specs.Propagation.{IsFalse}
+use Rattle.ygg_watch.specs.Propagation.{IsFalse}
 use Rattle.ygg_watch.proofs.visit.replacement.Goals.{else-not-is_false-via-then-not-is_false+else-ne, else-not-is_false-via-else-not-is_false}
 use Rattle.ygg_watch.proofs.visit.replacement.Goals as goal
 

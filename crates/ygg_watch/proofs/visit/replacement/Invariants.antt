@@ -1,6 +1,6 @@
 use Rattle.std.proofs.Common.{◌≢◌, take, Contains}
 use Rattle.ygg_cnf.specs.declared.lit.Lit.{Lit}
-use Rattle.ygg_watch_plain.specs.Propagation.{IsFalse}
+use Rattle.ygg_watch.specs.Propagation.{IsFalse}
 use Rattle.ygg_watch.proofs.visit.replacement.Given as goal
 
 abbrev pub invariant-loop-lit : goal.invariant-loop-lit

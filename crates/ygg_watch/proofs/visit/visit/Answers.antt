@@ -2,13 +2,13 @@ use Rattle.std.proofs.Common.{◌≡◌, ◌<◌, ◌-◌, ℕ, List, [], length
 use Rattle.ygg_cnf_set.specs.LiteralSet.{code_of}
 use Rattle.ygg_cnf.specs.Literals.{complement}
 use Rattle.ygg_cnf.specs.declared.lit.Lit.{Lit}
-use Rattle.ygg_watch_plain.proofs.StatusLemmas.{spreads_none, step_spreads, state_same}
-use Rattle.ygg_watch_plain.specs.Status.{state_of}
-use Rattle.ygg_watch_plain.specs.Propagation.{Spreads}
-use Rattle.ygg_watch_plain.proofs.AssignmentLemmas.{fits_below}
-use Rattle.ygg_watch_plain.specs.Trail.{IsAt, IsOnTrail}
-use Rattle.ygg_watch_plain.specs.declared.assignments.Assignments.{Assignments}
-use Rattle.ygg_watch_plain.specs.declared.entry.Entry.{Entry}
+use Rattle.ygg_watch.proofs.StatusLemmas.{spreads_none, step_spreads, state_same}
+use Rattle.ygg_watch.specs.Status.{state_of}
+use Rattle.ygg_watch.specs.Propagation.{Spreads}
+use Rattle.ygg_watch.proofs.AssignmentLemmas.{fits_below}
+use Rattle.ygg_watch.specs.Trail.{IsAt, IsOnTrail}
+use Rattle.ygg_watch.specs.declared.assignments.Assignments.{Assignments}
+use Rattle.ygg_watch.specs.declared.entry.Entry.{Entry}
 use Rattle.ygg_watch.proofs.LinkLemmas.{next_linked, firsts_linked}
 use Rattle.ygg_watch.proofs.ListLemmas.{walk, walk_pending, sibling_within}
 use Rattle.ygg_watch.proofs.WatchLemmas.{

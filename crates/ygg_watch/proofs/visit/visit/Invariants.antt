@@ -1,10 +1,10 @@
 use Rattle.std.proofs.Common.{◌≡◌, ◌<◌, ℕ, List, length}
 use Rattle.ygg_cnf_set.specs.LiteralSet.{code_of}
 use Rattle.ygg_cnf.specs.Literals.{complement}
-use Rattle.ygg_watch_plain.specs.Status.{state_of}
-use Rattle.ygg_watch_plain.specs.Propagation.{Spreads}
-use Rattle.ygg_watch_plain.specs.Trail.{IsAt}
-use Rattle.ygg_watch_plain.specs.declared.entry.Entry.{Entry}
+use Rattle.ygg_watch.specs.Status.{state_of}
+use Rattle.ygg_watch.specs.Propagation.{Spreads}
+use Rattle.ygg_watch.specs.Trail.{IsAt}
+use Rattle.ygg_watch.specs.declared.entry.Entry.{Entry}
 use Rattle.ygg_watch.proofs.ListLemmas.{walk}
 use Rattle.ygg_watch.specs.Lists.{IsPending}
 use Rattle.ygg_watch.specs.State.{IsLive}

@@ -1,8 +1,8 @@
 use Rattle.std.proofs.Common.{◌∙◌, arith, sym, ap}
 use Rattle.ygg_cnf.proofs.Lits.{complement_twice}
 use Rattle.ygg_cnf.specs.Literals.{complement}
-use Rattle.ygg_watch_plain.specs.Status.{state_of}
-use Rattle.ygg_watch_plain.proofs.AssignmentLemmas.{filled}
+use Rattle.ygg_watch.specs.Status.{state_of}
+use Rattle.ygg_watch.proofs.AssignmentLemmas.{filled}
 use Rattle.ygg_watch.proofs.StepLemmas.{live_head, spreads_on, at_spread}
 use Rattle.ygg_watch.proofs.visit.visit_all.Goals as goal
 

@@ -1,6 +1,6 @@
 use Rattle.std.proofs.Common.{◌≡◌, ◌-◌, []}
-use Rattle.ygg_watch_plain.specs.Status.{state_of}
-use Rattle.ygg_watch_plain.specs.Propagation.{Spreads}
+use Rattle.ygg_watch.specs.Status.{state_of}
+use Rattle.ygg_watch.specs.Propagation.{Spreads}
 use Rattle.ygg_watch.specs.State.{IsLive}
 use Rattle.ygg_watch.proofs.visit.visit_all.Given as goal
 

@@ -4,7 +4,7 @@ use Rattle.std.proofs.lemmas.List.{map-append}
 use Rattle.ygg_syntax.specs.declared.tree.Expr.{Expr}
 use Rattle.ygg_value.specs.Number.{Number}
 use Rattle.ygg_value.specs.Values.{word_in}
-use Rattle.ygg_meaning_laws.specs.ygg_syntax_count.Weights.{weights_of, expr_weight}
+use Rattle.ygg_meaning_laws.specs.ygg_syntax.Weights.{weights_of, expr_weight}
 use Rattle.ygg_meaning_laws.specs.Environments.{bind}
 use Rattle.ygg_meaning_laws.specs.Meaning.{is_one}
 use Rattle.ygg_eval_expr.specs.Held.{env_of, held_value, held_values}

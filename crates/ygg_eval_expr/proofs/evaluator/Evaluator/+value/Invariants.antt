@@ -1,6 +1,6 @@
 use Rattle.std.proofs.Common.{◌≡◌, ◌≤◌, ◌+◌, ◌*◌, ◌++◌, drop, map}
 use Rattle.ygg_value.specs.Values.{word_in}
-use Rattle.ygg_meaning_laws.specs.ygg_syntax_count.Weights.{weights_of, weight_at, expr_weight, exprs_weight}
+use Rattle.ygg_meaning_laws.specs.ygg_syntax.Weights.{weights_of, weight_at, expr_weight, exprs_weight}
 use Rattle.ygg_meaning_laws.specs.Meaning.{quantified, is_one}
 use Rattle.ygg_eval_expr.specs.Held.{env_of, held_values}
 use Rattle.ygg_eval_expr.specs.Known.{known_of, value_in, with_number, is_all}

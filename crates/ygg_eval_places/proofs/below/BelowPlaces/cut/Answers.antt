@@ -2,7 +2,7 @@ use Rattle.std.proofs.Common.{◌∙◌, ◌++◌, ap, true}
 use Rattle.ygg_eval.specs.ygg_meaning.Machine.{Picks}
 use Rattle.ygg_eval.specs.ygg_meaning.Progress.{Call}
 use Rattle.ygg_eval_places.specs.ygg_sym_laws.Fronts.{cut_on, cut_takes_on}
-use Rattle.ygg_eval.specs.ygg_eval_block.Layers.{below_at}
+use Rattle.ygg_eval.specs.Layers.{below_at}
 use Rattle.ygg_eval_places.specs.Bits.{bits_in}
 use Rattle.ygg_eval_places.specs.Belows.{noted_of}
 use Rattle.ygg_eval_places.proofs.Watching.{fell_noted}

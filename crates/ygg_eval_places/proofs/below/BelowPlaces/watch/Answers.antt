@@ -1,7 +1,7 @@
 use Rattle.std.proofs.Common.{sym, ◌∙◌, refl}
 use Rattle.std.proofs.lemmas.Result.{on_ok_weaker}
 use Rattle.ygg_eval.specs.ygg_meaning.Progress.{Call}
-use Rattle.ygg_eval.specs.ygg_eval_block.Layers.{below_at}
+use Rattle.ygg_eval.specs.Layers.{below_at}
 use Rattle.ygg_eval_places.specs.Bits.{bits_in}
 use Rattle.ygg_eval_places.specs.Belows.{noted_of}
 use Rattle.ygg_eval_places.proofs.Watching.{fallen_stays, fails_before, fails_not, fails_within}

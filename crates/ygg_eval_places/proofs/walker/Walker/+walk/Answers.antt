@@ -1,10 +1,10 @@
 use Rattle.std.proofs.Common.{rules, ◌≡◌, true, false, List, length, sym, ap, ◌∙◌, subst, arith}
 use Rattle.ygg_syntax.specs.declared.tree.Expr.{Expr}
 use Rattle.ygg_meaning_laws.specs.ygg_meaning.Meaning.{is_one}
-use Rattle.ygg_eval_block.specs.ygg_eval_expr.Held.{env_of}
-use Rattle.ygg_eval_block.specs.ygg_eval_expr.declared.held.Binding.{Binding}
-use Rattle.ygg_eval_block.specs.Ready.{eval_in}
-use Rattle.ygg_eval_block.proofs.Running.{dropped_is}
+use Rattle.ygg_eval.specs.ygg_eval_expr.Held.{env_of}
+use Rattle.ygg_eval.specs.ygg_eval_expr.declared.held.Binding.{Binding}
+use Rattle.ygg_eval.specs.Ready.{eval_in}
+use Rattle.ygg_eval.proofs.Running.{dropped_is}
 use Rattle.ygg_eval_places.specs.Ready.{CanCall}
 use Rattle.ygg_eval_places.proofs.Opened.{ended_for, ended_then, ended_else}
 use Rattle.ygg_eval_places.proofs.Going.{order_goes, block_ends, turns_go}

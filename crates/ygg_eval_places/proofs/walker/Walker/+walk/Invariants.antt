@@ -1,5 +1,5 @@
 use Rattle.std.proofs.Common.{drop}
-use Rattle.ygg_eval_block.specs.ygg_eval_expr.Held.{env_of}
+use Rattle.ygg_eval.specs.ygg_eval_expr.Held.{env_of}
 use Rattle.ygg_eval_places.specs.Ready.{CanRun, CanRepeat}
 use Rattle.ygg_eval_places.proofs.Going.{Order, Turns}
 use Rattle.ygg_eval_places.proofs.walker.Walker.+walk.Given as goal

@@ -1,8 +1,8 @@
 use Rattle.std.proofs.Common.{List, ap, ◌∙◌}
 use Rattle.ygg_meaning_laws.specs.Direct.{source_got}
-use Rattle.ygg_eval_block.specs.ygg_eval_expr.Held.{env_of}
-use Rattle.ygg_eval_block.specs.ygg_eval_expr.declared.held.Binding.{Binding}
-use Rattle.ygg_eval_block.specs.Ready.{eval_in}
+use Rattle.ygg_eval.specs.ygg_eval_expr.Held.{env_of}
+use Rattle.ygg_eval.specs.ygg_eval_expr.declared.held.Binding.{Binding}
+use Rattle.ygg_eval.specs.Ready.{eval_in}
 use Rattle.ygg_eval_places.proofs.PlacesBelow.{places_evaluate}
 use Rattle.ygg_eval_places.proofs.Sides.{can_write}
 use Rattle.ygg_eval_places.proofs.walker.Walker.assigned.Goals as goal

@@ -1,7 +1,7 @@
 use Rattle.std.proofs.Common.{List, sym, subst}
 use Rattle.ygg_value.specs.declared.row.Value.{Value}
 use Rattle.ygg_meaning_laws.specs.ygg_meaning.Progress.{Call}
-use Rattle.ygg_eval_block.specs.ygg_eval_expr.Held.{env_of}
+use Rattle.ygg_eval.specs.ygg_eval_expr.Held.{env_of}
 use Rattle.ygg_eval_places.specs.Machines.{CanAnswer}
 use Rattle.ygg_eval_places.proofs.PlacesBelow.{args_evaluate}
 use Rattle.ygg_eval_places.proofs.Parts.{call_asks}

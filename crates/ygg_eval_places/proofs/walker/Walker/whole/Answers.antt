@@ -1,5 +1,5 @@
 use Rattle.std.proofs.Common.{ap, ◌∙◌}
-use Rattle.ygg_eval_block.specs.ygg_eval_expr.Held.{env_of}
+use Rattle.ygg_eval.specs.ygg_eval_expr.Held.{env_of}
 use Rattle.ygg_eval_places.proofs.Bodies.{answer_can}
 use Rattle.ygg_eval_places.proofs.walker.Walker.whole.Goals as goal
 

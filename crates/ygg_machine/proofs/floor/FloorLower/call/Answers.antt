@@ -1,6 +1,6 @@
 use Rattle.std.proofs.Common.{suc, sym, subst}
-use Rattle.ygg_eval.specs.ygg_eval_block.Layers.{signatures_at}
-use Rattle.ygg_eval.specs.ygg_eval_block.Lower.{Ending, AfterWhole, Serves, Called}
+use Rattle.ygg_eval.specs.Layers.{signatures_at}
+use Rattle.ygg_eval.specs.Lower.{Ending, AfterWhole, Serves, Called}
 use Rattle.ygg_machine.specs.Floors.{floor_meaning, place_of}
 use Rattle.ygg_machine.proofs.Serving.{runs_implementation, called_floor, called_serves}
 use Rattle.ygg_machine.proofs.floor.FloorLower.call.Goals as goal

@@ -1,5 +1,5 @@
 use Rattle.std.proofs.Common.{inl, refl}
-use Rattle.ygg_eval.specs.ygg_eval_block.declared.body.Part.TheVariants as part
+use Rattle.ygg_eval.specs.declared.body.Part.TheVariants as part
 use Rattle.ygg_machine.proofs.Fields.{format_cut_as, format_done_as, done_stands_as, done_serves_as}
 use Rattle.ygg_machine.proofs.floor.FloorTower.format.Goals as goal
 

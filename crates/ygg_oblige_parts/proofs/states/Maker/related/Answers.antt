@@ -1,8 +1,8 @@
 use Rattle.std.proofs.Common.{◌≡◌, All, OnOk, IfOk, refl, sym, ap, ◌∙◌, subst}
 use Rattle.ygg_sym_spec.specs.ygg_meaning.Related.{relations}
 use Rattle.ygg_sym_spec.specs.ygg_bank.declared.node.Id.{Id}
-use Rattle.ygg_sym_spec.specs.ygg_sym_expr.Names.{SymEnv}
-use Rattle.ygg_sym_spec.specs.ygg_sym_expr.Seen.{SymKnown, env_of}
+use Rattle.ygg_sym_spec.specs.ygg_sym_runs.Names.{SymEnv}
+use Rattle.ygg_sym_spec.specs.ygg_sym_runs.Seen.{SymKnown, env_of}
 use Rattle.ygg_sym_spec.specs.ygg_sym_runs.Lower.{SingleFrom}
 use Rattle.ygg_sym_spec.proofs.of_ygg_sym_runs.Singles.{single_stays}
 use Rattle.ygg_sym_spec.proofs.of_ygg_sym_runs.Zeros.{single_kept}

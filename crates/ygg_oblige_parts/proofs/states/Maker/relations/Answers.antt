@@ -5,7 +5,7 @@ use Rattle.ygg_sym_spec.specs.ygg_meaning.Related.{relations}
 use Rattle.ygg_sym_spec.specs.ygg_bank_proofs_Widths.{extends_both, wider}
 use Rattle.ygg_sym_spec.specs.ygg_bank.Makes.{Out}
 use Rattle.ygg_sym_spec.specs.ygg_bank.declared.node.Id.{Id}
-use Rattle.ygg_sym_spec.specs.ygg_sym_expr.Seen.{SymKnown, env_of, known_of}
+use Rattle.ygg_sym_spec.specs.ygg_sym_runs.Seen.{SymKnown, env_of, known_of}
 use Rattle.ygg_sym_spec.specs.Layers.{closed}
 use Rattle.ygg_oblige_parts.specs.Formulas.{CanTest, seen, truths_in}
 use Rattle.ygg_oblige_parts.proofs.Tested.{tests_later, truths_more}

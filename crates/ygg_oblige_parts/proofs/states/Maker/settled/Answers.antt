@@ -1,7 +1,7 @@
 use Rattle.std.proofs.Common.{◌≡◌, List, [], All, OnOk, IfOk, refl, sym, ap, ◌∙◌, subst}
 use Rattle.ygg_syntax.specs.declared.tree.Expr.{Expr}
 use Rattle.ygg_sym_spec.specs.ygg_bank.declared.node.Id.{Id}
-use Rattle.ygg_sym_spec.specs.ygg_sym_expr.Seen.{SymKnown, env_of, known_of}
+use Rattle.ygg_sym_spec.specs.ygg_sym_runs.Seen.{SymKnown, env_of, known_of}
 use Rattle.ygg_sym_spec.specs.ygg_sym_runs.Lower.{SingleFrom}
 use Rattle.ygg_sym_spec.proofs.of_ygg_sym_runs.Singles.{single_stays}
 use Rattle.ygg_sym_spec.proofs.of_ygg_sym_runs.Zeros.{single_kept}

@@ -2,7 +2,7 @@ use Rattle.std.proofs.Common.{◌∙◌, [], length, refl, sym, ap, subst}
 use Rattle.ygg_replay.specs.ygg_meaning.Obligations.{Again}
 use Rattle.ygg_replay.specs.ygg_meaning.Environments.{Env}
 use Rattle.ygg_replay.specs.ygg_meaning.Shapes.{zeros_of}
-use Rattle.ygg_oblige_schedule.specs.ygg_eval_block.Layers.{variables_at}
+use Rattle.ygg_oblige_schedule.specs.ygg_eval.Layers.{variables_at}
 use Rattle.ygg_oblige_given.specs.ygg_oblige_laws.Schedules.{schedule_from}
 use Rattle.ygg_oblige_schedule.specs.Here.{below_of, file_of, inputs_of, layer_of, numbers_of}
 use Rattle.ygg_oblige_schedule.specs.Schedules.{IsRead, PartsAre, given_here}

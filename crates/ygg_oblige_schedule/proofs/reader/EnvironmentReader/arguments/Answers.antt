@@ -1,7 +1,7 @@
 use Rattle.std.proofs.Common.{◌∙◌, sym, ap}
 use Rattle.ygg_replay.specs.ygg_meaning.Environments.{Env}
 use Rattle.ygg_replay.specs.ygg_meaning.Shapes.{env_fits}
-use Rattle.ygg_oblige_schedule.specs.ygg_eval_block_proofs_Blocks.{bind_fits}
+use Rattle.ygg_oblige_schedule.specs.ygg_eval_proofs_Blocks.{bind_fits}
 use Rattle.ygg_oblige_given.specs.Tables.{given_values}
 use Rattle.ygg_oblige_given.proofs.Bound.{bound_given}
 use Rattle.ygg_oblige_schedule.specs.Here.{inputs_of, numbers_of}

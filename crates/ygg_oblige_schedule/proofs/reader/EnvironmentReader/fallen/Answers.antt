@@ -1,7 +1,7 @@
 use Rattle.std.proofs.Common.{refl}
 use Rattle.ygg_syntax.specs.declared.tree.Block.{Block}
 use Rattle.ygg_replay.specs.ygg_meaning.Environments.{bind}
-use Rattle.ygg_oblige_schedule.specs.ygg_eval_block.Bodies.{arguments_in}
+use Rattle.ygg_oblige_schedule.specs.ygg_eval.Bodies.{arguments_in}
 use Rattle.ygg_oblige_given.specs.ygg_oblige_laws.Schedules.{stop_of, cut_from}
 use Rattle.ygg_oblige_schedule.specs.Here.{below_of, inputs_of, layer_of, numbers_of}
 use Rattle.ygg_oblige_schedule.specs.Schedules.{IsRead, OfBlock, given_here}

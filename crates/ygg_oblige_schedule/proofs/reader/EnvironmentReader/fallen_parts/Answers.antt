@@ -2,8 +2,8 @@ use Rattle.std.proofs.Common.{◌≡◌, ◌∙◌, true, List, ap}
 use Rattle.ygg_syntax.specs.declared.tree.Declared.{Declared}
 use Rattle.ygg_replay.specs.ygg_meaning.Environments.{bind}
 use Rattle.ygg_replay.specs.ygg_meaning.Shapes.{values_fit}
-use Rattle.ygg_oblige_schedule.specs.ygg_eval_block.Bodies.{variables_in}
-use Rattle.ygg_oblige_schedule.specs.ygg_eval_block.Layers.{variables_at}
+use Rattle.ygg_oblige_schedule.specs.ygg_eval.Bodies.{variables_in}
+use Rattle.ygg_oblige_schedule.specs.ygg_eval.Layers.{variables_at}
 use Rattle.ygg_oblige_schedule.specs.Here.{file_of, low_env}
 use Rattle.ygg_oblige_schedule.specs.Schedules.{given_here}
 use Rattle.ygg_oblige_schedule.proofs.Falling.{memory_of}

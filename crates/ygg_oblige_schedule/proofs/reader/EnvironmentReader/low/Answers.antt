@@ -2,7 +2,7 @@ use Rattle.std.proofs.Common.{◌∙◌, List, sym, ap}
 use Rattle.ygg_syntax.specs.declared.tree.Declared.{Declared}
 use Rattle.ygg_replay.specs.ygg_meaning.Environments.{bind}
 use Rattle.ygg_replay.specs.ygg_meaning.Shapes.{values_fit}
-use Rattle.ygg_oblige_schedule.specs.ygg_eval_block.Layers.{variables_at}
+use Rattle.ygg_oblige_schedule.specs.ygg_eval.Layers.{variables_at}
 use Rattle.ygg_oblige_given.specs.ygg_oblige_laws.Inputs.{given_env}
 use Rattle.ygg_oblige_schedule.specs.Here.{file_of, inputs_of}
 use Rattle.ygg_oblige_schedule.proofs.Stands.{fits_at}

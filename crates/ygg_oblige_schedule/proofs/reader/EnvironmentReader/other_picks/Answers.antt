@@ -1,6 +1,6 @@
 use Rattle.std.proofs.Common.{◌∙◌, ap}
 use Rattle.ygg_replay.specs.ygg_meaning.Shapes.{values_fit}
-use Rattle.ygg_oblige_schedule.specs.ygg_eval_block.Layers.{variables_at}
+use Rattle.ygg_oblige_schedule.specs.ygg_eval.Layers.{variables_at}
 use Rattle.ygg_oblige_schedule.specs.Here.{file_of, low_env, numbers_of}
 use Rattle.ygg_oblige_schedule.proofs.Means.{wake_is}
 use Rattle.ygg_eval_places.proofs.ChoiceNoting.{if_ok}

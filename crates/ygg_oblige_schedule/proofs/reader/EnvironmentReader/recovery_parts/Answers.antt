@@ -1,8 +1,8 @@
 use Rattle.std.proofs.Common.{◌∙◌, [], refl, ap}
 use Rattle.ygg_replay.specs.ygg_meaning.Shapes.{values_fit, zeros_of}
-use Rattle.ygg_oblige_schedule.specs.ygg_eval_block.Bodies.{IsBlock}
-use Rattle.ygg_oblige_schedule.specs.ygg_eval_block.Layers.{variables_at}
-use Rattle.ygg_oblige_schedule.specs.ygg_eval_block.declared.body.Part.TheVariants as part
+use Rattle.ygg_oblige_schedule.specs.ygg_eval.Bodies.{IsBlock}
+use Rattle.ygg_oblige_schedule.specs.ygg_eval.Layers.{variables_at}
+use Rattle.ygg_oblige_schedule.specs.ygg_eval.declared.body.Part.TheVariants as part
 use Rattle.ygg_oblige_schedule.specs.Here.{body_of, file_of, low_env}
 use Rattle.ygg_oblige_schedule.proofs.Means.{parts_are}
 use Rattle.ygg_eval_places.proofs.ChoiceNoting.{if_ok}

@@ -1,5 +1,5 @@
 use Rattle.std.proofs.Common.{true, refl, sym, ap, ◌∙◌, subst}
-use Rattle.ygg_eval.specs.ygg_eval_block.declared.body.Part.TheVariants as part
+use Rattle.ygg_eval.specs.declared.body.Part.TheVariants as part
 use Rattle.ygg_eval.specs.Zeros.{AreShapes, zero_values}
 use Rattle.ygg_replay.proofs.Recovering.{formats_from}
 use Rattle.ygg_replay.proofs.Serving.{below_at_start}

@@ -2,7 +2,7 @@ use Rattle.std.proofs.Common.{◌≡◌, suc, ◌-◌, ◌<◌, length, sym, ap,
 use Rattle.std.proofs.lemmas.Option.{slice_get_within}
 use Rattle.ygg_syntax.specs.declared.tree.File.{File}
 use Rattle.ygg_sched.specs.ygg_meaning.Shapes.{values_fit}
-use Rattle.ygg_eval.specs.ygg_eval_block.Layers.{variables_at}
+use Rattle.ygg_eval.specs.Layers.{variables_at}
 use Rattle.ygg_eval.proofs.OnSpec.{fits_at}
 use Rattle.ygg_replay.proofs.Asked.{if_ok}
 use Rattle.ygg_replay.proofs.Bases.{disk_fits, disk_starts, read, spec_starts}

@@ -1,5 +1,5 @@
 use Rattle.std.proofs.Common.{◌≡◌, ◌&&◌, refl, sym, ap, ◌∙◌, subst}
-use Rattle.ygg_eval.specs.ygg_eval_block.declared.body.Part.TheVariants as part
+use Rattle.ygg_eval.specs.declared.body.Part.TheVariants as part
 use Rattle.ygg_replay.specs.Ends.{same_list}
 use Rattle.ygg_eval.specs.Zeros.{AreShapes, zero_values}
 use Rattle.ygg_replay.proofs.Starting.{memory_runs}

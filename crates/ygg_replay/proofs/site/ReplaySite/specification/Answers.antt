@@ -1,6 +1,6 @@
 use Rattle.std.proofs.Common.{◌≡◌, ℕ, suc, ◌+◌, true, subst, arith}
 use Rattle.ygg_sched.specs.ygg_meaning.Shapes.{values_fit}
-use Rattle.ygg_eval.specs.ygg_eval_block.Layers.{variables_at}
+use Rattle.ygg_eval.specs.Layers.{variables_at}
 use Rattle.ygg_eval.proofs.OnSpec.{fits_at}
 use Rattle.ygg_replay.proofs.site.ReplaySite.specification.Goals as goal
 

@@ -1,5 +1,5 @@
 use Rattle.std.proofs.Common.{ℕ, refl, ap, subst}
-use Rattle.ygg_base_device.specs.Devices.{Image}
+use Rattle.ygg_base.specs.Devices.{Image}
 use Rattle.std.specs.Prelude.{◌≡◌, IfSome}
 use Rattle.ygg_value.specs.Number.{Number}
 use Rattle.ygg_value.specs.Values.{table_read}

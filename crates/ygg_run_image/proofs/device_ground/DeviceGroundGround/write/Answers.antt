@@ -1,6 +1,6 @@
 use Rattle.std.proofs.Common.{None, ℕ, refl, ap, subst}
 use Rattle.ygg_base.specs.declared.outside.Moved.TheVariants.{Done}
-use Rattle.ygg_base_device.specs.Devices.{Tells, AttachedTurns}
+use Rattle.ygg_base.specs.Devices.{Tells, AttachedTurns}
 use Rattle.ygg_value.specs.Number.{Number}
 use Rattle.ygg_disk.specs.Disk.{Write}
 use Rattle.ygg_run_image.specs.Turning.{WritesRow}

@@ -1,4 +1,4 @@
-use Rattle.ygg_run_image.specs.ygg_eval_block.Lower.{ending_of}
+use Rattle.ygg_run_image.specs.ygg_eval.Lower.{ending_of}
 use Rattle.ygg_run_image.specs.ygg_machine.Viewed.{floor_seen}
 use Rattle.ygg_run_image.proofs.Ended.{ended}
 use Rattle.ygg_run_image.proofs.formatting.FormattingErrand.run.Goals as goal

@@ -1,6 +1,6 @@
 use Rattle.std.proofs.Common.{◌≡◌, ◌+◌, ◌<◌, ap, sym, ◌∙◌, subst, arith, below_more}
 use Rattle.ygg_base.specs.declared.geometry.Geometry.{Geometry}
-use Rattle.ygg_base_device.specs.Devices.{block_at}
+use Rattle.ygg_base.specs.Devices.{block_at}
 use Rattle.ygg_run_image.specs.Image.{block_bytes, image_bytes}
 use Rattle.ygg_run_image.specs.Judged.{HoldsRows, IsRowBlock}
 use Rattle.ygg_run_image.specs.Mounting.{AreRowsJudged, IsShown}

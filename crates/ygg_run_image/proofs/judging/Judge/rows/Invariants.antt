@@ -1,5 +1,5 @@
 use Rattle.std.proofs.Common.{◌≡◌, ℕ, ◌+◌, ◌<◌, ◌≤◌}
-use Rattle.ygg_base_device.specs.Devices.{Image, block_at}
+use Rattle.ygg_base.specs.Devices.{Image, block_at}
 use Rattle.ygg_run_image.specs.Image.{block_bytes, image_bytes}
 use Rattle.ygg_run_image.specs.Judged.{IsRowBlock}
 use Rattle.ygg_run_image.specs.Mounting.{IsShown}

@@ -2,11 +2,11 @@ use Rattle.std.proofs.Common.{rules, ◌≡◌, ◌+◌, List, None, drop, lengt
 use Rattle.ygg_syntax.specs.declared.tree.Stmt.{Stmt}
 use Rattle.ygg_meaning_laws.specs.ygg_type_rules.Statements.{block_errors}
 use Rattle.ygg_meaning_laws.specs.Kinds.{keeps}
-use Rattle.ygg_sym_expr.specs.ygg_bank_proofs_Widths.{extends_self, extends_both}
-use Rattle.ygg_sym_expr.specs.Exprs.{sym_value}
-use Rattle.ygg_sym_expr.specs.Names.{SymEnv}
-use Rattle.ygg_sym_expr.specs.Seen.{CanTerm, env_of}
-use Rattle.ygg_sym_expr.specs.declared.held.SymBinding.{SymBinding}
+use Rattle.ygg_sym_runs.specs.ygg_bank_proofs_Widths.{extends_self, extends_both}
+use Rattle.ygg_sym_runs.specs.Exprs.{sym_value}
+use Rattle.ygg_sym_runs.specs.Names.{SymEnv}
+use Rattle.ygg_sym_runs.specs.Seen.{CanTerm, env_of}
+use Rattle.ygg_sym_runs.specs.declared.held.SymBinding.{SymBinding}
 use Rattle.ygg_sym_runs.specs.Ready.{known_with, terms_of, CanRun, Ended, inside_run}
 use Rattle.ygg_sym_runs.specs.Runs.{plain_scope}
 use Rattle.ygg_sym_runs.proofs.Going.{rest_is, dropped_is, block_ends, order_goes, order_ends, turns_begin, turns_go, turns_end}

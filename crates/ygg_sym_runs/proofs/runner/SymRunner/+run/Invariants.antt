@@ -1,6 +1,6 @@
 use Rattle.std.proofs.Common.{drop, ◌+◌, ◌*◌}
-use Rattle.ygg_sym_expr.specs.ygg_bank.Nodes.{Extends, IsBank}
-use Rattle.ygg_sym_expr.specs.Seen.{env_of}
+use Rattle.ygg_sym_runs.specs.ygg_bank.Nodes.{Extends, IsBank}
+use Rattle.ygg_sym_runs.specs.Seen.{env_of}
 use Rattle.ygg_sym_runs.specs.Lower.{KeepsSingle}
 use Rattle.ygg_sym_runs.specs.Ready.{CanRun, CanRepeat}
 use Rattle.ygg_sym_runs.proofs.Going.{Order, Turns}

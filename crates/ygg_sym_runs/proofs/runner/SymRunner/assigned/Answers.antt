@@ -1,13 +1,13 @@
 use Rattle.std.proofs.Common.{List, All, map, ap, sym, subst, ◌∙◌, arith}
-use Rattle.ygg_sym_expr.specs.ygg_bank_proofs_Widths.{extends_both}
-use Rattle.ygg_sym_expr.specs.ygg_bank.Makes.{Out}
-use Rattle.ygg_sym_expr.specs.ygg_bank.declared.node.Node.{Node}
+use Rattle.ygg_sym_runs.specs.ygg_bank_proofs_Widths.{extends_both}
+use Rattle.ygg_sym_runs.specs.ygg_bank.Makes.{Out}
+use Rattle.ygg_sym_runs.specs.ygg_bank.declared.node.Node.{Node}
 use Rattle.ygg_meaning_laws.specs.ygg_meaning.Environments.{Name}
-use Rattle.ygg_sym_expr.specs.ygg_shape_cells.declared.terms.SymValue.{SymValue}
-use Rattle.ygg_sym_expr.specs.Names.{sym_look_up}
-use Rattle.ygg_sym_expr.specs.Exprs.{id_in}
-use Rattle.ygg_sym_expr.specs.Seen.{CanTerm, env_of}
-use Rattle.ygg_sym_expr.specs.declared.held.SymBinding.{SymBinding}
+use Rattle.ygg_sym_runs.specs.ygg_shape_cells.declared.terms.SymValue.{SymValue}
+use Rattle.ygg_sym_runs.specs.Names.{sym_look_up}
+use Rattle.ygg_sym_runs.specs.Exprs.{id_in}
+use Rattle.ygg_sym_runs.specs.Seen.{CanTerm, env_of}
+use Rattle.ygg_sym_runs.specs.declared.held.SymBinding.{SymBinding}
 use Rattle.ygg_meaning_laws.specs.ygg_type_rules.Statements.{source_typing}
 use Rattle.ygg_meaning_laws.specs.Kinds.{source_keeps}
 use Rattle.ygg_sym_runs.specs.Putting.{put_made}

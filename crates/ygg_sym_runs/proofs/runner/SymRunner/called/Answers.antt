@@ -1,7 +1,7 @@
 use Rattle.std.proofs.Common.{List, All, ap, sym, subst, ◌∙◌}
-use Rattle.ygg_sym_expr.specs.ygg_bank_proofs_Widths.{extends_both}
-use Rattle.ygg_sym_expr.specs.Seen.{CanTerm, env_of}
-use Rattle.ygg_sym_expr.specs.declared.held.SymBinding.{SymBinding}
+use Rattle.ygg_sym_runs.specs.ygg_bank_proofs_Widths.{extends_both}
+use Rattle.ygg_sym_runs.specs.Seen.{CanTerm, env_of}
+use Rattle.ygg_sym_runs.specs.declared.held.SymBinding.{SymBinding}
 use Rattle.ygg_sym_runs.specs.Ready.{known_with, terms_of}
 use Rattle.ygg_sym_runs.specs.Runs.{sym_values}
 use Rattle.ygg_sym_runs.proofs.Parting.{call_ends}

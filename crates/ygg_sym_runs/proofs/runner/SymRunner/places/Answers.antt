@@ -1,7 +1,7 @@
 use Rattle.std.proofs.Common.{◌+◌, List, sym, subst}
-use Rattle.ygg_sym_expr.specs.ygg_bank_proofs_Widths.{extends_both}
-use Rattle.ygg_sym_expr.specs.ygg_bank.declared.node.Id.{Id}
-use Rattle.ygg_sym_expr.specs.Seen.{env_of}
+use Rattle.ygg_sym_runs.specs.ygg_bank_proofs_Widths.{extends_both}
+use Rattle.ygg_sym_runs.specs.ygg_bank.declared.node.Id.{Id}
+use Rattle.ygg_sym_runs.specs.Seen.{env_of}
 use Rattle.ygg_sym_runs.specs.Ready.{known_with, terms_of}
 use Rattle.ygg_sym_runs.specs.Runs.{plain_scope}
 use Rattle.ygg_sym_runs.proofs.Several.{PlacesSoFar, can_index, places_go}

@@ -1,5 +1,5 @@
-use Rattle.ygg_sym_expr.specs.ygg_bank.Nodes.{Extends, IsBank}
-use Rattle.ygg_sym_expr.specs.Seen.{env_of}
+use Rattle.ygg_sym_runs.specs.ygg_bank.Nodes.{Extends, IsBank}
+use Rattle.ygg_sym_runs.specs.Seen.{env_of}
 use Rattle.ygg_sym_runs.specs.Lower.{KeepsSingle}
 use Rattle.ygg_sym_runs.specs.Ready.{terms_of}
 use Rattle.ygg_sym_runs.specs.Runs.{plain_scope}

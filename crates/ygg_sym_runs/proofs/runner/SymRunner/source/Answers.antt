@@ -1,8 +1,8 @@
 use Rattle.std.proofs.Common.{List, sym, subst, ◌∙◌}
-use Rattle.ygg_sym_expr.specs.ygg_bank_proofs_Widths.{extends_both}
+use Rattle.ygg_sym_runs.specs.ygg_bank_proofs_Widths.{extends_both}
 use Rattle.ygg_syntax.specs.declared.tree.Expr.{Expr}
 use Rattle.ygg_syntax.specs.declared.tree.Source.{Source}
-use Rattle.ygg_sym_expr.specs.Seen.{env_of}
+use Rattle.ygg_sym_runs.specs.Seen.{env_of}
 use Rattle.ygg_sym_runs.specs.Ready.{CanGet, CanCall}
 use Rattle.ygg_sym_runs.proofs.Walking.{get_call, ask_call, call_terms}
 use Rattle.ygg_sym_runs.proofs.Zeros.{single_then}

@@ -1,4 +1,4 @@
-use Rattle.ygg_sym_expr.specs.Seen.{known_of, terms_in}
+use Rattle.ygg_sym_runs.specs.Seen.{known_of, terms_in}
 use Rattle.ygg_sym_runs.proofs.Several.{terms_single}
 use Rattle.ygg_sym_runs.proofs.Zeros.{single_kept}
 use Rattle.ygg_sym_runs.proofs.runner.SymRunner.value.Goals as goal

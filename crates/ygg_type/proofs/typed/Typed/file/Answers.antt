@@ -1,4 +1,4 @@
-use Rattle.ygg_type_body.specs.ygg_type_rules.Files.{type_errors_of}
+use Rattle.ygg_type.specs.ygg_type_rules.Files.{type_errors_of}
 use Rattle.ygg_type.proofs.Least.{is_empty}
 use Rattle.ygg_type.proofs.typed.Typed.file.Goals as goal
 

@@ -1,4 +1,4 @@
-use Rattle.ygg_watch_plain.proofs.StatusLemmas.{has_value}
+use Rattle.ygg_watch.proofs.StatusLemmas.{has_value}
 use Rattle.ygg_watch.proofs.watching.WatchPropagate.assigned.Goals as goal
 
 pub returns-clause-some : goal.returns-clause-some

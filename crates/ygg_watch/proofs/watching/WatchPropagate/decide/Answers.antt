@@ -1,5 +1,5 @@
 use Rattle.std.proofs.Common.{length, arith, sym, ap, subst, List, [], None, length-append}
-use Rattle.ygg_watch_plain.proofs.AssignmentLemmas.{has_place, levels_within}
+use Rattle.ygg_watch.proofs.AssignmentLemmas.{has_place, levels_within}
 use Rattle.ygg_watch.proofs.StepLemmas.{live_decided}
 use Rattle.ygg_watch.specs.State.{IsLive}
 use Rattle.ygg_watch.specs.declared.frame.Checkpoint.{Checkpoint}

@@ -1,14 +1,14 @@
 use Rattle.std.proofs.Common.{◌+◌, ◌≡◌, ◌≤◌, ℕ, length, arith, sym, ap, subst, List, [], ◌∙◌, refl}
 use Rattle.ygg_cnf.specs.declared.lit.Lit.{Lit}
-use Rattle.ygg_watch_plain.proofs.PropagationLemmas.{variable_count_spreads}
-use Rattle.ygg_watch_plain.specs.Status.{state_of}
-use Rattle.ygg_watch_plain.specs.Propagation.{Propagation, Spreads}
-use Rattle.ygg_watch_plain.specs.Trail.{IsQuietBefore}
+use Rattle.ygg_watch.proofs.PropagationLemmas.{variable_count_spreads}
+use Rattle.ygg_watch.specs.Status.{state_of}
+use Rattle.ygg_watch.specs.Propagation.{Propagation, Spreads}
+use Rattle.ygg_watch.specs.Trail.{IsQuietBefore}
 use Rattle.ygg_watch.proofs.WatchLemmas.{quiet_of}
 use Rattle.ygg_watch.proofs.StepLemmas.{closed, live_as, live_spread, spreads_on}
 use Rattle.ygg_watch.proofs.watching.WatchPropagate.spread.Goals.{in-Some, in-None}
-use Rattle.ygg_watch_plain.proofs.StatusLemmas.{quiet_exact, conflict_exact}
-use Rattle.ygg_watch_plain.specs.Propagation.{IsConflict}
+use Rattle.ygg_watch.proofs.StatusLemmas.{quiet_exact, conflict_exact}
+use Rattle.ygg_watch.specs.Propagation.{IsConflict}
 use Rattle.ygg_watch.proofs.watching.WatchPropagate.spread.Goals as goal
 
 pub invariant_of-self-in-Stuck : goal.invariant_of-self-in-Stuck

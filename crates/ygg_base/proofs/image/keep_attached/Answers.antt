@@ -1,0 +1,9 @@
+use Rattle.ygg_base.specs.declared.outside.Moved.TheVariants.{Done}
+use Rattle.ygg_base.specs.Devices.{Flushes}
+use Rattle.ygg_base.proofs.Attached.{attached_turned}
+use Rattle.ygg_base.proofs.image.keep_attached.Goals as goal
+
+pub returns-in-Some : goal.returns-in-Some
+returns-in-Some c =
+    attached_turned (Flushes Done) c.args.attached c.in-Some.p c.args.stored.now.items c.keep_at.new.stored.items c.in-Some.is c.requires.even c.requires.seen
+    c.keep_at.ensures

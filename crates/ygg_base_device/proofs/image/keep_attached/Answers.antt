@@ -1,9 +1,0 @@
-use Rattle.ygg_base.specs.declared.outside.Moved.TheVariants.{Done}
-use Rattle.ygg_base_device.specs.Devices.{Flushes}
-use Rattle.ygg_base_device.proofs.Attached.{attached_turned}
-use Rattle.ygg_base_device.proofs.image.keep_attached.Goals as goal
-
-pub returns-in-Some : goal.returns-in-Some
-returns-in-Some c =
-    attached_turned (Flushes Done) c.args.attached c.in-Some.p c.args.stored.now.items c.keep_at.new.stored.items c.in-Some.is c.requires.even c.requires.seen
-    c.keep_at.ensures

@@ -1,5 +1,0 @@
-use Rattle.ygg_base_device.specs.Ram.{NoneBefore}
-use Rattle.ygg_base_device.proofs.image.place_of.Given as goal
-
-abbrev pub invariant-loop-place : goal.invariant-loop-place
-invariant-loop-place l = NoneBefore l.stored l.name l.place

@@ -1,0 +1,10 @@
+use Rattle.std.proofs.Common.{sym, ◌∙◌}
+use Rattle.ygg_eval.proofs.Places.{place_there, place_missing}
+use Rattle.ygg_eval.proofs.below.place_of.Goals as goal
+
+pub unreachable-requires : goal.unreachable-requires
+unreachable-requires c = place_missing c.args.typed.now.file c.args.number c.args.name.now c.if-number-eq0.false
+    (sym c.operation.ensures ∙ c.in-None.is) c.requires
+
+pub returns : goal.returns
+returns c = place_there c.args.typed.now.file c.args.number c.args.name.now c.in-Some.place c.if-number-eq0.false (sym c.operation.ensures ∙ c.in-Some.is)

@@ -1,8 +1,0 @@
-use Rattle.std.proofs.Common.{◌≡◌, ◌++◌, take}
-use Rattle.ygg_eval_expr.specs.Held.{env_of}
-use Rattle.ygg_eval_block.specs.Ending.{values_in}
-use Rattle.ygg_eval_block.proofs.ending.give_back.Given as goal
-
--- those so far, and then what is left
-abbrev pub invariant-loop-binding : goal.invariant-loop-binding
-invariant-loop-binding l = l.values ++ values_in (env_of l.binding-iterator.rest.items) ≡ values_in (take l.count (env_of l.fn.names.items))

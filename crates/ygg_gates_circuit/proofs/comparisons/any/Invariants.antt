@@ -1,5 +1,0 @@
-use Rattle.ygg_gates_circuit.proofs.Steps.{Anying}
-use Rattle.ygg_gates_circuit.proofs.comparisons.any.Given as goal
-
-abbrev pub invariant-loop-at : goal.invariant-loop-at
-invariant-loop-at l = Anying l.fn.first l.bits l.fn.gates.items l.at l.so_far l.gates.items

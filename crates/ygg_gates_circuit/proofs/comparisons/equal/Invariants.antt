@@ -1,5 +1,0 @@
-use Rattle.ygg_gates_circuit.proofs.Steps.{Equalling}
-use Rattle.ygg_gates_circuit.proofs.comparisons.equal.Given as goal
-
-abbrev pub invariant-loop-at : goal.invariant-loop-at
-invariant-loop-at l = Equalling l.fn.first l.xs l.ys l.fn.gates.items l.at l.so_far l.gates.items

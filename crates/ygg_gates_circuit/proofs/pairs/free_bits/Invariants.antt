@@ -1,5 +1,0 @@
-use Rattle.ygg_gates_circuit.proofs.Steps.{Freed}
-use Rattle.ygg_gates_circuit.proofs.pairs.free_bits.Given as goal
-
-abbrev pub invariant-loop : goal.invariant-loop
-invariant-loop l = Freed l.width l.fn.gates.items l.counter l.bits l.gates.items

@@ -1,8 +1,0 @@
-use Rattle.std.proofs.Common.{◌≡◌, ◌++◌, drop}
-use Rattle.ygg_sym_expr.specs.Names.{sym_bind}
-use Rattle.ygg_sym_expr.specs.Seen.{env_of}
-use Rattle.ygg_sym_expr.proofs.held.bound.Given as goal
-
--- those so far, and then what is left
-abbrev pub invariant-loop-i : goal.invariant-loop-i
-invariant-loop-i l = env_of l.bindings.items ++ sym_bind (drop l.i l.parameters) (drop l.i l.args) ≡ sym_bind l.parameters l.args

@@ -1,0 +1,19 @@
+use Rattle.std.proofs.Common.{subst, sym}
+use Rattle.ygg_sym_runs.specs.ygg_meaning.Stack.{tables_of}
+use Rattle.ygg_sym_runs.specs.Lows.{LowShaped}
+use Rattle.ygg_sym_runs.proofs.MergedLows.{lows_alike, merged_single}
+use Rattle.ygg_sym_machine.proofs.lower.SymDiskSymLower.merge.Goals as goal
+
+pub merge_lows-requires-clause-values : goal.merge_lows-requires-clause-values
+merge_lows-requires-clause-values g c =
+    let m = c.requires.merges in
+    let y = sym c.yes.view_is in
+    let n = sym c.no.view_is in
+    let names = tables_of (c.args.self.now).disk in
+    lows_alike c.args.bank.now names c.yes.inside.values c.no.inside.values (subst (LowShaped c.args.bank.now names) y m.first_has)
+    (subst (LowShaped c.args.bank.now names) n m.second_has)
+
+pub returns-clause-single : goal.returns-clause-single
+returns-clause-single g c =
+    merged_single (g.B.Book.kinds c.args.book.now) c.args.test c.yes.inside.values c.no.inside.values c.args.bank.now c.merge_lows.new.bank
+    c.in_ok-values.ensures.nodes

@@ -1,0 +1,160 @@
+use Rattle.ygg_sym_runs.specs.Lower.{question_of}
+use Rattle.ygg_sym_machine.specs.Halting.{halted_of, no_functions}
+use Rattle.ygg_sym_machine.proofs.Leaving.{after_cut, after_inner, after_lost, can_inner, can_last, can_outer, merged_if}
+use Rattle.ygg_sym_machine.proofs.Standing.{can_lose, single_both, single_if}
+use Rattle.ygg_sym_runs.specs.ygg_bank_proofs_Widths.{extends_both}
+use Rattle.ygg_sym_runs.specs.StopTerms.{sym_left}
+use Rattle.ygg_sym_machine.specs.Stopping.{stops_on}
+use Rattle.ygg_sym_machine.proofs.Chains.{form_as, left_from, nodes_as}
+use Rattle.ygg_sym_machine.proofs.stopping.left.Goals as goal
+
+pub merge-requires : goal.merge-requires
+merge-requires g c =
+    let M = g.W.SymLower.means c.args.stops.now in
+    let K = g.W.SymStops.power c.args.stops.now in
+    let low = g.met.W.SymLower.keeps c.args.stops.now in
+    let power = g.met.W.SymStops.keeps_power c.args.stops.now in
+    let kinds = g.B.Book.kinds c.args.book.now in
+    let q = question_of c.args.question in
+    let z = halted_of c.args.to.now c.args.fallen.now c.args.stopped in
+    let one = after_cut M K low power kinds q z c.args.here c.args.within c.args.bank.now c.cut.new.bank c.in_ok-cut.cut c.requires.asks
+    c.requires.here c.requires.within
+    c.cut.ensures.bank c.cut.ensures.grows c.in_ok-cut.ensures.single c.in_ok-cut.ensures.nodes c.in_ok-cut.ensures.form in
+    record { merges = can_inner M K low power kinds q z c.args.here c.args.within c.cut.new.bank c.in_ok-cut.cut one }
+
+pub lose-requires : goal.lose-requires
+lose-requires g c =
+    let M = g.W.SymLower.means c.args.stops.now in
+    let K = g.W.SymStops.power c.args.stops.now in
+    let low = g.met.W.SymLower.keeps c.args.stops.now in
+    let power = g.met.W.SymStops.keeps_power c.args.stops.now in
+    let kinds = g.B.Book.kinds c.args.book.now in
+    let q = question_of c.args.question in
+    let z = halted_of c.args.to.now c.args.fallen.now c.args.stopped in
+    let one = after_cut M K low power kinds q z c.args.here c.args.within c.args.bank.now c.cut.new.bank c.in_ok-cut.cut c.requires.asks
+    c.requires.here c.requires.within
+    c.cut.ensures.bank c.cut.ensures.grows c.in_ok-cut.ensures.single c.in_ok-cut.ensures.nodes c.in_ok-cut.ensures.form in
+    let two = after_inner M K low power kinds q z c.args.here c.args.within c.cut.new.bank c.merge.new.bank c.in_ok-cut.cut c.in_ok-inner.inner one
+    c.merge.ensures.bank c.merge.ensures.grows c.in_ok-inner.ensures.single c.in_ok-inner.ensures.nodes c.in_ok-inner.ensures.form in
+    record { loses = can_lose M K c.merge.new.bank q z two.ask }
+
+pub merge-requires-2 : goal.merge-requires-2
+merge-requires-2 g c =
+    let M = g.W.SymLower.means c.args.stops.now in
+    let K = g.W.SymStops.power c.args.stops.now in
+    let low = g.met.W.SymLower.keeps c.args.stops.now in
+    let power = g.met.W.SymStops.keeps_power c.args.stops.now in
+    let kinds = g.B.Book.kinds c.args.book.now in
+    let q = question_of c.args.question in
+    let z = halted_of c.args.to.now c.args.fallen.now c.args.stopped in
+    let one = after_cut M K low power kinds q z c.args.here c.args.within c.args.bank.now c.cut.new.bank c.in_ok-cut.cut c.requires.asks
+    c.requires.here c.requires.within
+    c.cut.ensures.bank c.cut.ensures.grows c.in_ok-cut.ensures.single c.in_ok-cut.ensures.nodes c.in_ok-cut.ensures.form in
+    let two = after_inner M K low power kinds q z c.args.here c.args.within c.cut.new.bank c.merge.new.bank c.in_ok-cut.cut c.in_ok-inner.inner one
+    c.merge.ensures.bank c.merge.ensures.grows c.in_ok-inner.ensures.single c.in_ok-inner.ensures.nodes c.in_ok-inner.ensures.form in
+    let three = after_lost M K low power kinds q z c.args.here c.args.within c.merge.new.bank c.lose.new.bank c.in_ok-inner.inner c.in_ok-lost.lost two
+    c.lose.ensures.bank c.lose.ensures.grows c.in_ok-lost.ensures.single c.in_ok-lost.ensures.nodes c.in_ok-lost.ensures.form in
+    record { merges = can_outer M K low power kinds q z c.args.here c.args.within c.lose.new.bank c.in_ok-inner.inner c.in_ok-lost.lost three }
+
+pub merge-requires-3 : goal.merge-requires-3
+merge-requires-3 g c =
+    let M = g.W.SymLower.means c.args.stops.now in
+    let K = g.W.SymStops.power c.args.stops.now in
+    let low = g.met.W.SymLower.keeps c.args.stops.now in
+    let power = g.met.W.SymStops.keeps_power c.args.stops.now in
+    let kinds = g.B.Book.kinds c.args.book.now in
+    let q = question_of c.args.question in
+    let z = halted_of c.args.to.now c.args.fallen.now c.args.stopped in
+    let one = after_cut M K low power kinds q z c.args.here c.args.within c.args.bank.now c.cut.new.bank c.in_ok-cut.cut c.requires.asks
+    c.requires.here c.requires.within
+    c.cut.ensures.bank c.cut.ensures.grows c.in_ok-cut.ensures.single c.in_ok-cut.ensures.nodes c.in_ok-cut.ensures.form in
+    let two = after_inner M K low power kinds q z c.args.here c.args.within c.cut.new.bank c.merge.new.bank c.in_ok-cut.cut c.in_ok-inner.inner one
+    c.merge.ensures.bank c.merge.ensures.grows c.in_ok-inner.ensures.single c.in_ok-inner.ensures.nodes c.in_ok-inner.ensures.form in
+    let three = after_lost M K low power kinds q z c.args.here c.args.within c.merge.new.bank c.lose.new.bank c.in_ok-inner.inner c.in_ok-lost.lost two
+    c.lose.ensures.bank c.lose.ensures.grows c.in_ok-lost.ensures.single c.in_ok-lost.ensures.nodes c.in_ok-lost.ensures.form in
+    let four = can_last M K low power kinds q z c.args.here c.args.within c.lose.new.bank c.merge-2.new.bank c.in_ok-inner.inner c.in_ok-lost.lost
+    c.in_ok-outer.outer three
+    c.merge-2.ensures.bank c.merge-2.ensures.grows c.in_ok-outer.ensures.single c.in_ok-outer.ensures.nodes c.in_ok-outer.ensures.form in
+    record { merges = four }
+
+pub returns-clause-stands : goal.returns-clause-stands
+returns-clause-stands g c =
+    let M = g.W.SymLower.means c.args.stops.now in
+    let K = g.W.SymStops.power c.args.stops.now in
+    let low = g.met.W.SymLower.keeps c.args.stops.now in
+    let power = g.met.W.SymStops.keeps_power c.args.stops.now in
+    let kinds = g.B.Book.kinds c.args.book.now in
+    let q = question_of c.args.question in
+    let z = halted_of c.args.to.now c.args.fallen.now c.args.stopped in
+    let one = after_cut M K low power kinds q z c.args.here c.args.within c.args.bank.now c.cut.new.bank c.in_ok-cut.cut c.requires.asks
+    c.requires.here c.requires.within
+    c.cut.ensures.bank c.cut.ensures.grows c.in_ok-cut.ensures.single c.in_ok-cut.ensures.nodes c.in_ok-cut.ensures.form in
+    let two = after_inner M K low power kinds q z c.args.here c.args.within c.cut.new.bank c.merge.new.bank c.in_ok-cut.cut c.in_ok-inner.inner one
+    c.merge.ensures.bank c.merge.ensures.grows c.in_ok-inner.ensures.single c.in_ok-inner.ensures.nodes c.in_ok-inner.ensures.form in
+    let three = after_lost M K low power kinds q z c.args.here c.args.within c.merge.new.bank c.lose.new.bank c.in_ok-inner.inner c.in_ok-lost.lost two
+    c.lose.ensures.bank c.lose.ensures.grows c.in_ok-lost.ensures.single c.in_ok-lost.ensures.nodes c.in_ok-lost.ensures.form in
+    let four = can_last M K low power kinds q z c.args.here c.args.within c.lose.new.bank c.merge-2.new.bank c.in_ok-inner.inner c.in_ok-lost.lost
+    c.in_ok-outer.outer three
+    c.merge-2.ensures.bank c.merge-2.ensures.grows c.in_ok-outer.ensures.single c.in_ok-outer.ensures.nodes c.in_ok-outer.ensures.form in
+    merged_if M K low power kinds c.args.stopped c.args.fallen.now c.in_ok-outer.outer c.merge-2.new.bank c.merge-3.new.bank c.merge-3.result four
+    c.merge-3.ensures.bank c.merge-3.ensures.nodes c.merge-3.ensures.form
+
+pub returns-clause-single : goal.returns-clause-single
+returns-clause-single g c =
+    single_if c.args.bank.now c.merge-2.new.bank c.merge-3.new.bank c.merge-3.result
+    (single_both c.args.bank.now c.cut.new.bank c.merge-2.new.bank c.in_ok-cut.ensures.single
+    (single_both c.cut.new.bank c.merge.new.bank c.merge-2.new.bank c.in_ok-inner.ensures.single
+    (single_both c.merge.new.bank c.lose.new.bank c.merge-2.new.bank c.in_ok-lost.ensures.single c.in_ok-outer.ensures.single))) c.merge-3.ensures.single
+
+pub returns-in_err-inner-clause-grows : goal.returns-in_err-inner-clause-grows
+returns-in_err-inner-clause-grows g c =
+    extends_both c.args.bank.now c.cut.new.bank c.merge.new.bank c.cut.ensures.grows c.merge.ensures.grows
+
+pub returns-in_err-lost-clause-grows : goal.returns-in_err-lost-clause-grows
+returns-in_err-lost-clause-grows g c =
+    extends_both c.args.bank.now c.cut.new.bank c.lose.new.bank c.cut.ensures.grows
+    (extends_both c.cut.new.bank c.merge.new.bank c.lose.new.bank c.merge.ensures.grows
+    c.lose.ensures.grows)
+
+pub returns-in_err-outer-clause-grows : goal.returns-in_err-outer-clause-grows
+returns-in_err-outer-clause-grows g c =
+    extends_both c.args.bank.now c.cut.new.bank c.merge-2.new.bank c.cut.ensures.grows
+    (extends_both c.cut.new.bank c.merge.new.bank c.merge-2.new.bank c.merge.ensures.grows
+    (extends_both c.merge.new.bank c.lose.new.bank c.merge-2.new.bank c.lose.ensures.grows
+    c.merge-2.ensures.grows))
+
+pub returns-clause-grows : goal.returns-clause-grows
+returns-clause-grows g c =
+    extends_both c.args.bank.now c.cut.new.bank c.merge-3.new.bank c.cut.ensures.grows
+    (extends_both c.cut.new.bank c.merge.new.bank c.merge-3.new.bank c.merge.ensures.grows
+    (extends_both c.merge.new.bank c.lose.new.bank c.merge-3.new.bank c.lose.ensures.grows
+    (extends_both c.lose.new.bank c.merge-2.new.bank c.merge-3.new.bank c.merge-2.ensures.grows
+    c.merge-3.ensures.grows)))
+
+pub returns-clause-nodes : goal.returns-clause-nodes
+returns-clause-nodes g c =
+    let M = g.W.SymLower.means c.args.stops.now in
+    let K = g.W.SymStops.power c.args.stops.now in
+    let kinds = g.B.Book.kinds c.args.book.now in
+    let q = question_of c.args.question in
+    let z = halted_of c.args.to.now c.args.fallen.now c.args.stopped in
+    nodes_as ((M.machine kinds).merge c.args.stopped c.args.fallen.now c.in_ok-outer.outer c.merge-2.new.bank)
+    (sym_left kinds no_functions (M.machine kinds) (stops_on M K kinds) c.args.here c.args.within q z c.args.bank.now) c.merge-3.new.bank c.merge-3.result
+    (left_from (K.cut kinds q c.args.to.now) (K.lose kinds c.args.to.now) (M.machine kinds).merge c.args.here c.args.within c.args.stopped
+    c.args.fallen.now c.in_ok-cut.cut c.in_ok-inner.inner c.in_ok-lost.lost c.in_ok-outer.outer c.args.bank.now c.cut.new.bank c.merge.new.bank
+    c.lose.new.bank c.merge-2.new.bank c.in_ok-cut.ensures.form c.in_ok-cut.ensures.nodes c.in_ok-inner.ensures.form c.in_ok-inner.ensures.nodes
+    c.in_ok-lost.ensures.form c.in_ok-lost.ensures.nodes c.in_ok-outer.ensures.form c.in_ok-outer.ensures.nodes) c.merge-3.ensures.nodes
+
+pub returns-clause-form : goal.returns-clause-form
+returns-clause-form g c =
+    let M = g.W.SymLower.means c.args.stops.now in
+    let K = g.W.SymStops.power c.args.stops.now in
+    let kinds = g.B.Book.kinds c.args.book.now in
+    let q = question_of c.args.question in
+    let z = halted_of c.args.to.now c.args.fallen.now c.args.stopped in
+    form_as ((M.machine kinds).merge c.args.stopped c.args.fallen.now c.in_ok-outer.outer c.merge-2.new.bank)
+    (sym_left kinds no_functions (M.machine kinds) (stops_on M K kinds) c.args.here c.args.within q z c.args.bank.now) c.merge-3.result
+    (left_from (K.cut kinds q c.args.to.now) (K.lose kinds c.args.to.now) (M.machine kinds).merge c.args.here c.args.within c.args.stopped
+    c.args.fallen.now c.in_ok-cut.cut c.in_ok-inner.inner c.in_ok-lost.lost c.in_ok-outer.outer c.args.bank.now c.cut.new.bank c.merge.new.bank
+    c.lose.new.bank c.merge-2.new.bank c.in_ok-cut.ensures.form c.in_ok-cut.ensures.nodes c.in_ok-inner.ensures.form c.in_ok-inner.ensures.nodes
+    c.in_ok-lost.ensures.form c.in_ok-lost.ensures.nodes c.in_ok-outer.ensures.form c.in_ok-outer.ensures.nodes) c.merge-3.ensures.form

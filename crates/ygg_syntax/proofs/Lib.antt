@@ -1,0 +1,4 @@
+pub mod Limits
+pub mod Searched
+pub mod Tables
+pub mod Sames

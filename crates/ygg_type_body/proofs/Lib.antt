@@ -1,4 +1,0 @@
-pub mod Counted
-pub mod Arguments
-pub mod Powers
-pub mod Restored

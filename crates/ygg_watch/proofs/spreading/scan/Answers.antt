@@ -1,0 +1,28 @@
+use Rattle.std.proofs.Common.{subst, List, length, All}
+use Rattle.std.proofs.lemmas.List.{take_all}
+use Rattle.std.proofs.lemmas.List.Elements.{All-more}
+use Rattle.ygg_cnf.specs.Logs.{IsOpen}
+use Rattle.ygg_cnf.specs.declared.lit.Lit.{Lit}
+use Rattle.ygg_watch.proofs.StatusLemmas.{open_true, open_loose}
+use Rattle.ygg_watch.proofs.spreading.scan.Goals.{in-True, in-Open}
+use Rattle.ygg_watch.specs.Trail.{assigned_before}
+use Rattle.ygg_watch.proofs.spreading.scan.Goals as goal
+
+pub loop-at-preserved : goal.loop-at-preserved
+loop-at-preserved c =
+    let trail = c.args.trail.now.entries.items in
+    let clause : List Lit = c.index-clauses-at.result in
+    let open_now : IsOpen (assigned_before trail (length trail)) clause =
+    elim c.match-status_of.branch [
+      | in-True w ↦ let s = rw w.in-True.is at c.status_of.ensures in
+          subst (λ (l : List Lit). IsOpen (assigned_before trail (length trail)) l) c.as_slice.ensures (open_true c.as_slice.result.now trail _ s.0 s.1)
+      | in-Open w ↦ let s = rw w.in-Open.is at c.status_of.ensures in
+          subst (λ (l : List Lit). IsOpen (assigned_before trail (length trail)) l) c.as_slice.ensures (open_loose c.as_slice.result.now trail _ _ s)
+    ] in
+    All-more (IsOpen (assigned_before trail (length trail))) c.args.clauses.now c.loop-at.at clause c.loop-at-test.true c.loop-at.invariant
+    (rw (← c.index-clauses-at.is) open_now)
+
+pub returns : goal.returns
+returns c = let trail = c.args.trail.now.entries.items in
+    let all = take_all c.loop-at.at c.args.clauses.now c.loop-at-test.false in
+    subst (λ (l : List (List Lit)). All (IsOpen (assigned_before trail (length trail))) l) all c.loop-at.invariant

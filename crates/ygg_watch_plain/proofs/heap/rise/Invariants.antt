@@ -1,4 +1,0 @@
-use Rattle.ygg_watch_plain.proofs.heap.rise.Given as goal
-
-abbrev pub decreases-loop-at : goal.decreases-loop-at
-decreases-loop-at l = l.at

@@ -1,7 +1,0 @@
-use Rattle.ygg_watch_plain.proofs.StatusLemmas.{has_value}
-use Rattle.ygg_watch_plain.proofs.plain.PlainSpreadPropagate.assigned.Goals as goal
-
-pub returns-clause-some : goal.returns-clause-some
-returns-clause-some c =
-    let s = c.in_ok-entry.ensures.some in
-    has_value c.args.self.now.trail.entries.items c.args.var _ s.0 s.1
