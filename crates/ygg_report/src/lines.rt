@@ -58,8 +58,7 @@ pub fn verified(alloc: Global, count: usize) -> Result<Text, NoMemory>
     ensures { IfOk result (λ text. text ≡ verified_line count) }
 {
     let written = format!(in alloc; "verified {count}\n")?;
-    let text = Text::from_slice(alloc, written.as_bytes())?;
-    Ok(text)
+    Ok(Text::from_vec(written.into_bytes()))
 }
 
 /// The line of a file whose first obligation that fails has this name. Its only error is out of memory.
@@ -83,8 +82,7 @@ fn made(alloc: Global, number: u32, tally: &Tally) -> Result<Text, NoMemory>
 {
     let obligations = tally.obligations;
     let written = format!(in alloc; "demo {number} obligations {obligations}")?;
-    let text = Text::from_slice(alloc, written.as_bytes())?;
-    Ok(text)
+    Ok(Text::from_vec(written.into_bytes()))
 }
 
 /// Its last words: how many obligations each verdict was found of. Its only error is out of memory.
@@ -96,8 +94,7 @@ fn found(alloc: Global, tally: &Tally) -> Result<Text, NoMemory>
     let fails = tally.fails;
     let spent = tally.spent;
     let written = format!(in alloc; " holds {holds} fails {fails} spent {spent}")?;
-    let text = Text::from_slice(alloc, written.as_bytes())?;
-    Ok(text)
+    Ok(Text::from_vec(written.into_bytes()))
 }
 
 /// The line of the file that `demo` makes for this number: `demo N obligations K holds H fails F spent S`. Its only error is out of memory.
@@ -106,8 +103,7 @@ pub fn demo(alloc: Global, number: u32, tally: &Tally) -> Result<Text, NoMemory>
 {
     let first = made(alloc, number, tally)?;
     let last = found(alloc, tally)?;
-    let text = line_of(alloc, &[first.as_slice(), last.as_slice()])?;
-    Ok(text)
+    line_of(alloc, &[first.as_slice(), last.as_slice()])
 }
 
 /// The line of a schedule that violates the obligation of this name: `shows NAME`. Its only error is out of memory.
@@ -122,8 +118,7 @@ pub fn hypothesis(alloc: Global, number: u32) -> Result<Text, NoMemory>
     ensures { IfOk result (λ text. text ≡ hypothesis_line number) }
 {
     let written = format!(in alloc; "hypothesis {number}\n")?;
-    let text = Text::from_slice(alloc, written.as_bytes())?;
-    Ok(text)
+    Ok(Text::from_vec(written.into_bytes()))
 }
 
 /// The line of a schedule with which the conclusion holds where the specification takes these picks: `holds BITS`. Its only error is out of memory.
@@ -143,6 +138,5 @@ pub fn refused(alloc: Global, refusal: Refusal) -> Result<Text, NoMemory>
     let row = refusal.line;
     let column = refusal.column;
     let written = format!(in alloc; "refused {number} {row}:{column}\n")?;
-    let text = Text::from_slice(alloc, written.as_bytes())?;
-    Ok(text)
+    Ok(Text::from_vec(written.into_bytes()))
 }
