@@ -1,6 +1,5 @@
 pub use Rattle.ygg_sym_laws.proofs.of_ygg_meaning_laws
 pub use Rattle.ygg_sym_laws.proofs.AnyLayer
-pub use Rattle.ygg_shape_hypothesis.proofs as of_ygg_shape_hypothesis
 pub use Rattle.ygg_sym_laws.proofs.of_ygg_bank
 pub use Rattle.ygg_sym_laws.proofs.of_ygg_sym_runs
 pub mod Glued

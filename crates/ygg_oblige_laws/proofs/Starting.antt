@@ -27,11 +27,11 @@ use Rattle.ygg_sym_laws.specs.ygg_shape_words_proofs_Terms.{made_is}
 use Rattle.ygg_sym_laws.specs.ygg_shape_words.Forms.{WordsAlike}
 use Rattle.ygg_sym_laws.specs.ygg_shape_cells.Terms.{worth}
 use Rattle.ygg_sym_laws.specs.ygg_shape_cells.declared.terms.SymValue.{SymValue}
-use Rattle.ygg_oblige_laws.proofs.of_ygg_shape_hypothesis.Holding.{found_fit, found_true}
-use Rattle.ygg_oblige_laws.proofs.of_ygg_shape_hypothesis.Replaced.{AreTrue, value_fits, value_is}
-use Rattle.ygg_oblige_laws.specs.ygg_shape_hypothesis.Finding.{facts_in}
-use Rattle.ygg_oblige_laws.specs.ygg_shape_hypothesis.Replacing.{replaced_value, AreFit}
-use Rattle.ygg_oblige_laws.specs.ygg_shape_hypothesis.declared.replacing.Replacement.{Replacement}
+use Rattle.ygg_sym_laws.proofs.of_ygg_shape.Holding.{found_fit, found_true}
+use Rattle.ygg_sym_laws.proofs.of_ygg_shape.Replaced.{AreTrue, value_fits, value_is}
+use Rattle.ygg_sym_laws.specs.ygg_shape.Finding.{facts_in}
+use Rattle.ygg_sym_laws.specs.ygg_shape.Replacing.{replaced_value, AreFit}
+use Rattle.ygg_sym_laws.specs.ygg_shape.declared.replacing.Replacement.{Replacement}
 use Rattle.ygg_sym_laws.specs.ygg_sym_runs.Exprs.{SymFunctions}
 use Rattle.ygg_sym_laws.specs.ygg_sym_runs.ExpressionMeaning.{Grows, Gives}
 use Rattle.ygg_sym_laws.specs.ygg_sym_runs_proofs_Keeps.{Keeps, FunctionsKeep}

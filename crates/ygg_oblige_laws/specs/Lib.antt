@@ -3,7 +3,6 @@ pub use Rattle.ygg_sym_laws.specs.ygg_sym_runs
 pub use Rattle.ygg_sym_laws.specs as ygg_sym_laws
 pub use Rattle.ygg_sym_laws.specs.ygg_meaning_laws
 pub use Rattle.ygg_sym_laws.specs.Means
-pub use Rattle.ygg_shape_hypothesis.specs as ygg_shape_hypothesis
 pub use Rattle.ygg_sym_laws.specs.ygg_type_rules
 pub use Rattle.ygg_sym_laws.specs.ygg_syntax
 pub use Rattle.ygg_sym_laws.specs.ygg_meaning_laws_proofs_Files

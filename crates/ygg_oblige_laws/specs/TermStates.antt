@@ -15,9 +15,9 @@ use Rattle.ygg_sym_laws.specs.ygg_bank.declared.node.Node.TheVariants.{Const, Bi
 use Rattle.ygg_sym_laws.specs.ygg_shape.Comparing.{compared}
 use Rattle.ygg_sym_laws.specs.ygg_shape_cells.declared.terms.SymValue.{SymValue}
 use Rattle.ygg_sym_laws.specs.ygg_shape.Fresh.{fresh_made, words_of}
-use Rattle.ygg_shape_hypothesis.specs.Finding.{facts_in}
-use Rattle.ygg_shape_hypothesis.specs.Replacing.{replaced_value}
-use Rattle.ygg_shape_hypothesis.specs.declared.replacing.Replacement.{Replacement}
+use Rattle.ygg_sym_laws.specs.ygg_shape.Finding.{facts_in}
+use Rattle.ygg_sym_laws.specs.ygg_shape.Replacing.{replaced_value}
+use Rattle.ygg_sym_laws.specs.ygg_shape.declared.replacing.Replacement.{Replacement}
 use Rattle.ygg_sym_laws.specs.Names.{SymScope, sym_bind}
 use Rattle.ygg_sym_laws.specs.Exprs.{SymFunctions, id_in, sym_value}
 

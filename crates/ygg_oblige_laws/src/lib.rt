@@ -7,7 +7,7 @@ pub mod pieces_law;
 pub mod schedules_law;
 pub mod typed_law;
 
-pub use ygg_shape_hypothesis::{Replacements, facts, replace};
 pub use ygg_sym_laws::{
-    Bank, Book, Env, Given, Id, NoMemory, refines_by_list, shape_of, typed_histories,
+    Bank, Book, Env, Given, Id, NoMemory, Replacements, facts, refines_by_list, replace, shape_of,
+    typed_histories,
 };

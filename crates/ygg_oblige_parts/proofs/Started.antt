@@ -13,7 +13,7 @@ use Rattle.ygg_sym_spec.specs.ygg_bank.declared.node.Id.{Id}
 use Rattle.ygg_sym_spec.specs.ygg_bank.declared.node.Node.{Node}
 use Rattle.ygg_sym_spec.proofs.of_ygg_shape.Answered.{no_inputs, some_fit}
 use Rattle.ygg_sym_spec.specs.ygg_shape_cells.declared.terms.SymValue.{SymValue}
-use Rattle.ygg_oblige_laws.specs.ygg_shape_hypothesis.declared.replacing.Replacement.{Replacement}
+use Rattle.ygg_oblige_laws.specs.ygg_shape.declared.replacing.Replacement.{Replacement}
 use Rattle.ygg_sym_spec.specs.ygg_sym_runs.Exprs.{SymFunctions}
 use Rattle.ygg_oblige_laws.specs.Means.{terms_of}
 use Rattle.ygg_oblige_laws.specs.LayerTerms.{LayerTyped}

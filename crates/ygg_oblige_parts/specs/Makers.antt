@@ -5,7 +5,7 @@ use Rattle.ygg_sym_spec.specs.ygg_rules.declared.rule.RuleKind.{RuleKind}
 use Rattle.ygg_sym_spec.specs.ygg_bank.Makes.{Make, pure, and_make}
 use Rattle.ygg_sym_spec.specs.ygg_bank.Nodes.{HasWidth}
 use Rattle.ygg_sym_spec.specs.ygg_bank.declared.node.Node.{Node}
-use Rattle.ygg_oblige_laws.specs.ygg_shape_hypothesis.Finding.{facts_in}
+use Rattle.ygg_oblige_laws.specs.ygg_shape.Finding.{facts_in}
 use Rattle.ygg_sym_spec.specs.ygg_sym_runs.Exprs.{SymFunctions}
 use Rattle.ygg_sym_spec.specs.ygg_sym_runs.Lows.{LowShaped}
 use Rattle.ygg_sym_spec.specs.Layers.{closed}

@@ -8,8 +8,8 @@ ghost use Rattle.ygg_sym_spec.specs.ygg_sym_runs.Lows.{LowShaped};
 ghost use Rattle.ygg_sym_spec.specs.ygg_sym_runs.Seen.{env_of};
 ghost use Rattle.ygg_sym_spec.specs.ygg_sym_runs.Lower.{KeepsSingle};
 ghost use Rattle.ygg_sym_spec.specs.Layers.{closed, terms_in};
-ghost use Rattle.ygg_oblige_laws.specs.ygg_shape_hypothesis.Finding.{facts_in};
-ghost use Rattle.ygg_oblige_laws.specs.ygg_shape_hypothesis.Replacing.{replaced_value};
+ghost use Rattle.ygg_oblige_laws.specs.ygg_shape.Finding.{facts_in};
+ghost use Rattle.ygg_oblige_laws.specs.ygg_shape.Replacing.{replaced_value};
 ghost use Rattle.ygg_oblige_laws.specs.TermStates.{
   fresh_trio,
   related_made,

@@ -1,4 +1,5 @@
 pub use Rattle.ygg_shape_cells.proofs.of_ygg_bank
+pub use Rattle.ygg_shape_cells.proofs.of_ygg_shape_words
 pub use Rattle.ygg_shape_cells.proofs.Keeps
 pub use Rattle.ygg_shape_cells.proofs.Grows
 pub use Rattle.ygg_shape_cells.proofs.Steps
@@ -19,3 +20,6 @@ pub mod EquateSteps
 pub mod ComparedKeeps
 pub mod Compared
 pub mod Listed
+pub mod Walks
+pub mod Replaced
+pub mod Holding

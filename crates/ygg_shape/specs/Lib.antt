@@ -24,3 +24,6 @@ pub use Rattle.ygg_shape_cells.specs.Wholes
 pub use Rattle.ygg_shape_cells.specs.Meaning
 pub mod Equates
 pub mod Comparing
+pub mod Replacing
+pub mod Finding
+pub mod Laws

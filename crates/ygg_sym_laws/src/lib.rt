@@ -8,7 +8,7 @@ pub mod spec_law;
 pub mod sym_law;
 
 pub use ygg_sym_runs::{
-    Awaited, Bank, Book, Env, Given, Id, NoMemory, Node, SymBinding, SymEvaluator, SymLower,
-    SymRunner, SymValue, SymValues, equal, equal_all, id_in, inputs_of, refines_by_list, room,
-    shape_of, typed_histories, whole, zero,
+    Awaited, Bank, Book, Env, Given, Id, NoMemory, Node, Replacements, SymBinding, SymEvaluator,
+    SymLower, SymRunner, SymValue, SymValues, equal, equal_all, facts, id_in, inputs_of,
+    refines_by_list, replace, room, shape_of, typed_histories, whole, zero,
 };

@@ -1,7 +1,7 @@
 use Rattle.std.proofs.Common.{ap}
 use Rattle.ygg_sym_spec.specs.ygg_bank.Makes.{Out}
 use Rattle.ygg_sym_spec.specs.ygg_bank_proofs_Widths.{extends_both}
-use Rattle.ygg_oblige_laws.specs.ygg_shape_hypothesis.Finding.{facts_in}
+use Rattle.ygg_oblige_laws.specs.ygg_shape.Finding.{facts_in}
 use Rattle.ygg_sym_spec.specs.ygg_sym_runs_proofs_Lows.{low_wider}
 use Rattle.ygg_sym_spec.specs.Layers.{closed, terms_in}
 use Rattle.ygg_oblige_laws.specs.TermStates.{Starting, related_made, settled_made}
