@@ -6,7 +6,7 @@ pub mod Pending
 pub mod Reading
 pub mod Budget
 pub mod Definitions
-pub mod Known
+pub mod WeightSources
 pub mod Weights
 pub mod Table
 pub mod Bare

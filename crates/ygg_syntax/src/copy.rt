@@ -170,9 +170,9 @@ impl Part for Layer {
     fn duplicate(&self, alloc: Global) -> Result<Layer, NoMemory> {
         let ticks = items(alloc, self.ticks.as_slice());
         let blocks = blocks(alloc, self);
-        match four(machine(alloc, self), ticks, blocks, claims(alloc, self)) {
-            Ok((machine, ticks, blocks, claims)) => {
-                let (name, state, memory, operations) = machine;
+        match four(heading(alloc, self), ticks, blocks, claims(alloc, self)) {
+            Ok((heading, ticks, blocks, claims)) => {
+                let (name, state, memory, operations) = heading;
                 let (start, format, crash, recover) = blocks;
                 let (relate, always, settled, maybe) = claims;
                 Ok(Layer {
@@ -199,10 +199,10 @@ impl Part for Layer {
 }
 
 /// The name, the variables and the operations of a layer.
-type Machine = (Name, Items<Declared>, Items<Declared>, Items<Operation>);
+type Heading = (Name, Items<Declared>, Items<Declared>, Items<Operation>);
 
 /// Copies of the name, the variables and the operations of a layer.
-fn machine(alloc: Global, layer: &Layer) -> Result<Machine, NoMemory>
+fn heading(alloc: Global, layer: &Layer) -> Result<Heading, NoMemory>
     ensures { IfOk result (λ copies. copies ≡ (layer.now.name, layer.now.state, layer.now.memory, layer.now.operations)) }
 {
     let state = items(alloc, layer.state.as_slice());

@@ -5,7 +5,7 @@ ghost use Rattle.ygg_syntax.specs.Weights.{weights_of, expr_weight, block_weight
 use crate::budget::LIMIT;
 use crate::table::Weights;
 use crate::tree::{Block, Def, Expr};
-use crate::weights::{self, Known};
+use crate::weights::{self, WeightSource};
 use ygg_list::NoMemory;
 
 impl<'a> Weights<'a> {
@@ -26,13 +26,13 @@ impl<'a> Weights<'a> {
     pub fn expression(&self, e: &Expr) -> u64
         ensures { result ≡ min limit (expr_weight (weights_of self.now) e.now) }
     {
-        LIMIT - weights::expression(Known::Table(self), e, LIMIT)
+        LIMIT - weights::expression(WeightSource::Table(self), e, LIMIT)
     }
 
     /// The weight of a block, counted in the same way, or 1,000,000 where it is more. It takes no memory.
     pub fn block(&self, block: &Block) -> u64
         ensures { result ≡ min limit (block_weight (weights_of self.now) block.now) }
     {
-        LIMIT - weights::block(Known::Table(self), block, LIMIT)
+        LIMIT - weights::block(WeightSource::Table(self), block, LIMIT)
     }
 }

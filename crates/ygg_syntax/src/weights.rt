@@ -2,7 +2,7 @@
 
 ghost use Rattle.std.specs.Prelude.{◌≡◌, ◌≤◌, ◌-◌, min, sum, map, IfSome, IfNone};
 ghost use Rattle.ygg_syntax.specs.Budget.{limit};
-ghost use Rattle.ygg_syntax.specs.Known.{known_weights};
+ghost use Rattle.ygg_syntax.specs.WeightSources.{known_weights};
 ghost use Rattle.ygg_syntax.specs.Weights.{
   weights_of,
   weight_at,
@@ -23,7 +23,7 @@ use crate::tree::{Block, Def, Expr, File, Index, Source, Stmt};
 
 /// Where the weight of a name's definition is found.
 #[derive(Clone, Copy)]
-pub enum Known<'a, 'b> {
+pub enum WeightSource<'a, 'b> {
     /// Among definitions, whose expressions are weighed at each use, each over those before it. This takes no memory.
     Defs(&'a [Def]),
     /// In a table, where it was counted once.
@@ -36,12 +36,12 @@ pub enum Known<'a, 'b> {
 pub fn weight(file: &File, block: &Block) -> u64
     ensures { result ≡ min limit (weight_in file.now block.now) }
 {
-    LIMIT - self::block(Known::Defs(file.defs.as_slice()), block, LIMIT)
+    LIMIT - self::block(WeightSource::Defs(file.defs.as_slice()), block, LIMIT)
 }
 
 /// What a block leaves of a budget.
 #[cycle(blocks)]
-pub fn block(known: Known<'_, '_>, block: &Block, left: u64) -> u64
+pub fn block(known: WeightSource<'_, '_>, block: &Block, left: u64) -> u64
     requires { left ≤ limit }
     ensures { result ≡ left - block_weight (known_weights known.entry) block.now }
 {
@@ -51,7 +51,7 @@ pub fn block(known: Known<'_, '_>, block: &Block, left: u64) -> u64
 
 /// What statements leave of a budget.
 #[cycle(blocks)]
-fn statements(known: Known<'_, '_>, statements: &[Stmt], left: u64) -> u64
+fn statements(known: WeightSource<'_, '_>, statements: &[Stmt], left: u64) -> u64
     requires { left ≤ limit }
     ensures { result ≡ left - sum (map (stmt_weight (known_weights known.entry)) statements.now) }
 {
@@ -64,7 +64,7 @@ fn statements(known: Known<'_, '_>, statements: &[Stmt], left: u64) -> u64
 
 /// What a statement leaves of a budget.
 #[cycle(blocks)]
-fn statement(known: Known<'_, '_>, statement: &Stmt, left: u64) -> u64
+fn statement(known: WeightSource<'_, '_>, statement: &Stmt, left: u64) -> u64
     requires { left ≤ limit }
     ensures { result ≡ left - stmt_weight (known_weights known.entry) statement.now }
 {
@@ -91,7 +91,7 @@ fn statement(known: Known<'_, '_>, statement: &Stmt, left: u64) -> u64
 }
 
 /// What a right side leaves of a budget.
-fn source(known: Known<'_, '_>, from: &Source, left: u64) -> u64
+fn source(known: WeightSource<'_, '_>, from: &Source, left: u64) -> u64
     requires { left ≤ limit }
     ensures { result ≡ left - source_weight (known_weights known.entry) from.now }
 {
@@ -107,7 +107,7 @@ fn source(known: Known<'_, '_>, from: &Source, left: u64) -> u64
 }
 
 /// What the indices of an assignment leave of a budget.
-fn indices(known: Known<'_, '_>, indices: &[Index], left: u64) -> u64
+fn indices(known: WeightSource<'_, '_>, indices: &[Index], left: u64) -> u64
     requires { left ≤ limit }
     ensures { result ≡ left - indices_weight (known_weights known.entry) indices.now }
 {
@@ -119,7 +119,7 @@ fn indices(known: Known<'_, '_>, indices: &[Index], left: u64) -> u64
 }
 
 /// What a block's answer leaves of a budget.
-fn answer(known: Known<'_, '_>, answer: &Option<Expr>, left: u64) -> u64
+fn answer(known: WeightSource<'_, '_>, answer: &Option<Expr>, left: u64) -> u64
     requires { left ≤ limit }
     ensures { result ≡ left - answer_weight (known_weights known.entry) answer.now }
 {
@@ -131,7 +131,7 @@ fn answer(known: Known<'_, '_>, answer: &Option<Expr>, left: u64) -> u64
 
 /// What expressions leave of a budget.
 #[cycle(expression)]
-fn expressions(known: Known<'_, '_>, expressions: &[Expr], left: u64) -> u64
+fn expressions(known: WeightSource<'_, '_>, expressions: &[Expr], left: u64) -> u64
     requires { left ≤ limit }
     ensures { result ≡ left - exprs_weight (known_weights known.entry) expressions.now }
 {
@@ -144,7 +144,7 @@ fn expressions(known: Known<'_, '_>, expressions: &[Expr], left: u64) -> u64
 
 /// What an expression leaves of a budget.
 #[cycle(expression)]
-pub fn expression(known: Known<'_, '_>, e: &Expr, left: u64) -> u64
+pub fn expression(known: WeightSource<'_, '_>, e: &Expr, left: u64) -> u64
     requires { left ≤ limit }
     ensures { result ≡ left - expr_weight (known_weights known.entry) e.now }
 {
@@ -189,16 +189,16 @@ pub fn expression(known: Known<'_, '_>, e: &Expr, left: u64) -> u64
 
 /// What the expression of a name's definition leaves of a budget.
 #[cycle(expression)]
-fn definition(known: Known<'_, '_>, name: &[u8], left: u64) -> u64
+fn definition(known: WeightSource<'_, '_>, name: &[u8], left: u64) -> u64
     requires { left ≤ limit }
     ensures { result ≡ left - weight_at (known_weights known.entry) name.now }
 {
     match known {
-        Known::Defs(defs) => match first_of(defs, name) {
-            Some(place) => expression(Known::Defs(&defs[..place]), &defs[place].body, left),
+        WeightSource::Defs(defs) => match first_of(defs, name) {
+            Some(place) => expression(WeightSource::Defs(&defs[..place]), &defs[place].body, left),
             None => left,
         },
-        Known::Table(table) => left.saturating_sub(table.first_of(name)),
+        WeightSource::Table(table) => left.saturating_sub(table.first_of(name)),
     }
 }
 

@@ -1,5 +1,5 @@
 use Rattle.std.proofs.Common.{◌≡◌, ◌≤◌, ◌-◌, drop, map, sum}
-use Rattle.ygg_syntax.specs.Known.{known_weights}
+use Rattle.ygg_syntax.specs.WeightSources.{known_weights}
 use Rattle.ygg_syntax.specs.Weights.{stmt_weight}
 use Rattle.ygg_syntax.proofs.weights.+blocks.Given as goal
 

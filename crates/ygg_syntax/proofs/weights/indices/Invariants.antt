@@ -1,5 +1,5 @@
 use Rattle.std.proofs.Common.{◌≡◌, ◌≤◌, ◌-◌, drop}
-use Rattle.ygg_syntax.specs.Known.{known_weights}
+use Rattle.ygg_syntax.specs.WeightSources.{known_weights}
 use Rattle.ygg_syntax.specs.Weights.{indices_weight}
 use Rattle.ygg_syntax.proofs.weights.indices.Given as goal
 
