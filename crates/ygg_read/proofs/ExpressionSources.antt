@@ -1,5 +1,5 @@
 -- Right sides, by the kind of their block.
-use Rattle.std.proofs.Common.{◌≡◌, ℕ, Bool, true, false, List, [], ◌∷◌, ◌++◌, map, length, refl, sym, ap, ◌∙◌}
+use Rattle.std.proofs.Common.{◌≡◌, ℕ, Bool, true, false, List, [], ◌∷◌, ◌++◌, map, length, Option, Some, None, refl, sym, ap, ◌∙◌}
 use Rattle.ygg_base.specs.declared.token.Keyword.{Keyword}
 use Rattle.ygg_base.specs.declared.token.Keyword.TheVariants as word
 use Rattle.ygg_base.specs.declared.token.Symbol.TheVariants as sign
@@ -93,3 +93,15 @@ reads_call at f arguments rest qs =
 pub reads_bracketed : (arguments : List Expr) (from : List Token) (qs : List Reading) →
     in_turn (bracketed arguments ∷ qs) from ≡ in_turn (symbol sign.RoundOpen ∷ any (map phrase arguments) ∷ symbol sign.RoundClose ∷ qs) from
 reads_bracketed arguments from qs = joined (symbol sign.RoundOpen ∷ any (map phrase arguments) ∷ symbol sign.RoundClose ∷ []) qs from
+
+reads_next : (rs ss : List Reading) → ((s : List Token) → in_turn rs s ≡ in_turn ss s) → (o : Option (List Token)) →
+    elim o as (λ o. Option (List Token)) [ None ↦ None | Some s ↦ in_turn rs s ] ≡ elim o as (λ o. Option (List Token)) [ None ↦ None | Some s ↦ in_turn ss s ]
+reads_next rs ss same None = refl
+reads_next rs ss same (Some s) = same s
+
+-- a name and arguments in brackets
+pub reads_called : (x : Name) (arguments : List Expr) (from : List Token) (qs : List Reading) → in_turn (named x ∷ bracketed arguments ∷ qs) from
+    ≡ in_turn (named x ∷ symbol sign.RoundOpen ∷ any (map phrase arguments) ∷ symbol sign.RoundClose ∷ qs) from
+unfolding in_turn
+reads_called x arguments from qs = reads_next (bracketed arguments ∷ qs)
+    (symbol sign.RoundOpen ∷ any (map phrase arguments) ∷ symbol sign.RoundClose ∷ qs) (λ s. reads_bracketed arguments s qs) (named x from)

@@ -173,10 +173,7 @@ fn sides(reader: &mut Reader<'_>, kind: BlockKind) -> Result<Option<(Block, Bloc
     let Some(first) = block(reader, kind)? else {
         return Ok(None);
     };
-    let Some(read) = both(first, optional(reader, Keyword::Else, kind))? else {
-        return Ok(None);
-    };
-    Ok(Some(read))
+    both(first, optional(reader, Keyword::Else, kind))
 }
 
 /// Reads what follows a `for`.

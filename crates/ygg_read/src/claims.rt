@@ -41,7 +41,7 @@ pub fn claims(reader: &mut Reader<'_>) -> Result<Option<LayerClaims>, NoMemory>
     let Some((relate, rest)) = both(relate, from_always(reader))? else {
         return Ok(None);
     };
-    let (always, settled, maybe) = rest;
+    let (always, (settled, maybe)) = rest;
     Ok(Some(LayerClaims {
         relate,
         always,
@@ -66,9 +66,9 @@ fn relation(reader: &mut Reader<'_>) -> Result<Option<Expr>, NoMemory>
 /// Reads the claims after the relation, and the brace after them.
 fn from_always(
     reader: &mut Reader<'_>,
-) -> Result<Option<(Items<Expr>, Items<Expr>, Items<Expr>)>, NoMemory>
-    ensures reads { IfRead result (λ read. Reads (in_turn (map (claim word.Always) read.0) ∷ in_turn (map (claim word.Settled) read.1) ∷ in_turn
-        (map (claim word.Maybe) read.2) ∷ symbol sign.BraceClose ∷ []) reader.old reader.new) }
+) -> Result<Option<(Items<Expr>, (Items<Expr>, Items<Expr>))>, NoMemory>
+    ensures reads { IfRead result (λ read. Reads (in_turn (map (claim word.Always) read.0) ∷ in_turn (map (claim word.Settled) read.1.0) ∷ in_turn
+        (map (claim word.Maybe) read.1.1) ∷ symbol sign.BraceClose ∷ []) reader.old reader.new) }
     ensures goes { OnRead result (Goes (repeated pending.always ∷ repeated pending.settled ∷ repeated pending.maybe ∷ sign_of sign.BraceClose ∷ [])
         reader.old reader.new) }
     ensures refused { IfRefused result (Stops (repeated pending.always ∷ repeated pending.settled ∷ repeated pending.maybe ∷ sign_of sign.BraceClose ∷
@@ -78,11 +78,7 @@ fn from_always(
     let Some(always) = repeated(reader, Keyword::Always)? else {
         return Ok(None);
     };
-    let Some((always, rest)) = both(always, from_settled(reader))? else {
-        return Ok(None);
-    };
-    let (settled, maybe) = rest;
-    Ok(Some((always, settled, maybe)))
+    both(always, from_settled(reader))
 }
 
 /// Reads the claims on the settled state and those that may hold, and the brace after them.
@@ -96,10 +92,7 @@ fn from_settled(reader: &mut Reader<'_>) -> Result<Option<(Items<Expr>, Items<Ex
     let Some(settled) = repeated(reader, Keyword::Settled)? else {
         return Ok(None);
     };
-    let Some(read) = both(settled, from_maybe(reader))? else {
-        return Ok(None);
-    };
-    Ok(Some(read))
+    both(settled, from_maybe(reader))
 }
 
 /// Reads the claims that may hold, and the brace after them.
@@ -112,10 +105,7 @@ fn from_maybe(reader: &mut Reader<'_>) -> Result<Option<Items<Expr>>, NoMemory>
     let Some(maybe) = repeated(reader, Keyword::Maybe)? else {
         return Ok(None);
     };
-    let Some(maybe) = reader.symbol_after(maybe, Symbol::BraceClose) else {
-        return Ok(None);
-    };
-    Ok(Some(maybe))
+    Ok(reader.symbol_after(maybe, Symbol::BraceClose))
 }
 
 /// Reads as many claims as come, each after this keyword.

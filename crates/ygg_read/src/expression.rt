@@ -189,10 +189,7 @@ impl<'a> Reader<'a> {
             };
             parts = more;
         }
-        let Some(parts) = self.symbol_after(parts, Symbol::RoundClose) else {
-            return Ok(None);
-        };
-        Ok(Some(parts))
+        Ok(self.symbol_after(parts, Symbol::RoundClose))
     }
 
     /// Reads what follows a `~`.
@@ -368,10 +365,7 @@ impl<'a> Reader<'a> {
         ensures refused { IfRefused result (Stops (name ∷ sign_of sign.Colon ∷ number ∷ exactly (mark.Keyword word.Below) ∷ number ∷ []) self.old self.new) }
         ensures shorter { OnRead result (length self.new < length self.old) }
     {
-        let Some(name) = self.name()? else {
-            return Ok(None);
-        };
-        let Some(name) = self.symbol_after(name, Symbol::Colon) else {
+        let Some(name) = self.name_before(Symbol::Colon)? else {
             return Ok(None);
         };
         let Some((name, (width, bound))) = Some(name).zip(self.counted()) else {

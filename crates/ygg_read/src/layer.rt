@@ -1,13 +1,11 @@
 ghost use Rattle.std.specs.Prelude.{◌≡◌, ◌<◌, ◌≤◌, [], ◌∷◌, ◌++◌, length, map};
 ghost use Rattle.ygg_base.specs.declared.token.Keyword.TheVariants as word;
-ghost use Rattle.ygg_base.specs.declared.token.Symbol.TheVariants as sign;
 ghost use Rattle.ygg_base.specs.declared.token.Mark.TheVariants as mark;
 ghost use Rattle.ygg_syntax.specs.declared.grammar.BlockKind.TheVariants.{Impl};
 ghost use Rattle.ygg_syntax.specs.Reading.{token, in_turn};
-ghost use Rattle.ygg_syntax.specs.Expressions.{symbol, named};
 ghost use Rattle.ygg_syntax.specs.Blocks.{optional};
 ghost use Rattle.ygg_syntax.specs.Files.{variable, tick, layer, layers, crash_block};
-ghost use Rattle.ygg_syntax.specs.Pending.{name, perhaps, repeated, rest_of_variable, rest_of_layer, sign_of, word_of};
+ghost use Rattle.ygg_syntax.specs.Pending.{perhaps, repeated, rest_of_variable, rest_of_layer, word_of};
 ghost use Rattle.ygg_syntax.specs.Pending as pending;
 ghost use Rattle.ygg_read.specs.ExpressionSteps.{Reads, Goes, Stops, IfRead, OnRead, IfRefused};
 ghost use Rattle.ygg_read.specs.Steps.{ForPart};
@@ -24,7 +22,7 @@ use sqlite_items::Items;
 use ygg_base::{Keyword, Symbol};
 use ygg_list::NoMemory;
 use ygg_syntax::grammar::BlockKind;
-use ygg_syntax::tree::{Block, Declared, Layer, Name, Operation, Place, Tick};
+use ygg_syntax::tree::{Block, Declared, Layer, Operation, Place, Tick};
 
 /// The variables of a layer and the blocks that set them up.
 #[derive(Drop)]
@@ -75,13 +73,13 @@ fn layer(reader: &mut Reader<'_>, place: Place) -> Result<Option<Layer>, NoMemor
     ensures refused { IfRefused result (Stops rest_of_layer reader.old reader.new) }
     ensures shorter { OnRead result (length reader.new < length reader.old) }
 {
-    let Some(name) = opening(reader)? else {
+    let Some(name) = reader.name_before(Symbol::BraceOpen)? else {
         return Ok(None);
     };
     let Some((name, parts)) = both(name, parts(reader))? else {
         return Ok(None);
     };
-    let (setup, steps, claims) = parts;
+    let (setup, (steps, claims)) = parts;
     Ok(Some(Layer {
         place,
         name,
@@ -101,25 +99,11 @@ fn layer(reader: &mut Reader<'_>, place: Place) -> Result<Option<Layer>, NoMemor
     }))
 }
 
-/// Reads the name of a layer and the brace after it.
-fn opening(reader: &mut Reader<'_>) -> Result<Option<Name>, NoMemory>
-    ensures reads { IfRead result (λ x. Reads (named x ∷ symbol sign.BraceOpen ∷ []) reader.old reader.new) }
-    ensures goes { OnRead result (Goes (name ∷ sign_of sign.BraceOpen ∷ []) reader.old reader.new) }
-    ensures refused { IfRefused result (Stops (name ∷ sign_of sign.BraceOpen ∷ []) reader.old reader.new) }
-    ensures shorter { OnRead result (length reader.new < length reader.old) }
-{
-    let Some(name) = reader.name()? else {
-        return Ok(None);
-    };
-    let Some(name) = reader.symbol_after(name, Symbol::BraceOpen) else {
-        return Ok(None);
-    };
-    Ok(Some(name))
-}
-
 /// Reads what stands in the braces of a layer, and the last of them.
-fn parts(reader: &mut Reader<'_>) -> Result<Option<(LayerSetup, LayerSteps, LayerClaims)>, NoMemory>
-    ensures reads { IfRead result (λ read. Reads (setup_read read.0 ++ (steps_read read.1 ++ claims_read read.2)) reader.old reader.new) }
+fn parts(
+    reader: &mut Reader<'_>,
+) -> Result<Option<(LayerSetup, (LayerSteps, LayerClaims))>, NoMemory>
+    ensures reads { IfRead result (λ read. Reads (setup_read read.0 ++ (steps_read read.1.0 ++ claims_read read.1.1)) reader.old reader.new) }
     ensures goes { OnRead result (Goes (setup_pending ++ (steps_pending ++ claims_pending)) reader.old reader.new) }
     ensures refused { IfRefused result (Stops (setup_pending ++ (steps_pending ++ claims_pending)) reader.old reader.new) }
     ensures shorter { OnRead result (length reader.new ≤ length reader.old) }
@@ -127,11 +111,7 @@ fn parts(reader: &mut Reader<'_>) -> Result<Option<(LayerSetup, LayerSteps, Laye
     let Some(setup) = setup(reader)? else {
         return Ok(None);
     };
-    let Some(read) = both(setup, code(reader))? else {
-        return Ok(None);
-    };
-    let (setup, (steps, claims)) = read;
-    Ok(Some((setup, steps, claims)))
+    both(setup, code(reader))
 }
 
 /// Reads the variables of a layer and the blocks that set them up.
@@ -174,10 +154,7 @@ fn variables_and_block(
     let Some(all) = variables(reader, each)? else {
         return Ok(None);
     };
-    let Some(read) = both(all, optional(reader, setup, kind))? else {
-        return Ok(None);
-    };
-    Ok(Some(read))
+    both(all, optional(reader, setup, kind))
 }
 
 /// Reads what a layer does and what it claims.
@@ -190,10 +167,7 @@ fn code(reader: &mut Reader<'_>) -> Result<Option<(LayerSteps, LayerClaims)>, No
     let Some(steps) = steps(reader)? else {
         return Ok(None);
     };
-    let Some(read) = both(steps, claims(reader))? else {
-        return Ok(None);
-    };
-    Ok(Some(read))
+    both(steps, claims(reader))
 }
 
 /// Reads what a layer does.
@@ -235,10 +209,7 @@ fn after_operations(reader: &mut Reader<'_>) -> Result<Option<AfterOperations>, 
     let Some(crash) = crash(reader)? else {
         return Ok(None);
     };
-    let Some(read) = both(crash, ticks_and_recover(reader))? else {
-        return Ok(None);
-    };
-    Ok(Some(read))
+    both(crash, ticks_and_recover(reader))
 }
 
 /// Reads the keyword `crash` and its block, or nothing where the keyword doesn't come.
@@ -269,8 +240,5 @@ fn ticks_and_recover(reader: &mut Reader<'_>) -> Result<Option<(Items<Tick>, Blo
     let Some(all) = ticks(reader)? else {
         return Ok(None);
     };
-    let Some(read) = both(all, optional(reader, Keyword::Recover, BlockKind::Impl))? else {
-        return Ok(None);
-    };
-    Ok(Some(read))
+    both(all, optional(reader, Keyword::Recover, BlockKind::Impl))
 }

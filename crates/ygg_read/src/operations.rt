@@ -134,10 +134,7 @@ fn silent_code(reader: &mut Reader<'_>) -> Result<Option<(Option<Block>, Block)>
     let Some(on_crash) = crash_case(reader)? else {
         return Ok(None);
     };
-    let Some(read) = both(on_crash, block(reader, BlockKind::Impl))? else {
-        return Ok(None);
-    };
-    Ok(Some(read))
+    both(on_crash, block(reader, BlockKind::Impl))
 }
 
 /// Reads the answer and the blocks of an operation, after the arrow.
@@ -181,10 +178,7 @@ fn answering_code(reader: &mut Reader<'_>) -> Result<Option<(Option<Block>, Bloc
     let Some(on_crash) = crash_case(reader)? else {
         return Ok(None);
     };
-    let Some(read) = both(on_crash, answering(reader, BlockKind::Impl))? else {
-        return Ok(None);
-    };
-    Ok(Some(read))
+    both(on_crash, answering(reader, BlockKind::Impl))
 }
 
 /// Reads the block for a crash, where one is written, and the keyword of the implementation.
@@ -197,10 +191,7 @@ fn crash_case(reader: &mut Reader<'_>) -> Result<Option<Option<Block>>, NoMemory
     let Some(on_crash) = on_crash(reader)? else {
         return Ok(None);
     };
-    let Some(on_crash) = reader.keyword_after(on_crash, Keyword::Impl) else {
-        return Ok(None);
-    };
-    Ok(Some(on_crash))
+    Ok(reader.keyword_after(on_crash, Keyword::Impl))
 }
 
 /// Reads the block for a crash, or nothing where its keyword doesn't come.

@@ -50,10 +50,7 @@ pub fn answer(reader: &mut Reader<'_>) -> Result<Option<Expr>, NoMemory>
     let Some(e) = expression_before(reader, Symbol::Semicolon)? else {
         return Ok(None);
     };
-    let Some(e) = reader.symbol_after(e, Symbol::BraceClose) else {
-        return Ok(None);
-    };
-    Ok(Some(e))
+    Ok(reader.symbol_after(e, Symbol::BraceClose))
 }
 
 /// Reads an expression and this symbol after it.
@@ -66,10 +63,7 @@ pub fn expression_before(reader: &mut Reader<'_>, after: Symbol) -> Result<Optio
     let Some(e) = reader.expression()? else {
         return Ok(None);
     };
-    let Some(e) = reader.symbol_after(e, after) else {
-        return Ok(None);
-    };
-    Ok(Some(e))
+    Ok(reader.symbol_after(e, after))
 }
 
 /// Reads a right side and the semicolon after it.
@@ -82,10 +76,7 @@ fn value(reader: &mut Reader<'_>, kind: BlockKind) -> Result<Option<Source>, NoM
     let Some(source) = reader.source(kind)? else {
         return Ok(None);
     };
-    let Some(source) = reader.symbol_after(source, Symbol::Semicolon) else {
-        return Ok(None);
-    };
-    Ok(Some(source))
+    Ok(reader.symbol_after(source, Symbol::Semicolon))
 }
 
 /// Reads what follows a `let`.
@@ -97,10 +88,7 @@ pub fn binding(reader: &mut Reader<'_>, kind: BlockKind) -> Result<Option<Stmt>,
         []) reader.old reader.new) }
     ensures shorter { OnRead result (length reader.new < length reader.old) }
 {
-    let Some(name) = reader.name()? else {
-        return Ok(None);
-    };
-    let Some(name) = reader.symbol_after(name, Symbol::Assign) else {
+    let Some(name) = reader.name_before(Symbol::Assign)? else {
         return Ok(None);
     };
     let Some((name, source)) = both(name, value(reader, kind))? else {
@@ -148,10 +136,7 @@ fn indexed_value(
     let Some(indices) = reader.symbol_after(indices, Symbol::Assign) else {
         return Ok(None);
     };
-    let Some(read) = both(indices, value(reader, kind))? else {
-        return Ok(None);
-    };
-    Ok(Some(read))
+    both(indices, value(reader, kind))
 }
 
 /// Reads as many indices as come.

@@ -2,9 +2,9 @@ ghost use Rattle.std.specs.Prelude.{◌≡◌, ◌<◌, ◌≤◌, ℕ, List, []
 ghost use Rattle.ygg_base.specs.declared.token.Mark.TheVariants as mark;
 ghost use Rattle.ygg_base.specs.declared.token.Token.{Token};
 ghost use Rattle.ygg_syntax.specs.declared.tree.Place.{Place};
-ghost use Rattle.ygg_syntax.specs.Expressions.{operator_sign, named, numbered};
+ghost use Rattle.ygg_syntax.specs.Expressions.{operator_sign, symbol, named, numbered};
 ghost use Rattle.ygg_syntax.specs.Reading.{token, starts, passes, takes};
-ghost use Rattle.ygg_syntax.specs.Pending.{exactly, name, number, operator, operation_of};
+ghost use Rattle.ygg_syntax.specs.Pending.{exactly, name, number, operator, operation_of, sign_of};
 ghost use Rattle.ygg_read.specs.ExpressionSteps.{Reads, Goes, Stops, IfRead, OnRead, IfRefused};
 
 use std::alloc::Global;
@@ -175,6 +175,19 @@ impl<'a> Reader<'a> {
             }
         }
         Ok(None)
+    }
+
+    /// Takes a name and this symbol after it.
+    pub(crate) fn name_before(&mut self, after: Symbol) -> Result<Option<Name>, NoMemory>
+        ensures reads { IfRead result (λ x. Reads (named x ∷ symbol after ∷ []) self.old self.new) }
+        ensures goes { OnRead result (Goes (name ∷ sign_of after ∷ []) self.old self.new) }
+        ensures refused { IfRefused result (Stops (name ∷ sign_of after ∷ []) self.old self.new) }
+        ensures shorter { OnRead result (length self.new < length self.old) }
+    {
+        let Some(name) = self.name()? else {
+            return Ok(None);
+        };
+        Ok(self.symbol_after(name, after))
     }
 
     /// Takes the next token where it is an operator.

@@ -1,10 +1,7 @@
-ghost use Rattle.std.specs.Prelude.{◌≡◌, ◌<◌, List, [], ◌∷◌, length, false};
-ghost use Rattle.ygg_base.specs.declared.token.Keyword.TheVariants as word;
+ghost use Rattle.std.specs.Prelude.{◌≡◌, ◌<◌, [], ◌∷◌, length};
 ghost use Rattle.ygg_base.specs.declared.token.Symbol.TheVariants as sign;
-ghost use Rattle.ygg_base.specs.declared.token.Mark.TheVariants as mark;
 ghost use Rattle.ygg_syntax.specs.declared.grammar.BlockKind.TheVariants as purpose;
 ghost use Rattle.ygg_syntax.specs.Expressions.{named};
-ghost use Rattle.ygg_syntax.specs.Reading.{starts};
 ghost use Rattle.ygg_syntax.specs.Blocks.{source_in, bracketed};
 ghost use Rattle.ygg_syntax.specs.Pending.{name, rest_of_arguments, right_side, sign_of};
 ghost use Rattle.ygg_read.specs.ExpressionSteps.{Reads, Goes, Stops, IfRead, OnRead, IfRefused};
@@ -89,15 +86,9 @@ impl<'a> Reader<'a> {
         ensures refused { IfRefused result (Stops (name ∷ sign_of sign.RoundOpen ∷ rest_of_arguments ∷ []) self.old self.new) }
         ensures shorter { OnRead result (length self.new < length self.old) }
     {
-        let Some(name) = self.name()? else {
+        let Some(name) = self.name_before(Symbol::RoundOpen)? else {
             return Ok(None);
         };
-        let Some(name) = self.symbol_after(name, Symbol::RoundOpen) else {
-            return Ok(None);
-        };
-        let Some(read) = both(name, self.arguments())? else {
-            return Ok(None);
-        };
-        Ok(Some(read))
+        both(name, self.arguments())
     }
 }

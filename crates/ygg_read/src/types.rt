@@ -108,10 +108,7 @@ pub fn declared(reader: &mut Reader<'_>, sort: Sort) -> Result<Option<Declared>,
     ensures refused { IfRefused result (Stops (name ∷ sign_of sign.Colon ∷ some_type sort ∷ []) reader.old reader.new) }
     ensures shorter { OnRead result (length reader.new < length reader.old) }
 {
-    let Some(name) = reader.name()? else {
-        return Ok(None);
-    };
-    let Some(name) = reader.symbol_after(name, Symbol::Colon) else {
+    let Some(name) = reader.name_before(Symbol::Colon)? else {
         return Ok(None);
     };
     let Some(shape) = type_text(reader, sort) else {
@@ -154,8 +151,5 @@ fn list(reader: &mut Reader<'_>, sort: Sort) -> Result<Option<Items<Declared>>, 
         };
         all = more;
     }
-    let Some(all) = reader.symbol_after(all, Symbol::RoundClose) else {
-        return Ok(None);
-    };
-    Ok(Some(all))
+    Ok(reader.symbol_after(all, Symbol::RoundClose))
 }

@@ -52,10 +52,7 @@ fn rest_of_variable(reader: &mut Reader<'_>) -> Result<Option<Declared>, NoMemor
     let Some(read) = declared(reader, Sort::All)? else {
         return Ok(None);
     };
-    let Some(read) = reader.symbol_after(read, Symbol::Semicolon) else {
-        return Ok(None);
-    };
-    Ok(Some(read))
+    Ok(reader.symbol_after(read, Symbol::Semicolon))
 }
 
 /// Reads as many definitions as come.
@@ -109,16 +106,10 @@ pub fn named_list(
     ensures refused { IfRefused result (Stops (name ∷ sign_of sign.RoundOpen ∷ rest_of_declared sort ∷ []) reader.old reader.new) }
     ensures shorter { OnRead result (length reader.new < length reader.old) }
 {
-    let Some(name) = reader.name()? else {
+    let Some(name) = reader.name_before(Symbol::RoundOpen)? else {
         return Ok(None);
     };
-    let Some(name) = reader.symbol_after(name, Symbol::RoundOpen) else {
-        return Ok(None);
-    };
-    let Some(read) = both(name, parameters(reader, sort))? else {
-        return Ok(None);
-    };
-    Ok(Some(read))
+    both(name, parameters(reader, sort))
 }
 
 /// Reads what follows the parameters of a definition.

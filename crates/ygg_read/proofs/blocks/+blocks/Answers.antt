@@ -24,7 +24,7 @@ use Rattle.ygg_read.proofs.Begins.{
 }
 use Rattle.ygg_read.proofs.Lists.{statement_more, all_statements}
 use Rattle.ygg_read.proofs.Phrases.{reads_block, reads_written, reads_unwritten, reads_if, reads_for}
-use Rattle.ygg_read.proofs.Results.{where_read, where_gone, where_refused}
+use Rattle.ygg_read.proofs.Results.{where_read, where_gone, where_refused, where_joined, where_joined_gone, where_joined_refused}
 use Rattle.ygg_read.proofs.blocks.+blocks.Goals as goal
 
 pub block-returns-in_default-clause-refused : goal.block-returns-in_default-clause-refused
@@ -138,28 +138,31 @@ branch-returns-clause-goes t c =
     let blocks = rw parts.1 at c.sides.ensures.goes in
     λ qs. test (block c.args.kind ∷ perhaps (else_block c.args.kind) ∷ qs) ∙ blocks qs
 
-pub sides-returns-in_default-2-clause-refused : goal.sides-returns-in_default-2-clause-refused
-sides-returns-in_default-2-clause-refused t c =
+pub sides-returns-clause-refused : goal.sides-returns-clause-refused
+sides-returns-clause-refused t c =
     let gone = rw c.in-Some.is at c.in_ok-first.ensures.goes in
-    let none = rw c.in_default-2.is at c.in_ok-read.ensures.refused in
-    let stopped = rw none at c.optional.ensures.refused in
-    λ qs. gone (perhaps (else_block c.args.kind) ∷ qs) ∙ stopped (else_block c.args.kind) refl refl qs
+    where_joined_refused c.optional.result c.both.result _ _ c.both.ensures.refused c.optional.ensures.refused
+    (λ stopped qs. gone (perhaps (else_block c.args.kind) ∷ qs) ∙ stopped (else_block c.args.kind) refl refl qs)
 
 pub sides-returns-clause-reads : goal.sides-returns-clause-reads
 sides-returns-clause-reads t c =
-    let read = c.in-Some-2.read in
-    let parts = rw c.in-Some-2.is at c.in_ok-read.ensures.read in
-    let first = rw c.in-Some.is at c.in_ok-first.ensures.reads in
-    let block = rw parts.0 at first in
-    let rest = rw parts.1 at c.optional.ensures.reads in
-    λ qs. block (phrase.optional word.Else c.args.kind read.1 ∷ qs) ∙ rest qs
+    let whole = rw c.in-Some.is at c.in_ok-first.ensures.reads in
+    where_joined c.in-Some.first c.optional.result c.both.result _ c.both.ensures.read (λ read is next.
+    let first = rw is at whole in
+    let rest = rw next at c.optional.ensures.reads in
+    λ qs. first (phrase.optional word.Else c.args.kind read.1 ∷ qs) ∙ rest qs)
 
 pub sides-returns-clause-goes : goal.sides-returns-clause-goes
 sides-returns-clause-goes t c =
-    let parts = rw c.in-Some-2.is at c.in_ok-read.ensures.read in
-    let first = rw c.in-Some.is at c.in_ok-first.ensures.goes in
-    let rest = rw parts.1 at c.optional.ensures.goes in
-    λ qs. first (perhaps (else_block c.args.kind) ∷ qs) ∙ rest (else_block c.args.kind) refl refl qs
+    let gone = rw c.in-Some.is at c.in_ok-first.ensures.goes in
+    where_joined_gone c.in-Some.first c.optional.result c.both.result _ _ c.both.ensures.read c.optional.ensures.goes
+    (λ rest qs. gone (perhaps (else_block c.args.kind) ∷ qs) ∙ rest (else_block c.args.kind) refl refl qs)
+
+pub sides-returns-clause-shorter : goal.sides-returns-clause-shorter
+sides-returns-clause-shorter t c =
+    let before = rw c.in-Some.is at c.in_ok-first.ensures.shorter in
+    where_joined_gone c.in-Some.first c.optional.result c.both.result _ _ c.both.ensures.read c.optional.ensures.shorter
+    (λ shorter. omega (arith, before, shorter))
 
 pub repetition-returns-in_default-2-clause-refused : goal.repetition-returns-in_default-2-clause-refused
 repetition-returns-in_default-2-clause-refused t c =

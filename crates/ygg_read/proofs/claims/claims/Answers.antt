@@ -22,7 +22,7 @@ returns-clause-reads c =
     let whole = rw c.in-Some.is at c.in_ok-relate.ensures.reads in
     let first = rw parts.0 at whole in
     let rest = rw parts.1 at c.from_always.ensures.reads in
-    λ qs. first (in_turn (map (claim word.Always) others.0) ∷ in_turn (map (claim word.Settled) others.1) ∷ in_turn (map (claim word.Maybe) others.2)
+    λ qs. first (in_turn (map (claim word.Always) others.0) ∷ in_turn (map (claim word.Settled) others.1.0) ∷ in_turn (map (claim word.Maybe) others.1.1)
     ∷ symbol sign.BraceClose ∷ qs) ∙ rest qs
 
 pub returns-clause-goes : goal.returns-clause-goes

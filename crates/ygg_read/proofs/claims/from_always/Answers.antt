@@ -1,31 +1,35 @@
-use Rattle.std.proofs.Common.{◌∷◌, ◌∙◌, refl, map}
+use Rattle.std.proofs.Common.{◌∷◌, ◌∙◌, refl, map, arith}
 use Rattle.ygg_base.specs.declared.token.Keyword.TheVariants as word
 use Rattle.ygg_base.specs.declared.token.Symbol.TheVariants as sign
 use Rattle.ygg_syntax.specs.Reading.{in_turn}
 use Rattle.ygg_syntax.specs.Expressions.{symbol}
 use Rattle.ygg_syntax.specs.Files.{claim}
 use Rattle.ygg_syntax.specs.Pending.{repeated, always, settled, maybe, sign_of}
+use Rattle.ygg_read.proofs.Results.{where_joined, where_joined_gone, where_joined_refused}
 use Rattle.ygg_read.proofs.claims.from_always.Goals as goal
 
-pub returns-in_default-2-clause-refused : goal.returns-in_default-2-clause-refused
-returns-in_default-2-clause-refused c =
+pub returns-clause-refused : goal.returns-clause-refused
+returns-clause-refused c =
     let gone = rw c.in-Some.is at c.in_ok-always.ensures.goes in
-    let none = rw c.in_default-2.is at c.in_ok-always-2.ensures.refused in
-    let stopped = rw none at c.from_settled.ensures.refused in
-    λ qs. gone always refl refl (repeated settled ∷ repeated maybe ∷ sign_of sign.BraceClose ∷ qs) ∙ stopped qs
+    where_joined_refused c.from_settled.result c.both.result _ _ c.both.ensures.refused c.from_settled.ensures.refused
+    (λ stopped qs. gone always refl refl (repeated settled ∷ repeated maybe ∷ sign_of sign.BraceClose ∷ qs) ∙ stopped qs)
 
 pub returns-clause-reads : goal.returns-clause-reads
 returns-clause-reads c =
-    let rest = c.in-Some-2.rest in
-    let parts = rw c.in-Some-2.is at c.in_ok-always-2.ensures.read in
-    let first = rw c.in-Some.is at c.in_ok-always.ensures.reads in
-    let list = rw parts.0 at first in
-    let others = rw parts.1 at c.from_settled.ensures.reads in
-    λ qs. list (in_turn (map (claim word.Settled) rest.0) ∷ in_turn (map (claim word.Maybe) rest.1) ∷ symbol sign.BraceClose ∷ qs) ∙ others qs
+    let whole = rw c.in-Some.is at c.in_ok-always.ensures.reads in
+    where_joined c.in-Some.always c.from_settled.result c.both.result _ c.both.ensures.read (λ read is next.
+    let first = rw is at whole in
+    let rest = rw next at c.from_settled.ensures.reads in
+    λ qs. first (in_turn (map (claim word.Settled) read.1.0) ∷ in_turn (map (claim word.Maybe) read.1.1) ∷ symbol sign.BraceClose ∷ qs) ∙ rest qs)
 
 pub returns-clause-goes : goal.returns-clause-goes
 returns-clause-goes c =
-    let parts = rw c.in-Some-2.is at c.in_ok-always-2.ensures.read in
     let gone = rw c.in-Some.is at c.in_ok-always.ensures.goes in
-    let others = rw parts.1 at c.from_settled.ensures.goes in
-    λ qs. gone always refl refl (repeated settled ∷ repeated maybe ∷ sign_of sign.BraceClose ∷ qs) ∙ others qs
+    where_joined_gone c.in-Some.always c.from_settled.result c.both.result _ _ c.both.ensures.read c.from_settled.ensures.goes
+    (λ rest qs. gone always refl refl (repeated settled ∷ repeated maybe ∷ sign_of sign.BraceClose ∷ qs) ∙ rest qs)
+
+pub returns-clause-shorter : goal.returns-clause-shorter
+returns-clause-shorter c =
+    let before = rw c.in-Some.is at c.in_ok-always.ensures.shorter in
+    where_joined_gone c.in-Some.always c.from_settled.result c.both.result _ _ c.both.ensures.read c.from_settled.ensures.shorter
+    (λ shorter. omega (arith, before, shorter))

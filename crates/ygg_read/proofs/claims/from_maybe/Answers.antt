@@ -1,10 +1,28 @@
-use Rattle.std.proofs.Common.{◌∷◌, ◌∙◌}
+use Rattle.std.proofs.Common.{◌∷◌, ◌∙◌, refl, arith}
 use Rattle.ygg_base.specs.declared.token.Symbol.TheVariants as sign
 use Rattle.ygg_syntax.specs.Expressions.{symbol}
+use Rattle.ygg_syntax.specs.Pending.{maybe, sign_of}
+use Rattle.ygg_read.proofs.Answered.{if_none}
+use Rattle.ygg_read.proofs.Results.{where_same, where_some}
 use Rattle.ygg_read.proofs.claims.from_maybe.Goals as goal
 
 pub returns-clause-reads : goal.returns-clause-reads
 returns-clause-reads c =
     let first = rw c.in-Some.is at c.in_ok-maybe.ensures.reads in
-    let read = rw c.in-Some-symbol_after.ensures.same at first in
-    λ qs. read (symbol sign.BraceClose ∷ qs) ∙ c.in-Some-symbol_after.ensures.reads qs
+    where_same c.in-Some.maybe c.symbol_after.result _ _ c.symbol_after.ensures.same c.symbol_after.ensures.reads
+    (λ read qs. first (symbol sign.BraceClose ∷ qs) ∙ read qs)
+
+pub returns-clause-goes : goal.returns-clause-goes
+returns-clause-goes c =
+    let first = rw c.in-Some.is at c.in_ok-maybe.ensures.goes in
+    where_some c.symbol_after.result _ _ (λ gone qs. first maybe refl refl (sign_of sign.BraceClose ∷ qs) ∙ gone qs) c.symbol_after.ensures.goes
+
+pub returns-clause-refused : goal.returns-clause-refused
+returns-clause-refused c =
+    let first = rw c.in-Some.is at c.in_ok-maybe.ensures.goes in
+    if_none c.symbol_after.result _ _ (λ stopped qs. first maybe refl refl (sign_of sign.BraceClose ∷ qs) ∙ stopped qs) c.symbol_after.ensures.refused
+
+pub returns-clause-shorter : goal.returns-clause-shorter
+returns-clause-shorter c =
+    let before = rw c.in-Some.is at c.in_ok-maybe.ensures.shorter in
+    where_some c.symbol_after.result _ _ (λ shorter. omega (arith, before, shorter)) c.symbol_after.ensures.shorter

@@ -1,29 +1,33 @@
-use Rattle.std.proofs.Common.{◌∷◌, ◌∙◌, refl}
+use Rattle.std.proofs.Common.{◌∷◌, ◌∙◌, refl, arith}
 use Rattle.ygg_base.specs.declared.token.Keyword.TheVariants as word
 use Rattle.ygg_syntax.specs.declared.grammar.BlockKind.TheVariants.{Impl}
 use Rattle.ygg_syntax.specs.Blocks.{optional}
 use Rattle.ygg_syntax.specs.Pending.{perhaps, recover_block}
+use Rattle.ygg_read.proofs.Results.{where_joined, where_joined_gone, where_joined_refused}
 use Rattle.ygg_read.proofs.layer.ticks_and_recover.Goals as goal
 
-pub returns-in_default-2-clause-refused : goal.returns-in_default-2-clause-refused
-returns-in_default-2-clause-refused c =
+pub returns-clause-refused : goal.returns-clause-refused
+returns-clause-refused c =
     let gone = rw c.in-Some.is at c.in_ok-all.ensures.goes in
-    let none = rw c.in_default-2.is at c.in_ok-read.ensures.refused in
-    let stopped = rw none at c.optional.ensures.refused in
-    λ qs. gone (perhaps recover_block ∷ qs) ∙ stopped recover_block refl refl qs
+    where_joined_refused c.optional.result c.both.result _ _ c.both.ensures.refused c.optional.ensures.refused
+    (λ stopped qs. gone (perhaps recover_block ∷ qs) ∙ stopped recover_block refl refl qs)
 
 pub returns-clause-reads : goal.returns-clause-reads
 returns-clause-reads c =
-    let read = c.in-Some-2.read in
-    let parts = rw c.in-Some-2.is at c.in_ok-read.ensures.read in
-    let first = rw c.in-Some.is at c.in_ok-all.ensures.reads in
-    let all = rw parts.0 at first in
-    let block = rw parts.1 at c.optional.ensures.reads in
-    λ qs. all (optional word.Recover Impl read.1 ∷ qs) ∙ block qs
+    let whole = rw c.in-Some.is at c.in_ok-all.ensures.reads in
+    where_joined c.in-Some.all c.optional.result c.both.result _ c.both.ensures.read (λ read is next.
+    let first = rw is at whole in
+    let rest = rw next at c.optional.ensures.reads in
+    λ qs. first (optional word.Recover Impl read.1 ∷ qs) ∙ rest qs)
 
 pub returns-clause-goes : goal.returns-clause-goes
 returns-clause-goes c =
-    let parts = rw c.in-Some-2.is at c.in_ok-read.ensures.read in
     let gone = rw c.in-Some.is at c.in_ok-all.ensures.goes in
-    let block = rw parts.1 at c.optional.ensures.goes in
-    λ qs. gone (perhaps recover_block ∷ qs) ∙ block recover_block refl refl qs
+    where_joined_gone c.in-Some.all c.optional.result c.both.result _ _ c.both.ensures.read c.optional.ensures.goes
+    (λ rest qs. gone (perhaps recover_block ∷ qs) ∙ rest recover_block refl refl qs)
+
+pub returns-clause-shorter : goal.returns-clause-shorter
+returns-clause-shorter c =
+    let before = rw c.in-Some.is at c.in_ok-all.ensures.shorter in
+    where_joined_gone c.in-Some.all c.optional.result c.both.result _ _ c.both.ensures.read c.optional.ensures.shorter
+    (λ shorter. omega (arith, before, shorter))

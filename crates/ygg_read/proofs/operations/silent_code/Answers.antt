@@ -1,28 +1,32 @@
-use Rattle.std.proofs.Common.{◌∷◌, ◌∙◌}
+use Rattle.std.proofs.Common.{◌∷◌, ◌∙◌, arith}
 use Rattle.ygg_syntax.specs.declared.grammar.BlockKind.TheVariants.{Impl}
 use Rattle.ygg_syntax.specs.Blocks.{block}
 use Rattle.ygg_syntax.specs.Pending as pending
+use Rattle.ygg_read.proofs.Results.{where_joined, where_joined_gone, where_joined_refused}
 use Rattle.ygg_read.proofs.operations.silent_code.Goals as goal
 
-pub returns-in_default-2-clause-refused : goal.returns-in_default-2-clause-refused
-returns-in_default-2-clause-refused c =
+pub returns-clause-refused : goal.returns-clause-refused
+returns-clause-refused c =
     let gone = rw c.in-Some.is at c.in_ok-on_crash.ensures.goes in
-    let none = rw c.in_default-2.is at c.in_ok-read.ensures.refused in
-    let stopped = rw none at c.block.ensures.refused in
-    λ qs. gone (pending.block Impl ∷ qs) ∙ stopped qs
+    where_joined_refused c.block.result c.both.result _ _ c.both.ensures.refused c.block.ensures.refused
+    (λ stopped qs. gone (pending.block Impl ∷ qs) ∙ stopped qs)
 
 pub returns-clause-reads : goal.returns-clause-reads
 returns-clause-reads c =
-    let read = c.in-Some-2.read in
-    let parts = rw c.in-Some-2.is at c.in_ok-read.ensures.read in
     let whole = rw c.in-Some.is at c.in_ok-on_crash.ensures.reads in
-    let first = rw parts.0 at whole in
-    let rest = rw parts.1 at c.block.ensures.reads in
-    λ qs. first (block Impl read.1 ∷ qs) ∙ rest qs
+    where_joined c.in-Some.on_crash c.block.result c.both.result _ c.both.ensures.read (λ read is next.
+    let first = rw is at whole in
+    let rest = rw next at c.block.ensures.reads in
+    λ qs. first (block Impl read.1 ∷ qs) ∙ rest qs)
 
 pub returns-clause-goes : goal.returns-clause-goes
 returns-clause-goes c =
-    let parts = rw c.in-Some-2.is at c.in_ok-read.ensures.read in
     let gone = rw c.in-Some.is at c.in_ok-on_crash.ensures.goes in
-    let rest = rw parts.1 at c.block.ensures.goes in
-    λ qs. gone (pending.block Impl ∷ qs) ∙ rest qs
+    where_joined_gone c.in-Some.on_crash c.block.result c.both.result _ _ c.both.ensures.read c.block.ensures.goes
+    (λ rest qs. gone (pending.block Impl ∷ qs) ∙ rest qs)
+
+pub returns-clause-shorter : goal.returns-clause-shorter
+returns-clause-shorter c =
+    let before = rw c.in-Some.is at c.in_ok-on_crash.ensures.shorter in
+    where_joined_gone c.in-Some.on_crash c.block.result c.both.result _ _ c.both.ensures.read c.block.ensures.shorter
+    (λ shorter. omega (arith, before, shorter))

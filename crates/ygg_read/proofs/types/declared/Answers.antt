@@ -7,10 +7,8 @@ use Rattle.ygg_read.proofs.types.declared.Goals as goal
 
 pub returns-clause-reads : goal.returns-clause-reads
 returns-clause-reads c =
-    let x = c.in-Some-symbol_after.name in
+    let x = c.in-Some.name in
     let shape = c.in-Some-type_text.shape in
-    let first = rw c.in-Some.is at c.in_ok-name.ensures.reads in
-    let name = rw c.in-Some-symbol_after.ensures.same at first in
+    let name = rw c.in-Some.is at c.in_ok-name.ensures.reads in
     λ qs. joined (named x ∷ symbol sign.Colon ∷ type_in c.args.sort shape ∷ []) qs c.args.reader.now
-    ∙ name (symbol sign.Colon ∷ type_in c.args.sort shape ∷ qs) ∙ c.in-Some-symbol_after.ensures.reads (type_in c.args.sort shape ∷ qs)
-    ∙ c.in-Some-type_text.ensures.reads qs
+    ∙ name (type_in c.args.sort shape ∷ qs) ∙ c.in-Some-type_text.ensures.reads qs

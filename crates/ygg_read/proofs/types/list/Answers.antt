@@ -4,6 +4,8 @@ use Rattle.ygg_syntax.specs.Reading.{in_turn}
 use Rattle.ygg_syntax.specs.Expressions.{symbol}
 use Rattle.ygg_syntax.specs.Pending.{repeated, next_declared, sign_of, outcome}
 use Rattle.ygg_read.proofs.ClaimLists.{first_declared, more_declared_read, declared_read, declared_gone, declared_stops}
+use Rattle.ygg_read.proofs.Answered.{if_none}
+use Rattle.ygg_read.proofs.Results.{where_same, where_some}
 use Rattle.ygg_read.proofs.types.list.Goals as goal
 
 pub loop-all-init : goal.loop-all-init
@@ -44,20 +46,25 @@ returns-in_default-2-clause-refused c =
     λ qs. declared_stops c.args.sort _ c.loop-all.reader c.symbol.new.self c.declared-in-Some-symbol.new.reader c.loop-all.all c.in-Some-symbol.field-0
     c.loop-all.invariant c.in-Some-symbol.ensures.taken stopped (sign_of sign.RoundClose ∷ qs)
 
-pub returns-in_default-symbol_after-clause-refused : goal.returns-in_default-symbol_after-clause-refused
-returns-in_default-symbol_after-clause-refused c =
-    λ qs. declared_gone c.args.sort _ c.loop-all.reader c.loop-all.all c.loop-all.invariant c.in_default-symbol.ensures.other
-    (sign_of sign.RoundClose ∷ qs)
-    ∙ ap (outcome (sign_of sign.RoundClose ∷ qs)) (sym c.in_default-symbol.ensures.left) ∙ c.in_default-symbol_after.ensures.refused qs
+pub returns-clause-refused : goal.returns-clause-refused
+returns-clause-refused c =
+    if_none c.symbol_after.result _ _ (λ stopped qs.
+    declared_gone c.args.sort _ c.loop-all.reader c.loop-all.all c.loop-all.invariant c.in_default-symbol.ensures.other (sign_of sign.RoundClose ∷ qs)
+    ∙ ap (outcome (sign_of sign.RoundClose ∷ qs)) (sym c.in_default-symbol.ensures.left) ∙ stopped qs) c.symbol_after.ensures.refused
 
 pub returns-clause-reads : goal.returns-clause-reads
 returns-clause-reads c =
-    let read = rw c.in-Some-symbol_after.ensures.same at (declared_read c.args.sort _ c.loop-all.reader c.loop-all.all c.loop-all.invariant) in
-    λ qs. read (symbol sign.RoundClose ∷ qs)
-    ∙ ap (in_turn (symbol sign.RoundClose ∷ qs)) (sym c.in_default-symbol.ensures.left) ∙ c.in-Some-symbol_after.ensures.reads qs
+    where_same c.loop-all.all c.symbol_after.result _ _ c.symbol_after.ensures.same c.symbol_after.ensures.reads (λ read qs.
+    declared_read c.args.sort _ c.loop-all.reader c.loop-all.all c.loop-all.invariant (symbol sign.RoundClose ∷ qs)
+    ∙ ap (in_turn (symbol sign.RoundClose ∷ qs)) (sym c.in_default-symbol.ensures.left) ∙ read qs)
 
 pub returns-clause-goes : goal.returns-clause-goes
 returns-clause-goes c =
-    λ qs. declared_gone c.args.sort _ c.loop-all.reader c.loop-all.all c.loop-all.invariant c.in_default-symbol.ensures.other
-    (sign_of sign.RoundClose ∷ qs)
-    ∙ ap (outcome (sign_of sign.RoundClose ∷ qs)) (sym c.in_default-symbol.ensures.left) ∙ c.in-Some-symbol_after.ensures.goes qs
+    where_some c.symbol_after.result _ _ (λ gone qs.
+    declared_gone c.args.sort _ c.loop-all.reader c.loop-all.all c.loop-all.invariant c.in_default-symbol.ensures.other (sign_of sign.RoundClose ∷ qs)
+    ∙ ap (outcome (sign_of sign.RoundClose ∷ qs)) (sym c.in_default-symbol.ensures.left) ∙ gone qs) c.symbol_after.ensures.goes
+
+pub returns-clause-shorter : goal.returns-clause-shorter
+returns-clause-shorter c =
+    where_some c.symbol_after.result _ _ (λ shorter. omega (arith, shorter, c.loop-all.invariant.shorter, ap length c.in_default-symbol.ensures.left))
+    c.symbol_after.ensures.shorter

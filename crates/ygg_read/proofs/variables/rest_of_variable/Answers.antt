@@ -1,15 +1,33 @@
-use Rattle.std.proofs.Common.{[], ◌∷◌, ◌∙◌}
+use Rattle.std.proofs.Common.{[], ◌∷◌, ◌∙◌, arith}
 use Rattle.ygg_base.specs.declared.token.Symbol.TheVariants as sign
 use Rattle.ygg_base.specs.declared.token.Mark.TheVariants as mark
 use Rattle.ygg_syntax.specs.declared.grammar.Sort.TheVariants as sorts
 use Rattle.ygg_syntax.specs.Expressions.{symbol}
 use Rattle.ygg_syntax.specs.Files.{declared}
+use Rattle.ygg_syntax.specs.Pending.{sign_of}
 use Rattle.ygg_read.proofs.Files.{opened}
+use Rattle.ygg_read.proofs.Answered.{if_none}
+use Rattle.ygg_read.proofs.Results.{where_same, where_some}
 use Rattle.ygg_read.proofs.variables.rest_of_variable.Goals as goal
 
 pub returns-clause-reads : goal.returns-clause-reads
 returns-clause-reads c =
     let first = rw c.in-Some.is at c.in_ok-read.ensures.reads in
-    let read = rw c.in-Some-symbol_after.ensures.same at first in
-    λ k at qs. opened (mark.Keyword k) (declared sorts.All c.in-Some-symbol_after.read ∷ symbol sign.Semicolon ∷ []) at c.args.reader.now qs
-    ∙ read (symbol sign.Semicolon ∷ qs) ∙ c.in-Some-symbol_after.ensures.reads qs
+    where_same c.in-Some.read c.symbol_after.result _ _ c.symbol_after.ensures.same c.symbol_after.ensures.reads
+    (λ read k at qs. opened (mark.Keyword k) (declared sorts.All c.in-Some.read ∷ symbol sign.Semicolon ∷ []) at c.args.reader.now qs
+    ∙ first (symbol sign.Semicolon ∷ qs) ∙ read qs)
+
+pub returns-clause-goes : goal.returns-clause-goes
+returns-clause-goes c =
+    let first = rw c.in-Some.is at c.in_ok-read.ensures.goes in
+    where_some c.symbol_after.result _ _ (λ gone qs. first (sign_of sign.Semicolon ∷ qs) ∙ gone qs) c.symbol_after.ensures.goes
+
+pub returns-clause-refused : goal.returns-clause-refused
+returns-clause-refused c =
+    let first = rw c.in-Some.is at c.in_ok-read.ensures.goes in
+    if_none c.symbol_after.result _ _ (λ stopped qs. first (sign_of sign.Semicolon ∷ qs) ∙ stopped qs) c.symbol_after.ensures.refused
+
+pub returns-clause-shorter : goal.returns-clause-shorter
+returns-clause-shorter c =
+    let before = rw c.in-Some.is at c.in_ok-read.ensures.shorter in
+    where_some c.symbol_after.result _ _ (λ shorter. omega (arith, before, shorter)) c.symbol_after.ensures.shorter

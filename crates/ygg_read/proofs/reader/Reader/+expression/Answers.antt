@@ -40,7 +40,8 @@ use Rattle.ygg_read.proofs.ExpressionPhrases.{
   reads_row,
   reads_quantified,
 }
-use Rattle.ygg_read.proofs.Results.{where_both, where_gone, where_refused, where_some}
+use Rattle.ygg_read.proofs.Answered.{if_none}
+use Rattle.ygg_read.proofs.Results.{where_both, where_gone, where_refused, where_some, where_same}
 use Rattle.ygg_read.proofs.Stopped.{stopped_expression, dropped_indices, dropped_arguments, dropped_more, some_argument}
 use Rattle.ygg_read.proofs.reader.Reader.+expression.Goals as goal
 
@@ -437,27 +438,33 @@ list-returns-in_default-2-clause-refused t c =
     ∙ ap (outcome (more_expressions ∷ sign_of sign.RoundClose ∷ qs)) c.in-Some-symbol.ensures.taken
     ∙ begins_more c.in-Some-symbol.field-0 c.symbol.new.self (sign_of sign.RoundClose ∷ qs) ∙ stopped (more_expressions ∷ sign_of sign.RoundClose ∷ qs)
 
-pub list-returns-in_default-symbol_after-clause-refused : goal.list-returns-in_default-symbol_after-clause-refused
-list-returns-in_default-symbol_after-clause-refused t c =
-    λ qs. c.loop-parts.invariant.goes (sign_of sign.RoundClose ∷ qs)
+pub list-returns-clause-refused : goal.list-returns-clause-refused
+list-returns-clause-refused t c =
+    if_none c.symbol_after.result _ _ (λ stopped qs. c.loop-parts.invariant.goes (sign_of sign.RoundClose ∷ qs)
     ∙ dropped_more c.loop-parts.self c.in_default-symbol.ensures.other (sign_of sign.RoundClose ∷ qs)
-    ∙ ap (outcome (sign_of sign.RoundClose ∷ qs)) (sym c.in_default-symbol.ensures.left) ∙ c.in_default-symbol_after.ensures.refused qs
+    ∙ ap (outcome (sign_of sign.RoundClose ∷ qs)) (sym c.in_default-symbol.ensures.left) ∙ stopped qs) c.symbol_after.ensures.refused
 
 pub list-returns-clause-reads : goal.list-returns-clause-reads
 list-returns-clause-reads t c =
-    let read = rw c.in-Some-symbol_after.ensures.same at (all_read c.args.self.now c.loop-parts.self c.loop-parts.parts c.loop-parts.invariant) in
-    λ qs. read (symbol sign.RoundClose ∷ qs) ∙ ap (in_turn (symbol sign.RoundClose ∷ qs)) (sym c.in_default-symbol.ensures.left)
-    ∙ c.in-Some-symbol_after.ensures.reads qs
+    where_same c.loop-parts.parts c.symbol_after.result _ _ c.symbol_after.ensures.same c.symbol_after.ensures.reads (λ read qs.
+    all_read c.args.self.now c.loop-parts.self c.loop-parts.parts c.loop-parts.invariant (symbol sign.RoundClose ∷ qs)
+    ∙ ap (in_turn (symbol sign.RoundClose ∷ qs)) (sym c.in_default-symbol.ensures.left) ∙ read qs)
 
 pub list-returns-clause-filled : goal.list-returns-clause-filled
 list-returns-clause-filled t c =
-    rw c.in-Some-symbol_after.ensures.same at (all_filled c.args.self.now c.loop-parts.self c.loop-parts.parts c.loop-parts.invariant)
+    where_same c.loop-parts.parts c.symbol_after.result _ _ c.symbol_after.ensures.same c.symbol_after.ensures.reads (λ read.
+    all_filled c.args.self.now c.loop-parts.self c.loop-parts.parts c.loop-parts.invariant)
 
 pub list-returns-clause-goes : goal.list-returns-clause-goes
 list-returns-clause-goes t c =
-    λ qs. c.loop-parts.invariant.goes (sign_of sign.RoundClose ∷ qs)
+    where_some c.symbol_after.result _ _ (λ gone qs. c.loop-parts.invariant.goes (sign_of sign.RoundClose ∷ qs)
     ∙ dropped_more c.loop-parts.self c.in_default-symbol.ensures.other (sign_of sign.RoundClose ∷ qs)
-    ∙ ap (outcome (sign_of sign.RoundClose ∷ qs)) (sym c.in_default-symbol.ensures.left) ∙ c.in-Some-symbol_after.ensures.goes qs
+    ∙ ap (outcome (sign_of sign.RoundClose ∷ qs)) (sym c.in_default-symbol.ensures.left) ∙ gone qs) c.symbol_after.ensures.goes
+
+pub list-returns-clause-shorter : goal.list-returns-clause-shorter
+list-returns-clause-shorter t c =
+    where_some c.symbol_after.result _ _ (λ shorter. omega (arith, shorter, c.loop-parts.invariant.shorter, ap length c.in_default-symbol.ensures.left))
+    c.symbol_after.ensures.shorter
 
 pub named-returns-in_default-clause-reads : goal.named-returns-in_default-clause-reads
 named-returns-in_default-clause-reads t c =

@@ -1,0 +1,27 @@
+use Rattle.std.proofs.Common.{◌∷◌, ◌∙◌, ap, length, arith}
+use Rattle.ygg_syntax.specs.Expressions.{symbol}
+use Rattle.ygg_syntax.specs.Pending.{sign_of}
+use Rattle.ygg_read.proofs.Answered.{if_none}
+use Rattle.ygg_read.proofs.Results.{where_same, where_some}
+use Rattle.ygg_read.proofs.reader.Reader.name_before.Goals as goal
+
+pub returns-clause-reads : goal.returns-clause-reads
+returns-clause-reads c =
+    let first = rw c.in-Some.is at c.in_ok-name.ensures.reads in
+    where_same c.in-Some.name c.symbol_after.result _ _ c.symbol_after.ensures.same c.symbol_after.ensures.reads
+    (λ read qs. first (symbol c.args.after ∷ qs) ∙ read qs)
+
+pub returns-clause-goes : goal.returns-clause-goes
+returns-clause-goes c =
+    let first = rw c.in-Some.is at c.in_ok-name.ensures.goes in
+    where_some c.symbol_after.result _ _ (λ gone qs. first (sign_of c.args.after ∷ qs) ∙ gone qs) c.symbol_after.ensures.goes
+
+pub returns-clause-refused : goal.returns-clause-refused
+returns-clause-refused c =
+    let first = rw c.in-Some.is at c.in_ok-name.ensures.goes in
+    if_none c.symbol_after.result _ _ (λ stopped qs. first (sign_of c.args.after ∷ qs) ∙ stopped qs) c.symbol_after.ensures.refused
+
+pub returns-clause-shorter : goal.returns-clause-shorter
+returns-clause-shorter c =
+    let taken = rw c.in-Some.is at c.in_ok-name.ensures.taken in
+    where_some c.symbol_after.result _ _ (λ shorter. omega (arith, shorter, ap length taken)) c.symbol_after.ensures.shorter
