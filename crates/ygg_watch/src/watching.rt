@@ -89,8 +89,8 @@ impl Propagate for Watch {
     ghost state = { λ s. s };
 
     fn add(&mut self, clause: &Clause) -> Result<(), NoMemory> {
-        let kept = PackedClause::of(*self.clauses.allocator(), clause.as_slice())?;
         self.clauses.reserve(1)?;
+        let kept = PackedClause::of(*self.clauses.allocator(), clause.as_slice())?;
         self.links.add()?;
         self.clauses.push_reserved(kept);
         Ok(())
@@ -148,12 +148,7 @@ impl Propagate for Watch {
     }
 
     fn assigned(&self, var: u64) -> Option<Assigned> {
-        let entry = self.trail.entry_of(var)?;
-        Some(Assigned {
-            value: !entry.lit.negated,
-            level: entry.level,
-            reason: entry.reason,
-        })
+        self.trail.assigned(var)
     }
 }
 
