@@ -72,13 +72,14 @@ impl Watch {
         ensures fresh { IfOk result (IsFresh clauses.items) }
         ensures variable_count { IfOk result (λ p. p.variable_count ≡ variable_count) }
     {
+        let frames = Vec::with_capacity(alloc, variable_count as usize)?;
         let trail = Assignments::new(alloc, variable_count)?;
         let links = links_for(alloc, trail.variable_count, clauses.as_slice())?;
         Ok(Watch {
             clauses,
             links,
             trail,
-            frames: Vec::with_capacity(alloc, variable_count as usize)?,
+            frames,
             head: 0,
             seen: 0,
         })
