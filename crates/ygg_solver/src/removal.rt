@@ -3,7 +3,7 @@
 use crate::seen_places::has_seen;
 use std::alloc::Global;
 use ygg_cnf::Lit;
-use ygg_cnf_set::PackedClause;
+use ygg_cnf_set::{PackedClause, PackedLit};
 use ygg_list::NoMemory;
 use ygg_watch::PackedEntry;
 
@@ -62,7 +62,7 @@ impl Removal {
     /// Forgets what was found, and makes room for so many places.
     fn clear(&mut self, size: usize) -> Result<(), NoMemory> {
         for place in &self.touched {
-            write_known(self.known.as_mut_slice(), *place, Known::Nothing);
+            write(self.known.as_mut_slice(), *place as usize, Known::Nothing);
         }
         self.touched.clear();
         self.implied.clear();
@@ -78,40 +78,18 @@ impl Removal {
         Ok(())
     }
 
-    /// Says whether the level of a place has a seen literal.
-    fn note(&mut self, trail: &[PackedEntry], place: u32, has: bool) {
-        if let Some(entry) = trail.get(place as usize) {
-            if let Some(slot) = self.levels.get_mut(entry.entry().level as usize) {
-                *slot = has;
-            }
-        }
-    }
-
-    /// Whether the place is of a level that has a seen literal.
-    fn is_near(&self, trail: &[PackedEntry], place: u32) -> bool {
-        match trail.get(place as usize) {
-            Some(entry) => self.levels.get(entry.entry().level as usize) == Some(&true),
-            None => false,
-        }
-    }
-
     /// Whether the place is of level 0. Such a place is kept in mind.
     fn is_lowest(&mut self, trail: &[PackedEntry], place: u32) -> bool {
-        let Some(entry) = trail.get(place as usize) else {
-            return false;
-        };
-        if entry.entry().level > 0 {
+        if level_at(trail, place) > 0 {
             return false;
         }
-        if place as usize >= self.lowest_end {
-            self.lowest_end = place as usize + 1;
-        }
+        self.lowest_end = self.lowest_end.max(place as usize + 1);
         true
     }
 
     /// Keeps what is known of a place.
     fn settle(&mut self, place: u32, known: Known) -> Result<(), NoMemory> {
-        write_known(self.known.as_mut_slice(), place, known);
+        write(self.known.as_mut_slice(), place as usize, known);
         self.touched.push(place)?;
         Ok(())
     }
@@ -128,17 +106,15 @@ impl Removal {
         chain: &[u64],
     ) -> Result<(), NoMemory> {
         for id in chain {
-            if let Some(clause) = clauses.get((*id as usize).wrapping_sub(1)) {
-                for lit in clause.as_slice() {
-                    let lit = lit.lit();
-                    let place = place_of(places, lit);
-                    if (place as usize) < start
-                        && has_seen(seen, lit)
-                        && !self.is_lowest(trail, place)
-                    {
-                        self.note(trail, place, true);
-                        self.is_seen.push(place)?;
-                    }
+            for lit in lits_of(clauses, *id) {
+                let lit = lit.lit();
+                let place = place_of(places, lit);
+                if (place as usize) < start
+                    && has_seen(seen, lit)
+                    && !self.is_lowest(trail, place)
+                {
+                    note(self.levels.as_mut_slice(), trail, place, true);
+                    self.is_seen.push(place)?;
                 }
             }
         }
@@ -155,20 +131,12 @@ impl Removal {
     ) -> Result<(), NoMemory> {
         let steps = trail.len().saturating_add(trail.len());
         for at in 0..self.is_seen.len() {
-            let place = read_place(self.is_seen.as_slice(), at);
+            let place = read(self.is_seen.as_slice(), at, u32::MAX);
             if known_at(self.known.as_slice(), place) == Known::Nothing {
                 self.ask(seen, clauses, trail, places, place, steps)?;
             }
         }
         Ok(())
-    }
-
-    /// Forgets which levels have a seen literal.
-    fn forget_levels(&mut self, trail: &[PackedEntry]) {
-        for at in 0..self.is_seen.len() {
-            let place = read_place(self.is_seen.as_slice(), at);
-            self.note(trail, place, false);
-        }
     }
 
     /// Asks for one seen place, in at most so many steps. Each of them settles a place or asks for another one.
@@ -191,21 +159,26 @@ impl Removal {
             let Some(top) = self.stack.pop() else {
                 return Ok(());
             };
-            match self.step(seen, clauses, trail, places, top) {
-                Next::Implied => {
-                    self.settle(top.place, Known::Implied)?;
-                    self.implied.push(top.place)?;
-                }
-                Next::Other => {
-                    self.give_up(top)?;
-                }
-                Next::Ask { other, looked } => {
-                    self.stack.push(Asked { looked, ..top })?;
-                    self.stack.push(other)?;
-                }
-            }
+            let next = self.step(seen, clauses, trail, places, top);
+            self.go_on(top, next)?;
         }
         Ok(())
+    }
+
+    /// Keeps what the look at a place came to, which was taken off the stack.
+    fn go_on(&mut self, top: Asked, next: Next) -> Result<(), NoMemory> {
+        match next {
+            Next::Implied => {
+                self.implied.push(top.place)?;
+                self.settle(top.place, Known::Implied)
+            }
+            Next::Other => self.give_up(top),
+            Next::Ask { other, looked } => {
+                let asked = Asked { looked, ..top };
+                self.stack.extend_from_slice(&[asked, other])?;
+                Ok(())
+            }
+        }
     }
 
     /// Settles that a place is not found to be implied, and with it those that hang on it. None hangs on a seen one.
@@ -234,24 +207,18 @@ impl Removal {
         places: &[u32],
         asked: Asked,
     ) -> Next {
-        let Some(entry) = trail.get(asked.place as usize) else {
+        let lits = reason_at(clauses, trail, asked.place);
+        if lits.is_empty() {
             return Next::Other;
-        };
-        let entry = entry.entry();
-        let Some(id) = entry.reason else {
-            return Next::Other;
-        };
-        let Some(clause) = clauses.get((id as usize).wrapping_sub(1)) else {
-            return Next::Other;
-        };
-        let lits = clause.as_slice();
+        }
         for at in asked.looked..lits.len() {
             let lit = lits[at].lit();
-            if lit.var != entry.lit.var {
-                let place = place_of(places, lit);
-                if place >= asked.place {
-                    return Next::Other;
-                }
+            let place = place_of(places, lit);
+            if place > asked.place {
+                return Next::Other;
+            }
+            // the literal that the clause implied stands at the place itself
+            if place < asked.place {
                 match known_at(self.known.as_slice(), place) {
                     Known::Implied => {}
                     Known::Other => {
@@ -262,7 +229,7 @@ impl Removal {
                     Known::Nothing => {
                         if !self.is_lowest(trail, place) {
                             let is_seen = has_seen(seen, lit);
-                            if !is_seen && !self.is_near(trail, place) {
+                            if !is_seen && !is_near(self.levels.as_slice(), trail, place) {
                                 return Next::Other;
                             }
                             return Next::Ask {
@@ -298,32 +265,82 @@ enum Next {
     Ask { other: Asked, looked: usize },
 }
 
+/// The item at a place, or another one past the end.
+fn read<T: Copy>(items: &[T], at: usize, otherwise: T) -> T {
+    if at < items.len() {
+        items[at]
+    } else {
+        otherwise
+    }
+}
+
+/// Writes an item, where there is room for it.
+fn write<T: Copy>(items: &mut [T], at: usize, item: T) {
+    if at < items.len() {
+        items[at] = item;
+    }
+}
+
 /// What is known of a place.
 fn known_at(known: &[Known], place: u32) -> Known {
-    match known.get(place as usize) {
-        Some(is) => *is,
-        None => Known::Nothing,
-    }
-}
-
-/// Keeps what is known of a place that has room.
-fn write_known(known: &mut [Known], place: u32, now: Known) {
-    if let Some(slot) = known.get_mut(place as usize) {
-        *slot = now;
-    }
-}
-
-/// A place of a list, or `u32::MAX` past its end.
-fn read_place(places: &[u32], at: usize) -> u32 {
-    match places.get(at) {
-        Some(place) => *place,
-        None => u32::MAX,
-    }
+    read(known, place as usize, Known::Nothing)
 }
 
 /// The place of a literal's variable in the trail, where it is assigned.
-fn place_of(places: &[u32], lit: Lit) -> u32 {
-    read_place(places, lit.var as usize)
+pub fn place_of(places: &[u32], lit: Lit) -> u32 {
+    read(places, lit.var as usize, u32::MAX)
+}
+
+/// The level of a place of the trail, or `u64::MAX` past its end.
+fn level_at(trail: &[PackedEntry], place: u32) -> u64 {
+    let at = place as usize;
+    if at < trail.len() {
+        trail[at].entry().level
+    } else {
+        u64::MAX
+    }
+}
+
+/// Says whether the level of a place has a seen literal.
+fn note(levels: &mut [bool], trail: &[PackedEntry], place: u32, has: bool) {
+    write(levels, level_at(trail, place) as usize, has);
+}
+
+/// Whether the place is of a level that has a seen literal.
+fn is_near(levels: &[bool], trail: &[PackedEntry], place: u32) -> bool {
+    read(levels, level_at(trail, place) as usize, false)
+}
+
+/// Forgets which levels have one of the seen literals at these places.
+fn forget_levels(levels: &mut [bool], trail: &[PackedEntry], is_seen: &[u32]) {
+    for place in is_seen {
+        note(levels, trail, *place, false);
+    }
+}
+
+/// The literals of the clause of a number, where clauses are numbered from 1, and none where there is no such clause.
+pub fn lits_of(clauses: &[PackedClause], id: u64) -> &[PackedLit] {
+    let at = (id as usize).wrapping_sub(1);
+    if at < clauses.len() {
+        clauses[at].as_slice()
+    } else {
+        &[]
+    }
+}
+
+/// The literals of the reason of a place of the trail, and none where it has no reason.
+pub fn reason_at<'a>(
+    clauses: &'a [PackedClause],
+    trail: &[PackedEntry],
+    place: u32,
+) -> &'a [PackedLit] {
+    let at = place as usize;
+    let reason = if at < trail.len() {
+        trail[at].entry().reason
+    } else {
+        None
+    };
+    lits_of(clauses, reason.unwrap_or(0))
 }
 
 /// Finds which seen places below `start` are implied. The chain names the clauses that were resolved. Its only error is want
@@ -340,6 +357,10 @@ pub fn find(
     removal.clear(trail.len())?;
     removal.gather(seen, clauses, trail, places, start, chain)?;
     removal.ask_all(seen, clauses, trail, places)?;
-    removal.forget_levels(trail);
+    forget_levels(
+        removal.levels.as_mut_slice(),
+        trail,
+        removal.is_seen.as_slice(),
+    );
     Ok(())
 }

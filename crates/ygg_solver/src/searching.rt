@@ -4,6 +4,7 @@ ghost use Rattle.ygg_watch.specs.Propagation.{IsFresh, IsWithin};
 ghost use Rattle.ygg_solver.specs.Kept.{IsReady};
 ghost use Rattle.ygg_solver.specs.Ends.{IsEnd};
 
+use crate::removal::{lits_of, place_of, reason_at};
 use crate::run::to_conflict;
 use crate::{Learned, Removal, analyze, last_decision, refute};
 use std::alloc::Global;
@@ -33,24 +34,10 @@ fn level_after(restarts: &mut Restarts, level: u64) -> u64
 /// Makes the variables of the clauses that were resolved more active.
 fn raise(order: &mut Order, clauses: &[PackedClause], chain: &[u64]) {
     for id in chain {
-        if let Some(clause) = clauses.get((*id as usize).wrapping_sub(1)) {
-            for lit in clause.as_slice() {
-                order.bump(lit.lit().var as usize);
-            }
+        for lit in lits_of(clauses, *id) {
+            order.bump(lit.lit().var as usize);
         }
     }
-}
-
-/// The reason of a variable that is assigned, where there is one.
-fn reason_of<'a>(
-    clauses: &'a [PackedClause],
-    trail: &[PackedEntry],
-    places: &[u32],
-    var: u64,
-) -> Option<&'a PackedClause> {
-    let place = places.get(var as usize)?;
-    let id = trail.get(*place as usize)?.entry().reason?;
-    clauses.get((id as usize).wrapping_sub(1))
 }
 
 /// The most literals of a learned clause whose reasons make variables more active.
@@ -69,12 +56,10 @@ fn raise_reasons(
         return;
     }
     for known in learned {
-        if let Some(reason) = reason_of(clauses, trail, places, known.var) {
-            for lit in reason.as_slice() {
-                let lit = lit.lit();
-                if lit.var != known.var {
-                    order.bump(lit.var as usize);
-                }
+        for lit in reason_at(clauses, trail, place_of(places, *known)) {
+            let lit = lit.lit();
+            if lit.var != known.var {
+                order.bump(lit.var as usize);
             }
         }
     }
@@ -100,6 +85,7 @@ pub fn search<P: Trail>(
     propagation: &mut P,
     order: &mut Order,
     seen: &mut [bool],
+    removal: &mut Removal,
     variable_count: u64,
     budget: u32,
 ) -> Result<SearchEnd, NoMemory>
@@ -113,7 +99,6 @@ pub fn search<P: Trail>(
     ensures { IfOk result (IsEnd (P.state propagation.old).clauses (P.state propagation.new).trail variable_count budget) }
 {
     let mut log = Log::new(alloc);
-    let mut removal = Removal::new(alloc);
     let mut restarts = Restarts::new();
     loop {
         let Some(conflict) = to_conflict(propagation, order, variable_count) else {
@@ -142,7 +127,7 @@ pub fn search<P: Trail>(
             start,
             conflict,
             propagation.places(),
-            &mut removal,
+            removal,
         )?;
         let level = level_after(&mut restarts, level);
         raise(order, held, chain.as_slice());
@@ -176,11 +161,13 @@ pub fn search_clauses<P: Trail>(
     ensures { IfOk result (IsEnd (P.state propagation.old).clauses (P.state propagation.new).trail variable_count budget) }
 {
     let mut seen = Vec::from_elem(alloc, false, 2 * variable_count as usize)?;
+    let mut removal = Removal::new(alloc);
     search(
         alloc,
         propagation,
         order,
         seen.as_mut_slice(),
+        &mut removal,
         variable_count,
         budget,
     )

@@ -15,15 +15,18 @@ ghost use Rattle.std.specs.Prelude.{
   IfOk,
   IfSome,
   IfNone,
+  IsNone,
   vec_capacity,
   take,
   None,
 };
 ghost use Rattle.ygg_cnf_set.specs.LiteralSet.{code_of, IsSetOf, Fits};
 ghost use Rattle.ygg_watch.specs.Assignments.{IsTrail, IsLevelled, IsKept};
+ghost use Rattle.ygg_watch.specs.Propagation.{HasValue};
 ghost use Rattle.ygg_watch.specs.Trail.{IsAt, IsFalseBefore, IsAssigned, keep_level, IsOnTrail};
 
 use crate::entry::Entry;
+use crate::found::Assigned;
 use crate::packed_entry::PackedEntry;
 use std::alloc::Global;
 use ygg_cnf::Lit;
@@ -151,6 +154,19 @@ impl Assignments {
             return None;
         }
         Some(self.at(self.places[var as usize] as usize))
+    }
+
+    /// The value of a variable, with its level and reason, if it is assigned.
+    pub(crate) fn assigned(&self, var: u64) -> Option<Assigned>
+        ensures none { IsNone result ↔ (IsAssigned self.now.entries.items var → ⊥) }
+        ensures some { IfSome result (HasValue self.now.entries.items var) }
+    {
+        let entry = self.entry_of(var)?;
+        Some(Assigned {
+            value: !entry.lit.negated,
+            level: entry.level,
+            reason: entry.reason,
+        })
     }
 
     /// Assigns the literal at the greatest open level, for that reason.

@@ -10,16 +10,22 @@ pub struct Work {
     pub values: u64,
 }
 
+/// Where a variable stands.
+#[derive(Clone, Copy)]
+struct Rank {
+    activity: u64,
+    /// Its place in the heap, and `usize::MAX` where it was taken.
+    place: usize,
+}
+
 /// Variables by activity, the most active first, with the value that each had last. Activity is that of the solver Chaff with
 /// the decay of MiniSat: what is added grows with time, so that later conflicts weigh more.
 #[derive(Drop)]
 pub struct Order {
     /// By variable.
-    activity: Vec<u64>,
+    ranks: Vec<Rank>,
     /// Variables as a binary heap: none is more active than the one at half its place.
     heap: Vec<usize>,
-    /// By variable, its place in the heap, and `usize::MAX` where it was taken.
-    places: Vec<usize>,
     /// By variable, its last value.
     phases: Vec<bool>,
     /// What the next conflict adds to an activity.
@@ -30,30 +36,30 @@ pub struct Order {
 impl Order {
     /// Each variable below `variable_count`, none of them active. Its only error is out of memory.
     pub fn new(alloc: Global, variable_count: usize) -> Result<Order, NoMemory> {
-        let activity = Vec::from_elem(alloc, 0, variable_count)?;
-        let phases = Vec::from_elem(alloc, false, variable_count)?;
-        let mut heap = Vec::with_capacity(alloc, variable_count)?;
-        let mut places = Vec::with_capacity(alloc, variable_count)?;
-        for var in 0..variable_count {
-            heap.push(var)?;
-            places.push(var)?;
-        }
-        Ok(Order {
-            activity,
-            heap,
-            places,
-            phases,
+        let taken = Rank {
+            activity: 0,
+            place: usize::MAX,
+        };
+        let mut order = Order {
+            ranks: Vec::from_elem(alloc, taken, variable_count)?,
+            heap: Vec::with_capacity(alloc, variable_count)?,
+            phases: Vec::from_elem(alloc, false, variable_count)?,
             step: 1 << 20,
             work: Work {
                 conflicts: 0,
                 values: 0,
             },
-        })
+        };
+        for var in 0..variable_count {
+            order.put(var)?;
+        }
+        Ok(order)
     }
 
     /// The value that the variable had last.
     pub fn phase(&self, var: usize) -> bool {
-        read_bool(self.phases.as_slice(), var)
+        let phases = self.phases.as_slice();
+        var < phases.len() && phases[var]
     }
 
     /// How much was done so far.
@@ -69,27 +75,18 @@ impl Order {
 
     /// Sets the initial polarity of a variable: the value that it is to have first.
     pub fn set_polarity(&mut self, var: usize, value: bool) {
-        if let Some(phase) = self.phases.get_mut(var) {
-            *phase = value;
+        let phases = self.phases.as_mut_slice();
+        if var < phases.len() {
+            phases[var] = value;
         }
     }
 
     /// Makes the variable more active.
     pub fn bump(&mut self, var: usize) {
-        let now = read(self.activity.as_slice(), var).saturating_add(self.step);
-        write(self.activity.as_mut_slice(), var, now);
-        if now >= 1 << 60 {
+        if add(self.ranks.as_mut_slice(), var, self.step) >= 1 << 60 {
             self.scale();
         }
-        let place = read_place(self.places.as_slice(), var);
-        if place < self.heap.len() {
-            rise(
-                self.activity.as_slice(),
-                self.heap.as_mut_slice(),
-                self.places.as_mut_slice(),
-                place,
-            );
-        }
+        rise(self.ranks.as_mut_slice(), self.heap.as_mut_slice(), var);
     }
 
     /// Makes what comes after a conflict weigh more.
@@ -103,105 +100,100 @@ impl Order {
 
     /// Divides each activity and the step by the same number, long before a sum could be too great.
     fn scale(&mut self) {
-        for value in self.activity.iter_mut() {
-            *value >>= 32;
+        for rank in self.ranks.iter_mut() {
+            rank.activity >>= 32;
         }
         self.step = (self.step >> 32) + 1;
     }
 
     /// Puts the variable back, if it was taken. Its only error is out of memory.
     pub fn put(&mut self, var: usize) -> Result<(), NoMemory> {
-        if read_place(self.places.as_slice(), var) != usize::MAX {
-            return Ok(());
+        if place(self.ranks.as_slice(), var) == usize::MAX {
+            self.heap.push(var)?;
+            rise_last(self.ranks.as_mut_slice(), self.heap.as_mut_slice(), var);
         }
-        let place = self.heap.len();
-        self.heap.push(var)?;
-        write_place(self.places.as_mut_slice(), var, place);
-        rise(
-            self.activity.as_slice(),
-            self.heap.as_mut_slice(),
-            self.places.as_mut_slice(),
-            place,
-        );
         Ok(())
     }
 
     /// Takes the most active variable, if one is left.
     pub fn take(&mut self) -> Option<usize> {
-        let first = *self.heap.first()?;
         let last = self.heap.pop()?;
-        write_place(self.places.as_mut_slice(), first, usize::MAX);
-        if let Some(slot) = self.heap.first_mut() {
-            *slot = last;
-            write_place(self.places.as_mut_slice(), last, 0);
-            sink(
-                self.activity.as_slice(),
-                self.heap.as_mut_slice(),
-                self.places.as_mut_slice(),
-            );
-        }
-        Some(first)
+        Some(take_first(self.ranks.as_mut_slice(), self.heap.as_mut_slice(), last))
     }
 }
 
-/// The number at a place, or 0 past the end.
-fn read(numbers: &[u64], at: usize) -> u64 {
-    match numbers.get(at) {
-        Some(number) => *number,
-        None => 0,
-    }
-}
-
-/// The value at a place, or false past the end.
-fn read_bool(values: &[bool], at: usize) -> bool {
-    match values.get(at) {
-        Some(value) => *value,
-        None => false,
+/// The activity of a variable, or 0 where it has none.
+fn activity(ranks: &[Rank], var: usize) -> u64 {
+    if var < ranks.len() {
+        ranks[var].activity
+    } else {
+        0
     }
 }
 
 /// The place of a variable in the heap, or `usize::MAX` where it has none.
-fn read_place(places: &[usize], at: usize) -> usize {
-    match places.get(at) {
-        Some(place) => *place,
-        None => usize::MAX,
+fn place(ranks: &[Rank], var: usize) -> usize {
+    if var < ranks.len() {
+        ranks[var].place
+    } else {
+        usize::MAX
     }
 }
 
-/// Writes a number, where there is room for it.
-fn write(numbers: &mut [u64], at: usize, number: u64) {
-    if let Some(slot) = numbers.get_mut(at) {
-        *slot = number;
+/// Writes the place of a variable, where there is room for it.
+fn set_place(ranks: &mut [Rank], var: usize, place: usize) {
+    if var < ranks.len() {
+        ranks[var].place = place;
     }
 }
 
-/// Writes a place, where there is room for it.
-fn write_place(places: &mut [usize], at: usize, place: usize) {
-    if let Some(slot) = places.get_mut(at) {
-        *slot = place;
+/// Adds to the activity of a variable, and gives the sum.
+fn add(ranks: &mut [Rank], var: usize, step: u64) -> u64 {
+    let sum = activity(ranks, var).saturating_add(step);
+    if var < ranks.len() {
+        ranks[var].activity = sum;
     }
+    sum
 }
 
-/// Moves the variable of a place up to where no parent is less active.
-fn rise(activity: &[u64], heap: &mut [usize], places: &mut [usize], from: usize) {
-    let mut at = from;
+/// Moves a variable up to where no parent is less active.
+fn rise(ranks: &mut [Rank], heap: &mut [usize], var: usize) {
+    let mut at = place(ranks, var);
     while 0 < at && at < heap.len() {
         let parent = (at - 1) / 2;
-        let var = heap[at];
         let above = heap[parent];
-        if read(activity, var) <= read(activity, above) {
+        if activity(ranks, var) <= activity(ranks, above) {
             return;
         }
         heap[at] = above;
         heap[parent] = var;
-        write_place(places, above, at);
-        write_place(places, var, parent);
+        set_place(ranks, above, at);
+        set_place(ranks, var, parent);
         at = parent;
     }
 }
 
+/// Moves a variable, which was put last, up to where no parent is less active.
+fn rise_last(ranks: &mut [Rank], heap: &mut [usize], var: usize) {
+    set_place(ranks, var, heap.len().wrapping_sub(1));
+    rise(ranks, heap, var);
+}
+
+/// Takes the first variable of a heap whose last one was taken off already: that one takes its place, and moves down. It may be the first itself.
+fn take_first(ranks: &mut [Rank], heap: &mut [usize], last: usize) -> usize {
+    let mut first = last;
+    if heap.len() > 0 {
+        first = heap[0];
+        heap[0] = last;
+    }
+    set_place(ranks, last, 0);
+    set_place(ranks, first, usize::MAX);
+    sink(ranks, heap);
+    first
+}
+
 /// Moves the first variable down to where no child is more active.
-fn sink(activity: &[u64], heap: &mut [usize], places: &mut [usize]) {
+fn sink(ranks: &mut [Rank], heap: &mut [usize]) {
     let mut at = 0;
     while at < heap.len() / 2 {
         let left = 2 * at + 1;
@@ -210,18 +202,18 @@ fn sink(activity: &[u64], heap: &mut [usize], places: &mut [usize]) {
         if left >= heap.len() {
             return;
         }
-        if right < heap.len() && read(activity, heap[right]) > read(activity, heap[left]) {
+        if right < heap.len() && activity(ranks, heap[right]) > activity(ranks, heap[left]) {
             child = right;
         }
         let var = heap[at];
         let below = heap[child];
-        if read(activity, below) <= read(activity, var) {
+        if activity(ranks, below) <= activity(ranks, var) {
             return;
         }
         heap[at] = below;
         heap[child] = var;
-        write_place(places, below, at);
-        write_place(places, var, child);
+        set_place(ranks, below, at);
+        set_place(ranks, var, child);
         at = child;
     }
 }

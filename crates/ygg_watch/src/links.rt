@@ -187,9 +187,11 @@ impl Links {
 
     /// The place of a clause's literals from which the search for a new watch goes on. It is advice, and nothing is said of it.
     pub fn start(&self, at: usize) -> usize {
-        match self.starts.get(at) {
-            Some(place) => *place as usize,
-            None => 0,
+        let starts = self.starts.as_slice();
+        if at < starts.len() {
+            starts[at] as usize
+        } else {
+            0
         }
     }
 
@@ -197,8 +199,9 @@ impl Links {
     pub fn set_start(&mut self, at: usize, place: usize)
         ensures { self.new ≡ self.old }
     {
-        if let Some(slot) = self.starts.get_mut(at) {
-            *slot = (place % (1 << 32)) as u32;
+        let starts = self.starts.as_mut_slice();
+        if at < starts.len() {
+            starts[at] = (place % (1 << 32)) as u32;
         }
     }
 

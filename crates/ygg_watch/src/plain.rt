@@ -69,12 +69,7 @@ impl Propagate for PlainSpread {
     }
 
     fn assigned(&self, var: u64) -> Option<Assigned> {
-        let entry = self.trail.entry_of(var)?;
-        Some(Assigned {
-            value: !entry.lit.negated,
-            level: entry.level,
-            reason: entry.reason,
-        })
+        self.trail.assigned(var)
     }
 }
 

@@ -72,13 +72,14 @@ impl Watch {
         ensures fresh { IfOk result (IsFresh clauses.items) }
         ensures variable_count { IfOk result (λ p. p.variable_count ≡ variable_count) }
     {
+        let frames = Vec::with_capacity(alloc, variable_count as usize)?;
         let trail = Assignments::new(alloc, variable_count)?;
         let links = links_for(alloc, trail.variable_count, clauses.as_slice())?;
         Ok(Watch {
             clauses,
             links,
             trail,
-            frames: Vec::with_capacity(alloc, variable_count as usize)?,
+            frames,
             head: 0,
             seen: 0,
         })
@@ -89,8 +90,8 @@ impl Propagate for Watch {
     ghost state = { λ s. s };
 
     fn add(&mut self, clause: &Clause) -> Result<(), NoMemory> {
-        let kept = PackedClause::of(*self.clauses.allocator(), clause.as_slice())?;
         self.clauses.reserve(1)?;
+        let kept = PackedClause::of(*self.clauses.allocator(), clause.as_slice())?;
         self.links.add()?;
         self.clauses.push_reserved(kept);
         Ok(())
@@ -148,12 +149,7 @@ impl Propagate for Watch {
     }
 
     fn assigned(&self, var: u64) -> Option<Assigned> {
-        let entry = self.trail.entry_of(var)?;
-        Some(Assigned {
-            value: !entry.lit.negated,
-            level: entry.level,
-            reason: entry.reason,
-        })
+        self.trail.assigned(var)
     }
 }
 

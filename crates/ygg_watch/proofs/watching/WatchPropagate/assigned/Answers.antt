@@ -1,7 +1,4 @@
-use Rattle.ygg_watch.proofs.StatusLemmas.{has_value}
 use Rattle.ygg_watch.proofs.watching.WatchPropagate.assigned.Goals as goal
 
-pub returns-clause-some : goal.returns-clause-some
-returns-clause-some c =
-    let s = c.in_ok-entry.ensures.some in
-    rw (← c.self.view_is) (has_value c.self.inside.trail.entries.items c.args.var _ s.0 s.1)
+pub returns-clause-none : goal.returns-clause-none
+returns-clause-none c = rw (← c.self.view_is) c.assigned.ensures.none
