@@ -7,12 +7,14 @@ ghost use Rattle.ygg_type.specs.ygg_type_rules.Definitions.{definition_errors, d
 ghost use Rattle.ygg_type.specs.ygg_type_rules.Definitions.{with_definition, with_definitions, with_parameters};
 ghost use Rattle.ygg_type.specs.Checking.{scope_of};
 
+use crate::checker::Typer;
 use crate::declarations::parameters;
-use crate::{Signature, Typer, shapes};
+use crate::shapes;
 use ygg_base::Reason;
 use ygg_list::NoMemory;
 use ygg_syntax::Weights;
 use ygg_syntax::tree::Def;
+use ygg_type_rules::Signature;
 
 /// The type errors of a definition, whose parameters stay in scope.
 fn type_errors<'a>(

@@ -259,11 +259,7 @@ fn inside<'a>(checker: &mut Typer<'a>, b: &'a Block, shape: Option<Shape>) -> Re
 /// A block, with an answer of this shape where one is wanted. Its only error is out of memory.
 #[cycle(walk)]
 #[tactic(auto, using(crate::proofs::Restored::cut_to))]
-pub fn block<'a>(
-    checker: &mut Typer<'a>,
-    b: &'a Block,
-    shape: Option<Shape>,
-) -> Result<(), NoMemory>
+fn block<'a>(checker: &mut Typer<'a>, b: &'a Block, shape: Option<Shape>) -> Result<(), NoMemory>
     ensures first { OnOk result (checker.new.first.type_error ≡ first_after checker.old.first.type_error (block_errors b.now shape (scope_of checker.old))) }
     ensures same { OnOk result (scope_of checker.new ≡ scope_of checker.old) }
 {
