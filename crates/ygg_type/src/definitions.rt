@@ -41,6 +41,7 @@ fn define<'a>(checker: &mut Typer<'a>, def: &'a Def) -> Result<(), NoMemory>
     ensures first { OnOk result (checker.new.first ≡ checker.old.first) }
     ensures scope { OnOk result (scope_of checker.new ≡ record (scope_of checker.old) { defs = with_definition def.now checker.old.defs; locals = [] }) }
 {
+    checker.forget(0);
     let arguments = shapes::all(checker.alloc, def.parameters.as_slice())?;
     checker.defs.add(
         def.name.text.as_slice(),
@@ -49,9 +50,7 @@ fn define<'a>(checker: &mut Typer<'a>, def: &'a Def) -> Result<(), NoMemory>
             answers: true,
             answer: shapes::named(def.shape),
         },
-    )?;
-    checker.forget(0);
-    Ok(())
+    )
 }
 
 /// One more definition.
@@ -67,8 +66,7 @@ fn next<'a>(
     ensures weights { OnOk result (weights.new ≡ weights.old ++ def.now ∷ []) }
 {
     type_errors(checker, weights, def)?;
-    define(checker, def)?;
-    Ok(())
+    define(checker, def)
 }
 
 /// Definitions in order, after those that the checker and the table of weights have.

@@ -157,8 +157,7 @@ fn operation<'a>(
     let before = checker.locals.len();
     operation_inside(checker, weights, known, operation, crash)?;
     checker.forget(before);
-    add_operation(checker.alloc, known, operation)?;
-    Ok(())
+    add_operation(checker.alloc, known, operation)
 }
 
 /// The operations of a layer with this `crash` block, after those that are known.

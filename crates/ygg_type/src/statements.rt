@@ -173,8 +173,7 @@ fn binding<'a>(checker: &mut Typer<'a>, x: &'a Name, from: &'a Source) -> Result
     let taken = checker.is_taken(name);
     checker.first.check(!taken, Reason::Twice, x.place);
     let from = source(checker, from)?;
-    checker.add_local(name, from.shape, true)?;
-    Ok(())
+    checker.add_local(name, from.shape, true)
 }
 
 /// What a block returns.
@@ -202,10 +201,7 @@ fn statement<'a>(checker: &mut Typer<'a>, one: &'a Stmt) -> Result<(), NoMemory>
     ensures grows { OnOk result (Grows (scope_of checker.old) (scope_of checker.new)) }
 {
     match one {
-        Stmt::Let(x, from) => {
-            binding(checker, x, from)?;
-            Ok(())
-        }
+        Stmt::Let(x, from) => binding(checker, x, from),
         Stmt::Assign(x, indices, from) => {
             assignment(checker, x, indices.as_slice(), from)?;
             Ok(())
