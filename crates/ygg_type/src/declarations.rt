@@ -8,11 +8,14 @@ ghost use Rattle.ygg_type.specs.ygg_type_rules.Definitions.{parameters_errors, w
 ghost use Rattle.ygg_type.specs.ygg_type_rules.Layers.{view_errors, formula_errors};
 ghost use Rattle.ygg_type.specs.Checking.{scope_of};
 
-use crate::{Typer, Visibility, body, shapes};
+use crate::checker::Typer;
+use crate::shapes;
+use crate::statements::body;
 use ygg_base::Reason;
 use ygg_list::NoMemory;
 use ygg_syntax::Weights;
 use ygg_syntax::tree::{Block, Declared, Expr};
+use ygg_type_rules::Visibility;
 use ygg_value::Shape;
 
 /// Parameters or arguments, whose names stay in scope.

@@ -7,12 +7,14 @@ ghost use Rattle.ygg_type.specs.ygg_type_rules.Definitions.{definition_errors, d
 ghost use Rattle.ygg_type.specs.ygg_type_rules.Definitions.{with_definition, with_definitions, with_parameters};
 ghost use Rattle.ygg_type.specs.Checking.{scope_of};
 
+use crate::checker::Typer;
 use crate::declarations::parameters;
-use crate::{Signature, Typer, shapes};
+use crate::shapes;
 use ygg_base::Reason;
 use ygg_list::NoMemory;
 use ygg_syntax::Weights;
 use ygg_syntax::tree::Def;
+use ygg_type_rules::Signature;
 
 /// The type errors of a definition, whose parameters stay in scope.
 fn type_errors<'a>(
@@ -39,6 +41,7 @@ fn define<'a>(checker: &mut Typer<'a>, def: &'a Def) -> Result<(), NoMemory>
     ensures first { OnOk result (checker.new.first ≡ checker.old.first) }
     ensures scope { OnOk result (scope_of checker.new ≡ record (scope_of checker.old) { defs = with_definition def.now checker.old.defs; locals = [] }) }
 {
+    checker.forget(0);
     let arguments = shapes::all(checker.alloc, def.parameters.as_slice())?;
     checker.defs.add(
         def.name.text.as_slice(),
@@ -47,9 +50,7 @@ fn define<'a>(checker: &mut Typer<'a>, def: &'a Def) -> Result<(), NoMemory>
             answers: true,
             answer: shapes::named(def.shape),
         },
-    )?;
-    checker.forget(0);
-    Ok(())
+    )
 }
 
 /// One more definition.
@@ -65,8 +66,7 @@ fn next<'a>(
     ensures weights { OnOk result (weights.new ≡ weights.old ++ def.now ∷ []) }
 {
     type_errors(checker, weights, def)?;
-    define(checker, def)?;
-    Ok(())
+    define(checker, def)
 }
 
 /// Definitions in order, after those that the checker and the table of weights have.

@@ -1,6 +1,6 @@
 //! Typing of expressions.
 
-ghost use Rattle.std.specs.Prelude.{◌≡◌, IfOk, OnOk};
+ghost use Rattle.std.specs.Prelude.{◌≡◌, ◌++◌, IfOk, OnOk};
 ghost use Rattle.ygg_type_rules.specs.TypeErrors.{first_after};
 ghost use Rattle.ygg_type_rules.specs.Expressions.{typing, typings, parts_of, type_errors_in, with_number, expected_errors};
 ghost use Rattle.ygg_type_rules.specs.Definitions.{claim_errors};
@@ -139,11 +139,26 @@ impl<'a> Typer<'a> {
         ensures same { OnOk result (scope_of self.new ≡ scope_of self.old) }
     {
         let mut parts = Sequence::new(self.alloc);
-        for e in expressions {
-            let part = self.infer(e)?;
-            parts.push(part)?;
-        }
+        self.infer_into(&mut parts, expressions)?;
         Ok(parts)
+    }
+
+    /// The same at the end of the parts that are there.
+    #[cycle(infer)]
+    fn infer_into(
+        &mut self,
+        parts: &mut Sequence<TypedExpr>,
+        expressions: &'a [Expr],
+    ) -> Result<(), NoMemory>
+        ensures parts { OnOk result (parts.new ≡ parts.old ++ parts_of (typings expressions.now (scope_of self.old))) }
+        ensures first { OnOk result (self.new.first.type_error ≡ first_after self.old.first.type_error
+            (type_errors_in (typings expressions.now (scope_of self.old)))) }
+        ensures same { OnOk result (scope_of self.new ≡ scope_of self.old) }
+    {
+        for e in expressions {
+            parts.push(self.infer(e)?)?;
+        }
+        Ok(())
     }
 
     /// An expression where a shape is wanted, if there is one. Answers where its first token stands.

@@ -19,18 +19,21 @@ ghost use Rattle.ygg_type.specs.ygg_type_rules.Files.{
 ghost use Rattle.ygg_type.specs.Checking.{scope_of};
 ghost use Rattle.ygg_type.specs.Ready.{IsReady, below_in};
 
+use crate::checker::Typer;
 use crate::definitions::definitions;
+use crate::first::First;
 use crate::layers::parts;
-use crate::{First, Names, Owner, Signature, TypeError, Typer, Variable, Visibility, shapes};
+use crate::shapes;
 use std::alloc::Global;
 use std::mem;
 use ygg_base::{DiskKind, Reason};
 use ygg_list::{NoMemory, Sequence};
 use ygg_syntax::Weights;
 use ygg_syntax::tree::{DiskText, File, Layer, TypeText};
+use ygg_type_rules::{Names, Owner, Signature, TypeError, Variable, Visibility};
 use ygg_value::Shape;
 
-/// Adds an operation of a disk.
+/// Adds an operation of a disk to these.
 fn add_disk_operation<'a>(
     alloc: Global,
     known: &mut Names<'a, Signature>,
@@ -52,49 +55,47 @@ fn add_disk_operation<'a>(
     )
 }
 
-/// The operations of a disk: `read`, `write` and `flush`.
-fn disk_operations<'a>(alloc: Global, disk: DiskText) -> Result<Names<'a, Signature>, NoMemory>
-    ensures { IfOk result (λ known. known ≡ operations_of_disk disk) }
+/// The operations of a disk, `read`, `write` and `flush`, in place of those that are known.
+fn disk_operations<'a>(
+    alloc: Global,
+    known: &mut Names<'a, Signature>,
+    disk: DiskText,
+) -> Result<(), NoMemory>
+    ensures { OnOk result (known.new ≡ operations_of_disk disk) }
 {
     let address = Some(Shape::Word { width: 8 });
     let row = shapes::row(disk.words.value, disk.width.value);
-    let mut known = Names::new(alloc);
-    add_disk_operation(alloc, &mut known, b"read", &[address], true, row)?;
-    add_disk_operation(alloc, &mut known, b"write", &[address, row], false, None)?;
-    add_disk_operation(alloc, &mut known, b"flush", &[], false, None)?;
-    Ok(known)
+    known.truncate(0);
+    add_disk_operation(alloc, known, b"read", &[address], true, row)?;
+    add_disk_operation(alloc, known, b"write", &[address, row], false, None)?;
+    add_disk_operation(alloc, known, b"flush", &[], false, None)
 }
 
-/// The variables of a disk: `view`, and `stable` of an asynchronous one.
-fn disk_variables<'a>(alloc: Global, disk: DiskText) -> Result<Names<'a, Variable>, NoMemory>
-    ensures { IfOk result (λ known. known ≡ variables_of_disk disk) }
+/// The variables of a disk, `view`, and `stable` of an asynchronous one, in place of those that are known.
+fn disk_variables<'a>(known: &mut Names<'a, Variable>, disk: DiskText) -> Result<(), NoMemory>
+    ensures { OnOk result (known.new ≡ variables_of_disk disk) }
 {
     let table = Variable {
         kind: Owner::State,
         shape: shapes::table(disk.rows.value, disk.words.value, disk.width.value),
     };
-    let mut known = Names::new(alloc);
+    known.truncate(0);
     known.add(b"view", table)?;
     match disk.kind {
-        DiskKind::Sync => Ok(known),
-        DiskKind::Async => {
-            known.add(b"stable", table)?;
-            Ok(known)
-        }
+        DiskKind::Sync => Ok(()),
+        DiskKind::Async => known.add(b"stable", table),
     }
 }
 
-/// Makes these operations and variables those of the machine below.
-fn set_below<'a>(
-    checker: &mut Typer<'a>,
-    operations: Names<'a, Signature>,
-    variables: Names<'a, Variable>,
-)
-    ensures scope { scope_of checker.new ≡ record (scope_of checker.old) { lower = operations.entry; low = variables.entry } }
+/// Makes these operations and the layer's variables those of the machine below. The next layer has no variables yet.
+fn set_below<'a>(checker: &mut Typer<'a>, operations: &mut Names<'a, Signature>)
+    ensures scope { scope_of checker.new
+        ≡ record (scope_of checker.old) { lower = operations.old; low = checker.old.variables; variables = [] } }
     ensures first { checker.new.first ≡ checker.old.first }
 {
-    let _operations = mem::replace(&mut checker.lower, operations);
-    let _variables = mem::replace(&mut checker.low, variables);
+    mem::swap(&mut checker.lower, operations);
+    mem::swap(&mut checker.low, &mut checker.variables);
+    checker.variables.truncate(0);
 }
 
 /// A layer after so many layers of these names. It becomes the machine below.
@@ -117,11 +118,27 @@ fn layer<'a>(
     let taken = names.has(name);
     checker.first.check(before != 8, Reason::Limit, layer.place);
     checker.first.check(!taken, Reason::Twice, layer.name.place);
-    let operations = parts(checker, weights, layer)?;
     names.add(name, ())?;
-    let none = Names::new(checker.alloc);
-    let variables = mem::replace(&mut checker.variables, none);
-    set_below(checker, operations, variables);
+    let mut operations = Names::new(checker.alloc);
+    parts(checker, weights, &mut operations, layer)?;
+    set_below(checker, &mut operations);
+    Ok(())
+}
+
+/// The layers of a file, on the machine below the first one, where these names are taken already.
+fn layers_named<'a>(
+    checker: &mut Typer<'a>,
+    weights: &Weights,
+    names: &mut Names<'a, ()>,
+    all: &'a [Layer],
+) -> Result<(), NoMemory>
+    requires { IsReady (scope_of checker.old) }
+    ensures { OnOk result (checker.new.first.type_error ≡ first_after checker.old.first.type_error
+        (layers_errors all.now 0 names.old checker.old.defs (below_in (scope_of checker.old)) (weights_of weights.now))) }
+{
+    for (before, one) in all.iter().enumerate() {
+        layer(checker, weights, names, before, one)?;
+    }
     Ok(())
 }
 
@@ -132,10 +149,7 @@ fn layers<'a>(checker: &mut Typer<'a>, weights: &Weights, all: &'a [Layer]) -> R
         (layers_errors all.now 0 [] checker.old.defs (below_in (scope_of checker.old)) (weights_of weights.now))) }
 {
     let mut names = Names::new(checker.alloc);
-    for (before, one) in all.iter().enumerate() {
-        layer(checker, weights, &mut names, before, one)?;
-    }
-    Ok(())
+    layers_named(checker, weights, &mut names, all)
 }
 
 /// A checker with nothing in scope.
@@ -175,11 +189,9 @@ fn beginning<'a>(
         .first
         .type_text(TypeText::Table(disk.rows, disk.words, disk.width));
     definitions(checker, weights, file.defs.as_slice())?;
-    let operations = disk_operations(checker.alloc, disk)?;
-    let variables = disk_variables(checker.alloc, disk)?;
-    set_below(checker, operations, variables);
+    disk_operations(checker.alloc, &mut checker.lower, disk)?;
     checker.view = Visibility::Settled;
-    Ok(())
+    disk_variables(&mut checker.low, disk)
 }
 
 /// The first type error of a file, found by a checker and weights that know nothing yet.

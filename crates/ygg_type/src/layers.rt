@@ -1,6 +1,6 @@
 //! Typing of layers.
 
-ghost use Rattle.std.specs.Prelude.{◌≡◌, [], OnOk, IfOk, None};
+ghost use Rattle.std.specs.Prelude.{◌≡◌, [], OnOk, None};
 ghost use Rattle.ygg_type.specs.ygg_syntax.Weights.{weights_of};
 ghost use Rattle.ygg_type.specs.ygg_type_rules.Names.{added};
 ghost use Rattle.ygg_type.specs.ygg_type_rules.TypeErrors.{first_after};
@@ -25,15 +25,17 @@ ghost use Rattle.ygg_type.specs.ygg_type_rules.Layers.{
 };
 ghost use Rattle.ygg_type.specs.Checking.{scope_of};
 
+use crate::checker::Typer;
 use crate::declarations::{formula, parameters, viewed};
-use crate::{
-    Names, Owner, Signature, Typer, Variable, Visibility, are_picks, choices, picks, shapes,
-};
+use crate::limits::are_picks;
+use crate::operations::picks;
+use crate::shapes;
 use std::alloc::Global;
 use ygg_base::Reason;
 use ygg_list::NoMemory;
 use ygg_syntax::Weights;
 use ygg_syntax::tree::{Block, Declared, Expr, Layer, Operation, Tick};
+use ygg_type_rules::{Names, Owner, Signature, Variable, Visibility, choices};
 
 /// Variables of a kind, after those that are there.
 fn variables<'a>(checker: &mut Typer<'a>, kind: Owner, all: &'a [Declared]) -> Result<(), NoMemory>
@@ -155,27 +157,26 @@ fn operation<'a>(
     let before = checker.locals.len();
     operation_inside(checker, weights, known, operation, crash)?;
     checker.forget(before);
-    add_operation(checker.alloc, known, operation)?;
-    Ok(())
+    add_operation(checker.alloc, known, operation)
 }
 
-/// The operations of a layer with this `crash` block.
+/// The operations of a layer with this `crash` block, after those that are known.
 fn operations<'a>(
     checker: &mut Typer<'a>,
     weights: &Weights,
+    known: &mut Names<'a, Signature>,
     all: &'a [Operation],
     crash: &'a Block,
-) -> Result<Names<'a, Signature>, NoMemory>
-    ensures known { IfOk result (λ known. known ≡ with_operations all.now []) }
+) -> Result<(), NoMemory>
+    ensures known { OnOk result (known.new ≡ with_operations all.now known.old) }
     ensures first { OnOk result (checker.new.first.type_error ≡ first_after checker.old.first.type_error
-        (operations_errors all.now crash.now [] (weights_of weights.now) (scope_of checker.old))) }
+        (operations_errors all.now crash.now known.old (weights_of weights.now) (scope_of checker.old))) }
     ensures same { OnOk result (scope_of checker.new ≡ scope_of checker.old) }
 {
-    let mut known = Names::new(checker.alloc);
     for one in all {
-        operation(checker, weights, &mut known, one, crash)?;
+        operation(checker, weights, known, one, crash)?;
     }
-    Ok(known)
+    Ok(())
 }
 
 /// A background step after those of these names.
@@ -203,6 +204,23 @@ fn tick<'a>(
     known.add(name, ())
 }
 
+/// Background steps after those of these names.
+fn ticks_after<'a>(
+    checker: &mut Typer<'a>,
+    weights: &Weights,
+    known: &mut Names<'a, ()>,
+    all: &'a [Tick],
+) -> Result<(), NoMemory>
+    ensures first { OnOk result (checker.new.first.type_error ≡ first_after checker.old.first.type_error
+        (ticks_errors all.now known.old (weights_of weights.now) (scope_of checker.old))) }
+    ensures same { OnOk result (scope_of checker.new ≡ scope_of checker.old) }
+{
+    for one in all {
+        tick(checker, weights, known, one)?;
+    }
+    Ok(())
+}
+
 /// The background steps of a layer.
 fn ticks<'a>(checker: &mut Typer<'a>, weights: &Weights, all: &'a [Tick]) -> Result<(), NoMemory>
     ensures first { OnOk result (checker.new.first.type_error ≡ first_after checker.old.first.type_error
@@ -210,10 +228,7 @@ fn ticks<'a>(checker: &mut Typer<'a>, weights: &Weights, all: &'a [Tick]) -> Res
     ensures same { OnOk result (scope_of checker.new ≡ scope_of checker.old) }
 {
     let mut known = Names::new(checker.alloc);
-    for one in all {
-        tick(checker, weights, &mut known, one)?;
-    }
-    Ok(())
+    ticks_after(checker, weights, &mut known, all)
 }
 
 /// Expressions of a layer with this view of it.
@@ -316,22 +331,29 @@ fn declared<'a>(checker: &mut Typer<'a>, layer: &'a Layer) -> Result<(), NoMemor
     variables(checker, Owner::Memory, layer.memory.as_slice())
 }
 
-/// All parts of a layer, whose variables are not there yet. Answers its operations.
+/// All parts of a layer, whose variables are not there yet. Its operations replace those that are known.
 pub fn parts<'a>(
     checker: &mut Typer<'a>,
     weights: &Weights,
+    known: &mut Names<'a, Signature>,
     layer: &'a Layer,
-) -> Result<Names<'a, Signature>, NoMemory>
+) -> Result<(), NoMemory>
     requires { checker.old.variables ≡ [] }
-    ensures known { IfOk result (λ known. known ≡ with_operations layer.now.operations []) }
+    ensures known { OnOk result (known.new ≡ with_operations layer.now.operations []) }
     ensures first { OnOk result (checker.new.first.type_error ≡ first_after checker.old.first.type_error
         (parts_errors layer.now (weights_of weights.now) (record (scope_of checker.old) { variables = variables_of layer.now }))) }
     ensures scope { OnOk result (scope_of checker.new ≡ record (scope_of checker.old) { variables = variables_of layer.now }) }
 {
     declared(checker, layer)?;
     blocks(checker, weights, layer)?;
-    let known = operations(checker, weights, layer.operations.as_slice(), &layer.crash)?;
+    known.truncate(0);
+    operations(
+        checker,
+        weights,
+        known,
+        layer.operations.as_slice(),
+        &layer.crash,
+    )?;
     ticks(checker, weights, layer.ticks.as_slice())?;
-    relations(checker, weights, layer)?;
-    Ok(known)
+    relations(checker, weights, layer)
 }

@@ -173,8 +173,7 @@ fn binding<'a>(checker: &mut Typer<'a>, x: &'a Name, from: &'a Source) -> Result
     let taken = checker.is_taken(name);
     checker.first.check(!taken, Reason::Twice, x.place);
     let from = source(checker, from)?;
-    checker.add_local(name, from.shape, true)?;
-    Ok(())
+    checker.add_local(name, from.shape, true)
 }
 
 /// What a block returns.
@@ -202,10 +201,7 @@ fn statement<'a>(checker: &mut Typer<'a>, one: &'a Stmt) -> Result<(), NoMemory>
     ensures grows { OnOk result (Grows (scope_of checker.old) (scope_of checker.new)) }
 {
     match one {
-        Stmt::Let(x, from) => {
-            binding(checker, x, from)?;
-            Ok(())
-        }
+        Stmt::Let(x, from) => binding(checker, x, from),
         Stmt::Assign(x, indices, from) => {
             assignment(checker, x, indices.as_slice(), from)?;
             Ok(())
@@ -259,11 +255,7 @@ fn inside<'a>(checker: &mut Typer<'a>, b: &'a Block, shape: Option<Shape>) -> Re
 /// A block, with an answer of this shape where one is wanted. Its only error is out of memory.
 #[cycle(walk)]
 #[tactic(auto, using(crate::proofs::Restored::cut_to))]
-pub fn block<'a>(
-    checker: &mut Typer<'a>,
-    b: &'a Block,
-    shape: Option<Shape>,
-) -> Result<(), NoMemory>
+fn block<'a>(checker: &mut Typer<'a>, b: &'a Block, shape: Option<Shape>) -> Result<(), NoMemory>
     ensures first { OnOk result (checker.new.first.type_error ≡ first_after checker.old.first.type_error (block_errors b.now shape (scope_of checker.old))) }
     ensures same { OnOk result (scope_of checker.new ≡ scope_of checker.old) }
 {
