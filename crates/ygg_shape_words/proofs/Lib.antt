@@ -11,3 +11,4 @@ pub mod Steps
 pub mod Compares
 pub mod Answered
 pub mod Sizes
+pub mod Each

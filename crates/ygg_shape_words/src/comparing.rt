@@ -68,15 +68,16 @@ impl Progress {
         None
     }
 
-    /// The pair has this answer from now on.
-    fn learn(&mut self, one: Id, two: Id, answer: Id) -> Result<(), NoMemory>
-        ensures { OnOk result (self.new ≡ (learned one two self.old answer).so_far) }
+    /// The pair has this answer from now on. Its only error is out of memory.
+    fn learn(&mut self, one: Id, two: Id, answer: Id) -> Result<Id, NoMemory>
+        ensures answer { IfOk result (λ id. id ≡ answer) }
+        ensures learned { OnOk result (self.new ≡ (learned one two self.old answer).so_far) }
     {
         let compared = Compared { one, two, answer };
         if self.known.push(compared).is_err() {
             return Err(NoMemory);
         }
-        Ok(())
+        Ok(answer)
     }
 }
 
@@ -132,23 +133,13 @@ fn same_within<B: Book>(
     ensures inputs { KeepsInputs bank.old bank.new }
 {
     if depth == 0 {
-        let answer = plain(bank, book, one, two)?;
-        return Ok(answer);
+        return plain(bank, book, one, two);
     }
     match form_at(bank, progress, one, two) {
-        Form::One => {
-            let answer = bank.make(Node::Const(Word { width: 1, bits: 1 }), book)?;
-            Ok(answer)
-        }
-        Form::Never => {
-            let answer = bank.make(Node::Const(Word { width: 1, bits: 0 }), book)?;
-            Ok(answer)
-        }
+        Form::One => bank.make(Node::Const(Word { width: 1, bits: 1 }), book),
+        Form::Never => bank.make(Node::Const(Word { width: 1, bits: 0 }), book),
         Form::Known(answer) => Ok(answer),
-        Form::Plain => {
-            let answer = plain(bank, book, one, two)?;
-            Ok(answer)
-        }
+        Form::Plain => plain(bank, book, one, two),
         Form::Split {
             test,
             yes_one,
@@ -160,8 +151,7 @@ fn same_within<B: Book>(
             let yes = same_within(bank, book, depth - 1, progress, yes_one, yes_two)?;
             let no = same_within(bank, book, depth - 1, progress, no_one, no_two)?;
             let answer = pick(bank, book, test, yes, no)?;
-            progress.learn(one, two, answer)?;
-            Ok(answer)
+            progress.learn(one, two, answer)
         }
         Form::Either {
             one: x,
@@ -173,15 +163,13 @@ fn same_within<B: Book>(
             let first = same_within(bank, book, depth - 1, progress, x, y)?;
             let second = same_within(bank, book, depth - 1, progress, other_one, other_two)?;
             let answer = either(bank, book, first, second)?;
-            progress.learn(one, two, answer)?;
-            Ok(answer)
+            progress.learn(one, two, answer)
         }
         Form::Against { term, word } => {
             progress.spend();
             let constant = bank.make(Node::Const(word), book)?;
             let answer = same_within(bank, book, depth - 1, progress, term, constant)?;
-            progress.learn(one, two, answer)?;
-            Ok(answer)
+            progress.learn(one, two, answer)
         }
     }
 }

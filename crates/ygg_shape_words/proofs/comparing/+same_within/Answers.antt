@@ -1,5 +1,6 @@
 use Rattle.std.proofs.Common.{rules, ◌<◌, Some, sym, ap, ◌∙◌, subst, arith}
 use Rattle.ygg_bank.proofs.Widths.{wider, width_is, extends_both}
+use Rattle.ygg_shape_words.proofs.Each.{each_ok, this_ok, on_ok}
 use Rattle.ygg_shape_words.proofs.Fit.{alike, alike_wider, can_pick, known_wider, known_learned}
 use Rattle.ygg_shape_words.proofs.Steps.{zero_answer, one_answer, known_answer, plain_answer, split_answer, either_answer, never_answer, against_answer}
 use Rattle.ygg_shape_words.specs.Same.{SoFar, KnownFit}
@@ -7,22 +8,24 @@ use Rattle.ygg_shape_words.proofs.comparing.+same_within.Goals as goal
 
 pub returns-then-depth-eq0-clause-made : goal.returns-then-depth-eq0-clause-made
 returns-then-depth-eq0-clause-made g t c =
-    zero_answer (g.B.Book.kinds c.args.book.now) c.args.depth c.args.progress.now c.args.one c.args.two c.args.bank.now c.plain.new.bank
-    c.in_ok-answer.answer c.if-depth-eq0.true
-    c.in_ok-answer.ensures.nodes c.in_ok-answer.ensures.form
+    each_ok c.plain.result c.plain.ensures.nodes c.plain.ensures.form
+    (λ answer. zero_answer (g.B.Book.kinds c.args.book.now) c.args.depth c.args.progress.now c.args.one c.args.two c.args.bank.now c.plain.new.bank answer c.if-depth-eq0.true)
 
 pub returns-then-depth-eq0-clause-known : goal.returns-then-depth-eq0-clause-known
-returns-then-depth-eq0-clause-known g t c = known_wider c.args.bank.now c.plain.new.bank (c.args.progress.now).known c.plain.ensures.grows c.requires.known
+returns-then-depth-eq0-clause-known g t c =
+    on_ok c.plain.result c.plain.ensures.nodes
+    (λ made. known_wider c.args.bank.now c.plain.new.bank (c.args.progress.now).known c.plain.ensures.grows c.requires.known)
 
-pub returns-in_ok-answer-in-One-clause-made : goal.returns-in_ok-answer-in-One-clause-made
-returns-in_ok-answer-in-One-clause-made g t c =
+pub returns-in-One-clause-made : goal.returns-in-One-clause-made
+returns-in-One-clause-made g t c =
     let l : 0 < c.args.depth = omega arith in
-    one_answer (g.B.Book.kinds c.args.book.now) c.args.depth c.args.progress.now c.args.one c.args.two c.args.bank.now c.make.new.self
-    c.in_ok-answer-in-One.answer l c.in-One.ensures.value
-    c.in_ok-answer-in-One.ensures.nodes c.in_ok-answer-in-One.ensures.id
+    each_ok c.make.result c.make.ensures.nodes c.make.ensures.id
+    (λ answer. one_answer (g.B.Book.kinds c.args.book.now) c.args.depth c.args.progress.now c.args.one c.args.two c.args.bank.now c.make.new.self answer l c.in-One.ensures.value)
 
-pub returns-in_ok-answer-in-One-clause-known : goal.returns-in_ok-answer-in-One-clause-known
-returns-in_ok-answer-in-One-clause-known g t c = known_wider c.args.bank.now c.make.new.self (c.args.progress.now).known c.make.ensures.grows c.requires.known
+pub returns-in-One-clause-known : goal.returns-in-One-clause-known
+returns-in-One-clause-known g t c =
+    on_ok c.make.result c.make.ensures.nodes
+    (λ made. known_wider c.args.bank.now c.make.new.self (c.args.progress.now).known c.make.ensures.grows c.requires.known)
 
 pub returns-in-Known-clause-made : goal.returns-in-Known-clause-made
 returns-in-Known-clause-made g t c =
@@ -30,16 +33,16 @@ returns-in-Known-clause-made g t c =
     known_answer (g.B.Book.kinds c.args.book.now) c.args.depth c.args.progress.now c.args.one c.args.two c.args.bank.now c.in-Known.answer l
     c.in-Known.ensures.value
 
-pub returns-in_ok-answer-in-Plain-clause-made : goal.returns-in_ok-answer-in-Plain-clause-made
-returns-in_ok-answer-in-Plain-clause-made g t c =
+pub returns-in-Plain-clause-made : goal.returns-in-Plain-clause-made
+returns-in-Plain-clause-made g t c =
     let l : 0 < c.args.depth = omega arith in
-    plain_answer (g.B.Book.kinds c.args.book.now) c.args.depth c.args.progress.now c.args.one c.args.two c.args.bank.now c.plain-in-Plain.new.bank
-    c.in_ok-answer-in-Plain.answer l c.in-Plain.ensures.value
-    c.in_ok-answer-in-Plain.ensures.nodes c.in_ok-answer-in-Plain.ensures.form
+    each_ok c.plain-in-Plain.result c.plain-in-Plain.ensures.nodes c.plain-in-Plain.ensures.form
+    (λ answer. plain_answer (g.B.Book.kinds c.args.book.now) c.args.depth c.args.progress.now c.args.one c.args.two c.args.bank.now c.plain-in-Plain.new.bank answer l c.in-Plain.ensures.value)
 
-pub returns-in_ok-answer-in-Plain-clause-known : goal.returns-in_ok-answer-in-Plain-clause-known
-returns-in_ok-answer-in-Plain-clause-known g t c =
-    known_wider c.args.bank.now c.plain-in-Plain.new.bank (c.args.progress.now).known c.plain-in-Plain.ensures.grows c.requires.known
+pub returns-in-Plain-clause-known : goal.returns-in-Plain-clause-known
+returns-in-Plain-clause-known g t c =
+    on_ok c.plain-in-Plain.result c.plain-in-Plain.ensures.nodes
+    (λ made. known_wider c.args.bank.now c.plain-in-Plain.new.bank (c.args.progress.now).known c.plain-in-Plain.ensures.grows c.requires.known)
 
 pub same_within-requires-in-Split : goal.same_within-requires-in-Split
 same_within-requires-in-Split g t c κs within = (
@@ -63,31 +66,34 @@ pick-requires-clause-pick g t c =
     (wider a n c.in-Split.test 1 (extends_both a b n c.same_within.ensures.grows c.same_within-in-Split.ensures.grows) c.in-Split.ensures.fits.0)
     (wider b n c.in_ok-yes-in-Split.yes 1 c.same_within-in-Split.ensures.grows c.in_ok-yes-in-Split.ensures.width) c.in_ok-no-in-Split.ensures.width
 
-pub returns-in_ok-learn-in-Split-clause-made : goal.returns-in_ok-learn-in-Split-clause-made
-returns-in_ok-learn-in-Split-clause-made g t c =
+pub returns-in_ok-answer-in-Split-clause-made : goal.returns-in_ok-answer-in-Split-clause-made
+returns-in_ok-answer-in-Split-clause-made g t c =
     let l : 0 < c.args.depth = omega arith in
-    split_answer (g.B.Book.kinds c.args.book.now) c.args.depth c.args.progress.now c.spend.new.self c.same_within.new.progress
+    this_ok _ c.learn.result c.in_ok-answer-in-Split.answer c.learn.ensures.learned c.learn.ensures.answer
+    (λ learned. split_answer (g.B.Book.kinds c.args.book.now) c.args.depth c.args.progress.now c.spend.new.self c.same_within.new.progress
     c.same_within-in-Split.new.progress c.learn.new.self
     c.args.one c.args.two c.in-Split.test c.in-Split.yes_one c.in-Split.yes_two c.in-Split.no_one c.in-Split.no_two c.in_ok-yes-in-Split.yes
     c.in_ok-no-in-Split.no c.in_ok-answer-in-Split.answer
     c.args.bank.now c.same_within.new.bank c.same_within-in-Split.new.bank c.pick.new.bank l c.in-Split.ensures.value c.spend.ensures
     c.in_ok-yes-in-Split.ensures.made c.in_ok-no-in-Split.ensures.made c.in_ok-answer-in-Split.ensures.nodes c.in_ok-answer-in-Split.ensures.form
-    c.in_ok-learn-in-Split.ensures
+    learned)
 
-pub returns-in_ok-learn-in-Split-clause-known : goal.returns-in_ok-learn-in-Split-clause-known
-returns-in_ok-learn-in-Split-clause-known g t c =
+pub returns-in_ok-answer-in-Split-clause-known : goal.returns-in_ok-answer-in-Split-clause-known
+returns-in_ok-answer-in-Split-clause-known g t c =
     let n = c.same_within-in-Split.new.bank in
-    known_learned n c.pick.new.bank c.same_within-in-Split.new.progress c.learn.new.self c.args.one c.args.two c.in_ok-answer-in-Split.answer
+    on_ok c.learn.result c.learn.ensures.learned
+    (λ learned. known_learned n c.pick.new.bank c.same_within-in-Split.new.progress c.learn.new.self c.args.one c.args.two c.in_ok-answer-in-Split.answer
     c.pick.ensures.grows c.in_ok-no-in-Split.ensures.known
     (c.in_ok-answer-in-Split.ensures.width ∙ ap (λ z. Some z) (width_is n c.in_ok-yes-in-Split.yes 1
     (wider c.same_within.new.bank n c.in_ok-yes-in-Split.yes 1 c.same_within-in-Split.ensures.grows c.in_ok-yes-in-Split.ensures.width)))
-    c.in_ok-learn-in-Split.ensures
+    learned)
 
-pub returns-in_ok-learn-in-Split-clause-width : goal.returns-in_ok-learn-in-Split-clause-width
-returns-in_ok-learn-in-Split-clause-width g t c =
+pub returns-in_ok-answer-in-Split-clause-width : goal.returns-in_ok-answer-in-Split-clause-width
+returns-in_ok-answer-in-Split-clause-width g t c =
     let n = c.same_within-in-Split.new.bank in
-    c.in_ok-answer-in-Split.ensures.width ∙ ap (λ z. Some z) (width_is n c.in_ok-yes-in-Split.yes 1
-    (wider c.same_within.new.bank n c.in_ok-yes-in-Split.yes 1 c.same_within-in-Split.ensures.grows c.in_ok-yes-in-Split.ensures.width))
+    this_ok _ c.learn.result c.in_ok-answer-in-Split.answer c.learn.ensures.learned c.learn.ensures.answer
+    (λ learned. c.in_ok-answer-in-Split.ensures.width ∙ ap (λ z. Some z) (width_is n c.in_ok-yes-in-Split.yes 1
+    (wider c.same_within.new.bank n c.in_ok-yes-in-Split.yes 1 c.same_within-in-Split.ensures.grows c.in_ok-yes-in-Split.ensures.width)))
 
 pub same_within-requires-in-Either-2 : goal.same_within-requires-in-Either-2
 same_within-requires-in-Either-2 g t c κs within = (
@@ -110,33 +116,36 @@ either-requires-clause-one g t c =
     wider c.same_within-in-Either.new.bank c.same_within-in-Either-2.new.bank c.in_ok-first-in-Either.first 1 c.same_within-in-Either-2.ensures.grows
     c.in_ok-first-in-Either.ensures.width
 
-pub returns-in_ok-learn-in-Either-clause-made : goal.returns-in_ok-learn-in-Either-clause-made
-returns-in_ok-learn-in-Either-clause-made g t c =
+pub returns-in_ok-answer-in-Either-clause-made : goal.returns-in_ok-answer-in-Either-clause-made
+returns-in_ok-answer-in-Either-clause-made g t c =
     let l : 0 < c.args.depth = omega arith in
-    either_answer (g.B.Book.kinds c.args.book.now) c.args.depth c.args.progress.now c.spend-in-Either.new.self c.same_within-in-Either.new.progress
+    this_ok _ c.learn-in-Either.result c.in_ok-answer-in-Either.answer c.learn-in-Either.ensures.learned c.learn-in-Either.ensures.answer
+    (λ learned. either_answer (g.B.Book.kinds c.args.book.now) c.args.depth c.args.progress.now c.spend-in-Either.new.self c.same_within-in-Either.new.progress
     c.same_within-in-Either-2.new.progress
     c.learn-in-Either.new.self c.args.one c.args.two c.in-Either.x c.in-Either.y c.in-Either.other_one c.in-Either.other_two
     c.in_ok-first-in-Either.first c.in_ok-second-in-Either.second
     c.in_ok-answer-in-Either.answer c.args.bank.now c.same_within-in-Either.new.bank c.same_within-in-Either-2.new.bank c.either.new.bank l
     c.in-Either.ensures.value c.spend-in-Either.ensures
     c.in_ok-first-in-Either.ensures.made c.in_ok-second-in-Either.ensures.made c.in_ok-answer-in-Either.ensures.nodes
-    c.in_ok-answer-in-Either.ensures.form c.in_ok-learn-in-Either.ensures
+    c.in_ok-answer-in-Either.ensures.form learned)
 
-pub returns-in_ok-learn-in-Either-clause-known : goal.returns-in_ok-learn-in-Either-clause-known
-returns-in_ok-learn-in-Either-clause-known g t c =
-    known_learned c.same_within-in-Either-2.new.bank c.either.new.bank c.same_within-in-Either-2.new.progress c.learn-in-Either.new.self c.args.one
+pub returns-in_ok-answer-in-Either-clause-known : goal.returns-in_ok-answer-in-Either-clause-known
+returns-in_ok-answer-in-Either-clause-known g t c =
+    on_ok c.learn-in-Either.result c.learn-in-Either.ensures.learned
+    (λ learned. known_learned c.same_within-in-Either-2.new.bank c.either.new.bank c.same_within-in-Either-2.new.progress c.learn-in-Either.new.self c.args.one
     c.args.two c.in_ok-answer-in-Either.answer
-    c.either.ensures.grows c.in_ok-second-in-Either.ensures.known c.in_ok-answer-in-Either.ensures.width c.in_ok-learn-in-Either.ensures
+    c.either.ensures.grows c.in_ok-second-in-Either.ensures.known c.in_ok-answer-in-Either.ensures.width learned)
 
-pub returns-in_ok-answer-in-Never-clause-made : goal.returns-in_ok-answer-in-Never-clause-made
-returns-in_ok-answer-in-Never-clause-made g t c =
+pub returns-in-Never-clause-made : goal.returns-in-Never-clause-made
+returns-in-Never-clause-made g t c =
     let l : 0 < c.args.depth = omega arith in
-    never_answer (g.B.Book.kinds c.args.book.now) c.args.depth c.args.progress.now c.args.one c.args.two c.args.bank.now c.make-in-Never.new.self
-    c.in_ok-answer-in-Never.answer l c.in-Never.ensures.value c.in_ok-answer-in-Never.ensures.nodes c.in_ok-answer-in-Never.ensures.id
+    each_ok c.make-in-Never.result c.make-in-Never.ensures.nodes c.make-in-Never.ensures.id
+    (λ answer. never_answer (g.B.Book.kinds c.args.book.now) c.args.depth c.args.progress.now c.args.one c.args.two c.args.bank.now c.make-in-Never.new.self answer l c.in-Never.ensures.value)
 
-pub returns-in_ok-answer-in-Never-clause-known : goal.returns-in_ok-answer-in-Never-clause-known
-returns-in_ok-answer-in-Never-clause-known g t c =
-    known_wider c.args.bank.now c.make-in-Never.new.self (c.args.progress.now).known c.make-in-Never.ensures.grows c.requires.known
+pub returns-in-Never-clause-known : goal.returns-in-Never-clause-known
+returns-in-Never-clause-known g t c =
+    on_ok c.make-in-Never.result c.make-in-Never.ensures.nodes
+    (λ made. known_wider c.args.bank.now c.make-in-Never.new.self (c.args.progress.now).known c.make-in-Never.ensures.grows c.requires.known)
 
 pub same_within-requires-in-Against : goal.same_within-requires-in-Against
 same_within-requires-in-Against g t c κs within =
@@ -159,14 +168,15 @@ same_within-requires-in-Against g t c κs within =
       ),
     )
 
-pub returns-in_ok-learn-in-Against-clause-made : goal.returns-in_ok-learn-in-Against-clause-made
-returns-in_ok-learn-in-Against-clause-made g t c =
+pub returns-in_ok-answer-in-Against-clause-made : goal.returns-in_ok-answer-in-Against-clause-made
+returns-in_ok-answer-in-Against-clause-made g t c =
     let l : 0 < c.args.depth = omega arith in
-    against_answer (g.B.Book.kinds c.args.book.now) c.args.depth c.args.progress.now c.spend-in-Against.new.self c.same_within-in-Against.new.progress
+    this_ok _ c.learn-in-Against.result c.in_ok-answer-in-Against.answer c.learn-in-Against.ensures.learned c.learn-in-Against.ensures.answer
+    (λ learned. against_answer (g.B.Book.kinds c.args.book.now) c.args.depth c.args.progress.now c.spend-in-Against.new.self c.same_within-in-Against.new.progress
     c.learn-in-Against.new.self c.args.one c.args.two c.in-Against.term c.in-Against.word c.in_ok-constant-in-Against.constant
     c.in_ok-answer-in-Against.answer c.args.bank.now c.make-in-Against.new.self c.same_within-in-Against.new.bank l c.in-Against.ensures.value
     c.spend-in-Against.ensures c.in_ok-constant-in-Against.ensures.nodes c.in_ok-constant-in-Against.ensures.id c.in_ok-answer-in-Against.ensures.made
-    c.in_ok-learn-in-Against.ensures
+    learned)
 
 pub returns-in_err-no-in-Split-clause-inputs : goal.returns-in_err-no-in-Split-clause-inputs
 returns-in_err-no-in-Split-clause-inputs g t c = λ next h. c.same_within-in-Split.ensures.inputs next (c.same_within.ensures.inputs next h)
@@ -175,12 +185,8 @@ pub returns-in_err-answer-in-Split-clause-inputs : goal.returns-in_err-answer-in
 returns-in_err-answer-in-Split-clause-inputs g t c = λ next h. c.pick.ensures.inputs next
     (c.same_within-in-Split.ensures.inputs next (c.same_within.ensures.inputs next h))
 
-pub returns-in_err-learn-in-Split-clause-inputs : goal.returns-in_err-learn-in-Split-clause-inputs
-returns-in_err-learn-in-Split-clause-inputs g t c = λ next h. c.pick.ensures.inputs next
-    (c.same_within-in-Split.ensures.inputs next (c.same_within.ensures.inputs next h))
-
-pub returns-in_ok-learn-in-Split-clause-inputs : goal.returns-in_ok-learn-in-Split-clause-inputs
-returns-in_ok-learn-in-Split-clause-inputs g t c = λ next h. c.pick.ensures.inputs next
+pub returns-in_ok-answer-in-Split-clause-inputs : goal.returns-in_ok-answer-in-Split-clause-inputs
+returns-in_ok-answer-in-Split-clause-inputs g t c = λ next h. c.pick.ensures.inputs next
     (c.same_within-in-Split.ensures.inputs next (c.same_within.ensures.inputs next h))
 
 pub returns-in_err-second-in-Either-clause-inputs : goal.returns-in_err-second-in-Either-clause-inputs
@@ -190,22 +196,15 @@ pub returns-in_err-answer-in-Either-clause-inputs : goal.returns-in_err-answer-i
 returns-in_err-answer-in-Either-clause-inputs g t c = λ next h. c.either.ensures.inputs next
     (c.same_within-in-Either-2.ensures.inputs next (c.same_within-in-Either.ensures.inputs next h))
 
-pub returns-in_err-learn-in-Either-clause-inputs : goal.returns-in_err-learn-in-Either-clause-inputs
-returns-in_err-learn-in-Either-clause-inputs g t c = λ next h. c.either.ensures.inputs next
-    (c.same_within-in-Either-2.ensures.inputs next (c.same_within-in-Either.ensures.inputs next h))
-
-pub returns-in_ok-learn-in-Either-clause-inputs : goal.returns-in_ok-learn-in-Either-clause-inputs
-returns-in_ok-learn-in-Either-clause-inputs g t c = λ next h. c.either.ensures.inputs next
+pub returns-in_ok-answer-in-Either-clause-inputs : goal.returns-in_ok-answer-in-Either-clause-inputs
+returns-in_ok-answer-in-Either-clause-inputs g t c = λ next h. c.either.ensures.inputs next
     (c.same_within-in-Either-2.ensures.inputs next (c.same_within-in-Either.ensures.inputs next h))
 
 pub returns-in_err-answer-in-Against-clause-inputs : goal.returns-in_err-answer-in-Against-clause-inputs
 returns-in_err-answer-in-Against-clause-inputs g t c = λ next h. c.same_within-in-Against.ensures.inputs next (c.make-in-Against.ensures.inputs next h)
 
-pub returns-in_err-learn-in-Against-clause-inputs : goal.returns-in_err-learn-in-Against-clause-inputs
-returns-in_err-learn-in-Against-clause-inputs g t c = λ next h. c.same_within-in-Against.ensures.inputs next (c.make-in-Against.ensures.inputs next h)
-
-pub returns-in_ok-learn-in-Against-clause-inputs : goal.returns-in_ok-learn-in-Against-clause-inputs
-returns-in_ok-learn-in-Against-clause-inputs g t c = λ next h. c.same_within-in-Against.ensures.inputs next (c.make-in-Against.ensures.inputs next h)
+pub returns-in_ok-answer-in-Against-clause-inputs : goal.returns-in_ok-answer-in-Against-clause-inputs
+returns-in_ok-answer-in-Against-clause-inputs g t c = λ next h. c.same_within-in-Against.ensures.inputs next (c.make-in-Against.ensures.inputs next h)
 
 pub returns-in_err-no-in-Split-clause-grows : goal.returns-in_err-no-in-Split-clause-grows
 returns-in_err-no-in-Split-clause-grows g t c =
@@ -216,13 +215,8 @@ returns-in_err-answer-in-Split-clause-grows g t c =
     extends_both c.args.bank.now c.same_within.new.bank c.pick.new.bank c.same_within.ensures.grows
     (extends_both c.same_within.new.bank c.same_within-in-Split.new.bank c.pick.new.bank c.same_within-in-Split.ensures.grows c.pick.ensures.grows)
 
-pub returns-in_err-learn-in-Split-clause-grows : goal.returns-in_err-learn-in-Split-clause-grows
-returns-in_err-learn-in-Split-clause-grows g t c =
-    extends_both c.args.bank.now c.same_within.new.bank c.pick.new.bank c.same_within.ensures.grows
-    (extends_both c.same_within.new.bank c.same_within-in-Split.new.bank c.pick.new.bank c.same_within-in-Split.ensures.grows c.pick.ensures.grows)
-
-pub returns-in_ok-learn-in-Split-clause-grows : goal.returns-in_ok-learn-in-Split-clause-grows
-returns-in_ok-learn-in-Split-clause-grows g t c =
+pub returns-in_ok-answer-in-Split-clause-grows : goal.returns-in_ok-answer-in-Split-clause-grows
+returns-in_ok-answer-in-Split-clause-grows g t c =
     extends_both c.args.bank.now c.same_within.new.bank c.pick.new.bank c.same_within.ensures.grows
     (extends_both c.same_within.new.bank c.same_within-in-Split.new.bank c.pick.new.bank c.same_within-in-Split.ensures.grows c.pick.ensures.grows)
 
@@ -237,14 +231,8 @@ returns-in_err-answer-in-Either-clause-grows g t c =
     (extends_both c.same_within-in-Either.new.bank c.same_within-in-Either-2.new.bank c.either.new.bank c.same_within-in-Either-2.ensures.grows
     c.either.ensures.grows)
 
-pub returns-in_err-learn-in-Either-clause-grows : goal.returns-in_err-learn-in-Either-clause-grows
-returns-in_err-learn-in-Either-clause-grows g t c =
-    extends_both c.args.bank.now c.same_within-in-Either.new.bank c.either.new.bank c.same_within-in-Either.ensures.grows
-    (extends_both c.same_within-in-Either.new.bank c.same_within-in-Either-2.new.bank c.either.new.bank c.same_within-in-Either-2.ensures.grows
-    c.either.ensures.grows)
-
-pub returns-in_ok-learn-in-Either-clause-grows : goal.returns-in_ok-learn-in-Either-clause-grows
-returns-in_ok-learn-in-Either-clause-grows g t c =
+pub returns-in_ok-answer-in-Either-clause-grows : goal.returns-in_ok-answer-in-Either-clause-grows
+returns-in_ok-answer-in-Either-clause-grows g t c =
     extends_both c.args.bank.now c.same_within-in-Either.new.bank c.either.new.bank c.same_within-in-Either.ensures.grows
     (extends_both c.same_within-in-Either.new.bank c.same_within-in-Either-2.new.bank c.either.new.bank c.same_within-in-Either-2.ensures.grows
     c.either.ensures.grows)
@@ -254,12 +242,7 @@ returns-in_err-answer-in-Against-clause-grows g t c =
     extends_both c.args.bank.now c.make-in-Against.new.self c.same_within-in-Against.new.bank c.make-in-Against.ensures.grows
     c.same_within-in-Against.ensures.grows
 
-pub returns-in_err-learn-in-Against-clause-grows : goal.returns-in_err-learn-in-Against-clause-grows
-returns-in_err-learn-in-Against-clause-grows g t c =
-    extends_both c.args.bank.now c.make-in-Against.new.self c.same_within-in-Against.new.bank c.make-in-Against.ensures.grows
-    c.same_within-in-Against.ensures.grows
-
-pub returns-in_ok-learn-in-Against-clause-grows : goal.returns-in_ok-learn-in-Against-clause-grows
-returns-in_ok-learn-in-Against-clause-grows g t c =
+pub returns-in_ok-answer-in-Against-clause-grows : goal.returns-in_ok-answer-in-Against-clause-grows
+returns-in_ok-answer-in-Against-clause-grows g t c =
     extends_both c.args.bank.now c.make-in-Against.new.self c.same_within-in-Against.new.bank c.make-in-Against.ensures.grows
     c.same_within-in-Against.ensures.grows
