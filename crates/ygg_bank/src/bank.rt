@@ -106,33 +106,47 @@ impl Bank {
         // the bank's nodes stand in order
         let _ = self.len();
         let given = words_by_number(alloc, env)?;
-        let places = reached(alloc, self, id)?;
-        let values = self.values_at(alloc, id, places.as_slice(), &given)?;
-        Ok(word_at(&values, id))
+        self.value_given(alloc, id, &given)
     }
 
-    /// The values of the nodes that a term reaches, whose places these are. Its only error is out of memory.
-    fn values_at(
+    /// The value of a term, where these words are given for inputs. Its only error is out of memory.
+    fn value_given(
+        &self,
+        alloc: Global,
+        term: Id,
+        given: &IndexMap<u64, Word>,
+    ) -> Result<Word, NoMemory>
+        requires ordered { InOrder [] self.now }
+        requires stands { Stands self.now term }
+        requires given { GivenFit (get nat_eq given.now) self.now }
+        ensures { IfOk result (λ word. word ≡ value_of (numbers_given (get nat_eq given.now)) self.now term.0) }
+    {
+        let places = reached(alloc, self, term)?;
+        self.value_by(alloc, term, places.as_slice(), given)
+    }
+
+    /// The value of a term, from those of the nodes that it reaches, whose places these are. Its only error is out of memory.
+    fn value_by(
         &self,
         alloc: Global,
         term: Id,
         places: &[usize],
         given: &IndexMap<u64, Word>,
-    ) -> Result<IndexMap<usize, Word>, NoMemory>
+    ) -> Result<Word, NoMemory>
         requires ordered { InOrder [] self.now }
         requires stands { Stands self.now term }
         requires ascends { Ascends places.now }
         requires below { AllBelow (term.0 + 1) places.now }
         requires each { (p : ℕ) → (has_place places.now p ≡ true) ↔ Reaches self.now term.0 p }
         requires given { GivenFit (get nat_eq given.now) self.now }
-        ensures { IfOk result (λ values. get nat_eq values term.0 ≡ Some (value_of (numbers_given (get nat_eq given.now)) self.now term.0)) }
+        ensures { IfOk result (λ word. word ≡ value_of (numbers_given (get nat_eq given.now)) self.now term.0) }
     {
         let mut values = IndexMap::new(alloc);
         for place in places {
             let value = self.value_at(*place, &values, given);
             values.insert(*place, value)?;
         }
-        Ok(values)
+        Ok(word_at(&values, term))
     }
 
     /// The value of the node at a place, where those of its children are known.
@@ -221,20 +235,15 @@ impl Bank {
         ensures err { OnErr result (self.new ≡ self.old) }
     {
         let width = self.width_for(&node);
-        if self.widths.push(width).is_err() {
-            return Err(NoMemory);
-        }
+        self.widths.reserve(1)?;
         match self.nodes.insert_full(node) {
             Ok((place, is_new)) => {
-                if !is_new {
-                    self.widths.pop();
+                if is_new {
+                    self.widths.push_reserved(width);
                 }
                 Ok(Id(place))
             }
-            Err(_) => {
-                self.widths.pop();
-                Err(NoMemory)
-            }
+            Err(_) => Err(NoMemory),
         }
     }
 

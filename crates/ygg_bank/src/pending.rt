@@ -24,18 +24,13 @@ pub fn add_children(pending: &mut BTreeSet<usize>, node: Node) -> Result<(), NoM
         Node::Input { .. } | Node::Const(_) => Ok(()),
         Node::Bin { a, b, .. } => {
             add(pending, a.0)?;
-            add(pending, b.0)?;
-            Ok(())
+            add(pending, b.0)
         }
-        Node::Not { a } | Node::Resize { a, .. } => {
-            add(pending, a.0)?;
-            Ok(())
-        }
+        Node::Not { a } | Node::Resize { a, .. } => add(pending, a.0),
         Node::Pick { test, yes, no } => {
             add(pending, test.0)?;
             add(pending, yes.0)?;
-            add(pending, no.0)?;
-            Ok(())
+            add(pending, no.0)
         }
     }
 }

@@ -1,9 +1,10 @@
-use Rattle.std.proofs.Common.{nat_eq, arith, slice_index_or}
+use Rattle.std.proofs.Common.{nat_eq, arith, slice_index_or, Option, IsSome, subst, sym, rules}
 use Rattle.indexmap.specs.IndexMap.{get}
+use Rattle.ygg_value.specs.Number.{Number}
 use Rattle.ygg_bank.specs.Values.{numbers_given}
 use Rattle.ygg_bank.proofs.Evaluating.{children_known, none_known, one_more_known, place_below, term_known}
 use Rattle.ygg_bank.proofs.Places.{below_there}
-use Rattle.ygg_bank.proofs.bank.Bank.values_at.Goals as goal
+use Rattle.ygg_bank.proofs.bank.Bank.value_by.Goals as goal
 
 pub loop-place-init : goal.loop-place-init
 loop-place-init c = none_known (numbers_given (get nat_eq c.args.given.now)) c.args.self.now c.args.places.now (get nat_eq c.new-values.result)
@@ -30,7 +31,14 @@ loop-place-preserved c =
     (get nat_eq c.loop-place.values) (get nat_eq c.insert.new.self) c.value_at-value.result
     (below_there c.args.places.now i c.loop-place-test.true) c.value_at-value.ensures updates.1 updates.2 c.loop-place.invariant
 
+pub word_at-requires : goal.word_at-requires
+word_at-requires c =
+    let known = term_known (numbers_given (get nat_eq c.args.given.now)) c.args.self.now c.args.term.0 c.args.places.now c.loop-place.place-index
+    (get nat_eq c.loop-place.values) c.requires.each c.loop-place-test.false c.loop-place.invariant in
+    subst (λ (o : Option Number). IsSome o) (sym known) (search rules)
+
 pub returns : goal.returns
 returns c =
-    term_known (numbers_given (get nat_eq c.args.given.now)) c.args.self.now c.args.term.0 c.args.places.now c.loop-place.place-index
-    (get nat_eq c.loop-place.values) c.requires.each c.loop-place-test.false c.loop-place.invariant
+    let known = term_known (numbers_given (get nat_eq c.args.given.now)) c.args.self.now c.args.term.0 c.args.places.now c.loop-place.place-index
+    (get nat_eq c.loop-place.values) c.requires.each c.loop-place-test.false c.loop-place.invariant in
+    cc (known, c.word_at.ensures)
