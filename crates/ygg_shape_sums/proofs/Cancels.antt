@@ -1,6 +1,7 @@
 -- What is known of two words where nothing is left of the one less the other.
 use Rattle.std.proofs.Common.{◌≡◌, ◌<◌, ◌≤◌, ◌+◌, ◌-◌, ◌*◌, ◌^◌, ℕ, zero, suc, Bool, true, false, if◌then◌else◌, Option}
 use Rattle.std.proofs.Common.{Some, None, List, [], ◌∷◌, ◌++◌, All, length, get_or, slice_get, refl, sym, ap, ◌∙◌, subst, arith}
+use Rattle.std.proofs.Common.{Result, Ok, Err, IfOk}
 use Rattle.std.specs.Prelude.{◌&&◌}
 use Rattle.std.proofs.lemmas.List.Elements.{All-append, All-get_or, All-nil, All-push}
 use Rattle.ygg_shape_words.specs.ygg_bank.Nodes.{HasWidth, InOrder}
@@ -101,6 +102,16 @@ split_goes next facts one two t r s e g h k j =
 pub split_stops : (next : List Fact → Bool) (facts one : List Fact) (t : Id) (r : Bool) → one ≡ facts ++ fact t true ∷ [] → r ≡ next one → r ≡ false →
     false ≡ is_nothing next facts (outcome.Split t)
 split_stops next facts one t r e h k = ap (λ z. z && next (facts ++ fact t false ∷ [])) (sym k ∙ h ∙ ap next e)
+
+-- what the second side of a split answers, where nothing is left on the first
+pub split_rest : {E : Type 0} (depth : ℕ) (nodes : List Node) (w : ℕ) (a b : Id) (facts : List Fact) (t : Id) (r : Bool) (s : Result Bool E) → 0 < depth →
+    outcome.Split t ≡ remainder nodes w facts a b → r ≡ cancels_within (depth - 1) nodes w a b (facts ++ fact t true ∷ []) → r ≡ true →
+    IfOk s (λ gone. gone ≡ cancels_within (depth - 1) nodes w a b (facts ++ fact t false ∷ [])) →
+    IfOk s (λ gone. gone ≡ cancels_within depth nodes w a b facts)
+split_rest depth nodes w a b facts t r (Ok gone) l e h k j =
+    within_goes depth nodes w a b facts (outcome.Split t) gone l e
+    (split_goes (cancels_within (depth - 1) nodes w a b) facts (facts ++ fact t true ∷ []) (facts ++ fact t false ∷ []) t r gone refl refl h k j)
+split_rest depth nodes w a b facts t r (Err x) l e h k j = tt
 
 module _ (inputs : Inputs) (v : Values) (w : ℕ) (most : w ≤ 64) (nodes : List Node) (f : Fits inputs v nodes) (a b : Id) (p : HasWidth nodes a w)
     (q : HasWidth nodes b w) where

@@ -1,6 +1,7 @@
 -- What the code answers is what the definitions say.
-use Rattle.std.proofs.Common.{◌≡◌, ◌<◌, ◌≤◌, ◌==◌, ℕ, zero, suc, ◌+◌, ◌-◌, ◌%◌, ◌^◌, Bool, true, false, if◌then◌else◌, Some, None}
+use Rattle.std.proofs.Common.{◌≡◌, ◌<◌, ◌≤◌, ◌==◌, ℕ, zero, suc, ◌+◌, ◌-◌, ◌%◌, ◌^◌, Bool, true, false, if◌then◌else◌}
 use Rattle.std.proofs.Common.{List, [], ◌∷◌, ◌++◌, length, take, drop, get_or, slice_get, slice_set, append_assoc, length-drop, refl, sym, ap, ◌∙◌, arith}
+use Rattle.std.proofs.Common.{Result, Ok, Err, OnOk, IfOk}
 use Rattle.std.specs.List.{insert}
 use Rattle.std.specs.Prelude.{nat_lt}
 use Rattle.std.proofs.lemmas.List.{drop_more, drop_all, drop-append-le, drop-set-lt, take_more, take_more_set, take-append-drop, take_all}
@@ -8,13 +9,12 @@ use Rattle.ygg_shape_words.specs.ygg_rules.declared.rule.RuleKind.{RuleKind}
 use Rattle.ygg_shape_words.specs.ygg_bank.Makes.{Make, Out, pure, and_make}
 use Rattle.ygg_shape_words.specs.ygg_bank.declared.node.Id.{Id}
 use Rattle.ygg_shape_words.specs.ygg_bank.declared.node.Node.{Node}
-use Rattle.ygg_shape_words.specs.Picking.{picked}
 use Rattle.ygg_shape_sums.specs.Parts.{Sum, part, merged}
-use Rattle.ygg_shape_sums.specs.Readings.{read, fact}
+use Rattle.ygg_shape_sums.specs.Readings.{read}
 use Rattle.ygg_shape_sums.specs.Gathers.{parts_of, counted, with_all, gathered, found_within, split_of}
 use Rattle.ygg_shape_sums.specs.Reduces.{reduced_sum}
 use Rattle.ygg_shape_sums.specs.Sides.{share, more, all_more, vanishes}
-use Rattle.ygg_shape_sums.specs.Equates.{Found, IsFound, found, split_as, vanishes_within}
+use Rattle.ygg_shape_sums.specs.Equates.{Found, IsFound, Step, found, split_as, vanishes_within}
 use Rattle.ygg_shape_sums.specs.declared.parts.Summand.{Summand}
 use Rattle.ygg_shape_sums.specs.declared.reading.Fact.{Fact}
 
@@ -82,66 +82,58 @@ module _ (is : Summand → Bool) (next : Summand → List Summand) where
   looked_spent zero ps e = refl
   looked_spent (suc fuel) ps e = absurd (omega arith)
 
+-- where there is an answer, what follows from what holds
+pub then_ok : {A E : Type 0} (r : Result A E) (P Q : Type 0) → OnOk r P → (P → Q) → OnOk r Q
+then_ok (Ok a) P Q h f = f h
+then_ok (Err x) P Q h f = tt
+
+pub if_ok : {A E : Type 0} (r : Result A E) (P : Type 0) (Q : A → Type 0) → OnOk r P → (P → (a : A) → Q a) → IfOk r Q
+if_ok (Ok a) P Q h f = f h a
+if_ok (Err x) P Q h f = tt
+
+pub any_ok : {A E : Type 0} (r : Result A E) (P : A → Type 0) (Q : Type 0) → IfOk r P → ((a : A) → P a → Q) → OnOk r Q
+any_ok (Ok a) P Q h f = f a h
+any_ok (Err x) P Q h f = tt
+
+pub each_ok : {A E : Type 0} (r : Result A E) (P Q : A → Type 0) → IfOk r P → ((a : A) → P a → Q a) → IfOk r Q
+each_ok (Ok a) P Q h f = f a h
+each_ok (Err x) P Q h f = tt
+
 -- a step was made, and goes on
 pub goes : {A B : Type 0} (m : Make A) (f : A → Make B) (nodes new : List Node) (a : A) → new ≡ (m nodes).nodes → a ≡ (m nodes).value →
     f a new ≡ and_make m f nodes
 goes m f nodes new a e g = ap (λ z. f z new) g ∙ ap (f (m nodes).value) e
 
+-- a step that makes the same finds the same
+pub found_by : {E : Type 0} (one two : Make Found) (old new : List Node) (r : Result Id E) (left : ℕ) → one old ≡ two old →
+    IfOk r (λ id. IsFound one old new id left) → IfOk r (λ id. IsFound two old new id left)
+found_by one two old new (Ok id) left e f =
+    record { nodes = f.nodes ∙ ap (λ (o : Out Found). o.nodes) e; value = f.value ∙ ap (λ (o : Out Found). o.value) e }
+found_by one two old new (Err x) left e f = tt
+
 module _ (kinds : List RuleKind) where
   abbrev pub out : {A : Type 0} → A → List Node → Out A
   out a nodes = record { value = a; nodes = nodes }
 
-  pub within_zero : (w depth left : ℕ) (facts : List Fact) (s : Sum) (old new : List Node) (r : Id) → depth ≡ 0 → new ≡ (vanishes kinds w s old).nodes →
-      r ≡ (vanishes kinds w s old).value → IsFound (vanishes_within kinds w depth left facts s) old new r left
+  pub within_zero : {E : Type 0} (w depth left : ℕ) (facts : List Fact) (s : Sum) (old new : List Node) (r : Result Id E) → depth ≡ 0 →
+      OnOk r (new ≡ (vanishes kinds w s old).nodes) → IfOk r (λ id. id ≡ (vanishes kinds w s old).value) →
+      IfOk r (λ id. IsFound (vanishes_within kinds w depth left facts s) old new id left)
   unfolding vanishes_within
-  within_zero w zero left facts s old new r d e g = record { nodes = e; value = ap (found left) g }
+  within_zero w zero left facts s old new (Ok id) d e g = record { nodes = e; value = ap (found left) g }
+  within_zero w zero left facts s old new (Err x) d e g = tt
   within_zero w (suc depth) left facts s old new r d e g = absurd (omega arith)
 
-  pub within_whole : (w depth left : ℕ) (facts : List Fact) (s g : Sum) (old new : List Node) (r : Id) → 0 < depth → g ≡ reduced_sum old w facts s →
-      None ≡ split_of old left g.parts → new ≡ (vanishes kinds w g old).nodes → r ≡ (vanishes kinds w g old).value →
-      IsFound (vanishes_within kinds w depth left facts s) old new r left
+  pub within_split : {E : Type 0} (w depth left l : ℕ) (facts : List Fact) (s g : Sum) (old new : List Node) (r : Result Id E) → 0 < depth →
+      g ≡ reduced_sum old w facts s →
+      IfOk r (λ id. IsFound (split_as kinds w (vanishes_within kinds w (depth - 1)) left facts g (split_of old left g.parts)) old new id l) →
+      IfOk r (λ id. IsFound (vanishes_within kinds w depth left facts s) old new id l)
   unfolding vanishes_within
-  within_whole w zero left facts s g old new r d i n e h = absurd (omega arith)
-  within_whole w (suc depth) left facts s g old new r d i n e h =
-      let step = vanishes_within kinds w depth in
-      let whole : out (found left r) new ≡ vanishes_within kinds w (suc depth) left facts s old =
-      goes (vanishes kinds w g) (λ r. pure (found left r)) old new r e h
-      ∙ ap (λ z. split_as kinds w step left facts g z old) n
-      ∙ ap (λ z. split_as kinds w step left facts z (split_of old left z.parts) old) i in
-      record { nodes = ap (λ (o : Out Found). o.nodes) whole; value = ap (λ (o : Out Found). o.value) whole }
-
-  pub within_split : (w depth left l0 l1 l2 : ℕ) (facts yes_facts no_facts : List Fact) (s g : Sum) (t r1 r2 r : Id) (old n1 n2 new : List Node) → 0 < depth →
-      g ≡ reduced_sum old w facts s → Some t ≡ split_of old left g.parts → l0 ≡ left - 1 → yes_facts ≡ facts ++ fact t true ∷ [] →
-      no_facts ≡ facts ++ fact t false ∷ [] → IsFound (vanishes_within kinds w (depth - 1) l0 yes_facts g) old n1 r1 l1 →
-      IsFound (vanishes_within kinds w (depth - 1) l1 no_facts g) n1 n2 r2 l2 → new ≡ (picked kinds t r1 r2 n2).nodes → r ≡ (picked kinds t r1 r2 n2).value →
-      IsFound (vanishes_within kinds w depth left facts s) old new r l2
-  unfolding vanishes_within
-  within_split w zero left l0 l1 l2 facts yes_facts no_facts s g t r1 r2 r old n1 n2 new d i n e x y f h k j = absurd (omega arith)
-  within_split w (suc depth) left l0 l1 l2 facts yes_facts no_facts s g t r1 r2 r old n1 n2 new d i n e x y f h k j =
-      let step = vanishes_within kinds w depth in
+  within_split w zero left l facts s g old new r d i f = absurd (omega arith)
+  within_split w (suc depth) left l facts s g old new r d i f =
+      let step : ℕ → Sum → Make Found = λ z t. split_as kinds w (vanishes_within kinds w z) left facts t (split_of old left t.parts) in
       let same : suc depth - 1 ≡ depth = omega arith in
-      let last : Found → Found → Id → Make Found = λ one two r. pure (found two.left r) in
-      let second : Found → Found → Make Found = λ one two. and_make (picked kinds t one.term two.term) (last one two) in
-      let first : Found → Make Found = λ one. and_make (step one.left (facts ++ fact t false ∷ []) g) (second one) in
-      let one : Found = found l1 r1 in
-      let two : Found = found l2 r2 in
-      let f_nodes : n1 ≡ (step (left - 1) (facts ++ fact t true ∷ []) g old).nodes =
-      f.nodes ∙ ap (λ z. (vanishes_within kinds w z l0 yes_facts g old).nodes) same ∙ ap (λ z. (step z yes_facts g old).nodes) e
-      ∙ ap (λ z. (step (left - 1) z g old).nodes) x in
-      let f_value : one ≡ (step (left - 1) (facts ++ fact t true ∷ []) g old).value =
-      f.value ∙ ap (λ z. (vanishes_within kinds w z l0 yes_facts g old).value) same ∙ ap (λ z. (step z yes_facts g old).value) e
-      ∙ ap (λ z. (step (left - 1) z g old).value) x in
-      let h_nodes : n2 ≡ (step l1 (facts ++ fact t false ∷ []) g n1).nodes =
-      h.nodes ∙ ap (λ z. (vanishes_within kinds w z l1 no_facts g n1).nodes) same ∙ ap (λ z. (step l1 z g n1).nodes) y in
-      let h_value : two ≡ (step l1 (facts ++ fact t false ∷ []) g n1).value =
-      h.value ∙ ap (λ z. (vanishes_within kinds w z l1 no_facts g n1).value) same ∙ ap (λ z. (step l1 z g n1).value) y in
-      let whole : out (found l2 r) new ≡ vanishes_within kinds w (suc depth) left facts s old =
-      goes (picked kinds t r1 r2) (last one two) n2 new r k j
-      ∙ goes (step l1 (facts ++ fact t false ∷ []) g) (second one) n1 n2 two h_nodes h_value
-      ∙ goes (step (left - 1) (facts ++ fact t true ∷ []) g) first old n1 one f_nodes f_value
-      ∙ ap (λ z. split_as kinds w step left facts g z old) n
-      ∙ ap (λ z. split_as kinds w step left facts z (split_of old left z.parts) old) i in
-      record { nodes = ap (λ (o : Out Found). o.nodes) whole; value = ap (λ (o : Out Found). o.value) whole }
+      found_by (step (suc depth - 1) g) (vanishes_within kinds w (suc depth) left facts s) old new r l
+      (ap (λ z. step z g old) same ∙ ap (λ z. step depth z old) i) f
 
 -- what the terms of a side have made so far, and what the rest will make
 pub record AllMore (kinds : List RuleKind) (w : ℕ) (second : Bool) (ps : List Summand) (first : Id) (old : List Node) (i : ℕ) (so_far : Id) (now : List Node) :

@@ -16,6 +16,12 @@ use Rattle.ygg_shape_sums.specs.declared.reading.Fact.{Fact}
 pub one_item : {X : Type 0} (xs : List X) (i : ℕ) (x y : X) → i < length xs → x ≡ get_or xs i x → y ≡ get_or xs i y → x ≡ y
 one_item xs i x y l e g = let h : x ∷ drop (i + 1) xs ≡ y ∷ drop (i + 1) xs = sym (rest_is xs i x x l e) ∙ rest_is xs i y y l g in cc
 
+-- the item at a place, whatever would stand for one past the end
+pub item_is : {X : Type 0} (xs : List X) (i : ℕ) (x y : X) → i < length xs → get_or xs i x ≡ get_or xs i y
+item_is xs i x y l =
+    let h : get_or xs i x ∷ drop (i + 1) xs ≡ get_or xs i y ∷ drop (i + 1) xs =
+    sym (rest_is xs i (get_or xs i x) x l refl) ∙ rest_is xs i (get_or xs i y) y l refl in cc
+
 -- a factor that comes behind those before a place
 module _ (a b d : Id) (xs : List Id) (i : ℕ) (l : i < length xs) (e : b ≡ get_or xs i d) (h : placed a xs ≡ take i xs ++ placed a (drop i xs)) where
   placed_here : (c : Bool) → nat_lt a.0 b.0 ≡ c →

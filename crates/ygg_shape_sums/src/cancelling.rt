@@ -7,13 +7,14 @@ ghost use Rattle.ygg_shape_words.specs.Forms.{WordsAlike};
 ghost use Rattle.ygg_shape_sums.specs.Cancels.{cancels, cancels_within, has_product, inside, is_product, outcome_of, remainder};
 ghost use Rattle.ygg_shape_sums.specs.Parts.{PartsAlike};
 ghost use Rattle.ygg_shape_sums.specs.Products.{ProductsAlike, single};
-ghost use Rattle.ygg_shape_sums.specs.Readings.{FactsFit};
+ghost use Rattle.ygg_shape_sums.specs.Readings.{FactsFit, fact};
 
 use crate::gathering::{READ_LIMIT, list, look};
 use crate::multiplying::expand;
 use crate::parts::{Summand, copied};
-use crate::products::{Monomial, all_gone, products_test, put};
+use crate::products::{Monomial, all_gone, products_test};
 use crate::reading::{Decomposition, Fact, LESS_ONE, read, with};
+use crate::reducing::products_of;
 use ygg_shape_words::{Bank, Id, NoMemory, Node};
 use ygg_value::Op;
 
@@ -57,6 +58,7 @@ pub fn cancels(bank: &Bank, one: Id, two: Id) -> Result<bool, NoMemory>
 }
 
 /// Whether nothing is left of one word less another where the facts hold, with so many splits one within another.
+#[cycle(cancels)]
 fn cancels_within(
     bank: &Bank,
     width: u8,
@@ -79,16 +81,36 @@ fn cancels_within(
         Outcome::Nothing => Ok(true),
         Outcome::Open => Ok(false),
         Outcome::Split(test) => {
-            let yes = with(bank, facts, test, true)?;
-            let first = cancels_within(bank, width, depth - 1, one, two, yes.as_slice())?;
-            if !first {
+            if !cancels_where(bank, width, depth - 1, one, two, facts, test, true)? {
                 return Ok(false);
             }
-            let no = with(bank, facts, test, false)?;
-            let gone = cancels_within(bank, width, depth - 1, one, two, no.as_slice())?;
-            Ok(gone)
+            cancels_where(bank, width, depth - 1, one, two, facts, test, false)
         }
     }
+}
+
+/// Whether nothing is left of one word less another where the facts hold and a test is this digit.
+#[cycle(cancels)]
+fn cancels_where(
+    bank: &Bank,
+    width: u8,
+    depth: u32,
+    one: Id,
+    two: Id,
+    facts: &[Fact],
+    test: Id,
+    digit: bool,
+) -> Result<bool, NoMemory>
+    requires bank { IsBank bank.now }
+    requires width { IsWidth width }
+    requires one { HasWidth bank.now one width }
+    requires two { HasWidth bank.now two width }
+    requires facts { FactsFit bank.now facts.now }
+    requires test { HasWidth bank.now test 1 }
+    ensures { IfOk result (λ gone. gone ≡ cancels_within depth bank.now width one two (facts.now ++ fact test digit ∷ [])) }
+{
+    let more = with(bank, facts, test, digit)?;
+    cancels_within(bank, width, depth, one, two, more.as_slice())
 }
 
 /// One word less another, multiplied out where the facts hold.
@@ -111,11 +133,15 @@ fn remainder(bank: &Bank, width: u8, facts: &[Fact], one: Id, two: Id) -> Result
 fn difference(bank: &Bank, one: Id, two: Id) -> Result<Vec<Monomial>, NoMemory>
     ensures { IfOk result (λ list. list.items ≡ single 1 one ∷ single LESS_ONE two ∷ []) }
 {
-    let alloc = bank.allocator();
-    let mut list = Vec::new(alloc);
-    put(&mut list, Monomial::single(alloc, 1, one)?)?;
-    put(&mut list, Monomial::single(alloc, LESS_ONE, two)?)?;
-    Ok(list)
+    let first = Summand {
+        times: 1,
+        term: one,
+    };
+    let second = Summand {
+        times: LESS_ONE,
+        term: two,
+    };
+    products_of(bank.allocator(), &[first, second])
 }
 
 /// What is known of products that were multiplied out.

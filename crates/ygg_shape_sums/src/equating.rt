@@ -1,15 +1,16 @@
 //! The equality of two words that may be sums.
 
-ghost use Rattle.std.specs.Prelude.{◌≡◌, [], IfOk, OnOk};
+ghost use Rattle.std.specs.Prelude.{◌≡◌, ◌++◌, ◌∷◌, [], IfOk, OnOk};
 ghost use Rattle.ygg_shape_words.specs.ygg_rules.Views.{IsWidth};
 ghost use Rattle.ygg_shape_words.specs.ygg_bank.Inputs.{KeepsInputs};
 ghost use Rattle.ygg_shape_words.specs.ygg_bank.Nodes.{Extends, HasWidth, IsBank};
 ghost use Rattle.ygg_shape_words.specs.ygg_bank.Values.{KeepsValues};
 ghost use Rattle.ygg_shape_words.specs.Forms.{WordsAlike};
 ghost use Rattle.ygg_shape_words.specs.Same.{IsSame};
-ghost use Rattle.ygg_shape_sums.specs.Equates.{IsFound, are_sums, compared_words, difference, equated_words, subtracted, vanishes_within};
+ghost use Rattle.ygg_shape_sums.specs.Equates.{IsFound, are_sums, compared_words, difference, equated_words, split_as, subtracted, vanishes_within};
+ghost use Rattle.ygg_shape_sums.specs.Gathers.{split_of};
 ghost use Rattle.ygg_shape_sums.specs.Parts.{PartsFit, Sum};
-ghost use Rattle.ygg_shape_sums.specs.Readings.{FactsFit};
+ghost use Rattle.ygg_shape_sums.specs.Readings.{FactsFit, fact};
 
 use crate::cancelling::cancels;
 use crate::gathering::{has_sum, split_of};
@@ -25,6 +26,7 @@ use ygg_value::Word;
 pub const EQUATE_LIMIT: u32 = 40;
 
 /// Whether a sum is 0 where the facts hold, with so many splits one within another.
+#[cycle(vanishes)]
 fn vanishes_within<B: Book>(
     bank: &mut Bank,
     book: &B,
@@ -44,41 +46,70 @@ fn vanishes_within<B: Book>(
     ensures bank { IsBank bank.new }
 {
     if depth == 0 {
-        let answer = vanishes(bank, book, width, total)?;
-        return Ok(answer);
+        return vanishes(bank, book, width, total);
     }
     let sum = reduce(bank, width, facts, total)?;
+    vanishes_split(bank, book, width, depth - 1, left, facts, &sum)
+}
+
+/// Whether a sum that was reduced is 0 where the facts hold, split where that helps, with so many splits within that one.
+#[cycle(vanishes)]
+fn vanishes_split<B: Book>(
+    bank: &mut Bank,
+    book: &B,
+    width: u8,
+    depth: u32,
+    left: &mut u32,
+    facts: &[Fact],
+    sum: &Total,
+) -> Result<Id, NoMemory>
+    requires bank { IsBank bank.old }
+    requires width { IsWidth width }
+    requires facts { FactsFit bank.old facts.now }
+    requires parts { PartsFit bank.old width sum.now.parts }
+    ensures made { IfOk result (λ id. IsFound (split_as (B.kinds book.now) width (vanishes_within (B.kinds book.now) width depth) left.old facts.now sum.now
+        (split_of bank.old left.old sum.now.parts)) bank.old bank.new id left.new) }
+    ensures width { IfOk result (λ id. HasWidth bank.new id 1) }
+    ensures grows { Extends bank.old bank.new }
+    ensures bank { IsBank bank.new }
+{
     match split_of(bank, *left, sum.parts())? {
-        None => {
-            let answer = vanishes(bank, book, width, &sum)?;
-            Ok(answer)
-        }
+        None => vanishes(bank, book, width, sum),
         Some(test) => {
             *left = left.saturating_sub(1);
-            let where_yes = with(bank, facts, test, true)?;
-            let yes = vanishes_within(
-                bank,
-                book,
-                width,
-                depth - 1,
-                left,
-                where_yes.as_slice(),
-                &sum,
-            )?;
-            let where_no = with(bank, facts, test, false)?;
-            let no = vanishes_within(
-                bank,
-                book,
-                width,
-                depth - 1,
-                left,
-                where_no.as_slice(),
-                &sum,
-            )?;
-            let answer = pick(bank, book, test, yes, no)?;
-            Ok(answer)
+            let yes = vanishes_where(bank, book, width, depth, left, facts, test, true, sum)?;
+            let no = vanishes_where(bank, book, width, depth, left, facts, test, false, sum)?;
+            pick(bank, book, test, yes, no)
         }
     }
+}
+
+/// Whether a sum is 0 where the facts hold and a test is this digit.
+#[cycle(vanishes)]
+fn vanishes_where<B: Book>(
+    bank: &mut Bank,
+    book: &B,
+    width: u8,
+    depth: u32,
+    left: &mut u32,
+    facts: &[Fact],
+    test: Id,
+    digit: bool,
+    sum: &Total,
+) -> Result<Id, NoMemory>
+    requires bank { IsBank bank.old }
+    requires width { IsWidth width }
+    requires facts { FactsFit bank.old facts.now }
+    requires test { HasWidth bank.old test 1 }
+    requires parts { PartsFit bank.old width sum.now.parts }
+    ensures made { IfOk result (λ id. IsFound (vanishes_within (B.kinds book.now) width depth left.old (facts.now ++ fact test digit ∷ []) sum.now)
+        bank.old bank.new id left.new) }
+    ensures width { IfOk result (λ id. HasWidth bank.new id 1) }
+    ensures grows { Extends bank.old bank.new }
+    ensures bank { IsBank bank.new }
+{
+    let more = with(bank, facts, test, digit)?;
+    vanishes_within(bank, book, width, depth, left, more.as_slice(), sum)
 }
 
 /// One word less another. Its only error is out of memory.
@@ -127,15 +158,12 @@ fn equate_by<B: Book>(bank: &mut Bank, book: &B, one: Id, two: Id) -> Result<Id,
     ensures bank { IsBank bank.new }
 {
     if are_plain(bank, one, two)? {
-        let answer = same(bank, book, one, two)?;
-        return Ok(answer);
+        return same(bank, book, one, two);
     }
     if cancels(bank, one, two)? {
-        let answer = bank.make(Node::Const(Word { width: 1, bits: 1 }), book)?;
-        Ok(answer)
+        bank.make(Node::Const(Word { width: 1, bits: 1 }), book)
     } else {
-        let answer = compared(bank, book, one, two)?;
-        Ok(answer)
+        compared(bank, book, one, two)
     }
 }
 
@@ -150,11 +178,9 @@ fn compared<B: Book>(bank: &mut Bank, book: &B, one: Id, two: Id) -> Result<Id, 
     ensures bank { IsBank bank.new }
 {
     if are_sums(bank, one, two)? {
-        let answer = sums(bank, book, one, two)?;
-        Ok(answer)
+        sums(bank, book, one, two)
     } else {
-        let answer = same(bank, book, one, two)?;
-        Ok(answer)
+        same(bank, book, one, two)
     }
 }
 
@@ -172,8 +198,7 @@ fn are_sums(bank: &Bank, one: Id, two: Id) -> Result<bool, NoMemory>
         return Ok(true);
     }
     let width = bank.width(one);
-    let found = loses_products(bank, width, &total)?;
-    Ok(found)
+    loses_products(bank, width, &total)
 }
 
 /// Whether the difference of two words is 0.
@@ -189,6 +214,5 @@ fn sums<B: Book>(bank: &mut Bank, book: &B, one: Id, two: Id) -> Result<Id, NoMe
     let total = difference(bank, one, two)?;
     let width = bank.width(one);
     let mut left = EQUATE_LIMIT;
-    let answer = vanishes_within(bank, book, width, EQUATE_LIMIT, &mut left, &[], &total)?;
-    Ok(answer)
+    vanishes_within(bank, book, width, EQUATE_LIMIT, &mut left, &[], &total)
 }

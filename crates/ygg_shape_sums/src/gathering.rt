@@ -1,6 +1,6 @@
 //! A sum of terms that are no sums.
 
-ghost use Rattle.std.specs.Prelude.{◌≡◌, ◌++◌, IfOk, OnOk, Some, slice_get};
+ghost use Rattle.std.specs.Prelude.{◌≡◌, ◌++◌, ◌∷◌, [], IfOk, OnOk, Some, slice_get};
 ghost use Rattle.ygg_shape_words.specs.ygg_bank.Nodes.{IsBank, Stands};
 ghost use Rattle.ygg_shape_sums.specs.Gathers.{below, counted, first_test, gathered_sum, has_sum, is_rich, is_sum, parts_of, split_of, test_at, with_all};
 ghost use Rattle.ygg_shape_sums.specs.Parts.{PartsAlike, Sum};
@@ -27,12 +27,24 @@ pub fn gather(bank: &Bank, facts: &[Fact], total: &Total) -> Result<Total, NoMem
             return Ok(sum);
         }
         let part = todo[place];
-        let reading = read(bank, facts, part.term);
-        count(&mut sum, part, reading)?;
-        list(&mut todo, part, reading)?;
+        take_apart(&mut sum, &mut todo, part, read(bank, facts, part.term))?;
     }
     add_all(&mut sum, &todo.as_slice()[READ_LIMIT..])?;
     Ok(sum)
+}
+
+/// What a part is made of: what is no terms, added to a sum, and the terms, put after those that are still to be read.
+fn take_apart(
+    sum: &mut Total,
+    todo: &mut Vec<Summand>,
+    part: Summand,
+    reading: Decomposition,
+) -> Result<(), NoMemory>
+    ensures sum { OnOk result (sum.new ≡ counted part reading sum.old) }
+    ensures todo { OnOk result (todo.new.items ≡ todo.old.items ++ parts_of part reading) }
+{
+    count(sum, part, reading)?;
+    list(todo, part, reading)
 }
 
 /// The parts as they are, added to a sum.
@@ -50,13 +62,13 @@ fn count(sum: &mut Total, part: Summand, reading: Decomposition) -> Result<(), N
     ensures { OnOk result (sum.new ≡ counted part reading sum.old) }
 {
     match reading {
-        Decomposition::Whole => sum.add(part)?,
+        Decomposition::Whole => sum.add(part),
         Decomposition::Number(number) | Decomposition::Times { number, .. } => {
             sum.count(part.times.wrapping_mul(number));
+            Ok(())
         }
-        Decomposition::Both { .. } => {}
+        Decomposition::Both { .. } => Ok(()),
     }
-    Ok(())
 }
 
 /// The terms that a part is made of, put after those that are still to be read.
@@ -70,7 +82,7 @@ pub fn list(todo: &mut Vec<Summand>, part: Summand, reading: Decomposition) -> R
                 times: part.times.wrapping_mul(times),
                 term,
             },
-        )?,
+        ),
         Decomposition::Both { one, times, two } => {
             let first = Summand {
                 times: part.times,
@@ -80,12 +92,18 @@ pub fn list(todo: &mut Vec<Summand>, part: Summand, reading: Decomposition) -> R
                 times: part.times.wrapping_mul(times),
                 term: two,
             };
-            put(todo, first)?;
-            put(todo, second)?;
+            put_both(todo, first, second)
         }
-        Decomposition::Whole | Decomposition::Number(_) => {}
+        Decomposition::Whole | Decomposition::Number(_) => Ok(()),
     }
-    Ok(())
+}
+
+/// Two parts, put after others. Its only error is out of memory.
+fn put_both(todo: &mut Vec<Summand>, first: Summand, second: Summand) -> Result<(), NoMemory>
+    ensures { OnOk result (todo.new.items ≡ todo.old.items ++ first ∷ second ∷ []) }
+{
+    put(todo, first)?;
+    put(todo, second)
 }
 
 /// Whether a sum or a difference is among the parts or below picks. Its only error is out of memory.
@@ -122,19 +140,20 @@ pub fn look(todo: &mut Vec<Summand>, part: Summand, node: Node) -> Result<(), No
     if part.times == 0 {
         return Ok(());
     }
-    if let Node::Pick { yes, no, .. } = node {
-        let first = Summand {
-            times: part.times,
-            term: yes,
-        };
-        let second = Summand {
-            times: part.times,
-            term: no,
-        };
-        put(todo, first)?;
-        put(todo, second)?;
+    match node {
+        Node::Pick { yes, no, .. } => {
+            let first = Summand {
+                times: part.times,
+                term: yes,
+            };
+            let second = Summand {
+                times: part.times,
+                term: no,
+            };
+            put_both(todo, first, second)
+        }
+        _ => Ok(()),
     }
-    Ok(())
 }
 
 /// The test that the equality of a sum with 0 is split on, where it is. Its only error is out of memory.

@@ -1,9 +1,9 @@
 //! A sum of products, multiplied out.
 
-ghost use Rattle.std.specs.Prelude.{◌≡◌, ◌++◌, ◌∷◌, [], IfOk, OnOk, Some};
+ghost use Rattle.std.specs.Prelude.{◌≡◌, ◌<◌, ◌++◌, ◌∷◌, [], IfOk, OnOk, Some, get_or, length};
 ghost use Rattle.ygg_shape_words.specs.ygg_bank.Nodes.{IsBank};
 ghost use Rattle.ygg_shape_sums.specs.Multiplies.{AreFound, expanded, opened, spread, taken};
-ghost use Rattle.ygg_shape_sums.specs.Products.{AllStand, Product, ProductsAlike};
+ghost use Rattle.ygg_shape_sums.specs.Products.{AllStand, Product, ProductsAlike, many};
 ghost use Rattle.ygg_shape_sums.specs.Readings.{FactsFit};
 ghost use Rattle.ygg_shape_sums.specs.declared.reading.Decomposition.TheVariants as reading;
 
@@ -28,18 +28,36 @@ pub fn expand(
     requires products { ProductsAlike bank.now start.items }
     ensures { IfOk result (λ found. AreFound (expanded MULTIPLY_LIMIT bank.now facts.now start.items []) found) }
 {
-    let alloc = bank.allocator();
     let mut todo = start;
-    let mut sum = Vec::new(alloc);
+    let mut sum = Vec::new(bank.allocator());
     for place in 0..MULTIPLY_LIMIT {
         if place == todo.len() {
             return Ok(Some(sum));
         }
-        let product = todo[place].copy(alloc)?;
-        open(bank, facts, &product, &mut todo)?;
-        take(&mut sum, product)?;
+        multiply(bank, facts, place, &mut todo, &mut sum)?;
     }
     Ok(None)
+}
+
+/// The product at a place: the products that it is, whose next factor is read, put after the others, or itself among those all of whose
+/// factors were read. Its only error is out of memory.
+fn multiply(
+    bank: &Bank,
+    facts: &[Fact],
+    place: usize,
+    todo: &mut Vec<Monomial>,
+    sum: &mut Vec<Monomial>,
+) -> Result<(), NoMemory>
+    requires bank { IsBank bank.now }
+    requires facts { FactsFit bank.now facts.now }
+    requires place { place < length todo.old.items }
+    requires products { ProductsAlike bank.now todo.old.items }
+    ensures todo { OnOk result ((m : Product) → m ≡ get_or todo.old.items place m → todo.new.items ≡ todo.old.items ++ opened bank.now facts.now m m.rest) }
+    ensures sum { OnOk result ((m : Product) → m ≡ get_or todo.old.items place m → sum.new.items ≡ taken m m.rest sum.old.items) }
+{
+    let product = todo[place].copy(bank.allocator())?;
+    open(bank, facts, &product, todo)?;
+    take(sum, product)
 }
 
 /// A product all of whose factors were read, put among others. Its only error is out of memory.
@@ -99,24 +117,35 @@ fn spread(
     ensures { OnOk result (todo.new.items ≡ todo.old.items ++ spread product.now factor rest.now reading (Some node)) }
 {
     match reading {
-        Decomposition::Number(number) => put(todo, product.many(alloc, number, rest, &[])?),
+        Decomposition::Number(number) => put_many(alloc, product, number, rest, &[], todo),
         Decomposition::Times {
             times,
             term,
             number,
         } => {
-            put(todo, product.many(alloc, times, rest, &[term])?)?;
-            put(todo, product.many(alloc, number, rest, &[])?)
+            put_many(alloc, product, times, rest, &[term], todo)?;
+            put_many(alloc, product, number, rest, &[], todo)
         }
         Decomposition::Both { one, times, two } => {
-            put(todo, product.many(alloc, 1, rest, &[one])?)?;
-            put(todo, product.many(alloc, times, rest, &[two])?)
+            put_many(alloc, product, 1, rest, &[one], todo)?;
+            put_many(alloc, product, times, rest, &[two], todo)
         }
-        Decomposition::Whole => {
-            let whole = factors_of(alloc, product, factor, rest, node)?;
-            put(todo, whole)
-        }
+        Decomposition::Whole => put(todo, factors_of(alloc, product, factor, rest, node)?),
     }
+}
+
+/// The product so many times, with this rest and more factors that are still to be read, put after others. Its only error is out of memory.
+fn put_many(
+    alloc: Global,
+    product: &Monomial,
+    times: u64,
+    rest: &[Id],
+    more: &[Id],
+    todo: &mut Vec<Monomial>,
+) -> Result<(), NoMemory>
+    ensures { OnOk result (todo.new.items ≡ todo.old.items ++ many product.now times rest.now more.now ∷ []) }
+{
+    put(todo, product.many(alloc, times, rest, more)?)
 }
 
 /// The product, one of whose factors is no sum, and is made by this node. Its only error is out of memory.

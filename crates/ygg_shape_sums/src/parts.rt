@@ -88,12 +88,10 @@ impl Total {
                 return Ok(());
             }
             if part.term.0 < known.term.0 {
-                insert(&mut self.parts, place, part)?;
-                return Ok(());
+                return insert(&mut self.parts, place, part);
             }
         }
-        put(&mut self.parts, part)?;
-        Ok(())
+        put(&mut self.parts, part)
     }
 }
 

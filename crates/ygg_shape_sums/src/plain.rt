@@ -1,10 +1,11 @@
 //! Words in which there are neither sums nor products, which is seen in one walk of most words.
 
-ghost use Rattle.std.specs.Prelude.{◌≡◌, ◌++◌, ◌∷◌, [], IfOk, OnOk, IsTrue, All};
+ghost use Rattle.std.specs.Prelude.{◌≡◌, ◌++◌, IfOk, OnOk, IsTrue, All};
 ghost use Rattle.ygg_shape_words.specs.ygg_bank.Nodes.{IsBank, Stands};
 ghost use Rattle.ygg_shape_words.specs.Forms.{WordsAlike};
 ghost use Rattle.ygg_shape_sums.specs.Plain.{ArePlain, IsPlain, Leads, is_whole_bin};
 
+use crate::parts::copied;
 use ygg_shape_words::{Bank, Id, NoMemory, Node};
 use ygg_value::Op;
 
@@ -18,9 +19,7 @@ pub fn are_plain(bank: &Bank, one: Id, two: Id) -> Result<bool, NoMemory>
     requires words { WordsAlike bank.now one two }
     ensures { IfOk result (λ plain. IsTrue plain → ArePlain bank.now one two) }
 {
-    let mut todo = Vec::new(bank.allocator());
-    put(&mut todo, one)?;
-    put(&mut todo, two)?;
+    let mut todo = copied(bank.allocator(), &[one, two])?;
     for _ in 0..LOOK_LIMIT {
         let Some(term) = todo.pop() else {
             return Ok(true);
@@ -45,15 +44,8 @@ fn enter(bank: &Bank, todo: &mut Vec<Id>, term: Id) -> Result<bool, NoMemory>
         Node::Const(_) => Ok(true),
         Node::Resize { .. } => Ok(true),
         Node::Bin { op, .. } => Ok(is_whole_bin(op)),
-        Node::Not { a } => {
-            put(todo, a)?;
-            Ok(true)
-        }
-        Node::Pick { yes, no, .. } => {
-            put(todo, no)?;
-            put(todo, yes)?;
-            Ok(true)
-        }
+        Node::Not { a } => go_below(todo, &[a]),
+        Node::Pick { yes, no, .. } => go_below(todo, &[no, yes]),
     }
 }
 
@@ -64,12 +56,12 @@ fn is_whole_bin(op: Op) -> bool
     !matches!(op, Op::Add | Op::Sub | Op::Mul)
 }
 
-/// A word, put after others. Its only error is out of memory.
-fn put(todo: &mut Vec<Id>, term: Id) -> Result<(), NoMemory>
-    ensures { OnOk result (todo.new.items ≡ todo.old.items ++ term ∷ []) }
+/// Puts the words below a term that is itself neither a sum nor a product after the terms that are still to be looked at: the answer is `true`. Its only
+/// error is out of memory.
+fn go_below(todo: &mut Vec<Id>, words: &[Id]) -> Result<bool, NoMemory>
+    ensures put { OnOk result (todo.new.items ≡ todo.old.items ++ words.now) }
+    ensures whole { IfOk result (λ whole. IsTrue whole) }
 {
-    if todo.push(term).is_err() {
-        return Err(NoMemory);
-    }
-    Ok(())
+    todo.extend_from_slice(words)?;
+    Ok(true)
 }

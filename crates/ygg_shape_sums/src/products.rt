@@ -37,8 +37,21 @@ impl Monomial {
     pub fn single(alloc: Global, times: u64, term: Id) -> Result<Monomial, NoMemory>
         ensures { IfOk result (λ (m : Product). m ≡ single times term) }
     {
-        let factors = Vec::new(alloc);
-        let rest = copied(alloc, &[term])?;
+        Monomial::of(alloc, times, Vec::new(alloc), &[term], &[])
+    }
+
+    /// These factors that were read, so many times, and more in two lists that are still to be read. Its only error is out of memory.
+    fn of(
+        alloc: Global,
+        times: u64,
+        factors: Vec<Id>,
+        rest: &[Id],
+        more: &[Id],
+    ) -> Result<Monomial, NoMemory>
+        ensures { IfOk result (λ (m : Product). m ≡ record { times = times; factors = factors.items; rest = rest.now ++ more.now }) }
+    {
+        let mut rest = copied(alloc, rest)?;
+        rest.extend_from_slice(more)?;
         Ok(Monomial {
             times,
             factors,
@@ -71,13 +84,8 @@ impl Monomial {
     pub fn copy(&self, alloc: Global) -> Result<Monomial, NoMemory>
         ensures { IfOk result (λ (m : Product). m ≡ self.now) }
     {
-        let factors = copied(alloc, self.factors.as_slice())?;
-        let rest = copied(alloc, self.rest.as_slice())?;
-        Ok(Monomial {
-            times: self.times,
-            factors,
-            rest,
-        })
+        let factors = copied(alloc, self.factors())?;
+        Monomial::of(alloc, self.times, factors, self.rest(), &[])
     }
 
     /// The product so many times, with this rest and more factors that are still to be read. Its only error is out of memory.
@@ -90,27 +98,16 @@ impl Monomial {
     ) -> Result<Monomial, NoMemory>
         ensures { IfOk result (λ (m : Product). m ≡ many self.now times rest.now more.now) }
     {
-        let factors = copied(alloc, self.factors.as_slice())?;
-        let mut longer = copied(alloc, rest)?;
-        longer.extend_from_slice(more)?;
-        Ok(Monomial {
-            times: self.times.wrapping_mul(times),
-            factors,
-            rest: longer,
-        })
+        let factors = copied(alloc, self.factors())?;
+        Monomial::of(alloc, self.times.wrapping_mul(times), factors, rest, more)
     }
 
     /// The product, a factor of which was read, with this rest. Its only error is out of memory.
     pub fn with_factor(&self, alloc: Global, factor: Id, rest: &[Id]) -> Result<Monomial, NoMemory>
         ensures { IfOk result (λ (m : Product). m ≡ with_factor self.now factor rest.now) }
     {
-        let factors = placed(alloc, factor, self.factors.as_slice())?;
-        let rest = copied(alloc, rest)?;
-        Ok(Monomial {
-            times: self.times,
-            factors,
-            rest,
-        })
+        let factors = placed(alloc, factor, self.factors())?;
+        Monomial::of(alloc, self.times, factors, rest, &[])
     }
 
     /// The product is there so many times more.

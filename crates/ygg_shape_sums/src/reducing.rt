@@ -27,13 +27,8 @@ pub fn reduce(bank: &Bank, width: u8, facts: &[Fact], total: &Total) -> Result<T
     ensures { IfOk result (λ (sum : Sum). sum ≡ reduced_sum bank.now width facts.now total.now) }
 {
     let sum = gather(bank, facts, total)?;
-    if !any_product(bank, sum.parts()) {
-        return Ok(sum);
-    }
-    match multiplied(bank, width, facts, &sum)? {
-        Some(less) => Ok(less),
-        None => Ok(sum),
-    }
+    let less = multiplied(bank, width, facts, &sum)?;
+    Ok(less.unwrap_or(sum))
 }
 
 /// Whether a sum, read, has products of two terms, and none is left where it is multiplied out. Its only error is out of memory.
@@ -44,9 +39,6 @@ pub fn loses_products(bank: &Bank, width: u8, total: &Total) -> Result<bool, NoM
     ensures { IfOk result (λ loses. loses ≡ loses_products bank.now width (gathered_sum bank.now [] total.now)) }
 {
     let sum = gather(bank, &[], total)?;
-    if !any_product(bank, sum.parts()) {
-        return Ok(false);
-    }
     let less = multiplied(bank, width, &[], &sum)?;
     Ok(less.is_some())
 }
@@ -74,7 +66,7 @@ fn is_product_at(bank: &Bank, part: Summand) -> bool
     is_product(read(bank, &[], part.term), bank.node(part.term))
 }
 
-/// The sum, multiplied out where the facts hold, where no product is left. Its only error is out of memory.
+/// The sum, multiplied out where the facts hold, where it has products of two terms and none is left then. Its only error is out of memory.
 fn multiplied(
     bank: &Bank,
     width: u8,
@@ -85,8 +77,11 @@ fn multiplied(
     requires width { IsWidth width }
     requires facts { FactsFit bank.now facts.now }
     requires parts { PartsFit bank.now width sum.now.parts }
-    ensures { IfOk result (λ found. found ≡ multiplied bank.now width facts.now sum.now) }
+    ensures { IfOk result (λ found. found ≡ (if any_product bank.now sum.now.parts then multiplied bank.now width facts.now sum.now else None)) }
 {
+    if !any_product(bank, sum.parts()) {
+        return Ok(None);
+    }
     let alloc = bank.allocator();
     let start = products_of(alloc, sum.parts())?;
     match expand(bank, facts, start)? {
@@ -96,7 +91,7 @@ fn multiplied(
 }
 
 /// The parts as products that are still to be read. Its only error is out of memory.
-fn products_of(alloc: Global, parts: &[Summand]) -> Result<Vec<Monomial>, NoMemory>
+pub fn products_of(alloc: Global, parts: &[Summand]) -> Result<Vec<Monomial>, NoMemory>
     ensures { IfOk result (λ list. list.items ≡ products_of parts.now) }
 {
     let mut list = Vec::new(alloc);

@@ -105,8 +105,7 @@ fn more<B: Book>(
     }
     let count = constant(bank, book, width, times)?;
     let multiple = product(bank, book, width, term, count)?;
-    let all = sum(bank, book, width, so_far, multiple)?;
-    Ok(all)
+    sum(bank, book, width, so_far, multiple)
 }
 
 /// The terms of a side, added to a word.

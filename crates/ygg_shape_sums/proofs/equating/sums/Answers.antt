@@ -1,8 +1,10 @@
 use Rattle.std.proofs.Common.{◌≡◌, [], sym, ap, ◌∙◌, subst}
 use Rattle.ygg_shape_words.specs.ygg_bank_proofs_Widths.{stands, width_is}
 use Rattle.ygg_shape_words.specs.ygg_bank.Nodes.{width_at, widths_of, HasWidth}
+use Rattle.ygg_shape_words.specs.ygg_bank.declared.node.Id.{Id}
 use Rattle.ygg_shape_sums.proofs.Equates.{difference_fits}
-use Rattle.ygg_shape_sums.specs.Equates.{Found, vanishes_within}
+use Rattle.ygg_shape_sums.proofs.Steps.{any_ok, each_ok}
+use Rattle.ygg_shape_sums.specs.Equates.{Found, IsFound, subtracted, vanishes_within}
 use Rattle.ygg_shape_sums.specs.Parts.{PartsFit, Sum}
 use Rattle.ygg_shape_sums.specs.declared.equating.TheConstants.{EQUATE_LIMIT}
 use Rattle.ygg_shape_sums.proofs.equating.sums.Goals as goal
@@ -18,18 +20,24 @@ vanishes_within-requires-clause-parts g c =
 pub returns-clause-nodes : goal.returns-clause-nodes
 returns-clause-nodes g c =
     let kinds = g.B.Book.kinds c.args.book.now in
-    let m = c.in_ok-answer.ensures.made in
-    m.nodes ∙ ap (λ w. (vanishes_within kinds w EQUATE_LIMIT EQUATE_LIMIT [] c.in_ok-total.total c.args.bank.now).nodes) c.width-width.ensures.value
+    any_ok c.vanishes_within.result
+    (λ (id : Id). IsFound (vanishes_within kinds c.width-width.result EQUATE_LIMIT EQUATE_LIMIT [] c.in_ok-total.total) c.args.bank.now
+    c.vanishes_within.new.bank id c.vanishes_within.new.left)
+    (c.vanishes_within.new.bank ≡ (subtracted kinds c.args.one c.args.two c.args.bank.now).nodes) c.vanishes_within.ensures.made
+    (λ id m. m.nodes ∙ ap (λ w. (vanishes_within kinds w EQUATE_LIMIT EQUATE_LIMIT [] c.in_ok-total.total c.args.bank.now).nodes) c.width-width.ensures.value
     ∙ ap (λ (s : Sum). (vanishes_within kinds (width_at (widths_of c.args.bank.now) c.args.one) EQUATE_LIMIT EQUATE_LIMIT [] s c.args.bank.now).nodes)
-    c.in_ok-total.ensures
+    c.in_ok-total.ensures)
 
 pub returns-clause-form : goal.returns-clause-form
 returns-clause-form g c =
     let kinds = g.B.Book.kinds c.args.book.now in
-    let m = c.in_ok-answer.ensures.made in
-    ap (λ (f : Found). f.term) (m.value ∙ ap (λ w. (vanishes_within kinds w EQUATE_LIMIT EQUATE_LIMIT [] c.in_ok-total.total c.args.bank.now).value)
+    each_ok c.vanishes_within.result
+    (λ (id : Id). IsFound (vanishes_within kinds c.width-width.result EQUATE_LIMIT EQUATE_LIMIT [] c.in_ok-total.total) c.args.bank.now
+    c.vanishes_within.new.bank id c.vanishes_within.new.left)
+    (λ (id : Id). id ≡ (subtracted kinds c.args.one c.args.two c.args.bank.now).value) c.vanishes_within.ensures.made
+    (λ id m. ap (λ (f : Found). f.term) (m.value ∙ ap (λ w. (vanishes_within kinds w EQUATE_LIMIT EQUATE_LIMIT [] c.in_ok-total.total c.args.bank.now).value)
     c.width-width.ensures.value ∙ ap (λ (s : Sum). (vanishes_within
-    kinds (width_at (widths_of c.args.bank.now) c.args.one) EQUATE_LIMIT EQUATE_LIMIT [] s c.args.bank.now).value) c.in_ok-total.ensures)
+    kinds (width_at (widths_of c.args.bank.now) c.args.one) EQUATE_LIMIT EQUATE_LIMIT [] s c.args.bank.now).value) c.in_ok-total.ensures))
 
 pub width-width-requires : goal.width-width-requires
 width-width-requires g c = let w = c.requires.words in stands c.args.bank.now c.args.one w.width w.one_has

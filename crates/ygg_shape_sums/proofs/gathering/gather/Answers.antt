@@ -13,8 +13,8 @@ returns-then-place-len c =
     let l : length c.loop-place.todo.items ≤ i = search rules in
     sym (gathered_done (READ_LIMIT - i) c.args.bank.now c.args.facts.now c.loop-place.todo.items i c.loop-place.sum k l) ∙ c.loop-place.invariant.went
 
-pub read-reading-requires-clause-term : goal.read-reading-requires-clause-term
-read-reading-requires-clause-term c =
+pub read-requires-clause-term : goal.read-requires-clause-term
+read-requires-clause-term c =
     let l : c.loop-place.place < length c.loop-place.todo.items = search rules in
     part_at c.args.bank.now c.loop-place.todo.items c.loop-place.place c.index-part.result.now c.index-part.ensures c.loop-place.invariant.alike l
 
@@ -26,14 +26,14 @@ loop-place-preserved c =
     let l : c.loop-place.place < length c.loop-place.todo.items = search rules in
     let k : 0 < READ_LIMIT - i = omega (arith, c.loop-place-test.true) in
     let e : READ_LIMIT - (i + 1) ≡ READ_LIMIT - i - 1 = omega arith in
-    let h = c.in_ok-list.ensures ∙ ap (λ (r : Decomposition). old ++ parts_of p r) c.read-reading.ensures in
-    let j = c.in_ok-count.ensures ∙ ap (λ (r : Decomposition). counted p r c.loop-place.sum) c.read-reading.ensures in
+    let h = c.in_ok-take_apart.ensures.todo ∙ ap (λ (r : Decomposition). old ++ parts_of p r) c.read.ensures in
+    let j = c.in_ok-take_apart.ensures.sum ∙ ap (λ (r : Decomposition). counted p r c.loop-place.sum) c.read.ensures in
     record {
-      went = gathered_goes (READ_LIMIT - i) (READ_LIMIT - (i + 1)) c.args.bank.now c.args.facts.now old c.list.new.todo.items i p p c.loop-place.sum
-          c.count.new.sum k e l c.index-part.ensures h j ∙ c.loop-place.invariant.went;
-      alike = listed_alike c.args.bank.now c.args.facts.now old c.list.new.todo.items i p c.requires.bank.ordered c.loop-place.invariant.alike l
+      went = gathered_goes (READ_LIMIT - i) (READ_LIMIT - (i + 1)) c.args.bank.now c.args.facts.now old c.take_apart.new.todo.items i p p c.loop-place.sum
+          c.take_apart.new.sum k e l c.index-part.ensures h j ∙ c.loop-place.invariant.went;
+      alike = listed_alike c.args.bank.now c.args.facts.now old c.take_apart.new.todo.items i p c.requires.bank.ordered c.loop-place.invariant.alike l
           c.index-part.ensures h;
-      within = longer_by old (parts_of p c.read-reading.result) c.list.new.todo.items i l c.in_ok-list.ensures;
+      within = longer_by old (parts_of p c.read.result) c.take_apart.new.todo.items i l c.in_ok-take_apart.ensures.todo;
     }
 
 pub returns : goal.returns

@@ -1,3 +1,4 @@
+use Rattle.std.proofs.Common.{[], ◌∷◌, refl}
 use Rattle.ygg_shape_words.specs.ygg_bank_proofs_Widths.{stands}
 use Rattle.ygg_shape_words.specs.ygg_bank.Nodes.{Stands}
 use Rattle.ygg_shape_sums.proofs.PlainWords.{both_stand, both_plain, rest_all, last_is, all_again}
@@ -10,11 +11,10 @@ loop-init c =
     let w = c.requires.words in
     let a = c.args.one in
     let b = c.args.two in
+    let e = c.in_ok-todo.ensures in
     record {
-      stand = both_stand bank a b c.new-todo.result.items c.put.new.todo.items c.put-2.new.todo.items c.new-todo.ensures.items c.in_ok-put.ensures
-          c.in_ok-put-2.ensures (stands bank a w.width w.one_has) (stands bank b w.width w.two_has);
-      leads = both_plain bank a b c.new-todo.result.items c.put.new.todo.items c.put-2.new.todo.items c.new-todo.ensures.items c.in_ok-put.ensures
-          c.in_ok-put-2.ensures;
+      stand = both_stand bank a b [] (a ∷ []) c.in_ok-todo.todo.items refl refl e (stands bank a w.width w.one_has) (stands bank b w.width w.two_has);
+      leads = both_plain bank a b [] (a ∷ []) c.in_ok-todo.todo.items refl refl e;
     }
 
 pub enter-requires-clause-term : goal.enter-requires-clause-term

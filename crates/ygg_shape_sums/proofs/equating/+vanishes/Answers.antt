@@ -1,0 +1,77 @@
+use Rattle.std.proofs.Common.{rules, ◌<◌, IfOk, List, sym, ap, ◌∙◌, subst, arith}
+use Rattle.ygg_shape_words.specs.ygg_bank_proofs_Widths.{wider, width_is, extends_both}
+use Rattle.ygg_shape_words.specs.ygg_bank.Nodes.{HasWidth}
+use Rattle.ygg_shape_words.specs.ygg_bank.declared.node.Id.{Id}
+use Rattle.ygg_shape_words.proofs.Fit.{can_pick}
+use Rattle.ygg_shape_sums.proofs.Reduces.{sum_fits}
+use Rattle.ygg_shape_sums.proofs.Fit.{parts_wider, facts_wider, split_digit}
+use Rattle.ygg_shape_sums.proofs.Steps.{within_zero, within_split}
+use Rattle.ygg_shape_sums.specs.Gathers.{split_of}
+use Rattle.ygg_shape_sums.specs.Parts.{PartsFit, Sum}
+use Rattle.ygg_shape_sums.specs.declared.parts.Summand.{Summand}
+use Rattle.ygg_shape_sums.proofs.equating.+vanishes.Goals as goal
+
+pub vanishes_within-returns-then-depth-eq0-clause-made : goal.vanishes_within-returns-then-depth-eq0-clause-made
+vanishes_within-returns-then-depth-eq0-clause-made g t c =
+    within_zero (g.B.Book.kinds c.args.book.now) c.args.width c.args.depth c.args.left.now c.args.facts.now c.args.total.now c.args.bank.now
+    c.vanishes.new.bank c.vanishes.result c.if-depth-eq0.true c.vanishes.ensures.nodes c.vanishes.ensures.form
+
+pub vanishes_within-vanishes_split-requires : goal.vanishes_within-vanishes_split-requires
+vanishes_within-vanishes_split-requires g t c κs within =
+    let q = subst (λ (s : Sum). PartsFit c.args.bank.now c.args.width s.parts) (sym c.in_ok-sum.ensures)
+    (sum_fits c.args.bank.now c.args.width c.args.facts.now c.args.total.now c.requires.bank.ordered c.requires.parts) in
+    (omega arith, (search rules, (c.requires.bank, (c.requires.width, (c.requires.facts, q)))))
+
+pub vanishes_within-returns-clause-made : goal.vanishes_within-returns-clause-made
+vanishes_within-returns-clause-made g t c =
+    let d : 0 < c.args.depth = omega (arith, c.if-depth-eq0.false) in
+    within_split (g.B.Book.kinds c.args.book.now) c.args.width c.args.depth c.args.left.now c.vanishes_split.new.left c.args.facts.now c.args.total.now
+    c.in_ok-sum.sum c.args.bank.now c.vanishes_split.new.bank c.vanishes_split.result d c.in_ok-sum.ensures c.vanishes_split.ensures.made
+
+pub vanishes_split-split_of-requires-clause-parts : goal.vanishes_split-split_of-requires-clause-parts
+vanishes_split-split_of-requires-clause-parts g t c =
+    record { width = c.args.width; fit = subst (PartsFit c.args.bank.now c.args.width) (sym c.parts.ensures) c.requires.parts }
+
+pub vanishes_split-vanishes_where-requires : goal.vanishes_split-vanishes_where-requires
+vanishes_split-vanishes_where-requires g t c κs within =
+    let n = sym c.in-Some.is ∙ c.in_ok-split_of.ensures ∙ ap (λ (ps : List Summand). split_of c.args.bank.now c.args.left.now ps) c.parts.ensures in
+    let digit = split_digit c.args.bank.now c.args.width c.args.left.now (c.args.sum.now).parts c.in-Some.test c.requires.bank.ordered c.requires.parts (sym n) in
+    (omega arith, (search rules, (c.requires.bank, (c.requires.width, (c.requires.facts, (digit, c.requires.parts))))))
+
+pub vanishes_split-vanishes_where-requires-in-Some : goal.vanishes_split-vanishes_where-requires-in-Some
+vanishes_split-vanishes_where-requires-in-Some g t c κs within =
+    let a = c.args.bank.now in
+    let b = c.vanishes_where.new.bank in
+    let grows = c.vanishes_where.ensures.grows in
+    let n = sym c.in-Some.is ∙ c.in_ok-split_of.ensures ∙ ap (λ (ps : List Summand). split_of c.args.bank.now c.args.left.now ps) c.parts.ensures in
+    let digit = split_digit a c.args.width c.args.left.now (c.args.sum.now).parts c.in-Some.test c.requires.bank.ordered c.requires.parts (sym n) in (
+      omega arith,
+      (
+        search rules,
+        (
+          c.vanishes_where.ensures.bank,
+          (
+            c.requires.width,
+            (
+              facts_wider a b c.args.facts.now grows c.requires.facts,
+              (wider a b c.in-Some.test 1 grows digit, parts_wider a b c.args.width (c.args.sum.now).parts grows c.requires.parts),
+            ),
+          ),
+        ),
+      ),
+    )
+
+pub vanishes_split-pick-requires-clause-pick : goal.vanishes_split-pick-requires-clause-pick
+vanishes_split-pick-requires-clause-pick g t c =
+    let a = c.args.bank.now in let b = c.vanishes_where.new.bank in let m = c.vanishes_where-in-Some.new.bank in
+    let n = sym c.in-Some.is ∙ c.in_ok-split_of.ensures ∙ ap (λ (ps : List Summand). split_of c.args.bank.now c.args.left.now ps) c.parts.ensures in
+    let digit = split_digit a c.args.width c.args.left.now (c.args.sum.now).parts c.in-Some.test c.requires.bank.ordered c.requires.parts (sym n) in
+    can_pick m c.in-Some.test c.in_ok-yes-in-Some.yes c.in_ok-no-in-Some.no 1
+    (wider a m c.in-Some.test 1 (extends_both a b m c.vanishes_where.ensures.grows c.vanishes_where-in-Some.ensures.grows) digit)
+    (wider b m c.in_ok-yes-in-Some.yes 1 c.vanishes_where-in-Some.ensures.grows c.in_ok-yes-in-Some.ensures.width) c.in_ok-no-in-Some.ensures.width
+
+pub vanishes_split-returns-in_ok-no-in-Some-clause-width : goal.vanishes_split-returns-in_ok-no-in-Some-clause-width
+vanishes_split-returns-in_ok-no-in-Some-clause-width g t c =
+    let b = c.vanishes_where.new.bank in let m = c.vanishes_where-in-Some.new.bank in
+    subst (λ w. IfOk c.pick.result (λ (id : Id). HasWidth c.pick.new.bank id w)) (width_is m c.in_ok-yes-in-Some.yes 1
+    (wider b m c.in_ok-yes-in-Some.yes 1 c.vanishes_where-in-Some.ensures.grows c.in_ok-yes-in-Some.ensures.width)) c.pick.ensures.width
