@@ -8,8 +8,8 @@ ghost use Rattle.ygg_shape_cells.specs.Terms.{HasShape};
 ghost use Rattle.ygg_shape.specs.Replacing.{AreFit, AreTrueUnder, KeepsUnder, replaced_value, replaced_row, replaced_word};
 
 use std::alloc::Global;
-use ygg_shape_cells::{Id, NoMemory, SymRow, SymTable, SymValue};
 use ygg_list::Sequence;
+use ygg_shape_cells::{Id, NoMemory, SymRow, SymTable, SymValue};
 
 /// A term that stands for an input.
 #[derive(Clone, Copy, Drop)]

@@ -4,4 +4,4 @@ use Rattle.ygg.proofs.book_of_all.Given as goal
 
 abbrev pub invariant-loop-kind : goal.invariant-loop-kind
 invariant-loop-kind g l = (l.kind-items ≡ kind.Fold ∷ kind.AndOnes ∷ kind.AndZero ∷ kind.OrZero ∷ kind.AddZero ∷ kind.EqSelf ∷ kind.PickSame ∷ [])
-  × (map (λ rule. rule.kind) l.rules.items ≡ take l.kind-index l.kind-items)
+    × (map (λ rule. rule.kind) l.rules.items ≡ take l.kind-index l.kind-items)
