@@ -29,9 +29,9 @@ fn steady(alloc: Global) -> Power
 }
 
 /// How formatting ended, in which power can't fail.
-fn end_of(turned: Result<Turn, NoMemory>) -> FormatEnd
-    requires { ending_of turned ≢ Down }
-    ensures { result ≡ end_of (ending_of turned) }
+fn end_of(turned: &Result<Turn, NoMemory>) -> FormatEnd
+    requires { ending_of turned.now ≢ Down }
+    ensures { result ≡ end_of (ending_of turned.now) }
 {
     match turned {
         Ok(Turn::Done | Turn::Answer(_)) => FormatEnd::Done,
@@ -55,6 +55,6 @@ impl Errand for Formatting {
 
     fn run<W: Viewed + Drop>(&mut self, alloc: Global, typed: &Typed, tower: &mut Floor<W>) {
         let mut power = steady(alloc);
-        self.end = end_of(viewed::format(tower, typed, &mut power));
+        self.end = end_of(&viewed::format(tower, typed, &mut power));
     }
 }

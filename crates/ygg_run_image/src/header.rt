@@ -5,6 +5,7 @@ ghost use Rattle.ygg_run_image.specs.Image.{block_bytes, header, mark, sizes};
 ghost use Rattle.ygg_run_image.specs.Judged.{BeginsWith, IsHeaderJudged};
 
 use crate::reason::ImageReason;
+use crate::row::are_equal;
 use crate::size::block_size;
 use ygg_base::Geometry;
 
@@ -37,7 +38,7 @@ fn is_sealed(block: &[u8]) -> bool
     requires { 14 ≤ length block.now }
     ensures { IsTrue result ↔ ((take 8 block.now ≡ mark) × (slice_get block.now 13 ≡ Some 1)) }
 {
-    &block[..8] == b"YGGIMG1\n".as_slice() && block[13] == 1
+    are_equal(&block[..8], b"YGGIMG1\n") && block[13] == 1
 }
 
 /// Whether a block tells the disk's size.
@@ -45,7 +46,7 @@ fn is_sized(geometry: Geometry, block: &[u8]) -> bool
     requires { 13 ≤ length block.now }
     ensures { IsTrue result ↔ (take 5 (drop 8 block.now) ≡ sizes geometry) }
 {
-    &block[8..13] == sizes(geometry).as_slice()
+    are_equal(&block[8..13], &sizes(geometry))
 }
 
 /// Judges an image of so many bytes by its first block: whether it is sealed, and then whether it is of the disk and as long as its images are.

@@ -1,4 +1,4 @@
-//! A layer on a layer, as many as a file has: the types grow with each, so each has a function of its own.
+//! A layer on a layer, as many as a file has, on a ground.
 
 ghost use Rattle.std.specs.Prelude.{◌≡◌, ◌≤◌, ◌<◌, ◌+◌, [], length};
 ghost use Rattle.ygg_machine.specs.Bottoms.{ViewStands, raised_view};

@@ -101,7 +101,7 @@ pub fn is_row_block(geometry: Geometry, block: &[u8], row: &mut Row, spare: &mut
 }
 
 /// Whether bytes are the same.
-fn are_equal(a: &[u8], b: &[u8]) -> bool
+pub(crate) fn are_equal(a: &[u8], b: &[u8]) -> bool
     ensures { IsTrue result ↔ (a.now ≡ b.now) }
 {
     a == b
