@@ -24,7 +24,7 @@ use Rattle.ygg_run_image.specs.Leaving.{
 use Rattle.ygg_run_image.specs.Sealing.{IsFresh, SealTurns}
 use Rattle.ygg_run_image.proofs.Alike.{formats_leave}
 use Rattle.ygg_run_image.proofs.Sealed.{unsealed}
-use Rattle.ygg_run_image.proofs.Turns.{found, turns, unturned}
+use Rattle.ygg_run_image.proofs.Turns.{found, turns}
 
 -- the rows of a filled image
 format_of : (f : File) (i : Image) → IsFilled f i → IsFormat f (rows_in (geometry_of f.disk) i.view)
@@ -39,11 +39,6 @@ fresh_unfinished f i h = record {
 
 module _ (f : File) (images : Option (List Image)) (attached : Option Attachment) (holds : Holds (geometry_of f.disk) images attached)
     (so : IfSome (held images attached) (IsFilled f)) where
-  -- no memory was left for the block
-  pub finish_starved : Tells (AttachedTurns (FinishTurns f end.Memory) attached) images images
-  finish_starved =
-      unturned (geometry_of f.disk) (IsFilled f) (FinishTurns f end.Memory) images attached holds so (λ a i at. fresh_unfinished f i at.so.fresh)
-
   module _ (now : Option (List Image)) where
     -- it was sealed
     pub finish_done : Tells (AttachedTurns (SealTurns (geometry_of f.disk) Done) attached) images now →

@@ -17,7 +17,7 @@ use ygg_base::{Device, Moved, Text};
 use ygg_machine::Typed;
 
 /// Seals the attached image, which holds the rows of a format.
-fn finish<D: Device>(alloc: Global, typed: &Typed, device: &mut D) -> FormatEnd
+fn finish<D: Device>(typed: &Typed, device: &mut D) -> FormatEnd
     requires holds { Holds (geometry_of typed.now.file.disk) (D.images device.old) (D.attached device.old) }
     requires filled { IfSome (held (D.images device.old) (D.attached device.old)) (IsFilled typed.now.file) }
     ensures told { Tells (AttachedTurns (FinishTurns typed.now.file result) (D.attached device.old)) (D.images device.old) (D.images device.new) }
@@ -25,10 +25,8 @@ fn finish<D: Device>(alloc: Global, typed: &Typed, device: &mut D) -> FormatEnd
     ensures cause { result ≡ Failed → Rose (D.faults device.old) (D.faults device.new) }
 {
     let geometry = typed.geometry();
-    let Ok(mut block) = vec![in alloc; 0u8; block_size(geometry) as usize] else {
-        return FormatEnd::Memory;
-    };
-    match seal(geometry, block.as_mut_slice(), device) {
+    let size = block_size(geometry) as usize;
+    match seal(geometry, &mut [0u8; 512][..size], device) {
         Moved::Done => FormatEnd::Done,
         Moved::Failed => FormatEnd::Failed,
     }
@@ -43,7 +41,7 @@ pub fn format<D: Device>(alloc: Global, typed: &Typed, name: &Text, device: &mut
     ensures cause { result ≡ Failed → Rose (D.faults device.old) (D.faults device.new) }
 {
     match fill(alloc, typed, name, device) {
-        FormatEnd::Done => finish(alloc, typed, device),
+        FormatEnd::Done => finish(typed, device),
         FormatEnd::Failed => FormatEnd::Failed,
         FormatEnd::Memory => FormatEnd::Memory,
     }
