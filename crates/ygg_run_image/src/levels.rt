@@ -18,12 +18,12 @@ fn raised<W: Viewed + Drop>(alloc: Global, place: u32, below: W) -> Floor<W>
     Floor::asleep(alloc, place, below)
 }
 
-/// So many layers at most, each on the one before: one type for each number, since the machine that they stand on is of another type with each of them.
-trait Levels {
+/// How many layers there is room for, each on the one before: one type for each number, since the machine that they stand on is of another type with each.
+trait Room {
     ghost use Rattle.std.specs.Prelude.{ℕ};
 
-    /// How many.
-    ghost many: { ℕ };
+    /// So many.
+    ghost most: { ℕ };
 
     /// Does an errand with all layers of a file, of which the first ones stand already, up to a place: the others have room here.
     fn climb<E: Errand, W: Viewed + Drop>(
@@ -36,16 +36,16 @@ trait Levels {
         requires suits { E.Suits typed.now.file errand.old }
         requires height { (W.seen.look below).height ≡ place }
         requires more { place < length typed.now.file.layers }
-        requires room { length typed.now.file.layers ≤ place + many }
+        requires room { length typed.now.file.layers ≤ place + most }
         requires stands { ViewStands W.seen.means typed.now.file (W.seen.look below) }
         ensures { E.Does W.seen.means typed.now.file errand.old (W.seen.look below).base errand.new (W.seen.look result).base };
 }
 
-/// Room for one layer.
+/// Room for one layer. It is a type alone, of which no value is made.
 struct One;
 
-impl Levels for One {
-    ghost many = { 1 };
+impl Room for One {
+    ghost most = { 1 };
 
     fn climb<E: Errand, W: Viewed + Drop>(
         alloc: Global,
@@ -60,11 +60,11 @@ impl Levels for One {
     }
 }
 
-/// Room for one layer more.
-struct OneMore<L>(PhantomData<L>);
+/// Room for one layer more than another, a type alone too.
+struct More<R: Room>(PhantomData<R>);
 
-impl<L: Levels> Levels for OneMore<L> {
-    ghost many = { 1 + L.many };
+impl<R: Room> Room for More<R> {
+    ghost most = { 1 + R.most };
 
     fn climb<E: Errand, W: Viewed + Drop>(
         alloc: Global,
@@ -78,13 +78,13 @@ impl<L: Levels> Levels for OneMore<L> {
             errand.run(alloc, typed, &mut floor);
             floor.into_below()
         } else {
-            L::climb(alloc, typed, place + 1, floor, errand).into_below()
+            R::climb(alloc, typed, place + 1, floor, errand).into_below()
         }
     }
 }
 
-/// Room for as many layers as a file has at most.
-type Eight = OneMore<OneMore<OneMore<OneMore<OneMore<OneMore<OneMore<One>>>>>>>;
+/// Room for the eight layers that a file may have.
+type Eight = More<More<More<More<More<More<More<One>>>>>>>;
 
 /// Does an errand with all layers of a file on a ground whose rows are those of the file's disk, and gives the ground back. It takes no memory but what the
 /// errand takes.
