@@ -38,17 +38,10 @@ fn read_first<D: Device>(geometry: Geometry, bytes: u64, block: &mut [u8], devic
     device.read(0, block)
 }
 
-/// Judges the attached image by its first block and by how many bytes it has, by way of a block to spare. `SpareBits` never comes.
-fn judge_first<D: Device>(
-    geometry: Geometry,
-    bytes: u64,
-    block: &mut [u8],
-    device: &mut D,
-) -> Result<(), Unmounted>
+/// Judges the attached image by its first block and by how many bytes it has. `SpareBits` never comes.
+fn judge_first<D: Device>(geometry: Geometry, bytes: u64, device: &mut D) -> Result<(), Unmounted>
     requires limits { IsShape (table_shape geometry) }
-    requires block { length block.old ≡ block_bytes geometry }
     requires seen { IsSeenAs geometry bytes (D.attached device.old) }
-    ensures block { length block.new ≡ block_bytes geometry }
     ensures judged { (image : Image) → IsShown (D.images device.old) (D.attached device.old) bytes image →
         Accepts (IsHeaderJudged geometry image.view) result }
     ensures whole { OnOk result (bytes ≡ image_bytes geometry) }
@@ -57,6 +50,8 @@ fn judge_first<D: Device>(
     ensures later { D.faults device.old ≤ D.faults device.new }
     ensures cause { result ≡ Err unmounted.DeviceFailed → Rose (D.faults device.old) (D.faults device.new) }
 {
+    let size = block_size(geometry) as usize;
+    let block = &mut [0u8; 512][..size];
     if let Moved::Failed = read_first(geometry, bytes, block, device) {
         return Err(Unmounted::DeviceFailed);
     }
@@ -145,8 +140,8 @@ pub(crate) fn judge<D: Device>(
     ensures later { D.faults device.old ≤ D.faults device.new }
     ensures cause { result ≡ Err unmounted.DeviceFailed → Rose (D.faults device.old) (D.faults device.new) }
 {
+    judge_first(geometry, bytes, device)?;
     let size = block_size(geometry) as usize;
     let block = &mut [0u8; 512][..size];
-    judge_first(geometry, bytes, block, device)?;
     judge_rows(geometry, block, row, &mut [0u8; 512][..size], device)
 }
