@@ -7,7 +7,6 @@ ghost use Rattle.ygg_machine.specs.Viewed.{floor_seen};
 
 use crate::errand::Errand;
 use std::alloc::Global;
-use std::marker::PhantomData;
 use ygg_machine::{Floor, Ground, Grounded, Typed, Viewed};
 
 /// The next layer on those below, which are so many.
@@ -18,15 +17,15 @@ fn raised<W: Viewed + Drop>(alloc: Global, place: u32, below: W) -> Floor<W>
     Floor::asleep(alloc, place, below)
 }
 
-/// So many layers at most, each on the one before: one type for each number, since the machine that they stand on is of another type with each of them.
-trait Levels {
+/// How many layers there is room for: each number is a type of its own, since the machine below is of another type with each layer.
+trait Room {
     ghost use Rattle.std.specs.Prelude.{ℕ};
 
-    /// How many.
-    ghost many: { ℕ };
+    /// So many.
+    ghost most: { ℕ };
 
-    /// Does an errand with all layers of a file, of which the first ones stand already, up to a place: the others have room here.
-    fn climb<E: Errand, W: Viewed + Drop>(
+    /// Puts the layers of a file, from this place on, on those below, does an errand with them all, and gives those below back.
+    fn stack<E: Errand, W: Viewed + Drop>(
         alloc: Global,
         typed: &Typed,
         place: u32,
@@ -36,18 +35,18 @@ trait Levels {
         requires suits { E.Suits typed.now.file errand.old }
         requires height { (W.seen.look below).height ≡ place }
         requires more { place < length typed.now.file.layers }
-        requires room { length typed.now.file.layers ≤ place + many }
+        requires room { length typed.now.file.layers ≤ place + most }
         requires stands { ViewStands W.seen.means typed.now.file (W.seen.look below) }
         ensures { E.Does W.seen.means typed.now.file errand.old (W.seen.look below).base errand.new (W.seen.look result).base };
 }
 
-/// Room for one layer.
+/// Room for one layer. It is a type alone, of which no value is made.
 struct One;
 
-impl Levels for One {
-    ghost many = { 1 };
+impl Room for One {
+    ghost most = { 1 };
 
-    fn climb<E: Errand, W: Viewed + Drop>(
+    fn stack<E: Errand, W: Viewed + Drop>(
         alloc: Global,
         typed: &Typed,
         place: u32,
@@ -60,31 +59,34 @@ impl Levels for One {
     }
 }
 
-/// Room for one layer more.
-struct OneMore<L>(PhantomData<L>);
+/// Room for one layer more than another, a type alone too.
+struct More<R: Room> {
+    others: R,
+}
 
-impl<L: Levels> Levels for OneMore<L> {
-    ghost many = { 1 + L.many };
+impl<R: Room> Room for More<R> {
+    ghost use Rattle.std.specs.Prelude.{suc};
 
-    fn climb<E: Errand, W: Viewed + Drop>(
+    ghost most = { suc R.most };
+
+    fn stack<E: Errand, W: Viewed + Drop>(
         alloc: Global,
         typed: &Typed,
         place: u32,
         below: W,
         errand: &mut E,
     ) -> W {
-        let mut floor = raised(alloc, place, below);
         if typed.layers() == place + 1 {
-            errand.run(alloc, typed, &mut floor);
-            floor.into_below()
+            One::stack(alloc, typed, place, below, errand)
         } else {
-            L::climb(alloc, typed, place + 1, floor, errand).into_below()
+            let floor = raised(alloc, place, below);
+            R::stack(alloc, typed, place + 1, floor, errand).into_below()
         }
     }
 }
 
-/// Room for as many layers as a file has at most.
-type Eight = OneMore<OneMore<OneMore<OneMore<OneMore<OneMore<OneMore<One>>>>>>>;
+/// Room for the eight layers that a file may have.
+type Eight = More<More<More<More<More<More<More<One>>>>>>>;
 
 /// Does an errand with all layers of a file on a ground whose rows are those of the file's disk, and gives the ground back. It takes no memory but what the
 /// errand takes.
@@ -102,5 +104,5 @@ pub fn on_stack<E: Errand, G: Ground + Drop>(
     // The file has a layer, and 8 at most.
     let _ = typed.file();
     let _ = typed.layers();
-    Eight::climb(alloc, typed, 0, Grounded { ground }, errand).into_ground()
+    Eight::stack(alloc, typed, 0, Grounded { ground }, errand).into_ground()
 }
