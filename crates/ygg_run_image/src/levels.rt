@@ -90,7 +90,6 @@ type Eight = More<More<More<More<More<More<More<One>>>>>>>;
 
 /// Does an errand with all layers of a file on a ground whose rows are those of the file's disk, and gives the ground back. It takes no memory but what the
 /// errand takes.
-#[tactic(auto, using(crate::proofs::Some::some_layers))]
 pub fn on_stack<E: Errand, G: Ground + Drop>(
     alloc: Global,
     typed: &Typed,
