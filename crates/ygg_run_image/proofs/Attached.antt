@@ -1,16 +1,16 @@
 -- Images that are attached and accepted.
-use Rattle.std.proofs.Common.{◌≡◌, ℕ, ◌+◌, ◌*◌, ◌/◌, ◌≤◌, ◌-◌, ◌^◌, List, Option, Some}
-use Rattle.std.proofs.Common.{None, Result, Ok, Err, OnOk, IfSome, ap, ◌∙◌, arith, min}
+use Rattle.std.proofs.Common.{◌≡◌, ℕ, ◌+◌, ◌*◌, ◌/◌, ◌≤◌, ◌<◌, ◌-◌, ◌^◌, List, Option, Some}
+use Rattle.std.proofs.Common.{None, Result, Ok, Err, OnOk, IfSome, ap, sym, ◌∙◌, arith, min}
 use Rattle.std.proofs.Math.Nat.{le-max_left, min-eq_left}
 use Rattle.std.proofs.lemmas.Nat.{div-mul-add}
 use Rattle.ygg_base.specs.declared.geometry.Geometry.{Geometry}
 use Rattle.ygg_base.specs.declared.device.Attach.TheVariants as attach
-use Rattle.ygg_base.specs.Devices.{Attachment, Image, FitsImage, blocks_in, image_of}
+use Rattle.ygg_base.specs.Devices.{Attachment, Image, FitsImage, IsBlock, blocks_in, image_of}
 use Rattle.ygg_value.specs.Shapes.{IsShape}
 use Rattle.ygg_disk.specs.Size.{table_shape}
 use Rattle.ygg_run_image.specs.Image.{block_bytes, image_bytes}
 use Rattle.ygg_run_image.specs.Judged.{IsJudged}
-use Rattle.ygg_run_image.specs.Mounting.{Accepts, Finds, IsShown, whole_image}
+use Rattle.ygg_run_image.specs.Mounting.{Accepts, Finds, IsSeenAs, IsShown, whole_image}
 use Rattle.ygg_run_image.specs.declared.unmounted.Unmounted.{Unmounted}
 use Rattle.ygg_run_image.specs.declared.unmounted.Unmounted.TheVariants.{Refused, Absent, DeviceFailed, Memory}
 
@@ -23,6 +23,15 @@ blocks_whole g limits =
     ∙ div-mul-add (g.rows + 1) (block_bytes g) 0 (omega (arith, least)) in
     let few : g.rows + 1 ≤ 2 ^ 32 - 1 = omega (arith, limits.0) in
     ap (λ n. min n (2 ^ 32 - 1)) all ∙ min-eq_left few
+
+-- the block of a row in an image of so many bytes as it is to have
+pub block_seen : (g : Geometry) (at : Option Attachment) (place bytes : ℕ) → IsShape (table_shape g) → IsSeenAs g (image_bytes g) at → place < g.rows →
+    bytes ≡ block_bytes g → IsBlock at (place + 1) bytes
+block_seen g None place bytes limits seen within sized = absurd seen
+block_seen g (Some a) place bytes limits seen within sized =
+    let all : blocks_in (block_bytes g) (image_bytes g) ≡ g.rows + 1 = blocks_whole g limits in
+    let count : a.count ≡ g.rows + 1 = seen.1 ∙ all in
+    (omega (arith, within, count), sized ∙ sym seen.0)
 
 -- what is attached after an image was accepted
 pub attached_whole : (g : Geometry) (name : List ℕ) (size bytes : ℕ) (at now : Option Attachment) (result : Result (Unit {0}) Unmounted) →

@@ -6,7 +6,7 @@ ghost use Rattle.ygg_disk.specs.Power.{Begun};
 ghost use Rattle.ygg_disk.specs.Fate.{call_at, IsAddress};
 
 use std::alloc::Global;
-use ygg_disk::{Fate, Power};
+use ygg_disk::Power;
 use ygg_list::NoMemory;
 use ygg_value::{Row, Word};
 
@@ -17,10 +17,9 @@ pub(crate) fn begin(power: &mut Power, alloc: Global, at: Option<Word>) -> Resul
     ensures ok { OnOk result (Begun true false (call_at at) [] power.old power.new) }
     ensures err { OnErr result (power.new ≡ power.old) }
 {
-    match power.begin(alloc, at)? {
-        Fate::Whole => Ok(()),
-        Fate::Within | Fate::Before => unreachable!(),
-    }
+    // Its fate is to be whole, since no power failure is named.
+    power.begin(alloc, at)?;
+    Ok(())
 }
 
 /// A write begins. After running out of memory nothing has changed.
@@ -35,8 +34,7 @@ pub(crate) fn begin_write(
     ensures ok { OnOk result (Begun true false (Write at.bits row.now) [] power.old power.new) }
     ensures err { OnErr result (power.new ≡ power.old) }
 {
-    match power.begin_write(alloc, at, row, &[], &[])? {
-        Fate::Whole => Ok(()),
-        Fate::Within | Fate::Before => unreachable!(),
-    }
+    // Its fate is to be whole, as above.
+    power.begin_write(alloc, at, row, &[], &[])?;
+    Ok(())
 }

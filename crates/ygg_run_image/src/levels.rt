@@ -7,7 +7,6 @@ ghost use Rattle.ygg_machine.specs.Viewed.{floor_seen};
 
 use crate::errand::Errand;
 use std::alloc::Global;
-use std::marker::PhantomData;
 use ygg_machine::{Floor, Ground, Grounded, Typed, Viewed};
 
 /// The next layer on those below, which are so many.
@@ -18,15 +17,15 @@ fn raised<W: Viewed + Drop>(alloc: Global, place: u32, below: W) -> Floor<W>
     Floor::asleep(alloc, place, below)
 }
 
-/// How many layers there is room for, each on the one before: one type for each number, since the machine that they stand on is of another type with each.
+/// How many layers there is room for: each number is a type of its own, since the machine below is of another type with each layer.
 trait Room {
     ghost use Rattle.std.specs.Prelude.{ℕ};
 
     /// So many.
     ghost most: { ℕ };
 
-    /// Does an errand with all layers of a file, of which the first ones stand already, up to a place: the others have room here.
-    fn climb<E: Errand, W: Viewed + Drop>(
+    /// Puts the layers of a file, from this place on, on those below, does an errand with them all, and gives those below back.
+    fn stack<E: Errand, W: Viewed + Drop>(
         alloc: Global,
         typed: &Typed,
         place: u32,
@@ -47,7 +46,7 @@ struct One;
 impl Room for One {
     ghost most = { 1 };
 
-    fn climb<E: Errand, W: Viewed + Drop>(
+    fn stack<E: Errand, W: Viewed + Drop>(
         alloc: Global,
         typed: &Typed,
         place: u32,
@@ -61,24 +60,27 @@ impl Room for One {
 }
 
 /// Room for one layer more than another, a type alone too.
-struct More<R: Room>(PhantomData<R>);
+struct More<R: Room> {
+    others: R,
+}
 
 impl<R: Room> Room for More<R> {
-    ghost most = { 1 + R.most };
+    ghost use Rattle.std.specs.Prelude.{suc};
 
-    fn climb<E: Errand, W: Viewed + Drop>(
+    ghost most = { suc R.most };
+
+    fn stack<E: Errand, W: Viewed + Drop>(
         alloc: Global,
         typed: &Typed,
         place: u32,
         below: W,
         errand: &mut E,
     ) -> W {
-        let mut floor = raised(alloc, place, below);
         if typed.layers() == place + 1 {
-            errand.run(alloc, typed, &mut floor);
-            floor.into_below()
+            One::stack(alloc, typed, place, below, errand)
         } else {
-            R::climb(alloc, typed, place + 1, floor, errand).into_below()
+            let floor = raised(alloc, place, below);
+            R::stack(alloc, typed, place + 1, floor, errand).into_below()
         }
     }
 }
@@ -88,7 +90,6 @@ type Eight = More<More<More<More<More<More<More<One>>>>>>>;
 
 /// Does an errand with all layers of a file on a ground whose rows are those of the file's disk, and gives the ground back. It takes no memory but what the
 /// errand takes.
-#[tactic(auto, using(crate::proofs::Some::some_layers))]
 pub fn on_stack<E: Errand, G: Ground + Drop>(
     alloc: Global,
     typed: &Typed,
@@ -102,5 +103,5 @@ pub fn on_stack<E: Errand, G: Ground + Drop>(
     // The file has a layer, and 8 at most.
     let _ = typed.file();
     let _ = typed.layers();
-    Eight::climb(alloc, typed, 0, Grounded { ground }, errand).into_ground()
+    Eight::stack(alloc, typed, 0, Grounded { ground }, errand).into_ground()
 }

@@ -4,25 +4,36 @@ ghost use Rattle.std.specs.Prelude.{◌≡◌, ◌≤◌, Some, OnOk, IfSome};
 ghost use Rattle.ygg_base.specs.Outside.{Rose};
 ghost use Rattle.ygg_base.specs.Devices.{Tells};
 ghost use Rattle.ygg_value.specs.Shapes.{IsShape};
+ghost use Rattle.ygg_disk.specs.Rows.{IsDiskRow};
 ghost use Rattle.ygg_disk.specs.Size.{table_shape};
 ghost use Rattle.ygg_run_image.specs.Mounting.{Finds, Mounts, whole_image};
 ghost use Rattle.ygg_run_image.specs.declared.unmounted.Unmounted.TheVariants as unmounted;
 
-use crate::judging::Judge;
+use crate::judging::judge;
+use crate::size::block_size;
 use crate::unmounted::Unmounted;
 use std::alloc::Global;
 use ygg_base::{Attach, Device, Geometry, Moved, Text};
+use ygg_disk::rows::zero_row;
+use ygg_value::Row;
 
-/// Attaches the image of that name and judges it. No image is changed.
-fn attach<D: Device>(judge: &mut Judge, name: &Text, device: &mut D) -> Result<(), Unmounted>
-    ensures attached { OnOk result (D.attached device.new ≡ Some (whole_image judge.old.geometry name.now)) }
-    ensures finds { IfSome (D.images device.old) (λ told. Finds judge.old.geometry name.now told result) }
+/// Attaches the image of that name and judges it, by way of a row to spare. No image is changed.
+fn attach<D: Device>(
+    geometry: Geometry,
+    row: &mut Row,
+    name: &Text,
+    device: &mut D,
+) -> Result<(), Unmounted>
+    requires limits { IsShape (table_shape geometry) }
+    requires row { IsDiskRow geometry row.old }
+    ensures attached { OnOk result (D.attached device.new ≡ Some (whole_image geometry name.now)) }
+    ensures finds { IfSome (D.images device.old) (λ told. Finds geometry name.now told result) }
     ensures kept { D.images device.new ≡ D.images device.old }
     ensures later { D.faults device.old ≤ D.faults device.new }
     ensures cause { result ≡ Err unmounted.DeviceFailed → Rose (D.faults device.old) (D.faults device.new) }
 {
-    match device.attach(name, judge.block_size()) {
-        Attach::Attached { bytes } => judge.judge(bytes, device),
+    match device.attach(name, block_size(geometry)) {
+        Attach::Attached { bytes } => judge(geometry, bytes, row, device),
         Attach::Absent => Err(Unmounted::Absent),
         Attach::Failed => Err(Unmounted::DeviceFailed),
         Attach::Memory => Err(Unmounted::Memory),
@@ -43,8 +54,8 @@ fn find<D: Device>(
     ensures later { D.faults device.old ≤ D.faults device.new }
     ensures cause { result ≡ Err unmounted.DeviceFailed → Rose (D.faults device.old) (D.faults device.new) }
 {
-    let mut judge = Judge::new(alloc, geometry)?;
-    attach(&mut judge, name, device)
+    let mut row = zero_row(alloc, geometry)?;
+    attach(geometry, &mut row, name, device)
 }
 
 /// Attaches the image of that name as that of a disk of this size, and flushes it once it is accepted, so that what an earlier run has left unflushed stays.
