@@ -24,7 +24,7 @@ fn report(rt: &HostRuntime, book: &RuleBook, count: u64) -> anyhow::Result<()> {
 fn timed(rt: &HostRuntime, bank: &mut Bank, book: &RuleBook, count: u64) -> anyhow::Result<()> {
     let start = Instant::now(rt)?;
     fill(bank, book, count)?;
-    timing::report(rt, start, &format_args!("{} terms", bank.len()))?;
+    timing::report_terms(rt, start, bank.len())?;
     Ok(())
 }
 

@@ -34,12 +34,10 @@ fn judge(rt: &HostRuntime, input: &Input) -> anyhow::Result<()> {
 /// Prints how many resolution steps were taken since the start, and how many nanoseconds.
 fn tell(rt: &HostRuntime, start: Instant, judged: Option<(usize, bool)>) -> io::Result<()> {
     match judged {
-        Some((steps, true)) => timing::report(rt, start, &format_args!("refuted in {steps} steps")),
-        Some((steps, false)) => timing::report(
-            rt,
-            start,
-            &format_args!("derived in {steps} steps"),
-        ),
+        Some((steps, refuted)) => {
+            let what = if refuted { "refuted" } else { "derived" };
+            timing::report(rt, start, &format_args!("{what} in {steps} steps"))
+        }
         None => timing::report(rt, start, &"not derived"),
     }
 }
@@ -51,9 +49,7 @@ fn steps_of(
     log: &Log,
 ) -> Result<Option<(usize, bool)>, NoMemory> {
     let mut checker = Checker::new(alloc, clauses)?;
-    let steps = steps_with(&mut checker, log);
-    drop(checker);
-    steps
+    steps_with(&mut checker, log)
 }
 
 /// How many resolution steps the log takes over what the checker holds.

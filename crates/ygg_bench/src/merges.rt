@@ -31,7 +31,7 @@ fn timed(rt: &HostRuntime, bank: &mut Bank, book: &RuleBook, count: u64) -> anyh
     let word = bank.make(Node::Const(Word { width: 64, bits: 1 }), book)?;
     let start = Instant::now(rt)?;
     merge_often(rt.alloc(), bank, book, test, word, count)?;
-    timing::report(rt, start, &format_args!("{} terms", bank.len()))?;
+    timing::report_terms(rt, start, bank.len())?;
     Ok(())
 }
 

@@ -10,3 +10,8 @@ pub fn report<T: Display>(rt: &HostRuntime, start: Instant, found: &T) -> io::Re
     println!(rt; "{found}")?;
     eprintln!(rt; "{} ns", time.as_nanos())
 }
+
+/// Prints so how many terms there are.
+pub fn report_terms(rt: &HostRuntime, start: Instant, count: usize) -> io::Result<()> {
+    report(rt, start, &format_args!("{count} terms"))
+}
