@@ -1,5 +1,6 @@
 //! Makes terms in a bank under a book without rules, half of them such as are there.
 
+use crate::timing;
 use std::time::Instant;
 use ygg_bank::{Bank, NoMemory, Node};
 use ygg_rules::RuleBook;
@@ -14,16 +15,16 @@ pub fn measure(rt: &HostRuntime, count: u64) -> anyhow::Result<()> {
 /// Makes the terms in a bank of their own.
 fn report(rt: &HostRuntime, book: &RuleBook, count: u64) -> anyhow::Result<()> {
     let mut bank = Bank::new(rt.alloc())?;
-    timed(rt, &mut bank, book, count)
+    let done = timed(rt, &mut bank, book, count);
+    drop(bank);
+    done
 }
 
 /// Makes the terms in this bank, and prints how many there are and how long it took.
 fn timed(rt: &HostRuntime, bank: &mut Bank, book: &RuleBook, count: u64) -> anyhow::Result<()> {
     let start = Instant::now(rt)?;
     fill(bank, book, count)?;
-    let time = start.elapsed(rt)?;
-    println!(rt; "{} terms", bank.len())?;
-    eprintln!(rt; "{} ns", time.as_nanos())?;
+    timing::report_terms(rt, start, bank.len())?;
     Ok(())
 }
 

@@ -15,24 +15,28 @@ pub struct Input {
     derived: Clause,
 }
 
-/// Reads standard input.
-pub fn read(rt: &HostRuntime) -> anyhow::Result<Input> {
-    let alloc = rt.alloc();
-    let mut input = Input {
-        clauses: Clauses::new(alloc),
-        log: Log::new(alloc),
-        derived: Clause::new(alloc),
-    };
-    fill(rt, &mut input)?;
-    Ok(input)
+impl Input {
+    /// Nothing is read yet.
+    pub fn new(alloc: Global) -> Input {
+        Input {
+            clauses: Clauses::new(alloc),
+            log: Log::new(alloc),
+            derived: Clause::new(alloc),
+        }
+    }
 }
 
-/// Reads all lines.
-fn fill(rt: &HostRuntime, input: &mut Input) -> anyhow::Result<()> {
+/// Reads all lines of standard input.
+pub fn fill(rt: &HostRuntime, input: &mut Input) -> anyhow::Result<()> {
     for line in rt.lines(rt.alloc()) {
-        take_line(rt.alloc(), input, line?.as_str())?;
+        take(rt.alloc(), input, line?)?;
     }
     Ok(())
+}
+
+/// Takes one line, which is dropped then.
+fn take(alloc: Global, input: &mut Input, line: String) -> Result<(), NoMemory> {
+    take_line(alloc, input, line.as_str())
 }
 
 /// Takes one line.
@@ -44,22 +48,29 @@ fn take_line(alloc: Global, input: &mut Input, text: &str) -> Result<(), NoMemor
         return take_chain(alloc, input, words);
     }
     if let Some(words) = text.strip_prefix('d') {
-        input.derived = clause_of(alloc, words)?;
-        return Ok(());
+        input.derived = Clause::new(alloc);
+        return add_literals(&mut input.derived, words);
     }
-    input.clauses.push(clause_of(alloc, text)?)
+    take_clause(alloc, input, text)
+}
+
+/// Takes an input clause.
+fn take_clause(alloc: Global, input: &mut Input, words: &str) -> Result<(), NoMemory> {
+    let mut clause = Clause::new(alloc);
+    add_literals(&mut clause, words)?;
+    input.clauses.push(clause)
 }
 
 /// Takes the chain of the derived clause before it.
 fn take_chain(alloc: Global, input: &mut Input, words: &str) -> Result<(), NoMemory> {
-    let chain = numbers_of(alloc, words)?;
+    let mut chain = Sequence::new(alloc);
+    add_numbers(&mut chain, words)?;
     let clause = std::mem::replace(&mut input.derived, Clause::new(alloc));
     input.log.push(Step::Added { clause, chain })
 }
 
-/// The clause whose literals are the words. A word that is no number, or 0, is passed over.
-fn clause_of(alloc: Global, words: &str) -> Result<Clause, NoMemory> {
-    let mut clause = Clause::new(alloc);
+/// Adds the literals that the words are. A word that is no number, or 0, is passed over.
+fn add_literals(clause: &mut Clause, words: &str) -> Result<(), NoMemory> {
     for word in words.split_whitespace() {
         if let Ok(number) = word.parse::<i64>() {
             let var = number.unsigned_abs();
@@ -71,16 +82,15 @@ fn clause_of(alloc: Global, words: &str) -> Result<Clause, NoMemory> {
             }
         }
     }
-    Ok(clause)
+    Ok(())
 }
 
-/// The clause numbers that the words are. A word that is no number is passed over.
-fn numbers_of(alloc: Global, words: &str) -> Result<Sequence<u64>, NoMemory> {
-    let mut numbers = Sequence::new(alloc);
+/// Adds the clause numbers that the words are. A word that is no number is passed over.
+fn add_numbers(numbers: &mut Sequence<u64>, words: &str) -> Result<(), NoMemory> {
     for word in words.split_whitespace() {
         if let Ok(number) = word.parse::<u64>() {
             numbers.push(number)?;
         }
     }
-    Ok(numbers)
+    Ok(())
 }

@@ -8,15 +8,21 @@ mod bank;
 mod check;
 mod input;
 mod merges;
+mod timing;
 
 use std::env;
 
 fn main(rt: HostRuntime) -> anyhow::Result<()> {
     let mut number: u64 = 0;
     for word in env::args(&rt)? {
-        obey(&rt, &mut number, word.as_str())?;
+        take(&rt, &mut number, word)?;
     }
     Ok(())
+}
+
+/// Takes one word.
+fn take(rt: &HostRuntime, number: &mut u64, word: String) -> anyhow::Result<()> {
+    obey(rt, number, word.as_str())
 }
 
 /// Does what a word says, or notes the number that it is. Another one is passed over.

@@ -2,6 +2,7 @@
 
 ghost use Rattle.ygg_bank.specs.Nodes.{HasWidth};
 
+use crate::timing;
 use std::alloc::Global;
 use std::time::Instant;
 use ygg_bank::{Bank, Id, NoMemory, Node};
@@ -19,7 +20,9 @@ pub fn measure(rt: &HostRuntime, count: u64) -> anyhow::Result<()> {
 /// Merges in a bank of its own.
 fn report(rt: &HostRuntime, book: &RuleBook, count: u64) -> anyhow::Result<()> {
     let mut bank = Bank::new(rt.alloc())?;
-    timed(rt, &mut bank, book, count)
+    let done = timed(rt, &mut bank, book, count);
+    drop(bank);
+    done
 }
 
 /// Merges in this bank, and prints how many terms there are and how long it took.
@@ -28,9 +31,7 @@ fn timed(rt: &HostRuntime, bank: &mut Bank, book: &RuleBook, count: u64) -> anyh
     let word = bank.make(Node::Const(Word { width: 64, bits: 1 }), book)?;
     let start = Instant::now(rt)?;
     merge_often(rt.alloc(), bank, book, test, word, count)?;
-    let time = start.elapsed(rt)?;
-    println!(rt; "{} terms", bank.len())?;
-    eprintln!(rt; "{} ns", time.as_nanos())?;
+    timing::report_terms(rt, start, bank.len())?;
     Ok(())
 }
 

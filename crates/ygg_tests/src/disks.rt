@@ -1,6 +1,6 @@
 //! The worked rows of the three disks: two writes to the one row, a flush or none, and what is read after power loss.
 
-ghost use Rattle.std.specs.Prelude.{◌≡◌, length, IsTrue, IfOk};
+ghost use Rattle.std.specs.Prelude.{◌≡◌, length, IsTrue};
 ghost use Rattle.ygg_value.specs.declared.shape.Shape.TheVariants as shape;
 
 use std::alloc::Global;
@@ -11,7 +11,6 @@ use ygg_list::NoMemory;
 use ygg_value::{Row, Value, Word, row_read, row_write};
 
 /// What is done, and what is read at the end.
-#[derive(Clone, Copy)]
 struct Story {
     /// whether each write is kept
     picks: [bool; 2],
@@ -54,65 +53,25 @@ const SMALL: Geometry = Geometry {
 /// The place of the row on the disk, and of the word in the row.
 const FIRST: Word = Word { width: 8, bits: 0 };
 
-/// The row of this number.
-fn row_of(alloc: Global, number: u8) -> Result<Row, NoMemory>
-    ensures { IfOk result (λ row. shape.Row (length row.words) row.width ≡ shape.Row 1 8) }
+/// Whether a call was made. What it answers is dropped.
+fn is_done<T: Drop>(answer: Result<T, NoMemory>) -> bool {
+    answer.is_ok()
+}
+
+/// Writes a number to the row of the disk, by way of this row, and says whether that was done.
+fn write<G: Ground>(disk: &mut G, power: &mut Power, row: &mut Row, number: u8) -> bool
+    requires loses { IsTrue G.means.can_lose }
+    requires row { G.means.row disk.old ≡ shape.Row 1 8 }
+    requires shape { shape.Row (length row.old.words) row.old.width ≡ shape.Row 1 8 }
+    ensures row { G.means.row disk.new ≡ shape.Row 1 8 }
+    ensures shape { shape.Row (length row.new.words) row.new.width ≡ shape.Row 1 8 }
 {
-    let mut row = zero_row(alloc, SMALL)?;
     let word = Word {
         width: 8,
         bits: number as u64,
     };
-    row_write(&mut row, FIRST, word);
-    Ok(row)
-}
-
-/// Power that doesn't fail within calls, with these picks.
-fn power_of(alloc: Global, picks: &[bool]) -> Result<Power, NoMemory> {
-    Ok(Power {
-        picks: Picks {
-            bits: Bits::from_slice(alloc, picks)?,
-            next: 0,
-            past: false,
-        },
-        fuse: None,
-        passed: 0,
-        events: None,
-    })
-}
-
-/// Writes a number to the row.
-fn write<G: Ground>(
-    alloc: Global,
-    disk: &mut G,
-    power: &mut Power,
-    number: u8,
-) -> Result<(), NoMemory>
-    requires loses { IsTrue G.means.can_lose }
-    requires row { G.means.row disk.old ≡ shape.Row 1 8 }
-    ensures row { G.means.row disk.new ≡ shape.Row 1 8 }
-{
-    let row = row_of(alloc, number)?;
-    let _done = disk.write(FIRST, &row, power)?;
-    Ok(())
-}
-
-/// What is done before power is lost.
-fn write_both<G: Ground>(
-    alloc: Global,
-    disk: &mut G,
-    power: &mut Power,
-    flushes: bool,
-) -> Result<(), NoMemory>
-    requires loses { IsTrue G.means.can_lose }
-    requires row { G.means.row disk.old ≡ shape.Row 1 8 }
-{
-    write(alloc, disk, power, 5)?;
-    write(alloc, disk, power, 7)?;
-    if flushes {
-        let _done = disk.flush(power)?;
-    }
-    Ok(())
+    row_write(row, FIRST, word);
+    is_done(disk.write(FIRST, row, power))
 }
 
 /// Whether this is the answer of a read.
@@ -123,62 +82,120 @@ fn is_read(turn: &Turn, wanted: u64) -> bool {
     }
 }
 
-/// Whether this is read at the end.
-fn shows<G: Ground>(
-    alloc: Global,
+/// Whether a disk reads this.
+fn reads<G: Ground>(disk: &mut G, power: &mut Power, wanted: u64) -> bool
+    requires { IsTrue G.means.can_lose }
+{
+    match disk.read(FIRST, power) {
+        Ok(turn) => {
+            let read = is_read(&turn, wanted);
+            drop(turn);
+            read
+        }
+        Err(_) => false,
+    }
+}
+
+/// Whether this is read when power was lost after the writes of 5 and 7, and a flush or none.
+fn is_left<G: Ground>(
     disk: &mut G,
     power: &mut Power,
+    row: &mut Row,
     flushes: bool,
     wanted: u64,
-) -> Result<bool, NoMemory>
+) -> bool
     requires loses { IsTrue G.means.can_lose }
     requires row { G.means.row disk.old ≡ shape.Row 1 8 }
+    requires shape { shape.Row (length row.old.words) row.old.width ≡ shape.Row 1 8 }
 {
-    write_both(alloc, disk, power, flushes)?;
+    let five = write(disk, power, row, 5);
+    let seven = write(disk, power, row, 7);
+    let flushed = !flushes || is_done(disk.flush(power));
     disk.lose();
-    Ok(is_read(&disk.read(FIRST, power)?, wanted))
+    five & seven & flushed & reads(disk, power, wanted)
+}
+
+/// Power that doesn't fail within calls, with these picks.
+fn power_of(bits: Bits) -> Power {
+    Power {
+        picks: Picks {
+            bits,
+            next: 0,
+            past: false,
+        },
+        fuse: None,
+        passed: 0,
+        events: None,
+    }
 }
 
 /// The same with the picks of a story.
-fn is_left<G: Ground>(
+fn is_left_of<G: Ground>(
     alloc: Global,
     disk: &mut G,
-    story: Story,
+    row: &mut Row,
+    story: &Story,
     wanted: u64,
-) -> Result<bool, NoMemory>
+) -> bool
+    requires loses { IsTrue G.means.can_lose }
+    requires row { G.means.row disk.old ≡ shape.Row 1 8 }
+    requires shape { shape.Row (length row.old.words) row.old.width ≡ shape.Row 1 8 }
+{
+    match Bits::from_slice(alloc, &story.picks) {
+        Ok(bits) => {
+            let mut power = power_of(bits);
+            let left = is_left(disk, &mut power, row, story.flushes, wanted);
+            drop(power);
+            left
+        }
+        Err(_) => false,
+    }
+}
+
+/// Whether a story shows this on a disk.
+fn shows<G: Ground>(alloc: Global, disk: &mut G, story: &Story, wanted: u64) -> bool
     requires loses { IsTrue G.means.can_lose }
     requires row { G.means.row disk.old ≡ shape.Row 1 8 }
 {
-    let mut power = power_of(alloc, &story.picks)?;
-    shows(alloc, disk, &mut power, story.flushes, wanted)
+    match zero_row(alloc, SMALL) {
+        Ok(mut row) => is_left_of(alloc, disk, &mut row, story, wanted),
+        Err(_) => false,
+    }
 }
 
-fn is_left_on_async(alloc: Global, story: Story) -> Result<bool, NoMemory> {
-    is_left(alloc, &mut fresh_async(alloc, SMALL)?, story, story.late)
+fn shows_on_async(alloc: Global, story: &Story) -> bool {
+    match fresh_async(alloc, SMALL) {
+        Ok(mut disk) => shows(alloc, &mut disk, story, story.late),
+        Err(_) => false,
+    }
 }
 
-fn is_left_on_pending(alloc: Global, story: Story) -> Result<bool, NoMemory> {
-    is_left(alloc, &mut fresh_pending(alloc, SMALL)?, story, story.late)
+fn shows_on_pending(alloc: Global, story: &Story) -> bool {
+    match fresh_pending(alloc, SMALL) {
+        Ok(mut disk) => shows(alloc, &mut disk, story, story.late),
+        Err(_) => false,
+    }
 }
 
-fn is_left_on_sync(alloc: Global, story: Story) -> Result<bool, NoMemory> {
-    is_left(alloc, &mut fresh_sync(alloc, SMALL)?, story, story.sync)
+fn shows_on_sync(alloc: Global, story: &Story) -> bool {
+    match fresh_sync(alloc, SMALL) {
+        Ok(mut disk) => shows(alloc, &mut disk, story, story.sync),
+        Err(_) => false,
+    }
 }
 
 /// Whether each story shows on each disk what it must.
-fn all_hold(alloc: Global) -> Result<bool, NoMemory> {
+fn all_hold(alloc: Global) -> bool {
+    let mut all = true;
     for story in &STORIES {
-        let holds = is_left_on_async(alloc, *story)?
-            && is_left_on_pending(alloc, *story)?
-            && is_left_on_sync(alloc, *story)?;
-        if !holds {
-            return Ok(false);
-        }
+        all &= shows_on_async(alloc, story);
+        all &= shows_on_pending(alloc, story);
+        all &= shows_on_sync(alloc, story);
     }
-    Ok(true)
+    all
 }
 
 #[test]
 fn what_power_loss_leaves(rt: HostRuntime) {
-    assert!(rt; matches!(all_hold(rt.alloc()), Ok(true)));
+    assert!(rt; all_hold(rt.alloc()));
 }

@@ -24,22 +24,6 @@ enum Asked {
     IsNoImage,
 }
 
-const ASKED: [(&[u8], Asked); 10] = [
-    (b"image", Asked::Makes),
-    (b".", Asked::IsNoImage),
-    (b"stored", Asked::Answers(4, Opened::Open, b"four")),
-    (
-        b"image",
-        Asked::Answers(8, Opened::Open, &[0, 0, 0, 0, 1, 2, 3, 4]),
-    ),
-    (b"stored", Asked::Answers(3, Opened::TooLarge, &[])),
-    (b"absent", Asked::Answers(4, Opened::Absent, &[])),
-    (b".", Asked::Answers(4, Opened::Failed, &[])),
-    (b"growing", Asked::Grows),
-    (b"long", Asked::Reads(1_000)),
-    (b"long", Asked::Reads(65_536)),
-];
-
 /// Whether a file fails that gets seven bytes after it was opened with room for five.
 fn fails_grown<L: Library>(rt: &HostRuntime, library: &mut L, name: &Text) -> bool {
     let mut slice = [0u8; 8];
@@ -124,14 +108,17 @@ fn is_answered<L: Library>(
     wanted: Opened,
     bytes: &[u8],
 ) -> bool {
-    library.open(name, limit) == wanted
-        && match library.fetch(name, limit) {
-            Fetch::Found(text) => wanted == Opened::Open && text.as_slice() == bytes,
-            Fetch::Absent => wanted == Opened::Absent,
-            Fetch::TooLarge => wanted == Opened::TooLarge,
-            Fetch::Failed => wanted == Opened::Failed,
-            Fetch::Memory => false,
-        }
+    let opened = library.open(name, limit) == wanted;
+    let fetched = library.fetch(name, limit);
+    let answered = match &fetched {
+        Fetch::Found(text) => wanted == Opened::Open && text.as_slice() == bytes,
+        Fetch::Absent => wanted == Opened::Absent,
+        Fetch::TooLarge => wanted == Opened::TooLarge,
+        Fetch::Failed => wanted == Opened::Failed,
+        Fetch::Memory => false,
+    };
+    drop(fetched);
+    opened & answered
 }
 
 /// Whether a library answers what it must.
@@ -155,8 +142,13 @@ fn serves<D: Device>(device: &mut D, name: &Text, asked: Asked) -> bool {
 
 /// Whether the files of the system do for a name, as a library or as a device.
 fn is_so(rt: &HostRuntime, name: &Text, asked: Asked) -> bool {
-    answers(rt, &mut FileLibrary::new(rt), name, asked)
-        || serves(&mut FileDevice::new(rt), name, asked)
+    let mut library = FileLibrary::new(rt);
+    let answered = answers(rt, &mut library, name, asked);
+    drop(library);
+    let mut device = FileDevice::new(rt);
+    let served = serves(&mut device, name, asked);
+    drop(device);
+    answered | served
 }
 
 /// Whether they do for a path.
@@ -169,12 +161,17 @@ fn is_so_at(rt: &HostRuntime, path: &[u8], asked: Asked) -> bool {
 
 /// Whether they do for each path.
 fn are_so(rt: &HostRuntime) -> bool {
-    for (path, asked) in &ASKED {
-        if !is_so_at(rt, path, *asked) {
-            return false;
-        }
-    }
-    true
+    let image = &[0, 0, 0, 0, 1, 2, 3, 4];
+    let mut are = is_so_at(rt, b"image", Asked::Makes);
+    are &= is_so_at(rt, b".", Asked::IsNoImage);
+    are &= is_so_at(rt, b"stored", Asked::Answers(4, Opened::Open, b"four"));
+    are &= is_so_at(rt, b"image", Asked::Answers(8, Opened::Open, image));
+    are &= is_so_at(rt, b"stored", Asked::Answers(3, Opened::TooLarge, &[]));
+    are &= is_so_at(rt, b"absent", Asked::Answers(4, Opened::Absent, &[]));
+    are &= is_so_at(rt, b".", Asked::Answers(4, Opened::Failed, &[]));
+    are &= is_so_at(rt, b"growing", Asked::Grows);
+    are &= is_so_at(rt, b"long", Asked::Reads(1_000));
+    are & is_so_at(rt, b"long", Asked::Reads(65_536))
 }
 
 /// Removes the files of the test, also those that an earlier run left when it was cut off.

@@ -40,12 +40,14 @@ fn three(alloc: Global) -> Result<Clauses, NoMemory>
     Ok(clauses)
 }
 
-/// Whether a variable has this value for this reason.
-fn is<P: Propagate>(propagation: &P, var: u64, value: bool, reason: Option<u64>) -> bool {
-    match propagation.assigned(var) {
-        Some(found) => found.value == value && found.reason == reason,
-        None => false,
+/// Whether each variable has its value for its reason.
+fn are<P: Propagate>(propagation: &P, wanted: &[(u64, bool, u64)]) -> bool {
+    let mut are = true;
+    for (var, value, reason) in wanted {
+        are &= propagation.assigned(*var).is_some_and(|found| found.value == *value
+            && found.reason == Some(*reason));
     }
+    are
 }
 
 /// Whether deciding 1 gives 3 by the second clause and -2 by the third.
@@ -53,67 +55,68 @@ fn implies<P: Propagate>(propagation: &mut P) -> bool
     requires { 3 < (P.state propagation.old).variable_count }
     ensures { 3 < (P.state propagation.new).variable_count }
 {
-    if propagation.assigned(1).is_none() {
-        propagation.decide(lit(1, false));
-        return propagation.spread() == Found::Quiet
-            && is(propagation, 3, true, Some(2))
-            && is(propagation, 2, false, Some(3));
+    if propagation.assigned(1).is_some() {
+        return false;
     }
-    false
+    propagation.decide(lit(1, false));
+    propagation.spread() == Found::Quiet && are(propagation, &[(3, true, 2), (2, false, 3)])
 }
 
-/// Adds a clause of one literal, and spreads.
-fn spread_with<P: Propagate>(
-    alloc: Global,
-    propagation: &mut P,
-    lit: Lit,
-) -> Result<Found, NoMemory>
+/// Adds the clause that a variable is false, and says whether that was done.
+fn adds<P: Propagate>(alloc: Global, propagation: &mut P, var: u64) -> bool
     requires variable_count { 3 < (P.state propagation.old).variable_count }
-    requires var { lit.var < 4 }
+    requires var { var < 4 }
     ensures { 3 < (P.state propagation.new).variable_count }
 {
-    propagation.add(&Clause::from_slice(alloc, &[lit])?)?;
-    Ok(propagation.spread())
+    match Clause::from_slice(alloc, &[lit(var, true)]) {
+        Ok(clause) => propagation.add(&clause).is_ok(),
+        Err(_) => false,
+    }
 }
 
 /// Whether the worked row holds.
-fn is_worked<P: Propagate>(alloc: Global, propagation: &mut P) -> Result<bool, NoMemory>
+fn is_worked<P: Propagate>(alloc: Global, propagation: &mut P) -> bool
     requires { 3 < (P.state propagation.old).variable_count }
 {
-    if !implies(propagation) {
-        return Ok(false);
-    }
+    let implied = implies(propagation);
     propagation.back(0);
-    let quiet = spread_with(alloc, propagation, lit(3, true))? == Found::Quiet
-        && is(propagation, 3, false, Some(4))
-        && is(propagation, 1, false, Some(2))
-        && is(propagation, 2, true, Some(1));
-    Ok(quiet && spread_with(alloc, propagation, lit(2, true))? != Found::Quiet)
+    let added = adds(alloc, propagation, 3);
+    let quiet = propagation.spread() == Found::Quiet;
+    let follow = are(propagation, &[(3, false, 4), (1, false, 2), (2, true, 1)]);
+    let added_too = adds(alloc, propagation, 2);
+    let conflict = propagation.spread() != Found::Quiet;
+    implied & added & quiet & follow & added_too & conflict
 }
 
 /// Whether it holds of the plain propagation of the clauses.
-fn is_worked_plainly(alloc: Global, clauses: &Clauses) -> Result<bool, NoMemory>
+fn is_worked_plainly(alloc: Global, clauses: &Clauses) -> bool
     requires { (variable_count : ℕ) → All (IsWithin variable_count) clauses.now → 3 < variable_count }
 {
-    let mut propagation = plain_spread(alloc, clauses)?;
-    is_worked(alloc, &mut propagation)
+    match plain_spread(alloc, clauses) {
+        Ok(mut propagation) => is_worked(alloc, &mut propagation),
+        Err(_) => false,
+    }
 }
 
 /// Whether it holds of the watched propagation of the clauses.
-fn is_worked_by_watches(alloc: Global, clauses: &Clauses) -> Result<bool, NoMemory>
+fn is_worked_by_watches(alloc: Global, clauses: &Clauses) -> bool
     requires { (variable_count : ℕ) → All (IsWithin variable_count) clauses.now → 3 < variable_count }
 {
-    let mut propagation = watch(alloc, clauses)?;
-    is_worked(alloc, &mut propagation)
+    match watch(alloc, clauses) {
+        Ok(mut propagation) => is_worked(alloc, &mut propagation),
+        Err(_) => false,
+    }
 }
 
 /// Whether it holds of both.
-fn holds(alloc: Global) -> Result<bool, NoMemory> {
-    let clauses = three(alloc)?;
-    Ok(is_worked_plainly(alloc, &clauses)? && is_worked_by_watches(alloc, &clauses)?)
+fn holds(alloc: Global) -> bool {
+    match three(alloc) {
+        Ok(clauses) => is_worked_plainly(alloc, &clauses) && is_worked_by_watches(alloc, &clauses),
+        Err(_) => false,
+    }
 }
 
 #[test]
 fn the_worked_row(rt: HostRuntime) {
-    assert!(rt; matches!(holds(rt.alloc()), Ok(true)));
+    assert!(rt; holds(rt.alloc()));
 }

@@ -2,7 +2,7 @@
 
 ghost use Rattle.std.specs.Prelude.{◌≡◌, []};
 
-use std::alloc::{AllocError, Global};
+use std::alloc::Global;
 use ygg_bank::{Bank, Id, NoMemory, Node};
 use ygg_blast::clauses_of;
 use ygg_cnf::{Clause, Lit};
@@ -15,11 +15,20 @@ fn of_sum_with_zero(book: &RuleBook) -> Rewrite {
     book.view(&View::bin(Op::Add, Operand::unknown(0, 8), zero))
 }
 
-/// Whether the rule for it answers its operand.
-fn is_rewritten(alloc: Global) -> Result<bool, AllocError> {
+/// Whether a book of this rule answers its operand.
+fn rewrites(alloc: Global, rule: Rule) -> bool {
     let mut rules = Vec::new(alloc);
-    rules.push(Rule::new(RuleKind::AddZero, Box::new(alloc, add_zero)?))?;
-    Ok(of_sum_with_zero(&RuleBook::new(rules)) == Rewrite::Operand(0))
+    let pushed = rules.push(rule).is_ok();
+    let book = RuleBook::new(rules);
+    pushed & (of_sum_with_zero(&book) == Rewrite::Operand(0))
+}
+
+/// Whether the rule for it answers its operand.
+fn is_rewritten(alloc: Global) -> bool {
+    match Box::new(alloc, add_zero) {
+        Ok(judge) => rewrites(alloc, Rule::new(RuleKind::AddZero, judge)),
+        Err(_) => false,
+    }
 }
 
 /// The conjunction of two inputs of one digit, in a bank without nodes.
@@ -44,72 +53,78 @@ fn conjunction(bank: &mut Bank, book: &RuleBook) -> Result<Id, NoMemory>
     bank.make(Node::Bin { op: Op::And, a, b }, book)
 }
 
-/// The literals of a clause.
-type Literals = &'static [(u64, bool)];
-
-/// The variables of the clauses of a conjunction of two inputs, and whether they are negated.
-const CLAUSES: [Literals; 5] = [
-    &[(1, false)],
-    &[(4, true), (2, false)],
-    &[(4, true), (3, false)],
-    &[(4, false), (2, true), (3, true)],
-    &[(4, true)],
-];
-
-/// Whether a clause has these literals in order.
-fn is_clause(clause: &[Lit], wanted: Literals) -> bool {
-    for (lit, (var, negated)) in clause.iter().zip(wanted) {
-        if lit.var != *var || lit.negated != *negated {
-            return false;
-        }
-    }
-    clause.len() == wanted.len()
+/// A variable, or its complement where it is negated.
+fn lit(var: u64, negated: bool) -> Lit {
+    Lit { var, negated }
 }
 
-/// Whether these are the clauses of a conjunction.
-fn are_clauses(found: &[Clause]) -> bool {
+/// Whether these are the clauses of a conjunction of two inputs.
+fn are_wanted(found: &[Clause]) -> bool {
+    let not_output = lit(4, true);
+    let wanted: [&[Lit]; 5] = [
+        &[lit(1, false)],
+        &[not_output, lit(2, false)],
+        &[not_output, lit(3, false)],
+        &[lit(4, false), lit(2, true), lit(3, true)],
+        &[not_output],
+    ];
+    are_clauses(found, &wanted)
+}
+
+/// Whether these are the clauses.
+fn are_clauses(found: &[Clause], wanted: &[&[Lit]]) -> bool {
+    let mut are = found.len() == wanted.len();
     for (place, clause) in found.iter().enumerate() {
-        let Some(wanted) = CLAUSES.get(place) else {
-            return false;
-        };
-        if !is_clause(clause.as_slice(), wanted) {
-            return false;
-        }
+        are &= place < wanted.len() && clause.as_slice() == wanted[place];
     }
-    found.len() == CLAUSES.len()
+    are
 }
 
 /// Whether a term has these clauses.
-fn has_clauses(alloc: Global, bank: &Bank, term: Id) -> Result<bool, NoMemory> {
+fn has_clauses(alloc: Global, bank: &Bank, term: Id) -> bool {
     if term.0 >= bank.len() {
-        return Ok(false);
+        return false;
     }
-    let blasted = clauses_of(alloc, bank, term)?;
-    Ok(are_clauses(blasted.clauses().as_slice()))
+    match clauses_of(alloc, bank, term) {
+        Ok(blasted) => {
+            let are = are_wanted(blasted.clauses().as_slice());
+            drop(blasted);
+            are
+        }
+        Err(_) => false,
+    }
 }
 
 /// Whether the row of clauses holds in a bank without nodes.
-fn holds(alloc: Global, bank: &mut Bank, book: &RuleBook) -> Result<bool, NoMemory>
+fn holds(alloc: Global, bank: &mut Bank, book: &RuleBook) -> bool
     requires { bank.old ≡ [] }
 {
-    let term = conjunction(bank, book)?;
-    has_clauses(alloc, bank, term)
+    match conjunction(bank, book) {
+        Ok(term) => has_clauses(alloc, bank, term),
+        Err(_) => false,
+    }
+}
+
+/// Whether it does in a bank of its own.
+fn holds_under(alloc: Global, book: &RuleBook) -> bool {
+    match Bank::new(alloc) {
+        Ok(mut bank) => {
+            let held = holds(alloc, &mut bank, book);
+            drop(bank);
+            held
+        }
+        Err(_) => false,
+    }
 }
 
 /// Whether it does under a book without rules, which keeps all terms.
-fn holds_without_rules(alloc: Global) -> Result<bool, NoMemory> {
+fn holds_without_rules(alloc: Global) -> bool {
     let book = RuleBook::new(Vec::new(alloc));
-    if of_sum_with_zero(&book) != Rewrite::Keep {
-        return Ok(false);
-    }
-    let mut bank = Bank::new(alloc)?;
-    holds(alloc, &mut bank, &book)
+    let kept = of_sum_with_zero(&book) == Rewrite::Keep;
+    kept & holds_under(alloc, &book)
 }
 
 #[test]
 fn terms_are_rewritten_and_have_their_clauses(rt: HostRuntime) {
-    assert!(rt;
-        matches!(is_rewritten(rt.alloc()), Ok(true))
-            && matches!(holds_without_rules(rt.alloc()), Ok(true))
-    );
+    assert!(rt; is_rewritten(rt.alloc()) && holds_without_rules(rt.alloc()));
 }
