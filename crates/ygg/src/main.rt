@@ -1,10 +1,9 @@
 //! The command-line program: real files, standard output and the process's words around the top call.
 #![tactic(auto)]
 
-ghost use Rattle.std.specs.Prelude.{◌≡◌, [], ◌∷◌, IfOk};
+ghost use Rattle.std.specs.Prelude.{◌≡◌, [], ◌∷◌};
 ghost use Rattle.ygg_rules.specs.declared.rule.RuleKind.TheVariants as kind;
 
-use std::alloc::Global;
 use std::env;
 use std::io::ErrorKind;
 use std::process::ExitCode;
@@ -69,37 +68,23 @@ const KINDS: [RuleKind; 7] = [
     RuleKind::PickSame,
 ];
 
-/// The rule of a kind. Its only error is out of memory.
-fn rule_of(alloc: Global, kind: RuleKind) -> Result<Rule, NoMemory>
-    ensures { IfOk result (λ rule. rule.kind ≡ kind) }
-{
-    let rule = match kind {
-        RuleKind::Fold => Rule::new(RuleKind::Fold, Box::new(alloc, fold)?),
-        RuleKind::AndOnes => Rule::new(RuleKind::AndOnes, Box::new(alloc, and_ones)?),
-        RuleKind::AndZero => Rule::new(RuleKind::AndZero, Box::new(alloc, and_zero)?),
-        RuleKind::OrZero => Rule::new(RuleKind::OrZero, Box::new(alloc, or_zero)?),
-        RuleKind::AddZero => Rule::new(RuleKind::AddZero, Box::new(alloc, add_zero)?),
-        RuleKind::EqSelf => Rule::new(RuleKind::EqSelf, Box::new(alloc, eq_self)?),
-        RuleKind::PickSame => Rule::new(RuleKind::PickSame, Box::new(alloc, pick_same)?),
-    };
-    Ok(rule)
-}
-
-/// The book of all seven rules, in the order of their table. Its only error is out of memory.
-fn book_of_all(alloc: Global) -> Result<RuleBook, NoMemory>
-    ensures { IfOk result (λ book. ⟦<RuleBook as Book>⟧.kinds book
-        ≡ kind.Fold ∷ kind.AndOnes ∷ kind.AndZero ∷ kind.OrZero ∷ kind.AddZero ∷ kind.EqSelf ∷ kind.PickSame ∷ []) }
-{
-    let mut rules = Vec::new(alloc);
-    for kind in &KINDS {
-        rules.push(rule_of(alloc, *kind)?)?;
-    }
-    Ok(RuleBook::new(rules))
-}
-
 /// Runs the command that the words name. Its only error is out of memory for the rules and the words.
 fn run(rt: &HostRuntime) -> Result<Status, NoMemory> {
-    let rules = book_of_all(rt.alloc())?;
+    let alloc = rt.alloc();
+    let mut rules = Vec::new(alloc);
+    for kind in &KINDS {
+        let rule = match kind {
+            RuleKind::Fold => Rule::new(RuleKind::Fold, Box::new(alloc, fold)?),
+            RuleKind::AndOnes => Rule::new(RuleKind::AndOnes, Box::new(alloc, and_ones)?),
+            RuleKind::AndZero => Rule::new(RuleKind::AndZero, Box::new(alloc, and_zero)?),
+            RuleKind::OrZero => Rule::new(RuleKind::OrZero, Box::new(alloc, or_zero)?),
+            RuleKind::AddZero => Rule::new(RuleKind::AddZero, Box::new(alloc, add_zero)?),
+            RuleKind::EqSelf => Rule::new(RuleKind::EqSelf, Box::new(alloc, eq_self)?),
+            RuleKind::PickSame => Rule::new(RuleKind::PickSame, Box::new(alloc, pick_same)?),
+        };
+        rules.push(rule)?;
+    }
+    let rules = RuleBook::new(rules);
     let words = words_of(rt)?;
     Ok(run_under(rt, words.as_slice(), &rules))
 }
