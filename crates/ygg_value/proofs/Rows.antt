@@ -63,8 +63,7 @@ use borrow.Rule.Slice.PartMut.{put_mid}
 use Rattle.ygg_value.specs.Flat.{IsFlat}
 use Rattle.ygg_value.specs.Number.{Digits, Grid, IsRow, IsTable}
 use Rattle.ygg_value.specs.Values.{table_read, table_write}
-use Rattle.ygg_value.specs.Shapes.{IsShape, zero_of}
-use Rattle.ygg_value.specs.declared.row.Value.TheVariants.{Table}
+use Rattle.ygg_value.specs.Shapes.{IsShape}
 use Rattle.ygg_value.specs.declared.shape.Shape.TheVariants as shape
 
 -- there are as many rows as were cut
@@ -294,8 +293,8 @@ zero_flat rows words width numbers (r, h, w, m) e = record {
   fits = rw e (All-replicate (λ n. n < 2 ^ width) (rows * words) 0 (pow_pos width));
 }
 
--- such a table is the zeros of its shape
+-- such a table has rows of zeros
 pub zero_grid : (rows words width : ℕ) (numbers : List ℕ) → numbers ≡ replicate (rows * words) 0 →
-    Table (grid width words rows numbers) ≡ zero_of (shape.Table rows words width)
+    grid width words rows numbers ≡ record { width = width; words = words; rows = replicate rows (replicate words 0) }
 zero_grid rows words width numbers e =
-    ap (λ r. Table (record { width = width; words = words; rows = r })) (ap (first_chunks words rows) e ∙ first_chunks-replicate words rows 0)
+    ap (λ r. record { width = width; words = words; rows = r }) (ap (first_chunks words rows) e ∙ first_chunks-replicate words rows 0)

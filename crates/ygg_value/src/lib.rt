@@ -10,7 +10,7 @@ pub mod word;
 pub use operation::Op;
 pub use row::{
     Row, Table, Value, Values, copy_value, row_read, row_write, same, shape_of, table_read,
-    table_write, zero,
+    table_write, zero, zero_row, zero_table,
 };
 pub use shape::Shape;
 pub use word::{Word, apply, not, resize};

@@ -1,5 +1,6 @@
-ghost use Rattle.std.specs.Prelude.{◌≡◌, ◌↔◌, length, IsTrue, IfOk};
+ghost use Rattle.std.specs.Prelude.{◌≡◌, ◌↔◌, length, replicate, IsTrue, IfOk};
 ghost use Rattle.ygg_value.specs.Shapes.{IsShape, IsValue, zero_of, shape_of};
+ghost use Rattle.ygg_value.specs.declared.shape.Shape.TheVariants as shape;
 ghost use Rattle.ygg_value.specs.Values.{row_read, row_write, table_read, table_write, same_value};
 
 use crate::NoRoom;
@@ -49,11 +50,20 @@ impl Model for Table {
 }
 
 /// A word, a row or a table.
-#[derive(Drop)]
 pub enum Value {
     Word(Word),
     Row(Row),
     Table(Table),
+}
+
+impl Drop for Value {
+    fn drop(self) {
+        match self {
+            Value::Word(_) => {}
+            Value::Row(row) => drop(row),
+            Value::Table(table) => drop(table),
+        }
+    }
 }
 
 /// Values in order.
@@ -145,17 +155,35 @@ pub fn zero(alloc: Global, shape: Shape) -> Result<Value, NoRoom>
 {
     match shape {
         Shape::Word { width } => Ok(Value::Word(Word { width, bits: 0 })),
-        Shape::Row { words, width } => Ok(Value::Row(Row {
-            width,
-            words: vec![in alloc; 0; words as usize]?,
-        })),
-        Shape::Table { rows, words, width } => Ok(Value::Table(Table {
-            width,
-            words,
-            rows,
-            numbers: vec![in alloc; 0; rows as usize * words as usize]?,
-        })),
+        Shape::Row { words, width } => Ok(Value::Row(zero_row(alloc, words, width)?)),
+        Shape::Table { rows, words, width } => {
+            Ok(Value::Table(zero_table(alloc, rows, words, width)?))
+        }
     }
+}
+
+/// A row of zeros. Its only error is out of memory.
+pub fn zero_row(alloc: Global, words: u8, width: u8) -> Result<Row, NoRoom>
+    requires { IsShape (shape.Row words width) }
+    ensures { IfOk result (λ row. row ≡ record { width = width; words = replicate words 0 }) }
+{
+    Ok(Row {
+        width,
+        words: vec![in alloc; 0; words as usize]?,
+    })
+}
+
+/// A table of zeros. Its only error is out of memory.
+pub fn zero_table(alloc: Global, rows: u16, words: u8, width: u8) -> Result<Table, NoRoom>
+    requires { IsShape (shape.Table rows words width) }
+    ensures { IfOk result (λ table. table ≡ record { width = width; words = words; rows = replicate rows (replicate words 0) }) }
+{
+    Ok(Table {
+        width,
+        words,
+        rows,
+        numbers: vec![in alloc; 0; rows as usize * words as usize]?,
+    })
 }
 
 /// An equal value. Its only error is out of memory.
