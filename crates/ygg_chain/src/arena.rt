@@ -43,10 +43,17 @@ impl ArenaClause<'_> {
 
 /// Clauses whose literals, of 4 bytes each, stand behind one another in one list. Clauses that patterns make of a block share its literals. Contracts see
 /// the clauses.
-#[derive(Drop)]
 pub struct ClauseArena {
     lits: Vec<PackedLit>,
     stored: Vec<Stored>,
+}
+
+impl Drop for ClauseArena {
+    fn drop(self) {
+        let ClauseArena { lits, stored } = self;
+        drop(lits);
+        drop(stored);
+    }
 }
 
 impl Model for ClauseArena {

@@ -18,12 +18,24 @@ use ygg_list::NoMemory;
 
 /// Holds clauses, numbered from 1, and judges chains over them. Its memory is for the clauses and for the variables that
 /// occur in them, whatever their numbers are. More than 2,147,483,648 variables come to out of memory.
-#[derive(Drop)]
 pub struct Checker {
     store: Store,
     seen: Vec<bool>,
     // the literals of the clause that came last, before they were held
     entered: Vec<PackedLit>,
+}
+
+impl Drop for Checker {
+    fn drop(self) {
+        let Checker {
+            store,
+            seen,
+            entered,
+        } = self;
+        drop(store);
+        drop(seen);
+        drop(entered);
+    }
 }
 
 impl Model for Checker {

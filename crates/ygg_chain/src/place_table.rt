@@ -10,11 +10,18 @@ use ygg_list::NoMemory;
 
 /// The places of variables. Where a variable's number was small for how many there were when it came, its place is near, in a table by
 /// number; else it is far, in a hash map. The table is at most 64 longer than twice as many as there are variables.
-#[derive(Drop)]
 pub struct PlaceTable {
     // by number the place and 1 more, or 0 where none is near
     near: Vec<u32>,
     far: IndexMap<u64, u32>,
+}
+
+impl Drop for PlaceTable {
+    fn drop(self) {
+        let PlaceTable { near, far } = self;
+        drop(near);
+        drop(far);
+    }
 }
 
 impl PlaceTable {

@@ -10,10 +10,17 @@ use ygg_list::NoMemory;
 
 /// Variables in the order in which they came, each once. The place of a variable counts from 0, so tables by place take
 /// memory for the variables that occur and not for the numbers between them. There are at most 2,147,483,648.
-#[derive(Drop)]
 pub struct Variables {
     order: Vec<u64>,
     places: PlaceTable,
+}
+
+impl Drop for Variables {
+    fn drop(self) {
+        let Variables { order, places } = self;
+        drop(order);
+        drop(places);
+    }
 }
 
 impl Model for Variables {

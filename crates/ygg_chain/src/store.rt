@@ -16,10 +16,17 @@ use ygg_list::NoMemory;
 
 /// Clauses in which each variable is replaced by its place among the variables, so that a set of literals is a table by place and no
 /// look-up is made while chains are followed.
-#[derive(Drop)]
 pub struct Store {
     pub variables: Variables,
     pub clauses: ClauseArena,
+}
+
+impl Drop for Store {
+    fn drop(self) {
+        let Store { variables, clauses } = self;
+        drop(variables);
+        drop(clauses);
+    }
 }
 
 impl Store {

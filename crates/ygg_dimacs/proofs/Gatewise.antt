@@ -33,7 +33,8 @@ pub record Counting (gates : List Gate) (start : ClauseCount) (i : ℕ) (now : C
 pub counts_begin : (gates : List Gate) (start : ClauseCount) → Counting gates start 0 start
 counts_begin gates start = record { clauses = refl; variables = refl }
 
-pub counts_go : (gates : List Gate) (start : ClauseCount) (i : ℕ) (now : ClauseCount) (g d : Gate) (cs : List (List Lit)) (next : ClauseCount) → i < length gates →
+pub counts_go : (gates : List Gate) (start : ClauseCount) (i : ℕ) (now : ClauseCount) (g d : Gate) (cs : List (List Lit)) (next : ClauseCount) →
+    i < length gates →
     g ≡ get_or gates i d → cs ≡ gate_clauses (literal (i + 2)) g → Counts now next cs → Counting gates start i now → Counting gates start (i + 1) next
 counts_go gates start i now g d cs next l e own c s =
     let rest = clauses_from (i + 1 + 2) (drop (i + 1) gates) in

@@ -109,7 +109,8 @@ abbrev pub front : ClauseCount → List ℕ
 front total = header_line total.variables total.clauses ++ clause_line (true_literal ∷ [])
 
 -- the text put whole
-pub text_ends : (before middle now : Option (List ℕ)) (kept mid slice last : List ℕ) (gates : List Gate) (goal : Lit) (total : ClauseCount) (Later Since : Type 0)
+pub text_ends : (before middle now : Option (List ℕ)) (kept mid slice last : List ℕ) (gates : List Gate) (goal : Lit) (total : ClauseCount)
+    (Later Since : Type 0)
     (r : Result (Unit {0}) Status) → IsCountOf total (between gates goal) → kept ≡ front total → slice ≡ last → last ≡ clause_line (goal ∷ []) →
     Flows before kept middle mid (clause_lines (clauses_from 2 gates)) → Finishes middle mid now slice Later r → (Later → Since) →
     Finishes before [] now (clauses_text (between gates goal)) Since r

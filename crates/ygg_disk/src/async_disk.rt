@@ -16,7 +16,6 @@ use ygg_value::{Row, Table, Value, Word, table_write};
 
 /// An asynchronous disk in memory, which contracts see as its two tables: what reads see, and what power loss leaves. Each
 /// write takes a pick, which says whether it is stable at once.
-#[derive(Drop)]
 pub struct AsyncDisk {
     alloc: Global,
     geometry: Geometry,
@@ -24,6 +23,21 @@ pub struct AsyncDisk {
     stable: Table,
     // a row on its way from one table to the other
     spare: Row,
+}
+
+impl Drop for AsyncDisk {
+    fn drop(self) {
+        let AsyncDisk {
+            alloc: _,
+            geometry: _,
+            view,
+            stable,
+            spare,
+        } = self;
+        drop(view);
+        drop(stable);
+        drop(spare);
+    }
 }
 
 impl Model for AsyncDisk {

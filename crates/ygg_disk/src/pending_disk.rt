@@ -18,13 +18,25 @@ use ygg_value::{Row, Table, Value, Word, table_write};
 
 /// A disk with a write-back cache in memory, which contracts see as its stable rows and its pending writes with their marks.
 /// The mark of a write is its pick, which says whether the next power loss keeps it.
-#[derive(Drop)]
 pub struct PendingDisk {
     alloc: Global,
     geometry: Geometry,
     stable: Table,
     // the oldest first
     waiting: Vec<Waiting>,
+}
+
+impl Drop for PendingDisk {
+    fn drop(self) {
+        let PendingDisk {
+            alloc: _,
+            geometry: _,
+            stable,
+            waiting,
+        } = self;
+        drop(stable);
+        drop(waiting);
+    }
 }
 
 impl Model for PendingDisk {

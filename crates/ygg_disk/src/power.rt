@@ -21,7 +21,6 @@ pub struct Picks {
 }
 
 /// What a disk is told of power, and what it tells of its calls.
-#[derive(Drop)]
 pub struct Power {
     /// The picks that are taken.
     pub picks: Picks,
@@ -31,6 +30,19 @@ pub struct Power {
     pub passed: u64,
     /// The calls that began, where they are wanted.
     pub events: Option<Events>,
+}
+
+impl Drop for Power {
+    fn drop(self) {
+        let Power {
+            picks,
+            fuse: _,
+            passed: _,
+            events,
+        } = self;
+        drop(picks);
+        drop(events);
+    }
 }
 
 impl Picks {

@@ -8,21 +8,14 @@ ghost use Rattle.ygg_disk.specs.Size.{table_shape, zeros_of, HasSize, IsRowOf};
 use std::alloc::Global;
 use ygg_base::Geometry;
 use ygg_list::NoMemory;
-use ygg_value::{Row, Shape, Table, Value, Word, table_read, table_write, zero};
+use ygg_value::{Row, Table, Word, table_read, table_write};
 
 /// A row of zeros of the disk's size. Its only error is out of memory.
 pub fn zero_row(alloc: Global, geometry: Geometry) -> Result<Row, NoMemory>
     requires { IsShape (table_shape geometry) }
     ensures { IfOk result (λ row. row ≡ record { width = geometry.width; words = replicate geometry.words 0 }) }
 {
-    let shape = Shape::Row {
-        words: geometry.words,
-        width: geometry.width,
-    };
-    match zero(alloc, shape)? {
-        Value::Row(row) => Ok(row),
-        _ => unreachable!(),
-    }
+    ygg_value::zero_row(alloc, geometry.words, geometry.width)
 }
 
 /// A table of zeros of the disk's size. Its only error is out of memory.
@@ -30,15 +23,7 @@ pub fn zero_table(alloc: Global, geometry: Geometry) -> Result<Table, NoMemory>
     requires { IsShape (table_shape geometry) }
     ensures { IfOk result (λ table. table ≡ zeros_of geometry) }
 {
-    let shape = Shape::Table {
-        rows: geometry.rows,
-        words: geometry.words,
-        width: geometry.width,
-    };
-    match zero(alloc, shape)? {
-        Value::Table(table) => Ok(table),
-        _ => unreachable!(),
-    }
+    ygg_value::zero_table(alloc, geometry.rows, geometry.words, geometry.width)
 }
 
 /// The row at a place of a table, counted from 0; zeros past the end. Its only error is out of memory.

@@ -15,11 +15,21 @@ use ygg_value::{Row, Table, Value, Word, table_write};
 
 /// A synchronous disk in memory, which contracts see as its table. Power that fails within a write takes a pick, which says
 /// whether the row was written.
-#[derive(Drop)]
 pub struct SyncDisk {
     alloc: Global,
     geometry: Geometry,
     view: Table,
+}
+
+impl Drop for SyncDisk {
+    fn drop(self) {
+        let SyncDisk {
+            alloc: _,
+            geometry: _,
+            view,
+        } = self;
+        drop(view);
+    }
 }
 
 impl Model for SyncDisk {

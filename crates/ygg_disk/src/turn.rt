@@ -28,7 +28,6 @@ pub enum Did {
 }
 
 /// A call on a disk that began.
-#[derive(Drop)]
 pub struct Event {
     /// Whether the disk was the second of two.
     pub second: bool,
@@ -40,6 +39,20 @@ pub struct Event {
     pub cut: bool,
     /// The picks that the call took; a whole write of a synchronous disk, which takes none, has the one bit 1.
     pub picks: Bits,
+}
+
+impl Drop for Event {
+    fn drop(self) {
+        let Event {
+            second: _,
+            at: _,
+            did,
+            cut: _,
+            picks,
+        } = self;
+        drop(did);
+        drop(picks);
+    }
 }
 
 /// Events in order.

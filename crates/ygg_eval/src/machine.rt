@@ -13,11 +13,21 @@ use ygg_value::Values;
 /// The specification of a layer, or the disk, which contracts see as its number in the file and the values of its variables or tables.
 /// It never answers `Down` or `Failed`, and it can be stopped. Each choice that a specification or a disk makes takes the next pick of
 /// `power`; nothing else of `power` is looked at or changed.
-#[derive(Drop)]
 pub struct SpecLower {
     alloc: Global,
     number: u32,
     state: Values,
+}
+
+impl Drop for SpecLower {
+    fn drop(self) {
+        let SpecLower {
+            alloc: _,
+            number: _,
+            state,
+        } = self;
+        drop(state);
+    }
 }
 
 impl Model for SpecLower {

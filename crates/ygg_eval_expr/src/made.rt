@@ -1,6 +1,6 @@
 //! Values that are made of others.
 
-ghost use Rattle.std.specs.Prelude.{◌≡◌, ◌≤◌, ◌<◌, ◌^◌, IfOk, replicate};
+ghost use Rattle.std.specs.Prelude.{◌≡◌, ◌≤◌, ◌<◌, ◌^◌, IfOk};
 ghost use Rattle.ygg_value.specs.Words.{word};
 ghost use Rattle.ygg_value.specs.Values.{word_in, apply_value, part_of, digit};
 ghost use Rattle.ygg_meaning_laws.specs.Meaning.{is_one};
@@ -10,7 +10,7 @@ use std::alloc::Global;
 use ygg_list::NoMemory;
 use ygg_value::{
     Op, Row, Shape, Table, Value, Word, apply, row_read, row_write, same, shape_of, table_read,
-    zero,
+    zero_row,
 };
 
 /// A single digit that says whether the test passes.
@@ -49,20 +49,6 @@ pub fn operated(op: Op, a: &Value, b: &Value) -> Value
         Op::Eq => digit(same(a, b)),
         Op::Ne => digit(!same(a, b)),
         _ => Value::Word(apply(op, word_in(a), word_in(b))),
-    }
-}
-
-/// A row of zeros. Its only error is out of memory.
-pub fn zero_row(alloc: Global, words: u8, width: u8) -> Result<Row, NoMemory>
-    requires some { 1 ≤ words }
-    requires few { words ≤ 64 }
-    requires least { 1 ≤ width }
-    requires most { width ≤ 64 }
-    ensures { IfOk result (λ row. row ≡ record { width = width; words = replicate words 0 }) }
-{
-    match zero(alloc, Shape::Row { words, width })? {
-        Value::Row(row) => Ok(row),
-        _ => unreachable!(),
     }
 }
 

@@ -9,10 +9,12 @@ ghost use Rattle.ygg_value.specs.declared.shape.Shape.TheVariants.{Row as RowSha
 ghost use Rattle.ygg_meaning_laws.specs.MeaningShapes.{fits};
 ghost use Rattle.ygg_eval_expr.specs.Writing.{CanWrite};
 
-use crate::made::{word_in, zero_row};
+use crate::made::word_in;
 use std::alloc::Global;
 use ygg_list::NoMemory;
-use ygg_value::{Shape, Table, Value, Word, row_write, shape_of, table_read, table_write};
+use ygg_value::{
+    Shape, Table, Value, Word, row_write, shape_of, table_read, table_write, zero_row,
+};
 
 /// Writes a value to the part of another that these indices name, from the outermost on; out of range nothing changes. Its only
 /// error is out of memory, which a word of a table alone may meet, and then nothing has changed.

@@ -16,7 +16,9 @@ use std::alloc::Global;
 use ygg_list::NoMemory;
 use ygg_oblige_laws::shape_of;
 use ygg_syntax::tree::Declared;
-use ygg_value::{Row, Shape, Table, Value, Values, Word, row_write, table_write, zero};
+use ygg_value::{
+    Row, Shape, Table, Value, Values, Word, row_write, table_write, zero_row, zero_table,
+};
 
 /// A place, as a word.
 fn place(number: u16) -> Word
@@ -57,9 +59,7 @@ impl InputTable {
         requires fits { IsTrue (words_fit width words (numbers_from (inputs_in self.now) number words)) }
         ensures { IfOk result (λ row. row ≡ record { width = width; words = numbers_from (inputs_in self.now) number words }) }
     {
-        let Value::Row(mut row) = zero(alloc, Shape::Row { words, width })? else {
-            unreachable!();
-        };
+        let mut row = zero_row(alloc, words, width)?;
         for at in 0..words {
             let input = further(number, u64::from(at))?;
             let word = Word {
@@ -84,9 +84,7 @@ impl InputTable {
         requires fits { IsTrue (list_all (words_fit width words) (rows_from (inputs_in self.now) number rows words)) }
         ensures { IfOk result (λ table. table ≡ record { width = width; words = words; rows = rows_from (inputs_in self.now) number rows words }) }
     {
-        let Value::Table(mut table) = zero(alloc, Shape::Table { rows, words, width })? else {
-            unreachable!();
-        };
+        let mut table = zero_table(alloc, rows, words, width)?;
         let mut next = number;
         for at in 0..rows {
             let row = self.row(alloc, next, words, width)?;

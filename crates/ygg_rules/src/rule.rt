@@ -28,12 +28,18 @@ pub enum RuleKind {
 pub type Judge = Box<dyn Fn(&View) -> Rewrite>;
 
 /// A stored closure that answers every view as the row of its kind says.
-#[derive(Drop)]
 pub struct Rule {
     kind: RuleKind,
     judge: Judge,
     ghost callable: { Judge.IsAlwaysCallable judge },
     ghost answers: { (v : _) (r : _) → Judge.post judge v r → r ≡ row kind v.now },
+}
+
+impl Drop for Rule {
+    fn drop(self) {
+        let Rule { kind: _, judge } = self;
+        drop(judge);
+    }
 }
 
 impl Rule {

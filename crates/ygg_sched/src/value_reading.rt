@@ -1,6 +1,6 @@
 //! Values as they are written, read.
 
-ghost use Rattle.std.specs.Prelude.{◌≡◌, ◌≤◌, ◌<◌, replicate, length, IfOk, IfSome};
+ghost use Rattle.std.specs.Prelude.{◌≡◌, ◌≤◌, ◌<◌, length, IfOk, IfSome};
 ghost use Rattle.std.specs.Option.{option_map};
 ghost use Rattle.ygg_value.specs.Shapes.{IsShape};
 ghost use Rattle.ygg_value.specs.declared.shape.Shape.TheVariants as shape;
@@ -12,7 +12,7 @@ use std::alloc::Global;
 use ygg_base::NoMemory;
 use ygg_syntax::tree::TypeText;
 use ygg_type::named;
-use ygg_value::{Row, Shape, Table, Value, Word, row_write, table_write, zero};
+use ygg_value::{Row, Shape, Table, Value, Word, row_write, table_write, zero_row, zero_table};
 
 /// A place, as a word.
 pub fn place(number: u16) -> Word
@@ -22,28 +22,6 @@ pub fn place(number: u16) -> Word
     Word {
         width: 64,
         bits: u64::from(number),
-    }
-}
-
-/// A row of zeros. Its only error is out of memory.
-pub fn zero_row(alloc: Global, words: u8, width: u8) -> Result<Row, NoMemory>
-    requires { IsShape (shape.Row words width) }
-    ensures { IfOk result (λ row. row ≡ record { width = width; words = replicate words 0 }) }
-{
-    match zero(alloc, Shape::Row { words, width })? {
-        Value::Row(row) => Ok(row),
-        _ => unreachable!(),
-    }
-}
-
-/// A table of zeros. Its only error is out of memory.
-fn zero_table(alloc: Global, rows: u16, words: u8, width: u8) -> Result<Table, NoMemory>
-    requires { IsShape (shape.Table rows words width) }
-    ensures { IfOk result (λ t. t ≡ record { width = width; words = words; rows = replicate rows (replicate words 0) }) }
-{
-    match zero(alloc, Shape::Table { rows, words, width })? {
-        Value::Table(table) => Ok(table),
-        _ => unreachable!(),
     }
 }
 

@@ -6,10 +6,10 @@ ghost use Rattle.ygg_value.specs.declared.shape.Shape.TheVariants as shape;
 ghost use Rattle.ygg_sched.specs.Values.{separator, row_text, value_text};
 
 use crate::number::put_word;
-use crate::value_reading::{place, zero_row};
+use crate::value_reading::place;
 use std::alloc::Global;
 use ygg_base::{NoMemory, Text};
-use ygg_value::{Row, Shape, Table, Value, row_read, shape_of, table_read};
+use ygg_value::{Row, Shape, Table, Value, row_read, shape_of, table_read, zero_row};
 
 /// Adds what stands before the piece at a place: the mark before each but the first. Its only error is out of memory.
 fn put_separator(out: &mut Text, mark: u8, place: u16) -> Result<(), NoMemory>

@@ -11,7 +11,6 @@ pub type SymRow = Sequence<Id>;
 pub type SymTable = Sequence<SymRow>;
 
 /// A word, a row or a table of terms.
-#[derive(Drop)]
 pub enum SymValue {
     /// The term of a word.
     Word(Id),
@@ -19,6 +18,16 @@ pub enum SymValue {
     Row(SymRow),
     /// The rows of a table.
     Table(SymTable),
+}
+
+impl Drop for SymValue {
+    fn drop(self) {
+        match self {
+            SymValue::Word(_) => {}
+            SymValue::Row(row) => drop(row),
+            SymValue::Table(table) => drop(table),
+        }
+    }
 }
 
 /// Values in order.

@@ -79,7 +79,8 @@ module _ (nodes : List Node) (w : ℕ) where
       (parts_of_fit p r (reading_fits nodes facts p.term w (slice_get nodes p.term.0) o refl (All-head Fit p ps h)))
 
   pub below_fit : (p : Summand) (n : Option Node) → InOrder [] nodes → slice_get nodes p.term.0 ≡ n → HasWidth nodes p.term w → PartsFit nodes w (below p n)
-  below_fit p (Some (Pick t x y)) o e h = let c = pick_children nodes p.term t x y w o e h in sides (λ a. HasWidth nodes a w) p x y (p.times == 0) c.first c.second
+  below_fit p (Some (Pick t x y)) o e h = let c = pick_children nodes p.term t x y w o e h in sides (λ a. HasWidth nodes a w) p x y (p.times == 0)
+      c.first c.second
   below_fit p n o e h = All-nil Fit
 
   pub merged_fit : (p : Summand) (ps : List Summand) → HasWidth nodes p.term w → PartsFit nodes w ps → PartsFit nodes w (merged p ps)

@@ -14,7 +14,6 @@ use ygg_shape_words::{Bank, Id, NoMemory, Node};
 use ygg_value::{Word, resize};
 
 /// A product of terms, so many times. Some of its factors were read, and the rest are still to be.
-#[derive(Drop)]
 pub struct Monomial {
     // how many times, modulo 2 ^ 64
     times: u64,
@@ -22,6 +21,18 @@ pub struct Monomial {
     factors: Vec<Id>,
     // the factors that are still to be read
     rest: Vec<Id>,
+}
+
+impl Drop for Monomial {
+    fn drop(self) {
+        let Monomial {
+            times: _,
+            factors,
+            rest,
+        } = self;
+        drop(factors);
+        drop(rest);
+    }
 }
 
 impl Model for Monomial {

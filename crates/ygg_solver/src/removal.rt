@@ -17,7 +17,6 @@ enum Known {
 
 /// Finds the places of the trail whose literals follow from the other literals of a learned clause, as in the recursive
 /// minimization of Sörensson and Biere, with a stack in place of the recursion.
-#[derive(Drop)]
 pub struct Removal {
     /// By place.
     known: Vec<Known>,
@@ -33,6 +32,26 @@ pub struct Removal {
     levels: Vec<bool>,
     /// The places of level 0 that were come by are below it. They are implied by no others, and aren't asked for.
     lowest_end: usize,
+}
+
+impl Drop for Removal {
+    fn drop(self) {
+        let Removal {
+            known,
+            touched,
+            implied,
+            is_seen,
+            stack,
+            levels,
+            lowest_end: _,
+        } = self;
+        drop(known);
+        drop(touched);
+        drop(implied);
+        drop(is_seen);
+        drop(stack);
+        drop(levels);
+    }
 }
 
 impl Removal {

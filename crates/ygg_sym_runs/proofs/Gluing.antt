@@ -36,7 +36,20 @@ use Rattle.ygg_sym_runs.specs.ygg_meaning.Environments.{Name, Env, bind}
 use Rattle.ygg_sym_runs.specs.ygg_meaning.Progress.{Eval, Question, Choice, Call, Answer}
 use Rattle.ygg_sym_runs.specs.ygg_meaning.Machine.{Picks, State, based}
 use Rattle.ygg_sym_runs.specs.ygg_meaning.Layer.{ClosedLayer, operation_of}
-use Rattle.ygg_sym_runs.specs.ygg_meaning_laws.Direct.{Handled, Event, Reached, direct_run, direct_of, room_of, question_space, total, Chained, Within, Alike, seen}
+use Rattle.ygg_sym_runs.specs.ygg_meaning_laws.Direct.{
+  Handled,
+  Event,
+  Reached,
+  direct_run,
+  direct_of,
+  room_of,
+  question_space,
+  total,
+  Chained,
+  Within,
+  Alike,
+  seen,
+}
 use Rattle.ygg_sym_runs.specs.ygg_meaning_laws.Acts.{next_of}
 use Rattle.ygg_sym_runs.specs.ygg_meaning_laws.Places.{Draw, left_after, calling, IsDraw}
 use Rattle.ygg_sym_runs.specs.ygg_meaning_laws.SpecActs.{Ran, spec_does, spec_acts}

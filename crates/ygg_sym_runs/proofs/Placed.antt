@@ -5,7 +5,20 @@ use Rattle.ygg_sym_runs.specs.ygg_meaning.Environments.{Name, Env}
 use Rattle.ygg_sym_runs.specs.ygg_meaning.Progress.{Eval, Question, answer_of}
 use Rattle.ygg_sym_runs.specs.ygg_meaning.Machine.{Picks, State, on, memory_in}
 use Rattle.ygg_sym_runs.specs.ygg_meaning.Layer.{ClosedLayer, eval_of}
-use Rattle.ygg_sym_runs.specs.ygg_meaning_laws.Direct.{Handled, Event, Reached, direct_run, direct_of, room_of, question_space, total, Chained, Within, Alike, seen}
+use Rattle.ygg_sym_runs.specs.ygg_meaning_laws.Direct.{
+  Handled,
+  Event,
+  Reached,
+  direct_run,
+  direct_of,
+  room_of,
+  question_space,
+  total,
+  Chained,
+  Within,
+  Alike,
+  seen,
+}
 use Rattle.ygg_sym_runs.specs.ygg_meaning_laws.Acts.{Taken, Acts, next_of, under}
 use Rattle.ygg_sym_runs.specs.ygg_meaning_laws.Places.{Drawn, Draw, left_after, by_place, calling, IsDraw}
 use Rattle.ygg_sym_runs.specs.ygg_meaning_laws.RunPlaces.{IsTidy, placed_run, runs_by_place}

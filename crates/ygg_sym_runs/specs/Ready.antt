@@ -16,7 +16,16 @@ use Rattle.ygg_syntax.specs.declared.tree.Stmt.TheOpen.{Stmt-F}
 use Rattle.ygg_meaning_laws.specs.ygg_type_rules.TypeErrors.{TypeErrors, none, both}
 use Rattle.ygg_meaning_laws.specs.ygg_type_rules.Scopes.{Scope, is_taken}
 use Rattle.ygg_meaning_laws.specs.ygg_type_rules.Expressions.{with_number, number_errors}
-use Rattle.ygg_meaning_laws.specs.ygg_type_rules.Statements.{source_typing, call_typing, place_rule, assignment_errors, in_order, node_walked, walked, block_errors}
+use Rattle.ygg_meaning_laws.specs.ygg_type_rules.Statements.{
+  source_typing,
+  call_typing,
+  place_rule,
+  assignment_errors,
+  in_order,
+  node_walked,
+  walked,
+  block_errors,
+}
 use Rattle.ygg_meaning_laws.specs.ygg_type_rules.Definitions.{definitions_errors, with_definitions}
 use Rattle.ygg_meaning_laws.specs.ygg_meaning.Environments.{Name}
 use Rattle.ygg_meaning_laws.specs.ygg_meaning.Meaning.{functions_of}

@@ -109,14 +109,14 @@ pub fn part<B: Book>(
     ensures grows { Extends bank.old bank.new }
     ensures bank { IsBank bank.new }
 {
-    match whole {
-        SymValue::Word(term) => Ok(SymValue::Word(term)),
+    match &whole {
+        SymValue::Word(term) => Ok(SymValue::Word(*term)),
         SymValue::Row(row) => {
-            let term = select_word(alloc, bank, book, &row, at)?;
+            let term = select_word(alloc, bank, book, row, at)?;
             Ok(SymValue::Word(term))
         }
         SymValue::Table(table) => {
-            let row = select(alloc, bank, book, &table, at)?;
+            let row = select(alloc, bank, book, table, at)?;
             Ok(SymValue::Row(row))
         }
     }

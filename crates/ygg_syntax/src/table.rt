@@ -11,11 +11,18 @@ use ygg_list::NoMemory;
 
 /// The weights of definitions, each counted once over those before it. Contracts see the list of the definitions that were
 /// taken; of a name the first counts.
-#[derive(Drop)]
 pub struct Weights<'a> {
     taken: Vec<&'a Def>,
     // the weight of each name's first definition, or 1,000,000 where it is more
     known: IndexMap<&'a [u8], u64>,
+}
+
+impl Drop for Weights<'_> {
+    fn drop(self) {
+        let Weights { taken, known } = self;
+        drop(taken);
+        drop(known);
+    }
 }
 
 impl<'a> Model for Weights<'a> {

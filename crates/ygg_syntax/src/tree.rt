@@ -54,7 +54,6 @@ pub enum Quantifier {
 }
 
 /// An expression. Where its first token is no part's own, it begins with that token's place.
-#[derive(Drop)]
 pub enum Expr {
     /// `value:width`.
     Constant(Numeral, Numeral),
@@ -81,7 +80,6 @@ pub enum Expr {
 }
 
 /// What stands on the right side of a `let` or of an assignment. The places are the keywords'.
-#[derive(Drop)]
 pub enum Source {
     Value(Expr),
     /// A word of width 1 that a specification may choose.
@@ -99,7 +97,6 @@ pub struct Index {
 
 /// A statement.
 #[cycle(statements)]
-#[derive(Drop)]
 pub enum Stmt {
     Let(Name, Source),
     /// A variable, the indices of a part of it from the outermost on, and the new value.
@@ -115,7 +112,6 @@ pub enum Stmt {
 /// Statements in braces, and what the block returns. The place is the opening brace's. An optional block that is not
 /// written is an empty one at line 0 and column 0.
 #[cycle(statements)]
-#[derive(Drop)]
 pub struct Block {
     pub place: Place,
     pub statements: Items<Stmt>,
@@ -132,7 +128,6 @@ pub struct DiskText {
 }
 
 /// A definition: a name for an expression over parameters.
-#[derive(Drop)]
 pub struct Def {
     pub name: Name,
     pub parameters: Items<Declared>,
@@ -142,7 +137,6 @@ pub struct Def {
 
 /// An operation: what it does to the state variables, what it may leave where power fails within it, and how it is
 /// implemented on the machine below.
-#[derive(Drop)]
 pub struct Operation {
     pub name: Name,
     pub arguments: Items<Declared>,
@@ -154,14 +148,12 @@ pub struct Operation {
 }
 
 /// A background step, which the specification does not see.
-#[derive(Drop)]
 pub struct Tick {
     pub name: Name,
     pub body: Block,
 }
 
 /// A layer.
-#[derive(Drop)]
 pub struct Layer {
     /// Where its keyword `layer` stands.
     pub place: Place,
@@ -186,9 +178,188 @@ pub struct Layer {
 }
 
 /// A layer file: its disk, its definitions, and its layers from the bottom one up.
-#[derive(Drop)]
 pub struct File {
     pub disk: DiskText,
     pub defs: Items<Def>,
     pub layers: Items<Layer>,
+}
+
+// A tree is let go by a call, so that its variants are told apart in one place and not wherever one is let go.
+
+impl Drop for Expr {
+    fn drop(self) {
+        match self {
+            Expr::Constant(_, _) => {}
+            Expr::Low(_, name) => drop(name),
+            Expr::Variable(name) => drop(name),
+            Expr::Apply(name, arguments) => {
+                drop(name);
+                drop(arguments);
+            }
+            Expr::Binary(_, left, _, _, right) => {
+                drop(left);
+                drop(right);
+            }
+            Expr::Not(_, operand) => drop(operand),
+            Expr::At(whole, _, index) => {
+                drop(whole);
+                drop(index);
+            }
+            Expr::Pick(_, test, first, second) => {
+                drop(test);
+                drop(first);
+                drop(second);
+            }
+            Expr::Resize(_, word, _) => drop(word),
+            Expr::Fill(_, _, word) => drop(word),
+            Expr::Row(_, words) => drop(words),
+            Expr::Quantified(_, _, name, _, _, test) => {
+                drop(name);
+                drop(test);
+            }
+        }
+    }
+}
+
+impl Drop for Source {
+    fn drop(self) {
+        match self {
+            Source::Value(value) => drop(value),
+            Source::Choose(_) => {}
+            Source::Call(_, name, arguments) => {
+                drop(name);
+                drop(arguments);
+            }
+        }
+    }
+}
+
+impl Drop for Stmt {
+    #[cycle(dropped)]
+    fn drop(self) {
+        match self {
+            Stmt::Let(name, source) => {
+                drop(name);
+                drop(source);
+            }
+            Stmt::Assign(name, indices, source) => {
+                drop(name);
+                drop(indices);
+                drop(source);
+            }
+            Stmt::If(test, yes, no) => {
+                drop(test);
+                drop(yes);
+                drop(no);
+            }
+            Stmt::For(name, _, _, body) => {
+                drop(name);
+                drop(body);
+            }
+            Stmt::Call(name, arguments) => {
+                drop(name);
+                drop(arguments);
+            }
+        }
+    }
+}
+
+impl Drop for Block {
+    #[cycle(dropped)]
+    fn drop(self) {
+        let Block {
+            place: _,
+            statements,
+            answer,
+        } = self;
+        drop(statements);
+        drop(answer);
+    }
+}
+
+impl Drop for Def {
+    fn drop(self) {
+        let Def {
+            name,
+            parameters,
+            shape: _,
+            body,
+        } = self;
+        drop(name);
+        drop(parameters);
+        drop(body);
+    }
+}
+
+impl Drop for Operation {
+    fn drop(self) {
+        let Operation {
+            name,
+            arguments,
+            answer: _,
+            spec,
+            on_crash,
+            implementation,
+        } = self;
+        drop(name);
+        drop(arguments);
+        drop(spec);
+        drop(on_crash);
+        drop(implementation);
+    }
+}
+
+impl Drop for Tick {
+    fn drop(self) {
+        let Tick { name, body } = self;
+        drop(name);
+        drop(body);
+    }
+}
+
+impl Drop for Layer {
+    fn drop(self) {
+        let Layer {
+            place: _,
+            name,
+            state,
+            start,
+            memory,
+            format,
+            operations,
+            crash_place: _,
+            crash,
+            ticks,
+            recover,
+            relate,
+            always,
+            settled,
+            maybe,
+        } = self;
+        drop(name);
+        drop(state);
+        drop(start);
+        drop(memory);
+        drop(format);
+        drop(operations);
+        drop(crash);
+        drop(ticks);
+        drop(recover);
+        drop(relate);
+        drop(always);
+        drop(settled);
+        drop(maybe);
+    }
+}
+
+impl Drop for File {
+    fn drop(self) {
+        let File {
+            disk: _,
+            defs,
+            layers,
+        } = self;
+        drop(defs);
+        drop(layers);
+    }
 }

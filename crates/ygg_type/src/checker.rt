@@ -12,7 +12,6 @@ use ygg_value::Shape;
 
 /// What is in scope at a place of a file, and the first of the type errors before it. After running out of memory it is given up: what a call
 /// leaves of it then is not said.
-#[derive(Drop)]
 pub struct Typer<'a> {
     pub alloc: Global,
     /// The definitions that stand before.
@@ -28,6 +27,26 @@ pub struct Typer<'a> {
     /// Parameters, arguments, `let` names, and numbers of loops and quantifiers.
     pub locals: Names<'a, Local>,
     pub first: First,
+}
+
+impl Drop for Typer<'_> {
+    fn drop(self) {
+        let Typer {
+            alloc: _,
+            defs,
+            lower,
+            low,
+            variables,
+            view: _,
+            locals,
+            first: _,
+        } = self;
+        drop(defs);
+        drop(lower);
+        drop(low);
+        drop(variables);
+        drop(locals);
+    }
 }
 
 /// Whether a layer's own variables of that kind are seen.

@@ -33,7 +33,6 @@ pub struct Local {
 }
 
 /// What a definition or an operation takes and gives.
-#[derive(Drop)]
 pub struct Signature {
     /// The shapes of its arguments in order, none where a type has a type error.
     pub arguments: Sequence<Option<Shape>>,
@@ -41,6 +40,17 @@ pub struct Signature {
     pub answers: bool,
     /// The answer's shape, none where there is no answer or its type has a type error.
     pub answer: Option<Shape>,
+}
+
+impl Drop for Signature {
+    fn drop(self) {
+        let Signature {
+            arguments,
+            answers: _,
+            answer: _,
+        } = self;
+        drop(arguments);
+    }
 }
 
 /// What a part of a file sees of its layer's variables and of those below.

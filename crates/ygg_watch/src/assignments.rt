@@ -35,7 +35,6 @@ use ygg_list::NoMemory;
 
 /// The assigned literals in order, their truth by literal, their places by variable, and the place at which each level
 /// begins. All tables are made for the variables below `variable_count`, so that no call but `new` takes memory.
-#[derive(Drop)]
 pub struct Assignments {
     pub entries: Vec<PackedEntry>,
     pub truth: Vec<bool>,
@@ -48,6 +47,22 @@ pub struct Assignments {
     ghost kept: { IsKept entries.items truth.items places.items variable_count },
     ghost reserved: { variable_count ≤ vec_capacity entries },
     ghost levels: { variable_count ≤ vec_capacity starts },
+}
+
+impl Drop for Assignments {
+    fn drop(self) {
+        let Assignments {
+            entries,
+            truth,
+            places,
+            starts,
+            variable_count: _,
+        } = self;
+        drop(entries);
+        drop(truth);
+        drop(places);
+        drop(starts);
+    }
 }
 
 impl Assignments {

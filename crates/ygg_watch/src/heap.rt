@@ -20,7 +20,6 @@ struct Rank {
 
 /// Variables by activity, the most active first, with the value that each had last. Activity is that of the solver Chaff with
 /// the decay of MiniSat: what is added grows with time, so that later conflicts weigh more.
-#[derive(Drop)]
 pub struct Order {
     /// By variable.
     ranks: Vec<Rank>,
@@ -31,6 +30,21 @@ pub struct Order {
     /// What the next conflict adds to an activity.
     step: u64,
     work: Work,
+}
+
+impl Drop for Order {
+    fn drop(self) {
+        let Order {
+            ranks,
+            heap,
+            phases,
+            step: _,
+            work: _,
+        } = self;
+        drop(ranks);
+        drop(heap);
+        drop(phases);
+    }
 }
 
 impl Order {

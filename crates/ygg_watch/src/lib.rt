@@ -1,5 +1,5 @@
-//! Unit propagation: its calls with their meaning; the plain one, which looks at every clause, and that by watched literals; the assigned literals of a search in
-//! order, each with its level and its reason; which variable is decided next, and when to begin again. The last is advice: no proof rests on it.
+//! Unit propagation: its calls with their meaning; the plain one, which looks at every clause, and that by watched literals; the assigned literals of a
+//! search in order, each with its level and its reason; which variable is decided next, and when to begin again. The last is advice: no proof rests on it.
 #![tactic(auto)]
 
 mod assignments;

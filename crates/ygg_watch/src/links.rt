@@ -65,11 +65,23 @@ pub struct WatchNode {
 /// The watches of clauses and their lists. Node 2 * k and node 2 * k + 1 are the two watches of the clause k, side by side in 16 bytes. `firsts` has the
 /// first node of each literal's list by code, plus 1, or 0 where the list is empty. `starts` has the place at which the last new watch of each clause was
 /// found, which is advice.
-#[derive(Drop)]
 pub struct Links {
     nodes: Vec<WatchNode>,
     firsts: Vec<u32>,
     starts: Vec<u32>,
+}
+
+impl Drop for Links {
+    fn drop(self) {
+        let Links {
+            nodes,
+            firsts,
+            starts,
+        } = self;
+        drop(nodes);
+        drop(firsts);
+        drop(starts);
+    }
 }
 
 impl Model for Links {

@@ -13,12 +13,19 @@ use ygg_cnf_set::PackedClause;
 use ygg_list::NoMemory;
 
 /// Propagation that looks at every clause for each literal that it finds.
-#[derive(Drop)]
 pub struct PlainSpread {
     clauses: Vec<PackedClause>,
     trail: Assignments,
     ghost within: { All (IsWithin trail.variable_count) clauses.items },
     ghost few: { length clauses.items ≤ 2 ^ 31 },
+}
+
+impl Drop for PlainSpread {
+    fn drop(self) {
+        let PlainSpread { clauses, trail } = self;
+        drop(clauses);
+        drop(trail);
+    }
 }
 
 impl PlainSpread {

@@ -20,7 +20,6 @@ use ygg_list::NoMemory;
 /// The first `head` assigned literals and the first `seen` clauses have been looked at. A clause that was looked at has a true
 /// literal beside each watched one that is false by such a literal. `frames` has both numbers as they were when each level
 /// was opened, so that calls may come in any order.
-#[derive(Drop)]
 pub struct Watch {
     clauses: Vec<PackedClause>,
     links: Links,
@@ -28,6 +27,23 @@ pub struct Watch {
     frames: Vec<Checkpoint>,
     head: usize,
     seen: usize,
+}
+
+impl Drop for Watch {
+    fn drop(self) {
+        let Watch {
+            clauses,
+            links,
+            trail,
+            frames,
+            head: _,
+            seen: _,
+        } = self;
+        drop(clauses);
+        drop(links);
+        drop(trail);
+        drop(frames);
+    }
 }
 
 impl Model for Watch {

@@ -10,4 +10,5 @@ put_made-requires g c = subst (All (IsPattern 4)) (sym c.mux_rows.ensures) mux_a
 pub returns : goal.returns
 returns g c =
     subst (λ l. OnOk c.put_made.result (g.S.ClauseSink.held c.put_made.new.sink ≡ g.S.ClauseSink.held c.args.sink.now ++ l))
-    (ap (λ rows. map once (map (made (c.args.o ∷ c.args.c ∷ c.args.a ∷ c.args.b ∷ [])) rows)) c.mux_rows.ensures ∙ mux_make c.args.o c.args.c c.args.a c.args.b) c.put_made.ensures
+    (ap (λ rows. map once (map (made (c.args.o ∷ c.args.c ∷ c.args.a ∷ c.args.b ∷ [])) rows)) c.mux_rows.ensures
+    ∙ mux_make c.args.o c.args.c c.args.a c.args.b) c.put_made.ensures

@@ -20,7 +20,8 @@ insert_all-requires-clause-fits c =
 pub returns-clause-exact : goal.returns-clause-exact
 returns-clause-exact c clause =
     let step = kept_first c.args.store.now.variables c.args.store.now.clauses (length c.args.seen.now) c.requires.kept c.insert_all.new.seen
-    c.in-Some.first.now c.in-Some.rest.now c.as_slice.result.now clause (subst (HasClause c.args.store.now.clauses c.in-Some.first.now) (sym c.as_slice.ensures) c.in-Some-numbered.ensures)
+    c.in-Some.first.now c.in-Some.rest.now c.as_slice.result.now clause
+    (subst (HasClause c.args.store.now.clauses c.in-Some.first.now) (sym c.as_slice.ensures) c.in-Some-numbered.ensures)
     (λ y. (
       (λ m. ⊎_elim (λ n. absurd ((c.requires.clear y).0 n)) (λ d. d) ((c.insert_all.ensures.set y).0 m)),
       (λ d. (c.insert_all.ensures.set y).1 (inr d)),
@@ -37,7 +38,8 @@ returns-clause-named c y m =
     subst (λ (l : List ℕ). IsNamed c.args.store.now.clauses l y) (sym c.in-Some.ensures.cases.0)
     (named_first c.args.store.now.clauses c.in-Some.first.now c.in-Some.rest.now y
     (⊎_elim
-    (λ n. ⊎_elim (λ b. absurd ((c.requires.clear y).0 b)) (λ d. inl (c.as_slice.result.now, ((subst (HasClause c.args.store.now.clauses c.in-Some.first.now) (sym c.as_slice.ensures) c.in-Some-numbered.ensures), d)))
+    (λ n. ⊎_elim (λ b. absurd ((c.requires.clear y).0 b)) (λ d. inl
+    (c.as_slice.result.now, ((subst (HasClause c.args.store.now.clauses c.in-Some.first.now) (sym c.as_slice.ensures) c.in-Some-numbered.ensures), d)))
     ((c.insert_all.ensures.set y).0 n))
     (λ k. inr k)
     (c.resolve_rest.ensures.named y m)))

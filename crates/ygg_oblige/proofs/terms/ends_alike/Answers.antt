@@ -34,7 +34,8 @@ returns-clause-nodes g c =
     subst (λ (p : Out Id). OnOk c.settled_alike.result (c.settled_alike.new.bank ≡ p.nodes))
     (end_from (recovered kinds (terms_in kinds l) (closed l) (below_in below) c.args.n.other c.args.low.now c.args.bank.now)
     (λ answer memory base. settled_alike kinds l below c.args.fallen.now c.args.end.now.memory c.args.end.now.low memory base) e.answer e.memory e.low
-    c.recovered.new.bank c.in_ok-other.ensures.end.answer c.in_ok-other.ensures.end.memory c.in_ok-other.ensures.end.low c.in_ok-other.ensures.nodes) c.settled_alike.ensures.nodes
+    c.recovered.new.bank c.in_ok-other.ensures.end.answer c.in_ok-other.ensures.end.memory c.in_ok-other.ensures.end.low c.in_ok-other.ensures.nodes)
+    c.settled_alike.ensures.nodes
 
 pub returns-clause-id : goal.returns-clause-id
 returns-clause-id g c =
@@ -45,7 +46,8 @@ returns-clause-id g c =
     subst (λ (p : Out Id). IfOk c.settled_alike.result (λ (id : Id). id ≡ p.value))
     (end_from (recovered kinds (terms_in kinds l) (closed l) (below_in below) c.args.n.other c.args.low.now c.args.bank.now)
     (λ answer memory base. settled_alike kinds l below c.args.fallen.now c.args.end.now.memory c.args.end.now.low memory base) e.answer e.memory e.low
-    c.recovered.new.bank c.in_ok-other.ensures.end.answer c.in_ok-other.ensures.end.memory c.in_ok-other.ensures.end.low c.in_ok-other.ensures.nodes) c.settled_alike.ensures.id
+    c.recovered.new.bank c.in_ok-other.ensures.end.answer c.in_ok-other.ensures.end.memory c.in_ok-other.ensures.end.low c.in_ok-other.ensures.nodes)
+    c.settled_alike.ensures.id
 
 pub returns-clause-grows : goal.returns-clause-grows
 returns-clause-grows g c =

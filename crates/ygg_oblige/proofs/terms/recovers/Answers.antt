@@ -35,7 +35,8 @@ returns-clause-nodes g c =
     subst (λ (p : Out Id). OnOk c.woken.result (c.woken.new.bank ≡ p.nodes))
     (end_from (recovered kinds (terms_in kinds l) (closed l) (below_in below) c.args.n.wake c.args.fallen.now c.args.bank.now)
     (woken kinds l below (obligation_of c.args.obligation) c.args.hypothesis c.args.vars.now c.args.args.now c.args.fallen.now) e.answer e.memory e.low
-    c.recovered.new.bank c.in_ok-end.ensures.end.answer c.in_ok-end.ensures.end.memory c.in_ok-end.ensures.end.low c.in_ok-end.ensures.nodes) c.woken.ensures.nodes
+    c.recovered.new.bank c.in_ok-end.ensures.end.answer c.in_ok-end.ensures.end.memory c.in_ok-end.ensures.end.low c.in_ok-end.ensures.nodes)
+    c.woken.ensures.nodes
 
 pub returns-clause-id : goal.returns-clause-id
 returns-clause-id g c =

@@ -43,7 +43,8 @@ returns-clause-nodes g c =
     subst (λ (p : Out Id). OnOk c.ends_alike.result (c.ends_alike.new.bank ≡ p.nodes))
     (end_from (recovered kinds (terms_in kinds l) (closed l) (below_in below) c.args.n.wake c.args.fallen.now c.args.bank.now)
     (λ answer memory base. ends_alike kinds l below (numbers_in c.args.n) c.args.low.now c.args.fallen.now memory base) e.answer e.memory e.low
-    c.recovered.new.bank c.in_ok-end.ensures.end.answer c.in_ok-end.ensures.end.memory c.in_ok-end.ensures.end.low c.in_ok-end.ensures.nodes) c.ends_alike.ensures.nodes
+    c.recovered.new.bank c.in_ok-end.ensures.end.answer c.in_ok-end.ensures.end.memory c.in_ok-end.ensures.end.low c.in_ok-end.ensures.nodes)
+    c.ends_alike.ensures.nodes
 
 pub returns-clause-id : goal.returns-clause-id
 returns-clause-id g c =
@@ -54,7 +55,8 @@ returns-clause-id g c =
     subst (λ (p : Out Id). IfOk c.ends_alike.result (λ (id : Id). id ≡ p.value))
     (end_from (recovered kinds (terms_in kinds l) (closed l) (below_in below) c.args.n.wake c.args.fallen.now c.args.bank.now)
     (λ answer memory base. ends_alike kinds l below (numbers_in c.args.n) c.args.low.now c.args.fallen.now memory base) e.answer e.memory e.low
-    c.recovered.new.bank c.in_ok-end.ensures.end.answer c.in_ok-end.ensures.end.memory c.in_ok-end.ensures.end.low c.in_ok-end.ensures.nodes) c.ends_alike.ensures.id
+    c.recovered.new.bank c.in_ok-end.ensures.end.answer c.in_ok-end.ensures.end.memory c.in_ok-end.ensures.end.low c.in_ok-end.ensures.nodes)
+    c.ends_alike.ensures.id
 
 pub returns-clause-grows : goal.returns-clause-grows
 returns-clause-grows g c =

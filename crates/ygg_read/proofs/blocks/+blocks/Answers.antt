@@ -203,7 +203,8 @@ pub statement-returns-in-Some-clause-refused : goal.statement-returns-in-Some-cl
 statement-returns-in-Some-clause-refused t c =
     let taken = rw c.in-Some.is at c.in_ok-name.ensures.taken in
     where_refused c.assignment.result _ _ (λ stopped qs. ap (outcome (statements c.args.kind ∷ qs)) taken
-    ∙ begins_assign c.args.kind c.in-Some.name.text c.in-Some.name.place c.name.new.self qs ∙ stopped (statements c.args.kind ∷ qs)) c.assignment.ensures.refused
+    ∙ begins_assign c.args.kind c.in-Some.name.text c.in-Some.name.place c.name.new.self qs ∙ stopped (statements c.args.kind ∷ qs))
+    c.assignment.ensures.refused
 
 pub statement-returns-in-Some-clause-shorter : goal.statement-returns-in-Some-clause-shorter
 statement-returns-in-Some-clause-shorter t c =
@@ -214,7 +215,8 @@ pub statement-returns-in-Some-keyword-clause-reads : goal.statement-returns-in-S
 statement-returns-in-Some-keyword-clause-reads t c =
     let left = rw c.in_default.is at c.in_ok-name.ensures.left in
     let taken = sym left ∙ c.in-Some-keyword.ensures.taken in
-    where_read c.binding.result _ _ (λ s read qs. ap (in_turn (phrase.statement s c.args.kind ∷ qs)) taken ∙ read c.in-Some-keyword.field-0 qs) c.binding.ensures.reads
+    where_read c.binding.result _ _ (λ s read qs. ap (in_turn (phrase.statement s c.args.kind ∷ qs)) taken ∙ read c.in-Some-keyword.field-0 qs)
+    c.binding.ensures.reads
 
 pub statement-returns-in-Some-keyword-clause-goes : goal.statement-returns-in-Some-keyword-clause-goes
 statement-returns-in-Some-keyword-clause-goes t c =
@@ -240,7 +242,8 @@ pub statement-returns-in-Some-keyword-2-clause-reads : goal.statement-returns-in
 statement-returns-in-Some-keyword-2-clause-reads t c =
     let left = rw c.in_default.is at c.in_ok-name.ensures.left in
     let taken = sym left ∙ sym c.in_default-keyword.ensures.left ∙ c.in-Some-keyword-2.ensures.taken in
-    where_read c.branch-reader.result _ _ (λ s read qs. ap (in_turn (phrase.statement s c.args.kind ∷ qs)) taken ∙ read c.in-Some-keyword-2.field-0 qs) c.branch-reader.ensures.reads
+    where_read c.branch-reader.result _ _ (λ s read qs. ap (in_turn (phrase.statement s c.args.kind ∷ qs)) taken
+    ∙ read c.in-Some-keyword-2.field-0 qs) c.branch-reader.ensures.reads
 
 pub statement-returns-in-Some-keyword-2-clause-goes : goal.statement-returns-in-Some-keyword-2-clause-goes
 statement-returns-in-Some-keyword-2-clause-goes t c =
@@ -266,7 +269,8 @@ pub statement-returns-in-Some-keyword-3-clause-reads : goal.statement-returns-in
 statement-returns-in-Some-keyword-3-clause-reads t c =
     let left = rw c.in_default.is at c.in_ok-name.ensures.left in
     let taken = sym left ∙ sym c.in_default-keyword.ensures.left ∙ sym c.in_default-keyword-2.ensures.left ∙ c.in-Some-keyword-3.ensures.taken in
-    where_read c.repetition.result _ _ (λ s read qs. ap (in_turn (phrase.statement s c.args.kind ∷ qs)) taken ∙ read c.in-Some-keyword-3.field-0 qs) c.repetition.ensures.reads
+    where_read c.repetition.result _ _ (λ s read qs. ap (in_turn (phrase.statement s c.args.kind ∷ qs)) taken ∙ read c.in-Some-keyword-3.field-0 qs)
+    c.repetition.ensures.reads
 
 pub statement-returns-in-Some-keyword-3-clause-goes : goal.statement-returns-in-Some-keyword-3-clause-goes
 statement-returns-in-Some-keyword-3-clause-goes t c =
@@ -291,7 +295,8 @@ statement-returns-in-Some-keyword-3-clause-shorter t c =
 pub statement-returns-in-Some-keyword-4-clause-reads : goal.statement-returns-in-Some-keyword-4-clause-reads
 statement-returns-in-Some-keyword-4-clause-reads t c =
     let left = rw c.in_default.is at c.in_ok-name.ensures.left in
-    let taken = sym left ∙ sym c.in_default-keyword.ensures.left ∙ sym c.in_default-keyword-2.ensures.left ∙ sym c.in_default-keyword-3.ensures.left ∙ c.in-Some-keyword-4.ensures.taken in
+    let taken = sym left ∙ sym c.in_default-keyword.ensures.left ∙ sym c.in_default-keyword-2.ensures.left ∙ sym c.in_default-keyword-3.ensures.left
+    ∙ c.in-Some-keyword-4.ensures.taken in
     let is = calls c.args.kind c.in-Some-keyword-4.field-0 c.keyword-4.new.self (sym (ap (begins c.args.kind) taken) ∙ c.requires) in
     where_read c.call.result _ _ (λ s read qs. ap (λ kind. in_turn (phrase.statement s kind ∷ qs) c.args.reader.now) is
     ∙ ap (in_turn (phrase.statement s Impl ∷ qs)) taken ∙ read c.in-Some-keyword-4.field-0 qs) c.call.ensures.reads
@@ -299,7 +304,8 @@ statement-returns-in-Some-keyword-4-clause-reads t c =
 pub statement-returns-in-Some-keyword-4-clause-goes : goal.statement-returns-in-Some-keyword-4-clause-goes
 statement-returns-in-Some-keyword-4-clause-goes t c =
     let left = rw c.in_default.is at c.in_ok-name.ensures.left in
-    let taken = sym left ∙ sym c.in_default-keyword.ensures.left ∙ sym c.in_default-keyword-2.ensures.left ∙ sym c.in_default-keyword-3.ensures.left ∙ c.in-Some-keyword-4.ensures.taken in
+    let taken = sym left ∙ sym c.in_default-keyword.ensures.left ∙ sym c.in_default-keyword-2.ensures.left ∙ sym c.in_default-keyword-3.ensures.left
+    ∙ c.in-Some-keyword-4.ensures.taken in
     let is = calls c.args.kind c.in-Some-keyword-4.field-0 c.keyword-4.new.self (sym (ap (begins c.args.kind) taken) ∙ c.requires) in
     where_gone c.call.result _ _ (λ gone qs. ap (λ kind. outcome (statements kind ∷ qs) c.args.reader.now) is
     ∙ ap (outcome (statements Impl ∷ qs)) taken ∙ begins_call c.in-Some-keyword-4.field-0 c.keyword-4.new.self qs ∙ gone (statements Impl ∷ qs)
@@ -308,15 +314,18 @@ statement-returns-in-Some-keyword-4-clause-goes t c =
 pub statement-returns-in-Some-keyword-4-clause-refused : goal.statement-returns-in-Some-keyword-4-clause-refused
 statement-returns-in-Some-keyword-4-clause-refused t c =
     let left = rw c.in_default.is at c.in_ok-name.ensures.left in
-    let taken = sym left ∙ sym c.in_default-keyword.ensures.left ∙ sym c.in_default-keyword-2.ensures.left ∙ sym c.in_default-keyword-3.ensures.left ∙ c.in-Some-keyword-4.ensures.taken in
+    let taken = sym left ∙ sym c.in_default-keyword.ensures.left ∙ sym c.in_default-keyword-2.ensures.left ∙ sym c.in_default-keyword-3.ensures.left
+    ∙ c.in-Some-keyword-4.ensures.taken in
     let is = calls c.args.kind c.in-Some-keyword-4.field-0 c.keyword-4.new.self (sym (ap (begins c.args.kind) taken) ∙ c.requires) in
     where_refused c.call.result _ _ (λ stopped qs. ap (λ kind. outcome (statements kind ∷ qs) c.args.reader.now) is
-    ∙ ap (outcome (statements Impl ∷ qs)) taken ∙ begins_call c.in-Some-keyword-4.field-0 c.keyword-4.new.self qs ∙ stopped (statements Impl ∷ qs)) c.call.ensures.refused
+    ∙ ap (outcome (statements Impl ∷ qs)) taken ∙ begins_call c.in-Some-keyword-4.field-0 c.keyword-4.new.self qs ∙ stopped (statements Impl ∷ qs))
+    c.call.ensures.refused
 
 pub statement-returns-in-Some-keyword-4-clause-shorter : goal.statement-returns-in-Some-keyword-4-clause-shorter
 statement-returns-in-Some-keyword-4-clause-shorter t c =
     let left = rw c.in_default.is at c.in_ok-name.ensures.left in
-    let taken = sym left ∙ sym c.in_default-keyword.ensures.left ∙ sym c.in_default-keyword-2.ensures.left ∙ sym c.in_default-keyword-3.ensures.left ∙ c.in-Some-keyword-4.ensures.taken in
+    let taken = sym left ∙ sym c.in_default-keyword.ensures.left ∙ sym c.in_default-keyword-2.ensures.left ∙ sym c.in_default-keyword-3.ensures.left
+    ∙ c.in-Some-keyword-4.ensures.taken in
     where_gone c.call.result _ _ (λ shorter. omega (arith, shorter, ap length taken)) c.call.ensures.shorter
 
 pub statement-returns-clause-refused : goal.statement-returns-clause-refused

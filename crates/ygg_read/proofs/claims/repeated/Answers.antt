@@ -15,7 +15,8 @@ loop-all-preserved c =
     let reads = rw step.1.0 at c.rest_of_claim.ensures.reads in
     let goes = rw step.1.0 at c.rest_of_claim.ensures.goes in
     let shorter = rw step.1.0 at c.rest_of_claim.ensures.shorter in
-    one_more (claim c.args.keyword) c.args.keyword rest_of_claim _ c.loop-all.reader c.keyword.new.self c.rest_of_claim.new.reader c.loop-all.all c.in-Some-2.more step.0
+    one_more (claim c.args.keyword) c.args.keyword rest_of_claim _ c.loop-all.reader c.keyword.new.self c.rest_of_claim.new.reader c.loop-all.all
+    c.in-Some-2.more step.0
     c.in-Some.field-0 c.loop-all.invariant c.in-Some.ensures.taken (reads c.args.keyword c.in-Some.field-0) goes shorter step.1.1
 
 pub loop-all-smaller : goal.loop-all-smaller

@@ -35,7 +35,8 @@ vanishes_split-split_of-requires-clause-parts g t c =
 pub vanishes_split-vanishes_where-requires : goal.vanishes_split-vanishes_where-requires
 vanishes_split-vanishes_where-requires g t c κs within =
     let n = sym c.in-Some.is ∙ c.in_ok-split_of.ensures ∙ ap (λ (ps : List Summand). split_of c.args.bank.now c.args.left.now ps) c.parts.ensures in
-    let digit = split_digit c.args.bank.now c.args.width c.args.left.now (c.args.sum.now).parts c.in-Some.test c.requires.bank.ordered c.requires.parts (sym n) in
+    let digit = split_digit c.args.bank.now c.args.width c.args.left.now (c.args.sum.now).parts c.in-Some.test c.requires.bank.ordered
+    c.requires.parts (sym n) in
     (omega arith, (search rules, (c.requires.bank, (c.requires.width, (c.requires.facts, (digit, c.requires.parts))))))
 
 pub vanishes_split-vanishes_where-requires-in-Some : goal.vanishes_split-vanishes_where-requires-in-Some

@@ -9,7 +9,8 @@ use Rattle.ygg_shape_words.proofs.comparing.+same_within.Goals as goal
 pub returns-then-depth-eq0-clause-made : goal.returns-then-depth-eq0-clause-made
 returns-then-depth-eq0-clause-made g t c =
     each_ok c.plain.result c.plain.ensures.nodes c.plain.ensures.form
-    (λ answer. zero_answer (g.B.Book.kinds c.args.book.now) c.args.depth c.args.progress.now c.args.one c.args.two c.args.bank.now c.plain.new.bank answer c.if-depth-eq0.true)
+    (λ answer. zero_answer (g.B.Book.kinds c.args.book.now) c.args.depth c.args.progress.now c.args.one c.args.two c.args.bank.now c.plain.new.bank
+    answer c.if-depth-eq0.true)
 
 pub returns-then-depth-eq0-clause-known : goal.returns-then-depth-eq0-clause-known
 returns-then-depth-eq0-clause-known g t c =
@@ -20,7 +21,8 @@ pub returns-in-One-clause-made : goal.returns-in-One-clause-made
 returns-in-One-clause-made g t c =
     let l : 0 < c.args.depth = omega arith in
     each_ok c.make.result c.make.ensures.nodes c.make.ensures.id
-    (λ answer. one_answer (g.B.Book.kinds c.args.book.now) c.args.depth c.args.progress.now c.args.one c.args.two c.args.bank.now c.make.new.self answer l c.in-One.ensures.value)
+    (λ answer. one_answer (g.B.Book.kinds c.args.book.now) c.args.depth c.args.progress.now c.args.one c.args.two c.args.bank.now c.make.new.self
+    answer l c.in-One.ensures.value)
 
 pub returns-in-One-clause-known : goal.returns-in-One-clause-known
 returns-in-One-clause-known g t c =
@@ -37,7 +39,8 @@ pub returns-in-Plain-clause-made : goal.returns-in-Plain-clause-made
 returns-in-Plain-clause-made g t c =
     let l : 0 < c.args.depth = omega arith in
     each_ok c.plain-in-Plain.result c.plain-in-Plain.ensures.nodes c.plain-in-Plain.ensures.form
-    (λ answer. plain_answer (g.B.Book.kinds c.args.book.now) c.args.depth c.args.progress.now c.args.one c.args.two c.args.bank.now c.plain-in-Plain.new.bank answer l c.in-Plain.ensures.value)
+    (λ answer. plain_answer (g.B.Book.kinds c.args.book.now) c.args.depth c.args.progress.now c.args.one c.args.two c.args.bank.now
+    c.plain-in-Plain.new.bank answer l c.in-Plain.ensures.value)
 
 pub returns-in-Plain-clause-known : goal.returns-in-Plain-clause-known
 returns-in-Plain-clause-known g t c =
@@ -140,7 +143,8 @@ pub returns-in-Never-clause-made : goal.returns-in-Never-clause-made
 returns-in-Never-clause-made g t c =
     let l : 0 < c.args.depth = omega arith in
     each_ok c.make-in-Never.result c.make-in-Never.ensures.nodes c.make-in-Never.ensures.id
-    (λ answer. never_answer (g.B.Book.kinds c.args.book.now) c.args.depth c.args.progress.now c.args.one c.args.two c.args.bank.now c.make-in-Never.new.self answer l c.in-Never.ensures.value)
+    (λ answer. never_answer (g.B.Book.kinds c.args.book.now) c.args.depth c.args.progress.now c.args.one c.args.two c.args.bank.now
+    c.make-in-Never.new.self answer l c.in-Never.ensures.value)
 
 pub returns-in-Never-clause-known : goal.returns-in-Never-clause-known
 returns-in-Never-clause-known g t c =
@@ -172,7 +176,8 @@ pub returns-in_ok-answer-in-Against-clause-made : goal.returns-in_ok-answer-in-A
 returns-in_ok-answer-in-Against-clause-made g t c =
     let l : 0 < c.args.depth = omega arith in
     this_ok _ c.learn-in-Against.result c.in_ok-answer-in-Against.answer c.learn-in-Against.ensures.learned c.learn-in-Against.ensures.answer
-    (λ learned. against_answer (g.B.Book.kinds c.args.book.now) c.args.depth c.args.progress.now c.spend-in-Against.new.self c.same_within-in-Against.new.progress
+    (λ learned. against_answer (g.B.Book.kinds c.args.book.now) c.args.depth c.args.progress.now c.spend-in-Against.new.self
+    c.same_within-in-Against.new.progress
     c.learn-in-Against.new.self c.args.one c.args.two c.in-Against.term c.in-Against.word c.in_ok-constant-in-Against.constant
     c.in_ok-answer-in-Against.answer c.args.bank.now c.make-in-Against.new.self c.same_within-in-Against.new.bank l c.in-Against.ensures.value
     c.spend-in-Against.ensures c.in_ok-constant-in-Against.ensures.nodes c.in_ok-constant-in-Against.ensures.id c.in_ok-answer-in-Against.ensures.made

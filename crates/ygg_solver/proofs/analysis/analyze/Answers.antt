@@ -32,7 +32,8 @@ collect-requires c = record { falses = c.in_ok-minimize.ensures.falses }
 
 pub returns-clause-derived : goal.returns-clause-derived
 returns-clause-derived c =
-    subst (λ (l : List ℕ). DerivesClause (HasClause c.args.clauses.now) l c.in_ok-clause.clause) (append-nil c.minimize.new.chain.items ∙ sym c.shrink_to_fit.ensures.items)
+    subst (λ (l : List ℕ). DerivesClause (HasClause c.args.clauses.now) l c.in_ok-clause.clause)
+    (append-nil c.minimize.new.chain.items ∙ sym c.shrink_to_fit.ensures.items)
     (c.in_ok-minimize.ensures.reached [] c.in_ok-clause.clause c.in_ok-clause.ensures)
 
 pub returns-clause-teaches : goal.returns-clause-teaches

@@ -27,7 +27,8 @@ loop-entry-preserved c =
           (not_true _ w.if-not-entry.true) (sym name) w.in_ok-set_true.ensures.here w.in_ok-set_true.ensures.others)
       | else-variable-gt0 w ↦ rw w.values-is (elim w.else-variable-gt0.branch [
         | else-variable-gt0-via-then-variable-gt0+else-not-entry v ↦
-            values_kept variables c.requires.distinct trail c.requires.trail i e c.loop-entry.values.items at c.loop-entry.invariant (inl (not_false _ v.if-not-entry.false))
+            values_kept variables c.requires.distinct trail c.requires.trail i e c.loop-entry.values.items at c.loop-entry.invariant
+            (inl (not_false _ v.if-not-entry.false))
         | else-variable-gt0-via-else-variable-gt0 v ↦
             values_kept variables c.requires.distinct trail c.requires.trail i e c.loop-entry.values.items at c.loop-entry.invariant
             (inr (let none = v.if-variable-gt0.false in omega (arith, name, none)))

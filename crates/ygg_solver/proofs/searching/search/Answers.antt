@@ -28,7 +28,8 @@ returns-in_default-last_decision g c =
     let log : List Step = c.loop-conflict.log in
     let step : Step = Added c.new.result c.from_vec.result in
     let d : DerivesClause (HasClause (given ++ map clause_of log)) c.from_vec.result c.new.result
-    = derives_as _ c.clauses-held.result.now _ c.in_ok-chain.chain.items [] _ (c.clauses-held.ensures ∙ (c.to_conflict.ensures.same ∙ c.loop-conflict.invariant.learned))
+    = derives_as _ c.clauses-held.result.now _ c.in_ok-chain.chain.items [] _
+    (c.clauses-held.ensures ∙ (c.to_conflict.ensures.same ∙ c.loop-conflict.invariant.learned))
     (sym c.from_vec.ensures) (sym c.new.ensures) c.in_ok-chain.ensures in
     subst (λ (l : List Step). Refutes given l × ((length l ≤ c.args.budget) × All (IsWithin c.args.variable_count) (map clause_of l)))
     (sym c.in_ok-push.ensures.ok) (
@@ -72,7 +73,8 @@ returns-then-len-budget g c =
     let log : List Step = c.loop-conflict.log in
     let clause : List Lit = c.in_ok-clause.field-0.clause in
     let step : Step = Added clause c.from_vec-in-loop-conflict.result in
-    let held : c.clauses-held.result.now ≡ given ++ map clause_of log = c.clauses-held.ensures ∙ (c.to_conflict.ensures.same ∙ c.loop-conflict.invariant.learned) in
+    let held : c.clauses-held.result.now ≡ given ++ map clause_of log = c.clauses-held.ensures
+    ∙ (c.to_conflict.ensures.same ∙ c.loop-conflict.invariant.learned) in
     let d : DerivesClause (HasClause (given ++ map clause_of log)) c.from_vec-in-loop-conflict.result clause
     = derives_as _ c.clauses-held.result.now _ c.in_ok-clause.field-0.chain.items clause clause held
     (sym c.from_vec-in-loop-conflict.ensures) refl c.in_ok-clause.ensures.derived in (

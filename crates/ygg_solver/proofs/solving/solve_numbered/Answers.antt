@@ -18,7 +18,8 @@ ended budget end held clauses trail kept count size h t n e =
 pub answer_of-requires-clause-end : goal.answer_of-requires-clause-end
 answer_of-requires-clause-end c = (
   c.args.clauses.items,
-  ended c.args.budget c.in_ok-end.end _ c.args.clauses.items _ c.trail.result.now _ (length c.args.variables.now) c.in_ok-propagation.ensures.fresh.held c.trail.ensures
+  ended c.args.budget c.in_ok-end.end _ c.args.clauses.items _ c.trail.result.now _ (length c.args.variables.now)
+      c.in_ok-propagation.ensures.fresh.held c.trail.ensures
       c.len-variable_count.ensures.len c.in_ok-end.ensures,
 )
 

@@ -13,7 +13,8 @@ invariant-loop-before l =
     record {
       first : first_after l.checker.first.type_error (layers_errors (drop l.before l.all) l.before l.names defs (below_in (scope_of l.checker))
           (weights_of l.weights))
-          ≡ first_after l.initial.checker.first.type_error (layers_errors l.all 0 l.initial.names defs (below_in (scope_of l.initial.checker)) (weights_of l.weights));
+          ≡ first_after l.initial.checker.first.type_error (layers_errors l.all 0 l.initial.names defs (below_in (scope_of l.initial.checker))
+          (weights_of l.weights));
       ready : IsReady (scope_of l.checker);
       defs : l.checker.defs ≡ defs;
     }

@@ -9,7 +9,8 @@ use Rattle.ygg_watch.proofs.spreading.spread.Goals as goal
 pub loop-id-smaller : goal.loop-id-smaller
 loop-id-smaller c =
     let within : c.in-Unit.lit.var < c.loop-id.trail.variable_count
-    = let w = within_of c.args.clauses.now c.args.trail.now.variable_count c.in-Unit.id c.in-Unit.ensures.0 c.in-Unit.lit c.requires.within c.in-Unit.ensures.1.0
+    = let w = within_of c.args.clauses.now c.args.trail.now.variable_count c.in-Unit.id c.in-Unit.ensures.0 c.in-Unit.lit c.requires.within
+    c.in-Unit.ensures.1.0
     c.in-Unit.ensures.1.1.0 in
     omega (arith, w, c.loop-id.invariant.variable_count) in
     let l : length c.loop-id.trail.entries.items < c.loop-id.trail.variable_count = has_place c.loop-id.trail.entries.items
@@ -21,7 +22,8 @@ loop-id-smaller c =
 pub loop-id-preserved : goal.loop-id-preserved
 loop-id-preserved c =
     let within : c.in-Unit.lit.var < c.loop-id.trail.variable_count
-    = let w = within_of c.args.clauses.now c.args.trail.now.variable_count c.in-Unit.id c.in-Unit.ensures.0 c.in-Unit.lit c.requires.within c.in-Unit.ensures.1.0
+    = let w = within_of c.args.clauses.now c.args.trail.now.variable_count c.in-Unit.id c.in-Unit.ensures.0 c.in-Unit.lit c.requires.within
+    c.in-Unit.ensures.1.0
     c.in-Unit.ensures.1.1.0 in
     omega (arith, w, c.loop-id.invariant.variable_count) in
     let clauses : List (List Lit) = c.args.clauses.now in

@@ -327,7 +327,8 @@ loop-at-preserved c =
           (subst (IsOnTrail c.loop-at.trail.entries.items) other (rw w.in-Keep.is at c.judge.ensures)))
       | in-Move w ↦ (let judged = rw w.in-Move.is at c.judge.ensures in
           let v : w.in-Move.lit.var < c.loop-at.trail.variable_count =
-          lit_within c.args.clauses.now c.loop-at.trail.variable_count _ c.held_clause.result.now w.in-Move.lit n.live.variables c.held_clause.ensures judged.0 in
+          lit_within c.args.clauses.now c.loop-at.trail.variable_count _ c.held_clause.result.now w.in-Move.lit n.live.variables c.held_clause.ensures
+          judged.0 in
           after_same c.args.clauses.now _ c.link-in-loop-at.new.self.watched _ c.link-in-loop-at.new.self.next _ c.link-in-loop-at.new.self.firsts _
           c.match-judge.trail.entries.items _ c.match-judge.trail.variable_count c.args.frames.now c.args.head c.args.seen c.code-code_now.result _
           c.next-at.result (length c.loop-at.invariant.pending.0) (c.link-in-loop-at.ensures.watched ∙ (ap (λ (l : Linked). l.watched) (w.links-is ∙
@@ -446,7 +447,8 @@ loop-at-smaller c =
           (subst (IsOnTrail c.loop-at.trail.entries.items) other (rw w.in-Keep.is at c.judge.ensures)))
       | in-Move w ↦ (let judged = rw w.in-Move.is at c.judge.ensures in
           let v : w.in-Move.lit.var < c.loop-at.trail.variable_count =
-          lit_within c.args.clauses.now c.loop-at.trail.variable_count _ c.held_clause.result.now w.in-Move.lit n.live.variables c.held_clause.ensures judged.0 in
+          lit_within c.args.clauses.now c.loop-at.trail.variable_count _ c.held_clause.result.now w.in-Move.lit n.live.variables c.held_clause.ensures
+          judged.0 in
           after_same c.args.clauses.now _ c.link-in-loop-at.new.self.watched _ c.link-in-loop-at.new.self.next _ c.link-in-loop-at.new.self.firsts _
           c.match-judge.trail.entries.items _ c.match-judge.trail.variable_count c.args.frames.now c.args.head c.args.seen c.code-code_now.result _
           c.next-at.result (length c.loop-at.invariant.pending.0) (c.link-in-loop-at.ensures.watched ∙ (ap (λ (l : Linked). l.watched) (w.links-is ∙

@@ -167,145 +167,181 @@ atom-returns-in-Some-keyword-clause-shorter t c =
 pub atom-returns-in-Some-keyword-2-clause-reads : goal.atom-returns-in-Some-keyword-2-clause-reads
 atom-returns-in-Some-keyword-2-clause-reads t c =
     let left = rw c.in_default.is at c.in_ok-name.ensures.left in
-    let taken = sym left ∙ sym c.in_default-number.ensures.left ∙ sym c.in_default-symbol.ensures.left ∙ sym c.in_default-keyword.ensures.left ∙ c.in-Some-keyword-2.ensures.taken in
+    let taken = sym left ∙ sym c.in_default-number.ensures.left ∙ sym c.in_default-symbol.ensures.left ∙ sym c.in_default-keyword.ensures.left
+    ∙ c.in-Some-keyword-2.ensures.taken in
     rw taken c.pick.ensures.reads
 
 pub atom-returns-in-Some-keyword-2-clause-goes : goal.atom-returns-in-Some-keyword-2-clause-goes
 atom-returns-in-Some-keyword-2-clause-goes t c =
     let left = rw c.in_default.is at c.in_ok-name.ensures.left in
-    let taken = sym left ∙ sym c.in_default-number.ensures.left ∙ sym c.in_default-symbol.ensures.left ∙ sym c.in_default-keyword.ensures.left ∙ c.in-Some-keyword-2.ensures.taken in
+    let taken = sym left ∙ sym c.in_default-number.ensures.left ∙ sym c.in_default-symbol.ensures.left ∙ sym c.in_default-keyword.ensures.left
+    ∙ c.in-Some-keyword-2.ensures.taken in
     rw taken c.pick.ensures.goes
 
 pub atom-returns-in-Some-keyword-2-clause-refused : goal.atom-returns-in-Some-keyword-2-clause-refused
 atom-returns-in-Some-keyword-2-clause-refused t c =
     let left = rw c.in_default.is at c.in_ok-name.ensures.left in
-    let taken = sym left ∙ sym c.in_default-number.ensures.left ∙ sym c.in_default-symbol.ensures.left ∙ sym c.in_default-keyword.ensures.left ∙ c.in-Some-keyword-2.ensures.taken in
+    let taken = sym left ∙ sym c.in_default-number.ensures.left ∙ sym c.in_default-symbol.ensures.left ∙ sym c.in_default-keyword.ensures.left
+    ∙ c.in-Some-keyword-2.ensures.taken in
     rw taken c.pick.ensures.refused
 
 pub atom-returns-in-Some-keyword-2-clause-shorter : goal.atom-returns-in-Some-keyword-2-clause-shorter
 atom-returns-in-Some-keyword-2-clause-shorter t c =
     let left = rw c.in_default.is at c.in_ok-name.ensures.left in
-    let taken = sym left ∙ sym c.in_default-number.ensures.left ∙ sym c.in_default-symbol.ensures.left ∙ sym c.in_default-keyword.ensures.left ∙ c.in-Some-keyword-2.ensures.taken in
+    let taken = sym left ∙ sym c.in_default-number.ensures.left ∙ sym c.in_default-symbol.ensures.left ∙ sym c.in_default-keyword.ensures.left
+    ∙ c.in-Some-keyword-2.ensures.taken in
     where_gone c.pick.result _ _ (λ shorter. omega (arith, shorter, ap length taken)) c.pick.ensures.shorter
 
 pub atom-returns-in-Some-keyword-3-clause-reads : goal.atom-returns-in-Some-keyword-3-clause-reads
 atom-returns-in-Some-keyword-3-clause-reads t c =
     let left = rw c.in_default.is at c.in_ok-name.ensures.left in
-    let taken = sym left ∙ sym c.in_default-number.ensures.left ∙ sym c.in_default-symbol.ensures.left ∙ sym c.in_default-keyword.ensures.left ∙ sym c.in_default-keyword-2.ensures.left ∙ c.in-Some-keyword-3.ensures.taken in
+    let taken = sym left ∙ sym c.in_default-number.ensures.left ∙ sym c.in_default-symbol.ensures.left ∙ sym c.in_default-keyword.ensures.left
+    ∙ sym c.in_default-keyword-2.ensures.left ∙ c.in-Some-keyword-3.ensures.taken in
     rw taken c.resize.ensures.reads
 
 pub atom-returns-in-Some-keyword-3-clause-goes : goal.atom-returns-in-Some-keyword-3-clause-goes
 atom-returns-in-Some-keyword-3-clause-goes t c =
     let left = rw c.in_default.is at c.in_ok-name.ensures.left in
-    let taken = sym left ∙ sym c.in_default-number.ensures.left ∙ sym c.in_default-symbol.ensures.left ∙ sym c.in_default-keyword.ensures.left ∙ sym c.in_default-keyword-2.ensures.left ∙ c.in-Some-keyword-3.ensures.taken in
+    let taken = sym left ∙ sym c.in_default-number.ensures.left ∙ sym c.in_default-symbol.ensures.left ∙ sym c.in_default-keyword.ensures.left
+    ∙ sym c.in_default-keyword-2.ensures.left ∙ c.in-Some-keyword-3.ensures.taken in
     rw taken c.resize.ensures.goes
 
 pub atom-returns-in-Some-keyword-3-clause-refused : goal.atom-returns-in-Some-keyword-3-clause-refused
 atom-returns-in-Some-keyword-3-clause-refused t c =
     let left = rw c.in_default.is at c.in_ok-name.ensures.left in
-    let taken = sym left ∙ sym c.in_default-number.ensures.left ∙ sym c.in_default-symbol.ensures.left ∙ sym c.in_default-keyword.ensures.left ∙ sym c.in_default-keyword-2.ensures.left ∙ c.in-Some-keyword-3.ensures.taken in
+    let taken = sym left ∙ sym c.in_default-number.ensures.left ∙ sym c.in_default-symbol.ensures.left ∙ sym c.in_default-keyword.ensures.left
+    ∙ sym c.in_default-keyword-2.ensures.left ∙ c.in-Some-keyword-3.ensures.taken in
     rw taken c.resize.ensures.refused
 
 pub atom-returns-in-Some-keyword-3-clause-shorter : goal.atom-returns-in-Some-keyword-3-clause-shorter
 atom-returns-in-Some-keyword-3-clause-shorter t c =
     let left = rw c.in_default.is at c.in_ok-name.ensures.left in
-    let taken = sym left ∙ sym c.in_default-number.ensures.left ∙ sym c.in_default-symbol.ensures.left ∙ sym c.in_default-keyword.ensures.left ∙ sym c.in_default-keyword-2.ensures.left ∙ c.in-Some-keyword-3.ensures.taken in
+    let taken = sym left ∙ sym c.in_default-number.ensures.left ∙ sym c.in_default-symbol.ensures.left ∙ sym c.in_default-keyword.ensures.left
+    ∙ sym c.in_default-keyword-2.ensures.left ∙ c.in-Some-keyword-3.ensures.taken in
     where_gone c.resize.result _ _ (λ shorter. omega (arith, shorter, ap length taken)) c.resize.ensures.shorter
 
 pub atom-returns-in-Some-keyword-4-clause-reads : goal.atom-returns-in-Some-keyword-4-clause-reads
 atom-returns-in-Some-keyword-4-clause-reads t c =
     let left = rw c.in_default.is at c.in_ok-name.ensures.left in
-    let taken = sym left ∙ sym c.in_default-number.ensures.left ∙ sym c.in_default-symbol.ensures.left ∙ sym c.in_default-keyword.ensures.left ∙ sym c.in_default-keyword-2.ensures.left ∙ sym c.in_default-keyword-3.ensures.left ∙ c.in-Some-keyword-4.ensures.taken in
+    let taken = sym left ∙ sym c.in_default-number.ensures.left ∙ sym c.in_default-symbol.ensures.left ∙ sym c.in_default-keyword.ensures.left
+    ∙ sym c.in_default-keyword-2.ensures.left ∙ sym c.in_default-keyword-3.ensures.left ∙ c.in-Some-keyword-4.ensures.taken in
     rw taken c.fill.ensures.reads
 
 pub atom-returns-in-Some-keyword-4-clause-goes : goal.atom-returns-in-Some-keyword-4-clause-goes
 atom-returns-in-Some-keyword-4-clause-goes t c =
     let left = rw c.in_default.is at c.in_ok-name.ensures.left in
-    let taken = sym left ∙ sym c.in_default-number.ensures.left ∙ sym c.in_default-symbol.ensures.left ∙ sym c.in_default-keyword.ensures.left ∙ sym c.in_default-keyword-2.ensures.left ∙ sym c.in_default-keyword-3.ensures.left ∙ c.in-Some-keyword-4.ensures.taken in
+    let taken = sym left ∙ sym c.in_default-number.ensures.left ∙ sym c.in_default-symbol.ensures.left ∙ sym c.in_default-keyword.ensures.left
+    ∙ sym c.in_default-keyword-2.ensures.left ∙ sym c.in_default-keyword-3.ensures.left ∙ c.in-Some-keyword-4.ensures.taken in
     rw taken c.fill.ensures.goes
 
 pub atom-returns-in-Some-keyword-4-clause-refused : goal.atom-returns-in-Some-keyword-4-clause-refused
 atom-returns-in-Some-keyword-4-clause-refused t c =
     let left = rw c.in_default.is at c.in_ok-name.ensures.left in
-    let taken = sym left ∙ sym c.in_default-number.ensures.left ∙ sym c.in_default-symbol.ensures.left ∙ sym c.in_default-keyword.ensures.left ∙ sym c.in_default-keyword-2.ensures.left ∙ sym c.in_default-keyword-3.ensures.left ∙ c.in-Some-keyword-4.ensures.taken in
+    let taken = sym left ∙ sym c.in_default-number.ensures.left ∙ sym c.in_default-symbol.ensures.left ∙ sym c.in_default-keyword.ensures.left
+    ∙ sym c.in_default-keyword-2.ensures.left ∙ sym c.in_default-keyword-3.ensures.left ∙ c.in-Some-keyword-4.ensures.taken in
     rw taken c.fill.ensures.refused
 
 pub atom-returns-in-Some-keyword-4-clause-shorter : goal.atom-returns-in-Some-keyword-4-clause-shorter
 atom-returns-in-Some-keyword-4-clause-shorter t c =
     let left = rw c.in_default.is at c.in_ok-name.ensures.left in
-    let taken = sym left ∙ sym c.in_default-number.ensures.left ∙ sym c.in_default-symbol.ensures.left ∙ sym c.in_default-keyword.ensures.left ∙ sym c.in_default-keyword-2.ensures.left ∙ sym c.in_default-keyword-3.ensures.left ∙ c.in-Some-keyword-4.ensures.taken in
+    let taken = sym left ∙ sym c.in_default-number.ensures.left ∙ sym c.in_default-symbol.ensures.left ∙ sym c.in_default-keyword.ensures.left
+    ∙ sym c.in_default-keyword-2.ensures.left ∙ sym c.in_default-keyword-3.ensures.left ∙ c.in-Some-keyword-4.ensures.taken in
     where_gone c.fill.result _ _ (λ shorter. omega (arith, shorter, ap length taken)) c.fill.ensures.shorter
 
 pub atom-returns-in-Some-keyword-5-clause-reads : goal.atom-returns-in-Some-keyword-5-clause-reads
 atom-returns-in-Some-keyword-5-clause-reads t c =
     let left = rw c.in_default.is at c.in_ok-name.ensures.left in
-    let taken = sym left ∙ sym c.in_default-number.ensures.left ∙ sym c.in_default-symbol.ensures.left ∙ sym c.in_default-keyword.ensures.left ∙ sym c.in_default-keyword-2.ensures.left ∙ sym c.in_default-keyword-3.ensures.left ∙ sym c.in_default-keyword-4.ensures.left ∙ c.in-Some-keyword-5.ensures.taken in
+    let taken = sym left ∙ sym c.in_default-number.ensures.left ∙ sym c.in_default-symbol.ensures.left ∙ sym c.in_default-keyword.ensures.left
+    ∙ sym c.in_default-keyword-2.ensures.left ∙ sym c.in_default-keyword-3.ensures.left ∙ sym c.in_default-keyword-4.ensures.left
+    ∙ c.in-Some-keyword-5.ensures.taken in
     rw taken c.row.ensures.reads
 
 pub atom-returns-in-Some-keyword-5-clause-goes : goal.atom-returns-in-Some-keyword-5-clause-goes
 atom-returns-in-Some-keyword-5-clause-goes t c =
     let left = rw c.in_default.is at c.in_ok-name.ensures.left in
-    let taken = sym left ∙ sym c.in_default-number.ensures.left ∙ sym c.in_default-symbol.ensures.left ∙ sym c.in_default-keyword.ensures.left ∙ sym c.in_default-keyword-2.ensures.left ∙ sym c.in_default-keyword-3.ensures.left ∙ sym c.in_default-keyword-4.ensures.left ∙ c.in-Some-keyword-5.ensures.taken in
+    let taken = sym left ∙ sym c.in_default-number.ensures.left ∙ sym c.in_default-symbol.ensures.left ∙ sym c.in_default-keyword.ensures.left
+    ∙ sym c.in_default-keyword-2.ensures.left ∙ sym c.in_default-keyword-3.ensures.left ∙ sym c.in_default-keyword-4.ensures.left
+    ∙ c.in-Some-keyword-5.ensures.taken in
     rw taken c.row.ensures.goes
 
 pub atom-returns-in-Some-keyword-5-clause-refused : goal.atom-returns-in-Some-keyword-5-clause-refused
 atom-returns-in-Some-keyword-5-clause-refused t c =
     let left = rw c.in_default.is at c.in_ok-name.ensures.left in
-    let taken = sym left ∙ sym c.in_default-number.ensures.left ∙ sym c.in_default-symbol.ensures.left ∙ sym c.in_default-keyword.ensures.left ∙ sym c.in_default-keyword-2.ensures.left ∙ sym c.in_default-keyword-3.ensures.left ∙ sym c.in_default-keyword-4.ensures.left ∙ c.in-Some-keyword-5.ensures.taken in
+    let taken = sym left ∙ sym c.in_default-number.ensures.left ∙ sym c.in_default-symbol.ensures.left ∙ sym c.in_default-keyword.ensures.left
+    ∙ sym c.in_default-keyword-2.ensures.left ∙ sym c.in_default-keyword-3.ensures.left ∙ sym c.in_default-keyword-4.ensures.left
+    ∙ c.in-Some-keyword-5.ensures.taken in
     rw taken c.row.ensures.refused
 
 pub atom-returns-in-Some-keyword-5-clause-shorter : goal.atom-returns-in-Some-keyword-5-clause-shorter
 atom-returns-in-Some-keyword-5-clause-shorter t c =
     let left = rw c.in_default.is at c.in_ok-name.ensures.left in
-    let taken = sym left ∙ sym c.in_default-number.ensures.left ∙ sym c.in_default-symbol.ensures.left ∙ sym c.in_default-keyword.ensures.left ∙ sym c.in_default-keyword-2.ensures.left ∙ sym c.in_default-keyword-3.ensures.left ∙ sym c.in_default-keyword-4.ensures.left ∙ c.in-Some-keyword-5.ensures.taken in
+    let taken = sym left ∙ sym c.in_default-number.ensures.left ∙ sym c.in_default-symbol.ensures.left ∙ sym c.in_default-keyword.ensures.left
+    ∙ sym c.in_default-keyword-2.ensures.left ∙ sym c.in_default-keyword-3.ensures.left ∙ sym c.in_default-keyword-4.ensures.left
+    ∙ c.in-Some-keyword-5.ensures.taken in
     where_gone c.row.result _ _ (λ shorter. omega (arith, shorter, ap length taken)) c.row.ensures.shorter
 
 pub atom-returns-in-Some-keyword-6-clause-reads : goal.atom-returns-in-Some-keyword-6-clause-reads
 atom-returns-in-Some-keyword-6-clause-reads t c =
     let left = rw c.in_default.is at c.in_ok-name.ensures.left in
-    let taken = sym left ∙ sym c.in_default-number.ensures.left ∙ sym c.in_default-symbol.ensures.left ∙ sym c.in_default-keyword.ensures.left ∙ sym c.in_default-keyword-2.ensures.left ∙ sym c.in_default-keyword-3.ensures.left ∙ sym c.in_default-keyword-4.ensures.left ∙ sym c.in_default-keyword-5.ensures.left ∙ c.in-Some-keyword-6.ensures.taken in
+    let taken = sym left ∙ sym c.in_default-number.ensures.left ∙ sym c.in_default-symbol.ensures.left ∙ sym c.in_default-keyword.ensures.left
+    ∙ sym c.in_default-keyword-2.ensures.left ∙ sym c.in_default-keyword-3.ensures.left ∙ sym c.in_default-keyword-4.ensures.left
+    ∙ sym c.in_default-keyword-5.ensures.left ∙ c.in-Some-keyword-6.ensures.taken in
     rw taken c.quantified.ensures.reads
 
 pub atom-returns-in-Some-keyword-6-clause-goes : goal.atom-returns-in-Some-keyword-6-clause-goes
 atom-returns-in-Some-keyword-6-clause-goes t c =
     let left = rw c.in_default.is at c.in_ok-name.ensures.left in
-    let taken = sym left ∙ sym c.in_default-number.ensures.left ∙ sym c.in_default-symbol.ensures.left ∙ sym c.in_default-keyword.ensures.left ∙ sym c.in_default-keyword-2.ensures.left ∙ sym c.in_default-keyword-3.ensures.left ∙ sym c.in_default-keyword-4.ensures.left ∙ sym c.in_default-keyword-5.ensures.left ∙ c.in-Some-keyword-6.ensures.taken in
+    let taken = sym left ∙ sym c.in_default-number.ensures.left ∙ sym c.in_default-symbol.ensures.left ∙ sym c.in_default-keyword.ensures.left
+    ∙ sym c.in_default-keyword-2.ensures.left ∙ sym c.in_default-keyword-3.ensures.left ∙ sym c.in_default-keyword-4.ensures.left
+    ∙ sym c.in_default-keyword-5.ensures.left ∙ c.in-Some-keyword-6.ensures.taken in
     rw taken c.quantified.ensures.goes
 
 pub atom-returns-in-Some-keyword-6-clause-refused : goal.atom-returns-in-Some-keyword-6-clause-refused
 atom-returns-in-Some-keyword-6-clause-refused t c =
     let left = rw c.in_default.is at c.in_ok-name.ensures.left in
-    let taken = sym left ∙ sym c.in_default-number.ensures.left ∙ sym c.in_default-symbol.ensures.left ∙ sym c.in_default-keyword.ensures.left ∙ sym c.in_default-keyword-2.ensures.left ∙ sym c.in_default-keyword-3.ensures.left ∙ sym c.in_default-keyword-4.ensures.left ∙ sym c.in_default-keyword-5.ensures.left ∙ c.in-Some-keyword-6.ensures.taken in
+    let taken = sym left ∙ sym c.in_default-number.ensures.left ∙ sym c.in_default-symbol.ensures.left ∙ sym c.in_default-keyword.ensures.left
+    ∙ sym c.in_default-keyword-2.ensures.left ∙ sym c.in_default-keyword-3.ensures.left ∙ sym c.in_default-keyword-4.ensures.left
+    ∙ sym c.in_default-keyword-5.ensures.left ∙ c.in-Some-keyword-6.ensures.taken in
     rw taken c.quantified.ensures.refused
 
 pub atom-returns-in-Some-keyword-6-clause-shorter : goal.atom-returns-in-Some-keyword-6-clause-shorter
 atom-returns-in-Some-keyword-6-clause-shorter t c =
     let left = rw c.in_default.is at c.in_ok-name.ensures.left in
-    let taken = sym left ∙ sym c.in_default-number.ensures.left ∙ sym c.in_default-symbol.ensures.left ∙ sym c.in_default-keyword.ensures.left ∙ sym c.in_default-keyword-2.ensures.left ∙ sym c.in_default-keyword-3.ensures.left ∙ sym c.in_default-keyword-4.ensures.left ∙ sym c.in_default-keyword-5.ensures.left ∙ c.in-Some-keyword-6.ensures.taken in
+    let taken = sym left ∙ sym c.in_default-number.ensures.left ∙ sym c.in_default-symbol.ensures.left ∙ sym c.in_default-keyword.ensures.left
+    ∙ sym c.in_default-keyword-2.ensures.left ∙ sym c.in_default-keyword-3.ensures.left ∙ sym c.in_default-keyword-4.ensures.left
+    ∙ sym c.in_default-keyword-5.ensures.left ∙ c.in-Some-keyword-6.ensures.taken in
     where_gone c.quantified.result _ _ (λ shorter. omega (arith, shorter, ap length taken)) c.quantified.ensures.shorter
 
 pub atom-returns-in-Some-keyword-7-clause-reads : goal.atom-returns-in-Some-keyword-7-clause-reads
 atom-returns-in-Some-keyword-7-clause-reads t c =
     let left = rw c.in_default.is at c.in_ok-name.ensures.left in
-    let taken = sym left ∙ sym c.in_default-number.ensures.left ∙ sym c.in_default-symbol.ensures.left ∙ sym c.in_default-keyword.ensures.left ∙ sym c.in_default-keyword-2.ensures.left ∙ sym c.in_default-keyword-3.ensures.left ∙ sym c.in_default-keyword-4.ensures.left ∙ sym c.in_default-keyword-5.ensures.left ∙ sym c.in_default-keyword-6.ensures.left ∙ c.in-Some-keyword-7.ensures.taken in
+    let taken = sym left ∙ sym c.in_default-number.ensures.left ∙ sym c.in_default-symbol.ensures.left ∙ sym c.in_default-keyword.ensures.left
+    ∙ sym c.in_default-keyword-2.ensures.left ∙ sym c.in_default-keyword-3.ensures.left ∙ sym c.in_default-keyword-4.ensures.left
+    ∙ sym c.in_default-keyword-5.ensures.left ∙ sym c.in_default-keyword-6.ensures.left ∙ c.in-Some-keyword-7.ensures.taken in
     rw taken c.quantified-in-Some-keyword-7.ensures.reads
 
 pub atom-returns-in-Some-keyword-7-clause-goes : goal.atom-returns-in-Some-keyword-7-clause-goes
 atom-returns-in-Some-keyword-7-clause-goes t c =
     let left = rw c.in_default.is at c.in_ok-name.ensures.left in
-    let taken = sym left ∙ sym c.in_default-number.ensures.left ∙ sym c.in_default-symbol.ensures.left ∙ sym c.in_default-keyword.ensures.left ∙ sym c.in_default-keyword-2.ensures.left ∙ sym c.in_default-keyword-3.ensures.left ∙ sym c.in_default-keyword-4.ensures.left ∙ sym c.in_default-keyword-5.ensures.left ∙ sym c.in_default-keyword-6.ensures.left ∙ c.in-Some-keyword-7.ensures.taken in
+    let taken = sym left ∙ sym c.in_default-number.ensures.left ∙ sym c.in_default-symbol.ensures.left ∙ sym c.in_default-keyword.ensures.left
+    ∙ sym c.in_default-keyword-2.ensures.left ∙ sym c.in_default-keyword-3.ensures.left ∙ sym c.in_default-keyword-4.ensures.left
+    ∙ sym c.in_default-keyword-5.ensures.left ∙ sym c.in_default-keyword-6.ensures.left ∙ c.in-Some-keyword-7.ensures.taken in
     rw taken c.quantified-in-Some-keyword-7.ensures.goes
 
 pub atom-returns-in-Some-keyword-7-clause-refused : goal.atom-returns-in-Some-keyword-7-clause-refused
 atom-returns-in-Some-keyword-7-clause-refused t c =
     let left = rw c.in_default.is at c.in_ok-name.ensures.left in
-    let taken = sym left ∙ sym c.in_default-number.ensures.left ∙ sym c.in_default-symbol.ensures.left ∙ sym c.in_default-keyword.ensures.left ∙ sym c.in_default-keyword-2.ensures.left ∙ sym c.in_default-keyword-3.ensures.left ∙ sym c.in_default-keyword-4.ensures.left ∙ sym c.in_default-keyword-5.ensures.left ∙ sym c.in_default-keyword-6.ensures.left ∙ c.in-Some-keyword-7.ensures.taken in
+    let taken = sym left ∙ sym c.in_default-number.ensures.left ∙ sym c.in_default-symbol.ensures.left ∙ sym c.in_default-keyword.ensures.left
+    ∙ sym c.in_default-keyword-2.ensures.left ∙ sym c.in_default-keyword-3.ensures.left ∙ sym c.in_default-keyword-4.ensures.left
+    ∙ sym c.in_default-keyword-5.ensures.left ∙ sym c.in_default-keyword-6.ensures.left ∙ c.in-Some-keyword-7.ensures.taken in
     rw taken c.quantified-in-Some-keyword-7.ensures.refused
 
 pub atom-returns-in-Some-keyword-7-clause-shorter : goal.atom-returns-in-Some-keyword-7-clause-shorter
 atom-returns-in-Some-keyword-7-clause-shorter t c =
     let left = rw c.in_default.is at c.in_ok-name.ensures.left in
-    let taken = sym left ∙ sym c.in_default-number.ensures.left ∙ sym c.in_default-symbol.ensures.left ∙ sym c.in_default-keyword.ensures.left ∙ sym c.in_default-keyword-2.ensures.left ∙ sym c.in_default-keyword-3.ensures.left ∙ sym c.in_default-keyword-4.ensures.left ∙ sym c.in_default-keyword-5.ensures.left ∙ sym c.in_default-keyword-6.ensures.left ∙ c.in-Some-keyword-7.ensures.taken in
+    let taken = sym left ∙ sym c.in_default-number.ensures.left ∙ sym c.in_default-symbol.ensures.left ∙ sym c.in_default-keyword.ensures.left
+    ∙ sym c.in_default-keyword-2.ensures.left ∙ sym c.in_default-keyword-3.ensures.left ∙ sym c.in_default-keyword-4.ensures.left
+    ∙ sym c.in_default-keyword-5.ensures.left ∙ sym c.in_default-keyword-6.ensures.left ∙ c.in-Some-keyword-7.ensures.taken in
     where_gone c.quantified-in-Some-keyword-7.result _ _ (λ shorter. omega (arith, shorter, ap length taken)) c.quantified-in-Some-keyword-7.ensures.shorter
 
 pub expression-returns-in-Some-clause-reads : goal.expression-returns-in-Some-clause-reads
