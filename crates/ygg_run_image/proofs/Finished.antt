@@ -90,7 +90,7 @@ left_filled f name how (Some told) mid now attached attached' at (images, is, ot
         FinishTurns f how (attachment_for f name) old new → FormatsImage f name how attached' told ends
     by_end end.Done ends old new is others h = (others, (new, is, h))
     by_end end.Failed ends old new is others h = (others, inr (new, is, h))
-    by_end end.Memory ends old new is others h = (others, inr (new, is, h))
+    by_end end.Memory ends old new is others h = absurd h
 
 -- an image that is formatted is left so
 finished_unfinished : (f : File) (i : Image) → IsFinished f i → IsUnfinished f i

@@ -62,11 +62,11 @@ pub record IsUnfinished (f : File) (i : Image) : Type 0 where
   pub view : IsSealed (geometry_of f.disk) i.view → IsWhole f i.view
   pub stable : IsSealed (geometry_of f.disk) i.stable → IsWhole f i.stable
 
--- what sealing an image that holds the rows of a format makes of it
+-- what sealing an image that holds the rows of a format makes of it; this takes no memory
 abbrev pub FinishTurns : File → FormatEnd → Attachment → (before now : Image) → Type 0
 FinishTurns f end.Done a before now = IsFinished f now
 FinishTurns f end.Failed a before now = IsUnfinished f now
-FinishTurns f end.Memory a before now = IsUnfinished f now
+FinishTurns f end.Memory a before now = ⊥
 
 -- this is so of the image of a name
 abbrev pub OfImage : (Image → Type 0) → List ℕ → List Image → Type 0

@@ -14,7 +14,7 @@ ghost use Rattle.ygg_run_image.specs.declared.unmounted.Unmounted.TheVariants as
 use crate::header::judge_header;
 use crate::reason::ImageReason;
 use crate::row::is_row_block;
-use crate::size::block_size;
+use crate::size::{LARGEST_BLOCK, block_size};
 use crate::unmounted::Unmounted;
 use ygg_base::{Device, Geometry, Moved};
 use ygg_value::Row;
@@ -51,7 +51,7 @@ fn judge_first<D: Device>(geometry: Geometry, bytes: u64, device: &mut D) -> Res
     ensures cause { result ≡ Err unmounted.DeviceFailed → Rose (D.faults device.old) (D.faults device.new) }
 {
     let size = block_size(geometry) as usize;
-    let block = &mut [0u8; 512][..size];
+    let block = &mut [0u8; LARGEST_BLOCK][..size];
     if let Moved::Failed = read_first(geometry, bytes, block, device) {
         return Err(Unmounted::DeviceFailed);
     }
@@ -142,6 +142,12 @@ pub(crate) fn judge<D: Device>(
 {
     judge_first(geometry, bytes, device)?;
     let size = block_size(geometry) as usize;
-    let block = &mut [0u8; 512][..size];
-    judge_rows(geometry, block, row, &mut [0u8; 512][..size], device)
+    let block = &mut [0u8; LARGEST_BLOCK][..size];
+    judge_rows(
+        geometry,
+        block,
+        row,
+        &mut [0u8; LARGEST_BLOCK][..size],
+        device,
+    )
 }

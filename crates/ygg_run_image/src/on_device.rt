@@ -11,7 +11,7 @@ ghost use Rattle.ygg_run_image.specs.declared.end.FormatEnd.TheVariants.{Failed}
 use crate::end::FormatEnd;
 use crate::filling::fill;
 use crate::seal::seal;
-use crate::size::block_size;
+use crate::size::{LARGEST_BLOCK, block_size};
 use std::alloc::Global;
 use ygg_base::{Device, Moved, Text};
 use ygg_machine::Typed;
@@ -26,7 +26,7 @@ fn finish<D: Device>(typed: &Typed, device: &mut D) -> FormatEnd
 {
     let geometry = typed.geometry();
     let size = block_size(geometry) as usize;
-    match seal(geometry, &mut [0u8; 512][..size], device) {
+    match seal(geometry, &mut [0u8; LARGEST_BLOCK][..size], device) {
         Moved::Done => FormatEnd::Done,
         Moved::Failed => FormatEnd::Failed,
     }

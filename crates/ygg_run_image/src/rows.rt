@@ -13,7 +13,7 @@ ghost use Rattle.ygg_run_image.specs.Sight.{Holds, held};
 ghost use Rattle.ygg_run_image.specs.Turning.{FlushesDisk, WritesBlock, WritesRow};
 
 use crate::row::{decode_row, encode_row};
-use crate::size::block_size;
+use crate::size::{LARGEST_BLOCK, block_size};
 use ygg_base::{Device, DiskKind, Geometry, Moved};
 use ygg_value::Row;
 
@@ -34,7 +34,7 @@ pub(crate) fn known_row(geometry: Geometry, row: &Row)
     ensures { AreWords geometry row.now.words }
 {
     let size = block_size(geometry) as usize;
-    encode_row(geometry, row, &mut [0u8; 512][..size]);
+    encode_row(geometry, row, &mut [0u8; LARGEST_BLOCK][..size]);
 }
 
 /// Reads the row at a place that the disk has, by way of a block.
@@ -88,7 +88,13 @@ pub(crate) fn read_row<D: Device>(
         return Moved::Done;
     }
     let size = held_size(device, geometry);
-    read_block(device, geometry, at as u32, row, &mut [0u8; 512][..size])
+    read_block(
+        device,
+        geometry,
+        at as u32,
+        row,
+        &mut [0u8; LARGEST_BLOCK][..size],
+    )
 }
 
 /// Writes the block at a place that the disk has, on a synchronous disk with a flush.
@@ -141,7 +147,13 @@ pub(crate) fn write_row<D: Device>(device: &mut D, geometry: Geometry, at: u64, 
         return Moved::Done;
     }
     let size = held_size(device, geometry);
-    put_row(device, geometry, at as u32, row, &mut [0u8; 512][..size])
+    put_row(
+        device,
+        geometry,
+        at as u32,
+        row,
+        &mut [0u8; LARGEST_BLOCK][..size],
+    )
 }
 
 /// Makes all that was written stable, which it is already on a synchronous disk.

@@ -5,6 +5,9 @@ ghost use Rattle.ygg_run_image.specs.Image.{word_bytes, block_bytes};
 
 use ygg_base::Geometry;
 
+/// The most bytes that a block has: those of a row of 64 words of 64 digits.
+pub(crate) const LARGEST_BLOCK: usize = 512;
+
 /// How many bytes a word has in an image: those of its digits, rounded up.
 pub(crate) fn word_size(geometry: Geometry) -> usize
     requires { IsShape (table_shape geometry) }

@@ -131,7 +131,7 @@ fn all_hold(alloc: Global, name: &Text, stories: &[Story]) -> bool {
 }
 
 /// Whether the stories are, with an image of this name.
-fn hold_of(alloc: Global, name: &[u8]) -> bool {
+fn all_hold_for(alloc: Global, name: &[u8]) -> bool {
     match Text::from_slice(alloc, name) {
         Ok(name) => all_hold(alloc, &name, &STORIES),
         Err(_) => false,
@@ -140,5 +140,5 @@ fn hold_of(alloc: Global, name: &[u8]) -> bool {
 
 #[test]
 fn what_is_written_is_read_fails_or_is_lost(rt: HostRuntime) {
-    assert!(rt; hold_of(rt.alloc(), b"image"));
+    assert!(rt; all_hold_for(rt.alloc(), b"image"));
 }

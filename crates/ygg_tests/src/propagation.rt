@@ -41,13 +41,13 @@ fn three(alloc: Global) -> Result<Clauses, NoMemory>
 }
 
 /// Whether each variable has its value for its reason.
-fn are<P: Propagate>(propagation: &P, wanted: &[(u64, bool, u64)]) -> bool {
-    let mut are = true;
+fn have_values<P: Propagate>(propagation: &P, wanted: &[(u64, bool, u64)]) -> bool {
+    let mut all = true;
     for (var, value, reason) in wanted {
-        are &= propagation.assigned(*var).is_some_and(|found| found.value == *value
+        all &= propagation.assigned(*var).is_some_and(|found| found.value == *value
             && found.reason == Some(*reason));
     }
-    are
+    all
 }
 
 /// Whether deciding 1 gives 3 by the second clause and -2 by the third.
@@ -59,7 +59,7 @@ fn implies<P: Propagate>(propagation: &mut P) -> bool
         return false;
     }
     propagation.decide(lit(1, false));
-    propagation.spread() == Found::Quiet && are(propagation, &[(3, true, 2), (2, false, 3)])
+    propagation.spread() == Found::Quiet && have_values(propagation, &[(3, true, 2), (2, false, 3)])
 }
 
 /// Adds the clause that a variable is false, and says whether that was done.
@@ -82,7 +82,7 @@ fn is_worked<P: Propagate>(alloc: Global, propagation: &mut P) -> bool
     propagation.back(0);
     let added = adds(alloc, propagation, 3);
     let quiet = propagation.spread() == Found::Quiet;
-    let follow = are(propagation, &[(3, false, 4), (1, false, 2), (2, true, 1)]);
+    let follow = have_values(propagation, &[(3, false, 4), (1, false, 2), (2, true, 1)]);
     let added_too = adds(alloc, propagation, 2);
     let conflict = propagation.spread() != Found::Quiet;
     implied & added & quiet & follow & added_too & conflict

@@ -73,11 +73,11 @@ fn are_wanted(found: &[Clause]) -> bool {
 
 /// Whether these are the clauses.
 fn are_clauses(found: &[Clause], wanted: &[&[Lit]]) -> bool {
-    let mut are = found.len() == wanted.len();
+    let mut same = found.len() == wanted.len();
     for (place, clause) in found.iter().enumerate() {
-        are &= place < wanted.len() && clause.as_slice() == wanted[place];
+        same &= place < wanted.len() && clause.as_slice() == wanted[place];
     }
-    are
+    same
 }
 
 /// Whether a term has these clauses.
@@ -87,9 +87,9 @@ fn has_clauses(alloc: Global, bank: &Bank, term: Id) -> bool {
     }
     match clauses_of(alloc, bank, term) {
         Ok(blasted) => {
-            let are = are_wanted(blasted.clauses().as_slice());
+            let wanted = are_wanted(blasted.clauses().as_slice());
             drop(blasted);
-            are
+            wanted
         }
         Err(_) => false,
     }
