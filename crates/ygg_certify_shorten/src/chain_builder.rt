@@ -38,7 +38,6 @@ impl LiteralState {
 }
 
 /// Builds a step's chain anew, one step after another.
-#[derive(Drop)]
 pub struct ChainBuilder {
     literals: Vec<LiteralState>,
     // by clause its new number
@@ -49,6 +48,23 @@ pub struct ChainBuilder {
     pivots: Vec<u32>,
     // those whose crossing out comes next
     ready: Vec<u32>,
+}
+
+impl Drop for ChainBuilder {
+    fn drop(self) {
+        let ChainBuilder {
+            literals,
+            numbers,
+            seen,
+            pivots,
+            ready,
+        } = self;
+        drop(literals);
+        drop(numbers);
+        drop(seen);
+        drop(pivots);
+        drop(ready);
+    }
 }
 
 impl ChainBuilder {

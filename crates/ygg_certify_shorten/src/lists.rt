@@ -4,11 +4,18 @@ use std::alloc::Global;
 use ygg_list::NoMemory;
 
 /// Lists of numbers, one behind another in one list. The last is open: numbers are added to it until it is closed.
-#[derive(Drop)]
 pub struct Lists {
     numbers: Vec<u32>,
     // where each closed list ends
     ends: Vec<usize>,
+}
+
+impl Drop for Lists {
+    fn drop(self) {
+        let Lists { numbers, ends } = self;
+        drop(numbers);
+        drop(ends);
+    }
 }
 
 impl Lists {

@@ -25,12 +25,19 @@ struct Numbered {
 
 /// Pairs by a place that each has, which it may share with others. So a count is that of all pairs of the place, and a pair whose number another one has
 /// taken over gets a new one: some steps are made that aren't worth it, and nothing is looked for twice.
-#[derive(Drop)]
 pub struct PairTable {
     // by place how often its pairs were counted
     counts: Vec<u32>,
     // by place the pair that got a number last
     numbered: Vec<Numbered>,
+}
+
+impl Drop for PairTable {
+    fn drop(self) {
+        let PairTable { counts, numbered } = self;
+        drop(counts);
+        drop(numbered);
+    }
 }
 
 /// A number drawn from a pair.

@@ -35,7 +35,6 @@ use ygg_sym_spec::{
 use ygg_value::Op;
 
 /// Variables of a specification, a memory, and a state below.
-#[derive(Drop)]
 pub struct SymTrio {
     /// The specification's variables.
     pub vars: SymValues,
@@ -45,8 +44,17 @@ pub struct SymTrio {
     pub low: SymValues,
 }
 
+impl Drop for SymTrio {
+    fn drop(self) {
+        let SymTrio {
+            vars: _,
+            memory: _,
+            low: _,
+        } = self;
+    }
+}
+
 /// The states that a layer's obligations begin with.
-#[derive(Drop)]
 pub struct SymStarting {
     /// Whether the layer's relation holds of the inputs.
     pub related: Id,
@@ -56,6 +64,17 @@ pub struct SymStarting {
     pub settled: Id,
     /// That state, with what is said of its inputs put in their stead.
     pub settled_low: SymValues,
+}
+
+impl Drop for SymStarting {
+    fn drop(self) {
+        let SymStarting {
+            related: _,
+            from: _,
+            settled: _,
+            settled_low: _,
+        } = self;
+    }
 }
 
 /// What stays the same while the terms of a layer's obligations are made: the rules of terms, the layer, and what it is specified over.

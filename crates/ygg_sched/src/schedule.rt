@@ -11,7 +11,6 @@ pub struct Halt {
 }
 
 /// A value for everything that an obligation speaks of. A list is empty, and there is no stop, where the obligation doesn't speak of it.
-#[derive(Drop)]
 pub struct Schedule {
     /// The obligation's name.
     pub name: Text,
@@ -31,6 +30,31 @@ pub struct Schedule {
     pub wake: Bits,
     /// Those in a recovery from the first state.
     pub other: Bits,
+}
+
+impl Drop for Schedule {
+    fn drop(self) {
+        let Schedule {
+            name,
+            state,
+            memory,
+            low,
+            args,
+            stop,
+            picks,
+            wake,
+            other,
+        } = self;
+        drop(name);
+        drop(state);
+        drop(memory);
+        drop(low);
+        drop(args);
+        drop(stop);
+        drop(picks);
+        drop(wake);
+        drop(other);
+    }
 }
 
 /// A run whose picks a schedule has.
