@@ -1,5 +1,6 @@
 ghost use Rattle.std.specs.Prelude.{◌≡◌, [], ◌∷◌, ◌++◌, IfOk, Ok};
 
+use crate::lists;
 use crate::tree::{
     Block, Declared, Def, Expr, File, Index, Layer, Name, Operation, Source, Stmt, Tick,
 };
@@ -11,8 +12,8 @@ use ygg_list::NoMemory;
 pub fn copy_file(alloc: Global, file: &File) -> Result<File, NoMemory>
     ensures { IfOk result (λ copy. copy ≡ file.now) }
 {
-    let defs = items(alloc, file.defs.as_slice());
-    let layers = items(alloc, file.layers.as_slice());
+    let defs = items(alloc, lists::def::as_slice(&file.defs));
+    let layers = items(alloc, lists::layer::as_slice(&file.layers));
     match both(defs, layers) {
         Ok((defs, layers)) => Ok(File {
             disk: file.disk,
@@ -121,7 +122,7 @@ impl Part for Def {
     fn duplicate(&self, alloc: Global) -> Result<Def, NoMemory> {
         let head = both(
             self.name.duplicate(alloc),
-            items(alloc, self.parameters.as_slice()),
+            items(alloc, lists::declared::as_slice(&self.parameters)),
         );
         match both(head, expression(alloc, &self.body)) {
             Ok(((name, parameters), body)) => Ok(Def {
@@ -139,7 +140,7 @@ impl Part for Operation {
     fn duplicate(&self, alloc: Global) -> Result<Operation, NoMemory> {
         let head = both(
             self.name.duplicate(alloc),
-            items(alloc, self.arguments.as_slice()),
+            items(alloc, lists::declared::as_slice(&self.arguments)),
         );
         let spec = block(alloc, &self.spec);
         let crash = on_crash(alloc, &self.on_crash);
@@ -168,7 +169,7 @@ impl Part for Tick {
 
 impl Part for Layer {
     fn duplicate(&self, alloc: Global) -> Result<Layer, NoMemory> {
-        let ticks = items(alloc, self.ticks.as_slice());
+        let ticks = items(alloc, lists::tick::as_slice(&self.ticks));
         let blocks = blocks(alloc, self);
         match four(heading(alloc, self), ticks, blocks, claims(alloc, self)) {
             Ok((heading, ticks, blocks, claims)) => {
@@ -205,9 +206,9 @@ type Heading = (Name, Items<Declared>, Items<Declared>, Items<Operation>);
 fn heading(alloc: Global, layer: &Layer) -> Result<Heading, NoMemory>
     ensures { IfOk result (λ copies. copies ≡ (layer.now.name, layer.now.state, layer.now.memory, layer.now.operations)) }
 {
-    let state = items(alloc, layer.state.as_slice());
-    let memory = items(alloc, layer.memory.as_slice());
-    let operations = items(alloc, layer.operations.as_slice());
+    let state = items(alloc, lists::declared::as_slice(&layer.state));
+    let memory = items(alloc, lists::declared::as_slice(&layer.memory));
+    let operations = items(alloc, lists::operation::as_slice(&layer.operations));
     four(layer.name.duplicate(alloc), state, memory, operations)
 }
 
@@ -228,9 +229,9 @@ type Claims = (Expr, Items<Expr>, Items<Expr>, Items<Expr>);
 fn claims(alloc: Global, layer: &Layer) -> Result<Claims, NoMemory>
     ensures { IfOk result (λ copies. copies ≡ (layer.now.relate, layer.now.always, layer.now.settled, layer.now.maybe)) }
 {
-    let always = expressions(alloc, layer.always.as_slice());
-    let settled = expressions(alloc, layer.settled.as_slice());
-    let maybe = expressions(alloc, layer.maybe.as_slice());
+    let always = expressions(alloc, lists::expr::as_slice(&layer.always));
+    let settled = expressions(alloc, lists::expr::as_slice(&layer.settled));
+    let maybe = expressions(alloc, lists::expr::as_slice(&layer.maybe));
     four(expression(alloc, &layer.relate), always, settled, maybe)
 }
 
@@ -254,7 +255,7 @@ fn on_crash(alloc: Global, on_crash: &Option<Block>) -> Result<Option<Block>, No
 fn block(alloc: Global, block: &Block) -> Result<Block, NoMemory>
     ensures { IfOk result (λ copy. copy ≡ block.now) }
 {
-    let statements = statements(alloc, block.statements.as_slice());
+    let statements = statements(alloc, lists::stmt::as_slice(&block.statements));
     match both(statements, answer(alloc, &block.answer)) {
         Ok((statements, answer)) => Ok(Block {
             place: block.place,
@@ -308,7 +309,10 @@ fn statement(alloc: Global, statement: &Stmt) -> Result<Stmt, NoMemory>
             }
         }
         Stmt::Assign(name, indices, from) => {
-            let written = both(items(alloc, indices.as_slice()), source(alloc, from));
+            let written = both(
+                items(alloc, lists::index::as_slice(indices)),
+                source(alloc, from),
+            );
             match both(name.duplicate(alloc), written) {
                 Ok((name, (indices, from))) => Ok(Stmt::Assign(name, indices, from)),
                 Err(error) => Err(error),
@@ -328,7 +332,7 @@ fn statement(alloc: Global, statement: &Stmt) -> Result<Stmt, NoMemory>
             }
         }
         Stmt::Call(name, arguments) => {
-            let arguments = items(alloc, arguments.as_slice());
+            let arguments = items(alloc, lists::expr::as_slice(arguments));
             match both(name.duplicate(alloc), arguments) {
                 Ok((name, arguments)) => Ok(Stmt::Call(name, arguments)),
                 Err(error) => Err(error),
@@ -350,7 +354,7 @@ fn source(alloc: Global, from: &Source) -> Result<Source, NoMemory>
         }
         Source::Choose(place) => Ok(Source::Choose(*place)),
         Source::Call(place, name, arguments) => {
-            let arguments = items(alloc, arguments.as_slice());
+            let arguments = items(alloc, lists::expr::as_slice(arguments));
             match both(name.duplicate(alloc), arguments) {
                 Ok((name, arguments)) => Ok(Source::Call(*place, name, arguments)),
                 Err(error) => Err(error),
@@ -379,57 +383,66 @@ fn expression(alloc: Global, e: &Expr) -> Result<Expr, NoMemory>
             }
         }
         Expr::Apply(name, arguments) => {
-            let arguments = expressions(alloc, arguments.as_slice());
+            let arguments = expressions(alloc, lists::expr::as_slice(arguments));
             match both(name.duplicate(alloc), arguments) {
                 Ok((name, arguments)) => Ok(Expr::Apply(name, arguments)),
                 Err(error) => Err(error),
             }
         }
         Expr::Binary(first, left, operator, place, right) => {
-            match both(boxed(alloc, left.get()), boxed(alloc, right.get())) {
+            match both(
+                boxed(alloc, lists::expr::get(left)),
+                boxed(alloc, lists::expr::get(right)),
+            ) {
                 Ok((left, right)) => Ok(Expr::Binary(*first, left, *operator, *place, right)),
                 Err(error) => Err(error),
             }
         }
         Expr::Not(first, part) => {
-            match boxed(alloc, part.get()) {
+            match boxed(alloc, lists::expr::get(part)) {
                 Ok(part) => Ok(Expr::Not(*first, part)),
                 Err(error) => Err(error),
             }
         }
         Expr::At(whole, bracket, index) => {
-            match both(boxed(alloc, whole.get()), boxed(alloc, index.get())) {
+            match both(
+                boxed(alloc, lists::expr::get(whole)),
+                boxed(alloc, lists::expr::get(index)),
+            ) {
                 Ok((whole, index)) => Ok(Expr::At(whole, *bracket, index)),
                 Err(error) => Err(error),
             }
         }
         Expr::Pick(first, test, left, right) => {
-            let sides = both(boxed(alloc, left.get()), boxed(alloc, right.get()));
-            match both(boxed(alloc, test.get()), sides) {
+            let sides = both(
+                boxed(alloc, lists::expr::get(left)),
+                boxed(alloc, lists::expr::get(right)),
+            );
+            match both(boxed(alloc, lists::expr::get(test)), sides) {
                 Ok((test, (left, right))) => Ok(Expr::Pick(*first, test, left, right)),
                 Err(error) => Err(error),
             }
         }
         Expr::Resize(first, part, width) => {
-            match boxed(alloc, part.get()) {
+            match boxed(alloc, lists::expr::get(part)) {
                 Ok(part) => Ok(Expr::Resize(*first, part, *width)),
                 Err(error) => Err(error),
             }
         }
         Expr::Fill(first, count, part) => {
-            match boxed(alloc, part.get()) {
+            match boxed(alloc, lists::expr::get(part)) {
                 Ok(part) => Ok(Expr::Fill(*first, *count, part)),
                 Err(error) => Err(error),
             }
         }
         Expr::Row(first, parts) => {
-            match expressions(alloc, parts.as_slice()) {
+            match expressions(alloc, lists::expr::as_slice(parts)) {
                 Ok(parts) => Ok(Expr::Row(*first, parts)),
                 Err(error) => Err(error),
             }
         }
         Expr::Quantified(first, quantifier, name, width, bound, test) => {
-            match both(name.duplicate(alloc), boxed(alloc, test.get())) {
+            match both(name.duplicate(alloc), boxed(alloc, lists::expr::get(test))) {
                 Ok((name, test)) => Ok(Expr::Quantified(
                     *first,
                     *quantifier,

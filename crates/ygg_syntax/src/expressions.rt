@@ -3,6 +3,7 @@
 ghost use Rattle.std.specs.Prelude.{◌≡◌, IsTrue, ◌↔◌, map};
 ghost use Rattle.ygg_syntax.specs.Bare.{bare, bare_name, bare_number, bare_type};
 
+use crate::lists;
 use crate::tree::{Expr, Name, Numeral, Quantifier, TypeText};
 use sqlite_items::{Boxed, Items};
 use ygg_value::Op;
@@ -99,21 +100,28 @@ pub fn expression(a: &Expr, b: &Expr) -> bool
         (Expr::Variable(x), Expr::Variable(y)) => name(x, y),
         (Expr::Apply(f, es), Expr::Apply(g, ds)) => call(f, es, g, ds),
         (Expr::Binary(_, e, o, _, f), Expr::Binary(_, c, p, _, d)) => {
-            operator(*o, *p) && (expression(e.get(), c.get()) && expression(f.get(), d.get()))
+            operator(*o, *p)
+                && (expression(lists::expr::get(e), lists::expr::get(c))
+                    && expression(lists::expr::get(f), lists::expr::get(d)))
         }
-        (Expr::Not(_, e), Expr::Not(_, d)) => expression(e.get(), d.get()),
+        (Expr::Not(_, e), Expr::Not(_, d)) => expression(lists::expr::get(e), lists::expr::get(d)),
         (Expr::At(e, _, i), Expr::At(d, _, j)) => {
-            expression(e.get(), d.get()) && expression(i.get(), j.get())
+            expression(lists::expr::get(e), lists::expr::get(d))
+                && expression(lists::expr::get(i), lists::expr::get(j))
         }
         (Expr::Pick(_, c, e, f), Expr::Pick(_, b, d, g)) => {
-            expression(c.get(), b.get())
-                && (expression(e.get(), d.get()) && expression(f.get(), g.get()))
+            expression(lists::expr::get(c), lists::expr::get(b))
+                && (expression(lists::expr::get(e), lists::expr::get(d))
+                    && expression(lists::expr::get(f), lists::expr::get(g)))
         }
         (Expr::Resize(_, e, w), Expr::Resize(_, d, x)) => sized(w, e, x, d),
         (Expr::Fill(_, m, e), Expr::Fill(_, n, d)) => sized(m, e, n, d),
-        (Expr::Row(_, es), Expr::Row(_, ds)) => expressions(es.as_slice(), ds.as_slice()),
+        (Expr::Row(_, es), Expr::Row(_, ds)) => expressions(
+            lists::expr::as_slice(es),
+            lists::expr::as_slice(ds),
+        ),
         (Expr::Quantified(_, q, x, w, n, e), Expr::Quantified(_, p, y, v, m, d)) => {
-            bound(*q, x, w, n, *p, y, v, m) && expression(e.get(), d.get())
+            bound(*q, x, w, n, *p, y, v, m) && expression(lists::expr::get(e), lists::expr::get(d))
         }
         _ => false,
     }
@@ -124,7 +132,7 @@ pub fn expression(a: &Expr, b: &Expr) -> bool
 fn sized(m: &Numeral, e: &Boxed<Expr>, n: &Numeral, d: &Boxed<Expr>) -> bool
     ensures { IsTrue result ↔ ((bare_number m.now ≡ bare_number n.now) × (bare e.now ≡ bare d.now)) }
 {
-    number(m, n) && expression(e.get(), d.get())
+    number(m, n) && expression(lists::expr::get(e), lists::expr::get(d))
 }
 
 /// Whether a name and its arguments are the same as others.
@@ -132,7 +140,7 @@ fn sized(m: &Numeral, e: &Boxed<Expr>, n: &Numeral, d: &Boxed<Expr>) -> bool
 pub fn call(f: &Name, es: &Items<Expr>, g: &Name, ds: &Items<Expr>) -> bool
     ensures { IsTrue result ↔ ((bare_name f.now ≡ bare_name g.now) × (map bare es.now ≡ map bare ds.now)) }
 {
-    name(f, g) && expressions(es.as_slice(), ds.as_slice())
+    name(f, g) && expressions(lists::expr::as_slice(es), lists::expr::as_slice(ds))
 }
 
 /// Whether there are as many expressions, each the same.

@@ -7,6 +7,7 @@ pub mod budget;
 mod copy;
 pub mod expressions;
 pub mod grammar;
+pub mod lists;
 mod parts;
 mod same;
 mod statements;

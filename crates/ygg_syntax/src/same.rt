@@ -4,6 +4,7 @@ ghost use Rattle.std.specs.Prelude.{◌≡◌, IsTrue, ◌↔◌};
 ghost use Rattle.ygg_syntax.specs.Bare.{bare_disk, bare_def, bare_operation, bare_tick, bare_layer, bare_file};
 
 use crate::expressions::{expression, expressions, name, number, shape};
+use crate::lists;
 use crate::parts::{Alike, items, optional};
 use crate::statements::block;
 use crate::tree::{Def, DiskText, File, Layer, Operation, Tick};
@@ -13,8 +14,11 @@ pub fn same_tree(a: &File, b: &File) -> bool
     ensures { IsTrue result ↔ (bare_file a.now ≡ bare_file b.now) }
 {
     disk(&a.disk, &b.disk)
-        && items(a.defs.as_slice(), b.defs.as_slice())
-        && items(a.layers.as_slice(), b.layers.as_slice())
+        && items(lists::def::as_slice(&a.defs), lists::def::as_slice(&b.defs))
+        && items(
+            lists::layer::as_slice(&a.layers),
+            lists::layer::as_slice(&b.layers),
+        )
 }
 
 impl Alike for Def {
@@ -22,7 +26,10 @@ impl Alike for Def {
 
     fn same(&self, other: &Def) -> bool {
         name(&self.name, &other.name)
-            && items(self.parameters.as_slice(), other.parameters.as_slice())
+            && items(
+                lists::declared::as_slice(&self.parameters),
+                lists::declared::as_slice(&other.parameters),
+            )
             && shape(&self.shape, &other.shape)
             && expression(&self.body, &other.body)
     }
@@ -62,7 +69,10 @@ fn head(a: &Operation, b: &Operation) -> bool
         IsTrue result ↔ ((x.name ≡ y.name) × ((x.arguments ≡ y.arguments) × (x.answer ≡ y.answer))) }
 {
     name(&a.name, &b.name)
-        && items(a.arguments.as_slice(), b.arguments.as_slice())
+        && items(
+            lists::declared::as_slice(&a.arguments),
+            lists::declared::as_slice(&b.arguments),
+        )
         && optional(&a.answer, &b.answer)
 }
 
@@ -73,8 +83,14 @@ fn variables(a: &Layer, b: &Layer) -> bool
         IsTrue result ↔ ((x.name ≡ y.name) × ((x.state ≡ y.state) × (x.memory ≡ y.memory))) }
 {
     name(&a.name, &b.name)
-        && items(a.state.as_slice(), b.state.as_slice())
-        && items(a.memory.as_slice(), b.memory.as_slice())
+        && items(
+            lists::declared::as_slice(&a.state),
+            lists::declared::as_slice(&b.state),
+        )
+        && items(
+            lists::declared::as_slice(&a.memory),
+            lists::declared::as_slice(&b.memory),
+        )
 }
 
 /// Whether the operations and the background steps of layers are the same.
@@ -83,8 +99,13 @@ fn steps(a: &Layer, b: &Layer) -> bool
         let y = bare_layer b.now in
         IsTrue result ↔ ((x.operations ≡ y.operations) × (x.ticks ≡ y.ticks)) }
 {
-    items(a.operations.as_slice(), b.operations.as_slice())
-        && items(a.ticks.as_slice(), b.ticks.as_slice())
+    items(
+        lists::operation::as_slice(&a.operations),
+        lists::operation::as_slice(&b.operations),
+    ) && items(
+        lists::tick::as_slice(&a.ticks),
+        lists::tick::as_slice(&b.ticks),
+    )
 }
 
 /// Whether the blocks of layers are the same.
@@ -106,9 +127,18 @@ fn claims(a: &Layer, b: &Layer) -> bool
         IsTrue result ↔ (((x.relate ≡ y.relate) × (x.always ≡ y.always)) × ((x.settled ≡ y.settled) × (x.maybe ≡ y.maybe))) }
 {
     expression(&a.relate, &b.relate)
-        && expressions(a.always.as_slice(), b.always.as_slice())
-        && expressions(a.settled.as_slice(), b.settled.as_slice())
-        && expressions(a.maybe.as_slice(), b.maybe.as_slice())
+        && expressions(
+            lists::expr::as_slice(&a.always),
+            lists::expr::as_slice(&b.always),
+        )
+        && expressions(
+            lists::expr::as_slice(&a.settled),
+            lists::expr::as_slice(&b.settled),
+        )
+        && expressions(
+            lists::expr::as_slice(&a.maybe),
+            lists::expr::as_slice(&b.maybe),
+        )
 }
 
 /// Whether the disks are the same.

@@ -4,6 +4,7 @@ ghost use Rattle.std.specs.Prelude.{◌≡◌, IsTrue, ◌↔◌, map};
 ghost use Rattle.ygg_syntax.specs.Bare.{bare_source, bare_index, bare_statement, bare_block};
 
 use crate::expressions::{call, expression, name, range};
+use crate::lists;
 use crate::parts::{Alike, items, optional};
 use crate::tree::{Block, Index, Source, Stmt};
 
@@ -28,7 +29,10 @@ impl Alike for Block {
 pub fn block(a: &Block, b: &Block) -> bool
     ensures { IsTrue result ↔ (bare_block a.now ≡ bare_block b.now) }
 {
-    statements(a.statements.as_slice(), b.statements.as_slice()) && optional(&a.answer, &b.answer)
+    statements(
+        lists::stmt::as_slice(&a.statements),
+        lists::stmt::as_slice(&b.statements),
+    ) && optional(&a.answer, &b.answer)
 }
 
 /// Whether there are as many statements, each the same.
@@ -57,7 +61,11 @@ fn statement(a: &Stmt, b: &Stmt) -> bool
     match (a, b) {
         (Stmt::Let(x, e), Stmt::Let(y, d)) => name(x, y) && source(e, d),
         (Stmt::Assign(x, places, e), Stmt::Assign(y, others, d)) => {
-            name(x, y) && (items(places.as_slice(), others.as_slice()) && source(e, d))
+            name(x, y)
+                && (items(
+                    lists::index::as_slice(places),
+                    lists::index::as_slice(others),
+                ) && source(e, d))
         }
         (Stmt::If(e, f, g), Stmt::If(d, h, k)) => expression(e, d) && (block(f, h) && block(g, k)),
         (Stmt::For(x, w, n, f), Stmt::For(y, v, m, g)) => range(x, w, n, y, v, m) && block(f, g),

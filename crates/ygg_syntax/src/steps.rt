@@ -3,6 +3,7 @@ ghost use Rattle.ygg_syntax.specs.Budget.{limit};
 ghost use Rattle.ygg_syntax.specs.Choices.{choices_of, events_of, source_steps, stmt_steps};
 
 use crate::budget::{LIMIT, repeated};
+use crate::lists;
 use crate::tree::{Block, Source, Stmt};
 
 /// How many choices the block makes at most, or 1,000,000 where they are more. Both sides of an `if` count, and a `for`
@@ -10,14 +11,14 @@ use crate::tree::{Block, Source, Stmt};
 pub fn choices(block: &Block) -> u64
     ensures { result ≡ min limit (choices_of block.now) }
 {
-    LIMIT - statements(1, 0, block.statements.as_slice(), LIMIT)
+    LIMIT - statements(1, 0, lists::stmt::as_slice(&block.statements), LIMIT)
 }
 
 /// How many calls of the machine below the block makes at most, counted in the same way, or 1,000,000 where they are more.
 pub fn events(block: &Block) -> u64
     ensures { result ≡ min limit (events_of block.now) }
 {
-    LIMIT - statements(0, 1, block.statements.as_slice(), LIMIT)
+    LIMIT - statements(0, 1, lists::stmt::as_slice(&block.statements), LIMIT)
 }
 
 /// What the statements leave of a budget, where a choice takes so much and a call so much.
@@ -43,11 +44,16 @@ fn statement(choice: u64, call: u64, one: &Stmt, left: u64) -> u64
         Stmt::Let(_, from) => source(choice, call, from, left),
         Stmt::Assign(_, _, from) => source(choice, call, from, left),
         Stmt::If(_, first, second) => {
-            let rest = statements(choice, call, first.statements.as_slice(), left);
-            statements(choice, call, second.statements.as_slice(), rest)
+            let rest = statements(choice, call, lists::stmt::as_slice(&first.statements), left);
+            statements(
+                choice,
+                call,
+                lists::stmt::as_slice(&second.statements),
+                rest,
+            )
         }
         Stmt::For(_, _, count, each) => {
-            let after_one = statements(choice, call, each.statements.as_slice(), left);
+            let after_one = statements(choice, call, lists::stmt::as_slice(&each.statements), left);
             repeated(left, count.value, after_one)
         }
         Stmt::Call(_, _) => left.saturating_sub(call),

@@ -18,6 +18,7 @@ ghost use Rattle.ygg_syntax.specs.Weights.{
 ghost use Rattle.ygg_syntax.specs.Definitions.{WeighsAsAt};
 
 use crate::budget::{LIMIT, repeated};
+use crate::lists;
 use crate::table::Weights;
 use crate::tree::{Block, Def, Expr, File, Index, Source, Stmt};
 
@@ -36,7 +37,12 @@ pub enum WeightSource<'a, 'b> {
 pub fn weight(file: &File, block: &Block) -> u64
     ensures { result ≡ min limit (weight_in file.now block.now) }
 {
-    LIMIT - self::block(WeightSource::Defs(file.defs.as_slice()), block, LIMIT)
+    LIMIT
+        - self::block(
+            WeightSource::Defs(lists::def::as_slice(&file.defs)),
+            block,
+            LIMIT,
+        )
 }
 
 /// What a block leaves of a budget.
@@ -45,7 +51,7 @@ pub fn block(known: WeightSource<'_, '_>, block: &Block, left: u64) -> u64
     requires { left ≤ limit }
     ensures { result ≡ left - block_weight (known_weights known.entry) block.now }
 {
-    let rest = statements(known, block.statements.as_slice(), left);
+    let rest = statements(known, lists::stmt::as_slice(&block.statements), left);
     answer(known, &block.answer, rest)
 }
 
@@ -74,7 +80,7 @@ fn statement(known: WeightSource<'_, '_>, statement: &Stmt, left: u64) -> u64
     match statement {
         Stmt::Let(_, from) => source(known, from, left - 1),
         Stmt::Assign(_, indices, from) => {
-            let rest = self::indices(known, indices.as_slice(), left - 1);
+            let rest = self::indices(known, lists::index::as_slice(indices), left - 1);
             source(known, from, rest)
         }
         Stmt::If(test, first, second) => {
@@ -86,7 +92,7 @@ fn statement(known: WeightSource<'_, '_>, statement: &Stmt, left: u64) -> u64
             let after_one = block(known, each, (left - 1).saturating_sub(1));
             repeated(left - 1, count.value, after_one)
         }
-        Stmt::Call(_, arguments) => expressions(known, arguments.as_slice(), left - 1),
+        Stmt::Call(_, arguments) => expressions(known, lists::expr::as_slice(arguments), left - 1),
     }
 }
 
@@ -100,7 +106,7 @@ fn source(known: WeightSource<'_, '_>, from: &Source, left: u64) -> u64
         Source::Choose(_) => left.saturating_sub(1),
         Source::Call(_, _, arguments) => expressions(
             known,
-            arguments.as_slice(),
+            lists::expr::as_slice(arguments),
             left.saturating_sub(1),
         ),
     }
@@ -157,31 +163,31 @@ pub fn expression(known: WeightSource<'_, '_>, e: &Expr, left: u64) -> u64
         Expr::Low(_, _) => rest,
         Expr::Variable(_) => rest,
         Expr::Apply(f, arguments) => {
-            let rest = expressions(known, arguments.as_slice(), rest);
+            let rest = expressions(known, lists::expr::as_slice(arguments), rest);
             definition(known, f.text.as_slice(), rest)
         }
         Expr::Binary(_, first, _, _, second) => {
-            let rest = expression(known, first.get(), rest);
-            expression(known, second.get(), rest)
+            let rest = expression(known, lists::expr::get(first), rest);
+            expression(known, lists::expr::get(second), rest)
         }
-        Expr::Not(_, part) => expression(known, part.get(), rest),
+        Expr::Not(_, part) => expression(known, lists::expr::get(part), rest),
         Expr::At(whole, _, index) => {
-            let rest = expression(known, whole.get(), rest);
-            expression(known, index.get(), rest)
+            let rest = expression(known, lists::expr::get(whole), rest);
+            expression(known, lists::expr::get(index), rest)
         }
         Expr::Pick(_, test, first, second) => {
-            let rest = expression(known, test.get(), rest);
-            let rest = expression(known, first.get(), rest);
-            expression(known, second.get(), rest)
+            let rest = expression(known, lists::expr::get(test), rest);
+            let rest = expression(known, lists::expr::get(first), rest);
+            expression(known, lists::expr::get(second), rest)
         }
-        Expr::Resize(_, part, _) => expression(known, part.get(), rest),
-        Expr::Fill(_, _, part) => expression(known, part.get(), rest),
-        Expr::Row(_, parts) => expressions(known, parts.as_slice(), rest),
+        Expr::Resize(_, part, _) => expression(known, lists::expr::get(part), rest),
+        Expr::Fill(_, _, part) => expression(known, lists::expr::get(part), rest),
+        Expr::Row(_, parts) => expressions(known, lists::expr::as_slice(parts), rest),
         Expr::Quantified(_, _, _, _, count, part) => {
             if count.value == 0 {
                 return rest;
             }
-            let after_one = expression(known, part.get(), rest.saturating_sub(1));
+            let after_one = expression(known, lists::expr::get(part), rest.saturating_sub(1));
             repeated(rest, count.value, after_one)
         }
     }
