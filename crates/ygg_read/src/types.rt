@@ -116,7 +116,6 @@ pub fn declared(reader: &mut Reader<'_>, sort: Sort) -> Result<Option<Declared>,
 }
 
 /// Reads names with their types, or none, and the bracket after them.
-#[tactic(auto, using(crate::proofs::Declared::begins_none, crate::proofs::Shapes::some_declared, crate::proofs::ExpressionPhrases::joined))]
 pub fn parameters(reader: &mut Reader<'_>, sort: Sort) -> Result<Option<Items<Declared>>, NoMemory>
     ensures reads { IfRead result (λ ds. Reads (any_declared sort ds ∷ symbol sign.RoundClose ∷ []) reader.old reader.new) }
     ensures goes { OnRead result (Goes (rest_of_declared sort ∷ []) reader.old reader.new) }
